@@ -1,11 +1,6 @@
 -- Anchors before each kind of value, an alias, and a folded block: what the theorem says of a text with them.
-use Rattle.std.proofs.Common.{arith, ◌≡◌, ◌≢◌, ℕ, List, [], ◌∷◌, true, false, sym, ap, ◌∙◌, true≢false, codes}
-use Rattle.proof_layout_tokens.proofs.Common.{blank, empty_line, field, full, HasToks, implicit, is_decimal, is_line_character, is_literal_character, is_literal_text, is_quoted, is_unfit_for_plain, last_document, last_field, no_comment, Root, row_of, Scalar, scalar, Style, Tok, Tree, typing}
-use Rattle.defs_tree.specs.Tree.{pairs_of}
-use Rattle.defs_tree.specs.Order.{tree_eq}
-use Rattle.defs_text.specs.BlockScalar.{is_empty_line, is_content_line}
-use Rattle.defs_text.specs.Classes.{is_blank}
-use Rattle.defs_layout.specs.Layout.{plain, single_quoted, Block, beside, literal, folded, below, anchored, alias}
+use Rattle.proof_layout_tokens.proofs.Common.{[], anchored, ap, arith, below, beside, blank, Block, codes, empty_line, false, field, folded, full, HasToks, implicit, is_blank, is_content_line, is_decimal, is_empty_line, is_line_character, is_literal_character, is_literal_text, is_quoted, is_unfit_for_plain, last_document, last_field, List, literal, no_comment, pairs_of, plain, Root, row_of, Scalar, scalar, single_quoted, Style, sym, Tok, Tree, tree_eq, true, true≢false, typing, ℕ, ◌∙◌, ◌∷◌, ◌≡◌, ◌≢◌}
+use Rattle.defs_layout.specs.Layout.{alias}
 use Rattle.proof_layout_tokens.proofs.Layouts.Texts.{layouts_have_their_tokens}
 
 abbrev word : List ℕ → Scalar

@@ -1,12 +1,7 @@
 -- The lines of a literal or folded block as the definitions of block scalars read them: empty lines after them change neither its column nor its value.
-use Rattle.std.proofs.Common.{◌≡◌, ◌≢◌, ℕ, zero, suc, ◌+◌, ◌<◌, ◌≤◌, List, [], ◌∷◌, ◌++◌, Bool, true, false, ◌&&◌, ◌==◌, if◌then◌else◌, max, nat_le, drop, length, Option, Some, None, refl, ap, sym, ◌∙◌, append-nil, arith}
-use Rattle.std.proofs.lemmas.Bool.{ne_eqb}
-use Rattle.std.proofs.lemmas.Bool.Decides.{nat_tests}
-use Rattle.proof_layout_tokens.proofs.Common.{and_false, AreLines, BeginsWithText, blank, BlockStyle, EndsInText, full, has_content, indented_lines, is_document_marker, Line, Row, row_of, rows_of, spaces, spell_lines, value_before_text}
-use Rattle.defs_text.specs.BlockScalar.{Chomping, Header, empty_row, content_row, is_empty_line, is_content_line, is_spaces, leading_spaces, deepest_start, text_of, text_after, with_content, value_before_end}
-use Rattle.defs_layout.specs.BlockLines.{spell_line}
+use Rattle.proof_layout_tokens.proofs.Common.{[], and_false, ap, append-nil, AreLines, arith, BeginsWithText, blank, BlockStyle, Bool, Chomping, content_row, deepest_start, drop, empty_row, EndsInText, false, feed, full, has_content, Header, if◌then◌else◌, indented_lines, is_content_line, is_document_marker, is_empty_line, is_spaces, leading_spaces, length, Line, List, max, nat_le, nat_tests, ne_eqb, None, Option, refl, Row, row_of, rows_of, Some, spaces, spell_line, spell_lines, suc, sym, text_after, text_of, texts, true, value_before_end, value_before_text, zero, ℕ, ◌&&◌, ◌++◌, ◌+◌, ◌<◌, ◌==◌, ◌∙◌, ◌∷◌, ◌≡◌, ◌≢◌, ◌≤◌}
+use Rattle.defs_text.specs.BlockScalar.{with_content}
 use Rattle.proof_lexers.proofs.Blocks.Written as written
-use Rattle.proof_lexers.proofs.Blocks.Written.{feed, texts}
 
 -- ---- lines
 

@@ -1,10 +1,6 @@
 -- Layouts in turn are one layout: so they have its tokens.
-use Rattle.std.proofs.Common.{[], ◌∷◌, subst}
-use Rattle.proof_layout_tokens.proofs.Common.{HasToks}
+use Rattle.proof_layout_tokens.proofs.Common.{[], HasToks, IsRefused, layout_tokens, LayoutsInTurnAreNotRefused, LayoutsInTurnHaveTheirTokens, subst, ◌∷◌}
 use Rattle.defs_layout.proofs.InTurn.{layouts_in_turn}
-use Rattle.defs_layout.specs.LayoutTokens.{layout_tokens}
-use Rattle.model_scanner.specs.Run.{IsRefused}
-use Rattle.proof_layout_tokens.specs.Laws.{LayoutsInTurnHaveTheirTokens, LayoutsInTurnAreNotRefused}
 use Rattle.proof_layout_tokens.proofs.Documents.{nothing_has_its_tokens}
 use Rattle.proof_layout_tokens.proofs.TextTokens.{none_is_refused}
 use Rattle.proof_layout_tokens.proofs.Layouts.Texts.{layouts_have_their_tokens}

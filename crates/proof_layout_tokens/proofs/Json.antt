@@ -1,15 +1,6 @@
-pub mod Fetches
-pub mod Gaps
-pub mod Levels
-pub mod Lines
 pub mod Numbers
 pub mod OnOneLine
-pub mod Scalars
 pub mod Spaces
-pub mod States
-pub mod Steps
-pub mod Strings
 pub mod TextRows
 pub mod Texts
-pub mod Values
 pub mod Words

@@ -1,23 +1,17 @@
 mod AnchorRows
-mod Anchors
-mod BlockScans
+mod BlockLines
 mod BlockTexts
-mod Blocks
-mod Comments
 pub mod Documents
 pub mod InTurn
-mod Joins
 pub mod Json
-mod Keys
 pub mod Layouts
-mod Leaves
-mod Levels
 mod LiteralTexts
-mod Marks
 mod PlainTexts
-mod Plains
 pub mod Quoted
-mod Quotes
 mod TextTokens
-mod Whites
+pub mod Rows
 mod Common
+pub mod Nul
+pub mod JsonNul
+pub mod LayoutNul
+mod PartsNul

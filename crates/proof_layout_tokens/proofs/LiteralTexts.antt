@@ -1,22 +1,11 @@
 -- A text that may be a literal block is the value of the lines that are written for it.
-use Rattle.std.proofs.Common.{◌≡◌, ℕ, zero, suc, ◌-◌, ◌<◌, List, [], ◌∷◌, ◌++◌, Bool, true, false, ◌&&◌, not, ◌==◌, if◌then◌else◌, Some, refl, ap, sym, ◌∙◌, arith, append_assoc, append-nil, drop, length}
-use Rattle.std.specs.Prelude.{nat_eq, codes}
-use Rattle.std.specs.List.{list_all, list_any, ends_with}
-use Rattle.std.proofs.lemmas.Bool.{and_parts, or_parts, eqb-true, not-true}
-use Rattle.std.proofs.lemmas.Bool.Decides.{nat_tests}
-use Rattle.std.proofs.lemmas.List.{append_cancel_right}
-use Rattle.proof_layout_tokens.proofs.Common.{and_false, AreLines, AreLinesOf, BeginsWithText, blank, BlockStyle, EndsInText, full, has_content, indented_lines, is_document_marker, is_empty, is_line_character, is_literal_character, is_literal_text, IsLineText, Line, Row, rows_of, value_before_text}
+use Rattle.proof_layout_tokens.proofs.Common.{[], and_false, and_parts, ap, append-nil, append_assoc, append_cancel_right, are_marks, AreLines, AreLinesOf, AreLineTexts, arith, begins_as_marker, BeginsWithText, blank, BlockStyle, Bool, breaks, codes, content_row, contents, drop, empty_row, ends_with, EndsInText, eqb-true, false, first_full_line_is_indented, full, has_content, if◌then◌else◌, indented_lines, is_blank, is_blank_or_end, is_break, is_document_marker, is_empty, is_line_character, is_line_feed, is_literal_character, is_literal_text, is_nul, is_root_literal, IsLineText, length, Line, lines_of, lines_of_ended, List, list_all, list_any, literal_header, nat_eq, nat_tests, not, not-true, onto_first_line, or_parts, refl, Row, rows_of, Some, starts_with_tab, suc, sym, text_after, text_of, true, value_before_text, zero, ℕ, ◌&&◌, ◌++◌, ◌-◌, ◌<◌, ◌==◌, ◌∙◌, ◌∷◌, ◌≡◌}
 use lib.Pointwise.{pointwise}
-use Rattle.defs_tree.specs.Lines.{lines_of, onto_first_line, ended}
-use Rattle.defs_tree.specs.Literal.{is_root_literal, is_line_feed, first_full_line_is_indented, begins_as_marker, literal_header}
+use Rattle.defs_tree.specs.Lines.{ended}
 use Rattle.defs_tree.specs.Literal as literal_defs
-use Rattle.defs_tree.proofs.LinesLaws.{lines_of_ended}
-use Rattle.defs_text.specs.Classes.{are_marks, is_blank, is_break, is_nul, is_blank_or_end}
-use Rattle.defs_text.specs.BlockScalar.{empty_row, content_row, starts_with_tab, breaks, text_after, text_of}
-use Rattle.defs_layout.specs.BlockLines.{content, contents}
-use Rattle.defs_layout.specs.Layout.{AreLineTexts}
+use Rattle.defs_layout.specs.BlockLines.{content}
 use Rattle.proof_layout_tokens.proofs.BlockTexts.{header_by, row_spaces, text_row}
-use Rattle.proof_layout_tokens.proofs.BlockScans.{block_text, IsInside, AreBlockLines, in_its_column, value_by_rows}
+use Rattle.proof_layout_tokens.proofs.BlockLines.{block_text, IsInside, AreBlockLines, in_its_column, value_by_rows}
 
 -- ---- characters
 

@@ -1,29 +1,24 @@
 -- The scalars that are spelt without quotes, as texts that a plain scalar may be.
-use Rattle.std.proofs.Common.{◌≡◌, ℕ, suc, ◌<◌, ◌≤◌, ◌^◌, List, [], ◌∷◌, ◌++◌, Bool, true, false, ◌||◌, ◌&&◌, not, ◌==◌, refl, arith, slice_index, inl, inr, ◌⊎◌}
-use Rattle.std.specs.Prelude.{codes, ℤ, pos, negsuc, nat_eq}
-use Rattle.std.specs.List.{list_any, list_all, ends_with}
-use Rattle.std.specs.Fmt.{decimal, signed_decimal as decimal_digits}
-use Rattle.std.specs.Str.Parse.{AllDigits, IsNumeral}
-use Rattle.std.proofs.lemmas.Fmt.{decimal_is_IsNumeral}
-use Rattle.std.proofs.lemmas.Str.Parse.{digit_from_value}
-use Rattle.std.proofs.lemmas.Bool.{and_parts, or_parts, eqb-true, ltb-true, ne_eqb, not-true, and_from}
-use Rattle.std.proofs.lemmas.Bool.Decides.{nat_tests}
-use Rattle.proof_layout_tokens.proofs.Common.{and_false, class_of, comes_marker, fetch_plain_scalar, is_blank_or_breakz, is_decimal, is_quoted, is_unfit_for_plain, ScannerState, token_by, Tree, typing}
-use Rattle.yaml_chars.specs.Class.{is_break, is_blank}
-use Rattle.defs_tree.specs.Tree.{real, integer, string, boolean, array, hash, alias, null, bad_value}
+use Rattle.std.specs.Fmt.{signed_decimal as decimal_digits}
+use Rattle.proof_layout_tokens.proofs.Common.{[], alias, AllDigits, and_false, and_from, and_parts, arith, bad_value, Bool, boolean, codes, decimal, decimal_is_IsNumeral, digit_from_value, ends_with, ends_with-one, ends_with-step, eqb-true, false, fits_i64, has_indicator_first, hash, inl, inr, integer, is_decimal, is_quoted, is_real_character, is_real_text, is_unfit_for_plain, IsNumeral, IsPlain, List, list_all, list_any, ltb-true, nat_eq, nat_tests, ne_eqb, negsuc, not, null, or_parts, pos, real, real_text-characters, refl, special_words, spelling, suc, Tree, true, typing, unquoted, ℕ, ℤ, ◌&&◌, ◌<◌, ◌==◌, ◌^◌, ◌||◌, ◌∷◌, ◌≡◌, ◌≤◌, ◌⊎◌}
+use Rattle.defs_tree.specs.Tree.{string, array}
 use Rattle.defs_tree.specs.Grammar.{is_among}
-use Rattle.defs_tree.specs.Typing.{is_real_text, fits_i64, special_words}
-use Rattle.defs_tree.specs.Quoting.{has_indicator_first, begins_with}
-use Rattle.defs_tree.specs.Spelling.{spelling}
+use Rattle.defs_tree.specs.Quoting.{begins_with}
 use Rattle.defs_tree.proofs.DecimalReading.{is_decimal-read}
-use Rattle.defs_tree.proofs.LinesLaws.{ends_with-step, ends_with-one}
-use Rattle.defs_tree.proofs.RealTexts.{is_real_character, real_text-characters}
 use Rattle.defs_tree.proofs.TypingLaws.{real_text-cases}
-use Rattle.defs_tree.proofs.Unquoted.{unquoted}
-use Rattle.defs_layout.specs.Layout.{IsPlain}
-use Rattle.model_scanner.specs.declared.class.Class.TheVariants.{Other}
-use Rattle.proof_layout_tokens.proofs.Layouts.States.{is_content, Opens}
-use Rattle.proof_layout_tokens.proofs.Plains.{is_plain_char, are_plain, closes}
+
+-- a character that may stand in a plain scalar of a line
+abbrev pub is_plain_char : ℕ → Bool
+is_plain_char c = not ((c == 0) || (c == 9) || (c == 10) || (c == 13) || (c == 35) || (c == 58))
+
+abbrev pub are_plain : List ℕ → Bool
+are_plain [] = true
+are_plain (c ∷ w) = is_plain_char c && are_plain w
+
+-- it doesn't end in a space; the flag says that one came last
+abbrev pub closes : Bool → List ℕ → Bool
+closes b [] = not b
+closes b (c ∷ w) = closes (c == 32) w
 
 -- a character with which a plain scalar may begin: neither white space nor an indicator, but for a dash
 abbrev pub is_first : ℕ → Bool
@@ -46,16 +41,8 @@ pub record IsPlainText (w : List ℕ) : Type 0 where
 
 -- ---- what a plain scalar doesn't begin with
 
-record First (c : ℕ) : Type 0 where
-  content : is_content c ≡ true
-  percent : (c == 37) ≡ false
-  space : (c == 32) ≡ false
-
-first_is : (c : ℕ) → is_first c ≡ true → First c
-first_is c h = record { content = grind (arith, nat_tests); percent = grind (arith, nat_tests); space = grind (arith, nat_tests) }
-
 pub first_space : (c : ℕ) → is_first c ≡ true → (c == 32) ≡ false
-first_space c h = (first_is c h).space
+first_space c h = grind (arith, nat_tests)
 
 -- ---- strings
 
@@ -218,52 +205,3 @@ spelt_plain (hash ps) h = absurd h
 spelt_plain (alias n) h = absurd h
 spelt_plain null h = record { head = 126; tail = []; whole = refl; first = refl; second = refl; chars = refl; close = refl }
 spelt_plain bad_value h = absurd h
-
--- ---- what a plain scalar begins with, in front of what may follow it
-
--- the end, a line feed, a space or a colon
-pub data Follows : List ℕ → Type 0 where
-  at_end : Follows []
-  at_break : {a : List ℕ} → Follows (10 ∷ a)
-  at_space : {a : List ℕ} → Follows (32 ∷ a)
-  at_colon : {a : List ℕ} → Follows (58 ∷ a)
-
-pub plain_class : (c : ℕ) → is_first c ≡ true → (c == 45) ≡ false → class_of c ≡ Other
-unfolding class_of
-plain_class c h e = grind (arith, nat_tests)
-
-pub plain_opens : (c : ℕ) (w r : List ℕ) → is_first c ≡ true → is_second c w ≡ true → Follows r → Opens c (w ++ r)
-unfolding comes_marker
-plain_opens c [] r h e f =
-    let z = first_is c h in
-    let q = and_parts (not (c == 45)) (not (c == 46)) e in
-    record { solid = z.content; no_directive = z.percent; no_start = rw (not-true (c == 45) q.0) refl; no_end = rw (not-true (c == 46) q.1) refl }
-plain_opens c (d ∷ w) r h e f =
-    let z = first_is c h in
-    let q = and_parts (not ((c == 45) && (d == 45)) && not ((c == 46) && (d == 46))) (not ((c == 45) && (d == 32))) e in
-    let u = and_parts (not ((c == 45) && (d == 45))) (not ((c == 46) && (d == 46))) q.0 in
-    record { solid = z.content; no_directive = z.percent; no_start = rw (not-true ((c == 45) && (d == 45)) u.0) refl; no_end = rw (not-true ((c == 46) && (d == 46)) u.1) refl }
-
-dash_by : (t : ScannerState) → is_blank_or_breakz (slice_index t.rest 1) ≡ false → token_by (class_of 45) t ≡ fetch_plain_scalar t
-unfolding class_of
-dash_by t h = rw h refl
-
-second_solid : (d : ℕ) → is_plain_char d ≡ true → (d == 32) ≡ false → is_blank_or_breakz d ≡ false
-unfolding is_blank is_break
-second_solid d h e = grind (arith, nat_tests)
-
-by_dash : (b : Bool) (t : ScannerState) (c : ℕ) (w r : List ℕ) → t.rest ≡ c ∷ (w ++ r) → (c == 45) ≡ b → is_first c ≡ true → is_second c w ≡ true → are_plain w ≡ true → token_by (class_of c) t ≡ fetch_plain_scalar t
-by_dash false t c w r rest e first second chars = rw (plain_class c first e) refl
-by_dash true t c [] r rest e first second chars = let q = and_parts (not (c == 45)) (not (c == 46)) second in let n = not-true (c == 45) q.0 in cc
-by_dash true t c (d ∷ w) r rest e first second chars =
-    let is : c ≡ 45 = eqb-true c 45 e in
-    let q = and_parts (not ((c == 45) && (d == 45)) && not ((c == 46) && (d == 46))) (not ((c == 45) && (d == 32))) second in
-    let n : (d == 32) ≡ false = rw e at (not-true ((c == 45) && (d == 32)) q.1) in
-    let one = and_parts (is_plain_char d) (are_plain w) chars in
-    rw is (dash_by t (rw rest (second_solid d one.0 n)))
-
-pub plain_by : (t : ScannerState) (c : ℕ) (w r : List ℕ) → t.rest ≡ c ∷ (w ++ r) → is_first c ≡ true → is_second c w ≡ true → are_plain w ≡ true → token_by (class_of c) t ≡ fetch_plain_scalar t
-plain_by t c w r rest first second chars = by_dash (c == 45) t c w r rest refl first second chars
-
-pub first_content : (c : ℕ) → is_first c ≡ true → is_content c ≡ true
-first_content c h = (first_is c h).content

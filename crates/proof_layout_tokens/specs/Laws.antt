@@ -1,7 +1,5 @@
 -- Laws of the scanner's model and whole texts, and of quoted scalars: each is the contract of the function of `src/laws.rt` that its comment names.
-use Rattle.std.specs.Prelude.{◌≡◌, ℕ, List, [], ◌∷◌, ◌++◌, Bool, true, Some}
-use Rattle.std.specs.List.{list_all}
-use Rattle.defs_text.specs.Position.{Position}
+use Rattle.std.specs.Prelude.{◌≡◌, ℕ, List, [], ◌∷◌}
 use Rattle.defs_token.specs.Token.{Tok, Token}
 use Rattle.defs_token.specs.Toks.{toks}
 use Rattle.yaml_tokens.specs.declared.problem.Fault.{Fault}
@@ -12,12 +10,8 @@ use Rattle.defs_layout.specs.InTurn.{AreLaidOutInTurn}
 use Rattle.defs_layout.specs.JsonTokens.{json_text_tokens}
 use Rattle.defs_layout.specs.LayoutTokens.{layout_tokens}
 use Rattle.defs_layout.specs.QuotedText.{HasQuotedTokens}
-use Rattle.model_scanner.specs.declared.context.Context.{Context}
-use Rattle.model_scanner.specs.Quoted.{quote_of, quoted}
 use Rattle.model_scanner.specs.Run.{HasTokens, IsRefused}
 use Rattle.model_scanner.specs.TextTokens.{HasToks}
-use Rattle.proof_lexers.specs.QuotedScan.{value_of, ends_before, is_some, IsRead}
-use Rattle.proof_lexers.specs.QuotedEnds.{QuotedEndsAs}
 
 -- ---- any text
 

@@ -1,35 +1,15 @@
 -- What a load answers of any text, by a parser that is at its start.
-use Rattle.std.proofs.Common.{◌≡◌, ℕ, true, false, Bool, List, [], ◌∷◌, ◌++◌, length, Some, None, Ok, Err, refl, sym, ap, ◌∙◌, subst, append_assoc, append-nil, inl, inr}
-use Rattle.std.specs.Prelude.{Option, IfSome, Result, ◌||◌, codes}
-use Rattle.defs_text.specs.Position.{Position}
-use Rattle.defs_token.specs.Token.{Tok, Token}
-use Rattle.yaml_tokens.specs.ErrorReport.{ErrorReport}
-use Rattle.defs_event.specs.Event.{Ev}
-use Rattle.defs_token.specs.Toks.{toks}
-use Rattle.defs_event.specs.Stream.{IsStream, IsPlacedStream, BeginsPlaced, Foretells, NoneBegins, raws_of, events_of}
-use Rattle.defs_event.specs.PulledList.{Answer, event, fault, given}
+use Rattle.proof_loads.proofs.Common.{[], Answer, AnswersText, ap, append-nil, append_assoc, AreFirst, AreSettled, before_stream, BeginsEvents, BeginsPlaced, between, Blames, Bool, codes, ComesAfter, EndsSo, Err, ErrorReport, Ev, event, events_of, Explains, false, fault, Follows, Foretells, given, has_end, HasEvents, IfSome, inl, inr, inside, is_stream_end, IsAtStart, IsFaultOf, IsOfScanner, IsPlacedStream, IsRefusal, IsStream, IsWhole, length, List, load, load_from, Loads, nested_stream, no_call, no_stream, no_token, None, NoneBegins, Ok, one_call, Option, Parsed, Position, PullsAll, raws_of, read, Receives, refl, Refused, Result, ScansIn, Some, Standing, subst, sym, TextsAreAnswered, Tok, Token, toks, true, wants_memory, whole, without_positions, ℕ, ◌++◌, ◌||◌, ◌∙◌, ◌∷◌, ◌≡◌}
 use Rattle.defs_event.specs.Push as run
-use Rattle.defs_event.specs.Push.{Standing, load, load_from, before_stream, between, inside}
-use Rattle.defs_event.specs.Nested.{nested_stream}
 use Rattle.defs_event.proofs.AllPushed.{all_pushed}
 use Rattle.defs_event.proofs.StreamNests.{stream_nests}
-use Rattle.yaml_scanner.specs.Follows.{AreSettled}
-use Rattle.yaml_scanner.specs.Scanned.{ScansIn, IsRefusal}
-use Rattle.yaml_parser.specs.Parsed.{Parsed, is_stream_end, has_end, read}
-use Rattle.yaml_parser.specs.Blames.{Blames}
-use Rattle.yaml_parser.specs.Follows.{Follows, Refused, IsWhole, IsOfScanner, Explains}
 use Rattle.yaml_parser.specs.Loads as loads
-use Rattle.yaml_parser.specs.Loads.{PullsAll, no_call, one_call, Receives, EndsSo, Loads}
-use Rattle.proof_loads.specs.AtStart.{IsAtStart}
-use Rattle.proof_loads.specs.PlacedEvents.{HasEvents}
-use Rattle.proof_loads.specs.TextEvents.{AreFirst, BeginsEvents, IsFaultOf, wants_memory, no_token, no_stream, ComesAfter, AnswersText, whole, faulted, refused}
-use Rattle.proof_loads.specs.Laws.{TextsAreAnswered}
+use Rattle.proof_loads.specs.TextEvents.{faulted, refused}
 use Rattle.proof_loads.proofs.Pulled.{Noted, noted, NotedFault, noted_fault, read_given, explained, settings_stay, events_are_clear, has_end_append}
 use Rattle.proof_loads.proofs.Texts.{first_tokens, foretells_beginning}
 use Rattle.proof_loads.proofs.Runs.{IsOver, pushes, faulted_pushes, misplaced_events, PushesAll, ended_within, ended_after, given_append}
 use Rattle.proof_loads.proofs.Steady.{blames_steady}
 use Rattle.proof_loads.proofs.StreamEnds.{all_tokens}
-use Rattle.model_parser.proofs.Places.{without_positions}
 
 -- what a call does with these answers
 abbrev so : List (Answer ErrorReport) → run.Loaded ErrorReport

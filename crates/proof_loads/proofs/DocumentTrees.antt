@@ -1,19 +1,9 @@
 -- The documents of a text are valid trees, so those that can be written come back.
-use Rattle.std.proofs.Common.{◌≡◌, List, [], Ok, subst}
-use Rattle.std.specs.Prelude.{All, map}
-use Rattle.defs_text.specs.Position.{Position}
-use Rattle.defs_tree.specs.Tree.{Tree}
+use Rattle.proof_loads.proofs.Common.{[], All, at_work, documents_of, Ev, List, Loader, map, nested_stream, NestedDocument, new_loader, noted, Ok, one_by_one, Position, ReadDocumentsComeBack, reading, refused, somewhere, subst, Tree, with_events, with_somewhere, ◌≡◌}
 use Rattle.defs_tree.specs.Valid.{IsDistinct, FitsI64}
-use Rattle.defs_event.specs.Event.{Ev}
 use Rattle.defs_event.specs.Laws.{HasRead}
-use Rattle.defs_event.specs.Nested.{NestedDocument, nested_stream}
-use Rattle.defs_event.specs.Reading.{reading}
-use Rattle.defs_event.specs.Unfinished.{Loader, at_work, noted, refused, new_loader, with_events, documents_of}
 use Rattle.defs_event.proofs.Kept.{loaded_kept, distinct_kept, fits_kept}
-use Rattle.defs_event.proofs.OneByOne.{one_by_one}
-use Rattle.proof_loads.specs.Documents.{ReadDocumentsComeBack}
 use Rattle.proof_loads.proofs.Dumps.{dumps_are_read}
-use Rattle.proof_row.proofs.Meanings.{somewhere, with_somewhere}
 
 documents_read : (trees : List Tree) (l : Loader) → HasRead (Ok trees) l → documents_of l ≡ trees
 documents_read trees (at_work u) h = h.0

@@ -1,14 +1,8 @@
 -- The texts that are written for trees mean these trees.
-use Rattle.std.proofs.Common.{◌≡◌, [], ◌∷◌, true, sym, subst}
-use Rattle.defs_tree.specs.Tree.{Tree}
+use Rattle.proof_loads.proofs.Common.{[], dump_is_laid_out, DumpsMeanTheirTree, Means, one_meaning, subst, sym, Tree, trees_of, true, ◌∷◌, ◌≡◌}
 use Rattle.defs_tree.specs.DumpText.{dump_text}
-use Rattle.defs_layout.specs.Layout.{trees_of}
 use Rattle.defs_layout.specs.DumpIsInjective.{DumpIsInjective}
-use Rattle.proof_layouts.proofs.Whole.{dump_is_laid_out}
-use Rattle.defs_event.specs.Meaning.{Means}
-use Rattle.proof_loads.specs.Laws.{DumpsMeanTheirTree}
 use Rattle.proof_loads.proofs.LayoutTexts.{layouts_are_read}
-use Rattle.proof_row.proofs.Meanings.{one_meaning}
 
 pub dumps_are_read : DumpsMeanTheirTree
 dumps_are_read keep_tags compact multiline t is =

@@ -1,17 +1,8 @@
 -- Tokens that are settled stay, and where a text is refused they are all its first tokens.
-use Rattle.std.proofs.Common.{◌≡◌, ℕ, ◌+◌, ◌==◌, List, [], ◌∷◌, ◌++◌, Bool, true, false, ◌||◌, Option, Some, None, length, refl, sym, ap, ◌∙◌, subst, append-nil, length-append, arith, ◌⊎◌, inl, inr, Err}
 use Rattle.std.specs.List.{list_any}
-use Rattle.std.proofs.lemmas.Bool.{eqb-true}
-use Rattle.defs_token.specs.Token.{Token}
-use Rattle.yaml_tokens.specs.declared.problem.Fault.{Fault}
-use Rattle.model_scanner.specs.State.{Key, ScannerState}
-use Rattle.model_scanner.specs.Fetch.{fetch}
-use Rattle.model_scanner.specs.Run.{Reaches, here, there}
+use Rattle.proof_loads.proofs.Common.{[], ap, append-nil, AreBehind, AreSettled, arith, BeginsWith, Bool, eqb-true, Err, false, Fault, fetch, here, inl, inr, IsReached, Key, length, length-append, List, None, one_run, Option, Reaches, refl, ScannerState, SettledTokensStay, Some, subst, sym, there, Token, true, ℕ, ◌++◌, ◌+◌, ◌==◌, ◌||◌, ◌∙◌, ◌∷◌, ◌≡◌, ◌⊎◌}
 use Rattle.model_scanner.proofs.Given.{KeysFrom, reached}
-use Rattle.model_scanner.proofs.Runs.{one_run}
-use Rattle.yaml_scanner.specs.Follows.{BeginsWith, AreBehind, IsReached, AreSettled}
 use Rattle.yaml_scanner.specs.Waits.{comes_before}
-use Rattle.proof_loads.specs.Laws.{SettledTokensStay}
 
 keys_from : (n : ℕ) (ks : List (Option Key)) → AreBehind n ks → KeysFrom n ks
 keys_from n [] b = tt

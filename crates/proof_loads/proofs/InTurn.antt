@@ -1,17 +1,8 @@
 -- Layouts one after another mean their trees, and have no NUL.
-use Rattle.std.proofs.Common.{Bool, [], ◌∷◌, refl, sym, ap, ◌∙◌, subst}
-use Rattle.defs_token.specs.Token.{Tok}
+use Rattle.proof_loads.proofs.Common.{[], ap, Bool, dumps_are_laid_out_in_turn, IsWithoutNul, layout_tokens, Means, refl, stream_by, subst, sym, Tok, tokens_read_as_their_trees, trees_of, up_to_nul, ◌∙◌, ◌∷◌}
 use Rattle.defs_layout.specs.DumpsInTurn.{dump_texts}
-use Rattle.defs_layout.specs.Layout.{trees_of}
-use Rattle.defs_layout.specs.LayoutTokens.{layout_tokens}
-use Rattle.model_parser.proofs.Streams.{stream_by}
-use Rattle.proof_layouts.proofs.Whole.{dumps_are_laid_out_in_turn}
-use Rattle.proof_layouts.proofs.Layouts.Documents.{tokens_read_as_their_trees}
 use Rattle.proof_layout_tokens.proofs.Documents.{nothing_has_its_tokens}
 use Rattle.proof_layout_tokens.proofs.InTurn.{layouts_in_turn_have_their_tokens}
-use Rattle.defs_text.specs.Text.{up_to_nul}
-use Rattle.defs_event.specs.Meaning.{Means}
-use Rattle.proof_loads.specs.Spelled.{IsWithoutNul}
 use Rattle.proof_loads.specs.InTurn.{LayoutsInTurnMeanTheirTrees, LayoutsInTurnAreWithoutNul, DumpsInTurnMeanTheirTrees}
 use Rattle.proof_loads.proofs.LayoutNul.{layouts_have_no_nul}
 use Rattle.proof_loads.proofs.RowTexts.{means}

@@ -10,12 +10,10 @@ pub mod LayoutNul
 pub mod LayoutTexts
 pub mod Loads
 mod MeaningRows
-mod Nul
 pub mod OneFault
 pub mod OneList
 pub mod OneListBefore
 pub mod OneReading
-mod PartsNul
 pub mod Pulled
 pub mod QuotedTexts
 pub mod RowTexts
@@ -25,3 +23,4 @@ pub mod Spelled
 pub mod Steady
 pub mod StreamEnds
 pub mod Texts
+mod Common

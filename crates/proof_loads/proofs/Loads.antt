@@ -1,22 +1,9 @@
 -- A load of a text that means trees.
-use Rattle.std.proofs.Common.{◌≡◌, ℕ, true, Bool, List, ◌∷◌, [], ◌++◌, ap, subst}
-use Rattle.std.specs.Prelude.{Result}
-use Rattle.defs_text.specs.Position.{Position}
-use Rattle.defs_tree.specs.Tree.{Tree}
-use Rattle.yaml_tokens.specs.ErrorReport.{ErrorReport}
-use Rattle.defs_event.specs.Event.{Ev}
-use Rattle.defs_token.specs.Toks.{toks}
-use Rattle.defs_event.specs.Stream.{IsStream, events_of}
+use Rattle.proof_loads.proofs.Common.{[], AnswersText, ap, Bool, ErrorReport, Ev, events_of, foretold_are_not_refused, HasEvents, IsFaultOf, IsStream, JsonTextsAreLoaded, List, Means, no_stream, no_token, Position, ReadTextsAreLoaded, Result, spell_text, streams_are_loaded, streams_are_not_cut, subst, toks, Tree, tree_of, true, wants_memory, ℕ, ◌++◌, ◌∷◌, ◌≡◌}
 use Rattle.proof_row.proofs.OneRow.{one_reading}
-use Rattle.defs_layout.specs.Json.{spell_text, tree_of}
-use Rattle.proof_layouts.proofs.Loads.{streams_are_loaded, foretold_are_not_refused, streams_are_not_cut}
-use Rattle.defs_event.specs.Meaning.{Means}
-use Rattle.proof_loads.specs.PlacedEvents.{HasEvents}
-use Rattle.proof_loads.specs.TextEvents.{IsFaultOf, wants_memory, no_token, no_stream, AnswersText}
 use Rattle.proof_loads.specs.TextEvents as answers
 use Rattle.proof_loads.specs.LoadsAs.{LoadsAs, well, refused}
 use Rattle.proof_loads.specs.LoadsAs as loads
-use Rattle.proof_loads.specs.Laws.{ReadTextsAreLoaded, JsonTextsAreLoaded}
 use Rattle.proof_loads.proofs.Texts.{goes_on}
 use Rattle.proof_loads.proofs.Spelled.{json_texts_are_read}
 use Rattle.proof_loads.proofs.Answers.{placed_stream, texts_are_answered}

@@ -1,12 +1,6 @@
 -- What short texts mean, by the definitions alone: from characters to trees, by computing.
-use Rattle.std.proofs.Common.{ℕ, List, [], ◌∷◌, true, None, refl}
-use Rattle.std.specs.Prelude.{codes}
-use Rattle.defs_tree.specs.Tree.{string, array, hash, items_of, pairs_of}
+use Rattle.proof_loads.proofs.Common.{[], array, codes, hash, items_of, List, Means, Nest, nest, nest_pair, nested_mapping, nested_scalar, nested_sequence, no_nest_pairs, no_nests, None, pairs_of, refl, stream_by, string, Style, true, with_node, ℕ, ◌∷◌}
 use Rattle.defs_tree.specs.Typing.{typing, is_decimal}
-use Rattle.defs_token.specs.Token.{Style}
-use Rattle.model_parser.proofs.Streams.{stream_by}
-use Rattle.defs_event.specs.Nested.{Nest, nested_scalar, nested_sequence, nested_mapping, no_nests, nest, no_nest_pairs, nest_pair, with_node}
-use Rattle.defs_event.specs.Meaning.{Means}
 use Rattle.defs_token.proofs.Rows.{one_pair, at_key_column}
 
 abbrev leaf : List ℕ → Nest

@@ -1,28 +1,12 @@
 -- A text has one fault.
-use Rattle.std.proofs.Common.{◌≡◌, ℕ, List, [], ◌∷◌, ◌++◌, Bool, true, false, refl, sym, ap, ◌∙◌, subst, append_assoc, append-nil, ◌⊎◌, inl, inr}
-use Rattle.std.proofs.lemmas.Bool.{both_ways}
-use Rattle.std.proofs.lemmas.List.{map-append}
-use Rattle.defs_text.specs.Position.{Position}
-use Rattle.defs_token.specs.Token.{Token}
-use Rattle.defs_token.specs.Toks.{toks}
-use Rattle.defs_event.specs.Event.{Ev}
-use Rattle.defs_event.specs.Stream.{BeginsPlaced, NoneBegins, IsStream, raws_of, events_of}
-use Rattle.model_parser.proofs.Places.{without_positions}
-use Rattle.yaml_tokens.specs.ErrorReport.{ErrorReport}
+use Rattle.proof_loads.proofs.Common.{[], ap, append-nil, append_assoc, BeginsPlaced, BeginsWith, Blames, Bool, both_ways, EndsInAnchor, ErrorReport, Ev, events_of, false, Fault, fits, inl, inr, is_of_names, IsRefusal, IsStream, List, map-append, no_stream, no_token, NoneBegins, OneFault, Position, Problem, problem_of, raws_of, refl, StandsAt, subst, sym, Token, toks, true, wants_memory, without_positions, ℕ, ◌++◌, ◌∙◌, ◌∷◌, ◌≡◌, ◌⊎◌}
 use Rattle.yaml_tokens.specs.Problem.{fault_of}
-use Rattle.yaml_tokens.specs.declared.problem.Fault.{Fault}
 use Rattle.yaml_tokens.specs.declared.problem.Fault.TheVariants.{At, OutOfMemory}
-use Rattle.yaml_tokens.specs.declared.problem.Problem.{Problem}
 use Rattle.yaml_tokens.specs.declared.problem.Problem.TheVariants as problem
 use Rattle.model_parser.specs.declared.kind.Kind.{Kind}
 use Rattle.model_parser.specs.declared.kind.Kind.TheVariants as kind
 use Rattle.model_parser.specs.Kinds.{kind_of}
 use Rattle.model_scanner.proofs.Runs as runs
-use Rattle.yaml_scanner.specs.Follows.{BeginsWith}
-use Rattle.yaml_scanner.specs.Scanned.{IsRefusal}
-use Rattle.yaml_parser.specs.Blames.{Blames, fits, is_of_names, problem_of, StandsAt, EndsInAnchor}
-use Rattle.proof_loads.specs.TextEvents.{wants_memory, no_token, no_stream}
-use Rattle.proof_loads.specs.Laws.{OneFault}
 use Rattle.proof_loads.proofs.FirstTokens.{settled_agree, settled_first}
 
 -- ---- the last of a list

@@ -1,18 +1,5 @@
 -- Two parsers of a text that means trees.
-use Rattle.std.proofs.Common.{◌≡◌, ℕ, Bool, List, [], ◌∷◌, ◌++◌, length, refl, sym, ap, ◌∙◌, subst, arith}
-use Rattle.std.proofs.lemmas.List.{map-append}
-use Rattle.defs_text.specs.Position.{Position}
-use Rattle.defs_token.specs.Token.{Token}
-use Rattle.defs_tree.specs.Tree.{Tree}
-use Rattle.defs_event.specs.Event.{Ev}
-use Rattle.defs_event.specs.Nested.{nested_stream}
-use Rattle.defs_token.specs.Toks.{toks}
-use Rattle.defs_event.specs.Stream.{IsStream, events_of}
-use Rattle.yaml_scanner.specs.Scanned.{ScansIn}
-use Rattle.yaml_parser.specs.Parsed.{Parsed, read}
-use Rattle.yaml_parser.specs.Follows.{Follows}
-use Rattle.defs_event.specs.Meaning.{Means}
-use Rattle.proof_loads.specs.Laws.{ReadTextsHaveOneListOfEvents}
+use Rattle.proof_loads.proofs.Common.{[], ap, arith, Bool, Ev, events_of, Follows, IsStream, length, List, map-append, Means, nested_stream, Parsed, Position, read, ReadTextsHaveOneListOfEvents, refl, ScansIn, subst, sym, Token, toks, Tree, ℕ, ◌++◌, ◌∙◌, ◌∷◌, ◌≡◌}
 use Rattle.proof_loads.proofs.Texts.{first_tokens}
 
 -- The text's events begin with those that were read.

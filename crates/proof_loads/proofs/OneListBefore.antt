@@ -1,32 +1,11 @@
 -- The events before a fault of a text are one list.
-use Rattle.std.proofs.Common.{◌≡◌, ℕ, ◌+◌, List, [], ◌∷◌, ◌++◌, Bool, false, length, refl, sym, ap, ◌∙◌, subst, append-nil, length-append, arith, inl, inr, Ok}
-use Rattle.std.specs.Prelude.{Result}
-use Rattle.std.proofs.lemmas.Bool.{both_ways}
-use Rattle.defs_text.specs.Position.{Position}
-use Rattle.defs_token.specs.Token.{Tok, Token}
-use Rattle.defs_token.specs.Toks.{toks}
-use Rattle.defs_event.specs.Event.{Ev}
-use Rattle.defs_event.specs.Raw.{Raw}
-use Rattle.defs_event.specs.Names.{no_names, named}
-use Rattle.defs_event.specs.Stream.{IsStream, NoneBegins, BeginsPlaced, to_next, HasPlacedTo, AgreeAt}
+use Rattle.proof_loads.proofs.Common.{[], AgreeAt, ap, append-nil, AreFirst, AreSettled, arith, BeginsPlaced, BeginsWith, Blames, Bool, both_ways, ErrorReport, Ev, false, fetch, HasPlacedTo, here, inl, inr, IsReached, IsStream, length, length-append, List, named, no_names, no_stream, no_token, NoneBegins, Ok, OneListOfEventsBefore, OneListOfPulledEventsBefore, OneListOfPushedEventsBefore, Position, Problem, Raw, Reaches, read, refl, Result, ScannerState, start, stood, stream_by, subst, sym, there, to_next, Tok, Token, toks, wants_memory, ℕ, ◌++◌, ◌+◌, ◌∙◌, ◌∷◌, ◌≡◌}
 use Rattle.model_parser.proofs.OnePlacing.{AreSame, one_stream, same_events, one_list_so_far}
-use Rattle.model_parser.proofs.Streams.{stream_by}
-use Rattle.yaml_tokens.specs.ErrorReport.{ErrorReport}
-use Rattle.yaml_tokens.specs.declared.problem.Problem.{Problem}
 use Rattle.yaml_tokens.specs.declared.problem.Problem.TheVariants as problem
-use Rattle.model_scanner.specs.State.{ScannerState}
 use Rattle.model_scanner.specs.Document.{fetch_stream_start}
-use Rattle.model_scanner.specs.Fetch.{fetch}
-use Rattle.model_scanner.specs.Run.{Reaches, here, there, start}
-use Rattle.yaml_scanner.specs.Follows.{BeginsWith, IsReached, AreSettled}
 use Rattle.yaml_parser.specs.Apart.{StandsBefore}
-use Rattle.yaml_parser.specs.Blames.{Blames}
-use Rattle.yaml_parser.specs.Derived.{stood}
-use Rattle.yaml_parser.specs.Parsed.{read}
 use Rattle.yaml_parser.proofs.Holding.{many}
 use Rattle.yaml_parser.proofs.Positions.{stood_raws, stood_positions}
-use Rattle.proof_loads.specs.Laws.{OneListOfEventsBefore, OneListOfPulledEventsBefore, OneListOfPushedEventsBefore}
-use Rattle.proof_loads.specs.TextEvents.{AreFirst, wants_memory, no_token, no_stream}
 use Rattle.proof_loads.proofs.Answers.{FaultAfter, fault_after, fault_taken}
 use Rattle.proof_loads.proofs.FirstTokens.{stays, settled_agree, settled_first}
 use Rattle.proof_loads.proofs.OneFault.{same_blame, refused_first, last_or_before}

@@ -1,19 +1,7 @@
 -- What a text's events are read as is what it means.
-use Rattle.std.proofs.Common.{◌≡◌, ℕ, Bool, List, [], sym, ap, ◌∙◌, subst}
-use Rattle.std.specs.Prelude.{Ok, map}
-use Rattle.defs_token.specs.Token.{Token}
-use Rattle.defs_tree.specs.Tree.{Tree}
-use Rattle.defs_token.specs.Toks.{toks}
-use Rattle.defs_token.specs.Row.{IsRead}
-use Rattle.defs_event.specs.Stream.{IsStream}
-use Rattle.defs_event.specs.Nested.{NestedDocument, nested_stream}
-use Rattle.defs_event.specs.Reading.{reading}
-use Rattle.defs_event.specs.Unfinished.{new_loader, with_events}
-use Rattle.defs_event.proofs.OneByOne.{one_by_one}
+use Rattle.proof_loads.proofs.Common.{[], ap, Bool, IsRead, IsStream, List, map, Means, nested_stream, NestedDocument, new_loader, Ok, one_by_one, read_again, reading, somewhere, subst, sym, Token, toks, Tree, with_events, with_somewhere, ℕ, ◌∙◌, ◌≡◌}
 use Rattle.defs_event.proofs.OneReading as grammar
-use Rattle.defs_event.specs.Meaning.{Means}
 use Rattle.proof_row.proofs.OneRow as row
-use Rattle.proof_row.proofs.Meanings.{somewhere, with_somewhere, read_again}
 
 -- Documents whose events the text has are read as the trees that it means.
 pub one_reading : {keep_tags : Bool} {text : List ℕ} {trees : List Tree} (tokens : List Token) (documents : List NestedDocument) → IsRead text tokens → IsStream keep_tags (toks tokens) (nested_stream documents)

@@ -1,15 +1,5 @@
 -- What a parser at its start was asked for, and what it has given.
-use Rattle.std.proofs.Common.{◌≡◌, true, false, Bool, List, [], ◌∷◌, ◌++◌, Some, None, refl, sym, ap, ◌∙◌, subst, append_assoc, append-nil}
-use Rattle.std.specs.Prelude.{Option, IfSome, ◌||◌}
-use Rattle.defs_text.specs.Position.{Position}
-use Rattle.yaml_tokens.specs.ErrorReport.{ErrorReport}
-use Rattle.defs_event.specs.Event.{Ev}
-use Rattle.defs_event.specs.PulledList.{Answer, event, fault, given}
-use Rattle.yaml_parser.specs.Parsed.{Parsed, is_stream_end, has_end, read_so}
-use Rattle.yaml_parser.specs.Follows.{Explains}
-use Rattle.yaml_parser.specs.Pulls.{GivesEvent, KeepsSettings}
-use Rattle.yaml_parser.specs.Loads.{PullsAll, no_call, one_call}
-use Rattle.proof_loads.specs.AtStart.{IsAtStart}
+use Rattle.proof_loads.proofs.Common.{[], Answer, ap, append-nil, append_assoc, Bool, ErrorReport, Ev, event, Explains, false, fault, given, GivesEvent, has_end, IfSome, is_stream_end, IsAtStart, KeepsSettings, List, no_call, None, one_call, Option, Parsed, Position, PullsAll, read_so, refl, Some, subst, sym, true, ◌++◌, ◌||◌, ◌∙◌, ◌∷◌, ◌≡◌}
 use Rattle.proof_loads.proofs.Runs.{given_append}
 
 -- ---- what was pulled

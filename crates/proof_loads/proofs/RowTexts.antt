@@ -1,19 +1,6 @@
 -- The tokens that the scanner's model gives a text are those of its row, and so a text with these tokens means what they are read as.
-use Rattle.std.proofs.Common.{◌≡◌, ℕ, Bool, true, List, sym, subst}
-use Rattle.defs_text.specs.Text.{has_no_nul}
-use Rattle.proof_row.proofs.Pieces.{clean_up_to_end}
-use Rattle.defs_token.specs.Token.{Tok}
-use Rattle.defs_tree.specs.Tree.{Tree}
-use Rattle.defs_event.specs.ReadAs.{ReadAs}
-use Rattle.defs_event.specs.Stream.{raws_of}
-use Rattle.model_parser.proofs.Places.{without_positions}
-use Rattle.defs_event.specs.Meaning.{Means}
-use Rattle.model_scanner.proofs.Runs.{not_refused}
+use Rattle.proof_loads.proofs.Common.{Bool, clean_up_to_end, EventsAreOfTheRow, has_no_nul, IsWithoutNul, List, Means, not_refused, raws_of, ReadAs, RefusedTextsHaveNoRow, subst, sym, texts_with_a_row_are_read, Tok, tokens_are_of_a_row, Tree, true, without_positions, ℕ, ◌≡◌}
 use Rattle.model_scanner.specs.TextTokens.{HasToks}
-use Rattle.proof_scanner.proofs.Sound.Sound.{tokens_are_of_a_row}
-use Rattle.proof_scanner.proofs.Complete.Complete.{texts_with_a_row_are_read}
-use Rattle.proof_loads.specs.Spelled.{IsWithoutNul}
-use Rattle.proof_loads.specs.Rows.{RefusedTextsHaveNoRow, EventsAreOfTheRow}
 
 pub without_nul : (text : List ℕ) → IsWithoutNul text → has_no_nul text ≡ true
 without_nul text without = subst (λ a. has_no_nul a ≡ true) without (clean_up_to_end text)

@@ -1,9 +1,5 @@
 -- Runs of `load` with `multi` over answers, whatever they are.
-use Rattle.std.proofs.Common.{◌≡◌, ◌+◌, true, List, [], ◌∷◌, ◌++◌, length, refl, sym, ap, ◌∙◌, subst, append_assoc, arith}
-use Rattle.defs_text.specs.Position.{Position}
-use Rattle.defs_event.specs.Event.{Ev}
-use Rattle.defs_event.specs.PulledList.{Answer, event, fault, given}
-use Rattle.defs_event.specs.Push.{Standing, before_stream, between, inside, Ending, well, faulted, no_document, unfinished, Loaded, ends, push, load_from}
+use Rattle.proof_loads.proofs.Common.{[], Answer, ap, append_assoc, arith, before_stream, between, Ending, ends, Ev, event, fault, faulted, given, inside, length, List, load_from, Loaded, no_document, Position, push, refl, Standing, subst, sym, true, unfinished, well, ◌++◌, ◌+◌, ◌∙◌, ◌∷◌, ◌≡◌}
 
 -- The call has come to its end.
 abbrev pub IsOver : {F : Type 0} → Ending F → Type 0

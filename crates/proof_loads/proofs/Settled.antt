@@ -1,13 +1,5 @@
 -- After the stream's end or a fault the same answer comes again.
-use Rattle.std.proofs.Common.{◌≡◌, Bool, true, false, ◌||◌, List, [], ◌∷◌, ◌++◌, Some, None, refl, sym, ap, ◌∙◌, subst}
-use Rattle.std.specs.Prelude.{IfSome}
-use Rattle.yaml_tokens.specs.ErrorReport.{ErrorReport}
-use Rattle.defs_event.specs.Event.{Ev}
-use Rattle.defs_event.specs.PulledList.{Answer, event, fault, IsStreamEnd, MayFollow, IsSettled}
-use Rattle.yaml_parser.specs.Parsed.{Parsed}
-use Rattle.yaml_parser.specs.Pulls.{Pulls, GivesFault}
-use Rattle.yaml_parser.specs.Loads.{PullsAll, no_call, one_call}
-use Rattle.proof_loads.specs.Laws.{AnswersAreSettled}
+use Rattle.proof_loads.proofs.Common.{[], Answer, AnswersAreSettled, ap, Bool, ErrorReport, Ev, event, false, fault, GivesFault, IfSome, IsSettled, IsStreamEnd, List, MayFollow, no_call, None, one_call, Parsed, Pulls, PullsAll, refl, Some, subst, sym, true, ◌++◌, ◌||◌, ◌∙◌, ◌∷◌, ◌≡◌}
 
 -- It holds of the last answer, if there is one.
 abbrev OfLast : (Answer ErrorReport → Type 0) → List (Answer ErrorReport) → Type 0

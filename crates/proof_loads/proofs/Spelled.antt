@@ -1,17 +1,11 @@
 -- Texts as their iterators give them, and as they are read.
 use Rattle.yaml_chars.proofs.SpelledLemmas.{Begins-spelled, Chars-spelled}
-use Rattle.std.specs.Prelude.{◌≡◌, ℕ, Option, [], ◌∷◌, true}
 use Rattle.std.specs.Str.{chars}
 use Rattle.std.specs.Str.Iter.{chars_steps}
-use Rattle.yaml_scanner.specs.Scanned.{MayBe}
+use Rattle.proof_loads.proofs.Common.{[], CharactersAreTheText, clean_up_to_end, has_no_nul, JsonTextsMeanTheirTree, MayBe, Option, spell_text, StringsAreTheText, TextsWithAFaultHaveNoRow, tree_of, true, ℕ, ◌∷◌, ◌≡◌}
 use Rattle.proof_layout_tokens.proofs.Json.Texts.{json_text_has_its_tokens}
-use Rattle.defs_layout.specs.Json.{spell_text, tree_of}
 use Rattle.defs_layout.specs.JsonTokens.{json_text_tokens}
 use Rattle.proof_layouts.proofs.Json.Reading as json
-use Rattle.proof_loads.specs.Laws.{JsonTextsMeanTheirTree, CharactersAreTheText, StringsAreTheText}
-use Rattle.proof_loads.specs.Rows.{TextsWithAFaultHaveNoRow}
-use Rattle.defs_text.specs.Text.{has_no_nul}
-use Rattle.proof_row.proofs.Pieces.{clean_up_to_end}
 use Rattle.proof_loads.proofs.JsonNul.{json_texts_have_no_nul}
 use Rattle.proof_loads.proofs.RowTexts.{means}
 

@@ -1,16 +1,6 @@
 -- A setting of `keep_tags` that counted from the start on: it names all events.
-use Rattle.std.proofs.Common.{Bool, List, [], ◌++◌, sym, ◌∙◌, subst}
-use Rattle.defs_text.specs.Position.{Position}
-use Rattle.defs_token.specs.Token.{Token}
-use Rattle.yaml_tokens.specs.ErrorReport.{ErrorReport}
-use Rattle.defs_event.specs.Event.{Ev}
-use Rattle.defs_event.specs.Raw.{Raw}
-use Rattle.defs_event.specs.Names.{no_names}
-use Rattle.defs_token.specs.Toks.{toks}
-use Rattle.defs_event.specs.Stream.{events_of}
+use Rattle.proof_loads.proofs.Common.{[], Blames, Bool, ErrorReport, Ev, events_of, IsCause, IsDerived, List, no_names, Position, Raw, subst, sym, Token, toks, ◌++◌, ◌∙◌}
 use Rattle.yaml_parser.specs.Settings.{AreAll}
-use Rattle.yaml_parser.specs.Derived.{IsDerived}
-use Rattle.yaml_parser.specs.Blames.{Blames, IsCause}
 use Rattle.yaml_parser.proofs.Since.{since_same, names_same}
 
 derived_steady : {settings : List Bool} {keep_tags : Bool} {tokens : List Token} {raw : List Raw} {events : List (Ev × Position)} → AreAll keep_tags settings → IsDerived settings keep_tags tokens raw events → IsDerived [] keep_tags tokens raw events

@@ -1,18 +1,9 @@
 -- A stream's tokens hold the stream's end; so a text has no more tokens than a stream that it begins with.
-use Rattle.std.proofs.Common.{◌≡◌, ◌⊎◌, inl, inr, ℕ, Bool, true, false, ◌||◌, List, [], ◌∷◌, ◌++◌, Some, None, refl, ap, ◌∙◌, subst, append_assoc, append-nil}
-use Rattle.std.specs.Prelude.{Option}
-use Rattle.defs_token.specs.Token.{Tok, Token}
-use Rattle.defs_event.specs.Raw.{Raw}
+use Rattle.proof_loads.proofs.Common.{[], ap, append-nil, append_assoc, Bool, false, has_no_nul, inl, inr, IsReached, IsRead, List, None, Option, Raw, refl, Some, StreamSays, subst, Tok, Token, tokens_are_of_a_row, toks, true, whole_stream, ℕ, ◌++◌, ◌||◌, ◌∙◌, ◌∷◌, ◌≡◌, ◌⊎◌}
 use Rattle.defs_event.specs.Kinds.{is_stream_end}
 use Rattle.defs_event.specs.Table.{Part, read, keep, hold, say, show, empty, Row, takes, leaves, row_of, Work, reading, saying, before, Derives, says, by_taking, by_leaving}
 use Rattle.defs_event.specs.Grammar.{Held, Goal, stream, documents, directives, explicit_document, document_end, cases, grammar}
-use Rattle.defs_event.specs.Stream.{whole_stream, StreamSays}
-use Rattle.defs_token.specs.Toks.{toks}
-use Rattle.defs_token.specs.Row.{IsRead}
-use Rattle.defs_text.specs.Text.{has_no_nul}
 use Rattle.model_scanner.proofs.Ends.{end_is_last}
-use Rattle.proof_scanner.proofs.Sound.Sound.{tokens_are_of_a_row}
-use Rattle.yaml_scanner.specs.Follows.{IsReached}
 
 -- The stream's end is among these.
 data Ends : List Tok → Type 0 where

@@ -1,22 +1,5 @@
 -- A parser somewhere in a text that means trees.
-use Rattle.std.proofs.Common.{◌≡◌, ℕ, true, Bool, List, ◌++◌, Some, ap, ◌∙◌, subst, append_assoc, inl, inr}
-use Rattle.std.specs.Prelude.{IfSome, Option}
-use Rattle.std.proofs.lemmas.List.{map-append}
-use Rattle.defs_text.specs.Position.{Position}
-use Rattle.defs_token.specs.Token.{Tok, Token}
-use Rattle.defs_tree.specs.Tree.{Tree}
-use Rattle.yaml_tokens.specs.ErrorReport.{ErrorReport}
-use Rattle.defs_event.specs.Event.{Ev}
-use Rattle.defs_token.specs.Toks.{toks}
-use Rattle.defs_event.specs.Stream.{IsStream, Foretells, events_of}
-use Rattle.defs_event.specs.Unfinished.{new_loader, with_events}
-use Rattle.yaml_scanner.specs.Scanned.{Scanned, ScansIn}
-use Rattle.yaml_parser.specs.Parsed.{read}
-use Rattle.defs_event.specs.ReadAs.{ReadAs, IsAtWork}
-use Rattle.proof_layouts.proofs.Loads.{streams_are_loaded, foretold_are_not_refused, streams_are_not_cut}
-use Rattle.defs_event.specs.Meaning.{Means}
-use Rattle.proof_loads.specs.TextEvents.{AreFirst}
-use Rattle.proof_loads.specs.Laws.{ReadTextsAreNotRefused, ReadTextsHaveNoFaultButMemory, EventsOfReadTextsAreRead, ReadTextsHaveTheirTrees}
+use Rattle.proof_loads.proofs.Common.{ap, append_assoc, AreFirst, Bool, ErrorReport, Ev, events_of, EventsOfReadTextsAreRead, Foretells, foretold_are_not_refused, IfSome, inl, inr, IsAtWork, IsStream, List, map-append, Means, new_loader, Option, Position, read, ReadAs, ReadTextsAreNotRefused, ReadTextsHaveNoFaultButMemory, ReadTextsHaveTheirTrees, Scanned, ScansIn, Some, streams_are_loaded, streams_are_not_cut, subst, Tok, Token, toks, Tree, true, with_events, ℕ, ◌++◌, ◌∙◌, ◌≡◌}
 
 -- The tokens handed out, with some more, are read as the trees.
 pub record GoesOn (keep_tags : Bool) (given : List Token) (trees : List Tree) : Type 0 where

@@ -1,11 +1,5 @@
 -- The words of JSON and its numbers are words.
-use Rattle.std.proofs.Common.{◌≡◌, ℕ, List, [], ◌∷◌, ◌++◌, Bool, true, false, not, ◌&&◌, ◌==◌, refl, ap, sym, ◌∙◌, append_assoc, append-nil, arith}
-use Rattle.std.specs.Char.{is_ascii_digit}
-use Rattle.std.specs.List.{list_all}
-use Rattle.std.proofs.lemmas.Bool.{and_parts, and_from}
-use Rattle.std.proofs.lemmas.Bool.Decides.{nat_tests}
-use Rattle.proof_layout_tokens.proofs.Common.{exponent, fraction, Number, plus, spell_number}
-use Rattle.defs_layout.specs.JsonNumber.{number, Fraction, no_fraction, Sign, no_sign, minus, Exponent, no_exponent, spell_minus, spell_fraction, spell_sign, spell_exponent, letter_e, are_digits, is_whole, is_fraction, is_exponent, is_number}
+use Rattle.proof_layout_tokens.proofs.Common.{[], and_from, and_parts, ap, append-nil, append_assoc, are_digits, arith, Bool, Exponent, exponent, false, Fraction, fraction, is_ascii_digit, is_exponent, is_fraction, is_number, is_whole, letter_e, List, list_all, minus, nat_tests, no_exponent, no_fraction, no_sign, not, Number, number, plus, refl, Sign, spell_exponent, spell_fraction, spell_minus, spell_number, spell_sign, sym, true, ℕ, ◌&&◌, ◌++◌, ◌==◌, ◌∙◌, ◌∷◌, ◌≡◌}
 use Rattle.proof_layout_tokens.proofs.Json.Words.{is_word, are_words, begins_word, IsWord}
 
 digit_word : (c : ℕ) → is_ascii_digit c ≡ true → is_word c ≡ true

@@ -1,7 +1,14 @@
 -- JSON values between whose parts only spaces stand: those that are written on one line without TAB.
-use Rattle.proof_layout_tokens.proofs.Common.{element, Elements, empty_object, false_word, Json, last_element, last_member, member, Members, null_word, object, true_word}
-use Rattle.defs_layout.specs.Json.{number, string, empty_array, array}
-use Rattle.proof_layout_tokens.proofs.Json.States.{AreSpaces}
+use Rattle.proof_layout_tokens.proofs.Common.{[], array, Blank, carriage_return, element, Elements, empty_array, empty_object, false_word, Json, last_element, last_member, line_feed, List, member, Members, null_word, object, space, string, tab, true_word, ◌∷◌}
+use Rattle.defs_layout.specs.Json.{number}
+
+-- only spaces
+abbrev pub AreSpaces : List Blank → Type 0
+AreSpaces [] = Unit {0}
+AreSpaces (space ∷ g) = AreSpaces g
+AreSpaces (tab ∷ g) = ⊥
+AreSpaces (line_feed ∷ g) = ⊥
+AreSpaces (carriage_return ∷ g) = ⊥
 
 abbrev mutual
   -- within a value

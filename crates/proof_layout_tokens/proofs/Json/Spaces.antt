@@ -1,13 +1,8 @@
 -- Between the parts of a JSON value on one line without TAB only spaces stand.
-use Rattle.std.proofs.Common.{◌≡◌, ℕ, List, [], ◌∷◌, ◌++◌, true}
-use Rattle.std.specs.List.{list_all}
-use Rattle.std.proofs.lemmas.Bool.{and_parts}
-use Rattle.proof_layout_tokens.proofs.Common.{Blank, carriage_return, element, Elements, empty_object, false_word, itself, Json, last_element, last_member, member, Members, null_word, Number, object, Piece, short, spell_elements, spell_members, spell_number, spell_pieces, spell_string, true_word, unicode}
-use Rattle.defs_layout.specs.JsonGap.{space, tab, line_feed, spell_gap}
-use Rattle.defs_layout.specs.JsonString.{letter_of, spell_piece}
-use Rattle.defs_layout.specs.Json.{number, string, empty_array, array, spell}
-use Rattle.defs_layout.specs.Layout.{is_on_one_line}
-use Rattle.proof_layout_tokens.proofs.Json.States.{AreSpaces}
+use Rattle.proof_layout_tokens.proofs.Common.{[], and_parts, array, Blank, carriage_return, element, Elements, empty_array, empty_object, false_word, is_on_one_line, itself, Json, last_element, last_member, letter_of, line_feed, List, list_all, member, Members, null_word, Number, object, Piece, short, space, spell, spell_elements, spell_members, spell_number, spell_piece, spell_pieces, spell_string, string, tab, true, true_word, unicode, ℕ, ◌++◌, ◌∷◌, ◌≡◌}
+use Rattle.defs_layout.specs.JsonGap.{spell_gap}
+use Rattle.defs_layout.specs.Json.{number}
+use Rattle.proof_layout_tokens.proofs.Json.OnOneLine.{AreSpaces}
 use Rattle.proof_layout_tokens.proofs.Json.OnOneLine.{HasSpaces, HaveSpaces, MembersHaveSpaces}
 use Rattle.proof_layout_tokens.proofs.Json.Numbers.{number_then}
 

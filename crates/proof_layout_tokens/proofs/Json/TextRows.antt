@@ -1,14 +1,8 @@
 -- JSON texts and their tokens: what the theorem says of some, and what the model does at a tab that the definition leaves out.
-use Rattle.std.proofs.Common.{arith, ◌≡◌, [], ◌∷◌, true, false, codes, refl, Err}
-use Rattle.proof_layout_tokens.proofs.Common.{Elements, exponent, fraction, HasToks, is_unescaped, itself, Json, plus, short, Style, Tok, unicode}
-use Rattle.yaml_tokens.specs.declared.problem.Fault.TheVariants.{At}
+use Rattle.proof_layout_tokens.proofs.Common.{[], arith, At, codes, Elements, Err, exponent, false, fraction, HasToks, is_unescaped, itself, Json, number, plus, refl, scan, scan_on_literals, Short, short, Style, Tok, true, unicode, ◌∷◌, ◌≡◌}
 use Rattle.yaml_tokens.specs.declared.problem.Problem.TheVariants as problem
 use Rattle.defs_layout.specs.JsonGap as gap
-use Rattle.defs_layout.specs.JsonNumber.{number}
-use Rattle.defs_layout.specs.JsonString.{Short}
 use Rattle.proof_layout_tokens.proofs.Json.Texts.{json_text_has_its_tokens}
-use Rattle.model_scanner.specs.Run.{scan}
-use Rattle.model_scanner.proofs.OnLiterals.{scan_on_literals}
 
 -- `["a\u0041\n", -2.5e+3]`
 array : HasToks (codes "[\"a\\u0041\\n\", -2.5e+3]")

@@ -1,10 +1,7 @@
 -- JSON arrays and objects after each mark of a block collection: what the theorem says of a text with them.
-use Rattle.std.proofs.Common.{arith, ℕ, List, [], ◌∷◌, true, false, codes}
 use Rattle.std.specs.Fmt.{digits}
-use Rattle.proof_layout_tokens.proofs.Common.{compact, Elements, entry, explicit, exponent, fraction, HasToks, implicit, is_decimal, is_quoted, is_unescaped, is_unfit_for_plain, itself, Json, last_document, last_entry, last_field, Members, plus, Root, Style, Tok, Tree, typing}
+use Rattle.proof_layout_tokens.proofs.Common.{[], arith, Block, codes, compact, Elements, entry, explicit, exponent, false, fraction, HasToks, implicit, is_decimal, is_on_one_line, is_quoted, is_unescaped, is_unfit_for_plain, itself, Json, json, last_document, last_entry, last_field, List, Members, no_exponent, no_fraction, number, plain, plus, Root, Style, Tok, Tree, true, typing, ℕ, ◌∷◌}
 use Rattle.defs_layout.specs.JsonGap as gap
-use Rattle.defs_layout.specs.JsonNumber.{number, no_fraction, no_exponent}
-use Rattle.defs_layout.specs.Layout.{plain, Block, json, is_on_one_line}
 use Rattle.proof_layout_tokens.proofs.Layouts.Texts.{layouts_have_their_tokens}
 
 abbrev plain_tok : List ℕ → Tok

@@ -1,10 +1,6 @@
 -- Quoted scalars as texts: what the laws say of some.
-use Rattle.std.proofs.Common.{[], ◌∷◌, codes, refl}
-use Rattle.proof_layout_tokens.proofs.Common.{HasToks, Style, Tok}
-use Rattle.defs_text.specs.Classes.{is_blank, is_break, is_nul, are_marks}
-use Rattle.defs_text.specs.FlowScalar.{plain_element, single_quoted_element, double_quoted_element, is_character_code, numeric_escape, escape, begins_with_marker, single_quoted_value, double_quoted_value}
+use Rattle.proof_layout_tokens.proofs.Common.{[], are_marks, begins_with_marker, codes, double, double_quoted_element, double_quoted_value, escape, HasToks, is_blank, is_break, is_character_code, is_nul, numeric_escape, plain_element, refl, single, single_quoted_element, single_quoted_value, Style, Tok, ◌∷◌}
 use Rattle.yaml_tokens.specs.declared.problem.Problem.TheVariants as problem
-use Rattle.defs_layout.specs.QuotedText.{single, double}
 use Rattle.proof_lexers.specs.QuotedEnds.{IsBadEscape, unknown, no_digit, no_character}
 use Rattle.proof_layout_tokens.proofs.Quoted.Tokens.{quoted_texts_have_their_tokens}
 

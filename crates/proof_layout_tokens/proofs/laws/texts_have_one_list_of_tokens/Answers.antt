@@ -1,4 +1,4 @@
-use Rattle.model_scanner.proofs.Runs.{one_list}
+use Rattle.proof_layout_tokens.proofs.Common.{one_list}
 use Rattle.proof_layout_tokens.proofs.laws.texts_have_one_list_of_tokens.Goals as goal
 
 pub returns : goal.returns

@@ -1,4 +1,4 @@
-use Rattle.model_scanner.proofs.Runs.{not_refused}
+use Rattle.proof_layout_tokens.proofs.Common.{not_refused}
 use Rattle.proof_layout_tokens.proofs.laws.texts_with_tokens_are_not_refused.Goals as goal
 
 pub returns : goal.returns

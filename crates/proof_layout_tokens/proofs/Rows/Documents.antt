@@ -1,0 +1,142 @@
+-- Whole layouts have rows: roots, and documents one after the other.
+use Rattle.proof_layout_tokens.proofs.Common.{[], and_false, another, ap, append-nil, are_marks, AreDocuments, AreEmptyLines, arith, awaits_at, awaits_past, BlockStyle, Bool, codes, Document, Documents, documents_tokens, false, first_account, first_position, free, GapLine, has_break, is_blank, is_blank_or_end, is_break, is_nul, is_waiting, IsAfterRoot, IsGap, IsLayout, IsRoot, Layout, length, line_past_separation, List, marked, no_comment, Position, position_after, Previous, refl, Root, root_tokens, Some, spaces, spell_block, spell_documents, spell_gap, spell_inline, spell_lines, spell_literal, spell_root, sym, taken, Tok, true, ℕ, ◌++◌, ◌-◌, ◌∙◌, ◌∷◌, ◌≡◌}
+use Rattle.defs_token.specs.Key.{Line}
+use Rattle.defs_layout.specs.BlockLines.{Line as BlockLine}
+use Rattle.defs_layout.specs.Layout.{spell}
+use Rattle.defs_layout.specs.Layout as layout
+use Rattle.proof_layout_tokens.proofs.LiteralTexts.{strips_of, headed_literal, root_literal_lines}
+use Rattle.proof_layout_tokens.proofs.Rows.Steps.{Reads, at, step_of, Steps, step}
+use Rattle.proof_layout_tokens.proofs.Rows.Nodes.{or_true}
+use Rattle.proof_layout_tokens.proofs.Rows.Texts.{ended, read_end}
+use Rattle.proof_layout_tokens.proofs.Rows.Blocks.{Here, ends_are, ended_append}
+use Rattle.proof_layout_tokens.proofs.Rows.Trails.{Trail, next, marker, end, marker_text, trail_text, IsTrail, IsLow, EndsAt, After, gap_separates, spaces_separate, gap_last, no_tab, gap_column, spaces_are, gap_is, here_after}
+use Rattle.proof_layout_tokens.proofs.Rows.Leaves.{Lead}
+use Rattle.proof_layout_tokens.proofs.Rows.BlockScalars.{at_text, Follows, block_is_read}
+use Rattle.proof_layout_tokens.proofs.Rows.Values.{block_reads, inline_reads}
+
+-- ---- in front of a root
+
+-- after the break of a marker's line, or at the start of the text
+abbrev pre : (breaks : Bool) → List ℕ → List ℕ
+pre true r = 10 ∷ r
+pre false r = r
+
+-- a gap in front of a column
+abbrev lead_text : (breaks : Bool) → List GapLine → ℕ → List ℕ
+lead_text b g n = pre b (spell_gap g (spaces n []))
+
+lead_is : (b : Bool) (g : List GapLine) (n : ℕ) (r : List ℕ) → pre b (spell_gap g (spaces n r)) ≡ lead_text b g n ++ r
+lead_is true g n r = ap (λ x. 10 ∷ x) (sym (gap_is g (spaces n []) r ∙ ap (spell_gap g) (spaces_are n [] r)))
+lead_is false g n r = sym (gap_is g (spaces n []) r ∙ ap (spell_gap g) (spaces_are n [] r))
+
+module _ (b : Bool) (g : List GapLine) (gap : IsGap g) (p : Position) (l : Line) (line : is_waiting l ≡ false) (begins : b ≡ false → (p.col ≡ 0) × (l ≡ free)) where
+  here_at : (n : ℕ) (r : List ℕ) → Here n r p another l (lead_text b g n)
+  here_at n r = by b begins
+    where
+      any : (m : Bool) → line_past_separation false m free ≡ Some free
+      any true = refl
+      any false = refl
+
+      by : (b : Bool) → (b ≡ false → (p.col ≡ 0) × (l ≡ free)) → Here n r p another l (lead_text b g n)
+      by true begins = here_after no_comment g n r p another l tt gap (λ f. refl) line
+      by false begins = record {
+        separates = gap_separates g (spaces n []) r gap (spaces_separate n [] r);
+        tabless = λ m. rw (gap_last g n) (no_tab m n);
+        line = rw ((begins refl).1) (any (has_break (spell_gap g (spaces n []))));
+        column = gap_column g n r p (begins refl).0;
+      }
+
+  lead : Lead [] p (lead_text b g 0)
+  lead = record { parts = record { separates = λ r. (here_at 0 r).separates; tabless = λ awaits. refl }; deep = λ r. omega arith }
+
+-- ---- roots
+
+-- a trail that ends a document
+abbrev EndsDocument : Root → Trail → Type 0
+EndsDocument root (next g d r) = ⊥
+EndsDocument root (marker g r) = IsAfterRoot root g
+EndsDocument root (end g) = IsAfterRoot root g
+
+empty_gap : (g : List GapLine) → AreEmptyLines g → IsGap g
+empty_gap [] h = tt
+empty_gap (GapLine.empty_line ∷ g) h = (tt, empty_gap g h.1)
+empty_gap (GapLine.comment_line text ∷ g) h = absurd (h.0)
+
+after_root : (root : Root) (g : List GapLine) → IsAfterRoot root g → IsGap g
+after_root (Root.block column b) g h = h
+after_root (Root.inline i) g h = h
+after_root (Root.literal text ls) g h = empty_gap g h
+
+is_trail : (root : Root) (t : Trail) → EndsDocument root t → IsTrail t
+is_trail root (next g d r) h = absurd h
+is_trail root (marker g r) h = after_root root g h
+is_trail root (end g) h = after_root root g h
+
+is_low : (root : Root) (t : Trail) → EndsDocument root t → IsLow t []
+is_low root (next g d r) h = absurd h
+is_low root (marker g r) h = tt
+is_low root (end g) h = tt
+
+all_end : (root : Root) (t : Trail) (c : ℕ) → EndsDocument root t → EndsAt t c
+all_end root (next g d r) c h = absurd h
+all_end root (marker g r) c h = tt
+all_end root (end g) c h = tt
+
+literal_follows : (text : List ℕ) (ls : List BlockLine) (t : Trail) → EndsDocument (Root.literal text ls) t → Follows 0 t
+unfolding is_nul are_marks is_blank_or_end is_blank is_break
+literal_follows text ls (next g d r) h = absurd h
+literal_follows text ls (marker g r) h = ((λ e. h), at_text (marker_text r) refl refl refl)
+literal_follows text ls (end g) h = λ e. h
+
+root_reads : (root : Root) → IsRoot root → (b : Bool) (g : List GapLine) → IsGap g → (t : Trail) → EndsDocument root t → (tokens : List Tok) (p : Position) (awaits : Bool) (l : Line) → is_waiting l ≡ false → (b ≡ false → (p.col ≡ 0) × (l ≡ free)) → After t [] tokens
+    → Reads (at p [] awaits another l []) (pre b (spell_gap g (spell_root root (trail_text t)))) (root_tokens root tokens)
+root_reads (Root.block column block) is b g gap t ends tokens p awaits l line begins rest =
+    rw (lead_is b g column (spell_block column block (trail_text t)))
+    (block_reads column [] block is [] t tokens p awaits another l (lead_text b g column) (omega arith) (is_trail (Root.block column block) t ends) (all_end (Root.block column block) t column ends) (here_at b g gap p l line begins column _) rest)
+root_reads (Root.inline i) is b g gap t ends tokens p awaits l line begins rest =
+    rw (lead_is b g 0 (spell_inline i (trail_text t)))
+    (inline_reads no_comment t [] tokens p awaits l (lead_text b g 0) tt (is_trail (Root.inline i) t ends) (is_low (Root.inline i) t ends) line (lead b g gap p l line begins) rest i is)
+root_reads (Root.literal text ls) is b g gap t ends tokens p awaits l line begins rest =
+    let z = lead b g gap p l line begins in
+    rw (lead_is b g 0 (spell_literal 0 text ls (trail_text t)), headed_literal text (spell_lines 0 ls (trail_text t)))
+    (block_is_read BlockStyle.literal 0 0 (strips_of text) text ls refl (root_literal_lines text ls is.0 is.1) [] refl tokens p awaits l (lead_text b g 0) line z.parts z.deep t (is_trail (Root.literal text ls) t ends) (literal_follows text ls t ends) rest)
+
+-- ---- markers
+
+all_left : (n : ℕ) → n - 0 ≡ n
+all_left n = omega arith
+
+marker_reads : (r : List ℕ) (tokens : List Tok) → ((p : Position) (awaits : Bool) → Reads (at p [] awaits another taken []) (10 ∷ r) tokens)
+    → (extra : List ℕ) (p : Position) (awaits : Bool) (before : Previous) (l : Line) (f : List ℕ) → Here 0 (marker_text r) p before l f → Reads (at p (extra ++ []) awaits before l []) (f ++ marker_text r) (ended extra (Tok.document_start ∷ tokens))
+unfolding is_blank_or_end is_blank is_break
+marker_reads r tokens rest extra p awaits before l f here =
+    let text = 10 ∷ r in
+    let w = codes "---" in
+    let there = position_after p f (w ++ text) in
+    let first : Steps (at p extra awaits before l []) (step_of f w Tok.document_start false) text (at (position_after there w text) [] (awaits_past false Tok.document_start [] (awaits_at false there.col extra awaits) text) another taken []) (ended extra []) = record {
+      is_separated = here.separates;
+      is_shown = (refl, ((refl, here.column, refl, refl), refl));
+      stands = rw (here.tabless, or_true _) refl;
+      leads = rw (here.line, and_false (has_break w)) refl;
+      begins = λ past colon. rw (all_left (length extra)) (ends_are extra there []);
+    } in
+    rw append-nil (rw (← ended_append extra [] (Tok.document_start ∷ tokens)) (step (step_of f w Tok.document_start false) text first (rest _ _)))
+
+-- ---- documents
+
+end_reads : (g : List GapLine) → After (end g) [] (Tok.stream_end ∷ [])
+end_reads g extra p awaits before l f all (separates, line) = rw (append-nil, append-nil) (read_end p extra awaits before l f line separates)
+
+documents_read : (ds : Documents) → AreDocuments ds → (b : Bool) (p : Position) (awaits : Bool) (l : Line) → is_waiting l ≡ false → (b ≡ false → (p.col ≡ 0) × (l ≡ free)) → Reads (at p [] awaits another l []) (pre b (spell_documents ds [])) (documents_tokens ds)
+documents_read (Documents.last_document d after) are b p awaits l line begins = root_reads d.root are.1 b d.gap are.0 (end after) are.2 (Tok.stream_end ∷ []) p awaits l line begins (end_reads after)
+documents_read (Documents.document d g ds) are b p awaits l line begins =
+    let r = spell_documents ds [] in
+    root_reads d.root are.1 b d.gap are.0 (marker g r) are.2 (Tok.document_start ∷ documents_tokens ds) p awaits l line begins
+    (λ extra q waits before m f all here. marker_reads r (documents_tokens ds) (λ q waits. documents_read ds are.3 true q waits taken refl (λ e. cc)) extra q waits before m f here)
+
+pub layout_reads : (w : Layout) → IsLayout w → Reads first_account (spell w []) (marked w.is_marked (documents_tokens w.documents))
+layout_reads w is = by w.is_marked
+  where
+    by : (b : Bool) → Reads first_account (layout.spell_mark b (spell_documents w.documents [])) (marked b (documents_tokens w.documents))
+    by true = marker_reads (spell_documents w.documents []) (documents_tokens w.documents) (λ q waits. documents_read w.documents is true q waits taken refl (λ e. cc)) [] first_position false another free [] (record { separates = refl; tabless = λ n. no_tab n 0; line = refl; column = refl })
+    by false = documents_read w.documents is false first_position false free refl (λ e. (refl, refl))
