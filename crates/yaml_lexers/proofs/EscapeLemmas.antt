@@ -1,14 +1,5 @@
 -- Lemmas about escapes.
-use Rattle.std.proofs.Common.{◌≡◌, ◌≤◌, ◌<◌, ◌+◌, ◌*◌, ◌-◌, ◌^◌, ◌∙◌, ℕ, suc, List, ◌∷◌, Bool, false, refl, slice_index, ap, sym, arith, add-one, lit<, if◌then◌else◌}
-use Rattle.std.proofs.Math.Nat.{pow-succ', pow-le-pow_right}
-use Rattle.defs_text.specs.Position.{Position}
-use Rattle.yaml_chars.specs.Class.{is_break, is_blank}
-use Rattle.yaml_chars.specs.WindowView.{WindowView, Reads, Sees, position_of, after_char}
-use Rattle.yaml_chars.proofs.WindowViewLemmas.{Reads-saw, Sees-both}
-use Rattle.model_scanner.specs.declared.context.Context.{Context}
-use Rattle.model_scanner.specs.Machine.{past}
-use Rattle.model_scanner.specs.Folding.{Folded}
-use Rattle.model_scanner.specs.Quoted.{quoted_from, digits_from, inside, breaking, named}
+use Rattle.yaml_lexers.proofs.Common.{add-one, after_char, ap, arith, Bool, breaking, Context, digits_from, false, Folded, if◌then◌else◌, inside, is_blank, is_break, List, lit<, named, past, Position, position_of, pow-le-pow_right, pow-succ', quoted_from, Reads, Reads-saw, refl, Sees, Sees-both, slice_index, suc, sym, WindowView, ℕ, ◌*◌, ◌+◌, ◌-◌, ◌<◌, ◌^◌, ◌∙◌, ◌∷◌, ◌≡◌, ◌≤◌}
 use Rattle.yaml_lexers.specs.ShownQuoted.{at_folded}
 
 backslash : (ctx : Context) (start : Position) (a : List ℕ) (p : Position) (t : Folded)

@@ -6,3 +6,4 @@ mod QuotedLemmas
 mod SpaceLemmas
 mod UriLemmas
 mod WordsLemmas
+mod Common

@@ -1,8 +1,5 @@
 -- Lemmas about plain scalars that are being read.
-use Rattle.std.proofs.Common.{◌≡◌, ℕ, List, [], ◌∷◌, Bool, true, false, ◌||◌, refl, slice_index}
-use Rattle.yaml_chars.specs.Class.{is_break, is_blank}
-use Rattle.model_scanner.specs.declared.context.Context.{Context}
-use Rattle.model_scanner.specs.Plain.{can_be_plain, ends_run}
+use Rattle.yaml_lexers.proofs.Common.{[], Bool, can_be_plain, Context, ends_run, false, is_blank, is_break, List, refl, slice_index, true, ℕ, ◌||◌, ◌∷◌, ◌≡◌}
 
 or_true : (b c : Bool) → (b || c || true) ≡ true
 or_true true c = refl

@@ -1,10 +1,5 @@
 -- Lemmas about quoted scalars that are being read.
-use Rattle.std.proofs.Common.{◌≡◌, ℕ, ◌+◌, ◌<◌, ◌≤◌, List, Bool}
-use Rattle.defs_text.specs.Position.{Position}
-use Rattle.model_scanner.specs.declared.context.Context.{Context}
-use Rattle.model_scanner.specs.Folding.{nothing}
-use Rattle.model_scanner.specs.Quoted.{quoted_from, first, inside}
-use Rattle.model_scanner.proofs.QuotedLemmas.{line_inside, in_line_goes_on}
+use Rattle.yaml_lexers.proofs.Common.{Bool, Context, first, in_line_goes_on, inside, line_inside, List, nothing, Position, quoted_from, ℕ, ◌+◌, ◌<◌, ◌≡◌, ◌≤◌}
 
 -- words may stand where a scalar begins
 pub begins_inside : (single : Bool) (ctx : Context) (start : Position) (a : List ℕ) (p : Position) → 0 < p.col → ctx.indent ≤ p.col + 1

@@ -1,11 +1,7 @@
 -- Lemmas about the spaces of a line.
-use Rattle.std.proofs.Common.{◌≡◌, ℕ, List, Bool, true, false, ◌||◌, ◌&&◌, ◌==◌, refl, slice_index, Ok}
-use Rattle.defs_text.specs.Position.{Position}
-use Rattle.yaml_chars.specs.Class.{is_blank}
+use Rattle.yaml_lexers.proofs.Common.{are_skipped, Bool, false, is_blank, List, Ok, Position, refl, slice_index, space_from, spaces_stop, true, ℕ, ◌&&◌, ◌==◌, ◌||◌, ◌≡◌}
 use Rattle.model_scanner.specs.declared.context.SkipTabs.{SkipTabs}
 use Rattle.model_scanner.specs.declared.context.Whitespace.{Whitespace}
-use Rattle.model_scanner.specs.Blanks.{space_from, are_skipped}
-use Rattle.model_scanner.proofs.SpaceLemmas.{spaces_stop}
 
 first_of : (b d : Bool) → b || d ≡ false → b ≡ false
 first_of true d h = h

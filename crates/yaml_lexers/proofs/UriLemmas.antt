@@ -1,8 +1,5 @@
 -- Lemmas about the octets of a URI's escaped characters.
-use Rattle.std.proofs.Common.{◌≡◌, ◌≤◌, ◌<◌, ◌+◌, ◌*◌, ◌-◌, ◌^◌, ◌∙◌, ℕ, suc, Bool, List, refl, sym, arith, ap, lit<}
-use Rattle.std.proofs.Math.Nat.{pow-succ', pow-le-pow_right, mul-le-mul_left, mul-le-mul_right, mul_assoc, le_trans}
-use Rattle.defs_text.specs.Position.{Position}
-use Rattle.model_scanner.specs.Uri.{trails_from}
+use Rattle.yaml_lexers.proofs.Common.{ap, arith, Bool, le_trans, List, lit<, mul-le-mul_left, mul-le-mul_right, mul_assoc, Position, pow-le-pow_right, pow-succ', refl, suc, sym, trails_from, ℕ, ◌*◌, ◌+◌, ◌-◌, ◌<◌, ◌^◌, ◌∙◌, ◌≡◌, ◌≤◌}
 
 -- one octet fewer is left of a character
 pub one_trail_fewer : (test : ℕ → Bool) (start : Position) (left code least : ℕ) (a : List ℕ) (p : Position) (t : List ℕ) → 0 < left

@@ -1,8 +1,5 @@
 -- Lemmas about a window.
-use Rattle.std.proofs.Common.{◌≡◌, ◌≢◌, ℕ, Bool, false, List, length, length-take, arith, ap}
-use Rattle.yaml_chars.specs.Class.{is_blank, is_break, is_blank_or_breakz}
-use Rattle.yaml_chars.specs.WindowView.{WindowView, Reads, HasChar, SamePosition, position_of}
-use Rattle.yaml_chars.proofs.WindowViewLemmas.{Possible-taken}
+use Rattle.yaml_lexers.proofs.Common.{ap, arith, Bool, false, HasChar, is_blank, is_blank_or_breakz, is_break, length, length-take, List, position_of, Possible-taken, Reads, SamePosition, WindowView, ℕ, ◌≡◌, ◌≢◌}
 
 -- a character that stands at the front stays there
 pub has_kept : {T : Type 0} {P : List ℕ → List ℕ → Type 0} (old new : WindowView T) → Reads old new P → new.at ≡ old.at → HasChar old → HasChar new

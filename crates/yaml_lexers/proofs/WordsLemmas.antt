@@ -1,29 +1,18 @@
 -- Words that are taken at once, and the lone blanks between them, belong to a scalar's text as they stand.
-use Rattle.std.proofs.Common.{◌≡◌, ℕ, suc, ◌+◌, ◌≤◌, List, [], ◌∷◌, ◌++◌, length, ◌∙◌, ap, sym, Bool, true, false, ◌||◌, ◌&&◌, refl, slice_index, arith, append_assoc, append-nil}
 use Rattle.std.specs.Prelude.{not}
 use Rattle.std.proofs.lemmas.Bool.{and_parts}
-use Rattle.std.proofs.lemmas.Bool.Decides.{nat_tests}
-use Rattle.defs_text.specs.Position.{Position}
-use Rattle.yaml_chars.specs.Class.{is_break, is_blank}
-use Rattle.yaml_chars.specs.WindowView.{WindowView, Reads, position_of}
+use Rattle.yaml_lexers.proofs.Common.{[], AddsWords, ap, append-nil, append_assoc, arith, block_run, Bool, comment, comment_on, Context, false, is_blank, is_break, length, List, nat_tests, none, past, plain_run, Position, position_of, quoted_run, Reads, Reads-map, refl, slice_index, some, stops_nul, suc, sym, true, WindowView, ℕ, ◌&&◌, ◌++◌, ◌+◌, ◌||◌, ◌∙◌, ◌∷◌, ◌≡◌, ◌≤◌}
 use Rattle.yaml_chars.specs.Run.{stops}
 use Rattle.yaml_chars.specs.Words.{begins_word, is_in_words, are_words, TakesWords, PassesWords}
 use Rattle.yaml_chars.specs.declared.run.Run.{Run}
 use Rattle.yaml_chars.specs.declared.run.Run.TheVariants as kind
-use Rattle.yaml_chars.proofs.RunLemmas.{stops_nul, Reads-map}
 use Rattle.yaml_chars.proofs.WordsLemmas.{begins_goes}
-use Rattle.yaml_lexers.specs.Shown.{AddsWords, none, some}
-use Rattle.model_scanner.specs.declared.context.Context.{Context}
-use Rattle.model_scanner.specs.Machine.{past}
-use Rattle.model_scanner.specs.Blanks.{comment}
 use Rattle.model_scanner.specs.Folding as folding
 use Rattle.model_scanner.specs.Plain as plain
 use Rattle.model_scanner.specs.Quoted as quoted
 use Rattle.model_scanner.specs.BlockScalar as block
-use Rattle.model_scanner.proofs.RunLemmas.{plain_run, quoted_run, block_run}
 use Rattle.model_scanner.proofs.PlainLemmas as in_plain
 use Rattle.model_scanner.proofs.QuotedLemmas as in_quotes
-use Rattle.model_scanner.proofs.SpaceLemmas.{comment_on}
 
 true_is_not_false : true ≡ false → ⊥
 true_is_not_false h = cc

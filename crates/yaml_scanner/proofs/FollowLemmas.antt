@@ -1,46 +1,23 @@
 -- What was fetched and handed out is a run of the model.
-use Rattle.std.proofs.Common.{◌≡◌, ◌≢◌, ℕ, zero, suc, ◌+◌, ◌-◌, ◌<◌, ◌≤◌, Err, List, [], ◌∷◌, ◌++◌, Bool, true, false, not, ◌&&◌, ◌||◌, ◌==◌, refl, ap, sym, ◌∙◌, arith, Option, Some, None, length, map, take, drop, option_map, subst, inl, inr}
-use Rattle.std.specs.Prelude.{IfSome, codes}
-use Rattle.std.specs.List.{list_any}
-use Rattle.std.proofs.lemmas.Bool.{eqb-true, both_ways}
-use Rattle.std.proofs.lemmas.List.{take-append-drop, length-take, length-drop}
-use Rattle.yaml_chars.proofs.WindowViewLemmas.{Possible-taken}
-use Rattle.defs_token.specs.Token.{Tok, Token}
-use Rattle.defs_text.specs.Position.{Position}
+use Rattle.std.specs.Prelude.{IfSome}
+use Rattle.yaml_scanner.proofs.Common.{[], ap, AreBehind, AreSettled, arith, At, BeginsWith, Bool, both_ways, codes, drop, eqb-true, Err, ErrorReport, false, Fault, fetch, Fetcher, Fetches, Follows, FollowsIn, handed, has_end, has_no_nul, HasTokens, held, here, ImplicitKey, inl, inr, inside, is_early, is_end, is_front, IsReached, IsRefusal, IsRefused, IsShort, kept_fault, KeptFault, LeavesNoRow, length, length-drop, length-take, List, list_any, lowered, map, None, not_refused, nothing_held, Ok, one_fault, one_list, one_more, Option, option_map, OutOfMemory, Position, position_of, Possible-taken, Reaches, Reads, refl, run_to_end, Scanned, Scans, seen, Some, start, state, subst, suc, sym, take, take-append-drop, Tok, Token, Tokens, true, zero, ℕ, ◌++◌, ◌+◌, ◌-◌, ◌<◌, ◌==◌, ◌||◌, ◌∙◌, ◌∷◌, ◌≡◌, ◌≢◌, ◌≤◌}
 use Rattle.yaml_tokens.specs.Problem.{fault_of}
-use Rattle.yaml_tokens.specs.declared.problem.Fault.{Fault}
-use Rattle.yaml_tokens.specs.ErrorReport.{ErrorReport}
-use Rattle.yaml_tokens.specs.declared.problem.Fault.TheVariants.{At, OutOfMemory}
 use Rattle.yaml_tokens.specs.declared.problem.Problem.{Problem}
-use Rattle.model_scanner.specs.Fetch.{fetch}
-use Rattle.model_scanner.specs.Run.{Reaches, here, HasTokens, IsRefused, start, nothing_held}
-use Rattle.model_scanner.proofs.Runs.{one_more, run_to_end, one_list, one_fault, not_refused}
 use Rattle.model_scanner.proofs.Given.{GivenStands, KeysFrom, reached}
 use Rattle.model_scanner.proofs.Ends.{end_is_last}
 use Rattle.yaml_scanner.specs.declared.fetcher.Backlog.{Backlog}
-use Rattle.yaml_scanner.specs.declared.fetcher.Fetcher.{Fetcher}
-use Rattle.yaml_scanner.specs.declared.fetcher.KeptFault.{KeptFault}
-use Rattle.yaml_scanner_state.specs.declared.keys.ImplicitKey.{ImplicitKey}
-use Rattle.yaml_scanner_state.specs.ImplicitKeys.{seen, is_front, lowered}
-use Rattle.yaml_scanner.specs.Shape.{held, state, Does, Fails}
-use Rattle.yaml_scanner_state.specs.Tokens.{Tokens, handed, is_end, has_end}
-use Rattle.yaml_scanner.specs.Work.{Fetches}
-use Rattle.yaml_scanner.specs.Follows.{BeginsWith, AreBehind, IsReached, AreSettled, IsShort, FollowsIn, Follows}
 use Rattle.yaml_scanner.specs.Rowless.{HasNoRow}
 use Rattle.yaml_scanner.specs.Waits.{comes_before}
-use Rattle.yaml_scanner.specs.Scanned.{Scanned, inside, kept_fault, is_early, IsRefusal, Scans, LeavesNoRow}
 use Rattle.yaml_scanner_state.proofs.GivenLemmas.{lowered_seen}
 use Rattle.yaml_scanner.proofs.WhereLemmas.{in_text, at_end, not_started, has_started}
 use Rattle.yaml_scanner_state.proofs.QueueLemmas.{has_end_append}
-use Rattle.yaml_chars.specs.WindowView.{position_of}
 use Rattle.defs_token.specs.Cut.{IsCut, IsCutOfBeginning, tokens_of, end_token}
-use Rattle.defs_text.specs.Text.{has_no_nul}
 use Rattle.proof_scanner.proofs.Cut.Scalars.{same_number}
 use Rattle.proof_scanner.proofs.Cut.Faults.Fetches.{faults_stand}
-use Rattle.proof_scanner.proofs.Cut.Beginnings.{first_tokens_are_cut}
+use Rattle.proof_scanner.proofs.Sound.FirstTokens.{first_tokens_are_cut}
 use Rattle.defs_token.specs.Row.{IsRead}
 use Rattle.proof_scanner.proofs.Sound.Sound.{tokens_are_of_a_row}
-use Rattle.proof_scanner.proofs.Complete.Complete.{texts_with_a_row_are_read}
+use Rattle.proof_scanner.proofs.Complete.{texts_with_a_row_are_read}
 use Rattle.proof_scanner.proofs.Refusals.Refusals.{refused_texts_are_stuck}
 
 -- before a text
@@ -59,10 +36,10 @@ starts x e n k h o b = λ a p. record {
 }
 
 -- a fetch more
-pub fetched_on : {T : Type 0} (x y : Fetcher T) → x.kept ≡ None → x.tokens.ended ≡ false → Follows x → Does fetch x y → Fetches x y → (y.tokens.ended ≡ true → y.window.done ≡ true) → Follows y
+pub fetched_on : {T : Type 0} (x y : Fetcher T) → x.kept ≡ None → x.tokens.ended ≡ false → Follows x → Reads x.window y.window (λ a b. fetch (state a x) ≡ Ok (state b y)) → Fetches x y → (y.tokens.ended ≡ true → y.window.done ≡ true) → Follows y
 fetched_on x y k g f d m n = λ a p.
-    let old = f a (d.runs.back a p) in
-    let run : Reaches (start a) (state (drop y.window.at a) y) = one_more (old.run k g) g (d.runs.reads a p) in
+    let old = f a (d.back a p) in
+    let run : Reaches (start a) (state (drop y.window.at a) y) = one_more (old.run k g) g (d.reads a p) in
     record {
       run = λ _ _. run;
       all = λ _ e. record { whole = record { end = state (drop y.window.at a) y; run = run; ended = e; tokens = refl }; position = refl; began = refl };
@@ -133,9 +110,9 @@ settled_at x a e run going refused short = record {
 }
 
 -- a refusal, which is then kept
-pub stopped : {T : Type 0} (x y : Fetcher T) (e : Fault) (k : KeptFault) → k.fault ≡ e → x.kept ≡ None → x.tokens.ended ≡ false → (k.early ≡ false → IsShort x) → Follows x → Fails fetch x y e → Fetches x y → Follows (record y { kept = Some k })
+pub stopped : {T : Type 0} (x y : Fetcher T) (e : Fault) (k : KeptFault) → k.fault ≡ e → x.kept ≡ None → x.tokens.ended ≡ false → (k.early ≡ false → IsShort x) → Follows x → Reads x.window y.window (λ a b. e ≢ OutOfMemory → fetch (state a x) ≡ Err e) → Fetches x y → Follows (record y { kept = Some k })
 stopped x y e k i n g short f d m = λ a p.
-    let old = f a (d.runs.back a p) in
+    let old = f a (d.back a p) in
     record {
       run = λ c _. absurd cc;
       all = λ c _. absurd cc;
@@ -143,8 +120,8 @@ stopped x y e k i n g short f d m = λ a p.
       reached = rw m.given old.reached;
       begins = λ ts h. rw m.given (old.begins ts h);
       whole = λ o. rw m.given (old.whole (sym m.over ∙ o));
-      refused = λ q. rw i (record { last = state (drop x.window.at a) x; run = old.run n g; going = g; refused = d.runs.reads a p (λ z. q (i ∙ z)) });
-      settled = λ late q. rw m.given (settled_at x a e (old.run n g) g (d.runs.reads a p (λ z. q (i ∙ z))) (short late));
+      refused = λ q. rw i (record { last = state (drop x.window.at a) x; run = old.run n g; going = g; refused = d.reads a p (λ z. q (i ∙ z)) });
+      settled = λ late q. rw m.given (settled_at x a e (old.run n g) g (d.reads a p (λ z. q (i ∙ z))) (short late));
       open_end = λ o. rw m.given (old.open_end (sym m.over ∙ o));
       backlog = rw m.backlog old.backlog;
     }

@@ -1,23 +1,6 @@
 -- What the model does at a key or another plain scalar of one line that is a simple text.
-use Rattle.std.proofs.Common.{◌≡◌, ℕ, ◌+◌, ◌<◌, ◌≤◌, List, [], ◌∷◌, ◌++◌, Bool, true, false, ◌||◌, ◌&&◌, ◌==◌, Option, Some, None, Ok, refl, ap, ◌∙◌, append_assoc, nat_lt, nat_le, arith, length, slice_index, if◌then◌else◌}
-use Rattle.std.specs.List.{insert}
-use Rattle.std.proofs.lemmas.Bool.{lt-ltb, ltb-false}
-use Rattle.defs_text.specs.Position.{Position}
-use Rattle.yaml_chars.specs.Class.{is_break, is_blank, is_blank_or_breakz}
-use Rattle.defs_token.specs.Token.{Tok, Style, Token}
-use Rattle.model_scanner.specs.Machine.{past}
-use Rattle.model_scanner.specs.declared.level.Indent.{Indent}
-use Rattle.model_scanner.specs.State.{Key, Held, token}
-use Rattle.model_scanner.specs.Keys.{is_far, drop_stale, stale, cleared, save_implicit_key, must_be_key, top_needs_block_end}
-use Rattle.model_scanner.specs.Indents.{level, roll_indent, drop_open, drop_open_level, deepen, unroll_non_block_indents, without_open}
-use Rattle.model_scanner.specs.Block.{check_value_space, begin_pair, insert_key, fetch_value}
-use Rattle.model_scanner.specs.Document.{fetch_plain_scalar}
-use Rattle.model_scanner.specs.Fetch.{fetch, fetch_here}
-use Rattle.proof_lexers.specs.HeaderEnds.{along}
-use Rattle.yaml_scanner_state.specs.Levels.{ends_open}
-use Rattle.yaml_scanner_state.specs.Tokens.{key_tokens}
-use Rattle.yaml_chars.specs.BlockLines.{IsSimpleText, indented}
-use Rattle.yaml_scanner.specs.Fetched.{RunsTwice, fetch_rest, before as before_position, with_key, with_line}
+use Rattle.yaml_scanner.proofs.Common.{[], along, ap, append_assoc, arith, begin_pair, Bool, check_value_space, cleared, deepen, drop_open, drop_open_level, drop_stale, ends_open, false, fetch, fetch_here, fetch_plain_scalar, fetch_rest, fetch_value, Held, if◌then◌else◌, Indent, indented, insert, insert_key, is_blank, is_blank_or_breakz, is_break, is_far, IsSimpleText, Key, key_tokens, length, level, List, lt-ltb, ltb-false, must_be_key, nat_le, nat_lt, None, Ok, Option, past, Position, refl, roll_indent, RunsTwice, save_implicit_key, slice_index, Some, stale, Style, Tok, Token, token, top_needs_block_end, true, unroll_non_block_indents, with_key, with_line, without_open, ℕ, ◌&&◌, ◌++◌, ◌+◌, ◌<◌, ◌==◌, ◌||◌, ◌∙◌, ◌∷◌, ◌≡◌, ◌≤◌}
+use Rattle.yaml_scanner.specs.Fetched.{before as before_position}
 use Rattle.yaml_scanner.proofs.PairTexts.{Simple, simple_text, same_place, along_is, plain_key, plain_value}
 use Rattle.yaml_scanner.proofs.PairFetches.{at, in_mapping, fetched, none_overdue, none_stale, near_stale, none_end, solid_here, plain_here, value_here, one_deeper, follows_blank, follows_visible, insert_key_token, near_along}
 

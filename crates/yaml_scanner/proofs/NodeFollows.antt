@@ -1,32 +1,9 @@
 -- A key or another scalar that was fetched at once, against the model's steps.
-use Rattle.std.proofs.Common.{◌≡◌, ℕ, ◌+◌, ◌<◌, ◌≤◌, List, [], ◌∷◌, Bool, true, false, ◌&&◌, ◌==◌, refl, ap, sym, ◌∙◌, arith, Option, Some, None, length, subst, Result, Ok, Err}
-use Rattle.std.specs.Prelude.{IfSome, OnOk}
-use Rattle.std.proofs.lemmas.Bool.{ne_eqb}
-use Rattle.defs_text.specs.Position.{Position}
-use Rattle.defs_token.specs.Token.{Token}
-use Rattle.yaml_chars.specs.WindowView.{WindowView, Sees, position_of}
-use Rattle.yaml_chars.proofs.WindowViewLemmas.{Reads-then, Reads-saw}
-use Rattle.yaml_tokens.specs.declared.problem.Fault.{Fault}
-use Rattle.yaml_chars.specs.BlockLines.{TakesKey, TakesLine, TakesNode}
+use Rattle.std.specs.Prelude.{IfSome}
+use Rattle.yaml_scanner.proofs.Common.{[], along, ap, arith, AwaitsNode, Bool, cleared, Columns, ends_open, Err, false, Fault, fetch, fetch_next, fetch_rest, Fetched, Fetcher, Fetches, Follows, Held, held, Indent, Key, length, level, List, must_be_key, ne_eqb, None, Ok, once, Option, OutOfMemory, past, Position, position_of, Reads, Reads-saw, Reads-then, refl, Result, Runs, RunsTwice, ScannerState, seen, Sees, skip_to_next_token, Some, stale, Stands, state, subst, sym, TakesKey, TakesLine, TakesNode, Token, top_needs_block_end, true, twice, unroll_indent, value_level, WindowView, with_key, with_line, without_open, ℕ, ◌&&◌, ◌+◌, ◌<◌, ◌==◌, ◌∙◌, ◌∷◌, ◌≡◌, ◌≢◌, ◌≤◌}
 use Rattle.yaml_chars.specs.declared.block_line.BlockLine.{BlockLine}
 use Rattle.yaml_chars.specs.declared.block_line.BlockLine.TheVariants as taken
-use Rattle.model_scanner.specs.Machine.{past}
-use Rattle.model_scanner.specs.declared.level.Indent.{Indent}
-use Rattle.model_scanner.specs.State.{Key, Held, ScannerState}
-use Rattle.model_scanner.specs.Keys.{cleared, must_be_key, stale, top_needs_block_end}
-use Rattle.model_scanner.specs.Indents.{level, unroll_indent, without_open}
-use Rattle.model_scanner.specs.Space.{skip_to_next_token}
-use Rattle.model_scanner.specs.Fetch.{fetch, fetch_next}
-use Rattle.proof_lexers.specs.HeaderEnds.{along}
-use Rattle.yaml_scanner.specs.declared.fetcher.Fetcher.{Fetcher}
-use Rattle.yaml_scanner_state.specs.ImplicitKeys.{seen}
-use Rattle.yaml_scanner_state.specs.Levels.{Columns, ends_open, value_level}
-use Rattle.yaml_scanner.specs.Awaits.{Stands, AwaitsNode}
-use Rattle.yaml_scanner.specs.Fetched.{Fetched, once, twice, RunsTwice, fetch_rest, with_key, with_line}
-use Rattle.yaml_scanner.specs.Follows.{Follows}
-use Rattle.yaml_scanner.specs.Shape.{held, state, Does}
-use Rattle.yaml_scanner.specs.Work.{Fetches}
-use Rattle.yaml_scanner.proofs.DoesLemmas.{Reads-map, Reads-along, does_then}
+use Rattle.yaml_scanner.proofs.ReadsLemmas.{Reads-map, Reads-along}
 use Rattle.yaml_scanner.proofs.FollowLemmas.{fetched_on}
 use Rattle.yaml_scanner.proofs.PairTexts.{same_place, along_is}
 use Rattle.yaml_scanner.proofs.PairFollows.{keys_split, seen_free, levels_split, fetched_twice}
@@ -128,11 +105,11 @@ module _ {T : Type 0} (x y : Fetcher T) (w : WindowView T) (limit : ℕ) (z : Aw
     old : held x ≡ here
     old = rw (z.flow, z.allowed, started, going, keys) refl
 
-    key_steps : (key : List ℕ) → TakesKey x.window w key → held y ≡ with_key p key (held (record x { window = w })) → Fetched fetch_rest x y
-    key_steps key t new =
+    key_steps : {X E : Type 0} (v : X) (key : List ℕ) → TakesKey x.window w key → held y ≡ with_key p key (held (record x { window = w })) → Fetched {E = E} fetch_rest x (Ok v) y
+    key_steps v key t new =
         let after_is : position_of w ≡ past (along key p) = same_place t.at t.line t.col ∙ sym (ap past (along_is key p)) in
         let now : held y ≡ with_key p key (record (held x) { position = past (along key p) }) = new ∙ ap (λ q. with_key p key (record (held x) { position = q })) after_is in
-        twice (Reads-along _ _ _ _ refl window (Reads-map _ _ t.reads (λ a b r.
+        twice tt (Reads-along _ _ _ _ refl window (Reads-map _ _ t.reads (λ a b r.
         subst (λ h. RunsTwice fetch_rest (record { rest = a; held = held x }) (record { rest = b; held = h })) (sym now)
         (subst (λ h. RunsTwice fetch_rest (record { rest = a; held = h }) (record { rest = b; held = with_key p key (record h { position = past (along key p) }) })) (sym old)
         (subst (λ r. RunsTwice fetch_rest (record { rest = r; held = here }) (record { rest = b; held = with_key p key (record here { position = past (along key p) }) })) (sym (r.0))
@@ -142,31 +119,29 @@ module _ {T : Type 0} (x y : Fetcher T) (w : WindowView T) (limit : ℕ) (z : Aw
     unfolding must_be_key
     need_not e = e
 
-    line_steps : (text : List ℕ) → TakesLine [] limit x.window w text → held y ≡ with_line p text (held (record x { window = w })) → Fetched fetch_rest x y
-    line_steps text t new =
+    line_steps : {X E : Type 0} (v : X) (text : List ℕ) → TakesLine [] limit x.window w text → held y ≡ with_line p text (held (record x { window = w })) → Fetched {E = E} fetch_rest x (Ok v) y
+    line_steps v text t new =
         let low = t.low in
         let fits = z.stands.low (omega (arith, low)) in
         let few = fits.0 in
         let moved = t.at in
         let after_is : position_of w ≡ record { index = p.index + length text + 1 + t.spaces; line = p.line + 1; col = t.spaces } = same_place (omega (arith, moved)) t.line t.col in
         let now : held y ≡ with_line p text (record (held x) { position = record { index = p.index + length text + 1 + t.spaces; line = p.line + 1; col = t.spaces } }) = new ∙ ap (λ q. with_line p text (record (held x) { position = q })) after_is in
-        once (record {
-          runs = Reads-along _ _ _ _ refl window (Reads-map _ _ t.reads (λ a b r.
-              subst (λ h. fetch_rest (record { rest = a; held = held x }) ≡ Ok (record { rest = b; held = h })) (sym now)
-              (subst (λ h. fetch_rest (record { rest = a; held = h }) ≡ Ok (record { rest = b; held = with_line p text (record h { position = record { index = p.index + length text + 1 + t.spaces; line = p.line + 1; col = t.spaces } }) })) (sym old)
-              (subst (λ r. fetch_rest (record { rest = r; held = here }) ≡ Ok (record { rest = b; held = with_line p text (record here { position = record { index = p.index + length text + 1 + t.spaces; line = p.line + 1; col = t.spaces } }) })) (sym (r.0))
-              (line_runs p x.tokens.all ks x.levels.indent x.levels.indents o.indent o.indents x.leading x.adjacent_value_at free z.stands.shallow z.stands.rest z.stands.deep z.stands.block z.stands.there text t.spaces b t.simple r.1 (omega (arith, low, few)) (need_not fits.1))))));
-        })
+        once (Reads-along _ _ _ _ refl window (Reads-map _ _ t.reads (λ a b r.
+        subst (λ h. fetch_rest (record { rest = a; held = held x }) ≡ Ok (record { rest = b; held = h })) (sym now)
+        (subst (λ h. fetch_rest (record { rest = a; held = h }) ≡ Ok (record { rest = b; held = with_line p text (record h { position = record { index = p.index + length text + 1 + t.spaces; line = p.line + 1; col = t.spaces } }) })) (sym old)
+        (subst (λ r. fetch_rest (record { rest = r; held = here }) ≡ Ok (record { rest = b; held = with_line p text (record here { position = record { index = p.index + length text + 1 + t.spaces; line = p.line + 1; col = t.spaces } }) })) (sym (r.0))
+        (line_runs p x.tokens.all ks x.levels.indent x.levels.indents o.indent o.indents x.leading x.adjacent_value_at free z.stands.shallow z.stands.rest z.stands.deep z.stands.block z.stands.there text t.spaces b t.simple r.1 (omega (arith, low, few)) (need_not fits.1)))))))
 
-  pub key_does : (key : List ℕ) → TakesKey x.window w key → held y ≡ with_key p key (held (record x { window = w })) → Fetched fetch_rest x y
-  key_does key t new =
+  pub key_does : {X E : Type 0} (v : X) (key : List ℕ) → TakesKey x.window w key → held y ≡ with_key p key (held (record x { window = w })) → Fetched {E = E} fetch_rest x (Ok v) y
+  key_does v key t new =
       let split = keys_split x.keys z.no_open_key z.level in
-      key_steps (seen x.tokens.given split.0) (seen_free x.tokens.given split.0 split.2) (ap (seen x.tokens.given) split.1) key t new
+      key_steps (seen x.tokens.given split.0) (seen_free x.tokens.given split.0 split.2) (ap (seen x.tokens.given) split.1) v key t new
 
-  pub line_does : (text : List ℕ) → TakesLine [] limit x.window w text → held y ≡ with_line p text (held (record x { window = w })) → Fetched fetch_rest x y
-  line_does text t new =
+  pub line_does : {X E : Type 0} (v : X) (text : List ℕ) → TakesLine [] limit x.window w text → held y ≡ with_line p text (held (record x { window = w })) → Fetched {E = E} fetch_rest x (Ok v) y
+  line_does v text t new =
       let split = keys_split x.keys z.no_open_key z.level in
-      line_steps (seen x.tokens.given split.0) (seen_free x.tokens.given split.0 split.2) (ap (seen x.tokens.given) split.1) text t new
+      line_steps (seen x.tokens.given split.0) (seen_free x.tokens.given split.0 split.2) (ap (seen x.tokens.given) split.1) v text t new
 
 -- ---- a fetch
 
@@ -176,22 +151,26 @@ unfolding fetch_next fetch_rest
 rest_of a b d h u v w x n e f g i j = let j' = rw (i, g) at j in rw (e, f) j'
 
 -- after what stands before a token
-pub fetched_rest : {T : Type 0} (x y1 v x2 y : Fetcher T) (n : ℕ) → x2.window ≡ y1.window → Does skip_to_next_token x y1 → stale (held y1) ≡ Ok (held v) → n ≡ (held v).position.col + 1 → held x2 ≡ unroll_indent n (held v) → Fetched fetch_rest x2 y → Fetched fetch_next x y
-fetched_rest x y1 v x2 y n w skip fresh col ends (once d) = once (does_then x x y1 x2 y y refl w refl skip d (λ a b d p q. rest_of a b d (held x) (held y1) (held v) (held x2) (held y) n p fresh col ends q))
-fetched_rest x y1 v x2 y n w skip fresh col ends (twice r) =
-    twice (Reads-then _ _ _ skip.runs (Reads-along _ _ _ _ (sym w) refl r) (λ a b d p q.
+pub fetched_rest : {T X Y Z C D E : Type 0} {up down : ℕ} (x y1 v x2 y : Fetcher T) (n : ℕ) (u : Y) (c : Z) (r : X) → x2.window ≡ y1.window → Runs {E = C} skip_to_next_token x (Ok u) y1 up down → stale (held y1) ≡ Ok (held v) → n ≡ (held v).position.col + 1 → held x2 ≡ unroll_indent n (held v)
+    → Fetched {E = D} fetch_rest x2 (Ok c) y → Fetched {E = E} fetch_next x (Ok r) y
+fetched_rest x y1 v x2 y n u c r w skip fresh col ends (once d) = once (Reads-then _ _ _ skip.comes (Reads-along _ _ _ _ (sym w) refl d) (λ a b d p q. rest_of a b d (held x) (held y1) (held v) (held x2) (held y) n p fresh col ends q))
+fetched_rest x y1 v x2 y n u c r w skip fresh col ends (twice i d) =
+    twice tt (Reads-then _ _ _ skip.comes (Reads-along _ _ _ _ (sym w) refl d) (λ a b d p q.
     record { between = q.between; first = rest_of a b q.between.rest (held x) (held y1) (held v) (held x2) q.between.held n p fresh col ends q.first; going = q.going; second = q.second }))
 
 -- one step is here what another is
-pub fetched_as : {T X E : Type 0} (f h : ScannerState → Result ScannerState Fault) (x y : Fetcher T) (r : Result X E) → Sees x.window (λ a. h (state a x) ≡ f (state a x)) → OnOk r (Fetched f x y) → OnOk r (Fetched h x y)
-fetched_as f h x y (Err e) same d = tt
-fetched_as f h x y (Ok v) same d = by d
-  where
-    by : Fetched f x y → Fetched h x y
-    by (once d) = once (record { runs = Reads-saw _ _ same d.runs (λ a b p q. p ∙ q) })
-    by (twice r) = twice (Reads-saw _ _ same r (λ a b p q. record { between = q.between; first = p ∙ q.first; going = q.going; second = q.second }))
+pub fetched_as : {T X E : Type 0} (f h : ScannerState → Result ScannerState Fault) (x y : Fetcher T) (r : Result X E) → Sees x.window (λ a. h (state a x) ≡ f (state a x)) → Fetched f x r y → Fetched h x r y
+fetched_as f h x y (Ok v) same (once d) = once (Reads-saw _ _ same d (λ a b p q. p ∙ q))
+fetched_as f h x y (Ok v) same (twice i d) = twice tt (Reads-saw _ _ same d (λ a b p q. record { between = q.between; first = p ∙ q.first; going = q.going; second = q.second }))
+fetched_as f h x y (Err e) same (once d) = once (Reads-saw _ _ same d (λ a b p q n. p ∙ q n))
+fetched_as f h x y (Err e) same (twice i d) = absurd i
 
 -- one fetch more, or two
-pub fetched_some : {T : Type 0} (x y : Fetcher T) → x.kept ≡ None → x.tokens.ended ≡ false → Follows x → Fetched fetch x y → Fetches x y → (y.tokens.ended ≡ true → y.window.done ≡ true) → Follows y
-fetched_some x y k g f (once d) m n = fetched_on x y k g f d m n
-fetched_some x y k g f (twice r) m n = fetched_twice x y k g f r m n
+pub fetched_some : {T X E : Type 0} (x y : Fetcher T) (v : X) → x.kept ≡ None → x.tokens.ended ≡ false → Follows x → Fetched {E = E} fetch x (Ok v) y → Fetches x y → (y.tokens.ended ≡ true → y.window.done ≡ true) → Follows y
+fetched_some x y v k g f (once d) m n = fetched_on x y k g f d m n
+fetched_some x y v k g f (twice i d) m n = fetched_twice x y k g f d m n
+
+-- a fetch that is refused is one of the model's
+pub fetched_refused : {T X E : Type 0} (x y : Fetcher T) (e : E) → Fetched {X = X} fetch x (Err e) y → Reads x.window y.window (λ a b. y.fault ≢ OutOfMemory → fetch (state a x) ≡ Err y.fault)
+fetched_refused x y e (once d) = d
+fetched_refused x y e (twice i d) = absurd i

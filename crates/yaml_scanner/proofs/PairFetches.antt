@@ -1,25 +1,5 @@
 -- What the model's fetches do at a key or a value of a block mapping that is a simple text.
-use Rattle.std.proofs.Common.{◌≡◌, ℕ, ◌+◌, ◌<◌, ◌≤◌, List, [], ◌∷◌, ◌++◌, Bool, true, false, ◌||◌, ◌&&◌, ◌==◌, Option, Some, None, Ok, refl, ap, ◌∙◌, append_assoc, nat_lt, nat_le, arith, length, map, slice_index, if◌then◌else◌}
-use Rattle.std.specs.List.{list_any, insert}
-use Rattle.std.proofs.lemmas.Bool.{le-ltb, lt-ltb, ne_eqb}
-use Rattle.std.proofs.lemmas.Bool.Decides.{nat_tests}
-use Rattle.defs_text.specs.Position.{Position}
-use Rattle.yaml_chars.specs.Class.{is_break, is_blank, is_blank_or_breakz}
-use Rattle.defs_token.specs.Token.{Tok, Style, Token}
-use Rattle.model_scanner.specs.Machine.{past}
-use Rattle.model_scanner.specs.declared.level.Indent.{Indent}
-use Rattle.model_scanner.specs.State.{Key, Held, ScannerState, token, moved}
-use Rattle.model_scanner.specs.Class.{class_of}
-use Rattle.model_scanner.specs.Keys.{is_far, is_overdue, still, drop_stale, stale, cleared, save_implicit_key, must_be_key, top_needs_block_end}
-use Rattle.model_scanner.specs.Indents.{level, roll_indent, drop_open, drop_open_level, deepen, roll_one_col_indent, in_block, unroll_indent, unrolled, unroll_non_block_indents, without_open}
-use Rattle.model_scanner.specs.Space.{skip, skip_to_next_token}
-use Rattle.model_scanner.specs.Block.{check_value_space, begin_pair, insert_key, fetch_value}
-use Rattle.model_scanner.specs.Document.{fetch_plain_scalar}
-use Rattle.model_scanner.specs.Fetch.{fetch, fetch_next, fetch_here, fetch_content, fetch_first_column, fetch_indented, fetch_token, comes_marker, is_value}
-use Rattle.proof_lexers.specs.HeaderEnds.{along}
-use Rattle.yaml_scanner_state.specs.Tokens.{key_tokens}
-use Rattle.yaml_chars.specs.BlockLines.{IsSimpleText, indented}
-use Rattle.yaml_scanner.specs.Fetched.{FetchesTwice}
+use Rattle.yaml_scanner.proofs.Common.{[], along, ap, append_assoc, arith, begin_pair, Bool, check_value_space, class_of, cleared, comes_marker, deepen, drop_open, drop_open_level, drop_stale, false, fetch, fetch_content, fetch_first_column, fetch_here, fetch_indented, fetch_next, fetch_plain_scalar, fetch_token, fetch_value, FetchesTwice, Held, if◌then◌else◌, in_block, Indent, indented, insert, insert_key, is_blank, is_blank_or_breakz, is_break, is_far, is_overdue, is_value, IsSimpleText, Key, key_tokens, le-ltb, length, level, List, list_any, lt-ltb, map, moved, must_be_key, nat_le, nat_lt, nat_tests, ne_eqb, None, Ok, Option, past, Position, refl, roll_indent, roll_one_col_indent, save_implicit_key, ScannerState, skip, skip_to_next_token, slice_index, Some, stale, still, Style, Tok, Token, token, top_needs_block_end, true, unroll_indent, unroll_non_block_indents, unrolled, without_open, ℕ, ◌&&◌, ◌++◌, ◌+◌, ◌<◌, ◌==◌, ◌||◌, ◌∙◌, ◌∷◌, ◌≡◌, ◌≤◌}
 use Rattle.yaml_scanner.proofs.PairTexts.{Opener, Simple, simple_text, along_is, plain_key, plain_value}
 
 -- ---- what a fetch does beside its token

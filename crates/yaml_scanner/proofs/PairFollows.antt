@@ -1,34 +1,6 @@
 -- Two tokens that are handed out at once, against the model's runs.
-use Rattle.std.proofs.Common.{◌≡◌, ℕ, suc, ◌+◌, ◌-◌, ◌<◌, ◌≤◌, List, [], ◌∷◌, ◌++◌, Bool, true, false, ◌||◌, refl, ap, sym, ◌∙◌, arith, Option, Some, None, length, length-append, map, take, drop, option_map, subst, append_assoc, Ok}
-use Rattle.defs_text.specs.Position.{Position}
-use Rattle.yaml_chars.specs.WindowView.{WindowView, Reads, position_of}
-use Rattle.defs_token.specs.Token.{Tok, Style, Token}
-use Rattle.yaml_tokens.specs.ErrorReport.{ErrorReport}
-use Rattle.yaml_tokens.specs.declared.problem.Fault.TheVariants.{OutOfMemory}
-use Rattle.model_scanner.specs.Machine.{past}
-use Rattle.model_scanner.specs.declared.level.Indent.{Indent}
-use Rattle.model_scanner.specs.State.{Key, token}
-use Rattle.model_scanner.specs.Keys.{cleared, top_needs_block_end}
-use Rattle.model_scanner.specs.Indents.{level}
-use Rattle.model_scanner.specs.Fetch.{fetch}
-use Rattle.model_scanner.specs.Run.{Reaches, start}
-use Rattle.model_scanner.proofs.Runs.{one_more}
-use Rattle.proof_lexers.specs.HeaderEnds.{along}
-use Rattle.yaml_scanner.specs.declared.fetcher.Fetcher.{Fetcher}
-use Rattle.yaml_scanner.specs.declared.fetcher.KeptFault.{KeptFault}
-use Rattle.yaml_scanner_state.specs.declared.keys.ImplicitKey.{ImplicitKey}
-use Rattle.yaml_scanner_state.specs.ImplicitKeys.{seen, no_implicit}
-use Rattle.yaml_scanner_state.specs.Levels.{Columns, value_level}
-use Rattle.yaml_scanner_state.specs.Tokens.{Tokens, handed, is_end, key_tokens}
-use Rattle.yaml_scanner_state.proofs.KeyLemmas.{none_front, none_lowered}
-use Rattle.yaml_scanner.specs.Awaits.{StandsAt, levels_after, AwaitsKey, AwaitsValue}
-use Rattle.yaml_scanner.specs.Fetched.{FetchesTwice}
-use Rattle.yaml_scanner.specs.Follows.{Follows}
-use Rattle.yaml_chars.specs.BlockLines.{TakesKey, TakesValue}
-use Rattle.yaml_scanner.specs.Scanned.{Scanned, inside, kept_fault, HandsBoth}
-use Rattle.yaml_scanner.specs.Shape.{held, state}
-use Rattle.yaml_scanner.specs.Work.{Fetches, work}
-use Rattle.yaml_scanner.proofs.DoesLemmas.{Reads-map}
+use Rattle.yaml_scanner.proofs.Common.{[], along, ap, append_assoc, arith, AwaitsKey, AwaitsValue, Bool, cleared, Columns, drop, ErrorReport, false, fetch, Fetcher, Fetches, FetchesTwice, Follows, handed, HandsBoth, held, ImplicitKey, Indent, inside, is_end, kept_fault, KeptFault, Key, key_tokens, length, length-append, level, levels_after, List, map, no_implicit, None, none_front, none_lowered, Ok, one_more, Option, option_map, OutOfMemory, past, Position, position_of, Reaches, Reads, refl, Scanned, seen, Some, StandsAt, start, state, Style, subst, suc, sym, take, TakesKey, TakesValue, Tok, Token, token, Tokens, top_needs_block_end, true, value_level, WindowView, work, ℕ, ◌++◌, ◌+◌, ◌-◌, ◌<◌, ◌||◌, ◌∙◌, ◌∷◌, ◌≡◌, ◌≤◌}
+use Rattle.yaml_scanner.proofs.ReadsLemmas.{Reads-map}
 use Rattle.yaml_scanner.proofs.FollowLemmas.{fetched_on, handed_on}
 use Rattle.yaml_scanner.proofs.PairTexts.{same_place, along_is}
 use Rattle.yaml_scanner.proofs.PairFetches.{in_mapping, key_fetched, value_fetched, before_key, after_colon, after_value}
@@ -303,10 +275,8 @@ module _ {T : Type 0} (x : Fetcher T) (w : WindowView T) (value : List ℕ) (at 
       let new : held y ≡ after = rw (s.flow, s.started, s.ended, is, value_after, split.0) refl in
       let same : handed y.tokens ≡ handed x.tokens = ap (take x.tokens.given) tokens_are ∙ taken_all (handed x.tokens) (token at Tok.value ∷ scalar ∷ []) x.tokens.given gone in
       fetched_on x y s.kept s.ended f
-      (record {
-        runs = Reads-map _ _ t.reads (λ a b r. subst (λ h. fetch (record { rest = a; held = h }) ≡ Ok (state b y)) (sym old) (subst (λ h. fetch (record { rest = a; held = before }) ≡ Ok (record { rest = b; held = h })) (sym new)
-            (rw r.0 (value_fetched q x.tokens.all ks x.levels.indent limit l.indents x.leading x.adjacent_value_at free split.1 z.deep z.off value t.spaces b t.simple r.1 t.low))));
-      })
+      (Reads-map _ _ t.reads (λ a b r. subst (λ h. fetch (record { rest = a; held = h }) ≡ Ok (state b y)) (sym old) (subst (λ h. fetch (record { rest = a; held = before }) ≡ Ok (record { rest = b; held = h })) (sym new)
+      (rw r.0 (value_fetched q x.tokens.all ks x.levels.indent limit l.indents x.leading x.adjacent_value_at free split.1 z.deep z.off value t.spaces b t.simple r.1 t.low)))))
       (record { given = same; over = refl; fault = refl; backlog = refl })
       (λ e. absurd (cc (e, s.ended)))
 

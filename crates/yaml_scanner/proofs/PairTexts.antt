@@ -1,17 +1,8 @@
 -- Simple texts, and how the model scans them as plain scalars.
-use Rattle.std.proofs.Common.{◌≡◌, ◌≢◌, ℕ, zero, suc, ◌+◌, ◌<◌, ◌≤◌, List, [], ◌∷◌, ◌++◌, Bool, true, false, ◌&&◌, not, ◌==◌, Result, Ok, refl, ap, sym, subst, ◌∙◌, append_assoc, append-nil, nat_lt, arith, length, slice_index}
-use Rattle.std.proofs.lemmas.Bool.{le-ltb, ne_eqb, and_parts, and_from, eqb-true}
-use Rattle.std.proofs.lemmas.Bool.Decides.{nat_tests}
-use Rattle.defs_text.specs.Position.{Position}
-use Rattle.yaml_chars.specs.Class.{is_break, is_blank, is_blank_or_breakz, is_alphanumeric}
-use Rattle.yaml_tokens.specs.declared.problem.Fault.{Fault}
+use Rattle.yaml_scanner.proofs.Common.{[], along, and_from, and_parts, ap, append-nil, append_assoc, arith, at_marker, Bool, class_of, eqb-true, false, Fault, indented, is_alphanumeric, is_blank, is_blank_or_breakz, is_break, is_simple, IsSimpleText, le-ltb, length, List, nat_lt, nat_tests, ne_eqb, not, Ok, opens_simple, past, Position, Read, refl, Result, slice_index, subst, suc, sym, true, zero, ℕ, ◌&&◌, ◌++◌, ◌+◌, ◌<◌, ◌==◌, ◌∙◌, ◌∷◌, ◌≡◌, ◌≢◌, ◌≤◌}
 use Rattle.model_scanner.specs.declared.context.Context.{Context}
-use Rattle.model_scanner.specs.Machine.{Read, past, at_marker}
 use Rattle.model_scanner.specs.Plain.{PlainState, Plain, inside, between, plain, plain_from, can_be_plain, starts, at_dash, at_plain, goes_on, is_shallow}
 use Rattle.model_scanner.specs.declared.class.Class.TheVariants.{Other}
-use Rattle.model_scanner.specs.Class.{class_of}
-use Rattle.proof_lexers.specs.HeaderEnds.{along}
-use Rattle.yaml_chars.specs.BlockLines.{is_simple, opens_simple, IsSimpleText, indented}
 
 -- ---- simple texts
 

@@ -1,14 +1,7 @@
 -- Lemmas about what stands between two tokens.
-use Rattle.std.proofs.Common.{◌≡◌, ℕ, List, [], ◌∷◌, Bool, true, false, not, ◌&&◌, ◌||◌, ◌==◌, refl, ap, ◌∙◌, if◌then◌else◌, Ok, Err, slice_index}
-use Rattle.std.proofs.lemmas.Bool.{eqb-true}
-use Rattle.defs_text.specs.Position.{Position}
-use Rattle.yaml_chars.specs.Class.{is_break, is_blank}
-use Rattle.yaml_tokens.specs.declared.problem.Fault.TheVariants.{At}
+use Rattle.yaml_scanner.proofs.Common.{[], ap, At, between, Bool, comment, eqb-true, Err, false, Held, if◌then◌else◌, in_flow, is_before_indent, is_blank, is_break, List, moved, not, Ok, past, past_break, Position, Read, refl, skip, slice_index, tab_line, true, white, ℕ, ◌&&◌, ◌==◌, ◌||◌, ◌∙◌, ◌∷◌, ◌≡◌}
 use Rattle.yaml_tokens.specs.declared.problem.Problem.TheVariants as problem
-use Rattle.model_scanner.specs.Machine.{Read, past, past_break}
 use Rattle.model_scanner.specs.Blanks as lex
-use Rattle.model_scanner.specs.State.{Held, in_flow, moved}
-use Rattle.model_scanner.specs.Space.{between, comment, tab_line, is_before_indent, skip, white}
 
 -- after a line break
 abbrev broken : Held → Position → Held

@@ -1,17 +1,7 @@
 -- Where the scanner stands in a text, and whether it met the stream's start.
-use Rattle.std.proofs.Common.{◌≡◌, ℕ, zero, suc, ◌+◌, ◌-◌, ◌<◌, List, [], ◌∷◌, Bool, true, false, refl, ap, sym, ◌∙◌, arith, None, length, take, drop}
-use Rattle.std.proofs.lemmas.List.{length-take}
-use Rattle.defs_token.specs.Token.{Token}
-use Rattle.yaml_chars.specs.WindowView.{position_of}
-use Rattle.defs_text.specs.Text.{is_empty, has_no_nul}
-use Rattle.defs_text.specs.Position.{first_position, position_after}
-use Rattle.model_scanner.specs.Document.{next_line}
+use Rattle.yaml_scanner.proofs.Common.{[], ap, arith, Bool, drop, false, Fetcher, first_position, FollowsIn, handed, has_no_nul, is_empty, length, length-take, List, next_line, None, position_after, position_of, refl, state, suc, sym, take, Token, true, waiting, zero, ℕ, ◌+◌, ◌-◌, ◌<◌, ◌∙◌, ◌∷◌, ◌≡◌}
 use Rattle.proof_scanner.specs.Positions.{IsPositionIn}
-use Rattle.proof_scanner.proofs.Cut.Reached.{run_is_where}
-use Rattle.yaml_scanner.specs.declared.fetcher.Fetcher.{Fetcher}
-use Rattle.yaml_scanner.specs.Shape.{state}
-use Rattle.yaml_scanner_state.specs.Tokens.{handed, waiting}
-use Rattle.yaml_scanner.specs.Follows.{FollowsIn}
+use Rattle.proof_scanner.proofs.Sound.Reached.{run_is_where}
 
 none_of : (n : ℕ) (xs : List Token) → xs ≡ [] → (take n xs ≡ []) × (length xs - n ≡ 0)
 none_of n [] e = (take_nil n, omega arith)

@@ -1,5 +1,5 @@
 -- What one fetch of the code does: one of the model, or two of which the first does not end the stream.
-use Rattle.std.specs.Prelude.{◌≡◌, ◌-◌, List, ℕ, true, false, Result, Ok, None}
+use Rattle.std.specs.Prelude.{◌≡◌, ◌-◌, ◌<◌, List, ℕ, true, false, Result, Ok, None, OnOk, OnErr}
 use Rattle.defs_text.specs.Position.{Position}
 use Rattle.defs_token.specs.Token.{Tok, Style}
 use Rattle.yaml_chars.specs.WindowView.{Reads}
@@ -9,7 +9,9 @@ use Rattle.model_scanner.specs.Keys.{stale}
 use Rattle.model_scanner.specs.Indents.{unroll_non_block_indents, roll_indent, roll_one_col_indent}
 use Rattle.model_scanner.specs.Fetch.{fetch, fetch_here}
 use Rattle.yaml_scanner.specs.declared.fetcher.Fetcher.{Fetcher}
-use Rattle.yaml_scanner.specs.Shape.{state, Does}
+use Rattle.yaml_scanner.specs.Runs.{Comes}
+use Rattle.yaml_scanner.specs.Shape.{state}
+use Rattle.yaml_scanner.specs.Work.{Fetches, work}
 
 -- a step, and then a fetch
 pub record RunsTwice (f : ScannerState → Result ScannerState Fault) (t u : ScannerState) : Type 0 where
@@ -22,10 +24,17 @@ pub record RunsTwice (f : ScannerState → Result ScannerState Fault) (t u : Sca
 abbrev pub FetchesTwice : ScannerState → ScannerState → Type 0
 FetchesTwice t u = RunsTwice fetch t u
 
--- Whatever the text is, the model's step takes the old state to the new one, or the step and a fetch do.
-pub data Fetched {T : Type 0} (f : ScannerState → Result ScannerState Fault) (old new : Fetcher T) : Type 0 where
-  once : Does f old new → Fetched f old new
-  twice : Reads old.window new.window (λ a b. RunsTwice f (state a old) (state b new)) → Fetched f old new
+-- Whatever the text is, the model's step does to the old state what the call did, or the step and a fetch do.
+pub data Fetched {T X E : Type 0} (f : ScannerState → Result ScannerState Fault) (old : Fetcher T) (result : Result X E) (new : Fetcher T) : Type 0 where
+  once : Reads old.window new.window (λ a b. Comes (f (state a old)) result (state b new) new.fault) → Fetched f old result new
+  twice : OnErr result ⊥ → Reads old.window new.window (λ a b. RunsTwice f (state a old) (state b new)) → Fetched f old result new
+
+-- A call that fetches: the stream's end comes where no character is left, and the bound falls.
+pub record Gets {T X E : Type 0} (f : ScannerState → Result ScannerState Fault) (old : Fetcher T) (result : Result X E) (new : Fetcher T) : Type 0 where
+  pub does : Fetched f old result new
+  pub done : OnOk result (new.tokens.ended ≡ true → new.window.done ≡ true)
+  pub less : OnOk result (work new < work old)
+  pub run : Fetches old new
 
 -- the last steps of a fetch: the token that stands here, and then the keys that are given up
 unfoldable pub fetch_rest : ScannerState → Result ScannerState Fault

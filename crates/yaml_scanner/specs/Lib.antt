@@ -4,6 +4,7 @@ pub mod Fetched
 pub mod Follows
 pub mod Next
 pub mod Rowless
+pub mod Runs
 pub mod Scanned
 pub mod Shape
 pub mod Steps

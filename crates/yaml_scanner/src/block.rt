@@ -1,16 +1,16 @@
 //! Block collections (YAML 1.2, section 8.2), keys and values.
-ghost use Rattle.std.specs.Prelude.{◌≡◌, ◌≢◌, ◌<◌, ◌≤◌, ◌+◌, ◌==◌, ◌&&◌, ◌||◌, not, OnOk, IfErr, Ok, Err, slice_index};
+ghost use Rattle.std.specs.Prelude.{◌≡◌, ◌<◌, ◌≤◌, ◌+◌, ◌==◌, ◌&&◌, ◌||◌, not, OnOk, Ok, Err, slice_index};
 ghost use Rattle.yaml_chars.specs.Class.{is_alpha, is_blank_or_breakz, is_break, is_flow};
-ghost use Rattle.yaml_chars.specs.WindowView.{HasChar, Sees};
+ghost use Rattle.yaml_chars.specs.WindowView.{Sees};
 ghost use Rattle.yaml_tokens.specs.Shown.{tok_of};
 ghost use Rattle.model_scanner.specs.State.{put};
 ghost use Rattle.model_scanner.specs.Keys.{top_key};
 ghost use Rattle.model_scanner.specs.Space.{skip_spaces};
 ghost use Rattle.model_scanner.specs.Block.{check_block_entry, check_dash, fetch_block_entry, keyed, begin_key, check_key_space, fetch_key, check_after_tab, check_value_space, opens_pair, paired, begin_pair, insert_key, begin_keyless_pair, begin_keyless_mapping, begin_keyless_value, value_of, fetch_value};
 ghost use Rattle.yaml_scanner.specs.Blocks.{pass_dash, entry_level, begin_entry, pass_key, pass_tab};
-ghost use Rattle.yaml_scanner.specs.Shape.{held, Does, Fails};
+ghost use Rattle.yaml_scanner.specs.Runs.{Becomes, Front, Runs, Steps, Turns};
+ghost use Rattle.yaml_scanner.specs.Shape.{held};
 ghost use Rattle.yaml_scanner_state.specs.ImplicitKeys.{keyed_by};
-ghost use Rattle.yaml_scanner.specs.Work.{Moves, Fetches};
 
 use crate::fetcher::{Failed, Fetcher};
 use model_scanner::FlowLevel;
@@ -37,30 +37,23 @@ fn begins_word(c: char) -> bool
 impl<T: Characters> Fetcher<T> {
     /// `-`
     #[inline(never)]
+    #[tactic(auto, unfolding(model_scanner::specs::Block::fetch_block_entry))]
     pub(crate) fn fetch_block_entry(&mut self) -> Result<(), Failed>
-        requires ahead { 0 < self.old.window.ahead }
-        requires has { HasChar self.old.window }
-        ensures does { OnOk result (Does fetch_block_entry self.old self.new) }
-        ensures fails { IfErr result (λ _. Fails fetch_block_entry self.old self.new self.new.fault) }
-        ensures run { Fetches self.old self.new }
-        ensures bounds { OnOk result (Moves self.old self.new 4 8) }
+        requires { Front 1 self.old.window }
+        ensures { Runs fetch_block_entry self.old result self.new 4 8 }
     {
         let mark = self.window.mark();
         self.check_block_entry()?;
         self.skip_indicator();
         self.roll_indent(mark.col(), None, Collection::Sequence, mark)?;
         self.pass_dash()?;
-        self.begin_entry()?;
-        Ok(())
+        self.begin_entry()
     }
 
     /// Whether an entry of a block sequence may stand here.
     #[tactic(auto, unfolding(model_scanner::specs::Block::check_block_entry))]
     fn check_block_entry(&mut self) -> Result<(), Failed>
-        ensures ok { OnOk result (check_block_entry (held self.old) ≡ Ok (held self.new)) }
-        ensures fault { IfErr result (λ _. check_block_entry (held self.old) ≡ Err self.new.fault) }
-        ensures bounds { Moves self.old self.new 0 0 }
-        ensures window { self.new.window ≡ self.old.window }
+        ensures { Steps check_block_entry self.old result self.new 0 }
     {
         if self.in_flow() {
             return Err(self.fail_here(Problem::BlockEntryInFlow));
@@ -73,21 +66,16 @@ impl<T: Characters> Fetcher<T> {
 
     /// Steps over spaces and TABs after a `-`.
     fn pass_dash(&mut self) -> Result<(), Failed>
-        ensures does { OnOk result (Does pass_dash self.old self.new) }
-        ensures fails { IfErr result (λ _. Fails pass_dash self.old self.new self.new.fault) }
-        ensures run { Fetches self.old self.new }
-        ensures bounds { OnOk result (Moves self.old self.new 0 0) }
+        ensures { Runs pass_dash self.old result self.new 0 0 }
     {
         let found = self.skip_spaces(SkipTabs::Yes)?;
-        self.check_dash(found)?;
-        Ok(())
+        self.check_dash(found)
     }
 
     /// Refuses a TAB between two dashes that are indicators.
+    #[tactic(auto, unfolding(model_scanner::specs::Block::check_dash))]
     fn check_dash(&mut self, found: Whitespace) -> Result<(), Failed>
-        ensures does { OnOk result (Does (check_dash found) self.old self.new) }
-        ensures fails { IfErr result (λ _. Fails (check_dash found) self.old self.new self.new.fault) }
-        ensures bounds { Moves self.old self.new 0 0 }
+        ensures { Runs (check_dash found) self.old result self.new 0 0 }
     {
         self.window.lookahead(2);
         if self.is_tab_before_dash(found) {
@@ -106,45 +94,35 @@ impl<T: Characters> Fetcher<T> {
 
     /// Steps to the content of an entry.
     fn begin_entry(&mut self) -> Result<(), Failed>
-        ensures does { OnOk result (Does begin_entry self.old self.new) }
-        ensures fails { IfErr result (λ _. Fails begin_entry self.old self.new self.new.fault) }
-        ensures run { Fetches self.old self.new }
-        ensures bounds { OnOk result (Moves self.old self.new 2 0) }
+        ensures { Runs begin_entry self.old result self.new 2 0 }
     {
         self.pass_spaces(SkipTabs::No)?;
         self.roll_entry()?;
         self.remove_implicit_key()?;
         self.key_allowed = true;
         let here = self.window.mark();
-        self.push_token(here, TokenType::BlockEntry)?;
-        Ok(())
+        self.push_token(here, TokenType::BlockEntry)
     }
 
     /// Opens a level without a collection, for an entry on a later line, or one that begins with a flow
     /// indicator.
+    #[tactic(auto, using(crate::proofs::BlockLemmas::peek_is), unfolding(model_scanner::specs::Block::roll_entry))]
     fn roll_entry(&mut self) -> Result<(), Failed>
-        ensures does { OnOk result (Does entry_level self.old self.new) }
-        ensures fails { IfErr result (λ _. Fails entry_level self.old self.new self.new.fault) }
-        ensures run { Fetches self.old self.new }
-        ensures bounds { OnOk result (Moves self.old self.new 1 0) }
+        ensures { Runs entry_level self.old result self.new 1 0 }
     {
         let c = self.window.look_ch();
         if !begins_apart(c) {
             return Ok(());
         }
-        self.roll_one_col_indent()?;
-        Ok(())
+        self.roll_one_col_indent()
     }
 
     /// `?`
     #[inline(never)]
+    #[tactic(auto, unfolding(model_scanner::specs::Block::fetch_key))]
     pub(crate) fn fetch_key(&mut self) -> Result<(), Failed>
-        requires ahead { 0 < self.old.window.ahead }
-        requires has { HasChar self.old.window }
-        ensures does { OnOk result (Does fetch_key self.old self.new) }
-        ensures fails { IfErr result (λ _. Fails fetch_key self.old self.new self.new.fault) }
-        ensures run { Fetches self.old self.new }
-        ensures bounds { OnOk result (Moves self.old self.new 3 8) }
+        requires { Front 1 self.old.window }
+        ensures { Runs fetch_key self.old result self.new 3 8 }
     {
         let mark = self.window.mark();
         self.begin_key()?;
@@ -152,17 +130,13 @@ impl<T: Characters> Fetcher<T> {
         self.key_allowed = !self.in_flow();
         self.pass_key()?;
         self.check_key_space()?;
-        self.push_token(mark, TokenType::Key)?;
-        Ok(())
+        self.push_token(mark, TokenType::Key)
     }
 
     /// Begins a key with `?`, and its mapping if the key is the first.
     #[tactic(auto, unfolding(model_scanner::specs::Block::begin_key))]
     fn begin_key(&mut self) -> Result<(), Failed>
-        ensures held { OnOk result (begin_key (held self.old) ≡ Ok (held self.new)) }
-        ensures fault { IfErr result (λ _. self.new.fault ≢ Fault.OutOfMemory → begin_key (held self.old) ≡ Err self.new.fault) }
-        ensures bounds { Moves self.old self.new 2 0 }
-        ensures window { self.new.window ≡ self.old.window }
+        ensures { Steps begin_key self.old result self.new 2 }
     {
         if self.in_flow() {
             self.key_entry();
@@ -172,15 +146,12 @@ impl<T: Characters> Fetcher<T> {
         if !self.key_allowed {
             return Err(self.fail(Fault::At(Problem::KeyNotAllowed, mark)));
         }
-        self.roll_indent(mark.col(), None, Collection::Mapping, mark)?;
-        Ok(())
+        self.roll_indent(mark.col(), None, Collection::Mapping, mark)
     }
 
     /// Notes that an entry of a flow sequence has a key with `?`.
     fn key_entry(&mut self)
-        ensures held { held self.new ≡ record (held self.old) { flow = keyed (held self.old).flow } }
-        ensures bounds { Moves self.old self.new 0 0 }
-        ensures window { self.new.window ≡ self.old.window }
+        ensures { Turns (λ s. record s { flow = keyed s.flow }) self.old self.new }
     {
         if let Some(FlowLevel::Entry) = self.flow_entry() {
             self.set_flow_entry(FlowLevel::Keyed);
@@ -189,25 +160,19 @@ impl<T: Characters> Fetcher<T> {
 
     /// Steps over a `?` and what must stand after it.
     fn pass_key(&mut self) -> Result<(), Failed>
-        requires ahead { 0 < self.old.window.ahead }
-        requires has { HasChar self.old.window }
-        ensures does { OnOk result (Does pass_key self.old self.new) }
-        ensures fails { IfErr result (λ _. Fails pass_key self.old self.new self.new.fault) }
-        ensures run { Fetches self.old self.new }
-        ensures bounds { OnOk result (Moves self.old self.new 0 8) }
+        requires { Front 1 self.old.window }
+        ensures runs { Runs pass_key self.old result self.new 0 8 }
         ensures ahead { OnOk result (0 < self.new.window.ahead) }
     {
         self.skip_indicator();
-        self.skip_yaml_whitespace()?;
-        Ok(())
+        self.skip_yaml_whitespace()
     }
 
     /// Refuses a TAB after the space of a `?`.
+    #[tactic(auto, using(crate::proofs::BlockLemmas::peek_is), unfolding(model_scanner::specs::Block::check_key_space))]
     fn check_key_space(&mut self) -> Result<(), Failed>
         requires { 0 < self.old.window.ahead }
-        ensures does { OnOk result (Does check_key_space self.old self.new) }
-        ensures fails { IfErr result (λ _. Fails check_key_space self.old self.new self.new.fault) }
-        ensures bounds { Moves self.old self.new 0 0 }
+        ensures { Runs check_key_space self.old result self.new 0 0 }
     {
         if self.window.ch() == '\t' {
             return Err(self.fail_here(Problem::TabAfterKey));
@@ -217,29 +182,23 @@ impl<T: Characters> Fetcher<T> {
 
     /// `:`
     #[inline(never)]
+    #[tactic(auto, unfolding(model_scanner::specs::Block::fetch_value))]
     pub(crate) fn fetch_value(&mut self) -> Result<(), Failed>
-        requires ahead { 0 < self.old.window.ahead }
-        requires has { HasChar self.old.window }
-        ensures does { OnOk result (Does fetch_value self.old self.new) }
-        ensures fails { IfErr result (λ _. Fails fetch_value self.old self.new self.new.fault) }
-        ensures run { Fetches self.old self.new }
-        ensures bounds { OnOk result (Moves self.old self.new 7 8) }
+        requires { Front 1 self.old.window }
+        ensures { Runs fetch_value self.old result self.new 6 8 }
     {
         let mark = self.window.mark();
         let opens_pair = self.open_pair();
         self.skip_indicator();
         self.check_value_space()?;
         self.begin_value(mark, opens_pair)?;
-        self.push_token(mark, TokenType::Value)?;
-        Ok(())
+        self.push_token(mark, TokenType::Value)
     }
 
     /// Notes that an entry of a flow sequence has a `:`. The result is whether it is the first.
     fn open_pair(&mut self) -> bool
+        ensures runs { Turns (λ s. record s { flow = paired s.flow }) self.old self.new }
         ensures value { result ≡ opens_pair (held self.old).flow }
-        ensures held { held self.new ≡ record (held self.old) { flow = paired (held self.old).flow } }
-        ensures bounds { Moves self.old self.new 0 0 }
-        ensures window { self.new.window ≡ self.old.window }
     {
         match self.flow_entry() {
             Some(FlowLevel::Entry) => {
@@ -251,37 +210,29 @@ impl<T: Characters> Fetcher<T> {
     }
 
     /// Refuses what must not follow a `:` and a TAB.
+    #[tactic(auto, using(crate::proofs::BlockLemmas::peek_is), unfolding(model_scanner::specs::Block::check_value_space))]
     fn check_value_space(&mut self) -> Result<(), Failed>
-        ensures does { OnOk result (Does check_value_space self.old self.new) }
-        ensures fails { IfErr result (λ _. Fails check_value_space self.old self.new self.new.fault) }
-        ensures run { Fetches self.old self.new }
-        ensures bounds { OnOk result (Moves self.old self.new 0 0) }
+        ensures { Runs check_value_space self.old result self.new 0 0 }
     {
         if self.window.look_ch() != '\t' {
             return Ok(());
         }
-        self.pass_tab()?;
-        Ok(())
+        self.pass_tab()
     }
 
     /// Steps over spaces and TABs after a `:`.
     fn pass_tab(&mut self) -> Result<(), Failed>
-        ensures does { OnOk result (Does pass_tab self.old self.new) }
-        ensures fails { IfErr result (λ _. Fails pass_tab self.old self.new self.new.fault) }
-        ensures run { Fetches self.old self.new }
-        ensures bounds { OnOk result (Moves self.old self.new 0 0) }
+        ensures { Runs pass_tab self.old result self.new 0 0 }
     {
         let found = self.skip_spaces(SkipTabs::Yes)?;
-        self.check_after_tab(found)?;
-        Ok(())
+        self.check_after_tab(found)
     }
 
     /// Refuses TABs alone between a `:` and a word or a `-`.
+    #[tactic(auto, using(crate::proofs::BlockLemmas::peek_is), unfolding(model_scanner::specs::Block::check_after_tab))]
     fn check_after_tab(&mut self, found: Whitespace) -> Result<(), Failed>
         requires { 0 < self.old.window.ahead }
-        ensures does { OnOk result (Does (check_after_tab found) self.old self.new) }
-        ensures fails { IfErr result (λ _. Fails (check_after_tab found) self.old self.new self.new.fault) }
-        ensures bounds { Moves self.old self.new 0 0 }
+        ensures { Runs (check_after_tab found) self.old result self.new 0 0 }
     {
         if self.is_word_after_tab(found) {
             return Err(self.fail_here(Problem::TabAfterColon));
@@ -299,10 +250,7 @@ impl<T: Characters> Fetcher<T> {
 
     /// Gives the key of a `:`, if it has one, its token, and its mapping a start if the key is the first.
     fn begin_value(&mut self, mark: Marker, opens_pair: bool) -> Result<(), Failed>
-        ensures held { OnOk result (value_of (top_key (held self.old).keys) mark opens_pair (held self.old) ≡ Ok (held self.new)) }
-        ensures fault { IfErr result (λ _. self.new.fault ≢ Fault.OutOfMemory → value_of (top_key (held self.old).keys) mark opens_pair (held self.old) ≡ Err self.new.fault) }
-        ensures bounds { Moves self.old self.new 5 0 }
-        ensures window { self.new.window ≡ self.old.window }
+        ensures { Steps (λ s. value_of (top_key s.keys) mark opens_pair s) self.old result self.new 5 }
     {
         match self.keys.top() {
             Some(key) => self.insert_key(key, mark, opens_pair)?,
@@ -312,11 +260,9 @@ impl<T: Characters> Fetcher<T> {
     }
 
     /// Gives the key that began without `?` its token, and its mapping a start if the key is the first.
+    #[tactic(auto, using(yaml_scanner_state::proofs::KeyLemmas::with_top_seen), unfolding(model_scanner::specs::Block::insert_key))]
     fn insert_key(&mut self, key: ImplicitKey, mark: Marker, opens_pair: bool) -> Result<(), Failed>
-        ensures held { OnOk result (insert_key (keyed_by self.old.tokens.given key) mark opens_pair (held self.old) ≡ Ok (held self.new)) }
-        ensures fault { IfErr result (λ _. self.new.fault ≢ Fault.OutOfMemory → insert_key (keyed_by self.old.tokens.given key) mark opens_pair (held self.old) ≡ Err self.new.fault) }
-        ensures bounds { Moves self.old self.new 5 0 }
-        ensures window { self.new.window ≡ self.old.window }
+        ensures { Steps (insert_key (keyed_by self.old.tokens.given key) mark opens_pair) self.old result self.new 5 }
     {
         self.put_token(key.position, key.mark, TokenType::Key)?;
         self.begin_pair(key, mark, opens_pair)?;
@@ -336,11 +282,8 @@ impl<T: Characters> Fetcher<T> {
         mark: Marker,
         kind: TokenType,
     ) -> Result<(), Failed>
-        ensures held { OnOk result (held self.new ≡ put (self.old.tokens.given + position) mark (tok_of kind) (held self.old)) }
+        ensures runs { Becomes (put (self.old.tokens.given + position) mark (tok_of kind)) self.old result self.new 1 }
         ensures given { OnOk result (self.new.tokens.given ≡ self.old.tokens.given) }
-        ensures err { IfErr result (λ _. self.new.fault ≡ Fault.OutOfMemory) }
-        ensures bounds { Moves self.old self.new 1 0 }
-        ensures window { self.new.window ≡ self.old.window }
     {
         if let Err(_) = self.tokens.insert(position, Token(mark, kind)) {
             return Err(self.fail(Fault::OutOfMemory));
@@ -351,11 +294,8 @@ impl<T: Characters> Fetcher<T> {
     /// Begins a pair of a flow sequence, before its key, which stands on the line of its `:`.
     #[tactic(auto, unfolding(model_scanner::specs::Block::begin_pair))]
     fn begin_pair(&mut self, key: ImplicitKey, mark: Marker, opens_pair: bool) -> Result<(), Failed>
-        ensures held { OnOk result (begin_pair (keyed_by self.old.tokens.given key) mark opens_pair (held self.old) ≡ Ok (held self.new)) }
-        ensures fault { IfErr result (λ _. self.new.fault ≢ Fault.OutOfMemory → begin_pair (keyed_by self.old.tokens.given key) mark opens_pair (held self.old) ≡ Err self.new.fault) }
+        ensures runs { Steps (begin_pair (keyed_by self.old.tokens.given key) mark opens_pair) self.old result self.new 1 }
         ensures given { OnOk result (self.new.tokens.given ≡ self.old.tokens.given) }
-        ensures bounds { Moves self.old self.new 1 0 }
-        ensures window { self.new.window ≡ self.old.window }
     {
         if !opens_pair {
             return Ok(());
@@ -364,16 +304,13 @@ impl<T: Characters> Fetcher<T> {
             return Err(self.fail(Fault::At(Problem::ColonMisplaced, mark)));
         }
         let here = self.window.mark();
-        self.put_token(key.position, here, TokenType::FlowMappingStart)?;
-        Ok(())
+        self.put_token(key.position, here, TokenType::FlowMappingStart)
     }
 
     /// A `:` after a key that began with `?`, or without a key.
+    #[tactic(auto, unfolding(model_scanner::specs::Block::begin_keyless_value))]
     fn begin_keyless_value(&mut self, mark: Marker, opens_pair: bool) -> Result<(), Failed>
-        ensures held { OnOk result (begin_keyless_value mark opens_pair (held self.old) ≡ Ok (held self.new)) }
-        ensures fault { IfErr result (λ _. self.new.fault ≢ Fault.OutOfMemory → begin_keyless_value mark opens_pair (held self.old) ≡ Err self.new.fault) }
-        ensures bounds { Moves self.old self.new 4 0 }
-        ensures window { self.new.window ≡ self.old.window }
+        ensures { Steps (begin_keyless_value mark opens_pair) self.old result self.new 4 }
     {
         self.begin_keyless_pair(opens_pair)?;
         self.begin_keyless_mapping(mark)?;
@@ -384,26 +321,19 @@ impl<T: Characters> Fetcher<T> {
 
     /// Begins a pair of a flow sequence that has a `:` and no key.
     fn begin_keyless_pair(&mut self, opens_pair: bool) -> Result<(), Failed>
-        ensures held { OnOk result (held self.new ≡ begin_keyless_pair opens_pair (held self.old)) }
-        ensures err { IfErr result (λ _. self.new.fault ≡ Fault.OutOfMemory) }
-        ensures bounds { Moves self.old self.new 1 0 }
-        ensures window { self.new.window ≡ self.old.window }
+        ensures { Becomes (begin_keyless_pair opens_pair) self.old result self.new 1 }
     {
         if !opens_pair {
             return Ok(());
         }
         let here = self.window.mark();
-        self.push_token(here, TokenType::FlowMappingStart)?;
-        Ok(())
+        self.push_token(here, TokenType::FlowMappingStart)
     }
 
     /// Outside flow, where a key may begin, begins a mapping at a `:`, unless one is open at its column.
     #[tactic(auto, unfolding(model_scanner::specs::Block::begin_keyless_mapping))]
     fn begin_keyless_mapping(&mut self, mark: Marker) -> Result<(), Failed>
-        ensures held { OnOk result (begin_keyless_mapping mark (held self.old) ≡ Ok (held self.new)) }
-        ensures fault { IfErr result (λ _. self.new.fault ≢ Fault.OutOfMemory → begin_keyless_mapping mark (held self.old) ≡ Err self.new.fault) }
-        ensures bounds { Moves self.old self.new 2 0 }
-        ensures window { self.new.window ≡ self.old.window }
+        ensures { Steps (begin_keyless_mapping mark) self.old result self.new 2 }
     {
         if self.in_flow() {
             return Ok(());
@@ -411,7 +341,6 @@ impl<T: Characters> Fetcher<T> {
         if !self.key_allowed {
             return Err(self.fail(Fault::At(Problem::ValueNotAllowed, mark)));
         }
-        self.roll_indent(mark.col(), None, Collection::Mapping, mark)?;
-        Ok(())
+        self.roll_indent(mark.col(), None, Collection::Mapping, mark)
     }
 }

@@ -1,14 +1,14 @@
 //! The next token, by its first characters.
 ghost use Rattle.std.specs.Prelude.{◌≡◌, ◌≢◌, ◌≤◌, ◌<◌, ◌==◌, ◌&&◌, ℕ, List, OnOk, IfErr, Ok, Err, true, false, slice_index};
-ghost use Rattle.yaml_chars.specs.WindowView.{HasChar, Reads, Sees};
+ghost use Rattle.yaml_chars.specs.WindowView.{Reads, Sees};
 ghost use Rattle.model_scanner.specs.State.{after};
 ghost use Rattle.model_scanner.specs.Machine.{past};
 ghost use Rattle.yaml_tokens.specs.Shown.{tok_of};
-ghost use Rattle.model_scanner.specs.Space.{skip_spaces};
 ghost use Rattle.model_scanner.specs.Document.{begin_stream, fetch_stream_end, fetch_document_marker, fetch_document_end, begin_line, context, may_follow_quoted, check_after_quoted, fetch_directive, fetch_anchor, fetch_tag, fetch_block_scalar, fetch_flow_scalar, fetch_plain_scalar};
 ghost use Rattle.model_scanner.specs.Fetch.{comes_marker, is_value, token_by, fetch_token, fetch_indented, fetch_first_column, fetch_content, fetch_here, fetch_next, fetch};
-ghost use Rattle.yaml_scanner.specs.Fetched.{Fetched};
-ghost use Rattle.yaml_scanner.specs.Shape.{held, state, Does, Fails};
+ghost use Rattle.yaml_scanner.specs.Fetched.{Gets};
+ghost use Rattle.yaml_scanner.specs.Runs.{Brings, Front, Runs, Steps};
+ghost use Rattle.yaml_scanner.specs.Shape.{held, state};
 ghost use Rattle.yaml_scanner.specs.Steps.{end_quoted, fetch_bar, scalar_by};
 ghost use Rattle.yaml_scanner_state.specs.Styles.{is_alias, are_single, is_literal_style};
 ghost use Rattle.yaml_scanner.specs.Work.{Moves, Fetches, HasChars, work};
@@ -47,11 +47,7 @@ impl<T: Characters> Fetcher<T> {
     /// Fetches a token, or several.
     pub(crate) fn fetch(&mut self) -> Result<(), Failed>
         requires { self.old.tokens.ended ≡ false }
-        ensures does { OnOk result (Fetched fetch self.old self.new) }
-        ensures fails { IfErr result (λ _. Fails fetch self.old self.new self.new.fault) }
-        ensures done { OnOk result (self.new.tokens.ended ≡ true → self.new.window.done ≡ true) }
-        ensures less { OnOk result (work self.new < work self.old) }
-        ensures run { Fetches self.old self.new }
+        ensures { Gets fetch self.old result self.new }
     {
         if !self.started {
             return self.fetch_stream_start();
@@ -64,11 +60,7 @@ impl<T: Characters> Fetcher<T> {
     fn fetch_next(&mut self) -> Result<(), Failed>
         requires started { self.old.started ≡ true }
         requires going { self.old.tokens.ended ≡ false }
-        ensures does { OnOk result (Fetched fetch_next self.old self.new) }
-        ensures fails { IfErr result (λ _. Fails fetch_next self.old self.new self.new.fault) }
-        ensures done { OnOk result (self.new.tokens.ended ≡ true → self.new.window.done ≡ true) }
-        ensures less { OnOk result (work self.new < work self.old) }
-        ensures run { Fetches self.old self.new }
+        ensures { Gets fetch_next self.old result self.new }
     {
         if let Err(fault) = self.skip_to_next_token() {
             return Err(fault);
@@ -93,13 +85,11 @@ impl<T: Characters> Fetcher<T> {
     }
 
     /// Fetches a token if the text goes on, else the stream's end.
+    #[tactic(auto, using(crate::proofs::BlockLemmas::peek_is), unfolding(model_scanner::specs::Fetch::fetch_here))]
     fn fetch_here(&mut self) -> Result<(), Failed>
         requires { self.old.tokens.ended ≡ false }
-        ensures does { OnOk result (Does fetch_here self.old self.new) }
-        ensures fails { IfErr result (λ _. Fails fetch_here self.old self.new self.new.fault) }
+        ensures runs { Brings fetch_here self.old result self.new }
         ensures done { OnOk result (self.new.tokens.ended ≡ true → self.new.window.done ≡ true) }
-        ensures less { OnOk result (work self.new < work self.old) }
-        ensures run { Fetches self.old self.new }
     {
         // A document marker has three characters and an end, and stands only at a line's first column.
         let n = if self.window.mark().col() == 0 { 4 } else { 2 };
@@ -132,11 +122,8 @@ impl<T: Characters> Fetcher<T> {
     #[inline(never)]
     fn fetch_stream_end(&mut self) -> Result<(), Failed>
         requires { self.old.tokens.ended ≡ false }
-        ensures does { OnOk result (Does fetch_stream_end self.old self.new) }
-        ensures fails { IfErr result (λ _. Fails fetch_stream_end self.old self.new self.new.fault) }
+        ensures runs { Brings fetch_stream_end self.old result self.new }
         ensures done { OnOk result (self.new.window.done ≡ self.old.window.done) }
-        ensures less { OnOk result (work self.new < work self.old) }
-        ensures run { Fetches self.old self.new }
     {
         self.window.end_line();
         if self.keys.has_required() {
@@ -153,14 +140,11 @@ impl<T: Characters> Fetcher<T> {
     }
 
     /// What begins at a line's first column, or else a token of a document.
+    #[tactic(auto, unfolding(model_scanner::specs::Fetch::fetch_content))]
     fn fetch_content(&mut self) -> Result<(), Failed>
-        requires ahead { 2 ≤ self.old.window.ahead }
+        requires front { Front 2 self.old.window }
         requires marker { self.old.window.col ≡ 0 → 4 ≤ self.old.window.ahead }
-        requires has { HasChar self.old.window }
-        ensures does { OnOk result (Does fetch_content self.old self.new) }
-        ensures fails { IfErr result (λ _. Fails fetch_content self.old self.new self.new.fault) }
-        ensures run { Fetches self.old self.new }
-        ensures bounds { OnOk result (Moves self.old self.new 7 8) }
+        ensures { Runs fetch_content self.old result self.new 7 8 }
     {
         if self.window.mark().col() == 0 {
             return self.fetch_first_column();
@@ -168,13 +152,10 @@ impl<T: Characters> Fetcher<T> {
         self.fetch_indented()
     }
 
+    #[tactic(auto, using(crate::proofs::BlockLemmas::peek_is), unfolding(model_scanner::specs::Fetch::fetch_first_column))]
     fn fetch_first_column(&mut self) -> Result<(), Failed>
-        requires ahead { 4 ≤ self.old.window.ahead }
-        requires has { HasChar self.old.window }
-        ensures does { OnOk result (Does fetch_first_column self.old self.new) }
-        ensures fails { IfErr result (λ _. Fails fetch_first_column self.old self.new self.new.fault) }
-        ensures run { Fetches self.old self.new }
-        ensures bounds { OnOk result (Moves self.old self.new 7 8) }
+        requires { Front 4 self.old.window }
+        ensures { Runs fetch_first_column self.old result self.new 7 8 }
     {
         if self.window.ch() == '%' {
             return self.fetch_directive();
@@ -189,6 +170,7 @@ impl<T: Characters> Fetcher<T> {
     }
 
     /// Whether three of a character and then a blank, a break or the end come.
+    #[tactic(auto, unfolding(model_scanner::specs::Fetch::comes_marker))]
     fn at_marker(&self, c: char) -> bool
         requires ahead { 4 ≤ self.now.window.ahead }
         requires some { c ≢ 0 }
@@ -203,13 +185,10 @@ impl<T: Characters> Fetcher<T> {
 
     /// What does not begin at a line's first column must not stand left of the innermost block
     /// collection.
+    #[tactic(auto, unfolding(model_scanner::specs::Fetch::fetch_indented))]
     fn fetch_indented(&mut self) -> Result<(), Failed>
-        requires ahead { 2 ≤ self.old.window.ahead }
-        requires has { HasChar self.old.window }
-        ensures does { OnOk result (Does fetch_indented self.old self.new) }
-        ensures fails { IfErr result (λ _. Fails fetch_indented self.old self.new self.new.fault) }
-        ensures run { Fetches self.old self.new }
-        ensures bounds { OnOk result (Moves self.old self.new 7 8) }
+        requires { Front 2 self.old.window }
+        ensures { Runs fetch_indented self.old result self.new 7 8 }
     {
         let mark = self.window.mark();
         if mark.col() + 1 < self.levels.indent() {
@@ -219,13 +198,10 @@ impl<T: Characters> Fetcher<T> {
     }
 
     #[inline(always)]
+    #[tactic(auto, using(crate::proofs::BlockLemmas::peek_is), unfolding(model_scanner::specs::Fetch::fetch_token))]
     fn fetch_token(&mut self) -> Result<(), Failed>
-        requires ahead { 2 ≤ self.old.window.ahead }
-        requires has { HasChar self.old.window }
-        ensures does { OnOk result (Does fetch_token self.old self.new) }
-        ensures fails { IfErr result (λ _. Fails fetch_token self.old self.new self.new.fault) }
-        ensures run { Fetches self.old self.new }
-        ensures bounds { OnOk result (Moves self.old self.new 7 8) }
+        requires { Front 2 self.old.window }
+        ensures { Runs fetch_token self.old result self.new 7 8 }
     {
         match class_of(self.window.ch()) {
             Class::OpenBracket => self.fetch_flow_collection_start(Collection::Sequence),
@@ -245,12 +221,8 @@ impl<T: Characters> Fetcher<T> {
 
     /// `-`, or a plain scalar that begins with it.
     fn fetch_dash(&mut self) -> Result<(), Failed>
-        requires ahead { 2 ≤ self.old.window.ahead }
-        requires has { HasChar self.old.window }
-        ensures does { OnOk result (Does (token_by Class.Dash) self.old self.new) }
-        ensures fails { IfErr result (λ _. Fails (token_by Class.Dash) self.old self.new self.new.fault) }
-        ensures run { Fetches self.old self.new }
-        ensures bounds { OnOk result (Moves self.old self.new 7 8) }
+        requires { Front 2 self.old.window }
+        ensures { Runs (token_by Class.Dash) self.old result self.new 7 8 }
     {
         if is_blank_or_breakz(self.window.peek(1)) {
             return self.fetch_block_entry();
@@ -260,12 +232,8 @@ impl<T: Characters> Fetcher<T> {
 
     /// `?`, or a plain scalar that begins with it.
     fn fetch_question(&mut self) -> Result<(), Failed>
-        requires ahead { 2 ≤ self.old.window.ahead }
-        requires has { HasChar self.old.window }
-        ensures does { OnOk result (Does (token_by Class.Question) self.old self.new) }
-        ensures fails { IfErr result (λ _. Fails (token_by Class.Question) self.old self.new self.new.fault) }
-        ensures run { Fetches self.old self.new }
-        ensures bounds { OnOk result (Moves self.old self.new 7 8) }
+        requires { Front 2 self.old.window }
+        ensures { Runs (token_by Class.Question) self.old result self.new 7 8 }
     {
         if is_blank_or_breakz(self.window.peek(1)) {
             return self.fetch_key();
@@ -275,12 +243,8 @@ impl<T: Characters> Fetcher<T> {
 
     /// `:`, or a plain scalar that begins with it.
     fn fetch_colon(&mut self) -> Result<(), Failed>
-        requires ahead { 2 ≤ self.old.window.ahead }
-        requires has { HasChar self.old.window }
-        ensures does { OnOk result (Does (token_by Class.Colon) self.old self.new) }
-        ensures fails { IfErr result (λ _. Fails (token_by Class.Colon) self.old self.new self.new.fault) }
-        ensures run { Fetches self.old self.new }
-        ensures bounds { OnOk result (Moves self.old self.new 7 8) }
+        requires { Front 2 self.old.window }
+        ensures { Runs (token_by Class.Colon) self.old result self.new 7 8 }
     {
         if self.is_value(self.window.peek(1)) {
             return self.fetch_value();
@@ -299,13 +263,10 @@ impl<T: Characters> Fetcher<T> {
     }
 
     /// A scalar, by the class of its first character, or one that begins no token.
+    #[tactic(auto, unfolding(crate::specs::Steps::scalar_by))]
     fn fetch_scalar(&mut self, class: Class) -> Result<(), Failed>
-        requires ahead { 2 ≤ self.old.window.ahead }
-        requires has { HasChar self.old.window }
-        ensures does { OnOk result (Does (scalar_by class) self.old self.new) }
-        ensures fails { IfErr result (λ _. Fails (scalar_by class) self.old self.new self.new.fault) }
-        ensures run { Fetches self.old self.new }
-        ensures bounds { OnOk result (Moves self.old self.new 7 8) }
+        requires { Front 2 self.old.window }
+        ensures { Runs (scalar_by class) self.old result self.new 7 8 }
     {
         match class {
             Class::Bar => self.fetch_bar(BlockStyle::Literal),
@@ -320,13 +281,10 @@ impl<T: Characters> Fetcher<T> {
     }
 
     /// `|` or `>`, which in flow begins a plain scalar.
+    #[tactic(auto, unfolding(crate::specs::Steps::fetch_bar))]
     fn fetch_bar(&mut self, style: BlockStyle) -> Result<(), Failed>
-        requires ahead { 2 ≤ self.old.window.ahead }
-        requires has { HasChar self.old.window }
-        ensures does { OnOk result (Does (fetch_bar (is_literal_style style)) self.old self.new) }
-        ensures fails { IfErr result (λ _. Fails (fetch_bar (is_literal_style style)) self.old self.new self.new.fault) }
-        ensures run { Fetches self.old self.new }
-        ensures bounds { OnOk result (Moves self.old self.new 7 8) }
+        requires { Front 2 self.old.window }
+        ensures { Runs (fetch_bar (is_literal_style style)) self.old result self.new 7 8 }
     {
         if self.in_flow() {
             return self.fetch_plain_scalar();
@@ -335,11 +293,9 @@ impl<T: Characters> Fetcher<T> {
     }
 
     /// Ends all collections, at a directive or a document marker.
+    #[tactic(auto, unfolding(model_scanner::specs::Document::begin_line))]
     fn begin_line(&mut self) -> Result<(), Failed>
-        ensures held { OnOk result (begin_line (held self.old) ≡ Ok (held self.new)) }
-        ensures fault { IfErr result (λ _. self.new.fault ≢ Fault.OutOfMemory → begin_line (held self.old) ≡ Err self.new.fault) }
-        ensures bounds { Moves self.old self.new 0 0 }
-        ensures window { self.new.window ≡ self.old.window }
+        ensures { Steps begin_line self.old result self.new 0 }
     {
         self.unroll_indent(0)?;
         self.remove_implicit_key()?;
@@ -348,13 +304,10 @@ impl<T: Characters> Fetcher<T> {
     }
 
     #[inline(never)]
+    #[tactic(auto, unfolding(model_scanner::specs::Document::fetch_directive))]
     fn fetch_directive(&mut self) -> Result<(), Failed>
-        requires ahead { 0 < self.old.window.ahead }
-        requires has { HasChar self.old.window }
-        ensures does { OnOk result (Does fetch_directive self.old self.new) }
-        ensures fails { IfErr result (λ _. Fails fetch_directive self.old self.new self.new.fault) }
-        ensures run { Fetches self.old self.new }
-        ensures bounds { OnOk result (Moves self.old self.new 1 8) }
+        requires { Front 1 self.old.window }
+        ensures { Runs fetch_directive self.old result self.new 1 8 }
     {
         let mark = self.window.mark();
         self.begin_line()?;
@@ -363,8 +316,7 @@ impl<T: Characters> Fetcher<T> {
             Err(fault) => return Err(self.fail(fault)),
         };
         self.leading = true;
-        self.push_token(mark, directive)?;
-        Ok(())
+        self.push_token(mark, directive)
     }
 
     /// Steps over three characters.
@@ -383,29 +335,24 @@ impl<T: Characters> Fetcher<T> {
 
     /// `---` or `...`
     #[inline(never)]
+    #[tactic(auto, unfolding(model_scanner::specs::Document::fetch_document_marker))]
     fn fetch_document_marker(&mut self, marker: TokenType) -> Result<(), Failed>
         requires ahead { 3 ≤ self.old.window.ahead }
         requires has { HasChars 3 self.old.window }
-        ensures does { OnOk result (Does (fetch_document_marker (tok_of marker)) self.old self.new) }
-        ensures fails { IfErr result (λ _. Fails (fetch_document_marker (tok_of marker)) self.old self.new self.new.fault) }
-        ensures run { Fetches self.old self.new }
-        ensures bounds { OnOk result (Moves self.old self.new 1 8) }
+        ensures { Runs (fetch_document_marker (tok_of marker)) self.old result self.new 1 8 }
     {
         let mark = self.window.mark();
         self.begin_line()?;
         self.skip_marker();
-        self.push_token(mark, marker)?;
-        Ok(())
+        self.push_token(mark, marker)
     }
 
     /// `...`, after which the line has no content.
+    #[tactic(auto, using(crate::proofs::BlockLemmas::peek_is), unfolding(model_scanner::specs::Document::fetch_document_end, model_scanner::specs::Document::check_document_end))]
     fn fetch_document_end(&mut self) -> Result<(), Failed>
         requires ahead { 3 ≤ self.old.window.ahead }
         requires has { HasChars 3 self.old.window }
-        ensures does { OnOk result (Does fetch_document_end self.old self.new) }
-        ensures fails { IfErr result (λ _. Fails fetch_document_end self.old self.new self.new.fault) }
-        ensures run { Fetches self.old self.new }
-        ensures bounds { OnOk result (Moves self.old self.new 1 8) }
+        ensures { Runs fetch_document_end self.old result self.new 1 8 }
     {
         self.fetch_document_marker(TokenType::DocumentEnd)?;
         self.pass_spaces(SkipTabs::Yes)?;
@@ -417,13 +364,10 @@ impl<T: Characters> Fetcher<T> {
 
     /// `*name` or `&name`
     #[inline(never)]
+    #[tactic(auto, unfolding(model_scanner::specs::Document::fetch_anchor))]
     fn fetch_anchor(&mut self, kind: NameKind) -> Result<(), Failed>
-        requires ahead { 0 < self.old.window.ahead }
-        requires has { HasChar self.old.window }
-        ensures does { OnOk result (Does (fetch_anchor (is_alias kind)) self.old self.new) }
-        ensures fails { IfErr result (λ _. Fails (fetch_anchor (is_alias kind)) self.old self.new self.new.fault) }
-        ensures run { Fetches self.old self.new }
-        ensures bounds { OnOk result (Moves self.old self.new 1 8) }
+        requires { Front 1 self.old.window }
+        ensures { Runs (fetch_anchor (is_alias kind)) self.old result self.new 1 8 }
     {
         let mark = self.window.mark();
         self.save_implicit_key();
@@ -433,18 +377,14 @@ impl<T: Characters> Fetcher<T> {
             Err(fault) => return Err(self.fail(fault)),
         };
         self.leading = false;
-        self.push_token(mark, kind.token(name))?;
-        Ok(())
+        self.push_token(mark, kind.token(name))
     }
 
     #[inline(never)]
+    #[tactic(auto, unfolding(model_scanner::specs::Document::fetch_tag))]
     fn fetch_tag(&mut self) -> Result<(), Failed>
-        requires ahead { 0 < self.old.window.ahead }
-        requires has { HasChar self.old.window }
-        ensures does { OnOk result (Does fetch_tag self.old self.new) }
-        ensures fails { IfErr result (λ _. Fails fetch_tag self.old self.new self.new.fault) }
-        ensures run { Fetches self.old self.new }
-        ensures bounds { OnOk result (Moves self.old self.new 1 8) }
+        requires { Front 1 self.old.window }
+        ensures { Runs fetch_tag self.old result self.new 1 8 }
     {
         let mark = self.window.mark();
         let in_flow = self.in_flow();
@@ -455,8 +395,7 @@ impl<T: Characters> Fetcher<T> {
             Err(fault) => return Err(self.fail(fault)),
         };
         self.leading = false;
-        self.push_token(mark, TokenType::Tag(handle, suffix))?;
-        Ok(())
+        self.push_token(mark, TokenType::Tag(handle, suffix))
     }
 
     fn context(&self) -> Context
@@ -469,13 +408,10 @@ impl<T: Characters> Fetcher<T> {
     }
 
     #[inline(never)]
+    #[tactic(auto, unfolding(model_scanner::specs::Document::fetch_block_scalar))]
     fn fetch_block_scalar(&mut self, style: BlockStyle) -> Result<(), Failed>
-        requires ahead { 0 < self.old.window.ahead }
-        requires has { HasChar self.old.window }
-        ensures does { OnOk result (Does (fetch_block_scalar (is_literal_style style)) self.old self.new) }
-        ensures fails { IfErr result (λ _. Fails (fetch_block_scalar (is_literal_style style)) self.old self.new self.new.fault) }
-        ensures run { Fetches self.old self.new }
-        ensures bounds { OnOk result (Moves self.old self.new 1 8) }
+        requires { Front 1 self.old.window }
+        ensures { Runs (fetch_block_scalar (is_literal_style style)) self.old result self.new 1 8 }
     {
         self.save_implicit_key();
         self.key_allowed = true;
@@ -487,19 +423,15 @@ impl<T: Characters> Fetcher<T> {
             Err(fault) => return Err(self.fail(fault)),
         };
         self.leading = true;
-        self.push_token(mark, TokenType::Scalar(style.style(), text))?;
-        Ok(())
+        self.push_token(mark, TokenType::Scalar(style.style(), text))
     }
 
     /// `'` or `"`
     #[inline(never)]
+    #[tactic(auto, unfolding(model_scanner::specs::Document::fetch_flow_scalar, crate::specs::Steps::end_quoted))]
     fn fetch_flow_scalar(&mut self, quotes: Quotes) -> Result<(), Failed>
-        requires ahead { 0 < self.old.window.ahead }
-        requires has { HasChar self.old.window }
-        ensures does { OnOk result (Does (fetch_flow_scalar (are_single quotes)) self.old self.new) }
-        ensures fails { IfErr result (λ _. Fails (fetch_flow_scalar (are_single quotes)) self.old self.new self.new.fault) }
-        ensures run { Fetches self.old self.new }
-        ensures bounds { OnOk result (Moves self.old self.new 1 8) }
+        requires { Front 1 self.old.window }
+        ensures { Runs (fetch_flow_scalar (are_single quotes)) self.old result self.new 1 8 }
     {
         let mark = self.window.mark();
         self.save_implicit_key();
@@ -512,16 +444,14 @@ impl<T: Characters> Fetcher<T> {
         };
         self.leading = false;
         self.end_quoted(mark.line())?;
-        self.push_token(mark, TokenType::Scalar(quotes.style(), text))?;
-        Ok(())
+        self.push_token(mark, TokenType::Scalar(quotes.style(), text))
     }
 
     /// After a quoted scalar that began on a line. To be as JSON is, a key's `:` may stand right
     /// after it, also on a later line.
+    #[tactic(auto, unfolding(crate::specs::Steps::end_quoted))]
     fn end_quoted(&mut self, line: usize) -> Result<(), Failed>
-        ensures does { OnOk result (Does (end_quoted line) self.old self.new) }
-        ensures fails { IfErr result (λ _. Fails (end_quoted line) self.old self.new self.new.fault) }
-        ensures bounds { Moves self.old self.new 0 0 }
+        ensures { Runs (end_quoted line) self.old result self.new 0 0 }
     {
         self.check_after_quoted(line)?;
         self.skip_to_next_token()?;
@@ -531,10 +461,9 @@ impl<T: Characters> Fetcher<T> {
     }
 
     /// What may stand after a quoted scalar that began on a line.
+    #[tactic(auto, using(crate::proofs::BlockLemmas::peek_is), unfolding(model_scanner::specs::Document::check_after_quoted))]
     fn check_after_quoted(&mut self, line: usize) -> Result<(), Failed>
-        ensures does { OnOk result (Does (check_after_quoted line) self.old self.new) }
-        ensures fails { IfErr result (λ _. Fails (check_after_quoted line) self.old self.new self.new.fault) }
-        ensures bounds { Moves self.old self.new 0 0 }
+        ensures { Runs (check_after_quoted line) self.old result self.new 0 0 }
     {
         self.pass_spaces(SkipTabs::Yes)?;
         let mark = self.window.mark();
@@ -546,13 +475,10 @@ impl<T: Characters> Fetcher<T> {
     }
 
     #[inline(never)]
+    #[tactic(auto, unfolding(model_scanner::specs::Document::fetch_plain_scalar))]
     fn fetch_plain_scalar(&mut self) -> Result<(), Failed>
-        requires ahead { 0 < self.old.window.ahead }
-        requires has { HasChar self.old.window }
-        ensures does { OnOk result (Does fetch_plain_scalar self.old self.new) }
-        ensures fails { IfErr result (λ _. Fails fetch_plain_scalar self.old self.new self.new.fault) }
-        ensures run { Fetches self.old self.new }
-        ensures bounds { OnOk result (Moves self.old self.new 1 8) }
+        requires { Front 1 self.old.window }
+        ensures { Runs fetch_plain_scalar self.old result self.new 1 8 }
     {
         let mark = self.window.mark();
         self.save_implicit_key();
@@ -565,7 +491,6 @@ impl<T: Characters> Fetcher<T> {
         };
         self.leading = plain.leading;
         self.key_allowed = plain.leading;
-        self.push_token(mark, TokenType::Scalar(TScalarStyle::Plain, plain.text))?;
-        Ok(())
+        self.push_token(mark, TokenType::Scalar(TScalarStyle::Plain, plain.text))
     }
 }

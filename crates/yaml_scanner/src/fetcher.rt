@@ -61,7 +61,7 @@ impl<T: Characters> Fetcher<T> {
     ghost use Rattle.yaml_scanner.specs.Shape.{held};
     ghost use Rattle.yaml_scanner_state.specs.Tokens.{handed};
     ghost use Rattle.yaml_scanner.specs.Follows.{Follows};
-    ghost use Rattle.yaml_scanner.specs.Work.{Moves};
+    ghost use Rattle.yaml_scanner.specs.Runs.{Holds};
     ghost use Rattle.yaml_chars.specs.WindowView.{position_of};
     ghost use Rattle.yaml_tokens.specs.declared.problem.Fault.TheVariants.{At};
 
@@ -99,11 +99,7 @@ impl<T: Characters> Fetcher<T> {
     /// Holds a fault that was met.
     #[inline(never)]
     pub(crate) fn fail(&mut self, fault: Fault) -> Failed
-        ensures fault { self.new.fault ≡ fault }
-        ensures held { held self.new ≡ held self.old }
-        ensures tokens { self.new.tokens ≡ self.old.tokens }
-        ensures bounds { Moves self.old self.new 0 0 }
-        ensures window { self.new.window ≡ self.old.window }
+        ensures { Holds fault self.old self.new }
     {
         self.fault = fault;
         Failed
@@ -112,11 +108,7 @@ impl<T: Characters> Fetcher<T> {
     /// Holds the fault that a problem here is.
     #[inline(never)]
     pub(crate) fn fail_here(&mut self, problem: Problem) -> Failed
-        ensures fault { self.new.fault ≡ At problem (position_of self.old.window) }
-        ensures held { held self.new ≡ held self.old }
-        ensures tokens { self.new.tokens ≡ self.old.tokens }
-        ensures bounds { Moves self.old self.new 0 0 }
-        ensures window { self.new.window ≡ self.old.window }
+        ensures { Holds (At problem (position_of self.old.window)) self.old self.new }
     {
         let mark = self.window.mark();
         self.fail(Fault::At(problem, mark))

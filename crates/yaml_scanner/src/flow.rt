@@ -1,13 +1,12 @@
 //! Flow collections (YAML 1.2, section 7.4).
-ghost use Rattle.std.specs.Prelude.{◌≡◌, ◌<◌, ◌∷◌, [], OnOk, IfErr, Ok, Err, true, false, ◌≢◌, slice_index};
-ghost use Rattle.yaml_chars.specs.WindowView.{HasChar, Reads, position_of, after_char};
-ghost use Rattle.defs_token.specs.Token.{Tok};
+ghost use Rattle.std.specs.Prelude.{◌≡◌, ◌<◌, ◌∷◌, Ok, Err, true, false, slice_index};
+ghost use Rattle.yaml_chars.specs.WindowView.{Reads, after_char};
 ghost use Rattle.yaml_tokens.specs.Shown.{tok_of};
 ghost use Rattle.model_scanner.specs.State.{push, with_top, top};
 ghost use Rattle.model_scanner.specs.Flow.{increase_flow_level, begin_flow, pass_indicator, end_flow_pair, decrease_flow_level, adjacent_in_flow, end_flow, end_entry, fetch_flow_collection_start, fetch_flow_collection_end, fetch_flow_entry};
 ghost use Rattle.yaml_scanner_state.specs.Collections.{level_of, flow_start, flow_end};
-ghost use Rattle.yaml_scanner.specs.Shape.{held, Does, Fails};
-ghost use Rattle.yaml_scanner.specs.Work.{Moves, Fetches};
+ghost use Rattle.yaml_scanner.specs.Runs.{Becomes, Front, Runs, Steps, Turns};
+ghost use Rattle.yaml_scanner.specs.Work.{Moves};
 
 use crate::fetcher::{Failed, Fetcher};
 use model_scanner::FlowLevel;
@@ -23,8 +22,7 @@ impl<T: Characters> Fetcher<T> {
     /// Steps over an indicator.
     #[inline(always)]
     pub(crate) fn skip_indicator(&mut self)
-        requires ahead { 0 < self.old.window.ahead }
-        requires has { HasChar self.old.window }
+        requires { Front 1 self.old.window }
         ensures state { self.new ≡ record self.old { window = after_char self.old.window; leading = false } }
         ensures reads { Reads self.old.window self.new.window (λ a b. a ≡ slice_index a 0 ∷ b) }
         ensures bounds { Moves self.old self.new 0 8 }
@@ -35,26 +33,19 @@ impl<T: Characters> Fetcher<T> {
 
     /// Steps over an indicator, spaces and a comment.
     #[inline(always)]
+    #[tactic(auto, unfolding(model_scanner::specs::Flow::pass_indicator))]
     pub(crate) fn pass_indicator(&mut self) -> Result<(), Failed>
-        requires ahead { 0 < self.old.window.ahead }
-        requires has { HasChar self.old.window }
-        ensures does { OnOk result (Does pass_indicator self.old self.new) }
-        ensures fails { IfErr result (λ _. Fails pass_indicator self.old self.new self.new.fault) }
-        ensures run { Fetches self.old self.new }
-        ensures bounds { OnOk result (Moves self.old self.new 0 8) }
+        requires { Front 1 self.old.window }
+        ensures { Runs pass_indicator self.old result self.new 0 8 }
     {
         self.skip_indicator();
-        self.pass_spaces(SkipTabs::Yes)?;
-        Ok(())
+        self.pass_spaces(SkipTabs::Yes)
     }
 
     /// Adds a token.
     #[inline(always)]
     pub(crate) fn push_token(&mut self, mark: Marker, kind: TokenType) -> Result<(), Failed>
-        ensures held { OnOk result (held self.new ≡ push mark (tok_of kind) (held self.old)) }
-        ensures err { IfErr result (λ _. self.new.fault ≡ Fault.OutOfMemory) }
-        ensures bounds { Moves self.old self.new 1 0 }
-        ensures window { self.new.window ≡ self.old.window }
+        ensures { Becomes (push mark (tok_of kind)) self.old result self.new 1 }
     {
         if let Err(_) = self.tokens.push(Token(mark, kind)) {
             return Err(self.fail(Fault::OutOfMemory));
@@ -64,27 +55,21 @@ impl<T: Characters> Fetcher<T> {
 
     /// `[` or `{`
     #[inline(never)]
+    #[tactic(auto, unfolding(model_scanner::specs::Flow::fetch_flow_collection_start))]
     pub(crate) fn fetch_flow_collection_start(&mut self, kind: Collection) -> Result<(), Failed>
-        requires ahead { 0 < self.old.window.ahead }
-        requires has { HasChar self.old.window }
-        ensures does { OnOk result (Does (fetch_flow_collection_start (level_of kind) (flow_start kind)) self.old self.new) }
-        ensures fails { IfErr result (λ _. Fails (fetch_flow_collection_start (level_of kind) (flow_start kind)) self.old self.new self.new.fault) }
-        ensures run { Fetches self.old self.new }
-        ensures bounds { OnOk result (Moves self.old self.new 2 8) }
+        requires { Front 1 self.old.window }
+        ensures { Runs (fetch_flow_collection_start (level_of kind) (flow_start kind)) self.old result self.new 2 8 }
     {
         let mark = self.window.mark();
         self.begin_flow(kind)?;
         self.pass_indicator()?;
-        self.push_token(mark, kind.flow_start())?;
-        Ok(())
+        self.push_token(mark, kind.flow_start())
     }
 
     /// Notes the start of a flow collection, which may be a key.
+    #[tactic(auto, unfolding(model_scanner::specs::Flow::begin_flow))]
     fn begin_flow(&mut self, kind: Collection) -> Result<(), Failed>
-        ensures held { OnOk result (begin_flow (level_of kind) (held self.old) ≡ Ok (held self.new)) }
-        ensures fault { IfErr result (λ _. self.new.fault ≢ Fault.OutOfMemory → begin_flow (level_of kind) (held self.old) ≡ Err self.new.fault) }
-        ensures bounds { Moves self.old self.new 1 0 }
-        ensures window { self.new.window ≡ self.old.window }
+        ensures { Steps (begin_flow (level_of kind)) self.old result self.new 1 }
     {
         self.save_implicit_key();
         self.roll_one_col_indent()?;
@@ -93,11 +78,9 @@ impl<T: Characters> Fetcher<T> {
         Ok(())
     }
 
+    #[tactic(auto, unfolding(model_scanner::specs::Flow::increase_flow_level))]
     fn increase_flow_level(&mut self, kind: Collection) -> Result<(), Failed>
-        ensures held { OnOk result (increase_flow_level (level_of kind) (held self.old) ≡ Ok (held self.new)) }
-        ensures fault { IfErr result (λ _. self.new.fault ≢ Fault.OutOfMemory → increase_flow_level (level_of kind) (held self.old) ≡ Err self.new.fault) }
-        ensures bounds { Moves self.old self.new 0 0 }
-        ensures window { self.new.window ≡ self.old.window }
+        ensures { Steps (increase_flow_level (level_of kind)) self.old result self.new 0 }
     {
         if self.flow.len() >= DEEPEST_FLOW {
             return Err(self.fail_here(Problem::FlowTooDeep));
@@ -113,28 +96,22 @@ impl<T: Characters> Fetcher<T> {
 
     /// `]` or `}`
     #[inline(never)]
+    #[tactic(auto, unfolding(model_scanner::specs::Flow::fetch_flow_collection_end))]
     pub(crate) fn fetch_flow_collection_end(&mut self, kind: Collection) -> Result<(), Failed>
-        requires ahead { 0 < self.old.window.ahead }
-        requires has { HasChar self.old.window }
-        ensures does { OnOk result (Does (fetch_flow_collection_end (flow_end kind)) self.old self.new) }
-        ensures fails { IfErr result (λ _. Fails (fetch_flow_collection_end (flow_end kind)) self.old self.new self.new.fault) }
-        ensures run { Fetches self.old self.new }
-        ensures bounds { OnOk result (Moves self.old self.new 2 8) }
+        requires { Front 1 self.old.window }
+        ensures { Runs (fetch_flow_collection_end (flow_end kind)) self.old result self.new 2 8 }
     {
         let mark = self.window.mark();
         self.end_flow()?;
         self.pass_indicator()?;
         self.adjacent_in_flow();
-        self.push_token(mark, kind.flow_end())?;
-        Ok(())
+        self.push_token(mark, kind.flow_end())
     }
 
     /// Ends the innermost flow collection.
+    #[tactic(auto, unfolding(model_scanner::specs::Flow::end_flow))]
     fn end_flow(&mut self) -> Result<(), Failed>
-        ensures held { OnOk result (end_flow (held self.old) ≡ Ok (held self.new)) }
-        ensures fault { IfErr result (λ _. self.new.fault ≢ Fault.OutOfMemory → end_flow (held self.old) ≡ Err self.new.fault) }
-        ensures bounds { Moves self.old self.new 1 0 }
-        ensures window { self.new.window ≡ self.old.window }
+        ensures { Steps end_flow self.old result self.new 1 }
     {
         self.remove_implicit_key()?;
         self.end_flow_pair()?;
@@ -143,10 +120,9 @@ impl<T: Characters> Fetcher<T> {
         Ok(())
     }
 
+    #[tactic(auto, using(yaml_scanner_state::proofs::KeyLemmas::pop_seen), unfolding(model_scanner::specs::Flow::decrease_flow_level))]
     fn decrease_flow_level(&mut self)
-        ensures held { held self.new ≡ decrease_flow_level (held self.old) }
-        ensures bounds { Moves self.old self.new 0 0 }
-        ensures window { self.new.window ≡ self.old.window }
+        ensures { Turns decrease_flow_level self.old self.new }
     {
         let Some(_) = self.flow.pop() else {
             return;
@@ -155,10 +131,9 @@ impl<T: Characters> Fetcher<T> {
     }
 
     /// A `:` may stand right after a flow collection that is a key.
+    #[tactic(auto, unfolding(model_scanner::specs::Flow::adjacent_in_flow))]
     fn adjacent_in_flow(&mut self)
-        ensures held { held self.new ≡ adjacent_in_flow (held self.old) }
-        ensures bounds { Moves self.old self.new 0 0 }
-        ensures window { self.new.window ≡ self.old.window }
+        ensures { Turns adjacent_in_flow self.old self.new }
     {
         if self.in_flow() {
             self.adjacent_value_at = self.window.mark().index();
@@ -167,48 +142,38 @@ impl<T: Characters> Fetcher<T> {
 
     /// `,`
     #[inline(never)]
+    #[tactic(auto, unfolding(model_scanner::specs::Flow::fetch_flow_entry))]
     pub(crate) fn fetch_flow_entry(&mut self) -> Result<(), Failed>
-        requires ahead { 0 < self.old.window.ahead }
-        requires has { HasChar self.old.window }
-        ensures does { OnOk result (Does fetch_flow_entry self.old self.new) }
-        ensures fails { IfErr result (λ _. Fails fetch_flow_entry self.old self.new self.new.fault) }
-        ensures run { Fetches self.old self.new }
-        ensures bounds { OnOk result (Moves self.old self.new 2 8) }
+        requires { Front 1 self.old.window }
+        ensures { Runs fetch_flow_entry self.old result self.new 2 8 }
     {
         let mark = self.window.mark();
         self.end_entry()?;
         self.pass_indicator()?;
-        self.push_token(mark, TokenType::FlowEntry)?;
-        Ok(())
+        self.push_token(mark, TokenType::FlowEntry)
     }
 
     /// Ends an entry of the innermost flow collection; another may come.
+    #[tactic(auto, unfolding(model_scanner::specs::Flow::end_entry))]
     fn end_entry(&mut self) -> Result<(), Failed>
-        ensures held { OnOk result (end_entry (held self.old) ≡ Ok (held self.new)) }
-        ensures fault { IfErr result (λ _. self.new.fault ≢ Fault.OutOfMemory → end_entry (held self.old) ≡ Err self.new.fault) }
-        ensures bounds { Moves self.old self.new 1 0 }
-        ensures window { self.new.window ≡ self.old.window }
+        ensures { Steps end_entry self.old result self.new 1 }
     {
         self.remove_implicit_key()?;
         self.key_allowed = true;
-        self.end_flow_pair()?;
-        Ok(())
+        self.end_flow_pair()
     }
 
     /// Ends an entry of the innermost flow collection, and with it a single-pair mapping.
     #[inline(always)]
+    #[tactic(auto, unfolding(model_scanner::specs::Flow::end_flow_pair))]
     fn end_flow_pair(&mut self) -> Result<(), Failed>
-        ensures held { OnOk result (held self.new ≡ end_flow_pair (held self.old)) }
-        ensures err { IfErr result (λ _. self.new.fault ≡ Fault.OutOfMemory) }
-        ensures bounds { Moves self.old self.new 1 0 }
-        ensures window { self.new.window ≡ self.old.window }
+        ensures { Becomes end_flow_pair self.old result self.new 1 }
     {
         match self.flow_entry() {
             Some(FlowLevel::Pair) => {
                 let mark = self.window.mark();
                 self.set_flow_entry(FlowLevel::Entry);
-                self.push_token(mark, TokenType::FlowMappingEnd)?;
-                Ok(())
+                self.push_token(mark, TokenType::FlowMappingEnd)
             }
             Some(FlowLevel::Keyed) => {
                 self.set_flow_entry(FlowLevel::Entry);
@@ -229,9 +194,7 @@ impl<T: Characters> Fetcher<T> {
     }
 
     pub(crate) fn set_flow_entry(&mut self, entry: FlowLevel)
-        ensures held { held self.new ≡ record (held self.old) { flow = with_top entry self.old.flow } }
-        ensures bounds { Moves self.old self.new 0 0 }
-        ensures window { self.new.window ≡ self.old.window }
+        ensures { Turns (λ s. record s { flow = with_top entry s.flow }) self.old self.new }
     {
         self.flow.set_top(entry);
     }

@@ -1,13 +1,12 @@
-ghost use Rattle.std.specs.Prelude.{◌≡◌, ◌≢◌, ◌<◌, ◌≤◌, ◌^◌, ℕ, OnOk, IfErr, Ok, Err, List, true, false, nat_lt, ◌+◌};
-ghost use Rattle.model_scanner.specs.State.{Held, in_flow, token};
+ghost use Rattle.std.specs.Prelude.{◌≡◌, ◌<◌, ◌^◌, ℕ, Ok, Err, true, false, nat_lt, ◌+◌};
+ghost use Rattle.model_scanner.specs.State.{in_flow, token};
 ghost use Rattle.model_scanner.specs.Keys.{must_be_key, save_implicit_key, remove_implicit_key, stale, top_needs_block_end};
 ghost use Rattle.model_scanner.specs.Indents.{roll_indent, drop_open_level, roll_one_col_indent, unroll_indent, unroll_non_block_indents, in_block, deepen, placed};
-ghost use Rattle.yaml_tokens.specs.Shown.{tok_of};
 ghost use Rattle.yaml_scanner_state.specs.Collections.{block_start};
 ghost use Rattle.yaml_scanner_state.specs.Levels.{ends_open};
+ghost use Rattle.yaml_scanner.specs.Runs.{Becomes, Steps, Turns};
 ghost use Rattle.yaml_scanner.specs.Shape.{held};
 ghost use Rattle.yaml_scanner_state.specs.ImplicitKeys.{number_of};
-ghost use Rattle.yaml_scanner.specs.Work.{Moves};
 
 use crate::fetcher::{Failed, Fetcher};
 use yaml_chars::{Characters, Marker};
@@ -33,10 +32,9 @@ impl<T: Characters> Fetcher<T> {
 
     /// Notes that the next token may be a key, if one is allowed.
     #[inline(always)]
+    #[tactic(auto, using(yaml_scanner_state::proofs::KeyLemmas::with_top_seen), unfolding(model_scanner::specs::Keys::save_implicit_key))]
     pub(crate) fn save_implicit_key(&mut self)
-        ensures held { held self.new ≡ save_implicit_key (held self.old) }
-        ensures bounds { Moves self.old self.new 0 0 }
-        ensures window { self.new.window ≡ self.old.window }
+        ensures { Turns save_implicit_key self.old self.new }
     {
         if self.key_allowed {
             let key = ImplicitKey {
@@ -51,10 +49,7 @@ impl<T: Characters> Fetcher<T> {
     /// Gives up the possible key of the innermost level.
     #[inline(always)]
     pub(crate) fn remove_implicit_key(&mut self) -> Result<(), Failed>
-        ensures held { OnOk result (remove_implicit_key (held self.old) ≡ Ok (held self.new)) }
-        ensures fault { IfErr result (λ _. remove_implicit_key (held self.old) ≡ Err self.new.fault) }
-        ensures bounds { Moves self.old self.new 0 0 }
-        ensures window { self.new.window ≡ self.old.window }
+        ensures { Steps remove_implicit_key self.old result self.new 0 }
     {
         if self.keys.top_is_required() {
             return Err(self.fail_here(Problem::KeyExpected));
@@ -67,11 +62,7 @@ impl<T: Characters> Fetcher<T> {
     /// (YAML 1.2, section 8.2.2). One that must be a key is a fault then.
     #[inline(always)]
     pub(crate) fn drop_stale(&mut self) -> Result<(), Failed>
-        ensures held { OnOk result (stale (held self.old) ≡ Ok (held self.new)) }
-        ensures fault { IfErr result (λ _. stale (held self.old) ≡ Err self.new.fault) }
-        ensures tokens { self.new.tokens ≡ self.old.tokens }
-        ensures bounds { Moves self.old self.new 0 0 }
-        ensures window { self.new.window ≡ self.old.window }
+        ensures { Steps stale self.old result self.new 0 }
     {
         if self.in_flow() {
             return Ok(());
@@ -86,6 +77,7 @@ impl<T: Characters> Fetcher<T> {
     /// Begins a collection at a column, unless one is open there or the position is inside flow. Its start goes in
     /// before that many waiting tokens, or after all of them.
     #[inline(always)]
+    #[tactic(auto, unfolding(model_scanner::specs::Indents::roll_indent))]
     pub(crate) fn roll_indent(
         &mut self,
         col: usize,
@@ -94,21 +86,18 @@ impl<T: Characters> Fetcher<T> {
         mark: Marker,
     ) -> Result<(), Failed>
         requires { col < 2 ^ 63 }
-        ensures held { OnOk result (held self.new ≡ roll_indent col (number_of self.old.tokens.given position) (block_start kind) mark (held self.old)) }
-        ensures err { IfErr result (λ _. self.new.fault ≡ Fault.OutOfMemory) }
-        ensures bounds { Moves self.old self.new 2 0 }
-        ensures window { self.new.window ≡ self.old.window }
+        ensures { Becomes (roll_indent col (number_of self.old.tokens.given position) (block_start kind) mark) self.old result self.new 2 }
     {
         if self.in_flow() {
             return Ok(());
         }
         self.drop_open_level(col);
-        self.deepen(col, position, kind, mark)?;
-        Ok(())
+        self.deepen(col, position, kind, mark)
     }
 
     /// Opens a level for a collection at a column, unless one is open there.
     #[inline(always)]
+    #[tactic(auto, unfolding(model_scanner::specs::Indents::deepen))]
     fn deepen(
         &mut self,
         col: usize,
@@ -117,10 +106,7 @@ impl<T: Characters> Fetcher<T> {
         mark: Marker,
     ) -> Result<(), Failed>
         requires { col < 2 ^ 63 }
-        ensures held { OnOk result (held self.new ≡ deepen col (number_of self.old.tokens.given position) (token mark (block_start kind)) (held self.old)) }
-        ensures err { IfErr result (λ _. self.new.fault ≡ Fault.OutOfMemory) }
-        ensures bounds { Moves self.old self.new 2 0 }
-        ensures window { self.new.window ≡ self.old.window }
+        ensures { Becomes (deepen col (number_of self.old.tokens.given position) (token mark (block_start kind))) self.old result self.new 2 }
     {
         if !self.is_left_of(col) {
             return Ok(());
@@ -128,8 +114,7 @@ impl<T: Characters> Fetcher<T> {
         if let Err(_) = self.levels.push_block(col) {
             return Err(self.fail(Fault::OutOfMemory));
         }
-        self.position_start(position, kind, mark)?;
-        Ok(())
+        self.position_start(position, kind, mark)
     }
 
     /// Whether the innermost level stands left of a column.
@@ -147,10 +132,7 @@ impl<T: Characters> Fetcher<T> {
         kind: Collection,
         mark: Marker,
     ) -> Result<(), Failed>
-        ensures err { IfErr result (λ _. self.new.fault ≡ Fault.OutOfMemory) }
-        ensures held { OnOk result (held self.new ≡ record (held self.old) { tokens = placed (number_of self.old.tokens.given position) (token mark (block_start kind)) (held self.old).tokens }) }
-        ensures bounds { Moves self.old self.new 1 0 }
-        ensures window { self.new.window ≡ self.old.window }
+        ensures { Becomes (λ s. record s { tokens = placed (number_of self.old.tokens.given position) (token mark (block_start kind)) s.tokens }) self.old result self.new 1 }
     {
         match position {
             Some(position) => self.put_token(position, mark, kind.block_start())?,
@@ -160,12 +142,11 @@ impl<T: Characters> Fetcher<T> {
     }
 
     /// A level that opens no collection goes before one at its column or after that.
+    #[tactic(auto, unfolding(model_scanner::specs::Indents::drop_open_level))]
     fn drop_open_level(&mut self, col: usize)
         requires { col < 2 ^ 63 }
-        ensures held { held self.new ≡ drop_open_level col (held self.old) }
+        ensures runs { Turns (drop_open_level col) self.old self.new }
         ensures tokens { self.new.tokens ≡ self.old.tokens }
-        ensures bounds { Moves self.old self.new 0 0 }
-        ensures window { self.new.window ≡ self.old.window }
     {
         if self.levels.is_open() {
             if self.levels.indent() <= col + 1 {
@@ -185,11 +166,9 @@ impl<T: Characters> Fetcher<T> {
 
     /// Opens a level without a collection, one column deeper, inside a block collection.
     #[inline(always)]
+    #[tactic(auto, unfolding(model_scanner::specs::Indents::roll_one_col_indent))]
     pub(crate) fn roll_one_col_indent(&mut self) -> Result<(), Failed>
-        ensures err { IfErr result (λ _. self.new.fault ≡ Fault.OutOfMemory) }
-        ensures held { OnOk result (held self.new ≡ roll_one_col_indent (held self.old)) }
-        ensures bounds { Moves self.old self.new 1 0 }
-        ensures window { self.new.window ≡ self.old.window }
+        ensures { Becomes roll_one_col_indent self.old result self.new 1 }
     {
         if !self.in_block() {
             return Ok(());
@@ -202,11 +181,9 @@ impl<T: Characters> Fetcher<T> {
 
     /// Outside flow, ends the levels deeper than the limit.
     #[inline(always)]
+    #[tactic(auto, using(crate::proofs::HeldLemmas::unroll_shallow))]
     pub(crate) fn unroll_indent(&mut self, limit: usize) -> Result<(), Failed>
-        ensures err { IfErr result (λ _. self.new.fault ≡ Fault.OutOfMemory) }
-        ensures held { OnOk result (held self.new ≡ unroll_indent limit (held self.old)) }
-        ensures bounds { Moves self.old self.new 0 0 }
-        ensures window { self.new.window ≡ self.old.window }
+        ensures { Becomes (unroll_indent limit) self.old result self.new 0 }
     {
         if self.levels.indent() <= limit {
             return Ok(());
@@ -217,10 +194,7 @@ impl<T: Characters> Fetcher<T> {
     // The same, where some level is deeper.
     #[inline(never)]
     fn end_levels(&mut self, limit: usize) -> Result<(), Failed>
-        ensures err { IfErr result (λ _. self.new.fault ≡ Fault.OutOfMemory) }
-        ensures held { OnOk result (held self.new ≡ unroll_indent limit (held self.old)) }
-        ensures bounds { Moves self.old self.new 0 0 }
-        ensures window { self.new.window ≡ self.old.window }
+        ensures { Becomes (unroll_indent limit) self.old result self.new 0 }
     {
         if self.in_flow() {
             return Ok(());
@@ -241,10 +215,8 @@ impl<T: Characters> Fetcher<T> {
 
     /// Removes the innermost levels that open no collection.
     pub(crate) fn unroll_non_block_indents(&mut self)
-        ensures held { held self.new ≡ unroll_non_block_indents (held self.old) }
+        ensures runs { Turns unroll_non_block_indents self.old self.new }
         ensures block { ends_open self.new.levels.indents ≡ false }
-        ensures bounds { Moves self.old self.new 0 0 }
-        ensures window { self.new.window ≡ self.old.window }
     {
         'levels: while self.levels.is_open() {
             let _ = self.levels.pop();

@@ -1,12 +1,13 @@
 //! What stands between two tokens: blanks, line breaks and comments (YAML 1.2, chapter 6).
-ghost use Rattle.std.specs.Prelude.{◌≡◌, ◌≢◌, ◌<◌, ◌≤◌, ℕ, OnOk, IfOk, IfErr, Ok, Err, true, false, Bool, slice_index, ◌==◌, ◌&&◌, ◌||◌, not};
+ghost use Rattle.std.specs.Prelude.{◌≡◌, ◌<◌, ◌≤◌, ℕ, OnOk, IfOk, IfErr, Ok, Err, true, false, Bool, slice_index, ◌==◌, ◌&&◌, ◌||◌, not};
 ghost use Rattle.yaml_chars.specs.Class.{is_break, is_blank};
 ghost use Rattle.yaml_chars.specs.WindowView.{HasChar, Reads, position_of};
 ghost use Rattle.model_scanner.specs.Blanks.{space};
 ghost use Rattle.model_scanner.specs.State.{in_flow};
 ghost use Rattle.model_scanner.specs.Space.{skip, between, tab_line, white, is_before_indent, skip_spaces, skip_to_next_token, skip_yaml_whitespace};
 ghost use Rattle.yaml_lexers.specs.Shown.{read};
-ghost use Rattle.yaml_scanner.specs.Shape.{held, Does, Fails};
+ghost use Rattle.yaml_scanner.specs.Runs.{Front, Runs};
+ghost use Rattle.yaml_scanner.specs.Shape.{held};
 ghost use Rattle.yaml_scanner.specs.Work.{Moves};
 
 use crate::fetcher::{Failed, Fetcher};
@@ -35,8 +36,7 @@ impl<T: Characters> Fetcher<T> {
     #[inline(always)]
     #[tactic(auto, using(crate::proofs::SpaceLemmas::gap_space))]
     fn pass_indentation(&mut self)
-        requires ahead { 0 < self.old.window.ahead }
-        requires has { HasChar self.old.window }
+        requires { Front 1 self.old.window }
         ensures gap { Reads self.old.window self.new.window (λ a b. slice_index a 0 ≡ 32 → skip between a (held self.old) ≡ skip between b (held self.new)) }
         ensures bounds { Moves self.old self.new 0 0 }
         ensures less { self.new.window.left < self.old.window.left }
@@ -68,9 +68,7 @@ impl<T: Characters> Fetcher<T> {
     #[inline(always)]
     #[tactic(auto, using(crate::proofs::SpaceLemmas::no_gap), unfolding(model_scanner::specs::Space::skip_to_next_token))]
     pub(crate) fn skip_to_next_token(&mut self) -> Result<(), Failed>
-        ensures does { OnOk result (Does skip_to_next_token self.old self.new) }
-        ensures fails { IfErr result (λ _. Fails skip_to_next_token self.old self.new self.new.fault) }
-        ensures bounds { Moves self.old self.new 0 0 }
+        ensures runs { Runs skip_to_next_token self.old result self.new 0 0 }
         ensures ahead { OnOk result (0 < self.new.window.ahead) }
     {
         let c = self.window.look_ch();
@@ -84,9 +82,7 @@ impl<T: Characters> Fetcher<T> {
     #[inline(always)]
     #[tactic(auto, using(crate::proofs::SpaceLemmas::gap_blank, crate::proofs::SpaceLemmas::gap_end), unfolding(model_scanner::specs::Space::skip_to_next_token))]
     fn skip_gap(&mut self) -> Result<(), Failed>
-        ensures does { OnOk result (Does skip_to_next_token self.old self.new) }
-        ensures fails { IfErr result (λ _. Fails skip_to_next_token self.old self.new self.new.fault) }
-        ensures bounds { Moves self.old self.new 0 0 }
+        ensures runs { Runs skip_to_next_token self.old result self.new 0 0 }
         ensures ahead { OnOk result (0 < self.new.window.ahead) }
     {
         'space: loop {
@@ -129,8 +125,7 @@ impl<T: Characters> Fetcher<T> {
     /// Steps over a comment.
     #[inline(always)]
     fn pass_comment(&mut self)
-        requires ahead { 0 < self.old.window.ahead }
-        requires has { HasChar self.old.window }
+        requires { Front 1 self.old.window }
         ensures gap { Reads self.old.window self.new.window (λ a b. slice_index a 0 ≡ 35 → skip between a (held self.old) ≡ skip between b (held self.new)) }
         ensures bounds { Moves self.old self.new 0 8 }
         ensures less { self.new.window.left < self.old.window.left }
@@ -143,8 +138,7 @@ impl<T: Characters> Fetcher<T> {
     /// Steps over a TAB in the indentation, and over the rest of its line, which has no content.
     #[tactic(auto, using(crate::proofs::SpaceLemmas::gap_tab, crate::proofs::SpaceLemmas::tab_blank, crate::proofs::SpaceLemmas::tab_end, crate::proofs::SpaceLemmas::tab_content))]
     fn skip_tab_line(&mut self) -> Result<(), Failed>
-        requires ahead { 0 < self.old.window.ahead }
-        requires has { HasChar self.old.window }
+        requires { Front 1 self.old.window }
         ensures gap { OnOk result (Reads self.old.window self.new.window (λ a b. slice_index a 0 ≡ 9 → is_before_indent (held self.old) ≡ true → skip between a (held self.old) ≡ skip between b (held self.new))) }
         ensures fault { IfErr result (λ _. Reads self.old.window self.new.window (λ a b. slice_index a 0 ≡ 9 → is_before_indent (held self.old) ≡ true → skip between a (held self.old) ≡ Err self.new.fault)) }
         ensures bounds { Moves self.old self.new 0 8 }
@@ -168,8 +162,7 @@ impl<T: Characters> Fetcher<T> {
 
     /// Steps over a comment after a TAB in the indentation.
     fn end_tab_line(&mut self)
-        requires ahead { 0 < self.old.window.ahead }
-        requires has { HasChar self.old.window }
+        requires { Front 1 self.old.window }
         ensures gap { Reads self.old.window self.new.window (λ a b. slice_index a 0 ≡ 35 → skip tab_line a (held self.old) ≡ skip between b (held self.new)) }
         ensures bounds { Moves self.old self.new 0 8 }
         ensures less { self.new.window.left < self.old.window.left }
@@ -196,10 +189,9 @@ impl<T: Characters> Fetcher<T> {
 
     /// The same, where it does not matter what was found.
     #[inline(always)]
+    #[tactic(auto, unfolding(model_scanner::specs::Space::skip_spaces))]
     pub(crate) fn pass_spaces(&mut self, tabs: SkipTabs) -> Result<(), Failed>
-        ensures does { OnOk result (Does (skip_spaces tabs) self.old self.new) }
-        ensures fails { IfErr result (λ _. Fails (skip_spaces tabs) self.old self.new self.new.fault) }
-        ensures bounds { Moves self.old self.new 0 0 }
+        ensures runs { Runs (skip_spaces tabs) self.old result self.new 0 0 }
         ensures ahead { OnOk result (0 < self.new.window.ahead) }
     {
         self.skip_spaces(tabs)?;
@@ -208,8 +200,7 @@ impl<T: Characters> Fetcher<T> {
 
     /// Steps over a comment. After a `?` it does not count as the space that must stand there.
     fn pass_white_comment(&mut self)
-        requires ahead { 0 < self.old.window.ahead }
-        requires has { HasChar self.old.window }
+        requires { Front 1 self.old.window }
         ensures white { Reads self.old.window self.new.window (λ a b. slice_index a 0 ≡ 35 → (f : Bool) → white false f a (held self.old) ≡ white false f b (held self.new)) }
         ensures bounds { Moves self.old self.new 0 8 }
         ensures less { self.new.window.left < self.old.window.left }
@@ -221,9 +212,7 @@ impl<T: Characters> Fetcher<T> {
     /// What must stand after a `?`: spaces, breaks and comments.
     #[tactic(auto, using(crate::proofs::SpaceLemmas::white_space, crate::proofs::SpaceLemmas::white_stop, crate::proofs::SpaceLemmas::white_missing), unfolding(model_scanner::specs::Space::skip_yaml_whitespace))]
     pub(crate) fn skip_yaml_whitespace(&mut self) -> Result<(), Failed>
-        ensures does { OnOk result (Does skip_yaml_whitespace self.old self.new) }
-        ensures fails { IfErr result (λ _. Fails skip_yaml_whitespace self.old self.new self.new.fault) }
-        ensures bounds { Moves self.old self.new 0 0 }
+        ensures runs { Runs skip_yaml_whitespace self.old result self.new 0 0 }
         ensures ahead { OnOk result (0 < self.new.window.ahead) }
     {
         let mut found = false;

@@ -1,14 +1,12 @@
 //! Keys of block mappings, and other plain scalars of one line, whose characters are known to come. Each is fetched at once,
 //! and a key with the `:` after it.
-ghost use Rattle.std.specs.Prelude.{◌≡◌, ◌<◌, ◌≤◌, OnOk, IfOk, IfErr, IfSome, true, false, map};
+ghost use Rattle.std.specs.Prelude.{◌≡◌, ◌<◌, ◌≤◌, IfOk, IfErr, IfSome, true, false, map};
 ghost use Rattle.defs_text.specs.Text.{string_chars};
-ghost use Rattle.defs_token.specs.Token.{Style, Tok};
-ghost use Rattle.model_scanner.specs.State.{push};
 ghost use Rattle.model_scanner.specs.Indents.{unroll_non_block_indents};
 ghost use Rattle.yaml_chars.specs.WindowView.{Reads};
 ghost use Rattle.yaml_scanner.specs.Awaits.{AwaitsNode, Stands, StandsAt};
 ghost use Rattle.yaml_scanner.specs.Fetched.{Fetched, fetch_rest, with_key, with_line};
-ghost use Rattle.yaml_scanner.specs.Shape.{held};
+ghost use Rattle.yaml_scanner.specs.Runs.{Becomes};
 ghost use Rattle.yaml_scanner.specs.Work.{Fetches, Moves};
 ghost use Rattle.yaml_scanner_state.specs.ImplicitKeys.{no_implicit};
 ghost use Rattle.yaml_scanner_state.specs.Tokens.{waiting};
@@ -84,10 +82,7 @@ impl<T: Characters> Fetcher<T> {
     /// Fetches a key that was read, with its `:`, and its mapping's start if the key is the first. The start has the position
     /// of the `:`.
     fn push_key(&mut self, mark: Marker, key: String) -> Result<(), Failed>
-        ensures held { OnOk result (held self.new ≡ with_key mark (string_chars key) (held self.old)) }
-        ensures err { IfErr result (λ _. self.new.fault ≡ Fault.OutOfMemory) }
-        ensures bounds { Moves self.old self.new 6 0 }
-        ensures window { self.new.window ≡ self.old.window }
+        ensures { Becomes (with_key mark (string_chars key)) self.old result self.new 6 }
     {
         let colon = self.window.mark().back();
         self.unroll_non_block_indents();
@@ -97,21 +92,16 @@ impl<T: Characters> Fetcher<T> {
         self.leading = false;
         self.push_token(mark, TokenType::Key)?;
         self.push_token(mark, TokenType::Scalar(TScalarStyle::Plain, key))?;
-        self.push_token(colon, TokenType::Value)?;
-        Ok(())
+        self.push_token(colon, TokenType::Value)
     }
 
     /// Fetches a scalar that was read, with the break after it.
     fn push_line(&mut self, mark: Marker, text: String) -> Result<(), Failed>
-        ensures held { OnOk result (held self.new ≡ with_line mark (string_chars text) (held self.old)) }
-        ensures err { IfErr result (λ _. self.new.fault ≡ Fault.OutOfMemory) }
-        ensures bounds { Moves self.old self.new 6 0 }
-        ensures window { self.new.window ≡ self.old.window }
+        ensures { Becomes (with_line mark (string_chars text)) self.old result self.new 6 }
     {
         self.unroll_non_block_indents();
         self.leading = true;
-        self.push_token(mark, TokenType::Scalar(TScalarStyle::Plain, text))?;
-        Ok(())
+        self.push_token(mark, TokenType::Scalar(TScalarStyle::Plain, text))
     }
 
     /// Fetches a key with its `:`, or another plain scalar of one line, where its characters are known to come, and before this
@@ -122,7 +112,7 @@ impl<T: Characters> Fetcher<T> {
         requires started { self.old.started ≡ true }
         requires going { self.old.tokens.ended ≡ false }
         requires ahead { 0 < self.old.window.ahead }
-        ensures does { IfOk result (λ fetched. fetched ≡ true → Fetched fetch_rest self.old self.new) }
+        ensures does { IfOk result (λ fetched. fetched ≡ true → Fetched fetch_rest self.old result self.new) }
         ensures none { IfOk result (λ fetched. fetched ≡ false → self.new ≡ self.old) }
         ensures memory { IfErr result (λ _. self.new.fault ≡ Fault.OutOfMemory) }
         ensures reads { IfErr result (λ _. Reads self.old.window self.new.window (λ _ _. Unit {0})) }

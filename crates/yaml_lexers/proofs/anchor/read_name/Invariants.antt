@@ -1,7 +1,4 @@
-use Rattle.std.proofs.Common.{◌≡◌}
-use Rattle.yaml_chars.specs.Class.{is_anchor}
-use Rattle.yaml_chars.specs.WindowView.{Reads, position_of}
-use Rattle.model_scanner.specs.Machine.{take_while}
+use Rattle.yaml_lexers.proofs.Common.{is_anchor, position_of, Reads, take_while, ◌≡◌}
 use Rattle.yaml_lexers.proofs.anchor.read_name.Given as goal
 
 abbrev pub invariant-name : goal.invariant-name

@@ -1,9 +1,5 @@
-use Rattle.std.proofs.Common.{◌≡◌, slice_index, ◌∷◌, ◌∙◌, ap, sym}
-use Rattle.yaml_chars.specs.WindowView.{position_of}
-use Rattle.yaml_chars.proofs.WindowViewLemmas.{Reads-saw, Reads-then}
-use Rattle.model_scanner.specs.BlockScalar.{lines_from, line, begun, with_char, Lines}
+use Rattle.yaml_lexers.proofs.Common.{ap, begun, line, Lines, lines, lines_from, position_of, Reads-saw, Reads-then, slice_index, sym, with_char, ◌∙◌, ◌∷◌, ◌≡◌}
 use Rattle.model_scanner.proofs.BlockLemmas.{begin_lines}
-use Rattle.yaml_lexers.specs.ShownBlock.{lines}
 use Rattle.yaml_lexers.proofs.block.read_content.Goals as goal
 
 pub returns-clause-ok : goal.returns-clause-ok

@@ -1,7 +1,4 @@
-use Rattle.std.proofs.Common.{◌≡◌}
-use Rattle.yaml_chars.specs.WindowView.{Reads, position_of}
-use Rattle.model_scanner.specs.BlockScalar.{first_indent}
-use Rattle.yaml_lexers.specs.ShownBlock.{lines}
+use Rattle.yaml_lexers.proofs.Common.{first_indent, lines, position_of, Reads, ◌≡◌}
 use Rattle.yaml_lexers.proofs.block.read_first_indent.Given as goal
 
 abbrev pub invariant-indent : goal.invariant-indent

@@ -1,7 +1,5 @@
-use Rattle.std.proofs.Common.{◌≡◌, Bool}
-use Rattle.yaml_chars.specs.WindowView.{Reads, position_of}
-use Rattle.model_scanner.specs.BlockScalar.{margin, lines_from, indent_from}
-use Rattle.yaml_lexers.specs.ShownBlock.{at, lines}
+use Rattle.yaml_lexers.proofs.Common.{Bool, indent_from, lines, lines_from, margin, position_of, Reads, ◌≡◌}
+use Rattle.yaml_lexers.specs.ShownBlock.{at}
 use Rattle.yaml_lexers.proofs.block.read_indent.Given as goal
 
 abbrev pub invariant-indent : goal.invariant-indent

@@ -1,6 +1,4 @@
-use Rattle.std.proofs.Common.{◌≡◌, ℕ, Bool}
-use Rattle.yaml_chars.specs.WindowView.{Reads}
-use Rattle.model_scanner.specs.BlockScalar.{line, lines_from}
+use Rattle.yaml_lexers.proofs.Common.{Bool, line, lines_from, Reads, ℕ, ◌≡◌}
 use Rattle.yaml_lexers.specs.ShownBlock.{at}
 use Rattle.yaml_lexers.proofs.block.read_line.Given as goal
 

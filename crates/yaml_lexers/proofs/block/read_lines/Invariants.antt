@@ -1,6 +1,4 @@
-use Rattle.std.proofs.Common.{◌≡◌}
-use Rattle.yaml_chars.specs.WindowView.{Reads}
-use Rattle.model_scanner.specs.BlockScalar.{margin, lines_from}
+use Rattle.yaml_lexers.proofs.Common.{lines_from, margin, Reads, ◌≡◌}
 use Rattle.yaml_lexers.specs.ShownBlock.{at}
 use Rattle.yaml_lexers.proofs.block.read_lines.Given as goal
 

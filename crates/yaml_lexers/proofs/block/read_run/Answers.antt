@@ -1,7 +1,4 @@
-use Rattle.std.proofs.Common.{◌∙◌}
-use Rattle.std.proofs.lemmas.Result.{on_ok_weaker}
-use Rattle.yaml_chars.proofs.WindowViewLemmas.{Reads-then}
-use Rattle.model_scanner.proofs.RunLemmas.{block_ran}
+use Rattle.yaml_lexers.proofs.Common.{block_ran, on_ok_weaker, Reads-then, ◌∙◌}
 use Rattle.yaml_lexers.proofs.WordsLemmas.{block_words}
 use Rattle.yaml_lexers.proofs.block.read_run.Goals as goal
 

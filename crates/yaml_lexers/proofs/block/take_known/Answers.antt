@@ -1,4 +1,4 @@
-use Rattle.yaml_chars.proofs.WindowViewLemmas.{Reads-then}
+use Rattle.yaml_lexers.proofs.Common.{Reads-then}
 use Rattle.yaml_lexers.proofs.block.take_known.Goals as goal
 
 pub returns-clause-ok : goal.returns-clause-ok

@@ -1,5 +1,4 @@
-use Rattle.std.proofs.Common.{◌≡◌, ◌≤◌, ◌<◌, ◌^◌}
-use Rattle.yaml_chars.specs.WindowView.{Reads, position_of}
+use Rattle.yaml_lexers.proofs.Common.{position_of, Reads, ◌<◌, ◌^◌, ◌≡◌, ◌≤◌}
 use Rattle.model_scanner.specs.Directive.{number, number_from}
 use Rattle.yaml_lexers.proofs.directive.read_number.Given as goal
 

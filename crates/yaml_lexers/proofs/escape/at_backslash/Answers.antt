@@ -1,4 +1,4 @@
-use Rattle.std.proofs.Common.{sym, ◌∙◌}
+use Rattle.yaml_lexers.proofs.Common.{sym, ◌∙◌}
 use Rattle.yaml_lexers.proofs.WindowLemmas.{has_kept}
 use Rattle.yaml_lexers.proofs.escape.at_backslash.Goals as goal
 

@@ -1,5 +1,4 @@
-use Rattle.std.proofs.Common.{◌∙◌, ◌-◌, arith}
-use Rattle.yaml_chars.proofs.WindowViewLemmas.{Reads-then}
+use Rattle.yaml_lexers.proofs.Common.{arith, Reads-then, ◌-◌, ◌∙◌}
 use Rattle.yaml_lexers.proofs.EscapeLemmas.{one_fewer, seven_digits, one_more_fits}
 use Rattle.yaml_lexers.proofs.escape.read_code.Goals as goal
 

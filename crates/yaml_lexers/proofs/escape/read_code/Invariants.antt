@@ -1,9 +1,4 @@
-use Rattle.std.proofs.Common.{◌≡◌, ◌≤◌, ◌<◌, ◌-◌, ◌^◌, Bool}
-use Rattle.yaml_chars.specs.WindowView.{Reads, position_of}
-use Rattle.model_scanner.specs.declared.context.Context.{Context}
-use Rattle.model_scanner.specs.Folding.{Folded}
-use Rattle.model_scanner.specs.Quoted.{digits_from}
-use Rattle.yaml_lexers.specs.ShownQuoted.{count_of}
+use Rattle.yaml_lexers.proofs.Common.{Bool, Context, count_of, digits_from, Folded, position_of, Reads, ◌-◌, ◌<◌, ◌^◌, ◌≡◌, ◌≤◌}
 use Rattle.yaml_lexers.proofs.escape.read_code.Given as goal
 
 abbrev pub invariant-digits : goal.invariant-digits

@@ -1,6 +1,4 @@
-use Rattle.std.proofs.Common.{◌≤◌}
-use Rattle.model_scanner.specs.Quoted.{inside}
-use Rattle.yaml_lexers.specs.ShownQuoted.{GoesOn, Shows}
+use Rattle.yaml_lexers.proofs.Common.{GoesOn, inside, Shows, ◌≤◌}
 use Rattle.yaml_lexers.proofs.escape.read_escapes.Given as goal
 
 abbrev pub invariant-escapes : goal.invariant-escapes

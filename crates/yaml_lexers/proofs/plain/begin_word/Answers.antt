@@ -1,8 +1,5 @@
-use Rattle.std.proofs.Common.{◌∷◌, ◌∙◌, ap, sym}
-use Rattle.yaml_chars.proofs.WindowViewLemmas.{Reads-then}
-use Rattle.model_scanner.specs.Plain.{plain_from, inside}
-use Rattle.model_scanner.proofs.RunLemmas.{plain_run}
-use Rattle.yaml_lexers.specs.Shown.{at}
+use Rattle.yaml_lexers.proofs.Common.{ap, at, plain_from, plain_run, Reads-then, sym, ◌∙◌, ◌∷◌}
+use Rattle.model_scanner.specs.Plain.{inside}
 use Rattle.yaml_lexers.proofs.plain.begin_word.Goals as goal
 
 pub returns-clause-ok : goal.returns-clause-ok

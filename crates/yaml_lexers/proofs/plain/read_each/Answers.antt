@@ -1,6 +1,4 @@
-use Rattle.std.proofs.Common.{◌∙◌}
-use Rattle.yaml_chars.proofs.WindowViewLemmas.{Reads-then}
-use Rattle.model_scanner.proofs.RunLemmas.{plain_run}
+use Rattle.yaml_lexers.proofs.Common.{plain_run, Reads-then, ◌∙◌}
 use Rattle.yaml_lexers.proofs.plain.read_each.Goals as goal
 
 pub each-preserved : goal.each-preserved

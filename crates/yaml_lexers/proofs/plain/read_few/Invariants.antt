@@ -1,8 +1,5 @@
-use Rattle.std.proofs.Common.{◌≡◌}
-use Rattle.defs_text.specs.Position.{Position}
-use Rattle.yaml_chars.specs.WindowView.{Reads}
-use Rattle.model_scanner.specs.Plain.{plain_from, inside}
-use Rattle.yaml_lexers.specs.Shown.{at}
+use Rattle.yaml_lexers.proofs.Common.{at, plain_from, Position, Reads, ◌≡◌}
+use Rattle.model_scanner.specs.Plain.{inside}
 use Rattle.yaml_lexers.proofs.plain.read_few.Given as goal
 
 abbrev pub invariant-few : goal.invariant-few

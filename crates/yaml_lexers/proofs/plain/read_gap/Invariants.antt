@@ -1,7 +1,4 @@
-use Rattle.std.proofs.Common.{◌≡◌}
-use Rattle.yaml_chars.specs.WindowView.{Reads}
-use Rattle.model_scanner.specs.Plain.{plain_from, between}
-use Rattle.yaml_lexers.specs.Shown.{at}
+use Rattle.yaml_lexers.proofs.Common.{at, between, plain_from, Reads, ◌≡◌}
 use Rattle.yaml_lexers.proofs.plain.read_gap.Given as goal
 
 abbrev pub invariant-gap : goal.invariant-gap

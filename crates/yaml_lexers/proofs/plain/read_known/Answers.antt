@@ -1,6 +1,4 @@
-use Rattle.std.proofs.Common.{◌≡◌, false, ◌∙◌, ap, sym}
-use Rattle.std.proofs.lemmas.Result.{on_ok_weaker}
-use Rattle.model_scanner.specs.Plain.{is_shallow}
+use Rattle.yaml_lexers.proofs.Common.{ap, false, is_shallow, on_ok_weaker, sym, ◌∙◌, ◌≡◌}
 use Rattle.yaml_lexers.proofs.WordsLemmas.{plain_read}
 use Rattle.yaml_lexers.proofs.plain.read_known.Goals as goal
 

@@ -1,10 +1,5 @@
-use Rattle.std.proofs.Common.{◌∙◌, ap, sym, arith}
-use Rattle.defs_text.specs.Position.{Position}
-use Rattle.yaml_chars.specs.WindowView.{position_of}
-use Rattle.yaml_chars.proofs.WindowViewLemmas.{Reads-see}
-use Rattle.model_scanner.specs.Plain.{plain_from, first, plain}
-use Rattle.model_scanner.specs.Folding.{Folded, nothing}
-use Rattle.model_scanner.proofs.PlainLemmas.{plain_starts}
+use Rattle.yaml_lexers.proofs.Common.{ap, arith, Folded, nothing, plain, plain_from, plain_starts, Position, position_of, Reads-see, sym, ◌∙◌}
+use Rattle.model_scanner.specs.Plain.{first}
 use Rattle.yaml_lexers.proofs.WindowLemmas.{has_kept, position_kept}
 use Rattle.yaml_lexers.proofs.plain.read_plain.Goals as goal
 

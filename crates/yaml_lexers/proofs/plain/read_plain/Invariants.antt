@@ -1,7 +1,5 @@
-use Rattle.std.proofs.Common.{◌≡◌, ◌<◌}
-use Rattle.yaml_chars.specs.WindowView.{Reads, HasChar, position_of}
-use Rattle.model_scanner.specs.Plain.{plain, plain_from, first}
-use Rattle.yaml_lexers.specs.Shown.{at}
+use Rattle.yaml_lexers.proofs.Common.{at, HasChar, plain, plain_from, position_of, Reads, ◌<◌, ◌≡◌}
+use Rattle.model_scanner.specs.Plain.{first}
 use Rattle.yaml_lexers.proofs.plain.read_plain.Given as goal
 
 abbrev pub invariant-lines : goal.invariant-lines

@@ -1,11 +1,5 @@
-use Rattle.std.proofs.Common.{◌≡◌, ◌≢◌, ◌∙◌, ap, sym, slice_index, false}
-use Rattle.defs_text.specs.Position.{Position}
-use Rattle.yaml_chars.specs.WindowView.{Reads, position_of}
-use Rattle.yaml_chars.proofs.WindowViewLemmas.{Reads-then, Reads-see}
-use Rattle.yaml_chars.specs.Class.{is_blank_or_breakz}
-use Rattle.model_scanner.specs.Plain.{plain_from, can_be_plain, inside}
-use Rattle.model_scanner.proofs.PlainLemmas.{run_end, ends_here}
-use Rattle.yaml_lexers.specs.Shown.{at, folded}
+use Rattle.yaml_lexers.proofs.Common.{ap, at, can_be_plain, ends_here, false, folded, is_blank_or_breakz, plain_from, Position, position_of, Reads, Reads-see, Reads-then, run_end, slice_index, sym, ◌∙◌, ◌≡◌, ◌≢◌}
+use Rattle.model_scanner.specs.Plain.{inside}
 use Rattle.yaml_lexers.proofs.PlainLemmas.{runs_out}
 use Rattle.yaml_lexers.proofs.WindowLemmas.{has_kept, is_some, position_kept}
 use Rattle.yaml_lexers.proofs.plain.read_run.Goals as goal

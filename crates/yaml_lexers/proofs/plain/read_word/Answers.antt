@@ -1,5 +1,4 @@
-use Rattle.yaml_chars.proofs.RunLemmas.{Reads-map}
-use Rattle.model_scanner.proofs.RunLemmas.{plain_ran}
+use Rattle.yaml_lexers.proofs.Common.{plain_ran, Reads-map}
 use Rattle.yaml_lexers.proofs.plain.read_word.Goals as goal
 
 pub returns-clause-ok : goal.returns-clause-ok

@@ -1,10 +1,4 @@
-use Rattle.std.proofs.Common.{◌≡◌, true}
-use Rattle.defs_text.specs.Position.{Position}
-use Rattle.yaml_chars.specs.WindowView.{Reads}
-use Rattle.model_scanner.specs.declared.context.Context.{Context}
-use Rattle.model_scanner.specs.Folding.{Folded}
-use Rattle.model_scanner.specs.Plain.{plain_from, between}
-use Rattle.yaml_lexers.specs.Shown.{at_folded}
+use Rattle.yaml_lexers.proofs.Common.{at_folded, between, Context, Folded, plain_from, Position, Reads, true, ◌≡◌}
 use Rattle.yaml_lexers.proofs.plain.skip_spaces.Given as goal
 
 abbrev pub invariant-spaces : goal.invariant-spaces

@@ -1,8 +1,4 @@
-use Rattle.std.proofs.Common.{◌∷◌, ◌∙◌, ap, sym}
-use Rattle.yaml_chars.proofs.WindowViewLemmas.{Reads-saw}
-use Rattle.model_scanner.specs.Plain.{plain_from, tabs}
-use Rattle.model_scanner.proofs.PlainLemmas.{tab_turn}
-use Rattle.yaml_lexers.specs.Shown.{at_folded}
+use Rattle.yaml_lexers.proofs.Common.{ap, at_folded, plain_from, Reads-saw, sym, tab_turn, tabs, ◌∙◌, ◌∷◌}
 use Rattle.yaml_lexers.proofs.plain.skip_tabs.Goals as goal
 
 pub tabs-init : goal.tabs-init

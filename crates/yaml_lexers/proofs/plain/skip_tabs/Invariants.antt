@@ -1,9 +1,4 @@
-use Rattle.std.proofs.Common.{◌≡◌, ◌<◌, true}
-use Rattle.yaml_chars.specs.WindowView.{Reads}
-use Rattle.model_scanner.specs.declared.context.Context.{Context}
-use Rattle.model_scanner.specs.Folding.{Folded}
-use Rattle.model_scanner.specs.Plain.{plain_from, between, tabs}
-use Rattle.yaml_lexers.specs.Shown.{at_folded}
+use Rattle.yaml_lexers.proofs.Common.{at_folded, between, Context, Folded, plain_from, Reads, tabs, true, ◌<◌, ◌≡◌}
 use Rattle.yaml_lexers.proofs.plain.skip_tabs.Given as goal
 
 abbrev pub invariant-tabs : goal.invariant-tabs

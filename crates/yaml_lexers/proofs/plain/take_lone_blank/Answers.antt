@@ -1,9 +1,4 @@
-use Rattle.std.proofs.Common.{◌≡◌, ◌∷◌, ◌+◌, true, ◌∙◌, ap, sym, arith, slice_index}
-use Rattle.yaml_chars.specs.Class.{is_blank}
-use Rattle.yaml_chars.specs.WindowView.{Reads}
-use Rattle.yaml_chars.proofs.WindowViewLemmas.{Reads-then, Reads-saw}
-use Rattle.model_scanner.specs.Plain.{is_shallow}
-use Rattle.model_scanner.proofs.PlainLemmas.{lone_blank}
+use Rattle.yaml_lexers.proofs.Common.{ap, arith, is_blank, is_shallow, lone_blank, Reads, Reads-saw, Reads-then, slice_index, sym, true, ◌+◌, ◌∙◌, ◌∷◌, ◌≡◌}
 use Rattle.yaml_lexers.proofs.WindowLemmas.{has_kept}
 use Rattle.yaml_lexers.proofs.plain.take_lone_blank.Goals as goal
 

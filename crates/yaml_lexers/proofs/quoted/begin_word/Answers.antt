@@ -1,7 +1,4 @@
-use Rattle.std.proofs.Common.{◌∷◌, ◌∙◌, ap, sym}
-use Rattle.yaml_chars.proofs.WindowViewLemmas.{Reads-then}
-use Rattle.model_scanner.specs.Quoted.{quoted_from, inside}
-use Rattle.model_scanner.proofs.RunLemmas.{quoted_run}
+use Rattle.yaml_lexers.proofs.Common.{ap, inside, quoted_from, quoted_run, Reads-then, sym, ◌∙◌, ◌∷◌}
 use Rattle.yaml_lexers.specs.ShownQuoted.{at}
 use Rattle.yaml_lexers.proofs.quoted.begin_word.Goals as goal
 

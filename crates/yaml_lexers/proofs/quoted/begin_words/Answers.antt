@@ -1,8 +1,4 @@
-use Rattle.std.proofs.Common.{◌≡◌, ◌∙◌, ap, sym}
-use Rattle.yaml_chars.specs.WindowView.{position_of}
-use Rattle.yaml_chars.proofs.WindowViewLemmas.{Reads-then}
-use Rattle.model_scanner.specs.Folding.{Folded}
-use Rattle.model_scanner.specs.Quoted.{quoted_from, first, inside}
+use Rattle.yaml_lexers.proofs.Common.{ap, first, Folded, inside, position_of, quoted_from, Reads-then, sym, ◌∙◌, ◌≡◌}
 use Rattle.yaml_lexers.specs.ShownQuoted.{at_folded}
 use Rattle.yaml_lexers.proofs.QuotedLemmas.{begins_inside}
 use Rattle.yaml_lexers.proofs.quoted.begin_words.Goals as goal

@@ -1,6 +1,4 @@
-use Rattle.std.proofs.Common.{◌∙◌}
-use Rattle.yaml_chars.proofs.WindowViewLemmas.{Reads-then}
-use Rattle.model_scanner.proofs.RunLemmas.{quoted_run}
+use Rattle.yaml_lexers.proofs.Common.{quoted_run, Reads-then, ◌∙◌}
 use Rattle.yaml_lexers.proofs.quoted.read_few.Goals as goal
 
 pub few-preserved : goal.few-preserved

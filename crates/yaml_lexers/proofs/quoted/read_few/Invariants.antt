@@ -1,5 +1,4 @@
-use Rattle.model_scanner.specs.Quoted.{inside}
-use Rattle.yaml_lexers.specs.ShownQuoted.{GoesOn}
+use Rattle.yaml_lexers.proofs.Common.{GoesOn, inside}
 use Rattle.yaml_lexers.proofs.quoted.read_few.Given as goal
 
 abbrev pub invariant-few : goal.invariant-few

@@ -1,5 +1,4 @@
-use Rattle.std.proofs.Common.{◌≤◌, ◌+◌, ap, arith}
-use Rattle.std.proofs.lemmas.Result.{on_ok_weaker}
+use Rattle.yaml_lexers.proofs.Common.{ap, arith, on_ok_weaker, ◌+◌, ◌≤◌}
 use Rattle.yaml_lexers.proofs.WordsLemmas.{quoted_read}
 use Rattle.yaml_lexers.proofs.quoted.read_known.Goals as goal
 

@@ -1,6 +1,4 @@
-use Rattle.std.proofs.Common.{◌≤◌}
-use Rattle.model_scanner.specs.Quoted.{first}
-use Rattle.yaml_lexers.specs.ShownQuoted.{mode_of, GoesOn}
+use Rattle.yaml_lexers.proofs.Common.{first, GoesOn, mode_of, ◌≤◌}
 use Rattle.yaml_lexers.proofs.quoted.read_parts.Given as goal
 
 abbrev pub invariant-parts : goal.invariant-parts

@@ -1,5 +1,4 @@
-use Rattle.yaml_chars.proofs.RunLemmas.{Reads-map}
-use Rattle.model_scanner.proofs.RunLemmas.{quoted_ran}
+use Rattle.yaml_lexers.proofs.Common.{quoted_ran, Reads-map}
 use Rattle.yaml_lexers.proofs.quoted.read_word.Goals as goal
 
 pub returns-clause-ok : goal.returns-clause-ok

@@ -1,6 +1,4 @@
-use Rattle.std.proofs.Common.{◌≤◌}
-use Rattle.model_scanner.specs.Quoted.{inside}
-use Rattle.yaml_lexers.specs.ShownQuoted.{GoesOn}
+use Rattle.yaml_lexers.proofs.Common.{GoesOn, inside, ◌≤◌}
 use Rattle.yaml_lexers.proofs.quoted.read_words.Given as goal
 
 abbrev pub invariant-words : goal.invariant-words

@@ -1,6 +1,4 @@
-use Rattle.std.proofs.Common.{◌∷◌, ◌∙◌, ap, sym}
-use Rattle.yaml_chars.proofs.WindowViewLemmas.{Reads-then}
-use Rattle.model_scanner.proofs.QuotedLemmas.{closing}
+use Rattle.yaml_lexers.proofs.Common.{ap, closing, Reads-then, sym, ◌∙◌, ◌∷◌}
 use Rattle.yaml_lexers.proofs.quoted.take_closing.Goals as goal
 
 pub returns-clause-reads : goal.returns-clause-reads

@@ -1,9 +1,5 @@
-use Rattle.std.proofs.Common.{◌≡◌, ◌∷◌, true, ◌∙◌, ap, sym, arith, slice_index}
-use Rattle.yaml_chars.specs.Class.{is_blank}
-use Rattle.yaml_chars.specs.WindowView.{Reads}
-use Rattle.yaml_chars.proofs.WindowViewLemmas.{Reads-then, Reads-saw}
-use Rattle.model_scanner.proofs.QuotedLemmas.{lone_blank, in_line_goes_on}
-use Rattle.model_scanner.proofs.RunLemmas.{no_gap}
+use Rattle.yaml_lexers.proofs.Common.{ap, arith, in_line_goes_on, is_blank, no_gap, Reads, Reads-saw, Reads-then, slice_index, sym, true, ◌∙◌, ◌∷◌, ◌≡◌}
+use Rattle.model_scanner.proofs.QuotedLemmas.{lone_blank}
 use Rattle.yaml_lexers.proofs.WindowLemmas.{has_kept}
 use Rattle.yaml_lexers.proofs.quoted.take_lone_blank.Goals as goal
 

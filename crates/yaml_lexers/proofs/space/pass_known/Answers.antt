@@ -1,4 +1,4 @@
-use Rattle.yaml_chars.proofs.RunLemmas.{Reads-map}
+use Rattle.yaml_lexers.proofs.Common.{Reads-map}
 use Rattle.yaml_lexers.proofs.WordsLemmas.{comment_words}
 use Rattle.yaml_lexers.proofs.space.pass_known.Goals as goal
 

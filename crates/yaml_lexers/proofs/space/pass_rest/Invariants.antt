@@ -1,6 +1,4 @@
-use Rattle.std.proofs.Common.{◌≡◌}
-use Rattle.yaml_chars.specs.WindowView.{Reads, position_of}
-use Rattle.model_scanner.specs.Blanks.{comment}
+use Rattle.yaml_lexers.proofs.Common.{comment, position_of, Reads, ◌≡◌}
 use Rattle.yaml_lexers.proofs.space.pass_rest.Given as goal
 
 abbrev pub invariant-comment : goal.invariant-comment

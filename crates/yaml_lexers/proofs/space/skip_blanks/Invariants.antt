@@ -1,6 +1,4 @@
-use Rattle.std.proofs.Common.{◌≡◌}
-use Rattle.yaml_chars.specs.WindowView.{Reads, position_of}
-use Rattle.model_scanner.specs.Blanks.{blanks}
+use Rattle.yaml_lexers.proofs.Common.{blanks, position_of, Reads, ◌≡◌}
 use Rattle.yaml_lexers.proofs.space.skip_blanks.Given as goal
 
 abbrev pub invariant-blanks : goal.invariant-blanks

@@ -1,6 +1,4 @@
-use Rattle.std.proofs.Common.{◌≡◌}
-use Rattle.yaml_chars.specs.WindowView.{Reads, position_of}
-use Rattle.model_scanner.specs.Blanks.{space, space_from}
+use Rattle.yaml_lexers.proofs.Common.{position_of, Reads, space, space_from, ◌≡◌}
 use Rattle.yaml_lexers.proofs.space.skip_spaces.Given as goal
 
 abbrev pub invariant-space : goal.invariant-space

@@ -1,7 +1,4 @@
-use Rattle.std.proofs.Common.{◌≡◌}
-use Rattle.yaml_chars.specs.Class.{is_alpha}
-use Rattle.yaml_chars.specs.WindowView.{Reads, position_of}
-use Rattle.model_scanner.specs.Machine.{take_while}
+use Rattle.yaml_lexers.proofs.Common.{is_alpha, position_of, Reads, take_while, ◌≡◌}
 use Rattle.yaml_lexers.proofs.tag.read_word.Given as goal
 
 abbrev pub invariant-word : goal.invariant-word

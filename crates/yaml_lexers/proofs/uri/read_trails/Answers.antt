@@ -1,5 +1,4 @@
-use Rattle.std.proofs.Common.{◌∙◌, ◌-◌}
-use Rattle.yaml_chars.proofs.WindowViewLemmas.{Reads-then}
+use Rattle.yaml_lexers.proofs.Common.{Reads-then, ◌-◌, ◌∙◌}
 use Rattle.yaml_lexers.proofs.UriLemmas.{one_trail_fewer, bits_fit, more_bits_fit}
 use Rattle.yaml_lexers.proofs.uri.read_trails.Goals as goal
 

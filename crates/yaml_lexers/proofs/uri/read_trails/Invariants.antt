@@ -1,6 +1,4 @@
-use Rattle.std.proofs.Common.{◌≡◌, ◌≤◌, ◌+◌, ◌*◌, ◌^◌, ℕ, Bool, List}
-use Rattle.yaml_chars.specs.WindowView.{Reads, position_of}
-use Rattle.model_scanner.specs.Uri.{trails_from}
+use Rattle.yaml_lexers.proofs.Common.{Bool, List, position_of, Reads, trails_from, ℕ, ◌*◌, ◌+◌, ◌^◌, ◌≡◌, ◌≤◌}
 use Rattle.yaml_lexers.proofs.uri.read_trails.Given as goal
 
 abbrev pub invariant-trails : goal.invariant-trails

@@ -1,7 +1,4 @@
-use Rattle.std.proofs.Common.{◌≡◌}
-use Rattle.yaml_chars.specs.Class.{is_uri}
-use Rattle.yaml_chars.specs.WindowView.{Reads, position_of}
-use Rattle.model_scanner.specs.Uri.{uri}
+use Rattle.yaml_lexers.proofs.Common.{is_uri, position_of, Reads, uri, ◌≡◌}
 use Rattle.yaml_lexers.proofs.uri.read_uri.Given as goal
 
 abbrev pub invariant-uri : goal.invariant-uri

@@ -1,4 +1,4 @@
-use Rattle.std.proofs.Common.{rules, ◌∙◌, sym, refl}
+use Rattle.yaml_scanner.proofs.Common.{refl, rules, sym, ◌∙◌}
 use Rattle.yaml_scanner.proofs.fetcher.Fetcher.awaits_value.Goals as goal
 
 pub returns : goal.returns

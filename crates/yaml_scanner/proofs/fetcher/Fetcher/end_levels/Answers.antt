@@ -1,20 +1,15 @@
-use Rattle.std.proofs.Common.{◌≡◌, refl, ap, ◌∙◌, ◌++◌, ◌∷◌, [], rules}
-use Rattle.yaml_scanner.specs.Shape.{held}
-use Rattle.yaml_chars.specs.WindowView.{position_of}
-use Rattle.defs_token.specs.Token.{Tok}
-use Rattle.model_scanner.specs.State.{token}
-use Rattle.model_scanner.specs.Indents.{Levels, with_levels, level}
+use Rattle.yaml_scanner.proofs.Common.{[], ap, held, level, Levels, position_of, refl, rules, Tok, token, with_levels, ◌++◌, ◌∙◌, ◌∷◌, ◌≡◌}
 use Rattle.yaml_scanner.proofs.HeldLemmas.{unroll_in_flow, unroll_done, unrolled_done, unrolled_none, unrolled_more}
 use Rattle.yaml_scanner.proofs.fetcher.Fetcher.end_levels.Goals as goal
 
-pub returns-then-in_flow-clause-held : goal.returns-then-in_flow-clause-held
-returns-then-in_flow-clause-held g c = unroll_in_flow c.args.limit (held c.args.self.now) c.in_flow.result c.in_flow.ensures c.if-in_flow.true
+pub returns-then-in_flow : goal.returns-then-in_flow
+returns-then-in_flow g c = record { held = unroll_in_flow c.args.limit (held c.args.self.now) c.in_flow.result c.in_flow.ensures c.if-in_flow.true; err = tt; bounds = search rules; window = search rules }
 
-pub returns-in_default-clause-held : goal.returns-in_default-clause-held
-returns-in_default-clause-held g c = unroll_done c.args.limit (held c.args.self.now) _ _ c.levels.invariant.flow (c.levels.invariant.levels ∙ unrolled_none _ _ _ _ _ c.in_default.ensures.0) (rw c.in_default.ensures.1 c.levels.invariant.state)
+pub returns-in_default : goal.returns-in_default
+returns-in_default g c = record { held = unroll_done c.args.limit (held c.args.self.now) _ _ c.levels.invariant.flow (c.levels.invariant.levels ∙ unrolled_none _ _ _ _ _ c.in_default.ensures.0) (rw c.in_default.ensures.1 c.levels.invariant.state); err = tt; bounds = search rules; window = search rules }
 
-pub returns-clause-held : goal.returns-clause-held
-returns-clause-held g c = unroll_done c.args.limit (held c.args.self.now) _ _ c.levels.invariant.flow (c.levels.invariant.levels ∙ unrolled_done _ _ _ _ _ (rw (← c.indent.ensures.value) c.levels-test.false)) c.levels.invariant.state
+pub returns : goal.returns
+returns g c = record { held = unroll_done c.args.limit (held c.args.self.now) _ _ c.levels.invariant.flow (c.levels.invariant.levels ∙ unrolled_done _ _ _ _ _ (rw (← c.indent.ensures.value) c.levels-test.false)) c.levels.invariant.state; err = tt; bounds = search rules; window = search rules }
 
 pub levels-preserved : goal.levels-preserved
 levels-preserved g c =

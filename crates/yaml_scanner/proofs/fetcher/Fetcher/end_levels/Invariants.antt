@@ -1,9 +1,4 @@
-use Rattle.std.proofs.Common.{◌≡◌, length, false}
-use Rattle.yaml_chars.specs.WindowView.{position_of}
-use Rattle.model_scanner.specs.State.{in_flow}
-use Rattle.model_scanner.specs.Indents.{unrolled, with_levels}
-use Rattle.yaml_scanner.specs.Shape.{held}
-use Rattle.yaml_scanner.specs.Work.{Moves}
+use Rattle.yaml_scanner.proofs.Common.{false, held, in_flow, length, Moves, position_of, unrolled, with_levels, ◌≡◌}
 use Rattle.yaml_scanner.proofs.fetcher.Fetcher.end_levels.Given as goal
 
 abbrev pub invariant-levels : goal.invariant-levels

@@ -1,35 +1,50 @@
-use Rattle.std.proofs.Common.{refl, ap, ◌+◌, ◌∙◌}
-use Rattle.yaml_scanner.specs.Shape.{held}
-use Rattle.yaml_scanner.specs.Fetched.{once}
+use Rattle.yaml_scanner.proofs.Common.{ap, arith, Fault, fetch_next, held, Ok, refl, rules, unroll_indent, ◌+◌, ◌∙◌}
+use Rattle.yaml_scanner.proofs.RunsLemmas.{always, becomes_runs, brings_as, brings_on, brings_stop, brings_then, gets, refused, runs_stop, runs_then, step_runs}
 use Rattle.yaml_scanner.proofs.NodeFollows.{fetched_rest}
-use Rattle.yaml_scanner.proofs.DoesLemmas.{ok_then, err_then, fails_in, fails_then, does_then}
-use Rattle.yaml_scanner.proofs.DispatchLemmas.{fails_from, fails_after, fetched, space_refused, key_refused, here_refused, last_refused}
 use Rattle.yaml_scanner.proofs.fetcher.Fetcher.fetch_next.Goals as goal
 
-pub returns-in-Err-clause-fails : goal.returns-in-Err-clause-fails
-returns-in-Err-clause-fails g c =
-    fails_in c.args.self.now c.args.self.now c.skip_to_next_token.new.self c.skip_to_next_token.new.self _ refl refl c.in-Err.ensures.fails (λ a p. space_refused a (held c.args.self.now) _ p)
+pub returns-in-Err : goal.returns-in-Err
+unfolding fetch_next
+returns-in-Err g c = gets _ _ _ (brings_as _ _ _ (refused _ _ _ _ (runs_stop _ _ _ _ c.in-Err.ensures.runs)) (λ a. refl)) tt
 
-pub returns-in-Err-drop_stale-clause-fails : goal.returns-in-Err-drop_stale-clause-fails
-returns-in-Err-drop_stale-clause-fails g c =
-    fails_from c.args.self.now c.skip_to_next_token.new.self c.drop_stale.new.self _ c.in-Err-drop_stale.ensures.window c.in_default.ensures.does (λ a b p. key_refused a b (held c.args.self.now) (held c.skip_to_next_token.new.self) _ p c.in-Err-drop_stale.ensures.fault)
+pub returns-in-Err-drop_stale : goal.returns-in-Err-drop_stale
+unfolding fetch_next
+returns-in-Err-drop_stale g c = gets _ _ _ (brings_as _ _ _ (refused _ _ _ _ (runs_then _ _ _ _ _ c.in_default.ensures.runs (runs_stop _ _ _ _ (step_runs _ _ _ c.in-Err-drop_stale.ensures)))) (λ a. refl)) tt
 
-pub returns-in-Err-fetch_here-clause-fails : goal.returns-in-Err-fetch_here-clause-fails
-returns-in-Err-fetch_here-clause-fails g c =
-    fails_then c.args.self.now c.args.self.now c.skip_to_next_token.new.self c.fetch_node.new.self c.fetch_here.new.self c.fetch_here.new.self _ refl (ap (λ s. s.window) (c.in-Ok-false.ensures.none c.in-Ok-false.field-0-test) ∙ c.in_default-unroll_indent.ensures.window ∙ c.in_default-drop_stale.ensures.window) refl c.in_default.ensures.does c.in-Err-fetch_here.ensures.fails
-    (λ a b p q. here_refused a b (held c.args.self.now) (held c.skip_to_next_token.new.self) (held c.drop_stale.new.self) (held c.fetch_node.new.self) _ _ p c.in_default-drop_stale.ensures.held (ap (λ n. n + 1) (c.col-limit.ensures.value ∙ ap (λ m. m.col) c.mark.ensures)) (ap held (c.in-Ok-false.ensures.none c.in-Ok-false.field-0-test) ∙ c.in_default-unroll_indent.ensures.held) q)
+pub returns-in-Err-fetch_here : goal.returns-in-Err-fetch_here
+unfolding fetch_next
+returns-in-Err-fetch_here g c = gets _ _ _ (brings_as _ _ _ (brings_then _ _ _ _ _ c.in_default.ensures.runs
+    (brings_then _ _ _ _ _ (step_runs _ _ _ c.in_default-drop_stale.ensures)
+    (brings_then _ _ _ _ _ (becomes_runs {X = Unit {0}} {E = Fault} {g = λ s. unroll_indent (s.position.col + 1) s} c.drop_stale.new.self c.fetch_node.new.self (Ok tt) (record {
+      held = ap held (c.in-Ok-false.ensures.none c.in-Ok-false.field-0-test) ∙ c.in_default-unroll_indent.ensures.held ∙ ap (λ n. unroll_indent n (held c.drop_stale.new.self)) (ap (λ n. n + 1) (c.col-limit.ensures.value ∙ ap (λ m. m.col) c.mark.ensures));
+      err = tt;
+      bounds = rw (c.in-Ok-false.ensures.none c.in-Ok-false.field-0-test) c.in_default-unroll_indent.ensures.bounds;
+      window = ap (λ s. s.window) (c.in-Ok-false.ensures.none c.in-Ok-false.field-0-test) ∙ c.in_default-unroll_indent.ensures.window;
+    }))
+    (brings_stop _ _ _ _ _ c.in-Err-fetch_here.ensures.runs)))) (λ a. refl)) tt
 
-pub returns-clause-fails : goal.returns-clause-fails
-returns-clause-fails g c = err_then c.drop_stale-2.result
-    (λ e fault. fails_after c.args.self.now c.skip_to_next_token.new.self c.fetch_node.new.self c.fetch_here.new.self c.drop_stale-2.new.self _ (ap (λ s. s.window) (c.in-Ok-false.ensures.none c.in-Ok-false.field-0-test) ∙ c.in_default-unroll_indent.ensures.window ∙ c.in_default-drop_stale.ensures.window) c.drop_stale-2.ensures.window c.in_default.ensures.does c.in_default-fetch_here.ensures.does
-    (λ a b d p q. last_refused a b d (held c.args.self.now) (held c.skip_to_next_token.new.self) (held c.drop_stale.new.self) (held c.fetch_node.new.self) (held c.fetch_here.new.self) _ _ p c.in_default-drop_stale.ensures.held (ap (λ n. n + 1) (c.col-limit.ensures.value ∙ ap (λ m. m.col) c.mark.ensures)) (ap held (c.in-Ok-false.ensures.none c.in-Ok-false.field-0-test) ∙ c.in_default-unroll_indent.ensures.held) q fault)) c.drop_stale-2.ensures.fault
+pub returns : goal.returns
+unfolding fetch_next
+returns g c = gets _ _ _ (brings_as _ _ _ (brings_then _ _ _ _ _ c.in_default.ensures.runs
+    (brings_then _ _ _ _ _ (step_runs _ _ _ c.in_default-drop_stale.ensures)
+    (brings_then _ _ _ _ _ (becomes_runs {X = Unit {0}} {E = Fault} {g = λ s. unroll_indent (s.position.col + 1) s} c.drop_stale.new.self c.fetch_node.new.self (Ok tt) (record {
+      held = ap held (c.in-Ok-false.ensures.none c.in-Ok-false.field-0-test) ∙ c.in_default-unroll_indent.ensures.held ∙ ap (λ n. unroll_indent n (held c.drop_stale.new.self)) (ap (λ n. n + 1) (c.col-limit.ensures.value ∙ ap (λ m. m.col) c.mark.ensures));
+      err = tt;
+      bounds = rw (c.in-Ok-false.ensures.none c.in-Ok-false.field-0-test) c.in_default-unroll_indent.ensures.bounds;
+      window = ap (λ s. s.window) (c.in-Ok-false.ensures.none c.in-Ok-false.field-0-test) ∙ c.in_default-unroll_indent.ensures.window;
+    }))
+    (brings_on _ _ _ _ _ c.in_default-fetch_here.ensures.runs (step_runs _ _ _ c.drop_stale-2.ensures))))) (λ a. refl))
+    (always c.drop_stale-2.result (λ e. rw c.drop_stale-2.ensures.window (c.in_default-fetch_here.ensures.done (rw (← c.drop_stale-2.ensures.bounds.stop) e))))
 
-pub returns-clause-does : goal.returns-clause-does
-returns-clause-does g c = ok_then c.drop_stale-2.result
-    (λ new. once (does_then c.args.self.now c.args.self.now c.skip_to_next_token.new.self c.fetch_node.new.self c.fetch_here.new.self c.drop_stale-2.new.self refl (ap (λ s. s.window) (c.in-Ok-false.ensures.none c.in-Ok-false.field-0-test) ∙ c.in_default-unroll_indent.ensures.window ∙ c.in_default-drop_stale.ensures.window) c.drop_stale-2.ensures.window c.in_default.ensures.does c.in_default-fetch_here.ensures.does
-    (λ a b d p q. fetched a b d (held c.args.self.now) (held c.skip_to_next_token.new.self) (held c.drop_stale.new.self) (held c.fetch_node.new.self) (held c.fetch_here.new.self) (held c.drop_stale-2.new.self) _ p c.in_default-drop_stale.ensures.held (ap (λ n. n + 1) (c.col-limit.ensures.value ∙ ap (λ m. m.col) c.mark.ensures)) (ap held (c.in-Ok-false.ensures.none c.in-Ok-false.field-0-test) ∙ c.in_default-unroll_indent.ensures.held) q new))) c.drop_stale-2.ensures.held
-
-pub returns-in-Ok-true-clause-does : goal.returns-in-Ok-true-clause-does
-returns-in-Ok-true-clause-does g c =
-    fetched_rest c.args.self.now c.skip_to_next_token.new.self c.drop_stale.new.self c.unroll_indent.new.self c.fetch_node.new.self _ (c.in_default-unroll_indent.ensures.window ∙ c.in_default-drop_stale.ensures.window) c.in_default.ensures.does c.in_default-drop_stale.ensures.held
-    (ap (λ n. n + 1) (c.col-limit.ensures.value ∙ ap (λ m. m.col) c.mark.ensures)) c.in_default-unroll_indent.ensures.held (c.in-Ok-true.ensures.does c.in-Ok-true.field-0-test)
+pub returns-in-Ok-true : goal.returns-in-Ok-true
+returns-in-Ok-true g c = let m = c.in-Ok-true.ensures.bounds c.in-Ok-true.field-0-test in
+    let n = c.in_default-unroll_indent.ensures.bounds in
+    let o = c.in_default-drop_stale.ensures.bounds in
+    let p = c.in_default.ensures.runs.bounds in
+    record {
+      does = fetched_rest c.args.self.now c.skip_to_next_token.new.self c.drop_stale.new.self c.unroll_indent.new.self c.fetch_node.new.self _ _ _ _ (c.in_default-unroll_indent.ensures.window ∙ c.in_default-drop_stale.ensures.window) c.in_default.ensures.runs c.in_default-drop_stale.ensures.comes
+          (ap (λ n. n + 1) (c.col-limit.ensures.value ∙ ap (λ m. m.col) c.mark.ensures)) c.in_default-unroll_indent.ensures.held (c.in-Ok-true.ensures.does c.in-Ok-true.field-0-test);
+      done = λ e. absurd (cc (m.stop, n.stop, o.stop, p.stop, c.requires.going, e));
+      less = omega (arith, m.bound, n.bound, o.bound, p.bound);
+      run = search rules;
+    }

@@ -1,17 +1,20 @@
-use Rattle.std.proofs.Common.{refl}
-use Rattle.yaml_chars.specs.WindowView.{position_of}
-use Rattle.yaml_scanner_state.specs.ImplicitKeys.{seen}
-use Rattle.yaml_scanner.specs.Shape.{held}
-use Rattle.yaml_scanner.proofs.DoesLemmas.{fails_kept, Reads-along, Reads-map}
+use Rattle.yaml_scanner.proofs.Common.{held, position_of, refl, rules, seen}
+use Rattle.yaml_scanner.proofs.ReadsLemmas.{Reads-along, Reads-map}
 use Rattle.yaml_scanner.proofs.NodeLemmas.{next_position, stream_ended, stream_refused}
 use Rattle.yaml_scanner.proofs.fetcher.Fetcher.fetch_stream_end.Goals as goal
 
-pub returns-then-has_required-clause-fails : goal.returns-then-has_required-clause-fails
-returns-then-has_required-clause-fails g c = fails_kept _ _ _ c.fail_here.ensures.window c.fail_here.ensures.fault (Reads-map _ _ c.end_line.ensures.reads (λ a b p n. stream_refused a (held c.args.self.now) c.has_required.result _ (next_position c.args.self.now.window c.end_line.new.self c.end_line.ensures.state) (c.has_required.ensures c.args.self.now.tokens.given) c.if-has_required.true))
+pub returns-then-has_required-clause-runs : goal.returns-then-has_required-clause-runs
+returns-then-has_required-clause-runs g c = record {
+  comes = rw c.fail_here.ensures.fault (Reads-along _ _ _ _ refl c.fail_here.ensures.window (Reads-map _ _ c.end_line.ensures.reads (λ a b p n. stream_refused a (held c.args.self.now) c.has_required.result _ (next_position c.args.self.now.window c.end_line.new.self c.end_line.ensures.state) (c.has_required.ensures c.args.self.now.tokens.given) c.if-has_required.true)));
+  less = tt;
+  run = search rules;
+}
 
-pub returns-clause-does : goal.returns-clause-does
-returns-clause-does g c = record {
-  runs = Reads-along _ _ _ _ refl c.in_ok-unroll_indent.ensures.window (Reads-map _ _ c.end_line.ensures.reads (λ a b p. rw p (stream_ended a (held c.args.self.now)
+pub returns-clause-runs : goal.returns-clause-runs
+returns-clause-runs g c = record {
+  comes = Reads-along _ _ _ _ refl c.in_ok-unroll_indent.ensures.window (Reads-map _ _ c.end_line.ensures.reads (λ a b p. rw p (stream_ended a (held c.args.self.now)
       (record (held c.args.self.now) { position = position_of c.end_line.new.self; keys = seen c.args.self.now.tokens.given c.clear.new.self }) (held c.unroll_indent.new.self) _ c.has_required.result (seen c.args.self.now.tokens.given c.clear.new.self) (position_of c.end_line.new.self) c.mark-mark.result
       (next_position c.args.self.now.window c.end_line.new.self c.end_line.ensures.state) (c.has_required.ensures c.args.self.now.tokens.given) c.if-has_required.false (c.clear.ensures c.args.self.now.tokens.given) refl c.in_ok-unroll_indent.ensures.held c.mark-mark.ensures (rw c.in_default.ensures.ok refl))));
+  less = search rules;
+  run = search rules;
 }

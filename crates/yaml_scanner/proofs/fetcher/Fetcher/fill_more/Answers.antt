@@ -1,4 +1,4 @@
-use Rattle.std.proofs.Common.{false, refl}
+use Rattle.yaml_scanner.proofs.Common.{false, refl}
 use Rattle.yaml_scanner.proofs.fetcher.Fetcher.fill_more.Goals as goal
 
 -- no token was ready

@@ -1,6 +1,4 @@
-use Rattle.std.proofs.Common.{◌≡◌, ◌≤◌, None, true}
-use Rattle.yaml_scanner.specs.Follows.{Follows}
-use Rattle.yaml_scanner.specs.Work.{Fetches, work}
+use Rattle.yaml_scanner.proofs.Common.{Fetches, Follows, None, true, work, ◌≡◌, ◌≤◌}
 use Rattle.yaml_scanner.proofs.fetcher.Fetcher.fill_more.Given as goal
 
 abbrev pub invariant-tokens : goal.invariant-tokens

@@ -1,5 +1,4 @@
-use Rattle.std.proofs.Common.{refl, false}
-use Rattle.yaml_tokens.specs.declared.problem.Fault.TheVariants.{OutOfMemory}
+use Rattle.yaml_scanner.proofs.Common.{false, OutOfMemory, refl}
 use Rattle.yaml_scanner.proofs.FollowLemmas.{held_up}
 use Rattle.yaml_scanner.proofs.fetcher.Fetcher.hold_up.Goals as goal
 

@@ -1,5 +1,4 @@
-use Rattle.std.proofs.Common.{refl, ap}
-use Rattle.yaml_scanner_state.specs.Tokens.{handed}
+use Rattle.yaml_scanner.proofs.Common.{ap, handed, refl}
 use Rattle.yaml_scanner.proofs.FollowLemmas.{starts}
 use Rattle.yaml_scanner.proofs.fetcher.Fetcher.new.Goals as goal
 

@@ -1,6 +1,4 @@
-use Rattle.std.proofs.Common.{◌≡◌, ◌-◌, subst}
-use Rattle.std.specs.Option.{IfSome}
-use Rattle.yaml_chars.specs.BlockLines.{TakesKey}
+use Rattle.yaml_scanner.proofs.Common.{IfSome, subst, TakesKey, ◌-◌, ◌≡◌}
 use Rattle.yaml_scanner.proofs.PairFollows.{key_handed, key_follows}
 use Rattle.yaml_scanner.proofs.fetcher.Fetcher.next_key.Goals as goal
 

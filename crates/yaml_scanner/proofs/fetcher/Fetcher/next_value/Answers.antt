@@ -1,8 +1,4 @@
-use Rattle.std.proofs.Common.{subst, ◌≡◌}
-use Rattle.std.specs.Option.{IfSome}
-use Rattle.model_scanner.specs.Machine.{past}
-use Rattle.yaml_chars.specs.WindowView.{position_of}
-use Rattle.yaml_chars.specs.BlockLines.{TakesValue}
+use Rattle.yaml_scanner.proofs.Common.{IfSome, past, position_of, subst, TakesValue, ◌≡◌}
 use Rattle.yaml_scanner.proofs.PairFollows.{value_handed, value_follows}
 use Rattle.yaml_scanner.proofs.fetcher.Fetcher.next_value.Goals as goal
 

@@ -1,8 +1,5 @@
-use Rattle.std.proofs.Common.{◌∙◌, ap, sym, true, false}
-use Rattle.yaml_chars.specs.WindowView.{position_of}
-use Rattle.model_scanner.specs.Space.{skip, between, white}
-use Rattle.yaml_scanner.specs.Shape.{held}
-use Rattle.yaml_scanner.proofs.DoesLemmas.{Reads-map}
+use Rattle.yaml_scanner.proofs.Common.{ap, between, false, held, position_of, skip, sym, true, white, ◌∙◌}
+use Rattle.yaml_scanner.proofs.ReadsLemmas.{Reads-map}
 use Rattle.yaml_scanner.proofs.SpaceLemmas.{gap_break, white_break}
 use Rattle.yaml_scanner.proofs.fetcher.Fetcher.pass_break.Goals as goal
 

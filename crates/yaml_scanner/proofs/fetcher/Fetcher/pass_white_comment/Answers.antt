@@ -1,7 +1,4 @@
-use Rattle.std.proofs.Common.{◌∙◌, ap, ◌∷◌}
-use Rattle.yaml_chars.specs.WindowView.{position_of}
-use Rattle.yaml_chars.proofs.WindowViewLemmas.{Reads-then}
-use Rattle.yaml_scanner.specs.Shape.{held}
+use Rattle.yaml_scanner.proofs.Common.{ap, held, position_of, Reads-then, ◌∙◌, ◌∷◌}
 use Rattle.yaml_scanner.proofs.SpaceLemmas.{white_hash, white_comment}
 use Rattle.yaml_scanner.proofs.fetcher.Fetcher.pass_white_comment.Goals as goal
 

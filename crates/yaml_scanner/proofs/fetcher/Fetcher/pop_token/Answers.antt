@@ -1,7 +1,5 @@
-use Rattle.std.proofs.Common.{◌≡◌, ◌+◌, ◌||◌, ◌++◌, ◌∷◌, [], subst}
-use Rattle.std.specs.Option.{IfSome}
+use Rattle.yaml_scanner.proofs.Common.{[], handed, IfSome, is_end, subst, ◌++◌, ◌+◌, ◌||◌, ◌∷◌, ◌≡◌}
 use Rattle.yaml_tokens.specs.Shown.{shown}
-use Rattle.yaml_scanner_state.specs.Tokens.{handed, is_end}
 use Rattle.yaml_scanner.proofs.FollowLemmas.{handed_on}
 use Rattle.yaml_scanner.proofs.fetcher.Fetcher.pop_token.Goals as goal
 

@@ -1,8 +1,4 @@
-use Rattle.std.proofs.Common.{◌≡◌}
-use Rattle.yaml_chars.specs.WindowView.{Reads}
-use Rattle.model_scanner.specs.Space.{skip, between}
-use Rattle.yaml_scanner.specs.Shape.{held}
-use Rattle.yaml_scanner.specs.Work.{Moves}
+use Rattle.yaml_scanner.proofs.Common.{between, held, Moves, Reads, skip, ◌≡◌}
 use Rattle.yaml_scanner.proofs.fetcher.Fetcher.skip_gap.Given as goal
 
 abbrev pub invariant-space : goal.invariant-space

@@ -1,8 +1,4 @@
-use Rattle.std.proofs.Common.{◌≡◌, ◌<◌, slice_index, true}
-use Rattle.yaml_chars.specs.WindowView.{Reads}
-use Rattle.model_scanner.specs.Space.{skip, between, tab_line, is_before_indent}
-use Rattle.yaml_scanner.specs.Shape.{held}
-use Rattle.yaml_scanner.specs.Work.{Moves}
+use Rattle.yaml_scanner.proofs.Common.{between, held, is_before_indent, Moves, Reads, skip, slice_index, tab_line, true, ◌<◌, ◌≡◌}
 use Rattle.yaml_scanner.proofs.fetcher.Fetcher.skip_tab_line.Given as goal
 
 abbrev pub invariant-tabs : goal.invariant-tabs

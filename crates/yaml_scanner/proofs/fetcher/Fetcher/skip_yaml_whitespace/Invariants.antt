@@ -1,8 +1,4 @@
-use Rattle.std.proofs.Common.{◌≡◌, false}
-use Rattle.yaml_chars.specs.WindowView.{Reads}
-use Rattle.model_scanner.specs.Space.{white}
-use Rattle.yaml_scanner.specs.Shape.{held}
-use Rattle.yaml_scanner.specs.Work.{Moves}
+use Rattle.yaml_scanner.proofs.Common.{false, held, Moves, Reads, white, ◌≡◌}
 use Rattle.yaml_scanner.proofs.fetcher.Fetcher.skip_yaml_whitespace.Given as goal
 
 abbrev pub invariant-space : goal.invariant-space

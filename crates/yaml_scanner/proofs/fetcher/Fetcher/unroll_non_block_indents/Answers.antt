@@ -1,11 +1,9 @@
-use Rattle.std.proofs.Common.{ap, ◌∙◌, sym, rules}
-use Rattle.yaml_scanner.specs.Shape.{held}
-use Rattle.model_scanner.specs.Indents.{Levels, with_levels}
+use Rattle.yaml_scanner.proofs.Common.{ap, held, Levels, rules, sym, with_levels, ◌∙◌}
 use Rattle.yaml_scanner.proofs.HeldLemmas.{open_popped, without_block, without_more, without_done}
 use Rattle.yaml_scanner.proofs.fetcher.Fetcher.unroll_non_block_indents.Goals as goal
 
-pub returns-clause-held : goal.returns-clause-held
-returns-clause-held g c = without_done (held c.args.self.now) _ _ (c.levels.invariant.levels ∙ without_block _ _ _ (sym c.is_open.ensures ∙ c.levels-test.false)) c.levels.invariant.state
+pub returns-clause-runs : goal.returns-clause-runs
+returns-clause-runs g c = record { held = without_done (held c.args.self.now) _ _ (c.levels.invariant.levels ∙ without_block _ _ _ (sym c.is_open.ensures ∙ c.levels-test.false)) c.levels.invariant.state; bounds = search rules; window = search rules }
 
 pub levels-preserved : goal.levels-preserved
 levels-preserved g c =

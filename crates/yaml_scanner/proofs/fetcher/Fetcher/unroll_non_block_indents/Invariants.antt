@@ -1,7 +1,4 @@
-use Rattle.std.proofs.Common.{◌≡◌, length}
-use Rattle.model_scanner.specs.Indents.{without_open, with_levels}
-use Rattle.yaml_scanner.specs.Shape.{held}
-use Rattle.yaml_scanner.specs.Work.{Moves}
+use Rattle.yaml_scanner.proofs.Common.{held, length, Moves, with_levels, without_open, ◌≡◌}
 use Rattle.yaml_scanner.proofs.fetcher.Fetcher.unroll_non_block_indents.Given as goal
 
 abbrev pub invariant-levels : goal.invariant-levels

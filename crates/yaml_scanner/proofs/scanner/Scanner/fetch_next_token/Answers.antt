@@ -1,4 +1,4 @@
-use Rattle.std.proofs.Common.{true}
+use Rattle.yaml_scanner.proofs.Common.{true}
 use Rattle.yaml_scanner.proofs.FollowLemmas.{scans_from}
 use Rattle.yaml_scanner.proofs.scanner.Scanner.fetch_next_token.Goals as goal
 

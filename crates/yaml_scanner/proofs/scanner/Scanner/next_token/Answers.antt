@@ -1,4 +1,4 @@
-use Rattle.std.proofs.Common.{◌∙◌, sym}
+use Rattle.yaml_scanner.proofs.Common.{sym, ◌∙◌}
 use Rattle.yaml_scanner.proofs.FollowLemmas.{scans_from, leaves_no_row}
 use Rattle.yaml_scanner.proofs.scanner.Scanner.next_token.Goals as goal
 
