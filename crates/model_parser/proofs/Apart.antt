@@ -1,8 +1,5 @@
 -- No anchor stands right after another in a stream: each node has one at most, and no node stands right after another.
-use Rattle.std.proofs.Common.{◌≡◌, ℕ, List, [], ◌∷◌, ◌++◌, Bool, true, false, not, ◌&&◌, refl, sym, ap, ◌∙◌}
-use Rattle.defs_token.specs.Token.{Tok}
-use Rattle.defs_event.specs.Stream.{StreamSays}
-use Rattle.defs_event.specs.Raw.{Raw}
+use Rattle.model_parser.proofs.Common.{[], ap, Bool, false, List, not, Raw, refl, StreamSays, sym, Tok, true, ℕ, ◌&&◌, ◌++◌, ◌∙◌, ◌∷◌, ◌≡◌}
 use Rattle.model_parser.proofs.Orderly.{is_anchor, may_stand, is_orderly, stream_is_orderly}
 
 and_false : (b : Bool) → (b && false) ≡ false

@@ -1,6 +1,5 @@
 -- What a derivation came by: its first work, and the row of its next token.
-use Rattle.std.proofs.Common.{◌≡◌, List, ◌∷◌, Some, None, refl, subst}
-use Rattle.defs_event.specs.Table.{Part, takes, leaves, Table, row_of, Work, reading, saying, before, Derives, says, by_taking, by_leaving}
+use Rattle.model_parser.proofs.Common.{before, by_leaving, by_taking, Derives, leaves, List, None, Part, reading, refl, row_of, saying, says, Some, subst, Table, takes, Work, ◌∷◌, ◌≡◌}
 
 pub taken_by : {G T E H : Type 0} {a : Table G T E H} {g : G} {h : H} {w : List (Work G E H)} {t : T} {ts : List T} {es : List E}
     → Derives a (reading g h ∷ w) (t ∷ ts) es → (ps : List (Part G E)) → row_of (a.cases g) t ≡ Some (takes ps) → Derives a (before a h t ps w) ts es

@@ -1,16 +1,6 @@
 -- The turns carry where a parser stands.
-use Rattle.std.proofs.Common.{◌≡◌, ◌⊎◌, inl, inr, List, [], ◌∷◌, ◌++◌, Option, Some, None, true, refl, sym, ap, ◌∙◌, append_assoc, subst}
-use Rattle.std.proofs.lemmas.Bool.{both_ways}
-use Rattle.defs_token.specs.Token.{Tok}
-use Rattle.defs_event.specs.Raw.{Raw}
-use Rattle.defs_event.specs.Stream.{StreamSays}
-use Rattle.model_parser.specs.declared.state.State.{State}
-use Rattle.model_parser.specs.Goal.{Goal}
-use Rattle.defs_event.specs.Place.{Collection, open_past, open_after, Next, next_past, next_after, other_next}
-use Rattle.model_parser.specs.Place.{next_at, top, is_node, is_after, is_directive_next, is_past_directives}
-use Rattle.model_parser.specs.Rest.{Awaits}
-use Rattle.model_parser.specs.Stands.{IsOnTrack, IsNext, GoesOn, IsSettled, as_tokens, goes_on, at_directive}
-use Rattle.model_parser.specs.Turn.{Takes, Leaves, MayCome, Settles, alike, alike_after, without_node, before_directive, event_then, then_event}
+use Rattle.model_parser.proofs.Common.{[], alike, alike_after, ap, append_assoc, as_tokens, at_directive, Awaits, before_directive, both_ways, Collection, event_then, Goal, goes_on, inl, inr, is_after, is_directive_next, is_node, is_past_directives, IsNext, IsSettled, Leaves, List, MayCome, Next, next_after, next_at, next_past, None, open_after, open_past, Option, other_next, Raw, refl, Settles, Some, State, StreamSays, subst, sym, Takes, then_event, Tok, top, true, without_node, ◌++◌, ◌∙◌, ◌∷◌, ◌≡◌, ◌⊎◌}
+use Rattle.model_parser.specs.Stands.{IsOnTrack, GoesOn}
 
 event_along : (given fs : List Raw) (e : Option Raw) → given ++ event_then e fs ≡ then_event given e ++ fs
 event_along given fs None = refl

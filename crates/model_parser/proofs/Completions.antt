@@ -1,7 +1,5 @@
 -- Where each goal of a table can be read to an end, all work can.
-use Rattle.std.proofs.Common.{◌≡◌, List, [], ◌∷◌, ◌++◌, refl, ap, subst}
-use Rattle.defs_event.specs.Table.{Part, Table, Work, reading, saying, part_work, before, Derives, nothing_left, says, by_taking, by_leaving}
-use Rattle.model_parser.specs.Outcome.{Begins}
+use Rattle.model_parser.proofs.Common.{[], ap, before, Begins, by_leaving, by_taking, Derives, List, nothing_left, Part, part_work, reading, refl, saying, says, subst, Table, Work, ◌++◌, ◌∷◌, ◌≡◌}
 
 pub before_along : {G T E H : Type 0} (a : Table G T E H) (h : H) (t : T) (ps : List (Part G E)) (w v : List (Work G E H)) → before a h t ps w ++ v ≡ before a h t ps (w ++ v)
 before_along a h t [] w v = refl

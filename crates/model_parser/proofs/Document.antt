@@ -1,75 +1,63 @@
 -- The turns between documents.
-use Rattle.std.proofs.Common.{inl, inr, ◌≡◌, ◌≢◌, List, [], ◌∷◌, ◌++◌, Option, Some, None, true, false, refl, ap, ◌∙◌}
-use Rattle.defs_text.specs.Position.{Position}
-use Rattle.defs_token.specs.Token.{Tok, Token}
-use Rattle.defs_event.specs.Raw.{Raw, Directive, nothing_written}
-use Rattle.defs_event.specs.Properties.{directive_token}
+use Rattle.model_parser.proofs.Common.{[], alike, alike_after, ap, Awaits, AwaitsAt, begins_node, Directive, directive_token, ends_content, ends_document, Extent, false, Goal, inl, inr, is_directive, IsNext, IsThere, kind_of, Leaves, List, None, nothing_written, Option, placed, Places, Position, Raw, refl, Refuses, row_of, Some, State, Takes, Then, Tok, Token, true, without_node, work_of, works, ◌++◌, ◌∙◌, ◌∷◌, ◌≡◌, ◌≢◌}
+use Rattle.model_parser.proofs.StepRows.{by_row, takes_so, Stays, by_steps, alike_reads, after_steps, refuses, not_refused, reads_first, placed_alike, needs_tokens, Leads, leaves_so, refuses_so}
+use Rattle.model_parser.proofs.Settling.{no_directive, content_settles, explicit_goes, directive_goes, comes_so}
 use Rattle.defs_event.specs.Table as part
-use Rattle.defs_event.specs.Table.{row_of}
 use Rattle.defs_event.specs.Grammar as table
 use Rattle.defs_event.specs.Stream as places
-use Rattle.defs_event.specs.Stream.{Extent, Places}
 use Rattle.model_parser.specs.declared.kind.Kind.TheVariants as kind
 use Rattle.model_parser.specs.declared.context.NodeContext.TheVariants as context
-use Rattle.model_parser.specs.declared.state.State.{State}
 use Rattle.model_parser.specs.declared.state.State.TheVariants as state
-use Rattle.model_parser.specs.Kinds.{kind_of, begins_node, ends_document, ends_content, is_directive}
-use Rattle.model_parser.specs.Goal as at
-use Rattle.model_parser.specs.Rest.{work_of, works, placed, Awaits, AwaitsAt}
-use Rattle.model_parser.specs.Stands.{IsNext}
-use Rattle.model_parser.specs.Turn.{Then, IsThere, Takes, Leaves, Refuses, alike, alike_after, without_node}
-use Rattle.model_parser.proofs.StepRows.{by_row, takes_so, Stays, by_steps, alike_reads, after_steps, refuses, not_refused, reads_first, placed_alike, needs_tokens, Leads, leaves_so, refuses_so}
-use Rattle.model_parser.proofs.Settling.{no_directive, content_settles, explicit_comes, directive_comes}
 
-pub start_takes : (ss : List State) → Takes at.start ss Tok.stream_start (Some Raw.stream_start) at.done (state.ImplicitDocumentStart ∷ ss)
+pub start_takes : (ss : List State) → Takes Goal.start ss Tok.stream_start (Some Raw.stream_start) Goal.done (state.ImplicitDocumentStart ∷ ss)
 start_takes ss = takes_so (λ n f. ((f, n), tt)) (λ f. (refl, (λ k. refl), by_row _ refl refl)) refl (λ f. refl) (λ f. refl)
 
-pub start_refuses : (ss : List State) (t : Tok) → kind_of t ≢ kind.StreamStart → Refuses at.start ss t
-start_refuses ss t a = refuses_so at.start ss t 9 (λ f. by t a)
+pub start_refuses : (ss : List State) (t : Tok) → kind_of t ≢ kind.StreamStart → Refuses Goal.start ss t
+start_refuses ss t a = refuses_so Goal.start ss t 9 (λ f. by t a)
   where
-    by : (t : Tok) → kind_of t ≢ kind.StreamStart → refuses 9 t (work_of at.start ss) ≡ true
+    by : (t : Tok) → kind_of t ≢ kind.StreamStart → refuses 9 t (work_of Goal.start ss) ≡ true
     by Tok.stream_start a = absurd (a refl)
     by t a = refl
 
 -- ---- where a document may do without `---`
 
-pub documents_marker : (ss : List State) → Takes at.documents ss Tok.document_end None at.documents ss
+pub documents_marker : (ss : List State) → Takes Goal.documents ss Tok.document_end None Goal.documents ss
 documents_marker ss = takes_so (λ n f. (n, f)) (λ f. (refl, (λ k. refl), by_row _ refl refl)) refl (λ f. refl) (λ f. refl)
 
-explicit_from : (ss : List State) (u : Tok) → refuses 9 u (work_of at.explicit ss) ≡ false → Leads 1 at.documents ss None at.explicit ss u
+explicit_from : (ss : List State) (u : Tok) → refuses 9 u (work_of Goal.explicit ss) ≡ false → Leads 1 Goal.documents ss None Goal.explicit ss u
 explicit_from ss Tok.stream_end r = refl
 explicit_from ss u r = cc
 
-explicit_on : (ss : List State) (t : Tok) → ends_document (kind_of t) ≡ true → kind_of t ≢ kind.DocumentEnd → Leads 1 at.documents ss None at.explicit ss t
+explicit_on : (ss : List State) (t : Tok) → ends_document (kind_of t) ≡ true → kind_of t ≢ kind.DocumentEnd → Leads 1 Goal.documents ss None Goal.explicit ss t
 explicit_on ss Tok.document_end e a = absurd (a refl)
 explicit_on ss t e a = cc
 
-pub documents_explicit : (ss : List State) (t : Tok) → ends_document (kind_of t) ≡ true → kind_of t ≢ kind.DocumentEnd → begins_node context.Block (kind_of t) ≡ false → Leaves at.documents ss (Some t) None at.explicit ss
-documents_explicit ss t e a b = leaves_so 1 (λ n f. (n, f)) (λ f. refl) (λ f u r m. explicit_from ss u (r 9)) (λ f r m. explicit_on ss t e a) refl (λ f. without_node refl (explicit_comes ss t e)) (λ f h. inr (no_directive (kind_of t) e))
+pub documents_explicit : (ss : List State) (t : Tok) → ends_document (kind_of t) ≡ true → kind_of t ≢ kind.DocumentEnd → begins_node context.Block (kind_of t) ≡ false → Leaves Goal.documents ss (Some t) None Goal.explicit ss
+documents_explicit ss t e a b = leaves_so 1 (λ n f. (n, f)) (λ f. refl) (λ f u r m. explicit_from ss u (r 9)) (λ f r m. explicit_on ss t e a) refl (λ f. without_node refl (comes_so Goal.documents ss t (explicit_goes ss t e))) (λ f h. inr (no_directive (kind_of t) e))
 
-bare_from : (ss : List State) (u : Tok) → begins_node context.Block (kind_of u) ≡ true → Leads 2 at.documents ss (Some (Raw.document_start [])) at.done (state.BlockNode ∷ state.DocumentEnd ∷ ss) u
+bare_from : (ss : List State) (u : Tok) → begins_node context.Block (kind_of u) ≡ true → Leads 2 Goal.documents ss (Some (Raw.document_start [])) Goal.done (state.BlockNode ∷ state.DocumentEnd ∷ ss) u
 bare_from ss Tok.flow_sequence_start m = refl
 bare_from ss u m = cc
 
-bare_on : (ss : List State) (t : Tok) → ends_document (kind_of t) ≡ false → is_directive (kind_of t) ≡ false → refuses 9 t (work_of at.documents ss) ≡ false → Leads 2 at.documents ss (Some (Raw.document_start [])) at.done (state.BlockNode ∷ state.DocumentEnd ∷ ss) t
+bare_on : (ss : List State) (t : Tok) → ends_document (kind_of t) ≡ false → is_directive (kind_of t) ≡ false → refuses 9 t (work_of Goal.documents ss) ≡ false → Leads 2 Goal.documents ss (Some (Raw.document_start [])) Goal.done (state.BlockNode ∷ state.DocumentEnd ∷ ss) t
 bare_on ss Tok.flow_sequence_start e a r = refl
 bare_on ss t e a r = cc
 
-pub documents_bare : (ss : List State) (t : Tok) → ends_document (kind_of t) ≡ false → is_directive (kind_of t) ≡ false → Leaves at.documents ss (Some t) (Some (Raw.document_start [])) at.done (state.BlockNode ∷ state.DocumentEnd ∷ ss)
+pub documents_bare : (ss : List State) (t : Tok) → ends_document (kind_of t) ≡ false → is_directive (kind_of t) ≡ false → Leaves Goal.documents ss (Some t) (Some (Raw.document_start [])) Goal.done (state.BlockNode ∷ state.DocumentEnd ∷ ss)
 documents_bare ss t e a = leaves_so 2 (λ n f. (((refl, refl), (f, n)), tt)) (λ f. refl) (λ f u r m. bare_from ss u m) (λ f r m. bare_on ss t e a (r 9)) refl (λ f. alike refl refl) (λ f h. inr a)
 
 -- ---- directives
 
 -- Directives and `---` are taken by both goals.
-both_read : (ss : List State) (u : Tok) → refuses 9 u (work_of (at.directed []) ss) ≡ false → Stays u (work_of at.documents ss) [] (work_of (at.directed []) ss)
-both_read ss (Tok.version_directive m n) r = alike_reads {x = work_of (at.directed (Directive.version m n ∷ [])) ss} {e = None} (by_row _ refl refl) (by_row _ refl refl)
-both_read ss (Tok.tag_directive x y) r = alike_reads {x = work_of (at.directed (Directive.tag x y ∷ [])) ss} {e = None} (by_row _ refl refl) (by_row _ refl refl)
+both_read : (ss : List State) (u : Tok) → refuses 9 u (work_of (Goal.directed []) ss) ≡ false → Stays u (work_of Goal.documents ss) [] (work_of (Goal.directed []) ss)
+both_read ss (Tok.version_directive m n) r = alike_reads {x = work_of (Goal.directed (Directive.version m n ∷ [])) ss} {e = None} (by_row _ refl refl) (by_row _ refl refl)
+both_read ss (Tok.tag_directive x y) r = alike_reads {x = work_of (Goal.directed (Directive.tag x y ∷ [])) ss} {e = None} (by_row _ refl refl) (by_row _ refl refl)
 both_read ss Tok.document_start r =
-    after_steps (by_steps 1 Tok.document_start (work_of at.documents ss)) (alike_reads {w = work_of at.explicit ss} {x = work_of at.content ss} {e = Some (Raw.document_start [])} (by_row _ refl refl) (by_row _ refl refl))
+    after_steps (by_steps 1 Tok.document_start (work_of Goal.documents ss)) (alike_reads {w = work_of Goal.explicit ss} {x = work_of Goal.content ss} {e = Some (Raw.document_start [])} (by_row _ refl refl) (by_row _ refl refl))
 both_read ss u r = cc
 
-both_place : (ss : List State) (x : Extent) (b : Option Position) (k : Token) (u : Tok) → k.tok ≡ u → refuses 9 u (work_of (at.directed []) ss) ≡ false → (ts : List Token) (es : List (Raw × Position))
-    → Places x b (placed (work_of (at.directed []) ss)) (k ∷ ts) es → Places x b (placed (work_of at.documents ss)) (k ∷ ts) es
+both_place : (ss : List State) (x : Extent) (b : Option Position) (k : Token) (u : Tok) → k.tok ≡ u → refuses 9 u (work_of (Goal.directed []) ss) ≡ false → (ts : List Token) (es : List (Raw × Position))
+    → Places x b (placed (work_of (Goal.directed []) ss)) (k ∷ ts) es → Places x b (placed (work_of Goal.documents ss)) (k ∷ ts) es
 both_place ss x b k (Tok.version_directive m n) e r ts es d =
     placed_alike table.directives table.documents table.nothing_held (placed (works ss)) x b k ts es (part.hold table.directives ∷ [])
     (ap (λ u. row_of (table.cases table.directives) u) e) (ap (λ u. row_of (table.cases table.documents) u) e) d
@@ -82,44 +70,44 @@ both_place ss x b k Tok.document_start e r ts es d =
     (ap (λ u. row_of (table.cases table.directives) u) e) (ap (λ u. row_of (table.cases table.explicit_document) u) e) d)
 both_place ss x b k u e r ts es d = cc
 
-pub documents_directives : (ss : List State) (t : Tok) → is_directive (kind_of t) ≡ true → begins_node context.Block (kind_of t) ≡ false → Leaves at.documents ss (Some t) None (at.directed []) ss
+pub documents_directives : (ss : List State) (t : Tok) → is_directive (kind_of t) ≡ true → begins_node context.Block (kind_of t) ≡ false → Leaves Goal.documents ss (Some t) None (Goal.directed []) ss
 documents_directives ss t e b = record {
   nested = λ n f. (n, f);
   comes = λ n f ts es a. come ts es a;
   goes = λ n f ts es k a. go ts es k a;
   places = λ n f x c m ts there p es a. place x c ts there es a;
   opened = refl;
-  settles = λ f. without_node refl (directive_comes ss t e);
+  settles = λ f. without_node refl (comes_so Goal.documents ss t (directive_goes ss t e));
   past = λ f h. inl h;
 }
   where
-    place : (x : Extent) (c : Option Position) (ts : List Token) → IsThere (Some t) ts → (es : List (Raw × Position)) → AwaitsAt x c (at.directed []) ss ts es → AwaitsAt x c at.documents ss ts es
+    place : (x : Extent) (c : Option Position) (ts : List Token) → IsThere (Some t) ts → (es : List (Raw × Position)) → AwaitsAt x c (Goal.directed []) ss ts es → AwaitsAt x c Goal.documents ss ts es
     place x c [] there es a = absurd there
-    place x c (k ∷ ts) there es a = (both_place ss x c k k.tok refl (reads_first 9 x c k (work_of (at.directed []) ss) ts es a.0) ts es a.0, refl)
+    place x c (k ∷ ts) there es a = (both_place ss x c k k.tok refl (reads_first 9 x c k (work_of (Goal.directed []) ss) ts es a.0) ts es a.0, refl)
 
-    come : (ts : List Tok) (es : List Raw) → Awaits (at.directed []) ss ts es → Awaits at.documents ss ts es
-    come [] es a = absurd (needs_tokens (work_of (at.directed []) ss) es refl a.0)
-    come (u ∷ us) es a = ((both_read ss u (not_refused 9 u (work_of (at.directed []) ss) us es a.0)).0 us es a.0, refl)
+    come : (ts : List Tok) (es : List Raw) → Awaits (Goal.directed []) ss ts es → Awaits Goal.documents ss ts es
+    come [] es a = absurd (needs_tokens (work_of (Goal.directed []) ss) es refl a.0)
+    come (u ∷ us) es a = ((both_read ss u (not_refused 9 u (work_of (Goal.directed []) ss) us es a.0)).0 us es a.0, refl)
 
-    admitted : (u : Tok) → is_directive (kind_of u) ≡ true → refuses 9 u (work_of (at.directed []) ss) ≡ false
+    admitted : (u : Tok) → is_directive (kind_of u) ≡ true → refuses 9 u (work_of (Goal.directed []) ss) ≡ false
     admitted (Tok.version_directive m n) h = refl
     admitted u h = cc
 
-    go : (ts : List Tok) (es : List Raw) → IsNext (Some t) ts → Awaits at.documents ss ts es → Then None (at.directed []) ss ts es
+    go : (ts : List Tok) (es : List Raw) → IsNext (Some t) ts → Awaits Goal.documents ss ts es → Then None (Goal.directed []) ss ts es
     go [] es k a = absurd k
     go (u ∷ us) es k a = let x = (both_read ss u (admitted u (ap (λ v. is_directive (kind_of v)) k ∙ e))).1 us es a.0 in (x.0, x.1, (x.2, refl))
 
-pub directed_more : (ss : List State) (read : List Directive) (d : Directive) → Takes (at.directed read) ss (directive_token d) None (at.directed (read ++ d ∷ [])) ss
+pub directed_more : (ss : List State) (read : List Directive) (d : Directive) → Takes (Goal.directed read) ss (directive_token d) None (Goal.directed (read ++ d ∷ [])) ss
 directed_more ss read (Directive.version m n) = takes_so (λ n f. (n, f)) (λ f. (refl, (λ k. refl), by_row _ refl refl)) refl (λ f. refl) (λ f. refl)
 directed_more ss read (Directive.tag h p) = takes_so (λ n f. (n, f)) (λ f. (refl, (λ k. refl), by_row _ refl refl)) refl (λ f. refl) (λ f. refl)
 
-pub directed_start : (ss : List State) (read : List Directive) → Takes (at.directed read) ss Tok.document_start (Some (Raw.document_start read)) at.done (state.DocumentContent ∷ ss)
+pub directed_start : (ss : List State) (read : List Directive) → Takes (Goal.directed read) ss Tok.document_start (Some (Raw.document_start read)) Goal.done (state.DocumentContent ∷ ss)
 directed_start ss read = takes_so (λ n f. ((f, n), tt)) (λ f. (refl, (λ k. refl), by_row _ refl refl)) refl (λ f. refl) (λ f. refl)
 
-pub directed_refuses : (ss : List State) (read : List Directive) (t : Tok) → kind_of t ≢ kind.VersionDirective → kind_of t ≢ kind.TagDirective → kind_of t ≢ kind.DocumentStart → Refuses (at.directed read) ss t
-directed_refuses ss read t a b c = refuses_so (at.directed read) ss t 9 (λ f. by t a b c)
+pub directed_refuses : (ss : List State) (read : List Directive) (t : Tok) → kind_of t ≢ kind.VersionDirective → kind_of t ≢ kind.TagDirective → kind_of t ≢ kind.DocumentStart → Refuses (Goal.directed read) ss t
+directed_refuses ss read t a b c = refuses_so (Goal.directed read) ss t 9 (λ f. by t a b c)
   where
-    by : (t : Tok) → kind_of t ≢ kind.VersionDirective → kind_of t ≢ kind.TagDirective → kind_of t ≢ kind.DocumentStart → refuses 9 t (work_of (at.directed read) ss) ≡ true
+    by : (t : Tok) → kind_of t ≢ kind.VersionDirective → kind_of t ≢ kind.TagDirective → kind_of t ≢ kind.DocumentStart → refuses 9 t (work_of (Goal.directed read) ss) ≡ true
     by (Tok.version_directive m n) a b c = absurd (a refl)
     by (Tok.tag_directive m n) a b c = absurd (b refl)
     by Tok.document_start a b c = absurd (c refl)
@@ -127,59 +115,59 @@ directed_refuses ss read t a b c = refuses_so (at.directed read) ss t 9 (λ f. b
 
 -- ---- the stream's end, or a document that begins with `---`
 
-pub explicit_end : (ss : List State) → Takes at.explicit ss Tok.stream_end (Some Raw.stream_end) at.ended ss
+pub explicit_end : (ss : List State) → Takes Goal.explicit ss Tok.stream_end (Some Raw.stream_end) Goal.ended ss
 explicit_end ss = takes_so (λ n f. (n, f)) (λ f. (refl, (λ k. refl), by_row _ refl refl)) refl (λ f. refl) (λ f. refl)
 
-pub explicit_start : (ss : List State) → Takes at.explicit ss Tok.document_start (Some (Raw.document_start [])) at.done (state.DocumentContent ∷ ss)
+pub explicit_start : (ss : List State) → Takes Goal.explicit ss Tok.document_start (Some (Raw.document_start [])) Goal.done (state.DocumentContent ∷ ss)
 explicit_start ss = takes_so (λ n f. ((f, n), tt)) (λ f. (refl, (λ k. refl), by_row _ refl refl)) refl (λ f. refl) (λ f. refl)
 
-pub explicit_refuses : (ss : List State) (t : Tok) → kind_of t ≢ kind.StreamEnd → kind_of t ≢ kind.DocumentStart → Refuses at.explicit ss t
-explicit_refuses ss t a b = refuses_so at.explicit ss t 9 (λ f. by t a b)
+pub explicit_refuses : (ss : List State) (t : Tok) → kind_of t ≢ kind.StreamEnd → kind_of t ≢ kind.DocumentStart → Refuses Goal.explicit ss t
+explicit_refuses ss t a b = refuses_so Goal.explicit ss t 9 (λ f. by t a b)
   where
-    by : (t : Tok) → kind_of t ≢ kind.StreamEnd → kind_of t ≢ kind.DocumentStart → refuses 9 t (work_of at.explicit ss) ≡ true
+    by : (t : Tok) → kind_of t ≢ kind.StreamEnd → kind_of t ≢ kind.DocumentStart → refuses 9 t (work_of Goal.explicit ss) ≡ true
     by Tok.stream_end a b = absurd (a refl)
     by Tok.document_start a b = absurd (b refl)
     by t a b = refl
 
 -- ---- after `---`
 
-content_from : (ss : List State) (u : Tok) → refuses 9 u (work_of at.after ss) ≡ false → Leads 3 at.content ss (Some nothing_written) at.done (state.DocumentEnd ∷ ss) u
+content_from : (ss : List State) (u : Tok) → refuses 9 u (work_of Goal.after ss) ≡ false → Leads 3 Goal.content ss (Some nothing_written) Goal.done (state.DocumentEnd ∷ ss) u
 content_from ss Tok.document_end r = refl
 content_from ss u r = cc
 
-content_on : (ss : List State) (t : Tok) → ends_content (kind_of t) ≡ true → Leads 3 at.content ss (Some nothing_written) at.done (state.DocumentEnd ∷ ss) t
+content_on : (ss : List State) (t : Tok) → ends_content (kind_of t) ≡ true → Leads 3 Goal.content ss (Some nothing_written) Goal.done (state.DocumentEnd ∷ ss) t
 content_on ss Tok.document_end a = refl
 content_on ss t a = cc
 
-pub content_empty : (ss : List State) (t : Tok) → ends_content (kind_of t) ≡ true → Leaves at.content ss (Some t) (Some nothing_written) at.done (state.DocumentEnd ∷ ss)
+pub content_empty : (ss : List State) (t : Tok) → ends_content (kind_of t) ≡ true → Leaves Goal.content ss (Some t) (Some nothing_written) Goal.done (state.DocumentEnd ∷ ss)
 content_empty ss t a = leaves_so 3 (λ n f. ((f, n), tt)) (λ f. refl) (λ f u r m. content_from ss u (r 9)) (λ f r m. content_on ss t a) refl (λ f. content_settles ss t a) (λ f h. inl h)
 
-content_node_on : (ss : List State) (t : Tok) → ends_document (kind_of t) ≡ false → is_directive (kind_of t) ≡ false → refuses 9 t (work_of at.content ss) ≡ false → Leads 0 at.content ss None (at.node context.Block) (state.DocumentEnd ∷ ss) t
+content_node_on : (ss : List State) (t : Tok) → ends_document (kind_of t) ≡ false → is_directive (kind_of t) ≡ false → refuses 9 t (work_of Goal.content ss) ≡ false → Leads 0 Goal.content ss None (Goal.node context.Block) (state.DocumentEnd ∷ ss) t
 content_node_on ss Tok.flow_sequence_start a b r = refl
 content_node_on ss t a b r = cc
 
-pub content_node : (ss : List State) (t : Tok) → ends_document (kind_of t) ≡ false → is_directive (kind_of t) ≡ false → Leaves at.content ss (Some t) None (at.node context.Block) (state.DocumentEnd ∷ ss)
+pub content_node : (ss : List State) (t : Tok) → ends_document (kind_of t) ≡ false → is_directive (kind_of t) ≡ false → Leaves Goal.content ss (Some t) None (Goal.node context.Block) (state.DocumentEnd ∷ ss)
 content_node ss t a b = leaves_so 0 (λ n f. ((f, n), (refl, refl))) (λ f. refl) (λ f u r m. cc m) (λ f r m. content_node_on ss t a b (r 9)) refl (λ f. alike refl refl) (λ f h. inr b)
 
 -- ---- after a document's node
 
-pub after_marked : (ss : List State) → Takes at.after ss Tok.document_end (Some Raw.document_end) at.done (state.ImplicitDocumentStart ∷ ss)
+pub after_marked : (ss : List State) → Takes Goal.after ss Tok.document_end (Some Raw.document_end) Goal.done (state.ImplicitDocumentStart ∷ ss)
 after_marked ss = takes_so (λ n f. ((f, n), tt)) (λ f. (refl, (λ k. refl), by_row _ refl refl)) refl (λ f. refl) (λ f. refl)
 
-after_from : (ss : List State) (u : Tok) → refuses 9 u (work_of at.explicit ss) ≡ false → Leads 2 at.after ss (Some Raw.document_end) at.done (state.DocumentStart ∷ ss) u
+after_from : (ss : List State) (u : Tok) → refuses 9 u (work_of Goal.explicit ss) ≡ false → Leads 2 Goal.after ss (Some Raw.document_end) Goal.done (state.DocumentStart ∷ ss) u
 after_from ss Tok.stream_end r = refl
 after_from ss u r = cc
 
-after_on : (ss : List State) (t : Tok) → kind_of t ≢ kind.DocumentEnd → Leads 2 at.after ss (Some Raw.document_end) at.done (state.DocumentStart ∷ ss) t
+after_on : (ss : List State) (t : Tok) → kind_of t ≢ kind.DocumentEnd → Leads 2 Goal.after ss (Some Raw.document_end) Goal.done (state.DocumentStart ∷ ss) t
 after_on ss Tok.document_end a = absurd (a refl)
 after_on ss t a = refl
 
-pub after_unmarked : (ss : List State) (t : Tok) → kind_of t ≢ kind.DocumentEnd → is_directive (kind_of t) ≡ false → Leaves at.after ss (Some t) (Some Raw.document_end) at.done (state.DocumentStart ∷ ss)
+pub after_unmarked : (ss : List State) (t : Tok) → kind_of t ≢ kind.DocumentEnd → is_directive (kind_of t) ≡ false → Leaves Goal.after ss (Some t) (Some Raw.document_end) Goal.done (state.DocumentStart ∷ ss)
 after_unmarked ss t a b = leaves_so 2 (λ n f. ((f, n), tt)) (λ f. refl) (λ f u r m. after_from ss u (r 9)) (λ f r m. after_on ss t a) refl (λ f. alike_after refl b) (λ f h. inr b)
 
-pub after_refuses : (ss : List State) (t : Tok) → ends_document (kind_of t) ≡ false → Refuses at.after ss t
-after_refuses ss t a = refuses_so at.after ss t 9 (λ f. by t a)
+pub after_refuses : (ss : List State) (t : Tok) → ends_document (kind_of t) ≡ false → Refuses Goal.after ss t
+after_refuses ss t a = refuses_so Goal.after ss t 9 (λ f. by t a)
   where
-    by : (t : Tok) → ends_document (kind_of t) ≡ false → refuses 9 t (work_of at.after ss) ≡ true
+    by : (t : Tok) → ends_document (kind_of t) ≡ false → refuses 9 t (work_of Goal.after ss) ≡ true
     by Tok.stream_end a = cc
     by t a = cc

@@ -1,18 +1,9 @@
 -- How what is awaited may go on: by some tokens, and then on the shortest way to the end.
-use Rattle.std.proofs.Common.{◌≡◌, List, [], ◌∷◌, ◌++◌, Option, Some, None, true, sym, subst, append_assoc}
-use Rattle.defs_token.specs.Token.{Tok}
-use Rattle.defs_event.specs.Raw.{Raw}
-use Rattle.defs_event.specs.Table.{reading, saying, Derives, nothing_left, says}
-use Rattle.model_parser.specs.Machine.{Turned, goes, refused, step}
-use Rattle.defs_event.specs.Grammar as table
-use Rattle.defs_event.specs.Grammar.{Held, grammar}
+use Rattle.model_parser.proofs.Common.{[], append_assoc, Awaits, Derives, Goal, goes, grammar, Held, kind_of, List, may_begin, None, nothing_left, Option, Raw, reading, refused, saying, says, Some, State, step, subst, sym, Tok, true, Turned, work_of, Works, ◌++◌, ◌∷◌, ◌≡◌}
 use Rattle.model_parser.proofs.Completions.{along}
 use Rattle.model_parser.proofs.Falls.{shortest, shortest_events, ends}
 use Rattle.model_parser.proofs.Steps.{Sound, step_sound}
-use Rattle.model_parser.specs.declared.state.State.{State}
-use Rattle.model_parser.specs.Kinds.{kind_of}
-use Rattle.model_parser.specs.Goal.{Goal}
-use Rattle.model_parser.specs.Rest.{Works, work_of, may_begin, Awaits}
+use Rattle.defs_event.specs.Grammar as table
 
 -- ---- the shortest way to the end
 

@@ -1,12 +1,6 @@
 -- Each row of the grammar that leaves its token weighs less than its goal, and each goal can be read to an end.
-use Rattle.std.proofs.Common.{◌≡◌, ℕ, ◌<◌, Bool, true, false, ◌&&◌, nat_lt, List, [], ◌∷◌, Some, if◌then◌else◌, refl, subst}
-use Rattle.std.proofs.lemmas.Bool.{ltb-true}
-use Rattle.defs_token.specs.Token.{Style, Tok}
-use Rattle.defs_event.specs.Raw.{Raw, nothing_written}
-use Rattle.defs_event.specs.Table.{Part, Row, takes, leaves, Case, on, otherwise, row_of, reading, Derives, nothing_left, says, by_taking, by_leaving}
-use Rattle.model_parser.specs.Machine.{parts_weight}
-use Rattle.defs_event.specs.Grammar.{Held, nothing_held, key, value, Place, in_flow, in_block, in_pair, Goal, stream, documents, directives, explicit_document, document_end, node, after_anchor, after_tag, content, block_sequence_entries, indentless_sequence_entries, block_mapping_entries, block_mapping_value, flow_sequence_entries, flow_sequence_comma, flow_mapping_end_after, flow_mapping_entries, flow_mapping_comma, flow_mapping_value, flow_mapping_valued, no_flow_mapping_value, flow_value, cases, grammar}
-use Rattle.model_parser.specs.Reader.{weight}
+use Rattle.model_parser.proofs.Common.{[], after_anchor, after_tag, block_mapping_entries, block_mapping_value, block_sequence_entries, Bool, by_leaving, by_taking, Case, cases, content, Derives, directives, document_end, documents, explicit_document, false, flow_mapping_comma, flow_mapping_end_after, flow_mapping_entries, flow_mapping_value, flow_mapping_valued, flow_sequence_comma, flow_sequence_entries, flow_value, grammar, Held, if◌then◌else◌, in_block, in_flow, in_pair, indentless_sequence_entries, key, leaves, List, ltb-true, nat_lt, no_flow_mapping_value, node, nothing_held, nothing_left, nothing_written, on, otherwise, Part, parts_weight, Place, Raw, reading, refl, Row, row_of, says, Some, stream, Style, subst, takes, Tok, true, value, weight, ℕ, ◌&&◌, ◌<◌, ◌∷◌, ◌≡◌}
+use Rattle.defs_event.specs.Grammar.{Goal}
 use Rattle.model_parser.proofs.Steps.{Falls}
 use Rattle.model_parser.proofs.Completions.{Completes}
 
@@ -40,31 +34,9 @@ falls_here m n (on test r ∷ cs) t ps h e =
 falls_here m n (otherwise r ∷ cs) t ps h e = row_fall m n r ps h (cc e)
 
 goal_falls : (g : Goal) → cases_fall weight (weight g) (cases g) ≡ true
-goal_falls stream = refl
-goal_falls documents = refl
-goal_falls directives = refl
-goal_falls explicit_document = refl
-goal_falls document_end = refl
-goal_falls (node p) = refl
-goal_falls (after_anchor p) = refl
-goal_falls (after_tag p) = refl
-goal_falls (content in_flow) = refl
-goal_falls (content in_block) = refl
 goal_falls (content (in_pair key)) = refl
-goal_falls (content (in_pair value)) = refl
-goal_falls block_sequence_entries = refl
 goal_falls (indentless_sequence_entries key) = refl
-goal_falls (indentless_sequence_entries value) = refl
-goal_falls block_mapping_entries = refl
-goal_falls block_mapping_value = refl
-goal_falls flow_sequence_entries = refl
-goal_falls flow_sequence_comma = refl
-goal_falls (flow_mapping_entries s) = refl
-goal_falls flow_mapping_comma = refl
-goal_falls flow_mapping_value = refl
-goal_falls flow_mapping_valued = refl
-goal_falls no_flow_mapping_value = refl
-goal_falls flow_value = refl
+goal_falls _ = refl
 
 pub grammar_falls : Falls grammar weight
 grammar_falls g t ps h = falls_here weight (weight g) (cases g) t ps (goal_falls g) h
@@ -135,34 +107,27 @@ abbrev pub Ends : Goal → Held → Type 0
 Ends g h = Derives grammar (reading g h ∷ []) (shortest g) (shortest_events g h)
 
 content_ends : (p : Place) (h : Held) → Ends (content p) h
-content_ends in_flow h = by_taking _ refl (says nothing_left)
-content_ends in_block h = by_taking _ refl (says nothing_left)
 content_ends (in_pair key) h = by_taking _ refl (says (by_leaving _ refl (says (by_taking _ refl (says nothing_left)))))
 content_ends (in_pair value) h = by_taking _ refl (says (by_taking _ refl (says nothing_left)))
+content_ends _ h = by_taking _ refl (says nothing_left)
 
 pub ends : (g : Goal) (h : Held) → Ends g h
 ends stream h = by_taking _ refl (says (by_leaving _ refl (by_taking _ refl (says nothing_left))))
 ends documents h = by_leaving _ refl (by_taking _ refl (says nothing_left))
 ends directives h = by_taking _ refl (says (by_leaving _ refl (by_taking _ refl (says (by_leaving _ refl (says (by_taking _ refl (says nothing_left))))))))
-ends explicit_document h = by_taking _ refl (says nothing_left)
 ends document_end h = by_leaving _ refl (says (by_taking _ refl (says nothing_left)))
 ends (node p) h = by_leaving _ refl (content_ends p h)
 ends (after_anchor p) h = by_leaving _ refl (content_ends p h)
 ends (after_tag p) h = by_leaving _ refl (content_ends p h)
 ends (content p) h = content_ends p h
-ends block_sequence_entries h = by_taking _ refl (says nothing_left)
 ends (indentless_sequence_entries key) h = by_leaving _ refl (says (by_leaving _ refl (says (by_taking _ refl (says nothing_left)))))
 ends (indentless_sequence_entries value) h = by_leaving _ refl (says (by_taking _ refl (says nothing_left)))
-ends block_mapping_entries h = by_taking _ refl (says nothing_left)
 ends block_mapping_value h = by_leaving _ refl (says (by_taking _ refl (says nothing_left)))
-ends flow_sequence_entries h = by_taking _ refl (says nothing_left)
-ends flow_sequence_comma h = by_taking _ refl (says nothing_left)
-ends (flow_mapping_entries s) h = by_taking _ refl (says nothing_left)
-ends flow_mapping_comma h = by_taking _ refl (says nothing_left)
 ends flow_mapping_value h = by_taking _ refl (by_leaving _ refl (by_leaving _ refl (by_taking _ refl (says nothing_left))))
 ends flow_mapping_valued h = by_leaving _ refl (by_leaving _ refl (by_taking _ refl (says nothing_left)))
 ends no_flow_mapping_value h = by_leaving _ refl (says (by_taking _ refl (says nothing_left)))
 ends flow_value h = by_taking _ refl (by_leaving _ refl (by_taking _ refl (says nothing_left)))
+ends _ h = by_taking _ refl (says nothing_left)
 
 pub grammar_completes : Completes grammar
 grammar_completes g h = (shortest g, shortest_events g h, ends g h)

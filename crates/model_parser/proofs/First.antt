@@ -1,11 +1,7 @@
 -- Tokens and their kinds.
-use Rattle.std.proofs.Common.{◌≡◌, ◌≢◌, Bool, true, false, refl, sym, ap, ◌∙◌, subst}
-use Rattle.defs_token.specs.Token.{Tok}
-use Rattle.model_parser.specs.declared.kind.Kind.{Kind}
+use Rattle.model_parser.proofs.Common.{ap, begins_node, Bool, ends_content, ends_document, ends_entry, ends_flow_key, ends_flow_pair, ends_indentless_entry, ends_item, ends_item_key, ends_part, false, HasNoText, Kind, kind_of, NodeContext, or_value, refl, subst, sym, Tok, tok_of_kind, true, ◌∙◌, ◌≡◌, ◌≢◌}
 use Rattle.model_parser.specs.declared.kind.Kind.TheVariants as kind
-use Rattle.model_parser.specs.declared.context.NodeContext.{NodeContext}
 use Rattle.model_parser.specs.declared.context.NodeContext.TheVariants as context
-use Rattle.model_parser.specs.Kinds.{kind_of, begins_node, ends_part, ends_document, ends_content, ends_entry, ends_indentless_entry, or_value, ends_item, ends_item_key, ends_flow_pair, ends_flow_key, tok_of_kind, HasNoText}
 
 -- a token without texts is known by its kind
 plain_tok : (t : Tok) → HasNoText (kind_of t) → tok_of_kind (kind_of t) ≡ t

@@ -1,3 +1,4 @@
+pub mod Common
 mod PositionRows
 mod RefusedRows
 mod TrackRows

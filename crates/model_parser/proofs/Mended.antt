@@ -1,13 +1,7 @@
 -- In the table of the token grammar, rows for all other tokens are chosen by each token that ends a goal too.
-use Rattle.std.proofs.Common.{◌≡◌, ◌⊎◌, inl, inr, ℕ, zero, suc, ◌<◌, Bool, true, false, List, [], ◌∷◌, Some, None, if◌then◌else◌, refl, arith}
-use Rattle.defs_token.specs.Token.{Tok}
-use Rattle.defs_event.specs.Raw.{Raw}
-use Rattle.defs_event.specs.Table.{Part, Row, leaves, Case, on, otherwise, row_of, Work, reading, saying, before}
+use Rattle.model_parser.proofs.Common.{[], after_anchor, after_tag, and_before, arith, before, block_mapping_entries, block_mapping_value, block_sequence_entries, Bool, Case, cases, content, directives, document_end, documents, ends_goal, explicit_document, false, flow_mapping_comma, flow_mapping_entries, flow_mapping_value, flow_mapping_valued, flow_sequence_comma, flow_sequence_entries, flow_value, goes, grammar, Held, if◌then◌else◌, in_block, in_flow, in_pair, indentless_sequence_entries, inl, inr, key, leaves, List, no_flow_mapping_value, node, None, nothing_held, on, otherwise, Part, Place, Raw, reading, refl, refused, Row, row_of, saying, Some, step, stream, suc, Tok, true, Turned, value, weight, Work, work_weight, zero, ℕ, ◌<◌, ◌∷◌, ◌≡◌, ◌⊎◌}
 use Rattle.defs_event.specs.Kinds.{begins_flow_node, begins_node}
-use Rattle.model_parser.specs.Machine.{work_weight, Turned, goes, refused, and_before, step}
-use Rattle.defs_event.specs.Grammar.{Held, nothing_held, key, value, Place, in_flow, in_block, in_pair, Goal, stream, documents, directives, explicit_document, document_end, node, after_anchor, after_tag, content, block_sequence_entries, indentless_sequence_entries, block_mapping_entries, block_mapping_value, flow_sequence_entries, flow_sequence_comma, flow_mapping_entries, flow_mapping_comma, flow_mapping_value, flow_mapping_valued, no_flow_mapping_value, flow_value, cases, grammar}
-use Rattle.model_parser.specs.Reader.{weight}
-use Rattle.model_parser.specs.Track.{ends_goal}
+use Rattle.defs_event.specs.Grammar.{Goal}
 use Rattle.defs_event.proofs.Meanings.{EachRow, row_holds}
 use Rattle.model_parser.proofs.Falls.{grammar_falls, grammar_completes, ends}
 use Rattle.model_parser.proofs.Track.{LeavingRow, EndsGoal}
@@ -65,11 +59,6 @@ NeverRefused p t = (n : ℕ) (h : Held) (w : List (Work Goal Raw Held)) (es : Li
 
 flow_node_taken : (p : Place) (t : Tok) → begins_flow_node t ≡ true → NeverRefused p t
 flow_node_taken p (Tok.alias a) b n h w es e = cc
-flow_node_taken p (Tok.anchor a) b n h w es e = cc
-flow_node_taken p (Tok.tag x y) b n h w es e = cc
-flow_node_taken p (Tok.scalar y x) b n h w es e = cc
-flow_node_taken p Tok.flow_sequence_start b n h w es e = cc
-flow_node_taken p Tok.flow_mapping_start b n h w es e = cc
 flow_node_taken p _ b n h w es e = cc
 
 node_taken : (t : Tok) → begins_node t ≡ true → NeverRefused in_block t
@@ -108,27 +97,21 @@ leaving_rows stream = (λ t i. tt, tt)
 leaving_rows documents = (λ t i. tt, (λ t i. tt, (λ t i. inr (λ n h w es l e. bare_taken n t i (reading document_end nothing_held ∷ w) es l e), λ t i. others documents t _ refl refl refl refl refl refl (λ u h w. refl))))
 leaving_rows directives = (λ t i. tt, (λ t i. tt, tt))
 leaving_rows explicit_document = (λ t i. tt, (λ t i. tt, tt))
-leaving_rows document_end = (λ t i. tt, λ t i. others document_end t _ refl refl refl refl refl refl (λ u h w. refl))
 leaving_rows (node p) = (λ t i. tt, (λ t i. tt, (λ t i. tt, λ t i. others (node p) t _ refl refl refl refl refl refl (λ u h w. refl))))
-leaving_rows (after_anchor p) = (λ t i. tt, λ t i. others (after_anchor p) t _ refl refl refl refl refl refl (λ u h w. refl))
-leaving_rows (after_tag p) = (λ t i. tt, λ t i. others (after_tag p) t _ refl refl refl refl refl refl (λ u h w. refl))
 leaving_rows (content in_flow) = (λ t i. tt, (λ t i. tt, (λ t i. tt, λ t i. others (content in_flow) t _ refl refl refl refl refl refl (λ u h w. refl))))
 leaving_rows (content in_block) = (λ t i. tt, (λ t i. tt, (λ t i. tt, (λ t i. tt, (λ t i. tt, λ t i. others (content in_block) t _ refl refl refl refl refl refl (λ u h w. refl))))))
 leaving_rows (content (in_pair key)) = (λ t i. tt, (λ t i. tt, (λ t i. tt, (λ t i. tt, (λ t i. tt, (λ t i. tt, λ t i. others (content (in_pair key)) t _ refl refl refl refl refl refl (λ u h w. refl)))))))
 leaving_rows (content (in_pair value)) = (λ t i. tt, (λ t i. tt, (λ t i. tt, (λ t i. tt, (λ t i. tt, (λ t i. tt, λ t i. others (content (in_pair value)) t _ refl refl refl refl refl refl (λ u h w. refl)))))))
 leaving_rows block_sequence_entries = (λ t i. tt, (λ t i. tt, tt))
 leaving_rows (indentless_sequence_entries key) = (λ t i. tt, λ t i. others (indentless_sequence_entries key) t _ refl refl refl refl refl refl (λ u h w. refl))
-leaving_rows (indentless_sequence_entries value) = (λ t i. tt, λ t i. others (indentless_sequence_entries value) t _ refl refl refl refl refl refl (λ u h w. refl))
 leaving_rows block_mapping_entries = (λ t i. tt, (λ t i. tt, (λ t i. tt, tt)))
-leaving_rows block_mapping_value = (λ t i. tt, λ t i. others block_mapping_value t _ refl refl refl refl refl refl (λ u h w. refl))
 leaving_rows flow_sequence_entries = (λ t i. inr (λ n h w es l e. goes_from in_flow t _ (flow_node_taken in_flow t i) n nothing_held es l e), (λ t i. tt, (λ t i. tt, tt)))
 leaving_rows flow_sequence_comma = (λ t i. tt, (λ t i. tt, tt))
 leaving_rows (flow_mapping_entries s) = (λ t i. inr (λ n h w es l e. goes_from in_flow t _ (flow_node_taken in_flow t i) n nothing_held es l e), (λ t i. tt, (λ t i. tt, (λ t i. tt, tt))))
 leaving_rows flow_mapping_comma = (λ t i. tt, (λ t i. tt, tt))
-leaving_rows flow_mapping_value = (λ t i. tt, λ t i. others flow_mapping_value t _ refl refl refl refl refl refl (λ u h w. refl))
 leaving_rows flow_mapping_valued = (λ t i. inr (λ n h w es l e. goes_from in_flow t _ (flow_node_taken in_flow t i) n nothing_held es l e), λ t i. others flow_mapping_valued t _ refl refl refl refl refl refl (λ u h w. refl))
 leaving_rows no_flow_mapping_value = λ t i. others no_flow_mapping_value t _ refl refl refl refl refl refl (λ u h w. refl)
-leaving_rows flow_value = (λ t i. tt, λ t i. others flow_value t _ refl refl refl refl refl refl (λ u h w. refl))
+leaving_rows g = (λ t i. tt, λ t i. others g t _ refl refl refl refl refl refl (λ u h w. refl))
 
 pub leaving : (g : Goal) (t : Tok) (r : Row Goal Raw) → row_of (cases g) t ≡ Some r → LeavingRow grammar weight ends_goal g t r
 leaving g t r p = row_holds (λ t r. LeavingRow grammar weight ends_goal g t r) (λ t. false) (cases g) (leaving_rows g) t refl r p
@@ -154,28 +137,16 @@ Refusing g = (has_otherwise (cases g) ≡ true) ⊎ ((h : Held) → EndsGoal gra
 
 refusing : (g : Goal) → Refusing g
 refusing stream = inr (λ h. (_, _, _, refl, ends stream h))
-refusing documents = inl refl
 refusing directives = inr (λ h. (_, _, _, refl, ends directives h))
 refusing explicit_document = inr (λ h. (_, _, _, refl, ends explicit_document h))
-refusing document_end = inl refl
-refusing (node p) = inl refl
-refusing (after_anchor p) = inl refl
-refusing (after_tag p) = inl refl
 refusing (content in_flow) = inl refl
-refusing (content in_block) = inl refl
-refusing (content (in_pair s)) = inl refl
 refusing block_sequence_entries = inr (λ h. (_, _, _, refl, ends block_sequence_entries h))
-refusing (indentless_sequence_entries s) = inl refl
 refusing block_mapping_entries = inr (λ h. (_, _, _, refl, ends block_mapping_entries h))
-refusing block_mapping_value = inl refl
 refusing flow_sequence_entries = inr (λ h. (_, _, _, refl, ends flow_sequence_entries h))
 refusing flow_sequence_comma = inr (λ h. (_, _, _, refl, ends flow_sequence_comma h))
 refusing (flow_mapping_entries s) = inr (λ h. (_, _, _, refl, ends (flow_mapping_entries s) h))
 refusing flow_mapping_comma = inr (λ h. (_, _, _, refl, ends flow_mapping_comma h))
-refusing flow_mapping_value = inl refl
-refusing flow_mapping_valued = inl refl
-refusing no_flow_mapping_value = inl refl
-refusing flow_value = inl refl
+refusing _ = inl refl
 
 pub ended : (g : Goal) (h : Held) (t : Tok) → row_of (cases g) t ≡ None → EndsGoal grammar ends_goal g h
 ended g h t p = by (refusing g)

@@ -1,26 +1,11 @@
 -- The turns in nodes.
-use Rattle.std.proofs.Common.{inl, ℕ, ◌≡◌, ◌≢◌, List, ◌∷◌, Option, Some, None, Bool, true, false, not, ◌||◌, refl, sym, ap, ◌∙◌, subst}
-use Rattle.std.proofs.lemmas.Bool.{both_ways}
-use Rattle.defs_token.specs.Token.{Style, Tok}
-use Rattle.defs_event.specs.Event.{Tag}
-use Rattle.defs_event.specs.Raw.{Raw}
-use Rattle.defs_event.specs.Properties.{Properties, anchored, tagged, anchored_tagged, tagged_anchored, tag_token, perhaps_anchor_of, perhaps_tag_of, anchor_of, tag_of}
-use Rattle.defs_event.specs.Table.{read, show, takes, row_of, saying, before}
-use Rattle.defs_event.specs.Grammar as table
-use Rattle.defs_event.specs.Grammar.{Held, nothing_held, event_of, Place, in_flow, in_block, in_pair, then_in, cases, grammar}
-use Rattle.model_parser.specs.declared.kind.Kind.{Kind}
-use Rattle.model_parser.specs.declared.kind.Kind.TheVariants as kind
-use Rattle.model_parser.specs.declared.context.NodeContext.{NodeContext}
-use Rattle.model_parser.specs.declared.context.NodeContext.TheVariants as context
-use Rattle.model_parser.specs.declared.state.State.{State}
-use Rattle.model_parser.specs.declared.state.State.TheVariants as state
-use Rattle.model_parser.specs.Kinds.{kind_of, begins_node, begins_content}
-use Rattle.model_parser.specs.Goal as at
-use Rattle.model_parser.specs.Place.{is_past_directives}
-use Rattle.model_parser.specs.Rest.{Works, place_of, context_at, past, works, work_of, goal_and, with_properties, may_begin_content, may_begin, is_in_mapping, is_under, narrows}
-use Rattle.model_parser.specs.Turn.{Takes, Leaves, Refuses, alike}
+use Rattle.model_parser.proofs.Common.{alike, anchor_of, anchored, anchored_tagged, ap, before, begins_content, begins_node, Bool, both_ways, cases, context_at, event_of, false, Goal, goal_and, grammar, Held, in_block, in_flow, in_pair, inl, is_in_mapping, is_past_directives, is_under, Kind, kind_of, Leaves, List, may_begin, may_begin_content, narrows, NodeContext, None, not, nothing_held, Option, past, perhaps_anchor_of, perhaps_tag_of, Place, place_of, Properties, Raw, read, refl, Refuses, row_of, saying, show, Some, State, Style, subst, sym, Tag, tag_of, tag_token, tagged, tagged_anchored, Takes, takes, then_in, Tok, true, with_properties, work_of, Works, works, ℕ, ◌||◌, ◌∙◌, ◌∷◌, ◌≡◌, ◌≢◌}
 use Rattle.model_parser.proofs.StepRows.{Reads, by_row, takes_so, refuses, Leads, leaves_so}
 use Rattle.model_parser.proofs.Settling.{under_goes, under_other, under_past, under_any, under_reads, past_alike, next_alike}
+use Rattle.defs_event.specs.Grammar as table
+use Rattle.model_parser.specs.declared.kind.Kind.TheVariants as kind
+use Rattle.model_parser.specs.declared.context.NodeContext.TheVariants as context
+use Rattle.model_parser.specs.declared.state.State.TheVariants as state
 
 -- after a node, what goes on with these
 then_works : (ss : List State) (h : Held) (t : Tok) → before grammar h t (then_in (place_of ss)) (past ss (works ss)) ≡ works ss
@@ -51,76 +36,74 @@ all_begin p c k e = subst (λ c. (begins_content p k || not (begins_content c k)
 
 -- ---- a node
 
-pub node_alias : (p : NodeContext) (ss : List State) (name : List ℕ) → Takes (at.node p) ss (Tok.alias name) (Some (Raw.alias name)) at.done ss
+pub node_alias : (p : NodeContext) (ss : List State) (name : List ℕ) → Takes (Goal.node p) ss (Tok.alias name) (Some (Raw.alias name)) Goal.done ss
 node_alias p ss name = takes_so (λ n f. (n, under_goes ss f.0)) (λ f. (refl, under_any ss f.0, by_row _ refl (shows ss nothing_held (Tok.alias name)))) refl (λ f. under_other ss f.0) (λ f. under_past ss f.0)
 
-pub node_anchor : (p : NodeContext) (ss : List State) (a : List ℕ) → Takes (at.node p) ss (Tok.anchor a) None (at.after_anchor p a) ss
+pub node_anchor : (p : NodeContext) (ss : List State) (a : List ℕ) → Takes (Goal.node p) ss (Tok.anchor a) None (Goal.after_anchor p a) ss
 node_anchor p ss a = takes_so (λ n f. (n, f)) (λ f. (refl, (λ k. refl), by_row _ refl refl)) refl (λ f. refl) (λ f. refl)
 
-pub node_tag : (p : NodeContext) (ss : List State) (t : Tag) → Takes (at.node p) ss (tag_token t) None (at.after_tag p t) ss
+pub node_tag : (p : NodeContext) (ss : List State) (t : Tag) → Takes (Goal.node p) ss (tag_token t) None (Goal.after_tag p t) ss
 node_tag p ss t = takes_so (λ n f. (n, f)) (λ f. (refl, (λ k. refl), by_row _ refl refl)) refl (λ f. refl) (λ f. refl)
 
-node_from : (p : NodeContext) (ss : List State) (u : Tok) → begins_content p (kind_of u) ≡ true → Leads 1 (at.node p) ss None (at.after_properties p None) ss u
+node_from : (p : NodeContext) (ss : List State) (u : Tok) → begins_content p (kind_of u) ≡ true → Leads 1 (Goal.node p) ss None (Goal.after_properties p None) ss u
 node_from context.Flow ss (Tok.alias n) m = cc
 node_from context.Block ss (Tok.alias n) m = cc
 node_from context.Part ss (Tok.alias n) m = cc
 node_from p ss u m = cc
 
-node_on : (p : NodeContext) (ss : List State) (t : Tok) → kind_of t ≢ kind.Alias → kind_of t ≢ kind.Anchor → kind_of t ≢ kind.Tag → begins_node p (kind_of t) ≡ true → Leads 1 (at.node p) ss None (at.after_properties p None) ss t
+node_on : (p : NodeContext) (ss : List State) (t : Tok) → kind_of t ≢ kind.Alias → kind_of t ≢ kind.Anchor → kind_of t ≢ kind.Tag → begins_node p (kind_of t) ≡ true → Leads 1 (Goal.node p) ss None (Goal.after_properties p None) ss t
 node_on p ss (Tok.alias n) a b d m = absurd (a refl)
 node_on p ss (Tok.anchor n) a b d m = absurd (b refl)
 node_on p ss (Tok.tag x y) a b d m = absurd (d refl)
 node_on p ss t a b d m = cc
 
-pub node_content : (p : NodeContext) (ss : List State) (t : Tok) → kind_of t ≢ kind.Alias → kind_of t ≢ kind.Anchor → kind_of t ≢ kind.Tag → Leaves (at.node p) ss (Some t) None (at.after_properties p None) ss
+pub node_content : (p : NodeContext) (ss : List State) (t : Tok) → kind_of t ≢ kind.Alias → kind_of t ≢ kind.Anchor → kind_of t ≢ kind.Tag → Leaves (Goal.node p) ss (Some t) None (Goal.after_properties p None) ss
 node_content p ss t a b d = leaves_so 1 (λ n f. (n, (f.0, narrows_itself p _ f.1))) (λ f. refl) (λ f u r m. node_from p ss u m) (λ f r m. node_on p ss t a b d m) refl (λ f. alike refl refl) (λ f h. inl h)
 
 -- ---- after an anchor, or a tag
 
 -- Where a content may stand, no property does.
-no_anchor : (o : Option Properties) (ss : List State) (a : List ℕ) → is_under ss ≡ true → refuses 9 (Tok.anchor a) (work_of (at.after_properties context.Flow o) ss) ≡ true
+no_anchor : (o : Option Properties) (ss : List State) (a : List ℕ) → is_under ss ≡ true → refuses 9 (Tok.anchor a) (work_of (Goal.after_properties context.Flow o) ss) ≡ true
 no_anchor o (state.DocumentEnd ∷ ss) a f = refl
 no_anchor o (state.IndentlessSequenceEntry ∷ state.BlockMappingKey ∷ ss) a f = refl
-no_anchor o (state.IndentlessSequenceEntry ∷ state.BlockMappingValue ∷ ss) a f = refl
 no_anchor o ss a f = cc
 
-no_tag : (o : Option Properties) (ss : List State) (x y : List ℕ) → is_under ss ≡ true → refuses 9 (Tok.tag x y) (work_of (at.after_properties context.Flow o) ss) ≡ true
+no_tag : (o : Option Properties) (ss : List State) (x y : List ℕ) → is_under ss ≡ true → refuses 9 (Tok.tag x y) (work_of (Goal.after_properties context.Flow o) ss) ≡ true
 no_tag o (state.DocumentEnd ∷ ss) x y f = refl
 no_tag o (state.IndentlessSequenceEntry ∷ state.BlockMappingKey ∷ ss) x y f = refl
-no_tag o (state.IndentlessSequenceEntry ∷ state.BlockMappingValue ∷ ss) x y f = refl
 no_tag o ss x y f = cc
 
-anchor_from : (p : NodeContext) (ss : List State) (a : List ℕ) (u : Tok) → is_under ss ≡ true → refuses 9 u (work_of (at.after_properties p (Some (anchored a))) ss) ≡ false → (begins_content p (kind_of u) || not (begins_content (context_at (place_of ss)) (kind_of u))) ≡ true
-    → Leads 1 (at.after_anchor p a) ss None (at.after_properties p (Some (anchored a))) ss u
-anchor_from p ss a (Tok.tag x y) f r m = absurd (both_ways (refuses 9 (Tok.tag x y) (work_of (at.after_properties p (Some (anchored a))) ss)) r (no_tag (Some (anchored a)) ss x y f))
+anchor_from : (p : NodeContext) (ss : List State) (a : List ℕ) (u : Tok) → is_under ss ≡ true → refuses 9 u (work_of (Goal.after_properties p (Some (anchored a))) ss) ≡ false → (begins_content p (kind_of u) || not (begins_content (context_at (place_of ss)) (kind_of u))) ≡ true
+    → Leads 1 (Goal.after_anchor p a) ss None (Goal.after_properties p (Some (anchored a))) ss u
+anchor_from p ss a (Tok.tag x y) f r m = absurd (both_ways (refuses 9 (Tok.tag x y) (work_of (Goal.after_properties p (Some (anchored a))) ss)) r (no_tag (Some (anchored a)) ss x y f))
 anchor_from p ss a u f r m = cc
 
 anchor_on : (p : NodeContext) (ss : List State) (a : List ℕ) (t : Tok) → kind_of t ≢ kind.Tag → (begins_content p (kind_of t) || not (begins_content (context_at (place_of ss)) (kind_of t))) ≡ true
-    → Leads 1 (at.after_anchor p a) ss None (at.after_properties p (Some (anchored a))) ss t
+    → Leads 1 (Goal.after_anchor p a) ss None (Goal.after_properties p (Some (anchored a))) ss t
 anchor_on p ss a (Tok.tag x y) n m = absurd (n refl)
 anchor_on p ss a t n m = cc
 
-pub anchor_tag : (p : NodeContext) (ss : List State) (a : List ℕ) (t : Tag) → Takes (at.after_anchor p a) ss (tag_token t) None (at.after_properties p (Some (anchored_tagged a t))) ss
+pub anchor_tag : (p : NodeContext) (ss : List State) (a : List ℕ) (t : Tag) → Takes (Goal.after_anchor p a) ss (tag_token t) None (Goal.after_properties p (Some (anchored_tagged a t))) ss
 anchor_tag p ss a t = takes_so (λ n f. (n, (f.0, narrows_itself p _ f.1))) (λ f. (refl, (λ k. all_begin p _ k f.1), by_row _ refl refl)) refl (λ f. refl) (λ f. refl)
 
-pub anchor_alone : (p : NodeContext) (ss : List State) (a : List ℕ) (t : Tok) → kind_of t ≢ kind.Tag → Leaves (at.after_anchor p a) ss (Some t) None (at.after_properties p (Some (anchored a))) ss
+pub anchor_alone : (p : NodeContext) (ss : List State) (a : List ℕ) (t : Tok) → kind_of t ≢ kind.Tag → Leaves (Goal.after_anchor p a) ss (Some t) None (Goal.after_properties p (Some (anchored a))) ss
 anchor_alone p ss a t d = leaves_so 1 (λ n f. (n, (f.0, narrows_itself p _ f.1))) (λ f. refl) (λ f u r m. anchor_from p ss a u f.0 (r 9) m) (λ f r m. anchor_on p ss a t d (all_begin p _ (kind_of t) f.1)) refl
     (λ f. alike refl refl) (λ f h. inl h)
 
-tag_from : (p : NodeContext) (ss : List State) (x : Tag) (u : Tok) → is_under ss ≡ true → refuses 9 u (work_of (at.after_properties p (Some (tagged x))) ss) ≡ false → (begins_content p (kind_of u) || not (begins_content (context_at (place_of ss)) (kind_of u))) ≡ true
-    → Leads 1 (at.after_tag p x) ss None (at.after_properties p (Some (tagged x))) ss u
-tag_from p ss x (Tok.anchor a) f r m = absurd (both_ways (refuses 9 (Tok.anchor a) (work_of (at.after_properties p (Some (tagged x))) ss)) r (no_anchor (Some (tagged x)) ss a f))
+tag_from : (p : NodeContext) (ss : List State) (x : Tag) (u : Tok) → is_under ss ≡ true → refuses 9 u (work_of (Goal.after_properties p (Some (tagged x))) ss) ≡ false → (begins_content p (kind_of u) || not (begins_content (context_at (place_of ss)) (kind_of u))) ≡ true
+    → Leads 1 (Goal.after_tag p x) ss None (Goal.after_properties p (Some (tagged x))) ss u
+tag_from p ss x (Tok.anchor a) f r m = absurd (both_ways (refuses 9 (Tok.anchor a) (work_of (Goal.after_properties p (Some (tagged x))) ss)) r (no_anchor (Some (tagged x)) ss a f))
 tag_from p ss x u f r m = cc
 
 tag_on : (p : NodeContext) (ss : List State) (x : Tag) (t : Tok) → kind_of t ≢ kind.Anchor → (begins_content p (kind_of t) || not (begins_content (context_at (place_of ss)) (kind_of t))) ≡ true
-    → Leads 1 (at.after_tag p x) ss None (at.after_properties p (Some (tagged x))) ss t
+    → Leads 1 (Goal.after_tag p x) ss None (Goal.after_properties p (Some (tagged x))) ss t
 tag_on p ss x (Tok.anchor a) n m = absurd (n refl)
 tag_on p ss x t n m = cc
 
-pub tag_anchor : (p : NodeContext) (ss : List State) (t : Tag) (a : List ℕ) → Takes (at.after_tag p t) ss (Tok.anchor a) None (at.after_properties p (Some (tagged_anchored t a))) ss
+pub tag_anchor : (p : NodeContext) (ss : List State) (t : Tag) (a : List ℕ) → Takes (Goal.after_tag p t) ss (Tok.anchor a) None (Goal.after_properties p (Some (tagged_anchored t a))) ss
 tag_anchor p ss t a = takes_so (λ n f. (n, (f.0, narrows_itself p _ f.1))) (λ f. (refl, (λ k. all_begin p _ k f.1), by_row _ refl refl)) refl (λ f. refl) (λ f. refl)
 
-pub tag_alone : (p : NodeContext) (ss : List State) (t : Tag) (u : Tok) → kind_of u ≢ kind.Anchor → Leaves (at.after_tag p t) ss (Some u) None (at.after_properties p (Some (tagged t))) ss
+pub tag_alone : (p : NodeContext) (ss : List State) (t : Tag) (u : Tok) → kind_of u ≢ kind.Anchor → Leaves (Goal.after_tag p t) ss (Some u) None (Goal.after_properties p (Some (tagged t))) ss
 tag_alone p ss t u d = leaves_so 1 (λ n f. (n, (f.0, narrows_itself p _ f.1))) (λ f. refl) (λ f v r m. tag_from p ss t v f.0 (r 9) m) (λ f r m. tag_on p ss t u d (all_begin p _ (kind_of u) f.1)) refl
     (λ f. alike refl refl) (λ f h. inl h)
 
@@ -135,12 +118,12 @@ in_mapping (state.BlockMappingKey ∷ ss) h = refl
 in_mapping ss h = cc
 
 dash_reads : (ss : List State) (o : Option Properties) → narrows context.Part (context_at (place_of ss)) ≡ true
-    → Reads (work_of (at.after_properties context.Part o) ss) Tok.block_entry (Some (Raw.indentless_sequence_start (perhaps_anchor_of o) (perhaps_tag_of o))) (work_of at.done (state.IndentlessSequenceItem ∷ ss))
+    → Reads (work_of (Goal.after_properties context.Part o) ss) Tok.block_entry (Some (Raw.indentless_sequence_start (perhaps_anchor_of o) (perhaps_tag_of o))) (work_of Goal.done (state.IndentlessSequenceItem ∷ ss))
 dash_reads (state.BlockMappingKey ∷ ss) o h = by_row _ refl refl
 dash_reads (state.BlockMappingValue ∷ ss) o h = by_row _ refl refl
 dash_reads ss o h = cc
 
-pub after_dash : (ss : List State) (o : Option Properties) → Takes (at.after_properties context.Part o) ss Tok.block_entry (Some (Raw.indentless_sequence_start (perhaps_anchor_of o) (perhaps_tag_of o))) at.done (state.IndentlessSequenceItem ∷ ss)
+pub after_dash : (ss : List State) (o : Option Properties) → Takes (Goal.after_properties context.Part o) ss Tok.block_entry (Some (Raw.indentless_sequence_start (perhaps_anchor_of o) (perhaps_tag_of o))) Goal.done (state.IndentlessSequenceItem ∷ ss)
 after_dash ss o = takes_so (λ n f. ((in_mapping ss f.1, n), tt)) (λ f. (own_begins context.Part o _ kind.BlockEntry refl, (λ k. refl), dash_reads ss o f.1)) refl (λ f. refl) (λ f. refl)
 
 part_is_block : (c : NodeContext) → narrows context.Part c ≡ true → narrows context.Block c ≡ true
@@ -159,7 +142,7 @@ part_on None c k h a m = cc
 part_on (Some o) context.Part kind.BlockEntry h a m = absurd (a refl)
 part_on (Some o) c k h a m = cc
 
-pub part_block : (ss : List State) (o : Option Properties) (t : Tok) → kind_of t ≢ kind.BlockEntry → Leaves (at.after_properties context.Part o) ss (Some t) None (at.after_properties context.Block o) ss
+pub part_block : (ss : List State) (o : Option Properties) (t : Tok) → kind_of t ≢ kind.BlockEntry → Leaves (Goal.after_properties context.Part o) ss (Some t) None (Goal.after_properties context.Block o) ss
 part_block ss o t a = leaves_so 0 (λ n f. (n, (f.0, part_is_block _ f.1))) (λ f. refl) (λ f u r m. cc (m, part_back o (context_at (place_of ss)) (kind_of u) f.1 m)) (λ f r m. cc (m, part_on o (context_at (place_of ss)) (kind_of t) f.1 a m)) refl
     (λ f. alike (next_alike context.Part context.Block o) refl) (λ f h. inl (past_alike context.Part context.Block o ss ∙ h))
 
@@ -168,7 +151,7 @@ block_row in_block h = refl
 block_row (in_pair s) h = refl
 block_row in_flow h = cc
 
-pub after_sequence : (ss : List State) (o : Option Properties) → Takes (at.after_properties context.Block o) ss Tok.block_sequence_start (Some (Raw.sequence_start (perhaps_anchor_of o) (perhaps_tag_of o))) at.done (state.BlockSequenceEntry ∷ ss)
+pub after_sequence : (ss : List State) (o : Option Properties) → Takes (Goal.after_properties context.Block o) ss Tok.block_sequence_start (Some (Raw.sequence_start (perhaps_anchor_of o) (perhaps_tag_of o))) Goal.done (state.BlockSequenceEntry ∷ ss)
 after_sequence ss o = takes_so (λ n f. ((f.0, n), tt))
     (λ f. (own_begins context.Block o _ kind.BlockSequenceStart refl, (λ k. refl), by_row _ (block_row (place_of ss) f.1) (shows_and ss (with_properties o) Tok.block_sequence_start table.block_sequence_entries))) refl (λ f. refl) (λ f. refl)
 
@@ -177,7 +160,7 @@ mapping_row in_block h = refl
 mapping_row (in_pair s) h = refl
 mapping_row in_flow h = cc
 
-pub after_mapping : (ss : List State) (o : Option Properties) → Takes (at.after_properties context.Block o) ss Tok.block_mapping_start (Some (Raw.mapping_start (perhaps_anchor_of o) (perhaps_tag_of o))) at.done (state.BlockMappingKey ∷ ss)
+pub after_mapping : (ss : List State) (o : Option Properties) → Takes (Goal.after_properties context.Block o) ss Tok.block_mapping_start (Some (Raw.mapping_start (perhaps_anchor_of o) (perhaps_tag_of o))) Goal.done (state.BlockMappingKey ∷ ss)
 after_mapping ss o = takes_so (λ n f. ((f.0, n), tt))
     (λ f. (own_begins context.Block o _ kind.BlockMappingStart refl, (λ k. refl), by_row _ (mapping_row (place_of ss) f.1) (shows_and ss (with_properties o) Tok.block_mapping_start table.block_mapping_entries))) refl (λ f. refl) (λ f. refl)
 
@@ -196,54 +179,36 @@ flow_on (Some o) context.Part kind.Scalar h a b m = refl
 flow_on (Some o) context.Block kind.Scalar h a b m = refl
 flow_on (Some o) c k h a b m = cc
 
-pub block_flow : (ss : List State) (o : Option Properties) (t : Tok) → kind_of t ≢ kind.BlockSequenceStart → kind_of t ≢ kind.BlockMappingStart → Leaves (at.after_properties context.Block o) ss (Some t) None (at.after_properties context.Flow o) ss
+pub block_flow : (ss : List State) (o : Option Properties) (t : Tok) → kind_of t ≢ kind.BlockSequenceStart → kind_of t ≢ kind.BlockMappingStart → Leaves (Goal.after_properties context.Block o) ss (Some t) None (Goal.after_properties context.Flow o) ss
 block_flow ss o t a b = leaves_so 0 (λ n f. (n, (f.0, refl))) (λ f. refl) (λ f u r m. cc (m, flow_back o (context_at (place_of ss)) (kind_of u) f.1 m)) (λ f r m. cc (m, flow_on o (context_at (place_of ss)) (kind_of t) f.1 a b m)) refl
     (λ f. alike (next_alike context.Block context.Flow o) refl) (λ f h. inl (past_alike context.Block context.Flow o ss ∙ h))
 
-pub after_scalar : (ss : List State) (o : Option Properties) (y : Style) (v : List ℕ) → Takes (at.after_properties context.Flow o) ss (Tok.scalar y v) (Some (Raw.scalar v y (perhaps_anchor_of o) (perhaps_tag_of o))) at.done ss
+pub after_scalar : (ss : List State) (o : Option Properties) (y : Style) (v : List ℕ) → Takes (Goal.after_properties context.Flow o) ss (Tok.scalar y v) (Some (Raw.scalar v y (perhaps_anchor_of o) (perhaps_tag_of o))) Goal.done ss
 after_scalar ss o y v = takes_so (λ n f. (n, under_goes ss f.0)) (λ f. (own_begins context.Flow o _ kind.Scalar refl, under_any ss f.0, by_row _ refl (shows ss (with_properties o) (Tok.scalar y v)))) refl (λ f. under_other ss f.0) (λ f. under_past ss f.0)
 
-pub after_brackets : (ss : List State) (o : Option Properties) → Takes (at.after_properties context.Flow o) ss Tok.flow_sequence_start (Some (Raw.flow_sequence_start (perhaps_anchor_of o) (perhaps_tag_of o))) at.done (state.FlowSequenceFirstEntry ∷ ss)
+pub after_brackets : (ss : List State) (o : Option Properties) → Takes (Goal.after_properties context.Flow o) ss Tok.flow_sequence_start (Some (Raw.flow_sequence_start (perhaps_anchor_of o) (perhaps_tag_of o))) Goal.done (state.FlowSequenceFirstEntry ∷ ss)
 after_brackets ss o = takes_so (λ n f. ((f.0, n), tt)) (λ f. (own_begins context.Flow o _ kind.FlowSequenceStart refl, (λ k. refl), by_row _ refl (shows_and ss (with_properties o) Tok.flow_sequence_start table.flow_sequence_entries))) refl (λ f. refl) (λ f. refl)
 
-pub after_braces : (ss : List State) (o : Option Properties) → Takes (at.after_properties context.Flow o) ss Tok.flow_mapping_start (Some (Raw.flow_mapping_start (perhaps_anchor_of o) (perhaps_tag_of o))) at.done (state.FlowMappingFirstKey ∷ ss)
+pub after_braces : (ss : List State) (o : Option Properties) → Takes (Goal.after_properties context.Flow o) ss Tok.flow_mapping_start (Some (Raw.flow_mapping_start (perhaps_anchor_of o) (perhaps_tag_of o))) Goal.done (state.FlowMappingFirstKey ∷ ss)
 after_braces ss o = takes_so (λ n f. ((f.0, n), tt)) (λ f. (own_begins context.Flow o _ kind.FlowMappingStart refl, (λ k. refl), by_row _ refl (shows_and ss (with_properties o) Tok.flow_mapping_start (table.flow_mapping_entries table.after_brace)))) refl (λ f. refl) (λ f. refl)
 
-only_from : (ss : List State) (o : Properties) (u : Tok) → is_under ss ≡ true → refuses 9 u (works ss) ≡ false → Leads 2 (at.after_properties context.Flow (Some o)) ss (Some (Raw.empty_scalar (anchor_of o) (tag_of o))) at.done ss u
+only_from : (ss : List State) (o : Properties) (u : Tok) → is_under ss ≡ true → refuses 9 u (works ss) ≡ false → Leads 2 (Goal.after_properties context.Flow (Some o)) ss (Some (Raw.empty_scalar (anchor_of o) (tag_of o))) Goal.done ss u
 only_from (state.DocumentEnd ∷ ss) o Tok.document_end f r = refl
-only_from (state.BlockSequenceEntry ∷ ss) o Tok.document_end f r = cc
-only_from (state.BlockMappingKey ∷ ss) o Tok.document_end f r = cc
-only_from (state.BlockMappingValue ∷ ss) o Tok.document_end f r = cc
-only_from (state.FlowSequenceEntry ∷ ss) o Tok.document_end f r = cc
-only_from (state.FlowSequenceEntryMappingValue ∷ ss) o Tok.document_end f r = cc
-only_from (state.FlowSequenceEntryMappingEnd ∷ ss) o Tok.document_end f r = cc
-only_from (state.FlowMappingKey ∷ ss) o Tok.document_end f r = cc
-only_from (state.FlowMappingValue ∷ ss) o Tok.document_end f r = cc
-only_from (state.FlowMappingEmptyValue ∷ ss) o Tok.document_end f r = cc
 only_from (state.IndentlessSequenceEntry ∷ state.BlockMappingKey ∷ ss) o Tok.document_end f r = cc
-only_from (state.IndentlessSequenceEntry ∷ state.BlockMappingValue ∷ ss) o Tok.document_end f r = cc
+only_from ss o Tok.document_end f r = cc
 only_from ss o u f r = cc
 
-only_on : (ss : List State) (o : Properties) (t : Tok) → is_under ss ≡ true → begins_content context.Flow (kind_of t) ≡ false → may_begin (at.after_properties context.Flow (Some o)) ss (kind_of t) ≡ true
-    → Leads 2 (at.after_properties context.Flow (Some o)) ss (Some (Raw.empty_scalar (anchor_of o) (tag_of o))) at.done ss t
+only_on : (ss : List State) (o : Properties) (t : Tok) → is_under ss ≡ true → begins_content context.Flow (kind_of t) ≡ false → may_begin (Goal.after_properties context.Flow (Some o)) ss (kind_of t) ≡ true
+    → Leads 2 (Goal.after_properties context.Flow (Some o)) ss (Some (Raw.empty_scalar (anchor_of o) (tag_of o))) Goal.done ss t
 only_on (state.DocumentEnd ∷ ss) o Tok.document_end f a m = refl
-only_on (state.IndentlessSequenceEntry ∷ ss) o Tok.document_end f a m = cc
-only_on (state.BlockSequenceEntry ∷ ss) o Tok.document_end f a m = cc
-only_on (state.BlockMappingKey ∷ ss) o Tok.document_end f a m = cc
-only_on (state.BlockMappingValue ∷ ss) o Tok.document_end f a m = cc
-only_on (state.FlowSequenceEntry ∷ ss) o Tok.document_end f a m = cc
-only_on (state.FlowSequenceEntryMappingValue ∷ ss) o Tok.document_end f a m = cc
-only_on (state.FlowSequenceEntryMappingEnd ∷ ss) o Tok.document_end f a m = cc
-only_on (state.FlowMappingKey ∷ ss) o Tok.document_end f a m = cc
-only_on (state.FlowMappingValue ∷ ss) o Tok.document_end f a m = cc
-only_on (state.FlowMappingEmptyValue ∷ ss) o Tok.document_end f a m = cc
+only_on ss o Tok.document_end f a m = cc
 only_on ss o t f a m = cc
 
-pub properties_only : (ss : List State) (o : Properties) (t : Tok) → begins_content context.Flow (kind_of t) ≡ false → Leaves (at.after_properties context.Flow (Some o)) ss (Some t) (Some (Raw.empty_scalar (anchor_of o) (tag_of o))) at.done ss
+pub properties_only : (ss : List State) (o : Properties) (t : Tok) → begins_content context.Flow (kind_of t) ≡ false → Leaves (Goal.after_properties context.Flow (Some o)) ss (Some t) (Some (Raw.empty_scalar (anchor_of o) (tag_of o))) Goal.done ss
 properties_only ss o t a = leaves_so 2 (λ n f. (n, under_goes ss f.0)) (λ f. under_reads ss f.0) (λ f u r m. only_from ss o u f.0 (r 9)) (λ f r m. only_on ss o t f.0 a m) refl
-    (λ f. alike (under_other ss f.0) refl) (λ f h. absurd (both_ways (is_past_directives at.done ss) (under_past ss f.0) h))
+    (λ f. alike (under_other ss f.0) refl) (λ f h. absurd (both_ways (is_past_directives Goal.done ss) (under_past ss f.0) h))
 
-pub nothing_refuses : (ss : List State) (t : Tok) → begins_content context.Flow (kind_of t) ≡ false → Refuses (at.after_properties context.Flow None) ss t
+pub nothing_refuses : (ss : List State) (t : Tok) → begins_content context.Flow (kind_of t) ≡ false → Refuses (Goal.after_properties context.Flow None) ss t
 nothing_refuses ss t a n f ts es x = both_ways (begins_content context.Flow (kind_of t)) a x.1
 
 pub not_content : (k : Kind) → k ≢ kind.Scalar → k ≢ kind.FlowSequenceStart → k ≢ kind.FlowMappingStart → begins_content context.Flow k ≡ false

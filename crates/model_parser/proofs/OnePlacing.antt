@@ -1,16 +1,8 @@
 -- Of the same tokens, read so far, the same events are said, at the same positions.
-use Rattle.std.specs.Prelude.{◌≡◌, ◌≢◌, Bool, true, false, ◌&&◌, List, [], ◌∷◌, ◌++◌, Option, Some, None, IfSome, map}
-use Rattle.std.proofs.Common.{refl, sym, ap, ◌∙◌, subst}
-use Rattle.defs_text.specs.Position.{Position}
-use Rattle.defs_token.specs.Token.{Tok, Token}
-use Rattle.defs_event.specs.Event.{Ev}
-use Rattle.defs_event.specs.Raw.{Raw}
-use Rattle.defs_event.specs.Table.{Part, show, read, takes, leaves, row_of, Work, reading, saying, before}
-use Rattle.defs_event.specs.Grammar.{Held, Goal, stream, documents, cases, grammar}
-use Rattle.defs_event.specs.Names.{Names, no_names, named, names_after, resolved_event}
-use Rattle.defs_event.specs.Stream as placed
-use Rattle.defs_event.specs.Stream.{PlacedWork, placed_by, position_at, placed_before, Extent, to_last, Places, StreamPlacesTo, HasPlacedTo, raws_of, events_of, positions_of, AgreeAt}
+use Rattle.model_parser.proofs.Common.{[], AgreeAt, ap, before, Bool, cases, documents, Ev, events_of, Extent, false, grammar, HasPlacedTo, Held, IfSome, leaves, List, map, named, Names, names_after, no_names, None, Option, Part, placed_before, placed_by, PlacedWork, Places, Position, position_at, positions_of, Raw, raws_of, read, reading, refl, resolved_event, row_of, saying, show, Some, stream, StreamPlacesTo, subst, sym, takes, to_last, Tok, Token, true, Work, ◌&&◌, ◌++◌, ◌∙◌, ◌∷◌, ◌≡◌, ◌≢◌}
+use Rattle.defs_event.specs.Grammar.{Goal}
 use Rattle.defs_event.proofs.NameLemmas.{both_some}
+use Rattle.defs_event.specs.Stream as placed
 
 -- ---- events that are due at a place
 

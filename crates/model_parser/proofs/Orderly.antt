@@ -1,11 +1,6 @@
 -- In each stream no anchor stands right after another: row by row of the grammar's table.
-use Rattle.std.proofs.Common.{◌≡◌, Bool, true, false, not, ◌&&◌, ◌||◌, List, [], ◌∷◌, Option, Some, None, refl, subst}
-use Rattle.std.proofs.lemmas.Bool.{and_parts, and_from}
-use Rattle.defs_token.specs.Token.{Tok}
-use Rattle.defs_event.specs.Raw.{Raw}
-use Rattle.defs_event.specs.Stream.{StreamSays, whole_stream}
-use Rattle.defs_event.specs.Table.{Row, takes, leaves, row_of, Work, reading, saying, before, Derives, nothing_left, says, by_taking, by_leaving}
-use Rattle.defs_event.specs.Grammar.{Held, Place, in_flow, in_block, in_pair, key, value, Goal, stream, documents, directives, explicit_document, document_end, node, after_anchor, after_tag, content, block_sequence_entries, indentless_sequence_entries, block_mapping_entries, block_mapping_value, flow_sequence_entries, flow_sequence_comma, flow_mapping_entries, flow_mapping_comma, flow_mapping_value, flow_mapping_valued, flow_value, then_in, cases, grammar}
+use Rattle.model_parser.proofs.Common.{[], after_anchor, after_tag, and_from, and_parts, before, block_mapping_entries, block_mapping_value, block_sequence_entries, Bool, by_leaving, by_taking, cases, content, Derives, directives, document_end, documents, explicit_document, false, flow_mapping_comma, flow_mapping_entries, flow_mapping_value, flow_mapping_valued, flow_sequence_comma, flow_sequence_entries, flow_value, grammar, Held, in_block, in_flow, in_pair, indentless_sequence_entries, key, leaves, List, node, None, not, nothing_left, Option, Place, Raw, reading, refl, Row, row_of, saying, says, Some, stream, StreamSays, subst, takes, then_in, Tok, true, value, whole_stream, Work, ◌&&◌, ◌||◌, ◌∷◌, ◌≡◌}
+use Rattle.defs_event.specs.Grammar.{Goal}
 
 abbrev pub is_anchor : Tok → Bool
 is_anchor (Tok.anchor n) = true

@@ -1,14 +1,7 @@
 -- The events of tokens with their positions: they are the events without, and each reading of the tokens has positions.
-use Rattle.std.specs.Prelude.{◌≡◌, List, [], ◌∷◌, ◌++◌, Option, Some, None, IfSome}
-use Rattle.std.proofs.Common.{refl, ap, ◌∙◌, subst}
-use Rattle.defs_text.specs.Position.{Position}
-use Rattle.defs_token.specs.Token.{Tok, Token}
-use Rattle.defs_token.specs.Toks.{toks}
-use Rattle.defs_event.specs.Raw.{Raw}
-use Rattle.defs_event.specs.Table.{Part, row_of, Work, reading, saying, part_work, before, Derives, nothing_left, says, by_taking, by_leaving}
-use Rattle.defs_event.specs.Grammar.{Held, Goal, cases, grammar}
+use Rattle.model_parser.proofs.Common.{[], ap, before, by_leaving, by_taking, cases, Derives, grammar, Held, IfSome, List, None, nothing_left, Option, Part, part_work, placed_before, placed_by, PlacedWork, Places, Position, position_at, Raw, raws_of, reading, refl, row_of, saying, says, Some, subst, to_end, Tok, Token, toks, Work, ◌++◌, ◌∙◌, ◌∷◌, ◌≡◌}
+use Rattle.defs_event.specs.Grammar.{Goal}
 use Rattle.defs_event.specs.Stream as placed
-use Rattle.defs_event.specs.Stream.{PlacedWork, placed_by, position_at, placed_before, Places, to_end, raws_of}
 
 abbrev pub plain_work : PlacedWork → List (Work Goal Raw Held)
 plain_work [] = []
@@ -59,19 +52,12 @@ same_before h h' t t' ps w w' a b c = ap (λ x. before grammar x t ps w) a ∙ a
 pub with_positions : {v : List (Work Goal Raw Held)} {us : List Tok} {rs : List Raw} → Derives grammar v us rs
     → (b : Option Position) (w : PlacedWork) (ts : List Token) → plain_work w ≡ v → toks ts ≡ us → HasPlaces b w ts rs
 with_positions nothing_left b [] [] p q = ([], refl, placed.nothing_left)
-with_positions nothing_left b [] (t ∷ ts) p q = cc q
 with_positions nothing_left b (reading g h ∷ w) ts p q = cc p
-with_positions nothing_left b (saying x ∷ w) ts p q = cc p
-with_positions (says d) b [] ts p q = cc p
-with_positions (says d) b (reading g h ∷ w) ts p q = cc p
 with_positions (says {e = e} {w = v} {es = rs} d) b (saying x ∷ w) ts p q =
     let same : x.0 ≡ e = cc p in
     let rest : plain_work w ≡ v = cc p in
     let i = with_positions d b w ts rest q in
     ((x.0, or_nowhere x.1) ∷ i.0, ap (λ l. x.0 ∷ l) i.1 ∙ ap (λ y. y ∷ rs) same, placed.says (at_own x.1) i.2)
-with_positions (by_taking ps r d) b [] ts p q = cc p
-with_positions (by_taking ps r d) b (saying x ∷ w) ts p q = cc p
-with_positions (by_taking ps r d) b (reading g h ∷ w) [] p q = cc q
 with_positions (by_taking {g = g'} {h = h'} {w = w'} {t = t'} {ts = us} ps r d) b (reading g h ∷ w) (t ∷ ts) p q =
     let goal : g ≡ g' = cc p in
     let held : h ≡ h' = cc p in
@@ -80,9 +66,6 @@ with_positions (by_taking {g = g'} {h = h'} {w = w'} {t = t'} {ts = us} ps r d) 
     let more : toks ts ≡ us = cc q in
     let i = with_positions d (Some t.position) (placed_before t b h ps w) ts (plain_before t b h ps w ∙ same_before h h' t.tok t' ps (plain_work w) w' held tok rest) more in
     (i.0, i.1, placed.by_taking {es = i.0} ps (ap (λ x. row_of (cases x) t.tok) goal ∙ ap (λ x. row_of (cases g') x) tok ∙ r) i.2)
-with_positions (by_leaving ps r d) b [] ts p q = cc p
-with_positions (by_leaving ps r d) b (saying x ∷ w) ts p q = cc p
-with_positions (by_leaving ps r d) b (reading g h ∷ w) [] p q = cc q
 with_positions (by_leaving {g = g'} {h = h'} {w = w'} {t = t'} {ts = us} ps r d) b (reading g h ∷ w) (t ∷ ts) p q =
     let goal : g ≡ g' = cc p in
     let held : h ≡ h' = cc p in
@@ -90,3 +73,4 @@ with_positions (by_leaving {g = g'} {h = h'} {w = w'} {t = t'} {ts = us} ps r d)
     let tok : t.tok ≡ t' = cc q in
     let i = with_positions d b (placed_before t b h ps w) (t ∷ ts) (plain_before t b h ps w ∙ same_before h h' t.tok t' ps (plain_work w) w' held tok rest) q in
     (i.0, i.1, placed.by_leaving {es = i.0} ps (ap (λ x. row_of (cases x) t.tok) goal ∙ ap (λ x. row_of (cases g') x) tok ∙ r) i.2)
+with_positions d b w ts p q = cc (p, q)

@@ -1,15 +1,7 @@
 -- The positions of events, on some streams: a machine finds them, and each row asks it by `refl`.
-use Rattle.std.specs.Prelude.{◌≡◌, ℕ, zero, suc, false, List, [], ◌∷◌, ◌++◌, Option, Some, None, codes}
-use Rattle.std.specs.Option.{option_map}
-use Rattle.std.proofs.Common.{refl, subst}
-use Rattle.defs_text.specs.Position.{Position}
-use Rattle.defs_token.specs.Token.{Style, Tok, Token}
-use Rattle.defs_event.specs.Event.{Ev}
-use Rattle.defs_event.specs.Raw.{Raw, nothing_written}
-use Rattle.defs_event.specs.Table.{Row, takes, leaves, row_of, reading, saying}
-use Rattle.defs_event.specs.Grammar.{Goal, Held, nothing_held, stream, cases}
-use Rattle.defs_event.specs.Stream.{PlacedWork, placed_before, Places, to_end, to_next, to_last, nothing_left, wants_token, takes_last, says, by_taking, by_leaving, StreamPlacesTo, StreamPlaces, IsPlacedStream, BeginsPlaced}
-use Rattle.defs_event.proofs.Texts.{plain_raw, plain_event}
+use Rattle.model_parser.proofs.Common.{[], BeginsPlaced, cases, codes, Ev, false, Held, IsPlacedStream, leaves, List, None, nothing_held, nothing_written, Option, option_map, placed_before, PlacedWork, Places, plain_event, plain_raw, Position, Raw, reading, refl, Row, row_of, saying, Some, stream, StreamPlaces, StreamPlacesTo, Style, subst, suc, takes, takes_last, to_end, to_last, to_next, Tok, Token, wants_token, zero, ℕ, ◌++◌, ◌∷◌, ◌≡◌}
+use Rattle.defs_event.specs.Grammar.{Goal}
+use Rattle.defs_event.specs.Stream.{nothing_left, says, by_taking, by_leaving}
 use Rattle.model_parser.proofs.Places.{or_nowhere, at_own}
 
 -- ---- a machine

@@ -1,17 +1,8 @@
 -- What a parser still has to read has no event that is due at a place: that of the end of a single pair is promised nowhere.
-use Rattle.std.proofs.Common.{◌≡◌, List, [], ◌∷◌, ◌++◌, Option, None, Bool, true, false, refl, ap, ◌∙◌}
-use Rattle.defs_text.specs.Position.{Position}
-use Rattle.defs_token.specs.Token.{Token}
-use Rattle.defs_event.specs.Raw.{Raw}
-use Rattle.defs_event.specs.Table.{Part, reading, saying, before}
-use Rattle.defs_event.specs.Grammar.{Held, Goal as Read, grammar}
-use Rattle.defs_event.specs.Stream.{placed_by, position_at, placed_before}
+use Rattle.model_parser.proofs.Common.{[], ap, before, Bool, false, Goal, grammar, Held, List, None, Option, Part, past, placed, placed_before, placed_by, Position, position_at, Raw, reading, refl, saying, State, Token, true, work_of, Works, works, ◌++◌, ◌∙◌, ◌∷◌, ◌≡◌}
+use Rattle.defs_event.specs.Grammar.{Goal as Read}
 use Rattle.model_parser.proofs.Places.{plain_work, before_other}
-use Rattle.model_parser.specs.declared.state.State.{State}
 use Rattle.model_parser.specs.declared.state.State.TheVariants as state
-use Rattle.model_parser.specs.Goal as at
-use Rattle.model_parser.specs.Goal.{Goal}
-use Rattle.model_parser.specs.Rest.{Works, past, works, work_of, placed}
 
 abbrev pub is_quiet : Works → Bool
 is_quiet [] = true
@@ -42,13 +33,13 @@ works_quiet [] = refl
 works_quiet (s ∷ ss) = state_quiet s ss (works_quiet ss)
 
 pub work_quiet : (g : Goal) (ss : List State) → is_quiet (work_of g ss) ≡ true
-work_quiet (at.node p) ss = past_quiet ss (works ss) (works_quiet ss)
-work_quiet (at.after_anchor p a) ss = past_quiet ss (works ss) (works_quiet ss)
-work_quiet (at.after_tag p t) ss = past_quiet ss (works ss) (works_quiet ss)
-work_quiet (at.after_properties p o) ss = past_quiet ss (works ss) (works_quiet ss)
-work_quiet at.indentless_entries ss = past_quiet ss (works ss) (works_quiet ss)
-work_quiet at.indentless_entry ss = past_quiet ss (works ss) (works_quiet ss)
-work_quiet at.part ss = past_quiet ss (works ss) (works_quiet ss)
+work_quiet (Goal.node p) ss = past_quiet ss (works ss) (works_quiet ss)
+work_quiet (Goal.after_anchor p a) ss = past_quiet ss (works ss) (works_quiet ss)
+work_quiet (Goal.after_tag p t) ss = past_quiet ss (works ss) (works_quiet ss)
+work_quiet (Goal.after_properties p o) ss = past_quiet ss (works ss) (works_quiet ss)
+work_quiet Goal.indentless_entries ss = past_quiet ss (works ss) (works_quiet ss)
+work_quiet Goal.indentless_entry ss = past_quiet ss (works ss) (works_quiet ss)
+work_quiet Goal.part ss = past_quiet ss (works ss) (works_quiet ss)
 work_quiet g ss = works_quiet ss
 
 -- So it is the same wherever its events would stand.

@@ -1,9 +1,5 @@
 -- Tokens with which no stream begins, though one begins with all but the last: the table refuses the last.
-use Rattle.std.specs.Prelude.{◌≡◌, Bool, true, false, List, [], ◌∷◌, codes, refl}
-use Rattle.defs_token.specs.Token.{Style, Tok}
-use Rattle.defs_event.specs.Raw.{Raw}
-use Rattle.model_parser.specs.Machine.{Outcome, stops}
-use Rattle.model_parser.specs.Reader.{read_stream}
+use Rattle.model_parser.proofs.Common.{[], Bool, codes, false, List, Outcome, Raw, read_stream, refl, stops, Style, Tok, true, ◌∷◌, ◌≡◌}
 
 abbrev x : Tok
 x = Tok.scalar Style.plain (codes "x")

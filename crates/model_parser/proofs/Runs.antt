@@ -1,9 +1,6 @@
 -- What a machine tells of tokens is right, over any table: it is a parser that stays on track.
-use Rattle.std.proofs.Common.{◌≡◌, ◌⊎◌, inl, inr, ℕ, zero, suc, ◌<◌, Bool, true, false, List, [], ◌∷◌, ◌++◌, Option, Some, None, refl, sym, ap, subst, arith, append_assoc, append-nil}
-use Rattle.defs_event.specs.Table.{Part, Row, takes, leaves, Table, row_of, Work, reading, saying, part_work, before, Derives, nothing_left, says}
-use Rattle.model_parser.specs.Machine.{work_weight, Turned, goes, refused, and_before, by_row, step, Outcome, reads, unfinished, stops, after_events, finish, go_on, run}
-use Rattle.model_parser.specs.Outcome.{Begins, NeverGoesOn, IsRight}
-use Rattle.model_parser.specs.Track.{IsOnTrack}
+use Rattle.model_parser.proofs.Common.{[], after_events, and_before, ap, append-nil, append_assoc, arith, before, Begins, Bool, Derives, false, finish, go_on, goes, inl, inr, IsOnTrack, IsRight, leaves, List, NeverGoesOn, None, nothing_left, Option, Outcome, Part, part_work, reading, reads, refl, refused, Row, row_of, run, saying, says, Some, step, stops, subst, suc, sym, Table, takes, true, Turned, unfinished, Work, work_weight, zero, ℕ, ◌++◌, ◌<◌, ◌∷◌, ◌≡◌, ◌⊎◌}
+use Rattle.model_parser.specs.Machine.{by_row}
 use Rattle.model_parser.proofs.Steps.{Falls, parts_weigh}
 use Rattle.model_parser.proofs.Completions.{Completes, all_complete}
 use Rattle.model_parser.proofs.CameBy.{said_by}

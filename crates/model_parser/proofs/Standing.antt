@@ -1,21 +1,10 @@
 -- Where a parser stands at first, after a look at the next token, at the next state of its stack, and at the end.
-use Rattle.std.proofs.Common.{◌≡◌, List, [], ◌∷◌, ◌++◌, Option, None, refl, sym, ap, ◌∙◌, subst, append-nil}
-use Rattle.defs_token.specs.Token.{Tok}
-use Rattle.defs_event.specs.Raw.{Raw}
-use Rattle.defs_event.specs.Table.{Derives, nothing_left}
-use Rattle.defs_event.specs.Grammar.{grammar}
-use Rattle.defs_event.specs.Stream.{StreamSays}
-use Rattle.model_parser.specs.declared.kind.Kind.{Kind}
-use Rattle.model_parser.specs.declared.state.State.{State}
-use Rattle.model_parser.specs.declared.state.State.TheVariants as state
-use Rattle.model_parser.specs.Goal as at
-use Rattle.model_parser.specs.Goal.{Goal}
-use Rattle.model_parser.specs.Place.{next_in, top, is_node, is_after, is_past_in, is_past_directives}
-use Rattle.model_parser.specs.Rest.{goal_of, may_begin, first_may}
-use Rattle.model_parser.specs.Stands.{IsOnTrack, IsSettled, as_tokens, goes_on, at_directive}
+use Rattle.model_parser.proofs.Common.{[], ap, append-nil, as_tokens, at_directive, Derives, first_may, Goal, goal_of, goes_on, grammar, is_after, is_node, is_past_directives, is_past_in, IsSettled, Kind, List, may_begin, next_in, None, nothing_left, Option, Raw, refl, State, StreamSays, subst, sym, Tok, top, ◌++◌, ◌∙◌, ◌∷◌, ◌≡◌}
+use Rattle.model_parser.specs.Stands.{IsOnTrack}
 use Rattle.model_parser.proofs.StepRows.{first_any}
+use Rattle.model_parser.specs.declared.state.State.TheVariants as state
 
-pub begins : (p : Option Tok) → IsOnTrack at.done (state.StreamStart ∷ []) [] p []
+pub begins : (p : Option Tok) → IsOnTrack Goal.done (state.StreamStart ∷ []) [] p []
 begins p = record {
   nested = (tt, tt);
   fits = tt;
@@ -23,7 +12,7 @@ begins p = record {
   settled = as_tokens refl;
   past = λ h. cc;
   sound = λ ts es a. a.0;
-  exact = λ ts es u d. (es, refl, (d, first_any at.done (state.StreamStart ∷ []) ts (λ k. refl)));
+  exact = λ ts es u d. (es, refl, (d, first_any Goal.done (state.StreamStart ∷ []) ts (λ k. refl)));
 }
 
 -- The next token is looked at.
@@ -52,15 +41,15 @@ past_of : (s : State) (ss : List State) → is_past_directives (goal_of s) ss �
 past_of state.StreamStart ss = refl
 past_of s ss = refl
 
-may_of : (s : State) (ss : List State) (k : Kind) → may_begin at.done (s ∷ ss) k ≡ may_begin (goal_of s) ss k
+may_of : (s : State) (ss : List State) (k : Kind) → may_begin Goal.done (s ∷ ss) k ≡ may_begin (goal_of s) ss k
 may_of state.StreamStart ss k = refl
 may_of s ss k = refl
 
-pub first_of : (s : State) (ss : List State) (ts : List Tok) → first_may at.done (s ∷ ss) ts ≡ first_may (goal_of s) ss ts
+pub first_of : (s : State) (ss : List State) (ts : List Tok) → first_may Goal.done (s ∷ ss) ts ≡ first_may (goal_of s) ss ts
 first_of s ss [] = refl
 first_of s ss (t ∷ ts) = may_of s ss _
 
-pub pops : {s : State} {ss : List State} {taken : List Tok} {p : Option Tok} {given : List Raw} → IsOnTrack at.done (s ∷ ss) taken p given → IsOnTrack (goal_of s) ss taken p given
+pub pops : {s : State} {ss : List State} {taken : List Tok} {p : Option Tok} {given : List Raw} → IsOnTrack Goal.done (s ∷ ss) taken p given → IsOnTrack (goal_of s) ss taken p given
 pops {s} {ss} {taken} {p} h = record {
   nested = h.nested.1;
   fits = h.nested.0;
@@ -71,7 +60,7 @@ pops {s} {ss} {taken} {p} h = record {
   exact = λ ts es u d. let x = h.exact ts es u d in (x.0, x.1, (x.2.0, sym (first_of s ss ts) ∙ x.2.1));
 }
   where
-    by : IsSettled at.done (s ∷ ss) taken p → IsSettled (goal_of s) ss taken p
+    by : IsSettled Goal.done (s ∷ ss) taken p → IsSettled (goal_of s) ss taken p
     by (as_tokens e) = as_tokens (e ∙ ap next_in (sym (top_of s ss)))
     by (goes_on e c) = goes_on (ap (λ g. is_node (next_in g)) (top_of s ss) ∙ e) c
     by (at_directive e d) = at_directive (ap is_after (top_of s ss) ∙ e) d
@@ -81,7 +70,7 @@ read_out : (ts : List Tok) (es : List Raw) → Derives grammar [] ts es → (ts 
 read_out [] _ nothing_left = (refl, refl)
 read_out (t ∷ ts) es d = elim d [ ]
 
-pub ends : (ss : List State) (taken : List Tok) (given : List Raw) → IsOnTrack at.ended ss taken None given → StreamSays taken given × ((ts : List Tok) (es : List Raw) → StreamSays (taken ++ ts) es → (ts ≡ []) × (es ≡ given))
+pub ends : (ss : List State) (taken : List Tok) (given : List Raw) → IsOnTrack Goal.ended ss taken None given → StreamSays taken given × ((ts : List Tok) (es : List Raw) → StreamSays (taken ++ ts) es → (ts ≡ []) × (es ≡ given))
 ends [] taken given s = (
   subst (λ ts. StreamSays ts given) (append-nil taken) (subst (λ es. StreamSays (taken ++ []) es) (append-nil given) (s.sound [] [] (nothing_left, refl))),
   λ ts es d. let x = s.exact ts es tt d in let y = read_out ts x.0 x.2.0 in (y.0, x.1 ∙ ap (λ fs. given ++ fs) y.1 ∙ append-nil given),

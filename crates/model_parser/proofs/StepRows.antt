@@ -1,30 +1,13 @@
 -- A turn of the parser by the rows of the grammar's table.
-use Rattle.std.proofs.Common.{◌≡◌, ◌⊎◌, ℕ, zero, suc, List, [], ◌∷◌, ◌++◌, Option, Some, None, Bool, true, false, refl, sym, ap, ◌∙◌, subst}
 use Rattle.std.specs.Option.{IfSome}
-use Rattle.defs_text.specs.Position.{Position}
-use Rattle.defs_token.specs.Token.{Tok, Token}
-use Rattle.defs_token.specs.Toks.{toks}
-use Rattle.defs_event.specs.Raw.{Raw}
-use Rattle.defs_event.specs.Table.{Part, Row, takes, leaves, row_of, reading, saying, before, Derives, says, by_taking, by_leaving}
-use Rattle.model_parser.specs.Machine.{Turned, goes, refused, step}
-use Rattle.defs_event.specs.Stream as places
-use Rattle.defs_event.specs.Stream.{PlacedWork, placed_by, position_at, placed_before, Extent, Places}
-use Rattle.defs_event.specs.Grammar as table
-use Rattle.defs_event.specs.Grammar.{Held, cases, grammar}
+use Rattle.model_parser.proofs.Common.{[], ap, Awaits, AwaitsAt, before, Bool, by_leaving, by_taking, cases, Derives, event_at, event_then, Extent, false, first_may, Goal, goes, grammar, Held, is_past_directives, IsAt, IsAtFirst, IsFor, IsNested, IsNext, IsNoDirective, IsThere, Kind, kind_of, Leaves, leaves, List, may_begin, next_at, next_past, None, open_at, open_past, Option, Part, placed, placed_before, placed_by, PlacedWork, Places, Position, position_at, Raw, reading, refl, refused, Refuses, Row, row_of, saying, says, Settles, Some, State, step, subst, suc, sym, Takes, takes, Then, Tok, Token, toks, true, Turned, work_of, Works, zero, ℕ, ◌++◌, ◌∙◌, ◌∷◌, ◌≡◌, ◌⊎◌}
 use Rattle.model_parser.proofs.Completions.{all_complete}
 use Rattle.model_parser.proofs.Falls.{grammar_completes}
 use Rattle.model_parser.proofs.Steps.{Sound, step_sound}
 use Rattle.model_parser.proofs.Places.{plain_work, plain_before}
-use Rattle.model_parser.specs.declared.kind.Kind.{Kind}
-use Rattle.model_parser.specs.declared.state.State.{State}
-use Rattle.model_parser.specs.Kinds.{kind_of}
-use Rattle.model_parser.specs.Goal.{Goal}
-use Rattle.defs_event.specs.Place.{open_past, next_past}
-use Rattle.model_parser.specs.Place.{open_at, next_at, is_past_directives, IsNoDirective}
-use Rattle.model_parser.specs.Rest.{Works, work_of, may_begin, first_may, Awaits, placed, AwaitsAt, IsNested, IsFor}
-use Rattle.model_parser.specs.Stands.{IsNext}
-use Rattle.model_parser.specs.Turn.{event_then, Then, IsAt, IsAtFirst, IsThere, event_at, Takes, Leaves, Settles, Refuses}
 use Rattle.model_parser.proofs.Quiet.{is_quiet, work_quiet, quiet_placed, plain_placed, placed_row}
+use Rattle.defs_event.specs.Stream as places
+use Rattle.defs_event.specs.Grammar as table
 
 -- ---- what a derivation came by
 

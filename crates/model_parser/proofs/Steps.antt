@@ -1,7 +1,6 @@
 -- A machine's turn at one token, over any table.
-use Rattle.std.proofs.Common.{◌≡◌, ℕ, zero, suc, ◌+◌, ◌<◌, List, [], ◌∷◌, ◌++◌, Option, Some, None, refl, arith}
-use Rattle.defs_event.specs.Table.{Part, read, keep, hold, say, show, empty, Row, takes, leaves, Table, row_of, Work, reading, saying, part_work, before, Derives, says, by_taking, by_leaving}
-use Rattle.model_parser.specs.Machine.{part_weight, parts_weight, work_weight, Turned, goes, refused, and_before, by_row, step}
+use Rattle.model_parser.proofs.Common.{[], and_before, arith, before, by_leaving, by_taking, Derives, empty, goes, hold, keep, leaves, List, None, Option, Part, part_weight, part_work, parts_weight, read, reading, refl, refused, Row, row_of, say, saying, says, show, Some, step, suc, Table, takes, Turned, Work, work_weight, zero, ℕ, ◌++◌, ◌+◌, ◌<◌, ◌∷◌, ◌≡◌}
+use Rattle.model_parser.specs.Machine.{by_row}
 
 -- ---- what the machine reads, the table reads
 

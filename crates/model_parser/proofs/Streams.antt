@@ -1,17 +1,6 @@
 -- By the table of the token grammar, what the machine says of tokens is right, and a parser stays on track.
-use Rattle.std.proofs.Common.{◌≡◌, inl, Bool, List, Some, refl, subst}
-use Rattle.defs_token.specs.Token.{Tok}
-use Rattle.defs_event.specs.Event.{Ev}
-use Rattle.defs_event.specs.Raw.{Raw}
-use Rattle.defs_event.specs.Names.{named, no_names}
-use Rattle.defs_event.specs.Table.{leaves}
-use Rattle.defs_event.specs.Grammar.{grammar}
-use Rattle.defs_event.specs.Stream.{whole_stream, StreamSays, IsStream}
-use Rattle.model_parser.specs.Machine.{reads}
-use Rattle.model_parser.specs.Reader.{weight, read_stream}
+use Rattle.model_parser.proofs.Common.{Bool, ends_goal, Ev, grammar, inl, IsRight, IsStream, leaves, List, named, no_names, Raw, read_stream, reads, refl, Some, StreamSays, subst, Tok, weight, whole_stream, ◌≡◌}
 use Rattle.model_parser.specs.Laws.{ParsersStayOnTrack}
-use Rattle.model_parser.specs.Outcome.{IsRight}
-use Rattle.model_parser.specs.Track.{ends_goal}
 use Rattle.model_parser.proofs.Runs.{run_is_right}
 use Rattle.model_parser.proofs.Track.{starts, look, give, take, leave, refuse}
 use Rattle.model_parser.proofs.Falls.{grammar_completes}

@@ -5,17 +5,8 @@
 -- their properties, contents in flow, and flow sequences; `single_pairs` the pairs in these, and flow values; `flow_mapping` flow mappings;
 -- `block_sequence` contents in blocks, and block sequences; `values` and `keys` contents in block mappings, sequences without indentation,
 -- and block mappings.
-use Rattle.std.specs.Prelude.{◌≡◌, ℕ, Bool, true, false, List, [], ◌∷◌, ◌++◌, Some, None, codes, refl}
-use Rattle.std.proofs.Common.{ap, ◌∙◌}
-use Rattle.defs_token.specs.Token.{Style, Tok}
-use Rattle.defs_event.specs.Event.{Ev}
-use Rattle.defs_event.specs.Raw.{Raw, Directive, nothing_written}
-use Rattle.defs_event.specs.Names.{named, no_names}
-use Rattle.defs_event.specs.Stream.{StreamSays, IsStream}
+use Rattle.model_parser.proofs.Common.{[], ap, Bool, codes, Directive, Ev, false, IsStream, List, named, no_names, None, nothing_written, plain_event, plain_raw, Raw, read_stream, reads, refl, Some, StreamSays, Style, tag_of_text, three_documents, Tok, true, ℕ, ◌++◌, ◌∙◌, ◌∷◌, ◌≡◌}
 use Rattle.defs_event.proofs.OneReading.{read_in_one_way}
-use Rattle.defs_event.proofs.Texts.{tag_of_text, plain_raw, plain_event, three_documents}
-use Rattle.model_parser.specs.Machine.{reads}
-use Rattle.model_parser.specs.Reader.{read_stream}
 use Rattle.model_parser.proofs.Streams.{says_by, stream_by}
 
 abbrev word : List ℕ → Tok

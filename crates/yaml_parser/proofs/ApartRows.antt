@@ -1,11 +1,7 @@
 -- Which two tokens may come instead of a refused one, and which events they leave certain: examples.
-use Rattle.std.proofs.Common.{◌≡◌, List, [], ◌∷◌, None, refl}
-use Rattle.defs_token.specs.Token.{Style, Tok}
-use Rattle.defs_event.specs.Raw.{Raw, nothing_written}
+use Rattle.yaml_parser.proofs.Common.{[], block_mapping, directive_next, FlowMappingEntry, List, next_after, node_next, NodeContent, None, nothing_written, open_after, other_next, Raw, refl, StandsApart, Style, Tok, ◌∷◌, ◌≡◌}
 use Rattle.model_parser.proofs.Streams.{says_by}
-use Rattle.yaml_tokens.specs.declared.problem.Problem.TheVariants.{NodeContent, FlowMappingEntry}
-use Rattle.defs_event.specs.Place.{block_mapping, flow_mapping as in_braces, open_after, node_next, directive_next, other_next, next_after}
-use Rattle.yaml_parser.specs.Apart.{StandsApart}
+use Rattle.defs_event.specs.Place.{flow_mapping as in_braces}
 
 -- before `]` in `- ]`
 abbrev after_dash : List Tok

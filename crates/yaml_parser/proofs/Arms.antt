@@ -1,38 +1,8 @@
 -- The arms of the productions.
-use Rattle.std.proofs.Common.{◌≡◌, ◌≢◌, List, [], ◌∷◌, ◌++◌, Option, Some, None, option_map, Bool, true, false, Result, Ok, Err, refl, sym, ap, ◌∙◌, subst, ◌⊎◌, inl, inr}
-use Rattle.std.specs.Result.{IsErrAnd, OnErr}
-use Rattle.std.specs.Option.{IfSome}
-use Rattle.defs_text.specs.Position.{Position}
-use Rattle.defs_token.specs.Token as defs
-use Rattle.defs_token.specs.Token.{Tok}
-use Rattle.yaml_tokens.specs.declared.token.Token.{Token}
-use Rattle.yaml_tokens.specs.Shown.{shown, tok_of}
-use Rattle.yaml_scanner_state.specs.Tokens.{is_end}
-use Rattle.defs_event.specs.Event.{Ev}
-use Rattle.defs_event.specs.Raw.{Raw}
-use Rattle.defs_event.specs.Names.{Names, names_after, resolved_event}
-use Rattle.defs_event.specs.Stream.{position_at}
-use Rattle.model_parser.specs.declared.kind.Kind.{Kind}
-use Rattle.model_parser.specs.declared.state.State.{State}
-use Rattle.model_parser.specs.declared.state.State.TheVariants as state
-use Rattle.model_parser.specs.Kinds.{kind_of, tok_of_kind, HasNoText}
-use Rattle.model_parser.specs.Goal as at
-use Rattle.model_parser.specs.Goal.{Goal}
-use Rattle.model_parser.specs.Place.{top}
-use Rattle.model_parser.specs.Rest.{is_under}
-use Rattle.model_parser.specs.Turn.{Takes, Leaves, IsAt}
-use Rattle.model_parser.proofs.First.{tok_is}
-use Rattle.yaml_parser.specs.declared.event.Event.{Event}
-use Rattle.yaml_parser.specs.declared.tokens.Stop.{Stop}
-use Rattle.yaml_parser.specs.declared.reader.Reader.{Reader}
-use Rattle.yaml_parser.specs.declared.slot.EventSlot.{EventSlot}
-use Rattle.yaml_parser.specs.Ahead.{Skips}
-use Rattle.yaml_parser.specs.Handed.{peeked_tok, last_position, BeginAt}
-use Rattle.yaml_parser.specs.Kinds.{IsOfKind}
-use Rattle.yaml_parser.specs.Named.{IsNamed}
-use Rattle.yaml_parser.specs.Shown.{placed}
-use Rattle.yaml_parser.specs.At.{At, Answers, answered, Took, Stayed, Faulted, goal_after_event, IsPastColon, is_over, names_at, IsPending}
+use Rattle.yaml_parser.proofs.Common.{[], answered, Answers, ap, At, BeginAt, Bool, Err, Ev, Event, EventSlot, false, Faulted, Goal, goal_after_event, HasNoText, IfSome, inl, inr, is_end, is_over, is_under, IsAt, IsErrAnd, IsNamed, IsOfKind, IsPastColon, IsPending, Kind, kind_of, last_position, Leaves, List, Names, names_after, names_at, None, Ok, OnErr, Option, option_map, peeked_tok, placed, Position, position_at, Raw, Reader, refl, resolved_event, Result, shown, Skips, Some, State, Stayed, Stop, subst, sym, Takes, Tok, tok_is, tok_of, tok_of_kind, Token, Took, top, true, ◌++◌, ◌∙◌, ◌∷◌, ◌≡◌, ◌≢◌, ◌⊎◌}
 use Rattle.yaml_parser.proofs.Steps.{looked, took, took_on, left, left_on, Named, breaks, if_some_at}
+use Rattle.defs_token.specs.Token as defs
+use Rattle.model_parser.specs.declared.state.State.TheVariants as state
 
 -- the token at hand is taken, and this is what there is after it
 abbrev pub Skipped : {T : Type 0} → Reader T → Reader T → List State → Type 0
@@ -58,7 +28,7 @@ pub record Bare {T : Type 0} (g : Goal) (p : Reader T) (names : Names) (e : Raw)
   pub after_it : names_after p.names.keeping.tags names e ≡ names
   pub seen : names_at p.names.keeping.tags g names ≡ names
 
-plain_named : {T : Type 0} {g : Goal} {p r : Reader T} {names : Names} {e : Raw} {v : Ev} {given : List (Ev × Position)} → Bare g p names e v → r.names ≡ p.names → At g p names given → Named p r at.done names e v names
+plain_named : {T : Type 0} {g : Goal} {p r : Reader T} {names : Names} {e : Raw} {v : Ev} {given : List (Ev × Position)} → Bare g p names e v → r.names ≡ p.names → At g p names given → Named p r Goal.done names e v names
 plain_named {T} {g} {p} {r} {names} {e} {v} {given} y same a = record {
   resolves = y.resolves;
   after_it = y.after_it;
@@ -82,58 +52,62 @@ HasNoColon g ss = (o : Option Position) → IsPastColon (top g ss) o
 
 -- The token is taken, and an event is given, which stands there.
 pub gives_at : {T : Type 0} (m : Position) {g : Goal} {p r : Reader T} {k k' : Kind} {ss : List State} {e : Raw} {v : Ev} {names : Names} {given : List (Ev × Position)}
-    → IsOfKind k' p.tokens.peeked → k' ≡ k → HasNoText k → Skipped p r ss → Takes g p.stack (tok_of_kind k) (Some e) at.done ss
-    → Bare g p names e v → is_over g ≡ false → is_end (tok_of_kind k) ≡ false → ((t : Token) → p.tokens.peeked ≡ Some t → IsAt (last_position p.tokens) (shown t) (Some e) m × IsPastColon (top at.done ss) (Some t.0))
-    → At g p names given → (names' : Names) × At at.done r names' (given ++ (v, m) ∷ [])
+    → IsOfKind k' p.tokens.peeked → k' ≡ k → HasNoText k → Skipped p r ss → Takes g p.stack (tok_of_kind k) (Some e) Goal.done ss
+    → Bare g p names e v → is_over g ≡ false → is_end (tok_of_kind k) ≡ false → ((t : Token) → p.tokens.peeked ≡ Some t → IsAt (last_position p.tokens) (shown t) (Some e) m × IsPastColon (top Goal.done ss) (Some t.0))
+    → At g p names given → (names' : Names) × At Goal.done r names' (given ++ (v, m) ∷ [])
 gives_at {T} m {g} {p} {r} {k} {k'} {ss} {e} {v} {names} {given} o h plain s turn y over end places a =
     let l = looked k' p.tokens.peeked o in
     let t = l.0 in
     let x = s t l.1 in
     let same : tok_of t.1 ≡ tok_of_kind k = tok_is (l.2 ∙ h) plain in (
       names,
-      took m l.1 x.tokens x.stack (subst (λ u. Takes g p.stack u (Some e) at.done ss) (sym same) turn) (plain_named y x.names a) (λ w. (over, ap is_end same ∙ end)) (places t l.1).0 (places t l.1).1 a,
+      took m l.1 x.tokens x.stack (subst (λ u. Takes g p.stack u (Some e) Goal.done ss) (sym same) turn) (plain_named y x.names a) (λ w. (over, ap is_end same ∙ end)) (places t l.1).0 (places t l.1).1 a,
     )
 
 -- It stands at the token, which may be the `:` of a value that is next.
 pub gives_past : {T : Type 0} (m : Position) {g : Goal} {p r : Reader T} {k k' : Kind} {ss : List State} {e : Raw} {v : Ev} {names : Names} {given : List (Ev × Position)}
-    → IsOfKind k' p.tokens.peeked → k' ≡ k → HasNoText k → IfSome p.tokens.peeked (λ t. t.0 ≡ m) → Skipped p r ss → Takes g p.stack (tok_of_kind k) (Some e) at.done ss
-    → Bare g p names e v → StandsHere e → ((t : Token) → t.0 ≡ m → IsPastColon (top at.done ss) (Some t.0)) → is_over g ≡ false → is_end (tok_of_kind k) ≡ false → At g p names given → (names' : Names) × At at.done r names' (given ++ (v, m) ∷ [])
+    → IsOfKind k' p.tokens.peeked → k' ≡ k → HasNoText k → IfSome p.tokens.peeked (λ t. t.0 ≡ m) → Skipped p r ss → Takes g p.stack (tok_of_kind k) (Some e) Goal.done ss
+    → Bare g p names e v → StandsHere e → ((t : Token) → t.0 ≡ m → IsPastColon (top Goal.done ss) (Some t.0)) → is_over g ≡ false → is_end (tok_of_kind k) ≡ false → At g p names given → (names' : Names) × At Goal.done r names' (given ++ (v, m) ∷ [])
 gives_past {T} m {p = p} {e = e} o h plain mark s turn y here colon over end a =
     gives_at m o h plain s turn y over end (λ t is. let there = if_some_at (λ (u : Token). u.0 ≡ m) mark is in (here_at (last_position p.tokens) e (shown t) m here there, colon t there)) a
 
 -- No value is next whose `:` was just taken.
 pub gives : {T : Type 0} (m : Position) {g : Goal} {p r : Reader T} {k k' : Kind} {ss : List State} {e : Raw} {v : Ev} {names : Names} {given : List (Ev × Position)}
-    → IsOfKind k' p.tokens.peeked → k' ≡ k → HasNoText k → IfSome p.tokens.peeked (λ t. t.0 ≡ m) → Skipped p r ss → Takes g p.stack (tok_of_kind k) (Some e) at.done ss
-    → Bare g p names e v → StandsHere e → HasNoColon at.done ss → is_over g ≡ false → is_end (tok_of_kind k) ≡ false → At g p names given → (names' : Names) × At at.done r names' (given ++ (v, m) ∷ [])
+    → IsOfKind k' p.tokens.peeked → k' ≡ k → HasNoText k → IfSome p.tokens.peeked (λ t. t.0 ≡ m) → Skipped p r ss → Takes g p.stack (tok_of_kind k) (Some e) Goal.done ss
+    → Bare g p names e v → StandsHere e → HasNoColon Goal.done ss → is_over g ≡ false → is_end (tok_of_kind k) ≡ false → At g p names given → (names' : Names) × At Goal.done r names' (given ++ (v, m) ∷ [])
 gives {T} m o h plain mark s turn y here colon over end a = gives_past m o h plain mark s turn y here (λ t there. colon (Some t.0)) over end a
 
 -- The token is taken, and it goes on.
+pub goes_by : {T : Type 0} {g g' : Goal} {p r : Reader T} {t : Token} {x : Tok} {ss : List State} {names : Names} {given : List (Ev × Position)}
+    → p.tokens.peeked ≡ Some t → Skips p.tokens t r.tokens → r.stack ≡ ss → r.names ≡ p.names → tok_of t.1 ≡ x → Takes g p.stack x None g' ss
+    → names_at p.names.keeping.tags g' names ≡ names_at p.names.keeping.tags g names → IsPending names g' → is_over g ≡ false → is_end x ≡ false → IsPastColon (top g' ss) (Some t.0) → At g p names given → At g' r names given
+goes_by {T} {g} {g'} {p} {r} {t} {x} {ss} {names} {given} here skips to same tok turn seen pending over end past a =
+    took_on here skips to (subst (λ u. Takes g p.stack u None g' ss) (sym tok) turn) (ap (λ n. n.keeping) same)
+    (subst (λ n. IsNamed n (names_at n.keeping.tags g' names)) (sym same) (subst (IsNamed p.names) (sym seen) a.code)) pending (λ w. (over, ap is_end tok ∙ end)) past a
+
 pub goes : {T : Type 0} {g g' : Goal} {p r : Reader T} {k k' : Kind} {ss : List State} {names : Names} {given : List (Ev × Position)}
     → IsOfKind k' p.tokens.peeked → k' ≡ k → HasNoText k → Skipped p r ss → Takes g p.stack (tok_of_kind k) None g' ss
     → names_at p.names.keeping.tags g' names ≡ names_at p.names.keeping.tags g names → IsPending names g' → is_over g ≡ false → is_end (tok_of_kind k) ≡ false
     → ((t : Token) → p.tokens.peeked ≡ Some t → IsPastColon (top g' ss) (Some t.0)) → At g p names given → At g' r names given
 goes {T} {g} {g'} {p} {r} {k} {k'} {ss} {names} {given} o h plain s turn seen pending over end past a =
     let l = looked k' p.tokens.peeked o in
-    let t = l.0 in
-    let x = s t l.1 in
-    let same : tok_of t.1 ≡ tok_of_kind k = tok_is (l.2 ∙ h) plain in
-    took_on l.1 x.tokens x.stack (subst (λ u. Takes g p.stack u None g' ss) (sym same) turn) (ap (λ n. n.keeping) x.names)
-    (subst (λ n. IsNamed n (names_at n.keeping.tags g' names)) (sym x.names) (subst (IsNamed p.names) (sym seen) a.code)) pending (λ w. (over, ap is_end same ∙ end)) (past t l.1) a
+    let x = s l.0 l.1 in
+    goes_by l.1 x.tokens x.stack x.names (tok_is (l.2 ∙ h) plain) turn seen pending over end (past l.0 l.1) a
 
 -- The token stays, and an event is given, which stands somewhere.
 pub leaves_at : {T : Type 0} (m : Position) {g : Goal} {p r : Reader T} {k : Kind} {ss : List State} {e : Raw} {v : Ev} {names : Names} {given : List (Ev × Position)}
-    → IsOfKind k p.tokens.peeked → Stayed p r ss → ((t : Tok) → kind_of t ≡ k → Leaves g p.stack (Some t) (Some e) at.done ss)
-    → Bare g p names e v → ((k : defs.Token) → BeginAt p.tokens.peeked (k ∷ []) → IsAt (last_position p.tokens) k (Some e) m) → HasNoColon at.done ss → breaks g at.done ≡ false
-    → At g p names given → (names' : Names) × At at.done r names' (given ++ (v, m) ∷ [])
+    → IsOfKind k p.tokens.peeked → Stayed p r ss → ((t : Tok) → kind_of t ≡ k → Leaves g p.stack (Some t) (Some e) Goal.done ss)
+    → Bare g p names e v → ((k : defs.Token) → BeginAt p.tokens.peeked (k ∷ []) → IsAt (last_position p.tokens) k (Some e) m) → HasNoColon Goal.done ss → breaks g Goal.done ≡ false
+    → At g p names given → (names' : Names) × At Goal.done r names' (given ++ (v, m) ∷ [])
 leaves_at {T} m {g} {p} {r} {k} {ss} {e} {v} {names} {given} o s turn y spot colon over a =
     let l = looked k p.tokens.peeked o in
     (names, left m (ap (option_map (λ (x : Token). tok_of x.1)) l.1) s.tokens s.stack (turn (tok_of l.0.1) l.2) (plain_named y s.names a) over spot (colon (last_position p.tokens)) a)
 
 -- It stands at the token.
 pub leaves : {T : Type 0} (m : Position) {g : Goal} {p r : Reader T} {k : Kind} {ss : List State} {e : Raw} {v : Ev} {names : Names} {given : List (Ev × Position)}
-    → IsOfKind k p.tokens.peeked → Stayed p r ss → ((t : Tok) → kind_of t ≡ k → Leaves g p.stack (Some t) (Some e) at.done ss)
-    → Bare g p names e v → StandsHere e → IfSome r.tokens.peeked (λ t. t.0 ≡ m) → HasNoColon at.done ss → breaks g at.done ≡ false
-    → At g p names given → (names' : Names) × At at.done r names' (given ++ (v, m) ∷ [])
+    → IsOfKind k p.tokens.peeked → Stayed p r ss → ((t : Tok) → kind_of t ≡ k → Leaves g p.stack (Some t) (Some e) Goal.done ss)
+    → Bare g p names e v → StandsHere e → IfSome r.tokens.peeked (λ t. t.0 ≡ m) → HasNoColon Goal.done ss → breaks g Goal.done ≡ false
+    → At g p names given → (names' : Names) × At Goal.done r names' (given ++ (v, m) ∷ [])
 leaves {T} m {g} {p} {r} {k} {ss} {e} {v} {names} {given} o s turn y here mark colon over a =
     let l = looked k p.tokens.peeked o in
     let there : l.0.0 ≡ m = if_some_at (λ (u : Token). u.0 ≡ m) (subst (λ x. IfSome x.peeked (λ t. t.0 ≡ m)) s.tokens mark) l.1 in
@@ -149,13 +123,13 @@ stays {T} {g} {g'} {p} {r} {k} {ss} {names} {given} o s turn seen pending colon 
 
 -- No token is looked at, and an event is given whose position is not promised.
 pub went : {T : Type 0} (m : Position) {g : Goal} {p r : Reader T} {ss : List State} {e : Raw} {v : Ev} {names : Names} {given : List (Ev × Position)}
-    → Stayed p r ss → Leaves g p.stack (peeked_tok p.tokens) (Some e) at.done ss → Bare g p names e v → ((b : Option Position) (k : defs.Token) → position_at k b e ≡ None) → HasNoColon at.done ss → breaks g at.done ≡ false
-    → At g p names given → (names' : Names) × At at.done r names' (given ++ (v, m) ∷ [])
+    → Stayed p r ss → Leaves g p.stack (peeked_tok p.tokens) (Some e) Goal.done ss → Bare g p names e v → ((b : Option Position) (k : defs.Token) → position_at k b e ≡ None) → HasNoColon Goal.done ss → breaks g Goal.done ≡ false
+    → At g p names given → (names' : Names) × At Goal.done r names' (given ++ (v, m) ∷ [])
 went {T} m {g} {p} {r} {ss} {e} {v} {names} {given} s turn y anywhere colon over a =
     (names, left m refl s.tokens s.stack turn (plain_named y s.names a) over (λ k begins. subst (λ o. IfSome o (λ q. m ≡ q)) (sym (anywhere (last_position p.tokens) k)) tt) (colon (last_position p.tokens)) a)
 
 -- after a node none is
-pub under_no_colon : (ss : List State) → is_under ss ≡ true → HasNoColon at.done ss
+pub under_no_colon : (ss : List State) → is_under ss ≡ true → HasNoColon Goal.done ss
 under_no_colon [] h o = cc
 under_no_colon (state.FlowMappingPart m ∷ ss) h o = cc
 under_no_colon (s ∷ ss) h o = tt

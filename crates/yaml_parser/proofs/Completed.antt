@@ -1,26 +1,11 @@
 -- What is awaited goes on to an end whose events can be named: so no fault is late.
-use Rattle.std.proofs.Common.{◌≡◌, List, [], ◌∷◌, ◌++◌, Option, Some, None, option_map, Bool, true, false, ◌&&◌, refl, ap, ◌∙◌, if◌then◌else◌}
-use Rattle.std.proofs.lemmas.Bool.{and_parts, and_from}
-use Rattle.std.specs.Option.{IsSome}
-use Rattle.defs_token.specs.Token.{Style, Tok}
-use Rattle.defs_event.specs.Event.{Ev}
-use Rattle.defs_event.specs.Raw.{Raw, Directive}
-use Rattle.defs_event.specs.Properties.{anchor_of, tag_of}
-use Rattle.defs_event.specs.Names.{Names, number, named, both, names_after, resolved_event, resolved, perhaps_resolved}
-use Rattle.defs_event.specs.Table.{reading, saying}
+use Rattle.yaml_parser.proofs.Common.{[], after_text_events, anchor_of, and_from, and_parts, ap, Awaits, Bool, both, Directive, end_events, end_tokens, ends_so, Ev, false, first_any, first_may, Goal, goes_so, Held, if◌then◌else◌, in_pair, IsPending, IsSome, key, List, may_begin, named, Names, names_after, None, nothing_held, number, Option, option_map, past, past_tokens, perhaps_resolved, Place, Raw, reading, refl, resolved, resolved_event, saying, shortest_events, Some, State, Style, text, text_event, Tok, true, work_of, Works, works, ◌&&◌, ◌++◌, ◌∙◌, ◌∷◌, ◌≡◌}
+use Rattle.defs_event.specs.Properties.{tag_of}
+use Rattle.model_parser.specs.Rest.{place_of as where_it_stands}
 use Rattle.defs_event.specs.Grammar as table
-use Rattle.defs_event.specs.Grammar.{Held, nothing_held, key, value, Place, in_flow, in_block, in_pair}
-use Rattle.model_parser.proofs.Falls.{text, text_event, after_text_events, shortest_events}
 use Rattle.model_parser.specs.declared.kind.Kind.TheVariants as kind
 use Rattle.model_parser.specs.declared.context.NodeContext.TheVariants as context
-use Rattle.model_parser.specs.declared.state.State.{State}
 use Rattle.model_parser.specs.declared.state.State.TheVariants as state
-use Rattle.model_parser.specs.Goal as at
-use Rattle.model_parser.specs.Goal.{Goal}
-use Rattle.model_parser.specs.Rest.{Works, place_of as where_it_stands, past, works, work_of, may_begin, first_may, Awaits}
-use Rattle.model_parser.proofs.StepRows.{first_any}
-use Rattle.model_parser.proofs.Endings.{end_tokens, end_events, ends_so, past_tokens, goes_so}
-use Rattle.yaml_parser.specs.At.{IsPending}
 
 -- ---- it can be named
 
@@ -59,22 +44,16 @@ are_free [] = true
 are_free (e ∷ es) = is_free e && are_free es
 
 free_resolves : (s : Names) (e : Raw) → is_free e ≡ true → (v : Ev) × (resolved_event s e ≡ Some v)
-free_resolves s (Raw.document_start []) h = (_, refl)
-free_resolves s (Raw.scalar x y a None) h = (_, refl)
-free_resolves s (Raw.empty_scalar a None) h = (_, refl)
-free_resolves s Raw.stream_start h = (_, refl)
-free_resolves s Raw.stream_end h = (_, refl)
-free_resolves s Raw.document_end h = (_, refl)
-free_resolves s Raw.flow_sequence_end h = (_, refl)
-free_resolves s Raw.sequence_end h = (_, refl)
-free_resolves s Raw.indentless_sequence_end h = (_, refl)
-free_resolves s Raw.pair_start h = (_, refl)
-free_resolves s Raw.pair_end h = (_, refl)
-free_resolves s Raw.unwritten_value h = (_, refl)
-free_resolves s Raw.flow_mapping_end h = (_, refl)
-free_resolves s Raw.flow_mapping_end_at_comma h = (_, refl)
-free_resolves s Raw.mapping_end h = (_, refl)
-free_resolves s e h = cc
+free_resolves s (Raw.document_start (d ∷ ds)) h = cc
+free_resolves s (Raw.scalar x y a (Some t)) h = cc
+free_resolves s (Raw.empty_scalar a (Some t)) h = cc
+free_resolves s (Raw.alias n) h = cc
+free_resolves s (Raw.flow_sequence_start a t) h = cc
+free_resolves s (Raw.sequence_start a t) h = cc
+free_resolves s (Raw.indentless_sequence_start a t) h = cc
+free_resolves s (Raw.flow_mapping_start a t) h = cc
+free_resolves s (Raw.mapping_start a t) h = cc
+free_resolves s _ h = (_, refl)
 
 pub free_named : (keep : Bool) (es : List Raw) → are_free es ≡ true → AnyNameable keep es
 free_named keep [] h s = ([], refl)
@@ -97,10 +76,8 @@ quiet_free Raw.pair_end h = refl
 quiet_free _ h = cc
 
 after_free : (p : Place) (es : List Raw) → are_free es ≡ true → are_free (after_text_events p ++ es) ≡ true
-after_free in_flow es h = h
-after_free in_block es h = h
 after_free (in_pair key) es h = h
-after_free (in_pair value) es h = h
+after_free _ es h = h
 
 text_free : (p : Place) (h : Held) (es : List Raw) → is_untagged h.tag ≡ true → are_free es ≡ true → are_free (text_event h ∷ (after_text_events p ++ es)) ≡ true
 text_free p h es t i = and_from (is_untagged h.tag) (are_free (after_text_events p ++ es)) t (after_free p es i)
@@ -113,7 +90,6 @@ goal_free (table.after_tag p) h es t d i = text_free p h es t i
 goal_free (table.content p) h es t d i = text_free p h es t i
 goal_free (table.indentless_sequence_entries s) h es t d i = after_free (in_pair s) es i
 goal_free (table.flow_mapping_entries table.after_brace) h es t d i = i
-goal_free (table.flow_mapping_entries table.after_comma) h es t d i = i
 goal_free _ h es t d i = i
 
 pub plain_free : (w : Works) → is_plain w ≡ true → are_free (end_events w) ≡ true
@@ -126,7 +102,6 @@ plain_free (reading g x ∷ w) h =
 
 past_plain : (ss : List State) → is_plain (works ss) ≡ true → is_plain (past ss (works ss)) ≡ true
 past_plain (state.BlockMappingKey ∷ ss) h = h
-past_plain (state.BlockMappingValue ∷ ss) h = h
 past_plain ss h = h
 
 state_plain : (s : State) (ss : List State) → is_plain (works ss) ≡ true → is_plain (works (s ∷ ss)) ≡ true
@@ -163,19 +138,18 @@ some_mapped f None h = cc
 some_mapped f (Some x) h = refl
 
 goal_named : (g : Goal) (ss : List State) (keep : Bool) (s : Names) → IsPending s g → Nameable keep s (end_events (work_of g ss))
-goal_named (at.directed ds) ss keep s p =
+goal_named (Goal.directed ds) ss keep s p =
     let rest = text_event nothing_held ∷ Raw.document_end ∷ Raw.stream_end ∷ end_events (works ss) in
     name_one keep s (Raw.document_start ds) rest (ap (λ b. if b then Some Ev.document_start else None) p) (free_named keep rest (works_free ss))
-goal_named (at.node q) ss keep s p = text_named ss keep s nothing_held refl
-goal_named (at.after_anchor q a) ss keep s p = text_named ss keep s (record { anchor = Some a; tag = None; directives = [] }) refl
-goal_named (at.after_tag q t) ss keep s p = text_named ss keep s (record { anchor = None; tag = Some t; directives = [] }) (some_mapped Some (resolved s.handles t) p)
-goal_named (at.after_properties q None) ss keep s p = text_named ss keep s nothing_held refl
-goal_named (at.after_properties q (Some o)) ss keep s p = text_named ss keep s (record { anchor = anchor_of o; tag = tag_of o; directives = [] }) p
-goal_named at.part ss keep s p = text_named ss keep s nothing_held refl
-goal_named at.indentless_entries ss keep s p = free_named keep (end_events (work_of at.indentless_entries ss)) (plain_free (work_of at.indentless_entries ss) (past_plain ss (works_plain ss))) s
-goal_named at.indentless_entry ss keep s p = free_named keep (end_events (work_of at.indentless_entry ss)) (plain_free (work_of at.indentless_entry ss) (past_plain ss (works_plain ss))) s
-goal_named (at.flow_pair table.after_brace) ss keep s p = free_named keep (end_events (work_of (at.flow_pair table.after_brace) ss)) (works_free ss) s
-goal_named (at.flow_pair table.after_comma) ss keep s p = free_named keep (end_events (work_of (at.flow_pair table.after_comma) ss)) (works_free ss) s
+goal_named (Goal.node q) ss keep s p = text_named ss keep s nothing_held refl
+goal_named (Goal.after_anchor q a) ss keep s p = text_named ss keep s (record { anchor = Some a; tag = None; directives = [] }) refl
+goal_named (Goal.after_tag q t) ss keep s p = text_named ss keep s (record { anchor = None; tag = Some t; directives = [] }) (some_mapped Some (resolved s.handles t) p)
+goal_named (Goal.after_properties q None) ss keep s p = text_named ss keep s nothing_held refl
+goal_named (Goal.after_properties q (Some o)) ss keep s p = text_named ss keep s (record { anchor = anchor_of o; tag = tag_of o; directives = [] }) p
+goal_named Goal.part ss keep s p = text_named ss keep s nothing_held refl
+goal_named Goal.indentless_entries ss keep s p = free_named keep (end_events (work_of Goal.indentless_entries ss)) (plain_free (work_of Goal.indentless_entries ss) (past_plain ss (works_plain ss))) s
+goal_named Goal.indentless_entry ss keep s p = free_named keep (end_events (work_of Goal.indentless_entry ss)) (plain_free (work_of Goal.indentless_entry ss) (past_plain ss (works_plain ss))) s
+goal_named (Goal.flow_pair table.after_brace) ss keep s p = free_named keep (end_events (work_of (Goal.flow_pair table.after_brace) ss)) (works_free ss) s
 goal_named g ss keep s p = free_named keep (end_events (work_of g ss)) (works_free ss) s
 
 -- ---- all
@@ -188,27 +162,23 @@ pub record Completed (g : Goal) (ss : List State) : Type 0 where
 
 -- where the shortest way may not be gone, since the token with which it begins was seen not to come
 abbrev is_barred : Goal → Bool
-is_barred at.item = true
-is_barred (at.flow_pair s) = true
+is_barred Goal.item = true
+is_barred (Goal.flow_pair s) = true
 is_barred _ = false
 
 may_end : (g : Goal) (ss : List State) → is_barred g ≡ false → first_may g ss (end_tokens (work_of g ss)) ≡ true
-may_end (at.node context.Flow) ss h = refl
-may_end (at.node context.Block) ss h = refl
-may_end (at.node context.Part) ss h = refl
-may_end (at.after_properties context.Flow None) ss h = refl
-may_end (at.after_properties context.Block None) ss h = refl
-may_end (at.after_properties context.Part None) ss h = refl
-may_end (at.after_properties context.Flow (Some o)) ss h = refl
-may_end (at.after_properties context.Block (Some o)) ss h = refl
-may_end (at.after_properties context.Part (Some o)) ss h = refl
-may_end at.key_pairs ss h = refl
-may_end at.item ss h = cc
-may_end (at.flow_pair s) ss h = cc
-may_end at.done [] h = refl
-may_end at.done (state.BlockNode ∷ ss) h = refl
-may_end at.done (state.BlockMappingNextKey ∷ ss) h = refl
-may_end at.done (s ∷ ss) h = first_any at.done (s ∷ ss) (end_tokens (works (s ∷ ss))) (λ k. refl)
+may_end (Goal.node context.Flow) ss h = refl
+may_end (Goal.node _) ss h = refl
+may_end (Goal.after_properties context.Flow None) ss h = refl
+may_end (Goal.after_properties _ None) ss h = refl
+may_end (Goal.after_properties _ (Some o)) ss h = refl
+may_end Goal.key_pairs ss h = refl
+may_end Goal.item ss h = cc
+may_end (Goal.flow_pair s) ss h = cc
+may_end Goal.done [] h = refl
+may_end Goal.done (state.BlockNode ∷ ss) h = refl
+may_end Goal.done (state.BlockMappingNextKey ∷ ss) h = refl
+may_end Goal.done (s ∷ ss) h = first_any Goal.done (s ∷ ss) (end_tokens (works (s ∷ ss))) (λ k. refl)
 may_end g ss h = first_any g ss (end_tokens (work_of g ss)) (λ k. refl)
 
 on_the_shortest : (g : Goal) (ss : List State) → is_barred g ≡ false → Completed g ss
@@ -229,6 +199,6 @@ by_text g ss v h m p = record {
 }
 
 pub completed : (g : Goal) (ss : List State) → Completed g ss
-completed at.item ss = by_text at.item ss _ refl refl (works_plain ss)
-completed (at.flow_pair s) ss = by_text (at.flow_pair s) ss _ refl refl (works_plain ss)
+completed Goal.item ss = by_text Goal.item ss _ refl refl (works_plain ss)
+completed (Goal.flow_pair s) ss = by_text (Goal.flow_pair s) ss _ refl refl (works_plain ss)
 completed g ss = on_the_shortest g ss refl

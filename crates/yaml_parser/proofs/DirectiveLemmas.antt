@@ -1,20 +1,8 @@
 -- Directives, one after the other.
-use Rattle.std.proofs.Common.{◌≡◌, ℕ, ◌+◌, ◌≤◌, nat_lt, List, [], ◌∷◌, ◌++◌, Option, Some, None, option_map, is_some, Bool, true, false, not, ◌&&◌, refl, sym, ap, ◌∙◌, subst, if◌then◌else◌, append_assoc, append-nil, arith}
-use Rattle.std.specs.Prelude.{String, string_bytes, bytes_eq}
-use Rattle.std.specs.BTreeMap.{get_by_text}
-use Rattle.std.specs.declared.alloc.Global.{Global}
-use Rattle.std.specs.Option.{IfSome}
-use Rattle.std.proofs.lemmas.Bool.{both_ways, false_from_ne_true, and_left, and_right, not_from_true}
-use Rattle.std.proofs.lemmas.Bool.Decides.{nat_tests}
-use Rattle.std.proofs.lemmas.Slice.Eq.{bytes_eq-Decides}
-use Rattle.defs_text.specs.Text.{string_chars}
-use Rattle.defs_event.specs.Raw.{Directive, version, tag}
-use Rattle.defs_event.specs.Names as defs
-use Rattle.defs_event.specs.Names.{under_name, declared, versions, is_each_once, are_allowed, at_document}
+use Rattle.yaml_parser.proofs.Common.{[], and_left, and_right, ap, append-nil, append_assoc, arith, at_document, Bool, both_ways, bytes_eq, bytes_eq-Decides, declared, Directive, false, false_from_ne_true, get_by_text, Global, HasRead, IfSome, if◌then◌else◌, is_each_once, is_own, is_some, IsNamed, IsOwn, List, nat_lt, nat_tests, None, not, not_from_true, Option, option_map, prefix_of, refl, Some, String, string_bytes, string_chars, subst, sym, tag, true, under_name, version, versions, ℕ, ◌&&◌, ◌++◌, ◌+◌, ◌∙◌, ◌∷◌, ◌≡◌, ◌≤◌}
 use Rattle.yaml_parser.specs.declared.names.Declaration.{Declaration}
 use Rattle.yaml_parser.specs.declared.names.Names.{Names}
-use Rattle.yaml_parser.specs.Named.{IsNamed, IsOwn, is_own, prefix_of}
-use Rattle.yaml_parser.specs.Declares.{HasRead}
+use Rattle.defs_event.specs.Names as defs
 
 -- ---- what is kept under a name
 

@@ -1,57 +1,20 @@
 -- The arms of the productions of documents.
-use Rattle.std.proofs.Common.{◌≡◌, ◌≢◌, ℕ, ◌+◌, ◌<◌, List, [], ◌∷◌, ◌++◌, Some, None, option_map, Bool, true, false, nat_le, Result, Ok, Err, refl, sym, ap, ◌∙◌, subst, if◌then◌else◌, append-nil, append_assoc, arith, inl}
-use Rattle.std.proofs.lemmas.Bool.{and_parts, and_from, and_left, and_right, lt-leb}
-use Rattle.std.specs.Option.{IfSome}
-use Rattle.defs_text.specs.Position.{Position}
-use Rattle.defs_token.specs.Token.{Tok}
-use Rattle.yaml_tokens.specs.declared.token.Token.{Token}
-use Rattle.yaml_tokens.specs.declared.problem.Fault.TheVariants.{OutOfMemory}
-use Rattle.yaml_tokens.specs.declared.problem.Fault.TheVariants as fault
-use Rattle.yaml_tokens.specs.declared.problem.Problem.{Problem}
-use Rattle.yaml_tokens.specs.declared.problem.Problem.TheVariants.{SecondVersion, RepeatedHandle, UndeclaredHandle}
-use Rattle.yaml_tokens.specs.Shown.{shown, all_shown, tok_of}
-use Rattle.yaml_scanner_state.specs.Tokens.{is_end}
-use Rattle.defs_event.specs.Event.{Ev}
-use Rattle.defs_event.specs.Raw as raw
-use Rattle.defs_event.specs.Raw.{Raw, Directive}
-use Rattle.defs_event.specs.Properties.{directive_token, directives_tokens}
-use Rattle.defs_event.specs.Names as defs
-use Rattle.defs_event.specs.Names.{named, declared, versions, is_each_once, are_allowed, at_document}
-use Rattle.defs_token.specs.Toks.{toks}
-use Rattle.defs_event.specs.Stream.{events_of}
-use Rattle.model_parser.specs.declared.kind.Kind.{Kind}
-use Rattle.model_parser.specs.declared.kind.Kind.TheVariants as kind
-use Rattle.model_parser.specs.declared.context.NodeContext.TheVariants as context
-use Rattle.model_parser.specs.declared.state.State.TheVariants as state
-use Rattle.model_parser.specs.Kinds.{kind_of, begins_node, is_directive}
-use Rattle.model_parser.specs.Goal as at
-use Rattle.model_parser.specs.Rest.{Works, works, with_directives}
-use Rattle.defs_event.specs.Table.{reading, Derives}
-use Rattle.defs_event.specs.Grammar as table
-use Rattle.defs_event.specs.Grammar.{grammar}
-use Rattle.model_parser.proofs.StepRows.{row_taken, no_row, said, needs_tokens}
-use Rattle.model_parser.specs.Turn.{Takes, Leaves}
-use Rattle.model_parser.proofs.First.{tok_is}
-use Rattle.model_parser.proofs.Document as turn
-use Rattle.yaml_parser.specs.declared.tokens.Stop.{Stop}
-use Rattle.yaml_parser.specs.declared.tokens.Stop.TheVariants as stop
+use Rattle.yaml_parser.proofs.Common.{[], all_shown, and_from, and_left, and_parts, and_right, ap, append-nil, append_assoc, are_allowed, arith, At, at_document, BeginAt, begins_node, Bool, Carries, declared, Declares, Derives, directed_more, directed_start, Directing, Directive, directive_token, directives_tokens, DirectsTo, documents_directives, Err, Ev, events_of, explicit_end, explicit_start, false, Faulted, fits, Goal, grammar, HasRead, IfSome, if◌then◌else◌, inl, is_directive, is_each_once, is_end, is_of_names, is_over, IsAfter, IsCause, IsNamed, IsOfKind, IsOwn, Kind, kind_of, last_position, Leaves, List, lt-leb, named, nat_le, needs_tokens, no_row, None, Ok, option_map, OutOfMemory, Position, Problem, Raw, Reader, reading, refl, RepeatedHandle, Result, row_taken, said, SecondVersion, shown, Skips, Some, SpoilsDirectives, Stayed, Stop, subst, sym, taken_toks, Takes, Tok, tok_is, tok_of, Token, Tokens, toks, true, UndeclaredHandle, versions, with_directives, Works, works, ℕ, ◌++◌, ◌+◌, ◌<◌, ◌∙◌, ◌∷◌, ◌≡◌, ◌≢◌}
 use Rattle.yaml_parser.specs.declared.names.Names.{Names}
-use Rattle.yaml_parser.specs.declared.reader.Reader.{Reader}
-use Rattle.yaml_parser.specs.declared.tokens.Tokens.{Tokens}
-use Rattle.yaml_parser.specs.Ahead.{Skips}
-use Rattle.yaml_parser.specs.Handed.{taken_toks, last_position, BeginAt}
-use Rattle.yaml_parser.specs.Kinds.{IsOfKind}
-use Rattle.yaml_parser.specs.Named.{IsNamed, IsOwn}
-use Rattle.yaml_parser.specs.Declares.{HasRead, Declares}
-use Rattle.yaml_parser.specs.Directing.{Directing, DirectsTo, IsAfter}
-use Rattle.yaml_parser.specs.Blames.{fits, is_of_names, IsCause, SpoilsDirectives}
-use Rattle.yaml_parser.specs.At.{At, Stayed, Faulted, Carries, is_over}
 use Rattle.yaml_parser.proofs.Steps.{looked, taken_snoc, took, took_on, left, left_as, if_some_at}
 use Rattle.yaml_parser.proofs.Arms.{Skipped, here_at, faulted_as}
 use Rattle.yaml_parser.proofs.NodeArms.{unnamed_at, unnameable_first}
 use Rattle.yaml_parser.proofs.Ends.{StandsBeside}
 use Rattle.yaml_parser.proofs.Ways.{apart_as, directed_ways}
 use Rattle.yaml_parser.proofs.DirectiveLemmas.{named_alike, own_alike, version_ignored, version_snoc, tag_snoc, versions_append}
+use Rattle.yaml_tokens.specs.declared.problem.Fault.TheVariants as fault
+use Rattle.defs_event.specs.Raw as raw
+use Rattle.defs_event.specs.Names as defs
+use Rattle.model_parser.specs.declared.kind.Kind.TheVariants as kind
+use Rattle.model_parser.specs.declared.context.NodeContext.TheVariants as context
+use Rattle.model_parser.specs.declared.state.State.TheVariants as state
+use Rattle.defs_event.specs.Grammar as table
+use Rattle.yaml_parser.specs.declared.tokens.Stop.TheVariants as stop
 
 -- ---- a document's start
 
@@ -61,9 +24,9 @@ Starts old new = (names : defs.Names) → IsNamed old names → IsNamed new (at_
 
 -- A document that does without `---` begins at a token that stays.
 pub bare_begins : {T : Type 0} (m : Position) {p q r : Reader T} {k : Kind} {names : defs.Names} {given : List (Ev × Position)}
-    → IsOfKind k p.tokens.peeked → IfSome r.tokens.peeked (λ t. t.0 ≡ m) → ((t : Tok) → kind_of t ≡ k → Leaves at.documents p.stack (Some t) (Some (Raw.document_start [])) at.done (state.BlockNode ∷ state.DocumentEnd ∷ p.stack))
+    → IsOfKind k p.tokens.peeked → IfSome r.tokens.peeked (λ t. t.0 ≡ m) → ((t : Tok) → kind_of t ≡ k → Leaves Goal.documents p.stack (Some t) (Some (Raw.document_start [])) Goal.done (state.BlockNode ∷ state.DocumentEnd ∷ p.stack))
     → q.tokens ≡ p.tokens → q.names.keeping ≡ p.names.keeping → Starts p.names q.names → Stayed q r (state.BlockNode ∷ state.DocumentEnd ∷ p.stack)
-    → At at.documents p names given → (names' : defs.Names) × At at.done r names' (given ++ (Ev.document_start, m) ∷ [])
+    → At Goal.documents p names given → (names' : defs.Names) × At Goal.done r names' (given ++ (Ev.document_start, m) ∷ [])
 bare_begins {T} m {p} {q} {r} {k} {names} {given} here mark turn tokens keep starts stayed a =
     let l = looked k p.tokens.peeked here in (
       at_document p.names.keeping.tags names [],
@@ -75,7 +38,7 @@ bare_begins {T} m {p} {q} {r} {k} {names} {given} here mark turn tokens keep sta
 -- A document begins with `---`.
 pub explicit_begins : {T : Type 0} (m : Position) {p q r : Reader T} {k : Kind} {names : defs.Names} {given : List (Ev × Position)}
     → IsOfKind k p.tokens.peeked → k ≡ kind.DocumentStart → IfSome p.tokens.peeked (λ t. t.0 ≡ m) → q.tokens ≡ p.tokens → q.stack ≡ p.stack → q.names.keeping ≡ p.names.keeping → Starts p.names q.names → Skipped q r (state.DocumentContent ∷ q.stack)
-    → At at.explicit p names given → (names' : defs.Names) × At at.done r names' (given ++ (Ev.document_start, m) ∷ [])
+    → At Goal.explicit p names given → (names' : defs.Names) × At Goal.done r names' (given ++ (Ev.document_start, m) ∷ [])
 explicit_begins {T} m {p} {q} {r} {k} {names} {given} here h mark tokens stack keep starts skip a =
     let l = looked k p.tokens.peeked here in
     let t = l.0 in
@@ -83,21 +46,21 @@ explicit_begins {T} m {p} {q} {r} {k} {names} {given} here h mark tokens stack k
     let same : tok_of t.1 ≡ Tok.document_start = tok_is (l.2 ∙ h) refl in (
       at_document p.names.keeping.tags names [],
       took m l.1 (subst (λ y. Skips y t r.tokens) tokens x.tokens) (x.stack ∙ ap (λ ss. state.DocumentContent ∷ ss) stack)
-          (subst (λ u. Takes at.explicit p.stack u (Some (Raw.document_start [])) at.done (state.DocumentContent ∷ p.stack)) (sym same) (turn.explicit_start p.stack))
+          (subst (λ u. Takes Goal.explicit p.stack u (Some (Raw.document_start [])) Goal.done (state.DocumentContent ∷ p.stack)) (sym same) (explicit_start p.stack))
           (record { resolves = refl; after_it = refl; keep = ap (λ n. n.keeping) x.names ∙ keep; code = subst (λ n. IsNamed n (at_document p.names.keeping.tags names [])) (sym x.names) (starts names a.code); pending = tt })
           (λ b. (refl, ap is_end same)) (here_at (last_position p.tokens) (Raw.document_start []) (shown t) m (λ b k. refl) (if_some_at (λ (u : Token). u.0 ≡ m) mark l.1)) tt a,
     )
 
 -- The stream ends.
 pub stream_ends : {T : Type 0} (m : Position) {p r : Reader T} {k : Kind} {names : defs.Names} {given : List (Ev × Position)}
-    → IsOfKind k p.tokens.peeked → k ≡ kind.StreamEnd → IfSome p.tokens.peeked (λ t. t.0 ≡ m) → Skipped p r p.stack → At at.explicit p names given → (names' : defs.Names) × At at.ended r names' (given ++ (Ev.stream_end, m) ∷ [])
+    → IsOfKind k p.tokens.peeked → k ≡ kind.StreamEnd → IfSome p.tokens.peeked (λ t. t.0 ≡ m) → Skipped p r p.stack → At Goal.explicit p names given → (names' : defs.Names) × At Goal.ended r names' (given ++ (Ev.stream_end, m) ∷ [])
 stream_ends {T} m {p} {r} {k} {names} {given} here h mark skip a =
     let l = looked k p.tokens.peeked here in
     let t = l.0 in
     let x = skip t l.1 in
     let same : tok_of t.1 ≡ Tok.stream_end = tok_is (l.2 ∙ h) refl in (
       names,
-      took m l.1 x.tokens x.stack (subst (λ u. Takes at.explicit p.stack u (Some Raw.stream_end) at.ended p.stack) (sym same) (turn.explicit_end p.stack))
+      took m l.1 x.tokens x.stack (subst (λ u. Takes Goal.explicit p.stack u (Some Raw.stream_end) Goal.ended p.stack) (sym same) (explicit_end p.stack))
           (record { resolves = refl; after_it = refl; keep = ap (λ n. n.keeping) x.names; code = subst (λ n. IsNamed n names) (sym x.names) a.code; pending = tt })
           (λ b. let no : true ≡ false = b in cc) (here_at (last_position p.tokens) Raw.stream_end (shown t) m (λ b k. refl) (if_some_at (λ (u : Token). u.0 ≡ m) mark l.1)) tt a,
     )
@@ -105,14 +68,14 @@ stream_ends {T} m {p} {r} {k} {names} {given} here h mark skip a =
 -- The start of a document stands after its directives.
 pub directed_begins : {T : Type 0} (m : Position) {p r : Reader T} {k : Kind} {read : List Directive} {names : defs.Names} {given : List (Ev × Position)}
     → IsOfKind k p.tokens.peeked → k ≡ kind.DocumentStart → IfSome p.tokens.peeked (λ t. t.0 ≡ m) → Skipped p r (state.DocumentContent ∷ p.stack)
-    → At (at.directed read) p names given → (names' : defs.Names) × At at.done r names' (given ++ (Ev.document_start, m) ∷ [])
+    → At (Goal.directed read) p names given → (names' : defs.Names) × At Goal.done r names' (given ++ (Ev.document_start, m) ∷ [])
 directed_begins {T} m {p} {r} {k} {read} {names} {given} here h mark skip a =
     let l = looked k p.tokens.peeked here in
     let t = l.0 in
     let x = skip t l.1 in
     let same : tok_of t.1 ≡ Tok.document_start = tok_is (l.2 ∙ h) refl in (
       at_document p.names.keeping.tags names read,
-      took m l.1 x.tokens x.stack (subst (λ u. Takes (at.directed read) p.stack u (Some (Raw.document_start read)) at.done (state.DocumentContent ∷ p.stack)) (sym same) (turn.directed_start p.stack read))
+      took m l.1 x.tokens x.stack (subst (λ u. Takes (Goal.directed read) p.stack u (Some (Raw.document_start read)) Goal.done (state.DocumentContent ∷ p.stack)) (sym same) (directed_start p.stack read))
           (record {
             resolves = ap (λ b. if b then Some Ev.document_start else None) a.pending;
             after_it = refl;
@@ -137,13 +100,13 @@ not_directive _ a b = refl
 
 pub directives_begin : {T : Type 0} {p q : Reader T} (k : Kind) {names : defs.Names} {given : List (Ev × Position)}
     → IsOfKind k p.tokens.peeked → is_directive k ≡ true → q.tokens ≡ p.tokens → q.stack ≡ p.stack → q.names.keeping ≡ p.names.keeping → Starts p.names q.names → ((ns : defs.Names) → IsNamed p.names ns → IsOwn q.names [])
-    → At at.documents p names given → Directing q names given false
+    → At Goal.documents p names given → Directing q names given false
 directives_begin {T} {p} {q} k {names} {given} here h tokens stack keep starts own a =
     let l = looked k p.tokens.peeked here in
     let e : is_directive (kind_of (tok_of l.0.1)) ≡ true = ap is_directive l.2 ∙ h in
     record {
       read = [];
-      here = left_as (ap (option_map (λ (x : Token). tok_of x.1)) l.1) tokens stack (turn.documents_directives p.stack (tok_of l.0.1) e (no_node _ e)) keep
+      here = left_as (ap (option_map (λ (x : Token). tok_of x.1)) l.1) tokens stack (documents_directives p.stack (tok_of l.0.1) e (no_node _ e)) keep
           (subst (λ b. IsNamed q.names (at_document b.tags names [])) (sym keep) (starts names a.code)) refl refl tt a;
       own = own names a.code;
       version = refl;
@@ -197,19 +160,13 @@ version_taken {T} {p} {r} {names} {given} here skip d =
     let same = version_ignored d.read v.0 v.1 in
     record {
       read = read;
-      here = took_on l.1 x.tokens x.stack (subst (λ u. Takes (at.directed d.read) p.stack u None (at.directed read) p.stack) (sym v.2) (turn.directed_more p.stack d.read (raw.version v.0 v.1)))
+      here = took_on l.1 x.tokens x.stack (subst (λ u. Takes (Goal.directed d.read) p.stack u None (Goal.directed read) p.stack) (sym v.2) (directed_more p.stack d.read (raw.version v.0 v.1)))
           (ap (λ n. n.keeping) x.names) (subst (λ n. IsNamed n (at_document n.keeping.tags names read)) (sym x.names) (named_alike p.names.keeping.tags names d.read read same d.here.code))
           (allowed_version d.read v.0 v.1 d.here.pending d.version) (λ b. (refl, ap is_end v.2)) tt d.here;
       own = subst (λ n. IsOwn n read) (sym x.names) (own_alike d.read read same d.own);
       version = version_snoc d.read v.0 v.1 ∙ ap (λ n. n + 1) d.version;
       taken = read_more d.read (raw.version v.0 v.1) x.tokens v.2 d.taken;
     }
-
-version_is_other : SecondVersion ≡ UndeclaredHandle → ⊥
-version_is_other e = cc
-
-handle_is_other : RepeatedHandle ≡ UndeclaredHandle → ⊥
-handle_is_other e = cc
 
 more_of : (ds : List Directive) (d : Directive) (es : List Raw) → (more : List Directive) × (fs : List Raw) × (es ≡ Raw.document_start ((ds ++ d ∷ []) ++ more) ∷ fs) → (more : List Directive) × (fs : List Raw) × (es ≡ Raw.document_start (ds ++ more) ∷ fs)
 more_of ds d es x = (d ∷ x.0, x.1, x.2 ∙ ap (λ y. Raw.document_start y ∷ x.1) (append_assoc ds (d ∷ []) x.0))
@@ -229,10 +186,10 @@ directives_say ds w (t ∷ ts) es d = absurd (no_row table.directives (with_dire
 -- Directives that are not allowed are refused with the last one.
 refused_directive : {T : Type 0} {p r : Reader T} {t : Token} {m : Position} (q : Problem) (read : List Directive) (d : Directive) {names : defs.Names} {given : List (Ev × Position)}
     → fits q (kind_of (directive_token d)) ≡ true → is_of_names q ≡ true → (q ≡ UndeclaredHandle → ⊥) → t.0 ≡ m → p.tokens.peeked ≡ Some t → Skips p.tokens t r.tokens → r.names.keeping ≡ p.names.keeping → tok_of t.1 ≡ directive_token d → ((more : List Directive) → are_allowed ((read ++ d ∷ []) ++ more) ≡ false)
-    → IsAfter read (taken_toks p.tokens) → ((before : List Tok) (last : Tok) → SpoilsDirectives before last → IsCause q names (events_of given) before last) → ((b : At (at.directed read) p names given) → StandsBeside q b)
-    → At (at.directed read) p names given → Faulted r given (stop.Own (fault.At q m))
+    → IsAfter read (taken_toks p.tokens) → ((before : List Tok) (last : Tok) → SpoilsDirectives before last → IsCause q names (events_of given) before last) → ((b : At (Goal.directed read) p names given) → StandsBeside q b)
+    → At (Goal.directed read) p names given → Faulted r given (stop.Own (fault.At q m))
 refused_directive {T} {p} {r} {t} {m} q read d {names} {given} fit of_names other mark here skips keep tok bad taken cause apart a =
-    unnamed_at q (ap (λ u. fits q (kind_of u)) tok ∙ fit) of_names (inl (sym mark, λ e. absurd (other e))) here skips keep (subst (λ u. Takes (at.directed read) p.stack u None (at.directed (read ++ d ∷ [])) p.stack) (sym tok) (turn.directed_more p.stack read d))
+    unnamed_at q (ap (λ u. fits q (kind_of u)) tok ∙ fit) of_names (inl (sym mark, λ e. absurd (other e))) here skips keep (subst (λ u. Takes (Goal.directed read) p.stack u None (Goal.directed (read ++ d ∷ [])) p.stack) (sym tok) (directed_more p.stack read d))
     (λ ts es x.
     let s = directives_say (read ++ d ∷ []) (works p.stack) ts es x.0 in
     ap (named p.names.keeping.tags names) s.2 ∙ unnameable_first p.names.keeping.tags names (Raw.document_start ((read ++ d ∷ []) ++ s.0)) s.1 (ap (λ b. if b then Some Ev.document_start else None) (bad s.0)))
@@ -246,7 +203,7 @@ version_refused {T} {p} {r} {m} {names} {given} here mark skip d =
     let l = looked kind.VersionDirective p.tokens.peeked here in
     let v = version_text (tok_of l.0.1) l.2 in
     let x = skip l.0 l.1 in
-    refused_directive SecondVersion d.read (raw.version v.0 v.1) refl refl version_is_other (if_some_at (λ (t : Token). t.0 ≡ m) mark l.1) l.1 x.tokens (ap (λ n. n.keeping) x.names) v.2 (λ more. second_version d.read v.0 v.1 more d.version) d.taken (λ before last x. x) (apart_as refl (directed_ways d.read)) d.here
+    refused_directive SecondVersion d.read (raw.version v.0 v.1) refl refl (λ e. cc) (if_some_at (λ (t : Token). t.0 ≡ m) mark l.1) l.1 x.tokens (ap (λ n. n.keeping) x.names) v.2 (λ more. second_version d.read v.0 v.1 more d.version) d.taken (λ before last x. x) (apart_as refl (directed_ways d.read)) d.here
 
 -- What declares a handle is taken.
 pub tag_directive_taken : {T : Type 0} {p : Reader T} (r : Reader T) {t : Token} (m : Position) {h x : List ℕ} {versioned : Bool} {names : defs.Names} {given : List (Ev × Position)} (res : Result (Unit {0}) Stop)
@@ -258,7 +215,7 @@ tag_directive_taken {T} {p} r {t} m {h} {x} {versioned} {names} {given} (Ok u) m
     let read = d.read ++ raw.tag h x ∷ [] in
     record {
       read = read;
-      here = took_on here skips stack (subst (λ u. Takes (at.directed d.read) p.stack u None (at.directed read) p.stack) (sym tok) (turn.directed_more p.stack d.read (raw.tag h x)))
+      here = took_on here skips stack (subst (λ u. Takes (Goal.directed d.read) p.stack u None (Goal.directed read) p.stack) (sym tok) (directed_more p.stack d.read (raw.tag h x)))
           keep (subst (λ b. IsNamed r.names (at_document b.tags names read)) (sym keep) k.0.named) (allowed_tag d.read h x d.here.pending k.1) (λ b. (refl, ap is_end tok)) tt d.here;
       own = k.0.own;
       version = tag_snoc d.read h x ∙ d.version;
@@ -268,15 +225,15 @@ tag_directive_taken {T} {p} r {t} m {h} {x} {versioned} {names} {given} (Err (st
 tag_directive_taken {T} {p} r {t} m {h} {x} {versioned} {names} {given} (Err (stop.Own (fault.At q n))) mark here skips stack keep tok declares d =
     let k = declares p.names.keeping.tags names d.read (record { named = d.here.code; own = d.own }) in
     faulted_as r given (ap (λ y. stop.Own (fault.At y n)) k.1 ∙ ap (λ y. stop.Own (fault.At RepeatedHandle y)) k.2)
-    (refused_directive RepeatedHandle d.read (raw.tag h x) refl refl handle_is_other mark here skips keep tok (λ more. and_right (nat_le (versions ((d.read ++ raw.tag h x ∷ []) ++ more)) 1) (is_each_once (declared ((d.read ++ raw.tag h x ∷ []) ++ more))) (k.0 more)) d.taken (λ before last x. x) (apart_as refl (directed_ways d.read)) d.here)
+    (refused_directive RepeatedHandle d.read (raw.tag h x) refl refl (λ e. cc) mark here skips keep tok (λ more. and_right (nat_le (versions ((d.read ++ raw.tag h x ∷ []) ++ more)) 1) (is_each_once (declared ((d.read ++ raw.tag h x ∷ []) ++ more))) (k.0 more)) d.taken (λ before last x. x) (apart_as refl (directed_ways d.read)) d.here)
 tag_directive_taken {T} {p} r {t} m {h} {x} {versioned} {names} {given} (Err stop.Scan) mark here skips stack keep tok declares d = absurd (declares p.names.keeping.tags names d.read (record { named = d.here.code; own = d.own }))
 tag_directive_taken {T} {p} r {t} m {h} {x} {versioned} {names} {given} (Err stop.Ended) mark here skips stack keep tok declares d = absurd (declares p.names.keeping.tags names d.read (record { named = d.here.code; own = d.own }))
 
 -- a look at the next token
-pub directing_on : {T : Type 0} {p r : Reader T} {versioned : Bool} {names : defs.Names} {given : List (Ev × Position)} → ((g : at.Goal) → is_over g ≡ false → Carries g p r) → r.names ≡ p.names → r.tokens.taken ≡ p.tokens.taken → Directing p names given versioned → Directing r names given versioned
+pub directing_on : {T : Type 0} {p r : Reader T} {versioned : Bool} {names : defs.Names} {given : List (Ev × Position)} → ((g : Goal) → is_over g ≡ false → Carries g p r) → r.names ≡ p.names → r.tokens.taken ≡ p.tokens.taken → Directing p names given versioned → Directing r names given versioned
 directing_on {T} {p} {r} {versioned} {names} {given} carries same taken d = record {
   read = d.read;
-  here = carries (at.directed d.read) refl names given d.here;
+  here = carries (Goal.directed d.read) refl names given d.here;
   own = subst (λ n. IsOwn n d.read) (sym same) d.own;
   version = d.version;
   taken = subst (IsAfter d.read) (ap (λ y. toks (all_shown y.items)) (sym taken)) d.taken;

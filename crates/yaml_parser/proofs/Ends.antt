@@ -1,50 +1,14 @@
 -- The shortest way to the end from each position: so no fault is late.
-use Rattle.std.proofs.Common.{◌≡◌, List, [], ◌∷◌, ◌++◌, Option, Some, None, option_map, Bool, true, false, refl, sym, ap, ◌∙◌, subst, append_assoc, inl}
-use Rattle.std.proofs.lemmas.Bool.{both_ways}
-use Rattle.std.proofs.lemmas.List.{map-append}
-use Rattle.std.specs.Option.{IfSome}
-use Rattle.defs_text.specs.Position.{Position}
-use Rattle.defs_token.specs.Token.{Tok}
-use Rattle.defs_event.specs.Event.{Ev}
-use Rattle.defs_event.specs.Raw.{Raw}
-use Rattle.defs_event.specs.Names.{Names, named, names_after, resolved_event, no_names}
-use Rattle.defs_event.proofs.NameLemmas.{both_some}
-use Rattle.defs_event.specs.Stream.{events_of, raws_of, to_end, StreamPlaces, StreamSays}
-use Rattle.model_parser.specs.declared.state.State.{State}
-use Rattle.model_parser.specs.declared.state.State.TheVariants as state
-use Rattle.defs_event.specs.Table.{Derives}
-use Rattle.defs_event.specs.Grammar.{grammar}
-use Rattle.model_parser.specs.Goal as at
-use Rattle.model_parser.specs.Goal.{Goal}
-use Rattle.model_parser.specs.Rest.{goal_of, work_of, first_may, placed, IsFor}
-use Rattle.yaml_parser.specs.declared.reader.Reader.{Reader}
+use Rattle.yaml_parser.proofs.Common.{[], all_shown, ap, append_assoc, as_tokens, At, at_directive, BeginAt, Bool, both_some, both_ways, Derives, Ev, events_of, false, Faulted, first_may, fits, Goal, goal_of, GoesOn, grammar, has_goal, IfSome, inl, is_after, is_of_names, is_over, IsCause, IsDerived, IsFor, IsOfKind, IsPending, IsSettled, Kind, kind_of, last_position, List, map-append, named, Names, names_after, names_by, needs_tokens, next_after, next_at, no_names, None, nowhere, Option, option_map, other_next, peeked_tok, plain_placed, Position, Problem, problem_of, Raw, raws_of, Reader, refl, Refuses, resolved_event, scanned, shown, shown_list, Some, StandsApart, StandsBefore, State, stood, StreamPlaces, StreamSays, subst, sym, taken_toks, to_end, Tok, tok_of, Token, token_at, toks, top, true, with_positions, work_of, ◌++◌, ◌∙◌, ◌∷◌, ◌≡◌}
+use Rattle.model_parser.specs.Rest.{placed}
 use Rattle.yaml_parser.proofs.Completed.{completed}
-use Rattle.defs_token.specs.Token as defs
-use Rattle.yaml_tokens.specs.declared.token.Token.{Token}
-use Rattle.yaml_tokens.specs.Shown.{shown, all_shown, tok_of}
-use Rattle.yaml_scanner.specs.Scanned.{scanned}
-use Rattle.defs_token.specs.Toks.{toks}
-use Rattle.model_parser.specs.declared.kind.Kind.{Kind}
-use Rattle.model_parser.specs.Kinds.{kind_of}
-use Rattle.defs_event.specs.Place.{other_next, next_after}
-use Rattle.model_parser.specs.Place.{next_at, top, is_after}
-use Rattle.model_parser.specs.Stands.{IsNext as Begins1, GoesOn, IsSettled, as_tokens, goes_on, at_directive}
-use Rattle.model_parser.specs.Turn.{Refuses}
-use Rattle.yaml_parser.specs.Kinds.{IsOfKind}
+use Rattle.model_parser.specs.Stands.{IsNext as Begins1, goes_on}
 use Rattle.yaml_parser.proofs.Steps.{map_snoc, looked, if_some_at}
 use Rattle.yaml_parser.proofs.Positions.{stood_over}
-use Rattle.model_parser.proofs.Places.{nowhere, with_positions}
-use Rattle.model_parser.proofs.Quiet.{plain_placed}
-use Rattle.model_parser.proofs.StepRows.{has_goal, needs_tokens}
-use Rattle.yaml_parser.specs.Derived.{stood}
-use Rattle.yaml_parser.specs.Handed.{taken_toks, peeked_tok, last_position, BeginAt, shown_list}
-use Rattle.yaml_parser.specs.At.{At, Faulted, IsPending, is_over, names_by}
-use Rattle.yaml_parser.specs.Blames.{fits, problem_of, is_of_names, IsCause}
 use Rattle.yaml_parser.proofs.Since.{since_append}
-use Rattle.yaml_parser.specs.Apart.{StandsApart, token_at, StandsBefore}
-use Rattle.yaml_parser.specs.Derived.{IsDerived}
+use Rattle.model_parser.specs.declared.state.State.TheVariants as state
+use Rattle.defs_token.specs.Token as defs
 use Rattle.yaml_parser.specs.declared.tokens.Stop.TheVariants as stop
-use Rattle.yaml_tokens.specs.declared.problem.Problem.{Problem}
 use Rattle.yaml_tokens.specs.declared.problem.Fault.TheVariants as fault
 
 -- ---- what comes of the tokens
@@ -81,14 +45,14 @@ toks_at m [] = refl
 toks_at m (t ∷ ts) = ap (λ us. t ∷ us) (toks_at m ts)
 
 -- something is still to be read where a token was looked at
-state_reads : (s : State) (ss : List State) → has_goal (work_of at.done (s ∷ ss)) ≡ true
+state_reads : (s : State) (ss : List State) → has_goal (work_of Goal.done (s ∷ ss)) ≡ true
 state_reads state.StreamStart ss = refl
 state_reads _ ss = refl
 
 reads_on : (g : Goal) (ss : List State) → is_over g ≡ false → IsFor g ss → has_goal (work_of g ss) ≡ true
-reads_on at.done [] o f = absurd f
-reads_on at.done (s ∷ ss) o f = state_reads s ss
-reads_on at.ended ss o f = cc
+reads_on Goal.done [] o f = absurd f
+reads_on Goal.done (s ∷ ss) o f = state_reads s ss
+reads_on Goal.ended ss o f = cc
 reads_on g ss o f = refl
 
 begin_ahead : {T : Type 0} (p : Reader T) (g : Goal) (names : Names) (given : List (Ev × Position)) (ts : List Tok) (es : List Raw) → At g p names given → Derives grammar (work_of g p.stack) ts es

@@ -1,10 +1,6 @@
 -- Tokens that are refused, by what they are not.
-use Rattle.std.proofs.Common.{◌≡◌, ◌≢◌, true, not, refl, ap}
-use Rattle.yaml_tokens.specs.declared.problem.Problem.TheVariants.{BlockMappingKey, BlockSequenceEntry, FlowMappingEntry, FlowSequenceEntry}
-use Rattle.model_parser.specs.declared.kind.Kind.{Kind}
+use Rattle.yaml_parser.proofs.Common.{ap, BlockMappingKey, BlockSequenceEntry, fits, FlowMappingEntry, FlowSequenceEntry, Kind, not, not_flow_pair, not_item, refl, true, ◌≡◌, ◌≢◌}
 use Rattle.model_parser.specs.declared.kind.Kind.TheVariants as kind
-use Rattle.model_parser.proofs.First.{not_item, not_flow_pair}
-use Rattle.yaml_parser.specs.Blames.{fits}
 
 pub no_item : (k : Kind) → k ≢ kind.FlowEntry → k ≢ kind.FlowSequenceEnd → fits FlowSequenceEntry k ≡ true
 no_item k a b = ap not (not_item k a b)

@@ -1,62 +1,19 @@
 -- What holds between two calls, and what it says of the events.
-use Rattle.std.proofs.Common.{◌≡◌, inl, inr, ◌+◌, ◌<◌, ◌≤◌, length, List, [], ◌∷◌, ◌++◌, Option, Some, None, option_map, Bool, true, false, ◌||◌, Result, Ok, Err, refl, sym, ap, ◌∙◌, subst, append_assoc, append-nil, unwrap_or, arith}
-use Rattle.std.specs.Option.{IsSome, IfSome}
-use Rattle.std.specs.Result.{IsErrAnd}
-use Rattle.std.proofs.lemmas.Bool.{both_ways}
-use Rattle.std.proofs.lemmas.List.{map-append, length-append}
-use Rattle.defs_text.specs.Position.{Position}
-use Rattle.defs_token.specs.Token as defs
-use Rattle.defs_token.specs.Token.{Tok}
-use Rattle.yaml_tokens.specs.declared.token.Token.{Token}
-use Rattle.yaml_tokens.specs.declared.problem.Fault.TheVariants.{OutOfMemory}
-use Rattle.yaml_tokens.specs.declared.problem.Fault.TheVariants as fault
-use Rattle.yaml_tokens.specs.ErrorReport.{ErrorReport}
-use Rattle.yaml_tokens.specs.Shown.{shown, all_shown, tok_of}
-use Rattle.yaml_scanner.specs.Scanned.{scanned}
-use Rattle.defs_event.specs.Event.{Ev}
-use Rattle.defs_event.specs.Raw.{Raw}
-use Rattle.defs_event.specs.Names.{Names, named, no_names}
-use Rattle.defs_token.specs.Toks.{toks}
-use Rattle.defs_event.specs.Stream.{BeginsPlaced, HasPlacedTo, events_of, positions_of, to_end, to_next, Places, StreamPlaces, StreamPlacesTo, nothing_left, StreamSays}
-use Rattle.defs_event.proofs.NameLemmas.{named_append}
-use Rattle.model_parser.specs.declared.state.State.{State}
-use Rattle.model_parser.specs.declared.state.State.TheVariants as state
-use Rattle.model_parser.specs.Goal as at
-use Rattle.model_parser.specs.Goal.{Goal}
-use Rattle.model_parser.specs.Rest.{goal_of, work_of, placed as placed_work, IsBottom, IsGoing}
-use Rattle.model_parser.specs.Place.{top}
-use Rattle.model_parser.specs.Stands.{IsOnTrack}
-use Rattle.model_parser.proofs.Standing.{begins, pops, first_of, top_of, ends as read_whole}
-use Rattle.yaml_parser.specs.declared.event.Event.{Event}
-use Rattle.yaml_parser.specs.declared.tokens.KeptStop.{KeptStop}
-use Rattle.yaml_parser.specs.declared.slot.EventSlot.{EventSlot}
-use Rattle.yaml_parser.specs.declared.tokens.Stop.{Stop}
-use Rattle.yaml_parser.specs.declared.tokens.Stop.TheVariants as stop
-use Rattle.yaml_parser.specs.declared.pull.EventReader.{EventReader}
-use Rattle.yaml_parser.specs.declared.reader.Reader.{Reader}
-use Rattle.yaml_parser.specs.Handed.{taken_toks, peeked_tok, behind, last_position, shown_list, ends}
-use Rattle.yaml_parser.specs.Named.{IsNamed}
-use Rattle.yaml_parser.specs.Shown.{placed, ev_of}
-use Rattle.yaml_parser.specs.Work.{Moves, work, weight, weights}
-use Rattle.yaml_parser.specs.Seen.{fault_seen}
-use Rattle.yaml_parser.specs.Parsed.{Parsed, is_stream_end, has_end, read}
-use Rattle.yaml_parser.specs.Blames.{Blames}
-use Rattle.yaml_parser.specs.Derived.{stood, IsDerived}
+use Rattle.yaml_parser.proofs.Common.{[], Advances, all_shown, answered, Answers, ap, append-nil, append_assoc, AreAll, arith, At, BeginsPlaced, behind, Blames, Bool, both_ways, Err, ErrorReport, Ev, ev_of, Event, EventReader, events_of, EventSlot, Explains, Fails, false, fault_kept, fault_seen, Faulted, first_of, Follows, Goal, goal_after, goal_after_event, goal_of, has_end, HasPlacedTo, IfSome, inl, inr, is_over, is_stream_end, IsBottom, IsComplete, IsDerived, IsErrAnd, IsGoing, IsHalted, IsHeld, IsMet, IsNamed, IsOnTrack, IsPastColon, IsSome, IsSound, IsWhole, Keeping, KeptStop, last_position, length, length-append, List, listed, map-append, Moves, named, named_append, named_by, named_since, Names, names_at, names_by, names_since, no_names, None, Notes, nothing_left, Ok, Option, option_map, or-false, or_assoc, OutOfMemory, Parsed, peeked_tok, placed, Places, pops, Position, Raw, read, Reader, Reads, refl, Refused, Result, scanned, shown, shown_list, Some, Stands, State, stood, Stop, StreamPlaces, StreamPlacesTo, StreamSays, subst, sym, taken_toks, to_end, to_next, Tok, tok_of, Token, toks, top, top_of, true, unwrap_or, weight, weights, work, work_of, ◌++◌, ◌+◌, ◌<◌, ◌||◌, ◌∙◌, ◌∷◌, ◌≡◌, ◌≤◌}
+use Rattle.model_parser.specs.Rest.{placed as placed_work}
+use Rattle.model_parser.proofs.Standing.{begins, ends as read_whole}
+use Rattle.yaml_parser.specs.Handed.{ends}
 use Rattle.yaml_parser.proofs.Positions.{stood_raws, stood_positions}
 use Rattle.yaml_parser.proofs.Placing.{StandsSo}
-use Rattle.yaml_parser.specs.Follows.{Follows, Derives, IsComplete, Refused, IsWhole, Explains, listed}
-use Rattle.yaml_parser.specs.Halts.{IsHalted}
-use Rattle.yaml_parser.specs.Pulls.{IsSound}
-use Rattle.yaml_parser.specs.View.{fault_kept}
-use Rattle.yaml_parser.specs.At.{At, IsPastColon, Answers, Reads, Fails, answered, Faulted, is_over, names_at, named_by, names_by, goal_after_event}
-use Rattle.yaml_parser.specs.declared.names.Keeping.{Keeping}
-use Rattle.yaml_parser.specs.Settings.{named_since, names_since, AreAll}
-use Rattle.yaml_parser.specs.Held.{Advances, IsHeld, IsMet, Stands, Notes, goal_after}
+use Rattle.yaml_parser.specs.Follows.{Derives}
 use Rattle.yaml_parser.proofs.Since.{since_length, since_noted, names_noted, since_other, names_other, since_same}
-use Rattle.yaml_parser.specs.Nests.{BeginsNested}
 use Rattle.yaml_parser.proofs.Ends.{state_pending, at_derived}
 use Rattle.yaml_parser.proofs.Steps.{begins_peeked}
 use Rattle.yaml_parser.proofs.Nesting.{at_begins_nested}
+use Rattle.defs_token.specs.Token as defs
+use Rattle.yaml_tokens.specs.declared.problem.Fault.TheVariants as fault
+use Rattle.model_parser.specs.declared.state.State.TheVariants as state
+use Rattle.yaml_parser.specs.declared.tokens.Stop.TheVariants as stop
 
 -- ---- the stack
 
@@ -68,18 +25,18 @@ state_seen : (s : State) (keep : Bool) (names : Names) → names_at keep (goal_o
 state_seen state.StreamStart keep names = refl
 state_seen _ keep names = refl
 
-popped : {T : Type 0} (p : Reader T) (s : State) (ss : List State) {names : Names} {given : List (Ev × Position)} → p.stack ≡ s ∷ ss → At at.done p names given → At (goal_of s) (record p { stack = ss }) names given
+popped : {T : Type 0} (p : Reader T) (s : State) (ss : List State) {names : Names} {given : List (Ev × Position)} → p.stack ≡ s ∷ ss → At Goal.done p names given → At (goal_of s) (record p { stack = ss }) names given
 popped {T} p s ss {names} {given} h a = record {
   raw = a.raw;
-  stands = pops (subst (λ x. IsOnTrack at.done x (taken_toks p.tokens) (peeked_tok p.tokens) a.raw) h a.stands);
+  stands = pops (subst (λ x. IsOnTrack Goal.done x (taken_toks p.tokens) (peeked_tok p.tokens) a.raw) h a.stands);
   handed = a.handed;
   awake = λ o. a.awake refl;
   over = λ o. absurd (both_ways (is_over (goal_of s)) (state_going s) o);
   count = a.count;
   few = a.few;
   places = λ x ts es begins y.
-      subst (λ zs. StandsSo (all_shown p.tokens.taken.items) p.tokens.peeked (last_position p.tokens) at.done zs (stood a.raw given)) h a.places x ts es begins (y.0, first_of s ss (toks ts) ∙ y.1);
-  colon = subst (λ g. IsPastColon g (last_position p.tokens)) (sym (top_of s ss)) (subst (λ zs. IsPastColon (top at.done zs) (last_position p.tokens)) h a.colon);
+      subst (λ zs. StandsSo (all_shown p.tokens.taken.items) p.tokens.peeked (last_position p.tokens) Goal.done zs (stood a.raw given)) h a.places x ts es begins (y.0, first_of s ss (toks ts) ∙ y.1);
+  colon = subst (λ g. IsPastColon g (last_position p.tokens)) (sym (top_of s ss)) (subst (λ zs. IsPastColon (top Goal.done zs) (last_position p.tokens)) h a.colon);
   events = a.events;
   names_are = a.names_are;
   code = subst (IsNamed p.names) (sym (state_seen s p.names.keeping.tags names)) a.code;
@@ -95,17 +52,9 @@ after_event : (v : Ev) → goal_after_event v ≡ goal_after (is_stream_end v)
 after_event Ev.nothing = refl
 after_event _ = refl
 
-or_none : (b : Bool) → (b || false) ≡ b
-or_none true = refl
-or_none false = refl
-
-or_assoc : (a b c : Bool) → (a || (b || c)) ≡ ((a || b) || c)
-or_assoc true b c = refl
-or_assoc false b c = refl
-
 pub has_end_snoc : (es : List (Ev × Position)) (e : Ev × Position) → has_end (es ++ e ∷ []) ≡ has_end es || is_stream_end e.0
-has_end_snoc [] e = or_none (is_stream_end e.0)
-has_end_snoc (x ∷ es) e = ap (λ b. is_stream_end x.0 || b) (has_end_snoc es e) ∙ or_assoc (is_stream_end x.0) (has_end es) (is_stream_end e.0)
+has_end_snoc [] e = or-false (is_stream_end e.0)
+has_end_snoc (x ∷ es) e = ap (λ b. is_stream_end x.0 || b) (has_end_snoc es e) ∙ sym (or_assoc (is_stream_end x.0) (has_end es) (is_stream_end e.0))
 
 answered_at : {T : Type 0} (r : Reader T) (es : List (Ev × Position)) (e : Event × Position) → has_end es ≡ false → Answers r es (Ok e) → (names : Names) × At (goal_after (has_end (es ++ placed e ∷ []))) r names (es ++ placed e ∷ [])
 answered_at {T} r es e h a = (
@@ -173,7 +122,7 @@ set_stands {T} p k es same x =
 
 -- ---- what the stack says
 
-open_at : {T : Type 0} (b : Bool) (p : Reader T) (s : State) (ss : List State) {names : Names} {es : List (Ev × Position)} → p.stack ≡ s ∷ ss → At (goal_after b) p names es → (b ≡ false) × At at.done p names es
+open_at : {T : Type 0} (b : Bool) (p : Reader T) (s : State) (ss : List State) {names : Names} {es : List (Ev × Position)} → p.stack ≡ s ∷ ss → At (goal_after b) p names es → (b ≡ false) × At Goal.done p names es
 open_at {T} true p s ss h a = absurd (subst IsBottom h a.stands.fits)
 open_at {T} false p s ss h a = (refl, a)
 
@@ -239,15 +188,15 @@ begun {T} p stack peeked taken given ended clear code none = record {
   names = no_names;
   here = record {
     raw = [];
-    stands = subst (λ ss. IsOnTrack at.done ss (taken_toks p.tokens) (peeked_tok p.tokens) []) (sym stack) (subst (λ ts. IsOnTrack at.done (state.StreamStart ∷ []) (toks (all_shown ts)) (peeked_tok p.tokens) []) (sym taken) (begins (peeked_tok p.tokens)));
+    stands = subst (λ ss. IsOnTrack Goal.done ss (taken_toks p.tokens) (peeked_tok p.tokens) []) (sym stack) (subst (λ ts. IsOnTrack Goal.done (state.StreamStart ∷ []) (toks (all_shown ts)) (peeked_tok p.tokens) []) (sym taken) (begins (peeked_tok p.tokens)));
     handed = given ∙ sym (ap (λ ts. all_shown ts ++ shown_list p.tokens.peeked) taken ∙ ap shown_list peeked);
     awake = λ o. (ended ∙ sym (ap ends peeked), clear);
     over = λ o. peeked;
     count = refl;
     few = subst (λ xs. length xs ≤ 0) (sym none) (omega arith);
     places = λ x ts es begins y. subst (λ us. StreamPlacesTo x (all_shown us ++ ts) es) (sym taken)
-        (subst (λ ss. Places x None (placed_work (work_of at.done ss)) ts es) stack (subst (λ us. Places x (behind None (all_shown us)) (placed_work (work_of at.done p.stack)) ts es) taken y.0));
-    colon = subst (λ ss. IsPastColon (top at.done ss) (last_position p.tokens)) (sym stack) tt;
+        (subst (λ ss. Places x None (placed_work (work_of Goal.done ss)) ts es) stack (subst (λ us. Places x (behind None (all_shown us)) (placed_work (work_of Goal.done p.stack)) ts es) taken y.0));
+    colon = subst (λ ss. IsPastColon (top Goal.done ss) (last_position p.tokens)) (sym stack) tt;
     events = ap (λ xs. named_since xs p.names.keeping.tags no_names []) none;
     names_are = ap (λ xs. names_since xs p.names.keeping.tags no_names []) none;
     code = code;
@@ -258,23 +207,24 @@ begun {T} p stack peeked taken given ended clear code none = record {
 
 -- ---- what is said of the events
 
--- This is what clauses see of the reader and of the events that were read.
-pub record Shows {T : Type 0} (p : Reader T) (es : List (Ev × Position)) (v : Parsed) : Type 0 where
-  pub scanner : v.scanner ≡ scanned p.tokens.scanner
-  pub keep_tags : v.keep_tags ≡ p.names.keeping.tags
-  pub steady : v.steady ≡ p.names.keeping.steady
-  pub settings : v.settings ≡ p.names.keeping.settings.items
-  pub events : read v ≡ es
+-- What clauses see, where this is the reader.
+abbrev pub seen_of : {T : Type 0} → Reader T → Parsed → Parsed
+seen_of p v = record v { scanner = scanned p.tokens.scanner; keep_tags = p.names.keeping.tags; steady = p.names.keeping.steady; settings = p.names.keeping.settings.items }
 
 listed_shown : (o : Option Token) → listed (option_map shown o) ≡ shown_list o
 listed_shown None = refl
 listed_shown (Some t) = refl
 
--- a stream that begins with the tokens handed out, from after those that were taken
-handed_on : {T : Type 0} (p : Reader T) {g : Goal} {names : Names} {es : List (Ev × Position)} (ts us : List Tok) → At g p names es → us ≡ toks (scanned p.tokens.scanner).given ++ ts → us ≡ taken_toks p.tokens ++ (toks (shown_list p.tokens.peeked) ++ ts)
-handed_on {T} p {g} {names} {es} ts us a h =
-    h ∙ ap (λ xs. toks xs ++ ts) a.handed ∙ ap (λ xs. xs ++ ts) (map-append (λ (x : defs.Token). x.tok) (all_shown p.tokens.taken.items) (shown_list p.tokens.peeked))
-    ∙ append_assoc (taken_toks p.tokens) (toks (shown_list p.tokens.peeked)) ts
+-- the tokens handed out: those that were taken, and one that was looked at
+handed_all : {T : Type 0} {p : Reader T} {g : Goal} {names : Names} {es : List (Ev × Position)} → At g p names es → (scanned p.tokens.scanner).given ≡ all_shown p.tokens.taken.items ++ listed (option_map shown p.tokens.peeked)
+handed_all {T} {p} a = a.handed ∙ ap (λ xs. all_shown p.tokens.taken.items ++ xs) (sym (listed_shown p.tokens.peeked))
+
+-- A stream that begins with them goes on from those that were taken.
+goes_from : {T : Type 0} {p : Reader T} {g : Goal} {names : Names} {es : List (Ev × Position)} (a : At g p names es) (ts : List Tok) (raw : List Raw) → StreamSays (toks (scanned p.tokens.scanner).given ++ ts) raw → (fs : List Raw) × (raw ≡ a.raw ++ fs)
+goes_from {T} {p} a ts raw d =
+    let all = ap (λ xs. toks xs ++ ts) a.handed ∙ ap (λ xs. xs ++ ts) (map-append (λ (x : defs.Token). x.tok) (all_shown p.tokens.taken.items) (shown_list p.tokens.peeked)) ∙ append_assoc (taken_toks p.tokens) (toks (shown_list p.tokens.peeked)) ts in
+    let o = a.stands.exact (toks (shown_list p.tokens.peeked) ++ ts) raw (begins_peeked p.tokens.peeked ts) (subst (λ us. StreamSays us raw) all d) in
+    (o.0, o.1)
 
 same_before : (o : Option (List Ev)) {es fs : List Ev} → o ≡ Some es → o ≡ Some fs → fs ≡ es
 same_before o h k = cc
@@ -283,9 +233,8 @@ same_before o h k = cc
 abbrev pub IsSteady : {T : Type 0} → Reader T → Type 0
 IsSteady p = AreAll p.names.keeping.tags p.names.keeping.settings.items
 
-named_steady : {T : Type 0} (p : Reader T) (v : Parsed) (es : List (Ev × Position)) (raw : List Raw) (vs : List Ev) → IsSteady p → Shows p es v → named_by p.names.keeping raw ≡ Some vs → named v.keep_tags no_names raw ≡ Some vs
-named_steady {T} p v es raw vs steady s h =
-    ap (λ k. named k no_names raw) s.keep_tags ∙ sym (since_same p.names.keeping.settings.items p.names.keeping.tags no_names raw steady) ∙ h
+named_steady : {T : Type 0} (p : Reader T) (raw : List Raw) {vs : List Ev} → IsSteady p → named_by p.names.keeping raw ≡ Some vs → named p.names.keeping.tags no_names raw ≡ Some vs
+named_steady {T} p raw {vs} steady h = sym (since_same p.names.keeping.settings.items p.names.keeping.tags no_names raw steady) ∙ h
 
 events_length : (es : List (Ev × Position)) → length (events_of es) ≡ length es
 events_length [] = refl
@@ -300,175 +249,136 @@ bottom [] b = refl
 bottom (s ∷ ss) b = absurd b
 
 -- Events that come of tokens, where all settings were the same.
-derived_begins : {T : Type 0} (p : Reader T) (v : Parsed) (es : List (Ev × Position)) (before : List defs.Token) (raw : List Raw) → IsSteady p → Shows p es v
-    → IsDerived p.names.keeping.settings.items p.names.keeping.tags before raw es → BeginsPlaced v.keep_tags before (read v)
-derived_begins {T} p v es before raw steady s d = subst (BeginsPlaced v.keep_tags before) (sym s.events) (record {
-  more_tokens = d.more_tokens;
-  more_events = d.more_events;
-  stream = record {
-    raws = stood (raw ++ d.more_raw) (es ++ d.more_events);
-    says = d.stream.places;
-    has_events = ap (named v.keep_tags no_names) (stood_raws (raw ++ d.more_raw) (es ++ d.more_events) (many p.names.keeping.settings.items p.names.keeping.tags (raw ++ d.more_raw) (es ++ d.more_events) d.stream.has_events)) ∙ named_steady p v es (raw ++ d.more_raw) _ steady s d.stream.has_events;
-    has_positions = stood_positions (raw ++ d.more_raw) (es ++ d.more_events) (many p.names.keeping.settings.items p.names.keeping.tags (raw ++ d.more_raw) (es ++ d.more_events) d.stream.has_events);
-  };
-})
+derived_begins : {T : Type 0} (p : Reader T) (es : List (Ev × Position)) (before : List defs.Token) (raw : List Raw) → IsSteady p
+    → IsDerived p.names.keeping.settings.items p.names.keeping.tags before raw es → BeginsPlaced p.names.keeping.tags before es
+derived_begins {T} p es before raw steady d =
+    let count = many p.names.keeping.settings.items p.names.keeping.tags (raw ++ d.more_raw) (es ++ d.more_events) d.stream.has_events in
+    record {
+      more_tokens = d.more_tokens;
+      more_events = d.more_events;
+      stream = record {
+        raws = stood (raw ++ d.more_raw) (es ++ d.more_events);
+        says = d.stream.places;
+        has_events = ap (named p.names.keeping.tags no_names) (stood_raws (raw ++ d.more_raw) (es ++ d.more_events) count) ∙ named_steady p (raw ++ d.more_raw) steady d.stream.has_events;
+        has_positions = stood_positions (raw ++ d.more_raw) (es ++ d.more_events) count;
+      };
+    }
 
 -- Events of all tokens that were taken, where all settings were the same.
-halted_has : {T : Type 0} (p : Reader T) (v : Parsed) (es : List (Ev × Position)) (ts : List defs.Token) → IsSteady p → Shows p es v → IsHalted p.names.keeping.settings.items p.names.keeping.tags ts es → HasPlacedTo to_next v.keep_tags ts (read v)
-halted_has {T} p v es ts steady s x =
+halted_has : {T : Type 0} (p : Reader T) (es : List (Ev × Position)) (ts : List defs.Token) → IsSteady p → IsHalted p.names.keeping.settings.items p.names.keeping.tags ts es → HasPlacedTo to_next p.names.keeping.tags ts es
+halted_has {T} p es ts steady x =
     let count = many p.names.keeping.settings.items p.names.keeping.tags x.raw es x.derived.named in
-    subst (HasPlacedTo to_next v.keep_tags ts) (sym s.events) (record {
+    record {
       raws = stood x.raw es;
       says = x.so_far;
-      has_events = ap (named v.keep_tags no_names) (stood_raws x.raw es count) ∙ named_steady p v es x.raw (events_of es) steady s x.derived.named;
+      has_events = ap (named p.names.keeping.tags no_names) (stood_raws x.raw es count) ∙ named_steady p x.raw steady x.derived.named;
       has_positions = stood_positions x.raw es count;
-    })
-
-at_follows : {T : Type 0} {g : Goal} (p : Reader T) (names : Names) (es : List (Ev × Position)) → At g p names es → IsSteady p → (v : Parsed) → Shows p es v → Follows v
-at_follows {T} {g} p names es a steady v s =
-    record {
-      before = all_shown p.tokens.taken.items;
-      last = option_map shown p.tokens.peeked;
-      tokens = ap (λ x. x.given) s.scanner ∙ a.handed ∙ ap (λ xs. all_shown p.tokens.taken.items ++ xs) (sym (listed_shown p.tokens.peeked));
-      begins = derived_begins p v es (all_shown p.tokens.taken.items) a.raw steady s (at_derived g p names es a);
-      only = λ ts fs x.
-          let h = handed_on p ts (toks v.scanner.given ++ ts) a (ap (λ z. toks z.given ++ ts) s.scanner) in
-          let o = a.stands.exact (toks (shown_list p.tokens.peeked) ++ ts) x.raws (begins_peeked p.tokens.peeked ts) (subst (λ us. StreamSays us x.raws) h x.says) in
-          let n = named_append v.keep_tags no_names a.raw o.0 fs (ap (named v.keep_tags no_names) (sym o.1) ∙ x.has_events) in
-          (n.after, n.whole ∙ ap (λ vs. vs ++ n.after) (same_before (named v.keep_tags no_names a.raw) (named_steady p v es a.raw (events_of es) steady s a.events) n.of_before ∙ ap events_of (sym s.events)));
     }
+
+at_follows : {T : Type 0} {g : Goal} (p : Reader T) (names : Names) (v : Parsed) → At g p names (read v) → IsSteady p → Follows (seen_of p v)
+at_follows {T} {g} p names v a steady = record {
+  before = all_shown p.tokens.taken.items;
+  last = option_map shown p.tokens.peeked;
+  tokens = handed_all a;
+  begins = derived_begins p (read v) (all_shown p.tokens.taken.items) a.raw steady (at_derived g p names (read v) a);
+  only = λ ts fs x.
+      let keep = p.names.keeping.tags in
+      let o = goes_from a ts x.raws x.says in
+      let n = named_append keep no_names a.raw o.0 fs (ap (named keep no_names) (sym o.1) ∙ x.has_events) in
+      (n.after, n.whole ∙ ap (λ vs. vs ++ n.after) (same_before (named keep no_names a.raw) (named_steady p a.raw steady a.events) n.of_before));
+}
 
 -- ---- at the end
 
-shown_named : {T : Type 0} (p : Reader T) (v : Parsed) (es : List (Ev × Position)) (raw : List Raw) (vs : List Ev) → Shows p es v → named_by p.names.keeping raw ≡ Some vs → named_since v.settings v.keep_tags no_names raw ≡ Some vs
-shown_named {T} p v es raw vs s h = ap (λ ks. named_since ks v.keep_tags no_names raw) s.settings ∙ ap (λ k. named_since p.names.keeping.settings.items k no_names raw) s.keep_tags ∙ h
+-- All tokens were taken, and nothing is awaited any more.
+record IsAll {T : Type 0} {p : Reader T} {names : Names} {es : List (Ev × Position)} (a : At Goal.ended p names es) : Type 0 where
+  pub says : StreamSays (toks (scanned p.tokens.scanner).given) a.raw
+  pub places : StreamPlaces (scanned p.tokens.scanner).given (stood a.raw es)
+  pub only : (ts : List Tok) (fs : List Raw) → StreamSays (toks (scanned p.tokens.scanner).given ++ ts) fs → (ts ≡ []) × (fs ≡ a.raw)
 
--- At the stream's end nothing is awaited any more.
-all_placed : {T : Type 0} (p : Reader T) (names : Names) (es : List (Ev × Position)) → (a : At at.ended p names es) → StreamPlaces (all_shown p.tokens.taken.items) (stood a.raw es)
-all_placed {T} p names es a =
-    let none : p.stack ≡ [] = bottom p.stack a.stands.fits in
-    let all : StandsSo (all_shown p.tokens.taken.items) None (last_position p.tokens) at.ended [] (stood a.raw es) =
-    subst (λ ss. StandsSo (all_shown p.tokens.taken.items) None (last_position p.tokens) at.ended ss (stood a.raw es)) none
-    (subst (λ o. StandsSo (all_shown p.tokens.taken.items) o (last_position p.tokens) at.ended p.stack (stood a.raw es)) (a.over refl) a.places) in
-    subst (λ ts. StreamPlaces ts (stood a.raw es)) (append-nil (all_shown p.tokens.taken.items)) (subst (λ xs. StreamPlaces (all_shown p.tokens.taken.items ++ []) xs) (append-nil (stood a.raw es)) (all to_end [] [] tt (nothing_left, refl)))
-
-at_complete : {T : Type 0} (p : Reader T) (names : Names) (es : List (Ev × Position)) → At at.ended p names es → (v : Parsed) → Shows p es v → IsComplete v
-at_complete {T} p names es a v s =
-    let taken : v.scanner.given ≡ all_shown p.tokens.taken.items = ap (λ x. x.given) s.scanner ∙ a.handed ∙ ap (λ o. all_shown p.tokens.taken.items ++ shown_list o) (a.over refl) ∙ append-nil (all_shown p.tokens.taken.items) in
-    let o = read_whole p.stack (taken_toks p.tokens) a.raw (subst (λ x. IsOnTrack at.ended p.stack (taken_toks p.tokens) (option_map (λ (t : Token). tok_of t.1) x) a.raw) (a.over refl) a.stands) in
+read_all : {T : Type 0} (p : Reader T) (names : Names) (es : List (Ev × Position)) (a : At Goal.ended p names es) → IsAll a
+read_all {T} p names es a =
+    let taken : (scanned p.tokens.scanner).given ≡ all_shown p.tokens.taken.items = a.handed ∙ ap (λ o. all_shown p.tokens.taken.items ++ shown_list o) (a.over refl) ∙ append-nil (all_shown p.tokens.taken.items) in
+    let o = read_whole p.stack (taken_toks p.tokens) a.raw (subst (λ x. IsOnTrack Goal.ended p.stack (taken_toks p.tokens) (option_map (λ (t : Token). tok_of t.1) x) a.raw) (a.over refl) a.stands) in
+    let all : StandsSo (all_shown p.tokens.taken.items) None (last_position p.tokens) Goal.ended [] (stood a.raw es) =
+    subst (λ ss. StandsSo (all_shown p.tokens.taken.items) None (last_position p.tokens) Goal.ended ss (stood a.raw es)) (bottom p.stack a.stands.fits)
+    (subst (λ o. StandsSo (all_shown p.tokens.taken.items) o (last_position p.tokens) Goal.ended p.stack (stood a.raw es)) (a.over refl) a.places) in
+    let placed : StreamPlaces (all_shown p.tokens.taken.items) (stood a.raw es) =
+    subst (λ ts. StreamPlaces ts (stood a.raw es)) (append-nil (all_shown p.tokens.taken.items)) (subst (λ xs. StreamPlaces (all_shown p.tokens.taken.items ++ []) xs) (append-nil (stood a.raw es)) (all to_end [] [] tt (nothing_left, refl))) in
     record {
-      raw = a.raw;
-      stream = record {
-        says = subst (λ ts. StreamSays ts a.raw) (ap toks (sym taken)) o.0;
-        has_events = shown_named p v es a.raw (events_of es) s a.events ∙ ap (λ x. Some (events_of x)) (sym s.events);
-        places = subst (λ x. StreamPlaces v.scanner.given (stood a.raw x)) (sym s.events) (subst (λ ts. StreamPlaces ts (stood a.raw es)) (sym taken) (all_placed p names es a));
-      };
-      only = λ ts fs d. (o.1 ts fs (subst (λ us. StreamSays us fs) (ap (λ z. toks z ++ ts) taken) d)).0;
+      says = subst (λ ts. StreamSays ts a.raw) (ap toks (sym taken)) o.0;
+      places = subst (λ ts. StreamPlaces ts (stood a.raw es)) (sym taken) placed;
+      only = λ ts fs d. o.1 ts fs (subst (λ us. StreamSays us fs) (ap (λ z. toks z ++ ts) taken) d);
     }
 
-at_whole : {T : Type 0} (p : Reader T) (names : Names) (es : List (Ev × Position)) → At at.ended p names es → IsSteady p → (v : Parsed) → Shows p es v → IsWhole v
-at_whole {T} p names es a steady v s =
-    let taken : v.scanner.given ≡ all_shown p.tokens.taken.items = ap (λ x. x.given) s.scanner ∙ a.handed ∙ ap (λ o. all_shown p.tokens.taken.items ++ shown_list o) (a.over refl) ∙ append-nil (all_shown p.tokens.taken.items) in
-    let o = read_whole p.stack (taken_toks p.tokens) a.raw (subst (λ x. IsOnTrack at.ended p.stack (taken_toks p.tokens) (option_map (λ (t : Token). tok_of t.1) x) a.raw) (a.over refl) a.stands) in
-    let events : named v.keep_tags no_names a.raw ≡ Some (events_of (read v)) = named_steady p v es a.raw (events_of es) steady s a.events ∙ ap (λ x. Some (events_of x)) (sym s.events) in
+at_complete : {T : Type 0} (p : Reader T) (names : Names) (v : Parsed) → At Goal.ended p names (read v) → IsComplete (seen_of p v)
+at_complete {T} p names v a = let all = read_all p names (read v) a in record { raw = a.raw; stream = record { says = all.says; has_events = a.events; places = all.places }; only = λ ts fs d. (all.only ts fs d).0 }
+
+at_whole : {T : Type 0} (p : Reader T) (names : Names) (v : Parsed) → At Goal.ended p names (read v) → IsSteady p → IsWhole (seen_of p v)
+at_whole {T} p names v a steady =
+    let keep = p.names.keeping.tags in
+    let all = read_all p names (read v) a in
+    let events = named_steady p a.raw steady a.events in
     record {
-      stream = record {
-        raws = stood a.raw es;
-        says = subst (λ ts. StreamPlaces ts (stood a.raw es)) (sym taken) (all_placed p names es a);
-        has_events = ap (named v.keep_tags no_names) (stood_raws a.raw es a.count) ∙ events;
-        has_positions = stood_positions a.raw es a.count ∙ ap positions_of (sym s.events);
-      };
-      only = λ ts fs x.
-          let u = o.1 ts x.raws (subst (λ us. StreamSays us x.raws) (ap (λ z. toks z ++ ts) taken) x.says) in
-          (u.0, same_before (named v.keep_tags no_names a.raw) events (ap (named v.keep_tags no_names) (sym u.1) ∙ x.has_events));
+      stream = record { raws = stood a.raw (read v); says = all.places; has_events = ap (named keep no_names) (stood_raws a.raw (read v) a.count) ∙ events; has_positions = stood_positions a.raw (read v) a.count };
+      only = λ ts fs x. let u = all.only ts x.raws x.says in (u.0, same_before (named keep no_names a.raw) events (ap (named keep no_names) (sym u.1) ∙ x.has_events));
     }
 
 -- ---- between two calls
 
-held_whole_at : {T : Type 0} (b : Bool) (p : Reader T) (names : Names) (es : List (Ev × Position)) → b ≡ true → At (goal_after b) p names es → (v : Parsed) → Shows p es v → IsComplete v × (IsSteady p → IsWhole v)
-held_whole_at {T} true p names es h a v s = (at_complete p names es a v s, λ steady. at_whole p names es a steady v s)
-held_whole_at {T} false p names es h a v s = cc
+held_whole_at : {T : Type 0} (b : Bool) (p : Reader T) (names : Names) (v : Parsed) → b ≡ true → At (goal_after b) p names (read v) → IsComplete (seen_of p v) × (IsSteady p → IsWhole (seen_of p v))
+held_whole_at {T} true p names v h a = (at_complete p names v a, λ steady. at_whole p names v a steady)
+held_whole_at {T} false p names v h a = cc
 
--- the same of what the reader shows
-shown_derived : {T : Type 0} (p : Reader T) (es : List (Ev × Position)) (before : List defs.Token) (raw : List Raw) (v : Parsed) → Shows p es v
-    → IsDerived p.names.keeping.settings.items p.names.keeping.tags before raw es → IsDerived v.settings v.keep_tags before raw (read v)
-shown_derived {T} p es before raw v s d =
-    subst (λ ks. IsDerived ks v.keep_tags before raw (read v)) (sym s.settings)
-    (subst (λ k. IsDerived p.names.keeping.settings.items k before raw (read v)) (sym s.keep_tags) (subst (IsDerived p.names.keeping.settings.items p.names.keeping.tags before raw) (sym s.events) d))
-
-at_derives : {T : Type 0} {g : Goal} (p : Reader T) (names : Names) (es : List (Ev × Position)) → At g p names es → (v : Parsed) → Shows p es v → Derives v
-at_derives {T} {g} p names es a v s = record {
+at_derives : {T : Type 0} {g : Goal} (p : Reader T) (names : Names) (v : Parsed) → At g p names (read v) → Derives (seen_of p v)
+at_derives {T} {g} p names v a = record {
   before = all_shown p.tokens.taken.items;
   last = option_map shown p.tokens.peeked;
-  tokens = ap (λ x. x.given) s.scanner ∙ a.handed ∙ ap (λ xs. all_shown p.tokens.taken.items ++ xs) (sym (listed_shown p.tokens.peeked));
+  tokens = handed_all a;
   raw = a.raw;
-  derived = shown_derived p es (all_shown p.tokens.taken.items) a.raw v s (at_derived g p names es a);
-  only = λ ts fs d.
-      let k = handed_on p ts (toks v.scanner.given ++ ts) a (ap (λ z. toks z.given ++ ts) s.scanner) in
-      let o = a.stands.exact (toks (shown_list p.tokens.peeked) ++ ts) fs (begins_peeked p.tokens.peeked ts) (subst (λ us. StreamSays us fs) k d) in
-      (o.0, o.1);
+  derived = at_derived g p names (read v) a;
+  only = λ ts fs d. goes_from a ts fs d;
 }
 
 -- whether all settings were the one that there is, as the code knows it
 abbrev pub KnowsSteady : {T : Type 0} → Reader T → Type 0
 KnowsSteady p = p.names.keeping.steady ≡ true → IsSteady p
 
-shown_steady : {T : Type 0} (p : Reader T) (es : List (Ev × Position)) (v : Parsed) → Shows p es v → KnowsSteady p → v.steady ≡ true → AreAll v.keep_tags v.settings
-shown_steady {T} p es v s known steady =
-    subst (λ ks. AreAll v.keep_tags ks) (sym s.settings) (subst (λ k. AreAll k p.names.keeping.settings.items) (sym s.keep_tags) (known (sym s.steady ∙ steady)))
-
-pub held_sound : {T : Type 0} (p : Reader T) (es : List (Ev × Position)) → IsHeld p es None → KnowsSteady p → (v : Parsed) → v.fault ≡ None → Shows p es v → IsSound v
-held_sound {T} p es x known v none s = record {
+pub held_sound : {T : Type 0} (p : Reader T) (v : Parsed) → IsHeld p (read v) None → KnowsSteady p → v.fault ≡ None → IsSound (seen_of p v)
+held_sound {T} p v x known none = record {
   fault = none;
-  nested = subst (λ xs. BeginsNested (events_of xs)) (sym s.events) (at_begins_nested (goal_after (has_end es)) p x.names es x.here);
-  derives = at_derives p x.names es x.here v s;
-  complete = λ end. (held_whole_at (has_end es) p x.names es (ap has_end (sym s.events) ∙ end) x.here v s).0;
-  steady = shown_steady p es v s known;
-  follows = λ steady. at_follows p x.names es x.here (known (sym s.steady ∙ steady)) v s;
-  whole = λ steady end. (held_whole_at (has_end es) p x.names es (ap has_end (sym s.events) ∙ end) x.here v s).1 (known (sym s.steady ∙ steady));
+  nested = at_begins_nested (goal_after (has_end (read v))) p x.names (read v) x.here;
+  derives = at_derives p x.names v x.here;
+  complete = λ end. (held_whole_at (has_end (read v)) p x.names v end x.here).0;
+  steady = known;
+  follows = λ steady. at_follows p x.names v x.here (known steady);
+  whole = λ steady end. (held_whole_at (has_end (read v)) p x.names v end x.here).1 (known steady);
 }
 
-blames_refused : {T : Type 0} (p : Reader T) (es : List (Ev × Position)) {f : ErrorReport} → Blames f p.names.keeping.settings.items p.names.keeping.tags (scanned p.tokens.scanner).given es → IsSteady p → (v : Parsed) → Shows p es v → Refused v
-blames_refused {T} p es x steady v s = record {
+blames_refused : {T : Type 0} (p : Reader T) (v : Parsed) {f : ErrorReport} → Blames f p.names.keeping.settings.items p.names.keeping.tags (scanned p.tokens.scanner).given (read v) → IsSteady p → Refused (seen_of p v)
+blames_refused {T} p v x steady = record {
   before = x.before;
   last = x.last;
-  tokens = ap (λ z. z.given) s.scanner ∙ x.whole;
-  begins = derived_begins p v es x.before x.raw steady s x.derived;
-  none = λ ts fs y.
-      x.unnamed ts y.raws fs (subst (λ us. StreamSays us y.raws) (ap (λ z. toks z.given ++ ts) s.scanner) y.says)
-      (since_same p.names.keeping.settings.items p.names.keeping.tags no_names y.raws steady ∙ ap (λ k. named k no_names y.raws) (sym s.keep_tags) ∙ y.has_events);
+  tokens = x.whole;
+  begins = derived_begins p (read v) x.before x.raw steady x.derived;
+  none = λ ts fs y. x.unnamed ts y.raws fs y.says (since_same p.names.keeping.settings.items p.names.keeping.tags no_names y.raws steady ∙ y.has_events);
 }
 
-shown_blames : {T : Type 0} (p : Reader T) (es : List (Ev × Position)) {f : ErrorReport} (v : Parsed) → Shows p es v → Blames f p.names.keeping.settings.items p.names.keeping.tags (scanned p.tokens.scanner).given es
-    → Blames f v.settings v.keep_tags v.scanner.given (read v)
-shown_blames {T} p es {f} v s x =
-    subst (λ ks. Blames f ks v.keep_tags v.scanner.given (read v)) (sym s.settings)
-    (subst (λ k. Blames f p.names.keeping.settings.items k v.scanner.given (read v)) (sym s.keep_tags)
-    (subst (λ ts. Blames f p.names.keeping.settings.items p.names.keeping.tags ts (read v)) (ap (λ z. z.given) (sym s.scanner))
-    (subst (Blames f p.names.keeping.settings.items p.names.keeping.tags (scanned p.tokens.scanner).given) (sym s.events) x)))
-
-shown_halted : {T : Type 0} (p : Reader T) (es : List (Ev × Position)) (v : Parsed) → Shows p es v → IsHalted p.names.keeping.settings.items p.names.keeping.tags (scanned p.tokens.scanner).given es → IsHalted v.settings v.keep_tags v.scanner.given (read v)
-shown_halted {T} p es v s x =
-    subst (λ ks. IsHalted ks v.keep_tags v.scanner.given (read v)) (sym s.settings)
-    (subst (λ k. IsHalted p.names.keeping.settings.items k v.scanner.given (read v)) (sym s.keep_tags)
-    (subst (λ ts. IsHalted p.names.keeping.settings.items p.names.keeping.tags ts (read v)) (ap (λ z. z.given) (sym s.scanner))
-    (subst (IsHalted p.names.keeping.settings.items p.names.keeping.tags (scanned p.tokens.scanner).given) (sym s.events) x)))
-
-explained : {T : Type 0} (p : Reader T) (es : List (Ev × Position)) (u : Stop) (m : Position) (f : ErrorReport) → fault_seen u m (scanned p.tokens.scanner).fault ≡ f → Faulted p es u → KnowsSteady p → (v : Parsed) → Shows p es v → Explains f v
-explained {T} p es (stop.Own OutOfMemory) m f h x known v s = inr (inl (record { memory = ap (λ z. z.memory) (sym h); text = ap (λ z. z.text) (sym h) }))
-explained {T} p es (stop.Own (fault.At q n)) m f h x known v s =
+explained : {T : Type 0} (p : Reader T) (v : Parsed) (u : Stop) (m : Position) (f : ErrorReport) → fault_seen u m (scanned p.tokens.scanner).fault ≡ f → Faulted p (read v) u → KnowsSteady p → Explains f (seen_of p v)
+explained {T} p v (stop.Own OutOfMemory) m f h x known = inr (inl (record { memory = ap (λ z. z.memory) (sym h); text = ap (λ z. z.text) (sym h) }))
+explained {T} p v (stop.Own (fault.At q n)) m f h x known =
     inr (inr (record {
-      blames = subst (λ g. Blames g v.settings v.keep_tags v.scanner.given (read v)) h (shown_blames p es v s x.blames);
-      steady = shown_steady p es v s known;
-      refused = λ steady. blames_refused p es x.blames (known (sym s.steady ∙ steady)) v s;
+      blames = subst (λ g. Blames g p.names.keeping.settings.items p.names.keeping.tags (scanned p.tokens.scanner).given (read v)) h x.blames;
+      steady = known;
+      refused = λ steady. blames_refused p v x.blames (known steady);
     }))
-explained {T} p es stop.Scan m f h x known v s =
+explained {T} p v stop.Scan m f h x known =
     inl (record {
-      fault = ap (λ z. z.fault) s.scanner ∙ kept_some (scanned p.tokens.scanner).fault _ x.0.0 h;
-      settled = λ wants. ap (λ z. z.early) s.scanner ∙ on_time (scanned p.tokens.scanner).fault (kept_some (scanned p.tokens.scanner).fault _ x.0.0 h) x.0.1 wants;
-      halted = shown_halted p es v s x.1;
-      begins = λ steady. subst (λ ts. BeginsPlaced v.keep_tags ts (read v)) (ap (λ z. z.given) (sym s.scanner)) (derived_begins p v es (scanned p.tokens.scanner).given x.1.raw (known (sym s.steady ∙ steady)) s x.1.derived);
-      so_far = λ steady. subst (λ ts. HasPlacedTo to_next v.keep_tags ts (read v)) (ap (λ z. z.given) (sym s.scanner)) (halted_has p v es (scanned p.tokens.scanner).given (known (sym s.steady ∙ steady)) s x.1);
+      fault = kept_some (scanned p.tokens.scanner).fault _ x.0.0 h;
+      settled = λ wants. on_time (scanned p.tokens.scanner).fault (kept_some (scanned p.tokens.scanner).fault _ x.0.0 h) x.0.1 wants;
+      halted = x.1;
+      begins = λ steady. derived_begins p (read v) (scanned p.tokens.scanner).given x.1.raw (known steady) x.1.derived;
+      so_far = λ steady. halted_has p (read v) (scanned p.tokens.scanner).given (known steady) x.1;
     })
   where
     kept_some : (o : Option ErrorReport) (d : ErrorReport) {g : ErrorReport} → IsSome o → unwrap_or o d ≡ g → o ≡ Some g
@@ -478,8 +388,8 @@ explained {T} p es stop.Scan m f h x known v s =
     on_time : (o : Option ErrorReport) → o ≡ Some f → IfSome o (λ g. g.memory ≡ false → (scanned p.tokens.scanner).early ≡ false) → f.memory ≡ false → (scanned p.tokens.scanner).early ≡ false
     on_time None e k = cc
     on_time (Some g) e k = let same : g ≡ f = cc in subst (λ d. d.memory ≡ false → (scanned p.tokens.scanner).early ≡ false) same k
-explained {T} p es stop.Ended m f h x known v s = absurd x
+explained {T} p v stop.Ended m f h x known = absurd x
 
-pub held_explained : {T : Type 0} (p : Reader T) (es : List (Ev × Position)) (o : Option KeptStop) (f : ErrorReport) → option_map (λ k. fault_seen k.stop k.mark (scanned p.tokens.scanner).fault) o ≡ Some f → IsMet p es o → KnowsSteady p → (v : Parsed) → Shows p es v → Explains f v
-held_explained {T} p es None f h x known v s = cc
-held_explained {T} p es (Some k) f h x known v s = let e : fault_seen k.stop k.mark (scanned p.tokens.scanner).fault ≡ f = cc in explained p es k.stop k.mark f e x known v s
+pub held_explained : {T : Type 0} (p : Reader T) (v : Parsed) (o : Option KeptStop) (f : ErrorReport) → option_map (λ k. fault_seen k.stop k.mark (scanned p.tokens.scanner).fault) o ≡ Some f → IsMet p (read v) o → KnowsSteady p → Explains f (seen_of p v)
+held_explained {T} p v None f h x known = cc
+held_explained {T} p v (Some k) f h x known = let e : fault_seen k.stop k.mark (scanned p.tokens.scanner).fault ≡ f = cc in explained p v k.stop k.mark f e x known

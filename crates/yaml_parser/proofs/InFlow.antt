@@ -1,31 +1,14 @@
 -- The arms in flow whose events stand elsewhere than at a token of their own kind: at a key, and at a comma.
-use Rattle.std.proofs.Common.{◌≡◌, List, [], ◌∷◌, ◌++◌, Some, None, refl, sym, ap, ◌∙◌, subst}
-use Rattle.std.specs.Option.{IfSome}
-use Rattle.defs_text.specs.Position.{Position}
-use Rattle.defs_token.specs.Token.{Tok}
-use Rattle.yaml_tokens.specs.declared.token.Token.{Token}
-use Rattle.yaml_tokens.specs.Shown.{all_shown}
-use Rattle.defs_event.specs.Event.{Ev}
-use Rattle.defs_event.specs.Raw.{Raw}
-use Rattle.defs_event.specs.Names.{Names}
-use Rattle.model_parser.specs.declared.kind.Kind.{Kind}
-use Rattle.model_parser.specs.declared.kind.Kind.TheVariants as kind
-use Rattle.model_parser.specs.declared.state.State.{State}
-use Rattle.model_parser.specs.Goal as at
-use Rattle.model_parser.specs.Turn.{Takes}
-use Rattle.yaml_parser.specs.declared.tokens.Tokens.{Tokens}
-use Rattle.yaml_parser.specs.declared.reader.Reader.{Reader}
-use Rattle.yaml_parser.specs.Handed.{behind, IsRightAfter}
-use Rattle.yaml_parser.specs.Kinds.{IsOfKind}
-use Rattle.yaml_parser.specs.At.{At}
+use Rattle.yaml_parser.proofs.Common.{[], all_shown, ap, At, behind, Ev, Goal, IfSome, IsOfKind, IsRightAfter, Kind, List, Names, None, Position, Raw, Reader, refl, Some, State, subst, sym, Takes, Tok, Token, Tokens, ◌++◌, ◌∙◌, ◌∷◌, ◌≡◌}
 use Rattle.yaml_parser.proofs.Positions.{behind_more}
 use Rattle.yaml_parser.proofs.Steps.{looked, if_some_at}
 use Rattle.yaml_parser.proofs.Arms.{Skipped, HasNoColon, gives, gives_at}
+use Rattle.model_parser.specs.declared.kind.Kind.TheVariants as kind
 
 -- A single pair starts at its key's token.
 pub pair_starts : {T : Type 0} (m : Position) {p r : Reader T} {k : Kind} {ss : List State} {names : Names} {given : List (Ev × Position)}
-    → IsOfKind k p.tokens.peeked → k ≡ kind.Key → IfSome p.tokens.peeked (λ t. t.0 ≡ m) → Skipped p r ss → Takes at.item p.stack Tok.key (Some Raw.pair_start) at.done ss
-    → HasNoColon at.done ss → At at.item p names given → (names' : Names) × At at.done r names' (given ++ (Ev.mapping_start 0 None, m) ∷ [])
+    → IsOfKind k p.tokens.peeked → k ≡ kind.Key → IfSome p.tokens.peeked (λ t. t.0 ≡ m) → Skipped p r ss → Takes Goal.item p.stack Tok.key (Some Raw.pair_start) Goal.done ss
+    → HasNoColon Goal.done ss → At Goal.item p names given → (names' : Names) × At Goal.done r names' (given ++ (Ev.mapping_start 0 None, m) ∷ [])
 pair_starts {T} m o h mark s turn colon a = gives m o h refl mark s turn (record { resolves = refl; after_it = refl; seen = refl }) (λ b k. refl) colon refl refl a
 
 -- A comma is taken.
@@ -39,8 +22,8 @@ still_after p r same after = ap (λ x. behind None (all_shown x.items)) same ∙
 
 -- Where a comma stands before its bracket, a flow mapping ends at the comma.
 pub mapping_ends_at_comma : {T : Type 0} {m : Position} {p r : Reader T} {k : Kind} {names : Names} {given : List (Ev × Position)}
-    → IsRightAfter m p.tokens → IsOfKind k p.tokens.peeked → k ≡ kind.FlowMappingEnd → Skipped p r p.stack → Takes at.comma_flow_pairs p.stack Tok.flow_mapping_end (Some Raw.flow_mapping_end_at_comma) at.done p.stack
-    → HasNoColon at.done p.stack → At at.comma_flow_pairs p names given → (names' : Names) × At at.done r names' (given ++ (Ev.mapping_end, m) ∷ [])
+    → IsRightAfter m p.tokens → IsOfKind k p.tokens.peeked → k ≡ kind.FlowMappingEnd → Skipped p r p.stack → Takes Goal.comma_flow_pairs p.stack Tok.flow_mapping_end (Some Raw.flow_mapping_end_at_comma) Goal.done p.stack
+    → HasNoColon Goal.done p.stack → At Goal.comma_flow_pairs p names given → (names' : Names) × At Goal.done r names' (given ++ (Ev.mapping_end, m) ∷ [])
 mapping_ends_at_comma {T} {m} after o h s turn colon a =
     gives_at m o h refl s turn (record { resolves = refl; after_it = refl; seen = refl }) refl refl
     (λ t is. (subst (λ b. IfSome b (λ q. m ≡ q)) (sym after) refl, colon (Some t.0))) a

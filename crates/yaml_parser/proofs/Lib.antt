@@ -1,3 +1,5 @@
+pub mod Answering
+pub mod Common
 mod ApartRows
 pub mod Arms
 pub mod Completed

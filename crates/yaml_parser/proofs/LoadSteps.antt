@@ -1,22 +1,9 @@
 -- The steps of `load`.
-use Rattle.std.proofs.Common.{◌≡◌, ◌≢◌, ◌+◌, ◌||◌, ◌&&◌, not, List, [], ◌∷◌, ◌++◌, length, Bool, true, false, if◌then◌else◌, Option, Some, None, Result, Ok, Err, inl, inr, refl, sym, ap, ◌∙◌, subst, append_assoc, append-nil, arith}
-use Rattle.std.specs.Result.{IsErrAnd}
-use Rattle.std.proofs.lemmas.Bool.{or_from}
-use Rattle.std.proofs.lemmas.List.{length-append}
-use Rattle.defs_text.specs.Position.{Position}
-use Rattle.yaml_tokens.specs.ErrorReport.{ErrorReport}
-use Rattle.defs_event.specs.Event.{Ev}
+use Rattle.yaml_parser.proofs.Common.{[], after_document, ap, append-nil, append_assoc, arith, BeginsNested, Bool, ends, EndsSo, Err, ErrorReport, Ev, events_of, false, false_from_ne_true, GivesEvent, Going, if◌then◌else◌, inl, inr, is_document_end, is_document_start, is_open, is_stream_end, IsErrAnd, IsInside, length, length-append, List, load, load_from, Loaded, Loads, no_call, no_document, no_event, None, not, Ok, one_call, one_event, opened, Option, or-true, or_from, Parsed, Position, Pulls, PullsAll, push, PushesNext, pushing, read, read_so, Receives, refl, Result, RunsOn, Some, StartsSo, subst, sym, true, ◌&&◌, ◌++◌, ◌+◌, ◌||◌, ◌∙◌, ◌∷◌, ◌≡◌, ◌≢◌}
 use Rattle.defs_event.specs.PulledList.{Answer, event, fault, given}
-use Rattle.defs_event.specs.Push as run
-use Rattle.defs_event.specs.Stream.{events_of}
-use Rattle.defs_event.specs.Push.{Loaded, load, load_from, push, ends}
-use Rattle.yaml_parser.specs.Nests.{BeginsNested, opened, is_open, IsInside}
-use Rattle.yaml_parser.specs.Parsed.{Parsed, is_stream_end, is_document_start, is_document_end, read, read_so}
-use Rattle.yaml_parser.specs.Pulls.{Pulls, GivesEvent}
-use Rattle.yaml_parser.specs.View.{no_document}
-use Rattle.yaml_parser.specs.Loads as loads
-use Rattle.yaml_parser.specs.Loads.{PullsAll, no_call, one_call, Receives, no_event, one_event, EndsSo, Loads, pushing, Going, RunsOn, PushesNext, StartsSo, after_document}
 use Rattle.yaml_parser.proofs.Nesting.{no_end_inside, open_more}
+use Rattle.defs_event.specs.Push as run
+use Rattle.yaml_parser.specs.Loads as loads
 
 -- ---- the run
 
@@ -74,25 +61,11 @@ end_is_not e h k = let no : true ≡ false = sym (ap is_stream_end k) ∙ h in c
 
 -- a run inside a document that stops after an event
 pub inside_stops : (e : Ev) (p : Position) (multi : Bool) → (l : Loaded ErrorReport) × (load_from run.inside multi (event e p ∷ []) ≡ push e p l) × (l.pushed ≡ []) × (l.taken ≡ 0)
-inside_stops Ev.nothing p multi = (ends run.unfinished 0, refl, refl, refl)
-inside_stops Ev.stream_start p multi = (ends run.unfinished 0, refl, refl, refl)
-inside_stops Ev.stream_end p multi = (ends run.unfinished 0, refl, refl, refl)
-inside_stops Ev.document_start p multi = (ends run.unfinished 0, refl, refl, refl)
-inside_stops Ev.document_end p true = (ends run.unfinished 0, refl, refl, refl)
 inside_stops Ev.document_end p false = (ends run.well 0, refl, refl, refl)
-inside_stops (Ev.alias n) p multi = (ends run.unfinished 0, refl, refl, refl)
-inside_stops (Ev.scalar x y a t) p multi = (ends run.unfinished 0, refl, refl, refl)
-inside_stops (Ev.sequence_start a t) p multi = (ends run.unfinished 0, refl, refl, refl)
-inside_stops Ev.sequence_end p multi = (ends run.unfinished 0, refl, refl, refl)
-inside_stops (Ev.mapping_start a t) p multi = (ends run.unfinished 0, refl, refl, refl)
-inside_stops Ev.mapping_end p multi = (ends run.unfinished 0, refl, refl, refl)
+inside_stops e p multi = (ends run.unfinished 0, refl, refl, refl)
 
 going_before : {old new : Parsed} {e : Ev × Position} → GivesEvent old e new → is_stream_end e.0 ≡ false → old.ended ≡ false
-going_before {old} {new} {e} g h = not_over old.ended g.over
-  where
-    not_over : (b : Bool) → (b ≡ true → e.0 ≡ Ev.stream_end) → b ≡ false
-    not_over true f = absurd (end_is_not e.0 h (f refl))
-    not_over false f = refl
+going_before {old} {new} {e} g h = false_from_ne_true old.ended (λ b. end_is_not e.0 h (g.over b))
 
 -- After an event that is no end, the end was not given.
 pub not_ended : {old new : Parsed} {e : Ev × Position} → GivesEvent old e new → is_stream_end e.0 ≡ false → new.ended ≡ false
@@ -127,12 +100,8 @@ starts_inside {now} {new} {e} {p} g end start = (
 pub stays_inside : {now new : Parsed} {e : Ev} {p : Position} → IsInside now → GivesEvent now (e, p) new → is_document_end e ≡ false → IsInside new
 stays_inside {now} {new} {e} {p} i g last = (
   not_ended g (no_end i g),
-  ap (λ es. is_open false (events_of es)) (given_more g i.0) ∙ open_more false now.given e p ∙ ap (opened e) i.1 ∙ ap (λ b. is_document_start e || not b) last ∙ or_true (is_document_start e),
+  ap (λ es. is_open false (events_of es)) (given_more g i.0) ∙ open_more false now.given e p ∙ ap (opened e) i.1 ∙ ap (λ b. is_document_start e || not b) last ∙ or-true (is_document_start e),
 )
-  where
-    or_true : (b : Bool) → b || true ≡ true
-    or_true true = refl
-    or_true false = refl
 
 -- ---- the steps
 
@@ -158,50 +127,33 @@ module _ {R : Type 0} (takes : R → Ev → Position → Result (Unit {0}) Error
         ∙ g.runs (event e p ∷ rest) ∙ ap (pushing g.events) (steps rest) ∙ sym (pushing_snoc g.events e p (on' rest));
   }
 
-  -- the run that ends after one answer more
-  whole_run : {on : List (Answer ErrorReport) → Loaded ErrorReport} {now : Parsed} {s : R} (a : Answer ErrorReport) (l : Loaded ErrorReport) → (g : Going takes multi old r on now s) → on (a ∷ []) ≡ l → load old.started multi (given ErrorReport g.events ++ a ∷ []) ≡ pushing g.events l
-  whole_run {on} {now} {s} a l g h = g.runs (a ∷ []) ∙ ap (pushing g.events) h
-
-  whole_taken : (es : List (Ev × Position)) (a : Answer ErrorReport) (l m : Loaded ErrorReport) → m ≡ pushing es l → l.taken ≡ 1 → m.taken ≡ length (given ErrorReport es ++ a ∷ [])
-  whole_taken es a l m h t = ap (λ x. x.taken) h ∙ taken_all es l ∙ ap (λ n. length es + n) t ∙ sym (length-append (given ErrorReport es) (a ∷ []) ∙ ap (λ n. n + 1) (given_length es))
+  -- The run ends after one answer more.
+  stops_after : {on : List (Answer ErrorReport) → Loaded ErrorReport} {now now' new : Parsed} {s s' : R} {x : Result (Unit {0}) ErrorReport} (a : Answer ErrorReport) (l : Loaded ErrorReport) (g : Going takes multi old r on now s) → on (a ∷ []) ≡ l → l.taken ≡ 1 → Pulls now a now'
+      → ((m : Loaded ErrorReport) → m.ending ≡ l.ending → m.pushed ≡ g.events ++ l.pushed → EndsSo takes r m now' x new s') → Loads takes multi old r x new s'
+  stops_after {on} {now} {now'} {new} {s} {s'} {x} a l g h t pulls so =
+      let w : load old.started multi (given ErrorReport g.events ++ a ∷ []) ≡ pushing g.events l = g.runs (a ∷ []) ∙ ap (pushing g.events) h in
+      record {
+        answers = given ErrorReport g.events ++ a ∷ [];
+        after = now';
+        pulled = one_call a g.pulled pulls;
+        taken = ap (λ x. x.taken) w ∙ taken_all g.events l ∙ ap (λ n. length g.events + n) t ∙ sym (length-append (given ErrorReport g.events) (a ∷ []) ∙ ap (λ n. n + 1) (given_length g.events));
+        ends = so (load old.started multi (given ErrorReport g.events ++ a ∷ [])) (ap (λ x. x.ending) w ∙ ending_all g.events l) (ap (λ x. x.pushed) w ∙ pushed_all g.events l);
+      }
 
   pub faults : {on : List (Answer ErrorReport) → Loaded ErrorReport} {now now' : Parsed} {s : R} (f : ErrorReport) → Going takes multi old r on now s → on (fault f ∷ []) ≡ ends (run.faulted f) 1 → Pulls now (fault f) now' → Loads takes multi old r (Err f) now' s
   faults {on} {now} {now'} {s} f g h pulls =
-      let l = ends (run.faulted f) 1 in
-      let w = whole_run (fault f) l g h in
-      record {
-        answers = given ErrorReport g.events ++ fault f ∷ [];
-        after = now';
-        pulled = one_call (fault f) g.pulled pulls;
-        taken = whole_taken g.events (fault f) l _ w refl;
-        ends = loads.faulted (ap (λ x. x.ending) w ∙ ending_all g.events l) pulls.fault (subst (λ xs. Receives takes r xs s) (sym (ap (λ x. x.pushed) w ∙ pushed_all g.events l ∙ append-nil g.events)) g.received);
-      }
+      stops_after {new = now'} {s' = s} {x = Err f} (fault f) (ends (run.faulted f) 1) g h refl pulls (λ m i q. loads.faulted i pulls.fault (subst (λ xs. Receives takes r xs s) (sym (q ∙ append-nil g.events)) g.received))
 
   pub misplaces : {on : List (Answer ErrorReport) → Loaded ErrorReport} {now now' : Parsed} {s : R} (e : Ev) (p : Position) → Going takes multi old r on now s → on (event e p ∷ []) ≡ ends (run.no_document p) 1 → Pulls now (event e p) now'
       → Loads takes multi old r (Err (no_document p)) (record now' { fault = Some (no_document p) }) s
   misplaces {on} {now} {now'} {s} e p g h pulls =
-      let l = ends (run.no_document p) 1 in
-      let w = whole_run (event e p) l g h in
-      record {
-        answers = given ErrorReport g.events ++ event e p ∷ [];
-        after = now';
-        pulled = one_call (event e p) g.pulled pulls;
-        taken = whole_taken g.events (event e p) l _ w refl;
-        ends = loads.misplaced p (ap (λ x. x.ending) w ∙ ending_all g.events l) (subst (λ xs. Receives takes r xs s) (sym (ap (λ x. x.pushed) w ∙ pushed_all g.events l ∙ append-nil g.events)) g.received);
-      }
+      stops_after {new = record now' { fault = Some (no_document p) }} {s' = s} {x = Err (no_document p)} (event e p) (ends (run.no_document p) 1) g h refl pulls (λ m i q. loads.misplaced p i (subst (λ xs. Receives takes r xs s) (sym (q ∙ append-nil g.events)) g.received))
 
   -- The receiver refuses an event.
   pub refuses : {on : List (Answer ErrorReport) → Loaded ErrorReport} {now now' : Parsed} {s s' : R} (e : Ev) (p : Position) (f : ErrorReport) (l : Loaded ErrorReport) → Going takes multi old r on now s → on (event e p ∷ []) ≡ push e p l → l.pushed ≡ [] → l.taken ≡ 0
       → Pulls now (event e p) now' → takes s e p (Err f) s' → Loads takes multi old r (Err f) now' s'
   refuses {on} {now} {now'} {s} {s'} e p f l g h none nil pulls took =
-      let w = whole_run (event e p) (push e p l) g h in
-      record {
-        answers = given ErrorReport g.events ++ event e p ∷ [];
-        after = now';
-        pulled = one_call (event e p) g.pulled pulls;
-        taken = whole_taken g.events (event e p) (push e p l) _ w (ap (λ n. n + 1) nil);
-        ends = loads.refused e p (ap (λ x. x.pushed) w ∙ pushed_all g.events (push e p l) ∙ ap (λ xs. g.events ++ (e, p) ∷ xs) none) pulls.sound.fault g.received took;
-      }
+      stops_after {new = now'} {s' = s'} {x = Err f} (event e p) (push e p l) g h (ap (λ n. n + 1) nil) pulls (λ m i q. loads.refused e p (q ∙ ap (λ xs. g.events ++ (e, p) ∷ xs) none) pulls.sound.fault g.received took)
 
   -- A fault is pulled inside a document, or the receiver refuses an event there.
   pub push_stops : {now now' : Parsed} {s s' : R} (f : ErrorReport) → RunsOn takes multi old r run.inside now s → PushesNext takes now s (Err f) now' s' → Loads takes multi old r (Err f) now' s'
@@ -212,15 +164,7 @@ module _ {R : Type 0} (takes : R → Ev → Position → Result (Unit {0}) Error
   pub ends_well : {on : List (Answer ErrorReport) → Loaded ErrorReport} {now now' : Parsed} {s s' : R} (e : Ev) (p : Position) → Going takes multi old r on now s → on (event e p ∷ []) ≡ push e p (ends run.well 0)
       → Pulls now (event e p) now' → takes s e p (Ok tt) s' → Loads takes multi old r (Ok tt) now' s'
   ends_well {on} {now} {now'} {s} {s'} e p g h pulls took =
-      let l = push {Fault = ErrorReport} e p (ends run.well 0) in
-      let w = whole_run (event e p) l g h in
-      record {
-        answers = given ErrorReport g.events ++ event e p ∷ [];
-        after = now';
-        pulled = one_call (event e p) g.pulled pulls;
-        taken = whole_taken g.events (event e p) l _ w refl;
-        ends = loads.well (ap (λ x. x.ending) w ∙ ending_all g.events l) pulls.sound.fault (subst (λ xs. Receives takes r xs s') (sym (ap (λ x. x.pushed) w ∙ pushed_all g.events l)) (one_event e p g.received took));
-      }
+      stops_after {new = now'} {s' = s'} {x = Ok tt} (event e p) (push {Fault = ErrorReport} e p (ends run.well 0)) g h refl pulls (λ m i q. loads.well i pulls.sound.fault (subst (λ xs. Receives takes r xs s') (sym q) (one_event e p g.received took)))
 
   -- A document was read, and no more is asked for.
   pub one_document : {now : Parsed} {s : R} → Going takes multi old r (after_document multi) now s → now.fault ≡ None → multi ≡ false → Loads takes multi old r (Ok tt) now s

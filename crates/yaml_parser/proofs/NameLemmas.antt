@@ -1,27 +1,15 @@
 -- Names as bytes and as characters.
-use Rattle.std.proofs.Common.{◌≡◌, ◌≢◌, ℕ, List, [], ◌∷◌, Option, Some, None, option_map, true, false, cond, refl, sym, ap, ◌∙◌, if◌then◌else◌, length, ◌==◌, Result, Ok, Err, rules}
-use Rattle.std.specs.Prelude.{String, string_bytes, bytes_eq, codes}
 use Rattle.std.specs.Str.{chars}
-use lib.Utf8.{encodes, encode}
-use Rattle.std.specs.BTreeMap as tree
-use Rattle.std.specs.BTreeMap.{BTreeMap, get_by_text}
 use Rattle.std.specs.String.{string_cmp, string_len}
-use Rattle.std.specs.declared.alloc.Global.{Global}
 use Rattle.std.proofs.lemmas.Map.Text.{btree_map_updates_text}
-use Rattle.std.proofs.lemmas.Bool.Decides.{same_from_decides, Decides-like}
-use Rattle.std.proofs.lemmas.Slice.Eq.{bytes_eq-Decides}
 use Rattle.std.proofs.lemmas.Str.{encodes-chars, IsUtf8-string_bytes}
-use Rattle.defs_text.specs.Text.{string_chars, is_empty}
+use Rattle.yaml_parser.proofs.Common.{[], ap, BTreeMap, bytes_eq, bytes_eq-Decides, codes, cond, Decides-like, Err, false, get_by_text, Global, if◌then◌else◌, is_empty, IsUndeclared, length, List, Names, None, Ok, Option, option_map, OutOfMemory, Position, prefix_or_undeclared, refl, resolved, Resolves, Result, rules, same_from_decides, Some, Stop, String, string_bytes, string_chars, sym, tag_of, true, undeclared, under_name, ℕ, ◌==◌, ◌∙◌, ◌∷◌, ◌≡◌, ◌≢◌}
+use lib.Utf8.{encodes, encode}
 use Rattle.yaml_chars.proofs.TextLemmas.{is_nil_chars}
-use Rattle.yaml_tokens.specs.declared.problem.Fault.TheVariants.{OutOfMemory}
-use Rattle.yaml_tokens.specs.declared.problem.Fault.TheVariants as fault
-use Rattle.defs_event.specs.Names.{Names, under_name, prefix_or_undeclared, undeclared, resolved}
 use Rattle.yaml_parser.specs.declared.event.Tag.{Tag}
-use Rattle.yaml_parser.specs.declared.tokens.Stop.{Stop}
+use Rattle.std.specs.BTreeMap as tree
+use Rattle.yaml_tokens.specs.declared.problem.Fault.TheVariants as fault
 use Rattle.yaml_parser.specs.declared.tokens.Stop.TheVariants as stop
-use Rattle.yaml_parser.specs.Shown.{tag_of}
-use Rattle.defs_text.specs.Position.{Position}
-use Rattle.yaml_parser.specs.Resolves.{Resolves, IsUndeclared}
 
 nil_of : (xs : List ℕ) → is_empty xs ≡ true → xs ≡ []
 nil_of [] h = refl

@@ -1,28 +1,12 @@
 -- The events that a parser gives are a beginning of nested events, so the stream's end comes in no document.
-use Rattle.std.proofs.Common.{◌≡◌, length, arith, List, [], ◌∷◌, ◌++◌, Option, Some, None, Bool, true, false, if◌then◌else◌, refl, sym, ap, ◌∙◌, subst}
-use Rattle.defs_text.specs.Position.{Position}
-use Rattle.defs_token.specs.Token.{Tok}
-use Rattle.defs_event.specs.Event.{Ev}
-use Rattle.defs_event.specs.Grammar as table
-use Rattle.defs_event.specs.Table.{reading, Derives}
+use Rattle.yaml_parser.proofs.Common.{[], ap, arith, At, Awaits, BeginsNested, Bool, both, by_steps, Derives, Directive, end_events, end_tokens, Ev, events_of, false, false_from_ne_true, Goal, goes_so, if◌then◌else◌, is_open, length, List, named, named_shaped, Names, names_after, needs_tokens, no_names, no_row, None, not_refused, opened, Option, Position, Raw, Reader, reading, refl, resolved_event, row_left, row_taken, said, Some, steps, StreamSays, subst, sym, taken_toks, Tok, true, works, ◌++◌, ◌∙◌, ◌∷◌, ◌≡◌}
 use Rattle.defs_event.specs.Nested.{Open, in_stream, before_node, after_node, in_sequence, at_key, at_value, open_after, there_and, closes, is_nested, IsNested}
-use Rattle.defs_event.specs.Stream.{StreamSays, events_of}
 use Rattle.defs_event.proofs.NestedTest.{test_is_exact}
-use Rattle.defs_event.proofs.Shaped.{Shaped, named_shaped}
 use Rattle.defs_event.proofs.StreamNests.{shaped_nests}
-use Rattle.model_parser.specs.Goal.{Goal}
-use Rattle.model_parser.specs.Rest.{works, Awaits}
-use Rattle.model_parser.proofs.StepRows.{row_taken, row_left, no_row, said, needs_tokens, steps, by_steps, refuses, not_refused}
-use Rattle.model_parser.proofs.Endings.{end_tokens, end_events, goes_so}
-use Rattle.defs_event.specs.Names.{Names, no_names, named, both, names_after, resolved_event}
-use Rattle.defs_event.specs.Raw.{Raw, Directive}
-use Rattle.model_parser.specs.Goal as at
-use Rattle.yaml_parser.specs.declared.reader.Reader.{Reader}
-use Rattle.yaml_parser.specs.At.{At}
-use Rattle.yaml_parser.specs.Handed.{taken_toks}
-use Rattle.yaml_parser.specs.Nests.{BeginsNested, opened, is_open}
+use Rattle.model_parser.proofs.StepRows.{refuses}
 use Rattle.yaml_parser.proofs.Completed.{Nameable, are_free, free_named, works_free, completed}
 use Rattle.yaml_parser.proofs.Resolved.{since_shaped}
+use Rattle.defs_event.specs.Grammar as table
 
 -- What is awaited and can be named completes them.
 nested_by : {T : Type 0} {g : Goal} {p : Reader T} {names : Names} {given : List (Ev × Position)} (a : At g p names given) {ts : List Tok} {es : List Raw} → Awaits g p.stack ts es
@@ -131,20 +115,16 @@ nested_with {T} {g} {p} {names} {given} a e {ts} {es} x {v} r free =
     let n : Nameable keep names (e ∷ es) = (v ∷ m.0, ap (λ o. both o (named keep (names_after keep names e) es)) r ∙ ap (λ o. both (Some v) o) m.1) in
     (m.0, (test_is_exact (events_of given ++ n.0)).1 (nested_by a x n))
 
-closed_if : (b : Bool) → (b ≡ true → ⊥) → b ≡ false
-closed_if true f = absurd (f refl)
-closed_if false f = refl
-
 -- Where the stream's end or a document's start may come, no document is open.
-pub explicit_outside : {T : Type 0} {p : Reader T} {names : Names} {given : List (Ev × Position)} → At at.explicit p names given → is_open false (events_of given) ≡ false
+pub explicit_outside : {T : Type 0} {p : Reader T} {names : Names} {given : List (Ev × Position)} → At Goal.explicit p names given → is_open false (events_of given) ≡ false
 explicit_outside {T} {p} {names} {given} a =
-    let n = nested_with a Raw.stream_end (goes_so at.explicit p.stack Tok.stream_end [] refl refl) refl (works_free p.stack) in
-    closed_if (is_open false (events_of given)) (λ o. never_nested Ev.stream_end end_is_outside (events_of given) n.0 o n.1)
+    let n = nested_with a Raw.stream_end (goes_so Goal.explicit p.stack Tok.stream_end [] refl refl) refl (works_free p.stack) in
+    false_from_ne_true (is_open false (events_of given)) (λ o. never_nested Ev.stream_end end_is_outside (events_of given) n.0 o n.1)
 
-pub directed_outside : {T : Type 0} {p : Reader T} {ds : List Directive} {names : Names} {given : List (Ev × Position)} → At (at.directed ds) p names given → is_open false (events_of given) ≡ false
+pub directed_outside : {T : Type 0} {p : Reader T} {ds : List Directive} {names : Names} {given : List (Ev × Position)} → At (Goal.directed ds) p names given → is_open false (events_of given) ≡ false
 directed_outside {T} {p} {ds} {names} {given} a =
-    let n = nested_with a (Raw.document_start ds) (goes_so (at.directed ds) p.stack Tok.document_start [] refl refl) (ap (λ b. if b then Some Ev.document_start else None) a.pending) (works_free p.stack) in
-    closed_if (is_open false (events_of given)) (λ o. never_nested Ev.document_start start_is_outside (events_of given) n.0 o n.1)
+    let n = nested_with a (Raw.document_start ds) (goes_so (Goal.directed ds) p.stack Tok.document_start [] refl refl) (ap (λ b. if b then Some Ev.document_start else None) a.pending) (works_free p.stack) in
+    false_from_ne_true (is_open false (events_of given)) (λ o. never_nested Ev.document_start start_is_outside (events_of given) n.0 o n.1)
 
 never_starts : (es more : List Ev) (os : List Open) → closes (es ++ Ev.stream_start ∷ more) os ≡ true → ⊥
 never_starts [] more os h = cc
@@ -190,16 +170,16 @@ starts_once (t ∷ ts) us es d =
     cc
 
 -- Before the stream's start nothing was given.
-pub nothing_given : {T : Type 0} {p : Reader T} {names : Names} {given : List (Ev × Position)} → At at.start p names given → events_of given ≡ []
+pub nothing_given : {T : Type 0} {p : Reader T} {names : Names} {given : List (Ev × Position)} → At Goal.start p names given → events_of given ≡ []
 nothing_given {T} {p} {names} {given} a =
-    let n = nested_with a Raw.stream_start (goes_so at.start p.stack Tok.stream_start [] refl refl) refl (works_free p.stack) in
+    let n = nested_with a Raw.stream_start (goes_so Goal.start p.stack Tok.stream_start [] refl refl) refl (works_free p.stack) in
     by (events_of given) n.0 n.1
   where
     by : (es ws : List Ev) → is_nested (es ++ Ev.stream_start ∷ ws) ≡ true → es ≡ []
     by [] ws h = refl
     by (e ∷ es) ws h = absurd (never_starts es ws (in_stream ∷ []) (from_start e (es ++ Ev.stream_start ∷ ws) h).1)
 
-pub nothing_read : {T : Type 0} {p : Reader T} {names : Names} {given : List (Ev × Position)} → (a : At at.start p names given) → a.raw ≡ []
+pub nothing_read : {T : Type 0} {p : Reader T} {names : Names} {given : List (Ev × Position)} → (a : At Goal.start p names given) → a.raw ≡ []
 nothing_read {T} {p} {names} {given} a = empty a.raw given a.count (nothing_given a)
   where
     empty : (rs : List Raw) (es : List (Ev × Position)) → length rs ≡ length es → events_of es ≡ [] → rs ≡ []
@@ -208,9 +188,9 @@ nothing_read {T} {p} {names} {given} a = empty a.raw given a.count (nothing_give
     empty (r ∷ rs) (e ∷ es) l h = cc
 
 -- and nothing was taken.
-pub nothing_taken : {T : Type 0} {p : Reader T} {names : Names} {given : List (Ev × Position)} → At at.start p names given → taken_toks p.tokens ≡ []
+pub nothing_taken : {T : Type 0} {p : Reader T} {names : Names} {given : List (Ev × Position)} → At Goal.start p names given → taken_toks p.tokens ≡ []
 nothing_taken {T} {p} a =
-    let d = a.stands.sound _ _ (goes_so at.start p.stack Tok.stream_start (Tok.stream_end ∷ []) refl refl) in
+    let d = a.stands.sound _ _ (goes_so Goal.start p.stack Tok.stream_start (Tok.stream_end ∷ []) refl refl) in
     by (taken_toks p.tokens) (end_tokens (works p.stack)) (end_events (works p.stack))
     (subst (λ rs. StreamSays (taken_toks p.tokens ++ Tok.stream_start ∷ Tok.stream_end ∷ end_tokens (works p.stack)) (rs ++ Raw.stream_start ∷ Raw.stream_end ∷ end_events (works p.stack))) (nothing_read a) d)
   where

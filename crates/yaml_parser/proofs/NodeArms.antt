@@ -1,69 +1,28 @@
 -- The arms of the productions of nodes.
-use Rattle.std.proofs.Common.{◌≡◌, ◌≢◌, ℕ, List, [], ◌∷◌, ◌++◌, Option, Some, None, option_map, is_some, Bool, true, false, Result, Ok, Err, refl, sym, ap, ◌∙◌, subst, append_assoc, ◌⊎◌, inl, inr}
-use Rattle.std.specs.Result.{OnOk, OnErr}
-use Rattle.std.specs.Option.{IsSome, IfSome}
-use Rattle.std.proofs.lemmas.Bool.{both_ways}
-use Rattle.defs_text.specs.Position.{Position}
-use Rattle.defs_token.specs.Token as defs
-use Rattle.defs_token.specs.Token.{Tok, Style}
-use Rattle.yaml_tokens.specs.declared.token.Token.{Token}
-use Rattle.yaml_tokens.specs.declared.problem.Fault.TheVariants.{OutOfMemory}
-use Rattle.yaml_tokens.specs.declared.problem.Fault.TheVariants as fault
-use Rattle.yaml_tokens.specs.declared.problem.Problem.{Problem}
-use Rattle.yaml_tokens.specs.declared.problem.Problem.TheVariants.{UnknownAnchor, UndeclaredHandle}
-use Rattle.yaml_tokens.specs.Shown.{shown, all_shown, tok_of}
-use Rattle.yaml_scanner.specs.Scanned.{scanned}
-use Rattle.yaml_scanner_state.specs.Tokens.{is_end}
-use Rattle.defs_event.specs.Event as event
-use Rattle.defs_event.specs.Event.{Ev}
-use Rattle.defs_event.specs.Raw.{Raw}
-use Rattle.defs_event.specs.Properties as written
-use Rattle.defs_event.specs.Properties.{perhaps_anchor_of, perhaps_tag_of}
-use Rattle.defs_event.specs.Names.{Names, number, with_anchor, names_after, both, named, no_names, resolved_event, perhaps_resolved, resolved, under_name, prefix_of}
-use Rattle.defs_token.specs.Toks.{toks}
-use Rattle.defs_event.specs.Stream.{StreamSays, events_of}
-use Rattle.model_parser.specs.declared.kind.Kind.{Kind}
-use Rattle.model_parser.specs.declared.context.NodeContext as positions
-use Rattle.model_parser.specs.declared.context.NodeContext.TheVariants as context
-use Rattle.model_parser.specs.declared.state.State.{State}
-use Rattle.model_parser.specs.Kinds.{kind_of, tok_of_kind, HasNoText}
-use Rattle.model_parser.specs.Goal as at
-use Rattle.model_parser.specs.Goal.{Goal}
-use Rattle.model_parser.proofs.Nodes as turn
-use Rattle.model_parser.specs.declared.kind.Kind.TheVariants as kind
-use Rattle.yaml_parser.specs.Resolves.{Resolves}
-use Rattle.model_parser.specs.Rest.{Works, works, past, place_of as where_it_stands, Awaits}
-use Rattle.defs_event.specs.Table.{show, empty, Row, takes, leaves, row_of, reading, Derives}
-use Rattle.defs_event.specs.Grammar as table
-use Rattle.defs_event.specs.Grammar.{Held, Place, event_of, empty_event, cases, grammar}
-use Rattle.model_parser.proofs.Falls.{text, after_text}
-use Rattle.model_parser.proofs.StepRows.{row_taken, row_left, said, needs_tokens}
-use Rattle.model_parser.proofs.Endings.{end_tokens, end_events, goes_so}
+use Rattle.yaml_parser.proofs.Common.{[], after_text, all_shown, answered, Answers, ap, append_assoc, At, Awaits, BeginAt, Bool, both, both_ways, cases, Derives, empty, empty_event, end_events, end_tokens, EndsInAnchor, Err, Ev, event_of, event_then, events_of, EventSlot, false, Faulted, fits, Goal, goal_after_event, goes_so, grammar, Has, HasNoText, HasUndeclaredHandle, HasUnknownAnchor, Held, IfSome, inl, inr, is_end, is_of_names, is_some, IsCause, IsDerived, IsNamed, IsOfKind, IsPending, IsSome, kept_tag, Kind, kind_of, last_position, Leaves, List, name_of, named, named_by, Names, names_after, names_by, needs_tokens, no_names, None, number, Ok, OnErr, OnOk, Option, option_map, OutOfMemory, past, peeked_tok, perhaps_anchor_of, perhaps_resolved, Place, placed, Position, Problem, Raw, Reader, reading, refl, Registers, resolved, resolved_event, Resolves, Result, Row, row_left, row_of, row_taken, said, scanned, show, shown, shown_list, Skips, SkipsOne, Some, StandsAt, State, Stop, StreamSays, Style, subst, sym, taken_toks, Takes, takes, text, Tok, tok_is, tok_of, tok_of_kind, Token, Tokens, toks, true, UndeclaredHandle, under_name, UnknownAnchor, with_anchor, Works, works, ℕ, ◌++◌, ◌∙◌, ◌∷◌, ◌≡◌, ◌≢◌, ◌⊎◌}
+use Rattle.defs_event.specs.Properties.{perhaps_tag_of}
+use Rattle.defs_event.specs.Names.{prefix_of}
+use Rattle.model_parser.specs.Rest.{place_of as where_it_stands}
+use Rattle.defs_event.specs.Table.{leaves}
 use Rattle.model_parser.specs.Stands.{IsNext as Starts}
-use Rattle.model_parser.specs.Turn.{Takes, Leaves, event_then}
-use Rattle.model_parser.proofs.First.{tok_is}
 use Rattle.model_parser.proofs.Apart.{no_two_anchors}
 use Rattle.yaml_parser.specs.declared.node.Properties.{Properties}
-use Rattle.yaml_parser.specs.declared.tokens.Stop.{Stop}
-use Rattle.yaml_parser.specs.declared.tokens.Stop.TheVariants as stop
-use Rattle.yaml_parser.specs.declared.slot.EventSlot.{EventSlot}
-use Rattle.yaml_parser.specs.declared.reader.Reader.{Reader}
-use Rattle.yaml_parser.specs.declared.tokens.Tokens.{Tokens}
-use Rattle.yaml_parser.specs.Ahead.{Skips, SkipsOne}
-use Rattle.yaml_parser.specs.Blames.{fits, is_of_names, IsCause, HasUnknownAnchor, HasUndeclaredHandle, StandsAt, EndsInAnchor}
-use Rattle.yaml_parser.specs.Derived.{IsDerived}
-use Rattle.yaml_parser.specs.Handed.{taken_toks, peeked_tok, last_position, BeginAt, shown_list}
-use Rattle.yaml_parser.specs.Kinds.{IsOfKind}
-use Rattle.yaml_parser.specs.Named.{IsNamed}
-use Rattle.yaml_parser.specs.Properties.{Has, Registers, name_of, kept_tag}
-use Rattle.yaml_parser.specs.Shown.{placed}
-use Rattle.yaml_parser.specs.At.{At, Answers, Faulted, answered, named_by, names_by, goal_after_event, IsPending}
-use Rattle.yaml_parser.proofs.Steps.{looked, took, took_on, left, Named, breaks, map_snoc, if_some_at}
+use Rattle.yaml_parser.proofs.Steps.{looked, took, left, Named, breaks, map_snoc, if_some_at}
 use Rattle.yaml_parser.proofs.Arms.{StandsHere, HasNoColon, here_at, under_no_colon, Skipped, stays, stay, not_as, faulted_as}
 use Rattle.yaml_parser.proofs.Ends.{at_derived, StandsBeside, at_peeked}
 use Rattle.yaml_parser.proofs.Completed.{completed}
 use Rattle.yaml_parser.proofs.Since.{since_stops}
 use Rattle.yaml_parser.proofs.Ways.{apart_as, node_apart, node_ways, anchored_ways}
+use Rattle.defs_token.specs.Token as defs
+use Rattle.yaml_tokens.specs.declared.problem.Fault.TheVariants as fault
+use Rattle.defs_event.specs.Event as event
+use Rattle.defs_event.specs.Properties as written
+use Rattle.model_parser.specs.declared.context.NodeContext as positions
+use Rattle.model_parser.specs.declared.context.NodeContext.TheVariants as context
+use Rattle.model_parser.proofs.Nodes as turn
+use Rattle.model_parser.specs.declared.kind.Kind.TheVariants as kind
+use Rattle.defs_event.specs.Grammar as table
+use Rattle.yaml_parser.specs.declared.tokens.Stop.TheVariants as stop
 
 -- ---- an event with properties
 
@@ -84,7 +43,7 @@ made_resolves {mk} {f} {s} {o} {p} k h = k.resolves s _ _ ∙ ap (option_map (λ
 -- the names after it
 made_named : {T : Type 0} {p r : Reader T} {mk : Option (List ℕ) → Option event.Tag → Raw} {f : ℕ → Option event.Tag → Ev} {s : Names} {o : Option written.Properties} {x : Option Properties}
     → Makes mk f → Has s o x → r.names.keeping ≡ p.names.keeping → IsNamed r.names (with_anchor s (name_of x))
-    → Named p r at.done s (mk (perhaps_anchor_of o) (perhaps_tag_of o)) (f (number s (name_of x)) (kept_tag x)) (with_anchor s (name_of x))
+    → Named p r Goal.done s (mk (perhaps_anchor_of o) (perhaps_tag_of o)) (f (number s (name_of x)) (kept_tag x)) (with_anchor s (name_of x))
 made_named {T} {p} {r} {mk} {f} {s} {o} {x} k h keep code = record {
   resolves = made_resolves k h;
   after_it = k.after_it _ s _ _ ∙ ap (with_anchor s) h.anchor;
@@ -96,11 +55,11 @@ made_named {T} {p} {r} {mk} {f} {s} {o} {x} k h keep code = record {
 -- The start of a collection is taken, and its properties are registered.
 pub starts : {T E : Type 0} (m : Position) {p q : Reader T} (r : Reader T) {k k' : Kind} {w : positions.NodeContext} {o : Option written.Properties} {x : Option Properties} {ss : List State} (mk : Option (List ℕ) → Option event.Tag → Raw) (f : ℕ → Option event.Tag → Ev) {s : Names} {given : List (Ev × Position)} (res : Result (Unit {0}) E) (slot : EventSlot)
     → Makes mk f → IsOfKind k' p.tokens.peeked → k' ≡ k → HasNoText k → is_end (tok_of_kind k) ≡ false
-    → ((a : Option (List ℕ)) (t : Option event.Tag) → StandsHere (mk a t)) → HasNoColon at.done ss → IfSome p.tokens.peeked (λ t. t.0 ≡ m) → Skipped p q ss
-    → Takes (at.after_properties w o) p.stack (tok_of_kind k) (Some (mk (perhaps_anchor_of o) (perhaps_tag_of o))) at.done ss
+    → ((a : Option (List ℕ)) (t : Option event.Tag) → StandsHere (mk a t)) → HasNoColon Goal.done ss → IfSome p.tokens.peeked (λ t. t.0 ≡ m) → Skipped p q ss
+    → Takes (Goal.after_properties w o) p.stack (tok_of_kind k) (Some (mk (perhaps_anchor_of o) (perhaps_tag_of o))) Goal.done ss
     → ((names : Names) → IsNamed q.names names → OnOk res (Registers q x names (λ a t. placed slot.next ≡ (f a t, m)) r)) → OnErr res (slot.stop ≡ stop.Own OutOfMemory)
-    → ((a : ℕ) (t : Option event.Tag) → goal_after_event (f a t) ≡ at.done)
-    → Has s o x → At (at.after_properties w o) p s given → Answers r given (answered res slot)
+    → ((a : ℕ) (t : Option event.Tag) → goal_after_event (f a t) ≡ Goal.done)
+    → Has s o x → At (Goal.after_properties w o) p s given → Answers r given (answered res slot)
 starts {T} {E} m {p} {q} r {k} {k'} {w} {o} {x} {ss} mk f {s} {given} (Err u) slot makes here h plain end alike colon mark skip turn registers err no_end has a = subst (Faulted r given) (sym err) tt
 starts {T} {E} m {p} {q} r {k} {k'} {w} {o} {x} {ss} mk f {s} {given} (Ok e) slot makes here h plain end alike colon mark skip turn registers err no_end has a =
     let l = looked k' p.tokens.peeked here in
@@ -109,8 +68,8 @@ starts {T} {E} m {p} {q} r {k} {k'} {w} {o} {x} {ss} mk f {s} {given} (Ok e) slo
     let g = registers s (subst (λ n. IsNamed n s) (sym y.names) a.code) in
     let same : tok_of t.1 ≡ tok_of_kind k = tok_is (l.2 ∙ h) plain in
     let v : Ev × Position = (f (number s (name_of x)) (kept_tag x), m) in
-    let one : At at.done r (with_anchor s (name_of x)) (given ++ v ∷ []) =
-    took m l.1 (subst (λ u. Skips p.tokens t u) (sym g.tokens) y.tokens) (g.stack ∙ y.stack) (subst (λ u. Takes (at.after_properties w o) p.stack u (Some (mk (perhaps_anchor_of o) (perhaps_tag_of o))) at.done ss) (sym same) turn)
+    let one : At Goal.done r (with_anchor s (name_of x)) (given ++ v ∷ []) =
+    took m l.1 (subst (λ u. Skips p.tokens t u) (sym g.tokens) y.tokens) (g.stack ∙ y.stack) (subst (λ u. Takes (Goal.after_properties w o) p.stack u (Some (mk (perhaps_anchor_of o) (perhaps_tag_of o))) Goal.done ss) (sym same) turn)
     (made_named makes has (g.keep ∙ ap (λ n. n.keeping) y.names) g.code) (λ b. (refl, ap is_end same ∙ end))
     (here_at (last_position p.tokens) (mk (perhaps_anchor_of o) (perhaps_tag_of o)) (shown t) m (alike (perhaps_anchor_of o) (perhaps_tag_of o)) (if_some_at (λ (z : Token). z.0 ≡ m) mark l.1)) (colon (Some t.0)) a in
     let two : (names : Names) × At (goal_after_event v.0) r names (given ++ v ∷ []) = (with_anchor s (name_of x), subst (λ g. At g r (with_anchor s (name_of x)) (given ++ v ∷ [])) (sym (no_end _ _)) one) in
@@ -119,25 +78,25 @@ starts {T} {E} m {p} {q} r {k} {k'} {w} {o} {x} {ss} mk f {s} {given} (Ok e) slo
 -- A scalar is taken, and its properties are registered.
 pub scalar_taken : {T : Type 0} (m : Position) {p q r : Reader T} {y : Style} {v : List ℕ} {n : ℕ} {u : Option event.Tag} {w : positions.NodeContext} {o : Option written.Properties} {x : Option Properties} {ss : List State} {s : Names} {given : List (Ev × Position)}
     → {t : Token} → p.tokens.peeked ≡ Some t → t.0 ≡ m → Skips p.tokens t q.tokens → q.stack ≡ ss → q.names ≡ p.names → tok_of t.1 ≡ Tok.scalar y v
-    → Takes (at.after_properties w o) p.stack (Tok.scalar y v) (Some (Raw.scalar v y (perhaps_anchor_of o) (perhaps_tag_of o))) at.done ss
-    → ((names : Names) → IsNamed q.names names → Registers q x names (λ a b. (n ≡ a) × (u ≡ b)) r) → HasNoColon at.done ss
-    → Has s o x → At (at.after_properties w o) p s given → (names : Names) × At at.done r names (given ++ (Ev.scalar v y n u, m) ∷ [])
+    → Takes (Goal.after_properties w o) p.stack (Tok.scalar y v) (Some (Raw.scalar v y (perhaps_anchor_of o) (perhaps_tag_of o))) Goal.done ss
+    → ((names : Names) → IsNamed q.names names → Registers q x names (λ a b. (n ≡ a) × (u ≡ b)) r) → HasNoColon Goal.done ss
+    → Has s o x → At (Goal.after_properties w o) p s given → (names : Names) × At Goal.done r names (given ++ (Ev.scalar v y n u, m) ∷ [])
 scalar_taken {T} m {p} {q} {r} {y} {v} {n} {u} {w} {o} {x} {ss} {s} {given} {t} here mark skips stack names_same tok turn registers colon has a =
     let g = registers s (subst (λ z. IsNamed z s) (sym names_same) a.code) in
     let e : Ev.scalar v y (number s (name_of x)) (kept_tag x) ≡ Ev.scalar v y n u = ap (λ z. Ev.scalar v y z (kept_tag x)) (sym g.value.0) ∙ ap (λ z. Ev.scalar v y n z) (sym g.value.1) in
     let makes : Makes (λ a b. Raw.scalar v y a b) (λ a b. Ev.scalar v y a b) = record { resolves = λ s a b. refl; after_it = λ k s a b. refl } in (
       with_anchor s (name_of x),
-      subst (λ z. At at.done r (with_anchor s (name_of x)) (given ++ (z, m) ∷ [])) e
-          (took m here (subst (λ z. Skips p.tokens t z) (sym g.tokens) skips) (g.stack ∙ stack) (subst (λ z. Takes (at.after_properties w o) p.stack z (Some (Raw.scalar v y (perhaps_anchor_of o) (perhaps_tag_of o))) at.done ss) (sym tok) turn)
+      subst (λ z. At Goal.done r (with_anchor s (name_of x)) (given ++ (z, m) ∷ [])) e
+          (took m here (subst (λ z. Skips p.tokens t z) (sym g.tokens) skips) (g.stack ∙ stack) (subst (λ z. Takes (Goal.after_properties w o) p.stack z (Some (Raw.scalar v y (perhaps_anchor_of o) (perhaps_tag_of o))) Goal.done ss) (sym tok) turn)
           (made_named makes has (g.keep ∙ ap (λ z. z.keeping) names_same) g.code) (λ b. (refl, ap is_end tok))
           (here_at (last_position p.tokens) (Raw.scalar v y (perhaps_anchor_of o) (perhaps_tag_of o)) (shown t) m (λ b k. refl) mark) (colon (Some t.0)) a),
     )
 
 -- Properties alone are registered, and the token stays.
 pub properties_left : {T : Type 0} (m : Position) {p r : Reader T} {k : Kind} {n : ℕ} {u : Option event.Tag} (o : Option written.Properties) {x : Properties} {s : Names} {given : List (Ev × Position)}
-    → IsOfKind k p.tokens.peeked → IfSome p.tokens.peeked (λ t. t.0 ≡ m) → ((o' : written.Properties) (t : Tok) → kind_of t ≡ k → Leaves (at.after_properties context.Flow (Some o')) p.stack (Some t) (Some (Raw.empty_scalar (written.anchor_of o') (written.tag_of o'))) at.done p.stack)
+    → IsOfKind k p.tokens.peeked → IfSome p.tokens.peeked (λ t. t.0 ≡ m) → ((o' : written.Properties) (t : Tok) → kind_of t ≡ k → Leaves (Goal.after_properties context.Flow (Some o')) p.stack (Some t) (Some (Raw.empty_scalar (written.anchor_of o') (written.tag_of o'))) Goal.done p.stack)
     → ((names : Names) → IsNamed p.names names → Registers p (Some x) names (λ a b. (n ≡ a) × (u ≡ b)) r)
-    → Has s o (Some x) → At (at.after_properties context.Flow o) p s given → (names : Names) × At at.done r names (given ++ (Ev.scalar [] Style.plain n u, m) ∷ [])
+    → Has s o (Some x) → At (Goal.after_properties context.Flow o) p s given → (names : Names) × At Goal.done r names (given ++ (Ev.scalar [] Style.plain n u, m) ∷ [])
 properties_left {T} m {p} {r} {k} {n} {u} None {x} {s} {given} here mark turn registers has a = let b : false ≡ true = has.both in cc
 properties_left {T} m {p} {r} {k} {n} {u} (Some o) {x} {s} {given} here mark turn registers has a =
     let l = looked k p.tokens.peeked here in
@@ -145,7 +104,7 @@ properties_left {T} m {p} {r} {k} {n} {u} (Some o) {x} {s} {given} here mark tur
     let e : Ev.scalar [] Style.plain (number s (name_of (Some x))) (kept_tag (Some x)) ≡ Ev.scalar [] Style.plain n u = ap (λ z. Ev.scalar [] Style.plain z (kept_tag (Some x))) (sym g.value.0) ∙ ap (λ z. Ev.scalar [] Style.plain n z) (sym g.value.1) in
     let makes : Makes (λ a b. Raw.empty_scalar a b) (λ a b. Ev.scalar [] Style.plain a b) = record { resolves = λ s a b. refl; after_it = λ k s a b. refl } in (
       with_anchor s (name_of (Some x)),
-      subst (λ z. At at.done r (with_anchor s (name_of (Some x))) (given ++ (z, m) ∷ [])) e
+      subst (λ z. At Goal.done r (with_anchor s (name_of (Some x))) (given ++ (z, m) ∷ [])) e
           (left m (ap (option_map (λ (z : Token). tok_of z.1)) l.1) g.tokens g.stack (turn o (tok_of l.0.1) l.2) (made_named makes has g.keep g.code) refl
           (λ j begins. here_at (last_position p.tokens) (Raw.empty_scalar (written.anchor_of o) (written.tag_of o)) j m (λ b k. refl) (subst (λ q. BeginAt q (j ∷ [])) l.1 begins ∙ if_some_at (λ (z : Token). z.0 ≡ m) mark l.1))
           (under_no_colon p.stack a.stands.fits.0 (last_position p.tokens)) a),
@@ -209,12 +168,12 @@ unnamed_at {T} {g} {g'} {p} {r} {t} {m} {ss} {e} {names} {given} q fit of_names 
 -- ---- small steps
 
 -- whether a comma may stand before it does not depend on the context
-pub breaks_none : (w u : positions.NodeContext) (o : Option written.Properties) → breaks (at.after_properties w o) (at.after_properties u o) ≡ false
+pub breaks_none : (w u : positions.NodeContext) (o : Option written.Properties) → breaks (Goal.after_properties w o) (Goal.after_properties u o) ≡ false
 breaks_none w u None = refl
 breaks_none w u (Some o) = refl
 
 -- what is pending does not depend on the position
-pub pending_same : (w u : positions.NodeContext) (names : Names) (o : Option written.Properties) → IsPending names (at.after_properties w o) → IsPending names (at.after_properties u o)
+pub pending_same : (w u : positions.NodeContext) (names : Names) (o : Option written.Properties) → IsPending names (Goal.after_properties w o) → IsPending names (Goal.after_properties u o)
 pending_same w u names None h = tt
 pending_same w u names (Some o) h = h
 
@@ -235,7 +194,7 @@ block_mapping_alone = record { alias = λ e. cc; anchor = λ e. cc; tag = λ e. 
 
 -- a node without properties
 pub bare : {T : Type 0} {p : Reader T} {k : Kind} (w : positions.NodeContext) {names : Names} {given : List (Ev × Position)} → IsOfKind k p.tokens.peeked → HasNoProperties k
-    → At (at.node w) p names given → At (at.after_properties w None) p names given
+    → At (Goal.node w) p names given → At (Goal.after_properties w None) p names given
 bare w here plain a = stays here stay (λ t h. turn.node_content _ _ t (not_as plain.alias h) (not_as plain.anchor h) (not_as plain.tag h)) refl tt (λ o. tt) refl a
 
 -- what begins no block collection
@@ -245,12 +204,12 @@ pub record BeginsNoBlock (k : Kind) : Type 0 where
   pub mapping : k ≢ kind.BlockMappingStart
 
 block_in_flow : {T : Type 0} {p : Reader T} {k : Kind} (o : Option written.Properties) {names : Names} {given : List (Ev × Position)} → IsOfKind k p.tokens.peeked → BeginsNoBlock k
-    → At (at.after_properties context.Block o) p names given → At (at.after_properties context.Flow o) p names given
+    → At (Goal.after_properties context.Block o) p names given → At (Goal.after_properties context.Flow o) p names given
 block_in_flow o {names} here none a = stays here stay (λ t e. turn.block_flow _ o t (not_as none.sequence e) (not_as none.mapping e)) refl (pending_same context.Block context.Flow names o a.pending) (λ z. tt) (breaks_none context.Block context.Flow o) a
 
 -- What begins no block collection is flow content, wherever it stands.
 pub in_flow : {T : Type 0} {p : Reader T} {k : Kind} (w : positions.NodeContext) (o : Option written.Properties) {names : Names} {given : List (Ev × Position)} → IsOfKind k p.tokens.peeked → BeginsNoBlock k
-    → At (at.after_properties w o) p names given → At (at.after_properties context.Flow o) p names given
+    → At (Goal.after_properties w o) p names given → At (Goal.after_properties context.Flow o) p names given
 in_flow context.Flow o here none a = a
 in_flow context.Block o here none a = block_in_flow o here none a
 in_flow context.Part o {names} here none a = block_in_flow o here none (stays here stay (λ t e. turn.part_block _ o t (not_as none.entry e)) refl (pending_same context.Part context.Block names o a.pending) (λ o. tt) (breaks_none context.Part context.Block o) a)
@@ -264,7 +223,7 @@ nothing_there (Some o) has f = let b : true ≡ false = has.both in cc
 
 -- ---- properties, one by one
 
-is_some_of : {A : Type 0} {o : Option A} {x : A} → o ≡ Some x → IsSome o
+pub is_some_of : {A : Type 0} {o : Option A} {x : A} → o ≡ Some x → IsSome o
 is_some_of {A} {o} {x} h = ap is_some h
 
 pub anchor_text : {t : Tok} {x : List ℕ} → kind_of t ≡ kind.Anchor → (t ≡ Tok.alias x) ⊎ (t ≡ Tok.anchor x) → t ≡ Tok.anchor x
@@ -277,46 +236,19 @@ alias_text {t} {x} h (inr e) = let f : kind.Anchor ≡ kind.Alias = sym (ap kind
 
 pub alias_taken : {T : Type 0} (m : Position) {p r : Reader T} {t : Token} {w : positions.NodeContext} {x : List ℕ} {n : ℕ} {names : Names} {given : List (Ev × Position)}
     → p.tokens.peeked ≡ Some t → t.0 ≡ m → Skips p.tokens t r.tokens → r.stack ≡ p.stack → r.names ≡ p.names → tok_of t.1 ≡ Tok.alias x → under_name x names.anchors ≡ Some n
-    → At (at.node w) p names given → (names' : Names) × At at.done r names' (given ++ (Ev.alias n, m) ∷ [])
+    → At (Goal.node w) p names given → (names' : Names) × At Goal.done r names' (given ++ (Ev.alias n, m) ∷ [])
 alias_taken {T} m {p} {r} {t} {w} {x} {n} {names} {given} here mark skips stack same tok found a = (
   names,
-  took m here skips stack (subst (λ u. Takes (at.node w) p.stack u (Some (Raw.alias x)) at.done p.stack) (sym tok) (turn.node_alias w p.stack x))
+  took m here skips stack (subst (λ u. Takes (Goal.node w) p.stack u (Some (Raw.alias x)) Goal.done p.stack) (sym tok) (turn.node_alias w p.stack x))
       (record { resolves = ap (option_map Ev.alias) found; after_it = refl; keep = ap (λ z. z.keeping) same; code = subst (λ z. IsNamed z names) (sym same) a.code; pending = tt })
       (λ b. (refl, ap is_end tok)) (here_at (last_position p.tokens) (Raw.alias x) (shown t) m (λ b k. refl) mark) (under_no_colon p.stack a.stands.fits.0 (Some t.0)) a,
 )
 
-unknown_is_other : UnknownAnchor ≡ UndeclaredHandle → ⊥
-unknown_is_other e = cc
-
 pub alias_unknown : {T : Type 0} {p r : Reader T} {t : Token} {m : Position} {w : positions.NodeContext} {x : List ℕ} {names : Names} {given : List (Ev × Position)}
-    → p.tokens.peeked ≡ Some t → t.0 ≡ m → Skips p.tokens t r.tokens → r.names ≡ p.names → tok_of t.1 ≡ Tok.alias x → under_name x names.anchors ≡ None → At (at.node w) p names given → Faulted r given (stop.Own (fault.At UnknownAnchor m))
+    → p.tokens.peeked ≡ Some t → t.0 ≡ m → Skips p.tokens t r.tokens → r.names ≡ p.names → tok_of t.1 ≡ Tok.alias x → under_name x names.anchors ≡ None → At (Goal.node w) p names given → Faulted r given (stop.Own (fault.At UnknownAnchor m))
 alias_unknown {T} {p} {r} {t} {m} {w} {x} {names} {given} here mark skips same tok missing a =
-    unnamed_at UnknownAnchor (ap (λ u. fits UnknownAnchor (kind_of u)) tok) refl (inl (sym mark, λ e. absurd (unknown_is_other e))) here skips (ap (λ z. z.keeping) same) (subst (λ u. Takes (at.node w) p.stack u (Some (Raw.alias x)) at.done p.stack) (sym tok) (turn.node_alias w p.stack x))
+    unnamed_at UnknownAnchor (ap (λ u. fits UnknownAnchor (kind_of u)) tok) refl (inl (sym mark, λ e. absurd (cc e))) here skips (ap (λ z. z.keeping) same) (subst (λ u. Takes (Goal.node w) p.stack u (Some (Raw.alias x)) Goal.done p.stack) (sym tok) (turn.node_alias w p.stack x))
     (λ ts es y. unnameable_first p.names.keeping.tags names (Raw.alias x) es (ap (option_map Ev.alias) missing)) (subst (HasUnknownAnchor names) (sym tok) missing) node_apart a
-
-pub anchor_taken : {T : Type 0} {p r : Reader T} {t : Token} {w : positions.NodeContext} {x : List ℕ} {names : Names} {given : List (Ev × Position)}
-    → p.tokens.peeked ≡ Some t → Skips p.tokens t r.tokens → r.stack ≡ p.stack → r.names ≡ p.names → tok_of t.1 ≡ Tok.anchor x → At (at.node w) p names given → At (at.after_anchor w x) r names given
-anchor_taken {T} {p} {r} {t} {w} {x} {names} {given} here skips stack same tok a =
-    took_on here skips stack (subst (λ u. Takes (at.node w) p.stack u None (at.after_anchor w x) p.stack) (sym tok) (turn.node_anchor w p.stack x))
-    (ap (λ z. z.keeping) same) (subst (λ z. IsNamed z names) (sym same) a.code) tt (λ b. (refl, ap is_end tok)) tt a
-
-pub tag_taken : {T : Type 0} {p r : Reader T} {t : Token} {w : positions.NodeContext} {x : event.Tag} {u : event.Tag} {names : Names} {given : List (Ev × Position)}
-    → p.tokens.peeked ≡ Some t → Skips p.tokens t r.tokens → r.stack ≡ p.stack → r.names ≡ p.names → tok_of t.1 ≡ written.tag_token x → resolved names.handles x ≡ Some u → At (at.node w) p names given → At (at.after_tag w x) r names given
-tag_taken {T} {p} {r} {t} {w} {x} {u} {names} {given} here skips stack same tok known a =
-    took_on here skips stack (subst (λ z. Takes (at.node w) p.stack z None (at.after_tag w x) p.stack) (sym tok) (turn.node_tag w p.stack x))
-    (ap (λ z. z.keeping) same) (subst (λ z. IsNamed z names) (sym same) a.code) (is_some_of known) (λ b. (refl, ap is_end tok)) tt a
-
-pub tag_after_anchor : {T : Type 0} {p r : Reader T} {t : Token} {w : positions.NodeContext} {y : List ℕ} {x : event.Tag} {u : event.Tag} {names : Names} {given : List (Ev × Position)}
-    → p.tokens.peeked ≡ Some t → Skips p.tokens t r.tokens → r.stack ≡ p.stack → r.names ≡ p.names → tok_of t.1 ≡ written.tag_token x → resolved names.handles x ≡ Some u → At (at.after_anchor w y) p names given → At (at.after_properties w (Some (written.anchored_tagged y x))) r names given
-tag_after_anchor {T} {p} {r} {t} {w} {y} {x} {u} {names} {given} here skips stack same tok known a =
-    took_on here skips stack (subst (λ z. Takes (at.after_anchor w y) p.stack z None (at.after_properties w (Some (written.anchored_tagged y x))) p.stack) (sym tok) (turn.anchor_tag w p.stack y x))
-    (ap (λ z. z.keeping) same) (subst (λ z. IsNamed z names) (sym same) a.code) (is_some_of (ap (option_map Some) known)) (λ b. (refl, ap is_end tok)) tt a
-
-pub anchor_after_tag : {T : Type 0} {p r : Reader T} {t : Token} {w : positions.NodeContext} {y : List ℕ} {x : event.Tag} {u : event.Tag} {names : Names} {given : List (Ev × Position)}
-    → p.tokens.peeked ≡ Some t → Skips p.tokens t r.tokens → r.stack ≡ p.stack → r.names ≡ p.names → tok_of t.1 ≡ Tok.anchor y → resolved names.handles x ≡ Some u → At (at.after_tag w x) p names given → At (at.after_properties w (Some (written.tagged_anchored x y))) r names given
-anchor_after_tag {T} {p} {r} {t} {w} {y} {x} {u} {names} {given} here skips stack same tok known a =
-    took_on here skips stack (subst (λ z. Takes (at.after_tag w x) p.stack z None (at.after_properties w (Some (written.tagged_anchored x y))) p.stack) (sym tok) (turn.tag_anchor w p.stack x y))
-    (ap (λ z. z.keeping) same) (subst (λ z. IsNamed z names) (sym same) a.code) (is_some_of (ap (option_map Some) known)) (λ b. (refl, ap is_end tok)) tt a
 
 -- ---- a node whose tag stands for nothing
 
@@ -362,9 +294,9 @@ anchor_named _ h = cc
 
 -- Where a node is to be read, no anchor was taken last.
 no_anchor_before : {T : Type 0} {p : Reader T} {m : Position} (w : positions.NodeContext) {names : Names} {given : List (Ev × Position)}
-    → At (at.node w) p names given → EndsInAnchor (all_shown p.tokens.taken.items) m → ⊥
+    → At (Goal.node w) p names given → EndsInAnchor (all_shown p.tokens.taken.items) m → ⊥
 no_anchor_before {T} {p} {m} w a e =
-    let d = a.stands.sound _ _ (goes_so (at.node w) p.stack (Tok.anchor []) [] refl refl) in
+    let d = a.stands.sound _ _ (goes_so (Goal.node w) p.stack (Tok.anchor []) [] refl refl) in
     let n = anchor_named e.anchor.tok e.is in
     let taken : taken_toks p.tokens ≡ toks e.before ++ Tok.anchor n.0 ∷ [] =
     ap toks e.whole ∙ map_snoc (λ (x : defs.Token). x.tok) e.before e.anchor ∙ ap (λ u. toks e.before ++ u ∷ []) n.1 in
@@ -377,16 +309,16 @@ no_prefix x None h = refl
 no_prefix x (Some p) h = cc
 
 pub tag_unknown : {T : Type 0} {p r : Reader T} {t : Token} {m : Position} {w : positions.NodeContext} {x : event.Tag} {names : Names} {given : List (Ev × Position)}
-    → p.tokens.peeked ≡ Some t → t.0 ≡ m → Skips p.tokens t r.tokens → r.names ≡ p.names → tok_of t.1 ≡ written.tag_token x → resolved names.handles x ≡ None → At (at.node w) p names given → Faulted r given (stop.Own (fault.At UndeclaredHandle m))
+    → p.tokens.peeked ≡ Some t → t.0 ≡ m → Skips p.tokens t r.tokens → r.names ≡ p.names → tok_of t.1 ≡ written.tag_token x → resolved names.handles x ≡ None → At (Goal.node w) p names given → Faulted r given (stop.Own (fault.At UndeclaredHandle m))
 tag_unknown {T} {p} {r} {t} {m} {w} {x} {names} {given} here mark skips same tok missing a =
-    unnamed_at UndeclaredHandle (ap (λ u. fits UndeclaredHandle (kind_of u)) tok) refl (inl (sym mark, λ e q before. no_anchor_before w a before)) here skips (ap (λ z. z.keeping) same) (subst (λ z. Takes (at.node w) p.stack z None (at.after_tag w x) p.stack) (sym tok) (turn.node_tag w p.stack x))
+    unnamed_at UndeclaredHandle (ap (λ u. fits UndeclaredHandle (kind_of u)) tok) refl (inl (sym mark, λ e q before. no_anchor_before w a before)) here skips (ap (λ z. z.keeping) same) (subst (λ z. Takes (Goal.node w) p.stack z None (Goal.after_tag w x) p.stack) (sym tok) (turn.node_tag w p.stack x))
     (λ ts es y. tagged_unnameable p.names.keeping.tags names _ _ _ ts es (ap (option_map Some) missing) y.0)
     (subst (HasUndeclaredHandle names) (sym tok) (no_prefix x (prefix_of names.handles x.handle) missing)) (apart_as refl (node_ways w)) a
 
 pub tag_unknown_after : {T : Type 0} {p r : Reader T} {t : Token} {m : Position} {w : positions.NodeContext} {v : List ℕ} {x : event.Tag} {names : Names} {given : List (Ev × Position)}
-    → p.tokens.peeked ≡ Some t → EndsInAnchor (all_shown p.tokens.taken.items) m → Skips p.tokens t r.tokens → r.names ≡ p.names → tok_of t.1 ≡ written.tag_token x → resolved names.handles x ≡ None → At (at.after_anchor w v) p names given → Faulted r given (stop.Own (fault.At UndeclaredHandle m))
+    → p.tokens.peeked ≡ Some t → EndsInAnchor (all_shown p.tokens.taken.items) m → Skips p.tokens t r.tokens → r.names ≡ p.names → tok_of t.1 ≡ written.tag_token x → resolved names.handles x ≡ None → At (Goal.after_anchor w v) p names given → Faulted r given (stop.Own (fault.At UndeclaredHandle m))
 tag_unknown_after {T} {p} {r} {t} {m} {w} {v} {x} {names} {given} here anchored skips same tok missing a =
-    unnamed_at UndeclaredHandle (ap (λ u. fits UndeclaredHandle (kind_of u)) tok) refl (inr (refl, anchored)) here skips (ap (λ z. z.keeping) same) (subst (λ z. Takes (at.after_anchor w v) p.stack z None (at.after_properties w (Some (written.anchored_tagged v x))) p.stack) (sym tok) (turn.anchor_tag w p.stack v x))
+    unnamed_at UndeclaredHandle (ap (λ u. fits UndeclaredHandle (kind_of u)) tok) refl (inr (refl, anchored)) here skips (ap (λ z. z.keeping) same) (subst (λ z. Takes (Goal.after_anchor w v) p.stack z None (Goal.after_properties w (Some (written.anchored_tagged v x))) p.stack) (sym tok) (turn.anchor_tag w p.stack v x))
     (λ ts es y. content_unnameable p.names.keeping.tags names _ _ _ ts es (ap (option_map Some) missing) y.0)
     (subst (HasUndeclaredHandle names) (sym tok) (no_prefix x (prefix_of names.handles x.handle) missing)) (apart_as refl (anchored_ways w v)) a
 

@@ -1,99 +1,54 @@
 -- Where the next token decides, two different events may come.
-use Rattle.std.proofs.Common.{◌≡◌, ◌≢◌, List, [], ◌∷◌, ◌++◌, Option, Some, None, false, ◌||◌, refl, sym, ap, ◌∙◌, subst, append_assoc, append-nil, true}
-use Rattle.std.proofs.lemmas.Bool.{or_parts}
-use Rattle.std.proofs.lemmas.List.{map-append}
-use Rattle.std.specs.Option.{IfSome}
-use Rattle.defs_text.specs.Position.{Position}
-use Rattle.defs_token.specs.Token as defs
-use Rattle.defs_token.specs.Token.{Tok}
-use Rattle.defs_token.specs.Toks.{toks}
-use Rattle.defs_event.specs.Event.{Ev}
-use Rattle.defs_event.specs.Raw.{Raw, Directive, nothing_written}
-use Rattle.defs_event.specs.Stream.{StreamSays, to_next, Places, wants_token, StreamPlacesTo}
-use Rattle.defs_event.specs.Names.{Names}
-use Rattle.yaml_tokens.specs.declared.token.Token.{Token}
-use Rattle.yaml_tokens.specs.Shown.{all_shown}
-use Rattle.yaml_scanner.specs.Scanned.{scanned}
-use Rattle.model_parser.specs.Goal as at
-use Rattle.model_parser.specs.Goal.{Goal}
-use Rattle.model_parser.specs.declared.state.State.{State}
-use Rattle.model_parser.specs.Rest.{works, work_of, Awaits, placed}
-use Rattle.defs_event.specs.Grammar as table
-use Rattle.defs_event.specs.Grammar.{nothing_held}
-use Rattle.model_parser.proofs.Falls.{text}
-use Rattle.model_parser.proofs.StepRows.{row_taken, row_left, no_row, said, needs_tokens}
-use Rattle.model_parser.specs.Stands.{IsOnTrack}
+use Rattle.yaml_parser.proofs.Common.{[], all_shown, ap, append-nil, append_assoc, At, Awaits, BeginAt, Directive, Ev, Fails, false, Faulted, Goal, GoesOnWith, IfSome, is_done, is_idle, is_over, is_pair_end, IsAwake, IsDerived, IsHalted, IsHanded, IsOnTrack, IsOpen, IsStopped, last_position, List, map-append, may_wait, Names, needs_tokens, no_row, None, nothing_held, nothing_written, Option, or_parts, peeked_tok, perhaps, Places, Position, Raw, Reader, refl, row_left, row_taken, said, scanned, shown_list, Some, State, stood, Stop, stop_of, StreamPlacesTo, StreamSays, subst, sym, taken_toks, text, to_next, Tok, Token, toks, true, wants_token, work_of, works, ◌++◌, ◌||◌, ◌∙◌, ◌∷◌, ◌≡◌, ◌≢◌}
+use Rattle.model_parser.specs.Rest.{placed}
 use Rattle.yaml_parser.specs.declared.tokens.TokenFault.{TokenFault}
-use Rattle.yaml_parser.specs.declared.tokens.TokenFault.TheVariants as missing
-use Rattle.yaml_parser.specs.declared.tokens.Stop.{Stop}
-use Rattle.yaml_parser.specs.declared.reader.Reader.{Reader}
-use Rattle.yaml_parser.specs.Apart.{GoesOnWith, IsOpen}
-use Rattle.yaml_parser.specs.Derived.{IsDerived, stood}
-use Rattle.yaml_parser.specs.Halts.{may_wait, perhaps, IsHalted}
-use Rattle.yaml_parser.specs.Handed.{taken_toks, peeked_tok, last_position, BeginAt, shown_list, IsHanded, IsAwake, IsStopped}
-use Rattle.yaml_parser.specs.Kinds.{stop_of}
-use Rattle.yaml_parser.specs.At.{At, Faulted, Fails, is_over, is_done, is_pair_end, is_idle}
 use Rattle.yaml_parser.proofs.Steps.{look_peeked, begins_peeked}
 use Rattle.yaml_parser.proofs.Ends.{at_derived}
 use Rattle.yaml_parser.proofs.Ways.{Way, way, longer}
+use Rattle.defs_token.specs.Token as defs
+use Rattle.defs_event.specs.Grammar as table
+use Rattle.yaml_parser.specs.declared.tokens.TokenFault.TheVariants as missing
 
 -- What is awaited begins with two different events; or with one, and then with two different ones.
 pub data Opens (g : Goal) (ss : List State) : Type 0 where
   at_once : {t u : Tok} {e f : Raw} → Way g ss t (e ∷ []) → Way g ss u (f ∷ []) → e ≢ f → Opens g ss
   after_one : {t u : Tok} (l : Raw) {e f : Raw} → may_wait l ≡ true → ((ts : List Tok) (es : List Raw) → Awaits g ss ts es → (fs : List Raw) × (es ≡ l ∷ fs)) → Way g ss t (l ∷ e ∷ []) → Way g ss u (l ∷ f ∷ []) → e ≢ f → Opens g ss
 
-start_says : (ss : List State) (ts : List Tok) (es : List Raw) → Awaits at.start ss ts es → (fs : List Raw) × (es ≡ Raw.stream_start ∷ fs)
-start_says ss [] es a = absurd (needs_tokens (work_of at.start ss) es refl a.0)
+start_says : (ss : List State) (ts : List Tok) (es : List Raw) → Awaits Goal.start ss ts es → (fs : List Raw) × (es ≡ Raw.stream_start ∷ fs)
+start_says ss [] es a = absurd (needs_tokens (work_of Goal.start ss) es refl a.0)
 start_says ss (Tok.stream_start ∷ ts) es a = let s = said _ _ ts es (row_taken table.stream nothing_held (works ss) Tok.stream_start ts es _ refl a.0) in (s.0, s.1)
 start_says ss (t ∷ ts) es a = absurd (no_row table.stream nothing_held (works ss) t ts es refl a.0)
 
-end_says : (ss : List State) (ts : List Tok) (es : List Raw) → Awaits at.after ss ts es → (fs : List Raw) × (es ≡ Raw.document_end ∷ fs)
-end_says ss [] es a = absurd (needs_tokens (work_of at.after ss) es refl a.0)
+end_says : (ss : List State) (ts : List Tok) (es : List Raw) → Awaits Goal.after ss ts es → (fs : List Raw) × (es ≡ Raw.document_end ∷ fs)
+end_says ss [] es a = absurd (needs_tokens (work_of Goal.after ss) es refl a.0)
 end_says ss (Tok.document_end ∷ ts) es a = let s = said _ _ ts es (row_taken table.document_end nothing_held (works ss) Tok.document_end ts es _ refl a.0) in (s.0, s.1)
 end_says ss (t ∷ ts) es a = let s = said _ _ (t ∷ ts) es (row_left table.document_end nothing_held (works ss) t ts es _ refl a.0) in (s.0, s.1)
 
-empty_says : (ss : List State) (ts : List Tok) (es : List Raw) → Awaits at.flow_empty ss ts es → (fs : List Raw) × (es ≡ nothing_written ∷ fs)
-empty_says ss [] es a = absurd (needs_tokens (work_of at.flow_empty ss) es refl a.0)
+empty_says : (ss : List State) (ts : List Tok) (es : List Raw) → Awaits Goal.flow_empty ss ts es → (fs : List Raw) × (es ≡ nothing_written ∷ fs)
+empty_says ss [] es a = absurd (needs_tokens (work_of Goal.flow_empty ss) es refl a.0)
 empty_says ss (t ∷ ts) es a = let s = said _ _ (t ∷ ts) es (row_left table.no_flow_mapping_value nothing_held (works ss) t ts es _ refl a.0) in (s.0, s.1)
 
 opens : (g : Goal) (ss : List State) → is_idle g ≡ false → Opens g ss
-opens at.done ss h = cc
-opens at.ended ss h = cc
-opens at.start ss h = after_one Raw.stream_start refl (start_says ss) (way at.start ss Tok.stream_start (Tok.stream_end ∷ []) _ _ refl refl refl) (way at.start ss Tok.stream_start (Tok.document_start ∷ []) _ _ refl refl refl) (λ e. cc)
-opens at.documents ss h = at_once (way at.documents ss Tok.stream_end [] _ _ refl refl refl) (way at.documents ss Tok.document_start [] _ _ refl refl refl) (λ e. cc)
-opens at.explicit ss h = at_once (way at.explicit ss Tok.stream_end [] _ _ refl refl refl) (way at.explicit ss Tok.document_start [] _ _ refl refl refl) (λ e. cc)
-opens (at.directed ds) ss h = at_once (way (at.directed ds) ss Tok.document_start [] _ _ refl refl refl) (way (at.directed ds) ss (Tok.version_directive 1 2) (Tok.document_start ∷ []) _ _ refl refl refl) (longer ds (Directive.version 1 2))
-opens at.content ss h = at_once (way at.content ss text [] _ _ refl refl refl) (way at.content ss Tok.flow_sequence_start [] _ _ refl refl refl) (λ e. cc)
-opens at.after ss h = after_one Raw.document_end refl (end_says ss) (way at.after ss Tok.stream_end [] _ _ refl refl refl) (way at.after ss Tok.document_start [] _ _ refl refl refl) (λ e. cc)
-opens (at.node c) ss h = at_once (way (at.node c) ss text [] _ _ refl refl refl) (way (at.node c) ss Tok.flow_sequence_start [] _ _ refl refl refl) (λ e. cc)
-opens (at.after_anchor c a) ss h = at_once (way (at.after_anchor c a) ss text [] _ _ refl refl refl) (way (at.after_anchor c a) ss Tok.flow_sequence_start [] _ _ refl refl refl) (λ e. cc)
-opens (at.after_tag c t) ss h = at_once (way (at.after_tag c t) ss text [] _ _ refl refl refl) (way (at.after_tag c t) ss Tok.flow_sequence_start [] _ _ refl refl refl) (λ e. cc)
-opens (at.after_properties c None) ss h = at_once (way (at.after_properties c None) ss text [] _ _ refl refl refl) (way (at.after_properties c None) ss Tok.flow_sequence_start [] _ _ refl refl refl) (λ e. cc)
-opens (at.after_properties c (Some o)) ss h = at_once (way (at.after_properties c (Some o)) ss text [] _ _ refl refl refl) (way (at.after_properties c (Some o)) ss Tok.flow_sequence_start [] _ _ refl refl refl) (λ e. cc)
-opens at.entries ss h = at_once (way at.entries ss Tok.block_end [] _ _ refl refl refl) (way at.entries ss Tok.block_entry [] _ _ refl refl refl) (λ e. cc)
-opens at.entry ss h = at_once (way at.entry ss text [] _ _ refl refl refl) (way at.entry ss Tok.flow_sequence_start [] _ _ refl refl refl) (λ e. cc)
-opens at.indentless_entries ss h = at_once (way at.indentless_entries ss Tok.block_entry [] _ _ refl refl refl) (way at.indentless_entries ss Tok.block_entry (Tok.flow_sequence_start ∷ []) _ _ refl refl refl) (λ e. cc)
-opens at.indentless_entry ss h = at_once (way at.indentless_entry ss text [] _ _ refl refl refl) (way at.indentless_entry ss Tok.flow_sequence_start [] _ _ refl refl refl) (λ e. cc)
-opens at.part ss h = at_once (way at.part ss text [] _ _ refl refl refl) (way at.part ss Tok.flow_sequence_start [] _ _ refl refl refl) (λ e. cc)
-opens at.pairs ss h = at_once (way at.pairs ss Tok.block_end [] _ _ refl refl refl) (way at.pairs ss Tok.key [] _ _ refl refl refl) (λ e. cc)
-opens at.key_pairs ss h = at_once (way at.key_pairs ss Tok.block_end [] _ _ refl refl refl) (way at.key_pairs ss Tok.key [] _ _ refl refl refl) (λ e. cc)
-opens at.after_key ss h = at_once (way at.after_key ss (Tok.value) [] _ _ refl refl refl) (way at.after_key ss Tok.block_end [] _ _ refl refl refl) (λ e. cc)
-opens at.items ss h = at_once (way at.items ss text [] _ _ refl refl refl) (way at.items ss Tok.flow_sequence_start [] _ _ refl refl refl) (λ e. cc)
-opens at.comma_items ss h = at_once (way at.comma_items ss text [] _ _ refl refl refl) (way at.comma_items ss Tok.flow_sequence_start [] _ _ refl refl refl) (λ e. cc)
-opens at.item ss h = at_once (way at.item ss text [] _ _ refl refl refl) (way at.item ss Tok.flow_sequence_start [] _ _ refl refl refl) (λ e. cc)
-opens at.more_items ss h = at_once (way at.more_items ss Tok.flow_sequence_end [] _ _ refl refl refl) (way at.more_items ss Tok.flow_entry (text ∷ []) _ _ refl refl refl) (λ e. cc)
-opens at.pair_key ss h = at_once (way at.pair_key ss text [] _ _ refl refl refl) (way at.pair_key ss Tok.flow_sequence_start [] _ _ refl refl refl) (λ e. cc)
-opens at.pair_value ss h = at_once (way at.pair_value ss Tok.value [] _ _ refl refl refl) (way at.pair_value ss Tok.flow_sequence_end [] _ _ refl refl refl) (λ e. cc)
-opens at.pair_valued ss h = at_once (way at.pair_valued ss text [] _ _ refl refl refl) (way at.pair_valued ss Tok.flow_sequence_start [] _ _ refl refl refl) (λ e. cc)
-opens at.pair_end ss h = cc
-opens at.flow_pairs ss h = at_once (way at.flow_pairs ss text [] _ _ refl refl refl) (way at.flow_pairs ss Tok.flow_sequence_start [] _ _ refl refl refl) (λ e. cc)
-opens at.comma_flow_pairs ss h = at_once (way at.comma_flow_pairs ss text [] _ _ refl refl refl) (way at.comma_flow_pairs ss Tok.flow_sequence_start [] _ _ refl refl refl) (λ e. cc)
-opens (at.flow_pair s) ss h = at_once (way (at.flow_pair s) ss text [] _ _ refl refl refl) (way (at.flow_pair s) ss Tok.flow_sequence_start [] _ _ refl refl refl) (λ e. cc)
-opens at.more_flow_pairs ss h = at_once (way at.more_flow_pairs ss Tok.flow_mapping_end [] _ _ refl refl refl) (way at.more_flow_pairs ss Tok.flow_entry (text ∷ []) _ _ refl refl refl) (λ e. cc)
-opens at.flow_key ss h = at_once (way at.flow_key ss text [] _ _ refl refl refl) (way at.flow_key ss Tok.flow_sequence_start [] _ _ refl refl refl) (λ e. cc)
-opens at.flow_after_key ss h = at_once (way at.flow_after_key ss Tok.value [] _ _ refl refl refl) (way at.flow_after_key ss Tok.flow_mapping_end [] _ _ refl refl refl) (λ e. cc)
-opens (at.flow_valued m) ss h = at_once (way (at.flow_valued m) ss text [] _ _ refl refl refl) (way (at.flow_valued m) ss Tok.flow_sequence_start [] _ _ refl refl refl) (λ e. cc)
-opens at.flow_empty ss h = after_one nothing_written refl (empty_says ss) (way at.flow_empty ss Tok.flow_mapping_end [] _ _ refl refl refl) (way at.flow_empty ss Tok.flow_entry (text ∷ []) _ _ refl refl refl) (λ e. cc)
+opens Goal.done ss h = cc
+opens Goal.ended ss h = cc
+opens Goal.start ss h = after_one Raw.stream_start refl (start_says ss) (way Goal.start ss Tok.stream_start (Tok.stream_end ∷ []) _ _ refl refl refl) (way Goal.start ss Tok.stream_start (Tok.document_start ∷ []) _ _ refl refl refl) (λ e. cc)
+opens Goal.documents ss h = at_once (way Goal.documents ss Tok.stream_end [] _ _ refl refl refl) (way Goal.documents ss Tok.document_start [] _ _ refl refl refl) (λ e. cc)
+opens Goal.explicit ss h = at_once (way Goal.explicit ss Tok.stream_end [] _ _ refl refl refl) (way Goal.explicit ss Tok.document_start [] _ _ refl refl refl) (λ e. cc)
+opens (Goal.directed ds) ss h = at_once (way (Goal.directed ds) ss Tok.document_start [] _ _ refl refl refl) (way (Goal.directed ds) ss (Tok.version_directive 1 2) (Tok.document_start ∷ []) _ _ refl refl refl) (longer ds (Directive.version 1 2))
+opens Goal.after ss h = after_one Raw.document_end refl (end_says ss) (way Goal.after ss Tok.stream_end [] _ _ refl refl refl) (way Goal.after ss Tok.document_start [] _ _ refl refl refl) (λ e. cc)
+opens (Goal.after_properties c None) ss h = at_once (way (Goal.after_properties c None) ss text [] _ _ refl refl refl) (way (Goal.after_properties c None) ss Tok.flow_sequence_start [] _ _ refl refl refl) (λ e. cc)
+opens Goal.entries ss h = at_once (way Goal.entries ss Tok.block_end [] _ _ refl refl refl) (way Goal.entries ss Tok.block_entry [] _ _ refl refl refl) (λ e. cc)
+opens Goal.indentless_entries ss h = at_once (way Goal.indentless_entries ss Tok.block_entry [] _ _ refl refl refl) (way Goal.indentless_entries ss Tok.block_entry (Tok.flow_sequence_start ∷ []) _ _ refl refl refl) (λ e. cc)
+opens Goal.pairs ss h = at_once (way Goal.pairs ss Tok.block_end [] _ _ refl refl refl) (way Goal.pairs ss Tok.key [] _ _ refl refl refl) (λ e. cc)
+opens Goal.key_pairs ss h = at_once (way Goal.key_pairs ss Tok.block_end [] _ _ refl refl refl) (way Goal.key_pairs ss Tok.key [] _ _ refl refl refl) (λ e. cc)
+opens Goal.after_key ss h = at_once (way Goal.after_key ss (Tok.value) [] _ _ refl refl refl) (way Goal.after_key ss Tok.block_end [] _ _ refl refl refl) (λ e. cc)
+opens Goal.more_items ss h = at_once (way Goal.more_items ss Tok.flow_sequence_end [] _ _ refl refl refl) (way Goal.more_items ss Tok.flow_entry (text ∷ []) _ _ refl refl refl) (λ e. cc)
+opens Goal.pair_value ss h = at_once (way Goal.pair_value ss Tok.value [] _ _ refl refl refl) (way Goal.pair_value ss Tok.flow_sequence_end [] _ _ refl refl refl) (λ e. cc)
+opens Goal.pair_end ss h = cc
+opens Goal.more_flow_pairs ss h = at_once (way Goal.more_flow_pairs ss Tok.flow_mapping_end [] _ _ refl refl refl) (way Goal.more_flow_pairs ss Tok.flow_entry (text ∷ []) _ _ refl refl refl) (λ e. cc)
+opens Goal.flow_after_key ss h = at_once (way Goal.flow_after_key ss Tok.value [] _ _ refl refl refl) (way Goal.flow_after_key ss Tok.flow_mapping_end [] _ _ refl refl refl) (λ e. cc)
+opens Goal.flow_empty ss h = after_one nothing_written refl (empty_says ss) (way Goal.flow_empty ss Tok.flow_mapping_end [] _ _ refl refl refl) (way Goal.flow_empty ss Tok.flow_entry (text ∷ []) _ _ refl refl refl) (λ e. cc)
+opens g ss h = at_once (way g ss text [] _ _ refl refl refl) (way g ss Tok.flow_sequence_start [] _ _ refl refl refl) (λ e. cc)
 
 -- ---- where a parser stands
 
@@ -129,9 +84,9 @@ ready {T} {g} a (after_one l {e = e} {f = f} waits all one other apart) = record
 
 -- The next token is wanted.
 wants_next : (g : Goal) (ss : List State) (b : Option Position) → is_idle g ≡ false → Places to_next b (placed (work_of g ss)) [] []
-wants_next at.done ss b h = cc
-wants_next at.ended ss b h = cc
-wants_next at.pair_end ss b h = cc
+wants_next Goal.done ss b h = cc
+wants_next Goal.ended ss b h = cc
+wants_next Goal.pair_end ss b h = cc
 wants_next g ss b h = wants_token
 
 -- None was looked at before.

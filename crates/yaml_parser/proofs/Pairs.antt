@@ -1,40 +1,15 @@
 -- A key or a value that is taken at once with the token before it: as if both tokens were looked at and taken, one after the other.
-use Rattle.std.proofs.Common.{◌≡◌, ◌≢◌, List, [], ◌∷◌, ◌++◌, Option, Some, None, false, Result, Ok, Err, refl, sym, ap, ◌∙◌, subst, append_assoc, append-nil}
-use Rattle.std.specs.Option.{IfNone}
-use Rattle.std.specs.Result.{OnOk, OnErr}
-use Rattle.defs_text.specs.Position.{Position}
-use Rattle.defs_text.specs.Text.{string_chars}
-use Rattle.defs_token.specs.Token.{Style}
-use Rattle.yaml_tokens.specs.declared.token.Token.{Token}
+use Rattle.yaml_parser.proofs.Common.{[], after_key_value, after_scalar, all_shown, answered, Answers, ap, append-nil, append_assoc, At, ends_part, Err, Ev, EventSlot, false, Faulted, Goal, HandsOut, IfNone, indicator_of, is_over, IsHanded, key_pairs_key, List, mapping_under, Names, None, Ok, OnErr, OnOk, Option, OutOfMemory, pairs_key, part_has_node, placed, Position, Reader, refl, Result, scalar_of, Scanned, scanned, shown, shown_list, Skips, Some, State, Stayed, string_chars, Style, subst, sym, TakesBoth, Token, Tokens, ◌++◌, ◌∙◌, ◌∷◌, ◌≡◌, ◌≢◌}
 use Rattle.yaml_tokens.specs.declared.token.TokenType.{TokenType}
-use Rattle.yaml_tokens.specs.declared.token.TokenType.TheVariants as token
-use Rattle.yaml_tokens.specs.declared.problem.Fault.TheVariants.{OutOfMemory}
-use Rattle.yaml_tokens.specs.Shown.{shown, all_shown}
-use Rattle.yaml_scanner.specs.Scanned.{Scanned, scanned, HandsOut}
 use Rattle.yaml_scanner.specs.declared.key_value.PlainNode.{PlainNode}
-use Rattle.defs_event.specs.Event.{Ev}
-use Rattle.defs_event.specs.Names.{Names}
-use Rattle.model_parser.specs.Goal as at
-use Rattle.model_parser.specs.Goal.{Goal}
-use Rattle.model_parser.specs.Kinds.{ends_part}
-use Rattle.model_parser.specs.declared.context.NodeContext.TheVariants as context
-use Rattle.model_parser.specs.declared.kind.Kind.TheVariants as kind
-use Rattle.model_parser.specs.declared.state.State.{State}
-use Rattle.model_parser.specs.declared.state.State.TheVariants as state
-use Rattle.model_parser.proofs.Block as block
-use Rattle.model_parser.proofs.Nodes as node
-use Rattle.yaml_parser.specs.declared.tokens.Tokens.{Tokens}
-use Rattle.yaml_parser.specs.declared.tokens.Stop.TheVariants as stop
-use Rattle.yaml_parser.specs.declared.reader.Reader.{Reader}
-use Rattle.yaml_parser.specs.declared.slot.EventSlot.{EventSlot}
-use Rattle.yaml_parser.specs.Ahead.{Skips, TakesBoth, indicator_of, scalar_of}
-use Rattle.yaml_parser.specs.At.{At, Answers, Faulted, answered, Stayed, is_over}
-use Rattle.yaml_parser.specs.Handed.{IsHanded, shown_list}
-use Rattle.yaml_parser.specs.Shown.{placed}
 use Rattle.yaml_parser.proofs.Arms.{Skipped, stays, stay, goes, goes, as_kind, not_as, answers_written, under_no_colon}
-use Rattle.model_parser.proofs.Settling.{mapping_under}
 use Rattle.yaml_parser.proofs.NodeArms.{scalar_taken, bare, in_flow}
 use Rattle.yaml_parser.proofs.Steps.{looks_on, if_some_at}
+use Rattle.yaml_tokens.specs.declared.token.TokenType.TheVariants as token
+use Rattle.model_parser.specs.declared.context.NodeContext.TheVariants as context
+use Rattle.model_parser.specs.declared.kind.Kind.TheVariants as kind
+use Rattle.model_parser.specs.declared.state.State.TheVariants as state
+use Rattle.yaml_parser.specs.declared.tokens.Stop.TheVariants as stop
 
 -- ---- the tokens between
 
@@ -68,13 +43,13 @@ takes p s t x = λ u e. record { tokens = if_some_at (λ v. Skips (looking p.tok
 -- The scalar that comes next is looked at and taken.
 part_scalar : {T : Type 0} (p r : Reader T) (s : Scanned) (n : PlainNode) {names : Names} {given : List (Ev × Position)}
     → p.tokens.peeked ≡ None → HandsOut (scanned p.tokens.scanner) (shown (scalar_of n)) s → Skips (looking p.tokens s (scalar_of n)) (scalar_of n) r.tokens → r.stack ≡ p.stack → r.names ≡ p.names
-    → At at.part p names given → (names' : Names) × At at.done r names' (given ++ (Ev.scalar (string_chars n.text) Style.plain 0 None, n.mark) ∷ [])
+    → At Goal.part p names given → (names' : Names) × At Goal.done r names' (given ++ (Ev.scalar (string_chars n.text) Style.plain 0 None, n.mark) ∷ [])
 part_scalar {T} p r s n {names} {given} none h skips stack same a =
     let q : Reader T = record p { tokens = looking p.tokens s (scalar_of n) } in
-    let one : At at.part q names given = looks p s (scalar_of n) none h refl a in
-    let two : At (at.node context.Part) q names given = stays {k = kind.Scalar} refl stay (λ t e. block.part_has_node _ t (as_kind ends_part refl e)) refl tt (λ o. tt) refl one in
+    let one : At Goal.part q names given = looks p s (scalar_of n) none h refl a in
+    let two : At (Goal.node context.Part) q names given = stays {k = kind.Scalar} refl stay (λ t e. part_has_node _ t (as_kind ends_part refl e)) refl tt (λ o. tt) refl one in
     let three = in_flow {k = kind.Scalar} context.Part None refl (record { entry = λ e. cc; sequence = λ e. cc; mapping = λ e. cc }) (bare {k = kind.Scalar} context.Part refl (record { alias = λ e. cc; anchor = λ e. cc; tag = λ e. cc }) two) in
-    scalar_taken n.mark {p = q} {q = r} {r = r} {x = None} refl refl skips stack same refl (node.after_scalar _ None _ _)
+    scalar_taken n.mark {p = q} {q = r} {r = r} {x = None} refl refl skips stack same refl (after_scalar _ None _ _)
     (λ _ c. record { value = (refl, refl); tokens = refl; stack = refl; keep = refl; code = c }) (under_no_colon p.stack (mapping_under p.stack a.stands.fits)) (record { both = refl; anchor = refl; tag = refl }) three
 
 -- ---- both
@@ -93,8 +68,8 @@ both_taken {T} {old} {k} {n} {new} b = record {
 
 -- what a key or a value comes to, where the reader stands before a part once its first token is taken
 both : {T : Type 0} (p q r : Reader T) {k : TokenType} {n : PlainNode} (x : State) {names : Names} {given : List (Ev × Position)} (b : TakesBoth p.tokens k n q.tokens)
-    → q.stack ≡ p.stack → q.names ≡ p.names → Stayed q r (x ∷ q.stack) → At at.part (past_first p b.hands.between (indicator_of k n) x) names given
-    → (names' : Names) × At at.done r names' (given ++ (Ev.scalar (string_chars n.text) Style.plain 0 None, n.mark) ∷ [])
+    → q.stack ≡ p.stack → q.names ≡ p.names → Stayed q r (x ∷ q.stack) → At Goal.part (past_first p b.hands.between (indicator_of k n) x) names given
+    → (names' : Names) × At Goal.done r names' (given ++ (Ev.scalar (string_chars n.text) Style.plain 0 None, n.mark) ∷ [])
 both p q r {k} {n} x b stack same s a =
     part_scalar (past_first p b.hands.between (indicator_of k n) x) r (scanned q.tokens.scanner) n refl b.hands.second
     (subst (λ u. Skips (looking (taking (looking p.tokens b.hands.between (indicator_of k n)) (indicator_of k n)) (scanned q.tokens.scanner) (scalar_of n)) (scalar_of n) u) (sym s.tokens) (both_taken b))
@@ -104,23 +79,23 @@ key_no_value : kind.Key ≢ kind.Value
 key_no_value e = cc
 
 pub key_taken : {T : Type 0} {p q r : Reader T} {n : PlainNode} {names : Names} {given : List (Ev × Position)} → TakesBoth p.tokens token.Key n q.tokens
-    → q.stack ≡ p.stack → q.names ≡ p.names → Stayed q r (state.BlockMappingValue ∷ q.stack) → At at.pairs p names given
-    → (names' : Names) × At at.done r names' (given ++ (Ev.scalar (string_chars n.text) Style.plain 0 None, n.mark) ∷ [])
+    → q.stack ≡ p.stack → q.names ≡ p.names → Stayed q r (state.BlockMappingValue ∷ q.stack) → At Goal.pairs p names given
+    → (names' : Names) × At Goal.done r names' (given ++ (Ev.scalar (string_chars n.text) Style.plain 0 None, n.mark) ∷ [])
 key_taken {T} {p} {q} {r} {n} {names} {given} b stack same s a =
     let l : Reader T = record p { tokens = looking p.tokens b.hands.between (indicator_of token.Key n) } in
-    let one : At at.pairs l names given = looks p b.hands.between (indicator_of token.Key n) b.none b.hands.first refl a in
-    let two : At at.key_pairs l names given = stays {k = kind.Key} refl stay (λ t e. block.pairs_key _ t (not_as key_no_value e)) refl tt (λ o. tt) refl one in
+    let one : At Goal.pairs l names given = looks p b.hands.between (indicator_of token.Key n) b.none b.hands.first refl a in
+    let two : At Goal.key_pairs l names given = stays {k = kind.Key} refl stay (λ t e. pairs_key _ t (not_as key_no_value e)) refl tt (λ o. tt) refl one in
     both p q r state.BlockMappingValue b stack same s
-    (goes {k = kind.Key} refl refl refl (takes p b.hands.between (indicator_of token.Key n) state.BlockMappingValue) (block.key_pairs_key _) refl tt refl refl (λ t i. tt) two)
+    (goes {k = kind.Key} refl refl refl (takes p b.hands.between (indicator_of token.Key n) state.BlockMappingValue) (key_pairs_key _) refl tt refl refl (λ t i. tt) two)
 
 pub value_taken : {T : Type 0} {p q r : Reader T} {n : PlainNode} {names : Names} {given : List (Ev × Position)} → TakesBoth p.tokens token.Value n q.tokens
-    → q.stack ≡ p.stack → q.names ≡ p.names → Stayed q r (state.BlockMappingKey ∷ q.stack) → At at.after_key p names given
-    → (names' : Names) × At at.done r names' (given ++ (Ev.scalar (string_chars n.text) Style.plain 0 None, n.mark) ∷ [])
+    → q.stack ≡ p.stack → q.names ≡ p.names → Stayed q r (state.BlockMappingKey ∷ q.stack) → At Goal.after_key p names given
+    → (names' : Names) × At Goal.done r names' (given ++ (Ev.scalar (string_chars n.text) Style.plain 0 None, n.mark) ∷ [])
 value_taken {T} {p} {q} {r} {n} {names} {given} b stack same s a =
     let l : Reader T = record p { tokens = looking p.tokens b.hands.between (indicator_of token.Value n) } in
-    let one : At at.after_key l names given = looks p b.hands.between (indicator_of token.Value n) b.none b.hands.first refl a in
+    let one : At Goal.after_key l names given = looks p b.hands.between (indicator_of token.Value n) b.none b.hands.first refl a in
     both p q r state.BlockMappingKey b stack same s
-    (goes {k = kind.Value} refl refl refl (takes p b.hands.between (indicator_of token.Value n) state.BlockMappingKey) (block.after_key_value _) refl tt refl refl (λ t i. tt) one)
+    (goes {k = kind.Value} refl refl refl (takes p b.hands.between (indicator_of token.Value n) state.BlockMappingKey) (after_key_value _) refl tt refl refl (λ t i. tt) one)
 
 -- ---- what is answered
 
@@ -133,6 +108,6 @@ at_same {g = g} {names} {given} same a = subst (λ r. At g r names given) (sym s
 -- The scalar is written, and a state more is awaited; or memory was refused.
 pub answers_plain : {T E : Type 0} {q : Reader T} (r : Reader T) {x : State} (n : PlainNode) (given : List (Ev × Position)) (res : Result (Unit {0}) E) (slot : EventSlot)
     → OnOk res (placed slot.next ≡ (Ev.scalar (string_chars n.text) Style.plain 0 None, n.mark)) → OnOk res (Stayed q r (x ∷ q.stack)) → OnErr res (slot.stop ≡ stop.Own OutOfMemory)
-    → (Stayed q r (x ∷ q.stack) → (names : Names) × At at.done r names (given ++ (Ev.scalar (string_chars n.text) Style.plain 0 None, n.mark) ∷ [])) → Answers r given (answered res slot)
+    → (Stayed q r (x ∷ q.stack) → (names : Names) × At Goal.done r names (given ++ (Ev.scalar (string_chars n.text) Style.plain 0 None, n.mark) ∷ [])) → Answers r given (answered res slot)
 answers_plain r n given (Ok u) slot event stayed err f = answers_written r given slot.next event (f stayed)
 answers_plain r n given (Err e) slot event stayed err f = subst (Faulted r given) (sym err) tt

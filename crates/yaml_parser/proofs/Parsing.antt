@@ -1,30 +1,7 @@
 -- What is known of a parser, from call to call.
-use Rattle.std.proofs.Common.{◌≡◌, ◌≢◌, ◌⊎◌, inl, inr, ◌<◌, length, List, [], ◌∷◌, ◌++◌, Option, Some, None, option_map, is_some, Bool, true, false, not, ◌||◌, ◌&&◌, if◌then◌else◌, Result, Ok, Err, refl, sym, ap, ◌∙◌, subst, append-nil, arith}
 use Rattle.std.specs.Bool.{beq}
-use Rattle.std.specs.Option.{IfSome}
-use Rattle.std.specs.Result.{IsErrAnd}
-use Rattle.std.proofs.lemmas.Bool.{both_ways, and_parts, not-true}
-use Rattle.std.proofs.lemmas.List.{map-append}
-use Rattle.defs_text.specs.Position.{Position}
-use Rattle.yaml_tokens.specs.ErrorReport.{ErrorReport}
-use Rattle.yaml_scanner.specs.Scanned.{scanned}
-use Rattle.defs_event.specs.Event.{Ev}
-use Rattle.yaml_parser.specs.declared.event.Event.{Event}
-use Rattle.yaml_parser.specs.declared.names.Keeping.{Keeping}
-use Rattle.yaml_parser.specs.declared.tokens.KeptStop.{KeptStop}
-use Rattle.yaml_parser.specs.declared.tokens.Stop.{Stop}
-use Rattle.yaml_parser.specs.declared.pull.EventReader.{EventReader}
-use Rattle.yaml_parser.specs.declared.reader.Reader.{Reader}
-use Rattle.yaml_parser.specs.Follows.{Explains}
-use Rattle.yaml_parser.specs.Settings.{AreAll}
-use Rattle.yaml_parser.specs.Shown.{placed, all_placed, ev_of}
-use Rattle.yaml_parser.specs.Work.{work}
-use Rattle.yaml_parser.specs.Seen.{fault_seen}
-use Rattle.yaml_parser.specs.Parsed.{Parsed, is_stream_end, is_fresh, stays_steady, has_end, read_so}
-use Rattle.yaml_parser.specs.Pulls.{Waits, Looks, GivesEvent, GivesFault, IsSound}
-use Rattle.yaml_parser.specs.View.{fault_kept, fault_of_all, no_document, events_left}
-use Rattle.yaml_parser.specs.Held.{IsHeld, Notes, Continues, Advances, Holds}
-use Rattle.yaml_parser.proofs.Holding.{Shows, KnowsSteady, closed, keeps, failed_as, set_stands, held_sound, held_explained, has_end_snoc}
+use Rattle.yaml_parser.proofs.Common.{[], Advances, all_placed, and_parts, ap, append-nil, AreAll, arith, Bool, both_ways, Continues, Err, ErrorReport, Ev, ev_of, Event, EventReader, events_left, Explains, false, false_from_ne_true, fault_kept, fault_of_all, fault_seen, GivesEvent, GivesFault, has_end, Holds, IfSome, if◌then◌else◌, inl, inr, is_fresh, is_some, is_stream_end, IsErrAnd, IsHeld, IsSound, Keeping, KeptStop, length, List, Looks, map-append, nil_from_length, no_document, None, not, not-true, Notes, Ok, Option, option_map, or_cases, Parsed, placed, Position, read_so, Reader, refl, Result, scanned, Some, stays_steady, Stop, subst, sym, true, Waits, work, ◌&&◌, ◌++◌, ◌<◌, ◌||◌, ◌∙◌, ◌∷◌, ◌≡◌, ◌≢◌, ◌⊎◌}
+use Rattle.yaml_parser.proofs.Holding.{KnowsSteady, closed, keeps, failed_as, set_stands, held_sound, held_explained, has_end_snoc}
 use Rattle.yaml_parser.proofs.Since.{all_more}
 
 -- ---- what clauses see
@@ -55,14 +32,9 @@ read_next given false e = refl
 no_fault : {T : Type 0} (pull : EventReader T) (misplaced : Option Position) → pull.kept ≡ None → misplaced ≡ None → fault_of_all misplaced pull ≡ None
 no_fault {T} pull misplaced h k = ap (λ m. fault_of_all m pull) k ∙ ap (option_map (λ x. fault_seen x.stop x.mark (scanned pull.reader.tokens.scanner).fault)) h
 
-shows : {T : Type 0} (pull : EventReader T) (given : List (Ev × Position)) (current : Option (Event × Position)) (started ended : Bool) (misplaced : Option Position) (es : List (Ev × Position))
-    → read_so given ended (option_map placed current) ≡ es → Shows pull.reader es (seen pull given current started ended misplaced)
-shows {T} pull given current started ended misplaced es h = record { scanner = refl; keep_tags = refl; steady = refl; settings = refl; events = h }
-
 sound : {T : Type 0} (pull : EventReader T) (given : List (Ev × Position)) (current : Option (Event × Position)) (started ended : Bool) (misplaced : Option Position)
     → pull.kept ≡ None → misplaced ≡ None → IsHeld pull.reader (read_so given ended (option_map placed current)) pull.kept → KnowsSteady pull.reader → IsSound (seen pull given current started ended misplaced)
-sound {T} pull given current started ended misplaced h k x known =
-    held_sound pull.reader (read_so given ended (option_map placed current)) (subst (IsHeld pull.reader (read_so given ended (option_map placed current))) h x) known (seen pull given current started ended misplaced) (no_fault pull misplaced h k) (shows pull given current started ended misplaced (read_so given ended (option_map placed current)) refl)
+sound {T} pull given current started ended misplaced h k x known = held_sound pull.reader (seen pull given current started ended misplaced) (subst (IsHeld pull.reader (read_so given ended (option_map placed current))) h x) known (no_fault pull misplaced h k)
 
 -- ---- at the beginning
 
@@ -120,7 +92,7 @@ pub fault_misplaced : {T : Type 0} (pull : EventReader T) (given : List (Ev × P
     → GivesFault (seen pull given current started ended misplaced) (no_document p) (seen pull given current started ended misplaced)
 fault_misplaced {T} pull given current started ended misplaced p h none m =
     let f : fault_of_all misplaced pull ≡ Some (no_document p) = ap (λ x. fault_of_all x pull) m in
-    let going : ended ≡ false = not_over ended (λ b. let no : None ≡ Some p = sym (h.over b).1 ∙ m in cc) in
+    let going : ended ≡ false = false_from_ne_true ended (λ b. let no : None ≡ Some p = sym (h.over b).1 ∙ m in cc) in
     let a = ap (option_map placed) (none_if current none) in
     record {
       fault = f;
@@ -133,10 +105,6 @@ fault_misplaced {T} pull given current started ended misplaced p h none m =
       again = subst (λ o. IfSome o (λ g. (no_document p ≡ g) × (seen pull given current started ended misplaced ≡ seen pull given current started ended misplaced))) (sym f) (refl, refl);
       why = λ b. let no : None ≡ Some (no_document p) = sym b ∙ f in cc;
     }
-  where
-    not_over : (b : Bool) → (b ≡ true → ⊥) → b ≡ false
-    not_over true f = absurd (f refl)
-    not_over false f = refl
 
 -- ---- where nothing waited
 
@@ -205,8 +173,7 @@ fault_given {T} pull new given current started ended misplaced f h none clear x 
     none_kept b = none_before (λ k. fault_seen k.stop k.mark (scanned pull.reader.tokens.scanner).fault) pull.kept b
 
     why : (seen pull given current started ended misplaced).fault ≡ None → Explains f (seen new given current started ended misplaced)
-    why b = held_explained new.reader (read_so given ended (option_map placed current)) new.kept f kept (x.2 (none_kept (ap (λ m. fault_of_all m pull) (sym clear) ∙ b))) (subst IsKnownSteady (sym x.0) h.steady) (seen new given current started ended misplaced)
-        (shows new given current started ended misplaced (read_so given ended (option_map placed current)) refl)
+    why b = held_explained new.reader (seen new given current started ended misplaced) new.kept f kept (x.2 (none_kept (ap (λ m. fault_of_all m pull) (sym clear) ∙ b))) (subst IsKnownSteady (sym x.0) h.steady)
 
     again_seen : (o : Option ErrorReport) → IfSome o (λ g. (◌≡◌ {A = Result (Event × Position) ErrorReport} (Err f) (Err g)) × (new ≡ pull)) → IfSome o (λ g. (f ≡ g) × (seen new given current started ended misplaced ≡ seen pull given current started ended misplaced))
     again_seen None a = tt
@@ -385,45 +352,48 @@ clear_parts {T} pull None h = (none_before (λ k. fault_seen k.stop k.mark (scan
 clear_parts {T} pull (Some p) h = cc
 
 -- Before the stream's end something is awaited.
-pub not_closed : {T : Type 0} (pull : EventReader T) (given : List (Ev × Position)) (current : Option (Event × Position)) (started ended : Bool) (misplaced : Option Position)
-    → Holds pull given (option_map placed current) started ended misplaced → option_map placed current ≡ None → fault_of_all misplaced pull ≡ None → ended ≡ false → pull.reader.stack ≢ []
-not_closed {T} pull given current started ended misplaced h ahead fault going =
+pub not_closed : {T : Type 0} (pull : EventReader T) (given : List (Ev × Position)) (current : Option (Event × Position)) (started ended : Bool) (misplaced : Option Position) {v : Parsed} → seen pull given current started ended misplaced ≡ v
+    → Holds pull given (option_map placed current) started ended misplaced → v.ahead ≡ None → v.fault ≡ None → v.ended ≡ false → pull.reader.stack ≢ []
+not_closed {T} pull given current started ended misplaced {v} view h ahead fault going =
     λ s.
     let es = read_so given ended (option_map placed current) in
-    let none = none_waits current (ap is_some ahead) in
-    let c = clear_parts pull misplaced fault in
+    let none = none_waits current (ap is_some (ap (λ u. u.ahead) view ∙ ahead)) in
+    let c = clear_parts pull misplaced (ap (λ u. u.fault) view ∙ fault) in
     let end = closed pull.reader es s (subst (IsHeld pull.reader es) c.0 h.held) in
-    let no : true ≡ false = sym end ∙ end_known given current ended h.end none ∙ going in
+    let no : true ≡ false = sym end ∙ end_known given current ended h.end none ∙ ap (λ u. u.ended) view ∙ going in
     cc
 
 -- An event is read, and given at once.
-pub advanced : {T : Type 0} (pull new : EventReader T) (given more : List (Ev × Position)) (current : Option (Event × Position)) (started ended ended' : Bool) (misplaced : Option Position) (e : Event × Position)
-    → Holds pull given (option_map placed current) started ended misplaced → option_map placed current ≡ None → fault_of_all misplaced pull ≡ None
+pub advanced : {T : Type 0} (pull new : EventReader T) (given more : List (Event × Position)) (current : Option (Event × Position)) (started ended ended' : Bool) (misplaced : Option Position) (e : Event × Position) {v : Parsed} → seen pull (all_placed given) current started ended misplaced ≡ v
+    → Holds pull (all_placed given) (option_map placed current) started ended misplaced → v.ahead ≡ None → v.fault ≡ None
     → ((es : List (Ev × Position)) → IsHeld pull.reader es None → Advances pull es (Ok e) new) → new.kept ≡ pull.kept
-    → more ≡ given ++ (if ended then [] else placed e ∷ []) → ended' ≡ ended || is_stream_end (ev_of e.0)
-    → Holds new more (option_map placed current) true ended' misplaced × GivesEvent (seen pull given current started ended misplaced) (placed e) (seen new more current true ended' misplaced)
-advanced {T} pull new given more current started ended ended' misplaced e h ahead fault reads same noted end =
-    let es = read_so given ended (option_map placed current) in
-    let c = clear_parts pull misplaced fault in
+    → more ≡ given ++ (if ended then [] else e ∷ []) → ended' ≡ ended || is_stream_end (ev_of e.0)
+    → Holds new (all_placed more) (option_map placed current) true ended' misplaced × GivesEvent v (placed e) (seen new (all_placed more) current true ended' misplaced)
+advanced {T} pull new given more current started ended ended' misplaced e {v} view h ahead fault reads same noted end =
+    let es = read_so (all_placed given) ended (option_map placed current) in
+    let c = clear_parts pull misplaced (ap (λ u. u.fault) view ∙ fault) in
     let x = reads es (subst (IsHeld pull.reader es) c.0 h.held) in
-    given_at_once pull new given more current started ended ended' misplaced e h (none_waits current (ap is_some ahead)) c.1 (c.0, same ∙ c.0, inr x) noted end
+    let none = none_waits current (ap is_some (ap (λ u. u.ahead) view ∙ ahead)) in
+    let y = given_at_once pull new (all_placed given) (all_placed more) current started ended ended' misplaced e h none c.1 (c.0, same ∙ c.0, inr x) (all_noted given more e ended noted) end in
+    (y.0, subst (λ u. GivesEvent u (placed e) (seen new (all_placed more) current true ended' misplaced)) view y.1)
 
 -- A fault is met, and kept at once.
-pub stopped : {T : Type 0} (pull mid new : EventReader T) (given : List (Ev × Position)) (current : Option (Event × Position)) (started ended : Bool) (misplaced : Option Position) (s : Stop) (f : ErrorReport)
-    → Holds pull given (option_map placed current) started ended misplaced → option_map placed current ≡ None → fault_of_all misplaced pull ≡ None
+pub stopped : {T : Type 0} (pull mid new : EventReader T) (given : List (Ev × Position)) (current : Option (Event × Position)) (started ended : Bool) (misplaced : Option Position) (s : Stop) (f : ErrorReport) {v : Parsed} → seen pull given current started ended misplaced ≡ v
+    → Holds pull given (option_map placed current) started ended misplaced → v.ahead ≡ None → v.fault ≡ None
     → ((es : List (Ev × Position)) → IsHeld pull.reader es None → Advances pull es (Err s) mid)
     → fault_kept new ≡ Some f → IfSome new.kept (λ k. k.stop ≡ s) → new.reader ≡ mid.reader
-    → Holds new given (option_map placed current) started ended misplaced × GivesFault (seen pull given current started ended misplaced) f (seen new given current started ended misplaced)
-stopped {T} pull mid new given current started ended misplaced s f h ahead fault reads kept stop reader =
+    → Holds new given (option_map placed current) started ended misplaced × GivesFault v f (seen new given current started ended misplaced)
+stopped {T} pull mid new given current started ended misplaced s f {v} view h ahead fault reads kept stop reader =
     let es = read_so given ended (option_map placed current) in
-    let none = none_waits current (ap is_some ahead) in
-    let c = clear_parts pull misplaced fault in
+    let none = none_waits current (ap is_some (ap (λ u. u.ahead) view ∙ ahead)) in
+    let c = clear_parts pull misplaced (ap (λ u. u.fault) view ∙ fault) in
     let a = reads es (subst (IsHeld pull.reader es) c.0 h.held) in
     let y = keeps new es s kept stop (failed_as es s reader (a.1, a.2)) in
     let before : fault_kept pull ≡ None = ap (option_map (λ x. fault_seen x.stop x.mark (scanned pull.reader.tokens.scanner).fault)) c.0 in
     let x : Continues pull es (Err f) new = (ap (λ r. r.names.keeping) reader ∙ a.0, y.0, λ b. y.1) in
     let again = subst (λ o. IfSome o (λ g. (◌≡◌ {A = Result (Event × Position) ErrorReport} (Err f) (Err g)) × (new ≡ pull))) (sym before) tt in
-    (fault_holds pull new given current started ended misplaced h none x kept, fault_given pull new given current started ended misplaced f h none c.1 x kept again)
+    let y = fault_given pull new given current started ended misplaced f h none c.1 x kept again in
+    (fault_holds pull new given current started ended misplaced h none x kept, subst (λ u. GivesFault u f (seen new given current started ended misplaced)) view y)
 
 -- ---- a setting
 
@@ -432,15 +402,7 @@ held_set {T} p k es None same x = set_stands p k es same x
 held_set {T} p k es (Some z) same x = x
 
 no_settings : {T : Type 0} (p : Reader T) (es : List (Ev × Position)) → IsHeld p es None → es ≡ [] → p.names.keeping.settings.items ≡ []
-no_settings {T} p es x h = empty p.names.keeping.settings.items (x.each ∙ ap length h)
-  where
-    empty : (xs : List Bool) → length xs ≡ 0 → xs ≡ []
-    empty [] e = refl
-    empty (y ∷ ys) e = absurd (omega (arith, e))
-
-one_true : (a : Bool) {b : Bool} → (a || b) ≡ true → (a ≡ true) ⊎ (b ≡ true)
-one_true true h = inl refl
-one_true false h = inr h
+no_settings {T} p es x h = nil_from_length p.names.keeping.settings.items (x.each ∙ ap length h)
 
 same_bool : (a b : Bool) → beq a b ≡ true → a ≡ b
 same_bool true true h = refl
@@ -482,7 +444,7 @@ settings_hold {T} pull given current started ended misplaced k h steady same = r
     still : k.steady ≡ true → AreAll k.tags pull.reader.names.keeping.settings.items
     still s =
         let one = and_parts (pull.reader.names.keeping.steady) (is_fresh (seen pull given current started ended misplaced) || beq k.tags pull.reader.names.keeping.tags) (sym steady ∙ s) in
-        elim (one_true (is_fresh (seen pull given current started ended misplaced)) one.1) [
+        elim (or_cases (is_fresh (seen pull given current started ended misplaced)) (beq k.tags pull.reader.names.keeping.tags) one.1) [
           | inl a ↦ subst (AreAll k.tags) (sym (nothing_read a)) tt
           | inr b ↦ subst (λ t. AreAll t pull.reader.names.keeping.settings.items) (sym (same_bool k.tags pull.reader.names.keeping.tags b)) (h.steady one.0)
         ]

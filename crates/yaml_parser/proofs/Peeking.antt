@@ -1,13 +1,7 @@
 -- From a look, and what is shown of it, to what a peek ensures.
-use Rattle.std.proofs.Common.{subst}
-use Rattle.std.specs.Prelude.{IsSome, IfOk, IfErr, Result, Ok, Err}
+use Rattle.std.proofs.Common.{IsSome, IfErr}
 use Rattle.std.specs.Borrow.{Bor}
-use Rattle.defs_text.specs.Position.{Position}
-use Rattle.yaml_tokens.specs.ErrorReport.{ErrorReport}
-use Rattle.yaml_parser.specs.declared.event.Event.{Event}
-use Rattle.yaml_parser.specs.Parsed.{Parsed}
-use Rattle.yaml_parser.specs.Pulls.{Looks, Peeks, ShowsLooked, ShowsNext, MeetsFault}
-use Rattle.yaml_parser.specs.Shown.{placed}
+use Rattle.yaml_parser.proofs.Common.{Err, ErrorReport, Event, IfOk, Looks, MeetsFault, Ok, Parsed, Peeks, placed, Position, Result, ShowsLooked, ShowsNext, subst}
 
 pub waits_where_ok : (old new : Parsed) (looked : Result (Unit {0}) ErrorReport) → Looks old looked new → IfOk looked (λ _. IsSome new.ahead)
 waits_where_ok old new (Ok u) looks = looks.some

@@ -1,20 +1,7 @@
 -- Where the events stand that a parser gave: one turn more.
-use Rattle.std.proofs.Common.{◌≡◌, List, [], ◌∷◌, ◌++◌, length, Option, Some, None, option_map, refl, sym, ap, ◌∙◌, append_assoc, subst}
-use Rattle.defs_text.specs.Position.{Position}
-use Rattle.defs_token.specs.Token as defs
-use Rattle.defs_token.specs.Token.{Tok}
-use Rattle.yaml_tokens.specs.declared.token.Token.{Token}
-use Rattle.yaml_tokens.specs.Shown.{shown, tok_of}
-use Rattle.defs_event.specs.Event.{Ev}
-use Rattle.defs_event.specs.Raw.{Raw}
-use Rattle.defs_event.specs.Stream.{Extent, StreamPlacesTo}
-use Rattle.model_parser.specs.declared.state.State.{State}
-use Rattle.model_parser.specs.Goal.{Goal}
-use Rattle.model_parser.specs.Rest.{AwaitsAt, IsNested, IsFor}
-use Rattle.model_parser.specs.Turn.{Takes, Leaves, IsAt, IsAtFirst, IsThere}
-use Rattle.yaml_parser.specs.Handed.{BeginAt}
-use Rattle.yaml_parser.specs.Derived.{stood}
+use Rattle.yaml_parser.proofs.Common.{[], ap, append_assoc, AwaitsAt, BeginAt, Ev, Extent, Goal, IsAt, IsAtFirst, IsFor, IsNested, IsThere, Leaves, length, List, None, Option, option_map, Position, Raw, refl, shown, Some, State, stood, StreamPlacesTo, subst, sym, Takes, Tok, tok_of, Token, ◌++◌, ◌∙◌, ◌∷◌, ◌≡◌}
 use Rattle.yaml_parser.proofs.Positions.{stood_over}
+use Rattle.defs_token.specs.Token as defs
 
 -- What is awaited completes the tokens that were taken, with the events that were given, each at its position.
 abbrev pub StandsSo : List defs.Token → Option Token → Option Position → Goal → List State → List (Raw × Position) → Type 0

@@ -1,21 +1,11 @@
 -- Events at their positions, one more.
-use Rattle.std.proofs.Common.{◌≡◌, ◌+◌, List, [], ◌∷◌, ◌++◌, length, Option, Some, None, refl, sym, ap, ◌∙◌, map, arith}
-use Rattle.std.proofs.lemmas.List.{length-append, map-append}
-use Rattle.defs_text.specs.Position.{Position}
+use Rattle.yaml_parser.proofs.Common.{[], all_shown, ap, arith, behind, Ev, length, length-append, List, map, map-append, None, Option, Position, positions_of, Raw, raws_of, refl, shown, Some, stood, sym, Token, ◌++◌, ◌+◌, ◌∙◌, ◌∷◌, ◌≡◌}
 use Rattle.defs_token.specs.Token as defs
-use Rattle.yaml_tokens.specs.declared.token.Token.{Token}
-use Rattle.yaml_tokens.specs.Shown.{shown, all_shown}
-use Rattle.defs_event.specs.Event.{Ev}
-use Rattle.defs_event.specs.Raw.{Raw}
-use Rattle.defs_event.specs.Stream.{positions_of, raws_of}
-use Rattle.yaml_parser.specs.Handed.{behind}
-use Rattle.yaml_parser.specs.Derived.{stood}
 
 pub stood_over : (es fs : List Raw) (xs ys : List (Ev × Position)) → length es ≡ length xs → stood (es ++ fs) (xs ++ ys) ≡ stood es xs ++ stood fs ys
 stood_over [] fs [] ys h = refl
-stood_over [] fs (x ∷ xs) ys h = absurd (omega (arith, h))
-stood_over (e ∷ es) fs [] ys h = absurd (omega (arith, h))
 stood_over (e ∷ es) fs (x ∷ xs) ys h = ap (λ l. (e, x.1) ∷ l) (stood_over es fs xs ys (omega (arith, h)))
+stood_over _ fs _ ys h = absurd (omega (arith, h))
 
 pub stood_raws : (es : List Raw) (xs : List (Ev × Position)) → length es ≡ length xs → raws_of (stood es xs) ≡ es
 stood_raws [] xs h = refl
@@ -24,9 +14,8 @@ stood_raws (e ∷ es) (x ∷ xs) h = ap (λ l. e ∷ l) (stood_raws es xs (omega
 
 pub stood_positions : (es : List Raw) (xs : List (Ev × Position)) → length es ≡ length xs → map (λ (e : Raw × Position). e.1) (stood es xs) ≡ positions_of xs
 stood_positions [] [] h = refl
-stood_positions [] (x ∷ xs) h = absurd (omega (arith, h))
-stood_positions (e ∷ es) [] h = absurd (omega (arith, h))
 stood_positions (e ∷ es) (x ∷ xs) h = ap (λ l. x.1 ∷ l) (stood_positions es xs (omega (arith, h)))
+stood_positions _ _ h = absurd (omega (arith, h))
 
 pub count_more : (m : Position) (raw : List Raw) (e : Raw) (v : Ev) (given : List (Ev × Position)) → length raw ≡ length given → length (raw ++ e ∷ []) ≡ length (given ++ (v, m) ∷ [])
 count_more m raw e v given h = length-append raw (e ∷ []) ∙ ap (λ n. n + 1) h ∙ sym (length-append given ((v, m) ∷ []))

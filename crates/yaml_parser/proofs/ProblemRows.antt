@@ -1,8 +1,5 @@
 -- Which problem a refused token has, by the tokens before it: examples.
-use Rattle.std.proofs.Common.{◌≡◌, [], ◌∷◌, refl}
-use Rattle.defs_token.specs.Token.{Style, Tok}
-use Rattle.yaml_tokens.specs.declared.problem.Problem.TheVariants.{BlockMappingKey, BlockSequenceEntry, DirectiveWithoutDocumentEnd, DocumentStartToken, FlowMappingEntry, FlowSequenceEntry, NodeContent}
-use Rattle.yaml_parser.specs.Blames.{problem_of}
+use Rattle.yaml_parser.proofs.Common.{[], BlockMappingKey, BlockSequenceEntry, DirectiveWithoutDocumentEnd, DocumentStartToken, FlowMappingEntry, FlowSequenceEntry, NodeContent, problem_of, refl, Style, Tok, ◌∷◌, ◌≡◌}
 
 abbrev word : Tok
 word = Tok.scalar Style.plain []

@@ -1,38 +1,20 @@
 -- Events and the raw ones that they come of, side by side.
-use Rattle.std.proofs.Common.{◌≡◌, Bool, Option, List, [], ◌∷◌, ◌++◌, Some, sym, ap, subst}
-use Rattle.defs_event.specs.Event.{Ev}
-use Rattle.defs_event.specs.Raw.{Raw}
-use Rattle.defs_event.specs.Names.{Names, named, both, names_after, resolved_event}
-use Rattle.defs_event.proofs.NameLemmas.{NamedFirst, both_some}
-use Rattle.defs_event.proofs.Shaped.{Shaped, named_shaped}
-use Rattle.yaml_parser.specs.Settings.{named_since}
+use Rattle.yaml_parser.proofs.Common.{[], ap, Bool, both, both_some, Ev, List, named, named_shaped, named_since, NamedFirst, Names, names_after, Option, Raw, resolved_event, Shaped, Some, subst, sym, ◌++◌, ◌∷◌, ◌≡◌}
 
 alone : (k : Bool) (s : Names) (r : Raw) (v : Ev) → resolved_event s r ≡ Some v → Shaped (r ∷ []) (v ∷ [])
 alone k s r v h = named_shaped k s (r ∷ []) (v ∷ []) (ap (λ o. both o (Some [])) h)
 
 -- A resolved event has its raw one's shape.
 one_more : (r : Raw) (v : Ev) (rs : List Raw) (vs : List Ev) → Shaped (r ∷ []) (v ∷ []) → Shaped rs vs → Shaped (r ∷ rs) (v ∷ vs)
-one_more Raw.stream_start v rs vs h k = (vs, cc, k)
-one_more Raw.stream_end v rs vs h k = (vs, cc, k)
-one_more (Raw.document_start ds) v rs vs h k = (vs, cc, k)
-one_more Raw.document_end v rs vs h k = (vs, cc, k)
 one_more (Raw.alias name) v rs vs h k = (h.0, vs, cc, k)
 one_more (Raw.scalar x s a t) v rs vs h k = (h.0, h.1, vs, cc, k)
 one_more (Raw.empty_scalar a t) v rs vs h k = (h.0, h.1, vs, cc, k)
 one_more (Raw.flow_sequence_start a t) v rs vs h k = (h.0, h.1, vs, cc, k)
 one_more (Raw.sequence_start a t) v rs vs h k = (h.0, h.1, vs, cc, k)
 one_more (Raw.indentless_sequence_start a t) v rs vs h k = (h.0, h.1, vs, cc, k)
-one_more Raw.flow_sequence_end v rs vs h k = (vs, cc, k)
-one_more Raw.sequence_end v rs vs h k = (vs, cc, k)
-one_more Raw.indentless_sequence_end v rs vs h k = (vs, cc, k)
 one_more (Raw.flow_mapping_start a t) v rs vs h k = (h.0, h.1, vs, cc, k)
 one_more (Raw.mapping_start a t) v rs vs h k = (h.0, h.1, vs, cc, k)
-one_more Raw.pair_start v rs vs h k = (vs, cc, k)
-one_more Raw.pair_end v rs vs h k = (vs, cc, k)
-one_more Raw.unwritten_value v rs vs h k = (vs, cc, k)
-one_more Raw.flow_mapping_end v rs vs h k = (vs, cc, k)
-one_more Raw.flow_mapping_end_at_comma v rs vs h k = (vs, cc, k)
-one_more Raw.mapping_end v rs vs h k = (vs, cc, k)
+one_more _ v rs vs h k = (vs, cc, k)
 
 -- the first event, and the shape of the others
 first_shaped : (k : Bool) (s : Names) (r : Raw) (rs : List Raw) (os : Option (List Ev)) (vs ws : List Ev) → (f : NamedFirst (resolved_event s r) os vs) → Shaped rs (f.more ++ ws) → Shaped (r ∷ rs) (vs ++ ws)

@@ -1,31 +1,11 @@
 -- The tokens say which problem a refused token has.
-use Rattle.std.proofs.Common.{◌≡◌, ◌≢◌, List, [], ◌∷◌, ◌++◌, Option, Some, None, true, false, if◌then◌else◌, refl, sym, ap, ◌∙◌, subst}
-use Rattle.defs_text.specs.Position.{Position}
-use Rattle.defs_token.specs.Token.{Tok}
-use Rattle.defs_event.specs.Event.{Ev}
-use Rattle.defs_event.specs.Raw.{Raw, Directive}
-use Rattle.defs_event.specs.Grammar as table
-use Rattle.defs_event.specs.Stream.{StreamSays}
-use Rattle.defs_event.specs.Names.{Names}
-use Rattle.yaml_tokens.specs.declared.problem.Problem.{Problem}
-use Rattle.yaml_tokens.specs.declared.problem.Problem.TheVariants as problem
-use Rattle.model_parser.specs.declared.kind.Kind.{Kind}
-use Rattle.model_parser.specs.declared.context.NodeContext.TheVariants as context
-use Rattle.model_parser.specs.declared.state.State.{State}
-use Rattle.model_parser.specs.declared.state.State.TheVariants as state
-use Rattle.model_parser.specs.Kinds.{kind_of, is_directive}
-use Rattle.model_parser.specs.Goal as at
-use Rattle.model_parser.specs.Goal.{Goal}
-use Rattle.defs_event.specs.Place.{Collection, block_sequence, block_mapping, flow_sequence, flow_mapping, open_after, Next, node_next, directive_next, other_next, next_after}
-use Rattle.model_parser.specs.Place.{open_under, open_at, next_at, top, is_after, is_over_document, IsNoDirective}
-use Rattle.model_parser.specs.Rest.{is_in_mapping, IsNested, is_under, IsBottom}
-use Rattle.model_parser.proofs.StepRows.{no_row}
-use Rattle.model_parser.proofs.Endings.{goes_so}
-use Rattle.yaml_parser.specs.declared.reader.Reader.{Reader}
-use Rattle.yaml_parser.specs.Blames.{problem_in, problem_at, problem_for, problem_of}
-use Rattle.yaml_parser.specs.Handed.{taken_toks}
+use Rattle.yaml_parser.proofs.Common.{[], ap, block_mapping, block_sequence, Collection, Directive, directive_next, Ev, false, flow_mapping, flow_sequence, Goal, goes_so, if◌then◌else◌, is_after, is_directive, is_in_mapping, is_over_document, is_under, IsBottom, IsNested, IsNoDirective, Kind, kind_of, List, Names, Next, next_after, next_at, no_row, node_next, None, open_after, open_at, open_under, Option, other_next, Position, Problem, problem_at, problem_for, problem_in, problem_of, Raw, Reader, refl, Some, State, StreamSays, subst, sym, taken_toks, Tok, top, true, ◌++◌, ◌∙◌, ◌∷◌, ◌≡◌, ◌≢◌}
 use Rattle.yaml_parser.proofs.Ends.{Says}
 use Rattle.yaml_parser.proofs.Nesting.{nothing_taken}
+use Rattle.defs_event.specs.Grammar as table
+use Rattle.yaml_tokens.specs.declared.problem.Problem.TheVariants as problem
+use Rattle.model_parser.specs.declared.context.NodeContext.TheVariants as context
+use Rattle.model_parser.specs.declared.state.State.TheVariants as state
 
 -- by what the tokens leave to come and leave open
 by_tokens : (q : Problem) (ts : List Tok) (t : Tok) {n : Next} {cs : List Collection} → next_after other_next ts ≡ n → open_after [] ts ≡ cs → (ts ≡ [] → q ≡ problem.DocumentStartToken) → q ≡ problem_for (kind_of t) n cs → q ≡ problem_of ts t
@@ -66,15 +46,15 @@ no_directive_for k n h = ap (λ b. if b then problem.DirectiveWithoutDocumentEnd
 looked_no_directive : {o : Option Tok} {t : Tok} → o ≡ Some t → IsNoDirective o → is_directive (kind_of t) ≡ false
 looked_no_directive {o} {t} h n = subst IsNoDirective h n
 
-pub says_start : {T : Type 0} {k : Kind} {p : Reader T} {names : Names} {given : List (Ev × Position)} → Says problem.DocumentStartToken k at.start p names given
+pub says_start : {T : Type 0} {k : Kind} {p : Reader T} {names : Names} {given : List (Ev × Position)} → Says problem.DocumentStartToken k Goal.start p names given
 says_start a known t look kind = sym (ap (λ ts. problem_of ts t) (nothing_taken a))
 
-pub says_explicit : {T : Type 0} {k : Kind} {p : Reader T} {names : Names} {given : List (Ev × Position)} → Says problem.DocumentStartToken k at.explicit p names given
+pub says_explicit : {T : Type 0} {k : Kind} {p : Reader T} {names : Names} {given : List (Ev × Position)} → Says problem.DocumentStartToken k Goal.explicit p names given
 says_explicit {T} {k} {p} a known t look kind =
     by_tokens problem.DocumentStartToken (taken_toks p.tokens) t (known refl) (a.stands.opened ∙ bottom_open p.stack a.stands.fits) (λ e. refl)
     (no_directive_for (kind_of t) other_next (looked_no_directive look (a.stands.past refl)))
 
-pub says_directed : {T : Type 0} {k : Kind} {p : Reader T} {names : Names} {given : List (Ev × Position)} (read : List Directive) → is_directive k ≡ false → Says problem.DocumentStartToken k (at.directed read) p names given
+pub says_directed : {T : Type 0} {k : Kind} {p : Reader T} {names : Names} {given : List (Ev × Position)} (read : List Directive) → is_directive k ≡ false → Says problem.DocumentStartToken k (Goal.directed read) p names given
 says_directed {T} {k} {p} read none a known t look kind =
     by_tokens problem.DocumentStartToken (taken_toks p.tokens) t (known refl) (a.stands.opened ∙ bottom_open p.stack a.stands.fits) (λ e. refl)
     (no_directive_for (kind_of t) directive_next (ap is_directive kind ∙ none))
@@ -84,9 +64,9 @@ taken_some : (ts us : List Tok) (es : List Raw) → StreamSays (ts ++ Tok.stream
 taken_some [] us es d e = no_row table.stream table.nothing_held [] Tok.stream_end us es refl d
 taken_some (t ∷ ts) us es d e = cc
 
-pub says_after : {T : Type 0} {k : Kind} {p : Reader T} {names : Names} {given : List (Ev × Position)} → is_directive k ≡ true → Says problem.DirectiveWithoutDocumentEnd k at.after p names given
+pub says_after : {T : Type 0} {k : Kind} {p : Reader T} {names : Names} {given : List (Ev × Position)} → is_directive k ≡ true → Says problem.DirectiveWithoutDocumentEnd k Goal.after p names given
 says_after {T} {k} {p} is a known t look kind =
-    let d = a.stands.sound _ _ (goes_so at.after p.stack Tok.stream_end [] refl refl) in
+    let d = a.stands.sound _ _ (goes_so Goal.after p.stack Tok.stream_end [] refl refl) in
     by_tokens problem.DirectiveWithoutDocumentEnd (taken_toks p.tokens) t refl (a.stands.opened ∙ bottom_open p.stack a.stands.fits)
     (λ e. absurd (taken_some (taken_toks p.tokens) _ _ d e))
     (ap (λ b. if b then problem.DirectiveWithoutDocumentEnd else problem_at (next_after other_next (taken_toks p.tokens)) []) (sym (ap is_directive kind ∙ is)))
@@ -100,36 +80,15 @@ mapping_opens _ h e = cc
 
 -- Where nothing is open, it is a document's.
 over_document : (ss : List State) → IsNested ss → is_under ss ≡ true → open_under ss ≡ [] → is_over_document ss ≡ true
-over_document [] n u e = cc
-over_document (state.StreamStart ∷ ss) n u e = cc
-over_document (state.ImplicitDocumentStart ∷ ss) n u e = cc
-over_document (state.DocumentStart ∷ ss) n u e = cc
-over_document (state.DocumentContent ∷ ss) n u e = cc
 over_document (state.DocumentEnd ∷ ss) n u e = refl
-over_document (state.BlockNode ∷ ss) n u e = cc
-over_document (state.BlockSequenceEntry ∷ ss) n u e = cc
 over_document (state.IndentlessSequenceEntry ∷ ss) n u e = absurd (mapping_opens ss n.0 e)
-over_document (state.IndentlessSequenceItem ∷ ss) n u e = cc
-over_document (state.BlockMappingKey ∷ ss) n u e = cc
-over_document (state.BlockMappingNextKey ∷ ss) n u e = cc
-over_document (state.BlockMappingValue ∷ ss) n u e = cc
-over_document (state.BlockMappingPart ∷ ss) n u e = cc
-over_document (state.FlowSequenceFirstEntry ∷ ss) n u e = cc
-over_document (state.FlowSequenceEntry ∷ ss) n u e = cc
-over_document (state.FlowSequenceEntryMappingKey ∷ ss) n u e = cc
-over_document (state.FlowSequenceEntryMappingValue ∷ ss) n u e = cc
-over_document (state.FlowSequenceEntryMappingEnd ∷ ss) n u e = cc
-over_document (state.FlowMappingFirstKey ∷ ss) n u e = cc
-over_document (state.FlowMappingKey ∷ ss) n u e = cc
-over_document (state.FlowMappingValue ∷ ss) n u e = cc
-over_document (state.FlowMappingPart m ∷ ss) n u e = cc
-over_document (state.FlowMappingEmptyValue ∷ ss) n u e = cc
+over_document _ n u e = cc
 
 node_for : (k : Kind) (cs : List Collection) → (cs ≡ [] → is_directive k ≡ false) → problem.NodeContent ≡ problem_for k node_next cs
 node_for k [] none = no_directive_for k node_next (none refl)
 node_for k (c ∷ cs) none = refl
 
-pub says_node : {T : Type 0} {k : Kind} {p : Reader T} {names : Names} {given : List (Ev × Position)} → Says problem.NodeContent k (at.after_properties context.Flow None) p names given
+pub says_node : {T : Type 0} {k : Kind} {p : Reader T} {names : Names} {given : List (Ev × Position)} → Says problem.NodeContent k (Goal.after_properties context.Flow None) p names given
 says_node {T} {k} {p} a known t look kind =
     let next : next_after other_next (taken_toks p.tokens) ≡ node_next = known refl in
     by_tokens problem.NodeContent (taken_toks p.tokens) t next a.stands.opened (λ e. let no : other_next ≡ node_next = next_is_none next e in cc)

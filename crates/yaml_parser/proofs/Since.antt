@@ -1,10 +1,5 @@
 -- Names where the setting of `keep_tags` changes.
-use Rattle.std.proofs.Common.{◌≡◌, ◌+◌, ◌≤◌, List, [], ◌∷◌, ◌++◌, length, Option, Some, None, Bool, refl, sym, ap, ◌∙◌, arith}
-use Rattle.defs_event.specs.Event.{Ev}
-use Rattle.defs_event.specs.Raw.{Raw}
-use Rattle.defs_event.specs.Names.{Names, named, both, names_after, names_after_all, resolved_event}
-use Rattle.defs_event.proofs.NameLemmas.{both_some, append_named, after_append}
-use Rattle.yaml_parser.specs.Settings.{named_since, names_since, AreAll}
+use Rattle.yaml_parser.proofs.Common.{[], after_append, ap, append_named, AreAll, arith, Bool, both, both_some, Ev, length, List, named, named_since, Names, names_after, names_after_all, names_since, None, Option, Raw, refl, resolved_event, Some, sym, ◌++◌, ◌+◌, ◌∙◌, ◌∷◌, ◌≡◌, ◌≤◌}
 
 both_none : (o : Option Ev) → both o None ≡ None
 both_none None = refl
@@ -49,41 +44,35 @@ since_after (x ∷ ks) k s (y ∷ es) e few = since_after ks k (names_after x s 
 -- ---- another setting from now on
 
 pub since_other : (ks : List Bool) (j k : Bool) (s : Names) (es : List Raw) → length es ≤ length ks → named_since ks j s es ≡ named_since ks k s es
-since_other [] j k s [] few = refl
-since_other [] j k s (e ∷ es) few = absurd (omega (arith, few))
-since_other (x ∷ ks) j k s [] few = refl
 since_other (x ∷ ks) j k s (e ∷ es) few = ap (both (resolved_event s e)) (since_other ks j k (names_after x s e) es (omega (arith, few)))
+since_other [] j k s (e ∷ es) few = absurd (omega (arith, few))
+since_other _ j k s es few = refl
 
 pub names_other : (ks : List Bool) (j k : Bool) (s : Names) (es : List Raw) → length es ≤ length ks → names_since ks j s es ≡ names_since ks k s es
-names_other [] j k s [] few = refl
-names_other [] j k s (e ∷ es) few = absurd (omega (arith, few))
-names_other (x ∷ ks) j k s [] few = refl
 names_other (x ∷ ks) j k s (e ∷ es) few = names_other ks j k (names_after x s e) es (omega (arith, few))
+names_other [] j k s (e ∷ es) few = absurd (omega (arith, few))
+names_other _ j k s es few = refl
 
 -- The setting with which the last event was read is noted.
 pub since_noted : (ks : List Bool) (k : Bool) (s : Names) (es : List Raw) → length es ≤ length ks + 1 → named_since (ks ++ k ∷ []) k s es ≡ named_since ks k s es
-since_noted [] k s [] few = refl
-since_noted [] k s (e ∷ es) few = refl
-since_noted (x ∷ ks) k s [] few = refl
 since_noted (x ∷ ks) k s (e ∷ es) few = ap (both (resolved_event s e)) (since_noted ks k (names_after x s e) es (omega (arith, few)))
+since_noted [] k s (e ∷ es) few = refl
+since_noted _ k s es few = refl
 
 pub names_noted : (ks : List Bool) (k : Bool) (s : Names) (es : List Raw) → length es ≤ length ks + 1 → names_since (ks ++ k ∷ []) k s es ≡ names_since ks k s es
-names_noted [] k s [] few = refl
-names_noted [] k s (e ∷ es) few = refl
-names_noted (x ∷ ks) k s [] few = refl
 names_noted (x ∷ ks) k s (e ∷ es) few = names_noted ks k (names_after x s e) es (omega (arith, few))
+names_noted [] k s (e ∷ es) few = refl
+names_noted _ k s es few = refl
 
 -- ---- the same setting all the time
 
 pub since_same : (ks : List Bool) (k : Bool) (s : Names) (es : List Raw) → AreAll k ks → named_since ks k s es ≡ named k s es
-since_same [] k s es a = refl
-since_same (x ∷ ks) k s [] a = refl
 since_same (x ∷ ks) k s (e ∷ es) a = ap (λ b. both (resolved_event s e) (named_since ks k (names_after b s e) es)) a.0 ∙ ap (both (resolved_event s e)) (since_same ks k (names_after k s e) es a.1)
+since_same _ k s es a = refl
 
 pub names_same : (ks : List Bool) (k : Bool) (s : Names) (es : List Raw) → AreAll k ks → names_since ks k s es ≡ names_after_all k s es
-names_same [] k s es a = refl
-names_same (x ∷ ks) k s [] a = refl
 names_same (x ∷ ks) k s (e ∷ es) a = ap (λ b. names_since ks k (names_after b s e) es) a.0 ∙ names_same ks k (names_after k s e) es a.1
+names_same _ k s es a = refl
 
 pub all_more : (k : Bool) (ks : List Bool) → AreAll k ks → AreAll k (ks ++ k ∷ [])
 all_more k [] a = (refl, tt)

@@ -1,42 +1,11 @@
 -- The turns over the code's state.
-use Rattle.std.proofs.Common.{◌≡◌, ℕ, ◌≤◌, length, List, [], ◌∷◌, ◌++◌, Option, Some, None, option_map, Bool, false, ◌||◌, refl, sym, ap, ◌∙◌, subst, append-nil, map, arith}
-use Rattle.std.proofs.lemmas.List.{length-append}
-use Rattle.std.proofs.lemmas.Bool.{or_parts, both_ways}
-use Rattle.defs_text.specs.Position.{Position}
-use Rattle.defs_token.specs.Token as defs
-use Rattle.defs_token.specs.Token.{Tok}
-use Rattle.yaml_tokens.specs.declared.token.Token.{Token}
-use Rattle.yaml_tokens.specs.Shown.{shown, all_shown, tok_of}
-use Rattle.yaml_scanner.specs.Scanned.{scanned}
-use Rattle.yaml_scanner_state.specs.Tokens.{is_end}
-use Rattle.defs_event.specs.Event.{Ev}
-use Rattle.defs_event.specs.Raw.{Raw}
-use Rattle.defs_event.specs.Names.{Names, no_names, named, both, names_after, resolved_event}
-use Rattle.defs_token.specs.Toks.{toks}
-use Rattle.defs_event.specs.Stream.{events_of}
-use Rattle.model_parser.specs.declared.kind.Kind.{Kind}
-use Rattle.model_parser.specs.declared.state.State.{State}
-use Rattle.model_parser.specs.Kinds.{kind_of}
-use Rattle.model_parser.specs.Goal.{Goal}
-use Rattle.model_parser.specs.Place.{top}
-use Rattle.model_parser.specs.Stands.{IsOnTrack, IsNext}
-use Rattle.model_parser.specs.Turn.{Takes, Leaves, IsAt}
+use Rattle.yaml_parser.proofs.Common.{[], all_shown, ap, append-nil, arith, At, BeginAt, behind, Bool, both, both_ways, Ev, events_of, false, Goal, IfSome, is_end, is_over, IsAt, IsAwake, IsHanded, IsNamed, IsNext, IsOfKind, IsOnTrack, IsPastColon, IsPending, Keeping, Kind, kind_of, last_position, Leaves, length, length-append, List, looks, map, named, named_by, Names, names_after, names_at, names_by, no_names, None, nowhere, Option, option_map, or_parts, peeked_tok, Position, Raw, Reader, refl, resolved_event, scanned, shown, shown_list, Skips, Some, State, stood, subst, sym, taken_toks, Takes, Tok, tok_of, Token, Tokens, toks, top, ℕ, ◌++◌, ◌||◌, ◌∙◌, ◌∷◌, ◌≡◌, ◌≤◌}
 use Rattle.model_parser.proofs.Carry.{stands_take, stands_leave}
-use Rattle.model_parser.proofs.Standing.{looks}
-use Rattle.yaml_parser.specs.declared.names.Keeping.{Keeping}
-use Rattle.yaml_parser.specs.declared.tokens.Tokens.{Tokens}
-use Rattle.yaml_parser.specs.declared.reader.Reader.{Reader}
-use Rattle.yaml_parser.specs.Ahead.{Skips}
-use Rattle.yaml_parser.specs.Handed.{taken_toks, peeked_tok, behind, last_position, BeginAt, IsHanded, IsAwake, shown_list, ends}
-use Rattle.yaml_parser.specs.Kinds.{IsOfKind}
-use Rattle.yaml_parser.specs.Named.{IsNamed}
-use Rattle.std.specs.Option.{IfSome}
-use Rattle.yaml_parser.specs.Derived.{stood}
+use Rattle.yaml_parser.specs.Handed.{ends}
 use Rattle.yaml_parser.proofs.Positions.{count_more, behind_more}
 use Rattle.yaml_parser.proofs.Placing.{StandsSo, placed_took, placed_took_on, placed_left, placed_left_on}
-use Rattle.model_parser.proofs.Places.{nowhere}
 use Rattle.yaml_parser.proofs.Since.{since_append, since_after}
-use Rattle.yaml_parser.specs.At.{At, IsPastColon, is_over, names_at, named_by, names_by, IsPending}
+use Rattle.defs_token.specs.Token as defs
 
 -- ---- lists
 

@@ -1,15 +1,9 @@
 -- Where the next row, or one after rows that leave it, takes a token.
-use Rattle.std.proofs.Common.{◌≡◌, ℕ, zero, suc, [], ◌∷◌, Option, Some, None, Bool, true, false, refl, ap, ◌∙◌}
-use Rattle.defs_text.specs.Position.{Position}
-use Rattle.defs_token.specs.Token.{Tok, Token}
-use Rattle.defs_event.specs.Raw.{Raw}
-use Rattle.defs_event.specs.Table.{Row, takes, leaves, row_of, reading, saying, before}
+use Rattle.yaml_parser.proofs.Common.{[], ap, before, Bool, by_leaving, cases, false, grammar, Held, None, Option, placed_before, PlacedWork, Places, plain_before, plain_placed, plain_work, Position, Raw, reading, refl, Row, row_of, saying, Some, suc, takes, takes_last, to_last, Tok, true, Works, zero, ℕ, ◌∙◌, ◌∷◌, ◌≡◌}
+use Rattle.defs_token.specs.Token.{Token}
+use Rattle.defs_event.specs.Table.{leaves}
+use Rattle.model_parser.specs.Rest.{placed}
 use Rattle.defs_event.specs.Grammar as table
-use Rattle.defs_event.specs.Grammar.{Held, cases, grammar}
-use Rattle.defs_event.specs.Stream.{PlacedWork, placed_before, to_last, Places, takes_last, by_leaving}
-use Rattle.model_parser.proofs.Places.{plain_work, plain_before}
-use Rattle.model_parser.specs.Rest.{Works, placed}
-use Rattle.model_parser.proofs.Quiet.{plain_placed}
 
 abbrev row_takes : Held → Tok → Works → (Works → Bool) → Option (Row table.Goal Raw) → Bool
 row_takes h t w again (Some (takes ps)) = true

@@ -1,32 +1,10 @@
 -- Where a token may be refused, streams go on in two ways.
-use Rattle.std.proofs.Common.{◌≡◌, ◌≢◌, ℕ, List, [], ◌∷◌, ◌++◌, Some, None, true, false, refl, sym, ap, ◌∙◌, subst, append_assoc, append-nil}
-use Rattle.defs_text.specs.Position.{Position}
-use Rattle.defs_token.specs.Token.{Style, Tok}
-use Rattle.defs_event.specs.Event.{Ev}
-use Rattle.defs_event.specs.Raw.{Raw, Directive}
-use Rattle.defs_event.specs.Names.{Names}
-use Rattle.defs_event.specs.Stream.{StreamSays, to_last, StreamPlacesTo, says, takes_last, by_leaving}
-use Rattle.model_parser.proofs.Falls.{text}
+use Rattle.yaml_parser.proofs.Common.{[], all_shown, ap, append-nil, append_assoc, as_tokens, At, at_directive, Awaits, BeginAt, by_leaving, Directive, DirectiveWithoutDocumentEnd, end_events, end_tokens, Ev, false, Goal, goes_so, GoesApart, GoesOnBy, is_after, IsFor, IsSettled, kind_of, last_position, List, may_begin, Names, next_after, next_at, node_next, None, open_after, open_at, other_next, past_tokens, peeked_tok, Position, Raw, Reader, refl, says, SaysBefore, Some, State, stood, StreamPlacesTo, StreamSays, Style, subst, sym, taken_toks, takes_last, text, to_last, Tok, token_at, top, true, two_that_come, work_of, Works, ℕ, ◌++◌, ◌∙◌, ◌∷◌, ◌≡◌, ◌≢◌}
 use Rattle.model_parser.specs.declared.context.NodeContext.{NodeContext}
-use Rattle.model_parser.specs.declared.context.NodeContext.TheVariants as context
-use Rattle.model_parser.specs.declared.state.State.{State}
-use Rattle.model_parser.specs.Kinds.{kind_of}
-use Rattle.model_parser.specs.Goal as at
-use Rattle.defs_event.specs.Place.{open_after, node_next, other_next, next_after}
-use Rattle.model_parser.specs.Place.{open_at, next_at, top, is_after}
-use Rattle.model_parser.specs.Stands.{IsSettled, as_tokens, goes_on, at_directive}
-use Rattle.model_parser.specs.Goal.{Goal}
-use Rattle.model_parser.specs.Rest.{Works, work_of, may_begin, Awaits, IsFor}
-use Rattle.model_parser.proofs.Endings.{end_tokens, end_events, past_tokens, goes_so}
-use Rattle.yaml_parser.specs.declared.reader.Reader.{Reader}
-use Rattle.yaml_parser.specs.Apart.{GoesOnBy, two_that_come, GoesApart, token_at, SaysBefore}
-use Rattle.yaml_parser.specs.Derived.{stood}
-use Rattle.yaml_parser.specs.Handed.{taken_toks, peeked_tok, last_position, BeginAt}
-use Rattle.yaml_parser.specs.At.{At}
+use Rattle.model_parser.specs.Stands.{goes_on}
 use Rattle.yaml_parser.proofs.Ends.{IsKnown, StandsBeside}
 use Rattle.yaml_parser.proofs.Taken.{takes_soon, soon_taken}
-use Rattle.yaml_tokens.specs.Shown.{all_shown}
-use Rattle.yaml_tokens.specs.declared.problem.Problem.TheVariants.{DirectiveWithoutDocumentEnd}
+use Rattle.model_parser.specs.declared.context.NodeContext.TheVariants as context
 
 -- What is awaited goes on with this token, and says these events first.
 pub record Way (g : Goal) (ss : List State) (token : Tok) (first : List Raw) : Type 0 where
@@ -49,18 +27,14 @@ pub record WaysOver (g : Goal) (ss : List State) (token other_token : Tok) : Typ
   -- and the first one is taken before anything is said
   pub soon : takes_soon 9 token (work_of g ss) ≡ true
 
+ways_over : {g : Goal} {ss : List State} {token other_token : Tok} {event other_event : Raw} → Way g ss token (event ∷ []) → Way g ss other_token (other_event ∷ []) → event ≢ other_event → takes_soon 9 token (work_of g ss) ≡ true → WaysOver g ss token other_token
+ways_over {event = event} {other_event = other_event} one other apart soon = record { event = event; other_event = other_event; one = one; other = other; two_events = apart; soon = soon }
+
 abbrev pub Ways : Goal → Tok → Tok → Type 0
 Ways g token other_token = (ss : List State) → WaysOver g ss token other_token
 
-pub explicit_ways : Ways at.explicit Tok.stream_end Tok.document_start
-explicit_ways ss = record {
-  event = Raw.stream_end;
-  other_event = Raw.document_start [];
-  one = way at.explicit ss Tok.stream_end [] _ _ refl refl refl;
-  other = way at.explicit ss Tok.document_start [] _ _ refl refl refl;
-  two_events = λ e. cc;
-  soon = refl;
-}
+pub explicit_ways : Ways Goal.explicit Tok.stream_end Tok.document_start
+explicit_ways ss = ways_over (way Goal.explicit ss Tok.stream_end [] _ _ refl refl refl) (way Goal.explicit ss Tok.document_start [] _ _ refl refl refl) (λ e. cc) refl
 
 pub longer : (ds : List Directive) (d : Directive) → Raw.document_start ds ≢ Raw.document_start (ds ++ d ∷ [])
 longer ds d e = by ds (let same : ds ≡ ds ++ d ∷ [] = cc in same)
@@ -69,86 +43,30 @@ longer ds d e = by ds (let same : ds ≡ ds ++ d ∷ [] = cc in same)
     by [] h = cc
     by (x ∷ xs) h = by xs (let same : xs ≡ xs ++ d ∷ [] = cc in same)
 
-pub directed_ways : (ds : List Directive) → Ways (at.directed ds) Tok.document_start (Tok.version_directive 1 2)
-directed_ways ds ss = record {
-  event = Raw.document_start ds;
-  other_event = Raw.document_start (ds ++ Directive.version 1 2 ∷ []);
-  one = way (at.directed ds) ss Tok.document_start [] _ _ refl refl refl;
-  other = way (at.directed ds) ss (Tok.version_directive 1 2) (Tok.document_start ∷ []) _ _ refl refl refl;
-  two_events = longer ds (Directive.version 1 2);
-  soon = refl;
-}
+pub directed_ways : (ds : List Directive) → Ways (Goal.directed ds) Tok.document_start (Tok.version_directive 1 2)
+directed_ways ds ss = ways_over (way (Goal.directed ds) ss Tok.document_start [] _ _ refl refl refl) (way (Goal.directed ds) ss (Tok.version_directive 1 2) (Tok.document_start ∷ []) _ _ refl refl refl) (longer ds (Directive.version 1 2)) refl
 
-pub entries_ways : Ways at.entries Tok.block_end Tok.block_entry
-entries_ways ss = record {
-  event = Raw.sequence_end;
-  other_event = Raw.scalar [] Style.plain None None;
-  one = way at.entries ss Tok.block_end [] _ _ refl refl refl;
-  other = way at.entries ss Tok.block_entry [] _ _ refl refl refl;
-  two_events = λ e. cc;
-  soon = refl;
-}
+pub entries_ways : Ways Goal.entries Tok.block_end Tok.block_entry
+entries_ways ss = ways_over (way Goal.entries ss Tok.block_end [] _ _ refl refl refl) (way Goal.entries ss Tok.block_entry [] _ _ refl refl refl) (λ e. cc) refl
 
-pub key_pairs_ways : Ways at.key_pairs Tok.block_end Tok.key
-key_pairs_ways ss = record {
-  event = Raw.mapping_end;
-  other_event = Raw.scalar [] Style.plain None None;
-  one = way at.key_pairs ss Tok.block_end [] _ _ refl refl refl;
-  other = way at.key_pairs ss Tok.key [] _ _ refl refl refl;
-  two_events = λ e. cc;
-  soon = refl;
-}
+pub key_pairs_ways : Ways Goal.key_pairs Tok.block_end Tok.key
+key_pairs_ways ss = ways_over (way Goal.key_pairs ss Tok.block_end [] _ _ refl refl refl) (way Goal.key_pairs ss Tok.key [] _ _ refl refl refl) (λ e. cc) refl
 
-pub more_items_ways : Ways at.more_items Tok.flow_sequence_end Tok.flow_entry
-more_items_ways ss = record {
-  event = Raw.flow_sequence_end;
-  other_event = Raw.scalar [] Style.plain None None;
-  one = way at.more_items ss Tok.flow_sequence_end [] _ _ refl refl refl;
-  other = way at.more_items ss Tok.flow_entry (text ∷ []) _ _ refl refl refl;
-  two_events = λ e. cc;
-  soon = refl;
-}
+pub more_items_ways : Ways Goal.more_items Tok.flow_sequence_end Tok.flow_entry
+more_items_ways ss = ways_over (way Goal.more_items ss Tok.flow_sequence_end [] _ _ refl refl refl) (way Goal.more_items ss Tok.flow_entry (text ∷ []) _ _ refl refl refl) (λ e. cc) refl
 
-pub more_flow_pairs_ways : Ways at.more_flow_pairs Tok.flow_mapping_end Tok.flow_entry
-more_flow_pairs_ways ss = record {
-  event = Raw.flow_mapping_end;
-  other_event = Raw.scalar [] Style.plain None None;
-  one = way at.more_flow_pairs ss Tok.flow_mapping_end [] _ _ refl refl refl;
-  other = way at.more_flow_pairs ss Tok.flow_entry (text ∷ []) _ _ refl refl refl;
-  two_events = λ e. cc;
-  soon = refl;
-}
+pub more_flow_pairs_ways : Ways Goal.more_flow_pairs Tok.flow_mapping_end Tok.flow_entry
+more_flow_pairs_ways ss = ways_over (way Goal.more_flow_pairs ss Tok.flow_mapping_end [] _ _ refl refl refl) (way Goal.more_flow_pairs ss Tok.flow_entry (text ∷ []) _ _ refl refl refl) (λ e. cc) refl
 
 -- a scalar, or a flow sequence
-pub content_ways : Ways (at.after_properties context.Flow None) (Tok.scalar Style.plain []) Tok.flow_sequence_start
-content_ways ss = record {
-  event = Raw.scalar [] Style.plain None None;
-  other_event = Raw.flow_sequence_start None None;
-  one = way (at.after_properties context.Flow None) ss text [] _ _ refl refl refl;
-  other = way (at.after_properties context.Flow None) ss Tok.flow_sequence_start [] _ _ refl refl refl;
-  two_events = λ e. cc;
-  soon = refl;
-}
+pub content_ways : Ways (Goal.after_properties context.Flow None) (Tok.scalar Style.plain []) Tok.flow_sequence_start
+content_ways ss = ways_over (way (Goal.after_properties context.Flow None) ss text [] _ _ refl refl refl) (way (Goal.after_properties context.Flow None) ss Tok.flow_sequence_start [] _ _ refl refl refl) (λ e. cc) refl
 
-pub node_ways : (w : NodeContext) → Ways (at.node w) (Tok.scalar Style.plain []) Tok.flow_sequence_start
-node_ways w ss = record {
-  event = Raw.scalar [] Style.plain None None;
-  other_event = Raw.flow_sequence_start None None;
-  one = way (at.node w) ss text [] _ _ refl refl refl;
-  other = way (at.node w) ss Tok.flow_sequence_start [] _ _ refl refl refl;
-  two_events = λ e. cc;
-  soon = refl;
-}
+pub node_ways : (w : NodeContext) → Ways (Goal.node w) (Tok.scalar Style.plain []) Tok.flow_sequence_start
+node_ways w ss = ways_over (way (Goal.node w) ss text [] _ _ refl refl refl) (way (Goal.node w) ss Tok.flow_sequence_start [] _ _ refl refl refl) (λ e. cc) refl
 
-pub anchored_ways : (w : NodeContext) (a : List ℕ) → Ways (at.after_anchor w a) (Tok.scalar Style.plain []) Tok.flow_sequence_start
-anchored_ways w a ss = record {
-  event = Raw.scalar [] Style.plain (Some a) None;
-  other_event = Raw.flow_sequence_start (Some a) None;
-  one = way (at.after_anchor w a) ss text [] _ _ refl refl refl;
-  other = way (at.after_anchor w a) ss Tok.flow_sequence_start [] _ _ refl refl refl;
-  two_events = λ e. cc;
-  soon = refl;
-}
+pub anchored_ways : (w : NodeContext) (a : List ℕ) → Ways (Goal.after_anchor w a) (Tok.scalar Style.plain []) Tok.flow_sequence_start
+anchored_ways w a ss = ways_over (way (Goal.after_anchor w a) ss text [] _ _ refl refl refl) (way (Goal.after_anchor w a) ss Tok.flow_sequence_start [] _ _ refl refl refl) (λ e. cc) refl
 
 -- A stream goes on in this way after the tokens taken and the events.
 goes_on_by : {T : Type 0} {g : Goal} {p : Reader T} {names : Names} {given : List (Ev × Position)} {token : Tok} (more : List Raw) {event : Raw} → (a : At g p names given) → Way g p.stack token (more ++ event ∷ [])
@@ -196,29 +114,29 @@ goes_apart {T} {g} {p} w right a known =
     apart_as (ap (λ n. two_that_come n (open_after [] (taken_toks p.tokens))) (known r.0) ∙ ap (two_that_come (next_at g p.stack)) a.stands.opened ∙ r.1) w a
 
 -- Where a node is read, the tokens leave one to come.
-node_comes : {T : Type 0} {w : NodeContext} {p : Reader T} {names : Names} {given : List (Ev × Position)} → At (at.node w) p names given → next_after other_next (taken_toks p.tokens) ≡ node_next
+node_comes : {T : Type 0} {w : NodeContext} {p : Reader T} {names : Names} {given : List (Ev × Position)} → At (Goal.node w) p names given → next_after other_next (taken_toks p.tokens) ≡ node_next
 node_comes {T} {w} {p} a = by a.stands.settled
   where
-    by : IsSettled (at.node w) p.stack (taken_toks p.tokens) (peeked_tok p.tokens) → next_after other_next (taken_toks p.tokens) ≡ node_next
+    by : IsSettled (Goal.node w) p.stack (taken_toks p.tokens) (peeked_tok p.tokens) → next_after other_next (taken_toks p.tokens) ≡ node_next
     by (as_tokens h) = h
     by (goes_on h c) = cc
     by (at_directive h d) = cc
 
-pub node_apart : {T : Type 0} {w : NodeContext} {p : Reader T} {names : Names} {given : List (Ev × Position)} → (a : At (at.node w) p names given) → GoesBeside (two_after (taken_toks p.tokens)) a
+pub node_apart : {T : Type 0} {w : NodeContext} {p : Reader T} {names : Names} {given : List (Ev × Position)} → (a : At (Goal.node w) p names given) → GoesBeside (two_after (taken_toks p.tokens)) a
 node_apart {T} {w} {p} a = apart_as (ap (λ n. two_that_come n (open_after [] (taken_toks p.tokens))) (node_comes a)) (node_ways w) a
 
-pub explicit_right : AreRight at.explicit Tok.stream_end Tok.document_start
+pub explicit_right : AreRight Goal.explicit Tok.stream_end Tok.document_start
 explicit_right [] f = (refl, refl)
 explicit_right (s ∷ ss) f = absurd f
 
 -- Where a document's end is certain, and a directive may not stand.
-pub after_goes_apart : {T : Type 0} {p : Reader T} {names : Names} {given : List (Ev × Position)} → (a : At at.after p names given) → IsKnown at.after p → StandsBeside DirectiveWithoutDocumentEnd a
+pub after_goes_apart : {T : Type 0} {p : Reader T} {names : Names} {given : List (Ev × Position)} → (a : At Goal.after p names given) → IsKnown Goal.after p → StandsBeside DirectiveWithoutDocumentEnd a
 after_goes_apart {T} {p} {names} {given} a known = (
   record {
     event = Raw.stream_end;
     other_event = Raw.document_start [];
-    one = goes_on_by (Raw.document_end ∷ []) a (way at.after p.stack Tok.stream_end [] _ _ refl refl refl);
-    other = goes_on_by (Raw.document_end ∷ []) a (way at.after p.stack Tok.document_start [] _ _ refl refl refl);
+    one = goes_on_by (Raw.document_end ∷ []) a (way Goal.after p.stack Tok.stream_end [] _ _ refl refl refl);
+    other = goes_on_by (Raw.document_end ∷ []) a (way Goal.after p.stack Tok.document_start [] _ _ refl refl refl);
     two_events = λ e. cc;
   },
   λ m begins. a.places to_last (token_at m Tok.stream_end ∷ []) ((Raw.document_end, m) ∷ []) (begins Tok.stream_end) (by_leaving _ refl (says refl (takes_last _ refl)), refl),

@@ -1,5 +1,4 @@
-use Rattle.std.proofs.Common.{sym, ◌∙◌}
-use Rattle.yaml_parser.proofs.NameLemmas.{empty_chars, nonempty_chars, string_length}
+use Rattle.yaml_parser.proofs.Answering.{empty_chars, nonempty_chars, string_length, sym, ◌∙◌}
 use Rattle.yaml_parser.proofs.names.declares_nothing.Goals as goal
 
 pub returns-then-is_empty-clause-yes : goal.returns-then-is_empty-clause-yes

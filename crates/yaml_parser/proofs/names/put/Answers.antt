@@ -1,4 +1,4 @@
-use Rattle.yaml_parser.proofs.NameLemmas.{put_text}
+use Rattle.yaml_parser.proofs.Answering.{put_text}
 use Rattle.yaml_parser.proofs.names.put.Goals as goal
 
 pub returns-in-Ok-clause-kept : goal.returns-in-Ok-clause-kept

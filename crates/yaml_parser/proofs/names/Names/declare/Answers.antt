@@ -1,7 +1,4 @@
-use Rattle.std.proofs.Common.{◌≡◌, ◌+◌, refl, sym, ap, ◌∙◌, arith}
-use Rattle.std.proofs.lemmas.Grind.{common_steps}
-use Rattle.defs_text.specs.Text.{string_chars}
-use Rattle.yaml_parser.specs.Named.{is_own}
+use Rattle.yaml_parser.proofs.Answering.{ap, arith, common_steps, is_own, refl, string_chars, sym, ◌+◌, ◌∙◌, ◌≡◌}
 use Rattle.yaml_parser.proofs.DirectiveLemmas.{has_declared, has_ignored, repeated_handle}
 use Rattle.yaml_parser.proofs.names.Names.declare.Goals as goal
 

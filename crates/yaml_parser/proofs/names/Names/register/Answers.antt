@@ -1,10 +1,4 @@
-use Rattle.std.proofs.Common.{◌≡◌, ◌+◌, Some, option_map, sym, ap, subst, ◌∙◌, if◌then◌else◌, arith}
-use Rattle.std.proofs.lemmas.Grind.{common_steps}
-use Rattle.std.specs.Prelude.{bytes_eq, string_bytes}
-use Rattle.std.specs.BTreeMap.{get_by_text}
-use Rattle.defs_text.specs.Text.{string_chars}
-use Rattle.defs_event.specs.Names.{with_anchor}
-use Rattle.yaml_parser.specs.Named.{IsNamed}
+use Rattle.yaml_parser.proofs.Answering.{ap, arith, bytes_eq, common_steps, get_by_text, if◌then◌else◌, IsNamed, option_map, Some, string_bytes, string_chars, subst, sym, with_anchor, ◌+◌, ◌∙◌, ◌≡◌}
 use Rattle.yaml_parser.proofs.names.Names.register.Goals as goal
 
 pub returns-clause-named : goal.returns-clause-named

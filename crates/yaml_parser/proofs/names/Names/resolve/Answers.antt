@@ -1,6 +1,4 @@
-use Rattle.std.proofs.Common.{sym, ap, ◌∙◌, Some, option_map}
-use Rattle.defs_text.specs.Text.{string_chars}
-use Rattle.yaml_parser.proofs.NameLemmas.{resolved_empty, resolved_nonempty, empty_chars, nonempty_chars, undeclared_resolves, string_length}
+use Rattle.yaml_parser.proofs.Answering.{ap, empty_chars, nonempty_chars, option_map, resolved_empty, resolved_nonempty, Some, string_chars, string_length, sym, undeclared_resolves, ◌∙◌}
 use Rattle.yaml_parser.proofs.names.Names.resolve.Goals as goal
 
 pub returns-then-is_empty : goal.returns-then-is_empty

@@ -1,7 +1,4 @@
-use Rattle.std.proofs.Common.{refl, sym, ap, ◌∙◌, Some}
-use Rattle.std.specs.Prelude.{bytes_eq, codes}
-use Rattle.defs_text.specs.Text.{string_chars}
-use Rattle.yaml_parser.proofs.NameLemmas.{undeclared_secondary, undeclared_primary, undeclared_other, secondary_is, primary_is, core_is}
+use Rattle.yaml_parser.proofs.Answering.{ap, bytes_eq, codes, core_is, primary_is, refl, secondary_is, Some, string_chars, sym, undeclared_other, undeclared_primary, undeclared_secondary, ◌∙◌}
 use Rattle.yaml_parser.proofs.names.Names.undeclared.Goals as goal
 
 pub returns-then-eq : goal.returns-then-eq

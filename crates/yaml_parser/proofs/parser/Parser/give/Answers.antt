@@ -1,10 +1,4 @@
-use Rattle.std.proofs.Common.{◌≡◌, Some, refl, sym, subst, ◌∙◌, option_map, true}
-use Rattle.std.specs.Option.{IfSome}
-use Rattle.yaml_parser.specs.Shown.{placed, all_placed}
-use Rattle.yaml_parser.specs.Held.{Holds}
-use Rattle.yaml_parser.specs.Pulls.{GivesEvent}
-use Rattle.yaml_parser.specs.Parsed.{parsed}
-use Rattle.yaml_parser.proofs.Parsing.{seen, given_holds, event_given, all_noted}
+use Rattle.yaml_parser.proofs.Answering.{all_noted, all_placed, event_given, given_holds, GivesEvent, Holds, IfSome, option_map, parsed, placed, refl, seen, Some, subst, sym, true, ◌∙◌, ◌≡◌}
 use Rattle.yaml_parser.proofs.parser.Parser.give.Goals as goal
 
 pub invariant_of-self : goal.invariant_of-self

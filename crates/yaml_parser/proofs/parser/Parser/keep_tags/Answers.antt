@@ -1,7 +1,4 @@
-use Rattle.std.proofs.Common.{◌∙◌, ap, sym}
-use Rattle.yaml_parser.specs.Shown.{all_placed}
-use Rattle.yaml_parser.specs.Parsed.{stays_steady, parsed}
-use Rattle.yaml_parser.proofs.Parsing.{seen, settings_hold}
+use Rattle.yaml_parser.proofs.Answering.{all_placed, ap, parsed, seen, settings_hold, stays_steady, sym, ◌∙◌}
 use Rattle.yaml_parser.proofs.parser.Parser.keep_tags.Goals as goal
 
 pub invariant_of-self : goal.invariant_of-self

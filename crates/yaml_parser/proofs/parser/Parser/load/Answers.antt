@@ -1,12 +1,6 @@
-use Rattle.std.proofs.Common.{◌≡◌, refl, sym, subst, ◌∙◌, [], true, false, Err}
-use Rattle.defs_event.specs.Event.{Ev}
+use Rattle.yaml_parser.proofs.Answering.{[], end_run, ends, ends_well, Err, Ev, ev_of, false, faults, goes_on, is_document_start, is_stream_end, Loads, loads_err, misplaced_run, misplaces, next_document, no_document, one_document, parsed, refl, start_run, starts_inside, subst, sym, true, ◌∙◌, ◌≡◌}
+use Rattle.yaml_parser.proofs.LoadSteps.{refuses}
 use Rattle.defs_event.specs.Push as run
-use Rattle.defs_event.specs.Push.{load_from, ends}
-use Rattle.yaml_parser.specs.View.{no_document}
-use Rattle.yaml_parser.specs.Shown.{ev_of}
-use Rattle.yaml_parser.specs.Parsed.{is_stream_end, is_document_start, parsed}
-use Rattle.yaml_parser.specs.Loads.{Loads}
-use Rattle.yaml_parser.proofs.LoadSteps.{goes_on, faults, misplaces, refuses, ends_well, one_document, next_document, loads_err, misplaced_run, end_run, start_run, starts_inside}
 use Rattle.yaml_parser.proofs.parser.Parser.load.Goals as goal
 
 pub documents-preserved : goal.documents-preserved

@@ -1,7 +1,4 @@
-use Rattle.std.proofs.Common.{◌≡◌}
-use Rattle.defs_event.specs.Push.{between}
-use Rattle.yaml_parser.specs.Loads.{RunsOn}
-use Rattle.yaml_parser.specs.Parsed.{parsed}
+use Rattle.yaml_parser.proofs.Common.{between, parsed, RunsOn, ◌≡◌}
 use Rattle.yaml_parser.proofs.parser.Parser.load.Given as goal
 
 abbrev pub invariant-documents : goal.invariant-documents

@@ -1,6 +1,4 @@
-use Rattle.std.proofs.Common.{◌≡◌, sym, ◌∙◌, true, false, arith}
-use Rattle.yaml_parser.specs.Parsed.{is_document_end}
-use Rattle.yaml_parser.proofs.LoadSteps.{goes_on, push_stops, inside_run, last_run, end_is_not, no_end, stays_inside}
+use Rattle.yaml_parser.proofs.Answering.{arith, end_is_not, false, goes_on, inside_run, is_document_end, last_run, no_end, push_stops, stays_inside, sym, true, ◌∙◌, ◌≡◌}
 use Rattle.yaml_parser.proofs.parser.Parser.load_document.Goals as goal
 
 pub events-smaller : goal.events-smaller

@@ -1,8 +1,4 @@
-use Rattle.std.proofs.Common.{◌≡◌, ◌≤◌, Bool, None}
-use Rattle.defs_event.specs.Push.{inside}
-use Rattle.yaml_parser.specs.Nests.{IsInside}
-use Rattle.yaml_parser.specs.Parsed.{Parsed, parsed}
-use Rattle.yaml_parser.specs.Loads.{RunsOn}
+use Rattle.yaml_parser.proofs.Common.{Bool, inside, IsInside, None, Parsed, parsed, RunsOn, ◌≡◌, ◌≤◌}
 use Rattle.yaml_parser.proofs.parser.Parser.load_document.Given as goal
 
 abbrev pub invariant-events : goal.invariant-events

@@ -1,9 +1,6 @@
-use Rattle.std.proofs.Common.{refl, sym, ◌∙◌, true, false}
+use Rattle.yaml_parser.proofs.Answering.{begins, ends, ev_of, false, faults, goes_on, parsed, refl, starts_err, sym, true, ◌∙◌}
+use Rattle.yaml_parser.proofs.LoadSteps.{refuses}
 use Rattle.defs_event.specs.Push as run
-use Rattle.defs_event.specs.Push.{load_from, ends}
-use Rattle.yaml_parser.specs.Shown.{ev_of}
-use Rattle.yaml_parser.specs.Parsed.{parsed}
-use Rattle.yaml_parser.proofs.LoadSteps.{begins, goes_on, faults, refuses, starts_err}
 use Rattle.yaml_parser.proofs.parser.Parser.load_start.Goals as goal
 
 pub returns-then-has_started-clause-starts : goal.returns-then-has_started-clause-starts

@@ -1,8 +1,4 @@
-use Rattle.std.proofs.Common.{sym, subst, ◌∙◌, option_map, Some}
-use Rattle.yaml_parser.specs.Shown.{placed, all_placed}
-use Rattle.yaml_parser.specs.Parsed.{read_so, parsed}
-use Rattle.yaml_parser.specs.Pulls.{Waits, GivesFault}
-use Rattle.yaml_parser.proofs.Parsing.{seen, waits_still, fault_misplaced, fault_holds, fault_given, next_holds, next_waits, looks_err}
+use Rattle.yaml_parser.proofs.Answering.{all_placed, fault_given, fault_holds, fault_misplaced, GivesFault, looks_err, next_holds, next_waits, option_map, parsed, placed, read_so, seen, Some, subst, sym, Waits, waits_still, ◌∙◌}
 use Rattle.yaml_parser.proofs.parser.Parser.look.Goals as goal
 
 pub returns-then-is_some-clause-looks : goal.returns-then-is_some-clause-looks

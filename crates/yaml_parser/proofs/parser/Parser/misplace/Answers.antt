@@ -1,7 +1,4 @@
-use Rattle.std.proofs.Common.{◌∙◌, ap, option_map}
-use Rattle.yaml_parser.specs.Shown.{placed, all_placed}
-use Rattle.yaml_parser.specs.Parsed.{parsed}
-use Rattle.yaml_parser.proofs.Parsing.{misplaced_holds}
+use Rattle.yaml_parser.proofs.Answering.{all_placed, ap, misplaced_holds, option_map, parsed, placed, ◌∙◌}
 use Rattle.yaml_parser.proofs.parser.Parser.misplace.Goals as goal
 
 pub invariant_of-self : goal.invariant_of-self

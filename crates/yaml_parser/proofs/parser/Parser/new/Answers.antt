@@ -1,6 +1,4 @@
-use Rattle.std.proofs.Common.{ap}
-use Rattle.yaml_parser.specs.Shown.{all_placed}
-use Rattle.yaml_parser.proofs.Parsing.{fresh_holds}
+use Rattle.yaml_parser.proofs.Answering.{all_placed, ap, fresh_holds}
 use Rattle.yaml_parser.proofs.parser.Parser.new.Goals as goal
 
 pub invariant_of-result : goal.invariant_of-result

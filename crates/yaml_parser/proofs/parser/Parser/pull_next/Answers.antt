@@ -1,12 +1,4 @@
-use Rattle.std.proofs.Common.{◌≡◌, sym, subst, option_map, is_some, Some, Err, true, false}
-use Rattle.std.specs.Option.{IfSome}
-use Rattle.std.specs.Result.{IfErr}
-use Rattle.yaml_parser.specs.Shown.{placed, all_placed}
-use Rattle.yaml_parser.specs.Parsed.{read_so, parsed}
-use Rattle.yaml_parser.specs.Held.{Continues}
-use Rattle.yaml_parser.specs.View.{fault_kept}
-use Rattle.yaml_parser.specs.Pulls.{Pulls, GivesFault, GivesEvent, answer_of}
-use Rattle.yaml_parser.proofs.Parsing.{seen, fault_misplaced, fault_holds, fault_given, given_at_once, none_waits, all_noted}
+use Rattle.yaml_parser.proofs.Answering.{all_noted, all_placed, answer_of, Continues, Err, false, fault_given, fault_holds, fault_kept, fault_misplaced, given_at_once, GivesEvent, GivesFault, IfErr, IfSome, is_some, none_waits, option_map, parsed, placed, Pulls, read_so, seen, Some, subst, sym, true, ◌≡◌}
 use Rattle.yaml_parser.proofs.parser.Parser.pull_next.Goals as goal
 
 pub returns-in-Some-clause-pulls : goal.returns-in-Some-clause-pulls

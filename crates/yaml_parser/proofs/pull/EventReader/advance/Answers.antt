@@ -1,4 +1,4 @@
-use Rattle.yaml_parser.proofs.Holding.{pulled, failed, advances_err}
+use Rattle.yaml_parser.proofs.Answering.{advances_err, failed, pulled}
 use Rattle.yaml_parser.proofs.pull.EventReader.advance.Goals as goal
 
 pub returns-clause-advances : goal.returns-clause-advances

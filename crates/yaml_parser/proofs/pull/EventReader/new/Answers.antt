@@ -1,6 +1,4 @@
-use Rattle.std.proofs.Common.{ap, ◌∙◌}
-use Rattle.yaml_parser.specs.declared.reader.Reader.{Reader}
-use Rattle.yaml_parser.proofs.Holding.{begun}
+use Rattle.yaml_parser.proofs.Answering.{ap, begun, Reader, ◌∙◌}
 use Rattle.yaml_parser.proofs.pull.EventReader.new.Goals as goal
 
 pub returns-clause-held : goal.returns-clause-held

@@ -1,6 +1,4 @@
-use Rattle.std.proofs.Common.{inr, subst, refl, ap, ◌∙◌}
-use Rattle.yaml_parser.specs.Held.{IsHeld}
-use Rattle.yaml_parser.proofs.Holding.{pulled, failed, failed_as, keeps, kept_again}
+use Rattle.yaml_parser.proofs.Answering.{ap, failed, failed_as, inr, IsHeld, keeps, kept_again, pulled, refl, subst, ◌∙◌}
 use Rattle.yaml_parser.proofs.pull.EventReader.next.Goals as goal
 
 pub returns-in-Some-clause-continues : goal.returns-in-Some-clause-continues

@@ -1,10 +1,4 @@
-use Rattle.std.proofs.Common.{◌≡◌, refl, sym, ◌∙◌, ◌⊎◌}
-use Rattle.defs_text.specs.Text.{string_chars}
-use Rattle.defs_token.specs.Token.{Tok}
-use Rattle.yaml_tokens.specs.Shown.{tok_of}
-use Rattle.yaml_parser.proofs.Steps.{looked, if_some_at}
-use Rattle.yaml_parser.proofs.Arms.{faulted_as, wrote}
-use Rattle.yaml_parser.proofs.NodeArms.{taken_with, alias_text, alias_taken, alias_unknown}
+use Rattle.yaml_parser.proofs.Answering.{alias_taken, alias_text, alias_unknown, faulted_as, if_some_at, looked, refl, string_chars, sym, taken_with, Tok, tok_of, wrote, ◌∙◌, ◌≡◌, ◌⊎◌}
 use Rattle.yaml_parser.proofs.reader.Reader.alias.Goals as goal
 
 pub returns-in-Err-clause-answers : goal.returns-in-Err-clause-answers

@@ -1,8 +1,5 @@
-use Rattle.std.proofs.Common.{refl}
+use Rattle.yaml_parser.proofs.Answering.{block_flow, breaks_none, not_as, pending_same, refl, stay, stays}
 use Rattle.model_parser.specs.declared.context.NodeContext.TheVariants as context
-use Rattle.model_parser.proofs.Nodes as turn
-use Rattle.yaml_parser.proofs.Arms.{stays, stay, not_as}
-use Rattle.yaml_parser.proofs.NodeArms.{pending_same, breaks_none}
 use Rattle.yaml_parser.proofs.reader.Reader.block_content.Goals as goal
 
 pub returns-in-BlockSequenceStart-clause-answers : goal.returns-in-BlockSequenceStart-clause-answers
@@ -12,4 +9,4 @@ pub returns-in-BlockMappingStart-clause-answers : goal.returns-in-BlockMappingSt
 returns-in-BlockMappingStart-clause-answers g c = λ o names given has h. c.block_mapping.ensures.answers o names given has h
 
 pub returns-in_default-clause-answers : goal.returns-in_default-clause-answers
-returns-in_default-clause-answers g c = λ o names given has h. c.flow_content.ensures.answers o names given has (stays c.requires stay (λ t e. turn.block_flow _ o t (not_as c.in_default.not-BlockSequenceStart e) (not_as c.in_default.not-BlockMappingStart e)) refl (pending_same context.Block context.Flow names o h.pending) (λ o. tt) (breaks_none context.Block context.Flow o) h)
+returns-in_default-clause-answers g c = λ o names given has h. c.flow_content.ensures.answers o names given has (stays c.requires stay (λ t e. block_flow _ o t (not_as c.in_default.not-BlockSequenceStart e) (not_as c.in_default.not-BlockMappingStart e)) refl (pending_same context.Block context.Flow names o h.pending) (λ o. tt) (breaks_none context.Block context.Flow o) h)

@@ -1,17 +1,11 @@
-use Rattle.std.proofs.Common.{◌≡◌, refl, true}
-use Rattle.model_parser.specs.Kinds.{ends_part}
-use Rattle.model_parser.specs.Goal as at
-use Rattle.model_parser.proofs.First as first
-use Rattle.model_parser.proofs.Block as turn
-use Rattle.model_parser.proofs.Settling.{mapping_under}
-use Rattle.yaml_parser.proofs.Arms.{leaves, stays, stay, answers_written, answers_err, one_of, as_kind, under_no_colon, names_nothing}
+use Rattle.yaml_parser.proofs.Answering.{answers_err, answers_written, as_kind, ends_part, Goal, leaves, mapping_under, names_nothing, not_part, one_of, part_empty, part_has_node, refl, stay, stays, true, under_no_colon, ◌≡◌}
 use Rattle.yaml_parser.proofs.reader.Reader.block_mapping_part.Goals as goal
 
 pub returns-in_err-next-clause-answers : goal.returns-in_err-next-clause-answers
-returns-in_err-next-clause-answers g c = λ names given h. answers_err c.peek.new.self given c.from_residual.result _ c.peek.new.slot c.from_residual.ensures.1 (c.in_err-next.ensures.err at.part refl names given h)
+returns-in_err-next-clause-answers g c = λ names given h. answers_err c.peek.new.self given c.from_residual.result _ c.peek.new.slot c.from_residual.ensures.1 (c.in_err-next.ensures.err Goal.part refl names given h)
 
 pub returns-in-Key-clause-answers : goal.returns-in-Key-clause-answers
-returns-in-Key-clause-answers g c = λ names given h. answers_written _ given c.nothing_written.new.slot.next c.nothing_written.ensures (leaves _ c.in_ok-next.ensures.peeked stay (λ t e. turn.part_empty _ t (as_kind ends_part (one_of (λ k. ends_part k ≡ true) refl refl refl c.in-Key.is) e)) (names_nothing refl refl refl) (λ b k. refl) c.mark.ensures (under_no_colon _ (mapping_under _ (c.in_ok-next.ensures.at at.part refl names given h).stands.fits)) refl (c.in_ok-next.ensures.at at.part refl names given h))
+returns-in-Key-clause-answers g c = λ names given h. answers_written _ given c.nothing_written.new.slot.next c.nothing_written.ensures (leaves _ c.in_ok-next.ensures.peeked stay (λ t e. part_empty _ t (as_kind ends_part (one_of (λ k. ends_part k ≡ true) refl refl refl c.in-Key.is) e)) (names_nothing refl refl refl) (λ b k. refl) c.mark.ensures (under_no_colon _ (mapping_under _ (c.in_ok-next.ensures.at Goal.part refl names given h).stands.fits)) refl (c.in_ok-next.ensures.at Goal.part refl names given h))
 
 pub returns-in_default-clause-answers : goal.returns-in_default-clause-answers
-returns-in_default-clause-answers g c = λ names given h. c.node.ensures.answers names given (stays c.in_ok-next.ensures.peeked stay (λ t e. turn.part_has_node _ t (as_kind ends_part (first.not_part _ c.in_default.not-Key c.in_default.not-Value c.in_default.not-BlockEnd) e)) refl tt (λ o. tt) refl (c.in_ok-next.ensures.at at.part refl names given h))
+returns-in_default-clause-answers g c = λ names given h. c.node.ensures.answers names given (stays c.in_ok-next.ensures.peeked stay (λ t e. part_has_node _ t (as_kind ends_part (not_part _ c.in_default.not-Key c.in_default.not-Value c.in_default.not-BlockEnd) e)) refl tt (λ o. tt) refl (c.in_ok-next.ensures.at Goal.part refl names given h))

@@ -1,13 +1,4 @@
-use Rattle.std.proofs.Common.{refl, ap}
-use Rattle.model_parser.specs.Kinds.{kind_of}
-use Rattle.model_parser.proofs.Document as turn
-use Rattle.yaml_parser.proofs.Arms.{push_after, answers_err, not_as, wrote, faulted_as}
-use Rattle.yaml_parser.proofs.Ends.{refuses_for}
-use Rattle.yaml_parser.proofs.Says.{says_directed}
-use Rattle.yaml_parser.proofs.Ways.{goes_apart, directed_ways}
-use Rattle.yaml_parser.proofs.Nesting.{directed_outside}
-use Rattle.yaml_tokens.specs.declared.problem.Problem.TheVariants.{DocumentStartToken}
-use Rattle.yaml_parser.proofs.DocumentArms.{directed_begins, directives_begin, not_directive}
+use Rattle.yaml_parser.proofs.Answering.{answers_err, ap, directed_begins, directed_outside, directed_refuses, directed_ways, directives_begin, DocumentStartToken, faulted_as, goes_apart, kind_of, not_as, not_directive, push_after, refl, refuses_for, says_directed, wrote}
 use Rattle.yaml_parser.proofs.reader.Reader.directed_document.Goals as goal
 
 pub returns-in_err-next-clause-answers : goal.returns-in_err-next-clause-answers
@@ -21,5 +12,5 @@ returns-in_ok-push-in-DocumentStart-clause-answers g c = λ names given h.
 pub returns-in_default-clause-answers : goal.returns-in_default-clause-answers
 returns-in_default-clause-answers g c = λ names given h.
     let d = c.in_ok-next.ensures.at names given (directives_begin c.args.kind c.requires.looks c.requires.directive refl refl c.start_document.ensures.keep c.start_document.ensures.named c.start_document.ensures.own h) in
-    faulted_as _ given c.halt.ensures (refuses_for DocumentStartToken refl refl c.mark.ensures c.in_ok-next.ensures.peeked.0 (λ t e. turn.directed_refuses _ d.0 t (not_as c.in_ok-next.ensures.peeked.1 e) (not_as c.in_ok-next.ensures.peeked.2 e) (not_as c.in_default.not-DocumentStart e))
+    faulted_as _ given c.halt.ensures (refuses_for DocumentStartToken refl refl c.mark.ensures c.in_ok-next.ensures.peeked.0 (λ t e. directed_refuses _ d.0 t (not_as c.in_ok-next.ensures.peeked.1 e) (not_as c.in_ok-next.ensures.peeked.2 e) (not_as c.in_default.not-DocumentStart e))
     (λ a t e. (directed_outside a, λ same. absurd (not_as c.in_default.not-DocumentStart e (ap kind_of same)))) (λ a no. goes_apart (directed_ways d.0) (λ ss f. (refl, refl)) a) (says_directed d.0 (not_directive _ c.in_ok-next.ensures.peeked.1 c.in_ok-next.ensures.peeked.2)) d.1)

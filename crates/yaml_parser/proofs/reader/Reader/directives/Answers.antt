@@ -1,12 +1,9 @@
-use Rattle.std.proofs.Common.{refl, arith}
-use Rattle.model_parser.specs.Goal as at
-use Rattle.yaml_parser.proofs.Arms.{on_err}
-use Rattle.yaml_parser.proofs.DocumentArms.{directing_on}
+use Rattle.yaml_parser.proofs.Answering.{arith, directing_on, Goal, on_err, refl}
 use Rattle.yaml_parser.proofs.reader.Reader.directives.Goals as goal
 
 pub returns-in_err-next-clause-err : goal.returns-in_err-next-clause-err
 returns-in_err-next-clause-err g c = on_err _ c.from_residual.result
-    (λ names given h. let d = c.directives.invariant.at names given h in c.in_err-next.ensures.err (at.directed d.read) refl names given d.here)
+    (λ names given h. let d = c.directives.invariant.at names given h in c.in_err-next.ensures.err (Goal.directed d.read) refl names given d.here)
 
 pub returns-in_err-version-in-VersionDirective-clause-err : goal.returns-in_err-version-in-VersionDirective-clause-err
 returns-in_err-version-in-VersionDirective-clause-err g c = on_err _ c.from_residual-in_err-version-in-VersionDirective.result
@@ -34,6 +31,6 @@ pub returns-in_default : goal.returns-in_default
 returns-in_default g c = record {
   peeked = (c.in_ok-next.ensures.peeked, c.in_default.not-VersionDirective, c.in_default.not-TagDirective);
   bounds = record { input = record { keeping = cc; start = cc }; bound = omega (arith, c.in_ok-next.ensures.bounds.bound, c.directives.invariant.work) };
-  at = λ names given h. let d = c.directives.invariant.at names given h in (d.read, c.in_ok-next.ensures.at (at.directed d.read) refl names given d.here);
+  at = λ names given h. let d = c.directives.invariant.at names given h in (d.read, c.in_ok-next.ensures.at (Goal.directed d.read) refl names given d.here);
   err = tt;
 }

@@ -1,9 +1,4 @@
-use Rattle.std.proofs.Common.{◌≤◌, List, false}
-use Rattle.defs_text.specs.Position.{Position}
-use Rattle.defs_event.specs.Event.{Ev}
-use Rattle.defs_event.specs.Names.{Names}
-use Rattle.yaml_parser.specs.Directing.{Directing}
-use Rattle.yaml_parser.specs.Work.{KeepsInput, work}
+use Rattle.yaml_parser.proofs.Common.{Directing, Ev, false, KeepsInput, List, Names, Position, work, ◌≤◌}
 use Rattle.yaml_parser.proofs.reader.Reader.directives.Given as goal
 
 abbrev pub invariant-directives : goal.invariant-directives

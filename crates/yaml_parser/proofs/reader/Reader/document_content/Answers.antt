@@ -1,17 +1,11 @@
-use Rattle.std.proofs.Common.{◌≡◌, refl, true}
-use Rattle.model_parser.specs.Kinds.{ends_document, ends_content, is_directive}
-use Rattle.model_parser.specs.Goal as at
-use Rattle.model_parser.proofs.First as first
-use Rattle.model_parser.proofs.Document as turn
-use Rattle.yaml_parser.proofs.Arms.{leaves, stays, stay, stay_push, answers_written, answers_err, one_of_five, as_kind, names_nothing}
-use Rattle.yaml_parser.proofs.DocumentArms.{not_directive}
+use Rattle.yaml_parser.proofs.Answering.{answers_err, answers_written, as_kind, content_empty, content_node, ends_content, ends_document, Goal, is_directive, leaves, names_nothing, not_directive, not_document, one_of_five, refl, stay, stay_push, stays, true, ◌≡◌}
 use Rattle.yaml_parser.proofs.reader.Reader.document_content.Goals as goal
 
 pub returns-in_err-next-clause-answers : goal.returns-in_err-next-clause-answers
-returns-in_err-next-clause-answers g c = λ names given h. answers_err c.peek.new.self given c.from_residual.result _ c.peek.new.slot c.from_residual.ensures.1 (c.in_err-next.ensures.err at.content refl names given h)
+returns-in_err-next-clause-answers g c = λ names given h. answers_err c.peek.new.self given c.from_residual.result _ c.peek.new.slot c.from_residual.ensures.1 (c.in_err-next.ensures.err Goal.content refl names given h)
 
 pub returns-in-VersionDirective-clause-answers : goal.returns-in-VersionDirective-clause-answers
-returns-in-VersionDirective-clause-answers g c = λ names given h. answers_written c.push.new.self given c.nothing_written.new.slot.next c.nothing_written.ensures (leaves _ c.in_ok-next.ensures.peeked (stay_push stay c.in_ok-push.ensures.stayed) (λ t e. turn.content_empty _ t (as_kind ends_content (one_of_five (λ k. ends_content k ≡ true) refl refl refl refl refl c.in-VersionDirective.is) e)) (names_nothing refl refl refl) (λ b k. refl) c.mark.ensures (λ o. tt) refl (c.in_ok-next.ensures.at at.content refl names given h))
+returns-in-VersionDirective-clause-answers g c = λ names given h. answers_written c.push.new.self given c.nothing_written.new.slot.next c.nothing_written.ensures (leaves _ c.in_ok-next.ensures.peeked (stay_push stay c.in_ok-push.ensures.stayed) (λ t e. content_empty _ t (as_kind ends_content (one_of_five (λ k. ends_content k ≡ true) refl refl refl refl refl c.in-VersionDirective.is) e)) (names_nothing refl refl refl) (λ b k. refl) c.mark.ensures (λ o. tt) refl (c.in_ok-next.ensures.at Goal.content refl names given h))
 
 pub returns-in_default-clause-answers : goal.returns-in_default-clause-answers
-returns-in_default-clause-answers g c = λ names given h. c.node.ensures.answers names given (stays c.in_ok-next.ensures.peeked (stay_push stay c.in_ok-push.ensures.stayed) (λ t e. turn.content_node _ t (as_kind ends_document (first.not_document _ c.in_default.not-DocumentStart c.in_default.not-DocumentEnd c.in_default.not-StreamEnd) e) (as_kind is_directive (not_directive _ c.in_default.not-VersionDirective c.in_default.not-TagDirective) e)) refl tt (λ o. tt) refl (c.in_ok-next.ensures.at at.content refl names given h))
+returns-in_default-clause-answers g c = λ names given h. c.node.ensures.answers names given (stays c.in_ok-next.ensures.peeked (stay_push stay c.in_ok-push.ensures.stayed) (λ t e. content_node _ t (as_kind ends_document (not_document _ c.in_default.not-DocumentStart c.in_default.not-DocumentEnd c.in_default.not-StreamEnd) e) (as_kind is_directive (not_directive _ c.in_default.not-VersionDirective c.in_default.not-TagDirective) e)) refl tt (λ o. tt) refl (c.in_ok-next.ensures.at Goal.content refl names given h))

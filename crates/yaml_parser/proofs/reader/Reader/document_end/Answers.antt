@@ -1,24 +1,14 @@
-use Rattle.std.proofs.Common.{◌≡◌, refl, false, true}
-use Rattle.model_parser.specs.Kinds.{ends_document, is_directive}
-use Rattle.model_parser.specs.Goal as at
-use Rattle.model_parser.proofs.Document as turn
-use Rattle.yaml_parser.proofs.Arms.{gives, leaves, stay, stay_push, push_after, answers_err, either, as_kind, not_as, wrote, faulted_as, names_nothing}
-use Rattle.yaml_parser.proofs.Ends.{refuses}
-use Rattle.yaml_parser.proofs.Says.{says_after}
-use Rattle.yaml_parser.proofs.Ways.{after_goes_apart}
-use Rattle.yaml_parser.proofs.DocumentArms.{not_directive}
-use Rattle.yaml_parser.specs.Blames.{fits}
-use Rattle.yaml_tokens.specs.declared.problem.Problem.TheVariants.{DirectiveWithoutDocumentEnd}
+use Rattle.yaml_parser.proofs.Answering.{after_goes_apart, after_marked, after_refuses, after_unmarked, answers_err, as_kind, DirectiveWithoutDocumentEnd, either, ends_document, false, faulted_as, fits, gives, Goal, is_directive, leaves, names_nothing, not_as, not_directive, push_after, refl, refuses, says_after, stay, stay_push, true, wrote, ◌≡◌}
 use Rattle.yaml_parser.proofs.reader.Reader.document_end.Goals as goal
 
 pub returns-in_err-next-clause-answers : goal.returns-in_err-next-clause-answers
-returns-in_err-next-clause-answers g c = λ names given h. answers_err c.peek.new.self given c.from_residual.result _ c.peek.new.slot c.from_residual.ensures.1 (c.in_err-next.ensures.err at.after refl names given h)
+returns-in_err-next-clause-answers g c = λ names given h. answers_err c.peek.new.self given c.from_residual.result _ c.peek.new.slot c.from_residual.ensures.1 (c.in_err-next.ensures.err Goal.after refl names given h)
 
 pub returns-in_ok-push-in-DocumentEnd-clause-answers : goal.returns-in_ok-push-in-DocumentEnd-clause-answers
-returns-in_ok-push-in-DocumentEnd-clause-answers g c = λ names given h. wrote _ given c.write.ensures (gives _ c.in_ok-next.ensures.peeked c.in-DocumentEnd.is refl c.skip-mark.ensures.mark (push_after c.skip-mark.ensures.took c.in_ok-push-in-DocumentEnd.ensures.stayed) (turn.after_marked _) (names_nothing refl refl refl) (λ b k. refl) (λ o. tt) refl refl (c.in_ok-next.ensures.at at.after refl names given h))
+returns-in_ok-push-in-DocumentEnd-clause-answers g c = λ names given h. wrote _ given c.write.ensures (gives _ c.in_ok-next.ensures.peeked c.in-DocumentEnd.is refl c.skip-mark.ensures.mark (push_after c.skip-mark.ensures.took c.in_ok-push-in-DocumentEnd.ensures.stayed) (after_marked _) (names_nothing refl refl refl) (λ b k. refl) (λ o. tt) refl refl (c.in_ok-next.ensures.at Goal.after refl names given h))
 
 pub returns-in-VersionDirective-clause-answers : goal.returns-in-VersionDirective-clause-answers
-returns-in-VersionDirective-clause-answers g c = λ names given h. faulted_as _ given c.halt.ensures (refuses DirectiveWithoutDocumentEnd refl (either (λ k. fits DirectiveWithoutDocumentEnd k ≡ true) refl refl c.in-VersionDirective.is) c.mark.ensures c.in_ok-next.ensures.peeked (λ t e. turn.after_refuses _ t (as_kind ends_document (either (λ k. ends_document k ≡ false) refl refl c.in-VersionDirective.is) e)) (λ _ _ _ _. tt) after_goes_apart (says_after (either (λ k. is_directive k ≡ true) refl refl c.in-VersionDirective.is)) (c.in_ok-next.ensures.at at.after refl names given h))
+returns-in-VersionDirective-clause-answers g c = λ names given h. faulted_as _ given c.halt.ensures (refuses DirectiveWithoutDocumentEnd refl (either (λ k. fits DirectiveWithoutDocumentEnd k ≡ true) refl refl c.in-VersionDirective.is) c.mark.ensures c.in_ok-next.ensures.peeked (λ t e. after_refuses _ t (as_kind ends_document (either (λ k. ends_document k ≡ false) refl refl c.in-VersionDirective.is) e)) (λ _ _ _ _. tt) after_goes_apart (says_after (either (λ k. is_directive k ≡ true) refl refl c.in-VersionDirective.is)) (c.in_ok-next.ensures.at Goal.after refl names given h))
 
 pub returns-in_ok-push-in_default-clause-answers : goal.returns-in_ok-push-in_default-clause-answers
-returns-in_ok-push-in_default-clause-answers g c = λ names given h. wrote _ given c.write-in_default.ensures (leaves _ c.in_ok-next.ensures.peeked (stay_push stay c.in_ok-push-in_default.ensures.stayed) (λ t e. turn.after_unmarked _ t (not_as c.in_default.not-DocumentEnd e) (as_kind is_directive (not_directive _ c.in_default.not-VersionDirective c.in_default.not-TagDirective) e)) (names_nothing refl refl refl) (λ b k. refl) c.mark-in_default.ensures (λ o. tt) refl (c.in_ok-next.ensures.at at.after refl names given h))
+returns-in_ok-push-in_default-clause-answers g c = λ names given h. wrote _ given c.write-in_default.ensures (leaves _ c.in_ok-next.ensures.peeked (stay_push stay c.in_ok-push-in_default.ensures.stayed) (λ t e. after_unmarked _ t (not_as c.in_default.not-DocumentEnd e) (as_kind is_directive (not_directive _ c.in_default.not-VersionDirective c.in_default.not-TagDirective) e)) (names_nothing refl refl refl) (λ b k. refl) c.mark-in_default.ensures (λ o. tt) refl (c.in_ok-next.ensures.at Goal.after refl names given h))

@@ -1,13 +1,4 @@
-use Rattle.std.proofs.Common.{refl, ap}
-use Rattle.model_parser.specs.Kinds.{kind_of}
-use Rattle.model_parser.proofs.Document as turn
-use Rattle.yaml_parser.proofs.Arms.{push_after, not_as, wrote, faulted_as}
-use Rattle.yaml_parser.proofs.Ends.{refuses_for}
-use Rattle.yaml_parser.proofs.Says.{says_explicit}
-use Rattle.yaml_parser.proofs.Ways.{goes_apart, explicit_ways, explicit_right}
-use Rattle.yaml_parser.proofs.Nesting.{explicit_outside}
-use Rattle.yaml_tokens.specs.declared.problem.Problem.TheVariants.{DocumentStartToken}
-use Rattle.yaml_parser.proofs.DocumentArms.{explicit_begins, stream_ends}
+use Rattle.yaml_parser.proofs.Answering.{ap, DocumentStartToken, explicit_begins, explicit_outside, explicit_refuses, explicit_right, explicit_ways, faulted_as, goes_apart, kind_of, not_as, push_after, refl, refuses_for, says_explicit, stream_ends, wrote}
 use Rattle.yaml_parser.proofs.reader.Reader.end_or_document.Goals as goal
 
 pub returns-in-StreamEnd-clause-answers : goal.returns-in-StreamEnd-clause-answers
@@ -19,5 +10,5 @@ returns-in_ok-push-in-DocumentStart-clause-answers g c = λ names given h.
 
 pub returns-in_default-clause-answers : goal.returns-in_default-clause-answers
 returns-in_default-clause-answers g c = λ names given h.
-    faulted_as _ given c.halt.ensures (refuses_for DocumentStartToken refl refl c.mark.ensures c.requires (λ t e. turn.explicit_refuses _ t (not_as c.in_default.not-StreamEnd e) (not_as c.in_default.not-DocumentStart e))
+    faulted_as _ given c.halt.ensures (refuses_for DocumentStartToken refl refl c.mark.ensures c.requires (λ t e. explicit_refuses _ t (not_as c.in_default.not-StreamEnd e) (not_as c.in_default.not-DocumentStart e))
     (λ a t e. (explicit_outside a, λ same. absurd (not_as c.in_default.not-DocumentStart e (ap kind_of same)))) (λ a no. goes_apart explicit_ways explicit_right a) says_explicit h)

@@ -1,16 +1,11 @@
-use Rattle.std.proofs.Common.{◌≡◌, refl, true}
-use Rattle.model_parser.specs.Kinds.{ends_part, ends_indentless_entry}
-use Rattle.model_parser.specs.Goal as at
-use Rattle.model_parser.proofs.First as first
-use Rattle.model_parser.proofs.Block as turn
-use Rattle.yaml_parser.proofs.Arms.{leaves, stays, stay, stay_push, answers_written, answers_err, one_of_four, as_kind, not_as, names_nothing}
+use Rattle.yaml_parser.proofs.Answering.{answers_err, answers_written, as_kind, ends_indentless_entry, ends_part, Goal, indentless_entry_empty, indentless_entry_node, leaves, names_nothing, not_as, not_part, one_of_four, refl, stay, stay_push, stays, true, ◌≡◌}
 use Rattle.yaml_parser.proofs.reader.Reader.indentless_sequence_item.Goals as goal
 
 pub returns-in_err-next-clause-answers : goal.returns-in_err-next-clause-answers
-returns-in_err-next-clause-answers g c = λ names given h. answers_err c.peek.new.self given c.from_residual.result _ c.peek.new.slot c.from_residual.ensures.1 (c.in_err-next.ensures.err at.indentless_entry refl names given h)
+returns-in_err-next-clause-answers g c = λ names given h. answers_err c.peek.new.self given c.from_residual.result _ c.peek.new.slot c.from_residual.ensures.1 (c.in_err-next.ensures.err Goal.indentless_entry refl names given h)
 
 pub returns-in-BlockEntry-clause-answers : goal.returns-in-BlockEntry-clause-answers
-returns-in-BlockEntry-clause-answers g c = λ names given h. answers_written c.push.new.self given c.nothing_written.new.slot.next c.nothing_written.ensures (leaves _ c.in_ok-next.ensures.peeked (stay_push stay c.in_ok-push.ensures.stayed) (λ t e. turn.indentless_entry_empty _ t (as_kind ends_indentless_entry (one_of_four (λ k. ends_indentless_entry k ≡ true) refl refl refl refl c.in-BlockEntry.is) e)) (names_nothing refl refl refl) (λ b k. refl) c.mark.ensures (λ o. tt) refl (c.in_ok-next.ensures.at at.indentless_entry refl names given h))
+returns-in-BlockEntry-clause-answers g c = λ names given h. answers_written c.push.new.self given c.nothing_written.new.slot.next c.nothing_written.ensures (leaves _ c.in_ok-next.ensures.peeked (stay_push stay c.in_ok-push.ensures.stayed) (λ t e. indentless_entry_empty _ t (as_kind ends_indentless_entry (one_of_four (λ k. ends_indentless_entry k ≡ true) refl refl refl refl c.in-BlockEntry.is) e)) (names_nothing refl refl refl) (λ b k. refl) c.mark.ensures (λ o. tt) refl (c.in_ok-next.ensures.at Goal.indentless_entry refl names given h))
 
 pub returns-in_default-clause-answers : goal.returns-in_default-clause-answers
-returns-in_default-clause-answers g c = λ names given h. c.node.ensures.answers names given (stays c.in_ok-next.ensures.peeked (stay_push stay c.in_ok-push.ensures.stayed) (λ t e. turn.indentless_entry_node _ t (not_as c.in_default.not-BlockEntry e) (as_kind ends_part (first.not_part _ c.in_default.not-Key c.in_default.not-Value c.in_default.not-BlockEnd) e)) refl tt (λ o. tt) refl (c.in_ok-next.ensures.at at.indentless_entry refl names given h))
+returns-in_default-clause-answers g c = λ names given h. c.node.ensures.answers names given (stays c.in_ok-next.ensures.peeked (stay_push stay c.in_ok-push.ensures.stayed) (λ t e. indentless_entry_node _ t (not_as c.in_default.not-BlockEntry e) (as_kind ends_part (not_part _ c.in_default.not-Key c.in_default.not-Value c.in_default.not-BlockEnd) e)) refl tt (λ o. tt) refl (c.in_ok-next.ensures.at Goal.indentless_entry refl names given h))

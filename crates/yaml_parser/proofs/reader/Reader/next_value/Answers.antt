@@ -1,5 +1,4 @@
-use Rattle.std.proofs.Common.{◌∙◌, refl}
-use Rattle.yaml_parser.proofs.Openings.{look_fails}
+use Rattle.yaml_parser.proofs.Answering.{look_fails, refl, ◌∙◌}
 use Rattle.yaml_parser.proofs.reader.Reader.next_value.Goals as goal
 
 pub returns-in-Err-clause-err : goal.returns-in-Err-clause-err

@@ -1,6 +1,4 @@
-use Rattle.std.proofs.Common.{refl, None}
-use Rattle.yaml_parser.proofs.Arms.{one_of}
-use Rattle.yaml_parser.proofs.NodeArms.{HasNoProperties, BeginsNoBlock, block_entry_alone, block_sequence_alone, block_mapping_alone, bare, in_flow}
+use Rattle.yaml_parser.proofs.Answering.{bare, BeginsNoBlock, block_entry_alone, block_mapping_alone, block_sequence_alone, HasNoProperties, in_flow, None, one_of, refl}
 use Rattle.yaml_parser.proofs.reader.Reader.node.Goals as goal
 
 pub returns-in-Alias-clause-answers : goal.returns-in-Alias-clause-answers

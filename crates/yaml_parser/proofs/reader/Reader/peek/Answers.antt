@@ -1,6 +1,4 @@
-use Rattle.std.proofs.Common.{◌≡◌, ◌∙◌, Some, refl}
-use Rattle.yaml_parser.proofs.Steps.{looks_on, if_some_at}
-use Rattle.yaml_parser.proofs.Openings.{look_fails}
+use Rattle.yaml_parser.proofs.Answering.{if_some_at, look_fails, looks_on, refl, Some, ◌∙◌, ◌≡◌}
 use Rattle.yaml_parser.proofs.reader.Reader.peek.Goals as goal
 
 pub returns-in-Ok-clause-at : goal.returns-in-Ok-clause-at

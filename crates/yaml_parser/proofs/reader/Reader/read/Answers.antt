@@ -1,6 +1,4 @@
-use Rattle.std.proofs.Common.{sym, subst}
-use Rattle.model_parser.specs.Rest.{goal_of}
-use Rattle.yaml_parser.specs.At.{Reads}
+use Rattle.yaml_parser.proofs.Answering.{goal_of, Reads, subst, sym}
 use Rattle.yaml_parser.proofs.reader.Reader.read.Goals as goal
 
 pub returns-in-StreamStart-clause-answers : goal.returns-in-StreamStart-clause-answers

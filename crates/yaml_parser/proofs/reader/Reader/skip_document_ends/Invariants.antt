@@ -1,8 +1,4 @@
-use Rattle.std.proofs.Common.{◌≤◌}
-use Rattle.model_parser.specs.Goal as at
-use Rattle.yaml_parser.specs.Work.{KeepsInput, work}
-use Rattle.yaml_parser.specs.Kinds.{IsOfKind}
-use Rattle.yaml_parser.specs.At.{Carries}
+use Rattle.yaml_parser.proofs.Common.{Carries, Goal, IsOfKind, KeepsInput, work, ◌≤◌}
 use Rattle.yaml_parser.proofs.reader.Reader.skip_document_ends.Given as goal
 
 abbrev pub invariant-ends : goal.invariant-ends
@@ -10,7 +6,7 @@ invariant-ends g l = record {
   peeked : IsOfKind l.next l.self.tokens.peeked;
   work : work l.self ≤ work l.fn.self;
   input : KeepsInput l.fn.self l.self;
-  at : Carries at.documents l.fn.self l.self;
+  at : Carries Goal.documents l.fn.self l.self;
 }
 
 abbrev pub decreases-ends : goal.decreases-ends

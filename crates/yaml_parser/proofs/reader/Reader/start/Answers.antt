@@ -1,6 +1,4 @@
-use Rattle.std.proofs.Common.{sym, ap, ◌∙◌}
-use Rattle.yaml_parser.specs.Shown.{placed, start_of, perhaps_tag_of}
-use Rattle.yaml_parser.proofs.NodeArms.{with_number}
+use Rattle.yaml_parser.proofs.Answering.{ap, perhaps_tag_of, placed, start_of, sym, with_number, ◌∙◌}
 use Rattle.yaml_parser.proofs.reader.Reader.start.Goals as goal
 
 pub returns-in-Sequence-clause-registers : goal.returns-in-Sequence-clause-registers

@@ -1,12 +1,5 @@
-use Rattle.defs_text.specs.Text.{string_chars}
-use Rattle.defs_token.specs.Token.{Tok}
-use Rattle.std.proofs.Common.{◌≡◌, refl, Ok, Err}
+use Rattle.yaml_parser.proofs.Answering.{Err, faulted_as, if_some_at, looked, Ok, refl, string_chars, tag_directive_taken, taken_with, Tok, tok_of, ◌≡◌}
 use Rattle.model_parser.specs.declared.kind.Kind.TheVariants as kind
-use Rattle.yaml_tokens.specs.Shown.{tok_of}
-use Rattle.yaml_parser.proofs.Steps.{looked, if_some_at}
-use Rattle.yaml_parser.proofs.NodeArms.{taken_with}
-use Rattle.yaml_parser.proofs.Arms.{faulted_as}
-use Rattle.yaml_parser.proofs.DocumentArms.{tag_directive_taken}
 use Rattle.yaml_parser.proofs.reader.Reader.tag_directive.Goals as goal
 
 pub returns-in-Err-clause-directs : goal.returns-in-Err-clause-directs

@@ -1,7 +1,4 @@
-use Rattle.yaml_parser.specs.Directing.{Directing}
-use Rattle.std.proofs.Common.{subst}
-use Rattle.yaml_parser.proofs.Arms.{faulted_as}
-use Rattle.yaml_parser.proofs.DocumentArms.{version_taken, version_refused}
+use Rattle.yaml_parser.proofs.Answering.{Directing, faulted_as, subst, version_refused, version_taken}
 use Rattle.yaml_parser.proofs.reader.Reader.version.Goals as goal
 
 pub returns-then-versioned-clause-directs : goal.returns-then-versioned-clause-directs

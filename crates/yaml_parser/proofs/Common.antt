@@ -1,0 +1,88 @@
+-- The words of other crates and of specs/ that many proofs here use, passed on from one place. Declares nothing.
+pub use Rattle.defs_event.proofs.NameLemmas.{after_append, append_named, both_some, named_append, NamedFirst}
+pub use Rattle.defs_event.proofs.Shaped.{named_shaped, Shaped}
+pub use Rattle.defs_event.specs.Event.{Ev}
+pub use Rattle.defs_event.specs.Grammar.{cases, empty_event, event_of, grammar, Held, in_pair, key, nothing_held, Place}
+pub use Rattle.defs_event.specs.Names.{are_allowed, at_document, both, declared, is_each_once, named, Names, names_after, names_after_all, no_names, number, perhaps_resolved, prefix_or_undeclared, resolved, resolved_event, undeclared, under_name, versions, with_anchor}
+pub use Rattle.defs_event.specs.Place.{block_mapping, block_sequence, Collection, directive_next, flow_mapping, flow_sequence, Next, next_after, node_next, open_after, other_next}
+pub use Rattle.defs_event.specs.Properties.{anchor_of, directive_token, directives_tokens, perhaps_anchor_of}
+pub use Rattle.defs_event.specs.Push.{between, ends, inside, load, load_from, Loaded, push}
+pub use Rattle.defs_event.specs.Raw.{Directive, nothing_written, Raw, tag, version}
+pub use Rattle.defs_event.specs.Stream.{BeginsPlaced, by_leaving, events_of, Extent, HasPlacedTo, nothing_left, placed_before, PlacedWork, Places, position_at, positions_of, raws_of, says, StreamPlaces, StreamPlacesTo, StreamSays, takes_last, to_end, to_last, to_next, wants_token}
+pub use Rattle.defs_event.specs.Table.{before, Derives, empty, reading, Row, row_of, saying, show, takes}
+pub use Rattle.defs_text.specs.Position.{Position}
+pub use Rattle.defs_text.specs.Text.{is_empty}
+unfoldable pub use Rattle.defs_text.specs.Text.{string_chars}
+pub use Rattle.defs_token.specs.Token.{Style, Tok}
+pub use Rattle.defs_token.specs.Toks.{toks}
+pub use Rattle.model_parser.proofs.Block.{after_key_empty, after_key_value, entries_dash, entries_end, entries_refuses, entry_empty, entry_node, indentless_entries_dash, indentless_entries_end, indentless_entry_empty, indentless_entry_node, key_pairs_end, key_pairs_key, key_pairs_refuses, pairs_key, pairs_value, part_empty, part_has_node}
+pub use Rattle.model_parser.proofs.Document.{after_marked, after_refuses, after_unmarked, content_empty, content_node, directed_more, directed_refuses, directed_start, documents_bare, documents_directives, documents_explicit, documents_marker, explicit_end, explicit_refuses, explicit_start, start_refuses, start_takes}
+pub use Rattle.model_parser.proofs.Endings.{end_events, end_tokens, ends_so, goes_so, past_tokens}
+pub use Rattle.model_parser.proofs.Falls.{after_text, after_text_events, shortest_events, text, text_event}
+pub use Rattle.model_parser.proofs.First.{not_document, not_flow_key, not_flow_pair, not_item, not_item_key, not_part, tok_is}
+pub use Rattle.model_parser.proofs.Flow.{comma_flow_end, comma_flow_has_pair, comma_items_end, comma_items_item, flow_after_empty, flow_after_value, flow_empties, flow_key_empty, flow_key_node, flow_pair_key, flow_pair_node, flow_pair_value, flow_pairs_end, flow_pairs_pair, flow_valued_empty, flow_valued_node, item_key, item_node, items_end, items_item, more_flow_comma, more_flow_end, more_flow_refuses, more_items_comma, more_items_end, more_items_refuses, pair_ends, pair_key_empty, pair_key_node, pair_value_empty, pair_value_value, pair_valued_empty, pair_valued_node}
+pub use Rattle.model_parser.proofs.Nodes.{after_braces, after_brackets, after_dash, after_mapping, after_scalar, after_sequence, anchor_alone, anchor_tag, block_flow, node_anchor, node_tag, nothing_refuses, part_block, properties_only, tag_alone, tag_anchor}
+pub use Rattle.model_parser.proofs.Places.{nowhere, plain_before, plain_work, with_positions}
+pub use Rattle.model_parser.proofs.Quiet.{plain_placed}
+pub use Rattle.model_parser.proofs.Settling.{mapping_under}
+pub use Rattle.model_parser.proofs.Standing.{first_of, looks, pops, top_of}
+pub use Rattle.model_parser.proofs.StepRows.{by_steps, first_any, has_goal, needs_tokens, no_row, not_refused, row_left, row_taken, said, steps}
+pub use Rattle.model_parser.specs.Goal.{Goal}
+pub use Rattle.model_parser.specs.Kinds.{begins_content, begins_node, ends_content, ends_document, ends_entry, ends_flow_key, ends_flow_pair, ends_indentless_entry, ends_item, ends_item_key, ends_part, HasNoText, is_directive, kind_of, tok_of_kind}
+pub use Rattle.model_parser.specs.Place.{is_after, is_over_document, IsNoDirective, next_at, open_at, open_under, top}
+pub use Rattle.model_parser.specs.Rest.{Awaits, AwaitsAt, first_may, goal_of, is_in_mapping, is_under, IsBottom, IsFor, IsGoing, IsNested, may_begin, past, with_directives, work_of, Works, works}
+pub use Rattle.model_parser.specs.Stands.{as_tokens, at_directive, GoesOn, IsNext, IsOnTrack, IsSettled}
+pub use Rattle.model_parser.specs.Turn.{event_then, IsAt, IsAtFirst, IsThere, Leaves, Refuses, Takes}
+pub use Rattle.model_parser.specs.declared.kind.Kind.{Kind}
+pub use Rattle.model_parser.specs.declared.state.State.{State}
+pub use Rattle.std.proofs.Common.{[], ap, append-nil, append_assoc, arith, Bool, bytes_eq, codes, cond, Err, false, IfOk, if◌then◌else◌, inl, inr, is_some, length, List, map, nat_le, nat_lt, None, not, Ok, Option, option_map, refl, Result, rules, Some, String, string_bytes, subst, suc, sym, true, unwrap_or, zero, ℕ, ◌&&◌, ◌++◌, ◌+◌, ◌<◌, ◌==◌, ◌||◌, ◌∙◌, ◌∷◌, ◌≡◌, ◌≢◌, ◌≤◌, ◌⊎◌}
+pub use Rattle.std.proofs.Math.Bool.{or-false, or-true, or_assoc}
+pub use Rattle.std.proofs.lemmas.Bool.{and_from, and_left, and_parts, and_right, both_ways, false_from_ne_true, lt-leb, not-true, not_from_true, or_cases, or_from, or_parts}
+pub use Rattle.std.proofs.lemmas.Bool.Decides.{Decides-like, nat_tests, same_from_decides}
+pub use Rattle.std.proofs.lemmas.Grind.{common_steps}
+pub use Rattle.std.proofs.lemmas.List.{length-append, map-append, nil_from_length}
+pub use Rattle.std.proofs.lemmas.Slice.Eq.{bytes_eq-Decides}
+pub use Rattle.std.specs.BTreeMap.{BTreeMap, get_by_text}
+pub use Rattle.std.specs.Option.{IfNone, IfSome, IsSome}
+pub use Rattle.std.specs.Result.{IfErr, IsErrAnd, OnErr, OnOk}
+pub use Rattle.std.specs.declared.alloc.Global.{Global}
+pub use Rattle.yaml_parser.specs.Ahead.{indicator_of, scalar_of, Skips, SkipsOne, TakesBoth}
+pub use Rattle.yaml_parser.specs.Apart.{GoesApart, GoesOnBy, GoesOnWith, IsOpen, SaysBefore, StandsApart, StandsBefore, token_at, two_that_come}
+pub use Rattle.yaml_parser.specs.At.{answered, Answers, At, Carries, Fails, Faulted, goal_after_event, is_done, is_idle, is_over, is_pair_end, IsPastColon, IsPending, named_by, names_at, names_by, Reads, Stayed, Took}
+pub use Rattle.yaml_parser.specs.Blames.{Blames, EndsInAnchor, fits, HasUndeclaredHandle, HasUnknownAnchor, is_of_names, IsCause, problem_at, problem_for, problem_in, problem_of, SpoilsDirectives, StandsAt}
+pub use Rattle.yaml_parser.specs.Declares.{Declares, HasRead}
+pub use Rattle.yaml_parser.specs.Derived.{IsDerived, stood}
+pub use Rattle.yaml_parser.specs.Directing.{Directing, DirectsTo, IsAfter}
+pub use Rattle.yaml_parser.specs.Follows.{Explains, Follows, IsComplete, IsWhole, listed, Refused}
+pub use Rattle.yaml_parser.specs.Halts.{IsHalted, may_wait, perhaps}
+pub use Rattle.yaml_parser.specs.Handed.{BeginAt, behind, IsAwake, IsHanded, IsRightAfter, IsStopped, last_position, peeked_tok, shown_list, taken_toks}
+pub use Rattle.yaml_parser.specs.Held.{Advances, Continues, goal_after, Holds, IsHeld, IsMet, Notes, Stands}
+pub use Rattle.yaml_parser.specs.Kinds.{IsOfKind, stop_of}
+pub use Rattle.yaml_parser.specs.Loads.{after_document, EndsSo, Going, Loads, no_call, no_event, one_call, one_event, PullsAll, PushesNext, pushing, Receives, RunsOn, StartsSo}
+pub use Rattle.yaml_parser.specs.Named.{is_own, IsNamed, IsOwn, prefix_of}
+pub use Rattle.yaml_parser.specs.Nests.{BeginsNested, is_open, IsInside, opened}
+pub use Rattle.yaml_parser.specs.Parsed.{has_end, is_document_end, is_document_start, is_fresh, is_stream_end, Parsed, parsed, read, read_so, stays_steady}
+pub use Rattle.yaml_parser.specs.Properties.{Has, kept_tag, name_of, Registers}
+pub use Rattle.yaml_parser.specs.Pulls.{answer_of, GivesEvent, GivesFault, IsSound, Looks, MeetsFault, Peeks, Pulls, ShowsLooked, ShowsNext, Waits}
+pub use Rattle.yaml_parser.specs.Resolves.{IsUndeclared, Resolves}
+pub use Rattle.yaml_parser.specs.Seen.{fault_seen}
+pub use Rattle.yaml_parser.specs.Settings.{AreAll, named_since, names_since}
+pub use Rattle.yaml_parser.specs.Shown.{all_placed, ev_of, perhaps_tag_of, placed, start_of, tag_of}
+pub use Rattle.yaml_parser.specs.View.{events_left, fault_kept, fault_of_all, no_document}
+pub use Rattle.yaml_parser.specs.Work.{KeepsInput, Moves, weight, weights, work}
+pub use Rattle.yaml_parser.specs.declared.event.Event.{Event}
+pub use Rattle.yaml_parser.specs.declared.names.Keeping.{Keeping}
+pub use Rattle.yaml_parser.specs.declared.pull.EventReader.{EventReader}
+pub use Rattle.yaml_parser.specs.declared.reader.Reader.{Reader}
+pub use Rattle.yaml_parser.specs.declared.slot.EventSlot.{EventSlot}
+pub use Rattle.yaml_parser.specs.declared.tokens.KeptStop.{KeptStop}
+pub use Rattle.yaml_parser.specs.declared.tokens.Stop.{Stop}
+pub use Rattle.yaml_parser.specs.declared.tokens.Tokens.{Tokens}
+pub use Rattle.yaml_scanner.specs.Scanned.{HandsOut, Scanned, scanned}
+pub use Rattle.yaml_scanner_state.specs.Tokens.{is_end}
+pub use Rattle.yaml_tokens.specs.ErrorReport.{ErrorReport}
+pub use Rattle.yaml_tokens.specs.Shown.{all_shown, shown, tok_of}
+pub use Rattle.yaml_tokens.specs.declared.problem.Fault.TheVariants.{OutOfMemory}
+pub use Rattle.yaml_tokens.specs.declared.problem.Problem.{Problem}
+pub use Rattle.yaml_tokens.specs.declared.problem.Problem.TheVariants.{BlockMappingKey, BlockSequenceEntry, DirectiveWithoutDocumentEnd, DocumentStartToken, FlowMappingEntry, FlowSequenceEntry, NodeContent, RepeatedHandle, SecondVersion, UndeclaredHandle, UnknownAnchor}
+pub use Rattle.yaml_tokens.specs.declared.token.Token.{Token}
