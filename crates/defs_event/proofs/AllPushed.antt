@@ -1,11 +1,5 @@
 -- With `multi`, a call of `load` pushes all events of a finished run, each once and in order.
-use Rattle.std.proofs.Common.{◌≡◌, ℕ, zero, suc, ◌+◌, true, false, List, [], ◌∷◌, length, refl, sym, ap, ◌∙◌, subst, arith}
-use Rattle.defs_text.specs.Position.{Position}
-use Rattle.defs_event.specs.Event.{Ev}
-use Rattle.defs_event.specs.Stream.{events_of}
-use Rattle.defs_event.specs.Nested.{Nest, nested_alias, nested_scalar, nested_sequence, nested_mapping, Nests, no_nests, nest, NestPairs, no_nest_pairs, nest_pair, NestedDocument, without_node, with_node, nest_events, nests_events, nest_pairs_events, nested_document_events, nested_documents_events, nested_stream}
-use Rattle.defs_event.specs.PulledList.{Answer, event, given}
-use Rattle.defs_event.specs.Push.{Standing, before_stream, between, inside, well, Loaded, push, load_from, load}
+use Rattle.defs_event.proofs.Common.{[], Answer, ap, arith, before_stream, between, Ev, event, events_of, false, given, inside, length, List, load, load_from, Loaded, Nest, nest, nest_events, nest_pair, nest_pairs_events, nested_alias, nested_document_events, nested_documents_events, nested_mapping, nested_scalar, nested_sequence, nested_stream, NestedDocument, NestPairs, Nests, nests_events, no_nest_pairs, no_nests, Position, push, refl, Standing, subst, suc, sym, true, well, with_node, without_node, zero, ℕ, ◌+◌, ◌∙◌, ◌∷◌, ◌≡◌}
 
 -- events at positions that a function gives
 abbrev placed : (ℕ → Position) → List Ev → List (Ev × Position)

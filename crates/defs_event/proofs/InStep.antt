@@ -1,20 +1,6 @@
 -- After the same events, marks have the parts of the trees.
-use Rattle.std.proofs.Common.{◌≡◌, ℕ, zero, suc, nat_eq, cond, true, false, Bool, List, [], ◌∷◌, ◌++◌, refl, sym, ap, ◌∙◌, subst}
-use Rattle.std.specs.Prelude.{ℤ, Option, Some, None, is_some, option_map, unwrap_or, bytes_eq, codes, ◌||◌, if◌then◌else◌}
-use Rattle.defs_text.specs.Position.{Position}
-use Rattle.defs_tree.specs.Order.{tree_eq}
-use Rattle.defs_tree.specs.Pairs.{lookup, has_key, without, insert}
-use Rattle.defs_tree.specs.Grammar.{is_among}
-use Rattle.defs_tree.specs.Laws.{MayStandFor}
-use Rattle.defs_tree.specs.Tree.{Tree, real, integer, string, boolean, array, hash, alias, null, bad_value, items_of, pairs_of}
-use Rattle.defs_tree.specs.Typing.{typing, signed_decimal, is_decimal, is_real_text, true_words, false_words}
-use Rattle.defs_tree.proofs.TypingLaws.{typing_plain}
-use Rattle.defs_token.specs.Token.{Style}
-use Rattle.defs_event.specs.Anchors.{Anchors, aliased, finished}
-use Rattle.defs_event.specs.Event.{Tag, Ev}
-use Rattle.defs_event.specs.Names.{core_prefix}
-use Rattle.defs_event.specs.Scalar.{by_name, scalar_tree}
-use Rattle.defs_event.specs.Unfinished.{Opened, opened_sequence, opened_mapping, Unfinished, Step, reads, repeats, out_of_nesting, with_root, with_tree, with_node, with_start, with_sequence_end, with_mapping_end, with_document_end, with_event, at_work, noted, refused, loader_after, with_events, nothing_read}
+use Rattle.defs_event.proofs.Common.{[], alias, aliased, Anchors, ap, array, at_work, bad_value, Bool, boolean, by_name, bytes_eq, codes, cond, core_prefix, Ev, false, false_words, finished, has_key, hash, if◌then◌else◌, insert, integer, is_among, is_decimal, is_real_text, is_some, items_of, List, loader_after, lookup, MayStandFor, nat_eq, None, noted, nothing_read, null, Opened, opened_mapping, opened_sequence, Option, option_map, out_of_nesting, pairs_of, Position, reads, real, refl, refused, repeats, scalar_tree, signed_decimal, Some, Step, string, Style, subst, suc, sym, Tag, Tree, tree_eq, true, true_words, typing, typing_plain, Unfinished, unwrap_or, with_document_end, with_event, with_events, with_mapping_end, with_root, with_sequence_end, with_start, with_tree, without, zero, ℕ, ℤ, ◌++◌, ◌||◌, ◌∙◌, ◌∷◌, ◌≡◌}
+use Rattle.defs_event.specs.Unfinished.{with_node}
 use Rattle.defs_event.specs.Fits.{Fits, ItemsFit, PairsFit, AllFit}
 use Rattle.defs_event.specs.MarkLaws.{MarksFitTheirTrees}
 use Rattle.defs_event.specs.Marking.{OpenMarks, MarkedAnchors, Marking, nothing_marked, alias_of, aliased_marks, finished_marks, with_part, with_anchored, with_close, with_event_marked, with_events_marked}

@@ -1,23 +1,9 @@
 -- What scalars have, and arrays and hashes of trees that have it, every loaded tree has.
-use Rattle.std.proofs.Common.{◌≡◌, ℕ, zero, suc, Bool, true, false, List, [], ◌∷◌, ◌++◌, Option, Some, None, refl, ap, subst}
-use Rattle.std.specs.Prelude.{ℤ, IsTrue, ◌||◌, unwrap_or, option_map, if◌then◌else◌, nat_eq, bytes_eq, codes, All}
 use Rattle.std.proofs.lemmas.List.Elements.{All-nil, All-cons}
-use Rattle.defs_text.specs.Position.{Position}
-use Rattle.defs_tree.specs.Tree.{Tree, real, integer, string, boolean, null, array, hash, alias, bad_value, Items, no_items, item, Pairs, no_pairs, pair, items_of, pairs_of, pair_list_of}
-use Rattle.defs_tree.specs.Grammar.{is_among}
-use Rattle.defs_tree.specs.Typing.{typing, fits_i64, signed_decimal, is_decimal, is_real_text, true_words, false_words}
-use Rattle.defs_tree.specs.Order.{tree_eq}
-use Rattle.defs_tree.specs.Pairs.{has_key, without, insert, AreDistinct}
+use Rattle.defs_event.proofs.Common.{[], alias, aliased, All, Anchors, ap, AreDistinct, array, at_work, bad_value, Bool, boolean, by_name, bytes_eq, codes, core_prefix, documents_of, Ev, false, false_words, finished, fits_i64, has_key, hash, if◌then◌else◌, insert, integer, is_among, is_decimal, is_real_text, IsTrue, item, Items, items_of, List, Loader, loader_after, MayStandFor, nat_eq, new_loader, no_items, no_pairs, None, noted, null, OfSome, Opened, opened_mapping, opened_sequence, Option, option_map, out_of_nesting, pair, pair_list_of, Pairs, pairs_of, Position, reads, real, refl, refused, repeats, scalar_tree, signed_decimal, signed_number-fits, Some, Step, string, Style, subst, suc, Tag, Tree, tree_eq, true, true_words, typing, typing_plain, Unfinished, unwrap_or, with_document_end, with_event, with_event_at, with_events, with_mapping_end, with_root, with_sequence_end, with_start, with_tree, without, zero, ℕ, ℤ, ◌++◌, ◌||◌, ◌∷◌, ◌≡◌}
 use Rattle.defs_tree.specs.Valid.{IsDistinct, AllDistinct, AllPairsDistinct, FitsI64, AllFitI64, AllPairsFitI64}
-use Rattle.defs_tree.specs.Laws.{MayStandFor}
 use Rattle.defs_tree.proofs.PairsLaws.{AreDistinct_insert}
-use Rattle.defs_tree.proofs.TypingLaws.{OfSome, signed_number-fits, typing_plain}
-use Rattle.defs_token.specs.Token.{Style}
-use Rattle.defs_event.specs.Event.{Tag, Ev}
-use Rattle.defs_event.specs.Scalar.{by_name, scalar_tree}
-use Rattle.defs_event.specs.Names.{core_prefix}
-use Rattle.defs_event.specs.Anchors.{Anchors, aliased, finished}
-use Rattle.defs_event.specs.Unfinished.{Opened, opened_sequence, opened_mapping, Unfinished, Step, reads, repeats, out_of_nesting, with_root, with_tree, with_node, with_start, with_sequence_end, with_mapping_end, with_document_end, with_event, Loader, at_work, noted, refused, new_loader, loader_after, with_event_at, with_events, documents_of}
+use Rattle.defs_event.specs.Unfinished.{with_node}
 use Rattle.defs_event.specs.NoAlias.{HasNoAlias, NoneHasAlias, NoPairHasAlias}
 
 -- each of a list has it

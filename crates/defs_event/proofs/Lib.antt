@@ -14,3 +14,4 @@ pub mod OneReading
 pub mod Shaped
 pub mod StreamNests
 pub mod Texts
+mod Common

@@ -1,6 +1,5 @@
 -- A statement about each row of a table, and the tokens that it is for.
-use Rattle.std.proofs.Common.{◌≡◌, Bool, true, false, ◌||◌, List, [], ◌∷◌, Some, if◌then◌else◌, refl, sym, subst}
-use Rattle.defs_event.specs.Table.{Row, Case, on, otherwise, row_of}
+use Rattle.defs_event.proofs.Common.{[], Bool, Case, false, if◌then◌else◌, List, on, otherwise, refl, Row, row_of, Some, subst, sym, true, ◌||◌, ◌∷◌, ◌≡◌}
 
 -- The statement holds of each row and the tokens that it is for: those that its test holds of, or that no test before holds of.
 abbrev pub EachRow : {G T E : Type 0} → (T → Row G E → Type 0) → (tested : T → Bool) → List (Case G T E) → Type 0

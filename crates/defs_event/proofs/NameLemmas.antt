@@ -1,8 +1,5 @@
 -- Names over lists of events, part by part.
-use Rattle.std.proofs.Common.{◌≡◌, Bool, List, [], ◌∷◌, ◌++◌, Option, Some, None, refl, sym, ap, ◌∙◌}
-use Rattle.defs_event.specs.Event.{Ev}
-use Rattle.defs_event.specs.Raw.{Raw}
-use Rattle.defs_event.specs.Names.{Names, named, both, names_after, names_after_all, resolved_event}
+use Rattle.defs_event.proofs.Common.{[], ap, Bool, both, Ev, List, named, Names, names_after, names_after_all, None, Option, Raw, refl, resolved_event, Some, sym, ◌++◌, ◌∙◌, ◌∷◌, ◌≡◌}
 
 -- The events of both parts, the second one's with the names after the first.
 pub record NamedParts (keep_tags : Bool) (s : Names) (xs ys : List Raw) (es : List Ev) : Type 0 where

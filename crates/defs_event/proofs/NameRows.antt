@@ -1,9 +1,5 @@
 -- Which events names have, and where they have none.
-use Rattle.std.specs.Prelude.{◌≡◌, ℕ, true, false, List, [], ◌∷◌, ◌++◌, Some, None, codes, refl}
-use Rattle.defs_token.specs.Token.{Style}
-use Rattle.defs_event.specs.Event.{Ev}
-use Rattle.defs_event.specs.Raw.{Raw, Directive}
-use Rattle.defs_event.specs.Names.{named, no_names, are_allowed, declared, resolved}
+use Rattle.defs_event.proofs.Common.{[], are_allowed, codes, declared, Directive, Ev, false, List, named, no_names, None, Raw, refl, resolved, Some, Style, true, ℕ, ◌++◌, ◌∷◌, ◌≡◌}
 use Rattle.defs_event.proofs.Texts.{tag_of_text}
 
 -- a document of these nodes

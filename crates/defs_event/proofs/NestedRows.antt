@@ -1,9 +1,6 @@
 -- Nested events, and events that are not.
-use Rattle.std.specs.Prelude.{◌≡◌, false, List, [], ◌∷◌, ◌++◌, None, codes, refl}
 use Rattle.std.specs.List.{list_any}
-use Rattle.defs_token.specs.Token.{Style}
-use Rattle.defs_event.specs.Event.{Ev}
-use Rattle.defs_event.specs.Nested.{IsNested, is_nested, nested_alias, nested_scalar, nested_sequence, nested_mapping, no_nests, nest, no_nest_pairs, nest_pair, without_node, with_node}
+use Rattle.defs_event.proofs.Common.{[], codes, Ev, false, is_nested, IsNested, List, nest, nest_pair, nested_alias, nested_mapping, nested_scalar, nested_sequence, no_nest_pairs, no_nests, None, refl, Style, with_node, without_node, ◌++◌, ◌∷◌, ◌≡◌}
 use Rattle.defs_event.proofs.Texts.{plain_event}
 
 no_document : IsNested (Ev.stream_start ∷ Ev.stream_end ∷ [])

@@ -1,8 +1,5 @@
 -- The test of nesting holds of nested events and of no others.
-use Rattle.std.proofs.Common.{◌≡◌, true, List, [], ◌∷◌, Option, Some, None, refl, sym, ap, ◌∙◌, subst, ◌↔◌}
-use Rattle.std.specs.Prelude.{IsTrue}
-use Rattle.defs_event.specs.Event.{Ev}
-use Rattle.defs_event.specs.Nested.{Nest, nested_alias, nested_scalar, nested_sequence, nested_mapping, Nests, no_nests, nest, NestPairs, no_nest_pairs, nest_pair, NestedDocument, without_node, with_node, nest_events, nests_events, nest_pairs_events, nested_document_events, nested_documents_events, nested_stream, IsNested, Open, in_stream, before_node, after_node, in_sequence, at_key, at_value, with_child, child_then, there_and, closes, is_nested}
+use Rattle.defs_event.proofs.Common.{[], after_node, ap, at_key, at_value, before_node, child_then, closes, Ev, in_sequence, in_stream, is_nested, IsNested, IsTrue, List, Nest, nest, nest_events, nest_pair, nest_pairs_events, nested_alias, nested_document_events, nested_documents_events, nested_mapping, nested_scalar, nested_sequence, nested_stream, NestedDocument, NestPairs, Nests, nests_events, no_nest_pairs, no_nests, None, Open, Option, refl, Some, subst, sym, there_and, true, with_child, with_node, without_node, ◌↔◌, ◌∙◌, ◌∷◌, ◌≡◌}
 
 -- ---- nested events pass
 

@@ -1,16 +1,5 @@
 -- Nested events, handed in one by one, are read as the recursive reading has them.
-use Rattle.std.proofs.Common.{◌≡◌, ℕ, Bool, true, false, List, [], ◌∷◌, ◌++◌, Option, Some, None, refl, ap, ◌∙◌, subst}
-use Rattle.std.specs.Prelude.{Ok, Err, if◌then◌else◌}
-use Rattle.defs_text.specs.Position.{Position}
-use Rattle.defs_tree.specs.Tree.{Tree, array, hash, items_of, pairs_of}
-use Rattle.defs_tree.specs.Pairs.{has_key, insert}
-use Rattle.defs_event.specs.Event.{Ev}
-use Rattle.defs_event.specs.Stream.{events_of}
-use Rattle.defs_event.specs.Nested.{Nest, nested_alias, nested_scalar, nested_sequence, nested_mapping, Nests, no_nests, nest, NestPairs, no_nest_pairs, nest_pair, NestedDocument, without_node, with_node, nest_events, nests_events, nest_pairs_events, nested_document_events, nested_documents_events, nested_stream}
-use Rattle.defs_event.specs.Anchors.{Anchors, finished}
-use Rattle.defs_event.specs.Reading.{Read, then_read, read_node, read_items, read_pairs, read_document, read_documents, documents_or_key, reading}
-use Rattle.defs_event.specs.Unfinished.{Opened, opened_sequence, opened_mapping, Unfinished, Step, reads, repeats, out_of_nesting, with_tree, with_start, with_event, Loader, at_work, noted, refused, new_loader, nothing_read, loader_after, with_event_at, with_events}
-use Rattle.defs_event.specs.Laws.{HasRead}
+use Rattle.defs_event.proofs.Common.{[], Anchors, ap, array, at_work, Bool, documents_or_key, Err, Ev, events_of, false, finished, has_key, hash, HasRead, if◌then◌else◌, insert, items_of, List, Loader, loader_after, Nest, nest, nest_events, nest_pair, nest_pairs_events, nested_alias, nested_document_events, nested_documents_events, nested_mapping, nested_scalar, nested_sequence, nested_stream, NestedDocument, NestPairs, Nests, nests_events, new_loader, no_nest_pairs, no_nests, None, noted, nothing_read, Ok, Opened, opened_mapping, opened_sequence, Option, out_of_nesting, pairs_of, Position, Read, read_document, read_documents, read_items, read_node, read_pairs, reading, reads, refl, refused, repeats, Some, Step, subst, then_read, Tree, true, Unfinished, with_event, with_event_at, with_events, with_node, with_start, with_tree, without_node, ℕ, ◌++◌, ◌∙◌, ◌∷◌, ◌≡◌}
 
 -- ---- all events, whatever their positions
 

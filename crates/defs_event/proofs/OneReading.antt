@@ -1,12 +1,6 @@
 -- By any table, tokens are read in one way only; so a stream has one list of events.
-use Rattle.std.proofs.Common.{◌≡◌, Bool, List, [], ◌∷◌, refl, ap, subst}
-use Rattle.defs_token.specs.Token.{Tok}
-use Rattle.defs_event.specs.Event.{Ev}
-use Rattle.defs_event.specs.Names.{named, no_names}
-use Rattle.defs_event.specs.Grammar.{grammar}
-use Rattle.defs_event.specs.Stream.{whole_stream, IsStream}
-use Rattle.defs_event.specs.Laws.{TokensAreReadInOneWay}
-use Rattle.defs_event.specs.Table.{Table, Work, reading, saying, before, Derives, nothing_left, says, by_taking, by_leaving}
+use Rattle.defs_event.proofs.Common.{[], ap, before, Bool, by_leaving, by_taking, Derives, Ev, grammar, IsStream, List, named, no_names, nothing_left, refl, saying, says, subst, Table, Tok, TokensAreReadInOneWay, whole_stream, Work, ◌∷◌, ◌≡◌}
+use Rattle.defs_event.specs.Table.{reading}
 
 pub one_reading : {G T E H : Type 0} (a : Table G T E H) (w : List (Work G E H)) (ts : List T) (es fs : List E) → Derives a w ts es → Derives a w ts fs → es ≡ fs
 one_reading a [] [] _ _ nothing_left nothing_left = refl

@@ -1,8 +1,6 @@
 -- What calls of `load` push.
-use Rattle.std.specs.Prelude.{◌≡◌, ℕ, true, false, List, [], ◌∷◌, ◌++◌, None, drop, codes, refl}
-use Rattle.defs_event.specs.Event.{Ev}
-use Rattle.defs_event.specs.PulledList.{Answer, event, fault, IsSettled, pulled_events}
-use Rattle.defs_event.specs.Push.{well, faulted, no_document, refused, unfinished, Ending, Loaded, load, stopped}
+use Rattle.defs_event.proofs.Common.{[], Answer, codes, drop, Ending, Ev, event, false, fault, faulted, IsSettled, List, load, Loaded, no_document, None, pulled_events, refl, stopped, true, unfinished, well, ℕ, ◌++◌, ◌∷◌, ◌≡◌}
+use Rattle.defs_event.specs.Push.{refused}
 use Rattle.defs_event.proofs.Texts.{plain_event, here, there, all_here}
 
 abbrev answers_of : List Ev → List (Answer ℕ)

@@ -1,12 +1,5 @@
 -- What events read as: nested ones at once, and any events one by one.
-use Rattle.std.specs.Prelude.{◌≡◌, ℕ, pos, List, [], ◌∷◌, ◌++◌, Some, None, Ok, Err, codes, refl}
-use Rattle.defs_tree.specs.Tree.{Tree, integer, string, array, hash, bad_value, items_of, pairs_of}
-use Rattle.defs_tree.specs.Typing.{typing, is_decimal}
-use Rattle.defs_token.specs.Token.{Style}
-use Rattle.defs_event.specs.Event.{Ev}
-use Rattle.defs_event.specs.Nested.{Nest, nested_alias, nested_scalar, nested_sequence, nested_mapping, Nests, no_nests, nest, NestPairs, no_nest_pairs, nest_pair, without_node, with_node}
-use Rattle.defs_event.specs.Reading.{reading}
-use Rattle.defs_event.specs.Unfinished.{opened_sequence, opened_mapping, Loader, at_work, noted, refused, new_loader, with_events, refused_at}
+use Rattle.defs_event.proofs.Common.{[], array, at_work, bad_value, codes, Err, Ev, hash, integer, is_decimal, items_of, List, Loader, Nest, nest, nest_pair, nested_alias, nested_mapping, nested_scalar, nested_sequence, NestPairs, Nests, new_loader, no_nest_pairs, no_nests, None, noted, Ok, opened_mapping, opened_sequence, pairs_of, pos, reading, refl, refused, refused_at, Some, string, Style, Tree, typing, with_events, with_node, without_node, ℕ, ◌++◌, ◌∷◌, ◌≡◌}
 use Rattle.defs_event.proofs.Texts.{plain_event, here, there, all_here}
 
 -- ---- nested events

@@ -1,9 +1,5 @@
 -- The trees of scalars.
-use Rattle.std.specs.Prelude.{◌≡◌, ℕ, pos, negsuc, true, false, List, [], Some, None, codes, refl}
-use Rattle.defs_tree.specs.Tree.{Tree, real, integer, string, boolean, null, bad_value}
-use Rattle.defs_tree.specs.Typing.{typing, is_decimal}
-use Rattle.defs_token.specs.Token.{Style}
-use Rattle.defs_event.specs.Scalar.{scalar_tree}
+use Rattle.defs_event.proofs.Common.{[], bad_value, boolean, codes, false, integer, is_decimal, List, negsuc, None, null, pos, real, refl, scalar_tree, Some, string, Style, Tree, true, typing, ℕ, ◌≡◌}
 use Rattle.defs_event.proofs.Texts.{tag_of_text}
 
 -- a plain scalar with a tag of the core schema

@@ -1,10 +1,5 @@
 -- Events with names resolved have the shape of those before: only anchors, tags and numbers differ.
-use Rattle.std.proofs.Common.{◌≡◌, ℕ, Bool, true, false, List, [], ◌∷◌, Option, Some, None, sym, subst}
-use Rattle.std.specs.Prelude.{option_map, if◌then◌else◌}
-use Rattle.defs_token.specs.Token.{Style}
-use Rattle.defs_event.specs.Event.{Tag, Ev}
-use Rattle.defs_event.specs.Raw.{Raw}
-use Rattle.defs_event.specs.Names.{Names, named, names_after, resolved_event, number, perhaps_resolved, are_allowed, under_name}
+use Rattle.defs_event.proofs.Common.{[], are_allowed, Bool, Ev, false, if◌then◌else◌, List, named, Names, names_after, None, number, Option, option_map, perhaps_resolved, Raw, resolved_event, Some, Style, subst, sym, Tag, true, under_name, ℕ, ◌∷◌, ◌≡◌}
 use Rattle.defs_event.proofs.NameLemmas.{both_some}
 
 abbrev pub Shaped : List Raw → List Ev → Type 0

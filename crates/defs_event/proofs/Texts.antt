@@ -1,9 +1,5 @@
 -- Short forms for the examples.
-use Rattle.std.specs.Prelude.{ℕ, List, [], ◌∷◌, None, map, codes}
-use Rattle.defs_text.specs.Position.{Position}
-use Rattle.defs_token.specs.Token.{Style, Tok}
-use Rattle.defs_event.specs.Event.{Tag, Ev}
-use Rattle.defs_event.specs.Raw.{Raw}
+use Rattle.defs_event.proofs.Common.{[], codes, Ev, List, map, None, Position, Raw, Style, Tag, Tok, ℕ, ◌∷◌}
 
 abbrev pub tag_of_text : List ℕ → List ℕ → Tag
 tag_of_text handle suffix = record { handle = handle; suffix = suffix }

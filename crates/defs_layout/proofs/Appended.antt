@@ -1,13 +1,6 @@
 -- What stands after a basic layout is appended to its text.
-use Rattle.std.proofs.Common.{◌≡◌, refl, sym, ap, ◌∙◌, ℕ, zero, suc, ◌+◌, List, [], ◌∷◌, ◌++◌, append_assoc, flat_map}
-use Rattle.std.specs.Prelude.{codes}
-use Rattle.defs_tree.specs.Escapes.{double_quoted}
+use Rattle.defs_layout.proofs.Common.{[], ap, append_assoc, AreBasicEntries, AreBasicFields, array, blank, Block, codes, comment, comment_line, Document, double_quoted, doubled, empty_array, empty_hash, empty_line, Entries, entry, explicit, Field, field, Fields, flat_map, full, GapLine, hash, implicit, Inline, IsBasicBlock, IsBasicField, IsBasicRoot, IsBasicValue, last_entry, last_field, Line, List, literal_header, next_line, no_comment, plain, quoted, refl, Root, Scalar, scalar, single_quoted, spaces, spell_block, spell_document, spell_ending, spell_entries, spell_field, spell_fields, spell_gap, spell_inline, spell_line, spell_lines, spell_literal, spell_root, spell_scalar, spell_value, suc, sym, Value, zero, ℕ, ◌++◌, ◌+◌, ◌∙◌, ◌∷◌, ◌≡◌}
 use Rattle.defs_tree.specs.Spelling.{spelling}
-use Rattle.defs_tree.specs.Literal.{literal_header}
-use Rattle.defs_layout.specs.Gap.{spaces, GapLine, empty_line, comment_line, spell_gap, next_line, spell_ending}
-use Rattle.defs_layout.specs.BlockLines.{Line, full, blank, spell_line, spell_lines}
-use Rattle.defs_layout.specs.Layout.{Scalar, plain, quoted, single_quoted, Inline, scalar, empty_array, empty_hash, no_comment, comment, Block, array, hash, Value, Entries, last_entry, entry, Field, implicit, explicit, Fields, last_field, field, Root, Document, doubled, spell_scalar, spell_inline, spell_literal, spell_block, spell_value, spell_entries, spell_field, spell_fields, spell_root, spell_document}
-use Rattle.defs_layout.specs.Basic.{IsBasicBlock, IsBasicValue, AreBasicEntries, IsBasicField, AreBasicFields, IsBasicRoot}
 
 -- the text of f goes before what stands after it
 abbrev Appends : (List ℕ → List ℕ) → Type 0

@@ -1,18 +1,6 @@
 -- The value of a JSON text has a JSON text, and nests as the text does.
-use Rattle.std.proofs.Common.{◌≡◌, ◌≤◌, ◌<◌, ℕ, suc, List, [], ◌∷◌, Bool, true, false, ◌&&◌, refl, sym, ap, subst, arith}
-use Rattle.std.specs.Prelude.{max, if◌then◌else◌}
-use Rattle.std.specs.Char.{digit_value}
-use Rattle.std.proofs.lemmas.Bool.{and_parts, and_from, ltb-true}
-use Rattle.std.proofs.lemmas.Bool.Decides.{nat_tests}
-use Rattle.defs_tree.specs.Tree.{Tree, integer, real, pairs_of, pair_list_of}
-use Rattle.defs_tree.specs.Pairs.{AreDistinct}
-use Rattle.defs_tree.specs.Typing.{fits_i64}
-use Rattle.defs_layout.specs.JsonNumber.{Number, number, no_fraction, fraction, no_exponent, exponent, is_number, number_tree, integer_value, spell_number}
-use Rattle.defs_layout.specs.JsonString.{Piece, itself, short, unicode, Short, quotation_mark, reverse_solidus, solidus, backspace, form_feed, new_line, return, tabulator, character_of, value_of, unescaped, is_unescaped, is_hex_digit, four_digits, is_piece, are_pieces}
+use Rattle.defs_layout.proofs.Common.{[], AllHaveJson, and_from, and_parts, ap, are_characters, are_pieces, AreDistinct, AreElements, AreMembers, arith, backspace, Bool, character_of, digit_value, element, element_levels, Elements, exponent, false, fits_i64, form_feed, four_digits, fraction, HasJson, if◌then◌else◌, integer, integer_value, is_character, is_hex_digit, is_number, is_piece, is_unescaped, IsJson, IsJsonText, item_nesting, items, itself, Json, last_element, last_member, levels, List, ltb-true, max, member, member_levels, member_nesting, Members, nat_tests, nesting, new_line, no_exponent, no_fraction, Number, number, number_tree, pair_list, pair_list_of, pairs_of, Piece, quotation_mark, real, refl, return, reverse_solidus, Short, short, solidus, spell_number, subst, suc, sym, tabulator, Tree, tree_of, true, unescaped, unicode, value_of, ValuesHaveJson, ℕ, ◌&&◌, ◌<◌, ◌∷◌, ◌≡◌, ◌≤◌}
 use Rattle.defs_layout.specs.Json as json
-use Rattle.defs_layout.specs.Json.{Json, Elements, last_element, element, Members, last_member, member, IsJson, AreElements, IsJsonText, tree_of, items, pair_list, levels, element_levels, member_levels}
-use Rattle.defs_layout.specs.HasJson.{HasJson, AllHaveJson, AreMembers, is_character, are_characters, nesting, item_nesting, member_nesting}
-use Rattle.defs_layout.specs.JsonLaws.{ValuesHaveJson}
 use Rattle.defs_layout.proofs.Numbers.{real_from}
 
 -- ---- strings

@@ -1,18 +1,7 @@
 -- Texts that are in the layout relation, and written things that are not, each shown by computing.
-use Rattle.std.proofs.Common.{◌≡◌, refl, sym, ap, ◌∙◌, ℕ, ◌<◌, ◌≤◌, List, [], ◌∷◌, true, false, arith, true≢false}
-use Rattle.std.specs.Prelude.{codes, replicate, pos, negsuc, slice_index, ◌==◌}
 use Rattle.std.specs.Fmt.{digits}
-use Rattle.defs_tree.specs.Tree.{Tree, Items, Pairs, items_of, pairs_of}
-use Rattle.defs_tree.specs.Quoting.{is_quoted, is_unfit_for_plain}
-use Rattle.defs_tree.specs.Typing.{typing, is_decimal}
-use Rattle.defs_tree.specs.Literal.{is_literal_text, is_root_literal, is_literal_character}
-use Rattle.defs_tree.specs.Escapes.{written_character}
-use Rattle.defs_layout.specs.Gap.{GapLine, empty_line, comment_line, IsGap, is_line_character}
-use Rattle.defs_layout.specs.BlockLines.{full, blank}
-use Rattle.defs_layout.specs.Layout.{Scalar, plain, quoted, scalar, empty_array, empty_hash, Block, array, hash, Value, no_comment, below, last_entry, entry, implicit, explicit, last_field, field, Root, Document, last_document, Layout, AreDocuments, IsImplicitKey, IsValue, IsBlock, IsRoot, IsField, IsPlain}
+use Rattle.defs_layout.proofs.Common.{[], ap, AreDocuments, arith, array, below, blank, Block, codes, comment_line, Document, empty_array, empty_hash, empty_line, entry, explicit, false, field, full, GapLine, hash, implicit, is_decimal, is_line_character, is_literal_character, is_literal_text, is_quoted, is_root_literal, is_unfit_for_plain, IsBasic, IsBasicLayout, IsBlock, IsField, IsGap, IsImplicitKey, IsPlain, IsRoot, IsValue, Items, items_of, Json, last_document, last_entry, last_field, Layout, List, negsuc, no_comment, Pairs, pairs_of, plain, pos, quoted, refl, replicate, Root, Scalar, scalar, slice_index, sym, Tree, true, true≢false, typing, Value, written_character, ℕ, ◌<◌, ◌==◌, ◌∙◌, ◌∷◌, ◌≡◌, ◌≤◌}
 use Rattle.defs_layout.specs.Layout as layout
-use Rattle.defs_layout.specs.Json.{Json}
-use Rattle.defs_layout.specs.Basic.{IsBasic, IsBasicLayout}
 use Rattle.defs_layout.proofs.Differ.{differ}
 
 -- ---- words for the examples

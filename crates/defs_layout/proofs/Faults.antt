@@ -1,12 +1,7 @@
 -- A tree that has a JSON text has no node that has none.
-use Rattle.std.proofs.Common.{◌≡◌, ℕ, ◌+◌, true, None, refl, ap, ◌∙◌}
-use Rattle.std.specs.Prelude.{if◌then◌else◌}
-use Rattle.std.proofs.lemmas.Bool.{and_from}
-use Rattle.defs_tree.specs.Tree.{Tree, real, integer, string, boolean, array, hash, alias, null, bad_value, Items, no_items, item, Pairs, no_pairs, pair}
-use Rattle.defs_tree.specs.Typing.{is_string}
-use Rattle.defs_layout.specs.HasJson.{HasJson, AllHaveJson, AreMembers, IsKey}
-use Rattle.defs_tree.specs.Path.{index}
-use Rattle.defs_layout.specs.Fault.{here, below, first_of, step_of, are_strings, is_no_number, has_other_key, first_fault, first_item_fault, first_member_fault}
+use Rattle.defs_layout.proofs.Common.{alias, AllHaveJson, and_from, ap, are_strings, AreMembers, bad_value, boolean, first_fault, first_item_fault, first_member_fault, first_of, has_other_key, HasJson, here, if◌then◌else◌, index, integer, is_no_number, is_string, IsKey, item, Items, no_items, no_pairs, None, null, pair, Pairs, real, refl, step_of, string, Tree, true, ℕ, ◌+◌, ◌∙◌, ◌≡◌}
+use Rattle.defs_tree.specs.Tree.{array, hash}
+use Rattle.defs_layout.specs.Fault.{below}
 
 key_is_string : (k : Tree) → IsKey k → is_string k ≡ true
 key_is_string (string s) h = refl

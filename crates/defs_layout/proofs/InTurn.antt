@@ -1,10 +1,5 @@
 -- A basic layout is a layout of its one tree, and basic layouts one after another, an LF after each, are a layout of their trees.
-use Rattle.std.proofs.Common.{◌≡◌, refl, sym, ap, ◌∙◌, ℕ, List, [], ◌∷◌, ◌++◌, Bool, true, false, true≢false}
-use Rattle.std.specs.Prelude.{codes}
-use Rattle.defs_tree.specs.Tree.{Tree}
-use Rattle.defs_layout.specs.Gap.{GapLine, empty_line, comment_line, spell_gap, spell_ending, IsGap, AreEmptyLines}
-use Rattle.defs_layout.specs.Basic.{IsBasicRoot, AreBasicDocuments, IsBasicLayout}
-use Rattle.defs_layout.specs.Layout.{Root, Document, Documents, last_document, document, spell_document, spell_documents, spell_mark, root_tree, trees_of, IsAfterRoot, AreDocuments}
+use Rattle.defs_layout.proofs.Common.{[], ap, AreBasicDocuments, AreDocuments, AreEmptyLines, Bool, codes, comment_line, Document, document, Documents, empty_line, false, GapLine, IsAfterRoot, IsBasicLayout, IsBasicRoot, IsGap, last_document, List, refl, Root, root_tree, spell_document, spell_documents, spell_ending, spell_gap, spell_mark, sym, Tree, trees_of, true, true≢false, ℕ, ◌++◌, ◌∙◌, ◌∷◌, ◌≡◌}
 use Rattle.defs_layout.specs.InTurn.{AreLaidOutInTurn}
 use Rattle.defs_layout.specs.Laws.{BasicLayoutsAreLayouts, LayoutsInTurnAreLayouts}
 use Rattle.defs_layout.proofs.Appended.{document_append}

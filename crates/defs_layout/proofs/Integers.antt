@@ -1,17 +1,8 @@
 -- The digits of an integer are a number of JSON, whose value is the integer.
-use Rattle.std.proofs.Common.{◌≡◌, ◌<◌, ◌≤◌, ◌^◌, ℕ, zero, suc, List, [], ◌∷◌, ◌++◌, length, get_or, Bool, true, false, not, refl, ap, arith}
-use Rattle.std.specs.Prelude.{ℤ, pos, negsuc, neg_ℤ}
-use Rattle.std.specs.Char.{is_ascii_digit}
-use Rattle.std.specs.List.{list_all}
-use Rattle.std.specs.Str.Parse.{AllDigits}
-use Rattle.std.specs.Fmt.{decimal, signed_decimal}
+use Rattle.std.specs.Fmt.{signed_decimal}
 use Rattle.std.proofs.lemmas.Fmt.{decimal_is_IsNumeral, decimal_digit, decimal_nonempty, first_decimal}
 use Rattle.std.proofs.lemmas.Str.Parse.{digit_from_value}
-use Rattle.std.proofs.lemmas.Bool.{and_parts, and_from, ltb-true, ne_eqb}
-use Rattle.std.proofs.lemmas.Bool.Decides.{nat_tests}
-use Rattle.defs_tree.specs.Tree.{integer}
-use Rattle.defs_tree.specs.Typing.{fits_i64}
-use Rattle.defs_layout.specs.JsonNumber.{Number, number, no_fraction, no_exponent, spell_number, is_whole, is_number, integer_value, number_tree}
+use Rattle.defs_layout.proofs.Common.{[], AllDigits, and_from, and_parts, ap, arith, Bool, decimal, false, fits_i64, get_or, integer, integer_value, is_ascii_digit, is_number, is_whole, length, List, list_all, ltb-true, nat_tests, ne_eqb, neg_ℤ, negsuc, no_exponent, no_fraction, not, Number, number, number_tree, pos, refl, spell_number, suc, true, zero, ℕ, ℤ, ◌++◌, ◌<◌, ◌^◌, ◌∷◌, ◌≡◌, ◌≤◌}
 
 digit_test : (c : ℕ) → 48 ≤ c → c ≤ 57 → is_ascii_digit c ≡ true
 digit_test c h g = grind (arith, nat_tests)

@@ -1,12 +1,6 @@
 -- JSON texts that are in the relation, and written things that are not, each shown by computing.
-use Rattle.std.proofs.Common.{◌≡◌, refl, sym, ap, ◌∙◌, ℕ, zero, suc, ◌≤◌, List, [], ◌∷◌, true, false, arith, true≢false, replicate, ◌+◌, ◌++◌}
-use Rattle.std.specs.Prelude.{codes, map, pos, negsuc}
-use Rattle.defs_tree.specs.Tree.{Tree, Items, Pairs, items_of, pairs_of}
-use Rattle.defs_text.specs.Text.{is_empty}
-use Rattle.defs_layout.specs.JsonNumber.{number, no_fraction, fraction, no_sign, plus, minus, no_exponent, exponent, is_number, number_tree}
-use Rattle.defs_layout.specs.JsonString.{Piece, itself, short, unicode, Short, is_unescaped, are_pieces}
-use Rattle.defs_layout.specs.JsonGap.{Blank, space, tab, line_feed, carriage_return, spell_gap}
-use Rattle.defs_layout.specs.Json.{Json, Elements, last_element, element, last_member, member, JsonText, IsJson, IsWellFormed, IsJsonText, levels, spell, tree_of}
+use Rattle.defs_layout.proofs.Common.{[], ap, are_pieces, arith, Blank, carriage_return, codes, element, Elements, exponent, false, fraction, is_empty, is_number, is_unescaped, IsJson, IsJsonText, IsWellFormed, Items, items_of, itself, Json, JsonText, last_element, last_member, levels, line_feed, List, map, member, minus, negsuc, no_exponent, no_fraction, no_sign, number, number_tree, Pairs, pairs_of, Piece, plus, pos, refl, replicate, Short, short, space, spell, suc, sym, tab, Tree, tree_of, true, true≢false, unicode, zero, ℕ, ◌++◌, ◌+◌, ◌∙◌, ◌∷◌, ◌≡◌, ◌≤◌}
+use Rattle.defs_layout.specs.JsonGap.{spell_gap}
 use Rattle.defs_layout.proofs.Differ.{differ}
 
 -- ---- words for the examples

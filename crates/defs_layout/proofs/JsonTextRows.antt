@@ -1,13 +1,6 @@
 -- JSON texts of trees, worked.
-use Rattle.std.proofs.Common.{◌≡◌, refl, [], ◌∷◌, true, false, Some, None}
-use Rattle.std.specs.Prelude.{codes, pos}
 use Rattle.std.specs.Fmt.{digits}
-use Rattle.defs_tree.specs.Tree.{Tree, items_of, pairs_of}
-use Rattle.defs_layout.specs.JsonReal.{is_json_number, is_json_real}
-use Rattle.defs_tree.specs.Escapes.{written_character, double_quoted}
-use Rattle.defs_layout.specs.JsonText.{json_text}
-use Rattle.defs_tree.specs.Path.{index, key}
-use Rattle.defs_layout.specs.Fault.{first_fault, is_no_number, has_other_key}
+use Rattle.defs_layout.proofs.Common.{[], codes, double_quoted, false, first_fault, has_other_key, index, is_json_number, is_json_real, is_no_number, items_of, json_text, key, None, pairs_of, pos, refl, Some, Tree, true, written_character, ◌∷◌, ◌≡◌}
 
 -- ---- reals
 

@@ -1,22 +1,7 @@
 -- Texts that are in the layout relation, and written things that are not, each shown by computing.
-use Rattle.std.proofs.Common.{◌≡◌, refl, sym, ap, ◌∙◌, ℕ, ◌≤◌, List, [], ◌∷◌, true, false, arith, true≢false}
-use Rattle.std.specs.Prelude.{codes, replicate, pos, Option, Some, is_some, unwrap_or, bytes_eq}
 use Rattle.std.specs.Fmt.{digits}
-use Rattle.defs_tree.specs.Tree.{Tree, items_of, pairs_of}
-use Rattle.defs_tree.specs.Quoting.{is_quoted, is_unfit_for_plain}
-use Rattle.defs_tree.specs.Typing.{typing, is_decimal}
-use Rattle.defs_tree.specs.Literal.{is_literal_text, is_root_literal, is_literal_character}
+use Rattle.defs_layout.proofs.Common.{[], Anchor, anchored, anchors_after, ap, AreDocuments, AreEntries, AreLaidOut, arith, array, at_key, below, beside, blank, Block, block, bytes_eq, codes, comment, comment_line, compact, Document, document, element, empty_array, empty_line, entry, explicit, false, field, folded, full, hash, implicit, inline, is_blank, is_decimal, is_line_character, is_literal_character, is_literal_text, is_on_one_line, is_quoted, is_root_literal, is_some, is_unescaped, is_unfit_for_plain, IsField, IsImplicitKey, IsValue, items_of, itself, Json, last_document, last_element, last_entry, last_field, last_member, last_tree, Layout, line_feed, List, no_comment, no_exponent, no_fraction, number, Option, pairs_of, plain, pos, refl, replicate, Root, Scalar, scalar, single_quoted, Some, space, sym, tab, Tree, tree_eq, true, true≢false, typing, unwrap_or, Value, ℕ, ◌∙◌, ◌∷◌, ◌≡◌, ◌≤◌}
 use Rattle.defs_text.specs.BlockScalar.{row_of, is_empty_line, is_content_line}
-use Rattle.defs_text.specs.Classes.{is_blank}
-use Rattle.defs_layout.specs.Gap.{empty_line, comment_line, is_line_character}
-use Rattle.defs_layout.specs.BlockLines.{full, blank}
-use Rattle.defs_layout.specs.JsonNumber.{number, no_fraction, no_exponent}
-use Rattle.defs_layout.specs.JsonString.{itself, is_unescaped}
-use Rattle.defs_layout.specs.JsonGap.{space, tab, line_feed}
-use Rattle.defs_layout.specs.Json.{Json, last_element, element, last_member}
-use Rattle.defs_layout.specs.Anchored.{Anchor, last_tree}
-use Rattle.defs_layout.specs.Layout.{Scalar, plain, single_quoted, scalar, empty_array, no_comment, comment, Block, array, hash, Value, beside, folded, compact, below, at_key, anchored, last_entry, entry, implicit, explicit, last_field, field, Root, block, inline, Document, last_document, document, Layout, IsImplicitKey, IsValue, IsField, AreEntries, AreDocuments, AreLaidOut, anchors_after, is_on_one_line}
-use Rattle.defs_tree.specs.Order.{tree_eq}
 use Rattle.defs_layout.proofs.Differ.{differ}
 
 -- ---- words for the examples

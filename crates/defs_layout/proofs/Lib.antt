@@ -15,3 +15,4 @@ pub mod InTurn
 pub mod Reading
 pub mod TokenRows
 pub mod WholeNumbers
+mod Common

@@ -1,20 +1,7 @@
 -- The reals that JSON can write are the texts of its numbers whose value is a real.
-use Rattle.std.proofs.Common.{◌≡◌, ◌⊎◌, inl, inr, ℕ, List, [], ◌∷◌, ◌++◌, Bool, true, false, not, ◌&&◌, Some, None, refl, sym, ap, ◌∙◌, subst, append_assoc, append-nil, true≢false, arith}
-use Rattle.std.specs.Prelude.{◌==◌, is_none, if◌then◌else◌}
-use Rattle.std.specs.Char.{is_ascii_digit}
-use Rattle.std.specs.List.{list_all}
-use Rattle.std.proofs.lemmas.Bool.{and_parts, and_from, or_cases, eqb-true}
-use Rattle.std.proofs.lemmas.Bool.Decides.{nat_tests}
-use Rattle.defs_tree.specs.Tree.{integer, real}
-use Rattle.defs_text.specs.Text.{is_empty}
-use Rattle.defs_tree.specs.Grammar.{one, at_least_one, optional, followed_by, in_order}
-use Rattle.defs_tree.specs.Typing.{is_minus, is_sign, is_exponent, is_exponent_mark, is_digit, signed_decimal, fits_i64}
-use Rattle.defs_tree.proofs.GrammarLaws.{cut_from, cut_to, followed_by-empty}
-use Rattle.defs_tree.proofs.DecimalReading.{begins_in}
+use Rattle.defs_layout.proofs.Common.{[], and_from, and_parts, ap, append-nil, append_assoc, are_digits, arith, at_least_one, begins_in, Bool, cut_from, cut_to, eqb-true, Exponent, exponent, false, fits_i64, followed_by, followed_by-empty, Fraction, fraction, if◌then◌else◌, in_order, inl, inr, integer, integer_value, is_ascii_digit, is_digit, is_empty, is_exponent, is_exponent_mark, is_frac, is_fraction, is_json_number, is_json_real, is_minus, is_none, is_number, is_sign, is_whole, List, list_all, minus, nat_tests, no_exponent, no_fraction, no_sign, None, not, Number, number_tree, one, optional, or_cases, plus, real, refl, Sign, signed_decimal, Some, spell_exponent, spell_fraction, spell_minus, spell_number, spell_sign, subst, sym, true, true≢false, ℕ, ◌&&◌, ◌++◌, ◌==◌, ◌∙◌, ◌∷◌, ◌≡◌, ◌⊎◌}
 use Rattle.defs_layout.specs.JsonNumber as json
-use Rattle.defs_layout.specs.JsonNumber.{Number, Fraction, no_fraction, fraction, Sign, no_sign, plus, minus, Exponent, no_exponent, exponent, spell_number, spell_minus, spell_fraction, spell_sign, spell_exponent, are_digits, is_whole, is_fraction, is_number, integer_value, number_tree}
 use Rattle.defs_layout.proofs.WholeNumbers.{fitted, signed_text, IsOther, no_digits}
-use Rattle.defs_layout.specs.JsonReal.{is_frac, is_json_number, is_json_real}
 
 -- ---- parts of a number, by their texts
 

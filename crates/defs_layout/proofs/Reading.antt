@@ -1,16 +1,5 @@
 -- A JSON number read from left to right: a minus, the whole part, a fraction, an exponent. For code that reads so.
-use Rattle.std.proofs.Common.{◌≡◌, ℕ, List, [], ◌∷◌, Bool, true, false, not, ◌&&◌, ◌||◌, refl, ap, sym, ◌∙◌, arith}
-use Rattle.std.specs.Prelude.{◌==◌, if◌then◌else◌}
-use Rattle.std.specs.Char.{is_ascii_digit}
-use Rattle.std.specs.List.{list_all}
-use Rattle.std.proofs.lemmas.Bool.Decides.{nat_tests}
-use Rattle.defs_text.specs.Text.{is_empty}
-use Rattle.defs_tree.specs.Grammar.{any_number, at_least_one, optional, followed_by, in_order}
-use Rattle.defs_tree.specs.Typing.{is_minus, is_exponent, is_exponent_mark}
-use Rattle.defs_tree.proofs.GrammarLaws.{Rejects, after_all, after_one, any-after, at_least-after, optional_one-after, optional-then, empty-followed_by, followed_by-and, followed_by-or, or-false}
-use Rattle.defs_tree.proofs.DecimalReading.{begins_in, reads_exponent, exponent_read}
-use Rattle.defs_layout.specs.JsonNumber.{are_digits, is_whole}
-use Rattle.defs_layout.specs.JsonReal.{is_frac, is_json_number}
+use Rattle.defs_layout.proofs.Common.{[], after_all, after_one, any-after, any_number, ap, are_digits, arith, at_least-after, at_least_one, begins_in, Bool, empty-followed_by, exponent_read, false, followed_by, followed_by-and, followed_by-or, if◌then◌else◌, in_order, is_ascii_digit, is_empty, is_exponent, is_exponent_mark, is_frac, is_json_number, is_minus, is_whole, List, list_all, nat_tests, not, optional, optional-then, optional_one-after, or-false, reads_exponent, refl, Rejects, sym, true, ℕ, ◌&&◌, ◌==◌, ◌||◌, ◌∙◌, ◌∷◌, ◌≡◌}
 
 -- what follows the whole part
 abbrev pub reads_end : List ℕ → Bool

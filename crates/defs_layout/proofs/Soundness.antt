@@ -1,13 +1,7 @@
 -- The trees of JSON texts and of layouts are sound.
-use Rattle.std.proofs.Common.{◌≡◌, refl, ap, ℕ, List, [], ◌∷◌, Bool, true, false, cond, sym, ◌∙◌, true≢false}
-use Rattle.std.specs.Prelude.{ℤ, Option, Some, None, is_some, unwrap_or, bytes_eq}
-use Rattle.defs_tree.specs.Tree.{Tree, Items, Pairs, pairs_of, pair_list_of}
-use Rattle.defs_tree.specs.Pairs.{AreDistinct}
-use Rattle.defs_tree.specs.Typing.{fits_i64}
+use Rattle.defs_layout.proofs.Common.{[], Anchor, ap, AreDistinct, AreElements, begun, Bool, bytes_eq, cond, element, Elements, ended, exponent, false, fits_i64, fraction, integer_value, is_some, IsJson, IsJsonText, Items, items, Json, last_element, last_member, last_tree, List, member, Members, no_exponent, no_fraction, None, Number, number, number_tree, Option, pair_list, pair_list_of, Pairs, pairs_of, refl, Some, sym, Tree, tree_of, true, true≢false, unwrap_or, with_end, ℕ, ℤ, ◌∙◌, ◌∷◌, ◌≡◌}
 use Rattle.defs_tree.specs.Valid.{AllDistinct, AllPairsDistinct, AllFitI64, AllPairsFitI64}
-use Rattle.defs_layout.specs.JsonNumber.{Number, number, no_fraction, fraction, no_exponent, exponent, number_tree, integer_value}
-use Rattle.defs_layout.specs.Json.{Json, Elements, last_element, element, Members, last_member, member, IsJson, AreElements, AreMembers, tree_of, items, pair_list, IsJsonText}
-use Rattle.defs_layout.specs.Anchored.{Anchor, begun, ended, with_end, last_tree}
+use Rattle.defs_layout.specs.Json.{AreMembers}
 use Rattle.defs_layout.specs.Layout
 use Rattle.defs_layout.specs.Sound.{IsSound, AreAllSound, AllHaveValues, AllPairsHaveValues}
 

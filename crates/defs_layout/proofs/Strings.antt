@@ -1,13 +1,6 @@
 -- The text of a string is a string of JSON, and its value is the string.
-use Rattle.std.proofs.Common.{◌≡◌, ◌<◌, ℕ, List, [], ◌∷◌, ◌++◌, Bool, true, false, not, refl, sym, ap, ◌∙◌, arith, append_assoc, subst}
-use Rattle.std.specs.Prelude.{◌+◌, ◌/◌, ◌%◌, ◌==◌, ◌||◌, nat_lt, if◌then◌else◌}
-use Rattle.std.specs.Char.{digit_value}
-use Rattle.std.proofs.lemmas.Bool.{eqb-true, lt-ltb, and_parts, and_from, or_parts}
-use Rattle.std.proofs.lemmas.Bool.Decides.{nat_tests}
-use Rattle.defs_tree.specs.Escapes.{escaped_code, hexadecimal_digit, written_character, written_escapes, double_quoted}
-use Rattle.defs_layout.specs.JsonString.{is_surrogate, four_digits, is_hex_digit, Piece, itself, short, unicode, Short, quotation_mark, reverse_solidus, backspace, form_feed, new_line, return, tabulator, spell_piece, spell_pieces, spell_string, letter_of, character_of, value_of, unescaped, is_unescaped, is_piece, are_pieces}
+use Rattle.defs_layout.proofs.Common.{[], and_from, and_parts, ap, append_assoc, are_characters, are_pieces, arith, backspace, Bool, character_of, digit_value, double_quoted, eqb-true, escaped_code, false, form_feed, four_digits, hexadecimal_digit, if◌then◌else◌, is_character, is_hex_digit, is_piece, is_surrogate, is_unescaped, itself, letter_of, List, lt-ltb, nat_lt, nat_tests, new_line, not, or_parts, Piece, quotation_mark, refl, return, reverse_solidus, Short, short, spell_piece, spell_pieces, spell_string, subst, sym, tabulator, true, unescaped, unicode, value_of, written_character, written_escapes, ℕ, ◌%◌, ◌++◌, ◌+◌, ◌/◌, ◌<◌, ◌==◌, ◌||◌, ◌∙◌, ◌∷◌, ◌≡◌}
 use Rattle.defs_layout.specs.Marks.{backslash}
-use Rattle.defs_layout.specs.HasJson.{is_character, are_characters}
 
 -- how a character is written
 piece_of : ℕ → Piece

@@ -1,15 +1,12 @@
 -- The tokens of texts that are known as what was written, computed.
-use Rattle.std.specs.Prelude.{◌≡◌, [], ◌∷◌, true, false, codes, refl}
+use Rattle.defs_layout.proofs.Common.{[], are_marks, codes, false, full, is_blank, is_break, is_nul, refl, Tree, true, ◌∷◌, ◌≡◌}
 use Rattle.defs_token.specs.Token.{Tok, Style}
-use Rattle.defs_tree.specs.Tree.{Tree}
 use Rattle.defs_layout.specs.JsonString as string
 use Rattle.defs_layout.specs.Json
-use Rattle.defs_layout.specs.BlockLines.{full}
 use Rattle.defs_layout.specs.Layout
 use Rattle.defs_layout.specs.JsonTokens.{json_text_tokens}
 use Rattle.defs_layout.specs.LayoutTokens.{layout_tokens}
 use Rattle.defs_layout.specs.QuotedText.{single, double, HasQuotedTokens}
-use Rattle.defs_text.specs.Classes.{is_blank, is_break, is_nul, are_marks}
 use Rattle.defs_text.specs.FlowScalar.{plain_element, single_quoted_element, double_quoted_element, is_character_code, numeric_escape, escape, begins_with_marker, single_quoted_value, double_quoted_value}
 
 -- `{"a":[true,{}]}`

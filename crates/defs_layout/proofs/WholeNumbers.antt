@@ -1,14 +1,5 @@
 -- Whole numbers of JSON as integers: what the text of one stands for, and what does not follow its digits.
-use Rattle.std.proofs.Common.{◌≡◌, ℕ, List, [], ◌∷◌, ◌++◌, Bool, true, false, ◌&&◌, Option, Some, None, refl, ap, arith}
-use Rattle.std.specs.Prelude.{ℤ, pos, neg_ℤ, ◌==◌, option_map, option_and_then, if◌then◌else◌}
-use Rattle.std.specs.Char.{is_ascii_digit}
-use Rattle.std.specs.List.{list_all}
-use Rattle.std.specs.Str.Parse.{digits_value}
-use Rattle.std.proofs.lemmas.Bool.Decides.{nat_tests}
-use Rattle.defs_tree.specs.Grammar.{at_least_one}
-use Rattle.defs_tree.specs.Typing.{is_digit, signed_decimal, fits_i64}
-use Rattle.defs_tree.proofs.DecimalReading.{begins_in}
-use Rattle.defs_layout.specs.JsonNumber.{spell_minus, integer_value}
+use Rattle.defs_layout.proofs.Common.{[], ap, arith, at_least_one, begins_in, Bool, digits_value, false, fits_i64, if◌then◌else◌, integer_value, is_ascii_digit, is_digit, List, list_all, nat_tests, neg_ℤ, None, Option, option_and_then, option_map, pos, refl, signed_decimal, Some, spell_minus, true, ℕ, ℤ, ◌&&◌, ◌++◌, ◌==◌, ◌∷◌, ◌≡◌}
 
 -- the integer of a text, from whether it is all digits, and its value
 abbrev pub fitted : Bool → ℤ → Option ℤ

@@ -1,14 +1,9 @@
 -- The JSON text of a tree is JSON with that value, and nests as the tree does.
-use Rattle.std.proofs.Common.{◌≡◌, ℕ, zero, suc, List, [], ◌∷◌, ◌++◌, Bool, true, false, Option, Some, None, refl, sym, ap, ◌∙◌, subst, append_assoc, append-nil, arith, replicate}
-use Rattle.defs_tree.specs.Tree.{Tree, real, integer, string, boolean, array, hash, alias, null, bad_value, Items, no_items, item, Pairs, no_pairs, pair, pairs_of, pair_list_of}
-use Rattle.defs_tree.specs.Pairs.{AreDistinct}
-use Rattle.defs_layout.specs.JsonGap.{Blank, space, line_feed, spell_gap, TabsBeginLines}
-use Rattle.defs_layout.specs.JsonString.{Piece, spell_string, unescaped, are_pieces}
+use Rattle.defs_layout.proofs.Common.{[], alias, AllHaveJson, ap, append-nil, append_assoc, are_pieces, AreDistinct, AreElements, AreMembers, arith, bad_value, Blank, Bool, boolean, deeper, element, element_levels, Elements, false, HasJson, integer, IsJson, IsJsonGap, IsJsonText, IsKey, item, item_nesting, Items, items, Json, json_text, JsonTextsAreJson, key_end, key_text, last_element, last_member, levels, line_feed, List, member, member_levels, member_nesting, Members, more_items, more_members, nesting, no_items, no_pairs, None, null, Option, pair, pair_list, pair_list_of, Pairs, pairs_of, Piece, real, refl, replicate, Some, space, spell, spell_elements, spell_members, spell_string, string, subst, suc, sym, TabsBeginLines, Tree, tree_of, true, unescaped, zero, ℕ, ◌++◌, ◌∙◌, ◌∷◌, ◌≡◌}
+use Rattle.defs_tree.specs.Tree.{array, hash}
+use Rattle.defs_layout.specs.JsonGap.{spell_gap}
 use Rattle.defs_layout.specs.Json
-use Rattle.defs_layout.specs.Json.{Json, Elements, last_element, element, Members, last_member, member, IsJsonGap, IsJson, AreElements, IsJsonText, spell, spell_elements, spell_members, tree_of, items, pair_list, levels, element_levels, member_levels}
-use Rattle.defs_layout.specs.JsonText.{deeper, new_line, key_end, key_text, json_text, more_items, more_members}
-use Rattle.defs_layout.specs.HasJson.{HasJson, AllHaveJson, AreMembers, IsKey, nesting, item_nesting, member_nesting}
-use Rattle.defs_layout.specs.JsonLaws.{JsonTextsAreJson}
+use Rattle.defs_layout.specs.JsonText.{new_line}
 use Rattle.defs_layout.proofs.Strings.{pieces_of, all_written, string_spelt}
 use Rattle.defs_layout.proofs.Integers.{integer_number, integer_written}
 use Rattle.defs_layout.proofs.Numbers.{real_written}

@@ -1,8 +1,5 @@
 -- Rows one after the other: what a proof along the steps of a scanner wants.
-use Rattle.std.proofs.Common.{◌≡◌, ℕ, List, [], ◌∷◌, ◌++◌, Option, sym, ap, subst, ◌∙◌, refl}
-use Rattle.defs_token.specs.Token.{Tok}
-use Rattle.defs_token.specs.Account.{Account}
-use Rattle.defs_token.specs.Cut.{Written, IsRow, IsWritten, tokens_of, spelled, first_token, account_past, account_past_row}
+use Rattle.defs_token.proofs.Common.{[], Account, account_past, account_past_row, ap, first_token, IsRow, IsWritten, List, Option, refl, spelled, subst, sym, Tok, tokens_of, Written, ℕ, ◌++◌, ◌∙◌, ◌∷◌, ◌≡◌}
 
 -- the text of two rows
 pub spelled_append : (ws vs : List Written) (f : List ℕ) → spelled (ws ++ vs) f ≡ spelled ws (spelled vs f)

@@ -1,8 +1,5 @@
 -- Tokens of short texts that are cuts of them, by computing.
-use Rattle.std.proofs.Common.{List, [], ◌∷◌, refl}
-use Rattle.std.specs.Prelude.{codes}
-use Rattle.defs_token.specs.Token.{version_directive, tag_directive, document_start, document_end, block_sequence_start, block_mapping_start, block_end, flow_sequence_start, flow_sequence_end, flow_mapping_start, flow_mapping_end, block_entry, flow_entry, key, value, alias, anchor, tag, scalar, plain, single_quoted, double_quoted}
-use Rattle.defs_token.specs.Cut.{Written, IsCut}
+use Rattle.defs_token.proofs.Common.{[], alias, anchor, block_end, block_entry, block_mapping_start, block_sequence_start, codes, document_end, document_start, double_quoted, flow_entry, flow_mapping_end, flow_mapping_start, flow_sequence_end, flow_sequence_start, IsCut, key, List, plain, refl, scalar, single_quoted, tag, tag_directive, value, version_directive, Written, ◌∷◌}
 use Rattle.defs_token.proofs.OnLiterals.{cut_on_literals, cut_by, row_by_computing}
 use Rattle.defs_token.proofs.Shown.{position, written, tokens_between}
 

@@ -1,17 +1,5 @@
 -- Tokens that are no cut of a text.
-use Rattle.std.proofs.Common.{◌≡◌, ℕ, zero, suc, List, [], ◌∷◌, ◌++◌, false, ◌&&◌, ◌||◌, ◌==◌, Option, Some, None, sym, ap, subst, ◌∙◌, refl, take, drop, length}
-use Rattle.std.specs.Prelude.{codes}
-use Rattle.std.proofs.Math.Seq.{take-append_seam, drop-append_seam}
-use Rattle.defs_text.specs.Classes.{is_blank, is_break, is_nul, is_blank_or_end, is_flow, are_marks}
-use Rattle.defs_text.specs.FlowScalar.{plain_element, begins_with_marker, plain_value}
-use Rattle.defs_text.specs.Position.{Position}
-use Rattle.defs_token.specs.Token.{Tok, Token, stream_end, scalar, plain}
-use Rattle.defs_text.specs.Text.{up_to_nul}
-use Rattle.defs_token.specs.Separation.{is_separation}
-use Rattle.defs_token.specs.Plain.{is_whole_plain}
-use Rattle.defs_token.specs.Account.{Account, first_account, blocks_at, innermost_column}
-use Rattle.defs_token.specs.Piece.{Holds, IsPiece}
-use Rattle.defs_token.specs.Cut.{Written, IsCut, IsWritten, IsRow, tokens_of, spelled, account_at, start_token, end_token}
+use Rattle.defs_token.proofs.Common.{[], Account, account_at, ap, are_marks, begins_with_marker, blocks_at, codes, drop, drop-append_seam, end_token, false, first_account, Holds, innermost_column, is_blank, is_blank_or_end, is_break, is_flow, is_nul, is_separation, is_whole_plain, IsCut, IsPiece, IsRow, IsWritten, length, List, None, Option, plain, plain_element, plain_value, Position, refl, scalar, Some, spelled, start_token, stream_end, subst, suc, sym, take, take-append_seam, Tok, Token, tokens_of, up_to_nul, Written, zero, ℕ, ◌&&◌, ◌++◌, ◌==◌, ◌||◌, ◌∙◌, ◌∷◌, ◌≡◌}
 
 abbrev pub rest_of : List Token → List Token
 rest_of [] = []

@@ -1,13 +1,5 @@
 -- A implicit key is known to be one only at its colon: what a row stays when its key, and the start of its mapping, come before it late.
-use Rattle.std.proofs.Common.{◌≡◌, ℕ, List, [], ◌∷◌, ◌++◌, Bool, true, false, not, ◌&&◌, ◌||◌, if◌then◌else◌, Option, Some, None, sym, ap, subst, ◌∙◌, inr, refl}
-use Rattle.defs_text.specs.Classes.{is_blank, is_break}
-use Rattle.defs_text.specs.Position.{Position}
-use Rattle.defs_token.specs.Token.{Tok, Token, stream_start, stream_end, version_directive, tag_directive, document_start, document_end, block_sequence_start, block_mapping_start, block_end, flow_sequence_start, flow_sequence_end, flow_mapping_start, flow_mapping_end, block_entry, flow_entry, key, value, alias, anchor, tag, scalar, plain, single_quoted, double_quoted, literal, folded}
-use Rattle.defs_text.specs.Breaks.{has_no_break}
-use Rattle.defs_token.specs.Plain.{Stand, inside, after_blank, on_line, past, past_blank, ends_plain, goes_on, stops, ends_with_content, is_whole_plain}
-use Rattle.defs_token.specs.Account.{Account, Before, quoted, collection, other, before_past, is_in_flow, collection_column, blocks_at, blocks_past, account_past_separation, account_past_token}
-use Rattle.defs_token.specs.Piece.{IsPiece, Holds, begins_node}
-use Rattle.defs_token.specs.Cut.{Written, IsRow, spelled, first_token, account_at, account_past}
+use Rattle.defs_token.proofs.Common.{[], Account, account_at, account_past, account_past_separation, account_past_token, after_blank, alias, anchor, ap, Before, before_past, begins_node, block_end, block_entry, block_mapping_start, block_sequence_start, blocks_at, blocks_past, Bool, collection, collection_column, document_end, document_start, double_quoted, ends_plain, ends_with_content, false, first_token, flow_entry, flow_mapping_end, flow_mapping_start, flow_sequence_end, flow_sequence_start, folded, goes_on, has_no_break, Holds, if◌then◌else◌, inr, inside, is_blank, is_break, is_in_flow, is_whole_plain, IsPiece, IsRow, key, List, literal, None, not, on_line, Option, other, past, past_blank, plain, Position, quoted, refl, scalar, single_quoted, Some, spelled, Stand, stops, stream_end, stream_start, subst, sym, tag, tag_directive, Tok, Token, true, value, version_directive, Written, ℕ, ◌&&◌, ◌++◌, ◌||◌, ◌∙◌, ◌∷◌, ◌≡◌}
 
 -- ---- a key without a piece before a node
 

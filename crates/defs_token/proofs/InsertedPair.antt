@@ -1,16 +1,6 @@
 -- What a row stays when the start of a single-pair mapping, and its key, come before it late.
-use Rattle.std.proofs.Common.{◌≡◌, ℕ, suc, List, [], ◌∷◌, ◌++◌, Bool, true, false, ◌&&◌, ◌||◌, ◌==◌, not, if◌then◌else◌, length, nat_lt, Option, Some, None, sym, ap, subst, ◌∙◌, inl, inr, refl}
-use Rattle.std.specs.Prelude.{codes}
 use Rattle.std.proofs.lemmas.Bool.{eqb-true}
-use Rattle.defs_text.specs.Classes.{is_one_of, is_blank, is_break, is_nul, is_blank_or_end, is_flow, is_at_gap, is_document_marker}
-use Rattle.defs_text.specs.Tags.{Tag, written_tag, after_mark}
-use Rattle.defs_text.specs.Position.{Position}
-use Rattle.defs_token.specs.Token.{Tok, Token, flow_sequence_start, flow_sequence_end, flow_mapping_start, flow_mapping_end, flow_entry, key, value, alias, anchor, tag, scalar, plain, single_quoted, double_quoted}
-use Rattle.defs_token.specs.Separation.{past_separation}
-use Rattle.defs_token.specs.Plain.{begins_flow, is_value_indicator, may_begin, begins_plain}
-use Rattle.defs_token.specs.Account.{FlowKind, sequence, mapping, Level, Account, is_in_flow, is_adjacent, levels_past, account_past_separation}
-use Rattle.defs_token.specs.Piece.{IsPiece, Holds, begins_node, begins_with_space_or_break, begins_with_key_indicator}
-use Rattle.defs_token.specs.Cut.{Written, IsRow, spelled, first_token, account_at, account_past}
+use Rattle.defs_token.proofs.Common.{[], Account, account_at, account_past, account_past_separation, after_mark, alias, anchor, ap, begins_flow, begins_node, begins_plain, begins_with_key_indicator, begins_with_space_or_break, Bool, codes, double_quoted, false, first_token, flow_entry, flow_mapping_end, flow_mapping_start, flow_sequence_end, flow_sequence_start, FlowKind, Holds, if◌then◌else◌, inl, inr, is_adjacent, is_at_gap, is_blank, is_blank_or_end, is_break, is_document_marker, is_flow, is_in_flow, is_nul, is_one_of, is_value_indicator, IsPiece, IsRow, key, length, Level, levels_past, List, mapping, may_begin, nat_lt, None, not, Option, past_separation, plain, Position, refl, scalar, sequence, single_quoted, Some, spelled, subst, suc, sym, Tag, tag, Tok, Token, true, value, Written, written_tag, ℕ, ◌&&◌, ◌++◌, ◌==◌, ◌||◌, ◌∙◌, ◌∷◌, ◌≡◌}
 use Rattle.defs_token.proofs.Inserted.{bare, empty_token, key_at, key_inserted, bare_row}
 
 -- an account with other flow levels

@@ -16,3 +16,4 @@ pub mod OnLiterals
 pub mod RowShown
 pub mod Rows
 pub mod Shown
+mod Common

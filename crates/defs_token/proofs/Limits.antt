@@ -1,15 +1,5 @@
 -- The conditions of a cut at their limits, by computing: what is allowed and what is not.
-use Rattle.std.proofs.Common.{◌≡◌, [], ◌∷◌, ◌++◌, true, false, Some, None, replicate, refl}
-use Rattle.std.specs.Prelude.{codes}
-use Rattle.defs_text.specs.BlockScalar.{BlockStyle}
-use Rattle.defs_token.specs.Token.{flow_entry, flow_sequence_end, stream_end, value, anchor}
-use Rattle.defs_text.specs.Text.{up_to_nul}
-use Rattle.defs_text.specs.Position.{position_after}
-use Rattle.defs_token.specs.Separation.{is_separation}
-use Rattle.defs_token.specs.Plain.{is_value_indicator, begins_plain, is_whole_plain}
-use Rattle.defs_token.specs.BlockPiece.{block_read, block_position}
-use Rattle.defs_token.specs.Account.{sequence, mapping, quoted, collection, other, first_account, is_closed, has_room, takes_pair, has_open_pair, before_past, settled, levels_past}
-use Rattle.defs_token.specs.Piece.{begins_node, ends_entry, begins_with_space_or_break, is_name, goes_on_with_name}
+use Rattle.defs_token.proofs.Common.{[], anchor, before_past, begins_node, begins_plain, begins_with_space_or_break, block_position, block_read, BlockStyle, codes, collection, ends_entry, false, first_account, flow_entry, flow_sequence_end, goes_on_with_name, has_open_pair, has_room, is_closed, is_name, is_separation, is_value_indicator, is_whole_plain, levels_past, mapping, None, other, position_after, quoted, refl, replicate, sequence, settled, Some, stream_end, takes_pair, true, up_to_nul, value, ◌++◌, ◌∷◌, ◌≡◌}
 use Rattle.defs_token.proofs.OnLiterals.{cut_on_literals}
 use Rattle.defs_token.proofs.Shown.{position, first}
 

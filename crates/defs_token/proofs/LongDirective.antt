@@ -1,16 +1,5 @@
 -- A directive is one line: with the next line it is no cut.
-use Rattle.std.proofs.Common.{◌≡◌, ℕ, zero, suc, List, [], ◌∷◌, ◌++◌, false, ◌&&◌, ◌||◌, ◌==◌, Option, Some, sym, ap, subst, ◌∙◌, refl, take, drop, length, inl, inr}
-use Rattle.std.specs.Prelude.{codes}
-use Rattle.std.proofs.Math.Seq.{take-append_seam, drop-append_seam}
-use Rattle.defs_text.specs.Classes.{is_blank, is_break, is_nul}
-use Rattle.defs_text.specs.Position.{Position}
-use Rattle.defs_token.specs.Token.{Tok, Token, stream_end, tag_directive}
-use Rattle.defs_text.specs.Text.{up_to_nul}
-use Rattle.defs_text.specs.Breaks.{is_at_line_end, has_no_break}
-use Rattle.defs_token.specs.Separation.{is_separation}
-use Rattle.defs_token.specs.Account.{Account, first_account}
-use Rattle.defs_token.specs.Piece.{Holds, IsPiece, IsTagLine}
-use Rattle.defs_token.specs.Cut.{Written, IsCut, IsWritten, IsRow, tokens_of, spelled, account_at, start_token, end_token}
+use Rattle.defs_token.proofs.Common.{[], Account, account_at, ap, codes, drop, drop-append_seam, end_token, false, first_account, has_no_break, Holds, inl, inr, is_at_line_end, is_blank, is_break, is_nul, is_separation, IsCut, IsPiece, IsRow, IsTagLine, IsWritten, length, List, Option, Position, refl, Some, spelled, start_token, stream_end, subst, suc, sym, tag_directive, take, take-append_seam, Tok, Token, tokens_of, up_to_nul, Written, zero, ℕ, ◌&&◌, ◌++◌, ◌==◌, ◌||◌, ◌∙◌, ◌∷◌, ◌≡◌}
 use Rattle.defs_token.proofs.DroppedLine.{rest_of, first_tok, head, not_alone}
 
 abbrev both_lines : Position → Token

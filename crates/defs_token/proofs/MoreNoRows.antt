@@ -1,9 +1,6 @@
 -- More rows that are none, by computing: keys in flow, columns in flow, and the line after a directive.
-use Rattle.std.proofs.Common.{[], ◌∷◌, true, false}
-use Rattle.std.specs.Prelude.{codes}
-use Rattle.defs_token.specs.Token.{tag_directive, document_start, flow_sequence_start, flow_sequence_end, flow_mapping_start, flow_mapping_end, block_entry, flow_entry, key, value, alias, anchor, scalar, plain}
+use Rattle.defs_token.proofs.Common.{[], alias, anchor, block_entry, codes, document_start, false, flow_entry, flow_mapping_end, flow_mapping_start, flow_sequence_end, flow_sequence_start, HasRow, key, plain, scalar, tag_directive, true, value, ◌∷◌}
 use Rattle.defs_token.proofs.OnLiterals.{cut_on_literals}
-use Rattle.defs_token.specs.Row.{HasRow}
 use Rattle.defs_token.proofs.RowShown.{step}
 
 -- an explicit key where no key may begin

@@ -1,11 +1,6 @@
 -- More texts with their rows, and their tokens with positions, by computing: flow collections, documents, and what the original does of its own.
-use Rattle.std.proofs.Common.{[], ◌∷◌, true, false, inl, inr, refl}
-use Rattle.std.specs.Prelude.{codes}
-use Rattle.defs_token.specs.Token.{stream_start, stream_end, version_directive, tag_directive, document_start, document_end, block_sequence_start, block_mapping_start, block_end, flow_sequence_start, flow_sequence_end, flow_mapping_start, flow_mapping_end, block_entry, flow_entry, key, value, tag, scalar, plain, single_quoted, double_quoted, literal, folded}
+use Rattle.defs_token.proofs.Common.{[], block_end, block_entry, block_mapping_start, block_sequence_start, codes, document_end, document_start, double_quoted, false, flow_entry, flow_mapping_end, flow_mapping_start, flow_sequence_end, flow_sequence_start, folded, inl, inr, IsRead, key, literal, plain, put, refl, Row, scalar, single_quoted, stream_end, stream_start, tag, tag_directive, true, value, version_directive, ◌∷◌}
 use Rattle.defs_token.proofs.OnLiterals.{cut_on_literals}
-use Rattle.defs_token.specs.Step.{Row}
-use Rattle.defs_token.specs.Tokens.{put}
-use Rattle.defs_token.specs.Row.{IsRead}
 use Rattle.defs_token.proofs.RowShown.{position, step}
 
 -- a flow collection as a key; the pairs in it are their own

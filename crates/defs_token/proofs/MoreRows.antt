@@ -1,8 +1,5 @@
 -- More tokens of short texts that are cuts of them, by computing.
-use Rattle.std.proofs.Common.{List, [], ◌∷◌, inr, refl}
-use Rattle.std.specs.Prelude.{codes}
-use Rattle.defs_token.specs.Token.{tag_directive, document_start, document_end, block_sequence_start, block_mapping_start, block_end, flow_sequence_start, flow_sequence_end, flow_mapping_start, flow_mapping_end, block_entry, flow_entry, key, value, tag, scalar, plain, double_quoted, literal, folded}
-use Rattle.defs_token.specs.Cut.{Written, IsCut, IsCutOfBeginning, tokens_of, start_token}
+use Rattle.defs_token.proofs.Common.{[], block_end, block_entry, block_mapping_start, block_sequence_start, codes, document_end, document_start, double_quoted, flow_entry, flow_mapping_end, flow_mapping_start, flow_sequence_end, flow_sequence_start, folded, inr, IsCut, IsCutOfBeginning, key, List, literal, plain, refl, scalar, start_token, tag, tag_directive, tokens_of, value, Written, ◌∷◌}
 use Rattle.defs_token.proofs.OnLiterals.{cut_on_literals, cut_by, begun_by, row_by_computing}
 use Rattle.defs_token.proofs.Shown.{position, written, first, tokens_between}
 

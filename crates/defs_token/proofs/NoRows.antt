@@ -1,9 +1,6 @@
 -- Rows that are none, by computing. Each is refused by the rule that is named alone: without it, it would be one.
-use Rattle.std.proofs.Common.{[], ◌∷◌, true, false}
-use Rattle.std.specs.Prelude.{codes}
-use Rattle.defs_token.specs.Token.{document_end, flow_sequence_start, flow_sequence_end, block_entry, key, value, scalar, plain, double_quoted, literal}
+use Rattle.defs_token.proofs.Common.{[], block_entry, codes, document_end, double_quoted, false, flow_sequence_end, flow_sequence_start, HasRow, key, literal, plain, scalar, true, value, ◌∷◌}
 use Rattle.defs_token.proofs.OnLiterals.{cut_on_literals}
-use Rattle.defs_token.specs.Row.{HasRow}
 use Rattle.defs_token.proofs.RowShown.{step}
 
 -- a TAB indents the line of a value

@@ -1,19 +1,6 @@
 -- What computes cuts of texts that are written out: one word for a proof's `unfolding`, and lemmas for its rows.
-use Rattle.std.proofs.Common.{◌≡◌, ℕ, pred, List, [], ◌∷◌, ◌++◌, false, Option, Some, None, inl, inr, take, drop, length, refl}
-use Rattle.std.specs.Prelude.{⊤}
-use Rattle.defs_text.specs.Classes.{single_quote, double_quote, is_blank, is_break, is_nul, is_blank_or_end, is_flow, is_decimal_digit, is_letter, is_alpha, is_uri, is_tag, is_anchor_name, are_marks}
-use Rattle.defs_text.specs.Position.{Position}
-use Rattle.defs_text.specs.Text.{up_to_nul}
-use Rattle.defs_text.specs.FlowScalar.{begins_with, plain_element, single_quoted_element, double_quoted_element, is_character_code, numeric_escape, escape, begins_with_marker, plain_value, single_quoted_value, double_quoted_value}
-use Rattle.defs_text.specs.BlockScalar.{BlockStyle, sign_of, digit_of, is_empty_line, is_content_line, row_of}
-use Rattle.defs_text.specs.Tags.{octet_at, lead_of, is_trail, escaped_character, uri_character}
+use Rattle.defs_token.proofs.Common.{[], Account, account_past_row, are_marks, begins_with, begins_with_marker, block_position, block_read, BlockRead, BlockStyle, collection_column, digit_of, double_quote, double_quoted_element, double_quoted_value, drop, escape, escaped_character, false, first_account, Holds, inl, inr, is_alpha, is_anchor_name, is_blank, is_blank_or_end, is_break, is_character_code, is_closed, is_content_line, is_decimal_digit, is_empty_line, is_flow, is_letter, is_nul, is_separation, is_tag, is_trail, is_uri, IsBegun, IsBlockScalar, IsCut, IsDoubleQuoted, IsOutsideFlow, IsRow, IsSingleQuoted, lead_of, length, List, None, numeric_escape, octet_at, Option, plain_element, plain_value, Position, pred, refl, row_of, sign_of, single_quote, single_quoted_element, single_quoted_value, Some, spelled, start_token, stream_end, take, tokens_of, up_to_nul, uri_character, Written, ℕ, ⊤, ◌++◌, ◌∷◌, ◌≡◌}
 use Rattle.defs_text.specs.Directives.{directive_of}
-use Rattle.defs_token.specs.Token.{stream_end}
-use Rattle.defs_token.specs.Separation.{is_separation}
-use Rattle.defs_token.specs.BlockPiece.{BlockRead, block_read, block_position}
-use Rattle.defs_token.specs.Account.{Account, first_account, is_closed, collection_column}
-use Rattle.defs_token.specs.Piece.{Holds, IsOutsideFlow, IsSingleQuoted, IsDoubleQuoted, IsBlockScalar}
-use Rattle.defs_token.specs.Cut.{Written, IsRow, IsCut, IsBegun, spelled, tokens_of, account_past_row, start_token}
 use Rattle.defs_token.proofs.Shown.{first, tokens_between}
 
 -- the classes of characters, and the values of scalars, tags and directives

@@ -1,5 +1,5 @@
 -- Limits of single rules, by computing.
-use Rattle.std.proofs.Common.{◌≡◌, [], ◌∷◌, true, false, refl}
+use Rattle.defs_token.proofs.Common.{[], false, refl, true, ◌∷◌, ◌≡◌}
 use Rattle.defs_token.specs.Key.{is_near}
 use Rattle.defs_token.specs.Column.{not_ended, opened}
 use Rattle.defs_token.specs.Indentation.{least_column}

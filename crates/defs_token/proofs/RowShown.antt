@@ -1,8 +1,5 @@
 -- Short words for rows of steps.
-use Rattle.std.proofs.Common.{ℕ, List, Bool}
-use Rattle.defs_text.specs.Position.{Position}
-use Rattle.defs_token.specs.Token.{Tok}
-use Rattle.defs_token.specs.Step.{Step}
+use Rattle.defs_token.proofs.Common.{Bool, List, Position, Step, Tok, ℕ}
 
 -- a position
 abbrev pub position : (index line col : ℕ) → Position

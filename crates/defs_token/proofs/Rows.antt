@@ -1,11 +1,6 @@
 -- Texts with their rows, and their tokens with positions, by computing.
-use Rattle.std.proofs.Common.{[], ◌∷◌, true, false, inl, refl}
-use Rattle.std.specs.Prelude.{codes}
-use Rattle.defs_token.specs.Token.{stream_start, stream_end, block_sequence_start, block_mapping_start, block_end, flow_sequence_start, flow_sequence_end, flow_mapping_start, flow_mapping_end, block_entry, flow_entry, key, value, alias, anchor, tag, scalar, plain, double_quoted}
+use Rattle.defs_token.proofs.Common.{[], alias, anchor, block_end, block_entry, block_mapping_start, block_sequence_start, codes, double_quoted, false, flow_entry, flow_mapping_end, flow_mapping_start, flow_sequence_end, flow_sequence_start, inl, IsRead, key, plain, put, refl, Row, scalar, stream_end, stream_start, tag, true, value, ◌∷◌}
 use Rattle.defs_token.proofs.OnLiterals.{cut_on_literals}
-use Rattle.defs_token.specs.Step.{Row}
-use Rattle.defs_token.specs.Tokens.{put}
-use Rattle.defs_token.specs.Row.{IsRead}
 use Rattle.defs_token.proofs.RowShown.{position, step}
 
 -- nothing

@@ -1,8 +1,5 @@
 -- Short words for rows of tokens.
-use Rattle.std.proofs.Common.{ℕ, List, [], ◌∷◌, ◌++◌}
-use Rattle.defs_text.specs.Position.{Position}
-use Rattle.defs_token.specs.Token.{Tok, Token}
-use Rattle.defs_token.specs.Cut.{Written, tokens_of, start_token, end_token}
+use Rattle.defs_token.proofs.Common.{[], end_token, List, Position, start_token, Tok, Token, tokens_of, Written, ℕ, ◌++◌, ◌∷◌}
 
 -- a position
 abbrev pub position : (index line col : ℕ) → Position

@@ -1,13 +1,5 @@
 -- One flag for the pairs of all flow levels: the tokens that it gives for a nested sequence are no cut.
-use Rattle.std.proofs.Common.{◌≡◌, ℕ, zero, suc, List, [], ◌∷◌, ◌++◌, Bool, true, false, ◌&&◌, ◌==◌, not, Some, sym, ap, subst, ◌∙◌, inl, inr, refl}
-use Rattle.std.specs.Prelude.{codes}
-use Rattle.defs_text.specs.Classes.{is_nul}
-use Rattle.defs_text.specs.Tags.{all_of}
-use Rattle.defs_text.specs.Position.{Position}
-use Rattle.defs_token.specs.Token.{Tok, Token, stream_end, flow_sequence_start, flow_sequence_end, flow_mapping_start, flow_mapping_end, flow_entry, key, value, scalar, plain}
-use Rattle.defs_text.specs.Text.{up_to_nul}
-use Rattle.defs_token.specs.Account.{first_account}
-use Rattle.defs_token.specs.Cut.{Written, IsCut, IsRow, tokens_of, spelled, start_token, end_token}
+use Rattle.defs_token.proofs.Common.{[], all_of, ap, Bool, codes, end_token, false, first_account, flow_entry, flow_mapping_end, flow_mapping_start, flow_sequence_end, flow_sequence_start, inl, inr, is_nul, IsCut, IsRow, key, List, not, plain, Position, refl, scalar, Some, spelled, start_token, stream_end, subst, suc, sym, Tok, Token, tokens_of, true, up_to_nul, value, Written, zero, ℕ, ◌&&◌, ◌++◌, ◌==◌, ◌∙◌, ◌∷◌, ◌≡◌}
 use Rattle.defs_token.proofs.Shown.{position, first}
 
 abbrev text : List ℕ

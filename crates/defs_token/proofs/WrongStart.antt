@@ -1,14 +1,5 @@
 -- The start of a single-pair mapping, where the pair begins with `?` or where none begins: such tokens are no cut.
-use Rattle.std.proofs.Common.{◌≡◌, ℕ, List, [], ◌∷◌, ◌++◌, false, ◌&&◌, ◌||◌, ◌==◌, Option, Some, sym, ap, subst, ◌∙◌, inl, inr, refl}
-use Rattle.std.specs.Prelude.{codes}
-use Rattle.defs_text.specs.Classes.{is_blank, is_break, is_nul}
-use Rattle.defs_text.specs.Position.{Position}
-use Rattle.defs_token.specs.Token.{Tok, Token, stream_end, flow_sequence_start, flow_sequence_end, flow_mapping_start, flow_mapping_end, key, scalar, plain}
-use Rattle.defs_text.specs.Text.{up_to_nul}
-use Rattle.defs_token.specs.Separation.{is_separation, past_separation}
-use Rattle.defs_token.specs.Account.{Account, first_account}
-use Rattle.defs_token.specs.Piece.{Holds, IsPiece, begins_pair, begins_with_key_indicator}
-use Rattle.defs_token.specs.Cut.{Written, IsCut, IsWritten, IsRow, tokens_of, spelled, account_at, account_past, start_token, end_token}
+use Rattle.defs_token.proofs.Common.{[], Account, account_at, account_past, ap, begins_pair, begins_with_key_indicator, codes, end_token, false, first_account, flow_mapping_end, flow_mapping_start, flow_sequence_end, flow_sequence_start, Holds, inl, inr, is_blank, is_break, is_nul, is_separation, IsCut, IsPiece, IsRow, IsWritten, key, List, Option, past_separation, plain, Position, refl, scalar, Some, spelled, start_token, stream_end, subst, sym, Tok, Token, tokens_of, up_to_nul, Written, ℕ, ◌&&◌, ◌++◌, ◌==◌, ◌||◌, ◌∙◌, ◌∷◌, ◌≡◌}
 use Rattle.defs_token.proofs.DroppedLine.{head}
 use Rattle.defs_token.proofs.WrongPair.{piece_of, separation_of, rest_of, with_tokens, own_tokens, but_last, but_last_append}
 use Rattle.defs_token.proofs.Shown.{position, first}

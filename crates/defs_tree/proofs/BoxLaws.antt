@@ -1,22 +1,7 @@
 -- No line of a box holds a line feed.
-use Rattle.std.proofs.Common.{◌≡◌, ℕ, suc, ◌+◌, ◌/◌, ◌%◌, ◌<◌, ◌≤◌, ◌^◌, List, [], ◌∷◌, ◌++◌, Bool, true, false, not, ◌&&◌, ◌||◌, refl, sym, ap, ◌∙◌, arith}
-use Rattle.std.specs.Prelude.{ℤ, pos, negsuc, if◌then◌else◌, ◌==◌, nat_lt, codes}
-use Rattle.std.specs.List.{list_all, list_any}
-use Rattle.std.specs.Fmt.{decimal, signed_decimal as decimal_digits}
-use Rattle.std.specs.Str.Parse.{AllDigits}
-use Rattle.std.proofs.lemmas.Fmt.{decimal_is_IsNumeral}
-use Rattle.std.proofs.lemmas.Str.Parse.{digit_from_value}
-use Rattle.std.proofs.lemmas.Bool.{true≢false, and_parts, and_from, or_parts, ne_eqb, eqb-true, ltb-true, false_from_ne_true, not_from_false}
-use Rattle.defs_tree.specs.Tree.{Tree, real, integer, string, boolean, array, hash, alias, null, bad_value, Items, no_items, item, Pairs, no_pairs, pair}
-use Rattle.defs_tree.specs.Typing.{fits_i64}
-use Rattle.defs_tree.specs.Escapes.{hexadecimal_digit, escaped_code, written_character, written_escapes, double_quoted}
-use Rattle.defs_tree.specs.Quoting.{is_quoted, is_unfit_for_plain}
-use Rattle.defs_tree.specs.Spelling.{spelling, string_spelling, boolean_spelling, is_scalar}
-use Rattle.defs_tree.specs.Lines.{is_unbroken, lines_of}
-use Rattle.defs_tree.specs.Literal.{literal_header, is_literal_text, is_root_literal}
+use Rattle.std.specs.Fmt.{signed_decimal as decimal_digits}
+use Rattle.defs_tree.proofs.Common.{[], alias, AllDigits, AllFitI64, AllHaveText, AllPairsFitI64, AllPairsHaveText, and_from, and_parts, ap, arith, array, bad_value, Bool, boolean, boolean_spelling, codes, decimal, decimal_is_IsNumeral, digit_from_value, double_quoted, eqb-true, escaped_code, false, false_from_ne_true, fits_i64, FitsI64, hash, HasText, hexadecimal_digit, if◌then◌else◌, integer, is_literal_text, is_quoted, is_root_literal, is_scalar, is_unbroken, is_unfit_for_plain, item, Items, lines_of, List, list_all, list_any, literal_header, ltb-true, nat_lt, ne_eqb, negsuc, no_items, no_pairs, not, not_from_false, null, or_parts, pair, Pairs, pos, real, refl, spelling, string, string_spelling, suc, sym, Tree, true, true≢false, written_character, written_escapes, ℕ, ℤ, ◌%◌, ◌&&◌, ◌++◌, ◌+◌, ◌/◌, ◌<◌, ◌==◌, ◌^◌, ◌||◌, ◌∙◌, ◌∷◌, ◌≡◌, ◌≤◌}
 use Rattle.defs_tree.specs.Box.{indented, hung, hung_lower, placed, if_none, is_block, literal_box, string_box, pair_box, box, item_boxes, pair_boxes}
-use Rattle.defs_tree.specs.Valid.{FitsI64, AllFitI64, AllPairsFitI64}
-use Rattle.defs_tree.specs.Writable.{HasText, AllHaveText, AllPairsHaveText}
 use Rattle.defs_tree.proofs.GrammarLaws.{list_all-more}
 use Rattle.defs_tree.proofs.LinesLaws.{lines_of_unbroken}
 use Rattle.defs_tree.proofs.RealTexts.{is_real_character, real_text-characters}

@@ -1,10 +1,5 @@
 -- The decimal grammar read from left to right: a sign, digits, a point, digits, an exponent. For code that reads so.
-use Rattle.std.proofs.Common.{◌≡◌, ℕ, List, [], ◌∷◌, Bool, true, false, ◌&&◌, ◌||◌, refl, ap, ◌∙◌, arith}
-use Rattle.std.specs.Prelude.{if◌then◌else◌}
-use Rattle.std.specs.Char.{is_ascii_digit}
-use Rattle.std.proofs.lemmas.Bool.Decides.{nat_tests}
-use Rattle.defs_tree.specs.Grammar.{one, any_number, at_least_one, optional, followed_by, in_order}
-use Rattle.defs_tree.specs.Typing.{is_sign, is_point, is_exponent_mark, is_exponent, is_mantissa, is_decimal}
+use Rattle.defs_tree.proofs.Common.{[], any_number, ap, arith, at_least_one, Bool, false, followed_by, if◌then◌else◌, in_order, is_ascii_digit, is_decimal, is_exponent, is_exponent_mark, is_mantissa, is_point, is_sign, List, nat_tests, one, optional, refl, true, ℕ, ◌&&◌, ◌||◌, ◌∙◌, ◌∷◌, ◌≡◌}
 use Rattle.defs_tree.proofs.GrammarLaws.{Rejects, after_all, after_one, one-then, at_least-after, any-after, optional_one-after, followed_by-or, followed_by-assoc, followed_by-empty, or-false}
 
 -- the first character is of a class

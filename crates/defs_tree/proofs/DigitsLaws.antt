@@ -1,7 +1,6 @@
 -- The number of binary digits is the least exponent of two above a number.
-use Rattle.std.proofs.Common.{ℕ, zero, suc, ◌<◌, ◌≤◌, ◌/◌, ◌^◌, arith}
 use Rattle.std.proofs.Math.Nat.{pow-suc}
-use Rattle.defs_tree.specs.Digits.{digits_up_to, binary_digits, IsLeastExponent}
+use Rattle.defs_tree.proofs.Common.{arith, binary_digits, digits_up_to, IsLeastExponent, suc, zero, ℕ, ◌/◌, ◌<◌, ◌^◌, ◌≤◌}
 
 pub least_up_to : (turns n : ℕ) → n ≤ turns → IsLeastExponent n (digits_up_to turns n)
 least_up_to turns zero h = (omega arith, λ j e. omega arith)

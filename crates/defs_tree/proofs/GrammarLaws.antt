@@ -1,10 +1,5 @@
 -- How the marks of a grammar go together: equations on `followed_by`, by which a text is read from left to right.
-use Rattle.std.proofs.Common.{◌⊎◌, inl, inr, subst, ◌≡◌, ℕ, List, [], ◌∷◌, ◌++◌, Bool, true, false, not, ◌&&◌, ◌||◌, refl, sym, ap, ◌∙◌}
-use Rattle.std.specs.Prelude.{if◌then◌else◌}
-use Rattle.std.specs.List.{list_all}
-use Rattle.std.proofs.lemmas.Bool.{and_parts, or_cases, and_from, or_left, or_right}
-use Rattle.defs_tree.specs.Grammar.{IsSplit, one, any_number, at_least_one, optional, followed_by}
-use Rattle.defs_text.specs.Text.{is_empty}
+use Rattle.defs_tree.proofs.Common.{[], and_from, and_parts, any_number, ap, at_least_one, Bool, false, followed_by, if◌then◌else◌, inl, inr, is_empty, IsSplit, List, list_all, not, one, optional, or_cases, or_left, or_right, refl, subst, sym, true, ℕ, ◌&&◌, ◌++◌, ◌||◌, ◌∙◌, ◌∷◌, ◌≡◌, ◌⊎◌}
 
 -- ---- tests
 

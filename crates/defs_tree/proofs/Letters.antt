@@ -1,15 +1,6 @@
 -- A text of one letter many times over is a string that isn't quoted: an example at the limit of a key's length.
-use Rattle.std.proofs.Common.{◌≡◌, ℕ, zero, suc, List, [], ◌∷◌, Bool, true, false, arith, refl, ◌∙◌}
-use Rattle.std.specs.Prelude.{replicate, codes, nat_eq, ◌==◌}
-use Rattle.std.specs.List.{ends_with, list_any}
 use Rattle.std.specs.Str.{str_to_ascii_lowercase}
-use Rattle.std.proofs.lemmas.Bool.{cond-false}
-use Rattle.std.proofs.lemmas.Bool.Decides.{nat_tests}
-use Rattle.defs_tree.specs.Tree.{string}
-use Rattle.defs_tree.specs.Grammar.{is_among, in_order}
-use Rattle.defs_tree.specs.Typing.{typing, is_sign}
-use Rattle.defs_tree.specs.Quoting.{is_quoted, is_unfit_for_plain, is_float_word}
-use Rattle.defs_tree.specs.Spelling.{spelling}
+use Rattle.defs_tree.proofs.Common.{[], arith, Bool, codes, cond-false, ends_with, false, in_order, is_among, is_float_word, is_quoted, is_sign, is_unfit_for_plain, List, list_any, nat_eq, nat_tests, refl, replicate, spelling, string, suc, true, typing, zero, ℕ, ◌==◌, ◌∙◌, ◌∷◌, ◌≡◌}
 use Rattle.defs_tree.proofs.DecimalReading.{is_decimal-read}
 use Rattle.defs_tree.proofs.GrammarLaws.{optional_one-after, followed_by-empty, Rejects}
 use Rattle.defs_tree.proofs.LinesLaws.{ends_with-step}

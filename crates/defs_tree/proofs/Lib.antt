@@ -17,3 +17,4 @@ pub mod ReadBack
 pub mod RealTexts
 pub mod TypingLaws
 pub mod Unquoted
+mod Common

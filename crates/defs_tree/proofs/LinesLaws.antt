@@ -1,12 +1,6 @@
 -- The lines of a text make the text, and are those of std's `lines`.
-use Rattle.std.proofs.Common.{◌⊎◌, inl, inr, subst, take, ◌≡◌, ℕ, zero, suc, ◌-◌, List, [], ◌∷◌, ◌++◌, length, drop, Bool, true, false, cond, not, ◌&&◌, ◌||◌, refl, sym, ap, ◌∙◌, arith}
-use Rattle.std.specs.Prelude.{if◌then◌else◌, nat_eq, ◌==◌, codes, slice_index}
-use Rattle.std.specs.List.{ends_with, list_all, slice_split, onto_first}
-use Rattle.std.specs.Str.Lines.{lines, lines_of_parts, strip_carriage_return}
+use Rattle.defs_tree.proofs.Common.{[], and_parts, ap, arith, Bool, cases_eq, codes, cond, drop, ended, ends_with, false, if◌then◌else◌, inl, inr, is_empty, is_unbroken, length, lines, lines_of, lines_of_parts, List, list_all, nat_eq, ne_eqb, not, not-true, onto_first, onto_first_line, refl, slice_index, slice_split, strip_carriage_return, subst, suc, sym, take, true, zero, ℕ, ◌&&◌, ◌++◌, ◌-◌, ◌==◌, ◌||◌, ◌∙◌, ◌∷◌, ◌≡◌, ◌⊎◌}
 use lib.Pointwise.{pointwise}
-use Rattle.std.proofs.lemmas.Bool.{ne_eqb, and_parts, not-true, cases_eq}
-use Rattle.defs_tree.specs.Lines.{is_unbroken, lines_of, onto_first_line, ended}
-use Rattle.defs_text.specs.Text.{is_empty}
 
 -- ---- the last character
 

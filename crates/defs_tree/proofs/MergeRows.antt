@@ -1,9 +1,5 @@
 -- Merges, worked.
-use Rattle.std.specs.Prelude.{◌≡◌, ℕ, List, [], ◌∷◌, Some, None, codes, pos, refl}
-use Rattle.defs_tree.specs.Tree.{Tree, real, integer, string, array, hash, null, items_of, pairs_of}
-use Rattle.defs_tree.specs.Path.{index, key}
-use Rattle.defs_tree.specs.Merge.{merge_key, merged}
-use Rattle.defs_tree.specs.MergeFault.{any_node, first_fault}
+use Rattle.defs_tree.proofs.Common.{[], any_node, array, codes, first_fault, hash, index, integer, items_of, key, List, merge_key, merged, None, null, pairs_of, pos, real, refl, Some, string, Tree, ℕ, ◌∷◌, ◌≡◌}
 
 -- ---- nodes
 

@@ -1,17 +1,9 @@
 -- What merges do to a tree.
-use Rattle.std.proofs.Common.{◌≡◌, ◌≢◌, List, [], ◌∷◌, ◌++◌, Option, Some, None, Bool, true, false, cond, refl, sym, ap, ◌∙◌, subst, append_assoc, append-nil}
-use Rattle.std.specs.Prelude.{is_some}
-use Rattle.std.specs.Option.{option_or}
-use Rattle.std.proofs.lemmas.Bool.{true≢false}
-use Rattle.defs_tree.specs.Tree.{Tree, array, hash, Items, no_items, item, Pairs, no_pairs, pair, items_of, list_of, pairs_of, pair_list_of}
-use Rattle.defs_tree.specs.Order.{tree_eq}
-use Rattle.defs_tree.specs.Pairs.{lookup, has_key, without, Lacks, AreDistinct}
-use Rattle.defs_tree.specs.Valid.{IsDistinct, AllDistinct, AllPairsDistinct}
+use Rattle.defs_tree.proofs.Common.{[], AllDistinct, AllLackMergeKeys, AllPairsDistinct, ap, append-nil, append_assoc, AreDistinct, array, Bool, brought, cond, false, has_key, hash, is_some, IsDistinct, item, Items, items_of, Lacks, LacksMergeKeys, List, list_of, lookup, merge_key, merged, merged_items, merged_pairs, merged_values, no_items, no_pairs, None, Option, option_or, pair, pair_list_of, Pairs, pairs_of, pairs_of_mappings, refl, Some, subst, sym, Tree, tree_eq, true, true≢false, ValuesLackMergeKeys, with_new_pair, with_new_pairs, without, ◌++◌, ◌∙◌, ◌∷◌, ◌≡◌, ◌≢◌}
 use Rattle.defs_tree.proofs.OrderLaws.{tree_eq_decides}
 use Rattle.defs_tree.proofs.OverlayLaws.{Each, each_append, each_lookup, list_of_pairs}
 use Rattle.defs_tree.proofs.PairsLaws.{tree_eq-other, AreDistinct-append, AreDistinct-without, Lacks-itself, lookup-without_other}
 use Rattle.defs_tree.proofs.TypingLaws.{OfSome}
-use Rattle.defs_tree.specs.Merge.{merge_key, with_new_pair, with_new_pairs, pairs_of_mappings, brought, merged_pairs, merged, merged_items, merged_values, LacksMergeKeys, AllLackMergeKeys, ValuesLackMergeKeys}
 use Rattle.defs_tree.specs.MergeLaws.{value_among, value_brought}
 
 -- ---- values at keys

@@ -1,13 +1,5 @@
 -- Laid over one another, trees with distinct keys have distinct keys.
-use Rattle.std.proofs.Common.{◌≡◌, List, [], ◌∷◌, ◌++◌, Option, Some, None, Bool, true, false, cond, not, refl, sym, ap, ◌∙◌, subst}
-use Rattle.std.specs.Prelude.{is_some}
-use Rattle.std.specs.Option.{option_map_or}
-use Rattle.std.proofs.lemmas.Bool.{true≢false}
-use Rattle.defs_tree.specs.Tree.{Tree, hash, Pairs, no_pairs, pair, pairs_of, pair_list_of}
-use Rattle.defs_tree.specs.Order.{tree_eq}
-use Rattle.defs_tree.specs.Pairs.{lookup, has_key, Lacks, AreDistinct}
-use Rattle.defs_tree.specs.Valid.{IsDistinct, AllPairsDistinct}
-use Rattle.defs_tree.specs.Overlay.{overlay, pairs_under, new_pairs}
+use Rattle.defs_tree.proofs.Common.{[], AllPairsDistinct, ap, AreDistinct, Bool, cond, false, has_key, hash, is_some, IsDistinct, Lacks, List, lookup, new_pairs, no_pairs, None, not, Option, option_map_or, overlay, pair, pair_list_of, Pairs, pairs_of, pairs_under, refl, Some, subst, sym, Tree, tree_eq, true, true≢false, ◌++◌, ◌∙◌, ◌∷◌, ◌≡◌}
 use Rattle.defs_tree.proofs.PairsLaws.{tree_eq-itself}
 use Rattle.defs_tree.proofs.TypingLaws.{OfSome}
 

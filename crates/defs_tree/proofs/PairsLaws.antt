@@ -1,10 +1,5 @@
 -- What inserting does to a list of pairs.
-use Rattle.std.proofs.Common.{◌≡◌, ◌≢◌, List, [], ◌∷◌, ◌++◌, Some, None, Bool, true, false, cond, not, refl, sym, ap, ◌∙◌, subst}
-use Rattle.std.specs.List.{filter}
-use Rattle.std.proofs.lemmas.Bool.{true≢false, false_from_ne_true}
-use Rattle.defs_tree.specs.Tree.{Tree}
-use Rattle.defs_tree.specs.Order.{tree_eq}
-use Rattle.defs_tree.specs.Pairs.{lookup, without, insert, Lacks, AreDistinct}
+use Rattle.defs_tree.proofs.Common.{[], ap, AreDistinct, Bool, cond, false, false_from_ne_true, filter, insert, Lacks, List, lookup, None, not, refl, Some, subst, sym, Tree, tree_eq, true, true≢false, without, ◌++◌, ◌∙◌, ◌∷◌, ◌≡◌, ◌≢◌}
 use Rattle.defs_tree.proofs.OrderLaws.{tree_eq_decides}
 
 pub tree_eq-itself : (t : Tree) → tree_eq t t ≡ true

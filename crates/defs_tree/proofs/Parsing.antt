@@ -1,16 +1,7 @@
 -- A signed number is what std's `parse` and `from_str_radix` read at 64 bits, from the bytes of the text. For code that calls them.
-use Rattle.std.proofs.Common.{◌≡◌, ◌≢◌, ℕ, zero, suc, ◌<◌, ◌≤◌, ◌^◌, List, [], ◌∷◌, Option, Some, None, Bool, true, false, not, ◌⊎◌, inl, inr, refl, sym, ap, ◌∙◌, subst, arith}
-use Rattle.std.specs.Prelude.{ℤ, pos, negsuc, neg_ℤ, Result, Ok, Err, MatchResult, option_map, option_and_then, if◌then◌else◌, nat_lt, chars, IsUtf8, IsAscii, FitsSigned}
 use Rattle.std.specs.Int.{w64}
-use Rattle.std.specs.List.{list_all}
-use Rattle.std.specs.Char.{digit_value}
-use Rattle.std.specs.Str.Parse.{AllDigits, IsNumeral, digits_value, signed_digits_value, without_leading_sign, ParsesSigned}
 use Rattle.std.proofs.lemmas.Str.{chars-IsAscii, encodes-IsAscii, encodes-chars}
-use Rattle.std.proofs.lemmas.Bool.{true≢false, and_parts, and_from, ne_eqb, cases_eq, ltb-true, lt-ltb}
-use Rattle.std.proofs.lemmas.Bool.Decides.{nat_tests}
-use Rattle.defs_tree.specs.Grammar.{at_least_one}
-use Rattle.defs_text.specs.Text.{is_empty}
-use Rattle.defs_tree.specs.Typing.{is_digit, with_sign, signed_number, fits_i64}
+use Rattle.defs_tree.proofs.Common.{[], AllDigits, and_from, and_parts, ap, arith, at_least_one, Bool, cases_eq, chars, digit_value, digits_value, Err, false, fits_i64, FitsSigned, if◌then◌else◌, inl, inr, is_digit, is_empty, IsAscii, IsNumeral, IsUtf8, List, list_all, lt-ltb, ltb-true, MatchResult, nat_lt, nat_tests, ne_eqb, neg_ℤ, negsuc, None, not, Ok, Option, option_and_then, option_map, ParsesSigned, pos, refl, Result, signed_digits_value, signed_number, Some, subst, suc, sym, true, true≢false, with_sign, without_leading_sign, zero, ℕ, ℤ, ◌<◌, ◌^◌, ◌∙◌, ◌∷◌, ◌≡◌, ◌≢◌, ◌≤◌, ◌⊎◌}
 
 -- ---- numerals
 

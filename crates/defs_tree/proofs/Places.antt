@@ -1,9 +1,5 @@
 -- Where a key's pair stands in a list of pairs, and what that says of the list. For code that searches.
-use Rattle.std.proofs.Common.{◌≡◌, ℕ, zero, suc, ◌<◌, List, [], ◌∷◌, length, Option, Some, None, Bool, true, false, cond, ◌⊎◌, inl, inr, refl, sym, ap, ◌∙◌, subst, arith}
-use Rattle.std.specs.Prelude.{option_map, option_and_then}
-use Rattle.defs_tree.specs.Tree.{Tree}
-use Rattle.defs_tree.specs.Order.{tree_eq}
-use Rattle.defs_tree.specs.Pairs.{lookup, without, place_of, value_at, with_value_at, with_value, Lacks, AreDistinct}
+use Rattle.defs_tree.proofs.Common.{[], ap, AreDistinct, arith, Bool, cond, false, inl, inr, Lacks, length, List, lookup, None, Option, option_and_then, option_map, place_of, refl, Some, subst, suc, sym, Tree, tree_eq, true, value_at, with_value, with_value_at, without, zero, ℕ, ◌<◌, ◌∙◌, ◌∷◌, ◌≡◌, ◌⊎◌}
 
 -- a place of the key: within the list, with the key's value
 pub record IsPlaceOf (k : Tree) (us : List (Tree × Tree)) (i : ℕ) : Type 0 where

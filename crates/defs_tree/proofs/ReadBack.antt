@@ -1,19 +1,6 @@
 -- The spelling of a scalar, where it is plain, stands for that scalar.
-use Rattle.std.proofs.Common.{◌≡◌, ◌≢◌, ℕ, suc, ◌<◌, ◌≤◌, ◌^◌, Bool, true, false, not, ◌&&◌, List, [], ◌∷◌, Some, None, refl, sym, ap, ◌∙◌, arith}
-use Rattle.std.specs.Prelude.{ℤ, pos, negsuc, option_and_then, if◌then◌else◌, ◌==◌, nat_lt, bytes_eq}
-use Rattle.std.specs.List.{list_all}
-use Rattle.std.specs.Char.{digit_value}
-use Rattle.std.specs.Str.Parse.{AllDigits, digits_value, IsNumeral}
-use Rattle.std.specs.Fmt.{decimal, signed_decimal as decimal_digits}
-use Rattle.std.proofs.lemmas.Fmt.{decimal_is_IsNumeral}
-use Rattle.std.proofs.lemmas.Str.Parse.{digit_from_value}
-use Rattle.std.proofs.lemmas.Bool.{ltb-true, lt-ltb, ne_eqb, and_left, or_from, or_parts, and_parts, not-false, not-true, cond-false}
-use Rattle.defs_tree.specs.Tree.{Tree, real, integer, string, boolean, array, hash, alias, null, bad_value}
-use Rattle.defs_tree.specs.Grammar.{is_among}
-use Rattle.defs_tree.specs.Typing.{typing, number, signed_decimal, after_prefix, fits_i64, is_digit, is_string, is_decimal, null_words, true_words, false_words}
-use Rattle.defs_tree.specs.Quoting.{is_quoted}
-use Rattle.defs_tree.specs.Spelling.{spelling}
-use Rattle.defs_tree.specs.Laws.{IsSpeltPlain}
+use Rattle.std.specs.Fmt.{signed_decimal as decimal_digits}
+use Rattle.defs_tree.proofs.Common.{[], after_prefix, alias, AllDigits, and_left, and_parts, ap, arith, array, bad_value, Bool, boolean, bytes_eq, cond-false, decimal, decimal_is_IsNumeral, digit_from_value, digit_value, digits_value, false, false_words, fits_i64, hash, if◌then◌else◌, integer, is_among, is_decimal, is_digit, is_quoted, is_string, IsNumeral, IsSpeltPlain, List, list_all, lt-ltb, ltb-true, nat_lt, ne_eqb, negsuc, None, not, not-false, not-true, null, null_words, number, option_and_then, or_from, or_parts, pos, real, refl, signed_decimal, Some, spelling, string, suc, sym, Tree, true, true_words, typing, ℕ, ℤ, ◌&&◌, ◌<◌, ◌==◌, ◌^◌, ◌∙◌, ◌∷◌, ◌≡◌, ◌≢◌, ◌≤◌}
 use Rattle.defs_tree.proofs.TypingLaws.{typing-real, typing-string}
 
 -- ---- texts that begin with a digit or a minus

@@ -1,15 +1,5 @@
 -- The characters of a text that stands for a real: it isn't empty, and it has no blank, no break and no indicator but signs.
-use Rattle.std.proofs.Common.{◌≡◌, ℕ, List, [], ◌∷◌, Bool, true, false, ◌||◌, ◌⊎◌, inl, inr, refl, subst, arith}
-use Rattle.std.specs.Prelude.{codes, bytes_eq}
-use Rattle.std.specs.List.{list_all}
-use Rattle.std.specs.Char.{is_ascii_digit}
-use Rattle.std.proofs.lemmas.Bool.{and_parts, or_cases, or_left}
-use Rattle.std.proofs.lemmas.Bool.Decides.{nat_tests}
-use Rattle.std.proofs.lemmas.Slice.Eq.{bytes_eq-Decides}
-use Rattle.defs_tree.specs.Grammar.{one, any_number, at_least_one, optional, in_order, is_among}
-use Rattle.defs_text.specs.Text.{is_empty}
-use Rattle.defs_tree.specs.Typing.{typing, is_decimal, is_real_text, is_sign, is_point, is_exponent_mark, is_exponent, is_mantissa, special_words}
-use Rattle.defs_tree.specs.Quoting.{is_in}
+use Rattle.defs_tree.proofs.Common.{[], and_parts, any_number, arith, at_least_one, Bool, bytes_eq, bytes_eq-Decides, codes, false, in_order, inl, inr, is_among, is_ascii_digit, is_decimal, is_empty, is_exponent, is_exponent_mark, is_in, is_mantissa, is_point, is_real_text, is_sign, List, list_all, nat_tests, one, optional, or_cases, or_left, refl, special_words, subst, true, typing, ℕ, ◌||◌, ◌∷◌, ◌≡◌, ◌⊎◌}
 use Rattle.defs_tree.proofs.GrammarLaws.{IsWithin, IsWithin-followed_by, IsWithin-empty, IsWithin-one, IsWithin-any_number, IsWithin-at_least_one, IsWithin-optional, IsWithin-or, IsWithin-none}
 use Rattle.defs_tree.proofs.TypingLaws.{real_text-cases}
 

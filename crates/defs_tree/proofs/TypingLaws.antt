@@ -1,12 +1,5 @@
 -- What typing gives, and that a plain spelling stands for its scalar.
-use Rattle.std.proofs.Common.{◌⊎◌, inl, inr, ◌≡◌, ℕ, Bool, true, false, ◌&&◌, List, [], ◌∷◌, Option, Some, None, refl, sym, ap, ◌∙◌}
-use Rattle.std.specs.Prelude.{ℤ, IsTrue, is_none, unwrap_or, option_map, option_and_then, if◌then◌else◌, codes}
-use Rattle.std.specs.List.{list_all}
-use Rattle.std.proofs.lemmas.Bool.{true≢false, and_parts}
-use Rattle.defs_tree.specs.Tree.{Tree, real, integer, string, boolean, array, hash, alias, null, bad_value}
-use Rattle.defs_tree.specs.Grammar.{is_among}
-use Rattle.defs_tree.specs.Typing.{typing, rows, by_rows, where_true, with_sign, signed_number, signed_decimal, after_prefix, fits_i64, is_string, is_real, is_real_text, is_decimal, null_words, true_words, false_words, special_words}
-use Rattle.defs_tree.specs.Laws.{MayStandFor}
+use Rattle.defs_tree.proofs.Common.{[], after_prefix, alias, and_parts, ap, array, bad_value, Bool, boolean, by_rows, codes, false, false_words, fits_i64, hash, if◌then◌else◌, inl, inr, integer, is_among, is_decimal, is_none, is_real, is_real_text, is_string, IsTrue, List, list_all, MayStandFor, None, null, null_words, Option, option_and_then, option_map, real, refl, rows, signed_decimal, signed_number, Some, special_words, string, sym, Tree, true, true_words, true≢false, typing, unwrap_or, where_true, with_sign, ℕ, ℤ, ◌&&◌, ◌∙◌, ◌∷◌, ◌≡◌, ◌⊎◌}
 
 -- a fact of what a row gives, where it gives something
 abbrev pub OfSome : {A : Type 0} → (A → Type 0) → Option A → Type 0

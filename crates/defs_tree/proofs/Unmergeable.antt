@@ -1,13 +1,6 @@
 -- Without merge keys there is nothing that cannot be merged.
-use Rattle.std.proofs.Common.{◌≡◌, ◌≢◌, ℕ, ◌+◌, None, refl, ap, ◌∙◌}
-use Rattle.std.specs.Prelude.{if◌then◌else◌}
-use Rattle.std.specs.Option.{option_or}
-use Rattle.defs_tree.specs.Tree.{Tree, array, hash, Items, no_items, item, Pairs, no_pairs, pair, pair_list_of}
-use Rattle.defs_tree.specs.Pairs.{Lacks}
+use Rattle.defs_tree.proofs.Common.{AllLackMergeKeys, any_node, ap, array, below, first_fault, first_item_fault, first_pair_fault, hash, if◌then◌else◌, index, item, Items, Lacks, LacksMergeKeys, mappings, merge_key, no_items, no_pairs, None, option_or, pair, pair_list_of, Pairs, refl, step_to, Tree, ValuesLackMergeKeys, wanted_at, ℕ, ◌+◌, ◌∙◌, ◌≡◌, ◌≢◌}
 use Rattle.defs_tree.proofs.PairsLaws.{tree_eq-other}
-use Rattle.defs_tree.specs.Path.{index}
-use Rattle.defs_tree.specs.Merge.{merge_key, LacksMergeKeys, AllLackMergeKeys, ValuesLackMergeKeys}
-use Rattle.defs_tree.specs.MergeFault.{any_node, mappings, wanted_at, step_to, below, first_fault, first_item_fault, first_pair_fault}
 
 any_is_wanted : (k : Tree) → merge_key ≢ k → wanted_at k ≡ any_node
 any_is_wanted k n = ap (λ b. if b then mappings else any_node) (tree_eq-other merge_key k n)

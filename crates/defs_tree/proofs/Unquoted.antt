@@ -1,13 +1,5 @@
 -- What is known of a string that is written as it stands.
-use Rattle.std.proofs.Common.{◌≡◌, ℕ, List, false, not}
-use Rattle.std.specs.Prelude.{codes}
-use Rattle.std.specs.List.{list_any}
-use Rattle.std.proofs.lemmas.Bool.{or_parts}
-use Rattle.defs_tree.specs.Tree.{string}
-use Rattle.defs_tree.specs.Grammar.{is_among}
-use Rattle.defs_text.specs.Text.{is_empty}
-use Rattle.defs_tree.specs.Typing.{typing, is_string}
-use Rattle.defs_tree.specs.Quoting.{is_quoted, has_outer_space, has_indicator_first, begins_with, is_unfit_for_plain, reserved_words, is_float_word}
+use Rattle.defs_tree.proofs.Common.{begins_with, codes, false, has_indicator_first, has_outer_space, is_among, is_empty, is_float_word, is_quoted, is_string, is_unfit_for_plain, List, list_any, not, or_parts, reserved_words, string, typing, ℕ, ◌≡◌}
 use Rattle.defs_tree.proofs.ReadBack.{string_back}
 
 pub record IsUnquoted (s : List ℕ) : Type 0 where

@@ -1,13 +1,8 @@
 -- Lemmas about the scan of a block scalar.
-use Rattle.std.proofs.Common.{◌≡◌, ◌≢◌, ℕ, List, [], ◌∷◌, Bool, true, false, not, ◌&&◌, ◌==◌, nat_lt, Ok, Err, refl, slice_index, max}
-use Rattle.defs_text.specs.Position.{Position}
-use Rattle.yaml_chars.specs.Class.{is_break, is_digit}
-use Rattle.yaml_tokens.specs.declared.problem.Fault.TheVariants.{At}
+use Rattle.model_scanner.proofs.Common.{[], At, begins, begun, Bool, chomping, ends_indent, Err, false, First, first_indent, header_break, increment, indent_from, is_break, is_digit, line, linebreak, Lines, lines_from, List, Margin, margin, max, nat_lt, no_tab, not, Ok, past, Position, refl, slice_index, true, ℕ, ◌&&◌, ◌==◌, ◌∷◌, ◌≡◌, ◌≢◌}
 use Rattle.yaml_tokens.specs.declared.problem.Problem.TheVariants as problem
 use Rattle.yaml_tokens.specs.declared.token.Chomping.TheVariants.{Clip}
-use Rattle.model_scanner.specs.Machine.{past}
-use Rattle.model_scanner.specs.Blanks.{linebreak}
-use Rattle.model_scanner.specs.BlockScalar.{Lines, margin, line, lines_from, begins, begun, with_char, ends_indent, chomping, increment, header_break, no_tab, indent_from, First, first_indent, Margin}
+use Rattle.model_scanner.specs.BlockScalar.{with_char}
 
 -- where no indicator stands
 pub no_chomping : (c : ℕ) (a : List ℕ) (p : Position) → c ≡ slice_index a 0 → (c == 43) ≡ false → (c == 45) ≡ false → chomping a p ≡ record { rest = a; position = p; value = Clip }

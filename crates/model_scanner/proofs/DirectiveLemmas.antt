@@ -1,12 +1,7 @@
 -- Lemmas about the scan of a directive.
-use Rattle.std.proofs.Common.{◌≡◌, ◌≢◌, ℕ, ◌+◌, ◌*◌, ◌^◌, ◌<◌, ◌≤◌, List, [], ◌∷◌, true, false, Ok, Err, refl, slice_index, arith, add-one, lit<}
 use Rattle.std.proofs.Math.Nat.{pow-succ', pow-le-pow_right}
-use Rattle.defs_text.specs.Position.{Position}
-use Rattle.yaml_chars.specs.Class.{is_break, is_digit}
-use Rattle.yaml_tokens.specs.declared.problem.Fault.TheVariants.{At}
+use Rattle.model_scanner.proofs.Common.{[], add-one, arith, At, Digits, digits_end, directive_break, Err, false, is_break, is_digit, linebreak, List, lit<, number_from, Ok, Position, refl, slice_index, true, ℕ, ◌*◌, ◌+◌, ◌<◌, ◌^◌, ◌∷◌, ◌≡◌, ◌≢◌, ◌≤◌}
 use Rattle.yaml_tokens.specs.declared.problem.Problem.TheVariants as problem
-use Rattle.model_scanner.specs.Blanks.{linebreak}
-use Rattle.model_scanner.specs.Directive.{Digits, number_from, digits_end, directive_break}
 
 -- one digit more
 pub ten_more : (v n d : ℕ) → v < 10 ^ n → d < 10 → v * 10 + d < 10 ^ (n + 1)

@@ -1,9 +1,5 @@
 -- The stream's end is the last token of all.
-use Rattle.std.proofs.Common.{◌≡◌, ℕ, zero, suc, List, [], ◌∷◌, ◌++◌, true, refl, sym, ◌∙◌}
-use Rattle.std.specs.List.{insert}
-use Rattle.defs_token.specs.Token.{Tok, Token}
-use Rattle.model_scanner.specs.State.{ScannerState}
-use Rattle.model_scanner.specs.Run.{Reaches, start}
+use Rattle.model_scanner.proofs.Common.{[], insert, List, Reaches, refl, ScannerState, start, suc, sym, Tok, Token, true, zero, ℕ, ◌++◌, ◌∙◌, ◌∷◌, ◌≡◌}
 use Rattle.model_scanner.proofs.NoEnds.{IsNoEnd}
 use Rattle.model_scanner.proofs.Walk.{Watched, IsKept, Fares, goes, over, fares}
 

@@ -1,10 +1,6 @@
 -- A token that stands before every open key never moves: what was fetched up to it stays the beginning of all tokens.
-use Rattle.std.proofs.Common.{◌≡◌, ℕ, ◌-◌, ◌≤◌, List, [], ◌∷◌, ◌++◌, Option, length, refl, ap, ◌∙◌, arith, append_assoc, length-append}
-use Rattle.std.specs.List.{insert}
 use Rattle.std.proofs.lemmas.List.Edits.{insert-append_right}
-use Rattle.defs_token.specs.Token.{Token}
-use Rattle.model_scanner.specs.State.{Key, Held, ScannerState}
-use Rattle.model_scanner.specs.Run.{Reaches, here, there}
+use Rattle.model_scanner.proofs.Common.{[], ap, append_assoc, arith, Held, here, insert, Key, length, length-append, List, Option, Reaches, refl, ScannerState, there, Token, ℕ, ◌++◌, ◌-◌, ◌∙◌, ◌∷◌, ◌≡◌, ◌≤◌}
 use Rattle.model_scanner.proofs.Walk as walk
 use Rattle.model_scanner.proofs.Walk.{Watched, IsKept, KeysAre, goes, over, fares}
 

@@ -1,8 +1,5 @@
 -- What holds of what a step leaves, unless it refuses: rules for the forms that the model's functions are made of.
-use Rattle.std.proofs.Common.{◌≡◌, Bool, true, false, if◌then◌else◌, Result, Ok, Err, refl, ap, subst}
-use Rattle.yaml_tokens.specs.declared.problem.Fault.{Fault}
-use Rattle.model_scanner.specs.Machine.{Read}
-use Rattle.model_scanner.specs.State.{Held, ScannerState, ◌>>=◌, with_held, go_on, lexed}
+use Rattle.model_scanner.proofs.Common.{ap, Bool, Err, false, Fault, go_on, Held, if◌then◌else◌, lexed, Ok, Read, refl, Result, ScannerState, subst, true, with_held, ◌>>=◌, ◌≡◌}
 
 -- P holds of what is left, unless it is a fault
 pub data Holds {A : Type 0} (P : A → Type 0) : Result A Fault → Type 0 where

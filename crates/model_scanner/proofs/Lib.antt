@@ -14,3 +14,4 @@ pub mod SpaceLemmas
 pub mod TagLemmas
 pub mod UriLemmas
 pub mod Walk
+mod Common

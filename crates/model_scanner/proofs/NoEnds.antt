@@ -1,15 +1,6 @@
 -- Tokens that are not the stream's end.
-use Rattle.std.proofs.Common.{ℕ, List, [], ◌∷◌, Bool, true, false, ◌==◌, slice_index, Result, Ok, Err, drop}
-use Rattle.defs_text.specs.Position.{Position}
-use Rattle.yaml_chars.specs.Class.{is_blank_or_breakz}
-use Rattle.defs_token.specs.Token.{Tok}
-use Rattle.yaml_tokens.specs.declared.problem.Fault.{Fault}
-use Rattle.model_scanner.specs.Machine.{Read, and_then, past}
-use Rattle.model_scanner.specs.Blanks.{blanks}
-use Rattle.model_scanner.specs.Tag.{handle, prefix}
-use Rattle.model_scanner.specs.Directive.{Kind, version, unknown, name, number, with_minor, after_major, version_value, with_prefix, prefix_after, tag_value, value, line_end, with_end, after_value, after_name, directive}
+use Rattle.model_scanner.proofs.Common.{[], after_major, after_name, after_value, anchor_token, and_then, blanks, Bool, directive, drop, Err, false, Fault, handle, is_blank_or_breakz, Kind, line_end, List, name, number, Ok, past, Position, prefix, prefix_after, Read, Result, slice_index, tag_value, Tok, true, unknown, value, version, version_value, with_end, with_minor, with_prefix, ℕ, ◌==◌, ◌∷◌}
 use Rattle.model_scanner.specs.Directive as kind
-use Rattle.model_scanner.specs.Document.{anchor_token}
 use Rattle.model_scanner.proofs.Holds.{Holds, went, refused, choice}
 
 abbrev pub IsNoEnd : Tok → Type 0

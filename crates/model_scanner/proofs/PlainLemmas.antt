@@ -1,19 +1,9 @@
 -- Lemmas about the scan of a plain scalar.
-use Rattle.std.proofs.Common.{◌≡◌, ◌≢◌, ℕ, ◌+◌, List, [], ◌∷◌, Bool, true, false, ◌||◌, ◌&&◌, not, ◌==◌, refl, if◌then◌else◌, slice_index, sym, ap, ◌∙◌, arith, ◌<◌, nat_lt, Ok, Err, Result, inl, inr}
-use Rattle.std.proofs.lemmas.Bool.Decides.{nat_tests}
-use Rattle.std.proofs.lemmas.Bool.{eqb-true, cases_Bool}
-use Rattle.defs_text.specs.Position.{Position}
-use Rattle.yaml_chars.specs.Class.{is_break, is_blank, is_blank_or_breakz, is_flow}
-use Rattle.yaml_chars.specs.Run.{stops}
+use Rattle.model_scanner.proofs.Common.{[], ap, arith, at_dash, at_marker, at_plain, Bool, can_be_plain, cases_Bool, Context, ends_gap, ends_run, ends_tabs, eqb-true, Err, false, Fault, first, Folded, goes_on, if◌then◌else◌, inl, inr, inside, is_blank, is_blank_or_breakz, is_break, is_flow, is_shallow, joined, List, nat_lt, nat_tests, not, nothing, Ok, past, Plain, plain, plain_from, Position, refl, Result, slice_index, starts, stops, sym, tabs, true, with_blank, with_break, with_char, ℕ, ◌&&◌, ◌+◌, ◌<◌, ◌==◌, ◌||◌, ◌∙◌, ◌∷◌, ◌≡◌, ◌≢◌}
 use Rattle.yaml_chars.specs.Words.{begins_word}
-use Rattle.yaml_chars.specs.declared.run.Run.TheVariants.{Plain}
-use Rattle.yaml_tokens.specs.declared.problem.Fault.{Fault}
-use Rattle.model_scanner.specs.declared.context.Context.{Context}
-use Rattle.model_scanner.specs.Machine.{past, at_marker}
-use Rattle.model_scanner.specs.Folding.{Folded, nothing, with_char, with_blank, with_break, joined}
 use Rattle.model_scanner.proofs.QuotedLemmas.{blank_no_break}
 use Rattle.model_scanner.proofs.RunLemmas.{no_gap}
-use Rattle.model_scanner.specs.Plain.{plain_from, first, inside, between, tabs, ends_run, ends_gap, ends_tabs, goes_on, is_shallow, at_dash, at_plain, can_be_plain, starts, plain}
+use Rattle.model_scanner.specs.Plain.{between}
 
 -- at a comment and at a line's end blanks after a TAB are a gap
 at_hash : is_break 35 ≡ false

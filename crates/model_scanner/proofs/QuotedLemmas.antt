@@ -1,17 +1,7 @@
 -- Lemmas about the scan of a quoted scalar.
-use Rattle.std.proofs.Common.{◌≡◌, ◌≢◌, ℕ, zero, suc, ◌+◌, ◌*◌, List, [], ◌∷◌, Bool, true, false, ◌||◌, ◌&&◌, not, ◌==◌, refl, slice_index, ap, sym, ◌∙◌, Ok, Err, ◌<◌, ◌≤◌, nat_lt, arith, inl, inr}
-use Rattle.std.proofs.lemmas.Bool.Decides.{nat_tests}
-use Rattle.std.proofs.lemmas.Bool.{eqb-true, cases_Bool}
-use Rattle.std.specs.Char.{digit_value}
-use Rattle.defs_text.specs.Position.{Position}
-use Rattle.yaml_chars.specs.Class.{is_break, is_blank, is_hex}
-use Rattle.yaml_tokens.specs.declared.problem.Fault.{Fault}
-use Rattle.yaml_tokens.specs.declared.problem.Fault.TheVariants.{At}
+use Rattle.model_scanner.proofs.Common.{[], after, ap, arith, At, at_marker, Bool, cases_Bool, closed, Context, digit_value, digits, digits_from, eqb-true, Err, Escape, escape_of, false, Fault, Folded, gap, inl, inr, is_blank, is_break, is_hex, is_scalar, joined, List, named, nat_lt, nat_tests, not, nothing, Ok, past, Position, quote_of, quoted, quoted_from, refl, slice_index, suc, sym, true, with_blank, with_char, zero, ℕ, ◌&&◌, ◌*◌, ◌+◌, ◌<◌, ◌==◌, ◌||◌, ◌∙◌, ◌∷◌, ◌≡◌, ◌≢◌, ◌≤◌}
 use Rattle.yaml_tokens.specs.declared.problem.Problem.TheVariants as problem
-use Rattle.model_scanner.specs.declared.context.Context.{Context}
-use Rattle.model_scanner.specs.Machine.{past, at_marker}
-use Rattle.model_scanner.specs.Folding.{Folded, nothing, with_char, with_blank, joined}
-use Rattle.model_scanner.specs.Quoted.{quoted, quoted_from, digits_from, quote_of, Escape, escape_of, is_scalar, refused, first, inside, gap, after, named, digits, closed}
+use Rattle.model_scanner.specs.Quoted.{refused, first, inside}
 
 module _ (single : Bool) (ctx : Context) (start : Position) where
   -- a blank or a break of a line begins a gap

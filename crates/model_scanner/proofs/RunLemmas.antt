@@ -1,12 +1,7 @@
 -- A run of ordinary characters of one line belongs to a scalar's text as it stands.
-use Rattle.std.proofs.Common.{◌≡◌, ℕ, List, [], ◌∷◌, ◌++◌, ◌∙◌, ap, Bool, true, false, ◌||◌, ◌&&◌, ◌==◌, refl, slice_index}
-use Rattle.defs_text.specs.Position.{Position}
-use Rattle.yaml_chars.specs.Class.{is_break, is_blank, is_breakz, is_flow}
-use Rattle.yaml_chars.specs.Run.{Ran, stops, ran}
+use Rattle.model_scanner.proofs.Common.{[], ap, Bool, Context, false, is_blank, is_break, is_breakz, is_flow, List, past, Position, Ran, ran, refl, slice_index, stops, true, ℕ, ◌&&◌, ◌++◌, ◌==◌, ◌||◌, ◌∙◌, ◌∷◌, ◌≡◌}
 use Rattle.yaml_chars.specs.declared.run.Run.{Run}
 use Rattle.yaml_chars.specs.declared.run.Run.TheVariants as kind
-use Rattle.model_scanner.specs.declared.context.Context.{Context}
-use Rattle.model_scanner.specs.Machine.{past}
 use Rattle.model_scanner.specs.Folding as folding
 use Rattle.model_scanner.specs.Plain as plain
 use Rattle.model_scanner.specs.Quoted as quoted

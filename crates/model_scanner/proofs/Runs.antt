@@ -1,10 +1,5 @@
 -- Runs of the model put together: each state has one next state.
-use Rattle.std.proofs.Common.{◌≡◌, ℕ, List, true, false, Ok, Err, refl, ap, sym, ◌∙◌, ◌⊎◌, inl, inr}
-use Rattle.defs_token.specs.Token.{Token}
-use Rattle.yaml_tokens.specs.declared.problem.Fault.{Fault}
-use Rattle.model_scanner.specs.State.{ScannerState}
-use Rattle.model_scanner.specs.Fetch.{fetch}
-use Rattle.model_scanner.specs.Run.{Reaches, here, there, HasTokens, IsRefused, start}
+use Rattle.model_scanner.proofs.Common.{ap, Err, false, Fault, fetch, HasTokens, here, inl, inr, IsRefused, List, Ok, Reaches, refl, ScannerState, start, sym, there, Token, true, ℕ, ◌∙◌, ◌≡◌, ◌⊎◌}
 
 pub reaches_then : {t u v : ScannerState} → Reaches t u → Reaches u v → Reaches t v
 reaches_then here q = q

@@ -1,14 +1,5 @@
 -- Lemmas about spaces and runs of characters.
-use Rattle.std.proofs.Common.{◌≡◌, ℕ, List, [], ◌∷◌, Bool, true, false, ◌&&◌, not, ◌==◌, refl, ◌∙◌, slice_index, sym, Ok}
-use Rattle.defs_text.specs.Position.{Position}
-use Rattle.model_scanner.specs.declared.context.SkipTabs.{SkipTabs}
-use Rattle.model_scanner.specs.declared.context.Whitespace.{Whitespace}
-use Rattle.std.proofs.lemmas.Bool.{eqb-true}
-use Rattle.yaml_chars.specs.Class.{is_break}
-use Rattle.yaml_chars.specs.Run.{stops}
-use Rattle.yaml_chars.specs.declared.run.Run.TheVariants.{Line}
-use Rattle.model_scanner.specs.Machine.{skip_while, take_while, ends_while, past}
-use Rattle.model_scanner.specs.Blanks.{space_from, comment, comment_after, are_skipped}
+use Rattle.model_scanner.proofs.Common.{[], are_skipped, Bool, comment, comment_after, ends_while, eqb-true, false, is_break, Line, List, not, Ok, past, Position, refl, skip_while, SkipTabs, slice_index, space_from, stops, sym, take_while, true, Whitespace, ℕ, ◌&&◌, ◌==◌, ◌∙◌, ◌∷◌, ◌≡◌}
 use Rattle.model_scanner.proofs.RunLemmas.{no_break}
 
 is_false : (b : Bool) → not b ≡ true → b ≡ false

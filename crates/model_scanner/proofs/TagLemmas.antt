@@ -1,10 +1,6 @@
 -- Lemmas about the scan of a tag.
-use Rattle.std.proofs.Common.{◌≡◌, ℕ, List, [], ◌∷◌, false, ◌==◌, Ok, Err, refl, slice_index}
-use Rattle.defs_text.specs.Position.{Position}
-use Rattle.yaml_tokens.specs.declared.problem.Fault.TheVariants.{At}
+use Rattle.model_scanner.proofs.Common.{[], At, Err, false, List, Ok, past, Position, read_tag, refl, slice_index, verbatim_end, ℕ, ◌==◌, ◌∷◌, ◌≡◌}
 use Rattle.yaml_tokens.specs.declared.problem.Problem.TheVariants as problem
-use Rattle.model_scanner.specs.Machine.{past}
-use Rattle.model_scanner.specs.Tag.{verbatim_end, read_tag}
 
 -- where a verbatim tag is closed, and where it isn't
 pub verbatim_fails : (start : Position) (t : List ℕ) (c : ℕ) (a : List ℕ) (p : Position) → c ≡ slice_index a 0 → (c == 62) ≡ false

@@ -1,12 +1,6 @@
 -- Lemmas about the scan of a URI's characters.
-use Rattle.std.proofs.Common.{◌≡◌, ℕ, ◌+◌, ◌*◌, List, [], ◌∷◌, Bool, true, false, ◌==◌, Ok, Err, refl, slice_index, Result}
-use Rattle.std.specs.Char.{digit_value}
-use Rattle.defs_text.specs.Position.{Position}
-use Rattle.yaml_chars.specs.Class.{is_hex}
-use Rattle.yaml_tokens.specs.declared.problem.Fault.{Fault}
-use Rattle.yaml_tokens.specs.declared.problem.Fault.TheVariants.{At}
+use Rattle.model_scanner.proofs.Common.{[], and_then, At, Bool, digit_value, Err, false, Fault, is_hex, List, Ok, past, Position, refl, Result, slice_index, Stop, true, turned, ℕ, ◌*◌, ◌+◌, ◌==◌, ◌∷◌, ◌≡◌}
 use Rattle.yaml_tokens.specs.declared.problem.Problem.TheVariants as problem
-use Rattle.model_scanner.specs.Machine.{past, and_then, turned, Stop}
 use Rattle.model_scanner.specs.Uri.{Octet, lead, plain, percent, high, low, UriState, uri_from, octet_from, went_on, at_octet, ended}
 
 module _ (test : ℕ → Bool) (start : Position) where

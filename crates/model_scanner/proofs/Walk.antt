@@ -1,39 +1,14 @@
 -- One walk over all functions of the model: a fetch keeps whatever each of its steps keeps.
-use Rattle.std.proofs.Common.{◌≡◌, ℕ, ◌+◌, List, [], ◌∷◌, ◌++◌, Bool, true, false, not, ◌||◌, ◌==◌, nat_lt, if◌then◌else◌, Option, Some, None, Result, Ok, Err, length, map, refl}
-use Rattle.std.specs.List.{insert}
-use Rattle.defs_text.specs.Position.{Position}
-use Rattle.defs_token.specs.Token.{Tok, Token}
-use Rattle.yaml_tokens.specs.declared.problem.Fault.{Fault}
-use Rattle.yaml_tokens.specs.declared.problem.Fault.TheVariants.{At}
+use Rattle.model_scanner.proofs.Common.{[], adjacent_in_flow, allow_key, anchor_name, At, at_break, begin_flow, begin_key, begin_keyless_mapping, begin_keyless_pair, begin_keyless_value, begin_line, begin_pair, begin_stream, block, Bool, check_after_quoted, check_after_tab, check_block_entry, check_dash, check_document_end, check_key_space, check_value_space, class_of, cleared, closed_key, context, decrease_flow_level, deepen, deepened_flow, directive, drop_open, drop_open_level, drop_stale, end_entry, end_flow, end_flow_pair, end_level, end_pair, end_stream, ended_flow, Err, false, Fault, fetch, fetch_anchor, fetch_block_entry, fetch_block_scalar, fetch_content, fetch_directive, fetch_document_end, fetch_document_marker, fetch_first_column, fetch_flow_collection_end, fetch_flow_collection_start, fetch_flow_entry, fetch_flow_scalar, fetch_here, fetch_indented, fetch_key, fetch_next, fetch_plain_scalar, fetch_stream_end, fetch_stream_start, fetch_tag, fetch_token, fetch_value, Gap, go_on, Held, here, if◌then◌else◌, in_block, in_flow, in_line, increase_flow_level, insert, insert_key, is_break, is_cr_lf, is_far, is_flow, Key, length, Levels, lexed, List, map, nat_lt, next_entry, next_line, node_start, None, not, Ok, on_held, opens_pair, Option, paired, pass_indicator, peek, placed, plain, pop, Position, push, put, quoted, Reaches, Read, refl, remove_implicit_key, Result, roll_entry, roll_indent, roll_one_col_indent, save_implicit_key, ScannerState, skip, skip_indicator, skip_spaces, skip_to_next_token, skip_yaml_whitespace, SkipTabs, Some, space, stale, still, tab_line, tag, there, Tok, Token, token, token_by, top_key, true, unled, unroll_indent, unroll_non_block_indents, unrolled, value_of, white, white_end, Whitespace, with_held, with_keys, with_top, without_open, ℕ, ◌++◌, ◌+◌, ◌==◌, ◌||◌, ◌∷◌, ◌≡◌}
 use Rattle.yaml_tokens.specs.declared.problem.Problem.TheVariants as problem
-use Rattle.model_scanner.specs.Machine.{Read, is_cr_lf}
-use Rattle.model_scanner.specs.Blanks.{space}
 use Rattle.model_scanner.specs.declared.level.Indent.{Indent}
 use Rattle.model_scanner.specs.declared.level.FlowLevel.{FlowLevel}
 use Rattle.model_scanner.specs.declared.level.FlowLevel.TheVariants.{Mapping, Entry, Keyed, Pair}
-use Rattle.model_scanner.specs.State.{Key, Held, ScannerState, peek, in_flow, token, push, put, pop, with_top, on_held, with_held, go_on, lexed, skip_indicator}
-use Rattle.model_scanner.specs.Keys.{is_far, still, drop_stale, with_keys, stale, cleared, top_key, save_implicit_key, remove_implicit_key}
-use Rattle.yaml_chars.specs.Class.{is_break, is_flow}
 use Rattle.defs_text.specs.Text.{is_empty}
-use Rattle.model_scanner.specs.declared.context.SkipTabs.{SkipTabs}
 use Rattle.model_scanner.specs.declared.context.SkipTabs.TheVariants.{Yes, No}
-use Rattle.model_scanner.specs.declared.context.Whitespace.{Whitespace}
-use Rattle.model_scanner.specs.Space.{Gap, between, comment, tab_line, at_break, in_line, skip, skip_to_next_token, skip_spaces, white_end, white, skip_yaml_whitespace}
-use Rattle.model_scanner.specs.Flow.{increase_flow_level, allow_key, deepened_flow, begin_flow, pass_indicator, end_pair, end_flow_pair, decrease_flow_level, adjacent_in_flow, ended_flow, end_flow, next_entry, end_entry, fetch_flow_collection_start, fetch_flow_collection_end, fetch_flow_entry}
-use Rattle.model_scanner.specs.Anchor.{anchor_name}
-use Rattle.model_scanner.specs.BlockScalar.{block}
-use Rattle.model_scanner.specs.Directive.{directive}
-use Rattle.model_scanner.specs.Plain.{plain}
-use Rattle.model_scanner.specs.Quoted.{quoted}
-use Rattle.model_scanner.specs.Tag.{tag}
+use Rattle.model_scanner.specs.Space.{between, comment}
 use Rattle.model_scanner.specs.declared.class.Class.{Class}
 use Rattle.model_scanner.specs.declared.class.Class.TheVariants as class
-use Rattle.model_scanner.specs.Class.{class_of}
-use Rattle.model_scanner.specs.Block.{check_block_entry, check_dash, roll_entry, fetch_block_entry, begin_key, check_key_space, fetch_key, check_after_tab, check_value_space, opens_pair, paired, begin_pair, insert_key, begin_keyless_pair, begin_keyless_mapping, begin_keyless_value, value_of, fetch_value}
-use Rattle.model_scanner.specs.Document.{begin_stream, fetch_stream_start, next_line, end_stream, fetch_stream_end, closed_key, begin_line, fetch_directive, fetch_document_marker, check_document_end, fetch_document_end, node_start, fetch_anchor, fetch_tag, fetch_block_scalar, context, check_after_quoted, unled, fetch_flow_scalar, fetch_plain_scalar}
-use Rattle.model_scanner.specs.Fetch.{token_by, fetch_token, fetch_indented, fetch_first_column, fetch_content, fetch_here, fetch_next, fetch}
-use Rattle.model_scanner.specs.Run.{Reaches, here, there}
-use Rattle.model_scanner.specs.Indents.{placed, drop_open, drop_open_level, deepen, roll_indent, in_block, roll_one_col_indent, Levels, end_level, unrolled, unroll_indent, without_open, unroll_non_block_indents}
 use Rattle.model_scanner.proofs.Holds.{Holds, went, refused, held_of, chained, choice, passes, weakened}
 use Rattle.model_scanner.proofs.Holds as rules
 use Rattle.model_scanner.proofs.NoEnds.{IsNoEnd, anchor_is_no_end, directive_is_no_end}

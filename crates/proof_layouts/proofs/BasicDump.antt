@@ -1,11 +1,5 @@
 -- A dump's layout is a basic one.
-use Rattle.std.proofs.Common.{ℕ, ◌+◌, List, [], ◌∷◌, Bool, true, false, not, ◌&&◌, refl}
-use Rattle.std.specs.Prelude.{if◌then◌else◌}
-use Rattle.defs_tree.specs.Tree.{Tree, Items, no_items, item, Pairs, no_pairs, pair}
-use Rattle.defs_tree.specs.Quoting.{is_quoted}
-use Rattle.defs_tree.specs.Spelling.{is_scalar}
-use Rattle.defs_layout.specs.Layout.{Scalar, Value, Field}
-use Rattle.defs_layout.specs.Basic.{IsBasicScalar, IsBasicInline, IsBasicBlock, IsBasicValue, AreBasicEntries, IsBasicField, AreBasicFields, IsBasicRoot, IsBasic}
+use Rattle.proof_layouts.proofs.Common.{[], AreBasicEntries, AreBasicFields, Bool, false, Field, if◌then◌else◌, is_quoted, is_scalar, IsBasic, IsBasicBlock, IsBasicField, IsBasicInline, IsBasicRoot, IsBasicScalar, IsBasicValue, item, Items, List, no_items, no_pairs, not, pair, Pairs, refl, Scalar, Tree, true, Value, ℕ, ◌&&◌, ◌+◌, ◌∷◌}
 use Rattle.proof_layouts.proofs.DumpLayout.{Node, may_be_literal, value_of, root_of, string_scalar, scalar_of, string_node, entries_of, fields_of, array_node, hash_node, field_of, node_of, values_of, all_fields_of, layout_of}
 use Rattle.proof_layouts.proofs.Validity.{AreAll}
 

@@ -1,15 +1,7 @@
 -- The layout in which `dump` writes a tree: without gaps, with one space after each mark, and with all that stands below a mark
 -- two columns to the right of it.
 -- YAML 1.2, chapter 8 (block styles) and section 9.1 (documents).
-use Rattle.std.proofs.Common.{ℕ, ◌+◌, List, [], ◌∷◌, Bool, true, false, not, ◌&&◌}
-use Rattle.std.specs.Prelude.{if◌then◌else◌}
-use Rattle.defs_tree.specs.Tree.{Tree, Items, no_items, item, Pairs, no_pairs, pair}
-use Rattle.defs_tree.specs.Quoting.{is_quoted}
-use Rattle.defs_tree.specs.Spelling.{is_scalar}
-use Rattle.defs_tree.specs.Literal.{is_literal_text, is_root_literal}
-use Rattle.defs_tree.specs.Lines.{lines_of}
-use Rattle.defs_layout.specs.BlockLines.{Line}
-use Rattle.defs_layout.specs.Layout.{Scalar, Inline, no_comment, Block, Value, below, Entries, Field, Fields, Root, last_document, Layout}
+use Rattle.proof_layouts.proofs.Common.{[], below, Block, Bool, Entries, false, Field, Fields, if◌then◌else◌, Inline, is_literal_text, is_quoted, is_root_literal, is_scalar, item, Items, last_document, Layout, Line, lines_of, List, no_comment, no_items, no_pairs, not, pair, Pairs, Root, Scalar, Tree, true, Value, ℕ, ◌&&◌, ◌+◌, ◌∷◌}
 
 -- A node before it is placed after a mark or as root: what stands on one line, the text of a literal block, or a block.
 pub data Node : Type 0 where

@@ -1,11 +1,6 @@
 -- What is read of lists of items and of pairs with distinct keys.
-use Rattle.std.proofs.Common.{◌≡◌, ◌≢◌, List, [], ◌∷◌, ◌++◌, None, Ok, refl, sym, ap}
-use Rattle.defs_tree.specs.Tree.{Tree, Items, items_of, list_of}
-use Rattle.defs_tree.specs.Pairs.{lookup, without, Lacks, AreDistinct}
+use Rattle.proof_layouts.proofs.Common.{[], Anchors, ap, AreDistinct, Items, items_of, Lacks, List, list_of, lookup, Nest, nest_pair, NestPairs, None, Ok, read_node, read_pairs, refl, sym, Tree, without, ◌++◌, ◌∷◌, ◌≡◌, ◌≢◌}
 use Rattle.defs_tree.proofs.PairsLaws.{tree_eq-other}
-use Rattle.defs_event.specs.Nested.{Nest, NestPairs, nest_pair}
-use Rattle.defs_event.specs.Anchors.{Anchors}
-use Rattle.defs_event.specs.Reading.{read_node, read_pairs}
 
 -- ---- pairs with another key
 

@@ -13,3 +13,4 @@ pub mod Numbers
 pub mod Quoted
 pub mod Says
 pub mod Whole
+mod Common

@@ -1,19 +1,10 @@
 -- Events that are read as trees, handed to a loader one by one.
-use Rattle.std.proofs.Common.{◌≡◌, Bool, List, [], ◌∷◌, ◌++◌, Result, Ok, Err, refl, sym, ap, ◌∙◌}
-use Rattle.std.specs.Prelude.{map}
+use Rattle.proof_layouts.proofs.Common.{[], ap, Bool, Err, Ev, events_of, ForetoldEventsAreNotRefused, IsAtWork, IsStream, List, map, nested_stream, NestedDocument, Ok, ReadAs, reading, ReadStreamsAreLoaded, ReadStreamsAreNotCut, ReadStreamsAreNotRefused, refl, Result, sym, Tok, Tree, ◌++◌, ◌∙◌, ◌∷◌, ◌≡◌}
 use Rattle.defs_text.specs.Position.{Position}
-use Rattle.defs_token.specs.Token.{Tok}
-use Rattle.defs_tree.specs.Tree.{Tree}
-use Rattle.defs_event.specs.Event.{Ev}
-use Rattle.defs_event.specs.Stream.{IsStream, events_of}
-use Rattle.defs_event.specs.Nested.{NestedDocument, nested_stream}
-use Rattle.defs_event.specs.Reading.{reading}
 use Rattle.defs_event.specs.Unfinished.{Loader, at_work, noted, refused, new_loader, with_event_at, with_events}
 use Rattle.defs_event.specs.Laws.{HasRead}
 use Rattle.defs_event.proofs.OneByOne.{one_by_one}
 use Rattle.defs_event.proofs.OneReading.{one_list}
-use Rattle.defs_event.specs.ReadAs.{ReadAs, IsAtWork}
-use Rattle.proof_layouts.specs.Laws.{ReadStreamsAreLoaded, ReadStreamsAreNotRefused, ForetoldEventsAreNotRefused, ReadStreamsAreNotCut}
 
 loaded : (ds : List NestedDocument) (trees : List Tree) (events : List (Ev × Position)) → reading ds ≡ Ok trees → events_of events ≡ nested_stream ds
     → HasRead (Ok trees) (with_events new_loader events)

@@ -1,14 +1,8 @@
 -- Anchors by their names, as a layout keeps them, by their numbers, as events have them, and the trees that are read under
 -- these numbers.
-use Rattle.std.proofs.Common.{◌≡◌, ◌≢◌, ℕ, ◌+◌, ◌<◌, ◌≤◌, List, [], ◌∷◌, ◌++◌, Bool, true, false, Option, Some, None, refl, sym, ap, ◌∙◌, add-one, arith}
-use Rattle.std.specs.Prelude.{bytes_eq, nat_eq, if◌then◌else◌}
-use Rattle.std.proofs.lemmas.Bool.{ne_eqb, true≢false}
-use Rattle.std.proofs.lemmas.Bool.Decides.{nat_tests}
+use Rattle.std.proofs.lemmas.Bool.{true≢false}
 use Rattle.std.proofs.lemmas.Slice.Eq.{bytes_eq-Decides}
-use Rattle.defs_tree.specs.Tree.{Tree}
-use Rattle.defs_layout.specs.Anchored.{Anchor, begun, ended, with_end, last_tree}
-use Rattle.defs_event.specs.Names.{Names, under_name, number, with_anchor}
-use Rattle.defs_event.specs.Anchors.{Anchors, aliased, finished}
+use Rattle.proof_layouts.proofs.Common.{[], add-one, aliased, Anchor, Anchors, ap, arith, begun, Bool, bytes_eq, ended, false, finished, if◌then◌else◌, last_tree, List, Names, nat_eq, nat_tests, ne_eqb, None, number, Option, refl, Some, sym, Tree, true, under_name, with_anchor, with_end, ℕ, ◌++◌, ◌+◌, ◌<◌, ◌∙◌, ◌∷◌, ◌≡◌, ◌≢◌, ◌≤◌}
 
 -- a node with an anchor that has ended: its name, its number and its tree
 pub record Ended : Type 0 where

@@ -1,25 +1,16 @@
 -- What the texts of numbers stand for.
-use Rattle.std.proofs.Common.{◌≡◌, ℕ, zero, suc, ◌<◌, ◌^◌, List, [], ◌∷◌, ◌++◌, Bool, true, false, not, ◌&&◌, Option, None, refl, sym, ap, ◌∙◌, length, get_or, append-nil, true≢false, arith}
-use Rattle.std.specs.Prelude.{ℤ, pos, negsuc, neg_ℤ, ◌==◌, unwrap_or, if◌then◌else◌, codes}
 use Rattle.std.specs.Char.{is_ascii_digit, digit_value}
 use Rattle.std.specs.List.{list_all}
 use Rattle.std.specs.Str.Parse.{AllDigits, digits_value}
-use Rattle.std.specs.Fmt.{decimal}
 use Rattle.std.proofs.lemmas.Fmt.{decimal-digits_value}
 use Rattle.std.proofs.lemmas.Str.Parse.{IsNumeralModel}
-use Rattle.std.proofs.lemmas.Bool.{and_parts, and_from, ltb-true, ne_eqb}
-use Rattle.std.proofs.lemmas.Bool.Decides.{nat_tests}
-use Rattle.defs_tree.specs.Tree.{Tree, real, integer}
+use Rattle.proof_layouts.proofs.Common.{[], after_prefix, and_from, and_parts, ap, append-nil, are_digits, arith, Bool, codes, decimal, Exponent, exponent, false, false_words, fits_i64, Fraction, fraction, get_or, if◌then◌else◌, integer, integer_back, integer_value, is_decimal, is_digit, is_fraction, is_number, is_sign, is_whole, JsonNumbersStandForTheirTrees, length, List, ltb-true, minus, nat_tests, ne_eqb, neg_ℤ, negsuc, no_exponent, no_fraction, no_sign, None, not, null_words, Option, plus, pos, real, refl, Sign, signed_decimal, special_words, spell_exponent, spell_fraction, spell_minus, spell_number, spell_sign, suc, sym, Tree, true, true_words, true≢false, typing, unwrap_or, where_true, zero, ℕ, ℤ, ◌&&◌, ◌++◌, ◌<◌, ◌==◌, ◌^◌, ◌∙◌, ◌∷◌, ◌≡◌}
 use Rattle.defs_tree.specs.Grammar.{at_least_one, is_among}
-use Rattle.defs_tree.specs.Typing.{typing, signed_decimal, after_prefix, fits_i64, is_digit, is_sign, is_decimal, null_words, true_words, false_words, special_words, where_true}
 use Rattle.defs_tree.proofs.GrammarLaws.{after_all, after_one}
 use Rattle.defs_tree.proofs.DecimalReading.{begins_in, reads_exponent, reads_on, reads_unsigned, is_decimal-read}
-use Rattle.defs_tree.proofs.ReadBack.{integer_back}
 use Rattle.defs_tree.proofs.RealTexts.{is_real_character, decimal-characters}
 use Rattle.defs_layout.specs.JsonNumber as json
-use Rattle.defs_layout.specs.JsonNumber.{Fraction, no_fraction, fraction, Sign, no_sign, plus, minus, Exponent, no_exponent, exponent, spell_number, spell_minus, spell_fraction, spell_sign, spell_exponent, are_digits, is_whole, is_fraction, is_number, integer_value}
 use Rattle.defs_layout.proofs.WholeNumbers.{fitted, signed_text, IsOther, no_digits}
-use Rattle.proof_layouts.specs.Laws.{JsonNumbersStandForTheirTrees}
 
 -- ---- digits
 

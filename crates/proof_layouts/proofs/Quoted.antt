@@ -1,13 +1,6 @@
 -- The tokens of one quoted scalar are a stream, and are read as a string.
-use Rattle.std.proofs.Common.{◌≡◌, ℕ, Bool, List, [], ◌∷◌, None, Ok, refl}
-use Rattle.defs_token.specs.Token.{Tok}
-use Rattle.defs_tree.specs.Tree.{Tree}
+use Rattle.proof_layouts.proofs.Common.{[], Bool, in_block, List, nested_scalar, None, Ok, QuotedTokensReadAsTheirString, ReadAs, reading, refl, Tok, Tree, with_node, ℕ, ◌∷◌, ◌≡◌}
 use Rattle.defs_layout.specs.QuotedText.{Quotes, single, double, style_of}
-use Rattle.defs_event.specs.Grammar.{in_block}
-use Rattle.defs_event.specs.Nested.{nested_scalar, with_node}
-use Rattle.defs_event.specs.Reading.{reading}
-use Rattle.defs_event.specs.ReadAs.{ReadAs}
-use Rattle.proof_layouts.specs.Laws.{QuotedTokensReadAsTheirString}
 use Rattle.proof_layouts.proofs.Says.{taken, left, said, scalar, stream_ends, stream_said}
 
 one_scalar : (keep_tags : Bool) (quotes : Quotes) (value : List ℕ) → ReadAs keep_tags (Tok.stream_start ∷ Tok.scalar (style_of quotes) value ∷ Tok.stream_end ∷ []) (Tree.string value ∷ [])

@@ -1,13 +1,7 @@
 -- What work reads and says by the table of the token grammar, where the names of its events are resolved.
-use Rattle.std.proofs.Common.{◌≡◌, ℕ, Bool, List, [], ◌∷◌, Option, Some, None, refl, subst}
-use Rattle.defs_token.specs.Token.{Tok, Style}
-use Rattle.defs_event.specs.Event.{Ev}
-use Rattle.defs_event.specs.Raw.{Raw}
-use Rattle.defs_event.specs.Table.{Part, Row, read, keep, say, takes, leaves, row_of, Work, reading, saying, before, Derives, nothing_left, says, by_taking, by_leaving}
+use Rattle.proof_layouts.proofs.Common.{[], after_anchor, before, Bool, by_leaving, by_taking, cases, content, Derives, Ev, Goal, grammar, Held, in_block, in_flow, in_pair, IsStream, keep, leaves, List, named, Names, names_after, no_names, node, None, nothing_held, nothing_left, number, Option, Part, Place, Raw, read, refl, resolved_event, Row, row_of, say, saying, says, Side, Some, Style, subst, takes, then_in, Tok, under_name, whole_stream, with_anchor, Work, ℕ, ◌∷◌, ◌≡◌}
+use Rattle.defs_event.specs.Table.{reading}
 use Rattle.defs_event.specs.Grammar as at
-use Rattle.defs_event.specs.Grammar.{Held, nothing_held, Side, Place, in_flow, in_block, in_pair, Goal, node, content, after_anchor, cases, then_in, grammar}
-use Rattle.defs_event.specs.Names.{Names, no_names, under_name, number, with_anchor, names_after, resolved_event, named}
-use Rattle.defs_event.specs.Stream.{IsStream, whole_stream}
 
 abbrev pub Works : Type 0
 Works = List (Work Goal Raw Held)

@@ -1,18 +1,9 @@
 -- The text of a dump's layout is the text that is dumped: what is spelt of a node at a column is the node's box, whose lines stand
 -- after the column's spaces.
-use Rattle.std.proofs.Common.{◌≡◌, refl, sym, ap, ◌∙◌, ℕ, zero, suc, ◌+◌, List, [], ◌∷◌, ◌++◌, append_assoc, append-nil, Bool, true, false, not, ◌&&◌, arith}
-use Rattle.std.specs.Prelude.{if◌then◌else◌, codes}
-use Rattle.defs_tree.specs.Tree.{Tree, Items, no_items, item, Pairs, no_pairs, pair}
-use Rattle.defs_tree.specs.Quoting.{is_quoted}
-use Rattle.defs_tree.specs.Spelling.{spelling, string_spelling, is_scalar}
-use Rattle.defs_tree.specs.Lines.{lines_of, joined}
-use Rattle.defs_tree.specs.Literal.{literal_header}
+use Rattle.proof_layouts.proofs.Common.{[], ap, append-nil, append_assoc, arith, Bool, codes, dump_text, false, Field, if◌then◌else◌, is_quoted, is_scalar, item, Items, joined, lines_of, List, literal_header, no_items, no_pairs, not, pair, Pairs, refl, Scalar, spell, spell_block, spell_entries, spell_field, spell_fields, spell_inline, spell_lines, spell_literal, spell_root, spell_scalar, spell_value, spelling, string_spelling, suc, sym, Tree, true, Value, zero, ℕ, ◌&&◌, ◌++◌, ◌+◌, ◌∙◌, ◌∷◌, ◌≡◌}
 use Rattle.defs_tree.specs.Box.{indented, hung, hung_lower, is_block, placed, if_none, literal_box, pair_box, box, item_boxes, pair_boxes}
-use Rattle.defs_tree.specs.DumpText.{dump_text}
 use Rattle.defs_layout.specs.Marks.{line_feed, space, dash, colon}
 use Rattle.defs_layout.specs.Gap.{spaces}
-use Rattle.defs_layout.specs.BlockLines.{spell_lines}
-use Rattle.defs_layout.specs.Layout.{Scalar, Value, Field, spell_scalar, spell_inline, spell_literal, spell_block, spell_value, spell_entries, spell_field, spell_fields, spell_root, spell}
 use Rattle.proof_layouts.proofs.DumpLayout.{Node, lines_at, text_lines, may_be_literal, value_of, root_of, string_scalar, scalar_of, string_node, entries_of, fields_of, array_node, hash_node, field_of, node_of, values_of, all_fields_of, layout_of}
 
 -- ---- lines at a column

@@ -1,10 +1,5 @@
 -- The tree of a dump's layout is the tree that is dumped.
-use Rattle.std.proofs.Common.{◌≡◌, refl, ap, ap₂, ◌∙◌, ℕ, ◌+◌, List, [], ◌∷◌, map, Bool, true, false, not, ◌&&◌}
-use Rattle.std.specs.Prelude.{if◌then◌else◌}
-use Rattle.defs_tree.specs.Tree.{Tree, Items, no_items, item, Pairs, no_pairs, pair, items_of, pairs_of, pair_list_of}
-use Rattle.defs_tree.specs.Quoting.{is_quoted}
-use Rattle.defs_tree.specs.Spelling.{is_scalar}
-use Rattle.defs_layout.specs.Layout.{Scalar, Value, Field, scalar_tree, inline_tree, block_tree, value_tree, items, pair_of, pair_list, root_tree, trees_of}
+use Rattle.proof_layouts.proofs.Common.{[], ap, ap₂, block_tree, Bool, false, Field, if◌then◌else◌, inline_tree, is_quoted, is_scalar, item, Items, items, items_of, List, map, no_items, no_pairs, not, pair, pair_list, pair_list_of, pair_of, Pairs, pairs_of, refl, root_tree, Scalar, scalar_tree, Tree, trees_of, true, Value, value_tree, ℕ, ◌&&◌, ◌+◌, ◌∙◌, ◌∷◌, ◌≡◌}
 use Rattle.proof_layouts.proofs.DumpLayout.{Node, value_of, root_of, string_scalar, scalar_of, string_node, may_be_literal, entries_of, fields_of, array_node, hash_node, field_of, node_of, values_of, all_fields_of, layout_of}
 
 -- The tree of a node.

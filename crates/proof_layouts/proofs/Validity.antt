@@ -1,16 +1,7 @@
 -- A dump's layout is valid.
-use Rattle.std.proofs.Common.{◌≡◌, refl, sym, ap, ◌∙◌, ℕ, ◌+◌, ◌≤◌, List, [], ◌∷◌, map, length, Bool, true, false, not, ◌&&◌, true≢false, append-nil, arith}
-use Rattle.std.specs.Prelude.{if◌then◌else◌}
-use Rattle.defs_tree.specs.Tree.{Tree, Items, no_items, item, Pairs, no_pairs, pair}
-use Rattle.defs_tree.specs.Pairs.{AreDistinct}
-use Rattle.defs_tree.specs.Quoting.{is_quoted}
-use Rattle.defs_tree.specs.Spelling.{spelling, is_scalar}
-use Rattle.defs_tree.specs.Lines.{lines_of}
+use Rattle.proof_layouts.proofs.Common.{[], Anchor, anchors_after, anchors_after_field, ap, append-nil, AreDistinct, AreEntries, AreFields, AreLines, AreLinesOf, arith, Bool, contents, false, Field, if◌then◌else◌, Inline, is_quoted, is_scalar, IsAfterRoot, IsBlock, IsExplicitKey, IsField, IsImplicitKey, IsInline, IsLayout, IsLine, IsRoot, IsScalar, IsValue, item, Items, length, lines_of, List, map, MayFollowMark, MayFollowScalarKey, no_items, no_pairs, not, pair, pair_of, Pairs, refl, Scalar, spell_scalar, spelling, sym, Tree, true, true≢false, Value, ℕ, ◌&&◌, ◌+◌, ◌∙◌, ◌∷◌, ◌≡◌, ◌≤◌}
 use Rattle.defs_tree.specs.Valid.{IsDistinct, AllDistinct, AllPairsDistinct, FitsI64, AllFitI64, AllPairsFitI64}
 use Rattle.defs_tree.specs.Writable.{IsShortKey, HasText, AllHaveText, AllPairsHaveText}
-use Rattle.defs_layout.specs.BlockLines.{contents, IsLine, AreLines}
-use Rattle.defs_layout.specs.Anchored.{Anchor}
-use Rattle.defs_layout.specs.Layout.{Scalar, Inline, Value, Field, IsScalar, IsInline, IsImplicitKey, IsExplicitKey, MayFollowScalarKey, MayFollowMark, AreLinesOf, IsBlock, IsValue, AreEntries, IsField, AreFields, IsRoot, IsAfterRoot, IsLayout, spell_scalar, pair_of, anchors_after, anchors_after_field}
 use Rattle.proof_layouts.proofs.DumpLayout.{Node, line_at, lines_at, text_lines, may_be_literal, value_of, root_of, string_scalar, scalar_of, string_node, entries_of, fields_of, array_node, hash_node, field_of, node_of, values_of, all_fields_of, layout_of}
 use Rattle.proof_layouts.proofs.Texts.{scalar_of_spelt}
 use Rattle.proof_layouts.proofs.Trees.{fields_pairs, all_fields_pairs}

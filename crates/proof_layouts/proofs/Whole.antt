@@ -1,10 +1,9 @@
 -- The text that `dump` writes for a tree is a layout of that tree.
-use Rattle.std.proofs.Common.{refl, [], ◌∷◌}
 use Rattle.std.proofs.lemmas.List.Elements.{All-head, All-tail}
+use Rattle.proof_layouts.proofs.Common.{[], dump_text, refl, ◌∷◌}
 use Rattle.defs_layout.specs.DumpIsInjective.{CanBeWritten}
 use Rattle.defs_layout.specs.DumpIsLaidOut.{DumpsAreLaidOut}
 use Rattle.defs_layout.specs.DumpsInTurn.{DumpsInTurnAreLaidOut, dump_texts}
-use Rattle.defs_tree.specs.DumpText.{dump_text}
 use Rattle.proof_layouts.proofs.BasicDump.{layout_of_basic}
 use Rattle.proof_layouts.proofs.DumpLayout.{layout_of}
 use Rattle.proof_layouts.proofs.Texts.{layout_of_spelt}

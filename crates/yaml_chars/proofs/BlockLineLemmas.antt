@@ -1,17 +1,6 @@
 -- Lemmas about keys, values and other scalars of one line that are known to come.
-use Rattle.std.proofs.Common.{◌≡◌, ◌≢◌, ℕ, zero, suc, ◌+◌, ◌-◌, ◌<◌, ◌≤◌, ◌==◌, ◌||◌, ◌&&◌, true, false, List, [], ◌∷◌, ◌++◌, length, take, drop, slice_index, refl, sym, ap, subst, ◌∙◌, arith, append_assoc, length-append, length-drop, inl, inr}
-use Rattle.std.specs.Prelude.{Bool, nat_lt, chars}
-use Rattle.std.specs.Str.{IsUtf8, IsCharBoundary, IsAscii}
-use Rattle.std.proofs.lemmas.Bool.Decides.{nat_tests}
-use Rattle.std.proofs.lemmas.Bool.{cases_lt}
-use Rattle.std.proofs.lemmas.List.{same_lists, take-append-drop, length-take-le, get_or-take, get_or-drop, get_or_append_left, get_or-append-add, drop-append-le}
-use Rattle.std.proofs.lemmas.Grind.{get_or_default_zero}
-use Rattle.std.proofs.lemmas.Str.{IsCharBoundary-after_ascii, IsCharBoundary-start, chars-IsAscii}
-use Rattle.yaml_chars.specs.Class.{is_alphanumeric}
-use Rattle.yaml_chars.specs.WindowView.{Reads, Fills, HasNoNul}
-use Rattle.yaml_chars.specs.Run.{bare}
-use Rattle.yaml_chars.specs.Source.{Pulled}
-use Rattle.yaml_chars.specs.BlockLines.{is_simple, opens_simple, IsSimpleText, indented, TakesKey, TakesLine, IsTextUpTo, EndsKey, EndsLine, Ends, begin, GivesPart, halts_simple, AreSimpleUpTo}
+use Rattle.std.proofs.lemmas.List.{get_or-take, get_or-drop}
+use Rattle.yaml_chars.proofs.Common.{[], ap, append_assoc, AreSimpleUpTo, arith, bare, begin, Bool, cases_lt, chars, chars-IsAscii, drop, drop-append-le, Ends, EndsKey, EndsLine, false, Fills, get_or-append-add, get_or_append_left, get_or_default_zero, GivesPart, halts_simple, HasNoNul, indented, inl, inr, is_alphanumeric, is_simple, IsAscii, IsCharBoundary, IsCharBoundary-after_ascii, IsCharBoundary-start, IsSimpleText, IsTextUpTo, IsUtf8, length, length-append, length-drop, length-take-le, List, nat_lt, nat_tests, opens_simple, Pulled, Reads, refl, same_lists, slice_index, subst, suc, sym, take, take-append-drop, TakesKey, TakesLine, true, zero, ℕ, ◌&&◌, ◌++◌, ◌+◌, ◌-◌, ◌<◌, ◌==◌, ◌||◌, ◌∙◌, ◌∷◌, ◌≡◌, ◌≢◌, ◌≤◌}
 use Rattle.yaml_chars.specs.declared.block_line.LineKind.{LineKind}
 use Rattle.yaml_chars.specs.declared.block_line.LineKind.TheVariants.{Key, Value, Node}
 use Rattle.yaml_chars.proofs.WindowViewLemmas.{begins-back, begins-front}

@@ -1,9 +1,5 @@
 -- Lemmas about the classes of characters.
-use Rattle.std.proofs.Common.{◌≡◌, ◌≢◌, ℕ, ◌||◌, Bool, false, true, refl}
-use Rattle.yaml_chars.specs.Class.{is_blank, is_break, is_breakz}
-use Rattle.yaml_chars.specs.Run.{stops}
-use Rattle.yaml_chars.specs.declared.run.Run.{Run}
-use Rattle.yaml_chars.specs.declared.run.Run.TheVariants.{Line, Quoted, Plain}
+use Rattle.yaml_chars.proofs.Common.{Bool, false, is_blank, is_break, is_breakz, Line, Plain, Quoted, refl, Run, stops, true, ℕ, ◌||◌, ◌≡◌, ◌≢◌}
 
 true_false : true ≡ false → ⊥
 true_false h = cc

@@ -1,14 +1,8 @@
 -- Lemmas about the number of a text's characters.
-use Rattle.std.proofs.Common.{◌≡◌, ℕ, zero, suc, ◌+◌, ◌-◌, ◌/◌, ◌%◌, ◌<◌, ◌≤◌, Bool, true, false, cond, ltb, List, [], ◌∷◌, ◌++◌, length, take, drop, refl, sym, ap, ◌∙◌, arith}
-use Rattle.std.proofs.lemmas.Bool.Decides.{nat_tests}
-use Rattle.std.specs.List.{count_by}
-use Rattle.std.proofs.lemmas.List.Sums.{sum_by-append, count_by-le-length}
-use Rattle.yaml_chars.specs.Words.{is_first_byte}
 use lib.Lanes.{chunk}
 use lib.Utf8.{encode, encodes, next}
-use Rattle.std.specs.Str.{IsAscii, IsUtf8, IsCharBoundary, chars}
-use Rattle.std.proofs.lemmas.List.{length-take-le, take_all}
-use Rattle.std.proofs.lemmas.Str.{chars-IsAscii, chars-nil, encodes-chars, length-le-encodes, IsUtf8-take}
+use Rattle.std.specs.Str.{chars}
+use Rattle.yaml_chars.proofs.Common.{[], ap, arith, Bool, chars-IsAscii, chars-nil, cond, count_by, count_by-le-length, drop, encodes-chars, false, is_first_byte, IsAscii, IsCharBoundary, IsUtf8, IsUtf8-take, length, length-le-encodes, length-take-le, List, ltb, nat_tests, refl, suc, sum_by-append, sym, take, take_all, true, zero, ℕ, ◌%◌, ◌++◌, ◌+◌, ◌-◌, ◌/◌, ◌<◌, ◌∙◌, ◌∷◌, ◌≡◌, ◌≤◌}
 
 -- an ASCII text has as many characters as bytes
 pub length_ascii : (bs : List ℕ) → IsAscii bs → length bs ≡ length (chars bs)

@@ -1,10 +1,5 @@
 -- Lemmas about tests of sixteen bytes at a time.
-use Rattle.std.proofs.Common.{◌≡◌, ◌≢◌, ℕ, zero, suc, ◌+◌, ◌%◌, ◌^◌, ◌<◌, ◌≤◌, Bool, true, false, not, ◌&&◌, ◌||◌, cond, eqb, List, [], ◌∷◌, map, length, replicate, slice_index, refl, sym, ap, ap₂, ◌∙◌, arith}
-use Rattle.std.proofs.lemmas.Bool.Decides.{nat_tests}
-use Rattle.std.proofs.lemmas.List.{length-map}
-use Rattle.std.proofs.lemmas.List.Sums.{prefix_len-le-length, prefix_len_passes}
-use Rattle.std.proofs.lemmas.Simd.{first_set_mask_l, mask_l-mod, length-chunk, get_or-chunk}
-use Rattle.yaml_chars.specs.Words.{is_beyond, pairs}
+use Rattle.yaml_chars.proofs.Common.{[], ap, ap₂, arith, Bool, cond, eqb, false, first_set_mask_l, get_or-chunk, is_beyond, length, length-chunk, length-map, List, map, mask_l-mod, nat_tests, not, pairs, prefix_len-le-length, prefix_len_passes, refl, replicate, slice_index, suc, sym, true, zero, ℕ, ◌%◌, ◌&&◌, ◌+◌, ◌<◌, ◌^◌, ◌||◌, ◌∙◌, ◌∷◌, ◌≡◌, ◌≢◌, ◌≤◌}
 use lib.Bits.{bit_or, bit_and}
 use lib.Count.{count_trailing_zeros}
 use lib.Lanes.{zip2, mask_l, top, chunk}

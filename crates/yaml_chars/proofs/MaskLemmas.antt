@@ -1,12 +1,6 @@
 -- A mask that a vector's tests give, held to a test of each byte, for the crates that look at blocks of bytes.
-use Rattle.std.proofs.Common.{◌≡◌, ℕ, zero, suc, ◌+◌, ◌*◌, ◌%◌, ◌^◌, ◌<◌, ◌≤◌, ltb, Bool, true, false, not, ◌&&◌, ◌||◌, cond, eqb, T, ◌⊎◌, inl, inr, List, [], ◌∷◌, map, length, drop, replicate, refl, sym, ap, ap₂, subst, ◌∙◌, arith, w8, Fits, not-suc-le-zero}
-use Rattle.std.proofs.lemmas.Bool.{cases_order, eq-eqb, ne_eqb}
-use Rattle.std.proofs.lemmas.Bool.Decides.{nat_tests}
-use Rattle.std.proofs.lemmas.List.{length-map}
 use Rattle.std.proofs.lemmas.List.Folds.{prefix_len-append}
-use Rattle.std.proofs.lemmas.List.Sums.{prefix_len-le-length}
-use Rattle.std.proofs.lemmas.Simd.{chunk-drop, length-chunk, leading_from_mask_l, trailing_mask_l, mask_l-mod}
-use Rattle.std.specs.List.{list_any, prefix_len}
+use Rattle.yaml_chars.proofs.Common.{[], ap, ap₂, arith, Bool, cases_order, chunk-drop, cond, drop, eq-eqb, eqb, false, Fits, inl, inr, leading_from_mask_l, length, length-chunk, length-map, List, list_any, ltb, map, mask_l-mod, nat_tests, ne_eqb, not, not-suc-le-zero, prefix_len, prefix_len-le-length, refl, replicate, subst, suc, sym, T, trailing_mask_l, true, w8, zero, ℕ, ◌%◌, ◌&&◌, ◌*◌, ◌+◌, ◌<◌, ◌^◌, ◌||◌, ◌∙◌, ◌∷◌, ◌≡◌, ◌≤◌, ◌⊎◌}
 use lib.Bits.{bit_or, bit_and}
 use lib.Count.{count_trailing_zeros}
 use lib.Lanes.{zip2, mask_l, top, chunk, Each1}

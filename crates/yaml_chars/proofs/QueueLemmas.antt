@@ -1,9 +1,7 @@
 -- Lemmas about the part of the buffer that contains the queue.
-use Rattle.std.proofs.Common.{◌≡◌, ℕ, ◌+◌, ◌-◌, ◌%◌, ◌<◌, ◌≤◌, ◌⊎◌, List, [], ◌∷◌, ◌++◌, length, get_or, set, ap, ◌∙◌, ap₂, inl, inr, mod-eq_of_lt, arith, length-append, length-drop, length-set, length-take-le, get_or-drop, get_or-take}
+use Rattle.std.proofs.Common.{length-take-le}
+use Rattle.yaml_chars.proofs.Common.{[], ap, ap₂, arith, cases_lt, common_steps, drop_more, get_or, get_or-append_right, get_or-drop, get_or-take, get_or_append_left, inl, inr, length, length-append, length-drop, length-set, List, mod-eq_of_lt, same_lists, set, ℕ, ◌%◌, ◌++◌, ◌+◌, ◌-◌, ◌<◌, ◌∙◌, ◌∷◌, ◌≡◌, ◌≤◌, ◌⊎◌}
 use native.Mathlib.Nat.{mod-eq-sub-mod, mod-add-mod}
-use Rattle.std.proofs.lemmas.List.{same_lists, drop_more, get_or_append_left, get_or-append_right}
-use Rattle.std.proofs.lemmas.Bool.{cases_lt}
-use Rattle.std.proofs.lemmas.Grind.{common_steps}
 use Rattle.yaml_chars.specs.Queue.{queue}
 
 -- an index below 2 N wraps once at most

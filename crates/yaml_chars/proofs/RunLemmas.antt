@@ -1,12 +1,5 @@
 -- Lemmas about runs that are taken from a source.
-use Rattle.std.proofs.Common.{◌≡◌, ◌≢◌, ℕ, ◌+◌, Bool, false, true, List, [], ◌∷◌, ◌++◌, length, slice_index, arith, refl, ◌∙◌, length-append}
-use Rattle.defs_text.specs.Position.{Position}
-use Rattle.yaml_chars.specs.WindowView.{WindowView, Reads, Fills}
-use Rattle.yaml_chars.specs.Source.{Pulled, Pulls}
-use Rattle.yaml_chars.specs.Run.{stops, ran, bare, GoesOn, GoesOver}
-use Rattle.yaml_chars.specs.Class.{is_blank, is_break}
-use Rattle.yaml_chars.specs.declared.run.Run.{Run}
-use Rattle.yaml_chars.specs.declared.run.Run.TheVariants.{Line, Quoted, Plain}
+use Rattle.yaml_chars.proofs.Common.{[], arith, bare, Bool, false, Fills, GoesOn, GoesOver, is_blank, is_break, length, length-append, Line, List, Plain, Position, Pulled, Pulls, Quoted, ran, Reads, refl, Run, slice_index, stops, true, WindowView, ℕ, ◌++◌, ◌+◌, ◌∙◌, ◌∷◌, ◌≡◌, ◌≢◌}
 use Rattle.yaml_chars.proofs.WindowViewLemmas.{Reads-then, Fills-more, Possible-pulls, left-pulls, left-taken, front-pulls, next-pulls}
 
 module _ {T : Type 0} (s : Pulled T) (at line col c : ℕ) (next : Pulled T) (fills : Fills s [] at line col) (pulls : Pulls s c next) (some : c ≢ 0) where

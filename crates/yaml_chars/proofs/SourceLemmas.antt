@@ -1,8 +1,6 @@
 -- Lemmas about a source of characters.
-use Rattle.std.proofs.Common.{◌≡◌, false, [], ◌∷◌, ◌++◌, List, ℕ, Bool, Option, Some}
 use Rattle.std.proofs.iter.Next.{Yields-more}
-use Rattle.std.specs.Iterator.{Count, IsFinite}
-use Rattle.yaml_chars.specs.Source.{IterStands}
+use Rattle.yaml_chars.proofs.Common.{[], Bool, Count, false, IsFinite, IterStands, List, Option, Some, ℕ, ◌++◌, ◌∷◌, ◌≡◌}
 
 -- one more character came
 pub Stands-more : {T : Type 0} (can : T → Type 0) (steps : T → Option ℕ → T → Type 0) (left : T → Count) (start : T) (taken : List ℕ) (done : Bool) (iter : T) (c : ℕ) (next : T)

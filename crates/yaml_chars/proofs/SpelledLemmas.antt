@@ -1,16 +1,7 @@
 -- An iterator that always gives the same characters.
-use Rattle.std.proofs.Common.{◌≡◌, ◌≢◌, ℕ, List, [], ◌∷◌, length, take, true, false, Bool, Option, Some, None, suc, ap, sym, subst, ◌∙◌, rules, arith, refl}
-use Rattle.std.proofs.Math.Seq.{take-length}
-use Rattle.std.proofs.lemmas.Str.{Chars-gives, encodes-chars}
-use Rattle.std.specs.Prelude.{Result, Ok, Err, IfOk, IfErr}
-use Rattle.std.specs.Str.{chars, IsUtf8}
-use Rattle.std.specs.Str.Iter.{chars_steps, chars_rest}
-use Rattle.std.specs.declared.str.Chars.{Chars}
-use Rattle.std.specs.Iterator.{AlwaysYields, Yields, YieldsThen}
-use Rattle.yaml_chars.specs.Source.{IsEnd, CameFrom}
+use Rattle.std.specs.Str.{chars}
+use Rattle.yaml_chars.proofs.Common.{[], AlwaysYields, ap, arith, BeginsText, Bool, CameFrom, Chars, Chars-gives, chars_rest, chars_steps, encodes-chars, Err, false, HasNoNul, IfErr, IfOk, IsEnd, IsText, IsUtf8, length, List, None, Ok, Option, refl, Result, rules, Some, subst, suc, sym, take, take-length, true, up_to_nul, Yields, YieldsThen, ℕ, ◌∙◌, ◌∷◌, ◌≡◌, ◌≢◌}
 use Rattle.defs_text.specs.Classes.{is_nul}
-use Rattle.defs_text.specs.Text.{up_to_nul}
-use Rattle.yaml_chars.specs.WindowView.{HasNoNul, IsText, BeginsText}
 
 up_to_nul-stop : (c : ℕ) (cs : List ℕ) → c ≡ 0 → up_to_nul (c ∷ cs) ≡ []
 unfolding is_nul

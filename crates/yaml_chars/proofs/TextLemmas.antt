@@ -1,11 +1,7 @@
 -- Lemmas about texts as lists of characters.
-use Rattle.std.proofs.Common.{List, ◌≡◌, ℕ, [], ◌∷◌, ◌++◌, ap, sym, ◌∙◌, refl, append-nil, length, ◌==◌, suc, arith, false}
-use Rattle.std.specs.Prelude.{String, string_bytes, encode_utf8, encode_utf8_all}
 use Rattle.std.specs.Str.{chars}
 use Rattle.std.specs.Char.{IsScalar}
-use Rattle.std.proofs.lemmas.Str.{chars-nil, chars-encodes, chars-append, IsUtf8-string_bytes, encodes-chars}
-use Rattle.defs_text.specs.Text.{string_chars, is_empty}
-use Rattle.std.proofs.lemmas.Bool.Decides.{nat_tests}
+use Rattle.yaml_chars.proofs.Common.{[], ap, append-nil, arith, chars-append, chars-encodes, chars-nil, encode_utf8, encode_utf8_all, encodes-chars, false, is_empty, IsUtf8-string_bytes, length, List, nat_tests, refl, String, string_bytes, string_chars, suc, sym, ℕ, ◌++◌, ◌==◌, ◌∙◌, ◌∷◌, ◌≡◌}
 
 -- the character that the bytes of one spell
 pub chars-encode : (c : ℕ) → IsScalar c → chars (encode_utf8 c) ≡ c ∷ []

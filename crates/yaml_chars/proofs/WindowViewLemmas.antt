@@ -1,13 +1,6 @@
 -- Lemmas about a window.
-use Rattle.std.proofs.Common.{◌≡◌, ◌≢◌, ℕ, ◌+◌, ◌-◌, ◌<◌, ◌≤◌, true, false, List, [], ◌∷◌, ◌++◌, length, take, drop, slice_index, arith, rules, refl, ◌∙◌, inl, inr, Bool, length-append, length-drop}
-use Rattle.std.proofs.Math.Seq.{take-length}
-use Rattle.std.proofs.lemmas.List.{drop_all}
-use Rattle.std.proofs.lemmas.Grind.{common_steps, elements}
-use Rattle.std.proofs.lemmas.Bool.{cases_lt}
-use Rattle.std.specs.Prelude.{Option}
+use Rattle.yaml_chars.proofs.Common.{[], arith, BeginsText, Bool, CameFrom, cases_lt, common_steps, drop, drop_all, elements, false, Fills, HasNoNul, inl, inr, IsText, length, length-append, length-drop, List, Option, Possible, Pulled, Pulls, Reads, refl, rules, Sees, slice_index, take, take-length, true, WindowView, ℕ, ◌++◌, ◌+◌, ◌-◌, ◌<◌, ◌∙◌, ◌∷◌, ◌≡◌, ◌≢◌, ◌≤◌}
 use native.Mathlib.Numerals.{unary_clauses}
-use Rattle.yaml_chars.specs.Source.{Pulled, Pulls, CameFrom}
-use Rattle.yaml_chars.specs.WindowView.{WindowView, Possible, Reads, Sees, Fills, HasNoNul, IsText, BeginsText}
 
 -- a text that begins with xs and c begins with xs
 pub begins-back : (xs : List ℕ) (c : ℕ) (w : List ℕ) → take (length (xs ++ c ∷ [])) w ≡ xs ++ c ∷ [] → take (length xs) w ≡ xs

@@ -1,24 +1,7 @@
 -- Lemmas about characters of a line that are known to come.
-use Rattle.std.proofs.Common.{◌≡◌, ◌≢◌, ℕ, zero, suc, ◌+◌, ◌-◌, ◌<◌, ◌≤◌, ◌⊎◌, ◌==◌, ◌||◌, ◌&&◌, Bool, cond, true, false, List, [], ◌∷◌, ◌++◌, length, take, drop, slice_index, refl, sym, ap, subst, ◌∙◌, arith, append_assoc, append-nil, length-append, inl, inr}
-use Rattle.std.specs.List.{slice_range}
-use Rattle.std.specs.Prelude.{not, nat_lt, Option, Some, slice_get}
-use Rattle.std.specs.Iterator.{Count, IsFinite, Yields}
-use Rattle.std.specs.Str.{IsUtf8, IsCharBoundary, IsAscii, chars}
-use Rattle.std.specs.Str.Iter.{chars_rest, chars_steps}
-use Rattle.std.specs.declared.str.Chars.{Chars}
-use Rattle.std.proofs.lemmas.Bool.Decides.{nat_tests}
-use Rattle.std.proofs.lemmas.Bool.{and_parts, cases_lt}
-use Rattle.std.proofs.lemmas.List.{take-append-drop, length-take-le}
+use Rattle.std.specs.Str.{chars}
+use Rattle.yaml_chars.proofs.Common.{[], and_parts, ap, append-nil, append_assoc, are_words, AreAscii, AreWordsBetween, AreWordsUpTo, arith, bare, begins_byte, begins_word, Bool, byte_from_char, cases_lt, char_from_byte, Chars, chars_past_char, chars_rest, chars_steps, cond, Count, drop, encode_ascii, encodes-chars, EndsAtAscii, false, Fills, GivesWords, Goes, halts, halts_line, HasNoNul, inl, inr, is_blank, is_break, is_flow, is_in_words, is_word_byte, IsAscii, IsCharBoundary, IsCharBoundary-after_ascii, IsCharBoundary-before_ascii, IsCharBoundary-end, IsCharBoundary-start, IsFinite, IsUtf8, IsUtf8-past_char, IsUtf8-take, IsWordBetween, IterStands, LanesGo, len_utf8_bounds, length, length-append, length-encode, length-take-le, Line, List, nat_lt, nat_tests, not, Option, Plain, Position, Pulled, Quoted, Reads, refl, Run, slice_get, slice_index, slice_range, Some, stops, stops_beyond, stops_byte, subst, suc, sym, take, take-append-drop, TakesWords, true, Yields, zero, ℕ, ◌&&◌, ◌++◌, ◌+◌, ◌-◌, ◌<◌, ◌==◌, ◌||◌, ◌∙◌, ◌∷◌, ◌≡◌, ◌≢◌, ◌≤◌, ◌⊎◌}
 use lib.Utf8.{encode, encodes}
-use Rattle.std.proofs.lemmas.Str.{encode_ascii, encodes-chars, chars_past_char, char_from_byte, byte_from_char, length-encode, len_utf8_bounds, IsUtf8-past_char, IsUtf8-take, IsCharBoundary-before_ascii, IsCharBoundary-after_ascii, IsCharBoundary-start, IsCharBoundary-end}
-use Rattle.defs_text.specs.Position.{Position}
-use Rattle.yaml_chars.specs.Class.{is_blank, is_break, is_flow}
-use Rattle.yaml_chars.specs.WindowView.{Reads, Fills, HasNoNul}
-use Rattle.yaml_chars.specs.Run.{stops, bare}
-use Rattle.yaml_chars.specs.Source.{Pulled, IterStands}
-use Rattle.yaml_chars.specs.Words.{begins_word, is_in_words, are_words, stops_beyond, stops_byte, begins_byte, is_word_byte, AreWordsUpTo, AreWordsBetween, IsWordBetween, AreAscii, EndsAtAscii, halts, halts_line, Goes, LanesGo, GivesWords, TakesWords}
-use Rattle.yaml_chars.specs.declared.run.Run.{Run}
-use Rattle.yaml_chars.specs.declared.run.Run.TheVariants.{Line, Quoted, Plain}
 
 -- ---- bytes
 

@@ -1,15 +1,6 @@
 -- A loader that stands at a document's start, beside a new one: over the document's events both come to the same.
-use Rattle.std.proofs.Common.{◌≡◌, ℕ, zero, suc, ◌<◌, ◌≤◌, List, [], ◌∷◌, ◌++◌, Bool, true, false, refl, sym, ap, subst, append_assoc, append-nil, nat_eq, arith}
-use Rattle.std.specs.Prelude.{Option, Some, None, unwrap_or, if◌then◌else◌, max}
-use Rattle.std.proofs.Math.Nat.{le-max_left, le-max_right}
-use Rattle.defs_text.specs.Position.{Position}
-use Rattle.defs_tree.specs.Tree.{Tree, array, hash, bad_value, items_of, pairs_of}
-use Rattle.defs_tree.specs.Pairs.{has_key, insert}
-use Rattle.defs_event.specs.Event.{Ev}
-use Rattle.defs_event.specs.Scalar.{scalar_tree}
-use Rattle.defs_event.specs.Stream.{events_of}
-use Rattle.defs_event.specs.Anchors.{Anchors, aliased, finished}
-use Rattle.defs_event.specs.Unfinished.{Opened, opened_sequence, opened_mapping, Unfinished, Step, reads, repeats, out_of_nesting, with_root, with_tree, with_node, with_start, with_sequence_end, with_mapping_end, with_document_end, with_event, Loader, at_work, noted, refused, loader_after, with_event_at, with_events}
+use Rattle.yaml_documents.proofs.Common.{[], aliased, Anchors, ap, append-nil, append_assoc, arith, array, at_work, bad_value, Bool, Ev, events_of, false, has_key, hash, if◌then◌else◌, insert, items_of, le-max_left, le-max_right, List, Loader, loader_after, max, nat_eq, None, noted, Opened, opened_mapping, opened_sequence, Option, out_of_nesting, pairs_of, Position, reads, refl, refused, repeats, scalar_tree, Some, Step, subst, suc, sym, Tree, true, Unfinished, unwrap_or, with_document_end, with_event, with_event_at, with_events, with_mapping_end, with_node, with_root, with_sequence_end, with_start, with_tree, zero, ℕ, ◌++◌, ◌<◌, ◌∷◌, ◌≡◌, ◌≤◌}
+use Rattle.defs_event.specs.Anchors.{finished}
 use Rattle.yaml_documents.proofs.Numbers.{anchor_of, highest, IsOver}
 
 -- ---- the numbers of the anchors that are finished or open

@@ -1,11 +1,5 @@
 -- Where documents begin and end among nested events.
-use Rattle.std.proofs.Common.{◌≡◌, ℕ, ◌≤◌, List, [], ◌∷◌, ◌++◌, Option, Some, None, true, refl, sym, ap, ◌∙◌, subst, arith}
-use Rattle.std.specs.Prelude.{max}
-use Rattle.std.proofs.Math.Nat.{le-max_left}
-use Rattle.defs_text.specs.Position.{Position}
-use Rattle.defs_event.specs.Event.{Ev}
-use Rattle.defs_event.specs.Nested.{Open, in_stream, before_node, after_node, in_sequence, at_key, at_value, open_after, there_and, closes, is_nested, IsNested}
-use Rattle.defs_event.specs.Stream.{events_of}
+use Rattle.yaml_documents.proofs.Common.{[], after_node, ap, arith, at_key, at_value, before_node, closes, Ev, events_of, in_sequence, in_stream, is_nested, IsNested, le-max_left, List, max, None, Open, open_after, Option, Position, refl, Some, subst, sym, there_and, true, ℕ, ◌++◌, ◌∙◌, ◌∷◌, ◌≡◌, ◌≤◌}
 use Rattle.defs_event.proofs.NestedTest.{test_is_exact}
 use Rattle.yaml_documents.proofs.Numbers.{anchor_of, low_after, IsOver, AreOwn}
 use Rattle.yaml_documents.proofs.Beside.{AllOver}

@@ -1,16 +1,9 @@
 -- What a call gives, from what was read.
-use Rattle.std.proofs.Common.{◌≡◌, ℕ, Bool, true, false, List, Option, Some, None, Ok, Err, refl, sym, ap, ◌∙◌, subst}
-use Rattle.std.specs.Prelude.{Result}
+use Rattle.yaml_documents.proofs.Common.{ap, Bool, by_key, by_memory, by_parser, Err, ErrorReport, false, finished, List, None, Ok, Option, Parse, Parsed, parsed, ReadsAll, ReadsOne, refl, Result, Scans, ScansIn, Some, Stops, subst, sym, true, view, Yaml, ℕ, ◌∙◌, ◌≡◌}
 use Rattle.defs_text.specs.Text.{up_to_nul}
 use Rattle.yaml_chars.specs.WindowView.{HasNoNul}
 use Rattle.yaml_chars.specs.Source.{CameFrom}
-use Rattle.yaml_tokens.specs.ErrorReport.{ErrorReport}
-use Rattle.yaml_tree.specs.View.{view}
-use Rattle.yaml_tree.specs.declared.yaml.Yaml.{Yaml}
-use Rattle.yaml_scanner.specs.Scanned.{ScansIn, Scans}
-use Rattle.yaml_parser.specs.Parsed.{Parse, Parsed, parsed}
 use Rattle.proof_loads.proofs.Spelled.{characters_are_the_text}
-use Rattle.yaml_documents.specs.Reading.{finished, ReadsOne, ReadsAll, Stops, by_parser, by_memory, by_key}
 use Rattle.yaml_documents.specs.Stream.{Stream, stream_of, is_last, Adds, Says, Gives}
 use Rattle.yaml_documents.proofs.Texts.{says_document, says_all, says_stop}
 

@@ -1,17 +1,6 @@
 -- The documents of a loader over the events of one document.
-use Rattle.std.proofs.Common.{◌≡◌, ℕ, Bool, true, false, List, [], ◌∷◌, ◌++◌, Option, Some, None, refl, sym, ap, ◌∙◌, subst, append-nil, append_assoc}
-use Rattle.std.specs.Prelude.{Result, Ok, Err, unwrap_or, if◌then◌else◌}
-use Rattle.defs_text.specs.Position.{Position}
-use Rattle.defs_tree.specs.Tree.{Tree, array, hash, bad_value, items_of, pairs_of}
-use Rattle.defs_tree.specs.Pairs.{has_key, insert}
-use Rattle.defs_event.specs.Event.{Ev}
-use Rattle.defs_event.specs.Scalar.{scalar_tree}
-use Rattle.defs_event.specs.Anchors.{aliased, finished}
-use Rattle.defs_event.specs.Laws.{HasRead}
-use Rattle.defs_event.specs.Unfinished.{Opened, opened_sequence, opened_mapping, Unfinished, Step, reads, repeats, out_of_nesting, with_root, with_tree, with_node, with_start, with_sequence_end, with_mapping_end, with_document_end, with_event, Loader, at_work, noted, refused, new_loader, loader_after, with_event_at, with_events, documents_of, refused_at}
-use Rattle.yaml_loader.specs.Loads.{HasDocuments, HasNoted}
-use Rattle.yaml_loader.proofs.LoadLemmas.{with_last}
-use Rattle.yaml_documents.specs.Reading.{is_end, HasNoEnd}
+use Rattle.yaml_documents.proofs.Common.{[], aliased, ap, append-nil, append_assoc, array, at_work, bad_value, Bool, documents_of, Err, Ev, false, has_key, HasDocuments, hash, HasNoEnd, HasNoted, HasRead, if◌then◌else◌, insert, is_end, items_of, List, Loader, loader_after, new_loader, None, noted, Ok, Opened, opened_mapping, opened_sequence, Option, out_of_nesting, pairs_of, Position, reads, refl, refused, refused_at, repeats, Result, scalar_tree, Some, Step, subst, sym, Tree, true, Unfinished, unwrap_or, with_document_end, with_event, with_event_at, with_events, with_last, with_mapping_end, with_node, with_root, with_sequence_end, with_start, with_tree, ℕ, ◌++◌, ◌∙◌, ◌∷◌, ◌≡◌}
+use Rattle.defs_event.specs.Anchors.{finished}
 use Rattle.yaml_documents.proofs.Beside.{StandBeside}
 
 pub events_append : (l : Loader) (es fs : List (Ev × Position)) → with_events l (es ++ fs) ≡ with_events (with_events l es) fs

@@ -6,3 +6,4 @@ pub mod Numbers
 pub mod OneDocument
 pub mod Steps
 pub mod Texts
+mod Common

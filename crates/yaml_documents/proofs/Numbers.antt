@@ -1,9 +1,5 @@
 -- In the events of a stream, each alias has a higher number than all anchors of earlier documents.
-use Rattle.std.proofs.Common.{◌≡◌, ℕ, ◌+◌, ◌<◌, ◌≤◌, Bool, true, false, if◌then◌else◌, List, [], ◌∷◌, ◌++◌, Option, Some, None, option_map, refl, sym, ap, ◌∙◌, subst, arith}
-use Rattle.std.specs.Prelude.{max, bytes_eq}
-use Rattle.std.proofs.Math.Nat.{le-max_right, max-le, max-zero}
-use Rattle.defs_event.specs.Event.{Ev}
-use Rattle.defs_token.specs.Token.{Style}
+use Rattle.yaml_documents.proofs.Common.{[], ap, arith, Bool, bytes_eq, Ev, false, if◌then◌else◌, le-max_right, List, max, max-le, max-zero, None, Option, option_map, refl, Some, Style, subst, sym, true, ℕ, ◌++◌, ◌+◌, ◌<◌, ◌∙◌, ◌∷◌, ◌≡◌, ◌≤◌}
 use Rattle.defs_event.specs.Raw.{Raw}
 use Rattle.defs_event.specs.Names.{Names, under_name, are_allowed, perhaps_resolved, number, with_anchor, named, names_after, resolved_event}
 use Rattle.defs_event.proofs.NameLemmas.{both_some}

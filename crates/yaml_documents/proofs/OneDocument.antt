@@ -1,38 +1,16 @@
 -- What the reading of one document does, from what its loader took.
-use Rattle.std.proofs.Common.{◌≡◌, ℕ, ◌<◌, Bool, true, false, List, [], ◌∷◌, ◌++◌, length, Option, Some, None, Ok, Err, refl, sym, ap, ◌∙◌, subst, append_assoc, append-nil, inl, inr, arith}
-use Rattle.std.specs.Prelude.{◌||◌, ◌⊎◌, Result, IsSome, option_to_list}
-use Rattle.std.proofs.lemmas.List.{map-append}
 use Rattle.std.specs.Result.{IsErrAnd}
-use Rattle.defs_text.specs.Position.{Position}
-use Rattle.defs_token.specs.Token.{Token}
-use Rattle.defs_token.specs.Toks.{toks}
-use Rattle.defs_tree.specs.Tree.{Tree}
-use Rattle.yaml_tokens.specs.ErrorReport.{ErrorReport}
-use Rattle.defs_event.specs.Event.{Ev}
-use Rattle.defs_event.specs.Laws.{HasRead}
-use Rattle.defs_event.specs.Nested.{IsNested}
-use Rattle.defs_event.specs.Reading.{reading}
-use Rattle.defs_event.specs.Stream.{BeginsPlaced, raws_of, events_of}
-use Rattle.defs_event.specs.Unfinished.{Loader, at_work, noted, refused, new_loader, with_event_at, with_events, documents_of, refused_at}
-use Rattle.defs_event.proofs.OneByOne.{one_by_one}
-use Rattle.defs_event.proofs.StreamNests.{stream_nests}
-use Rattle.yaml_tree.specs.View.{view, items_view}
-use Rattle.yaml_tree.specs.declared.yaml.Yaml.{Yaml}
+use Rattle.yaml_documents.proofs.Common.{[], ap, append-nil, append_assoc, arith, at_work, BeginsPlaced, Bool, by_key, by_memory, by_parser, documents_of, Ended, EndsDocument, Err, ErrorReport, Ev, events_of, false, fault_in, Faults, finished, has_documents, has_end, has_noted, HasDocuments, HasNoEnd, HasNoted, HasRead, inl, inr, is_end, is_stream_end, IsBetween, IsNested, IsPlain, IsRead, IsSome, items_view, length, List, Loader, map-append, new_fault, new_loader, None, noted, Ok, one_by_one, Option, option_to_list, Parsed, placed_stream, Position, raws_of, read, reading, Reads, ReadsAll, ReadsOne, refl, refused, refused_at, Refuses, Result, Some, stands, Stops, stream_nests, subst, sym, TakesAll, TakesDocument, Token, toks, Tree, true, view, with_event_at, with_events, with_last, Yaml, ℕ, ◌++◌, ◌<◌, ◌||◌, ◌∙◌, ◌∷◌, ◌≡◌, ◌⊎◌}
 use Rattle.yaml_parser.specs.Blames.{WantsMemory}
 use Rattle.yaml_parser.specs.Nests.{BeginsNested, opened, is_open}
-use Rattle.yaml_parser.specs.Parsed.{Parsed, is_stream_end, has_end, read}
 use Rattle.yaml_parser.proofs.Nesting.{no_end_inside}
-use Rattle.proof_loads.proofs.Answers.{placed_stream}
 use Rattle.proof_loads.proofs.Pulled.{read_given, has_end_append}
 use Rattle.yaml_loader.specs.Gives.{IsGivenFault}
 use Rattle.yaml_loader.specs.Gives as given
 use Rattle.yaml_loader.specs.Loading.{loader_of, kept_fault, Takes}
-use Rattle.yaml_loader.specs.Loads.{HasDocuments, HasNoted}
-use Rattle.yaml_loader.proofs.LoadLemmas.{with_last, stands, new_fault, has_documents, has_noted}
 use Rattle.yaml_loader.specs.declared.loader.YamlLoader.{YamlLoader}
 use Rattle.yaml_documents.specs.declared.read.Halt.{Halt}
 use Rattle.yaml_documents.specs.declared.read.Halt.TheVariants as halt
-use Rattle.yaml_documents.specs.Reading.{is_end, HasNoEnd, Ended, TakesAll, Faults, Refuses, fault_in, TakesDocument, finished, EndsDocument, IsPlain, IsBetween, IsRead, ReadsOne, ReadsAll, Stops, by_parser, by_memory, by_key, Reads}
 use Rattle.yaml_documents.proofs.Numbers.{highest, low_at, AreOwn, stream_own, own_first, own_rest}
 use Rattle.yaml_documents.proofs.Beside.{LoaderUpTo, StandBeside, events_up_to, events_beside, begins_beside}
 use Rattle.yaml_documents.proofs.Between.{BeginDocument, BeginSo, begin_at_start, begin_after, over_so_far}

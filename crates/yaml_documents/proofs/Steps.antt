@@ -1,13 +1,7 @@
 -- The events of one document, one by one.
-use Rattle.std.proofs.Common.{◌≡◌, ◌≢◌, ◌||◌, true, false, if◌then◌else◌, List, [], ◌∷◌, ◌++◌, Ok, Err, refl, sym, ap, ◌∙◌, append_assoc, append-nil, arith}
-use Rattle.std.specs.Prelude.{Result}
-use Rattle.defs_text.specs.Position.{Position}
-use Rattle.yaml_tokens.specs.ErrorReport.{ErrorReport}
-use Rattle.defs_event.specs.Event.{Ev}
+use Rattle.yaml_documents.proofs.Common.{[], ap, append-nil, append_assoc, arith, Ended, Err, ErrorReport, Ev, false, Faults, Goes, HasNoEnd, if◌then◌else◌, is_end, is_stream_end, IsGoing, List, Ok, Parsed, Position, refl, Refuses, Result, sym, TakesAll, true, ◌++◌, ◌||◌, ◌∙◌, ◌∷◌, ◌≡◌, ◌≢◌}
 use Rattle.yaml_parser.specs.Loads.{no_event, one_event}
-use Rattle.yaml_parser.specs.Parsed.{Parsed, is_stream_end}
 use Rattle.yaml_parser.specs.Pulls.{GivesEvent, GivesFault}
-use Rattle.yaml_documents.specs.Reading.{is_end, HasNoEnd, IsGoing, Goes, Ended, TakesAll, Faults, Refuses}
 
 pub is_not_end : (e : Ev) → is_end e ≡ false → e ≢ Ev.stream_end
 is_not_end e h k = let no : true ≡ false = sym (ap is_end k) ∙ h in cc

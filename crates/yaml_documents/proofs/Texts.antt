@@ -1,34 +1,14 @@
 -- What the readings of one document say of a text.
-use Rattle.std.proofs.Common.{◌≡◌, ℕ, Bool, false, List, [], ◌∷◌, ◌++◌, Ok, refl, sym, ap, ◌∙◌, subst}
-use Rattle.std.specs.Prelude.{map}
-use Rattle.std.proofs.lemmas.List.{map-append}
-use Rattle.defs_text.specs.Position.{Position}
-use Rattle.defs_token.specs.Toks.{toks}
-use Rattle.defs_tree.specs.Tree.{Tree}
-use Rattle.yaml_tokens.specs.ErrorReport.{ErrorReport}
-use Rattle.defs_event.specs.Event.{Ev}
-use Rattle.defs_event.specs.Laws.{HasRead}
-use Rattle.defs_event.specs.Nested.{NestedDocument, IsNested, nested_stream}
-use Rattle.defs_event.specs.Reading.{reading}
-use Rattle.defs_event.specs.Stream.{IsStream, Foretells, events_of}
-use Rattle.defs_event.specs.Unfinished.{Loader, at_work, noted, refused, new_loader, with_events, documents_of}
-use Rattle.defs_event.proofs.OneByOne.{one_by_one}
-use Rattle.defs_event.proofs.StreamNests.{stream_nests}
-use Rattle.yaml_scanner.specs.Scanned.{ScansIn}
+use Rattle.yaml_documents.proofs.Common.{[], ap, at_work, Bool, by_key, by_memory, by_parser, documents_of, EndsDocument, ErrorReport, Ev, events_of, false, fault_of, finished, Foretells, has_end, HasNoted, HasRead, IsNested, IsPlain, IsRead, IsStream, List, Loader, map, map-append, nested_stream, NestedDocument, new_loader, noted, Ok, one_by_one, Parsed, placed_stream, Position, read, reading, ReadsAll, ReadsOne, refl, refused, ScansIn, Stops, stream_nests, subst, sym, toks, Tree, with_events, with_last, ℕ, ◌++◌, ◌∙◌, ◌∷◌, ◌≡◌}
 use Rattle.yaml_parser.specs.Follows.{Explains}
-use Rattle.yaml_parser.specs.Parsed.{Parsed, has_end, read}
 use Rattle.proof_loads.specs.TextEvents.{AreFirst, BeginsEvents, IsFaultOf, wants_memory}
 use Rattle.defs_event.specs.Meaning.{Means}
-use Rattle.proof_loads.proofs.Answers.{placed_stream, fault_of}
 use Rattle.proof_loads.proofs.Loads.{memory_is_wanted}
 use Rattle.proof_loads.proofs.StreamEnds.{all_tokens}
 use Rattle.proof_loads.proofs.Texts.{goes_on, first_tokens}
-use Rattle.yaml_loader.specs.Loads.{HasNoted}
-use Rattle.yaml_loader.proofs.LoadLemmas.{with_last}
 use Rattle.yaml_documents.specs.First.{BeginsDocuments, BeginsAs, IsStopped}
 use Rattle.yaml_documents.specs.First as first
 use Rattle.yaml_documents.specs.Laws.{GivenDocumentsAreTheFirst, TextsThatLoadAreNotStopped}
-use Rattle.yaml_documents.specs.Reading.{finished, EndsDocument, IsPlain, IsRead, ReadsOne, ReadsAll, Stops, by_parser, by_memory, by_key}
 use Rattle.yaml_documents.proofs.Between.{nested_so_far}
 use Rattle.yaml_documents.proofs.Finishing.{events_append, end_stays, read_documents, read_has, was_read, was_noted, documents_grow, noted_stays}
 use Rattle.yaml_documents.proofs.OneDocument.{read_is}

@@ -1,10 +1,5 @@
 -- Tests that only ASCII characters pass, by bytes and by characters.
-use Rattle.std.proofs.Common.{◌≡◌, ℕ, suc, ◌<◌, ◌≤◌, List, [], ◌∷◌, ◌++◌, length, get_or, Bool, true, false, ◌||◌, refl, sym, ap, ◌∙◌, arith, append-nil}
-use Rattle.std.specs.Prelude.{nat_lt, encode_utf8, encode_utf8_all}
-use Rattle.std.specs.List.{list_any}
-use Rattle.std.specs.Str.{chars, IsUtf8}
-use Rattle.std.proofs.lemmas.Bool.Decides.{nat_tests}
-use Rattle.std.proofs.lemmas.Str.{encode_ascii, encodes-chars, inside_one}
+use Rattle.yaml_emitter.proofs.Common.{[], ap, append-nil, arith, Bool, chars, encode_ascii, encode_utf8, encode_utf8_all, encodes-chars, false, get_or, inside_one, IsUtf8, length, List, list_any, nat_lt, nat_tests, refl, suc, sym, true, ℕ, ◌++◌, ◌<◌, ◌||◌, ◌∙◌, ◌∷◌, ◌≡◌, ◌≤◌}
 
 any_append : (p : ℕ → Bool) (xs ys : List ℕ) → list_any p (xs ++ ys) ≡ (list_any p xs || list_any p ys)
 any_append p [] ys = refl

@@ -1,10 +1,6 @@
 -- The sets of bytes that are held as bits.
-use Rattle.std.proofs.Common.{◌≡◌, ℕ, ◌<◌, not, ◌&&◌}
-use Rattle.std.specs.Char.{is_ascii_lowercase}
-use Rattle.defs_tree.specs.Quoting.{is_unfit_for_plain}
-use Rattle.yaml_chars.proofs.MaskLemmas.{same, same_is, each_upto}
+use Rattle.yaml_emitter.proofs.Common.{each_upto, has_bit, is_ascii_lowercase, is_escaped, is_unfit_for_plain, not, same, same_is, ℕ, ◌&&◌, ◌<◌, ◌≡◌}
 use Rattle.yaml_emitter.specs.declared.runs.Bits.{Bits}
-use Rattle.yaml_emitter.specs.Runs.{has_bit, is_escaped}
 
 -- the sets that are held as bits
 abbrev pub escaped_set : Bits

@@ -1,16 +1,6 @@
 -- What is left to write, part by part.
-use Rattle.std.proofs.Common.{◌≡◌, ℕ, suc, ◌+◌, ◌*◌, ◌<◌, ◌≤◌, List, [], ◌∷◌, ◌++◌, Bool, true, false, not, inr, refl, sym, ap, subst, ◌∙◌, arith, append_assoc}
-use Rattle.std.specs.Prelude.{codes, Result, Ok, Err, IsOk, IsErr}
 use Rattle.std.specs.declared.fmt.Error.{Error}
-use Rattle.defs_tree.specs.Box.{box, is_block, item_boxes, pair_boxes}
-use Rattle.defs_tree.specs.Spelling.{is_scalar, spelling}
-use Rattle.defs_tree.specs.Tree.{Tree, items_of, pairs_of}
-use Rattle.yaml_tree.specs.Weight.{items_nodes, pairs_nodes}
-use Rattle.yaml_emitter.specs.At.{new_line, stacked}
-use Rattle.yaml_emitter.specs.Deep.{value_text, rests_text, rests_weight, AreRestsValid, GoesOn}
-use Rattle.yaml_emitter.specs.Entries.{mark_text, before_block, before_entry, entries_text, pair_text, scalar_box}
-use Rattle.yaml_emitter.specs.ValidTree.{IsValid, AreValid, ArePairsValid}
-use Rattle.yaml_emitter.specs.Writing.{IsLeft, Stopped, WritesUnless}
+use Rattle.yaml_emitter.proofs.Common.{[], ap, append_assoc, ArePairsValid, AreRestsValid, AreValid, arith, before_block, before_entry, Bool, box, codes, entries_text, Err, false, GoesOn, inr, is_block, is_scalar, IsErr, IsLeft, IsOk, IsValid, item_boxes, items_nodes, items_of, List, mark_text, new_line, not, Ok, pair_boxes, pair_text, pairs_nodes, pairs_of, refl, rests_text, rests_weight, Result, scalar_box, spelling, stacked, Stopped, subst, suc, sym, Tree, true, value_text, WritesUnless, ℕ, ◌*◌, ◌++◌, ◌+◌, ◌<◌, ◌∙◌, ◌∷◌, ◌≡◌, ◌≤◌}
 use Rattle.yaml_emitter.specs.declared.deep.Rest.{Rest}
 use Rattle.yaml_emitter.specs.declared.node.Mark.{Mark}
 use Rattle.yaml_emitter.specs.declared.node.Mark.TheVariants.{Dash, Question, Colon}

@@ -1,17 +1,8 @@
 -- How a text begins and ends, by its bytes and by its characters.
-use Rattle.std.proofs.Common.{◌≡◌, ◌≢◌, ℕ, zero, suc, ◌-◌, ◌<◌, ◌≤◌, get_or, List, [], ◌∷◌, ◌++◌, length, take, drop, Bool, true, false, refl, sym, ap, ◌∙◌, arith, length-append}
-use Rattle.std.specs.Prelude.{◌==◌, nat_eq, encode_utf8_all, None}
-use Rattle.std.specs.List.{ends_with}
-use Rattle.std.specs.Str.{chars, IsUtf8}
 use Rattle.std.specs.Str.Pattern.{HasPrefixMatch, FindsTextPrefix, HasSuffixMatch, FindsTextSuffix}
 use Rattle.std.specs.Bool.{MatchBool}
 use Rattle.std.proofs.Math.ListN.{drop_of_length-le}
-use Rattle.std.proofs.Math.Seq.{drop-cons}
-use Rattle.std.proofs.lemmas.Bool.Decides.{nat_tests}
-use Rattle.std.proofs.lemmas.Slice.Eq.{bytes_eq-Decides}
-use Rattle.std.proofs.lemmas.Str.{chars-append, chars-nil, encodes-append, encodes-chars, encodes-IsAscii, IsUtf8-from_ascii, IsUtf8-take, IsCharBoundary-before_ascii}
-use Rattle.defs_tree.specs.Quoting.{begins_with}
-use Rattle.yaml_emitter.specs.At.{is_low}
+use Rattle.yaml_emitter.proofs.Common.{[], ap, arith, begins_with, Bool, bytes_eq-Decides, chars, chars-append, chars-nil, drop, drop-cons, encode_utf8_all, encodes-append, encodes-chars, encodes-IsAscii, ends_with, false, get_or, is_low, IsCharBoundary-before_ascii, IsUtf8, IsUtf8-from_ascii, IsUtf8-take, length, length-append, List, nat_eq, nat_tests, None, refl, suc, sym, take, true, zero, ℕ, ◌++◌, ◌-◌, ◌<◌, ◌==◌, ◌∙◌, ◌∷◌, ◌≡◌, ◌≢◌, ◌≤◌}
 use Rattle.yaml_emitter.proofs.TextLemmas.{low_at, low_chars}
 
 false_if : (b : Bool) → (b ≡ true → ⊥) → false ≡ b

@@ -1,13 +1,6 @@
 -- The text of arrays and hashes, entry by entry.
-use Rattle.std.proofs.Common.{◌≡◌, ◌↔◌, ℕ, zero, suc, ◌+◌, ◌≤◌, List, [], ◌∷◌, ◌++◌, Bool, true, false, not, ◌&&◌, refl, sym, ap, ◌∙◌, arith, append_assoc, add-one}
-use Rattle.std.specs.Prelude.{IsTrue, if◌then◌else◌, codes}
-use Rattle.defs_tree.specs.Box.{box, item_boxes, pair_boxes, pair_box, placed, indented, hung, hung_lower, is_block, if_none}
-use Rattle.defs_tree.specs.Spelling.{spelling, is_scalar}
-use Rattle.defs_tree.specs.Tree.{Tree, real, integer, string, boolean, array, hash, alias, null, bad_value, Items, no_items, item, Pairs, no_pairs, pair, items_of, pairs_of}
-use Rattle.defs_tree.specs.Writable.{levels}
+use Rattle.yaml_emitter.proofs.Common.{[], add-one, after_mark, alias, ap, append_assoc, arith, array, bad_value, before_entry, below, Bool, boolean, box, codes, complex_text, entries_text, false, hash, hung, hung_lower, if_none, if◌then◌else◌, indented, integer, is_block, is_scalar, IsTrue, item, item_boxes, Items, items_of, levels, List, new_line, no_items, no_pairs, not, null, pair, pair_box, pair_boxes, pair_text, Pairs, pairs_of, placed, real, refl, spaces, spelling, stacked, string, suc, sym, Tree, true, zero, ℕ, ◌&&◌, ◌++◌, ◌+◌, ◌↔◌, ◌∙◌, ◌∷◌, ◌≡◌, ◌≤◌}
 use Rattle.yaml_tree.specs.Weight.{nodes}
-use Rattle.yaml_emitter.specs.At.{spaces, new_line, below, stacked}
-use Rattle.yaml_emitter.specs.Entries.{after_mark, before_entry, complex_text, pair_text, entries_text}
 
 -- ---- arrays and hashes that aren't empty
 

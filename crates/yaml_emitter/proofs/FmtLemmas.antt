@@ -1,13 +1,8 @@
 -- What a formatter has taken after calls in a row.
-use Rattle.std.proofs.Common.{ℕ, List, [], ◌∷◌, sym, ap, subst}
-use Rattle.std.proofs.Output.{has_written_append, has_written_of_eq, writes_in_calls_nil}
-use Rattle.std.proofs.lemmas.Str.{encodes-append}
-use Rattle.std.specs.Fmt.{HasWritten}
-use Rattle.std.specs.List.{FoldsTo, concat}
 use Rattle.std.specs.Str.{encode_utf8_all}
 use Rattle.std.specs.declared.fmt.Formatter.{Formatter}
+use Rattle.yaml_emitter.proofs.Common.{[], ap, concat, encodes-append, FoldsTo, has_written_append, has_written_of_eq, HasWritten, List, subst, sym, writes_in_calls_nil, Wrote, ℕ, ◌∷◌}
 use Rattle.yaml_emitter.specs.FmtText.{TakesPlain}
-use Rattle.yaml_emitter.specs.Writing.{Wrote}
 
 took_parts : {W : Type 0} (takes : W → List ℕ → W → Type 0) (f : Formatter W) (parts : List (List ℕ)) (g : Formatter W)
     → FoldsTo (TakesPlain takes) f parts g → TakesPlain takes f (concat parts) g

@@ -16,3 +16,4 @@ pub mod ValidLemmas
 pub mod ListLemmas
 pub mod NodeLemmas
 pub mod DeepLemmas
+mod Common

@@ -1,8 +1,5 @@
 -- Lines and the spaces with which they begin.
-use Rattle.std.proofs.Common.{◌≡◌, ◌≤◌, ◌<◌, ◌+◌, ◌-◌, ◌*◌, zero, suc, ℕ, List, ◌∷◌, ◌++◌, length, take, drop, true, refl, sym, ap, subst, ◌∙◌, arith, replicate}
-use Rattle.std.specs.Str.{IsCharBoundary}
-use Rattle.std.proofs.lemmas.Str.{IsCharBoundary-from_ascii}
-use Rattle.yaml_emitter.specs.At.{spaces, is_low}
+use Rattle.yaml_emitter.proofs.Common.{ap, arith, drop, is_low, IsCharBoundary, IsCharBoundary-from_ascii, length, List, refl, replicate, spaces, subst, suc, sym, take, true, zero, ℕ, ◌*◌, ◌++◌, ◌+◌, ◌-◌, ◌<◌, ◌∙◌, ◌∷◌, ◌≡◌, ◌≤◌}
 use Rattle.yaml_emitter.proofs.TextLemmas.{low_at}
 
 -- so many spaces

@@ -1,7 +1,5 @@
 -- A list of nodes or pairs whose members are taken one by one.
-use Rattle.std.proofs.Common.{◌≡◌, ℕ, ◌≤◌, List, [], ◌∷◌, ◌++◌, Bool, true, false, refl, sym, ap, ◌∙◌, subst, arith}
-use Rattle.std.specs.Prelude.{max}
-use Rattle.yaml_emitter.specs.Writing.{Wrote, Stopped, IsLeft}
+use Rattle.yaml_emitter.proofs.Common.{[], ap, arith, Bool, false, IsLeft, List, max, refl, Stopped, subst, sym, true, Wrote, ℕ, ◌++◌, ◌∙◌, ◌∷◌, ◌≡◌, ◌≤◌}
 use Rattle.yaml_emitter.proofs.WritingLemmas.{left_all, left_as, left_after, left_none, left_stopped, stopped_early}
 
 -- ---- a measure of a list that is the greatest of its members'

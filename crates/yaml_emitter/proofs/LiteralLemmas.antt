@@ -1,22 +1,6 @@
 -- The tests of literal blocks.
-use Rattle.std.proofs.Common.{◌≡◌, ◌≢◌, ℕ, suc, cond, get_or, ne_eqb, eq-eqb, eqb-true, length, take, drop, ◌<◌, ◌≤◌, ◌+◌, subst, append_assoc, append-nil, List, [], ◌∷◌, ◌++◌, Bool, true, false, not, ◌&&◌, ◌||◌, refl, sym, ap, ◌∙◌, arith}
-use Rattle.std.specs.Prelude.{◌==◌, nat_eq, bytes_eq, encode_utf8, if◌then◌else◌, codes}
-use Rattle.std.specs.Str.{chars, IsCharBoundary, IsUtf8, NonePass}
-use Rattle.std.proofs.Math.Seq.{drop-cons, take-length}
-use Rattle.std.proofs.lemmas.Bool.Decides.{nat_tests}
-use Rattle.std.proofs.lemmas.List.{length-drop}
-use Rattle.std.proofs.lemmas.List.Sums.{prefix_len_stops}
-use Rattle.std.proofs.lemmas.Slice.Eq.{bytes_eq-Decides}
-use Rattle.std.proofs.lemmas.Str.{encode_ascii, chars-nil, chars-append, chars_past_char, IsUtf8-from_ascii, IsUtf8-past_char, IsUtf8-take, IsUtf8-drop, IsCharBoundary-before_ascii, IsCharBoundary-after_ascii}
-use Rattle.std.specs.List.{list_any, list_all, ends_with, prefix_len}
-use Rattle.defs_text.specs.Text.{is_empty}
-use Rattle.defs_tree.specs.Lines.{lines_of, onto_first_line}
-use Rattle.defs_tree.specs.Literal.{is_literal_text, is_root_literal, is_literal_character, is_line_feed, first_full_line_is_indented, begins_as_marker, begins_blank}
-use Rattle.defs_tree.specs.Quoting.{begins_with}
+use Rattle.yaml_emitter.proofs.Common.{[], ap, append-nil, append_assoc, arith, begins_as_marker, begins_blank, begins_well, begins_with, begins_with_mark, below, Bool, bytes_eq, bytes_eq-Decides, chars, chars-append, chars-nil, chars_past_char, codes, cond, drop, drop-cons, encode_ascii, encode_utf8, ends_with, eq-eqb, eqb-true, false, first_full_line_is_indented, get_or, has_clear_lines, if◌then◌else◌, is_break, is_empty, is_line_feed, is_literal_character, is_literal_text, is_low, is_root_literal, IsCharBoundary, IsCharBoundary-after_ascii, IsCharBoundary-before_ascii, IsFirstCut, IsUnbroken, IsUtf8, IsUtf8-drop, IsUtf8-from_ascii, IsUtf8-past_char, IsUtf8-take, last_line, length, length-drop, lines_of, List, list_all, list_any, nat_eq, nat_tests, ne_eqb, new_line, NonePass, not, onto_first_line, prefix_len, prefix_len_stops, refl, subst, suc, sym, take, take-length, true, ℕ, ◌&&◌, ◌++◌, ◌+◌, ◌<◌, ◌==◌, ◌||◌, ◌∙◌, ◌∷◌, ◌≡◌, ◌≢◌, ◌≤◌}
 use Rattle.yaml_chars.specs.Class as class
-use Rattle.yaml_emitter.specs.At.{is_low, new_line, below}
-use Rattle.yaml_emitter.specs.Blocks.{begins_well, has_clear_lines, begins_with_mark, last_line, IsUnbroken, IsFirstCut}
-use Rattle.yaml_emitter.specs.Runs.{is_break}
 use Rattle.yaml_emitter.proofs.ByteLemmas.{bytes_tested}
 use Rattle.yaml_emitter.proofs.EndLemmas.{halves, take_front, begins_otherwise}
 use Rattle.yaml_emitter.proofs.TextLemmas.{low_at, low_chars}

@@ -1,15 +1,6 @@
 -- How a writer stands after a node.
-use Rattle.std.proofs.Common.{append-nil, append_assoc, ◌≡◌, ℕ, ◌+◌, ◌<◌, List, [], ◌∷◌, ◌++◌, Bool, true, false, true≢false, not, ◌&&◌, refl, sym, ap, ◌∙◌, subst}
-use Rattle.std.specs.Prelude.{max, Result, if◌then◌else◌, codes}
-use Rattle.defs_tree.specs.Box.{box, item_boxes, pair_boxes, is_block}
+use Rattle.yaml_emitter.proofs.Common.{[], after_mark, alias, ap, append-nil, append_assoc, array, bad_value, before_block, before_entry, below, Bool, boolean, box, codes, complex_text, entries_text, false, hash, if◌then◌else◌, integer, is_block, is_scalar, item, item_boxes, item_levels, items_of, joined, levels, List, max, new_line, no_items, no_pairs, not, null, pair, pair_boxes, pair_levels, pair_text, pairs_of, real, refl, Result, scalar_box, spelling, stacked, string, subst, sym, Tree, true, true≢false, WritesUnless, ℕ, ◌&&◌, ◌++◌, ◌+◌, ◌<◌, ◌∙◌, ◌∷◌, ◌≡◌}
 use Rattle.defs_tree.specs.DumpText.{dump_text}
-use Rattle.defs_tree.specs.Lines.{joined}
-use Rattle.defs_tree.specs.Spelling.{is_scalar, spelling}
-use Rattle.defs_tree.specs.Tree.{Tree, real, integer, string, boolean, array, hash, alias, null, bad_value, no_items, item, no_pairs, pair, items_of, pairs_of}
-use Rattle.defs_tree.specs.Writable.{levels, item_levels, pair_levels}
-use Rattle.yaml_emitter.specs.At.{below, new_line, stacked}
-use Rattle.yaml_emitter.specs.Entries.{after_mark, before_block, before_entry, complex_text, pair_text, entries_text, scalar_box}
-use Rattle.yaml_emitter.specs.Writing.{WritesUnless}
 use Rattle.yaml_emitter.proofs.EntryLemmas.{HasLines, lines, box_lines, next_item, next_pair}
 use Rattle.yaml_emitter.proofs.ListLemmas.{Entries}
 use Rattle.yaml_emitter.proofs.ValidLemmas.{nodes, nodes_in_pairs}

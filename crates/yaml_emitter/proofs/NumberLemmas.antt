@@ -1,9 +1,6 @@
 -- The digits of a number.
-use Rattle.std.proofs.Common.{◌≡◌, ◌<◌, ◌≤◌, ◌+◌, ℕ, [], ◌∷◌, ◌++◌, ap, sym, ◌∙◌, arith, ℤ, pos, negsuc, Bool, true, false}
-use Rattle.std.specs.Prelude.{◌/◌, ◌%◌, ◌^◌, unsigned_abs, int_le, nat_le}
-use Rattle.std.proofs.lemmas.Bool.Decides.{nat_tests}
-use Rattle.std.specs.Fmt.{decimal, signed_decimal}
 use Rattle.std.proofs.lemmas.Fmt.{decimal_digit, decimal_step}
+use Rattle.yaml_emitter.proofs.Common.{[], ap, arith, Bool, decimal, false, int_le, nat_le, nat_tests, negsuc, pos, signed_decimal, sym, true, unsigned_abs, ℕ, ℤ, ◌%◌, ◌++◌, ◌+◌, ◌/◌, ◌<◌, ◌^◌, ◌∙◌, ◌∷◌, ◌≡◌, ◌≤◌}
 
 pub one_digit : (n d : ℕ) → n < 10 → d ≡ 48 + n → d ∷ [] ≡ decimal n
 one_digit n d h e = ap (λ x. x ∷ []) e ∙ sym (decimal_digit n h)

@@ -1,18 +1,6 @@
 -- The printable characters of ASCII that a text begins with.
-use Rattle.std.proofs.Common.{◌≡◌, ℕ, List, [], ◌∷◌, ◌++◌, take, drop, Bool, true, false, not, ◌||◌, ◌&&◌, refl, sym, ap, ◌∙◌, arith}
-use Rattle.std.specs.Prelude.{nat_lt, is_some, Option, Some, None, MatchOption}
 use Rattle.std.specs.Borrow.{Bor}
-use Rattle.std.specs.List.{list_all, list_any, prefix_len}
-use Rattle.std.specs.Str.{chars, IsUtf8, IsCharBoundary}
-use Rattle.std.proofs.lemmas.Bool.{and_parts, and_from}
-use Rattle.std.proofs.lemmas.Bool.Decides.{nat_tests}
-use Rattle.std.proofs.lemmas.List.Folds.{list_all-append}
-use Rattle.std.proofs.lemmas.List.Sums.{prefix_len-le-length}
-use Rattle.std.proofs.lemmas.Str.{chars-append, IsUtf8-from_ascii, IsCharBoundary-from_take}
-use Rattle.defs_tree.specs.Literal.{is_literal_character, is_line_feed}
-use Rattle.yaml_emitter.specs.At.{is_low}
-use Rattle.yaml_emitter.specs.Blocks.{IsUnbroken, IsFirstCut}
-use Rattle.yaml_emitter.specs.Runs.{is_unprintable}
+use Rattle.yaml_emitter.proofs.Common.{[], and_from, and_parts, ap, arith, Bool, chars, chars-append, drop, false, is_line_feed, is_literal_character, is_low, is_some, is_unprintable, IsCharBoundary, IsCharBoundary-from_take, IsFirstCut, IsUnbroken, IsUtf8, IsUtf8-from_ascii, List, list_all, list_all-append, list_any, MatchOption, nat_lt, nat_tests, None, not, Option, prefix_len, prefix_len-le-length, refl, Some, sym, take, true, ℕ, ◌&&◌, ◌++◌, ◌||◌, ◌∙◌, ◌∷◌, ◌≡◌}
 use Rattle.yaml_emitter.proofs.EndLemmas.{halves}
 use Rattle.yaml_emitter.proofs.RunLemmas.{all_pass}
 use Rattle.yaml_emitter.proofs.TextLemmas.{low_at, low_chars}

@@ -1,16 +1,6 @@
 -- Runs of bytes as texts.
-use Rattle.std.proofs.Common.{◌≡◌, ◌≢◌, ℕ, ◌<◌, ◌≤◌, ◌+◌, List, [], ◌∷◌, ◌++◌, length, take, drop, suc, Bool, true, false, ◌&&◌, cond, refl, sym, ap, subst, ◌∙◌, arith, ◌⊎◌, inl, inr, length-append, append-nil}
-use Rattle.std.specs.Prelude.{nat_lt, ◌==◌, ◌||◌, if◌then◌else◌, encode_utf8, encode_utf8_all}
-use Rattle.std.specs.List.{list_all, prefix_len}
-use Rattle.std.specs.Str.{chars, IsUtf8, IsCharBoundary}
-use Rattle.std.proofs.lemmas.Bool.{and_parts, cases_order}
-use Rattle.std.proofs.lemmas.Bool.Decides.{nat_tests}
-use Rattle.std.proofs.lemmas.List.Folds.{list_all-append}
 use Rattle.std.proofs.lemmas.List.Concat.{flat_map-append}
-use Rattle.std.proofs.lemmas.List.Sums.{prefix_len-le-length, prefix_len_stops}
-use Rattle.std.proofs.lemmas.Str.{encode_ascii, encodes-chars, chars-append, chars_past_char, IsUtf8-take, IsUtf8-drop, IsUtf8-past_char, length-encode, len_utf8_bounds, IsCharBoundary-before_ascii, IsCharBoundary-end}
-use Rattle.defs_tree.specs.Escapes.{written_character, written_escapes, escaped_code}
-use Rattle.yaml_emitter.specs.Runs.{stands, IsRun, IsRunCut}
+use Rattle.yaml_emitter.proofs.Common.{[], and_parts, ap, append-nil, arith, Bool, cases_order, chars, chars-append, chars_past_char, cond, drop, encode_ascii, encode_utf8, encode_utf8_all, encodes-chars, escaped_code, false, if◌then◌else◌, inl, inr, IsCharBoundary, IsCharBoundary-before_ascii, IsCharBoundary-end, IsRun, IsRunCut, IsUtf8, IsUtf8-drop, IsUtf8-past_char, IsUtf8-take, len_utf8_bounds, length, length-append, length-encode, List, list_all, list_all-append, nat_lt, nat_tests, prefix_len, prefix_len-le-length, prefix_len_stops, refl, stands, subst, suc, sym, take, true, written_character, written_escapes, ℕ, ◌&&◌, ◌++◌, ◌+◌, ◌<◌, ◌==◌, ◌||◌, ◌∙◌, ◌∷◌, ◌≡◌, ◌≢◌, ◌≤◌, ◌⊎◌}
 use Rattle.yaml_emitter.proofs.EndLemmas.{halves}
 use Rattle.yaml_emitter.proofs.EscapeLemmas.{other_character}
 

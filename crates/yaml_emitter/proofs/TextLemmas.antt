@@ -1,11 +1,5 @@
 -- Texts by their bytes and characters.
-use Rattle.std.proofs.Common.{◌≡◌, ℕ, zero, suc, ◌<◌, List, [], ◌∷◌, true, arith}
-use Rattle.std.specs.Prelude.{nat_lt, slice_index}
-use Rattle.std.specs.Str.{chars}
-use Rattle.std.proofs.lemmas.Bool.{and_parts}
-use Rattle.std.proofs.lemmas.Bool.Decides.{nat_tests}
-use Rattle.std.proofs.lemmas.Str.{chars-IsAscii}
-use Rattle.yaml_emitter.specs.At.{is_low}
+use Rattle.yaml_emitter.proofs.Common.{[], and_parts, arith, chars, chars-IsAscii, is_low, List, nat_lt, nat_tests, slice_index, suc, true, zero, ℕ, ◌<◌, ◌∷◌, ◌≡◌}
 
 pub low_at : (t : List ℕ) → is_low t ≡ true → (i : ℕ) → slice_index t i < 128
 low_at [] h i = omega arith

@@ -1,13 +1,6 @@
 -- Valid trees, part by part.
-use Rattle.std.proofs.Common.{◌≡◌, List, [], ◌∷◌, true, false, true≢false, sym, ap, subst, refl}
-use Rattle.std.specs.Prelude.{Result, Ok, Err, IsErr, OnOk, OnErr, max}
-use Rattle.defs_tree.specs.Box.{is_block}
+use Rattle.yaml_emitter.proofs.Common.{[], alias, ap, ArePairsValid, AreValid, array, bad_value, boolean, depth, Err, false, hash, hash_tree, integer, is_block, is_scalar, IsErr, IsValid, item, items_depth, items_of, List, max, no_items, no_pairs, null, Ok, OnErr, OnOk, pair, pair_list_of, pairs_depth, pairs_of, real, refl, Result, string, subst, sym, Tree, true, true≢false, ◌∷◌, ◌≡◌}
 use Rattle.defs_tree.specs.Pairs.{AreDistinct}
-use Rattle.defs_tree.specs.Spelling.{is_scalar}
-use Rattle.defs_tree.specs.Tree.{Tree, real, integer, string, boolean, array, hash, alias, null, bad_value, no_items, item, no_pairs, pair, items_of, pairs_of, pair_list_of}
-use Rattle.yaml_tree.specs.Depth.{depth, items_depth, pairs_depth}
-use Rattle.yaml_tree.specs.View.{hash_tree}
-use Rattle.yaml_emitter.specs.ValidTree.{IsValid, AreValid, ArePairsValid}
 use Rattle.yaml_emitter.proofs.ListLemmas.{Members}
 
 -- ---- answers

@@ -1,23 +1,10 @@
 -- The words that are quoted.
-use Rattle.std.proofs.Common.{◌≡◌, ℕ, T, take, ◌++◌, suc, get_or, ◌+◌, cond, ◌<◌, List, [], ◌∷◌, length, ◌≤◌, Bool, true, false, ◌||◌, refl, sym, ap, subst, ◌∙◌, arith}
-use Rattle.std.specs.Prelude.{map, not, ◌&&◌, if◌then◌else◌, ◌==◌, nat_eq, nat_lt, bit_or, bytes_eq, codes, encode_utf8_all}
-use Rattle.std.specs.Char.{to_ascii_lowercase}
-use Rattle.std.specs.List.{ends_with, list_all, list_any}
-use Rattle.std.specs.Str.{chars, IsUtf8}
-use Rattle.std.proofs.lemmas.Bool.{and_parts, and_from}
-use Rattle.std.proofs.lemmas.Bool.Decides.{nat_tests}
-use Rattle.std.proofs.lemmas.Slice.Eq.{bytes_eq-Decides}
-use Rattle.std.proofs.lemmas.Str.{chars-nil, chars_past_char, encode_ascii, encodes-chars}
+use Rattle.yaml_emitter.proofs.Common.{[], and_from, and_parts, ap, arith, begins_plainly, begins_with, bit_or, Bool, bytes_eq, bytes_eq-Decides, chars, chars-nil, chars_past_char, codes, cond, each_upto, encode_ascii, encode_utf8_all, encodes-chars, ends_with, false, float_names, get_or, has_indicator_first, has_outer_space, if◌then◌else◌, is_empty, is_float_word, is_in, is_name, is_plain_letter, is_plain_small, is_quoted, is_sign, is_string, is_unfit, is_unfit_for_plain, is_word, IsUtf8, length, List, list_all, list_any, map, nat_eq, nat_lt, nat_tests, not, refl, reserved_words, same, same_is, subst, suc, sym, T, take, to_ascii_lowercase, true, typing, ℕ, ◌&&◌, ◌++◌, ◌+◌, ◌<◌, ◌==◌, ◌||◌, ◌∙◌, ◌∷◌, ◌≡◌, ◌≤◌}
 use Rattle.defs_tree.specs.Grammar.{is_among, followed_by}
-use Rattle.defs_text.specs.Text.{is_empty}
-use Rattle.defs_tree.specs.Quoting.{begins_with, is_in, is_quoted, has_outer_space, has_indicator_first, is_unfit_for_plain, reserved_words, is_float_word}
-use Rattle.defs_tree.specs.Typing.{is_sign, typing, is_string}
 use Rattle.defs_tree.proofs.GrammarLaws.{after_one, Rejects, optional_one-after, followed_by-empty}
 use Rattle.yaml_typing.proofs.FirstByte.{typing_itself}
 use Rattle.yaml_typing.specs.Values.{begins_value}
 use Rattle.yaml_typing.proofs.WideTexts.{low, Wide, low_bytes}
-use Rattle.yaml_emitter.specs.Words.{is_unfit, is_word, is_name, float_names, begins_plainly, is_plain_letter, is_plain_small}
-use Rattle.yaml_chars.proofs.MaskLemmas.{each_upto, same, same_is}
 use Rattle.yaml_emitter.proofs.TextLemmas.{low_chars}
 
 -- ---- names of numbers

@@ -1,8 +1,5 @@
 -- Writes after writes.
-use Rattle.std.proofs.Common.{ℕ, ◌≡◌, inl, inr, List, [], ◌∷◌, ◌++◌, refl, sym, ap, subst, ◌∙◌, append_assoc, append-nil}
-use Rattle.std.specs.Prelude.{Result, Ok, Err, IsOk, IsErr}
-use Rattle.std.specs.List.{FoldsTo, concat}
-use Rattle.yaml_emitter.specs.Writing.{Wrote, IsRefused, Stopped, WritesUnless, IsLeft}
+use Rattle.yaml_emitter.proofs.Common.{[], ap, append-nil, append_assoc, concat, Err, FoldsTo, inl, inr, IsErr, IsLeft, IsOk, IsRefused, List, Ok, refl, Result, Stopped, subst, sym, WritesUnless, Wrote, ℕ, ◌++◌, ◌∙◌, ◌∷◌, ◌≡◌}
 
 concat_append : (xs ys : List (List ℕ)) → concat (xs ++ ys) ≡ concat xs ++ concat ys
 concat_append [] ys = refl

@@ -1,10 +1,7 @@
 -- Lemmas about strings that grow.
-use Rattle.std.proofs.Common.{◌≡◌, ℕ, ◌<◌, ◌^◌, List, [], ◌∷◌, ◌++◌, ap, ◌∙◌}
-use Rattle.std.specs.Prelude.{String, string_bytes, decimal}
 use Rattle.std.specs.Str.{chars}
-use Rattle.std.proofs.lemmas.Str.{chars-append, chars-IsAscii, IsUtf8-string_bytes}
 use Rattle.std.proofs.lemmas.Fmt.{IsAscii-decimal}
-use Rattle.defs_text.specs.Text.{string_chars}
+use Rattle.yaml_encoding.proofs.Common.{[], ap, chars-append, chars-IsAscii, decimal, IsUtf8-string_bytes, List, String, string_bytes, string_chars, ℕ, ◌++◌, ◌<◌, ◌^◌, ◌∙◌, ◌∷◌, ◌≡◌}
 
 pub text_pushed : {A : Type 0} (s t : String A) (more : List ℕ) → string_bytes t ≡ string_bytes s ++ more → string_chars t ≡ string_chars s ++ chars more
 unfolding string_chars

@@ -7,3 +7,4 @@ pub mod PartsLemmas
 pub mod ReadLemmas
 pub mod TrapLemmas
 pub mod ValidLemmas
+mod Common

@@ -1,17 +1,8 @@
 -- Lemmas about what becomes of a malformation.
-use Rattle.std.proofs.Common.{◌≡◌, ℕ, List, [], ◌∷◌, false, refl, sym, ap, length, ◌==◌, ◌∙◌}
-use Rattle.std.specs.Prelude.{String, string_bytes}
-use Rattle.std.specs.declared.alloc.Global.{Global}
 use Rattle.std.specs.declared.ops.ControlFlow.{ControlFlow}
 use Rattle.std.specs.declared.ops.ControlFlow.TheVariants.{Break}
+use Rattle.yaml_encoding.proofs.Common.{[], answer_of, ap, break, false, Global, is_empty, is_nil_chars, IsStep, length, List, Message, message, message_or, OutOfMemory, refl, Stepped, Stop, StopIs, stopped, String, string_bytes, string_chars, string_chars_nil, sym, ℕ, ◌==◌, ◌∙◌, ◌∷◌, ◌≡◌}
 use denote.Ref.{Bor, MutBor}
-use Rattle.defs_text.specs.Text.{string_chars, is_empty}
-use Rattle.yaml_chars.proofs.TextLemmas.{string_chars_nil, is_nil_chars}
-use Rattle.yaml_encoding.specs.Decoding.{stopped, break, message, message_or}
-use Rattle.yaml_encoding.specs.Steps.{IsStep, Stepped, answer_of}
-use Rattle.yaml_encoding.specs.Outcomes.{StopIs}
-use Rattle.yaml_encoding.specs.declared.stop.Stop.{Stop}
-use Rattle.yaml_encoding.specs.declared.stop.Stop.TheVariants.{Message, OutOfMemory}
 
 -- an empty message
 pub message_or_own : {A : Type 0} (s : String A) (position n : ℕ) (input : List ℕ) → string_bytes s ≡ [] → message_or (string_chars s) position n input ≡ message position n input

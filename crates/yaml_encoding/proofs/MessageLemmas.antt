@@ -1,10 +1,6 @@
 -- Lemmas about messages.
-use Rattle.std.proofs.Common.{◌≡◌, ℕ, ◌<◌, List, [], ◌∷◌, ◌++◌, sym, refl, append_assoc, append-nil, add-one, length, get_or, drop, suc, ◌+◌}
-use Rattle.std.proofs.Math.Seq.{drop-cons}
-use Rattle.std.specs.Prelude.{codes, decimal}
 use Rattle.std.specs.Str.{chars}
-use Rattle.yaml_encoding.specs.Decoding.{listed}
-use Rattle.yaml_encoding.specs.Messages.{after}
+use Rattle.yaml_encoding.proofs.Common.{[], add-one, after, append-nil, append_assoc, codes, decimal, drop, drop-cons, get_or, length, List, listed, refl, suc, sym, ℕ, ◌++◌, ◌+◌, ◌<◌, ◌∷◌, ◌≡◌}
 
 listed_by_first : (n : ℕ) (ns : List ℕ) → listed (n ∷ ns) ≡ decimal n ++ after ns
 listed_by_first n [] = sym (append-nil (decimal n))

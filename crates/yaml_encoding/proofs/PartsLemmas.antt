@@ -1,7 +1,5 @@
 -- Lemmas about the parts of an input.
-use Rattle.std.proofs.Common.{◌≡◌, ℕ, zero, suc, ◌+◌, ◌-◌, ◌*◌, ◌≤◌, ◌<◌, pred, Bool, true, false, cond, List, [], ◌∷◌, Option, Some, None, length, drop, refl, ap, ◌∙◌, arith, add-zero}
-use Rattle.yaml_encoding.specs.Decoding.{Encoding, utf_8, utf_16_little, utf_16_big, Sequence, Range, Start, start_of, malformed, is_between, sequence_from, sequence_by, is_lead, is_trail, led, pair_by, utf_16_sequence, little, big, reading, part_of, parts_from}
-use Rattle.yaml_encoding.specs.Front.{front}
+use Rattle.yaml_encoding.proofs.Common.{[], add-zero, ap, arith, big, Bool, cond, drop, Encoding, false, front, is_between, is_lead, is_trail, led, length, List, little, malformed, None, Option, pair_by, part_of, parts_from, pred, Range, reading, refl, Sequence, sequence_by, sequence_from, Some, Start, start_of, suc, true, utf_16_big, utf_16_little, utf_16_sequence, utf_8, zero, ℕ, ◌*◌, ◌+◌, ◌-◌, ◌<◌, ◌∙◌, ◌∷◌, ◌≡◌, ◌≤◌}
 
 -- a sequence takes some bytes, and no more than there are
 abbrev Takes : Sequence → List ℕ → Type 0

@@ -1,13 +1,5 @@
 -- Lemmas about an input that is read up to a position.
-use Rattle.std.proofs.Common.{◌≡◌, ℕ, ◌+◌, ◌-◌, ◌≤◌, ◌<◌, List, [], ◌∷◌, ◌++◌, Some, None, length, take, drop, refl, ap, ◌∙◌, arith, inl, inr, length-drop}
-use Rattle.std.proofs.Math.Seq.{take-length}
-use Rattle.std.proofs.lemmas.List.{drop_all, drop-drop}
-use Rattle.yaml_encoding.specs.Decoding.{Encoding, Sequence, reading, part_by, parts_from, chosen, text, stopped, Steps, go_on, IsDecodedByCalls}
-use Rattle.yaml_encoding.specs.Front.{front}
-use Rattle.yaml_encoding.specs.Steps.{Stepped}
-use Rattle.yaml_encoding.specs.Outcomes.{IsRead, StopIs}
-use Rattle.yaml_encoding.specs.declared.stop.Stop.{Stop}
-use Rattle.yaml_encoding.specs.declared.stop.Stop.TheVariants.{Message, OutOfMemory}
+use Rattle.yaml_encoding.proofs.Common.{[], ap, arith, chosen, drop, drop-drop, drop_all, Encoding, front, go_on, inl, inr, IsDecodedByCalls, IsRead, length, length-drop, List, Message, None, OutOfMemory, part_by, parts_from, reading, refl, Sequence, Some, Stepped, Steps, Stop, StopIs, stopped, take, take-length, text, ℕ, ◌++◌, ◌+◌, ◌-◌, ◌<◌, ◌∙◌, ◌∷◌, ◌≡◌, ◌≤◌}
 use Rattle.yaml_encoding.proofs.PartsLemmas.{parts_from-front, front-bytes}
 
 -- what a slice from a position on is

@@ -1,8 +1,6 @@
 -- Inputs and what decoding makes of them, by computing.
-use Rattle.std.proofs.Common.{◌≡◌, ℕ, List, [], ◌∷◌, ◌++◌, inl, inr, refl}
-use Rattle.std.specs.Prelude.{codes}
 use Rattle.std.specs.Fmt.{digits}
-use Rattle.yaml_encoding.specs.Decoding.{unmarked, chosen, start_of, is_lead, is_trail, parts, character, malformation, text, stopped, ignored, replaced, strict, Answer, go_on, break, IsDecodedByCalls}
+use Rattle.yaml_encoding.proofs.Common.{[], Answer, break, character, chosen, codes, go_on, ignored, inl, inr, is_lead, is_trail, IsDecodedByCalls, List, malformation, parts, refl, replaced, start_of, stopped, strict, text, unmarked, ℕ, ◌++◌, ◌∷◌, ◌≡◌}
 
 -- a byte with which no sequence begins is left out
 ignores : ignored (parts (codes "---\na" ++ (0xA9 ∷ codes ": 1\n"))) ≡ codes "---\na: 1\n"

@@ -1,12 +1,5 @@
 -- What comes of an input by the steps of each trap.
-use Rattle.std.proofs.Common.{◌≡◌, ℕ, List, [], ◌∷◌, ◌++◌, refl, ap, sym, ◌∙◌, inl, inr, append_assoc, append-nil}
-use Rattle.std.specs.Prelude.{Result, Ok, Err, String}
-use Rattle.std.specs.declared.alloc.Global.{Global}
-use Rattle.yaml_encoding.specs.Decoding.{Part, character, malformation, parts, Outcome, text, stopped, ignored, replaced, strict, put_before, Steps, Answer, go_on, break, IsCalled, IsDecodedByCalls, message_or}
-use Rattle.yaml_encoding.specs.Steps.{steps_by}
-use Rattle.yaml_encoding.specs.Outcomes.{OutcomeIs}
-use Rattle.yaml_encoding.specs.declared.stop.Stop.{Stop}
-use Rattle.yaml_encoding.specs.declared.stop.Stop.TheVariants.{Message, OutOfMemory}
+use Rattle.yaml_encoding.proofs.Common.{[], Answer, ap, append-nil, append_assoc, break, character, Err, Global, go_on, ignored, inl, inr, IsCalled, IsDecodedByCalls, List, malformation, Message, message_or, Ok, Outcome, OutcomeIs, OutOfMemory, Part, parts, put_before, refl, replaced, Result, Steps, steps_by, Stop, stopped, strict, String, sym, text, ℕ, ◌++◌, ◌∙◌, ◌∷◌, ◌≡◌}
 use Rattle.yaml_encoding.specs.declared.trap.YAMLDecodingTrapFn.{YAMLDecodingTrapFn}
 use Rattle.yaml_encoding.specs.declared.trap.YAMLDecodingTrap.{YAMLDecodingTrap}
 use Rattle.yaml_encoding.specs.declared.trap.YAMLDecodingTrap.TheVariants.{Ignore, Strict, Replace, Call}

@@ -1,12 +1,6 @@
 -- Lemmas about sequences of UTF-8.
-use Rattle.std.proofs.Common.{◌≡◌, ℕ, zero, suc, ◌+◌, ◌-◌, ◌*◌, ◌≤◌, ◌<◌, ◌⊎◌, Bool, cond, true, false, List, [], ◌∷◌, Option, Some, None, length, drop, get_or, refl, sym, subst, ◌∙◌, arith}
 use Rattle.std.specs.Char.{IsScalar}
-use Rattle.std.proofs.Math.Seq.{drop-cons}
-use Rattle.std.proofs.lemmas.List.{drop_all}
-use Rattle.std.proofs.lemmas.Bool.Decides.{nat_tests}
-use Rattle.yaml_encoding.specs.Decoding.{start_of, Start, Range, any_trail, is_between, sequence_from, malformed, utf_8_sequence}
-use Rattle.yaml_encoding.specs.Front.{front, bounds, Leads}
-use Rattle.yaml_encoding.specs.Trails.{Trails}
+use Rattle.yaml_encoding.proofs.Common.{[], any_trail, arith, Bool, bounds, cond, drop, drop-cons, drop_all, false, front, get_or, is_between, Leads, length, List, malformed, nat_tests, None, Option, Range, refl, sequence_from, Some, Start, start_of, subst, suc, sym, Trails, true, utf_8_sequence, zero, ℕ, ◌*◌, ◌+◌, ◌-◌, ◌<◌, ◌∙◌, ◌∷◌, ◌≡◌, ◌≤◌, ◌⊎◌}
 
 below : (c : ℕ) → c < 0xD800 → IsScalar c
 below c h = grind (arith, nat_tests)

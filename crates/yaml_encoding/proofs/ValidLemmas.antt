@@ -1,16 +1,10 @@
 -- Lemmas about UTF-8 that is read as it stands.
-use Rattle.std.proofs.Common.{◌≡◌, ℕ, zero, suc, ◌+◌, ◌-◌, ◌*◌, ◌/◌, ◌%◌, ◌≤◌, ◌<◌, ◌⊎◌, Bool, true, false, if◌then◌else◌, List, [], ◌∷◌, ◌++◌, Some, length, take, drop, get_or, refl, ap, sym, ◌∙◌, arith, inl, inr, add-zero, append-nil, append_assoc, length-drop}
-use Rattle.std.specs.Str.{IsUtf8, chars, is_utf8}
-use Rattle.std.specs.Str.Lossy.{valid_len_up_to, utf8_valid_len}
-use Rattle.std.proofs.lemmas.Str.{length-encode, chars-encodes, encode_ascii, len_utf8_bounds, drop_past_char, IsUtf8-from_ascii, is_utf8-from_IsUtf8}
-use Rattle.std.proofs.lemmas.Bool.Decides.{nat_tests}
+use Rattle.std.specs.Str.{chars}
+use Rattle.std.specs.Str.Lossy.{utf8_valid_len}
 use Rattle.std.proofs.lemmas.Bool.{cases_lt, and_parts, cond_above, cond_below}
+use Rattle.yaml_encoding.proofs.Common.{[], add-zero, any_trail, ap, append-nil, append_assoc, arith, Bool, chars-encodes, drop, drop_past_char, encode_ascii, Encoding, false, front, get_or, if◌then◌else◌, inl, inr, is_utf8, is_utf8-from_IsUtf8, IsRead, IsUtf8, IsUtf8-from_ascii, len_utf8_bounds, length, length-append, length-drop, length-encode, List, means, nat_tests, Range, refl, Some, start_of, Steps, suc, sym, take, take-append-drop, true, utf_8, utf_8_sequence, valid_len_up_to, zero, ℕ, ◌%◌, ◌*◌, ◌++◌, ◌+◌, ◌-◌, ◌/◌, ◌<◌, ◌∙◌, ◌∷◌, ◌≡◌, ◌≤◌, ◌⊎◌}
 use mathlib.Core.Logic.{⊎_elim}
-use Rattle.std.proofs.lemmas.List.{length-append, take-append-drop}
 use lib.Utf8.{next, scalar, scalars, scalar_cases, encode, encodes}
-use Rattle.yaml_encoding.specs.Decoding.{Encoding, utf_8, means, Range, any_trail, start_of, utf_8_sequence, Steps}
-use Rattle.yaml_encoding.specs.Front.{front}
-use Rattle.yaml_encoding.specs.Outcomes.{IsRead}
 use Rattle.yaml_encoding.proofs.Utf8Lemmas.{inside, stays}
 use Rattle.yaml_encoding.proofs.ReadLemmas.{passes_character}
 

@@ -1,11 +1,8 @@
 -- A search by halves: half of what is left has fewer binary digits.
-use Rattle.std.proofs.Common.{◌≡◌, ℕ, zero, suc, ◌+◌, ◌-◌, ◌*◌, ◌<◌, ◌≤◌, ◌/◌, ◌^◌, ◌⊎◌, inl, inr, Bool, true, false, sym, ap, ◌∙◌, arith}
 use Rattle.std.specs.Prelude.{nat_lt}
 use Rattle.std.proofs.Math.Nat.{pow-suc}
-use Rattle.std.proofs.lemmas.Bool.{cases_lt, ltb-true, ltb-false}
-use Rattle.defs_tree.specs.Digits.{binary_digits, IsLeastExponent}
+use Rattle.yaml_hash_index.proofs.Common.{ap, arith, binary_digits, Bool, cases_lt, false, inl, inr, IsHalving, IsLeastExponent, ltb-false, ltb-true, suc, sym, true, zero, ℕ, ◌*◌, ◌+◌, ◌-◌, ◌/◌, ◌<◌, ◌^◌, ◌∙◌, ◌≡◌, ◌≤◌, ◌⊎◌}
 use Rattle.defs_tree.proofs.DigitsLaws.{least_exponent}
-use Rattle.yaml_hash_index.specs.Edges.{IsHalving}
 
 pub halved : (m n : ℕ) → 0 < n → m ≤ n / 2 → binary_digits m + 1 ≤ binary_digits n
 halved m n h e = from (binary_digits n) (least_exponent n)

@@ -1,12 +1,5 @@
 -- Blocks as one row: what is at a spot, and what a change of a block does to the row.
-use Rattle.std.proofs.Common.{◌≡◌, ℕ, zero, suc, ◌+◌, ◌-◌, ◌<◌, ◌≤◌, ◌⊎◌, List, [], ◌∷◌, ◌++◌, length, get_or, set, take, drop, map, refl, sym, ap, inl, inr, ◌∙◌, append_assoc, length-append, length-set, length-take, length-drop, arith}
-use Rattle.std.specs.List.{insert, remove}
-use Rattle.std.proofs.lemmas.List.{take-append-drop, map-append, append-nil, length-map, get_or_default, take_all, drop_all, take_at}
-use Rattle.std.proofs.lemmas.Bool.{cases_lt}
-use Rattle.std.proofs.lemmas.List.Edits.{length-insert, insert-append_left, insert-append_right, remove-append_left, remove-append_right, insert_end}
-use Rattle.yaml_hash_index.specs.declared.entry.Entry.{Entry}
-use Rattle.yaml_hash_index.specs.Edges.{number_at, digest_at, place_at, IsEdge, AreRising}
-use Rattle.yaml_hash_index.specs.Blocks.{joined, start, head_at, halved, AreFilled, IsNarrowed}
+use Rattle.yaml_hash_index.proofs.Common.{[], ap, append-nil, append_assoc, AreFilled, AreRising, arith, cases_lt, digest_at, drop, drop_all, Entry, get_or, get_or_default, halved, head_at, inl, inr, insert, insert-append_left, insert-append_right, insert_end, IsEdge, IsNarrowed, joined, length, length-append, length-drop, length-insert, length-map, length-set, length-take, List, map, map-append, number_at, place_at, refl, remove, remove-append_left, remove-append_right, set, start, suc, sym, take, take-append-drop, take_all, take_at, zero, ℕ, ◌++◌, ◌+◌, ◌-◌, ◌<◌, ◌∙◌, ◌∷◌, ◌≡◌, ◌≤◌, ◌⊎◌}
 
 -- ---- entries by number
 

@@ -1,3 +1,4 @@
 pub mod Halving
 pub mod Joining
 pub mod Starting
+mod Common

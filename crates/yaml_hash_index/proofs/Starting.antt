@@ -1,12 +1,5 @@
 -- Starts of blocks: what a change of the blocks makes of them.
-use Rattle.std.proofs.Common.{◌≡◌, ℕ, zero, suc, ◌+◌, ◌-◌, ◌*◌, ◌/◌, ◌^◌, ◌<◌, ◌≤◌, ◌⊎◌, List, [], ◌∷◌, ◌++◌, length, get_or, set, take, drop, map, refl, ap, inl, inr, ◌∙◌, length-append, length-set, length-take, length-drop, arith}
-use Rattle.std.specs.List.{insert, remove}
-use Rattle.std.proofs.lemmas.List.{length-map, get_or_read, get_or_append_left, get_or_push, take-append-drop}
-use Rattle.std.proofs.lemmas.List.Edits.{length-remove}
-use Rattle.std.proofs.lemmas.Bool.{cases_lt}
-use Rattle.yaml_hash_index.specs.declared.entry.Entry.{Entry}
-use Rattle.yaml_hash_index.specs.Blocks.{joined, start, halved, AreFilled}
-use Rattle.yaml_hash_index.specs.Starts.{AreStarts, AreApart, AreCounted, head_length}
+use Rattle.yaml_hash_index.proofs.Common.{[], ap, AreApart, AreCounted, AreFilled, AreStarts, arith, cases_lt, drop, Entry, get_or, get_or_append_left, get_or_push, get_or_read, halved, head_length, inl, inr, insert, joined, length, length-append, length-drop, length-map, length-remove, length-set, length-take, List, map, refl, remove, set, start, suc, take, take-append-drop, zero, ℕ, ◌*◌, ◌++◌, ◌+◌, ◌-◌, ◌/◌, ◌<◌, ◌^◌, ◌∙◌, ◌∷◌, ◌≡◌, ◌≤◌, ◌⊎◌}
 use Rattle.yaml_hash_index.proofs.Joining.{start_zero, start_all, start_within, start_next, start_rises, filled_map, length-halved, joined_halved, joined_map}
 
 -- ---- before a change and after it

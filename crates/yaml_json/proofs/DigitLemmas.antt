@@ -1,12 +1,6 @@
 -- The digits of a number.
-use Rattle.std.proofs.Common.{◌≡◌, ℕ, zero, suc, ◌+◌, ◌-◌, ◌*◌, ◌/◌, ◌%◌, ◌^◌, ◌<◌, ◌≤◌, List, [], ◌∷◌, ◌++◌, Bool, true, false, ◌&&◌, T, eqb, length, get_or, take, drop, ℤ, pos, negsuc, FitsSigned, w64, inl, inr, refl, sym, ap, ◌∙◌, arith, eq-zero-or-pos, eqb→eq, append_assoc, length-append}
-use Rattle.std.specs.Prelude.{unsigned_abs, int_le, nat_le}
-use Rattle.std.proofs.lemmas.Bool.Decides.{nat_tests}
-use Rattle.std.proofs.lemmas.Fmt.{decimal_digit, decimal_step, IsAscii-signed}
-use Rattle.std.proofs.lemmas.List.{length-drop}
 use Rattle.std.proofs.Math.Seq.{take-length}
-use Rattle.std.specs.Str.{IsAscii}
-use Rattle.std.specs.Fmt.{decimal, signed_decimal}
+use Rattle.yaml_json.proofs.Common.{[], ap, append_assoc, arith, Bool, decimal, decimal_digit, decimal_step, drop, eq-zero-or-pos, eqb, eqb→eq, false, FitsSigned, get_or, inl, inr, int_le, IsAscii, IsAscii-signed, length, length-append, length-drop, List, nat_le, nat_tests, negsuc, pos, refl, signed_decimal, suc, sym, T, take, true, unsigned_abs, w64, zero, ℕ, ℤ, ◌%◌, ◌&&◌, ◌*◌, ◌++◌, ◌+◌, ◌-◌, ◌/◌, ◌<◌, ◌^◌, ◌∙◌, ◌∷◌, ◌≡◌, ◌≤◌}
 use lib.Ieee.Fits.{and_l, and_r}
 use Rattle.yaml_json.specs.declared.integer.TheConstants.{PAIRS}
 

@@ -1,17 +1,7 @@
 -- The path to a node that has no JSON text.
-use Rattle.std.proofs.Common.{◌≡◌, ℕ, List, [], ◌∷◌, ◌++◌, ◌≤◌, length, get_or, refl, ap, ◌∙◌, arith, Global}
-use Rattle.std.specs.Prelude.{Some, String, map, reverse}
-use Rattle.std.proofs.Math.ListN.{get_or-eq_default, get_or-map}
-use Rattle.std.proofs.lemmas.List.{reverse-append}
-use Rattle.defs_tree.specs.Tree.{null}
+use Rattle.yaml_json.proofs.Common.{[], ap, arith, Fault, fault_in, get_or, get_or-eq_default, get_or-map, Global, IsSoundAtRoot, items_view, last_step, length, Level, List, map, null, refl, reverse, reverse-append, Some, step_of, step_view, String, view, Yaml, ℕ, ◌++◌, ◌∙◌, ◌∷◌, ◌≡◌, ◌≤◌}
 use Rattle.defs_tree.specs.Path as tree_path
-use Rattle.defs_layout.specs.Fault.{Fault, step_of}
-use Rattle.yaml_json.specs.Found.{step_view}
-use Rattle.yaml_json.specs.Search.{IsSoundAtRoot, fault_in, last_step}
 use Rattle.yaml_json.specs.declared.error.Step.{Step}
-use Rattle.yaml_json.specs.declared.level.Level.{Level}
-use Rattle.yaml_tree.specs.View.{view, items_view}
-use Rattle.yaml_tree.specs.declared.yaml.Yaml.{Yaml}
 use Rattle.yaml_tree.specs.declared.yaml.Yaml.TheVariants as yamls
 
 pub pushed : (xs ys : List Step) (s : Step) → ys ≡ xs ++ s ∷ [] → map step_view (reverse ys) ≡ step_view s ∷ map step_view (reverse xs)

@@ -1,23 +1,7 @@
 -- What every tree of the library meets, part by part.
-use Rattle.std.proofs.Common.{◌≡◌, List, [], ◌∷◌, ℕ, ◌+◌, Bool, true, false, true≢false, refl, sym, ap, subst, arith}
-use Rattle.std.specs.Prelude.{Result, OnOk, Option, Some, None, if◌then◌else◌}
-use Rattle.std.specs.Char.{IsScalar}
-use Rattle.std.specs.Str.{chars, IsUtf8, all_scalars}
-use Rattle.std.proofs.lemmas.Bool.{and_parts, and_from}
-use Rattle.std.proofs.lemmas.Bool.Decides.{nat_tests}
-use Rattle.std.proofs.lemmas.Str.{scalars-chars}
-use Rattle.defs_tree.specs.Box.{is_block}
-use Rattle.defs_tree.specs.Tree.{Tree, real, integer, string, boolean, array, hash, alias, null, bad_value, Items, no_items, item, Pairs, no_pairs, pair, pairs_of, pair_list_of}
+use Rattle.std.specs.Str.{chars}
+use Rattle.yaml_json.proofs.Common.{[], alias, all_scalars, AllHaveJson, and_from, and_parts, ap, are_characters, are_strings, AreGiven, AreMembers, ArePairsGiven, arith, array, bad_value, below, Bool, boolean, false, Fault, first_fault, first_item_fault, first_member_fault, first_of, flat_text, has_other_key, hash, hash_tree, HasJson, here, if◌then◌else◌, index, integer, is_block, is_character, is_json_real, is_no_number, is_string, IsFlatGiven, IsGiven, IsKey, IsKeyGiven, IsScalar, IsUtf8, item, Items, json_text, List, nat_tests, no_items, no_pairs, None, null, OnOk, Option, pair, pair_list_of, Pairs, pairs_of, real, refl, Result, scalars-chars, Some, Step, step_of, string, subst, sym, Tree, true, true≢false, ℕ, ◌+◌, ◌∷◌, ◌≡◌}
 use Rattle.defs_tree.specs.Pairs.{AreDistinct}
-use Rattle.defs_tree.specs.Typing.{is_string}
-use Rattle.defs_layout.specs.JsonReal.{is_json_real}
-use Rattle.defs_layout.specs.HasJson.{HasJson, AllHaveJson, AreMembers, IsKey, is_character, are_characters}
-use Rattle.defs_tree.specs.Path.{Step, index}
-use Rattle.defs_layout.specs.Fault.{Fault, here, below, first_of, step_of, are_strings, is_no_number, has_other_key, first_fault, first_item_fault, first_member_fault}
-use Rattle.yaml_tree.specs.View.{hash_tree}
-use Rattle.yaml_json.specs.Given.{IsGiven, AreGiven, ArePairsGiven, IsKeyGiven, IsFlatGiven}
-use Rattle.yaml_json.specs.Left.{flat_text}
-use Rattle.defs_layout.specs.JsonText.{json_text}
 
 -- ---- texts
 

@@ -1,22 +1,6 @@
 -- What is left to write of arrays and objects.
-use Rattle.std.proofs.Common.{◌≡◌, ℕ, suc, ◌+◌, ◌^◌, ◌<◌, ◌≤◌, List, ◌++◌, Bool, true, false, length, get_or, drop, refl, sym, ap, ◌∙◌, arith, append_assoc, subst, true≢false}
-use Rattle.std.specs.Prelude.{Option, unwrap_or, max}
-use Rattle.std.proofs.Math.Nat.{mul-le-mul_left}
-use Rattle.defs_tree.specs.Box.{is_block}
-use Rattle.defs_tree.specs.Tree.{Tree, real, integer, string, boolean, array, hash, alias, null, bad_value, Items, no_items, item, Pairs, no_pairs, pair, items_of, pairs_of}
-use Rattle.defs_layout.specs.HasJson.{nesting, item_nesting, member_nesting}
-use Rattle.defs_layout.specs.JsonText.{deeper, new_line, key_end, key_text, json_text, more_items, more_members}
-use Rattle.yaml_tree.specs.Depth.{depth, items_depth, pairs_depth}
-use Rattle.yaml_emitter.specs.At.{is_low}
-use Rattle.yaml_emitter.proofs.ListLemmas.{Entries}
+use Rattle.yaml_json.proofs.Common.{alias, ap, append_assoc, AreGiven, ArePairsGiven, ArePartsGiven, arith, array, bad_value, before_entry, Bool, boolean, closing, deeper, depth, drop, Entries, false, get_or, hash, integer, is_block, is_low, IsGiven, IsKeyGiven, IsTooWide, item, item_nesting, Items, items_depth, items_left, items_of, items_view, json_text, key_end, key_text, left_in, length, List, max, member_nesting, members_left, more_items, more_members, mul-le-mul_left, nesting, new_line, no_items, no_pairs, nodes, null, opening, Option, pair, paired, Pairs, pairs_depth, pairs_of, part_nesting, part_nodes, parts_left, real, refl, string, subst, suc, sym, Tree, true, true≢false, unwrap_or, view, Yaml, ℕ, ◌++◌, ◌+◌, ◌<◌, ◌^◌, ◌∙◌, ◌≡◌, ◌≤◌}
 use Rattle.yaml_json.proofs.RowLemmas.{item_left, member_left}
-use Rattle.yaml_json.specs.Given.{IsGiven, AreGiven, IsKeyGiven, ArePairsGiven, ArePartsGiven}
-use Rattle.yaml_json.specs.Left.{IsTooWide, before_entry, items_left, members_left, parts_left, part_nesting, opening, closing}
-use Rattle.yaml_json.specs.Level.{left_in, part_nodes}
-use Rattle.yaml_tree.specs.Flat.{paired}
-use Rattle.yaml_tree.specs.View.{view, items_view}
-use Rattle.yaml_tree.specs.Weight.{nodes}
-use Rattle.yaml_tree.specs.declared.yaml.Yaml.{Yaml}
 
 -- ---- how wide
 

@@ -1,21 +1,8 @@
 -- What is left to write of levels, the innermost first.
-use Rattle.std.proofs.Common.{◌≡◌, ℕ, suc, ◌+◌, ◌-◌, ◌*◌, ◌^◌, ◌<◌, ◌≤◌, List, [], ◌∷◌, ◌++◌, ◌≢◌, Bool, true, false, length, get_or, set, refl, sym, ap, ◌∙◌, arith, append_assoc, append-nil, subst}
-use Rattle.std.specs.Prelude.{Option, unwrap_or}
-use Rattle.std.proofs.Math.Nat.{mul-le-mul_left}
 use Rattle.std.proofs.lemmas.List.{length-set}
-use Rattle.defs_tree.specs.Box.{is_block}
-use Rattle.defs_tree.specs.Tree.{Tree}
-use Rattle.defs_layout.specs.HasJson.{nesting}
-use Rattle.defs_layout.specs.JsonText.{deeper, new_line, json_text}
-use Rattle.yaml_emitter.specs.Writing.{Wrote, Stopped, IsLeft}
-use Rattle.yaml_emitter.proofs.WritingLemmas.{wrote_then, left_all, left_as, left_after, left_none, left_stopped, stopped_as, stopped_early, stopped_for}
+use Rattle.yaml_json.proofs.Common.{[], ap, append-nil, append_assoc, ArePartsGiven, arith, Bool, closing, deeper, Ends, false, get_or, is_block, IsGiven, IsLeft, IsTooWide, json_text, left_after, left_all, left_as, left_none, left_stopped, length, Level, List, mul-le-mul_left, nesting, new_line, opening, Option, part_nodes, parts_left, refl, set, shallower, Stopped, stopped_as, stopped_early, stopped_for, Stops, subst, suc, sym, Tree, tree_left, true, unwrap_or, Wrote, wrote_then, ℕ, ◌*◌, ◌++◌, ◌+◌, ◌-◌, ◌<◌, ◌^◌, ◌∙◌, ◌∷◌, ◌≡◌, ◌≢◌, ◌≤◌}
 use Rattle.yaml_json.proofs.LeftLemmas.{in_brackets, part_wide}
 use Rattle.yaml_json.proofs.OpenLevels.{trees, reach, weight, part_count, waiting, one_more, one_less, so_many}
-use Rattle.yaml_json.specs.Given.{IsGiven, ArePartsGiven}
-use Rattle.yaml_json.specs.Left.{IsTooWide, parts_left, opening, closing, shallower}
-use Rattle.yaml_json.specs.Level.{tree_left, part_nodes}
-use Rattle.yaml_json.specs.Parts.{Ends, Stops}
-use Rattle.yaml_json.specs.declared.level.Level.{Level}
 
 -- the text that is left: parts of the innermost level, its end, and what is left of the levels around it
 abbrev pub levels_left : (first : Bool) → Option ℕ → ℕ → List Tree → List ℕ

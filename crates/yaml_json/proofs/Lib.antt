@@ -11,3 +11,4 @@ pub mod RowLemmas
 pub mod SearchLemmas
 pub mod ShallowLemmas
 pub mod ValueLemmas
+mod Common

@@ -1,16 +1,6 @@
 -- Arrays of one item each, one within the other.
-use Rattle.std.proofs.Common.{◌≡◌, ℕ, zero, suc, ◌+◌, ◌-◌, ◌≤◌, ◌<◌, ◌^◌, List, [], ◌++◌, refl, sym, ap, subst, ◌∙◌, arith, append_assoc, append-nil}
-use Rattle.std.specs.Prelude.{codes, Option}
-use Rattle.defs_tree.specs.Tree.{Tree, array, no_items, item}
-use Rattle.defs_layout.specs.HasJson.{nesting}
-use Rattle.defs_layout.specs.JsonText.{deeper, new_line, json_text}
-use Rattle.yaml_emitter.specs.Writing.{Wrote, Stopped, IsLeft}
-use Rattle.yaml_emitter.proofs.WritingLemmas.{left_all, left_as, left_after, left_stopped, stopped_early, stopped_for, stopped_here}
-use Rattle.yaml_json.specs.Given.{IsGiven}
-use Rattle.yaml_json.specs.Left.{IsTooWide, shallower}
-use Rattle.yaml_json.specs.Nest.{IsOnlyItem, Opens, nest_end}
+use Rattle.yaml_json.proofs.Common.{[], ap, append-nil, append_assoc, arith, array, codes, deeper, depth, IsGiven, IsLeft, IsOnlyItem, IsTooWide, item, json_text, left_after, left_all, left_as, left_stopped, List, nest_end, nesting, new_line, no_items, Opens, Option, refl, shallower, Stopped, stopped_early, stopped_for, stopped_here, subst, suc, sym, Tree, Wrote, zero, ℕ, ◌++◌, ◌+◌, ◌-◌, ◌<◌, ◌^◌, ◌∙◌, ◌≡◌, ◌≤◌}
 use Rattle.yaml_json.proofs.LeftLemmas.{wide_inside, wide_margin}
-use Rattle.yaml_tree.specs.Depth.{depth}
 
 up : (i : Option ℕ) (m : ℕ) → shallower i (deeper i m) ≡ m
 up i m = omega arith

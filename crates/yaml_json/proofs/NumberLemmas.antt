@@ -1,17 +1,11 @@
 -- JSON numbers on the bytes of a text.
-use Rattle.std.proofs.Common.{◌≡◌, ℕ, List, [], ◌∷◌, Bool, true, false, not, ◌&&◌, Some, None, refl, sym, ap, ◌∙◌, arith}
-use Rattle.std.specs.Prelude.{ℤ, Result, Ok, Err, MatchResult, is_none, is_err, nat_lt, chars, IsUtf8, ◌==◌}
-use Rattle.std.specs.Char.{is_ascii_digit}
+use Rattle.std.specs.Prelude.{chars, IsUtf8}
 use Rattle.std.specs.List.{list_all}
-use Rattle.std.proofs.lemmas.Str.{chars-IsAscii, encodes-IsAscii, encodes-chars}
-use Rattle.std.proofs.lemmas.Bool.{and_parts, and_from}
-use Rattle.std.proofs.lemmas.Bool.Decides.{nat_tests}
+use Rattle.yaml_json.proofs.Common.{[], and_from, and_parts, ap, arith, Bool, chars-IsAscii, encodes-chars, encodes-IsAscii, Err, false, is_ascii_digit, is_err, is_exponent, is_exponent_mark, is_frac, is_json_number, is_json_number-read, is_json_real, is_minus, is_none, is_sign, List, MatchResult, nat_lt, nat_tests, None, not, Ok, reads_number, refl, Result, Some, sym, true, ℕ, ℤ, ◌&&◌, ◌==◌, ◌∙◌, ◌∷◌, ◌≡◌}
 use Rattle.defs_tree.specs.Grammar.{one, at_least_one, optional, in_order}
-use Rattle.defs_tree.specs.Typing.{is_minus, is_exponent, is_exponent_mark, is_sign, signed_decimal}
+use Rattle.defs_tree.specs.Typing.{signed_decimal}
 use Rattle.defs_tree.proofs.GrammarLaws.{IsWithin, IsWithin-followed_by, IsWithin-empty, IsWithin-one, IsWithin-at_least_one, IsWithin-optional, list_all-more}
 use Rattle.defs_layout.specs.JsonNumber.{is_whole, are_digits}
-use Rattle.defs_layout.proofs.Reading.{reads_number, is_json_number-read}
-use Rattle.defs_layout.specs.JsonReal.{is_frac, is_json_number, is_json_real}
 use Rattle.yaml_typing.proofs.WideTexts.{low_at}
 
 abbrev is_low : ℕ → Bool

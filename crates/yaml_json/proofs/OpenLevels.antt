@@ -1,14 +1,5 @@
 -- Levels one in another, the innermost first.
-use Rattle.std.proofs.Common.{◌≡◌, ◌≢◌, ℕ, suc, ◌+◌, ◌-◌, ◌*◌, ◌<◌, ◌≤◌, List, [], ◌∷◌, length, get_or, take, true, refl, sym, ap, ◌∙◌, arith, set, reverse, true≢false}
-use Rattle.std.specs.Prelude.{max, map}
-use Rattle.std.proofs.lemmas.Grind.{take-set_at}
-use Rattle.std.proofs.lemmas.List.{take_more, reverse-append, length-map, length-reverse, length-take-le}
-use Rattle.defs_tree.specs.Box.{is_block}
-use Rattle.defs_tree.specs.Tree.{Tree, real, integer, string, boolean, array, hash, alias, null, bad_value}
-use Rattle.yaml_json.specs.Left.{part_nesting}
-use Rattle.yaml_json.specs.Level.{tree_left, part_nodes}
-use Rattle.yaml_json.specs.declared.level.Level.{Level}
-use Rattle.yaml_tree.specs.Weight.{nodes}
+use Rattle.yaml_json.proofs.Common.{[], alias, ap, arith, array, bad_value, boolean, get_or, hash, integer, is_block, length, length-map, length-reverse, length-take-le, Level, List, map, max, nodes, null, part_nesting, part_nodes, real, refl, reverse, reverse-append, set, string, suc, sym, take, take-set_at, take_more, Tree, tree_left, true, true≢false, ℕ, ◌*◌, ◌+◌, ◌-◌, ◌<◌, ◌∙◌, ◌∷◌, ◌≡◌, ◌≢◌, ◌≤◌}
 
 -- what is left of levels
 abbrev pub trees : List Level → List Tree

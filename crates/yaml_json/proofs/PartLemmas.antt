@@ -1,17 +1,7 @@
 -- What was written of a level's parts.
-use Rattle.std.proofs.Common.{◌≡◌, ℕ, ◌≤◌, List, [], Bool, true, false, refl, sym, ap, ◌∙◌, arith, subst}
-use Rattle.std.specs.Prelude.{Result, Ok, Err, OnErr, Option}
-use Rattle.defs_tree.specs.Box.{is_block}
-use Rattle.defs_tree.specs.Tree.{Tree, array, hash, no_items, no_pairs}
-use Rattle.defs_layout.specs.JsonText.{json_text}
-use Rattle.yaml_emitter.specs.Writing.{Wrote, Stopped, IsLeft}
-use Rattle.yaml_emitter.proofs.WritingLemmas.{left_all, left_as, left_after, left_none, left_stopped, stopped_early, stopped_late}
+use Rattle.yaml_json.proofs.Common.{[], ap, ArePartsGiven, arith, array, Bool, closing, Ends, Err, false, flat_text, hash, is_block, IsGiven, IsLeft, json_text, left_after, left_all, left_as, left_none, left_stopped, List, no_items, no_pairs, Ok, OnErr, Option, part_nesting, part_nodes, parts_left, refl, Result, Stopped, stopped_early, stopped_late, Stops, subst, sym, Tree, true, Wrote, ℕ, ◌∙◌, ◌≡◌, ◌≤◌}
 use Rattle.yaml_json.proofs.GivenLemmas.{flat_text_is}
 use Rattle.yaml_json.proofs.LeftLemmas.{IsNext}
-use Rattle.yaml_json.specs.Given.{IsGiven, ArePartsGiven}
-use Rattle.yaml_json.specs.Left.{parts_left, part_nesting, closing, flat_text}
-use Rattle.yaml_json.specs.Level.{part_nodes}
-use Rattle.yaml_json.specs.Parts.{Ends, Stops}
 
 pub when_err : {A E P : Type 0} (r : Result A E) → P → OnErr r P
 when_err (Ok x) p = tt

@@ -1,12 +1,5 @@
 -- The first part that is left of a level.
-use Rattle.std.proofs.Common.{◌≡◌, ℕ, ◌+◌, ◌<◌, ◌≤◌, List, [], ◌∷◌, true, false, length, get_or, drop, refl, sym, ap, ◌∙◌, arith}
-use Rattle.std.proofs.Math.ListN.{drop_of_length-le}
-use Rattle.std.proofs.lemmas.List.{drop_more, length-drop, length-map}
-use Rattle.defs_tree.specs.Tree.{Tree, array, hash, no_items, item, no_pairs, pair, items_of, pairs_of}
-use Rattle.yaml_json.specs.Level.{left_in}
-use Rattle.yaml_tree.specs.Flat.{paired}
-use Rattle.yaml_tree.specs.View.{view, items_view, array_tree, hash_tree}
-use Rattle.yaml_tree.specs.declared.yaml.Yaml.{Yaml}
+use Rattle.yaml_json.proofs.Common.{[], ap, arith, array, array_tree, drop, drop_more, drop_of_length-le, false, get_or, hash, hash_tree, item, items_of, items_view, left_in, length, length-drop, length-map, List, no_items, no_pairs, pair, paired, pairs_of, refl, sym, Tree, true, view, Yaml, ℕ, ◌+◌, ◌<◌, ◌∙◌, ◌∷◌, ◌≡◌, ◌≤◌}
 
 next_node : (ys : List Yaml) (n : ℕ) (y : Yaml) → n < length ys → y ≡ get_or ys n y → items_view (drop n ys) ≡ view y ∷ items_view (drop (n + 1) ys)
 next_node ys n y h is = ap items_view (drop_more ys n y h) ∙ ap (λ x. view x ∷ items_view (drop (n + 1) ys)) (sym is)

@@ -1,27 +1,12 @@
 -- The search for the first node that has no JSON text.
-use Rattle.std.proofs.Common.{◌≡◌, ℕ, suc, ◌+◌, ◌-◌, ◌<◌, ◌≤◌, List, [], ◌∷◌, true, false, length, get_or, drop, refl, sym, ap, ◌∙◌, arith, subst, true≢false}
-use Rattle.std.specs.Prelude.{Option, Some, None, max}
-use Rattle.std.proofs.lemmas.List.{get_or-map, get_or_default}
-use Rattle.defs_tree.specs.Box.{is_block}
-use Rattle.defs_tree.specs.Tree.{Tree, real, integer, string, boolean, array, hash, alias, null, bad_value, Items, no_items, item, Pairs, no_pairs, pair, items_of, pairs_of}
+use Rattle.std.proofs.lemmas.List.{get_or-map}
+use Rattle.yaml_json.proofs.Common.{[], alias, ap, ArePlain, arith, array, bad_value, below, boolean, drop, false, Fault, fault_in, fault_left, first_fault, first_item_fault, first_member_fault, first_of, get_or, get_or_default, hash, here, index, integer, is_block, IsMet, IsSoundAtRoot, item, Items, items_of, items_view, last_step, left_in, length, Level, List, max, Meets, Names, nesting, no_items, no_pairs, nodes, None, null, Option, pair, paired, Pairs, pairs_of, part_nesting, part_nodes, real, reason_view, refl, Some, step_in, step_of, string, subst, suc, sym, Tree, tree_left, true, true≢false, view, Yaml, ℕ, ◌+◌, ◌-◌, ◌<◌, ◌∙◌, ◌∷◌, ◌≡◌, ◌≤◌}
 use Rattle.defs_tree.specs.Path as tree_path
-use Rattle.defs_tree.specs.Path.{index}
-use Rattle.defs_layout.specs.Fault.{Fault, here, below, first_of, step_of, first_fault, first_item_fault, first_member_fault}
-use Rattle.defs_layout.specs.HasJson.{nesting}
 use Rattle.yaml_json.proofs.LeftLemmas.{part_wide}
 use Rattle.yaml_json.proofs.OpenLevels.{trees, reach, weight, part_count}
 use Rattle.yaml_json.proofs.RowLemmas.{item_left, member_left}
-use Rattle.yaml_json.specs.Found.{reason_view}
-use Rattle.yaml_json.specs.Left.{part_nesting}
-use Rattle.yaml_json.specs.Level.{left_in, tree_left, part_nodes}
-use Rattle.yaml_json.specs.Search.{ArePlain, IsMet, IsSoundAtRoot, Meets, Names, fault_in, fault_left, last_step, step_in}
 use Rattle.yaml_json.specs.declared.error.JsonError.{JsonError}
 use Rattle.yaml_json.specs.declared.error.Reason.{Reason}
-use Rattle.yaml_json.specs.declared.level.Level.{Level}
-use Rattle.yaml_tree.specs.Flat.{paired}
-use Rattle.yaml_tree.specs.View.{view, items_view}
-use Rattle.yaml_tree.specs.Weight.{nodes}
-use Rattle.yaml_tree.specs.declared.yaml.Yaml.{Yaml}
 
 -- ---- one part
 

@@ -1,16 +1,6 @@
 -- Shallow trees, each node of which has a JSON text.
-use Rattle.std.proofs.Common.{◌≡◌, ◌≢◌, ℕ, suc, ◌+◌, ◌-◌, ◌<◌, Bool, true, false, refl, sym, ap, ◌∙◌, arith}
-use Rattle.std.specs.Prelude.{Option, Some, None, is_some, max, nat_le, not, ◌&&◌, if◌then◌else◌}
-use Rattle.std.proofs.lemmas.Bool.{and_parts}
-use Rattle.std.proofs.lemmas.Bool.Decides.{nat_tests}
-use Rattle.defs_tree.specs.Tree.{Tree, real, integer, string, boolean, array, hash, alias, null, bad_value, Items, no_items, item, Pairs, no_pairs, pair}
-use Rattle.defs_tree.specs.Typing.{is_string}
-use Rattle.defs_layout.specs.JsonReal.{is_json_real}
-use Rattle.defs_tree.specs.Path.{Step, index}
-use Rattle.defs_layout.specs.Fault.{Fault, here, below, first_of, step_of, are_strings, is_no_number, has_other_key, first_fault, first_item_fault, first_member_fault}
-use Rattle.defs_layout.specs.HasJson.{nesting, item_nesting, member_nesting}
-use Rattle.yaml_json.specs.Nest.{IsOnlyItem}
-use Rattle.yaml_json.specs.Shallow.{is_whole, are_items_whole, are_pairs_whole, is_shallow, are_items_shallow}
+use Rattle.yaml_json.proofs.Common.{alias, and_parts, ap, are_items_shallow, are_items_whole, are_pairs_whole, are_strings, arith, array, bad_value, below, Bool, boolean, false, Fault, first_fault, first_item_fault, first_member_fault, first_of, has_other_key, hash, here, if◌then◌else◌, index, integer, is_json_real, is_no_number, is_shallow, is_some, is_string, IsOnlyItem, item, item_nesting, Items, max, member_nesting, nat_le, nat_tests, nesting, no_items, no_pairs, None, not, null, Option, pair, Pairs, real, refl, Some, Step, step_of, string, suc, sym, Tree, true, ℕ, ◌&&◌, ◌+◌, ◌-◌, ◌<◌, ◌∙◌, ◌≡◌, ◌≢◌}
+use Rattle.yaml_json.specs.Shallow.{is_whole}
 
 -- ---- one node and the rest
 

@@ -1,11 +1,6 @@
 -- How a writer stands after a value.
-use Rattle.std.proofs.Common.{◌≡◌, ℕ, suc, List, [], ◌∷◌, true, refl, sym, subst}
-use Rattle.std.specs.Prelude.{Option, Result, IsAscii, nat_lt}
-use Rattle.std.proofs.lemmas.Bool.{lt-ltb, and_from}
-use Rattle.defs_tree.specs.Tree.{Tree}
-use Rattle.yaml_emitter.specs.At.{is_low}
-use Rattle.yaml_emitter.specs.Writing.{WritesUnless}
-use Rattle.yaml_json.specs.Left.{IsTooWide, parts_left, part_nesting}
+use Rattle.std.specs.Prelude.{IsAscii}
+use Rattle.yaml_json.proofs.Common.{[], and_from, is_low, IsTooWide, List, lt-ltb, nat_lt, Option, part_nesting, parts_left, refl, Result, subst, suc, sym, Tree, true, WritesUnless, ℕ, ◌∷◌, ◌≡◌}
 
 pub ascii_low : (t : List ℕ) → IsAscii t → is_low t ≡ true
 ascii_low [] h = refl

@@ -1,20 +1,11 @@
 -- How arrays and objects begin, grow and end.
-use Rattle.std.proofs.Common.{◌≡◌, ℕ, suc, ◌≤◌, max, List, [], ◌∷◌, ◌++◌, true, false, refl, sym, ap, ap₂, ◌∙◌, subst, arith, append_assoc}
-use Rattle.std.specs.Prelude.{Bool, cond, Some, None}
-use Rattle.std.proofs.lemmas.Bool.{true≢false}
+use Rattle.yaml_json_reader.proofs.Common.{[], Adds, ap, append_assoc, ap₂, AreElements, AreItems, AreMembers, ArePairs, arith, array_tree, Bool, cond, element_levels, Elements, false, hash_tree, IsGap, IsInArray, IsInMember, IsInObject, IsJson, IsKey, IsStringEnd, IsValue, item, items, items_of, Json, levels, List, max, member_levels, Members, None, pair_list, PutsItem, PutsMember, refl, Some, spell, spell_elements, spell_gap, spell_members, spell_string, subst, suc, sym, Tree, tree_of, true, true≢false, ℕ, ◌++◌, ◌∙◌, ◌∷◌, ◌≡◌, ◌≤◌}
 use Rattle.defs_tree.specs.Order.{tree_eq}
 use Rattle.defs_tree.proofs.OrderLaws.{tree_eq_decides}
 use Rattle.defs_tree.proofs.PairsLaws.{AreDistinct-append}
-use Rattle.defs_tree.specs.Tree.{Tree, item, items_of}
 use Rattle.defs_tree.specs.Pairs.{AreDistinct, Lacks, lookup, without, insert}
 use Rattle.defs_layout.specs.Marks.{colon, comma, left_brace, left_bracket, right_brace, right_bracket}
-use Rattle.defs_layout.specs.Json.{Json, Elements, Members, IsJson, AreElements, AreMembers, spell, spell_elements, spell_members, tree_of, items, pair_list, levels, element_levels, member_levels}
 use Rattle.defs_layout.specs.Json as json
-use Rattle.defs_layout.specs.JsonGap.{spell_gap}
-use Rattle.defs_layout.specs.JsonString.{spell_string}
-use Rattle.yaml_tree.specs.View.{array_tree, hash_tree}
-use Rattle.yaml_json_reader.specs.Reads.{IsGap, IsValue, AreItems, ArePairs, IsKey, IsStringEnd}
-use Rattle.yaml_json_reader.specs.Opened.{IsInArray, IsInObject, IsInMember, PutsItem, PutsMember, Adds}
 
 max_le : (a b n : ℕ) → a ≤ n → b ≤ n → max a b ≤ n
 max_le a b n h i = omega arith

@@ -1,7 +1,5 @@
 -- White space, blank by blank.
-use Rattle.std.proofs.Common.{◌≡◌, ℕ, suc, ◌<◌, List, [], ◌∷◌, Bool, true, false, length, refl, sym, ap, ◌∙◌, subst, arith}
-use Rattle.defs_layout.specs.JsonGap.{space, tab, line_feed, carriage_return, TabsBeginLines}
-use Rattle.yaml_json_reader.specs.Reads.{IsGap, Takes}
+use Rattle.yaml_json_reader.proofs.Common.{[], ap, arith, Bool, carriage_return, false, IsGap, length, line_feed, List, refl, space, subst, suc, sym, tab, TabsBeginLines, Takes, true, ℕ, ◌<◌, ◌∙◌, ◌∷◌, ◌≡◌}
 
 pub no_gap : (b : Bool) (text : List ℕ) → IsGap b text text
 no_gap b text = record { gap = []; tabs = tt; spelled = refl }

@@ -8,3 +8,4 @@ pub mod StringLemmas
 pub mod TextLemmas
 pub mod Whole
 pub mod Words
+mod Common

@@ -1,18 +1,7 @@
 -- What is read of a text stands before what is left.
-use Rattle.std.specs.List.{prefix_len}
-use Rattle.std.proofs.lemmas.List.Sums.{prefix_len-le-length}
-use Rattle.yaml_json_reader.specs.Runs.{stands}
-use Rattle.std.proofs.lemmas.Bool.{and_parts}
-use Rattle.std.proofs.Common.{◌&&◌, ◌≡◌, ℕ, ◌<◌, ◌≤◌, List, [], ◌∷◌, ◌++◌, Bool, true, false, length, ap, arith, length-append}
-use Rattle.defs_layout.specs.Json.{Json, IsJson, levels, spell, false_word, null_word, true_word, number, string, empty_array, array, empty_object, object}
-use Rattle.defs_layout.specs.JsonGap.{Blank, spell_gap}
+use Rattle.yaml_json_reader.proofs.Common.{[], and_parts, ap, arith, array, Blank, Bool, empty_array, empty_object, Exponent, exponent, false, false_word, Fraction, fraction, is_exponent, is_fraction, is_number, is_whole, IsGap, IsJson, IsKey, IsNumberPart, IsValue, itself, Json, length, length-append, levels, List, minus, no_exponent, no_fraction, no_sign, null_word, Number, number, object, Piece, plus, prefix_len, prefix_len-le-length, short, Sign, spell, spell_exponent, spell_fraction, spell_gap, spell_minus, spell_number, spell_piece, spell_pieces, spell_sign, spell_string, stands, string, Tree, true, true_word, unicode, ℕ, ◌&&◌, ◌++◌, ◌<◌, ◌∷◌, ◌≡◌, ◌≤◌}
 use Rattle.defs_layout.specs.JsonNumber as json
-use Rattle.defs_layout.specs.JsonNumber.{Number, Fraction, Exponent, Sign, no_fraction, fraction, no_exponent, exponent, no_sign, plus, minus, spell_number, spell_minus, spell_fraction, spell_exponent, spell_sign, is_number, is_whole, is_fraction, is_exponent}
-use Rattle.defs_layout.specs.JsonString.{Piece, itself, short, unicode, spell_piece, spell_pieces, spell_string}
-use Rattle.defs_tree.specs.Tree.{Tree}
 use Rattle.yaml_json_reader.proofs.NumberLemmas.{number_before}
-use Rattle.yaml_json_reader.specs.Numbers.{IsNumberPart}
-use Rattle.yaml_json_reader.specs.Reads.{IsGap, IsValue, IsKey}
 
 pub gap_longer : (g : List Blank) (r : List ℕ) → length r ≤ length (spell_gap g r)
 gap_longer [] r = omega arith

@@ -1,26 +1,14 @@
 -- Digits, and the parts of a number.
-use Rattle.std.proofs.Common.{◌≡◌, ℕ, zero, suc, ◌<◌, ◌≤◌, ◌-◌, append_assoc, append-nil, length-append, List, [], ◌∷◌, ◌++◌, Bool, true, false, not, ◌&&◌, length, take, drop, get_or, refl, sym, ap, ap₂, ◌∙◌, subst, arith}
-use Rattle.std.specs.Prelude.{◌==◌, if◌then◌else◌, Option, Some, None, IfSome, encode_utf8}
-use Rattle.std.specs.Char.{is_ascii_digit}
-use Rattle.std.specs.List.{list_all}
-use Rattle.std.specs.Str.{chars, IsUtf8, IsAscii, IsCharBoundary}
 use Rattle.std.proofs.Math.Seq.{take-append_seam, drop-append_seam}
-use Rattle.std.proofs.lemmas.Bool.{and_from, and_parts, ne_eqb, ltb-true}
-use Rattle.std.proofs.lemmas.List.Folds.{list_all-append}
-use Rattle.std.proofs.lemmas.Str.{encode_ascii, chars-nil, IsUtf8-past_char, IsUtf8-from_ascii, IsCharBoundary-at_seam}
 use Rattle.std.proofs.lemmas.Str.Ascii.{IsAscii-nil, IsAscii-cons}
-use Rattle.defs_tree.specs.Tree.{Tree}
+use Rattle.yaml_json_reader.proofs.Common.{[], and_from, and_parts, ap, append-nil, append_assoc, ap₂, are_digits, arith, Bool, chars, chars-nil, drop, encode_ascii, encode_utf8, Exponent, exponent, false, Fraction, fraction, get_or, IfSome, if◌then◌else◌, is_ascii, is_ascii_digit, is_exponent, is_fraction, is_number, is_whole, IsAscii, IsCharBoundary, IsCharBoundary-at_seam, IsDigits, IsExponentPart, IsFractionPart, IsMinus, IsNumber, IsNumberPart, IsSign, IsUtf8, IsUtf8-from_ascii, IsUtf8-past_char, IsValue, IsWhole, length, length-append, letter_e, List, list_all, list_all-append, ltb-true, minus, nat_tests, ne_eqb, no_exponent, no_fraction, no_sign, None, not, Number, Option, plus, refl, Sign, Some, spell_exponent, spell_fraction, spell_minus, spell_number, spell_sign, subst, suc, sym, take, Tree, true, zero, ℕ, ◌&&◌, ◌++◌, ◌-◌, ◌<◌, ◌==◌, ◌∙◌, ◌∷◌, ◌≡◌, ◌≤◌}
 use Rattle.defs_tree.specs.Typing.{typing}
-use Rattle.std.proofs.lemmas.Bool.Decides.{nat_tests}
 use Rattle.defs_tree.proofs.GrammarLaws.{after_all}
 use Rattle.defs_tree.proofs.DecimalReading.{begins_in}
-use Rattle.defs_layout.specs.JsonNumber.{Number, Fraction, Exponent, Sign, no_sign, plus, minus, no_fraction, fraction, no_exponent, exponent, number, letter_e, spell_number, spell_minus, spell_fraction, spell_sign, spell_exponent, is_number, is_whole, is_fraction, is_exponent, are_digits}
+use Rattle.defs_layout.specs.JsonNumber.{number}
 use Rattle.defs_layout.specs.Json as json
 use Rattle.proof_layouts.proofs.Numbers.{numbers_stand_for_their_trees}
-use Rattle.yaml_json_reader.specs.Reads.{IsNumber, IsValue}
 use Rattle.yaml_json_reader.proofs.TextLemmas.{first_byte}
-use Rattle.yaml_json_reader.specs.Runs.{is_ascii}
-use Rattle.yaml_json_reader.specs.Numbers.{IsDigits, IsMinus, IsWhole, IsFractionPart, IsSign, IsExponentPart, IsNumberPart}
 
 -- digits, or none
 record Run (text rest : List ℕ) : Type 0 where

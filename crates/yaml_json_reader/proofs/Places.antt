@@ -1,16 +1,9 @@
 -- Open collections, of which the last is the innermost.
-use Rattle.std.proofs.Common.{◌≡◌, ℕ, suc, pred, ◌+◌, ◌-◌, ◌<◌, List, [], ◌∷◌, ◌++◌, Bool, true, false, length, refl, sym, ap, ◌∙◌, subst, arith, length-append}
-use Rattle.std.specs.Prelude.{slice_index_or, slice_set, ◌==◌}
-use Rattle.std.proofs.lemmas.Bool.Decides.{nat_tests}
-use Rattle.std.proofs.lemmas.List.{same_from_push}
 use Rattle.std.proofs.Math.Numerals.{sub-one}
-use Rattle.defs_tree.specs.Tree.{Tree}
-use Rattle.yaml_tree.specs.View.{view, array_tree, hash_tree}
+use Rattle.yaml_json_reader.proofs.Common.{[], ap, AreOpen, arith, array_tree, Bool, false, hash_tree, HasValue, IsGap, IsIn, IsInMember, IsKey, IsValue, length, length-append, List, nat_tests, pred, Puts, PutsLast, refl, same_from_push, slice_index_or, slice_set, subst, suc, sym, Tree, tree_in, true, view, ℕ, ◌++◌, ◌+◌, ◌-◌, ◌<◌, ◌==◌, ◌∙◌, ◌∷◌, ◌≡◌}
 use Rattle.yaml_tree.specs.declared.yaml.Yaml.{Yaml}
 use Rattle.yaml_json_reader.specs.declared.open.Open.{Open}
 use Rattle.yaml_json_reader.specs.declared.open.Open.TheVariants as open_as
-use Rattle.yaml_json_reader.specs.Reads.{IsGap, IsKey, IsValue}
-use Rattle.yaml_json_reader.specs.Opened.{IsIn, IsInMember, AreOpen, HasValue, Puts, PutsLast, tree_in}
 use Rattle.yaml_json_reader.proofs.Collections.{array_begun, array_empty, object_begun, object_empty}
 
 -- the innermost, at its own place

@@ -1,6 +1,5 @@
 -- What a call gives, if it gives anything.
-use Rattle.std.proofs.Common.{◌≡◌, Bool, true, false, ◌∙◌, sym}
-use Rattle.std.specs.Prelude.{Result, Ok, Err, IfOk, OnOk, is_err}
+use Rattle.yaml_json_reader.proofs.Common.{Bool, Err, false, IfOk, is_err, Ok, OnOk, Result, sym, true, ◌∙◌, ◌≡◌}
 
 pub ok_of : {A E : Type 0} (P Q : A → Type 0) (r : Result A E) → ((x : A) → P x → Q x) → IfOk r P → IfOk r Q
 ok_of P Q (Ok x) f h = f x h

@@ -1,17 +1,7 @@
 -- Strings, escape by escape.
-use Rattle.std.proofs.Common.{◌≡◌, ℕ, ◌+◌, ◌*◌, ◌<◌, List, [], ◌∷◌, ◌++◌, true, not, ◌&&◌, length, refl, sym, ap, ap₂, ◌∙◌, subst, arith, append-nil, append_assoc}
-use Rattle.std.specs.Prelude.{encode_utf8, String, string_bytes}
-use Rattle.std.specs.Char.{IsScalar}
-use Rattle.std.specs.Str.{chars}
-use Rattle.std.proofs.lemmas.Bool.{and_from}
-use Rattle.std.proofs.lemmas.Bool.Decides.{nat_tests}
-use Rattle.defs_text.specs.Text.{string_chars}
-use Rattle.defs_tree.specs.Tree.{Tree}
+use Rattle.yaml_json_reader.proofs.Common.{[], and_from, ap, append-nil, append_assoc, ap₂, are_pieces, arith, backspace, chars, chars-append, encode_utf8, form_feed, four_digits, is_hex_digit, is_piece, is_surrogate, IsCode, IsEscape, IsInside, IsPart, IsRun, IsScalar, IsShort, IsStringEnd, IsUtf8-string_bytes, IsValue, length, letter_of, List, nat_tests, new_line, not, quotation_mark, refl, return, reverse_solidus, Short, short, solidus, String, string_bytes, string_chars, subst, sym, tabulator, TakesDigit, Tree, true, unicode, ℕ, ◌&&◌, ◌*◌, ◌++◌, ◌+◌, ◌<◌, ◌∙◌, ◌∷◌, ◌≡◌}
 use Rattle.defs_layout.specs.Json as json
-use Rattle.defs_layout.specs.JsonString.{Short, short, unicode, letter_of, quotation_mark, reverse_solidus, solidus, backspace, form_feed, new_line, return, tabulator, four_digits, is_hex_digit, is_surrogate, is_piece, are_pieces}
-use Rattle.std.proofs.lemmas.Str.{chars-append, IsUtf8-string_bytes}
 use Rattle.yaml_chars.proofs.TextLemmas.{string_chars_push}
-use Rattle.yaml_json_reader.specs.Reads.{IsInside, IsRun, IsEscape, IsCode, IsShort, IsPart, IsStringEnd, IsValue, TakesDigit}
 
 pub no_pieces : (text : List ℕ) → IsInside [] text text
 no_pieces text = record { pieces = []; are = refl; value_is = refl; spelled = refl }

@@ -1,18 +1,6 @@
 -- The first character of a text, and runs of characters.
-use Rattle.std.proofs.Common.{◌≡◌, ℕ, suc, ◌+◌, ◌<◌, ◌≤◌, List, [], ◌∷◌, ◌++◌, Bool, true, false, length, length-append, take, drop, get_or, refl, sym, ap, ap₂, ◌∙◌, subst, arith, ◌⊎◌, inl, inr}
-use Rattle.std.specs.Prelude.{encode_utf8, encode_utf8_all, nat_lt, cond, ◌==◌}
+use Rattle.yaml_json_reader.proofs.Common.{[], and_from, and_parts, ap, ap₂, are_pieces, arith, Bool, cases_order, chars, chars-append, chars-nil, chars_past_char, cond, drop, encode_ascii, encode_utf8, encode_utf8_all, encodes-chars, false, get_or, inl, inr, is_unescaped, IsAsciiFirst, IsCharBoundary, IsCharBoundary-after_ascii, IsCharBoundary-before_ascii, IsCharBoundary-end, IsFirst, IsInside, IsRun, IsUtf8, IsUtf8-past_char, IsUtf8-take, itself, length, length-append, List, list_all, list_all-append, nat_lt, nat_tests, prefix_len, prefix_len-le-length, prefix_len_stops, refl, scalars-chars, Skips, stands, subst, suc, sym, take, take-append-drop, true, ℕ, ◌++◌, ◌+◌, ◌<◌, ◌==◌, ◌∙◌, ◌∷◌, ◌≡◌, ◌≤◌, ◌⊎◌}
 use lib.Utf8.{scalar, scalars}
-use Rattle.std.specs.List.{prefix_len, list_all}
-use Rattle.std.specs.Str.{chars, IsUtf8, IsCharBoundary}
-use Rattle.std.proofs.lemmas.Bool.{and_parts, and_from, cases_order}
-use Rattle.std.proofs.lemmas.Bool.Decides.{nat_tests}
-use Rattle.std.proofs.lemmas.List.Folds.{list_all-append}
-use Rattle.std.proofs.lemmas.List.Sums.{prefix_len-le-length, prefix_len_stops}
-use Rattle.std.proofs.lemmas.List.{take-append-drop}
-use Rattle.std.proofs.lemmas.Str.{encode_ascii, encodes-chars, scalars-chars, chars-append, chars_past_char, IsUtf8-take, IsUtf8-past_char, IsCharBoundary-before_ascii, IsCharBoundary-after_ascii, IsCharBoundary-end, chars-nil}
-use Rattle.defs_layout.specs.JsonString.{itself, is_unescaped, are_pieces}
-use Rattle.yaml_json_reader.specs.Runs.{stands}
-use Rattle.yaml_json_reader.specs.Reads.{IsFirst, IsAsciiFirst, Skips, IsInside, IsRun}
 
 -- ---- the first character
 

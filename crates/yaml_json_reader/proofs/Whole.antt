@@ -1,9 +1,5 @@
 -- A whole text.
-use Rattle.std.proofs.Common.{ℕ, List, ap, ◌∙◌, true}
-use Rattle.defs_tree.specs.Tree.{Tree}
-use Rattle.defs_layout.specs.Json.{IsJsonText, spell}
-use Rattle.defs_layout.specs.JsonGap.{spell_gap}
-use Rattle.yaml_json_reader.specs.Reads.{IsGap, IsWholeValue}
+use Rattle.yaml_json_reader.proofs.Common.{ap, IsGap, IsJsonText, IsWholeValue, List, spell, spell_gap, Tree, true, ℕ, ◌∙◌}
 
 pub json_text : (tree : Tree) (text at : List ℕ) → IsGap true text at → IsWholeValue tree at → IsJsonText tree text
 json_text tree text at g w = (

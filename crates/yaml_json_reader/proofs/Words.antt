@@ -1,12 +1,6 @@
 -- Words, and what a call that looks for one says.
-use Rattle.std.proofs.Common.{◌≡◌, ℕ, List, ◌++◌, Bool, true, false, length, drop, refl, sym, ap, ◌∙◌, subst, arith}
-use Rattle.std.specs.Prelude.{codes}
-use Rattle.std.specs.List.{list_all}
-use Rattle.std.specs.Str.{chars, IsUtf8}
-use Rattle.defs_tree.specs.Tree.{Tree}
+use Rattle.yaml_json_reader.proofs.Common.{ap, arith, Bool, chars, codes, drop, false, is_ascii, IsUtf8, IsValue, length, List, list_all, refl, subst, sym, TakesWord, Tree, true, ℕ, ◌++◌, ◌∙◌, ◌≡◌}
 use Rattle.defs_layout.specs.Json as json
-use Rattle.yaml_json_reader.specs.Runs.{is_ascii}
-use Rattle.yaml_json_reader.specs.Reads.{IsValue, TakesWord}
 use Rattle.yaml_json_reader.proofs.NumberLemmas.{low_front}
 
 pub word_taken : (b : Bool) (word old new : List ℕ) → b ≡ true → TakesWord b word old new → word ++ new ≡ old

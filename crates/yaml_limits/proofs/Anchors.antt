@@ -1,12 +1,9 @@
 -- The extents of anchored nodes in a map.
-use Rattle.std.proofs.Common.{◌≡◌, ℕ, List, [], ◌∷◌, Bool, true, false, cond, refl, sym, ap, ◌∙◌, nat_eq, arith}
-use Rattle.std.specs.Prelude.{Option, Some, unwrap_or, if◌then◌else◌}
 use Rattle.std.specs.Ordering.{nat_cmp}
 use Rattle.std.specs.BTreeMap.{is_at}
 use Rattle.std.specs.Map.{lookup}
 use Rattle.std.proofs.lemmas.Bool.Decides.{nat_tests}
-use Rattle.yaml_limits.specs.Extents.{single_node, extent_at}
-use Rattle.yaml_limits.specs.declared.extent.Extent.{Extent}
+use Rattle.yaml_limits.proofs.Common.{[], ap, arith, Bool, cond, Extent, extent_at, false, if◌then◌else◌, List, nat_eq, Option, refl, single_node, Some, sym, true, unwrap_or, ℕ, ◌∙◌, ◌∷◌, ◌≡◌}
 
 at_number : (n k : ℕ) → is_at (nat_cmp n) k ≡ nat_eq n k
 at_number n k = grind (arith, nat_tests)

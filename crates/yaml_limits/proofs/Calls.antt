@@ -1,33 +1,16 @@
 -- What a call gives, from what was read within limits.
-use Rattle.std.proofs.Common.{◌≡◌, ℕ, Bool, true, false, List, [], ◌∷◌, ◌++◌, Option, Some, None, Ok, Err, refl, sym, ap, ◌∙◌, subst, inl}
-use Rattle.std.specs.Prelude.{Result, IfSome}
-use Rattle.defs_text.specs.Position.{Position}
-use Rattle.defs_text.specs.Text.{up_to_nul}
-use Rattle.defs_event.specs.Event.{Ev}
+use Rattle.yaml_limits.proofs.Common.{[], ap, Backlog, BeginsEvents, Bool, by_nodes, by_tokens, documents_of, Err, Ev, false, GoesOver, HoldsBack, IfSome, inl, IsBetween, IsRead, IsReady, IsTooLarge, Limits, LimitsError, List, Made, new_loader, None, none_more, Ok, Option, Parse, Parsed, parsed, Position, ReadsWithin, refl, Result, Some, subst, sym, true, up_to_nul, view, Waits, with_events, Yaml, ℕ, ◌++◌, ◌∙◌, ◌∷◌, ◌≡◌}
 use Rattle.defs_event.specs.Laws.{HasRead}
-use Rattle.defs_event.specs.Unfinished.{new_loader, with_events, documents_of}
 use Rattle.yaml_chars.specs.WindowView.{HasNoNul}
 use Rattle.yaml_chars.specs.Source.{CameFrom}
-use Rattle.yaml_tree.specs.View.{view}
-use Rattle.yaml_tree.specs.declared.yaml.Yaml.{Yaml}
 use Rattle.yaml_scanner.specs.Scanned.{ScansIn, Scans}
-use Rattle.yaml_scanner.specs.Waits.{Waits}
-use Rattle.yaml_scanner.specs.declared.fetcher.Backlog.{Backlog}
-use Rattle.yaml_parser.specs.Parsed.{Parse, Parsed, parsed}
-use Rattle.proof_loads.specs.TextEvents.{BeginsEvents}
 use Rattle.proof_loads.proofs.Spelled.{characters_are_the_text}
-use Rattle.yaml_documents.specs.Reading.{finished, IsBetween, IsRead, IsReady}
+use Rattle.yaml_documents.specs.Reading.{finished}
 use Rattle.yaml_documents.specs.Stream.{stream_of}
 use Rattle.yaml_documents.proofs.Calls.{fault_adds, not_both}
-use Rattle.yaml_documents.proofs.OneDocument.{none_more}
 use Rattle.yaml_documents.proofs.Texts.{text_begins, says_document, says_all, says_stop}
-use Rattle.yaml_limits.specs.Handing.{HoldsBack}
-use Rattle.yaml_limits.specs.Made.{Made}
-use Rattle.yaml_limits.specs.One.{GoesOver, IsTooLarge, by_nodes, by_tokens, ReadsWithin}
 use Rattle.yaml_limits.specs.OneByOne.{LimitedStream, ComesNext, IsStoppedWithin, stopped, too_deep, too_large, too_many, is_last, Adds, Says, GivesWithin}
-use Rattle.yaml_limits.specs.declared.error.LimitsError.{LimitsError}
 use Rattle.yaml_limits.specs.declared.error.LimitsError.TheVariants as error
-use Rattle.yaml_limits.specs.declared.limits.Limits.{Limits}
 
 -- before the first call
 pub ready_at_start : (p : Parsed) → p.given ≡ [] → p.fault ≡ None → p.ended ≡ false → p.keep_tags ≡ false → p.steady ≡ true → IsReady p false

@@ -1,18 +1,8 @@
 -- The steps of a count.
-use Rattle.std.proofs.Common.{◌≡◌, ℕ, ◌+◌, ◌-◌, ◌^◌, ◌<◌, ◌≤◌, List, [], ◌∷◌, length, sym, ap, ◌∙◌, subst, arith}
-use Rattle.std.specs.Prelude.{max, Result, Ok, OnOk, IfErr, String}
 use Rattle.std.proofs.lemmas.Str.{encodes-chars, IsUtf8-string_bytes}
 use Rattle.std.specs.Str.{encode_utf8_all}
-use Rattle.std.specs.Prelude.{string_bytes}
-use Rattle.std.proofs.Math.Nat.{le-max_left, le-max_right, max-le}
-use Rattle.defs_text.specs.Text.{string_chars}
-use Rattle.yaml_limits.specs.Counting.{opened_size, AreAbove, FitsIn, Counts, Counted, IsExcess}
-use Rattle.yaml_limits.specs.Extents.{single_node, extent_at}
-use Rattle.yaml_limits.specs.Made.{Made, with_part, with_node, with_kept, with_start, with_end}
+use Rattle.yaml_limits.proofs.Common.{[], ap, AreAbove, arith, Counted, Counts, Excess, Extent, extent_at, FitsIn, IfErr, IsExcess, le-max_left, le-max_right, length, List, Made, max, max-le, Ok, OnOk, Opened, opened_size, Result, single_node, String, string_bytes, string_chars, subst, sym, with_end, with_kept, with_node, with_part, with_start, ℕ, ◌+◌, ◌-◌, ◌<◌, ◌^◌, ◌∙◌, ◌∷◌, ◌≡◌, ◌≤◌}
 use Rattle.yaml_limits.specs.declared.count.Count.{Count}
-use Rattle.yaml_limits.specs.declared.count.Excess.{Excess}
-use Rattle.yaml_limits.specs.declared.count.Opened.{Opened}
-use Rattle.yaml_limits.specs.declared.extent.Extent.{Extent}
 
 pub content_size : {A : Type 0} (s : String A) → length (encode_utf8_all (string_chars s)) ≡ length (string_bytes s)
 unfolding string_chars

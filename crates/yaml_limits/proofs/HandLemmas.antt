@@ -1,22 +1,9 @@
 -- What a guard hands on, from what its parser did with it.
-use Rattle.std.proofs.Common.{◌≡◌, ℕ, false, List, [], ◌∷◌, ◌++◌, refl, sym, ◌∙◌, subst, inl, inr}
-use Rattle.std.specs.Prelude.{Option, Some, None, Result, IfSome}
-use Rattle.defs_text.specs.Position.{Position}
-use Rattle.defs_event.specs.Event.{Ev}
-use Rattle.yaml_tokens.specs.ErrorReport.{ErrorReport}
-use Rattle.yaml_scanner.specs.Waits.{Waits}
-use Rattle.yaml_scanner.specs.declared.fetcher.Backlog.{Backlog}
+use Rattle.yaml_limits.proofs.Common.{[], AnswersText, Backlog, BeginsEvents, by_limits, by_parser, by_receiver, Counts, error_by, error_of, ErrorReport, Ev, Excess, false, faulted, Guard, Guards, Hands, HoldsBack, IfSome, inl, inr, IsExcess, IsNew, IsNotHanded, IsOver, IsWithin, Limits, List, Made, made, made_by, made_from, None, nothing_made, Option, outcome_by, Position, refl, Result, Some, subst, sym, too_deep, too_large, too_many, Waits, want_of_memory, wants_memory, whole, ℕ, ◌++◌, ◌∙◌, ◌∷◌, ◌≡◌}
 use Rattle.yaml_parser.specs.Loads.{Receives, no_event, one_event}
-use Rattle.proof_loads.specs.TextEvents.{BeginsEvents, wants_memory, AnswersText, whole, faulted, refused}
-use Rattle.yaml_loader.specs.Loading.{want_of_memory}
-use Rattle.yaml_limits.specs.Counting.{Counts, IsNew, Guards, IsExcess}
-use Rattle.yaml_limits.specs.Handing.{IsOver, too_deep, too_large, too_many, IsNotHanded, by_parser, by_receiver, by_limits, Hands, HoldsBack, error_of, error_by, outcome_by}
-use Rattle.yaml_limits.specs.Made.{Made, nothing_made, made_by, made_from, made, IsWithin}
-use Rattle.yaml_limits.specs.declared.count.Excess.{Excess}
+use Rattle.proof_loads.specs.TextEvents.{refused}
 use Rattle.yaml_limits.specs.declared.count.Excess.TheVariants as excess
 use Rattle.yaml_limits.specs.declared.error.LimitsError.TheVariants as error
-use Rattle.yaml_limits.specs.declared.guard.Guard.{Guard}
-use Rattle.yaml_limits.specs.declared.limits.Limits.{Limits}
 
 pub made_last : (m : Made) (es : List (Ev × Position)) (e : Ev) (p : Position) → made_from m (es ++ (e, p) ∷ []) ≡ made_by (made_from m es) e
 made_last m [] e p = refl

@@ -6,3 +6,4 @@ pub mod LoadLemmas
 pub mod OneDocument
 pub mod Parts
 pub mod Trees
+mod Common

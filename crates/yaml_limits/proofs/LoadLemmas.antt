@@ -1,29 +1,12 @@
 -- What a load within limits gives, from what its receiver was handed.
-use Rattle.std.proofs.Common.{◌≡◌, ℕ, false, List, arith}
-use Rattle.std.specs.Prelude.{None, Result, Ok, Err, Vec}
 use Rattle.std.specs.declared.alloc.Global.{Global}
-use Rattle.defs_text.specs.Position.{Position}
-use Rattle.defs_tree.specs.Tree.{Tree}
-use Rattle.defs_event.specs.Event.{Ev}
-use Rattle.defs_event.specs.Unfinished.{new_loader, with_events}
-use Rattle.yaml_tree.specs.View.{items_view}
-use Rattle.yaml_tree.specs.declared.yaml.Yaml.{Yaml}
-use Rattle.proof_loads.specs.TextEvents.{wants_memory}
+use Rattle.yaml_limits.proofs.Common.{AreWithin, arith, by_limits, by_parser, by_receiver, Err, Ev, false, HasDocuments, HasTaken, IsEmpty, IsHanded, IsNotHanded, IsWithin, items_view, kept_fault, Limits, LimitsError, List, loader_of, made, new_loader, None, Ok, Position, Result, Takes, TakesMarked, Tree, Vec, wants_memory, with_events, Yaml, YamlLoader, ℕ, ◌≡◌}
 use Rattle.yaml_loader.specs.Laws.{TakenTextsAreLoaded, TakenEventsAreRead, RefusedTextsWantMemory}
-use Rattle.yaml_loader.specs.Loads.{HasDocuments}
-use Rattle.yaml_loader.specs.Loading.{loader_of, kept_fault, Takes}
 use Rattle.yaml_loader.specs.Unread.{of_parser}
-use Rattle.yaml_loader.specs.declared.loader.YamlLoader.{YamlLoader}
-use Rattle.yaml_marked.specs.Receiving.{TakesMarked, IsEmpty, HasTaken}
 use Rattle.yaml_marked.specs.declared.receiver.MarkedLoader.{MarkedLoader}
 use Rattle.yaml_marked.proofs.Texts.{inside, only_memory}
-use Rattle.yaml_limits.specs.Handing.{IsHanded, IsNotHanded, by_parser, by_receiver, by_limits}
 use Rattle.yaml_limits.specs.Limited.{IsNotLoaded, unread, over, Answers, GivesAll}
-use Rattle.yaml_limits.specs.Made.{made, IsWithin}
-use Rattle.yaml_limits.specs.Sizes.{AreWithin}
-use Rattle.yaml_limits.specs.declared.error.LimitsError.{LimitsError}
 use Rattle.yaml_limits.specs.declared.error.LimitsError.TheVariants as error
-use Rattle.yaml_limits.specs.declared.limits.Limits.{Limits}
 use Rattle.yaml_limits.proofs.Trees.{documents_are_made, no_deeper_than}
 
 -- documents that a loader made of these events, which are within the limits

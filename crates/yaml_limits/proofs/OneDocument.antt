@@ -1,32 +1,10 @@
 -- What the reading of one document within limits does, from what its guard was handed.
-use Rattle.std.proofs.Common.{◌≡◌, ◌<◌, Bool, true, false, List, [], ◌∷◌, ◌++◌, length, Option, Some, None, Ok, Err, refl, sym, ap, ◌∙◌, subst, append_assoc, inl, inr, arith}
-use Rattle.std.specs.Prelude.{IsSome, option_to_list}
-use Rattle.defs_text.specs.Position.{Position}
-use Rattle.defs_tree.specs.Tree.{Tree}
-use Rattle.yaml_tokens.specs.ErrorReport.{ErrorReport}
-use Rattle.defs_event.specs.Event.{Ev}
-use Rattle.defs_event.specs.Unfinished.{new_loader, with_events}
-use Rattle.yaml_tree.specs.View.{view, items_view}
-use Rattle.yaml_tree.specs.declared.yaml.Yaml.{Yaml}
-use Rattle.yaml_parser.specs.Parsed.{Parsed}
+use Rattle.yaml_limits.proofs.Common.{[], all_of, ap, append_assoc, AreWithin, arith, Bool, by_memory, by_nodes, by_tokens, Err, error_by, error_of, ErrorReport, Ev, Excess, false, Faults, GoesOver, Guard, Guards, HasDocuments, HoldsBack, inl, inr, is_end, is_read, IsBetween, IsExcess, IsNew, IsReadWithin, IsSome, IsWithin, items_view, kept_fault, length, Limits, List, loader_of, Made, made, made_by, new_loader, None, none_more, nothing_made, Ok, Option, option_to_list, Parsed, Position, read_so, ReadsOne, ReadsWithin, refl, refused_by_memory, Refuses, Some, stops_by_key, stops_by_parser, subst, sym, Takes, TakesAll, Tree, true, view, with_events, Yaml, YamlLoader, ◌++◌, ◌<◌, ◌∙◌, ◌∷◌, ◌≡◌}
 use Rattle.yaml_loader.specs.Gives.{Gives}
-use Rattle.yaml_loader.specs.Loads.{HasDocuments}
-use Rattle.yaml_loader.specs.Loading.{loader_of, kept_fault, Takes}
 use Rattle.yaml_loader.proofs.LoadLemmas.{stands, has_documents}
-use Rattle.yaml_loader.specs.declared.loader.YamlLoader.{YamlLoader}
-use Rattle.yaml_documents.specs.Reading.{is_end, TakesAll, Faults, Refuses, IsBetween, ReadsOne, by_memory}
-use Rattle.yaml_documents.proofs.OneDocument.{all_of, is_read, read_so, stops_by_key, stops_by_parser, refused_by_memory, none_more}
 use Rattle.yaml_documents.proofs.Steps.{no_end_more}
-use Rattle.yaml_limits.specs.Counting.{IsNew, Guards, IsExcess}
-use Rattle.yaml_limits.specs.Handing.{HoldsBack, error_of, error_by}
-use Rattle.yaml_limits.specs.Made.{Made, nothing_made, made_by, made, IsWithin}
-use Rattle.yaml_limits.specs.One.{IsReadWithin, GoesOver, by_nodes, by_tokens, ReadsWithin}
-use Rattle.yaml_limits.specs.Sizes.{AreWithin}
-use Rattle.yaml_limits.specs.declared.count.Excess.{Excess}
 use Rattle.yaml_limits.specs.declared.count.Excess.TheVariants as excess
 use Rattle.yaml_limits.specs.declared.error.LimitsError.TheVariants as error
-use Rattle.yaml_limits.specs.declared.guard.Guard.{Guard}
-use Rattle.yaml_limits.specs.declared.limits.Limits.{Limits}
 use Rattle.yaml_limits.proofs.HandLemmas.{made_last, took, took_within, took_excess}
 use Rattle.yaml_limits.proofs.LoadLemmas.{documents_within}
 

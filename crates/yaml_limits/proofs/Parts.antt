@@ -1,21 +1,12 @@
 -- Extents that are no larger than others.
-use Rattle.std.proofs.Common.{ℕ, ◌+◌, ◌≤◌, List, [], ◌∷◌, ◌++◌, Bool, true, false, cond, sym, subst, arith}
-use Rattle.std.specs.Prelude.{ℤ, Option, Some, None, ◌||◌, max, unwrap_or, option_map, if◌then◌else◌, bytes_eq, codes}
-use Rattle.std.proofs.Math.Nat.{le-max_left, le-max_right, max-le}
-use Rattle.defs_tree.specs.Tree.{Tree, real, integer, string, boolean, array, hash, alias, null, bad_value, items_of, pairs_of}
+use Rattle.yaml_limits.proofs.Common.{[], alias, arith, array, bad_value, Bool, boolean, by_name, bytes_eq, codes, cond, extended, Extent, false, hash, if◌then◌else◌, insert, integer, items_extent, items_of, le-max_left, le-max_right, List, max, max-le, None, null, Option, option_map, pairs_extent, pairs_of, real, scalar_extent, scalar_tree, single_node, Some, string, subst, sym, Tag, Tree, tree_extent, true, unwrap_or, without, ℕ, ℤ, ◌++◌, ◌+◌, ◌||◌, ◌∷◌, ◌≤◌}
 use Rattle.defs_tree.specs.Grammar.{is_among}
 use Rattle.defs_tree.specs.Typing.{typing, signed_decimal, is_decimal, is_real_text, true_words, false_words}
 use Rattle.defs_tree.specs.Order.{tree_eq}
-use Rattle.defs_tree.specs.Pairs.{without, insert}
 use Rattle.defs_tree.specs.Laws.{MayStandFor}
 use Rattle.defs_tree.proofs.TypingLaws.{typing_plain}
 use Rattle.defs_token.specs.Token.{Style}
-use Rattle.defs_event.specs.Event.{Tag}
 use Rattle.defs_event.specs.Names.{core_prefix}
-use Rattle.defs_event.specs.Scalar.{by_name, scalar_tree}
-use Rattle.yaml_limits.specs.Extents.{scalar_extent, single_node, extended}
-use Rattle.yaml_limits.specs.Sizes.{tree_extent, items_extent, pairs_extent}
-use Rattle.yaml_limits.specs.declared.extent.Extent.{Extent}
 
 pub record IsNoMore (x y : Extent) : Type 0 where
   pub size : x.size ≤ y.size

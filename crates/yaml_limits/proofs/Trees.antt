@@ -1,23 +1,8 @@
 -- The trees that a loader makes of events are no larger than what was made.
-use Rattle.std.proofs.Common.{◌≡◌, ℕ, zero, suc, ◌+◌, ◌≤◌, List, [], ◌∷◌, ◌++◌, length, Bool, true, false, refl, sym, ap, subst, nat_eq, arith}
-use Rattle.std.specs.Prelude.{max, Option, Some, None, unwrap_or, if◌then◌else◌}
-use Rattle.std.proofs.Math.Nat.{le-max_left, le-max_right}
-use Rattle.defs_text.specs.Position.{Position}
-use Rattle.defs_tree.specs.Tree.{Tree, real, integer, string, boolean, array, hash, alias, null, bad_value, items_of, pairs_of}
-use Rattle.defs_tree.specs.Pairs.{has_key, insert}
-use Rattle.defs_event.specs.Event.{Ev, Tag}
+use Rattle.yaml_limits.proofs.Common.{[], alias, ap, AreAbove, AreNoDeeper, arith, array, at_work, bad_value, Bool, boolean, document_extent, documents_size, Ev, extended, Extent, extent_at, false, has_key, HasDocuments, hash, if◌then◌else◌, insert, integer, items_extent, items_of, le-max_left, le-max_right, length, List, Loader, loader_after, Made, made, made_by, made_from, max, nat_eq, new_loader, None, noted, nothing_made, null, Opened, opened_mapping, opened_sequence, opened_size, Option, out_of_nesting, pairs_extent, pairs_of, Position, reads, real, refl, refused, repeats, scalar_extent, scalar_tree, single_node, Some, Step, string, subst, suc, sym, Tag, tag_size, Tree, tree_extent, true, Unfinished, unwrap_or, with_document_end, with_end, with_event, with_event_at, with_events, with_kept, with_mapping_end, with_part, with_root, with_sequence_end, with_start, with_tag, with_tree, zero, ℕ, ◌++◌, ◌+◌, ◌∷◌, ◌≡◌, ◌≤◌}
 use Rattle.defs_event.specs.Anchors as trees
 use Rattle.defs_event.specs.Anchors.{aliased, finished}
-use Rattle.defs_event.specs.Scalar.{scalar_tree}
 use Rattle.defs_event.specs.Unfinished as reading
-use Rattle.defs_event.specs.Unfinished.{opened_sequence, opened_mapping, Unfinished, Step, reads, repeats, out_of_nesting, with_root, with_tree, with_sequence_end, with_mapping_end, with_document_end, with_event, Loader, at_work, noted, refused, new_loader, loader_after, with_event_at, with_events}
-use Rattle.yaml_loader.specs.Loads.{HasDocuments}
-use Rattle.yaml_limits.specs.Counting.{opened_size, AreAbove}
-use Rattle.yaml_limits.specs.Extents.{scalar_extent, single_node, tag_size, extended, extent_at}
-use Rattle.yaml_limits.specs.Made.{Made, nothing_made, with_part, with_tag, with_kept, with_start, with_end, made_by, made_from, made}
-use Rattle.yaml_limits.specs.Sizes.{tree_extent, items_extent, pairs_extent, document_extent, documents_size, AreNoDeeper}
-use Rattle.yaml_limits.specs.declared.count.Opened.{Opened}
-use Rattle.yaml_limits.specs.declared.extent.Extent.{Extent}
 use Rattle.yaml_limits.proofs.CountLemmas.{above_more, part_above}
 use Rattle.yaml_limits.proofs.Parts.{IsNoMore, same, through, with_more, last_item, inserted, of_scalar}
 

@@ -1,37 +1,13 @@
 -- For one text two answers agree, and two parsers read and push the same events.
-use Rattle.std.proofs.Common.{◌≡◌, ℕ, Bool, true, false, List, [], ◌∷◌, ◌++◌, refl, sym, ap, ◌∙◌, subst, ◌⊎◌, inl, inr}
-use Rattle.std.proofs.lemmas.Bool.{both_ways}
 use Rattle.std.proofs.lemmas.List.{map-append}
-use Rattle.std.specs.Prelude.{Result, Ok, Err}
-use Rattle.defs_text.specs.Position.{Position}
-use Rattle.defs_tree.specs.Tree.{Tree}
-use Rattle.defs_token.specs.Token.{Token}
-use Rattle.defs_token.specs.Toks.{toks}
-use Rattle.defs_event.specs.Event.{Ev}
-use Rattle.defs_event.specs.Stream.{IsStream, IsPlacedStream, events_of}
-use Rattle.defs_event.specs.Reading.{reading}
-use Rattle.defs_event.specs.Unfinished.{new_loader, with_events}
-use Rattle.defs_event.proofs.OneByOne.{one_by_one}
+use Rattle.yaml_loader.proofs.Common.{[], AnswersText, ap, Bool, both_ways, Err, ErrorReport, Ev, events_of, false, faulted, HasEvents, HasNoted, inl, inr, IsFaultOf, IsPlacedStream, IsStream, IsUnread, items_view, List, Means, memory_is_wanted, nested_is_stream, new_loader, no_stream, no_token, of_parser, Ok, one_by_one, one_meaning, one_reading, placed_stream, Position, read, reading, Receives, refl, refused, Result, subst, sym, TellsKey, texts_are_answered, Token, toks, Tree, true, wants_memory, whole, with_events, ℕ, ◌++◌, ◌∙◌, ◌∷◌, ◌≡◌, ◌⊎◌}
 use Rattle.defs_event.proofs.OneReading as grammar
-use Rattle.yaml_tokens.specs.ErrorReport.{ErrorReport}
-use Rattle.yaml_tree.specs.View.{items_view}
 use Rattle.defs_token.specs.Row.{IsRead}
 use Rattle.proof_row.proofs.OneRow as row
-use Rattle.yaml_parser.specs.Parsed.{read}
-use Rattle.yaml_parser.specs.Loads.{Receives}
-use Rattle.proof_row.proofs.Meanings.{one_meaning}
-use Rattle.proof_loads.specs.PlacedEvents.{HasEvents}
-use Rattle.proof_loads.specs.TextEvents.{IsFaultOf, wants_memory, no_token, no_stream, AnswersText, whole, faulted, refused}
-use Rattle.defs_event.specs.Meaning.{Means}
-use Rattle.proof_loads.proofs.Answers.{placed_stream, nested_is_stream, texts_are_answered}
-use Rattle.proof_loads.proofs.Loads.{memory_is_wanted}
 use Rattle.proof_loads.proofs.OneFault.{one_fault}
-use Rattle.proof_loads.proofs.OneReading.{one_reading}
 use Rattle.proof_loads.proofs.StreamEnds.{all_tokens}
 use Rattle.yaml_loader.specs.Agreement.{OneAnswer, OneListOfDocuments, OneListOfPulledEvents, OneListOfPushedEvents}
-use Rattle.yaml_loader.specs.Loads.{HasNoted}
-use Rattle.yaml_loader.specs.RepeatedKey.{TellsKey}
-use Rattle.yaml_loader.specs.Unread.{IsUnread, of_parser, repeated_key}
+use Rattle.yaml_loader.specs.Unread.{repeated_key}
 use Rattle.yaml_loader.proofs.AnyText.{noted_key}
 
 pub one_list_of_documents : OneListOfDocuments

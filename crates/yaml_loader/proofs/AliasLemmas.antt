@@ -1,20 +1,8 @@
 -- The finished anchors of a map, as clauses see them: what an alias means.
-use Rattle.std.proofs.Common.{◌≡◌, ℕ, zero, suc, ◌<◌, List, [], ◌∷◌, Bool, true, false, cond, refl, sym, ap, ◌∙◌, subst, nat_eq, arith}
-use Rattle.std.specs.Prelude.{Option, Some, None, option_map, unwrap_or, if◌then◌else◌, Result, OnOk, IfErr}
 use Rattle.std.specs.Ordering.{nat_cmp}
 use Rattle.std.specs.BTreeMap.{is_at}
 use Rattle.std.specs.Map.{lookup}
-use Rattle.std.proofs.lemmas.Bool.Decides.{nat_tests}
-use Rattle.std.proofs.lemmas.Result.{on_ok_weaker, IfErr-weaker}
-use Rattle.defs_tree.specs.Tree.{Tree, bad_value}
-use Rattle.defs_event.specs.Anchors.{Anchors, aliased, finished}
-use Rattle.defs_event.specs.Unfinished.{Opened, opened_sequence, opened_mapping, Unfinished, Step, reads, repeats, out_of_nesting, with_root, with_tree, with_node}
-use Rattle.defs_tree.specs.Pairs.{has_key, insert}
-use Rattle.yaml_tree.specs.View.{view}
-use Rattle.yaml_tree.specs.declared.yaml.Yaml.{Yaml}
-use Rattle.yaml_loader.specs.Alike.{AreAlike, ReadsTo}
-use Rattle.yaml_loader.specs.View.{anchors_of, with_anchors, IsRefusedBy}
-use Rattle.yaml_loader.specs.declared.reading.Refusal.{Refusal}
+use Rattle.yaml_loader.proofs.Common.{[], aliased, Anchors, anchors_of, ap, AreAlike, arith, bad_value, Bool, cond, false, finished, has_key, IfErr, IfErr-weaker, if◌then◌else◌, insert, IsRefusedBy, List, nat_eq, nat_tests, None, on_ok_weaker, OnOk, Opened, opened_mapping, opened_sequence, Option, option_map, out_of_nesting, reads, ReadsTo, refl, Refusal, repeats, Result, Some, Step, subst, suc, sym, Tree, true, Unfinished, unwrap_or, view, with_anchors, with_node, with_root, with_tree, Yaml, zero, ℕ, ◌<◌, ◌∙◌, ◌∷◌, ◌≡◌}
 use Rattle.yaml_loader.specs.declared.reading.Refusal.TheVariants as refusal
 
 at_number : (n k : ℕ) → is_at (nat_cmp n) k ≡ nat_eq n k

@@ -1,36 +1,9 @@
 -- What a load answers of any text.
-use Rattle.std.proofs.Common.{◌≡◌, ℕ, Bool, List, [], ◌∷◌, ◌++◌, true, refl, sym, ap, ◌∙◌, subst, inl, inr}
-use Rattle.std.specs.Prelude.{Some, None, Result, Ok, Err, Vec}
-use Rattle.std.specs.declared.alloc.Global.{Global}
-use Rattle.defs_text.specs.Position.{Position}
-use Rattle.defs_token.specs.Token.{Token}
-use Rattle.defs_tree.specs.Tree.{Tree}
-use Rattle.defs_event.specs.Event.{Ev}
-use Rattle.defs_token.specs.Toks.{toks}
-use Rattle.defs_event.specs.Stream.{BeginsPlaced, events_of}
-use Rattle.defs_event.specs.Reading.{reading}
-use Rattle.defs_event.specs.Unfinished.{Loader, at_work, noted, new_loader, with_event_at, with_events, refused_at}
+use Rattle.yaml_loader.proofs.Common.{[], AnswersText, ap, at_work, BeginsEvents, BeginsPlaced, Bool, Err, ErrorReport, Ev, events_of, faulted, Gives, Global, HasDocuments, HasEvents, HasNoted, HasRead, inl, inr, IsFaultOf, IsNewFault, items_view, kept_fault, List, Loader, loader_of, Loads, LoadsText, nested_is_stream, new_loader, None, noted, OfTexts, Ok, one_by_one, Parsed, placed_stream, Position, reading, Receives, refl, refused, refused_at, Result, Scans, Some, subst, sym, Takes, texts_are_answered, Token, toks, Tree, true, Vec, wants_memory, WantsMemory, whole, with_event_at, with_events, Yaml, YamlLoader, ℕ, ◌++◌, ◌∙◌, ◌∷◌, ◌≡◌}
 use Rattle.defs_event.specs.Unfinished as unfinished
-use Rattle.defs_event.specs.Laws.{HasRead}
-use Rattle.defs_event.proofs.OneByOne.{one_by_one}
 use Rattle.defs_event.proofs.StreamNests.{stream_nests}
-use Rattle.yaml_tokens.specs.ErrorReport.{ErrorReport}
-use Rattle.yaml_scanner.specs.Scanned.{Scans}
-use Rattle.yaml_parser.specs.Blames.{WantsMemory}
-use Rattle.yaml_parser.specs.Parsed.{Parsed}
-use Rattle.yaml_parser.specs.Loads.{Loads, Receives}
-use Rattle.yaml_tree.specs.View.{items_view}
-use Rattle.yaml_tree.specs.declared.yaml.Yaml.{Yaml}
-use Rattle.proof_loads.specs.PlacedEvents.{HasEvents}
-use Rattle.proof_loads.specs.TextEvents.{BeginsEvents, IsFaultOf, wants_memory, AnswersText, whole, faulted, refused}
-use Rattle.proof_loads.proofs.Answers.{placed_stream, nested_is_stream, texts_are_answered}
-use Rattle.yaml_loader.specs.declared.loader.YamlLoader.{YamlLoader}
 use Rattle.yaml_loader.specs.Gives as given
-use Rattle.yaml_loader.specs.Gives.{Gives}
-use Rattle.yaml_loader.specs.Loading.{loader_of, kept_fault, IsNewFault, Takes}
-use Rattle.yaml_loader.specs.Loads.{HasDocuments, HasNoted}
 use Rattle.yaml_loader.specs.Unread as unread
-use Rattle.yaml_loader.specs.TextLoads.{OfTexts, LoadsText}
 use Rattle.yaml_loader.proofs.LoadLemmas.{with_last, StandsAfter, stands, new_fault, has_documents, has_noted}
 
 -- ---- events with which a stream's begin are not refused

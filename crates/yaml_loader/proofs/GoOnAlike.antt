@@ -1,17 +1,7 @@
 -- Loaders that stand alike stand alike after each event.
-use Rattle.std.proofs.Common.{◌≡◌, ℕ, zero, suc, List, [], ◌∷◌, Bool, true, false, refl, sym, ap, ◌∙◌, subst, nat_eq}
-use Rattle.std.specs.Prelude.{Option, Some, None, if◌then◌else◌}
-use Rattle.defs_text.specs.Position.{Position}
-use Rattle.defs_tree.specs.Tree.{Tree, array, hash, items_of, pairs_of}
-use Rattle.defs_event.specs.Event.{Ev}
-use Rattle.defs_event.specs.Scalar.{scalar_tree}
-use Rattle.defs_event.specs.Anchors.{Anchors, aliased, finished}
-use Rattle.defs_event.specs.Unfinished.{Opened, opened_sequence, opened_mapping, Unfinished, Step, reads, repeats, out_of_nesting, with_tree, with_node, with_start, with_sequence_end, with_mapping_end, with_document_end, with_event, Loader, at_work, noted, refused, loader_after, with_event_at, with_events, new_loader, documents_of, refused_at}
-use Rattle.yaml_loader.specs.declared.loader.YamlLoader.{YamlLoader}
-use Rattle.yaml_loader.specs.Alike.{AreAlike, StandAlike}
-use Rattle.yaml_loader.specs.Loading.{loader_of}
+use Rattle.yaml_loader.proofs.Common.{[], aliased, Anchors, ap, AreAlike, array, at_work, Bool, documents_of, Ev, false, finished, hash, if◌then◌else◌, items_of, List, Loader, loader_after, loader_of, nat_eq, new_loader, None, noted, Opened, opened_mapping, opened_sequence, Option, out_of_nesting, pairs_of, Position, reads, refl, refused_at, repeats, scalar_tree, Some, StandAlike, Step, subst, suc, sym, Tree, true, Unfinished, with_anchors, with_document_end, with_event, with_event_at, with_events, with_mapping_end, with_node, with_sequence_end, with_start, with_tree, YamlLoader, zero, ℕ, ◌∙◌, ◌∷◌, ◌≡◌}
+use Rattle.defs_event.specs.Unfinished.{refused}
 use Rattle.yaml_loader.specs.Reached.{Reaches, here, after}
-use Rattle.yaml_loader.specs.View.{with_anchors}
 use Rattle.yaml_loader.proofs.AliasLemmas.{with_tree_anchors}
 
 -- each alias means the same

@@ -1,15 +1,8 @@
 -- What came from a text in memory is that text.
-use Rattle.std.proofs.Common.{◌≡◌, ℕ, true, false, Bool, List, [], ◌∷◌, refl, subst, ap}
-use Rattle.std.specs.Prelude.{Option, Some, None}
 use Rattle.std.specs.Iterator.{Yields}
-use Rattle.std.specs.Str.Iter.{chars_steps}
 use Rattle.std.specs.Str.{chars, IsUtf8}
-use Rattle.defs_text.specs.Position.{first_position}
-use Rattle.defs_text.specs.Text.{up_to_nul, has_no_nul}
+use Rattle.yaml_loader.proofs.Common.{[], ap, BeginsText, Bool, CameFrom, chars_steps, false, first_position, has_no_nul, List, None, Option, refl, Scanned, Some, subst, true, up_to_nul, ℕ, ◌∷◌, ◌≡◌}
 use Rattle.yaml_chars.specs.InMemory.{text_rest}
-use Rattle.yaml_chars.specs.WindowView.{BeginsText}
-use Rattle.yaml_chars.specs.Source.{CameFrom}
-use Rattle.yaml_scanner.specs.Scanned.{Scanned}
 use Rattle.yaml_loader.proofs.TextLemmas.{string_may_be}
 use Rattle.yaml_chars.specs.declared.characters.TextInMemory.{TextInMemory}
 

@@ -1,25 +1,9 @@
 -- What a load answers of a JSON text that was read at once.
-use Rattle.std.proofs.Common.{◌≡◌, ℕ, List, [], ◌∷◌, Bool, true, false, refl, sym, ap, ◌∙◌, subst}
-use Rattle.std.specs.Prelude.{Result, Ok, Err, IfOk, IfErr, All, Vec, if◌then◌else◌}
-use Rattle.std.specs.declared.alloc.Global.{Global}
 use Rattle.std.proofs.lemmas.List.Elements.{All-nil, All-cons}
-use Rattle.defs_text.specs.Text.{up_to_nul}
-use Rattle.defs_tree.specs.Tree.{Tree, pairs_of}
-use Rattle.defs_tree.specs.Typing.{fits_i64}
-use Rattle.defs_layout.specs.Json.{IsJsonText, Json, Elements, Members, false_word, null_word, true_word, number, string, empty_array, array, empty_object, object, last_element, element, last_member, member, tree_of, items, pair_list, spell_text}
+use Rattle.yaml_loader.proofs.Common.{[], All, ap, Bool, element, Elements, empty_array, empty_object, Err, ErrorReport, false, false_word, fits_i64, Global, HasNoAlias, IfErr, IfOk, if◌then◌else◌, IsJsonText, items, items_view, Json, json_texts_are_read, json_texts_have_no_nul, last_element, last_member, List, LoadsText, Means, member, Members, NoneHasAlias, NoPairHasAlias, null_word, number, object, of_parser, Ok, pair_list, pairs_of, refl, Result, spell_text, subst, sym, Tree, tree_of, true, true_word, up_to_nul, Vec, wants_memory, WantsMemory, Yaml, ℕ, ◌∙◌, ◌∷◌, ◌≡◌}
+use Rattle.defs_layout.specs.Json.{string, array}
 use Rattle.defs_layout.specs.JsonNumber as json
 use Rattle.defs_layout.specs.JsonNumber.{Number, no_fraction, fraction, no_exponent, exponent, number_tree, integer_value}
-use Rattle.defs_event.specs.NoAlias.{HasNoAlias, NoneHasAlias, NoPairHasAlias}
-use Rattle.yaml_tokens.specs.ErrorReport.{ErrorReport}
-use Rattle.yaml_tree.specs.View.{items_view}
-use Rattle.yaml_tree.specs.declared.yaml.Yaml.{Yaml}
-use Rattle.yaml_parser.specs.Blames.{WantsMemory}
-use Rattle.defs_event.specs.Meaning.{Means}
-use Rattle.proof_loads.specs.TextEvents.{wants_memory}
-use Rattle.proof_loads.proofs.Spelled.{json_texts_are_read}
-use Rattle.proof_loads.proofs.JsonNul.{json_texts_have_no_nul}
-use Rattle.yaml_loader.specs.Unread.{of_parser}
-use Rattle.yaml_loader.specs.TextLoads.{LoadsText}
 
 -- ---- no alias stands in its tree
 

@@ -1,16 +1,6 @@
 -- The text that tells a key which came twice.
-use Rattle.std.proofs.Common.{◌≡◌, ℕ, List, [], ◌∷◌, ◌<◌, ◌-◌, length, refl, sym, ap, ◌∙◌}
-use Rattle.std.proofs.lemmas.Str.{encodes-chars, IsUtf8-string_bytes}
-use Rattle.std.specs.Prelude.{String, string_bytes, Option, Some, None, slice_index_or, codes, pos}
 use Rattle.std.specs.Fmt.{debug_escape}
-use Rattle.std.specs.Str.{encode_utf8_all}
-use Rattle.defs_text.specs.Text.{string_chars}
-use Rattle.defs_tree.specs.Tree.{Tree, bad_value, string, integer}
-use Rattle.defs_tree.specs.Pairs.{last_of}
-use Rattle.defs_event.specs.Unfinished.{opened_sequence, opened_mapping}
-use Rattle.yaml_loader.specs.declared.reading.Open.{Open}
-use Rattle.yaml_loader.specs.View.{opened_of, all_opened, last_key, repeated_key}
-use Rattle.yaml_loader.specs.RepeatedKey.{shown_key, TellsKey}
+use Rattle.yaml_loader.proofs.Common.{[], all_opened, ap, bad_value, codes, encode_utf8_all, encodes-chars, integer, IsUtf8-string_bytes, last_key, last_of, length, List, None, Open, opened_mapping, opened_of, opened_sequence, Option, pos, refl, repeated_key, shown_key, slice_index_or, Some, String, string, string_bytes, string_chars, sym, TellsKey, Tree, ℕ, ◌-◌, ◌<◌, ◌∙◌, ◌∷◌, ◌≡◌}
 use Rattle.yaml_loader.proofs.OpenedLemmas.{innermost, last_position}
 
 pub bytes_again : {A : Type 0} (s : String A) → encode_utf8_all (string_chars s) ≡ string_bytes s

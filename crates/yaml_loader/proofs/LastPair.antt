@@ -1,7 +1,5 @@
 -- The last pair of a list.
-use Rattle.std.specs.Prelude.{◌≡◌, List, [], ◌∷◌, ◌++◌, Some, refl}
-use Rattle.defs_tree.specs.Tree.{Tree}
-use Rattle.defs_tree.specs.Pairs.{last_of}
+use Rattle.yaml_loader.proofs.Common.{[], last_of, List, refl, Some, Tree, ◌++◌, ◌∷◌, ◌≡◌}
 
 -- one put at the end is the last
 pub last_of_push : (ps : List (Tree × Tree)) (p : Tree × Tree) → last_of (ps ++ p ∷ []) ≡ Some p

@@ -12,3 +12,4 @@ pub mod Tags
 pub mod Words
 pub mod AnyText
 pub mod TextLemmas
+mod Common

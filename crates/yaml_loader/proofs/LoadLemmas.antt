@@ -1,33 +1,13 @@
 -- What a load answers, from what its parser did with the loader.
-use Rattle.std.proofs.Common.{◌≡◌, List, [], ◌∷◌, ◌++◌, length, true, refl, sym, ap, ◌∙◌, subst, inl, inr}
-use Rattle.std.specs.Prelude.{None, Result, Ok, Err, IfOk, IfErr, OnOk, All, Vec, String, false, string_bytes}
-use Rattle.std.specs.declared.alloc.Global.{Global}
-use Rattle.defs_text.specs.Position.{Position}
-use Rattle.defs_tree.specs.Tree.{Tree}
-use Rattle.defs_event.specs.Event.{Ev}
+use Rattle.yaml_loader.proofs.Common.{[], All, ap, AreLoaded, at_work, documents_of, EndsSo, Err, ErrorReport, Ev, false, Gives, Global, HasDocuments, HasNoAlias, HasNoted, IfErr, IfOk, inl, inr, IsGivenFault, IsLoadFault, IsNewFault, items_view, kept_fault, length, List, LoadedTreesHaveNoAlias, Loader, loader_by, loader_of, Loads, new_loader, no_event, None, noted, Notes, Ok, one_event, OnOk, owned_at, Parsed, Position, PullsAll, Pushes, Receives, refl, refused_at, repeated_key, Result, StandAlike, String, string_bytes, subst, sym, Takes, TellsBy, TellsKey, TellsNotedKey, Tree, true, Unfinished, unfinished_of, Vec, with_event_at, with_events, Yaml, YamlLoader, ◌++◌, ◌∙◌, ◌∷◌, ◌≡◌}
 use Rattle.defs_event.specs.PulledList.{Answer}
 use Rattle.defs_event.specs.Push.{load}
-use Rattle.defs_event.specs.Unfinished.{Loader, at_work, noted, Unfinished, new_loader, with_event_at, with_events, documents_of, refused_at}
-use Rattle.defs_event.specs.NoAlias.{HasNoAlias}
-use Rattle.defs_event.specs.Laws.{LoadedTreesHaveNoAlias}
 use Rattle.defs_event.specs.Unfinished as unfinished
-use Rattle.yaml_tokens.specs.ErrorReport.{ErrorReport, owned_at}
-use Rattle.yaml_parser.specs.Parsed.{Parsed}
 use Rattle.yaml_parser.specs.Loads as loads
-use Rattle.yaml_parser.specs.Loads.{PullsAll, Receives, no_event, one_event, EndsSo, Loads}
-use Rattle.yaml_tree.specs.View.{items_view}
-use Rattle.yaml_tree.specs.declared.yaml.Yaml.{Yaml}
 use Rattle.yaml_loader.specs.declared.loader.LoaderState.{LoaderState}
 use Rattle.yaml_loader.specs.declared.loader.LoaderState.TheVariants as state
-use Rattle.yaml_loader.specs.declared.loader.YamlLoader.{YamlLoader}
-use Rattle.yaml_loader.specs.Alike.{StandAlike}
-use Rattle.yaml_loader.specs.View.{unfinished_of, repeated_key}
 use Rattle.yaml_loader.specs.Gives as given
-use Rattle.yaml_loader.specs.Gives.{Gives, IsGivenFault}
-use Rattle.yaml_loader.specs.Loading.{loader_of, loader_by, kept_fault, IsNewFault, Takes, TellsBy, TellsNotedKey}
-use Rattle.yaml_loader.specs.RepeatedKey.{TellsKey}
 use Rattle.yaml_loader.specs.Loads as ends
-use Rattle.yaml_loader.specs.Loads.{HasDocuments, HasNoted, Notes, Pushes, AreLoaded, IsLoadFault}
 use Rattle.yaml_loader.proofs.GoOnAlike.{event_at_alike, alike_trans, show_the_same}
 
 pub with_last : (l : Loader) (es : List (Ev × Position)) (e : Ev) (p : Position) → with_events l (es ++ (e, p) ∷ []) ≡ with_event_at (with_events l es) e p

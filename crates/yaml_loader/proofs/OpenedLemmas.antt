@@ -1,16 +1,7 @@
 -- The open collections as a list, the innermost first.
-use Rattle.std.proofs.Common.{◌≡◌, ℕ, pred, ◌<◌, ◌-◌, List, [], ◌∷◌, ◌++◌, refl, length, sym, ap, ◌∙◌, arith}
 use Rattle.std.proofs.Math.Numerals.{sub-one}
-use Rattle.std.specs.Prelude.{slice_index_or, slice_set, Option, Some, None, option_map, is_some, false}
-use Rattle.std.proofs.lemmas.Bool.{true≢false}
-use Rattle.yaml_tree.specs.View.{view}
-use Rattle.yaml_tree.specs.declared.yaml.Yaml.{Yaml}
-use Rattle.defs_tree.specs.Tree.{Tree}
-use Rattle.defs_event.specs.Unfinished.{Opened, Unfinished, reads, repeats, out_of_nesting, with_tree, with_start, with_document_end}
-use Rattle.yaml_loader.specs.declared.reading.Open.{Open}
-use Rattle.yaml_loader.specs.declared.reading.Refusal.{Refusal}
+use Rattle.yaml_loader.proofs.Common.{[], all_opened, ap, arith, false, Inserts, is_some, IsNoInsert, IsRefusedBy, length, List, None, Open, Opened, opened_of, Option, option_map, out_of_nesting, pred, reads, refl, Refusal, repeated_key, repeats, slice_index_or, slice_set, Some, sym, Tree, true≢false, Unfinished, view, with_document_end, with_start, with_tree, Yaml, ℕ, ◌++◌, ◌-◌, ◌<◌, ◌∙◌, ◌∷◌, ◌≡◌}
 use Rattle.yaml_loader.specs.declared.reading.Refusal.TheVariants as refusal
-use Rattle.yaml_loader.specs.View.{opened_of, all_opened, repeated_key, Inserts, IsNoInsert, IsRefusedBy}
 
 -- one put at the end is the innermost
 pub all_opened_push : (os : List Open) (o : Open) (outer : List Opened) → all_opened (os ++ o ∷ []) outer ≡ opened_of o ∷ all_opened os outer

@@ -1,12 +1,5 @@
 -- What the tag `float` reads, by the bytes of the text.
-use Rattle.std.proofs.Common.{◌≡◌, ℕ, List, [], ◌∷◌, Bool, true, false, ◌||◌, ◌⊎◌, inl, inr, refl, sym, ap, ◌∙◌, arith}
-use Rattle.std.specs.Prelude.{chars, IsUtf8, bytes_eq, nat_lt}
-use Rattle.std.specs.List.{list_all}
-use Rattle.std.proofs.lemmas.Bool.{and_parts, or_cases, or_left, or_right, false≢true}
-use Rattle.std.proofs.lemmas.Bool.Decides.{nat_tests}
-use Rattle.std.proofs.lemmas.Slice.Eq.{bytes_eq-Decides}
-use Rattle.defs_tree.specs.Grammar.{is_among}
-use Rattle.defs_tree.specs.Typing.{typing, is_decimal, is_real_text, special_words}
+use Rattle.yaml_loader.proofs.Common.{[], and_parts, ap, arith, Bool, bytes_eq, bytes_eq-Decides, chars, false, false≢true, inl, inr, is_among, is_decimal, is_real_text, IsUtf8, List, list_all, nat_lt, nat_tests, or_cases, or_left, or_right, refl, special_words, sym, true, typing, ℕ, ◌||◌, ◌∙◌, ◌∷◌, ◌≡◌, ◌⊎◌}
 use Rattle.defs_tree.proofs.RealTexts.{is_real_character, decimal-characters}
 use Rattle.defs_tree.proofs.GrammarLaws.{list_all-more}
 use Rattle.defs_tree.proofs.TypingLaws.{real_text-cases}

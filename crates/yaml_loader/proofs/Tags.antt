@@ -1,12 +1,5 @@
 -- Plain scalars with a tag: what the bytes of text, handle and suffix say.
-use Rattle.std.proofs.Common.{◌≡◌, ℕ, List, [], ◌∷◌, true, false, refl, sym, ap, ◌∙◌}
-use Rattle.std.specs.Prelude.{chars, bytes_eq, codes, IsUtf8, if◌then◌else◌}
-use Rattle.defs_tree.specs.Tree.{boolean, null, string, bad_value}
-use Rattle.defs_tree.specs.Grammar.{is_among}
-use Rattle.defs_tree.specs.Typing.{true_words, false_words}
-use Rattle.defs_event.specs.Event.{Tag}
-use Rattle.defs_event.specs.Names.{core_prefix}
-use Rattle.defs_event.specs.Scalar.{as_boolean, as_integer, as_real, as_null, by_name, tagged_tree}
+use Rattle.yaml_loader.proofs.Common.{[], ap, as_boolean, as_integer, as_null, as_real, bad_value, boolean, by_name, bytes_eq, chars, codes, core_prefix, false, false_words, if◌then◌else◌, is_among, IsUtf8, List, null, refl, string, sym, Tag, tagged_tree, true, true_words, ℕ, ◌∙◌, ◌∷◌, ◌≡◌}
 use Rattle.yaml_loader.proofs.Words.{IsNoneOf, ascii_word, ascii_words, among_chars, not_among, chars_word, word_other}
 
 pub boolean-chars : (bs : List ℕ) → IsUtf8 bs → as_boolean (chars bs) ≡ as_boolean bs

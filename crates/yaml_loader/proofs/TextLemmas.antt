@@ -1,37 +1,14 @@
 -- What a load answers of a text that means trees.
-use Rattle.std.proofs.Common.{◌≡◌, ℕ, Bool, List, [], ◌∷◌, true, false, refl, sym, ap, ◌∙◌, subst}
-use Rattle.std.specs.Prelude.{Option, Result, Ok, Err, Vec, IfOk}
-use Rattle.std.specs.declared.alloc.Global.{Global}
 use Rattle.std.specs.Str.{chars, IsUtf8}
-use Rattle.std.specs.Str.Iter.{chars_steps, chars_rest}
 use Rattle.std.specs.declared.str.Chars.{Chars}
-use Rattle.yaml_chars.specs.Source.{CameFrom}
-use Rattle.defs_text.specs.Text.{up_to_nul, has_no_nul}
-use Rattle.yaml_chars.specs.WindowView.{HasNoNul, BeginsText}
+use Rattle.yaml_loader.proofs.Common.{[], Answers, ap, BeginsText, Bool, CameFrom, characters_are_the_text, chars_rest, chars_steps, Err, ErrorReport, false, Global, has_no_nul, HasNoNul, IfOk, items_view, json_texts_are_read, json_texts_have_no_nul, List, LoadsOnly, LoadsText, MayBe, Means, memory_is_wanted, nested_is_stream, of_parser, OfBasic, OfGiven, OfJson, OfLayout, OfMeaning, OfQuoted, OfTexts, Ok, one_meaning, one_reading, Option, Parsed, refl, Result, Scanned, spell_text, subst, sym, Tree, tree_of, true, up_to_nul, Vec, Yaml, ℕ, ◌∙◌, ◌∷◌, ◌≡◌}
 use Rattle.yaml_chars.proofs.SpelledLemmas.{Chars-spelled}
-use Rattle.defs_tree.specs.Tree.{Tree}
-use Rattle.defs_layout.specs.Json.{spell_text, tree_of}
 use Rattle.defs_layout.specs.Layout as layout
-use Rattle.yaml_tokens.specs.ErrorReport.{ErrorReport}
-use Rattle.yaml_tree.specs.View.{items_view}
-use Rattle.yaml_tree.specs.declared.yaml.Yaml.{Yaml}
-use Rattle.yaml_scanner.specs.Scanned.{Scanned, MayBe}
-use Rattle.yaml_parser.specs.Parsed.{Parsed}
 use Rattle.proof_loads.specs.AtStart.{IsAtStart}
 use Rattle.proof_loads.specs.Spelled.{IsWithoutNul}
-use Rattle.defs_event.specs.Meaning.{Means}
-use Rattle.proof_row.proofs.Meanings.{one_meaning}
-use Rattle.proof_loads.proofs.Loads.{memory_is_wanted}
-use Rattle.proof_loads.proofs.Answers.{nested_is_stream}
-use Rattle.proof_loads.proofs.OneReading.{one_reading}
-use Rattle.proof_loads.proofs.Spelled.{characters_are_the_text, json_texts_are_read}
-use Rattle.proof_loads.proofs.JsonNul.{json_texts_have_no_nul}
 use Rattle.proof_loads.proofs.LayoutNul.{layouts_have_no_nul}
 use Rattle.proof_loads.proofs.LayoutTexts.{layouts_are_read}
 use Rattle.proof_loads.proofs.QuotedTexts.{quoted_texts_are_read, quoted_texts_have_no_nul}
-use Rattle.yaml_loader.specs.Meant.{LoadsOnly, OfMeaning, OfGiven, OfJson, OfBasic, OfLayout, OfQuoted}
-use Rattle.yaml_loader.specs.TextLoads.{LoadsText, OfTexts, Answers}
-use Rattle.yaml_loader.specs.Unread.{of_parser}
 use Rattle.yaml_loader.specs.Unread as unread
 
 -- A load of a text that means trees answers just these.

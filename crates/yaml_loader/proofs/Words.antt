@@ -1,14 +1,7 @@
 -- Texts as bytes and as characters, against words that are both.
-use Rattle.std.proofs.Common.{◌≡◌, ℕ, List, [], ◌∷◌, Bool, true, false, refl, sym, ap, ◌∙◌, ◌<◌, ◌++◌, arith}
-use Rattle.std.specs.Prelude.{chars, bytes_eq, IsUtf8, ◌||◌, nat_lt}
 use Rattle.std.specs.Bool.{Decides}
-use Rattle.std.proofs.lemmas.Bool.{and_parts, and_from}
-use Rattle.std.proofs.lemmas.Bool.Decides.{same_from_decides, nat_tests}
-use Rattle.std.proofs.lemmas.Slice.Eq.{bytes_eq-Decides}
-use Rattle.std.proofs.lemmas.Str.{chars-encodes, encodes-chars, encode_ascii}
+use Rattle.yaml_loader.proofs.Common.{[], and_from, and_parts, ap, arith, Bool, bytes_eq, bytes_eq-Decides, chars, chars-encodes, encode_ascii, encodes-chars, false, is_among, IsUtf8, List, list_all, nat_lt, nat_tests, refl, same_from_decides, sym, true, ℕ, ◌++◌, ◌<◌, ◌||◌, ◌∙◌, ◌∷◌, ◌≡◌}
 use lib.Utf8.{scalar, scalars, encodes}
-use Rattle.std.specs.List.{list_all}
-use Rattle.defs_tree.specs.Grammar.{is_among}
 
 -- a word whose bytes are its characters
 pub record IsWord (w : List ℕ) : Type 0 where

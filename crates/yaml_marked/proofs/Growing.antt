@@ -1,15 +1,5 @@
 -- What stands in a table stands in a longer one.
-use Rattle.std.proofs.Common.{◌≡◌, ℕ, ◌+◌, ◌≤◌, List, [], ◌∷◌, ◌++◌, length, take, drop, sym, ap, ◌∙◌, subst, arith, length-append, length-drop}
-use Rattle.std.specs.Prelude.{Option, Some, None}
-use Rattle.std.proofs.lemmas.List.{take-append-le, drop-append-le}
-use Rattle.defs_event.specs.Marking.{MarkedAnchors, aliased_marks}
-use Rattle.defs_event.specs.Marks.{Marks, marks, Parts, no_parts, part, parts_of}
-use Rattle.yaml_marked.specs.Leaf.{alias_mark}
-use Rattle.yaml_marked.specs.Standing.{Stands, PartsStand, PerhapsStands, AllOpenStand, AnchorsStand, mark_under}
-use Rattle.yaml_marked.specs.Table.{parts_at}
-use Rattle.yaml_marked.specs.declared.mark.Mark.{Mark}
-use Rattle.yaml_marked.specs.declared.marking.Begun.{Begun}
-use Rattle.defs_event.specs.Marking.{OpenMarks}
+use Rattle.yaml_marked.proofs.Common.{[], alias_mark, aliased_marks, AllOpenStand, AnchorsStand, ap, arith, Begun, drop, drop-append-le, length, length-append, length-drop, List, Mark, mark_under, MarkedAnchors, Marks, marks, no_parts, None, OpenMarks, Option, part, Parts, parts_at, parts_of, PartsStand, PerhapsStands, Some, Stands, subst, sym, take, take-append-le, ℕ, ◌++◌, ◌+◌, ◌∙◌, ◌∷◌, ◌≡◌, ◌≤◌}
 
 module _ (table more : List Mark) where
   same_parts : (m : Mark) → m.first + m.count ≤ length table → parts_at (table ++ more) m ≡ parts_at table m

@@ -3,3 +3,4 @@ pub mod Open
 pub mod Seen
 pub mod Steps
 pub mod Texts
+mod Common

@@ -1,12 +1,5 @@
 -- Marks in a row, and those of open collections.
-use Rattle.std.proofs.Common.{◌≡◌, ◌≤◌, List, [], ◌∷◌, ◌++◌, length, take, drop, refl, sym, ap, ◌∙◌, subst, arith, length-append, append_assoc, append-nil}
-use Rattle.std.proofs.Math.Seq.{drop-append_seam, take-append_seam, take-length}
-use Rattle.defs_event.specs.Marking.{OpenMarks}
-use Rattle.defs_event.specs.Marks.{Marks, marks, Parts}
-use Rattle.yaml_marked.specs.Standing.{Stands, PartsStand, AllStand, AllOpenStand}
-use Rattle.yaml_marked.specs.Table.{parts_at}
-use Rattle.yaml_marked.specs.declared.mark.Mark.{Mark}
-use Rattle.yaml_marked.specs.declared.marking.Begun.{Begun}
+use Rattle.yaml_marked.proofs.Common.{[], AllOpenStand, AllStand, ap, append-nil, append_assoc, arith, Begun, drop, drop-append_seam, length, length-append, List, Mark, Marks, marks, OpenMarks, Parts, parts_at, PartsStand, refl, Stands, subst, sym, take, take-append_seam, take-length, ◌++◌, ◌∙◌, ◌∷◌, ◌≡◌, ◌≤◌}
 use Rattle.yaml_marked.proofs.Growing.{grown_parts}
 
 -- one more mark in a row

@@ -1,24 +1,13 @@
 -- Marks that stand for those of a tree are seen so along the tree.
-use Rattle.std.proofs.Common.{◌≡◌, ℕ, zero, suc, ◌+◌, ◌<◌, ◌≤◌, cond, true, false, Bool, List, [], ◌∷◌, length, get_or, refl, sym, ap, ◌∙◌, subst, arith}
-use Rattle.std.specs.Prelude.{Some, None, option_map, option_and_then, slice_get, String, string_bytes, bytes_eq}
 use Rattle.std.specs.Str.{chars, encode_utf8_all, IsUtf8}
-use Rattle.std.proofs.lemmas.Bool.Decides.{same_from_decides}
 use Rattle.std.proofs.lemmas.Slice.Eq.{bytes_eq-Decides}
 use Rattle.std.proofs.lemmas.Str.{encodes-chars, IsUtf8-string_bytes}
 use Rattle.defs_text.specs.Text.{string_chars}
 use Rattle.defs_tree.proofs.OrderLaws.{tree_eq_decides}
 use Rattle.std.proofs.lemmas.Option.{slice_get_past}
-use Rattle.defs_tree.specs.Order.{tree_eq}
+use Rattle.yaml_marked.proofs.Common.{[], alias, all_shown, AllFit, AllHaveMarks, AllStand, ap, arith, array, bad_value, beside, Bool, boolean, bytes_eq, cond, false, Fits, get_or, hash, HasMarks, integer, item, item_marks, Items, items_of, items_view, ItemsFit, ItemsHaveMarks, length, List, list_of_parts, Mark, marked_items, marked_pairs, Marks, marks, no_items, no_pairs, no_parts, node_at_place, None, null, option_and_then, option_map, pair, pair_with, Pairs, pairs_beside, pairs_marks, pairs_of, pairs_shown, PairsFit, PairsHaveMarks, part, Parts, parts_at, PartsStand, real, refl, same_from_decides, shown_marks, slice_get, Some, Stands, String, string, string_bytes, subst, suc, sym, Tree, tree_eq, true, view, Yaml, zero, ℕ, ◌+◌, ◌<◌, ◌∙◌, ◌∷◌, ◌≡◌, ◌≤◌}
 use Rattle.defs_tree.specs.Pairs.{lookup}
-use Rattle.defs_tree.specs.Tree.{Tree, real, integer, string, boolean, array, hash, alias, null, bad_value, Items, no_items, item, Pairs, no_pairs, pair, items_of, pairs_of}
-use Rattle.defs_event.specs.Fits.{Fits, ItemsFit, PairsFit, AllFit}
-use Rattle.defs_event.specs.Marks.{Marks, marks, Parts, no_parts, part, list_of_parts, beside, pairs_beside, pair_with, marked_items, marked_pairs, node_at_place}
-use Rattle.yaml_tree.specs.View.{view, items_view}
-use Rattle.yaml_tree.specs.declared.yaml.Yaml.{Yaml}
 use Rattle.yaml_tree.proofs.ItemsLemmas.{get_items_view, list_of_items, pair_list_of_pairs}
-use Rattle.yaml_marked.specs.Standing.{Stands, PartsStand, AllStand}
-use Rattle.yaml_marked.specs.Table.{parts_at, shown_marks, item_marks, pairs_marks, HasMarks, ItemsHaveMarks, PairsHaveMarks, pairs_shown, all_shown, AllHaveMarks}
-use Rattle.yaml_marked.specs.declared.mark.Mark.{Mark}
 
 module _ (table : List Mark) where
   mutual

@@ -1,22 +1,9 @@
 -- What the marks so far stand for, after each kind of step.
-use Rattle.std.proofs.Common.{◌≡◌, ℕ, zero, suc, nat_eq, ◌<◌, ◌≤◌, Bool, true, false, cond, List, [], ◌∷◌, ◌++◌, length, take, drop, reverse, refl, sym, ap, ◌∙◌, subst, arith, length-drop}
-use Rattle.std.specs.Prelude.{Option, Some, None, Result, Ok, Err, OnOk, unwrap_or, if◌then◌else◌, ◌-◌}
 use Rattle.std.specs.BTreeMap.{is_at}
 use Rattle.std.specs.Map.{lookup}
 use Rattle.std.specs.Ordering.{nat_cmp}
-use Rattle.std.proofs.lemmas.Bool.Decides.{nat_tests}
-use Rattle.std.proofs.lemmas.List.{reverse-append, reverse-reverse}
-use Rattle.std.proofs.Math.Seq.{take-length}
-use Rattle.defs_text.specs.Position.{Position}
-use Rattle.defs_event.specs.Event.{Ev}
+use Rattle.yaml_marked.proofs.Common.{[], alias_mark, alias_of, aliased_marks, AllOpenStand, AnchorsStand, ap, arith, Begun, Bool, cond, drop, Err, Ev, false, finished_marks, Goes, GoesWith, HasStanding, Holds, if◌then◌else◌, IsUnder, leaf, leaf_mark, length, length-drop, List, Mark, mark_under, MarkedAnchors, Marking, Marks, marks, nat_eq, nat_tests, None, Ok, OnOk, OpenMarks, Option, parts_of, PerhapsStands, Position, refl, Result, reverse, reverse-append, reverse-reverse, Some, Stands, subst, suc, sym, take, take-length, true, unwrap_or, zero, ℕ, ◌++◌, ◌-◌, ◌<◌, ◌∙◌, ◌∷◌, ◌≡◌, ◌≤◌}
 use Rattle.defs_event.specs.Marking as defs
-use Rattle.defs_event.specs.Marking.{OpenMarks, MarkedAnchors, alias_of, aliased_marks, finished_marks}
-use Rattle.defs_event.specs.Marks.{Marks, marks, leaf, parts_of}
-use Rattle.yaml_marked.specs.Leaf.{leaf_mark, alias_mark}
-use Rattle.yaml_marked.specs.Standing.{Stands, PerhapsStands, AllOpenStand, AnchorsStand, IsUnder, mark_under, Holds, HasStanding, Goes, GoesWith}
-use Rattle.yaml_marked.specs.declared.mark.Mark.{Mark}
-use Rattle.yaml_marked.specs.declared.marking.Begun.{Begun}
-use Rattle.yaml_marked.specs.declared.marking.Marking.{Marking}
 use Rattle.yaml_marked.proofs.Growing.{grown_parts, grown_perhaps, grown_open, grown_anchors}
 use Rattle.yaml_marked.proofs.Open.{row_and, open_and, open_more, closed, last_in_table}
 

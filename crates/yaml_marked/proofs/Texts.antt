@@ -1,17 +1,9 @@
 -- What a load with positions answers of a text.
-use Rattle.std.proofs.Common.{◌≡◌, ℕ, Bool, false, List, [], ◌∷◌, ◌++◌, refl, sym, ap, ◌∙◌, subst, inl, inr}
-use Rattle.std.specs.Prelude.{Result, Ok, Err, Vec}
 use Rattle.std.specs.declared.alloc.Global.{Global}
-use Rattle.defs_text.specs.Position.{Position}
-use Rattle.defs_tree.specs.Tree.{Tree}
-use Rattle.defs_event.specs.Event.{Ev}
+use Rattle.yaml_marked.proofs.Common.{[], all_shown, AllFit, AllHaveMarks, ap, AreMarksOf, Bool, Err, Ev, false, HasStanding, inl, inr, items_view, List, marked_documents, nothing_marked, Ok, Position, refl, Result, subst, sym, Tree, Vec, with_event_marked, with_events_marked, Yaml, ℕ, ◌++◌, ◌∙◌, ◌∷◌, ◌≡◌}
 use Rattle.defs_event.specs.Unfinished.{Loader, at_work, noted, refused as stopped, Unfinished, new_loader, with_events}
-use Rattle.defs_event.specs.Fits.{AllFit}
 use Rattle.defs_event.specs.Marking as defs
-use Rattle.defs_event.specs.Marking.{with_event_marked, with_events_marked, marked_documents, nothing_marked}
 use Rattle.yaml_tokens.specs.ErrorReport.{ErrorReport}
-use Rattle.yaml_tree.specs.View.{items_view}
-use Rattle.yaml_tree.specs.declared.yaml.Yaml.{Yaml}
 use Rattle.yaml_parser.specs.Blames.{WantsMemory}
 use Rattle.yaml_parser.specs.Loads.{Receives, no_event, one_event}
 use Rattle.proof_loads.specs.TextEvents.{BeginsEvents, IsFaultOf, wants_memory, AnswersText, whole, faulted, refused}
@@ -24,10 +16,7 @@ use Rattle.yaml_loader.specs.Reached.{Reaches, here, after}
 use Rattle.yaml_loader.specs.TextLoads.{LoadsText}
 use Rattle.yaml_loader.specs.declared.loader.YamlLoader.{YamlLoader}
 use Rattle.defs_event.specs.MarkLaws.{MarksFitTheirTrees}
-use Rattle.yaml_marked.specs.Loading.{AreMarksOf}
 use Rattle.yaml_marked.specs.Receiving.{TakesMarked, IsEmpty, HasTaken}
-use Rattle.yaml_marked.specs.Standing.{HasStanding}
-use Rattle.yaml_marked.specs.Table.{AllHaveMarks, all_shown}
 use Rattle.yaml_marked.proofs.Seen.{all_seen}
 use Rattle.yaml_marked.specs.declared.receiver.MarkedLoader.{MarkedLoader}
 

@@ -1,12 +1,6 @@
 -- What words ask for, behind those that were taken.
-use Rattle.std.proofs.Common.{◌≡◌, true, false, List, [], ◌∷◌, ◌++◌, Some, None, refl, sym, ap, subst, ◌∙◌}
-use Rattle.std.specs.Prelude.{MatchResult, Result, Ok, Err}
 use Rattle.std.specs.Result.{IsErrAnd}
-use Rattle.std.proofs.lemmas.List.{append_assoc}
-use Rattle.std.specs.List.{position, before_first, after_first}
-use Rattle.yaml_programs.specs.declared.failure.Refusal.TheVariants.{NoSuchOption}
-use Rattle.yaml_programs.specs.Arguments.{Row, Text, Setting, sets, awaits, stops_at, Asked, reads, stops, with_setting, with_file, asked_behind, option_word, option_named, takes_nothing, is_equals_sign, refuses, with_files, ends_options, asked}
-use Rattle.yaml_programs.specs.Reading.{StopsAt, behind}
+use Rattle.yaml_programs.proofs.Common.{[], after_first, ap, append_assoc, Asked, asked, asked_behind, awaits, before_first, behind, ends_options, Err, false, is_equals_sign, List, MatchResult, None, NoSuchOption, Ok, option_named, option_word, position, reads, refl, refuses, Result, Row, sets, Setting, Some, stops, stops_at, StopsAt, subst, sym, takes_nothing, Text, true, with_file, with_files, with_setting, ◌++◌, ◌∙◌, ◌∷◌, ◌≡◌}
 use Rattle.yaml_programs.specs.declared.words.Stop.{Stop}
 use Rattle.yaml_programs.specs.declared.words.Stop.TheVariants as stop
 

@@ -1,12 +1,7 @@
 -- The files that were done so far.
-use Rattle.std.proofs.Common.{ℕ, ◌+◌, ◌<◌, ◌≤◌, List, [], ◌∷◌, length, get_or, map, take, sym, subst}
-use Rattle.std.specs.Prelude.{Result, Ok, Err, IsOk, IfOk}
-use Rattle.std.specs.List.{All}
 use Rattle.std.specs.Borrow.{Bor}
-use Rattle.std.proofs.lemmas.List.{map-append, take_more, take_all}
 use Rattle.std.proofs.lemmas.List.Elements.{All-push}
-use Rattle.yaml_programs.specs.Arguments.{Text}
-use Rattle.yaml_programs.specs.Reading.{text_view}
+use Rattle.yaml_programs.proofs.Common.{[], All, Err, get_or, IfOk, IsOk, length, List, map, map-append, Ok, Result, subst, sym, take, take_all, take_more, Text, text_view, ℕ, ◌+◌, ◌<◌, ◌∷◌, ◌≤◌}
 
 pub done_more : (W : Text → Type 0) (files : List (Bor Text)) (i : ℕ) (d : Bor Text) → i < length files → W (get_or files i d).now
     → All W (map text_view (take i files)) → All W (map text_view (take (i + 1) files))

@@ -2,3 +2,4 @@ pub mod Asks
 pub mod DoneFiles
 pub mod Places
 mod Rows
+mod Common

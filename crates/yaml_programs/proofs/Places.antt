@@ -1,10 +1,7 @@
 -- The first element of a list that passes a test.
-use Rattle.std.proofs.Common.{◌≡◌, ℕ, ◌+◌, ◌<◌, ◌≤◌, not, Bool, true, false, List, Option, Some, None, length, map, take, drop, cond, refl, ap, ◌∙◌, arith}
-use Rattle.std.specs.Prelude.{nat_lt}
-use Rattle.std.specs.List.{before_first, after_first, position, position_or_len}
 use Rattle.std.proofs.lemmas.Bool.Decides.{nat_tests}
-use Rattle.std.proofs.lemmas.List.{take-map, drop-map}
 use Rattle.std.proofs.lemmas.List.Recursion.{is_position_or_len}
+use Rattle.yaml_programs.proofs.Common.{after_first, ap, arith, before_first, Bool, cond, drop, drop-map, false, length, List, map, nat_lt, None, not, Option, position, position_or_len, refl, Some, take, take-map, true, ℕ, ◌+◌, ◌<◌, ◌∙◌, ◌≡◌, ◌≤◌}
 
 pub position_some : {X : Type 0} (p : X → Bool) (xs : List X) → position_or_len p xs < length xs → position p xs ≡ Some (position_or_len p xs)
 position_some p xs h = let t : nat_lt (position_or_len p xs) (length xs) ≡ true = grind (arith, nat_tests) in rw t

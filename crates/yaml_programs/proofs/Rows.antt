@@ -1,9 +1,6 @@
 -- What arguments ask for, computed: the options are those for limits.
-use Rattle.std.proofs.Common.{◌≡◌, List, [], ◌∷◌, refl}
-use Rattle.std.specs.Prelude.{codes}
-use Rattle.yaml_programs.specs.Arguments.{Text, Asked, reads, stops, helps, refuses, asked}
+use Rattle.yaml_programs.proofs.Common.{[], Asked, asked, codes, helps, List, NoSuchOption, reads, refl, refuses, stops, TakesNone, TakesOne, Text, ◌∷◌, ◌≡◌}
 use Rattle.yaml_programs.specs.Bounds.{limit_options}
-use Rattle.yaml_programs.specs.declared.failure.Refusal.TheVariants.{NoSuchOption, TakesNone, TakesOne}
 
 abbrev ask : List Text → Asked
 ask words = asked limit_options words

@@ -1,13 +1,5 @@
 -- A comparison of two lists, place by place.
-use Rattle.std.proofs.Common.{◌≡◌, ℕ, zero, suc, ◌+◌, ◌<◌, ◌≤◌, ◌⊎◌, List, [], ◌∷◌, length, get_or, drop, map, Ordering, Less, Equal, Greater, nat_cmp, refl, sym, ap, ◌∙◌, inl, inr, arith, add-one, drop-cons}
-use Rattle.std.proofs.lemmas.Bool.Decides.{nat_tests}
-use Rattle.std.specs.Ordering.{ordering_then, on}
-use Rattle.std.specs.Cmp.Lexicographic.{slice_cmp}
-use Rattle.defs_tree.specs.Tree.{Tree, items_of, pairs_of}
-use Rattle.defs_tree.specs.Order.{tree_cmp, items_cmp, pairs_cmp}
-use Rattle.yaml_tree.specs.Flat.{flat}
-use Rattle.yaml_tree.specs.View.{items_view}
-use Rattle.yaml_tree.specs.declared.yaml.Yaml.{Yaml}
+use Rattle.yaml_tree.proofs.Common.{[], add-one, ap, arith, drop, drop-cons, Equal, flat, get_or, Greater, inl, inr, items_cmp, items_of, items_view, length, Less, List, map, nat_cmp, nat_tests, on, Ordering, ordering_then, pairs_cmp, pairs_of, refl, slice_cmp, suc, sym, Tree, tree_cmp, Yaml, zero, ℕ, ◌+◌, ◌<◌, ◌∙◌, ◌∷◌, ◌≡◌, ◌≤◌, ◌⊎◌}
 use Rattle.defs_tree.specs.Lists.{list_cmp}
 
 nat_cmp-less : (m n : ℕ) → m < n → nat_cmp m n ≡ Less

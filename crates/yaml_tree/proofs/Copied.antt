@@ -1,12 +1,6 @@
 -- The levels of a copy, from the outermost to the one that is filled.
-use Rattle.std.proofs.Common.{◌≡◌, ℕ, ◌+◌, ◌*◌, ◌<◌, ◌≤◌, List, [], ◌∷◌, ◌++◌, refl, sym, ap, subst, ◌∙◌, arith, append_assoc}
-use Rattle.defs_tree.specs.Tree.{Tree, items_of}
-use Rattle.yaml_tree.specs.Copying.{source_tree, left, lefts, IsFilled, Leads}
-use Rattle.yaml_tree.specs.Flat.{flat}
-use Rattle.yaml_tree.specs.View.{view, items_view, array_tree, hash_tree}
-use Rattle.yaml_tree.specs.Weight.{nodes, items_nodes, parts}
+use Rattle.yaml_tree.proofs.Common.{[], ap, append_assoc, arith, array_tree, flat, hash_tree, IsFilled, items_nodes, items_of, items_view, Leads, left, lefts, List, nodes, parts, refl, source_tree, subst, sym, Tree, view, Yaml, ℕ, ◌*◌, ◌++◌, ◌+◌, ◌<◌, ◌∙◌, ◌∷◌, ◌≡◌, ◌≤◌}
 use Rattle.yaml_tree.specs.declared.copy.Level.{Level}
-use Rattle.yaml_tree.specs.declared.yaml.Yaml.{Yaml}
 use Rattle.yaml_tree.proofs.ItemsLemmas.{items_view_push, list_of_items, pair_list_of_pairs}
 use Rattle.yaml_tree.proofs.WeightLemmas.{parts_nodes}
 

@@ -1,23 +1,5 @@
 -- Digests of keys: the ranks that they leave for a key, and how they stay those of their keys as pairs come and go.
-use Rattle.std.proofs.Common.{◌≡◌, ℕ, zero, suc, ◌+◌, ◌-◌, ◌<◌, ◌≤◌, ◌⊎◌, List, [], ◌∷◌, ◌++◌, length, get_or, map, Less, Greater, nat_cmp, refl, sym, ap, ◌∙◌, inl, inr, arith}
-use Rattle.std.specs.List.{insert, remove}
-use Rattle.std.specs.Ordering.{ordering_then}
-use Rattle.std.proofs.lemmas.Bool.{cases_lt}
-use Rattle.std.proofs.lemmas.Bool.Decides.{nat_tests}
-use Rattle.std.proofs.lemmas.List.{length-map}
-use Rattle.std.proofs.lemmas.List.Edits.{length-insert, length-remove, get_or-insert_below, get_or-insert_at, get_or-insert_above}
-use Rattle.defs_tree.specs.Tree.{Tree}
-use Rattle.defs_tree.specs.Order.{tree_cmp}
-use Rattle.defs_tree.specs.Pairs.{with_value_at}
-use Rattle.yaml_hash_index.specs.Blocks.{joined, IsNarrowed}
-use Rattle.yaml_hash_index.specs.Edges.{digest_at, AreRising}
-use Rattle.yaml_hash_index.specs.declared.entry.Entry.{Entry}
-use Rattle.yaml_hash_index.specs.Moves.{closed_up, moved_up}
-use Rattle.yaml_tree.specs.Digests.{digest, AreDigests, first_by, HaveRising, IsWindow}
-use Rattle.yaml_tree.specs.Places.{place_of_entry, digest_of_entry, places, digests}
-use Rattle.yaml_tree.specs.Ranked.{key_at, key_of_rank, key_cmp, AreRanked, IsRank}
-use Rattle.yaml_tree.specs.declared.ranks.Kept.{Kept}
-use Rattle.yaml_tree.specs.declared.ranks.Kept.TheVariants.{Few, Many}
+use Rattle.yaml_tree.proofs.Common.{[], ap, AreDigests, AreRanked, AreRising, arith, cases_lt, closed_up, digest, digest_at, digest_of_entry, digests, Entry, Few, first_by, get_or, get_or-insert_above, get_or-insert_at, get_or-insert_below, Greater, HaveRising, inl, inr, insert, IsNarrowed, IsRank, IsWindow, joined, Kept, key_at, key_cmp, key_of_rank, length, length-insert, length-map, length-remove, Less, List, Many, map, moved_up, nat_cmp, nat_tests, ordering_then, place_of_entry, places, refl, remove, suc, sym, Tree, tree_cmp, with_value_at, zero, ℕ, ◌++◌, ◌+◌, ◌-◌, ◌<◌, ◌∙◌, ◌∷◌, ◌≡◌, ◌≤◌, ◌⊎◌}
 use Rattle.yaml_tree.proofs.Indexed.{digest_mapped}
 use Rattle.yaml_tree.proofs.Ranking.{Pairs, key_append_left, key_append_end, key_with_value, above_up_to, below_from_on, skip, skip_get, skip_within, removed_key, moved_key}
 use Rattle.yaml_tree.proofs.TextOrder.{equal}

@@ -1,9 +1,5 @@
 -- The steps of a drop, on rows of nodes.
-use Rattle.std.proofs.Common.{◌≡◌, ◌≢◌, ◌<◌, List, [], ◌∷◌, ◌++◌, length, sym, ap, subst, ◌∙◌, arith, append_assoc}
-use Rattle.defs_tree.specs.Tree.{Tree, array, items_of}
-use Rattle.yaml_tree.specs.View.{view, items_view, array_tree}
-use Rattle.yaml_tree.specs.Weight.{weight, parts, with_last, items_with_last}
-use Rattle.yaml_tree.specs.declared.yaml.Yaml.{Yaml}
+use Rattle.yaml_tree.proofs.Common.{[], ap, append_assoc, arith, array, array_tree, items_of, items_view, items_with_last, length, List, parts, subst, sym, Tree, view, weight, with_last, Yaml, ◌++◌, ◌<◌, ◌∙◌, ◌∷◌, ◌≡◌, ◌≢◌}
 use Rattle.yaml_tree.proofs.ItemsLemmas.{items_view_push}
 use Rattle.yaml_tree.proofs.WeightLemmas.{alone, item_gone, item_descent, parts_nodes, items_with_last-of}
 

@@ -1,10 +1,6 @@
 -- What the keys and values of a row feed a hasher, pair by pair.
-use Rattle.std.proofs.Common.{◌≡◌, ℕ, ◌+◌, ◌*◌, ◌/◌, ◌<◌, ◌≤◌, List, ◌∷◌, ◌++◌, length, get_or, drop, ap, ◌∙◌, arith}
 use Rattle.std.specs.Hash as fed
-use Rattle.defs_tree.specs.Tree.{pairs_of}
-use Rattle.yaml_tree.specs.Feed.{tree_feed, pairs_feed}
-use Rattle.yaml_tree.specs.View.{view, pairs_view}
-use Rattle.yaml_tree.specs.declared.yaml.Yaml.{Yaml}
+use Rattle.yaml_tree.proofs.Common.{ap, arith, drop, get_or, length, List, pairs_feed, pairs_of, pairs_view, tree_feed, view, Yaml, ℕ, ◌*◌, ◌++◌, ◌+◌, ◌/◌, ◌<◌, ◌∙◌, ◌∷◌, ◌≡◌, ◌≤◌}
 use Rattle.yaml_tree.proofs.Comparing.{at_drop, at_end}
 
 pub next_pair : (ys : List Yaml) (i : ℕ) (k v : Yaml) → i < length ys / 2 → k ≡ get_or ys (2 * i) k → v ≡ get_or ys (2 * i + 1) v

@@ -1,13 +1,5 @@
 -- The keys and values of a hash in one row.
-use Rattle.std.proofs.Common.{◌≡◌, ℕ, zero, suc, ◌+◌, ◌*◌, ◌<◌, List, [], ◌∷◌, ◌++◌, length, get_or, set, Some, refl, sym, ap, ◌∙◌, arith}
-use Rattle.std.specs.List.{remove}
-use Rattle.std.proofs.lemmas.List.{get_or-map}
-use Rattle.defs_tree.specs.Tree.{Tree}
-use Rattle.defs_tree.specs.Pairs.{value_at, with_value_at}
-use Rattle.yaml_tree.specs.Flat.{flat, paired}
-use Rattle.yaml_tree.specs.Ranked.{key_at}
-use Rattle.yaml_tree.specs.View.{view, items_view}
-use Rattle.yaml_tree.specs.declared.yaml.Yaml.{Yaml}
+use Rattle.yaml_tree.proofs.Common.{[], ap, arith, flat, get_or, get_or-map, items_view, key_at, length, List, paired, refl, remove, set, Some, suc, sym, Tree, value_at, view, with_value_at, Yaml, zero, ℕ, ◌*◌, ◌++◌, ◌+◌, ◌<◌, ◌∙◌, ◌∷◌, ◌≡◌}
 use Rattle.yaml_tree.proofs.ItemsLemmas.{length_items_view}
 
 -- ---- trees in a row

@@ -1,16 +1,6 @@
 -- Places and digests of a hash, as blocks or few keep them.
-use Rattle.std.proofs.Common.{◌≡◌, ℕ, zero, suc, ◌+◌, ◌<◌, ◌≤◌, List, [], ◌∷◌, length, get_or, map, refl, ap, arith}
-use Rattle.std.specs.List.{insert, remove}
-use Rattle.std.proofs.lemmas.List.{length-map}
-use Rattle.yaml_hash_index.specs.Blocks.{joined}
-use Rattle.yaml_hash_index.specs.Edges.{digest_at, place_at}
-use Rattle.yaml_hash_index.specs.Moves.{closed_up, moved_up, entry_closed_up, entry_moved_up}
-use Rattle.yaml_hash_index.specs.declared.entry.Entry.{Entry}
-use Rattle.yaml_tree.specs.Places.{place_of_entry, digest_of_entry, places, digests, rank_at, HasSpot, HasPlace}
-use Rattle.yaml_hash_index.proofs.Joining.{rank_within, rank_inside}
+use Rattle.yaml_tree.proofs.Common.{[], ap, arith, closed_up, digest_at, digest_of_entry, digests, Entry, entry_closed_up, entry_moved_up, Few, get_or, HasPlace, HasSpot, insert, joined, Kept, length, length-map, List, Many, map, moved_up, place_at, place_of_entry, places, rank_at, rank_inside, rank_within, refl, remove, suc, zero, ℕ, ◌+◌, ◌<◌, ◌∷◌, ◌≡◌, ◌≤◌}
 use Rattle.yaml_hash_index.specs.declared.entry.Spot.{Spot}
-use Rattle.yaml_tree.specs.declared.ranks.Kept.{Kept}
-use Rattle.yaml_tree.specs.declared.ranks.Kept.TheVariants.{Few, Many}
 
 pub digest_mapped : (es : List Entry) (i : ℕ) → get_or (map digest_of_entry es) i 0 ≡ digest_at es i
 digest_mapped [] i = refl

@@ -1,12 +1,5 @@
 -- Nodes in a row, as the trees that clauses see.
-use Rattle.std.proofs.Common.{◌≡◌, IsSome, ℕ, zero, suc, ◌<◌, ◌^◌, Bool, true, false, arith, List, [], ◌∷◌, ◌++◌, length, Option, None, option_map, refl, sym, ap, subst, ◌∙◌}
-use Rattle.std.specs.Prelude.{slice_get, pos, nat_lt, if◌then◌else◌}
-use Rattle.std.proofs.lemmas.Bool.Decides.{nat_tests}
-use Rattle.defs_tree.specs.Tree.{Tree, integer, hash, items_of, pairs_of, list_of, pair_list_of}
-use Rattle.defs_tree.specs.Pairs.{lookup}
-use Rattle.yaml_tree.specs.Node.{value_at_index}
-use Rattle.yaml_tree.specs.View.{view, items_view}
-use Rattle.yaml_tree.specs.declared.yaml.Yaml.{Yaml}
+use Rattle.yaml_tree.proofs.Common.{[], ap, arith, Bool, false, hash, if◌then◌else◌, integer, IsSome, items_of, items_view, length, List, list_of, lookup, nat_lt, nat_tests, None, Option, option_map, pair_list_of, pairs_of, pos, refl, slice_get, subst, suc, sym, Tree, true, value_at_index, view, Yaml, zero, ℕ, ◌++◌, ◌<◌, ◌^◌, ◌∙◌, ◌∷◌, ◌≡◌}
 
 pub length_items_view : (ys : List Yaml) → length (items_view ys) ≡ length ys
 length_items_view [] = refl

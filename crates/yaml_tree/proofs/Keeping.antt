@@ -1,22 +1,8 @@
 -- A row beside its places and digests, after a change.
-use Rattle.std.proofs.Common.{◌≡◌, ℕ, zero, suc, ◌+◌, ◌*◌, ◌<◌, List, [], ◌∷◌, ◌++◌, length, get_or, set, map, refl, sym, subst, arith}
-use Rattle.std.specs.List.{remove}
-use Rattle.std.proofs.lemmas.List.{length-map}
-use Rattle.yaml_hash_index.specs.Blocks.{joined}
-use Rattle.yaml_hash_index.specs.Moves.{closed_up, moved_up}
-use Rattle.defs_tree.specs.Tree.{Tree}
-use Rattle.defs_tree.specs.Pairs.{insert as insert_pair, without}
-use Rattle.yaml_tree.specs.Flat.{flat}
-use Rattle.yaml_tree.specs.Digests.{AreDigests, first_by}
-use Rattle.yaml_tree.specs.Places.{place_of_entry, digest_of_entry, places, digests, IsIndexed}
-use Rattle.yaml_tree.specs.Ranked.{AreRanked, IsHash, IsRank, IsRankGap}
-use Rattle.yaml_tree.specs.View.{view, items_view, pairs_view}
-use Rattle.yaml_tree.specs.declared.ranks.Kept.{Kept}
-use Rattle.yaml_tree.specs.declared.ranks.Kept.TheVariants.{Few, Many}
-use Rattle.yaml_tree.specs.declared.yaml.Yaml.{Yaml}
+use Rattle.yaml_tree.proofs.Common.{[], absent, AreDigests, AreRanked, arith, closed_up, digest_of_entry, digests, Few, first_by, flat, get_or, IsHash, IsIndexed, IsRank, IsRankGap, items_view, joined, Kept, length, length-map, List, Many, map, moved_up, pairs_view, place_of_entry, places, refl, remove, set, subst, suc, sym, Tree, view, without, Yaml, zero, ℕ, ◌*◌, ◌++◌, ◌+◌, ◌<◌, ◌∷◌, ◌≡◌}
+use Rattle.defs_tree.specs.Pairs.{insert as insert_pair}
 use Rattle.yaml_tree.proofs.Indexed.{digests_counted}
 use Rattle.yaml_tree.proofs.Digesting.{digested_value, digested_removed, digested_moved}
-use Rattle.defs_tree.proofs.Places.{absent}
 use Rattle.yaml_tree.proofs.Ranking.{gap_none}
 use Rattle.yaml_tree.proofs.Rows.{made_without, made_moved, made_added, made_value, remove_ranked, seen_as, seen_value}
 

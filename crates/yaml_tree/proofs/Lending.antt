@@ -1,14 +1,6 @@
 -- A value within a node, and the array or hash that holds it.
-use Rattle.std.proofs.Common.{◌≡◌, IsSome, ℕ, zero, suc, ◌<◌, ◌^◌, Bool, true, false, not, T, arith, List, [], ◌∷◌, Option, Some, None, get_or, refl, sym, ap, subst, ◌∙◌}
-use Rattle.std.proofs.lemmas.List.{map-set}
-use Rattle.std.proofs.lemmas.Bool.Decides.{nat_tests}
-use Rattle.std.specs.Prelude.{slice_get, slice_set, pos, nat_lt, if◌then◌else◌}
-use Rattle.defs_tree.specs.Tree.{Tree, string, integer}
-use Rattle.defs_tree.specs.Pairs.{lookup}
-use Rattle.yaml_tree.specs.Node.{value_at_text, value_at_index, is_array, is_hash}
-use Rattle.yaml_tree.specs.View.{view, items_view}
-use Rattle.yaml_tree.specs.declared.yaml.Yaml.{Yaml}
-use Rattle.yaml_tree.specs.declared.yaml.Yaml.TheVariants.{Real, Integer, String, Boolean, Array, Hash, Alias, Null, BadValue}
+use Rattle.yaml_tree.proofs.Common.{[], Alias, ap, arith, Array, BadValue, Bool, Boolean, false, get_or, Hash, if◌then◌else◌, Integer, integer, is_array, is_hash, IsSome, items_view, List, lookup, map-set, nat_lt, nat_tests, None, not, Null, Option, pos, Real, refl, slice_get, slice_set, Some, string, subst, suc, sym, T, Tree, true, value_at_index, value_at_text, view, Yaml, zero, ℕ, ◌<◌, ◌^◌, ◌∙◌, ◌∷◌, ◌≡◌}
+use Rattle.yaml_tree.specs.declared.yaml.Yaml.TheVariants.{String}
 use Rattle.yaml_tree.proofs.ItemsLemmas.{list_of_items, pair_list_of_pairs, at_number}
 
 -- the items, one of which was written over

@@ -18,3 +18,4 @@ pub mod TextOrder
 pub mod WeightLemmas
 pub mod Lending
 pub mod Walking
+mod Common

@@ -1,12 +1,7 @@
 -- Places that stand in one number as its digits to base 16.
-use Rattle.std.proofs.Common.{◌≡◌, ℕ, zero, suc, ◌+◌, ◌-◌, ◌*◌, ◌^◌, ◌<◌, ◌≤◌, ◌/◌, ◌%◌, List, [], ◌∷◌, length, map, get_or, drop, refl, sym, ap, subst, ◌∙◌, arith}
-use Rattle.std.specs.List.{insert, remove}
-use Rattle.std.proofs.lemmas.Bool.Decides.{nat_tests}
-use Rattle.std.proofs.lemmas.List.{drop_more}
 use Rattle.std.proofs.lemmas.Nat.{shr-shr, shr_split, mod-pow-add, pow-add, pow_below, shr_le}
 use Rattle.std.proofs.Math.Nat.{mul_assoc, mul_comm}
-use Rattle.yaml_hash_index.specs.Moves.{closed_up, moved_up}
-use Rattle.yaml_tree.specs.Packed.{digits, unpacked, IsPacked}
+use Rattle.yaml_tree.proofs.Common.{[], ap, arith, closed_up, digits, drop, drop_more, get_or, insert, IsPacked, length, List, map, moved_up, nat_tests, refl, remove, subst, suc, sym, unpacked, zero, ℕ, ◌%◌, ◌*◌, ◌+◌, ◌-◌, ◌/◌, ◌<◌, ◌^◌, ◌∙◌, ◌∷◌, ◌≡◌, ◌≤◌}
 
 pub length_digits : (n w : ℕ) → length (digits n w) ≡ n
 length_digits zero w = refl

@@ -1,10 +1,5 @@
 -- Where a key's pair stands in a list of pairs, and what that says of the list.
-use Rattle.std.proofs.Common.{◌≡◌, IsSome, ℕ, zero, suc, List, [], ◌∷◌, length, Option, Some, None, option_map, Bool, true, false, cond, refl, ap, ◌∙◌, arith}
-use Rattle.std.specs.List.{remove}
-use Rattle.defs_tree.specs.Tree.{Tree}
-use Rattle.defs_tree.specs.Order.{tree_eq}
-use Rattle.defs_tree.specs.Pairs.{last_of, lookup, without, place_of, value_at}
-use Rattle.yaml_tree.specs.Ranked.{key_at}
+use Rattle.yaml_tree.proofs.Common.{[], ap, arith, Bool, cond, false, IsSome, key_at, last_of, length, List, lookup, None, Option, option_map, place_of, refl, remove, Some, suc, Tree, tree_eq, true, value_at, without, zero, ℕ, ◌∙◌, ◌∷◌, ◌≡◌}
 
 -- taking out what stands at the key's place takes out the key's pair
 pub remove_placed : (k : Tree) (us : List (Tree × Tree)) (i : ℕ) → Some i ≡ place_of k us → remove us i ≡ without k us

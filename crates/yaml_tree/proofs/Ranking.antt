@@ -1,22 +1,8 @@
 -- The places of a hash's pairs by rank: what finding, adding, removing and moving a pair does to them.
-use Rattle.std.proofs.Common.{◌≡◌, ◌≢◌, ℕ, zero, suc, ◌+◌, ◌-◌, ◌<◌, ◌≤◌, ◌⊎◌, Bool, true, false, ◌||◌, List, [], ◌∷◌, ◌++◌, length, get_or, map, Less, Equal, Greater, Some, None, option_map, cond, refl, sym, ap, subst, ◌∙◌, inl, inr, arith, eqb}
-use Rattle.std.specs.List.{insert, remove, list_any, IsDistinct, AllByRecursion}
-use Rattle.std.specs.Prelude.{nat_lt}
-use Rattle.std.specs.Ordering.{ordering_reverse}
+use Rattle.std.specs.List.{IsDistinct}
 use Rattle.std.specs.Cmp.{IsTotalOrder}
-use Rattle.std.proofs.lemmas.Bool.{cases_lt, false_from_ne_true, eqb-true}
-use Rattle.std.proofs.lemmas.Bool.Decides.{nat_tests}
-use Rattle.std.proofs.lemmas.Cmp.{tied_itself, nat_cmp_total, on_total, then_total}
-use Rattle.std.proofs.lemmas.List.{get_or-map}
-use Rattle.std.proofs.lemmas.List.Edits.{length-insert, length-remove, get_or-insert_below, get_or-insert_at, get_or-insert_above, get_or-remove_below, get_or-remove_above}
 use Rattle.std.proofs.lemmas.Map.Steps.{length-le_from_distinct_below}
-use Rattle.defs_tree.specs.Tree.{Tree}
-use Rattle.defs_tree.specs.Order.{tree_eq}
-use Rattle.defs_tree.specs.Pairs.{place_of, with_value_at, Lacks, AreDistinct}
-use Rattle.defs_tree.proofs.OrderLaws.{tree_cmp_total}
-use Rattle.defs_tree.proofs.PairsLaws.{tree_eq-itself, tree_eq-other}
-use Rattle.yaml_tree.specs.Ranked.{key_at, key_of_rank, key_cmp, AreRanked, IsRank, IsRankGap}
-use Rattle.yaml_hash_index.specs.Moves.{closed_up, moved_up}
+use Rattle.yaml_tree.proofs.Common.{[], AllByRecursion, ap, AreDistinct, AreRanked, arith, Bool, cases_lt, closed_up, cond, eqb, eqb-true, Equal, false, false_from_ne_true, get_or, get_or-insert_above, get_or-insert_at, get_or-insert_below, get_or-map, get_or-remove_above, get_or-remove_below, Greater, inl, inr, insert, IsRank, IsRankGap, key_at, key_cmp, key_of_rank, Lacks, length, length-insert, length-remove, Less, List, list_any, map, moved_up, nat_cmp_total, nat_lt, nat_tests, None, on_total, option_map, ordering_reverse, place_of, refl, remove, Some, subst, suc, sym, then_total, tied_itself, Tree, tree_cmp_total, tree_eq, tree_eq-itself, tree_eq-other, true, with_value_at, zero, ℕ, ◌++◌, ◌+◌, ◌-◌, ◌<◌, ◌||◌, ◌∙◌, ◌∷◌, ◌≡◌, ◌≢◌, ◌≤◌, ◌⊎◌}
 
 abbrev pub Pairs : Type 0
 Pairs = List (Tree × Tree)

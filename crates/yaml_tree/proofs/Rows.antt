@@ -1,16 +1,7 @@
 -- A row of keys and values beside its ranks.
-use Rattle.std.proofs.Common.{◌≡◌, ℕ, ◌+◌, ◌*◌, ◌<◌, List, [], ◌∷◌, ◌++◌, length, get_or, set, map, Some, None, refl, sym, ap, subst, ◌∙◌, arith}
-use Rattle.std.specs.List.{remove}
-use Rattle.defs_tree.specs.Tree.{Tree}
-use Rattle.defs_tree.specs.Pairs.{insert as insert_pair, lookup, without, place_of, with_value_at, AreDistinct}
-use Rattle.defs_tree.proofs.PairsLaws.{AreDistinct-without, AreDistinct_insert}
-use Rattle.yaml_tree.specs.Flat.{flat}
-use Rattle.yaml_tree.specs.Ranked.{key_at, key_of_rank, AreRanked, IsHash, IsRank, IsRankGap}
-use Rattle.yaml_hash_index.specs.Moves.{closed_up, moved_up}
-use Rattle.yaml_tree.specs.View.{view, items_view, pairs_view}
-use Rattle.yaml_tree.specs.declared.yaml.Yaml.{Yaml}
+use Rattle.yaml_tree.proofs.Common.{[], absent, ap, AreDistinct, AreDistinct-with_value_at, AreDistinct-without, AreDistinct_insert, AreRanked, arith, closed_up, flat, get_or, IsHash, IsRank, IsRankGap, items_view, key_at, key_of_rank, length, List, lookup, map, moved_up, None, pairs_view, place_in, place_of, refl, remove, set, Some, subst, sym, Tree, view, with_value_at, without, Yaml, ℕ, ◌*◌, ◌++◌, ◌+◌, ◌<◌, ◌∙◌, ◌∷◌, ◌≡◌}
+use Rattle.defs_tree.specs.Pairs.{insert as insert_pair}
 use Rattle.yaml_tree.proofs.Flattened.{pairs_from, even_from, row_length, key_seen, value_seen, taken, added, value_set}
-use Rattle.defs_tree.proofs.Places.{place_in, absent, AreDistinct-with_value_at}
 use Rattle.yaml_tree.proofs.Placed.{remove_placed}
 use Rattle.yaml_tree.proofs.Ranking.{place_some, gap_none, ranked_moved, ranked_removed, ranked_value}
 

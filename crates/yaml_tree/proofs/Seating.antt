@@ -1,18 +1,7 @@
 -- What a row and its places are ready for.
-use Rattle.std.proofs.Common.{◌≡◌, ℕ, ◌*◌, List, [], ◌∷◌, ◌++◌, length, get_or, map, None, refl, ap, ◌∙◌}
-use Rattle.std.specs.List.{remove}
-use Rattle.defs_tree.specs.Tree.{Tree}
-use Rattle.defs_tree.specs.Pairs.{insert as insert_pair, lookup}
-use Rattle.defs_tree.proofs.Places.{absent}
-use Rattle.yaml_hash_index.specs.Moves.{moved_up}
-use Rattle.yaml_tree.specs.Digests.{AreDigests, first_by}
-use Rattle.yaml_tree.specs.Flat.{flat}
-use Rattle.yaml_tree.specs.Places.{places, digests, IsIndexed}
-use Rattle.yaml_tree.specs.Ranked.{AreRanked, IsRank, IsRankGap}
+use Rattle.yaml_tree.proofs.Common.{[], absent, ap, AreDigests, AreRanked, digests, first_by, flat, get_or, IsIndexed, IsRank, IsRankGap, items_view, Kept, length, List, lookup, map, moved_up, None, pairs_view, places, refl, remove, Tree, view, Yaml, ℕ, ◌*◌, ◌++◌, ◌∙◌, ◌∷◌, ◌≡◌}
+use Rattle.defs_tree.specs.Pairs.{insert as insert_pair}
 use Rattle.yaml_tree.specs.Seats.{IsInserted, IsReady, IsReadyWithout}
-use Rattle.yaml_tree.specs.View.{view, items_view, pairs_view}
-use Rattle.yaml_tree.specs.declared.ranks.Kept.{Kept}
-use Rattle.yaml_tree.specs.declared.yaml.Yaml.{Yaml}
 use Rattle.yaml_tree.proofs.Keeping.{indexed_moved, indexed_added}
 use Rattle.yaml_tree.proofs.Rows.{IsFound, placed, ranked_place, gap_place, row_added, row_exchanged, seen_as}
 

@@ -1,15 +1,5 @@
 -- The pairs of a short hash, put one by one in the order of their digests.
-use Rattle.std.proofs.Common.{◌≡◌, ℕ, zero, suc, ◌+◌, ◌<◌, ◌≤◌, ◌⊎◌, List, length, get_or, map, Less, refl, sym, ap, subst, ◌∙◌, inl, inr, arith}
-use Rattle.std.specs.List.{insert}
-use Rattle.std.proofs.lemmas.Bool.{cases_lt}
-use Rattle.std.proofs.lemmas.List.{length-map}
-use Rattle.std.proofs.lemmas.List.Edits.{length-insert, get_or-insert_below, get_or-insert_at, get_or-insert_above}
-use Rattle.yaml_hash_index.specs.Edges.{digest_at, AreRising}
-use Rattle.yaml_hash_index.specs.declared.entry.Entry.{Entry}
-use Rattle.defs_tree.specs.Order.{tree_cmp}
-use Rattle.yaml_tree.specs.Digests.{digest, AreDigests}
-use Rattle.yaml_tree.specs.Places.{place_of_entry, digest_of_entry}
-use Rattle.yaml_tree.specs.Ranked.{key_at, key_of_rank, key_cmp, AreRanked}
+use Rattle.yaml_tree.proofs.Common.{ap, AreDigests, AreRanked, AreRising, arith, cases_lt, digest, digest_at, digest_of_entry, Entry, get_or, get_or-insert_above, get_or-insert_at, get_or-insert_below, inl, inr, insert, key_at, key_cmp, key_of_rank, length, length-insert, length-map, Less, List, map, place_of_entry, refl, subst, suc, sym, tree_cmp, zero, ℕ, ◌+◌, ◌<◌, ◌∙◌, ◌≡◌, ◌≤◌, ◌⊎◌}
 use Rattle.yaml_tree.proofs.Digesting.{lower_digest, same_digest, numbers_rise}
 use Rattle.yaml_tree.proofs.Indexed.{digest_mapped}
 use Rattle.yaml_tree.proofs.Ranking.{Pairs, sides}

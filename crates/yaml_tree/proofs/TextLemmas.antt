@@ -1,8 +1,6 @@
 -- Strings and the characters that clauses see.
-use Rattle.std.proofs.Common.{◌≡◌, ℕ, List, ap}
-use Rattle.std.specs.Prelude.{String, string_bytes}
 use Rattle.std.specs.Str.{chars}
-use Rattle.defs_text.specs.Text.{string_chars}
+use Rattle.yaml_tree.proofs.Common.{ap, List, String, string_bytes, string_chars, ℕ, ◌≡◌}
 
 -- strings of the same bytes have the same characters
 pub same_chars : {A B : Type 0} (s : String A) (t : String B) → string_bytes s ≡ string_bytes t → string_chars s ≡ string_chars t

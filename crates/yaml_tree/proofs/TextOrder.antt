@@ -1,14 +1,7 @@
 -- Texts compared by their bytes are compared by their characters.
-use Rattle.std.proofs.Common.{◌≡◌, ℕ, ◌+◌, ◌<◌, ◌≤◌, ◌/◌, ◌%◌, ◌⊎◌, List, [], ◌∷◌, ◌++◌, Ordering, Less, Equal, Greater, nat_cmp, refl, sym, ap, ◌∙◌, inl, inr, arith}
-use Rattle.std.specs.Prelude.{String, string_bytes, Bool, true, false, nat_lt}
 use Rattle.std.specs.Char.{encode_utf8}
-use Rattle.std.specs.Str.{encode_utf8_all, chars, IsUtf8}
-use Rattle.std.proofs.lemmas.Bool.Decides.{nat_tests}
-use Rattle.std.proofs.lemmas.Str.{encodes-chars, IsUtf8-string_bytes}
-use Rattle.std.specs.Ordering.{ordering_then, ordering_reverse}
-use Rattle.std.specs.Cmp.Lexicographic.{slice_cmp}
-use Rattle.std.proofs.lemmas.Cmp.{nat_list_cmp_total}
-use Rattle.defs_text.specs.Text.{string_chars}
+use Rattle.std.specs.Str.{chars}
+use Rattle.yaml_tree.proofs.Common.{[], ap, arith, Bool, encode_utf8_all, encodes-chars, Equal, false, Greater, inl, inr, IsUtf8, IsUtf8-string_bytes, Less, List, nat_cmp, nat_list_cmp_total, nat_lt, nat_tests, Ordering, ordering_reverse, ordering_then, refl, slice_cmp, String, string_bytes, string_chars, sym, true, ℕ, ◌%◌, ◌++◌, ◌+◌, ◌/◌, ◌<◌, ◌∙◌, ◌∷◌, ◌≡◌, ◌≤◌, ◌⊎◌}
 
 abbrev cmp : List ℕ → List ℕ → Ordering
 cmp = slice_cmp nat_cmp

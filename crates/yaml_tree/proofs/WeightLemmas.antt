@@ -1,8 +1,6 @@
 -- What is left of a tree that is taken apart grows less.
-use Rattle.std.proofs.Common.{◌≡◌, ◌≢◌, ℕ, suc, ◌+◌, ◌<◌, ◌≤◌, List, [], ◌∷◌, ◌++◌, refl, sym, ap, arith}
-use Rattle.defs_tree.specs.Tree.{Tree, array, hash, Items, no_items, item, Pairs, no_pairs, pair, items_of, list_of, pair_list_of}
-use Rattle.yaml_tree.specs.Flat.{flat}
-use Rattle.yaml_tree.specs.Weight.{nodes, items_nodes, pairs_nodes, chain, items_chain, pairs_chain, weight, parts, with_last, items_with_last}
+use Rattle.yaml_tree.proofs.Common.{[], ap, arith, array, chain, flat, hash, item, Items, items_chain, items_nodes, items_of, items_with_last, List, list_of, no_items, no_pairs, nodes, pair, pair_list_of, pairs_chain, pairs_nodes, parts, refl, suc, sym, Tree, weight, with_last, ℕ, ◌++◌, ◌+◌, ◌<◌, ◌∷◌, ◌≡◌, ◌≢◌, ◌≤◌}
+use Rattle.defs_tree.specs.Tree.{Pairs}
 
 -- ---- nodes and chains
 

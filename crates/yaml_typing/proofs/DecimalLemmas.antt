@@ -1,12 +1,5 @@
 -- Digits, as the code reads them: from left to right.
-use Rattle.std.proofs.Common.{◌≡◌, ℕ, List, [], ◌∷◌, Bool, true, false, ◌&&◌, refl}
-use Rattle.std.specs.Prelude.{if◌then◌else◌}
-use Rattle.std.specs.Char.{is_ascii_digit}
-use Rattle.std.specs.List.{list_all}
-use Rattle.defs_text.specs.Text.{is_empty}
-use Rattle.defs_tree.specs.Grammar.{at_least_one}
-use Rattle.defs_tree.proofs.GrammarLaws.{after_all}
-use Rattle.defs_tree.proofs.DecimalReading.{begins_in}
+use Rattle.yaml_typing.proofs.Common.{[], after_all, at_least_one, begins_in, Bool, false, if◌then◌else◌, is_ascii_digit, is_empty, List, list_all, refl, true, ℕ, ◌&&◌, ◌∷◌, ◌≡◌}
 
 pub all_after : (p : ℕ → Bool) (t : List ℕ) → list_all p t ≡ is_empty (after_all p t)
 all_after p [] = refl

@@ -1,19 +1,5 @@
 -- What the first byte of a text tells of what it stands for.
-use Rattle.std.proofs.Common.{◌≡◌, ℕ, List, [], ◌∷◌, Bool, true, false, ◌&&◌, ◌||◌, Some, None, refl, ap, subst, ◌∙◌, arith}
-use Rattle.std.specs.Prelude.{pos, neg_ℤ, ◌==◌, if◌then◌else◌, option_map, option_and_then, is_none, bytes_eq, codes}
-use Rattle.std.specs.Char.{is_ascii_digit}
-use Rattle.std.specs.List.{list_all}
-use Rattle.std.specs.Str.Parse.{digits_value}
-use Rattle.std.proofs.lemmas.Bool.{and_parts}
-use Rattle.std.proofs.lemmas.Bool.Decides.{nat_tests}
-use Rattle.std.proofs.lemmas.Slice.Eq.{bytes_eq-Decides}
-use Rattle.defs_tree.specs.Grammar.{is_among}
-use Rattle.defs_tree.specs.Tree.{Tree, string, integer, real, boolean, null}
-use Rattle.defs_tree.specs.Typing.{typing, rows, where_true, is_digit, is_sign, is_point, is_plus, is_minus, number, signed_number, fits_i64, after_prefix, is_decimal, null_words, true_words, false_words, special_words}
-use Rattle.defs_tree.proofs.DecimalReading.{begins_in, reads_exponent, reads_on, reads_unsigned, is_decimal-read}
-use Rattle.defs_tree.proofs.GrammarLaws.{after_all}
-use Rattle.defs_tree.proofs.TypingLaws.{strings_exactly}
-use Rattle.yaml_typing.specs.Values.{begins_value, begins_word}
+use Rattle.yaml_typing.proofs.Common.{[], after_all, after_prefix, and_parts, ap, arith, begins_in, begins_value, begins_word, Bool, boolean, bytes_eq, bytes_eq-Decides, codes, digits_value, false, false_words, fits_i64, if◌then◌else◌, integer, is_among, is_ascii_digit, is_decimal, is_decimal-read, is_digit, is_minus, is_none, is_plus, is_point, is_sign, List, list_all, nat_tests, neg_ℤ, None, null, null_words, number, option_and_then, option_map, pos, reads_exponent, reads_on, reads_unsigned, real, refl, rows, signed_number, Some, special_words, string, strings_exactly, subst, Tree, true, true_words, typing, where_true, ℕ, ◌&&◌, ◌==◌, ◌||◌, ◌∙◌, ◌∷◌, ◌≡◌}
 
 true_no_false : (b : Bool) → b ≡ true → b ≡ false → ⊥
 true_no_false b e f = cc

@@ -3,3 +3,4 @@ pub mod FirstByte
 pub mod TableByFirst
 pub mod TypingLemmas
 pub mod WideTexts
+mod Common

@@ -1,28 +1,12 @@
 -- The table of plain texts, read by the first byte of a text: which of its rows may fit.
-use Rattle.std.proofs.Common.{◌≡◌, ℕ, ◌+◌, ◌-◌, ◌*◌, ◌^◌, ◌<◌, ◌≤◌, take, List, [], ◌∷◌, length, get_or, Bool, true, false, not, ◌&&◌, ◌||◌, Option, Some, None, refl, sym, ap, subst, ◌∙◌, ◌⊎◌, inl, inr, arith}
-use Rattle.std.specs.Prelude.{ℤ, pos, neg_ℤ, nat_lt, ◌==◌, if◌then◌else◌, option_map, option_and_then, unwrap_or, bytes_eq, codes}
-use Rattle.std.specs.Char.{digit_value, is_ascii_digit}
-use Rattle.std.specs.List.{list_all}
-use Rattle.std.specs.Str.Parse.{digits_value}
 use Rattle.std.specs.Option.{option_or}
 use Rattle.std.specs.Int.{IsInRange}
-use Rattle.std.specs.Str.{chars, IsUtf8, all_ascii_digits}
 use Rattle.std.proofs.lemmas.Int.Digits.{digits_value_more}
 use Rattle.std.proofs.lemmas.Str.Parse.{IsNumeralModel, numerals_by_value, tells_all_ascii_digits, digits_value_short, digits_value-take-le, digit_at}
-use Rattle.std.proofs.lemmas.Bool.{and_parts, and_from, false≢true}
-use Rattle.std.proofs.lemmas.Bool.Decides.{nat_tests}
-use Rattle.std.proofs.lemmas.Slice.Eq.{bytes_eq-Decides}
-use Rattle.std.proofs.lemmas.Str.{chars-IsAscii}
-use Rattle.defs_text.specs.Text.{is_empty}
-use Rattle.defs_tree.specs.Grammar.{is_among}
-use Rattle.defs_tree.specs.Tree.{Tree, string, integer, real, boolean, null}
-use Rattle.defs_tree.specs.Typing.{typing, is_string, where_true, is_digit, is_sign, is_plus, is_minus, number, signed_number, fits_i64, after_prefix, is_decimal, null_words, true_words, false_words, special_words}
-use Rattle.defs_tree.proofs.DecimalReading.{begins_in, reads_on, reads_unsigned, is_decimal-read}
-use Rattle.defs_tree.proofs.GrammarLaws.{after_all, list_all-more}
+use Rattle.yaml_typing.proofs.Common.{[], after_all, after_prefix, all_ascii_digits, and_from, and_parts, ap, arith, begins_in, begins_value, Bool, boolean, bytes_eq, bytes_eq-Decides, chars, chars-IsAscii, codes, digit_value, digits_value, false, false_words, false≢true, fits_i64, get_or, if◌then◌else◌, inl, inr, integer, is_among, is_ascii_digit, is_decimal, is_decimal-read, is_digit, is_empty, is_minus, is_plus, is_sign, is_string, IsUtf8, length, List, list_all, list_all-more, nat_lt, nat_tests, neg_ℤ, None, not, null, null_words, number, Option, option_and_then, option_map, pos, reads_on, reads_unsigned, real, refl, signed_number, Some, special_words, string, subst, sym, take, Tree, true, true_words, typing, unwrap_or, where_true, ℕ, ℤ, ◌&&◌, ◌*◌, ◌+◌, ◌-◌, ◌<◌, ◌==◌, ◌^◌, ◌||◌, ◌∙◌, ◌∷◌, ◌≡◌, ◌≤◌, ◌⊎◌}
 use Rattle.yaml_typing.specs.Meanings.{meant, string_or, integer_or}
 use Rattle.yaml_typing.specs.declared.typing.Meaning.{Meaning}
 use Rattle.yaml_typing.specs.declared.typing.Meaning.TheVariants as meaning
-use Rattle.yaml_typing.specs.Values.{begins_value}
 use Rattle.yaml_typing.proofs.DecimalLemmas.{all_after}
 use Rattle.yaml_typing.proofs.FirstByte.{typing_itself}
 use Rattle.yaml_typing.proofs.WideTexts.{low, Wide, low_at, low_bytes, typing-wide}

@@ -1,13 +1,8 @@
 -- What a plain text stands for: the code's way of reading it.
-use Rattle.std.proofs.Common.{◌≡◌, ℕ, List, [], ◌∷◌, ◌++◌, ◌≢◌, drop, Bool, true, false, Some, None, Result, Ok, Err, refl, sym, ap, ◌∙◌, arith}
-use Rattle.std.specs.Prelude.{ℤ, ◌==◌, if◌then◌else◌}
 use Rattle.std.specs.Result.{result_ok}
 use Rattle.std.specs.Str.Pattern.{LacksTextAt, FindsTextPrefix, StripsPrefix}
-use Rattle.std.specs.Str.Parse.{ParsesSigned}
-use Rattle.std.proofs.lemmas.Bool.Decides.{nat_tests}
+use Rattle.yaml_typing.proofs.Common.{[], after_prefix, ap, arith, Bool, drop, Err, false, if◌then◌else◌, is_decimal, is_decimal-read, List, nat_tests, None, Ok, ParsesSigned, reads_decimal, refl, Result, signed_number, Some, sym, true, ℕ, ℤ, ◌++◌, ◌==◌, ◌∙◌, ◌∷◌, ◌≡◌, ◌≢◌}
 use mir.Syntax.{w64}
-use Rattle.defs_tree.specs.Typing.{signed_number, after_prefix, is_decimal}
-use Rattle.defs_tree.proofs.DecimalReading.{reads_decimal, is_decimal-read}
 use Rattle.defs_tree.proofs.Parsing as parsing
 
 -- the decimal grammar is read from left to right

@@ -1,18 +1,6 @@
 -- A text with a character that is not ASCII stands for the string of itself.
-use Rattle.std.proofs.Common.{◌≡◌, ℕ, zero, suc, ◌<◌, ◌≤◌, List, [], ◌∷◌, Bool, true, false, ◌&&◌, ◌||◌, Option, Some, None, refl, sym, ap, subst, ◌∙◌, arith}
-use Rattle.std.specs.Prelude.{ℤ, pos, neg_ℤ, nat_lt, ◌==◌, if◌then◌else◌, option_map, option_and_then, is_none, bytes_eq, slice_index, codes}
-use Rattle.std.specs.List.{list_all}
-use Rattle.std.specs.Str.{chars, IsAscii, IsNotAscii, IsUtf8}
-use Rattle.std.proofs.lemmas.Bool.{and_parts, and_from}
-use Rattle.std.proofs.lemmas.Bool.Decides.{nat_tests}
-use Rattle.std.proofs.lemmas.Slice.Eq.{bytes_eq-Decides}
-use Rattle.std.proofs.lemmas.Str.{encodes-chars, encodes-IsAscii}
-use Rattle.defs_tree.specs.Grammar.{at_least_one, is_among}
-use Rattle.defs_tree.specs.Tree.{Tree, string, integer, real, boolean, null}
-use Rattle.defs_tree.specs.Typing.{typing, rows, where_true, is_digit, is_plus, is_minus, number, with_sign, signed_number, fits_i64, after_prefix, is_decimal, null_words, true_words, false_words, special_words}
-use Rattle.defs_tree.proofs.GrammarLaws.{list_all-more}
+use Rattle.yaml_typing.proofs.Common.{[], after_prefix, and_from, and_parts, ap, arith, at_least_one, Bool, boolean, bytes_eq, bytes_eq-Decides, chars, codes, encodes-chars, encodes-IsAscii, false, false_words, fits_i64, if◌then◌else◌, integer, is_among, is_decimal, is_digit, is_minus, is_none, is_plus, IsAscii, IsNotAscii, IsUtf8, List, list_all, list_all-more, nat_lt, nat_tests, neg_ℤ, None, null, null_words, number, Option, option_and_then, option_map, pos, real, refl, rows, signed_number, slice_index, Some, special_words, string, strings_exactly, subst, suc, sym, Tree, true, true_words, typing, where_true, with_sign, zero, ℕ, ℤ, ◌&&◌, ◌<◌, ◌==◌, ◌||◌, ◌∙◌, ◌∷◌, ◌≡◌, ◌≤◌}
 use Rattle.defs_tree.proofs.RealTexts.{is_real_character, decimal-characters}
-use Rattle.defs_tree.proofs.TypingLaws.{strings_exactly}
 
 -- all characters are ASCII
 abbrev pub low : List ℕ → Bool

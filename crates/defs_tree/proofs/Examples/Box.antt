@@ -1,11 +1,6 @@
 -- The texts that `dump` writes, worked: the first flag is compact, the second multiline.
-use Rattle.std.specs.Prelude.{◌≡◌, pos, true, false, [], ◌∷◌, ◌++◌, codes}
 use Rattle.std.specs.Fmt.{digits}
-use Rattle.defs_tree.specs.Tree.{real, integer, string, boolean, array, hash, alias, null, bad_value, no_items, item, no_pairs, pair}
-use Rattle.defs_tree.specs.Typing.{typing, is_decimal}
-use Rattle.defs_tree.specs.Escapes.{written_character}
-use Rattle.defs_tree.specs.Quoting.{is_quoted, is_unfit_for_plain}
-use Rattle.defs_tree.specs.Literal.{is_literal_text, is_root_literal, is_literal_character}
+use Rattle.defs_tree.proofs.Common.{[], alias, array, bad_value, boolean, codes, false, hash, integer, is_decimal, is_literal_character, is_literal_text, is_quoted, is_root_literal, is_unfit_for_plain, item, no_items, no_pairs, null, pair, pos, real, string, true, typing, written_character, ◌++◌, ◌∷◌, ◌≡◌}
 use Rattle.defs_tree.specs.DumpText.{dump_text}
 
 record Rows : Type 0 where

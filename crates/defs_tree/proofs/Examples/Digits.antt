@@ -1,6 +1,5 @@
 -- Numbers of binary digits, worked.
-use Rattle.std.specs.Prelude.{◌≡◌}
-use Rattle.defs_tree.specs.Digits.{binary_digits}
+use Rattle.defs_tree.proofs.Common.{binary_digits, ◌≡◌}
 
 record Rows : Type 0 where
   digits_of_0 : binary_digits 0 ≡ 0

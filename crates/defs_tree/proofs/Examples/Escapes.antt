@@ -1,6 +1,5 @@
 -- Texts in double quotes, worked.
-use Rattle.std.specs.Prelude.{◌≡◌, [], ◌∷◌, codes}
-use Rattle.defs_tree.specs.Escapes.{double_quoted, written_character}
+use Rattle.defs_tree.proofs.Common.{[], codes, double_quoted, written_character, ◌∷◌, ◌≡◌}
 
 record Rows : Type 0 where
   plain_letters : double_quoted (codes "ab") ≡ codes "\"ab\""

@@ -1,7 +1,5 @@
 -- Texts and their lines, worked, and the same as std's `lines` gives them.
-use Rattle.std.specs.Prelude.{◌≡◌, [], ◌∷◌, codes}
-use Rattle.std.specs.Str.Lines.{lines}
-use Rattle.defs_tree.specs.Lines.{lines_of}
+use Rattle.defs_tree.proofs.Common.{[], codes, lines, lines_of, ◌∷◌, ◌≡◌}
 
 record Rows : Type 0 where
   no_line : lines_of (codes "") ≡ []

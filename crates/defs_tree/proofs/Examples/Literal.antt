@@ -1,6 +1,5 @@
 -- Which texts may be literal blocks, worked: for each condition one in and one out.
-use Rattle.std.specs.Prelude.{◌≡◌, true, false, [], ◌∷◌, codes}
-use Rattle.defs_tree.specs.Literal.{is_literal_text, is_root_literal, is_literal_character, literal_header}
+use Rattle.defs_tree.proofs.Common.{[], codes, false, is_literal_character, is_literal_text, is_root_literal, literal_header, true, ◌∷◌, ◌≡◌}
 
 record Rows : Type 0 where
   two_lines : is_literal_text (codes "a\nb") ≡ true

@@ -1,6 +1,5 @@
 -- The decimal grammar, real texts and signed decimal numbers, worked.
-use Rattle.std.specs.Prelude.{◌≡◌, pos, negsuc, true, false, Some, None, codes}
-use Rattle.defs_tree.specs.Typing.{typing, is_decimal, is_real_text, signed_decimal}
+use Rattle.defs_tree.proofs.Common.{codes, false, is_decimal, is_real_text, negsuc, None, pos, signed_decimal, Some, true, typing, ◌≡◌}
 
 record Rows : Type 0 where
   decimal_grammar_decimal_digits : is_decimal (codes "12") ≡ true

@@ -1,8 +1,5 @@
 -- Trees compared, worked.
-use Rattle.std.specs.Prelude.{◌≡◌, pos, negsuc, true, false, [], ◌∷◌, refl, codes}
-use Rattle.std.specs.declared.cmp.Ordering.TheVariants.{Less, Equal, Greater}
-use Rattle.defs_tree.specs.Tree.{real, integer, string, boolean, array, hash, alias, null, bad_value, no_items, item, no_pairs, pair}
-use Rattle.defs_tree.specs.Order.{tree_cmp}
+use Rattle.defs_tree.proofs.Common.{[], alias, array, bad_value, boolean, codes, Equal, false, Greater, hash, integer, item, Less, negsuc, no_items, no_pairs, null, pair, pos, real, refl, string, tree_cmp, true, ◌∷◌, ◌≡◌}
 
 real_before_integer : tree_cmp (real (codes "z")) (integer (negsuc 8)) ≡ Less
 real_before_integer = refl

@@ -1,7 +1,5 @@
 -- Trees laid over one another, worked.
-use Rattle.std.specs.Prelude.{◌≡◌, pos, refl, codes}
-use Rattle.defs_tree.specs.Tree.{integer, string, array, hash, null, bad_value, no_items, item, no_pairs, pair}
-use Rattle.defs_tree.specs.Overlay.{overlay}
+use Rattle.defs_tree.proofs.Common.{array, bad_value, codes, hash, integer, item, no_items, no_pairs, null, overlay, pair, pos, refl, string, ◌≡◌}
 
 shared_hashes_are_laid_over_one_another : overlay (hash (pair (string (codes "a")) (integer (pos 1)) (pair (string (codes "b")) (hash (pair (string (codes "c")) (integer (pos 2)) no_pairs)) no_pairs))) (hash (pair (string (codes "b")) (hash (pair (string (codes "d")) (integer (pos 3)) no_pairs)) (pair (string (codes "e")) (integer (pos 4)) no_pairs))) ≡ hash (pair (string (codes "a")) (integer (pos 1)) (pair (string (codes "b")) (hash (pair (string (codes "c")) (integer (pos 2)) (pair (string (codes "d")) (integer (pos 3)) no_pairs))) (pair (string (codes "e")) (integer (pos 4)) no_pairs)))
 shared_hashes_are_laid_over_one_another = refl

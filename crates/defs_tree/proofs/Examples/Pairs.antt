@@ -1,7 +1,5 @@
 -- Lists of pairs, worked.
-use Rattle.std.specs.Prelude.{◌≡◌, pos, [], ◌∷◌, Some, None, refl, codes}
-use Rattle.defs_tree.specs.Tree.{real, integer, string, array, null, bad_value, no_items, item}
-use Rattle.defs_tree.specs.Pairs.{lookup, insert, without, place_of, value_at, with_value_at, with_value, last_of}
+use Rattle.defs_tree.proofs.Common.{[], array, bad_value, codes, insert, integer, item, last_of, lookup, no_items, None, null, place_of, pos, real, refl, Some, string, value_at, with_value, with_value_at, without, ◌∷◌, ◌≡◌}
 
 insert_moves_a_key_to_the_end : insert (string (codes "a")) (integer (pos 3)) ((string (codes "a"), integer (pos 1)) ∷ (string (codes "b"), integer (pos 2)) ∷ []) ≡ (string (codes "b"), integer (pos 2)) ∷ (string (codes "a"), integer (pos 3)) ∷ []
 insert_moves_a_key_to_the_end = refl

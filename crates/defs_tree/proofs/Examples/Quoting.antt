@@ -1,7 +1,5 @@
 -- Which strings are written in double quotes, worked: for each reason one in, and one out beside its limit.
-use Rattle.std.specs.Prelude.{◌≡◌, true, false, [], ◌∷◌, codes}
-use Rattle.defs_tree.specs.Typing.{typing, is_decimal}
-use Rattle.defs_tree.specs.Quoting.{is_quoted, is_unfit_for_plain}
+use Rattle.defs_tree.proofs.Common.{[], codes, false, is_decimal, is_quoted, is_unfit_for_plain, true, typing, ◌∷◌, ◌≡◌}
 
 record Rows : Type 0 where
   empty_text : is_quoted (codes "") ≡ true

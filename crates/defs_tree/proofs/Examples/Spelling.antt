@@ -1,11 +1,6 @@
 -- How scalars are spelt, worked.
-use Rattle.std.specs.Prelude.{◌≡◌, pos, negsuc, true, false, [], ◌∷◌, codes}
 use Rattle.std.specs.Fmt.{digits}
-use Rattle.defs_tree.specs.Tree.{real, integer, string, boolean, array, hash, alias, null, bad_value, no_items, no_pairs}
-use Rattle.defs_tree.specs.Typing.{typing, is_decimal}
-use Rattle.defs_tree.specs.Escapes.{written_character}
-use Rattle.defs_tree.specs.Quoting.{is_quoted, is_unfit_for_plain}
-use Rattle.defs_tree.specs.Spelling.{spelling}
+use Rattle.defs_tree.proofs.Common.{[], alias, array, bad_value, boolean, codes, false, hash, integer, is_decimal, is_quoted, is_unfit_for_plain, negsuc, no_items, no_pairs, null, pos, real, spelling, string, true, typing, written_character, ◌∷◌, ◌≡◌}
 
 record Rows : Type 0 where
   null_is_a_tilde : spelling null ≡ codes "~"

@@ -1,7 +1,5 @@
 -- What texts stand for, worked.
-use Rattle.std.specs.Prelude.{◌≡◌, pos, negsuc, true, false, codes}
-use Rattle.defs_tree.specs.Tree.{real, integer, string, boolean, null}
-use Rattle.defs_tree.specs.Typing.{typing, is_decimal}
+use Rattle.defs_tree.proofs.Common.{boolean, codes, false, integer, is_decimal, negsuc, null, pos, real, string, true, typing, ◌≡◌}
 
 record Rows : Type 0 where
   hexadecimal_is_read : typing (codes "0x2A") ≡ integer (pos 42)

@@ -1,11 +1,5 @@
 -- Which trees are writable, and which meet what every tree meets, worked: for each condition one in and one out.
-use Rattle.std.proofs.Common.{◌≡◌, ℕ, ◌≤◌, List, true, false, refl, ap, arith}
-use Rattle.std.specs.Prelude.{pos, negsuc, codes, replicate, length}
-use Rattle.defs_tree.specs.Tree.{real, integer, string, boolean, array, hash, alias, null, bad_value, no_items, item, no_pairs, pair}
-use Rattle.defs_tree.specs.Typing.{typing, is_decimal}
-use Rattle.defs_tree.specs.Writable.{IsWritable, IsShortKey, levels}
-use Rattle.defs_tree.specs.Valid.{IsDistinct, FitsI64}
-use Rattle.defs_tree.specs.Spelling.{spelling}
+use Rattle.defs_tree.proofs.Common.{alias, ap, arith, array, bad_value, boolean, codes, false, FitsI64, hash, integer, is_decimal, IsDistinct, IsShortKey, IsWritable, item, length, levels, List, negsuc, no_items, no_pairs, null, pair, pos, real, refl, replicate, spelling, string, true, typing, ℕ, ◌≡◌, ◌≤◌}
 use Rattle.defs_tree.proofs.Letters.{letters_spelling}
 
 -- ---- levels

@@ -1,12 +1,6 @@
 -- Flow collections and their tokens.
-use Rattle.std.specs.Prelude.{ℕ, List, [], ◌∷◌, Result, Ok, Err, ◌≡◌, codes}
-use Rattle.defs_token.specs.Token.{Tok, Style, Token}
-use Rattle.yaml_tokens.specs.declared.problem.Fault.{Fault}
-use Rattle.yaml_tokens.specs.declared.problem.Fault.TheVariants.{At}
-use Rattle.yaml_tokens.specs.declared.problem.Problem.{Problem}
+use Rattle.model_scanner.proofs.Common.{[], At, codes, Err, Fault, List, Ok, Problem, Result, scan, Style, Tok, Token, token, ℕ, ◌∷◌, ◌≡◌}
 use Rattle.yaml_tokens.specs.declared.problem.Problem.TheVariants as problem
-use Rattle.model_scanner.specs.State.{token}
-use Rattle.model_scanner.specs.Run.{scan}
 use Rattle.model_scanner.proofs.OnLiterals.{scan_on_literals}
 
 abbrev at : ℕ → ℕ → ℕ → Tok → Token

@@ -1,8 +1,5 @@
 -- Documents, plain and quoted scalars, and their tokens.
-use Rattle.std.specs.Prelude.{ℕ, [], ◌∷◌, Ok, ◌≡◌, codes}
-use Rattle.defs_token.specs.Token.{Tok, Style, Token}
-use Rattle.model_scanner.specs.State.{token}
-use Rattle.model_scanner.specs.Run.{scan}
+use Rattle.model_scanner.proofs.Common.{[], codes, Ok, scan, Style, Tok, Token, token, ℕ, ◌∷◌, ◌≡◌}
 use Rattle.model_scanner.proofs.OnLiterals.{scan_on_literals}
 
 abbrev at : ℕ → ℕ → ℕ → Tok → Token

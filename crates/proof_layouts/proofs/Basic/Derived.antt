@@ -1,17 +1,6 @@
 -- The tokens of a basic layout are read by the table of the token grammar, and say the events of its one nested document.
-use Rattle.std.proofs.Common.{Bool, true, List, [], ◌∷◌, Option, Some, None, refl, sym, subst}
-use Rattle.defs_token.specs.Token.{Tok}
-use Rattle.defs_layout.specs.Layout.{Scalar, Inline, Block, Value, Entries, Field, Fields, Root, Documents}
-use Rattle.defs_layout.specs.Basic.{IsBasicScalar, IsBasicInline, IsBasicBlock, IsBasicValue, AreBasicEntries, IsBasicField, AreBasicFields, IsBasicRoot, AreBasicDocuments}
-use Rattle.defs_layout.specs.LayoutTokens.{scalar_token, inline_tokens, block_tokens, value_tokens, entry_tokens, field_tokens, all_field_tokens, root_tokens, documents_tokens, marked}
-use Rattle.defs_event.specs.Event.{Ev}
+use Rattle.proof_layouts.proofs.Common.{[], all_field_nests, all_field_tokens, AreBasicDocuments, AreBasicEntries, AreBasicFields, BasicTokensAreAStream, Block, block_nest, block_tokens, Bool, document_nest, Documents, documents_tokens, Entries, entry_nests, entry_tokens, Ev, Field, field_nests, field_tokens, Fields, Inline, inline_nest, inline_tokens, IsBasicBlock, IsBasicField, IsBasicInline, IsBasicRoot, IsBasicScalar, IsBasicValue, IsStream, List, marked, Names, nest_events, nest_pairs_events, nested_stream, NestPairs, nests_events, node, None, Option, Place, refl, Root, root_nest, root_tokens, Scalar, scalar_nest, scalar_token, Side, Some, subst, sym, Tok, true, Value, value_nest, value_tokens, with_node, ◌∷◌}
 use Rattle.defs_event.specs.Grammar as at
-use Rattle.defs_event.specs.Grammar.{Side, Place, node}
-use Rattle.defs_event.specs.Names.{Names}
-use Rattle.defs_event.specs.Nested.{NestPairs, nest_events, nests_events, nest_pairs_events, with_node, nested_stream}
-use Rattle.defs_event.specs.Stream.{IsStream}
-use Rattle.proof_layouts.specs.BasicNest.{scalar_nest, inline_nest, block_nest, value_nest, entry_nests, field_nests, all_field_nests, root_nest, document_nest}
-use Rattle.proof_layouts.specs.Laws.{BasicTokensAreAStream}
 use Rattle.proof_layouts.proofs.Says.{Works, goal_and, Says, taken, left, said, behind, outside, scalar, flow_sequence, flow_mapping, block_sequence, block_mapping, stream_ends, stream_said}
 
 scalar_said : {keep_tags : Bool} {s : Names} {w : Works} {r : List Tok} {es : List Ev} (p : Place) (x : Scalar) (h : IsBasicScalar x)

@@ -1,18 +1,6 @@
 -- Basic layouts, their events and what these are read as, computed.
-use Rattle.std.specs.Prelude.{◌≡◌, pos, [], ◌∷◌, true, None, Ok, Err, codes, refl}
 use Rattle.std.specs.Fmt.{digits}
-use Rattle.defs_token.specs.Token.{Style}
-use Rattle.defs_tree.specs.Tree.{Tree, items_of, pairs_of}
-use Rattle.defs_tree.specs.Typing.{typing, is_decimal}
-use Rattle.defs_tree.specs.Escapes.{written_character}
-use Rattle.defs_tree.specs.Quoting.{is_unfit_for_plain, is_quoted}
-use Rattle.defs_layout.specs.Layout.{Layout, Scalar, Inline, no_comment, Block, Value, Entries, Field, Fields, Root, last_document, below, spell}
-use Rattle.defs_layout.specs.Basic.{IsBasic}
-use Rattle.defs_layout.specs.BlockLines.{full}
-use Rattle.defs_event.specs.Event.{Ev}
-use Rattle.defs_event.specs.Nested.{nested_stream}
-use Rattle.defs_event.specs.Reading.{reading}
-use Rattle.proof_layouts.specs.BasicNest.{basic_documents}
+use Rattle.proof_layouts.proofs.Common.{[], basic_documents, below, Block, codes, Entries, Err, Ev, Field, Fields, full, Inline, is_decimal, is_quoted, is_unfit_for_plain, IsBasic, items_of, last_document, Layout, nested_stream, no_comment, None, Ok, pairs_of, pos, reading, refl, Root, Scalar, spell, Style, Tree, true, typing, Value, written_character, ◌∷◌, ◌≡◌}
 
 abbrev text_of : Tree → Inline
 text_of t = Inline.scalar (Scalar.plain t)

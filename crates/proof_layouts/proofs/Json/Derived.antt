@@ -1,17 +1,6 @@
 -- The tokens of a JSON text are read by the table of the token grammar, and say its events.
-use Rattle.std.proofs.Common.{Bool, List, [], ◌∷◌, None, refl}
-use Rattle.defs_token.specs.Token.{Tok}
-use Rattle.defs_layout.specs.Json.{Json, Elements, Members}
-use Rattle.defs_layout.specs.JsonTokens.{json_tokens, element_tokens, member_tokens}
-use Rattle.defs_event.specs.Event.{Ev}
-use Rattle.defs_event.specs.Raw.{Raw}
+use Rattle.proof_layouts.proofs.Common.{[], Bool, element_nests, element_tokens, Elements, Ev, in_block, in_flow, Json, json_tokens, JsonTokensAreAStream, List, member_nests, member_tokens, Members, Names, nest_events, nest_pairs_events, nested_of, nests_events, node, None, Place, Raw, refl, saying, Tok, ◌∷◌}
 use Rattle.defs_event.specs.Grammar as at
-use Rattle.defs_event.specs.Grammar.{Place, in_flow, in_block, node}
-use Rattle.defs_event.specs.Table.{saying}
-use Rattle.defs_event.specs.Names.{Names}
-use Rattle.defs_event.specs.Nested.{nest_events, nests_events, nest_pairs_events}
-use Rattle.proof_layouts.specs.JsonNest.{nested_of, element_nests, member_nests}
-use Rattle.proof_layouts.specs.Laws.{JsonTokensAreAStream}
 use Rattle.proof_layouts.proofs.Says.{Works, goal_and, Says, taken, left, said, behind, scalar, flow_sequence, flow_mapping, stream_ends, stream_said}
 
 -- ---- a value's first token leaves a goal for a node

@@ -1,19 +1,6 @@
 -- The reading of a JSON text's document is its tree: so its tokens are read as this tree, and its events are loaded so.
-use Rattle.std.proofs.Common.{◌≡◌, ℕ, List, [], ◌∷◌, ◌++◌, true, false, Ok, refl, ap, ◌∙◌, append_assoc}
-use Rattle.std.specs.Prelude.{codes}
-use Rattle.defs_tree.specs.Tree.{Tree, list_of}
-use Rattle.defs_tree.specs.Typing.{typing, is_decimal}
-use Rattle.defs_tree.specs.Pairs.{AreDistinct}
-use Rattle.defs_layout.specs.JsonGap.{Blank}
-use Rattle.defs_layout.specs.JsonNumber.{spell_number, number_tree}
-use Rattle.defs_layout.specs.JsonString.{Piece, unescaped}
-use Rattle.defs_layout.specs.Json.{Json, Elements, Members, IsJson, AreElements, AreMembers, tree_of, items, pair_list}
-use Rattle.defs_event.specs.Nested.{no_nest_pairs}
-use Rattle.defs_event.specs.Anchors.{Anchors}
-use Rattle.defs_event.specs.Reading.{read_node, read_items, read_pairs}
-use Rattle.defs_layout.specs.JsonTokens.{json_text_tokens}
-use Rattle.proof_layouts.specs.JsonNest.{nested_of, plain_nest, string_nest, element_nests, member_nests, json_documents}
-use Rattle.proof_layouts.specs.Laws.{JsonDocumentsReadAsTheirTrees, JsonTokensReadAsTheirTree, JsonEventsAreLoaded}
+use Rattle.proof_layouts.proofs.Common.{[], Anchors, ap, append_assoc, AreDistinct, AreElements, AreMembers, Blank, codes, element_nests, Elements, false, is_decimal, IsJson, Json, json_documents, json_text_tokens, JsonDocumentsReadAsTheirTrees, JsonEventsAreLoaded, JsonTokensReadAsTheirTree, List, list_of, member_nests, Members, nested_of, no_nest_pairs, number_tree, Ok, Piece, plain_nest, read_items, read_node, read_pairs, refl, spell_number, string_nest, Tree, tree_of, true, typing, unescaped, ℕ, ◌++◌, ◌∙◌, ◌∷◌, ◌≡◌}
+use Rattle.defs_layout.specs.Json.{items, pair_list}
 use Rattle.proof_layouts.proofs.Json.Derived.{tokens_are_a_stream}
 use Rattle.proof_layouts.proofs.Loads.{streams_are_loaded}
 use Rattle.proof_layouts.proofs.Numbers.{numbers_stand_for_their_trees}

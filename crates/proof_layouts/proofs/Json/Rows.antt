@@ -1,16 +1,6 @@
 -- JSON texts, their events and what these are read as, computed.
-use Rattle.std.specs.Prelude.{◌≡◌, ℕ, pos, List, [], ◌∷◌, true, false, None, Ok, Err, codes, map, refl}
-use Rattle.defs_tree.specs.Tree.{Tree, items_of, pairs_of}
-use Rattle.defs_tree.specs.Typing.{typing, is_decimal}
-use Rattle.defs_token.specs.Token.{Style}
-use Rattle.defs_layout.specs.JsonGap.{space}
-use Rattle.defs_layout.specs.JsonNumber.{number, no_fraction, fraction, plus, no_exponent, exponent}
-use Rattle.defs_layout.specs.JsonString.{Piece, itself, unicode}
-use Rattle.defs_layout.specs.Json.{Json, Elements, Members, JsonText, spell_text}
-use Rattle.defs_event.specs.Event.{Ev}
-use Rattle.defs_event.specs.Nested.{nested_stream}
-use Rattle.defs_event.specs.Reading.{reading}
-use Rattle.proof_layouts.specs.JsonNest.{json_documents}
+use Rattle.proof_layouts.proofs.Common.{[], codes, Elements, Err, Ev, exponent, false, fraction, is_decimal, items_of, itself, Json, json_documents, JsonText, List, map, Members, nested_stream, no_exponent, no_fraction, None, Ok, pairs_of, Piece, plus, pos, reading, refl, space, spell_text, Style, Tree, true, typing, unicode, ℕ, ◌∷◌, ◌≡◌}
+use Rattle.defs_layout.specs.JsonNumber.{number}
 
 abbrev raw : List ℕ → List Piece
 raw w = map itself w

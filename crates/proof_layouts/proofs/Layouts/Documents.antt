@@ -1,20 +1,7 @@
 -- A layout's stream, its documents and what they are read as.
-use Rattle.std.proofs.Common.{◌≡◌, Bool, true, false, List, [], ◌∷◌, ◌++◌, Ok, refl, append_assoc}
-use Rattle.defs_token.specs.Token.{Tok}
-use Rattle.defs_tree.specs.Tree.{Tree}
-use Rattle.defs_layout.specs.Layout.{Scalar, Inline, Block, Root, Documents, AreDocuments, root_tree, trees_of}
-use Rattle.defs_layout.specs.LayoutTokens.{inline_tokens, block_tokens, root_tokens, documents_tokens, marked, layout_tokens}
-use Rattle.defs_event.specs.Event.{Ev}
-use Rattle.defs_event.specs.Raw.{Raw}
-use Rattle.defs_event.specs.Table.{saying}
+use Rattle.proof_layouts.proofs.Common.{[], Anchors, append_assoc, AreDocuments, at_document, Block, block_tokens, Bool, Documents, documents_tokens, Ev, false, in_block, Inline, inline_tokens, layout_tokens, LayoutEventsAreLoaded, LayoutTokensReadAsTheirTrees, List, marked, Names, nested_documents_events, NestedDocument, no_names, node, Ok, Raw, read_documents, refl, Root, root_tokens, root_tree, saying, Scalar, Tok, Tree, trees_of, true, with_node, ◌++◌, ◌∷◌, ◌≡◌}
 use Rattle.defs_event.specs.Grammar as at
-use Rattle.defs_event.specs.Grammar.{in_block, node}
-use Rattle.defs_event.specs.Names.{Names, no_names, at_document}
-use Rattle.defs_event.specs.Nested.{NestedDocument, with_node, nested_documents_events}
-use Rattle.defs_event.specs.Anchors.{Anchors}
-use Rattle.defs_event.specs.Reading.{read_documents}
 use Rattle.proof_layouts.proofs.Loads.{streams_are_loaded}
-use Rattle.proof_layouts.specs.Laws.{LayoutTokensReadAsTheirTrees, LayoutEventsAreLoaded}
 use Rattle.proof_layouts.proofs.Says.{Works, goal_and, Says, taken, left, said, stream_ends, stream_said}
 use Rattle.proof_layouts.proofs.Layouts.Reading.{root_reads}
 

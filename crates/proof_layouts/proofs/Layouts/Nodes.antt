@@ -1,17 +1,7 @@
 -- What the tokens of a node, of items and of pairs say and are read as, and how these are put together.
-use Rattle.std.proofs.Common.{◌≡◌, ℕ, Bool, List, [], ◌∷◌, ◌++◌, Option, None, Ok, refl, sym, ap, ◌∙◌, append_assoc, append-nil}
-use Rattle.defs_token.specs.Token.{Tok, Style}
-use Rattle.defs_tree.specs.Tree.{Tree, Items, list_of, pairs_of}
-use Rattle.defs_tree.specs.Pairs.{AreDistinct}
-use Rattle.defs_layout.specs.Anchored.{Anchor}
-use Rattle.defs_event.specs.Event.{Ev}
+use Rattle.proof_layouts.proofs.Common.{[], Anchor, Anchors, ap, append-nil, append_assoc, AreDistinct, Bool, Ev, finished, in_block, in_pair, Items, List, list_of, Names, Nest, nest, nest_events, nest_pair, nest_pairs_events, nested_mapping, nested_scalar, nested_sequence, NestPairs, Nests, nests_events, no_nest_pairs, no_nests, None, number, Ok, Option, pairs_of, Place, read_items, read_node, read_pairs, refl, Style, sym, Tok, Tree, with_anchor, ℕ, ◌++◌, ◌∙◌, ◌∷◌, ◌≡◌}
 use Rattle.defs_event.specs.Grammar as at
-use Rattle.defs_event.specs.Grammar.{Place, in_block, in_pair}
-use Rattle.defs_event.specs.Names.{Names, number, with_anchor}
-use Rattle.defs_event.specs.Nested.{Nest, nested_scalar, nested_sequence, nested_mapping, Nests, no_nests, nest, NestPairs, no_nest_pairs, nest_pair, nest_events, nests_events, nest_pairs_events}
 use Rattle.defs_event.specs.Scalar.{scalar_tree}
-use Rattle.defs_event.specs.Anchors.{Anchors, finished}
-use Rattle.defs_event.specs.Reading.{read_node, read_items, read_pairs}
 use Rattle.proof_layouts.proofs.Held.{pair_read, list_again}
 use Rattle.proof_layouts.proofs.Says.{Works, goal_and, Says, taken, behind, node_and, scalar}
 use Rattle.proof_layouts.proofs.Numbered.{Agrees, After, after_nothing, after_then, begun_by, ended_by, begun_agrees, after_node}

@@ -1,21 +1,7 @@
 -- The tokens of a layout, part by part, and what they are read as.
-use Rattle.std.proofs.Common.{ℕ, ◌+◌, Bool, List, [], ◌∷◌, Option, Some, None, Ok, refl, ap}
-use Rattle.defs_token.specs.Token.{Tok, Style}
-use Rattle.defs_tree.specs.Tree.{Tree, Items, list_of}
-use Rattle.defs_tree.specs.Spelling.{spelling}
+use Rattle.proof_layouts.proofs.Common.{[], all_field_tokens, Anchor, Anchors, anchors_after, anchors_after_block, anchors_after_entries, anchors_after_field, anchors_after_fields, ap, AreEntries, AreFields, Block, block_tokens, block_tree, Bool, Entries, entry_tokens, Ev, Field, field_tokens, Fields, in_block, in_pair, Inline, inline_tokens, inline_tree, IsBlock, IsExplicitKey, IsField, IsInline, IsJson, IsPlain, IsRoot, IsScalar, IsValue, Items, items, Json, json_tokens, List, list_of, MayBeAnchored, MayFollowMark, Names, nested_alias, None, Ok, Option, pair_list, pair_of, Place, refl, Root, root_tokens, root_tree, Scalar, scalar_token, scalar_tree, Side, Some, spelling, spelling_back, Style, Tok, Tree, tree_of, Value, value_tokens, value_tree, ℕ, ◌+◌, ◌∷◌}
 use Rattle.defs_tree.specs.Laws.{IsSpeltPlain}
-use Rattle.defs_tree.proofs.ReadBack.{spelling_back}
-use Rattle.defs_layout.specs.Anchored.{Anchor}
-use Rattle.defs_layout.specs.Json.{Json, IsJson, tree_of}
-use Rattle.defs_layout.specs.JsonTokens.{json_tokens}
-use Rattle.defs_layout.specs.Layout.{Scalar, Inline, Block, Value, Entries, Field, Fields, Root, IsPlain, IsScalar, IsInline, IsBlock, IsValue, AreEntries, IsField, AreFields, IsRoot, MayFollowMark, MayBeAnchored, IsExplicitKey, scalar_tree, inline_tree, block_tree, value_tree, items, pair_of, pair_list, root_tree, anchors_after_block, anchors_after, anchors_after_entries, anchors_after_field, anchors_after_fields}
-use Rattle.defs_layout.specs.LayoutTokens.{scalar_token, inline_tokens, block_tokens, value_tokens, entry_tokens, field_tokens, all_field_tokens, root_tokens}
-use Rattle.defs_event.specs.Event.{Ev}
 use Rattle.defs_event.specs.Grammar as at
-use Rattle.defs_event.specs.Grammar.{Side, Place, in_block, in_pair}
-use Rattle.defs_event.specs.Names.{Names}
-use Rattle.defs_event.specs.Nested.{nested_alias}
-use Rattle.defs_event.specs.Anchors.{Anchors}
 use Rattle.proof_layouts.specs.JsonNest as json_nest
 use Rattle.proof_layouts.proofs.Json.Derived as json
 use Rattle.proof_layouts.proofs.Json.Reading as json_reading

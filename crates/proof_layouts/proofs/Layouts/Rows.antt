@@ -1,9 +1,6 @@
 -- Layouts with anchors, and their trees, computed.
-use Rattle.std.specs.Prelude.{◌≡◌, ℕ, pos, List, [], ◌∷◌, true, false, codes, refl}
 use Rattle.std.specs.Fmt.{digits}
-use Rattle.defs_tree.specs.Tree.{Tree, items_of, pairs_of}
-use Rattle.defs_tree.specs.Escapes.{written_character}
-use Rattle.defs_layout.specs.Layout.{Scalar, Inline, Block, Value, Entries, Field, Fields, Root, Document, Documents, Layout, no_comment, spell, IsLayout, trees_of}
+use Rattle.proof_layouts.proofs.Common.{[], Block, codes, Document, Documents, Entries, false, Field, Fields, Inline, IsLayout, items_of, Layout, List, no_comment, pairs_of, pos, refl, Root, Scalar, spell, Tree, trees_of, true, Value, written_character, ℕ, ◌∷◌, ◌≡◌}
 
 abbrev single : List ℕ → Inline
 single text = Inline.scalar (Scalar.single_quoted text)

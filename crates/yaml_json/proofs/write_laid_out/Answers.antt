@@ -1,8 +1,6 @@
-use Rattle.std.proofs.Common.{refl, sym, ◌∙◌}
-use Rattle.yaml_emitter.proofs.WritingLemmas.{stopped_for}
+use Rattle.yaml_json.proofs.Common.{refl, stopped_for, sym, view, ◌∙◌}
 use Rattle.yaml_json.proofs.GivenLemmas.{has_json}
 use Rattle.yaml_json.proofs.ShallowLemmas.{not_shallow, shallow}
-use Rattle.yaml_tree.specs.View.{view}
 use Rattle.yaml_json.proofs.write_laid_out.Goals as goal
 
 pub write_deep-requires : goal.write_deep-requires

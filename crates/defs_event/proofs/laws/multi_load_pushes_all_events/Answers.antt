@@ -1,4 +1,4 @@
-use Rattle.std.specs.Prelude.{ℕ}
+use Rattle.defs_event.proofs.Common.{ℕ}
 use Rattle.defs_event.proofs.AllPushed.{all_pushed}
 use Rattle.defs_event.proofs.laws.multi_load_pushes_all_events.Goals as goal
 

@@ -1,6 +1,4 @@
-use Rattle.std.proofs.Common.{◌≡◌, slice_index, true, ap, sym, subst, ◌∙◌, arith, inl, inr}
-use Rattle.std.proofs.lemmas.Bool.{cases_lt}
-use Rattle.yaml_chars.specs.BlockLines.{is_simple}
+use Rattle.yaml_chars.proofs.Common.{ap, arith, cases_lt, inl, inr, is_simple, slice_index, subst, sym, true, ◌∙◌, ◌≡◌}
 use Rattle.yaml_chars.proofs.block_line.are_simple.Goals as goal
 
 pub held-init : goal.held-init

@@ -1,5 +1,4 @@
-use Rattle.std.proofs.Common.{◌≡◌, ℕ, ◌<◌, ◌≤◌, slice_index, true}
-use Rattle.yaml_chars.specs.BlockLines.{is_simple}
+use Rattle.yaml_chars.proofs.Common.{is_simple, slice_index, true, ℕ, ◌<◌, ◌≡◌, ◌≤◌}
 use Rattle.yaml_chars.proofs.block_line.are_simple.Given as goal
 
 abbrev pub invariant-held : goal.invariant-held

@@ -1,6 +1,4 @@
-use Rattle.std.proofs.Common.{◌++◌, ◌∷◌, [], drop, sym, ap, ◌∙◌, append-nil, append_assoc, arith, ◌≡◌, ◌+◌}
-use Rattle.std.specs.Prelude.{chars}
-use Rattle.std.proofs.lemmas.List.{drop_more, drop_all}
+use Rattle.yaml_chars.proofs.Common.{[], ap, append-nil, append_assoc, arith, chars, drop, drop_all, drop_more, sym, ◌++◌, ◌+◌, ◌∙◌, ◌∷◌, ◌≡◌}
 use Rattle.yaml_chars.proofs.block_line.joined.Goals as goal
 
 pub held-preserved : goal.held-preserved

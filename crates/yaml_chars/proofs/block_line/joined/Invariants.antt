@@ -1,4 +1,4 @@
-use Rattle.std.proofs.Common.{◌≡◌, ◌++◌, drop}
+use Rattle.yaml_chars.proofs.Common.{drop, ◌++◌, ◌≡◌}
 use Rattle.yaml_chars.proofs.block_line.joined.Given as goal
 
 abbrev pub invariant-held : goal.invariant-held

@@ -1,4 +1,4 @@
-use Rattle.std.proofs.Common.{arith}
+use Rattle.yaml_chars.proofs.Common.{arith}
 use Rattle.yaml_chars.proofs.BlockLineLemmas.{simple_none, simple_further}
 use Rattle.yaml_chars.proofs.block_line.simple_end.Goals as goal
 

@@ -1,5 +1,4 @@
-use Rattle.std.proofs.Common.{length, ◌-◌}
-use Rattle.yaml_chars.specs.BlockLines.{AreSimpleUpTo}
+use Rattle.yaml_chars.proofs.Common.{AreSimpleUpTo, length, ◌-◌}
 use Rattle.yaml_chars.proofs.block_line.simple_end.Given as goal
 
 abbrev pub invariant-blocks-2 : goal.invariant-blocks-2

@@ -1,4 +1,4 @@
-use Rattle.std.proofs.Common.{rules}
+use Rattle.yaml_chars.proofs.Common.{rules}
 use Rattle.yaml_chars.proofs.BlockLineLemmas.{simple_more}
 use Rattle.yaml_chars.proofs.block_line.simple_tail.Goals as goal
 

@@ -1,4 +1,4 @@
-use Rattle.std.proofs.Common.{◌≡◌, ℕ, ◌+◌, ◌-◌, ◌<◌, ◌≤◌, length, slice_index}
+use Rattle.yaml_chars.proofs.Common.{length, slice_index, ℕ, ◌+◌, ◌-◌, ◌<◌, ◌≡◌, ◌≤◌}
 use Rattle.yaml_chars.proofs.block_line.spaces_at.Given as goal
 
 abbrev pub invariant-spaces : goal.invariant-spaces

@@ -1,4 +1,4 @@
-use Rattle.std.proofs.Common.{◌<◌, ◌+◌, length, arith}
+use Rattle.yaml_chars.proofs.Common.{arith, length, ◌+◌, ◌<◌}
 use Rattle.yaml_chars.proofs.BlockLineLemmas.{text_ends, held_simple}
 use Rattle.yaml_chars.proofs.block_line.text_end.Goals as goal
 

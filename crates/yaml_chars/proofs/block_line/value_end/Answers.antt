@@ -1,5 +1,4 @@
-use Rattle.std.proofs.Common.{◌≡◌, slice_index, true, sym, subst, ◌∙◌, arith}
-use Rattle.yaml_chars.specs.BlockLines.{is_simple}
+use Rattle.yaml_chars.proofs.Common.{arith, is_simple, slice_index, subst, sym, true, ◌∙◌, ◌≡◌}
 use Rattle.yaml_chars.proofs.BlockLineLemmas.{space_is_simple}
 use Rattle.yaml_chars.proofs.block_line.value_end.Goals as goal
 

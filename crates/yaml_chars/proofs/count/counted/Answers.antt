@@ -1,5 +1,4 @@
-use Rattle.std.proofs.Common.{rules, ◌+◌, ◌≤◌, length, ap, ◌∙◌, arith}
-use Rattle.std.specs.Prelude.{chars}
+use Rattle.yaml_chars.proofs.Common.{ap, arith, chars, length, rules, ◌+◌, ◌∙◌, ◌≤◌}
 use Rattle.yaml_chars.proofs.CountLemmas.{block_more, block_few, count_whole}
 use Rattle.yaml_chars.proofs.count.counted.Goals as goal
 

@@ -1,6 +1,4 @@
-use Rattle.std.proofs.Common.{◌≡◌, ◌≤◌, length, take, ◌-◌}
-use Rattle.std.specs.List.{count_by}
-use Rattle.yaml_chars.specs.Words.{is_first_byte}
+use Rattle.yaml_chars.proofs.Common.{count_by, is_first_byte, length, take, ◌-◌, ◌≡◌, ◌≤◌}
 use Rattle.yaml_chars.proofs.count.counted.Given as goal
 
 abbrev pub invariant-blocks-2 : goal.invariant-blocks-2

@@ -1,5 +1,4 @@
-use Rattle.std.proofs.Common.{ltb, arith}
-use Rattle.yaml_chars.specs.Words.{is_beyond}
+use Rattle.yaml_chars.proofs.Common.{arith, is_beyond, ltb}
 use Rattle.yaml_chars.proofs.LaneLemmas.{against_first, masked, itself}
 use Rattle.yaml_chars.proofs.lanes.beyond_ascii.Goals as goal
 

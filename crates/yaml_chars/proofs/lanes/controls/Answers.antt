@@ -1,5 +1,4 @@
-use Rattle.std.proofs.Common.{eqb, ltb, arith}
-use Rattle.yaml_chars.specs.Words.{halts_line}
+use Rattle.yaml_chars.proofs.Common.{arith, eqb, halts_line, ltb}
 use Rattle.yaml_chars.proofs.LaneLemmas.{either, against, masked, itself}
 use Rattle.yaml_chars.proofs.lanes.controls.Goals as goal
 

@@ -1,5 +1,4 @@
-use Rattle.std.proofs.Common.{ltb, arith}
-use Rattle.yaml_chars.specs.Words.{is_first_byte}
+use Rattle.yaml_chars.proofs.Common.{arith, is_first_byte, ltb}
 use Rattle.yaml_chars.proofs.LaneLemmas.{either, against, against_first, masked, itself}
 use Rattle.yaml_chars.proofs.lanes.first_bytes.Goals as goal
 

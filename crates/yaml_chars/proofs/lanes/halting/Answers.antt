@@ -1,5 +1,4 @@
-use Rattle.std.proofs.Common.{◌≡◌, length, not, eqb, ltb, ◌∙◌, sym, arith}
-use Rattle.yaml_chars.specs.Words.{halts, pairs}
+use Rattle.yaml_chars.proofs.Common.{arith, eqb, halts, length, ltb, not, pairs, sym, ◌∙◌, ◌≡◌}
 use Rattle.yaml_chars.proofs.LaneLemmas.{either, both, against, masked, length-pairs, fronts, backs}
 use Rattle.yaml_chars.proofs.lanes.halting.Goals as goal
 

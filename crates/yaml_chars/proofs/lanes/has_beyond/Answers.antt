@@ -1,5 +1,4 @@
-use Rattle.std.proofs.Common.{◌≡◌, arith}
-use Rattle.std.proofs.lemmas.Bool.Decides.{nat_tests}
+use Rattle.yaml_chars.proofs.Common.{arith, nat_tests, ◌≡◌}
 use Rattle.yaml_chars.proofs.LaneLemmas.{all_ascii}
 use Rattle.yaml_chars.proofs.lanes.has_beyond.Goals as goal
 

@@ -1,4 +1,4 @@
-use Rattle.yaml_chars.specs.Words.{halts_line}
+use Rattle.yaml_chars.proofs.Common.{halts_line}
 use Rattle.yaml_chars.proofs.LaneLemmas.{line_goes_all, line_count_of, line_goes_before}
 use Rattle.yaml_chars.proofs.lanes.line_lanes.Goals as goal
 

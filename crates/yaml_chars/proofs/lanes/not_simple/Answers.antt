@@ -1,5 +1,4 @@
-use Rattle.std.proofs.Common.{ltb, eqb, arith}
-use Rattle.yaml_chars.specs.BlockLines.{halts_simple}
+use Rattle.yaml_chars.proofs.Common.{arith, eqb, halts_simple, ltb}
 use Rattle.yaml_chars.proofs.LaneLemmas.{either, against, against_first, masked, itself}
 use Rattle.yaml_chars.proofs.lanes.not_simple.Goals as goal
 

@@ -1,4 +1,4 @@
-use Rattle.yaml_chars.specs.BlockLines.{halts_simple}
+use Rattle.yaml_chars.proofs.Common.{halts_simple}
 use Rattle.yaml_chars.proofs.LaneLemmas.{line_goes_all, line_count_of, line_goes_before}
 use Rattle.yaml_chars.proofs.lanes.simple_lanes.Goals as goal
 

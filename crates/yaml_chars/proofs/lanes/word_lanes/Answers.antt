@@ -1,4 +1,4 @@
-use Rattle.yaml_chars.specs.Words.{halts}
+use Rattle.yaml_chars.proofs.Common.{halts}
 use Rattle.yaml_chars.proofs.LaneLemmas.{goes_all, count_of, goes_before}
 use Rattle.yaml_chars.proofs.lanes.word_lanes.Goals as goal
 

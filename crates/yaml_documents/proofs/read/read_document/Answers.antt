@@ -1,5 +1,4 @@
-use Rattle.std.proofs.Common.{arith}
-use Rattle.yaml_documents.specs.Reading.{fault_in}
+use Rattle.yaml_documents.proofs.Common.{arith, fault_in}
 use Rattle.yaml_documents.proofs.OneDocument.{read_so, stops_by_key, stops_so, reads_err}
 use Rattle.yaml_documents.proofs.read.read_document.Goals as goal
 

@@ -1,8 +1,5 @@
-use Rattle.std.proofs.Common.{◌≡◌, refl, sym, ◌∙◌, true, false}
-use Rattle.defs_event.specs.Event.{Ev}
+use Rattle.yaml_documents.proofs.Common.{Ev, false, is_end, parsed, refl, sym, true, ◌∙◌, ◌≡◌}
 use Rattle.yaml_parser.specs.Shown.{ev_of}
-use Rattle.yaml_parser.specs.Parsed.{parsed}
-use Rattle.yaml_documents.specs.Reading.{is_end}
 use Rattle.yaml_documents.proofs.Steps.{is_not_end, begins, goes_on, takes_all, faults, refuses}
 use Rattle.yaml_documents.proofs.read.take_document.Goals as goal
 

@@ -1,6 +1,4 @@
-use Rattle.std.proofs.Common.{◌≡◌}
-use Rattle.yaml_parser.specs.Parsed.{parsed}
-use Rattle.yaml_documents.specs.Reading.{IsGoing, Goes}
+use Rattle.yaml_documents.proofs.Common.{Goes, IsGoing, parsed, ◌≡◌}
 use Rattle.yaml_documents.proofs.read.take_document.Given as goal
 
 abbrev pub invariant-events : goal.invariant-events

@@ -1,6 +1,4 @@
-use Rattle.std.proofs.Common.{refl, sym, ap, ◌++◌, arith}
-use Rattle.yaml_tree.specs.View.{view}
-use Rattle.yaml_emitter.specs.Deep.{rests_text}
+use Rattle.yaml_emitter.proofs.Common.{ap, arith, refl, rests_text, sym, view, ◌++◌}
 use Rattle.yaml_emitter.proofs.DeepLemmas.{block_apart, flat_apart, goes_ok, goes_written, goes_err, goes_refused, stopped_there}
 use Rattle.yaml_emitter.proofs.EntryLemmas.{at_least_one}
 use Rattle.yaml_emitter.proofs.ValidLemmas.{flat_valid}

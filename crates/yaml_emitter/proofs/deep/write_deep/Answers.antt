@@ -1,5 +1,4 @@
-use Rattle.std.proofs.Common.{refl, sym, ap, subst, ◌∙◌, arith, append-nil}
-use Rattle.yaml_emitter.specs.Deep.{rests_text, rests_weight, AreRestsValid}
+use Rattle.yaml_emitter.proofs.Common.{ap, append-nil, AreRestsValid, arith, refl, rests_text, rests_weight, subst, sym, ◌∙◌}
 use Rattle.yaml_emitter.proofs.DeepLemmas.{left_then, stopped_there}
 use Rattle.yaml_emitter.proofs.WritingLemmas.{left_all, left_as, left_none, left_stopped, writes_err, writes_ok}
 use Rattle.yaml_emitter.proofs.deep.write_deep.Goals as goal

@@ -1,10 +1,4 @@
-use Rattle.std.proofs.Common.{false}
-use Rattle.defs_tree.specs.Box.{box}
-use Rattle.yaml_tree.specs.View.{view}
-use Rattle.yaml_emitter.specs.At.{stacked}
-use Rattle.yaml_emitter.specs.Deep.{rests_text, rests_weight, AreRestsValid}
-use Rattle.yaml_emitter.specs.ValidTree.{IsValid}
-use Rattle.yaml_emitter.specs.Writing.{IsLeft}
+use Rattle.yaml_emitter.proofs.Common.{AreRestsValid, box, false, IsLeft, IsValid, rests_text, rests_weight, stacked, view}
 use Rattle.yaml_emitter.proofs.deep.write_deep.Given as goal
 
 abbrev pub invariant-rests : goal.invariant-rests

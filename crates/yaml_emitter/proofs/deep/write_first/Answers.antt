@@ -1,6 +1,4 @@
-use Rattle.std.proofs.Common.{refl, arith}
-use Rattle.yaml_tree.specs.View.{view}
-use Rattle.yaml_emitter.specs.Deep.{rests_text}
+use Rattle.yaml_emitter.proofs.Common.{arith, refl, rests_text, view}
 use Rattle.yaml_emitter.proofs.DeepLemmas.{value_left, goes_late, goes_refused}
 use Rattle.yaml_emitter.proofs.WritingLemmas.{left_after}
 use Rattle.yaml_emitter.proofs.deep.write_first.Goals as goal

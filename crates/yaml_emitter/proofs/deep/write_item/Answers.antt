@@ -1,8 +1,4 @@
-use Rattle.std.proofs.Common.{refl, ap, arith}
-use Rattle.std.proofs.lemmas.List.{nil_from_length}
-use Rattle.defs_tree.specs.Tree.{items_of}
-use Rattle.yaml_tree.specs.View.{items_view}
-use Rattle.yaml_tree.specs.Weight.{items_nodes}
+use Rattle.yaml_emitter.proofs.Common.{ap, arith, items_nodes, items_of, items_view, nil_from_length, refl}
 use Rattle.yaml_emitter.proofs.DeepLemmas.{item_left, items_end, items_fit, goes_err, goes_late, goes_refused, stopped_there}
 use Rattle.yaml_emitter.proofs.WritingLemmas.{left_after}
 use Rattle.yaml_emitter.proofs.deep.write_item.Goals as goal

@@ -1,8 +1,4 @@
-use Rattle.std.proofs.Common.{refl, sym, ap, ◌∙◌, ◌∷◌, arith}
-use Rattle.std.proofs.lemmas.List.{nil_from_length}
-use Rattle.defs_tree.specs.Tree.{pairs_of}
-use Rattle.yaml_tree.specs.View.{pairs_view}
-use Rattle.yaml_tree.specs.Weight.{pairs_nodes}
+use Rattle.yaml_emitter.proofs.Common.{ap, arith, nil_from_length, pairs_nodes, pairs_of, pairs_view, refl, sym, ◌∙◌, ◌∷◌}
 use Rattle.yaml_emitter.proofs.DeepLemmas.{pair_left, pairs_end, scalar_key_apart, complex_key_apart, pairs_fit, goes_err, goes_late, goes_refused, stopped_there}
 use Rattle.yaml_emitter.proofs.WritingLemmas.{left_as, left_after}
 use Rattle.yaml_emitter.proofs.deep.write_pair.Goals as goal

@@ -1,8 +1,5 @@
-use Rattle.std.proofs.Common.{sym, ap, subst, ◌∙◌, ◌++◌, drop, take, length}
-use Rattle.std.specs.Prelude.{MatchOption, chars, encode_utf8}
-use Rattle.std.specs.List.{prefix_len}
-use Rattle.std.specs.Str.{IsCharBoundary}
-use Rattle.yaml_emitter.specs.Runs.{stands, IsRun, IsRunCut}
+use Rattle.std.specs.Prelude.{chars}
+use Rattle.yaml_emitter.proofs.Common.{ap, drop, encode_utf8, IsCharBoundary, IsRun, IsRunCut, length, MatchOption, prefix_len, stands, subst, sym, take, ◌++◌, ◌∙◌}
 use Rattle.yaml_emitter.proofs.RunLemmas.{run_boundary, only_run, run_cut}
 use Rattle.yaml_emitter.proofs.escape.first_escape.Goals as goal
 

@@ -1,4 +1,4 @@
-use Rattle.std.proofs.Common.{refl}
+use Rattle.yaml_emitter.proofs.Common.{refl}
 use Rattle.yaml_emitter.proofs.RunLemmas.{cut_written}
 use Rattle.yaml_emitter.proofs.WritingLemmas.{writes_err, stopped_early, stopped_late, left_all, left_as, left_after, left_stopped, left_writes}
 use Rattle.yaml_emitter.proofs.escape.write_characters.Goals as goal

@@ -1,7 +1,4 @@
-use Rattle.std.proofs.Common.{length}
-use Rattle.std.specs.Str.{chars, IsUtf8}
-use Rattle.defs_tree.specs.Escapes.{written_escapes}
-use Rattle.yaml_emitter.specs.Writing.{IsLeft}
+use Rattle.yaml_emitter.proofs.Common.{chars, IsLeft, IsUtf8, length, written_escapes}
 use Rattle.yaml_emitter.proofs.escape.write_characters.Given as goal
 
 abbrev pub invariant-runs : goal.invariant-runs

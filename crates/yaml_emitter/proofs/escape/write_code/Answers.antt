@@ -1,4 +1,4 @@
-use Rattle.std.proofs.Common.{refl, ap, ◌∷◌, []}
+use Rattle.yaml_emitter.proofs.Common.{[], ap, refl, ◌∷◌}
 use Rattle.yaml_emitter.proofs.WritingLemmas.{writes_late, writes_err, writes_as, stopped_early, stopped_late}
 use Rattle.yaml_emitter.proofs.escape.write_code.Goals as goal
 

@@ -1,4 +1,4 @@
-use Rattle.std.proofs.Common.{refl}
+use Rattle.yaml_emitter.proofs.Common.{refl}
 use Rattle.yaml_emitter.proofs.WritingLemmas.{writes_late, writes_err, stopped_early, stopped_late}
 use Rattle.yaml_emitter.proofs.escape.write_double_quoted.Goals as goal
 

@@ -1,4 +1,4 @@
-use Rattle.std.proofs.Common.{◌∷◌, ◌*◌, ◌∙◌, refl, ap}
+use Rattle.yaml_emitter.proofs.Common.{ap, refl, ◌*◌, ◌∙◌, ◌∷◌}
 use Rattle.yaml_emitter.proofs.LineLemmas.{low_line, twice, of_level}
 use Rattle.yaml_emitter.proofs.WritingLemmas.{writes_as, writes_late, writes_err, stopped_as, stopped_early}
 use Rattle.yaml_emitter.proofs.line.break_line.Goals as goal

@@ -1,4 +1,4 @@
-use Rattle.std.proofs.Common.{◌∙◌}
+use Rattle.yaml_emitter.proofs.Common.{◌∙◌}
 use Rattle.yaml_emitter.proofs.LineLemmas.{line_of, line_boundary}
 use Rattle.yaml_emitter.proofs.line.line.Goals as goal
 

@@ -1,4 +1,4 @@
-use Rattle.std.proofs.Common.{refl, sym, arith}
+use Rattle.yaml_emitter.proofs.Common.{arith, refl, sym}
 use Rattle.yaml_emitter.proofs.LineLemmas.{deep_blanks, low_text}
 use Rattle.yaml_emitter.proofs.WritingLemmas.{writes_err, stopped_early, left_all, left_as, left_after, left_stopped, left_writes}
 use Rattle.yaml_emitter.proofs.line.put_spaces.Goals as goal

@@ -1,4 +1,4 @@
-use Rattle.std.proofs.Common.{◌∙◌}
+use Rattle.yaml_emitter.proofs.Common.{◌∙◌}
 use Rattle.yaml_emitter.proofs.LineLemmas.{after_break, break_boundary}
 use Rattle.yaml_emitter.proofs.line.spaces.Goals as goal
 

@@ -1,4 +1,4 @@
-use Rattle.std.proofs.Common.{refl, arith}
+use Rattle.yaml_emitter.proofs.Common.{arith, refl}
 use Rattle.yaml_emitter.proofs.WritingLemmas.{writes_as, writes_late, writes_err, stopped_as, stopped_early}
 use Rattle.yaml_emitter.proofs.LineLemmas.{deep_line, low_line}
 use Rattle.yaml_emitter.proofs.line.start_line.Goals as goal

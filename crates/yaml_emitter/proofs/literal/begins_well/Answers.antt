@@ -1,8 +1,4 @@
-use Rattle.std.proofs.Common.{ap, sym, ◌∙◌, subst}
-use Rattle.std.specs.Str.{chars, IsUtf8}
-use Rattle.std.specs.Str.Iter.{chars_rest}
-use Rattle.std.proofs.lemmas.Str.{IsUtf8-past_char}
-use Rattle.yaml_emitter.specs.Blocks.{begins_well}
+use Rattle.yaml_emitter.proofs.Common.{ap, begins_well, chars, chars_rest, IsUtf8, IsUtf8-past_char, subst, sym, ◌∙◌}
 use Rattle.yaml_emitter.proofs.LiteralLemmas.{well_first, well_break, well_none}
 use Rattle.yaml_emitter.proofs.literal.begins_well.Goals as goal
 

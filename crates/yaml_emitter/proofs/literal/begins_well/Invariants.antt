@@ -1,7 +1,4 @@
-use Rattle.std.proofs.Common.{◌≡◌}
-use Rattle.std.specs.Str.{chars, IsUtf8}
-use Rattle.std.specs.Str.Iter.{chars_rest}
-use Rattle.yaml_emitter.specs.Blocks.{begins_well}
+use Rattle.yaml_emitter.proofs.Common.{begins_well, chars, chars_rest, IsUtf8, ◌≡◌}
 use Rattle.yaml_emitter.proofs.literal.begins_well.Given as goal
 
 abbrev pub invariant-characters : goal.invariant-characters

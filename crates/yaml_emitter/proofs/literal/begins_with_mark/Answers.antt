@@ -1,6 +1,4 @@
-use Rattle.std.proofs.Common.{ap, sym, ◌∙◌, ◌++◌, subst, drop, length}
-use Rattle.std.specs.Str.{IsUtf8}
-use Rattle.std.proofs.lemmas.Str.{IsUtf8-drop}
+use Rattle.yaml_emitter.proofs.Common.{ap, drop, IsUtf8, IsUtf8-drop, length, subst, sym, ◌++◌, ◌∙◌}
 use Rattle.yaml_emitter.proofs.LiteralLemmas.{after_mark, no_mark}
 use Rattle.yaml_emitter.proofs.literal.begins_with_mark.Goals as goal
 

@@ -1,8 +1,4 @@
-use Rattle.std.proofs.Common.{sym, ap, subst, ◌∙◌, drop, take, arith}
-use Rattle.std.specs.List.{prefix_len}
-use Rattle.std.specs.Str.{IsCharBoundary}
-use Rattle.std.proofs.lemmas.List.Sums.{prefix_len-le-length}
-use Rattle.yaml_emitter.specs.Blocks.{IsFirstCut}
+use Rattle.yaml_emitter.proofs.Common.{ap, arith, drop, IsCharBoundary, IsFirstCut, prefix_len, prefix_len-le-length, subst, sym, take, ◌∙◌}
 use Rattle.yaml_emitter.proofs.LiteralLemmas.{runs_on, unbroken, break_boundary, break_passed, first_cut}
 use Rattle.yaml_emitter.proofs.literal.first_cut.Goals as goal
 

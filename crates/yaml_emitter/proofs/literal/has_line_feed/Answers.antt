@@ -1,4 +1,4 @@
-use Rattle.std.proofs.Common.{◌∙◌}
+use Rattle.yaml_emitter.proofs.Common.{◌∙◌}
 use Rattle.yaml_emitter.proofs.PrintableLemmas.{feed_by}
 use Rattle.yaml_emitter.proofs.literal.has_line_feed.Goals as goal
 

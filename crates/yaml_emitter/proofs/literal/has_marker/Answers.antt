@@ -1,8 +1,4 @@
-use Rattle.std.proofs.Common.{ap, sym, ◌∙◌, ◌||◌}
-use Rattle.std.specs.List.{list_any}
-use Rattle.std.specs.Str.{chars}
-use Rattle.defs_tree.specs.Lines.{lines_of}
-use Rattle.defs_tree.specs.Literal.{begins_as_marker}
+use Rattle.yaml_emitter.proofs.Common.{ap, begins_as_marker, chars, lines_of, list_any, sym, ◌||◌, ◌∙◌}
 use Rattle.yaml_emitter.proofs.LiteralLemmas.{first_line, only_line}
 use Rattle.yaml_emitter.proofs.literal.has_marker.Goals as goal
 

@@ -1,8 +1,4 @@
-use Rattle.std.proofs.Common.{◌≡◌, length}
-use Rattle.std.specs.List.{list_any}
-use Rattle.std.specs.Str.{chars, IsUtf8}
-use Rattle.defs_tree.specs.Lines.{lines_of}
-use Rattle.defs_tree.specs.Literal.{begins_as_marker}
+use Rattle.yaml_emitter.proofs.Common.{begins_as_marker, chars, IsUtf8, length, lines_of, list_any, ◌≡◌}
 use Rattle.yaml_emitter.proofs.literal.has_marker.Given as goal
 
 abbrev pub invariant-lines : goal.invariant-lines

@@ -1,8 +1,4 @@
-use Rattle.std.proofs.Common.{sym, ap, subst, ◌∙◌, drop, not}
-use Rattle.std.specs.List.{prefix_len, list_all}
-use Rattle.std.specs.Str.{chars, IsCharBoundary}
-use Rattle.defs_tree.specs.Literal.{is_literal_character}
-use Rattle.yaml_emitter.specs.Runs.{is_unprintable}
+use Rattle.yaml_emitter.proofs.Common.{ap, chars, drop, is_literal_character, is_unprintable, IsCharBoundary, list_all, not, prefix_len, subst, sym, ◌∙◌}
 use Rattle.yaml_emitter.proofs.PrintableLemmas.{printable_boundary, rest_printable}
 use Rattle.yaml_emitter.proofs.literal.is_printable.Goals as goal
 

@@ -1,4 +1,4 @@
-use Rattle.std.proofs.Common.{refl, sym}
+use Rattle.yaml_emitter.proofs.Common.{refl, sym}
 use Rattle.yaml_emitter.proofs.LiteralLemmas.{no_last_line, some_last_line}
 use Rattle.yaml_emitter.proofs.WritingLemmas.{writes_ok, writes_as, wrote_none}
 use Rattle.yaml_emitter.proofs.literal.write_last_line.Goals as goal

@@ -1,4 +1,4 @@
-use Rattle.std.proofs.Common.{refl}
+use Rattle.yaml_emitter.proofs.Common.{refl}
 use Rattle.yaml_emitter.proofs.LiteralLemmas.{first_below, line_last}
 use Rattle.yaml_emitter.proofs.WritingLemmas.{writes_err, stopped_early, left_all, left_as, left_after, left_stopped, left_writes}
 use Rattle.yaml_emitter.proofs.literal.write_lines.Goals as goal

@@ -1,8 +1,4 @@
-use Rattle.std.proofs.Common.{length}
-use Rattle.std.specs.Str.{chars, IsUtf8}
-use Rattle.defs_tree.specs.Lines.{lines_of}
-use Rattle.yaml_emitter.specs.At.{below}
-use Rattle.yaml_emitter.specs.Writing.{IsLeft}
+use Rattle.yaml_emitter.proofs.Common.{below, chars, IsLeft, IsUtf8, length, lines_of}
 use Rattle.yaml_emitter.proofs.literal.write_lines.Given as goal
 
 abbrev pub invariant-lines : goal.invariant-lines

@@ -1,4 +1,4 @@
-use Rattle.std.proofs.Common.{refl}
+use Rattle.yaml_emitter.proofs.Common.{refl}
 use Rattle.yaml_emitter.proofs.WritingLemmas.{writes_late, writes_err, stopped_early}
 use Rattle.yaml_emitter.proofs.literal.write_literal.Goals as goal
 

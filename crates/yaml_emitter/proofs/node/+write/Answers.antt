@@ -1,7 +1,4 @@
-use Rattle.std.proofs.Common.{refl, ap, sym, ◌∙◌, arith}
-use Rattle.yaml_tree.specs.Depth.{depth}
-use Rattle.yaml_tree.specs.View.{view}
-use Rattle.yaml_emitter.specs.Entries.{mark_text}
+use Rattle.yaml_emitter.proofs.Common.{ap, arith, depth, mark_text, refl, sym, view, ◌∙◌}
 use Rattle.yaml_emitter.proofs.EntryLemmas.{items_text, pairs_text, two_levels}
 use Rattle.yaml_emitter.proofs.ListLemmas.{all_left, rest_left, entry_stopped, none_left, own_no_higher, none_decide, first_within}
 use Rattle.yaml_emitter.proofs.NodeLemmas.{flat_after, block_after, block_writes, item_entries, pair_entries, scalar_pair, complex_pair}

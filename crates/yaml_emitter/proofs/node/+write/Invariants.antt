@@ -1,8 +1,4 @@
-use Rattle.std.proofs.Common.{◌+◌, ◌*◌}
-use Rattle.std.specs.Prelude.{max}
-use Rattle.defs_tree.specs.Tree.{items_of, pairs_of}
-use Rattle.yaml_tree.specs.Depth.{depth, items_depth, pairs_depth}
-use Rattle.yaml_tree.specs.View.{view}
+use Rattle.yaml_emitter.proofs.Common.{depth, items_depth, items_of, max, pairs_depth, pairs_of, view, ◌*◌, ◌+◌}
 use Rattle.yaml_emitter.proofs.ListLemmas.{AreLeft}
 use Rattle.yaml_emitter.proofs.NodeLemmas.{item_entries, pair_entries}
 use Rattle.yaml_emitter.proofs.node.+write.Given as goal

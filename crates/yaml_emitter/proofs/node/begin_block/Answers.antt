@@ -1,5 +1,4 @@
-use Rattle.std.proofs.Common.{refl, sym, ap, ◌++◌}
-use Rattle.yaml_emitter.specs.Entries.{mark_text, before_block}
+use Rattle.yaml_emitter.proofs.Common.{ap, before_block, mark_text, refl, sym, ◌++◌}
 use Rattle.yaml_emitter.proofs.WritingLemmas.{writes_as, writes_late, writes_err, stopped_early}
 use Rattle.yaml_emitter.proofs.node.begin_block.Goals as goal
 

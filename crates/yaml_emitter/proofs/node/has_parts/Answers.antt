@@ -1,6 +1,4 @@
-use Rattle.std.proofs.Common.{ap, sym, ◌∙◌}
-use Rattle.defs_tree.specs.Box.{is_block}
-use Rattle.yaml_tree.specs.View.{view}
+use Rattle.yaml_emitter.proofs.Common.{ap, is_block, sym, view, ◌∙◌}
 use Rattle.yaml_emitter.proofs.EntryLemmas.{block_of_items, block_of_pairs}
 use Rattle.yaml_emitter.proofs.node.has_parts.Goals as goal
 

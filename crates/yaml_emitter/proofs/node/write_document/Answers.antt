@@ -1,5 +1,4 @@
-use Rattle.std.proofs.Common.{refl, arith}
-use Rattle.yaml_tree.specs.View.{view}
+use Rattle.yaml_emitter.proofs.Common.{arith, refl, view}
 use Rattle.yaml_emitter.proofs.NodeLemmas.{document_text}
 use Rattle.yaml_emitter.proofs.ValidLemmas.{unless_ok}
 use Rattle.yaml_emitter.proofs.WritingLemmas.{writes_late, writes_err, writes_as, writes_for, stopped_early, stopped_for}

@@ -1,6 +1,4 @@
-use Rattle.std.proofs.Common.{sym, ap}
-use Rattle.yaml_tree.specs.View.{view}
-use Rattle.yaml_emitter.specs.At.{stacked}
+use Rattle.yaml_emitter.proofs.Common.{ap, stacked, sym, view}
 use Rattle.yaml_emitter.proofs.NodeLemmas.{flat_box, root_block}
 use Rattle.yaml_emitter.proofs.ValidLemmas.{in_any, flat_valid}
 use Rattle.yaml_emitter.proofs.WritingLemmas.{writes_as, writes_for}

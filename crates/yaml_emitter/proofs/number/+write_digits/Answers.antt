@@ -1,4 +1,4 @@
-use Rattle.std.proofs.Common.{refl}
+use Rattle.yaml_emitter.proofs.Common.{refl}
 use Rattle.yaml_emitter.proofs.NumberLemmas.{one_digit, last_digit}
 use Rattle.yaml_emitter.proofs.WritingLemmas.{writes_late, writes_err, writes_as, stopped_as, stopped_early}
 use Rattle.yaml_emitter.proofs.number.+write_digits.Goals as goal

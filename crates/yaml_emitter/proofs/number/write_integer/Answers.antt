@@ -1,4 +1,4 @@
-use Rattle.std.proofs.Common.{refl, to_z-of_z}
+use Rattle.yaml_emitter.proofs.Common.{refl, to_z-of_z}
 use Rattle.yaml_emitter.proofs.NumberLemmas.{nonnegative, negative}
 use Rattle.yaml_emitter.proofs.WritingLemmas.{writes_late, writes_err, writes_as, stopped_as, stopped_early}
 use Rattle.yaml_emitter.proofs.number.write_integer.Goals as goal

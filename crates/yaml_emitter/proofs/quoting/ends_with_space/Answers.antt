@@ -1,5 +1,4 @@
-use Rattle.std.proofs.Common.{ap, ◌∙◌, ◌-◌, get_or, length, arith}
-use Rattle.std.specs.Prelude.{◌==◌}
+use Rattle.yaml_emitter.proofs.Common.{ap, arith, get_or, length, ◌-◌, ◌==◌, ◌∙◌}
 use Rattle.yaml_emitter.proofs.EndLemmas.{last_is, none_last}
 use Rattle.yaml_emitter.proofs.quoting.ends_with_space.Goals as goal
 

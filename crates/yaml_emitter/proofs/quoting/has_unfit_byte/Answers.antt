@@ -1,6 +1,4 @@
-use Rattle.std.proofs.Common.{ap, ◌∙◌, ltb, length}
-use Rattle.defs_tree.specs.Quoting.{is_unfit_for_plain}
-use Rattle.yaml_chars.proofs.MaskLemmas.{run_ends}
+use Rattle.yaml_emitter.proofs.Common.{ap, is_unfit_for_plain, length, ltb, run_ends, ◌∙◌}
 use Rattle.yaml_emitter.proofs.quoting.has_unfit_byte.Goals as goal
 
 pub returns : goal.returns

@@ -1,6 +1,4 @@
-use Rattle.std.proofs.Common.{ap, ◌∙◌}
-use Rattle.std.specs.List.{list_any}
-use Rattle.defs_tree.specs.Quoting.{is_unfit_for_plain}
+use Rattle.yaml_emitter.proofs.Common.{ap, is_unfit_for_plain, list_any, ◌∙◌}
 use Rattle.yaml_emitter.proofs.ByteLemmas.{bytes_tested}
 use Rattle.yaml_emitter.proofs.WordLemmas.{wide_fits}
 use Rattle.yaml_emitter.proofs.quoting.has_unfit_character.Goals as goal

@@ -1,4 +1,4 @@
-use Rattle.std.proofs.Common.{◌∙◌}
+use Rattle.yaml_emitter.proofs.Common.{◌∙◌}
 use Rattle.yaml_emitter.proofs.WordLemmas.{empty_text}
 use Rattle.yaml_emitter.proofs.quoting.is_empty.Goals as goal
 

@@ -1,4 +1,4 @@
-use Rattle.std.proofs.Common.{◌∙◌, arith}
+use Rattle.yaml_emitter.proofs.Common.{arith, ◌∙◌}
 use Rattle.yaml_emitter.proofs.WordLemmas.{small_letter}
 use Rattle.yaml_emitter.proofs.quoting.is_plain_letter.Goals as goal
 

@@ -1,5 +1,4 @@
-use Rattle.std.proofs.Common.{sym, ap, ◌∙◌}
-use Rattle.yaml_emitter.specs.Words.{begins_plainly}
+use Rattle.yaml_emitter.proofs.Common.{ap, begins_plainly, sym, ◌∙◌}
 use Rattle.yaml_emitter.proofs.WordLemmas.{plain_quoted}
 use Rattle.yaml_emitter.proofs.quoting.needs_quotes.Goals as goal
 

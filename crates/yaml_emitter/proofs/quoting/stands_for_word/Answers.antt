@@ -1,7 +1,5 @@
-use Rattle.std.proofs.Common.{ap, ◌∙◌, ◌||◌}
-use Rattle.std.specs.Prelude.{not, chars}
-use Rattle.defs_tree.specs.Typing.{typing, is_string}
-use Rattle.yaml_emitter.specs.Words.{is_name}
+use Rattle.std.specs.Prelude.{chars}
+use Rattle.yaml_emitter.proofs.Common.{ap, is_name, is_string, not, typing, ◌||◌, ◌∙◌}
 use Rattle.yaml_emitter.proofs.WordLemmas.{word_of_bytes}
 use Rattle.yaml_emitter.proofs.quoting.stands_for_word.Goals as goal
 

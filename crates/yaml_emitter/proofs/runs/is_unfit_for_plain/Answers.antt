@@ -1,6 +1,4 @@
-use Rattle.std.proofs.Common.{◌≡◌, true, false, not, ◌&&◌, ap, sym, ◌∙◌, arith}
-use Rattle.std.specs.Char.{is_ascii_lowercase}
-use Rattle.yaml_emitter.specs.Runs.{has_bit}
+use Rattle.yaml_emitter.proofs.Common.{ap, arith, false, has_bit, is_ascii_lowercase, not, sym, true, ◌&&◌, ◌∙◌, ◌≡◌}
 use Rattle.yaml_emitter.proofs.ByteSets.{unfit_set, unfit_bits}
 use Rattle.yaml_emitter.proofs.runs.is_unfit_for_plain.Goals as goal
 

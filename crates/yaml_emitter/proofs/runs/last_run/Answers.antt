@@ -1,7 +1,5 @@
-use Rattle.std.proofs.Common.{sym, ap, ◌∙◌, ◌-◌, length, not, arith}
-use Rattle.std.proofs.lemmas.List.Sums.{prefix_len-le-length}
+use Rattle.yaml_emitter.proofs.Common.{ap, arith, length, not, prefix_len-le-length, run_from, run_stops, run_through, sym, ◌-◌, ◌∙◌}
 use lib.Count.{count_trailing_zeros}
-use Rattle.yaml_chars.proofs.MaskLemmas.{run_from, run_through, run_stops}
 use Rattle.yaml_emitter.proofs.runs.last_run.Goals as goal
 
 pub returns-then-found-eq0 : goal.returns-then-found-eq0

@@ -1,6 +1,5 @@
-use Rattle.std.proofs.Common.{sym, ap, ◌∙◌, arith}
+use Rattle.yaml_emitter.proofs.Common.{ap, arith, run_stops, run_through, sym, ◌∙◌}
 use lib.Count.{count_trailing_zeros}
-use Rattle.yaml_chars.proofs.MaskLemmas.{run_through, run_stops}
 use Rattle.yaml_emitter.proofs.runs.run_length.Goals as goal
 
 pub returns-then-found-ne0 : goal.returns-then-found-ne0

@@ -1,5 +1,4 @@
-use Rattle.std.proofs.Common.{◌≡◌, ◌+◌, ◌-◌, ◌≤◌, not, length, drop}
-use Rattle.std.specs.List.{prefix_len}
+use Rattle.yaml_emitter.proofs.Common.{drop, length, not, prefix_len, ◌+◌, ◌-◌, ◌≡◌, ◌≤◌}
 use Rattle.yaml_emitter.proofs.runs.run_length.Given as goal
 
 abbrev pub invariant-lanes : goal.invariant-lanes

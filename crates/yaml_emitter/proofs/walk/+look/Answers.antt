@@ -1,6 +1,4 @@
-use Rattle.std.proofs.Common.{◌∙◌, ap, sym, subst}
-use Rattle.yaml_tree.specs.View.{view}
-use Rattle.yaml_emitter.specs.ValidTree.{IsValid}
+use Rattle.yaml_emitter.proofs.Common.{ap, IsValid, subst, sym, view, ◌∙◌}
 use Rattle.yaml_emitter.proofs.ListLemmas.{all_decide, rest_decides, none_decide}
 use Rattle.yaml_emitter.proofs.ValidLemmas.{nodes, nodes_in_pairs, valid_hash}
 use Rattle.yaml_emitter.proofs.walk.+look.Goals as goal

@@ -1,7 +1,4 @@
-use Rattle.std.proofs.Common.{◌+◌, ◌*◌}
-use Rattle.defs_tree.specs.Tree.{items_of, pairs_of}
-use Rattle.yaml_tree.specs.Depth.{depth, items_depth, pairs_depth}
-use Rattle.yaml_tree.specs.View.{view}
+use Rattle.yaml_emitter.proofs.Common.{depth, items_depth, items_of, pairs_depth, pairs_of, view, ◌*◌, ◌+◌}
 use Rattle.yaml_emitter.proofs.ListLemmas.{Decide}
 use Rattle.yaml_emitter.proofs.ValidLemmas.{nodes, nodes_in_pairs}
 use Rattle.yaml_emitter.proofs.walk.+look.Given as goal

@@ -1,5 +1,4 @@
-use Rattle.std.proofs.Common.{ap, ◌∙◌}
-use Rattle.std.specs.Str.{chars}
+use Rattle.yaml_emitter.proofs.Common.{ap, chars, ◌∙◌}
 use Rattle.yaml_chars.proofs.TextLemmas.{chars-encode}
 use Rattle.yaml_emitter.proofs.WritingLemmas.{writes_as}
 use Rattle.yaml_emitter.proofs.writer.put_char.Goals as goal

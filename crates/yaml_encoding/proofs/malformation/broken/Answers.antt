@@ -1,5 +1,5 @@
-use Rattle.std.proofs.Common.{arith}
 use Rattle.std.proofs.lemmas.Grind.{common_steps}
+use Rattle.yaml_encoding.proofs.Common.{arith}
 use Rattle.yaml_encoding.proofs.MalformationLemmas.{stopped_without}
 use Rattle.yaml_encoding.proofs.malformation.broken.Goals as goal
 

@@ -1,4 +1,4 @@
-use Rattle.std.proofs.Common.{refl}
+use Rattle.yaml_encoding.proofs.Common.{refl}
 use Rattle.yaml_encoding.proofs.MalformationLemmas.{broke, stopped_by}
 use Rattle.yaml_encoding.proofs.malformation.call.Goals as goal
 

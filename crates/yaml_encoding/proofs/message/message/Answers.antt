@@ -1,4 +1,4 @@
-use Rattle.yaml_chars.proofs.TextLemmas.{string_chars_nil}
+use Rattle.yaml_encoding.proofs.Common.{string_chars_nil}
 use Rattle.yaml_encoding.proofs.MessageLemmas.{message_whole}
 use Rattle.yaml_encoding.proofs.message.message.Goals as goal
 

@@ -1,5 +1,4 @@
-use Rattle.std.proofs.Common.{rules}
-use Rattle.defs_text.specs.Text.{string_chars}
+use Rattle.yaml_encoding.proofs.Common.{rules, string_chars}
 use Rattle.yaml_encoding.proofs.MessageLemmas.{list_pushed}
 use Rattle.yaml_encoding.proofs.message.push_list.Goals as goal
 

@@ -1,6 +1,4 @@
-use Rattle.std.proofs.Common.{◌≡◌, ◌++◌, drop}
-use Rattle.defs_text.specs.Text.{string_chars}
-use Rattle.yaml_encoding.specs.Messages.{after}
+use Rattle.yaml_encoding.proofs.Common.{after, drop, string_chars, ◌++◌, ◌≡◌}
 use Rattle.yaml_encoding.proofs.message.push_others.Given as goal
 
 abbrev pub invariant-others : goal.invariant-others

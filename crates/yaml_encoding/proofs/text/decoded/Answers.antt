@@ -1,4 +1,4 @@
-use Rattle.yaml_chars.proofs.TextLemmas.{string_chars_nil}
+use Rattle.yaml_encoding.proofs.Common.{string_chars_nil}
 use Rattle.yaml_encoding.proofs.ReadLemmas.{read_start, read_end}
 use Rattle.yaml_encoding.proofs.text.decoded.Goals as goal
 

@@ -1,8 +1,4 @@
-use Rattle.std.proofs.Common.{length, ◌-◌}
-use Rattle.defs_text.specs.Text.{string_chars}
-use Rattle.yaml_encoding.specs.Outcomes.{IsRead}
-use Rattle.yaml_encoding.specs.Encodings.{encoding_of}
-use Rattle.yaml_encoding.specs.Steps.{IsStep, curried, steps_by}
+use Rattle.yaml_encoding.proofs.Common.{curried, encoding_of, IsRead, IsStep, length, steps_by, string_chars, ◌-◌}
 use Rattle.yaml_encoding.proofs.text.decoded.Given as goal
 
 abbrev pub invariant-parts : goal.invariant-parts

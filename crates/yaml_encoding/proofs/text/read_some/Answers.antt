@@ -1,7 +1,4 @@
-use Rattle.std.proofs.Common.{refl, rules, []}
-use Rattle.defs_text.specs.Text.{string_chars}
-use Rattle.yaml_encoding.specs.Encodings.{encoding_of}
-use Rattle.yaml_encoding.specs.Front.{sequence_of}
+use Rattle.yaml_encoding.proofs.Common.{[], encoding_of, refl, rules, sequence_of, string_chars}
 use Rattle.yaml_encoding.proofs.ValidLemmas.{passes_text}
 use Rattle.yaml_encoding.proofs.ReadLemmas.{rest_of, takes, passes_character, passes_malformation, passes_stop}
 use Rattle.yaml_encoding.proofs.text.read_some.Goals as goal

@@ -1,4 +1,4 @@
-use Rattle.yaml_encoding.specs.Steps.{IsStep, curried}
+use Rattle.yaml_encoding.proofs.Common.{curried, IsStep}
 use Rattle.yaml_encoding.proofs.TrapLemmas.{text_ignored, text_replaced, text_strict, text_called}
 use Rattle.yaml_encoding.proofs.text.text_of.Goals as goal
 

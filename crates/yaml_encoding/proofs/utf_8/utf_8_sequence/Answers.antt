@@ -1,4 +1,4 @@
-use Rattle.std.proofs.Common.{rules, ◌∙◌, inl, inr}
+use Rattle.yaml_encoding.proofs.Common.{inl, inr, rules, ◌∙◌}
 use Rattle.yaml_encoding.proofs.Utf8Lemmas.{Trails-start, Trails-end, Trails-leave, Trails-next}
 use Rattle.yaml_encoding.proofs.utf_8.utf_8_sequence.Goals as goal
 use Rattle.yaml_encoding.proofs.utf_8.utf_8_sequence.Goals.{then-byte-start-via-then-byte-start, then-byte-start-via-else-byte-start+then-start-byte}

@@ -1,4 +1,4 @@
-use Rattle.yaml_encoding.specs.Trails.{Trails}
+use Rattle.yaml_encoding.proofs.Common.{Trails}
 use Rattle.yaml_encoding.proofs.utf_8.utf_8_sequence.Given as goal
 
 abbrev pub invariant-trails : goal.invariant-trails

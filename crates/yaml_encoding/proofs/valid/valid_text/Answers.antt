@@ -1,5 +1,5 @@
-use Rattle.std.proofs.Common.{◌≡◌, ap, ◌∙◌, length}
 use Rattle.std.specs.Str.Lossy.{utf8_valid_len}
+use Rattle.yaml_encoding.proofs.Common.{ap, length, ◌∙◌, ◌≡◌}
 use Rattle.yaml_encoding.proofs.ValidLemmas.{valid_some}
 use Rattle.yaml_encoding.proofs.valid.valid_text.Goals as goal
 

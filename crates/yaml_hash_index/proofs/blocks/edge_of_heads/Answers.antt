@@ -1,5 +1,4 @@
-use Rattle.std.proofs.Common.{refl, ap, ◌∙◌}
-use Rattle.yaml_hash_index.specs.Edges.{digest_at}
+use Rattle.yaml_hash_index.proofs.Common.{ap, digest_at, refl, ◌∙◌}
 use Rattle.yaml_hash_index.proofs.Halving.{middle, middle_within, search_after, search_before}
 use Rattle.yaml_hash_index.proofs.Joining.{block_read}
 use Rattle.yaml_hash_index.proofs.blocks.edge_of_heads.Goals as goal

@@ -1,6 +1,4 @@
-use Rattle.std.proofs.Common.{◌-◌, length}
-use Rattle.defs_tree.specs.Digits.{binary_digits}
-use Rattle.yaml_hash_index.specs.Blocks.{head_at}
+use Rattle.yaml_hash_index.proofs.Common.{binary_digits, head_at, length, ◌-◌}
 use Rattle.yaml_hash_index.proofs.Halving.{IsSearch}
 use Rattle.yaml_hash_index.proofs.blocks.edge_of_heads.Given as goal
 

@@ -1,4 +1,4 @@
-use Rattle.yaml_hash_index.specs.Starts.{AreApart, head_length}
+use Rattle.yaml_hash_index.proofs.Common.{AreApart, head_length}
 use Rattle.yaml_hash_index.proofs.starts.add_blocks.Given as goal
 
 abbrev pub invariant-loop-i : goal.invariant-loop-i

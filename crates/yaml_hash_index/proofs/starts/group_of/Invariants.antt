@@ -1,4 +1,4 @@
-use Rattle.std.proofs.Common.{◌-◌, ◌<◌, ◌≤◌, length, get_or}
+use Rattle.yaml_hash_index.proofs.Common.{get_or, length, ◌-◌, ◌<◌, ◌≤◌}
 use Rattle.yaml_hash_index.proofs.starts.group_of.Given as goal
 
 abbrev pub invariant-loop-low : goal.invariant-loop-low

@@ -1,6 +1,4 @@
-use Rattle.std.proofs.Common.{◌≡◌, ◌-◌, suc, length, sym, subst, arith}
-use Rattle.std.proofs.lemmas.List.{get_or_read}
-use Rattle.yaml_hash_index.specs.Starts.{AreStarts}
+use Rattle.yaml_hash_index.proofs.Common.{AreStarts, arith, get_or_read, length, subst, suc, sym, ◌-◌, ◌≡◌}
 use Rattle.yaml_hash_index.proofs.Starting.{starts_some, starts_pushed}
 use Rattle.yaml_hash_index.proofs.starts.grow.Goals as goal
 

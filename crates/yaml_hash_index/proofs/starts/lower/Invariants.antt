@@ -1,4 +1,4 @@
-use Rattle.yaml_hash_index.specs.Starts.{AreApart}
+use Rattle.yaml_hash_index.proofs.Common.{AreApart}
 use Rattle.yaml_hash_index.proofs.starts.lower.Given as goal
 
 abbrev pub invariant-loop-i : goal.invariant-loop-i

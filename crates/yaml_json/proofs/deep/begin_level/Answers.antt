@@ -1,5 +1,4 @@
-use Rattle.std.proofs.Common.{refl}
-use Rattle.yaml_emitter.proofs.WritingLemmas.{stopped_here}
+use Rattle.yaml_json.proofs.Common.{refl, stopped_here}
 use Rattle.yaml_json.proofs.PartLemmas.{when_err}
 use Rattle.yaml_json.proofs.deep.begin_level.Goals as goal
 

@@ -1,10 +1,5 @@
-use Rattle.std.proofs.Common.{◌++◌, refl, ap, subst}
-use Rattle.defs_layout.specs.JsonText.{new_line}
-use Rattle.yaml_emitter.proofs.WritingLemmas.{stopped_as, stopped_early, stopped_late, wrote_then}
-use Rattle.yaml_emitter.specs.Writing.{Wrote}
+use Rattle.yaml_json.proofs.Common.{ap, closing, new_line, refl, stopped_as, stopped_early, stopped_late, subst, tree_left, Wrote, wrote_then, ◌++◌}
 use Rattle.yaml_json.proofs.PartLemmas.{when_err}
-use Rattle.yaml_json.specs.Left.{closing}
-use Rattle.yaml_json.specs.Level.{tree_left}
 use Rattle.yaml_json.proofs.deep.end_level.Goals as goal
 
 pub returns-in_err-new_line-clause-stopped : goal.returns-in_err-new_line-clause-stopped

@@ -1,5 +1,4 @@
-use Rattle.std.proofs.Common.{refl}
-use Rattle.yaml_emitter.proofs.WritingLemmas.{stopped_for}
+use Rattle.yaml_json.proofs.Common.{refl, stopped_for}
 use Rattle.yaml_json.proofs.GivenLemmas.{has_json}
 use Rattle.yaml_json.proofs.deep.write_deep.Goals as goal
 

@@ -1,9 +1,7 @@
-use Rattle.std.proofs.Common.{◌+◌, refl, sym, ◌∙◌}
-use Rattle.yaml_emitter.proofs.WritingLemmas.{stopped_as}
+use Rattle.yaml_json.proofs.Common.{refl, stopped_as, sym, view, ◌+◌, ◌∙◌}
 use Rattle.yaml_json.proofs.GivenLemmas.{flat_given, flat_text_is}
 use Rattle.yaml_json.proofs.LeftLemmas.{item_next}
 use Rattle.yaml_json.proofs.PartLemmas.{when_err, goes_in, goes_on, stopped_before, stopped_in, wrote_flat}
-use Rattle.yaml_tree.specs.View.{view}
 use Rattle.yaml_json.proofs.deep.write_items_from.Goals as goal
 
 pub returns-in_err-begin_entry-clause-stopped : goal.returns-in_err-begin_entry-clause-stopped

@@ -1,6 +1,5 @@
-use Rattle.std.proofs.Common.{◌-◌, false, length}
+use Rattle.yaml_json.proofs.Common.{false, left_in, length, ◌-◌}
 use Rattle.yaml_json.proofs.PartLemmas.{Goes}
-use Rattle.yaml_json.specs.Level.{left_in}
 use Rattle.yaml_json.proofs.deep.write_items_from.Given as goal
 
 abbrev pub invariant-at : goal.invariant-at

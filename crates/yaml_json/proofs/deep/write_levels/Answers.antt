@@ -1,5 +1,4 @@
-use Rattle.std.proofs.Common.{refl, arith}
-use Rattle.yaml_emitter.proofs.WritingLemmas.{writes_err, writes_ok}
+use Rattle.yaml_json.proofs.Common.{arith, refl, writes_err, writes_ok}
 use Rattle.yaml_json.proofs.LevelLemmas.{end_stopped, finished, first_stopped, opened, opened_smaller, opening_stopped, parts_stopped, place, resumed, resumed_smaller, stands_first, within_more}
 use Rattle.yaml_json.proofs.deep.write_levels.Goals as goal
 

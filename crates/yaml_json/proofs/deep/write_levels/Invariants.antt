@@ -1,7 +1,6 @@
-use Rattle.std.proofs.Common.{◌≤◌, ◌∷◌, length}
+use Rattle.yaml_json.proofs.Common.{length, view, ◌∷◌, ◌≤◌}
 use Rattle.yaml_json.proofs.LevelLemmas.{Stands}
 use Rattle.yaml_json.proofs.OpenLevels.{trees, waiting, weight}
-use Rattle.yaml_tree.specs.View.{view}
 use Rattle.yaml_json.proofs.deep.write_levels.Given as goal
 
 abbrev pub invariant-levels : goal.invariant-levels

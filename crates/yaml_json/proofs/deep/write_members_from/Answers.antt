@@ -1,10 +1,8 @@
-use Rattle.std.proofs.Common.{◌+◌, refl, sym, ◌∙◌, arith}
-use Rattle.yaml_emitter.proofs.WritingLemmas.{stopped_as, stopped_early, stopped_late, wrote_then}
+use Rattle.yaml_json.proofs.Common.{arith, refl, stopped_as, stopped_early, stopped_late, sym, view, wrote_then, ◌+◌, ◌∙◌}
 use Rattle.yaml_json.proofs.GivenLemmas.{flat_given, flat_text_is}
 use Rattle.yaml_json.proofs.LeftLemmas.{member_next}
 use Rattle.yaml_json.proofs.PartLemmas.{when_err, goes_in, goes_on, members_end, stopped_before, stopped_in, wrote_flat}
 use Rattle.yaml_json.proofs.RowLemmas.{no_member_left}
-use Rattle.yaml_tree.specs.View.{view}
 use Rattle.yaml_json.proofs.deep.write_members_from.Goals as goal
 
 pub returns-then-at-row-clause-end : goal.returns-then-at-row-clause-end

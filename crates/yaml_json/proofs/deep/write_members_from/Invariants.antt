@@ -1,6 +1,5 @@
-use Rattle.std.proofs.Common.{◌-◌, true, length}
+use Rattle.yaml_json.proofs.Common.{left_in, length, true, ◌-◌}
 use Rattle.yaml_json.proofs.PartLemmas.{Goes}
-use Rattle.yaml_json.specs.Level.{left_in}
 use Rattle.yaml_json.proofs.deep.write_members_from.Given as goal
 
 abbrev pub invariant-at : goal.invariant-at

@@ -1,8 +1,6 @@
-use Rattle.std.proofs.Common.{◌≡◌, ◌+◌, ◌<◌, ◌∷◌, arith, subst, sym}
-use Rattle.std.proofs.lemmas.Grind.{common_steps}
+use Rattle.yaml_json.proofs.Common.{arith, common_steps, subst, sym, view, ◌+◌, ◌<◌, ◌∷◌, ◌≡◌}
 use Rattle.yaml_json.proofs.OpenLevels.{trees, weight}
 use Rattle.yaml_json.proofs.SearchLemmas.{Searches, has_parts_met, root_sound, searches_in, smaller_in}
-use Rattle.yaml_tree.specs.View.{view}
 use Rattle.yaml_json.proofs.find.count_levels_in.Goals as goal
 
 pub levels-smaller : goal.levels-smaller

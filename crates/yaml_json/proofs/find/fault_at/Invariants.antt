@@ -1,8 +1,4 @@
-use Rattle.std.proofs.Common.{◌≡◌, ◌∷◌, length}
-use Rattle.std.specs.Prelude.{Some, map, reverse}
-use Rattle.defs_layout.specs.Fault.{here}
-use Rattle.yaml_json.specs.Found.{reason_view, step_view}
-use Rattle.yaml_json.specs.Search.{fault_in}
+use Rattle.yaml_json.proofs.Common.{fault_in, here, length, map, reason_view, reverse, Some, step_view, ◌∷◌, ◌≡◌}
 use Rattle.yaml_json.proofs.find.fault_at.Given as goal
 
 abbrev pub invariant-outer : goal.invariant-outer

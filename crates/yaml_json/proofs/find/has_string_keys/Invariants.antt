@@ -1,6 +1,4 @@
-use Rattle.std.proofs.Common.{◌≡◌}
-use Rattle.defs_layout.specs.Fault.{are_strings}
-use Rattle.defs_tree.specs.Tree.{pairs_of}
+use Rattle.yaml_json.proofs.Common.{are_strings, pairs_of, ◌≡◌}
 use Rattle.yaml_json.proofs.find.has_string_keys.Given as goal
 
 abbrev pub invariant-keys : goal.invariant-keys

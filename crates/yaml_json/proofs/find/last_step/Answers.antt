@@ -1,9 +1,6 @@
-use Rattle.std.proofs.Common.{ap, sym, ◌∙◌}
 use Rattle.std.specs.Str.{chars}
-use Rattle.defs_tree.specs.Path.{key}
-use Rattle.defs_text.specs.Text.{string_chars}
+use Rattle.yaml_json.proofs.Common.{ap, key, step_in, string_chars, sym, ◌∙◌}
 use Rattle.yaml_json.proofs.FindLemmas.{no_step}
-use Rattle.yaml_json.specs.Search.{step_in}
 use Rattle.yaml_json.proofs.find.last_step.Goals as goal
 
 pub returns-in-None : goal.returns-in-None

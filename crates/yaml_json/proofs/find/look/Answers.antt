@@ -1,9 +1,5 @@
-use Rattle.std.proofs.Common.{sym, subst}
 use Rattle.std.specs.Str.{chars}
-use Rattle.defs_text.specs.Text.{string_chars}
-use Rattle.defs_tree.specs.Tree.{real}
-use Rattle.yaml_json.specs.Search.{IsSeen}
-use Rattle.yaml_tree.specs.View.{view}
+use Rattle.yaml_json.proofs.Common.{IsSeen, real, string_chars, subst, sym, view}
 use Rattle.yaml_json.proofs.find.look.Goals as goal
 
 pub returns-in-Real : goal.returns-in-Real

@@ -1,4 +1,4 @@
-use Rattle.std.proofs.Common.{◌+◌, refl}
+use Rattle.yaml_json.proofs.Common.{refl, ◌+◌}
 use Rattle.yaml_json.proofs.SearchLemmas.{item_part, meets}
 use Rattle.yaml_json.proofs.find.next_met_item.Goals as goal
 

@@ -1,6 +1,5 @@
-use Rattle.std.proofs.Common.{◌-◌, false, length}
+use Rattle.yaml_json.proofs.Common.{false, left_in, length, ◌-◌}
 use Rattle.yaml_json.proofs.SearchLemmas.{Passes}
-use Rattle.yaml_json.specs.Level.{left_in}
 use Rattle.yaml_json.proofs.find.next_met_item.Given as goal
 
 abbrev pub invariant-at : goal.invariant-at

@@ -1,4 +1,4 @@
-use Rattle.std.proofs.Common.{◌+◌, refl, arith}
+use Rattle.yaml_json.proofs.Common.{arith, refl, ◌+◌}
 use Rattle.yaml_json.proofs.RowLemmas.{no_member_left}
 use Rattle.yaml_json.proofs.SearchLemmas.{member_part, meets, no_more_members, passes_more}
 use Rattle.yaml_json.proofs.find.next_met_value.Goals as goal

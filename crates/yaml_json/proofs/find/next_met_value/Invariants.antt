@@ -1,6 +1,5 @@
-use Rattle.std.proofs.Common.{◌-◌, true, length}
+use Rattle.yaml_json.proofs.Common.{left_in, length, true, ◌-◌}
 use Rattle.yaml_json.proofs.SearchLemmas.{Passes}
-use Rattle.yaml_json.specs.Level.{left_in}
 use Rattle.yaml_json.proofs.find.next_met_value.Given as goal
 
 abbrev pub invariant-at : goal.invariant-at

@@ -1,7 +1,5 @@
-use Rattle.std.proofs.Common.{ap, sym, ◌∙◌}
 use Rattle.std.specs.Str.{chars}
-use Rattle.defs_tree.specs.Path.{key}
-use Rattle.defs_text.specs.Text.{string_chars}
+use Rattle.yaml_json.proofs.Common.{ap, key, string_chars, sym, ◌∙◌}
 use Rattle.yaml_json.proofs.FindLemmas.{other_step}
 use Rattle.yaml_json.proofs.find.text_of.Goals as goal
 

@@ -1,5 +1,4 @@
-use Rattle.std.proofs.Common.{◌≡◌, ◌+◌, ◌%◌, set, arith, length-set}
-use Rattle.std.proofs.lemmas.List.{set_comm, drop-set}
+use Rattle.yaml_json.proofs.Common.{arith, drop-set, length-set, set, set_comm, ◌%◌, ◌+◌, ◌≡◌}
 use Rattle.yaml_json.proofs.DigitLemmas.{pair_at}
 use Rattle.yaml_json.proofs.integer.put_pair.Goals as goal
 

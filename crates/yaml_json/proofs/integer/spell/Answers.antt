@@ -1,6 +1,4 @@
-use Rattle.std.proofs.Common.{◌≡◌, ◌+◌, ◌-◌, arith, to_z-of_z}
-use Rattle.std.proofs.lemmas.Fmt.{length-decimal-le}
-use Rattle.std.proofs.lemmas.List.{drop-set}
+use Rattle.yaml_json.proofs.Common.{arith, drop-set, length-decimal-le, to_z-of_z, ◌+◌, ◌-◌, ◌≡◌}
 use Rattle.yaml_json.proofs.DigitLemmas.{minus_first}
 use Rattle.yaml_json.proofs.integer.spell.Goals as goal
 

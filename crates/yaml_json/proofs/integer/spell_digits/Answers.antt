@@ -1,6 +1,4 @@
-use Rattle.std.proofs.Common.{◌≡◌, ◌+◌, ◌-◌, length, ap, arith, refl, append-nil, append_assoc}
-use Rattle.std.proofs.lemmas.Fmt.{decimal_digit, length-decimal-le}
-use Rattle.std.proofs.lemmas.List.{drop-set, drop_all}
+use Rattle.yaml_json.proofs.Common.{ap, append-nil, append_assoc, arith, decimal_digit, drop-set, drop_all, length, length-decimal-le, refl, ◌+◌, ◌-◌, ◌≡◌}
 use Rattle.yaml_json.proofs.DigitLemmas.{one_digit, two_digits, two_more, longer_by_two}
 use Rattle.yaml_json.proofs.integer.spell_digits.Goals as goal
 

@@ -1,5 +1,4 @@
-use Rattle.std.proofs.Common.{◌≡◌, ◌+◌, ◌≤◌, ◌++◌, length, drop}
-use Rattle.std.specs.Fmt.{decimal}
+use Rattle.yaml_json.proofs.Common.{decimal, drop, length, ◌++◌, ◌+◌, ◌≡◌, ◌≤◌}
 use Rattle.yaml_json.proofs.integer.spell_digits.Given as goal
 
 abbrev pub invariant-left : goal.invariant-left

@@ -1,7 +1,4 @@
-use Rattle.std.proofs.Common.{◌∙◌, to_z-of_z, subst, sym, ap}
-use Rattle.std.specs.Fmt.{signed_decimal}
-use Rattle.std.specs.Str.{IsAscii, IsUtf8}
-use Rattle.std.proofs.lemmas.Str.{IsUtf8-from_ascii}
+use Rattle.yaml_json.proofs.Common.{ap, IsAscii, IsUtf8, IsUtf8-from_ascii, signed_decimal, subst, sym, to_z-of_z, ◌∙◌}
 use Rattle.yaml_json.proofs.DigitLemmas.{end_text, signed_ascii}
 use Rattle.yaml_json.proofs.integer.spelled.Goals as goal
 

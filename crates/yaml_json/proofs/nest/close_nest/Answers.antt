@@ -1,5 +1,4 @@
-use Rattle.std.proofs.Common.{refl, arith}
-use Rattle.yaml_emitter.proofs.WritingLemmas.{writes_err, writes_ok, stopped_early, left_all, left_as, left_after, left_none, left_stopped}
+use Rattle.yaml_json.proofs.Common.{arith, left_after, left_all, left_as, left_none, left_stopped, refl, stopped_early, writes_err, writes_ok}
 use Rattle.yaml_json.proofs.NestLemmas.{next_end, no_end}
 use Rattle.yaml_json.proofs.nest.close_nest.Goals as goal
 

@@ -1,5 +1,4 @@
-use Rattle.yaml_emitter.specs.Writing.{IsLeft}
-use Rattle.yaml_json.specs.Nest.{nest_end}
+use Rattle.yaml_json.proofs.Common.{IsLeft, nest_end}
 use Rattle.yaml_json.proofs.nest.close_nest.Given as goal
 
 abbrev pub invariant-left : goal.invariant-left

@@ -1,4 +1,4 @@
-use Rattle.std.proofs.Common.{refl}
+use Rattle.yaml_json.proofs.Common.{refl}
 use Rattle.yaml_json.proofs.NestLemmas.{opens_none, opens_more, margin_stops, bracket_stops, line_stops}
 use Rattle.yaml_json.proofs.PartLemmas.{when_err}
 use Rattle.yaml_json.proofs.nest.open_nest.Goals as goal

@@ -1,6 +1,4 @@
-use Rattle.std.proofs.Common.{◌-◌}
-use Rattle.yaml_json.specs.Nest.{Opens}
-use Rattle.yaml_tree.specs.View.{view}
+use Rattle.yaml_json.proofs.Common.{Opens, view, ◌-◌}
 use Rattle.yaml_json.proofs.nest.open_nest.Given as goal
 
 abbrev pub invariant-levels : goal.invariant-levels

@@ -1,6 +1,5 @@
-use Rattle.std.proofs.Common.{ap, sym, ◌∙◌, true, arith}
+use Rattle.yaml_json.proofs.Common.{ap, arith, reads_number, sym, true, ◌∙◌}
 use Rattle.defs_tree.proofs.Parsing.{parsed_text}
-use Rattle.defs_layout.proofs.Reading.{reads_number}
 use Rattle.yaml_json.proofs.NumberLemmas.{real_is, no_real}
 use Rattle.yaml_json.proofs.number.is_json_real.Goals as goal
 

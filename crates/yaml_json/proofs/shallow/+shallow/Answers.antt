@@ -1,13 +1,6 @@
-use Rattle.std.proofs.Common.{◌≡◌, ◌&&◌, ap, sym, ◌∙◌, arith}
-use Rattle.std.specs.Prelude.{nat_lt}
 use Rattle.std.specs.Str.{chars}
-use Rattle.defs_layout.specs.JsonReal.{is_json_real}
-use Rattle.defs_text.specs.Text.{string_chars}
-use Rattle.defs_tree.specs.Tree.{items_of, pairs_of}
+use Rattle.yaml_json.proofs.Common.{ap, are_items_shallow, arith, depth, is_json_real, is_shallow, items_depth, items_of, nat_lt, pairs_of, string_chars, sym, view, ◌&&◌, ◌∙◌, ◌≡◌}
 use Rattle.yaml_json.proofs.ShallowLemmas.{next_item, no_items_within, no_pairs_within, nothing_within, only_within, scalar_within}
-use Rattle.yaml_json.specs.Shallow.{is_shallow, are_items_shallow}
-use Rattle.yaml_tree.specs.Depth.{depth, items_depth}
-use Rattle.yaml_tree.specs.View.{view}
 use Rattle.yaml_json.proofs.shallow.+shallow.Goals as goal
 
 -- ---- a nest

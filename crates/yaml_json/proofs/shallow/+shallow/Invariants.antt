@@ -1,8 +1,4 @@
-use Rattle.std.proofs.Common.{◌≡◌, ◌+◌, ◌*◌, ◌≤◌}
-use Rattle.defs_tree.specs.Tree.{items_of, pairs_of}
-use Rattle.yaml_tree.specs.Depth.{depth, items_depth, pairs_depth}
-use Rattle.yaml_tree.specs.View.{view}
-use Rattle.yaml_json.specs.Shallow.{is_shallow, are_items_shallow, are_pairs_shallow}
+use Rattle.yaml_json.proofs.Common.{are_items_shallow, are_pairs_shallow, depth, is_shallow, items_depth, items_of, pairs_depth, pairs_of, view, ◌*◌, ◌+◌, ◌≡◌, ◌≤◌}
 use Rattle.yaml_json.proofs.shallow.+shallow.Given as goal
 
 abbrev pub decreases-is_shallow : goal.decreases-is_shallow

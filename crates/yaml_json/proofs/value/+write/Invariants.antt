@@ -1,9 +1,5 @@
-use Rattle.std.proofs.Common.{◌+◌, ◌*◌}
-use Rattle.defs_tree.specs.Tree.{items_of, pairs_of}
-use Rattle.yaml_emitter.proofs.ListLemmas.{AreLeft}
+use Rattle.yaml_json.proofs.Common.{AreLeft, depth, items_depth, items_of, pairs_depth, pairs_of, view, ◌*◌, ◌+◌}
 use Rattle.yaml_json.proofs.LeftLemmas.{item_entries, member_entries}
-use Rattle.yaml_tree.specs.Depth.{depth, items_depth, pairs_depth}
-use Rattle.yaml_tree.specs.View.{view}
 use Rattle.yaml_json.proofs.value.+write.Given as goal
 
 abbrev pub decreases-write_value : goal.decreases-write_value

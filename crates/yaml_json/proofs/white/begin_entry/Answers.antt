@@ -1,6 +1,4 @@
-use Rattle.std.proofs.Common.{refl, ap, sym}
-use Rattle.yaml_emitter.proofs.WritingLemmas.{writes_as, writes_late, writes_err, stopped_early}
-use Rattle.yaml_json.specs.Left.{before_entry}
+use Rattle.yaml_json.proofs.Common.{ap, before_entry, refl, stopped_early, sym, writes_as, writes_err, writes_late}
 use Rattle.yaml_json.proofs.white.begin_entry.Goals as goal
 
 pub returns-in_err-put_ascii : goal.returns-in_err-put_ascii

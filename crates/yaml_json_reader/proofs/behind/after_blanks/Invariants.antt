@@ -1,4 +1,4 @@
-use Rattle.std.proofs.Common.{◌≤◌, length}
+use Rattle.yaml_json_reader.proofs.Common.{length, ◌≤◌}
 use Rattle.yaml_json_reader.proofs.behind.after_blanks.Given as goal
 
 abbrev pub invariant-blanks : goal.invariant-blanks

@@ -1,4 +1,4 @@
-use Rattle.std.proofs.Common.{◌≤◌, length}
+use Rattle.yaml_json_reader.proofs.Common.{length, ◌≤◌}
 use Rattle.yaml_json_reader.proofs.behind.after_digits.Given as goal
 
 abbrev pub invariant-digits : goal.invariant-digits

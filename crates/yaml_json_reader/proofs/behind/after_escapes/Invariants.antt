@@ -1,4 +1,4 @@
-use Rattle.std.proofs.Common.{◌≤◌, length}
+use Rattle.yaml_json_reader.proofs.Common.{length, ◌≤◌}
 use Rattle.yaml_json_reader.proofs.behind.after_escapes.Given as goal
 
 abbrev pub invariant-parts : goal.invariant-parts

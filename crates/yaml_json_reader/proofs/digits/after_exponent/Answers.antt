@@ -1,4 +1,4 @@
-use Rattle.std.proofs.Common.{true, false, arith}
+use Rattle.yaml_json_reader.proofs.Common.{arith, false, true}
 use Rattle.yaml_json_reader.proofs.NumberLemmas.{some_of, rest_of, exponent_from, no_exponent_from}
 use Rattle.yaml_json_reader.proofs.digits.after_exponent.Goals as goal
 

@@ -1,4 +1,4 @@
-use Rattle.std.proofs.Common.{arith}
+use Rattle.yaml_json_reader.proofs.Common.{arith}
 use Rattle.yaml_json_reader.proofs.NumberLemmas.{some_of, rest_of, fraction_from, no_fraction_from}
 use Rattle.yaml_json_reader.proofs.digits.after_fraction.Goals as goal
 

@@ -1,5 +1,5 @@
+use Rattle.yaml_json_reader.proofs.Common.{rules}
 use Rattle.yaml_json_reader.proofs.NumberLemmas.{digits_read}
-use Rattle.std.proofs.Common.{rules}
 use Rattle.yaml_json_reader.proofs.digits.after_some_digits.Goals as goal
 
 pub returns : goal.returns

@@ -1,4 +1,4 @@
-use Rattle.std.proofs.Common.{refl, get_or, arith}
+use Rattle.yaml_json_reader.proofs.Common.{arith, get_or, refl}
 use Rattle.yaml_json_reader.proofs.NumberLemmas.{rest_of, zero_whole, digits_whole}
 use Rattle.yaml_json_reader.proofs.digits.after_whole.Goals as goal
 

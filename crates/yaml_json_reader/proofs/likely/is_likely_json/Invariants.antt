@@ -1,4 +1,4 @@
-use Rattle.std.proofs.Common.{length}
+use Rattle.yaml_json_reader.proofs.Common.{length}
 use Rattle.yaml_json_reader.proofs.likely.is_likely_json.Given as goal
 
 abbrev pub invariant-values : goal.invariant-values

@@ -1,4 +1,4 @@
-use Rattle.std.proofs.Common.{◌≤◌, length}
+use Rattle.yaml_json_reader.proofs.Common.{length, ◌≤◌}
 use Rattle.yaml_json_reader.proofs.likely.next_value.Given as goal
 
 abbrev pub invariant-levels : goal.invariant-levels

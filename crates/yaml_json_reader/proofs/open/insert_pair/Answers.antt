@@ -1,6 +1,4 @@
-use Rattle.std.proofs.Common.{sym, ◌∙◌, ap}
-use Rattle.std.specs.Prelude.{option_map}
-use Rattle.yaml_tree.specs.View.{view}
+use Rattle.yaml_json_reader.proofs.Common.{ap, option_map, sym, view, ◌∙◌}
 use Rattle.yaml_json_reader.proofs.Collections.{pair_added}
 use Rattle.yaml_json_reader.proofs.open.insert_pair.Goals as goal
 

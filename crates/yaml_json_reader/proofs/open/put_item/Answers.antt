@@ -1,5 +1,4 @@
-use Rattle.std.proofs.Common.{◌≡◌, ◌∷◌, [], ◌++◌, length, sym, ◌∙◌, ap, false, arith}
-use Rattle.yaml_tree.specs.View.{view}
+use Rattle.yaml_json_reader.proofs.Common.{[], ap, arith, false, length, sym, view, ◌++◌, ◌∙◌, ◌∷◌, ◌≡◌}
 use Rattle.yaml_json_reader.proofs.Gaps.{taken, not_taken}
 use Rattle.yaml_json_reader.proofs.Longer.{gap_nearer}
 use Rattle.yaml_json_reader.proofs.Results.{was_ok}

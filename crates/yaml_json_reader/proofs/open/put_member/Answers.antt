@@ -1,7 +1,4 @@
-use Rattle.std.proofs.Common.{length, sym, ◌∙◌, ap, subst, false, arith}
-use Rattle.yaml_tree.specs.View.{view}
-use Rattle.yaml_json_reader.specs.Opened.{Adds}
-use Rattle.yaml_json_reader.specs.Reads.{IsKey}
+use Rattle.yaml_json_reader.proofs.Common.{Adds, ap, arith, false, IsKey, length, subst, sym, view, ◌∙◌}
 use Rattle.yaml_json_reader.proofs.Gaps.{taken, not_taken}
 use Rattle.yaml_json_reader.proofs.Longer.{gap_nearer, key_nearer}
 use Rattle.yaml_json_reader.proofs.Collections.{member_put, member_last}

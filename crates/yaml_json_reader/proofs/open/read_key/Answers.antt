@@ -1,4 +1,4 @@
-use Rattle.defs_text.specs.Text.{string_chars}
+use Rattle.yaml_json_reader.proofs.Common.{string_chars}
 use Rattle.yaml_json_reader.proofs.Gaps.{taken}
 use Rattle.yaml_json_reader.proofs.Collections.{key_read}
 use Rattle.yaml_json_reader.proofs.open.read_key.Goals as goal

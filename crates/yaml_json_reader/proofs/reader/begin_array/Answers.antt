@@ -1,4 +1,4 @@
-use Rattle.std.proofs.Common.{length, false, ap, arith}
+use Rattle.yaml_json_reader.proofs.Common.{ap, arith, false, length}
 use Rattle.yaml_json_reader.proofs.Gaps.{taken, not_taken}
 use Rattle.yaml_json_reader.proofs.Longer.{gap_nearer}
 use Rattle.yaml_json_reader.proofs.Places.{array_opened, array_whole}

@@ -1,6 +1,4 @@
-use Rattle.std.proofs.Common.{◌∙◌, subst}
-use Rattle.yaml_tree.specs.View.{view}
-use Rattle.yaml_json_reader.specs.Reads.{IsValue}
+use Rattle.yaml_json_reader.proofs.Common.{IsValue, subst, view, ◌∙◌}
 use Rattle.yaml_json_reader.proofs.Gaps.{not_taken}
 use Rattle.yaml_json_reader.proofs.Longer.{value_nearer}
 use Rattle.yaml_json_reader.proofs.Places.{has_scalar}

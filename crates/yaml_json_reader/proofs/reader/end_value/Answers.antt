@@ -1,6 +1,4 @@
-use Rattle.std.proofs.Common.{◌≡◌, length, ap, ◌∙◌, arith}
-use Rattle.std.specs.Prelude.{option_to_list, ◌++◌}
-use Rattle.yaml_tree.specs.View.{view}
+use Rattle.yaml_json_reader.proofs.Common.{ap, arith, length, option_to_list, view, ◌++◌, ◌∙◌, ◌≡◌}
 use Rattle.yaml_json_reader.proofs.Places.{open_on, ended_on, outermost, none_left}
 use Rattle.yaml_json_reader.proofs.reader.end_value.Goals as goal
 

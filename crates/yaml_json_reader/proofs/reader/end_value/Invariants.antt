@@ -1,6 +1,4 @@
-use Rattle.std.proofs.Common.{ℕ, List, ◌≤◌, length}
-use Rattle.yaml_tree.specs.View.{view}
-use Rattle.yaml_json_reader.specs.Opened.{HasValue}
+use Rattle.yaml_json_reader.proofs.Common.{HasValue, length, List, view, ℕ, ◌≤◌}
 use Rattle.yaml_json_reader.proofs.reader.end_value.Given as goal
 
 abbrev pub invariant-levels : goal.invariant-levels

@@ -1,6 +1,4 @@
-use Rattle.std.proofs.Common.{ap, arith}
-use Rattle.std.specs.Prelude.{is_some, vec_len}
-use Rattle.yaml_tree.specs.View.{view}
+use Rattle.yaml_json_reader.proofs.Common.{ap, arith, is_some, vec_len, view}
 use Rattle.yaml_json_reader.proofs.Results.{ok_of}
 use Rattle.yaml_json_reader.proofs.Places.{last_put}
 use Rattle.yaml_json_reader.proofs.reader.put_last.Goals as goal

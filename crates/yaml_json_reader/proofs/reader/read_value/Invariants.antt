@@ -1,5 +1,4 @@
-use Rattle.std.proofs.Common.{length}
-use Rattle.yaml_json_reader.specs.Opened.{AreOpen}
+use Rattle.yaml_json_reader.proofs.Common.{AreOpen, length}
 use Rattle.yaml_json_reader.proofs.reader.read_value.Given as goal
 
 abbrev pub invariant-values : goal.invariant-values

@@ -1,7 +1,5 @@
-use Rattle.std.proofs.Common.{arith}
 use Rattle.std.proofs.lemmas.Simd.{zip2_splat}
-use Rattle.yaml_json_reader.specs.Runs.{ends_run}
-use Rattle.yaml_chars.proofs.MaskLemmas.{hit, below, either, masked}
+use Rattle.yaml_json_reader.proofs.Common.{arith, below, either, ends_run, hit, masked}
 use Rattle.yaml_json_reader.proofs.run.marks.Goals as goal
 
 pub returns : goal.returns

@@ -1,7 +1,5 @@
-use Rattle.std.proofs.Common.{sym, ap, ◌∙◌, arith}
+use Rattle.yaml_json_reader.proofs.Common.{ap, arith, ends_run, run_stops, run_through, sym, ◌∙◌}
 use lib.Count.{count_trailing_zeros}
-use Rattle.yaml_json_reader.specs.Runs.{ends_run}
-use Rattle.yaml_chars.proofs.MaskLemmas.{run_through, run_stops}
 use Rattle.yaml_json_reader.proofs.run.run_length.Goals as goal
 
 pub returns-then-found-ne0 : goal.returns-then-found-ne0

@@ -1,6 +1,4 @@
-use Rattle.std.proofs.Common.{◌≡◌, ◌+◌, ◌-◌, ◌≤◌, length, drop}
-use Rattle.std.specs.List.{prefix_len}
-use Rattle.yaml_json_reader.specs.Runs.{stands}
+use Rattle.yaml_json_reader.proofs.Common.{drop, length, prefix_len, stands, ◌+◌, ◌-◌, ◌≡◌, ◌≤◌}
 use Rattle.yaml_json_reader.proofs.run.run_length.Given as goal
 
 abbrev pub invariant-lanes : goal.invariant-lanes

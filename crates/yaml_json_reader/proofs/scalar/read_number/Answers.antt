@@ -1,5 +1,4 @@
-use Rattle.yaml_tree.specs.View.{view}
-use Rattle.std.specs.Str.{chars}
+use Rattle.yaml_json_reader.proofs.Common.{chars, view}
 use Rattle.yaml_json_reader.proofs.NumberLemmas.{number_value}
 use Rattle.yaml_json_reader.proofs.scalar.read_number.Goals as goal
 

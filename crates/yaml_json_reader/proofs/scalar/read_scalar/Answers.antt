@@ -1,4 +1,4 @@
-use Rattle.defs_text.specs.Text.{string_chars}
+use Rattle.yaml_json_reader.proofs.Common.{string_chars}
 use Rattle.yaml_json_reader.proofs.Gaps.{taken}
 use Rattle.yaml_json_reader.proofs.StringLemmas.{string_value}
 use Rattle.yaml_json_reader.proofs.scalar.read_scalar.Goals as goal

@@ -1,4 +1,4 @@
-use Rattle.std.proofs.Common.{◌∙◌}
+use Rattle.yaml_json_reader.proofs.Common.{◌∙◌}
 use Rattle.yaml_json_reader.proofs.Words.{true_is, false_is, null_is, word_taken, word_not_taken}
 use Rattle.yaml_json_reader.proofs.scalar.read_word.Goals as goal
 

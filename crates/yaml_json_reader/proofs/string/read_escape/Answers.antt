@@ -1,4 +1,4 @@
-use Rattle.std.proofs.Common.{◌∙◌, sym}
+use Rattle.yaml_json_reader.proofs.Common.{sym, ◌∙◌}
 use Rattle.yaml_json_reader.proofs.Gaps.{not_taken}
 use Rattle.yaml_json_reader.proofs.TextLemmas.{ascii_of, took}
 use Rattle.yaml_json_reader.proofs.StringLemmas.{short_read, short_ascii}

@@ -1,6 +1,4 @@
-use Rattle.std.proofs.Common.{sym, ◌∙◌, subst, rules}
-use Rattle.std.specs.Str.{chars}
-use Rattle.defs_text.specs.Text.{string_chars}
+use Rattle.yaml_json_reader.proofs.Common.{chars, rules, string_chars, subst, sym, ◌∙◌}
 use Rattle.yaml_json_reader.proofs.Gaps.{taken, not_taken}
 use Rattle.yaml_json_reader.proofs.StringLemmas.{Goes, gone_on, ended, pushed}
 use Rattle.yaml_json_reader.proofs.string.read_escaped.Goals as goal

@@ -1,5 +1,4 @@
-use Rattle.std.proofs.Common.{length}
-use Rattle.defs_text.specs.Text.{string_chars}
+use Rattle.yaml_json_reader.proofs.Common.{length, string_chars}
 use Rattle.yaml_json_reader.proofs.StringLemmas.{Goes}
 use Rattle.yaml_json_reader.proofs.string.read_escaped.Given as goal
 

@@ -1,7 +1,4 @@
-use Rattle.std.proofs.Common.{sym, subst}
-use Rattle.std.specs.Str.{chars}
-use Rattle.defs_text.specs.Text.{string_chars}
-use Rattle.yaml_json_reader.specs.Reads.{IsRun}
+use Rattle.yaml_json_reader.proofs.Common.{chars, IsRun, string_chars, subst, sym}
 use Rattle.yaml_json_reader.proofs.Gaps.{taken, not_taken}
 use Rattle.yaml_json_reader.proofs.Results.{ok_of}
 use Rattle.yaml_json_reader.proofs.StringLemmas.{plain_string, escaped_string, begins_with}

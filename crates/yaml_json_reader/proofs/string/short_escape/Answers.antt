@@ -1,5 +1,4 @@
-use Rattle.std.proofs.Common.{refl, sym}
-use Rattle.defs_layout.specs.JsonString.{quotation_mark, reverse_solidus, solidus, backspace, form_feed, new_line, return, tabulator}
+use Rattle.yaml_json_reader.proofs.Common.{backspace, form_feed, new_line, quotation_mark, refl, return, reverse_solidus, solidus, sym, tabulator}
 use Rattle.yaml_json_reader.proofs.string.short_escape.Goals as goal
 
 pub returns-in-34 : goal.returns-in-34

@@ -1,7 +1,4 @@
-use Rattle.std.proofs.Common.{true, subst}
-use Rattle.yaml_tree.specs.View.{view}
-use Rattle.yaml_json_reader.specs.Reads.{IsGap}
-use Rattle.std.specs.Str.{chars}
+use Rattle.yaml_json_reader.proofs.Common.{chars, IsGap, subst, true, view}
 use Rattle.yaml_json_reader.proofs.Whole.{json_text}
 use Rattle.yaml_json_reader.proofs.text.read_json.Goals as goal
 

@@ -1,9 +1,4 @@
-use Rattle.std.proofs.Common.{◌∙◌, ap}
-use Rattle.std.proofs.lemmas.Result.{err_from_is_err_and}
-use Rattle.std.specs.Prelude.{chars}
-use Rattle.defs_text.specs.Text.{up_to_nul}
-use Rattle.yaml_loader.proofs.InMemory.{of_memory}
-use Rattle.yaml_loader.specs.Loading.{loader_of, kept_fault}
+use Rattle.yaml_limits.proofs.Common.{ap, chars, err_from_is_err_and, kept_fault, loader_of, of_memory, up_to_nul, ◌∙◌}
 use Rattle.yaml_limits.proofs.LoadLemmas.{loaded, not_loaded, refused}
 use Rattle.yaml_limits.proofs.load.load_with_limits.Goals as goal
 

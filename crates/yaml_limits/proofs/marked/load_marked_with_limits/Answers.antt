@@ -1,9 +1,4 @@
-use Rattle.std.proofs.Common.{sym, subst}
-use Rattle.std.proofs.lemmas.Result.{err_from_is_err_and}
-use Rattle.std.specs.Prelude.{chars}
-use Rattle.defs_text.specs.Text.{up_to_nul}
-use Rattle.yaml_loader.proofs.InMemory.{of_memory}
-use Rattle.yaml_marked.specs.Receiving.{IsEmpty}
+use Rattle.yaml_limits.proofs.Common.{chars, err_from_is_err_and, IsEmpty, of_memory, subst, sym, up_to_nul}
 use Rattle.yaml_limits.specs.Marked.{without_positions}
 use Rattle.yaml_limits.proofs.LoadLemmas.{loaded_marked, not_loaded, refused_marked, taken_all}
 use Rattle.yaml_limits.proofs.marked.load_marked_with_limits.Goals as goal

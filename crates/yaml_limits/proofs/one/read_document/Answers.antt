@@ -1,9 +1,4 @@
-use Rattle.std.proofs.Common.{◌∙◌, ap, subst, arith, Ok, Err}
-use Rattle.std.proofs.lemmas.Result.{err_from_is_err_and}
-use Rattle.yaml_loader.specs.Loading.{loader_of, kept_fault}
-use Rattle.yaml_parser.specs.Parsed.{parsed}
-use Rattle.yaml_limits.specs.Handing.{HoldsBack, error_by}
-use Rattle.yaml_limits.specs.One.{ReadsWithin}
+use Rattle.yaml_limits.proofs.Common.{ap, arith, Err, err_from_is_err_and, error_by, HoldsBack, kept_fault, loader_of, Ok, parsed, ReadsWithin, subst, ◌∙◌}
 use Rattle.yaml_limits.proofs.OneDocument.{read_within, stops_within, refuses_within, faults_within, holds_within}
 use Rattle.yaml_limits.proofs.one.read_document.Goals as goal
 

@@ -1,6 +1,4 @@
-use Rattle.std.proofs.Common.{◌∙◌}
-use Rattle.yaml_parser.specs.Parsed.{parsed}
-use Rattle.yaml_loader.specs.TextLoads.{LoadsText}
+use Rattle.yaml_loader.proofs.Common.{LoadsText, parsed, ◌∙◌}
 use Rattle.yaml_loader.proofs.TextLemmas.{begins_given, of_texts}
 use Rattle.yaml_loader.proofs.load.load_known.Goals as goal
 

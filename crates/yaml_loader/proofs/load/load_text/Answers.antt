@@ -1,6 +1,5 @@
 use Rattle.std.specs.Str.{chars}
-use Rattle.defs_text.specs.Text.{up_to_nul}
-use Rattle.yaml_tree.specs.View.{view}
+use Rattle.yaml_loader.proofs.Common.{up_to_nul, view}
 use Rattle.yaml_loader.proofs.InMemory.{of_memory}
 use Rattle.yaml_loader.proofs.JsonTexts.{json_reads, json_no_alias, memory_reads}
 use Rattle.yaml_loader.proofs.load.load_text.Goals as goal

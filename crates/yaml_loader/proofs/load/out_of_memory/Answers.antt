@@ -1,4 +1,4 @@
-use Rattle.std.proofs.Common.{ap}
+use Rattle.yaml_loader.proofs.Common.{ap}
 use Rattle.yaml_loader.proofs.load.out_of_memory.Goals as goal
 
 pub returns : goal.returns

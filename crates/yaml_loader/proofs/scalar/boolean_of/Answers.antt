@@ -1,5 +1,4 @@
-use Rattle.std.proofs.Common.{sym, ap, ◌∙◌, inl, inr}
-use Rattle.defs_event.specs.Scalar.{as_boolean}
+use Rattle.yaml_loader.proofs.Common.{ap, as_boolean, inl, inr, sym, ◌∙◌}
 use Rattle.yaml_loader.proofs.Tags.{boolean-chars, no_boolean}
 use Rattle.yaml_loader.proofs.scalar.boolean_of.Goals as goal
 

@@ -1,11 +1,7 @@
-use Rattle.std.proofs.Common.{sym, ap, ◌∙◌, subst, arith}
-use Rattle.std.specs.Prelude.{chars, option_map, unwrap_or, ◌≡◌, Some, None}
-use Rattle.std.proofs.lemmas.Result.{MatchResult-at_ok, MatchResult-at_err}
 use Rattle.std.proofs.Math.Facts.{to_z-of_z}
+use Rattle.yaml_loader.proofs.Common.{ap, arith, bad_value, chars, integer, MatchResult-at_err, MatchResult-at_ok, None, option_map, signed_number, Some, subst, sym, unwrap_or, ◌∙◌, ◌≡◌}
 use mir.Val.{to_z, of_z}
 use mir.Syntax.{w64}
-use Rattle.defs_tree.specs.Tree.{integer, bad_value}
-use Rattle.defs_tree.specs.Typing.{signed_number}
 use Rattle.defs_tree.proofs.Parsing.{parsed_text}
 use Rattle.yaml_loader.proofs.scalar.integer_of.Goals as goal
 

@@ -1,5 +1,4 @@
-use Rattle.std.proofs.Common.{sym, ap, ◌∙◌, inl, inr}
-use Rattle.defs_event.specs.Scalar.{as_null}
+use Rattle.yaml_loader.proofs.Common.{ap, as_null, inl, inr, sym, ◌∙◌}
 use Rattle.yaml_loader.proofs.Tags.{null-chars, no_null}
 use Rattle.yaml_loader.proofs.scalar.null_of.Goals as goal
 

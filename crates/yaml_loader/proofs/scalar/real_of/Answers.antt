@@ -1,8 +1,4 @@
-use Rattle.std.proofs.Common.{sym, ap, ◌∙◌, true, false, ◌≡◌, ◌||◌}
-use Rattle.std.specs.Prelude.{chars, if◌then◌else◌}
-use Rattle.defs_text.specs.Text.{string_chars}
-use Rattle.defs_tree.specs.Tree.{real, bad_value}
-use Rattle.defs_tree.specs.Typing.{is_real_text, is_decimal}
+use Rattle.yaml_loader.proofs.Common.{ap, bad_value, chars, false, if◌then◌else◌, is_decimal, is_real_text, real, string_chars, sym, true, ◌||◌, ◌∙◌, ◌≡◌}
 use Rattle.yaml_loader.proofs.Reals.{real_by_bytes}
 use Rattle.yaml_loader.proofs.scalar.real_of.Goals as goal
 

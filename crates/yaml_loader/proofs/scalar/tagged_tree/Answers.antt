@@ -1,8 +1,4 @@
-use Rattle.std.proofs.Common.{◌≡◌, Bool, sym, ap, ◌∙◌, true, false, not}
-use Rattle.std.specs.Prelude.{chars, bytes_eq}
-use Rattle.defs_text.specs.Text.{string_chars}
-use Rattle.defs_event.specs.Names.{core_prefix}
-use Rattle.defs_event.specs.Scalar.{by_name, as_boolean, as_integer, as_null}
+use Rattle.yaml_loader.proofs.Common.{ap, as_boolean, as_integer, as_null, Bool, by_name, bytes_eq, chars, core_prefix, false, not, string_chars, sym, true, ◌∙◌, ◌≡◌}
 use Rattle.yaml_parser.specs.Shown.{tag_of}
 use Rattle.yaml_loader.proofs.Tags.{other_tag, core_tag, other_name}
 use Rattle.yaml_loader.proofs.scalar.tagged_tree.Goals as goal

@@ -1,7 +1,6 @@
-use Rattle.std.proofs.lemmas.Result.{err_from_is_err_and}
+use Rattle.yaml_marked.proofs.Common.{err_from_is_err_and, plain}
 use Rattle.yaml_loader.specs.Unread.{of_parser}
 use Rattle.yaml_marked.proofs.Texts.{gives_documents}
-use Rattle.yaml_marked.specs.Loading.{plain}
 use Rattle.yaml_marked.proofs.load.load_marked.Goals as goal
 
 pub returns-in_err-loader-clause-reads : goal.returns-in_err-loader-clause-reads

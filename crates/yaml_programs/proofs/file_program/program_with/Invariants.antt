@@ -1,6 +1,4 @@
-use Rattle.std.proofs.Common.{map, drop}
-use Rattle.yaml_programs.specs.Done.{IsSetTo}
-use Rattle.yaml_programs.specs.Reading.{setting_view}
+use Rattle.yaml_programs.proofs.Common.{drop, IsSetTo, map, setting_view}
 use Rattle.yaml_programs.proofs.file_program.program_with.Given as goal
 
 abbrev pub invariant-settings : goal.invariant-settings

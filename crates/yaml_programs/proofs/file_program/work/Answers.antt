@@ -1,7 +1,4 @@
-use Rattle.std.proofs.Common.{map, subst}
-use Rattle.std.specs.List.{All}
-use Rattle.yaml_programs.specs.Done.{IsDoneWith, IsSetTo}
-use Rattle.yaml_programs.specs.Reading.{setting_view, text_view}
+use Rattle.yaml_programs.proofs.Common.{All, IsDoneWith, IsSetTo, map, setting_view, subst, text_view}
 use Rattle.yaml_programs.proofs.DoneFiles.{done_more, all_done, of_ok}
 use Rattle.yaml_programs.proofs.file_program.work.Goals as goal
 

@@ -1,7 +1,4 @@
-use Rattle.std.proofs.Common.{◌≡◌, map, take}
-use Rattle.std.specs.List.{All}
-use Rattle.yaml_programs.specs.Done.{IsDoneWith}
-use Rattle.yaml_programs.specs.Reading.{text_view}
+use Rattle.yaml_programs.proofs.Common.{All, IsDoneWith, map, take, text_view, ◌≡◌}
 use Rattle.yaml_programs.proofs.file_program.work.Given as goal
 
 abbrev pub invariant-files : goal.invariant-files

@@ -1,6 +1,4 @@
-use Rattle.std.proofs.Common.{◌≡◌, map, drop}
-use Rattle.yaml_programs.specs.Arguments.{option_named}
-use Rattle.yaml_programs.specs.Reading.{row}
+use Rattle.yaml_programs.proofs.Common.{drop, map, option_named, row, ◌≡◌}
 use Rattle.yaml_programs.proofs.option.option_of.Given as goal
 
 abbrev pub invariant-loop-option : goal.invariant-loop-option

@@ -1,7 +1,5 @@
-use Rattle.std.proofs.Common.{ap, map, option_map, None, arith, sym, ◌∙◌}
 use Rattle.std.proofs.lemmas.Str.Pattern.{split_once_first}
-use Rattle.yaml_programs.specs.Arguments.{is_equals_sign}
-use Rattle.yaml_programs.specs.Reading.{row}
+use Rattle.yaml_programs.proofs.Common.{ap, arith, is_equals_sign, map, None, option_map, row, sym, ◌∙◌}
 use Rattle.yaml_programs.proofs.Asks.{bare_nothing, bare_value, bare_unknown}
 use Rattle.yaml_programs.proofs.Places.{position_none}
 use Rattle.yaml_programs.proofs.words.option_word.Goals as goal

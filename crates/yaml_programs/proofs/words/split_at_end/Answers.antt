@@ -1,6 +1,4 @@
-use Rattle.std.proofs.Common.{◌+◌, ◌-◌, map, string_bytes, take, drop, sym, ap, ◌∙◌, arith, length}
-use Rattle.std.proofs.lemmas.List.{take_all, drop_all, length-drop}
-use Rattle.yaml_programs.specs.Arguments.{ends_options}
+use Rattle.yaml_programs.proofs.Common.{ap, arith, drop, drop_all, ends_options, length, length-drop, map, string_bytes, sym, take, take_all, ◌+◌, ◌-◌, ◌∙◌}
 use Rattle.yaml_programs.proofs.Places.{placed, before-map, after-map}
 use Rattle.yaml_programs.proofs.words.split_at_end.Goals as goal
 

@@ -1,8 +1,4 @@
-use Rattle.std.proofs.Common.{◌≤◌, ◌⊎◌, length, inl, inr, sym, ap, ◌∙◌}
-use Rattle.std.specs.Ordering.{on}
-use Rattle.defs_tree.specs.Order.{tree_cmp}
-use Rattle.yaml_tree.specs.Flat.{flat}
-use Rattle.yaml_tree.specs.View.{view}
+use Rattle.yaml_tree.proofs.Common.{ap, flat, inl, inr, length, on, sym, tree_cmp, view, ◌∙◌, ◌≤◌, ◌⊎◌}
 use Rattle.yaml_tree.proofs.Comparing.{cmp_next, cmp_end, slice_cmp-map, nodes_seen, items_cmp-items_of, flat_cmp, stops}
 use Rattle.yaml_tree.proofs.compare.+compare.Goals as goal
 use Rattle.yaml_tree.proofs.compare.+compare.Goals.{compare_nodes-then-loop-i-test+else-i-b, compare_nodes-else-loop-i-test}

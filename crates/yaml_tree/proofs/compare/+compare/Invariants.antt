@@ -1,8 +1,4 @@
-use Rattle.std.proofs.Common.{◌≡◌, ◌-◌, ◌≤◌, length, drop}
-use Rattle.std.specs.Ordering.{on}
-use Rattle.std.specs.Cmp.Lexicographic.{slice_cmp}
-use Rattle.defs_tree.specs.Order.{tree_cmp}
-use Rattle.yaml_tree.specs.View.{view}
+use Rattle.yaml_tree.proofs.Common.{drop, length, on, slice_cmp, tree_cmp, view, ◌-◌, ◌≡◌, ◌≤◌}
 use Rattle.yaml_tree.proofs.compare.+compare.Given as goal
 
 abbrev pub invariant-compare_nodes-loop-i : goal.invariant-compare_nodes-loop-i

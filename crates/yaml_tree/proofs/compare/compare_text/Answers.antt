@@ -1,5 +1,4 @@
-use Rattle.std.proofs.Common.{nat_cmp, ap, ◌∙◌}
-use Rattle.std.specs.Cmp.Lexicographic.{slice_cmp}
+use Rattle.yaml_tree.proofs.Common.{ap, nat_cmp, slice_cmp, ◌∙◌}
 use Rattle.yaml_tree.proofs.TextOrder.{text_cmp}
 use Rattle.yaml_tree.proofs.compare.compare_text.Goals as goal
 

@@ -1,5 +1,4 @@
-use Rattle.std.proofs.Common.{[], ◌∷◌, ◌++◌, ap, ◌∙◌, vec_len}
-use Rattle.yaml_tree.specs.Copying.{source_tree}
+use Rattle.yaml_tree.proofs.Common.{[], ap, source_tree, vec_len, ◌++◌, ◌∙◌, ◌∷◌}
 use Rattle.yaml_tree.proofs.Copied.{opened_leads, opened_smaller, closed_leads, closed_smaller, filled_more}
 use Rattle.yaml_tree.proofs.copy.copy_row.Goals as goal
 

@@ -1,5 +1,4 @@
-use Rattle.std.proofs.Common.{◌+◌, ◌*◌, [], vec_len}
-use Rattle.yaml_tree.specs.Copying.{source_tree, left, lefts, IsFilled, Leads}
+use Rattle.yaml_tree.proofs.Common.{[], IsFilled, Leads, left, lefts, source_tree, vec_len, ◌*◌, ◌+◌}
 use Rattle.yaml_tree.proofs.copy.copy_row.Given as goal
 
 abbrev pub invariant-levels : goal.invariant-levels

@@ -1,5 +1,4 @@
-use Rattle.std.proofs.Common.{◌+◌, ◌*◌}
-use Rattle.yaml_tree.specs.Printing.{unprinted, turns}
+use Rattle.yaml_tree.proofs.Common.{turns, unprinted, ◌*◌, ◌+◌}
 use Rattle.yaml_tree.proofs.debug.print.Given as goal
 
 abbrev pub decreases-levels : goal.decreases-levels

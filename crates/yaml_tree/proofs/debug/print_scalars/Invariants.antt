@@ -1,5 +1,4 @@
-use Rattle.std.proofs.Common.{◌≤◌, length}
-use Rattle.yaml_tree.specs.Printing.{unprinted}
+use Rattle.yaml_tree.proofs.Common.{length, unprinted, ◌≤◌}
 use Rattle.yaml_tree.proofs.debug.print_scalars.Given as goal
 
 abbrev pub invariant-loop-node : goal.invariant-loop-node

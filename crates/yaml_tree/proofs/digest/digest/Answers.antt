@@ -1,9 +1,5 @@
-use Rattle.std.proofs.Common.{◌≡◌, ◌⊎◌, inl, inr, sym, ap, ◌∙◌}
-use Rattle.std.specs.Str.{encode_utf8_all}
-use Rattle.defs_text.specs.Text.{string_chars}
-use Rattle.yaml_tree.specs.Digests.{digest, text_digest}
-use Rattle.yaml_tree.specs.View.{view}
-use Rattle.yaml_tree.specs.declared.yaml.Yaml.TheVariants.{Real, String}
+use Rattle.yaml_tree.proofs.Common.{ap, digest, encode_utf8_all, inl, inr, Real, string_chars, sym, text_digest, view, ◌∙◌, ◌≡◌, ◌⊎◌}
+use Rattle.yaml_tree.specs.declared.yaml.Yaml.TheVariants.{String}
 use Rattle.yaml_tree.proofs.TextOrder.{string_encoded}
 use Rattle.yaml_tree.proofs.digest.digest.Goals as goal
 

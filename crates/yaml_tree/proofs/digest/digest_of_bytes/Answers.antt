@@ -1,6 +1,4 @@
-use Rattle.std.proofs.Common.{◌-◌, ◌^◌, min, sym, ap, ◌∙◌}
-use Rattle.std.proofs.lemmas.List.{drop_all}
-use Rattle.yaml_tree.specs.Digests.{with_digits, text_digest}
+use Rattle.yaml_tree.proofs.Common.{ap, drop_all, min, sym, text_digest, with_digits, ◌-◌, ◌^◌, ◌∙◌}
 use Rattle.yaml_tree.proofs.digest.digest_of_bytes.Goals as goal
 
 pub returns-clause-number : goal.returns-clause-number

@@ -1,5 +1,4 @@
-use Rattle.std.proofs.Common.{◌≡◌, drop}
-use Rattle.yaml_tree.specs.Digests.{with_digits}
+use Rattle.yaml_tree.proofs.Common.{drop, with_digits, ◌≡◌}
 use Rattle.yaml_tree.proofs.digest.digest_of_bytes.Given as goal
 
 abbrev pub invariant-loop-byte : goal.invariant-loop-byte

@@ -1,6 +1,4 @@
-use Rattle.std.proofs.Common.{sym, ap, ◌∙◌}
-use Rattle.std.proofs.lemmas.Str.{encodes-chars}
-use Rattle.yaml_tree.specs.Digests.{text_digest}
+use Rattle.yaml_tree.proofs.Common.{ap, encodes-chars, sym, text_digest, ◌∙◌}
 use Rattle.yaml_tree.proofs.digest.digest_of_text.Goals as goal
 
 pub returns-clause-digest : goal.returns-clause-digest

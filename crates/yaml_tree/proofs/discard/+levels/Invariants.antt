@@ -1,4 +1,4 @@
-use Rattle.std.proofs.Common.{◌+◌, ◌*◌, vec_len}
+use Rattle.yaml_tree.proofs.Common.{vec_len, ◌*◌, ◌+◌}
 use Rattle.yaml_tree.proofs.discard.+levels.Given as goal
 
 abbrev pub decreases-discard_parts : goal.decreases-discard_parts

@@ -1,6 +1,4 @@
-use Rattle.std.proofs.Common.{◌++◌, [], ◌∷◌}
-use Rattle.defs_tree.specs.Tree.{array, items_of}
-use Rattle.yaml_tree.specs.View.{view, items_view}
+use Rattle.yaml_tree.proofs.Common.{[], array, items_of, items_view, view, ◌++◌, ◌∷◌}
 use Rattle.yaml_tree.proofs.Discarding.{descended, around}
 use Rattle.yaml_tree.proofs.discard.descend.Goals as goal
 

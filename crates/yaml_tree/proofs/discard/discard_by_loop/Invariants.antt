@@ -1,5 +1,4 @@
-use Rattle.yaml_tree.specs.Weight.{weight}
-use Rattle.yaml_tree.specs.View.{view}
+use Rattle.yaml_tree.proofs.Common.{view, weight}
 use Rattle.yaml_tree.proofs.discard.discard_by_loop.Given as goal
 
 abbrev pub decreases-loop-next : goal.decreases-loop-next

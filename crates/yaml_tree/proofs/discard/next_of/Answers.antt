@@ -1,7 +1,5 @@
-use Rattle.std.proofs.Common.{◌<◌, subst, ap, ◌∙◌}
 use Rattle.std.specs.Option.{IfSome}
-use Rattle.yaml_tree.specs.View.{view, array_tree}
-use Rattle.yaml_tree.specs.Weight.{weight}
+use Rattle.yaml_tree.proofs.Common.{ap, array_tree, subst, view, weight, ◌<◌, ◌∙◌}
 use Rattle.yaml_tree.proofs.WeightLemmas.{parts_weight}
 use Rattle.yaml_tree.proofs.discard.next_of.Goals as goal
 

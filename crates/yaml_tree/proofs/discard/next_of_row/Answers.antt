@@ -1,4 +1,4 @@
-use Rattle.std.proofs.Common.{arith}
+use Rattle.yaml_tree.proofs.Common.{arith}
 use Rattle.yaml_tree.proofs.Discarding.{row_alone, row_gone, row_next}
 use Rattle.yaml_tree.proofs.discard.next_of_row.Goals as goal
 

@@ -1,7 +1,4 @@
-use Rattle.std.proofs.Common.{◌≡◌, ◌<◌, length, sym, ap, ◌∙◌, rules}
-use Rattle.yaml_tree.specs.Flat.{flat}
-use Rattle.yaml_tree.specs.View.{view, items_view}
-use Rattle.yaml_tree.specs.Weight.{parts}
+use Rattle.yaml_tree.proofs.Common.{ap, flat, items_view, length, parts, rules, sym, view, ◌<◌, ◌∙◌, ◌≡◌}
 use Rattle.yaml_tree.proofs.Discarding.{some_parts}
 use Rattle.yaml_tree.proofs.ItemsLemmas.{list_of_items, pair_list_of_pairs}
 use Rattle.yaml_tree.proofs.discard.parts_of.Goals as goal

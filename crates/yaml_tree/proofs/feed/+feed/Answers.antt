@@ -1,10 +1,6 @@
-use Rattle.std.proofs.Common.{◌+◌, ◌*◌, ◌++◌, length, drop, fold, sym, ap, ◌∙◌, arith}
 use Rattle.std.specs.Hash as fed
 use Rattle.std.proofs.lemmas.List.Sums.{fold-append}
-use Rattle.defs_tree.specs.Tree.{pairs_of}
-use Rattle.yaml_tree.specs.Feed.{tree_feed, pairs_feed}
-use Rattle.yaml_tree.specs.Flat.{flat}
-use Rattle.yaml_tree.specs.View.{view, pairs_view}
+use Rattle.yaml_tree.proofs.Common.{ap, arith, drop, flat, fold, length, pairs_feed, pairs_of, pairs_view, sym, tree_feed, view, ◌*◌, ◌++◌, ◌+◌, ◌∙◌}
 use Rattle.yaml_tree.proofs.Fed.{next_pair, no_pair}
 use Rattle.yaml_tree.proofs.Flattened.{row_length}
 use Rattle.yaml_tree.proofs.feed.+feed.Goals as goal

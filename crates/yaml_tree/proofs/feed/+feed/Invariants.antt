@@ -1,7 +1,4 @@
-use Rattle.std.proofs.Common.{◌≡◌, ◌*◌, drop, fold}
-use Rattle.defs_tree.specs.Tree.{items_of, pairs_of}
-use Rattle.yaml_tree.specs.Feed.{items_feed, pairs_feed}
-use Rattle.yaml_tree.specs.View.{items_view, pairs_view}
+use Rattle.yaml_tree.proofs.Common.{drop, fold, items_feed, items_of, items_view, pairs_feed, pairs_of, pairs_view, ◌*◌, ◌≡◌}
 use Rattle.yaml_tree.proofs.feed.+feed.Given as goal
 
 abbrev pub invariant-feed_items-loop-item : goal.invariant-feed_items-loop-item

@@ -1,6 +1,4 @@
-use Rattle.std.proofs.Common.{ap}
-use Rattle.yaml_tree.specs.Feed.{tree_feed}
-use Rattle.defs_tree.proofs.OrderLaws.{tree_eq_decides}
+use Rattle.yaml_tree.proofs.Common.{ap, tree_eq_decides, tree_feed}
 use Rattle.yaml_tree.proofs.laws.equal_trees_hash_alike.Goals as goal
 
 pub returns : goal.returns

@@ -1,13 +1,4 @@
-use Rattle.std.proofs.Common.{◌≡◌, ◌+◌, ◌<◌, ◌≤◌, ℕ, List, length, get_or, map, sym, ap, subst, ◌∙◌, arith}
-use Rattle.std.specs.List.{insert}
-use Rattle.std.proofs.lemmas.List.{length-map}
-use Rattle.yaml_hash_index.specs.Blocks.{joined}
-use Rattle.yaml_hash_index.specs.Edges.{digest_at, AreRising}
-use Rattle.yaml_hash_index.specs.declared.entry.Entry.{Entry}
-use Rattle.yaml_tree.specs.Digests.{digest, AreDigests}
-use Rattle.yaml_tree.specs.Places.{place_of_entry, digest_of_entry}
-use Rattle.yaml_tree.specs.Ranked.{key_at, key_of_rank, AreRanked}
-use Rattle.yaml_tree.specs.View.{pairs_view}
+use Rattle.yaml_tree.proofs.Common.{ap, AreDigests, AreRanked, AreRising, arith, digest, digest_at, digest_of_entry, Entry, get_or, insert, joined, key_at, key_of_rank, length, length-map, List, map, pairs_view, place_of_entry, subst, sym, ℕ, ◌+◌, ◌<◌, ◌∙◌, ◌≡◌, ◌≤◌}
 use Rattle.yaml_tree.proofs.Indexed.{digest_mapped, map-insert}
 use Rattle.yaml_tree.proofs.Ranking.{Pairs}
 use Rattle.yaml_tree.proofs.Rows.{ranked_inside, inside_row, ranked_key}

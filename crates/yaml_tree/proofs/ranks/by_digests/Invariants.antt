@@ -1,7 +1,4 @@
-use Rattle.std.proofs.Common.{map}
-use Rattle.yaml_tree.specs.Digests.{AreDigests}
-use Rattle.yaml_tree.specs.Places.{place_of_entry, digest_of_entry}
-use Rattle.yaml_tree.specs.View.{pairs_view}
+use Rattle.yaml_tree.proofs.Common.{AreDigests, digest_of_entry, map, pairs_view, place_of_entry}
 use Rattle.yaml_tree.proofs.Sorting.{AreSorted}
 use Rattle.yaml_tree.proofs.ranks.by_digests.Given as goal
 

@@ -1,8 +1,4 @@
-use Rattle.std.proofs.Common.{◌≡◌, ◌-◌, ◌<◌, ◌≤◌, ◌⊎◌, inl, inr, ℕ, List, length, ap, arith}
-use Rattle.std.proofs.lemmas.Bool.{cases_lt}
-use Rattle.yaml_hash_index.specs.Edges.{digest_at}
-use Rattle.yaml_hash_index.specs.declared.entry.Entry.{Entry}
-use Rattle.yaml_hash_index.proofs.Joining.{number_got}
+use Rattle.yaml_tree.proofs.Common.{ap, arith, cases_lt, digest_at, Entry, inl, inr, length, List, number_got, ℕ, ◌-◌, ◌<◌, ◌≡◌, ◌≤◌, ◌⊎◌}
 use Rattle.yaml_tree.proofs.ranks.end_of.Goals as goal
 
 -- what holds from one on, holds from the one before on if it holds there

@@ -1,5 +1,4 @@
-use Rattle.std.proofs.Common.{ℕ, ◌<◌, ◌≤◌, length}
-use Rattle.yaml_hash_index.specs.Edges.{digest_at}
+use Rattle.yaml_tree.proofs.Common.{digest_at, length, ℕ, ◌<◌, ◌≤◌}
 use Rattle.yaml_tree.proofs.ranks.end_of.Given as goal
 
 abbrev pub invariant-loop-end : goal.invariant-loop-end

@@ -1,13 +1,4 @@
-use Rattle.std.proofs.Common.{◌≡◌, ◌/◌, ◌++◌, ◌∷◌, [], length, map, ap, sym, subst, ◌∙◌, arith}
-use Rattle.std.specs.List.{insert}
-use Rattle.std.proofs.lemmas.List.{length-map}
-use Rattle.yaml_hash_index.specs.Blocks.{joined, rank_of}
-use Rattle.yaml_hash_index.specs.declared.entry.Entry.{Entry}
-use Rattle.yaml_hash_index.proofs.Joining.{rank_within}
-use Rattle.yaml_tree.specs.Digests.{digest, AreDigests}
-use Rattle.yaml_tree.specs.Places.{place_of_entry, digest_of_entry, places_in, digests_in}
-use Rattle.yaml_tree.specs.Ranked.{AreRanked}
-use Rattle.yaml_tree.specs.View.{view, pairs_view}
+use Rattle.yaml_tree.proofs.Common.{[], ap, AreDigests, AreRanked, arith, digest, digest_of_entry, digests_in, Entry, insert, joined, length, length-map, map, pairs_view, place_of_entry, places_in, rank_of, rank_within, subst, sym, view, ◌++◌, ◌/◌, ◌∙◌, ◌∷◌, ◌≡◌}
 use Rattle.yaml_tree.proofs.Flattened.{row_length}
 use Rattle.yaml_tree.proofs.Indexed.{map-insert}
 use Rattle.yaml_tree.proofs.Digesting.{digested_added}

@@ -1,10 +1,4 @@
-use Rattle.std.proofs.Common.{◌≡◌, ◌/◌, ◌++◌, ◌∷◌, [], length, map, Result, Ok, Err, OnErr, ap, subst, ◌∙◌, arith}
-use Rattle.defs_tree.specs.Tree.{Tree}
-use Rattle.yaml_hash_index.specs.Moves.{moved_up}
-use Rattle.yaml_tree.specs.Digests.{AreDigests, first_by}
-use Rattle.yaml_tree.specs.Places.{places, digests, rank_at}
-use Rattle.yaml_tree.specs.Ranked.{AreRanked, IsRank, IsRankGap}
-use Rattle.yaml_tree.specs.View.{view, pairs_view}
+use Rattle.yaml_tree.proofs.Common.{[], ap, AreDigests, AreRanked, arith, digests, Err, first_by, IsRank, IsRankGap, length, map, moved_up, Ok, OnErr, pairs_view, places, rank_at, Result, subst, Tree, view, ◌++◌, ◌/◌, ◌∙◌, ◌∷◌, ◌≡◌}
 use Rattle.yaml_tree.proofs.Flattened.{row_length}
 use Rattle.yaml_tree.proofs.Seating.{is_away, is_ready, is_ready_without}
 use Rattle.yaml_tree.proofs.row.seat.Goals as goal

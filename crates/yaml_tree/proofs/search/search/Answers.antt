@@ -1,11 +1,4 @@
-use Rattle.std.proofs.Common.{◌≡◌, ◌+◌, ◌-◌, ◌*◌, ◌/◌, ◌^◌, ◌<◌, length, refl, sym, ap, ◌∙◌, arith, rules}
-use Rattle.defs_tree.specs.Order.{tree_cmp}
-use Rattle.defs_tree.proofs.OrderLaws.{tree_tied}
-use Rattle.yaml_tree.specs.Digests.{first_by}
-use Rattle.yaml_tree.specs.Places.{places, rank_at}
-use Rattle.yaml_tree.specs.Ranked.{key_of_rank}
-use Rattle.yaml_tree.specs.Probes.{probed}
-use Rattle.yaml_tree.specs.View.{pairs_view}
+use Rattle.yaml_tree.proofs.Common.{ap, arith, first_by, key_of_rank, length, pairs_view, places, probed, rank_at, refl, rules, sym, tree_cmp, tree_tied, ◌*◌, ◌+◌, ◌-◌, ◌/◌, ◌<◌, ◌^◌, ◌∙◌, ◌≡◌}
 use Rattle.yaml_tree.proofs.Flattened.{row_length}
 use Rattle.yaml_hash_index.proofs.Halving.{halved, digits_rise}
 use Rattle.yaml_tree.proofs.Indexed.{next_spot, next_rank, offset_inside, place_inside}

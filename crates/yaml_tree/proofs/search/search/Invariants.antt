@@ -1,11 +1,6 @@
-use Rattle.std.proofs.Common.{◌≡◌, ℕ, ◌+◌, ◌<◌, ◌≤◌, length}
 use Rattle.std.specs.declared.cmp.Ordering.TheVariants.{Less, Greater}
+use Rattle.yaml_tree.proofs.Common.{first_by, HasSpot, key_cmp, key_of_rank, length, pairs_view, places, probed, rank_at, ℕ, ◌+◌, ◌<◌, ◌≡◌, ◌≤◌}
 use Rattle.defs_tree.specs.Digits.{binary_digits}
-use Rattle.yaml_tree.specs.Digests.{first_by}
-use Rattle.yaml_tree.specs.Places.{places, rank_at, HasSpot}
-use Rattle.yaml_tree.specs.Probes.{probed}
-use Rattle.yaml_tree.specs.Ranked.{key_of_rank, key_cmp}
-use Rattle.yaml_tree.specs.View.{pairs_view}
 use Rattle.yaml_tree.proofs.search.search.Given as goal
 
 abbrev pub invariant-loop-count : goal.invariant-loop-count

@@ -1,6 +1,4 @@
-use Rattle.std.proofs.Common.{◌≡◌, length}
-use Rattle.std.specs.Char.{is_ascii_digit}
-use Rattle.defs_tree.proofs.GrammarLaws.{after_all}
+use Rattle.yaml_typing.proofs.Common.{after_all, is_ascii_digit, length, ◌≡◌}
 use Rattle.yaml_typing.proofs.decimal.after_digits.Given as goal
 
 abbrev pub invariant-loop-rest : goal.invariant-loop-rest

@@ -1,6 +1,4 @@
-use Rattle.std.proofs.Common.{◌≡◌, get_or, false, arith}
-use Rattle.std.specs.Prelude.{◌==◌}
-use Rattle.std.proofs.lemmas.Bool.Decides.{nat_tests}
+use Rattle.yaml_typing.proofs.Common.{arith, false, get_or, nat_tests, ◌==◌, ◌≡◌}
 use Rattle.yaml_typing.proofs.TableByFirst.{only_digits, digits_alone, digits_x, digits_o, digits_other}
 use Rattle.yaml_typing.proofs.typing.begun_by_digit.Goals as goal
 

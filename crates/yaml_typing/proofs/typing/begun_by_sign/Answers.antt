@@ -1,4 +1,4 @@
-use Rattle.std.proofs.Common.{rules}
+use Rattle.yaml_typing.proofs.Common.{rules}
 use Rattle.yaml_typing.proofs.TableByFirst.{signed_integer, signed_other}
 use Rattle.yaml_typing.proofs.typing.begun_by_sign.Goals as goal
 

@@ -1,6 +1,4 @@
-use Rattle.std.proofs.Common.{◌≡◌, length, get_or, false, arith, ap}
-use Rattle.std.proofs.lemmas.Bool.Decides.{nat_tests}
-use Rattle.yaml_typing.specs.Values.{begins_value}
+use Rattle.yaml_typing.proofs.Common.{ap, arith, begins_value, false, get_or, length, nat_tests, ◌≡◌}
 use Rattle.yaml_typing.proofs.TableByFirst.{by_none, by_point, by_null, by_true, by_false, by_other}
 use Rattle.yaml_typing.proofs.typing.by_first_byte.Goals as goal
 

@@ -1,5 +1,4 @@
-use Rattle.std.proofs.Common.{◌≡◌, map, drop}
-use Rattle.defs_tree.specs.Grammar.{is_among}
+use Rattle.yaml_typing.proofs.Common.{drop, is_among, map, ◌≡◌}
 use Rattle.yaml_typing.proofs.typing.is_among.Given as goal
 
 abbrev pub invariant-loop-word : goal.invariant-loop-word

@@ -1,6 +1,4 @@
-use Rattle.std.proofs.Common.{sym, ap, ◌∙◌}
-use Rattle.std.specs.Prelude.{option_and_then}
-use Rattle.defs_tree.specs.Typing.{signed_number}
+use Rattle.yaml_typing.proofs.Common.{ap, option_and_then, signed_number, sym, ◌∙◌}
 use Rattle.yaml_typing.proofs.TypingLemmas.{lacks_after, strips_after}
 use Rattle.yaml_typing.proofs.typing.number_after.Goals as goal
 

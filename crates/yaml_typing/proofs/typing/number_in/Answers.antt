@@ -1,4 +1,4 @@
-use Rattle.std.proofs.Common.{◌∙◌}
+use Rattle.yaml_typing.proofs.Common.{◌∙◌}
 use Rattle.yaml_typing.proofs.TypingLemmas.{parsed_signed}
 use Rattle.yaml_typing.proofs.typing.number_in.Goals as goal
 

@@ -1,8 +1,6 @@
-use Rattle.std.proofs.Common.{◌≡◌, ◌<◌, ◌^◌, ◌∙◌, Some, arith, ap}
-use Rattle.std.specs.Prelude.{pos}
 use Rattle.std.proofs.lemmas.Int.{ints, to_z_pos}
+use Rattle.yaml_typing.proofs.Common.{ap, arith, digits_value, pos, Some, ◌<◌, ◌^◌, ◌∙◌, ◌≡◌}
 use mir.Syntax.{w64}
-use Rattle.std.specs.Str.Parse.{digits_value}
 use Rattle.yaml_typing.proofs.TableByFirst.{short_below, number_of_digits}
 use Rattle.yaml_typing.proofs.typing.number_of_digits.Goals as goal
 

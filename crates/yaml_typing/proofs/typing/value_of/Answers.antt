@@ -1,4 +1,4 @@
-use Rattle.std.proofs.Common.{◌∙◌, ◌+◌, ◌*◌, ◌-◌, get_or, arith, ap, sym}
+use Rattle.yaml_typing.proofs.Common.{ap, arith, get_or, sym, ◌*◌, ◌+◌, ◌-◌, ◌∙◌}
 use Rattle.yaml_typing.proofs.TableByFirst.{one_digit, one_more, no_more}
 use Rattle.yaml_typing.proofs.typing.value_of.Goals as goal
 

@@ -1,5 +1,4 @@
-use Rattle.std.proofs.Common.{◌≡◌, take}
-use Rattle.std.specs.Str.Parse.{digits_value}
+use Rattle.yaml_typing.proofs.Common.{digits_value, take, ◌≡◌}
 use Rattle.yaml_typing.proofs.typing.value_of.Given as goal
 
 abbrev pub invariant-loop-digit : goal.invariant-loop-digit

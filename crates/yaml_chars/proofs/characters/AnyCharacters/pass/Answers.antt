@@ -1,4 +1,4 @@
-use Rattle.std.proofs.Common.{refl, length, ap, arith}
+use Rattle.yaml_chars.proofs.Common.{ap, arith, length, refl}
 use Rattle.yaml_chars.proofs.CountLemmas.{chars_of_none}
 use Rattle.yaml_chars.proofs.characters.AnyCharacters.pass.Goals as goal
 

@@ -1,7 +1,5 @@
-use Rattle.std.proofs.Common.{◌∙◌, ap, refl, subst, drop, length, arith}
 use Rattle.std.proofs.lemmas.List.{length-drop}
-use Rattle.std.specs.Str.{IsUtf8}
-use Rattle.std.specs.Str.Iter.{chars_rest}
+use Rattle.yaml_chars.proofs.Common.{ap, arith, chars_rest, drop, IsUtf8, length, refl, subst, ◌∙◌}
 use Rattle.yaml_chars.proofs.CountLemmas.{chars_few, chars_of_zero}
 use Rattle.yaml_chars.specs.declared.characters.TextInMemory.{TextInMemory}
 use Rattle.yaml_chars.proofs.WordsLemmas.{gives_front, some_of}

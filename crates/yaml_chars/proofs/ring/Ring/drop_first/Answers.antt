@@ -1,4 +1,4 @@
-use Rattle.std.proofs.Common.{drop, length, ap, sym, ◌∙◌, ◌<◌, arith}
+use Rattle.yaml_chars.proofs.Common.{ap, arith, drop, length, sym, ◌<◌, ◌∙◌}
 use Rattle.yaml_chars.proofs.QueueLemmas.{length-queue, queue_before_pop}
 use Rattle.yaml_chars.proofs.ring.Ring.drop_first.Goals as goal
 

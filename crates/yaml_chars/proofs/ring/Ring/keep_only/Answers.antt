@@ -1,4 +1,4 @@
-use Rattle.std.proofs.Common.{arith}
+use Rattle.yaml_chars.proofs.Common.{arith}
 use Rattle.yaml_chars.proofs.QueueLemmas.{queue_after_push}
 use Rattle.yaml_chars.proofs.ring.Ring.keep_only.Goals as goal
 

@@ -1,4 +1,4 @@
-use Rattle.std.proofs.Common.{ap, sym, ◌∙◌, length}
+use Rattle.yaml_chars.proofs.Common.{ap, length, sym, ◌∙◌}
 use Rattle.yaml_chars.proofs.QueueLemmas.{length-queue}
 use Rattle.yaml_chars.proofs.ring.Ring.len.Goals as goal
 

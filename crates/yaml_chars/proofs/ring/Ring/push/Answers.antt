@@ -1,4 +1,4 @@
-use Rattle.std.proofs.Common.{ℕ, List, [], ◌∷◌, ◌++◌, ◌<◌, length, ap, ◌∙◌, arith}
+use Rattle.yaml_chars.proofs.Common.{[], ap, arith, length, List, ℕ, ◌++◌, ◌<◌, ◌∙◌, ◌∷◌}
 use Rattle.yaml_chars.proofs.QueueLemmas.{length-queue, queue_after_push}
 use Rattle.yaml_chars.proofs.ring.Ring.push.Goals as goal
 

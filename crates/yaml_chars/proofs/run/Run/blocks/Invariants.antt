@@ -1,5 +1,4 @@
-use Rattle.std.proofs.Common.{◌≡◌, false, length, ◌-◌}
-use Rattle.yaml_chars.specs.Words.{AreWordsUpTo, AreAscii}
+use Rattle.yaml_chars.proofs.Common.{AreAscii, AreWordsUpTo, false, length, ◌-◌, ◌≡◌}
 use Rattle.yaml_chars.proofs.run.Run.blocks.Given as goal
 
 abbrev pub invariant-blocks-2 : goal.invariant-blocks-2

@@ -1,5 +1,4 @@
-use Rattle.std.proofs.Common.{◌∙◌, sym, ap}
-use Rattle.yaml_chars.specs.Class.{is_flow}
+use Rattle.yaml_chars.proofs.Common.{ap, is_flow, sym, ◌∙◌}
 use Rattle.yaml_chars.proofs.WordsLemmas.{flow_low, not_out, true_is_not_false}
 use Rattle.yaml_chars.proofs.run.Run.is_ordinary.Goals.{then-flow, else-flow}
 use Rattle.yaml_chars.proofs.run.Run.is_ordinary.Goals as goal

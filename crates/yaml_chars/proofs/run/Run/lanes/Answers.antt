@@ -1,4 +1,4 @@
-use Rattle.std.proofs.Common.{arith}
+use Rattle.yaml_chars.proofs.Common.{arith}
 use Rattle.yaml_chars.proofs.WordsLemmas.{lanes_whole, lanes_but_last}
 use Rattle.yaml_chars.proofs.run.Run.lanes.Goals.{else-count-gt0-via-then-count-gt0+else-bytes-at-eq32, else-count-gt0-via-else-count-gt0}
 use Rattle.yaml_chars.proofs.run.Run.lanes.Goals as goal

@@ -1,6 +1,4 @@
-use Rattle.std.proofs.Common.{◌+◌, slice_index, sym, ap, subst, ◌∙◌, arith}
-use Rattle.yaml_chars.specs.declared.run.Run.TheVariants.{Plain, Quoted}
-use Rattle.yaml_chars.specs.Words.{Goes}
+use Rattle.yaml_chars.proofs.Common.{ap, arith, Goes, Plain, Quoted, slice_index, subst, sym, ◌+◌, ◌∙◌}
 use Rattle.yaml_chars.proofs.WordsLemmas.{goes_line, goes_plain, goes_quoted}
 use Rattle.yaml_chars.proofs.run.Run.lanes_on.Goals as goal
 

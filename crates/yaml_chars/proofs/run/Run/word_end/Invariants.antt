@@ -1,5 +1,4 @@
-use Rattle.std.proofs.Common.{◌≡◌, false, length, ◌-◌}
-use Rattle.yaml_chars.specs.Words.{IsWordBetween, AreAscii}
+use Rattle.yaml_chars.proofs.Common.{AreAscii, false, IsWordBetween, length, ◌-◌, ◌≡◌}
 use Rattle.yaml_chars.proofs.run.Run.word_end.Given as goal
 
 abbrev pub invariant-word : goal.invariant-word

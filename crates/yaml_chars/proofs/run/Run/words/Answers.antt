@@ -1,5 +1,4 @@
-use Rattle.std.proofs.Common.{◌+◌, ◌<◌, slice_index, arith}
-use Rattle.std.proofs.lemmas.Bool.Decides.{nat_tests}
+use Rattle.yaml_chars.proofs.Common.{arith, nat_tests, slice_index, ◌+◌, ◌<◌}
 use Rattle.yaml_chars.proofs.WordsLemmas.{words_none, word_further, words_more, ascii_none, ascii_further, ascii_word, or_parts}
 use Rattle.yaml_chars.proofs.run.Run.words.Goals as goal
 

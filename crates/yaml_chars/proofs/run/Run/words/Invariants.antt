@@ -1,5 +1,4 @@
-use Rattle.std.proofs.Common.{◌≡◌, false, length, ◌-◌}
-use Rattle.yaml_chars.specs.Words.{AreWordsUpTo, AreAscii, EndsAtAscii}
+use Rattle.yaml_chars.proofs.Common.{AreAscii, AreWordsUpTo, EndsAtAscii, false, length, ◌-◌, ◌≡◌}
 use Rattle.yaml_chars.proofs.run.Run.words.Given as goal
 
 abbrev pub invariant-words : goal.invariant-words

@@ -1,9 +1,4 @@
-use Rattle.std.proofs.Common.{false, ◌≡◌, ◌==◌, ◌++◌, take, drop, refl, sym, ap, subst, ◌∙◌, ◌+◌, arith, length}
-use Rattle.std.proofs.lemmas.List.{drop-append-le}
-use Rattle.std.specs.Prelude.{chars, slice_index}
-use Rattle.std.specs.Str.{IsCharBoundary}
-use Rattle.yaml_chars.specs.BlockLines.{begin, Ends}
-use Rattle.yaml_chars.specs.Source.{IterStands}
+use Rattle.yaml_chars.proofs.Common.{ap, arith, begin, chars, drop, drop-append-le, Ends, false, IsCharBoundary, IterStands, length, refl, slice_index, subst, sym, take, ◌++◌, ◌+◌, ◌==◌, ◌∙◌, ◌≡◌}
 use Rattle.yaml_chars.proofs.BlockLineLemmas.{plain_part, plain_front, text_part, boundary_front, chars_front}
 use Rattle.yaml_chars.proofs.WordsLemmas.{Stands-on, front_range, true_is_not_false}
 use Rattle.yaml_chars.proofs.source.Source.part_on.Goals as goal

@@ -1,8 +1,4 @@
-use Rattle.std.proofs.Common.{false, ◌≡◌, ◌++◌, take, length, refl, sym, ap, subst, ◌∙◌, arith}
-use Rattle.std.specs.Prelude.{chars}
-use Rattle.std.specs.Str.{IsAscii, IsUtf8}
-use Rattle.yaml_chars.specs.Source.{IterStands}
-use Rattle.yaml_chars.specs.Words.{AreAscii, AreWordsUpTo, EndsAtAscii}
+use Rattle.yaml_chars.proofs.Common.{ap, AreAscii, AreWordsUpTo, arith, chars, EndsAtAscii, false, IsAscii, IsUtf8, IterStands, length, refl, subst, sym, take, ◌++◌, ◌∙◌, ◌≡◌}
 use Rattle.yaml_chars.proofs.WordsLemmas.{ascii_of, boundary_of, words_of, Stands-on, front_range, true_is_not_false}
 use Rattle.yaml_chars.proofs.source.Source.pass_words.Goals as goal
 

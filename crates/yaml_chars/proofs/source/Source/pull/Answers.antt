@@ -1,4 +1,4 @@
-use Rattle.std.proofs.Common.{rules}
+use Rattle.yaml_chars.proofs.Common.{rules}
 use Rattle.yaml_chars.proofs.SourceLemmas.{Stands-more}
 use Rattle.yaml_chars.proofs.source.Source.pull.Goals as goal
 

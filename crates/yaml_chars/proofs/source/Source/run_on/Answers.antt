@@ -1,4 +1,4 @@
-use Rattle.std.proofs.Common.{◌∙◌, sym}
+use Rattle.yaml_chars.proofs.Common.{sym, ◌∙◌}
 use Rattle.yaml_chars.proofs.RunLemmas.{GoesOn-more, true_is_not_false}
 use Rattle.yaml_chars.proofs.source.Source.run_on.Goals as goal
 

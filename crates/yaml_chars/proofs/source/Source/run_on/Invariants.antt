@@ -1,4 +1,4 @@
-use Rattle.yaml_chars.specs.Run.{GoesOn}
+use Rattle.yaml_chars.proofs.Common.{GoesOn}
 use Rattle.yaml_chars.proofs.source.Source.run_on.Given as goal
 
 abbrev pub invariant-run : goal.invariant-run

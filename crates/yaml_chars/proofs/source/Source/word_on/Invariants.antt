@@ -1,5 +1,4 @@
-use Rattle.std.proofs.Common.{◌≡◌, false}
-use Rattle.yaml_chars.specs.Run.{GoesOn}
+use Rattle.yaml_chars.proofs.Common.{false, GoesOn, ◌≡◌}
 use Rattle.yaml_chars.proofs.source.Source.word_on.Given as goal
 
 abbrev pub invariant-run : goal.invariant-run

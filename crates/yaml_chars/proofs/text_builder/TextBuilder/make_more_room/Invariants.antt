@@ -1,4 +1,4 @@
-use Rattle.std.proofs.Common.{◌-◌, ◌<◌}
+use Rattle.yaml_chars.proofs.Common.{◌-◌, ◌<◌}
 use Rattle.yaml_chars.proofs.text_builder.TextBuilder.make_more_room.Given as goal
 
 abbrev pub invariant-room : goal.invariant-room

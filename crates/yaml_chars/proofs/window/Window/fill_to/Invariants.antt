@@ -1,5 +1,4 @@
-use Rattle.std.proofs.Common.{◌≡◌, ◌-◌}
-use Rattle.yaml_chars.specs.WindowView.{Reads, SamePosition}
+use Rattle.yaml_chars.proofs.Common.{Reads, SamePosition, ◌-◌, ◌≡◌}
 use Rattle.yaml_chars.proofs.window.Window.fill_to.Given as goal
 
 abbrev pub invariant-loop-self : goal.invariant-loop-self

@@ -1,4 +1,4 @@
-use Rattle.std.proofs.Common.{◌≡◌, arith, length}
+use Rattle.yaml_chars.proofs.Common.{arith, length, ◌≡◌}
 use Rattle.yaml_chars.proofs.RunLemmas.{Reads-map}
 use Rattle.yaml_chars.proofs.WordsLemmas.{Fills-gives, Reads-gives}
 use Rattle.yaml_chars.proofs.window.Window.pass_words.Goals as goal

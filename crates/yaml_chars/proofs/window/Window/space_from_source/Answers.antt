@@ -1,4 +1,4 @@
-use Rattle.std.proofs.Common.{refl, arith, sym, ◌∙◌}
+use Rattle.yaml_chars.proofs.Common.{arith, refl, sym, ◌∙◌}
 use Rattle.yaml_chars.proofs.WindowViewLemmas.{Possible-pulls, left-pulls, left-taken, front-pulls, next-pulls}
 use Rattle.yaml_chars.proofs.window.Window.space_from_source.Goals as goal
 

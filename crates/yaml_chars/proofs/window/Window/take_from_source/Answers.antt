@@ -1,4 +1,4 @@
-use Rattle.std.proofs.Common.{refl, arith}
+use Rattle.yaml_chars.proofs.Common.{arith, refl}
 use Rattle.yaml_chars.proofs.WindowViewLemmas.{Possible-pulls, left-pulls, left-taken, front-pulls, next-pulls}
 use Rattle.yaml_chars.proofs.window.Window.take_from_source.Goals as goal
 

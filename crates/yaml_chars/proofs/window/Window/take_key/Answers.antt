@@ -1,4 +1,4 @@
-use Rattle.std.proofs.Common.{sym}
+use Rattle.yaml_chars.proofs.Common.{sym}
 use Rattle.yaml_chars.proofs.BlockLineLemmas.{Fills-key, takes_key}
 use Rattle.yaml_chars.proofs.window.Window.take_key.Goals as goal
 

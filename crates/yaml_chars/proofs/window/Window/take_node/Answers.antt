@@ -1,4 +1,4 @@
-use Rattle.std.proofs.Common.{sym, ◌∙◌, []}
+use Rattle.yaml_chars.proofs.Common.{[], sym, ◌∙◌}
 use Rattle.yaml_chars.proofs.BlockLineLemmas.{Fills-key, takes_key, Fills-line, takes_line, node_key, node_line}
 use Rattle.yaml_chars.proofs.window.Window.take_node.Goals as goal
 

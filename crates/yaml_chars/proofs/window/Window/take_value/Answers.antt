@@ -1,4 +1,4 @@
-use Rattle.std.proofs.Common.{[], ◌∷◌}
+use Rattle.yaml_chars.proofs.Common.{[], ◌∷◌}
 use Rattle.yaml_chars.proofs.BlockLineLemmas.{Fills-line, takes_line, value_stands}
 use Rattle.yaml_chars.proofs.window.Window.take_value.Goals as goal
 

@@ -1,6 +1,4 @@
-use Rattle.std.proofs.Common.{◌≡◌}
-use Rattle.yaml_chars.specs.WindowView.{Reads, position_of}
-use Rattle.yaml_chars.specs.Run.{ran}
+use Rattle.yaml_chars.proofs.Common.{position_of, ran, Reads, ◌≡◌}
 use Rattle.yaml_chars.proofs.window.Window.take_word.Given as goal
 
 abbrev pub invariant-held : goal.invariant-held

@@ -1,6 +1,4 @@
-use Rattle.std.specs.Prelude.{Bool, Result, Ok, Err, OnOk}
-use Rattle.yaml_chars.specs.WindowView.{Reads, position_of}
-use Rattle.yaml_chars.specs.Words.{TakesWords}
+use Rattle.yaml_chars.proofs.Common.{Bool, Err, Ok, OnOk, position_of, Reads, Result, TakesWords}
 use Rattle.yaml_chars.proofs.WindowViewLemmas.{Reads-then}
 use Rattle.yaml_chars.proofs.WordsLemmas.{takes_then, takes_one}
 use Rattle.yaml_chars.proofs.window.Window.take_words.Goals as goal

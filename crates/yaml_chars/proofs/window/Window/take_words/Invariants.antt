@@ -1,5 +1,4 @@
-use Rattle.yaml_chars.specs.WindowView.{Reads, position_of}
-use Rattle.yaml_chars.specs.Words.{TakesWords}
+use Rattle.yaml_chars.proofs.Common.{position_of, Reads, TakesWords}
 use Rattle.yaml_chars.proofs.window.Window.take_words.Given as goal
 
 abbrev pub invariant-held : goal.invariant-held

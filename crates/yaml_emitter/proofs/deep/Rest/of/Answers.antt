@@ -1,11 +1,5 @@
-use Rattle.std.proofs.Common.{true, false, ap, sym, subst, ◌∙◌, arith}
-use Rattle.defs_tree.specs.Box.{box, is_block, item_boxes, pair_boxes}
-use Rattle.defs_tree.specs.Tree.{items_of, pairs_of}
-use Rattle.yaml_tree.specs.View.{view, items_view}
-use Rattle.yaml_tree.specs.Weight.{nodes, items_nodes, pairs_nodes}
-use Rattle.yaml_emitter.specs.At.{stacked}
-use Rattle.yaml_emitter.specs.Entries.{entries_text}
-use Rattle.yaml_emitter.specs.ValidTree.{IsValid, AreValid, ArePairsValid}
+use Rattle.yaml_emitter.proofs.Common.{ap, ArePairsValid, AreValid, arith, box, entries_text, false, is_block, IsValid, item_boxes, items_nodes, items_of, items_view, pair_boxes, pairs_nodes, pairs_of, stacked, subst, sym, true, view, ◌∙◌}
+use Rattle.yaml_tree.specs.Weight.{nodes}
 use Rattle.yaml_emitter.proofs.EntryLemmas.{items_text, pairs_text}
 use Rattle.yaml_emitter.proofs.ValidLemmas.{valid_hash}
 use Rattle.yaml_emitter.proofs.deep.Rest.of.Goals as goal

@@ -1,4 +1,4 @@
-use Rattle.std.proofs.Common.{refl}
+use Rattle.yaml_emitter.proofs.Common.{refl}
 use Rattle.yaml_emitter.proofs.ValidLemmas.{unless_ok, on_err}
 use Rattle.yaml_emitter.proofs.WritingLemmas.{writes_ok, writes_err, stopped_for}
 use Rattle.yaml_emitter.proofs.emitter.YamlEmitter.dump.Goals as goal

@@ -1,6 +1,4 @@
-use Rattle.std.proofs.Common.{sym}
-use Rattle.std.proofs.Output.{has_written_of_eq}
-use Rattle.std.proofs.lemmas.Str.{encodes-chars}
+use Rattle.yaml_emitter.proofs.Common.{encodes-chars, has_written_of_eq, sym}
 use Rattle.yaml_emitter.proofs.WritingLemmas.{wrote_one, stopped_one}
 use Rattle.yaml_emitter.proofs.fmt_writer.FmtFormatterWriter.put.Goals as goal
 

@@ -1,7 +1,5 @@
-use Rattle.std.proofs.Common.{arith}
-use Rattle.std.proofs.lemmas.Simd.{zip2_splat}
-use Rattle.yaml_emitter.specs.Runs.{is_escaped}
-use Rattle.yaml_chars.proofs.MaskLemmas.{hit, below, either, masked}
+use Rattle.yaml_emitter.proofs.Common.{arith, either, hit, is_escaped, masked, zip2_splat}
+use Rattle.yaml_chars.proofs.MaskLemmas.{below}
 use Rattle.yaml_emitter.proofs.runs.EscapedClass.among.Goals as goal
 
 pub returns : goal.returns

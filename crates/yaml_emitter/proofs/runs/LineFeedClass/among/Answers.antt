@@ -1,7 +1,4 @@
-use Rattle.std.proofs.Common.{arith}
-use Rattle.std.proofs.lemmas.Simd.{zip2_splat}
-use Rattle.yaml_emitter.specs.Runs.{is_break}
-use Rattle.yaml_chars.proofs.MaskLemmas.{hit, masked}
+use Rattle.yaml_emitter.proofs.Common.{arith, hit, is_break, masked, zip2_splat}
 use Rattle.yaml_emitter.proofs.runs.LineFeedClass.among.Goals as goal
 
 pub returns : goal.returns

@@ -1,7 +1,5 @@
-use Rattle.std.proofs.Common.{arith}
-use Rattle.std.proofs.lemmas.Simd.{zip2_splat}
-use Rattle.defs_tree.specs.Quoting.{is_unfit_for_plain}
-use Rattle.yaml_chars.proofs.MaskLemmas.{hit, below, other, either, both_of, masked}
+use Rattle.yaml_emitter.proofs.Common.{arith, both_of, either, hit, is_unfit_for_plain, masked, other, zip2_splat}
+use Rattle.yaml_chars.proofs.MaskLemmas.{below}
 use Rattle.yaml_emitter.proofs.runs.UnfitClass.among.Goals as goal
 
 pub returns : goal.returns

@@ -1,7 +1,5 @@
-use Rattle.std.proofs.Common.{arith}
-use Rattle.std.proofs.lemmas.Simd.{zip2_splat}
-use Rattle.yaml_emitter.specs.Runs.{is_unprintable}
-use Rattle.yaml_chars.proofs.MaskLemmas.{below, other, either, both_of, splat_first, masked}
+use Rattle.yaml_emitter.proofs.Common.{arith, both_of, either, is_unprintable, masked, other, splat_first, zip2_splat}
+use Rattle.yaml_chars.proofs.MaskLemmas.{below}
 use Rattle.yaml_emitter.proofs.runs.UnprintableClass.among.Goals as goal
 
 pub returns : goal.returns

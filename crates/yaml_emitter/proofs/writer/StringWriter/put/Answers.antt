@@ -1,7 +1,5 @@
-use Rattle.std.proofs.Common.{refl, ap, ◌∙◌}
-use Rattle.std.proofs.lemmas.Str.{chars-append, IsUtf8-string_bytes}
-use Rattle.std.specs.Prelude.{chars, string_bytes}
-use Rattle.defs_text.specs.Text.{string_chars}
+use Rattle.std.specs.Prelude.{chars}
+use Rattle.yaml_emitter.proofs.Common.{ap, chars-append, IsUtf8-string_bytes, refl, string_bytes, string_chars, ◌∙◌}
 use Rattle.yaml_emitter.proofs.WritingLemmas.{wrote_one, stopped_one, writes_ok, writes_err}
 use Rattle.yaml_emitter.proofs.writer.StringWriter.put.Goals as goal
 

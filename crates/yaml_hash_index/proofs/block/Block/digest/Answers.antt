@@ -1,6 +1,4 @@
-use Rattle.std.proofs.Common.{length, ap, ◌∙◌, arith}
-use Rattle.yaml_hash_index.specs.Edges.{digest_at}
-use Rattle.yaml_hash_index.specs.declared.entry.Entry.{Entry}
+use Rattle.yaml_hash_index.proofs.Common.{ap, arith, digest_at, Entry, length, ◌∙◌}
 use Rattle.yaml_hash_index.proofs.Joining.{number_got}
 use Rattle.yaml_hash_index.proofs.block.Block.digest.Goals as goal
 

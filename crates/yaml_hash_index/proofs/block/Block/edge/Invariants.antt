@@ -1,6 +1,4 @@
-use Rattle.std.proofs.Common.{◌-◌, length}
-use Rattle.defs_tree.specs.Digits.{binary_digits}
-use Rattle.yaml_hash_index.specs.Edges.{digest_at}
+use Rattle.yaml_hash_index.proofs.Common.{binary_digits, digest_at, length, ◌-◌}
 use Rattle.yaml_hash_index.proofs.Halving.{IsSearch}
 use Rattle.yaml_hash_index.proofs.block.Block.edge.Given as goal
 

@@ -1,8 +1,4 @@
-use Rattle.std.proofs.Common.{get_or, set, ap, ◌∙◌, arith}
-use Rattle.std.proofs.lemmas.List.{get_or_default}
-use Rattle.std.proofs.lemmas.List.Edits.{map_over_more}
-use Rattle.yaml_hash_index.specs.Moves.{entry_moved_up}
-use Rattle.yaml_hash_index.specs.declared.entry.Entry.{Entry}
+use Rattle.yaml_hash_index.proofs.Common.{ap, arith, Entry, entry_moved_up, get_or, get_or_default, map_over_more, set, ◌∙◌}
 use Rattle.yaml_hash_index.proofs.block.Block.move_up.Goals as goal
 
 pub loop-entry-preserved : goal.loop-entry-preserved

@@ -1,5 +1,4 @@
-use Rattle.std.proofs.Common.{◌≡◌, ◌++◌, take, drop, map}
-use Rattle.yaml_hash_index.specs.Moves.{entry_moved_up}
+use Rattle.yaml_hash_index.proofs.Common.{drop, entry_moved_up, map, take, ◌++◌, ◌≡◌}
 use Rattle.yaml_hash_index.proofs.block.Block.move_up.Given as goal
 
 abbrev pub invariant-loop-entry : goal.invariant-loop-entry

@@ -1,5 +1,4 @@
-use Rattle.std.proofs.Common.{◌+◌, ◌-◌, ◌*◌, ◌≤◌, ap, length, get_or, arith}
-use Rattle.yaml_hash_index.specs.Blocks.{joined, start}
+use Rattle.yaml_hash_index.proofs.Common.{ap, arith, get_or, joined, length, start, ◌*◌, ◌+◌, ◌-◌, ◌≤◌}
 use Rattle.yaml_hash_index.proofs.Joining.{block_read, not_past}
 use Rattle.yaml_hash_index.proofs.Starting.{starts_some, starts_all}
 use Rattle.yaml_hash_index.proofs.blocks.Blocks.advanced.Goals as goal

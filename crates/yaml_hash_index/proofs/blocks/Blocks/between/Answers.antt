@@ -1,5 +1,4 @@
-use Rattle.std.proofs.Common.{◌<◌, ◌+◌, ◌^◌, length, arith, rules}
-use Rattle.yaml_hash_index.specs.Blocks.{joined}
+use Rattle.yaml_hash_index.proofs.Common.{arith, joined, length, rules, ◌+◌, ◌<◌, ◌^◌}
 use Rattle.yaml_hash_index.proofs.Joining.{rank_within}
 use Rattle.yaml_hash_index.proofs.blocks.Blocks.between.Goals as goal
 

@@ -1,4 +1,4 @@
-use Rattle.std.proofs.Common.{◌≡◌, take}
+use Rattle.yaml_hash_index.proofs.Common.{take, ◌≡◌}
 use Rattle.yaml_hash_index.proofs.blocks.Blocks.copied.Given as goal
 
 abbrev pub invariant-loop-block : goal.invariant-loop-block

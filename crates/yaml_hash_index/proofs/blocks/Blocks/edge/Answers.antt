@@ -1,6 +1,4 @@
-use Rattle.std.proofs.Common.{◌≡◌, ◌+◌, ◌-◌, ◌<◌, ◌≤◌, suc, [], get_or, length, subst, ap, ◌∙◌, arith}
-use Rattle.yaml_hash_index.specs.Edges.{digest_at, IsEdge}
-use Rattle.yaml_hash_index.specs.Blocks.{head_at, joined, AreFilled}
+use Rattle.yaml_hash_index.proofs.Common.{[], ap, AreFilled, arith, digest_at, get_or, head_at, IsEdge, joined, length, subst, suc, ◌+◌, ◌-◌, ◌<◌, ◌∙◌, ◌≡◌, ◌≤◌}
 use Rattle.yaml_hash_index.proofs.Halving.{digits_rise, digits_shared}
 use Rattle.yaml_hash_index.proofs.Joining.{edge_first, edge_joined, block_read, filled_beside, filled_counted}
 use Rattle.yaml_hash_index.proofs.blocks.Blocks.edge.Goals as goal

@@ -1,7 +1,4 @@
-use Rattle.std.proofs.Common.{◌≡◌, ◌<◌, ◌+◌, ◌-◌, suc, [], get_or, sym, ap, length, subst, ◌∙◌, arith}
-use Rattle.std.proofs.lemmas.Bool.{ltb-true}
-use Rattle.yaml_hash_index.specs.Edges.{digest_at}
-use Rattle.yaml_hash_index.specs.Blocks.{joined, start, AreFilled}
+use Rattle.yaml_hash_index.proofs.Common.{[], ap, AreFilled, arith, digest_at, get_or, joined, length, ltb-true, start, subst, suc, sym, ◌+◌, ◌-◌, ◌<◌, ◌∙◌, ◌≡◌}
 use Rattle.yaml_hash_index.proofs.Joining.{block_read, digest_in, start_all, start_next}
 use Rattle.yaml_hash_index.proofs.blocks.Blocks.end_below.Goals as goal
 

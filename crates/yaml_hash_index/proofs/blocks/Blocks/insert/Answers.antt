@@ -1,7 +1,4 @@
-use Rattle.std.proofs.Common.{◌≡◌, [], get_or, ap, length, ◌∙◌, arith}
-use Rattle.std.specs.List.{insert}
-use Rattle.std.proofs.lemmas.List.{get_or_past}
-use Rattle.yaml_hash_index.specs.Blocks.{joined, rank_of}
+use Rattle.yaml_hash_index.proofs.Common.{[], ap, arith, get_or, get_or_past, insert, joined, length, rank_of, ◌∙◌, ◌≡◌}
 use Rattle.yaml_hash_index.proofs.Joining.{start_all}
 use Rattle.yaml_hash_index.proofs.blocks.Blocks.insert.Goals as goal
 

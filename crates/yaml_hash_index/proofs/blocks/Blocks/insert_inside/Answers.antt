@@ -1,8 +1,4 @@
-use Rattle.std.proofs.Common.{◌+◌, ◌/◌, ◌<◌, [], length, get_or, set, refl, sym, ap, subst, ◌∙◌, arith}
-use Rattle.std.specs.List.{insert}
-use Rattle.std.proofs.lemmas.List.Edits.{length-insert}
-use Rattle.yaml_hash_index.specs.Blocks.{joined}
-use Rattle.yaml_hash_index.specs.Starts.{AreCounted}
+use Rattle.yaml_hash_index.proofs.Common.{[], ap, AreCounted, arith, get_or, insert, joined, length, length-insert, refl, set, subst, sym, ◌+◌, ◌/◌, ◌<◌, ◌∙◌}
 use Rattle.yaml_hash_index.proofs.Joining.{block_read, lent_back, joined_insert}
 use Rattle.yaml_hash_index.proofs.Starting.{can_rise, counted_inserted}
 use Rattle.yaml_hash_index.proofs.blocks.Blocks.insert_inside.Goals as goal

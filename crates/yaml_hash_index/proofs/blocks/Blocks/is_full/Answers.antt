@@ -1,6 +1,4 @@
-use Rattle.std.proofs.Common.{◌≡◌, ◌<◌, ◌^◌, length, ap, arith}
-use Rattle.std.proofs.lemmas.Bool.Decides.{nat_tests}
-use Rattle.yaml_hash_index.specs.Blocks.{joined}
+use Rattle.yaml_hash_index.proofs.Common.{ap, arith, joined, length, nat_tests, ◌<◌, ◌^◌, ◌≡◌}
 use Rattle.yaml_hash_index.proofs.Starting.{last_counts}
 use Rattle.yaml_hash_index.proofs.blocks.Blocks.is_full.Goals as goal
 

@@ -1,4 +1,4 @@
-use Rattle.std.proofs.Common.{◌<◌, [], get_or, ap, length, arith}
+use Rattle.yaml_hash_index.proofs.Common.{[], ap, arith, get_or, length, ◌<◌}
 use Rattle.yaml_hash_index.proofs.Joining.{block_read, rank_inside}
 use Rattle.yaml_hash_index.proofs.blocks.Blocks.is_last.Goals as goal
 

@@ -1,7 +1,4 @@
-use Rattle.std.proofs.Common.{◌≡◌, ◌<◌, ◌≤◌, ◌+◌, suc, [], get_or, sym, ap, length, subst, ◌∙◌, arith}
-use Rattle.std.proofs.lemmas.Bool.{ltb-true, ltb-false}
-use Rattle.yaml_hash_index.specs.Edges.{digest_at}
-use Rattle.yaml_hash_index.specs.Blocks.{joined, start, rank_of, AreFilled}
+use Rattle.yaml_hash_index.proofs.Common.{[], ap, AreFilled, arith, digest_at, get_or, joined, length, ltb-false, ltb-true, rank_of, start, subst, suc, sym, ◌+◌, ◌<◌, ◌∙◌, ◌≡◌, ◌≤◌}
 use Rattle.yaml_hash_index.proofs.Joining.{block_read, digest_in, start_all, start_next}
 use Rattle.yaml_hash_index.proofs.blocks.Blocks.is_past.Goals as goal
 

@@ -1,8 +1,4 @@
-use Rattle.std.proofs.Common.{◌≡◌, length, map, set, ap, sym, subst, ◌∙◌, arith}
-use Rattle.std.proofs.lemmas.List.Edits.{map_over_more}
-use Rattle.yaml_hash_index.specs.Blocks.{joined}
-use Rattle.yaml_hash_index.specs.Starts.{AreCounted}
-use Rattle.yaml_hash_index.specs.Moves.{entry_moved_up}
+use Rattle.yaml_hash_index.proofs.Common.{ap, AreCounted, arith, entry_moved_up, joined, length, map, map_over_more, set, subst, sym, ◌∙◌, ◌≡◌}
 use Rattle.yaml_hash_index.proofs.Joining.{all_mapped, lent_back, joined_map}
 use Rattle.yaml_hash_index.proofs.Starting.{counted_map}
 use Rattle.yaml_hash_index.proofs.blocks.Blocks.move_up.Goals as goal

@@ -1,6 +1,4 @@
-use Rattle.std.proofs.Common.{◌+◌, ◌<◌, length, subst, ap, refl, arith}
-use Rattle.yaml_hash_index.specs.Blocks.{rank_of, joined, AreFilled}
-use Rattle.std.proofs.lemmas.Bool.Decides.{nat_tests}
+use Rattle.yaml_hash_index.proofs.Common.{ap, AreFilled, arith, joined, length, nat_tests, rank_of, refl, subst, ◌+◌, ◌<◌}
 use Rattle.yaml_hash_index.proofs.Halving.{digits_some}
 use Rattle.yaml_hash_index.proofs.Joining.{edges_rise, edges_narrow, edge_past, filled_counted}
 use Rattle.yaml_hash_index.proofs.blocks.Blocks.narrowed.Goals as goal

@@ -1,5 +1,4 @@
-use Rattle.std.proofs.Common.{sym, ap, ◌∙◌}
-use Rattle.yaml_hash_index.specs.Edges.{place_at}
+use Rattle.yaml_hash_index.proofs.Common.{ap, place_at, sym, ◌∙◌}
 use Rattle.yaml_hash_index.proofs.Joining.{place_in, block_read}
 use Rattle.yaml_hash_index.proofs.blocks.Blocks.place.Goals as goal
 

@@ -1,6 +1,4 @@
-use Rattle.std.proofs.Common.{◌≡◌, ◌+◌, ◌/◌, ◌++◌, ◌∷◌, [], length, refl, sym, ap, subst, ◌∙◌, arith}
-use Rattle.yaml_hash_index.specs.Blocks.{joined}
-use Rattle.yaml_hash_index.specs.Starts.{AreStarts, AreCounted}
+use Rattle.yaml_hash_index.proofs.Common.{[], ap, AreCounted, AreStarts, arith, joined, length, refl, subst, sym, ◌++◌, ◌+◌, ◌/◌, ◌∙◌, ◌∷◌, ◌≡◌}
 use Rattle.yaml_hash_index.proofs.Joining.{lent_back, joined_push}
 use Rattle.yaml_hash_index.proofs.Starting.{can_rise, counted_pushed}
 use Rattle.yaml_hash_index.proofs.blocks.Blocks.push.Goals as goal

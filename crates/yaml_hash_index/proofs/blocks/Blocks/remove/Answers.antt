@@ -1,9 +1,4 @@
-use Rattle.std.proofs.Common.{◌≡◌, length, map, set, ap, sym, subst, ◌∙◌, arith}
-use Rattle.std.proofs.lemmas.List.Edits.{map_over_more}
-use Rattle.std.specs.List.{remove}
-use Rattle.yaml_hash_index.specs.Blocks.{rank_of, joined}
-use Rattle.yaml_hash_index.specs.Starts.{AreCounted}
-use Rattle.yaml_hash_index.specs.Moves.{entry_closed_up}
+use Rattle.yaml_hash_index.proofs.Common.{ap, AreCounted, arith, entry_closed_up, joined, length, map, map_over_more, rank_of, remove, set, subst, sym, ◌∙◌, ◌≡◌}
 use Rattle.yaml_hash_index.proofs.Joining.{all_mapped, lent_back, joined_map}
 use Rattle.yaml_hash_index.proofs.Starting.{counted_map}
 use Rattle.yaml_hash_index.proofs.blocks.Blocks.remove.Goals as goal

@@ -1,5 +1,4 @@
-use Rattle.std.proofs.Common.{◌≡◌, ◌++◌, take, drop, map}
-use Rattle.yaml_hash_index.specs.Moves.{entry_closed_up}
+use Rattle.yaml_hash_index.proofs.Common.{drop, entry_closed_up, map, take, ◌++◌, ◌≡◌}
 use Rattle.yaml_hash_index.proofs.blocks.Blocks.remove.Given as goal
 
 abbrev pub invariant-loop-block : goal.invariant-loop-block

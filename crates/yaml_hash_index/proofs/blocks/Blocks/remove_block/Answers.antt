@@ -1,7 +1,4 @@
-use Rattle.std.proofs.Common.{◌≡◌, ◌+◌, ◌/◌, ◌<◌, [], length, get_or, refl, sym, ap, subst, ◌∙◌, arith}
-use Rattle.std.specs.List.{remove}
-use Rattle.yaml_hash_index.specs.Blocks.{joined}
-use Rattle.yaml_hash_index.specs.Starts.{AreApart, AreCounted, head_length}
+use Rattle.yaml_hash_index.proofs.Common.{[], ap, AreApart, AreCounted, arith, get_or, head_length, joined, length, refl, remove, subst, sym, ◌+◌, ◌/◌, ◌<◌, ◌∙◌, ◌≡◌}
 use Rattle.yaml_hash_index.proofs.Joining.{lent_back, joined_without}
 use Rattle.yaml_hash_index.proofs.Starting.{start_head, can_fall, counted_without}
 use Rattle.yaml_hash_index.proofs.blocks.Blocks.remove_block.Goals as goal

@@ -1,8 +1,4 @@
-use Rattle.std.proofs.Common.{◌+◌, ◌/◌, ◌<◌, [], length, get_or, set, refl, sym, ap, subst, ◌∙◌, arith}
-use Rattle.std.specs.List.{remove}
-use Rattle.std.proofs.lemmas.List.Edits.{length-remove}
-use Rattle.yaml_hash_index.specs.Blocks.{joined}
-use Rattle.yaml_hash_index.specs.Starts.{AreCounted}
+use Rattle.yaml_hash_index.proofs.Common.{[], ap, AreCounted, arith, get_or, joined, length, length-remove, refl, remove, set, subst, sym, ◌+◌, ◌/◌, ◌<◌, ◌∙◌}
 use Rattle.yaml_hash_index.proofs.Joining.{block_read, lent_back, joined_remove}
 use Rattle.yaml_hash_index.proofs.Starting.{can_fall, counted_removed}
 use Rattle.yaml_hash_index.proofs.blocks.Blocks.remove_inside.Goals as goal

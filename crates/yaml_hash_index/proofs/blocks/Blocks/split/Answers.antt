@@ -1,7 +1,4 @@
-use Rattle.std.proofs.Common.{◌+◌, ◌/◌, ◌<◌, [], length, get_or, set, drop, refl, sym, ap, subst, ◌∙◌, arith}
-use Rattle.std.specs.List.{insert}
-use Rattle.yaml_hash_index.specs.Blocks.{joined, halved}
-use Rattle.yaml_hash_index.specs.Starts.{AreStarts, AreApart, AreCounted, head_length}
+use Rattle.yaml_hash_index.proofs.Common.{[], ap, AreApart, AreCounted, AreStarts, arith, drop, get_or, halved, head_length, insert, joined, length, refl, set, subst, sym, ◌+◌, ◌/◌, ◌<◌, ◌∙◌}
 use Rattle.yaml_hash_index.proofs.Joining.{block_read, lent_back, joined_halved, halved_made}
 use Rattle.yaml_hash_index.proofs.Starting.{can_subtract, counted_halved}
 use Rattle.yaml_hash_index.proofs.blocks.Blocks.split.Goals as goal

@@ -1,5 +1,4 @@
-use Rattle.std.proofs.Common.{◌+◌, ◌<◌, ◌^◌, suc, ap, length, refl, arith, rules}
-use Rattle.yaml_hash_index.specs.Blocks.{joined}
+use Rattle.yaml_hash_index.proofs.Common.{ap, arith, joined, length, refl, rules, suc, ◌+◌, ◌<◌, ◌^◌}
 use Rattle.yaml_hash_index.proofs.Joining.{block_read, start_next, start_within}
 use Rattle.yaml_hash_index.proofs.blocks.Blocks.start.Goals as goal
 

@@ -1,5 +1,4 @@
-use Rattle.std.proofs.Common.{◌≡◌}
-use Rattle.yaml_hash_index.specs.Blocks.{start}
+use Rattle.yaml_hash_index.proofs.Common.{start, ◌≡◌}
 use Rattle.yaml_hash_index.proofs.blocks.Blocks.start.Given as goal
 
 abbrev pub invariant-loop-i : goal.invariant-loop-i

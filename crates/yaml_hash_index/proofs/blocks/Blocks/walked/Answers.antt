@@ -1,4 +1,4 @@
-use Rattle.std.proofs.Common.{◌+◌, ◌<◌, ap, length, arith}
+use Rattle.yaml_hash_index.proofs.Common.{ap, arith, length, ◌+◌, ◌<◌}
 use Rattle.yaml_hash_index.proofs.Joining.{block_read, start_next, not_past}
 use Rattle.yaml_hash_index.proofs.blocks.Blocks.walked.Goals as goal
 

@@ -1,5 +1,4 @@
-use Rattle.std.proofs.Common.{◌≡◌, ◌+◌, ◌-◌, ◌≤◌, length}
-use Rattle.yaml_hash_index.specs.Blocks.{start, rank_of}
+use Rattle.yaml_hash_index.proofs.Common.{length, rank_of, start, ◌+◌, ◌-◌, ◌≡◌, ◌≤◌}
 use Rattle.yaml_hash_index.proofs.blocks.Blocks.walked.Given as goal
 
 abbrev pub invariant-loop-offset : goal.invariant-loop-offset

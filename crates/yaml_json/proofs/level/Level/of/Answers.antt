@@ -1,7 +1,5 @@
-use Rattle.std.proofs.Common.{sym, subst}
+use Rattle.yaml_json.proofs.Common.{ArePartsGiven, IsGiven, subst, sym, view}
 use Rattle.yaml_json.proofs.GivenLemmas.{given_hash}
-use Rattle.yaml_json.specs.Given.{IsGiven, ArePartsGiven}
-use Rattle.yaml_tree.specs.View.{view}
 use Rattle.yaml_json.proofs.level.Level.of.Goals as goal
 
 pub returns-in-Hash-clause-given : goal.returns-in-Hash-clause-given

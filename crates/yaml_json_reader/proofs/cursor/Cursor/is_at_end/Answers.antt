@@ -1,4 +1,4 @@
-use Rattle.std.proofs.Common.{sym, ◌∙◌}
+use Rattle.yaml_json_reader.proofs.Common.{sym, ◌∙◌}
 use Rattle.yaml_json_reader.proofs.TextLemmas.{nothing_left}
 use Rattle.yaml_json_reader.proofs.cursor.Cursor.is_at_end.Goals as goal
 

@@ -1,6 +1,4 @@
-use Rattle.std.proofs.Common.{get_or, refl, ap, ◌∙◌, subst}
-use Rattle.std.specs.Str.{chars}
-use Rattle.yaml_json_reader.specs.Reads.{IsFirst}
+use Rattle.yaml_json_reader.proofs.Common.{ap, chars, get_or, IsFirst, refl, subst, ◌∙◌}
 use Rattle.yaml_json_reader.proofs.TextLemmas.{first_is}
 use Rattle.yaml_json_reader.proofs.cursor.Cursor.peek.Goals as goal
 

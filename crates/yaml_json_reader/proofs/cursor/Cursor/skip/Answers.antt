@@ -1,5 +1,4 @@
-use Rattle.std.proofs.Common.{sym, ◌∙◌, subst}
-use Rattle.yaml_json_reader.specs.Reads.{IsAsciiFirst}
+use Rattle.yaml_json_reader.proofs.Common.{IsAsciiFirst, subst, sym, ◌∙◌}
 use Rattle.yaml_json_reader.proofs.TextLemmas.{cut_first, skipped}
 use Rattle.yaml_json_reader.proofs.cursor.Cursor.skip.Goals as goal
 

@@ -1,5 +1,4 @@
-use Rattle.std.proofs.Common.{ℕ, List, length, false}
-use Rattle.yaml_json_reader.specs.Reads.{IsGap}
+use Rattle.yaml_json_reader.proofs.Common.{false, IsGap, length, List, ℕ}
 use Rattle.yaml_json_reader.proofs.cursor.Cursor.skip_blanks.Given as goal
 
 abbrev pub invariant-blanks : goal.invariant-blanks

@@ -1,5 +1,4 @@
-use Rattle.std.proofs.Common.{ℕ, List, true}
-use Rattle.yaml_json_reader.specs.Reads.{IsGap}
+use Rattle.yaml_json_reader.proofs.Common.{IsGap, List, true, ℕ}
 use Rattle.yaml_json_reader.proofs.cursor.Cursor.skip_first_blanks.Given as goal
 
 abbrev pub invariant-blanks : goal.invariant-blanks

@@ -1,4 +1,4 @@
-use Rattle.std.proofs.Common.{false}
+use Rattle.yaml_json_reader.proofs.Common.{false}
 use Rattle.yaml_json_reader.proofs.Gaps.{no_gap}
 use Rattle.yaml_json_reader.proofs.cursor.Cursor.skip_gap.Goals as goal
 

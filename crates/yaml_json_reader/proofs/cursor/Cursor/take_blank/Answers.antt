@@ -1,4 +1,4 @@
-use Rattle.std.proofs.Common.{sym, ◌∙◌}
+use Rattle.yaml_json_reader.proofs.Common.{sym, ◌∙◌}
 use Rattle.yaml_json_reader.proofs.Gaps.{space_taken, line_feed_taken, carriage_return_taken, tab_taken, taken, not_taken}
 use Rattle.yaml_json_reader.proofs.cursor.Cursor.take_blank.Goals as goal
 

@@ -1,7 +1,4 @@
-use Rattle.std.proofs.Common.{◌-◌, length, ap, subst}
-use Rattle.std.specs.Str.{chars}
-use Rattle.yaml_json_reader.specs.Reads.{IsNumber}
-use Rattle.yaml_json_reader.specs.Numbers.{IsNumberPart}
+use Rattle.yaml_json_reader.proofs.Common.{ap, chars, IsNumber, IsNumberPart, length, subst, ◌-◌}
 use Rattle.yaml_json_reader.proofs.NumberLemmas.{number_cut}
 use Rattle.yaml_json_reader.proofs.cursor.Cursor.take_number.Goals as goal
 

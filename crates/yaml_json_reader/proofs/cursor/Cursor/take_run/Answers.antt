@@ -1,8 +1,4 @@
-use Rattle.std.proofs.Common.{ap, ◌∙◌, subst}
-use Rattle.std.specs.List.{prefix_len}
-use Rattle.std.specs.Str.{chars}
-use Rattle.yaml_json_reader.specs.Runs.{stands}
-use Rattle.yaml_json_reader.specs.Reads.{IsRun}
+use Rattle.yaml_json_reader.proofs.Common.{ap, chars, IsRun, prefix_len, stands, subst, ◌∙◌}
 use Rattle.yaml_json_reader.proofs.TextLemmas.{cut_run, run_is}
 use Rattle.yaml_json_reader.proofs.cursor.Cursor.take_run.Goals as goal
 

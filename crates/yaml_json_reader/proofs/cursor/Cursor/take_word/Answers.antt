@@ -1,4 +1,4 @@
-use Rattle.std.proofs.Common.{◌∙◌}
+use Rattle.yaml_json_reader.proofs.Common.{◌∙◌}
 use Rattle.yaml_json_reader.proofs.Words.{behind_word}
 use Rattle.yaml_json_reader.proofs.cursor.Cursor.take_word.Goals as goal
 

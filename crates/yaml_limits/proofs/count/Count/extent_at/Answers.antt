@@ -1,7 +1,5 @@
-use Rattle.std.proofs.Common.{sym, ap, ◌∙◌}
-use Rattle.std.specs.Prelude.{unwrap_or}
 use Rattle.std.specs.Option.{option_copied}
-use Rattle.yaml_limits.specs.Extents.{single_node}
+use Rattle.yaml_limits.proofs.Common.{ap, single_node, sym, unwrap_or, ◌∙◌}
 use Rattle.yaml_limits.proofs.Anchors.{extent_at_is}
 use Rattle.yaml_limits.proofs.count.Count.extent_at.Goals as goal
 

@@ -1,5 +1,5 @@
+use Rattle.yaml_limits.proofs.Common.{refl}
 use Rattle.yaml_limits.proofs.CountLemmas.{start_counted}
-use Rattle.std.proofs.Common.{refl}
 use Rattle.yaml_limits.proofs.count.Count.open.Goals as goal
 
 pub returns : goal.returns

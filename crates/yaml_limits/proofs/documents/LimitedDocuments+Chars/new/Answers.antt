@@ -1,8 +1,6 @@
-use Rattle.std.proofs.Common.{false, sym, ap, ◌∙◌, subst}
 use Rattle.std.specs.Str.Iter.{chars_rest}
+use Rattle.yaml_limits.proofs.Common.{ap, false, IsReady, parsed, subst, sym, ◌∙◌}
 use Rattle.yaml_chars.proofs.SpelledLemmas.{Chars-spelled}
-use Rattle.yaml_parser.specs.Parsed.{parsed}
-use Rattle.yaml_documents.specs.Reading.{IsReady}
 use Rattle.yaml_limits.proofs.Calls.{ready_at_start}
 use Rattle.yaml_limits.proofs.documents.LimitedDocuments+Chars.new.Goals as goal
 

@@ -1,6 +1,4 @@
-use Rattle.std.proofs.Common.{false, sym, subst}
-use Rattle.yaml_parser.specs.Parsed.{parsed}
-use Rattle.yaml_documents.specs.Reading.{IsReady}
+use Rattle.yaml_limits.proofs.Common.{false, IsReady, parsed, subst, sym}
 use Rattle.yaml_limits.proofs.Calls.{ready_at_start}
 use Rattle.yaml_limits.proofs.documents.LimitedDocuments.from_iter.Goals as goal
 

@@ -1,12 +1,6 @@
-use Rattle.std.proofs.Common.{◌≡◌, ◌∙◌, false, sym, ap, subst}
-use Rattle.std.specs.Prelude.{IfSome}
-use Rattle.yaml_scanner.specs.Waits.{Waits}
-use Rattle.yaml_parser.specs.Parsed.{parsed}
+use Rattle.yaml_limits.proofs.Common.{AnswersText, ap, by_limits, false, Guards, Hands, IfSome, parsed, subst, sym, Waits, ◌∙◌, ◌≡◌}
 use Rattle.proof_loads.specs.AtStart.{IsAtStart}
-use Rattle.proof_loads.specs.TextEvents.{AnswersText}
 use Rattle.yaml_loader.proofs.TextLemmas.{begins_given}
-use Rattle.yaml_limits.specs.Counting.{Guards}
-use Rattle.yaml_limits.specs.Handing.{Hands, by_limits}
 use Rattle.yaml_limits.proofs.HandLemmas.{handed, held_back}
 use Rattle.yaml_limits.proofs.guard.Guard.read.Goals as goal
 

@@ -1,8 +1,4 @@
-use Rattle.std.proofs.Common.{◌∙◌}
-use Rattle.defs_text.specs.Text.{up_to_nul}
-use Rattle.yaml_parser.specs.Parsed.{parsed}
-use Rattle.yaml_loader.specs.Meant.{LoadsOnly}
-use Rattle.yaml_loader.specs.TextLoads.{LoadsText}
+use Rattle.yaml_loader.proofs.Common.{LoadsOnly, LoadsText, parsed, up_to_nul, ◌∙◌}
 use Rattle.yaml_loader.proofs.TextLemmas.{given_may_be, begins_given, answers, of_texts, of_row, of_meaning, of_json, of_basic, of_layout, of_quoted}
 use Rattle.yaml_loader.proofs.loader.YamlLoader.load_from_iter.Goals as goal
 

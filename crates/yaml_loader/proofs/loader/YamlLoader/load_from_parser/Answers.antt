@@ -1,6 +1,5 @@
-use Rattle.std.proofs.lemmas.Result.{err_from_is_err_and}
+use Rattle.yaml_loader.proofs.Common.{err_from_is_err_and, of_parser}
 use Rattle.yaml_loader.proofs.LoadLemmas.{went_well, load_fault, documents_given, fault_given, no_fault, no_alias_given}
-use Rattle.yaml_loader.specs.Unread.{of_parser}
 use Rattle.yaml_loader.proofs.AnyText.{any_text_leaves, left_gives}
 use Rattle.yaml_loader.proofs.loader.YamlLoader.load_from_parser.Goals as goal
 

@@ -1,6 +1,5 @@
 use Rattle.std.specs.Str.{chars}
-use Rattle.defs_text.specs.Text.{up_to_nul}
-use Rattle.yaml_loader.specs.Meant.{LoadsOnly}
+use Rattle.yaml_loader.proofs.Common.{LoadsOnly, up_to_nul}
 use Rattle.yaml_loader.proofs.TextLemmas.{of_row, of_meaning, of_json, of_basic, of_layout, of_first_json, of_first_basic, of_first_layout, of_quoted, of_first_quoted}
 use Rattle.yaml_loader.proofs.loader.YamlLoader.load_from_str.Goals as goal
 

@@ -1,11 +1,5 @@
-use Rattle.std.proofs.Common.{sym, ap, ◌∙◌}
-use Rattle.std.specs.Prelude.{option_map, unwrap_or, ◌≡◌}
 use Rattle.std.specs.Option.{option_copied}
-use Rattle.std.proofs.lemmas.Result.{IfOk-weaker}
-use Rattle.defs_tree.specs.Tree.{bad_value}
-use Rattle.defs_event.specs.Anchors.{aliased}
-use Rattle.yaml_tree.specs.View.{view}
-use Rattle.yaml_loader.specs.View.{anchors_of}
+use Rattle.yaml_loader.proofs.Common.{aliased, anchors_of, ap, bad_value, IfOk-weaker, option_map, sym, unwrap_or, view, ◌∙◌, ◌≡◌}
 use Rattle.yaml_loader.proofs.AliasLemmas.{aliased_is}
 use Rattle.yaml_loader.proofs.reading.TreeBuilder.aliased.Goals as goal
 

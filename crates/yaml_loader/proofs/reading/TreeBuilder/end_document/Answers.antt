@@ -1,6 +1,4 @@
-use Rattle.std.proofs.Common.{◌<◌, length, arith}
-use Rattle.std.proofs.lemmas.Bool.Decides.{nat_tests}
-use Rattle.yaml_loader.specs.View.{unfinished_of}
+use Rattle.yaml_loader.proofs.Common.{arith, length, nat_tests, unfinished_of, ◌<◌}
 use Rattle.yaml_loader.proofs.OpenedLemmas.{document_end_refused}
 use Rattle.yaml_loader.proofs.reading.TreeBuilder.end_document.Goals as goal
 

@@ -1,9 +1,4 @@
-use Rattle.std.proofs.Common.{[], sym, ap, ◌∙◌}
-use Rattle.std.specs.Prelude.{None, option_map}
-use Rattle.defs_tree.specs.Tree.{hash, pairs_of}
-use Rattle.defs_event.specs.Unfinished.{opened_mapping, with_mapping_end}
-use Rattle.yaml_tree.specs.View.{view}
-use Rattle.yaml_loader.specs.View.{opened_of, all_opened, unfinished_of}
+use Rattle.yaml_loader.proofs.Common.{[], all_opened, ap, hash, None, opened_mapping, opened_of, option_map, pairs_of, sym, unfinished_of, view, with_mapping_end, ◌∙◌}
 use Rattle.yaml_loader.proofs.AliasLemmas.{end_reads, end_refuses}
 use Rattle.yaml_loader.proofs.OpenedLemmas.{popped_as}
 use Rattle.yaml_loader.proofs.reading.TreeBuilder.end_mapping.Goals as goal

@@ -1,7 +1,4 @@
-use Rattle.std.proofs.Common.{[], sym, ap}
-use Rattle.defs_tree.specs.Tree.{array, items_of}
-use Rattle.defs_event.specs.Unfinished.{opened_sequence, with_sequence_end}
-use Rattle.yaml_loader.specs.View.{opened_of, all_opened, unfinished_of}
+use Rattle.yaml_loader.proofs.Common.{[], all_opened, ap, array, items_of, opened_of, opened_sequence, sym, unfinished_of, with_sequence_end}
 use Rattle.yaml_loader.proofs.AliasLemmas.{end_reads, end_refuses}
 use Rattle.yaml_loader.proofs.OpenedLemmas.{popped_as}
 use Rattle.yaml_loader.proofs.reading.TreeBuilder.end_sequence.Goals as goal

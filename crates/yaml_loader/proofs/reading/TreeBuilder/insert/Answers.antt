@@ -1,9 +1,4 @@
-use Rattle.std.proofs.Common.{refl}
-use Rattle.std.proofs.lemmas.Result.{on_ok_weaker, IfErr-weaker}
-use Rattle.yaml_tree.specs.View.{view}
-use Rattle.yaml_loader.specs.View.{opened_of, all_opened, unfinished_of, IsNoInsert, IsRefusedBy}
-use Rattle.defs_event.specs.Unfinished.{with_tree}
-use Rattle.std.specs.Prelude.{slice_set, ◌-◌, []}
+use Rattle.yaml_loader.proofs.Common.{[], all_opened, IfErr-weaker, IsNoInsert, IsRefusedBy, on_ok_weaker, opened_of, refl, slice_set, unfinished_of, view, with_tree, ◌-◌}
 use Rattle.yaml_loader.proofs.OpenedLemmas.{inserts_at, no_insert_at}
 use Rattle.yaml_loader.proofs.reading.TreeBuilder.insert.Goals as goal
 

@@ -1,9 +1,4 @@
-use Rattle.std.proofs.Common.{◌≡◌, ap, subst}
-use Rattle.std.proofs.lemmas.Result.{on_ok_weaker, IfErr-weaker}
-use Rattle.defs_event.specs.Anchors.{finished}
-use Rattle.defs_event.specs.Unfinished.{reads, with_tree, with_node}
-use Rattle.yaml_tree.specs.View.{view}
-use Rattle.yaml_loader.specs.View.{unfinished_of, IsRefusedBy}
+use Rattle.yaml_loader.proofs.Common.{ap, finished, IfErr-weaker, IsRefusedBy, on_ok_weaker, reads, subst, unfinished_of, view, with_node, with_tree, ◌≡◌}
 use Rattle.yaml_loader.proofs.AliasLemmas.{reads_over, refused_over}
 use Rattle.yaml_loader.proofs.reading.TreeBuilder.insert_anchored.Goals as goal
 

@@ -1,4 +1,4 @@
-use Rattle.yaml_tree.specs.View.{view}
+use Rattle.yaml_loader.proofs.Common.{view}
 use Rattle.yaml_loader.proofs.AliasLemmas.{finished_in}
 use Rattle.yaml_loader.proofs.reading.TreeBuilder.keep.Goals as goal
 

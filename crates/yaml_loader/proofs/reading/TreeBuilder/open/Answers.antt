@@ -1,9 +1,4 @@
-use Rattle.std.proofs.Common.{◌≡◌, ◌<◌, [], ◌∷◌, ◌++◌, refl, sym, ap, ◌∙◌, subst, arith, length}
-use Rattle.std.specs.Prelude.{None, option_map}
-use Rattle.std.proofs.lemmas.Bool.Decides.{nat_tests}
-use Rattle.yaml_tree.specs.View.{view}
-use Rattle.yaml_loader.specs.Alike.{ReadsTo}
-use Rattle.yaml_loader.specs.View.{opened_of, all_opened, unfinished_of}
+use Rattle.yaml_loader.proofs.Common.{[], all_opened, ap, arith, length, nat_tests, None, opened_of, option_map, ReadsTo, refl, subst, sym, unfinished_of, view, ◌++◌, ◌<◌, ◌∙◌, ◌∷◌, ◌≡◌}
 use Rattle.yaml_loader.proofs.OpenedLemmas.{all_opened_push, start_reads, some_opened, no_root}
 use Rattle.yaml_loader.proofs.reading.TreeBuilder.open.Goals as goal
 use Rattle.yaml_loader.proofs.reading.TreeBuilder.open.Goals.{else-is_empty-via-then-is_empty+else-is_some, else-is_empty-via-else-is_empty}

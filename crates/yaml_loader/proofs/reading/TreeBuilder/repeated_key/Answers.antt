@@ -1,8 +1,4 @@
-use Rattle.std.proofs.Common.{[], ap, ◌∙◌}
-use Rattle.std.specs.Prelude.{unwrap_or, option_map}
-use Rattle.defs_tree.specs.Tree.{bad_value}
-use Rattle.yaml_tree.specs.View.{view}
-use Rattle.yaml_loader.specs.View.{opened_of, all_opened, last_key, repeated_key}
+use Rattle.yaml_loader.proofs.Common.{[], all_opened, ap, bad_value, last_key, opened_of, option_map, repeated_key, unwrap_or, view, ◌∙◌}
 use Rattle.yaml_loader.proofs.KeyText.{last_of_innermost, no_key_in_sequence}
 use Rattle.yaml_loader.proofs.reading.TreeBuilder.repeated_key.Goals as goal
 

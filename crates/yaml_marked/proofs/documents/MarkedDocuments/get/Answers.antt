@@ -1,6 +1,4 @@
-use Rattle.std.proofs.Common.{◌≤◌, length, ap, ◌∙◌, subst}
-use Rattle.std.specs.Prelude.{option_map}
-use Rattle.yaml_marked.specs.Node.{marks_of}
+use Rattle.yaml_marked.proofs.Common.{ap, length, marks_of, option_map, subst, ◌∙◌, ◌≤◌}
 use Rattle.yaml_marked.proofs.Seen.{no_document, unmarked_document, found_document}
 use Rattle.yaml_marked.proofs.documents.MarkedDocuments.get.Goals as goal
 

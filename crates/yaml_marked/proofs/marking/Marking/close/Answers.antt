@@ -1,6 +1,4 @@
-use Rattle.std.proofs.Common.{◌≡◌, ◌++◌, ◌-◌, drop, refl, ap, ◌∙◌, arith}
-use Rattle.yaml_marked.specs.declared.mark.Mark.{Mark}
-use Rattle.yaml_marked.specs.declared.marking.Marking.{Marking}
+use Rattle.yaml_marked.proofs.Common.{ap, arith, drop, Mark, Marking, refl, ◌++◌, ◌-◌, ◌∙◌, ◌≡◌}
 use Rattle.yaml_marked.proofs.Steps.{on_ok, closes, all_dropped}
 use Rattle.yaml_marked.proofs.marking.Marking.close.Goals as goal
 

@@ -1,9 +1,5 @@
-use Rattle.std.proofs.Common.{◌≡◌, [], ◌∷◌, ◌++◌, sym, ◌∙◌, subst}
-use Rattle.std.specs.Prelude.{unwrap_or}
-use Rattle.defs_event.specs.Event.{Ev}
+use Rattle.yaml_marked.proofs.Common.{[], Ev, Holds, leaf_mark, subst, sym, unwrap_or, ◌++◌, ◌∙◌, ◌∷◌, ◌≡◌}
 use Rattle.defs_event.specs.Marking as defs
-use Rattle.yaml_marked.specs.Leaf.{leaf_mark}
-use Rattle.yaml_marked.specs.Standing.{Holds}
 use Rattle.yaml_marked.proofs.Steps.{document_holds}
 use Rattle.yaml_marked.proofs.marking.Marking.end_document.Goals as goal
 

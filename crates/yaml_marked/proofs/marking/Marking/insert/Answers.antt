@@ -1,7 +1,5 @@
-use Rattle.std.proofs.Common.{◌≡◌, [], ◌∷◌, ◌++◌, length, sym, ap, ◌∙◌, subst, arith}
-use Rattle.std.proofs.lemmas.Bool.Decides.{nat_tests}
+use Rattle.yaml_marked.proofs.Common.{[], ap, arith, Holds, length, nat_tests, subst, sym, ◌++◌, ◌∙◌, ◌∷◌, ◌≡◌}
 use Rattle.defs_event.specs.Marking as defs
-use Rattle.yaml_marked.specs.Standing.{Holds}
 use Rattle.yaml_marked.proofs.Steps.{inside_holds}
 use Rattle.yaml_marked.proofs.marking.Marking.insert.Goals as goal
 

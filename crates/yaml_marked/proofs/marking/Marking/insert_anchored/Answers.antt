@@ -1,6 +1,5 @@
-use Rattle.std.proofs.Common.{subst, arith}
+use Rattle.yaml_marked.proofs.Common.{arith, GoesWith, subst}
 use Rattle.defs_event.specs.Marking as defs
-use Rattle.yaml_marked.specs.Standing.{GoesWith}
 use Rattle.yaml_marked.proofs.Steps.{on_ok, anchored, not_anchored}
 use Rattle.yaml_marked.proofs.marking.Marking.insert_anchored.Goals as goal
 use Rattle.yaml_marked.proofs.marking.Marking.insert_anchored.Goals.{then-anchor-gt0+in_ok-keep, else-anchor-gt0}

@@ -1,8 +1,5 @@
-use Rattle.std.proofs.Common.{ap, ◌∙◌}
-use Rattle.std.specs.Prelude.{option_map}
-use Rattle.yaml_marked.specs.Node.{node_of}
+use Rattle.yaml_marked.proofs.Common.{ap, node_of, option_map, view, ◌∙◌}
 use Rattle.yaml_marked.proofs.Seen.{no_node_tree, no_node_mark, node_found}
-use Rattle.yaml_tree.specs.View.{view}
 use Rattle.yaml_marked.proofs.node.Marked.get_index.Goals as goal
 
 pub returns-in_err-tree-in-Array : goal.returns-in_err-tree-in-Array

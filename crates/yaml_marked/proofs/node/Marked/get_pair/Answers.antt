@@ -1,9 +1,4 @@
-use Rattle.std.proofs.Common.{cond, sym, ap, ◌∙◌}
-use Rattle.std.specs.Prelude.{Some, chars, option_and_then}
-use Rattle.defs_event.specs.Marks.{pair_with}
-use Rattle.defs_tree.specs.Tree.{string}
-use Rattle.yaml_marked.specs.Node.{pair_of}
-use Rattle.yaml_marked.specs.Parts.{pairs_left}
+use Rattle.yaml_marked.proofs.Common.{ap, chars, cond, option_and_then, pair_of, pair_with, pairs_left, Some, string, sym, ◌∙◌}
 use Rattle.yaml_marked.proofs.node.Marked.get_pair.Goals as goal
 
 pub pairs-init : goal.pairs-init

@@ -1,8 +1,4 @@
-use Rattle.std.proofs.Common.{◌≡◌, chars}
-use Rattle.defs_event.specs.Marks.{pair_with, pair_at_text}
-use Rattle.defs_tree.specs.Tree.{string}
-use Rattle.yaml_marked.specs.Node.{tree_of, marks_of}
-use Rattle.yaml_marked.specs.Parts.{pairs_left}
+use Rattle.yaml_marked.proofs.Common.{chars, marks_of, pair_at_text, pair_with, pairs_left, string, tree_of, ◌≡◌}
 use Rattle.yaml_marked.proofs.node.Marked.get_pair.Given as goal
 
 abbrev pub invariant-pairs : goal.invariant-pairs

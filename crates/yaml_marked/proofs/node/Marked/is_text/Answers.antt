@@ -1,8 +1,4 @@
-use Rattle.std.proofs.Common.{sym, ap, ◌∙◌}
-use Rattle.std.specs.Prelude.{bytes_eq, chars}
-use Rattle.defs_tree.specs.Order.{tree_eq}
-use Rattle.defs_tree.specs.Tree.{string}
-use Rattle.yaml_tree.specs.View.{view}
+use Rattle.yaml_marked.proofs.Common.{ap, bytes_eq, chars, string, sym, tree_eq, view, ◌∙◌}
 use Rattle.yaml_marked.proofs.Seen.{text_is}
 use Rattle.yaml_marked.proofs.node.Marked.is_text.Goals as goal
 

@@ -1,9 +1,5 @@
-use Rattle.std.proofs.Common.{◌≡◌, ap, ◌∙◌}
-use Rattle.std.specs.Prelude.{Some}
-use Rattle.defs_event.specs.Marks.{beside}
-use Rattle.yaml_marked.specs.Table.{all_shown}
+use Rattle.yaml_marked.proofs.Common.{all_shown, ap, beside, items_view, Some, view, ◌∙◌, ◌≡◌}
 use Rattle.yaml_marked.proofs.Seen.{items_are}
-use Rattle.yaml_tree.specs.View.{view, items_view}
 use Rattle.yaml_marked.proofs.node.Marked.items.Goals as goal
 
 pub returns-in-Array : goal.returns-in-Array

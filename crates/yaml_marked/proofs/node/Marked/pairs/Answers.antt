@@ -1,9 +1,5 @@
-use Rattle.std.proofs.Common.{ap, ◌∙◌}
-use Rattle.std.specs.Prelude.{Some}
-use Rattle.defs_event.specs.Marks.{pairs_beside}
-use Rattle.yaml_marked.specs.Table.{pairs_shown}
+use Rattle.yaml_marked.proofs.Common.{ap, pairs_beside, pairs_shown, Some, view, ◌∙◌}
 use Rattle.yaml_marked.proofs.Seen.{pairs_are}
-use Rattle.yaml_tree.specs.View.{view}
 use Rattle.yaml_marked.proofs.node.Marked.pairs.Goals as goal
 
 pub returns-in-Hash : goal.returns-in-Hash

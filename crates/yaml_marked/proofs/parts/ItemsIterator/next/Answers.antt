@@ -1,4 +1,4 @@
-use Rattle.yaml_tree.specs.View.{items_view}
+use Rattle.yaml_marked.proofs.Common.{items_view}
 use Rattle.yaml_marked.proofs.Seen.{no_items_left}
 use Rattle.yaml_marked.proofs.parts.ItemsIterator.next.Goals as goal
 

@@ -1,4 +1,4 @@
-use Rattle.std.proofs.lemmas.Result.{err_from_is_err_and}
+use Rattle.yaml_marked.proofs.Common.{err_from_is_err_and}
 use Rattle.yaml_marked.proofs.Texts.{gives_marks}
 use Rattle.yaml_marked.proofs.receiver.MarkedLoader.into_documents.Goals as goal
 

@@ -1,5 +1,4 @@
-use Rattle.std.proofs.Common.{◌∙◌}
-use Rattle.std.proofs.lemmas.Result.{err_from_is_err_and}
+use Rattle.yaml_marked.proofs.Common.{err_from_is_err_and, ◌∙◌}
 use Rattle.yaml_parser.specs.Parsed.{parsed}
 use Rattle.proof_loads.specs.AtStart.{IsAtStart}
 use Rattle.yaml_loader.proofs.TextLemmas.{begins_given}

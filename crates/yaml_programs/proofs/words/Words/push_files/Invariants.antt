@@ -1,5 +1,4 @@
-use Rattle.std.proofs.Common.{◌≡◌, ◌++◌, map, string_bytes, take}
-use Rattle.yaml_programs.specs.Reading.{text_view}
+use Rattle.yaml_programs.proofs.Common.{map, string_bytes, take, text_view, ◌++◌, ◌≡◌}
 use Rattle.yaml_programs.proofs.words.Words.push_files.Given as goal
 
 abbrev pub invariant-files : goal.invariant-files

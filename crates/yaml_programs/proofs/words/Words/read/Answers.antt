@@ -1,7 +1,4 @@
-use Rattle.std.proofs.Common.{◌≡◌, ◌+◌, ◌∷◌, map, string_bytes, drop, ap, sym, ◌∙◌}
-use Rattle.std.proofs.lemmas.List.{at_drop_more}
-use Rattle.yaml_programs.specs.Arguments.{asked, reads}
-use Rattle.yaml_programs.specs.Reading.{row, setting_view, text_view, left}
+use Rattle.yaml_programs.proofs.Common.{ap, asked, at_drop_more, drop, left, map, reads, row, setting_view, string_bytes, sym, text_view, ◌+◌, ◌∙◌, ◌∷◌, ◌≡◌}
 use Rattle.yaml_programs.proofs.Asks.{stops_before_end, read_stops}
 use Rattle.yaml_programs.proofs.words.Words.read.Goals as goal
 

@@ -1,6 +1,4 @@
-use Rattle.std.proofs.Common.{◌≡◌, None, map, string_bytes, drop}
-use Rattle.yaml_programs.specs.Arguments.{asked_behind}
-use Rattle.yaml_programs.specs.Reading.{row, left}
+use Rattle.yaml_programs.proofs.Common.{asked_behind, drop, left, map, None, row, string_bytes, ◌≡◌}
 use Rattle.yaml_programs.proofs.words.Words.read.Given as goal
 
 abbrev pub invariant-words : goal.invariant-words

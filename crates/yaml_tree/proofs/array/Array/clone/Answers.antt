@@ -1,4 +1,4 @@
-use Rattle.std.proofs.Common.{◌∙◌}
+use Rattle.yaml_tree.proofs.Common.{◌∙◌}
 use Rattle.yaml_tree.proofs.ItemsLemmas.{list_of_items}
 use Rattle.yaml_tree.proofs.array.Array.clone.Goals as goal
 

@@ -1,6 +1,4 @@
-use Rattle.std.proofs.Common.{refl, ap, ◌∙◌}
-use Rattle.std.specs.Prelude.{slice_set}
-use Rattle.yaml_tree.specs.View.{view}
+use Rattle.yaml_tree.proofs.Common.{ap, refl, slice_set, view, ◌∙◌}
 use Rattle.yaml_tree.proofs.Lending.{set_items_view, item_there}
 use Rattle.yaml_tree.proofs.array.Array.item_mut.Goals as goal
 

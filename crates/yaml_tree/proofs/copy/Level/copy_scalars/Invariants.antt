@@ -1,5 +1,4 @@
-use Rattle.std.proofs.Common.{◌≡◌, ◌≤◌, [], length}
-use Rattle.yaml_tree.specs.Copying.{source_tree, left, IsFilled}
+use Rattle.yaml_tree.proofs.Common.{[], IsFilled, left, length, source_tree, ◌≡◌, ◌≤◌}
 use Rattle.yaml_tree.proofs.copy.Level.copy_scalars.Given as goal
 
 abbrev pub invariant-loop-node : goal.invariant-loop-node

@@ -1,6 +1,4 @@
-use Rattle.std.proofs.Common.{ap, ◌∙◌}
-use Rattle.yaml_tree.specs.Flat.{flat}
-use Rattle.yaml_tree.specs.View.{items_view}
+use Rattle.yaml_tree.proofs.Common.{ap, flat, items_view, ◌∙◌}
 use Rattle.yaml_tree.proofs.Copied.{items_are_parts, pairs_are_parts}
 use Rattle.yaml_tree.proofs.copy.Source.row.Goals as goal
 

@@ -1,6 +1,4 @@
-use Rattle.std.proofs.Common.{ap, ◌∙◌}
-use Rattle.yaml_tree.specs.Flat.{flat}
-use Rattle.yaml_tree.specs.View.{array_tree}
+use Rattle.yaml_tree.proofs.Common.{ap, array_tree, flat, ◌∙◌}
 use Rattle.yaml_tree.proofs.ItemsLemmas.{list_of_items, pair_list_of_pairs}
 use Rattle.yaml_tree.proofs.copy.Source.whole.Goals as goal
 

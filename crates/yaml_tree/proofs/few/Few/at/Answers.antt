@@ -1,4 +1,4 @@
-use Rattle.std.proofs.Common.{arith}
+use Rattle.yaml_tree.proofs.Common.{arith}
 use Rattle.yaml_tree.proofs.Packing.{count_of, place_at}
 use Rattle.yaml_tree.proofs.few.Few.at.Goals as goal
 

@@ -1,6 +1,4 @@
-use Rattle.std.proofs.Common.{◌+◌, ap, sym, ◌∙◌, arith}
-use Rattle.std.specs.List.{insert}
-use Rattle.yaml_tree.specs.Packed.{unpacked}
+use Rattle.yaml_tree.proofs.Common.{ap, arith, insert, sym, unpacked, ◌+◌, ◌∙◌}
 use Rattle.yaml_tree.proofs.Packing.{is_with_place, same_packed}
 use Rattle.yaml_tree.proofs.few.Few.insert.Goals as goal
 

@@ -1,7 +1,4 @@
-use Rattle.std.proofs.Common.{◌≡◌, ◌+◌, ◌-◌, ◌*◌, ◌<◌, ◌≤◌, ◌^◌, List, ℕ, length, map, drop, sym, ap, subst, ◌∙◌, arith}
-use Rattle.std.proofs.lemmas.List.{length-map, length-drop, drop_all}
-use Rattle.yaml_hash_index.specs.Moves.{moved_up}
-use Rattle.yaml_tree.specs.Packed.{unpacked}
+use Rattle.yaml_tree.proofs.Common.{ap, arith, drop, drop_all, length, length-drop, length-map, List, map, moved_up, subst, sym, unpacked, ℕ, ◌*◌, ◌+◌, ◌-◌, ◌<◌, ◌^◌, ◌∙◌, ◌≡◌, ◌≤◌}
 use Rattle.yaml_tree.proofs.Packing.{packed, from_before, AreLow, low_map, low_moved, packed_fits, is_packed, unpacked_again, same_packed}
 use Rattle.yaml_tree.proofs.few.Few.moved_to_end.Goals as goal
 

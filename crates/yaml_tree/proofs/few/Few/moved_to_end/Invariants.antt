@@ -1,5 +1,4 @@
-use Rattle.std.proofs.Common.{◌≡◌, ◌≤◌, map, drop}
-use Rattle.yaml_hash_index.specs.Moves.{moved_up}
+use Rattle.yaml_tree.proofs.Common.{drop, map, moved_up, ◌≡◌, ◌≤◌}
 use Rattle.yaml_tree.proofs.Packing.{packed, AreLow}
 use Rattle.yaml_tree.proofs.few.Few.moved_to_end.Given as goal
 

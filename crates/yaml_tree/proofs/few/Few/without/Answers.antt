@@ -1,10 +1,4 @@
-use Rattle.std.proofs.Common.{◌≡◌, ◌≢◌, ◌+◌, ◌-◌, ◌*◌, ◌<◌, ◌≤◌, ◌^◌, ◌⊎◌, ◌∷◌, inl, inr, List, ℕ, suc, length, get_or, map, drop, sym, ap, subst, ◌∙◌, arith}
-use Rattle.std.specs.List.{remove}
-use Rattle.std.proofs.lemmas.Bool.{cases_lt}
-use Rattle.std.proofs.lemmas.List.{length-map, length-drop, drop_all}
-use Rattle.std.proofs.lemmas.List.Edits.{length-remove}
-use Rattle.yaml_hash_index.specs.Moves.{closed_up}
-use Rattle.yaml_tree.specs.Packed.{unpacked}
+use Rattle.yaml_tree.proofs.Common.{ap, arith, cases_lt, closed_up, drop, drop_all, get_or, inl, inr, length, length-drop, length-map, length-remove, List, map, remove, subst, suc, sym, unpacked, ℕ, ◌*◌, ◌+◌, ◌-◌, ◌<◌, ◌^◌, ◌∙◌, ◌∷◌, ◌≡◌, ◌≢◌, ◌≤◌, ◌⊎◌}
 use Rattle.yaml_tree.proofs.Packing.{packed, from_before, AreLow, low_map, low_closed, low_remove, length_remove, packed_fits, is_packed, unpacked_again, same_packed}
 use Rattle.yaml_tree.proofs.few.Few.without.Goals as goal
 

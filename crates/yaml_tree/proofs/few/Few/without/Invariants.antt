@@ -1,6 +1,4 @@
-use Rattle.std.proofs.Common.{◌≡◌, ◌-◌, ◌<◌, ◌≤◌, length, map, drop}
-use Rattle.std.specs.List.{remove}
-use Rattle.yaml_hash_index.specs.Moves.{closed_up}
+use Rattle.yaml_tree.proofs.Common.{closed_up, drop, length, map, remove, ◌-◌, ◌<◌, ◌≡◌, ◌≤◌}
 use Rattle.yaml_tree.proofs.Packing.{packed, AreLow}
 use Rattle.yaml_tree.proofs.few.Few.without.Given as goal
 

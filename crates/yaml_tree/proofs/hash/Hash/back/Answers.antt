@@ -1,5 +1,4 @@
-use Rattle.std.proofs.Common.{◌≡◌, ◌<◌, ◌+◌, ◌*◌, suc, length, ap, ◌∙◌, vec_len, arith, rules}
-use Rattle.yaml_tree.specs.Flat.{flat}
+use Rattle.yaml_tree.proofs.Common.{ap, arith, flat, length, rules, suc, vec_len, ◌*◌, ◌+◌, ◌<◌, ◌∙◌, ◌≡◌}
 use Rattle.yaml_tree.proofs.Flattened.{row_length, key_seen, value_seen}
 use Rattle.yaml_tree.proofs.Placed.{last_pair}
 use Rattle.yaml_tree.proofs.hash.Hash.back.Goals as goal

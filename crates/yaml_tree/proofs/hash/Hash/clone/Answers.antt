@@ -1,5 +1,4 @@
-use Rattle.std.proofs.Common.{ap, ◌∙◌}
-use Rattle.yaml_tree.specs.Flat.{flat}
+use Rattle.yaml_tree.proofs.Common.{ap, flat, ◌∙◌}
 use Rattle.yaml_tree.proofs.ItemsLemmas.{pair_list_of_pairs}
 use Rattle.yaml_tree.proofs.hash.Hash.clone.Goals as goal
 

@@ -1,6 +1,4 @@
-use Rattle.std.proofs.Common.{inl, refl, sym, ◌∙◌}
-use Rattle.yaml_tree.specs.View.{view}
-use Rattle.defs_tree.proofs.Places.{place_in, absent}
+use Rattle.yaml_tree.proofs.Common.{absent, inl, place_in, refl, sym, view, ◌∙◌}
 use Rattle.yaml_tree.proofs.hash.Hash.get_mut.Goals as goal
 
 pub value_mut_at-requires : goal.value_mut_at-requires

@@ -1,5 +1,4 @@
-use Rattle.std.proofs.Common.{ap, ◌∙◌, arith}
-use Rattle.yaml_tree.specs.Flat.{flat}
+use Rattle.yaml_tree.proofs.Common.{ap, arith, flat, ◌∙◌}
 use Rattle.yaml_tree.proofs.Flattened.{row_length}
 use Rattle.yaml_tree.proofs.hash.Hash.len.Goals as goal
 

@@ -1,10 +1,4 @@
-use Rattle.std.proofs.Common.{subst}
-use Rattle.defs_tree.specs.Pairs.{AreDistinct}
-use Rattle.yaml_tree.specs.Probes.{probed}
-use Rattle.yaml_tree.specs.Ranked.{IsRank, IsRankGap}
-use Rattle.yaml_tree.specs.Digests.{first_by}
-use Rattle.yaml_tree.specs.Places.{places, rank_at}
-use Rattle.yaml_tree.specs.View.{pairs_view}
+use Rattle.yaml_tree.proofs.Common.{AreDistinct, first_by, IsRank, IsRankGap, pairs_view, places, probed, rank_at, subst}
 use Rattle.yaml_tree.proofs.Rows.{ranked_place, gap_place}
 use Rattle.yaml_tree.proofs.hash.Hash.place_of_probe.Goals as goal
 

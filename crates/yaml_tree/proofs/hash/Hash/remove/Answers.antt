@@ -1,11 +1,5 @@
-use Rattle.std.proofs.Common.{refl, sym, subst}
-use Rattle.defs_tree.specs.Pairs.{without}
-use Rattle.yaml_tree.specs.Ranked.{IsRank, IsRankGap}
-use Rattle.yaml_tree.specs.Digests.{first_by}
-use Rattle.yaml_tree.specs.Places.{places, rank_at}
-use Rattle.yaml_tree.specs.View.{view, pairs_view}
+use Rattle.yaml_tree.proofs.Common.{absent, first_by, IsRank, IsRankGap, pairs_view, places, rank_at, refl, subst, sym, view, without}
 use Rattle.yaml_tree.proofs.Keeping.{indexed_without}
-use Rattle.defs_tree.proofs.Places.{absent}
 use Rattle.yaml_tree.proofs.Rows.{placed, ranked_place, gap_place, seen_as}
 use Rattle.yaml_tree.proofs.hash.Hash.remove.Goals as goal
 

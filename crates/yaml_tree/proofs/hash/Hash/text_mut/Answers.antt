@@ -1,8 +1,4 @@
-use Rattle.std.proofs.Common.{ℕ, None, IsSome, refl, sym, subst, ◌∙◌}
-use Rattle.std.specs.Prelude.{chars}
-use Rattle.defs_tree.specs.Tree.{string}
-use Rattle.yaml_tree.specs.View.{view}
-use Rattle.defs_tree.proofs.Places.{place_in}
+use Rattle.yaml_tree.proofs.Common.{chars, IsSome, None, place_in, refl, string, subst, sym, view, ℕ, ◌∙◌}
 use Rattle.yaml_tree.proofs.Placed.{place_somewhere}
 use Rattle.yaml_tree.proofs.hash.Hash.text_mut.Goals as goal
 

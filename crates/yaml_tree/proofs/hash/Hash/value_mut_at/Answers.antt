@@ -1,6 +1,4 @@
-use Rattle.std.proofs.Common.{◌<◌, ◌+◌, ◌*◌, refl, ap, ◌∙◌, vec_len, arith, rules}
-use Rattle.yaml_tree.specs.Flat.{flat}
-use Rattle.yaml_tree.specs.Places.{places}
+use Rattle.yaml_tree.proofs.Common.{ap, arith, flat, places, refl, rules, vec_len, ◌*◌, ◌+◌, ◌<◌, ◌∙◌}
 use Rattle.yaml_tree.proofs.Flattened.{row_length, value_seen}
 use Rattle.yaml_tree.proofs.Keeping.{indexed_value}
 use Rattle.yaml_tree.proofs.Rows.{seen_value}

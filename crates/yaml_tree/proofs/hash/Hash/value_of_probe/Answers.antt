@@ -1,7 +1,4 @@
-use Rattle.std.proofs.Common.{◌<◌, ◌+◌, ◌*◌, sym, vec_len, arith, rules}
-use Rattle.yaml_tree.specs.Probes.{probed}
-use Rattle.yaml_tree.specs.Places.{places}
-use Rattle.defs_tree.proofs.Places.{absent}
+use Rattle.yaml_tree.proofs.Common.{absent, arith, places, probed, rules, sym, vec_len, ◌*◌, ◌+◌, ◌<◌}
 use Rattle.yaml_tree.proofs.Rows.{placed}
 use Rattle.yaml_tree.proofs.hash.Hash.value_of_probe.Goals as goal
 

@@ -1,6 +1,4 @@
-use Rattle.std.proofs.Common.{◌≡◌, None, Some, get_or, refl, sym, ◌∙◌}
-use Rattle.yaml_tree.specs.Places.{places, rank_at}
-use Rattle.yaml_tree.specs.View.{view, pairs_view}
+use Rattle.yaml_tree.proofs.Common.{get_or, None, pairs_view, places, rank_at, refl, Some, sym, view, ◌∙◌, ◌≡◌}
 use Rattle.yaml_tree.proofs.Rows.{ranked_place}
 use Rattle.yaml_tree.proofs.ranks.Ranks.add.Goals as goal
 

@@ -1,6 +1,4 @@
-use Rattle.std.proofs.Common.{ap, ◌∙◌}
-use Rattle.yaml_hash_index.specs.Blocks.{joined, rank_of}
-use Rattle.yaml_hash_index.specs.Edges.{place_at}
+use Rattle.yaml_tree.proofs.Common.{ap, joined, place_at, rank_of, ◌∙◌}
 use Rattle.yaml_tree.proofs.Indexed.{place_mapped}
 use Rattle.yaml_tree.proofs.ranks.Ranks.at.Goals as goal
 

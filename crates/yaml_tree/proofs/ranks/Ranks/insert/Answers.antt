@@ -1,10 +1,4 @@
-use Rattle.std.proofs.Common.{◌++◌, ◌∷◌, [], sym, ap, subst, ◌∙◌}
-use Rattle.std.specs.List.{insert}
-use Rattle.yaml_tree.specs.Digests.{first_by}
-use Rattle.yaml_tree.specs.Places.{places, rank_at}
-use Rattle.yaml_tree.specs.Ranked.{AreRanked, IsRankGap}
-use Rattle.yaml_tree.specs.View.{view, pairs_view}
-use Rattle.yaml_tree.specs.declared.ranks.Kept.TheVariants.{Few}
+use Rattle.yaml_tree.proofs.Common.{[], ap, AreRanked, Few, first_by, insert, IsRankGap, pairs_view, places, rank_at, subst, sym, view, ◌++◌, ◌∙◌, ◌∷◌}
 use Rattle.yaml_tree.proofs.Ranking.{gap_none, ranked_added}
 use Rattle.yaml_tree.proofs.ranks.Ranks.insert.Goals as goal
 

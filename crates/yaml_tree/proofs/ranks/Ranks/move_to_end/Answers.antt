@@ -1,7 +1,4 @@
-use Rattle.std.proofs.Common.{map, ap, ◌∙◌}
-use Rattle.yaml_hash_index.specs.Blocks.{joined}
-use Rattle.yaml_hash_index.specs.Moves.{entry_moved_up}
-use Rattle.yaml_tree.specs.Places.{place_of_entry, digest_of_entry}
+use Rattle.yaml_tree.proofs.Common.{ap, digest_of_entry, entry_moved_up, joined, map, place_of_entry, ◌∙◌}
 use Rattle.yaml_tree.proofs.Indexed.{places_moved, digests_moved}
 use Rattle.yaml_tree.proofs.ranks.Ranks.move_to_end.Goals as goal
 

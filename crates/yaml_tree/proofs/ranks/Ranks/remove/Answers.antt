@@ -1,9 +1,4 @@
-use Rattle.std.proofs.Common.{map, ap, ◌∙◌}
-use Rattle.std.specs.List.{remove}
-use Rattle.yaml_hash_index.specs.Blocks.{joined, rank_of}
-use Rattle.yaml_hash_index.specs.Edges.{place_at}
-use Rattle.yaml_hash_index.specs.Moves.{closed_up, entry_closed_up}
-use Rattle.yaml_tree.specs.Places.{place_of_entry, digest_of_entry}
+use Rattle.yaml_tree.proofs.Common.{ap, closed_up, digest_of_entry, entry_closed_up, joined, map, place_at, place_of_entry, rank_of, remove, ◌∙◌}
 use Rattle.yaml_tree.proofs.Indexed.{places_closed, digests_closed, place_mapped, map-remove}
 use Rattle.yaml_tree.proofs.ranks.Ranks.remove.Goals as goal
 

@@ -1,7 +1,4 @@
-use Rattle.std.proofs.Common.{sym, subst}
-use Rattle.yaml_hash_index.specs.Blocks.{joined, rank_of, IsNarrowed}
-use Rattle.yaml_hash_index.specs.Edges.{AreRising}
-use Rattle.yaml_tree.specs.Digests.{HaveRising}
+use Rattle.yaml_tree.proofs.Common.{AreRising, HaveRising, IsNarrowed, joined, rank_of, subst, sym}
 use Rattle.yaml_tree.proofs.ranks.Ranks.window.Goals as goal
 
 pub narrowed-requires-clause-rising : goal.narrowed-requires-clause-rising

@@ -1,5 +1,4 @@
-use Rattle.std.proofs.Common.{ap, ◌∙◌}
-use Rattle.defs_tree.specs.Tree.{real, string}
+use Rattle.yaml_tree.proofs.Common.{ap, real, string, ◌∙◌}
 use Rattle.yaml_tree.proofs.TextLemmas.{kept_chars}
 use Rattle.yaml_tree.proofs.yaml.Yaml.from_str.Goals as goal
 

@@ -1,9 +1,7 @@
-use Rattle.std.proofs.Common.{◌≡◌, ◌<◌, ◌^◌, ap, subst, sym, ◌∙◌, arith}
 use Rattle.std.proofs.lemmas.Int.{ints, to_z-of_z}
+use Rattle.yaml_tree.proofs.Common.{ap, arith, integer, lookup, subst, sym, ◌<◌, ◌^◌, ◌∙◌, ◌≡◌}
 use mir.Val.{to_z, of_z, SFits}
 use mir.Syntax.{w64}
-use Rattle.defs_tree.specs.Tree.{integer}
-use Rattle.defs_tree.specs.Pairs.{lookup}
 use Rattle.yaml_tree.proofs.ItemsLemmas.{at_number}
 use Rattle.yaml_tree.proofs.yaml.Yaml.get_index.Goals as goal
 

@@ -1,13 +1,6 @@
 -- The node lends its pairs, and these lend the value: so the node follows the value.
+use Rattle.yaml_tree.proofs.Common.{chars, Hash, is_hash, IsSome, lookup, Some, string, Tree, true, value_at_text, view, with_text_value, with_value, Yaml}
 use Rattle.yaml_tree.proofs.Walking.{◌≡◌, ◌∙◌, refl, sym, ap, List, [], ◌∷◌, emp, id⊢, ftrue, flft, named, fact, fact_i, tables, ‵, raw, ◌⊛◌, some, later, ◌$◌, ◌∵◌, !, qed, done, move, keep, drop, use0, use1, use2, rewrite, split, join, pick, await, suffices, frame, group, enter, addr, stop, no_more, and_then, returns, alloc_all, pass_all, free_all, look_at, get, through, sets, lands_as, no, yes, follows, follows_then, Is, shows, MutBor, MutRef, mut_vals, mut_Tells, mut_Lawful, plain, shr_slice_vals, nothing, peeks, heard, Str, StrRefOf, str-laws, calls_at, Lasts, lasts, triple_of, framed, Stays, says, stay_dropped, Goes-dropped, Goes-spent_ref, ends_at, proved}
-use Rattle.std.specs.Prelude.{Some, IsSome, chars, true}
-use Rattle.defs_tree.specs.Tree.{Tree, string}
-use Rattle.defs_tree.specs.Pairs.{lookup, with_value}
-use Rattle.yaml_tree.specs.Node.{value_at_text, is_hash}
-use Rattle.yaml_tree.specs.View.{view}
-use Rattle.yaml_tree.specs.Writes.{with_text_value}
-use Rattle.yaml_tree.specs.declared.yaml.Yaml.{Yaml}
-use Rattle.yaml_tree.specs.declared.yaml.Yaml.TheVariants.{Hash}
 use Rattle.yaml_tree.specs.contracts.yaml.Yaml.{the_row as node_row}
 use Rattle.yaml_tree.specs.contracts.hash.Hash.{the_row as hash_row}
 use Rattle.yaml_tree.proofs.Lending.{text_in_hash, text_value, text_found}

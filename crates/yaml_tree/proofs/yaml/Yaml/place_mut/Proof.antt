@@ -1,13 +1,6 @@
 -- The node is shared for the question whether it is a hash. Then it lends its pairs or its items, and these lend the value: so the node follows the value.
+use Rattle.yaml_tree.proofs.Common.{Array, Bool, Hash, integer, is_array, is_hash, IsSome, lookup, pos, slice_get, slice_set, Some, Tree, true, value_at_index, view, with_index_value, with_value, Yaml, ◌<◌, ◌^◌}
 use Rattle.yaml_tree.proofs.Walking.{◌≡◌, ◌∙◌, refl, sym, ap, List, [], ◌∷◌, full_share, emp, id⊢, ftrue, flft, flent, named, w64, Val, ⊑_static, fact, fact_i, tables, ‵, raw, ◌⊛◌, some, later, at_ret, ◌$◌, ◌∵◌, !, qed, done, move, keep, drop, use0, use1, use2, rewrite, split, join, fsplit3, fjoin3, feq_l, feq_i, pick, await, suffices, frame, group, enter, of_opd, addr, stop, no_more, and_then, first, branches, exec, returns, alloc_all, pass_all, free_all, look_at, get, through, sets, lands_as, lands_last, env, open_ref, close_ref, lft_new, lft_end, lent_back, bool, usize, no, yes, follows, follows_then, Is, shows, lends_shr, mem, part_at, bool_Tells, uint_vals, uint_Tells, Bor, MutBor, MutRef, ShrRef, mut_vals, mut_Tells, mut_Lawful, plain, nothing, only, peeks, heard, calls_at, calls_at_last, Lasts, lasts, triple_of, framed, Stays, walk_of, says, stay_dropped, Goes-dropped, Goes-spent_ref, ends_at, proved, after}
-use Rattle.std.specs.Prelude.{Bool, Some, IsSome, true, pos, slice_get, slice_set, ◌<◌, ◌^◌}
-use Rattle.defs_tree.specs.Tree.{Tree, integer}
-use Rattle.defs_tree.specs.Pairs.{lookup, with_value}
-use Rattle.yaml_tree.specs.Node.{value_at_index, is_array, is_hash}
-use Rattle.yaml_tree.specs.View.{view}
-use Rattle.yaml_tree.specs.Writes.{with_index_value}
-use Rattle.yaml_tree.specs.declared.yaml.Yaml.{Yaml}
-use Rattle.yaml_tree.specs.declared.yaml.Yaml.TheVariants.{Array, Hash}
 use Rattle.yaml_tree.specs.contracts.yaml.Yaml.{the_row as node_row}
 use Rattle.yaml_tree.specs.contracts.array.Array.{the_row as array_row}
 use Rattle.yaml_tree.specs.contracts.hash.Hash.{the_row as hash_row}

@@ -1,0 +1,63 @@
+-- The words of other crates and of specs/ that the proofs here use, passed on from one place. Declares nothing.
+pub use Rattle.std.proofs.Common.{[], ap, arith, Bool, cond, false, inl, inr, length, List, nat_eq, not, pred, refl, subst, suc, sym, true, zero, ℕ, ◌++◌, ◌-◌, ◌<◌, ◌||◌, ◌∙◌, ◌∷◌, ◌≡◌, ◌⊎◌}
+pub use Rattle.std.proofs.lemmas.Bool.{and_from, and_parts, both_ways, false≢true, or_cases, or_left, or_right, true≢false}
+pub use Rattle.std.proofs.lemmas.Bool.Decides.{nat_tests, same_from_decides}
+pub use Rattle.std.proofs.lemmas.Result.{err_from_is_err_and, IfErr-weaker, IfOk-weaker, MatchResult-at_err, MatchResult-at_ok, on_ok_weaker}
+pub use Rattle.std.proofs.lemmas.Slice.Eq.{bytes_eq-Decides}
+pub use Rattle.std.proofs.lemmas.Str.{chars-encodes, encode_ascii, encodes-chars, IsUtf8-string_bytes}
+pub use Rattle.std.specs.List.{list_all}
+pub use Rattle.std.specs.Prelude.{All, bytes_eq, chars, codes, Err, IfErr, IfOk, if◌then◌else◌, is_some, IsUtf8, nat_lt, None, Ok, OnOk, Option, option_map, pos, Result, slice_index_or, slice_set, Some, String, string_bytes, unwrap_or, Vec}
+pub use Rattle.std.specs.Str.{encode_utf8_all}
+pub use Rattle.std.specs.Str.Iter.{chars_rest, chars_steps}
+pub use Rattle.std.specs.declared.alloc.Global.{Global}
+pub use Rattle.defs_event.proofs.OneByOne.{one_by_one}
+pub use Rattle.defs_event.specs.Anchors.{aliased, Anchors, finished}
+pub use Rattle.defs_event.specs.Event.{Ev, Tag}
+pub use Rattle.defs_event.specs.Laws.{HasRead, LoadedTreesHaveNoAlias}
+pub use Rattle.defs_event.specs.Meaning.{Means}
+pub use Rattle.defs_event.specs.Names.{core_prefix}
+pub use Rattle.defs_event.specs.NoAlias.{HasNoAlias, NoneHasAlias, NoPairHasAlias}
+pub use Rattle.defs_event.specs.Reading.{reading}
+pub use Rattle.defs_event.specs.Scalar.{as_boolean, as_integer, as_null, as_real, by_name, scalar_tree, tagged_tree}
+pub use Rattle.defs_event.specs.Stream.{BeginsPlaced, events_of, IsPlacedStream, IsStream}
+pub use Rattle.defs_event.specs.Unfinished.{at_work, documents_of, Loader, loader_after, new_loader, noted, Opened, opened_mapping, opened_sequence, out_of_nesting, reads, refused_at, repeats, Step, Unfinished, with_document_end, with_event, with_event_at, with_events, with_mapping_end, with_node, with_root, with_sequence_end, with_start, with_tree}
+pub use Rattle.defs_layout.specs.Json.{element, Elements, empty_array, empty_object, false_word, IsJsonText, items, Json, last_element, last_member, member, Members, null_word, number, object, pair_list, spell_text, tree_of, true_word}
+pub use Rattle.defs_text.specs.Position.{first_position, Position}
+pub use Rattle.defs_text.specs.Text.{has_no_nul, up_to_nul}
+unfoldable pub use Rattle.defs_text.specs.Text.{string_chars}
+pub use Rattle.defs_token.specs.Token.{Token}
+pub use Rattle.defs_token.specs.Toks.{toks}
+pub use Rattle.defs_tree.specs.Grammar.{is_among}
+pub use Rattle.defs_tree.specs.Pairs.{has_key, insert, last_of}
+pub use Rattle.defs_tree.specs.Tree.{array, bad_value, boolean, hash, integer, items_of, null, pairs_of, real, string, Tree}
+pub use Rattle.defs_tree.specs.Typing.{false_words, fits_i64, is_decimal, is_real_text, signed_number, special_words, true_words}
+unfoldable pub use Rattle.defs_tree.specs.Typing.{typing}
+pub use Rattle.proof_loads.proofs.Answers.{nested_is_stream, placed_stream, texts_are_answered}
+pub use Rattle.proof_loads.proofs.JsonNul.{json_texts_have_no_nul}
+pub use Rattle.proof_loads.proofs.Loads.{memory_is_wanted}
+pub use Rattle.proof_loads.proofs.OneReading.{one_reading}
+pub use Rattle.proof_loads.proofs.Spelled.{characters_are_the_text, json_texts_are_read}
+pub use Rattle.proof_loads.specs.PlacedEvents.{HasEvents}
+pub use Rattle.proof_loads.specs.TextEvents.{AnswersText, BeginsEvents, faulted, IsFaultOf, no_stream, no_token, refused, wants_memory, whole}
+pub use Rattle.proof_row.proofs.Meanings.{one_meaning}
+pub use Rattle.yaml_chars.specs.Source.{CameFrom}
+pub use Rattle.yaml_chars.specs.WindowView.{BeginsText, HasNoNul}
+pub use Rattle.yaml_loader.specs.Alike.{AreAlike, ReadsTo, StandAlike}
+pub use Rattle.yaml_loader.specs.Gives.{Gives, IsGivenFault}
+pub use Rattle.yaml_loader.specs.Loading.{IsNewFault, kept_fault, loader_by, loader_of, Takes, TellsBy, TellsNotedKey}
+pub use Rattle.yaml_loader.specs.Loads.{AreLoaded, HasDocuments, HasNoted, IsLoadFault, Notes, Pushes}
+pub use Rattle.yaml_loader.specs.Meant.{LoadsOnly, OfBasic, OfGiven, OfJson, OfLayout, OfMeaning, OfQuoted}
+pub use Rattle.yaml_loader.specs.RepeatedKey.{shown_key, TellsKey}
+pub use Rattle.yaml_loader.specs.TextLoads.{Answers, LoadsText, OfTexts}
+pub use Rattle.yaml_loader.specs.Unread.{IsUnread, of_parser}
+pub use Rattle.yaml_loader.specs.View.{all_opened, anchors_of, Inserts, IsNoInsert, IsRefusedBy, last_key, opened_of, repeated_key, unfinished_of, with_anchors}
+pub use Rattle.yaml_loader.specs.declared.loader.YamlLoader.{YamlLoader}
+pub use Rattle.yaml_loader.specs.declared.reading.Open.{Open}
+pub use Rattle.yaml_loader.specs.declared.reading.Refusal.{Refusal}
+pub use Rattle.yaml_parser.specs.Blames.{WantsMemory}
+pub use Rattle.yaml_parser.specs.Loads.{EndsSo, Loads, no_event, one_event, PullsAll, Receives}
+pub use Rattle.yaml_parser.specs.Parsed.{Parsed, parsed, read}
+pub use Rattle.yaml_scanner.specs.Scanned.{MayBe, Scanned, Scans}
+pub use Rattle.yaml_tokens.specs.ErrorReport.{ErrorReport, owned_at}
+pub use Rattle.yaml_tree.specs.View.{items_view, view}
+pub use Rattle.yaml_tree.specs.declared.yaml.Yaml.{Yaml}
