@@ -14,8 +14,8 @@ import argparse, os, re, shutil, subprocess, sys, tempfile
 TOP = os.path.dirname(os.path.dirname(os.path.abspath(__file__)))
 SPECS = "crates/model_scanner/specs/"
 LINE = "refuted: defs_text defs_token yaml_chars yaml_tokens model_scanner proof_row\n"
-# What stays of the model's proofs: the words with which it is computed.
-LEMMAS = "OnLiterals"
+# What stays of the model's proofs: the words with which it is computed, and those that it takes them from.
+LEMMAS = ("Common", "OnLiterals")
 
 PLAIN = "((refl, (refl, ((refl, refl, refl), refl)))"
 MARK = "((refl, (refl, (refl, refl)))"
@@ -248,11 +248,14 @@ def write(path, text):
 
 
 def leave_lemmas_out(proofs):
-    with open(os.path.join(proofs, LEMMAS + ".antt"), encoding="utf-8") as f:
-        kept = f.read()
+    kept = {}
+    for name in LEMMAS:
+        with open(os.path.join(proofs, name + ".antt"), encoding="utf-8") as f:
+            kept[name] = f.read()
     shutil.rmtree(proofs)
-    write(os.path.join(proofs, LEMMAS + ".antt"), kept)
-    write(os.path.join(proofs, "Lib.antt"), "pub mod %s\n" % LEMMAS)
+    for name, text in kept.items():
+        write(os.path.join(proofs, name + ".antt"), text)
+    write(os.path.join(proofs, "Lib.antt"), "".join("pub mod %s\n" % name for name in LEMMAS))
 
 
 def copied(directory):
