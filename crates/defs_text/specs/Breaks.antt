@@ -36,6 +36,11 @@ abbrev pub split : List ℕ → Split
 split [] = record { complete = []; last = [] }
 split (c ∷ r) = split_by (is_break c) (is_before_line_feed c r) c (split r)
 
+-- Whether a comment would stand right here. A blank has to part a comment from what stands before it (section 6.6): so what may not be touched by a comment asks for this.
+abbrev pub touches_comment : (next : List ℕ) → Bool
+touches_comment [] = false
+touches_comment (c ∷ r) = c == 35
+
 -- whether a text is blanks and maybe a comment
 abbrev pub is_blanks_and_comment : List ℕ → Bool
 is_blanks_and_comment [] = true
@@ -43,8 +48,7 @@ is_blanks_and_comment (c ∷ r) = (c == 35) || (is_blank c && is_blanks_and_comm
 
 -- whether nothing stands here up to the line's end but, after a blank, blanks and maybe a comment
 abbrev pub is_rest_of_line : List ℕ → Bool
-is_rest_of_line [] = true
-is_rest_of_line (c ∷ r) = is_blank c && is_blanks_and_comment r
+is_rest_of_line text = not (touches_comment text) && is_blanks_and_comment text
 
 -- whether a line ends with this character: a break, but not the carriage return of CR LF
 abbrev pub ends_line : ℕ → (next : List ℕ) → Bool

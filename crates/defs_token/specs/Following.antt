@@ -2,7 +2,7 @@
 -- YAML 1.2, sections 6.6 (comments), 7.3 (flow scalars), 8.1 (block scalars), 9.1.2 (document markers).
 use Rattle.std.specs.Prelude.{ℕ, List, [], ◌∷◌, Bool, true, false, ◌&&◌, ◌||◌, not, nat_le, nat_lt, Option, Some, None, codes}
 use Rattle.defs_text.specs.Classes.{tab, is_one_of, is_blank, is_at_end}
-use Rattle.defs_text.specs.Breaks.{split, is_rest_of_line}
+use Rattle.defs_text.specs.Breaks.{split, is_rest_of_line, touches_comment}
 use Rattle.defs_text.specs.FlowScalar.{begins_with}
 use Rattle.defs_text.specs.BlockScalar.{leading_spaces, is_empty_line}
 use Rattle.defs_text.specs.Tags.{leading, after}
@@ -61,11 +61,11 @@ block_may_end bs piece next = is_at_end next || read_may_end bs (block_read (inn
 
 -- Whether a piece may stand before the text after it. A comment is parted by a blank from a bracket or a comma; after `...` the line holds no more; the rest stands above, and with the TABs.
 abbrev pub may_precede : (in_flow : Bool) → (collection : List ℕ) → Tok → (piece next : List ℕ) → Bool
-may_precede in_flow bs flow_sequence_start piece next = not (begins_with 35 next)
-may_precede in_flow bs flow_mapping_start piece next = not (begins_with 35 next)
-may_precede in_flow bs flow_sequence_end piece next = not (begins_with 35 next)
-may_precede in_flow bs flow_mapping_end piece next = not (begins_with 35 next)
-may_precede in_flow bs flow_entry piece next = not (begins_with 35 next)
+may_precede in_flow bs flow_sequence_start piece next = not (touches_comment next)
+may_precede in_flow bs flow_mapping_start piece next = not (touches_comment next)
+may_precede in_flow bs flow_sequence_end piece next = not (touches_comment next)
+may_precede in_flow bs flow_mapping_end piece next = not (touches_comment next)
+may_precede in_flow bs flow_entry piece next = not (touches_comment next)
 may_precede in_flow bs (scalar plain text) piece next = not (in_flow && has_dash_before_flow piece next)
 may_precede in_flow bs (scalar single_quoted text) piece next = quoted_may_end in_flow piece next
 may_precede in_flow bs (scalar double_quoted text) piece next = quoted_may_end in_flow piece next
