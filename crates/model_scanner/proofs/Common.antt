@@ -17,7 +17,7 @@ unfoldable pub use Rattle.model_scanner.specs.BlockScalar.{begins, between, bloc
 unfoldable pub use Rattle.model_scanner.specs.Class.{class_of}
 pub use Rattle.model_scanner.specs.Directive.{after_major, after_name, after_value, Digits, digits_end, Kind, number_from, prefix_after, unknown, value, version, with_end, with_minor, with_prefix}
 unfoldable pub use Rattle.model_scanner.specs.Directive.{directive, directive_break, kind, line_end, name, number, tag_value, version_value}
-pub use Rattle.model_scanner.specs.Document.{anchor_token, begin_stream, closed_key, context, end_stream, next_line, node_start, unled}
+pub use Rattle.model_scanner.specs.Document.{begin_stream, closed_key, context, end_stream, next_line, node_start, unled}
 unfoldable pub use Rattle.model_scanner.specs.Document.{begin_line, check_after_quoted, check_document_end, fetch_anchor, fetch_block_scalar, fetch_directive, fetch_document_end, fetch_document_marker, fetch_flow_scalar, fetch_plain_scalar, fetch_stream_end, fetch_stream_start, fetch_tag, may_follow_quoted}
 pub use Rattle.model_scanner.specs.Fetch.{token_by}
 unfoldable pub use Rattle.model_scanner.specs.Fetch.{comes_marker, fetch, fetch_content, fetch_first_column, fetch_here, fetch_indented, fetch_next, fetch_token, is_value}
@@ -28,11 +28,12 @@ pub use Rattle.model_scanner.specs.Indents.{drop_open, end_level, Levels, placed
 unfoldable pub use Rattle.model_scanner.specs.Indents.{deepen, drop_open_level, in_block, roll_indent, roll_one_col_indent, unroll_indent, unroll_non_block_indents, unrolled, without_open}
 pub use Rattle.model_scanner.specs.Keys.{cleared, still, top_key, with_keys}
 unfoldable pub use Rattle.model_scanner.specs.Keys.{drop_stale, is_far, must_be_key, remove_implicit_key, save_implicit_key, stale}
+pub use Rattle.model_scanner.specs.Kinds.{anchor_token, are_single, flow_end, flow_start, is_literal}
 pub use Rattle.model_scanner.specs.Machine.{and_then, ends_while, is_cr_lf, past, Read, skip_while, Stop, take_while, turned}
 unfoldable pub use Rattle.model_scanner.specs.Machine.{at_marker, is_marker}
 pub use Rattle.model_scanner.specs.Plain.{ends_gap, ends_run, ends_tabs, first, inside, plain_from, tabs}
 unfoldable pub use Rattle.model_scanner.specs.Plain.{at_dash, at_plain, can_be_plain, goes_on, is_shallow, plain, starts}
-pub use Rattle.model_scanner.specs.Quoted.{after, closed, digits, digits_from, Escape, gap, named, quote_of, quoted_from}
+pub use Rattle.model_scanner.specs.Quoted.{after, closed, digits, digits_from, gap, named, quote_of, quoted_from}
 unfoldable pub use Rattle.model_scanner.specs.Quoted.{escape_of, is_scalar, quoted}
 pub use Rattle.model_scanner.specs.Run.{HasTokens, here, IsRefused, Reaches, scan, start, there}
 pub use Rattle.model_scanner.specs.Space.{at_break, Gap, in_line, tab_line, white_end}
@@ -43,6 +44,10 @@ unfoldable pub use Rattle.model_scanner.specs.Tag.{ends_tag, handle, prefix, sho
 pub use Rattle.model_scanner.specs.declared.context.Context.{Context}
 pub use Rattle.model_scanner.specs.declared.context.SkipTabs.{SkipTabs}
 pub use Rattle.model_scanner.specs.declared.context.Whitespace.{Whitespace}
+pub use Rattle.model_scanner.specs.declared.kind.BlockStyle.{BlockStyle}
+pub use Rattle.model_scanner.specs.declared.kind.Collection.{Collection}
+pub use Rattle.model_scanner.specs.declared.kind.NameKind.{NameKind}
+pub use Rattle.model_scanner.specs.declared.kind.Quotes.{Quotes}
 pub use Rattle.yaml_chars.specs.Class.{is_blank_or_breakz, is_breakz}
 unfoldable pub use Rattle.yaml_chars.specs.Class.{is_alpha, is_alphanumeric, is_anchor, is_blank, is_break, is_digit, is_flow, is_hex, is_tag, is_uri, is_uri_mark}
 pub use Rattle.yaml_chars.specs.Run.{Ran, ran}

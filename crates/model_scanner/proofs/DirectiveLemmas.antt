@@ -1,11 +1,7 @@
 -- Lemmas about the scan of a directive.
-use Rattle.std.proofs.Math.Nat.{pow-succ', pow-le-pow_right}
-use Rattle.model_scanner.proofs.Common.{[], add-one, arith, At, Digits, digits_end, directive_break, Err, false, is_break, is_digit, linebreak, List, lit<, number_from, Ok, Position, refl, slice_index, true, ℕ, ◌*◌, ◌+◌, ◌<◌, ◌^◌, ◌∷◌, ◌≡◌, ◌≢◌, ◌≤◌}
+use Rattle.std.proofs.Math.Nat.{pow-le-pow_right}
+use Rattle.model_scanner.proofs.Common.{[], arith, At, Digits, digits_end, directive_break, Err, false, is_break, is_digit, linebreak, List, lit<, number_from, Ok, Position, refl, slice_index, true, ℕ, ◌<◌, ◌^◌, ◌∷◌, ◌≡◌, ◌≢◌, ◌≤◌}
 use Rattle.yaml_tokens.specs.declared.problem.Problem.TheVariants as problem
-
--- one digit more
-pub ten_more : (v n d : ℕ) → v < 10 ^ n → d < 10 → v * 10 + d < 10 ^ (n + 1)
-ten_more v n d h small = let e : 10 ^ (n + 1) ≡ 10 * 10 ^ n = rw add-one (pow-succ' 10 n) in omega arith
 
 -- at most eight digits are a small number
 pub nine_digits : (v n : ℕ) → v < 10 ^ n → n ≤ 9 → n ≢ 9 → v < 100000000

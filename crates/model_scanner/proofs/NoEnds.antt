@@ -1,15 +1,16 @@
 -- Tokens that are not the stream's end.
-use Rattle.model_scanner.proofs.Common.{[], after_major, after_name, after_value, anchor_token, and_then, blanks, Bool, directive, drop, Err, false, Fault, handle, is_blank_or_breakz, Kind, line_end, List, name, number, Ok, past, Position, prefix, prefix_after, Read, Result, slice_index, tag_value, Tok, true, unknown, value, version, version_value, with_end, with_minor, with_prefix, ℕ, ◌==◌, ◌∷◌}
+use Rattle.model_scanner.proofs.Common.{[], after_major, after_name, after_value, anchor_token, and_then, blanks, directive, drop, Err, Fault, handle, is_blank_or_breakz, Kind, line_end, List, name, NameKind, number, Ok, past, Position, prefix, prefix_after, Read, Result, slice_index, tag_value, Tok, unknown, value, version, version_value, with_end, with_minor, with_prefix, ℕ, ◌==◌, ◌∷◌}
 use Rattle.model_scanner.specs.Directive as kind
+use Rattle.model_scanner.specs.declared.kind.NameKind.TheVariants.{Alias, Anchor}
 use Rattle.model_scanner.proofs.Holds.{Holds, went, refused, choice}
 
 abbrev pub IsNoEnd : Tok → Type 0
 IsNoEnd Tok.stream_end = ⊥
 IsNoEnd _ = Unit {0}
 
-pub anchor_is_no_end : (alias : Bool) (name : List ℕ) → IsNoEnd (anchor_token alias name)
-anchor_is_no_end true name = tt
-anchor_is_no_end false name = tt
+pub anchor_is_no_end : (kind : NameKind) (name : List ℕ) → IsNoEnd (anchor_token kind name)
+anchor_is_no_end Alias name = tt
+anchor_is_no_end Anchor name = tt
 
 -- ---- directives
 

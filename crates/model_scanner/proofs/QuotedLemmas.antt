@@ -1,7 +1,9 @@
 -- Lemmas about the scan of a quoted scalar.
-use Rattle.model_scanner.proofs.Common.{[], after, ap, arith, At, at_marker, Bool, cases_Bool, closed, Context, digit_value, digits, digits_from, eqb-true, Err, Escape, escape_of, false, Fault, Folded, gap, inl, inr, is_blank, is_break, is_hex, is_scalar, joined, List, named, nat_lt, nat_tests, not, nothing, Ok, past, Position, quote_of, quoted, quoted_from, refl, slice_index, suc, sym, true, with_blank, with_char, zero, ℕ, ◌&&◌, ◌*◌, ◌+◌, ◌<◌, ◌==◌, ◌||◌, ◌∙◌, ◌∷◌, ◌≡◌, ◌≢◌, ◌≤◌}
+use Rattle.model_scanner.proofs.Common.{[], after, ap, arith, At, at_marker, Bool, cases_Bool, closed, Context, digit_value, digits, digits_from, eqb-true, Err, escape_of, false, Fault, Folded, gap, inl, inr, is_blank, is_break, is_hex, is_scalar, joined, List, named, nat_lt, nat_tests, not, nothing, Ok, past, Position, quote_of, quoted, quoted_from, refl, slice_index, suc, sym, true, with_blank, with_char, zero, ℕ, ◌&&◌, ◌*◌, ◌+◌, ◌<◌, ◌==◌, ◌||◌, ◌∙◌, ◌∷◌, ◌≡◌, ◌≢◌, ◌≤◌}
 use Rattle.yaml_tokens.specs.declared.problem.Problem.TheVariants as problem
-use Rattle.model_scanner.specs.Quoted.{refused, first, inside}
+use Rattle.model_scanner.specs.Quoted.{refused, first, inside, count_of}
+use Rattle.model_scanner.specs.declared.kind.Digits.{Digits}
+use Rattle.model_scanner.specs.declared.kind.Escape.TheVariants.{Char, Code, Unknown}
 
 module _ (single : Bool) (ctx : Context) (start : Position) where
   -- a blank or a break of a line begins a gap
@@ -33,18 +35,18 @@ module _ (single : Bool) (ctx : Context) (start : Position) where
   after_gap c [] p t e h = refl
   after_gap c (d ∷ a) p t e h = let g : (d == quote_of single) ≡ false = rw e at h in rw g refl
 
-  pub named_char : (c d : ℕ) (a b : List ℕ) (p : Position) (t : Folded) → escape_of c ≡ Escape.char d → a ≡ c ∷ b
+  pub named_char : (c d : ℕ) (a b : List ℕ) (p : Position) (t : Folded) → escape_of c ≡ Char d → a ≡ c ∷ b
       → quoted_from single ctx start a (record { mode = named; position = p; folded = t }) ≡ quoted_from single ctx start b (record { mode = inside; position = past p; folded = with_char d t })
   named_char c d a b p t h e = rw (e, h) refl
 
-  pub named_code : (c more : ℕ) (a b : List ℕ) (p : Position) (t : Folded) → escape_of c ≡ Escape.code more → a ≡ c ∷ b
-      → quoted_from single ctx start a (record { mode = named; position = p; folded = t }) ≡ digits_from single ctx start (suc more) 0 b (past p) t
-  named_code c more a b p t h e = rw (e, h) refl
+  pub named_code : (c : ℕ) (k : Digits) (a b : List ℕ) (p : Position) (t : Folded) → escape_of c ≡ Code k → a ≡ c ∷ b
+      → quoted_from single ctx start a (record { mode = named; position = p; folded = t }) ≡ digits_from single ctx start (count_of k) 0 b (past p) t
+  named_code c k a b p t h e = rw (e, h) refl
 
-  pub named_unknown : (c : ℕ) (a : List ℕ) (p : Position) (t : Folded) → escape_of c ≡ Escape.unknown → c ≡ slice_index a 0
+  pub named_unknown : (c : ℕ) (a : List ℕ) (p : Position) (t : Folded) → escape_of c ≡ Unknown → c ≡ slice_index a 0
       → quoted_from single ctx start a (record { mode = named; position = p; folded = t }) ≡ Err (At problem.UnknownEscape start)
   named_unknown c [] p t h e = refl
-  named_unknown c (d ∷ a) p t h e = let g : escape_of d ≡ Escape.unknown = rw e at h in rw g refl
+  named_unknown c (d ∷ a) p t h e = let g : escape_of d ≡ Unknown = rw e at h in rw g refl
 
   pub digit_turn : (more value c : ℕ) (a b : List ℕ) (p : Position) (t : Folded) → is_hex c ≡ true → a ≡ c ∷ b
       → digits_from single ctx start (suc more) value a p t ≡ digits_from single ctx start more (value * 16 + digit_value c) b (past p) t

@@ -1,9 +1,13 @@
 -- One walk over all functions of the model: a fetch keeps whatever each of its steps keeps.
-use Rattle.model_scanner.proofs.Common.{[], adjacent_in_flow, allow_key, anchor_name, At, at_break, begin_flow, begin_key, begin_keyless_mapping, begin_keyless_pair, begin_keyless_value, begin_line, begin_pair, begin_stream, block, Bool, check_after_quoted, check_after_tab, check_block_entry, check_dash, check_document_end, check_key_space, check_value_space, class_of, cleared, closed_key, context, decrease_flow_level, deepen, deepened_flow, directive, drop_open, drop_open_level, drop_stale, end_entry, end_flow, end_flow_pair, end_level, end_pair, end_stream, ended_flow, Err, false, Fault, fetch, fetch_anchor, fetch_block_entry, fetch_block_scalar, fetch_content, fetch_directive, fetch_document_end, fetch_document_marker, fetch_first_column, fetch_flow_collection_end, fetch_flow_collection_start, fetch_flow_entry, fetch_flow_scalar, fetch_here, fetch_indented, fetch_key, fetch_next, fetch_plain_scalar, fetch_stream_end, fetch_stream_start, fetch_tag, fetch_token, fetch_value, Gap, go_on, Held, here, if◌then◌else◌, in_block, in_flow, in_line, increase_flow_level, insert, insert_key, is_break, is_cr_lf, is_far, is_flow, Key, length, Levels, lexed, List, map, nat_lt, next_entry, next_line, node_start, None, not, Ok, on_held, opens_pair, Option, paired, pass_indicator, peek, placed, plain, pop, Position, push, put, quoted, Reaches, Read, refl, remove_implicit_key, Result, roll_entry, roll_indent, roll_one_col_indent, save_implicit_key, ScannerState, skip, skip_indicator, skip_spaces, skip_to_next_token, skip_yaml_whitespace, SkipTabs, Some, space, stale, still, tab_line, tag, there, Tok, Token, token, token_by, top_key, true, unled, unroll_indent, unroll_non_block_indents, unrolled, value_of, white, white_end, Whitespace, with_held, with_keys, with_top, without_open, ℕ, ◌++◌, ◌+◌, ◌==◌, ◌||◌, ◌∷◌, ◌≡◌}
+use Rattle.model_scanner.proofs.Common.{[], adjacent_in_flow, allow_key, anchor_name, are_single, At, at_break, begin_flow, begin_key, begin_keyless_mapping, begin_keyless_pair, begin_keyless_value, begin_line, begin_pair, begin_stream, block, BlockStyle, Bool, check_after_quoted, check_after_tab, check_block_entry, check_dash, check_document_end, check_key_space, check_value_space, class_of, cleared, closed_key, Collection, context, decrease_flow_level, deepen, deepened_flow, directive, drop_open, drop_open_level, drop_stale, end_entry, end_flow, end_flow_pair, end_level, end_pair, end_stream, ended_flow, Err, false, Fault, fetch, fetch_anchor, fetch_block_entry, fetch_block_scalar, fetch_content, fetch_directive, fetch_document_end, fetch_document_marker, fetch_first_column, fetch_flow_collection_end, fetch_flow_collection_start, fetch_flow_entry, fetch_flow_scalar, fetch_here, fetch_indented, fetch_key, fetch_next, fetch_plain_scalar, fetch_stream_end, fetch_stream_start, fetch_tag, fetch_token, fetch_value, flow_end, flow_start, Gap, go_on, Held, here, if◌then◌else◌, in_block, in_flow, in_line, increase_flow_level, insert, insert_key, is_break, is_cr_lf, is_far, is_flow, is_literal, Key, length, Levels, lexed, List, map, NameKind, nat_lt, next_entry, next_line, node_start, None, not, Ok, on_held, opens_pair, Option, paired, pass_indicator, peek, placed, plain, pop, Position, push, put, quoted, Quotes, Reaches, Read, refl, remove_implicit_key, Result, roll_entry, roll_indent, roll_one_col_indent, save_implicit_key, ScannerState, skip, skip_indicator, skip_spaces, skip_to_next_token, skip_yaml_whitespace, SkipTabs, Some, space, stale, still, tab_line, tag, there, Tok, Token, token, token_by, top_key, true, unled, unroll_indent, unroll_non_block_indents, unrolled, value_of, white, white_end, Whitespace, with_held, with_keys, with_top, without_open, ℕ, ◌++◌, ◌+◌, ◌==◌, ◌||◌, ◌∷◌, ◌≡◌}
 use Rattle.yaml_tokens.specs.declared.problem.Problem.TheVariants as problem
 use Rattle.model_scanner.specs.declared.level.Indent.{Indent}
 use Rattle.model_scanner.specs.declared.level.FlowLevel.{FlowLevel}
 use Rattle.model_scanner.specs.declared.level.FlowLevel.TheVariants.{Mapping, Entry, Keyed, Pair}
+use Rattle.model_scanner.specs.declared.kind.Collection.TheVariants as collection
+use Rattle.model_scanner.specs.declared.kind.NameKind.TheVariants.{Alias, Anchor}
+use Rattle.model_scanner.specs.declared.kind.Quotes.TheVariants.{Single, Double}
+use Rattle.model_scanner.specs.declared.kind.BlockStyle.TheVariants.{Literal, Folded}
 use Rattle.defs_text.specs.Text.{is_empty}
 use Rattle.model_scanner.specs.declared.context.SkipTabs.TheVariants.{Yes, No}
 use Rattle.model_scanner.specs.Space.{between, comment}
@@ -254,7 +258,7 @@ module _ (w : Watched) (kept : IsKept w) where
 
   -- ---- flow collections
 
-  flow_deeper : (kind : FlowLevel) (h : Held) → Stands w h → Holds (Stands w) (increase_flow_level kind h)
+  flow_deeper : (kind : Collection) (h : Held) → Stands w h → Holds (Stands w) (increase_flow_level kind h)
   unfolding increase_flow_level
   flow_deeper kind h s = passes _ _ (went (record { stood = rekeyed (tt, s.stood.keys) s.stood }))
 
@@ -262,7 +266,7 @@ module _ (w : Watched) (kept : IsKept w) where
   deeper_allowed r (went s) = went (record { stood = s.stood })
   deeper_allowed r refused = refused
 
-  flow_begun : (kind : FlowLevel) (h : Held) → Stands w h → Holds (Stands w) (begin_flow kind h)
+  flow_begun : (kind : Collection) (h : Held) → Stands w h → Holds (Stands w) (begin_flow kind h)
   unfolding begin_flow
   flow_begun kind h s = deeper_allowed _ (flow_deeper kind _ (rolled_one _ (saved h s)))
 
@@ -270,9 +274,9 @@ module _ (w : Watched) (kept : IsKept w) where
   unfolding pass_indicator
   passed t s = spaces_skipped Yes (skip_indicator t) (record { stood = s.stood })
 
-  flow_started : (kind : FlowLevel) (tok : Tok) (t : ScannerState) → IsNoEnd tok → Stands w t.held → Holds (StandsAt w) (fetch_flow_collection_start kind tok t)
+  flow_started : (kind : Collection) (t : ScannerState) → IsNoEnd (flow_start kind) → Stands w t.held → Holds (StandsAt w) (fetch_flow_collection_start kind t)
   unfolding fetch_flow_collection_start
-  flow_started kind tok t q s = chained (tried t _ (flow_begun kind t.held s)) (λ u k. chained (passed u k) (λ v l. went (more _ _ _ q l)))
+  flow_started kind t q s = chained (tried t _ (flow_begun kind t.held s)) (λ u k. chained (passed u k) (λ v l. went (more _ _ _ q l)))
 
   pair_ended : (fs : List FlowLevel) (h : Held) → Stands w h → Stands w (end_pair fs h)
   pair_ended [] h s = s
@@ -301,9 +305,9 @@ module _ (w : Watched) (kept : IsKept w) where
   unfolding end_flow
   flow_over h s = flow_closed _ (removed h s)
 
-  flow_ended : (tok : Tok) (t : ScannerState) → IsNoEnd tok → Stands w t.held → Holds (StandsAt w) (fetch_flow_collection_end tok t)
+  flow_ended : (kind : Collection) (t : ScannerState) → IsNoEnd (flow_end kind) → Stands w t.held → Holds (StandsAt w) (fetch_flow_collection_end kind t)
   unfolding fetch_flow_collection_end
-  flow_ended tok t q s = chained (tried t _ (flow_over t.held s)) (λ u k. chained (passed u k) (λ v l. went (more _ _ _ q (adjacent v.held l))))
+  flow_ended kind t q s = chained (tried t _ (flow_over t.held s)) (λ u k. chained (passed u k) (λ v l. went (more _ _ _ q (adjacent v.held l))))
 
   next_begun : (r : Result Held Fault) → Holds (Stands w) r → Holds (Stands w) (next_entry r)
   next_begun r (went s) = went (entry_over _ (record { stood = s.stood }))
@@ -439,30 +443,30 @@ module _ (w : Watched) (kept : IsKept w) where
   node_begun : (h : Held) → Stands w h → Stands w (node_start h)
   node_begun h s = let k = saved h s in record { stood = k.stood }
 
-  anchor_fetched : (alias : Bool) (t : ScannerState) → Stands w t.held → Holds (StandsAt w) (fetch_anchor alias t)
+  anchor_fetched : (kind : NameKind) (t : ScannerState) → Stands w t.held → Holds (StandsAt w) (fetch_anchor kind t)
   unfolding fetch_anchor
-  anchor_fetched alias t s = read (node_start t.held) (anchor_name t.rest t.held.position) _ (node_begun t.held s) (λ name u k. went (record { stood = pushed _ _ _ _ _ (anchor_is_no_end alias name) k.stood }))
+  anchor_fetched kind t s = read (node_start t.held) (anchor_name t.rest t.held.position) _ (node_begun t.held s) (λ name u k. went (record { stood = pushed _ _ _ _ _ (anchor_is_no_end kind name) k.stood }))
 
   tag_fetched : (t : ScannerState) → Stands w t.held → Holds (StandsAt w) (fetch_tag t)
   unfolding fetch_tag
   tag_fetched t s = read (node_start t.held) (tag (in_flow t.held) t.rest t.held.position) _ (node_begun t.held s) (λ g u k. went (record { stood = pushed _ _ _ _ _ tt k.stood }))
 
-  block_fetched : (literal : Bool) (t : ScannerState) → Stands w t.held → Holds (StandsAt w) (fetch_block_scalar literal t)
+  block_fetched : (style : BlockStyle) (t : ScannerState) → Stands w t.held → Holds (StandsAt w) (fetch_block_scalar style t)
   unfolding fetch_block_scalar
-  block_fetched literal t s =
+  block_fetched style t s =
       let h = unroll_non_block_indents (allow_key true (save_implicit_key t.held)) in
       let l = saved t.held s in
-      read h (block literal h.indent t.rest t.held.position) _ (unrolled_open _ (record { stood = l.stood })) (λ b u k. went (record { stood = pushed _ _ _ _ _ tt k.stood }))
+      read h (block (is_literal style) h.indent t.rest t.held.position) _ (unrolled_open _ (record { stood = l.stood })) (λ b u k. went (record { stood = pushed _ _ _ _ _ tt k.stood }))
 
   quoted_checked : (line : ℕ) (t : ScannerState) → Stands w t.held → Holds (StandsAt w) (check_after_quoted line t)
   unfolding check_after_quoted
   quoted_checked line t s = chained (spaces_skipped Yes t s) (λ u k. choice _ (went k) refused)
 
-  flow_scalar_fetched : (single : Bool) (t : ScannerState) → Stands w t.held → Holds (StandsAt w) (fetch_flow_scalar single t)
+  flow_scalar_fetched : (quotes : Quotes) (t : ScannerState) → Stands w t.held → Holds (StandsAt w) (fetch_flow_scalar quotes t)
   unfolding fetch_flow_scalar
-  flow_scalar_fetched single t s =
+  flow_scalar_fetched quotes t s =
       let h = node_start t.held in
-      read h (quoted single (context h) t.rest t.held.position) _ (node_begun t.held s) (λ text u k.
+      read h (quoted (are_single quotes) (context h) t.rest t.held.position) _ (node_begun t.held s) (λ text u k.
       chained (quoted_checked t.held.position.line (on_held unled u) (record { stood = k.stood })) (λ v l.
       chained (to_token v l) (λ x m. went (record { stood = pushed _ _ _ _ _ tt m.stood }))))
 
@@ -475,21 +479,21 @@ module _ (w : Watched) (kept : IsKept w) where
   -- ---- the next token
 
   by_class : (c : Class) (t : ScannerState) → Stands w t.held → Holds (StandsAt w) (token_by c t)
-  by_class class.OpenBracket t s = flow_started Entry _ t tt s
-  by_class class.OpenBrace t s = flow_started Mapping _ t tt s
-  by_class class.CloseBracket t s = flow_ended _ t tt s
-  by_class class.CloseBrace t s = flow_ended _ t tt s
+  by_class class.OpenBracket t s = flow_started collection.Sequence t tt s
+  by_class class.OpenBrace t s = flow_started collection.Mapping t tt s
+  by_class class.CloseBracket t s = flow_ended collection.Sequence t tt s
+  by_class class.CloseBrace t s = flow_ended collection.Mapping t tt s
   by_class class.Comma t s = entry_passed t s
   by_class class.Dash t s = choice _ (block_entry t s) (plain_fetched t s)
   by_class class.Question t s = choice _ (key_fetched t s) (plain_fetched t s)
   by_class class.Colon t s = choice _ (value_fetched t s) (plain_fetched t s)
-  by_class class.Asterisk t s = anchor_fetched true t s
-  by_class class.Ampersand t s = anchor_fetched false t s
+  by_class class.Asterisk t s = anchor_fetched Alias t s
+  by_class class.Ampersand t s = anchor_fetched Anchor t s
   by_class class.Exclamation t s = tag_fetched t s
-  by_class class.Bar t s = choice _ (plain_fetched t s) (block_fetched true t s)
-  by_class class.Greater t s = choice _ (plain_fetched t s) (block_fetched false t s)
-  by_class class.SingleQuote t s = flow_scalar_fetched true t s
-  by_class class.DoubleQuote t s = flow_scalar_fetched false t s
+  by_class class.Bar t s = choice _ (plain_fetched t s) (block_fetched Literal t s)
+  by_class class.Greater t s = choice _ (plain_fetched t s) (block_fetched Folded t s)
+  by_class class.SingleQuote t s = flow_scalar_fetched Single t s
+  by_class class.DoubleQuote t s = flow_scalar_fetched Double t s
   by_class class.Percent t s = refused
   by_class class.AtSign t s = refused
   by_class class.Backtick t s = refused

@@ -1,5 +1,5 @@
 -- Streams and documents (YAML 1.2, chapter 9), and the tokens of nodes.
-use Rattle.std.specs.Prelude.{ℕ, ◌+◌, List, [], ◌∷◌, Bool, true, false, not, ◌==◌, ◌&&◌, ◌||◌, if◌then◌else◌, Option, Some, None, Result, Ok, Err}
+use Rattle.std.specs.Prelude.{ℕ, ◌+◌, ◌∷◌, Bool, true, false, ◌==◌, ◌&&◌, ◌||◌, if◌then◌else◌, None, Result, Ok, Err}
 use Rattle.defs_text.specs.Position.{Position}
 use Rattle.yaml_chars.specs.Class.{is_breakz}
 use Rattle.defs_token.specs.Token.{Style, Tok}
@@ -8,13 +8,16 @@ use Rattle.yaml_tokens.specs.declared.problem.Fault.TheVariants.{At}
 use Rattle.yaml_tokens.specs.declared.problem.Problem.TheVariants as problem
 use Rattle.model_scanner.specs.declared.context.Context.{Context}
 use Rattle.model_scanner.specs.declared.context.SkipTabs.TheVariants.{Yes}
-use Rattle.model_scanner.specs.Machine.{Read}
-use Rattle.model_scanner.specs.Plain.{Plain, plain}
+use Rattle.model_scanner.specs.declared.kind.NameKind.{NameKind}
+use Rattle.model_scanner.specs.declared.kind.Quotes.{Quotes}
+use Rattle.model_scanner.specs.declared.kind.BlockStyle.{BlockStyle}
+use Rattle.model_scanner.specs.Kinds.{anchor_token, are_single, quoted_style, is_literal, block_style}
+use Rattle.model_scanner.specs.Plain.{plain}
 use Rattle.model_scanner.specs.Quoted.{quoted}
 use Rattle.model_scanner.specs.Anchor.{anchor_name}
-use Rattle.model_scanner.specs.BlockScalar.{Block, block}
+use Rattle.model_scanner.specs.BlockScalar.{block}
 use Rattle.model_scanner.specs.Directive.{directive}
-use Rattle.model_scanner.specs.Tag.{Tag, tag}
+use Rattle.model_scanner.specs.Tag.{tag}
 use Rattle.model_scanner.specs.State.{Held, ScannerState, ◌>>=◌, peek, in_flow, push, on_held, try_held, lexed, skip_indicator}
 use Rattle.model_scanner.specs.Keys.{cleared, has_required, save_implicit_key, remove_implicit_key}
 use Rattle.model_scanner.specs.Indents.{unroll_indent, unroll_non_block_indents}
@@ -68,9 +71,6 @@ check_document_end t = (if is_breakz (peek t.rest) then Ok t else Err (At proble
 unfoldable pub fetch_document_end : ScannerState → Result ScannerState Fault
 fetch_document_end t = fetch_document_marker Tok.document_end t >>= λ u. skip_spaces Yes u >>= λ v. check_document_end v
 
-abbrev pub anchor_token : Bool → List ℕ → Tok
-anchor_token alias name = (if alias then Tok.alias name else Tok.anchor name)
-
 abbrev pub unled : Held → Held
 unled s = record s { leading = false }
 
@@ -79,21 +79,18 @@ abbrev pub node_start : Held → Held
 node_start s = allow_key false (save_implicit_key s)
 
 -- `*name` or `&name`
-unfoldable pub fetch_anchor : Bool → ScannerState → Result ScannerState Fault
-fetch_anchor alias t = lexed (anchor_name t.rest t.held.position) (node_start t.held) (λ name u. Ok (on_held (λ s. push t.held.position (anchor_token alias name) (unled s)) u))
+unfoldable pub fetch_anchor : NameKind → ScannerState → Result ScannerState Fault
+fetch_anchor kind t = lexed (anchor_name t.rest t.held.position) (node_start t.held) (λ name u. Ok (on_held (λ s. push t.held.position (anchor_token kind name) (unled s)) u))
 
 -- `!`
 unfoldable pub fetch_tag : ScannerState → Result ScannerState Fault
 fetch_tag t = lexed (tag (in_flow t.held) t.rest t.held.position) (node_start t.held) (λ g u. Ok (on_held (λ s. push t.held.position (Tok.tag g.handle g.suffix) (unled s)) u))
 
-abbrev pub block_style : Bool → Style
-block_style literal = (if literal then Style.literal else Style.folded)
-
 -- `|` or `>`
-unfoldable pub fetch_block_scalar : Bool → ScannerState → Result ScannerState Fault
-fetch_block_scalar literal t =
+unfoldable pub fetch_block_scalar : BlockStyle → ScannerState → Result ScannerState Fault
+fetch_block_scalar style t =
     let h = unroll_non_block_indents (allow_key true (save_implicit_key t.held)) in
-    lexed (block literal h.indent t.rest t.held.position) h (λ b u. Ok (on_held (λ s. push b.position (Tok.scalar (block_style literal) b.text) (record s { leading = true })) u))
+    lexed (block (is_literal style) h.indent t.rest t.held.position) h (λ b u. Ok (on_held (λ s. push b.position (Tok.scalar (block_style style) b.text) (record s { leading = true })) u))
 
 abbrev pub context : Held → Context
 context s = record { flow = in_flow s; indent = s.indent }
@@ -107,21 +104,18 @@ check_after_quoted line t =
     skip_spaces Yes t >>= λ u.
     (if may_follow_quoted (in_flow u.held) (line == u.held.position.line) (peek u.rest) then Ok u else Err (At problem.ContentAfterQuoted u.held.position))
 
-abbrev pub quoted_style : Bool → Style
-quoted_style single = (if single then Style.single_quoted else Style.double_quoted)
-
 -- A `:` may stand right after a quoted scalar that is a key, also on a later line.
 abbrev pub adjacent_here : Held → Held
 adjacent_here s = record s { adjacent_value_at = s.position.index }
 
 -- `'` or `"`
-unfoldable pub fetch_flow_scalar : Bool → ScannerState → Result ScannerState Fault
-fetch_flow_scalar single t =
+unfoldable pub fetch_flow_scalar : Quotes → ScannerState → Result ScannerState Fault
+fetch_flow_scalar quotes t =
     let h = node_start t.held in
-    lexed (quoted single (context h) t.rest t.held.position) h (λ text u.
+    lexed (quoted (are_single quotes) (context h) t.rest t.held.position) h (λ text u.
     check_after_quoted t.held.position.line (on_held unled u) >>= λ v.
     skip_to_next_token v >>= λ w.
-    Ok (on_held (λ s. push t.held.position (Tok.scalar (quoted_style single) text) (adjacent_here s)) w))
+    Ok (on_held (λ s. push t.held.position (Tok.scalar (quoted_style quotes) text) (adjacent_here s)) w))
 
 abbrev pub after_plain : Bool → Held → Held
 after_plain leading s = record s { leading = leading; key_allowed = leading }

@@ -1,5 +1,5 @@
 -- The next token, by its first characters.
-use Rattle.std.specs.Prelude.{ℕ, ◌+◌, List, [], ◌∷◌, Bool, true, false, ◌==◌, ◌&&◌, ◌||◌, nat_lt, if◌then◌else◌, slice_index, Result, Ok, Err}
+use Rattle.std.specs.Prelude.{ℕ, ◌+◌, List, Bool, ◌==◌, ◌&&◌, ◌||◌, nat_lt, if◌then◌else◌, slice_index, Result, Ok, Err}
 use Rattle.yaml_chars.specs.Class.{is_blank_or_breakz, is_flow}
 use Rattle.defs_token.specs.Token.{Tok}
 use Rattle.yaml_tokens.specs.declared.problem.Fault.{Fault}
@@ -7,7 +7,10 @@ use Rattle.yaml_tokens.specs.declared.problem.Fault.TheVariants.{At}
 use Rattle.yaml_tokens.specs.declared.problem.Problem.TheVariants as problem
 use Rattle.model_scanner.specs.declared.class.Class.{Class}
 use Rattle.model_scanner.specs.declared.class.Class.TheVariants as class
-use Rattle.model_scanner.specs.declared.level.FlowLevel.TheVariants.{Mapping, Entry}
+use Rattle.model_scanner.specs.declared.kind.NameKind.TheVariants.{Alias, Anchor}
+use Rattle.model_scanner.specs.declared.kind.Quotes.TheVariants.{Single, Double}
+use Rattle.model_scanner.specs.declared.kind.BlockStyle.TheVariants.{Literal, Folded}
+use Rattle.model_scanner.specs.declared.kind.Collection.TheVariants.{Sequence, Mapping}
 use Rattle.model_scanner.specs.Class.{class_of}
 use Rattle.model_scanner.specs.State.{ScannerState, ◌>>=◌, peek, in_flow, on_held, try_held}
 use Rattle.model_scanner.specs.Keys.{stale}
@@ -26,21 +29,21 @@ unfoldable pub is_value : ScannerState → Bool
 is_value t = is_blank_or_breakz (second t) || (in_flow t.held && (is_flow (second t) || (t.held.position.index == t.held.adjacent_value_at)))
 
 abbrev pub token_by : Class → ScannerState → Result ScannerState Fault
-token_by class.OpenBracket t = fetch_flow_collection_start Entry Tok.flow_sequence_start t
-token_by class.OpenBrace t = fetch_flow_collection_start Mapping Tok.flow_mapping_start t
-token_by class.CloseBracket t = fetch_flow_collection_end Tok.flow_sequence_end t
-token_by class.CloseBrace t = fetch_flow_collection_end Tok.flow_mapping_end t
+token_by class.OpenBracket t = fetch_flow_collection_start Sequence t
+token_by class.OpenBrace t = fetch_flow_collection_start Mapping t
+token_by class.CloseBracket t = fetch_flow_collection_end Sequence t
+token_by class.CloseBrace t = fetch_flow_collection_end Mapping t
 token_by class.Comma t = fetch_flow_entry t
 token_by class.Dash t = (if is_blank_or_breakz (second t) then fetch_block_entry t else fetch_plain_scalar t)
 token_by class.Question t = (if is_blank_or_breakz (second t) then fetch_key t else fetch_plain_scalar t)
 token_by class.Colon t = (if is_value t then fetch_value t else fetch_plain_scalar t)
-token_by class.Asterisk t = fetch_anchor true t
-token_by class.Ampersand t = fetch_anchor false t
+token_by class.Asterisk t = fetch_anchor Alias t
+token_by class.Ampersand t = fetch_anchor Anchor t
 token_by class.Exclamation t = fetch_tag t
-token_by class.Bar t = (if in_flow t.held then fetch_plain_scalar t else fetch_block_scalar true t)
-token_by class.Greater t = (if in_flow t.held then fetch_plain_scalar t else fetch_block_scalar false t)
-token_by class.SingleQuote t = fetch_flow_scalar true t
-token_by class.DoubleQuote t = fetch_flow_scalar false t
+token_by class.Bar t = (if in_flow t.held then fetch_plain_scalar t else fetch_block_scalar Literal t)
+token_by class.Greater t = (if in_flow t.held then fetch_plain_scalar t else fetch_block_scalar Folded t)
+token_by class.SingleQuote t = fetch_flow_scalar Single t
+token_by class.DoubleQuote t = fetch_flow_scalar Double t
 token_by class.Percent t = Err (At problem.UnexpectedPercent t.held.position)
 token_by class.AtSign t = Err (At problem.UnexpectedAt t.held.position)
 token_by class.Backtick t = Err (At problem.UnexpectedBacktick t.held.position)

@@ -1,11 +1,11 @@
 -- Tokens that may turn out to be keys (YAML 1.2, sections 7.4.2 and 8.2.2).
-use Rattle.std.specs.Prelude.{ℕ, ◌+◌, List, [], ◌∷◌, Bool, true, false, ◌||◌, ◌&&◌, ◌==◌, nat_lt, not, if◌then◌else◌, Option, Some, None, Result, Ok, Err, length, map}
+use Rattle.std.specs.Prelude.{◌+◌, List, [], ◌∷◌, Bool, false, ◌||◌, ◌&&◌, ◌==◌, nat_lt, not, if◌then◌else◌, Option, Some, None, Result, Ok, Err, length, map}
 use Rattle.std.specs.List.{list_any}
 use Rattle.defs_text.specs.Position.{Position}
 use Rattle.yaml_tokens.specs.declared.problem.Fault.{Fault}
 use Rattle.yaml_tokens.specs.declared.problem.Fault.TheVariants.{At}
 use Rattle.yaml_tokens.specs.declared.problem.Problem.TheVariants as problem
-use Rattle.model_scanner.specs.State.{Key, Held, in_flow, with_top, top}
+use Rattle.model_scanner.specs.State.{Key, Held, in_flow, with_top}
 use Rattle.model_scanner.specs.declared.level.Indent.{Indent}
 
 -- whether a position lies on a later line than another, or more than 1024 characters after it

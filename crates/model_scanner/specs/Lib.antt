@@ -11,6 +11,7 @@ pub mod Flow
 pub mod Folding
 pub mod Indents
 pub mod Keys
+pub mod Kinds
 pub mod Machine
 pub mod Plain
 pub mod Quoted

@@ -7,20 +7,41 @@ use Rattle.yaml_tokens.specs.declared.problem.Fault.{Fault}
 use Rattle.yaml_tokens.specs.declared.problem.Fault.TheVariants.{At}
 use Rattle.yaml_tokens.specs.declared.problem.Problem.TheVariants as problem
 use Rattle.model_scanner.specs.declared.context.Context.{Context}
+use Rattle.model_scanner.specs.declared.kind.Digits.{Digits}
+use Rattle.model_scanner.specs.declared.kind.Digits.TheVariants.{Two, Four, Eight}
+use Rattle.model_scanner.specs.declared.kind.Escape.{Escape}
+use Rattle.model_scanner.specs.declared.kind.Escape.TheVariants.{Char, Code, Unknown}
+use Rattle.model_scanner.specs.declared.kind.QuotedPart.{QuotedPart}
+use Rattle.model_scanner.specs.declared.kind.QuotedPart.TheVariants as part
 use Rattle.model_scanner.specs.Machine.{Turn, stop, fail, on, Stop, run, Read, past, past_break, is_cr_lf, at_marker}
 use Rattle.model_scanner.specs.Folding.{Folded, nothing, with_char, with_blank, with_break, with_escaped_break, joined}
 
--- What stands next: the first character; one more of its line; a gap of blanks and breaks, or what stands after one; an escaped break; what stands after that; a second quote; what is named after a backslash; a code's digits, one and so many more, after the value of those before; or what stands after the closing quote.
+-- What stands next: a part of the scalar; what is named after a backslash; or a code's digits, one and so many more, after the value of those before. The code reads an escape whole, so it has the parts alone.
 pub data Mode : Type 0 where
-  first : Mode
-  inside : Mode
-  gap : Mode
-  breaking : Mode
-  after : Mode
-  doubled : Mode
+  at_part : QuotedPart → Mode
   named : Mode
   digits : (more value : ℕ) → Mode
-  closed : Mode
+
+abbrev pub first : Mode
+first = at_part part.First
+
+abbrev pub inside : Mode
+inside = at_part part.Inside
+
+abbrev pub gap : Mode
+gap = at_part part.Gap
+
+abbrev pub breaking : Mode
+breaking = at_part part.Breaking
+
+abbrev pub after : Mode
+after = at_part part.After
+
+abbrev pub doubled : Mode
+doubled = at_part part.Doubled
+
+abbrev pub closed : Mode
+closed = at_part part.Closed
 
 pub record QuotedState : Type 0 where
   pub mode : Mode
@@ -30,31 +51,36 @@ pub record QuotedState : Type 0 where
 abbrev pub quote_of : Bool → ℕ
 quote_of single = (if single then 39 else 34)
 
--- what a backslash and a character are: a character, the start of a code of so many digits after the first, or nothing
-pub data Escape : Type 0 where
-  char : ℕ → Escape
-  code : (more : ℕ) → Escape
-  unknown : Escape
+-- how many digits a code has after the first
+abbrev pub more_of : Digits → ℕ
+more_of Two = 1
+more_of Four = 3
+more_of Eight = 7
 
+-- how many digits a code has
+abbrev pub count_of : Digits → ℕ
+count_of k = suc (more_of k)
+
+-- what a character after a backslash is
 unfoldable pub escape_of : ℕ → Escape
 escape_of c =
-    (if c == 48 then Escape.char 0 else
-    (if c == 97 then Escape.char 7 else
-    (if c == 98 then Escape.char 8 else
-    (if (c == 116) || (c == 9) then Escape.char 9 else
-    (if c == 110 then Escape.char 10 else
-    (if c == 118 then Escape.char 11 else
-    (if c == 102 then Escape.char 12 else
-    (if c == 114 then Escape.char 13 else
-    (if c == 101 then Escape.char 27 else
-    (if (c == 32) || (c == 34) || (c == 47) || (c == 92) then Escape.char c else
-    (if c == 78 then Escape.char 133 else
-    (if c == 95 then Escape.char 160 else
-    (if c == 76 then Escape.char 8232 else
-    (if c == 80 then Escape.char 8233 else
-    (if c == 120 then Escape.code 1 else
-    (if c == 117 then Escape.code 3 else
-    (if c == 85 then Escape.code 7 else Escape.unknown)))))))))))))))))
+    (if c == 48 then Char 0 else
+    (if c == 97 then Char 7 else
+    (if c == 98 then Char 8 else
+    (if (c == 116) || (c == 9) then Char 9 else
+    (if c == 110 then Char 10 else
+    (if c == 118 then Char 11 else
+    (if c == 102 then Char 12 else
+    (if c == 114 then Char 13 else
+    (if c == 101 then Char 27 else
+    (if (c == 32) || (c == 34) || (c == 47) || (c == 92) then Char c else
+    (if c == 78 then Char 133 else
+    (if c == 95 then Char 160 else
+    (if c == 76 then Char 8232 else
+    (if c == 80 then Char 8233 else
+    (if c == 120 then Code Two else
+    (if c == 117 then Code Four else
+    (if c == 85 then Code Eight else Unknown)))))))))))))))))
 
 -- whether a code is a character's
 unfoldable pub is_scalar : ℕ → Bool
@@ -90,9 +116,9 @@ at_inside single c a s =
     (if c == quote_of single then at_quote single a s else at_char c s))
 
 abbrev pub at_named : Position → Escape → QuotedState → Turn QuotedState Fault
-at_named start (Escape.char d) s = at_char d s
-at_named start (Escape.code more) s = on (record { mode = digits more 0; position = past s.position; folded = s.folded })
-at_named start Escape.unknown s = fail (At problem.UnknownEscape start)
+at_named start (Char d) s = at_char d s
+at_named start (Code k) s = on (record { mode = digits (more_of k) 0; position = past s.position; folded = s.folded })
+at_named start Unknown s = fail (At problem.UnknownEscape start)
 
 -- a code's digit: after the last one the code has to be a character's
 abbrev pub at_digit : Position → ℕ → ℕ → QuotedState → Turn QuotedState Fault
@@ -118,24 +144,24 @@ abbrev pub at_line : Bool → Context → Position → ℕ → List ℕ → Quot
 at_line single ctx start c a s = unless (refused ctx start (c ∷ a) s.position) (in_line single ctx c a (record s { folded = joined s.folded }))
 
 abbrev pub turn_in : Bool → Context → Position → Mode → QuotedState → ℕ → List ℕ → Turn QuotedState Fault
-turn_in single ctx start first s c a = at_line single ctx start c a s
-turn_in single ctx start inside s c a = in_line single ctx c a s
-turn_in single ctx start gap s c a = (if is_break c || is_blank c then at_gap ctx c a s else at_line single ctx start c a s)
-turn_in single ctx start breaking s c a = at_escaped_break c a s
-turn_in single ctx start after s c a =
+turn_in single ctx start (at_part part.First) s c a = at_line single ctx start c a s
+turn_in single ctx start (at_part part.Inside) s c a = in_line single ctx c a s
+turn_in single ctx start (at_part part.Gap) s c a = (if is_break c || is_blank c then at_gap ctx c a s else at_line single ctx start c a s)
+turn_in single ctx start (at_part part.Breaking) s c a = at_escaped_break c a s
+turn_in single ctx start (at_part part.After) s c a =
     (if is_break c || is_blank c then at_gap ctx c a s else
     (if c == quote_of single then at_quote single a s else at_line single ctx start c a s))
-turn_in single ctx start doubled s c a = at_char c s
+turn_in single ctx start (at_part part.Doubled) s c a = at_char c s
 turn_in single ctx start named s c a = at_named start (escape_of c) s
 turn_in single ctx start (digits more value) s c a = (if is_hex c then at_digit start more (value * 16 + digit_value c) s else fail (At problem.HexadecimalDigit start))
-turn_in single ctx start closed s c a = stop s
+turn_in single ctx start (at_part part.Closed) s c a = stop s
 
 abbrev pub turn : Bool → Context → Position → QuotedState → ℕ → List ℕ → Turn QuotedState Fault
 turn single ctx start s c a = turn_in single ctx start s.mode s c a
 
 -- where the text ends inside a scalar
 abbrev pub end_in : Position → Mode → List ℕ → Position → List ℕ → Result (Read (List ℕ)) Fault
-end_in start closed rest position text = Ok (record { rest = rest; position = position; value = text })
+end_in start (at_part part.Closed) rest position text = Ok (record { rest = rest; position = position; value = text })
 end_in start named rest position text = Err (At problem.UnknownEscape start)
 end_in start (digits more value) rest position text = Err (At problem.HexadecimalDigit start)
 end_in start _ rest position text = Err (At problem.QuotedEnd start)

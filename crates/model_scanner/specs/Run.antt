@@ -1,6 +1,5 @@
 -- Runs of the scanner from the start of a text.
-use Rattle.std.specs.Prelude.{◌≡◌, ℕ, zero, suc, List, [], ◌∷◌, Bool, true, false, if◌then◌else◌, Result, Ok, Err}
-use Rattle.defs_text.specs.Position.{Position}
+use Rattle.std.specs.Prelude.{◌≡◌, ℕ, zero, suc, List, [], true, false, if◌then◌else◌, Result, Ok, Err}
 use Rattle.defs_token.specs.Token.{Token}
 use Rattle.yaml_tokens.specs.declared.problem.Fault.{Fault}
 use Rattle.model_scanner.specs.State.{Held, ScannerState, ◌>>=◌}

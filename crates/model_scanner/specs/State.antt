@@ -1,5 +1,5 @@
 -- What the scanner holds: where it stands, and what it knows of the text before that position.
-use Rattle.std.specs.Prelude.{ℕ, ◌+◌, List, [], ◌∷◌, ◌++◌, Bool, true, false, not, Option, Some, None, Result, Ok, Err, cond, nat_le}
+use Rattle.std.specs.Prelude.{ℕ, List, [], ◌∷◌, ◌++◌, Bool, false, not, Option, Some, None, Result, Ok, Err}
 use Rattle.std.specs.List.{insert}
 use Rattle.defs_text.specs.Position.{Position}
 use Rattle.defs_text.specs.Text.{is_empty}
@@ -7,7 +7,7 @@ use Rattle.defs_token.specs.Token.{Tok, Token}
 use Rattle.yaml_tokens.specs.declared.problem.Fault.{Fault}
 use Rattle.model_scanner.specs.declared.level.Indent.{Indent}
 use Rattle.model_scanner.specs.declared.level.FlowLevel.{FlowLevel}
-use Rattle.model_scanner.specs.Machine.{Read, past, past_break}
+use Rattle.model_scanner.specs.Machine.{Read, past}
 
 -- a token that may turn out to be a key: whether it must be one, how many tokens stand before it, and its position
 pub record Key : Type 0 where

@@ -4,8 +4,10 @@
 
 pub mod class;
 pub mod context;
+pub mod kind;
 pub mod level;
 
 pub use class::{Class, class_of};
 pub use context::{Context, SkipTabs, Whitespace};
+pub use kind::{BlockStyle, Collection, Digits, Escape, NameKind, QuotedPart, Quotes};
 pub use level::{FlowLevel, Indent};

@@ -1,11 +1,5 @@
 -- Lemmas about the octets of a URI's escaped characters.
-use Rattle.yaml_lexers.proofs.Common.{ap, arith, Bool, le_trans, List, lit<, mul-le-mul_left, mul-le-mul_right, mul_assoc, Position, pow-le-pow_right, pow-succ', refl, suc, sym, trails_from, ℕ, ◌*◌, ◌+◌, ◌-◌, ◌<◌, ◌^◌, ◌∙◌, ◌≡◌, ◌≤◌}
-
--- one octet fewer is left of a character
-pub one_trail_fewer : (test : ℕ → Bool) (start : Position) (left code least : ℕ) (a : List ℕ) (p : Position) (t : List ℕ) → 0 < left
-    → trails_from test start left code least a p t ≡ trails_from test start (suc (left - 1)) code least a p t
-one_trail_fewer test start left code least a p t some =
-    let e : left ≡ suc (left - 1) = omega (arith, some) in ap (λ k. trails_from test start k code least a p t) e
+use Rattle.yaml_lexers.proofs.Common.{ap, arith, Bool, le_trans, List, lit<, mul-le-mul_left, mul-le-mul_right, mul_assoc, nat_le, nat_lt, nat_tests, Octet, octet_from, percent, Position, pow-le-pow_right, pow-succ', refl, suc, sym, trail, trails_from, true, uri_from, ℕ, ◌*◌, ◌+◌, ◌-◌, ◌<◌, ◌^◌, ◌∙◌, ◌≡◌, ◌≤◌}
 
 -- the bits before an octet leave room for its six
 pub bits_fit : (code left : ℕ) → (code + 1) * 64 ^ left ≤ 2 ^ 21 → 0 < left → code < 2 ^ 20
@@ -26,3 +20,13 @@ more_bits_fit code more left fits some small =
     let grown : (more + 1) * 64 ^ (left - 1) ≤ (code + 1) * 64 * 64 ^ (left - 1) = mul-le-mul_right (64 ^ (left - 1)) next in
     let all : (code + 1) * 64 * 64 ^ (left - 1) ≡ (code + 1) * 64 ^ left = mul_assoc (code + 1) 64 (64 ^ (left - 1)) ∙ sym (ap (λ k. (code + 1) * k) power) in
     le_trans (rw all at grown) fits
+
+-- an octet that goes on with a character adds its six bits
+pub trail_read : (test : ℕ → Bool) (start : Position) (left code least n : ℕ) (a b : List ℕ) (p q : Position) (t : List ℕ) → 0 < left → 128 ≤ n → n < 192
+    → ((o : Octet) → uri_from test start a (record { mode = percent o; position = p; text = t }) ≡ octet_from test start o n b q t)
+    → trails_from test start left code least a p t ≡ trails_from test start (left - 1) (code * 64 + (n - 128)) least b q t
+trail_read test start left code least n a b p q t some low high reads =
+    let e : left ≡ suc (left - 1) = omega (arith, some) in
+    let above : nat_le 128 n ≡ true = grind (arith, nat_tests) in
+    let below : nat_lt n 192 ≡ true = grind (arith, nat_tests) in
+    ap (λ k. trails_from test start k code least a p t) e ∙ reads (trail (left - 1) code least) ∙ rw (above, below) refl

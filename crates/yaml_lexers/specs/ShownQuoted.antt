@@ -1,30 +1,13 @@
 -- What the code of quoted scalars holds, as the model's states.
-use Rattle.std.specs.Prelude.{◌≡◌, ◌≢◌, ◌≤◌, ◌<◌, ℕ, Bool, Result, Err, OnOk, IfOk, IfErr, slice_index}
-use Rattle.defs_text.specs.Position.{Position}
+use Rattle.std.specs.Prelude.{◌≡◌, ◌≢◌, ◌≤◌, ◌<◌, ℕ, Result, Err, OnOk, IfOk, IfErr, slice_index}
 use Rattle.yaml_chars.specs.WindowView.{WindowView, Reads, Sees, HasChar, position_of}
 use Rattle.yaml_tokens.specs.declared.problem.Fault.{Fault}
 use Rattle.yaml_tokens.specs.declared.problem.Fault.TheVariants.{OutOfMemory}
 use Rattle.yaml_lexers.specs.declared.folding.Folding.{Folding}
-use Rattle.yaml_lexers.specs.declared.quoted.Part.{Part}
 use Rattle.yaml_lexers.specs.declared.quoted.Quote.{Quote}
-use Rattle.yaml_lexers.specs.declared.quoted.Part.TheVariants as part
-use Rattle.yaml_lexers.specs.declared.escape.Escape as code
-use Rattle.yaml_lexers.specs.declared.escape.Escape.TheVariants.{Char, Code, Unknown}
-use Rattle.yaml_lexers.specs.declared.escape.Digits.{Digits}
-use Rattle.yaml_lexers.specs.declared.escape.Digits.TheVariants.{Two, Four, Eight}
 use Rattle.yaml_lexers.specs.Shown.{folded}
 use Rattle.model_scanner.specs.Folding.{Folded}
-use Rattle.model_scanner.specs.declared.context.Context.{Context}
-use Rattle.model_scanner.specs.Quoted.{Mode, QuotedState, Escape, quoted_from, first, inside, gap, breaking, after, doubled, closed}
-
-abbrev pub mode_of : Part → Mode
-mode_of part.First = first
-mode_of part.Inside = inside
-mode_of part.Gap = gap
-mode_of part.Breaking = breaking
-mode_of part.After = after
-mode_of part.Doubled = doubled
-mode_of part.Closed = closed
+use Rattle.model_scanner.specs.Quoted.{Mode, QuotedState, quoted_from}
 
 -- what was read of a quoted scalar in front of a window's next characters
 abbrev pub at_folded : {T : Type 0} → Mode → WindowView T → Folded → QuotedState
@@ -37,11 +20,6 @@ at mode w p = at_folded mode w (folded p)
 abbrev pub GoesOn : {T : Type 0} → Quote → (from : Mode) → WindowView T → Folding → (to : Mode) → WindowView T → Folding → Type 0
 GoesOn q from old before to new so_far =
     Reads old new (λ a b. quoted_from q.single q.context q.start a (at from old before) ≡ quoted_from q.single q.context q.start b (at to new so_far))
-
--- the same of every scalar, whatever its quotes are and what surrounds it
-abbrev pub AllGoOn : {T : Type 0} → (from : Mode) → WindowView T → Folding → (to : Mode) → WindowView T → Folding → Type 0
-AllGoOn from old before to new so_far =
-    Reads old new (λ a b. (single : Bool) (context : Context) (start : Position) → quoted_from single context start a (at from old before) ≡ quoted_from single context start b (at to new so_far))
 
 -- what is left at a position of a scalar is refused with this fault, unless memory was refused
 abbrev pub IsRefused : {T : Type 0} → Quote → (from : Mode) → WindowView T → Folding → WindowView T → Fault → Type 0
@@ -63,20 +41,3 @@ Shows w positions c = record {
   has : HasChar w;
   ahead : positions ≤ w.ahead;
 }
-
--- how many digits a code has after the first
-abbrev pub more_of : Digits → ℕ
-more_of Two = 1
-more_of Four = 3
-more_of Eight = 7
-
-abbrev pub escape_shown : code.Escape → Escape
-escape_shown (Char c) = Escape.char c
-escape_shown (Code digits) = Escape.code (more_of digits)
-escape_shown Unknown = Escape.unknown
-
--- how many digits a code has
-abbrev pub count_of : Digits → ℕ
-count_of Two = 2
-count_of Four = 4
-count_of Eight = 8

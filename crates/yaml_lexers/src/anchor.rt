@@ -1,38 +1,18 @@
 //! Anchors and aliases (YAML 1.2, sections 6.9.2 and 7.1).
-ghost use Rattle.std.specs.Prelude.{◌≡◌, ◌<◌, Ok, Err, OnOk, OnErr, IfOk, IfErr};
+ghost use Rattle.std.specs.Prelude.{◌<◌, Ok, Err, OnOk, IfOk, IfErr};
 ghost use Rattle.yaml_chars.specs.Class.{is_anchor};
-ghost use Rattle.yaml_chars.specs.WindowView.{Reads, HasChar, position_of};
+ghost use Rattle.yaml_chars.specs.WindowView.{Reads, HasChar};
 ghost use Rattle.defs_text.specs.Text.{string_chars};
-ghost use Rattle.model_scanner.specs.Machine.{take_while};
 ghost use Rattle.model_scanner.specs.Anchor.{anchor_name};
-ghost use Rattle.yaml_lexers.specs.Shown.{Lexes, Refuses, read};
+ghost use Rattle.yaml_lexers.specs.Shown.{Lexes, Refuses};
 
 use std::alloc::{AllocError, Global};
 use yaml_chars::class::is_anchor;
 use yaml_chars::{Characters, TextBuilder, Window};
 use yaml_tokens::{Fault, Problem};
 
-/// Reads the characters of a name.
-#[tactic(auto, using(model_scanner::proofs::SpaceLemmas::take_end))]
-fn read_name<T: Characters>(
-    window: &mut Window<T>,
-    name: &mut TextBuilder,
-) -> Result<(), AllocError>
-    ensures ok { OnOk result (Reads window.old window.new (λ a b. take_while is_anchor a (position_of window.old) name.old ≡ read b window.new name.new)) }
-    ensures err { OnErr result (Reads window.old window.new (λ _ _. Unit {0})) }
-{
-    'name: loop {
-        let c = window.look_ch();
-        if !is_anchor(c) {
-            return Ok(());
-        }
-        name.push(c)?;
-        window.skip();
-    }
-}
-
 /// Reads the name of an anchor or an alias, from the `&` or `*` on.
-#[tactic(auto, unfolding(model_scanner::specs::Anchor::anchor_name))]
+#[tactic(auto, using(model_scanner::proofs::SpaceLemmas::take_end), unfolding(model_scanner::specs::Anchor::anchor_name))]
 pub fn read_anchor_name<T: Characters>(
     alloc: Global,
     window: &mut Window<T>,
@@ -46,7 +26,14 @@ pub fn read_anchor_name<T: Characters>(
     let start = window.mark();
     window.skip();
     let mut name = TextBuilder::new(alloc);
-    read_name(window, &mut name)?;
+    'name: loop {
+        let c = window.look_ch();
+        if !is_anchor(c) {
+            break;
+        }
+        name.push(c)?;
+        window.skip();
+    }
     if name.is_empty() {
         return Err(Fault::At(Problem::AnchorName, start));
     }

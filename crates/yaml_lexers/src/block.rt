@@ -1,10 +1,10 @@
 //! Block scalars (YAML 1.2, section 8.1).
-ghost use Rattle.std.specs.Prelude.{◌≡◌, ◌≢◌, ◌≤◌, ◌<◌, ◌^◌, ◌++◌, ◌==◌, ◌&&◌, not, slice_index, [], ℕ, Bool, true, false, Ok, Err, OnOk, OnErr, IfOk, IfErr};
+ghost use Rattle.std.specs.Prelude.{◌≡◌, ◌≢◌, ◌≤◌, ◌<◌, ◌^◌, ◌++◌, ◌==◌, ◌&&◌, slice_index, [], ℕ, Bool, true, false, Ok, Err, OnOk, OnErr, IfOk, IfErr};
 ghost use Rattle.yaml_chars.specs.WindowView.{Reads, Sees, HasChar, SamePosition, position_of};
 ghost use Rattle.yaml_chars.specs.Words.{TakesWords};
 ghost use Rattle.yaml_chars.specs.declared.run.Run.TheVariants as run;
 ghost use Rattle.defs_text.specs.Text.{string_chars};
-ghost use Rattle.model_scanner.specs.BlockScalar.{margin, line, lines_from, begins, begun, with_char, tail, ends_indent, indent_from, first_indent, content, empty_text, body, after_header, block};
+ghost use Rattle.model_scanner.specs.BlockScalar.{margin, line, lines_from, begins, begun, with_char, tail, ends_indent, indent_from, first_indent, content, empty_text, after_header, block};
 ghost use Rattle.yaml_lexers.specs.Shown.{Lexes, Refuses, read};
 ghost use Rattle.yaml_lexers.specs.ShownBlock.{lines, at, column_shown, header_shown};
 
@@ -46,21 +46,15 @@ impl Lines {
         }
     }
 
-    /// Whether line folding applies to the break before a content line: it stands after another
-    /// content line, and neither of the two begins with a blank (YAML 1.2, section 8.1.3).
-    fn folds_before(&self, blank: bool) -> bool
-        ensures { result ≡ ((lines self.now).broken && not (lines self.now).blank && not blank) }
-    {
-        self.broken && !self.blank && !blank
-    }
-
     /// Begins a content line with `c`, after what stands between it and the last one.
     #[tactic(auto, unfolding(model_scanner::specs::BlockScalar::between))]
     fn begin(&mut self, literal: bool, c: char) -> Result<(), AllocError>
         ensures { OnOk result (lines self.new ≡ with_char c (begun literal c (lines self.old))) }
     {
         let blank = is_blank(c);
-        if !literal && self.folds_before(blank) {
+        // Line folding applies to a break between two content lines of which neither begins with
+        // a blank (YAML 1.2, section 8.1.3).
+        if !literal && self.broken && !self.blank && !blank {
             if self.breaks.is_empty() {
                 self.text.push(' ')?;
             } else {
@@ -231,28 +225,6 @@ fn begins<T: Characters>(window: &Window<T>, column: usize) -> bool
     window.mark().col() == column && !at_marker(window)
 }
 
-/// Reads the content line that begins here.
-#[tactic(auto, using(model_scanner::proofs::BlockLemmas::begin_lines))]
-fn read_content<T: Characters>(
-    window: &mut Window<T>,
-    literal: bool,
-    column: usize,
-    block: &mut Lines,
-) -> Result<(), AllocError>
-    requires has { HasChar window.old }
-    requires ahead { 0 < window.old.ahead }
-    ensures ok { OnOk result (Reads window.old window.new (λ a b. ends_indent column window.old.col a ≡ true → begins column window.old.col a ≡ true →
-        lines_from literal column a (at margin window.old block.old) ≡ lines_from literal column b (at margin window.new block.new))) }
-    ensures err { OnErr result (Reads window.old window.new (λ _ _. Unit {0})) }
-    ensures less { OnOk result (window.new.left < window.old.left) }
-{
-    let c = window.ch();
-    block.begin(literal, c)?;
-    window.skip();
-    read_line(window, block)?;
-    Ok(())
-}
-
 /// Reads the lines of a block scalar whose content stands at a column, from the first one on.
 #[tactic(auto, using(model_scanner::proofs::BlockLemmas::stop_lines))]
 fn read_lines<T: Characters>(
@@ -272,7 +244,10 @@ fn read_lines<T: Characters>(
         if !begins(window, column) {
             return Ok(());
         }
-        read_content(window, literal, column, block)?;
+        let c = window.ch();
+        block.begin(literal, c)?;
+        window.skip();
+        read_line(window, block)?;
     }
 }
 
@@ -346,33 +321,7 @@ fn read_column<T: Characters>(
     Ok(column)
 }
 
-/// Reads the lines from the first content line on, and what the chomping leaves of their tail. The
-/// answer is the token's position.
-fn read_body<T: Characters>(
-    window: &mut Window<T>,
-    indicator: Indicator,
-    column: usize,
-    chomping: Chomping,
-    block: &mut Lines,
-) -> Result<Marker, Fault>
-    requires fresh { lines block.old ≡ record { text = []; breaks = (lines block.old).breaks; broken = false; blank = false } }
-    ensures ok { IfOk result (λ position. Reads window.old window.new (λ a b.
-        body indicator.literal indicator.indent chomping (read a window.old (column_shown column (lines block.old).breaks)) ≡ Ok (read b window.new (record { position = position; text = (lines block.new).text })))) }
-    ensures err { IfErr result (λ e. Reads window.old window.new (λ a b. e ≢ Fault.OutOfMemory →
-        body indicator.literal indicator.indent chomping (read a window.old (column_shown column (lines block.old).breaks)) ≡ Err e)) }
-{
-    let position = window.mark();
-    if position.col() < column && indicator.indent <= position.col() {
-        return Err(Fault::At(Problem::BlockScalarIndentation, position));
-    }
-    read_lines(window, indicator.literal, column, block)?;
-    let col = window.mark().col();
-    let unbroken = window.look_ch() == '\0' && column <= col && 0 < col;
-    chomp(block, chomping, unbroken)?;
-    Ok(position)
-}
-
-/// Reads what comes after a header. The answer is the token's position and the text.
+/// Reads the lines after a header, and what the chomping leaves of their tail. The answer is the token's position and the text.
 fn read_after<T: Characters>(
     alloc: Global,
     window: &mut Window<T>,
@@ -392,7 +341,14 @@ fn read_after<T: Characters>(
         let text = take_empty(header.chomping, header.broken, block)?;
         return Ok((indicator.position, text.into_string()));
     }
-    let position = read_body(window, indicator, column, header.chomping, &mut block)?;
+    let position = window.mark();
+    if position.col() < column && indicator.indent <= position.col() {
+        return Err(Fault::At(Problem::BlockScalarIndentation, position));
+    }
+    read_lines(window, indicator.literal, column, &mut block)?;
+    let col = window.mark().col();
+    let unbroken = window.look_ch() == '\0' && column <= col && 0 < col;
+    chomp(&mut block, header.chomping, unbroken)?;
     Ok((position, block.text.into_string()))
 }
 

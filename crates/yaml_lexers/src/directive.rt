@@ -1,12 +1,9 @@
 //! Directives (YAML 1.2, section 6.8).
-ghost use Rattle.std.specs.Prelude.{◌≡◌, ◌≢◌, ◌≤◌, ◌<◌, ◌+◌, ◌-◌, ◌*◌, true, Ok, Err, OnOk, IfOk, IfErr};
-ghost use Rattle.yaml_chars.specs.Class.{is_alpha, is_digit};
-ghost use Rattle.yaml_chars.specs.WindowView.{Reads, Sees, HasChar, position_of};
+ghost use Rattle.std.specs.Prelude.{◌≡◌, ◌≤◌, ◌<◌, OnOk, IfOk, IfErr};
+ghost use Rattle.yaml_chars.specs.WindowView.{Sees, HasChar};
 ghost use Rattle.yaml_tokens.specs.Shown.{tok_of};
-ghost use Rattle.model_scanner.specs.Machine.{skip_while};
-ghost use Rattle.model_scanner.specs.Blanks.{blanks};
-ghost use Rattle.model_scanner.specs.Directive.{kind, name, number, version_value, tag_value, after_major, prefix_after, after_name, value, directive_break, line_end, directive};
-ghost use Rattle.yaml_lexers.specs.Shown.{Lexes, Refuses, read};
+ghost use Rattle.model_scanner.specs.Directive.{kind, name, number, version_value, tag_value, value, line_end, directive};
+ghost use Rattle.yaml_lexers.specs.Shown.{Lexes, Refuses};
 ghost use Rattle.yaml_lexers.specs.ShownTag.{kind_shown};
 
 use crate::space::{skip_blanks, skip_comment, skip_linebreak, skip_ws_to_eol};
@@ -42,22 +39,8 @@ fn directive_here<T: Characters>(window: &Window<T>) -> Directive
     }
 }
 
-/// Steps over ASCII letters, digits, `_` and `-`.
-#[tactic(auto, using(model_scanner::proofs::SpaceLemmas::skip_end))]
-fn skip_word<T: Characters>(window: &mut Window<T>)
-    ensures reads { Reads window.old window.new (λ a b. skip_while is_alpha a (position_of window.old) ≡ read b window.new tt) }
-    ensures ahead { 0 < window.new.ahead }
-{
-    'word: loop {
-        if !is_alpha(window.look_ch()) {
-            return;
-        }
-        window.skip();
-    }
-}
-
 /// Steps over a directive's name.
-#[tactic(auto, unfolding(model_scanner::specs::Directive::name))]
+#[tactic(auto, using(model_scanner::proofs::SpaceLemmas::skip_end), unfolding(model_scanner::specs::Directive::name))]
 fn skip_name<T: Characters>(window: &mut Window<T>) -> Result<Directive, Fault>
     ensures ok { IfOk result (λ k. Lexes name window.old window.new (kind_shown k)) }
     ensures err { IfErr result (λ e. Refuses name window.old window.new e) }
@@ -68,26 +51,18 @@ fn skip_name<T: Characters>(window: &mut Window<T>) -> Result<Directive, Fault>
     if !is_alpha(window.ch()) {
         return Err(Fault::At(Problem::DirectiveName, position));
     }
-    skip_word(window);
+    // ASCII letters, digits, `_` and `-`.
+    'name: while is_alpha(window.look_ch()) {
+        window.skip();
+    }
     if !is_blank_or_breakz(window.look_ch()) {
         return Err(Fault::At(Problem::DirectiveNameEnd, position));
     }
     Ok(directive)
 }
 
-/// A number with one digit more.
-#[tactic(auto, unfolding(yaml_chars::specs::Class::is_digit))]
-fn with_digit(value: u32, c: char) -> u32
-    requires digit { is_digit c ≡ true }
-    requires small { value < 100000000 }
-    ensures value { result ≡ value * 10 + (c - 48) }
-    ensures digit { c - 48 < 10 }
-{
-    value * 10 + (c as u32 - '0' as u32)
-}
-
 /// Reads a number of a version, of at most nine digits.
-#[tactic(auto, using(model_scanner::proofs::DirectiveLemmas::digits_stop, model_scanner::proofs::DirectiveLemmas::too_long), unfolding(model_scanner::specs::Directive::number))]
+#[tactic(auto, using(model_scanner::proofs::DirectiveLemmas::digits_stop, model_scanner::proofs::DirectiveLemmas::too_long), unfolding(model_scanner::specs::Directive::number, yaml_chars::specs::Class::is_digit))]
 fn read_number<T: Characters>(window: &mut Window<T>, start: Marker) -> Result<u32, Fault>
     ensures ok { IfOk result (λ n. Lexes (number start) window.old window.new n) }
     ensures err { IfErr result (λ e. Refuses (number start) window.old window.new e) }
@@ -105,30 +80,13 @@ fn read_number<T: Characters>(window: &mut Window<T>, start: Marker) -> Result<u
         if length == 9 {
             return Err(Fault::At(Problem::VersionTooLong, start));
         }
-        value = with_digit(value, c);
+        value = value * 10 + (c as u32 - '0' as u32);
         length += 1;
         window.skip();
     }
 }
 
-/// Reads the minor number of a version, with the dot before it.
-fn read_minor<T: Characters>(
-    window: &mut Window<T>,
-    start: Marker,
-    major: u32,
-) -> Result<TokenType, Fault>
-    ensures ok { IfOk result (λ t. Reads window.old window.new (λ a b. after_major start (read a window.old major) ≡ Ok (read b window.new (tok_of t)))) }
-    ensures err { IfErr result (λ e. Reads window.old window.new (λ a b. e ≢ Fault.OutOfMemory → after_major start (read a window.old major) ≡ Err e)) }
-{
-    if window.look_ch() != '.' {
-        return Err(Fault::At(Problem::VersionDot, start));
-    }
-    window.skip();
-    let minor = read_number(window, start)?;
-    Ok(TokenType::VersionDirective(major, minor))
-}
-
-/// Reads the two numbers of a version.
+/// Reads the two numbers of a version, with the dot between them.
 #[tactic(auto, unfolding(model_scanner::specs::Directive::version_value))]
 fn read_version<T: Characters>(window: &mut Window<T>, start: Marker) -> Result<TokenType, Fault>
     ensures ok { IfOk result (λ t. Lexes (version_value start) window.old window.new (tok_of t)) }
@@ -136,25 +94,12 @@ fn read_version<T: Characters>(window: &mut Window<T>, start: Marker) -> Result<
 {
     skip_blanks(window);
     let major = read_number(window, start)?;
-    read_minor(window, start, major)
-}
-
-/// Reads the prefix of a tag directive, with the blanks before it.
-fn read_tag_prefix<T: Characters>(
-    alloc: Global,
-    window: &mut Window<T>,
-    start: Marker,
-    handle: TextBuilder,
-) -> Result<TokenType, Fault>
-    ensures ok { IfOk result (λ t. Reads window.old window.new (λ a b. prefix_after start handle (blanks a (position_of window.old)) ≡ Ok (read b window.new (tok_of t)))) }
-    ensures err { IfErr result (λ e. Reads window.old window.new (λ a b. e ≢ Fault.OutOfMemory → prefix_after start handle (blanks a (position_of window.old)) ≡ Err e)) }
-{
-    skip_blanks(window);
-    let prefix = read_prefix(alloc, window, start)?;
-    if !is_blank_or_breakz(window.look_ch()) {
-        return Err(Fault::At(Problem::TagDirectiveEnd, start));
+    if window.look_ch() != '.' {
+        return Err(Fault::At(Problem::VersionDot, start));
     }
-    Ok(TokenType::TagDirective(handle.into_string(), prefix.into_string()))
+    window.skip();
+    let minor = read_number(window, start)?;
+    Ok(TokenType::VersionDirective(major, minor))
 }
 
 /// Reads a handle and its prefix.
@@ -169,7 +114,12 @@ fn read_tag_directive<T: Characters>(
 {
     skip_blanks(window);
     let handle = read_handle(alloc, window, start)?;
-    read_tag_prefix(alloc, window, start, handle)
+    skip_blanks(window);
+    let prefix = read_prefix(alloc, window, start)?;
+    if !is_blank_or_breakz(window.look_ch()) {
+        return Err(Fault::At(Problem::TagDirectiveEnd, start));
+    }
+    Ok(TokenType::TagDirective(handle.into_string(), prefix.into_string()))
 }
 
 /// Reads what a directive says, up to what may stand before its line's end.
@@ -193,12 +143,13 @@ fn read_value<T: Characters>(
     }
 }
 
-/// Steps over the break after a directive, if one stands here.
-#[tactic(auto, using(model_scanner::proofs::DirectiveLemmas::break_stands, model_scanner::proofs::DirectiveLemmas::break_fails), unfolding(model_scanner::specs::Directive::directive_break))]
-fn skip_directive_break<T: Characters>(window: &mut Window<T>, start: Marker) -> Result<(), Fault>
-    ensures ok { IfOk result (λ _. Lexes (directive_break start) window.old window.new tt) }
-    ensures err { IfErr result (λ e. Refuses (directive_break start) window.old window.new e) }
+/// Steps over a directive's line from after its value on, with its break.
+#[tactic(auto, using(model_scanner::proofs::DirectiveLemmas::break_stands, model_scanner::proofs::DirectiveLemmas::break_fails), unfolding(model_scanner::specs::Directive::directive_break, model_scanner::specs::Directive::line_end))]
+fn skip_line_end<T: Characters>(window: &mut Window<T>, start: Marker) -> Result<(), Fault>
+    ensures ok { IfOk result (λ _. Lexes (line_end start) window.old window.new tt) }
+    ensures err { IfErr result (λ e. Refuses (line_end start) window.old window.new e) }
 {
+    skip_ws_to_eol(window, SkipTabs::Yes)?;
     let c = window.look_ch();
     if c == '\0' {
         return Ok(());
@@ -208,31 +159,6 @@ fn skip_directive_break<T: Characters>(window: &mut Window<T>, start: Marker) ->
     }
     skip_linebreak(window);
     Ok(())
-}
-
-/// Steps over a directive's line from after its value on, with its break.
-#[tactic(auto, unfolding(model_scanner::specs::Directive::line_end))]
-fn skip_line_end<T: Characters>(window: &mut Window<T>, start: Marker) -> Result<(), Fault>
-    ensures ok { IfOk result (λ _. Lexes (line_end start) window.old window.new tt) }
-    ensures err { IfErr result (λ e. Refuses (line_end start) window.old window.new e) }
-{
-    skip_ws_to_eol(window, SkipTabs::Yes)?;
-    skip_directive_break(window, start)
-}
-
-/// Reads a directive after its name.
-fn read_named<T: Characters>(
-    alloc: Global,
-    window: &mut Window<T>,
-    start: Marker,
-    directive: Directive,
-) -> Result<TokenType, Fault>
-    ensures ok { IfOk result (λ t. Reads window.old window.new (λ a b. after_name start (read a window.old (kind_shown directive)) ≡ Ok (read b window.new (tok_of t)))) }
-    ensures err { IfErr result (λ e. Reads window.old window.new (λ a b. e ≢ Fault.OutOfMemory → after_name start (read a window.old (kind_shown directive)) ≡ Err e)) }
-{
-    let token = read_value(alloc, window, start, directive)?;
-    skip_line_end(window, start)?;
-    Ok(token)
 }
 
 /// Reads a directive, from the `%` to after its line's break. One of an unknown name is a tag
@@ -251,5 +177,7 @@ pub fn read_directive<T: Characters>(
     let start = window.mark();
     window.skip();
     let directive = skip_name(window)?;
-    read_named(alloc, window, start, directive)
+    let token = read_value(alloc, window, start, directive)?;
+    skip_line_end(window, start)?;
+    Ok(token)
 }

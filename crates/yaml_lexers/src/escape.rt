@@ -1,50 +1,23 @@
 //! Escapes of double-quoted scalars (YAML 1.2, section 5.7).
-ghost use Rattle.std.specs.Prelude.{◌≡◌, ◌≢◌, ◌≤◌, ◌<◌, ◌+◌, ◌*◌, ℕ, zero, suc, Bool, true, false, Ok, Err, OnOk, IfOk, IfErr, slice_index, MatchOption, if◌then◌else◌};
+ghost use Rattle.std.specs.Prelude.{◌≡◌, ◌≢◌, ◌<◌, true, false, Ok, Err, OnOk, IfErr, if◌then◌else◌};
 ghost use Rattle.defs_text.specs.Position.{Position};
-ghost use Rattle.yaml_chars.specs.WindowView.{Reads, Sees, HasChar, SamePosition, position_of};
+ghost use Rattle.yaml_chars.specs.WindowView.{Reads, SamePosition, position_of};
 ghost use Rattle.model_scanner.specs.declared.context.Context.{Context};
 ghost use Rattle.model_scanner.specs.Folding.{Folded};
-ghost use Rattle.model_scanner.specs.Quoted.{escape_of, is_scalar, digits_from, quoted_from, inside, breaking, named};
-ghost use Rattle.yaml_lexers.specs.ShownQuoted.{at, at_folded, mode_of, escape_shown, count_of, ReadsOn, Shows};
+ghost use Rattle.model_scanner.specs.Quoted.{escape_of, count_of, is_scalar, digits_from, quoted_from, at_part, inside, breaking, named};
+ghost use Rattle.yaml_lexers.specs.ShownQuoted.{at, at_folded, ReadsOn, Shows};
 ghost use Rattle.yaml_lexers.specs.Shown.{folded};
 
 use crate::folding::Folding;
-use crate::quoted::{Part, Quote, read_run, take_closing};
+use crate::quoted::{Quote, read_run, take_closing};
+use model_scanner::{Digits, Escape, QuotedPart};
 use yaml_chars::class::{hex_value, is_break, is_hex};
-use yaml_chars::{Characters, Marker, Window};
+use yaml_chars::{Characters, Window};
 use yaml_tokens::{Fault, Problem};
-
-/// How many hexadecimal digits a code has.
-#[derive(Clone, Copy)]
-enum Digits {
-    Two,
-    Four,
-    Eight,
-}
-
-impl Digits {
-    fn count(self) -> usize
-        ensures { result ≡ count_of self }
-    {
-        match self {
-            Digits::Two => 2,
-            Digits::Four => 4,
-            Digits::Eight => 8,
-        }
-    }
-}
-
-/// What stands after a backslash: a character's name, or what begins its code.
-#[derive(Clone, Copy)]
-enum Escape {
-    Char(char),
-    Code(Digits),
-    Unknown,
-}
 
 #[tactic(auto, unfolding(model_scanner::specs::Quoted::escape_of))]
 fn escape_of(c: char) -> Escape
-    ensures value { escape_shown result ≡ escape_of c }
+    ensures value { result ≡ escape_of c }
     ensures some { result ≢ Escape.Unknown → c ≢ 0 }
 {
     match c {
@@ -69,56 +42,9 @@ fn escape_of(c: char) -> Escape
     }
 }
 
-/// Reads a hexadecimal digit.
-#[inline(always)]
-#[tactic(auto, using(model_scanner::proofs::QuotedLemmas::digit_turn, model_scanner::proofs::QuotedLemmas::digit_fails))]
-fn read_digit<T: Characters>(window: &mut Window<T>, start: Marker) -> Result<u32, Fault>
-    ensures ok { IfOk result (λ n. Reads window.old window.new (λ a b. (single : Bool) (context : Context) (more value : ℕ) (t : Folded) →
-        digits_from single context start (suc more) value a (position_of window.old) t ≡ digits_from single context start more (value * 16 + n) b (position_of window.new) t)) }
-    ensures err { IfErr result (λ e. Reads window.old window.new (λ a b. (single : Bool) (context : Context) (more value : ℕ) (t : Folded) →
-        digits_from single context start (suc more) value a (position_of window.old) t ≡ Err e)) }
-    ensures small { IfOk result (λ n. n < 16) }
-{
-    let c = window.look_ch();
-    if !is_hex(c) {
-        return Err(Fault::At(Problem::HexadecimalDigit, start));
-    }
-    window.skip();
-    Ok(hex_value(c))
-}
-
-/// The character of a code, if it is one's.
-#[tactic(auto, unfolding(model_scanner::specs::Quoted::is_scalar))]
-fn char_of(code: u32) -> Option<char>
-    ensures { MatchOption result (is_scalar code ≡ false) (λ c. (c ≡ code) × (is_scalar code ≡ true)) }
-{
-    char::from_u32(code)
-}
-
-/// Reads a code's digits.
-fn read_code<T: Characters>(
-    window: &mut Window<T>,
-    start: Marker,
-    digits: Digits,
-) -> Result<u32, Fault>
-    ensures ok { IfOk result (λ n. Reads window.old window.new (λ a b. (single : Bool) (context : Context) (t : Folded) →
-        digits_from single context start (count_of digits) 0 a (position_of window.old) t ≡ digits_from single context start zero n b (position_of window.new) t)) }
-    ensures err { IfErr result (λ e. Reads window.old window.new (λ a b. (single : Bool) (context : Context) (t : Folded) →
-        digits_from single context start (count_of digits) 0 a (position_of window.old) t ≡ Err e)) }
-{
-    let mut code = 0;
-    let mut left = digits.count();
-    'digits: while left > 0 {
-        let digit = read_digit(window, start)?;
-        code = code * 16 + digit;
-        left -= 1;
-    }
-    Ok(code)
-}
-
 /// Reads a code's digits. The code has to be a character's.
-#[tactic(auto, using(model_scanner::proofs::QuotedLemmas::coded, model_scanner::proofs::QuotedLemmas::coded_fails))]
-fn read_coded<T: Characters>(
+#[tactic(auto, using(model_scanner::proofs::QuotedLemmas::digit_turn, model_scanner::proofs::QuotedLemmas::digit_fails, model_scanner::proofs::QuotedLemmas::coded, model_scanner::proofs::QuotedLemmas::coded_fails), unfolding(model_scanner::specs::Quoted::is_scalar))]
+fn read_code<T: Characters>(
     window: &mut Window<T>,
     quote: &Quote,
     digits: Digits,
@@ -129,8 +55,18 @@ fn read_coded<T: Characters>(
     ensures err { IfErr result (λ e. Reads window.old window.new (λ a b. e ≢ Fault.OutOfMemory →
         digits_from quote.now.single quote.now.context quote.now.start (count_of digits) 0 a (position_of window.old) (folded scalar.old) ≡ Err e)) }
 {
-    let code = read_code(window, quote.start, digits)?;
-    let Some(c) = char_of(code) else {
+    let mut code = 0;
+    let mut left = digits as usize;
+    'digits: while left > 0 {
+        let c = window.look_ch();
+        if !is_hex(c) {
+            return Err(Fault::At(Problem::HexadecimalDigit, quote.start));
+        }
+        window.skip();
+        code = code * 16 + hex_value(c);
+        left -= 1;
+    }
+    let Some(c) = char::from_u32(code) else {
         return Err(Fault::At(Problem::EscapedCode, quote.start));
     };
     scalar.push(c)?;
@@ -157,7 +93,7 @@ fn read_named<T: Characters>(
         Escape::Unknown => Err(Fault::At(Problem::UnknownEscape, quote.start)),
         Escape::Code(digits) => {
             window.skip();
-            read_coded(window, quote, digits, scalar)
+            read_code(window, quote, digits, scalar)
         }
     }
 }
@@ -194,14 +130,14 @@ pub(crate) fn read_escapes<T: Characters>(
     window: &mut Window<T>,
     quote: &Quote,
     scalar: &mut Folding,
-) -> Result<Part, Fault>
+) -> Result<QuotedPart, Fault>
     requires double { quote.now.single ≡ false }
     requires here { Shows window.old 2 92 }
-    ensures { ReadsOn quote.now inside window.old scalar.old result mode_of window.new scalar.new }
+    ensures { ReadsOn quote.now inside window.old scalar.old result at_part window.new scalar.new }
 {
     'escapes: loop {
         if skip_backslash(window) {
-            return Ok(Part::Breaking);
+            return Ok(QuotedPart::Breaking);
         }
         read_named(window, quote, scalar)?;
         if !at_backslash(window) {

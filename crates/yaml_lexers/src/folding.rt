@@ -1,7 +1,7 @@
 //! Lines of a flow scalar, folded.
 ghost use Rattle.std.specs.Prelude.{◌≡◌, OnOk, OnErr, true, false, []};
 ghost use Rattle.yaml_chars.specs.WindowView.{Reads, position_of};
-ghost use Rattle.model_scanner.specs.Folding.{nothing, with_char, with_blank, with_break, with_escaped_break, joined};
+ghost use Rattle.model_scanner.specs.Folding.{nothing, with_char, with_blank, with_break, joined};
 ghost use Rattle.yaml_lexers.specs.Shown.{folded, AddsWords};
 
 use std::alloc::{AllocError, Global};
@@ -40,29 +40,8 @@ impl Folding {
         }
     }
 
-    /// Whether words may be looked for: nothing stands between the text and the next character, and not too many looks
-    /// were in vain.
-    #[inline(always)]
-    fn may_look(&self) -> bool
-        ensures gap { result ≡ true → (folded self.now).gap ≡ [] }
-        ensures leading { result ≡ true → (folded self.now).leading ≡ false }
-        ensures escaped { result ≡ true → (folded self.now).escaped ≡ false }
-    {
-        self.looks > 0 && self.is_joined()
-    }
-
-    /// Notes whether words were found.
-    #[inline(always)]
-    fn note_look(&mut self, found: bool)
-        ensures { folded self.new ≡ folded self.old }
-    {
-        if !found {
-            self.looks = self.looks.saturating_sub(1);
-        }
-    }
-
-    /// Takes words, and lone blanks between them, as far as they are known to come, if they may be looked for. The result is
-    /// whether some were known.
+    /// Takes words, and lone blanks between them, as far as they are known to come, if nothing stands between the text and
+    /// the next character, and not too many looks were in vain. The result is whether some were known.
     #[inline(always)]
     pub(crate) fn take_words<T: Characters>(
         &mut self,
@@ -72,11 +51,13 @@ impl Folding {
         ensures ok { OnOk result (Reads window.old window.new (λ a b. AddsWords run a b (position_of window.old) (position_of window.new) (folded self.old) (folded self.new))) }
         ensures err { OnErr result (Reads window.old window.new (λ _ _. Unit {0})) }
     {
-        if !self.may_look() {
+        if self.looks == 0 || !self.is_joined() {
             return Ok(false);
         }
         let known = window.take_words(run, &mut self.text)?;
-        self.note_look(known);
+        if !known {
+            self.looks -= 1;
+        }
         Ok(known)
     }
 
@@ -125,14 +106,6 @@ impl Folding {
             self.leading = true;
         }
         Ok(())
-    }
-
-    /// A break that the text does not have.
-    pub(crate) fn escape_break(&mut self)
-        ensures { folded self.new ≡ with_escaped_break (folded self.old) }
-    {
-        self.leading = true;
-        self.escaped = true;
     }
 
     /// The gap becomes text. A lone break is a space.

@@ -1,7 +1,7 @@
 //! Headers of block scalars (YAML 1.2, section 8.1.1).
 ghost use Rattle.std.specs.Prelude.{◌≡◌, ◌<◌, true, false, Ok, Err, IfOk, IfErr};
 ghost use Rattle.yaml_chars.specs.WindowView.{Reads, position_of};
-ghost use Rattle.model_scanner.specs.BlockScalar.{chomping, increment, indicators, header_break, header_end, header};
+ghost use Rattle.model_scanner.specs.BlockScalar.{chomping, increment, indicators, header_end, header};
 ghost use Rattle.yaml_lexers.specs.Shown.{read};
 ghost use Rattle.yaml_lexers.specs.ShownBlock.{indicators_shown, header_shown};
 
@@ -75,12 +75,13 @@ fn read_indicators<T: Characters>(
     }
 }
 
-/// Steps over the break after a header, if one stands here. The answer is whether it did.
-#[tactic(auto, using(model_scanner::proofs::BlockLemmas::break_stands, model_scanner::proofs::BlockLemmas::header_fails), unfolding(model_scanner::specs::BlockScalar::header_break))]
-fn end_line<T: Characters>(window: &mut Window<T>, start: Marker) -> Result<bool, Fault>
-    ensures ok { IfOk result (λ broken. Reads window.old window.new (λ a b. header_break start a (position_of window.old) ≡ Ok (read b window.new broken))) }
-    ensures err { IfErr result (λ e. Reads window.old window.new (λ a b. header_break start a (position_of window.old) ≡ Err e)) }
+/// Steps over the rest of a header's line, with its break. The answer is whether a break ended it.
+#[tactic(auto, using(model_scanner::proofs::BlockLemmas::break_stands, model_scanner::proofs::BlockLemmas::header_fails), unfolding(model_scanner::specs::BlockScalar::header_break, model_scanner::specs::BlockScalar::header_end))]
+fn end_header<T: Characters>(window: &mut Window<T>, start: Marker) -> Result<bool, Fault>
+    ensures ok { IfOk result (λ broken. Reads window.old window.new (λ a b. header_end start a (position_of window.old) ≡ Ok (read b window.new broken))) }
+    ensures err { IfErr result (λ e. Reads window.old window.new (λ a b. header_end start a (position_of window.old) ≡ Err e)) }
 {
+    skip_ws_to_eol(window, SkipTabs::Yes)?;
     let c = window.look_ch();
     if c == '\0' {
         return Ok(false);
@@ -93,16 +94,6 @@ fn end_line<T: Characters>(window: &mut Window<T>, start: Marker) -> Result<bool
         return Err(Fault::At(Problem::BlockScalarTab, start));
     }
     Ok(true)
-}
-
-/// Steps over the rest of a header's line. The answer is whether a break ended it.
-#[tactic(auto, unfolding(model_scanner::specs::BlockScalar::header_end))]
-fn end_header<T: Characters>(window: &mut Window<T>, start: Marker) -> Result<bool, Fault>
-    ensures ok { IfOk result (λ broken. Reads window.old window.new (λ a b. header_end start a (position_of window.old) ≡ Ok (read b window.new broken))) }
-    ensures err { IfErr result (λ e. Reads window.old window.new (λ a b. header_end start a (position_of window.old) ≡ Err e)) }
-{
-    skip_ws_to_eol(window, SkipTabs::Yes)?;
-    end_line(window, start)
 }
 
 /// Reads a header from after the `|` or `>` on, with its line's break.

@@ -2,11 +2,10 @@
 ghost use Rattle.std.specs.Prelude.{◌≡◌, ◌≢◌, ◌≤◌, ◌<◌, true, false, Ok, Err, OnOk, OnErr, IfOk, IfErr, slice_index};
 ghost use Rattle.defs_text.specs.Position.{Position};
 ghost use Rattle.yaml_chars.specs.WindowView.{Reads, Sees, HasChar, SamePosition, position_of};
-ghost use Rattle.yaml_chars.specs.Words.{begins_word};
 ghost use Rattle.model_scanner.specs.declared.context.Context.{Context};
 ghost use Rattle.model_scanner.specs.Folding.{Folded};
-ghost use Rattle.model_scanner.specs.Machine.{is_marker, at_marker};
-ghost use Rattle.model_scanner.specs.Plain.{can_be_plain, is_shallow, at_dash, at_plain, goes_on, starts, plain, plain_from, first, inside, between, ends_gap};
+ghost use Rattle.model_scanner.specs.Machine.{at_marker};
+ghost use Rattle.model_scanner.specs.Plain.{can_be_plain, is_shallow, at_dash, goes_on, starts, plain, plain_from, first, inside, between, ends_gap};
 ghost use Rattle.yaml_lexers.specs.Shown.{Lexes, Refuses, at, at_folded, plain_shown, EndsHere};
 
 use crate::folding::{FEW, Folding};
@@ -52,28 +51,6 @@ fn read_known<T: Characters>(
     scalar.take_words(window, Run::Plain(context.flow))
 }
 
-/// Reads the next few characters of a word. The result is whether it has so many.
-#[inline(always)]
-fn read_few<T: Characters>(
-    window: &mut Window<T>,
-    context: Context,
-    scalar: &mut Folding,
-) -> Result<bool, AllocError>
-    ensures ok { OnOk result (Reads window.old window.new (λ a b. (start : Position) →
-        plain_from context start a (at inside window.old scalar.old) ≡ plain_from context start b (at inside window.new scalar.new))) }
-    ensures err { OnErr result (Reads window.old window.new (λ _ _. Unit {0})) }
-{
-    let mut left = FEW;
-    'few: while left > 0 {
-        let Some(c) = window.take(Run::Plain(context.flow)) else {
-            return Ok(false);
-        };
-        scalar.push(c)?;
-        left -= 1;
-    }
-    Ok(true)
-}
-
 /// Reads a word, and where it has more than a few characters and the text is known, those after it too. The result is
 /// whether words may be looked for after it.
 #[inline(always)]
@@ -86,8 +63,13 @@ fn read_ahead<T: Characters>(
         plain_from context start a (at inside window.old scalar.old) ≡ plain_from context start b (at inside window.new scalar.new))) }
     ensures err { OnErr result (Reads window.old window.new (λ _ _. Unit {0})) }
 {
-    if !read_few(window, context, scalar)? {
-        return Ok(true);
+    let mut left = FEW;
+    'few: while left > 0 {
+        let Some(c) = window.take(Run::Plain(context.flow)) else {
+            return Ok(true);
+        };
+        scalar.push(c)?;
+        left -= 1;
     }
     if read_known(window, context, scalar)? {
         return Ok(true);
@@ -110,15 +92,6 @@ fn read_word<T: Characters>(
     Ok(())
 }
 
-/// Whether a character after a lone blank is one of the scalar, whatever comes after it.
-#[inline(always)]
-#[tactic(auto, unfolding(yaml_chars::specs::Words::begins_word))]
-fn begins_word(c: char) -> bool
-    ensures { result ≡ begins_word (Run.Plain true) c }
-{
-    !Run::Plain(true).stops(c) && c != '#' && c != '-'
-}
-
 /// Takes a blank that stands alone between two characters of a line.
 #[inline(always)]
 fn take_lone_blank<T: Characters>(
@@ -137,8 +110,13 @@ fn take_lone_blank<T: Characters>(
         return Ok(false);
     }
     window.lookahead(2);
+    // After a lone blank any other character is one of the scalar, whatever comes after it.
+    let next = window.peek(1);
+    if Run::Plain(true).stops(next) || next == '#' || next == '-' {
+        return Ok(false);
+    }
     let col = window.mark().col();
-    if !begins_word(window.peek(1)) || is_shallow(context, col + 1) || !scalar.is_joined() {
+    if is_shallow(context, col + 1) || !scalar.is_joined() {
         return Ok(false);
     }
     window.skip();
@@ -190,23 +168,6 @@ fn read_words<T: Characters>(
     }
 }
 
-/// Reads the characters of a word one by one. Where they are few, that is the fastest.
-#[inline(always)]
-fn read_each<T: Characters>(
-    window: &mut Window<T>,
-    context: Context,
-    scalar: &mut Folding,
-) -> Result<(), AllocError>
-    ensures ok { OnOk result (Reads window.old window.new (λ a b. (start : Position) →
-        plain_from context start a (at inside window.old scalar.old) ≡ plain_from context start b (at inside window.new scalar.new))) }
-    ensures err { OnErr result (Reads window.old window.new (λ _ _. Unit {0})) }
-{
-    'each: while let Some(c) = window.take(Run::Plain(context.flow)) {
-        scalar.push(c)?;
-    }
-    Ok(())
-}
-
 /// Reads words, or only the characters of one.
 #[inline(always)]
 fn read_piece<T: Characters>(
@@ -222,7 +183,11 @@ fn read_piece<T: Characters>(
     if words {
         return read_words(window, context, scalar);
     }
-    read_each(window, context, scalar)
+    // Where the characters of a word are few, one by one is the fastest.
+    'each: while let Some(c) = window.take(Run::Plain(context.flow)) {
+        scalar.push(c)?;
+    }
+    Ok(())
 }
 
 /// Reads the characters up to a blank, a break, the end, or what ends a plain scalar. The result is whether a gap may
@@ -257,13 +222,6 @@ fn read_run<T: Characters>(
     }
 }
 
-#[tactic(auto, unfolding(model_scanner::specs::Machine::is_marker))]
-fn is_marker(c: char, d: char, e: char, f: char) -> bool
-    ensures { result ≡ is_marker c d e f }
-{
-    (c == '-' && d == '-' && e == '-' || c == '.' && d == '.' && e == '.') && is_blank_or_breakz(f)
-}
-
 /// Sees to it that the next two characters are in the window, and four where a document marker may stand: at a line's
 /// first column.
 #[inline(always)]
@@ -278,7 +236,7 @@ pub(crate) fn look_ahead<T: Characters>(window: &mut Window<T>)
 }
 
 /// Whether a document marker stands here.
-#[tactic(auto, unfolding(model_scanner::specs::Machine::at_marker))]
+#[tactic(auto, unfolding(model_scanner::specs::Machine::at_marker, model_scanner::specs::Machine::is_marker))]
 pub(crate) fn at_marker<T: Characters>(window: &Window<T>) -> bool
     requires { window.now.col ≡ 0 → 4 ≤ window.now.ahead }
     ensures { Sees window.now (λ a. result ≡ at_marker window.now.col a) }
@@ -286,12 +244,9 @@ pub(crate) fn at_marker<T: Characters>(window: &Window<T>) -> bool
     if window.mark().col() != 0 {
         return false;
     }
-    is_marker(
-        window.peek(0),
-        window.peek(1),
-        window.peek(2),
-        window.peek(3),
-    )
+    let (c, d, e) = (window.peek(0), window.peek(1), window.peek(2));
+    (c == '-' && d == '-' && e == '-' || c == '.' && d == '.' && e == '.')
+        && is_blank_or_breakz(window.peek(3))
 }
 
 /// Whether a dash stands here that no plain scalar may begin with.
@@ -303,17 +258,6 @@ fn at_dash<T: Characters>(window: &Window<T>, flow: bool) -> bool
     flow && window.peek(0) == '-' && is_flow(window.peek(1))
 }
 
-/// Whether a character stands here that may be one of a plain scalar.
-#[tactic(auto, unfolding(model_scanner::specs::Plain::at_plain))]
-fn at_plain<T: Characters>(window: &Window<T>, flow: bool) -> bool
-    requires { 2 ≤ window.now.ahead }
-    ensures sees { Sees window.now (λ a. result ≡ at_plain flow a) }
-    ensures has { result ≡ true → HasChar window.now }
-{
-    let c = window.peek(0);
-    !is_blank_or_breakz(c) && can_be_plain(flow, c, window.peek(1))
-}
-
 #[tactic(auto, unfolding(model_scanner::specs::Plain::is_shallow))]
 fn is_shallow(context: Context, col: usize) -> bool
     ensures { result ≡ is_shallow context col }
@@ -322,7 +266,7 @@ fn is_shallow(context: Context, col: usize) -> bool
 }
 
 /// Whether a scalar goes on at a character after a gap.
-#[tactic(auto, unfolding(model_scanner::specs::Plain::goes_on))]
+#[tactic(auto, unfolding(model_scanner::specs::Plain::goes_on, model_scanner::specs::Plain::at_plain))]
 fn goes_on<T: Characters>(window: &mut Window<T>, context: Context) -> Result<bool, Fault>
     ensures reads { Reads window.old window.new (λ a b. (b ≡ a) × (result ≡ goes_on context a (position_of window.old))) }
     ensures position { SamePosition window.old window.new }
@@ -334,13 +278,14 @@ fn goes_on<T: Characters>(window: &mut Window<T>, context: Context) -> Result<bo
     if is_shallow(context, mark.col()) {
         return Ok(false);
     }
-    if window.ch() == '#' || at_marker(window) {
+    let c = window.ch();
+    if c == '#' || at_marker(window) {
         return Ok(false);
     }
     if at_dash(window, context.flow) {
         return Err(Fault::At(Problem::PlainDashInFlow, mark));
     }
-    Ok(at_plain(window, context.flow))
+    Ok(!is_blank_or_breakz(c) && can_be_plain(context.flow, c, window.peek(1)))
 }
 
 /// Steps over a TAB at the indentation's position and the blanks after it, up to the end of the

@@ -1,35 +1,21 @@
 //! Quoted scalars (YAML 1.2, sections 7.3.1 and 7.3.2).
-ghost use Rattle.std.specs.Prelude.{◌≡◌, ◌≢◌, ◌≤◌, ◌<◌, ◌^◌, ◌+◌, ◌==◌, ◌||◌, true, false, Ok, Err, OnOk, OnErr, IfOk, IfErr};
+ghost use Rattle.std.specs.Prelude.{◌≡◌, ◌≢◌, ◌≤◌, ◌<◌, ◌==◌, ◌||◌, true, false, Ok, Err, OnOk, OnErr, IfOk, IfErr};
 ghost use Rattle.yaml_chars.specs.Class.{is_blank, is_break};
-ghost use Rattle.yaml_chars.specs.WindowView.{Reads, Sees, HasChar, position_of};
+ghost use Rattle.yaml_chars.specs.WindowView.{Reads, HasChar};
 ghost use Rattle.defs_text.specs.Text.{string_chars};
-ghost use Rattle.model_scanner.specs.Quoted.{quote_of, refused, quoted, quoted_from, first, inside, gap, breaking, after, doubled, closed};
+ghost use Rattle.model_scanner.specs.Quoted.{quote_of, refused, quoted, quoted_from, at_part, first, inside, gap};
 ghost use Rattle.model_scanner.specs.Folding.{Folded, nothing};
 ghost use Rattle.yaml_lexers.specs.Shown.{Lexes, Refuses, folded};
-ghost use Rattle.yaml_lexers.specs.ShownQuoted.{mode_of, at_folded, GoesOn, AllGoOn, IsRefused, ReadsOn, Shows};
+ghost use Rattle.yaml_lexers.specs.ShownQuoted.{at_folded, GoesOn, ReadsOn, Shows};
 
 use crate::escape::read_escapes;
 use crate::folding::{FEW, Folding};
 use crate::plain::{at_marker, look_ahead};
-use model_scanner::Context;
+use model_scanner::{Context, QuotedPart};
 use std::alloc::{AllocError, Global};
 use yaml_chars::class::{is_blank, is_blank_or_breakz, is_break};
 use yaml_chars::{Characters, Marker, Run, Window};
 use yaml_tokens::{Fault, Problem};
-
-/// What stands next in a quoted scalar: its first character, the next one of a line, what comes in
-/// or after a gap of blanks and breaks, an escaped break, what comes after that, a second quote,
-/// what a backslash names, or what comes after the closing quote.
-#[derive(Clone, Copy, PartialEq, Eq)]
-pub(crate) enum Part {
-    First,
-    Inside,
-    Gap,
-    Breaking,
-    After,
-    Doubled,
-    Closed,
-}
 
 /// A quoted scalar that is being read: whether its quotes are single, what surrounds it, and the position of its first quote.
 #[derive(Clone, Copy)]
@@ -44,21 +30,6 @@ fn quote_of(single: bool) -> char
     ensures some { result ≢ 0 }
 {
     if single { '\'' } else { '"' }
-}
-
-/// Refuses a document marker and a line that stands too far left.
-#[tactic(auto, unfolding(model_scanner::specs::Quoted::refused))]
-fn check_line<T: Characters>(window: &Window<T>, quote: &Quote) -> Result<(), Fault>
-    requires { window.now.col ≡ 0 → 4 ≤ window.now.ahead }
-    ensures { Sees window.now (λ a. result ≡ refused quote.now.context quote.now.start a (position_of window.now)) }
-{
-    if at_marker(window) {
-        return Err(Fault::At(Problem::QuotedDocumentMarker, quote.start));
-    }
-    if window.mark().col() + 1 < quote.context.indent {
-        return Err(Fault::At(Problem::QuotedIndentation, quote.start));
-    }
-    Ok(())
 }
 
 /// Reads a blank or a break.
@@ -89,31 +60,6 @@ fn read_gap<T: Characters>(
     Ok(())
 }
 
-/// Reads a character that is no blank and no break.
-#[inline(always)]
-fn read_inside<T: Characters>(
-    window: &mut Window<T>,
-    quote: &Quote,
-    c: char,
-    scalar: &mut Folding,
-) -> Result<Part, Fault>
-    requires other { (is_break c || is_blank c) ≡ false }
-    requires here { Shows window.old 2 c }
-    ensures { ReadsOn quote.now inside window.old scalar.old result mode_of window.new scalar.new }
-{
-    if c == '\\' && !quote.single {
-        return read_escapes(window, quote, scalar);
-    }
-    if c == quote_of(quote.single) {
-        let doubled = quote.single && window.peek(1) == '\'';
-        window.skip();
-        return Ok(if doubled { Part::Doubled } else { Part::Closed });
-    }
-    scalar.push(c)?;
-    window.skip();
-    Ok(Part::Inside)
-}
-
 /// Reads a character of a line.
 #[inline(always)]
 #[tactic(auto, using(model_scanner::proofs::QuotedLemmas::inside_gap))]
@@ -122,32 +68,51 @@ fn read_in_line<T: Characters>(
     quote: &Quote,
     c: char,
     scalar: &mut Folding,
-) -> Result<Part, Fault>
+) -> Result<QuotedPart, Fault>
     requires here { Shows window.old 2 c }
-    ensures { ReadsOn quote.now inside window.old scalar.old result mode_of window.new scalar.new }
+    ensures { ReadsOn quote.now inside window.old scalar.old result at_part window.new scalar.new }
 {
     if is_break(c) || is_blank(c) {
         read_gap(window, quote, c, scalar)?;
-        return Ok(Part::Gap);
+        return Ok(QuotedPart::Gap);
     }
-    read_inside(window, quote, c, scalar)
+    if c == '\\' && !quote.single {
+        return read_escapes(window, quote, scalar);
+    }
+    if c == quote_of(quote.single) {
+        let doubled = quote.single && window.peek(1) == '\'';
+        window.skip();
+        return Ok(if doubled {
+            QuotedPart::Doubled
+        } else {
+            QuotedPart::Closed
+        });
+    }
+    scalar.push(c)?;
+    window.skip();
+    Ok(QuotedPart::Inside)
 }
 
-/// Reads the first character of a line, or one after a gap.
+/// Reads the first character of a line, or one after a gap. A document marker is refused, and a character too far left.
 #[inline(always)]
-#[tactic(auto, using(model_scanner::proofs::QuotedLemmas::line_inside, model_scanner::proofs::QuotedLemmas::line_fails))]
+#[tactic(auto, using(model_scanner::proofs::QuotedLemmas::line_inside, model_scanner::proofs::QuotedLemmas::line_fails), unfolding(model_scanner::specs::Quoted::refused))]
 fn read_line<T: Characters>(
     window: &mut Window<T>,
     quote: &Quote,
     c: char,
     scalar: &mut Folding,
-) -> Result<Part, Fault>
+) -> Result<QuotedPart, Fault>
     requires some { c ≢ 0 }
     requires here { Shows window.old 2 c }
     requires marker { window.old.col ≡ 0 → 4 ≤ window.old.ahead }
-    ensures { ReadsOn quote.now first window.old scalar.old result mode_of window.new scalar.new }
+    ensures { ReadsOn quote.now first window.old scalar.old result at_part window.new scalar.new }
 {
-    check_line(window, quote)?;
+    if at_marker(window) {
+        return Err(Fault::At(Problem::QuotedDocumentMarker, quote.start));
+    }
+    if window.mark().col() + 1 < quote.context.indent {
+        return Err(Fault::At(Problem::QuotedIndentation, quote.start));
+    }
     scalar.join()?;
     read_in_line(window, quote, c, scalar)
 }
@@ -159,79 +124,29 @@ fn read_in_gap<T: Characters>(
     quote: &Quote,
     c: char,
     scalar: &mut Folding,
-) -> Result<Part, Fault>
+) -> Result<QuotedPart, Fault>
     requires some { c ≢ 0 }
     requires here { Shows window.old 2 c }
     requires marker { window.old.col ≡ 0 → 4 ≤ window.old.ahead }
-    ensures { ReadsOn quote.now gap window.old scalar.old result mode_of window.new scalar.new }
+    ensures { ReadsOn quote.now gap window.old scalar.old result at_part window.new scalar.new }
 {
     if is_break(c) || is_blank(c) {
         read_gap(window, quote, c, scalar)?;
-        return Ok(Part::Gap);
+        return Ok(QuotedPart::Gap);
     }
     read_line(window, quote, c, scalar)
 }
 
-/// Reads a character after an escaped break.
-#[tactic(auto, using(model_scanner::proofs::QuotedLemmas::after_quote, model_scanner::proofs::QuotedLemmas::after_gap))]
-fn read_after<T: Characters>(
-    window: &mut Window<T>,
-    quote: &Quote,
-    c: char,
-    scalar: &mut Folding,
-) -> Result<Part, Fault>
-    requires some { c ≢ 0 }
-    requires here { Shows window.old 2 c }
-    requires marker { window.old.col ≡ 0 → 4 ≤ window.old.ahead }
-    ensures { ReadsOn quote.now after window.old scalar.old result mode_of window.new scalar.new }
-{
-    if c == quote_of(quote.single) {
-        return read_in_line(window, quote, c, scalar);
-    }
-    read_in_gap(window, quote, c, scalar)
-}
-
-/// Reads an escaped break.
-fn read_escaped_break<T: Characters>(window: &mut Window<T>, scalar: &mut Folding) -> Part
-    requires has { HasChar window.old }
-    requires ahead { 2 ≤ window.old.ahead }
-    ensures reads { AllGoOn breaking window.old scalar.old (mode_of result) window.new scalar.new }
-    ensures less { window.new.left < window.old.left }
-{
-    if window.at_cr_lf() {
-        window.skip();
-        return Part::Breaking;
-    }
-    window.skip_break();
-    scalar.escape_break();
-    Part::After
-}
-
-/// Reads the second one of two quotes.
-fn read_doubled<T: Characters>(
-    window: &mut Window<T>,
-    c: char,
-    scalar: &mut Folding,
-) -> Result<Part, AllocError>
-    requires here { Shows window.old 1 c }
-    ensures ok { IfOk result (λ next. AllGoOn doubled window.old scalar.old (mode_of next) window.new scalar.new) }
-    ensures err { OnErr result (Reads window.old window.new (λ _ _. Unit {0})) }
-    ensures less { OnOk result (window.new.left < window.old.left) }
-{
-    scalar.push(c)?;
-    window.skip();
-    Ok(Part::Inside)
-}
-
 /// Reads what stands here.
+#[tactic(auto, using(model_scanner::proofs::QuotedLemmas::after_quote, model_scanner::proofs::QuotedLemmas::after_gap))]
 fn read_part<T: Characters>(
     window: &mut Window<T>,
     quote: &Quote,
-    part: Part,
+    part: QuotedPart,
     scalar: &mut Folding,
-) -> Result<Part, Fault>
-    requires { part ≢ Part.Closed }
-    ensures { ReadsOn quote.now (mode_of part) window.old scalar.old result mode_of window.new scalar.new }
+) -> Result<QuotedPart, Fault>
+    requires { part ≢ QuotedPart.Closed }
+    ensures { ReadsOn quote.now (at_part part) window.old scalar.old result at_part window.new scalar.new }
 {
     look_ahead(window);
     let c = window.ch();
@@ -239,13 +154,29 @@ fn read_part<T: Characters>(
         return Err(Fault::At(Problem::QuotedEnd, quote.start));
     }
     match part {
-        Part::First => read_line(window, quote, c, scalar),
-        Part::Inside => read_in_line(window, quote, c, scalar),
-        Part::Gap => read_in_gap(window, quote, c, scalar),
-        Part::Breaking => Ok(read_escaped_break(window, scalar)),
-        Part::After => read_after(window, quote, c, scalar),
-        Part::Doubled => Ok(read_doubled(window, c, scalar)?),
-        Part::Closed => unreachable!(),
+        QuotedPart::First => read_line(window, quote, c, scalar),
+        QuotedPart::Inside => read_in_line(window, quote, c, scalar),
+        QuotedPart::Gap => read_in_gap(window, quote, c, scalar),
+        QuotedPart::Breaking => {
+            if window.at_cr_lf() {
+                window.skip();
+                return Ok(QuotedPart::Breaking);
+            }
+            // A break that the text does not have.
+            window.skip_break();
+            scalar.leading = true;
+            scalar.escaped = true;
+            Ok(QuotedPart::After)
+        }
+        // After an escaped break the closing quote may stand in any column.
+        QuotedPart::After if c == quote_of(quote.single) => read_in_line(window, quote, c, scalar),
+        QuotedPart::After => read_in_gap(window, quote, c, scalar),
+        QuotedPart::Doubled => {
+            scalar.push(c)?;
+            window.skip();
+            Ok(QuotedPart::Inside)
+        }
+        QuotedPart::Closed => unreachable!(),
     }
 }
 
@@ -266,52 +197,6 @@ fn read_known<T: Characters>(
     scalar.take_words(window, Run::Quoted(quote_of(quote.single)))
 }
 
-/// Reads so many characters of a word. The result is whether it has them.
-#[inline(always)]
-fn read_few<T: Characters>(
-    window: &mut Window<T>,
-    quote: &Quote,
-    scalar: &mut Folding,
-    count: usize,
-) -> Result<bool, AllocError>
-    ensures ok { OnOk result (GoesOn quote.now inside window.old scalar.old inside window.new scalar.new) }
-    ensures err { OnErr result (Reads window.old window.new (λ _ _. Unit {0})) }
-{
-    let run = Run::Quoted(quote_of(quote.single));
-    let mut left = count;
-    'few: while left > 0 {
-        let Some(c) = window.take(run) else {
-            return Ok(false);
-        };
-        scalar.push(c)?;
-        left -= 1;
-    }
-    Ok(true)
-}
-
-/// Reads a word, and where it has more than a few characters and the text is known, those after it too. The result is
-/// whether words may be looked for after it.
-#[inline(always)]
-fn read_ahead<T: Characters>(
-    window: &mut Window<T>,
-    quote: &Quote,
-    scalar: &mut Folding,
-) -> Result<bool, AllocError>
-    ensures ok { OnOk result (GoesOn quote.now inside window.old scalar.old inside window.new scalar.new) }
-    ensures err { OnErr result (Reads window.old window.new (λ _ _. Unit {0})) }
-{
-    // In double quotes words go on up to an escape, and are long.
-    let few = if quote.single { FEW } else { 1 };
-    if !read_few(window, quote, scalar, few)? {
-        return Ok(true);
-    }
-    if read_known(window, quote, scalar)? {
-        return Ok(true);
-    }
-    read_word(window, quote, scalar)?;
-    Ok(false)
-}
-
 /// Reads the characters up to a blank, a break, the end, a quote or a backslash.
 #[inline(always)]
 fn read_word<T: Characters>(
@@ -325,14 +210,6 @@ fn read_word<T: Characters>(
     let run = Run::Quoted(quote_of(quote.single));
     window.take_word(run, &mut scalar.text)?;
     Ok(())
-}
-
-/// Whether a line may go on in a column, whatever stands there.
-fn goes_on_in(quote: &Quote, col: usize) -> bool
-    requires { col ≤ 2 ^ 63 }
-    ensures { result ≡ true → (0 < col) × (quote.now.context.indent ≤ col + 1) }
-{
-    col > 0 && quote.context.indent <= col + 1
 }
 
 /// Reads the character that a word begins with. The result is whether one begins here.
@@ -418,29 +295,26 @@ pub(crate) fn read_run<T: Characters>(
     ensures err { OnErr result (Reads window.old window.new (λ _ _. Unit {0})) }
     ensures left { OnOk result (window.new.left ≤ window.old.left) }
 {
-    let known = read_ahead(window, quote, scalar)?;
+    let run = Run::Quoted(quote_of(quote.single));
+    // In double quotes words go on up to an escape, and are long.
+    let mut left = if quote.single { FEW } else { 1 };
+    'few: while left > 0 {
+        let Some(c) = window.take(run) else {
+            // After a short word too words may be looked for.
+            return read_words(window, quote, scalar, true);
+        };
+        scalar.push(c)?;
+        left -= 1;
+    }
+    let known = read_known(window, quote, scalar)?;
+    if !known {
+        read_word(window, quote, scalar)?;
+    }
     read_words(window, quote, scalar, known)
 }
 
-/// The same, where they begin here. Where none begins, nothing is read. What the window holds goes into the text before it is
-/// stepped over.
-#[inline(always)]
-fn begin_held<T: Characters>(
-    window: &mut Window<T>,
-    quote: &Quote,
-    scalar: &mut Folding,
-) -> Result<(), AllocError>
-    ensures ok { OnOk result (GoesOn quote.now inside window.old scalar.old inside window.new scalar.new) }
-    ensures err { OnErr result (Reads window.old window.new (λ _ _. Unit {0})) }
-    ensures left { OnOk result (window.new.left ≤ window.old.left) }
-{
-    if !begin_word(window, quote, scalar)? {
-        return Ok(());
-    }
-    read_run(window, quote, scalar)
-}
-
-/// The same, where the window holds nothing. In double quotes words are looked for at once.
+/// The same, where they begin here. Where none begins, nothing is read. In double quotes, where the window holds nothing,
+/// words are looked for at once.
 #[inline(always)]
 fn begin_run<T: Characters>(
     window: &mut Window<T>,
@@ -452,7 +326,11 @@ fn begin_run<T: Characters>(
     ensures left { OnOk result (window.new.left ≤ window.old.left) }
 {
     if quote.single || window.len() > 0 {
-        return begin_held(window, quote, scalar);
+        // What the window holds goes into the text before it is stepped over.
+        if !begin_word(window, quote, scalar)? {
+            return Ok(());
+        }
+        return read_run(window, quote, scalar);
     }
     let known = read_known(window, quote, scalar)?;
     if !known {
@@ -466,19 +344,19 @@ fn begin_run<T: Characters>(
 
 /// Takes the closing quote of a scalar in double quotes, if it stands here.
 #[inline(always)]
-pub(crate) fn take_closing<T: Characters>(window: &mut Window<T>, quote: &Quote) -> Part
+pub(crate) fn take_closing<T: Characters>(window: &mut Window<T>, quote: &Quote) -> QuotedPart
     ensures reads { Reads window.old window.new (λ a b. (t : Folded) →
-        quoted_from quote.now.single quote.now.context quote.now.start a (at_folded inside window.old t) ≡ quoted_from quote.now.single quote.now.context quote.now.start b (at_folded (mode_of result) window.new t)) }
+        quoted_from quote.now.single quote.now.context quote.now.start a (at_folded inside window.old t) ≡ quoted_from quote.now.single quote.now.context quote.now.start b (at_folded (at_part result) window.new t)) }
     ensures left { window.new.left ≤ window.old.left }
 {
     if quote.single {
-        return Part::Inside;
+        return QuotedPart::Inside;
     }
     if window.look_ch() != '"' {
-        return Part::Inside;
+        return QuotedPart::Inside;
     }
     window.skip();
-    Part::Closed
+    QuotedPart::Closed
 }
 
 /// Reads the words that a scalar begins with, and in double quotes the closing one, if it stands right after them.
@@ -487,38 +365,18 @@ fn begin_words<T: Characters>(
     window: &mut Window<T>,
     quote: &Quote,
     scalar: &mut Folding,
-) -> Result<Part, AllocError>
+) -> Result<QuotedPart, AllocError>
     requires { folded scalar.old ≡ nothing }
-    ensures ok { IfOk result (λ part. GoesOn quote.now first window.old scalar.old (mode_of part) window.new scalar.new) }
+    ensures ok { IfOk result (λ part. GoesOn quote.now first window.old scalar.old (at_part part) window.new scalar.new) }
     ensures err { OnErr result (Reads window.old window.new (λ _ _. Unit {0})) }
     ensures left { OnOk result (window.new.left ≤ window.old.left) }
 {
-    if !goes_on_in(quote, window.mark().col()) {
-        return Ok(Part::First);
+    let col = window.mark().col();
+    if col == 0 || col + 1 < quote.context.indent {
+        return Ok(QuotedPart::First);
     }
     begin_run(window, quote, scalar)?;
     Ok(take_closing(window, quote))
-}
-
-/// Reads what stands between the quotes, and the closing one.
-fn read_parts<T: Characters>(
-    window: &mut Window<T>,
-    quote: &Quote,
-    scalar: &mut Folding,
-) -> Result<(), Fault>
-    requires { folded scalar.old ≡ nothing }
-    ensures ok { OnOk result (GoesOn quote.now first window.old scalar.old closed window.new scalar.new) }
-    ensures err { IfErr result (λ e. IsRefused quote.now first window.old scalar.old window.new e) }
-    ensures left { OnOk result (window.new.left ≤ window.old.left) }
-{
-    let mut part = begin_words(window, quote, scalar)?;
-    'parts: while part != Part::Closed {
-        part = read_part(window, quote, part, scalar)?;
-        if part == Part::Inside {
-            read_run(window, quote, scalar)?;
-        }
-    }
-    Ok(())
 }
 
 /// Reads a quoted scalar, from the opening quote to after the closing one.
@@ -542,6 +400,12 @@ pub fn read_quoted<T: Characters>(
     };
     window.skip();
     let mut scalar = Folding::new(alloc);
-    read_parts(window, &quote, &mut scalar)?;
+    let mut part = begin_words(window, &quote, &mut scalar)?;
+    'parts: while part != QuotedPart::Closed {
+        part = read_part(window, &quote, part, &mut scalar)?;
+        if part == QuotedPart::Inside {
+            read_run(window, &quote, &mut scalar)?;
+        }
+    }
     Ok(scalar.text.into_string())
 }

@@ -1,5 +1,5 @@
 //! Spaces, comments and line breaks.
-ghost use Rattle.std.specs.Prelude.{◌≡◌, ◌<◌, true, false, Ok, Err, IfOk, IfErr};
+ghost use Rattle.std.specs.Prelude.{◌≡◌, ◌<◌, Ok, Err, IfOk, IfErr};
 ghost use Rattle.yaml_chars.specs.WindowView.{Reads, HasChar, position_of};
 ghost use Rattle.model_scanner.specs.Blanks.{linebreak, comment, blanks, space};
 ghost use Rattle.yaml_lexers.specs.Shown.{read};
@@ -25,34 +25,6 @@ pub fn skip_linebreak<T: Characters>(window: &mut Window<T>)
     }
 }
 
-/// Steps over the next few characters of a comment. The result is whether it may have more: without more, its line ends here,
-/// and what stands here is in the window.
-#[inline(always)]
-#[tactic(auto, using(model_scanner::proofs::SpaceLemmas::skip_end))]
-fn pass_few<T: Characters>(window: &mut Window<T>) -> bool
-    ensures more { result ≡ true → Reads window.old window.new (λ a b. comment a (position_of window.old) ≡ comment b (position_of window.new)) }
-    ensures over { result ≡ false → Reads window.old window.new (λ a b. comment a (position_of window.old) ≡ read b window.new tt) }
-    ensures ahead { result ≡ false → 0 < window.new.ahead }
-{
-    let mut left = FEW;
-    'few: while left > 0 {
-        if is_breakz(window.look_ch()) {
-            return false;
-        }
-        window.skip();
-        left -= 1;
-    }
-    true
-}
-
-/// Steps over what is known of a comment.
-#[inline(always)]
-fn pass_known<T: Characters>(window: &mut Window<T>)
-    ensures { Reads window.old window.new (λ a b. comment a (position_of window.old) ≡ comment b (position_of window.new)) }
-{
-    window.pass_words(Run::Line);
-}
-
 /// Steps to the end of a line of more than a few characters. What stands there is then in the window.
 #[inline(never)]
 #[tactic(auto, using(model_scanner::proofs::SpaceLemmas::comment_on, model_scanner::proofs::SpaceLemmas::comment_end))]
@@ -60,20 +32,27 @@ fn pass_rest<T: Characters>(window: &mut Window<T>)
     ensures reads { Reads window.old window.new (λ a b. comment a (position_of window.old) ≡ read b window.new tt) }
     ensures ahead { 0 < window.new.ahead }
 {
-    pass_known(window);
+    window.pass_words(Run::Line);
     'comment: while let Some(_) = window.take(Run::Line) {}
     window.look_ch();
 }
 
 /// Steps to the end of the line. What stands there is then in the window.
 #[inline(always)]
+#[tactic(auto, using(model_scanner::proofs::SpaceLemmas::skip_end))]
 pub fn skip_comment<T: Characters>(window: &mut Window<T>)
     ensures reads { Reads window.old window.new (λ a b. comment a (position_of window.old) ≡ read b window.new tt) }
     ensures ahead { 0 < window.new.ahead }
 {
-    if pass_few(window) {
-        pass_rest(window);
+    let mut left = FEW;
+    'few: while left > 0 {
+        if is_breakz(window.look_ch()) {
+            return;
+        }
+        window.skip();
+        left -= 1;
     }
+    pass_rest(window);
 }
 
 /// Steps over spaces, TABs where these are to be skipped, and a comment, up to the end of the

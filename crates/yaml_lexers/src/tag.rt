@@ -4,7 +4,7 @@ ghost use Rattle.yaml_chars.specs.Class.{is_alpha};
 ghost use Rattle.yaml_chars.specs.WindowView.{Reads, HasChar, position_of};
 ghost use Rattle.defs_text.specs.Text.{string_chars};
 ghost use Rattle.model_scanner.specs.Machine.{take_while};
-ghost use Rattle.model_scanner.specs.Tag.{verbatim, named, local_tag, shorthand, tag_here, ends_tag, tag, handle_end, handle, prefix};
+ghost use Rattle.model_scanner.specs.Tag.{verbatim, named, shorthand, tag_here, ends_tag, tag, handle, prefix};
 ghost use Rattle.yaml_lexers.specs.Shown.{Lexes, Refuses, read};
 ghost use Rattle.yaml_lexers.specs.ShownTag.{tag_shown};
 
@@ -77,45 +77,8 @@ fn read_named<T: Characters>(
     Ok((handle.into_string(), suffix.into_string()))
 }
 
-/// Reads a suffix without a handle, which begins with a name.
-fn read_local<T: Characters>(
-    alloc: Global,
-    window: &mut Window<T>,
-    start: Marker,
-    mut name: TextBuilder,
-) -> Result<(String, String), Fault>
-    ensures ok { IfOk result (λ s. Lexes (local_tag start name) window.old window.new (tag_shown (string_chars s.0) (string_chars s.1))) }
-    ensures err { IfErr result (λ e. Refuses (local_tag start name) window.old window.new e) }
-{
-    read_suffix(window, start, &mut name)?;
-    let mut exclamation = TextBuilder::new(alloc);
-    exclamation.push('!')?;
-    if name.is_empty() {
-        return Ok((name.into_string(), exclamation.into_string()));
-    }
-    Ok((exclamation.into_string(), name.into_string()))
-}
-
-/// Reads a tag `!`, `!suffix`, `!!suffix` or `!name!suffix` after its first `!`.
+/// Reads a tag after its first `!`: `!<uri>`, `!`, `!suffix`, `!!suffix` or `!name!suffix`.
 #[tactic(auto, unfolding(model_scanner::specs::Tag::shorthand))]
-fn read_shorthand<T: Characters>(
-    alloc: Global,
-    window: &mut Window<T>,
-    start: Marker,
-) -> Result<(String, String), Fault>
-    ensures ok { IfOk result (λ s. Lexes (shorthand start) window.old window.new (tag_shown (string_chars s.0) (string_chars s.1))) }
-    ensures err { IfErr result (λ e. Refuses (shorthand start) window.old window.new e) }
-{
-    let mut name = TextBuilder::new(alloc);
-    read_word(window, &mut name)?;
-    if window.look_ch() == '!' {
-        window.skip();
-        return read_named(alloc, window, start, name);
-    }
-    read_local(alloc, window, start, name)
-}
-
-/// Reads a tag after its first `!`.
 fn read_here<T: Characters>(
     alloc: Global,
     window: &mut Window<T>,
@@ -128,18 +91,24 @@ fn read_here<T: Characters>(
         window.skip();
         return read_verbatim(alloc, window, start);
     }
-    read_shorthand(alloc, window, start)
-}
-
-#[tactic(auto, unfolding(model_scanner::specs::Tag::ends_tag))]
-fn ends_tag(flow: bool, c: char) -> bool
-    ensures { result ≡ ends_tag flow c }
-{
-    is_blank_or_breakz(c) || flow && is_flow(c)
+    let mut name = TextBuilder::new(alloc);
+    read_word(window, &mut name)?;
+    if window.look_ch() == '!' {
+        window.skip();
+        return read_named(alloc, window, start, name);
+    }
+    // A suffix without a handle begins with the name.
+    read_suffix(window, start, &mut name)?;
+    let mut exclamation = TextBuilder::new(alloc);
+    exclamation.push('!')?;
+    if name.is_empty() {
+        return Ok((name.into_string(), exclamation.into_string()));
+    }
+    Ok((exclamation.into_string(), name.into_string()))
 }
 
 /// Reads a tag from its `!` on: its handle and its suffix.
-#[tactic(auto, unfolding(model_scanner::specs::Tag::tag))]
+#[tactic(auto, unfolding(model_scanner::specs::Tag::tag, model_scanner::specs::Tag::ends_tag))]
 pub fn read_tag<T: Characters>(
     alloc: Global,
     window: &mut Window<T>,
@@ -154,31 +123,11 @@ pub fn read_tag<T: Characters>(
     let start = window.mark();
     window.skip();
     let tag = read_here(alloc, window, start)?;
-    if !ends_tag(in_flow, window.look_ch()) {
+    let c = window.look_ch();
+    if !is_blank_or_breakz(c) && !(in_flow && is_flow(c)) {
         return Err(Fault::At(Problem::TagEnd, start));
     }
     Ok(tag)
-}
-
-/// Reads the end of a tag directive's handle after its name.
-fn end_handle<T: Characters>(
-    window: &mut Window<T>,
-    start: Marker,
-    bare: bool,
-    mut handle: TextBuilder,
-) -> Result<TextBuilder, Fault>
-    ensures ok { IfOk result (λ h. Lexes (handle_end start bare handle) window.old window.new h) }
-    ensures err { IfErr result (λ e. Refuses (handle_end start bare handle) window.old window.new e) }
-{
-    if window.look_ch() == '!' {
-        window.skip();
-        handle.push('!')?;
-        return Ok(handle);
-    }
-    if !bare {
-        return Err(Fault::At(Problem::TagDirectiveHandle, start));
-    }
-    Ok(handle)
 }
 
 /// Reads the handle of a tag directive: `!`, `!!` or `!name!`.
@@ -199,7 +148,16 @@ pub(crate) fn read_handle<T: Characters>(
     handle.push('!')?;
     let bare = !is_alpha(window.look_ch());
     read_word(window, &mut handle)?;
-    end_handle(window, start, bare, handle)
+    if window.look_ch() == '!' {
+        window.skip();
+        handle.push('!')?;
+        return Ok(handle);
+    }
+    // After a name a `!` has to stand.
+    if !bare {
+        return Err(Fault::At(Problem::TagDirectiveHandle, start));
+    }
+    Ok(handle)
 }
 
 /// Reads the prefix of a tag directive: a `!` or a character of a tag, and characters of a URI.

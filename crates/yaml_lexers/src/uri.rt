@@ -1,10 +1,10 @@
 //! Characters of a URI, escaped ones too (YAML 1.2, section 5.6).
-ghost use Rattle.std.specs.Prelude.{◌≡◌, ◌≢◌, ◌≤◌, ◌<◌, ◌+◌, ◌*◌, ◌^◌, ◌++◌, ℕ, zero, suc, List, [], ◌∷◌, Bool, true, Ok, Err, OnOk, IfOk, IfErr, slice_index, IfSome, IfNone};
+ghost use Rattle.std.specs.Prelude.{◌≡◌, ◌≢◌, ◌≤◌, ◌<◌, ◌+◌, ◌*◌, ◌^◌, ◌++◌, ℕ, List, [], ◌∷◌, Bool, true, Ok, Err, OnOk, IfOk, IfErr, slice_index, IfSome, IfNone};
 ghost use Rattle.yaml_chars.specs.Class.{is_uri, is_tag};
 ghost use Rattle.defs_text.specs.Position.{Position};
 ghost use Rattle.yaml_chars.specs.WindowView.{Reads, Sees, HasChar, position_of};
 ghost use Rattle.model_scanner.specs.Quoted.{is_scalar};
-ghost use Rattle.model_scanner.specs.Uri.{Octet, lead, plain, percent, low, uri, uri_from, octet_from, trails_from, at_octet, at_trail};
+ghost use Rattle.model_scanner.specs.Uri.{Octet, lead, plain, percent, low, uri, uri_from, octet_from, at_octet, at_trail};
 ghost use Rattle.yaml_lexers.specs.Shown.{read};
 ghost use Rattle.yaml_lexers.specs.ShownTag.{at};
 
@@ -92,59 +92,8 @@ fn lead_of(octet: u32) -> Option<Lead>
     }
 }
 
-/// Reads an octet that goes on with a character whose first bits are `code`.
-fn read_trail<T: Characters>(window: &mut Window<T>, start: Marker, code: u32) -> Result<u32, Fault>
-    requires { code < 2 ^ 20 }
-    ensures ok { IfOk result (λ n. Reads window.old window.new (λ a b. (test : ℕ → Bool) (more least : ℕ) (t : List ℕ) →
-        trails_from test start (suc more) code least a (position_of window.old) t ≡ trails_from test start more n least b (position_of window.new) t)) }
-    ensures err { IfErr result (λ e. Reads window.old window.new (λ a b. (test : ℕ → Bool) (more least : ℕ) (t : List ℕ) →
-        trails_from test start (suc more) code least a (position_of window.old) t ≡ Err e)) }
-    ensures small { IfOk result (λ n. n < (code + 1) * 64) }
-{
-    let octet = read_octet(window, start)?;
-    match octet {
-        0x80..=0xBF => Ok(code * 64 + (octet - 0x80)),
-        _ => Err(Fault::At(Problem::TagTrailingOctet, start)),
-    }
-}
-
-/// Reads the octets after the first one. The answer is the character's code.
-fn read_trails<T: Characters>(
-    window: &mut Window<T>,
-    start: Marker,
-    lead: Lead,
-) -> Result<u32, Fault>
-    requires { (lead.bits + 1) * 64 ^ lead.trails ≤ 2 ^ 21 }
-    ensures ok { IfOk result (λ n. Reads window.old window.new (λ a b. (test : ℕ → Bool) (t : List ℕ) →
-        trails_from test start lead.trails lead.bits lead.least a (position_of window.old) t ≡ trails_from test start zero n lead.least b (position_of window.new) t)) }
-    ensures err { IfErr result (λ e. Reads window.old window.new (λ a b. (test : ℕ → Bool) (t : List ℕ) →
-        trails_from test start lead.trails lead.bits lead.least a (position_of window.old) t ≡ Err e)) }
-{
-    let mut code = lead.bits;
-    let mut left = lead.trails;
-    'trails: while left > 0 {
-        code = read_trail(window, start, code)?;
-        left -= 1;
-    }
-    Ok(code)
-}
-
-/// The character of a code of at least `least`: a smaller one is overlong.
-#[tactic(auto, unfolding(model_scanner::specs::Quoted::is_scalar))]
-fn decoded(code: u32, least: u32, start: Marker) -> Result<char, Fault>
-    ensures ok { IfOk result (λ c. (p : Position) (t : List ℕ) → at_trail start zero code least p t ≡ Ok (record { mode = plain; position = p; text = t ++ c ∷ [] })) }
-    ensures err { IfErr result (λ e. (p : Position) (t : List ℕ) → at_trail start zero code least p t ≡ Err e) }
-{
-    if code < least {
-        return Err(Fault::At(Problem::TagCodepoint, start));
-    }
-    match char::from_u32(code) {
-        Some(c) => Ok(c),
-        None => Err(Fault::At(Problem::TagCodepoint, start)),
-    }
-}
-
 /// Reads the octets of a character in UTF-8, each a `%` and two hexadecimal digits.
+#[tactic(auto, unfolding(model_scanner::specs::Quoted::is_scalar))]
 fn read_uri_escape<T: Characters>(window: &mut Window<T>, start: Marker) -> Result<char, Fault>
     ensures ok { IfOk result (λ c. Reads window.old window.new (λ a b. (test : ℕ → Bool) (t : List ℕ) →
         uri_from test start a (at (percent lead) window.old t) ≡ uri_from test start b (at plain window.new (t ++ c ∷ [])))) }
@@ -156,8 +105,21 @@ fn read_uri_escape<T: Characters>(window: &mut Window<T>, start: Marker) -> Resu
     let Some(lead) = lead_of(octet) else {
         return Err(Fault::At(Problem::TagLeadingOctet, start));
     };
-    let code = read_trails(window, start, lead)?;
-    decoded(code, lead.least, start)
+    let mut code = lead.bits;
+    let mut left = lead.trails;
+    'trails: while left > 0 {
+        let octet = read_octet(window, start)?;
+        code = match octet {
+            0x80..=0xBF => code * 64 + (octet - 0x80),
+            _ => return Err(Fault::At(Problem::TagTrailingOctet, start)),
+        };
+        left -= 1;
+    }
+    match char::from_u32(code) {
+        // A code that fits in fewer octets is overlong.
+        Some(c) if code >= lead.least => Ok(c),
+        _ => Err(Fault::At(Problem::TagCodepoint, start)),
+    }
 }
 
 /// Reads a character of a URI, which may be an escaped one.

@@ -1,5 +1,5 @@
 -- Block scalars and their tokens.
-use Rattle.model_scanner.proofs.Common.{[], At, codes, Err, Fault, header, List, Ok, Problem, Result, scan, Style, Tok, Token, token, ℕ, ◌∷◌, ◌≡◌}
+use Rattle.model_scanner.proofs.Common.{[], At, codes, Err, Fault, List, Ok, Problem, Result, scan, Style, Tok, Token, token, ℕ, ◌∷◌, ◌≡◌}
 use Rattle.yaml_tokens.specs.declared.problem.Problem.TheVariants as problem
 use Rattle.model_scanner.proofs.OnLiterals.{scan_on_literals}
 

@@ -1,5 +1,5 @@
 use Rattle.yaml_lexers.proofs.Common.{plain_run, Reads-then, ◌∙◌}
-use Rattle.yaml_lexers.proofs.plain.read_each.Goals as goal
+use Rattle.yaml_lexers.proofs.plain.read_piece.Goals as goal
 
 pub each-preserved : goal.each-preserved
 each-preserved g c =

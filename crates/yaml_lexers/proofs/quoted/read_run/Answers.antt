@@ -1,5 +1,5 @@
 use Rattle.yaml_lexers.proofs.Common.{quoted_run, Reads-then, ◌∙◌}
-use Rattle.yaml_lexers.proofs.quoted.read_few.Goals as goal
+use Rattle.yaml_lexers.proofs.quoted.read_run.Goals as goal
 
 pub few-preserved : goal.few-preserved
 few-preserved g c =

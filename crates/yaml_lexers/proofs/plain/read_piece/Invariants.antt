@@ -1,6 +1,6 @@
 use Rattle.yaml_lexers.proofs.Common.{at, plain_from, Position, Reads, ◌≡◌}
 use Rattle.model_scanner.specs.Plain.{inside}
-use Rattle.yaml_lexers.proofs.plain.read_each.Given as goal
+use Rattle.yaml_lexers.proofs.plain.read_piece.Given as goal
 
 abbrev pub invariant-each : goal.invariant-each
 invariant-each g l = Reads l.fn.window l.window (λ a b. (start : Position) → plain_from l.fn.context start a (at inside l.fn.window l.fn.scalar) ≡ plain_from l.fn.context start b (at inside l.window l.scalar))

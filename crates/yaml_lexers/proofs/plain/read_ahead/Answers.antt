@@ -1,5 +1,5 @@
 use Rattle.yaml_lexers.proofs.Common.{plain_run, Reads-then, ◌∙◌}
-use Rattle.yaml_lexers.proofs.plain.read_few.Goals as goal
+use Rattle.yaml_lexers.proofs.plain.read_ahead.Goals as goal
 
 pub few-preserved : goal.few-preserved
 few-preserved g c =

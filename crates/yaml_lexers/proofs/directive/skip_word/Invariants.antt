@@ -1,8 +1,0 @@
-use Rattle.yaml_lexers.proofs.Common.{is_alpha, position_of, Reads, skip_while, ◌≡◌}
-use Rattle.yaml_lexers.proofs.directive.skip_word.Given as goal
-
-abbrev pub invariant-word : goal.invariant-word
-invariant-word g l = Reads l.fn.window l.window (λ a b. skip_while is_alpha a (position_of l.fn.window) ≡ skip_while is_alpha b (position_of l.window))
-
-abbrev pub decreases-word : goal.decreases-word
-decreases-word g l = l.window.left
