@@ -8,7 +8,3 @@ along_append (c ∷ a) b p = along_append a b (past p)
 pub along_more : (a : List ℕ) (p : Position) → p.col ≤ (along a p).col
 along_more [] p = omega arith
 along_more (c ∷ a) p = let h = along_more a (past p) in omega (arith, h)
-
-pub along_line : (a : List ℕ) (p : Position) → (along a p).line ≡ p.line
-along_line [] p = refl
-along_line (c ∷ a) p = along_line a (past p)

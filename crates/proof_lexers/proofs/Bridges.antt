@@ -1,7 +1,9 @@
 -- Classes and tables of the model and of the definitions tell the same characters apart.
 use Rattle.std.specs.Char.{is_digit}
-use Rattle.proof_lexers.proofs.Common.{[], and-false, arith, at_marker, Bool, cases_Bool, eqb-true, Escape, escape_of, escapes, false, inl, inr, is_alpha, is_alphanumeric, is_blank, is_blank_or_breakz, is_break, is_character_code, is_flow, is_hex, is_marker, is_scalar, is_tag, is_uri, is_uri_mark, List, lookup, nat_tests, None, numeric_escapes, Option, or-false, or_assoc, refl, Some, suc, sym, true, ℕ, ◌&&◌, ◌==◌, ◌||◌, ◌∷◌, ◌≡◌}
+use Rattle.proof_lexers.proofs.Common.{[], and-false, arith, at_marker, Bool, cases_Bool, Char, Code, eqb-true, Escape, escape_of, escapes, false, if◌then◌else◌, inl, inr, is_alpha, is_alphanumeric, is_blank, is_blank_or_breakz, is_break, is_character_code, is_flow, is_hex, is_marker, is_scalar, is_tag, is_uri, is_uri_mark, List, lookup, nat_tests, None, numeric_escapes, Option, or-false, or_assoc, refl, Some, sym, true, Unknown, ℕ, ◌&&◌, ◌==◌, ◌||◌, ◌∷◌, ◌≡◌}
 use Rattle.defs_text.specs.Classes as classes
+use Rattle.model_scanner.specs.declared.kind.Digits.{Digits}
+use Rattle.model_scanner.specs.declared.kind.Digits.TheVariants.{Two, Four, Eight}
 
 pub same_break : (c : ℕ) → classes.is_break c ≡ is_break c
 unfolding classes.is_break is_break
@@ -48,11 +50,15 @@ same_code n = both _ _ (λ h. grind (arith, nat_tests)) (λ h. grind (arith, nat
 
 -- ---- escapes
 
+-- so many digits of a code
+abbrev pub digits_of : ℕ → Digits
+digits_of n = (if n == 2 then Two else (if n == 4 then Four else Eight))
+
 -- what the model makes of the rows of the tables
 abbrev pub escape_by_rows : Option ℕ → Option ℕ → Escape
-escape_by_rows (Some code) digits = Escape.char code
-escape_by_rows None (Some (suc more)) = Escape.code more
-escape_by_rows None _ = Escape.unknown
+escape_by_rows (Some code) n = Char code
+escape_by_rows None (Some n) = Code (digits_of n)
+escape_by_rows None None = Unknown
 
 abbrev Same : ℕ → Type 0
 Same c = escape_of c ≡ escape_by_rows (lookup c escapes) (lookup c numeric_escapes)

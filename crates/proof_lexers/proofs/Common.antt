@@ -34,7 +34,7 @@ pub use Rattle.model_scanner.specs.Machine.{and_then, is_cr_lf, past, past_break
 unfoldable pub use Rattle.model_scanner.specs.Machine.{at_marker, is_marker}
 pub use Rattle.model_scanner.specs.Plain.{at_break, Plain, plain_from, tabs}
 unfoldable pub use Rattle.model_scanner.specs.Plain.{at_dash, at_plain, can_be_plain, is_shallow, plain}
-pub use Rattle.model_scanner.specs.Quoted.{closed, digits_from, Escape, first, gap, inside, Mode, quote_of, quoted_from, QuotedState}
+pub use Rattle.model_scanner.specs.Quoted.{closed, count_of, digits_from, first, gap, inside, Mode, quote_of, quoted_from, QuotedState}
 unfoldable pub use Rattle.model_scanner.specs.Quoted.{escape_of, is_scalar, quoted, refused}
 pub use Rattle.model_scanner.specs.Space.{Gap, tab_line, white_end}
 unfoldable pub use Rattle.model_scanner.specs.Space.{is_before_indent, skip, white}
@@ -45,19 +45,22 @@ pub use Rattle.model_scanner.specs.Uri.{at_octet, at_trail, high, lead, Octet, o
 pub use Rattle.model_scanner.specs.declared.context.Context.{Context}
 pub use Rattle.model_scanner.specs.declared.context.SkipTabs.TheVariants.{Yes}
 pub use Rattle.model_scanner.specs.declared.context.Whitespace.{Whitespace}
+pub use Rattle.model_scanner.specs.declared.kind.Escape.{Escape}
+pub use Rattle.model_scanner.specs.declared.kind.Escape.TheVariants.{Char, Code, Unknown}
 pub use Rattle.proof_lexers.specs.BlockLaws.{BlockPiecesAreRead, BlockScansEndAsTheirTextSays, FirstLinesGiveTheColumn, HeadersEndAsTheirLineSays}
 pub use Rattle.proof_lexers.specs.BlockScan.{digit_by, further_position, is_literal_style, is_none, is_single, is_some, is_tabbed, IsRead, read_block, without_spaces}
 pub use Rattle.proof_lexers.specs.Buffers.{after_element, after_elements}
 pub use Rattle.proof_lexers.specs.DirectiveEnds.{after_declaration, after_version, by_comment, by_declaration, by_name, by_octets, by_version, first_break, IsDirectiveRefusal, IsNoDeclaration, IsNoVersion, long_major, long_minor, next_line, no_major, no_minor, no_name, no_point, no_prefix, open_name, token_of}
-pub use Rattle.proof_lexers.specs.HeaderEnds.{along, chomping_of, comment, digit_or_zero, ends_line, has_zero, HeaderEndsAs, indicator_of, indicators_of, is_in_line, is_sign, no_header, past_indicators, read_header, reads, tabbed, zero_digit}
-pub use Rattle.proof_lexers.specs.NameEnds.{further, NameEndsAs, nameless}
-pub use Rattle.proof_lexers.specs.PlainEnds.{begins_left, begins_solid, begins_token, begins_white, by_column, by_dash, by_tab, collection_of, goes_over, has_break, HasTab, is_apart, is_gap, is_indented, is_white, IsPlainRefusal, PlainEndsAs, stand_after}
-pub use Rattle.proof_lexers.specs.QuotedEnds.{by_end, by_escape, by_marker, HasElements, IsBadEscape, no_digit, number_at, QuotedEndsAs}
+pub use Rattle.proof_lexers.specs.Ends.{EndsAs, reads, refuses}
+pub use Rattle.proof_lexers.specs.HeaderEnds.{along, chomping_of, comment, digit_or_zero, ends_line, has_zero, indicator_of, indicators_of, is_in_line, is_sign, IsHeaderRead, IsHeaderRefusal, no_header, past_indicators, read_header, tabbed, whole_header, zero_digit}
+pub use Rattle.proof_lexers.specs.NameEnds.{further, IsNameRead, IsNameRefusal, nameless}
+pub use Rattle.proof_lexers.specs.PlainEnds.{begins_left, begins_solid, begins_token, begins_white, by_column, by_dash, by_tab, collection_of, goes_over, has_break, HasTab, is_apart, is_gap, is_indented, is_white, IsPlainRead, IsPlainRefusal, stand_after, whole_plain}
+pub use Rattle.proof_lexers.specs.QuotedEnds.{by_end, by_escape, by_marker, HasElements, IsBadEscape, IsQuotedRead, IsQuotedRefusal, no_digit, number_at}
 pub use Rattle.proof_lexers.specs.QuotedLaws.{QuotedBodiesAreRead, QuotedScansEndAsTheirTextSays}
 pub use Rattle.proof_lexers.specs.QuotedScan.{by_line, element_of, ends_before, has_marker, IsShallow, read, shallow, value_of}
 pub use Rattle.proof_lexers.specs.ScalarLaws.{DirectivesAreRead, DirectivesEndAsTheirTextSays, EachSeparationIsPassed, NamesAreRead, NamesEndAsTheirTextSays, PlainScalarsAreRead, PlainScansEndAsTheirTextSays, SeparationsArePassed, SpacesArePassed, TagsAreRead, TagsEndAsTheirTextSays, UrisAreRead, WhiteSpaceIsPassed}
-pub use Rattle.proof_lexers.specs.Separations.{after_separation, after_space, are_spaces, begins_separation, begins_white_space, ends_spaces, goes, has, is_left, misses, refuses, spaces}
-pub use Rattle.proof_lexers.specs.TagEnds.{after_tag, IsTagRefusal, local_goes_on, local_octets, may_follow, no_suffix, suffix_goes_on, suffix_octets, TagEndsAs, verbatim_goes_on, verbatim_octets}
+pub use Rattle.proof_lexers.specs.Separations.{after_separation, after_space, are_spaces, begins_separation, begins_white_space, ends_spaces, has, HasPassed, is_left, IsAfter, misses, spaces, tab_left}
+pub use Rattle.proof_lexers.specs.TagEnds.{after_tag, at_start, IsTagFault, IsTagRead, IsTagRefusal, local_goes_on, local_octets, may_follow, no_suffix, suffix_goes_on, suffix_octets, verbatim_goes_on, verbatim_octets, whole_tag}
 pub use Rattle.proof_lexers.specs.UriEnds.{after_class, problem_of}
 pub use Rattle.proof_row.proofs.Columns.{column_same, further_is_no_break, IsBefore}
 pub use Rattle.proof_row.proofs.Lines.{first_line, up_to_break}

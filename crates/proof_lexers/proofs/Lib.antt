@@ -3,6 +3,7 @@ pub mod Blocks
 pub mod Bridges
 pub mod Classes
 pub mod Directives
+pub mod Ends
 pub mod Fold
 pub mod Plain
 pub mod Properties

@@ -89,7 +89,7 @@ rest_of_line (c ∷ m) n p h k = elim (cases_Bool (c == 35)) [
   | inl e ↦ let hash : c ≡ 35 = eqb-true c 35 e in rw hash (glued m refl refl refl)
   | inr e ↦ elim (cases_Bool (classes.is_blank c)) [
     | inl blank ↦ let z = blank_passed c (m ++ n) from blank in onward e blank z (tail m n z.next no_break.1 k z.some)
-    | inr solid ↦ let r = or_parts (c == 32) (c == 9) solid in goes_on c (m ++ n) p from.found (rw (r.0, r.1) refl) e (sym (same_break c) ∙ not-true (classes.is_break c) no_break.0) (rw (r.0, r.1, e) refl)
+    | inr solid ↦ let r = or_parts (c == 32) (c == 9) solid in goes_on c (m ++ n) p from.found (rw (e, r.0, r.1) refl) e (sym (same_break c) ∙ not-true (classes.is_break c) no_break.0) (rw (r.0, r.1, e) refl)
   ]
 ]
   where
@@ -100,5 +100,5 @@ rest_of_line (c ∷ m) n p h k = elim (cases_Bool (c == 35)) [
     no_break = and_parts (not (classes.is_break c)) (has_no_break m) h
 
     onward : (c == 35) ≡ false → classes.is_blank c ≡ true → (z : Blank c (m ++ n) from) → Tail m n z.next (space_from Yes (m ++ n) z.next) → Rest (c ∷ m) n p (space_from Yes (c ∷ (m ++ n)) from)
-    onward e blank z (ended w is x) = ends w (rw blank is) (z.is ∙ x ∙ ap (λ q. Ok (record { rest = n; position = q; value = w })) (ap (further (length m)) z.position ∙ one_further p (length m)))
-    onward e blank z (other d more q w unlike solid x) = goes_on d more q w (rw blank unlike) e solid (z.is ∙ x)
+    onward e blank z (ended w is x) = ends w (rw (e, blank) is) (z.is ∙ x ∙ ap (λ q. Ok (record { rest = n; position = q; value = w })) (ap (further (length m)) z.position ∙ one_further p (length m)))
+    onward e blank z (other d more q w unlike solid x) = goes_on d more q w (rw (e, blank) unlike) e solid (z.is ∙ x)

@@ -7,9 +7,9 @@ use Rattle.defs_text.specs.BlockScalar.{BlockStyle, unbroken, all_lines, column_
 use Rattle.defs_token.specs.BlockPiece.{BlockRead, block_read}
 use Rattle.model_scanner.specs.Machine.{past}
 use Rattle.model_scanner.specs.BlockScalar.{header, content, block}
-use Rattle.proof_lexers.specs.HeaderEnds as header_ends
-use Rattle.proof_lexers.specs.HeaderEnds.{indicator_of, is_in_line, ends_line}
-use Rattle.proof_lexers.specs.BlockEnds as block_ends
+use Rattle.proof_lexers.specs.Ends.{EndsAs}
+use Rattle.proof_lexers.specs.HeaderEnds.{indicator_of, is_in_line, ends_line, IsHeaderRead, IsHeaderRefusal}
+use Rattle.proof_lexers.specs.BlockEnds.{IsBlockRead, IsBlockRefusal}
 use Rattle.proof_lexers.specs.BlockScan.{digit_by, is_literal_style, is_some, IsRead}
 use Rattle.proof_lexers.specs.PlainEnds.{collection_of}
 
@@ -17,7 +17,7 @@ use Rattle.proof_lexers.specs.PlainEnds.{collection_of}
 abbrev pub HeadersEndAsTheirLineSays : Type 0
 HeadersEndAsTheirLineSays =
     (style : BlockStyle) (line after : List ℕ) (p : Position) → is_in_line line ≡ true → ends_line after ≡ true
-    → header_ends.HeaderEndsAs p style line after (header p (line ++ after) (past p))
+    → EndsAs (IsHeaderRead p style line after) (IsHeaderRefusal p style line after) (header p (line ++ after) (past p))
 
 -- `first_lines_give_the_column`; `text` is what stands after the header's break
 abbrev pub FirstLinesGiveTheColumn : Type 0
@@ -35,4 +35,4 @@ BlockPiecesAreRead =
 abbrev pub BlockScansEndAsTheirTextSays : Type 0
 BlockScansEndAsTheirTextSays =
     (style : BlockStyle) (indent : ℕ) (text : List ℕ) (p : Position) → list_all is_some text ≡ true
-    → block_ends.BlockEndsAs style indent p text (block (is_literal_style style) indent (indicator_of style ∷ text) p)
+    → EndsAs (IsBlockRead style indent p text) (IsBlockRefusal style indent p text) (block (is_literal_style style) indent (indicator_of style ∷ text) p)

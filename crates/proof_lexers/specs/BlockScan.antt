@@ -1,5 +1,5 @@
 -- What the model of a block scalar's scan is told and what it answers, in the definitions' words.
-use Rattle.std.specs.Prelude.{◌≡◌, ℕ, zero, suc, List, [], ◌∷◌, Bool, true, false, ◌&&◌, not, ◌==◌, nat_lt, nat_le, if◌then◌else◌, Option, Some, None, Result, Ok, Err}
+use Rattle.std.specs.Prelude.{◌≡◌, ℕ, zero, suc, List, [], ◌∷◌, Bool, true, false, ◌&&◌, not, ◌==◌, nat_lt, nat_le, if◌then◌else◌, Option, Some, None, Result}
 use Rattle.defs_text.specs.Position.{Position, position_after}
 use Rattle.defs_text.specs.Classes.{space, tab, is_at_end}
 use Rattle.defs_text.specs.Breaks.{split}
@@ -11,6 +11,7 @@ use Rattle.yaml_tokens.specs.declared.problem.Fault.TheVariants.{At}
 use Rattle.yaml_tokens.specs.declared.problem.Problem.TheVariants as problem
 use Rattle.model_scanner.specs.Machine.{Read}
 use Rattle.model_scanner.specs.BlockScalar.{Block}
+use Rattle.proof_lexers.specs.Ends.{EndsAs}
 
 -- a header's digit; the scanner keeps 0 where there is none
 abbrev pub digit_by : (increment : ℕ) → Option ℕ
@@ -63,8 +64,15 @@ abbrev pub is_shallow : (indent : ℕ) → Position → BlockRead → (piece nex
 is_shallow indent p b piece next =
     ((not (is_at_end next) && is_none (first_content b.column true p piece)) && nat_le indent (further_position p piece next).col) && nat_lt (further_position p piece next).col b.column
 
--- The scan at a position read this block scalar from its piece, or refused what stands after it: a TAB, or text that is neither content nor outside the block collection.
-pub data IsRead (indent : ℕ) (p : Position) (b : BlockRead) (piece next : List ℕ) (x : Result (Read Block) Fault) : Type 0 where
-  read : is_tabbed piece next ≡ false → is_shallow indent p b piece next ≡ false → x ≡ Ok (read_block p b piece next) → IsRead indent p b piece next x
-  shallow : is_tabbed piece next ≡ false → is_shallow indent p b piece next ≡ true → x ≡ Err (At problem.BlockScalarIndentation (further_position p piece next)) → IsRead indent p b piece next x
-  tabbed : is_tabbed piece next ≡ true → x ≡ Err (At problem.BlockScalarTab p) → IsRead indent p b piece next x
+-- What is read of a block scalar's piece: all of it, where the text after it may stand there.
+pub data IsPieceRead (indent : ℕ) (p : Position) (b : BlockRead) (piece next : List ℕ) (r : Read Block) : Type 0 where
+  read : is_tabbed piece next ≡ false → is_shallow indent p b piece next ≡ false → r ≡ read_block p b piece next → IsPieceRead indent p b piece next r
+
+-- Why the text after a block scalar's piece is refused: a TAB, or text that is neither content nor outside the block collection.
+pub data IsPieceRefusal (indent : ℕ) (p : Position) (b : BlockRead) (piece next : List ℕ) : Fault → Type 0 where
+  shallow : is_tabbed piece next ≡ false → is_shallow indent p b piece next ≡ true → IsPieceRefusal indent p b piece next (At problem.BlockScalarIndentation (further_position p piece next))
+  tabbed : is_tabbed piece next ≡ true → IsPieceRefusal indent p b piece next (At problem.BlockScalarTab p)
+
+-- The scan at a position read this block scalar from its piece, or refused what stands after it.
+abbrev pub IsRead : (indent : ℕ) (p : Position) (b : BlockRead) (piece next : List ℕ) → Result (Read Block) Fault → Type 0
+IsRead indent p b piece next x = EndsAs (IsPieceRead indent p b piece next) (IsPieceRefusal indent p b piece next) x

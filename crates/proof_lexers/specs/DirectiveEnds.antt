@@ -1,5 +1,5 @@
 -- How the scan of a directive ends, told by its line. YAML 1.2, section 6.8.
-use Rattle.std.specs.Prelude.{◌≡◌, ℕ, suc, List, [], ◌∷◌, ◌++◌, Bool, true, false, nat_le, if◌then◌else◌, take, drop, length, Some, None, Result, Ok, Err, codes}
+use Rattle.std.specs.Prelude.{◌≡◌, ℕ, suc, List, [], ◌∷◌, ◌++◌, Bool, true, false, nat_le, if◌then◌else◌, take, drop, length, Some, None, Ok, Err, codes}
 use Rattle.defs_text.specs.Position.{Position, position_after}
 use Rattle.defs_text.specs.Text.{is_empty}
 use Rattle.defs_token.specs.Token.{Tok}
@@ -105,8 +105,10 @@ pub data IsDirectiveRefusal (start : Position) (line : List ℕ) : Fault → Typ
   after_version : (rest : List ℕ) → IsVersionBefore line rest → is_rest_of_line rest ≡ false → begins_with 35 rest ≡ false → IsDirectiveRefusal start line (At problem.DirectiveEnd start)
   after_declaration : (rest : List ℕ) → IsDeclarationBefore line rest → is_rest_of_line rest ≡ false → IsDirectiveRefusal start line (At problem.DirectiveEnd start)
 
--- The scan of a text after a `%`: it read the directive that its first line is, and the break after that; or the line is none, and the scan has a fault of which it is the reason.
-pub data DirectiveEndsAs (start : Position) (text : List ℕ) (x : Result (Read Tok) Fault) : Type 0 where
-  reads : (line next : List ℕ) (d : Directive) → text ≡ line ++ next → has_no_break line ≡ true → ends_line next ≡ true → directive_of (37 ∷ line) ≡ Some d
-      → x ≡ Ok (after_line start (37 ∷ line) next (token_of d)) → DirectiveEndsAs start text x
-  refuses : (line next : List ℕ) (f : Fault) → text ≡ line ++ next → has_no_break line ≡ true → ends_line next ≡ true → directive_of (37 ∷ line) ≡ None → IsDirectiveRefusal start line f → x ≡ Err f → DirectiveEndsAs start text x
+-- What is read of a text after a `%`: the directive that its first line is, and the break after that.
+pub data IsDirectiveRead (start : Position) (text : List ℕ) : Read Tok → Type 0 where
+  whole_directive : (line next : List ℕ) (d : Directive) → text ≡ line ++ next → has_no_break line ≡ true → ends_line next ≡ true → directive_of (37 ∷ line) ≡ Some d → IsDirectiveRead start text (after_line start (37 ∷ line) next (token_of d))
+
+-- Why it is refused: its first line is no directive, for one of these reasons.
+pub data IsNoDirective (start : Position) (text : List ℕ) (f : Fault) : Type 0 where
+  no_directive : (line next : List ℕ) → text ≡ line ++ next → has_no_break line ≡ true → ends_line next ≡ true → directive_of (37 ∷ line) ≡ None → IsDirectiveRefusal start line f → IsNoDirective start text f

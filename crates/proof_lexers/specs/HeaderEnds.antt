@@ -1,5 +1,5 @@
 -- How the scan of a block scalar's header ends, told by the rest of its line after `|` or `>`. YAML 1.2, section 8.1.1.
-use Rattle.std.specs.Prelude.{◌≡◌, ℕ, List, [], ◌∷◌, ◌++◌, Bool, true, false, ◌&&◌, ◌||◌, ◌==◌, not, if◌then◌else◌, Option, Some, None, Result, Ok, Err}
+use Rattle.std.specs.Prelude.{◌≡◌, ℕ, List, [], ◌∷◌, ◌++◌, Bool, true, false, ◌&&◌, ◌||◌, ◌==◌, not, if◌then◌else◌, Option, Some, None}
 use Rattle.std.specs.List.{list_all}
 use Rattle.defs_text.specs.Position.{Position}
 use Rattle.defs_text.specs.Text.{is_empty}
@@ -74,14 +74,14 @@ abbrev pub past_indicators : List ℕ → List ℕ
 past_indicators [] = []
 past_indicators (c ∷ r) = (if is_sign c then past_one (is_between 49 57) r else (if is_between 49 57 c then past_one is_sign r else c ∷ r))
 
--- How the scan of a header ends: `start` is the position of its `|` or `>`, and `line` the rest of its line, after which the line's end stands.
--- It read the header that the line is, if no TAB begins the next line; or the line is none, for a digit 0, a comment right after a header, or other text.
-pub data HeaderEndsAs (start : Position) (style : BlockStyle) (line after : List ℕ) (x : Result (Read Header) Fault) : Type 0 where
-  reads : (h : defs.Header) → header_of (indicator_of style ∷ line) ≡ Some h → begins_with tab (linebreak after start).rest ≡ false
-      → x ≡ Ok (read_header h after (along line (past start))) → HeaderEndsAs start style line after x
-  tabbed : (h : defs.Header) → header_of (indicator_of style ∷ line) ≡ Some h → begins_with tab (linebreak after start).rest ≡ true
-      → x ≡ Err (At problem.BlockScalarTab start) → HeaderEndsAs start style line after x
-  zero_digit : header_of (indicator_of style ∷ line) ≡ None → has_zero line ≡ true → x ≡ Err (At problem.BlockScalarZero start) → HeaderEndsAs start style line after x
+-- What is read of a line after the `|` or `>` at `start`, which ends before the text `after`: the header that it is, if no TAB begins the next line.
+pub data IsHeaderRead (start : Position) (style : BlockStyle) (line after : List ℕ) : Read Header → Type 0 where
+  whole_header : (h : defs.Header) → header_of (indicator_of style ∷ line) ≡ Some h → begins_with tab (linebreak after start).rest ≡ false → IsHeaderRead start style line after (read_header h after (along line (past start)))
+
+-- Why it is refused: a TAB begins the next line; or the line is no header, for a digit 0, a comment right after a header, or other text.
+pub data IsHeaderRefusal (start : Position) (style : BlockStyle) (line after : List ℕ) : Fault → Type 0 where
+  tabbed : (h : defs.Header) → header_of (indicator_of style ∷ line) ≡ Some h → begins_with tab (linebreak after start).rest ≡ true → IsHeaderRefusal start style line after (At problem.BlockScalarTab start)
+  zero_digit : header_of (indicator_of style ∷ line) ≡ None → has_zero line ≡ true → IsHeaderRefusal start style line after (At problem.BlockScalarZero start)
   comment : (h : defs.Header) (before text : List ℕ) → header_of (indicator_of style ∷ line) ≡ None → header_of (indicator_of style ∷ before) ≡ Some h → line ≡ before ++ 35 ∷ text
-      → x ≡ Err (At problem.CommentNotSeparated (along before (past start))) → HeaderEndsAs start style line after x
-  no_header : header_of (indicator_of style ∷ line) ≡ None → has_zero line ≡ false → is_rest_of_line (past_indicators line) ≡ false → begins_with 35 (past_indicators line) ≡ false → x ≡ Err (At problem.BlockScalarHeader start) → HeaderEndsAs start style line after x
+      → IsHeaderRefusal start style line after (At problem.CommentNotSeparated (along before (past start)))
+  no_header : header_of (indicator_of style ∷ line) ≡ None → has_zero line ≡ false → is_rest_of_line (past_indicators line) ≡ false → begins_with 35 (past_indicators line) ≡ false → IsHeaderRefusal start style line after (At problem.BlockScalarHeader start)

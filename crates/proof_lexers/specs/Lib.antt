@@ -4,6 +4,7 @@ pub mod BlockScan
 pub mod BufferLaws
 pub mod Buffers
 pub mod DirectiveEnds
+pub mod Ends
 pub mod Separations
 pub mod HeaderEnds
 pub mod NameEnds

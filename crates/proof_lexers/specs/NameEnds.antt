@@ -1,5 +1,5 @@
 -- How the scan of the name of an anchor or an alias ends, told by the text after its indicator. YAML 1.2, section 6.9.2.
-use Rattle.std.specs.Prelude.{◌≡◌, ℕ, ◌+◌, List, ◌++◌, true, false, length, Result, Ok, Err}
+use Rattle.std.specs.Prelude.{◌≡◌, ℕ, ◌+◌, List, ◌++◌, true, false, length}
 use Rattle.defs_text.specs.Position.{Position}
 use Rattle.yaml_tokens.specs.declared.problem.Fault.{Fault}
 use Rattle.yaml_tokens.specs.declared.problem.Fault.TheVariants.{At}
@@ -15,7 +15,10 @@ further n p = record { index = p.index + n; line = p.line; col = p.col + n }
 abbrev pub after_name : Position → (name rest : List ℕ) → Read (List ℕ)
 after_name p name rest = record { rest = rest; position = further (1 + length name) p; value = name }
 
--- The scan of a text after an indicator at a position: it read the name that the text begins with, or the text begins with none.
-pub data NameEndsAs (p : Position) (text : List ℕ) (x : Result (Read (List ℕ)) Fault) : Type 0 where
-  named : (name rest : List ℕ) → text ≡ name ++ rest → is_name name ≡ true → goes_on_with_name rest ≡ false → x ≡ Ok (after_name p name rest) → NameEndsAs p text x
-  nameless : goes_on_with_name text ≡ false → x ≡ Err (At problem.AnchorName p) → NameEndsAs p text x
+-- What is read of a text after an indicator at a position: the name that it begins with.
+pub data IsNameRead (p : Position) (text : List ℕ) : Read (List ℕ) → Type 0 where
+  named : (name rest : List ℕ) → text ≡ name ++ rest → is_name name ≡ true → goes_on_with_name rest ≡ false → IsNameRead p text (after_name p name rest)
+
+-- Why it is refused: it begins with no name.
+pub data IsNameRefusal (p : Position) (text : List ℕ) : Fault → Type 0 where
+  nameless : goes_on_with_name text ≡ false → IsNameRefusal p text (At problem.AnchorName p)

@@ -1,5 +1,5 @@
 -- How the scan of a plain scalar ends, told by its text and by what stands around it. YAML 1.2, section 7.3.3.
-use Rattle.std.specs.Prelude.{◌≡◌, ℕ, zero, suc, List, [], ◌∷◌, ◌++◌, Bool, true, false, ◌&&◌, ◌||◌, ◌==◌, not, nat_lt, nat_le, Option, Some, None, Result, Ok, Err}
+use Rattle.std.specs.Prelude.{◌≡◌, ℕ, zero, suc, List, [], ◌∷◌, ◌++◌, Bool, true, false, ◌&&◌, ◌||◌, ◌==◌, not, nat_lt, nat_le, Option, Some, None}
 use Rattle.defs_text.specs.Position.{Position, position_after}
 use Rattle.defs_text.specs.Classes.{is_blank, is_break}
 use Rattle.defs_text.specs.FlowScalar.{plain_value}
@@ -94,13 +94,11 @@ pub data IsPlainRefusal (ctx : Context) (start : Position) (text : List ℕ) : F
 abbrev pub after_plain : Position → (piece gap rest value : List ℕ) → Read Plain
 after_plain p piece gap rest value = record { rest = rest; position = position_after p (piece ++ gap) rest; value = record { text = value; leading = has_break gap } }
 
--- How a scan ends: it read the whole of a plain scalar as its value, and the blanks and breaks after it; or it has a fault of which the text is the reason.
-pub data PlainEndsAs (ctx : Context) (start : Position) (text : List ℕ) (x : Result (Read Plain) Fault) : Type 0 where
-  reads : (piece gap rest value : List ℕ) → text ≡ piece ++ (gap ++ rest) → is_whole_plain ctx.flow (collection_of ctx.indent) piece (gap ++ rest) ≡ true → is_gap gap ≡ true → begins_white rest ≡ false
-      → plain_value piece ≡ Some value → x ≡ Ok (after_plain start piece gap rest value) → PlainEndsAs ctx start text x
-  refuses : (f : Fault) → IsPlainRefusal ctx start text f → x ≡ Err f → PlainEndsAs ctx start text x
+-- What is read of a text: the whole of a plain scalar as its value, and the blanks and breaks after it.
+pub data IsPlainRead (ctx : Context) (start : Position) (text : List ℕ) : Read Plain → Type 0 where
+  whole_plain : (piece gap rest value : List ℕ) → text ≡ piece ++ (gap ++ rest) → is_whole_plain ctx.flow (collection_of ctx.indent) piece (gap ++ rest) ≡ true → is_gap gap ≡ true → begins_white rest ≡ false
+      → plain_value piece ≡ Some value → IsPlainRead ctx start text (after_plain start piece gap rest value)
 
--- The scan read just this piece, and the blanks and breaks that the text after it begins with, or it refused the text.
-pub data IsRead (ctx : Context) (start : Position) (piece next value : List ℕ) (x : Result (Read Plain) Fault) : Type 0 where
-  read : (gap rest : List ℕ) → next ≡ gap ++ rest → is_gap gap ≡ true → begins_white rest ≡ false → x ≡ Ok (after_plain start piece gap rest value) → IsRead ctx start piece next value x
-  refused : (f : Fault) → IsPlainRefusal ctx start (piece ++ next) f → x ≡ Err f → IsRead ctx start piece next value x
+-- What is read of this piece and the text after it: just the piece as its value, and the blanks and breaks that the text begins with.
+pub data IsScalarRead (start : Position) (piece next value : List ℕ) : Read Plain → Type 0 where
+  just : (gap rest : List ℕ) → next ≡ gap ++ rest → is_gap gap ≡ true → begins_white rest ≡ false → IsScalarRead start piece next value (after_plain start piece gap rest value)

@@ -1,5 +1,5 @@
 -- How the scan of a quoted scalar ends, told by the text after the opening quote.
-use Rattle.std.specs.Prelude.{◌≡◌, ℕ, ◌+◌, List, [], ◌∷◌, ◌++◌, Bool, true, false, ◌==◌, nat_lt, if◌then◌else◌, take, length, Option, Some, None, Result, Ok, Err}
+use Rattle.std.specs.Prelude.{◌≡◌, ℕ, ◌+◌, List, [], ◌∷◌, ◌++◌, Bool, true, false, ◌==◌, nat_lt, if◌then◌else◌, take, length, Option, Some, None}
 use Rattle.defs_text.specs.Position.{Position}
 use Rattle.defs_text.specs.Classes.{is_break}
 use Rattle.defs_text.specs.FlowScalar.{Element, elements, lookup, escapes, numeric_escapes, hexadecimal, is_character_code}
@@ -37,8 +37,9 @@ pub data IsQuotedRefusal (single : Bool) (ctx : Context) (start : Position) (tex
   by_column : (p : Position) → nat_lt (p.col + 1) ctx.indent ≡ true → IsQuotedRefusal single ctx start text (At problem.QuotedIndentation start)
   by_tab : (p : Position) → nat_lt (p.col + 1) ctx.indent ≡ true → IsQuotedRefusal single ctx start text (At problem.TabAsIndentation p)
 
--- How a scan ends: it read a body with a value as that, up to its closing quote; or it has a fault of which the text is the reason.
-pub data QuotedEndsAs (single : Bool) (ctx : Context) (start : Position) (text : List ℕ) (x : Result (Read (List ℕ)) Fault) : Type 0 where
-  reads : (body rest value : List ℕ) (position : Position) → text ≡ body ++ quote_of single ∷ rest → value_of single body ≡ Some value → ends_before single rest ≡ true
-      → x ≡ Ok (record { rest = rest; position = position; value = value }) → QuotedEndsAs single ctx start text x
-  refuses : (f : Fault) → IsQuotedRefusal single ctx start text f → x ≡ Err f → QuotedEndsAs single ctx start text x
+-- What is read of a text: the value of a body that stands there, up to its closing quote.
+pub record IsQuotedRead (single : Bool) (text : List ℕ) (r : Read (List ℕ)) : Type 0 where
+  pub body : List ℕ
+  pub is_text : text ≡ body ++ quote_of single ∷ r.rest
+  pub is_value : value_of single body ≡ Some r.value
+  pub may_end : ends_before single r.rest ≡ true

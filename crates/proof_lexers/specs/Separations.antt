@@ -1,5 +1,5 @@
 -- What the scanner's model passes between tokens is a separation of the text. YAML 1.2, sections 6.1 to 6.7.
-use Rattle.std.specs.Prelude.{◌≡◌, ℕ, suc, List, [], ◌∷◌, ◌++◌, Bool, true, false, ◌&&◌, ◌||◌, ◌==◌, not, nat_lt, Result, Ok, Err}
+use Rattle.std.specs.Prelude.{◌≡◌, ℕ, suc, List, [], ◌∷◌, ◌++◌, Bool, true, false, ◌&&◌, ◌||◌, ◌==◌, not, nat_lt}
 use Rattle.defs_text.specs.Position.{Position, position_after}
 use Rattle.defs_text.specs.Text.{is_empty}
 use Rattle.defs_text.specs.Classes.{is_break}
@@ -29,28 +29,33 @@ after_separation s leading separation rest =
 abbrev pub is_left : Held → Position → Bool
 is_left s p = not (is_empty s.indents) && nat_lt (suc p.col) s.indent
 
--- How the way to the next token ends: all of a separation was passed; or a TAB left of the innermost level has more blanks after it, and then a token.
-pub data PassesAs (s : Held) (text : List ℕ) (x : Result ScannerState Fault) : Type 0 where
-  passes : (leading : Bool) (separation rest : List ℕ) → text ≡ separation ++ rest → is_separation false separation rest ≡ true → begins_separation rest ≡ false → x ≡ Ok (after_separation s leading separation rest) → PassesAs s text x
-  refuses : (before blanks rest : List ℕ) → text ≡ before ++ 9 ∷ (blanks ++ rest) → is_separation false before (9 ∷ (blanks ++ rest)) ≡ true → is_left s (position_after s.position before (9 ∷ (blanks ++ rest))) ≡ true
-      → is_blanks blanks ≡ true → begins_token rest ≡ true → x ≡ Err (At problem.TabInBlockIndentation (position_after s.position (before ++ 9 ∷ blanks) rest)) → PassesAs s text x
+-- A separation that a text begins with was passed, and the text after it doesn't begin with more of what is passed there.
+pub record HasPassed (begins : List ℕ → Bool) (s : Held) (text : List ℕ) (u : ScannerState) : Type 0 where
+  pub is_leading : Bool
+  pub separation : List ℕ
+  pub cut : text ≡ separation ++ u.rest
+  pub is_filled : is_separation false separation u.rest ≡ true
+  pub solid : begins u.rest ≡ false
+  pub is_state : u ≡ after_separation s is_leading separation u.rest
 
--- A separation before what is none was passed; or a TAB left of the innermost level is refused.
-pub data IsPassed (s : Held) (separation rest : List ℕ) (x : Result ScannerState Fault) : Type 0 where
-  passed : (leading : Bool) → x ≡ Ok (after_separation s leading separation rest) → IsPassed s separation rest x
-  refused : (before blanks more : List ℕ) → separation ++ rest ≡ before ++ 9 ∷ (blanks ++ more) → is_separation false before (9 ∷ (blanks ++ more)) ≡ true → is_left s (position_after s.position before (9 ∷ (blanks ++ more))) ≡ true
-      → is_blanks blanks ≡ true → begins_token more ≡ true → x ≡ Err (At problem.TabInBlockIndentation (position_after s.position (before ++ 9 ∷ blanks) more)) → IsPassed s separation rest x
+-- Why the way to the next token is refused: a TAB left of the innermost level has more blanks after it, and then a token.
+pub data IsTabRefusal (s : Held) (text : List ℕ) : Fault → Type 0 where
+  tab_left : (before blanks rest : List ℕ) → text ≡ before ++ 9 ∷ (blanks ++ rest) → is_separation false before (9 ∷ (blanks ++ rest)) ≡ true → is_left s (position_after s.position before (9 ∷ (blanks ++ rest))) ≡ true
+      → is_blanks blanks ≡ true → begins_token rest ≡ true → IsTabRefusal s text (At problem.TabInBlockIndentation (position_after s.position (before ++ 9 ∷ blanks) rest))
+
+-- just this separation was passed
+abbrev pub IsAfter : Held → (separation rest : List ℕ) → ScannerState → Type 0
+IsAfter s separation rest u = (leading : Bool) × (u ≡ after_separation s leading separation rest)
 
 -- whether a text begins with a space, a break or a comment
 abbrev pub begins_white_space : List ℕ → Bool
 begins_white_space [] = false
 begins_white_space (c ∷ r) = (c == 32) || is_break c || (c == 35)
 
--- How the way over what must stand after a `?` ends: spaces, breaks and comments were passed; or neither a space nor a break stands there, nor after a comment.
-pub data GoesOverAs (s : Held) (text : List ℕ) (x : Result ScannerState Fault) : Type 0 where
-  goes : (leading : Bool) (separation rest : List ℕ) → text ≡ separation ++ rest → is_separation false separation rest ≡ true → begins_white_space rest ≡ false → x ≡ Ok (after_separation s leading separation rest) → GoesOverAs s text x
+-- Why the way over what must stand after a `?` is refused: neither a space nor a break stands there, nor after a comment.
+pub data HasNoWhiteSpace (s : Held) (text : List ℕ) : Fault → Type 0 where
   misses : (separation rest : List ℕ) → text ≡ separation ++ rest → is_separation false separation rest ≡ true → begins_with 32 text ≡ false → has_break separation ≡ false → begins_white_space rest ≡ false
-      → x ≡ Err (At problem.WhitespaceExpected (position_after s.position separation rest)) → GoesOverAs s text x
+      → HasNoWhiteSpace s text (At problem.WhitespaceExpected (position_after s.position separation rest))
 
 -- what spaces, TABs and a comment leave at a position, and which of the first two stood there
 abbrev pub after_space : Position → (separation rest : List ℕ) → Whitespace → Read Whitespace
@@ -71,8 +76,11 @@ abbrev pub ends_spaces : SkipTabs → List ℕ → Bool
 ends_spaces tabs [] = true
 ends_spaces tabs (c ∷ r) = not ((c == 32) || ((c == 9) && are_skipped tabs) || (c == 35))
 
--- How the way over blanks and a comment ends: all blanks and maybe a comment after one were passed, which is a separation of one line; or a comment stands after no blank.
-pub data SpacesAs (tabs : SkipTabs) (p : Position) (text : List ℕ) (x : Result (Read Whitespace) Fault) : Type 0 where
+-- What is passed within a line: all blanks and maybe a comment after one, which is a separation of one line.
+pub data HasSpaces (tabs : SkipTabs) (p : Position) (text : List ℕ) : Read Whitespace → Type 0 where
   spaces : (blanks comment rest : List ℕ) → text ≡ blanks ++ (comment ++ rest) → are_spaces tabs blanks ≡ true → is_separation false (blanks ++ comment) rest ≡ true → has_break (blanks ++ comment) ≡ false → ends_spaces tabs rest ≡ true
-      → x ≡ Ok (after_space p (blanks ++ comment) rest (record { found_tabs = has 9 blanks; has_valid_yaml_ws = has 32 blanks })) → SpacesAs tabs p text x
-  glued : begins_with 35 text ≡ true → x ≡ Err (At problem.CommentNotSeparated p) → SpacesAs tabs p text x
+      → HasSpaces tabs p text (after_space p (blanks ++ comment) rest (record { found_tabs = has 9 blanks; has_valid_yaml_ws = has 32 blanks }))
+
+-- Why it is refused: a comment stands after no blank.
+pub data IsGlued (p : Position) (text : List ℕ) : Fault → Type 0 where
+  glued : begins_with 35 text ≡ true → IsGlued p text (At problem.CommentNotSeparated p)

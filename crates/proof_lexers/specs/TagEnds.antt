@@ -1,5 +1,5 @@
 -- How the scan of a tag ends, told by the text after its `!`. YAML 1.2, sections 5.6 and 6.9.1.
-use Rattle.std.specs.Prelude.{◌≡◌, ℕ, List, [], ◌∷◌, ◌++◌, Bool, true, false, ◌&&◌, ◌||◌, length, Some, Result, Ok, Err}
+use Rattle.std.specs.Prelude.{◌≡◌, ℕ, List, [], ◌∷◌, ◌++◌, Bool, true, false, ◌&&◌, ◌||◌, length, Some, Ok, Err}
 use Rattle.defs_text.specs.Position.{Position}
 use Rattle.defs_text.specs.Classes.{is_alpha, is_uri, is_tag, is_at_gap}
 use Rattle.defs_text.specs.FlowScalar.{begins_with}
@@ -34,8 +34,11 @@ pub data IsTagRefusal (in_flow : Bool) (text : List ℕ) : Problem → Type 0 wh
   local_octets : (f : UriFault) → begins_with 60 text ≡ false → begins_with_mark (after is_alpha text) ≡ false → decoded (leading is_tag (after is_alpha text)) ≡ Err f → IsTagRefusal in_flow text (problem_of f)
   local_goes_on : (suffix : List ℕ) → begins_with 60 text ≡ false → begins_with_mark (after is_alpha text) ≡ false → decoded (leading is_tag (after is_alpha text)) ≡ Ok suffix → may_follow in_flow (after is_tag (after is_alpha text)) ≡ false → IsTagRefusal in_flow text problem.TagEnd
 
--- How a scan ends: it read a tag that stands there as what it is; or it has a fault of which the text is the reason.
-pub data TagEndsAs (in_flow : Bool) (start : Position) (text : List ℕ) (x : Result (Read Tag) Fault) : Type 0 where
-  reads : (piece rest handle suffix : List ℕ) → text ≡ piece ++ rest → written_tag (33 ∷ piece) ≡ Some (record { handle = handle; suffix = suffix }) → may_follow in_flow rest ≡ true
-      → x ≡ Ok (after_tag start (33 ∷ piece) rest handle suffix) → TagEndsAs in_flow start text x
-  refuses : (why : Problem) → IsTagRefusal in_flow text why → x ≡ Err (At why start) → TagEndsAs in_flow start text x
+-- The fault of such a text, at the position of its `!`.
+pub data IsTagFault (in_flow : Bool) (start : Position) (text : List ℕ) : Fault → Type 0 where
+  at_start : (why : Problem) → IsTagRefusal in_flow text why → IsTagFault in_flow start text (At why start)
+
+-- What is read of a text: a tag that stands there, before what may follow one.
+pub data IsTagRead (in_flow : Bool) (start : Position) (text : List ℕ) : Read Tag → Type 0 where
+  whole_tag : (piece rest handle suffix : List ℕ) → text ≡ piece ++ rest → written_tag (33 ∷ piece) ≡ Some (record { handle = handle; suffix = suffix }) → may_follow in_flow rest ≡ true
+      → IsTagRead in_flow start text (after_tag start (33 ∷ piece) rest handle suffix)

@@ -55,10 +55,6 @@ blocks_end k here p b bs =
     subst (λ cs. LeadTo (account_by here b (somes bs) []) (ends_at p bs (blocks_at false k here.col bs)) (account_by here b (somes cs) [])) o.0
     (ends_lead (length bs - length (blocks_at false k here.col bs)) here p b bs (omega arith))
 
--- all of them
-pub all_end : (here p : Position) (b : Before) (bs : List ℕ) → LeadTo (account_by here b (somes bs) []) (replicate (length bs) (put p block_end)) (account_by here b [] [])
-all_end here p b bs = subst (λ cs. LeadTo (account_by here b (somes bs) []) (replicate (length bs) (put p block_end)) (account_by here b (somes cs) [])) (sym (ap (λ k. drop k bs) (omega arith)) ∙ drop_all bs) (ends_lead (length bs) here p b bs (omega arith))
-
 -- none ends
 pub none_ends : (a : Account) (p : Position) (bs cs : List ℕ) → cs ≡ bs → LeadTo a (ends_at p bs cs) a
 none_ends a p bs cs same =

@@ -1,9 +1,8 @@
 -- Each scan of a block scalar ends as its text says.
-use Rattle.proof_lexers.proofs.Common.{[], along, and_parts, ap, append-nil, arith, At, begins_with, block, block_read, BlockRead, BlockScansEndAsTheirTextSays, BlockStyle, body, collection_of, column_by, comment, ends_line, Err, false, Fault, first_line, further_text, header, header_of, indicator_of, inl, input_ends, inr, is_at_end, is_further_text, is_in_line, is_literal_style, is_some, IsRead, leading_spaces, linebreak, List, list_all, no_header, None, not, Option, past, Position, Read, read_body, read_lines, read_split, reads, refl, Row, row_of, rows_of, Some, starts_with_tab, subst, suc, sym, tab, tabbed, true, unbroken, value_before_end, value_before_text, zero, zero_digit, ℕ, ◌++◌, ◌==◌, ◌∙◌, ◌∷◌, ◌≡◌}
-use Rattle.yaml_tokens.specs.declared.problem.Problem.TheVariants as problem
+use Rattle.proof_lexers.proofs.Common.{[], and_parts, ap, append-nil, arith, begins_with, block, block_read, BlockRead, BlockScansEndAsTheirTextSays, BlockStyle, body, collection_of, column_by, ends_line, EndsAs, false, first_line, further_text, header, header_of, indicator_of, inl, inr, is_at_end, is_further_text, is_in_line, is_literal_style, is_some, IsHeaderRead, IsHeaderRefusal, IsRead, leading_spaces, linebreak, List, list_all, None, not, Option, past, Position, Read, read_body, read_lines, read_split, reads, refl, refuses, Row, row_of, rows_of, Some, starts_with_tab, subst, suc, sym, tab, true, unbroken, value_before_end, value_before_text, whole_header, zero, ℕ, ◌++◌, ◌==◌, ◌∙◌, ◌∷◌, ◌≡◌}
 use Rattle.defs_text.specs.BlockScalar as defs
-use Rattle.proof_lexers.specs.HeaderEnds as header_ends
-use Rattle.proof_lexers.specs.BlockEnds.{BlockEndsAs, scalar, bad_header}
+use Rattle.proof_lexers.specs.BlockEnds.{IsBlockPiece, IsBlockRead, IsBlockRefusal, whole_block, after_piece, bad_header}
+use Rattle.proof_lexers.proofs.Ends.{ends_also}
 use Rattle.proof_lexers.proofs.Blocks.Written.{Break, feed, carriage, both, Line, put, spell, texts, Fits, AreLines, lined, split_spell}
 use Rattle.proof_lexers.proofs.Blocks.Headers.{headers_end}
 use Rattle.proof_lexers.proofs.Blocks.Positions.{spell_more}
@@ -70,19 +69,13 @@ style_same defs.folded defs.folded e = refl
 
 module _ (style : BlockStyle) (indent : ℕ) (p : Position) where
   abbrev Ends : List ℕ → Type 0
-  Ends text = BlockEndsAs style indent p text (block (is_literal_style style) indent (indicator_of style ∷ text) p)
+  Ends text = EndsAs (IsBlockRead style indent p text) (IsBlockRefusal style indent p text) (block (is_literal_style style) indent (indicator_of style ∷ text) p)
 
-  header_refused : (line after : List ℕ) (f : Fault) → is_in_line line ≡ true → ends_line after ≡ true → header_ends.HeaderEndsAs p style line after (Err f) → header p (line ++ after) (past p) ≡ Err f → Ends (line ++ after)
-  unfolding block
-  header_refused line after f inner at_end why e = bad_header line after f refl inner at_end why (rw e refl)
-
-  by_header : (line after : List ℕ) → is_in_line line ≡ true → ends_line after ≡ true → header_ends.HeaderEndsAs p style line after (header p (line ++ after) (past p))
+  by_header : (line after : List ℕ) → is_in_line line ≡ true → ends_line after ≡ true → EndsAs (IsHeaderRead p style line after) (IsHeaderRefusal p style line after) (header p (line ++ after) (past p))
       → ((h : defs.Header) → header_of (indicator_of style ∷ line) ≡ Some h → begins_with tab (linebreak after p).rest ≡ false → Ends (line ++ after)) → Ends (line ++ after)
-  by_header line after inner at_end (reads h f t e) go = go h f t
-  by_header line after inner at_end (tabbed h f t e) go = header_refused line after (At problem.BlockScalarTab p) inner at_end (tabbed h f t refl) e
-  by_header line after inner at_end (zero_digit f z e) go = header_refused line after (At problem.BlockScalarZero p) inner at_end (zero_digit f z refl) e
-  by_header line after inner at_end (comment g b t f w c e) go = header_refused line after (At problem.CommentNotSeparated (along b (past p))) inner at_end (comment g b t f w c refl) e
-  by_header line after inner at_end (no_header f z m b e) go = header_refused line after (At problem.BlockScalarHeader p) inner at_end (no_header f z m b refl) e
+  unfolding block
+  by_header line after inner at_end (reads r (whole_header h f t) e) go = go h f t
+  by_header line after inner at_end (refuses f why e) go = refuses f (bad_header line after refl inner at_end why) (rw e refl)
 
   -- a piece that is a block scalar
   found : (text piece next : List ℕ) (h : defs.Header) (line : List ℕ) (b : BlockRead) → header_of (indicator_of style ∷ line) ≡ Some h → h.style ≡ b.style → indicator_of style ∷ text ≡ piece ++ next → list_all is_some next ≡ true
@@ -92,7 +85,8 @@ module _ (style : BlockStyle) (indent : ℕ) (p : Position) where
       let own : b.style ≡ style = sym same ∙ sym (style_same style h.style z.begins) in
       let it : IsRead indent p b piece next (block (is_literal_style b.style) indent (piece ++ next) p) = pieces_are_read indent piece next p b some value in
       let so : IsRead indent p b piece next (block (is_literal_style style) indent (indicator_of style ∷ text) p) = subst (λ (a : List ℕ). IsRead indent p b piece next (block (is_literal_style style) indent a p)) (sym cut) (subst (λ (s : BlockStyle). IsRead indent p b piece next (block (is_literal_style s) indent (piece ++ next) p)) own it) in
-      scalar piece next b cut value own so
+      let here : IsBlockPiece style indent text piece next b = record { is_text = cut; is_read = value; is_style = own } in
+      ends_also (λ r read. whole_block piece next b here read) (λ f why. after_piece piece next b here why) so
 
   -- ---- a header alone
 

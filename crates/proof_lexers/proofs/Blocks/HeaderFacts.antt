@@ -1,5 +1,5 @@
 -- What a header says of itself, and that the model reads it so.
-use Rattle.proof_lexers.proofs.Common.{[], after_digit, after_sign, after_style, along, ap, arith, At, begins_with, BlockStyle, Bool, cases_Bool, clip, comment, digit_by, digit_of, digit_or_end, digit_or_zero, ended, ends_line, eqb-true, Err, false, first_indicator, folded, header, header_of, if◌then◌else◌, indicator_of, inl, inr, is_in_line, is_rest_of_line, linebreak, List, literal, nat_tests, no_header, None, Ok, Option, past, Position, read_header, reads, refl, sign_of, sign_or_end, Some, suc, sym, tab, tabbed, true, zero_digit, ℕ, ◌++◌, ◌-◌, ◌==◌, ◌∙◌, ◌∷◌, ◌≡◌, ◌≤◌}
+use Rattle.proof_lexers.proofs.Common.{[], after_digit, after_sign, after_style, along, ap, arith, At, begins_with, BlockStyle, Bool, cases_Bool, clip, comment, digit_by, digit_of, digit_or_end, digit_or_zero, ended, ends_line, eqb-true, Err, false, Fault, first_indicator, folded, header, Header, header_of, if◌then◌else◌, indicator_of, inl, inr, is_in_line, is_rest_of_line, IsHeaderRead, IsHeaderRefusal, linebreak, List, literal, nat_tests, no_header, None, Ok, Option, past, Position, Read, read_header, reads, refl, refuses, sign_of, sign_or_end, Some, suc, sym, tab, tabbed, true, whole_header, zero_digit, ℕ, ◌++◌, ◌-◌, ◌==◌, ◌∙◌, ◌∷◌, ◌≡◌, ◌≤◌}
 use Rattle.yaml_tokens.specs.declared.problem.Problem.TheVariants as problem
 use Rattle.defs_text.specs.Classes as classes
 use Rattle.defs_text.specs.BlockScalar as defs
@@ -77,23 +77,22 @@ said c l h e = by (c == 124) (c == 62) refl refl e
 -- ---- the model reads it
 
 module _ (h : defs.Header) (line after : List ℕ) (p : Position) (is : header_of (indicator_of h.style ∷ line) ≡ Some h) where
+  -- what is read of a header's line is the header
+  own : (r : Read Header) → IsHeaderRead p h.style line after r → (begins_with tab (linebreak after p).rest ≡ false) × (r ≡ read_header h after (along line (past p)))
+  own r (whole_header g f t) = let same : g ≡ h = (let x : Some g ≡ Some h = sym f ∙ is in cc) in (t, ap (λ k. read_header k after (along line (past p))) same)
+
+  -- it is refused for a TAB only
+  for_tab : (f : Fault) → IsHeaderRefusal p h.style line after f → (begins_with tab (linebreak after p).rest ≡ true) × (f ≡ At problem.BlockScalarTab p)
+  for_tab f (tabbed g k t) = (t, refl)
+  for_tab f (zero_digit none z) = absurd (cc (none, is))
+  for_tab f (comment g b t none w c) = absurd (cc (none, is))
+  for_tab f (no_header none z m b) = absurd (cc (none, is))
+
   pub header_reads : is_in_line line ≡ true → ends_line after ≡ true → begins_with tab (linebreak after p).rest ≡ false → header p (line ++ after) (past p) ≡ Ok (read_header h after (along line (past p)))
-  header_reads inner ends still = elim (headers_end h.style line after p inner ends) [
-    | reads g f t e ↦ let same : g ≡ h = (let x : Some g ≡ Some h = sym f ∙ is in cc) in e ∙ ap (λ k. Ok (read_header k after (along line (past p)))) same
-    | tabbed g f t e ↦ let no : true ≡ false = sym t ∙ still in cc
-    | zero_digit f z e ↦ let no : None ≡ Some h = sym f ∙ is in cc
-    | comment g b t f w c e ↦ let no : None ≡ Some h = sym f ∙ is in cc
-    | no_header f z m b e ↦ let no : None ≡ Some h = sym f ∙ is in cc
-  ]
+  header_reads inner ends still = elim (headers_end h.style line after p inner ends) [ reads r k e ↦ e ∙ ap Ok (own r k).1 | refuses f why e ↦ let no = (for_tab f why).0 in absurd (cc (no, still)) ]
 
   pub header_tabs : is_in_line line ≡ true → ends_line after ≡ true → begins_with tab (linebreak after p).rest ≡ true → header p (line ++ after) (past p) ≡ Err (At problem.BlockScalarTab p)
-  header_tabs inner ends still = elim (headers_end h.style line after p inner ends) [
-    | reads g f t e ↦ let no : false ≡ true = sym t ∙ still in cc
-    | tabbed g f t e ↦ e
-    | zero_digit f z e ↦ let no : None ≡ Some h = sym f ∙ is in cc
-    | comment g b t f w c e ↦ let no : None ≡ Some h = sym f ∙ is in cc
-    | no_header f z m b e ↦ let no : None ≡ Some h = sym f ∙ is in cc
-  ]
+  header_tabs inner ends begins = elim (headers_end h.style line after p inner ends) [ reads r k e ↦ let no = (own r k).0 in absurd (cc (no, begins)) | refuses f why e ↦ e ∙ ap Err (for_tab f why).1 ]
 
 pub linebreak_put : (k : Break) (a : List ℕ) (q : Position) → Fits k a → linebreak (put k a) q ≡ record { rest = a; position = after_break k q; value = tt }
 linebreak_put feed a q fits = refl

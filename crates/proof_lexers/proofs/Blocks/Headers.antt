@@ -1,5 +1,5 @@
 -- Block scalars' headers are read as what they say.
-use Rattle.proof_lexers.proofs.Common.{[], after_digit, after_sign, after_style, along, and_then, ap, arith, At, begins_with, BlockStyle, Bool, cases_Bool, chomping, chomping_of, clip, comment, digit_of, digit_or_end, ends_line, eqb-true, Err, false, first_indicator, folded, further, has_zero, header, header_break, header_end, header_of, HeaderEndsAs, HeadersEndAsTheirLineSays, if◌then◌else◌, increment, indicator_of, indicators, indicators_of, inl, inr, is_break, is_in_line, is_rest_of_line, is_sign, keep, late_chomping, length, linebreak, List, literal, nat_tests, no_header, None, Ok, Option, or-true, past, past_indicators, Position, Read, reads, refl, sign_of, sign_or_end, slice_index, Some, space, strip, sym, tab, tabbed, true, with_chomping, with_indicators, Yes, zero_digit, ℕ, ◌&&◌, ◌++◌, ◌-◌, ◌==◌, ◌∙◌, ◌∷◌, ◌≡◌}
+use Rattle.proof_lexers.proofs.Common.{[], after_digit, after_sign, after_style, along, and_then, ap, arith, At, begins_with, BlockStyle, Bool, cases_Bool, chomping, chomping_of, clip, comment, digit_of, ends_line, EndsAs, eqb-true, Err, false, folded, further, has_zero, header, header_break, header_end, header_of, HeadersEndAsTheirLineSays, if◌then◌else◌, increment, indicator_of, indicators, indicators_of, inl, inr, is_break, is_in_line, is_rest_of_line, is_sign, IsHeaderRead, IsHeaderRefusal, keep, late_chomping, length, linebreak, List, literal, nat_tests, no_header, None, Ok, Option, or-true, past, past_indicators, Position, Read, reads, refl, refuses, sign_of, slice_index, Some, space, strip, sym, tab, tabbed, true, whole_header, with_chomping, with_indicators, Yes, zero_digit, ℕ, ◌&&◌, ◌++◌, ◌-◌, ◌==◌, ◌∙◌, ◌∷◌, ◌≡◌}
 use Rattle.yaml_chars.specs.Class.{is_digit}
 use Rattle.yaml_tokens.specs.declared.problem.Problem.TheVariants as problem
 use Rattle.yaml_tokens.specs.declared.token.Chomping.TheVariants.{Clip}
@@ -27,18 +27,18 @@ same_tab [] = refl
 same_tab (c ∷ a) = refl
 
 module _ (start : Position) (style : BlockStyle) (line r : List ℕ) (h : defs.Header) (is : header_of (indicator_of style ∷ line) ≡ Some h) (q : Position) (along_it : along line (past start) ≡ q) where
-  at_line_end : ends_line r ≡ true → HeaderEndsAs start style line r (and_then (header_break start r q) (λ (b : Read Bool). Ok (with_indicators (indicators_of h) b)))
+  at_line_end : ends_line r ≡ true → EndsAs (IsHeaderRead start style line r) (IsHeaderRefusal start style line r) (and_then (header_break start r q) (λ (b : Read Bool). Ok (with_indicators (indicators_of h) b)))
   unfolding header_break
   at_line_end e = of_text r e
     where
       next : (c : ℕ) (a : List ℕ) (t : Bool) → begins_with tab (linebreak (c ∷ a) start).rest ≡ t → (slice_index (linebreak (c ∷ a) q).rest 0 == 9) ≡ t
       next c a t f = same_tab (linebreak (c ∷ a) q).rest ∙ ap (begins_with tab) (same_rest (c ∷ a) q start) ∙ f
 
-      of_text : (a : List ℕ) → ends_line a ≡ true → HeaderEndsAs start style line a (and_then (header_break start a q) (λ (b : Read Bool). Ok (with_indicators (indicators_of h) b)))
-      of_text [] e = reads h is refl (rw along_it refl)
+      of_text : (a : List ℕ) → ends_line a ≡ true → EndsAs (IsHeaderRead start style line a) (IsHeaderRefusal start style line a) (and_then (header_break start a q) (λ (b : Read Bool). Ok (with_indicators (indicators_of h) b)))
+      of_text [] e = reads _ (whole_header h is refl) (rw along_it refl)
       of_text (c ∷ a) e = elim (cases_Bool (begins_with tab (linebreak (c ∷ a) start).rest)) [
-        | inl f ↦ tabbed h is f (rw (← same_break c, e, next c a true f) refl)
-        | inr f ↦ reads h is f (rw (← same_break c, e, next c a false f, along_it) refl)
+        | inl f ↦ refuses _ (tabbed h is f) (rw (← same_break c, e, next c a true f) refl)
+        | inr f ↦ reads _ (whole_header h is f) (rw (← same_break c, e, next c a false f, along_it) refl)
       ]
 
 -- ---- the indicators
@@ -76,7 +76,7 @@ end_increment start (c ∷ r) p e = let s = still c (sym (same_break c) ∙ e) i
 
 module _ (start : Position) (style : BlockStyle) (r : List ℕ) (ends : ends_line r ≡ true) where
   abbrev Ends : List ℕ → Type 0
-  Ends line = HeaderEndsAs start style line r (header start (line ++ r) (past start))
+  Ends line = EndsAs (IsHeaderRead start style line r) (IsHeaderRefusal start style line r) (header start (line ++ r) (past start))
 
   -- a line's indicators end before this text, and no `0` stands among them
   abbrev EndsBefore : List ℕ → List ℕ → Type 0
@@ -96,15 +96,15 @@ module _ (start : Position) (style : BlockStyle) (r : List ℕ) (ends : ends_lin
           let some : header_of (indicator_of style ∷ line) ≡ Some h = rw rest at is in
           let position : along line (past start) ≡ further (length w) q = ap (λ x. along x (past start)) cut ∙ along_append before w (past start) ∙ along_further w q in
           rw (reads_it, e) (at_line_end start style line r h some (further (length w) q) position ends)
-      told (glued text so unlike e) = comment h before text (rw unlike at is) own (cut ∙ ap (λ x. before ++ x) so) (rw (reads_it, e) refl)
-      told (goes_on c more p v unlike begins solid e) = no_header (rw unlike at is) before_it.1 (ap is_rest_of_line before_it.0 ∙ unlike) (ap (begins_with 35) before_it.0 ∙ begins) (rw (reads_it, e, solid) refl)
+      told (glued text so unlike e) = refuses _ (comment h before text (rw unlike at is) own (cut ∙ ap (λ x. before ++ x) so)) (rw (reads_it, e) refl)
+      told (goes_on c more p v unlike begins solid e) = refuses _ (no_header (rw unlike at is) before_it.1 (ap is_rest_of_line before_it.0 ∙ unlike) (ap (begins_with 35) before_it.0 ∙ begins)) (rw (reads_it, e, solid) refl)
 
   abbrev made : defs.Chomping → Option ℕ → defs.Header
   made ch d = record { style = style; chomping = ch; digit = d }
 
   zero_fails : (line : List ℕ) → header_of (indicator_of style ∷ line) ≡ None → has_zero line ≡ true → indicators start (line ++ r) (past start) ≡ Err (At problem.BlockScalarZero start) → Ends line
   unfolding header
-  zero_fails line none zero e = zero_digit none zero (rw e refl)
+  zero_fails line none zero e = refuses _ (zero_digit none zero) (rw e refl)
 
   said : (l : List ℕ) → header_of (indicator_of style ∷ l) ≡ after_style style l
   said l = elim style as (λ s. header_of (indicator_of s ∷ l) ≡ after_style s l) [ literal ↦ refl | folded ↦ refl ]

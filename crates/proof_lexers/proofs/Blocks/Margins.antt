@@ -1,5 +1,5 @@
 -- What the model does before content: spaces and breaks.
-use Rattle.proof_lexers.proofs.Common.{[], along, and_parts, ap, append-nil, arith, BlockState, Bool, cases_Bool, Column, false, indent_from, inl, inr, is_break, is_cr_lf, is_spaces, length, Lines, lines_from, List, lt-ltb, Margin, margin, nat_lt, past, past_break, Position, Read, refl, sym, true, ℕ, ◌&&◌, ◌++◌, ◌+◌, ◌==◌, ◌∙◌, ◌∷◌, ◌≡◌, ◌≤◌}
+use Rattle.proof_lexers.proofs.Common.{[], along, and_parts, ap, append-nil, arith, BlockState, Bool, cases_Bool, Column, indent_from, inl, inr, is_break, is_cr_lf, is_spaces, length, Lines, lines_from, List, lt-ltb, Margin, margin, nat_lt, past, past_break, Position, Read, refl, sym, true, ℕ, ◌&&◌, ◌++◌, ◌+◌, ◌==◌, ◌∙◌, ◌∷◌, ◌≡◌, ◌≤◌}
 use Rattle.proof_lexers.proofs.Blocks.Written.{Break, feed, carriage, both, Line, put, Fits}
 
 -- the position after a break

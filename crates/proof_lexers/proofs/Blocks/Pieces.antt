@@ -1,5 +1,5 @@
 -- Each piece that is a block scalar is read as it.
-use Rattle.proof_lexers.proofs.Common.{[], and_parts, ap, append-nil, begins_with, block, block_value, BlockPiecesAreRead, BlockRead, Body, body, Bool, collection_of, column_by, digit_by, digit_or_zero, false, further_is_no_break, further_text, header_of, indent_from, indicator_of, input_ends, is_at_end, is_further_text, is_in_line, is_literal_style, is_single, is_some, is_tabbed, IsRead, List, list_all, None, not, not-true, Option, Position, read_body, read_lines, read_split, refl, Row, row_of, rows_of, slice_index, Some, Split, split, starts_with_tab, subst, sym, tab, true, unbroken, value_at_end, value_at_text, value_before_end, value_before_text, ℕ, ◌&&◌, ◌++◌, ◌==◌, ◌∙◌, ◌∷◌, ◌≡◌}
+use Rattle.proof_lexers.proofs.Common.{[], and_parts, ap, append-nil, begins_with, block, BlockPiecesAreRead, BlockRead, Body, body, Bool, collection_of, column_by, digit_by, digit_or_zero, false, further_is_no_break, further_text, header_of, indent_from, indicator_of, input_ends, is_at_end, is_further_text, is_in_line, is_literal_style, is_single, is_some, is_tabbed, IsRead, List, list_all, None, not, not-true, Option, Position, read_body, read_lines, read_split, refl, refuses, Row, row_of, rows_of, slice_index, Some, Split, split, starts_with_tab, subst, sym, tab, true, unbroken, value_before_end, value_before_text, ℕ, ◌&&◌, ◌++◌, ◌==◌, ◌∙◌, ◌∷◌, ◌≡◌}
 use Rattle.defs_text.specs.Classes as classes
 use Rattle.defs_text.specs.BlockScalar as defs
 use Rattle.proof_lexers.specs.BlockScan.{tabbed}
@@ -114,7 +114,7 @@ module _ (indent : ℕ) (p : Position) (next : List ℕ) where
     no_tab (l ∷ ls) fits are e = ap (λ (s : Split). is_single s.complete && begins_with tab next) (cut_of (l ∷ ls) fits are)
 
     text_here : (t : Bool) → begins_with tab (spell ls next) ≡ t → IsRead indent p (record { style = h.style; column = column_here; text = value_before_text h z.rows }) (indicator_of h.style ∷ (line ++ put k (spell ls []))) next (block (is_literal_style h.style) indent (indicator_of h.style ∷ (line ++ put k (spell ls next))) p)
-    text_here true e = tabbed (first_tab ls fits are z.tabless e) (tab_fails h line k indent p is digit inner (spell ls next) (fits_before k ls [] next (fits_next k next free) fits) e)
+    text_here true e = refuses _ (tabbed (first_tab ls fits are z.tabless e)) (tab_fails h line k indent p is digit inner (spell ls next) (fits_before k ls [] next (fits_next k next free) fits) e)
       where
         first_tab : (ls : List Line) → Fits k (spell ls []) → AreLines ls [] → starts_with_tab (texts ls) ≡ false → begins_with tab (spell ls next) ≡ true → is_tabbed (indicator_of h.style ∷ (line ++ put k (spell ls []))) next ≡ true
         first_tab [] fits are f g = ap (λ (s : Split). is_single s.complete && begins_with tab next) (cut_of [] fits are) ∙ g

@@ -1,5 +1,5 @@
 -- The definitions' positions are the model's.
-use Rattle.proof_lexers.proofs.Common.{[], along, and_parts, ap, append-nil, append_assoc, arith, eqb-true, false, first_content, is_break, is_in_line, is_spaces, length, List, lt-ltb, nat_lt, None, not, past, past_break, Position, position_after, position_past, refl, slice_index, suc, sym, true, ℕ, ◌++◌, ◌+◌, ◌==◌, ◌∙◌, ◌∷◌, ◌≡◌, ◌≤◌}
+use Rattle.proof_lexers.proofs.Common.{[], along, and_parts, ap, append-nil, append_assoc, arith, eqb-true, false, first_content, is_break, is_in_line, is_spaces, length, List, lt-ltb, nat_lt, None, not, past, past_break, Position, position_after, position_past, refl, slice_index, sym, true, ℕ, ◌++◌, ◌+◌, ◌==◌, ◌∙◌, ◌∷◌, ◌≡◌, ◌≤◌}
 use Rattle.defs_text.specs.Classes as classes
 use Rattle.defs_text.specs.Breaks as cut
 use Rattle.proof_lexers.proofs.Bridges.{same_break}

@@ -1,5 +1,5 @@
 -- The whole scan of a block scalar whose lines are known.
-use Rattle.proof_lexers.proofs.Common.{[], after_header, along, and_then, ap, append-nil, arith, At, begins_with, Block, block, block_position, BlockRead, Bool, breaks, cases_Bool, chomping_of, collection_of, Column, column_by, content_row, digit_by, digit_or_zero, drop, empty_row, empty_text, Err, false, Fault, first_content, further_position, has_content, Header, header, header_of, if◌then◌else◌, indent_from, indicator_of, indicators_of, inl, inr, is_at_end, is_empty, is_in_line, is_literal_style, is_none, is_open, is_spaces, is_tabbed, IsRead, le-ltb, length, linebreak, Lines, lines_from, List, max, nat_le, nat_lt, nat_tests, None, not, Ok, past, past_spaces, Position, position_after, position_or, Read, read_header, refl, Result, Row, rows_of, Some, suc, sym, tab, tail, true, value_before_end, value_before_text, with_content, without_spaces, zero, ℕ, ◌&&◌, ◌++◌, ◌+◌, ◌∙◌, ◌∷◌, ◌≡◌, ◌≤◌}
+use Rattle.proof_lexers.proofs.Common.{[], after_header, along, and_then, ap, append-nil, arith, At, begins_with, Block, block, block_position, BlockRead, Bool, breaks, cases_Bool, chomping_of, collection_of, Column, column_by, content_row, digit_by, digit_or_zero, drop, empty_row, empty_text, Err, false, Fault, first_content, further_position, has_content, Header, header, header_of, if◌then◌else◌, indent_from, indicator_of, indicators_of, inl, inr, is_at_end, is_empty, is_in_line, is_literal_style, is_none, is_open, is_spaces, is_tabbed, IsRead, le-ltb, length, linebreak, Lines, lines_from, List, max, nat_le, nat_lt, nat_tests, None, not, Ok, past, past_spaces, Position, position_after, position_or, Read, read_header, reads, refl, refuses, Result, Row, rows_of, Some, suc, sym, tab, tail, true, value_before_end, value_before_text, with_content, without_spaces, zero, ℕ, ◌&&◌, ◌++◌, ◌+◌, ◌∙◌, ◌∷◌, ◌≡◌, ◌≤◌}
 use Rattle.yaml_tokens.specs.declared.problem.Problem.TheVariants as problem
 use Rattle.defs_text.specs.Classes as classes
 use Rattle.defs_text.specs.BlockScalar as defs
@@ -83,9 +83,9 @@ module _ (h : defs.Header) (line : List ℕ) (k : Break) (indent : ℕ) (p : Pos
     finish : (a rest more : List ℕ) (char : ℕ) (position q : Position) (b : List ℕ) (x : Lines) → search a ≡ record { rest = char ∷ rest; position = position; value = record { column = column; breaks = b } }
         → (nat_lt position.col column && nat_le indent position.col) ≡ false → lines_from (is_literal_style h.style) column a (front start (after_empty 0)) ≡ Ok (record { rest = more; position = q; value = x })
         → after (search a) ≡ Ok (record { rest = more; position = q; value = record { position = position; text = x.text ++ tail (chomping_of h.chomping) (is_open column more q.col) x } })
-    finish a rest more char position q b x found deep reads =
+    finish a rest more char position q b x found deep to_end =
         let same : lines_from (is_literal_style h.style) column (char ∷ rest) (before position (after_empty 0) b) ≡ Ok (record { rest = more; position = q; value = x }) =
-        ap (λ (r : Read Column). lines_from (is_literal_style h.style) column r.rest (before r.position (after_empty 0) r.value.breaks)) (sym found) ∙ sym (margin_passes (is_literal_style h.style) column a start (after_empty 0) []) ∙ reads in
+        ap (λ (r : Read Column). lines_from (is_literal_style h.style) column r.rest (before r.position (after_empty 0) r.value.breaks)) (sym found) ∙ sym (margin_passes (is_literal_style h.style) column a start (after_empty 0) []) ∙ to_end in
         ap after found ∙ rw (deep, same) refl
 
     refuse : (a rest : List ℕ) (char : ℕ) (position : Position) (b : List ℕ) → search a ≡ record { rest = char ∷ rest; position = position; value = record { column = column; breaks = b } }
@@ -148,7 +148,7 @@ module _ (h : defs.Header) (line : List ℕ) (k : Break) (indent : ℕ) (p : Pos
         let where_is : block_position column p piece next ≡ c.position = ap (λ o. position_or o (if is_at_end next then p else past_spaces (position_after p piece next) next)) (piece_first column (spell ls []) fits_alone ∙ f.first [] are_alone) in
         let text_is : lines_read.text ++ tail (chomping_of h.chomping) (is_open column (without_spaces next) (past_spaces (after_lines ls start) next).col) lines_read ≡ value_before_text h rs =
         ap (λ b. lines_read.text ++ tail (chomping_of h.chomping) b lines_read) (closed z _) ∙ content_value h false rs (are_full column (texts ls) rs rows) some ∙ rw some refl in
-        read free (content_there (piece_first column (spell ls []) fits_alone ∙ f.first [] are_alone)) (found_by ∙ finish column (spell ls next) c.rest (without_spaces next) c.char c.position _ c.breaks_before lines_read c.found (in_position column c.position.col c.in_column) (read_to z)
+        reads _ (read free (content_there (piece_first column (spell ls []) fits_alone ∙ f.first [] are_alone)) refl) (found_by ∙ finish column (spell ls next) c.rest (without_spaces next) c.char c.position _ c.breaks_before lines_read c.found (in_position column c.position.col c.in_column) (read_to z)
         ∙ answer (without_spaces next) _ (further_position p piece next) c.position (block_position column p piece next) _ (value_before_text h rs) position_is (sym where_is) text_is)
 
     none_position : (n : ℕ) → Empty column ls next start [] n → first_content column true p piece ≡ None
@@ -177,12 +177,12 @@ module _ (h : defs.Header) (line : List ℕ) (k : Break) (indent : ℕ) (p : Pos
 
         go : (nat_lt z.position.col column && nat_le indent z.position.col) ≡ false → is_shallow indent p before_text piece next ≡ false → IsRead indent p before_text piece next (scanned (spell ls next))
         go deep not_shallow =
-            read free not_shallow (found_by ∙ finish column (spell ls next) z.rest (without_spaces next) z.char z.position _ (breaks n) lines_read found deep (read_to z)
+            reads _ (read free not_shallow refl) (found_by ∙ finish column (spell ls next) z.rest (without_spaces next) z.char z.position _ (breaks n) lines_read found deep (read_to z)
             ∙ answer (without_spaces next) _ (further_position p piece next) z.position (block_position column p piece next) _ (value_before_text h rs) position_is (sym where_is) text_is)
 
         by : (l i : Bool) → nat_lt z.position.col column ≡ l → nat_le indent z.position.col ≡ i → IsRead indent p before_text piece next (scanned (spell ls next))
         by true true e g =
-            shallow free (is_here ∙ rw (g, e) refl)
+            refuses _ (shallow free (is_here ∙ rw (g, e) refl))
             (found_by ∙ refuse column (spell ls next) z.rest z.char z.position (breaks n) found (rw (e, g) refl) ∙ ap (λ q. Err (At problem.BlockScalarIndentation q)) here)
         by true false e g = go (rw (e, g) refl) (is_here ∙ rw g refl)
         by false i e g = go (rw e refl) (is_here ∙ rw e (and_false (nat_le indent z.position.col)))
@@ -235,13 +235,13 @@ module _ (h : defs.Header) (line : List ℕ) (k : Break) (indent : ℕ) (p : Pos
     empty_some : has_content rs ≡ true → is_spaces last ≡ true → length last ≤ column → FoundIn column ls last start [] → read_end empty_row
     empty_some some spaces le f =
         let c = f.here in
-        let reads : lines_from (is_literal_style h.style) column (spell ls last) (front start (after_empty 0)) ≡ Ok (record { rest = []; position = along last last_position; value = rows_read }) =
+        let to_end : lines_from (is_literal_style h.style) column (spell ls last) (front start (after_empty 0)) ≡ Ok (record { rest = []; position = along last last_position; value = rows_read }) =
         rows_go (is_literal_style h.style) column ls last start (after_empty 0) rs refl are rows ∙ last_empty (is_literal_style h.style) column last last_position rows_read at_front spaces le in
         let far : (along last last_position).col ≡ length last = (let e = at_front in let g = last_col in omega (arith, e, g)) in
         let open_is : is_open column [] (along last last_position).col ≡ nat_le (max column 1) (length last) = reaches (along last last_position).col ∙ ap (nat_le (max column 1)) far in
         let text_is : rows_read.text ++ tail (chomping_of h.chomping) (is_open column [] (along last last_position).col) rows_read ≡ value_before_end h column rs last empty_row =
         ap (λ b. rows_read.text ++ tail (chomping_of h.chomping) b rows_read) open_is ∙ content_value h (nat_le (max column 1) (length last)) rs (are_full column (texts ls) rs rows) some ∙ rw some refl in
-        read (and_false _) refl (found_by ∙ finish column (spell ls last) c.rest [] c.char c.position _ c.breaks_before rows_read c.found (in_position column c.position.col c.in_column) reads
+        reads _ (read (and_false _) refl refl) (found_by ∙ finish column (spell ls last) c.rest [] c.char c.position _ c.breaks_before rows_read c.found (in_position column c.position.col c.in_column) to_end
         ∙ answer [] _ (further_position p whole []) c.position (block_position column p whole []) _ (value_before_end h column rs last empty_row) whole_position (sym (at_content c.position (f.first last are))) text_is)
 
     empty_none : has_content rs ≡ false → is_spaces last ≡ true → length last ≤ column → Empty column ls last start [] (length rs) → read_end empty_row
@@ -249,7 +249,7 @@ module _ (h : defs.Header) (line : List ℕ) (k : Break) (indent : ℕ) (p : Pos
         let low : last_position.col + length last ≤ column = (let e = at_front in omega (arith, e, le)) in
         let found : indent_from column (spell ls last) (at start []) ≡ record { rest = []; position = along last last_position; value = record { column = column; breaks = breaks (length rs) } } = f.passes ∙ last_passes column last last_position (breaks (length rs)) spaces low in
         let where_is : block_position column p whole [] ≡ p = ap (λ o. position_or o p) (whole_first ∙ f.first last are ∙ first_last column last last_position spaces low) in
-        read (and_false _) refl (found_by ∙ ap (after) found
+        reads _ (read (and_false _) refl refl) (found_by ∙ ap (after) found
         ∙ answer [] _ (further_position p whole []) p (block_position column p whole []) _ (value_before_end h column rs last empty_row) whole_position (sym where_is) (end_value h.chomping (length rs) ∙ rw none refl))
 
     -- a last line of content
@@ -274,9 +274,9 @@ module _ (h : defs.Header) (line : List ℕ) (k : Break) (indent : ℕ) (p : Pos
 
     content_by : (c : Found column (spell ls last) start []) → first_content column false start (spell ls last) ≡ Some (c.position) → Starts (is_literal_style h.style) column last [] last_position [] column → suc column ≤ length last
         → lines_from (is_literal_style h.style) column last (front last_position rows_read) ≡ Ok (record { rest = []; position = along last last_position; value = last_read }) → read_end last_row
-    content_by c first z long reads =
-        read (and_false _) refl (found_by ∙ finish column (spell ls last) c.rest [] c.char c.position _ c.breaks_before last_read c.found (in_position column c.position.col c.in_column)
-        (rows_go (is_literal_style h.style) column ls last start (after_empty 0) rs refl are rows ∙ reads)
+    content_by c first z long to_end =
+        reads _ (read (and_false _) refl refl) (found_by ∙ finish column (spell ls last) c.rest [] c.char c.position _ c.breaks_before last_read c.found (in_position column c.position.col c.in_column)
+        (rows_go (is_literal_style h.style) column ls last start (after_empty 0) rs refl are rows ∙ to_end)
         ∙ answer [] _ (further_position p whole []) c.position (block_position column p whole []) _ (value_before_end h column rs last last_row) whole_position (sym (at_content c.position first)) (content_text z long))
 
     last_found : (n : ℕ) → Empty column ls last start [] n → Starts (is_literal_style h.style) column last [] last_position (breaks n) column → Found column (spell ls last) start []
@@ -296,18 +296,18 @@ module _ (h : defs.Header) (line : List ℕ) (k : Break) (indent : ℕ) (p : Pos
       | inr e ↦ empty_none e spaces le (all_empty column ls last start [] rs refl are rows e)
     ]
     before_the_end (content_row m) (is_content lead long free) = elim (cases_Bool (has_content rs)) [
-      | inl e ↦ let f = found_in column ls last start [] rs refl are rows e in content_by f.here (f.first last are) (here []) long reads
+      | inl e ↦ let f = found_in column ls last start [] rs refl are rows e in content_by f.here (f.first last are) (here []) long to_end
       | inr e ↦
           let f = all_empty column ls last start [] rs refl are rows e in
           let z = here (breaks (length rs)) in
-          content_by (last_found (length rs) f z) (f.first last are ∙ ap (λ a. first_content column false last_position a) (sym (append-nil last)) ∙ z.first []) (here []) long reads
+          content_by (last_found (length rs) f z) (f.first last are ∙ ap (λ a. first_content column false last_position a) (sym (append-nil last)) ∙ z.first []) (here []) long to_end
     ]
       where
         col : last_position.col + column ≡ column
         col = let e = at_front in omega (arith, e)
 
-        reads : lines_from (is_literal_style h.style) column last (front last_position rows_read) ≡ Ok (record { rest = []; position = along last last_position; value = last_read })
-        reads = last_content (is_literal_style h.style) column last last_position rows_read at_front last_inner lead long free
+        to_end : lines_from (is_literal_style h.style) column last (front last_position rows_read) ≡ Ok (record { rest = []; position = along last last_position; value = last_read })
+        to_end = last_content (is_literal_style h.style) column last last_position rows_read at_front last_inner lead long free
 
         here : (b : List ℕ) → Starts (is_literal_style h.style) column last [] last_position b column
         here b = starts (is_literal_style h.style) column column last [] last_position b col lead long last_inner
@@ -342,5 +342,5 @@ header_alone_is_read h line indent p is inner =
     let position : q ≡ further_position p (indicator_of h.style ∷ line) [] =
     sym (ap (λ x. position_after p x []) (sym (append-nil (indicator_of h.style ∷ line))) ∙ after_chars (indicator_of h.style ∷ line) [] [] p (style_inner h.style line inner)) in
     let where_is : block_position 0 p (indicator_of h.style ∷ line) [] ≡ p = ap (λ o. position_or o p) (header_alone 0 (indicator_of h.style ∷ line) p (style_inner h.style line inner)) in
-    read (and_false _) refl (ap (λ x. and_then x (λ (r : Read Header). after_header (is_literal_style h.style) indent p r.value (content indent r.value.indicators.increment r.rest r.position))) header_reads_it
+    reads _ (read (and_false _) refl refl) (ap (λ x. and_then x (λ (r : Read Header). after_header (is_literal_style h.style) indent p r.value (content indent r.value.indicators.increment r.rest r.position))) header_reads_it
     ∙ ends ∙ answer [] q (further_position p (indicator_of h.style ∷ line) []) p (block_position 0 p (indicator_of h.style ∷ line) []) [] [] position (sym where_is) refl)

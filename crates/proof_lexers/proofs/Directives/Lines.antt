@@ -1,12 +1,12 @@
 -- Directives are read as their lines say, and no other text is.
-use Rattle.proof_lexers.proofs.Common.{[], after, after_class, after_declaration, after_major, after_value, after_version, and_parts, and_then, ap, append-nil, append_assoc, arith, At, begins_prefix, begins_with, blanks, Bool, by_comment, by_declaration, by_name, by_octets, by_version, cases_Bool, codes, declaration_by, declaration_of, decoded, Directive, directive, directive_by, directive_of, DirectivesAreRead, DirectivesEndAsTheirTextSays, eqb-true, Err, false, Fault, first_break, further, handle, handle_and_rest, has_no_break, if◌then◌else◌, inl, inr, is_alpha, is_alphanumeric, is_at_gap, is_blank, is_flow, is_handle, is_rest_of_line, is_same, is_tag, is_uri, is_uri_mark, IsDirectiveRefusal, IsNoDeclaration, IsNoVersion, kind, leading, length, length-append, line_end, List, long_major, long_minor, minor_of, name, next_line, no_major, no_minor, no_name, no_point, no_prefix, None, not, not-false, not-true, number, number_of, Ok, open_name, Option, or_parts, past, Position, position_after, prefix, prefix_after, prefix_by, prefix_of, Problem, problem_of, Read, refl, reserved, Result, skip_while, slice_index, Some, subst, suc, sym, tag, tag_declaration, tag_value, token_of, true, unknown, UriFault, value, version, version_by, version_of, version_value, with_end, with_minor, with_prefix, ℕ, ◌&&◌, ◌++◌, ◌+◌, ◌==◌, ◌||◌, ◌∙◌, ◌∷◌, ◌≡◌}
+use Rattle.proof_lexers.proofs.Common.{[], after, after_class, after_declaration, after_major, after_value, after_version, and_parts, and_then, ap, append-nil, append_assoc, arith, At, begins_prefix, begins_with, blanks, Bool, by_comment, by_declaration, by_name, by_octets, by_version, cases_Bool, codes, declaration_by, decoded, Directive, directive, directive_of, DirectivesAreRead, DirectivesEndAsTheirTextSays, eqb-true, Err, false, Fault, first_break, further, handle_and_rest, has_no_break, if◌then◌else◌, inl, inr, is_alpha, is_alphanumeric, is_at_gap, is_blank, is_flow, is_handle, is_rest_of_line, is_same, is_tag, is_uri, is_uri_mark, IsDirectiveRefusal, IsNoDeclaration, IsNoVersion, kind, leading, length, length-append, line_end, List, long_major, long_minor, minor_of, name, next_line, no_major, no_minor, no_name, no_point, no_prefix, None, not, not-false, not-true, number, number_of, Ok, open_name, Option, or_parts, past, Position, position_after, prefix, prefix_after, Problem, problem_of, Read, reads, refl, refuses, reserved, Result, skip_while, slice_index, Some, subst, suc, sym, tag, tag_declaration, tag_value, token_of, true, unknown, UriFault, value, version, version_of, version_value, with_end, with_minor, with_prefix, ℕ, ◌&&◌, ◌++◌, ◌+◌, ◌==◌, ◌||◌, ◌∙◌, ◌∷◌, ◌≡◌}
 use Rattle.defs_token.specs.Token.{Tok}
 use Rattle.yaml_tokens.specs.declared.problem.Problem.TheVariants as problem
 use Rattle.defs_text.specs.Classes as classes
 use Rattle.defs_text.specs.Directives as defs
 use Rattle.model_scanner.specs.Directive.{after_name}
 use Rattle.proof_lexers.proofs.Bridges.{same_blank, same_alpha, same_tag}
-use Rattle.proof_lexers.specs.DirectiveEnds.{ends_line, after_line, no_mark, goes_on, reads, refuses}
+use Rattle.proof_lexers.specs.DirectiveEnds.{ends_line, after_line, no_mark, goes_on, whole_directive, no_directive}
 use Rattle.proof_lexers.proofs.Separation.Positions.{position_append, position_in_line}
 use Rattle.proof_lexers.proofs.Properties.Uris.{uris_are_read}
 use Rattle.proof_lexers.proofs.RestOfLine.{line_skipped}
@@ -235,7 +235,11 @@ module _ (start : Position) (l n : List ℕ) (line : has_no_break l ≡ true) (e
     gap_missing : (r : List ℕ) → is_at_gap r ≡ false → is_rest_of_line r ≡ false
     unfolding classes.is_blank_or_end
     gap_missing [] h = cc
-    gap_missing (c ∷ r) h = rw (or_parts (classes.is_blank c) (classes.is_break c) (or_parts (classes.is_blank c || classes.is_break c) (classes.is_nul c) h).0).0 refl
+    gap_missing (c ∷ r) h = rw (or_parts (classes.is_blank c) (classes.is_break c) (or_parts (classes.is_blank c || classes.is_break c) (classes.is_nul c) h).0).0 (no_comment (c == 35))
+      where
+        no_comment : (x : Bool) → (not x && (x || false)) ≡ false
+        no_comment true = refl
+        no_comment false = refl
 
     module _ (is : is_handle handle_is ≡ true) (spelled : said ≡ handle_is ++ after_handle) where
       declares : (cs : List ℕ) → begins_prefix from_prefix ≡ true → decoded prefix_text ≡ Ok cs → declaration_by (handle_and_rest said) ≡ (if is_rest_of_line after_prefix then Some (tag_declaration handle_is cs) else None)
@@ -365,8 +369,8 @@ directives_end a start =
     let z = first_line a in
     let cut = span_cut in_line a in
     elim (told start (leading in_line a) (after in_line a) z.0 z.1) [
-      | is_directive d is e ↦ reads (leading in_line a) (after in_line a) d cut z.0 z.1 is (ap (λ x. directive (37 ∷ x) start) cut ∙ e)
-      | fails f none why e ↦ refuses (leading in_line a) (after in_line a) f cut z.0 z.1 none why (ap (λ x. directive (37 ∷ x) start) cut ∙ e)
+      | is_directive d is e ↦ reads _ (whole_directive (leading in_line a) (after in_line a) d cut z.0 z.1 is) (ap (λ x. directive (37 ∷ x) start) cut ∙ e)
+      | fails f none why e ↦ refuses f (no_directive (leading in_line a) (after in_line a) cut z.0 z.1 none why) (ap (λ x. directive (37 ∷ x) start) cut ∙ e)
     ]
 
 pub directives_are_read : DirectivesAreRead

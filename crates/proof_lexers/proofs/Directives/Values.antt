@@ -1,5 +1,5 @@
 -- The numbers of a version, and the handle and the prefix of a declaration, as the model reads them in a line.
-use Rattle.proof_lexers.proofs.Common.{[], after, all_of, and_parts, ap, append_assoc, arith, At, begins_with_mark, both_ways, cases_Bool, decimal_value, eqb-true, Err, false, Fault, further, handle, handle_and_rest, handle_end, if◌then◌else◌, inl, inr, is_empty, is_handle, is_marked_name, is_same, leading, length, length-append, List, name_and_mark, nat_le, ne_eqb, None, number, number_of, Ok, past, Position, Read, refl, Result, slice_index, Some, suc, sym, true, ℕ, ◌++◌, ◌+◌, ◌==◌, ◌∙◌, ◌∷◌, ◌≡◌}
+use Rattle.proof_lexers.proofs.Common.{[], after, all_of, and_parts, ap, append_assoc, arith, At, begins_with_mark, both_ways, cases_Bool, decimal_value, eqb-true, Err, false, Fault, further, handle, handle_and_rest, handle_end, if◌then◌else◌, inl, inr, is_empty, is_handle, is_marked_name, is_same, leading, length, length-append, List, name_and_mark, nat_le, ne_eqb, None, number, number_of, Ok, past, Position, Read, refl, Result, slice_index, Some, suc, sym, true, ℕ, ◌++◌, ◌==◌, ◌∙◌, ◌∷◌, ◌≡◌}
 use Rattle.yaml_tokens.specs.declared.problem.Problem.TheVariants as problem
 use Rattle.defs_text.specs.Classes as classes
 use Rattle.proof_lexers.specs.DirectiveEnds.{ends_line}

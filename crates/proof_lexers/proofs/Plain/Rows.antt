@@ -1,8 +1,8 @@
 -- Plain scalars as texts: what the laws say of some.
-use Rattle.proof_lexers.proofs.Common.{[], are_marks, At, begins_with_marker, by_dash, by_tab, codes, Context, false, is_blank_or_end, is_nul, IsPlainRefusal, List, plain, plain_element, plain_value, Position, refl, true, ℕ, ◌++◌, ◌∷◌, ◌≡◌}
+use Rattle.proof_lexers.proofs.Common.{[], are_marks, At, begins_with_marker, by_dash, by_tab, codes, Context, EndsAs, false, is_blank_or_end, is_nul, IsPlainRefusal, List, plain, plain_element, plain_value, Position, refl, true, ℕ, ◌++◌, ◌∷◌, ◌≡◌}
 use Rattle.yaml_tokens.specs.declared.problem.Problem.TheVariants as problem
 use Rattle.defs_text.specs.Classes.{is_blank, is_break, is_flow}
-use Rattle.proof_lexers.specs.PlainEnds.{IsRead}
+use Rattle.proof_lexers.specs.PlainEnds.{IsScalarRead}
 use Rattle.proof_lexers.proofs.Plain.Scalars.{scalars_read}
 
 -- as the value of a key in column 0
@@ -16,12 +16,12 @@ abbrev here : Position
 here = record { index = 3; line = 1; col = 3 }
 
 -- lines that are folded, up to a line that is no deeper
-lines : IsRead block here (codes "a b\n\n  c") (codes " \nk: v") (codes "a b\nc") (plain block (codes "a b\n\n  c \nk: v") here)
+lines : EndsAs (IsScalarRead here (codes "a b\n\n  c") (codes " \nk: v") (codes "a b\nc")) (IsPlainRefusal block here (codes "a b\n\n  c \nk: v")) (plain block (codes "a b\n\n  c \nk: v") here)
 unfolding is_blank is_break is_nul is_blank_or_end is_flow are_marks plain_element begins_with_marker plain_value
 lines = scalars_read block (codes "a b\n\n  c") (codes " \nk: v") (codes "a b\nc") here refl refl refl refl refl
 
 -- up to a colon before a comma
-before_comma : IsRead flow here (codes "a:b") (codes ":,") (codes "a:b") (plain flow (codes "a:b:,") here)
+before_comma : EndsAs (IsScalarRead here (codes "a:b") (codes ":,") (codes "a:b")) (IsPlainRefusal flow here (codes "a:b:,")) (plain flow (codes "a:b:,") here)
 unfolding is_blank is_break is_nul is_blank_or_end is_flow are_marks plain_element begins_with_marker plain_value
 before_comma = scalars_read flow (codes "a:b") (codes ":,") (codes "a:b") here refl refl refl refl refl
 

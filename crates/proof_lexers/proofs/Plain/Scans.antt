@@ -1,5 +1,5 @@
 -- A plain scalar's scan, from any position in it on, finds where the scalar ends.
-use Rattle.proof_lexers.proofs.Common.{[], after_blank, and_parts, ap, append-nil, arith, At, at_marker, Bool, can_be_plain, cases_Bool, collection_of, Context, ends_at_colon, ends_plain, eqb-true, false, Fault, Folded, has_no_nul, inl, inr, is_apart, is_blank, is_break, is_shallow, is_white, List, nat_lt, not, not-true, Ok, on_line, or_parts, Plain, Position, Read, refl, Result, slice_index, Stand, suc, sym, tabs, true, ℕ, ◌&&◌, ◌+◌, ◌==◌, ◌||◌, ◌∙◌, ◌∷◌, ◌≡◌}
+use Rattle.proof_lexers.proofs.Common.{[], after_blank, and_parts, ap, append-nil, arith, At, at_marker, Bool, can_be_plain, cases_Bool, collection_of, Context, ends_at_colon, ends_plain, eqb-true, false, Fault, Folded, has_no_nul, inl, inr, is_apart, is_blank, is_break, is_shallow, is_white, List, nat_lt, not, not-true, Ok, on_line, or_parts, Plain, Position, Read, refl, Result, slice_index, Stand, suc, sym, tabs, true, ℕ, ◌&&◌, ◌==◌, ◌||◌, ◌∙◌, ◌∷◌, ◌≡◌}
 use Rattle.yaml_tokens.specs.declared.problem.Problem.TheVariants as problem
 use Rattle.defs_text.specs.Classes as classes
 use Rattle.defs_token.specs.Plain as defs

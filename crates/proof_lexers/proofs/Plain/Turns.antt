@@ -1,5 +1,5 @@
 -- What the model does at each character of a plain scalar, in the definitions' words.
-use Rattle.proof_lexers.proofs.Common.{[], after_blank, and_parts, ap, arith, At, at_break, at_dash, at_marker, at_plain, begins_flow, begins_token, begins_white, Bool, can_be_plain, cases_Bool, collection_of, Context, ends_at_colon, ends_at_comment, ends_at_line, ends_plain, eqb-true, Err, false, Fault, Folded, if◌then◌else◌, inl, inr, is_before_line_feed, is_blank, is_blank_or_breakz, is_blanks, is_break, is_cr_lf, is_deeper, is_flow, is_shallow, is_value_indicator, is_white, joined, List, nat_lt, nat_tests, not, Ok, on_line, or-true, or_parts, past, past_break, Plain, plain_from, Position, position_past, Read, refl, Result, slice_index, Stand, stops, suc, sym, tabs, true, with_blank, with_break, with_char, zero, ℕ, ◌&&◌, ◌++◌, ◌+◌, ◌==◌, ◌||◌, ◌∙◌, ◌∷◌, ◌≡◌}
+use Rattle.proof_lexers.proofs.Common.{[], after_blank, and_parts, ap, arith, At, at_break, at_dash, at_marker, at_plain, begins_flow, begins_token, begins_white, Bool, can_be_plain, cases_Bool, collection_of, Context, ends_at_colon, ends_at_comment, ends_at_line, ends_plain, eqb-true, Err, false, Fault, Folded, inl, inr, is_before_line_feed, is_blank, is_blank_or_breakz, is_blanks, is_break, is_cr_lf, is_deeper, is_flow, is_shallow, is_value_indicator, is_white, joined, List, nat_lt, nat_tests, not, Ok, on_line, or-true, or_parts, past, past_break, Plain, plain_from, Position, position_past, Read, refl, Result, slice_index, Stand, stops, suc, sym, tabs, true, with_blank, with_break, with_char, zero, ℕ, ◌&&◌, ◌++◌, ◌+◌, ◌==◌, ◌||◌, ◌∙◌, ◌∷◌, ◌≡◌}
 use Rattle.yaml_tokens.specs.declared.problem.Problem.TheVariants as problem
 use Rattle.defs_text.specs.Classes as classes
 use Rattle.defs_token.specs.Plain as defs

@@ -1,11 +1,11 @@
 -- Tags are read as what is written, and no other text is.
-use Rattle.proof_lexers.proofs.Common.{[], after, after_class, after_name, all_of, and_parts, and_then, ap, append_assoc, arith, begins_with, Bool, both_ways, cases_Bool, codes, decoded, decoded_after, ends_tag, eqb-true, Err, false, further, if◌then◌else◌, inl, inr, is_alpha, is_alphanumeric, is_empty, is_flow, is_tag, is_uri, is_uri_mark, IsTagRefusal, leading, length, length-append, List, local, local_goes_on, local_octets, may_follow, named, nat_tests, ne_eqb, no_suffix, Ok, past, Position, problem_of, put_code, Read, read_tag, refl, Result, shorthand, slice_index, Some, some_suffix, suc, suffix_goes_on, suffix_octets, sym, tag_by, tag_end, tag_of_class, TagEndsAs, TagsEndAsTheirTextSays, take_while, true, uri_character, UriFault, verbatim, verbatim_end, verbatim_goes_on, verbatim_octets, written_tag, ℕ, ◌++◌, ◌+◌, ◌==◌, ◌∙◌, ◌∷◌, ◌≡◌}
+use Rattle.proof_lexers.proofs.Common.{[], after, after_class, after_name, all_of, and_parts, and_then, ap, append_assoc, arith, at_start, begins_with, Bool, both_ways, cases_Bool, codes, decoded, decoded_after, ends_tag, EndsAs, eqb-true, Err, false, Fault, further, if◌then◌else◌, inl, inr, is_alpha, is_alphanumeric, is_empty, is_flow, is_tag, is_uri, is_uri_mark, IsTagFault, IsTagRead, IsTagRefusal, leading, length, length-append, List, local, local_goes_on, local_octets, may_follow, named, nat_tests, ne_eqb, no_suffix, Ok, past, Position, put_code, Read, read_tag, reads, refl, refuses, Result, shorthand, slice_index, Some, some_suffix, suc, suffix_goes_on, suffix_octets, sym, tag_end, tag_of_class, TagsEndAsTheirTextSays, take_while, true, uri_character, UriFault, verbatim, verbatim_end, verbatim_goes_on, verbatim_octets, whole_tag, written_tag, ℕ, ◌++◌, ◌+◌, ◌==◌, ◌∙◌, ◌∷◌, ◌≡◌}
 use Rattle.yaml_tokens.specs.declared.problem.Problem.TheVariants as problem
 use Rattle.defs_text.specs.Classes as classes
 use Rattle.defs_text.specs.Tags as defs
-use Rattle.model_scanner.specs.Tag.{tag}
+use Rattle.model_scanner.specs.Tag.{Tag, tag}
 use Rattle.proof_lexers.proofs.Bridges.{same_gap, same_flow, same_alpha, same_tag}
-use Rattle.proof_lexers.specs.TagEnds.{unclosed, reads, refuses}
+use Rattle.proof_lexers.specs.TagEnds.{unclosed}
 pub use Rattle.proof_lexers.proofs.Classes.{span_cut, all_leading, leading_all}
 use Rattle.proof_lexers.proofs.Classes.{same_place, begins_in, ends_after, taken}
 use Rattle.proof_lexers.proofs.Properties.Uris.{uris_are_read}
@@ -13,6 +13,10 @@ use Rattle.proof_lexers.proofs.Plain.Turns.{end_is_a_gap}
 
 pub word : (a : List ℕ) (p : Position) (t : List ℕ) → take_while is_alpha a p t ≡ record { rest = after classes.is_alpha a; position = further (length (leading classes.is_alpha a)) p; value = t ++ leading classes.is_alpha a }
 word a p t = taken classes.is_alpha is_alpha same_alpha a p t
+
+-- a scan ends as its text says
+abbrev Ends : (flow : Bool) → Position → List ℕ → Result (Read Tag) Fault → Type 0
+Ends flow start text x = EndsAs (IsTagRead flow start text) (IsTagFault flow start text) x
 
 -- ---- what may stand after a tag
 
@@ -24,10 +28,10 @@ same_end flow (d ∷ r) = rw (same_gap d, same_flow d) refl
 module _ (flow : Bool) (start : Position) (text : List ℕ) where
   -- a tag that stands there
   ended : (piece rest handle suffix : List ℕ) (p : Position) → text ≡ piece ++ rest → written_tag (33 ∷ piece) ≡ Some (record { handle = handle; suffix = suffix }) → p ≡ further (length (33 ∷ piece)) start
-      → (may_follow flow rest ≡ false → IsTagRefusal flow text problem.TagEnd) → TagEndsAs flow start text (tag_end flow start (read_tag rest p handle suffix))
+      → (may_follow flow rest ≡ false → IsTagRefusal flow text problem.TagEnd) → Ends flow start text (tag_end flow start (read_tag rest p handle suffix))
   ended piece rest handle suffix p cut is position goes = elim (cases_Bool (may_follow flow rest)) [
-    | inl e ↦ reads piece rest handle suffix cut is e (rw (same_end flow rest, e, position) refl)
-    | inr e ↦ refuses problem.TagEnd (goes e) (rw (same_end flow rest, e) refl)
+    | inl e ↦ reads _ (whole_tag piece rest handle suffix cut is e) (rw (same_end flow rest, e, position) refl)
+    | inr e ↦ refuses _ (at_start _ (goes e)) (rw (same_end flow rest, e) refl)
   ]
 
 -- ---- a verbatim tag
@@ -47,23 +51,23 @@ module _ (flow : Bool) (start : Position) (b : List ℕ) where
   written = leading classes.is_uri b
 
   closing : (cs : List ℕ) (r : List ℕ) → decoded written ≡ Ok cs → after classes.is_uri b ≡ r
-      → TagEndsAs flow start (60 ∷ b) (and_then (verbatim_end start cs r (further (length written) (past (past start)))) (λ t. tag_end flow start t))
-  closing cs [] is e = refuses problem.VerbatimTagEnd (unclosed b cs refl is (ap (begins_with 62) e)) refl
+      → Ends flow start (60 ∷ b) (and_then (verbatim_end start cs r (further (length written) (past (past start)))) (λ t. tag_end flow start t))
+  closing cs [] is e = refuses _ (at_start _ (unclosed b cs refl is (ap (begins_with 62) e))) refl
   closing cs (c ∷ r) is e = elim (cases_Bool (c == 62)) [
     | inl f ↦
         let same : c ≡ 62 = eqb-true c 62 f in
         let cut : b ≡ (written ++ 62 ∷ []) ++ r = span_cut classes.is_uri b ∙ ap (λ k. written ++ k) (e ∙ ap (λ d. d ∷ r) same) ∙ sym (append_assoc written (62 ∷ []) r) in
         rw f (ended flow start (60 ∷ b) (60 ∷ (written ++ 62 ∷ [])) r [] cs _ (ap (λ k. 60 ∷ k) cut) (verbatim_written written cs (all_leading classes.is_uri b) is) (closed_position start (length written) _ (length-append written (62 ∷ [])))
         (verbatim_goes_on b cs r refl is (e ∙ ap (λ d. d ∷ r) same)))
-    | inr f ↦ refuses problem.VerbatimTagEnd (unclosed b cs refl is (ap (begins_with 62) e ∙ f)) (rw f refl)
+    | inr f ↦ refuses _ (at_start _ (unclosed b cs refl is (ap (begins_with 62) e ∙ f))) (rw f refl)
   ]
 
   verbatim_by : (d : Result (List ℕ) UriFault) → decoded written ≡ d
-      → TagEndsAs flow start (60 ∷ b) (and_then (and_then (after_class classes.is_uri start (past (past start)) b [] d) (λ (r : Read (List ℕ)). verbatim_end start r.value r.rest r.position)) (λ t. tag_end flow start t))
-  verbatim_by (Err f) e = refuses (problem_of f) (verbatim_octets b f refl e) refl
+      → Ends flow start (60 ∷ b) (and_then (and_then (after_class classes.is_uri start (past (past start)) b [] d) (λ (r : Read (List ℕ)). verbatim_end start r.value r.rest r.position)) (λ t. tag_end flow start t))
+  verbatim_by (Err f) e = refuses _ (at_start _ (verbatim_octets b f refl e)) refl
   verbatim_by (Ok cs) e = closing cs (after classes.is_uri b) e refl
 
-  verbatims : TagEndsAs flow start (60 ∷ b) (tag flow (33 ∷ 60 ∷ b) start)
+  verbatims : Ends flow start (60 ∷ b) (tag flow (33 ∷ 60 ∷ b) start)
   unfolding tag verbatim
   verbatims = rw ((uris_are_read start b (past (past start)) []).0) (verbatim_by (decoded written) refl)
 
@@ -178,11 +182,11 @@ named_position p n m k e = same_place p (suc k) (omega (arith, e)) (omega (arith
 module _ (flow : Bool) (start : Position) (text name : List ℕ) (all : all_of classes.is_alpha name ≡ true) where
   -- after a name and a second mark
   suffix_by : (s l rest : List ℕ) (d : Result (List ℕ) UriFault) → text ≡ name ++ 33 ∷ (l ++ rest) → leading classes.is_tag s ≡ l → s ≡ l ++ rest → after classes.is_tag s ≡ rest → decoded l ≡ d
-      → TagEndsAs flow start text (and_then (and_then (after_class classes.is_tag start (past (further (length name) (past start))) s [] d) (λ r. some_suffix start name r)) (λ t. tag_end flow start t))
-  suffix_by s l rest (Err f) cut lead same b e = refuses (problem_of f) (suffix_octets name s f (cut ∙ ap (λ r. name ++ 33 ∷ r) (sym same)) all (ap decoded lead ∙ e)) refl
+      → Ends flow start text (and_then (and_then (after_class classes.is_tag start (past (further (length name) (past start))) s [] d) (λ r. some_suffix start name r)) (λ t. tag_end flow start t))
+  suffix_by s l rest (Err f) cut lead same b e = refuses _ (at_start _ (suffix_octets name s f (cut ∙ ap (λ r. name ++ 33 ∷ r) (sym same)) all (ap decoded lead ∙ e))) refl
   suffix_by s [] rest (Ok cs) cut lead same b e =
       let none : [] ≡ cs = cc in
-      rw (← none) (refuses problem.TagUri (no_suffix name rest cut all (ap (leading classes.is_tag) (sym same) ∙ lead)) refl)
+      rw (← none) (refuses _ (at_start _ (no_suffix name rest cut all (ap (leading classes.is_tag) (sym same) ∙ lead))) refl)
   suffix_by s (c ∷ l) rest (Ok cs) cut lead same b e =
       let some : is_empty cs ≡ false = decoded_some c l cs e in
       let tags : all_of classes.is_tag (c ∷ l) ≡ true = ap (all_of classes.is_tag) (sym lead) ∙ all_leading classes.is_tag s in
@@ -192,15 +196,15 @@ module _ (flow : Bool) (start : Position) (text name : List ℕ) (all : all_of c
 
   -- after a word and no mark
   local_by : (m l rest : List ℕ) (d : Result (List ℕ) UriFault) → text ≡ name ++ (l ++ rest) → after classes.is_alpha text ≡ m → begins_with 60 text ≡ false → defs.begins_with_mark m ≡ false → begins_in classes.is_alpha l ≡ false → leading classes.is_tag m ≡ l → after classes.is_tag m ≡ rest → decoded l ≡ d
-      → TagEndsAs flow start text (and_then (and_then (after_class classes.is_tag start (further (length name) (past start)) m name d) (λ r. Ok (local r))) (λ t. tag_end flow start t))
-  local_by m l rest (Err f) cut ends not_verbatim unmarked begins lead b e = refuses (problem_of f) (local_octets f not_verbatim (ap defs.begins_with_mark ends ∙ unmarked) (ap (λ r. decoded (leading classes.is_tag r)) ends ∙ (ap decoded lead ∙ e))) refl
+      → Ends flow start text (and_then (and_then (after_class classes.is_tag start (further (length name) (past start)) m name d) (λ r. Ok (local r))) (λ t. tag_end flow start t))
+  local_by m l rest (Err f) cut ends not_verbatim unmarked begins lead b e = refuses _ (at_start _ (local_octets f not_verbatim (ap defs.begins_with_mark ends ∙ unmarked) (ap (λ r. decoded (leading classes.is_tag r)) ends ∙ (ap decoded lead ∙ e)))) refl
   local_by m l rest (Ok cs) cut ends not_verbatim unmarked begins lead b e = by (is_empty (name ++ l)) refl
     where
       goes : may_follow flow rest ≡ false → IsTagRefusal flow text problem.TagEnd
       goes g =
           local_goes_on cs not_verbatim (ap defs.begins_with_mark ends ∙ unmarked) (ap (λ r. decoded (leading classes.is_tag r)) ends ∙ (ap decoded lead ∙ e)) (ap (λ r. may_follow flow (after classes.is_tag r)) ends ∙ (ap (may_follow flow) b ∙ g))
 
-      by : (none : Bool) → is_empty (name ++ l) ≡ none → TagEndsAs flow start text (tag_end flow start (local (record { rest = after classes.is_tag m; position = further (length (leading classes.is_tag m)) (further (length name) (past start)); value = name ++ cs })))
+      by : (none : Bool) → is_empty (name ++ l) ≡ none → Ends flow start text (tag_end flow start (local (record { rest = after classes.is_tag m; position = further (length (leading classes.is_tag m)) (further (length name) (past start)); value = name ++ cs })))
       by true f =
           let parts = nil_parts name l f in
           let zeros : 0 ≡ length name + length l = rw (parts.0, parts.1) refl in
@@ -213,13 +217,13 @@ module _ (flow : Bool) (start : Position) (text name : List ℕ) (all : all_of c
           rw (some, b, lead) (ended flow start text (name ++ l) rest (33 ∷ []) (name ++ cs) _ (cut ∙ sym (append_assoc name l rest)) (local_written name l cs all tags begins e f)
           (local_position start (length name) (length l) (length (name ++ l)) (length-append name l)) goes)
 
-  from_mark : (s : List ℕ) → text ≡ name ++ 33 ∷ s → TagEndsAs flow start text (and_then (after_name start name (33 ∷ s) (further (length name) (past start))) (λ t. tag_end flow start t))
+  from_mark : (s : List ℕ) → text ≡ name ++ 33 ∷ s → Ends flow start text (and_then (after_name start name (33 ∷ s) (further (length name) (past start))) (λ t. tag_end flow start t))
   unfolding named
   from_mark s cut =
       rw ((uris_are_read start s (past (further (length name) (past start))) []).1)
       (suffix_by s (leading classes.is_tag s) (after classes.is_tag s) (decoded (leading classes.is_tag s)) (cut ∙ ap (λ r. name ++ 33 ∷ r) (span_cut classes.is_tag s)) refl (span_cut classes.is_tag s) refl refl)
 
-  from_word : (m : List ℕ) → text ≡ name ++ m → after classes.is_alpha text ≡ m → begins_with 60 text ≡ false → begins_in classes.is_alpha m ≡ false → (slice_index m 0 == 33) ≡ false → TagEndsAs flow start text (and_then (after_name start name m (further (length name) (past start))) (λ t. tag_end flow start t))
+  from_word : (m : List ℕ) → text ≡ name ++ m → after classes.is_alpha text ≡ m → begins_with 60 text ≡ false → begins_in classes.is_alpha m ≡ false → (slice_index m 0 == 33) ≡ false → Ends flow start text (and_then (after_name start name m (further (length name) (past start))) (λ t. tag_end flow start t))
   from_word m cut ends not_verbatim begins unmarked =
       rw (unmarked, (uris_are_read start m (further (length name) (past start)) name).1)
       (local_by m (leading classes.is_tag m) (after classes.is_tag m) (decoded (leading classes.is_tag m)) (cut ∙ ap (λ r. name ++ r) (span_cut classes.is_tag m)) ends not_verbatim (no_mark_at m unmarked) (still_no_word m begins) refl refl refl)
@@ -229,7 +233,7 @@ module _ (flow : Bool) (start : Position) (text name : List ℕ) (all : all_of c
       no_mark_at (c ∷ r) h = h
 
 shorthand_from : (flow : Bool) (start : Position) (a m : List ℕ) → begins_with 60 a ≡ false → after classes.is_alpha a ≡ m
-    → TagEndsAs flow start a (and_then (after_name start (leading classes.is_alpha a) m (further (length (leading classes.is_alpha a)) (past start))) (λ t. tag_end flow start t))
+    → Ends flow start a (and_then (after_name start (leading classes.is_alpha a) m (further (length (leading classes.is_alpha a)) (past start))) (λ t. tag_end flow start t))
 shorthand_from flow start a [] not_verbatim e = from_word flow start a (leading classes.is_alpha a) (all_leading classes.is_alpha a) [] (span_cut classes.is_alpha a ∙ ap (λ r. leading classes.is_alpha a ++ r) e) e not_verbatim refl refl
 shorthand_from flow start a (c ∷ s) not_verbatim e = elim (cases_Bool (c == 33)) [
   | inl f ↦ let same : c ≡ 33 = eqb-true c 33 f in rw same (from_mark flow start a (leading classes.is_alpha a) (all_leading classes.is_alpha a) s (cut ∙ ap (λ d. leading classes.is_alpha a ++ d ∷ s) same))
@@ -239,7 +243,7 @@ shorthand_from flow start a (c ∷ s) not_verbatim e = elim (cases_Bool (c == 33
     cut : a ≡ leading classes.is_alpha a ++ c ∷ s
     cut = span_cut classes.is_alpha a ∙ ap (λ r. leading classes.is_alpha a ++ r) e
 
-shorthands : (flow : Bool) (start : Position) (a : List ℕ) → (slice_index a 0 == 60) ≡ false → TagEndsAs flow start a (tag flow (33 ∷ a) start)
+shorthands : (flow : Bool) (start : Position) (a : List ℕ) → (slice_index a 0 == 60) ≡ false → Ends flow start a (tag flow (33 ∷ a) start)
 unfolding tag shorthand
 shorthands flow start a e = rw (e, word a (past start) []) (shorthand_from flow start a (after classes.is_alpha a) (no_angle a e) refl)
   where

@@ -1,5 +1,5 @@
 -- The model over the elements of a body, up to its closing quote.
-use Rattle.proof_lexers.proofs.Common.{[], after_element, after_elements, after_gap, after_quote, ap, append-nil, At, at_marker, Bool, by_line, cases_Bool, closed, closed_end, Context, double_quoted_element, drop, Element, element_of, elements, ends_before, Err, false, Fault, first, Folded, followed, gap, has_marker, inl, inr, inside, is_blank, is_break, is_document_marker, IsShallow, joined, List, Mode, nat_lt, None, not-true, nothing, Ok, Option, past, Position, put_before, quote_of, Read, read, refl, refused, Result, shallow, slice_index, Some, Spelled, suc, sym, true, zero, ℕ, ◌&&◌, ◌++◌, ◌+◌, ◌==◌, ◌||◌, ◌∙◌, ◌∷◌, ◌≡◌}
+use Rattle.proof_lexers.proofs.Common.{[], after_element, after_elements, after_gap, after_quote, ap, append-nil, At, at_marker, Bool, by_line, cases_Bool, closed_end, Context, double_quoted_element, drop, Element, element_of, elements, ends_before, Err, false, Fault, first, Folded, followed, gap, has_marker, inl, inr, inside, is_blank, is_break, is_document_marker, IsShallow, joined, List, Mode, nat_lt, None, not-true, nothing, Ok, Option, past, Position, put_before, quote_of, Read, read, refl, refused, Result, shallow, slice_index, Some, Spelled, suc, sym, true, zero, ℕ, ◌&&◌, ◌++◌, ◌+◌, ◌==◌, ◌||◌, ◌∙◌, ◌∷◌, ◌≡◌}
 use Rattle.yaml_tokens.specs.declared.problem.Problem.TheVariants as problem
 use Rattle.defs_text.specs.Classes as classes
 use Rattle.proof_lexers.specs.QuotedScan.{IsRead}

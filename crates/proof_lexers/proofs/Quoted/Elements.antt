@@ -1,10 +1,11 @@
 -- What the model does at each element of a body in single and in double quotes.
 use Rattle.std.specs.Char.{is_digit}
-use Rattle.proof_lexers.proofs.Common.{[], along, and_parts, arith, begins_with, Bool, break_further, by_line, cases_Bool, coded, content, Context, digit_turn, digit_value, digits_from, double_quoted_element, drop, element_of, eqb-true, Escape, escape, escape_by, escape_of, escaped_break, escapes, false, Fault, Folded, has_marker, hexadecimal, if◌then◌else◌, inl, inr, inside, is_blank, is_break, is_character_code, is_document_marker, joined, length, List, list_all, lookup, named_char, named_code, nat_tests, ne_eqb, None, numbered, numeric_escape, numeric_escapes, Option, past, past_break, Position, Read, refl, Result, single_quoted_element, slice_index, Some, suc, sym, take, true, with_char, with_escaped_break, zero, ℕ, ◌&&◌, ◌*◌, ◌++◌, ◌+◌, ◌==◌, ◌||◌, ◌∙◌, ◌∷◌, ◌≡◌}
+use Rattle.proof_lexers.proofs.Common.{[], along, and_parts, arith, begins_with, Bool, break_further, by_line, cases_Bool, Char, Code, coded, content, Context, count_of, digit_turn, digit_value, digits_from, double_quoted_element, drop, element_of, eqb-true, Escape, escape, escape_by, escape_of, escaped_break, escapes, false, Fault, Folded, has_marker, hexadecimal, if◌then◌else◌, inl, inr, inside, is_blank, is_break, is_character_code, is_document_marker, joined, length, List, list_all, lookup, named_char, named_code, nat_tests, ne_eqb, None, numbered, numeric_escape, numeric_escapes, Option, past, past_break, Position, Read, refl, Result, single_quoted_element, slice_index, Some, subst, suc, sym, take, true, Unknown, with_char, with_escaped_break, zero, ℕ, ◌&&◌, ◌*◌, ◌++◌, ◌+◌, ◌==◌, ◌||◌, ◌∙◌, ◌∷◌, ◌≡◌}
 use Rattle.defs_text.specs.Classes as classes
 use Rattle.model_scanner.specs.Quoted.{after}
+use Rattle.model_scanner.specs.declared.kind.Digits.{Digits}
 use Rattle.proof_lexers.specs.QuotedScan.{is_some}
-use Rattle.proof_lexers.proofs.Bridges.{same_break, same_digit, same_code, same_escape, and_false, both}
+use Rattle.proof_lexers.proofs.Bridges.{same_break, same_digit, same_code, digits_of, same_escape, and_false, both}
 use Rattle.proof_lexers.proofs.Quoted.Turns.{feed_is_no_marker, after_escaped, scan, Begun, begun, marked, shallow, begins, Taken, Step, steps, is_marked, is_shallow, StepOf, spelled, content_step, itself_step}
 
 -- ---- single quotes
@@ -34,14 +35,14 @@ module _ (ctx : Context) (start : Position) where
 
 -- ---- double quotes
 
--- a code has digits
-pub has_digits : (d n : ℕ) → lookup d numeric_escapes ≡ Some n → (m : ℕ) × (n ≡ suc m)
+-- a code has two digits, four or eight
+pub has_digits : (d n : ℕ) → lookup d numeric_escapes ≡ Some n → count_of (digits_of n) ≡ n
 has_digits d n h = by (d == 120) (d == 117) (d == 85) h
   where
-    by : (x u v : Bool) → (if x then Some 2 else (if u then Some 4 else (if v then Some 8 else None))) ≡ Some n → (m : ℕ) × (n ≡ suc m)
-    by true u v h = (1, cc)
-    by false true v h = (3, cc)
-    by false false true h = (7, cc)
+    by : (x u v : Bool) → (if x then Some 2 else (if u then Some 4 else (if v then Some 8 else None))) ≡ Some n → count_of (digits_of n) ≡ n
+    by true u v h = let same : 2 ≡ n = cc in rw (← same) refl
+    by false true v h = let same : 4 ≡ n = cc in rw (← same) refl
+    by false false true h = let same : 8 ≡ n = cc in rw (← same) refl
     by false false false h = cc
 
 pub same_length : (n m : ℕ) → (suc n == suc m) ≡ (n == m)
@@ -83,14 +84,14 @@ module _ (ctx : Context) (start : Position) where
 
   -- ---- an escape
 
-  named_taken : (d code : ℕ) (a : List ℕ) (p : Position) (u : Folded) → is_break d ≡ false → escape_of d ≡ Escape.char code → Taken false ctx start (scan false ctx start (92 ∷ d ∷ a) inside p u) a p (92 ∷ d ∷ []) u code
+  named_taken : (d code : ℕ) (a : List ℕ) (p : Position) (u : Folded) → is_break d ≡ false → escape_of d ≡ Char code → Taken false ctx start (scan false ctx start (92 ∷ d ∷ a) inside p u) a p (92 ∷ d ∷ []) u code
   unfolding is_break is_blank
   named_taken d code a p u e f = rw e (named_char false ctx start d code (d ∷ a) a (past p) u f refl)
 
-  coded_taken : (d n code : ℕ) (b r : List ℕ) (p : Position) (u : Folded) → is_break d ≡ false → escape_of d ≡ Escape.code n → Counted (suc n) 0 b r (past (past p)) u code
-      → Taken false ctx start (scan false ctx start (92 ∷ d ∷ (b ++ r)) inside p u) (drop (suc n) b ++ r) p (92 ∷ d ∷ take (suc n) b) u code
+  coded_taken : (d : ℕ) (k : Digits) (code : ℕ) (b r : List ℕ) (p : Position) (u : Folded) → is_break d ≡ false → escape_of d ≡ Code k → Counted (count_of k) 0 b r (past (past p)) u code
+      → Taken false ctx start (scan false ctx start (92 ∷ d ∷ (b ++ r)) inside p u) (drop (count_of k) b ++ r) p (92 ∷ d ∷ take (count_of k) b) u code
   unfolding is_break is_blank
-  coded_taken d n code b r p u e f z = rw e (named_code false ctx start d n (d ∷ (b ++ r)) (b ++ r) (past p) u f refl) ∙ z
+  coded_taken d k code b r p u e f z = rw e (named_code false ctx start d k (d ∷ (b ++ r)) (b ++ r) (past p) u f refl) ∙ z
 
   some_digits : (n value code : ℕ) (b : List ℕ) → hexadecimal value (take n b) ≡ Some code → list_all is_some b ≡ list_all is_some (drop n b)
   some_digits zero value code b h = refl
@@ -101,7 +102,7 @@ module _ (ctx : Context) (start : Position) where
   ]
 
   -- a known escape is none, and no break is
-  known_some : (d : ℕ) (e : Escape) → escape_of d ≡ e → (e ≡ Escape.unknown → ⊥) → (d == 0) ≡ false
+  known_some : (d : ℕ) (e : Escape) → escape_of d ≡ e → (e ≡ Unknown → ⊥) → (d == 0) ≡ false
   unfolding escape_of
   known_some d e h known = ne_eqb d 0 (λ z. known (sym h ∙ rw z refl))
 
@@ -113,19 +114,19 @@ module _ (ctx : Context) (start : Position) where
   unfolding is_break is_blank
   no_white = refl
 
-  named_step : (d code : ℕ) (b r : List ℕ) (p : Position) (t : Folded) → is_break d ≡ false → escape_of d ≡ Escape.char code → Step false ctx start 92 (d ∷ b) r p t (spelled (content code) 1)
+  named_step : (d code : ℕ) (b r : List ℕ) (p : Position) (t : Folded) → is_break d ≡ false → escape_of d ≡ Char code → Step false ctx start 92 (d ∷ b) r p t (spelled (content code) 1)
   unfolding classes.is_break
   named_step d code b r p t e f =
       let g : classes.is_break d ≡ false = same_break d ∙ e in
-      content_step false ctx start 92 (d ∷ b) r 1 code p t no_white (named_taken d code (b ++ r) p (joined t) e f) (rw g refl) (rw (known_some d (Escape.char code) f (λ k. cc)) refl)
+      content_step false ctx start 92 (d ∷ b) r 1 code p t no_white (named_taken d code (b ++ r) p (joined t) e f) (rw g refl) (rw (known_some d (Char code) f (λ h. cc)) refl)
 
-  coded_by : (d n code : ℕ) (b r : List ℕ) (p : Position) (t : Folded) → is_break d ≡ false → escape_of d ≡ Escape.code n → (length (take (suc n) b) == suc n) ≡ true → hexadecimal 0 (take (suc n) b) ≡ Some code → is_character_code code ≡ true
-      → Step false ctx start 92 (d ∷ b) r p t (spelled (content code) (suc (suc n)))
+  coded_by : (d : ℕ) (k : Digits) (code : ℕ) (b r : List ℕ) (p : Position) (t : Folded) → is_break d ≡ false → escape_of d ≡ Code k → (length (take (count_of k) b) == count_of k) ≡ true → hexadecimal 0 (take (count_of k) b) ≡ Some code → is_character_code code ≡ true
+      → Step false ctx start 92 (d ∷ b) r p t (spelled (content code) (suc (count_of k)))
   unfolding classes.is_break
-  coded_by d n code b r p t e f many digits valid =
+  coded_by d k code b r p t e f many digits valid =
       let g : classes.is_break d ≡ false = same_break d ∙ e in
-      let z = counted (suc n) 0 code b r (past (past p)) (joined t) many digits valid in
-      content_step false ctx start 92 (d ∷ b) r (suc (suc n)) code p t no_white (coded_taken d n code b r p (joined t) e f z) (rw g (marks_after_digits (suc n) 0 code b r digits)) (rw (known_some d (Escape.code n) f (λ k. cc)) (some_digits (suc n) 0 code b digits))
+      let z = counted (count_of k) 0 code b r (past (past p)) (joined t) many digits valid in
+      content_step false ctx start 92 (d ∷ b) r (suc (count_of k)) code p t no_white (coded_taken d k code b r p (joined t) e f z) (rw g (marks_after_digits (count_of k) 0 code b r digits)) (rw (known_some d (Code k) f (λ h. cc)) (some_digits (count_of k) 0 code b digits))
 
   -- ---- an escaped break
 
@@ -167,16 +168,18 @@ module _ (ctx : Context) (start : Position) where
 
   -- ---- a backslash
 
-  by_rows : (d : ℕ) (b r : List ℕ) (p : Position) (t : Folded) (o n : Option ℕ) → is_break d ≡ false → lookup d escapes ≡ o → lookup d numeric_escapes ≡ n → StepOf false ctx start 92 (d ∷ b) r p t (escape_by o n b)
+  by_digits : (d : ℕ) (k : Digits) (b r : List ℕ) (p : Position) (t : Folded) → is_break d ≡ false → escape_of d ≡ Code k → StepOf false ctx start 92 (d ∷ b) r p t (numeric_escape (count_of k) b)
   unfolding numeric_escape
+  by_digits d k b r p t e f = elim (cases_Bool (length (take (count_of k) b) == count_of k)) [ inl many ↦ rw many (of_number (hexadecimal 0 (take (count_of k) b)) many refl) | inr many ↦ rw many tt ]
+    where
+      of_number : (o : Option ℕ) → (length (take (count_of k) b) == count_of k) ≡ true → hexadecimal 0 (take (count_of k) b) ≡ o → StepOf false ctx start 92 (d ∷ b) r p t (numbered (count_of k) o)
+      of_number None many digits = tt
+      of_number (Some code) many digits = elim (cases_Bool (is_character_code code)) [ inl valid ↦ rw valid (coded_by d k code b r p t e f many digits valid) | inr valid ↦ rw valid tt ]
+
+  by_rows : (d : ℕ) (b r : List ℕ) (p : Position) (t : Folded) (o n : Option ℕ) → is_break d ≡ false → lookup d escapes ≡ o → lookup d numeric_escapes ≡ n → StepOf false ctx start 92 (d ∷ b) r p t (escape_by o n b)
   by_rows d b r p t (Some code) n e f g = named_step d code b r p t e (same_escape d ∙ rw f refl)
   by_rows d b r p t None None e f g = tt
-  by_rows d b r p t None (Some zero) e f g = let z = has_digits d zero g in let no = z.1 in absurd (omega (arith, no))
-  by_rows d b r p t None (Some (suc n)) e f g = elim (cases_Bool (length (take (suc n) b) == suc n)) [ inl many ↦ rw many (of_number (hexadecimal 0 (take (suc n) b)) many refl) | inr many ↦ rw many tt ]
-    where
-      of_number : (o : Option ℕ) → (length (take (suc n) b) == suc n) ≡ true → hexadecimal 0 (take (suc n) b) ≡ o → StepOf false ctx start 92 (d ∷ b) r p t (numbered (suc n) o)
-      of_number None many digits = tt
-      of_number (Some code) many digits = elim (cases_Bool (is_character_code code)) [ inl valid ↦ rw valid (coded_by d n code b r p t e (same_escape d ∙ rw (f, g) refl) many digits valid) | inr valid ↦ rw valid tt ]
+  by_rows d b r p t None (Some n) e f g = subst (λ m. StepOf false ctx start 92 (d ∷ b) r p t (numeric_escape m b)) (has_digits d n g) (by_digits d (digits_of n) b r p t e (same_escape d ∙ rw (f, g) refl))
 
   escape_step : (b r : List ℕ) (p : Position) (t : Folded) → (slice_index r 0 == 10) ≡ false → StepOf false ctx start 92 b r p t (escape b)
   unfolding escape

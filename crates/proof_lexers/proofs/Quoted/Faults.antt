@@ -1,11 +1,11 @@
 -- Escapes that are none are refused.
 use Rattle.std.specs.Char.{is_digit}
-use Rattle.proof_lexers.proofs.Common.{[], ap, arith, At, Bool, break_further, cases_Bool, coded_fails, content, Context, digit_fails, digit_turn, digit_value, digits_from, Err, escape, escape_by, escaped_break, escapes, false, Folded, hexadecimal, if◌then◌else◌, inl, inr, inside, is_blank, is_break, is_character_code, IsBadEscape, length, List, lookup, named_code, named_unknown, nat_tests, no_digit, None, number_at, numbered, numeric_escape, numeric_escapes, Option, past, Position, Problem, refl, Some, suc, sym, take, true, zero, ℕ, ◌*◌, ◌+◌, ◌==◌, ◌∙◌, ◌∷◌, ◌≡◌}
+use Rattle.proof_lexers.proofs.Common.{[], ap, At, Bool, break_further, cases_Bool, coded_fails, content, Context, digit_fails, digit_turn, digit_value, digits_from, Err, escape, escape_by, escaped_break, escapes, false, Folded, hexadecimal, if◌then◌else◌, inl, inr, inside, is_blank, is_break, is_character_code, IsBadEscape, length, List, lookup, named_code, named_unknown, no_digit, None, number_at, numbered, numeric_escape, numeric_escapes, Option, past, Position, Problem, refl, Some, suc, sym, take, true, zero, ℕ, ◌*◌, ◌+◌, ◌==◌, ◌∙◌, ◌∷◌, ◌≡◌}
 use Rattle.yaml_tokens.specs.declared.problem.Problem.TheVariants as problem
 use Rattle.defs_text.specs.Classes as classes
 use Rattle.model_scanner.specs.Quoted.{named}
 use Rattle.proof_lexers.specs.QuotedEnds.{ends, unknown, no_character}
-use Rattle.proof_lexers.proofs.Bridges.{same_break, same_digit, same_code, same_escape, both}
+use Rattle.proof_lexers.proofs.Bridges.{digits_of, same_break, same_code, same_digit, same_escape}
 use Rattle.proof_lexers.proofs.Quoted.Turns.{scan, spelled}
 use Rattle.proof_lexers.proofs.Quoted.Elements.{has_digits, same_length, too_short}
 
@@ -60,19 +60,19 @@ module _ (ctx : Context) (start : Position) where
     is = to_named d b p u e ∙ named_unknown false ctx start d (d ∷ b) (past p) u (same_escape d ∙ rw (f, g) refl) refl;
   }
 
-  to_digits : (d n m : ℕ) (b : List ℕ) (p : Position) (u : Folded) → is_break d ≡ false → lookup d escapes ≡ None → lookup d numeric_escapes ≡ Some n → n ≡ suc m → scan false ctx start (92 ∷ d ∷ b) inside p u ≡ digits_from false ctx start (suc m) 0 b (past (past p)) u
-  to_digits d n m b p u e f g same = to_named d b p u e ∙ named_code false ctx start d m (d ∷ b) b (past p) u (same_escape d ∙ rw (f, g, same) refl) refl
+  to_digits : (d n : ℕ) (b : List ℕ) (p : Position) (u : Folded) → is_break d ≡ false → lookup d escapes ≡ None → lookup d numeric_escapes ≡ Some n → scan false ctx start (92 ∷ d ∷ b) inside p u ≡ digits_from false ctx start n 0 b (past (past p)) u
+  to_digits d n b p u e f g =
+      to_named d b p u e ∙ named_code false ctx start d (digits_of n) (d ∷ b) b (past p) u (same_escape d ∙ rw (f, g) refl) refl ∙ ap (λ m. digits_from false ctx start m 0 b (past (past p)) u) (has_digits d n g)
 
   code_fails_by : (d n : ℕ) (b : List ℕ) (p : Position) (u : Folded) (o : Option ℕ) → is_break d ≡ false → lookup d escapes ≡ None → lookup d numeric_escapes ≡ Some n → number_at n b ≡ o → numbered n o ≡ None → Fails (d ∷ b) p u
-  code_fails_by d n b p u None e f g number h =
-      let z = has_digits d n g in
-      let none : number_after (suc z.0) 0 b ≡ None = rw (← z.1) number in
-      record { why = problem.HexadecimalDigit; bad = no_digit d n b f g number; is = to_digits d n z.0 b p u e f g z.1 ∙ digits_fail (suc z.0) 0 b (past (past p)) u none }
+  code_fails_by d n b p u None e f g number h = record {
+    why = problem.HexadecimalDigit;
+    bad = no_digit d n b f g number;
+    is = to_digits d n b p u e f g ∙ digits_fail n 0 b (past (past p)) u number;
+  }
   code_fails_by d n b p u (Some code) e f g number h =
-      let z = has_digits d n g in
-      let some : number_after (suc z.0) 0 b ≡ Some code = rw (← z.1) number in
       let invalid = no_character_of n code (is_character_code code) refl h in
-      record { why = problem.EscapedCode; bad = no_character d n code b f g number invalid; is = to_digits d n z.0 b p u e f g z.1 ∙ code_fails (suc z.0) 0 code b (past (past p)) u some invalid }
+      record { why = problem.EscapedCode; bad = no_character d n code b f g number invalid; is = to_digits d n b p u e f g ∙ code_fails n 0 code b (past (past p)) u number invalid }
     where
       no_character_of : (n code : ℕ) (valid : Bool) → is_character_code code ≡ valid → (if valid then Some (spelled (content code) (suc n)) else None) ≡ None → is_character_code code ≡ false
       no_character_of n code true e h = cc

@@ -1,9 +1,9 @@
 -- Each scan of a quoted scalar ends as its text says.
-use Rattle.proof_lexers.proofs.Common.{[], after_elements, after_gap, ap, append-nil, At, Bool, by_end, by_escape, by_line, by_marker, Context, ends_before, escape, false, Fault, first, Folded, gap, has_marker, HasElements, is_blank, is_break, is_document_marker, IsShallow, joined, List, Mode, None, nothing, past, Position, quote_of, quoted, QuotedEndsAs, QuotedScansEndAsTheirTextSays, Read, read, refl, Result, shallow, slice_index, Some, sym, true, value_of, ℕ, ◌++◌, ◌+◌, ◌==◌, ◌∙◌, ◌∷◌, ◌≡◌}
+use Rattle.proof_lexers.proofs.Common.{[], after_elements, after_gap, ap, append-nil, At, Bool, by_end, by_escape, by_line, by_marker, Context, ends_before, EndsAs, escape, false, Fault, first, Folded, gap, has_marker, HasElements, is_blank, is_break, is_document_marker, IsQuotedRead, IsQuotedRefusal, IsShallow, joined, List, Mode, None, nothing, past, Position, quote_of, quoted, QuotedScansEndAsTheirTextSays, Read, read, reads, refl, refuses, Result, shallow, slice_index, Some, sym, true, value_of, ℕ, ◌++◌, ◌+◌, ◌==◌, ◌∙◌, ◌∷◌, ◌≡◌}
 use Rattle.yaml_tokens.specs.declared.problem.Problem.TheVariants as problem
 use Rattle.proof_lexers.specs.QuotedScan.{IsRead}
 use Rattle.proof_lexers.specs.QuotedScan as scans
-use Rattle.proof_lexers.specs.QuotedEnds.{by_column, by_tab, reads, refuses}
+use Rattle.proof_lexers.specs.QuotedEnds.{by_column, by_tab}
 use Rattle.proof_lexers.proofs.Fold.{buffers_join}
 use Rattle.proof_lexers.proofs.Quoted.Turns.{no_marker, off_margin, Ready, in_gap, after_escaped, scan, Begun, begun, begins}
 use Rattle.proof_lexers.proofs.Quoted.Turns as turns
@@ -14,7 +14,10 @@ use Rattle.proof_lexers.proofs.Quoted.Shapes.{Shape, closed, unclosed, badly_esc
 use Rattle.proof_lexers.proofs.Quoted.Faults.{escape_fails}
 
 module _ (single : Bool) (ctx : Context) (start : Position) (text : List ℕ) where
-  is_shallow : (x : Result (Read (List ℕ)) Fault) → IsShallow ctx start x → QuotedEndsAs single ctx start text x
+  abbrev Ends : Result (Read (List ℕ)) Fault → Type 0
+  Ends x = EndsAs (IsQuotedRead single text) (IsQuotedRefusal single ctx start text) x
+
+  is_shallow : (x : Result (Read (List ℕ)) Fault) → IsShallow ctx start x → Ends x
   is_shallow x (by_line p h e) = refuses (At problem.QuotedIndentation start) (by_column p h) e
   is_shallow x (scans.by_tab p h e) = refuses (At problem.TabAsIndentation p) (by_tab p h) e
 
@@ -23,15 +26,15 @@ module _ (single : Bool) (ctx : Context) (start : Position) (text : List ℕ) wh
 
   -- a body's elements, and what the text after them is
   through : (body rest : List ℕ) (has : HasElements single body) → text ≡ body ++ rest → (x : Result (Read (List ℕ)) Fault)
-      → ((m : Mode) (q : Position) → Ready single (after_elements has.0 nothing) m → has_marker body rest ≡ false → QuotedEndsAs single ctx start text (scan single ctx start rest m q (after_elements has.0 nothing)))
-      → Passed single ctx start x body rest (start.col + 1) (after_elements has.0 nothing) → QuotedEndsAs single ctx start text x
+      → ((m : Mode) (q : Position) → Ready single (after_elements has.0 nothing) m → has_marker body rest ≡ false → Ends (scan single ctx start rest m q (after_elements has.0 nothing)))
+      → Passed single ctx start x body rest (start.col + 1) (after_elements has.0 nothing) → Ends x
   through body rest has cut x goes (passed m q ready none e) = rw e (goes m q ready (marks body rest false none))
   through body rest has cut x goes (met_marker meets e) = refuses (At problem.QuotedDocumentMarker start) (by_marker body rest cut has (marks body rest true meets)) e
   through body rest has cut x goes (was_shallow s) = is_shallow x s
 
   from_gap : (body rest : List ℕ) (has : HasElements single body) → text ≡ body ++ rest → (slice_index rest 0 == 10) ≡ false → is_document_marker rest ≡ false
-      → ((m : Mode) (q : Position) → Ready single (after_elements has.0 nothing) m → has_marker body rest ≡ false → QuotedEndsAs single ctx start text (scan single ctx start rest m q (after_elements has.0 nothing)))
-      → QuotedEndsAs single ctx start text (scan single ctx start text gap (past start) nothing)
+      → ((m : Mode) (q : Position) → Ready single (after_elements has.0 nothing) m → has_marker body rest ≡ false → Ends (scan single ctx start rest m q (after_elements has.0 nothing)))
+      → Ends (scan single ctx start text gap (past start) nothing)
   from_gap body rest has cut no_feed still goes =
       through body rest has cut _ goes (rw cut (passes single ctx start 0 body rest no_feed still has.0 gap (past start) nothing has.1 in_gap))
 
@@ -43,20 +46,20 @@ module _ (single : Bool) (ctx : Context) (start : Position) (text : List ℕ) wh
       value_is single body has.0 has.1 unmarked ∙ ap Some (sym (buffers_join has.0))
 
   closes : (body rest : List ℕ) (has : HasElements single body) → text ≡ body ++ quote_of single ∷ rest → ends_before single rest ≡ true → has_marker body (quote_of single ∷ rest) ≡ false
-      → (x : Result (Read (List ℕ)) Fault) → IsRead ctx start ((joined (after_elements has.0 nothing)).text) rest x → QuotedEndsAs single ctx start text x
-  closes body rest has cut ends none x (read position e) = reads body rest _ position cut (value_here body rest has none) ends e
+      → (x : Result (Read (List ℕ)) Fault) → IsRead ctx start ((joined (after_elements has.0 nothing)).text) rest x → Ends x
+  closes body rest has cut ends none x (read position e) = reads _ (record { body = body; is_text = cut; is_value = value_here body rest has none; may_end = ends }) e
   closes body rest has cut ends none x (shallow s) = is_shallow x s
 
   -- ---- no closing quote
 
-  at_end : (m : Mode) (q : Position) (t : Folded) → Ready single t m → HasElements single text → QuotedEndsAs single ctx start text (scan single ctx start [] m q t)
+  at_end : (m : Mode) (q : Position) (t : Folded) → Ready single t m → HasElements single text → Ends (scan single ctx start [] m q t)
   at_end m q t in_gap has = refuses (At problem.QuotedEnd start) (by_end has) refl
   at_end m q t (after_escaped double e f) has = refuses (At problem.QuotedEnd start) (by_end has) refl
 
 -- ---- an escape that is none
 
 module _ (ctx : Context) (start : Position) (text body rest : List ℕ) (cut : text ≡ body ++ 92 ∷ rest) (has : HasElements false body) (bad : escape rest ≡ None) where
-  in_line : (p : Position) (t : Folded) → Begun false ctx start (92 ∷ rest) p t → QuotedEndsAs false ctx start text (scan false ctx start (92 ∷ rest) gap p t)
+  in_line : (p : Position) (t : Folded) → Begun false ctx start (92 ∷ rest) p t → Ends false ctx start text (scan false ctx start (92 ∷ rest) gap p t)
   in_line p t (begun none deep e) = let z = escape_fails ctx start rest p (joined t) bad in refuses (At z.why start) (by_escape body rest z.why refl cut has z.bad) (e ∙ z.is)
   in_line p t (turns.marked e f) = absurd (no_mark (p.col == 0) (is_document_marker (92 ∷ rest)) (no_marker 92 rest refl refl) e)
   in_line p t (turns.shallow h e) = refuses (At problem.QuotedIndentation start) (by_column p h) e
@@ -65,13 +68,13 @@ module _ (ctx : Context) (start : Position) (text body rest : List ℕ) (cut : t
   unfolding is_break is_blank
   solid p t = begins false ctx start 92 rest p t refl
 
-  at_escape : (m : Mode) (p : Position) (t : Folded) → Ready false t m → QuotedEndsAs false ctx start text (scan false ctx start (92 ∷ rest) m p t)
+  at_escape : (m : Mode) (p : Position) (t : Folded) → Ready false t m → Ends false ctx start text (scan false ctx start (92 ∷ rest) m p t)
   at_escape m p t in_gap = in_line p t (solid p t)
   at_escape m p t (after_escaped double e f) = rw (after_gap false ctx start 92 (92 ∷ rest) p t refl refl) (in_line p t (solid p t))
 
 -- ---- every text
 
-by_shape : (single : Bool) (ctx : Context) (start : Position) (text : List ℕ) → Shape single text → QuotedEndsAs single ctx start text (scan single ctx start text gap (past start) nothing)
+by_shape : (single : Bool) (ctx : Context) (start : Position) (text : List ℕ) → Shape single text → Ends single ctx start text (scan single ctx start text gap (past start) nothing)
 by_shape single ctx start text (closed body rest cut has ends) =
     from_gap single ctx start text body (quote_of single ∷ rest) has cut (quote_feed single rest) (quote_still single rest)
     (λ m q ready none. closes single ctx start text body rest has cut ends none _ (close single ctx start rest ends m q (after_elements has.0 nothing) ready))
@@ -79,12 +82,12 @@ by_shape single ctx start text (unclosed has) =
     from_gap single ctx start text text [] has (sym (append-nil text)) refl refl (λ m q ready none. at_end single ctx start text m q (after_elements has.0 nothing) ready has)
 by_shape single ctx start text (badly_escaped body rest double cut has bad) = of_double single double has
   where
-    of_double : (single : Bool) → single ≡ false → HasElements single body → QuotedEndsAs single ctx start text (scan single ctx start text gap (past start) nothing)
+    of_double : (single : Bool) → single ≡ false → HasElements single body → Ends single ctx start text (scan single ctx start text gap (past start) nothing)
     of_double true e has = cc
     of_double false e has =
         from_gap false ctx start text body (92 ∷ rest) has cut refl (no_marker 92 rest refl refl) (λ m q ready none. at_escape ctx start text body rest cut has bad m q (after_elements has.0 nothing) ready)
 
-by_opening : (single : Bool) (ctx : Context) (start : Position) (text : List ℕ) → Shape single text → Opened single ctx start text (past start) → QuotedEndsAs single ctx start text (scan single ctx start text first (past start) nothing)
+by_opening : (single : Bool) (ctx : Context) (start : Position) (text : List ℕ) → Shape single text → Opened single ctx start text (past start) → Ends single ctx start text (scan single ctx start text first (past start) nothing)
 by_opening single ctx start text shape (opened e) = rw e (by_shape single ctx start text shape)
 by_opening single ctx start text shape (not_opened s) = is_shallow single ctx start text _ s
 

@@ -1,5 +1,5 @@
 -- Bodies with a value are read as it.
-use Rattle.proof_lexers.proofs.Common.{after_elements, Bool, Context, double_quoted_value, Element, element_of, elements, ends_before, false, Fault, first, folded_elements, gap, has_document_marker, has_marker, if◌then◌else◌, joined, lines_of, List, None, nothing, Option, past, Position, quote_of, quoted, QuotedBodiesAreRead, Read, refl, Result, shallow, single_quoted_value, Some, trimmed, true, value_of, ℕ, ◌++◌, ◌+◌, ◌==◌, ◌∙◌, ◌∷◌, ◌≡◌}
+use Rattle.proof_lexers.proofs.Common.{after_elements, Bool, Context, double_quoted_value, Element, element_of, elements, ends_before, false, first, folded_elements, gap, has_document_marker, has_marker, if◌then◌else◌, joined, lines_of, List, None, nothing, Option, past, Position, quote_of, quoted, QuotedBodiesAreRead, refl, shallow, single_quoted_value, Some, trimmed, true, value_of, ℕ, ◌++◌, ◌+◌, ◌==◌, ◌∙◌, ◌∷◌, ◌≡◌}
 use Rattle.defs_text.specs.FlowScalar.{folded}
 use Rattle.proof_lexers.specs.QuotedScan.{IsRead}
 use Rattle.proof_lexers.proofs.Fold.{buffers_join}

@@ -1,7 +1,7 @@
 -- Each separation is passed whole.
-use Rattle.proof_lexers.proofs.Common.{[], after_separation, and_parts, ap, begins_separation, EachSeparationIsPassed, false, has_no_nul, is_blank_or_end, is_nul, List, not, not-true, Ok, or_parts, refl, refuses, sym, true, ℕ, ◌++◌, ◌==◌, ◌||◌, ◌∙◌, ◌∷◌, ◌≡◌}
+use Rattle.proof_lexers.proofs.Common.{[], after_separation, and_parts, ap, begins_separation, EachSeparationIsPassed, false, has_no_nul, HasPassed, is_blank_or_end, is_nul, IsAfter, List, not, not-true, or_parts, refl, ScannerState, sym, true, ℕ, ◌++◌, ◌==◌, ◌||◌, ◌∙◌, ◌∷◌, ◌≡◌}
 use Rattle.defs_text.specs.Classes.{is_blank, is_break}
-use Rattle.proof_lexers.specs.Separations.{passes, passed, refused}
+use Rattle.proof_lexers.proofs.Ends.{ends_also}
 use Rattle.proof_lexers.proofs.Separation.Separations.{separations_are_passed}
 use Rattle.proof_row.specs.Ends.{ends_separation}
 use Rattle.proof_row.proofs.Separations.{separations}
@@ -18,10 +18,10 @@ no_nul_after [] b h = h
 no_nul_after (c ∷ a) b h = no_nul_after a b (and_parts (not (is_nul c)) (has_no_nul (a ++ b)) h).1
 
 pub each_separation_is_passed : EachSeparationIsPassed
-each_separation_is_passed s separation rest nul is ends = elim (separations_are_passed s (separation ++ rest)) [
-  | refuses before blanks more cut fills left none token e ↦ refused before blanks more cut fills left none token e
-  | passes leading f r cut fills stops e ↦
-      let here = ends_here r (no_nul_after f r (ap has_no_nul (sym cut) ∙ nul)) stops in
-      let same = separations f separation r rest (fills, here) (is, ends_here rest (no_nul_after separation rest nul) ends) (sym cut) in
-      passed leading (e ∙ ap (λ k. Ok (after_separation s leading f k)) same.1 ∙ ap (λ k. Ok (after_separation s leading k rest)) same.0)
-]
+each_separation_is_passed s separation rest nul is ends = ends_also passed (λ f why. why) (separations_are_passed s (separation ++ rest))
+  where
+    passed : (u : ScannerState) → HasPassed begins_separation s (separation ++ rest) u → IsAfter s separation rest u
+    passed u p =
+        let here = ends_here u.rest (no_nul_after p.separation u.rest (ap has_no_nul (sym p.cut) ∙ nul)) p.solid in
+        let same = separations p.separation separation u.rest rest (p.is_filled, here) (is, ends_here rest (no_nul_after separation rest nul) ends) (sym p.cut) in
+        (p.is_leading, p.is_state ∙ ap (λ k. after_separation s p.is_leading p.separation k) same.1 ∙ ap (λ k. after_separation s p.is_leading k rest) same.0)

@@ -1,10 +1,9 @@
 -- What the model passes between tokens is a separation.
-use Rattle.proof_lexers.proofs.Common.{[], after_separation, and-false, and_parts, ap, append_assoc, arith, At, begins_separation, begins_token, Bool, cases_Bool, eqb-true, Err, false, Fault, Gap, has_break, Held, in_flow, inl, inr, is_before_indent, is_before_line_feed, is_blank, is_blanks, is_break, is_cr_lf, is_empty, is_left, is_separation, is_white, List, nat_lt, nat_tests, not, Ok, or-true, or_parts, past, past_break, Position, position_after, position_past, refl, refuses, Result, ScannerState, SeparationsArePassed, skip, suc, sym, tab_line, true, ℕ, ◌&&◌, ◌++◌, ◌+◌, ◌==◌, ◌||◌, ◌∙◌, ◌∷◌, ◌≡◌}
+use Rattle.proof_lexers.proofs.Common.{[], after_separation, and-false, and_parts, ap, append_assoc, arith, At, begins_separation, begins_token, Bool, cases_Bool, eqb-true, Err, false, Fault, Gap, has_break, Held, in_flow, inl, inr, is_before_indent, is_before_line_feed, is_blank, is_blanks, is_break, is_cr_lf, is_empty, is_left, is_separation, is_white, List, nat_lt, nat_tests, not, Ok, or-true, or_parts, past, past_break, Position, position_after, position_past, reads, refl, refuses, Result, ScannerState, SeparationsArePassed, skip, suc, sym, tab_left, tab_line, true, ℕ, ◌&&◌, ◌++◌, ◌+◌, ◌==◌, ◌||◌, ◌∙◌, ◌∷◌, ◌≡◌}
 use Rattle.yaml_tokens.specs.declared.problem.Problem.TheVariants as problem
 use Rattle.defs_text.specs.Classes as classes
 use Rattle.model_scanner.specs.Space.{between, comment}
 use Rattle.proof_lexers.proofs.Bridges.{same_break, same_blank}
-use Rattle.proof_lexers.specs.Separations.{passes}
 use Rattle.proof_lexers.proofs.Plain.Turns.{same_feed, in_line_position, line_position, or_true}
 
 abbrev is_comment : Gap → Bool
@@ -217,7 +216,7 @@ skipped (c ∷ a) m s = one_by m s c a (is_break c) refl (skipped a)
 
 pub separations_are_passed : SeparationsArePassed
 separations_are_passed s text = elim (skipped text between s) [
-  | skips leading separation rest cut is ends e ↦ passes leading separation rest cut is ends e
-  | fails before blanks rest cut is left are solid e ↦ refuses before blanks rest cut is left are solid e
+  | skips leading separation rest cut is ends e ↦ reads (after_separation s leading separation rest) (record { is_leading = leading; separation = separation; cut = cut; is_filled = is; solid = ends; is_state = refl }) e
+  | fails before blanks rest cut is left are solid e ↦ refuses _ (tab_left before blanks rest cut is left are solid) e
   | fails_here blanks rest line cut are solid e ↦ cc
 ]

@@ -1,5 +1,5 @@
 -- The blanks and the comment that the model passes in a line are a separation.
-use Rattle.proof_lexers.proofs.Common.{[], after_space, and_parts, ap, are_skipped, are_spaces, At, begins_with, Bool, cases_Bool, comment_after, ends_spaces, eqb-true, Err, false, Fault, has, has_break, inl, inr, is_blank, is_break, is_line, is_separation, List, Ok, past, Position, position_after, position_past, Read, refl, Result, skip_while, space, space_from, spaces, SpacesArePassed, sym, true, Whitespace, with_found, ℕ, ◌&&◌, ◌++◌, ◌==◌, ◌||◌, ◌∙◌, ◌∷◌, ◌≡◌}
+use Rattle.proof_lexers.proofs.Common.{[], after_space, and_parts, ap, are_skipped, are_spaces, At, begins_with, Bool, cases_Bool, comment_after, ends_spaces, eqb-true, Err, false, Fault, has, has_break, inl, inr, is_blank, is_break, is_line, is_separation, List, Ok, past, Position, position_after, position_past, Read, reads, refl, refuses, Result, skip_while, space, space_from, spaces, SpacesArePassed, sym, true, Whitespace, with_found, ℕ, ◌&&◌, ◌++◌, ◌==◌, ◌||◌, ◌∙◌, ◌∷◌, ◌≡◌}
 use Rattle.yaml_tokens.specs.declared.problem.Problem.TheVariants as problem
 use Rattle.defs_text.specs.Classes as classes
 use Rattle.model_scanner.specs.declared.context.SkipTabs.{SkipTabs}
@@ -127,6 +127,6 @@ module _ (tabs : SkipTabs) where
 pub spaces_are_passed : SpacesArePassed
 unfolding space
 spaces_are_passed tabs text p = elim (all_passed tabs text (record { found_tabs = false; has_valid_yaml_ws = false }) p) [
-  | passed blanks comment rest cut are is breaks ends e ↦ spaces blanks comment rest cut are is breaks ends e
-  | stuck begins none e ↦ glued begins e
+  | passed blanks comment rest cut are is breaks ends e ↦ reads _ (spaces blanks comment rest cut are is breaks ends) e
+  | stuck begins none e ↦ refuses _ (glued begins) e
 ]

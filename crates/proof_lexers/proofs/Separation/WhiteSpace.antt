@@ -1,5 +1,5 @@
 -- What the model passes after a `?` is a separation.
-use Rattle.proof_lexers.proofs.Common.{[], after_separation, ap, At, begins_white_space, begins_with, Bool, cases_Bool, Err, false, Fault, goes, has_break, Held, in_flow, inl, inr, is_before_line_feed, is_blank, is_break, is_cr_lf, is_separation, List, misses, moved, not, not-true, Ok, or_parts, past, past_break, Position, position_after, position_past, refl, Result, ScannerState, sym, true, white, white_end, WhiteSpaceIsPassed, ℕ, ◌++◌, ◌==◌, ◌||◌, ◌∙◌, ◌∷◌, ◌≡◌}
+use Rattle.proof_lexers.proofs.Common.{[], after_separation, ap, At, begins_white_space, begins_with, Bool, cases_Bool, Err, false, Fault, has_break, Held, in_flow, inl, inr, is_before_line_feed, is_blank, is_break, is_cr_lf, is_separation, List, misses, moved, not, not-true, Ok, or_parts, past, past_break, Position, position_after, position_past, reads, refl, refuses, Result, ScannerState, sym, true, white, white_end, WhiteSpaceIsPassed, ℕ, ◌++◌, ◌==◌, ◌||◌, ◌∙◌, ◌∷◌, ◌≡◌}
 use Rattle.yaml_tokens.specs.declared.problem.Problem.TheVariants as problem
 use Rattle.defs_text.specs.Classes as classes
 use Rattle.proof_lexers.proofs.Bridges.{same_break}
@@ -92,6 +92,6 @@ passed (c ∷ a) false f s = elim (cases_Bool (is_break c)) [ inl e ↦ broken_b
 
 pub white_space_is_passed : WhiteSpaceIsPassed
 white_space_is_passed s text = elim (passed text false false s) [
-  | gone leading separation rest cut is ends e ↦ goes leading separation rest cut is ends e
-  | missed separation rest none cut is here breaks ends e ↦ misses separation rest cut is (not-true (begins_with 32 text) here) breaks ends e
+  | gone leading separation rest cut is ends e ↦ reads (after_separation s leading separation rest) (record { is_leading = leading; separation = separation; cut = cut; is_filled = is; solid = ends; is_state = refl }) e
+  | missed separation rest none cut is here breaks ends e ↦ refuses _ (misses separation rest cut is (not-true (begins_with 32 text) here) breaks ends) e
 ]
