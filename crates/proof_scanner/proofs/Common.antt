@@ -1,7 +1,7 @@
 -- The words of other crates and of specs/ that the proofs here use, passed on from one place. Declares nothing.
 pub use Rattle.std.proofs.Common.{[], ap, append-nil, append_assoc, arith, Bool, codes, drop, Err, false, if◌then◌else◌, inl, inr, length, length-append, List, map, nat_le, nat_lt, None, not, Ok, Option, refl, replicate, Result, slice_index, Some, subst, suc, sym, take, true, zero, ℕ, ◌&&◌, ◌*◌, ◌++◌, ◌+◌, ◌-◌, ◌<◌, ◌==◌, ◌||◌, ◌∙◌, ◌∷◌, ◌≡◌, ◌≢◌, ◌≤◌, ◌⊎◌}
 pub use Rattle.std.proofs.Math.Bool.{or-false, or-true}
-pub use Rattle.std.proofs.lemmas.Bool.{and_parts, eqb-true, not-true, or_parts}
+pub use Rattle.std.proofs.lemmas.Bool.{and_parts, eqb-true, not-false, not-true, or_left, or_parts, or_right}
 pub use Rattle.std.proofs.lemmas.Bool.Decides.{nat_tests}
 pub use Rattle.std.proofs.lemmas.List.{append_cancel_left, append_cancel_right, drop-append-le, length-take, replicate-append-replicate, take-append-drop, take-append-le}
 pub use Rattle.std.specs.Char.{digit_value, is_digit}
@@ -46,7 +46,7 @@ pub use Rattle.model_scanner.specs.Block.{begin_keyless_pair, keyed, opens_pair,
 unfoldable pub use Rattle.model_scanner.specs.Block.{begin_key, begin_keyless_mapping, begin_keyless_value, begin_pair, check_after_tab, check_block_entry, check_dash, check_key_space, check_value_space, fetch_block_entry, fetch_key, fetch_value, insert_key, roll_entry}
 pub use Rattle.model_scanner.specs.BlockScalar.{Block, block}
 unfoldable pub use Rattle.model_scanner.specs.Class.{class_of}
-pub use Rattle.model_scanner.specs.Document.{adjacent_here, after_plain, anchor_token, block_style, closed_key, context, end_stream, ended_at, next_line, node_start, quoted_style, unled}
+pub use Rattle.model_scanner.specs.Document.{adjacent_here, after_plain, closed_key, context, end_stream, ended_at, next_line, node_start, unled}
 unfoldable pub use Rattle.model_scanner.specs.Document.{begin_line, check_after_quoted, check_document_end, fetch_anchor, fetch_block_scalar, fetch_directive, fetch_document_end, fetch_document_marker, fetch_flow_scalar, fetch_plain_scalar, fetch_stream_end, fetch_stream_start, fetch_tag, may_follow_quoted}
 pub use Rattle.model_scanner.specs.Fetch.{token_by}
 unfoldable pub use Rattle.model_scanner.specs.Fetch.{comes_marker, fetch, fetch_content, fetch_first_column, fetch_here, fetch_indented, fetch_next, fetch_token, is_value}
@@ -57,10 +57,11 @@ pub use Rattle.model_scanner.specs.Indents.{drop_open, end_level, level, Levels,
 unfoldable pub use Rattle.model_scanner.specs.Indents.{deepen, drop_open_level, in_block, roll_indent, roll_one_col_indent, unroll_indent, unroll_non_block_indents, unrolled, without_open}
 pub use Rattle.model_scanner.specs.Keys.{cleared, has_required, is_overdue, is_required, still, top_key, top_needs_block_end}
 unfoldable pub use Rattle.model_scanner.specs.Keys.{drop_stale, is_far, must_be_key, remove_implicit_key, save_implicit_key, stale}
+pub use Rattle.model_scanner.specs.Kinds.{anchor_token, are_single, block_style, flow_end, flow_level, flow_start, is_literal, quoted_style}
 pub use Rattle.model_scanner.specs.Machine.{and_then, at_marker, fail, is_cr_lf, on, past, past_break, Read, run, skip_while, Stop, stop, Turn, turned, walk}
 pub use Rattle.model_scanner.specs.Plain.{at_break, at_char, at_gap, can_be_plain, ended, first, Plain, plain_from, PlainState, tabs, turn, turn_in}
 unfoldable pub use Rattle.model_scanner.specs.Plain.{at_dash, starts}
-pub use Rattle.model_scanner.specs.Quoted.{at_backslash, at_digit, at_escaped_break, at_inside, at_line, at_named, at_quote, breaking, closed, digits, digits_from, doubled, end_in, Escape, escape_of, gap, in_line, inside, is_scalar, Mode, quote_of, quoted_from, QuotedState, unless}
+pub use Rattle.model_scanner.specs.Quoted.{at_backslash, at_digit, at_escaped_break, at_inside, at_line, at_named, at_quote, breaking, closed, count_of, digits, digits_from, doubled, end_in, escape_of, gap, in_line, inside, is_scalar, Mode, quote_of, quoted_from, QuotedState, unless}
 unfoldable pub use Rattle.model_scanner.specs.Quoted.{quoted}
 pub use Rattle.model_scanner.specs.Run.{HasTokens, here, IsRefused, Reaches, start, there}
 pub use Rattle.model_scanner.specs.Space.{between, comment, Gap, past_line, tab_line, white_end}
@@ -70,6 +71,9 @@ pub use Rattle.model_scanner.specs.declared.context.Context.{Context}
 pub use Rattle.model_scanner.specs.declared.context.SkipTabs.{SkipTabs}
 pub use Rattle.model_scanner.specs.declared.context.SkipTabs.TheVariants.{No, Yes}
 pub use Rattle.model_scanner.specs.declared.context.Whitespace.{Whitespace}
+pub use Rattle.model_scanner.specs.declared.kind.Collection.{Collection}
+pub use Rattle.model_scanner.specs.declared.kind.NameKind.{NameKind}
+pub use Rattle.model_scanner.specs.declared.kind.Quotes.{Quotes}
 pub use Rattle.model_scanner.specs.declared.level.FlowLevel.{FlowLevel}
 pub use Rattle.model_scanner.specs.declared.level.FlowLevel.TheVariants.{Keyed, Mapping}
 pub use Rattle.model_scanner.specs.declared.level.Indent.{Indent}
@@ -79,8 +83,9 @@ pub use Rattle.proof_lexers.proofs.Blocks.Margins.{after_break, after_line, afte
 pub use Rattle.proof_lexers.proofs.Blocks.Positions.{after_chars, after_spell, first_empty, first_header, past_is, space_past, spell_more}
 pub use Rattle.proof_lexers.proofs.Blocks.Scans.{style_inner}
 pub use Rattle.proof_lexers.proofs.Blocks.Written.{AreLines, both, Break, carriage, feed, Fits, Lined, lined, spell, split_spell, texts}
-pub use Rattle.proof_lexers.proofs.Bridges.{and_false, row, same_alpha, same_blank, same_break, same_code, same_digit, same_escape, same_gap}
+pub use Rattle.proof_lexers.proofs.Bridges.{and_false, digits_of, row, same_alpha, same_blank, same_break, same_code, same_digit, same_escape, same_gap}
 pub use Rattle.proof_lexers.proofs.Directives.Lines.{directives_end}
+pub use Rattle.proof_lexers.proofs.Ends.{read_as, refused_as}
 pub use Rattle.proof_lexers.proofs.Plain.Found.{flow_solid, further_on, no_flow}
 pub use Rattle.proof_lexers.proofs.Plain.Scalars.{scans_end}
 pub use Rattle.proof_lexers.proofs.Plain.Turns.{in_line_position, line_position, or_false, or_true, same_feed}
@@ -97,17 +102,17 @@ pub use Rattle.proof_lexers.proofs.Separation.Positions.{position_append, positi
 pub use Rattle.proof_lexers.proofs.Separation.Separations.{fills_blank, no_break_hash, no_hash, separations_are_passed}
 pub use Rattle.proof_lexers.proofs.Separation.Spaces.{spaces_are_passed}
 pub use Rattle.proof_lexers.proofs.Separation.WhiteSpace.{white_space_is_passed}
-pub use Rattle.proof_lexers.specs.BlockEnds.{bad_header, BlockEndsAs}
+pub use Rattle.proof_lexers.specs.BlockEnds.{IsBlockRead, whole_block}
 pub use Rattle.proof_lexers.specs.BlockScan.{further_position, is_literal_style, is_none, is_shallow, is_single, is_tabbed, read_block, tabbed, without_spaces}
 pub use Rattle.proof_lexers.specs.Buffers.{after_element}
-pub use Rattle.proof_lexers.specs.DirectiveEnds.{begins_handle, DirectiveEndsAs, first_break, from_prefix, HasName, IsDeclarationBefore, IsDirectiveRefusal, IsNoDeclaration, IsNoVersion, IsVersionBefore, reads, said, token_of}
-pub use Rattle.proof_lexers.specs.HeaderEnds.{along, has_zero, HeaderEndsAs, indicator_of, is_in_line, is_sign, past_indicators}
-pub use Rattle.proof_lexers.specs.NameEnds.{after_name, further, named, NameEndsAs, nameless}
-pub use Rattle.proof_lexers.specs.PlainEnds.{begins_left, begins_solid, begins_token, begins_white, collection_of, HasTab, is_apart, is_gap, is_indented, is_white, IsPlainRefusal, PlainEndsAs, stand_after}
-pub use Rattle.proof_lexers.specs.QuotedEnds.{IsBadEscape, number_at, QuotedEndsAs}
+pub use Rattle.proof_lexers.specs.DirectiveEnds.{begins_handle, first_break, from_prefix, HasName, IsDeclarationBefore, IsDirectiveRead, IsDirectiveRefusal, IsNoDeclaration, IsNoVersion, IsVersionBefore, said, token_of, whole_directive}
+pub use Rattle.proof_lexers.specs.HeaderEnds.{along, has_zero, indicator_of, is_in_line, is_sign, past_indicators}
+pub use Rattle.proof_lexers.specs.NameEnds.{after_name, further, IsNameRead, named, nameless}
+pub use Rattle.proof_lexers.specs.PlainEnds.{begins_left, begins_solid, begins_token, begins_white, collection_of, HasTab, is_apart, is_gap, is_indented, is_white, IsPlainRead, IsPlainRefusal, stand_after, whole_plain}
+pub use Rattle.proof_lexers.specs.QuotedEnds.{IsBadEscape, IsQuotedRead, number_at}
 pub use Rattle.proof_lexers.specs.QuotedScan.{by_line, element_of, ends_before, has_marker, is_some, IsShallow, value_of}
-pub use Rattle.proof_lexers.specs.Separations.{after_separation, after_space, are_spaces, begins_separation, begins_white_space, ends_spaces, glued, GoesOverAs, has, misses, passes, PassesAs, refuses, spaces, SpacesAs}
-pub use Rattle.proof_lexers.specs.TagEnds.{after_tag, IsTagRefusal, local_goes_on, local_octets, may_follow, no_suffix, suffix_goes_on, suffix_octets, TagEndsAs, unclosed, verbatim_goes_on, verbatim_octets}
+pub use Rattle.proof_lexers.specs.Separations.{after_separation, after_space, are_spaces, begins_separation, begins_white_space, ends_spaces, glued, has, HasNoWhiteSpace, HasPassed, HasSpaces, IsGlued, IsTabRefusal, misses, spaces}
+pub use Rattle.proof_lexers.specs.TagEnds.{after_tag, IsTagRead, IsTagRefusal, local_goes_on, local_octets, may_follow, no_suffix, suffix_goes_on, suffix_octets, unclosed, verbatim_goes_on, verbatim_octets, whole_tag}
 pub use Rattle.proof_lexers.specs.UriEnds.{problem_of}
 pub use Rattle.proof_row.proofs.Accounts.{account_step, same_flow}
 pub use Rattle.proof_row.proofs.Begins.{block_token, context_of, dash_marks, directive_begins, directive_token, dot_marks, piece_of, separations_end, separations_end_before, texts_begin, Whole}
@@ -137,7 +142,7 @@ pub use Rattle.proof_scanner.specs.Here.{IsLive, IsNotRight}
 pub use Rattle.proof_scanner.specs.KnownKeys.{GoesThrough, KnowsKey}
 pub use Rattle.proof_scanner.specs.NoPiece.{goes_over, GoesOn, HasNoQuoted, is_flow_indicator, IsBlockFault, IsFollowed, IsNoHeader, IsNotQuoted, IsPlainFault, IsQuoted, name_mark, NoPiece}
 pub use Rattle.proof_scanner.specs.Order.{After, NotBefore}
-pub use Rattle.proof_scanner.specs.PiecesRead.{BlockIsRead, comes_plain, DirectiveIsRead, is_directive_token, NameIsRead, PiecesAreRead, PlainIsRead, QuotedIsRead, ReadAs, TagIsRead}
+pub use Rattle.proof_scanner.specs.PiecesRead.{BlockIsRead, comes_plain, DirectiveIsRead, is_directive_token, mark_of, NameIsRead, PiecesAreRead, PlainIsRead, QuotedIsRead, ReadAs, TagIsRead}
 pub use Rattle.proof_scanner.specs.Positions.{IsAtEnd, IsPositionIn, IsWhere}
 pub use Rattle.proof_scanner.specs.QuotedLines.{AreNotIndented, at_start, begins_further, IsQuotedFault, LineStand, past_element, past_elements, past_escaped, within}
 pub use Rattle.proof_scanner.specs.Stands.{IsAdjacent}

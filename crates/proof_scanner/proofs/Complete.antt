@@ -7,7 +7,7 @@ use Rattle.proof_scanner.proofs.Sound.CutsSoFar.{stands_cut, cut_position}
 use Rattle.proof_scanner.specs.StandsInRow.{goes}
 use Rattle.proof_scanner.proofs.Sound.Fetches.{fetch_keeps}
 use Rattle.proof_scanner.proofs.Sound.Runs.{first_fetch}
-use Rattle.proof_scanner.proofs.Sound.Sound.{each_keeps, tokens_are_of_a_row}
+use Rattle.proof_scanner.proofs.Sound.Sound.{tokens_are_of_a_row}
 use Rattle.proof_scanner.proofs.Sound.Starts.{stream_started}
 use Rattle.proof_scanner.specs.Goes.{IsComplete}
 use Rattle.proof_scanner.proofs.Refusals.KeysThatWait.{texts_with_a_row_are_not_stuck}
@@ -46,7 +46,7 @@ outcome_by text nul t s on = by (fetch t) refl
 
     by : (r : Result ScannerState Fault) → fetch t ≡ r → Outcome t
     by (Err f) e = refused t f here s.going e
-    by (Ok u) e = next u e (held_of u (fetch_reads_on text t s) e) (fetch_keeps each_keeps text t u nul s e)
+    by (Ok u) e = next u e (held_of u (fetch_reads_on text t s) e) (fetch_keeps text t u nul s e)
 
 outcome : (text : List ℕ) → has_no_nul text ≡ true → (n : ℕ) (t : ScannerState) → Stands text t → length t.rest ≤ n → Outcome t
 outcome text nul zero t s n = outcome_by text nul t s (λ u z less. absurd (omega (arith, n, less)))

@@ -12,6 +12,7 @@ use Rattle.defs_token.specs.Key.{Line, free, taken, is_waiting, begins_free_line
 use Rattle.defs_token.specs.FlowEntry.{is_renewed}
 use Rattle.defs_token.specs.RowAccount.{Site, Account, before_by, site_in}
 use Rattle.defs_token.specs.Tokens.{ends_at}
+use Rattle.model_scanner.specs.declared.level.FlowLevel.{FlowLevel}
 use Rattle.model_scanner.specs.State.{Key, ScannerState}
 use Rattle.proof_lexers.specs.Separations.{begins_separation}
 use Rattle.proof_scanner.specs.Choices.{outside_key, chosen, MayChoose, IsCarriedOn}
@@ -39,34 +40,44 @@ abbrev pub IsNear : Option Key → Position → Type 0
 IsNear None p = Unit {0}
 IsNear (Some k) p = (p.line ≤ k.position.line) × (p.index ≤ k.position.index + 1024)
 
--- The state where a piece begins, with the account after the last piece in which no open key is one, and the separation between them.
-pub record Arrives (text : List ℕ) (t : ScannerState) : Type 0 where
-  pub base : Account
+-- What holds where a piece begins, if these are the flow levels, whatever the open keys and the entries are.
+pub record ArrivesAmong (t : ScannerState) (fs : List FlowLevel) (site : Site) (line : Line) : Type 0 where
   pub separation : List ℕ
   pub tokens : List Token
-  pub line : Line
+  pub line_here : Line
   pub is_clean : has_no_nul t.rest ≡ true
   pub is_filled : is_separation false separation t.rest ≡ true
   pub is_solid : begins_separation t.rest ≡ false
-  pub position_is : t.held.position ≡ position_after base.site.position separation t.rest
-  pub blocks_are : (site_here (not (is_empty t.held.flow)) t.held.position base.site).blocks ≡ columns t.held.indent t.held.indents
-  pub awaits_is : (site_here (not (is_empty t.held.flow)) t.held.position base.site).awaits ≡ has_open_level t.held.indents
+  pub position_is : t.held.position ≡ position_after site.position separation t.rest
+  pub blocks_are : (site_here (not (is_empty fs)) t.held.position site).blocks ≡ columns t.held.indent t.held.indents
+  pub awaits_is : (site_here (not (is_empty fs)) t.held.position site).awaits ≡ has_open_level t.held.indents
   pub are_levels : AreLevels t.held.indent t.held.indents
-  pub is_indented : is_empty t.rest ≡ false → is_indented_by_spaces base.site.before base.site.blocks base.site.awaits separation ≡ true
-  pub one_each : length t.held.keys ≡ suc (length t.held.flow)
-  pub are_entries : AreEntries t.held.key_allowed (is_renewed base.site.before separation) t.held.flow t.held.keys base.entries
-  pub is_line : line_past_separation (not (is_empty t.held.flow)) (begins_free_line base.site.before separation) base.line ≡ Some line
-  pub line_is : IsLineHere (not (is_empty t.held.flow)) t.held.key_allowed t.rest (outside_key base.entries t.held.keys) line
-  pub is_open : IsOpenOutside (outside_key base.entries t.held.keys) base.site.position t.held.position t.rest base.site.blocks
-  pub is_near : is_empty t.held.flow ≡ true → IsNear (outside_key base.entries t.held.keys) t.held.position
-  pub no_key : is_waiting base.line ≡ false
-  pub are_numbered : AreNumbered (length tokens) t.held.keys
-  pub tokens_are : t.held.tokens ≡ tokens ++ ends_here (not (is_empty t.held.flow)) t.held.position base.site.blocks
-  pub is_adjacent_here : is_empty t.held.flow ≡ false → is_empty t.rest ≡ false → is_adjacent (before_past (before_by base.site.before) separation) ≡ (t.held.position.index == t.held.adjacent_value_at)
+  pub is_indented : is_empty t.rest ≡ false → is_indented_by_spaces site.before site.blocks site.awaits separation ≡ true
+  pub is_line : line_past_separation (not (is_empty fs)) (begins_free_line site.before separation) line ≡ Some line_here
+  pub no_key : is_waiting line ≡ false
+  pub tokens_are : t.held.tokens ≡ tokens ++ ends_here (not (is_empty fs)) t.held.position site.blocks
+  pub is_adjacent_here : is_empty fs ≡ false → is_empty t.rest ≡ false → is_adjacent (before_past (before_by site.before) separation) ≡ (t.held.position.index == t.held.adjacent_value_at)
   pub was_adjacent : t.held.adjacent_value_at ≤ t.held.position.index
   pub started : t.held.started ≡ true
   pub going : t.held.ended ≡ false
-  pub carries : IsCarriedOn text (separation ++ t.rest) t.rest t.held.keys base
+
+-- What holds there, with these flow levels and open keys, and the account after the last piece in which no open key is one.
+pub record ArrivesWith (text : List ℕ) (t : ScannerState) (fs : List FlowLevel) (ks : List (Option Key)) (base : Account) : Type 0 where
+  pub among : ArrivesAmong t fs base.site base.line
+  pub open among use *
+  pub one_each : length ks ≡ suc (length fs)
+  pub are_entries : AreEntries t.held.key_allowed (is_renewed base.site.before separation) fs ks base.entries
+  pub line_is : IsLineHere (not (is_empty fs)) t.held.key_allowed t.rest (outside_key base.entries ks) line_here
+  pub is_open : IsOpenOutside (outside_key base.entries ks) base.site.position t.held.position t.rest base.site.blocks
+  pub is_near : is_empty fs ≡ true → IsNear (outside_key base.entries ks) t.held.position
+  pub are_numbered : AreNumbered (length tokens) ks
+  pub carries : IsCarriedOn text (separation ++ t.rest) t.rest ks base
+  pub completes : (strict c : Bool) (cs : List Bool) → MayChoose strict c (outside_key base.entries ks) t.held.position t.rest →
+      SoFar strict text (separation ++ t.rest) (chosen c cs ks base) (tokens_up_to (chosen c cs ks base) ks tokens)
+
+-- The state where a piece begins: that holds with one account.
+pub record Arrives (text : List ℕ) (t : ScannerState) : Type 0 where
+  pub base : Account
+  pub known : ArrivesWith text t t.held.flow t.held.keys base
+  pub open known use *
   pub knows : KnowsKey text (separation ++ t.rest) t.held.position (outside_key base.entries t.held.keys)
-  pub completes : (strict c : Bool) (cs : List Bool) → MayChoose strict c (outside_key base.entries t.held.keys) t.held.position t.rest →
-      SoFar strict text (separation ++ t.rest) (chosen c cs t.held.keys base) (tokens_up_to (chosen c cs t.held.keys base) t.held.keys tokens)

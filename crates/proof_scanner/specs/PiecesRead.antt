@@ -8,6 +8,11 @@ use Rattle.defs_token.specs.Plain.{may_begin}
 use Rattle.defs_token.specs.Account.{Account, is_in_flow, collection_column, is_adjacent, is_closed}
 use Rattle.defs_token.specs.Piece.{IsPiece}
 use Rattle.model_scanner.specs.declared.context.Context.{Context}
+use Rattle.model_scanner.specs.declared.kind.NameKind.{NameKind}
+use Rattle.model_scanner.specs.declared.kind.NameKind.TheVariants.{Alias, Anchor}
+use Rattle.model_scanner.specs.declared.kind.Quotes.{Quotes}
+use Rattle.model_scanner.specs.declared.kind.BlockStyle.{BlockStyle}
+use Rattle.model_scanner.specs.Kinds.{anchor_token, are_single, quoted_style, is_literal, block_style}
 use Rattle.model_scanner.specs.Machine.{Read}
 use Rattle.model_scanner.specs.Plain as plains
 use Rattle.model_scanner.specs.Quoted.{quoted, quote_of}
@@ -15,7 +20,6 @@ use Rattle.model_scanner.specs.Anchor.{anchor_name}
 use Rattle.model_scanner.specs.BlockScalar.{Block, block}
 use Rattle.model_scanner.specs.Directive.{directive}
 use Rattle.model_scanner.specs.Tag as tags
-use Rattle.model_scanner.specs.Document.{anchor_token, block_style, quoted_style}
 use Rattle.defs_text.specs.Text.{has_no_nul}
 use Rattle.proof_lexers.specs.PlainEnds.{collection_of, is_indented}
 
@@ -42,20 +46,25 @@ PlainIsRead =
 
 abbrev pub QuotedIsRead : Type 0
 QuotedIsRead =
-    (a : Account) (single : Bool) (ctx : Context) (more : List ℕ) (r : Read (List ℕ)) → has_no_nul more ≡ true → quoted single ctx (quote_of single ∷ more) a.position ≡ Ok r
-    → ReadAs a (quote_of single ∷ more) (scalar (quoted_style single) r.value) a.position r.rest r.position
+    (a : Account) (quotes : Quotes) (ctx : Context) (more : List ℕ) (r : Read (List ℕ)) → has_no_nul more ≡ true → quoted (are_single quotes) ctx (quote_of (are_single quotes) ∷ more) a.position ≡ Ok r
+    → ReadAs a (quote_of (are_single quotes) ∷ more) (scalar (quoted_style quotes) r.value) a.position r.rest r.position
 
 -- Besides: the scan ends on a later line, or at the text's end.
 abbrev pub BlockIsRead : Type 0
 BlockIsRead =
-    (a : Account) (literal : Bool) (indent : ℕ) (more : List ℕ) (r : Read Block) → has_no_nul more ≡ true → is_in_flow a ≡ false → collection_column a ≡ collection_of indent
-    → block literal indent ((if literal then 124 else 62) ∷ more) a.position ≡ Ok r
-    → ReadAs a ((if literal then 124 else 62) ∷ more) (scalar (block_style literal) r.value.text) r.value.position r.rest r.position × ((r.rest ≡ []) ⊎ (nat_lt a.position.line r.position.line ≡ true))
+    (a : Account) (style : BlockStyle) (indent : ℕ) (more : List ℕ) (r : Read Block) → has_no_nul more ≡ true → is_in_flow a ≡ false → collection_column a ≡ collection_of indent
+    → block (is_literal style) indent ((if is_literal style then 124 else 62) ∷ more) a.position ≡ Ok r
+    → ReadAs a ((if is_literal style then 124 else 62) ∷ more) (scalar (block_style style) r.value.text) r.value.position r.rest r.position × ((r.rest ≡ []) ⊎ (nat_lt a.position.line r.position.line ≡ true))
+
+-- the character that a name stands after
+abbrev pub mark_of : NameKind → ℕ
+mark_of Alias = 42
+mark_of Anchor = 38
 
 abbrev pub NameIsRead : Type 0
 NameIsRead =
-    (a : Account) (alias : Bool) (more : List ℕ) (r : Read (List ℕ)) → has_no_nul more ≡ true → anchor_name ((if alias then 42 else 38) ∷ more) a.position ≡ Ok r
-    → ReadAs a ((if alias then 42 else 38) ∷ more) (anchor_token alias r.value) a.position r.rest r.position
+    (a : Account) (kind : NameKind) (more : List ℕ) (r : Read (List ℕ)) → has_no_nul more ≡ true → anchor_name (mark_of kind ∷ more) a.position ≡ Ok r
+    → ReadAs a (mark_of kind ∷ more) (anchor_token kind r.value) a.position r.rest r.position
 
 abbrev pub TagIsRead : Type 0
 TagIsRead =

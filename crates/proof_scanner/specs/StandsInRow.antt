@@ -189,9 +189,8 @@ IsReadOn _ q separation rest = Unit {0}
 
 -- ---- all
 
--- A state between two fetches, after the stream's start: the account after the last piece in which no open key is one, and the separation that was read after the piece.
-pub record Stands (text : List ℕ) (t : ScannerState) : Type 0 where
-  pub base : Account
+-- What holds of a state between two fetches, after the stream's start, with its flow levels and open keys, the account after the last piece in which no open key is one, and the separation that was read after the piece.
+pub record StandsWith (text : List ℕ) (t : ScannerState) (fs : List FlowLevel) (ks : List (Option Key)) (base : Account) : Type 0 where
   pub separation : List ℕ
   pub is_clean : has_no_nul t.rest ≡ true
   pub is_filled : is_separation false separation t.rest ≡ true
@@ -202,20 +201,26 @@ pub record Stands (text : List ℕ) (t : ScannerState) : Type 0 where
   pub has_no_tabs : HasNoTabs base.site separation t.rest
   pub is_leading : IsLeading t.held.leading base.site separation t.rest
   pub read_on : IsReadOn base.site.before base.site.position separation t.rest
-  pub one_each : length t.held.keys ≡ suc (length t.held.flow)
-  pub are_entries : AreEntries t.held.key_allowed (is_renewed base.site.before separation) t.held.flow t.held.keys base.entries
-  pub line_is : IsLine (not (is_empty t.held.flow)) t.held.key_allowed (begins_free_line base.site.before separation) t.held.position t.rest (outside_key base.entries t.held.keys) base.line
-  pub is_open : IsOpenOutside (outside_key base.entries t.held.keys) base.site.position t.held.position t.rest base.site.blocks
+  pub one_each : length ks ≡ suc (length fs)
+  pub are_entries : AreEntries t.held.key_allowed (is_renewed base.site.before separation) fs ks base.entries
+  pub line_is : IsLine (not (is_empty fs)) t.held.key_allowed (begins_free_line base.site.before separation) t.held.position t.rest (outside_key base.entries ks) base.line
+  pub is_open : IsOpenOutside (outside_key base.entries ks) base.site.position t.held.position t.rest base.site.blocks
   pub no_key : is_waiting base.line ≡ false
-  pub are_numbered : AreNumbered (length t.held.tokens) t.held.keys
-  pub was_adjacent : is_empty t.held.flow ≡ false → IsAdjacent (before_past (before_by base.site.before) separation) t.held.position t.held.adjacent_value_at t.rest
+  pub are_numbered : AreNumbered (length t.held.tokens) ks
+  pub was_adjacent : is_empty fs ≡ false → IsAdjacent (before_past (before_by base.site.before) separation) t.held.position t.held.adjacent_value_at t.rest
   pub adjacent_before : t.held.adjacent_value_at ≤ t.held.position.index
   pub started : t.held.started ≡ true
   pub going : t.held.ended ≡ false
-  pub carries : IsCarriedOn text (separation ++ t.rest) t.rest t.held.keys base
-  pub knows : KnowsKey text (separation ++ t.rest) t.held.position (outside_key base.entries t.held.keys)
-  pub completes : (strict c : Bool) (cs : List Bool) → MayChoose strict c (outside_key base.entries t.held.keys) t.held.position t.rest →
-      SoFar strict text (separation ++ t.rest) (chosen c cs t.held.keys base) (tokens_up_to (chosen c cs t.held.keys base) t.held.keys t.held.tokens)
+  pub carries : IsCarriedOn text (separation ++ t.rest) t.rest ks base
+  pub knows : KnowsKey text (separation ++ t.rest) t.held.position (outside_key base.entries ks)
+  pub completes : (strict c : Bool) (cs : List Bool) → MayChoose strict c (outside_key base.entries ks) t.held.position t.rest →
+      SoFar strict text (separation ++ t.rest) (chosen c cs ks base) (tokens_up_to (chosen c cs ks base) ks t.held.tokens)
+
+-- A state between two fetches: that holds with one account.
+pub record Stands (text : List ℕ) (t : ScannerState) : Type 0 where
+  pub base : Account
+  pub known : StandsWith text t t.held.flow t.held.keys base
+  pub open known use *
 
 -- a state of a run: before the stream's start, between two fetches, or after the stream's end
 pub data Fares (text : List ℕ) (t : ScannerState) : Type 0 where

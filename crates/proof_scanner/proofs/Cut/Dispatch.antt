@@ -1,11 +1,18 @@
 -- The next token by its first characters.
-use Rattle.proof_scanner.proofs.Common.{[], ap, At, begins_flow, begins_separation, Bool, class_of, comes_plain, Err, false, Fault, fetch_anchor, fetch_block_entry, fetch_block_scalar, fetch_flow_collection_end, fetch_flow_collection_start, fetch_flow_entry, fetch_flow_scalar, fetch_key, fetch_plain_scalar, fetch_tag, fetch_token, fetch_value, has_no_nul, if◌then◌else◌, in_flow, is_at_gap, is_blank_or_breakz, is_document_marker, is_empty, is_value, is_value_indicator, is_white, List, Mapping, may_begin, not, peek, quote_of, refl, Result, same_gap, ScannerState, slice_index, sym, Tok, token_by, true, ℕ, ◌&&◌, ◌==◌, ◌||◌, ◌∙◌, ◌∷◌, ◌≡◌}
+use Rattle.proof_scanner.proofs.Common.{[], and_false, ap, are_single, arith, At, begins_flow, begins_separation, Bool, class_of, comes_marker, comes_plain, eqb-true, Err, false, Fault, fetch_anchor, fetch_block_entry, fetch_block_scalar, fetch_content, fetch_directive, fetch_document_end, fetch_document_marker, fetch_first_column, fetch_flow_collection_end, fetch_flow_collection_start, fetch_flow_entry, fetch_flow_scalar, fetch_indented, fetch_key, fetch_plain_scalar, fetch_tag, fetch_token, fetch_value, has_no_nul, if◌then◌else◌, in_flow, is_at_gap, is_blank_or_breakz, is_document_marker, is_empty, is_literal, is_value, is_value_indicator, is_white, List, mark_of, may_begin, NameKind, nat_lt, not, peek, quote_of, Quotes, refl, Result, same_gap, ScannerState, slice_index, sym, Tok, token_by, true, ℕ, ◌&&◌, ◌+◌, ◌==◌, ◌||◌, ◌∙◌, ◌∷◌, ◌≡◌}
 use Rattle.yaml_chars.specs.Class.{is_blank, is_break, is_flow}
 use Rattle.defs_text.specs.Classes as classes
 use Rattle.yaml_tokens.specs.declared.problem.Problem.TheVariants as problem
-use Rattle.model_scanner.specs.declared.level.FlowLevel.TheVariants.{Entry}
+use Rattle.model_scanner.specs.declared.kind.BlockStyle.{BlockStyle}
+use Rattle.model_scanner.specs.declared.kind.BlockStyle.TheVariants.{Literal, Folded}
+use Rattle.model_scanner.specs.declared.kind.Collection.TheVariants.{Sequence, Mapping}
+use Rattle.model_scanner.specs.declared.kind.NameKind.TheVariants.{Alias, Anchor}
+use Rattle.model_scanner.specs.declared.kind.Quotes.TheVariants.{Single, Double}
 use Rattle.proof_lexers.proofs.Bridges.{same_flow}
 use Rattle.proof_scanner.proofs.Cut.Characters.{Ordinary, of_all}
+use Rattle.proof_scanner.proofs.Cut.Nodes.{IsDeep}
+use Rattle.model_scanner.specs.State.{after}
+use Rattle.proof_scanner.proofs.Cut.Fetched.{begins_with_this, Marked, marked, no_marker, is_deep}
 
 -- ---- characters
 
@@ -27,18 +34,18 @@ other_begins fl adjacent c more o =
 
 -- What is so of what the function of each token gives, where it is called, and of the three refusals; whether a colon may stand next to what stands before is known.
 pub record TokensHold (Q : Result ScannerState Fault → Type 0) (t : ScannerState) (adjacent : Bool) : Type 0 where
-  pub anchor : (alias : Bool) (more : List ℕ) → t.rest ≡ (if alias then 42 else 38) ∷ more → Q (fetch_anchor alias t)
+  pub anchor : (kind : NameKind) (more : List ℕ) → t.rest ≡ mark_of kind ∷ more → Q (fetch_anchor kind t)
   pub tag : (more : List ℕ) → t.rest ≡ 33 ∷ more → Q (fetch_tag t)
   pub plain : comes_plain (in_flow t.held) adjacent t.held.position.col t.rest ≡ true → Q (fetch_plain_scalar t)
-  pub quoted : (single : Bool) (more : List ℕ) → t.rest ≡ quote_of single ∷ more → Q (fetch_flow_scalar single t)
-  pub block : (literal : Bool) (more : List ℕ) → t.rest ≡ (if literal then 124 else 62) ∷ more → is_empty t.held.flow ≡ true → Q (fetch_block_scalar literal t)
+  pub quoted : (quotes : Quotes) (more : List ℕ) → t.rest ≡ quote_of (are_single quotes) ∷ more → Q (fetch_flow_scalar quotes t)
+  pub block : (style : BlockStyle) (more : List ℕ) → t.rest ≡ (if is_literal style then 124 else 62) ∷ more → is_empty t.held.flow ≡ true → Q (fetch_block_scalar style t)
   pub dash : (more : List ℕ) → t.rest ≡ 45 ∷ more → is_at_gap more ≡ true → Q (fetch_block_entry t)
   pub question : (more : List ℕ) → t.rest ≡ 63 ∷ more → is_at_gap more ≡ true → Q (fetch_key t)
   pub colon : (more : List ℕ) → t.rest ≡ 58 ∷ more → is_value t ≡ true → Q (fetch_value t)
-  pub open_bracket : (more : List ℕ) → t.rest ≡ 91 ∷ more → Q (fetch_flow_collection_start Entry Tok.flow_sequence_start t)
-  pub open_brace : (more : List ℕ) → t.rest ≡ 123 ∷ more → Q (fetch_flow_collection_start Mapping Tok.flow_mapping_start t)
-  pub close_bracket : (more : List ℕ) → t.rest ≡ 93 ∷ more → Q (fetch_flow_collection_end Tok.flow_sequence_end t)
-  pub close_brace : (more : List ℕ) → t.rest ≡ 125 ∷ more → Q (fetch_flow_collection_end Tok.flow_mapping_end t)
+  pub open_bracket : (more : List ℕ) → t.rest ≡ 91 ∷ more → Q (fetch_flow_collection_start Sequence t)
+  pub open_brace : (more : List ℕ) → t.rest ≡ 123 ∷ more → Q (fetch_flow_collection_start Mapping t)
+  pub close_bracket : (more : List ℕ) → t.rest ≡ 93 ∷ more → Q (fetch_flow_collection_end Sequence t)
+  pub close_brace : (more : List ℕ) → t.rest ≡ 125 ∷ more → Q (fetch_flow_collection_end Mapping t)
   pub comma : (more : List ℕ) → t.rest ≡ 44 ∷ more → Q (fetch_flow_entry t)
   pub percent : (more : List ℕ) → t.rest ≡ 37 ∷ more → Q (Err (At problem.UnexpectedPercent t.held.position))
   pub at_sign : (more : List ℕ) → t.rest ≡ 64 ∷ more → Q (Err (At problem.UnexpectedAt t.held.position))
@@ -113,22 +120,22 @@ module _ (Q : Result ScannerState Fault → Type 0) (t : ScannerState) (adjacent
       by false i = plain_here 58 more e (rw (sym (value_is t adjacent more e now) ∙ i) refl)
 
   -- an indicator outside flow, which in flow begins a plain scalar
-  block_or_plain : (literal : Bool) (c : ℕ) (more : List ℕ) → t.rest ≡ c ∷ more → c ≡ (if literal then 124 else 62)
+  block_or_plain : (style : BlockStyle) (c : ℕ) (more : List ℕ) → t.rest ≡ c ∷ more → c ≡ (if is_literal style then 124 else 62)
       → (in_flow t.held ≡ true → (if c == 45 then not (is_at_gap more) else may_begin (in_flow t.held) adjacent c more) ≡ true)
-      → Q (if in_flow t.held then fetch_plain_scalar t else fetch_block_scalar literal t)
-  block_or_plain literal c more e is may = by (is_empty t.held.flow) refl
+      → Q (if in_flow t.held then fetch_plain_scalar t else fetch_block_scalar style t)
+  block_or_plain style c more e is may = by (is_empty t.held.flow) refl
     where
-      by : (out : Bool) → is_empty t.held.flow ≡ out → Q (if not out then fetch_plain_scalar t else fetch_block_scalar literal t)
-      by true o = h.block literal more (e ∙ ap (λ k. k ∷ more) is) o
+      by : (out : Bool) → is_empty t.held.flow ≡ out → Q (if not out then fetch_plain_scalar t else fetch_block_scalar style t)
+      by true o = h.block style more (e ∙ ap (λ k. k ∷ more) is) o
       by false o = plain_here c more e (may (ap not o))
 
   bar : Reads 124
   unfolding class_of
-  bar more e = block_or_plain true 124 more e refl (λ f. f)
+  bar more e = block_or_plain Literal 124 more e refl (λ f. f)
 
   greater : Reads 62
   unfolding class_of
-  greater more e = block_or_plain false 62 more e refl (λ f. f)
+  greater more e = block_or_plain Folded 62 more e refl (λ f. f)
 
   -- ---- all characters
 
@@ -178,13 +185,13 @@ module _ (Q : Result ScannerState Fault → Type 0) (t : ScannerState) (adjacent
     close_bracket = h.close_bracket;
     open_brace = h.open_brace;
     close_brace = h.close_brace;
-    asterisk = h.anchor true;
-    ampersand = h.anchor false;
+    asterisk = h.anchor Alias;
+    ampersand = h.anchor Anchor;
     exclamation = h.tag;
     bar = bar;
     greater = greater;
-    single_quote = h.quoted true;
-    double_quote = h.quoted false;
+    single_quote = h.quoted Single;
+    double_quote = h.quoted Double;
     percent = h.percent;
     at_sign = h.at_sign;
     backtick = h.backtick;
@@ -198,3 +205,36 @@ module _ (Q : Result ScannerState Fault → Type 0) (t : ScannerState) (adjacent
       by : (l : List ℕ) → t.rest ≡ l → is_empty l ≡ false → Q (token_by (class_of (peek t.rest)) t)
       by [] e n = absurd (cc n)
       by (c ∷ more) e n = rw (ap peek e) (each c more e)
+
+-- ---- lines for the document, and content
+
+-- no line for the document begins here
+abbrev pub IsNoLine : ScannerState → Type 0
+IsNoLine t = (((t.held.position.col == 0) && is_document_marker t.rest) ≡ false) × (t.held.position.col ≡ 0 → (peek t.rest == 37) ≡ false)
+
+-- What is so of what the functions give for lines for the document and for a token, and of the refusal of content that is not deep enough.
+pub record ContentHolds (Q : Result ScannerState Fault → Type 0) (t : ScannerState) : Type 0 where
+  pub directive : t.rest ≡ 37 ∷ after t.rest → t.held.position.col ≡ 0 → Q (fetch_directive t)
+  pub document_start : (more : List ℕ) → t.rest ≡ 45 ∷ 45 ∷ 45 ∷ more → is_at_gap more ≡ true → t.held.position.col ≡ 0 → Q (fetch_document_marker Tok.document_start t)
+  pub document_end : (more : List ℕ) → t.rest ≡ 46 ∷ 46 ∷ 46 ∷ more → is_at_gap more ≡ true → t.held.position.col ≡ 0 → Q (fetch_document_end t)
+  pub shallow : IsNoLine t → nat_lt (t.held.position.col + 1) t.held.indent ≡ true → Q (Err (At problem.InvalidIndentation t.held.position))
+  pub token : IsNoLine t → IsDeep t.held → Q (fetch_token t)
+
+pub content_holds : (Q : Result ScannerState Fault → Type 0) (t : ScannerState) → is_empty t.rest ≡ false → ContentHolds Q t → Q (fetch_content t)
+unfolding fetch_content fetch_first_column fetch_indented
+content_holds Q t some h =
+    either (t.held.position.col == 0) (λ e. first (eqb-true t.held.position.col 0 e)) (λ e. indented (rw e refl, λ col. absurd (grind (arith, e, col))))
+  where
+    either : {x y : Result ScannerState Fault} (b : Bool) → (b ≡ true → Q x) → (b ≡ false → Q y) → Q (if b then x else y)
+    either true p q = p refl
+    either false p q = q refl
+
+    indented : IsNoLine t → Q (fetch_indented t)
+    indented n = either (nat_lt (t.held.position.col + 1) t.held.indent) (h.shallow n) (λ e. h.token n (is_deep t.held.position.col t.held.indent e))
+
+    first : t.held.position.col ≡ 0 → Q (fetch_first_column t)
+    first col =
+        either (peek t.rest == 37) (λ e. h.directive (begins_with_this t.rest 37 some e) col) (λ n.
+        either (comes_marker 45 t.rest) (λ e. let m : Marked 45 t.rest = marked 45 t.rest refl e in h.document_start m.more m.is_text m.gap col) (λ x.
+        either (comes_marker 46 t.rest) (λ e. let m : Marked 46 t.rest = marked 46 t.rest refl e in h.document_end m.more m.is_text m.gap col) (λ y.
+        indented (ap (λ b. (t.held.position.col == 0) && b) (no_marker t.rest x y) ∙ and_false (t.held.position.col == 0), λ _. n))))

@@ -1,7 +1,10 @@
 -- The text up to its end, the position after a document marker, and what the ends of levels leave as it was.
-use Rattle.proof_scanner.proofs.Common.{[], and_parts, ap, Bool, false, has_no_nul, Held, if◌then◌else◌, is_break, is_empty, is_nul, List, not, past, Position, position_after, position_past, refl, sym, true, unroll_indent, up_to_nul, ℕ, ◌∙◌, ◌∷◌, ◌≡◌}
-use Rattle.proof_scanner.proofs.Cut.Indicators.{past_indicator}
+use Rattle.proof_scanner.proofs.Common.{[], and_parts, ap, Bool, false, has_no_nul, Held, if◌then◌else◌, in_line_position, is_before_line_feed, is_break, is_empty, is_nul, List, not, past, Position, position_after, position_past, refl, sym, true, unroll_indent, up_to_nul, ℕ, ◌&&◌, ◌∙◌, ◌∷◌, ◌≡◌}
 use Rattle.proof_scanner.proofs.Cut.Unrolls.{unrolled_in_flow, unrolled_outside}
+
+-- the position after an indicator
+pub past_indicator : (p : Position) (c : ℕ) (next : List ℕ) → is_break c ≡ false → position_past p c next ≡ past p
+past_indicator p c next e = in_line_position c next p (ap (λ b. b && not (is_before_line_feed c next)) e)
 
 pub three_past : (p : Position) (c : ℕ) (next : List ℕ) → is_break c ≡ false → past (past (past p)) ≡ position_after p (c ∷ c ∷ c ∷ []) next
 three_past p c next e =

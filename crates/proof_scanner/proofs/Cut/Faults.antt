@@ -1,4 +1,5 @@
 pub mod Fetches
+pub mod Reasons
 pub mod Shown
 pub mod Steps
 pub mod Tokens

@@ -1,5 +1,5 @@
 -- What the first characters of a text say: the text goes on, or a document marker stands there.
-use Rattle.proof_scanner.proofs.Common.{[], and_parts, ap, are_marks, arith, Bool, comes_marker, eqb-true, false, has_no_nul, is_at_gap, is_blank_or_breakz, is_document_marker, is_empty, is_nul, List, nat_lt, nat_tests, not, peek, refl, same_gap, slice_index, true, ℕ, ◌&&◌, ◌+◌, ◌==◌, ◌||◌, ◌∙◌, ◌∷◌, ◌≡◌, ◌≤◌}
+use Rattle.proof_scanner.proofs.Common.{[], and_parts, ap, are_marks, arith, begins_with, Bool, comes_marker, eqb-true, false, has_no_nul, is_at_gap, is_blank_or_breakz, is_document_marker, is_empty, is_nul, List, nat_lt, nat_tests, not, peek, refl, same_gap, slice_index, true, ℕ, ◌&&◌, ◌+◌, ◌==◌, ◌||◌, ◌∙◌, ◌∷◌, ◌≡◌, ◌≤◌}
 use Rattle.yaml_chars.specs.Class.{is_blank, is_break}
 use Rattle.model_scanner.specs.State.{after}
 
@@ -11,6 +11,11 @@ first_is (c ∷ r) h = refl
 
 pub begins_with_this : (r : List ℕ) (c : ℕ) → is_empty r ≡ false → (peek r == c) ≡ true → r ≡ c ∷ after r
 begins_with_this r c some h = first_is r some ∙ ap (λ d. d ∷ after r) (eqb-true (peek r) c h)
+
+-- whether a text begins with a character, the model and the definitions say alike
+pub begins_here : (c : ℕ) (r : List ℕ) → (0 == c) ≡ false → (peek r == c) ≡ begins_with c r
+begins_here c [] none = none
+begins_here c (d ∷ r) none = refl
 
 is_gap_after : (more : List ℕ) → is_at_gap more ≡ is_blank_or_breakz (slice_index more 0)
 unfolding is_blank is_break

@@ -18,8 +18,3 @@ before_both collection f g = by (is_blanks f) refl
     by : (b : Bool) → is_blanks f ≡ b → before_past (before_past collection f) g ≡ before_past collection (f ++ g)
     by true e = rw (blanks_both f g, e) refl
     by false e = rw (blanks_both f g, e) refl
-
-pub before_again : (b : Before) → before_past b [] ≡ b
-before_again quoted = refl
-before_again collection = refl
-before_again other = refl

@@ -1,41 +1,17 @@
 -- What the model passes between tokens.
-use Rattle.proof_scanner.proofs.Common.{append_assoc, are_spaces, begins_separation, between, Bool, ends_spaces, false, Fault, glued, GoesOverAs, Held, Holds, is_separation, lexed, List, misses, passes, PassesAs, Position, position_after, Read, refl, refused, refuses, Result, ScannerState, separations_are_passed, skip, skip_spaces, skip_to_next_token, skip_yaml_whitespace, SkipTabs, space, spaces, spaces_are_passed, SpacesAs, sym, true, went, white, white_space_is_passed, Whitespace, ℕ, ◌++◌, ◌∙◌, ◌≡◌}
+use Rattle.proof_scanner.proofs.Common.{are_spaces, begins_white_space, ends_spaces, false, Fault, go_on, HasPassed, HasSpaces, Holds, is_separation, lexed, List, position_after, Read, read, read_as, refl, refused, Result, ScannerState, skip_spaces, skip_yaml_whitespace, SkipTabs, space, spaces, spaces_are_passed, true, went, white_space_is_passed, Whitespace, ℕ, ◌++◌, ◌≡◌}
 use Rattle.proof_lexers.specs.PlainEnds.{has_break}
-use Rattle.proof_lexers.specs.Separations.{goes}
+use Rattle.proof_lexers.specs.Ends.{EndsAs}
+use Rattle.proof_lexers.specs.Ends as ends
 
--- a held state at another position
-abbrev pub placed_at : Held → Position → (leading allowed : Bool) → Held
-placed_at s p leading allowed = record s { position = p; leading = leading; key_allowed = allowed }
+-- of a scan that ends as its text says, what was read
+pub read_holds : {A : Type 0} {Reads : A → Type 0} {Why : Fault → Type 0} {x : Result A Fault} → EndsAs Reads Why x → Holds Reads x
+read_holds (ends.reads r is e) = rw e (went is)
+read_holds (ends.refuses f why e) = rw e refused
 
--- From one state to another a separation was passed.
-pub record Passed (t u : ScannerState) : Type 0 where
-  pub separation : List ℕ
-  pub leading : Bool
-  pub allowed : Bool
-  pub is_rest : t.rest ≡ separation ++ u.rest
-  pub is_filled : is_separation false separation u.rest ≡ true
-  pub is_held : u.held ≡ placed_at t.held (position_after t.held.position separation u.rest) leading allowed
-
--- the same, up to a token or the text's end
-pub record PassedAll (t u : ScannerState) : Type 0 where
-  pub passed : Passed t u
-  pub solid : begins_separation u.rest ≡ false
-
-pub to_token : (t : ScannerState) → Holds (PassedAll t) (skip_to_next_token t)
-unfolding skip_to_next_token
-to_token t = by (skip between t.rest t.held) (separations_are_passed t.held t.rest)
-  where
-    by : (x : Result ScannerState Fault) → PassesAs t.held t.rest x → Holds (PassedAll t) x
-    by x (passes leading separation rest cut fills ends e) = rw e (went (record { passed = record { separation = separation; leading = leading; allowed = _; is_rest = cut; is_filled = fills; is_held = refl }; solid = ends }))
-    by x (refuses before blanks rest cut fills left are begins e) = rw e refused
-
-pub white_passed : (t : ScannerState) → Holds (Passed t) (skip_yaml_whitespace t)
+pub white_passed : (t : ScannerState) → Holds (HasPassed begins_white_space t.held t.rest) (skip_yaml_whitespace t)
 unfolding skip_yaml_whitespace
-white_passed t = by (white false false t.rest t.held) (white_space_is_passed t.held t.rest)
-  where
-    by : (x : Result ScannerState Fault) → GoesOverAs t.held t.rest x → Holds (Passed t) x
-    by x (goes leading separation rest cut fills ends e) = rw e (went (record { separation = separation; leading = leading; allowed = _; is_rest = cut; is_filled = fills; is_held = refl }))
-    by x (misses separation rest cut fills none break ends e) = rw e refused
+white_passed t = read_holds (white_space_is_passed t.held t.rest)
 
 -- Within a line blanks and a comment were passed.
 pub record Spaced (tabs : SkipTabs) (t u : ScannerState) : Type 0 where
@@ -49,22 +25,11 @@ pub record Spaced (tabs : SkipTabs) (t u : ScannerState) : Type 0 where
   pub is_held : u.held ≡ record t.held { position = position_after t.held.position (blanks ++ comment) u.rest }
 
 pub spaced : (tabs : SkipTabs) (t : ScannerState) (go : Whitespace → ScannerState → Result ScannerState Fault) (P : ScannerState → Type 0) → ((w : Whitespace) (u : ScannerState) → Spaced tabs t u → Holds P (go w u)) → Holds P (lexed (space tabs t.rest t.held.position) t.held go)
-spaced tabs t go P f = by (space tabs t.rest t.held.position) (spaces_are_passed tabs t.rest t.held.position)
+spaced tabs t go P f = read t.held (space tabs t.rest t.held.position) go (λ x k. f x.value _ (by x (read_as k (spaces_are_passed tabs t.rest t.held.position))))
   where
-    by : (x : Result (Read Whitespace) Fault) → SpacesAs tabs t.held.position t.rest x → Holds P (lexed x t.held go)
-    by x (spaces blanks comment rest cut are fills break ends e) = rw e (f _ _ (record { blanks = blanks; comment = comment; is_rest = cut; are_blanks = are; is_filled = fills; no_break = break; ends = ends; is_held = refl }))
-    by x (glued begins e) = rw e refused
+    by : (x : Read Whitespace) → HasSpaces tabs t.held.position t.rest x → Spaced tabs t (go_on x t.held)
+    by x (spaces blanks comment rest cut are fills break ends) = record { blanks = blanks; comment = comment; is_rest = cut; are_blanks = are; is_filled = fills; no_break = break; ends = ends; is_held = refl }
 
 pub spaces_skipped : (tabs : SkipTabs) (t : ScannerState) → Holds (Spaced tabs t) (skip_spaces tabs t)
 unfolding skip_spaces
 spaces_skipped tabs t = spaced tabs t _ (Spaced tabs t) (λ w u s. went s)
-
-abbrev pub passed_spaces : (tabs : SkipTabs) (t u : ScannerState) → Spaced tabs t u → Passed t u
-passed_spaces tabs t u s = record {
-  separation = s.blanks ++ s.comment;
-  leading = t.held.leading;
-  allowed = t.held.key_allowed;
-  is_rest = s.is_rest ∙ sym (append_assoc s.blanks s.comment u.rest);
-  is_filled = s.is_filled;
-  is_held = s.is_held;
-}

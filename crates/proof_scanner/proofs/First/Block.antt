@@ -1,5 +1,5 @@
 -- A block scalar has one fault that comes first.
-use Rattle.proof_scanner.proofs.Common.{[], after_digit, after_sign, after_style, and_parts, ap, append_cancel_right, begins_with, block_first, blocks, BlockStyle, Bool, Chomping, digit_of, digit_or_end, eqb-true, false, first_indicator, first_line, folded, has_header, has_no_nul, has_zero, Header, header_first, header_of, if◌then◌else◌, indicator_of, innermost, is_at_end, is_between, is_blank, is_blanks_and_comment, is_in_line, is_rest_of_line, is_sign, IsBlockFault, IsNoHeader, keep, line_is, line_more, List, literal, no_nul_after, None, Option, past_indicators, past_spaces, Position, position_after, Problem, refl, sign_of, sign_or_end, Some, split, strip, style_inner, style_same, subst, sym, tab, true, up_to_break, ℕ, ◌&&◌, ◌++◌, ◌-◌, ◌==◌, ◌||◌, ◌∙◌, ◌∷◌, ◌≡◌}
+use Rattle.proof_scanner.proofs.Common.{[], after_digit, after_sign, after_style, and_parts, ap, append_cancel_right, begins_with, block_first, blocks, BlockStyle, Bool, Chomping, digit_of, digit_or_end, eqb-true, false, first_indicator, first_line, folded, has_header, has_no_nul, has_zero, Header, header_first, header_of, if◌then◌else◌, indicator_of, innermost, is_at_end, is_between, is_blank, is_blanks_and_comment, is_in_line, is_rest_of_line, is_sign, IsBlockFault, IsNoHeader, keep, line_is, line_more, List, literal, no_nul_after, None, not, Option, past_indicators, past_spaces, Position, position_after, Problem, refl, sign_of, sign_or_end, Some, split, strip, style_inner, style_same, subst, sym, tab, true, up_to_break, ℕ, ◌&&◌, ◌++◌, ◌-◌, ◌==◌, ◌||◌, ◌∙◌, ◌∷◌, ◌≡◌}
 use Rattle.proof_lexers.specs.HeaderEnds as headers
 use Rattle.proof_lexers.specs.HeaderEnds.{past_one}
 use Rattle.proof_scanner.specs.NoPiece as none
@@ -86,8 +86,9 @@ blanks_with (c ∷ r) t h = by (c == 35) (is_blank c) h (λ k. blanks_with r t k
 rest_with : (r t : List ℕ) → is_rest_of_line r ≡ true → is_rest_of_line (r ++ 35 ∷ t) ≡ false → r ≡ []
 rest_with [] t h k = refl
 rest_with (c ∷ r) t h k =
-    let q = and_parts (is_blank c) (is_blanks_and_comment r) h in
-    let goes : (is_blank c && is_blanks_and_comment (r ++ 35 ∷ t)) ≡ true = rw (q.0, blanks_with r t q.1) refl in
+    let q = and_parts (not (c == 35)) (is_blanks_and_comment (c ∷ r)) h in
+    let all : is_blanks_and_comment (c ∷ (r ++ 35 ∷ t)) ≡ true = blanks_with (c ∷ r) t q.1 in
+    let goes : (not (c == 35) && is_blanks_and_comment (c ∷ (r ++ 35 ∷ t))) ≡ true = rw (q.0, all) refl in
     cc (k, goes)
 
 -- a line that is no header, but one before a comment

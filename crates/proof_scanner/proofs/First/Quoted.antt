@@ -1,5 +1,5 @@
 -- Of two reasons why a quoted scalar is refused at a place that both come first, kind and position are the same.
-use Rattle.proof_scanner.proofs.Common.{[], ap, append-nil, are_indented, AreNotIndented, begins_separation, begins_solid, begins_with, Bool, closed_first, content, Element, eqb-true, false, GoesOn, has_break, has_marker, has_no_nul, has_tab_within, HasNoQuoted, is_empty, is_indented_by_spaces, is_separation, IsNotQuoted, IsQuoted, IsQuotedFault, last_line, least_column, lines_first, List, marked_from, nat_lt, not, off_margin, past, Position, position_after, Problem, quoted_first, quoted_may_end, quoted_scalar, refl, separations, subst, sym, tab, true, within, ℕ, ◌++◌, ◌==◌, ◌||◌, ◌∙◌, ◌∷◌, ◌≡◌}
+use Rattle.proof_scanner.proofs.Common.{[], ap, append-nil, are_indented, AreNotIndented, begins_separation, begins_solid, begins_with, Bool, closed_first, content, Element, eqb-true, false, GoesOn, has_break, has_marker, has_no_nul, has_tab_within, HasNoQuoted, is_empty, is_indented_by_spaces, is_separation, IsNotQuoted, IsQuoted, IsQuotedFault, last_line, least_column, lines_first, List, marked_from, nat_lt, no_nul_after, not, off_margin, past, Position, position_after, Problem, quoted_first, quoted_may_end, quoted_scalar, refl, separations, subst, sym, tab, true, within, ℕ, ◌++◌, ◌==◌, ◌||◌, ◌∙◌, ◌∷◌, ◌≡◌}
 use Rattle.defs_text.specs.Classes as classes
 use Rattle.yaml_tokens.specs.declared.problem.Problem.TheVariants as problem
 use Rattle.proof_row.proofs.Quotes.{singles, doubles}
@@ -7,12 +7,11 @@ use Rattle.proof_scanner.specs.NoPiece as none
 use Rattle.proof_scanner.specs.NoPiece.{quote_of}
 use Rattle.proof_scanner.specs.QuotedLines as lines
 use Rattle.proof_scanner.proofs.Known.Places.{ends_before}
-use Rattle.proof_scanner.proofs.Sound.Arrivals.{clean_after}
 use Rattle.proof_scanner.proofs.Sound.Passed.{same_has_break}
 use Rattle.proof_scanner.proofs.First.QuotedCuts.{one_reason}
 use Rattle.proof_scanner.proofs.Refusals.QuotedElements.{after_quote_at}
-use Rattle.proof_scanner.proofs.Refusals.QuotedLines.{marker_no_feed}
 use Rattle.proof_scanner.proofs.Refusals.QuotedReasons.{all_stand, indented_are, by_end, by_escape, by_column, by_tab, Reason, marked, other}
+use Rattle.proof_row.proofs.Columns.{further_is_no_break}
 
 -- A reason why a quoted scalar is refused that begins with a text at a position, or what follows it; and what is so before.
 pub data QuotedReason (in_flow : Bool) (least : ℕ) (blocks : List ℕ) (awaits : Bool) (here : Position) (rest : List ℕ) : Problem → Position → Type 0 where
@@ -65,7 +64,7 @@ module _ (in_flow : Bool) (least : ℕ) (blocks : List ℕ) (awaits : Bool) (her
   module _ (piece next : List ℕ) (clean : has_no_nul next ≡ true) where
     -- a separation has one end
     one_gap : (p q x y : List ℕ) → next ≡ p ++ x → next ≡ q ++ y → is_separation false p x ≡ true → is_separation false q y ≡ true → begins_separation x ≡ false → begins_separation y ≡ false → (p ≡ q) × (x ≡ y)
-    one_gap p q x y e f h k m n = separations p q x y (h, ends_before x m (clean_after p x (ap has_no_nul (sym e) ∙ clean))) (k, ends_before y n (clean_after q y (ap has_no_nul (sym f) ∙ clean))) (sym e ∙ f)
+    one_gap p q x y e f h k m n = separations p q x y (h, ends_before x m (no_nul_after p x (ap has_no_nul (sym e) ∙ clean))) (k, ends_before y n (no_nul_after q y (ap has_no_nul (sym f) ∙ clean))) (sym e ∙ f)
 
     same_end : (p q x y : List ℕ) → (p ≡ q) × (x ≡ y) → position_after (position_after here piece next) p x ≡ position_after (position_after here piece next) q y
     same_end p q x y s = ap (λ l. position_after (position_after here piece next) l x) s.0 ∙ ap (λ l. position_after (position_after here piece next) q l) s.1
@@ -101,7 +100,7 @@ module _ (in_flow : Bool) (least : ℕ) (blocks : List ℕ) (awaits : Bool) (her
 
     by_text : (why : Problem) (n : IsNotQuoted single more why) → quoted_first single least more why n → Reason single least here within (past here) more why here
     by_text why (none.by_marker body r e has marks) first =
-        marked (record { body = body; rest = r; es = has.0; is_text = e; are = has.1; no_feed = marker_no_feed r first.0; fits = indented has.0 first.1 }) first.0 (unmarked body r true marks)
+        marked (record { body = body; rest = r; es = has.0; is_text = e; are = has.1; no_feed = further_is_no_break 0 r first.0; fits = indented has.0 first.1 }) first.0 (unmarked body r true marks)
     by_text why (none.by_end has) first =
         other [] problem.QuotedEnd here (record { body = more; rest = []; es = has.0; is_text = sym (append-nil more); are = has.1; no_feed = refl; fits = indented has.0 first.1 }) (unmarked more [] false first.0) (by_end refl)
     by_text why (none.by_escape body r _ double e has bad) first =
@@ -126,7 +125,7 @@ module _ (in_flow : Bool) (least : ℕ) (blocks : List ℕ) (awaits : Bool) (her
     one_sorted clean why1 why2 at1 at2 (closes p x _ _ e is fit a) (fails _ _ r open_text) = absurd (open_text p x e is fit)
     one_sorted clean why1 why2 at1 at2 (closes p x _ _ e is fit a) (closes q y _ _ f is2 fit2 b) =
         let same = one_end single q p y x is2 is (sym f ∙ e) in
-        one_after p x (clean_after p x (ap has_no_nul (sym e) ∙ clean)) why1 why2 at1 at2 a (subst (λ z. After p z why2 at2) same.1 (subst (λ z. After z y why2 at2) same.0 b))
+        one_after p x (no_nul_after p x (ap has_no_nul (sym e) ∙ clean)) why1 why2 at1 at2 a (subst (λ z. After p z why2 at2) same.1 (subst (λ z. After z y why2 at2) same.0 b))
 
   record Read (why : Problem) (at : Position) : Type 0 where
     single : Bool

@@ -1,5 +1,5 @@
 -- What is known of keys that wait, where a piece begins, is known after the piece and a separation.
-use Rattle.proof_scanner.proofs.Common.{[], act_of, ap, Bool, Entry, false, FlowLevel, is_empty, is_in_column, IsWritten, Key, KnowsKey, line_by, List, must_be_key, None, not, Option, outside_key, Position, position_after, refl, ScannerState, site_here, Step, subst, Tok, true, ℕ, ◌++◌, ◌∙◌, ◌∷◌, ◌≡◌}
+use Rattle.proof_scanner.proofs.Common.{[], act_of, ap, Bool, Entry, false, FlowLevel, is_empty, is_in_column, IsWritten, Key, KnowsKey, line_by, List, must_be_key, None, not, not-true, Option, outside_key, Position, position_after, refl, ScannerState, site_here, Step, subst, Tok, true, ℕ, ◌++◌, ◌∙◌, ◌∷◌, ◌≡◌}
 use Rattle.proof_scanner.proofs.Cut.Nodes.{IsDeep}
 use Rattle.proof_scanner.proofs.Cut.Positions.{not_before_same}
 use Rattle.proof_scanner.proofs.Known.CameBy.{way_inside, way_outside}
@@ -20,11 +20,7 @@ module _ (text : List ℕ) (t : ScannerState) (piece next : List ℕ) (tok : Tok
   later k n = subst (λ y. KnowsKey text y q k) is_rest (known_over text next t.held.position q k piece gap rest place n)
 
   goes_on : not (is_empty piece) ≡ true → is_empty t.rest ≡ false
-  goes_on h = some_rest t.rest piece next cut (by (is_empty piece) h)
-    where
-      by : (b : Bool) → not b ≡ true → b ≡ false
-      by true h = absurd (cc h)
-      by false h = refl
+  goes_on h = some_rest t.rest piece next cut (not-true (is_empty piece) h)
 
   pub knows_inside : (f : FlowLevel) (fs : List FlowLevel) (k : Option Key) (ks : List (Option Key)) (e : Entry) (es : List Entry) (a : ArrivesBy text t (f ∷ fs) (k ∷ ks) (e ∷ es)) →
       IsWritten (with_entries a.site a.line (e ∷ es)) (keyless a.separation piece tok) next → KnowsKey text (gap ++ rest) q (outside_key es ks)

@@ -1,8 +1,9 @@
 -- A block scalar that may end is not refused for what stands after it.
-use Rattle.proof_scanner.proofs.Common.{[], after_break, after_line, along, and_parts, ap, are_empty, AreLines, arith, begins_with, block_may_end, block_read, BlockRead, Bool, collection_of, false, first_content, first_empty, first_header, further_position, has_no_nul, if◌then◌else◌, innermost, is_at_end, is_break, is_empty, is_empty_line, is_in_line, is_none, is_nul, is_shallow, is_single, is_spaces, is_tabbed, leading_spaces, least_column, length, lines_may_end, List, nat_le, nat_lt, nat_tests, None, not, Option, past, past_is, Position, position_after, position_past, read_may_end, refl, same_break, Some, spell, split, split_spell, sym, tab, texts, true, ℕ, ◌&&◌, ◌++◌, ◌+◌, ◌==◌, ◌||◌, ◌∙◌, ◌∷◌, ◌≡◌, ◌≤◌}
+use Rattle.proof_scanner.proofs.Common.{[], after_break, after_line, along, and_false, and_parts, ap, are_empty, AreLines, arith, begins_with, block_may_end, block_read, BlockRead, Bool, collection_of, false, first_content, first_empty, first_header, further_position, has_no_nul, if◌then◌else◌, innermost, is_at_end, is_break, is_empty, is_empty_line, is_in_line, is_none, is_shallow, is_single, is_spaces, is_tabbed, leading_spaces, least_column, length, lines_may_end, List, nat_le, nat_lt, nat_tests, None, not, Option, past, past_is, Position, position_after, position_past, read_may_end, refl, same_break, Some, spell, split, split_spell, sym, tab, texts, true, ℕ, ◌&&◌, ◌++◌, ◌+◌, ◌==◌, ◌||◌, ◌∙◌, ◌∷◌, ◌≡◌, ◌≤◌}
 use Rattle.defs_text.specs.Classes.{space}
 use Rattle.proof_lexers.proofs.Blocks.Written.{Line, put}
 use Rattle.proof_scanner.proofs.Sound.BlockEnds.{IsLeast, Written, written, spaces_col, ends_at_margin}
+use Rattle.proof_scanner.proofs.Cut.Pieces.Blocks.{end_no_text}
 
 -- ---- a scalar without content
 
@@ -63,13 +64,9 @@ module _ (indent : ℕ) (p : Position) (b : BlockRead) (piece next bs : List ℕ
   -- at the text's end
   at_end : next ≡ [] → Clear
   at_end e = record {
-    untabbed = ap (λ x. is_single (split piece).complete && begins_with tab x) e ∙ no_tab (is_single (split piece).complete);
+    untabbed = ap (λ x. is_single (split piece).complete && begins_with tab x) e ∙ and_false (is_single (split piece).complete);
     deep = ap (λ x. ((x && is_none (first_content b.column true p piece)) && nat_le indent (further_position p piece next).col) && nat_lt (further_position p piece next).col b.column) (ap (λ x. not (is_at_end x)) e);
   }
-    where
-      no_tab : (x : Bool) → (x && false) ≡ false
-      no_tab true = refl
-      no_tab false = refl
 
   -- before further text
   module _ (further : is_at_end next ≡ false) (may : read_may_end bs (block_read (innermost bs) piece next) piece next ≡ true) where
@@ -121,14 +118,6 @@ module _ (indent : ℕ) (p : Position) (b : BlockRead) (piece next bs : List ℕ
   pub block_is_clear : has_no_nul next ≡ true → block_may_end bs piece next ≡ true → Clear
   block_is_clear clean may = by (is_at_end next) refl may
     where
-      ended : (l : List ℕ) → has_no_nul l ≡ true → is_at_end l ≡ true → l ≡ []
-      ended [] n h = refl
-      ended (c ∷ l) n h = absurd (none (is_nul c) n h)
-        where
-          none : (z : Bool) → (not z && has_no_nul l) ≡ true → z ≡ true → ⊥
-          none true n h = cc n
-          none false n h = cc h
-
       by : (x : Bool) → is_at_end next ≡ x → (x || read_may_end bs (block_read (innermost bs) piece next) piece next) ≡ true → Clear
-      by true e h = at_end (ended next clean e)
+      by true e h = at_end (end_no_text next clean e)
       by false e h = before_text e h

@@ -1,5 +1,7 @@
 -- What may follow a scalar in quotes is not refused.
-use Rattle.proof_scanner.proofs.Common.{[], after, and_parts, ap, append_assoc, arith, At, begins_with, Bool, check_after_quoted, ends_spaces, eqb-true, Err, false, Fault, glued, goes_on_quoted, has_break, held_of, if◌then◌else◌, in_flow, is_blank, is_blanks, is_blanks_and_comment, is_break, is_breakz, is_on_line, is_rest_of_line, is_separation, leading, lexed, line_is_done, List, may_follow_quoted, nat_tests, not, Ok, peek, Position, position_after, quoted_may_end, Read, refl, Result, ScannerState, skip_spaces, space, spaces, spaces_are_passed, SpacesAs, subst, sym, true, Whitespace, Yes, ℕ, ◌&&◌, ◌++◌, ◌==◌, ◌>>=◌, ◌||◌, ◌∙◌, ◌∷◌, ◌≡◌}
+use Rattle.proof_scanner.proofs.Common.{[], after, and_parts, ap, append_assoc, arith, At, begins_with, Bool, check_after_quoted, ends_spaces, eqb-true, Err, false, Fault, glued, goes_on_quoted, has_break, HasSpaces, held_of, if◌then◌else◌, in_flow, is_blank, is_blanks, is_blanks_and_comment, is_break, is_breakz, is_on_line, is_rest_of_line, is_separation, IsGlued, leading, lexed, line_is_done, List, may_follow_quoted, nat_tests, not, not-true, Ok, or_left, peek, Position, position_after, quoted_may_end, Read, refl, Result, ScannerState, skip_spaces, space, spaces_are_passed, subst, sym, true, Whitespace, Yes, ℕ, ◌&&◌, ◌++◌, ◌==◌, ◌>>=◌, ◌||◌, ◌∙◌, ◌∷◌, ◌≡◌}
+use Rattle.proof_lexers.specs.Ends.{EndsAs}
+use Rattle.proof_lexers.specs.Ends as ends
 use Rattle.yaml_chars.specs.Class as model_classes
 use Rattle.yaml_tokens.specs.declared.problem.Problem.TheVariants as problem
 use Rattle.proof_lexers.specs.PlainEnds as plains
@@ -37,9 +39,9 @@ skipped t none = by (space Yes t.rest t.held.position) refl (spaces_are_passed Y
     passes : (y : Read Whitespace) → space Yes t.rest t.held.position ≡ Ok y → (u : ScannerState) → skip_spaces Yes t ≡ Ok u → Left (Spaced Yes t) (lexed (space Yes t.rest t.held.position) t.held (λ w u. Ok u))
     passes y i u j = record { value = u; is = j; holds = held_of u (spaces_skipped Yes t) j }
 
-    by : (x : Result (Read Whitespace) Fault) → space Yes t.rest t.held.position ≡ x → SpacesAs Yes t.held.position t.rest x → Left (Spaced Yes t) (lexed (space Yes t.rest t.held.position) t.held (λ w u. Ok u))
-    by x i (spaces blanks comment rest cut are fills break ends e) = passes _ (i ∙ e) _ (ap (λ z. lexed z t.held (λ w u. Ok u)) (i ∙ e))
-    by x i (glued begins e) = absurd (cc (begins, none))
+    by : (x : Result (Read Whitespace) Fault) → space Yes t.rest t.held.position ≡ x → EndsAs (HasSpaces Yes t.held.position t.rest) (IsGlued t.held.position t.rest) x → Left (Spaced Yes t) (lexed (space Yes t.rest t.held.position) t.held (λ w u. Ok u))
+    by x i (ends.reads y passed e) = passes y (i ∙ e) _ (ap (λ z. lexed z t.held (λ w u. Ok u)) (i ∙ e))
+    by x i (ends.refuses f (glued begins) e) = absurd (cc (begins, none))
 
 -- ---- what stands there
 
@@ -69,8 +71,8 @@ not_done s d r b e f g = ap is_rest_of_line (on_line s b) ∙ done s b
         rw (u, p.0) (comment s p.1)
 
     done : (s : List ℕ) → is_blanks s ≡ true → is_rest_of_line (s ++ tail) ≡ false
-    done [] b = rw f refl
-    done (c ∷ s) b = let p = and_parts (is_blank c) (is_blanks s) b in rw p.0 (comment s p.1)
+    done [] b = rw (g, f) refl
+    done (c ∷ s) b = let p = and_parts (is_blank c) (is_blanks s) b in let u : (c == 35) ≡ false = grind (arith, nat_tests, p.0) in rw (u, p.0) (comment s p.1)
 
 follows_by : (flow : Bool) (piece : List ℕ) (same : Bool) (c : ℕ) (r : List ℕ) → (has_break piece ≡ false → same ≡ true) → goes_on_quoted flow piece (c ∷ r) ≡ true → may_follow_quoted flow same c ≡ true
 unfolding may_follow_quoted
@@ -86,12 +88,8 @@ follows_by true piece same c r stays h = by (is_breakz c) (c == 44) (c == 93) (c
     by false false false false false h = absurd (cc h)
 follows_by false piece same c r stays h =
     let q = and_parts (c == 58) (not (has_break piece)) h in
-    by (is_breakz c) (c == 58) same q.0 (stays (unbroken (has_break piece) q.1))
+    by (is_breakz c) (c == 58) same q.0 (stays (not-true (has_break piece) q.1))
   where
-    unbroken : (b : Bool) → not b ≡ true → b ≡ false
-    unbroken true h = absurd (cc h)
-    unbroken false h = refl
-
     by : (z x y : Bool) → x ≡ true → y ≡ true → (z || (x && y)) ≡ true
     by true x y e f = refl
     by false x y e f = rw (e, f) refl
@@ -101,9 +99,6 @@ follows : (flow : Bool) (piece s rest : List ℕ) (same : Bool) → (has_break p
 unfolding may_follow_quoted is_blank is_break model_classes.is_break
 follows flow piece s rest same stays f h e may = by (is_breakz (peek rest)) refl
   where
-    either : (z y : Bool) → z ≡ true → (z || y) ≡ true
-    either z y g = rw g refl
-
     goes_on : (d : ℕ) (r : List ℕ) → rest ≡ d ∷ r → is_breakz d ≡ false → may_follow_quoted flow same d ≡ true
     goes_on d r i g =
         let blanks : is_blanks s ≡ true = (blanks_alone false s rest f h (not_at_end rest (ap (λ l. is_breakz (peek l)) i ∙ g))).1 in
@@ -131,7 +126,7 @@ follows flow piece s rest same stays f h e may = by (is_breakz (peek rest)) refl
     some (d ∷ r) i g = goes_on d r i g
 
     by : (b : Bool) → is_breakz (peek rest) ≡ b → may_follow_quoted flow same (peek rest) ≡ true
-    by true g = either (is_breakz (peek rest)) _ g
+    by true g = or_left (is_breakz (peek rest)) _ g
     by false g = some rest refl g
 
 -- ---- the check

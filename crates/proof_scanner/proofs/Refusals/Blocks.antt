@@ -1,5 +1,7 @@
 -- Faults of block scalars: the line is no header, or what stands after the scalar may not.
-use Rattle.proof_scanner.proofs.Common.{[], after_chars, allow_key, and_parts, ap, append-nil, are_empty, AreLines, arith, Arrives, At, begins_with, Block, block, block_first, block_may_end, block_read, BlockEndsAs, BlockRead, BlockStyle, body, Bool, both, Break, carriage, collection_of, columns, eqb-true, Err, false, Fault, feed, fetch_block_scalar, Fits, folded, further_text, has_no_nul, header_of, HeaderEndsAs, Held, if◌then◌else◌, indicator_of, innermost, is_at_end, is_break, is_empty, is_in_line, is_literal_style, is_nul, is_shallow, is_tabbed, IsBlockFault, IsStuck, leading_spaces, least_column, linebreak, lines_may_end, List, literal, nat_le, nat_lt, nat_tests, no_block, None, not, Option, past, Position, position_after, Problem, Read, read_body, read_lines, read_may_end, refl, Result, ScannerState, site_at_place, Some, spell, spell_more, split, split_spell, style_inner, subst, sym, tab, texts, true, unroll_non_block_indents, without_open, ℕ, ◌&&◌, ◌++◌, ◌==◌, ◌||◌, ◌∙◌, ◌∷◌, ◌≡◌}
+use Rattle.proof_scanner.proofs.Common.{[], after_chars, allow_key, and_parts, ap, append-nil, are_empty, AreLines, arith, Arrives, At, begins_with, block, block_first, block_may_end, block_read, BlockRead, BlockStyle, body, Bool, both, Break, carriage, collection_of, columns, eqb-true, Err, false, Fault, feed, fetch_block_scalar, Fits, folded, further_text, has_no_nul, header_of, Held, if◌then◌else◌, indicator_of, innermost, is_at_end, is_break, is_empty, is_in_line, is_literal, is_literal_style, is_nul, is_shallow, is_tabbed, IsBlockFault, IsStuck, leading_spaces, least_column, linebreak, lines_may_end, List, literal, nat_le, nat_lt, nat_tests, no_block, no_nul_after, None, not, Option, past, Position, position_after, Problem, read_body, read_lines, read_may_end, refl, refused_as, ScannerState, site_at_place, Some, spell, spell_more, split, split_spell, style_inner, subst, sym, tab, texts, true, unroll_non_block_indents, without_open, ℕ, ◌&&◌, ◌++◌, ◌==◌, ◌||◌, ◌∙◌, ◌∷◌, ◌≡◌}
+use Rattle.model_scanner.specs.declared.kind.BlockStyle as kind
+use Rattle.model_scanner.specs.declared.kind.BlockStyle.TheVariants.{Literal, Folded}
 use Rattle.defs_text.specs.BlockScalar as defs
 use Rattle.yaml_tokens.specs.declared.problem.Problem.TheVariants as problem
 use Rattle.proof_lexers.specs.HeaderEnds as headers
@@ -9,7 +11,6 @@ use Rattle.proof_lexers.proofs.Blocks.Ends as blocks
 use Rattle.proof_lexers.proofs.Blocks.Written.{Line, put}
 use Rattle.proof_scanner.proofs.Cut.Pieces.Quoted.{some_chars}
 use Rattle.proof_scanner.proofs.Cut.Saved.{saved_keys, saved_is}
-use Rattle.proof_scanner.proofs.Sound.Arrivals.{clean_after}
 use Rattle.proof_scanner.proofs.Sound.BlockEnds.{IsLeast, Written, written}
 use Rattle.proof_scanner.proofs.Sound.WithoutOpen.{AreClosed, without_is}
 use Rattle.proof_scanner.proofs.Refusals.AfterBlocks.{block_is_clear, lines_asked, lines_written}
@@ -177,49 +178,37 @@ module _ (text : List ℕ) (t : ScannerState) (a : Arrives text t) (some : is_em
       record { fails = no_block (in_flow_is text t a some c [] ∙ ap not out) moved.0; is_first = (looked_at text t a some lies c [], moved.1) })
 
   -- `|` or `>`
-  header_told : (style : BlockStyle) (line after : List ℕ) → t.rest ≡ indicator_of style ∷ (line ++ after) → is_in_line line ≡ true → headers.ends_line after ≡ true → (g : Fault) → HeaderEndsAs t.held.position style line after (Err g) → Told text g
-  header_told style line after e inline ends g (headers.reads h is free j) = absurd (cc j)
-  header_told style line after e inline ends g (headers.tabbed h is begins j) =
-      let same : At problem.BlockScalarTab t.held.position ≡ g = cc j in
+  header_told : (style : BlockStyle) (line after : List ℕ) → t.rest ≡ indicator_of style ∷ (line ++ after) → is_in_line line ≡ true → headers.ends_line after ≡ true → (g : Fault) → headers.IsHeaderRefusal t.held.position style line after g → Told text g
+  header_told style line after e inline ends g (headers.tabbed h is begins) =
       let f : TabAfter after = tab_after after t.held.position ends begins in
-      subst (λ f. Told text f) same
-      (λ _. block_stuck problem.BlockScalarTab t.held.position
-      (tab_fault collections t.held.position t.rest (indicator_of style ∷ line) f.more f.by h (e ∙ ap (λ r. indicator_of style ∷ (line ++ r)) f.is) (style_inner style line inline) is))
-  header_told style line after e inline ends g (headers.zero_digit lacks zero j) =
-      let same : At problem.BlockScalarZero t.held.position ≡ g = cc j in
-      subst (λ f. Told text f) same (λ _. none_here text t a some lies problem.BlockScalarZero (none.headless style line after problem.BlockScalarZero t.held.position (ap not out) e inline ends lacks (none.by_zero zero)) tt)
-  header_told style line after e inline ends g (headers.comment h before more lacks is cut j) =
-      let same : At problem.CommentNotSeparated (headers.along before (past t.held.position)) ≡ g = cc j in
+      λ _. block_stuck problem.BlockScalarTab t.held.position
+      (tab_fault collections t.held.position t.rest (indicator_of style ∷ line) f.more f.by h (e ∙ ap (λ r. indicator_of style ∷ (line ++ r)) f.is) (style_inner style line inline) is)
+  header_told style line after e inline ends g (headers.zero_digit lacks zero) =
+      λ _. none_here text t a some lies problem.BlockScalarZero (none.headless style line after problem.BlockScalarZero t.held.position (ap not out) e inline ends lacks (none.by_zero zero)) tt
+  header_told style line after e inline ends g (headers.comment h before more lacks is cut) =
       let place : headers.along before (past t.held.position) ≡ position_after t.held.position (indicator_of style ∷ before) (35 ∷ more) = along_text style before (35 ∷ more) t.held.position (inner_first before (35 ∷ more) (ap is_in_line (sym cut) ∙ inline)) in
-      subst (λ f. Told text f) same (subst (λ p. Told text (At problem.CommentNotSeparated p)) (sym place)
+      subst (λ p. Told text (At problem.CommentNotSeparated p)) (sym place)
       (λ _. none_begins text t a some lies problem.CommentNotSeparated _
-      (none.headless style line after problem.CommentNotSeparated _ (ap not out) e inline ends lacks (none.by_comment h before more is cut)) tt))
-  header_told style line after e inline ends g (headers.no_header lacks zero more begins j) =
-      let same : At problem.BlockScalarHeader t.held.position ≡ g = cc j in
-      subst (λ f. Told text f) same (λ _. none_here text t a some lies problem.BlockScalarHeader (none.headless style line after problem.BlockScalarHeader t.held.position (ap not out) e inline ends lacks (none.by_text zero more begins)) tt)
+      (none.headless style line after problem.CommentNotSeparated _ (ap not out) e inline ends lacks (none.by_comment h before more is cut)) tt)
+  header_told style line after e inline ends g (headers.no_header lacks zero more begins) =
+      λ _. none_here text t a some lies problem.BlockScalarHeader (none.headless style line after problem.BlockScalarHeader t.held.position (ap not out) e inline ends lacks (none.by_text zero more begins)) tt
 
   block_refused : (style : BlockStyle) (indent : ℕ) (more : List ℕ) → t.rest ≡ indicator_of style ∷ more → IsLeast indent collections → (f : Fault) → block (is_literal_style style) indent t.rest t.held.position ≡ Err f → Told text f
   block_refused style indent more e deep f k =
-      by (block (is_literal_style style) indent (indicator_of style ∷ more) t.held.position) (ap (λ r. block (is_literal_style style) indent r t.held.position) (sym e) ∙ k) (blocks.scans_end style indent more t.held.position (some_chars more clean))
+      by f (refused_as (ap (λ r. block (is_literal_style style) indent r t.held.position) (sym e) ∙ k) (blocks.scans_end style indent more t.held.position (some_chars more clean)))
     where
       clean : has_no_nul more ≡ true
       clean = (and_parts (not (is_nul (indicator_of style))) (has_no_nul more) (subst (λ r. has_no_nul r ≡ true) e a.is_clean)).1
 
-      by : (x : Result (Read Block) Fault) → x ≡ Err f → BlockEndsAs style indent t.held.position more x → Told text f
-      by x i (block_ends.bad_header line after g cut inline ends why j) =
-          let same : g ≡ f = cc (i, j) in
-          subst (λ h. Told text h) same (header_told style line after (e ∙ ap (λ r. indicator_of style ∷ r) cut) inline ends g why)
-      by x i (block_ends.scalar piece next b cut is looks (scan.read free deep j)) = absurd (cc (i, j))
-      by x i (block_ends.scalar piece next b cut is looks (scan.shallow free low j)) =
-          let same : At problem.BlockScalarIndentation (scan.further_position t.held.position piece next) ≡ f = cc (i, j) in
-          subst (λ g. Told text g) same
-          (λ _. block_stuck problem.BlockScalarIndentation (scan.further_position t.held.position piece next)
-          (column_fault indent collections t.held.position t.rest piece next b deep (e ∙ cut) (clean_after piece next (subst (λ r. has_no_nul r ≡ true) (e ∙ cut) a.is_clean)) is free low))
-      by x i (block_ends.scalar piece next b cut is looks (scan.tabbed begins j)) =
-          let same : At problem.BlockScalarTab t.held.position ≡ f = cc (i, j) in
-          subst (λ g. Told text g) same (λ _. block_stuck problem.BlockScalarTab t.held.position (piece_tab_fault collections (collection_of indent) t.held.position t.rest piece next b (e ∙ cut) is begins))
+      by : (g : Fault) → block_ends.IsBlockRefusal style indent t.held.position more g → Told text g
+      by g (block_ends.bad_header line after cut inline ends why) = header_told style line after (e ∙ ap (λ r. indicator_of style ∷ r) cut) inline ends g why
+      by g (block_ends.after_piece piece next b it (scan.shallow free low)) =
+          λ _. block_stuck problem.BlockScalarIndentation (scan.further_position t.held.position piece next)
+          (column_fault indent collections t.held.position t.rest piece next b deep (e ∙ it.is_text) (no_nul_after piece next (subst (λ r. has_no_nul r ≡ true) (e ∙ it.is_text) a.is_clean)) it.is_read free low)
+      by g (block_ends.after_piece piece next b it (scan.tabbed begins)) =
+          λ _. block_stuck problem.BlockScalarTab t.held.position (piece_tab_fault collections (collection_of indent) t.held.position t.rest piece next b (e ∙ it.is_text) it.is_read begins)
 
-  pub block_told : (literal : Bool) (more : List ℕ) → t.rest ≡ (if literal then 124 else 62) ∷ more → Faults (Told text) (fetch_block_scalar literal t)
+  pub block_told : (style : kind.BlockStyle) (more : List ℕ) → t.rest ≡ (if is_literal style then 124 else 62) ∷ more → Faults (Told text) (fetch_block_scalar style t)
   unfolding fetch_block_scalar
-  block_told true more e = read _ (block true _ t.rest t.held.position) _ (λ f k. block_refused literal _ more e (least _ (saved_is t.held)) f k) (λ x k. goes)
-  block_told false more e = read _ (block false _ t.rest t.held.position) _ (λ f k. block_refused folded _ more e (least _ (saved_is t.held)) f k) (λ x k. goes)
+  block_told Literal more e = read _ (block true _ t.rest t.held.position) _ (λ f k. block_refused literal _ more e (least _ (saved_is t.held)) f k) (λ x k. goes)
+  block_told Folded more e = read _ (block false _ t.rest t.held.position) _ (λ f k. block_refused folded _ more e (least _ (saved_is t.held)) f k) (λ x k. goes)

@@ -1,15 +1,15 @@
 -- The faults of a fetch: each of a kind that is told is one by which the text is stuck.
-use Rattle.proof_scanner.proofs.Common.{[], ap, are_marks, AreLevels, arith, Arrives, At, before_by, before_past, begins_document_at, begins_with, Bool, columns, comes_marker, eqb-true, false, fetch_content, fetch_first_column, fetch_here, fetch_indented, fetch_stream_end, fetch_token, gives_node, has_open_level, has_required, Indent, inl, inr, is_adjacent, is_document_marker, is_empty, IsStuck, least_column, List, Mapping, may_not_stand, nat_le, nat_lt, nat_tests, next_line, not, peek, refl, ScannerState, site_at_place, site_here, site_in, subst, sym, Tok, true, ℕ, ◌&&◌, ◌+◌, ◌==◌, ◌||◌, ◌∙◌, ◌∷◌, ◌≡◌, ◌≤◌}
+use Rattle.proof_scanner.proofs.Common.{[], ap, are_marks, AreLevels, arith, Arrives, At, before_by, before_past, begins_document_at, begins_with, Bool, columns, eqb-true, false, fetch_content, fetch_here, fetch_stream_end, fetch_token, gives_node, has_open_level, has_required, Indent, inl, inr, is_adjacent, is_document_marker, is_empty, IsStuck, least_column, List, may_not_stand, nat_le, nat_lt, nat_tests, next_line, not, peek, refl, ScannerState, site_at_place, site_here, site_in, subst, sym, Tok, true, ℕ, ◌&&◌, ◌+◌, ◌==◌, ◌||◌, ◌∙◌, ◌∷◌, ◌≡◌, ◌≤◌}
 use Rattle.yaml_tokens.specs.declared.problem.Problem.TheVariants as problem
-use Rattle.model_scanner.specs.declared.level.FlowLevel.TheVariants.{Entry}
+use Rattle.model_scanner.specs.declared.kind.Collection.TheVariants.{Sequence, Mapping}
 use Rattle.model_scanner.specs.State.{after}
 use Rattle.proof_scanner.proofs.Cut.Nodes.{IsDeep}
-use Rattle.proof_scanner.proofs.Cut.Dispatch.{token_holds}
-use Rattle.proof_scanner.proofs.Cut.Fetched.{begins_with_this, no_marker, is_deep, no_end, goes_on_here, Marked, marked}
+use Rattle.proof_scanner.proofs.Cut.Dispatch.{token_holds, content_holds}
+use Rattle.proof_scanner.proofs.Cut.Fetched.{no_end, goes_on_here, begins_here}
 use Rattle.proof_scanner.proofs.Sound.Passed.{least_of_levels}
 use Rattle.proof_scanner.proofs.Refusals.Levels.{levels_end}
 use Rattle.proof_scanner.specs.Failing as defs
-use Rattle.proof_scanner.proofs.Refusals.Faults.{Faults, fault, tried, checked, either}
+use Rattle.proof_scanner.proofs.Refusals.Faults.{Faults, fault, tried, either}
 use Rattle.proof_scanner.proofs.Refusals.Places.{IsRowless, Told, LiesDeep, account_by, rowless_told, stuck, in_flow_is, none_here}
 use Rattle.proof_scanner.proofs.Refusals.Nodes.{name_told, tag_told, quoted_told}
 use Rattle.proof_scanner.proofs.Refusals.Blocks.{block_told}
@@ -24,18 +24,18 @@ module _ (text : List ℕ) (t : ScannerState) (a : Arrives text t) (some : is_em
   token_told : IsDeep t.held → ((t.held.position.col == 0) && is_document_marker t.rest) ≡ false → (t.held.position.col ≡ 0 → (peek t.rest == 37) ≡ false) → Faults (Told text) (fetch_token t)
   token_told deep marker percent =
       token_holds (Faults (Told text)) t (is_adjacent (before_past (before_by a.base.site.before) a.separation)) a.is_clean a.is_solid (λ inside. sym (a.is_adjacent_here inside some)) marker (record {
-        anchor = λ alias more e. name_told text t a some lies alias more e;
+        anchor = λ kind more e. name_told text t a some lies kind more e;
         tag = λ more e. tag_told text t a some lies more e;
         plain = λ comes. plain_told text t a some lies deep comes;
-        quoted = λ single more e. quoted_told text t a some lies deep single more e;
-        block = λ literal more e o. block_told text t a some lies o literal more e;
+        quoted = λ quotes more e. quoted_told text t a some lies deep quotes more e;
+        block = λ style more e o. block_told text t a some lies o style more e;
         dash = λ more e gap. dash_told text t a some lies more e gap;
         question = λ more e gap. question_told text t a some lies more e gap;
         colon = λ more e i. colon_told text t a some lies more e i;
-        open_bracket = λ more e. opening_told text t a some lies Entry Tok.flow_sequence_start 91 more e (inl refl);
-        open_brace = λ more e. opening_told text t a some lies Mapping Tok.flow_mapping_start 123 more e (inr refl);
-        close_bracket = λ more e. closing_told text t a some lies Tok.flow_sequence_end 93 more e (inl refl);
-        close_brace = λ more e. closing_told text t a some lies Tok.flow_mapping_end 125 more e (inr refl);
+        open_bracket = λ more e. opening_told text t a some lies Sequence 91 more e (inl refl);
+        open_brace = λ more e. opening_told text t a some lies Mapping 123 more e (inr refl);
+        close_bracket = λ more e. closing_told text t a some lies Sequence 93 more e (inl refl);
+        close_brace = λ more e. closing_told text t a some lies Mapping 125 more e (inr refl);
         comma = λ more e. comma_told text t a some lies more e;
         percent = λ more e. fault {f = At problem.UnexpectedPercent t.held.position} (λ _. none_here text t a some lies problem.UnexpectedPercent (none.percent more e (no_column more e)) tt);
         at_sign = λ more e. fault {f = At problem.UnexpectedAt t.held.position} (λ _. none_here text t a some lies problem.UnexpectedAt (none.at_sign more e) tt);
@@ -61,13 +61,9 @@ module _ (text : List ℕ) (t : ScannerState) (a : Arrives text t) (some : is_em
   no_line : ((t.held.position.col == 0) && is_document_marker t.rest) ≡ false → (t.held.position.col ≡ 0 → (peek t.rest == 37) ≡ false) → begins_document_at t.held.position t.rest ≡ false
   no_line none percent = by (t.held.position.col == 0) refl none
     where
-      other : (r : List ℕ) → (peek r == 37) ≡ false → begins_with 37 r ≡ false
-      other [] h = refl
-      other (c ∷ r) h = h
-
       by : (b : Bool) → (t.held.position.col == 0) ≡ b → (b && is_document_marker t.rest) ≡ false → (b && (begins_with 37 t.rest || is_document_marker t.rest)) ≡ false
       by false e m = refl
-      by true e m = ap (λ x. x || is_document_marker t.rest) (other t.rest (percent (eqb-true t.held.position.col 0 e))) ∙ m
+      by true e m = ap (λ x. x || is_document_marker t.rest) (sym (begins_here 37 t.rest refl) ∙ percent (eqb-true t.held.position.col 0 e)) ∙ m
 
   shallow : begins_document_at t.held.position t.rest ≡ false → nat_lt (t.held.position.col + 1) t.held.indent ≡ true → IsStuck text problem.InvalidIndentation t.held.position
   shallow none low = by (is_empty t.held.flow) refl
@@ -90,48 +86,20 @@ module _ (text : List ℕ) (t : ScannerState) (a : Arrives text t) (some : is_em
                 (ap (λ w. nat_le (least_column (columns t.held.indent t.held.indents) w) t.held.position.col) awaits_is ∙ least_here t.held.indent t.held.indents a.are_levels low)));
           })
 
-  indented_told : ((t.held.position.col == 0) && is_document_marker t.rest) ≡ false → (t.held.position.col ≡ 0 → (peek t.rest == 37) ≡ false) → Faults (Told text) (fetch_indented t)
-  unfolding fetch_indented
-  indented_told none percent =
-      checked (nat_lt (t.held.position.col + 1) t.held.indent) (At problem.InvalidIndentation t.held.position) (λ low _. shallow (no_line none percent) low) (λ e. token_told (is_deep t.held.position.col t.held.indent e) none percent)
-
-  -- ---- markers
-
-  first_told : t.held.position.col ≡ 0 → Faults (Told text) (fetch_first_column t)
-  unfolding fetch_first_column are_marks
-  first_told col =
-      either (peek t.rest == 37) (λ e. directive_told text t a some (by_percent e) (after t.rest) (begins_with_this t.rest 37 some e) col) (λ n.
-      either (comes_marker 45 t.rest) (λ e. marker_told text t a some (by_marker 45 refl e refl) Tok.document_start col) (λ x.
-      either (comes_marker 46 t.rest) (λ e. let m : Marked 46 t.rest = marked 46 t.rest refl e in document_end_told text t a some (by_marker 46 refl e refl) m.more m.is_text m.gap col) (λ y.
-      indented_told (by (t.held.position.col == 0) (no_marker t.rest x y)) (λ _. n))))
-    where
-      by : (b : Bool) → is_document_marker t.rest ≡ false → (b && is_document_marker t.rest) ≡ false
-      by true e = e
-      by false e = refl
-
-      -- a line for the document may lie in any column
-      document_line : (begins_with 37 t.rest || is_document_marker t.rest) ≡ true → LiesDeep t
-      document_line begins none = absurd (cc (none, ap (λ (n : ℕ). (n == 0) && (begins_with 37 t.rest || is_document_marker t.rest)) col, begins))
-
-      by_percent : (peek t.rest == 37) ≡ true → LiesDeep t
-      by_percent e = document_line (first t.rest e)
-        where
-          first : (r : List ℕ) → (peek r == 37) ≡ true → (begins_with 37 r || is_document_marker r) ≡ true
-          first [] h = absurd (cc h)
-          first (c ∷ r) h = ap (λ b. b || is_document_marker (c ∷ r)) h
-
-      by_marker : (c : ℕ) → (0 == c) ≡ false → comes_marker c t.rest ≡ true → are_marks c c c ≡ true → LiesDeep t
-      by_marker c z e marks =
-          let m : Marked c t.rest = marked c t.rest z e in
-          document_line (subst (λ r. (begins_with 37 r || is_document_marker r) ≡ true) (sym m.is_text) (or_last (c == 37) _ (rw (marks, m.gap) refl)))
-        where
-          or_last : (x y : Bool) → y ≡ true → (x || y) ≡ true
-          or_last true y e = refl
-          or_last false y e = e
-
   content_told : Faults (Told text) (fetch_content t)
-  unfolding fetch_content
-  content_told = either (t.held.position.col == 0) (λ e. first_told (eqb-true t.held.position.col 0 e)) (λ e. indented_told (rw e refl) (λ col. absurd (grind (arith, e, col))))
+  unfolding are_marks
+  content_told =
+      content_holds (Faults (Told text)) t some (record {
+        directive = λ e col. directive_told text t a some (document_line col (ap (λ r. begins_with 37 r || is_document_marker r) e)) (after t.rest) e col;
+        document_start = λ more e gap col. marker_told text t a some (document_line col (ap (λ r. begins_with 37 r || is_document_marker r) e ∙ rw gap refl)) Tok.document_start col;
+        document_end = λ more e gap col. document_end_told text t a some (document_line col (ap (λ r. begins_with 37 r || is_document_marker r) e ∙ rw gap refl)) more e gap col;
+        shallow = λ n low. fault {f = At problem.InvalidIndentation t.held.position} (λ _. shallow (no_line n.0 n.1) low);
+        token = λ n deep. token_told deep n.0 n.1;
+      })
+    where
+      -- a line for the document may lie in any column
+      document_line : t.held.position.col ≡ 0 → (begins_with 37 t.rest || is_document_marker t.rest) ≡ true → LiesDeep t
+      document_line col begins none = absurd (cc (none, ap (λ (n : ℕ). (n == 0) && (begins_with 37 t.rest || is_document_marker t.rest)) col, begins))
 
 -- ---- the text's end
 

@@ -1,5 +1,5 @@
 -- Faults of indicators, markers and directives.
-use Rattle.proof_scanner.proofs.Common.{[], after_space, allow_key, and_parts, ap, append_assoc, AreEntries, arith, Arrives, At, before_by, before_past, begin_flow, begin_key, begin_keyless_mapping, begin_keyless_pair, begin_keyless_value, begin_line, begin_pair, begins_entry, begins_free_line, begins_with, begins_with_alpha, begins_with_space_or_break, blanks_and_comment, Bool, check_after_tab, check_block_entry, check_dash, check_document_end, check_key_space, check_value_space, chosen, closed_key, colon_may_precede, decrease_flow_level, deepened_flow, directive_of, DirectiveEndsAs, directives_end, end_entry, end_flow, end_flow_pair, end_pair, ended_flow, entries_by, Entry, entry_by, eqb-true, Err, false, Fault, fetch_block_entry, fetch_directive, fetch_document_end, fetch_document_marker, fetch_flow_collection_end, fetch_flow_collection_start, fetch_flow_entry, fetch_key, fetch_value, FlowLevel, followed_first, free, further, go_on, had_by, has, has_no_break, has_no_pair, HasNoKey, Held, held_of, Holds, if◌then◌else◌, in_flow, increase_flow_level, inl, inr, insert_key, is_adjacent, is_alphanumeric, is_at_gap, is_blank, is_blank_or_breakz, is_breakz, is_empty, is_free, is_full, is_one_of, is_required, is_separation, is_taken, is_taken_line, is_value, is_value_here, is_value_indicator, IsDirectiveRefusal, IsFollowed, IsLineHere, IsLookedAt, IsOpenOutside, IsPlace, IsStuck, Key, leading, length, lexed, Line, line_by, line_past_separation, List, may_ask, may_not_stand, MayChoose, nat_le, nat_lt, nat_tests, next_entry, No, no_key, None, not, Ok, on_held, opens, opens_pair, Option, or_true, OutOfMemory, outside_key, paired, pass_indicator, past, past_blanks_and_comment, past_line_rest, peek, pop, Position, position_after, Problem, Read, refl, remove_implicit_key, Result, roll_entry, roll_indent, roll_one_col_indent, same_alpha, ScannerState, skip_indicator, skip_yaml_whitespace, slice_index, Some, space, spaces_are_passed, SpacesAs, subst, suc, sym, taken, takes_pair, Tok, top_key, true, try_held, unroll_indent, waits, white, Whitespace, with_top, Yes, ℕ, ◌&&◌, ◌++◌, ◌+◌, ◌-◌, ◌==◌, ◌||◌, ◌∙◌, ◌∷◌, ◌≡◌, ◌≤◌, ◌⊎◌}
+use Rattle.proof_scanner.proofs.Common.{[], allow_key, and_false, and_parts, ap, append_assoc, AreEntries, arith, Arrives, At, before_by, before_past, begin_flow, begin_key, begin_keyless_mapping, begin_keyless_pair, begin_keyless_value, begin_line, begin_pair, begins_entry, begins_free_line, begins_with, begins_with_alpha, begins_with_space_or_break, blanks_and_comment, Bool, check_after_tab, check_block_entry, check_dash, check_document_end, check_key_space, check_value_space, chosen, closed_key, Collection, colon_may_precede, decrease_flow_level, deepened_flow, directive_of, directives_end, end_entry, end_flow, end_flow_pair, end_pair, ended_flow, entries_by, Entry, entry_by, eqb-true, Err, false, Fault, fetch_block_entry, fetch_directive, fetch_document_end, fetch_document_marker, fetch_flow_collection_end, fetch_flow_collection_start, fetch_flow_entry, fetch_key, fetch_value, flow_level, FlowLevel, followed_first, free, further, go_on, had_by, has, has_no_break, has_no_pair, HasNoKey, HasSpaces, Held, held_of, Holds, if◌then◌else◌, in_flow, increase_flow_level, inl, inr, insert_key, is_adjacent, is_alphanumeric, is_at_gap, is_blank, is_blank_or_breakz, is_breakz, is_empty, is_free, is_full, is_one_of, is_required, is_separation, is_taken, is_taken_line, is_value, is_value_here, is_value_indicator, IsDirectiveRefusal, IsFollowed, IsLineHere, IsLookedAt, IsOpenOutside, IsPlace, IsStuck, Key, leading, length, lexed, Line, line_by, line_past_separation, List, may_ask, may_not_stand, MayChoose, nat_le, nat_lt, nat_tests, next_entry, No, no_key, None, not, not-false, not-true, Ok, on_held, opens, opens_pair, Option, or_true, OutOfMemory, outside_key, paired, pass_indicator, past, past_blanks_and_comment, past_line_rest, peek, pop, Position, position_after, Problem, Read, read_as, refl, refused_as, remove_implicit_key, Result, roll_entry, roll_indent, roll_one_col_indent, same_alpha, ScannerState, skip_indicator, skip_yaml_whitespace, slice_index, Some, space, spaces_are_passed, subst, suc, sym, taken, takes_pair, Tok, top_key, true, try_held, unroll_indent, waits, white, Whitespace, with_top, Yes, ℕ, ◌&&◌, ◌++◌, ◌+◌, ◌-◌, ◌==◌, ◌||◌, ◌∙◌, ◌∷◌, ◌≡◌, ◌≤◌, ◌⊎◌}
 use Rattle.defs_text.specs.Tags as tags
 use Rattle.defs_token.specs.FlowEntry as entry
 use Rattle.yaml_tokens.specs.declared.problem.Problem.TheVariants as problem
@@ -32,6 +32,7 @@ use Rattle.proof_scanner.proofs.Refusals.Places.{IsRowless, Told, LiesDeep, rowl
 use Rattle.proof_scanner.proofs.Refusals.RequiredKeys.{not_required, line_rowless, closing_rowless, none_waits}
 use Rattle.proof_scanner.proofs.Sound.WhiteSpaces.{white_of, past_white, white_cut, past_white_space, white_exactly, white_first, no_tab_in, IsMissed, white_or_missed}
 use Rattle.proof_scanner.proofs.Sound.ColonSpaces.{colon_spaced}
+use Rattle.proof_scanner.proofs.Cut.Fetched.{begins_here}
 
 -- ---- keys that must be one
 
@@ -65,12 +66,10 @@ module _ (text : List ℕ) (t : ScannerState) (a : Arrives text t) (some : is_em
       in_turn (tried t (line_told text t.held (line_rowless text t a some col))) (λ u k.
       let s : (u.rest ≡ t.rest) × (u.held.position ≡ t.held.position) = held_of u (line_stays t) k in
       read u.held (directive u.rest u.held.position) _
-      (λ f j. by f (directive (37 ∷ more) t.held.position) (ap (λ r. directive r t.held.position) (sym (s.0 ∙ e)) ∙ (ap (λ q. directive u.rest q) (sym s.1) ∙ j)) (directives_end more t.held.position)) (λ x j. goes))
+      (λ f j. by f (refused_as (ap (λ r. directive r t.held.position) (sym (s.0 ∙ e)) ∙ (ap (λ q. directive u.rest q) (sym s.1) ∙ j)) (directives_end more t.held.position))) (λ x j. goes))
     where
-      by : (f : Fault) (x : Result (Read Tok) Fault) → x ≡ Err f → DirectiveEndsAs t.held.position more x → Told text f
-      by f x i (directives.reads line next d cut one ends is j) = absurd (cc (i, j))
-      by f x i (directives.refuses line next g cut one ends lacks why j) =
-          let same : g ≡ f = cc (i, j) in subst (λ h. Told text h) same (line_refused line next col (e ∙ ap (λ r. 37 ∷ r) cut) one ends lacks g why)
+      by : (f : Fault) → directives.IsNoDirective t.held.position more f → Told text f
+      by f (directives.no_directive line next cut one ends lacks why) = line_refused line next col (e ∙ ap (λ r. 37 ∷ r) cut) one ends lacks f why
 
   pub marker_told : (tok : Tok) → t.held.position.col ≡ 0 → Faults (Told text) (fetch_document_marker tok t)
   unfolding fetch_document_marker
@@ -121,22 +120,18 @@ module _ (text : List ℕ) (t : ScannerState) (a : Arrives text t) (some : is_em
   -- ---- what may begin
 
   is_outside : in_flow t.held ≡ false → is_empty t.held.flow ≡ true
-  is_outside e = by (is_empty t.held.flow) e
-    where
-      by : (b : Bool) → not b ≡ false → b ≡ true
-      by true e = refl
-      by false e = absurd (cc e)
+  is_outside e = not-false (is_empty t.held.flow) e
+
+  abbrev broken : Bool
+  broken = begins_free_line a.base.site.before a.separation
+
+  outer_line : is_empty t.held.flow ≡ true → line_past_separation false broken a.base.line ≡ Some a.line_here
+  outer_line out = subst (λ b. line_past_separation (not b) broken a.base.line ≡ Some a.line_here) out a.is_line
 
   line_taken : (c : Bool) (cs : List Bool) → IsAllowed text t a some c → is_empty t.held.flow ≡ true → t.held.key_allowed ≡ false → is_taken (chosen c cs t.held.keys a.base) a.separation ≡ true
   line_taken c cs may out none =
-      by (outside_key a.base.entries t.held.keys) c (may out) (subst (λ b. IsLineHere (not b) t.held.key_allowed t.rest (outside_key a.base.entries t.held.keys) a.line) out a.line_is) a.is_open
+      by (outside_key a.base.entries t.held.keys) c (may out) (subst (λ b. IsLineHere (not b) t.held.key_allowed t.rest (outside_key a.base.entries t.held.keys) a.line_here) out a.line_is) a.is_open
     where
-      broken : Bool
-      broken = begins_free_line a.base.site.before a.separation
-
-      is_line : line_past_separation false broken a.base.line ≡ Some a.line
-      is_line = subst (λ b. line_past_separation (not b) broken a.base.line ≡ Some a.line) out a.is_line
-
       taken_by : (l : Line) → (l ≡ free) ⊎ (l ≡ taken) → is_free l ≡ false → is_taken_line (Some l) ≡ true
       taken_by l (inl e) h = absurd (cc (h, ap is_free e))
       taken_by l (inr e) h = ap (λ x. is_taken_line (Some x)) e
@@ -146,28 +141,22 @@ module _ (text : List ℕ) (t : ScannerState) (a : Arrives text t) (some : is_em
           let line = ap (λ p. p.line) a.position_is in
           arrivals.not_free a.base.site.before a.separation (arrivals.unbroken a.base.site.position a.separation t.rest some a.is_solid (omega (arith, before, here, line)))
 
-      by : (k : Option Key) (c : Bool) → MayChoose true c k t.held.position t.rest → IsLineHere false t.held.key_allowed t.rest k a.line → IsOpenOutside k a.base.site.position t.held.position t.rest a.base.site.blocks
+      by : (k : Option Key) (c : Bool) → MayChoose true c k t.held.position t.rest → IsLineHere false t.held.key_allowed t.rest k a.line_here → IsOpenOutside k a.base.site.position t.held.position t.rest a.base.site.blocks
           → is_taken_line (line_past_separation false broken (line_by c k a.base.line)) ≡ true
-      by None c may h open_here = ap is_taken_line is_line ∙ taken_by a.line h.0 (sym h.1 ∙ none)
+      by None c may h open_here = ap is_taken_line (outer_line out) ∙ taken_by a.line_here h.0 (sym h.1 ∙ none)
       by (Some k) true may h open_here = ap (λ b. is_taken_line (line_past_separation false b (waits k.position))) (on_its_line k open_here.0.0 may.0)
-      by (Some k) false may h open_here = ap is_taken_line is_line ∙ ap (λ l. is_taken_line (Some l)) (h some).0
+      by (Some k) false may h open_here = ap is_taken_line (outer_line out) ∙ ap (λ l. is_taken_line (Some l)) (h some).0
 
   line_not_taken : (c : Bool) (cs : List Bool) → IsAllowed text t a some c → is_empty t.held.flow ≡ true → t.held.key_allowed ≡ true → is_taken (chosen c cs t.held.keys a.base) a.separation ≡ false
   line_not_taken c cs may out allowed =
-      by (outside_key a.base.entries t.held.keys) c (subst (λ b. IsLineHere (not b) t.held.key_allowed t.rest (outside_key a.base.entries t.held.keys) a.line) out a.line_is)
+      by (outside_key a.base.entries t.held.keys) c (subst (λ b. IsLineHere (not b) t.held.key_allowed t.rest (outside_key a.base.entries t.held.keys) a.line_here) out a.line_is)
     where
-      broken : Bool
-      broken = begins_free_line a.base.site.before a.separation
-
-      is_line : line_past_separation false broken a.base.line ≡ Some a.line
-      is_line = subst (λ b. line_past_separation (not b) broken a.base.line ≡ Some a.line) out a.is_line
-
       free_by : (l : Line) → (l ≡ free) ⊎ (l ≡ taken) → is_free l ≡ true → is_taken_line (Some l) ≡ false
       free_by l (inl e) h = ap (λ x. is_taken_line (Some x)) e
       free_by l (inr e) h = absurd (cc (h, ap is_free e))
 
-      by : (k : Option Key) (c : Bool) → IsLineHere false t.held.key_allowed t.rest k a.line → is_taken_line (line_past_separation false broken (line_by c k a.base.line)) ≡ false
-      by None c h = ap is_taken_line is_line ∙ free_by a.line h.0 (sym h.1 ∙ allowed)
+      by : (k : Option Key) (c : Bool) → IsLineHere false t.held.key_allowed t.rest k a.line_here → is_taken_line (line_past_separation false broken (line_by c k a.base.line)) ≡ false
+      by None c h = ap is_taken_line (outer_line out) ∙ free_by a.line_here h.0 (sym h.1 ∙ allowed)
       by (Some k) c h = absurd (cc ((h some).1, allowed))
 
   -- where a `?` is not refused it may stand
@@ -184,10 +173,6 @@ module _ (text : List ℕ) (t : ScannerState) (a : Arrives text t) (some : is_em
       ap (λ b. is_value_indicator b (is_adjacent (before_past (before_by a.base.site.before) a.separation)) more) (in_flow_is text t a some c cs) ∙
       (sym (value_is t (is_adjacent (before_past (before_by a.base.site.before) a.separation)) more e (λ inside. sym (a.is_adjacent_here inside some))) ∙ i)
 
-  is_not : (b : Bool) → not b ≡ true → b ≡ false
-  is_not true e = absurd (cc e)
-  is_not false e = refl
-
   -- ---- `-`, `?` and `:`
 
   entry_checked : (more : List ℕ) → t.rest ≡ 45 ∷ more → is_at_gap more ≡ true → Faults (Told text) (check_block_entry t.held)
@@ -197,7 +182,7 @@ module _ (text : List ℕ) (t : ScannerState) (a : Arrives text t) (some : is_em
       (λ i _. stuck text t a some [] problem.BlockEntryInFlow t.held.position (λ c may. record { fails = may_not_stand (defs.dash_in_flow more e gap (in_flow_is text t a some c [] ∙ i)); is_first = looked_at text t a some lies c [] })) (λ o.
       checked (not t.held.key_allowed) (At problem.BlockEntryNotAllowed t.held.position)
       (λ n _. stuck text t a some [] problem.BlockEntryNotAllowed t.held.position (λ c may.
-      record { fails = may_not_stand (defs.dash_not_free more e gap (in_flow_is text t a some c [] ∙ o) (line_taken c [] may (is_outside o) (is_not t.held.key_allowed n))); is_first = looked_at text t a some lies c [] })) (λ _. goes))
+      record { fails = may_not_stand (defs.dash_not_free more e gap (in_flow_is text t a some c [] ∙ o) (line_taken c [] may (is_outside o) (not-true t.held.key_allowed n))); is_first = looked_at text t a some lies c [] })) (λ _. goes))
 
   -- a character of a text stands in it with more after it
   has_more : (b c : List ℕ) → has 9 b ≡ true → has 9 (b ++ c) ≡ true
@@ -215,7 +200,7 @@ module _ (text : List ℕ) (t : ScannerState) (a : Arrives text t) (some : is_em
 
   dash_checked : (more : List ℕ) → t.rest ≡ 45 ∷ more → is_at_gap more ≡ true → in_flow t.held ≡ false → t.held.key_allowed ≡ true → (h : Held) → h.position ≡ past t.held.position → (x : Read Whitespace) → space Yes more h.position ≡ Ok x → Faults (Told text) (check_dash x.value (go_on x h))
   unfolding check_dash
-  dash_checked more e gap outside allowed h place x k = by (space Yes more h.position) k (spaces_are_passed Yes more h.position)
+  dash_checked more e gap outside allowed h place x k = by x (read_as k (spaces_are_passed Yes more h.position))
     where
       reason : (blanks comment rest : List ℕ) → more ≡ blanks ++ (comment ++ rest) → is_separation false (blanks ++ comment) rest ≡ true → plain_ends.has_break (blanks ++ comment) ≡ false
           → (has 9 blanks && (slice_index rest 0 == 45) && is_blank_or_breakz (slice_index rest 1)) ≡ true → Told text (At problem.TabAfterDash (position_after h.position (blanks ++ comment) rest))
@@ -232,22 +217,14 @@ module _ (text : List ℕ) (t : ScannerState) (a : Arrives text t) (some : is_em
       checked_by true q u why = fault {f = At problem.TabAfterDash q} (why refl)
       checked_by false q u why = goes
 
-      by : (y : Result (Read Whitespace) Fault) → y ≡ Ok x → SpacesAs Yes h.position more y
-          → Faults (Told text) (if x.value.found_tabs && (slice_index x.rest 0 == 45) && is_blank_or_breakz (slice_index x.rest 1) then Err (At problem.TabAfterDash x.position) else Ok (go_on x h))
-      by y i (separations.glued begins j) = absurd (cc (i, j))
-      by y i (separations.spaces blanks comment rest cut are fills line ends j) =
-          let same : after_space h.position (blanks ++ comment) rest (record { found_tabs = has 9 blanks; has_valid_yaml_ws = has 32 blanks }) ≡ x = cc (i, j) in
-          subst (λ (z : Read Whitespace). Faults (Told text) (if z.value.found_tabs && (slice_index z.rest 0 == 45) && is_blank_or_breakz (slice_index z.rest 1) then Err (At problem.TabAfterDash z.position) else Ok (go_on z h))) same
-          (checked_by (has 9 blanks && (slice_index rest 0 == 45) && is_blank_or_breakz (slice_index rest 1)) (position_after h.position (blanks ++ comment) rest) _ (reason blanks comment rest cut fills line))
-
-  is_so : (b : Bool) → not b ≡ false → b ≡ true
-  is_so true e = refl
-  is_so false e = absurd (cc e)
+      by : (y : Read Whitespace) → HasSpaces Yes h.position more y → Faults (Told text) (if y.value.found_tabs && (slice_index y.rest 0 == 45) && is_blank_or_breakz (slice_index y.rest 1) then Err (At problem.TabAfterDash y.position) else Ok (go_on y h))
+      by y (separations.spaces blanks comment rest cut are fills line ends) =
+          checked_by (has 9 blanks && (slice_index rest 0 == 45) && is_blank_or_breakz (slice_index rest 1)) (position_after h.position (blanks ++ comment) rest) _ (reason blanks comment rest cut fills line)
 
   entry_outside : Holds (λ s. (in_flow t.held ≡ false) × (t.held.key_allowed ≡ true) × (s ≡ t.held)) (check_block_entry t.held)
   unfolding check_block_entry
   entry_outside =
-      holds.checked (in_flow t.held) (At problem.BlockEntryInFlow t.held.position) (λ o. holds.checked (not t.held.key_allowed) (At problem.BlockEntryNotAllowed t.held.position) (λ n. holds.went (o, is_so t.held.key_allowed n, refl)))
+      holds.checked (in_flow t.held) (At problem.BlockEntryInFlow t.held.position) (λ o. holds.checked (not t.held.key_allowed) (At problem.BlockEntryNotAllowed t.held.position) (λ n. holds.went (o, not-false t.held.key_allowed n, refl)))
 
   -- no comment stands after what was passed behind a dash
   dash_spaced : (u : ScannerState) → Holds (λ v. (begins_with 35 v.rest ≡ false) × (v.held.keys ≡ u.held.keys)) (lexed (space Yes u.rest u.held.position) u.held check_dash)
@@ -279,14 +256,14 @@ module _ (text : List ℕ) (t : ScannerState) (a : Arrives text t) (some : is_em
       either (in_flow t.held) (λ _. goes) (λ o.
       checked (not t.held.key_allowed) (At problem.KeyNotAllowed t.held.position)
       (λ n _. stuck text t a some [] problem.KeyNotAllowed t.held.position (λ c may.
-      record { fails = may_not_stand (defs.question_not_free more e gap (in_flow_is text t a some c [] ∙ o) (line_taken c [] may (is_outside o) (is_not t.held.key_allowed n))); is_first = looked_at text t a some lies c [] })) (λ _. goes))
+      record { fails = may_not_stand (defs.question_not_free more e gap (in_flow_is text t a some c [] ∙ o) (line_taken c [] may (is_outside o) (not-true t.held.key_allowed n))); is_first = looked_at text t a some lies c [] })) (λ _. goes))
 
   key_place : Holds (λ s. Stays s t.held × ((in_flow t.held || t.held.key_allowed) ≡ true)) (begin_key t.held)
   unfolding begin_key
   key_place =
       holds.either (in_flow t.held) (λ i. holds.went ((refl, refl), ap (λ b. b || t.held.key_allowed) i)) (λ o.
       holds.checked (not t.held.key_allowed) (At problem.KeyNotAllowed t.held.position) (λ n.
-      holds.went (rolled_stays t.held.position.col None Tok.block_mapping_start t.held.position t.held, ap (λ b. b || t.held.key_allowed) o ∙ is_so t.held.key_allowed n)))
+      holds.went (rolled_stays t.held.position.col None Tok.block_mapping_start t.held.position t.held, ap (λ b. b || t.held.key_allowed) o ∙ not-false t.held.key_allowed n)))
 
   white_told : (in_flow t.held || t.held.key_allowed) ≡ true → (more : List ℕ) → t.rest ≡ 63 ∷ more → is_at_gap more ≡ true → (u : ScannerState) → u.rest ≡ more → u.held.position ≡ past t.held.position → Faults (Told text) (skip_yaml_whitespace u)
   unfolding skip_yaml_whitespace
@@ -399,7 +376,7 @@ module _ (text : List ℕ) (t : ScannerState) (a : Arrives text t) (some : is_em
   mapping_told : (more : List ℕ) → t.rest ≡ 58 ∷ more → colon_may_precede more ≡ true → is_value t ≡ true → top_key t.held.keys ≡ None → (s : Held) → in_flow s ≡ in_flow t.held → s.key_allowed ≡ t.held.key_allowed → Faults (Told text) (begin_keyless_mapping t.held.position s)
   unfolding begin_keyless_mapping
   mapping_told more e apart i top s flow allowed =
-      either (in_flow s) (λ _. goes) (λ o. checked (not s.key_allowed) (At problem.ValueNotAllowed t.held.position) (λ n. not_allowed more e apart i top (sym flow ∙ o) (sym allowed ∙ is_not s.key_allowed n)) (λ _. goes))
+      either (in_flow s) (λ _. goes) (λ o. checked (not s.key_allowed) (At problem.ValueNotAllowed t.held.position) (λ n. not_allowed more e apart i top (sym flow ∙ o) (sym allowed ∙ not-true s.key_allowed n)) (λ _. goes))
 
   keyless_alike : (pair : Bool) (s : Held) → (in_flow (begin_keyless_pair pair s) ≡ in_flow s) × ((begin_keyless_pair pair s).key_allowed ≡ s.key_allowed)
   keyless_alike true s = (refl, refl)
@@ -455,18 +432,14 @@ module _ (text : List ℕ) (t : ScannerState) (a : Arrives text t) (some : is_em
           subst (λ (z : Read Whitespace). Faults (Told text) (if not z.value.has_valid_yaml_ws && ((peek z.rest == 45) || is_alpha (peek z.rest)) then Err (At problem.TabAfterColon z.position) else Ok (go_on z h))) same
           (checked_by (not (is_one_of (leading is_blank more) 32) && ((peek (past_blanks_and_comment more) == 45) || is_alpha (peek (past_blanks_and_comment more)))) (past_line_rest h.position more) _ (λ all.
           let first = and_parts (not (is_one_of (leading is_blank more) 32)) ((peek (past_blanks_and_comment more) == 45) || is_alpha (peek (past_blanks_and_comment more))) all in
-          found (is_not (is_one_of (leading is_blank more) 32) first.0) (letter (past_blanks_and_comment more) first.1)))
+          found (not-true (is_one_of (leading is_blank more) 32) first.0) (letter (past_blanks_and_comment more) first.1)))
 
   value_checked : (more : List ℕ) → t.rest ≡ 58 ∷ more → (u : ScannerState) → u.rest ≡ more → u.held.position ≡ past t.held.position → Faults (Told text) (check_value_space u)
   unfolding check_value_space
   value_checked more e u left place =
       either (peek u.rest == 9) (λ tab. read u.held (space Yes u.rest u.held.position) check_after_tab (λ f k. space_told text Yes u.rest u.held.position (λ h. absurd (not_both u.rest tab h)) f k)
-      (λ x k. tab_checked more e (tab_first more (ap (λ r. peek r == 9) (sym left) ∙ tab)) u.held place x (ap (λ r. space Yes r u.held.position) (sym left) ∙ k))) (λ _. goes)
+      (λ x k. tab_checked more e (sym (begins_here 9 more refl) ∙ (ap (λ r. peek r == 9) (sym left) ∙ tab)) u.held place x (ap (λ r. space Yes r u.held.position) (sym left) ∙ k))) (λ _. goes)
     where
-      tab_first : (r : List ℕ) → (peek r == 9) ≡ true → begins_with 9 r ≡ true
-      tab_first [] h = absurd (cc h)
-      tab_first (c ∷ r) h = h
-
       not_both : (r : List ℕ) → (peek r == 9) ≡ true → begins_with 35 r ≡ true → ⊥
       not_both [] h i = cc h
       not_both (c ∷ r) h i = let first : c ≡ 9 = eqb-true c 9 h in let second : c ≡ 35 = eqb-true c 35 i in omega (arith, first, second)
@@ -515,17 +488,17 @@ module _ (text : List ℕ) (t : ScannerState) (a : Arrives text t) (some : is_em
       followed_at problem.CommentNotSeparated (past u.held.position) (further 1 t.held.position) [] (after u.rest) (ap past h.1)
       (none.glued c more e is (ap (λ r. begins_with 35 (after r)) (sym e) ∙ (ap (λ r. begins_with 35 (after r)) (sym h.0) ∙ k))) (λ d may. ap (λ n. opens c && nat_le 255 n) (sym many_here) ∙ room))
 
-  begun_here : (kind : FlowLevel) → Holds (λ s. (s.position ≡ t.held.position) × (nat_le 255 (length t.held.flow) ≡ false)) (begin_flow kind t.held)
+  begun_here : (kind : Collection) → Holds (λ s. (s.position ≡ t.held.position) × (nat_le 255 (length t.held.flow) ≡ false)) (begin_flow kind t.held)
   unfolding begin_flow increase_flow_level
   begun_here kind =
-      subst (λ s. Holds (λ v. (v.position ≡ t.held.position) × (nat_le 255 (length t.held.flow) ≡ false)) (deepened_flow (if nat_le 255 (length s.flow) then Err (At problem.FlowTooDeep s.position) else Ok (record s { keys = None ∷ s.keys; flow = kind ∷ s.flow }))))
+      subst (λ s. Holds (λ v. (v.position ≡ t.held.position) × (nat_le 255 (length t.held.flow) ≡ false)) (deepened_flow (if nat_le 255 (length s.flow) then Err (At problem.FlowTooDeep s.position) else Ok (record s { keys = None ∷ s.keys; flow = flow_level kind ∷ s.flow }))))
       (sym (ap roll_one_col_indent (saved_is t.held) ∙ rolled_one_is (record t.held { keys = saved_keys t.held })))
       (by (nat_le 255 (length t.held.flow)) rolled refl refl)
     where
       rolled : Held
       rolled = record t.held { keys = saved_keys t.held; indents = one_indents (record t.held { keys = saved_keys t.held }); indent = one_indent (record t.held { keys = saved_keys t.held }) }
 
-      by : (b : Bool) (s : Held) → nat_le 255 (length t.held.flow) ≡ b → s.position ≡ t.held.position → Holds (λ v. (v.position ≡ t.held.position) × (nat_le 255 (length t.held.flow) ≡ false)) (deepened_flow (if b then Err (At problem.FlowTooDeep s.position) else Ok (record s { keys = None ∷ s.keys; flow = kind ∷ s.flow })))
+      by : (b : Bool) (s : Held) → nat_le 255 (length t.held.flow) ≡ b → s.position ≡ t.held.position → Holds (λ v. (v.position ≡ t.held.position) × (nat_le 255 (length t.held.flow) ≡ false)) (deepened_flow (if b then Err (At problem.FlowTooDeep s.position) else Ok (record s { keys = None ∷ s.keys; flow = flow_level kind ∷ s.flow })))
       by true s many e = holds.refused
       by false s many e = holds.went (e, many)
 
@@ -536,26 +509,22 @@ module _ (text : List ℕ) (t : ScannerState) (a : Arrives text t) (some : is_em
   deepened_told (fault p) = fault p
   deepened_told goes = goes
 
-  flow_begun : (kind : FlowLevel) (bracket : ℕ) (more : List ℕ) → t.rest ≡ bracket ∷ more → (bracket ≡ 91) ⊎ (bracket ≡ 123) → Faults (Told text) (begin_flow kind t.held)
+  flow_begun : (kind : Collection) (bracket : ℕ) (more : List ℕ) → t.rest ≡ bracket ∷ more → (bracket ≡ 91) ⊎ (bracket ≡ 123) → Faults (Told text) (begin_flow kind t.held)
   unfolding begin_flow increase_flow_level
   flow_begun kind bracket more e is =
-      subst (λ s. Faults (Told text) (deepened_flow (if nat_le 255 (length s.flow) then Err (At problem.FlowTooDeep s.position) else Ok (record s { keys = None ∷ s.keys; flow = kind ∷ s.flow }))))
+      subst (λ s. Faults (Told text) (deepened_flow (if nat_le 255 (length s.flow) then Err (At problem.FlowTooDeep s.position) else Ok (record s { keys = None ∷ s.keys; flow = flow_level kind ∷ s.flow }))))
       (sym (ap roll_one_col_indent (saved_is t.held) ∙ rolled_one_is (record t.held { keys = saved_keys t.held })))
       (deepened_told (checked (nat_le 255 (length t.held.flow)) (At problem.FlowTooDeep t.held.position) (λ full _.
       stuck text t a some [] problem.FlowTooDeep t.held.position (λ c may.
       let room : 255 ≤ length t.held.flow = grind (arith, nat_tests, full) in
       record { fails = may_not_stand (defs.too_deep bracket more e is (omega (arith, many_here, room))); is_first = looked_at text t a some lies c [] })) (λ _. goes)))
 
-  pub opening_told : (kind : FlowLevel) (tok : Tok) (bracket : ℕ) (more : List ℕ) → t.rest ≡ bracket ∷ more → (bracket ≡ 91) ⊎ (bracket ≡ 123) → Faults (Told text) (fetch_flow_collection_start kind tok t)
+  pub opening_told : (kind : Collection) (bracket : ℕ) (more : List ℕ) → t.rest ≡ bracket ∷ more → (bracket ≡ 91) ⊎ (bracket ≡ 123) → Faults (Told text) (fetch_flow_collection_start kind t)
   unfolding fetch_flow_collection_start
-  opening_told kind tok bracket more e is = in_turn (tried t (flow_begun kind bracket more e is)) (λ u i. in_turn (indicator_passed bracket more e (by bracket is) (ap (λ b. opens bracket && b) (room u i) ∙ no_more (opens bracket)) u (is_here (begin_flow kind) u (holds.weakened (λ s k. k.0) (begun_here kind)) i)) (λ v j. goes))
+  opening_told kind bracket more e is = in_turn (tried t (flow_begun kind bracket more e is)) (λ u i. in_turn (indicator_passed bracket more e (by bracket is) (ap (λ b. opens bracket && b) (room u i) ∙ and_false (opens bracket)) u (is_here (begin_flow kind) u (holds.weakened (λ s k. k.0) (begun_here kind)) i)) (λ v j. goes))
     where
       room : (u : ScannerState) → try_held (begin_flow kind) t ≡ Ok u → nat_le 255 (length t.held.flow) ≡ false
       room u i = held_of {P = λ v. nat_le 255 (length t.held.flow) ≡ false} u (holds.tried t (begin_flow kind t.held) (begun_here kind) (λ s k. k.1)) i
-
-      no_more : (b : Bool) → (b && false) ≡ false
-      no_more true = refl
-      no_more false = refl
 
       by : (c : ℕ) → (c ≡ 91) ⊎ (c ≡ 123) → none.is_flow_indicator c ≡ true
       by c (inl h) = rw h refl
@@ -587,9 +556,9 @@ module _ (text : List ℕ) (t : ScannerState) (a : Arrives text t) (some : is_em
       by true = holds.refused
       by false = holds.went (decreased (is_empty (end_pair left.flow left).flow) (end_pair left.flow left) ∙ pair_ended left.flow left)
 
-  pub closing_told : (tok : Tok) (c : ℕ) (more : List ℕ) → t.rest ≡ c ∷ more → (c ≡ 93) ⊎ (c ≡ 125) → Faults (Told text) (fetch_flow_collection_end tok t)
+  pub closing_told : (kind : Collection) (c : ℕ) (more : List ℕ) → t.rest ≡ c ∷ more → (c ≡ 93) ⊎ (c ≡ 125) → Faults (Told text) (fetch_flow_collection_end kind t)
   unfolding fetch_flow_collection_end end_flow
-  closing_told tok c more e is =
+  closing_told kind c more e is =
       in_turn (tried t (ended_told (remove_told text t.held (closing_rowless text t a some c more e (inr is))))) (λ u i. in_turn (indicator_passed c more e (closes c is).0 (ap (λ b. b && nat_le 255 (length t.held.flow)) (closes c is).1) u (is_here end_flow u ended_here i)) (λ v j. goes))
     where
       closes : (c : ℕ) → (c ≡ 93) ⊎ (c ≡ 125) → (none.is_flow_indicator c ≡ true) × (opens c ≡ false)

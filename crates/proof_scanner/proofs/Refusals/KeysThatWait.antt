@@ -1,5 +1,5 @@
 -- A key that must be one waits in each row of the text; and while it waits no line ends. So no row goes on where a beginning has only gone on over a line's end by making no key of it.
-use Rattle.proof_scanner.proofs.Common.{[], Account, account_past, Act, act_of, ap, arith, begins_free_line, begins_separation, BeginsButForKey, blocks_at, Bool, double_quoted, Entry, fails, false, first_account, free, gives_block_scalar, gives_closing, gives_colon, gives_comma, gives_dash, gives_marker, gives_node, gives_nothing, gives_question, has_break, has_no_break, HasRow, if◌then◌else◌, inl, inr, is_empty, is_in_column, is_in_flow, is_marker, is_near, is_separation, is_waiting, IsRowFrom, IsWritten, key_waits, length, LikeEntries, LikeLine, Line, line_past, line_past_separation, List, nat_lt, nat_tests, no_key, no_nul_after, None, not, not_ended, opened, Outside, plain, Position, position_after, position_in_line, previous_by, refl, Row, same_flow, scalar, single_quoted, Site, site_at, Some, spelled, Step, subst, sym, tag_directive, taken, TextsWithARowAreNotStuck, Tok, true, version_directive, waits, ℕ, ◌&&◌, ◌++◌, ◌+◌, ◌<◌, ◌∙◌, ◌∷◌, ◌≡◌, ◌≤◌, ◌⊎◌}
+use Rattle.proof_scanner.proofs.Common.{[], Account, account_past, Act, act_of, ap, arith, begins_free_line, begins_separation, BeginsButForKey, blocks_at, Bool, double_quoted, Entry, fails, false, first_account, free, gives_block_scalar, gives_closing, gives_colon, gives_comma, gives_dash, gives_marker, gives_node, gives_nothing, gives_question, has_break, HasRow, if◌then◌else◌, inl, inr, is_empty, is_in_column, is_in_flow, is_marker, is_near, is_separation, is_waiting, IsRowFrom, IsWritten, key_waits, length, LikeEntries, LikeLine, Line, line_past, line_past_separation, List, nat_lt, nat_tests, no_key, no_nul_after, None, not, not-true, not_ended, opened, Outside, plain, Position, position_after, position_in_line, previous_by, refl, Row, same_flow, scalar, single_quoted, Site, site_at, Some, spelled, Step, subst, sym, tag_directive, taken, TextsWithARowAreNotStuck, Tok, true, version_directive, waits, ℕ, ◌&&◌, ◌++◌, ◌+◌, ◌<◌, ◌∙◌, ◌∷◌, ◌≡◌, ◌≤◌, ◌⊎◌}
 use Rattle.defs_token.specs.Token.{literal, folded}
 use Rattle.proof_scanner.proofs.Sound.Sides.{with_entries}
 use Rattle.proof_scanner.proofs.Refusals.KindsOfPieces.{marker_begins}
@@ -10,6 +10,8 @@ use Rattle.proof_scanner.proofs.Known.Places.{step_here}
 use Rattle.proof_scanner.proofs.Refusals.WaitingKeys.{none_ends, goes_near}
 use Rattle.proof_scanner.proofs.Refusals.NoRows.{failing_places_have_no_row, no_keyless_colon}
 use Rattle.proof_scanner.proofs.Refusals.OtherRows.{Keeps, keeps_on, row_begins}
+use Rattle.proof_row.proofs.CutColumns.{unbroken}
+use Rattle.proof_scanner.proofs.Sound.Arrivals.{not_none}
 
 -- ---- columns
 
@@ -169,15 +171,8 @@ pub record OnLine (q : Position) (s : Site) : Type 0 where
   line_is : s.position.line ≡ q.line
   further : 1 ≤ s.position.col
 
-unbroken_is : (text : List ℕ) → has_break text ≡ false → has_no_break text ≡ true
-unbroken_is text h = by (has_no_break text) h
-  where
-    by : (b : Bool) → not b ≡ false → b ≡ true
-    by true h = refl
-    by false h = absurd (cc h)
-
 stays : (p : Position) (text next : List ℕ) → has_break text ≡ false → ((position_after p text next).line ≡ p.line) × ((position_after p text next).col ≡ p.col + length text)
-stays p text next h = let same = sym (position_in_line p text next (unbroken_is text h)) in (ap (λ (q : Position). q.line) same, ap (λ (q : Position). q.col) same)
+stays p text next h = let same = sym (position_in_line p text next (unbroken text h)) in (ap (λ (q : Position). q.line) same, ap (λ (q : Position). q.col) same)
 
 unmarked_by : (t : Tok) → is_marker (act_of t) ≡ false → (f : List ℕ) → begins_free_line (previous_by t) f ≡ has_break f
 unmarked_by (version_directive major minor) h f = absurd (cc h)
@@ -189,13 +184,9 @@ unmarked_by (scalar literal text) h f = refl
 unmarked_by (scalar folded text) h f = refl
 unmarked_by _ h f = refl
 
-some_length : (piece : List ℕ) → not (is_empty piece) ≡ true → 1 ≤ length piece
-some_length [] h = absurd (cc h)
-some_length (c ∷ piece) h = omega arith
-
 -- after a piece on the line of a key that waits
 line_after : (q here : Position) (piece : List ℕ) (t : Tok) (next : List ℕ) (s : Site) → s.position ≡ position_after here piece next → s.before ≡ previous_by t → here.line ≡ q.line → not (is_empty piece) ≡ true → has_break piece ≡ false → is_marker (act_of t) ≡ false → OnLine q s
-line_after q here piece t next s p b l some none m = let on = stays here piece next none in let many = some_length piece some in let col : s.position.col ≡ here.col + length piece = ap (λ (x : Position). x.col) p ∙ on.1 in record {
+line_after q here piece t next s p b l some none m = let on = stays here piece next none in let many = not_none piece (not-true (is_empty piece) some) in let col : s.position.col ≡ here.col + length piece = ap (λ (x : Position). x.col) p ∙ on.1 in record {
   unmarked = λ f. ap (λ x. begins_free_line x f) b ∙ unmarked_by t m f;
   line_is = ap (λ (x : Position). x.line) p ∙ (on.0 ∙ l);
   further = omega (arith, col, many);

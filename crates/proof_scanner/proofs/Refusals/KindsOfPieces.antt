@@ -1,5 +1,5 @@
 -- The text at a piece says what piece it is; one that stands for the document begins in column 0.
-use Rattle.proof_scanner.proofs.Common.{[], act_of, ap, are_marks, Bool, context_of, dash_marks, Directive, directive_begins, directive_of, document_end, document_start, dot_marks, double_quoted, false, inl, inr, is_adjacent, is_at_gap, is_document_marker, is_marker, IsPiece, IsTagLine, Kind, kind_at, List, None, Option, peek, piece_of, plain, Position, refl, scalar, single_quoted, Some, Style, subst, sym, tag_directive, texts_begin, Tok, true, version_directive, Whole, ℕ, ◌++◌, ◌==◌, ◌||◌, ◌∙◌, ◌∷◌, ◌≡◌, ◌≢◌}
+use Rattle.proof_scanner.proofs.Common.{[], act_of, ap, are_marks, Bool, context_of, dash_marks, Directive, directive_begins, directive_of, document_end, document_start, dot_marks, double_quoted, inl, inr, is_adjacent, is_at_gap, is_document_marker, is_marker, IsPiece, IsTagLine, Kind, kind_at, List, None, Option, or_true, peek, piece_of, plain, Position, scalar, single_quoted, Some, Style, subst, sym, tag_directive, texts_begin, Tok, true, version_directive, Whole, ℕ, ◌++◌, ◌==◌, ◌||◌, ◌∙◌, ◌∷◌, ◌≡◌, ◌≢◌}
 use Rattle.defs_token.specs.Account.{Account as PieceAccount, is_in_flow, Account}
 use Rattle.proof_row.specs.Ends.{kind_of}
 use Rattle.defs_token.specs.Token.{literal, folded}
@@ -15,12 +15,8 @@ pub record BeginsLine (col : ℕ) (text : List ℕ) : Type 0 where
 directive_line : (p x : List ℕ) (d : Directive) → directive_of p ≡ Some d → begins_document (p ++ x) ≡ true
 directive_line p x d e = let b = directive_begins p d e in ap (λ z. begins_document (z ++ x)) b.1
 
-or_yes : (b : Bool) → (b || true) ≡ true
-or_yes true = refl
-or_yes false = refl
-
 marker_line : (c : ℕ) (x : List ℕ) → are_marks c c c ≡ true → is_at_gap x ≡ true → begins_document (c ∷ c ∷ c ∷ x) ≡ true
-marker_line c x m g = rw (m, g) (or_yes (c == 37))
+marker_line c x m g = rw (m, g) (or_true (c == 37))
 
 pub marker_begins : (a : Account) (p x : List ℕ) (f : Option Tok) (m : Position) (t : Tok) → IsPiece a p x f m t → is_marker (act_of t) ≡ true → BeginsLine a.position.col (p ++ x)
 marker_begins a p x f m (version_directive major minor) h k = record { column = h.0.2; text_is = directive_line p x _ h.0.0 }

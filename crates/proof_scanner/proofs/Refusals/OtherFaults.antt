@@ -1,67 +1,21 @@
 -- No text is stuck for a property in the first column before an entry there: each reason is one of another kind of fault.
-use Rattle.proof_scanner.proofs.Common.{Account, At, BlockStyle, Bool, Fails, fails, false, Fault, IsBadEscape, IsDirectiveRefusal, IsFollowed, IsNoDeclaration, IsNoHeader, IsNoVersion, IsQuotedFault, IsStuck, IsTagRefusal, key_waits, List, may_not_stand, MayNotStand, no_character, no_key, no_octet, NoPiece, Position, Problem, problem_of, refl, true, UriFault, wrong_lead, wrong_trail, ℕ, ◌≡◌}
-use Rattle.proof_lexers.specs.DirectiveEnds as directives
+use Rattle.proof_scanner.proofs.Common.{Account, At, BlockStyle, Bool, Fails, fails, false, Fault, IsBadEscape, IsFollowed, IsNoHeader, IsQuotedFault, IsStuck, key_waits, List, may_not_stand, MayNotStand, no_key, NoPiece, Position, Problem, refl, ℕ, ◌≡◌}
 use Rattle.proof_lexers.specs.QuotedEnds as quoted_ends
-use Rattle.proof_lexers.specs.TagEnds as tag_ends
-use Rattle.yaml_tokens.specs.declared.problem.Problem.TheVariants as problem
+use Rattle.proof_scanner.proofs.Cut.Faults.Reasons.{is_margin_fault, line_neither, tag_neither}
 use Rattle.proof_scanner.specs.Failing as failing
 use Rattle.proof_scanner.specs.NoPiece as none
 use Rattle.proof_scanner.specs.QuotedLines as lines
-
--- whether a fault is that one
-abbrev is_margin_fault : Fault → Bool
-is_margin_fault (At problem.AnchorIndentation p) = true
-is_margin_fault _ = false
 
 abbrev pub Other : Fault → Type 0
 Other f = is_margin_fault f ≡ false
 
 -- ---- texts
 
-octets_other : (f : UriFault) (p : Position) → Other (At (problem_of f) p)
-octets_other no_octet p = refl
-octets_other wrong_lead p = refl
-octets_other wrong_trail p = refl
-octets_other no_character p = refl
-
-tag_other : (in_flow : Bool) (text : List ℕ) (why : Problem) (p : Position) → IsTagRefusal in_flow text why → Other (At why p)
-tag_other in_flow text why p (tag_ends.verbatim_octets rest f cut e) = octets_other f p
-tag_other in_flow text why p (tag_ends.unclosed rest uri cut is lacks) = refl
-tag_other in_flow text why p (tag_ends.verbatim_goes_on rest uri more cut is ends follows) = refl
-tag_other in_flow text why p (tag_ends.suffix_octets name rest f cut are e) = octets_other f p
-tag_other in_flow text why p (tag_ends.no_suffix name rest cut are lacks) = refl
-tag_other in_flow text why p (tag_ends.suffix_goes_on name rest suffix cut are has is follows) = refl
-tag_other in_flow text why p (tag_ends.local_octets f plainly none e) = octets_other f p
-tag_other in_flow text why p (tag_ends.local_goes_on suffix plainly none is follows) = refl
-
 escape_other : (text : List ℕ) (why : Problem) (p : Position) → IsBadEscape text why → Other (At why p)
 escape_other text why p quoted_ends.ends = refl
 escape_other text why p (quoted_ends.unknown c r i j k) = refl
 escape_other text why p (quoted_ends.no_digit c digits r i j k) = refl
 escape_other text why p (quoted_ends.no_character c digits code r i j k l) = refl
-
-version_other : (text : List ℕ) (why : Problem) (p : Position) → IsNoVersion text why → Other (At why p)
-version_other text why p (directives.no_major e) = refl
-version_other text why p (directives.long_major e) = refl
-version_other text why p (directives.no_point major is e) = refl
-version_other text why p (directives.no_minor major r is e f) = refl
-version_other text why p (directives.long_minor major r is e f) = refl
-
-declaration_other : (text : List ℕ) (why : Problem) (p : Position) → IsNoDeclaration text why → Other (At why p)
-declaration_other text why p (directives.no_mark e) = refl
-declaration_other text why p (directives.open_name c name rest e f g) = refl
-declaration_other text why p (directives.no_prefix is e) = refl
-declaration_other text why p (directives.by_octets f is begins e) = octets_other f p
-declaration_other text why p (directives.goes_on prefix is begins e f) = refl
-
-directive_other : (p : Position) (line : List ℕ) (f : Fault) → IsDirectiveRefusal p line f → Other f
-directive_other p line f (directives.no_name e) = refl
-directive_other p line f (directives.by_name some e) = refl
-directive_other p line f (directives.by_version why e r) = version_other _ why _ r
-directive_other p line f (directives.by_declaration why e r) = declaration_other _ why _ r
-directive_other p line f (directives.by_comment before rest e g) = refl
-directive_other p line f (directives.after_version rest e g h) = refl
-directive_other p line f (directives.after_declaration rest e g) = refl
 
 -- ---- places
 
@@ -75,12 +29,12 @@ none_other in_flow here rest why at (none.percent more e col) = refl
 none_other in_flow here rest why at (none.at_sign more e) = refl
 none_other in_flow here rest why at (none.backtick more e) = refl
 none_other in_flow here rest why at (none.nameless is_alias more e lacks) = refl
-none_other in_flow here rest why at (none.tagless more reason e r) = tag_other in_flow more reason at r
+none_other in_flow here rest why at (none.tagless more reason e r) = (tag_neither in_flow more reason at r).1
 none_other in_flow here rest why at (none.unquoted single more reason e lacks (none.by_marker body after cut has marks)) = refl
 none_other in_flow here rest why at (none.unquoted single more reason e lacks (none.by_end has)) = refl
 none_other in_flow here rest why at (none.unquoted single more reason e lacks (none.by_escape body after bad double cut has r)) = escape_other after bad at r
 none_other in_flow here rest why at (none.headless style line after reason place out e one ends lacks n) = header_other style here line reason place n
-none_other in_flow here rest why at (none.undirected line next reason place col e one ends lacks r) = directive_other here line (At reason place) r
+none_other in_flow here rest why at (none.undirected line next reason place col e one ends lacks r) = (line_neither here line (At reason place) r).1
 
 followed_other : (in_flow : Bool) (here : Position) (rest : List ℕ) (why : Problem) (at : Position) → IsFollowed in_flow here rest why at → Other (At why at)
 followed_other in_flow here rest why at (none.glued c more e is begins) = refl

@@ -1,5 +1,5 @@
 -- Faults on the way to the next token, from a state between two fetches.
-use Rattle.proof_scanner.proofs.Common.{[], and_parts, another, ap, append-nil, append_assoc, arith, At, Begins, begins_separation, begins_white, BeginsButForKey, block_scalar, Bool, chained, chosen, directive, drop_stale, either, eqb-true, Err, fails, false, Fault, fetch, fetch_here, fetch_next, flow_collection, follows_plain, HasNoTabs, Held, Holds, if◌then◌else◌, in_flow, inl, inr, is_at_comment_or_end, is_blank, is_break, is_empty, is_far, is_indented_by_spaces, is_one_of, is_overdue, is_renewed, is_separation, IsPlace, IsReadOn, IsStuck, Key, key_waits, List, list_any, map, may_not_stand, MayChoose, nat_lt, nat_tests, None, not, Ok, on_held, Option, outside_key, plain_scalar, Position, position_after, position_append, Previous, quoted_scalar, refl, refused, Result, ScannerState, skip_to_next_token, Some, stale, Stands, still, subst, sym, top_key, tried, true, unroll_indent, went, ℕ, ◌++◌, ◌+◌, ◌<◌, ◌==◌, ◌||◌, ◌∙◌, ◌∷◌, ◌≡◌}
+use Rattle.proof_scanner.proofs.Common.{[], and_parts, another, ap, append-nil, append_assoc, arith, At, Begins, begins_separation, begins_white, BeginsButForKey, block_scalar, Bool, chained, chosen, directive, drop_stale, either, eqb-true, Err, fails, false, Fault, fetch, fetch_here, fetch_next, flow_collection, follows_plain, HasNoTabs, Held, Holds, if◌then◌else◌, in_flow, inl, inr, is_at_comment_or_end, is_blank, is_break, is_empty, is_far, is_indented_by_spaces, is_one_of, is_overdue, is_renewed, is_separation, IsPlace, IsReadOn, IsStuck, Key, key_waits, List, list_any, map, may_not_stand, MayChoose, nat_lt, nat_tests, None, not, Ok, on_held, Option, or_right, outside_key, plain_scalar, Position, position_after, position_append, Previous, quoted_scalar, refl, refused, Result, ScannerState, skip_to_next_token, Some, stale, Stands, still, subst, sym, top_key, tried, true, unroll_indent, went, ℕ, ◌++◌, ◌+◌, ◌<◌, ◌==◌, ◌||◌, ◌∙◌, ◌∷◌, ◌≡◌}
 use Rattle.yaml_tokens.specs.declared.problem.Problem.TheVariants as problem
 use Rattle.model_scanner.specs.Keys.{with_keys}
 use Rattle.proof_scanner.proofs.Cut.Pieces.Separations.{separation_append}
@@ -54,10 +54,6 @@ fetch_near t started = either t.held.started (λ _. next_near t) (λ n. absurd (
 
 -- ---- TABs
 
-or_last : (x y : Bool) → y ≡ true → (x || y) ≡ true
-or_last true y e = refl
-or_last false y e = e
-
 -- content begins no comment, and does not end a line
 at_content : (r : List ℕ) → is_empty r ≡ false → begins_separation r ≡ false → is_at_comment_or_end r ≡ true → ⊥
 at_content [] some solid h = cc some
@@ -98,7 +94,7 @@ module _ (text : List ℕ) (t : ScannerState) (s : Stands text t) (near : HasNea
         where
           hash : (f p : List ℕ) → is_one_of (f ++ 35 ∷ p) 35 ≡ true
           hash [] p = refl
-          hash (c ∷ f) p = or_last (35 == c) _ (hash f p)
+          hash (c ∷ f) p = or_right (35 == c) _ (hash f p)
 
           comment : (passed : List ℕ) → t.rest ≡ passed ++ d.rest → is_separation false passed d.rest ≡ true → begins_white t.rest ≡ false → is_indented_by_spaces s.base.site.before s.base.site.blocks s.base.site.awaits (s.separation ++ passed) ≡ false → is_one_of (s.separation ++ passed) 35 ≡ true
           comment [] e fills white tab = absurd (none_there s.has_no_tabs)

@@ -1,5 +1,5 @@
 -- What a row's piece at a place is, by the text there; and texts with which no piece begins.
-use Rattle.proof_scanner.proofs.Common.{[], Account, act_of, alias_name, all_of, and_parts, ap, arith, block_entry, Bool, context_of, dash, Directive, directive_line, directive_token, Entry, false, flow_mapping_start, flow_sequence_start, goes_on_with_name, inl, inr, is_adjacent, is_anchor_name, is_at_gap, is_blank, is_blank_or_end, is_break, is_empty, is_flow, is_in_flow, is_marker, is_name, is_nul, IsPiece, kind_at, length, level_of, LikeEntries, List, map, mapping_opening, nat_lt, nat_tests, None, not, not_empty, Position, refl, reserved, seen, sequence_opening, shown_position, subst, suc, sym, tag_declaration, true, version, Whole, ℕ, ◌++◌, ◌==◌, ◌∙◌, ◌∷◌, ◌≡◌, ◌≤◌, ◌⊎◌}
+use Rattle.proof_scanner.proofs.Common.{[], Account, act_of, alias_name, all_of, and_parts, ap, arith, block_entry, Bool, context_of, dash, Directive, directive_line, directive_token, Entry, false, flow_mapping_start, flow_sequence_start, goes_on_with_name, inl, inr, is_adjacent, is_anchor_name, is_at_gap, is_blank, is_blank_or_end, is_break, is_empty, is_flow, is_in_flow, is_marker, is_name, is_nul, IsPiece, kind_at, length, level_of, LikeEntries, List, mapping_opening, nat_lt, nat_tests, None, not, not_empty, Position, refl, reserved, seen, sequence_opening, shown_position, subst, suc, sym, tag_declaration, true, version, Whole, ℕ, ◌++◌, ◌==◌, ◌∙◌, ◌∷◌, ◌≡◌, ◌≤◌, ◌⊎◌}
 use Rattle.defs_token.specs.Account as pieces
 use Rattle.proof_row.specs.Ends.{anchor_name}
 use Rattle.proof_row.proofs.Written as written
@@ -7,6 +7,7 @@ use Rattle.proof_scanner.proofs.Refusals.KindsOfPieces.{marker_begins}
 use Rattle.proof_scanner.proofs.Refusals.KindsOfPieces.{kind_is}
 use Rattle.proof_scanner.specs.NoPiece as none
 use Rattle.proof_scanner.proofs.Refusals.OtherRows.{StepAt}
+use Rattle.std.proofs.lemmas.List.{length-map}
 
 -- entries that are alike are as many
 pub many_alike : (ds es : List Entry) → LikeEntries ds es → length ds ≡ length es
@@ -14,10 +15,6 @@ many_alike [] [] h = refl
 many_alike [] (e ∷ es) h = absurd h
 many_alike (d ∷ ds) [] h = absurd h
 many_alike (d ∷ ds) (e ∷ es) h = ap suc (many_alike ds es h.1)
-
-many_levels : (es : List Entry) → length (map level_of es) ≡ length es
-many_levels [] = refl
-many_levels (e ∷ es) = ap suc (many_levels es)
 
 module _ (a : Account) (separation rest : List ℕ) (here : Position) (s : StepAt a separation rest here) where
   abbrev pub next : List ℕ
@@ -42,7 +39,7 @@ module _ (a : Account) (separation rest : List ℕ) (here : Position) (s : StepA
   whole_by c more e = kind_is (kind_at (pieces.is_in_flow acct) (is_adjacent acct.before) acct.position.col (c ∷ more)) acct s.step.piece next (c ∷ more) spot s.step.shown (not_empty s.step.piece s.is_written.1.0) is_piece (s.text_is ∙ e) refl
 
   levels_are : length acct.levels ≡ length a.entries
-  levels_are = many_levels s.account.entries ∙ sym (many_alike a.entries s.account.entries s.is_like.2)
+  levels_are = length-map s.account.entries level_of ∙ sym (many_alike a.entries s.account.entries s.is_like.2)
 
   pub no_at_sign : (more : List ℕ) → rest ≡ 64 ∷ more → ⊥
   unfolding is_blank_or_end is_blank is_break is_nul is_flow

@@ -1,27 +1,25 @@
 -- Where a piece may not stand at its column, or before what follows it, no row of the text goes on.
-use Rattle.proof_scanner.proofs.Common.{[], Account, act_of, after, and_parts, ap, are_empty, arith, begins_document_at, begins_entry, begins_separation, begins_with, begins_with_alpha, block_entry, block_may_end, block_position, block_read, BlockRead, blocks_at, BlockStyle, Bool, colon_may_precede, content_position, dash_may_precede, document_end, double_quoted, Entry, eqb-true, false, folded, gives_block_scalar, gives_marker, gives_node, GoesOn, has, has_no_nul, if◌then◌else◌, innermost, innermost_column, is_alpha, is_at_end, is_at_gap, is_at_line_end, is_blank, is_blank_or_end, is_blanks, is_break, is_decimal_digit, is_deep_enough, is_document_marker, is_empty, is_in_flow, is_letter, is_marker, is_nul, is_one_of, is_separation, is_white, IsPiece, IsQuoted, IsWritten, leading, leading_spaces, least_column, least_for, level_of, line_is_done, lines_may_end, List, literal, map, may_precede, may_stand, nat_le, nat_lt, nat_tests, None, not, Option, Position, position_after, quoted_may_end, read_may_end, refl, same_flow, same_piece, scalar, seen, shown_position, single_quoted, Site, site_at, site_at_place, site_in, Some, split, Step, sym, tab, Tok, true, value, ℕ, ◌&&◌, ◌++◌, ◌==◌, ◌||◌, ◌∙◌, ◌∷◌, ◌≡◌, ◌≤◌}
+use Rattle.proof_scanner.proofs.Common.{[], Account, act_of, after, and_parts, ap, are_empty, arith, begins_document_at, begins_entry, begins_separation, begins_with, begins_with_alpha, block_entry, block_may_end, block_position, block_read, BlockRead, blocks_at, BlockStyle, Bool, colon_may_precede, content_position, dash_may_precede, document_end, double_quoted, Entry, eqb-true, false, folded, gives_block_scalar, gives_marker, gives_node, GoesOn, has, has_no_nul, if◌then◌else◌, innermost, innermost_column, is_alpha, is_at_end, is_at_gap, is_at_line_end, is_blank, is_blank_or_end, is_blanks, is_break, is_decimal_digit, is_deep_enough, is_document_marker, is_empty, is_in_flow, is_letter, is_marker, is_nul, is_one_of, is_separation, is_white, IsPiece, IsQuoted, IsWritten, leading, leading_spaces, least_column, least_for, level_of, line_is_done, lines_may_end, List, literal, map, may_precede, may_stand, nat_le, nat_lt, nat_tests, None, not, Option, or_left, or_true, Position, position_after, quoted_may_end, read_may_end, refl, same_flow, same_piece, scalar, seen, shown_position, single_quoted, Site, site_at, site_at_place, site_in, Some, split, Step, sym, tab, Tok, true, value, ℕ, ◌&&◌, ◌++◌, ◌==◌, ◌||◌, ◌∙◌, ◌∷◌, ◌≡◌, ◌≤◌}
 use Rattle.defs_token.specs.Token as tokens
 use Rattle.proof_scanner.proofs.Refusals.KindsOfPieces.{begins_document, BeginsLine, marker_begins}
 use Rattle.proof_scanner.proofs.Refusals.AfterQuoted.{not_done}
 use Rattle.proof_scanner.proofs.Sound.QuotedEnds.{blanks_alone, after_blanks}
 use Rattle.proof_row.proofs.Written.{At}
 use Rattle.proof_scanner.proofs.Refusals.OtherRows.{StepAt}
+use Rattle.proof_row.proofs.Runs.{neither}
+use Rattle.proof_scanner.proofs.Sound.PlainKeeps.{same_innermost}
 
 pub refused : (x : Option Account) (b : Bool) (y : Account) → b ≡ false → (if b then x else None) ≡ Some y → ⊥
 refused x true y e k = absurd (cc e)
 refused x false y e k = cc k
 
-or_first : (x y : Bool) → x ≡ true → (x || y) ≡ true
-or_first true y e = refl
-or_first false y e = absurd (cc e)
+pub second_fails : (x y z w : Bool) → y ≡ false → (x && y && z && w) ≡ false
+second_fails true y z w e = ap (λ b. b && z && w) e
+second_fails false y z w e = refl
 
 pub and_last : (x y : Bool) → y ≡ false → (x && y) ≡ false
 and_last true y e = e
 and_last false y e = refl
-
-both_false : (x y : Bool) → (x || y) ≡ false → (x ≡ false) × (y ≡ false)
-both_false true y e = absurd (cc e)
-both_false false y e = (refl, e)
 
 leading_blanks : (s : List ℕ) (d : ℕ) (r : List ℕ) → is_blanks s ≡ true → is_blank d ≡ false → leading is_blank (s ++ d ∷ r) ≡ s
 leading_blanks [] d r b f = rw f refl
@@ -31,13 +29,9 @@ tab_among : (l : List ℕ) → has 9 l ≡ true → is_one_of l tab ≡ true
 tab_among [] h = absurd (cc h)
 tab_among (c ∷ l) h = by (c == 9) refl h (λ k. tab_among l k)
   where
-    other : (x : Bool) → (x || true) ≡ true
-    other true = refl
-    other false = refl
-
     by : (b : Bool) → (c == 9) ≡ b → (b || has 9 l) ≡ true → (has 9 l ≡ true → is_one_of l tab ≡ true) → ((tab == c) || is_one_of l tab) ≡ true
     by true e h later = let same : c ≡ 9 = eqb-true c 9 e in rw same refl
-    by false e h later = ap (λ x. (tab == c) || x) (later h) ∙ other (tab == c)
+    by false e h later = ap (λ x. (tab == c) || x) (later h) ∙ or_true (tab == c)
 
 space_among : (l : List ℕ) → has 32 l ≡ false → is_one_of l 32 ≡ false
 space_among [] h = refl
@@ -147,7 +141,7 @@ module _ (a : Account) (separation rest : List ℕ) (here : Position) (s : StepA
   too_shallow t x e f = ap (λ b. b || nat_le (least_for t x) x.position.col) e ∙ (let up = least_at_most t x in grind (arith, nat_tests, up, f))
 
   pub no_shallow : is_in_flow a.entries ≡ true → begins_document_at here rest ≡ false → nat_le (least_column (site_at_place a here).blocks (site_at_place a here).awaits) here.col ≡ false → ⊥
-  no_shallow inside none left = refused _ (may_stand (is_in_flow s.account.entries) s.account.site there s.step.separation s.step.piece s.step.shown next) s.past (stands_not _ _ _ _ deep) s.is_past
+  no_shallow inside none left = refused _ (may_stand (is_in_flow s.account.entries) s.account.site there s.step.separation s.step.piece s.step.shown next) s.past (second_fails _ _ _ _ deep) s.is_past
     where
       inside_there : is_in_flow s.account.entries ≡ true
       inside_there = sym (same_flow a.entries s.account.entries s.is_like.2) ∙ inside
@@ -167,10 +161,6 @@ module _ (a : Account) (separation rest : List ℕ) (here : Position) (s : StepA
 
       deep : is_deep_enough (is_in_flow s.account.entries) s.step.shown there ≡ false
       deep = ap (λ fl. is_deep_enough fl s.step.shown (site_at fl s.account.site s.step.separation s.step.piece s.step.shown next)) inside_there ∙ too_shallow s.step.shown in_flow (no_line none) low
-
-      stands_not : (x y z w : Bool) → y ≡ false → (x && y && z && w) ≡ false
-      stands_not true y z w e = ap (λ b. b && z && w) e
-      stands_not false y z w e = refl
 
   -- ---- a dash
 
@@ -194,7 +184,7 @@ module _ (a : Account) (separation rest : List ℕ) (here : Position) (s : StepA
 
   pub no_tabbed_colon : (more passed content : List ℕ) → rest ≡ 58 ∷ more → begins_with 9 more ≡ true → GoesOn more passed content → has 32 passed ≡ false → begins_with_alpha content ≡ true → ⊥
   no_tabbed_colon more passed content e tab_there on lacks letter =
-      no_step (58 ∷ []) more value e refl (refl, or_first (is_at_gap more) _ (tab_gap more tab_there)) (no_colon_before more passed content tab_there on lacks letter)
+      no_step (58 ∷ []) more value e refl (refl, or_left (is_at_gap more) _ (tab_gap more tab_there)) (no_colon_before more passed content tab_there on lacks letter)
 
   -- ---- the end of a document
 
@@ -205,8 +195,8 @@ module _ (a : Account) (separation rest : List ℕ) (here : Position) (s : StepA
   holds_more : (more passed content : List ℕ) → GoesOn more passed content → is_at_line_end content ≡ false → begins_separation content ≡ false → line_is_done more ≡ false
   holds_more more passed [] on ends solid = absurd (cc ends)
   holds_more more passed (d ∷ r) on ends solid =
-      let white = both_false (is_white d) (d == 35) solid in
-      let blank = both_false (is_blank d) (is_break d) white.0 in
+      let white = neither (is_white d) (d == 35) solid in
+      let blank = neither (is_blank d) (is_break d) white.0 in
       ap line_is_done on.is_text ∙ not_done passed d r (blanks_alone false passed (d ∷ r) on.is_filled on.is_on_line ends).1 blank.1 blank.0 white.1
 
   pub no_document_end : (more passed content : List ℕ) → here.col ≡ 0 → rest ≡ 46 ∷ 46 ∷ 46 ∷ more → is_at_gap more ≡ true → GoesOn more passed content → is_at_line_end content ≡ false → begins_separation content ≡ false → ⊥
@@ -224,10 +214,6 @@ module _ (a : Account) (separation rest : List ℕ) (here : Position) (s : StepA
   no_quoted_end false piece more e is ends = no_step piece more (scalar double_quoted is.0) e (not_nothing _ piece _ is.1.1) (is.1, refl) ends
 
   -- ---- block scalars
-
-  pub innermost_seen : (bs : List ℕ) → innermost_column (map (λ n. Some n) bs) ≡ innermost bs
-  innermost_seen [] = refl
-  innermost_seen (n ∷ bs) = refl
 
   some_piece : (piece header : List ℕ) (lines : List (List ℕ)) → (split piece).complete ≡ header ∷ lines → not (is_empty piece) ≡ true
   some_piece [] header lines e = absurd (cc e)
@@ -262,7 +248,7 @@ module _ (a : Account) (separation rest : List ℕ) (here : Position) (s : StepA
         by x y z e f g = rw (e, f, g) refl
 
     in_style : (style : BlockStyle) → b.style ≡ style → block_read (innermost_column (map (λ n. Some n) going)) piece more ≡ Some (record { style = style; column = b.column; text = b.text })
-    in_style style e = ap (λ o. block_read o piece more) (innermost_seen going) ∙ (read_going ∙ ap (λ st. Some (record { style = st; column = b.column; text = b.text })) e)
+    in_style style e = ap (λ o. block_read o piece more) (same_innermost going) ∙ (read_going ∙ ap (λ st. Some (record { style = st; column = b.column; text = b.text })) e)
 
     shown_at : content_position (block_read (innermost going) piece more) place piece more ≡ block_position b.column place piece more
     shown_at = ap (λ o. content_position o place piece more) read_going

@@ -1,10 +1,11 @@
 -- Where a piece begins, a row of the text may begin with all pieces before it; or a node which must be an implicit key waits there, and its line has ended.
-use Rattle.proof_scanner.proofs.Common.{[], Account, ap, AreAround, AreEntries, arith, Arrives, At, begins_document_at, Bool, chosen, columns, entries_by, Entry, Err, fails, FailsFirst, false, Fault, FlowLevel, followed_first, gives_node, has_open_level, HasRow, if◌then◌else◌, in_flow, is_empty, is_full, is_in_flow, is_taken, is_told, IsFollowed, IsLookedAt, IsNear, IsPlace, IsStuck, Key, key_waits, least_column, least_here, length, List, MayChoose, nat_le, nat_lt, nat_tests, no_piece, no_piece_first, None, NoPiece, not, Ok, Option, OutOfMemory, outside_key, Position, Problem, refl, Row, ScannerState, site_at_place, site_in, Some, subst, suc, sym, true, ℕ, ◌-◌, ◌<◌, ◌||◌, ◌∙◌, ◌∷◌, ◌≡◌}
+use Rattle.proof_scanner.proofs.Common.{[], Account, ap, AreEntries, arith, Arrives, At, begins_document_at, Bool, chosen, columns, entries_by, Entry, Err, fails, FailsFirst, false, Fault, FlowLevel, followed_first, gives_node, has_open_level, HasRow, if◌then◌else◌, in_flow, is_empty, is_full, is_in_flow, is_taken, is_told, IsFollowed, IsLookedAt, IsNear, IsPlace, IsStuck, Key, key_waits, least_column, least_here, length, List, MayChoose, nat_le, nat_lt, nat_tests, no_piece, no_piece_first, None, NoPiece, not, Ok, Option, or_left, or_right, OutOfMemory, outside_key, Position, Problem, refl, Row, ScannerState, site_at_place, site_in, Some, subst, suc, sym, true, ℕ, ◌-◌, ◌<◌, ◌||◌, ◌∙◌, ◌∷◌, ◌≡◌}
 use Rattle.proof_scanner.proofs.Sound.StreamEnds.{same_flow}
 use Rattle.proof_scanner.proofs.Refusals.Faults.{Faults, fault, goes}
 use Rattle.proof_scanner.proofs.Cut.Nodes.{IsDeep}
 use Rattle.proof_scanner.proofs.Sound.QuotedKeeps.{least_is_less}
 use Rattle.proof_scanner.specs.Failing.{followed}
+use Rattle.proof_scanner.proofs.Sound.Arrivals.{many_around}
 
 -- A place where the choice of keys is allowed, or a key that must be one and began on an earlier line.
 pub data Where (k : Option Key) (p : Position) (rest : List ℕ) : Type 0 where
@@ -42,13 +43,6 @@ rowless_told text true why p x e rowless = fault {f = At why p} (λ asked. absur
     by (kind h) = cc (h, e)
     by (with_row r h) = rowless refl r h
 rowless_told text false why p x e rowless = goes
-
-many_around : (fs : List FlowLevel) (ks : List (Option Key)) (es : List Entry) → AreAround fs ks es → length fs ≡ length es
-many_around [] ks [] h = refl
-many_around [] ks (e ∷ es) h = absurd h
-many_around (f ∷ fs) [] es h = absurd h
-many_around (f ∷ fs) (k ∷ ks) [] h = absurd h
-many_around (f ∷ fs) (k ∷ ks) (e ∷ es) h = ap suc (many_around fs ks es h.2)
 
 -- as many flow levels as entries
 pub many_levels : (allowed again : Bool) (fs : List FlowLevel) (ks : List (Option Key)) (es : List Entry) → AreEntries allowed again fs ks es → length fs ≡ length es
@@ -118,17 +112,9 @@ module _ (text : List ℕ) (t : ScannerState) (a : Arrives text t) (some : is_em
       low : IsDeep t.held → nat_le (least_here (account_by text t a some c cs) t.held.position) t.held.position.col ≡ true
       low d = let l = least_by text t a some c cs in grind (arith, nat_tests, l, d)
 
-      or_last : (x y : Bool) → y ≡ true → (x || y) ≡ true
-      or_last true y e = refl
-      or_last false y e = e
-
-      or_first : (x y : Bool) → x ≡ true → (x || y) ≡ true
-      or_first true y e = refl
-      or_first false y e = absurd (cc e)
-
       by : (b : Bool) → begins_document_at t.held.position t.rest ≡ b → (not (is_in_flow (account_by text t a some c cs).entries) || b || nat_le (least_here (account_by text t a some c cs) t.held.position) t.held.position.col) ≡ true
-      by true e = or_first (not (is_in_flow (account_by text t a some c cs).entries) || true) (nat_le (least_here (account_by text t a some c cs) t.held.position) t.held.position.col) (or_last (not (is_in_flow (account_by text t a some c cs).entries)) true refl)
-      by false e = or_last (not (is_in_flow (account_by text t a some c cs).entries) || false) (nat_le (least_here (account_by text t a some c cs) t.held.position) t.held.position.col) (low (deep e))
+      by true e = or_left (not (is_in_flow (account_by text t a some c cs).entries) || true) (nat_le (least_here (account_by text t a some c cs) t.held.position) t.held.position.col) (or_right (not (is_in_flow (account_by text t a some c cs).entries)) true refl)
+      by false e = or_right (not (is_in_flow (account_by text t a some c cs).entries) || false) (nat_le (least_here (account_by text t a some c cs) t.held.position) t.held.position.col) (low (deep e))
 
   -- where no piece begins the text is stuck
   pub none_begins : (why : Problem) (at : Position) (n : NoPiece (in_flow t.held) t.held.position t.rest why at) → no_piece_first (in_flow t.held) (t.held.indent - 1) t.held.position t.rest why at n → IsStuck text why at

@@ -1,5 +1,5 @@
 -- A plain scalar whose further lines fit, and its gap, have no TAB that indents a line.
-use Rattle.proof_scanner.proofs.Common.{[], after_first, and_parts, ap, arith, Bool, ends_with_content, eqb-true, false, has_break, has_tab_within, if◌then◌else◌, inl, inr, is_at_comment_or_end, is_before_line_feed, is_blanks, is_flow, is_gap, is_one_of, is_white, last_line, leading, lines_have_no_tab, List, nat_lt, nat_tests, not, not-true, or-true, plain_lines_fit, refl, same_blank, same_break, split, subst, suc, sym, take, true, zero, ℕ, ◌&&◌, ◌++◌, ◌-◌, ◌<◌, ◌==◌, ◌||◌, ◌∙◌, ◌∷◌, ◌≡◌, ◌⊎◌}
+use Rattle.proof_scanner.proofs.Common.{[], after_first, and_parts, ap, arith, Bool, ends_with_content, eqb-true, false, has_break, has_tab_within, if◌then◌else◌, inl, inr, is_at_comment_or_end, is_before_line_feed, is_blanks, is_gap, is_one_of, is_white, last_line, leading, lines_have_no_tab, List, nat_lt, nat_tests, not, not-true, or-true, or_right, plain_lines_fit, refl, same_blank, same_break, split, subst, suc, sym, take, true, zero, ℕ, ◌&&◌, ◌++◌, ◌-◌, ◌<◌, ◌==◌, ◌||◌, ◌∙◌, ◌∷◌, ◌≡◌, ◌⊎◌}
 use Rattle.defs_text.specs.Classes as classes
 use Rattle.yaml_chars.specs.Class.{is_break, is_blank}
 use Rattle.proof_row.proofs.Runs.{joined}
@@ -98,10 +98,6 @@ module _ (column : ℕ) (c : ℕ) (r : List ℕ) where
           of : (is_blanks (first_line r) ≡ true) ⊎ (has_tab_within (column - k) (c ∷ leading classes.is_blank (first_line r)) ≡ false) → line_is (suc k) column (first_line r) ≡ true
           of (inl i) = rw i refl
           of (inr i) = or_right (is_blanks (first_line r)) (not (has_tab_within (column - suc k) (leading classes.is_blank (first_line r)))) (ap not (blank_less k column c (leading classes.is_blank (first_line r)) i))
-            where
-              or_right : (x y : Bool) → y ≡ true → (x || y) ≡ true
-              or_right true y h = refl
-              or_right false y h = h
       by false false f g = others
 
 pub white_may_go : (x : Spot) (c : ℕ) → (is_break c || is_blank c) ≡ true → may_go x c ≡ true

@@ -1,5 +1,5 @@
 -- Faults of plain scalars.
-use Rattle.proof_scanner.proofs.Common.{[], after_plain, allow_key, ap, arith, Arrives, before_by, before_past, begins_left, begins_separation, Bool, collection_of, columns, comes_plain, Context, context, Err, false, Fault, fetch_plain_scalar, goes_on, goes_over, HasNoPlainFault, HasTab, in_flow, innermost, is_adjacent, is_empty, is_in_flow, is_indented, IsPlainFault, IsPlainRefusal, IsStuck, least_column, lexed, List, nat_le, nat_lt, nat_tests, no_plain, not, Ok, on_held, Option, Plain, plain_first, PlainEndsAs, Position, position_after, Problem, push, Read, refl, Result, ScannerState, scans_end, site_at_place, Style, subst, sym, Tok, true, unroll_non_block_indents, without_open, ℕ, ◌++◌, ◌==◌, ◌||◌, ◌∙◌, ◌∷◌, ◌≡◌}
+use Rattle.proof_scanner.proofs.Common.{[], after_plain, allow_key, ap, arith, Arrives, before_by, before_past, begins_left, Bool, collection_of, columns, comes_plain, Context, context, false, Fault, fetch_plain_scalar, goes_on, goes_over, HasNoPlainFault, HasTab, in_flow, innermost, is_adjacent, is_empty, is_in_flow, IsPlainFault, IsPlainRefusal, IsStuck, least_column, lexed, List, nat_le, nat_lt, nat_tests, no_plain, Ok, on_held, Option, plain_first, Position, position_after, Problem, push, refl, refused_as, ScannerState, scans_end, site_at_place, Style, subst, sym, Tok, true, unroll_non_block_indents, without_open, ℕ, ◌++◌, ◌∙◌, ◌∷◌, ◌≡◌}
 use Rattle.defs_token.specs.Plain.{inside}
 use Rattle.yaml_tokens.specs.declared.problem.Problem.TheVariants as problem
 use Rattle.model_scanner.specs.Plain.{plain}
@@ -10,20 +10,13 @@ use Rattle.proof_scanner.proofs.Sound.WithoutOpen.{AreClosed, without_is}
 use Rattle.proof_scanner.specs.NoPiece as none
 use Rattle.proof_scanner.proofs.Refusals.Faults.{Faults, goes, read}
 use Rattle.proof_scanner.proofs.Refusals.Places.{Told, LiesDeep, account_by, stuck, in_flow_is, blocks_by, looked_at}
+use Rattle.proof_scanner.proofs.Sound.PlainKeeps.{solid_text}
 
 -- ---- texts
 
 over_alike : (c : Context) (collection : Option ℕ) (text next : List ℕ) → collection_of c.indent ≡ collection → plains.goes_over c text next ≡ goes_over c.flow collection text next
 over_alike c collection [] next e = refl
 over_alike c collection (x ∷ r) next e = ap (λ o. goes_on c.flow o inside r next) e
-
-solid_text : (text : List ℕ) → is_empty text ≡ false → begins_separation text ≡ false → plains.begins_solid text ≡ true
-solid_text [] some h = absurd (cc some)
-solid_text (c ∷ r) some h = by (plains.is_white c) h
-  where
-    by : (w : Bool) → (w || (c == 35)) ≡ false → not w ≡ true
-    by true h = absurd (cc h)
-    by false h = refl
 
 -- ---- the scan
 
@@ -88,9 +81,5 @@ module _ (text : List ℕ) (t : ScannerState) (a : Arrives text t) (some : is_em
   plain_told =
       subst (λ h. Faults (Told text) (lexed (plain (context (unroll_non_block_indents (allow_key false h))) t.rest t.held.position) (unroll_non_block_indents (allow_key false h))
       (λ r u. Ok (on_held (λ v. push t.held.position (Tok.scalar Style.plain r.text) (after_plain r.leading v)) u)))) (sym (saved_is t.held))
-      (read (unroll_non_block_indents (allow_key false (record t.held { keys = saved_keys t.held }))) (plain ctx t.rest t.held.position) _ (λ f k. by f (plain ctx t.rest t.held.position) k
-      (scans_end ctx t.rest t.held.position a.is_clean (solid_text t.rest some a.is_solid) (less_or (in_flow t.held) ctx.indent t.held.position.col (omega (arith, deep, closed.not_deeper))))) (λ x k. goes))
-    where
-      by : (f : Fault) (x : Result (Read Plain) Fault) → x ≡ Err f → PlainEndsAs ctx t.held.position t.rest x → Told text f
-      by f x i (plains.reads piece gap rest value cut whole white ends is j) = absurd (cc (i, j))
-      by f x i (plains.refuses g why j) = let same : g ≡ f = cc (i, j) in subst (λ h. Told text h) same (refused g why)
+      (read (unroll_non_block_indents (allow_key false (record t.held { keys = saved_keys t.held }))) (plain ctx t.rest t.held.position) _ (λ f k. refused f (refused_as k
+      (scans_end ctx t.rest t.held.position a.is_clean (solid_text t.rest some a.is_solid) (less_or (in_flow t.held) ctx.indent t.held.position.col (omega (arith, deep, closed.not_deeper)))))) (λ x k. goes))

@@ -1,5 +1,5 @@
 -- Where a plain scalar begins and is none, no row of the text goes on.
-use Rattle.proof_scanner.proofs.Common.{[], Account, act_of, after_blank, and_parts, ap, append_assoc, are_marks, arith, before_by, before_past, begins_flow, begins_plain, begins_token, begins_white, Bool, comes_plain, context_of, dashes, ends_at_colon, ends_at_comment, ends_at_line, ends_plain, ends_separation, ends_with_content, ends_with_dash, eqb-true, false, flow_solid, goes_on, goes_over, has_dash_before_flow, has_no_nul, if◌then◌else◌, inl, innermost, inr, is_adjacent, is_apart, is_at_comment_or_end, is_at_gap, is_blank_or_end, is_blanks, is_deep_enough, is_document_marker, is_flow, is_in_flow, is_indented_by_spaces, is_nul, is_whole_plain, Kind, least_column, List, may_begin, may_precede, nat_le, nat_lt, no_nul_after, not, on_line, Option, past_blank, plain_lines_fit, Position, previous_by, refl, same_blank, same_break, same_flow, scalar, separations_end, Site, site_at_place, site_past, Stand, stand_after, stops, subst, suc, sym, true, Whole, ℕ, ◌&&◌, ◌++◌, ◌==◌, ◌||◌, ◌∙◌, ◌∷◌, ◌≡◌}
+use Rattle.proof_scanner.proofs.Common.{[], Account, act_of, after_blank, and_parts, ap, append_assoc, are_marks, arith, before_by, before_past, begins_flow, begins_plain, begins_token, begins_white, Bool, comes_plain, context_of, dashes, ends_at_colon, ends_at_comment, ends_at_line, ends_plain, ends_separation, ends_with_content, ends_with_dash, eqb-true, false, flow_solid, goes_on, goes_over, has_dash_before_flow, has_no_nul, if◌then◌else◌, inl, innermost, inr, is_adjacent, is_apart, is_at_comment_or_end, is_at_gap, is_blank_or_end, is_blanks, is_deep_enough, is_document_marker, is_flow, is_in_flow, is_indented_by_spaces, is_nul, is_whole_plain, Kind, least_column, List, may_begin, may_precede, nat_le, nat_lt, no_nul_after, not, on_line, Option, or_true, past_blank, plain_lines_fit, Position, previous_by, refl, same_blank, same_break, same_flow, scalar, separations_end, Site, site_at_place, site_past, Stand, stand_after, stops, subst, suc, sym, true, Whole, ℕ, ◌&&◌, ◌++◌, ◌==◌, ◌||◌, ◌∙◌, ◌∷◌, ◌≡◌}
 use Rattle.defs_text.specs.Classes as classes
 use Rattle.defs_token.specs.Account as pieces
 use Rattle.defs_token.specs.Plain.{inside, past}
@@ -15,8 +15,8 @@ use Rattle.proof_scanner.proofs.Refusals.PlainGaps.{stops_after, stand_over, sta
 use Rattle.proof_scanner.proofs.Refusals.PlainTabs.{IsClearGap, plain_tabs}
 use Rattle.proof_scanner.proofs.Refusals.OtherRows.{StepAt, IsClearGapAfter}
 use Rattle.proof_scanner.proofs.Refusals.PiecesHere.{acct, whole_at}
-use Rattle.proof_scanner.proofs.Refusals.PiecesRefused.{innermost_seen}
 use Rattle.proof_scanner.proofs.Refusals.StandsRefused.{node_site_past, flow_is, adjacent_is, node_site, no_depth, no_lines, no_end}
+use Rattle.proof_scanner.proofs.Sound.PlainKeeps.{same_innermost}
 
 -- ---- dashes
 
@@ -48,10 +48,6 @@ flow_stops : (coll : Option ℕ) (s : Stand) (next : List ℕ) → begins_flow n
 flow_stops coll s [] h = refl
 flow_stops coll s (c ∷ r) h = by (classes.is_blank c || classes.is_break c) refl
   where
-    or_true : (b : Bool) → (b || true) ≡ true
-    or_true true = refl
-    or_true false = refl
-
     by : (b : Bool) → (classes.is_blank c || classes.is_break c) ≡ b → (if b then stops true coll (past s c) r else ends_plain true coll s (c ∷ r)) ≡ true
     by true e = absurd (cc (e, flow_solid c h))
     by false e = rw h (or_true (((is_nul c || ends_at_colon true (c ∷ r)) || ends_at_comment s (c ∷ r)) || ends_at_line true coll s (c ∷ r)))
@@ -253,7 +249,7 @@ module _ (a : Account) (separation rest : List ℕ) (here : Position) (s : StepA
   whole =
       ap (λ b. is_whole_plain b (innermost (site_at_place a here).blocks) s.step.piece next) (sym (flow_is a separation rest here s)) ∙
       (ap (λ (x : Site). is_whole_plain (pieces.is_in_flow seen_here) (innermost x.blocks) s.step.piece next) (sym site_is) ∙
-      (ap (λ o. is_whole_plain (pieces.is_in_flow seen_here) o s.step.piece next) (sym (innermost_seen a separation rest here s (At s.account s.step next).blocks)) ∙ plain_here.1.1))
+      (ap (λ o. is_whole_plain (pieces.is_in_flow seen_here) o s.step.piece next) (sym (same_innermost (At s.account s.step next).blocks)) ∙ plain_here.1.1))
 
   -- a dash before a flow indicator
   pub no_dash : (before more : List ℕ) → is_in_flow a.entries ≡ true → rest ≡ before ++ 45 ∷ more → begins_flow more ≡ true → goes_over (is_in_flow a.entries) (innermost (site_at_place a here).blocks) before (45 ∷ more) ≡ true → is_apart (stand_after after_blank before) ≡ true → ⊥

@@ -10,6 +10,7 @@ use Rattle.proof_lexers.proofs.Quoted.Turns as turns
 use Rattle.proof_lexers.proofs.Quoted.Turns.{begins}
 use Rattle.proof_scanner.proofs.Sound.QuotedBreaks.{is_after, Kind, has_content, has_blank, has_line, has_escaped, KindOf, is_white, quote_white, slash_white, kind, fits_from, lines_from, lines_here, to_quote, Breaks, break_goes, escaped_goes, body_between, has_elements, same_limit}
 use Rattle.proof_scanner.proofs.Refusals.QuotedContents.{OnTo, content_goes}
+use Rattle.proof_row.proofs.Runs.{neither}
 
 -- ---- a line from a column on
 
@@ -45,10 +46,6 @@ blank_first k column c holds bs h =
     let tabs = by (column - k) refl (not-true (has_tab_within (column - k) (c ∷ bs)) q.0) in
     (tabs.0, rw (tabs.1, ← more) q.1)
   where
-    both : (x y : Bool) → (x || y) ≡ false → (x ≡ false) × (y ≡ false)
-    both true y e = absurd (cc e)
-    both false y e = (refl, e)
-
     by : (n : ℕ) → column - k ≡ n → has_tab_within n (c ∷ bs) ≡ false → (((c == 9) && nat_lt k column) ≡ false) × (has_tab_within (column - suc k) bs ≡ false)
     by zero e f =
         let none : column - suc k ≡ 0 = omega (arith, e) in
@@ -56,7 +53,7 @@ blank_first k column c holds bs h =
         (rw up (and_false (c == 9)), rw none refl)
     by (suc m) e f =
         let less : column - suc k ≡ m = omega (arith, e) in
-        let g = both _ _ f in
+        let g = neither _ _ f in
         let no_tab : (9 == c) ≡ false = g.0 in
         let swapped : (c == 9) ≡ false = grind (arith, nat_tests, no_tab) in
         (rw swapped refl, rw less g.1)
@@ -69,6 +66,13 @@ blank_lines k column c e (line l escaped ls) h =
     (f.0, rw (f.1, q.1) refl)
 
 -- ---- the scan along the lines
+
+-- the closing quote
+pub closes : (single : Bool) (ctx : Context) (start : Position) (r : List ℕ) (p : Position) (u : Folded) → ends_before single r ≡ true → scan single ctx start (quote_of single ∷ r) inside p u ≡ Ok (record { rest = r; position = past p; value = u.text })
+unfolding is_break is_blank
+closes true ctx start [] p u e = refl
+closes true ctx start (d ∷ r) p u e = let one : (d == 39) ≡ false = not-true (d == 39) e in rw one refl
+closes false ctx start r p u e = closed_end false ctx start r (past p) u
 
 module _ (single : Bool) (ctx : Context) (start : Position) (column : ℕ) (limit : (k : ℕ) → nat_lt (k + 1) ctx.indent ≡ nat_lt k column) (some : 2 ≤ ctx.indent) (r : List ℕ) (ends : ends_before single r ≡ true) where
   -- not refused for its indentation
@@ -180,18 +184,9 @@ module _ (single : Bool) (ctx : Context) (start : Position) (column : ℕ) (limi
 
   -- ---- the closing quote
 
-  closes : (b : Bool) → ends_before b r ≡ true → (p : Position) (u : Folded) → scan b ctx start (quote_of b ∷ r) inside p u ≡ Ok (record { rest = r; position = past p; value = u.text })
-  unfolding is_break is_blank
-  closes true e p u = by r e
-    where
-      by : (r : List ℕ) → ends_before true r ≡ true → scan true ctx start (39 ∷ r) inside p u ≡ Ok (record { rest = r; position = past p; value = u.text })
-      by [] e = refl
-      by (d ∷ r) e = let one : (d == 39) ≡ false = not-true (d == 39) e in rw one refl
-  closes false e p u = closed_end false ctx start r (past p) u
-
   close_clear : (m : Mode) (p : Position) (t : Folded) → Ready single t m → lines_from p.col column (is_after m) (last_line []) ≡ true → Clear (scan single ctx start (quote_of single ∷ r) m p t)
-  close_clear m p t in_gap fit = begun_clear (quote_of single ∷ r) p t (deep_of p.col column fit) (begins single ctx start (quote_of single) r p t (quote_white single)) (clear_read _ _ (closes single ends p (joined t)))
-  close_clear m p t (after_escaped double f g) fit = clear_read _ _ (after_quote single ctx start (quote_of single) (quote_of single ∷ r) p t refl refl ∙ closes single ends p t)
+  close_clear m p t in_gap fit = begun_clear (quote_of single ∷ r) p t (deep_of p.col column fit) (begins single ctx start (quote_of single) r p t (quote_white single)) (clear_read _ _ (closes single ctx start r p (joined t) ends))
+  close_clear m p t (after_escaped double f g) fit = clear_read _ _ (after_quote single ctx start (quote_of single) (quote_of single ∷ r) p t refl refl ∙ closes single ctx start r p t ends)
 
   no_elements : (es : List Element) (m : Mode) (p : Position) (t : Folded) → Some [] ≡ Some es → Ready single t m → lines_from p.col column (is_after m) (lines_of es) ≡ true → Clear (scan single ctx start (quote_of single ∷ r) m p t)
   no_elements es m p t h ready fit = let none : es ≡ [] = cc in close_clear m p t ready (subst (λ z. lines_from p.col column (is_after m) (lines_of z) ≡ true) none fit)

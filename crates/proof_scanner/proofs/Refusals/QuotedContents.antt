@@ -1,6 +1,8 @@
 -- Content of scalars in quotes is read by the scan, character by character.
-use Rattle.proof_scanner.proofs.Common.{[], along, and_false, and_parts, ap, append_assoc, arith, begins_with, Begun, begun, Bool, char_goes, coded, content, Context, digit_turn, digit_value, digits_from, double_quoted_element, drop, Element, element_of, eqb-true, Escape, escape, escape_by, escape_of, escapes, false, Fault, Folded, gap, has_digits, hexadecimal, if◌then◌else◌, inside, inside_is_gap, is_character_code, is_digit, joined, length, List, lookup, marked, moves, named_code, named_goes, nat_lt, nat_tests, None, not, numbered, numeric_escape, numeric_escapes, Option, past, plain_element, Position, quote_goes, quote_of, Read, refl, Result, same_blank, same_break, same_code, same_digit, same_escape, scan, shallow, single_quoted_element, Some, Spelled, subst, suc, sym, take, take-append-drop, true, with_char, zero, ℕ, ◌&&◌, ◌*◌, ◌++◌, ◌+◌, ◌==◌, ◌∙◌, ◌∷◌, ◌≡◌}
+use Rattle.proof_scanner.proofs.Common.{[], along, and_false, and_parts, ap, append_assoc, arith, begins_with, Begun, begun, Bool, char_goes, coded, content, Context, count_of, digit_turn, digit_value, digits_from, digits_of, double_quoted_element, drop, Element, element_of, eqb-true, escape, escape_by, escape_of, escapes, false, Fault, Folded, gap, has_digits, hexadecimal, if◌then◌else◌, inside, inside_is_gap, is_character_code, is_digit, joined, length, List, lookup, marked, moves, named_code, named_goes, nat_lt, nat_tests, None, not, numbered, numeric_escape, numeric_escapes, Option, past, plain_element, Position, quote_goes, quote_of, Read, refl, Result, same_blank, same_break, same_code, same_digit, same_escape, scan, shallow, single_quoted_element, Some, Spelled, subst, suc, sym, take, take-append-drop, true, with_char, zero, ℕ, ◌&&◌, ◌*◌, ◌++◌, ◌+◌, ◌==◌, ◌∙◌, ◌∷◌, ◌≡◌}
 use Rattle.defs_text.specs.Classes as classes
+use Rattle.model_scanner.specs.declared.kind.Digits.{Digits}
+use Rattle.model_scanner.specs.declared.kind.Escape.TheVariants.{Code}
 use Rattle.yaml_chars.specs.Class.{is_break, is_blank}
 use Rattle.proof_lexers.proofs.Quoted.Turns.{plain, spelled, begins}
 use Rattle.proof_lexers.proofs.Quoted.Lines.{IsIn, IsWritten}
@@ -90,44 +92,40 @@ module _ (ctx : Context) (start : Position) where
       by true e more others = digit_turn false ctx start n value c (c ∷ (w ++ a)) (w ++ a) p u (rw (same_digit c) e) refl ∙ others more
       by false e more others = absurd (cc more)
 
-  code_begins : (d n : ℕ) (a text : List ℕ) (p : Position) → is_break d ≡ false → escape_of d ≡ Escape.code n → scan false ctx start (92 ∷ d ∷ a) inside p (plain text) ≡ digits_from false ctx start (suc n) 0 a (past (past p)) (plain text)
+  code_begins : (d : ℕ) (k : Digits) (a text : List ℕ) (p : Position) → is_break d ≡ false → escape_of d ≡ Code k → scan false ctx start (92 ∷ d ∷ a) inside p (plain text) ≡ digits_from false ctx start (count_of k) 0 a (past (past p)) (plain text)
   unfolding is_break is_blank
-  code_begins d n a text p e f = rw e (named_code false ctx start d n (d ∷ a) a (past p) (plain text) f refl)
+  code_begins d k a text p e f = rw e (named_code false ctx start d k (d ∷ a) a (past p) (plain text) f refl)
 
-  code_goes : (d n code : ℕ) (w : List ℕ) → is_break d ≡ false → escape_of d ≡ Escape.code n → (length w == suc n) ≡ true → hexadecimal 0 w ≡ Some code → is_character_code code ≡ true → Goes false ctx start (92 ∷ d ∷ w)
-  code_goes d n code w e f many h valid a text p i =
+  code_goes : (d : ℕ) (k : Digits) (code : ℕ) (w : List ℕ) → is_break d ≡ false → escape_of d ≡ Code k → (length w == count_of k) ≡ true → hexadecimal 0 w ≡ Some code → is_character_code code ≡ true → Goes false ctx start (92 ∷ d ∷ w)
+  code_goes d k code w e f many h valid a text p i =
       let q : Position = along w (past (past p)) in
       let there : IsIn ctx q = moves ctx (92 ∷ d ∷ w) p i in
       record {
         now = plain (text ++ code ∷ []);
-        is = code_begins d n (w ++ a) text p e f ∙ (digits_go (suc n) 0 code w a (past (past p)) (plain text) many h valid ∙ inside_is_gap false ctx start a q (text ++ code ∷ []) (off ctx q there) (deep ctx q there));
+        is = code_begins d k (w ++ a) text p e f ∙ (digits_go (count_of k) 0 code w a (past (past p)) (plain text) many h valid ∙ inside_is_gap false ctx start a q (text ++ code ∷ []) (off ctx q there) (deep ctx q there));
       }
 
   module _ (d : ℕ) (a : List ℕ) (unbroken : is_break d ≡ false) where
-    numeric_goes : (n : ℕ) → escape_of d ≡ Escape.code n → GoesOf false ctx start 92 (d ∷ a) (numeric_escape (suc n) a)
+    numeric_goes : (k : Digits) → escape_of d ≡ Code k → GoesOf false ctx start 92 (d ∷ a) (numeric_escape (count_of k) a)
     unfolding numeric_escape
-    numeric_goes n f = by_many (length (take (suc n) a) == suc n) refl
+    numeric_goes k f = by_many (length (take (count_of k) a) == count_of k) refl
       where
-        by_code : (code : ℕ) (valid : Bool) → is_character_code code ≡ valid → (length (take (suc n) a) == suc n) ≡ true → hexadecimal 0 (take (suc n) a) ≡ Some code →
-            GoesOf false ctx start 92 (d ∷ a) (if valid then Some (spelled (content code) (suc (suc n))) else None)
-        by_code code true v many h = code_goes d n code (take (suc n) a) unbroken f many h v
+        by_code : (code : ℕ) (valid : Bool) → is_character_code code ≡ valid → (length (take (count_of k) a) == count_of k) ≡ true → hexadecimal 0 (take (count_of k) a) ≡ Some code →
+            GoesOf false ctx start 92 (d ∷ a) (if valid then Some (spelled (content code) (suc (count_of k))) else None)
+        by_code code true v many h = code_goes d k code (take (count_of k) a) unbroken f many h v
         by_code code false v many h = tt
 
-        by_number : (o : Option ℕ) → hexadecimal 0 (take (suc n) a) ≡ o → (length (take (suc n) a) == suc n) ≡ true → GoesOf false ctx start 92 (d ∷ a) (numbered (suc n) o)
+        by_number : (o : Option ℕ) → hexadecimal 0 (take (count_of k) a) ≡ o → (length (take (count_of k) a) == count_of k) ≡ true → GoesOf false ctx start 92 (d ∷ a) (numbered (count_of k) o)
         by_number None h many = tt
         by_number (Some code) h many = by_code code (is_character_code code) refl many h
 
-        by_many : (many : Bool) → (length (take (suc n) a) == suc n) ≡ many → GoesOf false ctx start 92 (d ∷ a) (if many then numbered (suc n) (hexadecimal 0 (take (suc n) a)) else None)
-        by_many true m = by_number (hexadecimal 0 (take (suc n) a)) refl m
+        by_many : (many : Bool) → (length (take (count_of k) a) == count_of k) ≡ many → GoesOf false ctx start 92 (d ∷ a) (if many then numbered (count_of k) (hexadecimal 0 (take (count_of k) a)) else None)
+        by_many true m = by_number (hexadecimal 0 (take (count_of k) a)) refl m
         by_many false m = tt
 
     row_goes : (o n : Option ℕ) → lookup d escapes ≡ o → lookup d numeric_escapes ≡ n → GoesOf false ctx start 92 (d ∷ a) (escape_by o n a)
     row_goes (Some code) n e f = by_written false ctx start (92 ∷ d ∷ []) code (named_goes ctx start d code unbroken (same_escape d ∙ rw e refl))
-    row_goes None (Some zero) e f = let z = has_digits d zero f in absurd (none z.0 z.1)
-      where
-        none : (m : ℕ) → zero ≡ suc m → ⊥
-        none m h = omega arith
-    row_goes None (Some (suc n)) e f = numeric_goes n (same_escape d ∙ rw (e, f) refl)
+    row_goes None (Some n) e f = subst (λ m. GoesOf false ctx start 92 (d ∷ a) (numeric_escape m a)) (has_digits d n f) (numeric_goes (digits_of n) (same_escape d ∙ rw (e, f) refl))
     row_goes None None e f = tt
 
   escape_goes : (b : List ℕ) → GoesOf false ctx start 92 b (escape b)

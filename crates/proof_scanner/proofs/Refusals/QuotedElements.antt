@@ -1,10 +1,11 @@
 -- Elements of quoted scalars in their text: where each ends, and whether a document marker begins a line after it.
-use Rattle.proof_scanner.proofs.Common.{[], after_chars, along, along_more, and_false, and_parts, ap, append-nil, arith, begins_solid, begins_with, Bool, break_further, content, digit_value, double_quoted_element, drop, Element, element_of, eqb-true, escape, escape_by, escapes, false, feed_is_no_marker, has_marker, hexadecimal, if◌then◌else◌, in_line_position, is_before_line_feed, is_character_code, is_cr_lf, is_digit, is_in_line, length, line_position, List, lookup, marked_from, nat_tests, None, not, not-true, numbered, numeric_escape, numeric_escapes, Option, past, past_break, plain_element, Position, position_after, position_past, refl, same_blank, same_break, same_feed, single_quoted_element, Some, Spelled, subst, suc, sym, take, true, zero, ℕ, ◌&&◌, ◌*◌, ◌++◌, ◌+◌, ◌==◌, ◌||◌, ◌∙◌, ◌∷◌, ◌≡◌, ◌≤◌}
+use Rattle.proof_scanner.proofs.Common.{[], after_chars, along, along_more, and_false, and_parts, ap, append-nil, arith, begins_solid, begins_with, Bool, break_further, content, digit_value, double_quoted_element, drop, Element, element_of, eqb-true, escape, escape_by, escapes, false, feed_is_no_marker, has_marker, hexadecimal, if◌then◌else◌, in_line_position, is_before_line_feed, is_character_code, is_cr_lf, is_digit, is_in_line, length, line_position, List, lookup, marked_from, nat_tests, None, not, not-true, numbered, numeric_escape, numeric_escapes, Option, past, past_break, past_is, plain_element, Position, position_after, position_past, refl, same_blank, same_break, same_feed, single_quoted_element, Some, Spelled, subst, suc, sym, take, true, zero, ℕ, ◌&&◌, ◌*◌, ◌++◌, ◌+◌, ◌==◌, ◌||◌, ◌∙◌, ◌∷◌, ◌≡◌, ◌≤◌}
 use Rattle.defs_text.specs.Classes as classes
 use Rattle.yaml_chars.specs.Class.{is_break, is_blank}
 use Rattle.proof_lexers.proofs.Quoted.Turns.{spelled}
 use Rattle.proof_scanner.specs.NoPiece.{quote_of}
 use Rattle.proof_scanner.proofs.Sound.QuotedBreaks.{Kind, has_content, has_blank, has_line, has_escaped, KindOf, kind, is_white}
+use Rattle.proof_lexers.proofs.Blocks.Positions.{feed_past}
 
 -- ---- content stands on one line
 
@@ -132,16 +133,9 @@ past_line p c a h e =
     let feeds : is_before_line_feed c a ≡ false = sym (same_feed c a) ∙ e in
     line_position c a p (rw (breaks, feeds) refl)
 
-pub past_char : (p : Position) (c : ℕ) (a : List ℕ) → is_break c ≡ false → position_past p c a ≡ past p
-past_char p c a h = let none : classes.is_break c ≡ false = same_break c ∙ h in in_line_position c a p (rw none refl)
-
 pub past_two : (p : Position) (a : List ℕ) → position_after p (13 ∷ 10 ∷ []) a ≡ past_break (past p)
 unfolding is_break classes.is_break
-past_two p a = ap (λ q. position_past q 10 a) (in_line_position 13 (10 ∷ a) p refl) ∙ past_feed (past p) a
-  where
-    past_feed : (q : Position) (a : List ℕ) → position_past q 10 a ≡ past_break q
-    past_feed q [] = past_line q 10 [] refl refl
-    past_feed q (c ∷ a) = past_line q 10 (c ∷ a) refl refl
+past_two p a = ap (λ q. position_past q 10 a) (in_line_position 13 (10 ∷ a) p refl) ∙ feed_past (past p) a
 
 -- a quote is no break
 quote_no_break : (single : Bool) → is_break (quote_of single) ≡ false
@@ -151,7 +145,7 @@ quote_no_break false = refl
 
 -- the position after an opening quote and some text
 pub after_quote_at : (single : Bool) (p : Position) (body rest : List ℕ) → position_after p (quote_of single ∷ body) rest ≡ position_after (past p) body rest
-after_quote_at single p body rest = ap (λ q. position_after q body rest) (past_char p (quote_of single) (body ++ rest) (quote_no_break single))
+after_quote_at single p body rest = ap (λ q. position_after q body rest) (past_is p (quote_of single) (body ++ rest) (quote_no_break single))
 
 -- ---- breaks
 
@@ -227,7 +221,7 @@ unfolding is_break
 escaped_column c b d a p same_c same_b f =
     ap (λ x. (position_after p (x ∷ take (suc (break_further d a)) b) (drop (suc (break_further d a)) b)).col) same_c ∙
     (ap (λ y. (position_after p (92 ∷ take (suc (break_further d a)) y) (drop (suc (break_further d a)) y)).col) same_b ∙
-    (ap (λ (q : Position). (position_after q (d ∷ take (break_further d a) a) (drop (break_further d a) a)).col) (past_char p 92 (d ∷ (take (break_further d a) a ++ drop (break_further d a) a)) refl) ∙ break_column d a (past p) f))
+    (ap (λ (q : Position). (position_after q (d ∷ take (break_further d a) a) (drop (break_further d a) a)).col) (past_is p 92 (d ∷ (take (break_further d a) a ++ drop (break_further d a) a)) refl) ∙ break_column d a (past p) f))
 
 -- Whether a marker begins a line of a text that begins with an element: one begins a line after it.
 pub marks_after : (single : Bool) (c : ℕ) (b : List ℕ) (e : Spelled) → (is : element_of single c b ≡ Some e) → (p : Position) (body rest : List ℕ) → has_marker (c ∷ (take e.further b ++ body)) rest ≡ marked_from (after_it single c b e is p).col body rest
@@ -245,7 +239,7 @@ marks_after single c b e is p body rest = by e is (kind_of single c b e is)
         let q = content_after single c b code k is p in
         within (c ∷ take k b) _ (content_in_line single c b code k is) (ap (λ (z : Position). z.col == 0) q ∙ off_margin p.col (along (c ∷ take k b) p).col (along_more (take k b) (past p)))
     by e is (has_blank f g) =
-        within (c ∷ []) _ (rw (same_break c, f) refl) (ap (λ (z : Position). z.col == 0) (past_char p c b f) ∙ off_margin p.col (p.col + 1) (omega arith))
+        within (c ∷ []) _ (rw (same_break c, f) refl) (ap (λ (z : Position). z.col == 0) (past_is p c b f) ∙ off_margin p.col (p.col + 1) (omega arith))
     by e is (has_line f) = at_margin _ _ (break_column c b p f) (break_marks c b body rest f)
     by e is (has_escaped d a double same_c same_b f) =
         at_margin _ _ (escaped_column c b d a p same_c same_b f)

@@ -1,5 +1,5 @@
 -- The scan of a quoted scalar reads one, or refuses the text for what is wrong with it first.
-use Rattle.proof_scanner.proofs.Common.{[], after_element, after_escaped, after_gap, after_quote, along, along_more, and_false, and_parts, ap, append-nil, arith, At, at_start, begins_further, begins_marked, begins_with, Begun, begun, blank, Bool, break_further, closed_end, content, Context, drop, Element, element_of, ends_before, eqb-true, Err, escape, escaped_break, false, Fault, feed_is_no_marker, first_is_gap, Folded, gap, if◌then◌else◌, in_gap, inside, is_document_marker, is_marked, is_some, joined, line_break, LineStand, List, list_all, marked, Mode, nat_lt, nat_tests, None, not, not-true, nothing, off_margin, Ok, Option, OutOfMemory, past, past_break, past_element, past_escaped, Position, position_after, position_past, Problem, quoted, Read, refl, Result, scan, shallow, slice_index, Some, Spelled, step, StepOf, steps, subst, suc, sym, take, true, white_stands, with_break, with_escaped_break, within, zero, ℕ, ◌&&◌, ◌+◌, ◌==◌, ◌∙◌, ◌∷◌, ◌≡◌, ◌≤◌}
+use Rattle.proof_scanner.proofs.Common.{[], after_element, after_escaped, after_gap, after_quote, along, along_more, and_false, and_parts, ap, append-nil, arith, At, at_start, begins_further, begins_marked, begins_with, Begun, begun, blank, Bool, break_further, content, Context, drop, Element, element_of, ends_before, eqb-true, Err, escape, escaped_break, false, Fault, first_is_gap, Folded, gap, if◌then◌else◌, in_gap, inside, is_document_marker, is_marked, is_some, joined, line_break, LineStand, List, list_all, marked, Mode, nat_lt, nat_tests, None, not, not-true, nothing, off_margin, Ok, Option, OutOfMemory, past, past_break, past_element, past_escaped, past_is, Position, position_after, position_past, Problem, quoted, Read, refl, Result, scan, shallow, slice_index, Some, Spelled, step, StepOf, steps, subst, suc, sym, take, true, white_stands, with_break, with_escaped_break, within, zero, ℕ, ◌&&◌, ◌+◌, ◌==◌, ◌∙◌, ◌∷◌, ◌≡◌, ◌≤◌}
 use Rattle.yaml_chars.specs.Class.{is_break, is_blank}
 use Rattle.yaml_tokens.specs.declared.problem.Problem.TheVariants as problem
 use Rattle.model_scanner.specs.Quoted.{after}
@@ -9,9 +9,12 @@ use Rattle.proof_lexers.proofs.Quoted.Shapes.{NoElement, closing, slash, no_elem
 use Rattle.proof_lexers.proofs.Quoted.Turns.{spelled, begins, Step, is_shallow}
 use Rattle.proof_scanner.proofs.Sound.QuotedBreaks.{Kind, has_content, has_blank, has_line, has_escaped, is_white, quote_white, slash_white}
 use Rattle.proof_scanner.specs.NoPiece.{quote_of}
-use Rattle.proof_scanner.proofs.Refusals.QuotedElements.{no_quote, solid_here, past_line, past_char, past_two, after_it, kind_of, content_after}
+use Rattle.proof_scanner.proofs.Refusals.QuotedElements.{no_quote, solid_here, past_line, past_two, after_it, kind_of, content_after}
 use Rattle.proof_scanner.proofs.Refusals.QuotedReasons as reasons
 use Rattle.proof_scanner.proofs.Refusals.QuotedReasons.{stands, all_stand, Place, by_end, by_escape, by_column, by_tab, Reason, other, grown}
+use Rattle.model_scanner.proofs.PlainLemmas.{break_leads}
+use Rattle.proof_row.proofs.Columns.{further_is_no_break}
+use Rattle.proof_scanner.proofs.Refusals.QuotedBodies.{closes}
 
 -- the faults of further lines
 abbrev pub is_of_lines : Fault → Bool
@@ -21,15 +24,6 @@ is_of_lines (At problem.TabAsIndentation p) = true
 is_of_lines (At _ p) = false
 
 -- ---- texts
-
--- a document marker begins with no line feed
-pub marker_no_feed : (r : List ℕ) → is_document_marker r ≡ true → begins_with 10 r ≡ false
-marker_no_feed [] h = refl
-marker_no_feed (c ∷ r) h = by (c == 10) refl
-  where
-    by : (feed : Bool) → (c == 10) ≡ feed → (c == 10) ≡ false
-    by true e = let same : c ≡ 10 = eqb-true c 10 e in absurd (cc (feed_is_no_marker r, ap (λ x. is_document_marker (x ∷ r)) same, h))
-    by false e = e
 
 -- nor does what is neither blank nor break
 solid_no_feed : (c : ℕ) → is_white c ≡ false → (c == 10) ≡ false
@@ -79,7 +73,7 @@ module _ (single : Bool) (ctx : Context) (start : Position) (least : ℕ) (limit
   marked_here : (s : LineStand) (p : Position) (text : List ℕ) → ((p.col == 0) && is_document_marker text) ≡ true → Why s p text problem.QuotedDocumentMarker start
   marked_here s p text h =
       let marker : is_document_marker text ≡ true = (and_parts (p.col == 0) (is_document_marker text) h).1 in
-      reasons.marked (record { body = []; rest = text; es = []; is_text = refl; are = refl; no_feed = marker_no_feed text marker; fits = refl }) marker (rw h refl)
+      reasons.marked (record { body = []; rest = text; es = []; is_text = refl; are = refl; no_feed = further_is_no_break 0 text marker; fits = refl }) marker (rw h refl)
 
   -- ---- a line begins or goes on
 
@@ -165,7 +159,7 @@ module _ (single : Bool) (ctx : Context) (start : Position) (least : ℕ) (limit
       none = white_stands single ctx start c b p.col (rw (f, g) refl)
 
       is_past : after_it single c b (spelled (blank c) 0) is p ≡ past p
-      is_past = past_char p c b f
+      is_past = past_is p c b f
 
       goes : (t.leading && (c == 9) && nat_lt (p.col + 1) ctx.indent) ≡ false → here ≡ scan single ctx start b gap (past p) (after_element (blank c) t)
       goes h = rw (f, g, h) refl
@@ -208,22 +202,15 @@ module _ (single : Bool) (ctx : Context) (start : Position) (least : ℕ) (limit
   broken_on : (x : Result (Read (List ℕ)) Fault) (text : List ℕ) (m : Mode) (q r : Position) (u : Folded) → u.leading ≡ true → x ≡ scan single ctx start text m r u → q ≡ r → Broken x text m q
   broken_on x text m q r u leads e at = record { now = u; leads = leads; is = e ∙ ap (λ z. scan single ctx start text m z u) (sym at) }
 
-  broken_leads : (t : Folded) → (with_break t).leading ≡ true
-  broken_leads t = by t.leading refl
-    where
-      by : (b : Bool) → t.leading ≡ b → (with_break t).leading ≡ true
-      by true e = rw e refl
-      by false e = rw e refl
-
   break_goes : (c : ℕ) (b : List ℕ) (p : Position) (t : Folded) → is_break c ≡ true → Broken (scan single ctx start (c ∷ b) gap p t) (drop (break_further c b) b) gap (position_after p (c ∷ take (break_further c b) b) (drop (break_further c b) b))
   unfolding is_break is_blank
   break_goes c b p t e = by_next b
     where
       alone : (b : List ℕ) → ((c == 13) && (slice_index b 0 == 10)) ≡ false → Broken (scan single ctx start (c ∷ b) gap p t) b gap (position_after p (c ∷ []) b)
-      alone b f = broken_on _ b gap _ (past_break p) (with_break t) (broken_leads t) (rw (e, f) refl) (past_line p c b e f)
+      alone b f = broken_on _ b gap _ (past_break p) (with_break t) (break_leads t) (rw (e, f) refl) (past_line p c b e f)
 
       two_goes : (b : List ℕ) → Broken (scan single ctx start (13 ∷ 10 ∷ b) gap p t) b gap (position_after p (13 ∷ 10 ∷ []) b)
-      two_goes b = broken_on _ b gap _ (past_break (past p)) (with_break t) (broken_leads t) refl (past_two p b)
+      two_goes b = broken_on _ b gap _ (past_break (past p)) (with_break t) (break_leads t) refl (past_two p b)
 
       by_next : (b : List ℕ) → Broken (scan single ctx start (c ∷ b) gap p t) (drop (break_further c b) b) gap (position_after p (c ∷ take (break_further c b) b) (drop (break_further c b) b))
       by_next [] = alone [] (and_false (c == 13))
@@ -247,7 +234,7 @@ module _ (single : Bool) (ctx : Context) (start : Position) (least : ℕ) (limit
   escaped_goes double d a p u e = by_next a
     where
       slashed : (x : List ℕ) → position_past p 92 x ≡ past p
-      slashed x = past_char p 92 x refl
+      slashed x = past_is p 92 x refl
 
       lone : (x : Bool) (a : List ℕ) → x ≡ false → ((d == 13) && (slice_index a 0 == 10)) ≡ false → scan x ctx start (92 ∷ d ∷ a) inside p u ≡ scan x ctx start a after (past_break (past p)) (with_escaped_break u)
       lone true a x f = absurd (cc x)
@@ -286,26 +273,17 @@ module _ (single : Bool) (ctx : Context) (start : Position) (least : ℕ) (limit
 
   -- ---- where no element stands
 
-  closes : (x : Bool) (r : List ℕ) → ends_before x r ≡ true → (p : Position) (u : Folded) → scan x ctx start (model.quote_of x ∷ r) inside p u ≡ Ok (record { rest = r; position = past p; value = u.text })
-  unfolding is_break is_blank
-  closes true r e p u = by r e
-    where
-      by : (r : List ℕ) → ends_before true r ≡ true → scan true ctx start (39 ∷ r) inside p u ≡ Ok (record { rest = r; position = past p; value = u.text })
-      by [] e = refl
-      by (d ∷ r) e = let one : (d == 39) ≡ false = not-true (d == 39) e in rw one refl
-  closes false r e p u = closed_end false ctx start r (past p) u
-
   closed_ends : (r : List ℕ) → ends_before single r ≡ true → Later (model.quote_of single ∷ r)
   closed_ends r ended s p m t stood = by s m stood
     where
       in_its_line : (s : LineStand) → Started s p (model.quote_of single ∷ r) t → Ends s p (model.quote_of single ∷ r) (scan single ctx start (model.quote_of single ∷ r) gap p t)
       in_its_line s (stops x) = x
-      in_its_line s (begins_or_goes none deep i) = reads _ (i ∙ closes single r ended p (joined t))
+      in_its_line s (begins_or_goes none deep i) = reads _ (i ∙ closes single ctx start r p (joined t) ended)
 
       by : (s : LineStand) (m : Mode) → Stood p t s m → Ends s p (model.quote_of single ∷ r) (scan single ctx start (model.quote_of single ∷ r) m p t)
       by s m (in_line deep) = in_its_line within (started (model.quote_of single) r within gap p t (quote_white single) (in_line deep) (λ e. absurd (cc e)))
       by s m (begins_here leads) = in_its_line at_start (started (model.quote_of single) r at_start gap p t (quote_white single) (begins_here leads) (λ e. absurd (cc e)))
-      by s m (escaped double leads) = reads _ (after_quote single ctx start (model.quote_of single) (model.quote_of single ∷ r) p t refl refl ∙ closes single r ended p t)
+      by s m (escaped double leads) = reads _ (after_quote single ctx start (model.quote_of single) (model.quote_of single ∷ r) p t refl refl ∙ closes single ctx start r p t ended)
 
   bad_ends : single ≡ false → (r : List ℕ) → escape r ≡ None → Later (92 ∷ r)
   bad_ends double r bad s p m t stood = by s m stood (started 92 r s m p t slash_white stood (λ _. slash_no_quote single))

@@ -1,12 +1,13 @@
 -- Why the text after an opening quote is refused, told of the text from an element on.
-use Rattle.proof_scanner.proofs.Common.{[], after_own, and_false, and_parts, ap, append_assoc, are_indented, arith, at_start, begins_further, begins_solid, begins_with, begun_with, blank, blanks_before, Bool, content, drop, Element, element_of, elements, escaped_break, false, further_lines_fit, has_marker, has_more, is_document_marker, IsBadEscape, line, line_break, Lines, lines_fit, lines_of, LineStand, List, Local, local, LocalOf, marked_from, nat_le, nat_lt, nat_tests, not, not-true, past_element, past_elements, past_escaped, Position, position_after, position_append, Problem, refl, replicate, Some, Spelled, subst, suc, sym, take, take-append-drop, true, within, zero, ℕ, ◌&&◌, ◌++◌, ◌+◌, ◌-◌, ◌==◌, ◌||◌, ◌∙◌, ◌∷◌, ◌≡◌}
+use Rattle.proof_scanner.proofs.Common.{[], after_own, and_false, and_parts, ap, append_assoc, are_indented, arith, at_start, begins_further, begins_solid, begins_with, begun_with, blank, blanks_before, Bool, content, drop, Element, element_of, elements, escaped_break, false, further_lines_fit, has_marker, has_more, is_document_marker, IsBadEscape, line, line_break, Lines, lines_fit, lines_of, LineStand, List, Local, local, LocalOf, marked_from, nat_le, nat_lt, nat_tests, not, not-true, past_element, past_elements, past_escaped, past_is, Position, position_after, position_append, Problem, refl, replicate, Some, Spelled, subst, suc, sym, take, take-append-drop, true, within, zero, ℕ, ◌&&◌, ◌++◌, ◌+◌, ◌-◌, ◌==◌, ◌||◌, ◌∙◌, ◌∷◌, ◌≡◌}
 use Rattle.defs_text.specs.FlowScalar.{last_line}
 use Rattle.yaml_tokens.specs.declared.problem.Problem.TheVariants as problem
 use Rattle.proof_scanner.proofs.Sound.QuotedBreaks.{Kind, has_content, has_blank, has_line, has_escaped, fits_from, lines_from, lines_here, empty_here, one_more_blank}
 use Rattle.proof_scanner.proofs.Sound.TabsWithin.{take_none}
 use Rattle.proof_scanner.proofs.Refusals.QuotedBodies.{blank_first}
 use Rattle.proof_scanner.specs.NoPiece.{quote_of}
-use Rattle.proof_scanner.proofs.Refusals.QuotedElements.{past_char, break_column, escaped_column, after_it, kind_of, marks_after}
+use Rattle.proof_scanner.proofs.Refusals.QuotedElements.{break_column, escaped_column, after_it, kind_of, marks_after}
+use Rattle.proof_lexers.proofs.Bridges.{both}
 
 -- ---- indented lines, element by element
 
@@ -34,11 +35,6 @@ fits_at least within k es = further_lines_fit least (lines_of es)
 fits_at least at_start k es = lines_from k least false (lines_of es)
 fits_at least past_escaped k es = lines_from k least true (lines_of es)
 
-same_bool : (x y : Bool) → (x ≡ true → y ≡ true) → (y ≡ true → x ≡ true) → x ≡ y
-same_bool true y f g = sym (f refl)
-same_bool false true f g = g refl
-same_bool false false f g = refl
-
 and_true : (b : Bool) → b ≡ (b && true)
 and_true true = refl
 and_true false = refl
@@ -56,7 +52,7 @@ deep_is k least = rw (take_none (least - k)) (by (nat_lt k least) refl)
 
 blank_is : (k least c : ℕ) (holds : Bool) (bs : List ℕ) → fits_from k least holds (c ∷ bs) ≡ (not ((c == 9) && nat_lt k least) && fits_from (suc k) least holds bs)
 blank_is k least c holds bs =
-    same_bool (fits_from k least holds (c ∷ bs)) (not ((c == 9) && nat_lt k least) && fits_from (suc k) least holds bs)
+    both (fits_from k least holds (c ∷ bs)) (not ((c == 9) && nat_lt k least) && fits_from (suc k) least holds bs)
     (λ h. let f = blank_first k least c holds bs h in rw (f.0, f.1) refl)
     (λ h. let q = and_parts (not ((c == 9) && nat_lt k least)) (fits_from (suc k) least holds bs) h in one_more_blank k least c holds bs (not-true ((c == 9) && nat_lt k least) q.0) q.1)
 
@@ -164,7 +160,7 @@ module _ (single : Bool) (least : ℕ) (start : Position) where
         by e is (has_content code k solid) = within_alike least _ _ fs
         by e is (has_blank f g) =
             let next : suc p.col ≡ p.col + 1 = omega arith in
-            ap (λ k. all_stand least (past_element s (blank c)) k fs) (next ∙ ap (λ (q : Position). q.col) (sym (past_char p c b f)))
+            ap (λ k. all_stand least (past_element s (blank c)) k fs) (next ∙ ap (λ (q : Position). q.col) (sym (past_is p c b f)))
         by e is (has_line f) = ap (λ k. all_stand least at_start k fs) (sym (break_column c b p f))
         by e is (has_escaped d a double same_c same_b f) = ap (λ k. all_stand least past_escaped k fs) (sym (escaped_column c b d a p same_c same_b f))
 

@@ -1,5 +1,5 @@
 -- Faults of quoted scalars: a further line is not indented, or what stands after the scalar may not follow it.
-use Rattle.proof_scanner.proofs.Common.{[], ap, append-nil, append_assoc, are_indented, AreNotIndented, arith, Arrives, At, begins_separation, begins_with, bodies_are_read, Bool, check_after_quoted, closed_first, content, Context, Element, element_of, elements, ends_before, ends_spaces, Err, false, Fault, go_on, has_marker, has_no_nul, held_of, if◌then◌else◌, in_flow, is_breakz, is_document_marker, is_empty, IsBadEscape, IsQuoted, IsQuotedFault, IsStuck, least_here, lines_first, List, marked_from, may_follow_quoted, nat_lt, no_quoted, node_start, not, off_margin, Ok, on_held, past, past_elements, peek, Position, position_after, Problem, quote_of, quoted, quoted_lines_fit, quoted_may_end, Read, refl, Result, ScannerState, skip_spaces, Some, subst, sym, tab, true, unled, value_of, within, Yes, ℕ, ◌&&◌, ◌++◌, ◌+◌, ◌-◌, ◌==◌, ◌||◌, ◌∙◌, ◌∷◌, ◌≡◌}
+use Rattle.proof_scanner.proofs.Common.{[], ap, append-nil, append_assoc, are_indented, AreNotIndented, arith, Arrives, At, begins_separation, begins_with, bodies_are_read, Bool, check_after_quoted, closed_first, content, Context, Element, element_of, elements, ends_before, ends_spaces, Err, false, Fault, go_on, has_marker, has_no_nul, held_of, if◌then◌else◌, in_flow, is_breakz, is_document_marker, is_empty, IsBadEscape, IsQuoted, IsQuotedFault, IsStuck, least_here, lines_first, List, marked_from, may_follow_quoted, nat_lt, no_quoted, node_start, not, not-true, off_margin, Ok, on_held, past, past_elements, peek, Position, position_after, Problem, quote_of, quoted, quoted_lines_fit, quoted_may_end, Read, refl, Result, ScannerState, skip_spaces, Some, subst, sym, tab, true, unled, value_of, within, Yes, ℕ, ◌&&◌, ◌++◌, ◌+◌, ◌-◌, ◌==◌, ◌||◌, ◌∙◌, ◌∷◌, ◌≡◌}
 use Rattle.yaml_tokens.specs.declared.problem.Problem.TheVariants as problem
 use Rattle.proof_lexers.specs.QuotedEnds as bad
 use Rattle.proof_lexers.specs.QuotedScan as scans
@@ -20,26 +20,19 @@ use Rattle.proof_scanner.proofs.Refusals.QuotedReasons.{all_stand, indented_are,
 use Rattle.proof_scanner.proofs.Refusals.Faults.{Faults, fault, goes, in_turn}
 use Rattle.proof_scanner.proofs.Refusals.Spaces.{spaces_told, solid_past}
 use Rattle.proof_scanner.proofs.Refusals.Places.{Told, LiesDeep, account_by, stuck, least_by, looked_at, none_here, followed_stuck}
+use Rattle.proof_row.proofs.Runs.{neither}
 
 -- ---- texts
 
 -- what was read between quotes is a quoted scalar
 pub is_quoted : (single : Bool) (body next value : List ℕ) → value_of single body ≡ Some value → ends_before single next ≡ true → IsQuoted single (piece_of single body) next
-is_quoted true body next value is ends = (value, (body, refl, is, no_quote (begins_with 39 next) ends))
-  where
-    no_quote : (b : Bool) → not (true && b) ≡ true → b ≡ false
-    no_quote true h = absurd (cc h)
-    no_quote false h = refl
+is_quoted true body next value is ends = (value, (body, refl, is, not-true (begins_with 39 next) ends))
 is_quoted false body next value is ends = (value, (body, refl, is))
 
 -- what stands after blanks and may not follow, is no separation
 solid_left : (flow same : Bool) (r : List ℕ) → ends_spaces Yes r ≡ true → may_follow_quoted flow same (peek r) ≡ false → begins_separation r ≡ false
 unfolding may_follow_quoted
-solid_left flow same r h n = solid_past r h (first (is_breakz (peek r)) _ n)
-  where
-    first : (x y : Bool) → (x || y) ≡ false → x ≡ false
-    first true y h = absurd (cc h)
-    first false y h = refl
+solid_left flow same r h n = solid_past r h (neither (is_breakz (peek r)) _ n).0
 
 -- ---- no scalar
 
@@ -183,6 +176,9 @@ module _ (text : List ℕ) (t : ScannerState) (a : Arrives text t) (some : is_em
               let at_text = ap (λ q. quoted single ctx (q ∷ (b.body ++ q ∷ next)) here) (same_quote single) ∙ ap (λ r. quoted single ctx (none.quote_of single ∷ r) here) (sym b.is_text) in
               absurd (cc (reads, at_text, fails))
 
+      indented : (es : List Element) → all_stand least within (past here).col (es ++ []) ≡ true → are_indented least es ≡ true
+      indented es h = indented_are least (past here).col es ∙ (ap (all_stand least within (past here).col) (sym (append-nil es)) ∙ h)
+
       -- what is wrong with the text after the quote is what the whole text is stuck by
       told_by : (why : Problem) (at : Position) → At why at ≡ f → Reason single least here within (past here) more why at → IsStuck text why at
       told_by why at is (marked x marker m) =
@@ -192,16 +188,10 @@ module _ (text : List ℕ) (t : ScannerState) (a : Arrives text t) (some : is_em
         where
           marks_in : (b : Bool) → (((here.col + 1) == 0) && is_document_marker (x.body ++ x.rest) || b) ≡ true → b ≡ true
           marks_in b h = rw (off_margin here.col 0) at h
-
-          indented : (es : List Element) → all_stand least within (past here).col (es ++ []) ≡ true → are_indented least es ≡ true
-          indented es h = indented_are least (past here).col es ∙ (ap (all_stand least within (past here).col) (sym (append-nil es)) ∙ h)
       told_by why at is (other last _ _ x m wrong) = by last why at is x m wrong
         where
           unmarked : (body rest : List ℕ) → marked_from (past here).col body rest ≡ false → has_marker body rest ≡ false
           unmarked body rest h = rw (off_margin here.col 0) at h
-
-          indented : (es : List Element) → all_stand least within (past here).col (es ++ []) ≡ true → are_indented least es ≡ true
-          indented es h = indented_are least (past here).col es ∙ (ap (all_stand least within (past here).col) (sym (append-nil es)) ∙ h)
 
           by : (last : List Element) (why : Problem) (at : Position) → At why at ≡ f → (x : Cut single least here last within (past here) more) → marked_from (past here).col x.body x.rest ≡ false
               → Place single least here (past_elements within x.es) (position_after (past here) x.body x.rest) x.rest last why at → IsStuck text why at

@@ -1,14 +1,13 @@
 -- Where the scanner's model refuses a text with a fault of a kind that is told, the text is stuck.
-use Rattle.proof_scanner.proofs.Common.{[], ap, Arrives, At, begins, Bool, cleared, drop_stale, false, Fares, Fault, fetch, fetch_here, fetch_next, fetch_stream_end, fetch_stream_start, FetchKeeps, has_no_nul, has_required, Held, held_of, here, Holds, in_flow, inl, inr, is_empty, is_far, is_overdue, IsRefused, Key, List, list_any, map, next_line, None, Ok, on_held, Option, outside_key, over, peek, Position, Reaches, refl, RefusedTextsAreStuck, Result, ScannerState, Some, stale, Stands, start, still, subst, sym, there, top_key, true, unroll_indent, ℕ, ◌&&◌, ◌+◌, ◌==◌, ◌||◌, ◌∙◌, ◌∷◌, ◌≡◌, ◌⊎◌}
+use Rattle.proof_scanner.proofs.Common.{[], ap, Arrives, At, begins, Bool, cleared, drop_stale, false, Fares, Fault, fetch, fetch_here, fetch_next, fetch_stream_end, fetch_stream_start, has_no_nul, has_required, Held, held_of, here, Holds, in_flow, inl, inr, is_empty, is_far, is_overdue, IsRefused, Key, List, list_any, map, next_line, None, not-false, Ok, on_held, Option, outside_key, over, peek, Position, Reaches, refl, RefusedTextsAreStuck, Result, ScannerState, Some, stale, Stands, start, still, subst, sym, there, top_key, true, unroll_indent, ℕ, ◌&&◌, ◌+◌, ◌==◌, ◌||◌, ◌∙◌, ◌∷◌, ◌≡◌, ◌⊎◌}
 use Rattle.yaml_tokens.specs.declared.problem.Problem.TheVariants as problem
 use Rattle.model_scanner.specs.Keys.{with_keys}
 use Rattle.model_scanner.proofs.Holds as holds
 use Rattle.proof_scanner.proofs.Cut.Fetched.{goes_on_here}
 use Rattle.proof_scanner.specs.StandsInRow.{goes}
 use Rattle.proof_scanner.proofs.Sound.Fetches.{content_kept, fetch_keeps}
-use Rattle.proof_scanner.proofs.Sound.Runs.{reached}
-use Rattle.proof_scanner.proofs.Sound.Sound.{each_keeps}
-use Rattle.proof_scanner.proofs.Sound.Stales.{no_entries, one_key, is_outside}
+use Rattle.proof_scanner.proofs.Sound.Runs.{reached, first_fetch}
+use Rattle.proof_scanner.proofs.Sound.Stales.{no_entries, one_key}
 use Rattle.proof_scanner.proofs.Sound.ToToken.{passed_stands}
 use Rattle.proof_scanner.specs.Never.{AnchorIndentationNeverComes}
 use Rattle.proof_scanner.proofs.Refusals.Faults as faults
@@ -47,7 +46,7 @@ stale_told : (text : List ℕ) → has_no_nul text ≡ true → (u : ScannerStat
 unfolding stale drop_stale
 stale_told text nul u s =
     either (in_flow u.held) (λ _. faults.goes) (λ o. keys_told u.held (rowless_told text (list_any (is_overdue u.held.position) u.held.keys) problem.KeyWithoutColon u.held.position (map (still u.held.position) u.held.keys) refl (λ h.
-    let out : is_empty u.held.flow ≡ true = is_outside (is_empty u.held.flow) o in
+    let out : is_empty u.held.flow ≡ true = not-false (is_empty u.held.flow) o in
     let only = one_key u.held.keys u.held.flow s.one_each out in
     let far = overdue u.held.position only.0 u.held.keys only.1 h in
     let none_in : s.base.entries ≡ [] = no_entries u.held.key_allowed _ u.held.flow u.held.keys s.base.entries out s.are_entries in
@@ -78,7 +77,7 @@ end_cleared t = holds.tried {P = λ h. has_required h.keys ≡ false} t _ (holds
 
 here_stands : (text : List ℕ) (t : ScannerState) → Arrives text t → Holds (StandsOrEnds text) (fetch_here t)
 unfolding fetch_here
-here_stands text t a = holds.either (peek t.rest == 0) (λ _. holds.weakened (λ u x. inr x) (end_cleared t)) (λ e. holds.weakened (λ u x. inl x) (content_kept each_keeps text t a (goes_on_here t.rest e)))
+here_stands text t a = holds.either (peek t.rest == 0) (λ _. holds.weakened (λ u x. inr x) (end_cleared t)) (λ e. holds.weakened (λ u x. inl x) (content_kept text t a (goes_on_here t.rest e)))
 
 left_told : (text : List ℕ) → has_no_nul text ≡ true → (t : ScannerState) → StandsOrEnds text t → Faults (Told text) (stale t.held)
 unfolding stale drop_stale
@@ -102,13 +101,6 @@ fetch_told text nul t s near = either t.held.started (λ _. next_told text nul t
 
 -- ---- a run
 
-kept : FetchKeeps
-kept = fetch_keeps each_keeps
-
-first_fetch : (text : List ℕ) → fetch (start text) ≡ Ok (fetch_stream_start (start text))
-unfolding fetch
-first_fetch text = refl
-
 near_first : (text : List ℕ) → HasNear (fetch_stream_start (start text)).held
 unfolding fetch_stream_start
 near_first text = λ o k e. absurd (cc e)
@@ -122,7 +114,7 @@ known_next : (text : List ℕ) → has_no_nul text ≡ true → (t u : ScannerSt
 known_next text nul t u going e k = record { fares = next; near = near_by k.fares }
   where
     next : Fares text u
-    next = reached kept text nul t u (there going e here) k.fares
+    next = reached fetch_keeps text nul t u (there going e here) k.fares
 
     near_by : Fares text t → HasNear u.held
     near_by (begins b) =

@@ -201,7 +201,7 @@ module _ (text : List ℕ) (t : ScannerState) (a : Arrives text t) (some : is_em
       by : (out : Bool) → is_empty t.held.flow ≡ out → is_required (top_key t.held.keys) ≡ false
       by false i = free_inside t.held.key_allowed _ t.held.flow t.held.keys a.base.entries i a.are_entries
       by true out =
-          none (top_key t.held.keys) a.line (subst (λ k. IsLineHere false t.held.key_allowed t.rest k a.line) (key_outside out) (subst (λ b. IsLineHere (not b) t.held.key_allowed t.rest (outside_key a.base.entries t.held.keys) a.line) out a.line_is))
+          none (top_key t.held.keys) a.line_here (subst (λ k. IsLineHere false t.held.key_allowed t.rest k a.line_here) (key_outside out) (subst (λ b. IsLineHere (not b) t.held.key_allowed t.rest (outside_key a.base.entries t.held.keys) a.line_here) out a.line_is))
           (subst (λ b. (not b || t.held.key_allowed) ≡ true) out free)
 
   -- If the innermost open key must be one, it waits where the row goes on; so no row does where no such step stands.

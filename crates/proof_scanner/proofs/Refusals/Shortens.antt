@@ -1,21 +1,23 @@
 -- Each fetch reads on: where a piece begins, less text is left after it.
 use Rattle.std.proofs.lemmas.List.{length-append}
-use Rattle.proof_scanner.proofs.Common.{[], after_plain, allow_key, anchor_name, and_parts, ap, arith, Arrives, At, Before, before_by, before_past, begin_flow, begin_key, begin_line, begins_separation, block, Bool, both_hold, chained, check_after_quoted, check_after_tab, check_block_entry, check_dash, check_document_end, check_key_space, check_value_space, checked, collection_column, collection_of, comes_marker, comes_plain, Context, context, DirectiveEndsAs, directives_end, either, end_entry, end_flow, end_stream, Err, false, Fault, fetch, fetch_anchor, fetch_block_entry, fetch_block_scalar, fetch_content, fetch_directive, fetch_document_end, fetch_document_marker, fetch_first_column, fetch_flow_collection_end, fetch_flow_collection_start, fetch_flow_entry, fetch_flow_scalar, fetch_here, fetch_indented, fetch_key, fetch_next, fetch_plain_scalar, fetch_stream_end, fetch_tag, fetch_token, fetch_value, FlowLevel, go_on, has_no_nul, has_required, Held, Holds, if◌then◌else◌, in_flow, inl, inr, is_adjacent, is_breakz, is_document_marker, is_empty, is_nul, length, lexed, List, Mapping, may_follow_quoted, nat_lt, next_line, No, node_start, None, not, Ok, on_held, opens_pair, Option, other, paired, pass_indicator, peek, Position, push, quote_of, quoted, Read, read, ReadAs, refl, refused, remove_implicit_key, Result, roll_entry, roll_indent, roll_one_col_indent, save_implicit_key, ScannerState, sequence, skip_indicator, SkipTabs, Some, stale, Stands, Style, subst, sym, Tok, top_key, tried, true, try_held, unled, unroll_indent, unroll_non_block_indents, weakened, went, without_open, Yes, ℕ, ◌&&◌, ◌++◌, ◌+◌, ◌<◌, ◌==◌, ◌>>=◌, ◌||◌, ◌∙◌, ◌∷◌, ◌≡◌, ◌≤◌, ◌⊎◌}
+use Rattle.proof_scanner.proofs.Common.{[], after_plain, allow_key, anchor_name, and_parts, ap, append_assoc, are_single, arith, Arrives, At, Before, before_by, before_past, begin_flow, begin_key, begin_line, begins_separation, block, Bool, both_hold, chained, check_after_quoted, check_after_tab, check_block_entry, check_dash, check_document_end, check_key_space, check_value_space, checked, Collection, collection_column, collection_of, comes_plain, Context, context, directives_end, either, end_entry, end_flow, end_stream, Err, false, Fault, fetch, fetch_anchor, fetch_block_entry, fetch_block_scalar, fetch_content, fetch_directive, fetch_document_end, fetch_document_marker, fetch_flow_collection_end, fetch_flow_collection_start, fetch_flow_entry, fetch_flow_scalar, fetch_here, fetch_key, fetch_next, fetch_plain_scalar, fetch_stream_end, fetch_tag, fetch_token, fetch_value, go_on, has_no_nul, has_required, Held, Holds, if◌then◌else◌, in_flow, inl, inr, is_adjacent, is_breakz, is_document_marker, is_empty, is_literal, is_nul, length, lexed, List, mark_of, may_follow_quoted, NameKind, next_line, No, node_start, None, not, Ok, on_held, opens_pair, Option, other, paired, pass_indicator, peek, Position, push, quote_of, quoted, Quotes, Read, read, read_as, ReadAs, refl, refused, remove_implicit_key, Result, roll_entry, roll_indent, roll_one_col_indent, save_implicit_key, ScannerState, sequence, skip_indicator, SkipTabs, Some, stale, Stands, Style, subst, sym, Tok, top_key, tried, true, try_held, unled, unroll_indent, unroll_non_block_indents, weakened, went, without_open, Yes, ℕ, ◌&&◌, ◌++◌, ◌+◌, ◌<◌, ◌==◌, ◌>>=◌, ◌||◌, ◌∙◌, ◌∷◌, ◌≡◌, ◌≤◌, ◌⊎◌}
 use Rattle.defs_token.specs.Account.{Account, is_in_flow}
 use Rattle.yaml_chars.specs.Class.{is_break, is_flow}
 use Rattle.yaml_tokens.specs.declared.problem.Problem.TheVariants as problem
 use Rattle.model_scanner.specs.Directive.{directive}
 use Rattle.model_scanner.specs.Plain.{plain}
 use Rattle.model_scanner.specs.Tag as tags
-use Rattle.model_scanner.specs.declared.level.FlowLevel.TheVariants.{Entry}
+use Rattle.model_scanner.specs.declared.kind.BlockStyle.{BlockStyle}
+use Rattle.model_scanner.specs.declared.kind.Collection.TheVariants.{Sequence, Mapping}
 use Rattle.model_scanner.specs.State.{after}
 use Rattle.model_scanner.specs.Block.{value_of}
 use Rattle.model_scanner.proofs.Holds.{passes}
 use Rattle.proof_lexers.specs.DirectiveEnds as directives
-use Rattle.proof_scanner.proofs.Cut.Dispatch.{token_holds}
-use Rattle.proof_scanner.proofs.Cut.Fetched.{begins_with_this, no_marker, is_deep, goes_on_here}
+use Rattle.proof_scanner.proofs.Cut.Dispatch.{token_holds, content_holds}
+use Rattle.proof_scanner.proofs.Cut.Fetched.{goes_on_here}
 use Rattle.proof_scanner.proofs.Cut.Nodes.{IsDeep, less_or}
-use Rattle.proof_scanner.proofs.Cut.Passes.{Passed, to_token, white_passed, Spaced, spaced, spaces_skipped, passed_spaces}
+use Rattle.proof_scanner.proofs.Cut.Passes.{white_passed, Spaced, spaced, spaces_skipped}
+use Rattle.proof_scanner.proofs.Sound.Passed.{exact}
 use Rattle.proof_scanner.proofs.Cut.Pieces.Directives.{break_cut}
 use Rattle.proof_scanner.proofs.Cut.Pieces.Read.{pieces_are_read}
 use Rattle.proof_scanner.proofs.Cut.Saved.{saved_keys, saved_is}
@@ -35,11 +37,11 @@ after_no_longer : (r : List ℕ) → length (after r) ≤ length r
 after_no_longer [] = omega arith
 after_no_longer (c ∷ r) = omega arith
 
-passed_no_longer : (t u : ScannerState) → Passed t u → length u.rest ≤ length t.rest
-passed_no_longer t u p = let e = ap length p.is_rest in let n = length-append p.separation u.rest in omega (arith, e, n)
+cut_no_longer : (g a r : List ℕ) → a ≡ g ++ r → length r ≤ length a
+cut_no_longer g a r e = let k = ap length e in let n = length-append g r in omega (arith, k, n)
 
 spaced_no_longer : (tabs : SkipTabs) (t u : ScannerState) → Spaced tabs t u → length u.rest ≤ length t.rest
-spaced_no_longer tabs t u s = passed_no_longer t u (passed_spaces tabs t u s)
+spaced_no_longer tabs t u s = cut_no_longer (s.blanks ++ s.comment) t.rest u.rest (s.is_rest ∙ sym (append_assoc s.blanks s.comment u.rest))
 
 read_shorter : (a : Account) (text : List ℕ) (tok : Tok) (p : Position) (rest : List ℕ) (end : Position) → ReadAs a text tok p rest end → length rest < length text
 read_shorter a text tok p rest end r =
@@ -69,11 +71,11 @@ module _ (text : List ℕ) (t : ScannerState) (a : Arrives text t) (some : is_em
   clean_more : (c : ℕ) (more : List ℕ) → t.rest ≡ c ∷ more → has_no_nul more ≡ true
   clean_more c more e = (and_parts (not (is_nul c)) (has_no_nul more) (subst (λ r. has_no_nul r ≡ true) e a.is_clean)).1
 
-  name_shortens : (alias : Bool) (more : List ℕ) → t.rest ≡ (if alias then 42 else 38) ∷ more → Holds Shorter (fetch_anchor alias t)
+  name_shortens : (kind : NameKind) (more : List ℕ) → t.rest ≡ mark_of kind ∷ more → Holds Shorter (fetch_anchor kind t)
   unfolding fetch_anchor
-  name_shortens alias more e =
+  name_shortens kind more e =
       read (node_start t.held) (anchor_name t.rest t.held.position) _ (λ x k.
-      went (subst (λ r. length x.rest < length r) (sym e) (read_shorter _ _ _ _ _ _ (pieces_are_read.name (asked t.held.position false None other) alias more x (clean_more _ more e) (ap (λ r. anchor_name r t.held.position) (sym e) ∙ k)))))
+      went (subst (λ r. length x.rest < length r) (sym e) (read_shorter _ _ _ _ _ _ (pieces_are_read.name (asked t.held.position false None other) kind more x (clean_more _ more e) (ap (λ r. anchor_name r t.held.position) (sym e) ∙ k)))))
 
   tag_shortens : (more : List ℕ) → t.rest ≡ 33 ∷ more → Holds Shorter (fetch_tag t)
   unfolding fetch_tag
@@ -90,25 +92,25 @@ module _ (text : List ℕ) (t : ScannerState) (a : Arrives text t) (some : is_em
       by v true n = went n
       by v false n = refused
 
-  quoted_shortens : (single : Bool) (more : List ℕ) → t.rest ≡ quote_of single ∷ more → Holds Shorter (fetch_flow_scalar single t)
+  quoted_shortens : (quotes : Quotes) (more : List ℕ) → t.rest ≡ quote_of (are_single quotes) ∷ more → Holds Shorter (fetch_flow_scalar quotes t)
   unfolding fetch_flow_scalar
-  quoted_shortens single more e =
-      read (node_start t.held) (quoted single (context (node_start t.held)) t.rest t.held.position) _ (λ x k.
+  quoted_shortens quotes more e =
+      read (node_start t.held) (quoted (are_single quotes) (context (node_start t.held)) t.rest t.held.position) _ (λ x k.
       let less : length x.rest < length t.rest = subst (λ r. length x.rest < length r) (sym e) (read_shorter _ _ _ _ _ _
-      (pieces_are_read.quoted (asked t.held.position false None other) single (context (node_start t.held)) more x (clean_more _ more e) (ap (λ r. quoted single (context (node_start t.held)) r t.held.position) (sym e) ∙ k))) in
-      chained (after_quoted t.held.position.line (on_held unled (go_on x (node_start t.held)))) (λ v n. chained (to_token v) (λ w p.
-      let m = passed_no_longer v w p.passed in went (omega (arith, less, n, m)))))
+      (pieces_are_read.quoted (asked t.held.position false None other) quotes (context (node_start t.held)) more x (clean_more _ more e) (ap (λ r. quoted (are_single quotes) (context (node_start t.held)) r t.held.position) (sym e) ∙ k))) in
+      chained (after_quoted t.held.position.line (on_held unled (go_on x (node_start t.held)))) (λ v n. chained (exact v) (λ w p.
+      let m = cut_no_longer p.separation v.rest w.rest p.cut in went (omega (arith, less, n, m)))))
 
   -- what the start of a block scalar leaves
   abbrev saved : Held
   saved = unroll_non_block_indents (allow_key true (save_implicit_key t.held))
 
-  block_shortens : (literal : Bool) (more : List ℕ) → t.rest ≡ (if literal then 124 else 62) ∷ more → Holds Shorter (fetch_block_scalar literal t)
+  block_shortens : (style : BlockStyle) (more : List ℕ) → t.rest ≡ (if is_literal style then 124 else 62) ∷ more → Holds Shorter (fetch_block_scalar style t)
   unfolding fetch_block_scalar
-  block_shortens literal more e =
-      read saved (block literal saved.indent t.rest t.held.position) _ (λ x k.
+  block_shortens style more e =
+      read saved (block (is_literal style) saved.indent t.rest t.held.position) _ (λ x k.
       went (subst (λ r. length x.rest < length r) (sym e) (read_shorter _ _ _ _ _ _
-      (pieces_are_read.block (asked t.held.position false (collection_of saved.indent) other) literal saved.indent more x (clean_more _ more e) refl (asked_column t.held.position false (collection_of saved.indent) other) (ap (λ r. block literal saved.indent r t.held.position) (sym e) ∙ k)).0)))
+      (pieces_are_read.block (asked t.held.position false (collection_of saved.indent) other) style saved.indent more x (clean_more _ more e) refl (asked_column t.held.position false (collection_of saved.indent) other) (ap (λ r. block (is_literal style) saved.indent r t.held.position) (sym e) ∙ k)).0)))
 
   -- the levels without those that open no collection
   closed : AreClosed t.held.indent t.held.indents t.held.tokens (without_open t.held.indent t.held.indents t.held.tokens)
@@ -142,13 +144,13 @@ module _ (text : List ℕ) (t : ScannerState) (a : Arrives text t) (some : is_em
   unfolding pass_indicator
   indicator_passed u e = weakened (λ v s. let n = one_read u e in let m = spaced_no_longer Yes (skip_indicator u) v s in omega (arith, n, m)) (spaces_skipped Yes (skip_indicator u))
 
-  opening_shortens : (kind : FlowLevel) (tok : Tok) → Holds Shorter (fetch_flow_collection_start kind tok t)
+  opening_shortens : (kind : Collection) → Holds Shorter (fetch_flow_collection_start kind t)
   unfolding fetch_flow_collection_start
-  opening_shortens kind tok = chained (stays (begin_flow kind)) (λ u e. chained (indicator_passed u e) (λ v n. went n))
+  opening_shortens kind = chained (stays (begin_flow kind)) (λ u e. chained (indicator_passed u e) (λ v n. went n))
 
-  closing_shortens : (tok : Tok) → Holds Shorter (fetch_flow_collection_end tok t)
+  closing_shortens : (kind : Collection) → Holds Shorter (fetch_flow_collection_end kind t)
   unfolding fetch_flow_collection_end
-  closing_shortens tok = chained (stays end_flow) (λ u e. chained (indicator_passed u e) (λ v n. went n))
+  closing_shortens kind = chained (stays end_flow) (λ u e. chained (indicator_passed u e) (λ v n. went n))
 
   comma_shortens : Holds Shorter (fetch_flow_entry t)
   unfolding fetch_flow_entry
@@ -185,7 +187,7 @@ module _ (text : List ℕ) (t : ScannerState) (a : Arrives text t) (some : is_em
       chained {P = λ v. v.rest ≡ t.rest} (tried {P = λ s. Unit {0}} u (remove_implicit_key u.held) (anything (remove_implicit_key u.held)) (λ s k. e)) (λ v f.
       chained (white_passed (skip_indicator (on_held (λ s. allow_key (not (in_flow s)) s) v))) (λ w p.
       let n = one_read v f in
-      let m = passed_no_longer (skip_indicator (on_held (λ s. allow_key (not (in_flow s)) s) v)) w p in
+      let m = cut_no_longer p.separation _ w.rest p.cut in
       chained (key_spaced w (omega (arith, n, m))) (λ x k. went k))))
 
   value_spaced : (u : ScannerState) → Holds (λ v. length v.rest ≤ length u.rest) (check_value_space u)
@@ -206,18 +208,16 @@ module _ (text : List ℕ) (t : ScannerState) (a : Arrives text t) (some : is_em
   unfolding fetch_directive
   directive_shortens more e =
       chained (stays begin_line) (λ u s.
-      read u.held (directive u.rest u.held.position) _ (λ x k. went (by u.held.position x (directive (37 ∷ more) u.held.position) (ap (λ r. directive r u.held.position) (sym (s ∙ e)) ∙ k) (directives_end more u.held.position))))
+      read u.held (directive u.rest u.held.position) _ (λ x k. went (by u.held.position x (read_as (ap (λ r. directive r u.held.position) (sym (s ∙ e)) ∙ k) (directives_end more u.held.position)))))
     where
-      by : (q : Position) (x : Read Tok) (y : Result (Read Tok) Fault) → y ≡ Ok x → DirectiveEndsAs q more y → length x.rest < length t.rest
-      by q x y i (directives.reads line next d cut one ends is j) =
-          let same : directives.after_line q (37 ∷ line) next (directives.token_of d) ≡ x = cc (i, j) in
+      by : (q : Position) (x : Read Tok) → directives.IsDirectiveRead q more x → length x.rest < length t.rest
+      by q x (directives.whole_directive line next d cut one ends is) =
           let all = ap length e in
           let parts = ap length cut in
           let n = length-append line next in
           let break = ap length (break_cut next) in
           let m = length-append (directives.first_break next) (directives.next_line next) in
-          subst (λ (z : Read Tok). length z.rest < length t.rest) same (omega (arith, all, parts, n, break, m))
-      by q x y i (directives.refuses line next g cut one ends lacks why j) = absurd (cc (i, j))
+          omega (arith, all, parts, n, break, m)
 
   marker_shortens : (tok : Tok) → Holds Shorter (fetch_document_marker tok t)
   unfolding fetch_document_marker
@@ -245,42 +245,33 @@ module _ (text : List ℕ) (t : ScannerState) (a : Arrives text t) (some : is_em
   token_shortens : IsDeep t.held → ((t.held.position.col == 0) && is_document_marker t.rest) ≡ false → Holds Shorter (fetch_token t)
   token_shortens deep marker =
       token_holds (Holds Shorter) t (is_adjacent before_here) a.is_clean a.is_solid (λ inside. sym (a.is_adjacent_here inside some)) marker (record {
-        anchor = λ alias more e. name_shortens alias more e;
+        anchor = λ kind more e. name_shortens kind more e;
         tag = λ more e. tag_shortens more e;
         plain = λ comes. plain_shortens deep comes;
-        quoted = λ single more e. quoted_shortens single more e;
-        block = λ literal more e o. block_shortens literal more e;
+        quoted = λ quotes more e. quoted_shortens quotes more e;
+        block = λ style more e o. block_shortens style more e;
         dash = λ more e gap. dash_shortens;
         question = λ more e gap. question_shortens;
         colon = λ more e i. colon_shortens;
-        open_bracket = λ more e. opening_shortens Entry Tok.flow_sequence_start;
-        open_brace = λ more e. opening_shortens Mapping Tok.flow_mapping_start;
-        close_bracket = λ more e. closing_shortens Tok.flow_sequence_end;
-        close_brace = λ more e. closing_shortens Tok.flow_mapping_end;
+        open_bracket = λ more e. opening_shortens Sequence;
+        open_brace = λ more e. opening_shortens Mapping;
+        close_bracket = λ more e. closing_shortens Sequence;
+        close_brace = λ more e. closing_shortens Mapping;
         comma = λ more e. comma_shortens;
         percent = λ more e. refused;
         at_sign = λ more e. refused;
         backtick = λ more e. refused;
       }) some
 
-  indented_shortens : ((t.held.position.col == 0) && is_document_marker t.rest) ≡ false → Holds Shorter (fetch_indented t)
-  unfolding fetch_indented
-  indented_shortens none = checked (nat_lt (t.held.position.col + 1) t.held.indent) (At problem.InvalidIndentation t.held.position) (λ e. token_shortens (is_deep t.held.position.col t.held.indent e) none)
-
-  first_shortens : Holds Shorter (fetch_first_column t)
-  unfolding fetch_first_column
-  first_shortens =
-      either (peek t.rest == 37) (λ e. directive_shortens (after t.rest) (begins_with_this t.rest 37 some e)) (λ _.
-      either (comes_marker 45 t.rest) (λ _. marker_shortens Tok.document_start) (λ x.
-      either (comes_marker 46 t.rest) (λ _. end_shortens) (λ y. indented_shortens (by (t.held.position.col == 0) (no_marker t.rest x y)))))
-    where
-      by : (b : Bool) → is_document_marker t.rest ≡ false → (b && is_document_marker t.rest) ≡ false
-      by true e = e
-      by false e = refl
-
   content_shortens : Holds Shorter (fetch_content t)
-  unfolding fetch_content
-  content_shortens = either (t.held.position.col == 0) (λ _. first_shortens) (λ e. indented_shortens (rw e refl))
+  content_shortens =
+      content_holds (Holds Shorter) t some (record {
+        directive = λ e col. directive_shortens (after t.rest) e;
+        document_start = λ more e gap col. marker_shortens Tok.document_start;
+        document_end = λ more e gap col. end_shortens;
+        shallow = λ n low. refused;
+        token = λ n deep. token_shortens deep n.0;
+      })
 
 -- The stream ends, or less text is left than before.
 abbrev pub ReadsOn : ScannerState → ScannerState → Type 0
@@ -303,11 +294,11 @@ stale_arrives text u s solid = tried u (stale u.held) (stale_stands text u s) (�
 next_reads_on : (text : List ℕ) (t : ScannerState) → Stands text t → Holds (ReadsOn t) (fetch_next t)
 unfolding fetch_next
 next_reads_on text t s =
-    chained (both_hold (passed_stands text t s) (to_token t)) (λ u p.
+    chained (both_hold (passed_stands text t s) (exact t)) (λ u p.
     chained {P = λ v. Arrives text (on_held (λ h. unroll_indent (h.position.col + 1) h) v) × (v.rest ≡ u.rest)}
     (both_hold (stale_arrives text u p.0.0 p.0.1) (tried {P = λ h. Unit {0}} u (stale u.held) (anything (stale u.held)) (λ h k. refl))) (λ v a.
     chained (here_shortens text (on_held (λ h. unroll_indent (h.position.col + 1) h) v) a.0) (λ w n.
-    tried w (stale w.held) (keys_only w.held) (λ h k. by u v w h n (ap (λ x. x.ended) k) (ap length a.1) (passed_no_longer t u p.1.passed)))))
+    tried w (stale w.held) (keys_only w.held) (λ h k. by u v w h n (ap (λ x. x.ended) k) (ap length a.1) (cut_no_longer p.1.separation t.rest u.rest p.1.cut)))))
   where
     by : (u v w : ScannerState) (h : Held) → ReadsOn v w → h.ended ≡ w.held.ended → length v.rest ≡ length u.rest → length u.rest ≤ length t.rest → ReadsOn t (record w { held = h })
     by u v w h (inl ended) same e m = inl (same ∙ ended)

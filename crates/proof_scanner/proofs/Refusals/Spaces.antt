@@ -1,20 +1,20 @@
 -- Faults of what is passed between pieces.
-use Rattle.proof_scanner.proofs.Common.{[], ap, are_skipped, arith, At, begins_separation, begins_white_space, begins_with, begins_with_space_or_break, Bool, ends_spaces, Err, false, Fault, glued, GoesOverAs, held_of, Holds, is_at_gap, is_blank, is_blank_or_end, is_break, is_breakz, is_nul, is_separation, List, misses, nat_tests, not, Ok, or_parts, peek, Position, Read, refl, Result, ScannerState, skip_spaces, skip_yaml_whitespace, SkipTabs, space, spaces, spaces_are_passed, SpacesAs, subst, sym, true, white_space_is_passed, Whitespace, Yes, ℕ, ◌&&◌, ◌++◌, ◌==◌, ◌||◌, ◌∙◌, ◌∷◌, ◌≡◌}
+use Rattle.proof_scanner.proofs.Common.{[], ap, are_skipped, arith, At, begins_separation, begins_white_space, begins_with, begins_with_space_or_break, Bool, ends_spaces, Err, false, Fault, glued, HasNoWhiteSpace, HasPassed, held_of, Holds, is_at_gap, is_blank, is_blank_or_end, is_break, is_breakz, is_nul, is_separation, IsGlued, List, misses, nat_tests, not, Ok, or_parts, peek, Position, refl, refused_as, Result, ScannerState, skip_spaces, skip_yaml_whitespace, SkipTabs, space, spaces_are_passed, subst, sym, true, white_space_is_passed, Yes, ℕ, ◌&&◌, ◌++◌, ◌==◌, ◌||◌, ◌∙◌, ◌∷◌, ◌≡◌}
 use Rattle.yaml_tokens.specs.declared.problem.Problem.TheVariants as problem
 use Rattle.yaml_chars.specs.Class as model_classes
 use Rattle.proof_scanner.proofs.Refusals.Faults.{Faults, goes, read}
 use Rattle.proof_scanner.proofs.Refusals.Places.{Told}
 use Rattle.proof_lexers.specs.PlainEnds as ends
-use Rattle.proof_lexers.specs.Separations as passing
+use Rattle.proof_lexers.specs.Ends.{EndsAs}
+use Rattle.proof_lexers.specs.Ends as passing
 use Rattle.proof_scanner.proofs.Sound.WhiteSpaces.{white_of, past_white, past_white_space, white_exactly}
 
 -- over blanks and a comment in a line; what is to be said of a comment that no blank parts from what stands before it
 pub space_told : (text : List ℕ) (tabs : SkipTabs) (more : List ℕ) (p : Position) → (begins_with 35 more ≡ true → Told text (At problem.CommentNotSeparated p)) → (f : Fault) → space tabs more p ≡ Err f → Told text f
-space_told text tabs more p why f k = by (space tabs more p) k (spaces_are_passed tabs more p)
+space_told text tabs more p why f k = by f (refused_as k (spaces_are_passed tabs more p))
   where
-    by : (x : Result (Read Whitespace) Fault) → x ≡ Err f → SpacesAs tabs p more x → Told text f
-    by x i (spaces blanks comment rest cut are fills line ends e) = absurd (cc (i, e))
-    by x i (glued begins e) = let same : At problem.CommentNotSeparated p ≡ f = cc (i, e) in subst (λ g. Told text g) same (why begins)
+    by : (g : Fault) → IsGlued p more g → Told text g
+    by g (glued begins) = why begins
 
 pub spaces_told : (text : List ℕ) (tabs : SkipTabs) (t : ScannerState) → (begins_with 35 t.rest ≡ true → Told text (At problem.CommentNotSeparated t.held.position)) → Faults (Told text) (skip_spaces tabs t)
 unfolding skip_spaces
@@ -63,6 +63,6 @@ white_goes t h = by (skip_yaml_whitespace t) (white_space_is_passed t.held t.res
         of false true h f g = absurd (cc g)
         of false false h f g = absurd (cc h)
 
-    by : (x : Result ScannerState Fault) → GoesOverAs t.held t.rest x → Holds (λ u. (u ≡ past_white_space t) × (is_separation false (white_of false t.rest) (past_white false t.rest) ≡ true)) x → x ≡ Ok (past_white_space t)
-    by x (passing.goes leading separation rest cut fills none e) k = e ∙ ap (λ u. Ok u) (held_of _ k e).0
-    by x (misses separation rest cut fills begins none ends e) k = absurd (first t.rest separation rest h cut begins none ends)
+    by : (x : Result ScannerState Fault) → EndsAs (HasPassed begins_white_space t.held t.rest) (HasNoWhiteSpace t.held t.rest) x → Holds (λ u. (u ≡ past_white_space t) × (is_separation false (white_of false t.rest) (past_white false t.rest) ≡ true)) x → x ≡ Ok (past_white_space t)
+    by x (passing.reads u p e) k = e ∙ ap (λ u. Ok u) (held_of _ k e).0
+    by x (passing.refuses f (misses separation rest cut fills begins none ends) e) k = absurd (first t.rest separation rest h cut begins none ends)

@@ -8,7 +8,7 @@ use Rattle.proof_scanner.proofs.Known.Made.{same_of, waited, Made, outside, insi
 use Rattle.proof_scanner.proofs.Sound.Sides.{with_entries}
 use Rattle.proof_scanner.proofs.Refusals.OtherRows.{StepAt, IsClearAfter}
 use Rattle.proof_scanner.proofs.Refusals.PiecesHere.{acct, whole_by, rest_of}
-use Rattle.proof_scanner.proofs.Refusals.PiecesRefused.{refused, and_last, same_step, no_step, not_nothing}
+use Rattle.proof_scanner.proofs.Refusals.PiecesRefused.{refused, and_last, same_step, no_step, not_nothing, second_fails}
 
 -- ---- the site after a part of a node
 
@@ -186,10 +186,6 @@ module _ (a : Account) (separation rest : List ℕ) (here : Position) (s : StepA
       ap (λ k. site_in (is_in_flow s.account.entries) k there.position s.account.site) is ∙
       (ap (λ p. site_in (is_in_flow s.account.entries) gives_node p s.account.site) s.position_is ∙
       (ap (λ b. site_in b gives_node here s.account.site) (sym (same_flow a.entries s.account.entries s.is_like.2)) ∙ ap (λ x. site_in (is_in_flow a.entries) gives_node here x) (sym s.is_like.0)))
-
-  second_fails : (x y z w : Bool) → y ≡ false → (x && y && z && w) ≡ false
-  second_fails true y z w e = ap (λ b. b && z && w) e
-  second_fails false y z w e = refl
 
   -- a node's piece does not lie deep enough
   pub no_depth : (t : Tok) → s.step.shown ≡ t → act_of t ≡ gives_node → is_deep_enough (is_in_flow a.entries) t (site_at_place a here) ≡ false → ⊥

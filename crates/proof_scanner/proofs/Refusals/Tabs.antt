@@ -1,13 +1,15 @@
 -- A TAB that indents a line: where the way to the next token is refused, the line of what comes next is not indented by spaces.
-use Rattle.proof_scanner.proofs.Common.{[], and_parts, ap, append_assoc, arith, At, begins_line, begins_separation, begins_token, between, Bool, comment, eqb-true, Err, false, Fault, fills_blank, follows_plain, Gap, has_tab_within, Held, if◌then◌else◌, inl, inr, is_before_indent, is_blanks, is_cr_lf, is_empty, is_indented_by_spaces, is_separation, last_line, least_column, length, List, moved, nat_lt, nat_tests, no_hash, not, Ok, passes, PassesAs, past_line, Position, position_after, Previous, refl, refuses, Result, same_blank, same_break, ScannerState, separations_are_passed, skip, skip_to_next_token, subst, suc, sym, tab_line, true, zero, ℕ, ◌&&◌, ◌++◌, ◌+◌, ◌<◌, ◌==◌, ◌||◌, ◌∙◌, ◌∷◌, ◌≡◌, ◌≤◌}
-use Rattle.yaml_chars.specs.Class.{is_break, is_blank}
+use Rattle.proof_scanner.proofs.Common.{[], and_parts, ap, append-nil, append_assoc, arith, At, begins_line, begins_separation, begins_token, between, Bool, eqb-true, Err, false, Fault, fills_blank, follows_plain, Gap, has_tab_within, Held, if◌then◌else◌, is_before_indent, is_blanks, is_empty, is_indented_by_spaces, is_separation, IsTabRefusal, last_line, least_column, length, List, nat_lt, nat_tests, not, not-true, Position, position_after, Previous, refl, Result, same_blank, same_break, ScannerState, separations_are_passed, skip, skip_to_next_token, subst, suc, sym, true, zero, ℕ, ◌&&◌, ◌++◌, ◌+◌, ◌<◌, ◌==◌, ◌||◌, ◌∙◌, ◌∷◌, ◌≡◌, ◌≤◌}
+use Rattle.yaml_chars.specs.Class.{is_break}
 use Rattle.yaml_tokens.specs.declared.problem.Problem.TheVariants as problem
 use Rattle.defs_text.specs.Classes as classes
 use Rattle.proof_scanner.proofs.Cut.Pieces.Separations.{separation_append}
 use Rattle.proof_scanner.proofs.Cut.Positions.{index_after}
 use Rattle.proof_scanner.proofs.Sound.LastLines.{last_more}
-use Rattle.proof_scanner.proofs.Sound.Passed.{skip_stays}
-use Rattle.proof_scanner.proofs.Sound.Skips.{line_more, IsLeast, IsAt, IsIn, feed_next, at_line, at_blank, no_end}
+use Rattle.proof_scanner.proofs.Sound.Passed.{skip_stays, Exact}
+use Rattle.proof_lexers.specs.Ends.{EndsAs, reads, refuses}
+use Rattle.proof_lexers.specs.Separations.{tab_left}
+use Rattle.proof_scanner.proofs.Sound.Skips.{line_more, IsLeast, IsAt, IsIn, IsPassed, skip_tells}
 use Rattle.proof_scanner.proofs.Refusals.Faults.{Faults, fault, goes}
 
 -- ---- a TAB within columns
@@ -40,12 +42,6 @@ module _ (before : Previous) (least : ℕ) where
   abbrev IsTabbed : List ℕ → Type 0
   IsTabbed g = (begins_line before g ≡ true) × (has_tab_within least (last_line g) ≡ true)
 
-  -- where a separation was read so
-  abbrev IsRead : Gap → List ℕ → Held → List ℕ → Type 0
-  IsRead between g s a = IsIn before least between g s a
-  IsRead comment g s a = Unit {0}
-  IsRead tab_line g s a = IsTabbed g
-
   -- What was passed before the fault.
   record TabbedAt (g a : List ℕ) (s : Held) (f : Fault) : Type 0 where
     passed : List ℕ
@@ -55,9 +51,6 @@ module _ (before : Previous) (least : ℕ) where
     is_fault : f ≡ At problem.TabInBlockIndentation place
     index_is : place.index ≡ s.position.index + length passed
     tabbed : IsTabbed (g ++ passed)
-
-  abbrev Tells : List ℕ → Type 0
-  Tells a = (m : Gap) (g : List ℕ) (s : Held) → IsLeast before least s → IsRead m g s a → Faults (TabbedAt g a s) (skip m a s)
 
   one_more : (g a : List ℕ) (c : ℕ) (s u : Held) (r : Result ScannerState Fault) → u.position.index ≡ suc s.position.index → Faults (TabbedAt (g ++ c ∷ []) a u) r → Faults (TabbedAt g (c ∷ a) s) r
   one_more g a c s u r next (fault x) = fault (record {
@@ -71,14 +64,6 @@ module _ (before : Previous) (least : ℕ) where
   })
   one_more g a c s u r next goes = goes
 
-  broken : (m : Gap) (g a : List ℕ) (c : ℕ) (s : Held) → is_break c ≡ true → IsLeast before least s → Tells a → Faults (TabbedAt g (c ∷ a) s) (skip m (c ∷ a) s)
-  unfolding skip
-  broken m g a c s e l ih = rw e (by (is_cr_lf c a) refl)
-    where
-      by : (b : Bool) → is_cr_lf c a ≡ b → Faults (TabbedAt g (c ∷ a) s) (skip between a (if b then moved s else past_line s))
-      by true f = one_more g a c s (moved s) _ (omega arith) (ih between (g ++ c ∷ []) (moved s) l (inl (feed_next before least c a f)))
-      by false f = one_more g a c s (past_line s) _ (omega arith) (ih between (g ++ c ∷ []) (past_line s) l (inr (at_line before least g c s e)))
-
   -- a TAB left of the innermost level
   tab_here : (g : List ℕ) (c : ℕ) (s : Held) → is_break c ≡ false → ((c == 9) && is_before_indent s) ≡ true → IsLeast before least s → IsAt before least g s → IsTabbed (g ++ c ∷ [])
   unfolding is_before_indent
@@ -86,7 +71,7 @@ module _ (before : Previous) (least : ℕ) where
       let q = and_parts (c == 9) (not (is_empty s.indents) && s.leading && nat_lt (s.position.col + 1) s.indent) f in
       let z = and_parts (not (is_empty s.indents) && s.leading) (nat_lt (s.position.col + 1) s.indent) q.1 in
       let y = and_parts (not (is_empty s.indents)) s.leading z.0 in
-      let some : is_empty s.indents ≡ false = is_not (is_empty s.indents) y.0 in
+      let some : is_empty s.indents ≡ false = not-true (is_empty s.indents) y.0 in
       let begins : begins_line before g ≡ true = sym (h.leading_is some) ∙ y.1 in
       let no_break : classes.is_break c ≡ false = same_break c ∙ e in
       let left : s.position.col + 1 < s.indent = grind (arith, nat_tests, z.1) in
@@ -95,10 +80,6 @@ module _ (before : Previous) (least : ℕ) where
         line_more before g c ∙ ap (λ b. b || classes.is_break c) begins,
         ap (λ x. has_tab_within least x) (last_more g c ∙ (ap (λ b. if b then [] else last_line g ++ c ∷ []) no_break ∙ ap (λ d. last_line g ++ d ∷ []) (eqb-true c 9 q.0))) ∙ within_end least (last_line g) (omega (arith, left, level, col)),
       )
-    where
-      is_not : (b : Bool) → not b ≡ true → b ≡ false
-      is_not true e = absurd (cc e)
-      is_not false e = refl
 
   -- a blank more in its line
   blank_after : (g : List ℕ) (c : ℕ) → is_break c ≡ false → IsTabbed g → IsTabbed (g ++ c ∷ [])
@@ -108,69 +89,15 @@ module _ (before : Previous) (least : ℕ) where
         ap (λ x. has_tab_within least x) (last_more g c ∙ ap (λ b. if b then [] else last_line g ++ c ∷ []) no_break) ∙ within_more least least (last_line g) (c ∷ []) (omega arith) h.1,
       )
 
-  between_by : (g a : List ℕ) (c : ℕ) (s : Held) → is_break c ≡ false → IsLeast before least s → IsIn before least between g s (c ∷ a) → Tells a → Faults (TabbedAt g (c ∷ a) s) (skip between (c ∷ a) s)
-  unfolding skip
-  between_by g a c s e l h ih = rw e (by ((c == 9) && is_before_indent s) refl)
-    where
-      no_break : classes.is_break c ≡ false
-      no_break = same_break c ∙ e
-
-      at : (c == 35) ≡ false → IsAt before least g s
-      at f = from h
-        where
-          from : IsIn before least between g s (c ∷ a) → IsAt before least g s
-          from (inl x) = absurd (cc (x, no_end before least c a e f))
-          from (inr x) = x
-
-      no_tab : (c == 9) ≡ true → (c == 35) ≡ false
-      no_tab h = let i : c ≡ 9 = eqb-true c 9 h in rw i refl
-
-      later : (b : Bool) → is_blank c ≡ b → ((c == 9) && is_before_indent s) ≡ false → Faults (TabbedAt g (c ∷ a) s)
-          (if b then skip between a (moved s) else (if c == 35 then skip comment a (record (moved s) { leading = false }) else Ok (record { rest = c ∷ a; held = s })))
-      later true b f = one_more g a c s (moved s) _ (omega arith) (ih between (g ++ c ∷ []) (moved s) l (inr (at_blank before least g c s no_break f l (at (no_hash c b)))))
-      later false b f = last (c == 35) refl
-        where
-          last : (x : Bool) → (c == 35) ≡ x → Faults (TabbedAt g (c ∷ a) s) (if x then skip comment a (record (moved s) { leading = false }) else Ok (record { rest = c ∷ a; held = s }))
-          last true x = one_more g a c s (record (moved s) { leading = false }) _ (omega arith) (ih comment (g ++ c ∷ []) (record (moved s) { leading = false }) l tt)
-          last false x = goes
-
-      by : (t : Bool) → ((c == 9) && is_before_indent s) ≡ t → Faults (TabbedAt g (c ∷ a) s)
-          (if t then skip tab_line a (moved s) else (if is_blank c then skip between a (moved s) else (if c == 35 then skip comment a (record (moved s) { leading = false }) else Ok (record { rest = c ∷ a; held = s }))))
-      by true t =
-          let q = and_parts (c == 9) (is_before_indent s) t in
-          one_more g a c s (moved s) _ (omega arith) (ih tab_line (g ++ c ∷ []) (moved s) l (tab_here g c s e t l (at (no_tab q.0))))
-      by false t = later (is_blank c) refl t
-
-  comment_by : (g a : List ℕ) (c : ℕ) (s : Held) → is_break c ≡ false → IsLeast before least s → Tells a → Faults (TabbedAt g (c ∷ a) s) (skip comment (c ∷ a) s)
-  unfolding skip
-  comment_by g a c s e l ih = rw e (one_more g a c s (moved s) _ (omega arith) (ih comment (g ++ c ∷ []) (moved s) l tt))
-
-  tab_by : (g a : List ℕ) (c : ℕ) (s : Held) → is_break c ≡ false → IsLeast before least s → IsTabbed g → Tells a → Faults (TabbedAt g (c ∷ a) s) (skip tab_line (c ∷ a) s)
-  unfolding skip
-  tab_by g a c s e l h ih = rw e (by (is_blank c) refl (c == 35) refl)
-    where
-      here : TabbedAt g (c ∷ a) s (At problem.TabInBlockIndentation s.position)
-      here = record { passed = []; rest = c ∷ a; place = s.position; cut = refl; is_fault = refl; index_is = omega arith; tabbed = subst (λ y. IsTabbed y) (nothing g) h }
-        where
-          nothing : (g : List ℕ) → g ≡ g ++ []
-          nothing [] = refl
-          nothing (d ∷ g) = ap (λ y. d ∷ y) (nothing g)
-
-      by : (b : Bool) → is_blank c ≡ b → (x : Bool) → (c == 35) ≡ x → Faults (TabbedAt g (c ∷ a) s) (if b then skip tab_line a (moved s) else (if x then skip comment a (moved s) else Err (At problem.TabInBlockIndentation s.position)))
-      by true b x y = one_more g a c s (moved s) _ (omega arith) (ih tab_line (g ++ c ∷ []) (moved s) l (blank_after g c e h))
-      by false b true y = one_more g a c s (moved s) _ (omega arith) (ih comment (g ++ c ∷ []) (moved s) l tt)
-      by false b false y = fault here
-
-  one_by : (m : Gap) (g a : List ℕ) (c : ℕ) (s : Held) (b : Bool) → is_break c ≡ b → IsLeast before least s → IsRead m g s (c ∷ a) → Tells a → Faults (TabbedAt g (c ∷ a) s) (skip m (c ∷ a) s)
-  one_by m g a c s true e l h ih = broken m g a c s e l ih
-  one_by between g a c s false e l h ih = between_by g a c s e l h ih
-  one_by comment g a c s false e l h ih = comment_by g a c s e l ih
-  one_by tab_line g a c s false e l h ih = tab_by g a c s e l h ih
-
-  skip_tells : (a : List ℕ) → Tells a
-  unfolding skip
-  skip_tells [] m g s l h = goes
-  skip_tells (c ∷ a) m g s l h = one_by m g a c s (is_break c) refl l h (skip_tells a)
+  tabs_tell : (a : List ℕ) (m : Gap) (g : List ℕ) (s : Held) → IsLeast before least s → IsPassed before least IsTabbed m g s a → Faults (TabbedAt g a s) (skip m a s)
+  tabs_tell = skip_tells before least (λ g a s r. Faults (TabbedAt g a s) r) IsTabbed (record {
+    ended = λ g s. goes;
+    further = one_more;
+    arrives = λ g a c s at. goes;
+    tab = tab_here;
+    blank = blank_after;
+    fails = λ g a c s h. fault (record { passed = []; rest = c ∷ a; place = s.position; cut = refl; is_fault = refl; index_is = omega arith; tabbed = subst (λ y. IsTabbed y) (sym (append-nil g)) h });
+  })
 
 -- ---- what is said of it
 
@@ -199,11 +126,7 @@ blanks_fill (c ∷ bs) rest h = let q = and_parts (classes.is_blank c) (is_blank
 
 token_solid : (rest : List ℕ) → begins_token rest ≡ true → begins_separation rest ≡ false
 token_solid [] h = refl
-token_solid (c ∷ r) h = is_not _ h
-  where
-    is_not : (b : Bool) → not b ≡ true → b ≡ false
-    is_not true e = absurd (cc e)
-    is_not false e = refl
+token_solid (c ∷ r) h = not-true _ h
 
 -- the least column is not less where a value may be awaited
 least_less : (bs : List ℕ) (a b : Bool) → least_column bs a ≤ least_column bs (a || b)
@@ -215,11 +138,7 @@ least_less (n ∷ ns) false false = omega arith
 tabbed_is : (before : Previous) (bs : List ℕ) (awaits : Bool) (g : List ℕ) → begins_line before g ≡ true → has_tab_within (least_column bs awaits) (last_line g) ≡ true → is_indented_by_spaces before bs awaits g ≡ false
 tabbed_is before bs awaits g b h =
     let more : has_tab_within (least_column bs (awaits || follows_plain before g)) (last_line g ++ []) ≡ true = within_more (least_column bs awaits) (least_column bs (awaits || follows_plain before g)) (last_line g) [] (least_less bs awaits (follows_plain before g)) h in
-    ap (λ x. not x || not (has_tab_within (least_column bs (awaits || follows_plain before g)) (last_line g))) b ∙ ap (λ x. not (has_tab_within (least_column bs (awaits || follows_plain before g)) x)) (nothing (last_line g)) ∙ ap not more
-  where
-    nothing : (g : List ℕ) → g ≡ g ++ []
-    nothing [] = refl
-    nothing (d ∷ g) = ap (λ y. d ∷ y) (nothing g)
+    ap (λ x. not x || not (has_tab_within (least_column bs (awaits || follows_plain before g)) (last_line g))) b ∙ ap (λ x. not (has_tab_within (least_column bs (awaits || follows_plain before g)) x)) (sym (append-nil (last_line g))) ∙ ap not more
 
 -- Where the way to the next token is refused, after a separation that was read so.
 pub skip_refused : (before : Previous) (bs : List ℕ) (awaits : Bool) (separation : List ℕ) (t : ScannerState) → IsLeast before (least_column bs awaits) t.held →
@@ -241,10 +160,10 @@ skip_refused before bs awaits separation t l known = by (begins_separation t.res
     token_is_text [] h = absurd (cc h)
     token_is_text (c ∷ a) h = refl
 
-    told : begins_separation t.rest ≡ true → (x : Result ScannerState Fault) → PassesAs t.held t.rest x → Faults (TabbedAt before least separation t.rest t.held) x → Faults Own x
+    told : begins_separation t.rest ≡ true → (x : Result ScannerState Fault) → EndsAs (Exact t) (IsTabRefusal t.held t.rest) x → Faults (TabbedAt before least separation t.rest t.held) x → Faults Own x
     told begins x p goes = goes
-    told begins x (passes leading passed rest cut fills ends e) (fault d) = absurd (cc e)
-    told begins x (refuses first blanks rest cut fills left are token e) (fault {f = f} d) =
+    told begins x (reads u passed e) (fault d) = absurd (cc e)
+    told begins x (refuses g (tab_left first blanks rest cut fills left are token) e) (fault {f = f} d) =
         let q : Position = position_after t.held.position (first ++ 9 ∷ blanks) rest in
         let same : At problem.TabInBlockIndentation d.place ≡ At problem.TabInBlockIndentation q = sym d.is_fault ∙ fault_of e in
         let place : d.place ≡ q = cc same in
@@ -271,4 +190,4 @@ skip_refused before bs awaits separation t l known = by (begins_separation t.res
 
     by : (b : Bool) → begins_separation t.rest ≡ b → Faults Own (skip between t.rest t.held)
     by false h = subst (λ r. Faults Own r) (sym (skip_stays t.rest t.held h)) goes
-    by true h = told h (skip between t.rest t.held) (separations_are_passed t.held t.rest) (skip_tells before least t.rest between separation t.held l (known h))
+    by true h = told h (skip between t.rest t.held) (separations_are_passed t.held t.rest) (tabs_tell before least t.rest between separation t.held l (known h))

@@ -1,9 +1,8 @@
 -- A TAB after a quoted scalar, on a later line, which would indent the next piece.
-use Rattle.proof_scanner.proofs.Common.{[], ap, append_assoc, Arrives, begins_with, between, Bool, check_after_quoted, closed_first, columns, Context, false, Fault, has_break, has_no_nul, has_open_level, held_of, in_flow, inr, is_empty, is_indented_by_spaces, is_separation, IsQuoted, IsStuck, least_column, List, may_not_stand, Ok, Position, position_after, position_append, quoted_scalar, Read, refl, Result, ScannerState, site_at_place, skip_to_next_token, subst, sym, true, ℕ, ◌++◌, ◌∙◌, ◌≡◌}
+use Rattle.proof_scanner.proofs.Common.{[], ap, append_assoc, Arrives, begins_with, between, Bool, check_after_quoted, closed_first, columns, Context, false, Fault, has_break, has_no_nul, has_open_level, held_of, in_flow, inr, is_empty, is_indented_by_spaces, is_separation, IsQuoted, IsStuck, least_column, List, may_not_stand, no_nul_after, Ok, Position, position_after, position_append, quoted_scalar, Read, refl, Result, ScannerState, site_at_place, skip_to_next_token, subst, sym, true, ℕ, ◌++◌, ◌∙◌, ◌≡◌}
 use Rattle.yaml_tokens.specs.declared.problem.Problem.TheVariants as problem
 use Rattle.proof_scanner.proofs.Cut.Pieces.Separations.{separation_append}
 use Rattle.proof_scanner.proofs.Cut.Saved.{saved_is}
-use Rattle.proof_scanner.proofs.Sound.Arrivals.{clean_after}
 use Rattle.proof_scanner.proofs.Sound.Passed.{least_is, same_has_break}
 use Rattle.proof_scanner.proofs.Sound.QuotedEnds.{Checked, quoted_checked}
 use Rattle.proof_scanner.proofs.Sound.QuotedKeeps.{QuotedAs, in_line}
@@ -91,4 +90,4 @@ module _ (text : List ℕ) (t : ScannerState) (a : Arrives text t) (some : is_em
   tab_told v e = told v (held_of v (quoted_checked t.held.position scalar own (in_line single q.body) clean q.end_is) e)
     where
       clean : has_no_nul x.rest ≡ true
-      clean = clean_after scalar x.rest (subst (λ r. has_no_nul r ≡ true) q.cut a.is_clean)
+      clean = no_nul_after scalar x.rest (subst (λ r. has_no_nul r ≡ true) q.cut a.is_clean)

@@ -1,5 +1,5 @@
 -- Where a tag, a directive or a block scalar's header is none, no row of the text goes on.
-use Rattle.proof_scanner.proofs.Common.{[], Account, after, all_lines, all_of, alpha_starts, and_parts, ap, append-nil, are_marks, AreNotIndented, At, begins_flow, begins_with, begins_with_mark, block_may_end, block_read, block_token, block_value, BlockRead, BlockStyle, Body, body, Bool, column_of, context_of, decoded, decoded_some, directive_begins, directive_line, directive_of, double_quoted, Ending, eqb-true, Err, false, first_line, folded, further, further_text, has_header, has_no_break, has_no_nul, HasNoQuoted, Header, header_of, if◌then◌else◌, in_double_quotes, in_single_quotes, indicator_of, inl, innermost, inr, is_adjacent, is_alpha, is_at_end, is_at_gap, is_at_line_end, is_blank, is_blank_or_end, is_break, is_decimal_digit, is_empty, is_flow, is_further_text, is_in_flow, is_in_line, is_letter, is_nul, is_past, is_tag, is_uri, IsTagRefusal, Kind, kind_at, leading, leading_all, least_column, length, line_is, line_more, lines_after, lines_may_end, List, literal, local_goes_on, local_octets, may_follow, may_precede, More, no_lines, no_nul_after, no_suffix, None, not, of_lines, Ok, Option, past, Position, Problem, put_first, read_body, read_lines, read_may_end, refl, same_end, scalar, single_quoted, site_at_place, slice_index, Some, split, split_append, splits, starts_with_tab, subst, suc, suffix_goes_on, suffix_octets, sym, tag_text, tags_are_read, true, unclosed, up_to_break, verbatim_goes_on, verbatim_octets, Whole, with_value, word, written_tag, zero, ℕ, ◌&&◌, ◌++◌, ◌==◌, ◌||◌, ◌∙◌, ◌∷◌, ◌≡◌, ◌⊎◌}
+use Rattle.proof_scanner.proofs.Common.{[], Account, after, all_lines, all_of, alpha_starts, and_parts, ap, append-nil, are_marks, AreNotIndented, At, begins_flow, begins_with, begins_with_mark, block_may_end, block_read, block_token, block_value, BlockRead, BlockStyle, Body, body, Bool, column_of, context_of, decoded, decoded_some, directive_begins, directive_line, directive_of, double_quoted, Ending, eqb-true, Err, false, first_line, folded, further, further_text, has_header, has_no_break, has_no_nul, HasNoQuoted, Header, header_of, if◌then◌else◌, in_double_quotes, in_single_quotes, indicator_of, inl, innermost, inr, is_adjacent, is_alpha, is_at_end, is_at_gap, is_at_line_end, is_blank, is_blank_or_end, is_break, is_decimal_digit, is_empty, is_flow, is_further_text, is_in_flow, is_in_line, is_letter, is_nul, is_past, is_tag, is_uri, IsTagRefusal, Kind, kind_at, leading, leading_all, least_column, length, line_is, line_more, lines_after, lines_may_end, List, literal, local_goes_on, local_octets, may_follow, may_precede, More, no_lines, no_nul_after, no_suffix, None, not, not-true, of_lines, Ok, Option, past, Position, Problem, put_first, read_body, read_lines, read_may_end, refl, same_end, scalar, single_quoted, site_at_place, slice_index, Some, split, split_append, splits, starts_with_tab, subst, suc, suffix_goes_on, suffix_octets, sym, tag_text, tags_are_read, true, unclosed, up_to_break, verbatim_goes_on, verbatim_octets, Whole, with_value, word, written_tag, zero, ℕ, ◌&&◌, ◌++◌, ◌==◌, ◌||◌, ◌∙◌, ◌∷◌, ◌≡◌, ◌⊎◌}
 use Rattle.defs_text.specs.BlockScalar as block
 use Rattle.defs_text.specs.BlockScalar.{unbroken as unbroken_line}
 use Rattle.defs_token.specs.Account as pieces
@@ -16,6 +16,7 @@ use Rattle.proof_scanner.specs.NoPiece.{quote_of}
 use Rattle.proof_scanner.proofs.Refusals.OtherRows.{StepAt}
 use Rattle.proof_scanner.proofs.Refusals.PiecesHere.{acct, whole_by, rest_of}
 use Rattle.proof_scanner.proofs.Refusals.StandsRefused.{flow_is, no_lines as no_lines_there, no_end as no_end_here}
+use Rattle.proof_scanner.proofs.Cut.Pieces.Blocks.{end_no_text}
 
 -- ---- tags
 
@@ -98,19 +99,7 @@ same_line (c ∷ a) (d ∷ b) x y h k i j n e =
 pub first_of : (line after : List ℕ) → is_in_line line ≡ true → ends_line after ≡ true → up_to_break (line ++ after) ≡ line
 first_of [] [] h e = refl
 first_of [] (c ∷ r) h e = rw e refl
-first_of (c ∷ line) after h e = let parts = and_parts (not (is_break c)) (is_in_line line) h in rw (still (is_break c) parts.0) (ap (λ r. c ∷ r) (first_of line after parts.1 e))
-  where
-    still : (b : Bool) → not b ≡ true → b ≡ false
-    still true h = absurd (cc h)
-    still false h = refl
-
-no_end : (r : List ℕ) → has_no_nul r ≡ true → is_at_end r ≡ true → r ≡ []
-no_end [] h e = refl
-no_end (c ∷ r) h e = absurd (by (is_nul c) (and_parts (not (is_nul c)) (has_no_nul r) h).0 e)
-  where
-    by : (b : Bool) → not b ≡ true → b ≡ true → ⊥
-    by true h e = cc h
-    by false h e = cc e
+first_of (c ∷ line) after h e = let parts = and_parts (not (is_break c)) (is_in_line line) h in rw (not-true (is_break c) parts.0) (ap (λ r. c ∷ r) (first_of line after parts.1 e))
 
 -- a block scalar's piece has the first line of the text
 pub piece_line : (collection : Option ℕ) (piece next : List ℕ) (r : BlockRead) → has_no_nul next ≡ true → block_read collection piece next ≡ Some r → up_to_break (piece ++ next) ≡ up_to_break piece
@@ -123,7 +112,7 @@ piece_line collection piece next r clean is = by ((split piece).complete) refl
     by : (ls : List (List ℕ)) → (split piece).complete ≡ ls → up_to_break (piece ++ next) ≡ up_to_break piece
     by [] e =
         let ends : is_at_end next ≡ true = at_end (is_at_end next) (ap (λ l. read_lines collection l ((split piece).last) next (is_at_end next)) (sym e) ∙ is) in
-        ap (λ z. up_to_break (piece ++ z)) (no_end next clean ends) ∙ ap up_to_break (append-nil piece)
+        ap (λ z. up_to_break (piece ++ z)) (end_no_text next clean ends) ∙ ap up_to_break (append-nil piece)
     by (l ∷ ls) e = line_more piece (λ none. absurd (cc (none, e))) next
 
 -- ---- a TAB after a header
@@ -177,7 +166,7 @@ module _ (collection : Option ℕ) (header more : List ℕ) where
   shorter own d q next r one clean is = by ((split own).complete) ((split own).last) (is_at_end (d ∷ next)) refl refl refl is
     where
       some : is_at_end (d ∷ next) ≡ true → ⊥
-      some e = let none : d ∷ next ≡ [] = no_end (d ∷ next) clean e in cc none
+      some e = let none : d ∷ next ≡ [] = end_no_text (d ∷ next) clean e in cc none
 
       two : (l : List ℕ) (ls : List (List ℕ)) → split own ≡ of_lines (l ∷ ls) [] → (d == 10) ≡ false → ⊥
       two l ls e other =

@@ -1,15 +1,10 @@
 -- Facts where a piece begins: lines and positions, the open key outside flow, and levels of indentation.
-use Rattle.proof_scanner.proofs.Common.{[], and_parts, another, ap, AreCollections, AreLevels, AreNumbered, arith, begins_free_line, begins_separation, BeginsButForKey, block_scalar, Bool, chosen, columns, directive, drop, Entry, false, flow_collection, FlowLevel, free, has_break, has_no_break, has_no_nul, has_open_level, Held, if◌then◌else◌, in_flow, Indent, innermost, is_before_line_feed, is_blank, is_break, is_empty, is_in_column, is_nul, is_waiting, IsLive, IsNotRight, IsTopLevel, Key, least_column, Line, line_past_separation, List, MayChoose, must_be_key, nat_le, nat_lt, nat_tests, None, not, not_ended, NotBefore, Option, outside_key, plain_scalar, Position, position_after, Previous, quoted_scalar, refl, ScannerState, SoFar, Some, subst, suc, sym, taken, tokens_up_to, top_needs_block_end, true, waits, ℕ, ◌&&◌, ◌++◌, ◌+◌, ◌-◌, ◌==◌, ◌||◌, ◌∙◌, ◌∷◌, ◌≡◌, ◌≤◌}
+use Rattle.proof_scanner.proofs.Common.{[], and_false, and_parts, another, ap, AreAround, AreCollections, AreLevels, AreNumbered, arith, begins_free_line, begins_separation, BeginsButForKey, block_scalar, Bool, chosen, columns, directive, drop, Entry, false, flow_collection, FlowLevel, free, has_break, has_no_break, has_open_level, Held, if◌then◌else◌, in_flow, Indent, innermost, is_before_line_feed, is_blank, is_break, is_empty, is_in_column, is_waiting, IsLive, IsNotRight, IsTopLevel, Key, least_column, length, Line, line_past_separation, List, MayChoose, must_be_key, nat_le, nat_lt, nat_tests, None, not, not-false, not_ended, NotBefore, Option, outside_key, plain_scalar, Position, position_after, Previous, quoted_scalar, refl, ScannerState, SoFar, Some, subst, suc, sym, taken, tokens_up_to, top_needs_block_end, true, waits, ℕ, ◌&&◌, ◌++◌, ◌+◌, ◌-◌, ◌==◌, ◌||◌, ◌∙◌, ◌∷◌, ◌≡◌, ◌≤◌}
 use Rattle.proof_scanner.proofs.Cut.Pieces.Inserted.{no_break_on_line}
 use Rattle.proof_scanner.proofs.Cut.Nodes.{IsDeep}
 use Rattle.proof_scanner.proofs.Sound.Sides.{with_entries, ArrivesBy}
 
 -- ---- texts
-
--- what stands after a part of a text without NUL has none
-pub clean_after : (a b : List ℕ) → has_no_nul (a ++ b) ≡ true → has_no_nul b ≡ true
-clean_after [] b h = h
-clean_after (c ∷ a) b h = clean_after a b (and_parts (not (is_nul c)) (has_no_nul (a ++ b)) h).1
 
 pub some_text : (a b : List ℕ) → is_empty a ≡ false → is_empty (a ++ b) ≡ false
 some_text [] b h = absurd (cc h)
@@ -46,11 +41,7 @@ not_free directive (c ∷ r) h = by (is_before_line_feed c r) (none r (tail (is_
   where
     tail : (b : Bool) → not (not b && has_no_break r) ≡ false → has_no_break r ≡ true
     tail true h = absurd (cc h)
-    tail false h = of (has_no_break r) h
-      where
-        of : (b : Bool) → not b ≡ false → b ≡ true
-        of true e = refl
-        of false e = absurd (cc e)
+    tail false h = not-false (has_no_break r) h
 
     none : (r : List ℕ) → has_no_break r ≡ true → (has_break r ≡ false) × (has_break (drop 1 r) ≡ false)
     none [] e = (refl, refl)
@@ -123,10 +114,6 @@ must_be s out l deep = rw out (by s.indents l)
     same : (i c : ℕ) → 1 ≤ i → ((i == c + 1) && true) ≡ (i - 1 == c)
     same i c h = grind (arith, nat_tests)
 
-    none : (b : Bool) → (b && false) ≡ false
-    none true = refl
-    none false = refl
-
     left : (j : ℕ) (ds : List Indent) → AreCollections j ds → j + 1 ≤ s.position.col + 1 → is_in_column s.position.col (columns j ds) ≡ false
     left j [] a h = refl
     left j (d ∷ ds) a h = rw a.0 (of j (omega (arith, a.1)) (omega (arith, h)))
@@ -135,12 +122,12 @@ must_be s out l deep = rw out (by s.indents l)
         of j h k = grind (arith, nat_tests)
 
     by : (ds : List Indent) → AreLevels s.indent ds → ((s.indent == s.position.col + 1) && top_needs_block_end ds) ≡ is_in_column s.position.col (columns s.indent ds)
-    by [] l = none (s.indent == s.position.col + 1)
+    by [] l = and_false (s.indent == s.position.col + 1)
     by (d ∷ ds) l = of d.needs_block_end l.0
       where
         of : (b : Bool) → IsTopLevel b s.indent d.indent ds → ((s.indent == s.position.col + 1) && b) ≡ is_in_column s.position.col (if b then (s.indent - 1) ∷ columns d.indent ds else columns d.indent ds)
         of true t = same s.indent s.position.col (omega (arith, t))
-        of false t = none (s.indent == s.position.col + 1) ∙ sym (left d.indent ds l.1 (omega (arith, t.0, deep)))
+        of false t = and_false (s.indent == s.position.col + 1) ∙ sym (left d.indent ds l.1 (omega (arith, t.0, deep)))
 
 -- ---- numbers of keys
 
@@ -168,3 +155,15 @@ completes_at text t fs ks es a r q e f strict c cs may =
 pub carried_at : (text : List ℕ) (t : ScannerState) (fs : List FlowLevel) (ks : List (Option Key)) (es : List Entry) (a : ArrivesBy text t fs ks es) (r : List ℕ) → t.rest ≡ r → (k : Key) → outside_key es ks ≡ Some k → k.required ≡ true → is_empty es ≡ false → is_empty t.rest ≡ false →
     (cs : List Bool) → BeginsButForKey text (a.separation ++ r) k.position (chosen false cs ks (with_entries a.site a.line es))
 carried_at text t fs ks es a r e k key must inside some cs = subst (λ x. BeginsButForKey text (a.separation ++ x) k.position (chosen false cs ks (with_entries a.site a.line es))) e (a.carries cs k key must inside some)
+
+pub many_around : (fs : List FlowLevel) (ks : List (Option Key)) (es : List Entry) → AreAround fs ks es → length fs ≡ length es
+many_around [] ks [] h = refl
+many_around [] ks (e ∷ es) h = absurd h
+many_around (f ∷ fs) [] es h = absurd h
+many_around (f ∷ fs) (k ∷ ks) [] h = absurd h
+many_around (f ∷ fs) (k ∷ ks) (e ∷ es) h = ap suc (many_around fs ks es h.2)
+
+-- a text that is not empty has a character
+pub not_none : (l : List ℕ) → is_empty l ≡ false → 1 ≤ length l
+not_none [] h = absurd (cc h)
+not_none (c ∷ l) h = omega arith

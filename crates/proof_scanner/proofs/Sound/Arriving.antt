@@ -1,10 +1,10 @@
 -- From what holds between two fetches to what holds where the next piece begins, or at the text's end.
-use Rattle.proof_scanner.proofs.Common.{[], ap, append-nil, AreLevels, arith, Arrives, before_by, before_past, begins_free_line, begins_separation, begins_token, Bool, chained, columns, ends_here, false, Fault, free, has_open_level, HasNoTabs, Held, Holds, inl, inr, is_adjacent, is_at_comment_or_end, is_blank, is_break, is_empty, is_free, is_indented_by_spaces, is_renewed, IsLine, IsLineHere, IsNear, Key, Levels, Line, line_past_separation, List, None, not, on_held, Option, outside_key, Position, refl, Result, ScannerState, site_here, skip_to_next_token, Some, stale, Stands, subst, sym, taken, tried, true, try_held, unroll_indent, unrolled, waits, with_levels, ℕ, ◌++◌, ◌+◌, ◌==◌, ◌>>=◌, ◌||◌, ◌∙◌, ◌∷◌, ◌≡◌, ◌⊎◌}
-use Rattle.proof_scanner.proofs.Cut.Heres.{before_again}
+use Rattle.proof_scanner.proofs.Common.{[], ap, append-nil, AreLevels, arith, Arrives, before_by, before_past, begins_free_line, begins_separation, begins_token, Bool, chained, columns, ends_here, false, Fault, free, has_open_level, HasNoTabs, Held, Holds, inl, inr, is_adjacent, is_at_comment_or_end, is_blank, is_break, is_empty, is_free, is_indented_by_spaces, is_renewed, IsLine, IsLineHere, IsNear, Key, Levels, Line, line_past_separation, List, None, not, not-false, on_held, Option, outside_key, Position, refl, Result, ScannerState, site_here, skip_to_next_token, Some, stale, Stands, subst, sym, taken, tried, true, try_held, unroll_indent, unrolled, waits, with_levels, ℕ, ◌++◌, ◌+◌, ◌==◌, ◌>>=◌, ◌||◌, ◌∙◌, ◌∷◌, ◌≡◌, ◌⊎◌}
 use Rattle.proof_scanner.proofs.Cut.Unrolls.{unrolled_in_flow, unrolled_outside}
 use Rattle.proof_scanner.proofs.Sound.Ended.{Ended, levels_end}
 use Rattle.proof_scanner.proofs.Sound.Stales.{Nearer, no_entries, stale_stands}
 use Rattle.proof_scanner.proofs.Sound.ToToken.{passed_stands}
+use Rattle.proof_row.proofs.Inserted.{before_again}
 
 -- ---- what may begin here
 
@@ -96,41 +96,41 @@ arrives_with text v s solid near u blocks awaits levels tokens = ended
     fl : Bool
     fl = not (is_empty v.held.flow)
 
-    outside : (b : Bool) → not b ≡ false → b ≡ true
-    outside true e = refl
-    outside false e = absurd (cc e)
-
     ended : Arrives text (with_ends v u)
     ended = record {
       base = s.base;
-      separation = s.separation;
-      tokens = v.held.tokens;
-      line = here_by fl (begins_free_line s.base.site.before s.separation) s.base.line;
-      is_clean = s.is_clean;
-      is_filled = s.is_filled;
-      is_solid = solid;
-      position_is = s.position_is;
-      blocks_are = blocks;
-      awaits_is = awaits;
-      are_levels = levels;
-      is_indented = indented text v s solid;
-      one_each = s.one_each;
-      are_entries = s.are_entries;
-      is_line = past_line fl (begins_free_line s.base.site.before s.separation) v.held.key_allowed v.held.position v.rest (outside_key s.base.entries v.held.keys) s.base.line s.line_is;
-      line_is = line_here fl (begins_free_line s.base.site.before s.separation) v.held.key_allowed v.held.position v.rest (outside_key s.base.entries v.held.keys) s.base.line
-          (λ e. near_outside text v s near (outside (is_empty v.held.flow) e)) s.line_is;
-      is_open = s.is_open;
-      is_near = λ out. near_outside text v s near out;
-      no_key = s.no_key;
-      are_numbered = s.are_numbered;
-      tokens_are = tokens;
-      is_adjacent_here = adjacent text v s solid;
-      was_adjacent = s.adjacent_before;
-      started = s.started;
-      going = s.going;
-      carries = s.carries;
+      known = record {
+        among = record {
+          separation = s.separation;
+          tokens = v.held.tokens;
+          line_here = here_by fl (begins_free_line s.base.site.before s.separation) s.base.line;
+          is_clean = s.is_clean;
+          is_filled = s.is_filled;
+          is_solid = solid;
+          position_is = s.position_is;
+          blocks_are = blocks;
+          awaits_is = awaits;
+          are_levels = levels;
+          is_indented = indented text v s solid;
+          is_line = past_line fl (begins_free_line s.base.site.before s.separation) v.held.key_allowed v.held.position v.rest (outside_key s.base.entries v.held.keys) s.base.line s.line_is;
+          no_key = s.no_key;
+          tokens_are = tokens;
+          is_adjacent_here = adjacent text v s solid;
+          was_adjacent = s.adjacent_before;
+          started = s.started;
+          going = s.going;
+        };
+        one_each = s.one_each;
+        are_entries = s.are_entries;
+        line_is = line_here fl (begins_free_line s.base.site.before s.separation) v.held.key_allowed v.held.position v.rest (outside_key s.base.entries v.held.keys) s.base.line
+            (λ e. near_outside text v s near (not-false (is_empty v.held.flow) e)) s.line_is;
+        is_open = s.is_open;
+        is_near = λ out. near_outside text v s near out;
+        are_numbered = s.are_numbered;
+        carries = s.carries;
+        completes = s.completes;
+      };
       knows = s.knows;
-      completes = s.completes;
     }
 
 -- The levels and tokens after the ends of block collections, and what holds then.

@@ -2,6 +2,7 @@
 use Rattle.std.proofs.lemmas.List.{append-nil}
 use Rattle.proof_scanner.proofs.Common.{[], after, after_spaces, ap, append_assoc, At, begins_with, blanks_and_comment, Bool, comment_after, comment_of, eqb-true, Err, false, Fault, has_no_break, Holds, if◌then◌else◌, in_line_position, is_blank, is_break, is_line, is_on_line, is_one_of, is_separation, leading, lexed, List, No, not, Ok, or_false, or_true, past, past_blanks_and_comment, past_comment, past_line_rest, Position, position_after, position_append, position_in_line, Read, refl, refused, Result, same_break, ScannerState, skip_spaces, skip_while, space, space_step, Spaces, spaces_end, span_cut, Stop, subst, sym, true, walk, went, Whitespace, with_found, Yes, ℕ, ◌&&◌, ◌++◌, ◌==◌, ◌||◌, ◌∙◌, ◌∷◌, ◌≡◌}
 use Rattle.yaml_tokens.specs.declared.problem.Problem.TheVariants as problem
+use Rattle.proof_scanner.proofs.Cut.Pieces.Separations.{no_break_append}
 
 -- ---- positions
 
@@ -72,16 +73,8 @@ comment_passed (c ∷ a) p = by (is_break c) refl (comment_passed a (past p))
 -- ---- both
 
 pub line_rest_in_line : (a : List ℕ) → has_no_break (blanks_and_comment a) ≡ true
-line_rest_in_line a = both (leading is_blank a) (comment_of (after is_blank a)) (no_break_in_blanks a) (of_comment (after is_blank a))
+line_rest_in_line a = no_break_append (leading is_blank a) (comment_of (after is_blank a)) (no_break_in_blanks a) (of_comment (after is_blank a))
   where
-    both : (l m : List ℕ) → has_no_break l ≡ true → has_no_break m ≡ true → has_no_break (l ++ m) ≡ true
-    both [] m h k = k
-    both (c ∷ l) m h k = by (is_break c) h (λ g. both l m g k)
-      where
-        by : (b : Bool) → (not b && has_no_break l) ≡ true → (has_no_break l ≡ true → has_no_break (l ++ m) ≡ true) → (not b && has_no_break (l ++ m)) ≡ true
-        by true h f = absurd (cc h)
-        by false h f = f h
-
     of_comment : (a : List ℕ) → has_no_break (comment_of a) ≡ true
     of_comment [] = refl
     of_comment (c ∷ a) = by (c == 35) (no_break_in_line (c ∷ a))

@@ -1,12 +1,12 @@
 -- What stands after a block scalar that the scanner reads: it stands clear of the scalar.
-use Rattle.proof_scanner.proofs.Common.{[], after_break, after_line, after_lines, after_spell, along, and_parts, ap, are_empty, AreLines, arith, bad_header, begins_with, Block, block, block_may_end, block_read, BlockEndsAs, BlockRead, BlockStyle, Bool, both, Break, carriage, collection_of, eqb-true, Err, false, Fault, feed, first_content, first_empty, first_header, Fits, further_position, has_no_nul, if◌then◌else◌, indicator_of, innermost, is_at_end, is_empty, is_empty_line, is_literal_style, is_none, is_shallow, is_single, is_spaces, is_tabbed, leading_spaces, least_column, length, Lined, lined, lines_may_end, List, nat_le, nat_lt, nat_tests, None, not, Ok, Option, past_spaces, Position, position_after, position_past, Read, read_block, read_lines, read_may_end, refl, Result, slice_index, Some, space_past, spell, split, split_spell, suc, sym, tab, tabbed, texts, true, ℕ, ◌&&◌, ◌++◌, ◌+◌, ◌==◌, ◌||◌, ◌∙◌, ◌∷◌, ◌≡◌, ◌≤◌}
+use Rattle.proof_scanner.proofs.Common.{[], after_break, after_line, after_spell, along, and_parts, ap, are_empty, AreLines, arith, begins_with, Block, block, block_may_end, block_read, BlockRead, BlockStyle, Bool, both, Break, carriage, collection_of, eqb-true, false, feed, first_content, first_empty, first_header, Fits, further_position, has_no_nul, if◌then◌else◌, indicator_of, innermost, is_at_end, is_empty, is_empty_line, is_literal_style, is_none, is_shallow, is_single, is_spaces, is_tabbed, IsBlockRead, leading_spaces, least_column, length, Lined, lined, lines_may_end, List, nat_le, nat_lt, nat_tests, None, not, Ok, Option, past_spaces, Position, position_after, position_past, Read, read_as, read_block, read_lines, read_may_end, refl, slice_index, Some, space_past, spell, split, split_spell, suc, sym, tab, texts, true, whole_block, ℕ, ◌&&◌, ◌++◌, ◌+◌, ◌==◌, ◌||◌, ◌∙◌, ◌∷◌, ◌≡◌, ◌≤◌}
 use Rattle.defs_text.specs.Classes.{space}
-use Rattle.proof_lexers.specs.BlockScan.{read, shallow}
-use Rattle.proof_lexers.specs.BlockEnds as ends
+use Rattle.proof_lexers.specs.BlockScan.{read}
 use Rattle.proof_lexers.proofs.Blocks.Ends.{scans_end}
 use Rattle.proof_scanner.proofs.Cut.Pieces.Blocks.{piece_has_line}
 use Rattle.proof_scanner.proofs.Cut.Pieces.Quoted.{some_chars}
 use Rattle.proof_lexers.proofs.Blocks.Written.{Line, put}
+use Rattle.proof_lexers.proofs.Blocks.Margins.{lines_front}
 
 -- ---- the lines of a piece before further text
 
@@ -61,16 +61,12 @@ before_text (l ∷ ls) next a h = (a.0, fits l.by a.1, before_text ls next a.2 h
     fits carriage f = same ls f
     fits both f = tt
 
-margin_col : (ls : List Line) (p : Position) → p.col ≡ 0 → (after_lines ls p).col ≡ 0
-margin_col [] p h = h
-margin_col (l ∷ ls) p h = margin_col ls (after_line l p) refl
-
 -- before further text a piece ends where a line begins
 pub ends_at_margin : (collection : Option ℕ) (piece next : List ℕ) (b : BlockRead) (p : Position) → block_read collection piece next ≡ Some b → is_at_end next ≡ false → (position_after p piece next).col ≡ 0
 ends_at_margin collection piece next b p h e =
     let w : Written piece next = written collection piece next b h e in
     let ls : List Line = w.header ∷ w.lines in
-    ap (λ x. (position_after p x next).col) w.is ∙ (ap (λ (q : Position). q.col) (after_spell ls [] next p (before_text ls next w.are w.no_feed)) ∙ margin_col w.lines (after_line w.header p) refl)
+    ap (λ x. (position_after p x next).col) w.is ∙ (ap (λ (q : Position). q.col) (after_spell ls [] next p (before_text ls next w.are w.no_feed)) ∙ lines_front w.lines (after_line w.header p) refl)
 
 pub spaces_col : (p : Position) (a : List ℕ) → (past_spaces p a).col ≡ p.col + leading_spaces a
 spaces_col p [] = omega arith
@@ -170,18 +166,8 @@ pub record BlockAs (style : BlockStyle) (indent : ℕ) (p : Position) (text : Li
   pub is : r ≡ read_block p scalar piece next
 
 pub block_as : (style : BlockStyle) (indent : ℕ) (more : List ℕ) (p : Position) (r : Read Block) → has_no_nul more ≡ true → block (is_literal_style style) indent (indicator_of style ∷ more) p ≡ Ok r → BlockAs style indent p (indicator_of style ∷ more) r
-block_as style indent more p r none e = by (block (is_literal_style style) indent (indicator_of style ∷ more) p) e (scans_end style indent more p (some_chars more none))
+block_as style indent more p r none e = by r (read_as e (scans_end style indent more p (some_chars more none)))
   where
-    same : (x y : Read Block) → ◌≡◌ {A = Result (Read Block) Fault} (Ok x) (Ok y) → x ≡ y
-    same x y h = ap (λ z. value_or x z) h
-      where
-        value_or : Read Block → Result (Read Block) Fault → Read Block
-        value_or d (Ok w) = w
-        value_or d (Err f) = d
-
-    by : (x : Result (Read Block) Fault) → x ≡ Ok r → BlockEndsAs style indent p more x → BlockAs style indent p (indicator_of style ∷ more) r
-    by x e (bad_header line after f cut in_line at why k) = absurd (cc (e, k))
-    by x e (ends.scalar piece next b cut is looks (shallow free low k)) = absurd (cc (e, k))
-    by x e (ends.scalar piece next b cut is looks (tabbed t k)) = absurd (cc (e, k))
-    by x e (ends.scalar piece next b cut is looks (read free clear k)) =
-        record { piece = piece; next = next; scalar = b; is_text = cut; is_read = is; style_is = looks; may_end = λ bs l. block_clear indent p b piece next bs l is free clear; is = same r (read_block p b piece next) (sym e ∙ k) }
+    by : (x : Read Block) → IsBlockRead style indent p more x → BlockAs style indent p (indicator_of style ∷ more) x
+    by x (whole_block piece next b it (read free clear same)) =
+        record { piece = piece; next = next; scalar = b; is_text = it.is_text; is_read = it.is_read; style_is = it.is_style; may_end = λ bs l. block_clear indent p b piece next bs l it.is_read free clear; is = same }

@@ -1,5 +1,7 @@
 -- Block scalars: what holds where one begins holds between two fetches after it. No key waits over it, and after it a key may begin.
-use Rattle.proof_scanner.proofs.Common.{[], Act, act_of, allow_key, ap, append-nil, append_assoc, arith, Arrives, awaits_past, begins_line, begun_by, begun_outside, Block, block, block_may_end, block_position, block_read, block_scalar, block_style, BlockStyle, Bool, chosen, collection_of, columns, content_position, ends_at, eqb-true, false, fetch_block_scalar, folded, free, further_lines_stand, further_position, gives_block_scalar, has_break, has_no_nul, has_tab_within, Holds, if◌then◌else◌, indicator_of, inl, innermost, innermost_column, inr, is_at_end, is_break, is_deeper, is_empty, is_free, is_in_column, is_indented_by_spaces, is_literal_style, is_nul, is_one_of, is_separation, IsLineHere, IsLive, IsOpenOutside, IsPiece, IsReadOn, IsTakenBy, IsWritten, Key, KnowsKey, least_column, least_for, Levels, lexed, Line, line_past, List, literal, map, may_precede, may_stand, MayChoose, nat_lt, nat_tests, None, not, NotBefore, Ok, on_held, Option, Position, position_after, Previous, previous_by, push, put, Read, read, read_block, refl, ScannerState, seen, shown_position, Site, site_here, site_in, site_past, SoFar, Some, Stands, subst, suc, sym, take, taken, Tok, Token, token, tokens_up_to, true, unroll_non_block_indents, went, without_open, without_spaces, zero, ℕ, ◌&&◌, ◌++◌, ◌==◌, ◌||◌, ◌∙◌, ◌∷◌, ◌≡◌, ◌≤◌, ◌⊎◌}
+use Rattle.proof_scanner.proofs.Common.{[], Act, act_of, allow_key, ap, append-nil, append_assoc, arith, Arrives, awaits_past, begins_line, begun_by, begun_outside, Block, block, block_may_end, block_position, block_read, block_scalar, block_style, BlockStyle, Bool, chosen, collection_of, columns, content_position, ends_at, eqb-true, false, fetch_block_scalar, folded, free, further_lines_stand, further_position, gives_block_scalar, has_break, has_no_nul, has_tab_within, Holds, if◌then◌else◌, indicator_of, inl, innermost, inr, is_at_end, is_break, is_deeper, is_empty, is_free, is_in_column, is_indented_by_spaces, is_literal, is_literal_style, is_nul, is_one_of, is_separation, IsLineHere, IsLive, IsOpenOutside, IsPiece, IsReadOn, IsTakenBy, IsWritten, Key, KnowsKey, least_column, least_for, Levels, lexed, Line, line_past, List, literal, may_precede, may_stand, MayChoose, nat_lt, nat_tests, no_nul_after, None, not, NotBefore, Ok, on_held, Option, Position, position_after, Previous, previous_by, push, put, Read, read, read_block, refl, ScannerState, seen, shown_position, Site, site_here, site_in, site_past, SoFar, Some, Stands, subst, suc, sym, take, taken, Tok, Token, token, tokens_up_to, true, unroll_non_block_indents, went, without_open, without_spaces, zero, ℕ, ◌&&◌, ◌++◌, ◌==◌, ◌||◌, ◌∙◌, ◌∷◌, ◌≡◌, ◌≤◌, ◌⊎◌}
+use Rattle.model_scanner.specs.declared.kind.BlockStyle as kind
+use Rattle.model_scanner.specs.declared.kind.BlockStyle.TheVariants.{Literal, Folded}
 use Rattle.defs_text.specs.Classes.{space}
 use Rattle.defs_token.specs.Account as pieces
 use Rattle.proof_scanner.proofs.Cut.Nodes.{IsDeep}
@@ -8,17 +10,19 @@ use Rattle.proof_scanner.proofs.Cut.Saved.{saved_keys, saved_is}
 use Rattle.proof_scanner.proofs.Cut.Pieces.Blocks.{spaces_of, spaces_cut, spaces_fill, spaces_position, some_piece, piece_of, token_of, IsBelow, below}
 use Rattle.proof_scanner.proofs.Known.Read.{keyless, knows_saved}
 use Rattle.proof_scanner.proofs.Known.Steps.{is_of_node}
-use Rattle.proof_scanner.proofs.Sound.Arrivals.{clean_after, some_rest}
+use Rattle.proof_scanner.proofs.Sound.Arrivals.{some_rest}
 use Rattle.proof_scanner.proofs.Sound.BlockEnds.{IsLeast, BlockAs, block_as, ends_at_margin}
 use Rattle.proof_scanner.proofs.Sound.LastLines.{last_whole}
 use Rattle.proof_scanner.proofs.Sound.NodeSteps.{saved}
 use Rattle.proof_scanner.proofs.Sound.Outsides.{must_be_here, numbered_past, open_node}
 use Rattle.proof_scanner.proofs.Sound.OutsidePieces.{line_free, none_open}
 use Rattle.proof_scanner.proofs.Sound.KeyStarts.{new_key, keys_saved}
-use Rattle.proof_scanner.proofs.Sound.Sides.{with_entries, ArrivesBy, ArrivesOutside, ArrivesInside, arrives_side, StandsBy, stands_by}
+use Rattle.proof_scanner.proofs.Sound.Sides.{with_entries, ArrivesBy, ArrivesOutside, ArrivesInside, arrives_side, stands_by}
 use Rattle.proof_scanner.proofs.Sound.Stales.{none_completes}
 use Rattle.proof_scanner.proofs.Sound.StepsOutside.{piece_cuts, IsHere, Piece, at, piece_completes}
 use Rattle.proof_scanner.proofs.Sound.WithoutOpen.{AreClosed, without_is}
+use Rattle.proof_scanner.proofs.Sound.PlainKeeps.{same_innermost}
+use Rattle.proof_scanner.specs.StandsInRow.{StandsWith}
 
 -- ---- spaces
 
@@ -60,15 +64,11 @@ pub record IsBlockToken (style : BlockStyle) (text : List ℕ) (tok : Tok) : Typ
   pub shown : (s : Site) (piece next : List ℕ) → shown_position s piece tok next ≡ content_position (block_read (innermost s.blocks) piece next) s.position piece next
   pub is_same : tok ≡ token_of style text
 
-pub block_token : (style : BlockStyle) (text : List ℕ) → IsBlockToken style text (Tok.scalar (block_style (is_literal_style style)) text)
+pub block_token : (style : BlockStyle) (text : List ℕ) → IsBlockToken style text (token_of style text)
 block_token literal text = record { act = refl; begun = refl; before = refl; lines = λ c p. refl; precedes = λ bs p n. refl; awaits = λ bs b n. refl; shown = λ s p n. refl; is_same = refl }
 block_token folded text = record { act = refl; begun = refl; before = refl; lines = λ c p. refl; precedes = λ bs p n. refl; awaits = λ bs b n. refl; shown = λ s p n. refl; is_same = refl }
 
 -- ---- the step
-
-pub same_column : (bs : List ℕ) → innermost_column (map (λ n. Some n) bs) ≡ innermost bs
-same_column [] = refl
-same_column (n ∷ bs) = refl
 
 -- what may begin after it: a key, if none must begin with it
 after_by : (must : Bool) (here : Position) (bs : List ℕ) (k : Act) (l : Line) → k ≡ gives_block_scalar → ((l ≡ free) × (must ≡ false)) ⊎ (l ≡ taken) → line_past must here bs k false l ≡ Some (record { line = free; blocks = bs })
@@ -110,7 +110,7 @@ module _ (text : List ℕ) (t : ScannerState) (k : Option Key) (a : ArrivesBy te
   some = some_rest t.rest r.piece r.next r.is_text is_solid
 
   clean : has_no_nul r.next ≡ true
-  clean = clean_after r.piece r.next (subst (λ l. has_no_nul l ≡ true) r.is_text a.is_clean)
+  clean = no_nul_after r.piece r.next (subst (λ l. has_no_nul l ≡ true) r.is_text a.is_clean)
 
   blocks_are : here.blocks ≡ columns w.indent w.indents
   blocks_are = a.blocks_are ∙ closed.same_columns
@@ -128,7 +128,7 @@ module _ (text : List ℕ) (t : ScannerState) (k : Option Key) (a : ArrivesBy te
   seen_here = seen (with_entries a.site a.line []) here a.separation
 
   column_is : pieces.collection_column seen_here ≡ collection_of w.indent
-  column_is = same_column here.blocks ∙ sym least.0
+  column_is = same_innermost here.blocks ∙ sym least.0
 
   seen_read : block_read (pieces.collection_column seen_here) r.piece r.next ≡ Some (record { style = style; column = r.scalar.column; text = r.scalar.text })
   seen_read = ap (λ c. block_read c r.piece r.next) column_is ∙ (r.is_read ∙ ap (λ z. Some (record { style = z; column = r.scalar.column; text = r.scalar.text })) r.style_is)
@@ -306,12 +306,10 @@ module _ (text : List ℕ) (t : ScannerState) (k : Option Key) (a : ArrivesBy te
     (ap not is_solid, subst (λ y. IsPiece (seen (with_entries a.site a.line []) y a.separation) r.piece r.next None (shown_position y r.piece tok r.next) tok) same_site is_piece),
   )
 
-  scalar_by : KnowsKey text (a.separation ++ t.rest) t.held.position k → StandsBy text after_it [] (key_now ∷ []) []
+  scalar_by : KnowsKey text (a.separation ++ t.rest) t.held.position k → StandsWith text after_it [] (key_now ∷ []) (with_entries site_then free [])
   scalar_by known = record {
-    site = site_then;
-    line = free;
     separation = gap;
-    is_clean = clean_after gap rest (subst (λ l. has_no_nul l ≡ true) (spaces_cut r.next) clean);
+    is_clean = no_nul_after gap rest (subst (λ l. has_no_nul l ≡ true) (spaces_cut r.next) clean);
     is_filled = spaces_fill r.next rest;
     position_is = place;
     blocks_are = blocks_are;
@@ -341,7 +339,7 @@ module _ (text : List ℕ) (t : ScannerState) (k : Option Key) (a : ArrivesBy te
   }
 
   pub scalar_stands : KnowsKey text (a.separation ++ t.rest) t.held.position k → Stands text after_it
-  scalar_stands known = stands_by text after_it [] (key_now ∷ []) [] out (keys_saved t k [] keys) (scalar_by known)
+  scalar_stands known = stands_by text after_it [] (key_now ∷ []) _ out (keys_saved t k [] keys) (scalar_by known)
 
 -- ---- the function
 
@@ -351,7 +349,7 @@ read_state t w style x = record {
   rest = x.rest;
   held = record t.held {
     position = x.position;
-    tokens = w.tokens ++ token x.value.position (Tok.scalar (block_style (is_literal_style style)) x.value.text) ∷ [];
+    tokens = w.tokens ++ token x.value.position (token_of style x.value.text) ∷ [];
     keys = saved_keys t.held;
     indents = w.indents;
     indent = w.indent;
@@ -371,7 +369,7 @@ closed_then text t a = without_is t.held.indent t.held.indents t.held.tokens a.a
 pub block_stands : (text : List ℕ) (style : BlockStyle) (t : ScannerState) → IsDeep t.held → (o : ArrivesOutside text t) → (w : Levels) → AreClosed t.held.indent t.held.indents t.held.tokens w → (x : Read Block) → (r : BlockAs style w.indent t.held.position t.rest x) →
     Stands text (read_state t w style x)
 block_stands text style t deep o w closed x r =
-    let tok : Tok = Tok.scalar (block_style (is_literal_style style)) r.scalar.text in
+    let tok : Tok = token_of style r.scalar.text in
     let y : Read Block = read_block t.held.position r.scalar r.piece r.next in
     let stands : Stands text (record { rest = y.rest; held = record t.held { position = y.position; tokens = t.held.tokens ++ token y.value.position tok ∷ []; keys = saved_keys t.held; indents = w.indents; indent = w.indent; key_allowed = true; leading = true } }) =
     scalar_stands text t o.key o.here o.flow_is o.keys_are deep w closed style x r tok (block_token style r.scalar.text) o.knows in
@@ -380,22 +378,22 @@ block_stands text style t deep o w closed x r =
 
 read_as : (text : List ℕ) (style : BlockStyle) (t : ScannerState) (more : List ℕ) → t.rest ≡ indicator_of style ∷ more → ArrivesOutside text t → (indent : ℕ) (x : Read Block) → block (is_literal_style style) indent t.rest t.held.position ≡ Ok x → BlockAs style indent t.held.position t.rest x
 read_as text style t more e o indent x i =
-    let clean : has_no_nul more ≡ true = clean_after (indicator_of style ∷ []) more (subst (λ l. has_no_nul l ≡ true) e o.here.is_clean) in
+    let clean : has_no_nul more ≡ true = no_nul_after (indicator_of style ∷ []) more (subst (λ l. has_no_nul l ≡ true) e o.here.is_clean) in
     subst (λ l. BlockAs style indent t.held.position l x) (sym e) (block_as style indent more t.held.position x clean (ap (λ l. block (is_literal_style style) indent l t.held.position) (sym e) ∙ i))
 
 -- A block scalar is read as in the row.
-pub block_keeps : (text : List ℕ) (lit : Bool) (t : ScannerState) (more : List ℕ) → t.rest ≡ (if lit then 124 else 62) ∷ more → is_empty t.held.flow ≡ true → IsDeep t.held → Arrives text t → Holds (Stands text) (fetch_block_scalar lit t)
+pub block_keeps : (text : List ℕ) (style : kind.BlockStyle) (t : ScannerState) (more : List ℕ) → t.rest ≡ (if is_literal style then 124 else 62) ∷ more → is_empty t.held.flow ≡ true → IsDeep t.held → Arrives text t → Holds (Stands text) (fetch_block_scalar style t)
 unfolding fetch_block_scalar unroll_non_block_indents
-block_keeps text lit t more e out deep arrives =
-    subst (λ h. Holds (Stands text) (lexed (block lit (unroll_non_block_indents (allow_key true h)).indent t.rest t.held.position) (unroll_non_block_indents (allow_key true h))
-    (λ b u. Ok (on_held (λ v. push b.position (Tok.scalar (block_style lit) b.text) (record v { leading = true })) u)))) (sym (saved_is t.held))
-    (read (unroll_non_block_indents (allow_key true (record t.held { keys = saved_keys t.held }))) (block lit w.indent t.rest t.held.position) _ (λ x i. went (by lit e x i (arrives_side text t arrives))))
+block_keeps text style t more e out deep arrives =
+    subst (λ h. Holds (Stands text) (lexed (block (is_literal style) (unroll_non_block_indents (allow_key true h)).indent t.rest t.held.position) (unroll_non_block_indents (allow_key true h))
+    (λ b u. Ok (on_held (λ v. push b.position (Tok.scalar (block_style style) b.text) (record v { leading = true })) u)))) (sym (saved_is t.held))
+    (read (unroll_non_block_indents (allow_key true (record t.held { keys = saved_keys t.held }))) (block (is_literal style) w.indent t.rest t.held.position) _ (λ x i. went (by style e x i (arrives_side text t arrives))))
   where
     w : Levels
     w = levels_then t
 
-    by : (lit : Bool) → t.rest ≡ (if lit then 124 else 62) ∷ more → (x : Read Block) → block lit w.indent t.rest t.held.position ≡ Ok x → ArrivesOutside text t ⊎ ArrivesInside text t →
-        Stands text (record { rest = x.rest; held = record t.held { position = x.position; tokens = w.tokens ++ token x.value.position (Tok.scalar (block_style lit) x.value.text) ∷ []; keys = saved_keys t.held; indents = w.indents; indent = w.indent; key_allowed = true; leading = true } })
-    by lit e x i (inr inside) = absurd (cc (out, ap is_empty inside.flow_is))
-    by true e x i (inl o) = block_stands text literal t deep o w (closed_then text t arrives) x (read_as text literal t more e o w.indent x i)
-    by false e x i (inl o) = block_stands text folded t deep o w (closed_then text t arrives) x (read_as text folded t more e o w.indent x i)
+    by : (style : kind.BlockStyle) → t.rest ≡ (if is_literal style then 124 else 62) ∷ more → (x : Read Block) → block (is_literal style) w.indent t.rest t.held.position ≡ Ok x → ArrivesOutside text t ⊎ ArrivesInside text t →
+        Stands text (record { rest = x.rest; held = record t.held { position = x.position; tokens = w.tokens ++ token x.value.position (Tok.scalar (block_style style) x.value.text) ∷ []; keys = saved_keys t.held; indents = w.indents; indent = w.indent; key_allowed = true; leading = true } })
+    by style e x i (inr inside) = absurd (cc (out, ap is_empty inside.flow_is))
+    by Literal e x i (inl o) = block_stands text literal t deep o w (closed_then text t arrives) x (read_as text literal t more e o w.indent x i)
+    by Folded e x i (inl o) = block_stands text folded t deep o w (closed_then text t arrives) x (read_as text folded t more e o w.indent x i)

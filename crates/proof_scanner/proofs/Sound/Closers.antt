@@ -6,7 +6,7 @@ use Rattle.proof_scanner.proofs.Sound.Blanks.{line_rest_in_line, line_rest_cut, 
 use Rattle.proof_scanner.proofs.Sound.EntryEnds.{act_by}
 use Rattle.proof_scanner.proofs.Sound.Indicated.{indicator_end, none_indents}
 use Rattle.proof_scanner.proofs.Sound.OutsidePieces.{tokens_then, ReadOutside, read_outside, started_tokens}
-use Rattle.proof_scanner.proofs.Sound.Standing.{and_yes, all_true}
+use Rattle.proof_scanner.proofs.Sound.Standing.{all_true, awaits_kept}
 use Rattle.proof_scanner.proofs.Sound.Sides.{with_entries, ArrivesBy}
 
 -- what the last piece was, after one
@@ -27,25 +27,13 @@ pub record IsCloser (closes : Bool) (tok : Tok) (c : ℕ) : Type 0 where
   pub awaits : (fl : Bool) (bs : List ℕ) (b : Bool) (next : List ℕ) → awaits_past fl tok bs b next ≡ b
 
 pub comma : IsCloser false Tok.flow_entry 44
-comma = record { act = refl; begun = refl; is_end = ends_by_comma; shown = λ s p n. refl; previous = refl; least = λ s. refl; lines = λ c p. refl; precedes = λ f bs p n. refl; awaits = alike }
-  where
-    alike : (fl : Bool) (bs : List ℕ) (b : Bool) (next : List ℕ) → awaits_past fl Tok.flow_entry bs b next ≡ b
-    alike true bs b next = refl
-    alike false bs b next = and_yes b
+comma = record { act = refl; begun = refl; is_end = ends_by_comma; shown = λ s p n. refl; previous = refl; least = λ s. refl; lines = λ c p. refl; precedes = λ f bs p n. refl; awaits = awaits_kept _ (λ b. refl) (λ bs b n. refl) }
 
 pub closing_bracket : IsCloser true Tok.flow_sequence_end 93
-closing_bracket = record { act = refl; begun = refl; is_end = ends_sequence; shown = λ s p n. refl; previous = refl; least = λ s. refl; lines = λ c p. refl; precedes = λ f bs p n. refl; awaits = alike }
-  where
-    alike : (fl : Bool) (bs : List ℕ) (b : Bool) (next : List ℕ) → awaits_past fl Tok.flow_sequence_end bs b next ≡ b
-    alike true bs b next = refl
-    alike false bs b next = and_yes b
+closing_bracket = record { act = refl; begun = refl; is_end = ends_sequence; shown = λ s p n. refl; previous = refl; least = λ s. refl; lines = λ c p. refl; precedes = λ f bs p n. refl; awaits = awaits_kept _ (λ b. refl) (λ bs b n. refl) }
 
 pub closing_brace : IsCloser true Tok.flow_mapping_end 125
-closing_brace = record { act = refl; begun = refl; is_end = ends_mapping; shown = λ s p n. refl; previous = refl; least = λ s. refl; lines = λ c p. refl; precedes = λ f bs p n. refl; awaits = alike }
-  where
-    alike : (fl : Bool) (bs : List ℕ) (b : Bool) (next : List ℕ) → awaits_past fl Tok.flow_mapping_end bs b next ≡ b
-    alike true bs b next = refl
-    alike false bs b next = and_yes b
+closing_brace = record { act = refl; begun = refl; is_end = ends_mapping; shown = λ s p n. refl; previous = refl; least = λ s. refl; lines = λ c p. refl; precedes = λ f bs p n. refl; awaits = awaits_kept _ (λ b. refl) (λ bs b n. refl) }
 
 -- no line begins after one, within a line
 pub no_line_begins : (closes : Bool) (f : List ℕ) → has_break f ≡ false → (begins_line (previous_of closes) f ≡ false) × (begins_free_line (previous_of closes) f ≡ false) × (is_renewed (previous_of closes) f ≡ false)

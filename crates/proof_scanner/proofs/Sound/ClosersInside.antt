@@ -1,12 +1,12 @@
 -- Commas and closing brackets in flow: the entry ends, and with it a single pair.
-use Rattle.proof_scanner.proofs.Common.{[], Account, ap, append_assoc, AreAround, AreEntries, AreNumbered, arith, asked_pair, awaits_past, before_by, before_past, begins_free_line, begins_line, begins_with, BeginsButForKey, blanks_and_comment, Bool, chosen, columns, ends_spaces, Entry, false, first_entry, FlowLevel, further_lines_stand, Had, has_break, has_no_break, has_no_nul, HasHad, HasHadHere, inl, inr, is_blank, is_deep_enough, is_empty, is_free, is_fresh, is_indented_by_spaces, is_renewed, is_separation, IsAdjacent, IsCarriedOn, IsEntryOf, IsLine, IsOpenOutside, IsPairOf, IsPiece, IsReadOn, IsTakenBy, Key, Keyed, KnowsKey, least_column, least_for, length, length-append, Line, List, Mapping, may_precede, may_stand, MayChoose, nat_le, no_pair, None, not, NotBefore, Option, outside_key, Pair, pair_end, past, past_blanks_and_comment, past_line_rest, Position, position_after, previous_by, put, refl, ScannerState, seen, single_pair, Site, site_here, site_past, SoFar, Some, Stands, subst, suc, sym, taken, Tok, Token, tokens_up_to, true, Yes, ℕ, ◌&&◌, ◌++◌, ◌<◌, ◌==◌, ◌||◌, ◌∙◌, ◌∷◌, ◌≡◌, ◌≤◌}
+use Rattle.proof_scanner.proofs.Common.{[], Account, ap, append_assoc, AreAround, AreEntries, AreNumbered, arith, asked_pair, awaits_past, before_by, before_past, begins_free_line, begins_line, begins_with, BeginsButForKey, blanks_and_comment, Bool, chosen, columns, ends_spaces, Entry, false, first_entry, FlowLevel, further_lines_stand, Had, has_break, has_no_break, has_no_nul, HasHad, HasHadHere, inl, inr, is_blank, is_deep_enough, is_empty, is_free, is_fresh, is_indented_by_spaces, is_renewed, is_separation, IsAdjacent, IsCarriedOn, IsEntryOf, IsLine, IsOpenOutside, IsPairOf, IsPiece, IsReadOn, IsTakenBy, Key, Keyed, KnowsKey, least_column, least_for, length, length-append, Line, List, Mapping, may_precede, may_stand, MayChoose, nat_le, no_nul_after, no_pair, None, not, not-false, NotBefore, Option, outside_key, Pair, pair_end, past, past_blanks_and_comment, past_line_rest, Position, position_after, previous_by, put, refl, ScannerState, seen, single_pair, Site, site_here, site_past, SoFar, Some, Stands, subst, suc, sym, taken, Tok, Token, tokens_up_to, true, Yes, ℕ, ◌&&◌, ◌++◌, ◌<◌, ◌==◌, ◌||◌, ◌∙◌, ◌∷◌, ◌≡◌, ◌≤◌}
 use Rattle.model_scanner.specs.declared.level.FlowLevel.TheVariants.{Entry as InEntry, Pair as InPair}
 use Rattle.proof_scanner.proofs.Cut.FlowEnds.{closed_tokens, entered, adjacent_collection}
 use Rattle.proof_scanner.proofs.Cut.Positions.{not_before_after, not_before_then, index_after}
 use Rattle.proof_scanner.proofs.Cut.Nodes.{IsDeep, adjacent_other}
 use Rattle.proof_scanner.proofs.Known.Read.{knows_inside}
 use Rattle.proof_scanner.proofs.Sound.Around.{line_taken, tokens_before, unbroken_around, one_around, may_around, open_around}
-use Rattle.proof_scanner.proofs.Sound.Arrivals.{clean_after, deep_enough, numbered_more, numbered_around, completes_at, carried_at}
+use Rattle.proof_scanner.proofs.Sound.Arrivals.{deep_enough, numbered_more, numbered_around, completes_at, carried_at}
 use Rattle.proof_scanner.proofs.Sound.Blanks.{line_rest_cut, line_rest_fills, is_clear, past_rest_is_clear}
 use Rattle.proof_scanner.proofs.Sound.Closers.{previous_of, IsCloser, no_line_begins, no_break_there, reads_on}
 use Rattle.proof_scanner.proofs.Sound.EntryEnds as ends
@@ -15,7 +15,8 @@ use Rattle.proof_scanner.proofs.Sound.Indicated.{indicator_end, none_indents, no
 use Rattle.proof_scanner.proofs.Sound.Inserts.{among}
 use Rattle.proof_scanner.proofs.Sound.NodesInside.{not_keyed}
 use Rattle.proof_scanner.proofs.Sound.Standing.{all_true, deep_for}
-use Rattle.proof_scanner.proofs.Sound.Sides.{with_entries, ArrivesBy, ArrivesInside, StandsBy, stands_by}
+use Rattle.proof_scanner.proofs.Sound.Sides.{with_entries, ArrivesBy, ArrivesInside, stands_by}
+use Rattle.proof_scanner.specs.StandsInRow.{StandsWith}
 
 -- ---- what the model leaves
 
@@ -124,11 +125,7 @@ adjacent_least false fs old new h = h
 adjacent_after : (closes : Bool) (f : FlowLevel) (fs : List FlowLevel) (old : ℕ) (p : Position) (gap rest : List ℕ) → old < p.index → is_separation false gap rest ≡ true → has_break gap ≡ false → ends_spaces Yes rest ≡ true → has_no_nul rest ≡ true →
     is_empty (levels_then closes f fs) ≡ false → IsAdjacent (before_past (before_by (previous_of closes)) gap) p (adjacent_then closes fs old p.index) rest
 adjacent_after true f [] old p gap rest less fills break ends clean some = absurd (cc some)
-adjacent_after true f (g ∷ fs) old p gap rest less fills break ends clean some = adjacent_collection p gap rest fills (no_break_alike gap (in_line (has_no_break gap) break)) ends clean
-  where
-    in_line : (b : Bool) → not b ≡ false → b ≡ true
-    in_line true h = refl
-    in_line false h = absurd (cc h)
+adjacent_after true f (g ∷ fs) old p gap rest less fills break ends clean some = adjacent_collection p gap rest fills (no_break_alike gap (not-false (has_no_break gap) break)) ends clean
 adjacent_after false f fs old p gap rest less fills break ends clean some = adjacent_other p old rest less
 
 -- ---- the step
@@ -233,7 +230,7 @@ module _ (text more : List ℕ) (closes : Bool) (tok : Tok) (c : ℕ) (i : IsClo
       omega (arith, one, two, same)
 
   clean : has_no_nul left ≡ true
-  clean = clean_after gap left (subst (λ r. has_no_nul r ≡ true) (line_rest_cut more) (clean_after (c ∷ []) more (subst (λ r. has_no_nul r ≡ true) cut a.is_clean)))
+  clean = no_nul_after gap left (subst (λ r. has_no_nul r ≡ true) (line_rest_cut more) (no_nul_after (c ∷ []) more (subst (λ r. has_no_nul r ≡ true) cut a.is_clean)))
 
   numbered : (b : Bool) → AreNumbered (length tokens_after) (keys_by b ks)
   numbered b = by b
@@ -249,10 +246,8 @@ module _ (text more : List ℕ) (closes : Bool) (tok : Tok) (c : ℕ) (i : IsClo
       by false = (tt, around)
 
   -- What holds between two fetches holds after it.
-  closer_stands : StandsBy text (closed_past closes t tok more f fs ks) (levels_then closes f fs) (keys_by closes ks) (entries_after closes e es)
+  closer_stands : StandsWith text (closed_past closes t tok more f fs ks) (levels_then closes f fs) (keys_by closes ks) (with_entries (site_after t.held.position) a.line (entries_after closes e es))
   closer_stands = record {
-    site = site_after t.held.position;
-    line = a.line;
     separation = gap;
     is_clean = clean;
     is_filled = line_rest_fills more;
@@ -287,5 +282,5 @@ module _ (text more : List ℕ) (closes : Bool) (tok : Tok) (c : ℕ) (i : IsClo
 pub closed_inside : (text more : List ℕ) (closes : Bool) (tok : Tok) (c : ℕ) → IsCloser closes tok c → (t : ScannerState) (i : ArrivesInside text t) → t.rest ≡ c ∷ more → begins_with 35 more ≡ false → IsDeep t.held →
     Stands text (closed_past closes t tok more i.level i.levels i.keys)
 closed_inside text more closes tok c k t i e hash deep =
-    stands_by text (closed_past closes t tok more i.level i.levels i.keys) (levels_then closes i.level i.levels) (keys_by closes i.keys) (entries_after closes i.entry i.entries) refl refl
+    stands_by text (closed_past closes t tok more i.level i.levels i.keys) (levels_then closes i.level i.levels) (keys_by closes i.keys) _ refl refl
     (closer_stands text more closes tok c k t i.level i.levels i.key i.keys i.entry i.entries i.here deep e hash)

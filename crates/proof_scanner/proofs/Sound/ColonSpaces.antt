@@ -5,6 +5,7 @@ use Rattle.defs_text.specs.Classes as classes
 use Rattle.yaml_tokens.specs.declared.problem.Problem.TheVariants as problem
 use Rattle.proof_scanner.proofs.Sound.Blanks.{same_in_line, line_rest_cut, line_rest_fills, line_rest_in_line, past_rest, rest_read}
 use Rattle.proof_scanner.proofs.Sound.Indicated.{past_one}
+use Rattle.proof_scanner.proofs.Cut.Fetched.{begins_here}
 
 -- what is read after a colon, and the text after that
 abbrev pub colon_gap : List ℕ → List ℕ
@@ -48,10 +49,6 @@ gap_end p more = ap (λ q. pair_position q more) (sym (past_one p 58 more refl))
 
 -- ---- what the model checks
 
-tab_next : (more : List ℕ) → (peek more == 9) ≡ begins_with tab more
-tab_next [] = refl
-tab_next (c ∷ r) = refl
-
 -- a letter after the blanks stands after the comment too, since there is none
 no_letter : (b : List ℕ) → ((peek (past_comment b) == 45) || is_alpha (peek (past_comment b))) ≡ false → begins_with_alpha b ≡ false
 unfolding classes.is_alpha classes.is_decimal_digit classes.is_letter
@@ -82,7 +79,7 @@ colon_spaced more h = by (begins_with tab more) refl
 
     by : (b : Bool) → begins_with tab more ≡ b → Holds (λ u. (u ≡ past_colon more h) × (colon_may_precede more ≡ true)) (if peek more == 9 then lexed (space Yes more h.position) h check_after_tab else Ok t)
     by true e =
-        rw (tab_next more ∙ e) (rest_read t check_after_tab _ (λ _.
+        rw (begins_here 9 more refl ∙ e) (rest_read t check_after_tab _ (λ _.
         checked (not (is_one_of (leading is_blank more) 32) && ((peek (past_blanks_and_comment more) == 45) || is_alpha (peek (past_blanks_and_comment more)))) (At problem.TabAfterColon (past_rest t).held.position) (λ f.
         went (subst (λ b. Ends b (past_rest t)) (sym e) (refl, letter _ _ (begins_with_alpha (after is_blank more)) f (no_letter (after is_blank more)))))))
-    by false e = rw (tab_next more ∙ e) (went (subst (λ b. Ends b t) (sym e) (refl, refl)))
+    by false e = rw (begins_here 9 more refl ∙ e) (went (subst (λ b. Ends b t) (sym e) (refl, refl)))

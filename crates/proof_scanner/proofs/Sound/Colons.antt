@@ -1,5 +1,5 @@
 -- A colon that ends no key: what holds where it begins holds between two fetches after it.
-use Rattle.proof_scanner.proofs.Common.{[], allow_key, ap, append_assoc, AreLevels, AreNumbered, arith, At, before_by, before_past, begin_keyless_mapping, begin_keyless_value, begun_inside, begun_outside, Bool, chained, checked, colon_may_precede, columns, ends_at, entries_past, Entry, false, Fault, FlowLevel, free, fresh, gives_colon, Had, had_after, has_break, has_open_level, Held, Holds, if◌then◌else◌, in_flow, Indent, inl, inr, is_adjacent, is_break, is_deeper, is_empty, is_in_column, is_renewed, is_value, is_value_indicator, IsEntryOf, IsPairOf, Key, Keyed, length, length-append, line_past, List, Mapping, None, not, not_ended, Ok, on_held, opened, opens_pair, Option, Outside, Pair, pair_past, pair_position, paired, past, placed, Position, position_after, push, put, refl, renewed, Result, roll_indent, roll_one_col_indent, ScannerState, settled, Some, Stands, start_if, subst, sym, takes_pair, Tok, Token, token, top_key, tried, true, went, with_held, ℕ, ◌++◌, ◌+◌, ◌>>=◌, ◌∙◌, ◌∷◌, ◌≡◌, ◌⊎◌}
+use Rattle.proof_scanner.proofs.Common.{[], allow_key, ap, append_assoc, AreLevels, AreNumbered, arith, At, before_by, before_past, begin_keyless_mapping, begin_keyless_value, begun_inside, begun_outside, Bool, chained, checked, colon_may_precede, columns, ends_at, entries_past, Entry, false, Fault, FlowLevel, free, fresh, gives_colon, Had, had_after, has_break, has_open_level, Held, Holds, if◌then◌else◌, in_flow, Indent, inl, inr, is_adjacent, is_break, is_deeper, is_empty, is_in_column, is_renewed, is_value, is_value_indicator, IsEntryOf, IsPairOf, Key, Keyed, length, length-append, line_past, List, Mapping, None, not, not-false, not_ended, Ok, on_held, opened, opens_pair, Option, Pair, pair_past, pair_position, paired, past, placed, Position, position_after, push, put, refl, renewed, Result, roll_indent, roll_one_col_indent, ScannerState, settled, Some, Stands, start_if, subst, sym, takes_pair, Tok, Token, token, top_key, tried, true, went, with_held, ℕ, ◌++◌, ◌+◌, ◌>>=◌, ◌∙◌, ◌∷◌, ◌≡◌, ◌⊎◌}
 use Rattle.yaml_tokens.specs.declared.problem.Problem.TheVariants as problem
 use Rattle.defs_token.specs.FlowEntry.{with_had}
 use Rattle.model_scanner.specs.declared.level.FlowLevel.TheVariants.{Entry as InEntry, Pair as InPair}
@@ -12,8 +12,8 @@ use Rattle.proof_scanner.proofs.Sound.Around.{tokens_before}
 use Rattle.proof_scanner.proofs.Sound.ColonSpaces.{colon_gap, past_gap, gap_cut, gap_fills, gap_in_line, gap_end}
 use Rattle.proof_scanner.proofs.Sound.EntryPieces.{low_enough, ReadInside, goes_inside}
 use Rattle.proof_scanner.proofs.Sound.Indicated.{past_one}
-use Rattle.proof_scanner.proofs.Sound.OutsidePieces.{read_outside, line_free, spaces_in_line, started_tokens}
-use Rattle.proof_scanner.proofs.Sound.Questions.{with_mapping, pair_level, same_kind}
+use Rattle.proof_scanner.proofs.Sound.OutsidePieces.{read_outside, line_free, spaces_in_line, started_tokens, begun_after, with_start}
+use Rattle.proof_scanner.proofs.Sound.Questions.{pair_level, same_kind}
 use Rattle.proof_scanner.proofs.Sound.Rolled.{RollsTo, rolls_to, OpensOne, opens_one, opens_none, opened_some, some_levels}
 use Rattle.proof_scanner.proofs.Sound.Sides.{ArrivesBy}
 
@@ -45,15 +45,11 @@ colon_end t more ds i ts allowed fs ks = record {
 
 -- ---- outside flow
 
--- what may begin after it
-abbrev pub after_colon : (here : Position) → List ℕ → Outside
-after_colon here bs = record { line = free; blocks = opened here.col (not_ended here.col bs) }
-
 pub keyless_stands : (text more : List ℕ) (t : ScannerState) (a : ArrivesBy text t [] (None ∷ []) []) → t.rest ≡ 58 ∷ more → t.held.key_allowed ≡ true → colon_may_precede more ≡ true →
     is_value_indicator false (is_adjacent (before_past (before_by a.site.before) a.separation)) more ≡ true → (i : ℕ) (ds : List Indent) → columns i ds ≡ opened t.held.position.col (columns t.held.indent t.held.indents) → AreLevels i ds → has_open_level ds ≡ true →
-    Stands text (colon_end t more ds i (with_mapping t) true [] (None ∷ []))
+    Stands text (colon_end t more ds i (with_start Tok.block_mapping_start t) true [] (None ∷ []))
 keyless_stands text more t a e allowed apart ind i ds columns_are levels awaits =
-    read_outside text t (colon_end t more ds i (with_mapping t) true [] (None ∷ [])) a (58 ∷ []) more Tok.value (after_colon t.held.position a.site.blocks) (record {
+    read_outside text t (colon_end t more ds i (with_start Tok.block_mapping_start t) true [] (None ∷ [])) a (58 ∷ []) more Tok.value (begun_after t.held.position a.site.blocks) (record {
       is_solid = refl;
       is_piece = (refl, ind);
       stands = rw (a.is_indented (ap is_empty e), apart) refl;
@@ -92,7 +88,7 @@ keyless_stands text more t a e allowed apart ind i ds columns_are levels awaits 
 -- The levels after it: that of a mapping, if one begins, and one that no collection opens.
 pub record KeylessLevels (more : List ℕ) (t : ScannerState) : Type 0 where
   pub mapping : RollsTo t.held.position.col None (token t.held.position Tok.block_mapping_start) (at_value more t [] (None ∷ [])) (roll_indent t.held.position.col None Tok.block_mapping_start t.held.position (at_value more t [] (None ∷ [])))
-  pub level : (let rolled = record (at_value more t [] (None ∷ [])) { indents = mapping.indents; indent = mapping.indent; tokens = with_mapping t } in OpensOne rolled (roll_one_col_indent rolled))
+  pub level : (let rolled = record (at_value more t [] (None ∷ [])) { indents = mapping.indents; indent = mapping.indent; tokens = with_start Tok.block_mapping_start t } in OpensOne rolled (roll_one_col_indent rolled))
 
 pub keyless_levels : (more : List ℕ) (t : ScannerState) → AreLevels t.held.indent t.held.indents → IsDeep t.held → KeylessLevels more t
 keyless_levels more t levels deep =
@@ -101,7 +97,7 @@ keyless_levels more t levels deep =
     rolls_to t.held.position.col None Tok.block_mapping_start t.held.position h refl levels (first_not_right t.held.position.col t.held.indent t.held.indents levels deep) in
     record {
       mapping = r;
-      level = opens_one (record h { indents = r.indents; indent = r.indent; tokens = with_mapping t }) refl r.are_levels (some_levels r.indent r.indents (ap is_empty r.columns_are ∙ opened_some t.held.position.col (columns t.held.indent t.held.indents)));
+      level = opens_one (record h { indents = r.indents; indent = r.indent; tokens = with_start Tok.block_mapping_start t }) refl r.are_levels (some_levels r.indent r.indents (ap is_empty r.columns_are ∙ opened_some t.held.position.col (columns t.held.indent t.held.indents)));
     }
 
 pub keyless_outside : (text more : List ℕ) (t : ScannerState) (a : ArrivesBy text t [] (None ∷ []) []) → t.rest ≡ 58 ∷ more → colon_may_precede more ≡ true → is_value_indicator false (is_adjacent (before_past (before_by a.site.before) a.separation)) more ≡ true → IsDeep t.held →
@@ -118,19 +114,15 @@ keyless_outside text more t a e apart ind deep =
     k = keyless_levels more t a.are_levels deep
 
     rolled : Held
-    rolled = record h { indents = k.mapping.indents; indent = k.mapping.indent; tokens = with_mapping t }
+    rolled = record h { indents = k.mapping.indents; indent = k.mapping.indent; tokens = with_start Tok.block_mapping_start t }
 
     last : Held
     last = record rolled { indents = k.level.indents; indent = k.level.indent; key_allowed = true }
 
     begun : Holds (λ y. (y ≡ last) × (t.held.key_allowed ≡ true)) (begin_keyless_value t.held.position false h)
     begun =
-        chained {P = λ u. (u ≡ rolled) × (t.held.key_allowed ≡ true)} (checked (not t.held.key_allowed) (At problem.ValueNotAllowed t.held.position) (λ f. went (k.mapping.is_held, allowed t.held.key_allowed f))) (λ u d.
+        chained {P = λ u. (u ≡ rolled) × (t.held.key_allowed ≡ true)} (checked (not t.held.key_allowed) (At problem.ValueNotAllowed t.held.position) (λ f. went (k.mapping.is_held, not-false t.held.key_allowed f))) (λ u d.
         subst (λ y. Holds (λ z. (z ≡ last) × (t.held.key_allowed ≡ true)) (let v = roll_one_col_indent y in Ok (allow_key (not (in_flow v)) v))) (sym d.0) (went (ap (λ v. allow_key (not (in_flow v)) v) k.level.is_held, d.1)))
-      where
-        allowed : (b : Bool) → not b ≡ false → b ≡ true
-        allowed true f = refl
-        allowed false f = absurd (cc f)
 
 -- ---- in flow
 

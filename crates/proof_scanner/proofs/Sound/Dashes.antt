@@ -1,5 +1,5 @@
 -- The function of the model that reads a dash: what holds where it begins holds between two fetches after it.
-use Rattle.proof_scanner.proofs.Common.{[], after, allow_key, ap, AreLevels, Arrives, At, begins_entry, blanks_and_comment, Bool, chained, check_block_entry, check_dash, checked, columns, dash_may_precede, ends_at, eqb-true, false, Fault, fetch_block_entry, free, gives_dash, has_open_level, Held, Holds, if◌then◌else◌, in_flow, Indent, inl, inr, is_at_break_or_flow, is_at_gap, is_blank, is_blank_or_breakz, is_break, is_deeper, is_empty, is_in_column, is_on_line, is_one_of, leading, lexed, line_past, List, No, None, not, not_ended, Ok, on_held, opened, Outside, past, past_blanks_and_comment, past_comment, past_line_rest, peek, placed, Position, position_after, push, put, refl, remove_implicit_key, Result, roll_entry, roll_indent, roll_one_col_indent, same_break, ScannerState, skip_indicator, skip_spaces, slice_index, space, Stands, start_if, subst, sym, Tok, Token, token, top_needs_block_end, tried, true, try_held, went, with_top, Yes, ℕ, ◌&&◌, ◌++◌, ◌==◌, ◌>>=◌, ◌||◌, ◌∙◌, ◌∷◌, ◌≡◌, ◌⊎◌}
+use Rattle.proof_scanner.proofs.Common.{[], after, allow_key, ap, AreLevels, Arrives, At, begins_entry, blanks_and_comment, Bool, chained, check_block_entry, check_dash, checked, columns, dash_may_precede, ends_at, eqb-true, false, Fault, fetch_block_entry, gives_dash, has_open_level, Held, Holds, if◌then◌else◌, in_flow, Indent, inl, inr, is_at_break_or_flow, is_at_gap, is_blank, is_blank_or_breakz, is_break, is_deeper, is_empty, is_in_column, is_on_line, is_one_of, leading, lexed, line_past, List, No, None, not, not-false, not_ended, Ok, on_held, opened, past, past_blanks_and_comment, past_comment, past_line_rest, peek, placed, Position, position_after, push, put, refl, remove_implicit_key, Result, roll_entry, roll_indent, roll_one_col_indent, same_break, ScannerState, skip_indicator, skip_spaces, slice_index, space, Stands, start_if, subst, sym, Tok, Token, token, top_needs_block_end, tried, true, try_held, went, with_top, Yes, ℕ, ◌&&◌, ◌++◌, ◌==◌, ◌>>=◌, ◌||◌, ◌∙◌, ◌∷◌, ◌≡◌, ◌⊎◌}
 use Rattle.yaml_chars.specs.Class.{is_break as is_break_here, is_flow as is_flow_here}
 use Rattle.yaml_tokens.specs.declared.problem.Problem.TheVariants as problem
 use Rattle.model_scanner.specs.State.{after as after_first}
@@ -10,7 +10,7 @@ use Rattle.proof_scanner.proofs.Cut.Blocks.{entry_from, key_removed}
 use Rattle.proof_scanner.proofs.Sound.Arrivals.{first_not_right}
 use Rattle.proof_scanner.proofs.Sound.Blanks.{line_rest_cut, line_rest_fills, line_rest_in_line, past_rest_is_clear, found_in, past_rest, rest_read, none_skipped}
 use Rattle.proof_scanner.proofs.Sound.Indicated.{past_one, indicator_end}
-use Rattle.proof_scanner.proofs.Sound.OutsidePieces.{read_outside, line_free, none_open, spaces_in_line, started_tokens}
+use Rattle.proof_scanner.proofs.Sound.OutsidePieces.{read_outside, line_free, none_open, spaces_in_line, started_tokens, begun_after, with_start}
 use Rattle.proof_scanner.proofs.Sound.Rolled.{RollsTo, rolls_to, OpensOne, opens_one, top_closed}
 use Rattle.proof_scanner.proofs.Sound.Sides.{ArrivesBy, ArrivesOutside, ArrivesInside, arrives_side}
 
@@ -19,11 +19,7 @@ use Rattle.proof_scanner.proofs.Sound.Sides.{ArrivesBy, ArrivesOutside, ArrivesI
 -- an entry stands outside flow, where a key may begin
 entry_checked : (s : Held) → Holds (λ u. (u ≡ s) × (in_flow s ≡ false) × (s.key_allowed ≡ true)) (check_block_entry s)
 unfolding check_block_entry
-entry_checked s = checked (in_flow s) (At problem.BlockEntryInFlow s.position) (λ e. checked (not s.key_allowed) (At problem.BlockEntryNotAllowed s.position) (λ f. went (refl, e, allowed s.key_allowed f)))
-  where
-    allowed : (b : Bool) → not b ≡ false → b ≡ true
-    allowed true f = refl
-    allowed false f = absurd (cc f)
+entry_checked s = checked (in_flow s) (At problem.BlockEntryInFlow s.position) (λ e. checked (not s.key_allowed) (At problem.BlockEntryNotAllowed s.position) (λ f. went (refl, e, not-false s.key_allowed f)))
 
 -- no dash stands after a TAB
 dash_checked : (more : List ℕ) (t : ScannerState) → t.rest ≡ past_blanks_and_comment more → Holds (λ u. (u ≡ t) × (dash_may_precede more ≡ true)) (check_dash (found_in (leading is_blank more)) t)
@@ -92,10 +88,6 @@ dash_end t more ds i ts = record {
   };
 }
 
--- the tokens with the start of a sequence, if one begins
-abbrev pub with_sequence : ScannerState → List Token
-with_sequence t = (if is_deeper t.held.position.col (columns t.held.indent t.held.indents) then placed None (token t.held.position Tok.block_sequence_start) t.held.tokens else t.held.tokens)
-
 pub past_dash : (p : Position) (next : List ℕ) → position_after p (45 ∷ []) next ≡ past p
 unfolding is_break
 past_dash p next = past_one p 45 next refl
@@ -104,15 +96,11 @@ dash_ends : (p : Position) (more : List ℕ) → past_line_rest (past p) more �
 unfolding is_break
 dash_ends p more = indicator_end p 45 more refl
 
--- what may begin after it
-abbrev pub after_dash : (here : Position) → List ℕ → Outside
-after_dash here bs = record { line = free; blocks = opened here.col (not_ended here.col bs) }
-
 pub dash_stands : (text more : List ℕ) (t : ScannerState) (a : ArrivesBy text t [] (None ∷ []) []) → t.held.flow ≡ [] → t.held.keys ≡ None ∷ [] → t.rest ≡ 45 ∷ more → is_at_gap more ≡ true → t.held.key_allowed ≡ true → dash_may_precede more ≡ true →
     (i : ℕ) (ds : List Indent) → columns i ds ≡ opened t.held.position.col (columns t.held.indent t.held.indents) → AreLevels i ds → has_open_level ds ≡ is_at_break_or_flow (past_blanks_and_comment more) →
-    Stands text (dash_end t more ds i (with_sequence t))
+    Stands text (dash_end t more ds i (with_start Tok.block_sequence_start t))
 dash_stands text more t a flow keys e gap allowed apart i ds columns_are levels awaits =
-    read_outside text t (dash_end t more ds i (with_sequence t)) a (45 ∷ []) more Tok.block_entry (after_dash t.held.position a.site.blocks) (record {
+    read_outside text t (dash_end t more ds i (with_start Tok.block_sequence_start t)) a (45 ∷ []) more Tok.block_entry (begun_after t.held.position a.site.blocks) (record {
       is_solid = refl;
       is_piece = (refl, gap, refl);
       stands = rw (a.is_indented (ap is_empty e), apart) refl;
@@ -146,7 +134,7 @@ dash_stands text more t a flow keys e gap allowed apart i ds columns_are levels 
     own : Position → Token
     own q = put (past_line_rest q more) Tok.block_entry
 
-    tokens : with_sequence t ++ own (past t.held.position) ∷ [] ≡ a.tokens ++ ((ends_at t.held.position a.site.blocks bs ++ start_if (is_deeper t.held.position.col bs) t.held.position Tok.block_sequence_start) ++ (own (position_after t.held.position (45 ∷ []) more) ∷ []))
+    tokens : with_start Tok.block_sequence_start t ++ own (past t.held.position) ∷ [] ≡ a.tokens ++ ((ends_at t.held.position a.site.blocks bs ++ start_if (is_deeper t.held.position.col bs) t.held.position Tok.block_sequence_start) ++ (own (position_after t.held.position (45 ∷ []) more) ∷ []))
     tokens =
         ap (λ cs. (if is_deeper t.held.position.col cs then placed None (token t.held.position Tok.block_sequence_start) t.held.tokens else t.held.tokens) ++ own (past t.held.position) ∷ []) (sym a.blocks_are) ∙
         (started_tokens (is_deeper t.held.position.col bs) t.held.tokens a.tokens (ends_at t.held.position a.site.blocks bs) t.held.position Tok.block_sequence_start (own (past t.held.position)) a.tokens_are ∙
@@ -184,7 +172,7 @@ dash_outside text more t a flow keys e gap allowed deep =
     r = rolls_to t.held.position.col None Tok.block_sequence_start t.held.position h out a.are_levels (first_not_right t.held.position.col t.held.indent t.held.indents a.are_levels deep)
 
     v : ScannerState
-    v = record { rest = more; held = record h { indents = r.indents; indent = r.indent; tokens = with_sequence t } }
+    v = record { rest = more; held = record h { indents = r.indents; indent = r.indent; tokens = with_start Tok.block_sequence_start t } }
 
     is_v : on_held (roll_indent t.held.position.col None Tok.block_sequence_start t.held.position) (skip_indicator t) ≡ v
     is_v = ap (λ x. record { rest = after_first x; held = roll_indent t.held.position.col None Tok.block_sequence_start t.held.position h }) e ∙ ap (λ x. record { rest = more; held = x }) r.is_held

@@ -17,6 +17,7 @@ use Rattle.proof_scanner.proofs.Sound.KeyStarts.{one_more}
 use Rattle.proof_scanner.proofs.Sound.Standing.{all_true}
 use Rattle.proof_scanner.proofs.Sound.Sides.{with_entries, ArrivesBy, ArrivesOutside, ArrivesInside, arrives_side}
 use Rattle.proof_scanner.proofs.Sound.StreamEnds.{ends_of, positive, all_levels, shorter}
+use Rattle.proof_scanner.proofs.Cut.Unrolls.{unrolled_in_flow}
 
 -- What is said of the token of a document marker or a directive.
 pub record IsDocumentToken (tok : Tok) : Type 0 where
@@ -104,10 +105,6 @@ unrolled_outside s e a =
     let ts : List Token = s.tokens ++ ends_of (length (columns s.indent s.indents)) s.position in
     let same : unrolled 0 s.position s.indent s.indents s.tokens ≡ record { indent = 0; indents = []; tokens = ts } = same_levels (unrolled 0 s.position s.indent s.indents s.tokens) ts g.0 g.1 (all_levels s.position s.indent s.indents s.tokens a) in
     rw e (ap (λ (u : Levels). record s { indent = u.indent; indents = u.indents; tokens = u.tokens }) same)
-
-pub unrolled_inside : (s : Held) → in_flow s ≡ true → unroll_indent 0 s ≡ s
-unfolding unroll_indent
-unrolled_inside s e = rw e refl
 
 -- ---- outside flow
 
@@ -283,7 +280,7 @@ begins text t some a = by (arrives_side text t a)
     }
     by (inr i) = record {
       held = t.held;
-      rolled = unrolled_inside t.held (ap (λ fs. not (is_empty fs)) i.flow_is);
+      rolled = unrolled_in_flow 0 t.held (ap is_empty i.flow_is);
       same_position = refl;
       stands = λ d r none. inside_at text t i d r;
     }

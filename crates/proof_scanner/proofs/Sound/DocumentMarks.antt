@@ -1,26 +1,21 @@
 -- The functions of the model that read document markers and directives keep what holds where they begin.
-use Rattle.proof_scanner.proofs.Common.{[], and_parts, another, ap, Arrives, begin_line, begins_free_line, begins_line, begins_with, blanks_and_comment, Bool, chained, check_document_end, Directive, directive_of, DirectiveEndsAs, directives_end, drop, either, eqb-true, false, Fault, fetch_directive, fetch_document_end, fetch_document_marker, first_break, has_break, has_no_break, has_no_nul, has_tab_within, HasFirst, Held, Holds, if◌then◌else◌, is_at_gap, is_before_line_feed, is_break, is_breakz, is_empty, is_indented_by_spaces, is_renewed, is_required, IsPiece, IsReadOn, last_line, least_column, line_is_done, List, may_precede, None, not, Ok, on_held, past, past_blanks_and_comment, past_line_rest, peek, Position, position_after, position_append, previous_by, push, read, reads, refl, refused, reserved, Result, ScannerState, skip_indicator, Some, split, split_by, Stands, subst, suc, sym, tag_declaration, take, Tok, token_of, top_key, tried, true, version, went, without_break, zero, ℕ, ◌&&◌, ◌++◌, ◌==◌, ◌||◌, ◌∙◌, ◌∷◌, ◌≡◌}
+use Rattle.proof_scanner.proofs.Common.{[], and_false, and_parts, another, ap, Arrives, begin_line, begins_free_line, begins_line, begins_with, blanks_and_comment, Bool, chained, check_document_end, Directive, directive_of, directives_end, drop, either, eqb-true, false, fetch_directive, fetch_document_end, fetch_document_marker, first_break, has_break, has_no_break, has_no_nul, has_tab_within, HasFirst, Held, Holds, if◌then◌else◌, is_at_gap, is_before_line_feed, is_break, is_breakz, is_empty, is_indented_by_spaces, is_renewed, is_required, IsDirectiveRead, IsPiece, IsReadOn, last_line, least_column, line_is_done, List, may_precede, no_nul_after, None, not, Ok, on_held, or_true, past, past_blanks_and_comment, past_line_rest, peek, Position, position_after, position_append, previous_by, push, read, read_as, refl, refused, reserved, ScannerState, skip_indicator, Some, split, split_by, Stands, subst, suc, sym, tag_declaration, take, Tok, token_of, top_key, tried, true, version, went, whole_directive, without_break, zero, ℕ, ◌++◌, ◌==◌, ◌||◌, ◌∙◌, ◌∷◌, ◌≡◌}
 use Rattle.defs_token.specs.Step.{directive as after_directive}
 use Rattle.model_scanner.specs.Machine as machine
 use Rattle.model_scanner.specs.Directive.{directive}
-use Rattle.proof_lexers.specs.DirectiveEnds.{ends_line, next_line, after_line, refuses}
+use Rattle.proof_lexers.specs.DirectiveEnds.{ends_line, next_line}
 use Rattle.proof_scanner.proofs.Cut.Documents.{three_past}
 use Rattle.proof_scanner.proofs.Cut.Pieces.Directives.{break_cut, break_is_separation, line_end_there, piece_of, percent_in_line}
-use Rattle.proof_scanner.proofs.Sound.Arrivals.{clean_after}
 use Rattle.proof_scanner.proofs.Sound.Blanks.{same_in_line, line_rest_in_line, line_rest_cut, line_rest_fills, past_rest, rest_skipped}
 use Rattle.proof_scanner.proofs.Sound.DocumentLines as lines
 use Rattle.proof_scanner.proofs.Sound.DocumentLines.{IsDocumentToken, IsRead, begun_from, line_begun, Begins, begins}
 use Rattle.proof_scanner.proofs.Sound.Indicated.{none_indents, no_break_alike}
 use Rattle.proof_scanner.proofs.Sound.QuotedEnds.{is_done, at_end_of}
 
-and_no : (b : Bool) → (b && false) ≡ false
-and_no true = refl
-and_no false = refl
-
 -- ---- `---`
 
 start_token : IsDocumentToken Tok.document_start
-start_token = record { act = refl; begun = refl; shown = λ s p n. refl; lines = λ c p. refl; awaits_inside = λ bs b n. refl; awaits_outside = λ bs b n. and_no b; before = refl }
+start_token = record { act = refl; begun = refl; shown = λ s p n. refl; lines = λ c p. refl; awaits_inside = λ bs b n. refl; awaits_outside = λ bs b n. and_false b; before = refl }
 
 abbrev pub start_read : (more : List ℕ) → Position → lines.Read
 start_read more p = record { tok = Tok.document_start; piece = 45 ∷ 45 ∷ 45 ∷ []; gap = []; rest = more; end = past (past (past p)); leading = false }
@@ -57,7 +52,7 @@ document_start_keeps text more t a e gap col =
 -- ---- `...`
 
 end_token : IsDocumentToken Tok.document_end
-end_token = record { act = refl; begun = refl; shown = λ s p n. refl; lines = λ c p. refl; awaits_inside = λ bs b n. refl; awaits_outside = λ bs b n. and_no b; before = refl }
+end_token = record { act = refl; begun = refl; shown = λ s p n. refl; lines = λ c p. refl; awaits_inside = λ bs b n. refl; awaits_outside = λ bs b n. and_false b; before = refl }
 
 abbrev pub end_read : (more : List ℕ) → Position → lines.Read
 end_read more p = record { tok = Tok.document_end; piece = 46 ∷ 46 ∷ 46 ∷ []; gap = blanks_and_comment more; rest = past_blanks_and_comment more; end = past_line_rest (past (past (past p))) more; leading = false }
@@ -89,7 +84,7 @@ done_there : (more : List ℕ) → has_no_nul more ≡ true → begins_with 35 m
 done_there more clean hash ends =
     let g : List ℕ = blanks_and_comment more in
     let r : List ℕ = past_blanks_and_comment more in
-    is_done g r (line_rest_fills more) (no_break_alike g (line_rest_in_line more)) (at_end_of r ends) (clean_after g r (subst (λ l. has_no_nul l ≡ true) (line_rest_cut more) clean)) (subst (λ l. begins_with 35 l ≡ false) (line_rest_cut more) hash)
+    is_done g r (line_rest_fills more) (no_break_alike g (line_rest_in_line more)) (at_end_of r ends) (no_nul_after g r (subst (λ l. has_no_nul l ≡ true) (line_rest_cut more) clean)) (subst (λ l. begins_with 35 l ≡ false) (line_rest_cut more) hash)
 
 -- the state after the marker
 abbrev pub marked : ScannerState → Held → (rest : List ℕ) → ScannerState
@@ -100,7 +95,7 @@ pub document_end_keeps : (text more : List ℕ) (t : ScannerState) → Arrives t
 unfolding fetch_document_end fetch_document_marker check_document_end
 document_end_keeps text more t a e gap col =
     let b : Begins text t = begins text t (ap is_empty e) a in
-    let clean : has_no_nul more ≡ true = clean_after (46 ∷ 46 ∷ 46 ∷ []) more (subst (λ l. has_no_nul l ≡ true) e a.is_clean) in
+    let clean : has_no_nul more ≡ true = no_nul_after (46 ∷ 46 ∷ 46 ∷ []) more (subst (λ l. has_no_nul l ≡ true) e a.is_clean) in
     chained {P = λ u. (is_required (top_key b.held.keys) ≡ false) × (u ≡ marked t b.held (46 ∷ 46 ∷ 46 ∷ more))}
     (chained {P = λ u. (is_required (top_key b.held.keys) ≡ false) × (u ≡ record t { held = begun_from b.held })} (tried t (begin_line t.held) (line_begun t.held b.held b.rolled) (λ h d. (d.0, ap (λ y. record t { held = y }) d.1))) (λ u d.
     went (d.0, ap (λ y. on_held (push t.held.position Tok.document_end) (skip_indicator (skip_indicator (skip_indicator y)))) d.1 ∙ ap (marked t b.held) e)))
@@ -167,9 +162,9 @@ first_whole (c ∷ r) some = by (is_before_line_feed c r) r refl
     by true (d ∷ r) e = refl
 
 directive_token : (d : Directive) → IsDocumentToken (token_of d)
-directive_token (version major minor) = record { act = refl; begun = refl; shown = λ s p n. refl; lines = λ c p. refl; awaits_inside = λ bs b n. refl; awaits_outside = λ bs b n. and_no b; before = refl }
-directive_token (tag_declaration handle prefix) = record { act = refl; begun = refl; shown = λ s p n. refl; lines = λ c p. refl; awaits_inside = λ bs b n. refl; awaits_outside = λ bs b n. and_no b; before = refl }
-directive_token reserved = record { act = refl; begun = refl; shown = λ s p n. refl; lines = λ c p. refl; awaits_inside = λ bs b n. refl; awaits_outside = λ bs b n. and_no b; before = refl }
+directive_token (version major minor) = record { act = refl; begun = refl; shown = λ s p n. refl; lines = λ c p. refl; awaits_inside = λ bs b n. refl; awaits_outside = λ bs b n. and_false b; before = refl }
+directive_token (tag_declaration handle prefix) = record { act = refl; begun = refl; shown = λ s p n. refl; lines = λ c p. refl; awaits_inside = λ bs b n. refl; awaits_outside = λ bs b n. and_false b; before = refl }
+directive_token reserved = record { act = refl; begun = refl; shown = λ s p n. refl; lines = λ c p. refl; awaits_inside = λ bs b n. refl; awaits_outside = λ bs b n. and_false b; before = refl }
 
 directive_before : (d : Directive) → previous_by (token_of d) ≡ after_directive
 directive_before (version major minor) = refl
@@ -196,16 +191,12 @@ directive_is_read t line next d e no_break ends is col = record {
   is_piece = λ a column closed. subst (λ l. IsPiece a (37 ∷ line) l None a.position (token_of d)) (break_cut next) (piece_of a (37 ∷ line) next d None (is, percent_in_line line no_break, column, line_end_there next ends, closed));
   precedes = λ fl bs. directive_precedes d fl bs (37 ∷ line) (first_break next ++ next_line next);
   no_tabs = λ bs b. subst (λ x. is_indented_by_spaces x bs b (first_break next) ≡ true) (sym (directive_before d))
-      (ap (λ l. not (has_break (first_break next)) || not (has_tab_within (least_column bs (b || false)) l)) (last_of_break next ends) ∙ (ap (λ x. not (has_break (first_break next)) || not x) (no_tab_there (least_column bs (b || false))) ∙ or_yes (not (has_break (first_break next)))));
+      (ap (λ l. not (has_break (first_break next)) || not (has_tab_within (least_column bs (b || false)) l)) (last_of_break next ends) ∙ (ap (λ x. not (has_break (first_break next)) || not x) (no_tab_there (least_column bs (b || false))) ∙ or_true (not (has_break (first_break next)))));
   leads = λ some. subst (λ x. true ≡ begins_line x (first_break next)) (sym (directive_before d)) (break_has next ends some);
   read_on = λ q. subst (λ x. IsReadOn x q (first_break next) (next_line next)) (sym (directive_before d)) (λ some. first_whole next some);
   not_free = subst (λ x. begins_free_line x (first_break next) ≡ false) (sym (directive_before d)) (no_second next);
   not_renewed = subst (λ x. is_renewed x (first_break next) ≡ false) (sym (directive_before d)) refl;
 }
-  where
-    or_yes : (b : Bool) → (b || true) ≡ true
-    or_yes true = refl
-    or_yes false = refl
 
 -- the scanner after a directive
 abbrev pub after_it : ScannerState → machine.Read Tok → Held → ScannerState
@@ -219,11 +210,8 @@ directive_keeps text more t a e col =
     chained {P = λ u. (is_required (top_key b.held.keys) ≡ false) × (u ≡ record t { held = begun_from b.held })} (tried t (begin_line t.held) (line_begun t.held b.held b.rolled) (λ h d. (d.0, ap (λ y. record t { held = y }) d.1))) (λ u d.
     read u.held (directive u.rest u.held.position) _ (λ x is. went (
     let at_place : directive (37 ∷ more) t.held.position ≡ Ok x = ap (λ p. directive (37 ∷ more) p) (sym b.same_position) ∙ (ap (λ r. directive r b.held.position) (sym e) ∙ (ap (λ y. directive y.rest y.held.position) (sym d.1) ∙ is)) in
-    subst (λ y. Stands text (after_it t x y.held)) (sym d.1) (by b d.0 x (directive (37 ∷ more) t.held.position) at_place (directives_end more t.held.position)))))
+    subst (λ y. Stands text (after_it t x y.held)) (sym d.1) (by b d.0 x (read_as at_place (directives_end more t.held.position))))))
   where
-    by : (b : Begins text t) → is_required (top_key b.held.keys) ≡ false → (x : machine.Read Tok) (y : Result (machine.Read Tok) Fault) → y ≡ Ok x → DirectiveEndsAs t.held.position more y → Stands text (after_it t x (begun_from b.held))
-    by b none x y i (refuses line next f cut no_break ends is why j) = absurd (cc (i, j))
-    by b none x y i (reads line next d cut no_break ends is j) =
-        let same : after_line t.held.position (37 ∷ line) next (token_of d) ≡ x = cc (i, j) in
-        subst (λ z. Stands text (after_it t z (begun_from b.held))) same
-        (b.stands (directive_read line next d t.held.position) (directive_is_read t line next d (e ∙ ap (λ l. 37 ∷ l) cut) no_break ends is col) none)
+    by : (b : Begins text t) → is_required (top_key b.held.keys) ≡ false → (x : machine.Read Tok) → IsDirectiveRead t.held.position more x → Stands text (after_it t x (begun_from b.held))
+    by b none x (whole_directive line next d cut no_break ends is) =
+        b.stands (directive_read line next d t.held.position) (directive_is_read t line next d (e ∙ ap (λ l. 37 ∷ l) cut) no_break ends is col) none

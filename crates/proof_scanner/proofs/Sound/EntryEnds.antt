@@ -5,7 +5,7 @@ use Rattle.proof_scanner.proofs.Sound.Completed.{goes_past, but_for_key_past, no
 use Rattle.proof_scanner.proofs.Sound.FlowSteps.{FlowStep, step_of, base, keys, outside}
 use Rattle.proof_scanner.proofs.Sound.Inserts.{AreAmong, first_among, keys_first}
 use Rattle.proof_scanner.proofs.Sound.NodeTokens.{past_step, past_piece as past_piece_at, keys_along}
-use Rattle.proof_scanner.proofs.Sound.NodesInside.{no_had, had_as_it_was, same_levels}
+use Rattle.proof_scanner.proofs.Sound.NodesInside.{no_had, had_as_it_was, same_levels, on_line}
 
 -- whether the innermost collection ends
 abbrev pub act_by : (closes : Bool) → Act
@@ -96,9 +96,6 @@ same_choices false cs ks e es = refl
 same_outside : (closes : Bool) (ks : List (Option Key)) (e : Entry) (es : List Entry) → outside_key (entries_after closes e es) (keys_by closes ks) ≡ outside_key es ks
 same_outside true ks e es = refl
 same_outside false ks e es = refl
-
-on_line : (piece : List ℕ) (a : Account) → (has_break piece && is_waiting a.line) ≡ false → on_one_line piece (Some a) ≡ Some a
-on_line piece a e = ap (λ b. if b then None else Some a) e
 
 end_account_by : (d : End) → IsEnd d → (c : Bool) (cs : List Bool) → line_past_separation true (begins_free_line d.site.before d.separation) (line_by c (outside d.step) d.line) ≡ Some (line_by c (outside d.step) d.line) → (has_break d.piece && is_waiting (line_by c (outside d.step) d.line)) ≡ false → account_past (before d c cs) (step_of d.step) d.next ≡ Some (past d c cs)
 end_account_by d n c cs unbroken one_line =

@@ -1,9 +1,9 @@
 -- A piece in flow with which its entry goes on, and after which no key of the entry is open: what holds where it begins holds between two fetches after it.
-use Rattle.proof_scanner.proofs.Common.{[], Account, act_of, ap, AreLevels, AreNumbered, arith, awaits_past, before_by, before_past, BeginsButForKey, begun_by, begun_inside, Bool, chosen, colon_of, columns, entries_past, Entry, false, FlowLevel, has_break, has_no_nul, has_open_level, HasHadHere, HasNoTabs, is_empty, is_renewed, is_separation, IsAdjacent, IsCarriedOn, IsEntryOf, IsLeading, IsPiece, IsReadOn, IsWritten, Key, least_column, length, List, may_stand, MayChoose, nat_le, None, NotBefore, Option, other, outside_key, pair_position, Position, position_after, previous_by, put, refl, ScannerState, seen, shown_position, Site, site_in, site_past, SoFar, Some, Stands, Step, subst, suc, sym, takes_pair, Tok, Token, tokens_up_to, true, ℕ, ◌++◌, ◌∙◌, ◌∷◌, ◌≡◌, ◌≤◌}
+use Rattle.proof_scanner.proofs.Common.{[], Account, act_of, ap, AreLevels, AreNumbered, arith, awaits_past, before_by, before_past, BeginsButForKey, begun_by, begun_inside, Bool, chosen, colon_of, columns, entries_past, Entry, false, FlowLevel, has_break, has_no_nul, has_open_level, HasHadHere, HasNoTabs, is_empty, is_renewed, is_separation, IsAdjacent, IsCarriedOn, IsEntryOf, IsLeading, IsPiece, IsReadOn, IsWritten, Key, least_column, length, List, may_stand, MayChoose, nat_le, no_nul_after, None, NotBefore, Option, other, outside_key, pair_position, Position, position_after, previous_by, put, refl, ScannerState, seen, shown_position, Site, site_in, site_past, SoFar, Some, Stands, Step, subst, suc, sym, takes_pair, Tok, Token, tokens_up_to, true, ℕ, ◌++◌, ◌∙◌, ◌∷◌, ◌≡◌, ◌≤◌}
 use Rattle.proof_scanner.proofs.Cut.Positions.{index_after, not_before_after, not_before_then}
 use Rattle.proof_scanner.proofs.Cut.Nodes.{IsDeep, adjacent_other}
 use Rattle.proof_scanner.proofs.Known.Read.{keyless, knows_inside}
-use Rattle.proof_scanner.proofs.Sound.Arrivals.{clean_after, some_rest, deep_enough, completes_at, carried_at}
+use Rattle.proof_scanner.proofs.Sound.Arrivals.{some_rest, deep_enough, completes_at, carried_at, not_none}
 use Rattle.proof_scanner.proofs.Sound.Around.{line_taken, unbroken_around, one_around, may_around, open_around}
 use Rattle.proof_scanner.proofs.Sound.Inserts.{among}
 use Rattle.proof_scanner.proofs.Sound.NodeTokens.{past_step}
@@ -65,11 +65,9 @@ read_inside text t u f g fs k ks e e2 es a piece next tok r written rows carried
     let long : 1 ≤ length piece = not_none piece r.is_solid in
     let was = a.was_adjacent in
     let same = r.unchanged.0 in
-    stands_by text u (g ∷ fs) (None ∷ ks) (e2 ∷ es) r.flow_is r.keys_are (record {
-      site = after;
-      line = a.line;
+    stands_by text u (g ∷ fs) (None ∷ ks) (with_entries after a.line (e2 ∷ es)) r.flow_is r.keys_are (record {
       separation = r.separation;
-      is_clean = clean_after r.separation u.rest (subst (λ x. has_no_nul x ≡ true) r.is_rest (clean_after piece next (subst (λ x. has_no_nul x ≡ true) r.cut a.is_clean)));
+      is_clean = no_nul_after r.separation u.rest (subst (λ x. has_no_nul x ≡ true) r.is_rest (no_nul_after piece next (subst (λ x. has_no_nul x ≡ true) r.cut a.is_clean)));
       is_filled = r.is_filled;
       position_is = r.position_is;
       blocks_are = a.blocks_are ∙ r.columns_are;
@@ -92,10 +90,6 @@ read_inside text t u f g fs k ks e e2 es a piece next tok r written rows carried
       knows = knows_inside text t piece next tok r.cut u.held.position r.separation u.rest r.position_is r.is_rest f fs k ks e es a written;
       completes = λ strict c cs may. subst (λ l. let b : Account = with_entries after a.line (e2 ∷ es) in SoFar strict text l (chosen c cs (None ∷ ks) b) (tokens_up_to (chosen c cs (None ∷ ks) b) (None ∷ ks) u.held.tokens)) r.is_rest (rows strict c cs may);
     })
-  where
-    not_none : (l : List ℕ) → is_empty l ≡ false → 1 ≤ length l
-    not_none [] h = absurd (cc h)
-    not_none (c ∷ l) h = omega arith
 
 -- ---- the rows: a piece before which no key of the entry waits
 

@@ -1,5 +1,5 @@
 -- The functions of the model that read commas and closing brackets keep what holds where they begin.
-use Rattle.proof_scanner.proofs.Common.{[], adjacent_in_flow, ap, Arrives, At, begins_with, Bool, chained, end_entry, end_flow, ended_flow, Err, false, fetch_flow_collection_end, fetch_flow_entry, FlowLevel, Held, Holds, if◌then◌else◌, inl, inr, is_empty, is_required, Key, List, MayChoose, next_entry, None, Ok, on_held, Option, pop, Position, push, refl, refused, remove_implicit_key, ScannerState, Some, Stands, subst, sym, Tok, top_key, tried, true, went, with_top, ℕ, ◌∙◌, ◌∷◌, ◌≡◌, ◌⊎◌}
+use Rattle.proof_scanner.proofs.Common.{[], adjacent_in_flow, ap, Arrives, At, begins_with, Bool, chained, Collection, end_entry, end_flow, ended_flow, Err, false, fetch_flow_collection_end, fetch_flow_entry, flow_end, FlowLevel, Held, Holds, if◌then◌else◌, inl, inr, is_empty, is_required, Key, List, MayChoose, next_entry, None, Ok, on_held, Option, pop, Position, push, refl, refused, remove_implicit_key, ScannerState, Some, Stands, subst, sym, Tok, top_key, tried, true, went, with_top, ℕ, ◌∙◌, ◌∷◌, ◌≡◌, ◌⊎◌}
 use Rattle.yaml_tokens.specs.declared.problem.Problem.TheVariants as problem
 use Rattle.model_scanner.specs.State.{after}
 use Rattle.proof_scanner.proofs.Cut.FlowEnds.{higher_keys, ended_now, entry_now, ended_is, entry_is}
@@ -88,9 +88,9 @@ closing_stands text more tok c k t e hash deep a free = by (arrives_side text t 
         (subst (λ h. Stands text (record now { held = push t.held.position tok h })) (sym (adjacent_is now.held i.levels)) (closed_inside text more true tok c k t i e hash deep)))
 
 -- `]` or `}`
-pub closing_keeps : (text more : List ℕ) (tok : Tok) (c : ℕ) → IsCloser true tok c → (t : ScannerState) → t.rest ≡ c ∷ more → IsDeep t.held → Arrives text t → Holds (Stands text) (fetch_flow_collection_end tok t)
+pub closing_keeps : (text more : List ℕ) (kind : Collection) (c : ℕ) → IsCloser true (flow_end kind) c → (t : ScannerState) → t.rest ≡ c ∷ more → IsDeep t.held → Arrives text t → Holds (Stands text) (fetch_flow_collection_end kind t)
 unfolding fetch_flow_collection_end
-closing_keeps text more tok c k t e deep a =
+closing_keeps text more kind c k t e deep a =
     chained {P = λ u. (is_required (top_key t.held.keys) ≡ false) × (u ≡ record t { held = ended_now t.held.flow t.held })} (tried t (end_flow t.held) (flow_over t.held) (λ h d. (d.0, ap (λ y. record t { held = y }) d.1))) (λ u d.
     chained (indicator_passed u more (ap (λ y. after y.rest) d.1 ∙ ap after e)) (λ v w.
-    went (subst (λ y. Stands text (on_held (λ s. push t.held.position tok (adjacent_in_flow s)) y)) (sym (w.0 ∙ ap (λ y. past_it y more) d.1)) (closing_stands text more tok c k t e w.1 deep a d.0))))
+    went (subst (λ y. Stands text (on_held (λ s. push t.held.position (flow_end kind) (adjacent_in_flow s)) y)) (sym (w.0 ∙ ap (λ y. past_it y more) d.1)) (closing_stands text more (flow_end kind) c k t e w.1 deep a d.0))))

@@ -1,5 +1,5 @@
 -- The function of the model that reads an opening bracket keeps what holds where it begins.
-use Rattle.proof_scanner.proofs.Common.{[], ap, Arrives, At, begin_flow, begins_with, Bool, chained, columns, deepened_flow, Err, false, fetch_flow_collection_start, FlowLevel, has_open_level, Held, Holds, if◌then◌else◌, in_flow, increase_flow_level, Indent, inl, inr, is_empty, length, List, nat_le, None, not, Ok, on_held, push, refl, refused, roll_one_col_indent, ScannerState, Stands, subst, sym, Tok, tried, true, went, ℕ, ◌∙◌, ◌∷◌, ◌≡◌, ◌⊎◌}
+use Rattle.proof_scanner.proofs.Common.{[], ap, Arrives, At, begin_flow, begins_with, Bool, chained, Collection, columns, deepened_flow, Err, false, fetch_flow_collection_start, flow_level, flow_start, FlowLevel, has_open_level, Held, Holds, if◌then◌else◌, in_flow, increase_flow_level, Indent, inl, inr, is_empty, length, List, nat_le, None, not, Ok, on_held, push, refl, refused, roll_one_col_indent, ScannerState, Stands, subst, sym, Tok, tried, true, went, ℕ, ◌∙◌, ◌∷◌, ◌≡◌, ◌⊎◌}
 use Rattle.yaml_tokens.specs.declared.problem.Problem.TheVariants as problem
 use Rattle.model_scanner.specs.State.{after}
 use Rattle.proof_scanner.proofs.Cut.Nodes.{IsDeep}
@@ -19,14 +19,14 @@ with_key s = record s { keys = saved_keys s }
 abbrev pub begun_now : FlowLevel → Held → List Indent → ℕ → Held
 begun_now lv s ds i = record s { keys = None ∷ saved_keys s; flow = lv ∷ s.flow; key_allowed = true; indents = ds; indent = i }
 
-flow_begun : (lv : FlowLevel) (s : Held) (ds : List Indent) (i : ℕ) → roll_one_col_indent (with_key s) ≡ record (with_key s) { indents = ds; indent = i } → Holds (λ u. (nat_le 255 (length s.flow) ≡ false) × (u ≡ begun_now lv s ds i)) (begin_flow lv s)
+flow_begun : (kind : Collection) (s : Held) (ds : List Indent) (i : ℕ) → roll_one_col_indent (with_key s) ≡ record (with_key s) { indents = ds; indent = i } → Holds (λ u. (nat_le 255 (length s.flow) ≡ false) × (u ≡ begun_now (flow_level kind) s ds i)) (begin_flow kind s)
 unfolding begin_flow increase_flow_level
-flow_begun lv s ds i rolled =
-    subst (λ h. Holds (λ u. (nat_le 255 (length s.flow) ≡ false) × (u ≡ begun_now lv s ds i)) (deepened_flow (if nat_le 255 (length h.flow) then Err (At problem.FlowTooDeep h.position) else Ok (record h { keys = None ∷ h.keys; flow = lv ∷ h.flow }))))
+flow_begun kind s ds i rolled =
+    subst (λ h. Holds (λ u. (nat_le 255 (length s.flow) ≡ false) × (u ≡ begun_now (flow_level kind) s ds i)) (deepened_flow (if nat_le 255 (length h.flow) then Err (At problem.FlowTooDeep h.position) else Ok (record h { keys = None ∷ h.keys; flow = flow_level kind ∷ h.flow }))))
     (sym (ap roll_one_col_indent (saved_is s) ∙ rolled)) (by (nat_le 255 (length s.flow)) refl)
   where
     by : (b : Bool) → nat_le 255 (length s.flow) ≡ b →
-        Holds (λ u. (nat_le 255 (length s.flow) ≡ false) × (u ≡ begun_now lv s ds i)) (deepened_flow (if b then Err (At problem.FlowTooDeep s.position) else Ok (record s { keys = None ∷ saved_keys s; flow = lv ∷ s.flow; indents = ds; indent = i })))
+        Holds (λ u. (nat_le 255 (length s.flow) ≡ false) × (u ≡ begun_now (flow_level kind) s ds i)) (deepened_flow (if b then Err (At problem.FlowTooDeep s.position) else Ok (record s { keys = None ∷ saved_keys s; flow = flow_level kind ∷ s.flow; indents = ds; indent = i })))
     by true e = refused
     by false e = went (e, refl)
 
@@ -69,11 +69,11 @@ opened text more lv tok c o t e deep a = by (arrives_side text t a)
     }
 
 -- `[` or `{`
-pub opening_keeps : (text more : List ℕ) (lv : FlowLevel) (tok : Tok) (c : ℕ) → IsOpener lv tok c → (t : ScannerState) → t.rest ≡ c ∷ more → IsDeep t.held → Arrives text t → Holds (Stands text) (fetch_flow_collection_start lv tok t)
+pub opening_keeps : (text more : List ℕ) (kind : Collection) (c : ℕ) → IsOpener (flow_level kind) (flow_start kind) c → (t : ScannerState) → t.rest ≡ c ∷ more → IsDeep t.held → Arrives text t → Holds (Stands text) (fetch_flow_collection_start kind t)
 unfolding fetch_flow_collection_start
-opening_keeps text more lv tok c o t e deep a =
-    let r : Opened text more lv tok t = opened text more lv tok c o t e deep a in
-    chained {P = λ u. (nat_le 255 (length t.held.flow) ≡ false) × (u ≡ record t { held = begun_now lv t.held r.indents r.indent })}
-    (tried t (begin_flow lv t.held) (flow_begun lv t.held r.indents r.indent r.rolled) (λ h d. (d.0, ap (λ y. record t { held = y }) d.1))) (λ u d.
+opening_keeps text more kind c o t e deep a =
+    let r : Opened text more (flow_level kind) (flow_start kind) t = opened text more (flow_level kind) (flow_start kind) c o t e deep a in
+    chained {P = λ u. (nat_le 255 (length t.held.flow) ≡ false) × (u ≡ record t { held = begun_now (flow_level kind) t.held r.indents r.indent })}
+    (tried t (begin_flow kind t.held) (flow_begun kind t.held r.indents r.indent r.rolled) (λ h d. (d.0, ap (λ y. record t { held = y }) d.1))) (λ u d.
     chained (indicator_passed u more (ap (λ y. after y.rest) d.1 ∙ ap after e)) (λ v w.
-    went (subst (λ y. Stands text (on_held (push t.held.position tok) y)) (sym (w.0 ∙ ap (λ y. past_it y more) d.1)) (r.stands w.1 d.0))))
+    went (subst (λ y. Stands text (on_held (push t.held.position (flow_start kind)) y)) (sym (w.0 ∙ ap (λ y. past_it y more) d.1)) (r.stands w.1 d.0))))

@@ -2,8 +2,8 @@
 use Rattle.proof_scanner.proofs.Common.{[], ap, begins_line, begins_with, blanks_and_comment, Bool, false, follows_plain, has_no_break, has_tab_within, Holds, is_break, is_indented_by_spaces, last_line, least_column, List, not, pass_indicator, past, past_blanks_and_comment, past_line_rest, Position, position_after, Previous, refl, ScannerState, skip_indicator, subst, sym, true, ℕ, ◌&&◌, ◌||◌, ◌∙◌, ◌∷◌, ◌≡◌}
 use Rattle.model_scanner.specs.State.{after}
 use Rattle.proof_lexers.specs.PlainEnds as plains
-use Rattle.proof_scanner.proofs.Cut.Indicators.{past_indicator}
 use Rattle.proof_scanner.proofs.Sound.Blanks.{same_in_line, line_rest_in_line, rest_skipped}
+use Rattle.proof_scanner.proofs.Cut.Documents.{past_indicator}
 
 -- the scanner after an indicator, blanks and a comment
 abbrev pub past_it : ScannerState → (more : List ℕ) → ScannerState

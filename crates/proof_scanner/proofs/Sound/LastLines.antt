@@ -1,5 +1,5 @@
 -- The last line of a text as the text grows, and the column after it.
-use Rattle.proof_scanner.proofs.Common.{[], and_parts, ap, arith, Bool, eqb-true, false, has_break, has_no_break, has_tab_within, if◌then◌else◌, inl, inr, is_at_line_end, is_before_line_feed, is_blank, is_break, is_empty, is_one_of, is_separation, last_line, length, List, not, or-true, Position, position_after, position_past, put_first, refl, split, split_by, suc, sym, take, take-append-le, true, zero, ℕ, ◌&&◌, ◌++◌, ◌+◌, ◌==◌, ◌||◌, ◌∙◌, ◌∷◌, ◌≡◌, ◌≤◌, ◌⊎◌}
+use Rattle.proof_scanner.proofs.Common.{[], and_parts, ap, arith, Bool, eqb-true, false, has_break, has_no_break, has_tab_within, if◌then◌else◌, inl, inr, is_at_line_end, is_before_line_feed, is_blank, is_break, is_empty, is_one_of, is_separation, last_line, length, List, not, not-true, or-true, Position, position_after, position_past, put_first, refl, split, split_by, suc, sym, take, take-append-le, true, zero, ℕ, ◌&&◌, ◌++◌, ◌+◌, ◌==◌, ◌||◌, ◌∙◌, ◌∷◌, ◌≡◌, ◌≤◌, ◌⊎◌}
 
 -- ---- breaks in a text and one character more
 
@@ -28,11 +28,7 @@ complete_is (c ∷ r) = by (is_break c) (is_before_line_feed c r) refl (complete
     kept (l ∷ ls) last = refl
 
     by : (x y : Bool) → is_before_line_feed c r ≡ y → is_empty (split r).complete ≡ has_no_break r → is_empty (split_by x y c (split r)).complete ≡ (not x && has_no_break r)
-    by true true e h = h ∙ not_in (has_no_break r) (feed_breaks c r e)
-      where
-        not_in : (b : Bool) → not b ≡ true → b ≡ false
-        not_in true k = absurd (cc k)
-        not_in false k = refl
+    by true true e h = h ∙ not-true (has_no_break r) (feed_breaks c r e)
     by true false e h = refl
     by false y e h = kept (split r).complete (split r).last ∙ h
 

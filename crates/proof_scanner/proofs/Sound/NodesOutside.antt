@@ -6,13 +6,11 @@ use Rattle.proof_scanner.proofs.Sound.Inserts.{AreAmong, line_first}
 use Rattle.proof_scanner.proofs.Sound.NodeSteps.{saved, choice_before, bit_of, node_on_line}
 use Rattle.proof_scanner.proofs.Sound.Parts.{Part, part_site, IsPart, part_written}
 use Rattle.proof_scanner.proofs.Sound.NodeTokens.{past_step, keys_past, key_between, key_outside, tokens_outside}
+use Rattle.proof_scanner.proofs.Sound.NodesInside.{on_line}
 
 -- an account outside flow
 abbrev pub Outer : Site → Line → Account
 Outer s l = record { site = s; line = l; entries = [] }
-
-pub on_line : (piece : List ℕ) (a : Account) → (has_break piece && is_waiting a.line) ≡ false → on_one_line piece (Some a) ≡ Some a
-on_line piece a e = ap (λ b. if b then None else Some a) e
 
 -- A part of a node outside flow, and what may begin at its piece. Its tokens are those before the ends that stand here.
 pub record Node : Type 0 where

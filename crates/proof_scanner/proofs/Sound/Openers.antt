@@ -1,14 +1,14 @@
 -- Opening brackets: what holds where they begin holds between two fetches after them.
-use Rattle.proof_scanner.proofs.Common.{[], Account, act_of, another, ap, AreAround, AreLevels, arith, awaits_past, before_by, before_past, begins_free_line, begins_line, begins_with, BeginsButForKey, begun_by, blanks_and_comment, Bool, chosen, columns, ends_at, entries_by, Entry, false, first_entry, FlowLevel, fresh, further_lines_stand, gives_node, Had, has_break, has_no_nul, has_open_level, has_room, HasHad, HasHadHere, Held, if◌then◌else◌, in_block, in_flow, Indent, inl, inr, is_deep_enough, is_empty, is_fresh, is_in_column, is_indented_by_spaces, is_renewed, is_separation, IsAdjacent, IsCarriedOn, IsEntryOf, IsLive, IsNear, IsOpenOutside, IsPairOf, IsPiece, IsReadOn, Key, KnowsKey, least_column, least_for, length, level_of, line_by, List, map, Mapping, may_precede, may_stand, MayChoose, must_be_key, nat_le, nat_lt, nat_tests, no_pair, None, not, NotBefore, Option, outside_key, past, past_blanks_and_comment, past_line_rest, Position, position_after, position_in_line, previous_by, put, refl, roll_one_col_indent, ScannerState, seen, settled, shown_position, Site, site_here, site_past, SoFar, Some, Stands, subst, suc, sym, taken, Tok, Token, tokens_up_to, top_key, true, ℕ, ◌&&◌, ◌++◌, ◌<◌, ◌||◌, ◌∙◌, ◌∷◌, ◌≡◌, ◌≤◌, ◌⊎◌}
+use Rattle.proof_scanner.proofs.Common.{[], Account, act_of, another, ap, AreLevels, arith, awaits_past, before_by, before_past, begins_free_line, begins_line, begins_with, BeginsButForKey, begun_by, blanks_and_comment, Bool, chosen, columns, ends_at, entries_by, Entry, false, first_entry, FlowLevel, fresh, further_lines_stand, gives_node, Had, has_break, has_no_nul, has_open_level, has_room, HasHad, HasHadHere, Held, if◌then◌else◌, in_block, in_flow, Indent, inl, inr, is_deep_enough, is_empty, is_fresh, is_in_column, is_indented_by_spaces, is_renewed, is_separation, IsAdjacent, IsCarriedOn, IsEntryOf, IsLive, IsNear, IsOpenOutside, IsPairOf, IsPiece, IsReadOn, Key, KnowsKey, least_column, least_for, length, level_of, line_by, List, map, Mapping, may_precede, may_stand, MayChoose, must_be_key, nat_le, nat_lt, nat_tests, no_nul_after, no_pair, None, not, NotBefore, Option, outside_key, past, past_blanks_and_comment, past_line_rest, Position, position_after, position_in_line, previous_by, put, refl, roll_one_col_indent, ScannerState, seen, settled, shown_position, Site, site_here, site_past, SoFar, Some, Stands, subst, suc, sym, taken, Tok, Token, tokens_up_to, top_key, true, ℕ, ◌&&◌, ◌++◌, ◌<◌, ◌||◌, ◌∙◌, ◌∷◌, ◌≡◌, ◌≤◌, ◌⊎◌}
 use Rattle.model_scanner.specs.declared.level.FlowLevel.TheVariants.{Entry as InEntry}
 use Rattle.proof_scanner.proofs.Cut.Flows.{IsOpeningOf, opening_sequence, opening_mapping}
 use Rattle.proof_scanner.proofs.Cut.Positions.{not_before_after, not_before_then, index_after, is_after}
 use Rattle.proof_scanner.proofs.Cut.Nodes.{IsDeep, adjacent_other}
-use Rattle.proof_scanner.specs.StandsInRow.{kind_of}
+use Rattle.proof_scanner.specs.StandsInRow.{kind_of, StandsWith}
 use Rattle.proof_scanner.proofs.Known.Read.{knows_inside, knows_saved}
 use Rattle.proof_scanner.proofs.Known.Steps.{is_of_node}
 use Rattle.proof_scanner.proofs.Sound.Around.{line_taken, tokens_before, unbroken_around, one_around, may_around, open_around}
-use Rattle.proof_scanner.proofs.Sound.Arrivals.{clean_after, deep_enough, completes_at, carried_at}
+use Rattle.proof_scanner.proofs.Sound.Arrivals.{deep_enough, completes_at, carried_at, many_around}
 use Rattle.proof_scanner.proofs.Sound.Blanks.{line_rest_cut, line_rest_fills, line_rest_in_line}
 use Rattle.proof_scanner.proofs.Sound.Closers.{no_break_there}
 use Rattle.proof_scanner.proofs.Sound.Indicated.{indicator_end, none_indents}
@@ -23,7 +23,8 @@ use Rattle.proof_scanner.proofs.Sound.KeyStarts.{new_key, numbered_inside, entry
 use Rattle.proof_scanner.proofs.Sound.Passed.{some_columns}
 use Rattle.proof_scanner.proofs.Sound.Rolled.{OpensOne, opens_one, opens_none}
 use Rattle.proof_scanner.proofs.Sound.Standing.{all_true, deep_for}
-use Rattle.proof_scanner.proofs.Sound.Sides.{with_entries, ArrivesBy, ArrivesOutside, ArrivesInside, StandsBy, stands_by}
+use Rattle.proof_scanner.proofs.Sound.Sides.{with_entries, ArrivesBy, ArrivesOutside, ArrivesInside, stands_by}
+use Rattle.std.proofs.lemmas.List.{length-map}
 
 -- What is said of an opening bracket.
 pub record IsOpener (lv : FlowLevel) (tok : Tok) (c : ℕ) : Type 0 where
@@ -180,7 +181,7 @@ module _ (text more : List ℕ) (lv : FlowLevel) (tok : Tok) (c : ℕ) (o : IsOp
   quiet = subst (λ b. (begins_line b gap ≡ false) × (begins_free_line b gap ≡ false)) (sym o.previous) (no_break_there more, no_break_there more)
 
   clean : has_no_nul left ≡ true
-  clean = clean_after gap left (subst (λ r. has_no_nul r ≡ true) (line_rest_cut more) (clean_after (c ∷ []) more (subst (λ r. has_no_nul r ≡ true) cut a.is_clean)))
+  clean = no_nul_after gap left (subst (λ r. has_no_nul r ≡ true) (line_rest_cut more) (no_nul_after (c ∷ []) more (subst (λ r. has_no_nul r ≡ true) cut a.is_clean)))
 
   further : t.held.position.index < end.index
   further =
@@ -282,13 +283,11 @@ module _ (text more : List ℕ) (lv : FlowLevel) (tok : Tok) (c : ℕ) (o : IsOp
 
   -- What holds between two fetches holds after it.
   opener_stands_outside : columns i ds ≡ columns t.held.indent t.held.indents → AreLevels i ds → has_open_level ds ≡ not (is_empty (columns t.held.indent t.held.indents)) → KnowsKey text (a.separation ++ t.rest) t.held.position k →
-      StandsBy text (opened_past lv t tok more (y ∷ []) ds i) (lv ∷ []) (None ∷ y ∷ []) (first_entry (kind_of lv) ∷ [])
+      StandsWith text (opened_past lv t tok more (y ∷ []) ds i) (lv ∷ []) (None ∷ y ∷ []) (with_entries (site_after t.held.position) taken (first_entry (kind_of lv) ∷ []))
   opener_stands_outside same levels awaits known =
       let q = quiet text more lv tok c o t [] (k ∷ []) [] a deep cut in
       let bs : List ℕ = (site_here false t.held.position a.site).blocks in
       record {
-        site = site_after t.held.position;
-        line = taken;
         separation = blanks_and_comment more;
         is_clean = clean text more lv tok c o t [] (k ∷ []) [] a deep cut;
         is_filled = line_rest_fills more;
@@ -340,19 +339,8 @@ module _ (text more : List ℕ) (lv : FlowLevel) (tok : Tok) (c : ℕ) (o : IsOp
   goes = some_here text more lv tok c o t (f ∷ fs) (k ∷ ks) (e ∷ es) a deep cut
 
   room : has_room (seen (with_entries a.site a.line (e ∷ es)) (inside.at m) a.separation) ≡ true
-  room = less (length (map level_of (e ∷ es))) (ap length within ∙ (ap suc (many_around fs ks es a.are_entries.2) ∙ sym (many_levels (e ∷ es)))) few
+  room = less (length (map level_of (e ∷ es))) (ap length within ∙ (ap suc (many_around fs ks es a.are_entries.2) ∙ sym (length-map (e ∷ es) level_of))) few
     where
-      many_levels : (es : List Entry) → length (map level_of es) ≡ length es
-      many_levels [] = refl
-      many_levels (e ∷ es) = ap suc (many_levels es)
-
-      many_around : (fs : List FlowLevel) (ks : List (Option Key)) (es : List Entry) → AreAround fs ks es → length fs ≡ length es
-      many_around [] ks [] a = refl
-      many_around (f ∷ fs) (k ∷ ks) (e ∷ es) a = ap suc (many_around fs ks es a.2)
-      many_around [] ks (e ∷ es) a = absurd a
-      many_around (f ∷ fs) [] es a = absurd a
-      many_around (f ∷ fs) (k ∷ ks) [] a = absurd a
-
       less : (n : ℕ) → length t.held.flow ≡ n → nat_le 255 (length t.held.flow) ≡ false → nat_lt n 255 ≡ true
       less n same h = of n (ap (λ x. nat_le 255 x) (sym same) ∙ h)
         where
@@ -409,13 +397,11 @@ module _ (text more : List ℕ) (lv : FlowLevel) (tok : Tok) (c : ℕ) (o : IsOp
       by (inr i) = i
 
   -- What holds between two fetches holds after it.
-  opener_stands_inside : StandsBy text (opened_past lv t tok more (z ∷ ks) t.held.indents t.held.indent) (lv ∷ f ∷ fs) (None ∷ z ∷ ks) entries_then
+  opener_stands_inside : StandsWith text (opened_past lv t tok more (z ∷ ks) t.held.indents t.held.indent) (lv ∷ f ∷ fs) (None ∷ z ∷ ks) (with_entries (site_then t.held.position) a.line entries_then)
   opener_stands_inside =
       let q = quiet text more lv tok c o t (f ∷ fs) (k ∷ ks) (e ∷ es) a deep cut in
       let x : Site = site_here true t.held.position a.site in
       record {
-        site = site_then t.held.position;
-        line = a.line;
         separation = blanks_and_comment more;
         is_clean = clean text more lv tok c o t (f ∷ fs) (k ∷ ks) (e ∷ es) a deep cut;
         is_filled = line_rest_fills more;
@@ -450,12 +436,12 @@ pub opened_outside : (text more : List ℕ) (lv : FlowLevel) (tok : Tok) (c : �
     Stands text (opened_past lv t tok more (saved t.held.key_allowed (new_key t) x.key ∷ []) ds i)
 opened_outside text more lv tok c o t x deep e hash ds i same levels awaits =
     let keys = saved t.held.key_allowed (new_key t) x.key ∷ [] in
-    stands_by text (opened_past lv t tok more keys ds i) (lv ∷ []) (None ∷ keys) (first_entry (kind_of lv) ∷ []) (ap (λ fs. lv ∷ fs) x.flow_is) refl
+    stands_by text (opened_past lv t tok more keys ds i) (lv ∷ []) (None ∷ keys) _ (ap (λ fs. lv ∷ fs) x.flow_is) refl
     (opener_stands_outside text more lv tok c o t x.key x.here x.flow_is deep e hash ds i same levels awaits x.knows)
 
 pub opened_inside : (text more : List ℕ) (lv : FlowLevel) (tok : Tok) (c : ℕ) → IsOpener lv tok c → (t : ScannerState) (x : ArrivesInside text t) → IsDeep t.held → t.rest ≡ c ∷ more → begins_with 35 more ≡ false → nat_le 255 (length t.held.flow) ≡ false →
     Stands text (opened_past lv t tok more (saved t.held.key_allowed (new_key t) x.key ∷ x.keys) t.held.indents t.held.indent)
 opened_inside text more lv tok c o t x deep e hash few =
     let keys = saved t.held.key_allowed (new_key t) x.key ∷ x.keys in
-    stands_by text (opened_past lv t tok more keys t.held.indents t.held.indent) (lv ∷ x.level ∷ x.levels) (None ∷ keys) (first_entry (kind_of lv) ∷ (entry_past_node t.held.key_allowed x.entry ∷ x.entries)) (ap (λ fs. lv ∷ fs) x.flow_is) refl
+    stands_by text (opened_past lv t tok more keys t.held.indents t.held.indent) (lv ∷ x.level ∷ x.levels) (None ∷ keys) _ (ap (λ fs. lv ∷ fs) x.flow_is) refl
     (opener_stands_inside text more lv tok c o t x.level x.levels x.key x.keys x.entry x.entries x.here x.flow_is deep e hash few)

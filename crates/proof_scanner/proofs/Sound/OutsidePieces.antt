@@ -1,14 +1,21 @@
 -- A piece outside flow before and after which no key waits: what holds where it begins holds between two fetches after it.
 use Rattle.std.proofs.lemmas.List.{append-nil}
-use Rattle.proof_scanner.proofs.Common.{[], act_of, another, ap, append_assoc, AreLevels, arith, awaits_past, begins_free_line, begun_by, begun_outside, Bool, columns, Completes, ends_at, false, free, has_no_break, has_no_nul, has_open_level, HasNoTabs, if◌then◌else◌, inl, inr, is_deeper, is_empty, is_free, is_in_column, is_indented_by_spaces, is_separation, is_waiting, IsLeading, IsLine, IsLineHere, IsPiece, IsReadOn, IsWritten, Key, Line, line_past, List, may_end, may_stand, None, not, Option, Outside, placed, Position, position_after, previous_by, put, refl, ScannerState, seen, shown_position, Site, site_in, site_past, SoFar, Some, Stands, start_if, subst, sym, taken, Tok, Token, token, true, ℕ, ◌++◌, ◌∙◌, ◌∷◌, ◌≡◌, ◌≤◌, ◌⊎◌}
+use Rattle.proof_scanner.proofs.Common.{[], act_of, another, ap, append_assoc, AreLevels, arith, awaits_past, begins_free_line, begun_by, begun_outside, Bool, columns, Completes, ends_at, false, free, has_no_break, has_no_nul, has_open_level, HasNoTabs, if◌then◌else◌, inl, inr, is_deeper, is_empty, is_free, is_in_column, is_indented_by_spaces, is_separation, is_waiting, IsLeading, IsLine, IsLineHere, IsPiece, IsReadOn, IsWritten, Key, Line, line_past, List, may_end, may_stand, no_nul_after, None, not, not_ended, opened, Option, Outside, placed, Position, position_after, previous_by, put, refl, ScannerState, seen, shown_position, Site, site_in, site_past, SoFar, Some, Stands, start_if, subst, sym, taken, Tok, Token, token, true, ℕ, ◌++◌, ◌∙◌, ◌∷◌, ◌≡◌, ◌≤◌, ◌⊎◌}
 use Rattle.proof_scanner.proofs.Cut.Positions.{index_after}
 use Rattle.proof_scanner.proofs.Known.Read.{keyless, knows_none}
 use Rattle.proof_scanner.proofs.Known.Steps.{begins_key}
-use Rattle.proof_scanner.proofs.Sound.Arrivals.{clean_after}
 use Rattle.proof_scanner.proofs.Sound.Indicated.{none_indents}
 use Rattle.proof_scanner.proofs.Sound.Sides.{with_entries, ArrivesBy, stands_by}
 use Rattle.proof_scanner.proofs.Sound.Completed.{goes_of}
 use Rattle.proof_scanner.proofs.Sound.StepsOutside.{Piece, IsHere, Must, is_written, at, before, past, own_tokens, piece_completes}
+
+-- what may begin after an indicator that begins a block collection, if none has begun there
+abbrev pub begun_after : (here : Position) → List ℕ → Outside
+begun_after here bs = record { line = free; blocks = opened here.col (not_ended here.col bs) }
+
+-- the tokens with the start of a block collection, if one begins here
+abbrev pub with_start : Tok → ScannerState → List Token
+with_start start t = (if is_deeper t.held.position.col (columns t.held.indent t.held.indents) then placed None (token t.held.position start) t.held.tokens else t.held.tokens)
 
 -- the site after a piece at a site
 abbrev pub site_then : Site → (piece : List ℕ) → Tok → (next : List ℕ) → Outside → Site
@@ -46,11 +53,9 @@ ends_outside text t u k a piece next tok after x place r written idle rows =
     let j = index_after x.position piece next in
     let was : t.held.adjacent_value_at ≤ x.position.index = subst (λ p. t.held.adjacent_value_at ≤ p.index) place a.was_adjacent in
     let there : u.held.position.index ≡ (position_after (position_after x.position piece next) r.separation u.rest).index = ap (λ p. p.index) r.position_is in
-    stands_by text u [] (None ∷ []) [] r.flow_is r.keys_are (record {
-      site = site_then x piece tok next after;
-      line = after.line;
+    stands_by text u [] (None ∷ []) (with_entries (site_then x piece tok next after) after.line []) r.flow_is r.keys_are (record {
       separation = r.separation;
-      is_clean = clean_after r.separation u.rest (subst (λ y. has_no_nul y ≡ true) r.is_rest (clean_after piece next (subst (λ y. has_no_nul y ≡ true) r.cut a.is_clean)));
+      is_clean = no_nul_after r.separation u.rest (subst (λ y. has_no_nul y ≡ true) r.is_rest (no_nul_after piece next (subst (λ y. has_no_nul y ≡ true) r.cut a.is_clean)));
       is_filled = r.is_filled;
       position_is = r.position_is;
       blocks_are = r.blocks_are;

@@ -1,6 +1,7 @@
 -- What holds between two fetches still holds at the next token, or at the text's end, with the separation up to there.
-use Rattle.proof_scanner.proofs.Common.{[], after_separation, another, ap, append-nil, AreCollections, AreLevels, arith, begins_free_line, begins_separation, begins_white, between, block_scalar, Bool, columns, directive, drop, eqb-true, false, Fault, flow_collection, has_break, has_no_break, has_open_level, HasFirst, Held, Holds, if◌then◌else◌, Indent, is_before_line_feed, is_blank, is_break, is_empty, is_no_comment, is_renewed, is_separation, is_white, IsLive, IsReadOn, IsTopLevel, Key, leading, least_column, List, MayChoose, None, not, Ok, Option, or-false, passes, PassesAs, plain_scalar, Position, position_after, Previous, quoted_scalar, refl, refused, refuses, Result, same_blank, same_break, ScannerState, separations_are_passed, skip, skip_to_next_token, Some, suc, sym, true, went, without_break, ℕ, ◌&&◌, ◌++◌, ◌+◌, ◌-◌, ◌==◌, ◌||◌, ◌∙◌, ◌∷◌, ◌≡◌}
+use Rattle.proof_scanner.proofs.Common.{[], another, ap, append-nil, AreCollections, AreLevels, arith, begins_free_line, begins_separation, begins_white, between, block_scalar, Bool, columns, directive, drop, eqb-true, false, flow_collection, has_break, has_no_break, has_open_level, HasFirst, HasPassed, Held, Holds, if◌then◌else◌, Indent, is_before_line_feed, is_blank, is_break, is_empty, is_no_comment, is_renewed, is_separation, is_white, IsLive, IsReadOn, IsTopLevel, Key, leading, least_column, List, MayChoose, None, not, Ok, Option, or-false, plain_scalar, Position, position_after, Previous, quoted_scalar, refl, same_blank, same_break, ScannerState, separations_are_passed, skip, skip_to_next_token, Some, suc, sym, true, without_break, ℕ, ◌&&◌, ◌++◌, ◌+◌, ◌-◌, ◌==◌, ◌||◌, ◌∙◌, ◌∷◌, ◌≡◌}
 use Rattle.proof_lexers.specs.PlainEnds as plain_ends
+use Rattle.proof_scanner.proofs.Cut.Passes.{read_holds}
 use Rattle.proof_scanner.proofs.Cut.Positions.{not_before_after}
 use Rattle.proof_scanner.proofs.Sound.Arrivals.{live_before}
 use Rattle.proof_scanner.proofs.Sound.LastLines.{break_append}
@@ -28,21 +29,12 @@ skip_stays (c ∷ a) s h = by (is_blank c) (is_break c) (c == 35) refl refl refl
 -- ---- what was passed
 
 -- From one state to another a separation was passed, up to a token or the text's end.
-pub record Exact (t u : ScannerState) : Type 0 where
-  pub is_leading : Bool
-  pub separation : List ℕ
-  pub cut : t.rest ≡ separation ++ u.rest
-  pub is_filled : is_separation false separation u.rest ≡ true
-  pub solid : begins_separation u.rest ≡ false
-  pub is_state : u ≡ after_separation t.held is_leading separation u.rest
+abbrev pub Exact : ScannerState → ScannerState → Type 0
+Exact t u = HasPassed begins_separation t.held t.rest u
 
 pub exact : (t : ScannerState) → Holds (Exact t) (skip_to_next_token t)
 unfolding skip_to_next_token
-exact t = by (skip between t.rest t.held) (separations_are_passed t.held t.rest)
-  where
-    by : (x : Result ScannerState Fault) → PassesAs t.held t.rest x → Holds (Exact t) x
-    by x (passes leading separation rest cut fills ends e) = rw e (went (record { is_leading = leading; separation = separation; cut = cut; is_filled = fills; solid = ends; is_state = refl }))
-    by x (refuses before blanks rest cut fills left are begins e) = rw e refused
+exact t = read_holds (separations_are_passed t.held t.rest)
 
 -- a text that goes on after a part goes on from it
 pub goes_on : (g rest rest2 : List ℕ) → rest ≡ g ++ rest2 → is_empty rest2 ≡ false → is_empty rest ≡ false

@@ -1,23 +1,23 @@
 -- Plain scalars: what holds between two fetches holds after them.
-use Rattle.proof_scanner.proofs.Common.{[], after_plain, allow_key, and_parts, ap, arith, Arrives, awaits_past, before_by, before_past, begins_plain, begins_separation, begins_solid, begins_white, Bool, collection_column, collection_of, columns, comes_plain, Context, context, ends_with_content, Entry, eqb-true, false, Fault, fetch_plain_scalar, FlowLevel, goes_on, has_break, has_dash_before_flow, has_no_nul, has_tab_within, HasNoTabs, Held, Holds, in_flow, inl, innermost, innermost_column, inr, is_adjacent, is_at_comment_or_end, is_blank, is_break, is_deep_enough, is_empty, is_gap, is_indented, is_indented_by_spaces, is_no_comment, is_one_of, is_renewed, is_white, is_whole_plain, IsPiece, Key, last_line, leading, least_column, length, level_of, Levels, lexed, List, map, nat_le, nat_tests, None, not, Ok, on_held, Option, Plain, plain_lines_fit, plain_scalar, plain_value, PlainEndsAs, Position, position_after, position_append, push, read, ReadAs, refl, Result, ScannerState, scans_end, seen, Site, Some, Stands, stops, Style, subst, sym, Tok, true, unroll_non_block_indents, went, without_open, ℕ, ◌&&◌, ◌++◌, ◌<◌, ◌==◌, ◌||◌, ◌∙◌, ◌∷◌, ◌≡◌, ◌≤◌, ◌⊎◌}
+use Rattle.proof_scanner.proofs.Common.{[], after_plain, allow_key, and_parts, ap, arith, Arrives, awaits_past, before_by, before_past, begins_plain, begins_separation, begins_solid, begins_white, Bool, collection_column, collection_of, columns, comes_plain, Context, context, ends_with_content, Entry, eqb-true, false, fetch_plain_scalar, FlowLevel, goes_on, has_break, has_dash_before_flow, has_no_nul, has_tab_within, HasNoTabs, Held, Holds, in_flow, inl, innermost, innermost_column, inr, is_adjacent, is_at_comment_or_end, is_blank, is_break, is_deep_enough, is_empty, is_gap, is_indented, is_indented_by_spaces, is_no_comment, is_one_of, is_renewed, is_white, is_whole_plain, IsPiece, IsPlainRead, Key, last_line, leading, least_column, Levels, lexed, List, map, nat_le, nat_tests, None, not, Ok, on_held, Option, Plain, plain_lines_fit, plain_scalar, plain_value, Position, position_after, position_append, push, read, read_as, refl, ScannerState, scans_end, seen, Site, Some, Stands, stops, Style, subst, sym, Tok, true, unroll_non_block_indents, went, whole_plain, without_open, ℕ, ◌&&◌, ◌++◌, ◌<◌, ◌==◌, ◌||◌, ◌∙◌, ◌∷◌, ◌≡◌, ◌≤◌, ◌⊎◌}
 use Rattle.defs_token.specs.Account.{Account as PieceAccount, is_in_flow}
 use Rattle.model_scanner.specs.Machine as machine
 use Rattle.model_scanner.specs.Plain.{plain}
 use Rattle.proof_lexers.specs.PlainEnds as plains
-use Rattle.proof_lexers.specs.PlainEnds.{reads, refuses}
 use Rattle.proof_scanner.proofs.Cut.Pieces.Separations.{white_is_no_hash, gap_is_separation}
-use Rattle.proof_scanner.proofs.Cut.Pieces.Plains.{plain_is_read}
 use Rattle.proof_scanner.proofs.Cut.Pieces.Inserted.{no_break_on_line}
 use Rattle.proof_scanner.proofs.Cut.Positions.{not_before_after, index_after}
 use Rattle.proof_scanner.proofs.Cut.Saved.{saved_keys, saved_is}
 use Rattle.proof_scanner.proofs.Cut.Nodes.{IsDeep, adjacent_other, less_or}
 use Rattle.proof_scanner.proofs.Sound.Sides.{with_entries, ArrivesBy}
-use Rattle.proof_scanner.proofs.Sound.StreamEnds.{same_flow}
+use Rattle.proof_scanner.proofs.Sound.StreamEnds.{same_flow, same_levels}
 use Rattle.proof_scanner.proofs.Sound.Passed.{same_has_break}
 use Rattle.proof_scanner.proofs.Sound.QuotedEnds.{ends_in_line, on_one_line}
 use Rattle.proof_scanner.proofs.Sound.PlainLines.{PlainFits, plain_fits}
 use Rattle.proof_scanner.proofs.Sound.WithoutOpen.{AreClosed, without_is}
 use Rattle.proof_scanner.proofs.Sound.ReadNodes.{Read, next_of, site_of, site_then, allowed_past, IsRead, node_read}
+use Rattle.proof_scanner.proofs.Cut.Pieces.Plains.{begins_as_read}
+use Rattle.proof_scanner.proofs.Sound.Arrivals.{not_none}
 
 -- ---- what was read
 
@@ -35,24 +35,21 @@ pub record PlainAs (ctx : Context) (p : Position) (text : List ℕ) (x : machine
   fits : PlainFits ctx p piece gap x.rest
 
 plain_as : (ctx : Context) (p : Position) (text : List ℕ) (x : machine.Read Plain) → has_no_nul text ≡ true → begins_solid text ≡ true → is_indented ctx p ≡ true → plain ctx text p ≡ Ok x → PlainAs ctx p text x
-plain_as ctx p text x none begins indented e = by (plain ctx text p) refl (scans_end ctx text p none begins indented)
+plain_as ctx p text x none begins indented e = by x (read_as e (scans_end ctx text p none begins indented)) e
   where
-    by : (y : Result (machine.Read Plain) Fault) → plain ctx text p ≡ y → PlainEndsAs ctx p text y → PlainAs ctx p text x
-    by y i (refuses f why j) = absurd (cc (i, j, e))
-    by y i (reads piece gap rest value cut whole white ends value_is j) =
-        let same : plains.after_plain p piece gap rest value ≡ x = cc (i, j, e) in
-        subst (λ (z : machine.Read Plain). plain ctx text p ≡ Ok z → PlainAs ctx p text z) same (λ k. record {
-          piece = piece;
-          gap = gap;
-          cut = cut;
-          whole = whole;
-          white = white;
-          ends = ends;
-          value_is = value_is;
-          leads = same_has_break gap;
-          end_is = position_append p piece gap rest;
-          fits = plain_fits ctx p text piece gap (plains.after_plain p piece gap rest value) begins cut k;
-        }) e
+    by : (y : machine.Read Plain) → IsPlainRead ctx p text y → plain ctx text p ≡ Ok y → PlainAs ctx p text y
+    by y (whole_plain piece gap rest value cut whole white ends value_is) k = record {
+      piece = piece;
+      gap = gap;
+      cut = cut;
+      whole = whole;
+      white = white;
+      ends = ends;
+      value_is = value_is;
+      leads = same_has_break gap;
+      end_is = position_append p piece gap rest;
+      fits = plain_fits ctx p text piece gap (plains.after_plain p piece gap rest value) begins cut k;
+    }
 
 -- ---- its piece and its gap
 
@@ -108,7 +105,7 @@ comes_alike x y column [] = refl
 comes_alike x y column (c ∷ r) = refl
 
 -- what begins no separation begins with content
-solid_text : (text : List ℕ) → is_empty text ≡ false → begins_separation text ≡ false → begins_solid text ≡ true
+pub solid_text : (text : List ℕ) → is_empty text ≡ false → begins_separation text ≡ false → begins_solid text ≡ true
 solid_text [] some h = absurd (cc some)
 solid_text (c ∷ r) some h = by (is_white c) h
   where
@@ -123,10 +120,6 @@ some_plain fl x column (c ∷ r) h = refl
 pub same_innermost : (bs : List ℕ) → innermost_column (map (λ n. Some n) bs) ≡ innermost bs
 same_innermost [] = refl
 same_innermost (n ∷ ns) = refl
-
-some_length : (l : List ℕ) → is_empty l ≡ false → 0 < length l
-some_length [] h = absurd (cc h)
-some_length (c ∷ l) h = omega arith
 
 -- ---- the step
 
@@ -177,7 +170,7 @@ module _ (text : List ℕ) (t : ScannerState) (a : Arrives text t) (deep : IsDee
     later : t.held.position.index < x.position.index
     later =
         let past : Position = position_after t.held.position q.piece (q.gap ++ x.rest) in
-        omega (arith, ap (λ p. p.index) q.end_is, index_after past q.gap x.rest, index_after t.held.position q.piece (q.gap ++ x.rest), some_length q.piece solid)
+        omega (arith, ap (λ p. p.index) q.end_is, index_after past q.gap x.rest, index_after t.held.position q.piece (q.gap ++ x.rest), not_none q.piece solid)
 
     one_line_of : is_empty x.rest ≡ false → x.position.line ≤ t.held.position.line → (has_break q.piece ≡ false) × (has_break q.gap ≡ false)
     one_line_of some h =
@@ -209,10 +202,6 @@ module _ (text : List ℕ) (t : ScannerState) (a : Arrives text t) (deep : IsDee
       abbrev own : PieceAccount
       own = seen (with_entries r.site r.line es) at r.separation
 
-      same_levels : (es : List Entry) → is_empty (map level_of es) ≡ is_empty es
-      same_levels [] = refl
-      same_levels (e ∷ es) = refl
-
       own_flow : is_in_flow own ≡ in_flow t.held
       own_flow = ap not (same_levels es ∙ sym (same_flow t.held.key_allowed (is_renewed r.site.before r.separation) fs ks es r.are_entries)) ∙ sym flow_is
 
@@ -236,11 +225,8 @@ module _ (text : List ℕ) (t : ScannerState) (a : Arrives text t) (deep : IsDee
               (comes_alike (is_adjacent own.before) (t.held.position.index == t.held.adjacent_value_at) t.held.position.col t.rest ∙
               (ap (λ z. comes_plain z (t.held.position.index == t.held.adjacent_value_at) t.held.position.col t.rest) (sym out) ∙ comes))
 
-      read_as : ReadAs own t.rest tok t.held.position x.rest x.position
-      read_as = plain_is_read own ctx t.rest x a.is_clean own_flow own_column comes_here indented scanned
-
       begins : begins_plain (is_in_flow own) (is_adjacent own.before) own.position.col (q.piece ++ next_of d) ≡ true
-      begins = ap (begins_plain (is_in_flow own) (is_adjacent own.before) own.position.col) (sym q.cut ∙ read_as.is_text) ∙ (read_as.is_piece None).0.0
+      begins = ap (begins_plain (is_in_flow own) (is_adjacent own.before) own.position.col) (sym q.cut) ∙ (ap (λ f. begins_plain f (is_adjacent own.before) own.position.col t.rest) own_flow ∙ begins_as_read ctx (is_adjacent own.before) t.rest t.held.position x comes_here scanned)
 
       piece_is : IsPiece own q.piece (next_of d) None t.held.position tok
       piece_is = ((begins, ap (λ f. is_whole_plain f (collection_column own) q.piece (next_of d)) own_flow ∙ (ap (λ c. is_whole_plain (in_flow t.held) c q.piece (next_of d)) own_column ∙ q.whole), q.value_is), refl)

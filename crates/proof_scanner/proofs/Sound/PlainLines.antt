@@ -1,13 +1,15 @@
 -- The scan of a plain scalar refuses TABs that indent its further lines, and in flow a dash before a flow indicator.
-use Rattle.proof_scanner.proofs.Common.{[], after_first, and_false, and_parts, and_then, ap, append_assoc, append_cancel_right, arith, At, at_break, at_char, at_dash, at_gap, at_marker, begins_flow, begins_solid, Bool, can_be_plain, Context, ended, eqb-true, Err, fail, false, Fault, first, Folded, has_break, has_dash_before_flow, has_no_break, has_tab_within, if◌then◌else◌, inl, inr, is_at_comment_or_end, is_before_line_feed, is_blanks, is_cr_lf, is_gap, is_one_of, is_white, joined, last_line, leading, lines_have_no_tab, List, nat_lt, nat_tests, not, not-true, nothing, Ok, on, past, past_break, Plain, plain_from, plain_lines_fit, PlainState, Position, put_first, Read, refl, Result, run, same_blank, same_break, slice_index, split, split_by, starts, Stop, stop, subst, suc, sym, tabs, true, Turn, turn, turn_in, turned, with_blank, with_break, ℕ, ◌&&◌, ◌++◌, ◌+◌, ◌-◌, ◌==◌, ◌||◌, ◌∙◌, ◌∷◌, ◌≡◌, ◌≤◌, ◌⊎◌}
+use Rattle.proof_scanner.proofs.Common.{[], after_first, and_false, and_parts, and_then, ap, append_assoc, append_cancel_right, arith, At, at_break, at_char, at_dash, at_gap, at_marker, begins_flow, begins_solid, Bool, can_be_plain, Context, ended, eqb-true, Err, fail, false, Fault, first, Folded, has_break, has_dash_before_flow, has_no_break, has_tab_within, if◌then◌else◌, inl, inr, is_at_comment_or_end, is_before_line_feed, is_blanks, is_cr_lf, is_gap, is_one_of, is_white, joined, last_line, leading, lines_have_no_tab, List, nat_lt, nat_tests, not, not-true, nothing, Ok, on, or_true, past, past_break, Plain, plain_from, plain_lines_fit, PlainState, Position, put_first, Read, refl, Result, run, same_blank, same_break, slice_index, split, split_by, starts, Stop, stop, subst, suc, sym, tabs, true, Turn, turn, turn_in, turned, with_blank, with_break, ℕ, ◌&&◌, ◌++◌, ◌+◌, ◌-◌, ◌==◌, ◌||◌, ◌∙◌, ◌∷◌, ◌≡◌, ◌≤◌, ◌⊎◌}
 use Rattle.defs_text.specs.Classes as classes
 use Rattle.yaml_chars.specs.Class.{is_break, is_blank}
 use Rattle.yaml_chars.specs.Class as model_classes
 use Rattle.yaml_tokens.specs.declared.problem.Problem.TheVariants as problem
 use Rattle.model_scanner.specs.Plain.{Mode, inside, between, is_shallow, goes_on, begun, plain}
-use Rattle.proof_lexers.proofs.Bridges.{same_flow}
 use Rattle.proof_scanner.proofs.Sound.LastLines.{last_first, last_whole}
 use Rattle.proof_scanner.proofs.Sound.TabsWithin.{take_none, none_before, blank_more}
+use Rattle.proof_scanner.proofs.Cut.Pieces.Plains.{same_flow_start}
+use Rattle.model_scanner.proofs.PlainLemmas.{break_leads}
+use Rattle.proof_scanner.proofs.Sound.Standing.{and_yes}
 
 -- ---- what a text says of TABs, character by character
 
@@ -74,13 +76,6 @@ IsCalm tabs l = Unit {0}
 abbrev pub IsAt : PlainState → Spot → (rest : List ℕ) → Type 0
 IsAt t x a = (spot_of t.mode t.folded.leading t.position.col ≡ x) ⊎ ((x ≡ at 0) × (begins_break a ≡ true))
 
-leads : (t : Folded) → (with_break t).leading ≡ true
-leads t = by t.leading refl
-  where
-    by : (b : Bool) → t.leading ≡ b → (with_break t).leading ≡ true
-    by true e = rw e refl
-    by false e = rw e refl
-
 same_leading : (c : ℕ) (t : Folded) → (with_blank c t).leading ≡ t.leading
 same_leading c t = by t.leading refl
   where
@@ -142,7 +137,7 @@ module _ (ctx : Context) (start : Position) (c : ℕ) (a : List ℕ) where
 
       by : (feeds : Bool) → is_cr_lf c a ≡ feeds → Goes m s (on (if feeds then record { mode = between; position = past s.position; folded = s.folded } else record { mode = between; position = past_break s.position; folded = with_break s.folded }))
       by true f = goes _ tt (white_goes x white) (inr (margin, feed_breaks c a f)) (white_is_no_dash ctx.flow (is_apart m) (begins_flow a) c white) (sym white)
-      by false f = goes _ tt (white_goes x white) (inl (ap (λ l. spot_of between l 0) (leads s.folded) ∙ sym margin)) (white_is_no_dash ctx.flow (is_apart m) (begins_flow a) c white) (sym white)
+      by false f = goes _ tt (white_goes x white) (inl (ap (λ l. spot_of between l 0) (break_leads s.folded) ∙ sym margin)) (white_is_no_dash ctx.flow (is_apart m) (begins_flow a) c white) (sym white)
 
   module _ (breaks : is_break c ≡ false) where
     -- a blank that is no TAB in the indentation
@@ -233,15 +228,7 @@ module _ (ctx : Context) (start : Position) (c : ℕ) (a : List ℕ) where
   -- the dash that is looked for before a scalar goes on
   pub dash_is : (ctx.flow && true && (c == 45) && begins_flow a) ≡ at_dash ctx.flow (c ∷ a)
   unfolding at_dash model_classes.is_flow
-  dash_is = ap (λ b. b && (c == 45) && begins_flow a) (left ctx.flow) ∙ ap (λ b. ctx.flow && (c == 45) && b) (sym (flow_next a))
-    where
-      left : (b : Bool) → (b && true) ≡ b
-      left true = refl
-      left false = refl
-
-      flow_next : (r : List ℕ) → model_classes.is_flow (slice_index r 0) ≡ begins_flow r
-      flow_next [] = refl
-      flow_next (d ∷ r) = sym (same_flow d)
+  dash_is = ap (λ b. b && (c == 45) && begins_flow a) (and_yes ctx.flow) ∙ ap (λ b. ctx.flow && (c == 45) && b) (sym (same_flow_start a))
 
   -- a scalar that goes on has no dash before a flow indicator
   no_dash : (p : Position) → goes_on ctx (c ∷ a) p ≡ Ok true → (ctx.flow && true && (c == 45) && begins_flow a) ≡ false
@@ -527,10 +514,6 @@ broken_gap column x (c ∷ g) rest w b h = by (has_break g) refl (λ k. broken_g
 
     later : tabs_fit column (past_spot column x c) g rest ≡ true
     later = (and_parts (may_go x c) (tabs_fit column (past_spot column x c) g rest) h).1
-
-    or_true : (b : Bool) → (b || true) ≡ true
-    or_true true = refl
-    or_true false = refl
 
     breaks : has_break g ≡ false → is_break c ≡ true
     breaks k = here (classes.is_break c) (has_no_break g) refl b k

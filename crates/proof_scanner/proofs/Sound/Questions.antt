@@ -1,5 +1,5 @@
 -- The function of the model that reads a `?`: what holds where it begins holds between two fetches after it.
-use Rattle.proof_scanner.proofs.Common.{[], allow_key, another, ap, AreLevels, arith, Arrives, asked_pair, At, begin_key, begins_with, begins_with_space_or_break, Bool, both_hold, chained, check_key_space, checked, columns, either, ends_at, entries_past, Entry, false, Fault, fetch_key, FlowLevel, free, gives_question, Had, had_after, has_break, has_open_level, has_tab_before_piece, has_tab_within, HasNoTabs, Held, Holds, if◌then◌else◌, in_flow, Indent, inl, inr, is_at_comment_or_end, is_at_gap, is_break, is_deeper, is_empty, is_in_column, is_keyed, is_one_of, is_renewed, is_separation, IsEntryOf, IsPairOf, Key, Keyed, keyed, last_line, length, length-append, line_past, List, Mapping, no_pair, None, not, not_ended, Ok, on_held, opened, Option, or_parts, or_true, Outside, Pair, pair_past, past, peek, placed, Position, position_after, push, put, refl, remove_implicit_key, renewed, Result, roll_indent, ScannerState, settled, single_pair, Site, site_in, skip_indicator, skip_yaml_whitespace, Some, Stands, subst, suc, sym, take, takes_pair, Tok, Token, token, tried, true, went, with_top, zero, ℕ, ◌&&◌, ◌++◌, ◌+◌, ◌==◌, ◌>>=◌, ◌||◌, ◌∙◌, ◌∷◌, ◌≡◌, ◌⊎◌}
+use Rattle.proof_scanner.proofs.Common.{[], allow_key, another, ap, AreLevels, arith, Arrives, asked_pair, At, begin_key, begins_with_space_or_break, Bool, both_hold, chained, check_key_space, checked, columns, either, ends_at, entries_past, Entry, false, Fault, fetch_key, FlowLevel, free, gives_question, Had, had_after, has_break, has_open_level, has_tab_before_piece, has_tab_within, HasNoTabs, Held, Holds, if◌then◌else◌, in_flow, Indent, inl, inr, is_at_comment_or_end, is_at_gap, is_break, is_deeper, is_empty, is_in_column, is_keyed, is_one_of, is_renewed, is_separation, IsEntryOf, IsPairOf, Key, Keyed, keyed, last_line, length, length-append, line_past, List, Mapping, no_pair, None, not, not-false, not_ended, Ok, on_held, opened, Option, or_parts, or_true, Pair, pair_past, past, peek, placed, Position, position_after, push, put, refl, remove_implicit_key, renewed, Result, roll_indent, ScannerState, settled, single_pair, Site, site_in, skip_indicator, skip_yaml_whitespace, Some, Stands, subst, suc, sym, take, takes_pair, Tok, Token, token, tried, true, went, with_top, zero, ℕ, ◌&&◌, ◌++◌, ◌+◌, ◌==◌, ◌>>=◌, ◌||◌, ◌∙◌, ◌∷◌, ◌≡◌, ◌⊎◌}
 use Rattle.yaml_tokens.specs.declared.problem.Problem.TheVariants as problem
 use Rattle.defs_token.specs.FlowEntry.{waits, with_had}
 use Rattle.model_scanner.specs.declared.level.FlowLevel.TheVariants.{Entry as InEntry}
@@ -13,10 +13,11 @@ use Rattle.proof_scanner.proofs.Sound.Around.{tokens_before}
 use Rattle.proof_scanner.proofs.Sound.EntryPieces.{low_enough, site_inside, goes_inside}
 use Rattle.proof_scanner.proofs.Sound.Indicated.{past_one}
 use Rattle.proof_scanner.proofs.Sound.NodesInside.{not_keyed}
-use Rattle.proof_scanner.proofs.Sound.OutsidePieces.{site_then, read_outside, line_free, none_open, started_tokens}
+use Rattle.proof_scanner.proofs.Sound.OutsidePieces.{site_then, read_outside, line_free, none_open, started_tokens, begun_after, with_start}
 use Rattle.proof_scanner.proofs.Sound.Rolled.{RollsTo, rolls_to, top_closed}
 use Rattle.proof_scanner.proofs.Sound.Sides.{ArrivesBy, ArrivesOutside, ArrivesInside, arrives_side}
 use Rattle.proof_scanner.proofs.Sound.WhiteSpaces.{white_of, past_white, white_cut, no_tab_before, no_tab_in_last, past_white_space, white_exactly, white_first}
+use Rattle.proof_scanner.proofs.Cut.Fetched.{begins_here}
 
 -- ---- what is read after it
 
@@ -40,11 +41,7 @@ white_indents s more before = by (no_tab_in_last false more)
 -- no TAB stands there
 space_checked : (more : List ℕ) (t : ScannerState) → t.rest ≡ past_white false more → Holds (λ u. (u ≡ t) × (has_tab_before_piece false more ≡ false)) (check_key_space t)
 unfolding check_key_space
-space_checked more t e = checked (peek t.rest == 9) (At problem.TabAfterKey t.held.position) (λ h. went (refl, no_tab_before false more (first (past_white false more) (ap (λ r. peek r == 9) (sym e) ∙ h))))
-  where
-    first : (r : List ℕ) → (peek r == 9) ≡ false → begins_with 9 r ≡ false
-    first [] h = refl
-    first (c ∷ r) h = h
+space_checked more t e = checked (peek t.rest == 9) (At problem.TabAfterKey t.held.position) (λ h. went (refl, no_tab_before false more (sym (begins_here 9 (past_white false more) refl) ∙ (ap (λ r. peek r == 9) (sym e) ∙ h))))
 
 pub past_question : (p : Position) (next : List ℕ) → position_after p (63 ∷ []) next ≡ past p
 unfolding is_break
@@ -67,20 +64,12 @@ question_end t more ds i ts = record {
   };
 }
 
--- the tokens with the start of a mapping, if one begins
-abbrev pub with_mapping : ScannerState → List Token
-with_mapping t = (if is_deeper t.held.position.col (columns t.held.indent t.held.indents) then placed None (token t.held.position Tok.block_mapping_start) t.held.tokens else t.held.tokens)
-
--- what may begin after it
-abbrev pub after_question : (here : Position) → List ℕ → Outside
-after_question here bs = record { line = free; blocks = opened here.col (not_ended here.col bs) }
-
 pub question_stands : (text more : List ℕ) (t : ScannerState) (a : ArrivesBy text t [] (None ∷ []) []) → t.held.flow ≡ [] → t.held.keys ≡ None ∷ [] → t.rest ≡ 63 ∷ more → t.held.key_allowed ≡ true →
     begins_with_space_or_break more ≡ true → has_tab_before_piece false more ≡ false → is_separation false (white_of false more) (past_white false more) ≡ true →
     (i : ℕ) (ds : List Indent) → columns i ds ≡ opened t.held.position.col (columns t.held.indent t.held.indents) → AreLevels i ds → has_open_level ds ≡ false →
-    Stands text (question_end t more ds i (with_mapping t))
+    Stands text (question_end t more ds i (with_start Tok.block_mapping_start t))
 question_stands text more t a flow keys e allowed begins apart fills i ds columns_are levels awaits =
-    read_outside text t (question_end t more ds i (with_mapping t)) a (63 ∷ []) more Tok.key (after_question t.held.position a.site.blocks) (record {
+    read_outside text t (question_end t more ds i (with_start Tok.block_mapping_start t)) a (63 ∷ []) more Tok.key (begun_after t.held.position a.site.blocks) (record {
       is_solid = refl;
       is_piece = inl (refl, begins);
       stands = rw (a.is_indented (ap is_empty e), apart) refl;
@@ -124,11 +113,7 @@ data Begins (s u : Held) : Type 0 where
 
 key_begun : (s : Held) → Holds (Begins s) (begin_key s)
 unfolding begin_key
-key_begun s = either (in_flow s) (λ e. went (inside e refl)) (λ e. checked (not s.key_allowed) (At problem.KeyNotAllowed s.position) (λ f. went (outside e (allowed s.key_allowed f) refl)))
-  where
-    allowed : (b : Bool) → not b ≡ false → b ≡ true
-    allowed true f = refl
-    allowed false f = absurd (cc f)
+key_begun s = either (in_flow s) (λ e. went (inside e refl)) (λ e. checked (not s.key_allowed) (At problem.KeyNotAllowed s.position) (λ f. went (outside e (not-false s.key_allowed f) refl)))
 
 -- what the model does after the `?` and its mapping
 abbrev pub key_from : ScannerState → ScannerState → Result ScannerState Fault
@@ -155,7 +140,7 @@ question_outside : (text more : List ℕ) (t : ScannerState) (a : ArrivesBy text
 question_outside text more t a flow keys e gap allowed deep =
     subst (λ r. Holds (Stands text) (from r (roll_indent t.held.position.col None Tok.block_mapping_start t.held.position t.held))) (sym e)
     (subst (λ h. Holds (Stands text) (from (63 ∷ more) h)) (sym r.is_held)
-    (question_read text more t.held.position (now (record t.held { indents = r.indents; indent = r.indent; tokens = with_mapping t })) gap (λ begins apart fills.
+    (question_read text more t.held.position (now (record t.held { indents = r.indents; indent = r.indent; tokens = with_start Tok.block_mapping_start t })) gap (λ begins apart fills.
     (question_stands text more t a flow keys e allowed begins apart fills r.indent r.indents r.columns_are r.are_levels (top_closed r.indents (r.is_top deep)).1))))
   where
     out : in_flow t.held ≡ false

@@ -3,7 +3,8 @@ use Rattle.proof_scanner.proofs.Common.{[], and_false, and_parts, ap, arith, beg
 use Rattle.defs_text.specs.Classes as classes
 use Rattle.defs_text.specs.FlowScalar.{last_line}
 use Rattle.yaml_chars.specs.Class.{is_break, is_blank}
-use Rattle.model_scanner.specs.Quoted.{after}
+use Rattle.model_scanner.specs.Quoted.{at_part, after}
+use Rattle.model_scanner.specs.declared.kind.QuotedPart.TheVariants as part
 use Rattle.proof_lexers.proofs.Quoted.Turns.{spelled}
 use Rattle.proof_scanner.proofs.Sound.TabsWithin.{take_none, none_before, blank_more}
 
@@ -150,7 +151,7 @@ two_broken ctx start a p u = refl
 
 -- whether an escaped break stands directly before
 abbrev pub is_after : Mode → Bool
-is_after after = true
+is_after (at_part part.After) = true
 is_after _ = false
 
 module _ (single : Bool) (ctx : Context) (start : Position) (r : List ℕ) where

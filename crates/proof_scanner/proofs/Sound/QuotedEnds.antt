@@ -1,10 +1,9 @@
 -- What the scanner checks after a quoted scalar: the line holds no more, or goes on as it may.
-use Rattle.proof_scanner.proofs.Common.{[], after, and_parts, ap, append_assoc, arith, begins_with, Bool, both_hold, chained, check_after_quoted, either, eqb-true, Err, false, Fault, goes_on_quoted, has_break, has_no_break, has_no_nul, Holds, if◌then◌else◌, in_flow, is_at_line_end, is_blank, is_blanks, is_blanks_and_comment, is_break, is_breakz, is_nul, is_on_line, is_rest_of_line, is_separation, leading, lexed, line_is_done, List, may_follow_quoted, No, not, Ok, peek, Position, position_after, position_past, quoted_may_end, refl, refused, Result, ScannerState, skip_spaces, SkipTabs, space, subst, suc, sym, true, went, Yes, ℕ, ◌&&◌, ◌++◌, ◌<◌, ◌==◌, ◌||◌, ◌∙◌, ◌∷◌, ◌≡◌, ◌≤◌}
+use Rattle.proof_scanner.proofs.Common.{[], after, and_parts, ap, append_assoc, arith, begins_with, Bool, both_hold, chained, check_after_quoted, either, eqb-true, Err, false, Fault, goes_on_quoted, has_break, has_no_break, has_no_nul, Holds, if◌then◌else◌, in_flow, is_at_line_end, is_blank, is_blanks, is_blanks_and_comment, is_break, is_breakz, is_nul, is_on_line, is_rest_of_line, is_separation, leading, lexed, line_is_done, List, may_follow_quoted, No, no_nul_after, not, Ok, or_right, or_true, peek, Position, position_after, position_past, quoted_may_end, refl, refused, Result, ScannerState, skip_spaces, SkipTabs, space, subst, suc, sym, true, went, Yes, ℕ, ◌&&◌, ◌++◌, ◌<◌, ◌==◌, ◌||◌, ◌∙◌, ◌∷◌, ◌≡◌, ◌≤◌}
 use Rattle.yaml_chars.specs.Class as model_classes
 use Rattle.proof_lexers.specs.PlainEnds as plains
 use Rattle.proof_scanner.proofs.Cut.Passes.{Spaced, spaces_skipped}
 use Rattle.proof_scanner.proofs.Cut.Positions.{not_before_after}
-use Rattle.proof_scanner.proofs.Sound.Arrivals.{clean_after}
 
 -- ---- lines
 
@@ -119,11 +118,7 @@ is_done s next f h e n g = ap is_rest_of_line (leading_line s next h e n) ∙ re
   where
     rest : (s : List ℕ) → is_separation false s next ≡ true → plains.has_break s ≡ false → begins_with 35 (s ++ next) ≡ false → is_rest_of_line s ≡ true
     rest [] f h g = refl
-    rest (c ∷ s) f h g = by (c == 35) refl (blanks_and_comment (c ∷ s) next f h)
-      where
-        by : (n : Bool) → (c == 35) ≡ n → (n || (is_blank c && is_blanks_and_comment s)) ≡ true → (is_blank c && is_blanks_and_comment s) ≡ true
-        by true e k = absurd (cc (e, g))
-        by false e k = k
+    rest (c ∷ s) f h g = let all : is_blanks_and_comment (c ∷ s) ≡ true = blanks_and_comment (c ∷ s) next f h in rw g (rw g at all)
 
 -- ---- what is skipped
 
@@ -167,11 +162,7 @@ comes_by true piece line here c r unbroken h e = by (c == 44) (c == 125) (c == 9
   where
     by : (w x y z : Bool) → (c == 44) ≡ w → (c == 125) ≡ x → (c == 93) ≡ y → (c == 58) ≡ z → (w || x || y || z) ≡ true → ((w || (y || (x || (z || false)))) ≡ true) × (is_blank c ≡ false)
     by true x y z e1 e2 e3 e4 h = (refl, let same : c ≡ 44 = eqb-true c 44 e1 in rw same refl)
-    by false true y z e1 e2 e3 e4 h = (some y, let same : c ≡ 125 = eqb-true c 125 e2 in rw same refl)
-      where
-        some : (y : Bool) → (y || true) ≡ true
-        some true = refl
-        some false = refl
+    by false true y z e1 e2 e3 e4 h = (or_true y, let same : c ≡ 125 = eqb-true c 125 e2 in rw same refl)
     by false false true z e1 e2 e3 e4 h = (refl, let same : c ≡ 93 = eqb-true c 93 e3 in rw same refl)
     by false false false true e1 e2 e3 e4 h = (refl, let same : c ≡ 58 = eqb-true c 58 e4 in rw same refl)
     by false false false false e1 e2 e3 e4 h = absurd (cc h)
@@ -186,10 +177,6 @@ may_end_by : (flow : Bool) (p : Position) (piece s rest : List ℕ) (here : Posi
 unfolding model_classes.is_break
 may_end_by flow p piece s rest here in_line none f h no_hash is follows = by (is_breakz (peek rest)) refl
   where
-    either_way : (x y : Bool) → y ≡ true → (x || y) ≡ true
-    either_way true y e = refl
-    either_way false y e = e
-
     same : (p.line == here.line) ≡ true → has_break piece ≡ false
     same e =
         let q : Position = position_after p piece (s ++ rest) in
@@ -205,7 +192,7 @@ may_end_by flow p piece s rest here in_line none f h no_hash is follows = by (is
     by true e = rw (is_done s rest f h (at_end_of rest e) none no_hash) refl
     by false e =
         let blanks : is_blanks s ≡ true = (blanks_alone false s rest f h (not_at_end rest e)).1 in
-        either_way (line_is_done (s ++ rest)) (goes_on_quoted flow piece (after is_blank (s ++ rest))) (ap (λ x. goes_on_quoted flow piece x) (after_blanks s rest blanks) ∙ some rest e follows)
+        or_right (line_is_done (s ++ rest)) (goes_on_quoted flow piece (after is_blank (s ++ rest))) (ap (λ x. goes_on_quoted flow piece x) (after_blanks s rest blanks) ∙ some rest e follows)
 
 -- blanks and a comment were skipped after a piece, and what stands there may follow a quoted scalar
 pub record Checked (piece : List ℕ) (t u : ScannerState) : Type 0 where
@@ -222,7 +209,7 @@ checks p piece t u in_line none is s no_hash follows =
     record {
       spaces = s;
       may_end = subst (λ r. quoted_may_end (in_flow t.held) piece r ≡ true) (sym cut)
-          (may_end_by (in_flow t.held) p piece g u.rest u.held.position in_line (clean_after g u.rest (subst (λ r. has_no_nul r ≡ true) cut none)) s.is_filled s.no_break (subst (λ r. begins_with 35 r ≡ false) cut no_hash)
+          (may_end_by (in_flow t.held) p piece g u.rest u.held.position in_line (no_nul_after g u.rest (subst (λ r. has_no_nul r ≡ true) cut none)) s.is_filled s.no_break (subst (λ r. begins_with 35 r ≡ false) cut no_hash)
           here (subst (λ b. may_follow_quoted b (p.line == u.held.position.line) (peek u.rest) ≡ true) same_flow follows));
     }
 

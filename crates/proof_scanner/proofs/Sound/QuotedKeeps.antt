@@ -1,10 +1,10 @@
 -- Quoted scalars: what holds between two fetches holds after them.
-use Rattle.proof_scanner.proofs.Common.{[], act_of, adjacent_here, after_separation, allow_key, and_parts, ap, append_assoc, append_cancel_right, AreLevels, arith, Arrives, awaits_past, before_by, before_past, begins_free_line, begins_line, begins_with, begun_by, between, Bool, both_hold, chained, check_after_quoted, columns, Context, context, element_of, ends_before, Entry, false, Fault, fetch_flow_scalar, FlowLevel, further_lines_stand, gives_node, go_on, has_break, has_no_nul, has_open_level, has_tab_within, HasNoTabs, Held, Holds, in_flow, Indent, inl, inr, is_at_comment_or_end, is_break, is_empty, is_indented_by_spaces, is_nul, is_separation, IsAdjacent, IsPiece, IsReadOn, Key, last_line, least_column, least_for, lexed, List, may_precede, nat_le, None, not, Ok, on_held, Option, Position, position_after, position_append, previous_by, push, quote_of, quoted, quoted_lines_fit, quoted_may_end, quoted_scalar, quoted_style, QuotedEndsAs, read, ReadAs, refl, Result, ScannerState, seen, shown_position, Site, skip_to_next_token, Some, Stands, subst, suc, sym, Tok, true, unled, value_of, weakened, went, ℕ, ◌&&◌, ◌++◌, ◌-◌, ◌>>=◌, ◌||◌, ◌∙◌, ◌∷◌, ◌≡◌, ◌≤◌}
+use Rattle.proof_scanner.proofs.Common.{[], act_of, adjacent_here, after_separation, allow_key, and_parts, ap, append_assoc, append_cancel_right, are_single, AreLevels, arith, Arrives, awaits_past, before_by, before_past, begins_free_line, begins_line, begins_with, begun_by, between, Bool, both_hold, chained, check_after_quoted, columns, Context, context, element_of, ends_before, Entry, false, Fault, fetch_flow_scalar, FlowLevel, further_lines_stand, gives_node, go_on, has_break, has_no_nul, has_open_level, has_tab_within, HasNoTabs, Held, Holds, in_flow, Indent, inl, inr, is_at_comment_or_end, is_break, is_empty, is_indented_by_spaces, is_nul, is_separation, IsAdjacent, IsPiece, IsQuotedRead, IsReadOn, Key, last_line, least_column, least_for, lexed, List, may_precede, nat_le, no_nul_after, None, not, not-true, Ok, on_held, Option, Position, position_after, position_append, previous_by, push, quote_of, quoted, quoted_lines_fit, quoted_may_end, quoted_scalar, quoted_style, Quotes, read, read_as, ReadAs, refl, Result, ScannerState, seen, shown_position, Site, skip_to_next_token, Some, Stands, subst, suc, sym, Tok, true, unled, value_of, weakened, went, ℕ, ◌&&◌, ◌++◌, ◌-◌, ◌>>=◌, ◌||◌, ◌∙◌, ◌∷◌, ◌≡◌, ◌≤◌}
+use Rattle.model_scanner.specs.declared.kind.Quotes.TheVariants.{Single, Double}
 use Rattle.defs_token.specs.Account.{Account as PieceAccount}
 use Rattle.defs_token.specs.Account as pieces
 use Rattle.model_scanner.specs.Machine as machine
 use Rattle.proof_lexers.specs.PlainEnds as plains
-use Rattle.proof_lexers.specs.QuotedEnds.{reads, refuses}
 use Rattle.proof_lexers.proofs.Quoted.ScanEnds.{scans_end}
 use Rattle.proof_scanner.proofs.Cut.Pieces.Quoted.{some_chars, quoted_is_read}
 use Rattle.proof_scanner.proofs.Cut.Pieces.Separations.{separation_append}
@@ -13,15 +13,16 @@ use Rattle.proof_scanner.proofs.Cut.Saved.{saved_keys, saved_is}
 use Rattle.proof_scanner.proofs.Cut.Scalars.{adjacent_quoted}
 use Rattle.proof_scanner.proofs.Cut.Nodes.{IsDeep}
 use Rattle.proof_lexers.proofs.Bridges.{or_false}
-use Rattle.proof_scanner.proofs.Sound.Standing.{and_yes, deep_for}
+use Rattle.proof_scanner.proofs.Sound.Standing.{deep_for, awaits_kept}
 use Rattle.proof_scanner.proofs.Sound.Sides.{with_entries, ArrivesBy}
-use Rattle.proof_scanner.proofs.Sound.Arrivals.{clean_after, unbroken, deep_enough}
+use Rattle.proof_scanner.proofs.Sound.Arrivals.{unbroken, deep_enough}
 use Rattle.proof_scanner.proofs.Sound.LastLines.{break_append}
 use Rattle.proof_scanner.proofs.Sound.Skips.{IsAt, IsLeast, Cleared, skip_clears}
 use Rattle.proof_scanner.proofs.Sound.Passed.{Exact, exact, same_has_break, least_of_levels, least_is}
 use Rattle.proof_scanner.proofs.Sound.QuotedEnds.{ends_in_line, on_one_line, Checked, quoted_checked}
 use Rattle.proof_scanner.proofs.Sound.QuotedLines.{quoted_fits}
 use Rattle.proof_scanner.proofs.Sound.ReadNodes.{Read, next_of, state_after, site_of, site_then, allowed_past, IsRead, node_read}
+use Rattle.proof_scanner.proofs.Sound.Rolled.{some_levels}
 
 -- What a function has read of a node where a piece begins, and what it leaves.
 pub record ReadNode (text : List ℕ) (t u : ScannerState) : Type 0 where
@@ -47,32 +48,26 @@ whole : (q : ℕ) (body rest : List ℕ) → q ∷ (body ++ q ∷ rest) ≡ (q �
 whole q body rest = ap (λ l. q ∷ l) (sym (append_assoc body (q ∷ []) rest))
 
 -- the position after it is that of its text
-end_of : (single : Bool) (ctx : Context) (p : Position) (more piece : List ℕ) (x : machine.Read (List ℕ)) → has_no_nul more ≡ true → quoted single ctx (quote_of single ∷ more) p ≡ Ok x → quote_of single ∷ more ≡ piece ++ x.rest → x.position ≡ position_after p piece x.rest
-end_of single ctx p more piece x none e cut =
+end_of : (quotes : Quotes) (ctx : Context) (p : Position) (more piece : List ℕ) (x : machine.Read (List ℕ)) → has_no_nul more ≡ true → quoted (are_single quotes) ctx (quote_of (are_single quotes) ∷ more) p ≡ Ok x → quote_of (are_single quotes) ∷ more ≡ piece ++ x.rest → x.position ≡ position_after p piece x.rest
+end_of quotes ctx p more piece x none e cut =
     let a : PieceAccount = record { position = p; blocks = []; levels = []; before = pieces.other } in
-    let r : ReadAs a (quote_of single ∷ more) (Tok.scalar (quoted_style single) x.value) p x.rest x.position = quoted_is_read a single ctx more x none e in
+    let r : ReadAs a (quote_of (are_single quotes) ∷ more) (Tok.scalar (quoted_style quotes) x.value) p x.rest x.position = quoted_is_read a quotes ctx more x none e in
     let own : List ℕ = r.first ∷ r.more in
     let same : own ++ r.separation ≡ piece = append_cancel_right (own ++ r.separation) piece x.rest (append_assoc own r.separation x.rest ∙ (sym r.is_text ∙ cut)) in
     r.is_end ∙ (sym (position_append p own r.separation x.rest) ∙ ap (λ l. position_after p l x.rest) same)
 
-pub quoted_as : (single : Bool) (ctx : Context) (p : Position) (more : List ℕ) (x : machine.Read (List ℕ)) → has_no_nul more ≡ true → quoted single ctx (quote_of single ∷ more) p ≡ Ok x → QuotedAs single ctx p (quote_of single ∷ more) x
-quoted_as single ctx p more x none e = by (quoted single ctx (quote_of single ∷ more) p) refl (scans_end single ctx more p (some_chars more none))
-  where
-    by : (y : Result (machine.Read (List ℕ)) Fault) → quoted single ctx (quote_of single ∷ more) p ≡ y → QuotedEndsAs single ctx p more y → QuotedAs single ctx p (quote_of single ∷ more) x
-    by y i (refuses f why j) = absurd (cc (i, j, e))
-    by y i (reads body rest value position cut is ends j) =
-        let same : record { rest = rest; position = position; value = value } ≡ x = cc (i, j, e) in
-        let is_rest : rest ≡ x.rest = ap (λ z. z.rest) same in
-        let cut2 : more ≡ body ++ quote_of single ∷ x.rest = subst (λ r. more ≡ body ++ quote_of single ∷ r) is_rest cut in
-        let all : quote_of single ∷ more ≡ piece_of single body ++ x.rest = ap (λ l. quote_of single ∷ l) cut2 ∙ whole (quote_of single) body x.rest in
-        record {
-          body = body;
-          value_is = subst (λ v. value_of single body ≡ Some v) (ap (λ z. z.value) same) is;
-          ends = subst (λ r. ends_before single r ≡ true) is_rest ends;
-          cut = all;
-          end_is = end_of single ctx p more (piece_of single body) x none e all;
-          fits = quoted_fits single ctx body x.rest value p x is (ap (λ l. quoted single ctx (quote_of single ∷ l) p) (sym cut2) ∙ e);
-        }
+pub quoted_as : (quotes : Quotes) (ctx : Context) (p : Position) (more : List ℕ) (x : machine.Read (List ℕ)) → has_no_nul more ≡ true → quoted (are_single quotes) ctx (quote_of (are_single quotes) ∷ more) p ≡ Ok x → QuotedAs (are_single quotes) ctx p (quote_of (are_single quotes) ∷ more) x
+quoted_as quotes ctx p more x none e =
+    let q : IsQuotedRead (are_single quotes) more x = read_as e (scans_end (are_single quotes) ctx more p (some_chars more none)) in
+    let all : quote_of (are_single quotes) ∷ more ≡ piece_of (are_single quotes) q.body ++ x.rest = ap (λ l. quote_of (are_single quotes) ∷ l) q.is_text ∙ whole (quote_of (are_single quotes)) q.body x.rest in
+    record {
+      body = q.body;
+      value_is = q.is_value;
+      ends = q.may_end;
+      cut = all;
+      end_is = end_of quotes ctx p more (piece_of (are_single quotes) q.body) x none e all;
+      fits = quoted_fits (are_single quotes) ctx q.body x.rest x.value p x q.is_value (ap (λ l. quoted (are_single quotes) ctx (quote_of (are_single quotes) ∷ l) p) (sym q.is_text) ∙ e);
+    }
 
 -- a quote is no break
 pub in_line : (single : Bool) (body : List ℕ) → ends_in_line (piece_of single body) ≡ true
@@ -100,25 +95,13 @@ pub record IsQuotedToken (single : Bool) (tok : Tok) : Type 0 where
   pub precedes : (fl : Bool) (bs piece next : List ℕ) → may_precede fl bs tok piece next ≡ quoted_may_end fl piece next
   pub awaits : (fl : Bool) (bs : List ℕ) (b : Bool) (next : List ℕ) → awaits_past fl tok bs b next ≡ b
 
-pub quoted_token : (single : Bool) (text : List ℕ) → IsQuotedToken single (Tok.scalar (quoted_style single) text)
-quoted_token true text = record { act = refl; begun = refl; shown = λ s p n. refl; before = refl; least = λ s. refl; lines = λ c p. refl; precedes = λ f bs p n. refl; awaits = awaits_alike }
-  where
-    awaits_alike : (fl : Bool) (bs : List ℕ) (b : Bool) (next : List ℕ) → awaits_past fl (Tok.scalar (quoted_style true) text) bs b next ≡ b
-    awaits_alike true bs b next = refl
-    awaits_alike false bs b next = and_yes b
-quoted_token false text = record { act = refl; begun = refl; shown = λ s p n. refl; before = refl; least = λ s. refl; lines = λ c p. refl; precedes = λ f bs p n. refl; awaits = awaits_alike }
-  where
-    awaits_alike : (fl : Bool) (bs : List ℕ) (b : Bool) (next : List ℕ) → awaits_past fl (Tok.scalar (quoted_style false) text) bs b next ≡ b
-    awaits_alike true bs b next = refl
-    awaits_alike false bs b next = and_yes b
+pub quoted_token : (quotes : Quotes) (text : List ℕ) → IsQuotedToken (are_single quotes) (Tok.scalar (quoted_style quotes) text)
+quoted_token Single text = record { act = refl; begun = refl; shown = λ s p n. refl; before = refl; least = λ s. refl; lines = λ c p. refl; precedes = λ f bs p n. refl; awaits = awaits_kept _ (λ b. refl) (λ bs b n. refl) }
+quoted_token Double text = record { act = refl; begun = refl; shown = λ s p n. refl; before = refl; least = λ s. refl; lines = λ c p. refl; precedes = λ f bs p n. refl; awaits = awaits_kept _ (λ b. refl) (λ bs b n. refl) }
 
-piece_is : (a : PieceAccount) (single : Bool) (body next value : List ℕ) → value_of single body ≡ Some value → ends_before single next ≡ true → IsPiece a (piece_of single body) next None a.position (Tok.scalar (quoted_style single) value)
-piece_is a true body next value is ends = ((body, refl, is, no_quote (begins_with 39 next) ends), refl)
-  where
-    no_quote : (b : Bool) → not (true && b) ≡ true → b ≡ false
-    no_quote true h = absurd (cc h)
-    no_quote false h = refl
-piece_is a false body next value is ends = ((body, refl, is), refl)
+piece_is : (a : PieceAccount) (quotes : Quotes) (body next value : List ℕ) → value_of (are_single quotes) body ≡ Some value → ends_before (are_single quotes) next ≡ true → IsPiece a (piece_of (are_single quotes) body) next None a.position (Tok.scalar (quoted_style quotes) value)
+piece_is a Single body next value is ends = ((body, refl, is, not-true (begins_with 39 next) ends), refl)
+piece_is a Double body next value is ends = ((body, refl, is), refl)
 
 -- ---- levels of indentation
 
@@ -132,7 +115,7 @@ least_is_less i (d ∷ ds) a = let h : i ≡ suc (least_column (columns i (d ∷
 
 -- ---- TABs after it
 
-empty_end : (r : List ℕ) → is_empty r ≡ true → is_at_comment_or_end r ≡ true
+pub empty_end : (r : List ℕ) → is_empty r ≡ true → is_at_comment_or_end r ≡ true
 empty_end [] h = refl
 empty_end (c ∷ r) h = absurd (cc h)
 
@@ -146,7 +129,7 @@ spaced_by least bs aw gap e h = by (begins_line quoted_scalar gap) refl
 
 -- ---- the step
 
-module _ (text : List ℕ) (single : Bool) (t : ScannerState) (a : Arrives text t) (deep : IsDeep t.held) (x : machine.Read (List ℕ)) (q : QuotedAs single (context t.held) t.held.position t.rest x) where
+module _ (text : List ℕ) (quotes : Quotes) (t : ScannerState) (a : Arrives text t) (deep : IsDeep t.held) (x : machine.Read (List ℕ)) (q : QuotedAs (are_single quotes) (context t.held) t.held.position t.rest x) where
   abbrev pub now : Held
   now = record t.held { keys = saved_keys t.held }
 
@@ -155,19 +138,19 @@ module _ (text : List ℕ) (single : Bool) (t : ScannerState) (a : Arrives text 
   closed = on_held unled (go_on x (allow_key false now))
 
   abbrev pub piece : List ℕ
-  piece = piece_of single q.body
+  piece = piece_of (are_single quotes) q.body
 
   abbrev tok : Tok
-  tok = Tok.scalar (quoted_style single) x.value
+  tok = Tok.scalar (quoted_style quotes) x.value
 
   abbrev pub least : ℕ
   least = least_column (columns t.held.indent t.held.indents) (has_open_level t.held.indents)
 
-  k : IsQuotedToken single tok
-  k = quoted_token single x.value
+  k : IsQuotedToken (are_single quotes) tok
+  k = quoted_token quotes x.value
 
   pub rest_is_clean : has_no_nul x.rest ≡ true
-  rest_is_clean = clean_after piece x.rest (subst (λ r. has_no_nul r ≡ true) q.cut a.is_clean)
+  rest_is_clean = no_nul_after piece x.rest (subst (λ r. has_no_nul r ≡ true) q.cut a.is_clean)
 
   module _ (v : ScannerState) (c : Checked piece closed v) where
     abbrev pub spaces : List ℕ
@@ -239,10 +222,6 @@ module _ (text : List ℕ) (single : Bool) (t : ScannerState) (a : Arrives text 
       allowed_by true = refl
       allowed_by false = or_false (plains.has_break b.separation) ∙ sym broken
 
-      some_levels : (i : ℕ) (ds : List Indent) → is_empty (columns i ds) ≡ false → is_empty ds ≡ false
-      some_levels i [] h = absurd (cc h)
-      some_levels i (d ∷ ds) h = refl
-
       leads : is_empty t.held.indents ≡ false → is_empty w.rest ≡ false → b.is_leading ≡ has_break gap
       leads i some = sym (ap (λ h. h.leading) held_is) ∙ (at_token some).leading_is (ap (λ h. is_empty h.indents) held_is ∙ i)
 
@@ -252,7 +231,7 @@ module _ (text : List ℕ) (single : Bool) (t : ScannerState) (a : Arrives text 
           let up : past.line ≤ (position_after past gap w.rest).line = (not_before_after past gap w.rest).0 in
           let first : t.held.position.line ≤ past.line = (not_before_after t.held.position piece (gap ++ w.rest)).0 in
           let same : end.line ≡ (position_after past gap w.rest).line = ap (λ p. p.line) end_is in
-          (on_one_line t.held.position piece (gap ++ w.rest) (in_line single q.body) (omega (arith, h, up, same)), unbroken past gap w.rest some b.solid (omega (arith, h, first, same)))
+          (on_one_line t.held.position piece (gap ++ w.rest) (in_line (are_single quotes) q.body) (omega (arith, h, up, same)), unbroken past gap w.rest some b.solid (omega (arith, h, first, same)))
 
       module _ (fs : List FlowLevel) (ks : List (Option Key)) (es : List Entry) (flow : t.held.flow ≡ fs) (r : ArrivesBy text t fs ks es) where
         abbrev at : Site
@@ -288,9 +267,9 @@ module _ (text : List ℕ) (single : Bool) (t : ScannerState) (a : Arrives text 
           is_filled = is_filled;
           end_is = end_is;
           shown = λ s. k.shown s piece (next_of d);
-          is_piece = piece_is (seen (with_entries r.site r.line es) at r.separation) single q.body (next_of d) x.value q.value_is (subst (λ y. ends_before single y ≡ true) cut q.ends);
+          is_piece = piece_is (seen (with_entries r.site r.line es) at r.separation) quotes q.body (next_of d) x.value q.value_is (subst (λ y. ends_before (are_single quotes) y ≡ true) cut q.ends);
           is_deep = deep_for fl tok at (k.least at) (ap (λ y. nat_le y t.held.position.col) least_here ∙ deep_enough t.held.position.col t.held.indent t.held.indents a.are_levels deep);
-          lines_stand = k.lines (least_for tok at) piece ∙ (ap (λ y. quoted_lines_fit y (element_of single) piece) (k.least at ∙ (least_here ∙ least_is_less t.held.indent t.held.indents a.are_levels)) ∙ q.fits);
+          lines_stand = k.lines (least_for tok at) piece ∙ (ap (λ y. quoted_lines_fit y (element_of (are_single quotes)) piece) (k.least at ∙ (least_here ∙ least_is_less t.held.indent t.held.indents a.are_levels)) ∙ q.fits);
           precedes = k.precedes fl at.blocks piece (next_of d) ∙ (ap (λ y. quoted_may_end y piece (next_of d)) (sym flow_is) ∙ (ap (λ y. quoted_may_end (in_flow t.held) piece y) (sym cut) ∙ c.may_end));
           columns_are = refl;
           awaits_is = awaits_then ∙ r.awaits_is;
@@ -312,30 +291,30 @@ module _ (text : List ℕ) (single : Bool) (t : ScannerState) (a : Arrives text 
       }
 
 -- what the model does after the closing quote
-abbrev pub after_body : Bool → ScannerState → List ℕ → ScannerState → Result ScannerState Fault
-after_body single t x u =
+abbrev pub after_body : Quotes → ScannerState → List ℕ → ScannerState → Result ScannerState Fault
+after_body quotes t x u =
     check_after_quoted t.held.position.line (on_held unled u) >>= λ v.
     skip_to_next_token v >>= λ w.
-    Ok (on_held (λ s. push t.held.position (Tok.scalar (quoted_style single) x) (adjacent_here s)) w)
+    Ok (on_held (λ s. push t.held.position (Tok.scalar (quoted_style quotes) x) (adjacent_here s)) w)
 
 -- `'` or `"`: what is read of the node
-pub quoted_node : (text : List ℕ) (single : Bool) (t : ScannerState) (more : List ℕ) → t.rest ≡ quote_of single ∷ more → IsDeep t.held → Arrives text t → Holds (ReadNode text t) (fetch_flow_scalar single t)
+pub quoted_node : (text : List ℕ) (quotes : Quotes) (t : ScannerState) (more : List ℕ) → t.rest ≡ quote_of (are_single quotes) ∷ more → IsDeep t.held → Arrives text t → Holds (ReadNode text t) (fetch_flow_scalar quotes t)
 unfolding fetch_flow_scalar
-quoted_node text single t more e deep a =
-    subst (λ h. Holds (ReadNode text t) (lexed (quoted single (context (allow_key false h)) t.rest t.held.position) (allow_key false h) (after_body single t))) (sym (saved_is t.held))
-    (read (allow_key false (record t.held { keys = saved_keys t.held })) (quoted single (context t.held) t.rest t.held.position) (after_body single t) (λ x i. by x (read_as x i)))
+quoted_node text quotes t more e deep a =
+    subst (λ h. Holds (ReadNode text t) (lexed (quoted (are_single quotes) (context (allow_key false h)) t.rest t.held.position) (allow_key false h) (after_body quotes t))) (sym (saved_is t.held))
+    (read (allow_key false (record t.held { keys = saved_keys t.held })) (quoted (are_single quotes) (context t.held) t.rest t.held.position) (after_body quotes t) (λ x i. by x (read_as x i)))
   where
     more_clean : has_no_nul more ≡ true
-    more_clean = (and_parts (not (is_nul (quote_of single))) (has_no_nul more) (subst (λ r. has_no_nul r ≡ true) e a.is_clean)).1
+    more_clean = (and_parts (not (is_nul (quote_of (are_single quotes)))) (has_no_nul more) (subst (λ r. has_no_nul r ≡ true) e a.is_clean)).1
 
-    read_as : (x : machine.Read (List ℕ)) → quoted single (context t.held) t.rest t.held.position ≡ Ok x → QuotedAs single (context t.held) t.held.position t.rest x
-    read_as x i = subst (λ r. QuotedAs single (context t.held) t.held.position r x) (sym e) (quoted_as single (context t.held) t.held.position more x more_clean (subst (λ r. quoted single (context t.held) r t.held.position ≡ Ok x) e i))
+    read_as : (x : machine.Read (List ℕ)) → quoted (are_single quotes) (context t.held) t.rest t.held.position ≡ Ok x → QuotedAs (are_single quotes) (context t.held) t.held.position t.rest x
+    read_as x i = subst (λ r. QuotedAs (are_single quotes) (context t.held) t.held.position r x) (sym e) (quoted_as quotes (context t.held) t.held.position more x more_clean (subst (λ r. quoted (are_single quotes) (context t.held) r t.held.position ≡ Ok x) e i))
 
-    by : (x : machine.Read (List ℕ)) → QuotedAs single (context t.held) t.held.position t.rest x → Holds (ReadNode text t) (after_body single t x.value (go_on x (allow_key false (record t.held { keys = saved_keys t.held }))))
+    by : (x : machine.Read (List ℕ)) → QuotedAs (are_single quotes) (context t.held) t.held.position t.rest x → Holds (ReadNode text t) (after_body quotes t x.value (go_on x (allow_key false (record t.held { keys = saved_keys t.held }))))
     by x q =
-        chained (quoted_checked t.held.position (piece_of single q.body) (closed text single t a deep x q) (in_line single q.body) (rest_is_clean text single t a deep x q) q.end_is) (λ v c.
-        chained (both_hold (exact v) (skipped text single t a deep x q v c)) (λ w z.
-        went (node text single t a deep x q v c w z.0 z.1)))
+        chained (quoted_checked t.held.position (piece_of (are_single quotes) q.body) (closed text quotes t a deep x q) (in_line (are_single quotes) q.body) (rest_is_clean text quotes t a deep x q) q.end_is) (λ v c.
+        chained (both_hold (exact v) (skipped text quotes t a deep x q v c)) (λ w z.
+        went (node text quotes t a deep x q v c w z.0 z.1)))
 
-pub quoted_keeps : (text : List ℕ) (single : Bool) (t : ScannerState) (more : List ℕ) → t.rest ≡ quote_of single ∷ more → IsDeep t.held → Arrives text t → Holds (Stands text) (fetch_flow_scalar single t)
-quoted_keeps text single t more e deep a = weakened (λ u n. subst (λ y. Stands text y) (sym n.is) (node_read text t n.read deep a n.known)) (quoted_node text single t more e deep a)
+pub quoted_keeps : (text : List ℕ) (quotes : Quotes) (t : ScannerState) (more : List ℕ) → t.rest ≡ quote_of (are_single quotes) ∷ more → IsDeep t.held → Arrives text t → Holds (Stands text) (fetch_flow_scalar quotes t)
+quoted_keeps text quotes t more e deep a = weakened (λ u n. subst (λ y. Stands text y) (sym n.is) (node_read text t n.read deep a n.known)) (quoted_node text quotes t more e deep a)

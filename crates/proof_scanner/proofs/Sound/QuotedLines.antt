@@ -8,6 +8,7 @@ use Rattle.proof_lexers.specs.QuotedScan.{by_tab}
 use Rattle.proof_lexers.proofs.Quoted.Turns.{begins, Step, is_shallow}
 use Rattle.proof_lexers.proofs.Quoted.Bodies.{opened, opens}
 use Rattle.proof_scanner.proofs.Sound.QuotedBreaks.{is_after, Kind, has_content, has_blank, has_line, has_escaped, KindOf, is_white, quote_white, slash_white, kind, fits_from, lines_from, lines_here, deep_here, empty_here, one_more_blank, Breaks, break_goes, escaped_goes, body_between, has_elements, same_limit}
+use Rattle.model_scanner.proofs.PlainLemmas.{break_leads}
 
 module _ (single : Bool) (ctx : Context) (start : Position) (column : ℕ) (limit : (k : ℕ) → nat_lt (k + 1) ctx.indent ≡ nat_lt k column) (r : List ℕ) (x : Read (List ℕ)) where
   -- the scan goes on to this end
@@ -83,13 +84,6 @@ module _ (single : Bool) (ctx : Context) (start : Position) (column : ℕ) (limi
   further_begun e (last_line l) = refl
   further_begun e (line l escaped ls) = refl
 
-  leads : (t : Folded) → (with_break t).leading ≡ true
-  leads t = by t.leading refl
-    where
-      by : (b : Bool) → t.leading ≡ b → (with_break t).leading ≡ true
-      by true e = rw e refl
-      by false e = rw e refl
-
   still_leads : (c : ℕ) (t : Folded) → t.leading ≡ true → (after_element (blank c) t).leading ≡ true
   still_leads c t e = rw e refl
 
@@ -128,7 +122,7 @@ module _ (single : Bool) (ctx : Context) (start : Position) (column : ℕ) (limi
   in_line c b s fs o (has_blank f x) p t h =
       let g = goes c b p t s o.is h in
       further_begun (blank c) (lines_of fs) ∙ o.within fs g.mode g.past_it (after_element s.element t) o.others g.ready g.ends
-  in_line c b s fs o (has_line f) p t h = line_start c b s fs o gap (with_break t) in_gap (leads t) (break_to c b p t f h)
+  in_line c b s fs o (has_line f) p t h = line_start c b s fs o gap (with_break t) in_gap (break_leads t) (break_to c b p t f h)
   in_line c b s fs o (has_escaped d a double same_c same_b f) p t h = escaped_line c b s fs o d a double same_c same_b f refl p t h
 
   -- a TAB does not stand left of the column
@@ -144,7 +138,7 @@ module _ (single : Bool) (ctx : Context) (start : Position) (column : ℕ) (limi
       let more : p.col + 1 ≡ suc p.col = omega arith in
       blank_fits p.col c e (lines_of fs) (no_tab (c == 9) t p.col leading g.0)
       (subst (λ k. lines_from k column false (lines_of fs) ≡ true) more (o.at_line fs gap (past p) (after_element (blank c) t) o.others in_gap (still_leads c t leading) g.1))
-  at_start c b s fs o (has_line f) e p t leading h = rw (empty_here p.col column) (line_start c b s fs o gap (with_break t) in_gap (leads t) (break_to c b p t f h))
+  at_start c b s fs o (has_line f) e p t leading h = rw (empty_here p.col column) (line_start c b s fs o gap (with_break t) in_gap (break_leads t) (break_to c b p t f h))
   at_start c b s fs o (has_escaped d a double same_c same_b f) e p t leading h =
       let solid : is_white c ≡ false = rw same_c slash_white in
       rw (deep_here p.col column true (begins_deep c (to_close b) p t solid h)) (escaped_line c b s fs o d a double same_c same_b f refl p t h)

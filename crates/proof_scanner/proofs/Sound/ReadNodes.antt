@@ -1,5 +1,5 @@
 -- A part of a node that is no collection was read where a piece begins: what holds between two fetches holds after it.
-use Rattle.proof_scanner.proofs.Common.{[], Account, act_of, ap, AreLevels, Arrives, awaits_past, before_by, before_past, begins_free_line, BeginsButForKey, begun_by, Bool, chosen, columns, ends_at, Entry, false, FlowLevel, fresh, further_lines_stand, gives_node, Had, has_break, has_no_nul, has_open_level, HasHadHere, HasNoTabs, Indent, inl, inr, is_deep_enough, is_empty, is_fresh, is_in_column, is_indented_by_spaces, is_renewed, is_separation, IsAdjacent, IsCarriedOn, IsLeading, IsPiece, IsReadOn, Key, KnowsKey, least_for, length, Line, line_by, List, may_precede, may_stand, MayChoose, must_be_key, None, not, NotBefore, Option, outside_key, Position, position_after, Previous, previous_by, put, refl, ScannerState, seen, settled, shown_position, Site, site_here, site_past, SoFar, Some, Stands, subst, sym, taken, Tok, Token, tokens_up_to, top_key, true, ℕ, ◌++◌, ◌||◌, ◌∙◌, ◌∷◌, ◌≡◌, ◌≤◌, ◌⊎◌}
+use Rattle.proof_scanner.proofs.Common.{[], Account, act_of, ap, AreLevels, Arrives, awaits_past, before_by, before_past, begins_free_line, BeginsButForKey, begun_by, Bool, chosen, columns, ends_at, Entry, false, FlowLevel, fresh, further_lines_stand, gives_node, Had, has_break, has_no_nul, has_open_level, HasHadHere, HasNoTabs, Indent, inl, inr, is_deep_enough, is_empty, is_fresh, is_in_column, is_indented_by_spaces, is_renewed, is_separation, IsAdjacent, IsCarriedOn, IsLeading, IsPiece, IsReadOn, Key, KnowsKey, least_for, length, Line, line_by, List, may_precede, may_stand, MayChoose, must_be_key, no_nul_after, None, not, NotBefore, Option, outside_key, Position, position_after, Previous, previous_by, put, refl, ScannerState, seen, settled, shown_position, Site, site_here, site_past, SoFar, Some, Stands, subst, sym, taken, Tok, Token, tokens_up_to, top_key, true, ℕ, ◌++◌, ◌||◌, ◌∙◌, ◌∷◌, ◌≡◌, ◌≤◌, ◌⊎◌}
 use Rattle.proof_scanner.proofs.Cut.Positions.{not_before_after, not_before_then, after_piece}
 use Rattle.proof_scanner.proofs.Cut.Saved.{saved_keys}
 use Rattle.proof_scanner.proofs.Cut.Nodes.{IsDeep}
@@ -14,8 +14,9 @@ use Rattle.proof_scanner.proofs.Sound.Around.{line_taken, tokens_before, unbroke
 use Rattle.proof_scanner.proofs.Sound.KeyStarts.{new_key, keys_saved, numbered_inside, entry_kept}
 use Rattle.proof_scanner.proofs.Sound.Outsides.{must_be_here, numbered_past, unbroken_node, one_node, taken_node, may_node, line_node, same_node, open_node}
 use Rattle.proof_scanner.proofs.Sound.Standing.{all_true}
-use Rattle.proof_scanner.proofs.Sound.Sides.{with_entries, ArrivesBy, ArrivesOutside, ArrivesInside, arrives_side, StandsBy, stands_by}
-use Rattle.proof_scanner.proofs.Sound.Arrivals.{clean_after, some_rest, completes_at, carried_at}
+use Rattle.proof_scanner.proofs.Sound.Sides.{with_entries, ArrivesBy, ArrivesOutside, ArrivesInside, arrives_side, stands_by}
+use Rattle.proof_scanner.proofs.Sound.Arrivals.{some_rest, completes_at, carried_at}
+use Rattle.proof_scanner.specs.StandsInRow.{StandsWith}
 
 -- What was read of a node: its token and piece, the separation after it, the text and the position after both, and what the scanner holds then: levels of indentation, its two flags, and where a colon may stand next.
 pub record Read : Type 0 where
@@ -188,12 +189,10 @@ module _ (text : List ℕ) (t : ScannerState) (k : Option Key) (a : ArrivesBy te
       subst (λ p. SoFar strict text (next_of d) (past p) (tokens_up_to (past p) (key_then ∷ []) (t.held.tokens ++ (own ∷ [])))) (sym same_place)
       (subst (λ ts. SoFar strict text (next_of d) (outside.past outer_node c) (tokens_up_to (outside.past outer_node c) (key_then ∷ []) ts)) tokens rows)
 
-  stands_outside : KnowsKey text (a.separation ++ t.rest) t.held.position k → StandsBy text (state_after t d) [] (key_then ∷ []) []
+  stands_outside : KnowsKey text (a.separation ++ t.rest) t.held.position k → StandsWith text (state_after t d) [] (key_then ∷ []) (with_entries (site_then t [] a.site d) taken [])
   stands_outside known = record {
-    site = site_then t [] a.site d;
-    line = taken;
     separation = d.gap;
-    is_clean = clean_after d.gap d.rest (clean_after d.piece (next_of d) (subst (λ x. has_no_nul x ≡ true) r.cut a.is_clean));
+    is_clean = no_nul_after d.gap d.rest (no_nul_after d.piece (next_of d) (subst (λ x. has_no_nul x ≡ true) r.cut a.is_clean));
     is_filled = r.is_filled;
     position_is = r.end_is;
     blocks_are = a.blocks_are ∙ r.columns_are;
@@ -282,12 +281,10 @@ module _ (text : List ℕ) (t : ScannerState) (f : FlowLevel) (fs : List FlowLev
       subst (λ p. BeginsButForKey text (next_of d) key.position (past p)) (sym place)
       (inside.node_carried text key.position inner_node is_inner_node (line_taken text t f fs k ks e es a) (λ bs. carried_at text t (f ∷ fs) (k ∷ ks) (e ∷ es) a (d.piece ++ next_of d) r.cut key own must refl goes bs) cs)
 
-  stands_inside : StandsBy text (state_after t d) (f ∷ fs) (saved t.held.key_allowed (new_key t) k ∷ ks) (entry_past_node t.held.key_allowed e ∷ es)
+  stands_inside : StandsWith text (state_after t d) (f ∷ fs) (saved t.held.key_allowed (new_key t) k ∷ ks) (with_entries (site_then t (f ∷ fs) a.site d) a.line (entry_past_node t.held.key_allowed e ∷ es))
   stands_inside = record {
-    site = site_then t (f ∷ fs) a.site d;
-    line = a.line;
     separation = d.gap;
-    is_clean = clean_after d.gap d.rest (clean_after d.piece (next_of d) (subst (λ x. has_no_nul x ≡ true) r.cut a.is_clean));
+    is_clean = no_nul_after d.gap d.rest (no_nul_after d.piece (next_of d) (subst (λ x. has_no_nul x ≡ true) r.cut a.is_clean));
     is_filled = r.is_filled;
     position_is = r.end_is;
     blocks_are = a.blocks_are ∙ r.columns_are;
@@ -316,11 +313,11 @@ module _ (text : List ℕ) (t : ScannerState) (f : FlowLevel) (fs : List FlowLev
 -- what stands then, with its account and its separation
 pub node_outside : (text : List ℕ) (t : ScannerState) (d : Read) → IsDeep t.held → (o : ArrivesOutside text t) → IsRead t [] o.here.site o.here.line [] o.here.separation d → Stands text (state_after t d)
 node_outside text t d deep o r =
-    stands_by text (state_after t d) [] (saved t.held.key_allowed (new_key t) o.key ∷ []) [] o.flow_is (keys_saved t o.key [] o.keys_are) (stands_outside text t o.key o.here d o.flow_is deep r o.knows)
+    stands_by text (state_after t d) [] (saved t.held.key_allowed (new_key t) o.key ∷ []) _ o.flow_is (keys_saved t o.key [] o.keys_are) (stands_outside text t o.key o.here d o.flow_is deep r o.knows)
 
 pub node_inside : (text : List ℕ) (t : ScannerState) (d : Read) (i : ArrivesInside text t) → IsRead t (i.level ∷ i.levels) i.here.site i.here.line (i.entry ∷ i.entries) i.here.separation d → Stands text (state_after t d)
 node_inside text t d i r =
-    stands_by text (state_after t d) (i.level ∷ i.levels) (saved t.held.key_allowed (new_key t) i.key ∷ i.keys) (entry_past_node t.held.key_allowed i.entry ∷ i.entries) i.flow_is (keys_saved t i.key i.keys i.keys_are)
+    stands_by text (state_after t d) (i.level ∷ i.levels) (saved t.held.key_allowed (new_key t) i.key ∷ i.keys) _ i.flow_is (keys_saved t i.key i.keys i.keys_are)
     (stands_inside text t i.level i.levels i.key i.keys i.entry i.entries i.here d i.flow_is r)
 
 -- Where a piece begins, a part of a node that is no collection was read: what holds between two fetches holds after it.

@@ -1,7 +1,8 @@
 -- What the model skips between tokens leaves no TAB in the indentation of the next one.
 use Rattle.std.proofs.lemmas.List.{length-append}
-use Rattle.proof_scanner.proofs.Common.{[], and_parts, another, ap, append-nil, append_assoc, arith, begins_line, between, block_scalar, Bool, comment, directive, either, eqb-true, false, Fault, flow_collection, Gap, has_break, has_tab_within, Held, Holds, if◌then◌else◌, inl, inr, is_at_comment_or_end, is_before_indent, is_cr_lf, is_empty, last_line, length, List, moved, nat_lt, nat_tests, no_hash, not, Ok, or-false, or-true, past_line, plain_scalar, Previous, quoted_scalar, refl, refused, Result, same_break, ScannerState, skip, subst, suc, sym, tab_line, true, weakened, went, zero, ℕ, ◌&&◌, ◌++◌, ◌+◌, ◌==◌, ◌||◌, ◌∙◌, ◌∷◌, ◌≡◌, ◌≤◌, ◌⊎◌}
+use Rattle.proof_scanner.proofs.Common.{[], and_parts, another, ap, append-nil, append_assoc, arith, At, begins_line, between, block_scalar, Bool, comment, directive, eqb-true, Err, false, Fault, flow_collection, Gap, has_break, has_tab_within, Held, Holds, if◌then◌else◌, inl, inr, is_at_comment_or_end, is_before_indent, is_cr_lf, is_empty, last_line, length, List, moved, nat_lt, nat_tests, no_hash, not, Ok, or-false, or-true, past_line, plain_scalar, Previous, quoted_scalar, refl, refused, Result, same_break, ScannerState, skip, subst, suc, sym, tab_line, true, weakened, went, zero, ℕ, ◌&&◌, ◌++◌, ◌+◌, ◌==◌, ◌||◌, ◌∙◌, ◌∷◌, ◌≡◌, ◌≤◌, ◌⊎◌}
 use Rattle.yaml_chars.specs.Class.{is_break, is_blank}
+use Rattle.yaml_tokens.specs.declared.problem.Problem.TheVariants as problem
 use Rattle.defs_text.specs.Classes as classes
 use Rattle.proof_scanner.proofs.Sound.LastLines.{break_append, last_more, tab_within_more}
 
@@ -41,22 +42,20 @@ module _ (before : Previous) (least : ℕ) where
     pub spaced : Spaced g
 
   -- the same, or no token begins here
+  abbrev pub IsPassed : (Tabbed : List ℕ → Type 0) → Gap → List ℕ → Held → List ℕ → Type 0
+  IsPassed Tabbed between g s a = (is_at_comment_or_end a ≡ true) ⊎ IsAt g s
+  IsPassed Tabbed comment g s a = Unit {0}
+  IsPassed Tabbed tab_line g s a = Tabbed g
+
+  -- the same, where nothing is said of a line that a TAB indents
   abbrev pub IsIn : Gap → List ℕ → Held → List ℕ → Type 0
-  IsIn between g s a = (is_at_comment_or_end a ≡ true) ⊎ IsAt g s
-  IsIn comment g s a = Unit {0}
-  IsIn tab_line g s a = Unit {0}
+  IsIn m g s a = IsPassed (λ _. Unit {0}) m g s a
 
   -- What is left, with what was passed: no TAB indents what comes next, and it is known whether its line begins there.
   pub record Cleared (g a : List ℕ) (u : ScannerState) : Type 0 where
     pub passed : List ℕ
     pub cut : a ≡ passed ++ u.rest
     pub clear : is_empty u.rest ≡ false → IsAt (g ++ passed) u.held
-
-  abbrev Clears : List ℕ → Type 0
-  Clears a = (m : Gap) (g : List ℕ) (s : Held) → IsLeast s → IsIn m g s a → Holds (Cleared g a) (skip m a s)
-
-  one_more : (g a : List ℕ) (c : ℕ) (r : Result ScannerState Fault) → Holds (Cleared (g ++ c ∷ []) a) r → Holds (Cleared g (c ∷ a)) r
-  one_more g a c r h = weakened (λ u x. record { passed = c ∷ x.passed; cut = ap (λ y. c ∷ y) x.cut; clear = λ e. subst (λ y. IsAt y u.held) (append_assoc g (c ∷ []) x.passed) (x.clear e) }) h
 
   -- ---- a break
 
@@ -79,14 +78,6 @@ module _ (before : Previous) (least : ℕ) where
   unfolding classes.is_break
   feed_next c [] h = refl
   feed_next c (d ∷ a) h = rw (eqb-true d 10 (and_parts (c == 13) (d == 10) h).1) refl
-
-  broken : (m : Gap) (g a : List ℕ) (c : ℕ) (s : Held) → is_break c ≡ true → IsLeast s → Clears a → Holds (Cleared g (c ∷ a)) (skip m (c ∷ a) s)
-  unfolding skip
-  broken m g a c s e l ih = rw e (by (is_cr_lf c a) refl)
-    where
-      by : (b : Bool) → is_cr_lf c a ≡ b → Holds (Cleared g (c ∷ a)) (skip between a (if b then moved s else past_line s))
-      by true f = one_more g a c _ (ih between (g ++ c ∷ []) (moved s) l (inl (feed_next c a f)))
-      by false f = one_more g a c _ (ih between (g ++ c ∷ []) (past_line s) l (inr (at_line g c s e)))
 
   -- ---- a blank
 
@@ -134,52 +125,89 @@ module _ (before : Previous) (least : ℕ) where
   pub no_end : (c : ℕ) (a : List ℕ) → is_break c ≡ false → (c == 35) ≡ false → is_at_comment_or_end (c ∷ a) ≡ false
   no_end c a e f = rw (same_break c, e, f) refl
 
-  between_by : (g a : List ℕ) (c : ℕ) (s : Held) → is_break c ≡ false → IsLeast s → IsIn between g s (c ∷ a) → Clears a → Holds (Cleared g (c ∷ a)) (skip between (c ∷ a) s)
-  unfolding skip
-  between_by g a c s e l h ih = rw e (by ((c == 9) && is_before_indent s) refl)
-    where
-      no_break : classes.is_break c ≡ false
-      no_break = same_break c ∙ e
+  -- How something is told of the way to the next token, with what was passed before: it goes on over each character, and holds where the way ends; and what is known of a line that a TAB indents.
+  pub record SkipsBy (Q : (g a : List ℕ) → Held → Result ScannerState Fault → Type 0) (Tabbed : List ℕ → Type 0) : Type 0 where
+    pub ended : (g : List ℕ) (s : Held) → Q g [] s (Ok (record { rest = []; held = s }))
+    pub further : (g a : List ℕ) (c : ℕ) (s u : Held) (r : Result ScannerState Fault) → u.position.index ≡ suc s.position.index → Q (g ++ c ∷ []) a u r → Q g (c ∷ a) s r
+    pub arrives : (g a : List ℕ) (c : ℕ) (s : Held) → IsAt g s → Q g (c ∷ a) s (Ok (record { rest = c ∷ a; held = s }))
+    pub tab : (g : List ℕ) (c : ℕ) (s : Held) → is_break c ≡ false → ((c == 9) && is_before_indent s) ≡ true → IsLeast s → IsAt g s → Tabbed (g ++ c ∷ [])
+    pub blank : (g : List ℕ) (c : ℕ) → is_break c ≡ false → Tabbed g → Tabbed (g ++ c ∷ [])
+    pub fails : (g a : List ℕ) (c : ℕ) (s : Held) → Tabbed g → Q g (c ∷ a) s (Err (At problem.TabInBlockIndentation s.position))
 
-      at : (c == 35) ≡ false → IsAt g s
-      at f = from h
-        where
-          from : IsIn between g s (c ∷ a) → IsAt g s
-          from (inl x) = absurd (cc (x, no_end c a e f))
-          from (inr x) = x
+  module _ (Q : (g a : List ℕ) → Held → Result ScannerState Fault → Type 0) (Tabbed : List ℕ → Type 0) (w : SkipsBy Q Tabbed) where
+    abbrev Tells : List ℕ → Type 0
+    Tells a = (m : Gap) (g : List ℕ) (s : Held) → IsLeast s → IsPassed Tabbed m g s a → Q g a s (skip m a s)
 
-      stay : (c == 35) ≡ false → Cleared g (c ∷ a) (record { rest = c ∷ a; held = s })
-      stay f = record { passed = []; cut = refl; clear = λ _. subst (λ y. IsAt y s) (sym (append-nil g)) (at f) }
+    broken : (m : Gap) (g a : List ℕ) (c : ℕ) (s : Held) → is_break c ≡ true → IsLeast s → Tells a → Q g (c ∷ a) s (skip m (c ∷ a) s)
+    unfolding skip
+    broken m g a c s e l ih = rw e (by (is_cr_lf c a) refl)
+      where
+        by : (b : Bool) → is_cr_lf c a ≡ b → Q g (c ∷ a) s (skip between a (if b then moved s else past_line s))
+        by true f = w.further g a c s (moved s) _ (omega arith) (ih between (g ++ c ∷ []) (moved s) l (inl (feed_next c a f)))
+        by false f = w.further g a c s (past_line s) _ (omega arith) (ih between (g ++ c ∷ []) (past_line s) l (inr (at_line g c s e)))
 
-      later : (b : Bool) → is_blank c ≡ b → ((c == 9) && is_before_indent s) ≡ false → Holds (Cleared g (c ∷ a))
-          (if b then skip between a (moved s) else (if c == 35 then skip comment a (record (moved s) { leading = false }) else Ok (record { rest = c ∷ a; held = s })))
-      later true b f = one_more g a c _ (ih between (g ++ c ∷ []) (moved s) l (inr (at_blank g c s no_break f l (at (no_hash c b)))))
-      later false b f = last (c == 35) refl
-        where
-          last : (x : Bool) → (c == 35) ≡ x → Holds (Cleared g (c ∷ a)) (if x then skip comment a (record (moved s) { leading = false }) else Ok (record { rest = c ∷ a; held = s }))
-          last true x = one_more g a c _ (ih comment (g ++ c ∷ []) (record (moved s) { leading = false }) l tt)
-          last false x = went (stay x)
+    between_by : (g a : List ℕ) (c : ℕ) (s : Held) → is_break c ≡ false → IsLeast s → IsPassed Tabbed between g s (c ∷ a) → Tells a → Q g (c ∷ a) s (skip between (c ∷ a) s)
+    unfolding skip
+    between_by g a c s e l h ih = rw e (by ((c == 9) && is_before_indent s) refl)
+      where
+        at : (c == 35) ≡ false → IsAt g s
+        at f = from h
+          where
+            from : IsPassed Tabbed between g s (c ∷ a) → IsAt g s
+            from (inl x) = absurd (cc (x, no_end c a e f))
+            from (inr x) = x
 
-      by : (t : Bool) → ((c == 9) && is_before_indent s) ≡ t → Holds (Cleared g (c ∷ a))
-          (if t then skip tab_line a (moved s) else (if is_blank c then skip between a (moved s) else (if c == 35 then skip comment a (record (moved s) { leading = false }) else Ok (record { rest = c ∷ a; held = s }))))
-      by true t = one_more g a c _ (ih tab_line (g ++ c ∷ []) (moved s) l tt)
-      by false t = later (is_blank c) refl t
+        no_tab : (c == 9) ≡ true → (c == 35) ≡ false
+        no_tab h = let i : c ≡ 9 = eqb-true c 9 h in rw i refl
 
-  comment_by : (g a : List ℕ) (c : ℕ) (s : Held) → is_break c ≡ false → IsLeast s → Clears a → Holds (Cleared g (c ∷ a)) (skip comment (c ∷ a) s)
-  unfolding skip
-  comment_by g a c s e l ih = rw e (one_more g a c _ (ih comment (g ++ c ∷ []) (moved s) l tt))
+        later : (b : Bool) → is_blank c ≡ b → ((c == 9) && is_before_indent s) ≡ false → Q g (c ∷ a) s (if b then skip between a (moved s) else (if c == 35 then skip comment a (record (moved s) { leading = false }) else Ok (record { rest = c ∷ a; held = s })))
+        later true b f = w.further g a c s (moved s) _ (omega arith) (ih between (g ++ c ∷ []) (moved s) l (inr (at_blank g c s (same_break c ∙ e) f l (at (no_hash c b)))))
+        later false b f = last (c == 35) refl
+          where
+            last : (x : Bool) → (c == 35) ≡ x → Q g (c ∷ a) s (if x then skip comment a (record (moved s) { leading = false }) else Ok (record { rest = c ∷ a; held = s }))
+            last true x = w.further g a c s (record (moved s) { leading = false }) _ (omega arith) (ih comment (g ++ c ∷ []) (record (moved s) { leading = false }) l tt)
+            last false x = w.arrives g a c s (at x)
 
-  tab_by : (g a : List ℕ) (c : ℕ) (s : Held) → is_break c ≡ false → IsLeast s → Clears a → Holds (Cleared g (c ∷ a)) (skip tab_line (c ∷ a) s)
-  unfolding skip
-  tab_by g a c s e l ih = rw e (either (is_blank c) (λ _. one_more g a c _ (ih tab_line (g ++ c ∷ []) (moved s) l tt)) (λ _. either (c == 35) (λ _. one_more g a c _ (ih comment (g ++ c ∷ []) (moved s) l tt)) (λ _. refused)))
+        by : (t : Bool) → ((c == 9) && is_before_indent s) ≡ t → Q g (c ∷ a) s
+            (if t then skip tab_line a (moved s) else (if is_blank c then skip between a (moved s) else (if c == 35 then skip comment a (record (moved s) { leading = false }) else Ok (record { rest = c ∷ a; held = s }))))
+        by true t =
+            let q = and_parts (c == 9) (is_before_indent s) t in
+            w.further g a c s (moved s) _ (omega arith) (ih tab_line (g ++ c ∷ []) (moved s) l (w.tab g c s e t l (at (no_tab q.0))))
+        by false t = later (is_blank c) refl t
 
-  one_by : (m : Gap) (g a : List ℕ) (c : ℕ) (s : Held) (b : Bool) → is_break c ≡ b → IsLeast s → IsIn m g s (c ∷ a) → Clears a → Holds (Cleared g (c ∷ a)) (skip m (c ∷ a) s)
-  one_by m g a c s true e l h ih = broken m g a c s e l ih
-  one_by between g a c s false e l h ih = between_by g a c s e l h ih
-  one_by comment g a c s false e l h ih = comment_by g a c s e l ih
-  one_by tab_line g a c s false e l h ih = tab_by g a c s e l ih
+    comment_by : (g a : List ℕ) (c : ℕ) (s : Held) → is_break c ≡ false → IsLeast s → Tells a → Q g (c ∷ a) s (skip comment (c ∷ a) s)
+    unfolding skip
+    comment_by g a c s e l ih = rw e (w.further g a c s (moved s) _ (omega arith) (ih comment (g ++ c ∷ []) (moved s) l tt))
 
-  pub skip_clears : (a : List ℕ) → Clears a
-  unfolding skip
-  skip_clears [] m g s l h = went (record { passed = []; cut = refl; clear = λ e. absurd (cc e) })
-  skip_clears (c ∷ a) m g s l h = one_by m g a c s (is_break c) refl l h (skip_clears a)
+    tab_by : (g a : List ℕ) (c : ℕ) (s : Held) → is_break c ≡ false → IsLeast s → Tabbed g → Tells a → Q g (c ∷ a) s (skip tab_line (c ∷ a) s)
+    unfolding skip
+    tab_by g a c s e l h ih = rw e (by (is_blank c) (c == 35))
+      where
+        by : (b x : Bool) → Q g (c ∷ a) s (if b then skip tab_line a (moved s) else (if x then skip comment a (moved s) else Err (At problem.TabInBlockIndentation s.position)))
+        by true x = w.further g a c s (moved s) _ (omega arith) (ih tab_line (g ++ c ∷ []) (moved s) l (w.blank g c e h))
+        by false true = w.further g a c s (moved s) _ (omega arith) (ih comment (g ++ c ∷ []) (moved s) l tt)
+        by false false = w.fails g a c s h
+
+    one_by : (m : Gap) (g a : List ℕ) (c : ℕ) (s : Held) (b : Bool) → is_break c ≡ b → IsLeast s → IsPassed Tabbed m g s (c ∷ a) → Tells a → Q g (c ∷ a) s (skip m (c ∷ a) s)
+    one_by m g a c s true e l h ih = broken m g a c s e l ih
+    one_by between g a c s false e l h ih = between_by g a c s e l h ih
+    one_by comment g a c s false e l h ih = comment_by g a c s e l ih
+    one_by tab_line g a c s false e l h ih = tab_by g a c s e l h ih
+
+    pub skip_tells : (a : List ℕ) → Tells a
+    unfolding skip
+    skip_tells [] m g s l h = w.ended g s
+    skip_tells (c ∷ a) m g s l h = one_by m g a c s (is_break c) refl l h (skip_tells a)
+
+  one_more : (g a : List ℕ) (c : ℕ) (r : Result ScannerState Fault) → Holds (Cleared (g ++ c ∷ []) a) r → Holds (Cleared g (c ∷ a)) r
+  one_more g a c r h = weakened (λ u x. record { passed = c ∷ x.passed; cut = ap (λ y. c ∷ y) x.cut; clear = λ e. subst (λ y. IsAt y u.held) (append_assoc g (c ∷ []) x.passed) (x.clear e) }) h
+
+  pub skip_clears : (a : List ℕ) (m : Gap) (g : List ℕ) (s : Held) → IsLeast s → IsIn m g s a → Holds (Cleared g a) (skip m a s)
+  skip_clears = skip_tells (λ g a s r. Holds (Cleared g a) r) (λ _. Unit {0}) (record {
+    ended = λ g s. went (record { passed = []; cut = refl; clear = λ e. absurd (cc e) });
+    further = λ g a c s u r next h. one_more g a c r h;
+    arrives = λ g a c s at. went (record { passed = []; cut = refl; clear = λ _. subst (λ y. IsAt y s) (sym (append-nil g)) at });
+    tab = λ g c s e f l h. tt;
+    blank = λ g c e h. tt;
+    fails = λ g a c s h. refused;
+  })

@@ -1,11 +1,12 @@
 -- Keys that are too far back are dropped: what holds between two fetches still holds, without them.
-use Rattle.proof_scanner.proofs.Common.{[], Account, ap, AreEntries, arith, At, begins_free_line, Bool, chosen, drop_stale, either, Entry, Err, false, Fares, Fault, FlowLevel, have_no_key, Held, Holds, if◌then◌else◌, in_flow, inl, inr, is_empty, is_far, is_overdue, is_renewed, is_waiting, IsAtEnd, IsCutUpTo, IsLine, IsNear, IsOpenOutside, IsRead, Key, KnowsKey, length, List, list_any, map, MayChoose, nat_lt, nat_tests, None, not, Ok, Option, outside_key, over, Position, refl, refused, Result, ScannerState, SoFar, Some, stale, Stands, Step, still, subst, suc, sym, Token, tokens_from, tokens_up_to, tried, true, try_held, went, ℕ, ◌&&◌, ◌++◌, ◌+◌, ◌||◌, ◌∙◌, ◌∷◌, ◌≡◌, ◌≤◌, ◌⊎◌}
+use Rattle.proof_scanner.proofs.Common.{[], Account, ap, AreEntries, arith, At, begins_free_line, Bool, chosen, drop_stale, either, Entry, Err, false, Fares, Fault, FlowLevel, have_no_key, Held, Holds, if◌then◌else◌, in_flow, inl, inr, is_empty, is_far, is_overdue, is_renewed, is_waiting, IsAtEnd, IsCutUpTo, IsLine, IsNear, IsOpenOutside, IsRead, Key, KnowsKey, length, List, list_any, map, MayChoose, nat_lt, nat_tests, None, not, not-false, Ok, Option, outside_key, over, Position, refl, refused, Result, ScannerState, SoFar, Some, stale, Stands, Step, still, subst, suc, sym, Token, tokens_from, tokens_up_to, tried, true, try_held, went, ℕ, ◌&&◌, ◌++◌, ◌+◌, ◌||◌, ◌∙◌, ◌∷◌, ◌≡◌, ◌≤◌, ◌⊎◌}
 use Rattle.yaml_tokens.specs.declared.problem.Problem.TheVariants as problem
 use Rattle.model_scanner.specs.Keys.{with_keys}
 use Rattle.proof_scanner.proofs.Known.Steps.{known_far}
 use Rattle.proof_scanner.specs.StandsInRow.{goes}
 use Rattle.proof_scanner.proofs.Sound.Completed.{may_be_no_key}
 use Rattle.proof_scanner.proofs.Sound.StreamEnds.{entries_no_key, none_chosen, none_put}
+use Rattle.proof_scanner.proofs.Sound.Sides.{stands_by}
 
 -- rows are completed alike by tokens that are alike
 pub completes_alike : (strict : Bool) (text after : List ℕ) (a : Account) (T U : List Step → List ℕ → List Token) → ((ws : List Step) (last : List ℕ) → T ws last ≡ U ws last) → SoFar strict text after a T → SoFar strict text after a U
@@ -28,10 +29,6 @@ one_key [] fs n o = absurd (omega (arith, n))
 one_key (k ∷ []) fs n o = (k, refl)
 one_key (k ∷ x ∷ ks) [] n o = absurd (omega (arith, n))
 one_key (k ∷ x ∷ ks) (f ∷ fs) n o = absurd (cc o)
-
-pub is_outside : (b : Bool) → not b ≡ false → b ≡ true
-is_outside true h = refl
-is_outside false h = absurd (cc h)
 
 -- where no open key is one, the tokens are those that the scanner holds
 pub none_completes : (strict : Bool) (text after : List ℕ) (a : Account) (ks : List (Option Key)) (ts : List Token) → is_waiting a.line ≡ false → have_no_key a.entries ≡ true →
@@ -68,8 +65,7 @@ key_dropped text u s out k only far free = dropped
     own strict c cs = base strict
 
     dropped : Stands text (record u { held = record u.held { keys = None ∷ [] } })
-    dropped = record {
-      base = s.base;
+    dropped = stands_by text _ u.held.flow (None ∷ []) s.base refl refl (record {
       separation = s.separation;
       is_clean = s.is_clean;
       is_filled = s.is_filled;
@@ -94,7 +90,7 @@ key_dropped text u s out k only far free = dropped
       knows = subst (λ es. KnowsKey text After u.held.position (outside_key es (None ∷ []))) (sym none)
           (known_far text After u.held.position k far (subst (λ ks. KnowsKey text After u.held.position (outside_key [] ks)) only (subst (λ es. KnowsKey text After u.held.position (outside_key es u.held.keys)) none s.knows)));
       completes = λ strict c cs may. subst (λ es. Of strict c cs (record s.base { entries = es })) (sym none) (own strict c cs);
-    }
+    })
 
 -- ---- the step
 
@@ -142,7 +138,7 @@ pub stale_stands : (text : List ℕ) (u : ScannerState) → Stands text u → Ho
 unfolding stale drop_stale
 stale_stands text u s =
     either (in_flow u.held) (λ e. went (record { stands = s; same = refl; near = λ o. absurd (cc (e, ap not o)) })) (λ e.
-    let out : is_empty u.held.flow ≡ true = is_outside (is_empty u.held.flow) e in
+    let out : is_empty u.held.flow ≡ true = not-false (is_empty u.held.flow) e in
     let k : (k : Option Key) × (u.held.keys ≡ k ∷ []) = one_key u.held.keys u.held.flow s.one_each out in
     subst (λ ks. Holds (Nearer text u) (with_keys u.held (if list_any (is_overdue u.held.position) ks then Err (At problem.KeyWithoutColon u.held.position) else Ok (map (still u.held.position) ks)))) (sym k.1)
     (by (list_any (is_overdue u.held.position) (k.0 ∷ [])) (outside_now text u s out k.0 k.1)))

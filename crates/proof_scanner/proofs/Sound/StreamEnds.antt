@@ -1,11 +1,12 @@
 -- Where a text ends: no open key is one, and the stream's end and those of the block collections stand where the row has them.
 use Rattle.yaml_tokens.specs.declared.problem.Problem.TheVariants as problem
 use Rattle.std.proofs.lemmas.List.{append-nil}
-use Rattle.proof_scanner.proofs.Common.{[], Account, ap, append_assoc, AreAround, AreCollections, AreEntries, AreLevels, arith, Arrives, At, block_end, Bool, checked, chosen, cleared, colon_of, columns, Completes, ended_at, ends_at, ends_here, ends_with_stream, entries_by, Entry, entry_by, false, fetch_stream_end, FlowLevel, Had, has_required, HasHad, have_no_key, Held, Holds, if◌then◌else◌, in_flow, Indent, is_empty, is_keyed, is_renewed, is_required, is_separation, is_waiting, IsRead, IsTopLevel, Key, length, Line, line_by, List, may_end, MayChoose, nat_lt, nat_tests, next_line, None, not, not_ended, Option, outside_key, pop, Position, position_after, put, refl, replicate, ScannerState, Site, site_here, Some, Step, stream_end, stream_position, subst, suc, sym, takes_pair, Token, tokens_at_end, tokens_up_to, top_key, tried, true, unroll_indent, unrolled, went, with_keys, ℕ, ◌&&◌, ◌++◌, ◌+◌, ◌-◌, ◌<◌, ◌==◌, ◌||◌, ◌∙◌, ◌∷◌, ◌≡◌, ◌≤◌}
+use Rattle.proof_scanner.proofs.Common.{[], Account, ap, append_assoc, AreAround, AreCollections, AreEntries, AreLevels, arith, Arrives, At, block_end, Bool, checked, chosen, cleared, colon_of, columns, Completes, ended_at, ends_at, ends_here, ends_with_stream, entries_by, Entry, entry_by, false, fetch_stream_end, FlowLevel, Had, has_required, HasHad, have_no_key, Held, Holds, if◌then◌else◌, in_flow, Indent, is_empty, is_keyed, is_renewed, is_required, is_separation, is_waiting, IsRead, IsTopLevel, Key, length, level_of, Line, line_by, List, map, may_end, MayChoose, nat_lt, nat_tests, next_line, None, not, not-true, not_ended, Option, outside_key, pop, Position, position_after, put, refl, replicate, ScannerState, Site, site_here, Some, Step, stream_end, stream_position, subst, suc, sym, takes_pair, Token, tokens_at_end, tokens_up_to, top_key, tried, true, unroll_indent, unrolled, went, with_keys, ℕ, ◌&&◌, ◌++◌, ◌+◌, ◌-◌, ◌<◌, ◌==◌, ◌||◌, ◌∙◌, ◌∷◌, ◌≡◌, ◌≤◌}
 use Rattle.proof_scanner.proofs.Cut.Documents.{unroll_keeps}
 use Rattle.proof_scanner.proofs.Sound.Completed.{completed_at_end}
 use Rattle.proof_scanner.proofs.Sound.NodesInside.{no_had, not_keyed}
 use Rattle.proof_scanner.proofs.Sound.NodesOutside.{no_line}
+use Rattle.proof_scanner.proofs.Cut.Unrolls.{unrolled_in_flow}
 
 -- ---- no key waits
 
@@ -215,13 +216,14 @@ unrolled_outside : (s : Held) → in_flow s ≡ false → AreLevels s.indent s.i
 unfolding unroll_indent
 unrolled_outside s e a = rw e (all_levels s.position s.indent s.indents s.tokens a, refl)
 
-unrolled_inside : (s : Held) → in_flow s ≡ true → unroll_indent 0 s ≡ s
-unfolding unroll_indent
-unrolled_inside s e = rw e refl
-
 -- the scanner where its stream ends, before the last ends
 abbrev at_stream_end : Held → Held
 at_stream_end h = record h { position = next_line h.position; keys = cleared h.keys }
+
+-- an account has a level for each entry
+pub same_levels : (es : List Entry) → is_empty (map level_of es) ≡ is_empty es
+same_levels [] = refl
+same_levels (e ∷ es) = refl
 
 pub same_flow : (allowed again : Bool) (fs : List FlowLevel) (ks : List (Option Key)) (es : List Entry) → AreEntries allowed again fs ks es → is_empty fs ≡ is_empty es
 same_flow allowed again [] ks [] a = refl
@@ -253,7 +255,7 @@ outside_flow h ts bs out levels tokens blocks =
 in_flow_too : (h : Held) (ts : List Token) (bs : List ℕ) (e : Entry) (es : List Entry) → in_flow h ≡ true → h.tokens ≡ ts → (ended_at (unroll_indent 0 (at_stream_end h))).tokens ≡ ts ++ tokens_at_end h.position bs (e ∷ es)
 in_flow_too h ts bs e es within tokens =
     let s : Held = at_stream_end h in
-    ap (λ x. x.tokens ++ put x.position stream_end ∷ []) (unrolled_inside s within) ∙
+    ap (λ x. x.tokens ++ put x.position stream_end ∷ []) (unrolled_in_flow 0 s (not-true (is_empty s.flow) within)) ∙
     (ap (λ y. h.tokens ++ put y stream_end ∷ []) (same_line_start h.position) ∙ ap (λ x. x ++ put (stream_position h.position) stream_end ∷ []) tokens)
 
 last_tokens : (h : Held) (ts : List Token) (x : Site) (es : List Entry) → is_empty h.flow ≡ is_empty es → AreLevels h.indent h.indents → h.tokens ≡ ts ++ ends_here (not (is_empty h.flow)) h.position x.blocks →

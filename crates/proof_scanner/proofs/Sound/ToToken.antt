@@ -7,11 +7,12 @@ use Rattle.proof_scanner.proofs.Cut.Pieces.Separations.{separation_append}
 use Rattle.proof_scanner.proofs.Cut.Heres.{before_both}
 use Rattle.proof_scanner.proofs.Cut.Stoods.{adjacent_filled}
 use Rattle.proof_scanner.proofs.Known.Steps.{known_past}
-use Rattle.proof_scanner.proofs.Sound.Sides.{}
 use Rattle.proof_scanner.proofs.Sound.Arrivals.{unbroken}
 use Rattle.proof_scanner.proofs.Sound.LastLines.{last_whole, at_break, column_after, no_comment_in_last}
 use Rattle.proof_scanner.proofs.Sound.Skips.{Spaced, IsAt, IsIn, Cleared, skip_clears}
 use Rattle.proof_scanner.proofs.Sound.Passed.{skip_stays, Exact, exact, live_before_it, may_before, same_has_break, first_comment, renewed_alike, free_line_append, read_on_append, some_columns, least_is, goes_on}
+use Rattle.proof_scanner.proofs.Sound.QuotedKeeps.{empty_end}
+use Rattle.proof_scanner.proofs.Sound.Sides.{stands_by}
 
 -- ---- where the way begins
 
@@ -164,12 +165,8 @@ module _ (text : List ℕ) (t u : ScannerState) (s : Stands text t) (begins : be
   tabs : HasNoTabs s.base.site (s.separation ++ e.separation) u.rest
   tabs = by (is_empty u.rest) refl
     where
-      none : (a : List ℕ) → is_empty a ≡ true → is_at_comment_or_end a ≡ true
-      none [] h = refl
-      none (x ∷ a) h = absurd (cc h)
-
       by : (x : Bool) → is_empty u.rest ≡ x → HasNoTabs s.base.site (s.separation ++ e.separation) u.rest
-      by true h = inl (none u.rest h)
+      by true h = inl (empty_end u.rest h)
       by false h = inr (indented_after s.base.site.before s.base.site.blocks s.base.site.awaits (s.separation ++ e.separation)
           (no_plain s.base.site.before s.base.site.position s.separation e.separation t.rest u.rest e.cut s.read_on begins e.solid e.is_filled) (at h).spaced)
 
@@ -192,8 +189,7 @@ module _ (text : List ℕ) (t u : ScannerState) (s : Stands text t) (begins : be
       by (d ∷ ds) h = refl
 
   now : Stands text Now
-  now = record {
-    base = s.base;
+  now = stands_by text Now t.held.flow t.held.keys s.base refl refl (record {
     separation = s.separation ++ e.separation;
     is_clean = no_nul_after e.separation u.rest (subst (λ r. has_no_nul r ≡ true) e.cut s.is_clean);
     is_filled = separation_append false s.separation e.separation u.rest (subst (λ r. is_separation false s.separation r ≡ true) e.cut s.is_filled) e.is_filled;
@@ -225,7 +221,7 @@ module _ (text : List ℕ) (t u : ScannerState) (s : Stands text t) (begins : be
     completes = λ strict x cs may. subst (λ r. SoFar strict text r (chosen x cs t.held.keys s.base) (tokens_up_to (chosen x cs t.held.keys s.base) t.held.keys t.held.tokens))
         (ap (λ r. s.separation ++ r) e.cut ∙ sym (append_assoc s.separation e.separation u.rest))
         (s.completes strict x cs (may_before strict x (outside_key s.base.entries t.held.keys) t.held.position e.separation t.rest u.rest e.cut may));
-  }
+  })
 
   -- at the next token, or at the text's end
   passed_now : Stands text u × (begins_separation u.rest ≡ false)

@@ -1,8 +1,8 @@
 -- Spaces, breaks and comments after a `?`: what the model reads there is all of them, and no TAB is among them but in comments.
-use Rattle.proof_scanner.proofs.Common.{[], after_separation, and_parts, ap, append_cancel_right, At, begins_white_space, begins_with, begins_with_space_or_break, Bool, eqb-true, Err, false, Fault, GoesOverAs, has_break, has_no_break, has_tab_before_piece, Held, held_of, Holds, if◌then◌else◌, inl, inr, is_at_gap, is_blank, is_blank_or_end, is_break, is_cr_lf, is_nul, is_one_of, is_separation, last_line, List, misses, moved, no_break_hash, not, Ok, or_false, or_true, past_line, refl, refused, Result, same_break, ScannerState, skip_yaml_whitespace, slice_index, subst, sym, true, weakened, went, white, white_end, white_space_is_passed, ℕ, ◌&&◌, ◌++◌, ◌==◌, ◌||◌, ◌∙◌, ◌∷◌, ◌≡◌, ◌⊎◌}
+use Rattle.proof_scanner.proofs.Common.{[], after_separation, and_false, and_parts, ap, append_cancel_right, At, begins_white_space, begins_with, begins_with_space_or_break, Bool, both_hold, eqb-true, Err, false, Fault, has_break, has_no_break, has_tab_before_piece, HasPassed, Held, Holds, if◌then◌else◌, inl, inr, is_at_gap, is_blank, is_blank_or_end, is_break, is_cr_lf, is_nul, is_one_of, is_separation, last_line, List, moved, no_break_hash, not, Ok, or_false, or_true, past_line, refl, refused, Result, same_break, ScannerState, skip_yaml_whitespace, slice_index, subst, sym, true, weakened, went, white, white_end, ℕ, ◌&&◌, ◌++◌, ◌==◌, ◌||◌, ◌∙◌, ◌∷◌, ◌≡◌, ◌⊎◌}
 use Rattle.yaml_chars.specs.Class as class
 use Rattle.model_scanner.specs.Space.{at_break}
-use Rattle.proof_lexers.specs.Separations.{goes}
+use Rattle.proof_scanner.proofs.Cut.Passes.{white_passed}
 use Rattle.proof_scanner.proofs.Sound.LastLines.{last_first}
 use Rattle.yaml_tokens.specs.declared.problem.Problem.TheVariants as problem
 
@@ -180,23 +180,19 @@ past_white_space t = after_separation t.held (t.held.leading || has_break (white
 -- They are a separation, and all of them are read.
 pub white_exactly : (t : ScannerState) → Holds (λ u. (u ≡ past_white_space t) × (is_separation false (white_of false t.rest) (past_white false t.rest) ≡ true)) (skip_yaml_whitespace t)
 unfolding skip_yaml_whitespace
-white_exactly t = by (white false false t.rest t.held) (white_space_is_passed t.held t.rest) (white_read false false t.rest t.held)
+white_exactly t = weakened exactly (both_hold (white_passed t) (white_read false false t.rest t.held))
   where
-    Exact : ScannerState → Type 0
-    Exact u = (u ≡ past_white_space t) × (is_separation false (white_of false t.rest) (past_white false t.rest) ≡ true)
-
-    by : (x : Result ScannerState Fault) → GoesOverAs t.held t.rest x → Holds (IsPastWhite false t.held.leading t.rest) x → Holds Exact x
-    by x (goes leading separation rest cut fills none e) h =
-        let u : ScannerState = after_separation t.held leading separation rest in
-        let k : IsPastWhite false t.held.leading t.rest u = held_of u h e in
-        let same : separation ≡ white_of false t.rest = append_cancel_right separation (white_of false t.rest) rest (sym cut ∙ (white_cut false t.rest ∙ ap (λ r. white_of false t.rest ++ r) (sym k.0))) in
-        rw e (went (
-          ap (λ b. after_separation t.held b separation rest) k.1 ∙
-              (ap (λ f. after_separation t.held (t.held.leading || has_break (white_of false t.rest)) f rest) same ∙
-              ap (λ r. after_separation t.held (t.held.leading || has_break (white_of false t.rest)) (white_of false t.rest) r) k.0),
-          ap (λ f. is_separation false f (past_white false t.rest)) (sym same) ∙ (ap (λ r. is_separation false separation r) (sym k.0) ∙ fills),
-        ))
-    by x (misses separation rest cut fills begins none ends e) h = rw e refused
+    exactly : (u : ScannerState) → HasPassed begins_white_space t.held t.rest u × IsPastWhite false t.held.leading t.rest u → (u ≡ past_white_space t) × (is_separation false (white_of false t.rest) (past_white false t.rest) ≡ true)
+    exactly u q =
+        let p = q.0 in
+        let k = q.1 in
+        let same : p.separation ≡ white_of false t.rest = append_cancel_right p.separation (white_of false t.rest) u.rest (sym p.cut ∙ (white_cut false t.rest ∙ ap (λ r. white_of false t.rest ++ r) (sym k.0))) in
+        let leads : p.is_leading ≡ (t.held.leading || has_break (white_of false t.rest)) = sym (ap (λ (v : ScannerState). v.held.leading) p.is_state) ∙ k.1 in (
+          p.is_state ∙ (ap (λ b. after_separation t.held b p.separation u.rest) leads ∙
+              (ap (λ f. after_separation t.held (t.held.leading || has_break (white_of false t.rest)) f u.rest) same ∙
+              ap (λ r. after_separation t.held (t.held.leading || has_break (white_of false t.rest)) (white_of false t.rest) r) k.0)),
+          ap (λ f. is_separation false f (past_white false t.rest)) (sym same) ∙ (ap (λ r. is_separation false p.separation r) (sym k.0) ∙ p.is_filled),
+        )
 
 -- no TAB is among them but in comments
 pub no_tab_in : (in_comment : Bool) (a : List ℕ) → has_tab_before_piece in_comment (white_of in_comment a) ≡ false
@@ -205,10 +201,6 @@ no_tab_in b [] = refl
 no_tab_in true (c ∷ r) = no_tab_in (not (is_break c)) r
 no_tab_in false (c ∷ r) = by (goes_over c) (c == 9) refl refl (no_tab_in (c == 35) r)
   where
-    and_false : (b : Bool) → (b && false) ≡ false
-    and_false true = refl
-    and_false false = refl
-
     by : (b x : Bool) → goes_over c ≡ b → (c == 9) ≡ x → has_tab_before_piece (c == 35) (white_of (c == 35) r) ≡ false → has_tab_before_piece false (if b then c ∷ white_of (c == 35) r else []) ≡ false
     by false x e f h = refl
     by true true e f h = absurd (cc (e, goes_over_none c (eqb-true c 9 f)))

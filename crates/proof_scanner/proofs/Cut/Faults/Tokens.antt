@@ -1,5 +1,5 @@
 -- A token's refusal: what stands in the text.
-use Rattle.proof_scanner.proofs.Common.{[], account_past_separation, after_plain, allow_key, ap, AreAround, AreEntries, arith, Arrives, At, bad_escape, before_by, before_past, begin_flow, begins_separation, Bool, check_after_quoted, check_block_entry, Context, context, dash_in_flow, deepened_flow, Entry, entry_in_flow, Err, false, Fault, fetch_block_entry, fetch_flow_collection_start, fetch_flow_scalar, fetch_plain_scalar, FlowLevel, has_no_nul, has_room, Held, if◌then◌else◌, in_flow, increase_flow_level, is_at_gap, is_empty, is_renewed, IsCutUpTo, IsSpot, Key, length, Levels, lexed, List, marked_quote, may_follow_quoted, nat_le, nat_lt, nat_tests, node_start, None, not, Ok, on_held, open_quote, Option, peek, push, quote_of, Read, refl, Result, roll_one_col_indent, save_implicit_key, ScannerState, Style, subst, suc, sym, Tok, too_deep, true, unroll_non_block_indents, without_open, Yes, ℕ, ◌++◌, ◌==◌, ◌||◌, ◌∙◌, ◌∷◌, ◌≡◌, ◌≤◌}
+use Rattle.proof_scanner.proofs.Common.{[], account_past_separation, after_plain, allow_key, ap, are_single, AreAround, AreEntries, arith, Arrives, At, bad_escape, before_by, before_past, begin_flow, begins_separation, Bool, check_after_quoted, check_block_entry, Collection, Context, context, dash_in_flow, deepened_flow, Entry, entry_in_flow, Err, false, Fault, fetch_block_entry, fetch_flow_collection_start, fetch_flow_scalar, fetch_plain_scalar, flow_level, FlowLevel, has_no_nul, has_room, Held, if◌then◌else◌, in_flow, increase_flow_level, is_at_gap, is_empty, is_renewed, IsCutUpTo, IsSpot, Key, length, Levels, lexed, List, marked_quote, may_follow_quoted, nat_le, nat_lt, nat_tests, no_nul_after, node_start, None, not, Ok, on_held, open_quote, Option, peek, push, quote_of, Quotes, refl, Result, roll_one_col_indent, save_implicit_key, ScannerState, Style, subst, suc, sym, Tok, too_deep, true, unroll_non_block_indents, without_open, Yes, ℕ, ◌++◌, ◌==◌, ◌||◌, ◌∙◌, ◌∷◌, ◌≡◌, ◌≤◌}
 use Rattle.yaml_tokens.specs.declared.problem.Problem.TheVariants as problem
 use Rattle.model_scanner.specs.Quoted as quotes
 use Rattle.model_scanner.specs.Plain as plains
@@ -10,15 +10,16 @@ use Rattle.proof_lexers.proofs.Plain.Scalars as plain_laws
 use Rattle.proof_scanner.proofs.Cut.Pieces.Quoted.{some_chars}
 use Rattle.proof_scanner.proofs.Cut.Saved.{saved_keys, saved_is}
 use Rattle.proof_scanner.proofs.Cut.Levels.{one_indents, one_indent, rolled_one_is}
-use Rattle.proof_scanner.proofs.Sound.Arrivals.{clean_after}
 use Rattle.proof_scanner.proofs.Sound.WithoutOpen.{without_is}
 use Rattle.defs_token.specs.Account.{Account}
 use Rattle.proof_row.proofs.CutPieces.{account_by}
 use Rattle.proof_row.proofs.CutSteps.{somes, with_key, levels_in}
-use Rattle.proof_scanner.proofs.Cut.Nodes.{IsDeep}
+use Rattle.proof_scanner.proofs.Cut.Nodes.{IsDeep, less_or}
 use Rattle.proof_scanner.proofs.Sound.CutsSoFar.{arrives_cut}
-use Rattle.proof_scanner.proofs.Cut.Faults.Shown.{Refuses, none, this, IsOther, IsTold, bound, chosen, on_holding, lexes, other_told, skip_other, spaces_other}
+use Rattle.proof_scanner.proofs.Refusals.Faults.{Faults, goes, fault, either, in_turn, tried}
+use Rattle.proof_scanner.proofs.Cut.Faults.Shown.{IsOther, IsTold, lexes, other_told, skip_other, spaces_other, ends_told}
 use Rattle.proof_scanner.proofs.Cut.Faults.Steps.{indicator_other, block_entry_other}
+use Rattle.proof_scanner.proofs.Sound.PlainKeeps.{solid_text}
 
 -- the account where a piece begins
 abbrev account_now : (text : List ℕ) (t : ScannerState) → Arrives text t → Account
@@ -74,33 +75,33 @@ module _ (text : List ℕ) (t : ScannerState) (nul : has_no_nul text ≡ true) (
   unfolding rolled
   rolled_is = ap roll_one_col_indent (saved_is t.held) ∙ rolled_one_is (record t.held { keys = saved_keys t.held })
 
-  flow_begins : (kind : FlowLevel) (c : ℕ) (rest : List ℕ) → t.rest ≡ c ∷ rest → ((c == 91) || (c == 123)) ≡ true → Refuses (IsTold text) (begin_flow kind t.held)
+  flow_begins : (kind : Collection) (c : ℕ) (rest : List ℕ) → t.rest ≡ c ∷ rest → ((c == 91) || (c == 123)) ≡ true → Faults (IsTold text) (begin_flow kind t.held)
   unfolding begin_flow increase_flow_level rolled
   flow_begins kind c rest e opens =
-      subst (λ h. Refuses (IsTold text) (deepened_flow (if nat_le 255 (length h.flow) then Err (At problem.FlowTooDeep h.position) else Ok (record h { keys = None ∷ h.keys; flow = kind ∷ h.flow })))) (sym rolled_is)
+      subst (λ h. Faults (IsTold text) (deepened_flow (if nat_le 255 (length h.flow) then Err (At problem.FlowTooDeep h.position) else Ok (record h { keys = None ∷ h.keys; flow = flow_level kind ∷ h.flow })))) (sym rolled_is)
       (by (nat_le 255 (length t.held.flow)) refl)
     where
-      by : (b : Bool) → nat_le 255 (length t.held.flow) ≡ b → Refuses (IsTold text) (deepened_flow (if b then Err (At problem.FlowTooDeep t.held.position) else Ok (record rolled { keys = None ∷ saved_keys t.held; flow = kind ∷ t.held.flow })))
-      by true deep = this (λ _. too_deep (account_now text t s) c rest (spot (c ∷ rest) e) opens (no_room deep))
-      by false deep = none
+      by : (b : Bool) → nat_le 255 (length t.held.flow) ≡ b → Faults (IsTold text) (deepened_flow (if b then Err (At problem.FlowTooDeep t.held.position) else Ok (record rolled { keys = None ∷ saved_keys t.held; flow = flow_level kind ∷ t.held.flow })))
+      by true deep = fault (λ _. too_deep (account_now text t s) c rest (spot (c ∷ rest) e) opens (no_room deep))
+      by false deep = goes
 
-  pub flow_start_told : (kind : FlowLevel) (tok : Tok) (c : ℕ) (rest : List ℕ) → t.rest ≡ c ∷ rest → ((c == 91) || (c == 123)) ≡ true → Refuses (IsTold text) (fetch_flow_collection_start kind tok t)
+  pub flow_start_told : (kind : Collection) (c : ℕ) (rest : List ℕ) → t.rest ≡ c ∷ rest → ((c == 91) || (c == 123)) ≡ true → Faults (IsTold text) (fetch_flow_collection_start kind t)
   unfolding fetch_flow_collection_start
-  flow_start_told kind tok c rest e opens = bound (on_holding t (flow_begins kind c rest e opens)) (λ u k. other_told text (bound (indicator_other u) (λ v l. none)))
+  flow_start_told kind c rest e opens = in_turn (tried t (flow_begins kind c rest e opens)) (λ u k. other_told text (in_turn (indicator_other u) (λ v l. goes)))
 
   -- ---- a dash in flow
 
-  pub block_entry_told : (rest : List ℕ) → t.rest ≡ 45 ∷ rest → is_at_gap rest ≡ true → Refuses (IsTold text) (fetch_block_entry t)
+  pub block_entry_told : (rest : List ℕ) → t.rest ≡ 45 ∷ rest → is_at_gap rest ≡ true → Faults (IsTold text) (fetch_block_entry t)
   unfolding fetch_block_entry check_block_entry
   block_entry_told rest e gap =
-      bound (on_holding t (by (is_empty t.held.flow) refl)) (λ u k. other_told text (block_entry_other t u))
+      in_turn (tried t (by (is_empty t.held.flow) refl)) (λ u k. other_told text (block_entry_other t u))
     where
       checks : Bool → Result Held Fault
       checks flow = (if flow then Err (At problem.BlockEntryInFlow t.held.position) else (if not t.held.key_allowed then Err (At problem.BlockEntryNotAllowed t.held.position) else Ok t.held))
 
-      by : (out : Bool) → is_empty t.held.flow ≡ out → Refuses (IsTold text) (checks (not out))
-      by true o = other_told text (chosen (not t.held.key_allowed) (λ l. this refl) (λ l. none))
-      by false o = this (λ _. entry_in_flow (account_now text t s) rest (spot (45 ∷ rest) e) gap (ap not (many.1 ∙ o)))
+      by : (out : Bool) → is_empty t.held.flow ≡ out → Faults (IsTold text) (checks (not out))
+      by true o = other_told text (either (not t.held.key_allowed) (λ l. fault refl) (λ l. goes))
+      by false o = fault (λ _. entry_in_flow (account_now text t s) rest (spot (45 ∷ rest) e) gap (ap not (many.1 ∙ o)))
 
   -- ---- quoted scalars
 
@@ -115,26 +116,22 @@ module _ (text : List ℕ) (t : ScannerState) (nul : has_no_nul text ≡ true) (
   quote_told single ctx rest f e (quoted_ends.by_column p far) = λ z. absurd (cc z)
   quote_told single ctx rest f e (quoted_ends.by_tab p far) = λ z. absurd (cc z)
 
-  quoted_told : (single : Bool) (ctx : Context) (rest : List ℕ) → t.rest ≡ quote_of single ∷ rest → Refuses (IsTold text) (quotes.quoted single ctx t.rest t.held.position)
+  quoted_told : (single : Bool) (ctx : Context) (rest : List ℕ) → t.rest ≡ quote_of single ∷ rest → Faults (IsTold text) (quotes.quoted single ctx t.rest t.held.position)
   quoted_told single ctx rest e =
-      subst (λ r. Refuses (IsTold text) (quotes.quoted single ctx r t.held.position)) (sym e) (by (quotes.quoted single ctx (quote_of single ∷ rest) t.held.position) (scans_end single ctx rest t.held.position (some_chars rest clean)))
+      subst (λ r. Faults (IsTold text) (quotes.quoted single ctx r t.held.position)) (sym e) (ends_told (λ f why. quote_told single ctx rest f e why) (scans_end single ctx rest t.held.position (some_chars rest clean)))
     where
       clean : has_no_nul rest ≡ true
-      clean = clean_after (quote_of single ∷ []) rest (subst (λ r. has_no_nul r ≡ true) e s.is_clean)
+      clean = no_nul_after (quote_of single ∷ []) rest (subst (λ r. has_no_nul r ≡ true) e s.is_clean)
 
-      by : (x : Result (Read (List ℕ)) Fault) → quoted_ends.QuotedEndsAs single ctx t.held.position rest x → Refuses (IsTold text) x
-      by x (quoted_ends.reads body more value position cut is ends k) = rw k none
-      by x (quoted_ends.refuses f why k) = rw k (this (quote_told single ctx rest f e why))
-
-  after_quote_other : (line : ℕ) (u : ScannerState) → Refuses IsOther (check_after_quoted line u)
+  after_quote_other : (line : ℕ) (u : ScannerState) → Faults IsOther (check_after_quoted line u)
   unfolding check_after_quoted
-  after_quote_other line u = bound (spaces_other Yes u) (λ v k. chosen (may_follow_quoted (in_flow v.held) (line == v.held.position.line) (peek v.rest)) (λ l. none) (λ l. this refl))
+  after_quote_other line u = in_turn (spaces_other Yes u) (λ v k. either (may_follow_quoted (in_flow v.held) (line == v.held.position.line) (peek v.rest)) (λ l. goes) (λ l. fault refl))
 
-  pub flow_scalar_told : (single : Bool) (rest : List ℕ) → t.rest ≡ quote_of single ∷ rest → Refuses (IsTold text) (fetch_flow_scalar single t)
+  pub flow_scalar_told : (kind : Quotes) (rest : List ℕ) → t.rest ≡ quote_of (are_single kind) ∷ rest → Faults (IsTold text) (fetch_flow_scalar kind t)
   unfolding fetch_flow_scalar
-  flow_scalar_told single rest e =
-      lexes (quotes.quoted single (context (node_start t.held)) t.rest t.held.position) (node_start t.held) _ (quoted_told single (context (node_start t.held)) rest e) (λ x k.
-      other_told text (bound (after_quote_other t.held.position.line _) (λ v l. bound (skip_other v) (λ w m. none))))
+  flow_scalar_told kind rest e =
+      lexes (quotes.quoted (are_single kind) (context (node_start t.held)) t.rest t.held.position) (node_start t.held) _ (quoted_told (are_single kind) (context (node_start t.held)) rest e) (λ x k.
+      other_told text (in_turn (after_quote_other t.held.position.line _) (λ v l. in_turn (skip_other v) (λ w m. goes))))
 
   -- ---- plain scalars
 
@@ -144,40 +141,24 @@ module _ (text : List ℕ) (t : ScannerState) (nul : has_no_nul text ≡ true) (
       dash_in_flow (account_now text t s) before rest (spot (before ++ 45 ∷ rest) cut) begins (ap not many.1 ∙ sym e ∙ flow) apart
   plain_why_told ctx f e (plain_ends.by_tab deep tab) = λ z. absurd (cc z)
 
-  solid_text : (l : List ℕ) → is_empty l ≡ false → begins_separation l ≡ false → plain_ends.begins_solid l ≡ true
-  solid_text [] some solid = cc
-  solid_text (c ∷ r) some solid = by (plain_ends.is_white c) solid
-    where
-      by : (b : Bool) → (b || (c == 35)) ≡ false → not b ≡ true
-      by false h = refl
-      by true h = cc
-
   abbrev gone : Levels
   gone = without_open t.held.indent t.held.indents t.held.tokens
 
   abbrev around : Context
   around = record { flow = in_flow t.held; indent = gone.indent }
 
-  plain_told : IsDeep t.held → is_empty t.rest ≡ false → begins_separation t.rest ≡ false → Refuses (IsTold text) (plains.plain around t.rest t.held.position)
-  plain_told deep some solid = by (plains.plain around t.rest t.held.position) (plain_laws.scans_end around t.rest t.held.position s.is_clean (solid_text t.rest some solid) indented)
+  plain_told : IsDeep t.held → is_empty t.rest ≡ false → begins_separation t.rest ≡ false → Faults (IsTold text) (plains.plain around t.rest t.held.position)
+  plain_told deep some solid = ends_told (λ f why. plain_why_told around f refl why) (plain_laws.scans_end around t.rest t.held.position s.is_clean (solid_text t.rest some solid) indented)
     where
       shallow : gone.indent ≤ t.held.indent
       shallow = (without_is t.held.indent t.held.indents t.held.tokens s.are_levels).not_deeper
 
-      in_position : (b : Bool) (x y : ℕ) → x ≤ suc y → (b || nat_le x (suc y)) ≡ true
-      in_position true x y h = refl
-      in_position false x y h = grind (arith, nat_tests)
-
       indented : plain_ends.is_indented around t.held.position ≡ true
-      indented = in_position (in_flow t.held) gone.indent t.held.position.col (omega (arith, deep, shallow))
+      indented = less_or (in_flow t.held) gone.indent t.held.position.col (omega (arith, deep, shallow))
 
-      by : (x : Result (Read plains.Plain) Fault) → plain_ends.PlainEndsAs around t.held.position t.rest x → Refuses (IsTold text) x
-      by x (plain_ends.reads piece gap rest value cut whole white ends is e) = rw e none
-      by x (plain_ends.refuses f why e) = rw e (this (plain_why_told around f refl why))
-
-  pub plain_scalar_told : IsDeep t.held → is_empty t.rest ≡ false → begins_separation t.rest ≡ false → Refuses (IsTold text) (fetch_plain_scalar t)
+  pub plain_scalar_told : IsDeep t.held → is_empty t.rest ≡ false → begins_separation t.rest ≡ false → Faults (IsTold text) (fetch_plain_scalar t)
   unfolding fetch_plain_scalar unroll_non_block_indents
   plain_scalar_told deep some solid =
-      subst (λ h. Refuses (IsTold text) (lexed (plains.plain (context (unroll_non_block_indents (allow_key false h))) t.rest t.held.position) (unroll_non_block_indents (allow_key false h))
+      subst (λ h. Faults (IsTold text) (lexed (plains.plain (context (unroll_non_block_indents (allow_key false h))) t.rest t.held.position) (unroll_non_block_indents (allow_key false h))
       (λ r u. Ok (on_held (λ v. push t.held.position (Tok.scalar Style.plain r.text) (after_plain r.leading v)) u)))) (sym (saved_is t.held))
-      (lexes (plains.plain around t.rest t.held.position) (unroll_non_block_indents (allow_key false (record t.held { keys = saved_keys t.held }))) _ (plain_told deep some solid) (λ x k. none))
+      (lexes (plains.plain around t.rest t.held.position) (unroll_non_block_indents (allow_key false (record t.held { keys = saved_keys t.held }))) _ (plain_told deep some solid) (λ x k. goes))

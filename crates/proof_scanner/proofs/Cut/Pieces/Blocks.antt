@@ -1,12 +1,15 @@
 -- What the scan of a block scalar reads is its piece.
-use Rattle.proof_scanner.proofs.Common.{[], and_parts, ap, are_marks, arith, bad_header, begins_with, Block, block, block_position, block_read, block_value, BlockEndsAs, BlockIsRead, BlockRead, BlockStyle, body, Bool, collection_column, collection_of, column_of, ends_line, eqb-true, false, Fault, folded, further_position, further_text, has_no_nul, Header, header_of, if◌then◌else◌, indicator_of, inl, inr, is_at_end, is_before_line_feed, is_blank, is_break, is_document_marker, is_empty, is_further_text, is_literal_style, is_nul, is_outside, is_past, is_separation, IsBlockScalar, IsPiece, List, literal, nat_lt, nat_tests, None, not, Ok, Option, past_spaces, Position, position_after, position_past, put_first, Read, read_block, read_body, read_lines, ReadAs, refl, Result, scalar, Some, split, split_by, Style, subst, suc, tabbed, Tok, true, with_value, without_spaces, zero, ℕ, ◌&&◌, ◌++◌, ◌<◌, ◌==◌, ◌∙◌, ◌∷◌, ◌≡◌, ◌≤◌, ◌⊎◌}
+use Rattle.proof_scanner.proofs.Common.{[], and_false, and_parts, ap, arith, begins_with, Block, block, block_position, block_read, block_value, BlockIsRead, BlockRead, BlockStyle, body, Bool, collection_column, collection_of, column_of, ends_line, eqb-true, false, folded, further_position, further_text, has_no_nul, Header, header_of, if◌then◌else◌, indicator_of, inl, inr, is_at_end, is_before_line_feed, is_blank, is_break, is_empty, is_literal_style, is_nul, is_past, is_separation, IsBlockRead, IsBlockScalar, IsPiece, List, literal, nat_lt, nat_tests, None, not, Ok, Option, past_spaces, Position, position_after, position_past, put_first, Read, read_as, read_body, read_lines, ReadAs, refl, scalar, Some, split, split_by, Style, subst, suc, Tok, true, whole_block, with_value, without_spaces, zero, ℕ, ◌++◌, ◌<◌, ◌==◌, ◌∙◌, ◌∷◌, ◌≡◌, ◌≤◌, ◌⊎◌}
+use Rattle.model_scanner.specs.declared.kind.BlockStyle.TheVariants.{Literal, Folded}
 use Rattle.defs_text.specs.Classes.{space}
 use Rattle.defs_token.specs.Account.{Account, is_in_flow}
-use Rattle.proof_lexers.specs.BlockScan.{read, shallow}
-use Rattle.proof_lexers.specs.BlockEnds as ends
+use Rattle.proof_lexers.specs.BlockScan.{read}
 use Rattle.proof_lexers.proofs.Blocks.Ends.{scans_end}
 use Rattle.proof_lexers.proofs.Separation.EachSeparation.{no_nul_after}
 use Rattle.proof_scanner.proofs.Cut.Pieces.Quoted.{some_chars}
+use Rattle.proof_row.proofs.Columns.{further_is_no_break}
+use Rattle.proof_row.proofs.KeyLines.{line_grows}
+use Rattle.proof_scanner.proofs.Cut.Pieces.Inserted.{line_ended}
 
 -- ---- the spaces after a piece
 
@@ -53,22 +56,9 @@ step_up p c r = by (ends_line c r)
     by true = omega arith
     by false = omega arith
 
-line_up : (p : Position) (t next : List ℕ) → p.line ≤ (position_after p t next).line
-line_up p [] next = omega arith
-line_up p (c ∷ t) next =
-    let h = step_up p c (t ++ next) in
-    let k = line_up (position_past p c (t ++ next)) t next in omega (arith, h, k)
-
-break_up : (p : Position) (c : ℕ) (r : List ℕ) → ends_line c r ≡ true → (position_past p c r).line ≡ suc p.line
-break_up p c r h = rw h refl
-
 no_feed : (c : ℕ) (r : List ℕ) → begins_with 10 r ≡ false → is_before_line_feed c r ≡ false
 no_feed c [] h = refl
-no_feed c (d ∷ r) h = rw h (by (c == 13))
-  where
-    by : (b : Bool) → (b && false) ≡ false
-    by true = refl
-    by false = refl
+no_feed c (d ∷ r) h = rw h (and_false (c == 13))
 
 -- a text with a whole line ends on a later one
 lines_up : (p : Position) (t next : List ℕ) → is_empty (split t).complete ≡ false → begins_with 10 next ≡ false → p.line < (position_after p t next).line
@@ -83,8 +73,8 @@ lines_up p (c ∷ t) next h f = by (is_break c) (is_before_line_feed c t) refl r
         → (is_empty (split t).complete ≡ false → (position_past p c (t ++ next)).line < (position_after (position_past p c (t ++ next)) t next).line) → p.line < (position_after (position_past p c (t ++ next)) t next).line
     by true true e g h ih = let k = step_up p c (t ++ next) in let j = ih h in omega (arith, k, j)
     by true false e g h ih =
-        let here = break_up p c (t ++ next) (rw (e, feed_next t g) refl) in
-        let k = line_up (position_past p c (t ++ next)) t next in omega (arith, here, k)
+        let here = line_ended p c (t ++ next) (rw (e, feed_next t g) refl) in
+        let k = line_grows (position_past p c (t ++ next)) t next in omega (arith, here, k)
     by false l e g h ih = let k = step_up p c (t ++ next) in let j = ih (still (split t).complete h) in omega (arith, k, j)
       where
         still : (ls : List (List ℕ)) → is_empty (put_first c ls (split t).last).complete ≡ false → is_empty ls ≡ false
@@ -102,33 +92,8 @@ some_piece collection [] next b h = by (is_at_end next) h
 some_piece collection (c ∷ piece) next b h = refl
 
 -- after the last line stands no line feed
-outside_no_feed : (n : ℕ) (r : List ℕ) → is_outside n r ≡ true → begins_with 10 r ≡ false
-unfolding is_break
-outside_no_feed zero r h = cc
-outside_no_feed (suc n) [] h = cc
-outside_no_feed (suc n) (c ∷ r) h = by (c == 10) refl
-  where
-    by : (b : Bool) → (c == 10) ≡ b → b ≡ false
-    by true e = let same : c ≡ 10 = eqb-true c 10 e in absurd (cc (rw same at h))
-    by false e = refl
-
-marker_no_feed : (r : List ℕ) → is_document_marker r ≡ true → begins_with 10 r ≡ false
-unfolding are_marks
-marker_no_feed [] h = refl
-marker_no_feed (c ∷ []) h = cc
-marker_no_feed (c ∷ d ∷ []) h = cc
-marker_no_feed (c ∷ d ∷ e ∷ r) h = by (c == 10) refl
-  where
-    by : (b : Bool) → (c == 10) ≡ b → b ≡ false
-    by true f = let same : c ≡ 10 = eqb-true c 10 f in absurd (cc (rw same at h))
-    by false f = refl
-
-further_no_feed : (column : ℕ) (r : List ℕ) → is_further_text column r ≡ true → begins_with 10 r ≡ false
-further_no_feed zero r h = marker_no_feed r h
-further_no_feed (suc n) r h = outside_no_feed (suc n) r h
-
 past_text : (column : ℕ) (next : List ℕ) → is_at_end next ≡ false → is_past column next ≡ true → begins_with 10 next ≡ false
-past_text column next e h = further_no_feed column next (rw e at h)
+past_text column next e h = further_is_no_break column next (rw e at h)
 
 body_past : (collection : Option ℕ) (h : Option Header) (ls : List (List ℕ)) (next : List ℕ) (b : BlockRead) → is_at_end next ≡ false → read_body h collection (body ls further_text) next ≡ Some b → begins_with 10 next ≡ false
 body_past collection None ls next b e k = cc
@@ -167,7 +132,7 @@ piece_of a folded piece next text p following h = h
 abbrev pub IsBelow : (start end : Position) → (rest : List ℕ) → Type 0
 IsBelow start end rest = (rest ≡ []) ⊎ (nat_lt start.line end.line ≡ true)
 
-end_no_text : (t : List ℕ) → has_no_nul t ≡ true → is_at_end t ≡ true → t ≡ []
+pub end_no_text : (t : List ℕ) → has_no_nul t ≡ true → is_at_end t ≡ true → t ≡ []
 end_no_text [] h e = refl
 end_no_text (c ∷ t) h e = let q = and_parts (not (is_nul c)) (has_no_nul t) h in absurd (cc (q.0, e))
 
@@ -183,7 +148,7 @@ module _ (a : Account) (indent : ℕ) (outside : is_in_flow a ≡ false) (column
       by false e =
           let q = piece_has_line (collection_of indent) (c ∷ piece) next b e is in
           let up = lines_up a.position (c ∷ piece) next q.0 q.1 in
-          let stays = line_up (position_after a.position (c ∷ piece) next) (spaces_of next) (without_spaces next) in
+          let stays = line_grows (position_after a.position (c ∷ piece) next) (spaces_of next) (without_spaces next) in
           let here = ap (λ (z : Position). z.line) (spaces_position (position_after a.position (c ∷ piece) next) next) in
           inr (grind (arith, nat_tests, up, stays, here))
 
@@ -209,19 +174,15 @@ module _ (a : Account) (indent : ℕ) (outside : is_in_flow a ≡ false) (column
 
   by_style : (style : BlockStyle) (more : List ℕ) (r : Read Block) → has_no_nul (indicator_of style ∷ more) ≡ true → has_no_nul more ≡ true → block (is_literal_style style) indent (indicator_of style ∷ more) a.position ≡ Ok r
       → ReadAs a (indicator_of style ∷ more) (token_of style r.value.text) r.value.position r.rest r.position × IsBelow a.position r.position r.rest
-  by_style style more r all nul e = by (block (is_literal_style style) indent (indicator_of style ∷ more) a.position) e (scans_end style indent more a.position (some_chars more nul))
+  by_style style more r all nul e = by r (read_as e (scans_end style indent more a.position (some_chars more nul)))
     where
-      by : (x : Result (Read Block) Fault) → x ≡ Ok r → BlockEndsAs style indent a.position more x → ReadAs a (indicator_of style ∷ more) (token_of style r.value.text) r.value.position r.rest r.position × IsBelow a.position r.position r.rest
-      by x e (bad_header line after f cut in_line at why k) = absurd (cc (e, k))
-      by x e (ends.scalar piece next b cut is looks (shallow free low k)) = absurd (cc (e, k))
-      by x e (ends.scalar piece next b cut is looks (tabbed tab k)) = absurd (cc (e, k))
-      by x e (ends.scalar piece next b cut is looks (read free deep k)) =
-          let same : read_block a.position b piece next ≡ r = cc in
-          let none : has_no_nul next ≡ true = no_nul_after piece next (subst (λ l. has_no_nul l ≡ true) cut all) in
-          rw (← same) (found style (indicator_of style ∷ more) piece next b none cut is looks)
+      by : (x : Read Block) → IsBlockRead style indent a.position more x → ReadAs a (indicator_of style ∷ more) (token_of style x.value.text) x.value.position x.rest x.position × IsBelow a.position x.position x.rest
+      by x (whole_block piece next b it (read free deep same)) =
+          let none : has_no_nul next ≡ true = no_nul_after piece next (subst (λ l. has_no_nul l ≡ true) it.is_text all) in
+          rw same (found style (indicator_of style ∷ more) piece next b none it.is_text it.is_read it.is_style)
 
 -- a block scalar that was read is the piece of its token, and after it spaces were passed
 pub block_is_read : BlockIsRead
 unfolding is_nul
-block_is_read a true indent more r nul outside column e = by_style a indent outside column literal more r nul nul e
-block_is_read a false indent more r nul outside column e = by_style a indent outside column folded more r nul nul e
+block_is_read a Literal indent more r nul outside column e = by_style a indent outside column literal more r nul nul e
+block_is_read a Folded indent more r nul outside column e = by_style a indent outside column folded more r nul nul e

@@ -1,8 +1,7 @@
 -- What the scan of a directive reads is its piece.
-use Rattle.proof_scanner.proofs.Common.{[], and_parts, ap, Bool, Directive, DirectiveEndsAs, DirectiveIsRead, directives_end, drop, eqb-true, false, Fault, first_break, has_no_break, if◌then◌else◌, inl, inr, is_at_line_end, is_before_line_feed, is_blank, is_break, is_directive_token, is_separation, IsDirective, IsPiece, List, Ok, Option, position_append, Read, ReadAs, reads, refl, reserved, Result, subst, tag_declaration, take, Tok, token_of, true, version, ℕ, ◌++◌, ◌==◌, ◌||◌, ◌∙◌, ◌∷◌, ◌≡◌}
+use Rattle.proof_scanner.proofs.Common.{[], and_parts, ap, Bool, Directive, DirectiveIsRead, directives_end, drop, eqb-true, false, first_break, has_no_break, if◌then◌else◌, inl, inr, is_at_line_end, is_before_line_feed, is_blank, is_break, is_directive_token, is_separation, IsDirective, IsDirectiveRead, IsPiece, List, Option, position_append, Read, read_as, ReadAs, refl, reserved, subst, tag_declaration, take, Tok, token_of, true, version, whole_directive, ℕ, ◌++◌, ◌==◌, ◌||◌, ◌∙◌, ◌∷◌, ◌≡◌}
 use Rattle.defs_token.specs.Account.{Account}
-use Rattle.model_scanner.specs.Directive.{directive}
-use Rattle.proof_lexers.specs.DirectiveEnds.{ends_line, next_line, after_line, refuses}
+use Rattle.proof_lexers.specs.DirectiveEnds.{ends_line, next_line}
 
 -- ---- the break after a directive
 
@@ -59,22 +58,19 @@ percent_in_line l h = h
 
 -- a directive that was read is the piece of its token, and after it the break of its line was passed
 pub directive_is_read : DirectiveIsRead
-directive_is_read a more r nul column closed e = by (directive (37 ∷ more) a.position) e (directives_end more a.position)
+directive_is_read a more r nul column closed e = by r (read_as e (directives_end more a.position))
   where
-    by : (x : Result (Read Tok) Fault) → x ≡ Ok r → DirectiveEndsAs a.position more x → ReadAs a (37 ∷ more) r.value a.position r.rest r.position × (is_directive_token r.value ≡ true)
-    by x e (refuses line next f cut no_break ends none why k) = absurd (cc (e, k))
-    by x e (reads line next d cut no_break ends is k) =
-        let same : after_line a.position (37 ∷ line) next (token_of d) ≡ r = cc in
-        rw (← same) (
-          record {
-            first = 37;
-            more = line;
-            separation = first_break next;
-            is_text = ap (λ l. 37 ∷ l) (cut ∙ ap (λ l. line ++ l) (break_cut next));
-            is_filled = break_is_separation next ends;
-            is_piece = λ following. subst (λ l. IsPiece a (37 ∷ line) l following a.position (token_of d)) (break_cut next)
-                (piece_of a (37 ∷ line) next d following (is, percent_in_line line no_break, column, line_end_there next ends, closed));
-            is_end = position_append a.position (37 ∷ line) (first_break next) (next_line next);
-          },
-          token_is d,
-        )
+    by : (x : Read Tok) → IsDirectiveRead a.position more x → ReadAs a (37 ∷ more) x.value a.position x.rest x.position × (is_directive_token x.value ≡ true)
+    by x (whole_directive line next d cut no_break ends is) = (
+      record {
+        first = 37;
+        more = line;
+        separation = first_break next;
+        is_text = ap (λ l. 37 ∷ l) (cut ∙ ap (λ l. line ++ l) (break_cut next));
+        is_filled = break_is_separation next ends;
+        is_piece = λ following. subst (λ l. IsPiece a (37 ∷ line) l following a.position (token_of d)) (break_cut next)
+            (piece_of a (37 ∷ line) next d following (is, percent_in_line line no_break, column, line_end_there next ends, closed));
+        is_end = position_append a.position (37 ∷ line) (first_break next) (next_line next);
+      },
+      token_is d,
+    )

@@ -4,7 +4,7 @@ use Rattle.proof_scanner.proofs.Cut.Positions.{not_before_after}
 
 -- ---- a key
 
-line_ended : (p : Position) (d : ℕ) (r : List ℕ) → ends_line d r ≡ true → (position_past p d r).line ≡ suc p.line
+pub line_ended : (p : Position) (d : ℕ) (r : List ℕ) → ends_line d r ≡ true → (position_past p d r).line ≡ suc p.line
 line_ended p d r h = rw h refl
 
 line_stays : (p : Position) (d : ℕ) (r : List ℕ) → ends_line d r ≡ false → (position_past p d r).line ≡ p.line

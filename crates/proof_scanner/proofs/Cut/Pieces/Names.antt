@@ -1,6 +1,7 @@
 -- What the scan of an anchor's or an alias's name reads is its piece.
-use Rattle.proof_scanner.proofs.Common.{[], after_name, all_of, anchor_name, anchor_token, and_parts, ap, arith, Bool, false, Fault, further, goes_on_with_name, has_no_break, if◌then◌else◌, is_anchor_name, is_blank, is_blank_or_end, is_break, is_flow, is_name, is_nul, IsPiece, length, List, named, NameEndsAs, NameIsRead, nameless, names_end, not, Ok, Option, position_after, position_in_line, Read, ReadAs, refl, Result, Tok, true, ℕ, ◌&&◌, ◌++◌, ◌+◌, ◌==◌, ◌||◌, ◌∷◌, ◌≡◌}
-use Rattle.defs_token.specs.Account.{Account}
+use Rattle.proof_scanner.proofs.Common.{[], all_of, anchor_name, anchor_token, and_parts, ap, arith, Bool, false, further, goes_on_with_name, has_no_break, is_anchor_name, is_blank, is_blank_or_end, is_break, is_flow, is_name, is_nul, IsNameRead, IsPiece, length, List, mark_of, named, NameIsRead, NameKind, names_end, not, Ok, Option, Position, position_after, position_in_line, Read, read_as, ReadAs, refl, suc, sym, Tok, true, ℕ, ◌&&◌, ◌++◌, ◌+◌, ◌==◌, ◌||◌, ◌∙◌, ◌∷◌, ◌≡◌}
+use Rattle.defs_token.specs.Account.{Account, is_in_flow}
+use Rattle.model_scanner.specs.declared.kind.NameKind.TheVariants.{Alias, Anchor}
 
 -- ---- no break stands among the characters of a class that has none
 
@@ -23,41 +24,46 @@ name_in_line (c ∷ name) h = all_in_line is_anchor_name name_has_none (c ∷ na
 
 -- ---- the piece
 
-abbrev mark : Bool → ℕ
-mark is_alias = (if is_alias then 42 else 38)
-
-mark_in_line : (b : Bool) → is_break (mark b) ≡ false
+pub mark_in_line : (kind : NameKind) → is_break (mark_of kind) ≡ false
 unfolding is_break
-mark_in_line true = refl
-mark_in_line false = refl
+mark_in_line Alias = refl
+mark_in_line Anchor = refl
 
-module _ (a : Account) (more name rest : List ℕ) (is : is_name name ≡ true) (ends : goes_on_with_name rest ≡ false) where
-  is_of_token : (b : Bool) (following : Option Tok) → IsPiece a (mark b ∷ name) rest following a.position (anchor_token b name)
-  is_of_token true following = ((refl, is, ends), refl)
-  is_of_token false following = ((refl, is, ends), refl)
+-- A property or an alias that was read: its piece, which has no break, and nothing after it.
+pub record IsProperty (fl : Bool) (tok : Tok) (p : Position) (text rest : List ℕ) (end : Position) : Type 0 where
+  pub first : ℕ
+  pub more : List ℕ
+  pub cut : text ≡ (first ∷ more) ++ rest
+  pub in_line : has_no_break (first ∷ more) ≡ true
+  pub end_is : end ≡ position_after p (first ∷ more) rest
+  pub is_piece : (a : Account) (following : Option Tok) → a.position ≡ p → is_in_flow a ≡ fl → IsPiece a (first ∷ more) rest following p tok
 
-  position_of : (b : Bool) → further (1 + length name) a.position ≡ position_after a.position (mark b ∷ name) rest
-  position_of b =
-      let more_by_one : 1 + length name ≡ length (mark b ∷ name) = omega arith in
-      rw more_by_one (position_in_line a.position (mark b ∷ name) rest (rw (mark_in_line b) (name_in_line name is)))
+-- so it is a piece for each account, and no separation
+pub property_read_as : (a : Account) (fl : Bool) (tok : Tok) (text rest : List ℕ) (end : Position) → is_in_flow a ≡ fl → IsProperty fl tok a.position text rest end → ReadAs a text tok a.position rest end
+property_read_as a fl tok text rest end flow r = record { first = r.first; more = r.more; separation = []; is_text = r.cut; is_filled = refl; is_piece = λ following. r.is_piece a following refl flow; is_end = r.end_is }
 
-  found : (b : Bool) → more ≡ name ++ rest → ReadAs a (mark b ∷ more) (anchor_token b name) a.position rest (further (1 + length name) a.position)
-  found b cut = record {
-    first = mark b;
-    more = name;
-    separation = [];
-    is_text = ap (λ l. mark b ∷ l) cut;
-    is_filled = refl;
-    is_piece = is_of_token b;
-    is_end = position_of b;
-  }
+one_first : (name : List ℕ) → 1 + length name ≡ suc (length name)
+one_first name = omega arith
+
+pub name_property : (fl : Bool) (kind : NameKind) (p : Position) (text more : List ℕ) → text ≡ mark_of kind ∷ more → (x : Read (List ℕ)) → anchor_name text p ≡ Ok x → IsProperty fl (anchor_token kind x.value) p text x.rest x.position
+name_property fl kind p text more e x k = by x (read_as (ap (λ r. anchor_name r p) (sym e) ∙ k) (names_end (mark_of kind) more p))
+  where
+    piece_of : (kind : NameKind) (name rest : List ℕ) → is_name name ≡ true → goes_on_with_name rest ≡ false → (a : Account) (following : Option Tok) → a.position ≡ p → IsPiece a (mark_of kind ∷ name) rest following p (anchor_token kind name)
+    piece_of Alias name rest is ends a following q = ((refl, is, ends), sym q)
+    piece_of Anchor name rest is ends a following q = ((refl, is, ends), sym q)
+
+    by : (y : Read (List ℕ)) → IsNameRead p more y → IsProperty fl (anchor_token kind y.value) p text y.rest y.position
+    by y (named name rest cut is ends) =
+        let line : has_no_break (mark_of kind ∷ name) ≡ true = rw (mark_in_line kind) (name_in_line name is) in
+        record {
+          first = mark_of kind;
+          more = name;
+          cut = e ∙ ap (λ l. mark_of kind ∷ l) cut;
+          in_line = line;
+          end_is = ap (λ n. further n p) (one_first name) ∙ position_in_line p (mark_of kind ∷ name) rest line;
+          is_piece = λ a following q flow. piece_of kind name rest is ends a following q;
+        }
 
 -- a name that was read is, with its indicator, the piece of its token
 pub name_is_read : NameIsRead
-name_is_read a is_alias more r nul e = by (anchor_name (mark is_alias ∷ more) a.position) e (names_end (mark is_alias) more a.position)
-  where
-    by : (x : Result (Read (List ℕ)) Fault) → x ≡ Ok r → NameEndsAs a.position more x → ReadAs a (mark is_alias ∷ more) (anchor_token is_alias r.value) a.position r.rest r.position
-    by x e (nameless none k) = absurd (cc (e, k))
-    by x e (named name rest cut is ends k) =
-        let same : after_name a.position name rest ≡ r = cc in
-        rw (← same) (found a more name rest is ends is_alias cut)
+name_is_read a kind more r nul e = property_read_as a (is_in_flow a) (anchor_token kind r.value) (mark_of kind ∷ more) r.rest r.position refl (name_property (is_in_flow a) kind a.position (mark_of kind ∷ more) more refl r e)

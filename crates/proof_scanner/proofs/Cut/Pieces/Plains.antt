@@ -1,10 +1,9 @@
 -- What the scan of a plain scalar reads is its piece.
-use Rattle.proof_scanner.proofs.Common.{[], and_parts, ap, at_dash, begins_flow, begins_plain, begins_solid, Bool, codes, collection_column, collection_of, comes_plain, Context, eqb-true, false, Fault, if◌then◌else◌, is_adjacent, is_at_gap, is_blank, is_blank_or_end, is_break, is_document_marker, is_flow, is_nul, is_one_of, is_separation, is_value_indicator, is_white, is_whole_plain, List, may_begin, nat_lt, not, Ok, Plain, plain, plain_value, PlainEndsAs, PlainIsRead, Position, position_after, position_append, Read, ReadAs, refl, Result, scalar, scans_end, slice_index, Some, starts, subst, sym, true, ℕ, ◌&&◌, ◌++◌, ◌==◌, ◌||◌, ◌∙◌, ◌∷◌, ◌≡◌}
+use Rattle.proof_scanner.proofs.Common.{[], and_parts, ap, at_dash, begins_flow, begins_plain, begins_solid, Bool, codes, collection_column, collection_of, comes_plain, Context, eqb-true, false, if◌then◌else◌, is_adjacent, is_at_gap, is_blank, is_blank_or_end, is_break, is_document_marker, is_flow, is_nul, is_one_of, is_separation, is_value_indicator, is_white, is_whole_plain, IsPlainRead, List, may_begin, nat_lt, not, Ok, Plain, plain, plain_value, PlainIsRead, Position, position_after, position_append, Read, read_as, ReadAs, refl, scalar, scans_end, slice_index, Some, starts, sym, true, whole_plain, ℕ, ◌&&◌, ◌++◌, ◌==◌, ◌||◌, ◌∙◌, ◌∷◌, ◌≡◌}
 use Rattle.yaml_chars.specs.Class as model_classes
 use Rattle.defs_token.specs.Account.{Account, is_in_flow}
 use Rattle.model_scanner.specs.Plain as models
 use Rattle.proof_lexers.proofs.Bridges.{same_flow}
-use Rattle.proof_lexers.specs.PlainEnds.{after_plain, reads, refuses}
 use Rattle.proof_scanner.proofs.Cut.Pieces.Separations.{gap_is_separation}
 
 -- ---- a plain scalar begins with content
@@ -42,7 +41,7 @@ begins_solid_with fl adjacent col (c ∷ r) h = solid_start fl adjacent c r (and
 
 -- ---- in flow a dash before a flow indicator is refused
 
-same_flow_start : (r : List ℕ) → model_classes.is_flow (slice_index r 0) ≡ begins_flow r
+pub same_flow_start : (r : List ℕ) → model_classes.is_flow (slice_index r 0) ≡ begins_flow r
 unfolding model_classes.is_flow
 same_flow_start [] = refl
 same_flow_start (d ∷ r) = sym (same_flow d)
@@ -60,7 +59,7 @@ between true y h = h
 between false y h = cc
 
 -- what is read began as a plain scalar may
-begins_as_read : (ctx : Context) (adjacent : Bool) (text : List ℕ) (p : Position) (r : Read Plain) → comes_plain ctx.flow adjacent p.col text ≡ true → models.plain ctx text p ≡ Ok r → begins_plain ctx.flow adjacent p.col text ≡ true
+pub begins_as_read : (ctx : Context) (adjacent : Bool) (text : List ℕ) (p : Position) (r : Read Plain) → comes_plain ctx.flow adjacent p.col text ≡ true → models.plain ctx text p ≡ Ok r → begins_plain ctx.flow adjacent p.col text ≡ true
 unfolding at_dash
 begins_as_read ctx adjacent [] p r h e = cc
 begins_as_read ctx adjacent (c ∷ t) p r h e = by_dash (c == 45) refl
@@ -77,7 +76,7 @@ begins_as_read ctx adjacent (c ∷ t) p r h e = by_dash (c == 45) refl
 
 -- ---- the piece
 
-module _ (a : Account) (ctx : Context) (text : List ℕ) (r : Read Plain) (flows : is_in_flow a ≡ ctx.flow) (column : collection_column a ≡ collection_of ctx.indent)
+module _ (a : Account) (ctx : Context) (text : List ℕ) (flows : is_in_flow a ≡ ctx.flow) (column : collection_column a ≡ collection_of ctx.indent)
     (begins : begins_plain (is_in_flow a) (is_adjacent a.before) a.position.col text ≡ true) where
   found : (piece gap rest value : List ℕ) → text ≡ piece ++ (gap ++ rest) → is_whole_plain (is_in_flow a) (collection_column a) piece (gap ++ rest) ≡ true → is_separation false gap rest ≡ true
       → plain_value piece ≡ Some value → ReadAs a text (scalar plain value) a.position rest (position_after a.position (piece ++ gap) rest)
@@ -95,15 +94,13 @@ module _ (a : Account) (ctx : Context) (text : List ℕ) (r : Read Plain) (flows
       begins_text : {t : List ℕ} → text ≡ t → begins_plain (is_in_flow a) (is_adjacent a.before) a.position.col t ≡ true
       begins_text e = sym (ap (begins_plain (is_in_flow a) (is_adjacent a.before) a.position.col) e) ∙ begins
 
-  by : (x : Result (Read Plain) Fault) → x ≡ Ok r → PlainEndsAs ctx a.position text x → ReadAs a text (scalar plain r.value.text) a.position r.rest r.position
-  by x e (refuses f why is) = absurd (cc (e, is))
-  by x e (reads piece gap rest value cut whole white ends is read) =
-      let same : after_plain a.position piece gap rest value ≡ r = cc in
+  by : (x : Read Plain) → IsPlainRead ctx a.position text x → ReadAs a text (scalar plain x.value.text) a.position x.rest x.position
+  by x (whole_plain piece gap rest value cut whole white ends is) =
       let here : is_whole_plain (is_in_flow a) (collection_column a) piece (gap ++ rest) ≡ true = rw (flows, column) whole in
-      subst (λ (q : Read Plain). ReadAs a text (scalar plain q.value.text) a.position q.rest q.position) same (found piece gap rest value cut here (gap_is_separation gap rest white) is)
+      found piece gap rest value cut here (gap_is_separation gap rest white) is
 
 -- a plain scalar that was read is the piece of its token, and after it blanks and breaks were passed
 pub plain_is_read : PlainIsRead
 plain_is_read a ctx text r nul flows column comes indented is =
     let begins : begins_plain (is_in_flow a) (is_adjacent a.before) a.position.col text ≡ true = rw flows (begins_as_read ctx (is_adjacent a.before) text a.position r comes is) in
-    by a ctx text r flows column begins (models.plain ctx text a.position) is (scans_end ctx text a.position nul (begins_solid_with (is_in_flow a) (is_adjacent a.before) a.position.col text begins) indented)
+    by a ctx text flows column begins r (read_as is (scans_end ctx text a.position nul (begins_solid_with (is_in_flow a) (is_adjacent a.before) a.position.col text begins) indented))

@@ -1,20 +1,23 @@
 -- What the scan of a quoted scalar reads is its piece.
-use Rattle.proof_scanner.proofs.Common.{[], and_parts, ap, append_assoc, append_cancel_right, At, at_backslash, at_digit, at_escaped_break, at_inside, at_line, at_named, at_quote, begins_with, Bool, breaking, closed, Context, digit_value, digits, doubled, end_in, ends_before, eqb-true, Err, Escape, escape_of, fail, false, Fault, gap, has_no_nul, if◌then◌else◌, in_line, in_line_position, inside, is_before_line_feed, is_cr_lf, is_hex, is_scalar, is_some, IsPiece, joined, line_position, List, list_all, Mode, nat_lt, not, nothing, Ok, on, Option, past, past_break, Position, position_after, position_past, quote_of, quoted, quoted_from, quoted_style, QuotedEndsAs, QuotedIsRead, QuotedState, Read, ReadAs, refl, Result, run, same_break, same_feed, scalar, slice_index, Some, Stop, stop, subst, suc, sym, Tok, true, Turn, turned, unless, value_of, zero, ℕ, ◌&&◌, ◌*◌, ◌++◌, ◌+◌, ◌==◌, ◌||◌, ◌∙◌, ◌∷◌, ◌≡◌}
+use Rattle.proof_scanner.proofs.Common.{[], and_parts, ap, append_assoc, append_cancel_right, are_single, At, at_backslash, at_digit, at_escaped_break, at_inside, at_line, at_named, at_quote, begins_with, Bool, breaking, closed, Context, digit_value, digits, doubled, end_in, ends_before, eqb-true, Err, escape_of, fail, false, Fault, has_no_nul, if◌then◌else◌, in_line, in_line_position, is_before_line_feed, is_cr_lf, is_hex, is_scalar, is_some, IsPiece, IsQuotedRead, joined, line_position, List, list_all, Mode, nat_lt, not, nothing, Ok, on, Option, past, past_break, Position, position_after, position_past, quote_of, quoted, quoted_from, quoted_style, QuotedIsRead, QuotedState, Quotes, Read, read_as, ReadAs, refl, Result, run, same_break, same_feed, scalar, slice_index, Some, Stop, stop, suc, sym, Tok, true, Turn, turned, unless, value_of, zero, ℕ, ◌&&◌, ◌*◌, ◌++◌, ◌+◌, ◌==◌, ◌||◌, ◌∙◌, ◌∷◌, ◌≡◌}
+use Rattle.model_scanner.specs.declared.kind.Escape.{Escape}
+use Rattle.model_scanner.specs.declared.kind.Escape.TheVariants.{Char, Code, Unknown}
+use Rattle.model_scanner.specs.declared.kind.QuotedPart.TheVariants as part
+use Rattle.model_scanner.specs.declared.kind.Quotes.TheVariants.{Single, Double}
 use Rattle.yaml_chars.specs.Class.{is_break, is_blank}
 use Rattle.yaml_tokens.specs.declared.problem.Problem.TheVariants as problem
 use Rattle.defs_text.specs.Classes as classes
 use Rattle.defs_token.specs.Account.{Account}
-use Rattle.model_scanner.specs.Quoted.{first, after, named, at_char, at_break, at_gap, refused, turn_in, turn, ended}
-use Rattle.proof_lexers.specs.QuotedEnds.{reads, refuses}
+use Rattle.model_scanner.specs.Quoted.{at_break, at_char, at_gap, at_part, ended, first, named, refused, turn, turn_in}
 use Rattle.proof_lexers.proofs.Quoted.ScanEnds.{scans_end}
 
 -- ---- the position goes along with the characters
 
 -- what stands next, where a mode knows it
 abbrev fits : Mode → List ℕ → Type 0
-fits breaking a = is_break (slice_index a 0) ≡ true
+fits (at_part part.Breaking) a = is_break (slice_index a 0) ≡ true
 fits named a = is_break (slice_index a 0) ≡ false
-fits doubled a = (slice_index a 0 == 39) ≡ true
+fits (at_part part.Doubled) a = (slice_index a 0 == 39) ≡ true
 fits _ a = Unit {0}
 
 -- what a turn does at a character: it stays before it, fails, or is after it
@@ -125,9 +128,9 @@ module _ (single : Bool) (ctx : Context) (start : Position) (c : ℕ) (a : List 
       by (Err f) = fails f
 
   named_goes : (e : Escape) (s : QuotedState) → is_break c ≡ false → Goes s.position c a (at_named start e s)
-  named_goes (Escape.char d) s h = goes _ (past_char s.position c a h) tt
-  named_goes (Escape.code more) s h = goes _ (past_char s.position c a h) tt
-  named_goes Escape.unknown s h = fails _
+  named_goes (Char d) s h = goes _ (past_char s.position c a h) tt
+  named_goes (Code k) s h = goes _ (past_char s.position c a h) tt
+  named_goes Unknown s h = fails _
 
   digit_goes : (more value : ℕ) (s : QuotedState) → is_break c ≡ false → Goes s.position c a (at_digit start more value s)
   digit_goes zero value s h = by (is_scalar value) refl
@@ -152,15 +155,15 @@ module _ (single : Bool) (ctx : Context) (start : Position) (c : ℕ) (a : List 
       by false e = fails _
 
   turn_goes : (m : Mode) (s : QuotedState) → fits m (c ∷ a) → Goes s.position c a (turn_in single ctx start m s c a)
-  turn_goes first s f = start_goes s
-  turn_goes inside s f = line_goes s
-  turn_goes gap s f = gap_or_goes s (at_line single ctx start c a s) (λ e. start_goes s)
-  turn_goes breaking s f = escaped_goes s f
-  turn_goes after s f = gap_or_goes s (if c == quote_of single then at_quote single a s else at_line single ctx start c a s) (λ e. after_goes s e)
-  turn_goes doubled s f = char_goes s (quote_is_no_break c f)
+  turn_goes (at_part part.First) s f = start_goes s
+  turn_goes (at_part part.Inside) s f = line_goes s
+  turn_goes (at_part part.Gap) s f = gap_or_goes s (at_line single ctx start c a s) (λ e. start_goes s)
+  turn_goes (at_part part.Breaking) s f = escaped_goes s f
+  turn_goes (at_part part.After) s f = gap_or_goes s (if c == quote_of single then at_quote single a s else at_line single ctx start c a s) (λ e. after_goes s e)
+  turn_goes (at_part part.Doubled) s f = char_goes s (quote_is_no_break c f)
   turn_goes named s f = named_goes (escape_of c) s f
   turn_goes (digits more value) s f = hex_goes more value s
-  turn_goes closed s f = stays s refl
+  turn_goes (at_part part.Closed) s f = stays s refl
 
 -- What a run passed, and the position after it.
 record Went (p : Position) (text rest : List ℕ) (q : Position) : Type 0 where
@@ -187,13 +190,13 @@ module _ (single : Bool) (ctx : Context) (start : Position) where
       by others (on u) (goes v position fit) e = one_more c a s.position u.position t.rest t.state.position position (others u fit e)
 
   closed_at : (m : Mode) (rest : List ℕ) (p : Position) (text : List ℕ) (r : Read (List ℕ)) → end_in start m rest p text ≡ Ok r → (r.rest ≡ rest) × (r.position ≡ p)
-  closed_at closed rest p text r e = let same : record { rest = rest; position = p; value = text } ≡ r = cc in rw (← same) (refl, refl)
-  closed_at first rest p text r e = cc
-  closed_at inside rest p text r e = cc
-  closed_at gap rest p text r e = cc
-  closed_at breaking rest p text r e = cc
-  closed_at after rest p text r e = cc
-  closed_at doubled rest p text r e = cc
+  closed_at (at_part part.Closed) rest p text r e = let same : record { rest = rest; position = p; value = text } ≡ r = cc in rw (← same) (refl, refl)
+  closed_at (at_part part.First) rest p text r e = cc
+  closed_at (at_part part.Inside) rest p text r e = cc
+  closed_at (at_part part.Gap) rest p text r e = cc
+  closed_at (at_part part.Breaking) rest p text r e = cc
+  closed_at (at_part part.After) rest p text r e = cc
+  closed_at (at_part part.Doubled) rest p text r e = cc
   closed_at named rest p text r e = cc
   closed_at (digits more value) rest p text r e = cc
 
@@ -230,9 +233,9 @@ module _ (a : Account) (more body rest value : List ℕ) where
   abbrev piece : (single : Bool) → List ℕ
   piece single = quote_of single ∷ (body ++ quote_of single ∷ [])
 
-  is_of_token : (single : Bool) → value_of single body ≡ Some value → ends_before single rest ≡ true → (following : Option Tok) → IsPiece a (piece single) rest following a.position (scalar (quoted_style single) value)
-  is_of_token true is ends following = ((body, refl, is, no_quote (begins_with 39 rest) ends), refl)
-  is_of_token false is ends following = ((body, refl, is), refl)
+  is_of_token : (quotes : Quotes) → value_of (are_single quotes) body ≡ Some value → ends_before (are_single quotes) rest ≡ true → (following : Option Tok) → IsPiece a (piece (are_single quotes)) rest following a.position (scalar (quoted_style quotes) value)
+  is_of_token Single is ends following = ((body, refl, is, no_quote (begins_with 39 rest) ends), refl)
+  is_of_token Double is ends following = ((body, refl, is), refl)
 
   position_of : (single : Bool) (position : Position) → more ≡ body ++ quote_of single ∷ rest → Went (past a.position) more rest position → position ≡ position_after a.position (piece single) rest
   position_of single position cut w =
@@ -240,25 +243,20 @@ module _ (a : Account) (more body rest value : List ℕ) where
       let same : w.passed ≡ body ++ quote_of single ∷ [] = append_cancel_right w.passed (body ++ quote_of single ∷ []) rest (sym w.cut ∙ all) in
       w.is_position ∙ ap (λ l. position_after (past a.position) l rest) same ∙ ap (λ q. position_after q (body ++ quote_of single ∷ []) rest) (past_char a.position (quote_of single) ((body ++ quote_of single ∷ []) ++ rest) (no_break_quote single))
 
-  found : (single : Bool) (position : Position) → more ≡ body ++ quote_of single ∷ rest → value_of single body ≡ Some value → ends_before single rest ≡ true → Went (past a.position) more rest position
-      → ReadAs a (quote_of single ∷ more) (scalar (quoted_style single) value) a.position rest position
-  found single position cut is ends w = record {
-    first = quote_of single;
-    more = body ++ quote_of single ∷ [];
+  found : (quotes : Quotes) (position : Position) → more ≡ body ++ quote_of (are_single quotes) ∷ rest → value_of (are_single quotes) body ≡ Some value → ends_before (are_single quotes) rest ≡ true → Went (past a.position) more rest position
+      → ReadAs a (quote_of (are_single quotes) ∷ more) (scalar (quoted_style quotes) value) a.position rest position
+  found quotes position cut is ends w = record {
+    first = quote_of (are_single quotes);
+    more = body ++ quote_of (are_single quotes) ∷ [];
     separation = [];
-    is_text = ap (λ l. quote_of single ∷ l) (cut ∙ sym (append_assoc body (quote_of single ∷ []) rest));
+    is_text = ap (λ l. quote_of (are_single quotes) ∷ l) (cut ∙ sym (append_assoc body (quote_of (are_single quotes) ∷ []) rest));
     is_filled = refl;
-    is_piece = is_of_token single is ends;
-    is_end = position_of single position cut w;
+    is_piece = is_of_token quotes is ends;
+    is_end = position_of (are_single quotes) position cut w;
   }
 
 -- a quoted scalar that was read is the piece of its token
 pub quoted_is_read : QuotedIsRead
-quoted_is_read a single ctx more r nul e = by (quoted single ctx (quote_of single ∷ more) a.position) e (scans_end single ctx more a.position (some_chars more nul)) (quoted_passes single ctx more a.position r e)
-  where
-    by : (x : Result (Read (List ℕ)) Fault) → x ≡ Ok r → QuotedEndsAs single ctx a.position more x → Went (past a.position) more r.rest r.position
-        → ReadAs a (quote_of single ∷ more) (scalar (quoted_style single) r.value) a.position r.rest r.position
-    by x e (refuses f why is) w = absurd (cc (e, is))
-    by x e (reads body rest value position cut is ends k) w =
-        let same : record { rest = rest; position = position; value = value } ≡ r = cc in
-        rw (← same) (found a more body rest value single position cut is ends (subst (λ (q : Read (List ℕ)). Went (past a.position) more q.rest q.position) (sym same) w))
+quoted_is_read a quotes ctx more r nul e =
+    let q : IsQuotedRead (are_single quotes) more r = read_as e (scans_end (are_single quotes) ctx more a.position (some_chars more nul)) in
+    found a more q.body r.rest r.value quotes r.position q.is_text q.is_value q.may_end (quoted_passes (are_single quotes) ctx more a.position r e)

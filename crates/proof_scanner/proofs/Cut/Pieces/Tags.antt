@@ -1,11 +1,9 @@
 -- What the scan of a tag reads is its piece.
-use Rattle.proof_scanner.proofs.Common.{[], after, after_tag, all_leading, all_of, and_parts, ap, begins_with_mark, Bool, codes, decoded, eqb-true, false, Fault, has_no_break, if◌then◌else◌, is_alpha, is_break, is_decimal_digit, is_letter, is_same, is_tag, is_uri, leading, List, may_follow, None, Ok, position_in_line, Read, ReadAs, refl, Result, shorthand, Some, span_cut, Tag, tag_by, tag_of_class, TagEndsAs, TagIsRead, tags_end, Tok, true, verbatim, written_tag, ℕ, ◌++◌, ◌==◌, ◌||◌, ◌∷◌, ◌≡◌}
+use Rattle.proof_scanner.proofs.Common.{[], after, all_leading, all_of, and_parts, ap, begins_with_mark, Bool, codes, decoded, eqb-true, false, has_no_break, if◌then◌else◌, is_alpha, is_break, is_decimal_digit, is_letter, is_same, is_tag, is_uri, IsTagRead, leading, List, may_follow, None, Ok, Position, position_in_line, Read, read_as, refl, shorthand, Some, span_cut, subst, sym, Tag, tag_by, tag_of_class, TagIsRead, tags_end, Tok, true, verbatim, whole_tag, written_tag, ℕ, ◌++◌, ◌==◌, ◌||◌, ◌∙◌, ◌∷◌, ◌≡◌}
 use Rattle.defs_text.specs.Tags.{named}
-use Rattle.defs_token.specs.Account.{is_in_flow}
 use Rattle.model_scanner.specs.Tag as models
-use Rattle.proof_lexers.specs.TagEnds.{reads, refuses}
 use Rattle.proof_scanner.proofs.Cut.Pieces.Separations.{no_break_append}
-use Rattle.proof_scanner.proofs.Cut.Pieces.Names.{all_in_line}
+use Rattle.proof_scanner.proofs.Cut.Pieces.Names.{all_in_line, IsProperty, property_read_as}
 
 -- ---- no break stands in a tag
 
@@ -83,21 +81,21 @@ written_in_line (c ∷ t) g h = by (c == 60) refl h
 
 -- ---- the piece
 
--- a tag that was read is the piece of its token
-pub tag_is_read : TagIsRead
-tag_is_read a in_flow more r nul flows e = by (models.tag in_flow (33 ∷ more) a.position) e (tags_end in_flow more a.position)
+pub tag_property : (fl : Bool) (p : Position) (text more : List ℕ) → text ≡ 33 ∷ more → (x : Read models.Tag) → models.tag fl text p ≡ Ok x → IsProperty fl (Tok.tag x.value.handle x.value.suffix) p text x.rest x.position
+tag_property fl p text more e x k = by x (read_as (ap (λ r. models.tag fl r p) (sym e) ∙ k) (tags_end fl more p))
   where
-    by : (x : Result (Read models.Tag) Fault) → x ≡ Ok r → TagEndsAs in_flow a.position more x → ReadAs a (33 ∷ more) (Tok.tag r.value.handle r.value.suffix) a.position r.rest r.position
-    by x e (refuses why reason k) = absurd (cc (e, k))
-    by x e (reads piece rest handle suffix cut is follows k) =
-        let same : after_tag a.position (33 ∷ piece) rest handle suffix ≡ r = cc in
-        let may : may_follow (is_in_flow a) rest ≡ true = rw flows follows in
-        rw (← same) (record {
+    by : (y : Read models.Tag) → IsTagRead fl p more y → IsProperty fl (Tok.tag y.value.handle y.value.suffix) p text y.rest y.position
+    by y (whole_tag piece rest handle suffix cut is follows) =
+        let line : has_no_break (33 ∷ piece) ≡ true = written_in_line piece (record { handle = handle; suffix = suffix }) is in
+        record {
           first = 33;
           more = piece;
-          separation = [];
-          is_text = ap (λ l. 33 ∷ l) cut;
-          is_filled = refl;
-          is_piece = λ following. ((is, may), refl);
-          is_end = position_in_line a.position (33 ∷ piece) rest (written_in_line piece (record { handle = handle; suffix = suffix }) is);
-        })
+          cut = e ∙ ap (λ l. 33 ∷ l) cut;
+          in_line = line;
+          end_is = position_in_line p (33 ∷ piece) rest line;
+          is_piece = λ a following q flow. ((is, subst (λ b. may_follow b rest ≡ true) (sym flow) follows), sym q);
+        }
+
+-- a tag that was read is the piece of its token
+pub tag_is_read : TagIsRead
+tag_is_read a in_flow more r nul flows e = property_read_as a in_flow (Tok.tag r.value.handle r.value.suffix) (33 ∷ more) r.rest r.position flows (tag_property in_flow a.position (33 ∷ more) more refl r e)
