@@ -1,5 +1,5 @@
 pub mod BlockLemmas
-pub mod DispatchLemmas
+pub mod FirstFetch
 pub mod ReadsLemmas
 pub mod WhereLemmas
 pub mod FollowLemmas

@@ -1,10 +1,10 @@
 -- A key or another scalar that was fetched at once, against the model's steps.
 use Rattle.std.specs.Prelude.{IfSome}
-use Rattle.yaml_scanner.proofs.Common.{[], along, ap, arith, AwaitsNode, Bool, cleared, Columns, ends_open, Err, false, Fault, fetch, fetch_next, fetch_rest, Fetched, Fetcher, Fetches, Follows, Held, held, Indent, Key, length, level, List, must_be_key, ne_eqb, None, Ok, once, Option, OutOfMemory, past, Position, position_of, Reads, Reads-saw, Reads-then, refl, Result, Runs, RunsTwice, ScannerState, seen, Sees, skip_to_next_token, Some, stale, Stands, state, subst, sym, TakesKey, TakesLine, TakesNode, Token, top_needs_block_end, true, twice, unroll_indent, value_level, WindowView, with_key, with_line, without_open, ℕ, ◌&&◌, ◌+◌, ◌<◌, ◌==◌, ◌∙◌, ◌∷◌, ◌≡◌, ◌≢◌, ◌≤◌}
+use Rattle.yaml_scanner.proofs.Common.{[], along, ap, arith, AwaitsNode, Bool, cleared, Columns, ends_open, Err, false, Fault, fetch, fetch_next, fetch_rest, Fetched, Fetcher, Fetches, Follows, Held, held, IfErr, Indent, IsShort, Key, length, level, List, must_be_key, ne_eqb, None, Ok, once, OnOk, Option, past, Position, position_of, Reads-saw, Reads-then, refl, Result, Runs, RunsTwice, ScannerState, seen, Sees, skip_to_next_token, Some, stale, Stands, state, subst, sym, TakesKey, TakesLine, TakesNode, Token, top_needs_block_end, true, twice, unroll_indent, value_level, WindowView, with_key, with_line, without_open, ℕ, ◌&&◌, ◌+◌, ◌<◌, ◌==◌, ◌∙◌, ◌∷◌, ◌≡◌, ◌≤◌}
 use Rattle.yaml_chars.specs.declared.block_line.BlockLine.{BlockLine}
 use Rattle.yaml_chars.specs.declared.block_line.BlockLine.TheVariants as taken
 use Rattle.yaml_scanner.proofs.ReadsLemmas.{Reads-map, Reads-along}
-use Rattle.yaml_scanner.proofs.FollowLemmas.{fetched_on}
+use Rattle.yaml_scanner.proofs.FollowLemmas.{fetched_on, stopped}
 use Rattle.yaml_scanner.proofs.PairTexts.{same_place, along_is}
 use Rattle.yaml_scanner.proofs.PairFollows.{keys_split, seen_free, levels_split, fetched_twice}
 use Rattle.yaml_scanner.proofs.NodeFetches.{before, key_runs, line_runs}
@@ -166,11 +166,14 @@ fetched_as f h x y (Err e) same (once d) = once (Reads-saw _ _ same d (λ a b p 
 fetched_as f h x y (Err e) same (twice i d) = absurd i
 
 -- one fetch more, or two
-pub fetched_some : {T X E : Type 0} (x y : Fetcher T) (v : X) → x.kept ≡ None → x.tokens.ended ≡ false → Follows x → Fetched {E = E} fetch x (Ok v) y → Fetches x y → (y.tokens.ended ≡ true → y.window.done ≡ true) → Follows y
-fetched_some x y v k g f (once d) m n = fetched_on x y k g f d m n
-fetched_some x y v k g f (twice i d) m n = fetched_twice x y k g f d m n
+pub fetched_some : {T X E : Type 0} (x y : Fetcher T) (r : Result X E) → x.kept ≡ None → x.tokens.ended ≡ false → Follows x → Fetched fetch x r y → Fetches x y → OnOk r (y.tokens.ended ≡ true → y.window.done ≡ true) → OnOk r (Follows y)
+fetched_some x y (Ok v) k g f (once d) m n = fetched_on x y k g f d m n
+fetched_some x y (Ok v) k g f (twice i d) m n = fetched_twice x y k g f d m n
+fetched_some x y (Err e) k g f d m n = tt
 
--- a fetch that is refused is one of the model's
-pub fetched_refused : {T X E : Type 0} (x y : Fetcher T) (e : E) → Fetched {X = X} fetch x (Err e) y → Reads x.window y.window (λ a b. y.fault ≢ OutOfMemory → fetch (state a x) ≡ Err y.fault)
-fetched_refused x y e (once d) = d
-fetched_refused x y e (twice i d) = absurd i
+-- a fetch that is refused is one of the model's, and its fault may be kept
+pub fetched_refused : {T X E : Type 0} (x y : Fetcher T) (r : Result X E) → x.kept ≡ None → x.tokens.ended ≡ false → Follows x → Fetched fetch x r y → Fetches x y
+    → IfErr r (λ _. (mark : Position) (early : Bool) → (early ≡ false → IsShort x) → Follows (record y { kept = Some (record { fault = y.fault; mark = mark; early = early }) }))
+fetched_refused x y (Ok v) k g f d m = tt
+fetched_refused x y (Err e) k g f (once d) m = λ mark early short. stopped x y _ (record { fault = y.fault; mark = mark; early = early }) refl k g short f d m
+fetched_refused x y (Err e) k g f (twice i d) m = absurd i

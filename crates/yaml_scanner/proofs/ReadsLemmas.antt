@@ -11,8 +11,3 @@ Reads-along old new x y e f run = rw (e, f) run
 -- nothing was read
 pub Reads-none : {T : Type 0} (s : WindowView T) → Reads s s (λ a b. b ≡ a)
 Reads-none s = record { start = refl; at = omega arith; left = omega arith; back = λ w p. p; reads = λ w p. refl }
-
--- a fault that is passed on
-pub exits : {X E : Type 0} (P : E → Type 0) (r : Result X E) (e : E) → IsErrAnd r (λ y. y ≡ e) → P e → IfErr r P
-exits P (Ok x) e h p = absurd h
-exits P (Err y) e h p = rw h p

@@ -16,9 +16,6 @@ moves_then x0 x1 x2 m n = record {
   backlog = n.backlog ∙ m.backlog;
 }
 
-moves_more : {T : Type 0} {u1 d1 u2 d2 : ℕ} (x y : Fetcher T) → u1 ≤ u2 → d2 ≤ d1 → Moves x y u1 d1 → Moves x y u2 d2
-moves_more x y u d m = record { bound = omega (arith, m.bound, u, d); given = m.given; start = m.start; stop = m.stop; over = m.over; fault = m.fault; backlog = m.backlog }
-
 keeps_then : {T : Type 0} (x0 x1 x2 : Fetcher T) → Fetches x0 x1 → Fetches x1 x2 → Fetches x0 x2
 keeps_then x0 x1 x2 m n = record { given = n.given ∙ m.given; over = n.over ∙ m.over; fault = n.fault ∙ m.fault; backlog = n.backlog ∙ m.backlog }
 
@@ -40,11 +37,6 @@ runs_stop x y k e m = record { comes = Reads-map _ _ m.comes (λ a b p n. rw (p 
 pub runs_then : {T X Y D E : Type 0} {f k : ScannerState → Result ScannerState Fault} {u1 d1 u2 d2 : ℕ} (x y z : Fetcher T) (v : Y) (r : Result X E) → Runs {E = D} f x (Ok v) y u1 d1 → Runs k y r z u2 d2 → Runs (λ t. f t >>= k) x r z (u1 + u2) (d1 + d2)
 runs_then x y z v (Ok w) m n = record { comes = Reads-then _ _ _ m.comes n.comes (λ a b d p q. rw p q); run = keeps_then x y z m.run n.run; bounds = moves_then x y z m.bounds n.bounds }
 runs_then x y z v (Err e) m n = record { comes = Reads-then _ _ _ m.comes n.comes (λ a b d p q i. rw p (q i)); run = keeps_then x y z m.run n.run; bounds = tt }
-
--- by an equation of the model's that what comes decides
-pub runs_seen : {T X E : Type 0} {f h : ScannerState → Result ScannerState Fault} {u1 d1 u2 d2 : ℕ} (x y : Fetcher T) (r : Result X E) → Sees x.window (λ a. h (state a x) ≡ f (state a x)) → u1 ≤ u2 → d2 ≤ d1 → Runs f x r y u1 d1 → Runs h x r y u2 d2
-runs_seen x y (Ok v) s u d m = record { comes = Reads-saw _ _ s m.comes (λ a b p q. p ∙ q); run = m.run; bounds = moves_more x y u d m.bounds }
-runs_seen x y (Err e) s u d m = record { comes = Reads-saw _ _ s m.comes (λ a b p q n. p ∙ q n); run = m.run; bounds = tt }
 
 -- a step that looks at no character
 pub step_runs : {T X E : Type 0} {g : Held → Result Held Fault} {up : ℕ} (x y : Fetcher T) (r : Result X E) → Steps g x r y up → Runs (try_held g) x r y up 0

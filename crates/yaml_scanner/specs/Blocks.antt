@@ -8,7 +8,7 @@ use Rattle.model_scanner.specs.State.{Held, ScannerState, ◌>>=◌, push, on_he
 use Rattle.model_scanner.specs.Keys.{remove_implicit_key}
 use Rattle.model_scanner.specs.Space.{skip_spaces, skip_yaml_whitespace}
 use Rattle.model_scanner.specs.Flow.{allow_key}
-use Rattle.model_scanner.specs.Block.{check_dash, roll_entry, check_after_tab}
+use Rattle.model_scanner.specs.Block.{check_dash, roll_entry}
 
 -- after a `-` that was passed
 abbrev pub pass_dash : ScannerState → Result ScannerState Fault
@@ -30,7 +30,3 @@ begin_entry t =
 -- after a `?` and the space after it
 abbrev pub pass_key : ScannerState → Result ScannerState Fault
 pass_key t = skip_yaml_whitespace (skip_indicator t)
-
--- after the spaces and TABs of a `:`
-abbrev pub pass_tab : ScannerState → Result ScannerState Fault
-pass_tab t = lexed (space Yes t.rest t.held.position) t.held check_after_tab

@@ -7,6 +7,5 @@ pub mod Rowless
 pub mod Runs
 pub mod Scanned
 pub mod Shape
-pub mod Steps
 pub mod Waits
 pub mod Work

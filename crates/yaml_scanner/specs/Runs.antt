@@ -49,6 +49,7 @@ pub record Turns {T : Type 0} (g : Held → Held) (old new : Fetcher T) : Type 0
 pub record Holds {T : Type 0} (e : Fault) (old new : Fetcher T) : Type 0 where
   pub fault : new.fault ≡ e
   pub held : held new ≡ held old
+  pub tokens : new.tokens ≡ old.tokens
   pub bounds : Moves old new 0 0
   pub window : new.window ≡ old.window
 

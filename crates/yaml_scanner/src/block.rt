@@ -1,23 +1,21 @@
 //! Block collections (YAML 1.2, section 8.2), keys and values.
-ghost use Rattle.std.specs.Prelude.{◌≡◌, ◌<◌, ◌≤◌, ◌+◌, ◌==◌, ◌&&◌, ◌||◌, not, OnOk, Ok, Err, slice_index};
-ghost use Rattle.yaml_chars.specs.Class.{is_alpha, is_blank_or_breakz, is_break, is_flow};
-ghost use Rattle.yaml_chars.specs.WindowView.{Sees};
+ghost use Rattle.std.specs.Prelude.{◌≡◌, ◌<◌, ◌+◌, ◌||◌, OnOk, OnErr, Ok, Err};
+ghost use Rattle.yaml_chars.specs.Class.{is_break, is_flow};
 ghost use Rattle.yaml_tokens.specs.Shown.{tok_of};
 ghost use Rattle.model_scanner.specs.State.{put};
 ghost use Rattle.model_scanner.specs.Keys.{top_key};
-ghost use Rattle.model_scanner.specs.Space.{skip_spaces};
-ghost use Rattle.model_scanner.specs.Block.{check_block_entry, check_dash, fetch_block_entry, keyed, begin_key, check_key_space, fetch_key, check_after_tab, check_value_space, opens_pair, paired, begin_pair, insert_key, begin_keyless_pair, begin_keyless_mapping, begin_keyless_value, value_of, fetch_value};
-ghost use Rattle.yaml_scanner.specs.Blocks.{pass_dash, entry_level, begin_entry, pass_key, pass_tab};
+ghost use Rattle.model_scanner.specs.Block.{check_block_entry, fetch_block_entry, begin_key, check_key_space, fetch_key, check_value_space, opens_pair, paired, insert_key, begin_keyless_pair, begin_keyless_mapping, begin_keyless_value, value_of, fetch_value};
+ghost use Rattle.yaml_scanner.specs.Blocks.{pass_dash, entry_level, begin_entry, pass_key};
 ghost use Rattle.yaml_scanner.specs.Runs.{Becomes, Front, Runs, Steps, Turns};
 ghost use Rattle.yaml_scanner.specs.Shape.{held};
 ghost use Rattle.yaml_scanner_state.specs.ImplicitKeys.{keyed_by};
 
 use crate::fetcher::{Failed, Fetcher};
-use model_scanner::FlowLevel;
+use model_scanner::{Collection, FlowLevel};
 use yaml_chars::class::{is_alpha, is_blank_or_breakz, is_break, is_flow};
 use yaml_chars::{Characters, Marker};
-use yaml_lexers::{SkipTabs, Whitespace};
-use yaml_scanner_state::{Collection, ImplicitKey};
+use yaml_lexers::SkipTabs;
+use yaml_scanner_state::ImplicitKey;
 use yaml_tokens::{Fault, Problem, Token, TokenType};
 
 /// Whether a character after a `-` is a break or a flow indicator.
@@ -25,13 +23,6 @@ fn begins_apart(c: char) -> bool
     ensures { result ≡ (is_break c || is_flow c) }
 {
     is_break(c) || is_flow(c)
-}
-
-/// Whether a character is a `-`, or one of a word.
-fn begins_word(c: char) -> bool
-    ensures { result ≡ ((c == 45) || is_alpha c) }
-{
-    c == '-' || is_alpha(c)
 }
 
 impl<T: Characters> Fetcher<T> {
@@ -53,7 +44,8 @@ impl<T: Characters> Fetcher<T> {
     /// Whether an entry of a block sequence may stand here.
     #[tactic(auto, unfolding(model_scanner::specs::Block::check_block_entry))]
     fn check_block_entry(&mut self) -> Result<(), Failed>
-        ensures { Steps check_block_entry self.old result self.new 0 }
+        ensures steps { Steps check_block_entry self.old result self.new 0 }
+        ensures told { OnErr result (check_block_entry (held self.old) ≡ Err self.new.fault) }
     {
         if self.in_flow() {
             return Err(self.fail_here(Problem::BlockEntryInFlow));
@@ -64,32 +56,20 @@ impl<T: Characters> Fetcher<T> {
         Ok(())
     }
 
-    /// Steps over spaces and TABs after a `-`.
+    /// Steps over spaces and TABs after a `-`. A TAB must not stand between two dashes that are indicators.
+    #[tactic(auto, unfolding(model_scanner::specs::Block::check_dash))]
     fn pass_dash(&mut self) -> Result<(), Failed>
         ensures { Runs pass_dash self.old result self.new 0 0 }
     {
         let found = self.skip_spaces(SkipTabs::Yes)?;
-        self.check_dash(found)
-    }
-
-    /// Refuses a TAB between two dashes that are indicators.
-    #[tactic(auto, unfolding(model_scanner::specs::Block::check_dash))]
-    fn check_dash(&mut self, found: Whitespace) -> Result<(), Failed>
-        ensures { Runs (check_dash found) self.old result self.new 0 0 }
-    {
         self.window.lookahead(2);
-        if self.is_tab_before_dash(found) {
+        if found.found_tabs
+            && self.window.peek(0) == '-'
+            && is_blank_or_breakz(self.window.peek(1))
+        {
             return Err(self.fail_here(Problem::TabAfterDash));
         }
         Ok(())
-    }
-
-    /// Whether a TAB was found, and a `-` that is an indicator comes.
-    fn is_tab_before_dash(&self, found: Whitespace) -> bool
-        requires { 2 ≤ self.now.window.ahead }
-        ensures { Sees self.now.window (λ a. result ≡ (found.found_tabs && (slice_index a 0 == 45) && is_blank_or_breakz (slice_index a 1))) }
-    {
-        found.found_tabs && self.window.peek(0) == '-' && is_blank_or_breakz(self.window.peek(1))
     }
 
     /// Steps to the content of an entry.
@@ -139,7 +119,10 @@ impl<T: Characters> Fetcher<T> {
         ensures { Steps begin_key self.old result self.new 2 }
     {
         if self.in_flow() {
-            self.key_entry();
+            // An entry of a flow sequence has a key with `?`.
+            if let Some(FlowLevel::Entry) = self.flow.top() {
+                self.flow.set_top(FlowLevel::Keyed);
+            }
             return Ok(());
         }
         let mark = self.window.mark();
@@ -147,15 +130,6 @@ impl<T: Characters> Fetcher<T> {
             return Err(self.fail(Fault::At(Problem::KeyNotAllowed, mark)));
         }
         self.roll_indent(mark.col(), None, Collection::Mapping, mark)
-    }
-
-    /// Notes that an entry of a flow sequence has a key with `?`.
-    fn key_entry(&mut self)
-        ensures { Turns (λ s. record s { flow = keyed s.flow }) self.old self.new }
-    {
-        if let Some(FlowLevel::Entry) = self.flow_entry() {
-            self.set_flow_entry(FlowLevel::Keyed);
-        }
     }
 
     /// Steps over a `?` and what must stand after it.
@@ -200,52 +174,29 @@ impl<T: Characters> Fetcher<T> {
         ensures runs { Turns (λ s. record s { flow = paired s.flow }) self.old self.new }
         ensures value { result ≡ opens_pair (held self.old).flow }
     {
-        match self.flow_entry() {
+        match self.flow.top() {
             Some(FlowLevel::Entry) => {
-                self.set_flow_entry(FlowLevel::Pair);
+                self.flow.set_top(FlowLevel::Pair);
                 true
             }
             _ => false,
         }
     }
 
-    /// Refuses what must not follow a `:` and a TAB.
-    #[tactic(auto, using(crate::proofs::BlockLemmas::peek_is), unfolding(model_scanner::specs::Block::check_value_space))]
+    /// Steps over spaces and TABs after a `:` and a TAB. TABs alone must not stand before a word or a `-`.
+    #[tactic(auto, using(crate::proofs::BlockLemmas::peek_is), unfolding(model_scanner::specs::Block::check_value_space, model_scanner::specs::Block::check_after_tab))]
     fn check_value_space(&mut self) -> Result<(), Failed>
         ensures { Runs check_value_space self.old result self.new 0 0 }
     {
         if self.window.look_ch() != '\t' {
             return Ok(());
         }
-        self.pass_tab()
-    }
-
-    /// Steps over spaces and TABs after a `:`.
-    fn pass_tab(&mut self) -> Result<(), Failed>
-        ensures { Runs pass_tab self.old result self.new 0 0 }
-    {
         let found = self.skip_spaces(SkipTabs::Yes)?;
-        self.check_after_tab(found)
-    }
-
-    /// Refuses TABs alone between a `:` and a word or a `-`.
-    #[tactic(auto, using(crate::proofs::BlockLemmas::peek_is), unfolding(model_scanner::specs::Block::check_after_tab))]
-    fn check_after_tab(&mut self, found: Whitespace) -> Result<(), Failed>
-        requires { 0 < self.old.window.ahead }
-        ensures { Runs (check_after_tab found) self.old result self.new 0 0 }
-    {
-        if self.is_word_after_tab(found) {
+        let c = self.window.ch();
+        if !found.has_valid_yaml_ws && (c == '-' || is_alpha(c)) {
             return Err(self.fail_here(Problem::TabAfterColon));
         }
         Ok(())
-    }
-
-    /// Whether no space was found, and a word or a `-` comes.
-    fn is_word_after_tab(&self, found: Whitespace) -> bool
-        requires { 0 < self.now.window.ahead }
-        ensures { Sees self.now.window (λ a. result ≡ (not found.has_valid_yaml_ws && ((slice_index a 0 == 45) || is_alpha (slice_index a 0)))) }
-    {
-        !found.has_valid_yaml_ws && begins_word(self.window.ch())
     }
 
     /// Gives the key of a `:`, if it has one, its token, and its mapping a start if the key is the first.
@@ -259,13 +210,21 @@ impl<T: Characters> Fetcher<T> {
         Ok(())
     }
 
-    /// Gives the key that began without `?` its token, and its mapping a start if the key is the first.
-    #[tactic(auto, using(yaml_scanner_state::proofs::KeyLemmas::with_top_seen), unfolding(model_scanner::specs::Block::insert_key))]
+    /// Gives the key that began without `?` its token, and its mapping a start if the key is the first. In a flow sequence a pair
+    /// begins before the key.
+    #[tactic(auto, using(yaml_scanner_state::proofs::KeyLemmas::with_top_seen), unfolding(model_scanner::specs::Block::insert_key, model_scanner::specs::Block::begin_pair))]
     fn insert_key(&mut self, key: ImplicitKey, mark: Marker, opens_pair: bool) -> Result<(), Failed>
         ensures { Steps (insert_key (keyed_by self.old.tokens.given key) mark opens_pair) self.old result self.new 5 }
     {
         self.put_token(key.position, key.mark, TokenType::Key)?;
-        self.begin_pair(key, mark, opens_pair)?;
+        if opens_pair {
+            // The key of a pair stands on the line of its `:`.
+            if key.mark.line() < mark.line() {
+                return Err(self.fail(Fault::At(Problem::ColonMisplaced, mark)));
+            }
+            let here = self.window.mark();
+            self.put_token(key.position, here, TokenType::FlowMappingStart)?;
+        }
         let col = key.mark.col();
         self.roll_indent(col, Some(key.position), Collection::Mapping, mark)?;
         self.roll_one_col_indent()?;
@@ -289,22 +248,6 @@ impl<T: Characters> Fetcher<T> {
             return Err(self.fail(Fault::OutOfMemory));
         }
         Ok(())
-    }
-
-    /// Begins a pair of a flow sequence, before its key, which stands on the line of its `:`.
-    #[tactic(auto, unfolding(model_scanner::specs::Block::begin_pair))]
-    fn begin_pair(&mut self, key: ImplicitKey, mark: Marker, opens_pair: bool) -> Result<(), Failed>
-        ensures runs { Steps (begin_pair (keyed_by self.old.tokens.given key) mark opens_pair) self.old result self.new 1 }
-        ensures given { OnOk result (self.new.tokens.given ≡ self.old.tokens.given) }
-    {
-        if !opens_pair {
-            return Ok(());
-        }
-        if key.mark.line() < mark.line() {
-            return Err(self.fail(Fault::At(Problem::ColonMisplaced, mark)));
-        }
-        let here = self.window.mark();
-        self.put_token(key.position, here, TokenType::FlowMappingStart)
     }
 
     /// A `:` after a key that began with `?`, or without a key.

@@ -52,7 +52,7 @@ pub struct Fetcher<T: Characters> {
     pub(crate) fault: Fault,
 }
 
-/// What a function gives in place of a fault, which the fetcher holds in a field: so it takes one byte where a fault takes 32.
+/// What a function gives in place of a fault, which is held in a field: so it takes one byte where a fault takes 32.
 #[derive(Clone, Copy)]
 pub struct Failed;
 

@@ -56,8 +56,10 @@ impl<T: Characters> Fetcher<T> {
         ensures ok { OnOk result (Follows self.new) }
         ensures err { IfErr result (λ _. (mark : Position) (early : Bool) → (early ≡ false → IsShort self.old) → Follows (record self.new { kept = Some (record { fault = self.new.fault; mark = mark; early = early }) })) }
     {
-        self.fetch()?;
-        Ok(())
+        if !self.started {
+            return self.fetch_stream_start();
+        }
+        self.fetch_next()
     }
 
     /// Fetches tokens until the next one can be handed out: until no key may come before it. Where more wait before that than
@@ -125,23 +127,14 @@ impl<T: Characters> Fetcher<T> {
         Failed
     }
 
-    /// Whether the next token can be handed out, or the stream's end was fetched.
+    /// Whether the next token can be handed out, since no key may come before it any more, or the stream's end was fetched.
     fn is_ready(&self) -> bool
         ensures ended { result ≡ false → self.now.tokens.ended ≡ false }
         ensures waits { result ≡ false → IsShort self.now }
         ensures some { result ≡ true → self.now.tokens.ended ≡ false → 0 < waiting self.now.tokens }
         ensures front { result ≡ true → self.now.tokens.ended ≡ false → list_any is_front self.now.keys ≡ false }
     {
-        self.tokens.has_ended() || !self.needs_more()
-    }
-
-    /// Whether the next token may still get a key before it.
-    fn needs_more(&self) -> bool
-        ensures waits { result ≡ true → IsShort self.now }
-        ensures some { result ≡ false → 0 < waiting self.now.tokens }
-        ensures front { result ≡ false → list_any is_front self.now.keys ≡ false }
-    {
-        self.tokens.len() == 0 || self.keys.may_precede()
+        self.tokens.has_ended() || self.tokens.len() > 0 && !self.keys.may_precede()
     }
 
     /// Hands out the next token.

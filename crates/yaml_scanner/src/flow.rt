@@ -2,17 +2,15 @@
 ghost use Rattle.std.specs.Prelude.{◌≡◌, ◌<◌, ◌∷◌, Ok, Err, true, false, slice_index};
 ghost use Rattle.yaml_chars.specs.WindowView.{Reads, after_char};
 ghost use Rattle.yaml_tokens.specs.Shown.{tok_of};
-ghost use Rattle.model_scanner.specs.State.{push, with_top, top};
-ghost use Rattle.model_scanner.specs.Flow.{increase_flow_level, begin_flow, pass_indicator, end_flow_pair, decrease_flow_level, adjacent_in_flow, end_flow, end_entry, fetch_flow_collection_start, fetch_flow_collection_end, fetch_flow_entry};
-ghost use Rattle.yaml_scanner_state.specs.Collections.{level_of, flow_start, flow_end};
+ghost use Rattle.model_scanner.specs.State.{push};
+ghost use Rattle.model_scanner.specs.Flow.{increase_flow_level, begin_flow, pass_indicator, end_flow_pair, adjacent_in_flow, end_flow, fetch_flow_collection_start, fetch_flow_collection_end, fetch_flow_entry};
 ghost use Rattle.yaml_scanner.specs.Runs.{Becomes, Front, Runs, Steps, Turns};
 ghost use Rattle.yaml_scanner.specs.Work.{Moves};
 
 use crate::fetcher::{Failed, Fetcher};
-use model_scanner::FlowLevel;
+use model_scanner::{Collection, FlowLevel};
 use yaml_chars::{Characters, Marker};
 use yaml_lexers::SkipTabs;
-use yaml_scanner_state::Collection;
 use yaml_tokens::{Fault, Problem, Token, TokenType};
 
 // How many levels of flow collections there may be.
@@ -58,7 +56,7 @@ impl<T: Characters> Fetcher<T> {
     #[tactic(auto, unfolding(model_scanner::specs::Flow::fetch_flow_collection_start))]
     pub(crate) fn fetch_flow_collection_start(&mut self, kind: Collection) -> Result<(), Failed>
         requires { Front 1 self.old.window }
-        ensures { Runs (fetch_flow_collection_start (level_of kind) (flow_start kind)) self.old result self.new 2 8 }
+        ensures { Runs (fetch_flow_collection_start kind) self.old result self.new 2 8 }
     {
         let mark = self.window.mark();
         self.begin_flow(kind)?;
@@ -69,7 +67,7 @@ impl<T: Characters> Fetcher<T> {
     /// Notes the start of a flow collection, which may be a key.
     #[tactic(auto, unfolding(model_scanner::specs::Flow::begin_flow))]
     fn begin_flow(&mut self, kind: Collection) -> Result<(), Failed>
-        ensures { Steps (begin_flow (level_of kind)) self.old result self.new 1 }
+        ensures { Steps (begin_flow kind) self.old result self.new 1 }
     {
         self.save_implicit_key();
         self.roll_one_col_indent()?;
@@ -80,7 +78,7 @@ impl<T: Characters> Fetcher<T> {
 
     #[tactic(auto, unfolding(model_scanner::specs::Flow::increase_flow_level))]
     fn increase_flow_level(&mut self, kind: Collection) -> Result<(), Failed>
-        ensures { Steps (increase_flow_level (level_of kind)) self.old result self.new 0 }
+        ensures { Steps (increase_flow_level kind) self.old result self.new 0 }
     {
         if self.flow.len() >= DEEPEST_FLOW {
             return Err(self.fail_here(Problem::FlowTooDeep));
@@ -99,7 +97,7 @@ impl<T: Characters> Fetcher<T> {
     #[tactic(auto, unfolding(model_scanner::specs::Flow::fetch_flow_collection_end))]
     pub(crate) fn fetch_flow_collection_end(&mut self, kind: Collection) -> Result<(), Failed>
         requires { Front 1 self.old.window }
-        ensures { Runs (fetch_flow_collection_end (flow_end kind)) self.old result self.new 2 8 }
+        ensures { Runs (fetch_flow_collection_end kind) self.old result self.new 2 8 }
     {
         let mark = self.window.mark();
         self.end_flow()?;
@@ -109,25 +107,17 @@ impl<T: Characters> Fetcher<T> {
     }
 
     /// Ends the innermost flow collection.
-    #[tactic(auto, unfolding(model_scanner::specs::Flow::end_flow))]
+    #[tactic(auto, using(yaml_scanner_state::proofs::KeyLemmas::pop_seen), unfolding(model_scanner::specs::Flow::end_flow, model_scanner::specs::Flow::decrease_flow_level))]
     fn end_flow(&mut self) -> Result<(), Failed>
         ensures { Steps end_flow self.old result self.new 1 }
     {
         self.remove_implicit_key()?;
         self.end_flow_pair()?;
-        self.decrease_flow_level();
         self.key_allowed = false;
+        if let Some(_) = self.flow.pop() {
+            self.keys.close_level();
+        }
         Ok(())
-    }
-
-    #[tactic(auto, using(yaml_scanner_state::proofs::KeyLemmas::pop_seen), unfolding(model_scanner::specs::Flow::decrease_flow_level))]
-    fn decrease_flow_level(&mut self)
-        ensures { Turns decrease_flow_level self.old self.new }
-    {
-        let Some(_) = self.flow.pop() else {
-            return;
-        };
-        self.keys.close_level();
     }
 
     /// A `:` may stand right after a flow collection that is a key.
@@ -142,25 +132,17 @@ impl<T: Characters> Fetcher<T> {
 
     /// `,`
     #[inline(never)]
-    #[tactic(auto, unfolding(model_scanner::specs::Flow::fetch_flow_entry))]
+    #[tactic(auto, unfolding(model_scanner::specs::Flow::fetch_flow_entry, model_scanner::specs::Flow::end_entry))]
     pub(crate) fn fetch_flow_entry(&mut self) -> Result<(), Failed>
         requires { Front 1 self.old.window }
         ensures { Runs fetch_flow_entry self.old result self.new 2 8 }
     {
         let mark = self.window.mark();
-        self.end_entry()?;
-        self.pass_indicator()?;
-        self.push_token(mark, TokenType::FlowEntry)
-    }
-
-    /// Ends an entry of the innermost flow collection; another may come.
-    #[tactic(auto, unfolding(model_scanner::specs::Flow::end_entry))]
-    fn end_entry(&mut self) -> Result<(), Failed>
-        ensures { Steps end_entry self.old result self.new 1 }
-    {
         self.remove_implicit_key()?;
         self.key_allowed = true;
-        self.end_flow_pair()
+        self.end_flow_pair()?;
+        self.pass_indicator()?;
+        self.push_token(mark, TokenType::FlowEntry)
     }
 
     /// Ends an entry of the innermost flow collection, and with it a single-pair mapping.
@@ -169,33 +151,19 @@ impl<T: Characters> Fetcher<T> {
     fn end_flow_pair(&mut self) -> Result<(), Failed>
         ensures { Becomes end_flow_pair self.old result self.new 1 }
     {
-        match self.flow_entry() {
+        match self.flow.top() {
             Some(FlowLevel::Pair) => {
                 let mark = self.window.mark();
-                self.set_flow_entry(FlowLevel::Entry);
+                self.flow.set_top(FlowLevel::Entry);
                 self.push_token(mark, TokenType::FlowMappingEnd)
             }
             Some(FlowLevel::Keyed) => {
-                self.set_flow_entry(FlowLevel::Entry);
+                self.flow.set_top(FlowLevel::Entry);
                 Ok(())
             }
             Some(FlowLevel::Mapping) => Ok(()),
             Some(FlowLevel::Entry) => Ok(()),
             None => Ok(()),
         }
-    }
-
-    /// The state of the entry that is read at the innermost flow level.
-    #[inline(always)]
-    pub(crate) fn flow_entry(&self) -> Option<FlowLevel>
-        ensures { result ≡ top self.now.flow }
-    {
-        self.flow.top()
-    }
-
-    pub(crate) fn set_flow_entry(&mut self, entry: FlowLevel)
-        ensures { Turns (λ s. record s { flow = with_top entry s.flow }) self.old self.new }
-    {
-        self.flow.set_top(entry);
     }
 }

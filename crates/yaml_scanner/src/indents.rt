@@ -1,16 +1,17 @@
-ghost use Rattle.std.specs.Prelude.{◌≡◌, ◌<◌, ◌^◌, ℕ, Ok, Err, true, false, nat_lt, ◌+◌};
+ghost use Rattle.std.specs.Prelude.{◌≡◌, ◌<◌, ◌^◌, ℕ, Ok, Err, OnErr, false, ◌+◌};
 ghost use Rattle.model_scanner.specs.State.{in_flow, token};
-ghost use Rattle.model_scanner.specs.Keys.{must_be_key, save_implicit_key, remove_implicit_key, stale, top_needs_block_end};
-ghost use Rattle.model_scanner.specs.Indents.{roll_indent, drop_open_level, roll_one_col_indent, unroll_indent, unroll_non_block_indents, in_block, deepen, placed};
-ghost use Rattle.yaml_scanner_state.specs.Collections.{block_start};
+ghost use Rattle.model_scanner.specs.Keys.{save_implicit_key, remove_implicit_key, stale};
+ghost use Rattle.model_scanner.specs.Indents.{roll_indent, drop_open_level, roll_one_col_indent, unroll_indent, unroll_non_block_indents};
+ghost use Rattle.model_scanner.specs.Kinds.{block_start};
 ghost use Rattle.yaml_scanner_state.specs.Levels.{ends_open};
 ghost use Rattle.yaml_scanner.specs.Runs.{Becomes, Steps, Turns};
 ghost use Rattle.yaml_scanner.specs.Shape.{held};
 ghost use Rattle.yaml_scanner_state.specs.ImplicitKeys.{number_of};
 
 use crate::fetcher::{Failed, Fetcher};
+use model_scanner::Collection;
 use yaml_chars::{Characters, Marker};
-use yaml_scanner_state::{Collection, ImplicitKey};
+use yaml_scanner_state::ImplicitKey;
 use yaml_tokens::{Fault, Problem, Token, TokenType};
 
 impl<T: Characters> Fetcher<T> {
@@ -20,27 +21,22 @@ impl<T: Characters> Fetcher<T> {
         !self.flow.is_empty()
     }
 
-    /// Whether a token here must be a key.
-    #[tactic(auto, unfolding(model_scanner::specs::Keys::must_be_key))]
-    fn must_be_key(&self) -> bool
-        ensures { result ≡ must_be_key (held self.now) }
-    {
-        !self.in_flow()
-            && self.levels.indent() == self.window.mark().col() + 1
-            && self.levels.needs_block_end()
-    }
-
     /// Notes that the next token may be a key, if one is allowed.
     #[inline(always)]
-    #[tactic(auto, using(yaml_scanner_state::proofs::KeyLemmas::with_top_seen), unfolding(model_scanner::specs::Keys::save_implicit_key))]
+    #[tactic(auto, using(yaml_scanner_state::proofs::KeyLemmas::with_top_seen), unfolding(model_scanner::specs::Keys::save_implicit_key, model_scanner::specs::Keys::must_be_key))]
     pub(crate) fn save_implicit_key(&mut self)
         ensures { Turns save_implicit_key self.old self.new }
     {
         if self.key_allowed {
+            let mark = self.window.mark();
+            // A token at the column of a block collection must be a key.
+            let required = !self.in_flow()
+                && self.levels.indent() == mark.col() + 1
+                && self.levels.needs_block_end();
             let key = ImplicitKey {
-                required: self.must_be_key(),
+                required,
                 position: self.tokens.len(),
-                mark: self.window.mark(),
+                mark,
             };
             self.keys.set_top(Some(key));
         }
@@ -49,7 +45,8 @@ impl<T: Characters> Fetcher<T> {
     /// Gives up the possible key of the innermost level.
     #[inline(always)]
     pub(crate) fn remove_implicit_key(&mut self) -> Result<(), Failed>
-        ensures { Steps remove_implicit_key self.old result self.new 0 }
+        ensures steps { Steps remove_implicit_key self.old result self.new 0 }
+        ensures told { OnErr result (remove_implicit_key (held self.old) ≡ Err self.new.fault) }
     {
         if self.keys.top_is_required() {
             return Err(self.fail_here(Problem::KeyExpected));
@@ -62,7 +59,9 @@ impl<T: Characters> Fetcher<T> {
     /// (YAML 1.2, section 8.2.2). One that must be a key is a fault then.
     #[inline(always)]
     pub(crate) fn drop_stale(&mut self) -> Result<(), Failed>
-        ensures { Steps stale self.old result self.new 0 }
+        ensures steps { Steps stale self.old result self.new 0 }
+        ensures told { OnErr result (stale (held self.old) ≡ Err self.new.fault) }
+        ensures tokens { self.new.tokens ≡ self.old.tokens }
     {
         if self.in_flow() {
             return Ok(());
@@ -77,7 +76,7 @@ impl<T: Characters> Fetcher<T> {
     /// Begins a collection at a column, unless one is open there or the position is inside flow. Its start goes in
     /// before that many waiting tokens, or after all of them.
     #[inline(always)]
-    #[tactic(auto, unfolding(model_scanner::specs::Indents::roll_indent))]
+    #[tactic(auto, unfolding(model_scanner::specs::Indents::roll_indent, model_scanner::specs::Indents::deepen))]
     pub(crate) fn roll_indent(
         &mut self,
         col: usize,
@@ -92,53 +91,16 @@ impl<T: Characters> Fetcher<T> {
             return Ok(());
         }
         self.drop_open_level(col);
-        self.deepen(col, position, kind, mark)
-    }
-
-    /// Opens a level for a collection at a column, unless one is open there.
-    #[inline(always)]
-    #[tactic(auto, unfolding(model_scanner::specs::Indents::deepen))]
-    fn deepen(
-        &mut self,
-        col: usize,
-        position: Option<usize>,
-        kind: Collection,
-        mark: Marker,
-    ) -> Result<(), Failed>
-        requires { col < 2 ^ 63 }
-        ensures { Becomes (deepen col (number_of self.old.tokens.given position) (token mark (block_start kind))) self.old result self.new 2 }
-    {
-        if !self.is_left_of(col) {
+        if self.levels.indent() > col {
             return Ok(());
         }
         if let Err(_) = self.levels.push_block(col) {
             return Err(self.fail(Fault::OutOfMemory));
         }
-        self.position_start(position, kind, mark)
-    }
-
-    /// Whether the innermost level stands left of a column.
-    fn is_left_of(&self, col: usize) -> bool
-        requires { col < 2 ^ 63 }
-        ensures { result ≡ nat_lt (held self.now).indent (col + 1) }
-    {
-        self.levels.indent() < col + 1
-    }
-
-    /// Inserts the start of a collection before that many waiting tokens, or after all of them.
-    fn position_start(
-        &mut self,
-        position: Option<usize>,
-        kind: Collection,
-        mark: Marker,
-    ) -> Result<(), Failed>
-        ensures { Becomes (λ s. record s { tokens = placed (number_of self.old.tokens.given position) (token mark (block_start kind)) s.tokens }) self.old result self.new 1 }
-    {
         match position {
-            Some(position) => self.put_token(position, mark, kind.block_start())?,
-            None => self.push_token(mark, kind.block_start())?,
+            Some(position) => self.put_token(position, mark, kind.block_start()),
+            None => self.push_token(mark, kind.block_start()),
         }
-        Ok(())
     }
 
     /// A level that opens no collection goes before one at its column or after that.
@@ -155,22 +117,13 @@ impl<T: Characters> Fetcher<T> {
         }
     }
 
-    /// Whether the innermost level is a block collection, and the position is outside flow.
-    #[tactic(auto, unfolding(model_scanner::specs::Indents::in_block))]
-    fn in_block(&self) -> bool
-        ensures value { result ≡ in_block (held self.now) }
-        ensures block { result ≡ true → top_needs_block_end self.now.levels.indents ≡ true }
-    {
-        !self.in_flow() && self.levels.needs_block_end()
-    }
-
     /// Opens a level without a collection, one column deeper, inside a block collection.
     #[inline(always)]
-    #[tactic(auto, unfolding(model_scanner::specs::Indents::roll_one_col_indent))]
+    #[tactic(auto, unfolding(model_scanner::specs::Indents::roll_one_col_indent, model_scanner::specs::Indents::in_block))]
     pub(crate) fn roll_one_col_indent(&mut self) -> Result<(), Failed>
         ensures { Becomes roll_one_col_indent self.old result self.new 1 }
     {
-        if !self.in_block() {
+        if self.in_flow() || !self.levels.needs_block_end() {
             return Ok(());
         }
         if let Err(_) = self.levels.push_open() {

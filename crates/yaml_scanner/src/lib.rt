@@ -13,6 +13,6 @@ mod scanner;
 mod space;
 mod whole_line;
 
-pub use fetcher::Backlog;
+pub use fetcher::{Backlog, Failed};
 pub use key_value::PlainNode;
 pub use scanner::Scanner;

@@ -42,17 +42,6 @@ impl<T: Characters> Fetcher<T> {
         ensures less { self.new.window.left < self.old.window.left }
     {
         self.window.skip();
-        self.pass_more_spaces();
-    }
-
-    /// Steps over the spaces that stand here.
-    #[inline(always)]
-    #[tactic(auto, using(crate::proofs::SpaceLemmas::gap_space))]
-    fn pass_more_spaces(&mut self)
-        ensures gap { Reads self.old.window self.new.window (λ a b. skip between a (held self.old) ≡ skip between b (held self.new)) }
-        ensures bounds { Moves self.old self.new 0 0 }
-        ensures less { self.new.window.left ≤ self.old.window.left }
-    {
         'spaces: while self.window.take_space() {}
     }
 
@@ -97,42 +86,38 @@ impl<T: Characters> Fetcher<T> {
                 self.window.skip();
             } else if c == '#' {
                 self.pass_comment();
+                self.leading = false;
             } else {
                 return Ok(());
             }
         }
     }
 
-    /// Whether this position belongs to the indentation of a block collection.
-    #[tactic(auto, unfolding(model_scanner::specs::Space::is_before_indent))]
-    fn is_before_indent(&self) -> bool
-        ensures { result ≡ is_before_indent (held self.now) }
-    {
-        !self.levels.is_empty()
-            && self.leading
-            && self.window.mark().col() + 1 < self.levels.indent()
-    }
-
     /// Whether a character is a TAB in the indentation of a block collection.
+    #[tactic(auto, unfolding(model_scanner::specs::Space::is_before_indent))]
     fn at_tab_line(&self, c: char) -> bool
         ensures value { result ≡ ((c == 9) && is_before_indent (held self.now)) }
         ensures tab { result ≡ true → c ≡ 9 }
         ensures before { result ≡ true → is_before_indent (held self.now) ≡ true }
     {
-        c == '\t' && self.is_before_indent()
+        c == '\t'
+            && !self.levels.is_empty()
+            && self.leading
+            && self.window.mark().col() + 1 < self.levels.indent()
     }
 
-    /// Steps over a comment.
+    /// Steps over a comment. After a `?` it does not count as the space that must stand there.
     #[inline(always)]
     fn pass_comment(&mut self)
         requires { Front 1 self.old.window }
-        ensures gap { Reads self.old.window self.new.window (λ a b. slice_index a 0 ≡ 35 → skip between a (held self.old) ≡ skip between b (held self.new)) }
+        ensures gap { Reads self.old.window self.new.window (λ a b. slice_index a 0 ≡ 35 → skip between a (held self.old) ≡ skip between b (record (held self.new) { leading = false })) }
+        ensures tab_line { Reads self.old.window self.new.window (λ a b. slice_index a 0 ≡ 35 → skip tab_line a (held self.old) ≡ skip between b (held self.new)) }
+        ensures white { Reads self.old.window self.new.window (λ a b. slice_index a 0 ≡ 35 → (f : Bool) → white false f a (held self.old) ≡ white false f b (held self.new)) }
         ensures bounds { Moves self.old self.new 0 8 }
         ensures less { self.new.window.left < self.old.window.left }
     {
         self.window.skip();
         skip_comment(&mut self.window);
-        self.leading = false;
     }
 
     /// Steps over a TAB in the indentation, and over the rest of its line, which has no content.
@@ -150,7 +135,7 @@ impl<T: Characters> Fetcher<T> {
             if is_blank(c) {
                 self.window.skip();
             } else if c == '#' {
-                self.end_tab_line();
+                self.pass_comment();
                 return Ok(());
             } else if is_breakz(c) {
                 return Ok(());
@@ -158,17 +143,6 @@ impl<T: Characters> Fetcher<T> {
                 return Err(self.fail_here(Problem::TabInBlockIndentation));
             }
         }
-    }
-
-    /// Steps over a comment after a TAB in the indentation.
-    fn end_tab_line(&mut self)
-        requires { Front 1 self.old.window }
-        ensures gap { Reads self.old.window self.new.window (λ a b. slice_index a 0 ≡ 35 → skip tab_line a (held self.old) ≡ skip between b (held self.new)) }
-        ensures bounds { Moves self.old self.new 0 8 }
-        ensures less { self.new.window.left < self.old.window.left }
-    {
-        self.window.skip();
-        skip_comment(&mut self.window);
     }
 
     /// Steps over spaces, TABs where these are to be skipped, and a comment.
@@ -198,17 +172,6 @@ impl<T: Characters> Fetcher<T> {
         Ok(())
     }
 
-    /// Steps over a comment. After a `?` it does not count as the space that must stand there.
-    fn pass_white_comment(&mut self)
-        requires { Front 1 self.old.window }
-        ensures white { Reads self.old.window self.new.window (λ a b. slice_index a 0 ≡ 35 → (f : Bool) → white false f a (held self.old) ≡ white false f b (held self.new)) }
-        ensures bounds { Moves self.old self.new 0 8 }
-        ensures less { self.new.window.left < self.old.window.left }
-    {
-        self.window.skip();
-        skip_comment(&mut self.window);
-    }
-
     /// What must stand after a `?`: spaces, breaks and comments.
     #[tactic(auto, using(crate::proofs::SpaceLemmas::white_space, crate::proofs::SpaceLemmas::white_stop, crate::proofs::SpaceLemmas::white_missing), unfolding(model_scanner::specs::Space::skip_yaml_whitespace))]
     pub(crate) fn skip_yaml_whitespace(&mut self) -> Result<(), Failed>
@@ -225,7 +188,7 @@ impl<T: Characters> Fetcher<T> {
                 self.window.skip();
                 found = true;
             } else if c == '#' {
-                self.pass_white_comment();
+                self.pass_comment();
             } else if found {
                 return Ok(());
             } else {

@@ -1,52 +1,21 @@
 //! Keys of block mappings, and other plain scalars of one line, whose characters are known to come. Each is fetched at once,
 //! and a key with the `:` after it.
-ghost use Rattle.std.specs.Prelude.{◌≡◌, ◌<◌, ◌≤◌, IfOk, IfErr, IfSome, true, false, map};
+ghost use Rattle.std.specs.Prelude.{◌≡◌, ◌<◌, ◌≤◌, IfOk, IfErr, IfSome, true, false};
 ghost use Rattle.defs_text.specs.Text.{string_chars};
 ghost use Rattle.model_scanner.specs.Indents.{unroll_non_block_indents};
 ghost use Rattle.yaml_chars.specs.WindowView.{Reads};
-ghost use Rattle.yaml_scanner.specs.Awaits.{AwaitsNode, Stands, StandsAt};
-ghost use Rattle.yaml_scanner.specs.Fetched.{Fetched, fetch_rest, with_key, with_line};
+ghost use Rattle.yaml_scanner.specs.Awaits.{AwaitsNode, StandsAt};
+ghost use Rattle.yaml_scanner.specs.Fetched.{Fetched, fetch_rest, with_key};
 ghost use Rattle.yaml_scanner.specs.Runs.{Becomes};
 ghost use Rattle.yaml_scanner.specs.Work.{Fetches, Moves};
-ghost use Rattle.yaml_scanner_state.specs.ImplicitKeys.{no_implicit};
 ghost use Rattle.yaml_scanner_state.specs.Tokens.{waiting};
 
 use crate::fetcher::{Failed, Fetcher};
+use model_scanner::Collection;
 use yaml_chars::{BlockLine, Characters, Marker, opens_simple};
-use yaml_scanner_state::Collection;
 use yaml_tokens::{Fault, TScalarStyle, TokenType};
 
 impl<T: Characters> Fetcher<T> {
-    /// Where the levels let a key or another scalar begin here: the next line ends the scalar if it begins with fewer spaces than
-    /// this. It is 0 where only a key may begin; so too where no collection is open, since no line ends a scalar there by its
-    /// indentation.
-    #[tactic(auto, using(crate::proofs::NodeFollows::stands_deeper, crate::proofs::NodeFollows::stands_there, crate::proofs::NodeFollows::stands_outside, crate::proofs::NodeFollows::stands_open))]
-    fn node_limit(&self) -> Option<usize>
-        ensures { IfSome result (λ limit. Stands self.now.window.col self.now.levels limit) }
-    {
-        let here = self.window.mark().col() + 1;
-        let indent = self.levels.indent();
-        if indent > here {
-            return None;
-        }
-        if self.levels.needs_block_end() {
-            return Some(if indent < here { indent } else { 0 });
-        }
-        if self.levels.is_empty() {
-            return if indent < here { Some(0) } else { None };
-        }
-        let outer = self.levels.value_level()?;
-        if outer < here { Some(outer) } else { None }
-    }
-
-    /// Whether no token waits, and none may become a key.
-    pub(crate) fn has_no_open_key(&self) -> bool
-        ensures waits { result ≡ true → waiting self.now.tokens ≡ 0 }
-        ensures keys { result ≡ true → map no_implicit self.now.keys ≡ self.now.keys }
-    {
-        self.tokens.len() == 0 && self.keys.has_none()
-    }
-
     /// Whether a key's tokens stand behind so few others that they need no more room than the queue has had since its first token,
     /// which is that of four. A key is three tokens, and a fourth begins its mapping. So no memory is asked for before the tokens
     /// that wait are handed out.
@@ -64,8 +33,11 @@ impl<T: Characters> Fetcher<T> {
         }
     }
 
-    /// What `node_limit` gives, where a key may begin here, no token before may still become one, at most one token waits, and the
-    /// next character is one that a simple text may begin with.
+    /// Where a key may begin here, no token before may still become one, at most one token waits, the next character is one that a
+    /// simple text may begin with, and the levels let a key or another scalar begin: the next line ends the scalar if it begins with
+    /// fewer spaces than this. It is 0 where only a key may begin; so too where no collection is open, since no line ends a scalar
+    /// there by its indentation.
+    #[tactic(auto, using(crate::proofs::NodeFollows::stands_deeper, crate::proofs::NodeFollows::stands_there, crate::proofs::NodeFollows::stands_outside, crate::proofs::NodeFollows::stands_open))]
     fn awaits_node(&self) -> Option<usize>
         requires { 0 < self.now.window.ahead }
         ensures { IfSome result (λ limit. AwaitsNode self.now limit) }
@@ -76,7 +48,19 @@ impl<T: Characters> Fetcher<T> {
         if self.in_flow() || !self.keys.has_none() || !self.has_room() {
             return None;
         }
-        self.node_limit()
+        let here = self.window.mark().col() + 1;
+        let indent = self.levels.indent();
+        if indent > here {
+            return None;
+        }
+        if self.levels.needs_block_end() {
+            return Some(if indent < here { indent } else { 0 });
+        }
+        if self.levels.is_empty() {
+            return if indent < here { Some(0) } else { None };
+        }
+        let outer = self.levels.value_level()?;
+        if outer < here { Some(outer) } else { None }
     }
 
     /// Fetches a key that was read, with its `:`, and its mapping's start if the key is the first. The start has the position
@@ -93,15 +77,6 @@ impl<T: Characters> Fetcher<T> {
         self.push_token(mark, TokenType::Key)?;
         self.push_token(mark, TokenType::Scalar(TScalarStyle::Plain, key))?;
         self.push_token(colon, TokenType::Value)
-    }
-
-    /// Fetches a scalar that was read, with the break after it.
-    fn push_line(&mut self, mark: Marker, text: String) -> Result<(), Failed>
-        ensures { Becomes (with_line mark (string_chars text)) self.old result self.new 6 }
-    {
-        self.unroll_non_block_indents();
-        self.leading = true;
-        self.push_token(mark, TokenType::Scalar(TScalarStyle::Plain, text))
     }
 
     /// Fetches a key with its `:`, or another plain scalar of one line, where its characters are known to come, and before this
@@ -132,7 +107,11 @@ impl<T: Characters> Fetcher<T> {
                 Ok(true)
             }
             Ok(Some(BlockLine::Scalar(text))) => {
-                self.push_line(mark, text.into_string())?;
+                let text = text.into_string();
+                self.unroll_non_block_indents();
+                // The break after it was read too.
+                self.leading = true;
+                self.push_token(mark, TokenType::Scalar(TScalarStyle::Plain, text))?;
                 Ok(true)
             }
             Ok(None) => Ok(false),
