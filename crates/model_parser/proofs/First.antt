@@ -1,7 +1,6 @@
 -- Tokens and their kinds.
-use Rattle.model_parser.proofs.Common.{ap, begins_node, Bool, ends_content, ends_document, ends_entry, ends_flow_key, ends_flow_pair, ends_indentless_entry, ends_item, ends_item_key, ends_part, false, HasNoText, Kind, kind_of, NodeContext, or_value, refl, subst, sym, Tok, tok_of_kind, true, ◌∙◌, ◌≡◌, ◌≢◌}
+use Rattle.model_parser.proofs.Common.{ap, Bool, ends_document, ends_flow_key, ends_flow_pair, ends_item, ends_item_key, ends_part, false, HasNoText, Kind, kind_of, or_value, refl, subst, sym, Tok, tok_of_kind, ◌∙◌, ◌≡◌, ◌≢◌}
 use Rattle.model_parser.specs.declared.kind.Kind.TheVariants as kind
-use Rattle.model_parser.specs.declared.context.NodeContext.TheVariants as context
 
 -- a token without texts is known by its kind
 plain_tok : (t : Tok) → HasNoText (kind_of t) → tok_of_kind (kind_of t) ≡ t
@@ -10,43 +9,6 @@ plain_tok t h = cc
 
 pub tok_is : {t : Tok} {k : Kind} → kind_of t ≡ k → HasNoText k → t ≡ tok_of_kind k
 tok_is {t} {k} h e = sym (plain_tok t (subst HasNoText (sym h) e)) ∙ ap tok_of_kind h
-
--- ---- what ends one thing begins no node
-
-pub part_no_node : (p : NodeContext) (k : Kind) → ends_part k ≡ true → begins_node p k ≡ false
-part_no_node p kind.Key h = refl
-part_no_node p k h = cc
-
-pub content_no_node : (p : NodeContext) (k : Kind) → ends_content k ≡ true → begins_node p k ≡ false
-content_no_node p kind.DocumentStart h = refl
-content_no_node p k h = cc
-
-pub item_no_node : (p : NodeContext) (k : Kind) → ends_item k ≡ true → begins_node p k ≡ false
-item_no_node p kind.FlowEntry h = refl
-item_no_node p k h = cc
-
-pub flow_pair_no_node : (p : NodeContext) (k : Kind) → ends_flow_pair k ≡ true → begins_node p k ≡ false
-flow_pair_no_node p kind.FlowEntry h = refl
-flow_pair_no_node p k h = cc
-
-or_value_no_node : (p : NodeContext) (ends : Kind → Bool) → ((k : Kind) → ends k ≡ true → begins_node p k ≡ false) → (k : Kind) → or_value ends k ≡ true → begins_node p k ≡ false
-or_value_no_node p ends f kind.Value h = refl
-or_value_no_node p ends f k h = f k h
-
-pub item_key_no_node : (p : NodeContext) (k : Kind) → ends_item_key k ≡ true → begins_node p k ≡ false
-item_key_no_node p k h = or_value_no_node p ends_item (item_no_node p) k h
-
-pub flow_key_no_node : (p : NodeContext) (k : Kind) → ends_flow_key k ≡ true → begins_node p k ≡ false
-flow_key_no_node p k h = or_value_no_node p ends_flow_pair (flow_pair_no_node p) k h
-
--- here a `-` does not begin a node, either
-pub entry_no_node : (k : Kind) → ends_entry k ≡ true → begins_node context.Block k ≡ false
-entry_no_node kind.BlockEntry h = refl
-entry_no_node k h = cc
-
-pub indentless_entry_no_node : (k : Kind) → ends_indentless_entry k ≡ true → begins_node context.Block k ≡ false
-indentless_entry_no_node kind.BlockEntry h = refl
-indentless_entry_no_node k h = cc
 
 -- ---- a kind that is none of several
 

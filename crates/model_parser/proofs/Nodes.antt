@@ -210,9 +210,3 @@ properties_only ss o t a = leaves_so 2 (λ n f. (n, under_goes ss f.0)) (λ f. u
 
 pub nothing_refuses : (ss : List State) (t : Tok) → begins_content context.Flow (kind_of t) ≡ false → Refuses (Goal.after_properties context.Flow None) ss t
 nothing_refuses ss t a n f ts es x = both_ways (begins_content context.Flow (kind_of t)) a x.1
-
-pub not_content : (k : Kind) → k ≢ kind.Scalar → k ≢ kind.FlowSequenceStart → k ≢ kind.FlowMappingStart → begins_content context.Flow k ≡ false
-not_content kind.Scalar a b c = absurd (a refl)
-not_content kind.FlowSequenceStart a b c = absurd (b refl)
-not_content kind.FlowMappingStart a b c = absurd (c refl)
-not_content _ a b c = refl

@@ -1,5 +1,5 @@
 -- What is read next, and what may come there.
-use Rattle.model_parser.proofs.Common.{[], and_parts, before_directive, Collection, Directive, directive_next, directive_token, ends_content, ends_document, ends_entry, ends_flow_key, ends_flow_pair, ends_indentless_entry, ends_item, ends_item_key, ends_part, false, Goal, grammar, is_directive, is_in_mapping, is_over_document, is_past_directives, is_under, IsGoing, Kind, kind_of, List, may_begin, MayCome, next_at, next_in, next_past, NodeContext, None, open_past, Option, other_next, Position, Properties, refl, Settles, Some, State, step, Tok, true, without_node, work_of, works, ◌&&◌, ◌∷◌, ◌≡◌}
+use Rattle.model_parser.proofs.Common.{[], and_parts, before_directive, ends_content, ends_document, ends_entry, ends_flow_key, ends_flow_pair, ends_indentless_entry, ends_item, ends_item_key, ends_part, false, Goal, grammar, is_directive, is_in_mapping, is_over_document, is_past_directives, is_under, IsGoing, Kind, kind_of, List, may_begin, MayCome, next_at, next_in, NodeContext, None, Option, other_next, Position, Properties, refl, Settles, Some, State, step, Tok, true, without_node, work_of, works, ◌&&◌, ◌∷◌, ◌≡◌}
 use Rattle.model_parser.proofs.StepRows.{has_goal, is_going, may_come}
 use Rattle.model_parser.specs.declared.kind.Kind.TheVariants as kind
 use Rattle.model_parser.specs.declared.state.State.TheVariants as state
@@ -108,11 +108,3 @@ pub content_settles : (ss : List State) (t : Tok) → ends_content (kind_of t) �
 content_settles ss (Tok.version_directive m n) h = before_directive refl refl
 content_settles ss (Tok.tag_directive m n) h = before_directive refl refl
 content_settles ss t h = without_node refl (comes_so Goal.content ss t (content_goes ss t h))
-
-pub directive_opens_none : (d : Directive) (cs : List Collection) → open_past (directive_token d) cs ≡ cs
-directive_opens_none (Directive.version m n) cs = refl
-directive_opens_none (Directive.tag m n) cs = refl
-
-pub directive_next_is : (d : Directive) → next_past (directive_token d) ≡ directive_next
-directive_next_is (Directive.version m n) = refl
-directive_next_is (Directive.tag m n) = refl

@@ -57,7 +57,7 @@ pub use Rattle.yaml_parser.specs.Follows.{Explains, Follows, IsComplete, IsWhole
 pub use Rattle.yaml_parser.specs.Halts.{IsHalted, may_wait, perhaps}
 pub use Rattle.yaml_parser.specs.Handed.{BeginAt, behind, IsAwake, IsHanded, IsRightAfter, IsStopped, last_position, peeked_tok, shown_list, taken_toks}
 pub use Rattle.yaml_parser.specs.Held.{Advances, Continues, goal_after, Holds, IsHeld, IsMet, Notes, Stands}
-pub use Rattle.yaml_parser.specs.Kinds.{IsOfKind, stop_of}
+pub use Rattle.yaml_parser.specs.Kinds.{IsOfKind}
 pub use Rattle.yaml_parser.specs.Loads.{after_document, EndsSo, Going, Loads, no_call, no_event, one_call, one_event, PullsAll, PushesNext, pushing, Receives, RunsOn, StartsSo}
 pub use Rattle.yaml_parser.specs.Named.{is_own, IsNamed, IsOwn, prefix_of}
 pub use Rattle.yaml_parser.specs.Nests.{BeginsNested, is_open, IsInside, opened}

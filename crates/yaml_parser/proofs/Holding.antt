@@ -388,7 +388,6 @@ explained {T} p v stop.Scan m f h x known =
     on_time : (o : Option ErrorReport) → o ≡ Some f → IfSome o (λ g. g.memory ≡ false → (scanned p.tokens.scanner).early ≡ false) → f.memory ≡ false → (scanned p.tokens.scanner).early ≡ false
     on_time None e k = cc
     on_time (Some g) e k = let same : g ≡ f = cc in subst (λ d. d.memory ≡ false → (scanned p.tokens.scanner).early ≡ false) same k
-explained {T} p v stop.Ended m f h x known = absurd x
 
 pub held_explained : {T : Type 0} (p : Reader T) (v : Parsed) (o : Option KeptStop) (f : ErrorReport) → option_map (λ k. fault_seen k.stop k.mark (scanned p.tokens.scanner).fault) o ≡ Some f → IsMet p (read v) o → KnowsSteady p → Explains f (seen_of p v)
 held_explained {T} p v None f h x known = cc

@@ -87,7 +87,6 @@ undeclared_resolves mark names h x (Ok t) a e u = resolved_nonempty names.handle
 undeclared_resolves mark names h x (Err (stop.Own OutOfMemory)) a e u = tt
 undeclared_resolves mark names h x (Err (stop.Own (fault.At q m))) a e u = (resolved_nonempty names.handles h x None a e ∙ ap (option_map (λ p. record { handle = p; suffix = x })) u.0, u.1, u.2)
 undeclared_resolves mark names h x (Err stop.Scan) a e u = u
-undeclared_resolves mark names h x (Err stop.Ended) a e u = u
 
 pub string_length : (s : String Global) → (length (string_bytes s) == 0) ≡ (string_len s == 0)
 string_length s = search rules

@@ -337,4 +337,3 @@ pub resolve_fails : {T : Type 0} (r : Reader T) (given : List (Ev × Position)) 
 resolve_fails r given m names t (stop.Own OutOfMemory) h f = tt
 resolve_fails r given m names t (stop.Own (fault.At q n)) h f = faulted_as r given (ap (λ x. stop.Own (fault.At x n)) h.1 ∙ ap (λ x. stop.Own (fault.At UndeclaredHandle x)) h.2) (f h.0)
 resolve_fails r given m names t stop.Scan h f = absurd h
-resolve_fails r given m names t stop.Ended h f = absurd h

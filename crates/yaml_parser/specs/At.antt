@@ -105,7 +105,6 @@ abbrev pub Faulted : {T : Type 0} → Reader T → List (Ev × Position) → Sto
 Faulted p given (stop.Own OutOfMemory) = Unit {0}
 Faulted p given (stop.Own (fault.At problem mark)) = IsStuck p given problem mark
 Faulted p given stop.Scan = IsStopped (scanned p.tokens.scanner) × IsHalted p.names.keeping.settings.items p.names.keeping.tags (scanned p.tokens.scanner).given given
-Faulted p given stop.Ended = ⊥
 
 abbrev pub goal_after_event : Ev → Goal
 goal_after_event Ev.stream_end = at.ended

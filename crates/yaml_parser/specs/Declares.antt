@@ -27,4 +27,3 @@ Declares mark code keep names read h p (Err (stop.Own OutOfMemory)) = Unit {0}
 Declares mark code keep names read h p (Err (stop.Own (fault.At q m))) =
     ((more : List Directive) → is_each_once (declared ((read ++ raw.tag h p ∷ []) ++ more)) ≡ false) × (q ≡ RepeatedHandle) × (m ≡ mark)
 Declares mark code keep names read h p (Err stop.Scan) = ⊥
-Declares mark code keep names read h p (Err stop.Ended) = ⊥

@@ -5,10 +5,6 @@ use Rattle.yaml_tokens.specs.Shown.{tok_of}
 use Rattle.model_parser.specs.declared.kind.Kind.{Kind}
 use Rattle.model_parser.specs.declared.kind.Kind.TheVariants as kind
 use Rattle.model_parser.specs.Kinds.{kind_of}
-use Rattle.yaml_parser.specs.declared.tokens.TokenFault.{TokenFault}
-use Rattle.yaml_parser.specs.declared.tokens.TokenFault.TheVariants as missing
-use Rattle.yaml_parser.specs.declared.tokens.Stop.{Stop}
-use Rattle.yaml_parser.specs.declared.tokens.Stop.TheVariants as stop
 
 -- a token is there, of this kind
 abbrev pub IsOfKind : Kind → Option Token → Type 0
@@ -18,8 +14,3 @@ IsOfKind k (Some t) = kind_of (tok_of t.1) ≡ k
 -- an anchor or an alias is there
 abbrev pub IsName : Option Token → Type 0
 IsName o = IsOfKind kind.Alias o ⊎ IsOfKind kind.Anchor o
-
--- why no event comes, where no token does
-abbrev pub stop_of : TokenFault → Stop
-stop_of missing.Scan = stop.Scan
-stop_of missing.Ended = stop.Ended

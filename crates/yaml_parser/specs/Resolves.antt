@@ -16,7 +16,6 @@ Resolves mark names t (Ok x) = resolved names.handles t ≡ Some (tag_of x)
 Resolves mark names t (Err (stop.Own OutOfMemory)) = Unit {0}
 Resolves mark names t (Err (stop.Own (fault.At p m))) = (resolved names.handles t ≡ None) × (p ≡ UndeclaredHandle) × (m ≡ mark)
 Resolves mark names t (Err stop.Scan) = ⊥
-Resolves mark names t (Err stop.Ended) = ⊥
 
 -- the same of a handle that was not declared
 abbrev pub IsUndeclared : Position → (handle suffix : List ℕ) → Result Tag Stop → Type 0
@@ -24,4 +23,3 @@ IsUndeclared mark h x (Ok t) = (undeclared h ≡ Some (tag_of t).handle) × ((ta
 IsUndeclared mark h x (Err (stop.Own OutOfMemory)) = Unit {0}
 IsUndeclared mark h x (Err (stop.Own (fault.At p m))) = (undeclared h ≡ None) × (p ≡ UndeclaredHandle) × (m ≡ mark)
 IsUndeclared mark h x (Err stop.Scan) = ⊥
-IsUndeclared mark h x (Err stop.Ended) = ⊥

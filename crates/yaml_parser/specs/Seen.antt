@@ -11,4 +11,3 @@ use Rattle.yaml_parser.specs.declared.tokens.Stop.TheVariants as stop
 abbrev pub fault_seen : Stop → Position → Option ErrorReport → ErrorReport
 fault_seen (stop.Own f) mark kept = fault_of f mark
 fault_seen stop.Scan mark kept = unwrap_or kept (fault_of fault.OutOfMemory mark)
-fault_seen stop.Ended mark kept = fault_of fault.OutOfMemory mark

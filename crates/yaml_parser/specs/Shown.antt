@@ -5,8 +5,8 @@ use Rattle.defs_text.specs.Text.{string_chars}
 use Rattle.yaml_tokens.specs.Shown.{style_of}
 use Rattle.defs_event.specs.Event as defs
 use Rattle.defs_event.specs.Event.{Ev}
-use Rattle.yaml_scanner_state.specs.declared.collection.Collection.{Collection}
-use Rattle.yaml_scanner_state.specs.declared.collection.Collection.TheVariants as collection
+use Rattle.model_scanner.specs.declared.kind.Collection.{Collection}
+use Rattle.model_scanner.specs.declared.kind.Collection.TheVariants as collection
 use Rattle.yaml_parser.specs.declared.event.Event.{Event}
 use Rattle.yaml_parser.specs.declared.event.Event.TheVariants as event
 use Rattle.yaml_parser.specs.declared.event.Tag.{Tag}

@@ -10,10 +10,11 @@ ghost use Rattle.yaml_parser.specs.Kinds.{IsOfKind};
 
 use crate::event::Event;
 use crate::reader::Reader;
-use crate::slot::{Answer, EventSlot, Stopped};
+use crate::slot::{Answer, EventSlot};
 use crate::tokens::Stop;
 use model_parser::{Kind, NodeContext, State};
 use yaml_chars::Characters;
+use yaml_scanner::Failed;
 use yaml_tokens::{Fault, Problem};
 
 impl<T: Characters> Reader<T> {
@@ -34,7 +35,7 @@ impl<T: Characters> Reader<T> {
     }
 
     /// The first token that is no `...`.
-    fn skip_document_ends(&mut self, slot: &mut EventSlot) -> Result<Kind, Stopped>
+    fn skip_document_ends(&mut self, slot: &mut EventSlot) -> Result<Kind, Failed>
         ensures peeked { IfOk result (λ n. IsOfKind n self.new.tokens.peeked × (n ≢ kind.DocumentEnd)) }
         ensures bounds { Moves 0 0 self.old self.new result }
         ensures at { OnOk result (Carries at.documents self.old self.new) }
@@ -119,7 +120,7 @@ impl<T: Characters> Reader<T> {
     }
 
     /// Reads directives, and gives the first token that is none.
-    fn directives(&mut self, slot: &mut EventSlot) -> Result<Kind, Stopped>
+    fn directives(&mut self, slot: &mut EventSlot) -> Result<Kind, Failed>
         ensures peeked { IfOk result (λ n. IsOfKind n self.new.tokens.peeked × (n ≢ kind.VersionDirective) × (n ≢ kind.TagDirective)) }
         ensures bounds { Moves 0 0 self.old self.new result }
         ensures at { OnOk result (AreRead self.old self.new) }
@@ -140,7 +141,7 @@ impl<T: Characters> Reader<T> {
     }
 
     /// Takes a version. A document may have one.
-    fn version(&mut self, slot: &mut EventSlot, versioned: bool) -> Result<(), Stopped>
+    fn version(&mut self, slot: &mut EventSlot, versioned: bool) -> Result<(), Failed>
         requires { IsOfKind kind.VersionDirective self.old.tokens.peeked }
         ensures directs { Directs versioned true self.old self.new result slot.new }
         ensures bounds { Moves 0 1 self.old self.new result }
@@ -153,7 +154,7 @@ impl<T: Characters> Reader<T> {
     }
 
     /// Takes a `%TAG` directive, or one of another name.
-    fn tag_directive(&mut self, slot: &mut EventSlot) -> Result<(), Stopped>
+    fn tag_directive(&mut self, slot: &mut EventSlot) -> Result<(), Failed>
         requires { IsOfKind kind.TagDirective self.old.tokens.peeked }
         ensures directs { (versioned : Bool) → Directs versioned versioned self.old self.new result slot.new }
         ensures bounds { Moves 0 1 self.old self.new result }

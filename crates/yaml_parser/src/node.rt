@@ -16,11 +16,12 @@ ghost use Rattle.model_parser.specs.declared.kind.Kind.TheVariants as kind;
 
 use crate::event::{Event, Tag};
 use crate::reader::Reader;
-use crate::slot::{Answer, EventSlot, Stopped};
+use crate::slot::{Answer, EventSlot};
 use crate::tokens::Stop;
 use model_parser::{Kind, NodeContext, State};
+use model_scanner::Collection;
 use yaml_chars::{Characters, Marker};
-use yaml_scanner_state::Collection;
+use yaml_scanner::Failed;
 use yaml_tokens::{Fault, Problem};
 
 /// What stands before a node's content.
@@ -359,7 +360,7 @@ impl<T: Characters> Reader<T> {
         &mut self,
         slot: &mut EventSlot,
         properties: Option<Properties>,
-    ) -> Result<(usize, Option<Tag>), Stopped>
+    ) -> Result<(usize, Option<Tag>), Failed>
         ensures work { OnOk result (work self.new ≡ work self.old) }
         ensures input { KeepsInput self.old self.new }
         ensures registers { (names : Names) → IsNamed self.old.names names → IfOk result (λ r. Registers self.old properties names (λ a t. (r.0 ≡ a) × (perhaps_tag_of r.1 ≡ t)) self.new) }

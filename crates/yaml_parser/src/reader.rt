@@ -20,13 +20,13 @@ ghost use Rattle.yaml_parser.specs.Top.{ReadsTop};
 
 use crate::event::Event;
 use crate::names::Names;
-use crate::slot::{Answer, EventSlot, Stopped};
+use crate::slot::{Answer, EventSlot};
 use crate::stack::Stack;
 use crate::tokens::{KeptStop, Stop, Tokens};
 use model_parser::{Kind, State};
 use std::alloc::Global;
 use yaml_chars::{Characters, Marker};
-use yaml_scanner::PlainNode;
+use yaml_scanner::{Failed, PlainNode};
 use yaml_tokens::{ScanError, TScalarStyle};
 
 /// The productions of the token grammar, one function each.
@@ -45,7 +45,7 @@ pub struct Reader<T: Characters> {
 impl<T: Characters> Reader<T> {
     /// What the next token is, which stays.
     #[inline(always)]
-    pub(crate) fn peek(&mut self, slot: &mut EventSlot) -> Result<Kind, Stopped>
+    pub(crate) fn peek(&mut self, slot: &mut EventSlot) -> Result<Kind, Failed>
         ensures peeked { IfOk result (λ k. IsOfKind k self.new.tokens.peeked) }
         ensures names { self.new.names ≡ self.old.names }
         ensures taken { self.new.tokens.taken ≡ self.old.tokens.taken }
@@ -55,7 +55,7 @@ impl<T: Characters> Reader<T> {
     {
         match self.tokens.peek() {
             Ok(kind) => Ok(kind),
-            Err(missing) => Err(slot.halt(Stop::from(missing))),
+            Err(_) => Err(slot.halt(Stop::Scan)),
         }
     }
 
@@ -82,7 +82,7 @@ impl<T: Characters> Reader<T> {
     }
 
     #[inline(always)]
-    pub(crate) fn push(&mut self, slot: &mut EventSlot, state: State) -> Result<(), Stopped>
+    pub(crate) fn push(&mut self, slot: &mut EventSlot, state: State) -> Result<(), Failed>
         ensures work { OnOk result (work self.new ≡ work self.old + weight state) }
         ensures names { self.new.names ≡ self.old.names }
         ensures tokens { self.new.tokens ≡ self.old.tokens }
@@ -97,7 +97,7 @@ impl<T: Characters> Reader<T> {
 
     /// Takes a `Key` and the plain scalar after it at once, or gives `None` and changes nothing.
     #[inline(always)]
-    pub(crate) fn next_key(&mut self, slot: &mut EventSlot) -> Result<Option<PlainNode>, Stopped>
+    pub(crate) fn next_key(&mut self, slot: &mut EventSlot) -> Result<Option<PlainNode>, Failed>
         ensures key { IfOk result (λ o. IfSome o (λ n. TakesBoth self.old.tokens Key n self.new.tokens)) }
         ensures work { IfOk result (λ o. IfSome o (λ n. work self.new + 8 ≤ work self.old)) }
         ensures none { IfOk result (λ o. IfNone o (self.new ≡ self.old)) }
@@ -108,13 +108,13 @@ impl<T: Characters> Reader<T> {
     {
         match self.tokens.next_key() {
             Ok(node) => Ok(node),
-            Err(missing) => Err(slot.halt(Stop::from(missing))),
+            Err(_) => Err(slot.halt(Stop::Scan)),
         }
     }
 
     /// Takes a `Value` and the plain scalar after it at once, or gives `None` and changes nothing.
     #[inline(always)]
-    pub(crate) fn next_value(&mut self, slot: &mut EventSlot) -> Result<Option<PlainNode>, Stopped>
+    pub(crate) fn next_value(&mut self, slot: &mut EventSlot) -> Result<Option<PlainNode>, Failed>
         ensures value { IfOk result (λ o. IfSome o (λ n. TakesBoth self.old.tokens Value n self.new.tokens)) }
         ensures work { IfOk result (λ o. IfSome o (λ n. work self.new + 8 ≤ work self.old)) }
         ensures none { IfOk result (λ o. IfNone o (self.new ≡ self.old)) }
@@ -125,7 +125,7 @@ impl<T: Characters> Reader<T> {
     {
         match self.tokens.next_value() {
             Ok(node) => Ok(node),
-            Err(missing) => Err(slot.halt(Stop::from(missing))),
+            Err(_) => Err(slot.halt(Stop::Scan)),
         }
     }
 
@@ -194,7 +194,6 @@ impl<T: Characters> Reader<T> {
                 Some(error) => error,
                 None => ScanError::memory(mark),
             },
-            Stop::Ended => ScanError::memory(mark),
         }
     }
 

@@ -4,20 +4,17 @@ use crate::event::Event;
 use crate::tokens::Stop;
 use std::mem;
 use yaml_chars::Marker;
+use yaml_scanner::Failed;
 
-/// No event comes: the slot says why.
-#[derive(Clone, Copy)]
-pub struct Stopped;
-
-/// Whether an event was written into the slot.
-pub type Answer = Result<(), Stopped>;
+/// Whether an event was written into the slot. If not, the slot says why.
+pub type Answer = Result<(), Failed>;
 
 /// Where productions write.
 #[derive(Drop)]
 pub struct EventSlot {
     /// The event that was written, and its position.
     pub next: (Event, Marker),
-    /// Why no event comes.
+    /// Why no event comes, where a call failed.
     pub stop: Stop,
 }
 
@@ -27,7 +24,7 @@ impl EventSlot {
     pub fn new(mark: Marker) -> Self {
         EventSlot {
             next: (Event::Nothing, mark),
-            stop: Stop::Ended,
+            stop: Stop::Scan,
         }
     }
 
@@ -41,10 +38,10 @@ impl EventSlot {
 
     /// Writes why no event comes.
     #[inline(never)]
-    pub(crate) fn halt(&mut self, stop: Stop) -> Stopped
+    pub(crate) fn halt(&mut self, stop: Stop) -> Failed
         ensures { self.new.stop ≡ stop }
     {
         self.stop = stop;
-        Stopped
+        Failed
     }
 }

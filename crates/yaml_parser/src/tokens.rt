@@ -7,7 +7,6 @@ ghost use Rattle.yaml_tokens.specs.declared.token.TokenType.TheVariants.{Key, Va
 ghost use Rattle.yaml_parser.specs.Kinds.{IsOfKind, IsName};
 ghost use Rattle.yaml_parser.specs.Ahead.{left, Skips, SkipsOne, TakesBoth, indicator_of, scalar_of};
 ghost use Rattle.yaml_parser.specs.Handed.{IsHanded, IsAwake, IsStopped};
-ghost use Rattle.yaml_parser.specs.declared.tokens.TokenFault.TheVariants.{Scan};
 ghost use Rattle.model_parser.specs.declared.kind.Kind.TheVariants as kind;
 
 use crate::looked::Looked;
@@ -15,7 +14,7 @@ use model_parser::Kind;
 use std::alloc::AllocError;
 use yaml_chars::ghost_list::GhostList;
 use yaml_chars::{Characters, Marker};
-use yaml_scanner::{PlainNode, Scanner};
+use yaml_scanner::{Failed, PlainNode, Scanner};
 use yaml_tokens::{Fault, TScalarStyle, Token, TokenType};
 
 /// Why no event comes.
@@ -25,8 +24,6 @@ pub enum Stop {
     Own(Fault),
     /// The scanner's fault, which the scanner keeps.
     Scan,
-    /// The scanner has no more tokens: this never comes.
-    Ended,
 }
 
 impl From<Fault> for Stop {
@@ -49,29 +46,6 @@ impl From<AllocError> for Stop {
 
     fn from(_: AllocError) -> Stop {
         Stop::Own(Fault::OutOfMemory)
-    }
-}
-
-/// Why no token comes.
-#[derive(Clone, Copy, Debug, PartialEq, Eq)]
-pub enum TokenFault {
-    /// The scanner's fault, which the scanner keeps.
-    Scan,
-    /// The scanner has no more tokens: this never comes.
-    Ended,
-}
-
-impl From<TokenFault> for Stop {
-    ghost use Rattle.std.specs.Prelude.{◌≡◌};
-    ghost use Rattle.yaml_parser.specs.Kinds.{stop_of};
-
-    ghost from_gives = { λ m stop. stop ≡ stop_of m };
-
-    fn from(missing: TokenFault) -> Stop {
-        match missing {
-            TokenFault::Scan => Stop::Scan,
-            TokenFault::Ended => Stop::Ended,
-        }
     }
 }
 
@@ -110,9 +84,9 @@ impl<T: Characters> Tokens<T> {
         }
     }
 
-    /// What the next token is, which stays.
+    /// What the next token is, which stays. An `Err`: none comes, since the scanner keeps a fault, or handed out its last token.
     #[inline(never)]
-    pub fn peek(&mut self) -> Result<Kind, TokenFault>
+    pub fn peek(&mut self) -> Result<Kind, Failed>
         ensures looks { IfOk result (λ k. IsOfKind k self.new.peeked) }
         ensures left { OnOk result (left self.new ≤ left self.old) }
         ensures taken { self.new.taken ≡ self.old.taken }
@@ -120,7 +94,7 @@ impl<T: Characters> Tokens<T> {
         ensures same { IfSome self.old.peeked (λ t. self.new.peeked ≡ Some t) }
         ensures handed { IsHanded self.old → IsHanded self.new }
         ensures awake { OnOk result (IsAwake self.old → IsAwake self.new) }
-        ensures err { IsAwake self.old → IfErr result (λ m. (m ≡ Scan) × IsStopped (scanned self.new.scanner)) }
+        ensures err { IsAwake self.old → OnErr result (IsStopped (scanned self.new.scanner)) }
         ensures none { OnErr result (self.new.peeked ≡ None) }
     {
         if let Some(kind) = self.peeked.kind() {
@@ -128,8 +102,7 @@ impl<T: Characters> Tokens<T> {
         }
         match self.scanner.next_token() {
             Ok(Some(token)) => Ok(self.peeked.put(token)),
-            Ok(None) => Err(TokenFault::Ended),
-            Err(_) => Err(TokenFault::Scan),
+            _ => Err(Failed),
         }
     }
 
@@ -199,12 +172,12 @@ impl<T: Characters> Tokens<T> {
 
     /// Takes a `Key` and the plain scalar after it at once, or gives `None` and changes nothing.
     #[inline(always)]
-    pub fn next_key(&mut self) -> Result<Option<PlainNode>, TokenFault>
+    pub fn next_key(&mut self) -> Result<Option<PlainNode>, Failed>
         ensures key { IfOk result (λ o. IfSome o (λ n. TakesBoth self.old Key n self.new)) }
         ensures left { IfOk result (λ o. IfSome o (λ n. left self.new + 2 ≤ left self.old)) }
         ensures none { IfOk result (λ o. IfNone o (self.new ≡ self.old)) }
         ensures start { self.new.scanner.start ≡ self.old.scanner.start }
-        ensures err { IfErr result (λ m. (m ≡ Scan) × IsStopped (scanned self.new.scanner)) }
+        ensures err { OnErr result (IsStopped (scanned self.new.scanner)) }
         ensures kept { OnErr result ((self.new.taken ≡ self.old.taken) × (self.new.peeked ≡ self.old.peeked) × (IsHanded self.old → IsHanded self.new)) }
         ensures missing { OnErr result (self.new.peeked ≡ None) }
     {
@@ -214,18 +187,18 @@ impl<T: Characters> Tokens<T> {
         match self.scanner.next_key() {
             Ok(Some(node)) => Ok(Some(self.note(TokenType::Key, node))),
             Ok(None) => Ok(None),
-            Err(_) => Err(TokenFault::Scan),
+            Err(_) => Err(Failed),
         }
     }
 
     /// Takes a `Value` and the plain scalar after it at once, or gives `None` and changes nothing.
     #[inline(always)]
-    pub fn next_value(&mut self) -> Result<Option<PlainNode>, TokenFault>
+    pub fn next_value(&mut self) -> Result<Option<PlainNode>, Failed>
         ensures value { IfOk result (λ o. IfSome o (λ n. TakesBoth self.old Value n self.new)) }
         ensures left { IfOk result (λ o. IfSome o (λ n. left self.new + 2 ≤ left self.old)) }
         ensures none { IfOk result (λ o. IfNone o (self.new ≡ self.old)) }
         ensures start { self.new.scanner.start ≡ self.old.scanner.start }
-        ensures err { IfErr result (λ m. (m ≡ Scan) × IsStopped (scanned self.new.scanner)) }
+        ensures err { OnErr result (IsStopped (scanned self.new.scanner)) }
         ensures kept { OnErr result ((self.new.taken ≡ self.old.taken) × (self.new.peeked ≡ self.old.peeked) × (IsHanded self.old → IsHanded self.new)) }
         ensures missing { OnErr result (self.new.peeked ≡ None) }
     {
@@ -235,7 +208,7 @@ impl<T: Characters> Tokens<T> {
         match self.scanner.next_value() {
             Ok(Some(node)) => Ok(Some(self.note(TokenType::Value, node))),
             Ok(None) => Ok(None),
-            Err(_) => Err(TokenFault::Scan),
+            Err(_) => Err(Failed),
         }
     }
 

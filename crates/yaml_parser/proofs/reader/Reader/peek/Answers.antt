@@ -6,4 +6,4 @@ returns-in-Ok-clause-at g c = λ goal o names given a. looks_on c.peek.ensures.t
 
 pub returns-in-Err-clause-err : goal.returns-in-Err-clause-err
 returns-in-Err-clause-err g c =
-    look_fails c.args.self.now _ c.peek.ensures.taken (λ t h. if_some_at (λ u. c.peek.new.self.peeked ≡ Some u) c.peek.ensures.same h) c.in-Err.ensures.none c.peek.ensures.handed refl (c.halt.ensures ∙ c.from.ensures) c.in-Err.ensures.err
+    look_fails c.args.self.now _ c.peek.ensures.taken (λ t h. if_some_at (λ u. c.peek.new.self.peeked ≡ Some u) c.peek.ensures.same h) c.in-Err.ensures.none c.peek.ensures.handed refl c.halt.ensures c.in-Err.ensures.err
