@@ -37,9 +37,6 @@ foretells_beginning keep_tags tokens all es more e foretold ts vs stream =
     let parts : events_of all ≡ events_of es ++ events_of more = ap events_of e ∙ map-append (λ (v : Ev × Position). v.0) es more in
     (events_of more ++ f.0, f.1 ∙ ap (λ xs. xs ++ f.0) parts ∙ append_assoc (events_of es) (events_of more) f.0)
 
-pub foretold_are_at_work : (keep_tags : Bool) (tokens more : List Tok) (trees : List Tree) (es : List (Ev × Position)) → ReadAs keep_tags (tokens ++ more) trees → Foretells keep_tags tokens (events_of es) → IsAtWork (with_events new_loader es)
-foretold_are_at_work keep_tags tokens more trees es reads foretold = foretold_are_not_refused keep_tags tokens more trees es reads foretold
-
 pub events_are_read : EventsOfReadTextsAreRead
 events_are_read p text trees es more x scans follows e =
     let y = goes_on p.keep_tags text trees p.scanner.given x (first_tokens text p.scanner scans) in

@@ -117,22 +117,6 @@ module _ (table : List Mark) where
   root_has_mark (u ∷ ts) (n ∷ ms) zero t e f h = cc
   root_has_mark (u ∷ ts) (n ∷ ms) (suc i) t e f h = root_has_mark ts ms i t e f h.1
 
-  -- the value at a key
-  pub value_of_pair : (k : Tree) (ps : List (Tree × Tree)) (ms : List Mark) → PairsHaveMarks table (pairs_of ps) ms
-      → option_map (λ p. p.1.0) (pair_with k (pairs_beside ps (pairs_shown table ps ms))) ≡ lookup k ps
-  value_of_pair k [] ms h = refl
-  value_of_pair k (p ∷ ps) [] h = absurd h
-  value_of_pair k (p ∷ ps) (m ∷ []) h = absurd h
-  value_of_pair k (p ∷ ps) (m ∷ n ∷ ms) h = by (tree_eq k p.0) (value_of_pair k ps ms h.1.1)
-    where
-      rest : List ((Tree × Marks) × (Tree × Marks))
-      rest = pairs_beside ps (pairs_shown table ps ms)
-
-      by : (b : Bool) → option_map (λ q. q.1.0) (pair_with k rest) ≡ lookup k ps
-          → option_map (λ q. q.1.0) (cond b (Some ((p.0, shown_marks table p.0 m), (p.1, shown_marks table p.1 n))) (pair_with k rest)) ≡ cond b (Some p.1) (lookup k ps)
-      by true e = refl
-      by false e = e
-
 -- ---- elements at a place
 
 pub element_at : {A : Type 0} (xs : List A) (i : ℕ) (x : A) → i < length xs → x ≡ get_or xs i x → slice_get xs i ≡ Some x
@@ -171,9 +155,6 @@ module _ (table : List Mark) (m : Mark) where
 
   pub items_have : (t : Tree) (ts : List Tree) → t ≡ array (items_of ts) → HasMarks table t m → (m.first + m.count ≤ length table) × ItemsHaveMarks table (items_of ts) (parts_at table m)
   items_have t ts e h = subst (λ u. HasMarks table u m) e h
-
-  pub pairs_have : (t : Tree) (ps : List (Tree × Tree)) → t ≡ hash (pairs_of ps) → HasMarks table t m → (m.first + m.count ≤ length table) × PairsHaveMarks table (pairs_of ps) (parts_at table m)
-  pairs_have t ps e h = subst (λ u. HasMarks table u m) e h
 
 -- nothing is left where no mark is
 pub no_items_left : (table : List Mark) (ts : List Tree) (ms : List Mark) → length ms ≡ 0 → beside ts (all_shown table ts ms) ≡ []

@@ -22,9 +22,6 @@ leaf_stands table p = (refl, refl, omega arith, tt)
 alias_stands : (table : List Mark) (m : Mark) (s : Marks) (p : Position) → Stands table m s → Stands table (record m { own = p }) (alias_of p s)
 alias_stands table m (marks own tree ps) p h = (refl, h.1, h.2, h.3)
 
-pub none_under : (table : List Mark) → AnchorsStand table [] []
-none_under table n p = leaf_stands table p
-
 pub one_under : (table : List Mark) (old new : List (ℕ × Mark)) (anchors : MarkedAnchors) (a : ℕ) (m : Mark) (s : Marks)
     → Stands table m s → IsUnder (suc a) m old new → AnchorsStand table old anchors → AnchorsStand table new (finished_marks (suc a) s anchors)
 one_under table old new anchors a m s stands under h n p = by (nat_eq n (suc a)) (mark_under n new) (under n)
@@ -33,25 +30,9 @@ one_under table old new anchors a m s stands under h n p = by (nat_eq n (suc a))
     by true o e = subst (λ x. Stands table (alias_mark p x) (alias_of p s)) (sym e) (alias_stands table m s p stands)
     by false o e = subst (λ x. Stands table (alias_mark p x) (aliased_marks n p anchors)) (sym e) (h n p)
 
-at_number : (n k : ℕ) → is_at (nat_cmp n) k ≡ nat_eq k n
-at_number n k = grind (arith, nat_tests)
-
--- a map into which a mark is put
-pub put_under : (a : ℕ) (m : Mark) (old new : List (ℕ × Mark)) → ((q : ℕ) → lookup (is_at (nat_cmp q)) new ≡ cond (is_at (nat_cmp a) q) (Some m) (lookup (is_at (nat_cmp q)) old)) → IsUnder a m old new
-put_under a m old new puts n = puts n ∙ ap (λ b. if b then Some m else mark_under n old) (at_number a n)
-
 -- ---- all of it
 
 module _ {table documents : List Mark} {opened : List Begun} {waiting : List Mark} {root : Option Mark} {entries : List (ℕ × Mark)} (x : defs.Marking) where
-  -- a complete node that is a document's
-  pub root_holds : (m : Mark) (s : Marks) → opened ≡ [] → Stands table m s → Holds table documents opened waiting root entries x
-      → Holds table documents opened waiting (Some m) entries (defs.with_part s x x.opened)
-  root_holds m s none stands h = by x.opened (subst (λ bs. AllOpenStand table (reverse bs) waiting x.opened) none h.of_opened)
-    where
-      by : (os : List OpenMarks) → AllOpenStand table [] waiting os → Holds table documents opened waiting (Some m) entries (defs.with_part s x os)
-      by [] r = record { of_documents = h.of_documents; of_opened = subst (λ bs. AllOpenStand table (reverse bs) waiting []) (sym none) r; of_root = stands; of_anchors = h.of_anchors }
-      by (o ∷ os) r = absurd r
-
   -- a complete node in a collection
   pub inside_holds : (m : Mark) (s : Marks) → (opened ≡ [] → ⊥) → Stands table m s → Holds table documents opened waiting root entries x
       → Holds table documents opened (waiting ++ m ∷ []) root entries (defs.with_part s x x.opened)
@@ -63,19 +44,6 @@ module _ {table documents : List Mark} {opened : List Begun} {waiting : List Mar
       by (b ∷ bs) e (o ∷ os) r = record {
         of_documents = h.of_documents;
         of_opened = subst (λ cs. AllOpenStand table cs (waiting ++ m ∷ []) (record o { parts = o.parts ++ s ∷ [] } ∷ os)) (sym e) (open_and table b bs waiting o os m s r stands);
-        of_root = h.of_root;
-        of_anchors = h.of_anchors;
-      }
-
-  -- a collection begins
-  pub open_holds : (a : ℕ) (p : Position) (n : ℕ) → n ≡ length waiting → Holds table documents opened waiting root entries x
-      → Holds table documents (opened ++ record { anchor = a; start = p; before = n } ∷ []) waiting root entries (defs.with_open a p x)
-  open_holds a p n before h =
-      let b : Begun = record { anchor = a; start = p; before = n } in
-      let o : OpenMarks = record { anchor = a; start = p; parts = [] } in
-      record {
-        of_documents = h.of_documents;
-        of_opened = subst (λ bs. AllOpenStand table bs waiting (o ∷ x.opened)) (sym (last_first opened b)) (open_more table (reverse opened) waiting x.opened b o h.of_opened before refl refl refl);
         of_root = h.of_root;
         of_anchors = h.of_anchors;
       }
