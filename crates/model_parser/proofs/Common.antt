@@ -1,7 +1,7 @@
 -- The words of other crates and of specs/ that many proofs here use, passed on from one place. Declares nothing.
 pub use Rattle.defs_event.proofs.Texts.{plain_event, plain_raw, tag_of_text, three_documents}
 pub use Rattle.defs_event.specs.Event.{Ev, Tag}
-pub use Rattle.defs_event.specs.Grammar.{after_anchor, after_tag, block_mapping_entries, block_mapping_value, block_sequence_entries, cases, content, directives, document_end, documents, event_of, explicit_document, flow_mapping_comma, flow_mapping_end_after, flow_mapping_entries, flow_mapping_value, flow_mapping_valued, flow_sequence_comma, flow_sequence_entries, flow_value, grammar, Held, in_block, in_flow, in_pair, indentless_sequence_entries, key, no_flow_mapping_value, node, nothing_held, Place, stream, then_in, value}
+pub use Rattle.defs_event.specs.Grammar.{after_anchor, after_tag, block_mapping_entries, block_mapping_value, block_sequence_entries, cases, content, directives, document_end, documents, empty_event, event_of, explicit_document, flow_mapping_comma, flow_mapping_end_after, flow_mapping_entries, flow_mapping_value, flow_mapping_valued, flow_sequence_comma, flow_sequence_entries, flow_value, grammar, Held, in_block, in_flow, in_pair, indentless_sequence_entries, key, no_flow_mapping_value, node, nothing_held, Place, stream, then_in, value}
 pub use Rattle.defs_event.specs.Names.{named, Names, names_after, no_names, resolved_event}
 pub use Rattle.defs_event.specs.Place.{Collection, directive_next, Next, next_after, next_past, open_after, open_past, other_next}
 pub use Rattle.defs_event.specs.Properties.{anchor_of, anchored, anchored_tagged, directive_token, perhaps_anchor_of, perhaps_tag_of, Properties, tag_of, tag_token, tagged, tagged_anchored}

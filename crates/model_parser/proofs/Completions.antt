@@ -20,7 +20,7 @@ along a (reading g h ∷ w) v (t ∷ ts) us es fs (by_leaving ps p d) c =
 abbrev pub Completes : {G T E H : Type 0} → Table G T E H → Type 0
 Completes {G = G} {T = T} {E = E} {H = H} a = (g : G) (h : H) → (ts : List T) × (es : List E) × Derives a (reading g h ∷ []) ts es
 
-pub all_complete : {G T E H : Type 0} (a : Table G T E H) → Completes a → (w : List (Work G E H)) → Begins a w [] []
+abbrev pub all_complete : {G T E H : Type 0} (a : Table G T E H) → Completes a → (w : List (Work G E H)) → Begins a w [] []
 all_complete a c [] = ([], [], nothing_left)
 all_complete a c (saying e ∷ w) = let r = all_complete a c w in (r.0, e ∷ r.1, says r.2)
 all_complete a c (reading g h ∷ w) =

@@ -1,7 +1,7 @@
 -- The turns between documents.
-use Rattle.model_parser.proofs.Common.{[], alike, alike_after, ap, Awaits, AwaitsAt, begins_node, Directive, directive_token, ends_content, ends_document, Extent, false, Goal, inl, inr, is_directive, IsNext, IsThere, kind_of, Leaves, List, None, nothing_written, Option, placed, Places, Position, Raw, refl, Refuses, row_of, Some, State, Takes, Then, Tok, Token, true, without_node, work_of, works, ◌++◌, ◌∙◌, ◌∷◌, ◌≡◌, ◌≢◌}
+use Rattle.model_parser.proofs.Common.{[], alike, alike_after, ap, Awaits, AwaitsAt, begins_node, Directive, directive_token, ends_content, ends_document, Extent, false, Goal, inl, inr, is_directive, IsNext, IsThere, kind_of, Leaves, List, None, nothing_written, Option, placed, Places, Position, Raw, refl, Refuses, row_of, Some, State, Takes, Then, Tok, Token, true, without_node, work_of, works, ◌++◌, ◌∙◌, ◌∷◌, ◌≡◌, ◌≢◌, before_directive}
 use Rattle.model_parser.proofs.StepRows.{by_row, takes_so, Stays, by_steps, alike_reads, after_steps, refuses, not_refused, reads_first, placed_alike, needs_tokens, Leads, leaves_so, refuses_so}
-use Rattle.model_parser.proofs.Settling.{no_directive, content_settles, explicit_goes, directive_goes, comes_so}
+use Rattle.model_parser.proofs.Settling.{no_directive, explicit_goes, directive_goes, comes_so, MayRead, empties_as, reads_node, empties}
 use Rattle.defs_event.specs.Table as part
 use Rattle.defs_event.specs.Grammar as table
 use Rattle.defs_event.specs.Stream as places
@@ -13,11 +13,8 @@ pub start_takes : (ss : List State) → Takes Goal.start ss Tok.stream_start (So
 start_takes ss = takes_so (λ n f. ((f, n), tt)) (λ f. (refl, (λ k. refl), by_row _ refl refl)) refl (λ f. refl) (λ f. refl)
 
 pub start_refuses : (ss : List State) (t : Tok) → kind_of t ≢ kind.StreamStart → Refuses Goal.start ss t
-start_refuses ss t a = refuses_so Goal.start ss t 9 (λ f. by t a)
-  where
-    by : (t : Tok) → kind_of t ≢ kind.StreamStart → refuses 9 t (work_of Goal.start ss) ≡ true
-    by Tok.stream_start a = absurd (a refl)
-    by t a = refl
+start_refuses ss Tok.stream_start a = absurd (a refl)
+start_refuses ss t a = refuses_so Goal.start ss t 9 (λ f. refl)
 
 -- ---- where a document may do without `---`
 
@@ -105,13 +102,10 @@ pub directed_start : (ss : List State) (read : List Directive) → Takes (Goal.d
 directed_start ss read = takes_so (λ n f. ((f, n), tt)) (λ f. (refl, (λ k. refl), by_row _ refl refl)) refl (λ f. refl) (λ f. refl)
 
 pub directed_refuses : (ss : List State) (read : List Directive) (t : Tok) → kind_of t ≢ kind.VersionDirective → kind_of t ≢ kind.TagDirective → kind_of t ≢ kind.DocumentStart → Refuses (Goal.directed read) ss t
-directed_refuses ss read t a b c = refuses_so (Goal.directed read) ss t 9 (λ f. by t a b c)
-  where
-    by : (t : Tok) → kind_of t ≢ kind.VersionDirective → kind_of t ≢ kind.TagDirective → kind_of t ≢ kind.DocumentStart → refuses 9 t (work_of (Goal.directed read) ss) ≡ true
-    by (Tok.version_directive m n) a b c = absurd (a refl)
-    by (Tok.tag_directive m n) a b c = absurd (b refl)
-    by Tok.document_start a b c = absurd (c refl)
-    by t a b c = refl
+directed_refuses ss read (Tok.version_directive m n) a b c = absurd (a refl)
+directed_refuses ss read (Tok.tag_directive m n) a b c = absurd (b refl)
+directed_refuses ss read Tok.document_start a b c = absurd (c refl)
+directed_refuses ss read t a b c = refuses_so (Goal.directed read) ss t 9 (λ f. refl)
 
 -- ---- the stream's end, or a document that begins with `---`
 
@@ -122,48 +116,39 @@ pub explicit_start : (ss : List State) → Takes Goal.explicit ss Tok.document_s
 explicit_start ss = takes_so (λ n f. ((f, n), tt)) (λ f. (refl, (λ k. refl), by_row _ refl refl)) refl (λ f. refl) (λ f. refl)
 
 pub explicit_refuses : (ss : List State) (t : Tok) → kind_of t ≢ kind.StreamEnd → kind_of t ≢ kind.DocumentStart → Refuses Goal.explicit ss t
-explicit_refuses ss t a b = refuses_so Goal.explicit ss t 9 (λ f. by t a b)
-  where
-    by : (t : Tok) → kind_of t ≢ kind.StreamEnd → kind_of t ≢ kind.DocumentStart → refuses 9 t (work_of Goal.explicit ss) ≡ true
-    by Tok.stream_end a b = absurd (a refl)
-    by Tok.document_start a b = absurd (b refl)
-    by t a b = refl
+explicit_refuses ss Tok.stream_end a b = absurd (a refl)
+explicit_refuses ss Tok.document_start a b = absurd (b refl)
+explicit_refuses ss t a b = refuses_so Goal.explicit ss t 9 (λ f. refl)
 
 -- ---- after `---`
 
-content_from : (ss : List State) (u : Tok) → refuses 9 u (work_of Goal.after ss) ≡ false → Leads 3 Goal.content ss (Some nothing_written) Goal.done (state.DocumentEnd ∷ ss) u
-content_from ss Tok.document_end r = refl
-content_from ss u r = cc
+content_over : (ss : List State) → MayRead Goal.content ss (state.DocumentEnd ∷ ss)
+content_over ss = record { nested = λ n f. (f, n); under = λ f. refl; work = refl; any = λ k. refl; opened = refl }
 
-content_on : (ss : List State) (t : Tok) → ends_content (kind_of t) ≡ true → Leads 3 Goal.content ss (Some nothing_written) Goal.done (state.DocumentEnd ∷ ss) t
-content_on ss Tok.document_end a = refl
-content_on ss t a = cc
-
+-- A directive is refused behind the document.
 pub content_empty : (ss : List State) (t : Tok) → ends_content (kind_of t) ≡ true → Leaves Goal.content ss (Some t) (Some nothing_written) Goal.done (state.DocumentEnd ∷ ss)
-content_empty ss t a = leaves_so 3 (λ n f. ((f, n), tt)) (λ f. refl) (λ f u r m. content_from ss u (r 9)) (λ f r m. content_on ss t a) refl (λ f. content_settles ss t a) (λ f h. inl h)
-
-content_node_on : (ss : List State) (t : Tok) → ends_document (kind_of t) ≡ false → is_directive (kind_of t) ≡ false → refuses 9 t (work_of Goal.content ss) ≡ false → Leads 0 Goal.content ss None (Goal.node context.Block) (state.DocumentEnd ∷ ss) t
-content_node_on ss Tok.flow_sequence_start a b r = refl
-content_node_on ss t a b r = cc
+content_empty ss (Tok.version_directive m n) a = empties_as (content_over ss) (Tok.version_directive m n) (λ f. refl) (λ f. before_directive refl refl)
+content_empty ss (Tok.tag_directive m n) a = empties_as (content_over ss) (Tok.tag_directive m n) (λ f. refl) (λ f. before_directive refl refl)
+content_empty ss t a = empties (content_over ss) t (λ f. a)
 
 pub content_node : (ss : List State) (t : Tok) → ends_document (kind_of t) ≡ false → is_directive (kind_of t) ≡ false → Leaves Goal.content ss (Some t) None (Goal.node context.Block) (state.DocumentEnd ∷ ss)
-content_node ss t a b = leaves_so 0 (λ n f. ((f, n), (refl, refl))) (λ f. refl) (λ f u r m. cc m) (λ f r m. content_node_on ss t a b (r 9)) refl (λ f. alike refl refl) (λ f h. inr b)
+content_node ss t a b = reads_node (content_over ss) t context.Block (λ f. refl) (λ f. a) (λ f. alike refl refl) (λ f h. inr b)
 
 -- ---- after a document's node
 
 pub after_marked : (ss : List State) → Takes Goal.after ss Tok.document_end (Some Raw.document_end) Goal.done (state.ImplicitDocumentStart ∷ ss)
 after_marked ss = takes_so (λ n f. ((f, n), tt)) (λ f. (refl, (λ k. refl), by_row _ refl refl)) refl (λ f. refl) (λ f. refl)
 
-after_from : (ss : List State) (u : Tok) → refuses 9 u (work_of Goal.explicit ss) ≡ false → Leads 2 Goal.after ss (Some Raw.document_end) Goal.done (state.DocumentStart ∷ ss) u
-after_from ss Tok.stream_end r = refl
-after_from ss u r = cc
+after_leads : (ss : List State) (t : Tok) → kind_of t ≢ kind.DocumentEnd → Leads 2 Goal.after ss (Some Raw.document_end) Goal.done (state.DocumentStart ∷ ss) t
+after_leads ss Tok.document_end a = absurd (a refl)
+after_leads ss t a = refl
 
-after_on : (ss : List State) (t : Tok) → kind_of t ≢ kind.DocumentEnd → Leads 2 Goal.after ss (Some Raw.document_end) Goal.done (state.DocumentStart ∷ ss) t
-after_on ss Tok.document_end a = absurd (a refl)
-after_on ss t a = refl
+no_marker : (ss : List State) (t : Tok) → refuses 9 t (work_of Goal.explicit ss) ≡ false → kind_of t ≢ kind.DocumentEnd
+no_marker ss Tok.document_end r e = cc
+no_marker ss t r e = cc
 
 pub after_unmarked : (ss : List State) (t : Tok) → kind_of t ≢ kind.DocumentEnd → is_directive (kind_of t) ≡ false → Leaves Goal.after ss (Some t) (Some Raw.document_end) Goal.done (state.DocumentStart ∷ ss)
-after_unmarked ss t a b = leaves_so 2 (λ n f. ((f, n), tt)) (λ f. refl) (λ f u r m. after_from ss u (r 9)) (λ f r m. after_on ss t a) refl (λ f. alike_after refl b) (λ f h. inr b)
+after_unmarked ss t a b = leaves_so 2 (λ n f. ((f, n), tt)) (λ f. refl) (λ f u r m. after_leads ss u (no_marker ss u (r 9))) (λ f r m. after_leads ss t a) refl (λ f. alike_after refl b) (λ f h. inr b)
 
 pub after_refuses : (ss : List State) (t : Tok) → ends_document (kind_of t) ≡ false → Refuses Goal.after ss t
 after_refuses ss t a = refuses_so Goal.after ss t 9 (λ f. by t a)

@@ -1,26 +1,20 @@
 -- How what is awaited may go on: by some tokens, and then on the shortest way to the end.
-use Rattle.model_parser.proofs.Common.{[], append_assoc, Awaits, Derives, Goal, goes, grammar, Held, kind_of, List, may_begin, None, nothing_left, Option, Raw, reading, refused, saying, says, Some, State, step, subst, sym, Tok, true, Turned, work_of, Works, ◌++◌, ◌∷◌, ◌≡◌}
-use Rattle.model_parser.proofs.Completions.{along}
-use Rattle.model_parser.proofs.Falls.{shortest, shortest_events, ends}
+use Rattle.model_parser.proofs.Common.{[], append_assoc, Awaits, Derives, Goal, goes, grammar, Held, kind_of, List, may_begin, None, Option, Raw, refused, Some, State, step, subst, sym, Tok, true, Turned, work_of, Works, ◌++◌, ◌∷◌, ◌≡◌}
+use Rattle.model_parser.proofs.Completions.{all_complete}
+use Rattle.model_parser.proofs.Falls.{grammar_completes}
 use Rattle.model_parser.proofs.Steps.{Sound, step_sound}
 use Rattle.defs_event.specs.Grammar as table
 
 -- ---- the shortest way to the end
 
 abbrev pub end_tokens : Works → List Tok
-end_tokens [] = []
-end_tokens (saying e ∷ w) = end_tokens w
-end_tokens (reading g h ∷ w) = shortest g ++ end_tokens w
+end_tokens w = (all_complete grammar grammar_completes w).0
 
 abbrev pub end_events : Works → List Raw
-end_events [] = []
-end_events (saying e ∷ w) = e ∷ end_events w
-end_events (reading g h ∷ w) = shortest_events g h ++ end_events w
+end_events w = (all_complete grammar grammar_completes w).1
 
 pub ends_so : (w : Works) → Derives grammar w (end_tokens w) (end_events w)
-ends_so [] = nothing_left
-ends_so (saying e ∷ w) = says (ends_so w)
-ends_so (reading g h ∷ w) = along grammar (reading g h ∷ []) w (shortest g) (end_tokens w) (shortest_events g h) (end_events w) (ends g h) (ends_so w)
+ends_so w = (all_complete grammar grammar_completes w).2
 
 -- ---- by some tokens
 

@@ -1,6 +1,6 @@
 -- Each row of the grammar that leaves its token weighs less than its goal, and each goal can be read to an end.
-use Rattle.model_parser.proofs.Common.{[], after_anchor, after_tag, block_mapping_entries, block_mapping_value, block_sequence_entries, Bool, by_leaving, by_taking, Case, cases, content, Derives, directives, document_end, documents, false, flow_mapping_comma, flow_mapping_end_after, flow_mapping_entries, flow_mapping_value, flow_mapping_valued, flow_sequence_comma, flow_sequence_entries, flow_value, grammar, Held, if◌then◌else◌, in_pair, indentless_sequence_entries, key, leaves, List, ltb-true, nat_lt, no_flow_mapping_value, node, nothing_held, nothing_left, nothing_written, on, otherwise, Part, parts_weight, Place, Raw, reading, refl, Row, row_of, says, Some, stream, Style, subst, takes, Tok, true, value, weight, ℕ, ◌&&◌, ◌<◌, ◌∷◌, ◌≡◌}
-use Rattle.defs_event.specs.Grammar.{Goal}
+use Rattle.model_parser.proofs.Common.{explicit_document, [], before, after_anchor, after_tag, block_mapping_entries, block_mapping_value, block_sequence_entries, Bool, by_leaving, by_taking, Case, cases, content, Derives, directives, document_end, documents, false, flow_mapping_comma, flow_mapping_entries, flow_mapping_value, flow_mapping_valued, flow_sequence_comma, flow_sequence_entries, flow_value, grammar, Held, if◌then◌else◌, in_pair, indentless_sequence_entries, key, leaves, List, ltb-true, nat_lt, no_flow_mapping_value, node, nothing_left, nothing_written, on, otherwise, Part, parts_weight, Place, Raw, reading, refl, Row, row_of, says, Some, stream, Style, subst, takes, Tok, true, value, weight, ℕ, ◌&&◌, ◌<◌, ◌∷◌, ◌≡◌}
+use Rattle.defs_event.specs.Grammar.{Goal, Side, then_in_pair}
 use Rattle.model_parser.proofs.Steps.{Falls}
 use Rattle.model_parser.proofs.Completions.{Completes}
 
@@ -41,7 +41,7 @@ goal_falls _ = refl
 pub grammar_falls : Falls grammar weight
 grammar_falls g t ps h = falls_here weight (weight g) (cases g) t ps (goal_falls g) h
 
--- ---- goals complete: each is read to its end by these tokens
+-- ---- goals complete: each is read to its end by some tokens, which say these events
 
 abbrev pub text : Tok
 text = Tok.scalar Style.plain []
@@ -51,28 +51,7 @@ abbrev pub after_text : Place → List Tok
 after_text (in_pair s) = Tok.block_end ∷ []
 after_text _ = []
 
-abbrev pub shortest : Goal → List Tok
-shortest stream = Tok.stream_start ∷ Tok.stream_end ∷ []
-shortest directives = Tok.document_start ∷ text ∷ Tok.stream_end ∷ []
-shortest (node p) = text ∷ after_text p
-shortest (after_anchor p) = text ∷ after_text p
-shortest (after_tag p) = text ∷ after_text p
-shortest (content p) = text ∷ after_text p
-shortest flow_sequence_entries = Tok.flow_sequence_end ∷ []
-shortest flow_sequence_comma = Tok.flow_sequence_end ∷ []
-shortest (flow_mapping_entries s) = Tok.flow_mapping_end ∷ []
-shortest flow_mapping_comma = Tok.flow_mapping_end ∷ []
-shortest flow_mapping_value = Tok.value ∷ text ∷ []
-shortest flow_mapping_valued = text ∷ []
-shortest no_flow_mapping_value = Tok.flow_mapping_end ∷ []
-shortest flow_value = Tok.value ∷ text ∷ []
-shortest block_sequence_entries = Tok.block_end ∷ []
-shortest (indentless_sequence_entries s) = Tok.block_end ∷ []
-shortest block_mapping_entries = Tok.block_end ∷ []
-shortest block_mapping_value = Tok.block_end ∷ []
-shortest _ = Tok.stream_end ∷ []
-
--- what it says then
+-- what these say
 abbrev pub text_event : Held → Raw
 text_event h = Raw.scalar [] Style.plain h.anchor h.tag
 
@@ -81,53 +60,35 @@ after_text_events (in_pair key) = nothing_written ∷ Raw.mapping_end ∷ []
 after_text_events (in_pair value) = Raw.mapping_end ∷ []
 after_text_events _ = []
 
-abbrev pub shortest_events : Goal → Held → List Raw
-shortest_events stream h = Raw.stream_start ∷ Raw.stream_end ∷ []
-shortest_events directives h = Raw.document_start h.directives ∷ text_event nothing_held ∷ Raw.document_end ∷ Raw.stream_end ∷ []
-shortest_events document_end h = Raw.document_end ∷ Raw.stream_end ∷ []
-shortest_events (node p) h = text_event h ∷ after_text_events p
-shortest_events (after_anchor p) h = text_event h ∷ after_text_events p
-shortest_events (after_tag p) h = text_event h ∷ after_text_events p
-shortest_events (content p) h = text_event h ∷ after_text_events p
-shortest_events flow_sequence_entries h = Raw.flow_sequence_end ∷ []
-shortest_events flow_sequence_comma h = Raw.flow_sequence_end ∷ []
-shortest_events (flow_mapping_entries s) h = flow_mapping_end_after s ∷ []
-shortest_events flow_mapping_comma h = Raw.flow_mapping_end ∷ []
-shortest_events flow_mapping_value h = text_event nothing_held ∷ []
-shortest_events flow_mapping_valued h = text_event nothing_held ∷ []
-shortest_events no_flow_mapping_value h = nothing_written ∷ Raw.flow_mapping_end ∷ []
-shortest_events flow_value h = text_event nothing_held ∷ []
-shortest_events block_sequence_entries h = Raw.sequence_end ∷ []
-shortest_events (indentless_sequence_entries s) h = Raw.indentless_sequence_end ∷ after_text_events (in_pair s)
-shortest_events block_mapping_entries h = Raw.mapping_end ∷ []
-shortest_events block_mapping_value h = nothing_written ∷ Raw.mapping_end ∷ []
-shortest_events _ h = Raw.stream_end ∷ []
+-- what ends a block mapping behind its key or value
+pub pair_ends : (s : Side) (h : Held) (t : Tok) → Derives grammar (before grammar h t (then_in_pair s) []) (Tok.block_end ∷ []) (after_text_events (in_pair s))
+pair_ends key h t = by_leaving _ refl (says (by_taking _ refl (says nothing_left)))
+pair_ends value h t = by_taking _ refl (says nothing_left)
 
-abbrev pub Ends : Goal → Held → Type 0
-Ends g h = Derives grammar (reading g h ∷ []) (shortest g) (shortest_events g h)
-
-content_ends : (p : Place) (h : Held) → Ends (content p) h
-content_ends (in_pair key) h = by_taking _ refl (says (by_leaving _ refl (says (by_taking _ refl (says nothing_left)))))
-content_ends (in_pair value) h = by_taking _ refl (says (by_taking _ refl (says nothing_left)))
+pub content_ends : (p : Place) (h : Held) → Derives grammar (reading (content p) h ∷ []) (text ∷ after_text p) (text_event h ∷ after_text_events p)
+content_ends (in_pair s) h = by_taking _ refl (says (pair_ends s h text))
 content_ends _ h = by_taking _ refl (says nothing_left)
 
-pub ends : (g : Goal) (h : Held) → Ends g h
-ends stream h = by_taking _ refl (says (by_leaving _ refl (by_taking _ refl (says nothing_left))))
-ends documents h = by_leaving _ refl (by_taking _ refl (says nothing_left))
-ends directives h = by_taking _ refl (says (by_leaving _ refl (by_taking _ refl (says (by_leaving _ refl (says (by_taking _ refl (says nothing_left))))))))
-ends document_end h = by_leaving _ refl (says (by_taking _ refl (says nothing_left)))
-ends (node p) h = by_leaving _ refl (content_ends p h)
-ends (after_anchor p) h = by_leaving _ refl (content_ends p h)
-ends (after_tag p) h = by_leaving _ refl (content_ends p h)
-ends (content p) h = content_ends p h
-ends (indentless_sequence_entries key) h = by_leaving _ refl (says (by_leaving _ refl (says (by_taking _ refl (says nothing_left)))))
-ends (indentless_sequence_entries value) h = by_leaving _ refl (says (by_taking _ refl (says nothing_left)))
-ends block_mapping_value h = by_leaving _ refl (says (by_taking _ refl (says nothing_left)))
-ends flow_mapping_value h = by_taking _ refl (by_leaving _ refl (by_leaving _ refl (by_taking _ refl (says nothing_left))))
-ends flow_mapping_valued h = by_leaving _ refl (by_leaving _ refl (by_taking _ refl (says nothing_left)))
-ends no_flow_mapping_value h = by_leaving _ refl (says (by_taking _ refl (says nothing_left)))
-ends flow_value h = by_taking _ refl (by_leaving _ refl (by_taking _ refl (says nothing_left)))
-ends _ h = by_taking _ refl (says nothing_left)
-
-pub grammar_completes : Completes grammar
-grammar_completes g h = (shortest g, shortest_events g h, ends g h)
+abbrev pub grammar_completes : Completes grammar
+grammar_completes stream h = (Tok.stream_start ∷ Tok.stream_end ∷ [], _, by_taking _ refl (says (by_leaving _ refl (by_taking _ refl (says nothing_left)))))
+grammar_completes documents h = (Tok.stream_end ∷ [], _, by_leaving _ refl (by_taking _ refl (says nothing_left)))
+grammar_completes directives h =
+    (Tok.document_start ∷ text ∷ Tok.stream_end ∷ [], _, by_taking _ refl (says (by_leaving _ refl (by_taking _ refl (says (by_leaving _ refl (says (by_taking _ refl (says nothing_left)))))))))
+grammar_completes explicit_document h = (Tok.stream_end ∷ [], _, by_taking _ refl (says nothing_left))
+grammar_completes document_end h = (Tok.stream_end ∷ [], _, by_leaving _ refl (says (by_taking _ refl (says nothing_left))))
+grammar_completes (node p) h = (_, _, by_leaving _ refl (content_ends p h))
+grammar_completes (after_anchor p) h = (_, _, by_leaving _ refl (content_ends p h))
+grammar_completes (after_tag p) h = (_, _, by_leaving _ refl (content_ends p h))
+grammar_completes (content p) h = (_, _, content_ends p h)
+grammar_completes block_sequence_entries h = (Tok.block_end ∷ [], _, by_taking _ refl (says nothing_left))
+grammar_completes (indentless_sequence_entries s) h = (Tok.block_end ∷ [], _, by_leaving _ refl (says (pair_ends s h Tok.block_end)))
+grammar_completes block_mapping_entries h = (Tok.block_end ∷ [], _, by_taking _ refl (says nothing_left))
+grammar_completes block_mapping_value h = (Tok.block_end ∷ [], _, by_leaving _ refl (says (by_taking _ refl (says nothing_left))))
+grammar_completes flow_sequence_entries h = (Tok.flow_sequence_end ∷ [], _, by_taking _ refl (says nothing_left))
+grammar_completes flow_sequence_comma h = (Tok.flow_sequence_end ∷ [], _, by_taking _ refl (says nothing_left))
+grammar_completes (flow_mapping_entries s) h = (Tok.flow_mapping_end ∷ [], _, by_taking _ refl (says nothing_left))
+grammar_completes flow_mapping_comma h = (Tok.flow_mapping_end ∷ [], _, by_taking _ refl (says nothing_left))
+grammar_completes flow_mapping_value h = (Tok.value ∷ text ∷ [], _, by_taking _ refl (by_leaving _ refl (by_leaving _ refl (by_taking _ refl (says nothing_left)))))
+grammar_completes flow_mapping_valued h = (text ∷ [], _, by_leaving _ refl (by_leaving _ refl (by_taking _ refl (says nothing_left))))
+grammar_completes no_flow_mapping_value h = (Tok.flow_mapping_end ∷ [], _, by_leaving _ refl (says (by_taking _ refl (says nothing_left))))
+grammar_completes flow_value h = (Tok.value ∷ text ∷ [], _, by_taking _ refl (by_leaving _ refl (by_taking _ refl (says nothing_left))))

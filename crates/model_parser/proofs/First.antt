@@ -1,5 +1,5 @@
 -- Tokens and their kinds.
-use Rattle.model_parser.proofs.Common.{ap, Bool, ends_document, ends_flow_key, ends_flow_pair, ends_item, ends_item_key, ends_part, false, HasNoText, Kind, kind_of, or_value, refl, subst, sym, Tok, tok_of_kind, ◌∙◌, ◌≡◌, ◌≢◌}
+use Rattle.model_parser.proofs.Common.{ap, Bool, ends_document, ends_flow_key, ends_flow_pair, ends_item, ends_item_key, ends_part, false, HasNoText, Kind, kind_of, or_value, refl, subst, sym, Tok, tok_of_kind, ◌∙◌, ◌≡◌, ◌≢◌, ends_entry, ends_indentless_entry, true}
 use Rattle.model_parser.specs.declared.kind.Kind.TheVariants as kind
 
 -- a token without texts is known by its kind
@@ -28,6 +28,19 @@ pub not_item : (k : Kind) → k ≢ kind.FlowEntry → k ≢ kind.FlowSequenceEn
 not_item kind.FlowEntry a b = absurd (a refl)
 not_item kind.FlowSequenceEnd a b = absurd (b refl)
 not_item _ a b = refl
+
+pub not_entry : (k : Kind) → k ≢ kind.BlockEntry → k ≢ kind.BlockEnd → ends_entry k ≡ false
+not_entry kind.BlockEntry a b = absurd (a refl)
+not_entry kind.BlockEnd a b = absurd (b refl)
+not_entry _ a b = refl
+
+pub not_indentless : (k : Kind) → k ≢ kind.BlockEntry → ends_part k ≡ false → ends_indentless_entry k ≡ false
+not_indentless kind.BlockEntry a h = absurd (a refl)
+not_indentless k a h = h
+
+-- one that is one of several is no other
+pub not_by : {k x : Kind} (ends : Kind → Bool) → ends k ≡ true → ends x ≡ false → k ≢ x
+not_by ends h none e = let clash : true ≡ false = sym h ∙ ap ends e ∙ none in cc
 
 pub not_flow_pair : (k : Kind) → k ≢ kind.FlowEntry → k ≢ kind.FlowMappingEnd → ends_flow_pair k ≡ false
 not_flow_pair kind.FlowEntry a b = absurd (a refl)

@@ -1,7 +1,8 @@
 -- The turns in flow collections.
 use Rattle.model_parser.proofs.Common.{alike, ends_flow_key, ends_flow_pair, ends_item, ends_item_key, false, Goal, inl, kind_of, Leaves, List, may_begin, None, nothing_written, Option, Raw, refl, Refuses, Some, State, Takes, Tok, true, without_node, work_of, ◌∷◌, ◌≡◌, ◌≢◌}
 use Rattle.model_parser.proofs.StepRows.{by_row, takes_so, refuses, Leads, leaves_so, says_so, refuses_so}
-use Rattle.model_parser.proofs.Settling.{under_goes, under_other, under_past, under_any, pair_key_goes, pair_valued_goes, flow_key_goes, flow_valued_goes, comes_so}
+use Rattle.model_parser.proofs.First.{not_by}
+use Rattle.model_parser.proofs.Settling.{under_goes, under_other, under_past, under_any, flow_valued_goes, comes_so, MayRead, empties, reads_node, closes_so}
 use Rattle.defs_text.specs.Position as chars
 use Rattle.model_parser.specs.declared.kind.Kind.TheVariants as kind
 use Rattle.model_parser.specs.declared.context.NodeContext.TheVariants as context
@@ -27,12 +28,9 @@ pub more_items_comma : (ss : List State) → Takes Goal.more_items ss Tok.flow_e
 more_items_comma ss = takes_so (λ n f. (n, f)) (λ f. (refl, (λ k. refl), by_row _ refl refl)) refl (λ f. refl) (λ f. refl)
 
 pub more_items_refuses : (ss : List State) (t : Tok) → kind_of t ≢ kind.FlowSequenceEnd → kind_of t ≢ kind.FlowEntry → Refuses Goal.more_items ss t
-more_items_refuses ss t a b = refuses_so Goal.more_items ss t 9 (λ f. by t a b)
-  where
-    by : (t : Tok) → kind_of t ≢ kind.FlowSequenceEnd → kind_of t ≢ kind.FlowEntry → refuses 9 t (work_of Goal.more_items ss) ≡ true
-    by Tok.flow_sequence_end a b = absurd (a refl)
-    by Tok.flow_entry a b = absurd (b refl)
-    by t a b = refl
+more_items_refuses ss Tok.flow_sequence_end a b = absurd (a refl)
+more_items_refuses ss Tok.flow_entry a b = absurd (b refl)
+more_items_refuses ss t a b = refuses_so Goal.more_items ss t 9 (λ f. refl)
 
 pub comma_items_end : (ss : List State) → Takes Goal.comma_items ss Tok.flow_sequence_end (Some Raw.flow_sequence_end) Goal.done ss
 comma_items_end ss = takes_so (λ n f. (n, under_goes ss f)) (λ f. (refl, under_any ss f, by_row _ refl refl)) refl (under_other ss) (under_past ss)
@@ -56,55 +54,33 @@ item_node ss t a = leaves_so 1 (λ n f. ((f, n), (refl, refl))) (λ f. refl) (λ
 
 -- ---- a pair that is an item
 
-pair_key_empty_from : (ss : List State) (u : Tok) → refuses 9 u (work_of Goal.done (state.FlowSequenceEntryMappingValue ∷ ss)) ≡ false → Leads 3 Goal.pair_key ss (Some nothing_written) Goal.done (state.FlowSequenceEntryMappingValue ∷ ss) u
-pair_key_empty_from ss Tok.value r = refl
-pair_key_empty_from ss u r = cc
-
-pair_key_empty_on : (ss : List State) (t : Tok) → ends_item_key (kind_of t) ≡ true → Leads 3 Goal.pair_key ss (Some nothing_written) Goal.done (state.FlowSequenceEntryMappingValue ∷ ss) t
-pair_key_empty_on ss Tok.value a = refl
-pair_key_empty_on ss t a = cc
+pair_key_over : (ss : List State) → MayRead Goal.pair_key ss (state.FlowSequenceEntryMappingValue ∷ ss)
+pair_key_over ss = record { nested = λ n f. (f, n); under = λ f. refl; work = refl; any = λ k. refl; opened = refl }
 
 pub pair_key_empty : (ss : List State) (t : Tok) → ends_item_key (kind_of t) ≡ true → Leaves Goal.pair_key ss (Some t) (Some nothing_written) Goal.done (state.FlowSequenceEntryMappingValue ∷ ss)
-pair_key_empty ss t a = leaves_so 3 (λ n f. ((f, n), tt)) (λ f. refl) (λ f u r m. pair_key_empty_from ss u (r 9)) (λ f r m. pair_key_empty_on ss t a) refl (λ f. without_node refl (comes_so Goal.pair_key ss t (pair_key_goes ss t a))) (λ f h. inl h)
-
-pair_key_node_on : (ss : List State) (t : Tok) → ends_item_key (kind_of t) ≡ false → refuses 9 t (work_of Goal.pair_key ss) ≡ false → Leads 0 Goal.pair_key ss None (Goal.node context.Flow) (state.FlowSequenceEntryMappingValue ∷ ss) t
-pair_key_node_on ss Tok.value a r = cc
-pair_key_node_on ss t a r = cc
+pair_key_empty ss t a = empties (pair_key_over ss) t (λ f. a)
 
 pub pair_key_node : (ss : List State) (t : Tok) → ends_item_key (kind_of t) ≡ false → Leaves Goal.pair_key ss (Some t) None (Goal.node context.Flow) (state.FlowSequenceEntryMappingValue ∷ ss)
-pair_key_node ss t a = leaves_so 0 (λ n f. ((f, n), (refl, refl))) (λ f. refl) (λ f u r m. cc m) (λ f r m. pair_key_node_on ss t a (r 9)) refl (λ f. alike refl refl) (λ f h. inl h)
+pair_key_node ss t a = reads_node (pair_key_over ss) t context.Flow (λ f. refl) (λ f. a) (λ f. alike refl refl) (λ f h. inl h)
 
 pub pair_value_value : (ss : List State) → Takes Goal.pair_value ss Tok.value None Goal.pair_valued ss
 pair_value_value ss = takes_so (λ n f. (n, f)) (λ f. (refl, (λ k. refl), by_row _ refl refl)) refl (λ f. refl) (λ f. refl)
 
-pair_value_empty_from : (ss : List State) (u : Tok) → refuses 9 u (work_of Goal.done (state.FlowSequenceEntryMappingEnd ∷ ss)) ≡ false → Leads 2 Goal.pair_value ss (Some nothing_written) Goal.done (state.FlowSequenceEntryMappingEnd ∷ ss) u
-pair_value_empty_from ss Tok.flow_entry r = refl
-pair_value_empty_from ss u r = cc
-
-pair_value_empty_on : (ss : List State) (t : Tok) → kind_of t ≢ kind.Value → Leads 2 Goal.pair_value ss (Some nothing_written) Goal.done (state.FlowSequenceEntryMappingEnd ∷ ss) t
-pair_value_empty_on ss Tok.value a = absurd (a refl)
-pair_value_empty_on ss t a = refl
+pair_value_leads : (ss : List State) (t : Tok) → kind_of t ≢ kind.Value → Leads 2 Goal.pair_value ss (Some nothing_written) Goal.done (state.FlowSequenceEntryMappingEnd ∷ ss) t
+pair_value_leads ss Tok.value a = absurd (a refl)
+pair_value_leads ss t a = refl
 
 pub pair_value_empty : (ss : List State) (t : Tok) → kind_of t ≢ kind.Value → Leaves Goal.pair_value ss (Some t) (Some nothing_written) Goal.done (state.FlowSequenceEntryMappingEnd ∷ ss)
-pair_value_empty ss t a = leaves_so 2 (λ n f. ((f, n), tt)) (λ f. refl) (λ f u r m. pair_value_empty_from ss u (r 9)) (λ f r m. pair_value_empty_on ss t a) refl (λ f. alike refl refl) (λ f h. inl h)
+pair_value_empty ss t a = leaves_so 2 (λ n f. ((f, n), tt)) (λ f. refl) (λ f u r m. pair_value_leads ss u (not_by ends_item (closes_so (state.FlowSequenceEntryMappingEnd ∷ ss) u refl (r 9)) refl)) (λ f r m. pair_value_leads ss t a) refl (λ f. alike refl refl) (λ f h. inl h)
 
-pair_valued_empty_from : (ss : List State) (u : Tok) → refuses 9 u (work_of Goal.done (state.FlowSequenceEntryMappingEnd ∷ ss)) ≡ false → Leads 3 Goal.pair_valued ss (Some nothing_written) Goal.done (state.FlowSequenceEntryMappingEnd ∷ ss) u
-pair_valued_empty_from ss Tok.flow_entry r = refl
-pair_valued_empty_from ss u r = cc
-
-pair_valued_empty_on : (ss : List State) (t : Tok) → ends_item (kind_of t) ≡ true → Leads 3 Goal.pair_valued ss (Some nothing_written) Goal.done (state.FlowSequenceEntryMappingEnd ∷ ss) t
-pair_valued_empty_on ss Tok.flow_entry a = refl
-pair_valued_empty_on ss t a = cc
+pair_valued_over : (ss : List State) → MayRead Goal.pair_valued ss (state.FlowSequenceEntryMappingEnd ∷ ss)
+pair_valued_over ss = record { nested = λ n f. (f, n); under = λ f. refl; work = refl; any = λ k. refl; opened = refl }
 
 pub pair_valued_empty : (ss : List State) (t : Tok) → ends_item (kind_of t) ≡ true → Leaves Goal.pair_valued ss (Some t) (Some nothing_written) Goal.done (state.FlowSequenceEntryMappingEnd ∷ ss)
-pair_valued_empty ss t a = leaves_so 3 (λ n f. ((f, n), tt)) (λ f. refl) (λ f u r m. pair_valued_empty_from ss u (r 9)) (λ f r m. pair_valued_empty_on ss t a) refl (λ f. without_node refl (comes_so Goal.pair_valued ss t (pair_valued_goes ss t a))) (λ f h. inl h)
-
-pair_valued_node_on : (ss : List State) (t : Tok) → ends_item (kind_of t) ≡ false → refuses 9 t (work_of Goal.pair_valued ss) ≡ false → Leads 0 Goal.pair_valued ss None (Goal.node context.Flow) (state.FlowSequenceEntryMappingEnd ∷ ss) t
-pair_valued_node_on ss Tok.flow_entry a r = cc
-pair_valued_node_on ss t a r = cc
+pair_valued_empty ss t a = empties (pair_valued_over ss) t (λ f. a)
 
 pub pair_valued_node : (ss : List State) (t : Tok) → ends_item (kind_of t) ≡ false → Leaves Goal.pair_valued ss (Some t) None (Goal.node context.Flow) (state.FlowSequenceEntryMappingEnd ∷ ss)
-pair_valued_node ss t a = leaves_so 0 (λ n f. ((f, n), (refl, refl))) (λ f. refl) (λ f u r m. cc m) (λ f r m. pair_valued_node_on ss t a (r 9)) refl (λ f. alike refl refl) (λ f h. inl h)
+pair_valued_node ss t a = reads_node (pair_valued_over ss) t context.Flow (λ f. refl) (λ f. a) (λ f. alike refl refl) (λ f h. inl h)
 
 pub pair_ends : (ss : List State) (p : Option Tok) → Leaves Goal.pair_end ss p (Some Raw.pair_end) Goal.done (state.FlowSequenceEntry ∷ ss)
 pair_ends ss p = says_so (λ n f. ((f, n), tt)) refl (λ k. refl) (λ k. refl) refl (λ f. alike refl refl) (λ f h. inl h)
@@ -128,12 +104,9 @@ pub more_flow_comma : (ss : List State) → Takes Goal.more_flow_pairs ss Tok.fl
 more_flow_comma ss = takes_so (λ n f. (n, f)) (λ f. (refl, (λ k. refl), by_row _ refl refl)) refl (λ f. refl) (λ f. refl)
 
 pub more_flow_refuses : (ss : List State) (t : Tok) → kind_of t ≢ kind.FlowMappingEnd → kind_of t ≢ kind.FlowEntry → Refuses Goal.more_flow_pairs ss t
-more_flow_refuses ss t a b = refuses_so Goal.more_flow_pairs ss t 9 (λ f. by t a b)
-  where
-    by : (t : Tok) → kind_of t ≢ kind.FlowMappingEnd → kind_of t ≢ kind.FlowEntry → refuses 9 t (work_of Goal.more_flow_pairs ss) ≡ true
-    by Tok.flow_mapping_end a b = absurd (a refl)
-    by Tok.flow_entry a b = absurd (b refl)
-    by t a b = refl
+more_flow_refuses ss Tok.flow_mapping_end a b = absurd (a refl)
+more_flow_refuses ss Tok.flow_entry a b = absurd (b refl)
+more_flow_refuses ss t a b = refuses_so Goal.more_flow_pairs ss t 9 (λ f. refl)
 
 pub comma_flow_end : (ss : List State) → Takes Goal.comma_flow_pairs ss Tok.flow_mapping_end (Some Raw.flow_mapping_end_at_comma) Goal.done ss
 comma_flow_end ss = takes_so (λ n f. (n, under_goes ss f)) (λ f. (refl, under_any ss f, by_row _ refl refl)) refl (under_other ss) (under_past ss)
@@ -160,48 +133,31 @@ pair_on s ss t a b m r = cc
 pub flow_pair_node : (s : table.Start) (ss : List State) (t : Tok) → kind_of t ≢ kind.Key → kind_of t ≢ kind.Value → Leaves (Goal.flow_pair s) ss (Some t) None (Goal.node context.Flow) (state.FlowMappingEmptyValue ∷ ss)
 flow_pair_node s ss t a b = leaves_so 1 (λ n f. ((f, n), (refl, refl))) (λ f. refl) (λ f u r m. pair_from s ss u m) (λ f r m. pair_on s ss t a b m (r 9)) refl (λ f. alike refl refl) (λ f h. inl h)
 
-flow_key_empty_from : (ss : List State) (u : Tok) → refuses 9 u (work_of Goal.done (state.FlowMappingValue ∷ ss)) ≡ false → Leads 3 Goal.flow_key ss (Some nothing_written) Goal.done (state.FlowMappingValue ∷ ss) u
-flow_key_empty_from ss Tok.value r = refl
-flow_key_empty_from ss u r = cc
-
-flow_key_empty_on : (ss : List State) (t : Tok) → ends_flow_key (kind_of t) ≡ true → Leads 3 Goal.flow_key ss (Some nothing_written) Goal.done (state.FlowMappingValue ∷ ss) t
-flow_key_empty_on ss Tok.value a = refl
-flow_key_empty_on ss t a = cc
+flow_key_over : (ss : List State) → MayRead Goal.flow_key ss (state.FlowMappingValue ∷ ss)
+flow_key_over ss = record { nested = λ n f. (f, n); under = λ f. refl; work = refl; any = λ k. refl; opened = refl }
 
 pub flow_key_empty : (ss : List State) (t : Tok) → ends_flow_key (kind_of t) ≡ true → Leaves Goal.flow_key ss (Some t) (Some nothing_written) Goal.done (state.FlowMappingValue ∷ ss)
-flow_key_empty ss t a = leaves_so 3 (λ n f. ((f, n), tt)) (λ f. refl) (λ f u r m. flow_key_empty_from ss u (r 9)) (λ f r m. flow_key_empty_on ss t a) refl (λ f. without_node refl (comes_so Goal.flow_key ss t (flow_key_goes ss t a))) (λ f h. inl h)
-
-flow_key_node_on : (ss : List State) (t : Tok) → ends_flow_key (kind_of t) ≡ false → refuses 9 t (work_of Goal.flow_key ss) ≡ false → Leads 0 Goal.flow_key ss None (Goal.node context.Flow) (state.FlowMappingValue ∷ ss) t
-flow_key_node_on ss Tok.value a r = cc
-flow_key_node_on ss t a r = cc
+flow_key_empty ss t a = empties (flow_key_over ss) t (λ f. a)
 
 pub flow_key_node : (ss : List State) (t : Tok) → ends_flow_key (kind_of t) ≡ false → Leaves Goal.flow_key ss (Some t) None (Goal.node context.Flow) (state.FlowMappingValue ∷ ss)
-flow_key_node ss t a = leaves_so 0 (λ n f. ((f, n), (refl, refl))) (λ f. refl) (λ f u r m. cc m) (λ f r m. flow_key_node_on ss t a (r 9)) refl (λ f. alike refl refl) (λ f h. inl h)
+flow_key_node ss t a = reads_node (flow_key_over ss) t context.Flow (λ f. refl) (λ f. a) (λ f. alike refl refl) (λ f h. inl h)
 
 pub flow_after_value : (ss : List State) (m : chars.Position) → Takes Goal.flow_after_key ss Tok.value None (Goal.flow_valued m) ss
 flow_after_value ss m = takes_so (λ n f. (n, f)) (λ f. (refl, (λ k. refl), by_row _ refl refl)) refl (λ f. refl) (λ f. refl)
 
-flow_after_empty_from : (ss : List State) (u : Tok) → refuses 9 u (work_of Goal.done (state.FlowMappingKey ∷ ss)) ≡ false → Leads 2 Goal.flow_after_key ss (Some nothing_written) Goal.done (state.FlowMappingKey ∷ ss) u
-flow_after_empty_from ss Tok.flow_entry r = refl
-flow_after_empty_from ss u r = cc
-
-flow_after_empty_on : (ss : List State) (t : Tok) → kind_of t ≢ kind.Value → Leads 2 Goal.flow_after_key ss (Some nothing_written) Goal.done (state.FlowMappingKey ∷ ss) t
-flow_after_empty_on ss Tok.value a = absurd (a refl)
-flow_after_empty_on ss t a = refl
+flow_after_leads : (ss : List State) (t : Tok) → kind_of t ≢ kind.Value → Leads 2 Goal.flow_after_key ss (Some nothing_written) Goal.done (state.FlowMappingKey ∷ ss) t
+flow_after_leads ss Tok.value a = absurd (a refl)
+flow_after_leads ss t a = refl
 
 pub flow_after_empty : (ss : List State) (t : Tok) → kind_of t ≢ kind.Value → Leaves Goal.flow_after_key ss (Some t) (Some nothing_written) Goal.done (state.FlowMappingKey ∷ ss)
-flow_after_empty ss t a = leaves_so 2 (λ n f. ((f, n), tt)) (λ f. refl) (λ f u r m. flow_after_empty_from ss u (r 9)) (λ f r m. flow_after_empty_on ss t a) refl (λ f. alike refl refl) (λ f h. inl h)
+flow_after_empty ss t a = leaves_so 2 (λ n f. ((f, n), tt)) (λ f. refl) (λ f u r m. flow_after_leads ss u (not_by ends_flow_pair (closes_so (state.FlowMappingKey ∷ ss) u refl (r 9)) refl)) (λ f r m. flow_after_leads ss t a) refl (λ f. alike refl refl) (λ f h. inl h)
 
-flow_valued_empty_from : (m : chars.Position) (ss : List State) (u : Tok) → refuses 9 u (work_of Goal.done (state.FlowMappingKey ∷ ss)) ≡ false → Leads 2 (Goal.flow_valued m) ss (Some Raw.unwritten_value) Goal.done (state.FlowMappingKey ∷ ss) u
-flow_valued_empty_from m ss Tok.flow_entry r = refl
-flow_valued_empty_from m ss u r = cc
-
-flow_valued_empty_on : (m : chars.Position) (ss : List State) (t : Tok) → ends_flow_pair (kind_of t) ≡ true → Leads 2 (Goal.flow_valued m) ss (Some Raw.unwritten_value) Goal.done (state.FlowMappingKey ∷ ss) t
-flow_valued_empty_on m ss Tok.flow_entry a = refl
-flow_valued_empty_on m ss t a = cc
+flow_valued_leads : (m : chars.Position) (ss : List State) (t : Tok) → ends_flow_pair (kind_of t) ≡ true → Leads 2 (Goal.flow_valued m) ss (Some Raw.unwritten_value) Goal.done (state.FlowMappingKey ∷ ss) t
+flow_valued_leads m ss Tok.flow_entry a = refl
+flow_valued_leads m ss t a = cc
 
 pub flow_valued_empty : (m : chars.Position) (ss : List State) (t : Tok) → ends_flow_pair (kind_of t) ≡ true → Leaves (Goal.flow_valued m) ss (Some t) (Some Raw.unwritten_value) Goal.done (state.FlowMappingKey ∷ ss)
-flow_valued_empty c ss t a = leaves_so 2 (λ n f. ((f, n), tt)) (λ f. refl) (λ f u r m. flow_valued_empty_from c ss u (r 9)) (λ f r m. flow_valued_empty_on c ss t a) refl (λ f. without_node refl (comes_so (Goal.flow_valued c) ss t (flow_valued_goes c ss t a))) (λ f h. inl h)
+flow_valued_empty c ss t a = leaves_so 2 (λ n f. ((f, n), tt)) (λ f. refl) (λ f u r m. flow_valued_leads c ss u (closes_so (state.FlowMappingKey ∷ ss) u refl (r 9))) (λ f r m. flow_valued_leads c ss t a) refl (λ f. without_node refl (comes_so (Goal.flow_valued c) ss t (flow_valued_goes c ss t a))) (λ f h. inl h)
 
 flow_valued_node_from : (m : chars.Position) (ss : List State) (u : Tok) → may_begin (Goal.node context.Flow) (state.FlowMappingKey ∷ ss) (kind_of u) ≡ true → Leads 1 (Goal.flow_valued m) ss None (Goal.node context.Flow) (state.FlowMappingKey ∷ ss) u
 flow_valued_node_from m ss Tok.flow_sequence_start b = refl

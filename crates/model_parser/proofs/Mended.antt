@@ -1,9 +1,9 @@
 -- In the table of the token grammar, rows for all other tokens are chosen by each token that ends a goal too.
-use Rattle.model_parser.proofs.Common.{[], and_before, arith, before, block_mapping_entries, block_sequence_entries, Bool, Case, cases, content, directives, document_end, documents, ends_goal, explicit_document, false, flow_mapping_comma, flow_mapping_entries, flow_mapping_valued, flow_sequence_comma, flow_sequence_entries, goes, grammar, Held, if◌then◌else◌, in_block, in_flow, in_pair, indentless_sequence_entries, inl, inr, key, leaves, List, no_flow_mapping_value, node, None, nothing_held, on, otherwise, Part, Place, Raw, reading, refl, refused, Row, row_of, saying, Some, step, stream, suc, Tok, true, Turned, value, weight, Work, work_weight, zero, ℕ, ◌<◌, ◌∷◌, ◌≡◌, ◌⊎◌}
+use Rattle.model_parser.proofs.Common.{[], and_before, arith, before, block_mapping_entries, block_sequence_entries, Bool, cases, content, directives, document_end, documents, ends_goal, explicit_document, false, flow_mapping_comma, flow_mapping_entries, flow_mapping_valued, flow_sequence_comma, flow_sequence_entries, grammar, Held, in_block, in_flow, in_pair, indentless_sequence_entries, inl, inr, key, leaves, List, no_flow_mapping_value, node, None, nothing_held, Part, Place, Raw, reading, refl, refused, Row, row_of, saying, Some, step, stream, suc, Tok, true, Turned, value, weight, Work, work_weight, zero, ℕ, ◌<◌, ◌∷◌, ◌≡◌}
 use Rattle.defs_event.specs.Kinds.{begins_flow_node, begins_node}
 use Rattle.defs_event.specs.Grammar.{Goal}
 use Rattle.defs_event.proofs.Meanings.{EachRow, row_holds}
-use Rattle.model_parser.proofs.Falls.{grammar_falls, grammar_completes, ends}
+use Rattle.model_parser.proofs.Falls.{grammar_falls, grammar_completes}
 use Rattle.model_parser.proofs.Track.{LeavingRow, EndsGoal}
 use Rattle.model_parser.proofs.Runs.{BottomRow, IsMended}
 
@@ -21,12 +21,7 @@ abbrev Bottoms : Goal → Type 0
 Bottoms g = EachRow (λ t r. BottomRow grammar is_bottom t r) (λ t. false) (cases g)
 
 bottom_rows : (g : Goal) → is_bottom g ≡ true → Bottoms g
-bottom_rows stream b = (λ t i h. inl refl, tt)
-bottom_rows documents b = (λ t i h. inl refl, (λ t i h. inl refl, (λ t i h. refl, λ t i h. refl)))
-bottom_rows directives b = (λ t i h. inl refl, (λ t i h. inl refl, tt))
-bottom_rows explicit_document b = (λ t i h. inl refl, (λ t i h. inr refl, tt))
-bottom_rows document_end b = (λ t i h. inl refl, λ t i h. refl)
-bottom_rows _ b = cc
+bottom_rows a b = grind arith
 
 bottoms : (g : Goal) (t : Tok) (r : Row Goal Raw) → is_bottom g ≡ true → row_of (cases g) t ≡ Some r → BottomRow grammar is_bottom t r
 bottoms g t r b p = row_holds (λ t r. BottomRow grammar is_bottom t r) (λ t. false) (cases g) (bottom_rows g b) t refl r p
@@ -35,13 +30,7 @@ bottoms g t r b p = row_holds (λ t r. BottomRow grammar is_bottom t r) (λ t. f
 
 at_enders : (P : Tok → Type 0) → P Tok.stream_start → P Tok.stream_end → P Tok.document_start → P Tok.block_end → P Tok.flow_sequence_end → P Tok.flow_mapping_end
     → (u : Tok) → ends_goal u ≡ true → P u
-at_enders P a b c d e f Tok.stream_start h = a
-at_enders P a b c d e f Tok.stream_end h = b
-at_enders P a b c d e f Tok.document_start h = c
-at_enders P a b c d e f Tok.block_end h = d
-at_enders P a b c d e f Tok.flow_sequence_end h = e
-at_enders P a b c d e f Tok.flow_mapping_end h = f
-at_enders P a b c d e f _ h = cc
+at_enders a b d c e g f i h = grind arith
 
 abbrev Leaves : Goal → List (Part Goal Raw) → Tok → Type 0
 Leaves g ps t = row_of (cases g) t ≡ Some (leaves ps)
@@ -58,13 +47,10 @@ abbrev NeverRefused : Place → Tok → Type 0
 NeverRefused p t = (n : ℕ) (h : Held) (w : List (Work Goal Raw Held)) (es : List Raw) → step grammar (suc (suc n)) (reading (node p) h ∷ w) t ≡ refused es → ⊥
 
 flow_node_taken : (p : Place) (t : Tok) → begins_flow_node t ≡ true → NeverRefused p t
-flow_node_taken p (Tok.alias a) b n h w es e = cc
-flow_node_taken p _ b n h w es e = cc
+flow_node_taken p a b n h w es e = grind arith
 
 node_taken : (t : Tok) → begins_node t ≡ true → NeverRefused in_block t
-node_taken Tok.block_sequence_start b n h w es e = cc
-node_taken Tok.block_mapping_start b n h w es e = cc
-node_taken t b n h w es e = flow_node_taken in_block t b n h w es e
+node_taken t b n h w es e = grind arith
 
 abbrev GoesFrom : Place → Tok → List (Work Goal Raw Held) → Type 0
 GoesFrom p t v = (n : ℕ) (h : Held) (es : List Raw) → work_weight weight (reading (node p) h ∷ v) < n → step grammar n (reading (node p) h ∷ v) t ≡ refused es → ⊥
@@ -75,8 +61,7 @@ goes_from p t v f (suc zero) h es l e = omega (arith, l)
 goes_from p t v f (suc (suc n)) h es l e = f n h v es e
 
 and_refused : (e : Raw) (o : Turned Goal Raw Held) (es : List Raw) → and_before e o ≡ refused es → (fs : List Raw) × (o ≡ refused fs)
-and_refused e (goes es v) fs p = cc
-and_refused e (refused es) fs p = (es, refl)
+and_refused e a fs p = grind arith
 
 -- a document that begins with its node
 bare_taken : (n : ℕ) (t : Tok) → begins_node t ≡ true → (w : List (Work Goal Raw Held)) (es : List Raw)
@@ -118,42 +103,19 @@ leaving g t r p = row_holds (λ t r. LeavingRow grammar weight ends_goal g t r) 
 
 -- ---- goals that refuse tokens
 
-abbrev has_otherwise : {G T E : Type 0} → List (Case G T E) → Bool
-has_otherwise [] = false
-has_otherwise (on test r ∷ cs) = has_otherwise cs
-has_otherwise (otherwise r ∷ cs) = true
-
-never_refuses : {G T E : Type 0} (cs : List (Case G T E)) (t : T) → has_otherwise cs ≡ true → row_of cs t ≡ None → ⊥
-never_refuses [] t b p = cc
-never_refuses (on test r ∷ cs) t b p = by (test t) (λ q. never_refuses cs t b q) p
-  where
-    by : (c : Bool) → (row_of cs t ≡ None → ⊥) → (if c then Some r else row_of cs t) ≡ None → ⊥
-    by true f q = cc
-    by false f q = f q
-never_refuses (otherwise r ∷ cs) t b p = cc
-
-abbrev Refusing : Goal → Type 0
-Refusing g = (has_otherwise (cases g) ≡ true) ⊎ ((h : Held) → EndsGoal grammar ends_goal g h)
-
-refusing : (g : Goal) → Refusing g
-refusing stream = inr (λ h. (_, _, _, refl, ends stream h))
-refusing directives = inr (λ h. (_, _, _, refl, ends directives h))
-refusing explicit_document = inr (λ h. (_, _, _, refl, ends explicit_document h))
-refusing (content in_flow) = inl refl
-refusing block_sequence_entries = inr (λ h. (_, _, _, refl, ends block_sequence_entries h))
-refusing block_mapping_entries = inr (λ h. (_, _, _, refl, ends block_mapping_entries h))
-refusing flow_sequence_entries = inr (λ h. (_, _, _, refl, ends flow_sequence_entries h))
-refusing flow_sequence_comma = inr (λ h. (_, _, _, refl, ends flow_sequence_comma h))
-refusing (flow_mapping_entries s) = inr (λ h. (_, _, _, refl, ends (flow_mapping_entries s) h))
-refusing flow_mapping_comma = inr (λ h. (_, _, _, refl, ends flow_mapping_comma h))
-refusing _ = inl refl
-
 pub ended : (g : Goal) (h : Held) (t : Tok) → row_of (cases g) t ≡ None → EndsGoal grammar ends_goal g h
-ended g h t p = by (refusing g)
-  where
-    by : Refusing g → EndsGoal grammar ends_goal g h
-    by (inl b) = absurd (never_refuses (cases g) t b p)
-    by (inr f) = f h
+ended stream h t p = (_, _, _, refl, (grammar_completes stream h).2)
+ended directives h t p = (_, _, _, refl, (grammar_completes directives h).2)
+ended explicit_document h t p = (_, _, _, refl, (grammar_completes explicit_document h).2)
+ended block_sequence_entries h t p = (_, _, _, refl, (grammar_completes block_sequence_entries h).2)
+ended block_mapping_entries h t p = (_, _, _, refl, (grammar_completes block_mapping_entries h).2)
+ended flow_sequence_entries h t p = (_, _, _, refl, (grammar_completes flow_sequence_entries h).2)
+ended flow_sequence_comma h t p = (_, _, _, refl, (grammar_completes flow_sequence_comma h).2)
+ended (flow_mapping_entries s) h t p = (_, _, _, refl, (grammar_completes (flow_mapping_entries s) h).2)
+ended flow_mapping_comma h t p = (_, _, _, refl, (grammar_completes flow_mapping_comma h).2)
+ended (content in_flow) h t p = absurd (grind arith)
+ended (content in_block) h t p = absurd (grind arith)
+ended g h t p = absurd (grind arith)
 
 pub mended : IsMended grammar weight is_bottom ends_goal
 mended = record { falls = grammar_falls; completes = grammar_completes; bottoms = bottoms; leaving = leaving; ended = ended }

@@ -1,16 +1,12 @@
 -- The turns in nodes.
+use Rattle.std.proofs.Math.Bool.{or-true}
 use Rattle.model_parser.proofs.Common.{alike, anchor_of, anchored, anchored_tagged, ap, before, begins_content, begins_node, Bool, both_ways, cases, context_at, event_of, false, Goal, goal_and, grammar, Held, in_block, in_flow, in_pair, inl, is_in_mapping, is_past_directives, is_under, Kind, kind_of, Leaves, List, may_begin, may_begin_content, narrows, NodeContext, None, not, nothing_held, Option, past, perhaps_anchor_of, perhaps_tag_of, Place, place_of, Properties, Raw, read, refl, Refuses, row_of, saying, show, Some, State, Style, subst, sym, Tag, tag_of, tag_token, tagged, tagged_anchored, Takes, takes, then_in, Tok, true, with_properties, work_of, Works, works, ℕ, ◌||◌, ◌∙◌, ◌∷◌, ◌≡◌, ◌≢◌}
 use Rattle.model_parser.proofs.StepRows.{Reads, by_row, takes_so, refuses, Leads, leaves_so}
-use Rattle.model_parser.proofs.Settling.{under_goes, under_other, under_past, under_any, under_reads, past_alike, next_alike}
+use Rattle.model_parser.proofs.Settling.{no_content, content_refuses, closes_so, none_begins, empty_content, under_goes, under_other, under_past, under_any, under_reads, past_alike, next_alike, then_works}
 use Rattle.defs_event.specs.Grammar as table
 use Rattle.model_parser.specs.declared.kind.Kind.TheVariants as kind
 use Rattle.model_parser.specs.declared.context.NodeContext.TheVariants as context
 use Rattle.model_parser.specs.declared.state.State.TheVariants as state
-
--- after a node, what goes on with these
-then_works : (ss : List State) (h : Held) (t : Tok) → before grammar h t (then_in (place_of ss)) (past ss (works ss)) ≡ works ss
-then_works (state.BlockMappingKey ∷ ss) h t = refl
-then_works ss h t = refl
 
 shows : (ss : List State) (h : Held) (t : Tok) → before grammar h t (show ∷ then_in (place_of ss)) (past ss (works ss)) ≡ saying (event_of h t) ∷ works ss
 shows ss h t = ap (λ (w : Works). saying (event_of h t) ∷ w) (then_works ss h t)
@@ -63,48 +59,34 @@ node_content p ss t a b d = leaves_so 1 (λ n f. (n, (f.0, narrows_itself p _ f.
 -- ---- after an anchor, or a tag
 
 -- Where a content may stand, no property does.
-no_anchor : (o : Option Properties) (ss : List State) (a : List ℕ) → is_under ss ≡ true → refuses 9 (Tok.anchor a) (work_of (Goal.after_properties context.Flow o) ss) ≡ true
-no_anchor o (state.DocumentEnd ∷ ss) a f = refl
-no_anchor o (state.IndentlessSequenceEntry ∷ state.BlockMappingKey ∷ ss) a f = refl
-no_anchor o ss a f = cc
+no_property : (k : Kind) → ((c : NodeContext) → (begins_content c k ≡ false) × (begins_node c k ≡ true)) → (o : Option Properties) (ss : List State) (u : Tok) → is_under ss ≡ true → refuses 11 u (work_of (Goal.after_properties context.Flow o) ss) ≡ false → kind_of u ≢ k
+no_property k p o ss u f r e =
+    let c = context_at (place_of ss) in
+    let behind : refuses 9 u (works ss) ≡ false = sym (content_refuses ss (with_properties o) u (ap (begins_content c) e ∙ (p c).0)) ∙ r in
+    both_ways (begins_node c (kind_of u)) (none_begins ss u f (closes_so ss u f behind)) (ap (begins_node c) e ∙ (p c).1)
 
-no_tag : (o : Option Properties) (ss : List State) (x y : List ℕ) → is_under ss ≡ true → refuses 9 (Tok.tag x y) (work_of (Goal.after_properties context.Flow o) ss) ≡ true
-no_tag o (state.DocumentEnd ∷ ss) x y f = refl
-no_tag o (state.IndentlessSequenceEntry ∷ state.BlockMappingKey ∷ ss) x y f = refl
-no_tag o ss x y f = cc
-
-anchor_from : (p : NodeContext) (ss : List State) (a : List ℕ) (u : Tok) → is_under ss ≡ true → refuses 9 u (work_of (Goal.after_properties p (Some (anchored a))) ss) ≡ false → (begins_content p (kind_of u) || not (begins_content (context_at (place_of ss)) (kind_of u))) ≡ true
-    → Leads 1 (Goal.after_anchor p a) ss None (Goal.after_properties p (Some (anchored a))) ss u
-anchor_from p ss a (Tok.tag x y) f r m = absurd (both_ways (refuses 9 (Tok.tag x y) (work_of (Goal.after_properties p (Some (anchored a))) ss)) r (no_tag (Some (anchored a)) ss x y f))
-anchor_from p ss a u f r m = cc
-
-anchor_on : (p : NodeContext) (ss : List State) (a : List ℕ) (t : Tok) → kind_of t ≢ kind.Tag → (begins_content p (kind_of t) || not (begins_content (context_at (place_of ss)) (kind_of t))) ≡ true
+anchor_leads : (p : NodeContext) (ss : List State) (a : List ℕ) (t : Tok) → kind_of t ≢ kind.Tag → may_begin (Goal.after_properties p (Some (anchored a))) ss (kind_of t) ≡ true
     → Leads 1 (Goal.after_anchor p a) ss None (Goal.after_properties p (Some (anchored a))) ss t
-anchor_on p ss a (Tok.tag x y) n m = absurd (n refl)
-anchor_on p ss a t n m = cc
+anchor_leads p ss a (Tok.tag x y) n m = absurd (n refl)
+anchor_leads p ss a t n m = cc
 
 pub anchor_tag : (p : NodeContext) (ss : List State) (a : List ℕ) (t : Tag) → Takes (Goal.after_anchor p a) ss (tag_token t) None (Goal.after_properties p (Some (anchored_tagged a t))) ss
 anchor_tag p ss a t = takes_so (λ n f. (n, (f.0, narrows_itself p _ f.1))) (λ f. (refl, (λ k. all_begin p _ k f.1), by_row _ refl refl)) refl (λ f. refl) (λ f. refl)
 
 pub anchor_alone : (p : NodeContext) (ss : List State) (a : List ℕ) (t : Tok) → kind_of t ≢ kind.Tag → Leaves (Goal.after_anchor p a) ss (Some t) None (Goal.after_properties p (Some (anchored a))) ss
-anchor_alone p ss a t d = leaves_so 1 (λ n f. (n, (f.0, narrows_itself p _ f.1))) (λ f. refl) (λ f u r m. anchor_from p ss a u f.0 (r 9) m) (λ f r m. anchor_on p ss a t d (all_begin p _ (kind_of t) f.1)) refl
+anchor_alone p ss a t d = leaves_so 1 (λ n f. (n, (f.0, narrows_itself p _ f.1))) (λ f. refl) (λ f u r m. anchor_leads p ss a u (no_property kind.Tag (elim [ context.Flow ↦ (refl, refl) | _ ↦ (refl, refl) ]) (Some (anchored a)) ss u f.0 (r 11)) m) (λ f r m. anchor_leads p ss a t d (all_begin p _ (kind_of t) f.1)) refl
     (λ f. alike refl refl) (λ f h. inl h)
 
-tag_from : (p : NodeContext) (ss : List State) (x : Tag) (u : Tok) → is_under ss ≡ true → refuses 9 u (work_of (Goal.after_properties p (Some (tagged x))) ss) ≡ false → (begins_content p (kind_of u) || not (begins_content (context_at (place_of ss)) (kind_of u))) ≡ true
-    → Leads 1 (Goal.after_tag p x) ss None (Goal.after_properties p (Some (tagged x))) ss u
-tag_from p ss x (Tok.anchor a) f r m = absurd (both_ways (refuses 9 (Tok.anchor a) (work_of (Goal.after_properties p (Some (tagged x))) ss)) r (no_anchor (Some (tagged x)) ss a f))
-tag_from p ss x u f r m = cc
-
-tag_on : (p : NodeContext) (ss : List State) (x : Tag) (t : Tok) → kind_of t ≢ kind.Anchor → (begins_content p (kind_of t) || not (begins_content (context_at (place_of ss)) (kind_of t))) ≡ true
+tag_leads : (p : NodeContext) (ss : List State) (x : Tag) (t : Tok) → kind_of t ≢ kind.Anchor → may_begin (Goal.after_properties p (Some (tagged x))) ss (kind_of t) ≡ true
     → Leads 1 (Goal.after_tag p x) ss None (Goal.after_properties p (Some (tagged x))) ss t
-tag_on p ss x (Tok.anchor a) n m = absurd (n refl)
-tag_on p ss x t n m = cc
+tag_leads p ss x (Tok.anchor a) n m = absurd (n refl)
+tag_leads p ss x t n m = cc
 
 pub tag_anchor : (p : NodeContext) (ss : List State) (t : Tag) (a : List ℕ) → Takes (Goal.after_tag p t) ss (Tok.anchor a) None (Goal.after_properties p (Some (tagged_anchored t a))) ss
 tag_anchor p ss t a = takes_so (λ n f. (n, (f.0, narrows_itself p _ f.1))) (λ f. (refl, (λ k. all_begin p _ k f.1), by_row _ refl refl)) refl (λ f. refl) (λ f. refl)
 
 pub tag_alone : (p : NodeContext) (ss : List State) (t : Tag) (u : Tok) → kind_of u ≢ kind.Anchor → Leaves (Goal.after_tag p t) ss (Some u) None (Goal.after_properties p (Some (tagged t))) ss
-tag_alone p ss t u d = leaves_so 1 (λ n f. (n, (f.0, narrows_itself p _ f.1))) (λ f. refl) (λ f v r m. tag_from p ss t v f.0 (r 9) m) (λ f r m. tag_on p ss t u d (all_begin p _ (kind_of u) f.1)) refl
+tag_alone p ss t u d = leaves_so 1 (λ n f. (n, (f.0, narrows_itself p _ f.1))) (λ f. refl) (λ f v r m. tag_leads p ss t v (no_property kind.Anchor (elim [ context.Flow ↦ (refl, refl) | _ ↦ (refl, refl) ]) (Some (tagged t)) ss v f.0 (r 11)) m) (λ f r m. tag_leads p ss t u d (all_begin p _ (kind_of u) f.1)) refl
     (λ f. alike refl refl) (λ f h. inl h)
 
 -- ---- a content
@@ -192,20 +174,20 @@ after_brackets ss o = takes_so (λ n f. ((f.0, n), tt)) (λ f. (own_begins conte
 pub after_braces : (ss : List State) (o : Option Properties) → Takes (Goal.after_properties context.Flow o) ss Tok.flow_mapping_start (Some (Raw.flow_mapping_start (perhaps_anchor_of o) (perhaps_tag_of o))) Goal.done (state.FlowMappingFirstKey ∷ ss)
 after_braces ss o = takes_so (λ n f. ((f.0, n), tt)) (λ f. (own_begins context.Flow o _ kind.FlowMappingStart refl, (λ k. refl), by_row _ refl (shows_and ss (with_properties o) Tok.flow_mapping_start (table.flow_mapping_entries table.after_brace)))) refl (λ f. refl) (λ f. refl)
 
-only_from : (ss : List State) (o : Properties) (u : Tok) → is_under ss ≡ true → refuses 9 u (works ss) ≡ false → Leads 2 (Goal.after_properties context.Flow (Some o)) ss (Some (Raw.empty_scalar (anchor_of o) (tag_of o))) Goal.done ss u
-only_from (state.DocumentEnd ∷ ss) o Tok.document_end f r = refl
-only_from (state.IndentlessSequenceEntry ∷ state.BlockMappingKey ∷ ss) o Tok.document_end f r = cc
-only_from ss o Tok.document_end f r = cc
-only_from ss o u f r = cc
-
-only_on : (ss : List State) (o : Properties) (t : Tok) → is_under ss ≡ true → begins_content context.Flow (kind_of t) ≡ false → may_begin (Goal.after_properties context.Flow (Some o)) ss (kind_of t) ≡ true
+only_leads : (ss : List State) (o : Properties) (t : Tok) → is_under ss ≡ true → begins_content (context_at (place_of ss)) (kind_of t) ≡ false
     → Leads 2 (Goal.after_properties context.Flow (Some o)) ss (Some (Raw.empty_scalar (anchor_of o) (tag_of o))) Goal.done ss t
-only_on (state.DocumentEnd ∷ ss) o Tok.document_end f a m = refl
-only_on ss o Tok.document_end f a m = cc
-only_on ss o t f a m = cc
+only_leads ss o t f b =
+    let may = ap (λ x. begins_content context.Flow (kind_of t) || not x) b ∙ or-true (begins_content context.Flow (kind_of t)) in
+    cc (empty_content ss (with_properties (Some o)) t b, may, under_any ss f (kind_of t))
+
+no_such : (x y : Bool) → x ≡ false → (x || not y) ≡ true → y ≡ false
+no_such x false a m = refl
+no_such false true a m = cc
+no_such true true a m = cc
 
 pub properties_only : (ss : List State) (o : Properties) (t : Tok) → begins_content context.Flow (kind_of t) ≡ false → Leaves (Goal.after_properties context.Flow (Some o)) ss (Some t) (Some (Raw.empty_scalar (anchor_of o) (tag_of o))) Goal.done ss
-properties_only ss o t a = leaves_so 2 (λ n f. (n, under_goes ss f.0)) (λ f. under_reads ss f.0) (λ f u r m. only_from ss o u f.0 (r 9)) (λ f r m. only_on ss o t f.0 a m) refl
+properties_only ss o t a = leaves_so 2 (λ n f. (n, under_goes ss f.0)) (λ f. under_reads ss f.0) (λ f u r m. only_leads ss o u f.0 (no_content (context_at (place_of ss)) (kind_of u) (none_begins ss u f.0 (closes_so ss u f.0 (r 9)))))
+    (λ f r m. only_leads ss o t f.0 (no_such (begins_content context.Flow (kind_of t)) (begins_content (context_at (place_of ss)) (kind_of t)) a m)) refl
     (λ f. alike (under_other ss f.0) refl) (λ f h. absurd (both_ways (is_past_directives Goal.done ss) (under_past ss f.0) h))
 
 pub nothing_refuses : (ss : List State) (t : Tok) → begins_content context.Flow (kind_of t) ≡ false → Refuses (Goal.after_properties context.Flow None) ss t

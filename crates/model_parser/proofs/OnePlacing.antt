@@ -95,7 +95,7 @@ one_stream {x} (placed.by_taking {h = h} {t = t} {ts = ts} {es = es} ps q d) (pl
     one_placing (start_due t h ps q) d (subst (λ l. Places x (Some t.position) (placed_before t None h l []) ts fs) same c)
 one_stream (placed.by_leaving {t = t} ps q d) c = absurd (none_leaves t.tok ps q)
 
-some_is : {A : Type 0} {x y : A} → Some x ≡ Some y → x ≡ y
+pub some_is : {A : Type 0} {x y : A} → Some x ≡ Some y → x ≡ y
 some_is h = cc
 
 pub same_events : (keep : Bool) (s : Names) (rs us : List (Raw × Position)) (es fs : List (Ev × Position)) → AreSame rs us

@@ -1,6 +1,7 @@
 -- The events of tokens with their positions: they are the events without, and each reading of the tokens has positions.
-use Rattle.model_parser.proofs.Common.{[], ap, before, by_leaving, by_taking, cases, Derives, grammar, Held, IfSome, List, None, nothing_left, Option, Part, part_work, placed_before, placed_by, PlacedWork, Places, Position, position_at, Raw, raws_of, reading, refl, row_of, saying, says, Some, subst, to_end, Tok, Token, toks, Work, ◌++◌, ◌∙◌, ◌∷◌, ◌≡◌}
+use Rattle.model_parser.proofs.Common.{[], ap, before, by_leaving, by_taking, cases, Derives, grammar, Held, IfSome, List, None, nothing_left, Option, Part, placed_before, placed_by, PlacedWork, Places, Position, position_at, Raw, raws_of, reading, refl, row_of, saying, says, Some, subst, to_end, Tok, Token, toks, Work, ◌++◌, ◌∙◌, ◌∷◌, ◌≡◌}
 use Rattle.defs_event.specs.Grammar.{Goal}
+use Rattle.model_parser.proofs.Completions.{before_along}
 use Rattle.defs_event.specs.Stream as placed
 
 abbrev pub plain_work : PlacedWork → List (Work Goal Raw Held)
@@ -13,13 +14,9 @@ plain_placed f [] w = refl
 plain_placed f (reading g h ∷ v) w = ap (λ x. reading g h ∷ x) (plain_placed f v w)
 plain_placed f (saying e ∷ v) w = ap (λ x. saying e ∷ x) (plain_placed f v w)
 
-pub before_other : (h : Held) (t : Tok) (ps : List (Part Goal Raw)) (w : List (Work Goal Raw Held)) → before grammar h t ps [] ++ w ≡ before grammar h t ps w
-before_other h t [] w = refl
-before_other h t (p ∷ ps) w = ap (λ x. part_work grammar h t p ∷ x) (before_other h t ps w)
-
 pub plain_before : (t : Token) (b : Option Position) (h : Held) (ps : List (Part Goal Raw)) (w : PlacedWork)
     → plain_work (placed_before t b h ps w) ≡ before grammar h t.tok ps (plain_work w)
-plain_before t b h ps w = plain_placed (position_at t b) (before grammar h t.tok ps []) w ∙ before_other h t.tok ps (plain_work w)
+plain_before t b h ps w = plain_placed (position_at t b) (before grammar h t.tok ps []) w ∙ before_along grammar h t.tok ps [] (plain_work w)
 
 -- Without positions it is a reading of the tokens.
 pub without_positions : {b : Option Position} {w : PlacedWork} {ts : List Token} {es : List (Raw × Position)} → Places to_end b w ts es → Derives grammar (plain_work w) (toks ts) (raws_of es)

@@ -2,6 +2,7 @@
 use Rattle.model_parser.proofs.Common.{[], BeginsPlaced, cases, codes, Ev, false, Held, IsPlacedStream, leaves, List, None, nothing_held, nothing_written, Option, option_map, placed_before, PlacedWork, Places, plain_event, plain_raw, Position, Raw, reading, refl, Row, row_of, saying, Some, stream, StreamPlaces, StreamPlacesTo, Style, subst, suc, takes, takes_last, to_end, to_last, to_next, Tok, Token, wants_token, zero, ℕ, ◌++◌, ◌∷◌, ◌≡◌}
 use Rattle.defs_event.specs.Grammar.{Goal}
 use Rattle.defs_event.specs.Stream.{nothing_left, says, by_taking, by_leaving}
+use Rattle.model_parser.proofs.OnePlacing.{some_is}
 use Rattle.model_parser.proofs.Places.{or_nowhere, at_own}
 
 -- ---- a machine
@@ -21,9 +22,6 @@ run (suc n) b [] (t ∷ ts) = None
 run (suc n) b (saying x ∷ w) ts = option_map (λ es. (x.0, or_nowhere x.1) ∷ es) (run n b w ts)
 run (suc n) b (reading g h ∷ w) [] = None
 run (suc n) b (reading g h ∷ w) (t ∷ ts) = turn b h w t ts (λ c v us. run n c v us) (row_of (cases g) t.tok)
-
-some_is : {A : Type 0} {x y : A} → Some x ≡ Some y → x ≡ y
-some_is h = cc
 
 run_so : (n : ℕ) (b : Option Position) (w : PlacedWork) (ts : List Token) (es : List (Raw × Position)) → run n b w ts ≡ Some es → Places to_end b w ts es
 run_so zero b w ts es h = cc

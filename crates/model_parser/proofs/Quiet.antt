@@ -1,7 +1,8 @@
 -- What a parser still has to read has no event that is due at a place: that of the end of a single pair is promised nowhere.
 use Rattle.model_parser.proofs.Common.{[], ap, before, Bool, false, Goal, grammar, Held, List, None, Option, Part, past, placed, placed_before, placed_by, Position, position_at, Raw, reading, refl, saying, State, Token, true, work_of, Works, works, ◌++◌, ◌∙◌, ◌∷◌, ◌≡◌}
 use Rattle.defs_event.specs.Grammar.{Goal as Read}
-use Rattle.model_parser.proofs.Places.{plain_work, before_other}
+use Rattle.model_parser.proofs.Places.{plain_work}
+use Rattle.model_parser.proofs.Completions.{before_along}
 use Rattle.model_parser.specs.declared.state.State.TheVariants as state
 
 abbrev pub is_quiet : Works → Bool
@@ -10,22 +11,15 @@ is_quiet (reading g h ∷ w) = is_quiet w
 is_quiet (saying Raw.pair_end ∷ w) = is_quiet w
 is_quiet (saying e ∷ w) = false
 
-past_quiet : (ss : List State) (w : Works) → is_quiet w ≡ true → is_quiet (past ss w) ≡ true
-past_quiet (state.BlockMappingKey ∷ ss) [] q = q
-past_quiet (state.BlockMappingKey ∷ ss) (reading g h ∷ w) q = q
-past_quiet (state.BlockMappingKey ∷ ss) (saying Raw.pair_end ∷ w) q = q
-past_quiet (state.BlockMappingKey ∷ ss) (saying e ∷ w) q = cc
-past_quiet (state.BlockMappingValue ∷ ss) [] q = q
-past_quiet (state.BlockMappingValue ∷ ss) (reading g h ∷ w) q = q
-past_quiet (state.BlockMappingValue ∷ ss) (saying Raw.pair_end ∷ w) q = q
-past_quiet (state.BlockMappingValue ∷ ss) (saying e ∷ w) q = cc
-past_quiet ss w q = q
+past_quiet : (ss : List State) → is_quiet (works ss) ≡ true → is_quiet (past ss (works ss)) ≡ true
+past_quiet (state.BlockMappingKey ∷ ss) q = q
+past_quiet ss q = q
 
 state_quiet : (s : State) (ss : List State) → is_quiet (works ss) ≡ true → is_quiet (works (s ∷ ss)) ≡ true
-state_quiet state.BlockNode ss q = past_quiet ss (works ss) q
-state_quiet state.IndentlessSequenceEntry ss q = past_quiet ss (works ss) q
-state_quiet state.IndentlessSequenceItem ss q = past_quiet ss (works ss) q
-state_quiet state.BlockMappingPart ss q = past_quiet ss (works ss) q
+state_quiet state.BlockNode ss q = past_quiet ss q
+state_quiet state.IndentlessSequenceEntry ss q = past_quiet ss q
+state_quiet state.IndentlessSequenceItem ss q = past_quiet ss q
+state_quiet state.BlockMappingPart ss q = past_quiet ss q
 state_quiet s ss q = q
 
 works_quiet : (ss : List State) → is_quiet (works ss) ≡ true
@@ -33,13 +27,13 @@ works_quiet [] = refl
 works_quiet (s ∷ ss) = state_quiet s ss (works_quiet ss)
 
 pub work_quiet : (g : Goal) (ss : List State) → is_quiet (work_of g ss) ≡ true
-work_quiet (Goal.node p) ss = past_quiet ss (works ss) (works_quiet ss)
-work_quiet (Goal.after_anchor p a) ss = past_quiet ss (works ss) (works_quiet ss)
-work_quiet (Goal.after_tag p t) ss = past_quiet ss (works ss) (works_quiet ss)
-work_quiet (Goal.after_properties p o) ss = past_quiet ss (works ss) (works_quiet ss)
-work_quiet Goal.indentless_entries ss = past_quiet ss (works ss) (works_quiet ss)
-work_quiet Goal.indentless_entry ss = past_quiet ss (works ss) (works_quiet ss)
-work_quiet Goal.part ss = past_quiet ss (works ss) (works_quiet ss)
+work_quiet (Goal.node p) ss = past_quiet ss (works_quiet ss)
+work_quiet (Goal.after_anchor p a) ss = past_quiet ss (works_quiet ss)
+work_quiet (Goal.after_tag p t) ss = past_quiet ss (works_quiet ss)
+work_quiet (Goal.after_properties p o) ss = past_quiet ss (works_quiet ss)
+work_quiet Goal.indentless_entries ss = past_quiet ss (works_quiet ss)
+work_quiet Goal.indentless_entry ss = past_quiet ss (works_quiet ss)
+work_quiet Goal.part ss = past_quiet ss (works_quiet ss)
 work_quiet g ss = works_quiet ss
 
 -- So it is the same wherever its events would stand.
@@ -61,4 +55,4 @@ placed_over f (saying e ∷ v) w = ap (λ x. saying (e, f e) ∷ x) (placed_over
 
 -- a row's parts at its token, before other work
 pub placed_row : (k : Token) (b : Option Position) (h : Held) (ps : List (Part Read Raw)) (w : Works) → placed_before k b h ps (placed_by (position_at k b) w) ≡ placed_by (position_at k b) (before grammar h k.tok ps w)
-placed_row k b h ps w = placed_over (position_at k b) (before grammar h k.tok ps []) w ∙ ap (placed_by (position_at k b)) (before_other h k.tok ps w)
+placed_row k b h ps w = placed_over (position_at k b) (before grammar h k.tok ps []) w ∙ ap (placed_by (position_at k b)) (before_along grammar h k.tok ps [] w)

@@ -38,9 +38,7 @@ pub record IsMended {G T E H : Type 0} (a : Table G T E H) (m : G → ℕ) (bott
   pub ended : (g : G) (h : H) (t : T) → row_of (a.cases g) t ≡ None → EndsGoal a ends g h
 
 open_after : {G E H : Type 0} (bottom : G → Bool) (x : Work G E H) (w : List (Work G E H)) → is_open bottom w ≡ true → is_open bottom (x ∷ w) ≡ true
-open_after bottom (saying e) w o = o
-open_after bottom (reading g h) [] o = cc
-open_after bottom (reading g h) (x ∷ w) o = o
+open_after bottom a w o = grind arith
 
 open_before : {G T E H : Type 0} (a : Table G T E H) (bottom : G → Bool) (h : H) (t : T) (ps : List (Part G E)) (w : List (Work G E H))
     → is_open bottom w ≡ true → is_open bottom (before a h t ps w) ≡ true
@@ -50,13 +48,11 @@ open_before a bottom h t (p ∷ ps) w o = open_after bottom (part_work a h t p) 
 -- a row's parts in the place of an open goal
 takes_in_step : {G T E H : Type 0} (a : Table G T E H) (bottom : G → Bool) (g : G) (h : H) (t : T) (ps : List (Part G E)) (w : List (Work G E H))
     → (bottom g ≡ true → BottomRow a bottom t (takes ps)) → is_open bottom (reading g h ∷ w) ≡ true → IsInStep bottom (before a h t ps w)
-takes_in_step a bottom g h t ps [] r o = r o h
-takes_in_step a bottom g h t ps (x ∷ w) r o = inl (open_before a bottom h t ps (x ∷ w) o)
+takes_in_step a bottom g h t ps b r o = grind (arith, open_before)
 
 leaves_open : {G T E H : Type 0} (a : Table G T E H) (bottom : G → Bool) (g : G) (h : H) (t : T) (ps : List (Part G E)) (w : List (Work G E H))
     → (bottom g ≡ true → BottomRow a bottom t (leaves ps)) → is_open bottom (reading g h ∷ w) ≡ true → is_open bottom (before a h t ps w) ≡ true
-leaves_open a bottom g h t ps [] r o = r o h
-leaves_open a bottom g h t ps (x ∷ w) r o = open_before a bottom h t ps (x ∷ w) o
+leaves_open a bottom g h t ps b r o = grind (arith, open_before)
 
 -- ---- a turn of open work
 
@@ -135,8 +131,7 @@ RightFrom a start taken given ts o = IsRight a start (taken ++ ts) (after_events
 right_end : {G T E H : Type 0} {a : Table G T E H} {ends : T → Bool} {start : List (Work G E H)} {taken : List T} {given : List E} → Completes a
     → (w : List (Work G E H)) → IsOnTrack a ends start w taken None given → RightFrom a start taken given [] (finish w)
 right_end c [] x = x.sound [] [] tt nothing_left
-right_end {a = a} {start = start} {taken = taken} {given = given} c (saying e ∷ w) x =
-    subst (λ o. IsRight a start (taken ++ []) o) (events_along given (e ∷ []) (finish w)) (right_end c w (give x))
+right_end {a = a} {start = start} {taken = taken} {given = given} c (saying e ∷ w) x = grind (arith, events_along, finish, right_end c w (give x))
 right_end {a = a} {start = start} {taken = taken} {given = given} c (reading g h ∷ w) x =
     let k = all_complete a c (reading g h ∷ w) in
     let b : Derives a start ((taken ++ []) ++ k.0) ((given ++ []) ++ k.1) = rw (append-nil taken, append-nil given) (x.sound k.0 k.1 tt k.2) in
@@ -160,9 +155,7 @@ right_from {a = a} {m = m} {bottom = bottom} {ends = ends} c {start} {taken} {gi
     right_on a bottom ends start taken given t ts (λ v. run a m v ts) (step a n w t) (turns c n w t x (omega arith) s) (λ v es q y. right_from c v ts q y)
 
 no_events : {T E : Type 0} (o : Outcome T E) → after_events [] o ≡ o
-no_events (reads es) = refl
-no_events (unfinished es) = refl
-no_events (stops es ts) = refl
+no_events a = grind arith
 
 pub run_is_right : {G T E H : Type 0} {a : Table G T E H} {m : G → ℕ} {bottom : G → Bool} {ends : T → Bool} → IsMended a m bottom ends
     → (w : List (Work G E H)) (ts : List T) → IsInStep bottom w → IsRight a w ts (run a m w ts)

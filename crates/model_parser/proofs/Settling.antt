@@ -1,6 +1,7 @@
--- What is read next, and what may come there.
-use Rattle.model_parser.proofs.Common.{[], and_parts, before_directive, ends_content, ends_document, ends_entry, ends_flow_key, ends_flow_pair, ends_indentless_entry, ends_item, ends_item_key, ends_part, false, Goal, grammar, is_directive, is_in_mapping, is_over_document, is_past_directives, is_under, IsGoing, Kind, kind_of, List, may_begin, MayCome, next_at, next_in, NodeContext, None, Option, other_next, Position, Properties, refl, Settles, Some, State, step, Tok, true, without_node, work_of, works, ◌&&◌, ◌∷◌, ◌≡◌}
-use Rattle.model_parser.proofs.StepRows.{has_goal, is_going, may_come}
+-- What may come behind a node, and what is read next.
+use Rattle.model_parser.proofs.Common.{[], and_parts, ap, before, begins_content, begins_node, Bool, both_ways, cases, context_at, empty, empty_event, ends_document, ends_entry, ends_flow_key, ends_flow_pair, ends_indentless_entry, ends_item, ends_item_key, ends_part, false, Goal, goal_and, grammar, Held, in_block, in_flow, in_pair, is_directive, is_in_mapping, is_node, is_over_document, is_past_directives, is_under, IsFor, IsGoing, IsNested, keep, Kind, kind_of, Leaves, leaves, List, may_begin, MayCome, next_at, next_in, NodeContext, None, not, nothing_held, nothing_written, open_at, Option, other_next, past, Place, place_of, Position, Properties, reading, refl, row_of, Settles, Some, State, step, sym, then_in, Tok, true, without_node, work_of, Works, works, ◌&&◌, ◌∙◌, ◌∷◌, ◌≡◌, ◌⊎◌, IsNoDirective}
+use Rattle.model_parser.proofs.StepRows.{has_goal, is_going, Leads, leads_stay, leave_row, leaves_so, may_come, refuse_row, refuses, steps}
+use Rattle.defs_event.specs.Grammar as table
 use Rattle.model_parser.specs.declared.kind.Kind.TheVariants as kind
 use Rattle.model_parser.specs.declared.state.State.TheVariants as state
 
@@ -35,9 +36,13 @@ pub mapping_under : (ss : List State) → is_in_mapping ss ≡ true → is_under
 mapping_under (state.BlockMappingKey ∷ ss) h = refl
 mapping_under ss h = cc
 
+-- after a node, what goes on with these
+pub then_works : (ss : List State) (h : Held) (t : Tok) → before grammar h t (then_in (place_of ss)) (past ss (works ss)) ≡ works ss
+then_works (state.BlockMappingKey ∷ ss) h t = refl
+then_works ss h t = refl
+
 pub past_alike : (p q : NodeContext) (o : Option Properties) (ss : List State) → is_past_directives (Goal.after_properties p o) ss ≡ is_past_directives (Goal.after_properties q o) ss
-past_alike p q None ss = refl
-past_alike p q (Some o) ss = refl
+past_alike p q a ss = cc
 
 pub no_directive : (k : Kind) → ends_document k ≡ true → is_directive k ≡ false
 no_directive kind.DocumentStart h = refl
@@ -45,8 +50,139 @@ no_directive k h = cc
 
 -- what comes does not depend on the context
 pub next_alike : (p q : NodeContext) (o : Option Properties) → next_in (Goal.after_properties p o) ≡ next_in (Goal.after_properties q o)
-next_alike p q None = refl
-next_alike p q (Some o) = refl
+next_alike p q a = cc
+
+-- ---- behind a node
+
+-- whether a token of this kind may stand there
+abbrev pub closes : List State → Kind → Bool
+closes (state.DocumentEnd ∷ ss) = ends_document
+closes (state.BlockSequenceEntry ∷ ss) = ends_entry
+closes (state.IndentlessSequenceEntry ∷ ss) = ends_indentless_entry
+closes (state.BlockMappingKey ∷ ss) = ends_part
+closes (state.BlockMappingValue ∷ ss) = ends_part
+closes (state.FlowSequenceEntryMappingValue ∷ ss) = ends_item_key
+closes (state.FlowMappingKey ∷ ss) = ends_flow_pair
+closes (state.FlowMappingValue ∷ ss) = ends_flow_key
+closes (state.FlowMappingEmptyValue ∷ ss) = ends_flow_pair
+closes ss = ends_item
+
+-- One that may is taken there, and begins no node; another is refused.
+abbrev pub IsClosed : List State → Tok → Type 0
+IsClosed ss t =
+    (not (refuses 9 t (works ss)) ≡ closes ss (kind_of t)) × (is_going (step grammar 9 (works ss) t) ≡ closes ss (kind_of t)) × ((closes ss (kind_of t) && begins_node (context_at (place_of ss)) (kind_of t)) ≡ false)
+
+pub closed : (ss : List State) → is_under ss ≡ true → (t : Tok) → IsClosed ss t
+closed (state.DocumentEnd ∷ ss) h = elim [ Tok.block_end ↦ (refl, refl, refl) | _ ↦ (refl, refl, refl) ]
+closed (state.BlockSequenceEntry ∷ ss) h = elim [ Tok.block_end ↦ (refl, refl, refl) | _ ↦ (refl, refl, refl) ]
+closed (state.IndentlessSequenceEntry ∷ state.BlockMappingKey ∷ ss) h = elim [ Tok.block_end ↦ (refl, refl, refl) | _ ↦ (refl, refl, refl) ]
+closed (state.IndentlessSequenceEntry ∷ state.BlockMappingValue ∷ ss) h = elim [ Tok.block_end ↦ (refl, refl, refl) | _ ↦ (refl, refl, refl) ]
+closed (state.BlockMappingKey ∷ ss) h = elim [ Tok.block_end ↦ (refl, refl, refl) | _ ↦ (refl, refl, refl) ]
+closed (state.BlockMappingValue ∷ ss) h = elim [ Tok.block_end ↦ (refl, refl, refl) | _ ↦ (refl, refl, refl) ]
+closed (state.FlowSequenceEntry ∷ ss) h = elim [ Tok.block_end ↦ (refl, refl, refl) | _ ↦ (refl, refl, refl) ]
+closed (state.FlowSequenceEntryMappingValue ∷ ss) h = elim [ Tok.block_end ↦ (refl, refl, refl) | _ ↦ (refl, refl, refl) ]
+closed (state.FlowSequenceEntryMappingEnd ∷ ss) h = elim [ Tok.block_end ↦ (refl, refl, refl) | _ ↦ (refl, refl, refl) ]
+closed (state.FlowMappingKey ∷ ss) h = elim [ Tok.block_end ↦ (refl, refl, refl) | _ ↦ (refl, refl, refl) ]
+closed (state.FlowMappingValue ∷ ss) h = elim [ Tok.block_end ↦ (refl, refl, refl) | _ ↦ (refl, refl, refl) ]
+closed (state.FlowMappingEmptyValue ∷ ss) h = elim [ Tok.block_end ↦ (refl, refl, refl) | _ ↦ (refl, refl, refl) ]
+closed ss h = cc
+
+pub closes_so : (ss : List State) (t : Tok) → is_under ss ≡ true → refuses 9 t (works ss) ≡ false → closes ss (kind_of t) ≡ true
+closes_so ss t h r = sym (closed ss h t).0 ∙ ap not r
+
+-- What may stand behind a node begins none.
+pub none_begins : (ss : List State) (t : Tok) → is_under ss ≡ true → closes ss (kind_of t) ≡ true → begins_node (context_at (place_of ss)) (kind_of t) ≡ false
+none_begins ss t h c = ap (λ b. b && begins_node (context_at (place_of ss)) (kind_of t)) (sym c) ∙ (closed ss h t).2
+
+pub no_content : (p : NodeContext) (k : Kind) → begins_node p k ≡ false → begins_content p k ≡ false
+no_content p kind.Alias b = cc
+no_content p kind.Anchor b = cc
+no_content p kind.Tag b = cc
+no_content p k b = b
+
+-- A token that begins no node, or no content, is left, and the node is empty.
+node_row : (p : Place) (t : Tok) → begins_node (context_at p) (kind_of t) ≡ false → row_of (cases (table.node p)) t ≡ Some (leaves (keep (table.content p) ∷ []))
+node_row p (Tok.alias n) b = cc
+node_row p t b = cc
+
+content_row : (p : Place) (t : Tok) → begins_content (context_at p) (kind_of t) ≡ false → row_of (cases (table.content p)) t ≡ Some (leaves (empty ∷ then_in p))
+content_row in_flow Tok.block_end b = refl
+content_row in_block Tok.block_end b = refl
+content_row (in_pair s) Tok.block_end b = refl
+content_row p t b = cc
+
+pub empty_content : (ss : List State) (h : Held) (t : Tok) → begins_content (context_at (place_of ss)) (kind_of t) ≡ false
+    → steps 2 t (reading (table.content (place_of ss)) h ∷ past ss (works ss)) ≡ (empty_event h ∷ [], works ss)
+empty_content ss h t b =
+    ap (leave_row h t (table.content (place_of ss)) (past ss (works ss)) (λ v. steps 1 t v)) (content_row (place_of ss) t b) ∙ ap (λ w. (empty_event h ∷ [], w)) (then_works ss h t)
+
+-- the work of a node over these
+abbrev pub over : List State → Works
+over ss = goal_and (table.node (place_of ss)) (past ss (works ss))
+
+empty_node : (ss : List State) (t : Tok) → begins_node (context_at (place_of ss)) (kind_of t) ≡ false → steps 3 t (over ss) ≡ (nothing_written ∷ [], works ss)
+empty_node ss t b =
+    ap (leave_row nothing_held t (table.node (place_of ss)) (past ss (works ss)) (λ v. steps 2 t v)) (node_row (place_of ss) t b)
+    ∙ empty_content ss nothing_held t (no_content (context_at (place_of ss)) (kind_of t) b)
+
+-- So it is refused if it is refused behind the content.
+pub content_refuses : (ss : List State) (h : Held) (t : Tok) → begins_content (context_at (place_of ss)) (kind_of t) ≡ false
+    → refuses 11 t (reading (table.content (place_of ss)) h ∷ past ss (works ss)) ≡ refuses 9 t (works ss)
+content_refuses ss h t b =
+    ap (refuse_row h t (past ss (works ss)) (λ v. refuses 10 t v)) (content_row (place_of ss) t b) ∙ ap (refuses 9 t) (then_works ss h t)
+
+node_refuses : (ss : List State) (t : Tok) → begins_node (context_at (place_of ss)) (kind_of t) ≡ false → refuses 12 t (over ss) ≡ refuses 9 t (works ss)
+node_refuses ss t b =
+    ap (refuse_row nothing_held t (past ss (works ss)) (λ v. refuses 11 t v)) (node_row (place_of ss) t b)
+    ∙ content_refuses ss nothing_held t (no_content (context_at (place_of ss)) (kind_of t) b)
+
+-- One that may not stand behind a node begins it, if it is not refused.
+must_begin : (ss : List State) (t : Tok) → is_under ss ≡ true → closes ss (kind_of t) ≡ false → refuses 12 t (over ss) ≡ false → begins_node (context_at (place_of ss)) (kind_of t) ≡ true
+must_begin ss t h c r = by (begins_node (context_at (place_of ss)) (kind_of t)) refl
+  where
+    by : (b : Bool) → begins_node (context_at (place_of ss)) (kind_of t) ≡ b → b ≡ true
+    by true e = refl
+    by false e = let no : true ≡ false = ap not (sym r ∙ node_refuses ss t e) ∙ (closed ss h t).0 ∙ c in cc
+
+-- ---- where a node may come, or none
+
+-- What is read here, with these under it, is a node over those, or nothing.
+pub record MayRead (g : Goal) (ss ss' : List State) : Type 0 where
+  pub nested : IsNested ss → IsFor g ss → IsNested ss'
+  pub under : IsFor g ss → is_under ss' ≡ true
+  pub work : work_of g ss ≡ over ss'
+  pub any : (k : Kind) → may_begin g ss k ≡ true
+  pub opened : open_at g ss ≡ open_at Goal.done ss'
+
+module _ {g : Goal} {ss ss' : List State} (m : MayRead g ss ss') (t : Tok) where
+  empty_leads : IsFor g ss → (u : Tok) → begins_node (context_at (place_of ss')) (kind_of u) ≡ false → Leads 3 g ss (Some nothing_written) Goal.done ss' u
+  empty_leads f u b = cc (ap (steps 3 u) m.work ∙ empty_node ss' u b, m.any (kind_of u), under_any ss' (m.under f) (kind_of u))
+
+  -- It is empty, since a token comes that begins none.
+  pub empties_as : (IsFor g ss → begins_node (context_at (place_of ss')) (kind_of t) ≡ false) → (IsFor g ss → Settles g ss (Some t) Goal.done ss') → Leaves g ss (Some t) (Some nothing_written) Goal.done ss'
+  empties_as b settles = leaves_so 3 (λ n f. (m.nested n f, under_goes ss' (m.under f))) (λ f. under_reads ss' (m.under f))
+      (λ f u r o. empty_leads f u (none_begins ss' u (m.under f) (closes_so ss' u (m.under f) (r 9)))) (λ f r o. empty_leads f t (b f)) m.opened settles
+      (λ f h. absurd (both_ways (is_past_directives Goal.done ss') (under_past ss' (m.under f)) h))
+
+  -- A token comes that may stand behind it.
+  pub empties : (IsFor g ss → closes ss' (kind_of t) ≡ true) → Leaves g ss (Some t) (Some nothing_written) Goal.done ss'
+  empties c = empties_as (λ f. none_begins ss' t (m.under f) (c f)) (λ f. without_node (ap is_node (sym (under_other ss' (m.under f)))) (comes f))
+    where
+      comes : IsFor g ss → MayCome g ss (Some t)
+      comes f =
+          let k = may_come 9 t (works ss') ((closed ss' (m.under f) t).1 ∙ c f) in
+          let l = empty_leads f t (none_begins ss' t (m.under f) (c f)) in
+          (k.0, nothing_written ∷ k.1, ((leads_stay 3 (work_of g ss) (Some nothing_written) (works ss') t (ap (λ x. x.0) l)).0 k.0 k.1 k.2, m.any (kind_of t)))
+
+  -- One comes that may not.
+  pub reads_node : (c : NodeContext) → (IsFor g ss → context_at (place_of ss') ≡ c) → (IsFor g ss → closes ss' (kind_of t) ≡ false) → (IsFor g ss → Settles g ss (Some t) (Goal.node c) ss')
+      → (IsFor g ss → is_over_document ss' ≡ true → (is_past_directives g ss ≡ true) ⊎ IsNoDirective (Some t)) → Leaves g ss (Some t) None (Goal.node c) ss'
+  reads_node c e a settles past =
+      leaves_so 0 (λ n f. (m.nested n f, (m.under f, e f))) (λ f. refl) (λ f u r b. leads u b)
+      (λ f r o. leads t (ap (λ x. begins_node x (kind_of t)) (sym (e f)) ∙ must_begin ss' t (m.under f) (a f) (ap (refuses 12 t) (sym m.work) ∙ r 12))) m.opened settles past
+    where
+      leads : (u : Tok) → begins_node c (kind_of u) ≡ true → Leads 0 g ss None (Goal.node c) ss' u
+      leads u b = cc (m.work, m.any (kind_of u), b)
 
 -- ---- what may come where no node does
 
@@ -60,39 +196,9 @@ comes_so g ss t h =
     let c = may_come 9 t (work_of g ss) both.0 in
     (c.0, c.1, (c.2, both.1))
 
-pub entry_goes : (ss : List State) (t : Tok) → ends_entry (kind_of t) ≡ true → GoesFrom Goal.entry ss t
-entry_goes ss Tok.block_end h = refl
-entry_goes ss t h = cc
-
-pub part_goes : (ss : List State) (t : Tok) → is_in_mapping ss ≡ true → ends_part (kind_of t) ≡ true → GoesFrom Goal.part ss t
-part_goes (state.BlockMappingKey ∷ ss) Tok.block_end f h = refl
-part_goes (state.BlockMappingValue ∷ ss) Tok.block_end f h = refl
-part_goes ss t f h = cc
-
-pub indentless_entry_goes : (ss : List State) (t : Tok) → is_in_mapping ss ≡ true → ends_indentless_entry (kind_of t) ≡ true → GoesFrom Goal.indentless_entry ss t
-indentless_entry_goes (state.BlockMappingKey ∷ ss) Tok.block_end f h = refl
-indentless_entry_goes (state.BlockMappingValue ∷ ss) Tok.block_end f h = refl
-indentless_entry_goes ss t f h = cc
-
-pub pair_key_goes : (ss : List State) (t : Tok) → ends_item_key (kind_of t) ≡ true → GoesFrom Goal.pair_key ss t
-pair_key_goes ss Tok.value h = refl
-pair_key_goes ss t h = cc
-
-pub pair_valued_goes : (ss : List State) (t : Tok) → ends_item (kind_of t) ≡ true → GoesFrom Goal.pair_valued ss t
-pair_valued_goes ss Tok.flow_entry h = refl
-pair_valued_goes ss t h = cc
-
-pub flow_key_goes : (ss : List State) (t : Tok) → ends_flow_key (kind_of t) ≡ true → GoesFrom Goal.flow_key ss t
-flow_key_goes ss Tok.value h = refl
-flow_key_goes ss t h = cc
-
 pub flow_valued_goes : (m : Position) (ss : List State) (t : Tok) → ends_flow_pair (kind_of t) ≡ true → GoesFrom (Goal.flow_valued m) ss t
 flow_valued_goes m ss Tok.flow_entry h = refl
 flow_valued_goes m ss t h = cc
-
-content_goes : (ss : List State) (t : Tok) → ends_document (kind_of t) ≡ true → GoesFrom Goal.content ss t
-content_goes ss Tok.stream_end h = refl
-content_goes ss t h = cc
 
 pub explicit_goes : (ss : List State) (t : Tok) → ends_document (kind_of t) ≡ true → GoesFrom Goal.documents ss t
 explicit_goes ss Tok.stream_end h = refl
@@ -101,10 +207,3 @@ explicit_goes ss t h = cc
 pub directive_goes : (ss : List State) (t : Tok) → is_directive (kind_of t) ≡ true → GoesFrom Goal.documents ss t
 directive_goes ss (Tok.version_directive m n) h = refl
 directive_goes ss t h = cc
-
--- ---- between documents
-
-pub content_settles : (ss : List State) (t : Tok) → ends_content (kind_of t) ≡ true → Settles Goal.content ss (Some t) Goal.done (state.DocumentEnd ∷ ss)
-content_settles ss (Tok.version_directive m n) h = before_directive refl refl
-content_settles ss (Tok.tag_directive m n) h = before_directive refl refl
-content_settles ss t h = without_node refl (comes_so Goal.content ss t (content_goes ss t h))

@@ -1,6 +1,7 @@
 -- A turn of the parser by the rows of the grammar's table.
 use Rattle.std.specs.Option.{IfSome}
 use Rattle.model_parser.proofs.Common.{[], ap, Awaits, AwaitsAt, before, Bool, by_leaving, by_taking, cases, Derives, event_at, event_then, Extent, false, first_may, Goal, goes, grammar, Held, is_past_directives, IsAt, IsAtFirst, IsFor, IsNested, IsNext, IsNoDirective, IsThere, Kind, kind_of, Leaves, leaves, List, may_begin, next_at, next_past, None, open_at, open_past, Option, Part, placed, placed_before, placed_by, PlacedWork, Places, Position, position_at, Raw, reading, refl, refused, Refuses, Row, row_of, saying, says, Settles, Some, State, step, subst, suc, sym, Takes, takes, Then, Tok, Token, toks, true, Turned, work_of, Works, zero, ℕ, ◌++◌, ◌∙◌, ◌∷◌, ◌≡◌, ◌⊎◌}
+use Rattle.model_parser.proofs.CameBy.{taken_by, left_by, none_by, said_by}
 use Rattle.model_parser.proofs.Completions.{all_complete}
 use Rattle.model_parser.proofs.Falls.{grammar_completes}
 use Rattle.model_parser.proofs.Steps.{Sound, step_sound}
@@ -8,25 +9,6 @@ use Rattle.model_parser.proofs.Places.{plain_work, plain_before}
 use Rattle.model_parser.proofs.Quiet.{is_quiet, work_quiet, quiet_placed, plain_placed, placed_row}
 use Rattle.defs_event.specs.Stream as places
 use Rattle.defs_event.specs.Grammar as table
-
--- ---- what a derivation came by
-
-pub row_taken : (g : table.Goal) (h : Held) (w : Works) (t : Tok) (ts : List Tok) (es : List Raw) (ps : List (Part table.Goal Raw)) → row_of (cases g) t ≡ Some (takes ps)
-    → Derives grammar (reading g h ∷ w) (t ∷ ts) es → Derives grammar (before grammar h t ps w) ts es
-row_taken g h w t ts es ps r (by_taking qs q d) = let same : qs ≡ ps = cc (q, r) in subst (λ l. Derives grammar (before grammar h t l w) ts es) same d
-row_taken g h w t ts es ps r (by_leaving qs q d) = cc
-
-pub row_left : (g : table.Goal) (h : Held) (w : Works) (t : Tok) (ts : List Tok) (es : List Raw) (ps : List (Part table.Goal Raw)) → row_of (cases g) t ≡ Some (leaves ps)
-    → Derives grammar (reading g h ∷ w) (t ∷ ts) es → Derives grammar (before grammar h t ps w) (t ∷ ts) es
-row_left g h w t ts es ps r (by_taking qs q d) = cc
-row_left g h w t ts es ps r (by_leaving qs q d) = let same : qs ≡ ps = cc (q, r) in subst (λ l. Derives grammar (before grammar h t l w) (t ∷ ts) es) same d
-
-pub no_row : (g : table.Goal) (h : Held) (w : Works) (t : Tok) (ts : List Tok) (es : List Raw) → row_of (cases g) t ≡ None → Derives grammar (reading g h ∷ w) (t ∷ ts) es → ⊥
-no_row g h w t ts es r (by_taking qs q d) = cc
-no_row g h w t ts es r (by_leaving qs q d) = cc
-
-pub said : (e : Raw) (w : Works) (ts : List Tok) (es : List Raw) → Derives grammar (saying e ∷ w) ts es → (fs : List Raw) × (es ≡ e ∷ fs) × Derives grammar w ts fs
-said e w ts _ (says {es = es} d) = (es, refl, d)
 
 -- ---- a turn that takes the token
 
@@ -40,7 +22,7 @@ saying_on (Some x) w ts es d = says d
 
 said_on : (e : Option Raw) (w : Works) (ts : List Tok) (es : List Raw) → Derives grammar (and_saying e w) ts es → (fs : List Raw) × (es ≡ event_then e fs) × Derives grammar w ts fs
 said_on None w ts es d = (es, refl, d)
-said_on (Some x) w ts es d = said x w ts es d
+said_on (Some x) w ts es d = said_by d
 
 -- Work takes a token, and says this event or none before other work.
 pub record Reads (w : Works) (t : Tok) (e : Option Raw) (w' : Works) : Type 0 where
@@ -59,7 +41,7 @@ pub by_row : {g : table.Goal} {h : Held} {w : Works} {t : Tok} {e : Option Raw} 
     → row_of (cases g) t ≡ Some (takes ps) → before grammar h t ps w ≡ and_saying e w' → Reads (reading g h ∷ w) t e w'
 by_row {g} {h} {w} {t} {e} {w'} ps r b = record {
   back = λ ts es d. by_taking ps r (subst (λ v. Derives grammar v ts (event_then e es)) (sym b) (saying_on e w' ts es d));
-  on = λ ts es d. said_on e w' ts es (subst (λ v. Derives grammar v ts es) b (row_taken g h w t ts es ps r d));
+  on = λ ts es d. said_on e w' ts es (subst (λ v. Derives grammar v ts es) b (taken_by d ps r));
   places = λ q q' x c k m same at ts es d.
       let there : placed_before k c h ps (placed w) ≡ placed_by (position_at k c) (and_saying e w') =
       ap (placed_before k c h ps) (sym (quiet_placed k c w q)) ∙ placed_row k c h ps w ∙ ap (λ u. placed_by (position_at k c) (before grammar h u ps w)) same ∙ ap (placed_by (position_at k c)) b in
@@ -93,7 +75,7 @@ takes_so {g} {ss} {t} {e} {g'} {ss'} nested reads opened next past = record {
 -- ---- a turn that leaves it
 
 -- what is said, and what stands first, after so many rows that leave the token
-abbrev leave_row : Held → Tok → table.Goal → Works → (Works → List Raw × Works) → Option (Row table.Goal Raw) → List Raw × Works
+abbrev pub leave_row : Held → Tok → table.Goal → Works → (Works → List Raw × Works) → Option (Row table.Goal Raw) → List Raw × Works
 leave_row h t g w again (Some (leaves ps)) = again (before grammar h t ps w)
 leave_row h t g w again _ = ([], reading g h ∷ w)
 
@@ -114,12 +96,12 @@ by_steps zero t w = (λ ts fs d. d, λ ts gs d. (gs, refl, d))
 by_steps (suc n) t [] = (λ ts fs d. d, λ ts gs d. (gs, refl, d))
 by_steps (suc n) t (saying e ∷ w) =
     let i = by_steps n t w in
-    (λ ts fs d. says (i.0 ts fs d), λ ts gs d. let s = said e w (t ∷ ts) gs d in let y = i.1 ts s.0 s.2 in (y.0, s.1 ∙ ap (λ l. e ∷ l) y.1, y.2))
+    (λ ts fs d. says (i.0 ts fs d), λ ts gs d. let s = said_by d in let y = i.1 ts s.0 s.2 in (y.0, s.1 ∙ ap (λ l. e ∷ l) y.1, y.2))
 by_steps (suc n) t (reading g h ∷ w) = by (row_of (cases g) t) refl (λ v. by_steps n t v)
   where
     by : (r : Option (Row table.Goal Raw)) → row_of (cases g) t ≡ r → ((v : Works) → Stays t v (steps n t v).0 (steps n t v).1)
         → Stays t (reading g h ∷ w) (leave_row h t g w (λ v. steps n t v) r).0 (leave_row h t g w (λ v. steps n t v) r).1
-    by (Some (leaves ps)) q again = let i = again (before grammar h t ps w) in (λ ts fs d. by_leaving ps q (i.0 ts fs d), λ ts gs d. i.1 ts gs (row_left g h w t ts gs ps q d))
+    by (Some (leaves ps)) q again = let i = again (before grammar h t ps w) in (λ ts fs d. by_leaving ps q (i.0 ts fs d), λ ts gs d. i.1 ts gs (left_by d ps q))
     by (Some (takes ps)) q again = (λ ts fs d. d, λ ts gs d. (gs, refl, d))
     by None q again = (λ ts fs d. d, λ ts gs d. (gs, refl, d))
 
@@ -188,7 +170,7 @@ pub after_steps : {w v x : Works} {t : Tok} → Stays t w [] v → Stays t v [] 
 after_steps r s = (λ ts fs d. r.0 ts fs (s.0 ts fs d), λ ts gs d. let y = r.1 ts gs d in let z = s.1 ts y.0 y.2 in (z.0, y.1 ∙ z.1, z.2))
 
 -- whether work refuses a token within so many rows that leave it
-abbrev refuse_row : Held → Tok → Works → (Works → Bool) → Option (Row table.Goal Raw) → Bool
+abbrev pub refuse_row : Held → Tok → Works → (Works → Bool) → Option (Row table.Goal Raw) → Bool
 refuse_row h t w again None = true
 refuse_row h t w again (Some (takes ps)) = false
 refuse_row h t w again (Some (leaves ps)) = again (before grammar h t ps w)
@@ -202,13 +184,13 @@ refuses (suc n) t (reading g h ∷ w) = refuse_row h t w (λ v. refuses n t v) (
 pub not_refused : (n : ℕ) (t : Tok) (w : Works) (ts : List Tok) (es : List Raw) → Derives grammar w (t ∷ ts) es → refuses n t w ≡ false
 not_refused zero t w ts es d = refl
 not_refused (suc n) t [] ts es d = elim d [ ]
-not_refused (suc n) t (saying e ∷ w) ts es d = let s = said e w (t ∷ ts) es d in not_refused n t w ts s.0 s.2
+not_refused (suc n) t (saying e ∷ w) ts es d = let s = said_by d in not_refused n t w ts s.0 s.2
 not_refused (suc n) t (reading g h ∷ w) ts es d = by (row_of (cases g) t) refl (λ v x. not_refused n t v ts es x)
   where
     by : (r : Option (Row table.Goal Raw)) → row_of (cases g) t ≡ r → ((v : Works) → Derives grammar v (t ∷ ts) es → refuses n t v ≡ false) → refuse_row h t w (λ v. refuses n t v) r ≡ false
-    by (Some (leaves ps)) q again = again (before grammar h t ps w) (row_left g h w t ts es ps q d)
+    by (Some (leaves ps)) q again = again (before grammar h t ps w) (left_by d ps q)
     by (Some (takes ps)) q again = refl
-    by None q again = absurd (no_row g h w t ts es q d)
+    by None q again = absurd (none_by d q)
 
 -- nor is one that is read with positions
 placed_admits : (n : ℕ) (x : Extent) (b : Option Position) (k : Token) (v : PlacedWork) (ts : List Token) (es : List (Raw × Position)) → Places x b v (k ∷ ts) es → refuses n k.tok (plain_work v) ≡ false
@@ -235,7 +217,7 @@ has_goal (reading g h ∷ w) = true
 
 pub needs_tokens : (w : Works) (es : List Raw) → has_goal w ≡ true → Derives grammar w [] es → ⊥
 needs_tokens [] es h d = cc
-needs_tokens (saying e ∷ w) es h d = let s = said e w [] es d in needs_tokens w s.0 h s.2
+needs_tokens (saying e ∷ w) es h d = let s = said_by d in needs_tokens w s.0 h s.2
 needs_tokens (reading g k ∷ w) es h d = elim d [ ]
 
 -- where the token leads, and whether it may come in both places
@@ -252,7 +234,7 @@ Leads n g ss e g' ss' t = leading n g ss g' ss' t ≡ led e g' ss'
 abbrev pub Admits : Works → Tok → Type 0
 Admits w t = (m : ℕ) → refuses m t w ≡ false
 
-leads_stay : (n : ℕ) (w : Works) (e : Option Raw) (w' : Works) (t : Tok) → steps n t w ≡ (event_list e, w') → Stays t w (event_list e) w'
+pub leads_stay : (n : ℕ) (w : Works) (e : Option Raw) (w' : Works) (t : Tok) → steps n t w ≡ (event_list e, w') → Stays t w (event_list e) w'
 leads_stay n w e w' t h = subst (λ x. Stays t w x.0 x.1) h (by_steps n t w)
 
 -- What leads there, and where the token leads.
@@ -300,7 +282,7 @@ pub says_so : {g : Goal} {ss : List State} {p : Option Tok} {e : Raw} {g' : Goal
 says_so {g} {ss} {p} {e} {g'} {ss'} nested same any any' opened settles past = record {
   nested = nested;
   comes = λ n f ts es a. (subst (λ w. Derives grammar w ts (e ∷ es)) (sym same) (says a.0), first_any g ss ts any);
-  goes = λ n f ts es k a. let s = said e (work_of g' ss') ts es (subst (λ w. Derives grammar w ts es) same a.0) in (s.0, s.1, (s.2, first_any g' ss' ts any'));
+  goes = λ n f ts es k a. let s = said_by (subst (λ w. Derives grammar w ts es) same a.0) in (s.0, s.1, (s.2, first_any g' ss' ts any'));
   places = λ n f x b m ts there at es a. (subst (λ w. Places x b (placed w) ts ((e, m) ∷ es)) (sym same) (places.says tt a.0), first_any g ss (toks ts) any);
   opened = opened;
   settles = settles;

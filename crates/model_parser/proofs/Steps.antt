@@ -10,8 +10,7 @@ Sound {T = T} {E = E} a w t (goes es v) = (ts : List T) (fs : List E) → Derive
 Sound a w t (refused es) = Unit {0}
 
 sound_saying : {G T E H : Type 0} (a : Table G T E H) (e : E) (w : List (Work G E H)) (t : T) (o : Turned G E H) → Sound a w t o → Sound a (saying e ∷ w) t (and_before e o)
-sound_saying a e w t (goes es v) s = λ ts fs d. says (s ts fs d)
-sound_saying a e w t (refused es) s = tt
+sound_saying a e w t b s = grind (arith, says)
 
 sound_leaving : {G T E H : Type 0} (a : Table G T E H) (g : G) (h : H) (w : List (Work G E H)) (t : T) (ps : List (Part G E)) (o : Turned G E H)
     → row_of (a.cases g) t ≡ Some (leaves ps) → Sound a (before a h t ps w) t o → Sound a (reading g h ∷ w) t o
@@ -37,12 +36,7 @@ abbrev pub Falls : {G T E H : Type 0} → Table G T E H → (G → ℕ) → Type
 Falls {G = G} {T = T} {E = E} a m = (g : G) (t : T) (ps : List (Part G E)) → row_of (a.cases g) t ≡ Some (leaves ps) → parts_weight m ps < m g
 
 part_weighs : {G T E H : Type 0} (a : Table G T E H) (m : G → ℕ) (h : H) (t : T) (p : Part G E) (w : List (Work G E H)) → work_weight m (part_work a h t p ∷ w) ≡ part_weight m p + work_weight m w
-part_weighs a m h t (read g) w = refl
-part_weighs a m h t (keep g) w = refl
-part_weighs a m h t (hold g) w = refl
-part_weighs a m h t (say e) w = omega arith
-part_weighs a m h t show w = omega arith
-part_weighs a m h t empty w = omega arith
+part_weighs a m h t b w = grind arith
 
 pub parts_weigh : {G T E H : Type 0} (a : Table G T E H) (m : G → ℕ) (h : H) (t : T) (ps : List (Part G E)) (w : List (Work G E H)) → work_weight m (before a h t ps w) ≡ parts_weight m ps + work_weight m w
 parts_weigh a m h t [] w = omega arith

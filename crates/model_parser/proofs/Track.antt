@@ -26,8 +26,7 @@ EndsGoal {T = T} {E = E} a ends g h = (u : T) × (us : List T) × (es : List E) 
 -- ---- steps
 
 itself : {T : Type 0} (ends : T → Bool) (too : Bool) (t : T) (ts : List T) → MayBegin ends too (Some t) (t ∷ ts)
-itself ends true t ts = inl refl
-itself ends false t ts = refl
+itself a b t ts = grind arith
 
 pub starts : {G T E H : Type 0} (a : Table G T E H) (ends : T → Bool) (w : List (Work G E H)) → IsOnTrack a ends w w [] None []
 starts a ends w = record { too = true; sound = λ ts es b d. d; exact = λ ts es n d. (es, refl, d); safe = λ f. absurd (cc f) }
@@ -39,8 +38,7 @@ look x t = record { too = true; sound = λ ts es b d. x.sound ts es tt d; exact 
 
 -- An event is given.
 goes_on_saying : {G T E H : Type 0} (a : Table G T E H) (e : E) (w : List (Work G E H)) (next : Option T) → GoesOn a (saying e ∷ w) next → GoesOn a w next
-goes_on_saying a e w None x = x
-goes_on_saying a e w (Some t) x = let y = said_by x.2 in (x.0, y.0, y.2)
+goes_on_saying a e w b x = grind arith
 
 pub give : {G T E H : Type 0} {a : Table G T E H} {ends : T → Bool} {start w : List (Work G E H)} {e : E} {taken : List T} {next : Option T} {given : List E}
     → IsOnTrack a ends start (saying e ∷ w) taken next given → IsOnTrack a ends start w taken next (given ++ e ∷ [])
@@ -86,9 +84,7 @@ left_alone ends t ps (u ∷ ts) r e d = as_first ps r e d
 
 -- with the token alone, too
 alone : {T : Type 0} (ends : T → Bool) (too : Bool) (t : T) (ts : List T) → MayBegin ends false (Some t) ts → MayBegin ends too (Some t) ts
-alone ends too t [] b = absurd b
-alone ends true t (u ∷ ts) b = inl b
-alone ends false t (u ∷ ts) b = b
+alone a too t b d = grind arith
 
 left_exact : {G T E H : Type 0} {a : Table G T E H} {ends : T → Bool} {start : List (Work G E H)} {g : G} {h : H} {w : List (Work G E H)} {taken : List T}
     {t : T} {given : List E} → IsOnTrack a ends start (reading g h ∷ w) taken (Some t) given → (ps : List (Part G E)) → row_of (a.cases g) t ≡ Some (leaves ps)

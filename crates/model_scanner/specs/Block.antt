@@ -31,15 +31,23 @@ check_dash w t = (if w.found_tabs && (slice_index t.rest 0 == 45) && is_blank_or
 unfoldable pub roll_entry : ScannerState → ScannerState
 roll_entry t = (if is_break (peek t.rest) || is_flow (peek t.rest) then on_held roll_one_col_indent t else t)
 
+-- After a `-` that was passed.
+abbrev pub pass_dash : ScannerState → Result ScannerState Fault
+pass_dash t = lexed (space Yes t.rest t.held.position) t.held check_dash
+
+-- At the content of an entry.
+abbrev pub begin_entry : ScannerState → Result ScannerState Fault
+begin_entry t =
+    skip_spaces No t >>= λ u.
+    try_held remove_implicit_key (roll_entry u) >>= λ v.
+    Ok (on_held (λ s. push s.position Tok.block_entry (allow_key true s)) v)
+
 -- `-`
 unfoldable pub fetch_block_entry : ScannerState → Result ScannerState Fault
 fetch_block_entry t =
     try_held check_block_entry t >>= λ u.
-    let v = on_held (roll_indent t.held.position.col None Tok.block_sequence_start t.held.position) (skip_indicator u) in
-    lexed (space Yes v.rest v.held.position) v.held check_dash >>= λ w.
-    skip_spaces No w >>= λ x.
-    try_held remove_implicit_key (roll_entry x) >>= λ y.
-    Ok (on_held (λ s. push s.position Tok.block_entry (allow_key true s)) y)
+    pass_dash (on_held (roll_indent t.held.position.col None Tok.block_sequence_start t.held.position) (skip_indicator u)) >>= λ v.
+    begin_entry v
 
 -- whether a key with `?` may stand here, and its mapping
 abbrev pub keyed : List FlowLevel → List FlowLevel
@@ -54,12 +62,16 @@ begin_key s =
 unfoldable pub check_key_space : ScannerState → Result ScannerState Fault
 check_key_space t = (if peek t.rest == 9 then Err (At problem.TabAfterKey t.held.position) else Ok t)
 
+-- After a `?` and the space after it.
+abbrev pub pass_key : ScannerState → Result ScannerState Fault
+pass_key t = skip_yaml_whitespace (skip_indicator t)
+
 -- `?`
 unfoldable pub fetch_key : ScannerState → Result ScannerState Fault
 fetch_key t =
     try_held begin_key t >>= λ u.
     try_held remove_implicit_key u >>= λ v.
-    skip_yaml_whitespace (skip_indicator (on_held (λ s. allow_key (not (in_flow s)) s) v)) >>= λ w.
+    pass_key (on_held (λ s. allow_key (not (in_flow s)) s) v) >>= λ w.
     check_key_space w >>= λ x.
     Ok (on_held (push t.held.position Tok.key) x)
 

@@ -1,8 +1,8 @@
 -- The lines of a literal or folded block, its column and its value.
-use Rattle.proof_layout_tokens.proofs.Common.{[], and_parts, ap, append-nil, AreLines, AreLineTexts, arith, begins_with, BeginsWithText, blank, block_position, block_value, BlockStyle, body, Bool, both, carriage, collection_of, column_by, digit_of, EndsInText, false, feed, full, further_text, has_content, header_of, indented_lines, indicator_of, is_at_end, is_further_text, is_in_line, is_line_character, is_outside, IsLineText, Line, List, list_all, nat_tests, None, not, Option, past_spaces, read_body, refl, Row, row_of, rows_of, sign_of, Some, spaces, spell_line, spell_lines, starts_with_tab, suc, sym, texts, texts_append, true, unbroken, value_before_end, value_before_text, zero, ℕ, ◌&&◌, ◌++◌, ◌<◌, ◌==◌, ◌||◌, ◌∙◌, ◌∷◌, ◌≡◌, ◌≢◌, ◌≤◌}
+use Rattle.proof_layout_tokens.proofs.Common.{[], and_parts, ap, append-nil, AreLines, AreLineTexts, arith, begins_with, BeginsWithText, blank, block_value, BlockStyle, body, Bool, collection_of, column_by, digit_of, EndsInText, false, full, further_text, has_content, header_of, indented_lines, indicator_of, is_at_end, is_further_text, is_in_line, is_line_character, is_outside, IsLineText, Line, List, list_all, nat_tests, None, not, Option, read_body, refl, Row, row_of, rows_of, sign_of, Some, spaces, spell_line, spell_lines, starts_with_tab, suc, sym, texts, texts_append, true, unbroken, value_before_end, value_before_text, zero, ℕ, ◌&&◌, ◌++◌, ◌<◌, ◌==◌, ◌||◌, ◌∙◌, ◌∷◌, ◌≡◌, ◌≢◌, ◌≤◌}
 use Rattle.defs_text.specs.Classes as classes
 use Rattle.defs_text.specs.Classes.{tab}
-use Rattle.defs_text.specs.BlockScalar.{literal, folded, least_column}
+use Rattle.defs_text.specs.BlockScalar.{least_column}
 use Rattle.defs_token.specs.BlockPiece as cut
 use Rattle.proof_lexers.proofs.Blocks.Written as written
 use Rattle.proof_lexers.proofs.Blocks.Written.{spell}
@@ -19,17 +19,11 @@ block_text s strips a = indicator_of s ∷ (header_line strips ++ a)
 
 pub header_is : (s : BlockStyle) (strips : Bool) → header_of (indicator_of s ∷ header_line strips) ≡ Some (header_by s strips)
 unfolding sign_of digit_of
-header_is literal true = refl
-header_is literal false = refl
-header_is folded true = refl
-header_is folded false = refl
+header_is a b = grind arith
 
 pub header_inner : (s : BlockStyle) (strips : Bool) → is_in_line (indicator_of s ∷ header_line strips) ≡ true
 unfolding classes.is_break
-header_inner literal true = refl
-header_inner literal false = refl
-header_inner folded true = refl
-header_inner folded false = refl
+header_inner a b = grind arith
 
 -- The column of the lines is deeper than the collection's, and 0 at the root.
 abbrev pub IsInside : (indent column : ℕ) → Type 0
@@ -58,9 +52,7 @@ pub record Lines (s : BlockStyle) (i column : ℕ) (strips : Bool) (text : List 
   pub tabless : (more : List (List ℕ)) → starts_with_tab (indented_lines column ls ++ more) ≡ false
 
 tab_more : (ls more : List (List ℕ)) (b : Bool) → ls ≢ [] → starts_with_tab ls ≡ b → starts_with_tab (ls ++ more) ≡ b
-tab_more [] more b some h = absurd (some refl)
-tab_more ([] ∷ ls) more b some h = h
-tab_more ((c ∷ l) ∷ ls) more b some h = h
+tab_more a more b d h = grind arith
 
 some_lines : (column : ℕ) (ls : List Line) → BeginsWithText ls → indented_lines column ls ≢ []
 some_lines column [] h = absurd h

@@ -101,9 +101,7 @@ module _ (column : ℕ) where
   rows_append (l ∷ a) b rs ss e f = by (row_of column l) (rows_of column a) refl refl (λ more g. rows_append a b more ss g f)
     where
       by : (o : Option Row) (os : Option (List Row)) → row_of column l ≡ o → rows_of column a ≡ os → ((more : List Row) → rows_of column a ≡ Some more → rows_of column (a ++ b) ≡ Some (more ++ ss)) → rows_of column (l ∷ (a ++ b)) ≡ Some (rs ++ ss)
-      by None os x y go = let no : None ≡ Some rs = rw x at e in absurd (none_some rs no)
-      by (Some r) None x y go = let no : None ≡ Some rs = rw (x, y) at e in absurd (none_some rs no)
-      by (Some r) (Some more) x y go = let one : Some (r ∷ more) ≡ Some rs = rw (x, y) at e in let z : r ∷ more ≡ rs = cc in rw (x, go more y, ← z) refl
+      by d os x y go = grind arith
 
   -- the row of a last line, and those before it
   pub record Rows (a : List (List ℕ)) (l : List ℕ) (rs : List Row) : Type 0 where
@@ -114,11 +112,7 @@ module _ (column : ℕ) where
     pub is : rs ≡ before ++ row ∷ []
 
   pub rows_split : (a : List (List ℕ)) (l : List ℕ) (rs : List Row) → rows_of column (a ++ l ∷ []) ≡ Some rs → Rows a l rs
-  rows_split [] l rs e = by (row_of column l) refl
-    where
-      by : (o : Option Row) → row_of column l ≡ o → Rows [] l rs
-      by None x = let no : None ≡ Some rs = rw x at e in absurd (none_some rs no)
-      by (Some r) x = let one : Some (r ∷ []) ≡ Some rs = rw x at e in record { before = []; row = r; are = refl; last = x; is = cc }
+  rows_split [] l rs e = grind arith
   rows_split (m ∷ a) l rs e = by (row_of column m) (rows_of column (a ++ l ∷ [])) refl refl (λ more g. rows_split a l more g)
     where
       by : (o : Option Row) (os : Option (List Row)) → row_of column m ≡ o → rows_of column (a ++ l ∷ []) ≡ os → ((more : List Row) → rows_of column (a ++ l ∷ []) ≡ Some more → Rows a l more) → Rows (m ∷ a) l rs
@@ -178,13 +172,11 @@ module _ (column : ℕ) where
 
 pub content_append : (rs ss : List Row) → has_content ss ≡ true → has_content (rs ++ ss) ≡ true
 content_append [] ss h = h
-content_append (empty_row ∷ rs) ss h = content_append rs ss h
-content_append (content_row m ∷ rs) ss h = refl
+content_append (m ∷ rs) ss h = grind (arith, content_append rs ss)
 
 pub content_more : (rs ss : List Row) → has_content rs ≡ true → has_content (rs ++ ss) ≡ true
 content_more [] ss h = cc
-content_more (empty_row ∷ rs) ss h = content_more rs ss h
-content_more (content_row m ∷ rs) ss h = refl
+content_more (m ∷ rs) ss h = grind (arith, content_more rs ss)
 
 -- a header without digit, that strips or clips
 abbrev pub header_by : BlockStyle → (strips : Bool) → Header
@@ -206,8 +198,7 @@ module _ (s : BlockStyle) where
   same_text (content_row l ∷ rs) n h = ap (λ x. l ++ x) (same_after l 0 rs n)
 
   same_content : (strips : Bool) (rs : List Row) (n : ℕ) → has_content rs ≡ true → with_content (header_by s strips) 0 (rs ++ empty_rows n) ≡ with_content (header_by s strips) 0 rs
-  same_content true rs n h = rw (same_text rs n h) refl
-  same_content false rs n h = rw (same_text rs n h) refl
+  same_content a rs n h = grind (arith, same_text)
 
   -- before further text
   pub text_value : (strips : Bool) (rs : List Row) (n : ℕ) → has_content rs ≡ true → value_before_text (header_by s strips) (rs ++ empty_rows n) ≡ value_before_text (header_by s strips) rs
@@ -223,5 +214,4 @@ module _ (s : BlockStyle) where
 
   -- at the end of the text, in the last line
   pub last_value : (strips : Bool) (column : ℕ) (rs : List Row) (r : Row) (l : List ℕ) → has_content (r ∷ []) ≡ true → value_before_end (header_by s strips) column rs l r ≡ value_before_text (header_by s strips) (rs ++ r ∷ [])
-  last_value strips column rs empty_row l h = cc
-  last_value strips column rs (content_row m) l h = rw (content_append rs (content_row m ∷ []) refl) refl
+  last_value strips column rs a l h = grind (arith, content_append)

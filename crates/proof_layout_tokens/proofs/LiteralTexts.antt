@@ -1,6 +1,5 @@
 -- A text that may be a literal block is the value of the lines that are written for it.
-use Rattle.proof_layout_tokens.proofs.Common.{[], and_false, and_parts, ap, append-nil, append_assoc, append_cancel_right, are_marks, AreLines, AreLinesOf, AreLineTexts, arith, begins_as_marker, BeginsWithText, blank, BlockStyle, Bool, breaks, codes, content_row, contents, drop, empty_row, ends_with, EndsInText, eqb-true, false, first_full_line_is_indented, full, has_content, if◌then◌else◌, indented_lines, is_blank, is_blank_or_end, is_break, is_document_marker, is_empty, is_line_character, is_line_feed, is_literal_character, is_literal_text, is_nul, is_root_literal, IsLineText, length, Line, lines_of, lines_of_ended, List, list_all, list_any, literal_header, nat_eq, nat_tests, not, not-true, onto_first_line, or_parts, refl, Row, rows_of, Some, starts_with_tab, suc, sym, text_after, text_of, true, value_before_text, zero, ℕ, ◌&&◌, ◌++◌, ◌-◌, ◌<◌, ◌==◌, ◌∙◌, ◌∷◌, ◌≡◌}
-use lib.Pointwise.{pointwise}
+use Rattle.proof_layout_tokens.proofs.Common.{[], and_false, and_parts, ap, append-nil, append_assoc, append_cancel_right, are_marks, AreLines, AreLinesOf, AreLineTexts, arith, begins_as_marker, BeginsWithText, blank, BlockStyle, Bool, breaks, codes, content_row, contents, empty_row, ends_with, EndsInText, false, first_full_line_is_indented, full, has_content, if◌then◌else◌, indented_lines, is_blank, is_blank_or_end, is_break, is_document_marker, is_empty, is_line_character, is_line_feed, is_literal_character, is_literal_text, is_nul, is_root_literal, IsLineText, Line, lines_of, lines_of_ended, List, list_all, list_any, literal_header, nat_eq, nat_tests, not, not-true, onto_first_line, or_parts, refl, Row, rows_of, Some, starts_with_tab, suc, sym, text_after, text_of, true, value_before_text, zero, ℕ, ◌&&◌, ◌++◌, ◌<◌, ◌==◌, ◌∙◌, ◌∷◌, ◌≡◌}
 use Rattle.defs_tree.specs.Lines.{ended}
 use Rattle.defs_tree.specs.Literal as literal_defs
 use Rattle.defs_layout.specs.BlockLines.{content}
@@ -17,16 +16,14 @@ abbrev are_line_texts : List (List ℕ) → Bool
 are_line_texts ls = list_all (λ l. list_all is_line_character l) ls
 
 onto_text : (c : ℕ) (ls : List (List ℕ)) → is_line_character c ≡ true → are_line_texts ls ≡ true → are_line_texts (onto_first_line c ls) ≡ true
-onto_text c [] h e = rw h refl
-onto_text c (l ∷ ls) h e = rw h e
+onto_text c a h e = grind arith
 
 text_lines : (text : List ℕ) → list_all is_literal_character text ≡ true → are_line_texts (lines_of text) ≡ true
 text_lines [] h = refl
 text_lines (c ∷ cs) h = let q = and_parts (is_literal_character c) (list_all is_literal_character cs) h in by (c == 10) refl q.0 (text_lines cs q.1)
   where
     by : (b : Bool) → (c == 10) ≡ b → is_literal_character c ≡ true → are_line_texts (lines_of cs) ≡ true → are_line_texts (if b then [] ∷ lines_of cs else onto_first_line c (lines_of cs)) ≡ true
-    by true e one all = all
-    by false e one all = onto_text c (lines_of cs) (in_line c one e) all
+    by a e d g = grind (arith, onto_text, in_line)
 
 -- ---- the last line
 
@@ -36,45 +33,27 @@ ends_full (l ∷ []) = not (is_empty l)
 ends_full (l ∷ m ∷ ls) = ends_full (m ∷ ls)
 
 below_empty : (ls : List (List ℕ)) → ends_full ls ≡ true → ends_full ([] ∷ ls) ≡ true
-below_empty [] h = cc
-below_empty (l ∷ ls) h = h
+below_empty a h = grind arith
 
 onto_full : (c : ℕ) (ls : List (List ℕ)) → ends_full ls ≡ true → ends_full (onto_first_line c ls) ≡ true
-onto_full c [] h = refl
-onto_full c (l ∷ []) h = refl
-onto_full c (l ∷ m ∷ ls) h = h
+onto_full c a h = grind arith
 
 two_step : (c d e : ℕ) (cs : List ℕ) → ends_with nat_eq (c ∷ d ∷ e ∷ cs) (10 ∷ 10 ∷ []) ≡ ends_with nat_eq (d ∷ e ∷ cs) (10 ∷ 10 ∷ [])
-two_step c d e cs =
-    let f : suc (suc (suc (length cs))) - 2 ≡ suc (length cs) = omega arith in
-    let g : suc (suc (length cs)) - 2 ≡ length cs = omega arith in
-    ap (λ k. pointwise nat_eq (10 ∷ 10 ∷ []) (drop k (c ∷ d ∷ e ∷ cs))) f ∙ sym (ap (λ k. pointwise nat_eq (10 ∷ 10 ∷ []) (drop k (d ∷ e ∷ cs))) g)
+two_step c d e cs = grind arith
 
 last_full : (c : ℕ) (cs : List ℕ) → ((c == 10) && is_empty cs) ≡ false → ends_with nat_eq (c ∷ cs) (codes "\n\n") ≡ false → ends_full (lines_of (c ∷ cs)) ≡ true
-last_full c [] h e = by (c == 10) h
-  where
-    by : (b : Bool) → (b && true) ≡ false → ends_full (if b then [] ∷ [] else (c ∷ []) ∷ []) ≡ true
-    by true h = cc
-    by false h = refl
-last_full c (d ∷ []) h e = by (c == 10) (d == 10) refl refl
-  where
-    by : (b f : Bool) → (c == 10) ≡ b → (d == 10) ≡ f → ends_full (if b then [] ∷ (if f then [] ∷ [] else (d ∷ []) ∷ []) else onto_first_line c (if f then [] ∷ [] else (d ∷ []) ∷ [])) ≡ true
-    by true true p q = let is : c ≡ 10 = eqb-true c 10 p in let so : d ≡ 10 = eqb-true d 10 q in let z : ends_with nat_eq (10 ∷ 10 ∷ []) (codes "\n\n") ≡ false = rw so at rw is at e in cc
-    by true false p q = refl
-    by false true p q = refl
-    by false false p q = refl
+last_full c [] h e = grind (arith, ends_full)
+last_full c (d ∷ []) h e = grind arith
 last_full c (d ∷ e ∷ cs) h f = by (c == 10) (last_full d (e ∷ cs) (and_false (d == 10)) (sym (two_step c d e cs) ∙ f))
   where
     by : (b : Bool) → ends_full (lines_of (d ∷ e ∷ cs)) ≡ true → ends_full (if b then [] ∷ lines_of (d ∷ e ∷ cs) else onto_first_line c (lines_of (d ∷ e ∷ cs))) ≡ true
-    by true z = below_empty (lines_of (d ∷ e ∷ cs)) z
-    by false z = onto_full c (lines_of (d ∷ e ∷ cs)) z
+    by a z = grind (arith, below_empty, onto_full)
 
 -- ---- the written lines
 
 line_texts : (ls : List Line) → are_line_texts (contents ls) ≡ true → AreLineTexts ls
 line_texts [] h = tt
-line_texts (full w ∷ ls) h = let q = and_parts (list_all is_line_character w) (are_line_texts (contents ls)) h in (q.0, line_texts ls q.1)
-line_texts (blank n ∷ ls) h = line_texts ls h
+line_texts (l ∷ ls) h = grind (arith, line_texts ls)
 
 ends_lines : (ls : List Line) → ends_full (contents ls) ≡ true → EndsInText ls
 ends_lines [] h = cc
@@ -84,10 +63,7 @@ ends_lines (l ∷ m ∷ ls) h = ends_lines (m ∷ ls) h
 
 begins_lines : (column : ℕ) (ls : List Line) → AreLines column ls → EndsInText ls → first_full_line_is_indented (contents ls) ≡ false → BeginsWithText ls
 begins_lines column [] are ends h = absurd ends
-begins_lines column (full [] ∷ ls) are ends h = absurd (are.0 refl)
-begins_lines column (full (c ∷ w) ∷ ls) are ends h = h
-begins_lines column (blank n ∷ []) are ends h = absurd ends
-begins_lines column (blank n ∷ m ∷ ls) are ends h = begins_lines column (m ∷ ls) are.1 ends h
+begins_lines column (l ∷ ls) are ends h = grind (arith, begins_lines column ls)
 
 -- ---- their rows
 
@@ -198,8 +174,7 @@ record LiteralText (text : List ℕ) : Type 0 where
   first : first_full_line_is_indented (lines_of text) ≡ false
 
 not_lone : (c : ℕ) (cs : List ℕ) → list_all is_line_feed (c ∷ cs) ≡ false → ((c == 10) && is_empty cs) ≡ false
-not_lone c [] h = h
-not_lone c (d ∷ cs) h = and_false (c == 10)
+not_lone c a h = grind (arith, and_false)
 
 literal_text : (text : List ℕ) → is_literal_text text ≡ true → LiteralText text
 unfolding is_literal_text
@@ -253,8 +228,4 @@ root_literal_lines text ls one are =
 
 -- their header
 pub headed_literal : (text r : List ℕ) → literal_header text ++ r ≡ block_text BlockStyle.literal (strips_of text) r
-headed_literal text r = by (ends_with nat_eq text (codes "\n"))
-  where
-    by : (b : Bool) → (if b then codes "|" else codes "|-") ++ r ≡ block_text BlockStyle.literal (not b) r
-    by true = refl
-    by false = refl
+headed_literal text r = grind (arith, codes)

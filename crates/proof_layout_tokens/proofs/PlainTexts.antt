@@ -1,8 +1,7 @@
 -- The scalars that are spelt without quotes, as texts that a plain scalar may be.
 use Rattle.std.specs.Fmt.{signed_decimal as decimal_digits}
-use Rattle.proof_layout_tokens.proofs.Common.{[], alias, AllDigits, and_false, and_from, and_parts, arith, bad_value, Bool, boolean, codes, decimal, decimal_is_IsNumeral, digit_from_value, ends_with, ends_with-one, ends_with-step, eqb-true, false, fits_i64, has_indicator_first, hash, inl, inr, integer, is_decimal, is_quoted, is_real_character, is_real_text, is_unfit_for_plain, IsNumeral, IsPlain, List, list_all, list_any, ltb-true, nat_eq, nat_tests, ne_eqb, negsuc, not, null, or_parts, pos, real, real_text-characters, refl, special_words, spelling, suc, Tree, true, typing, unquoted, ℕ, ℤ, ◌&&◌, ◌<◌, ◌==◌, ◌^◌, ◌||◌, ◌∷◌, ◌≡◌, ◌≤◌, ◌⊎◌}
+use Rattle.proof_layout_tokens.proofs.Common.{[], alias, AllDigits, and_false, and_from, and_parts, arith, bad_value, Bool, boolean, codes, decimal, decimal_is_IsNumeral, digit_from_value, ends_with, ends_with-one, ends_with-step, false, fits_i64, has_indicator_first, hash, integer, is_decimal, is_quoted, is_real_character, is_real_text, is_unfit_for_plain, IsNumeral, IsPlain, List, list_all, list_any, ltb-true, nat_eq, nat_tests, ne_eqb, negsuc, not, null, or_parts, pos, real, real_text-characters, refl, spelling, suc, Tree, true, typing, unquoted, ℕ, ℤ, ◌&&◌, ◌<◌, ◌==◌, ◌^◌, ◌||◌, ◌∷◌, ◌≡◌, ◌≤◌}
 use Rattle.defs_tree.specs.Tree.{string, array}
-use Rattle.defs_tree.specs.Grammar.{is_among}
 use Rattle.defs_tree.specs.Quoting.{begins_with}
 use Rattle.defs_tree.proofs.DecimalReading.{is_decimal-read}
 use Rattle.defs_tree.proofs.TypingLaws.{real_text-cases}
@@ -66,8 +65,7 @@ no_dash : (c : ℕ) (w : List ℕ) → has_indicator_first (c ∷ w) ≡ false �
 no_dash c w e = (grind (arith, nat_tests), grind (arith, nat_tests))
 
 second_fits : (c : ℕ) (w : List ℕ) → (c == 45) ≡ false → (c == 46) ≡ false → is_second c w ≡ true
-second_fits c [] d p = rw (d, p) refl
-second_fits c (x ∷ w) d p = rw (d, p) refl
+second_fits c a d p = grind arith
 
 string_plain : (s : List ℕ) → is_quoted s ≡ false → IsPlainText s
 string_plain [] h = let z = unquoted [] h in let e = z.nonempty in cc
@@ -151,30 +149,16 @@ unfolding typing is_decimal
 lone_point = refl
 
 two_dashes : (w : List ℕ) → is_real_text (45 ∷ 45 ∷ w) ≡ true → ⊥
-two_dashes w h = by (real_text-cases (45 ∷ 45 ∷ w) h)
-  where
-    by : (is_among special_words (45 ∷ 45 ∷ w) ≡ true) ⊎ (is_decimal (45 ∷ 45 ∷ w) ≡ true) → ⊥
-    by (inl e) = cc
-    by (inr e) = let f = rw (is_decimal-read (45 ∷ 45 ∷ w)) at e in cc
+two_dashes w h = let z = real_text-cases (45 ∷ 45 ∷ w) h in let f = is_decimal-read (45 ∷ 45 ∷ w) in grind arith
 
 two_points : (w : List ℕ) → is_real_text (46 ∷ 46 ∷ w) ≡ true → ⊥
-two_points w h = by (real_text-cases (46 ∷ 46 ∷ w) h)
-  where
-    by : (is_among special_words (46 ∷ 46 ∷ w) ≡ true) ⊎ (is_decimal (46 ∷ 46 ∷ w) ≡ true) → ⊥
-    by (inl e) = cc
-    by (inr e) = let f = rw (is_decimal-read (46 ∷ 46 ∷ w)) at e in cc
+two_points w h = let z = real_text-cases (46 ∷ 46 ∷ w) h in let f = is_decimal-read (46 ∷ 46 ∷ w) in grind arith
 
 not_alone : (c : ℕ) (b : Bool) (x : ℕ) → (c == x) ≡ b → is_real_text (x ∷ []) ≡ false → is_real_text (c ∷ []) ≡ true → (c == x) ≡ false
-not_alone c true x e f h = let is : c ≡ x = eqb-true c x e in let g : is_real_text (x ∷ []) ≡ true = rw is at h in cc
-not_alone c false x e f h = e
+not_alone c a x e f h = grind arith
 
 not_double : (c d : ℕ) (w : List ℕ) (b : Bool) (x : ℕ) → ((c == x) && (d == x)) ≡ b → (is_real_text (x ∷ x ∷ w) ≡ true → ⊥) → is_real_text (c ∷ d ∷ w) ≡ true → ((c == x) && (d == x)) ≡ false
-not_double c d w true x e f h =
-    let q = and_parts (c == x) (d == x) e in
-    let is : c ≡ x = eqb-true c x q.0 in
-    let so : d ≡ x = eqb-true d x q.1 in
-    absurd (f (rw so at rw is at h))
-not_double c d w false x e f h = e
+not_double c d w a x e f h = grind arith
 
 real_second : (c : ℕ) (w : List ℕ) → is_real_text (c ∷ w) ≡ true → list_all is_real_character w ≡ true → is_second c w ≡ true
 real_second c [] h e = rw (not_alone c (c == 45) 45 refl lone_dash h, not_alone c (c == 46) 46 refl lone_point h) refl
@@ -192,8 +176,7 @@ real_plain (c ∷ w) h =
 -- ---- all of them
 
 boolean_plain : (b : Bool) → IsPlainText (spelling (boolean b))
-boolean_plain true = record { head = 116; tail = codes "rue"; whole = refl; first = refl; second = refl; chars = refl; close = refl }
-boolean_plain false = record { head = 102; tail = codes "alse"; whole = refl; first = refl; second = refl; chars = refl; close = refl }
+boolean_plain a = grind arith
 
 pub spelt_plain : (t : Tree) → IsPlain t → IsPlainText (spelling t)
 spelt_plain (real s) h = real_plain s h

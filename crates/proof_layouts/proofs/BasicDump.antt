@@ -1,6 +1,6 @@
 -- A dump's layout is a basic one.
-use Rattle.proof_layouts.proofs.Common.{[], AreBasicEntries, AreBasicFields, Bool, false, Field, if◌then◌else◌, is_quoted, is_scalar, IsBasic, IsBasicBlock, IsBasicField, IsBasicInline, IsBasicRoot, IsBasicScalar, IsBasicValue, item, Items, List, no_items, no_pairs, not, pair, Pairs, refl, Scalar, Tree, true, Value, ℕ, ◌&&◌, ◌+◌, ◌∷◌}
-use Rattle.proof_layouts.proofs.DumpLayout.{Node, may_be_literal, value_of, root_of, string_scalar, scalar_of, string_node, entries_of, fields_of, array_node, hash_node, field_of, node_of, values_of, all_fields_of, layout_of}
+use Rattle.proof_layouts.proofs.Common.{[], AreBasicEntries, AreBasicFields, arith, Bool, false, Field, IsBasic, IsBasicBlock, IsBasicField, IsBasicInline, IsBasicRoot, IsBasicScalar, IsBasicValue, item, Items, List, no_items, no_pairs, pair, Pairs, refl, Tree, true, Value, ℕ, ◌&&◌, ◌+◌, ◌∷◌}
+use Rattle.proof_layouts.proofs.DumpLayout.{Node, may_be_literal, value_of, root_of, scalar_of, string_node, entries_of, fields_of, array_node, hash_node, field_of, node_of, values_of, all_fields_of, layout_of}
 use Rattle.proof_layouts.proofs.Validity.{AreAll}
 
 -- A node is basic.
@@ -11,34 +11,19 @@ IsBasicNode (Node.block b) = IsBasicBlock b
 
 -- So is the value that it is after a mark.
 value_of_basic : (lower : Bool) (c : ℕ) (n : Node) → IsBasicNode n → IsBasicValue (value_of lower c n)
-value_of_basic lower c (Node.inline i) h = (h, tt)
-value_of_basic lower c (Node.literal text) h = tt
-value_of_basic true c (Node.block b) h = (tt, h)
-value_of_basic false c (Node.block b) h = h
+value_of_basic b c n h = grind arith
 
 -- And the root.
 root_of_basic : (n : Node) → IsBasicNode n → IsBasicRoot (root_of n)
-root_of_basic (Node.inline i) h = h
-root_of_basic (Node.literal text) h = tt
-root_of_basic (Node.block b) h = h
+root_of_basic n h = grind arith
 
--- A string is plain or in double quotes.
-string_scalar_basic : (s : List ℕ) → IsBasicScalar (string_scalar s)
-string_scalar_basic s = by (is_quoted s)
-  where
-    by : (b : Bool) → IsBasicScalar (if b then Scalar.quoted s else Scalar.plain (Tree.string s))
-    by true = tt
-    by false = tt
-
--- So is each scalar.
+-- A scalar on one line is plain or in double quotes.
 scalar_of_basic : (t : Tree) → IsBasicScalar (scalar_of t)
-scalar_of_basic (Tree.string s) = string_scalar_basic s
-scalar_of_basic t = tt
+scalar_of_basic t = grind arith
 
 -- A string's node is basic.
 string_node_basic : (as_literal : Bool) (s : List ℕ) → IsBasicNode (string_node as_literal s)
-string_node_basic true s = tt
-string_node_basic false s = string_scalar_basic s
+string_node_basic b s = grind arith
 
 -- Basic values are basic entries.
 entries_basic : (v : Value) (vs : List Value) → IsBasicValue v → AreAll IsBasicValue vs → AreBasicEntries (entries_of v vs)
@@ -52,21 +37,15 @@ fields_basic f (g ∷ fs) h hs = (h, fields_basic g fs hs.0 hs.1)
 
 -- The node of basic values is basic.
 array_node_basic : (vs : List Value) → AreAll IsBasicValue vs → IsBasicNode (array_node vs)
-array_node_basic [] h = tt
-array_node_basic (v ∷ vs) h = entries_basic v vs h.0 h.1
+array_node_basic vs h = grind (arith, entries_basic)
 
 -- So is that of basic entries.
 hash_node_basic : (fs : List Field) → AreAll IsBasicField fs → IsBasicNode (hash_node fs)
-hash_node_basic [] h = tt
-hash_node_basic (f ∷ fs) h = fields_basic f fs h.0 h.1
+hash_node_basic fs h = grind (arith, fields_basic)
 
 -- An entry of a hash is basic, with a scalar before the colon or a node after the question mark.
 field_of_basic : (compact : Bool) (c : ℕ) (k : Tree) (key value : Node) → IsBasicNode key → IsBasicNode value → IsBasicField (field_of compact c k key value)
-field_of_basic compact c k key value g h = by (is_scalar k)
-  where
-    by : (b : Bool) → IsBasicField (if b then Field.implicit (scalar_of k) (value_of true c value) else Field.explicit (value_of (not compact) c key) [] (value_of (not compact) c value))
-    by true = (scalar_of_basic k, value_of_basic true c value h)
-    by false = (value_of_basic (not compact) c key g, value_of_basic (not compact) c value h)
+field_of_basic compact c k key value g h = grind (arith, scalar_of_basic, value_of_basic)
 
 mutual
   -- The node of any tree is basic.
@@ -79,17 +58,12 @@ mutual
   -- The values of an array are basic.
   values_of_basic : (compact multiline : Bool) (c : ℕ) (ts : Items) → AreAll IsBasicValue (values_of compact multiline c ts)
   values_of_basic compact multiline c no_items = tt
-  values_of_basic compact multiline c (item t ts) =
-      (value_of_basic (not compact) c (node_of compact multiline false (c + 2) t) (node_of_basic compact multiline false (c + 2) t), values_of_basic compact multiline c ts)
+  values_of_basic compact multiline c (item t ts) = grind (arith, value_of_basic, node_of_basic compact multiline false (c + 2) t, values_of_basic compact multiline c ts)
 
   -- The entries of a hash are basic.
   all_fields_basic : (compact multiline : Bool) (c : ℕ) (ps : Pairs) → AreAll IsBasicField (all_fields_of compact multiline c ps)
   all_fields_basic compact multiline c no_pairs = tt
-  all_fields_basic compact multiline c (pair k v ps) = (
-    field_of_basic compact c k (node_of compact multiline false (c + 2) k) (node_of compact multiline false (c + 2) v)
-        (node_of_basic compact multiline false (c + 2) k) (node_of_basic compact multiline false (c + 2) v),
-    all_fields_basic compact multiline c ps,
-  )
+  all_fields_basic compact multiline c (pair k v ps) = grind (arith, field_of_basic, node_of_basic compact multiline false (c + 2) k, node_of_basic compact multiline false (c + 2) v, all_fields_basic compact multiline c ps)
 
 -- The layout is basic.
 pub layout_of_basic : (compact multiline : Bool) (t : Tree) → IsBasic (layout_of compact multiline t)

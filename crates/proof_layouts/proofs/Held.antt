@@ -1,12 +1,12 @@
 -- What is read of lists of items and of pairs with distinct keys.
-use Rattle.proof_layouts.proofs.Common.{[], Anchors, ap, AreDistinct, Items, items_of, Lacks, List, list_of, lookup, Nest, nest_pair, NestPairs, None, Ok, read_node, read_pairs, refl, sym, Tree, without, ◌++◌, ◌∷◌, ◌≡◌, ◌≢◌}
+use Rattle.proof_layouts.proofs.Common.{arith, [], Anchors, ap, AreDistinct, Items, items_of, Lacks, List, list_of, lookup, Nest, nest_pair, NestPairs, None, Ok, read_node, read_pairs, refl, sym, Tree, without, ◌++◌, ◌∷◌, ◌≡◌, ◌≢◌}
 use Rattle.defs_tree.proofs.PairsLaws.{tree_eq-other}
 
 -- ---- pairs with another key
 
 lookup_lacking : (k : Tree) (ps : List (Tree × Tree)) → Lacks k ps → lookup k ps ≡ None
 lookup_lacking k [] h = refl
-lookup_lacking k (p ∷ ps) h = rw (tree_eq-other k p.0 h.0) (lookup_lacking k ps h.1)
+lookup_lacking k (p ∷ ps) h = grind (arith, tree_eq-other, lookup_lacking k ps)
 
 without_lacking : (k : Tree) (ps : List (Tree × Tree)) → Lacks k ps → without k ps ≡ ps
 without_lacking k [] h = refl

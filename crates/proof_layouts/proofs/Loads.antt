@@ -1,7 +1,7 @@
 -- Events that are read as trees, handed to a loader one by one.
-use Rattle.proof_layouts.proofs.Common.{[], ap, Bool, Err, Ev, events_of, ForetoldEventsAreNotRefused, IsAtWork, IsStream, List, map, nested_stream, NestedDocument, Ok, ReadAs, reading, ReadStreamsAreLoaded, ReadStreamsAreNotCut, ReadStreamsAreNotRefused, refl, Result, sym, Tok, Tree, ◌++◌, ◌∙◌, ◌∷◌, ◌≡◌}
+use Rattle.proof_layouts.proofs.Common.{arith, [], ap, Bool, Ev, events_of, ForetoldEventsAreNotRefused, IsAtWork, IsStream, List, map, nested_stream, NestedDocument, Ok, ReadAs, reading, ReadStreamsAreLoaded, ReadStreamsAreNotCut, ReadStreamsAreNotRefused, refl, Result, sym, Tok, Tree, ◌++◌, ◌∙◌, ◌∷◌, ◌≡◌}
 use Rattle.defs_text.specs.Position.{Position}
-use Rattle.defs_event.specs.Unfinished.{Loader, at_work, noted, refused, new_loader, with_event_at, with_events}
+use Rattle.defs_event.specs.Unfinished.{Loader, new_loader, with_event_at, with_events}
 use Rattle.defs_event.specs.Laws.{HasRead}
 use Rattle.defs_event.proofs.OneByOne.{one_by_one}
 use Rattle.defs_event.proofs.OneReading.{one_list}
@@ -14,21 +14,14 @@ loaded ds trees events reads same = rw reads at (one_by_one ds events same)
 
 work_on : (l : Loader) (events : List (Ev × Position)) → IsAtWork (with_events l events) → IsAtWork l
 work_on l [] h = h
-work_on l (e ∷ es) h = by l (work_on (with_event_at l e.0 e.1) es h)
-  where
-    by : (l : Loader) → IsAtWork (with_event_at l e.0 e.1) → IsAtWork l
-    by (at_work u) h = tt
-    by (noted documents key position) h = h
-    by (refused documents position) h = h
+work_on l (e ∷ es) h = let k = work_on (with_event_at l e.0 e.1) es h in grind arith
 
 with_more : (l : Loader) (es fs : List (Ev × Position)) → with_events l (es ++ fs) ≡ with_events (with_events l es) fs
 with_more l [] fs = refl
 with_more l (e ∷ es) fs = with_more (with_event_at l e.0 e.1) es fs
 
 at_work_after : (trees : List Tree) (l : Loader) → HasRead (Ok trees) l → IsAtWork l
-at_work_after trees (at_work u) h = tt
-at_work_after trees (noted documents key position) h = h
-at_work_after trees (refused documents position) h = h
+at_work_after trees l h = grind arith
 
 -- events at a position that does not count
 abbrev somewhere : Ev → Ev × Position
@@ -52,10 +45,7 @@ streams_are_loaded keep_tags tokens trees events x s =
     loaded x.documents trees events x.trees_are (one_list keep_tags tokens (events_of events) (nested_stream x.documents) s x.stream)
 
 one_reading : (x : Result (List Tree) Tree) (trees : List Tree) (l : Loader) → HasRead x l → HasRead (Ok trees) l → x ≡ Ok trees
-one_reading (Ok ts) trees (at_work u) h k = ap Ok (sym h.0 ∙ k.0)
-one_reading (Err key) trees (at_work u) h k = absurd h
-one_reading x trees (noted documents key position) h k = absurd k
-one_reading x trees (refused documents position) h k = absurd k
+one_reading x trees l h k = grind arith
 
 -- whatever documents have the stream's events
 pub documents_are_read : (keep_tags : Bool) (tokens : List Tok) (trees : List Tree) (ds : List NestedDocument) → ReadAs keep_tags tokens trees

@@ -1,6 +1,5 @@
 -- Anchors by their names, as a layout keeps them, by their numbers, as events have them, and the trees that are read under
 -- these numbers.
-use Rattle.std.proofs.lemmas.Bool.{true≢false}
 use Rattle.std.proofs.lemmas.Slice.Eq.{bytes_eq-Decides}
 use Rattle.proof_layouts.proofs.Common.{[], add-one, aliased, Anchor, Anchors, ap, arith, begun, Bool, bytes_eq, ended, false, finished, if◌then◌else◌, last_tree, List, Names, nat_eq, nat_tests, ne_eqb, None, number, Option, refl, Some, sym, Tree, true, under_name, with_anchor, with_end, ℕ, ◌++◌, ◌+◌, ◌<◌, ◌∙◌, ◌∷◌, ◌≡◌, ◌≢◌, ◌≤◌}
 
@@ -43,13 +42,7 @@ pub record Found (name : List ℕ) (names : List (List ℕ × ℕ)) (read : Anch
   pub is_read : aliased number read ≡ t
 
 same_test : (a b c : List ℕ) → a ≡ b → bytes_eq c a ≡ bytes_eq b c
-same_test a b c e = by (bytes_eq c a) (bytes_eq b c) refl refl
-  where
-    by : (x y : Bool) → bytes_eq c a ≡ x → bytes_eq b c ≡ y → x ≡ y
-    by true true h k = refl
-    by false false h k = refl
-    by true false h k = absurd (true≢false (sym ((bytes_eq-Decides b c).1 (sym e ∙ sym ((bytes_eq-Decides c a).0 h))) ∙ k))
-    by false true h k = absurd (true≢false (sym ((bytes_eq-Decides c a).1 (sym ((bytes_eq-Decides b c).0 k) ∙ sym e)) ∙ h))
+same_test a b c e = grind (arith, bytes_eq-Decides)
 
 pub found : (above : ℕ) (name : List ℕ) (names : List (List ℕ × ℕ)) (a : List Anchor) (read : Anchors) (t : Tree) → Agree above names a read → last_tree name a ≡ Some t → Found name names read t
 found above name [] [] read t h e = cc
@@ -78,9 +71,7 @@ own_number k t read = let e : nat_eq k k ≡ true = grind (arith, nat_tests) in 
 
 -- what is read under a number above does not count
 older_agree : (above : ℕ) (names : List (List ℕ × ℕ)) (a : List Anchor) (read : Anchors) (k : ℕ) (t : Tree) → Agree above names a read → above ≤ k → Agree above names a ((k, t) ∷ read)
-older_agree above [] [] read k t h low = tt
-older_agree above [] (begun n ∷ a) read k t h low = absurd h
-older_agree above [] (ended n u ∷ a) read k t h low = absurd h
+older_agree above [] a read k t h low = grind arith
 older_agree above (p ∷ names) [] read k t h low = absurd h
 older_agree above (p ∷ names) (begun n ∷ a) read k t h low = let less = h.1 in (h.0, h.1, older_agree p.1 names a read k t h.2 (omega arith))
 older_agree above (p ∷ names) (ended n u ∷ a) read k t h low =
@@ -142,20 +133,17 @@ ended_by None t a = a
 ended_by (Some name) t a = with_end t a
 
 pub begun_agrees : (o : Option (List ℕ)) (s : Names) (a : List Anchor) (read : Anchors) → Agrees s a read → Agrees (with_anchor s o) (begun_by o a) read
-begun_agrees None s a read h = h
-begun_agrees (Some name) s a read h = (refl, omega arith, h)
+begun_agrees b s a d h = grind arith
 
 abbrev pub own : Option (List ℕ) → Names → Tree → List Ended
 own None s t = []
 own (Some name) s t = record { name = name; number = s.count + 1; tree = t } ∷ []
 
 pub own_names : (o : Option (List ℕ)) (s : Names) (t : Tree) → names_after (own o s t) s.anchors ≡ (with_anchor s o).anchors
-own_names None s t = refl
-own_names (Some name) s t = refl
+own_names a s t = grind arith
 
 pub own_ended : (o : Option (List ℕ)) (s : Names) (t : Tree) (es : List Ended) (a : List Anchor) → ended_by o t (ended_after es (begun_by o a)) ≡ ended_after es (ended_after (own o s t) a)
-own_ended None s t es a = refl
-own_ended (Some name) s t es a = with_end_after es name t a
+own_ended b s t es a = grind (arith, with_end_after)
 
 finished_next : (n : ℕ) (t : Tree) (read : Anchors) → finished (n + 1) t read ≡ (n + 1, t) ∷ read
 finished_next n t read = rw add-one refl

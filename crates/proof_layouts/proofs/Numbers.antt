@@ -4,7 +4,7 @@ use Rattle.std.specs.List.{list_all}
 use Rattle.std.specs.Str.Parse.{AllDigits, digits_value}
 use Rattle.std.proofs.lemmas.Fmt.{decimal-digits_value}
 use Rattle.std.proofs.lemmas.Str.Parse.{IsNumeralModel}
-use Rattle.proof_layouts.proofs.Common.{[], after_prefix, and_from, and_parts, ap, append-nil, are_digits, arith, Bool, codes, decimal, Exponent, exponent, false, false_words, fits_i64, Fraction, fraction, get_or, if◌then◌else◌, integer, integer_back, integer_value, is_decimal, is_digit, is_fraction, is_number, is_sign, is_whole, JsonNumbersStandForTheirTrees, length, List, ltb-true, minus, nat_tests, ne_eqb, neg_ℤ, negsuc, no_exponent, no_fraction, no_sign, None, not, null_words, Option, plus, pos, real, refl, Sign, signed_decimal, special_words, spell_exponent, spell_fraction, spell_minus, spell_number, spell_sign, suc, sym, Tree, true, true_words, true≢false, typing, unwrap_or, where_true, zero, ℕ, ℤ, ◌&&◌, ◌++◌, ◌<◌, ◌==◌, ◌^◌, ◌∙◌, ◌∷◌, ◌≡◌}
+use Rattle.proof_layouts.proofs.Common.{[], after_prefix, and_from, and_parts, ap, append-nil, are_digits, arith, Bool, codes, decimal, Exponent, exponent, false, false_words, fits_i64, Fraction, fraction, get_or, if◌then◌else◌, integer, integer_back, integer_value, is_decimal, is_digit, is_fraction, is_number, is_sign, is_whole, JsonNumbersStandForTheirTrees, length, List, ltb-true, nat_tests, ne_eqb, neg_ℤ, negsuc, no_exponent, no_fraction, None, null_words, Option, pos, real, refl, Sign, signed_decimal, special_words, spell_exponent, spell_fraction, spell_minus, spell_number, spell_sign, suc, sym, Tree, true, true_words, true≢false, typing, unwrap_or, where_true, zero, ℕ, ℤ, ◌++◌, ◌<◌, ◌==◌, ◌^◌, ◌∙◌, ◌∷◌, ◌≡◌}
 use Rattle.defs_tree.specs.Grammar.{at_least_one, is_among}
 use Rattle.defs_tree.proofs.GrammarLaws.{after_all, after_one}
 use Rattle.defs_tree.proofs.DecimalReading.{begins_in, reads_exponent, reads_on, reads_unsigned, is_decimal-read}
@@ -18,16 +18,13 @@ digit_no_sign : (c : ℕ) → is_ascii_digit c ≡ true → is_sign c ≡ false
 digit_no_sign c h = grind (arith, nat_tests)
 
 digits_no_sign : (w r : List ℕ) → are_digits w ≡ true → after_one is_sign (w ++ r) ≡ w ++ r
-digits_no_sign [] r h = cc
-digits_no_sign (c ∷ w) r h = rw (digit_no_sign c ((and_parts (is_ascii_digit c) (list_all is_ascii_digit w) h).0)) refl
+digits_no_sign a r h = grind (arith, digit_no_sign)
 
 digits_first : (w r : List ℕ) → are_digits w ≡ true → begins_in is_ascii_digit (w ++ r) ≡ true
-digits_first [] r h = cc
-digits_first (c ∷ w) r h = (and_parts (is_ascii_digit c) (list_all is_ascii_digit w) h).0
+digits_first a r h = grind arith
 
 all_digits : (w : List ℕ) → are_digits w ≡ true → list_all is_ascii_digit w ≡ true
-all_digits [] h = refl
-all_digits (c ∷ w) h = h
+all_digits a h = grind arith
 
 after_digits : (w r : List ℕ) → list_all is_ascii_digit w ≡ true → begins_in is_ascii_digit r ≡ false → after_all is_ascii_digit (w ++ r) ≡ r
 after_digits [] [] h stops = refl
@@ -35,34 +32,25 @@ after_digits [] (c ∷ r) h stops = rw stops refl
 after_digits (c ∷ w) r h stops = let q = and_parts (is_ascii_digit c) (list_all is_ascii_digit w) h in rw (q.0) (after_digits w r q.1 stops)
 
 whole_digits : (w : List ℕ) → is_whole w ≡ true → are_digits w ≡ true
-whole_digits [] h = h
-whole_digits (c ∷ []) h = and_from (is_ascii_digit c) true h refl
-whole_digits (c ∷ d ∷ w) h = (and_parts (not (c == 48)) (are_digits (c ∷ d ∷ w)) h).1
+whole_digits a h = grind (arith, and_from)
 
 -- ---- numbers are decimal
 
 signed_digits : (s : Sign) (w : List ℕ) → are_digits w ≡ true → after_one is_sign (spell_sign s (w ++ [])) ≡ w ++ []
-signed_digits no_sign w h = digits_no_sign w [] h
-signed_digits plus w h = refl
-signed_digits minus w h = refl
+signed_digits a w h = grind (arith, digits_no_sign)
 
 some_digits : (w : List ℕ) → are_digits w ≡ true → at_least_one is_ascii_digit (w ++ []) ≡ true
 some_digits [] h = cc
 some_digits (c ∷ w) h = ap (at_least_one is_ascii_digit) (append-nil (c ∷ w)) ∙ h
 
 exponent_reads : (e : Exponent) → json.is_exponent e ≡ true → reads_exponent (spell_exponent e []) ≡ true
-exponent_reads no_exponent h = refl
-exponent_reads (exponent true s digits) h = rw (signed_digits s digits h) (some_digits digits h)
-exponent_reads (exponent false s digits) h = rw (signed_digits s digits h) (some_digits digits h)
+exponent_reads a h = grind (arith, signed_digits, some_digits)
 
 exponent_stops : (e : Exponent) → begins_in is_ascii_digit (spell_exponent e []) ≡ false
-exponent_stops no_exponent = refl
-exponent_stops (exponent true s digits) = refl
-exponent_stops (exponent false s digits) = refl
+exponent_stops a = grind arith
 
 rest_stops : (f : Fraction) (e : Exponent) → begins_in is_ascii_digit (spell_fraction f (spell_exponent e [])) ≡ false
-rest_stops no_fraction e = exponent_stops e
-rest_stops (fraction digits) e = refl
+rest_stops a e = grind (arith, exponent_stops)
 
 rest_reads : (f : Fraction) (e : Exponent) → is_fraction f ≡ true → json.is_exponent e ≡ true → reads_on true (spell_fraction f (spell_exponent e [])) ≡ true
 rest_reads no_fraction no_exponent h i = refl
@@ -79,16 +67,13 @@ record Parts (m : Bool) (w : List ℕ) (f : Fraction) (e : Exponent) : Type 0 wh
 
 parts : (m : Bool) (w : List ℕ) (f : Fraction) (e : Exponent) → is_number (json.number m w f e) ≡ true → Parts m w f e
 parts m w f e h =
-    let q = and_parts (is_whole w && is_fraction f) (json.is_exponent e) h in
-    let r = and_parts (is_whole w) (is_fraction f) q.0 in
-    record { whole = r.0; digits = whole_digits w r.0; fraction = r.1; exponent = q.1 }
+    grind (arith, whole_digits)
 
 unsigned : (w r : List ℕ) → are_digits w ≡ true → begins_in is_ascii_digit r ≡ false → reads_on true r ≡ true → reads_unsigned (w ++ r) ≡ true
 unsigned w r h stops reads = rw (digits_first w r h, after_digits w r (all_digits w h) stops) reads
 
 decimal_number : (m : Bool) (w : List ℕ) (f : Fraction) (e : Exponent) → Parts m w f e → is_decimal (spell_number (json.number m w f e) []) ≡ true
-decimal_number true w f e p = is_decimal-read _ ∙ unsigned w _ p.digits (rest_stops f e) (rest_reads f e p.fraction p.exponent)
-decimal_number false w f e p = is_decimal-read _ ∙ rw (digits_no_sign w (spell_fraction f (spell_exponent e [])) p.digits) (unsigned w _ p.digits (rest_stops f e) (rest_reads f e p.fraction p.exponent))
+decimal_number a w f e p = grind (arith, is_decimal-read, unsigned, rest_stops, rest_reads, digits_no_sign)
 
 -- ---- as integers
 
@@ -103,23 +88,18 @@ fitting_digits [] h = tt
 fitting_digits (c ∷ w) h = let q = and_parts (is_ascii_digit c) (list_all is_ascii_digit w) h in (digit_fits c q.0, fitting_digits w q.1)
 
 some_length : (w : List ℕ) → are_digits w ≡ true → 0 < length w
-some_length [] h = cc
-some_length (c ∷ w) h = omega arith
+some_length a h = grind arith
 
 -- a zero is the first of one digit
 zero_alone : (w : List ℕ) → is_whole w ≡ true → get_or w 0 0 ≡ 48 → length w ≡ 1
-zero_alone [] h e = cc
-zero_alone (c ∷ []) h e = refl
-zero_alone (c ∷ d ∷ w) h e = let q = and_parts (not (c == 48)) (are_digits (c ∷ d ∷ w)) h in let z : not (48 == 48) ≡ true = rw e at q.0 in cc
+zero_alone w h e = grind (arith, nat_tests)
 
 whole_again : (w : List ℕ) → is_whole w ≡ true → digits_value 10 w < 2 ^ 64 → decimal (digits_value 10 w) ≡ w
 whole_again w h small =
     let d = whole_digits w h in decimal-digits_value numerals w (fitting_digits w (all_digits w d)) (some_length w d) (zero_alone w h) small
 
 small_value : (m : Bool) (n : ℕ) → fits_i64 (if m then neg_ℤ (pos n) else pos n) ≡ true → n < 2 ^ 64
-small_value true zero h = omega arith
-small_value true (suc n) h = let low : n < 2 ^ 63 = ltb-true n (2 ^ 63) h in omega arith
-small_value false n h = let low : n < 2 ^ 63 = ltb-true n (2 ^ 63) h in omega arith
+small_value m n h = let low = ltb-true in grind (arith, low)
 
 minus_back : (n : ℕ) → fits_i64 (neg_ℤ (pos n)) ≡ true → typing (45 ∷ decimal n) ≡ integer (neg_ℤ (pos n))
 unfolding typing
@@ -133,8 +113,7 @@ integer_number false w h fits = ap typing (append-nil w) ∙ (ap typing (sym (wh
 -- ---- as no integers
 
 unfit : (are : Bool) (z : ℤ) → fits_i64 z ≡ false → fitted are z ≡ None
-unfit true z h = rw h refl
-unfit false z h = refl
+unfit a z h = grind arith
 
 -- ---- as reals
 
@@ -148,23 +127,11 @@ record IsEarly (c : ℕ) : Type 0 where
   letter_f : (102 == c) ≡ false
   capital_f : (70 == c) ≡ false
 
-digit_early : (c : ℕ) → is_ascii_digit c ≡ true → IsEarly c
-digit_early c h = record {
-  plus = grind (arith, nat_tests);
-  tilde = grind (arith, nat_tests);
-  letter_n = grind (arith, nat_tests);
-  letter_t = grind (arith, nat_tests);
-  capital_t = grind (arith, nat_tests);
-  letter_f = grind (arith, nat_tests);
-  capital_f = grind (arith, nat_tests);
-}
-
 other_letter : (x d : ℕ) → is_real_character x ≡ false → is_real_character d ≡ true → (x == d) ≡ false
 other_letter x d h e = ne_eqb x d (λ same. true≢false (sym e ∙ ap is_real_character (sym same) ∙ h))
 
 neither : (b : Bool) (o : Option (List ℕ)) → o ≡ None → (if b then o else None) ≡ None
-neither true o h = h
-neither false o h = refl
+neither a o h = grind arith
 
 no_prefix : (x c : ℕ) (t : List ℕ) → is_real_character x ≡ false → list_all is_real_character t ≡ true → after_prefix (48 ∷ x ∷ []) (c ∷ t) ≡ None
 no_prefix x c [] h are = neither (48 == c) (after_prefix (x ∷ []) []) refl
@@ -173,41 +140,22 @@ no_prefix x c (d ∷ t) h are =
     neither (48 == c) (after_prefix (x ∷ []) (d ∷ t)) (rw (other_letter x d h first) refl)
 
 either : (b : Bool) (t : Tree) → unwrap_or (where_true b t) t ≡ t
-either true t = refl
-either false t = refl
-
--- the rows above the reals' do not fit
-record IsUnfit (c : ℕ) (t : List ℕ) : Type 0 where
-  hexadecimal : after_prefix (codes "0x") (c ∷ t) ≡ None
-  octal : after_prefix (codes "0o") (c ∷ t) ≡ None
-  plus : after_prefix (codes "+") (c ∷ t) ≡ None
-  null : is_among null_words (c ∷ t) ≡ false
-  yes : is_among true_words (c ∷ t) ≡ false
-  no : is_among false_words (c ∷ t) ≡ false
-
-unfit_rows : (c : ℕ) (t : List ℕ) → IsEarly c → list_all is_real_character t ≡ true → IsUnfit c t
-unfit_rows c t early are = record {
-  hexadecimal = no_prefix 120 c t refl are;
-  octal = no_prefix 111 c t refl are;
-  plus = rw early.plus refl;
-  null = rw (early.tilde, early.letter_n) refl;
-  yes = rw (early.letter_t, early.capital_t) refl;
-  no = rw (early.letter_f, early.capital_f) refl;
-}
+either a t = grind arith
 
 decimal_is_real : (c : ℕ) (t : List ℕ) → IsEarly c → is_decimal (c ∷ t) ≡ true → signed_decimal (c ∷ t) ≡ None → typing (c ∷ t) ≡ real (c ∷ t)
 unfolding typing
 decimal_is_real c t early is none =
-    let u = unfit_rows c t early ((and_parts (is_real_character c) (list_all is_real_character t) (decimal-characters (c ∷ t) is)).1) in
-    rw (u.hexadecimal, u.octal, u.plus, u.null, u.yes, u.no, none, is) (either (is_among special_words (c ∷ t)) (real (c ∷ t)))
-
-minus_early : IsEarly 45
-minus_early = record { plus = refl; tilde = refl; letter_n = refl; letter_t = refl; capital_t = refl; letter_f = refl; capital_f = refl }
+    let are = (and_parts (is_real_character c) (list_all is_real_character t) (decimal-characters (c ∷ t) is)).1 in
+    let hexadecimal : after_prefix (codes "0x") (c ∷ t) ≡ None = no_prefix 120 c t refl are in
+    let octal : after_prefix (codes "0o") (c ∷ t) ≡ None = no_prefix 111 c t refl are in
+    let plus : after_prefix (codes "+") (c ∷ t) ≡ None = rw early.plus refl in
+    let null : is_among null_words (c ∷ t) ≡ false = rw (early.tilde, early.letter_n) refl in
+    let yes : is_among true_words (c ∷ t) ≡ false = rw (early.letter_t, early.capital_t) refl in
+    let no : is_among false_words (c ∷ t) ≡ false = rw (early.letter_f, early.capital_f) refl in
+    rw (hexadecimal, octal, plus, null, yes, no, none, is) (either (is_among special_words (c ∷ t)) (real (c ∷ t)))
 
 real_text : (m : Bool) (t : List ℕ) → begins_in is_ascii_digit t ≡ true → is_decimal (spell_minus m t) ≡ true → fitted (at_least_one (is_digit 10) t) (integer_value m t) ≡ None → typing (spell_minus m t) ≡ real (spell_minus m t)
-real_text true t h is none = decimal_is_real 45 t minus_early is (signed_text true t h ∙ none)
-real_text false [] h is none = cc
-real_text false (c ∷ t) h is none = decimal_is_real c t (digit_early c h) is (signed_text false (c ∷ t) h ∙ none)
+real_text a t h is b = grind (arith, decimal_is_real, signed_text)
 
 -- ---- all
 

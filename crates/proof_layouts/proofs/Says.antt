@@ -1,5 +1,5 @@
 -- What work reads and says by the table of the token grammar, where the names of its events are resolved.
-use Rattle.proof_layouts.proofs.Common.{[], after_anchor, before, Bool, by_leaving, by_taking, cases, content, Derives, Ev, Goal, grammar, Held, in_block, in_flow, in_pair, IsStream, keep, leaves, List, named, Names, names_after, no_names, node, None, nothing_held, nothing_left, number, Option, Part, Place, Raw, read, refl, resolved_event, Row, row_of, say, saying, says, Side, Some, Style, subst, takes, then_in, Tok, under_name, whole_stream, with_anchor, Work, ℕ, ◌∷◌, ◌≡◌}
+use Rattle.proof_layouts.proofs.Common.{arith, [], after_anchor, before, Bool, by_leaving, by_taking, cases, content, Derives, Ev, Goal, grammar, Held, in_block, in_pair, IsStream, keep, leaves, List, named, Names, names_after, no_names, node, None, nothing_held, nothing_left, number, Option, Part, Place, Raw, read, refl, resolved_event, Row, row_of, say, saying, says, Side, Some, Style, subst, takes, then_in, Tok, under_name, whole_stream, with_anchor, Work, ℕ, ◌∷◌, ◌≡◌}
 use Rattle.defs_event.specs.Table.{reading}
 use Rattle.defs_event.specs.Grammar as at
 
@@ -39,10 +39,7 @@ behind (in_pair at.value) w = goal_and at.block_mapping_entries w
 behind _ w = w
 
 then_behind : (p : Place) (h : Held) (t : Tok) (w : Works) → before grammar h t (then_in p) w ≡ behind p w
-then_behind in_flow h t w = refl
-then_behind in_block h t w = refl
-then_behind (in_pair at.key) h t w = refl
-then_behind (in_pair at.value) h t w = refl
+then_behind p h t w = grind arith
 
 abbrev pub held : Option (List ℕ) → Held
 held o = record { anchor = o; tag = None; directives = [] }
@@ -121,8 +118,7 @@ indentless_sequence {w = w} {ts = ts} side x =
 -- It ends where the mapping goes on: no entry stands there.
 no_entry : (t : Tok) (r : Row Goal Raw) → row_of (cases at.block_mapping_entries) t ≡ Some r
     → row_of (cases (at.indentless_sequence_entries at.value)) t ≡ Some (leaves (say Raw.indentless_sequence_end ∷ read at.block_mapping_entries ∷ []))
-no_entry Tok.block_entry r h = cc
-no_entry _ r h = refl
+no_entry t r h = grind arith
 
 entries_left : (w : Works) (ts : List Tok) (raws : List Raw) → Derives grammar (goal_and at.block_mapping_entries w) ts raws
     → Derives grammar (goal_and (at.indentless_sequence_entries at.value) w) ts (Raw.indentless_sequence_end ∷ raws)

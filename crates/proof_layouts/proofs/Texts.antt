@@ -1,10 +1,10 @@
 -- The text of a dump's layout is the text that is dumped: what is spelt of a node at a column is the node's box, whose lines stand
 -- after the column's spaces.
-use Rattle.proof_layouts.proofs.Common.{[], ap, append-nil, append_assoc, arith, Bool, codes, dump_text, false, Field, if◌then◌else◌, is_quoted, is_scalar, item, Items, joined, lines_of, List, literal_header, no_items, no_pairs, not, pair, Pairs, refl, Scalar, spell, spell_block, spell_entries, spell_field, spell_fields, spell_inline, spell_lines, spell_literal, spell_root, spell_scalar, spell_value, spelling, string_spelling, suc, sym, Tree, true, Value, zero, ℕ, ◌&&◌, ◌++◌, ◌+◌, ◌∙◌, ◌∷◌, ◌≡◌}
+use Rattle.proof_layouts.proofs.Common.{[], ap, append-nil, append_assoc, arith, Bool, codes, dump_text, false, Field, if◌then◌else◌, is_scalar, item, Items, joined, List, no_items, no_pairs, not, pair, Pairs, refl, spell, spell_block, spell_entries, spell_field, spell_fields, spell_inline, spell_lines, spell_literal, spell_root, spell_scalar, spell_value, spelling, string_spelling, suc, sym, Tree, true, Value, zero, ℕ, ◌&&◌, ◌++◌, ◌+◌, ◌∙◌, ◌∷◌, ◌≡◌}
 use Rattle.defs_tree.specs.Box.{indented, hung, hung_lower, is_block, placed, if_none, literal_box, pair_box, box, item_boxes, pair_boxes}
 use Rattle.defs_layout.specs.Marks.{line_feed, space, dash, colon}
 use Rattle.defs_layout.specs.Gap.{spaces}
-use Rattle.proof_layouts.proofs.DumpLayout.{Node, lines_at, text_lines, may_be_literal, value_of, root_of, string_scalar, scalar_of, string_node, entries_of, fields_of, array_node, hash_node, field_of, node_of, values_of, all_fields_of, layout_of}
+use Rattle.proof_layouts.proofs.DumpLayout.{Node, lines_at, text_lines, may_be_literal, value_of, root_of, scalar_of, string_node, entries_of, fields_of, array_node, hash_node, field_of, node_of, values_of, all_fields_of, layout_of}
 
 -- ---- lines at a column
 
@@ -93,28 +93,13 @@ placed_spelt true c mark t (Node.block b) ls e h = rw (sym e) (hung_lower_spelt 
 
 -- ---- scalars
 
--- A string's text on one line is its spelling.
-string_scalar_spelt : (s r : List ℕ) → spell_scalar (string_scalar s) r ≡ string_spelling s ++ r
-string_scalar_spelt s r = by (is_quoted s) refl
-  where
-    by : (b : Bool) → is_quoted s ≡ b → spell_scalar (if b then Scalar.quoted s else Scalar.plain (Tree.string s)) r ≡ string_spelling s ++ r
-    by true e = rw e refl
-    by false e = refl
-
 -- A scalar's text on one line is its spelling.
 pub scalar_of_spelt : (t : Tree) (r : List ℕ) → spell_scalar (scalar_of t) r ≡ spelling t ++ r
-scalar_of_spelt (Tree.string s) r = string_scalar_spelt s r
-scalar_of_spelt t r = refl
+scalar_of_spelt t r = grind arith
 
 -- A string's node has the string's box, as a literal block and on one line.
 string_node_boxed : (b : Bool) (c : ℕ) (s : List ℕ) → IsBoxed c (string_node b s) (if b then literal_box s else string_spelling s ∷ [])
-string_node_boxed true c s r = ap (λ x. line_feed ∷ spaces c (literal_header s ++ x)) (lines_at_spelt c (lines_of s) r)
-string_node_boxed false c s r = ap (λ x. line_feed ∷ spaces c x) (string_scalar_spelt s r)
-
--- A string's node is no block.
-string_node_flat : (b : Bool) (s : List ℕ) → is_block_node (string_node b s) ≡ false
-string_node_flat true s = refl
-string_node_flat false s = refl
+string_node_boxed b c s r = grind (arith, lines_at_spelt)
 
 -- ---- collections
 
@@ -171,12 +156,7 @@ field_of_boxed compact c k v key value ls ms p q g h = by (is_scalar k)
 
 -- The node of a tree is a block where the tree takes lines of its own.
 same_kind : (compact multiline at_root : Bool) (c : ℕ) (t : Tree) → is_block_node (node_of compact multiline at_root c t) ≡ is_block t
-same_kind compact multiline at_root c (Tree.string s) = string_node_flat (multiline && may_be_literal at_root s) s
-same_kind compact multiline at_root c (Tree.array no_items) = refl
-same_kind compact multiline at_root c (Tree.array (item t ts)) = refl
-same_kind compact multiline at_root c (Tree.hash no_pairs) = refl
-same_kind compact multiline at_root c (Tree.hash (pair k v ps)) = refl
-same_kind compact multiline at_root c t = refl
+same_kind compact multiline at_root c t = grind arith
 
 mutual
   -- The node of a tree has the tree's box.
@@ -215,9 +195,7 @@ mutual
 
 -- A node as root is written at column 0.
 root_of_spelt : (n : Node) (r : List ℕ) → spell_root (root_of n) r ≡ spell_node 0 n r
-root_of_spelt (Node.inline i) r = refl
-root_of_spelt (Node.literal text) r = refl
-root_of_spelt (Node.block b) r = refl
+root_of_spelt n r = grind arith
 
 -- The text of the layout is the text that is written for the tree.
 pub layout_of_spelt : (compact multiline : Bool) (t : Tree) → spell (layout_of compact multiline t) [] ≡ dump_text compact multiline t

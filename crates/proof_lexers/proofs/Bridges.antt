@@ -1,6 +1,6 @@
 -- Classes and tables of the model and of the definitions tell the same characters apart.
 use Rattle.std.specs.Char.{is_digit}
-use Rattle.proof_lexers.proofs.Common.{[], and-false, arith, at_marker, Bool, cases_Bool, Char, Code, eqb-true, Escape, escape_of, escapes, false, if◌then◌else◌, inl, inr, is_alpha, is_alphanumeric, is_blank, is_blank_or_breakz, is_break, is_character_code, is_flow, is_hex, is_marker, is_scalar, is_tag, is_uri, is_uri_mark, List, lookup, nat_tests, None, numeric_escapes, Option, or-false, or_assoc, refl, Some, sym, true, Unknown, ℕ, ◌&&◌, ◌==◌, ◌||◌, ◌∷◌, ◌≡◌}
+use Rattle.proof_lexers.proofs.Common.{and-false, arith, at_marker, Bool, cases_Bool, Char, Code, eqb-true, Escape, escape_of, escapes, false, if◌then◌else◌, inl, inr, is_alpha, is_alphanumeric, is_blank, is_blank_or_breakz, is_break, is_character_code, is_flow, is_hex, is_marker, is_scalar, is_tag, is_uri, is_uri_mark, List, lookup, nat_tests, None, numeric_escapes, Option, or-false, or_assoc, refl, Some, true, Unknown, ℕ, ◌&&◌, ◌==◌, ◌||◌, ◌≡◌}
 use Rattle.defs_text.specs.Classes as classes
 use Rattle.model_scanner.specs.declared.kind.Digits.{Digits}
 use Rattle.model_scanner.specs.declared.kind.Digits.TheVariants.{Two, Four, Eight}
@@ -27,18 +27,12 @@ same_gap c = or_assoc (is_blank c) (is_break c) (c == 0)
 
 pub same_marker : (col : ℕ) (a : List ℕ) → at_marker col a ≡ ((col == 0) && classes.is_document_marker a)
 unfolding at_marker is_marker classes.are_marks is_blank is_break
-same_marker col [] = refl
-same_marker col (c ∷ []) = rw (and_false (c == 45), and_false (c == 46)) refl
-same_marker col (c ∷ d ∷ []) = rw (and_false ((c == 45) && (d == 45)), and_false ((c == 46) && (d == 46))) refl
-same_marker col (c ∷ d ∷ e ∷ []) = refl
-same_marker col (c ∷ d ∷ e ∷ f ∷ a) = rw (same_gap f) refl
+same_marker col b = grind (arith, and_false, same_gap)
 
 -- ---- codes
 
 pub both : (b c : Bool) → (b ≡ true → c ≡ true) → (c ≡ true → b ≡ true) → b ≡ c
-both true c f g = sym (f refl)
-both false true f g = g refl
-both false false f g = refl
+both a c f g = grind arith
 
 pub same_digit : (c : ℕ) → is_hex c ≡ is_digit c 16
 unfolding is_hex
@@ -69,29 +63,7 @@ row c k P at other = elim (cases_Bool (c == k)) [ inl e ↦ rw (eqb-true c k e) 
 
 pub same_escape : (c : ℕ) → escape_of c ≡ escape_by_rows (lookup c escapes) (lookup c numeric_escapes)
 unfolding escape_of
-same_escape c =
-    row c 48 Same refl (λ e48.
-    row c 97 Same refl (λ e97.
-    row c 98 Same refl (λ e98.
-    row c 116 Same refl (λ e116.
-    row c 9 Same refl (λ e9.
-    row c 110 Same refl (λ e110.
-    row c 118 Same refl (λ e118.
-    row c 102 Same refl (λ e102.
-    row c 114 Same refl (λ e114.
-    row c 101 Same refl (λ e101.
-    row c 32 Same refl (λ e32.
-    row c 34 Same refl (λ e34.
-    row c 47 Same refl (λ e47.
-    row c 92 Same refl (λ e92.
-    row c 78 Same refl (λ e78.
-    row c 95 Same refl (λ e95.
-    row c 76 Same refl (λ e76.
-    row c 80 Same refl (λ e80.
-    row c 120 Same refl (λ e120.
-    row c 117 Same refl (λ e117.
-    row c 85 Same refl (λ e85.
-    rw (e48, e97, e98, e116, e9, e110, e118, e102, e114, e101, e32, e34, e47, e92, e78, e95, e76, e80, e120, e117, e85) refl)))))))))))))))))))))
+same_escape c = grind (arith, nat_tests, row)
 
 -- ---- classes of flow scalars
 

@@ -58,7 +58,4 @@ module _ (class : ℕ → Bool) where
 
     pub skipped : (a : List ℕ) (p : Position) → skip_while test a p ≡ record { rest = after class a; position = further (length (leading class a)) p; value = tt }
     skipped [] p = ap (λ q. record { rest = []; position = q; value = tt }) (sym (none_further p))
-    skipped (c ∷ a) p = elim (cases_Bool (class c)) [
-      | inl e ↦ rw (← same c, e) (skipped a (past p) ∙ ap (λ q. record { rest = after class a; position = q; value = tt }) (one_further p (length (leading class a))))
-      | inr e ↦ rw (← same c, e) (ap (λ q. record { rest = c ∷ a; position = q; value = tt }) (sym (none_further p)))
-    ]
+    skipped (c ∷ a) p = grind (arith, past, after, one_further, none_further, skipped a (past p))

@@ -23,14 +23,10 @@ all_trailing [] = refl
 all_trailing (b ∷ g) = rw (all_trailing g) refl
 
 -- and stay before content
-some_after : (b : ℕ) (g : List ℕ) (c : ℕ) (l : List Element) → without_trailing_blanks (blanks g (content c ∷ l)) ≡ blanks g (content c ∷ without_trailing_blanks l)
-    → without_trailing_blanks (blank b ∷ blanks g (content c ∷ l)) ≡ blank b ∷ blanks g (content c ∷ without_trailing_blanks l)
-some_after b [] c l e = refl
-some_after b (d ∷ g) c l e = rw e refl
-
 none_trailing : (g : List ℕ) (c : ℕ) (l : List Element) → without_trailing_blanks (blanks g (content c ∷ l)) ≡ blanks g (content c ∷ without_trailing_blanks l)
 none_trailing [] c l = refl
-none_trailing (b ∷ g) c l = some_after b g c l (none_trailing g c l)
+none_trailing (b ∷ []) c l = refl
+none_trailing (b ∷ d ∷ g) c l = rw (none_trailing (d ∷ g) c l) refl
 
 kept : (escaped : Bool) (g : List ℕ) (c : ℕ) (l : List Element) → text_of (before_break escaped (blanks g (content c ∷ l))) ≡ g ++ c ∷ text_of (before_break escaped l)
 kept true g c l = text_after g (content c ∷ l)
@@ -70,7 +66,7 @@ broken true (suc n) = refl
 joined_break : (escaped : Bool) (n : ℕ) (text : List ℕ) → joined (after_break escaped n text) ≡ in_line (text ++ folded_break escaped n) []
 joined_break escaped n text = ap (λ g. in_line (text ++ g) []) (broken escaped n)
 
-more_breaks : (n : ℕ) → replicate n line_feed ++ line_feed ∷ [] ≡ replicate (suc n) line_feed
+pub more_breaks : (n : ℕ) → replicate n line_feed ++ line_feed ∷ [] ≡ replicate (suc n) line_feed
 more_breaks zero = refl
 more_breaks (suc n) = ap (λ r. line_feed ∷ r) (more_breaks n)
 

@@ -1,7 +1,8 @@
 -- How the rest of a line is read: blanks, and a comment after one.
-use Rattle.proof_lexers.proofs.Common.{[], along, and_parts, ap, arith, At, begins_with, cases_Bool, eqb-true, Err, false, Fault, further, has_no_break, inl, inr, is_blanks_and_comment, is_break, is_in_line, is_line, is_rest_of_line, length, List, nat_tests, not, not-true, Ok, or-true, or_cases, or_parts, past, Position, Read, refl, Result, skip_while, space, space_from, Spaces, sym, true, Whitespace, with_found, Yes, ℕ, ◌++◌, ◌==◌, ◌||◌, ◌∙◌, ◌∷◌, ◌≡◌}
+use Rattle.proof_lexers.proofs.Common.{[], along, and_parts, ap, arith, At, begins_with, cases_Bool, eqb-true, Err, false, Fault, further, has_no_break, inl, inr, is_blanks_and_comment, is_break, is_in_line, is_line, is_rest_of_line, length, List, nat_tests, not, not-true, Ok, or-true, or_cases, or_parts, past, Position, Read, refl, Result, skip_while, space, space_from, Spaces, sym, true, Whitespace, with_found, Yes, ℕ, ◌++◌, ◌==◌, ◌||◌, ◌∙◌, ◌∷◌, ◌≡◌, Bool, and-false}
 use Rattle.yaml_tokens.specs.declared.problem.Problem.TheVariants as problem
 use Rattle.defs_text.specs.Classes as classes
+use Rattle.defs_text.specs.Breaks.{touches_comment}
 use Rattle.proof_lexers.proofs.Bridges.{same_break}
 use Rattle.proof_lexers.specs.DirectiveEnds.{ends_line}
 use Rattle.proof_lexers.proofs.Classes.{none_further, one_further}
@@ -47,34 +48,37 @@ at_end : (n : List ℕ) (s : Spaces) → ends_line n ≡ true → space_from Yes
 at_end [] s k = ap (λ q. Ok (record { rest = []; position = q; value = s.found })) (sym (none_further s.position))
 at_end (c ∷ n) s k = let q = break_is_none c (sym (same_break c) ∙ k) in rw (q.0, q.1, q.2) (ap (λ z. Ok (record { rest = c ∷ n; position = z; value = s.found })) (sym (none_further s.position)))
 
--- ---- after a blank
+-- ---- a line
 
-data Tail (m n : List ℕ) (s : Spaces) (x : Result (Read Whitespace) Fault) : Type 0 where
-  ended : (w : Whitespace) → is_blanks_and_comment m ≡ true → x ≡ Ok (record { rest = n; position = further (length m) s.position; value = w }) → Tail m n s x
-  other : (c : ℕ) (more : List ℕ) (q : Position) (w : Whitespace) → is_blanks_and_comment m ≡ false → is_break c ≡ false → x ≡ Ok (record { rest = c ∷ more; position = q; value = w }) → Tail m n s x
+-- After a blank or none: nothing of the line is left; a comment stands there without a blank; or other text.
+data Walked (some : Bool) (m n : List ℕ) (p : Position) (x : Result (Read Whitespace) Fault) : Type 0 where
+  ended : (w : Whitespace) → is_blanks_and_comment m ≡ true → (some || not (touches_comment m)) ≡ true → x ≡ Ok (record { rest = n; position = further (length m) p; value = w }) → Walked some m n p x
+  stuck : (text : List ℕ) → m ≡ 35 ∷ text → some ≡ false → x ≡ Err (At problem.CommentNotSeparated p) → Walked some m n p x
+  other : (c : ℕ) (more : List ℕ) (q : Position) (w : Whitespace) → is_blanks_and_comment m ≡ false → begins_with 35 m ≡ false → is_break c ≡ false → x ≡ Ok (record { rest = c ∷ more; position = q; value = w }) → Walked some m n p x
 
-comment_passed : (m n : List ℕ) (s : Spaces) → has_no_break (35 ∷ m) ≡ true → ends_line n ≡ true → (s.found.found_tabs || s.found.has_valid_yaml_ws) ≡ true → Tail (35 ∷ m) n s (space_from Yes (35 ∷ (m ++ n)) s)
-comment_passed m n s h k some = ended s.found refl (rw some (ap (λ r. Ok (with_found s.found r)) (line_skipped (35 ∷ m) n s.position h k)))
-
-tail : (m n : List ℕ) (s : Spaces) → has_no_break m ≡ true → ends_line n ≡ true → (s.found.found_tabs || s.found.has_valid_yaml_ws) ≡ true → Tail m n s (space_from Yes (m ++ n) s)
+walked : (m n : List ℕ) (s : Spaces) → has_no_break m ≡ true → ends_line n ≡ true → Walked (s.found.found_tabs || s.found.has_valid_yaml_ws) m n s.position (space_from Yes (m ++ n) s)
 unfolding classes.is_blank
-tail [] n s h k some = ended s.found refl (at_end n s k)
-tail (c ∷ m) n s h k some = elim (cases_Bool (c == 35)) [
-  | inl e ↦ let hash : c ≡ 35 = eqb-true c 35 e in rw hash (comment_passed m n s (rw hash at h) k some)
+walked [] n s h k = ended s.found refl (or-true _) (at_end n s k)
+walked (c ∷ m) n s h k = elim (cases_Bool (c == 35)) [
+  | inl e ↦ rw (eqb-true c 35 e) (hash (rw (eqb-true c 35 e) at h) _ refl)
   | inr e ↦ elim (cases_Bool (classes.is_blank c)) [
-    | inl blank ↦ let z = blank_passed c (m ++ n) s blank in onward e blank z (tail m n z.next no_break.1 k z.some)
-    | inr solid ↦ let r = or_parts (c == 32) (c == 9) solid in other c (m ++ n) s.position s.found (rw (e, r.0, r.1) refl) (sym (same_break c) ∙ not-true (classes.is_break c) no_break.0) (rw (r.0, r.1, e) refl)
+    | inl blank ↦ let z = blank_passed c (m ++ n) s blank in onward e blank z (rw (z.some) at (walked m n z.next no_break.1 k))
+    | inr solid ↦ let r = or_parts (c == 32) (c == 9) solid in other c (m ++ n) s.position s.found (rw (e, r.0, r.1) refl) e (sym (same_break c) ∙ not-true (classes.is_break c) no_break.0) (rw (r.0, r.1, e) refl)
   ]
 ]
   where
     no_break : (not (classes.is_break c) ≡ true) × (has_no_break m ≡ true)
     no_break = and_parts (not (classes.is_break c)) (has_no_break m) h
 
-    onward : (c == 35) ≡ false → classes.is_blank c ≡ true → (z : Blank c (m ++ n) s) → Tail m n z.next (space_from Yes (m ++ n) z.next) → Tail (c ∷ m) n s (space_from Yes (c ∷ (m ++ n)) s)
-    onward e blank z (ended w is x) = ended w (rw (e, blank) is) (z.is ∙ x ∙ ap (λ q. Ok (record { rest = n; position = q; value = w })) (ap (further (length m)) z.position ∙ one_further s.position (length m)))
-    onward e blank z (other d more q w unlike solid x) = other d more q w (rw (e, blank) unlike) solid (z.is ∙ x)
+    hash : has_no_break (35 ∷ m) ≡ true → (b : Bool) → (s.found.found_tabs || s.found.has_valid_yaml_ws) ≡ b → Walked (s.found.found_tabs || s.found.has_valid_yaml_ws) (35 ∷ m) n s.position (space_from Yes (35 ∷ (m ++ n)) s)
+    hash h true some = ended s.found refl (rw some refl) (rw some (ap (λ r. Ok (with_found s.found r)) (line_skipped (35 ∷ m) n s.position h k)))
+    hash h false some = stuck m refl some (rw some refl)
 
--- ---- a line
+    onward : (c == 35) ≡ false → classes.is_blank c ≡ true → (z : Blank c (m ++ n) s) → Walked true m n z.next.position (space_from Yes (m ++ n) z.next)
+        → Walked (s.found.found_tabs || s.found.has_valid_yaml_ws) (c ∷ m) n s.position (space_from Yes (c ∷ (m ++ n)) s)
+    onward e blank z (ended w is free x) = ended w (rw (e, blank) is) (rw e (or-true _)) (z.is ∙ x ∙ ap (λ q. Ok (record { rest = n; position = q; value = w })) (ap (further (length m)) z.position ∙ one_further s.position (length m)))
+    onward e blank z (stuck text so none x) = cc
+    onward e blank z (other d more q w unlike begins solid x) = other d more q w (rw (e, blank) unlike) e solid (z.is ∙ x)
 
 -- Nothing of the line is left; a comment stands there without a blank; or other text.
 pub data Rest (m n : List ℕ) (p : Position) (x : Result (Read Whitespace) Fault) : Type 0 where
@@ -83,22 +87,9 @@ pub data Rest (m n : List ℕ) (p : Position) (x : Result (Read Whitespace) Faul
   goes_on : (c : ℕ) (more : List ℕ) (q : Position) (w : Whitespace) → is_rest_of_line m ≡ false → begins_with 35 m ≡ false → is_break c ≡ false → x ≡ Ok (record { rest = c ∷ more; position = q; value = w }) → Rest m n p x
 
 pub rest_of_line : (m n : List ℕ) (p : Position) → has_no_break m ≡ true → ends_line n ≡ true → Rest m n p (space Yes (m ++ n) p)
-unfolding space classes.is_blank
-rest_of_line [] n p h k = ends _ refl (at_end n (record { position = p; found = record { found_tabs = false; has_valid_yaml_ws = false } }) k)
-rest_of_line (c ∷ m) n p h k = elim (cases_Bool (c == 35)) [
-  | inl e ↦ let hash : c ≡ 35 = eqb-true c 35 e in rw hash (glued m refl refl refl)
-  | inr e ↦ elim (cases_Bool (classes.is_blank c)) [
-    | inl blank ↦ let z = blank_passed c (m ++ n) from blank in onward e blank z (tail m n z.next no_break.1 k z.some)
-    | inr solid ↦ let r = or_parts (c == 32) (c == 9) solid in goes_on c (m ++ n) p from.found (rw (e, r.0, r.1) refl) e (sym (same_break c) ∙ not-true (classes.is_break c) no_break.0) (rw (r.0, r.1, e) refl)
-  ]
+unfolding space
+rest_of_line m n p h k = elim (walked m n (record { position = p; found = record { found_tabs = false; has_valid_yaml_ws = false } }) h k) [
+  | ended w is free e ↦ ends w (rw (free, is) refl) e
+  | stuck text so none e ↦ glued text so (rw so refl) e
+  | other c more q w unlike begins solid e ↦ goes_on c more q w (rw (unlike, and-false) refl) begins solid e
 ]
-  where
-    from : Spaces
-    from = record { position = p; found = record { found_tabs = false; has_valid_yaml_ws = false } }
-
-    no_break : (not (classes.is_break c) ≡ true) × (has_no_break m ≡ true)
-    no_break = and_parts (not (classes.is_break c)) (has_no_break m) h
-
-    onward : (c == 35) ≡ false → classes.is_blank c ≡ true → (z : Blank c (m ++ n) from) → Tail m n z.next (space_from Yes (m ++ n) z.next) → Rest (c ∷ m) n p (space_from Yes (c ∷ (m ++ n)) from)
-    onward e blank z (ended w is x) = ends w (rw (e, blank) is) (z.is ∙ x ∙ ap (λ q. Ok (record { rest = n; position = q; value = w })) (ap (further (length m)) z.position ∙ one_further p (length m)))
-    onward e blank z (other d more q w unlike solid x) = goes_on d more q w (rw (e, blank) unlike) e solid (z.is ∙ x)

@@ -20,8 +20,7 @@ or_right true h = refl
 or_right false h = h
 
 or_left : (b c : Bool) → b ≡ true → b || c ≡ true
-or_left true c h = refl
-or_left false c h = cc
+or_left a c h = cc
 
 -- A call that has ended well has pushed the stream's end.
 end_was_pushed : (s : Standing) (answers : List (Answer ErrorReport)) → (load_from s true answers).ending ≡ run.well → has_end (load_from s true answers).pushed ≡ true

@@ -48,18 +48,13 @@ settled_agree text xs ys r s = elim (one_run r.run s.run) [
 -- ---- where a text is refused
 
 stops : {t u : ScannerState} {f : Fault} → Reaches t u → fetch t ≡ Err f → u ≡ t
-stops here e = refl
-stops (there d g p) e = absurd cc
+stops a e = grind arith
 
 -- a key that stands behind more tokens comes before none of these
 none_comes : (n m : ℕ) (ks : List (Option Key)) → KeysFrom (n + 1 + m) ks → list_any (comes_before n) ks ≡ false
 none_comes n m [] k = refl
 none_comes n m (None ∷ ks) k = none_comes n m ks k.1
-none_comes n m (Some x ∷ ks) k = by (x.number == n) refl (none_comes n m ks k.1)
-  where
-    by : (b : Bool) → (x.number == n) ≡ b → list_any (comes_before n) ks ≡ false → (x.number == n || list_any (comes_before n) ks) ≡ false
-    by true e rest = let same = eqb-true x.number n e in let far = k.0 in absurd (omega (arith, same, far))
-    by false e rest = rw (e, rest) refl
+none_comes n m (Some x ∷ ks) k = grind (arith, none_comes n m ks k.1)
 
 -- All settled tokens begin with those that are settled anywhere.
 pub settled_first : (text : List ℕ) (all given : List Token) → AreSettled text all → IsReached text given → BeginsWith given all

@@ -77,19 +77,13 @@ OfStep m (repeats key) = Unit {0}
 OfStep m out_of_nesting = Unit {0}
 
 repeats_or : (m : ℕ) (b : Bool) (key : Tree) (u : Unfinished) → IsStillOpen m u → OfStep m (if b then repeats key else reads u)
-repeats_or m true key u h = tt
-repeats_or m false key u h = h
+repeats_or m a d u h = grind arith
 
 of_root : (m : ℕ) (t : Tree) (u : Unfinished) (root : Option Tree) → Low m u.anchors → OfStep m (with_root t u root)
-of_root m t u None l = record { low = l; held = tt }
-of_root m t u (Some r) l = tt
+of_root m t u a l = grind arith
 
 of_tree : (m : ℕ) (t : Tree) (u : Unfinished) (outer : List Opened) → Low m u.anchors → Held m u.anchors outer → OfStep m (with_tree t u outer)
-of_tree m t u [] l h = of_root m t u u.root l
-of_tree m t u (opened_sequence a ts ∷ outer) l h = record { low = l; held = h }
-of_tree m t u (opened_mapping a ps None ∷ outer) l h = record { low = l; held = h }
-of_tree m t u (opened_mapping a ps (Some k) ∷ outer) l h =
-    repeats_or m (has_key k ps) k (record u { opened = opened_mapping a (insert k t ps) None ∷ outer }) (record { low = l; held = h })
+of_tree m t u a l h = grind arith
 
 -- a finished node, where the open collections' anchors are less than its own
 of_node : (m a : ℕ) (t : Tree) (u : Unfinished) (outer : List Opened) → a ≤ m → Low m u.anchors → Held (under a m) u.anchors outer → OfStep m (with_node a t u outer)
@@ -110,8 +104,7 @@ of_mapping_end m u (opened_mapping a ps None ∷ outer) l h = of_node m a (hash 
 of_mapping_end m u (opened_mapping a ps (Some k) ∷ outer) l h = tt
 
 of_document_end : (m : ℕ) (u : Unfinished) (opened : List Opened) → u.opened ≡ opened → IsStillOpen m u → OfStep m (with_document_end u opened)
-of_document_end m u [] e s = record { low = s.low; held = s.held }
-of_document_end m u (c ∷ outer) e s = tt
+of_document_end m u a e s = grind arith
 
 -- a node's start or scalar has no anchor, or the next number
 data IsNext (m : ℕ) : ℕ → ℕ → Type 0 where
@@ -119,22 +112,17 @@ data IsNext (m : ℕ) : ℕ → ℕ → Type 0 where
   next : IsNext m (m + 1) (m + 1)
 
 next_low : {m a n : ℕ} → IsNext m a n → a ≤ n
-next_low none = omega arith
-next_low next = omega arith
+next_low b = grind arith
 
 next_more : {m a n : ℕ} → IsNext m a n → m ≤ n
-next_more none = omega arith
-next_more next = omega arith
+next_more b = grind arith
 
 next_unfinished : {m a n : ℕ} (anchors : Anchors) → IsNext m a n → Low m anchors → aliased a anchors ≡ bad_value
 next_unfinished {m = m} anchors none l = no_zero m anchors l
 next_unfinished {m = m} anchors next l = above_all m (m + 1) anchors (omega arith) l
 
 under_next : (m : ℕ) → under (m + 1) (m + 1) ≡ m
-under_next m = ap (λ k. under k k) (plus_one m)
-  where
-    plus_one : (k : ℕ) → k + 1 ≡ suc k
-    plus_one k = omega arith
+under_next m = grind arith
 
 next_under : {m a n : ℕ} (anchors : Anchors) (opened : List Opened) → IsNext m a n → Held m anchors opened → Held (under a n) anchors opened
 next_under anchors opened none h = h
@@ -171,20 +159,17 @@ of_event m n u (Ev.mapping_start a tag) f s = of_start (opened_mapping a [] None
 of_event m n u Ev.mapping_end f s = let v = subst (λ j. IsStillOpen j u) f s in of_mapping_end n u u.opened v.low v.held
 
 is_next : (s : Names) (a : Option (List ℕ)) → IsNext s.count (number s a) (with_anchor s a).count
-is_next s None = none
-is_next s (Some name) = next
+is_next s b = grind (arith, none, next)
 
 abbrev OfSome : {A : Type 0} → (A → Type 0) → Option A → Type 0
 OfSome P None = Unit {0}
 OfSome P (Some x) = P x
 
 mapped : {A B : Type 0} (P : B → Type 0) (f : A → B) (o : Option A) → ((x : A) → P (f x)) → OfSome P (option_map f o)
-mapped P f None h = tt
-mapped P f (Some x) h = h x
+mapped a f b h = grind arith
 
 allowed : (P : Ev → Type 0) (b : Bool) (e : Ev) → P e → OfSome P (if b then Some e else None)
-allowed P true e h = h
-allowed P false e h = tt
+allowed a d e h = grind arith
 
 numbered : (keep_tags : Bool) (s : Names) (r : Raw) → OfSome (Follows s.count (names_after keep_tags s r).count) (resolved_event s r)
 numbered k s Raw.stream_start = refl
@@ -217,9 +202,7 @@ OfLoader m (noted documents key p) = Unit {0}
 OfLoader m (refused documents p) = Unit {0}
 
 of_after : (m : ℕ) (x : Step) (documents : List Tree) (p : Position) → OfStep m x → OfLoader m (loader_after x documents p)
-of_after m (reads u) documents p h = h
-of_after m (repeats key) documents p h = tt
-of_after m out_of_nesting documents p h = tt
+of_after m a b p h = grind arith
 
 of_event_at : (m n : ℕ) (l : Loader) (e : Ev) (p : Position) → Follows m n e → OfLoader m l → OfLoader n (with_event_at l e p)
 of_event_at m n (at_work u) e p f h = of_after n (with_event u e) u.documents p (of_event m n u e f h)
@@ -232,12 +215,7 @@ record FirstNamed (keep_tags : Bool) (s : Names) (r : Raw) (rs : List Raw) (e : 
 
 both_named : (keep_tags : Bool) (s : Names) (r : Raw) (rs : List Raw) (e : Ev) (es : List Ev) (o : Option Ev) (os : Option (List Ev))
     → OfSome (Follows s.count (names_after keep_tags s r).count) o → named keep_tags (names_after keep_tags s r) rs ≡ os → both o os ≡ Some (e ∷ es) → FirstNamed keep_tags s r rs e es
-both_named k s r rs e es None os f n q = cc
-both_named k s r rs e es (Some v) None f n q = cc
-both_named k s r rs e es (Some v) (Some vs) f n q =
-    let same : v ≡ e = cc in
-    let more : vs ≡ es = cc in
-    record { follows = subst (Follows s.count (names_after k s r).count) same f; rest = n ∙ ap Some more }
+both_named k s r rs e es a os f n q = grind arith
 
 stands_after : (keep_tags : Bool) (s : Names) (rs : List Raw) (l : Loader) (before : List (Ev × Position)) (more : List Ev)
     → named keep_tags s rs ≡ Some (events_of before ++ more) → OfLoader s.count l → (m : ℕ) × OfLoader m (with_events l before)

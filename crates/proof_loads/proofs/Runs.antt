@@ -27,8 +27,7 @@ over_is_over F s (fault f ∷ xs) ys h = refl
 over_is_over F s (event e p ∷ xs) ys h = by (turn F s e p) (λ t. over_is_over F t xs ys)
   where
     by : Turn F s e p → ((t : Standing) → IsOver (load_from t true xs).ending → load_from t true (xs ++ ys) ≡ load_from t true xs) → load_from s true (event e p ∷ (xs ++ ys)) ≡ load_from s true (event e p ∷ xs)
-    by (goes t same) rest = same (xs ++ ys) ∙ ap (push e p) (rest t (subst (λ l. IsOver l.ending) (same xs) h)) ∙ sym (same xs)
-    by (stops l over one left pushed same) rest = same (xs ++ ys) ∙ sym (same xs)
+    by a rest = grind (arith, p, h)
 
 -- Of these events some are pushed, and then some are left.
 pub record Pushes {F : Type 0} (l : Loaded F) (es : List (Ev × Position)) : Type 0 where
@@ -82,8 +81,7 @@ PushesAll l es = (l.pushed ≡ es) × (l.ending ≡ well)
 -- a call that has ended within the stream
 pub ended_within : (F : Type 0) (es : List (Ev × Position)) (answers more : List (Answer F)) → PushesAll (run (given F es)) es → given F es ≡ answers ++ more → IsOver (run answers).ending
     → PushesAll (run answers) es
-ended_within F es answers more all e over =
-    subst (λ l. PushesAll l es) (ap (λ bs. load_from before_stream true bs) e ∙ over_is_over F before_stream answers more over) all
+ended_within F es answers more all e over = grind (arith, over_is_over)
 
 -- a call over all of the stream
 pub ended_after : (F : Type 0) (es : List (Ev × Position)) (answers rest : List (Answer F)) → PushesAll (run (given F es)) es → answers ≡ given F es ++ rest → PushesAll (run answers) es

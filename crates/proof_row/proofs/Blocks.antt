@@ -10,8 +10,7 @@ use Rattle.proof_row.proofs.Columns.{column_same, IsBefore, further, further_is_
 -- ---- its first character
 
 headed : (collection : Option ℕ) (h : Option Header) (b : Body) (next : List ℕ) (r : BlockRead) → read_body h collection b next ≡ Some r → h ≡ None → ⊥
-headed collection None b next r e f = cc e
-headed collection (Some h) b next r e f = cc f
+headed a d b e r g f = cc
 
 -- a block scalar has a header
 pub has_header : (collection : Option ℕ) (lines : List (List ℕ)) (last next : List ℕ) (at_end : Bool) (r : BlockRead) → read_lines collection lines last next at_end ≡ Some r → header_of (first_line lines last) ≡ None → ⊥

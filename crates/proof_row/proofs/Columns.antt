@@ -8,28 +8,17 @@ use Rattle.proof_row.proofs.Lines.{up_to_break}
 -- further lines do not lower the greatest number of leading spaces
 deepest_low : (ls more : List (List ℕ)) → deepest_start ls ≤ deepest_start (ls ++ more)
 deepest_low [] more = omega arith
-deepest_low (l ∷ ls) more = by (is_spaces l) (deepest_low ls more)
-  where
-    by : (b : Bool) → deepest_start ls ≤ deepest_start (ls ++ more) →
-        (if b then max (leading_spaces l) (deepest_start ls) else leading_spaces l) ≤ (if b then max (leading_spaces l) (deepest_start (ls ++ more)) else leading_spaces l)
-    by true h = omega (arith, h)
-    by false h = omega arith
+deepest_low (l ∷ ls) more = grind (arith, deepest_low ls more)
 
 -- and one that is not of spaces alone raises it at most to its own
 deepest_high : (ls : List (List ℕ)) (l : List ℕ) (more : List (List ℕ)) → is_spaces l ≡ false → deepest_start (ls ++ (l ∷ more)) ≤ max (deepest_start ls) (leading_spaces l)
 deepest_high [] l more h = rw h (omega arith)
-deepest_high (k ∷ ls) l more h = by (is_spaces k) (deepest_high ls l more h)
-  where
-    by : (b : Bool) → deepest_start (ls ++ (l ∷ more)) ≤ max (deepest_start ls) (leading_spaces l) →
-        (if b then max (leading_spaces k) (deepest_start (ls ++ (l ∷ more))) else leading_spaces k) ≤ max (if b then max (leading_spaces k) (deepest_start ls) else leading_spaces k) (leading_spaces l)
-    by true h = omega (arith, h)
-    by false h = omega arith
+deepest_high (k ∷ ls) l more h = grind (arith, deepest_high ls l more h)
 
 -- A line that is not deeper than the content column, and not of spaces alone, leaves the column as it is; so do the lines after it.
 pub column_same : (digit collection : Option ℕ) (ls : List (List ℕ)) (l : List ℕ) (more : List (List ℕ)) → is_spaces l ≡ false → leading_spaces l ≤ column_by digit collection ls →
     column_by digit collection (ls ++ (l ∷ more)) ≡ column_by digit collection ls
-column_same (Some d) collection ls l more h k = refl
-column_same None collection ls l more h k = omega (arith, k, deepest_low ls (l ∷ more), deepest_high ls l more h)
+column_same a b ls l more h k = grind (arith, deepest_low, deepest_high)
 
 -- ---- further text
 
@@ -61,10 +50,7 @@ outside (suc n) (c ∷ r) h = by (c == space) (is_break c) refl refl h (λ f. ou
 
     by : (blank break : Bool) → (c == 32) ≡ blank → is_break c ≡ break → (if blank then is_outside n r else (not break && not (is_nul c))) ≡ true → (is_outside n r ≡ true → Outside n (up_to_break r)) →
         Outside (suc n) (if break then [] else c ∷ up_to_break r)
-    by true true e f g k = absurd (contrary (is_break c) f (unbroken c e))
-    by true false e f g k = spaced c (up_to_break r) e (k g)
-    by false true e f g k = absurd (cc g)
-    by false false e f g k = unspaced c (up_to_break r) e
+    by a b e f g k = grind (arith, unbroken, spaced)
 
 -- a line that is neither of spaces alone nor content
 no_row : (column : ℕ) (l : List ℕ) → is_spaces l ≡ false → is_content_line column l ≡ false → row_of column l ≡ None
@@ -77,8 +63,7 @@ unfolding is_content_line
 shallow column l h = rw (lt-leb column (leading_spaces l) h) refl
 
 and_false : (a b : Bool) → b ≡ false → (a && b) ≡ false
-and_false true b h = h
-and_false false b h = refl
+and_false d b h = grind arith
 
 -- a document marker in column 0 is no content
 unmarked : (l : List ℕ) → is_document_marker l ≡ true → is_content_line 0 l ≡ false
@@ -88,29 +73,11 @@ unmarked l h = and_false (nat_le 0 (leading_spaces l) && nat_le 1 (length l)) (n
 -- what holds of the two document markers
 marks : (P : ℕ → ℕ → ℕ → Type 0) (a b c : ℕ) → are_marks a b c ≡ true → P 45 45 45 → P 46 46 46 → P a b c
 unfolding are_marks
-marks P a b c h p45 p46 = by ((a == 45) && (b == 45) && (c == 45)) ((a == 46) && (b == 46) && (c == 46)) refl refl h
-  where
-    at : (n : ℕ) → ((a == n) && (b == n) && (c == n)) ≡ true → P n n n → P a b c
-    at n e p =
-        let front : ((a == n) && (b == n)) ≡ true = (both ((a == n) && (b == n)) (c == n) e).0 in
-        let a_is : a ≡ n = eqb-true a n (both (a == n) (b == n) front).0 in
-        let b_is : b ≡ n = eqb-true b n (both (a == n) (b == n) front).1 in
-        let c_is : c ≡ n = eqb-true c n (both ((a == n) && (b == n)) (c == n) e).1 in
-        subst (λ x. P x b c) (sym a_is) (subst (λ x. P n x c) (sym b_is) (subst (λ x. P n n x) (sym c_is) p))
-
-    by : (d e : Bool) → ((a == 45) && (b == 45) && (c == 45)) ≡ d → ((a == 46) && (b == 46) && (c == 46)) ≡ e → (d || e) ≡ true → P a b c
-    by true e f g h = at 45 f p45
-    by false true f g h = at 46 g p46
-    by false false f g h = absurd (cc h)
+marks P a b c h p45 p46 = grind arith
 
 -- a text at a gap, cut at its first break, is still at one
 gap_kept : (r : List ℕ) → is_at_gap r ≡ true → is_at_gap (up_to_break r) ≡ true
-gap_kept [] h = refl
-gap_kept (c ∷ r) h = by (is_break c)
-  where
-    by : (b : Bool) → is_at_gap (if b then [] else c ∷ up_to_break r) ≡ true
-    by true = refl
-    by false = h
+gap_kept a h = grind arith
 
 abbrev Marked : ℕ → ℕ → ℕ → List ℕ → Type 0
 Marked a b c r = IsBefore 0 (up_to_break (a ∷ b ∷ c ∷ r))
@@ -139,25 +106,10 @@ further (suc n) t h =
 -- Further text does not begin with a line feed.
 pub further_is_no_break : (column : ℕ) (t : List ℕ) → is_further_text column t ≡ true → begins_with 10 t ≡ false
 unfolding is_break are_marks
-further_is_no_break column [] h = refl
-further_is_no_break column (c ∷ r) h = by (c == 10) refl
-  where
-    not_here : (column : ℕ) (r : List ℕ) → is_further_text column (10 ∷ r) ≡ true → ⊥
-    not_here zero [] h = cc h
-    not_here zero (b ∷ []) h = cc h
-    not_here zero (b ∷ d ∷ r) h = cc h
-    not_here (suc n) r h = cc h
-
-    by : (b : Bool) → (c == 10) ≡ b → b ≡ false
-    by false e = refl
-    by true e = absurd (not_here column r (subst (λ z. is_further_text column (z ∷ r) ≡ true) (eqb-true c 10 e) h))
+further_is_no_break column a h = grind (arith, zero, eqb-true)
 
 -- ---- lines of which one is none of the scalar's
 
 pub no_rows : (column : ℕ) (ls : List (List ℕ)) (l : List ℕ) (more : List (List ℕ)) → row_of column l ≡ None → rows_of column (ls ++ (l ∷ more)) ≡ None
 no_rows column [] l more h = rw h refl
-no_rows column (k ∷ ls) l more h = by (row_of column k) (rows_of column (ls ++ (l ∷ more))) (no_rows column ls l more h)
-  where
-    by : (r : Option Row) (rs : Option (List Row)) → rs ≡ None → put_row r rs ≡ None
-    by None rs e = refl
-    by (Some r) rs e = ap (λ z. put_row (Some r) z) e
+no_rows column (k ∷ ls) l more h = grind (arith, no_rows column ls l more h)

@@ -15,12 +15,7 @@ ended col (n ∷ bs) = by (nat_lt col n) (ended col bs)
   where
     by : (d : Bool) → (drop (length bs - length (not_ended col bs)) bs ≡ not_ended col bs) × (length (not_ended col bs) ≤ length bs) →
         (let cs : List ℕ = (if d then not_ended col bs else n ∷ bs) in (drop (length (n ∷ bs) - length cs) (n ∷ bs) ≡ cs) × (length cs ≤ length (n ∷ bs)))
-    by true h =
-        let many : length (n ∷ bs) - length (not_ended col bs) ≡ suc (length bs - length (not_ended col bs)) = omega (arith, h.1) in
-        (ap (λ k. drop k (n ∷ bs)) many ∙ h.0, omega (arith, h.1))
-    by false h =
-        let none : length (n ∷ bs) - length (n ∷ bs) ≡ 0 = omega arith in
-        (ap (λ k. drop k (n ∷ bs)) none, omega arith)
+    by a h = grind arith
 
 drop_all : (bs : List ℕ) → drop (length bs - 0) bs ≡ []
 drop_all bs = ap (λ k. drop k bs) (omega arith) ∙ all bs
@@ -57,19 +52,13 @@ blocks_end k here p b bs =
 
 -- none ends
 pub none_ends : (a : Account) (p : Position) (bs cs : List ℕ) → cs ≡ bs → LeadTo a (ends_at p bs cs) a
-none_ends a p bs cs same =
-    let none : length bs - length cs ≡ 0 = omega (arith, ap length same) in
-    subst (λ n. LeadTo a (replicate n (put p block_end)) a) (sym none) (λ us next t e. (e, refl))
+none_ends a p bs cs same = grind arith
 
 -- ---- collections that no key ends
 
 pub not_ended_twice : (col : ℕ) (bs : List ℕ) → not_ended col (not_ended col bs) ≡ not_ended col bs
 not_ended_twice col [] = refl
-not_ended_twice col (n ∷ bs) = by (nat_lt col n) refl (not_ended_twice col bs)
-  where
-    by : (d : Bool) → nat_lt col n ≡ d → not_ended col (not_ended col bs) ≡ not_ended col bs → not_ended col (if d then not_ended col bs else n ∷ bs) ≡ (if d then not_ended col bs else n ∷ bs)
-    by true e h = h
-    by false e h = rw e refl
+not_ended_twice col (n ∷ bs) = grind (arith, not_ended_twice col bs)
 
 pub not_ended_further : (col here : ℕ) (bs : List ℕ) → col ≤ here → not_ended col bs ≡ bs → not_ended here bs ≡ bs
 not_ended_further col here [] m h = refl
@@ -92,39 +81,19 @@ column_grows p (c ∷ t) next h =
     column_grows (position_past p c (t ++ next)) t next b.1 ∙ (ap (λ q. q.col + length t) past ∙ omega arith)
 
 pub unbroken : (t : List ℕ) → has_break t ≡ false → has_no_break t ≡ true
-unbroken t h = by (has_no_break t) h
-  where
-    by : (b : Bool) → not b ≡ false → b ≡ true
-    by true h = refl
-    by false h = absurd (cc h)
+unbroken t h = grind arith
 
 -- a text in whose separation no break stands
 pub in_line : (f : List ℕ) (c : ℕ) (r : List ℕ) → has_no_break f ≡ true → ends_separation (c ∷ r) ≡ true → is_in_line (f ++ (c ∷ r)) ≡ true
 unfolding is_blank_or_end
-in_line [] c r h e = by (is_blank c) (is_break c) (is_nul c) (c == 35) e
-  where
-    by : (b l n o : Bool) → (not (b || l || n) && not o) ≡ true → (not l && (not b || is_in_line r)) ≡ true
-    by false false n o e = refl
-    by true l n o e = absurd (cc e)
-    by false true n o e = absurd (cc e)
+in_line [] c r h e = grind arith
 in_line (x ∷ f) c r h e =
     let b : (not (is_break x) ≡ true) × (has_no_break f ≡ true) = both (not (is_break x)) (has_no_break f) h in
     rw (untrue (is_break x) b.0, in_line f c r b.1 e) (by (is_blank x))
   where
     by : (b : Bool) → (not b || true) ≡ true
-    by true = refl
-    by false = refl
+    by a = grind arith
 
 -- a directive stands in column 0
 pub no_directive : (a : Account) (c : ℕ) (r n : List ℕ) (o : Option Tok) (q : Position) (t : Tok) → IsPiece a (c ∷ r) n o q t → (act_of t ≡ gives_node) ⊎ (0 < a.position.col) → (f : List ℕ) → begins_free_line (previous_by t) f ≡ has_break f
-no_directive a c r n o q (version_directive major minor) h (inl k) f = absurd (cc k)
-no_directive a c r n o q (version_directive major minor) h (inr k) f = absurd (omega (arith, k, h.0.2))
-no_directive a c r n o q (tag_directive x y) h (inl k) f = absurd (cc k)
-no_directive a c r n o q (tag_directive x y) (inl h, i) (inr k) f = absurd (omega (arith, k, h.2))
-no_directive a c r n o q (tag_directive x y) (inr h, i) (inr k) f = absurd (omega (arith, k, h.2.2))
-no_directive a c r n o q (scalar plain x) h k f = refl
-no_directive a c r n o q (scalar single_quoted x) h k f = refl
-no_directive a c r n o q (scalar double_quoted x) h k f = refl
-no_directive a c r n o q (scalar literal x) h k f = refl
-no_directive a c r n o q (scalar folded x) h k f = refl
-no_directive a c r n o q _ h k f = refl
+no_directive a c r n o q b h k f = grind arith

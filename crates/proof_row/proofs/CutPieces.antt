@@ -36,9 +36,7 @@ indicator_with_blocks bs a c r n f q _ (inr (inr k)) h = absurd (cc k)
 -- ---- in flow
 
 ends_in_flow : (c d : Option ℕ) (s : Stand) (r : List ℕ) → ends_plain true c s r ≡ ends_plain true d s r
-ends_in_flow c d inside r = refl
-ends_in_flow c d after_blank r = refl
-ends_in_flow c d (on_line k) r = refl
+ends_in_flow c d a r = cc
 
 goes_on_in_flow : (c d : Option ℕ) (s : Stand) (p n : List ℕ) → goes_on true c s p n ≡ goes_on true d s p n
 goes_on_in_flow c d s [] n = refl

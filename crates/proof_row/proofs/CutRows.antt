@@ -21,9 +21,7 @@ IsKept a = KeptBy a.line a.site
 
 -- where none waits
 pub idle_kept : (l : Line) (s : Site) → is_waiting l ≡ false → KeptBy l s
-idle_kept free s h = tt
-idle_kept taken s h = tt
-idle_kept (waits begin) s h = absurd (cc h)
+idle_kept a s h = grind arith
 
 -- ---- what is shown of a step
 
@@ -55,12 +53,7 @@ stepped a w ws after b us p fills tokens empty piece same kept =
 -- ---- outside flow
 
 node_of_key : (t : Tok) → act_of t ≡ gives_node → is_of_key t ≡ true
-node_of_key (scalar plain x) k = refl
-node_of_key (scalar single_quoted x) k = refl
-node_of_key (scalar double_quoted x) k = refl
-node_of_key (scalar literal x) k = absurd (cc k)
-node_of_key (scalar folded x) k = absurd (cc k)
-node_of_key _ k = cc
+node_of_key a k = grind arith
 
 -- a key that waits, at a piece on its line
 abbrev WaitsAt : Line → ℕ → List ℕ → Type 0
@@ -72,44 +65,16 @@ WaitsThen k col None = Unit {0}
 WaitsThen k col (Some x) = WaitsAt x.line col x.blocks × (is_waiting x.line ≡ true → k ≡ gives_node)
 
 waits_unless : (must : Bool) (l : Line) (bs : List ℕ) (k : Act) (col : ℕ) → is_waiting l ≡ false → WaitsThen k col (unless_key must l bs)
-waits_unless true l bs k col h = tt
-waits_unless false free bs k col h = (tt, λ e. absurd (cc e))
-waits_unless false taken bs k col h = (tt, λ e. absurd (cc e))
-waits_unless false (waits begin) bs k col h = absurd (cc h)
+waits_unless a l bs k col h = grind arith
 
 waits_keyed : (begin here : Position) (bs : List ℕ) (k : Act) (col : ℕ) → WaitsThen k col (keyed begin here bs)
-waits_keyed begin here bs k col = by (is_near begin here)
-  where
-    by : (n : Bool) → WaitsThen k col (if n then Some (record { line = taken; blocks = opened begin.col bs }) else None)
-    by true = (tt, λ e. absurd (cc e))
-    by false = tt
+waits_keyed begin here bs k col = grind arith
 
 waits_on : (k : Act) (must key : Bool) (l : Line) (here : Position) (bs : List ℕ) → WaitsAt l here.col bs → (k ≡ gives_node → not_ended here.col bs ≡ bs) → WaitsThen k here.col (line_past must here bs k key l)
-waits_on gives_node must true free here bs w n = ((n refl, omega arith), λ e. refl)
-waits_on gives_node must false free here bs w n = waits_unless must taken bs gives_node here.col refl
-waits_on gives_node must false taken here bs w n = (tt, λ e. refl)
-waits_on gives_node must false (waits begin) here bs w n = (w, λ e. refl)
-waits_on gives_block_scalar must false free here bs w n = waits_unless must free bs gives_block_scalar here.col refl
-waits_on gives_colon must false (waits begin) here bs w n = waits_keyed begin here bs gives_colon here.col
-waits_on gives_block_scalar must false taken here bs w n = (tt, λ e. absurd (cc e))
-waits_on gives_dash must false free here bs w n = (tt, λ e. absurd (cc e))
-waits_on gives_question must false free here bs w n = (tt, λ e. absurd (cc e))
-waits_on gives_colon must false free here bs w n = (tt, λ e. absurd (cc e))
-waits_on gives_comma must false free here bs w n = (tt, λ e. absurd (cc e))
-waits_on gives_comma must false taken here bs w n = (tt, λ e. absurd (cc e))
-waits_on gives_closing must false free here bs w n = (tt, λ e. absurd (cc e))
-waits_on gives_closing must false taken here bs w n = (tt, λ e. absurd (cc e))
-waits_on gives_marker must false free here bs w n = (tt, λ e. absurd (cc e))
-waits_on gives_marker must false taken here bs w n = (tt, λ e. absurd (cc e))
-waits_on _ must key l here bs w n = tt
+waits_on a must b l d bs w n = grind arith
 
 broken_by : (c : ℕ) (r : List ℕ) (b : Bool) → (has_break (c ∷ r) && b) ≡ false → b ≡ true → has_no_break (c ∷ r) ≡ true
-broken_by c r true h e = unbroken (c ∷ r) (by (has_break (c ∷ r)) h)
-  where
-    by : (x : Bool) → (x && true) ≡ false → x ≡ false
-    by true h = h
-    by false h = refl
-broken_by c r false h e = absurd (cc e)
+broken_by c r a h e = grind arith
 
 -- a key that waits still does after a piece
 kept_on : (l : Line) (here : Position) (bs : List ℕ) (awaits : Bool) (c : ℕ) (r next : List ℕ) (t : Tok) → WaitsAt l here.col bs → (is_waiting l ≡ true → has_no_break (c ∷ r) ≡ true) → (is_waiting l ≡ true → (f : List ℕ) → begins_free_line (previous_by t) f ≡ has_break f) →
@@ -233,12 +198,7 @@ outside_step must s line f c r t key ws after x h same on_line in_line kept = by
         (subst (λ cs. LeadTo (account_by at.position b (somes s.blocks) []) (ends_at at.position s.blocks at.blocks) (account_by at.position b (somes cs) [])) (sym g) (blocks_end (act_of t) at.position at.position b s.blocks))
 
     waiting_so : (begin : Position) → line ≡ waits begin → begins_free_line s.before f ≡ false → (m : Bool) → is_marker (act_of t) ≡ m → IsCutStep (record { site = s; line = line; entries = [] }) (record { separation = f; piece = c ∷ r; shown = t; key = key }) ws after x
-    waiting_so begin e g true k = absurd (by_marker (act_of t) k key (subst Of (ap (λ z. line_past_separation false z line) g ∙ ap (λ z. line_past_separation false false z) e) same))
-      where
-        by_marker : (k : Act) → is_marker k ≡ true → (key : Bool) → past_outside at (c ∷ r) t next (line_past must at.position at.blocks k key (waits begin)) ≡ Some x → ⊥
-        by_marker gives_marker k true e = cc e
-        by_marker gives_marker k false e = cc e
-        by_marker _ k key e = cc k
+    waiting_so begin e g true k = grind (arith, t, key, line, same, at, next, must, waits, x)
     waiting_so begin e g false k =
         let keeps : KeptBy (waits begin) s = subst (λ z. KeptBy z s) e kept in
         let right : begin.col ≤ at.position.col = omega (arith, keeps.1, column_grows s.position f ((c ∷ r) ++ next) (unbroken f (sym (keeps.2 f) ∙ g))) in
@@ -263,10 +223,7 @@ same_many (e ∷ es) = ap suc (same_many es)
 
 -- in flow a separation changes no line
 line_in_flow : (broken : Bool) (line l : Line) → line_past_separation true broken line ≡ Some l → (l ≡ line) × (is_waiting line ≡ true → broken ≡ false)
-line_in_flow false line l e = (cc e, λ h. refl)
-line_in_flow true free l e = (cc e, λ h. absurd (cc h))
-line_in_flow true taken l e = (cc e, λ h. absurd (cc h))
-line_in_flow true (waits begin) l e = absurd (cc e)
+line_in_flow a b l e = grind arith
 
 inside_step : (s : Site) (line : Line) (e : Entry) (es : List Entry) (f : List ℕ) (c : ℕ) (r : List ℕ) (t : Tok) (key : Bool) (ws : List Step) (after : List ℕ) (x : Account) →
     (let a : Account = record { site = s; line = line; entries = e ∷ es } in
@@ -346,17 +303,10 @@ inside_step s line e es f c r t key ws after x h same on_line kept = by_line (li
 -- ---- all
 
 stood : (may : Bool) (p : List ℕ) (o : Option Account) (x : Account) → (if may then on_one_line p o else None) ≡ Some x → (o ≡ Some x) × ((has_break p && is_waiting x.line) ≡ false)
-stood false p o x e = absurd (cc e)
-stood true p None x e = absurd (cc e)
-stood true p (Some y) x e = by (has_break p && is_waiting y.line) refl e
-  where
-    by : (b : Bool) → (has_break p && is_waiting y.line) ≡ b → (if b then None else Some y) ≡ Some x → (Some y ≡ Some x) × ((has_break p && is_waiting x.line) ≡ false)
-    by true g i = absurd (cc i)
-    by false g i = let same : y ≡ x = cc i in (i, subst (λ (z : Account). (has_break p && is_waiting z.line) ≡ false) same g)
+stood a p o x e = grind arith
 
 same_by : (at : Site) (p : List ℕ) (t : Tok) (next : List ℕ) (again key : Bool) (o : Option Line) → past_by (is_in_column at.position.col at.blocks) at p t next key o ≡ past_piece at p t next again key o []
-same_by at p t next again key None = refl
-same_by at p t next again key (Some l) = refl
+same_by a p t b again d e = grind arith
 
 -- A piece outside flow that begins no key is a row of a cut, also where a key must begin.
 pub cut_no_key : (must : Bool) (a : Account) (w : Step) (ws : List Step) (after : List ℕ) (x : Account) → a.entries ≡ [] → is_waiting a.line ≡ false → is_waiting x.line ≡ false →
@@ -368,16 +318,14 @@ cut_no_key must a w ws after x none idle idle_then h same = by a.entries w.piece
     next = step.spelled ws after
 
     not_both : (m n : Bool) → n ≡ false → (m && n) ≡ false
-    not_both true n e = e
-    not_both false n e = refl
+    not_both a n e = grind arith
 
     by : (es : List Entry) (p : List ℕ) → es ≡ [] →
         (let b : Account = record { site = a.site; line = a.line; entries = es } in let v : Step = record { separation = w.separation; piece = p; shown = w.shown; key = w.key } in let at : Site = site_at false a.site w.separation p w.shown next in
         IsWritten b v next → past_by must at p w.shown next w.key (line_past_separation false (begins_free_line a.site.before w.separation) a.line) ≡ Some x → IsCutStep b v ws after x)
     by (e ∷ es) p i h same = absurd (cc i)
     by [] [] i h same = absurd (cc h.1.0)
-    by [] (c ∷ r) i h same =
-        outside_step must a.site a.line w.separation c r w.shown w.key ws after x h same (not_both (has_break (c ∷ r)) (is_waiting x.line) idle_then) (λ k j. absurd (cc (j, idle_then))) (idle_kept a.line a.site idle)
+    by [] (c ∷ r) i h same = grind (arith, outside_step, must, after, x, not_both, has_break, idle)
 
 -- A step of a row is a row of a cut, if where a key waits the text after it goes on in the line.
 pub cut_step : (a : Account) (w : Step) (ws : List Step) (after : List ℕ) (x : Account) → IsWritten a w (step.spelled ws after) → account_past a w (step.spelled ws after) ≡ Some x →

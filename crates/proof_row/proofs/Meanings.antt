@@ -41,8 +41,7 @@ read_again (Err key) (Ok us) (unfinished.refused documents p) h k e = absurd k
 read_again r (Err key) x h k e = cc
 
 same_trees : {ts us : List Tree} (r : Result (List Tree) Tree) → r ≡ Ok ts → r ≡ Ok us → ts ≡ us
-same_trees (Ok vs) e f = cc
-same_trees (Err key) e f = cc
+same_trees a e f = cc
 
 pub one_meaning : OneMeaning
 one_meaning keep_tags text ts us x y =

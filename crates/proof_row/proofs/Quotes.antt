@@ -17,33 +17,14 @@ abbrev spelled : Element → ℕ → Spelled
 spelled e n = record { element = e; further = n }
 
 further_fits : (c : ℕ) (r : List ℕ) → break_further c r ≤ length r
-further_fits c [] = omega arith
-further_fits c (d ∷ r) = by ((c == 13) && (d == 10))
-  where
-    by : (two : Bool) → (if two then 1 else 0) ≤ suc (length r)
-    by true = omega arith
-    by false = omega arith
+further_fits c a = grind arith
 
 further_same : (c : ℕ) (r z : List ℕ) → begins_with 10 z ≡ false → break_further c (r ++ z) ≡ break_further c r
-further_same c [] [] h = refl
-further_same c [] (d ∷ z) h = by (c == 13) (d == 10) h
-  where
-    by : (a b : Bool) → b ≡ false → ◌≡◌ {A = ℕ} (if a && b then 1 else 0) 0
-    by true false f = refl
-    by false false f = refl
-    by a true f = absurd (cc f)
-further_same c (d ∷ r) z h = refl
+further_same c a z h = grind arith
 
 plain_onward : IsOnward plain_element
 unfolding plain_element
-plain_onward c r z h = by (is_break c) (is_blank c)
-  where
-    by : (break blank : Bool) →
-        Onward r (if break then Some (spelled line_break (break_further c r)) else (if blank then Some (spelled (Element.blank c) 0) else Some (spelled (content c) 0)))
-        (if break then Some (spelled line_break (break_further c (r ++ z))) else (if blank then Some (spelled (Element.blank c) 0) else Some (spelled (content c) 0)))
-    by true blank = (further_fits c r, ap (λ n. Some (spelled line_break n)) (further_same c r z h))
-    by false true = (omega arith, refl)
-    by false false = (omega arith, refl)
+plain_onward c r z h = grind arith
 
 -- ---- single quotes
 
@@ -51,12 +32,7 @@ abbrev doubled : List ℕ → Option Spelled
 doubled r = (if begins_with single_quote r then Some (spelled (content single_quote) 1) else None)
 
 doubled_onward : (r z : List ℕ) → Onward r (doubled r) (doubled (r ++ z))
-doubled_onward [] z = tt
-doubled_onward (d ∷ r) z = by (d == 39)
-  where
-    by : (two : Bool) → Onward (d ∷ r) (if two then Some (spelled (content 39) 1) else None) (if two then Some (spelled (content 39) 1) else None)
-    by true = (omega arith, refl)
-    by false = tt
+doubled_onward a z = grind arith
 
 single_onward : IsOnward single_quoted_element
 unfolding single_quoted_element
@@ -70,12 +46,7 @@ single_onward c r z h = by (is_nul c) (c == single_quote)
 -- ---- double quotes
 
 numbered_onward : (n d : ℕ) (r : List ℕ) (o : Option ℕ) → n ≤ length r → Onward (d ∷ r) (numbered n o) (numbered n o)
-numbered_onward n d r None l = tt
-numbered_onward n d r (Some code) l = by (is_character_code code)
-  where
-    by : (valid : Bool) → Onward (d ∷ r) (if valid then Some (spelled (content code) (suc n)) else None) (if valid then Some (spelled (content code) (suc n)) else None)
-    by true = (omega (arith, l), refl)
-    by false = tt
+numbered_onward n d r a l = grind arith
 
 numeric_onward : (n d : ℕ) (r z : List ℕ) → Onward (d ∷ r) (numeric_escape n r) (numeric_escape n (r ++ z))
 unfolding numeric_escape
@@ -119,8 +90,7 @@ is_read None = false
 is_read (Some es) = true
 
 rest_read : (e : Element) (o : Option (List Element)) → is_read (put_before e o) ≡ true → is_read o ≡ true
-rest_read e None h = h
-rest_read e (Some es) h = refl
+rest_read e a h = grind arith
 
 -- If a text is read, and also with more after it, the more is read.
 reads : (at : ℕ → List ℕ → Option Spelled) → IsOnward at → (n : ℕ) (b z : List ℕ) → n ≤ length b → begins_with 10 z ≡ false →
@@ -132,17 +102,12 @@ reads at f zero (c ∷ b) z l h i j = by (at c b) (at c (b ++ z)) (f c b z h) i 
   where
     by : (o more : Option Spelled) → Onward b o more → is_read (followed o (λ n. elements at n b)) ≡ true → is_read (followed more (λ n. elements at n (b ++ z))) ≡ true →
         ((n : ℕ) → n ≤ length b → is_read (elements at n b) ≡ true → is_read (elements at n (b ++ z)) ≡ true → is_read (elements at 0 z) ≡ true) → is_read (elements at 0 z) ≡ true
-    by None more g i j on = absurd (cc i)
-    by (Some s) more g i j on =
-        on s.further g.0 (rest_read s.element (elements at s.further b) i)
-        (rest_read s.element (elements at s.further (b ++ z)) (subst (λ o. is_read (followed o (λ n. elements at n (b ++ z))) ≡ true) g.1 j))
+    by a more g i j d = grind (arith, rest_read, elements, at, is_read)
 
 -- ---- two bodies
 
 read_elements : (marked : Bool) (o : Option (List Element)) (text : List ℕ) → (if marked then None else folded_elements o) ≡ Some text → is_read o ≡ true
-read_elements true o text h = absurd (cc h)
-read_elements false None text h = absurd (cc h)
-read_elements false (Some es) text h = refl
+read_elements a o b h = grind arith
 
 -- Of two bodies, each with its quote after it, none goes on over the quote of the other. A test of the text after a quote says where a quote is none that ends.
 bodies : (at : ℕ → List ℕ → Option Spelled) → IsOnward at → (quote : ℕ) → (quote == 10) ≡ false → (again : List ℕ → Bool) →
@@ -158,8 +123,7 @@ bodies at f quote lf again stop b d x y h k i j e = by (splits b d (quote ∷ x)
         absurd (contrary _ (reads at f 0 b (quote ∷ more) (omega arith) lf h (subst (λ z. is_read (elements at 0 z) ≡ true) whole k)) (stop more y (subst (λ z. again z ≡ false) heads.1 i)))
 
     by : More b d (quote ∷ x) (quote ∷ y) ⊎ More d b (quote ∷ y) (quote ∷ x) → (b ≡ d) × (x ≡ y)
-    by (inl m) = over b d x y m.more m.longer m.rest h k i
-    by (inr m) = let same : (d ≡ b) × (y ≡ x) = over d b y x m.more m.longer m.rest k h j in (sym same.0, sym same.1)
+    by a = grind (arith, over)
 
 -- two pieces that are a body between quotes
 between : (quote : ℕ) (p q b d x y : List ℕ) → p ≡ quote ∷ (b ++ (quote ∷ [])) → q ≡ quote ∷ (d ++ (quote ∷ [])) → p ++ x ≡ q ++ y → b ++ (quote ∷ x) ≡ d ++ (quote ∷ y)
@@ -170,8 +134,7 @@ between quote p q b d x y f g e =
 
 single_stops : (z y : List ℕ) → begins_with single_quote (z ++ (single_quote ∷ y)) ≡ false → is_read (elements single_quoted_element 0 (single_quote ∷ z)) ≡ false
 unfolding single_quoted_element is_nul
-single_stops [] y h = refl
-single_stops (c ∷ z) y h = rw h refl
+single_stops a y h = grind arith
 
 double_stops : (z y : List ℕ) → false ≡ false → is_read (elements double_quoted_element 0 (double_quote ∷ z)) ≡ false
 unfolding double_quoted_element is_nul

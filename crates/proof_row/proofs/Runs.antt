@@ -8,8 +8,7 @@ both true y h = (refl, h)
 both false y h = absurd (cc h)
 
 pub joined : (x y : Bool) → x ≡ true → y ≡ true → (x && y) ≡ true
-joined true y h k = k
-joined false y h k = h
+joined a y h k = cc
 
 pub untrue : (x : Bool) → not x ≡ true → x ≡ false
 untrue true h = absurd (cc h)

@@ -62,8 +62,7 @@ same_column a b w v x y i c k =
 -- ---- pieces
 
 pub not_empty : (p : List ℕ) → not (is_empty p) ≡ true → p ≢ []
-not_empty [] h e = cc h
-not_empty (c ∷ p) h e = cc e
+not_empty a h e = cc
 
 -- At like accounts the text says which piece comes after a separation.
 pub same_piece : (a b : Account) (w v : Step) (x y : List ℕ) → IsLike a b → IsWritten a w x → IsWritten b v y → w.separation ≡ v.separation → w.piece ++ x ≡ v.piece ++ y → Holds (has_no_nul (w.piece ++ x)) →

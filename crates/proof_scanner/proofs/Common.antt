@@ -1,7 +1,7 @@
 -- The words of other crates and of specs/ that the proofs here use, passed on from one place. Declares nothing.
 pub use Rattle.std.proofs.Common.{[], ap, append-nil, append_assoc, arith, Bool, codes, drop, Err, false, if◌then◌else◌, inl, inr, length, length-append, List, map, nat_le, nat_lt, None, not, Ok, Option, refl, replicate, Result, slice_index, Some, subst, suc, sym, take, true, zero, ℕ, ◌&&◌, ◌*◌, ◌++◌, ◌+◌, ◌-◌, ◌<◌, ◌==◌, ◌||◌, ◌∙◌, ◌∷◌, ◌≡◌, ◌≢◌, ◌≤◌, ◌⊎◌}
 pub use Rattle.std.proofs.Math.Bool.{or-false, or-true}
-pub use Rattle.std.proofs.lemmas.Bool.{and_parts, eqb-true, not-false, not-true, or_left, or_parts, or_right}
+pub use Rattle.std.proofs.lemmas.Bool.{cases_Bool, and_parts, eqb-true, not-false, not-true, or_left, or_parts, or_right}
 pub use Rattle.std.proofs.lemmas.Bool.Decides.{nat_tests}
 pub use Rattle.std.proofs.lemmas.List.{append_cancel_left, append_cancel_right, drop-append-le, length-take, replicate-append-replicate, take-append-drop, take-append-le}
 pub use Rattle.std.specs.Char.{digit_value, is_digit}
@@ -92,7 +92,7 @@ pub use Rattle.proof_lexers.proofs.Plain.Turns.{in_line_position, line_position,
 pub use Rattle.proof_lexers.proofs.Properties.Names.{names_end}
 pub use Rattle.proof_lexers.proofs.Properties.TagReads.{tags_are_read}
 pub use Rattle.proof_lexers.proofs.Properties.Tags.{all_leading, alpha_starts, decoded_some, leading_all, same_end, span_cut, tags_end, word}
-pub use Rattle.proof_lexers.proofs.Quoted.Bodies.{first_is_gap, from_gap, marked_from, not_opened, Opened, quote_feed}
+pub use Rattle.proof_lexers.proofs.Quoted.Bodies.{first_fails, first_is_gap, from_gap, marked_from, not_opened, Opened, quote_feed}
 pub use Rattle.proof_lexers.proofs.Quoted.Elements.{has_digits, step}
 pub use Rattle.proof_lexers.proofs.Quoted.Lines.{char_goes, moves, named_goes, quote_goes}
 pub use Rattle.proof_lexers.proofs.Quoted.Local.{after_own, Local, local, LocalOf}

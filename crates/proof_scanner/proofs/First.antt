@@ -4,7 +4,6 @@ pub mod Places
 pub mod Plain
 pub mod Property
 pub mod Quoted
-pub mod QuotedCuts
 pub mod Reasons
 pub mod Settings
 pub mod Stuck

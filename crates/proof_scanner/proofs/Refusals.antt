@@ -19,8 +19,7 @@ pub mod PlainGaps
 pub mod PlainTabs
 pub mod Plains
 pub mod PlainsRefused
-pub mod QuotedBodies
-pub mod QuotedContents
+pub mod QuotedCuts
 pub mod QuotedElements
 pub mod QuotedLines
 pub mod QuotedReasons

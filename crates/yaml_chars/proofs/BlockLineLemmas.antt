@@ -34,13 +34,7 @@ pub simple_none : (bs : List ℕ) → AreSimpleUpTo bs 0
 simple_none bs = record { within = omega arith; inner = λ k h. absurd (omega (arith, h)) }
 
 pub simple_more : (bs : List ℕ) (n : ℕ) → AreSimpleUpTo bs n → n < length bs → is_simple (slice_index bs n) ≡ true → AreSimpleUpTo bs (n + 1)
-simple_more bs n so h goes = record {
-  within = omega (arith, h);
-  inner = λ k l. elim (cases_lt k n) [
-    | inl before ↦ so.inner k before
-    | inr last ↦ let here : n ≡ k = omega (arith, l, last) in subst (λ i. is_simple (slice_index bs i) ≡ true) here goes
-  ];
-}
+simple_more bs n so h goes = grind arith
 
 pub simple_further : (bs : List ℕ) (at n : ℕ) → AreSimpleUpTo bs at → at + 16 < length bs → n ≤ 16 → ((k : ℕ) → k < n → halts_simple (slice_index bs (at + k)) ≡ false) → AreSimpleUpTo bs (at + n)
 simple_further bs at n so room few go = record {
@@ -163,20 +157,15 @@ plain_part (Node limit) held bs n spaces (inl e) = plain_key_part held bs n spac
 plain_part (Node limit) held bs n spaces (inr e) = plain_line 0 limit held bs n spaces e
 
 pub text_part : (part : LineKind) (held bs : List ℕ) (n spaces : ℕ) → Ends part held bs n spaces → IsTextUpTo held (begin part) bs n
-text_part Key held bs n spaces e = e.0.text
-text_part (Value limit) held bs n spaces e = e.1.text
-text_part (Node limit) held bs n spaces (inl e) = e.0.text
-text_part (Node limit) held bs n spaces (inr e) = e.text
+text_part a held bs n b e = grind arith
 
 -- a node with no line feed after its text is a key
 pub node_key : (limit : ℕ) (held bs : List ℕ) (n spaces : ℕ) → Ends (Node limit) held bs n spaces → (slice_index bs n == 10) ≡ false → EndsKey held bs n × (spaces ≡ 0)
-node_key limit held bs n spaces (inl e) other = e
-node_key limit held bs n spaces (inr e) other = absurd (let lf = e.lf in grind (arith, nat_tests))
+node_key limit held bs n a b d = grind arith
 
 -- and one with a line feed there is none
 pub node_line : (limit : ℕ) (held bs : List ℕ) (n spaces : ℕ) → Ends (Node limit) held bs n spaces → (slice_index bs n == 10) ≡ true → EndsLine 0 limit held bs n spaces
-node_line limit held bs n spaces (inl e) lf = absurd (let colon = e.0.colon in grind (arith, nat_tests))
-node_line limit held bs n spaces (inr e) lf = e
+node_line limit held bs n a b d = grind arith
 
 pub plain_front : (bs : List ℕ) (m n : ℕ) → ArePlain bs n → m ≤ n → ArePlain bs m
 plain_front bs m n e h = record { within = omega (arith, e.within, h); plain = λ k l. e.plain k (omega (arith, h, l)) }
@@ -306,8 +295,7 @@ indented_after bs b i (suc spaces) within blank =
     ∙ append_assoc (take i bs) (32 ∷ []) (indented spaces b)
 
 head_again : (xs : List ℕ) (c : ℕ) → 0 < length xs → slice_index xs 0 ≡ c → xs ≡ c ∷ drop 1 xs
-head_again [] c some e = absurd (omega (arith, some))
-head_again (x ∷ xs) c some e = ap (λ y. y ∷ xs) e
+head_again a c b e = grind arith
 
 -- ---- a key
 

@@ -67,10 +67,7 @@ firsts_chars bs u = ap (count_by is_first_byte) (sym (encodes-chars bs u)) ∙ f
 
 -- counted in two parts
 count_more : (p : ℕ → Bool) (xs : List ℕ) (at n : ℕ) → count_by p (take (at + n) xs) ≡ count_by p (take at xs) + count_by p (take n (drop at xs))
-count_more p xs zero n =
-    let same : zero + n ≡ n = omega arith in
-    let sum : count_by p (take n xs) ≡ 0 + count_by p (take n xs) = omega arith in
-    ap (λ k. count_by p (take k xs)) same ∙ sum
+count_more p xs zero n = grind arith
 count_more p [] (suc at) n =
     let all : count_by p (take {A = ℕ} (suc at + n) []) ≡ 0 = ap (count_by p) (take_nil (suc at + n)) in
     let rest : count_by p (take {A = ℕ} n []) ≡ 0 = ap (count_by p) (take_nil n) in

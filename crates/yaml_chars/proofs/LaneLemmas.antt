@@ -10,24 +10,16 @@ abbrev pub lane : Bool → ℕ
 lane b = cond b 255 0
 
 or_lanes : (a b : Bool) → bit_or (lane a) (lane b) ≡ lane (a || b)
-or_lanes true true = refl
-or_lanes true false = refl
-or_lanes false true = refl
-or_lanes false false = refl
+or_lanes d e = grind arith
 
 and_lanes : (a b : Bool) → bit_and (lane a) (lane b) ≡ lane (a && b)
-and_lanes true true = refl
-and_lanes true false = refl
-and_lanes false true = refl
-and_lanes false false = refl
+and_lanes d e = grind arith
 
 top_lane : (b : Bool) → top 7 (lane b) ≡ b
-top_lane true = refl
-top_lane false = refl
+top_lane a = grind arith
 
 not_false : (b : Bool) → not b ≡ true → b ≡ false
-not_false true h = sym h
-not_false false h = refl
+not_false a h = grind arith
 
 first_set : (m : ℕ) → m ≢ 0 → cond (eqb m 0) 16 (count_trailing_zeros 64 m) ≡ count_trailing_zeros 64 m
 first_set m some = let apart : eqb m 0 ≡ false = grind (arith, nat_tests) in rw apart refl

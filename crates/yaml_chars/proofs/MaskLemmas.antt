@@ -44,27 +44,21 @@ same true b = b
 same false b = not b
 
 pub same_is : (a b : Bool) → T (same a b) → a ≡ b
-same_is true true h = refl
-same_is false false h = refl
-same_is true false h = absurd h
-same_is false true h = absurd h
+same_is d e h = grind arith
 
 abbrev pub all_upto : (ℕ → Bool) → ℕ → Bool
 all_upto p zero = true
 all_upto p (suc n) = p n && all_upto p n
 
 both : (a b : Bool) → T (a && b) → T a × T b
-both true b h = (tt, h)
-both false b h = absurd h
+both d b h = grind arith
 
 pub each_upto : (p : ℕ → Bool) (n : ℕ) → T (all_upto p n) → (i : ℕ) → i < n → T (p i)
 each_upto p zero h i lt = absurd (not-suc-le-zero lt)
 each_upto p (suc n) h i lt = go (each_upto p n (both (p n) (all_upto p n) h).1 i) (cases_order i n)
   where
     go : (i < n → T (p i)) → (i ≡ n) ⊎ ((i < n) ⊎ (n < i)) → T (p i)
-    go before (inl e) = subst (λ x. T (p x)) (sym e) (both (p n) (all_upto p n) h).0
-    go before (inr (inl l)) = before l
-    go before (inr (inr g)) = let no : ⊥ = omega arith in absurd no
+    go before a = grind arith
 
 each_byte : (f : ℕ → ℕ) (p : ℕ → Bool) → T (all_upto (λ x. same (top 7 (f x)) (p x)) 256) → (v : List ℕ) → Each1 (Fits w8) v → map (top 7) (map f v) ≡ map p v
 each_byte f p all [] fits = refl
@@ -79,8 +73,7 @@ masked f p v z short fits e all =
 -- ---- a run of bytes that fail the test, a block at a time
 
 none_fails : (b : Bool) (n l m : ℕ) → n ≤ l → cond (not b) (1 + n) 0 ≡ 1 + l → (n ≡ l → m ≡ 0) → cond b 1 0 + 2 * m ≡ 0
-none_fails true n l m le e ih = let no : ⊥ = omega arith in absurd no
-none_fails false n l m le e ih = let z = ih (omega arith) in omega arith
+none_fails a n l m le e ih = grind (arith, no)
 
 module _ (p : ℕ → Bool) where
   abbrev passes : ℕ → Bool
@@ -111,23 +104,9 @@ module _ (p : ℕ → Bool) where
   pub run_from : (d : List ℕ) (i : ℕ) → i ≤ prefix_len passes d → prefix_len passes d ≡ i + prefix_len passes (drop i d)
   run_from d zero h = omega arith
   run_from [] (suc i) h = absurd (not-suc-le-zero h)
-  run_from (x ∷ xs) (suc i) h = by (passes x) h (run_from xs i)
-    where
-      by : (b : Bool) → suc i ≤ cond b (1 + prefix_len passes xs) 0 → (i ≤ prefix_len passes xs → prefix_len passes xs ≡ i + prefix_len passes (drop i xs)) → cond b (1 + prefix_len passes xs) 0 ≡ suc i + prefix_len passes (drop i xs)
-      by true le before = omega (arith, before (omega arith))
-      by false le before = absurd (not-suc-le-zero le)
+  run_from (x ∷ xs) (suc i) h = grind (arith, run_from xs i)
 
   -- so is whether a byte passes the test
   pub run_ends : (xs : List ℕ) → ltb (prefix_len passes xs) (length xs) ≡ list_any p xs
   run_ends [] = refl
-  run_ends (x ∷ xs) = by (p x) (run_ends xs)
-    where
-      some : (m : ℕ) → ltb 0 (suc m) ≡ true
-      some m = grind (arith, nat_tests)
-
-      sooner : (n m : ℕ) → ltb (1 + n) (suc m) ≡ ltb n m
-      sooner n m = grind (arith, nat_tests)
-
-      by : (b : Bool) → ltb (prefix_len passes xs) (length xs) ≡ list_any p xs → ltb (cond (not b) (1 + prefix_len passes xs) 0) (suc (length xs)) ≡ (b || list_any p xs)
-      by true e = some (length xs)
-      by false e = sooner (prefix_len passes xs) (length xs) ∙ e
+  run_ends (x ∷ xs) = grind (arith, run_ends xs)

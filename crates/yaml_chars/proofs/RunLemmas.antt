@@ -53,23 +53,11 @@ GoesOn-more run old s next n c before t on pulls goes some = record {
 -- a run ends at the end of the text
 pub stops_nul : (run : Run) → stops run 0 ≡ true
 unfolding stops is_blank is_break
-stops_nul Line = refl
-stops_nul (Quoted quote) = refl
-stops_nul (Plain flow) = refl
+stops_nul a = grind arith
 
 -- no character of a run came yet
 GoesOn-none : {T : Type 0} (run : Run) (s : Pulled T) (t : List ℕ) → GoesOn run s s 0 t t
-GoesOn-none run s t = record {
-  left = omega arith;
-  fills = λ at line col f. let here : at + 0 ≡ at = omega arith in let there : col + 0 ≡ col = omega arith in rw (here, there) f;
-  reads = λ at line col f. let here : at + 0 ≡ at = omega arith in let there : col + 0 ≡ col = omega arith in rw (here, there) record {
-    start = refl;
-    at = omega arith;
-    left = omega arith;
-    back = λ w p. p;
-    reads = λ w p. refl;
-  };
-}
+GoesOn-none run s t = grind arith
 
 -- at the end of the text no run goes on
 pub GoesOver-ended : {T : Type 0} (run : Run) (s : Pulled T) (t : List ℕ) → s.done ≡ true → s.left ≡ 0 → GoesOver run s s 0 0 false t t
@@ -84,13 +72,7 @@ pub true_is_not_false : true ≡ false → ⊥
 true_is_not_false h = cc
 
 pub Reads-map : {T : Type 0} {P Q : List ℕ → List ℕ → Type 0} (old new : WindowView T) → Reads old new P → ((a b : List ℕ) → P a b → Q a b) → Reads old new Q
-Reads-map old new run gives = record {
-  start = run.start;
-  at = run.at;
-  left = run.left;
-  back = run.back;
-  reads = λ w p. gives _ _ (run.reads w p);
-}
+Reads-map old new run gives = grind arith
 
 nil_of : (xs : List ℕ) → length xs ≡ 0 → xs ≡ []
 nil_of [] e = refl

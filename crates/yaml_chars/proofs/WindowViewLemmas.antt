@@ -32,15 +32,11 @@ Possible-back old new c w going more p = record {
 -- nothing came, and now that is known
 pub Possible-at_end : {T : Type 0} (old new : WindowView T) (w : List ℕ)
     → new.taken ≡ old.taken → new.done ≡ true → Possible new w → Possible old w
-Possible-at_end old new w same ended p = record {
-  begins = rw same at p.begins;
-  ends = λ h. p.ends ended ∙ same;
-}
+Possible-at_end old new w same ended p = grind arith
 
 -- the window reaches the end of what was taken
 not_before : (done : Bool) (n m : ℕ) → (done ≡ true → n ≤ m) → (done ≡ false → m ≡ n) → n ≤ m
-not_before true n m ended going = ended refl
-not_before false n m ended going = omega (arith, going refl)
+not_before a n m b going = grind arith
 
 -- one more position of the window
 pub Fills-more : {T : Type 0} (source : Pulled T) (ring : List ℕ) (at line col c : ℕ) (next : Pulled T)
@@ -151,13 +147,7 @@ left-less old new reads shorter =
 -- one after the other
 pub Reads-then : {T : Type 0} {P Q R : List ℕ → List ℕ → Type 0} (old mid new : WindowView T)
     → Reads old mid P → Reads mid new Q → ((a b c : List ℕ) → P a b → Q b c → R a c) → Reads old new R
-Reads-then old mid new first second both = record {
-  start = second.start ∙ first.start;
-  at = omega (arith, first.at, second.at);
-  left = omega (arith, first.left, second.left);
-  back = λ w p. first.back w (second.back w p);
-  reads = λ w p. both _ _ _ (first.reads w (second.back w p)) (second.reads w p);
-}
+Reads-then old mid new first second both = grind arith
 
 -- a whole run, from a window on which nothing was read yet
 pub IsText-from_Reads : {T : Type 0} {P : List ℕ → List ℕ → Type 0} (steps : T → Option ℕ → T → Type 0) (it : T) (old new : WindowView T)
@@ -170,24 +160,12 @@ IsText-from_Reads {P = P} steps it old new start at reads came no_nul done =
 pub Begins-from_Reads : {T : Type 0} {P : List ℕ → List ℕ → Type 0} {Q : List ℕ → Type 0} (steps : T → Option ℕ → T → Type 0) (it : T) (old new : WindowView T)
     → old.start ≡ it → old.at ≡ 0 → Reads old new P → CameFrom steps new.start new.taken new.done → HasNoNul new.taken
     → ((a b : List ℕ) → P a b → Q a) → BeginsText steps it Q
-Begins-from_Reads steps it old new start at reads came no_nul holds = record {
-  taken = new.taken;
-  done = new.done;
-  came = rw (← start, ← reads.start) came;
-  no_nul = no_nul;
-  holds = λ w begins ends. holds w _ (rw at at (reads.reads w record { begins = begins; ends = ends }));
-}
+Begins-from_Reads steps it old new start at reads came no_nul holds = grind arith
 
 -- with what is seen after it
 pub Reads-see : {T : Type 0} {P R : List ℕ → List ℕ → Type 0} {Q : List ℕ → Type 0} (old new : WindowView T)
     → Reads old new P → Sees new Q → ((a b : List ℕ) → P a b → Q b → R a b) → Reads old new R
-Reads-see old new run sight both = record {
-  start = run.start;
-  at = run.at;
-  left = run.left;
-  back = run.back;
-  reads = λ w p. both _ _ (run.reads w p) (sight.sees w p);
-}
+Reads-see old new run sight both = grind arith
 
 pub Sees-both : {T : Type 0} {P Q : List ℕ → Type 0} (s : WindowView T) → Sees s P → Sees s Q → Sees s (λ a. P a × Q a)
 Sees-both s p q = record { sees = λ w h. (p.sees w h, q.sees w h) }
@@ -195,10 +173,4 @@ Sees-both s p q = record { sees = λ w h. (p.sees w h, q.sees w h) }
 -- with what was seen before it
 pub Reads-saw : {T : Type 0} {P R : List ℕ → List ℕ → Type 0} {Q : List ℕ → Type 0} (old new : WindowView T)
     → Sees old Q → Reads old new P → ((a b : List ℕ) → Q a → P a b → R a b) → Reads old new R
-Reads-saw old new sight run both = record {
-  start = run.start;
-  at = run.at;
-  left = run.left;
-  back = run.back;
-  reads = λ w p. both _ _ (sight.sees w (run.back w p)) (run.reads w p);
-}
+Reads-saw old new sight run both = grind arith

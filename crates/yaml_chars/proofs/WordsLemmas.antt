@@ -8,11 +8,7 @@ use lib.Utf8.{encode, encodes}
 -- a byte is of the run, where it ends no run as a character, and no character outside ASCII does
 pub byte_goes : (run : Run) (b : ℕ) → stops_beyond run ≡ false → stops run b ≡ false → stops_byte run b ≡ false
 unfolding stops_byte
-byte_goes run b beyond goes = by (nat_lt b 128)
-  where
-    by : (x : Bool) → cond x (stops run b) (stops_beyond run) ≡ false
-    by true = goes
-    by false = beyond
+byte_goes run b beyond goes = grind arith
 
 byte_goes_low : (run : Run) (b : ℕ) → b < 128 → stops run b ≡ false → stops_byte run b ≡ false
 unfolding stops_byte
@@ -20,11 +16,7 @@ byte_goes_low run b low goes = let h : nat_lt b 128 ≡ true = grind (arith, nat
 
 pub byte_begins : (run : Run) (b : ℕ) → stops_beyond run ≡ false → begins_word run b ≡ true → begins_byte run b ≡ true
 unfolding begins_byte
-byte_begins run b beyond begins = by (nat_lt b 128)
-  where
-    by : (x : Bool) → cond x (begins_word run b) (not (stops_beyond run)) ≡ true
-    by true = begins
-    by false = rw beyond refl
+byte_begins run b beyond begins = grind arith
 
 -- the byte of an ASCII character
 pub stops_low : (run : Run) (b : ℕ) → b < 128 → stops_byte run b ≡ false → stops run b ≡ false
@@ -37,11 +29,7 @@ begins_low run b low h = let e : nat_lt b 128 ≡ true = grind (arith, nat_tests
 
 pub begins_high : (run : Run) (b : ℕ) → 128 ≤ b → begins_byte run b ≡ true → stops_beyond run ≡ false
 unfolding begins_byte
-begins_high run b high h = let e : nat_lt b 128 ≡ false = grind (arith, nat_tests) in not_true _ (rw e at h)
-  where
-    not_true : (x : Bool) → not x ≡ true → x ≡ false
-    not_true true h = sym h
-    not_true false h = refl
+begins_high run b high h = grind arith
 
 begins_beyond : (run : Run) (b : ℕ) → stops_beyond run ≡ false → 128 ≤ b → begins_byte run b ≡ true
 unfolding begins_byte
@@ -74,19 +62,11 @@ ordinary_in_plain flow b h e f = byte_goes (Plain flow) b refl (grind (arith, na
 
 pub begins_in_line : (b : ℕ) → stops_byte Line b ≡ false → begins_byte Line b ≡ true
 unfolding begins_byte begins_word stops_byte
-begins_in_line b h = by (nat_lt b 128) h
-  where
-    by : (x : Bool) → cond x (stops Line b) false ≡ false → cond x (not (stops Line b)) true ≡ true
-    by true g = rw g refl
-    by false g = refl
+begins_in_line b h = grind arith
 
 pub begins_in_quotes : (quote b : ℕ) → stops_byte (Quoted quote) b ≡ false → begins_byte (Quoted quote) b ≡ true
 unfolding begins_byte begins_word stops_byte
-begins_in_quotes quote b h = by (nat_lt b 128) h
-  where
-    by : (x : Bool) → cond x (stops (Quoted quote) b) (not (nat_lt quote 128)) ≡ false → cond x (not (stops (Quoted quote) b)) (not (not (nat_lt quote 128))) ≡ true
-    by true g = rw g refl
-    by false g = rw g refl
+begins_in_quotes quote b h = grind arith
 
 begins_of_plain : (flow : Bool) (b : ℕ) → stops (Plain true) b ≡ false → b ≢ 35 → b ≢ 45 → begins_word (Plain flow) b ≡ true
 unfolding begins_word stops is_break is_blank is_flow
@@ -99,8 +79,7 @@ begins_in_plain flow b h e f = elim (cases_lt b 128) [
 ]
 
 pub not_out : (x : Bool) → not x ≡ false → x ≡ true
-not_out true h = refl
-not_out false h = sym h
+not_out a h = grind arith
 
 pub flow_low : (b : ℕ) → is_flow b ≡ true → b < 128
 unfolding is_flow
@@ -108,10 +87,7 @@ flow_low b h = grind (arith, nat_tests)
 
 pub begins_goes : (run : Run) (b : ℕ) → begins_word run b ≡ true → stops run b ≡ false
 unfolding begins_word stops is_break is_blank is_flow
-begins_goes Line b h = grind (arith, nat_tests)
-begins_goes (Quoted quote) b h = grind (arith, nat_tests)
-begins_goes (Plain true) b h = grind (arith, nat_tests)
-begins_goes (Plain false) b h = grind (arith, nat_tests)
+begins_goes a b h = grind arith
 
 -- what a word begins with does not end it
 pub byte_begins_goes : (run : Run) (b : ℕ) → begins_byte run b ≡ true → stops_byte run b ≡ false
@@ -163,8 +139,7 @@ goes_in_words : (run : Run) (c d : ℕ) → stops_byte run c ≡ false → is_wo
 goes_in_words run c d h = rw h refl
 
 or_true : (b : Bool) → (b || true) ≡ true
-or_true true = refl
-or_true false = refl
+or_true a = grind arith
 
 blank_word : (run : Run) (c d : ℕ) → is_blank c ≡ true → begins_word run d ≡ true → is_in_words run c d ≡ true
 blank_word run c d e h = rw (e, h) (or_true (not (stops run c)))
@@ -187,15 +162,7 @@ ascii_of bs n low = by n bs (λ k h. low k (omega arith) h)
 -- a byte of words goes on, or is a blank
 word_byte_low : (run : Run) (b d : ℕ) → stops_beyond run ≡ true → is_word_byte run b d ≡ true → b < 128
 unfolding stops_byte is_blank
-word_byte_low run b d beyond h = elim (cases_lt b 128) [
-  | inl low ↦ low
-  | inr high ↦
-      let e : nat_lt b 128 ≡ false = grind (arith, nat_tests) in
-      let tab : (b == 9) ≡ false = grind (arith, nat_tests) in
-      let space : (b == 32) ≡ false = grind (arith, nat_tests) in
-      let g : false ≡ true = rw (e, beyond, tab, space) at h in
-      absurd (true_is_not_false (sym g))
-]
+word_byte_low run b d beyond h = grind arith
 
 -- where words end, the text may be cut
 pub boundary_of : (run : Run) (bs : List ℕ) (n : ℕ) → IsUtf8 bs → AreWordsUpTo run bs n → EndsAtAscii run bs n → IsCharBoundary bs n
@@ -251,21 +218,11 @@ lead_high c rest high = elim (cases_lt (slice_index (encode c ++ rest) 0) 128) [
 
 goes_high : (run : Run) (c : ℕ) → 128 ≤ c → stops_beyond run ≡ false → stops run c ≡ false
 unfolding stops is_break is_blank is_flow
-goes_high Line c high h = grind (arith, nat_tests)
-goes_high (Quoted quote) c high h =
-    let low : quote < 128 = grind (arith, nat_tests) in
-    let apart : c ≢ quote = omega (arith, low, high) in
-    grind (arith, nat_tests)
-goes_high (Plain flow) c high h = grind (arith, nat_tests)
+goes_high a c b h = grind arith
 
 begins_of_high : (run : Run) (c : ℕ) → 128 ≤ c → stops_beyond run ≡ false → begins_word run c ≡ true
 unfolding begins_word stops is_break is_blank is_flow
-begins_of_high Line c high h = grind (arith, nat_tests)
-begins_of_high (Quoted quote) c high h =
-    let low : quote < 128 = grind (arith, nat_tests) in
-    let apart : c ≢ quote = omega (arith, low, high) in
-    grind (arith, nat_tests)
-begins_of_high (Plain flow) c high h = grind (arith, nat_tests)
+begins_of_high a c b h = grind arith
 
 -- a blank that goes on in bytes goes on in characters
 blank_of_bytes : (run : Run) (cs : List ℕ) → begins_byte run (slice_index (encodes cs) 0) ≡ true → begins_word run (slice_index cs 0) ≡ true
@@ -305,8 +262,7 @@ chars_of_bytes run (c ∷ cs) h =
     rw (in_words_of run c cs (first_of (encode c ++ encodes cs) (omega (arith, length-append (encode c) (encodes cs), length-encode c, (len_utf8_bounds c).0)) h)) (chars_of_bytes run cs (bytes_after run (encode c) (encodes cs) h))
   where
     first_of : (bs : List ℕ) → 0 < length bs → are_word_bytes run bs ≡ true → is_word_byte run (slice_index bs 0) (slice_index (drop 1 bs) 0) ≡ true
-    first_of [] some g = absurd (omega (arith, some))
-    first_of (b ∷ bs) some g = (and_parts (is_word_byte run b (slice_index bs 0)) _ g).0
+    first_of a b g = grind arith
 
 -- the characters of the first bytes are words
 pub words_of : (run : Run) (bs : List ℕ) (n : ℕ) → IsUtf8 bs → AreWordsUpTo run bs n → EndsAtAscii run bs n → are_words run (chars (take n bs)) ≡ true
@@ -349,10 +305,7 @@ words_more run bs n to words h blank begins w = record {
 
 -- a lone blank and the byte after it are ASCII too
 pub ascii_word : (bs : List ℕ) (n to : ℕ) → AreAscii bs 0 n → slice_index bs n ≡ 32 → slice_index bs (n + 1) < 128 → AreAscii bs (n + 2) to → AreAscii bs 0 to
-ascii_word bs n to low blank next more =
-    let one : AreAscii bs 0 (n + 1) = ascii_more bs 0 n low (rw blank (omega arith)) in
-    let same : n + 1 + 1 ≡ n + 2 = omega arith in
-    ascii_further bs 0 (n + 2) to (subst (AreAscii bs 0) same (ascii_more bs 0 (n + 1) one next)) more
+ascii_word bs n to low blank next more = grind arith
 
 -- ---- sixteen bytes at a time
 
@@ -364,9 +317,7 @@ abbrev IsFirst : ℕ → Type 0
 IsFirst d = (47 < d) × (d ≢ 58) × (d ≢ 91) × (d ≢ 92) × (d ≢ 93) × (d ≢ 123) × (d ≢ 125)
 
 halts_after : (first second c d : ℕ) → halts first second (c, d) ≡ false → c ≡ 32 → IsFirst d
-halts_after first second c d h blank =
-    let g = rw blank at h in
-    (grind (arith, nat_tests), grind (arith, nat_tests), grind (arith, nat_tests), grind (arith, nat_tests), grind (arith, nat_tests), grind (arith, nat_tests), grind (arith, nat_tests))
+halts_after first second c d h blank = grind arith
 
 plain_first : (d : ℕ) → IsFirst d → begins_word (Plain false) d ≡ true
 unfolding begins_word stops is_break is_blank is_flow
@@ -409,9 +360,7 @@ blank_in_line c h = grind (arith, nat_tests)
 -- only where a run goes up to the line's end, a blank goes on before a blank
 blank_before : (run : Run) (c : ℕ) → is_blank c ≡ true → begins_byte run 32 ≡ true → stops_byte run c ≡ false
 unfolding begins_byte begins_word stops is_break is_blank
-blank_before Line c h g = byte_goes Line c refl (blank_in_line c h)
-blank_before (Quoted quote) c h g = absurd (true_is_not_false (sym g))
-blank_before (Plain flow) c h g = absurd (true_is_not_false (sym g))
+blank_before a c h g = grind (arith, byte_goes, blank_in_line)
 
 lane_in_words : (run : Run) (bs : List ℕ) (at n : ℕ) → LanesGo run bs at n → (j : ℕ) → at ≤ j → j < at + n → is_word_byte run (slice_index bs j) (slice_index bs (j + 1)) ≡ true
 lane_in_words run bs at n go j a b =
@@ -464,34 +413,15 @@ pub words_none : (run : Run) (bs : List ℕ) → AreWordsUpTo run bs 0
 words_none run bs = record { within = omega arith; inner = λ k h. absurd (omega (arith, h)); last = λ k h. absurd (omega (arith, h)) }
 
 pub words_further : (run : Run) (bs : List ℕ) (n to : ℕ) → AreWordsUpTo run bs n → AreWordsBetween run bs n to → AreWordsUpTo run bs to
-words_further run bs n to words more = record {
-  within = more.within;
-  inner = λ k h. elim (cases_lt (k + 1) n) [
-    | inl before ↦ words.inner k before
-    | inr later ↦ elim (cases_lt k n) [
-      | inl last ↦ goes_in_words run _ _ (words.last k (omega arith))
-      | inr after ↦ more.inner k (omega arith) h
-    ]
-  ];
-  last = λ k h. elim (cases_lt k n) [
-    | inl before ↦ let same : k + 1 ≡ n = omega (arith, more.after, h) in words.last k same
-    | inr after ↦ more.last k (omega arith) h
-  ];
-}
+words_further run bs n to words more = grind arith
 
 pub word_further : (run : Run) (bs : List ℕ) (n to : ℕ) → AreWordsUpTo run bs n → IsWordBetween run bs n to → AreWordsUpTo run bs to
-word_further run bs n to words w = words_further run bs n to words record {
-  after = w.after;
-  within = w.within;
-  inner = λ k a b. goes_in_words run _ _ (w.inner k a (omega (arith, b)));
-  last = λ k a b. w.inner k a (omega (arith, b));
-}
+word_further run bs n to words w = grind arith
 
 -- ---- whether a byte outside ASCII was met
 
 pub or_parts : (x y : Bool) → (x || y) ≡ false → (x ≡ false) × (y ≡ false)
-or_parts false y h = (refl, h)
-or_parts true y h = absurd (true_is_not_false h)
+or_parts a y h = grind arith
 
 pub blocks_ascii : (x y : Bool) (bs : List ℕ) (at n : ℕ) → (x ≡ false → AreAscii bs 0 at) → (y ≡ false → (k : ℕ) → k < 16 → slice_index bs (at + k) < 128) → n ≤ 16 → (x || y) ≡ false → AreAscii bs 0 (at + n)
 blocks_ascii x y bs at n before here few h k a b =
@@ -536,9 +466,7 @@ Stands-on can steps left start taken done iter part next stands going step ready
 -- no character of words is a NUL
 words_some : (run : Run) (c d : ℕ) → is_in_words run c d ≡ true → c ≢ 0
 unfolding stops is_break is_blank
-words_some Line c d h e = let g = rw e at h in cc
-words_some (Quoted quote) c d h e = let g = rw e at h in cc
-words_some (Plain flow) c d h e = let g = rw e at h in cc
+words_some a c d h e = grind arith
 
 words_no_nul : (run : Run) (cs : List ℕ) → are_words run cs ≡ true → HasNoNul cs
 words_no_nul run [] h k l = absurd (omega (arith, l))
@@ -621,9 +549,7 @@ module _ {T : Type 0} (run : Run) (s : Pulled T) (ring : List ℕ) (at line col 
 -- a character that no blank may follow may stand before any
 last_in_words : (run : Run) (c d : ℕ) → is_in_words run c 0 ≡ true → is_in_words run c d ≡ true
 unfolding begins_word stops is_break is_blank is_flow
-last_in_words Line c d h = grind (arith, nat_tests)
-last_in_words (Quoted quote) c d h = grind (arith, nat_tests)
-last_in_words (Plain flow) c d h = grind (arith, nat_tests)
+last_in_words a c d h = grind arith
 
 words_append : (run : Run) (xs ys : List ℕ) → are_words run xs ≡ true → are_words run ys ≡ true → are_words run (xs ++ ys) ≡ true
 words_append run [] ys f g = g
@@ -649,10 +575,4 @@ takes_then run a b d p q r t u v x y =
     }
 
 pub takes_one : (run : Run) (c : ℕ) (a b : List ℕ) (p q : Position) (t u : List ℕ) → stops run c ≡ false → a ≡ c ∷ b → q.index ≡ p.index + 1 → q.line ≡ p.line → q.col ≡ p.col + 1 → u ≡ t ++ c ∷ [] → TakesWords run a b p q t u
-takes_one run c a b p q t u goes split index line col text = record {
-  part = c ∷ [];
-  split = split;
-  words = rw goes refl;
-  position = λ i. record { index = index i; line = line i; col = col i };
-  text = text;
-}
+takes_one run c a b p q t u goes split index line col text = grind arith

@@ -76,8 +76,7 @@ pub stopped_there : {W : Type 0} {gives leaves : W → List ℕ → W → Type 0
 stopped_there {v = v} {b = b} l = record { written = l.written; rest = b; at = v; wrote = l.wrote; whole = l.whole; end = inr (tt, refl) }
 
 not_both : (r : Result (Unit {0}) Error) → IsOk r → IsErr r → ⊥
-not_both (Ok x) k e = cc
-not_both (Err x) k e = cc
+not_both a k e = grind arith
 
 module _ {W : Type 0} {c m : Bool} {gives leaves : W → List ℕ → W → Type 0} {w v : W} {text : List ℕ} {weight : ℕ} {fit : Type 0} {rests : List Rest} {r : Result (Unit {0}) Error} where
   -- it has written a part

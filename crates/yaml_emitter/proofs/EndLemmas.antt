@@ -6,8 +6,7 @@ use Rattle.yaml_emitter.proofs.Common.{[], ap, arith, begins_with, Bool, bytes_e
 use Rattle.yaml_emitter.proofs.TextLemmas.{low_at, low_chars}
 
 false_if : (b : Bool) → (b ≡ true → ⊥) → false ≡ b
-false_if true n = absurd (n refl)
-false_if false n = refl
+false_if a n = grind arith
 
 pub take_front : (w t : List ℕ) → take (length w) (w ++ t) ≡ w
 take_front [] t = refl
@@ -59,8 +58,7 @@ ends_otherwise w s h u lacks = false_if (ends_with nat_eq (chars s) w) (λ e.
 
 -- what `str::starts_with` and `str::ends_with` answer
 pub begins_by : (w s : List ℕ) (b : Bool) → is_low w ≡ true → IsUtf8 s → MatchBool b (HasPrefixMatch (FindsTextPrefix w) s) (FindsTextPrefix w s None) → b ≡ begins_with w (chars s)
-begins_by w s true h u m = begins_so w s _ h m.1.1
-begins_by w s false h u m = begins_otherwise w s h u m
+begins_by w s a h u m = grind (arith, begins_so, begins_otherwise)
 
 pub ends_by : (w s : List ℕ) (b : Bool) → is_low w ≡ true → IsUtf8 s → MatchBool b (HasSuffixMatch (FindsTextSuffix w) s) (FindsTextSuffix w s None) → b ≡ ends_with nat_eq (chars s) w
 ends_by w s true h u m = ends_so w s _ h (IsUtf8-take s _ u m.3) m.1.1

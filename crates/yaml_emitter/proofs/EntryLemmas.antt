@@ -42,12 +42,10 @@ pub data HasLines : List (List ℕ) → Type 0 where
   lines : (l : List ℕ) (ls : List (List ℕ)) → HasLines (l ∷ ls)
 
 if_none_lines : (text : List ℕ) (ls : List (List ℕ)) → HasLines (if_none text ls)
-if_none_lines text [] = lines text []
-if_none_lines text (l ∷ ls) = lines l ls
+if_none_lines a b = grind (arith, lines)
 
 string_lines : (b : Bool) (l m : List ℕ) (ls : List (List ℕ)) → HasLines (if b then l ∷ ls else m ∷ [])
-string_lines true l m ls = lines l ls
-string_lines false l m ls = lines m []
+string_lines a l m ls = grind (arith, lines)
 
 pub box_lines : (compact multiline at_root : Bool) (t : Tree) → HasLines (box compact multiline at_root t)
 box_lines c m r (string s) = string_lines _ _ _ _

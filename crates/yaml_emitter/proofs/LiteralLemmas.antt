@@ -11,37 +11,21 @@ drop_front [] t = refl
 drop_front (c ∷ w) t = drop_front w t
 
 onto_first : (c : ℕ) (ls : List (List ℕ)) → first_full_line_is_indented (onto_first_line c ls) ≡ (c == 32)
-onto_first c [] = refl
-onto_first c (l ∷ ls) = refl
+onto_first c a = grind arith
 
 well : (t : List ℕ) → begins_well t ≡ (not (list_all is_line_feed t) && not (first_full_line_is_indented (lines_of t)))
 well [] = refl
-well (c ∷ cs) = by (c == 10) (well cs)
-  where
-    by : (b : Bool) → begins_well cs ≡ (not (list_all is_line_feed cs) && not (first_full_line_is_indented (lines_of cs)))
-        → (if b then begins_well cs else not (c == 32))
-        ≡ (not (b && list_all is_line_feed cs) && not (first_full_line_is_indented (if b then [] ∷ lines_of cs else onto_first_line c (lines_of cs))))
-    by true e = e
-    by false e = ap not (sym (onto_first c (lines_of cs)))
+well (c ∷ cs) = grind (arith, onto_first, well cs)
 
 regroup : (a b c d e : Bool) → (a && b && c && d && e) ≡ ((a && (b && (c && e))) && d)
-regroup false b c d e = refl
-regroup true false c d e = refl
-regroup true true false d e = refl
-regroup true true true false false = refl
-regroup true true true false true = refl
-regroup true true true true false = refl
-regroup true true true true true = refl
+regroup g b c d e = grind arith
 
 pub literal : (t : List ℕ) → is_literal_text t ≡ (has_clear_lines t && not (ends_with nat_eq t (codes "\n\n")))
 unfolding is_literal_text
-literal t =
-    regroup (list_any is_line_feed t) (list_all is_literal_character t) (not (list_all is_line_feed t)) (not (ends_with nat_eq t (codes "\n\n"))) (not (first_full_line_is_indented (lines_of t)))
-    ∙ ap (λ b. (list_any is_line_feed t && (list_all is_literal_character t && b)) && not (ends_with nat_eq t (codes "\n\n"))) (sym (well t))
+literal t = grind (arith, regroup, codes, well)
 
 grouped : (a b c : Bool) → (a && b && c) ≡ (a && (b && c))
-grouped true b c = refl
-grouped false b c = refl
+grouped d b c = grind arith
 
 pub root_literal : (t : List ℕ) → is_root_literal t ≡ (is_literal_text t && (not (begins_with (codes "\t") t) && not (list_any begins_as_marker (lines_of t))))
 unfolding is_root_literal
@@ -135,8 +119,7 @@ module _ (p : ℕ → Bool) where
   none_pass (x ∷ xs) h = let parts = neither (p x) (list_any p xs) h in (parts.0, none_pass xs parts.1)
     where
       neither : (a b : Bool) → (a || b) ≡ false → (a ≡ false) × (b ≡ false)
-      neither true b e = cc
-      neither false b e = (refl, e)
+      neither d b e = grind arith
 
 abbrev pub runs_on : ℕ → Bool
 runs_on b = not (is_break b)

@@ -10,8 +10,7 @@ last_digit n d h b e = ap (λ x. decimal (n / 10) ++ x ∷ []) e ∙ sym (decima
 
 -- a number that isn't negative
 pub nonnegative : (y z : ℤ) (n : ℕ) → y ≡ z → n ≡ unsigned_abs y → int_le (pos 0) y ≡ true → decimal n ≡ signed_decimal z
-nonnegative (pos m) z n e f h = ap decimal f ∙ ap signed_decimal e
-nonnegative (negsuc m) z n e f h = cc
+nonnegative a z n e f h = grind arith
 
 -- a negative one
 pub negative : (y z : ℤ) (n : ℕ) → y ≡ z → n ≡ unsigned_abs y → int_le (pos 0) y ≡ false → 45 ∷ decimal n ≡ signed_decimal z

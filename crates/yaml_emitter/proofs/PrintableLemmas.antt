@@ -52,5 +52,4 @@ no_feed [] n = refl
 no_feed (c ∷ t) n = (λ i. n.0 i || no_feed t n.1 i)
 
 pub feed_by : (s : List ℕ) (r : Option (Bor (List ℕ) × Bor (List ℕ))) → MatchOption r (IsUnbroken (chars s)) (λ x. IsFirstCut s x.0.now x.1.now) → is_some r ≡ list_any is_line_feed (chars s)
-feed_by s (Some x) m = sym (ap (list_any is_line_feed) m.whole ∙ after_feed (chars x.0.now) (chars x.1.now))
-feed_by s None m = sym (no_feed (chars s) m)
+feed_by s a m = grind (arith, after_feed, chars, no_feed)

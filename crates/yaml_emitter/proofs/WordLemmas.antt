@@ -29,31 +29,19 @@ higher : (c : ℕ) → nat_lt c 65 ≡ false → nat_lt (c + 32) 65 ≡ false
 higher c e = grind (arith, nat_tests)
 
 lower_high : (c : ℕ) (b : Bool) → nat_lt c 65 ≡ false → nat_lt (cond b (c + 32) c) 65 ≡ false
-lower_high c true e = higher c e
-lower_high c false e = e
+lower_high c a e = grind (arith, higher)
 
 same_sign : (c : ℕ) → is_sign (to_ascii_lowercase c) ≡ is_sign c
-same_sign c = by (nat_lt c 65) refl
-  where
-    by : (a : Bool) → nat_lt c 65 ≡ a → is_sign (cond a c (cond (nat_lt c 91) (c + 32) c)) ≡ is_sign c
-    by true e = refl
-    by false e = letter (cond (nat_lt c 91) (c + 32) c) (lower_high c (nat_lt c 91) e) ∙ sym (letter c e)
+same_sign c = grind (arith, letter, lower_high)
 
 below_91 : (c : ℕ) → nat_lt c 91 ≡ true → nat_lt c 128 ≡ true
 below_91 c e = grind (arith, nat_tests)
 
 lowered : (c : ℕ) (a b : Bool) → nat_lt c 65 ≡ a → nat_lt c 91 ≡ b → nat_lt (cond a c (cond b (c + 32) c)) 128 ≡ true → nat_lt c 128 ≡ true
-lowered c true b e f h = h
-lowered c false true e f h = below_91 c f
-lowered c false false e f h = h
+lowered c d b e f h = grind (arith, below_91)
 
 lower_after : (t : List ℕ) → after_one is_sign (map to_ascii_lowercase t) ≡ map to_ascii_lowercase (after_one is_sign t)
-lower_after [] = refl
-lower_after (c ∷ cs) = ap (λ b. if b then map to_ascii_lowercase cs else map to_ascii_lowercase (c ∷ cs)) (same_sign c) ∙ by (is_sign c)
-  where
-    by : (b : Bool) → (if b then map to_ascii_lowercase cs else map to_ascii_lowercase (c ∷ cs)) ≡ map to_ascii_lowercase (if b then cs else c ∷ cs)
-    by true = refl
-    by false = refl
+lower_after a = grind (arith, same_sign)
 
 pub float_word : (t : List ℕ) → is_float_word t ≡ is_among float_names (map to_ascii_lowercase (after_one is_sign t))
 float_word t =
@@ -64,8 +52,7 @@ float_word t =
 -- ---- texts that aren't ASCII
 
 not_true : (b : Bool) → (b ≡ true → ⊥) → b ≡ false
-not_true true n = absurd (n refl)
-not_true false n = refl
+not_true a n = grind arith
 
 not_among : (ws : List (List ℕ)) (t : List ℕ) → list_all low ws ≡ true → Wide t → is_among ws t ≡ false
 not_among [] t h w = refl
@@ -120,14 +107,7 @@ word_of_bytes bs u = ap (λ b. b || not (is_string (typing (chars bs)))) (name_o
 -- ---- the whole test
 
 regroup : (a b c d e f g h : Bool) → ((a || b || c || d || e) || ((f || g) || h)) ≡ (a || b || c || d || e || f || g || h)
-regroup true b c d e f g h = refl
-regroup false true c d e f g h = refl
-regroup false false true d e f g h = refl
-regroup false false false true e f g h = refl
-regroup false false false false true f g h = refl
-regroup false false false false false true g h = refl
-regroup false false false false false false true h = refl
-regroup false false false false false false false h = refl
+regroup i b c d e f g h = grind arith
 
 pub quoted : (t : List ℕ) → is_quoted t ≡ (is_unfit t || is_word t)
 unfolding is_quoted
@@ -216,20 +196,11 @@ tame c e =
     parts8 false b c d e f g h z = cc
 
 no_front : (d c : ℕ) (ds cs : List ℕ) → is_in (d ∷ []) c ≡ false → begins_with (d ∷ ds) (c ∷ cs) ≡ false
-no_front d c ds cs f = not_true _ (λ g.
-    let same : d ∷ ds ≡ take (length (d ∷ ds)) (c ∷ cs) = (bytes_eq-Decides (d ∷ ds) (take (length (d ∷ ds)) (c ∷ cs))).0 g in
-    let e : d ≡ c = cc in
-    grind (arith, nat_tests))
+no_front d c ds cs f = grind (arith, not_true, same, bytes_eq-Decides)
 
 only_two : (e b s i x l r f n : Bool) → e ≡ false → b ≡ false → i ≡ false → x ≡ false → r ≡ false → f ≡ false → n ≡ false
     → (e || (b || s) || i || x || l || r || f || n) ≡ (s || l)
-only_two e b s i x l r f n p q t u v w z = (λ k. p k || (q k || s) || t k || u k || l || v k || w k || z k) ∙ by s l
-  where
-    by : (s l : Bool) → (false || (false || s) || false || false || l || false || false || false) ≡ (s || l)
-    by true true = refl
-    by true false = refl
-    by false true = refl
-    by false false = refl
+only_two e b s i x l r f n p q t u v w z = grind arith
 
 plain_word : (c : ℕ) (cs : List ℕ) → Tame c → is_float_word (c ∷ cs) ≡ false
 plain_word c cs t =

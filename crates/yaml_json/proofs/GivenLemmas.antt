@@ -57,8 +57,7 @@ given_hash ps d v = (subst AreDistinct (sym (same_pairs ps)) d, v)
 -- ---- with no fault
 
 none_first : (s : Step) (o q : Option Fault) → first_of (below s o) q ≡ None → (o ≡ None) × (q ≡ None)
-none_first s None q e = (refl, e)
-none_first s (Some f) q e = cc
+none_first s a q e = grind arith
 
 key_has : (k : Tree) → is_string k ≡ true → IsKeyGiven k → IsKey k
 key_has (string s) e g = g
@@ -72,12 +71,10 @@ key_has null e g = cc
 key_has bad_value e g = cc
 
 real_has : (b : Bool) → (if b then None else here is_no_number) ≡ None → b ≡ true
-real_has true e = refl
-real_has false e = cc
+real_has a e = grind arith
 
 keys_have : (b : Bool) (o : Option Fault) → (if b then o else here has_other_key) ≡ None → (b ≡ true) × (o ≡ None)
-keys_have true o e = (refl, e)
-keys_have false o e = cc
+keys_have a o e = grind arith
 
 mutual
   pub has_json : (t : Tree) → first_fault t ≡ None → IsGiven t → HasJson t

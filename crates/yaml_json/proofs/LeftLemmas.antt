@@ -80,8 +80,7 @@ pub record IsNext (i : Option ℕ) (m : ℕ) (first : Bool) (t : Tree) (before :
   pub same : closing u ≡ closing t
 
 later_items : (i : Option ℕ) (m : ℕ) (ts : Items) → more_items i m ts ≡ items_left false i m ts
-later_items i m no_items = refl
-later_items i m (item t ts) = refl
+later_items i m a = grind arith
 
 item_is_next : (i : Option ℕ) (m : ℕ) (first : Bool) (t : Tree) (ts : Items) → IsNext i m first (array (item t ts)) (before_entry first i m) (Unit {0}) t (array ts)
 item_is_next i m first t ts = record {
@@ -99,8 +98,7 @@ item_next i m first row n q y h is e =
     (item_is_next i m first (view y) (items_of (items_view (drop q row))))
 
 later_members : (i : Option ℕ) (m : ℕ) (ps : Pairs) → more_members i m ps ≡ members_left false i m ps
-later_members i m no_pairs = refl
-later_members i m (pair k v ps) = refl
+later_members i m a = grind arith
 
 -- what stands before a value
 abbrev pub before_value : Bool → Option ℕ → ℕ → Tree → List ℕ

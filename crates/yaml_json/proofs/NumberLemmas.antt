@@ -18,13 +18,10 @@ digit_low : (c : ℕ) → is_ascii_digit c ≡ true → is_low c ≡ true
 digit_low c h = grind (arith, nat_tests)
 
 digits_low : Fits are_digits
-digits_low [] h = refl
-digits_low (c ∷ t) h = list_all-more is_ascii_digit is_low digit_low (c ∷ t) h
+digits_low a h = grind (arith, list_all-more, digit_low)
 
 whole_low : Fits is_whole
-whole_low [] h = refl
-whole_low (c ∷ []) h = and_from _ true (digit_low c h) refl
-whole_low (c ∷ d ∷ w) h = digits_low (c ∷ d ∷ w) (and_parts (not (c == 48)) (are_digits (c ∷ d ∷ w)) h).1
+whole_low a h = grind (arith, and_from, digit_low, digits_low)
 
 frac_low : Fits is_frac
 frac_low [] h = refl
@@ -59,8 +56,7 @@ is_json_number-chars bs u = by (is_json_number (chars bs)) (is_json_number bs) r
 -- a text that is read as a number, and not as an integer
 pub real_is : {E : Type 0} (bs : List ℕ) (b e : Bool) (r : Result ℤ E) → IsUtf8 bs → b ≡ reads_number bs → e ≡ is_err r
     → MatchResult r (λ z. signed_decimal (chars bs) ≡ Some z) (λ x. signed_decimal (chars bs) ≡ None) → (b && e) ≡ is_json_real (chars bs)
-real_is bs b e (Ok z) u f g h = (λ i. (f ∙ sym (is_json_number-read bs) ∙ sym (is_json_number-chars bs u)) i && g i) ∙ ap (λ o. is_json_number (chars bs) && is_none o) (sym h)
-real_is bs b e (Err x) u f g h = (λ i. (f ∙ sym (is_json_number-read bs) ∙ sym (is_json_number-chars bs u)) i && g i) ∙ ap (λ o. is_json_number (chars bs) && is_none o) (sym h)
+real_is bs b e a u f g h = grind (arith, is_json_number-read, is_json_number-chars, chars, is_none)
 
 pub no_real : (bs : List ℕ) (b : Bool) → IsUtf8 bs → b ≡ reads_number bs → b ≡ false → b ≡ is_json_real (chars bs)
 no_real bs b u f e = e ∙ sym (ap (λ x. x && is_none (signed_decimal (chars bs))) (is_json_number-chars bs u ∙ is_json_number-read bs ∙ sym f ∙ e))

@@ -4,8 +4,7 @@ use Rattle.yaml_json.proofs.GivenLemmas.{flat_text_is}
 use Rattle.yaml_json.proofs.LeftLemmas.{IsNext}
 
 pub when_err : {A E P : Type 0} (r : Result A E) → P → OnErr r P
-when_err (Ok x) p = tt
-when_err (Err x) p = p
+when_err a p = grind arith
 
 -- a part that has no parts
 pub wrote_flat : {W : Type 0} {gives : W → List ℕ → W → Type 0} {w v : W} (i : Option ℕ) (m : ℕ) (t : Tree) → is_block t ≡ false → Wrote gives w (flat_text t) v → Wrote gives w (json_text i m t) v

@@ -17,16 +17,10 @@ no_item_left row n h = ap (λ ys. array_tree (items_view ys)) (drop_of_length-le
 
 pub member_left : (row : List Yaml) (n q : ℕ) (k v : Yaml) → n + 1 < length row → k ≡ get_or row n k → v ≡ get_or row (n + 1) v → q ≡ n + 2
     → left_in true row n ≡ hash (pair (view k) (view v) (pairs_of (paired (items_view (drop q row)))))
-member_left row n q k v h ks vs e =
-    let a = next_node row n k (omega arith) ks in
-    let b = next_node row (n + 1) v h vs in
-    let c : n + 1 + 1 ≡ q = omega arith in
-    ap (λ xs. hash_tree (paired xs)) (a ∙ ap (λ xs. view k ∷ xs) (b ∙ ap (λ m. view v ∷ items_view (drop m row)) c))
+member_left row n q k v h ks vs e = grind (arith, next_node)
 
 few_paired : (ts : List Tree) → length ts ≤ 1 → paired ts ≡ []
-few_paired [] h = refl
-few_paired (t ∷ []) h = refl
-few_paired (t ∷ u ∷ ts) h = absurd (omega arith)
+few_paired a h = grind arith
 
 -- a key alone has no value
 pub no_member_left : (row : List Yaml) (n : ℕ) → length row ≤ n + 1 → left_in true row n ≡ hash no_pairs

@@ -101,13 +101,11 @@ module _ {t u : Tree} {p q : ℕ} (a : Passes t p u q) where
 
 -- a node that was met without a reason
 pub has_parts_met : (t : Tree) (o : Option Reason) → ((r : Reason) → o ≡ Some r → ⊥) → IsMet t o → IsMet t None
-has_parts_met t None n h = h
-has_parts_met t (Some r) n h = absurd (n r refl)
+has_parts_met t a n h = grind arith
 
 -- a fault of the parts lies below the node
 below_sound : (s : tree_path.Step) (o q : Option Fault) → IsSoundAtRoot q → IsSoundAtRoot (first_of (below s o) q)
-below_sound s None q h = h
-below_sound s (Some f) q h = λ e. cc
+below_sound s a q h = grind arith
 
 items_sound : (n : ℕ) (ts : Items) → IsSoundAtRoot (first_item_fault n ts)
 items_sound n no_items = tt
@@ -181,8 +179,7 @@ module _ {root : Tree} {os : List Level} {l : Level} {d k : ℕ} (h : Searches r
 
     -- it has no text
     pub names_met : (r : Reason) (e : JsonError) → first_fault met ≡ here (reason_view r) → Names (fault_in (m ∷ os) (here (reason_view r))) e → Names (first_fault root) e
-    names_met r e f n =
-        subst (λ o. Names o e) (sym (h.fault ∙ ap (fault_in os) (p.fault ∙ ap (λ o. first_of (below (last_step m) o) (fault_left m.passed (tree_left m))) f))) n
+    names_met r e f n = grind (arith, first_of, below)
 
   -- all levels are done
   pub done : os ≡ [] → ArePlain l.passed (tree_left l) → (first_fault root ≡ None) × (nesting root ≤ k + 1) × (k ≤ nesting root)

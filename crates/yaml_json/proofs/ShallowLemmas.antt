@@ -5,8 +5,7 @@ use Rattle.yaml_json.specs.Shallow.{is_whole}
 -- ---- one node and the rest
 
 real_same : (b : Bool) → b ≡ not (is_some (if b then None else here is_no_number))
-real_same true = refl
-real_same false = refl
+real_same a = grind arith
 
 item_same : (s : Step) (a b : Bool) (o q : Option Fault) → a ≡ not (is_some o) → b ≡ not (is_some q) → (a && b) ≡ not (is_some (first_of (below s o) q))
 item_same s a b None q h k = ap (λ x. x && b) h ∙ k
@@ -20,8 +19,7 @@ pair_same s true true a b (Some f) q h g = ap (λ x. x && b) h
 pair_same s true false a b (Some f) q h g = ap (λ x. x && b) h
 
 hash_same : (strings : Bool) (o : Option Fault) → (strings && not (is_some o)) ≡ not (is_some (if strings then o else here has_other_key))
-hash_same true o = refl
-hash_same false o = refl
+hash_same a o = grind arith
 
 -- ---- a tree is whole just where it has no fault
 
@@ -49,8 +47,7 @@ mutual
 -- ---- what the answer tells
 
 is_none : (o : Option Fault) → not (is_some o) ≡ true → o ≡ None
-is_none None h = refl
-is_none (Some f) h = cc
+is_none a h = grind arith
 
 pub shallow : (n : ℕ) (t : Tree) → is_shallow n t ≡ true → first_fault t ≡ None
 shallow n t h = is_none (first_fault t) (sym (whole_same t) ∙ (and_parts (is_whole t) (nat_le (nesting t) n) h).0)
@@ -67,10 +64,7 @@ max_within : (a b n : ℕ) → nat_le (max a b) n ≡ (nat_le a n && nat_le b n)
 max_within a b n = grind (arith, nat_tests)
 
 dealt : (a b x y : Bool) → ((a && b) && (x && y)) ≡ ((a && x) && (b && y))
-dealt true true x y = refl
-dealt true false true y = refl
-dealt true false false y = refl
-dealt false b x y = refl
+dealt d b x y = grind arith
 
 pub next_item : (n : ℕ) (t : Tree) (ts : Items) → are_items_shallow n (item t ts) ≡ (is_shallow n t && are_items_shallow n ts)
 next_item n t ts =
@@ -80,12 +74,10 @@ next_item n t ts =
 -- ---- level by level
 
 and_false : (b : Bool) → (b && false) ≡ false
-and_false true = refl
-and_false false = refl
+and_false a = grind arith
 
 and_true : (b : Bool) → (b && true) ≡ b
-and_true true = refl
-and_true false = refl
+and_true a = grind arith
 
 -- a scalar has no level
 pub scalar_within : (b : Bool) (n : ℕ) → (b && nat_le 0 n) ≡ b

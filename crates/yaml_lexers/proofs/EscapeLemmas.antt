@@ -23,8 +23,7 @@ backslash_read old new d breaks here next is state reads =
 -- one digit fewer is left of a code
 pub one_fewer : (single : Bool) (ctx : Context) (start : Position) (left code : ℕ) (a : List ℕ) (p : Position) (t : Folded) → 0 < left
     → digits_from single ctx start left code a p t ≡ digits_from single ctx start (suc (left - 1)) code a p t
-one_fewer single ctx start left code a p t some =
-    let e : left ≡ suc (left - 1) = omega (arith, some) in ap (λ k. digits_from single ctx start k code a p t) e
+one_fewer single ctx start left code a p t some = grind arith
 
 -- at most seven digits of a code, and one more
 pub seven_digits : (code left : ℕ) → code < 16 ^ (8 - left) → 0 < left → code < 268435456

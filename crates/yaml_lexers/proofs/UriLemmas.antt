@@ -25,8 +25,4 @@ more_bits_fit code more left fits some small =
 pub trail_read : (test : ℕ → Bool) (start : Position) (left code least n : ℕ) (a b : List ℕ) (p q : Position) (t : List ℕ) → 0 < left → 128 ≤ n → n < 192
     → ((o : Octet) → uri_from test start a (record { mode = percent o; position = p; text = t }) ≡ octet_from test start o n b q t)
     → trails_from test start left code least a p t ≡ trails_from test start (left - 1) (code * 64 + (n - 128)) least b q t
-trail_read test start left code least n a b p q t some low high reads =
-    let e : left ≡ suc (left - 1) = omega (arith, some) in
-    let above : nat_le 128 n ≡ true = grind (arith, nat_tests) in
-    let below : nat_lt n 192 ≡ true = grind (arith, nat_tests) in
-    ap (λ k. trails_from test start k code least a p t) e ∙ reads (trail (left - 1) code least) ∙ rw (above, below) refl
+trail_read test start left code least n a b p q t some low high reads = grind arith

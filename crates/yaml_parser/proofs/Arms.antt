@@ -1,7 +1,8 @@
 -- The arms of the productions.
-use Rattle.yaml_parser.proofs.Common.{[], answered, Answers, ap, At, BeginAt, Bool, Err, Ev, Event, EventSlot, false, Faulted, Goal, goal_after_event, HasNoText, IfSome, inl, inr, is_end, is_over, is_under, IsAt, IsErrAnd, IsNamed, IsOfKind, IsPastColon, IsPending, Kind, kind_of, last_position, Leaves, List, Names, names_after, names_at, None, Ok, OnErr, Option, option_map, peeked_tok, placed, Position, position_at, Raw, Reader, refl, resolved_event, Result, shown, Skips, Some, State, Stayed, Stop, subst, sym, Takes, Tok, tok_is, tok_of, tok_of_kind, Token, Took, top, true, ◌++◌, ◌∙◌, ◌∷◌, ◌≡◌, ◌≢◌, ◌⊎◌}
+use Rattle.yaml_parser.proofs.Common.{arith, [], BlockMappingKey, fits, answered, Answers, ap, At, BeginAt, Bool, Err, Ev, Event, EventSlot, false, Faulted, Goal, goal_after_event, HasNoText, IfSome, inl, inr, is_end, is_over, is_under, IsAt, IsErrAnd, IsNamed, IsOfKind, IsPastColon, IsPending, Kind, kind_of, last_position, Leaves, List, Names, names_after, names_at, None, Ok, OnErr, Option, option_map, peeked_tok, placed, Position, position_at, Raw, Reader, refl, resolved_event, Result, shown, Skips, Some, State, Stayed, Stop, subst, sym, Takes, Tok, tok_is, tok_of, tok_of_kind, Token, Took, top, true, ◌++◌, ◌∙◌, ◌∷◌, ◌≡◌, ◌≢◌, ◌⊎◌}
 use Rattle.yaml_parser.proofs.Steps.{looked, took, took_on, left, left_on, Named, breaks, if_some_at}
 use Rattle.defs_token.specs.Token as defs
+use Rattle.model_parser.specs.declared.kind.Kind.TheVariants as kind
 use Rattle.model_parser.specs.declared.state.State.TheVariants as state
 
 -- the token at hand is taken, and this is what there is after it
@@ -183,3 +184,8 @@ not_as a h e = a (sym h ∙ e)
 
 pub names_nothing : {T : Type 0} {g : Goal} {p : Reader T} {names : Names} {e : Raw} {v : Ev} → resolved_event names e ≡ Some v → names_after p.names.keeping.tags names e ≡ names → names_at p.names.keeping.tags g names ≡ names → Bare g p names e v
 names_nothing a b c = record { resolves = a; after_it = b; seen = c }
+
+-- ---- tokens that are refused
+
+pub no_key : (k : Kind) → k ≢ kind.Key → k ≢ kind.BlockEnd → fits BlockMappingKey k ≡ true
+no_key k a b = grind arith

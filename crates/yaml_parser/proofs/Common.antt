@@ -18,21 +18,22 @@ pub use Rattle.defs_token.specs.Toks.{toks}
 pub use Rattle.model_parser.proofs.Block.{after_key_empty, after_key_value, entries_dash, entries_end, entries_refuses, entry_empty, entry_node, indentless_entries_dash, indentless_entries_end, indentless_entry_empty, indentless_entry_node, key_pairs_end, key_pairs_key, key_pairs_refuses, pairs_key, pairs_value, part_empty, part_has_node}
 pub use Rattle.model_parser.proofs.Document.{after_marked, after_refuses, after_unmarked, content_empty, content_node, directed_more, directed_refuses, directed_start, documents_bare, documents_directives, documents_explicit, documents_marker, explicit_end, explicit_refuses, explicit_start, start_refuses, start_takes}
 pub use Rattle.model_parser.proofs.Endings.{end_events, end_tokens, ends_so, goes_so, past_tokens}
-pub use Rattle.model_parser.proofs.Falls.{after_text, after_text_events, shortest_events, text, text_event}
-pub use Rattle.model_parser.proofs.First.{not_document, not_flow_key, not_flow_pair, not_item, not_item_key, not_part, tok_is}
+pub use Rattle.model_parser.proofs.Falls.{after_text, after_text_events, grammar_completes, text, text_event}
+pub use Rattle.model_parser.proofs.First.{not_document, not_entry, not_flow_key, not_flow_pair, not_indentless, not_item, not_item_key, not_part, tok_is}
 pub use Rattle.model_parser.proofs.Flow.{comma_flow_end, comma_flow_has_pair, comma_items_end, comma_items_item, flow_after_empty, flow_after_value, flow_empties, flow_key_empty, flow_key_node, flow_pair_key, flow_pair_node, flow_pair_value, flow_pairs_end, flow_pairs_pair, flow_valued_empty, flow_valued_node, item_key, item_node, items_end, items_item, more_flow_comma, more_flow_end, more_flow_refuses, more_items_comma, more_items_end, more_items_refuses, pair_ends, pair_key_empty, pair_key_node, pair_value_empty, pair_value_value, pair_valued_empty, pair_valued_node}
 pub use Rattle.model_parser.proofs.Nodes.{after_braces, after_brackets, after_dash, after_mapping, after_scalar, after_sequence, anchor_alone, anchor_tag, block_flow, node_anchor, node_tag, nothing_refuses, part_block, properties_only, tag_alone, tag_anchor}
 pub use Rattle.model_parser.proofs.Places.{nowhere, plain_before, plain_work, with_positions}
 pub use Rattle.model_parser.proofs.Quiet.{plain_placed}
 pub use Rattle.model_parser.proofs.Settling.{mapping_under}
 pub use Rattle.model_parser.proofs.Standing.{first_of, looks, pops, top_of}
-pub use Rattle.model_parser.proofs.StepRows.{by_steps, first_any, has_goal, needs_tokens, no_row, not_refused, row_left, row_taken, said, steps}
+pub use Rattle.model_parser.proofs.CameBy.{left_by, none_by, said_by, taken_by}
+pub use Rattle.model_parser.proofs.StepRows.{by_steps, first_any, has_goal, needs_tokens, not_refused, steps}
 pub use Rattle.model_parser.specs.Goal.{Goal}
 pub use Rattle.model_parser.specs.Kinds.{begins_content, begins_node, ends_content, ends_document, ends_entry, ends_flow_key, ends_flow_pair, ends_indentless_entry, ends_item, ends_item_key, ends_part, HasNoText, is_directive, kind_of, tok_of_kind}
 pub use Rattle.model_parser.specs.Place.{is_after, is_over_document, IsNoDirective, next_at, open_at, open_under, top}
 pub use Rattle.model_parser.specs.Rest.{Awaits, AwaitsAt, first_may, goal_of, is_in_mapping, is_under, IsBottom, IsFor, IsGoing, IsNested, may_begin, past, with_directives, work_of, Works, works}
 pub use Rattle.model_parser.specs.Stands.{as_tokens, at_directive, GoesOn, IsNext, IsOnTrack, IsSettled}
-pub use Rattle.model_parser.specs.Turn.{event_then, IsAt, IsAtFirst, IsThere, Leaves, Refuses, Takes}
+pub use Rattle.model_parser.specs.Turn.{event_then, IsAt, IsAtFirst, IsThere, Leaves, Refuses, Takes, event_at, then_event}
 pub use Rattle.model_parser.specs.declared.kind.Kind.{Kind}
 pub use Rattle.model_parser.specs.declared.state.State.{State}
 pub use Rattle.std.proofs.Common.{[], ap, append-nil, append_assoc, arith, Bool, bytes_eq, codes, cond, Err, false, IfOk, if◌then◌else◌, inl, inr, is_some, length, List, map, nat_le, nat_lt, None, not, Ok, Option, option_map, refl, Result, rules, Some, String, string_bytes, subst, suc, sym, true, unwrap_or, zero, ℕ, ◌&&◌, ◌++◌, ◌+◌, ◌<◌, ◌==◌, ◌||◌, ◌∙◌, ◌∷◌, ◌≡◌, ◌≢◌, ◌≤◌, ◌⊎◌}

@@ -1,6 +1,7 @@
 -- What is awaited goes on to an end whose events can be named: so no fault is late.
-use Rattle.yaml_parser.proofs.Common.{[], after_text_events, anchor_of, and_from, and_parts, ap, Awaits, Bool, both, Directive, end_events, end_tokens, ends_so, Ev, false, first_any, first_may, Goal, goes_so, Held, if◌then◌else◌, in_pair, IsPending, IsSome, key, List, may_begin, named, Names, names_after, None, nothing_held, number, Option, option_map, past, past_tokens, perhaps_resolved, Place, Raw, reading, refl, resolved, resolved_event, saying, shortest_events, Some, State, Style, text, text_event, Tok, true, work_of, Works, works, ◌&&◌, ◌++◌, ◌∙◌, ◌∷◌, ◌≡◌}
+use Rattle.yaml_parser.proofs.Common.{arith, [], after_text_events, anchor_of, and_from, and_parts, ap, Awaits, Bool, both, Directive, end_events, end_tokens, ends_so, Ev, false, first_any, first_may, Goal, goes_so, Held, if◌then◌else◌, in_pair, IsPending, IsSome, key, List, may_begin, named, Names, names_after, None, nothing_held, number, Option, option_map, past, past_tokens, perhaps_resolved, Place, Raw, reading, refl, resolved, resolved_event, saying, grammar_completes, Some, State, Style, text, text_event, Tok, true, work_of, Works, works, ◌&&◌, ◌++◌, ◌∙◌, ◌∷◌, ◌≡◌}
 use Rattle.defs_event.specs.Properties.{tag_of}
+use Rattle.yaml_parser.proofs.DirectiveLemmas.{some_map}
 use Rattle.model_parser.specs.Rest.{place_of as where_it_stands}
 use Rattle.defs_event.specs.Grammar as table
 use Rattle.model_parser.specs.declared.kind.Kind.TheVariants as kind
@@ -72,17 +73,15 @@ is_plain (saying e ∷ w) = is_quiet e && is_plain w
 is_plain (reading g h ∷ w) = is_untagged h.tag && (is_none h.directives && is_plain w)
 
 quiet_free : (e : Raw) → is_quiet e ≡ true → is_free e ≡ true
-quiet_free Raw.pair_end h = refl
-quiet_free _ h = cc
+quiet_free e h = grind arith
 
 after_free : (p : Place) (es : List Raw) → are_free es ≡ true → are_free (after_text_events p ++ es) ≡ true
-after_free (in_pair key) es h = h
-after_free _ es h = h
+after_free p es h = grind arith
 
 text_free : (p : Place) (h : Held) (es : List Raw) → is_untagged h.tag ≡ true → are_free es ≡ true → are_free (text_event h ∷ (after_text_events p ++ es)) ≡ true
 text_free p h es t i = and_from (is_untagged h.tag) (are_free (after_text_events p ++ es)) t (after_free p es i)
 
-goal_free : (g : table.Goal) (h : Held) (es : List Raw) → is_untagged h.tag ≡ true → is_none h.directives ≡ true → are_free es ≡ true → are_free (shortest_events g h ++ es) ≡ true
+goal_free : (g : table.Goal) (h : Held) (es : List Raw) → is_untagged h.tag ≡ true → is_none h.directives ≡ true → are_free es ≡ true → are_free ((grammar_completes g h).1 ++ es) ≡ true
 goal_free table.directives h es t d i = and_from (is_none h.directives) (are_free es) d i
 goal_free (table.node p) h es t d i = text_free p h es t i
 goal_free (table.after_anchor p) h es t d i = text_free p h es t i
@@ -133,17 +132,13 @@ text_named ss keep s h p =
     let rest = after_text_events (where_it_stands ss) ++ end_events (past ss (works ss)) in
     name_one keep s (text_event h) rest (ap (option_map (λ y. Ev.scalar [] Style.plain (number s h.anchor) y)) u.1) (free_named keep rest (after_free (where_it_stands ss) (end_events (past ss (works ss))) (past_free ss)))
 
-some_mapped : {A B : Type 0} (f : A → B) (o : Option A) → IsSome o → IsSome (option_map f o)
-some_mapped f None h = cc
-some_mapped f (Some x) h = refl
-
 goal_named : (g : Goal) (ss : List State) (keep : Bool) (s : Names) → IsPending s g → Nameable keep s (end_events (work_of g ss))
 goal_named (Goal.directed ds) ss keep s p =
     let rest = text_event nothing_held ∷ Raw.document_end ∷ Raw.stream_end ∷ end_events (works ss) in
     name_one keep s (Raw.document_start ds) rest (ap (λ b. if b then Some Ev.document_start else None) p) (free_named keep rest (works_free ss))
 goal_named (Goal.node q) ss keep s p = text_named ss keep s nothing_held refl
 goal_named (Goal.after_anchor q a) ss keep s p = text_named ss keep s (record { anchor = Some a; tag = None; directives = [] }) refl
-goal_named (Goal.after_tag q t) ss keep s p = text_named ss keep s (record { anchor = None; tag = Some t; directives = [] }) (some_mapped Some (resolved s.handles t) p)
+goal_named (Goal.after_tag q t) ss keep s p = text_named ss keep s (record { anchor = None; tag = Some t; directives = [] }) (some_map Some (resolved s.handles t) p)
 goal_named (Goal.after_properties q None) ss keep s p = text_named ss keep s nothing_held refl
 goal_named (Goal.after_properties q (Some o)) ss keep s p = text_named ss keep s (record { anchor = anchor_of o; tag = tag_of o; directives = [] }) p
 goal_named Goal.part ss keep s p = text_named ss keep s nothing_held refl

@@ -8,8 +8,7 @@ use Rattle.defs_event.specs.Names as defs
 
 -- neither is there, where both are asked for
 under_both : (b : Bool) (v : List ℕ) (o : Option (List ℕ)) → (if b then Some v else o) ≡ None → (b ≡ false) × (o ≡ None)
-under_both true v o h = cc
-under_both false v o h = (refl, h)
+under_both b v o h = grind arith
 
 other_name : (x y z : List ℕ) → bytes_eq x z ≡ true → bytes_eq y z ≡ false → bytes_eq x y ≡ false
 other_name x y z h k = false_from_ne_true (bytes_eq x y) (λ e. both_ways (bytes_eq y z) k ((bytes_eq-Decides y z).1 (sym ((bytes_eq-Decides x y).0 e) ∙ (bytes_eq-Decides x z).0 h)))
@@ -18,9 +17,7 @@ same_either_way : (x y : List ℕ) → bytes_eq x y ≡ false → bytes_eq y x �
 same_either_way x y h = false_from_ne_true (bytes_eq y x) (λ e. both_ways (bytes_eq x y) h ((bytes_eq-Decides x y).1 (sym ((bytes_eq-Decides y x).0 e))))
 
 swap_tests : (a b : Bool) (u v : List ℕ) (o : Option (List ℕ)) → (a ≡ true → b ≡ false) → (if a then Some u else (if b then Some v else o)) ≡ (if b then Some v else (if a then Some u else o))
-swap_tests true true u v o h = let f : true ≡ false = h refl in cc
-swap_tests true false u v o h = refl
-swap_tests false b u v o h = refl
+swap_tests a b u v o h = grind arith
 
 -- A name that was not there counts wherever it is put in.
 insert_under : (x h p : List ℕ) (xs more : List (List ℕ × List ℕ)) → under_name h xs ≡ None → under_name x (xs ++ (h, p) ∷ more) ≡ (if bytes_eq x h then Some p else under_name x (xs ++ more))
@@ -31,8 +28,7 @@ insert_under x h p (q ∷ xs) more e =
     ∙ swap_tests (bytes_eq x q.0) (bytes_eq x h) q.1 p (under_name x (xs ++ more)) (λ y. other_name x h q.0 y b.0)
 
 some_if : (b : Bool) (v : List ℕ) (o : Option (List ℕ)) → is_some o ≡ true → is_some (if b then Some v else o) ≡ true
-some_if true v o h = refl
-some_if false v o h = h
+some_if b v o h = grind arith
 
 is_there : (h p : List ℕ) (xs more : List (List ℕ × List ℕ)) → is_some (under_name h (xs ++ (h, p) ∷ more)) ≡ true
 is_there h p [] more = ap (λ b. is_some (if b then Some p else under_name h more)) ((bytes_eq-Decides h h).1 refl)
@@ -93,21 +89,15 @@ repeated_handle ds h p more a e =
 
 -- ---- the code's names after one more
 
-none_of : {A : Type 0} (o : Option A) → is_some o ≡ false → o ≡ None
-none_of None h = refl
-none_of (Some x) h = cc
+pub some_map : {A B : Type 0} (f : A → B) (o : Option A) → is_some o ≡ true → is_some (option_map f o) ≡ true
+some_map f o h = grind arith
 
-map_if : (b : Bool) (d : Declaration) (o : Option Declaration) → option_map prefix_of (if b then Some d else o) ≡ (if b then Some (prefix_of d) else option_map prefix_of o)
-map_if true d o = refl
-map_if false d o = refl
+pub none_if : {A : Type 0} (o : Option A) → is_some o ≡ false → o ≡ None
+none_if o h = grind arith
 
-some_by : (b : Bool) (v : List ℕ) (o : Option (List ℕ)) → is_some (if b then Some v else o) ≡ (if b then true else is_some o)
-some_by true v o = refl
-some_by false v o = refl
-
-own_by : (earlier : ℕ) (b : Bool) (d : Declaration) (o : Option Declaration) → nat_lt earlier d.number ≡ true → is_own earlier (if b then Some d else o) ≡ (if b then true else is_own earlier o)
-own_by earlier true d o h = h
-own_by earlier false d o h = refl
+of_if : {A B : Type 0} (f : A → B) (b : Bool) (x y : A) → f (if b then x else y) ≡ (if b then f x else f y)
+of_if f true x y = refl
+of_if f false x y = refl
 
 -- Every declaration is numbered, also after one more.
 numbered_by : (b : Bool) (d : Declaration) (o : Option Declaration) (n : ℕ) → d.number ≡ n + 1 → IfSome o (λ e. e.number ≤ n) → IfSome (if b then Some d else o) (λ e. e.number ≤ n + 1)
@@ -124,7 +114,7 @@ pub has_declared : {code new : Names} {keep : Bool} {names : defs.Names} {read :
 has_declared {code} {new} {keep} {names} {read} handle d h count anchors earlier more number handles first named =
     let hs = string_chars handle in
     let ps = prefix_of d in
-    let free : under_name hs (declared read) ≡ None = none_of (under_name hs (declared read)) (sym (h.own.own handle) ∙ first) in
+    let free : under_name hs (declared read) ≡ None = none_if (under_name hs (declared read)) (sym (h.own.own handle) ∙ first) in
     let all = declared_snoc read hs ps named in
     let later : nat_lt code.earlier d.number ≡ true = grind (arith, nat_tests, h.own.earlier, number) in
     let older = (if keep then names.handles else []) in (
@@ -132,7 +122,7 @@ has_declared {code} {new} {keep} {names} {read} handle d h count anchors earlier
         named = record {
           count = count ∙ h.named.count;
           anchors = λ x. ap (λ m. get_by_text m (string_bytes x)) anchors ∙ h.named.anchors x;
-          handles = λ x. ap (option_map prefix_of) (handles x) ∙ map_if (bytes_eq (string_chars x) hs) d (get_by_text code.handles (string_bytes x))
+          handles = λ x. ap (option_map prefix_of) (handles x) ∙ of_if (option_map prefix_of) (bytes_eq (string_chars x) hs) (Some d) (get_by_text code.handles (string_bytes x))
               ∙ ap (λ o. if bytes_eq (string_chars x) hs then Some ps else o) (h.named.handles x)
               ∙ sym (insert_under (string_chars x) hs ps (declared read) older free)
               ∙ sym (ap (under_name (string_chars x)) (append_assoc (declared read) ((hs, ps) ∷ []) older))
@@ -142,9 +132,10 @@ has_declared {code} {new} {keep} {names} {read} handle d h count anchors earlier
         };
         own = record {
           own = λ x. ap (λ n. is_own n (get_by_text new.handles (string_bytes x))) earlier ∙ ap (is_own code.earlier) (handles x)
-              ∙ own_by code.earlier (bytes_eq (string_chars x) hs) d (get_by_text code.handles (string_bytes x)) later
+              ∙ of_if (is_own code.earlier) (bytes_eq (string_chars x) hs) (Some d) (get_by_text code.handles (string_bytes x))
+              ∙ ap (λ b. if bytes_eq (string_chars x) hs then b else is_own code.earlier (get_by_text code.handles (string_bytes x))) later
               ∙ ap (λ b. if bytes_eq (string_chars x) hs then true else b) (h.own.own x)
-              ∙ sym (some_by (bytes_eq (string_chars x) hs) ps (under_name (string_chars x) (declared read)))
+              ∙ sym (of_if is_some (bytes_eq (string_chars x) hs) (Some ps) (under_name (string_chars x) (declared read)))
               ∙ sym (ap (λ xs. is_some (if bytes_eq (string_chars x) hs then Some ps else under_name (string_chars x) xs)) (append-nil (declared read)))
               ∙ sym (ap is_some (insert_under (string_chars x) hs ps (declared read) [] free))
               ∙ sym (ap (λ xs. is_some (under_name (string_chars x) xs)) all);

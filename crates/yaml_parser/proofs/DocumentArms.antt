@@ -1,5 +1,5 @@
 -- The arms of the productions of documents.
-use Rattle.yaml_parser.proofs.Common.{[], all_shown, and_from, and_left, and_parts, and_right, ap, append-nil, append_assoc, are_allowed, arith, At, at_document, BeginAt, begins_node, Bool, Carries, declared, Declares, Derives, directed_more, directed_start, Directing, Directive, directive_token, directives_tokens, DirectsTo, documents_directives, Err, Ev, events_of, explicit_end, explicit_start, false, Faulted, fits, Goal, grammar, HasRead, IfSome, if◌then◌else◌, inl, is_directive, is_each_once, is_end, is_of_names, is_over, IsAfter, IsCause, IsNamed, IsOfKind, IsOwn, Kind, kind_of, last_position, Leaves, List, lt-leb, named, nat_le, needs_tokens, no_row, None, Ok, option_map, OutOfMemory, Position, Problem, Raw, Reader, reading, refl, RepeatedHandle, Result, row_taken, said, SecondVersion, shown, Skips, Some, SpoilsDirectives, Stayed, Stop, subst, sym, taken_toks, Takes, Tok, tok_is, tok_of, Token, Tokens, toks, true, UndeclaredHandle, versions, with_directives, Works, works, ℕ, ◌++◌, ◌+◌, ◌<◌, ◌∙◌, ◌∷◌, ◌≡◌, ◌≢◌}
+use Rattle.yaml_parser.proofs.Common.{[], all_shown, and_from, and_left, and_parts, and_right, ap, append-nil, append_assoc, are_allowed, arith, At, at_document, BeginAt, begins_node, Bool, Carries, declared, Declares, Derives, directed_more, directed_start, Directing, Directive, directive_token, directives_tokens, DirectsTo, documents_directives, Err, Ev, events_of, explicit_end, explicit_start, false, Faulted, fits, Goal, grammar, HasRead, IfSome, if◌then◌else◌, inl, is_directive, is_each_once, is_end, is_of_names, is_over, IsAfter, IsCause, IsNamed, IsOfKind, IsOwn, Kind, kind_of, last_position, Leaves, List, lt-leb, named, nat_le, needs_tokens, none_by, None, Ok, option_map, OutOfMemory, Position, Problem, Raw, Reader, reading, refl, RepeatedHandle, Result, taken_by, said_by, SecondVersion, shown, Skips, Some, SpoilsDirectives, Stayed, Stop, subst, sym, taken_toks, Takes, Tok, tok_is, tok_of, Token, Tokens, toks, true, UndeclaredHandle, versions, with_directives, Works, works, ℕ, ◌++◌, ◌+◌, ◌<◌, ◌∙◌, ◌∷◌, ◌≡◌, ◌≢◌}
 use Rattle.yaml_parser.specs.declared.names.Names.{Names}
 use Rattle.yaml_parser.proofs.Steps.{looked, taken_snoc, took, took_on, left, left_as, if_some_at}
 use Rattle.yaml_parser.proofs.Arms.{Skipped, here_at, faulted_as}
@@ -89,14 +89,10 @@ directed_begins {T} m {p} {r} {k} {read} {names} {given} here h mark skip a =
 -- ---- directives
 
 no_node : (k : Kind) → is_directive k ≡ true → begins_node context.Block k ≡ false
-no_node kind.VersionDirective h = refl
-no_node kind.TagDirective h = refl
-no_node _ h = cc
+no_node k h = grind arith
 
 pub not_directive : (k : Kind) → k ≢ kind.VersionDirective → k ≢ kind.TagDirective → is_directive k ≡ false
-not_directive kind.VersionDirective a b = absurd (a refl)
-not_directive kind.TagDirective a b = absurd (b refl)
-not_directive _ a b = refl
+not_directive k a b = grind arith
 
 pub directives_begin : {T : Type 0} {p q : Reader T} (k : Kind) {names : defs.Names} {given : List (Ev × Position)}
     → IsOfKind k p.tokens.peeked → is_directive k ≡ true → q.tokens ≡ p.tokens → q.stack ≡ p.stack → q.names.keeping ≡ p.names.keeping → Starts p.names q.names → ((ns : defs.Names) → IsNamed p.names ns → IsOwn q.names [])
@@ -175,13 +171,13 @@ more_of ds d es x = (d ∷ x.0, x.1, x.2 ∙ ap (λ y. Raw.document_start y ∷ 
 directives_say : (ds : List Directive) (w : Works) (ts : List Tok) (es : List Raw) → Derives grammar (reading table.directives (with_directives ds) ∷ w) ts es → (more : List Directive) × (fs : List Raw) × (es ≡ Raw.document_start (ds ++ more) ∷ fs)
 directives_say ds w [] es d = absurd (needs_tokens (reading table.directives (with_directives ds) ∷ w) es refl d)
 directives_say ds w (Tok.version_directive m n ∷ ts) es d =
-    more_of ds (raw.version m n) es (directives_say (ds ++ raw.version m n ∷ []) w ts es (row_taken table.directives (with_directives ds) w (Tok.version_directive m n) ts es _ refl d))
+    more_of ds (raw.version m n) es (directives_say (ds ++ raw.version m n ∷ []) w ts es (taken_by d _ refl))
 directives_say ds w (Tok.tag_directive x y ∷ ts) es d =
-    more_of ds (raw.tag x y) es (directives_say (ds ++ raw.tag x y ∷ []) w ts es (row_taken table.directives (with_directives ds) w (Tok.tag_directive x y) ts es _ refl d))
+    more_of ds (raw.tag x y) es (directives_say (ds ++ raw.tag x y ∷ []) w ts es (taken_by d _ refl))
 directives_say ds w (Tok.document_start ∷ ts) es d =
-    let s = said _ _ ts es (row_taken table.directives (with_directives ds) w Tok.document_start ts es _ refl d) in
+    let s = said_by (taken_by d _ refl) in
     ([], s.0, s.1 ∙ ap (λ x. Raw.document_start x ∷ s.0) (sym (append-nil ds)))
-directives_say ds w (t ∷ ts) es d = absurd (no_row table.directives (with_directives ds) w t ts es refl d)
+directives_say ds w (t ∷ ts) es d = absurd (none_by d refl)
 
 -- Directives that are not allowed are refused with the last one.
 refused_directive : {T : Type 0} {p r : Reader T} {t : Token} {m : Position} (q : Problem) (read : List Directive) (d : Directive) {names : defs.Names} {given : List (Ev × Position)}

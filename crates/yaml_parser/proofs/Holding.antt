@@ -8,7 +8,7 @@ use Rattle.yaml_parser.proofs.Placing.{StandsSo}
 use Rattle.yaml_parser.specs.Follows.{Derives}
 use Rattle.yaml_parser.proofs.Since.{since_length, since_noted, names_noted, since_other, names_other, since_same}
 use Rattle.yaml_parser.proofs.Ends.{state_pending, at_derived}
-use Rattle.yaml_parser.proofs.Steps.{begins_peeked}
+use Rattle.yaml_parser.proofs.Steps.{begins_peeked, if_some_at}
 use Rattle.yaml_parser.proofs.Nesting.{at_begins_nested}
 use Rattle.defs_token.specs.Token as defs
 use Rattle.yaml_tokens.specs.declared.problem.Fault.TheVariants as fault
@@ -18,8 +18,7 @@ use Rattle.yaml_parser.specs.declared.tokens.Stop.TheVariants as stop
 -- ---- the stack
 
 state_going : (s : State) → is_over (goal_of s) ≡ false
-state_going state.StreamStart = refl
-state_going _ = refl
+state_going s = grind arith
 
 state_seen : (s : State) (keep : Bool) (names : Names) → names_at keep (goal_of s) names ≡ names
 state_seen state.StreamStart keep names = refl
@@ -49,8 +48,7 @@ popped_work {T} p s ss h = let e : weights p.stack ≡ weight s + weights ss = a
 -- ---- events, and their end
 
 after_event : (v : Ev) → goal_after_event v ≡ goal_after (is_stream_end v)
-after_event Ev.nothing = refl
-after_event _ = refl
+after_event v = grind arith
 
 pub has_end_snoc : (es : List (Ev × Position)) (e : Ev × Position) → has_end (es ++ e ∷ []) ≡ has_end es || is_stream_end e.0
 has_end_snoc [] e = or-false (is_stream_end e.0)
@@ -85,8 +83,7 @@ at_settings {T} {g} {p} {names} {es} k seen a few named names_same = record {
 }
 
 goal_seen : (b : Bool) (keep : Bool) (names : Names) → names_at keep (goal_after b) names ≡ names
-goal_seen true keep names = refl
-goal_seen false keep names = refl
+goal_seen b keep names = grind arith
 
 -- The setting with which the last event was read is noted.
 pub noted_stands : {T : Type 0} (p : Reader T) (k : Keeping) (es : List (Ev × Position)) (names : Names) → Notes p.names.keeping k → At (goal_after (has_end es)) p names es → length p.names.keeping.settings.items + 1 ≡ length es
@@ -160,18 +157,11 @@ advances_err old new es (Ok u) x slot h a = absurd h
 advances_err old new es (Err e) x slot h a = a
 
 pub keeps : {T : Type 0} (p : EventReader T) (es : List (Ev × Position)) (u : Stop) {f : ErrorReport} → fault_kept p ≡ Some f → IfSome p.kept (λ k. k.stop ≡ u) → (has_end es ≡ false) × Faulted p.reader es u → IsHeld p.reader es p.kept × IsMet p.reader es p.kept
-keeps {T} p es u {f} h k x = kept_at p.reader es u p.kept is_kept k x
+keeps {T} p es u {f} h k x = kept_at p.kept h k
   where
-    kept_at : (r : Reader T) (es : List (Ev × Position)) (u : Stop) (o : Option KeptStop) → IsSome o → IfSome o (λ k. k.stop ≡ u) → (has_end es ≡ false) × Faulted r es u → IsHeld r es o × IsMet r es o
-    kept_at r es u None i k x = cc
-    kept_at r es u (Some z) i k x = (x.0, subst (Faulted r es) (sym k) x.1)
-
-    some_map : {A B : Type 0} (g : A → B) (o : Option A) {y : B} → option_map g o ≡ Some y → IsSome o
-    some_map g None e = cc
-    some_map g (Some z) e = refl
-
-    is_kept : IsSome p.kept
-    is_kept = some_map (λ z. fault_seen z.stop z.mark (scanned p.reader.tokens.scanner).fault) p.kept h
+    kept_at : (o : Option KeptStop) → option_map (λ z. fault_seen z.stop z.mark (scanned p.reader.tokens.scanner).fault) o ≡ Some f → IfSome o (λ z. z.stop ≡ u) → IsHeld p.reader es o × IsMet p.reader es o
+    kept_at None e k = cc
+    kept_at (Some z) e k = (x.0, subst (Faulted p.reader es) (sym k) x.1)
 
 -- A fault that was kept is not met again.
 pub kept_again : {T : Type 0} (r : Reader T) (es : List (Ev × Position)) {o : Option KeptStop} {k : KeptStop} → o ≡ Some k → o ≡ None → IsMet r es o
@@ -373,9 +363,10 @@ explained {T} p v (stop.Own (fault.At q n)) m f h x known =
       refused = λ steady. blames_refused p v x.blames (known steady);
     }))
 explained {T} p v stop.Scan m f h x known =
+    let kept : (scanned p.tokens.scanner).fault ≡ Some f = kept_some (scanned p.tokens.scanner).fault _ x.0.0 h in
     inl (record {
-      fault = kept_some (scanned p.tokens.scanner).fault _ x.0.0 h;
-      settled = λ wants. on_time (scanned p.tokens.scanner).fault (kept_some (scanned p.tokens.scanner).fault _ x.0.0 h) x.0.1 wants;
+      fault = kept;
+      settled = if_some_at (λ (g : ErrorReport). g.memory ≡ false → (scanned p.tokens.scanner).early ≡ false) x.0.1 kept;
       halted = x.1;
       begins = λ steady. derived_begins p (read v) (scanned p.tokens.scanner).given x.1.raw (known steady) x.1.derived;
       so_far = λ steady. halted_has p (read v) (scanned p.tokens.scanner).given (known steady) x.1;
@@ -384,10 +375,6 @@ explained {T} p v stop.Scan m f h x known =
     kept_some : (o : Option ErrorReport) (d : ErrorReport) {g : ErrorReport} → IsSome o → unwrap_or o d ≡ g → o ≡ Some g
     kept_some None d i e = cc
     kept_some (Some y) d i e = ap Some e
-
-    on_time : (o : Option ErrorReport) → o ≡ Some f → IfSome o (λ g. g.memory ≡ false → (scanned p.tokens.scanner).early ≡ false) → f.memory ≡ false → (scanned p.tokens.scanner).early ≡ false
-    on_time None e k = cc
-    on_time (Some g) e k = let same : g ≡ f = cc in subst (λ d. d.memory ≡ false → (scanned p.tokens.scanner).early ≡ false) same k
 
 pub held_explained : {T : Type 0} (p : Reader T) (v : Parsed) (o : Option KeptStop) (f : ErrorReport) → option_map (λ k. fault_seen k.stop k.mark (scanned p.tokens.scanner).fault) o ≡ Some f → IsMet p (read v) o → KnowsSteady p → Explains f (seen_of p v)
 held_explained {T} p v None f h x known = cc

@@ -7,7 +7,6 @@ pub mod InFlow
 pub mod DirectiveLemmas
 pub mod DocumentArms
 pub mod Ends
-pub mod Fits
 pub mod Holding
 pub mod LoadSteps
 pub mod NameLemmas

@@ -32,29 +32,22 @@ taken_all [] l = omega arith
 taken_all (e ∷ es) l = omega (arith, taken_all es l)
 
 pub misplaced_run : (e : Ev) (p : Position) (multi : Bool) (rest : List (Answer ErrorReport)) → is_stream_end e ≡ false → is_document_start e ≡ false → load_from run.between multi (event e p ∷ rest) ≡ ends (run.no_document p) 1
-misplaced_run Ev.stream_end p multi rest h k = cc
-misplaced_run Ev.document_start p multi rest h k = cc
-misplaced_run _ p multi rest h k = refl
+misplaced_run e p multi rest h k = grind arith
 
 pub end_run : (e : Ev) (p : Position) (multi : Bool) (rest : List (Answer ErrorReport)) → is_stream_end e ≡ true → load_from run.between multi (event e p ∷ rest) ≡ push e p (ends run.well 0)
-end_run Ev.stream_end p multi rest h = refl
-end_run _ p multi rest h = cc
+end_run e p multi rest h = grind arith
 
 pub start_run : (e : Ev) (p : Position) (multi : Bool) (rest : List (Answer ErrorReport)) → is_document_start e ≡ true → load_from run.between multi (event e p ∷ rest) ≡ push e p (load_from run.inside multi rest)
-start_run Ev.document_start p multi rest h = refl
-start_run _ p multi rest h = cc
+start_run e p multi rest h = grind arith
 
 pub inside_run : (e : Ev) (p : Position) (multi : Bool) (rest : List (Answer ErrorReport)) → is_document_end e ≡ false → load_from run.inside multi (event e p ∷ rest) ≡ push e p (load_from run.inside multi rest)
-inside_run Ev.document_end p multi rest h = cc
-inside_run _ p multi rest h = refl
+inside_run e p multi rest h = grind arith
 
 pub last_run : (e : Ev) (p : Position) (multi : Bool) (rest : List (Answer ErrorReport)) → is_document_end e ≡ true → load_from run.inside multi (event e p ∷ rest) ≡ push e p (after_document multi rest)
-last_run Ev.document_end p multi rest h = refl
-last_run _ p multi rest h = cc
+last_run e p multi rest h = grind arith
 
 end_is : (e : Ev) → is_stream_end e ≡ true → e ≡ Ev.stream_end
-end_is Ev.stream_end h = refl
-end_is _ h = cc
+end_is e h = grind arith
 
 pub end_is_not : (e : Ev) → is_stream_end e ≡ false → e ≢ Ev.stream_end
 end_is_not e h k = let no : true ≡ false = sym (ap is_stream_end k) ∙ h in cc
@@ -77,9 +70,7 @@ given_more : {old new : Parsed} {e : Ev × Position} → GivesEvent old e new �
 given_more {old} {new} {e} g h = g.given ∙ ap (λ b. old.given ++ (if b then [] else e ∷ [])) h
 
 read_given : (es : List (Ev × Position)) (ended : Bool) (ahead : Option (Ev × Position)) → ahead ≡ None → read_so es ended ahead ≡ es
-read_given es true ahead h = refl
-read_given es false None h = refl
-read_given es false (Some e) h = cc
+read_given es ended ahead h = grind arith
 
 -- The stream's end does not come there.
 pub no_end : {now new : Parsed} {e : Ev} {p : Position} → IsInside now → GivesEvent now (e, p) new → is_stream_end e ≡ false

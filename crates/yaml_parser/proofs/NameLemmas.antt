@@ -3,7 +3,7 @@ use Rattle.std.specs.Str.{chars}
 use Rattle.std.specs.String.{string_cmp, string_len}
 use Rattle.std.proofs.lemmas.Map.Text.{btree_map_updates_text}
 use Rattle.std.proofs.lemmas.Str.{encodes-chars, IsUtf8-string_bytes}
-use Rattle.yaml_parser.proofs.Common.{[], ap, BTreeMap, bytes_eq, bytes_eq-Decides, codes, cond, Decides-like, Err, false, get_by_text, Global, if◌then◌else◌, is_empty, IsUndeclared, length, List, Names, None, Ok, Option, option_map, OutOfMemory, Position, prefix_or_undeclared, refl, resolved, Resolves, Result, rules, same_from_decides, Some, Stop, String, string_bytes, string_chars, sym, tag_of, true, undeclared, under_name, ℕ, ◌==◌, ◌∙◌, ◌∷◌, ◌≡◌, ◌≢◌}
+use Rattle.yaml_parser.proofs.Common.{arith, [], ap, BTreeMap, bytes_eq, bytes_eq-Decides, codes, cond, Decides-like, Err, false, get_by_text, Global, if◌then◌else◌, is_empty, IsUndeclared, length, List, Names, None, Ok, Option, option_map, OutOfMemory, Position, prefix_or_undeclared, refl, resolved, Resolves, Result, rules, same_from_decides, Some, Stop, String, string_bytes, string_chars, sym, tag_of, true, undeclared, under_name, ℕ, ◌==◌, ◌∙◌, ◌∷◌, ◌≡◌, ◌≢◌}
 use lib.Utf8.{encodes, encode}
 use Rattle.yaml_chars.proofs.TextLemmas.{is_nil_chars}
 use Rattle.yaml_parser.specs.declared.event.Tag.{Tag}
@@ -12,8 +12,7 @@ use Rattle.yaml_tokens.specs.declared.problem.Fault.TheVariants as fault
 use Rattle.yaml_parser.specs.declared.tokens.Stop.TheVariants as stop
 
 nil_of : (xs : List ℕ) → is_empty xs ≡ true → xs ≡ []
-nil_of [] h = refl
-nil_of (x ∷ xs) h = cc
+nil_of xs h = grind arith
 
 pub chars_then_bytes : (a b : String Global) → string_chars a ≡ string_chars b → string_bytes a ≡ string_bytes b
 unfolding string_chars

@@ -1,5 +1,5 @@
 -- The events that a parser gives are a beginning of nested events, so the stream's end comes in no document.
-use Rattle.yaml_parser.proofs.Common.{[], ap, arith, At, Awaits, BeginsNested, Bool, both, by_steps, Derives, Directive, end_events, end_tokens, Ev, events_of, false, false_from_ne_true, Goal, goes_so, if◌then◌else◌, is_open, length, List, named, named_shaped, Names, names_after, needs_tokens, no_names, no_row, None, not_refused, opened, Option, Position, Raw, Reader, reading, refl, resolved_event, row_left, row_taken, said, Some, steps, StreamSays, subst, sym, taken_toks, Tok, true, works, ◌++◌, ◌∙◌, ◌∷◌, ◌≡◌}
+use Rattle.yaml_parser.proofs.Common.{[], ap, arith, At, Awaits, BeginsNested, Bool, both, by_steps, Derives, Directive, end_events, end_tokens, Ev, events_of, false, false_from_ne_true, Goal, goes_so, if◌then◌else◌, is_open, length, List, named, named_shaped, Names, names_after, needs_tokens, no_names, none_by, None, not_refused, opened, Option, Position, Raw, Reader, reading, refl, resolved_event, left_by, taken_by, said_by, Some, steps, StreamSays, subst, sym, taken_toks, Tok, true, works, ◌++◌, ◌∙◌, ◌∷◌, ◌≡◌}
 use Rattle.defs_event.specs.Nested.{Open, in_stream, before_node, after_node, in_sequence, at_key, at_value, open_after, there_and, closes, is_nested, IsNested}
 use Rattle.defs_event.proofs.NestedTest.{test_is_exact}
 use Rattle.defs_event.proofs.StreamNests.{shaped_nests}
@@ -30,45 +30,25 @@ in_document (at_key ∷ os) = in_document os
 in_document (at_value ∷ os) = in_document os
 in_document _ = false
 
-is_some : {A : Type 0} {x y : A} → Some x ≡ Some y → x ≡ y
-is_some h = cc
+abbrev all_in_document : Option (List Open) → Bool
+all_in_document None = true
+all_in_document (Some os) = in_document os
 
-opens : (e : Ev) (os new : List Open) (b : Bool) → open_after e os ≡ Some new → (b ≡ true → in_document os ≡ true) → opened e b ≡ true → in_document new ≡ true
-opens Ev.document_start (in_stream ∷ os) new b h k o = subst (λ x. in_document x ≡ true) (is_some h) refl
-opens Ev.document_end os new true h k o = let no : false ≡ true = o in cc
-opens Ev.document_end os new false h k o = let no : false ≡ true = o in cc
-opens Ev.stream_end (in_stream ∷ os) new true h k o = let no : false ≡ true = k refl in cc
-opens Ev.sequence_end (in_sequence ∷ os) new true h k o = subst (λ x. in_document x ≡ true) (is_some h) (k refl)
-opens Ev.mapping_end (at_key ∷ os) new true h k o = subst (λ x. in_document x ≡ true) (is_some h) (k refl)
-opens (Ev.alias n) (before_node ∷ os) new true h k o = subst (λ x. in_document x ≡ true) (is_some h) refl
-opens (Ev.alias n) (in_sequence ∷ os) new true h k o = subst (λ x. in_document x ≡ true) (is_some h) (k refl)
-opens (Ev.alias n) (at_key ∷ os) new true h k o = subst (λ x. in_document x ≡ true) (is_some h) (k refl)
-opens (Ev.alias n) (at_value ∷ os) new true h k o = subst (λ x. in_document x ≡ true) (is_some h) (k refl)
-opens (Ev.scalar x s a t) (before_node ∷ os) new true h k o = subst (λ x. in_document x ≡ true) (is_some h) refl
-opens (Ev.scalar x s a t) (in_sequence ∷ os) new true h k o = subst (λ x. in_document x ≡ true) (is_some h) (k refl)
-opens (Ev.scalar x s a t) (at_key ∷ os) new true h k o = subst (λ x. in_document x ≡ true) (is_some h) (k refl)
-opens (Ev.scalar x s a t) (at_value ∷ os) new true h k o = subst (λ x. in_document x ≡ true) (is_some h) (k refl)
-opens (Ev.sequence_start a t) (before_node ∷ os) new true h k o = subst (λ x. in_document x ≡ true) (is_some h) refl
-opens (Ev.sequence_start a t) (in_sequence ∷ os) new true h k o = subst (λ x. in_document x ≡ true) (is_some h) (k refl)
-opens (Ev.sequence_start a t) (at_key ∷ os) new true h k o = subst (λ x. in_document x ≡ true) (is_some h) (k refl)
-opens (Ev.sequence_start a t) (at_value ∷ os) new true h k o = subst (λ x. in_document x ≡ true) (is_some h) (k refl)
-opens (Ev.mapping_start a t) (before_node ∷ os) new true h k o = subst (λ x. in_document x ≡ true) (is_some h) refl
-opens (Ev.mapping_start a t) (in_sequence ∷ os) new true h k o = subst (λ x. in_document x ≡ true) (is_some h) (k refl)
-opens (Ev.mapping_start a t) (at_key ∷ os) new true h k o = subst (λ x. in_document x ≡ true) (is_some h) (k refl)
-opens (Ev.mapping_start a t) (at_value ∷ os) new true h k o = subst (λ x. in_document x ≡ true) (is_some h) (k refl)
-opens e os new b h k o = cc
+opens : (e : Ev) (os : List Open) (b : Bool) → (b ≡ true → in_document os ≡ true) → opened e b ≡ true → all_in_document (open_after e os) ≡ true
+opens Ev.document_start (in_stream ∷ os) b k o = refl
+opens (Ev.alias n) (before_node ∷ os) true k o = refl
+opens e os true k o = first_of (cc (k refl, o), search (k refl), grind (arith, k refl))
+opens e os false k o = cc o
 
 -- It never stands in a document.
 abbrev pub IsOutside : Ev → Type 0
 IsOutside v = (os : List Open) → in_document os ≡ true → open_after v os ≡ None
 
 end_is_outside : IsOutside Ev.stream_end
-end_is_outside (in_stream ∷ os) h = cc
-end_is_outside os h = refl
+end_is_outside os h = grind arith
 
 start_is_outside : IsOutside Ev.document_start
-start_is_outside (in_stream ∷ os) h = cc
-start_is_outside os h = refl
+start_is_outside os h = grind arith
 
 -- What closes goes on after its first event.
 closes_on : (x : Option (List Open)) (es : List Ev) {P : Type 0} → ((new : List Open) → x ≡ Some new → closes es new ≡ true → P) → there_and (closes es) x ≡ true → P
@@ -78,7 +58,7 @@ closes_on (Some new) es f c = f new refl c
 -- No nesting closes that has such an event in a document.
 never_closes : (v : Ev) → IsOutside v → (es more : List Ev) (b : Bool) (os : List Open) → (b ≡ true → in_document os ≡ true) → is_open b es ≡ true → closes (es ++ v ∷ more) os ≡ true → ⊥
 never_closes v out [] more b os k o h = let no : there_and (closes more) None ≡ true = subst (λ x. there_and (closes more) x ≡ true) (out os (k o)) h in cc
-never_closes v out (e ∷ es) more b os k o h = closes_on (open_after e os) (es ++ v ∷ more) (λ new i. never_closes v out es more (opened e b) new (opens e os new b i k) o) h
+never_closes v out (e ∷ es) more b os k o h = closes_on (open_after e os) (es ++ v ∷ more) (λ new i. never_closes v out es more (opened e b) new (λ q. subst (λ x. all_in_document x ≡ true) i (opens e os b k q)) o) h
 
 from_start : (e : Ev) (es : List Ev) → is_nested (e ∷ es) ≡ true → (e ≡ Ev.stream_start) × (closes es (in_stream ∷ []) ≡ true)
 from_start Ev.stream_start es h = (refl, h)
@@ -133,13 +113,10 @@ never_starts (e ∷ es) more os h = closes_on (open_after e os) (es ++ Ev.stream
 -- The start of a document comes after directives.
 directed_first : (h : table.Held) (ts : List Tok) (es : List Raw) → Derives table.grammar (reading table.directives h ∷ []) ts (Raw.stream_end ∷ es) → ⊥
 directed_first h [] es d = needs_tokens (reading table.directives h ∷ []) (Raw.stream_end ∷ es) refl d
-directed_first h (Tok.version_directive m n ∷ ts) es d = directed_first _ ts es (row_taken table.directives h [] (Tok.version_directive m n) ts (Raw.stream_end ∷ es) _ refl d)
-directed_first h (Tok.tag_directive x y ∷ ts) es d = directed_first _ ts es (row_taken table.directives h [] (Tok.tag_directive x y) ts (Raw.stream_end ∷ es) _ refl d)
-directed_first h (Tok.document_start ∷ ts) es d =
-    let s = said _ _ ts (Raw.stream_end ∷ es) (row_taken table.directives h [] Tok.document_start ts (Raw.stream_end ∷ es) _ refl d) in
-    let e : Raw.stream_end ∷ es ≡ Raw.document_start h.directives ∷ s.0 = s.1 in
-    cc
-directed_first h (t ∷ ts) es d = no_row table.directives h [] t ts (Raw.stream_end ∷ es) refl d
+directed_first h (Tok.version_directive m n ∷ ts) es d = directed_first _ ts es (taken_by d _ refl)
+directed_first h (Tok.tag_directive x y ∷ ts) es d = directed_first _ ts es (taken_by d _ refl)
+directed_first h (Tok.document_start ∷ ts) es d = let s = said_by (taken_by d _ refl) in cc s.1
+directed_first h (t ∷ ts) es d = none_by d refl
 
 nothing_left : (ts us : List Tok) (es : List Raw) → Derives table.grammar [] (ts ++ Tok.stream_start ∷ us) es → ⊥
 nothing_left [] us es d = elim d [ ]
@@ -148,20 +125,11 @@ nothing_left (t ∷ ts) us es d = elim d [ ]
 -- A stream in which no document begins has its start first and never again.
 starts_once : (ts us : List Tok) (es : List Raw) → Derives table.grammar (reading table.documents table.nothing_held ∷ []) (ts ++ Tok.stream_start ∷ us) (Raw.stream_end ∷ es) → ⊥
 starts_once [] us es d = let r : true ≡ false = not_refused 9 Tok.stream_start (reading table.documents table.nothing_held ∷ []) us (Raw.stream_end ∷ es) d in cc
-starts_once (Tok.document_end ∷ ts) us es d = starts_once ts us es (row_taken table.documents table.nothing_held [] Tok.document_end (ts ++ Tok.stream_start ∷ us) (Raw.stream_end ∷ es) _ refl d)
-starts_once (Tok.version_directive m n ∷ ts) us es d =
-    directed_first _ (ts ++ Tok.stream_start ∷ us) es (row_taken table.documents table.nothing_held [] (Tok.version_directive m n) (ts ++ Tok.stream_start ∷ us) (Raw.stream_end ∷ es) _ refl d)
-starts_once (Tok.tag_directive x y ∷ ts) us es d =
-    directed_first _ (ts ++ Tok.stream_start ∷ us) es (row_taken table.documents table.nothing_held [] (Tok.tag_directive x y) (ts ++ Tok.stream_start ∷ us) (Raw.stream_end ∷ es) _ refl d)
-starts_once (Tok.document_start ∷ ts) us es d =
-    let x = row_left table.documents table.nothing_held [] Tok.document_start (ts ++ Tok.stream_start ∷ us) (Raw.stream_end ∷ es) _ refl d in
-    let s = said _ _ (ts ++ Tok.stream_start ∷ us) (Raw.stream_end ∷ es) (row_taken table.explicit_document table.nothing_held [] Tok.document_start (ts ++ Tok.stream_start ∷ us) (Raw.stream_end ∷ es) _ refl x) in
-    let e : Raw.stream_end ∷ es ≡ Raw.document_start [] ∷ s.0 = s.1 in
-    cc
-starts_once (Tok.stream_end ∷ ts) us es d =
-    let x = row_left table.documents table.nothing_held [] Tok.stream_end (ts ++ Tok.stream_start ∷ us) (Raw.stream_end ∷ es) _ refl d in
-    let s = said _ _ (ts ++ Tok.stream_start ∷ us) (Raw.stream_end ∷ es) (row_taken table.explicit_document table.nothing_held [] Tok.stream_end (ts ++ Tok.stream_start ∷ us) (Raw.stream_end ∷ es) _ refl x) in
-    nothing_left ts us s.0 s.2
+starts_once (Tok.document_end ∷ ts) us es d = starts_once ts us es (taken_by d _ refl)
+starts_once (Tok.version_directive m n ∷ ts) us es d = directed_first _ (ts ++ Tok.stream_start ∷ us) es (taken_by d _ refl)
+starts_once (Tok.tag_directive x y ∷ ts) us es d = directed_first _ (ts ++ Tok.stream_start ∷ us) es (taken_by d _ refl)
+starts_once (Tok.document_start ∷ ts) us es d = let s = said_by (taken_by (left_by d _ refl) _ refl) in cc s.1
+starts_once (Tok.stream_end ∷ ts) us es d = let s = said_by (taken_by (left_by d _ refl) _ refl) in nothing_left ts us s.0 s.2
 starts_once (t ∷ ts) us es d =
     let w = reading table.documents table.nothing_held ∷ [] in
     let r : refuses 9 t w ≡ false = not_refused 9 t w (ts ++ Tok.stream_start ∷ us) (Raw.stream_end ∷ es) d in
@@ -197,7 +165,7 @@ nothing_taken {T} {p} a =
     by : (taken us : List Tok) (es : List Raw) → StreamSays (taken ++ Tok.stream_start ∷ Tok.stream_end ∷ us) (Raw.stream_start ∷ Raw.stream_end ∷ es) → taken ≡ []
     by [] us es d = refl
     by (Tok.stream_start ∷ ts) us es d =
-        let s = said _ _ _ _ (row_taken table.stream table.nothing_held [] Tok.stream_start (ts ++ Tok.stream_start ∷ Tok.stream_end ∷ us) (Raw.stream_start ∷ Raw.stream_end ∷ es) _ refl d) in
+        let s = said_by (taken_by d _ refl) in
         let e : Raw.stream_end ∷ es ≡ s.0 = cc in
         absurd (starts_once ts (Tok.stream_end ∷ us) es (subst (λ rs. Derives table.grammar (reading table.documents table.nothing_held ∷ []) (ts ++ Tok.stream_start ∷ Tok.stream_end ∷ us) rs) (sym e) s.2))
-    by (t ∷ ts) us es d = absurd (no_row table.stream table.nothing_held [] t (ts ++ Tok.stream_start ∷ Tok.stream_end ∷ us) (Raw.stream_start ∷ Raw.stream_end ∷ es) refl d)
+    by (t ∷ ts) us es d = absurd (none_by d refl)

@@ -1,5 +1,5 @@
 -- The arms of the productions of nodes.
-use Rattle.yaml_parser.proofs.Common.{[], after_text, all_shown, answered, Answers, ap, append_assoc, At, Awaits, BeginAt, Bool, both, both_ways, cases, Derives, empty, empty_event, end_events, end_tokens, EndsInAnchor, Err, Ev, event_of, event_then, events_of, EventSlot, false, Faulted, fits, Goal, goal_after_event, goes_so, grammar, Has, HasNoText, HasUndeclaredHandle, HasUnknownAnchor, Held, IfSome, inl, inr, is_end, is_of_names, is_some, IsCause, IsDerived, IsNamed, IsOfKind, IsPending, IsSome, kept_tag, Kind, kind_of, last_position, Leaves, List, name_of, named, named_by, Names, names_after, names_by, needs_tokens, no_names, None, number, Ok, OnErr, OnOk, Option, option_map, OutOfMemory, past, peeked_tok, perhaps_anchor_of, perhaps_resolved, Place, placed, Position, Problem, Raw, Reader, reading, refl, Registers, resolved, resolved_event, Resolves, Result, Row, row_left, row_of, row_taken, said, scanned, show, shown, shown_list, Skips, SkipsOne, Some, StandsAt, State, Stop, StreamSays, Style, subst, sym, taken_toks, Takes, takes, text, Tok, tok_is, tok_of, tok_of_kind, Token, Tokens, toks, true, UndeclaredHandle, under_name, UnknownAnchor, with_anchor, Works, works, ℕ, ◌++◌, ◌∙◌, ◌∷◌, ◌≡◌, ◌≢◌, ◌⊎◌}
+use Rattle.yaml_parser.proofs.Common.{arith, [], after_text, all_shown, answered, Answers, ap, append_assoc, At, Awaits, BeginAt, Bool, both, both_ways, cases, Derives, empty, empty_event, end_events, end_tokens, EndsInAnchor, Err, Ev, event_of, event_then, events_of, EventSlot, false, Faulted, fits, Goal, goal_after_event, goes_so, grammar, Has, HasNoText, HasUndeclaredHandle, HasUnknownAnchor, Held, IfSome, inl, inr, is_end, is_of_names, is_some, IsCause, IsDerived, IsNamed, IsOfKind, IsPending, IsSome, kept_tag, Kind, kind_of, last_position, Leaves, List, name_of, named, named_by, Names, names_after, names_by, needs_tokens, no_names, None, number, Ok, OnErr, OnOk, Option, option_map, OutOfMemory, past, peeked_tok, perhaps_anchor_of, perhaps_resolved, Place, placed, Position, Problem, Raw, Reader, reading, refl, Registers, resolved, resolved_event, Resolves, Result, Row, left_by, row_of, taken_by, said_by, scanned, show, shown, shown_list, Skips, SkipsOne, Some, StandsAt, State, Stop, StreamSays, Style, subst, sym, taken_toks, Takes, takes, text, Tok, tok_is, tok_of, tok_of_kind, Token, Tokens, toks, true, UndeclaredHandle, under_name, UnknownAnchor, with_anchor, Works, works, ℕ, ◌++◌, ◌∙◌, ◌∷◌, ◌≡◌, ◌≢◌, ◌⊎◌}
 use Rattle.defs_event.specs.Properties.{perhaps_tag_of}
 use Rattle.defs_event.specs.Names.{prefix_of}
 use Rattle.model_parser.specs.Rest.{place_of as where_it_stands}
@@ -7,6 +7,7 @@ use Rattle.defs_event.specs.Table.{leaves}
 use Rattle.model_parser.specs.Stands.{IsNext as Starts}
 use Rattle.model_parser.proofs.Apart.{no_two_anchors}
 use Rattle.yaml_parser.specs.declared.node.Properties.{Properties}
+use Rattle.model_parser.proofs.OnePlacing.{some_is}
 use Rattle.yaml_parser.proofs.Steps.{looked, took, left, Named, breaks, map_snoc, if_some_at}
 use Rattle.yaml_parser.proofs.Arms.{StandsHere, HasNoColon, here_at, under_no_colon, Skipped, stays, stay, not_as, faulted_as}
 use Rattle.yaml_parser.proofs.Ends.{at_derived, StandsBeside, at_peeked}
@@ -169,8 +170,7 @@ unnamed_at {T} {g} {g'} {p} {r} {t} {m} {ss} {e} {names} {given} q fit of_names 
 
 -- whether a comma may stand before it does not depend on the context
 pub breaks_none : (w u : positions.NodeContext) (o : Option written.Properties) → breaks (Goal.after_properties w o) (Goal.after_properties u o) ≡ false
-breaks_none w u None = refl
-breaks_none w u (Some o) = refl
+breaks_none w u o = grind arith
 
 -- what is pending does not depend on the position
 pub pending_same : (w u : positions.NodeContext) (names : Names) (o : Option written.Properties) → IsPending names (Goal.after_properties w o) → IsPending names (Goal.after_properties u o)
@@ -183,14 +183,8 @@ pub record HasNoProperties (k : Kind) : Type 0 where
   pub anchor : k ≢ kind.Anchor
   pub tag : k ≢ kind.Tag
 
-pub block_entry_alone : HasNoProperties kind.BlockEntry
-block_entry_alone = record { alias = λ e. cc; anchor = λ e. cc; tag = λ e. cc }
-
-pub block_sequence_alone : HasNoProperties kind.BlockSequenceStart
-block_sequence_alone = record { alias = λ e. cc; anchor = λ e. cc; tag = λ e. cc }
-
-pub block_mapping_alone : HasNoProperties kind.BlockMappingStart
-block_mapping_alone = record { alias = λ e. cc; anchor = λ e. cc; tag = λ e. cc }
+pub block_alone : {k : Kind} → (k ≡ kind.BlockEntry) ⊎ ((k ≡ kind.BlockSequenceStart) ⊎ (k ≡ kind.BlockMappingStart)) → HasNoProperties k
+block_alone h = record { alias = λ e. grind arith; anchor = λ e. grind arith; tag = λ e. grind arith }
 
 -- a node without properties
 pub bare : {T : Type 0} {p : Reader T} {k : Kind} (w : positions.NodeContext) {names : Names} {given : List (Ev × Position)} → IsOfKind k p.tokens.peeked → HasNoProperties k
@@ -258,15 +252,12 @@ first_said h t (Some (takes (show ∷ ps))) = Some (event_of h t)
 first_said h t (Some (leaves (empty ∷ ps))) = Some (empty_event h)
 first_said h t _ = None
 
-is_same : {A : Type 0} {x y : A} → Some x ≡ Some y → x ≡ y
-is_same h = cc
-
 said_first : (g : table.Goal) (h : Held) (w : Works) (t : Tok) (ts : List Tok) (es : List Raw) (e : Raw) → first_said h t (row_of (cases g) t) ≡ Some e → Derives grammar (reading g h ∷ w) (t ∷ ts) es → (fs : List Raw) × (es ≡ e ∷ fs)
 said_first g h w t ts es e f d = by (row_of (cases g) t) refl f
   where
     by : (r : Option (Row table.Goal Raw)) → row_of (cases g) t ≡ r → first_said h t r ≡ Some e → (fs : List Raw) × (es ≡ e ∷ fs)
-    by (Some (takes (show ∷ ps))) q k = let s = said _ _ ts es (row_taken g h w t ts es _ q d) in (s.0, s.1 ∙ ap (λ o. o ∷ s.0) (is_same k))
-    by (Some (leaves (empty ∷ ps))) q k = let s = said _ _ (t ∷ ts) es (row_left g h w t ts es _ q d) in (s.0, s.1 ∙ ap (λ o. o ∷ s.0) (is_same k))
+    by (Some (takes (show ∷ ps))) q k = let s = said_by (taken_by d _ q) in (s.0, s.1 ∙ ap (λ o. o ∷ s.0) (some_is k))
+    by (Some (leaves (empty ∷ ps))) q k = let s = said_by (left_by d _ q) in (s.0, s.1 ∙ ap (λ o. o ∷ s.0) (some_is k))
     by r q k = cc
 
 content_unresolved : (s : Names) (p : Place) (h : Held) (t : Tok) → perhaps_resolved s.handles h.tag ≡ None → (e : Raw) × (first_said h t (row_of (cases (table.content p)) t) ≡ Some e) × (resolved_event s e ≡ None)
@@ -285,8 +276,8 @@ content_unnameable keep s p h w (t ∷ ts) es k d =
 -- An anchor may still come.
 tagged_unnameable : (keep : Bool) (s : Names) (p : Place) (h : Held) (w : Works) (ts : List Tok) (es : List Raw) → perhaps_resolved s.handles h.tag ≡ None → Derives grammar (reading (table.after_tag p) h ∷ w) ts es → Unnameable keep s es
 tagged_unnameable keep s p h w [] es k d = absurd (needs_tokens (reading (table.after_tag p) h ∷ w) es refl d)
-tagged_unnameable keep s p h w (Tok.anchor n ∷ ts) es k d = content_unnameable keep s p (record h { anchor = Some n }) w ts es k (row_taken (table.after_tag p) h w (Tok.anchor n) ts es _ refl d)
-tagged_unnameable keep s p h w (t ∷ ts) es k d = content_unnameable keep s p h w (t ∷ ts) es k (row_left (table.after_tag p) h w t ts es _ refl d)
+tagged_unnameable keep s p h w (Tok.anchor n ∷ ts) es k d = content_unnameable keep s p (record h { anchor = Some n }) w ts es k (taken_by d _ refl)
+tagged_unnameable keep s p h w (t ∷ ts) es k d = content_unnameable keep s p h w (t ∷ ts) es k (left_by d _ refl)
 
 anchor_named : (t : Tok) → kind_of t ≡ kind.Anchor → (n : List ℕ) × (t ≡ Tok.anchor n)
 anchor_named (Tok.anchor n) h = (n, refl)
@@ -305,8 +296,7 @@ no_anchor_before {T} {p} {m} w a e =
     no_two_anchors (toks e.before) n.0 [] rest (a.raw ++ says) (subst (λ us. StreamSays us (a.raw ++ says)) (ap (λ xs. xs ++ Tok.anchor [] ∷ rest) taken ∙ append_assoc (toks e.before) (Tok.anchor n.0 ∷ []) (Tok.anchor [] ∷ rest)) d)
 
 no_prefix : (x : event.Tag) (o : Option (List ℕ)) → option_map {U = event.Tag} (λ prefix. record { handle = prefix; suffix = x.suffix }) o ≡ None → o ≡ None
-no_prefix x None h = refl
-no_prefix x (Some p) h = cc
+no_prefix x o h = grind arith
 
 pub tag_unknown : {T : Type 0} {p r : Reader T} {t : Token} {m : Position} {w : positions.NodeContext} {x : event.Tag} {names : Names} {given : List (Ev × Position)}
     → p.tokens.peeked ≡ Some t → t.0 ≡ m → Skips p.tokens t r.tokens → r.names ≡ p.names → tok_of t.1 ≡ written.tag_token x → resolved names.handles x ≡ None → At (Goal.node w) p names given → Faulted r given (stop.Own (fault.At UndeclaredHandle m))

@@ -1,11 +1,10 @@
 -- Where the next token decides, two different events may come.
-use Rattle.yaml_parser.proofs.Common.{[], all_shown, ap, append-nil, append_assoc, At, Awaits, BeginAt, Directive, Ev, Fails, false, Faulted, Goal, GoesOnWith, IfSome, is_done, is_idle, is_over, is_pair_end, IsAwake, IsDerived, IsHalted, IsHanded, IsOnTrack, IsOpen, IsStopped, last_position, List, map-append, may_wait, Names, needs_tokens, no_row, None, nothing_held, nothing_written, Option, or_parts, peeked_tok, perhaps, Places, Position, Raw, Reader, refl, row_left, row_taken, said, scanned, shown_list, Some, State, stood, Stop, StreamPlacesTo, StreamSays, subst, sym, taken_toks, text, to_next, Tok, Token, toks, true, wants_token, work_of, works, ◌++◌, ◌||◌, ◌∙◌, ◌∷◌, ◌≡◌, ◌≢◌}
+use Rattle.yaml_parser.proofs.Common.{[], all_shown, ap, append-nil, append_assoc, At, Awaits, BeginAt, Directive, Ev, Fails, false, Faulted, Goal, GoesOnWith, IfSome, is_done, is_idle, is_over, is_pair_end, IsAwake, IsDerived, IsHalted, IsHanded, IsOnTrack, IsOpen, IsStopped, last_position, List, map-append, may_wait, Names, needs_tokens, none_by, None, nothing_written, Option, or_parts, peeked_tok, perhaps, Places, Position, Raw, Reader, refl, left_by, taken_by, said_by, scanned, shown_list, Some, State, stood, Stop, StreamPlacesTo, StreamSays, subst, sym, taken_toks, text, to_next, Tok, Token, toks, true, wants_token, work_of, ◌++◌, ◌||◌, ◌∙◌, ◌∷◌, ◌≡◌, ◌≢◌}
 use Rattle.model_parser.specs.Rest.{placed}
 use Rattle.yaml_parser.proofs.Steps.{look_peeked, begins_peeked}
 use Rattle.yaml_parser.proofs.Ends.{at_derived}
 use Rattle.yaml_parser.proofs.Ways.{Way, way, longer}
 use Rattle.defs_token.specs.Token as defs
-use Rattle.defs_event.specs.Grammar as table
 use Rattle.yaml_parser.specs.declared.tokens.Stop.TheVariants as stop
 
 -- What is awaited begins with two different events; or with one, and then with two different ones.
@@ -15,17 +14,17 @@ pub data Opens (g : Goal) (ss : List State) : Type 0 where
 
 start_says : (ss : List State) (ts : List Tok) (es : List Raw) → Awaits Goal.start ss ts es → (fs : List Raw) × (es ≡ Raw.stream_start ∷ fs)
 start_says ss [] es a = absurd (needs_tokens (work_of Goal.start ss) es refl a.0)
-start_says ss (Tok.stream_start ∷ ts) es a = let s = said _ _ ts es (row_taken table.stream nothing_held (works ss) Tok.stream_start ts es _ refl a.0) in (s.0, s.1)
-start_says ss (t ∷ ts) es a = absurd (no_row table.stream nothing_held (works ss) t ts es refl a.0)
+start_says ss (Tok.stream_start ∷ ts) es a = let s = said_by (taken_by a.0 _ refl) in (s.0, s.1)
+start_says ss (t ∷ ts) es a = absurd (none_by a.0 refl)
 
 end_says : (ss : List State) (ts : List Tok) (es : List Raw) → Awaits Goal.after ss ts es → (fs : List Raw) × (es ≡ Raw.document_end ∷ fs)
 end_says ss [] es a = absurd (needs_tokens (work_of Goal.after ss) es refl a.0)
-end_says ss (Tok.document_end ∷ ts) es a = let s = said _ _ ts es (row_taken table.document_end nothing_held (works ss) Tok.document_end ts es _ refl a.0) in (s.0, s.1)
-end_says ss (t ∷ ts) es a = let s = said _ _ (t ∷ ts) es (row_left table.document_end nothing_held (works ss) t ts es _ refl a.0) in (s.0, s.1)
+end_says ss (Tok.document_end ∷ ts) es a = let s = said_by (taken_by a.0 _ refl) in (s.0, s.1)
+end_says ss (t ∷ ts) es a = let s = said_by (left_by a.0 _ refl) in (s.0, s.1)
 
 empty_says : (ss : List State) (ts : List Tok) (es : List Raw) → Awaits Goal.flow_empty ss ts es → (fs : List Raw) × (es ≡ nothing_written ∷ fs)
 empty_says ss [] es a = absurd (needs_tokens (work_of Goal.flow_empty ss) es refl a.0)
-empty_says ss (t ∷ ts) es a = let s = said _ _ (t ∷ ts) es (row_left table.no_flow_mapping_value nothing_held (works ss) t ts es _ refl a.0) in (s.0, s.1)
+empty_says ss (t ∷ ts) es a = let s = said_by (left_by a.0 _ refl) in (s.0, s.1)
 
 opens : (g : Goal) (ss : List State) → is_idle g ≡ false → Opens g ss
 opens Goal.done ss h = cc

@@ -1,7 +1,8 @@
 -- What is known of a parser, from call to call.
 use Rattle.std.specs.Bool.{beq}
-use Rattle.yaml_parser.proofs.Common.{[], Advances, all_placed, and_parts, ap, append-nil, AreAll, arith, Bool, both_ways, Continues, Err, ErrorReport, Ev, ev_of, Event, EventReader, events_left, Explains, false, false_from_ne_true, fault_kept, fault_of_all, fault_seen, GivesEvent, GivesFault, has_end, Holds, IfSome, if◌then◌else◌, inl, inr, is_fresh, is_some, is_stream_end, IsErrAnd, IsHeld, IsSound, Keeping, KeptStop, length, List, Looks, map-append, nil_from_length, no_document, None, not, not-true, Notes, Ok, Option, option_map, or_cases, Parsed, placed, Position, read_so, Reader, refl, Result, scanned, Some, stays_steady, Stop, subst, sym, true, Waits, work, ◌&&◌, ◌++◌, ◌<◌, ◌||◌, ◌∙◌, ◌∷◌, ◌≡◌, ◌≢◌, ◌⊎◌}
+use Rattle.yaml_parser.proofs.Common.{[], Advances, all_placed, and_parts, ap, append-nil, AreAll, arith, Bool, both_ways, Continues, Err, ErrorReport, Ev, ev_of, Event, EventReader, events_left, Explains, false, false_from_ne_true, fault_kept, fault_of_all, fault_seen, GivesEvent, GivesFault, has_end, Holds, IfSome, if◌then◌else◌, inl, inr, is_fresh, is_some, is_stream_end, IsErrAnd, IsHeld, IsSound, Keeping, KeptStop, length, List, Looks, map-append, nil_from_length, no_document, None, not, not-true, Notes, Ok, Option, option_map, or_cases, Parsed, placed, Position, read_so, Reader, refl, Result, scanned, Some, stays_steady, Stop, subst, sym, true, Waits, work, ◌&&◌, ◌++◌, ◌<◌, ◌||◌, ◌∙◌, ◌∷◌, ◌≡◌, ◌≢◌}
 use Rattle.yaml_parser.proofs.Holding.{KnowsSteady, closed, keeps, failed_as, set_stands, held_sound, held_explained, has_end_snoc}
+use Rattle.yaml_parser.proofs.DirectiveLemmas.{none_if, some_map}
 use Rattle.yaml_parser.proofs.Since.{all_more}
 
 -- ---- what clauses see
@@ -22,8 +23,7 @@ seen pull given current started ended misplaced = record {
 }
 
 pub read_none : (given : List (Ev × Position)) (b : Bool) → read_so given b None ≡ given
-read_none given true = refl
-read_none given false = refl
+read_none given b = grind arith
 
 read_next : (given : List (Ev × Position)) (b : Bool) (e : Ev × Position) → read_so given b (Some e) ≡ given ++ (if b then [] else e ∷ [])
 read_next given true e = sym (append-nil given)
@@ -50,13 +50,8 @@ fresh_holds {T} pull given x kept none h = record {
 
 -- ---- a look
 
-some_map : {A B : Type 0} (f : A → B) (o : Option A) → is_some o ≡ true → is_some (option_map f o) ≡ true
-some_map f None h = cc
-some_map f (Some x) h = refl
-
 settings_if : {A : Type 0} (b c : Bool) (x y : A) → b ≡ true → (if b || c then x else y) ≡ x
-settings_if true c x y h = refl
-settings_if false c x y h = cc
+settings_if b c x y h = grind arith
 
 -- One waits already.
 pub waits_still : {T : Type 0} (pull : EventReader T) (given : List (Ev × Position)) (current : Option (Event × Position)) (started ended : Bool) (misplaced : Option Position)
@@ -81,10 +76,6 @@ waits_still {T} pull given current started ended misplaced h some =
     if_any : {A : Type 0} {P : A → Type 0} (o : Option A) → ((x : A) → P x) → IfSome o P
     if_any None f = tt
     if_any (Some x) f = f x
-
-none_if : {A : Type 0} (o : Option A) → is_some o ≡ false → o ≡ None
-none_if None h = refl
-none_if (Some x) h = cc
 
 -- `load` met another event than a document's start.
 pub fault_misplaced : {T : Type 0} (pull : EventReader T) (given : List (Ev × Position)) (current : Option (Event × Position)) (started ended : Bool) (misplaced : Option Position) (p : Position)
@@ -144,8 +135,7 @@ err_same : {x y : ErrorReport} → ◌≡◌ {A = Result (Event × Position) Err
 err_same {x} {y} h = cc
 
 none_before : {A B : Type 0} (f : A → B) (o : Option A) → option_map f o ≡ None → o ≡ None
-none_before f None h = refl
-none_before f (Some x) h = cc
+none_before f o h = grind arith
 
 pub fault_given : {T : Type 0} (pull new : EventReader T) (given : List (Ev × Position)) (current : Option (Event × Position)) (started ended : Bool) (misplaced : Option Position) (f : ErrorReport)
     → Holds pull given (option_map placed current) started ended misplaced → is_some current ≡ false → misplaced ≡ None
@@ -169,11 +159,10 @@ fault_given {T} pull new given current started ended misplaced f h none clear x 
       why = why;
     }
   where
-    none_kept : fault_kept pull ≡ None → pull.kept ≡ None
-    none_kept b = none_before (λ k. fault_seen k.stop k.mark (scanned pull.reader.tokens.scanner).fault) pull.kept b
-
     why : (seen pull given current started ended misplaced).fault ≡ None → Explains f (seen new given current started ended misplaced)
-    why b = held_explained new.reader (seen new given current started ended misplaced) new.kept f kept (x.2 (none_kept (ap (λ m. fault_of_all m pull) (sym clear) ∙ b))) (subst IsKnownSteady (sym x.0) h.steady)
+    why b =
+        let none = none_before (λ k. fault_seen k.stop k.mark (scanned pull.reader.tokens.scanner).fault) pull.kept (ap (λ m. fault_of_all m pull) (sym clear) ∙ b) in
+        held_explained new.reader (seen new given current started ended misplaced) new.kept f kept (x.2 none) (subst IsKnownSteady (sym x.0) h.steady)
 
     again_seen : (o : Option ErrorReport) → IfSome o (λ g. (◌≡◌ {A = Result (Event × Position) ErrorReport} (Err f) (Err g)) × (new ≡ pull)) → IfSome o (λ g. (f ≡ g) × (seen new given current started ended misplaced ≡ seen pull given current started ended misplaced))
     again_seen None a = tt
@@ -310,8 +299,7 @@ event_given {T} pull given new e started ended ended' misplaced h more end =
     }
 
 pub none_waits : (current : Option (Event × Position)) → is_some (option_map placed current) ≡ false → is_some current ≡ false
-none_waits None h = h
-none_waits (Some e) h = h
+none_waits current h = grind arith
 
 -- An event is read, and given at once.
 pub given_at_once : {T : Type 0} (pull new : EventReader T) (given more : List (Ev × Position)) (current : Option (Event × Position)) (started ended ended' : Bool) (misplaced : Option Position) (e : Event × Position)
@@ -405,10 +393,7 @@ no_settings : {T : Type 0} (p : Reader T) (es : List (Ev × Position)) → IsHel
 no_settings {T} p es x h = nil_from_length p.names.keeping.settings.items (x.each ∙ ap length h)
 
 same_bool : (a b : Bool) → beq a b ≡ true → a ≡ b
-same_bool true true h = refl
-same_bool false false h = refl
-same_bool true false h = cc
-same_bool false true h = cc
+same_bool a b h = grind arith
 
 -- A setting that counts from the start on was made where nothing was read, or is what it was.
 pub settings_hold : {T : Type 0} (pull : EventReader T) (given : List (Ev × Position)) (current : Option (Event × Position)) (started ended : Bool) (misplaced : Option Position) (k : Keeping)
@@ -428,15 +413,11 @@ settings_hold {T} pull given current started ended misplaced k h steady same = r
     none_of_all None e = none_before (λ x. fault_seen x.stop x.mark (scanned pull.reader.tokens.scanner).fault) pull.kept (none_if (fault_kept pull) e)
     none_of_all (Some q) e = cc
 
-    none_ahead : (o : Option (Event × Position)) → is_some (option_map placed o) ≡ false → o ≡ None
-    none_ahead None e = refl
-    none_ahead (Some x) e = cc
-
     nothing_read : is_fresh (seen pull given current started ended misplaced) ≡ true → pull.reader.names.keeping.settings.items ≡ []
     nothing_read b =
         let two = and_parts (not started) (not (is_some (option_map placed current)) && not (is_some (fault_of_all misplaced pull))) b in
         let three = and_parts (not (is_some (option_map placed current))) (not (is_some (fault_of_all misplaced pull))) two.1 in
-        let none = none_ahead current (not-true (is_some (option_map placed current)) three.0) in
+        let none = none_before placed current (none_if (option_map placed current) (not-true (is_some (option_map placed current)) three.0)) in
         let empty = ap (λ o. read_so given ended (option_map placed o)) none ∙ read_none given ended ∙ h.first (not-true started two.0) in
         let kept = none_of_all misplaced (not-true (is_some (fault_of_all misplaced pull)) three.1) in
         no_settings pull.reader (read_so given ended (option_map placed current)) (subst (IsHeld pull.reader (read_so given ended (option_map placed current))) kept h.held) empty

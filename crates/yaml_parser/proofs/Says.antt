@@ -1,8 +1,7 @@
 -- The tokens say which problem a refused token has.
-use Rattle.yaml_parser.proofs.Common.{[], ap, block_mapping, block_sequence, Collection, Directive, directive_next, Ev, false, flow_mapping, flow_sequence, Goal, goes_so, if◌then◌else◌, is_after, is_directive, is_in_mapping, is_over_document, is_under, IsBottom, IsNested, IsNoDirective, Kind, kind_of, List, Names, Next, next_after, next_at, no_row, node_next, None, open_after, open_at, open_under, Option, other_next, Position, Problem, problem_at, problem_for, problem_in, problem_of, Raw, Reader, refl, Some, State, StreamSays, subst, sym, taken_toks, Tok, top, true, ◌++◌, ◌∙◌, ◌∷◌, ◌≡◌, ◌≢◌}
+use Rattle.yaml_parser.proofs.Common.{[], ap, block_mapping, block_sequence, Collection, Directive, directive_next, Ev, false, flow_mapping, flow_sequence, Goal, goes_so, if◌then◌else◌, is_after, is_directive, is_in_mapping, is_over_document, is_under, IsBottom, IsNested, IsNoDirective, Kind, kind_of, List, Names, Next, next_after, next_at, none_by, node_next, None, open_after, open_at, open_under, Option, other_next, Position, Problem, problem_at, problem_for, problem_in, problem_of, Raw, Reader, refl, Some, State, StreamSays, subst, sym, taken_toks, Tok, top, true, ◌++◌, ◌∙◌, ◌∷◌, ◌≡◌, ◌≢◌}
 use Rattle.yaml_parser.proofs.Ends.{Says}
 use Rattle.yaml_parser.proofs.Nesting.{nothing_taken}
-use Rattle.defs_event.specs.Grammar as table
 use Rattle.yaml_tokens.specs.declared.problem.Problem.TheVariants as problem
 use Rattle.model_parser.specs.declared.context.NodeContext.TheVariants as context
 use Rattle.model_parser.specs.declared.state.State.TheVariants as state
@@ -61,7 +60,7 @@ says_directed {T} {k} {p} read none a known t look kind =
 
 -- Something was taken before a document's end.
 taken_some : (ts us : List Tok) (es : List Raw) → StreamSays (ts ++ Tok.stream_end ∷ us) es → ts ≢ []
-taken_some [] us es d e = no_row table.stream table.nothing_held [] Tok.stream_end us es refl d
+taken_some [] us es d e = none_by d refl
 taken_some (t ∷ ts) us es d e = cc
 
 pub says_after : {T : Type 0} {k : Kind} {p : Reader T} {names : Names} {given : List (Ev × Position)} → is_directive k ≡ true → Says problem.DirectiveWithoutDocumentEnd k Goal.after p names given

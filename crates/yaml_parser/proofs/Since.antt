@@ -2,8 +2,7 @@
 use Rattle.yaml_parser.proofs.Common.{[], after_append, ap, append_named, AreAll, arith, Bool, both, both_some, Ev, length, List, named, named_since, Names, names_after, names_after_all, names_since, None, Option, Raw, refl, resolved_event, Some, sym, ◌++◌, ◌+◌, ◌∙◌, ◌∷◌, ◌≡◌, ◌≤◌}
 
 both_none : (o : Option Ev) → both o None ≡ None
-both_none None = refl
-both_none (Some v) = refl
+both_none o = grind arith
 
 -- ---- more events, with the setting that there is
 

@@ -1,9 +1,9 @@
 -- The turns over the code's state.
-use Rattle.yaml_parser.proofs.Common.{[], all_shown, ap, append-nil, arith, At, BeginAt, behind, Bool, both, both_ways, Ev, events_of, false, Goal, IfSome, is_end, is_over, IsAt, IsAwake, IsHanded, IsNamed, IsNext, IsOfKind, IsOnTrack, IsPastColon, IsPending, Keeping, Kind, kind_of, last_position, Leaves, length, length-append, List, looks, map, named, named_by, Names, names_after, names_at, names_by, no_names, None, nowhere, Option, option_map, or_parts, peeked_tok, Position, Raw, Reader, refl, resolved_event, scanned, shown, shown_list, Skips, Some, State, stood, subst, sym, taken_toks, Takes, Tok, tok_of, Token, Tokens, toks, top, ℕ, ◌++◌, ◌||◌, ◌∙◌, ◌∷◌, ◌≡◌, ◌≤◌}
+use Rattle.yaml_parser.proofs.Common.{[], all_shown, ap, append-nil, arith, At, BeginAt, behind, Bool, both, both_ways, Ev, events_of, false, Goal, IfSome, is_end, is_over, IsAt, IsAwake, IsHanded, IsNamed, IsNext, IsOfKind, IsOnTrack, IsPastColon, IsPending, Kind, kind_of, last_position, Leaves, length, length-append, List, looks, map, named, named_by, Names, names_after, names_at, names_by, no_names, None, nowhere, Option, option_map, or_parts, peeked_tok, Position, Raw, Reader, refl, resolved_event, shown, shown_list, Skips, Some, State, stood, subst, sym, taken_toks, Takes, Tok, tok_of, Token, Tokens, toks, top, ◌++◌, ◌||◌, ◌∙◌, ◌∷◌, ◌≡◌, ◌≤◌, then_event, event_at}
 use Rattle.model_parser.proofs.Carry.{stands_take, stands_leave}
 use Rattle.yaml_parser.specs.Handed.{ends}
-use Rattle.yaml_parser.proofs.Positions.{count_more, behind_more}
-use Rattle.yaml_parser.proofs.Placing.{StandsSo, placed_took, placed_took_on, placed_left, placed_left_on}
+use Rattle.yaml_parser.proofs.Positions.{count_more, behind_more, stood_over}
+use Rattle.yaml_parser.proofs.Placing.{StandsSo, placed_took, placed_left}
 use Rattle.yaml_parser.proofs.Since.{since_append, since_after}
 use Rattle.defs_token.specs.Token as defs
 
@@ -22,43 +22,18 @@ pub looked : (k : Kind) (o : Option Token) → IsOfKind k o → (t : Token) × (
 looked k None h = absurd h
 looked k (Some t) h = (t, refl, h)
 
-skipped_handed : {T : Type 0} {p r : Tokens T} {t : Token} → p.peeked ≡ Some t → Skips p t r → IsHanded p → IsHanded r
-skipped_handed {T} {p} {r} {t} here s h =
-    ap (λ x. (scanned x).given) s.scanner ∙ h ∙ ap (λ o. all_shown p.taken.items ++ shown_list o) here
-    ∙ sym (map_snoc shown p.taken.items t) ∙ ap all_shown (sym s.taken)
-    ∙ sym (append-nil (all_shown r.taken.items)) ∙ ap (λ o. all_shown r.taken.items ++ shown_list o) (sym s.peeked)
+-- Where it stands depends on its tokens and its stack as they are, by whatever name.
+moved : {T : Type 0} {g : Goal} {names : Names} {given : List (Ev × Position)} (r : Reader T) {u : Tokens T} {ss : List State} → r.tokens ≡ u → r.stack ≡ ss
+    → At g (record r { tokens = u; stack = ss }) names given → At g r names given
+moved {g = g} {names} {given} r {u} {ss} same to a = subst (λ zs. At g (record r { stack = zs }) names given) (sym to) (subst (λ v. At g (record r { tokens = v; stack = ss }) names given) (sym same) a)
 
-skipped_awake : {T : Type 0} {p r : Tokens T} {t : Token} → p.peeked ≡ Some t → Skips p t r → is_end (tok_of t.1) ≡ false → IsAwake p → IsAwake r
-skipped_awake {T} {p} {r} {t} here s e a =
-    (ap (λ x. (scanned x).ended) s.scanner ∙ a.0 ∙ ap ends here ∙ e ∙ ap ends (sym s.peeked), ap (λ x. (scanned x).fault) s.scanner ∙ a.1)
-
-skipped_stands : {T : Type 0} {p r : Tokens T} {t : Token} {g g' : Goal} {ss ss' : List State} {raw raw' : List Raw}
-    → p.peeked ≡ Some t → Skips p t r → (IsOnTrack g ss (taken_toks p) (Some (tok_of t.1)) raw → IsOnTrack g' ss' (taken_toks p ++ tok_of t.1 ∷ []) None raw')
-    → IsOnTrack g ss (taken_toks p) (peeked_tok p) raw → IsOnTrack g' ss' (taken_toks r) (peeked_tok r) raw'
-skipped_stands {T} {p} {r} {t} {g} {g'} {ss} {ss'} {raw} {raw'} here s f h =
-    let one = f (subst (λ o. IsOnTrack g ss (taken_toks p) (option_map (λ (x : Token). tok_of x.1) o) raw) here h) in
-    let two = subst (λ ts. IsOnTrack g' ss' ts None raw') (sym (ap (λ xs. toks (all_shown xs)) s.taken ∙ taken_snoc p.taken.items t)) one in
-    subst (λ o. IsOnTrack g' ss' (taken_toks r) (option_map (λ (x : Token). tok_of x.1) o) raw') (sym s.peeked) two
-
--- ---- places
-
-placed_after : {T : Type 0} {p r : Tokens T} {t : Token} (g : Goal) {ss us : List State} (stands : List (Raw × Position))
-    → Skips p t r → us ≡ ss → StandsSo (all_shown p.taken.items ++ shown t ∷ []) None (Some t.0) g ss stands → StandsSo (all_shown r.taken.items) r.peeked (last_position r) g us stands
-placed_after {T} {p} {r} {t} g {ss} {us} stands s to x =
-    let one = subst (λ ts. StandsSo ts None (Some t.0) g ss stands) (sym (ap all_shown s.taken ∙ map_snoc shown p.taken.items t)) x in
-    let two = subst (λ o. StandsSo (all_shown r.taken.items) o (Some t.0) g ss stands) (sym s.peeked) one in
-    let three = subst (λ b. StandsSo (all_shown r.taken.items) r.peeked b g ss stands) (sym (behind_more p.taken.items t r.taken.items s.taken)) two in
-    subst (λ zs. StandsSo (all_shown r.taken.items) r.peeked (last_position r) g zs stands) (sym to) three
-
-placed_same : {T : Type 0} {p r : Tokens T} (g : Goal) {ss us : List State} (stands : List (Raw × Position))
-    → r ≡ p → us ≡ ss → StandsSo (all_shown p.taken.items) p.peeked (last_position p) g ss stands → StandsSo (all_shown r.taken.items) r.peeked (last_position r) g us stands
-placed_same {T} {p} {r} g {ss} {us} stands same to x =
-    subst (λ zs. StandsSo (all_shown r.taken.items) r.peeked (last_position r) g zs stands) (sym to)
-    (subst (λ y. StandsSo (all_shown y.taken.items) y.peeked (last_position y) g ss stands) (sym same) x)
-
-colon_after : {T : Type 0} {p r : Tokens T} {t : Token} (g : Goal) {ss us : List State} → Skips p t r → us ≡ ss → IsPastColon (top g ss) (Some t.0) → IsPastColon (top g us) (last_position r)
-colon_after {T} {p} {r} {t} g {ss} {us} s to x =
-    subst (λ zs. IsPastColon (top g zs) (last_position r)) (sym to) (subst (IsPastColon (top g ss)) (sym (behind_more p.taken.items t r.taken.items s.taken)) x)
+-- after a token was taken
+skipped : {T : Type 0} {g : Goal} {p : Tokens T} {t : Token} {names : Names} {given : List (Ev × Position)} (r : Reader T) {ss : List State} → Skips p t r.tokens → r.stack ≡ ss
+    → At g (record r { tokens = record { scanner = p.scanner; peeked = None; taken = record (r.tokens.taken) { items = p.taken.items ++ t ∷ [] } }; stack = ss }) names given → At g r names given
+skipped {g = g} {p} {t} {names} {given} r {ss} s to a =
+    let one = subst (λ xs. At g (record r { tokens = record { scanner = p.scanner; peeked = None; taken = record (r.tokens.taken) { items = xs } }; stack = ss }) names given) (sym s.taken) a in
+    let two = subst (λ o. At g (record r { tokens = record { scanner = p.scanner; peeked = o; taken = r.tokens.taken }; stack = ss }) names given) (sym s.peeked) one in
+    moved r refl to (subst (λ x. At g (record r { tokens = record { scanner = x; peeked = r.tokens.peeked; taken = r.tokens.taken }; stack = ss }) names given) (sym s.scanner) two)
 
 -- ---- one turn
 
@@ -70,74 +45,84 @@ pub record Named {T : Type 0} (p r : Reader T) (g' : Goal) (names : Names) (e : 
   pub code : IsNamed r.names (names_at r.names.keeping.tags g' names')
   pub pending : IsPending names' g'
 
--- the settings are no more than the events, also after one more
-few_more : (n : ℕ) (raw : List Raw) (e : Raw) → n ≤ length raw → n ≤ length (raw ++ e ∷ [])
-few_more n raw e h = omega (arith, h, length-append raw (e ∷ []))
+-- What a turn gives, an event or none, and the names after it.
+record Gave {T : Type 0} (m : Position) {g : Goal} {p : Reader T} {names : Names} {given : List (Ev × Position)} (a : At g p names given) (r : Reader T) (g' : Goal) (e : Option Raw) (names' : Names) (given' : List (Ev × Position)) : Type 0 where
+  pub count : length (then_event a.raw e) ≡ length given'
+  pub few : length r.names.keeping.settings.items ≤ length (then_event a.raw e)
+  pub stands : stood (then_event a.raw e) given' ≡ stood a.raw given ++ event_at e m []
+  pub events : named_by r.names.keeping (then_event a.raw e) ≡ Some (events_of given')
+  pub names_are : names_by r.names.keeping (then_event a.raw e) ≡ names'
+  pub code : IsNamed r.names (names_at r.names.keeping.tags g' names')
+  pub pending : IsPending names' g'
 
-events_more : {T : Type 0} (m : Position) {p r : Reader T} {g g' : Goal} {names names' : Names} {e : Raw} {v : Ev} {given : List (Ev × Position)}
-    → Named p r g' names e v names' → (a : At g p names given) → named_by r.names.keeping (a.raw ++ e ∷ []) ≡ Some (events_of (given ++ (v, m) ∷ []))
-events_more {T} m {p} {r} {g} {g'} {names} {names'} {e} {v} {given} n a =
+gave : {T : Type 0} (m : Position) {g g' : Goal} {p r : Reader T} {names names' : Names} {e : Raw} {v : Ev} {given : List (Ev × Position)}
+    → Named p r g' names e v names' → (a : At g p names given) → Gave m a r g' (Some e) names' (given ++ (v, m) ∷ [])
+gave m {p = p} {r} {e = e} {v} {given} n a =
     let k = p.names.keeping in
+    let items = k.settings.items in
     let last : named k.tags (names_by k a.raw) (e ∷ []) ≡ Some (v ∷ []) = ap (λ o. both o (Some [])) (ap (λ s. resolved_event s e) a.names_are ∙ n.resolves) in
-    ap (λ k. named_by k (a.raw ++ e ∷ [])) n.keep ∙ since_append k.settings.items k.tags no_names a.raw (e ∷ []) (events_of given) (v ∷ []) a.few a.events last
-    ∙ ap Some (sym (map_snoc (λ (x : Ev × Position). x.0) given (v, m)))
-
-names_more : {T : Type 0} {p r : Reader T} {g g' : Goal} {names names' : Names} {e : Raw} {v : Ev} {given : List (Ev × Position)}
-    → Named p r g' names e v names' → (a : At g p names given) → names_by r.names.keeping (a.raw ++ e ∷ []) ≡ names'
-names_more {T} {p} {r} {g} {g'} {names} {names'} {e} {v} {given} n a =
-    let k = p.names.keeping in
-    ap (λ k. names_by k (a.raw ++ e ∷ [])) n.keep ∙ since_after k.settings.items k.tags no_names a.raw e a.few ∙ ap (λ s. names_after k.tags s e) a.names_are ∙ n.after_it
-
-few_kept : {j k : Keeping} (raw : List Raw) → k ≡ j → length j.settings.items ≤ length raw → length k.settings.items ≤ length raw
-few_kept {j} {k} raw keep h = subst (λ k. length k.settings.items ≤ length raw) (sym keep) h
-
--- The token is taken, and an event is given.
-pub took : {T : Type 0} (m : Position) {g g' : Goal} {p r : Reader T} {t : Token} {ss' : List State} {e : Raw} {v : Ev} {names names' : Names} {given : List (Ev × Position)}
-    → p.tokens.peeked ≡ Some t → Skips p.tokens t r.tokens → r.stack ≡ ss' → Takes g p.stack (tok_of t.1) (Some e) g' ss'
-    → Named p r g' names e v names' → (is_over g' ≡ false → (is_over g ≡ false) × (is_end (tok_of t.1) ≡ false)) → IsAt (last_position p.tokens) (shown t) (Some e) m → IsPastColon (top g' ss') (Some t.0)
-    → At g p names given → At g' r names' (given ++ (v, m) ∷ [])
-took {T} m {g} {g'} {p} {r} {t} {ss'} {e} {v} {names} {names'} {given} here s to turn n wakes spot past a =
     record {
-      raw = a.raw ++ e ∷ [];
-      stands = subst (λ ss. IsOnTrack g' ss (taken_toks r.tokens) (peeked_tok r.tokens) (a.raw ++ e ∷ [])) (sym to)
-          (skipped_stands here s (stands_take g p.stack (tok_of t.1) (Some e) g' ss' (taken_toks p.tokens) a.raw turn) a.stands);
-      handed = skipped_handed here s a.handed;
-      awake = λ o. skipped_awake here s (wakes o).1 (a.awake (wakes o).0);
-      over = λ o. s.peeked;
       count = count_more m a.raw e v given a.count;
-      few = few_kept (a.raw ++ e ∷ []) n.keep (few_more (length p.names.keeping.settings.items) a.raw e a.few);
-      places = placed_after g' (stood (a.raw ++ e ∷ []) (given ++ (v, m) ∷ [])) s to (placed_took t (all_shown p.tokens.taken.items) a.raw m v given turn a.stands.fits spot a.count
-          (subst (λ o. StandsSo (all_shown p.tokens.taken.items) o (last_position p.tokens) g p.stack (stood a.raw given)) here a.places));
-      colon = colon_after g' s to past;
-      events = events_more m n a;
-      names_are = names_more n a;
+      few = subst (λ j. length j.settings.items ≤ length (a.raw ++ e ∷ [])) (sym n.keep) (omega (arith, a.few, length-append a.raw (e ∷ [])));
+      stands = stood_over a.raw (e ∷ []) given ((v, m) ∷ []) a.count;
+      events = ap (λ j. named_by j (a.raw ++ e ∷ [])) n.keep ∙ since_append items k.tags no_names a.raw (e ∷ []) (events_of given) (v ∷ []) a.few a.events last
+          ∙ ap Some (sym (map_snoc (λ (x : Ev × Position). x.0) given (v, m)));
+      names_are = ap (λ j. names_by j (a.raw ++ e ∷ [])) n.keep ∙ since_after items k.tags no_names a.raw e a.few ∙ ap (λ s. names_after k.tags s e) a.names_are ∙ n.after_it;
       code = n.code;
       pending = n.pending;
     }
 
--- The token is taken, and no event is given.
+gave_none : {T : Type 0} {g g' : Goal} {p r : Reader T} {names : Names} {given : List (Ev × Position)} → r.names.keeping ≡ p.names.keeping → IsNamed r.names (names_at r.names.keeping.tags g' names) → IsPending names g'
+    → (a : At g p names given) → Gave nowhere a r g' None names given
+gave_none {given = given} keep code pending a = record {
+  count = a.count;
+  few = subst (λ k. length k.settings.items ≤ length a.raw) (sym keep) a.few;
+  stands = sym (append-nil (stood a.raw given));
+  events = ap (λ k. named_by k a.raw) keep ∙ a.events;
+  names_are = ap (λ k. names_by k a.raw) keep ∙ a.names_are;
+  code = code;
+  pending = pending;
+}
+
+-- The token is taken.
+took_any : {T : Type 0} {m : Position} {g g' : Goal} {p r : Reader T} {t : Token} {ss' : List State} {e : Option Raw} {names names' : Names} {given given' : List (Ev × Position)}
+    → p.tokens.peeked ≡ Some t → Skips p.tokens t r.tokens → r.stack ≡ ss' → Takes g p.stack (tok_of t.1) e g' ss' → (a : At g p names given) → Gave m a r g' e names' given'
+    → (is_over g' ≡ false → (is_over g ≡ false) × (is_end (tok_of t.1) ≡ false)) → IsAt (last_position p.tokens) (shown t) e m → IsPastColon (top g' ss') (Some t.0) → At g' r names' given'
+took_any {m = m} {g} {g'} {p} {r} {t} {ss'} {e} {given = given} {given'} here s to turn a y wakes spot past =
+    let items = p.tokens.taken.items in
+    let after = behind_more items t (items ++ t ∷ []) refl in
+    let stands = stood (then_event a.raw e) given' in
+    skipped r s to (record {
+      raw = then_event a.raw e;
+      stands = subst (λ ts. IsOnTrack g' ss' ts None (then_event a.raw e)) (sym (taken_snoc items t))
+          (stands_take g p.stack (tok_of t.1) e g' ss' (taken_toks p.tokens) a.raw turn (subst (λ o. IsOnTrack g p.stack (taken_toks p.tokens) (option_map (λ (x : Token). tok_of x.1) o) a.raw) here a.stands));
+      handed = a.handed ∙ ap (λ o. all_shown items ++ shown_list o) here ∙ sym (map_snoc shown items t) ∙ sym (append-nil (all_shown (items ++ t ∷ [])));
+      awake = λ o. let w = wakes o in let b = a.awake w.0 in (b.0 ∙ ap ends here ∙ w.1, b.1);
+      over = λ o. refl;
+      count = y.count;
+      few = y.few;
+      places = subst (λ b. StandsSo (all_shown (items ++ t ∷ [])) None b g' ss' stands) (sym after) (subst (λ ts. StandsSo ts None (Some t.0) g' ss' stands) (sym (map_snoc shown items t))
+          (placed_took t (all_shown items) (stood a.raw given) stands m turn a.stands.fits spot y.stands (subst (λ o. StandsSo (all_shown items) o (last_position p.tokens) g p.stack (stood a.raw given)) here a.places)));
+      colon = subst (IsPastColon (top g' ss')) (sym after) past;
+      events = y.events;
+      names_are = y.names_are;
+      code = y.code;
+      pending = y.pending;
+    })
+
+-- An event is given.
+pub took : {T : Type 0} (m : Position) {g g' : Goal} {p r : Reader T} {t : Token} {ss' : List State} {e : Raw} {v : Ev} {names names' : Names} {given : List (Ev × Position)}
+    → p.tokens.peeked ≡ Some t → Skips p.tokens t r.tokens → r.stack ≡ ss' → Takes g p.stack (tok_of t.1) (Some e) g' ss'
+    → Named p r g' names e v names' → (is_over g' ≡ false → (is_over g ≡ false) × (is_end (tok_of t.1) ≡ false)) → IsAt (last_position p.tokens) (shown t) (Some e) m → IsPastColon (top g' ss') (Some t.0)
+    → At g p names given → At g' r names' (given ++ (v, m) ∷ [])
+took m here s to turn n wakes spot past a = took_any here s to turn a (gave m n a) wakes spot past
+
+-- No event is given.
 pub took_on : {T : Type 0} {g g' : Goal} {p r : Reader T} {t : Token} {ss' : List State} {names : Names} {given : List (Ev × Position)}
     → p.tokens.peeked ≡ Some t → Skips p.tokens t r.tokens → r.stack ≡ ss' → Takes g p.stack (tok_of t.1) None g' ss'
     → r.names.keeping ≡ p.names.keeping → IsNamed r.names (names_at r.names.keeping.tags g' names) → IsPending names g' → (is_over g' ≡ false → (is_over g ≡ false) × (is_end (tok_of t.1) ≡ false)) → IsPastColon (top g' ss') (Some t.0)
     → At g p names given → At g' r names given
-took_on {T} {g} {g'} {p} {r} {t} {ss'} {names} {given} here s to turn keep code pending wakes past a =
-    record {
-      raw = a.raw;
-      stands = subst (λ ss. IsOnTrack g' ss (taken_toks r.tokens) (peeked_tok r.tokens) a.raw) (sym to)
-          (skipped_stands here s (stands_take g p.stack (tok_of t.1) None g' ss' (taken_toks p.tokens) a.raw turn) a.stands);
-      handed = skipped_handed here s a.handed;
-      awake = λ o. skipped_awake here s (wakes o).1 (a.awake (wakes o).0);
-      over = λ o. s.peeked;
-      count = a.count;
-      few = few_kept a.raw keep a.few;
-      places = placed_after g' (stood a.raw given) s to (placed_took_on t (all_shown p.tokens.taken.items) (stood a.raw given) turn a.stands.fits
-          (subst (λ o. StandsSo (all_shown p.tokens.taken.items) o (last_position p.tokens) g p.stack (stood a.raw given)) here a.places));
-      colon = colon_after g' s to past;
-      events = ap (λ k. named_by k a.raw) keep ∙ a.events;
-      names_are = ap (λ k. names_by k a.raw) keep ∙ a.names_are;
-      code = code;
-      pending = pending;
-    }
+took_on here s to turn keep code pending wakes past a = took_any here s to turn a (gave_none keep code pending a) wakes tt past
 
 -- whether a step over no token leads from or to where nothing is read
 abbrev pub breaks : Goal → Goal → Bool
@@ -146,55 +131,41 @@ breaks g g' = is_over g || is_over g'
 unbroken : (g g' : Goal) → breaks g g' ≡ false → (is_over g ≡ false) × (is_over g' ≡ false)
 unbroken g g' h = or_parts (is_over g) (is_over g') h
 
--- The token stays, and an event is given.
+-- The token stays.
+left_any : {T : Type 0} {m : Position} {g g' : Goal} {p r : Reader T} {o : Option Tok} {ss' : List State} {e : Option Raw} {names names' : Names} {given given' : List (Ev × Position)}
+    → peeked_tok p.tokens ≡ o → r.tokens ≡ p.tokens → r.stack ≡ ss' → Leaves g p.stack o e g' ss' → (a : At g p names given) → Gave m a r g' e names' given'
+    → breaks g g' ≡ false → ((k : defs.Token) → BeginAt p.tokens.peeked (k ∷ []) → IsAt (last_position p.tokens) k e m) → IsPastColon (top g' ss') (last_position p.tokens) → At g' r names' given'
+left_any {m = m} {g} {g'} {p} {r} {o} {ss'} {e} {given = given} {given'} here same to turn a y wakes spot past =
+    moved r same to (record {
+      raw = then_event a.raw e;
+      stands = subst (λ x. IsOnTrack g' ss' (taken_toks p.tokens) x (then_event a.raw e)) (sym here)
+          (stands_leave g p.stack o e g' ss' (taken_toks p.tokens) a.raw turn (subst (λ x. IsOnTrack g p.stack (taken_toks p.tokens) x a.raw) here a.stands));
+      handed = a.handed;
+      awake = λ w. a.awake (unbroken g g' wakes).0;
+      over = λ w. absurd (both_ways (is_over g') (unbroken g g' wakes).1 w);
+      count = y.count;
+      few = y.few;
+      places = placed_left p.tokens.peeked (all_shown p.tokens.taken.items) (stood a.raw given) (stood (then_event a.raw e) given') m here turn a.stands.nested a.stands.fits spot y.stands a.places;
+      colon = past;
+      events = y.events;
+      names_are = y.names_are;
+      code = y.code;
+      pending = y.pending;
+    })
+
+-- An event is given.
 pub left : {T : Type 0} (m : Position) {g g' : Goal} {p r : Reader T} {o : Option Tok} {ss' : List State} {e : Raw} {v : Ev} {names names' : Names} {given : List (Ev × Position)}
     → peeked_tok p.tokens ≡ o → r.tokens ≡ p.tokens → r.stack ≡ ss' → Leaves g p.stack o (Some e) g' ss'
     → Named p r g' names e v names' → breaks g g' ≡ false → ((k : defs.Token) → BeginAt p.tokens.peeked (k ∷ []) → IsAt (last_position p.tokens) k (Some e) m)
     → IsPastColon (top g' ss') (last_position p.tokens) → At g p names given → At g' r names' (given ++ (v, m) ∷ [])
-left {T} m {g} {g'} {p} {r} {o} {ss'} {e} {v} {names} {names'} {given} here same to turn n wakes spot past a =
-    let one = stands_leave g p.stack o (Some e) g' ss' (taken_toks p.tokens) a.raw turn (subst (λ x. IsOnTrack g p.stack (taken_toks p.tokens) x a.raw) here a.stands) in
-    let two : IsOnTrack g' ss' (taken_toks p.tokens) (peeked_tok p.tokens) (a.raw ++ e ∷ []) = subst (λ x. IsOnTrack g' ss' (taken_toks p.tokens) x (a.raw ++ e ∷ [])) (sym here) one in
-    let three : IsOnTrack g' r.stack (taken_toks p.tokens) (peeked_tok p.tokens) (a.raw ++ e ∷ []) = subst (λ ss. IsOnTrack g' ss (taken_toks p.tokens) (peeked_tok p.tokens) (a.raw ++ e ∷ [])) (sym to) two in
-    record {
-      raw = a.raw ++ e ∷ [];
-      stands = subst (λ x. IsOnTrack g' r.stack (taken_toks x) (peeked_tok x) (a.raw ++ e ∷ [])) (sym same) three;
-      handed = subst IsHanded (sym same) a.handed;
-      awake = λ w. subst IsAwake (sym same) (a.awake (unbroken g g' wakes).0);
-      over = λ w. absurd (both_ways (is_over g') (unbroken g g' wakes).1 w);
-      colon = subst (λ x. IsPastColon (top g' r.stack) (last_position x)) (sym same) (subst (λ ss. IsPastColon (top g' ss) (last_position p.tokens)) (sym to) past);
-      count = count_more m a.raw e v given a.count;
-      few = few_kept (a.raw ++ e ∷ []) n.keep (few_more (length p.names.keeping.settings.items) a.raw e a.few);
-      places = placed_same g' (stood (a.raw ++ e ∷ []) (given ++ (v, m) ∷ [])) same to (placed_left p.tokens.peeked (all_shown p.tokens.taken.items) a.raw m v given here turn a.stands.nested a.stands.fits spot a.count a.places);
-      events = events_more m n a;
-      names_are = names_more n a;
-      code = n.code;
-      pending = n.pending;
-    }
+left m here same to turn n wakes spot past a = left_any here same to turn a (gave m n a) wakes spot past
 
--- The token stays, and no event is given; the code's names may change.
+-- No event is given; the code's names may change.
 pub left_as : {T : Type 0} {g g' : Goal} {p r : Reader T} {o : Option Tok} {ss' : List State} {names : Names} {given : List (Ev × Position)}
     → peeked_tok p.tokens ≡ o → r.tokens ≡ p.tokens → r.stack ≡ ss' → Leaves g p.stack o None g' ss'
     → r.names.keeping ≡ p.names.keeping → IsNamed r.names (names_at r.names.keeping.tags g' names) → IsPending names g' → breaks g g' ≡ false
     → IsPastColon (top g' ss') (last_position p.tokens) → At g p names given → At g' r names given
-left_as {T} {g} {g'} {p} {r} {o} {ss'} {names} {given} here same to turn keep code pending wakes past a =
-    let one = stands_leave g p.stack o None g' ss' (taken_toks p.tokens) a.raw turn (subst (λ x. IsOnTrack g p.stack (taken_toks p.tokens) x a.raw) here a.stands) in
-    let two : IsOnTrack g' ss' (taken_toks p.tokens) (peeked_tok p.tokens) a.raw = subst (λ x. IsOnTrack g' ss' (taken_toks p.tokens) x a.raw) (sym here) one in
-    let three : IsOnTrack g' r.stack (taken_toks p.tokens) (peeked_tok p.tokens) a.raw = subst (λ ss. IsOnTrack g' ss (taken_toks p.tokens) (peeked_tok p.tokens) a.raw) (sym to) two in
-    record {
-      raw = a.raw;
-      stands = subst (λ x. IsOnTrack g' r.stack (taken_toks x) (peeked_tok x) a.raw) (sym same) three;
-      handed = subst IsHanded (sym same) a.handed;
-      awake = λ w. subst IsAwake (sym same) (a.awake (unbroken g g' wakes).0);
-      over = λ w. absurd (both_ways (is_over g') (unbroken g g' wakes).1 w);
-      colon = subst (λ x. IsPastColon (top g' r.stack) (last_position x)) (sym same) (subst (λ ss. IsPastColon (top g' ss) (last_position p.tokens)) (sym to) past);
-      count = a.count;
-      few = few_kept a.raw keep a.few;
-      places = placed_same g' (stood a.raw given) same to (placed_left_on p.tokens.peeked (all_shown p.tokens.taken.items) (stood a.raw given) nowhere here turn a.stands.nested a.stands.fits a.places);
-      events = ap (λ k. named_by k a.raw) keep ∙ a.events;
-      names_are = ap (λ k. names_by k a.raw) keep ∙ a.names_are;
-      code = code;
-      pending = pending;
-    }
+left_as here same to turn keep code pending wakes past a = left_any here same to turn a (gave_none keep code pending a) wakes (λ k b. tt) past
 
 -- The token stays, no event is given, and the code's names stay.
 pub left_on : {T : Type 0} {g g' : Goal} {p r : Reader T} {o : Option Tok} {ss' : List State} {names : Names} {given : List (Ev × Position)}
@@ -240,7 +211,7 @@ looks_on {T} {p} {r} taken same handed awake stack names_same {g} {names} {given
       awake = λ o. awake (a.awake o);
       over = λ o. absurd (both_ways (is_over g) going o);
       count = a.count;
-      few = few_kept a.raw (ap (λ n. n.keeping) names_same) a.few;
+      few = subst (λ n. length n.keeping.settings.items ≤ length a.raw) (sym names_same) a.few;
       places = looked_places p r g (stood a.raw given) taken stack same a.places;
       colon = subst (λ ss. IsPastColon (top g ss) (last_position r.tokens)) (sym stack) (subst (λ x. IsPastColon (top g p.stack) (behind None (all_shown x.items))) (sym taken) a.colon);
       events = ap (λ n. named_by n.keeping a.raw) names_same ∙ a.events;

@@ -1,5 +1,4 @@
 pub mod Awaits
-pub mod Blocks
 pub mod Fetched
 pub mod Follows
 pub mod Next

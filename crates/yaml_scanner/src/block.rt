@@ -4,8 +4,7 @@ ghost use Rattle.yaml_chars.specs.Class.{is_break, is_flow};
 ghost use Rattle.yaml_tokens.specs.Shown.{tok_of};
 ghost use Rattle.model_scanner.specs.State.{put};
 ghost use Rattle.model_scanner.specs.Keys.{top_key};
-ghost use Rattle.model_scanner.specs.Block.{check_block_entry, fetch_block_entry, begin_key, check_key_space, fetch_key, check_value_space, opens_pair, paired, insert_key, begin_keyless_pair, begin_keyless_mapping, begin_keyless_value, value_of, fetch_value};
-ghost use Rattle.yaml_scanner.specs.Blocks.{pass_dash, entry_level, begin_entry, pass_key};
+ghost use Rattle.model_scanner.specs.Block.{check_block_entry, pass_dash, roll_entry, begin_entry, fetch_block_entry, begin_key, pass_key, check_key_space, fetch_key, check_value_space, opens_pair, paired, insert_key, begin_keyless_pair, begin_keyless_mapping, begin_keyless_value, value_of, fetch_value};
 ghost use Rattle.yaml_scanner.specs.Runs.{Becomes, Front, Runs, Steps, Turns};
 ghost use Rattle.yaml_scanner.specs.Shape.{held};
 ghost use Rattle.yaml_scanner_state.specs.ImplicitKeys.{keyed_by};
@@ -88,7 +87,7 @@ impl<T: Characters> Fetcher<T> {
     /// indicator.
     #[tactic(auto, using(crate::proofs::BlockLemmas::peek_is), unfolding(model_scanner::specs::Block::roll_entry))]
     fn roll_entry(&mut self) -> Result<(), Failed>
-        ensures { Runs entry_level self.old result self.new 1 0 }
+        ensures { Runs (λ t. Ok (roll_entry t)) self.old result self.new 1 0 }
     {
         let c = self.window.look_ch();
         if !begins_apart(c) {

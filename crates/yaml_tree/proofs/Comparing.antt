@@ -60,9 +60,7 @@ slice_cmp-map R f (x ∷ xs) (y ∷ ys) = ap (ordering_then (R (f x) (f y))) (sl
 
 -- an answer that is not `Equal` ends the comparison
 pub stops : (o r p q : Ordering) → (o ≡ Equal → ⊥) → o ≡ r → q ≡ ordering_then r p → o ≡ q
-stops Less r p q n e f = sym (f ∙ ap (λ x. ordering_then x p) (sym e))
-stops Equal r p q n e f = absurd (n refl)
-stops Greater r p q n e f = sym (f ∙ ap (λ x. ordering_then x p) (sym e))
+stops a r p q n e f = grind arith
 
 -- the trees of two rows of nodes
 pub nodes_seen : (xs ys cs ds : List Yaml) (us vs : List Tree) → xs ≡ cs → ys ≡ ds → items_view cs ≡ us → items_view ds ≡ vs

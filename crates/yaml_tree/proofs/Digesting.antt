@@ -23,11 +23,7 @@ module _ (m : Tree → ℕ) (s t : Tree) where
   same_digest e = ap (λ o. ordering_then o (tree_cmp s t)) (equal (m s) (m t) (sym e))
 
   pub numbers_rise : key_cmp m s t ≡ Less → m s ≤ m t
-  numbers_rise e = by (cases_lt (m t) (m s))
-    where
-      by : (m t < m s) ⊎ (m s ≤ m t) → m s ≤ m t
-      by (inl h) = let no : Greater ≡ Less = sym (higher_digest h) ∙ e in cc
-      by (inr h) = h
+  numbers_rise e = grind arith
 
 -- ---- the digests that are kept
 
@@ -83,12 +79,7 @@ module _ (k : Tree) (es : List Entry) (ps : Pairs) (rank count : ℕ) (a : AreRa
 
 pub window_leaves : (o : Kept) (k : Tree) (ps : Pairs) (rank count : ℕ) → AreRanked (first_by o) (places o) ps → AreDigests (digests o) (places o) ps → IsWindow o k rank count
     → AreLeft (first_by o) k (places o) ps rank count
-window_leaves (Few rs) k ps rank count a digested w = record {
-  within = omega (arith, w.0, w.1);
-  above = λ r h. absurd (omega (arith, w.0));
-  same = λ r h g. refl;
-  below = λ r h g. absurd (omega (arith, w.0, w.1));
-}
+window_leaves (Few rs) k ps rank count a digested w = grind arith
 window_leaves (Many b) k ps rank count a digested w = record {
   within = omega (arith, w.within, length-map (joined b.value) place_of_entry);
   above = narrowed_above k (joined b.value) ps rank count a digested w;

@@ -5,9 +5,7 @@ use Rattle.yaml_tree.proofs.Comparing.{at_drop, at_end}
 
 pub next_pair : (ys : List Yaml) (i : ℕ) (k v : Yaml) → i < length ys / 2 → k ≡ get_or ys (2 * i) k → v ≡ get_or ys (2 * i + 1) v
     → pairs_feed (pairs_of (pairs_view (drop (2 * i) ys))) ≡ fed.u8 1 ++ tree_feed (view k) ++ tree_feed (view v) ++ pairs_feed (pairs_of (pairs_view (drop (2 * (i + 1)) ys)))
-next_pair ys i k v h d e =
-    ap (λ zs. pairs_feed (pairs_of (pairs_view zs)))
-    (at_drop ys (2 * i) k (omega arith) d ∙ ap (λ zs. k ∷ zs) (at_drop ys (2 * i + 1) v (omega arith) e) ∙ ap (λ n. k ∷ v ∷ drop n ys) (omega arith))
+next_pair ys i k v h d e = grind (arith, at_drop)
 
 pub no_pair : (ys : List Yaml) (i : ℕ) → length ys / 2 ≤ i → (n : ℕ) → length ys ≡ 2 * n → pairs_feed (pairs_of (pairs_view (drop (2 * i) ys))) ≡ fed.u8 0
 no_pair ys i h n e = ap (λ zs. pairs_feed (pairs_of (pairs_view zs))) (at_end ys (2 * i) (omega arith))

@@ -76,13 +76,10 @@ module _ (ys : List Yaml) (us : List (Tree × Tree)) (seen : items_view ys ≡ f
       ap Some (at_place ys (2 * i + 1) x (omega (arith, row_length)) e ∙ ap (λ ts. get_or ts (2 * i + 1) (view x)) seen) ∙ value_in us i (2 * i + 1) (view x) refl h
 
   pub taken : (zs : List Yaml) (i : ℕ) → i < length us → zs ≡ remove (remove ys (2 * i)) (2 * i) → items_view zs ≡ flat (remove us i)
-  taken zs i h e =
-      ap items_view e ∙ items_view-remove (remove ys (2 * i)) (2 * i) ∙ ap (λ ts. remove ts (2 * i)) (items_view-remove ys (2 * i))
-      ∙ ap (λ ts. remove (remove ts (2 * i)) (2 * i)) seen ∙ flat-remove us i (2 * i) refl h
+  taken zs i h e = grind (arith, items_view-remove, seen, flat-remove)
 
   pub added : (zs : List Yaml) (k v : Yaml) → zs ≡ ys ++ k ∷ v ∷ [] → items_view zs ≡ flat (us ++ (view k, view v) ∷ [])
-  added zs k v e =
-      ap items_view e ∙ items_view-append ys (k ∷ v ∷ []) ∙ ap (λ ts. ts ++ view k ∷ view v ∷ []) seen ∙ sym (flat-append us ((view k, view v) ∷ []))
+  added zs k v e = grind (arith, items_view-append, seen, flat-append)
 
 -- another value in a row
 set_in : (us : List (Tree × Tree)) (i n : ℕ) (t : Tree) → n ≡ 2 * i + 1 → set (flat us) n t ≡ flat (with_value_at i t us)

@@ -50,12 +50,10 @@ digests_moved gone n (e ∷ es) = ap (λ ns. e.digest ∷ ns) (digests_moved gon
 -- ---- spots
 
 pub next_spot : (k : Kept) (b o : ℕ) → HasPlace k (record { block = b; offset = o }) → HasSpot k (record { block = b; offset = o + 1 })
-next_spot (Few ps) b o h = omega arith
-next_spot (Many x) b o h = (omega (arith, h.0), omega (arith, h.1))
+next_spot a b o h = grind arith
 
 pub next_rank : (k : Kept) (b o : ℕ) → rank_at k (record { block = b; offset = o + 1 }) ≡ rank_at k (record { block = b; offset = o }) + 1
-next_rank (Few ps) b o = refl
-next_rank (Many x) b o = omega arith
+next_rank a b o = grind arith
 
 pub place_inside : (k : Kept) (s : Spot) → HasPlace k s → rank_at k s < length (places k)
 place_inside (Few ps) s h = h

@@ -30,8 +30,7 @@ pub at_number : (i : ℕ) (ps : List (Tree × Tree)) → i < 2 ^ 63 → value_at
 at_number i ps h = rw pair_list_of_pairs (chosen (nat_lt i (2 ^ 63)) (lookup (integer (pos i)) ps) (grind (arith, nat_tests)))
   where
     chosen : (b : Bool) (o : Option Tree) → b ≡ true → (if b then o else None) ≡ o
-    chosen true o e = refl
-    chosen false o e = cc
+    chosen a o e = grind arith
 
 pub within_items : (ys : List Yaml) (ts : List Tree) (i : ℕ) → items_view ys ≡ ts → IsSome (slice_get ts i) → i < length ys
 within_items ys ts i e h = counted ys i (subst (λ us. IsSome (slice_get us i)) (sym e) h)

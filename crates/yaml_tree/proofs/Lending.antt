@@ -19,15 +19,7 @@ item_there ys ts i y is e h = there ys i y e (subst (λ us. IsSome (slice_get us
 -- ---- a value at a text: the node is a hash
 
 pub text_in_hash : (text : List ℕ) (y : Yaml) → IsSome (value_at_text text (view y)) → is_hash (view y) ≡ true
-text_in_hash text (Hash ps) h = refl
-text_in_hash text (Real s) h = cc
-text_in_hash text (Integer z) h = cc
-text_in_hash text (String s) h = cc
-text_in_hash text (Boolean b) h = cc
-text_in_hash text (Array ts) h = cc
-text_in_hash text (Alias n) h = cc
-text_in_hash text Null h = cc
-text_in_hash text BadValue h = cc
+text_in_hash a b h = grind arith
 
 pub text_value : (text : List ℕ) (y : Yaml) (ps : List (Tree × Tree)) → y ≡ Hash ps → value_at_text text (view y) ≡ lookup (string text) ps
 text_value text y ps e = ap (λ n. value_at_text text (view n)) e ∙ ap (lookup (string text)) (pair_list_of_pairs ps)
@@ -38,15 +30,7 @@ text_found text y ps e = subst IsSome (text_value text y ps e)
 -- ---- a value at an index: the node is an array or a hash
 
 pub index_in_array : (i : ℕ) (y : Yaml) → IsSome (value_at_index i (view y)) → is_hash (view y) ≡ false → is_array (view y) ≡ true
-index_in_array i (Array ts) h e = refl
-index_in_array i (Hash ps) h e = cc
-index_in_array i (Real s) h e = cc
-index_in_array i (Integer z) h e = cc
-index_in_array i (String s) h e = cc
-index_in_array i (Boolean b) h e = cc
-index_in_array i (Alias n) h e = cc
-index_in_array i Null h e = cc
-index_in_array i BadValue h e = cc
+index_in_array i a h e = grind arith
 
 pub item_value : (i : ℕ) (y : Yaml) (ts : List Tree) → y ≡ Array ts → value_at_index i (view y) ≡ slice_get ts i
 item_value i y ts e = ap (λ n. value_at_index i (view n)) e ∙ ap (λ us. slice_get us i) (list_of_items ts)
@@ -55,11 +39,7 @@ pub item_found : (i : ℕ) (y : Yaml) (ts : List Tree) → y ≡ Array ts → Is
 item_found i y ts e = subst IsSome (item_value i y ts e)
 
 pub number_fits : (i : ℕ) (y : Yaml) (ps : List (Tree × Tree)) → y ≡ Hash ps → IsSome (value_at_index i (view y)) → i < 2 ^ 63
-number_fits i y ps e h = grind (arith, nat_tests, chosen (nat_lt i (2 ^ 63)) _ (subst (λ n. IsSome (value_at_index i (view n))) e h))
-  where
-    chosen : (b : Bool) (o : Option Tree) → IsSome (if b then o else None) → b ≡ true
-    chosen true o s = refl
-    chosen false o s = cc
+number_fits i y ps e h = grind arith
 
 pub number_value : (i : ℕ) (y : Yaml) (ps : List (Tree × Tree)) → y ≡ Hash ps → i < 2 ^ 63 → value_at_index i (view y) ≡ lookup (integer (pos i)) ps
 number_value i y ps e fits = ap (λ n. value_at_index i (view n)) e ∙ at_number i ps fits
@@ -70,9 +50,7 @@ number_found i y ps e h = subst IsSome (number_value i y ps e (number_fits i y p
 -- ---- a test that was made
 
 pub held : (b c : Bool) → b ≡ c → T b → c ≡ true
-held true c e h = sym e
-held false c e h = absurd h
+held a c e h = grind arith
 
 pub failed : (b c : Bool) → b ≡ c → T (not b) → c ≡ false
-failed true c e h = absurd h
-failed false c e h = sym e
+failed a c e h = grind arith

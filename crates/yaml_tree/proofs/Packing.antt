@@ -54,13 +54,7 @@ spread y k = sym (mul_assoc y 16 k) ∙ ap (λ z. z * k) (mul_comm y 16) ∙ mul
 
 -- it is made by a shift
 pub with_is : (k p w : ℕ) → with_digit k p w ≡ w % 2 ^ (4 * k) + (p + 16 * (w / 2 ^ (4 * k))) * 2 ^ (4 * k)
-with_is zero p w = simple ∙ ap (λ e. w % e + (p + 16 * (w / e)) * e) none
-  where
-    none : 1 ≡ 2 ^ (4 * 0)
-    none = refl
-
-    simple : p + 16 * w ≡ w % 1 + (p + 16 * (w / 1)) * 1
-    simple = omega arith
+with_is zero p w = grind arith
 with_is (suc k) p w =
     ap (λ r. w % 16 + 16 * r) (with_is k p (w / 16))
     ∙ together (w % 16) (w / 16 % 2 ^ (4 * k)) (above * 2 ^ (4 * k))
@@ -88,10 +82,7 @@ pub same_packed : {v w : ℕ} → v ≡ w → IsPacked v → IsPacked w
 same_packed e k = record { few = omega (arith, ap (λ x. x % 16) e, k.few); no_more = subst (λ x. x / 16 < 2 ^ (4 * (x % 16))) e k.no_more }
 
 packed_of : (c q : ℕ) → c ≤ 14 → q < 2 ^ (4 * c) → IsPacked (c + 16 * q)
-packed_of c q h b = record {
-  few = omega (arith, first c q (omega (arith, h)), h);
-  no_more = subst (λ d. (c + 16 * q) / 16 < 2 ^ (4 * d)) (sym (first c q (omega (arith, h)))) (omega (arith, others c q (omega (arith, h)), b));
-}
+packed_of c q h b = grind arith
 
 small : (x : ℕ) → x < 2 ^ 64 → x % 2 ^ 64 ≡ x
 small x h = omega (arith, h)
@@ -200,14 +191,7 @@ packed_below (p ∷ ps) h = omega (arith, h.0, packed_below ps h.1, four_more (l
 
 digits_packed : (ps : List ℕ) → AreLow ps → digits (length ps) (packed ps) ≡ ps
 digits_packed [] h = refl
-digits_packed (p ∷ ps) h =
-    ap (λ d. d ∷ digits (length ps) ((packed ps * 16 + p) / 16)) last ∙ ap (λ v. p ∷ digits (length ps) v) before ∙ ap (λ ds. p ∷ ds) (digits_packed ps h.1)
-  where
-    last : (packed ps * 16 + p) % 16 ≡ p
-    last = omega (arith, h.0)
-
-    before : (packed ps * 16 + p) / 16 ≡ packed ps
-    before = omega (arith, h.0)
+digits_packed (p ∷ ps) h = grind (arith, digits_packed ps h.1)
 
 -- there is room for one more
 pub packed_fits : (ps : List ℕ) → AreLow ps → length ps ≤ 14 → packed ps < 2 ^ 57

@@ -4,15 +4,7 @@ use Rattle.yaml_tree.proofs.Common.{[], ap, arith, Bool, cond, false, IsSome, ke
 -- taking out what stands at the key's place takes out the key's pair
 pub remove_placed : (k : Tree) (us : List (Tree × Tree)) (i : ℕ) → Some i ≡ place_of k us → remove us i ≡ without k us
 remove_placed k [] i e = cc
-remove_placed k (u ∷ us) i e = by (tree_eq k u.0) (place_of k us) i e (remove_placed k us)
-  where
-    by : (b : Bool) (o : Option ℕ) (i : ℕ) → Some i ≡ cond b (Some 0) (option_map suc o) → ((j : ℕ) → Some j ≡ o → remove us j ≡ without k us)
-        → remove (u ∷ us) i ≡ cond b us (u ∷ without k us)
-    by true o zero e later = refl
-    by true o (suc i) e later = cc
-    by false None i e later = cc
-    by false (Some j) zero e later = cc
-    by false (Some j) (suc i) e later = ap (λ vs. u ∷ vs) (later i cc)
+remove_placed k (u ∷ us) i e = grind (arith, remove_placed k us)
 
 pub last_pair : (us : List (Tree × Tree)) (n : ℕ) (k v : Tree) → length us ≡ suc n → k ≡ key_at us n → Some v ≡ value_at n us → Some (k, v) ≡ last_of us
 last_pair [] n k v h d e = absurd (omega arith)
@@ -23,12 +15,10 @@ last_pair (u ∷ w ∷ us) (suc n) k v h d e = last_pair (w ∷ us) n k v (omega
 
 -- a key with a value has a place
 later_some : (o : Option ℕ) → IsSome o → IsSome (option_map suc o)
-later_some (Some j) s = s
-later_some None s = s
+later_some a s = grind arith
 
 place_here_or : (v : Tree) (o : Option Tree) (p : Option ℕ) (b : Bool) → (IsSome o → IsSome p) → IsSome (cond b (Some v) o) → IsSome (cond b (Some 0) (option_map suc p))
-place_here_or v o p true f s = s
-place_here_or v o p false f s = later_some p (f s)
+place_here_or v o p a f s = grind arith
 
 pub place_somewhere : (k : Tree) (us : List (Tree × Tree)) → IsSome (lookup k us) → IsSome (place_of k us)
 place_somewhere k [] h = h

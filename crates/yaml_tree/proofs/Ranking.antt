@@ -88,12 +88,7 @@ moved_other : (p n q : ℕ) → q ≢ p → moved_up p n q ≡ closed_up p q
 moved_other p n q h = grind (arith, nat_tests)
 
 pub sides : (q p : ℕ) → (q < p) ⊎ ((q ≡ p) ⊎ (p < q))
-sides q p = by (cases_lt q p) (cases_lt p q)
-  where
-    by : (q < p) ⊎ (p ≤ q) → (p < q) ⊎ (q ≤ p) → (q < p) ⊎ ((q ≡ p) ⊎ (p < q))
-    by (inl h) o = inl h
-    by (inr h) (inl g) = inr (inr g)
-    by (inr h) (inr g) = inr (inl (omega arith))
+sides q p = grind arith
 
 closed_key : (ps : Pairs) (p q : ℕ) → q ≢ p → key_at (remove ps p) (closed_up p q) ≡ key_at ps q
 closed_key ps p q n = by (sides q p)
@@ -103,30 +98,17 @@ closed_key ps p q n = by (sides q p)
     after (suc q) h = ap (key_at (remove ps p)) (omega arith) ∙ key_remove_above ps p q (omega arith)
 
     by : (q < p) ⊎ ((q ≡ p) ⊎ (p < q)) → key_at (remove ps p) (closed_up p q) ≡ key_at ps q
-    by (inl h) = ap (key_at (remove ps p)) (closed_below p q (omega arith)) ∙ key_remove_below ps p q h
-    by (inr (inl e)) = absurd (n e)
-    by (inr (inr h)) = ap (key_at (remove ps p)) (closed_above p q h) ∙ after q h
+    by a = grind (arith, p, closed_below, q, key_remove_below, closed_above, after)
 
 closed_within : (p q n : ℕ) → q ≢ p → p < suc n → q < suc n → closed_up p q < n
-closed_within p q n a h g = by (sides q p)
-  where
-    by : (q < p) ⊎ ((q ≡ p) ⊎ (p < q)) → closed_up p q < n
-    by (inl l) = omega (arith, closed_below p q (omega arith))
-    by (inr (inl e)) = absurd (a e)
-    by (inr (inr l)) = omega (arith, closed_above p q l)
+closed_within p q n a h g = grind (arith, sides, closed_below, closed_above)
 
 -- ---- ranks
 
 -- the same keys at the same ranks
 same_keys : {m : Tree → ℕ} (rs qs : List ℕ) (ps us : Pairs) → AreRanked m rs ps → length qs ≡ length rs → length us ≡ length ps
     → ((r : ℕ) → r < length qs → (get_or qs r 0 < length us) × (key_of_rank qs us r ≡ key_of_rank rs ps r)) → AreRanked m qs us
-same_keys {m} rs qs ps us a l n f = record {
-  counted = l ∙ a.counted ∙ sym n;
-  within = λ r h. (f r h).0;
-  ascending = λ r s h g.
-      subst (λ t. key_cmp m t (key_of_rank qs us s) ≡ Less) (sym (f r (omega arith)).1)
-      (subst (λ t. key_cmp m (key_of_rank rs ps r) t ≡ Less) (sym (f s g).1) (a.ascending r s h (omega (arith, l))));
-}
+same_keys {m} rs qs ps us a l n f = grind arith
 
 pub ranked_value : {m : Tree → ℕ} (rs : List ℕ) (ps : Pairs) (i : ℕ) (t : Tree) → AreRanked m rs ps → AreRanked m rs (with_value_at i t ps)
 ranked_value rs ps i t a =
@@ -139,27 +121,14 @@ module _ {m : Tree → ℕ} (rs : List ℕ) (ps : Pairs) (a : AreRanked m rs ps)
   rising_apart r s h g e = not_less m _ _ (ap (key_at ps) e) (a.ascending r s h g)
 
   other_place : (r s : ℕ) → r < length rs → s < length rs → s ≢ r → get_or rs s 0 ≢ get_or rs r 0
-  other_place r s h g n = by (sides s r)
-    where
-      by : (s < r) ⊎ ((s ≡ r) ⊎ (r < s)) → get_or rs s 0 ≢ get_or rs r 0
-      by (inl l) = rising_apart s r l h
-      by (inr (inl e)) = absurd (n e)
-      by (inr (inr l)) = λ e. rising_apart r s l g (sym e)
+  other_place r s h g n = grind (arith, sides, rising_apart)
 
   -- a key above that of a rank is above all before; one below it is below all beyond
   pub above_up_to : (k : Tree) (l : ℕ) → l < length rs → key_cmp m k (key_of_rank rs ps l) ≡ Greater → (s : ℕ) → s < l + 1 → key_cmp m k (key_of_rank rs ps s) ≡ Greater
-  above_up_to k l h e s below = by (cases_lt s l)
-    where
-      by : (s < l) ⊎ (l ≤ s) → key_cmp m k (key_of_rank rs ps s) ≡ Greater
-      by (inl g) = above_lower m k _ _ e (a.ascending s l g h)
-      by (inr g) = ap (λ i. key_cmp m k (key_of_rank rs ps i)) (omega arith) ∙ e
+  above_up_to k l h e s below = grind (arith, above_lower)
 
   pub below_from_on : (k : Tree) (l : ℕ) → key_cmp m k (key_of_rank rs ps l) ≡ Less → (s : ℕ) → l ≤ s → s < length rs → key_cmp m k (key_of_rank rs ps s) ≡ Less
-  below_from_on k l e s above h = by (cases_lt l s)
-    where
-      by : (l < s) ⊎ (s ≤ l) → key_cmp m k (key_of_rank rs ps s) ≡ Less
-      by (inl g) = below_higher m k _ _ e (a.ascending l s g h)
-      by (inr g) = ap (λ i. key_cmp m k (key_of_rank rs ps i)) (omega arith) ∙ e
+  below_from_on k l e s above h = grind (arith, below_higher)
 
 both : (m : Tree → ℕ) (s t u v : Tree) → s ≡ u → t ≡ v → key_cmp m u v ≡ Less → key_cmp m s t ≡ Less
 both m s t u v d e h = ap (λ x. key_cmp m x t) d ∙ ap (key_cmp m u) e ∙ h
@@ -224,42 +193,23 @@ unfolding skip
 skip_above r s h = grind (arith, nat_tests)
 
 skip_rises : (r s t : ℕ) → s < t → skip r s < skip r t
-skip_rises r s t h = by (cases_lt s r) (cases_lt t r)
-  where
-    by : (s < r) ⊎ (r ≤ s) → (t < r) ⊎ (r ≤ t) → skip r s < skip r t
-    by (inl l) (inl m) = omega (arith, skip_below r s l, skip_below r t m)
-    by (inl l) (inr m) = omega (arith, skip_below r s l, skip_above r t m)
-    by (inr l) (inl m) = absurd (omega arith)
-    by (inr l) (inr m) = omega (arith, skip_above r s l, skip_above r t m)
+skip_rises r s t h = grind (arith, skip_below, skip_above)
 
 skip_apart : (r s : ℕ) → skip r s ≢ r
-skip_apart r s = by (cases_lt s r)
-  where
-    by : (s < r) ⊎ (r ≤ s) → skip r s ≢ r
-    by (inl l) = λ e. absurd (omega (arith, skip_below r s l, e))
-    by (inr l) = λ e. absurd (omega (arith, skip_above r s l, e))
+skip_apart r s = grind (arith, skip_below, skip_above)
 
 pub skip_within : (r s n : ℕ) → s + 1 < n → skip r s < n
-skip_within r s n h = by (cases_lt s r)
-  where
-    by : (s < r) ⊎ (r ≤ s) → skip r s < n
-    by (inl l) = omega (arith, skip_below r s l)
-    by (inr l) = omega (arith, skip_above r s l)
+skip_within r s n h = grind (arith, skip_below, skip_above)
 
 pub skip_get : (rs : List ℕ) (r s : ℕ) → r < length rs → get_or (remove rs r) s 0 ≡ get_or rs (skip r s) 0
-skip_get rs r s h = by (cases_lt s r)
-  where
-    by : (s < r) ⊎ (r ≤ s) → get_or (remove rs r) s 0 ≡ get_or rs (skip r s) 0
-    by (inl l) = get_or-remove_below rs r 0 s l h ∙ ap (λ i. get_or rs i 0) (sym (skip_below r s l))
-    by (inr l) = get_or-remove_above rs r 0 s l h ∙ ap (λ i. get_or rs i 0) (omega (arith, skip_above r s l))
+skip_get rs r s h = grind (arith, get_or-remove_below, skip_below, get_or-remove_above, skip_above)
 
 module _ {m : Tree → ℕ} (rs : List ℕ) (ps : Pairs) (r : ℕ) (a : AreRanked m rs ps) (h : r < length rs) where
   other_skipped : (s : ℕ) → s + 1 < length rs → get_or rs (skip r s) 0 ≢ get_or rs r 0
   other_skipped s g = other_place rs ps a r (skip r s) h (skip_within r s (length rs) g) (skip_apart r s)
 
   removed_place : (s : ℕ) → s + 1 < length rs → get_or (map (closed_up (get_or rs r 0)) (remove rs r)) s 0 ≡ closed_up (get_or rs r 0) (get_or rs (skip r s) 0)
-  removed_place s g =
-      get_or-map (closed_up (get_or rs r 0)) (remove rs r) s 0 0 (omega (arith, length-remove rs r h)) ∙ ap (closed_up (get_or rs r 0)) (skip_get rs r s h)
+  removed_place s g = grind (arith, get_or-map, length-remove, h, skip_get)
 
   pub removed_key : (s : ℕ) → s + 1 < length rs
       → key_of_rank (map (closed_up (get_or rs r 0)) (remove rs r)) (remove ps (get_or rs r 0)) s ≡ key_of_rank rs ps (skip r s)
@@ -321,8 +271,7 @@ ranked_added {m} rs ps r k v a gap = record {
     low (suc s) h (inr (inr l)) = omega (arith, beyond s (omega arith), a.within s (omega (arith, more)), length-append_one ps (k, v))
 
     key_before : (s : ℕ) → s < r → key_of_rank (insert rs r (length rs)) (ps ++ (k, v) ∷ []) s ≡ key_of_rank rs ps s
-    key_before s l =
-        ap (key_at (ps ++ (k, v) ∷ [])) (before s l) ∙ key_append_left ps ((k, v) ∷ []) (get_or rs s 0) (a.within s (omega (arith, gap.within)))
+    key_before s l = grind (arith, before, key_append_left)
 
     key_here : (s : ℕ) → s ≡ r → key_of_rank (insert rs r (length rs)) (ps ++ (k, v) ∷ []) s ≡ k
     key_here s e = ap (key_at (ps ++ (k, v) ∷ [])) (here s e) ∙ key_append_end ps k v (length rs) a.counted
@@ -383,8 +332,7 @@ below_from [] n f q e = cc
 below_from (x ∷ xs) n f q e = by (eqb q x) refl e (below_from xs n (λ i h. f (suc i) (omega arith)) q)
   where
     by : (b : Bool) → eqb q x ≡ b → (b || list_any (eqb q) xs) ≡ true → (list_any (eqb q) xs ≡ true → q < n) → q < n
-    by true d e later = omega (arith, eqb-true q x d, f 0 (omega arith))
-    by false d e later = later e
+    by a d e g = grind (arith, eqb-true, q, x)
 
 module _ {m : Tree → ℕ} (k : Tree) (rs : List ℕ) (ps : Pairs) (a : AreRanked m rs ps) where
   gap_apart : (r : ℕ) → IsRankGap m k rs ps r → (s : ℕ) → s < length rs → key_of_rank rs ps s ≢ k
@@ -394,8 +342,7 @@ module _ {m : Tree → ℕ} (k : Tree) (rs : List ℕ) (ps : Pairs) (a : AreRank
       itself = ap (key_cmp m k) e ∙ tied_itself (key_cmp_total m) k
 
       by : (s < r) ⊎ (r ≤ s) → ⊥
-      by (inl l) = greater_not_equal (sym (gap.above s l) ∙ itself)
-      by (inr l) = less_not_equal (sym (gap.below s l h) ∙ itself)
+      by a = grind (arith, greater_not_equal, itself, less_not_equal, h)
 
   absent_at : (r : ℕ) → IsRankGap m k rs ps r → (p : ℕ) → p < length ps → key_at ps p ≢ k
   absent_at r gap p h e =

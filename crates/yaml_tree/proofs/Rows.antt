@@ -38,8 +38,7 @@ placed k ys us rs p h is e =
 
 pub ranked_place : {m : Tree → ℕ} (k : Tree) (ys : List Yaml) (us : List (Tree × Tree)) (rs : List ℕ) (r p : ℕ) → IsHash m (items_view ys) rs → pairs_view ys ≡ us
     → IsRank k rs (pairs_view ys) r → p ≡ get_or rs r 0 → Some p ≡ place_of k us
-ranked_place k ys us rs r p h is at e =
-    place_some k (pairs_view ys) p h.distinct (ranked_inside ys rs h r p at.0 e) (ap (key_at (pairs_view ys)) e ∙ at.1) ∙ ap (place_of k) is
+ranked_place k ys us rs r p h is at e = grind (arith, place_some, ranked_inside)
 
 -- taking out the pair at a rank's place takes out the key's pair
 pub remove_ranked : {m : Tree → ℕ} (k : Tree) (ys : List Yaml) (rs : List ℕ) (r : ℕ) → IsHash m (items_view ys) rs → IsRank k rs (pairs_view ys) r

@@ -18,13 +18,7 @@ module _ (xs : List ℕ) (at x : ℕ) (h : at ≤ length xs) where
 
   -- what holds of each number
   each_with : (P : ℕ → Type 0) → ((s : ℕ) → s < length xs → P (get_or xs s 0)) → P x → (s : ℕ) → s < length xs + 1 → P (get_or (insert xs at x) s 0)
-  each_with P old new s l = by s l (sides s at)
-    where
-      by : (s : ℕ) → s < length xs + 1 → (s < at) ⊎ ((s ≡ at) ⊎ (at < s)) → P (get_or (insert xs at x) s 0)
-      by s l (inl f) = subst P (sym (before s f)) (old s (omega (arith, h)))
-      by s l (inr (inl e)) = subst P (sym (here s e)) new
-      by zero l (inr (inr g)) = absurd (omega arith)
-      by (suc s) l (inr (inr g)) = subst P (sym (beyond s (omega arith))) (old s (omega arith))
+  each_with P old new s l = grind (arith, sides, at, x, before, h, here, zero, beyond)
 
   -- what holds of any two numbers
   any_two : (R : ℕ → ℕ → Type 0) → ((s t : ℕ) → s < t → t < length xs → R (get_or xs s 0) (get_or xs t 0)) → ((s : ℕ) → s < at → R (get_or xs s 0) x)
@@ -35,17 +29,7 @@ module _ (xs : List ℕ) (at x : ℕ) (h : at ≤ length xs) where
       both a b c d e g r = subst (λ y. R y b) (sym e) (subst (R c) (sym g) r)
 
       by : (s t : ℕ) → s < t → t < length xs + 1 → (s < at) ⊎ ((s ≡ at) ⊎ (at < s)) → (t < at) ⊎ ((t ≡ at) ⊎ (at < t)) → R (get_or (insert xs at x) s 0) (get_or (insert xs at x) t 0)
-      by s t f l (inl p) (inl q) = both _ _ _ _ (before s p) (before t q) (old s t f (omega (arith, h)))
-      by s t f l (inl p) (inr (inl e)) = both _ _ _ _ (before s p) (here t e) (low s p)
-      by s zero f l p (inr (inr q)) = absurd (omega arith)
-      by s (suc t) f l (inl p) (inr (inr q)) = both _ _ _ _ (before s p) (beyond t (omega arith)) (old s t (omega arith) (omega arith))
-      by s t f l (inr (inl e)) (inl q) = absurd (omega arith)
-      by s t f l (inr (inl e)) (inr (inl g)) = absurd (omega arith)
-      by s (suc t) f l (inr (inl e)) (inr (inr q)) = both _ _ _ _ (here s e) (beyond t (omega arith)) (high t (omega arith) (omega arith))
-      by s t f l (inr (inr p)) (inl q) = absurd (omega arith)
-      by s t f l (inr (inr p)) (inr (inl g)) = absurd (omega arith)
-      by zero (suc t) f l (inr (inr p)) (inr (inr q)) = absurd (omega arith)
-      by (suc s) (suc t) f l (inr (inr p)) (inr (inr q)) = both _ _ _ _ (beyond s (omega arith)) (beyond t (omega arith)) (old s t (omega arith) (omega arith))
+      by s t f l p a = grind (arith, both, before, old, h, here, low, beyond, high)
 
 -- ---- the entries of the first so many ranks
 
@@ -79,11 +63,7 @@ sorted_next rs fs ps r at a ranked inside h low high = record {
     later t g l = sym (same_digest (λ k. 0) (key_at ps x) (key_of_rank fs ps t) refl) ∙ ranked.ascending r t (omega arith) l
 
     below : (s : ℕ) → s < at → key_cmp digest (key_of_rank rs ps s) (key_at ps x) ≡ Less
-    below s l = by (cases_lt (digest (key_of_rank rs ps s)) (digest (key_at ps x)))
-      where
-        by : (digest (key_of_rank rs ps s) < digest (key_at ps x)) ⊎ (digest (key_at ps x) ≤ digest (key_of_rank rs ps s)) → key_cmp digest (key_of_rank rs ps s) (key_at ps x) ≡ Less
-        by (inl g) = lower_digest digest (key_of_rank rs ps s) (key_at ps x) g
-        by (inr g) = same_digest digest (key_of_rank rs ps s) (key_at ps x) (omega (arith, g, low s l)) ∙ a.lower r (omega arith) inside s (omega (arith, l, h))
+    below s l = grind (arith, x, lower_digest, same_digest, low, inside, h)
 
     above : (s : ℕ) → at ≤ s → s < length rs → key_cmp digest (key_at ps x) (key_of_rank rs ps s) ≡ Less
     above s l g = lower_digest digest (key_at ps x) (key_of_rank rs ps s) (high s l g)
@@ -104,10 +84,7 @@ digests_next ms rs ps at m x e h digested its s g = by s (omega (arith, g, lengt
     same s t p q f g is = f ∙ is ∙ sym (ap (λ i. digest (key_at ps i)) g)
 
     by : (s : ℕ) → s < length ms + 1 → (s < at) ⊎ ((s ≡ at) ⊎ (at < s)) → get_or (insert ms at m) s 0 ≡ digest (key_of_rank (insert rs at x) ps s)
-    by s l (inl f) = same _ _ _ _ (before ms at m inside s f) (before rs at x h s f) (digested s (omega (arith, f, inside)))
-    by s l (inr (inl f)) = same _ _ _ _ (here ms at m inside s f) (here rs at x h s f) its
-    by zero l (inr (inr f)) = absurd (omega arith)
-    by (suc s) l (inr (inr f)) = same _ _ _ _ (beyond ms at m inside s (omega arith)) (beyond rs at x h s (omega arith)) (digested s (omega arith))
+    by s l a = grind (arith, same, before, at, inside, x, h, here, its, beyond)
 
 pub entries_sorted : (es : List Entry) (fs : List ℕ) (ps : Pairs) (r : ℕ) → AreSorted (map place_of_entry es) fs ps r → AreDigests (map digest_of_entry es) (map place_of_entry es) ps → AreRising es
 entries_sorted es fs ps r a digested i j h g = by (cases_lt i j)

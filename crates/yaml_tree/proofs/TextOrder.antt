@@ -20,8 +20,7 @@ first_same m n xs ys h e = ap (λ o. ordering_then o (cmp xs ys)) (equal m n h) 
 
 -- one by one, or all alike: the first that differs is less
 either : (m n : ℕ) (xs ys : List ℕ) → (m < n) ⊎ ((m ≡ n) × (cmp xs ys ≡ Less)) → cmp (m ∷ xs) (n ∷ ys) ≡ Less
-either m n xs ys (inl h) = first_less m n xs ys h
-either m n xs ys (inr h) = first_same m n xs ys h.0 h.1
+either m n xs ys a = grind (arith, first_less, first_same)
 
 -- ---- the bytes of a character
 
@@ -52,26 +51,19 @@ unfolding encode_utf8
 is_four c h = grind (arith, nat_tests)
 
 below : (m n : ℕ) → (m < n) ⊎ (n ≤ m)
-below m n = by (nat_lt m n) refl
-  where
-    by : (b : Bool) → nat_lt m n ≡ b → (m < n) ⊎ (n ≤ m)
-    by true e = inl (grind (arith, nat_tests))
-    by false e = inr (grind (arith, nat_tests))
+below m n = grind arith
 
 class_of : (c : ℕ) → Class c
 class_of c = first (below c 128)
   where
     third : 2048 ≤ c → (c < 65536) ⊎ (65536 ≤ c) → Class c
-    third b (inl d) = three b d (is_three c b d)
-    third b (inr d) = four d (is_four c d)
+    third b a = grind (arith, three, is_three, four, is_four)
 
     second : 128 ≤ c → (c < 2048) ⊎ (2048 ≤ c) → Class c
-    second a (inl b) = two a b (is_two c a b)
-    second a (inr b) = third b (below c 65536)
+    second a b = grind (arith, two, is_two, third, below)
 
     first : (c < 128) ⊎ (128 ≤ c) → Class c
-    first (inl a) = one a (is_one c a)
-    first (inr a) = second a (below c 2048)
+    first a = grind (arith, one, is_one, second, below)
 
 -- of two numbers of which the first is no greater: it is less, or they are the same
 next_of : (m n : ℕ) → m ≤ n → (m < n) ⊎ (m ≡ n)
@@ -81,13 +73,10 @@ step : (m n : ℕ) (xs ys : List ℕ) → m ≤ n → (m ≡ n → cmp xs ys ≡
 step m n xs ys h f = elim (next_of m n h) [ inl a ↦ first_less m n xs ys a | inr a ↦ first_same m n xs ys a (f a) ]
 
 within_two : (c d : ℕ) (r t : List ℕ) → c < d → cmp ((192 + c / 64) ∷ back c ∷ r) ((192 + d / 64) ∷ back d ∷ t) ≡ Less
-within_two c d r t h =
-    step (192 + c / 64) (192 + d / 64) (back c ∷ r) (back d ∷ t) (omega arith) (λ e. first_less (back c) (back d) r t (omega arith))
+within_two c d r t h = grind (arith, step, back, first_less)
 
 within_three : (c d : ℕ) (r t : List ℕ) → c < d → cmp ((224 + c / 4096) ∷ back (c / 64) ∷ back c ∷ r) ((224 + d / 4096) ∷ back (d / 64) ∷ back d ∷ t) ≡ Less
-within_three c d r t h =
-    step (224 + c / 4096) (224 + d / 4096) (back (c / 64) ∷ back c ∷ r) (back (d / 64) ∷ back d ∷ t) (omega arith) (λ e.
-    step (back (c / 64)) (back (d / 64)) (back c ∷ r) (back d ∷ t) (omega arith) (λ f. first_less (back c) (back d) r t (omega arith)))
+within_three c d r t h = grind (arith, step, back, first_less)
 
 within_four : (c d : ℕ) (r t : List ℕ) → c < d
     → cmp ((240 + c / 262144) ∷ back (c / 4096) ∷ back (c / 64) ∷ back c ∷ r) ((240 + d / 262144) ∷ back (d / 4096) ∷ back (d / 64) ∷ back d ∷ t) ≡ Less
@@ -100,22 +89,7 @@ encode_less : (c d : ℕ) (r t : List ℕ) → c < d → cmp (encode_utf8 c ++ r
 encode_less c d r t h = by (class_of c) (class_of d)
   where
     by : Class c → Class d → cmp (encode_utf8 c ++ r) (encode_utf8 d ++ t) ≡ Less
-    by (one a e) (one b f) = rw (e, f) (first_less c d r t h)
-    by (one a e) (two b j f) = rw (e, f) (first_less c (192 + d / 64) r (back d ∷ t) (omega arith))
-    by (one a e) (three b j f) = rw (e, f) (first_less c (224 + d / 4096) r (back (d / 64) ∷ back d ∷ t) (omega arith))
-    by (one a e) (four b f) = rw (e, f) (first_less c (240 + d / 262144) r (back (d / 4096) ∷ back (d / 64) ∷ back d ∷ t) (omega arith))
-    by (two a i e) (one b f) = absurd (omega arith)
-    by (two a i e) (two b j f) = rw (e, f) (within_two c d r t h)
-    by (two a i e) (three b j f) = rw (e, f) (first_less (192 + c / 64) (224 + d / 4096) (back c ∷ r) (back (d / 64) ∷ back d ∷ t) (omega arith))
-    by (two a i e) (four b f) = rw (e, f) (first_less (192 + c / 64) (240 + d / 262144) (back c ∷ r) (back (d / 4096) ∷ back (d / 64) ∷ back d ∷ t) (omega arith))
-    by (three a i e) (one b f) = absurd (omega arith)
-    by (three a i e) (two b j f) = absurd (omega arith)
-    by (three a i e) (three b j f) = rw (e, f) (within_three c d r t h)
-    by (three a i e) (four b f) = rw (e, f) (first_less (224 + c / 4096) (240 + d / 262144) (back (c / 64) ∷ back c ∷ r) (back (d / 4096) ∷ back (d / 64) ∷ back d ∷ t) (omega arith))
-    by (four a e) (one b f) = absurd (omega arith)
-    by (four a e) (two b j f) = absurd (omega arith)
-    by (four a e) (three b j f) = absurd (omega arith)
-    by (four a e) (four b f) = rw (e, f) (within_four c d r t h)
+    by a b = grind (arith, first_less, t, h, back, within_two, within_three, within_four)
 
 encode_greater : (c d : ℕ) (r t : List ℕ) → d < c → cmp (encode_utf8 c ++ r) (encode_utf8 d ++ t) ≡ Greater
 encode_greater c d r t h = nat_list_cmp_total.antisymm (encode_utf8 c ++ r) (encode_utf8 d ++ t) ∙ ap ordering_reverse (encode_less d c t r h)
@@ -135,12 +109,10 @@ encode_cmp c d r t = first (below c d)
     same e = ap (λ x. cmp (encode_utf8 x ++ r) (encode_utf8 d ++ t)) e ∙ alike (encode_utf8 d) r t ∙ sym (ap (λ o. ordering_then o (cmp r t)) (equal c d e))
 
     second : d ≤ c → (d < c) ⊎ (c ≤ d) → cmp (encode_utf8 c ++ r) (encode_utf8 d ++ t) ≡ ordering_then (nat_cmp c d) (cmp r t)
-    second a (inl b) = encode_greater c d r t b ∙ sym (ap (λ o. ordering_then o (cmp r t)) (greater c d b))
-    second a (inr b) = same (omega arith)
+    second a b = grind (arith, encode_greater, t, greater, same)
 
     first : (c < d) ⊎ (d ≤ c) → cmp (encode_utf8 c ++ r) (encode_utf8 d ++ t) ≡ ordering_then (nat_cmp c d) (cmp r t)
-    first (inl a) = encode_less c d r t a ∙ sym (ap (λ o. ordering_then o (cmp r t)) (less c d a))
-    first (inr a) = second a (below d c)
+    first a = grind (arith, encode_less, t, less, second, below)
 
 starts : (c : ℕ) (r : List ℕ) → (b : ℕ) × ((bs : List ℕ) × (encode_utf8 c ++ r ≡ b ∷ bs))
 starts c r = by (class_of c)
@@ -155,8 +127,7 @@ encoded_cmp : (cs ds : List ℕ) → cmp (encode_utf8_all cs) (encode_utf8_all d
 encoded_cmp [] [] = refl
 encoded_cmp [] (d ∷ ds) = let s = starts d (encode_utf8_all ds) in ap (cmp []) s.1.1
 encoded_cmp (c ∷ cs) [] = let s = starts c (encode_utf8_all cs) in ap (λ xs. cmp xs []) s.1.1
-encoded_cmp (c ∷ cs) (d ∷ ds) =
-    encode_cmp c d (encode_utf8_all cs) (encode_utf8_all ds) ∙ ap (ordering_then (nat_cmp c d)) (encoded_cmp cs ds)
+encoded_cmp (c ∷ cs) (d ∷ ds) = grind (arith, encode_cmp, encoded_cmp cs ds)
 
 -- the bytes of a string are those of its characters
 pub string_encoded : {A : Type 0} (s : String A) → encode_utf8_all (string_chars s) ≡ string_bytes s

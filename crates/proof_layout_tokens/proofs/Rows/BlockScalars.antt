@@ -1,5 +1,5 @@
 -- Literal and folded blocks have rows: the pieces that they are, before what stands after them.
-use Rattle.proof_layout_tokens.proofs.Common.{[], and_false, another, ap, append-nil, append_assoc, are_empty, AreEmptyLines, arith, begins_with, block_may_end, block_read, block_scalar, BlockStyle, Bool, collection_of, column_by, comment_line, empty_line, empty_row, false, feed, free, full, GapLine, gives_block_scalar, has_break, has_content, indented_lines, indicator_of, innermost, is_at_end, is_blank, is_break, is_empty, is_empty_line, is_further_text, is_in_column, is_in_line, is_nul, is_separation, is_waiting, IsGap, length, Line, line_past, line_past_separation, List, nat_tests, None, not, Option, Position, position_after, refl, Row, row_of, rows_of, Some, spaces, spell_append, spell_ending, spell_gap, spell_gap_line, spell_line, spell_lines, split, split_spell, starts_with_tab, Style, subst, suc, sym, taken, texts, texts_append, Tok, true, zero, ℕ, ◌&&◌, ◌++◌, ◌<◌, ◌∙◌, ◌∷◌, ◌≡◌}
+use Rattle.proof_layout_tokens.proofs.Common.{[], and_false, another, ap, append-nil, append_assoc, are_empty, AreEmptyLines, arith, begins_with, block_may_end, block_read, block_scalar, BlockStyle, Bool, collection_of, column_by, comment_line, empty_line, false, feed, free, full, GapLine, gives_block_scalar, has_break, has_content, indented_lines, indicator_of, innermost, is_at_end, is_blank, is_break, is_empty, is_empty_line, is_further_text, is_in_column, is_in_line, is_nul, is_separation, is_waiting, IsGap, length, Line, line_past, line_past_separation, List, nat_tests, None, not, Option, Position, position_after, refl, Row, row_of, rows_of, Some, spaces, spell_append, spell_ending, spell_gap, spell_gap_line, spell_line, spell_lines, split, split_spell, starts_with_tab, Style, subst, suc, sym, texts, texts_append, Tok, true, zero, ℕ, ◌&&◌, ◌++◌, ◌<◌, ◌∙◌, ◌∷◌, ◌≡◌}
 use Rattle.defs_text.specs.Classes.{tab}
 use Rattle.proof_lexers.proofs.Blocks.Written as written
 use Rattle.proof_lexers.proofs.Blocks.Written.{spell}
@@ -32,13 +32,7 @@ not_all_empty column [] rs e h = let z : [] ≡ rs = cc in let none : has_conten
 not_all_empty column (l ∷ ls) rs e h = by (is_empty_line column l) (rows_of column ls) refl refl (λ more f g. not_all_empty column ls more f g)
   where
     by : (b : Bool) (o : Option (List Row)) → is_empty_line column l ≡ b → rows_of column ls ≡ o → ((more : List Row) → rows_of column ls ≡ Some more → has_content more ≡ true → are_empty column ls ≡ false) → (is_empty_line column l && are_empty column ls) ≡ false
-    by false o x y go = rw x refl
-    by true None x y go = let none : None ≡ Some rs = rw (x, y) at e in cc
-    by true (Some more) x y go =
-        let one : Some (empty_row ∷ more) ≡ Some rs = rw (x, y) at e in
-        let z : empty_row ∷ more ≡ rs = cc in
-        let rest : has_content more ≡ true = rw (← z) at h in
-        rw (go more y rest) (and_false _)
+    by a o x y go = grind arith
 
 module _ (s : BlockStyle) (i column : ℕ) (strips : Bool) (text : List ℕ) (ls : List Line) (inside : IsInside i column) (h : AreBlockLines s i column strips text ls) (bs : List ℕ) (same : innermost bs ≡ collection_of i) where
   pub known : Lines s i column strips text ls
@@ -129,9 +123,7 @@ token_of BlockStyle.literal text = Tok.scalar Style.literal text
 token_of BlockStyle.folded text = Tok.scalar Style.folded text
 
 block_line : (must : Bool) (here : Position) (bs : List ℕ) (l : Key.Line) → must ≡ false → is_waiting l ≡ false → line_past must here bs gives_block_scalar false l ≡ Some (record { line = free; blocks = bs })
-block_line must here bs free e h = rw e refl
-block_line must here bs taken e h = refl
-block_line must here bs (Key.waits begin) e h = cc
+block_line must a bs b e h = grind arith
 
 module _ (bs : List ℕ) (p : Position) (awaits : Bool) (l : Key.Line) (f piece more_text text : List ℕ) (line : is_waiting l ≡ false) (parts : Parts bs f) (deep : IsDeep bs (position_after p f (piece ++ more_text))) (some : not (is_empty piece) ≡ true) where
   block_scalar_step : (s : BlockStyle) → IsBlockPiece bs s text piece more_text → Steps (at p bs awaits another l []) (step_of f piece (token_of s text) false) more_text (at (position_after (position_after p f (piece ++ more_text)) piece more_text) bs false block_scalar free []) []
@@ -184,8 +176,7 @@ here_gap g d r p gap col = record {
 }
   where
     by : (b : Bool) → line_past_separation false b free ≡ Some free
-    by true = refl
-    by false = refl
+    by a = grind arith
 
 module _ (column : ℕ) (bs : List ℕ) (tokens : List Tok) where
   gap_tail : (g : List GapLine) (d : ℕ) (r : List ℕ) → IsGap g → (column ≡ 0 → AreEmptyLines g) → Next column (spaces d r) → ((f : List ℕ) (p : Position) → Here d r p block_scalar free f → Reads (at p bs false block_scalar free []) (f ++ r) tokens) → Tail column bs (spell_gap g (spaces d r)) tokens

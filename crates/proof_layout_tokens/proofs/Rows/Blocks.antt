@@ -1,5 +1,5 @@
 -- Steps outside flow that begin at a column, after block collections that end there.
-use Rattle.proof_layout_tokens.proofs.Common.{[], Account, act_of, and_false, and_parts, another, ap, arith, awaits_past, begins_free_line, begins_line, begins_with_space_or_break, begun_by, begun_outside, Bool, colon_may_precede, dash_may_precede, false, follows_plain, free, further_lines_stand, gives_node, has_break, has_no_break, has_tab_before_piece, has_tab_within, inl, is_at_gap, is_break, is_deeper, is_in_column, is_marker, is_separation, is_waiting, IsShown, key_tokens, last_line, le-ltb, least_column, length, length-append, line_past, line_past_separation, List, may_precede, nat_le, nat_lt, not, not-true, not_ended, opened, Position, position_after, Previous, previous_by, put, refl, replicate, Some, start_if, suc, taken, Tok, Token, toks, true, zero, ℕ, ◌&&◌, ◌++◌, ◌+◌, ◌-◌, ◌<◌, ◌||◌, ◌∙◌, ◌∷◌, ◌≡◌, ◌≤◌}
+use Rattle.proof_layout_tokens.proofs.Common.{[], Account, act_of, and_parts, another, ap, arith, awaits_past, begins_free_line, begins_with_space_or_break, begun_by, begun_outside, Bool, colon_may_precede, dash_may_precede, false, free, further_lines_stand, gives_node, has_break, has_no_break, has_tab_before_piece, has_tab_within, inl, is_at_gap, is_break, is_deeper, is_in_column, is_marker, is_separation, is_waiting, IsShown, key_tokens, last_line, le-ltb, least_column, length, length-append, line_past, line_past_separation, List, may_precede, nat_lt, not, not-true, not_ended, opened, Position, position_after, Previous, previous_by, put, refl, replicate, Some, start_if, suc, taken, Tok, Token, toks, true, zero, ℕ, ◌&&◌, ◌++◌, ◌+◌, ◌-◌, ◌<◌, ◌∙◌, ◌∷◌, ◌≡◌, ◌≤◌}
 use Rattle.defs_token.specs.Key.{Line}
 use Rattle.proof_layout_tokens.proofs.Rows.Steps.{Reads, at, step_of, site_of, Steps, step}
 use Rattle.proof_layout_tokens.proofs.Rows.Nodes.{or_true, deeper}
@@ -18,8 +18,7 @@ Stay c [] = Unit {0}
 Stay c (n ∷ ns) = n ≤ c
 
 stay_open : (c : ℕ) (bs : List ℕ) → Stay c bs → not_ended c bs ≡ bs
-stay_open c [] h = refl
-stay_open c (n ∷ bs) h = rw (le-ltb c n h) refl
+stay_open c a h = grind (arith, le-ltb)
 
 pub left_open : (c : ℕ) (extra bs : List ℕ) → AreAbove c extra → Stay c bs → not_ended c (extra ++ bs) ≡ bs
 left_open c [] bs above stay = stay_open c bs stay
@@ -31,6 +30,10 @@ so_many extra bs = rw length-append (omega arith)
 pub ends_are : (extra : List ℕ) (p : Position) (first : List Token) → toks (replicate (length extra) (put p Tok.block_end) ++ first) ≡ ended extra (toks first)
 ends_are [] p first = refl
 ends_are (n ∷ extra) p first = ap (λ o. Tok.block_end ∷ o) (ends_are extra p first)
+
+pub ended_append : (extra : List ℕ) (a b : List Tok) → ended extra a ++ b ≡ ended extra (a ++ b)
+ended_append [] a b = refl
+ended_append (n ∷ extra) a b = ap (λ o. Tok.block_end ∷ o) (ended_append extra a b)
 
 -- ---- a separation up to a column
 
@@ -48,41 +51,25 @@ module _ (c : ℕ) (extra bs : List ℕ) (p : Position) (awaits : Bool) (before 
   abbrev there : Position
   there = position_after p f (w ++ next)
 
-  -- a step at the column, from all of these collections
-  pub block_step : (bs' : List ℕ) (l' : Line) (first : List Tok) → AreAbove c extra → Stay c bs → is_marker (act_of t) ≡ false
+  -- a step at the column, from all of these collections, with what is read after it
+  pub block_reads : (bs' : List ℕ) (l' : Line) (first tokens : List Tok) → AreAbove c extra → Stay c bs → is_marker (act_of t) ≡ false
       → IsShown from (site_of from (step_of f w t key) next) (step_of f w t key) next
       → ((column : ℕ) → further_lines_stand column t w ≡ true) → may_precede false bs t w next ≡ true
       → line_past (is_in_column c bs) there bs (act_of t) key free ≡ Some (record { line = l'; blocks = bs' }) → (has_break w && is_waiting l') ≡ false
       → ((colon : Position) → toks (begun_outside (is_deeper c bs) there colon (act_of t) key (Some free)) ≡ first)
-      → (awaits' : Bool) × Steps from (step_of f w t key) next (at (position_after there w next) bs' awaits' (previous_by t) l' (begun_by t)) (ended extra first)
-  block_step bs' l' first above stay no_marker shown further precede leads one_line begins =
-      let stay_on = left_open c extra bs above stay in (
-        awaits_past false t (site_of from (step_of f w t key) next).blocks (site_of from (step_of f w t key) next).awaits next,
-        record {
-          is_separated = here.separates;
-          is_shown = shown;
-          stands = rw (here.tabless, or_true, further _, no_marker, here.column, stay_on, precede) refl;
-          leads = rw (here.line, no_marker, here.column, stay_on, leads, one_line) refl;
-          begins = λ past colon. rw (here.line, no_marker, here.column, stay_on, so_many extra bs) (ends_are extra there _ ∙ ap (ended extra) (begins colon.here));
-        },
-      )
-
-pub ended_append : (extra : List ℕ) (a b : List Tok) → ended extra a ++ b ≡ ended extra (a ++ b)
-ended_append [] a b = refl
-ended_append (n ∷ extra) a b = ap (λ o. Tok.block_end ∷ o) (ended_append extra a b)
-
--- the same with what is read after it
-pub block_reads : (c : ℕ) (extra bs : List ℕ) (p : Position) (awaits : Bool) (before : Previous) (l : Line) (f w : List ℕ) (t : Tok) (key : Bool) (next : List ℕ) → Here c (w ++ next) p before l f
-    → (bs' : List ℕ) (l' : Line) (first tokens : List Tok) → AreAbove c extra → Stay c bs → is_marker (act_of t) ≡ false
-    → IsShown (at p (extra ++ bs) awaits before l []) (site_of (at p (extra ++ bs) awaits before l []) (step_of f w t key) next) (step_of f w t key) next
-    → ((column : ℕ) → further_lines_stand column t w ≡ true) → may_precede false bs t w next ≡ true
-    → line_past (is_in_column c bs) (position_after p f (w ++ next)) bs (act_of t) key free ≡ Some (record { line = l'; blocks = bs' }) → (has_break w && is_waiting l') ≡ false
-    → ((colon : Position) → toks (begun_outside (is_deeper c bs) (position_after p f (w ++ next)) colon (act_of t) key (Some free)) ≡ first)
-    → ((awaits : Bool) → Reads (at (position_after (position_after p f (w ++ next)) w next) bs' awaits (previous_by t) l' (begun_by t)) next tokens)
-    → Reads (at p (extra ++ bs) awaits before l []) (f ++ (w ++ next)) (ended extra (first ++ (t ∷ tokens)))
-block_reads c extra bs p awaits before l f w t key next here bs' l' first tokens above stay no_marker shown further precede leads one_line begins rest =
-    let z = block_step c extra bs p awaits before l f w t key next here bs' l' first above stay no_marker shown further precede leads one_line begins in
-    rw (← ended_append extra first (t ∷ tokens)) (step (step_of f w t key) next z.1 (rest z.0))
+      → ((awaits : Bool) → Reads (at (position_after there w next) bs' awaits (previous_by t) l' (begun_by t)) next tokens)
+      → Reads from (f ++ (w ++ next)) (ended extra (first ++ (t ∷ tokens)))
+  block_reads bs' l' first tokens above stay no_marker shown further precede leads one_line begins rest =
+      let stay_on = left_open c extra bs above stay in
+      let awaits_then = awaits_past false t (site_of from (step_of f w t key) next).blocks (site_of from (step_of f w t key) next).awaits next in
+      let z : Steps from (step_of f w t key) next (at (position_after there w next) bs' awaits_then (previous_by t) l' (begun_by t)) (ended extra first) = record {
+        is_separated = here.separates;
+        is_shown = shown;
+        stands = rw (here.tabless, or_true, further _, no_marker, here.column, stay_on, precede) refl;
+        leads = rw (here.line, no_marker, here.column, stay_on, leads, one_line) refl;
+        begins = λ past colon. rw (here.line, no_marker, here.column, stay_on, so_many extra bs) (ends_are extra there _ ∙ ap (ended extra) (begins colon.here));
+      } in
+      rw (← ended_append extra first (t ∷ tokens)) (step (step_of f w t key) next z (rest awaits_then))
 
 -- ---- collections at the column
 
@@ -100,34 +87,23 @@ abbrev pub MayBegin : (is_open : Bool) → ℕ → List ℕ → Type 0
 MayBegin is_open c bs = is_open ≡ false → least_column bs true ≤ c
 
 pub stands : (is_open : Bool) (c : ℕ) (bs : List ℕ) → MayBegin is_open c bs → Stay c (stood is_open c bs)
-stands true c bs h = omega arith
-stands false c [] h = tt
-stands false c (n ∷ bs) h = let k = h refl in omega (arith, k)
+stands a c bs h = grind arith
 
 pub opens : (is_open : Bool) (c : ℕ) (bs : List ℕ) → MayBegin is_open c bs → opened c (stood is_open c bs) ≡ c ∷ bs
-opens true c bs h = rw (le-ltb c c (omega arith)) refl
-opens false c bs h = rw (deeper bs c (h refl)) refl
+opens a c bs h = grind (arith, le-ltb, deeper)
 
 is_deep : (is_open : Bool) (c : ℕ) (bs : List ℕ) → MayBegin is_open c bs → is_deeper c (stood is_open c bs) ≡ not is_open
-is_deep true c bs h = le-ltb c c (omega arith)
-is_deep false c bs h = deeper bs c (h refl)
+is_deep a c bs h = grind (arith, le-ltb, deeper)
 
 -- ---- entries
 
 -- the column after a piece on one line, and its index
-pub along_column : (w : List ℕ) (p : Position) (next : List ℕ) → has_no_break w ≡ true → (position_after p w next).col ≡ p.col + length w
-along_column [] p next h = omega arith
-along_column (c ∷ w) p next h =
+along : (w : List ℕ) (p : Position) (next : List ℕ) → has_no_break w ≡ true → ((position_after p w next).col ≡ p.col + length w) × ((position_after p w next).index ≡ p.index + length w)
+along [] p next h = (omega arith, omega arith)
+along (c ∷ w) p next h =
     let q = and_parts (not (is_break c)) (has_no_break w) h in
-    let z = along_column w (record { index = suc p.index; line = p.line; col = suc p.col }) next q.1 in
-    rw (position_after, not-true (is_break c) q.0) (omega (arith, z))
-
-pub along_index : (w : List ℕ) (p : Position) (next : List ℕ) → has_no_break w ≡ true → (position_after p w next).index ≡ p.index + length w
-along_index [] p next h = omega arith
-along_index (c ∷ w) p next h =
-    let q = and_parts (not (is_break c)) (has_no_break w) h in
-    let z = along_index w (record { index = suc p.index; line = p.line; col = suc p.col }) next q.1 in
-    rw (position_after, not-true (is_break c) q.0) (omega (arith, z))
+    let z = along w (record { index = suc p.index; line = p.line; col = suc p.col }) next q.1 in
+    rw (position_after, not-true (is_break c) q.0) (omega (arith, z), omega (arith, z))
 
 module _ (is_open : Bool) (c : ℕ) (extra bs : List ℕ) (p : Position) (awaits : Bool) (before : Previous) (l : Line) (f next : List ℕ) (tokens : List Tok) (above : AreAbove c extra) (may : MayBegin is_open c bs) where
   abbrev Begins : ℕ → Tok → (collection : Tok) → Line → Type 0
@@ -135,18 +111,10 @@ module _ (is_open : Bool) (c : ℕ) (extra bs : List ℕ) (p : Position) (awaits
       → Reads (at p (extra ++ stood is_open c bs) awaits before l []) (f ++ mark ∷ next) (ended extra (starts is_open collection (t ∷ tokens)))
 
   start_is : (t : Tok) (here : Position) → toks (start_if (not is_open) here t) ≡ starts is_open t []
-  start_is t here = by is_open
-    where
-      by : (b : Bool) → toks (start_if (not b) here t) ≡ starts b t []
-      by true = refl
-      by false = refl
+  start_is t here = grind (arith, is_open, starts)
 
   start_more : (t : Tok) (o : List Tok) → starts is_open t [] ++ o ≡ starts is_open t o
-  start_more t o = by is_open
-    where
-      by : (b : Bool) → starts b t [] ++ o ≡ starts b t o
-      by true = refl
-      by false = refl
+  start_more t o = grind (arith, is_open, starts)
 
   pub dash_reads : is_at_gap next ≡ true → dash_may_precede next ≡ true → Begins 45 Tok.block_entry Tok.block_sequence_start free
   unfolding is_break
@@ -177,8 +145,7 @@ no_tab zero = refl
 no_tab (suc n) = refl
 
 stay_more : (n m : ℕ) (bs : List ℕ) → n ≤ m → Stay n bs → Stay m bs
-stay_more n m [] low h = tt
-stay_more n m (b ∷ bs) low h = omega (arith, low, h)
+stay_more n m a b h = grind arith
 
 none_left : (n : ℕ) → n - n ≡ 0
 none_left n = omega arith
@@ -189,30 +156,14 @@ module _ (bs bs' next : List ℕ) (begin p : Position) (awaits : Bool) (before :
   waiting = at p bs awaits before (Line.waits begin) []
 
   colon_step : Steps waiting (step_of [] (58 ∷ []) Tok.value false) next (at (position_after p (58 ∷ []) next) bs' true another taken []) []
-  colon_step =
-      let is_near : nat_le p.index (begin.index + 1024) ≡ true = grind (arith, near) in
-      record {
-        is_separated = refl;
-        is_shown = (refl, (refl, rw gap refl));
-        stands = rw (no_tab (least_column bs (awaits || follows_plain before [])), or_true (not (begins_line before [])), follows) refl;
-        leads = rw (quiet, stay_open p.col bs stay, is_near, opens, and_false (has_break (58 ∷ []))) refl;
-        begins = λ past colon. rw (quiet, stay_open p.col bs stay, none_left (length bs)) refl;
-      }
+  colon_step = grind arith
 
 module _ (is_open : Bool) (c : ℕ) (extra bs : List ℕ) (p : Position) (awaits : Bool) (before : Previous) (l : Line) (f w : List ℕ) (t : Tok) (next : List ℕ) (tokens : List Tok) (above : AreAbove c extra) (may : MayBegin is_open c bs) where
   key_first : (here colon : Position) → toks (key_tokens (not is_open) colon Tok.block_mapping_start here) ≡ starts is_open Tok.block_mapping_start (Tok.key ∷ [])
-  key_first here colon = by is_open
-    where
-      by : (b : Bool) → toks (key_tokens (not b) colon Tok.block_mapping_start here) ≡ starts b Tok.block_mapping_start (Tok.key ∷ [])
-      by true = refl
-      by false = refl
+  key_first here colon = grind (arith, is_open, starts)
 
   key_more : (o : List Tok) → starts is_open Tok.block_mapping_start (Tok.key ∷ []) ++ o ≡ starts is_open Tok.block_mapping_start (Tok.key ∷ o)
-  key_more o = by is_open
-    where
-      by : (b : Bool) → starts b Tok.block_mapping_start (Tok.key ∷ []) ++ o ≡ starts b Tok.block_mapping_start (Tok.key ∷ o)
-      by true = refl
-      by false = refl
+  key_more o = grind (arith, is_open, starts)
 
   -- a key and its colon
   pub key_reads : act_of t ≡ gives_node → begun_by t ≡ [] → begins_free_line (previous_by t) [] ≡ false → has_no_break w ≡ true → length w ≤ 1024
@@ -224,12 +175,11 @@ module _ (is_open : Bool) (c : ℕ) (extra bs : List ℕ) (p : Position) (awaits
   key_reads node none quiet one_line short shown further precede gap follows here rest =
       let begin = position_after p f (w ++ 58 ∷ next) in
       let past = position_after begin w (58 ∷ next) in
-      let column : past.col ≡ begin.col + length w = along_column w begin (58 ∷ next) one_line in
-      let index : past.index ≡ begin.index + length w = along_index w begin (58 ∷ next) one_line in
+      let z = along w begin (58 ∷ next) one_line in
       let at_c = here.column in
-      let on : Stay past.col (stood is_open c bs) = stay_more c past.col (stood is_open c bs) (omega (arith, column, at_c)) (stands is_open c bs may) in
+      let on : Stay past.col (stood is_open c bs) = stay_more c past.col (stood is_open c bs) (omega (arith, z, at_c)) (stands is_open c bs may) in
       let opened_at : opened begin.col (stood is_open c bs) ≡ c ∷ bs = rw at_c (opens is_open c bs may) in
       rw (← key_more (t ∷ Tok.value ∷ tokens))
       (block_reads c extra (stood is_open c bs) p awaits before l f w t true (58 ∷ next) here (stood is_open c bs) (Line.waits begin) (starts is_open Tok.block_mapping_start (Tok.key ∷ [])) (Tok.value ∷ tokens) above (stands is_open c bs may) (rw node refl)
       shown further precede (rw node refl) (rw one_line refl) (λ colon. rw (is_deep is_open c bs may) (key_first begin colon))
-      (λ awaits. rw none (step (step_of [] (58 ∷ []) Tok.value false) next (colon_step (stood is_open c bs) (c ∷ bs) next begin past awaits (previous_by t) on (omega (arith, index, short)) opened_at gap follows quiet) (rest (position_after past (58 ∷ []) next) (omega (arith, column, at_c))))))
+      (λ awaits. rw none (step (step_of [] (58 ∷ []) Tok.value false) next (colon_step (stood is_open c bs) (c ∷ bs) next begin past awaits (previous_by t) on (omega (arith, z, short)) opened_at gap follows quiet) (rest (position_after past (58 ∷ []) next) (omega (arith, z, at_c))))))

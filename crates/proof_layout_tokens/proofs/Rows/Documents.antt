@@ -1,10 +1,11 @@
 -- Whole layouts have rows: roots, and documents one after the other.
-use Rattle.proof_layout_tokens.proofs.Common.{[], and_false, another, ap, append-nil, are_marks, AreDocuments, AreEmptyLines, arith, awaits_at, awaits_past, BlockStyle, Bool, codes, Document, Documents, documents_tokens, false, first_account, first_position, free, GapLine, has_break, is_blank, is_blank_or_end, is_break, is_nul, is_waiting, IsAfterRoot, IsGap, IsLayout, IsRoot, Layout, length, line_past_separation, List, marked, no_comment, Position, position_after, Previous, refl, Root, root_tokens, Some, spaces, spell_block, spell_documents, spell_gap, spell_inline, spell_lines, spell_literal, spell_root, sym, taken, Tok, true, ℕ, ◌++◌, ◌-◌, ◌∙◌, ◌∷◌, ◌≡◌}
+use Rattle.proof_layout_tokens.proofs.Common.{[], and_false, another, append-nil, are_marks, AreDocuments, arith, awaits_at, awaits_past, BlockStyle, Bool, codes, Documents, documents_tokens, false, first_account, first_position, free, GapLine, has_break, is_blank, is_blank_or_end, is_break, is_nul, is_waiting, IsAfterRoot, IsGap, IsLayout, IsRoot, Layout, length, line_past_separation, List, marked, no_comment, Position, position_after, Previous, refl, Root, root_tokens, Some, spaces, spell_block, spell_documents, spell_gap, spell_inline, spell_lines, spell_literal, spell_root, taken, Tok, true, ℕ, ◌++◌, ◌-◌, ◌∷◌, ◌≡◌}
 use Rattle.defs_token.specs.Key.{Line}
 use Rattle.defs_layout.specs.BlockLines.{Line as BlockLine}
 use Rattle.defs_layout.specs.Layout.{spell}
 use Rattle.defs_layout.specs.Layout as layout
 use Rattle.proof_layout_tokens.proofs.LiteralTexts.{strips_of, headed_literal, root_literal_lines}
+use Rattle.proof_layout_tokens.proofs.LayoutNul.{after_gap}
 use Rattle.proof_layout_tokens.proofs.Rows.Steps.{Reads, at, step_of, Steps, step}
 use Rattle.proof_layout_tokens.proofs.Rows.Nodes.{or_true}
 use Rattle.proof_layout_tokens.proofs.Rows.Texts.{ended, read_end}
@@ -26,16 +27,14 @@ abbrev lead_text : (breaks : Bool) → List GapLine → ℕ → List ℕ
 lead_text b g n = pre b (spell_gap g (spaces n []))
 
 lead_is : (b : Bool) (g : List GapLine) (n : ℕ) (r : List ℕ) → pre b (spell_gap g (spaces n r)) ≡ lead_text b g n ++ r
-lead_is true g n r = ap (λ x. 10 ∷ x) (sym (gap_is g (spaces n []) r ∙ ap (spell_gap g) (spaces_are n [] r)))
-lead_is false g n r = sym (gap_is g (spaces n []) r ∙ ap (spell_gap g) (spaces_are n [] r))
+lead_is b g n r = grind (arith, gap_is, spaces_are)
 
 module _ (b : Bool) (g : List GapLine) (gap : IsGap g) (p : Position) (l : Line) (line : is_waiting l ≡ false) (begins : b ≡ false → (p.col ≡ 0) × (l ≡ free)) where
   here_at : (n : ℕ) (r : List ℕ) → Here n r p another l (lead_text b g n)
   here_at n r = by b begins
     where
       any : (m : Bool) → line_past_separation false m free ≡ Some free
-      any true = refl
-      any false = refl
+      any a = grind arith
 
       by : (b : Bool) → (b ≡ false → (p.col ≡ 0) × (l ≡ free)) → Here n r p another l (lead_text b g n)
       by true begins = here_after no_comment g n r p another l tt gap (λ f. refl) line
@@ -57,36 +56,18 @@ EndsDocument root (next g d r) = ⊥
 EndsDocument root (marker g r) = IsAfterRoot root g
 EndsDocument root (end g) = IsAfterRoot root g
 
-empty_gap : (g : List GapLine) → AreEmptyLines g → IsGap g
-empty_gap [] h = tt
-empty_gap (GapLine.empty_line ∷ g) h = (tt, empty_gap g h.1)
-empty_gap (GapLine.comment_line text ∷ g) h = absurd (h.0)
-
-after_root : (root : Root) (g : List GapLine) → IsAfterRoot root g → IsGap g
-after_root (Root.block column b) g h = h
-after_root (Root.inline i) g h = h
-after_root (Root.literal text ls) g h = empty_gap g h
-
 is_trail : (root : Root) (t : Trail) → EndsDocument root t → IsTrail t
-is_trail root (next g d r) h = absurd h
-is_trail root (marker g r) h = after_root root g h
-is_trail root (end g) h = after_root root g h
+is_trail root t h = grind (arith, after_gap)
 
 is_low : (root : Root) (t : Trail) → EndsDocument root t → IsLow t []
-is_low root (next g d r) h = absurd h
-is_low root (marker g r) h = tt
-is_low root (end g) h = tt
+is_low root a h = grind arith
 
 all_end : (root : Root) (t : Trail) (c : ℕ) → EndsDocument root t → EndsAt t c
-all_end root (next g d r) c h = absurd h
-all_end root (marker g r) c h = tt
-all_end root (end g) c h = tt
+all_end root a c h = grind arith
 
 literal_follows : (text : List ℕ) (ls : List BlockLine) (t : Trail) → EndsDocument (Root.literal text ls) t → Follows 0 t
 unfolding is_nul are_marks is_blank_or_end is_blank is_break
-literal_follows text ls (next g d r) h = absurd h
-literal_follows text ls (marker g r) h = ((λ e. h), at_text (marker_text r) refl refl refl)
-literal_follows text ls (end g) h = λ e. h
+literal_follows a ls b h = grind (arith, at_text)
 
 root_reads : (root : Root) → IsRoot root → (b : Bool) (g : List GapLine) → IsGap g → (t : Trail) → EndsDocument root t → (tokens : List Tok) (p : Position) (awaits : Bool) (l : Line) → is_waiting l ≡ false → (b ≡ false → (p.col ≡ 0) × (l ≡ free)) → After t [] tokens
     → Reads (at p [] awaits another l []) (pre b (spell_gap g (spell_root root (trail_text t)))) (root_tokens root tokens)

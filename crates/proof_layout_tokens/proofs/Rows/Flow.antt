@@ -1,5 +1,5 @@
 -- Steps at the indicators of JSON arrays and objects, and at the keys of objects.
-use Rattle.proof_layout_tokens.proofs.Common.{[], and_false, another, begins_flow, begins_free_line, begins_with, Bool, colon_may_precede, double_quoted_value, Entry, false, filled, first_entry, flow_collection, flow_entry, flow_mapping_end, flow_mapping_start, flow_sequence_end, flow_sequence_start, fresh, further_lines_stand, Had, has_break, inl, is_at_gap, is_keyed, is_waiting, key, least_column, List, mapping, no_pair, past_end, Position, position_after, Previous, quoted_may_end, quoted_scalar, refl, settled, Some, Tok, true, value, ℕ, ◌++◌, ◌∷◌, ◌≡◌}
+use Rattle.proof_layout_tokens.proofs.Common.{arith, [], and_false, another, begins_flow, begins_free_line, begins_with, Bool, colon_may_precede, double_quoted_value, Entry, false, first_entry, flow_collection, flow_entry, flow_mapping_end, flow_mapping_start, flow_sequence_end, flow_sequence_start, fresh, further_lines_stand, Had, has_break, inl, is_at_gap, is_keyed, is_waiting, key, least_column, List, mapping, no_pair, past_end, Position, position_after, Previous, quoted_may_end, quoted_scalar, refl, Some, Tok, true, value, ℕ, ◌++◌, ◌∷◌, ◌≡◌}
 use Rattle.defs_token.specs.Token.{scalar, double_quoted}
 use Rattle.defs_token.specs.Key.{Line}
 use Rattle.defs_token.specs.FlowEntry as flow
@@ -28,10 +28,7 @@ closing_bracket true = 125
 closing_bracket false = 93
 
 entry_ends : (es : List Entry) (h : Had) → is_keyed h ≡ false → past_end es false h ≡ Some es
-entry_ends es fresh h = refl
-entry_ends es filled h = refl
-entry_ends es (flow.waits begin) h = cc
-entry_ends es settled h = refl
+entry_ends es h e = grind arith
 
 module _ (bs f next : List ℕ) (p : Position) (awaits : Bool) (l : Line) (line : is_waiting l ≡ false) (parts : Parts bs f) where
   abbrev here : List ℕ → Position

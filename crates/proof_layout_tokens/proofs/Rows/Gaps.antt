@@ -1,5 +1,5 @@
 -- White space of JSON texts as separations.
-use Rattle.proof_layout_tokens.proofs.Common.{[], after, and_parts, ap, arith, begins_with, Blank, blank_character, Bool, carriage_return, codes, colon_may_precede, false, goes_on_quoted, has_no_break, has_tab_within, inside, is_blank, is_blanks_and_comment, is_break, is_empty, is_flow, is_on_line, is_one_of, is_separation, last_line, leading, least_column, line_feed, line_is_done, List, map, not, not-true, Option, past, Position, position_after, position_past, quoted_may_end, refl, space, split, Stand, stops, suc, tab, TabsBeginLines, true, zero, ℕ, ◌++◌, ◌==◌, ◌||◌, ◌∷◌, ◌≡◌}
+use Rattle.proof_layout_tokens.proofs.Common.{[], after, and_parts, ap, arith, begins_with, Blank, blank_character, Bool, carriage_return, codes, colon_may_precede, false, goes_on_quoted, has_no_break, has_tab_within, inside, is_blank, is_blanks_and_comment, is_break, is_empty, is_flow, is_on_line, is_one_of, is_separation, last_line, leading, least_column, line_feed, List, map, not, not-true, Option, Position, position_after, position_past, quoted_may_end, refl, space, split, Stand, stops, suc, tab, TabsBeginLines, true, zero, ℕ, ◌++◌, ◌==◌, ◌||◌, ◌∷◌, ◌≡◌}
 use Rattle.defs_layout.specs.JsonGap.{spell_gap}
 use Rattle.proof_layout_tokens.proofs.Json.OnOneLine.{AreSpaces}
 use Rattle.proof_layout_tokens.proofs.Rows.Nodes.{IsDeep, Parts, or_true}
@@ -20,47 +20,33 @@ MayStand bs g = is_empty bs ≡ false → AreSpaces g
 pub separates : (g : List Blank) (next : List ℕ) → is_separation false (white g) next ≡ true
 unfolding is_blank is_break
 separates [] next = refl
-separates (space ∷ g) next = separates g next
-separates (tab ∷ g) next = separates g next
-separates (line_feed ∷ g) next = separates g next
-separates (carriage_return ∷ g) next = separates g next
+separates (b ∷ g) next = grind (arith, separates g next)
 
 one_line : (g : List Blank) → AreSpaces g → split (white g) ≡ record { complete = []; last = white g }
 unfolding is_break
 one_line [] h = refl
-one_line (space ∷ g) h = rw (one_line g h) refl
-one_line (tab ∷ g) h = absurd h
-one_line (line_feed ∷ g) h = absurd h
-one_line (carriage_return ∷ g) h = absurd h
+one_line (b ∷ g) h = grind (arith, one_line g)
 
 no_tab : (n : ℕ) (g : List Blank) → AreSpaces g → has_tab_within n (white g) ≡ false
 no_tab zero g h = refl
 no_tab (suc n) [] h = refl
-no_tab (suc n) (space ∷ g) h = no_tab n g h
-no_tab (suc n) (tab ∷ g) h = absurd h
-no_tab (suc n) (line_feed ∷ g) h = absurd h
-no_tab (suc n) (carriage_return ∷ g) h = absurd h
+no_tab (suc n) (b ∷ g) h = grind (arith, no_tab n g)
 
 pub parts : (bs : List ℕ) (g : List Blank) → MayStand bs g → Parts bs (white g)
 parts bs g may = record { separates = separates g; tabless = by bs may }
   where
     by : (bs : List ℕ) → MayStand bs g → (awaits : Bool) → has_tab_within (least_column bs awaits) (last_line (white g)) ≡ false
-    by [] may awaits = refl
-    by (n ∷ bs) may awaits = rw (last_line, one_line g (may refl)) (no_tab (least_column (n ∷ bs) awaits) g (may refl))
+    by a may b = grind (arith, one_line, no_tab)
 
 -- ---- columns
 
 deep_char : (bs : List ℕ) (p : Position) (c : ℕ) (next : List ℕ) → (is_empty bs ≡ false → is_break c ≡ false) → IsDeep bs p → IsDeep bs (position_past p c next)
-deep_char [] p c next h deep = omega arith
-deep_char (n ∷ bs) p c next h deep = rw (h refl) (omega (arith, deep))
+deep_char a p c b h deep = grind arith
 
 pub deep_gap : (bs : List ℕ) (g : List Blank) (p : Position) (next : List ℕ) → MayStand bs g → IsDeep bs p → IsDeep bs (position_after p (white g) next)
 unfolding is_break
 deep_gap bs [] p next may deep = deep
-deep_gap bs (space ∷ g) p next may deep = deep_gap bs g _ next may (deep_char bs p 32 (white g ++ next) (λ e. refl) deep)
-deep_gap bs (tab ∷ g) p next may deep = deep_gap bs g _ next (λ e. absurd (may e)) (deep_char bs p 9 (white g ++ next) (λ e. refl) deep)
-deep_gap bs (line_feed ∷ g) p next may deep = deep_gap bs g _ next (λ e. absurd (may e)) (deep_char bs p 10 (white g ++ next) (λ e. absurd (may e)) deep)
-deep_gap bs (carriage_return ∷ g) p next may deep = deep_gap bs g _ next (λ e. absurd (may e)) (deep_char bs p 13 (white g ++ next) (λ e. absurd (may e)) deep)
+deep_gap bs (b ∷ g) p next may deep = grind (arith, deep_char, deep_gap bs g)
 
 -- after a piece on one line
 pub deep_piece : (bs : List ℕ) (w : List ℕ) (p : Position) (next : List ℕ) → has_no_break w ≡ true → IsDeep bs p → IsDeep bs (position_after p w next)
@@ -88,10 +74,7 @@ Stops in_flow collection r = (s : Stand) → stops in_flow collection s r ≡ tr
 stopped_past : (in_flow : Bool) (collection : Option ℕ) (r : List ℕ) → Stops in_flow collection r → (g : List Blank) → Stops in_flow collection (spell_gap g r)
 unfolding is_blank is_break
 stopped_past in_flow collection r stop [] s = stop s
-stopped_past in_flow collection r stop (space ∷ g) s = stopped_past in_flow collection r stop g (past s 32)
-stopped_past in_flow collection r stop (tab ∷ g) s = stopped_past in_flow collection r stop g (past s 9)
-stopped_past in_flow collection r stop (line_feed ∷ g) s = stopped_past in_flow collection r stop g (past s 10)
-stopped_past in_flow collection r stop (carriage_return ∷ g) s = stopped_past in_flow collection r stop g (past s 13)
+stopped_past in_flow collection r stop (b ∷ g) s = grind (arith, stopped_past in_flow collection r stop g)
 
 pub no_comment_past : (r : List ℕ) → begins_with 35 r ≡ false → (g : List Blank) → begins_with 35 (spell_gap g r) ≡ false
 no_comment_past r h [] = h
@@ -104,18 +87,12 @@ module _ (in_flow : Bool) (r : List ℕ) (edge : Edge in_flow r) where
   rest_past : (g : List Blank) (piece : List ℕ) → (is_blanks_and_comment (leading is_on_line (spell_gap g r)) || goes_on_quoted in_flow piece (after is_blank (spell_gap g r))) ≡ true
   unfolding is_blank is_break
   rest_past [] piece = edge.rest piece
-  rest_past (space ∷ g) piece = rest_past g piece
-  rest_past (tab ∷ g) piece = rest_past g piece
-  rest_past (line_feed ∷ g) piece = refl
-  rest_past (carriage_return ∷ g) piece = refl
+  rest_past (b ∷ g) piece = grind (arith, rest_past g)
 
   pub done_past : (g : List Blank) (piece : List ℕ) → quoted_may_end in_flow piece (spell_gap g r) ≡ true
   unfolding is_blank is_break
   done_past [] piece = edge.done piece
-  done_past (space ∷ g) piece = rest_past g piece
-  done_past (tab ∷ g) piece = rest_past g piece
-  done_past (line_feed ∷ g) piece = refl
-  done_past (carriage_return ∷ g) piece = refl
+  done_past (b ∷ g) piece = grind (arith, rest_past)
 
   pub ends : (collection : Option ℕ) → Stops in_flow collection r → (g : List Blank) → Ends in_flow collection (spell_gap g r)
   ends collection stop g = record { stopped = stopped_past in_flow collection r stop g inside; done = done_past g; no_comment = no_comment_past r edge.no_comment g }
@@ -126,11 +103,7 @@ at_end = record { done = λ piece. refl; rest = λ piece. refl; no_comment = ref
 
 -- a character that ends an entry, or a colon
 at_mark : (c : ℕ) (r : List ℕ) → is_blank c ≡ false → (c == 35) ≡ false → is_one_of (codes ",]}:") c ≡ true → Edge true (c ∷ r)
-at_mark c r blank hash mark = record {
-  done = λ piece. rw (blank, mark) (or_true (line_is_done (c ∷ r)));
-  rest = λ piece. rw (blank, mark) (or_true (is_blanks_and_comment (leading is_on_line (c ∷ r))));
-  no_comment = hash;
-}
+at_mark c r blank hash mark = grind arith
 
 stop_at : (collection : Option ℕ) (c : ℕ) (r : List ℕ) → is_blank c ≡ false → is_break c ≡ false → is_flow c ≡ true → Stops true collection (c ∷ r)
 stop_at collection c r blank break flow s = rw (blank, break, flow) (or_true _)
@@ -158,10 +131,7 @@ pub record IsSolid (r : List ℕ) : Type 0 where
 -- so after white space
 pub solid_past : (g : List Blank) (r : List ℕ) → TabsBeginLines false g → IsSolid r → IsSolid (spell_gap g r)
 solid_past [] r h z = z
-solid_past (space ∷ g) r h z = record { no_tab = refl; no_comment = refl }
-solid_past (tab ∷ g) r h z = cc (h.0)
-solid_past (line_feed ∷ g) r h z = record { no_tab = refl; no_comment = refl }
-solid_past (carriage_return ∷ g) r h z = record { no_tab = refl; no_comment = refl }
+solid_past (b ∷ g) r h z = record { no_tab = grind arith; no_comment = grind arith }
 
 pub colon_stands : (r : List ℕ) → IsSolid r → colon_may_precede r ≡ true
 colon_stands r z = rw (z.no_tab) refl

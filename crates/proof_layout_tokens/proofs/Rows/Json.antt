@@ -1,5 +1,5 @@
 -- JSON values have rows.
-use Rattle.proof_layout_tokens.proofs.Common.{[], Account, act_of, and_false, and_from, and_parts, another, are_pieces, AreElements, AreMembers, arith, array, begins_with, begun_by, Blank, Bool, codes, colon_may_precede, element, element_levels, element_tokens, Elements, empty_array, empty_object, Entry, false, false_word, filled, flow_collection, fresh, further_lines_stand, gives_node, Had, has_no_break, inl, innermost, innermost_column, is_break, is_empty, is_flow, is_keyed, is_waiting, IsJson, IsJsonGap, IsShown, Json, json_tokens, last_element, last_member, length, length-map, level_of, levels, List, list_all, map, may_precede, member, member_levels, member_tokens, Members, nat_lt, nat_tests, not, not-true, null_word, object, Piece, plain_scalar, Position, position_after, Previous, previous_by, quoted_scalar, refl, settled, Some, spell, spell_elements, spell_members, spell_number, spell_string, string, string_token, Style, Tok, true, true_word, ℕ, ◌&&◌, ◌++◌, ◌+◌, ◌<◌, ◌==◌, ◌∷◌, ◌≡◌, ◌≤◌}
+use Rattle.proof_layout_tokens.proofs.Common.{[], Account, act_of, and_from, and_parts, another, are_pieces, AreElements, AreMembers, arith, array, begins_with, begun_by, Blank, Bool, codes, colon_may_precede, element, element_levels, element_tokens, Elements, empty_array, empty_object, Entry, false, false_word, filled, flow_collection, fresh, further_lines_stand, gives_node, Had, has_no_break, inl, innermost, innermost_column, is_break, is_empty, is_flow, is_keyed, is_waiting, IsJson, IsJsonGap, IsShown, Json, json_tokens, last_element, last_member, length, length-map, level_of, levels, List, list_all, map, may_precede, member, member_levels, member_tokens, Members, nat_lt, nat_tests, null_word, object, Piece, plain_scalar, Position, position_after, Previous, previous_by, quoted_scalar, refl, settled, Some, spell, spell_elements, spell_members, spell_number, spell_string, string, string_token, Style, Tok, true, true_word, ℕ, ◌++◌, ◌+◌, ◌<◌, ◌==◌, ◌∷◌, ◌≡◌, ◌≤◌}
 use Rattle.defs_token.specs.Key.{Line}
 use Rattle.defs_token.specs.RowAccount as accounts
 use Rattle.defs_layout.specs.Json.{number}
@@ -42,11 +42,7 @@ word_text (c ∷ w) word =
     record { head = c; tail = w; whole = refl; first = word_first c q.0 s.0; second = s.1; chars = r.0; close = r.2 }
   where
     second : (w : List ℕ) → are_words (c ∷ w) ≡ true → begins_word (c ∷ w) ≡ true → ((c == 46) ≡ false) × (is_second c w ≡ true)
-    second [] h e = let q = and_parts (not (c == 45)) (not (c == 46)) e in (not-true (c == 46) q.1, e)
-    second (d ∷ w) h e =
-        let q = and_parts (not ((c == 45) && (d == 45))) (not (c == 46)) e in
-        let z = word_plain d (and_parts (is_word d) (are_words w) (and_parts (is_word c) (are_words (d ∷ w)) h).1).0 in
-        (not-true (c == 46) q.1, rw (z.2, not-true (c == 46) q.1, not-true ((c == 45) && (d == 45)) q.0, and_false (c == 45)) refl)
+    second a h e = grind arith
 
 word_flows : (in_flow : Bool) (w : List ℕ) → IsWord w → MayFlow in_flow w
 word_flows in_flow w word = λ e. (words_plain w word.chars).1
@@ -58,15 +54,8 @@ word_solid [] r word = cc (word.begins)
 word_solid (c ∷ w) r word = let q = and_parts (is_word c) (are_words w) word.chars in record { no_tab = grind (arith, nat_tests, q); no_comment = grind (arith, nat_tests, q) }
 
 value_solid : (v : Json) (r : List ℕ) → IsJson v → IsSolid (spell v r)
-value_solid false_word r is = record { no_tab = refl; no_comment = refl }
-value_solid null_word r is = record { no_tab = refl; no_comment = refl }
-value_solid true_word r is = record { no_tab = refl; no_comment = refl }
 value_solid (number n) r is = rw (number_then n r) (word_solid (spell_number n []) r (number_word n is))
-value_solid (string ps) r is = record { no_tab = refl; no_comment = refl }
-value_solid (empty_array g) r is = record { no_tab = refl; no_comment = refl }
-value_solid (array g es) r is = record { no_tab = refl; no_comment = refl }
-value_solid (empty_object g) r is = record { no_tab = refl; no_comment = refl }
-value_solid (object g ms) r is = record { no_tab = refl; no_comment = refl }
+value_solid v r is = record { no_tab = grind arith; no_comment = grind arith }
 
 elements_solid : (es : Elements) (r : List ℕ) → AreElements es → IsSolid (spell_elements es r)
 elements_solid (last_element v a) r are = value_solid v (spell_gap a r) are.0
@@ -86,8 +75,7 @@ abbrev pub flows : Place → Bool
 flows pl = accounts.is_in_flow (entries_before pl)
 
 pub column_is : (bs : List ℕ) → innermost_column (map (λ n. Some n) bs) ≡ innermost bs
-column_is [] = refl
-column_is (n ∷ bs) = refl
+column_is a = grind arith
 
 module _ (bs : List ℕ) where
   abbrev pub from : Position → Bool → Line → List Entry → Account
@@ -164,8 +152,7 @@ module _ (bs : List ℕ) where
       (step (step_of (white g) (c ∷ []) (closing b) false) r (close_at bs (white g) r p awaits l line (parts bs g may) before es b h ends no_comment (deep_gap bs g p (c ∷ r) may deep)) (rest (past_one p g c r) awaits flow_collection (λ f. refl) (deep_one p g c r (one b) may deep)))
     where
       one : (b : Bool) → is_break (closing_bracket b) ≡ false
-      one true = refl
-      one false = refl
+      one a = grind arith
 
   comma_goes : (b : Bool) (h : Had) → is_keyed h ≡ false → (l : Line) (es : List Entry) (g : List Blank) (r : List ℕ) (tokens : List Tok) → is_waiting l ≡ false → MayStand bs g → begins_with 35 r ≡ false
       → ((p : Position) (awaits : Bool) → IsDeep bs p → Reads (from p awaits l (entry_of b fresh ∷ es)) r tokens) → Then bs l (entry_of b h ∷ es) (spell_gap g (44 ∷ r)) (Tok.flow_entry ∷ tokens)
@@ -199,12 +186,10 @@ module _ (bs : List ℕ) where
 -- ---- values
 
 before_after : (pl : Place) → length (entries_after pl []) ≡ length (entries_before pl)
-before_after outside = refl
-before_after (within b es) = refl
+before_after a = grind arith
 
 after_line : (pl : Place) (l : Line) → is_waiting l ≡ false → is_waiting (line_after pl l) ≡ false
-after_line outside l h = refl
-after_line (within b es) l h = h
+after_line a l h = grind arith
 
 module _ (bs : List ℕ) where
   abbrev pub ReadsValue : Json → Type 0
@@ -227,8 +212,7 @@ module _ (bs : List ℕ) where
       (λ p awaits. closes_at bs b fresh refl (line_after pl l) (entries_after pl []) a r tokens (after_line pl l line) may_a no_comment rest p awaits another (λ f. refl))
     where
       hash : (b : Bool) → begins_with 35 (closing_bracket b ∷ r) ≡ false
-      hash true = refl
-      hash false = refl
+      hash a = grind arith
 
   mutual
     pub value_reads : (v : Json) → IsJson v → (is_empty bs ≡ false → HasSpaces v) → ReadsValue v

@@ -1,10 +1,10 @@
 -- Scalars of layouts: as values with a comment, and as keys.
-use Rattle.proof_layout_tokens.proofs.Common.{[], act_of, and_from, and_parts, another, ap, append_assoc, before_by, before_past, begins_with, begun_by, Bool, Comment, comment, double_quoted, double_quoted_element, double_quoted_value, doubled, false, flat_map, further_lines_stand, gives_node, has_no_break, innermost, inside, is_adjacent, is_break, is_waiting, IsComment, IsScalar, IsShown, List, may_precede, no_comment, None, not, not_ended, plain, Position, position_after, Previous, previous_by, quoted, quoted_may_end, refl, Scalar, scalar_token, single_quoted, single_quoted_element, single_quoted_value, spell_comment, spell_scalar, spelling, stops, sym, taken, Tok, true, written_escapes, ℕ, ◌++◌, ◌∷◌, ◌≡◌}
+use Rattle.proof_layout_tokens.proofs.Common.{arith, [], act_of, another, append_assoc, before_by, before_past, begins_with, begun_by, Bool, Comment, comment, double_quoted, double_quoted_element, double_quoted_value, doubled, false, flat_map, further_lines_stand, gives_node, has_no_break, innermost, inside, is_adjacent, is_break, is_waiting, IsComment, IsScalar, IsShown, List, may_precede, no_comment, None, not_ended, plain, Position, position_after, Previous, previous_by, quoted, quoted_may_end, refl, Scalar, scalar_token, single_quoted, single_quoted_element, single_quoted_value, spell_comment, spell_scalar, spelling, stops, taken, Tok, true, written_escapes, ℕ, ◌++◌, ◌∷◌, ◌≡◌}
 use Rattle.defs_token.specs.Key.{Line}
 use Rattle.proof_layout_tokens.proofs.PlainTexts.{IsPlainText, spelt_plain}
 use Rattle.proof_layout_tokens.proofs.Rows.Steps.{Reads, at, step_of, site_of}
 use Rattle.proof_layout_tokens.proofs.Rows.Nodes.{IsDeep, none_ends, Parts, Quiet, outside}
-use Rattle.proof_layout_tokens.proofs.Rows.OneLine.{value_is, lines_fit}
+use Rattle.proof_layout_tokens.proofs.Rows.OneLine.{quote_no_break, value_is, lines_fit}
 use Rattle.proof_layout_tokens.proofs.Rows.Json.{column_is, node_goes}
 use Rattle.proof_layout_tokens.proofs.Rows.Plain.{IsPlainPiece, plain_piece}
 use Rattle.proof_layout_tokens.proofs.Rows.Quotes.{double_is, single_is}
@@ -19,9 +19,7 @@ piece_of (quoted text) = double_quoted text
 piece_of (single_quoted text) = 39 ∷ (flat_map doubled text ++ 39 ∷ [])
 
 pub piece_spelt : (s : Scalar) (r : List ℕ) → spell_scalar s r ≡ piece_of s ++ r
-piece_spelt (plain t) r = refl
-piece_spelt (quoted text) r = refl
-piece_spelt (single_quoted text) r = ap (λ x. 39 ∷ x) (sym (append_assoc (flat_map doubled text) (39 ∷ []) r))
+piece_spelt s r = grind (arith, append_assoc)
 
 -- what its token says
 pub record IsNode (t : Tok) : Type 0 where
@@ -33,13 +31,6 @@ pub scalar_node : (s : Scalar) → IsNode (scalar_token s)
 scalar_node (plain t) = record { node = refl; none = refl; quiet = λ f. refl }
 scalar_node (quoted text) = record { node = refl; none = refl; quiet = λ f. refl }
 scalar_node (single_quoted text) = record { node = refl; none = refl; quiet = λ f. refl }
-
-quote_no_break : (quote : ℕ) (w : List ℕ) → is_break quote ≡ false → has_no_break w ≡ true → has_no_break (quote ∷ (w ++ quote ∷ [])) ≡ true
-quote_no_break quote w q h = rw q (by w h)
-  where
-    by : (w : List ℕ) → has_no_break w ≡ true → has_no_break (w ++ quote ∷ []) ≡ true
-    by [] h = rw q refl
-    by (c ∷ w) h = let q = and_parts (not (is_break c)) (has_no_break w) h in and_from _ _ q.0 (by w q.1)
 
 plain_is : (w : List ℕ) → IsPlainText w → IsPlainPiece false None w []
 plain_is w h = plain_piece false None w [] h (λ e. cc) refl
@@ -68,9 +59,7 @@ scalar_shown (single_quoted text) h p bs awaits before l f key r bs' stay stop q
     let z = single_is text h in (refl, ((flat_map doubled text, refl, value_is single_quoted_element (flat_map doubled text) text z.one_line z.no_break, quote), refl))
 
 pub scalar_precedes : (s : Scalar) (bs r : List ℕ) → quoted_may_end false (piece_of s) r ≡ true → may_precede false bs (scalar_token s) (piece_of s) r ≡ true
-scalar_precedes (plain t) bs r h = refl
-scalar_precedes (quoted text) bs r h = h
-scalar_precedes (single_quoted text) bs r h = h
+scalar_precedes s bs r h = grind arith
 
 -- ---- where a value stands
 

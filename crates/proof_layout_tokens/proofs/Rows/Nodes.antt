@@ -1,6 +1,5 @@
 -- Steps whose pieces are nodes, outside flow and in an entry of a JSON array or object.
-use Rattle.proof_layout_tokens.proofs.Common.{[], Account, act_of, and_false, another, arith, awaits_at, awaits_past, begins_free_line, begins_line, begun_by, Bool, Colon, Entry, false, filled, FlowKind, free, fresh, further_lines_stand, gives_node, has_break, has_tab_within, if◌then◌else◌, is_deeper, is_in_column, is_in_flow, is_indented_by_spaces, is_separation, is_waiting, IsShown, last_line, le-ltb, least_column, least_for, length, line_past, line_past_separation, List, mapping, may_precede, may_stand, nat_le, ne_eqb, no_pair, not, not_ended, Position, position_after, Previous, previous_by, refl, sequence, settled, Site, Some, taken, Tok, toks, true, ℕ, ◌++◌, ◌-◌, ◌||◌, ◌∷◌, ◌≡◌, ◌≤◌}
-use Rattle.defs_token.specs.Token.{scalar, plain}
+use Rattle.proof_layout_tokens.proofs.Common.{[], Account, act_of, and_false, another, arith, awaits_at, awaits_past, begins_free_line, begins_line, begun_by, Bool, Colon, Entry, false, filled, FlowKind, free, fresh, further_lines_stand, gives_node, has_break, has_tab_within, if◌then◌else◌, is_deeper, is_in_column, is_in_flow, is_indented_by_spaces, is_separation, is_waiting, IsShown, last_line, le-ltb, least_column, least_for, line_past, line_past_separation, List, mapping, may_precede, may_stand, nat_le, ne_eqb, no_pair, not, not_ended, Position, position_after, Previous, previous_by, refl, sequence, settled, Site, Some, taken, Tok, toks, true, ℕ, ◌++◌, ◌-◌, ◌||◌, ◌∷◌, ◌≡◌, ◌≤◌}
 use Rattle.defs_token.specs.Key.{Line}
 use Rattle.proof_layout_tokens.proofs.Rows.Steps.{at, step_of, site_of, past_step, first_tokens, Steps}
 
@@ -11,25 +10,19 @@ abbrev pub IsDeep : List ℕ → Position → Type 0
 IsDeep bs p = least_column bs true ≤ p.col
 
 pub low : (bs : List ℕ) (awaits : Bool) (n : ℕ) → least_column bs true ≤ n → nat_le (least_column bs awaits) n ≡ true
-low [] awaits n h = grind (arith, h)
-low (b ∷ bs) true n h = grind (arith, h)
-low (b ∷ bs) false n h = grind (arith, h)
+low a b n h = grind arith
 
 low_for : (t : Tok) (s : Site) → IsDeep s.blocks s.position → nat_le (least_for t s) s.position.col ≡ true
-low_for (scalar plain text) s h = low s.blocks true s.position.col h
-low_for t s h = low s.blocks s.awaits s.position.col h
+low_for t s h = grind (arith, low)
 
 pub none_ends : (bs : List ℕ) (n : ℕ) → least_column bs true ≤ n → not_ended n bs ≡ bs
-none_ends [] n h = refl
-none_ends (b ∷ bs) n h = rw (le-ltb n b (omega (arith, h))) refl
+none_ends a n h = grind (arith, le-ltb)
 
 pub deeper : (bs : List ℕ) (n : ℕ) → least_column bs true ≤ n → is_deeper n bs ≡ true
-deeper [] n h = refl
-deeper (b ∷ bs) n h = grind (arith, h)
+deeper a n h = grind arith
 
 pub no_column : (bs : List ℕ) (n : ℕ) → least_column bs true ≤ n → is_in_column n bs ≡ false
-no_column [] n h = refl
-no_column (b ∷ bs) n h = ne_eqb b n (λ e. omega (arith, h, e))
+no_column a n h = grind (arith, ne_eqb)
 
 -- ---- separations
 
@@ -39,8 +32,7 @@ pub record Parts (bs : List ℕ) (f : List ℕ) : Type 0 where
   pub tabless : (awaits : Bool) → has_tab_within (least_column bs awaits) (last_line f) ≡ false
 
 pub or_true : (b : Bool) → (b || true) ≡ true
-or_true true = refl
-or_true false = refl
+or_true a = grind arith
 
 pub indented : (before : Previous) (bs : List ℕ) (awaits : Bool) (f : List ℕ) → Parts bs f → is_indented_by_spaces before bs awaits f ≡ true
 indented before bs awaits f parts = rw (parts.tabless) (or_true (not (begins_line before f)))
@@ -82,10 +74,7 @@ line_after (within b es) l = l
 -- ---- the account after a node
 
 pub same_line : (broken : Bool) (l : Line) → is_waiting l ≡ false → line_past_separation true broken l ≡ Some l
-same_line true free h = refl
-same_line true taken h = refl
-same_line true (Line.waits begin) h = cc
-same_line false l h = refl
+same_line a l h = grind arith
 
 pub outside_line : (broken : Bool) (l : Line) → is_waiting l ≡ false → (m : Line) × (line_past_separation false broken l ≡ Some m) × (is_waiting m ≡ false)
 outside_line true free h = (free, refl, refl)
@@ -94,9 +83,7 @@ outside_line true (Line.waits begin) h = cc
 outside_line false l h = (l, refl, h)
 
 node_line : (here : Position) (bs : List ℕ) (l : Line) → is_waiting l ≡ false → line_past false here bs gives_node false l ≡ Some (record { line = taken; blocks = bs })
-node_line here bs free h = refl
-node_line here bs taken h = refl
-node_line here bs (Line.waits begin) h = cc
+node_line a bs b h = grind arith
 
 pub no_less : (n : ℕ) → n - n ≡ 0
 no_less n = omega arith
@@ -113,9 +100,7 @@ module _ (bs f w next : List ℕ) (t : Tok) (node : act_of t ≡ gives_node) whe
   now pl p awaits = awaits_past (is_in_flow (entries_before pl)) t bs (awaits_at (is_in_flow (entries_before pl)) (here p).col bs awaits) next
 
   leads : (pl : Place) (p : Position) (awaits : Bool) (l : Line) → is_waiting l ≡ false → IsDeep bs (here p) → past_step (at p bs awaits another l (entries_before pl)) (step_of f w t false) next ≡ Some (after_node pl p (now pl p awaits) l)
-  leads outside p awaits l line deep =
-      let m = outside_line (has_break f) l line in
-      rw (node, none_ends bs (here p).col deep, m.1, node, no_column bs (here p).col deep, node_line (here p) bs m.0 m.2, and_false (has_break w)) refl
+  leads outside p awaits l line deep = grind arith
   leads (within true es) p awaits l line deep = rw (same_line (has_break f) l line, node, line, and_false (has_break w)) refl
   leads (within false es) p awaits l line deep = rw (same_line (has_break f) l line, node, line, and_false (has_break w)) refl
 
@@ -123,9 +108,7 @@ module _ (bs f w next : List ℕ) (t : Tok) (node : act_of t ≡ gives_node) whe
   shown pl p awaits l = IsShown (at p bs awaits another l (entries_before pl)) (site_of (at p bs awaits another l (entries_before pl)) (step_of f w t false) next) (step_of f w t false) next
 
   first : (pl : Place) (p : Position) (awaits : Bool) (l : Line) → IsDeep bs (here p) → (past : Position) (colon : Colon) → toks (first_tokens (at p bs awaits another l (entries_before pl)) (step_of f w t false) next past colon) ≡ []
-  first outside p awaits l deep past colon = rw (node, none_ends bs (here p).col deep, no_less (length bs)) refl
-  first (within true es) p awaits l deep past colon = rw node refl
-  first (within false es) p awaits l deep past colon = rw node refl
+  first a p b l deep past d = grind arith
 
   -- a piece that may stand here, before what may follow it
   pub node_step : (pl : Place) (p : Position) (awaits : Bool) (l : Line) → is_waiting l ≡ false → IsDeep bs (here p) → Parts bs f

@@ -1,5 +1,5 @@
 -- Bodies of flow scalars on one line: their values.
-use Rattle.proof_layout_tokens.proofs.Common.{[], and_parts, ap, content, Element, elements, elements_fit, false, has_document_marker, has_no_break, is_break, List, not, not-true, Option, quoted_lines_fit, refl, Some, Spelled, true, value_by, without_last, ℕ, ◌++◌, ◌∷◌, ◌≡◌}
+use Rattle.proof_layout_tokens.proofs.Common.{arith, [], and_parts, ap, content, Element, elements, elements_fit, false, has_document_marker, has_no_break, is_break, List, not, not-true, Option, quoted_lines_fit, refl, Some, Spelled, true, value_by, without_last, ℕ, ◌++◌, ◌∷◌, ◌≡◌}
 use Rattle.defs_text.specs.FlowScalar.{blank, lines_of, last_line, text_of}
 
 -- elements without a break, and their text
@@ -33,6 +33,10 @@ pub between : (quote : ℕ) (r : List ℕ) → without_last (r ++ quote ∷ []) 
 between quote [] = refl
 between quote (c ∷ []) = refl
 between quote (c ∷ d ∷ r) = ap (λ x. c ∷ x) (between quote (d ∷ r))
+
+pub quote_no_break : (quote : ℕ) (w : List ℕ) → is_break quote ≡ false → has_no_break w ≡ true → has_no_break (quote ∷ (w ++ quote ∷ [])) ≡ true
+quote_no_break quote [] q h = rw q refl
+quote_no_break quote (c ∷ w) q h = grind (arith, quote_no_break quote w)
 
 module _ (at : ℕ → List ℕ → Option Spelled) (body text : List ℕ) (z : IsOneLine at body text) where
   pub value_is : has_no_break body ≡ true → value_by at body ≡ Some text

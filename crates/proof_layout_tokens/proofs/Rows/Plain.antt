@@ -13,13 +13,7 @@ pub record PlainChar (c : ℕ) : Type 0 where
 
 pub plain_char : (c : ℕ) → is_plain_char c ≡ true → PlainChar c
 unfolding is_break is_blank is_nul
-plain_char c h = record {
-  break = grind (arith, nat_tests);
-  blank = grind (arith, nat_tests);
-  colon = grind (arith, nat_tests);
-  hash = grind (arith, nat_tests);
-  nul = grind (arith, nat_tests);
-}
+plain_char c h = grind arith
 
 -- a character that may stand in a plain scalar in flow
 abbrev pub is_in_flow : ℕ → Bool
@@ -65,15 +59,10 @@ module _ (in_flow : Bool) (collection : Option ℕ) (next : List ℕ) where
   stand false = inside
 
   no_flow : (c : ℕ) → (in_flow ≡ true → is_in_flow c ≡ true) → (in_flow && is_flow c) ≡ false
-  no_flow c may = by in_flow may
-    where
-      by : (b : Bool) → (b ≡ true → is_in_flow c ≡ true) → (b && is_flow c) ≡ false
-      by true may = not-true (is_flow c) (and_parts (not (is_flow c)) (not (c == 32)) (may refl)).0
-      by false may = refl
+  no_flow c may = grind (arith, not-true)
 
   no_end : (b : Bool) (c : ℕ) (r : List ℕ) → PlainChar c → (in_flow && is_flow c) ≡ false → ends_plain in_flow collection (stand b) (c ∷ r) ≡ false
-  no_end true c r z flow = rw (z.nul, z.colon, z.hash, flow) refl
-  no_end false c r z flow = rw (z.nul, z.colon, flow) refl
+  no_end a c r z flow = grind arith
 
   goes_over : (b : Bool) (w : List ℕ) → are_plain w ≡ true → MayFlow in_flow w → goes_on in_flow collection (stand b) w next ≡ true
   goes_over b [] h flow = refl
@@ -83,10 +72,7 @@ module _ (in_flow : Bool) (collection : Option ℕ) (next : List ℕ) where
       by b (c == 32) refl z (no_end b c (w ++ next) z (no_flow c (λ e. (and_parts (is_in_flow c) (list_all is_in_flow w) (flow e)).0))) (goes_over (c == 32) w q.1 (λ e. (and_parts (is_in_flow c) (list_all is_in_flow w) (flow e)).1))
     where
       by : (b d : Bool) → (c == 32) ≡ d → PlainChar c → ends_plain in_flow collection (stand b) (c ∷ (w ++ next)) ≡ false → goes_on in_flow collection (stand (c == 32)) w next ≡ true → goes_on in_flow collection (stand b) (c ∷ w) next ≡ true
-      by true true e z ends rest = rw (z.break, z.blank, e) (rw e at rest)
-      by true false e z ends rest = rw (ends, z.break, z.blank, e) (rw e at rest)
-      by false true e z ends rest = rw (z.break, z.blank, e) (rw e at rest)
-      by false false e z ends rest = rw (ends, z.break, z.blank, e) (rw e at rest)
+      by a e g z i rest = grind arith
 
 ends_full : (c : ℕ) (w : List ℕ) → is_plain_char c ≡ true → are_plain w ≡ true → closes (c == 32) w ≡ true → ends_with_content c w ≡ true
 ends_full c [] one h e = let z = plain_char c one in rw (z.break, z.blank, not-true (c == 32) e) refl
@@ -103,8 +89,7 @@ unfolding are_marks
 three c d e h k = grind (arith, nat_tests)
 
 pair : (c d : ℕ) (r : List ℕ) → not ((c == 45) && (d == 45)) ≡ true → not ((c == 46) && (d == 46)) ≡ true → is_document_marker (c ∷ d ∷ r) ≡ false
-pair c d [] h k = refl
-pair c d (e ∷ r) h k = rw (three c d e h k) refl
+pair c d a h k = grind (arith, three)
 
 unmarked : (c : ℕ) (w next : List ℕ) → is_second c w ≡ true → is_document_marker (c ∷ (w ++ next)) ≡ false
 unmarked c [] [] h = refl
@@ -146,14 +131,11 @@ pub record IsPlainPiece (in_flow : Bool) (collection : Option ℕ) (w next : Lis
 no_last_dash : (w : List ℕ) → are_plain w ≡ true → list_all is_in_flow w ≡ true → ends_with_dash w ≡ false
 no_last_dash [] h flow = refl
 no_last_dash (c ∷ []) h flow = refl
-no_last_dash (c ∷ d ∷ []) h flow =
-    let z = plain_char c (and_parts (is_plain_char c) (are_plain (d ∷ [])) h).0 in
-    rw (z.break, z.blank, not-true (c == 32) (and_parts (not (is_flow c)) (not (c == 32)) (and_parts (is_in_flow c) (list_all is_in_flow (d ∷ [])) flow).0).1) refl
+no_last_dash (c ∷ d ∷ []) h flow = grind (arith, plain_char, not-true)
 no_last_dash (c ∷ d ∷ e ∷ w) h flow = no_last_dash (d ∷ e ∷ w) (and_parts (is_plain_char c) (are_plain (d ∷ e ∷ w)) h).1 (and_parts (is_in_flow c) (list_all is_in_flow (d ∷ e ∷ w)) flow).1
 
 dashless : (in_flow : Bool) (w next : List ℕ) → are_plain w ≡ true → MayFlow in_flow w → (in_flow && has_dash_before_flow w next) ≡ false
-dashless true w next h flow = rw (no_last_dash w h (flow refl)) refl
-dashless false w next h flow = refl
+dashless a w b h flow = grind (arith, no_last_dash)
 
 pub plain_piece : (in_flow : Bool) (collection : Option ℕ) (w next : List ℕ) → IsPlainText w → MayFlow in_flow w → stops in_flow collection inside next ≡ true → IsPlainPiece in_flow collection w next
 plain_piece in_flow collection w next text flow stops = rw (text.whole) (by (rw (text.whole) at flow))

@@ -12,11 +12,7 @@ pub record IsBody (single : Bool) (body text : List ℕ) : Type 0 where
 
 hex_digit : (n : ℕ) → n < 16 → (is_digit (hexadecimal_digit n) 16 ≡ true) × (digit_value (hexadecimal_digit n) ≡ n) × (is_break (hexadecimal_digit n) ≡ false)
 unfolding is_break
-hex_digit n h = by (nat_lt n 10) refl
-  where
-    by : (b : Bool) → nat_lt n 10 ≡ b → (is_digit (if b then 48 + n else 87 + n) 16 ≡ true) × (digit_value (if b then 48 + n else 87 + n) ≡ n) × (is_break (if b then 48 + n else 87 + n) ≡ false)
-    by true e = (grind (arith, nat_tests), grind (arith, nat_tests), grind (arith, nat_tests))
-    by false e = (grind (arith, nat_tests), grind (arith, nat_tests), grind (arith, nat_tests))
+hex_digit n h = (grind (arith, nat_tests), grind (arith, nat_tests), grind (arith, nat_tests))
 
 is_code : (c : ℕ) → c < 128 → is_character_code c ≡ true
 unfolding is_character_code

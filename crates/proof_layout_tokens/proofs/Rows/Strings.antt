@@ -1,7 +1,6 @@
 -- Strings of JSON texts as bodies in double quotes, by the definition of their value.
-use Rattle.proof_layout_tokens.proofs.Common.{[], and_from, and_parts, ap, append_assoc, are_pieces, arith, Bool, character_of, content, digit_value, double_quoted_element, double_quoted_value, elements, escape, false, four_digits, has_no_break, is_blank, is_break, is_character_code, is_digit, is_hex_digit, is_nul, is_piece, is_surrogate, is_unescaped, itself, letter_of, List, ltb-true, nat_tests, not, numeric_escape, Piece, plain_element, quoted_lines_fit, refl, Short, short, Some, spell_pieces, spell_string, sym, true, unescaped, unicode, value_of, ℕ, ◌&&◌, ◌*◌, ◌++◌, ◌+◌, ◌<◌, ◌==◌, ◌∙◌, ◌∷◌, ◌≡◌}
+use Rattle.proof_layout_tokens.proofs.Common.{[], and_parts, ap, append_assoc, are_pieces, arith, Bool, character_of, content, digit_value, double_quoted_element, double_quoted_value, elements, escape, false, four_digits, has_no_break, is_blank, is_break, is_character_code, is_digit, is_hex_digit, is_nul, is_piece, is_surrogate, is_unescaped, itself, letter_of, List, ltb-true, nat_tests, not, numeric_escape, Piece, plain_element, quoted_lines_fit, refl, Short, short, Some, spell_pieces, spell_string, sym, true, unescaped, unicode, ℕ, ◌&&◌, ◌*◌, ◌++◌, ◌+◌, ◌<◌, ◌==◌, ◌∙◌, ◌∷◌, ◌≡◌}
 use Rattle.defs_text.specs.FlowScalar.{blank}
-use Rattle.defs_layout.specs.JsonString as string
 use Rattle.proof_layout_tokens.proofs.Rows.OneLine.{IsOneLine, nothing, with_content, with_blank}
 use Rattle.proof_layout_tokens.proofs.Rows.OneLine
 
@@ -11,9 +10,7 @@ body_of ps = spell_pieces ps []
 
 pub spelt : (ps : List Piece) (r : List ℕ) → spell_pieces ps r ≡ body_of ps ++ r
 spelt [] r = refl
-spelt (itself c ∷ ps) r = ap (λ x. c ∷ x) (spelt ps r)
-spelt (short s ∷ ps) r = ap (λ x. 92 ∷ letter_of s ∷ x) (spelt ps r)
-spelt (unicode a b c d ∷ ps) r = ap (λ x. 92 ∷ 117 ∷ a ∷ b ∷ c ∷ d ∷ x) (spelt ps r)
+spelt (p ∷ ps) r = grind (arith, spelt ps r)
 
 small_digit : (c : ℕ) → is_digit c 16 ≡ true → digit_value c < 16
 small_digit c h = ltb-true (digit_value c) 16 h
@@ -77,14 +74,7 @@ unfolding double_quoted_element is_nul is_break escape
 short_goes s ps z = record { all = content (character_of s) ∷ z.all; are = by s; in_line = with_content (character_of s) z.in_line }
   where
     by : (s : Short) → elements double_quoted_element 0 (body_of (short s ∷ ps)) ≡ Some (content (character_of s) ∷ z.all)
-    by string.quotation_mark = rw (z.are) refl
-    by string.reverse_solidus = rw (z.are) refl
-    by string.solidus = rw (z.are) refl
-    by string.backspace = rw (z.are) refl
-    by string.form_feed = rw (z.are) refl
-    by string.new_line = rw (z.are) refl
-    by string.return = rw (z.are) refl
-    by string.tabulator = rw (z.are) refl
+    by s = grind (arith, z.are)
 
 unicode_goes : (a b c d : ℕ) (ps : List Piece) → is_piece (unicode a b c d) ≡ true → IsString ps → IsString (unicode a b c d ∷ ps)
 unfolding double_quoted_element is_nul is_break escape numeric_escape
@@ -102,14 +92,7 @@ string_is (unicode a b c d ∷ ps) h = let q = and_parts (is_piece (unicode a b 
 
 short_break : (s : Short) (r : List ℕ) → has_no_break r ≡ true → has_no_break (92 ∷ letter_of s ∷ r) ≡ true
 unfolding is_break
-short_break string.quotation_mark r h = h
-short_break string.reverse_solidus r h = h
-short_break string.solidus r h = h
-short_break string.backspace r h = h
-short_break string.form_feed r h = h
-short_break string.new_line r h = h
-short_break string.return r h = h
-short_break string.tabulator r h = h
+short_break s r h = grind arith
 
 pub no_break : (ps : List Piece) → are_pieces ps ≡ true → has_no_break (body_of ps) ≡ true
 unfolding is_break
@@ -134,8 +117,4 @@ lines_fit column ps h = OneLine.lines_fit double_quoted_element (body_of ps) (un
 
 pub quoted_no_break : (ps : List Piece) → are_pieces ps ≡ true → has_no_break (quoted ps) ≡ true
 unfolding is_break
-quoted_no_break ps h = by (body_of ps) (no_break ps h)
-  where
-    by : (w : List ℕ) → has_no_break w ≡ true → has_no_break (w ++ 34 ∷ []) ≡ true
-    by [] h = refl
-    by (c ∷ w) h = let q = and_parts (not (is_break c)) (has_no_break w) h in and_from _ _ q.0 (by w q.1)
+quoted_no_break ps h = OneLine.quote_no_break 34 (body_of ps) refl (no_break ps h)

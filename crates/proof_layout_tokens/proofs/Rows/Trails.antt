@@ -1,5 +1,5 @@
 -- What stands after a value of a layout: gaps and comments as separations, and how the next piece is read.
-use Rattle.proof_layout_tokens.proofs.Common.{[], after_blank, and_parts, ap, append-nil, append_assoc, are_marks, arith, Bool, codes, Comment, comment, comment_line, empty_line, ends_line, false, free, GapLine, has_break, has_no_break, has_tab_within, innermost, inside, is_before_line_feed, is_blank, is_blank_or_end, is_blanks_and_comment, is_break, is_document_marker, is_line_character, is_nul, is_on_line, is_separation, is_value_indicator, is_waiting, IsComment, IsGap, IsLineText, last_line, leading, line_past_separation, List, list_all, nat_le, nat_tests, next_line, no_comment, not, on_line, Option, Position, position_after, position_past, Previous, refl, Some, spaces, spell_comment, spell_ending, spell_gap, Split, split, split_by, Stand, stops, subst, suc, sym, Tok, true, zero, ℕ, ◌&&◌, ◌++◌, ◌+◌, ◌<◌, ◌==◌, ◌||◌, ◌∙◌, ◌∷◌, ◌≡◌, ◌≤◌}
+use Rattle.proof_layout_tokens.proofs.Common.{[], after_blank, and_parts, ap, append-nil, append_assoc, are_marks, arith, Bool, codes, Comment, comment, comment_line, empty_line, ends_line, false, free, GapLine, has_break, has_tab_within, innermost, inside, is_before_line_feed, is_blank, is_blank_or_end, is_blanks_and_comment, is_break, is_document_marker, is_line_character, is_nul, is_on_line, is_separation, is_value_indicator, is_waiting, IsComment, IsGap, IsLineText, last_line, leading, line_past_separation, List, list_all, nat_le, nat_tests, next_line, no_comment, not, on_line, Option, Position, position_after, position_past, Previous, refl, Some, spaces, spell_comment, spell_ending, spell_gap, Split, split, split_by, Stand, stops, subst, suc, sym, Tok, true, zero, ℕ, ◌&&◌, ◌++◌, ◌+◌, ◌<◌, ◌==◌, ◌||◌, ◌∙◌, ◌∷◌, ◌≡◌, ◌≤◌}
 use Rattle.defs_token.specs.Key.{Line}
 use Rattle.defs_token.specs.Plain.{is_deeper}
 use Rattle.proof_layout_tokens.proofs.Rows.Steps.{Reads, at}
@@ -89,13 +89,11 @@ spaces_separate (suc n) a r = spaces_separate n a r
 pub gap_separates : (g : List GapLine) (a r : List ℕ) → IsGap g → is_separation false a r ≡ true → is_separation false (spell_gap g a) r ≡ true
 unfolding is_break is_blank
 gap_separates [] a r h e = e
-gap_separates (empty_line ∷ g) a r h e = gap_separates g a r h.1 e
-gap_separates (comment_line text ∷ g) a r h e = over_comment text (10 ∷ spell_gap g a) r h.0 ∙ gap_separates g a r h.1 e
+gap_separates (l ∷ g) a r h e = grind (arith, over_comment, gap_separates g a r)
 
 comment_separates : (k : Comment) (a r : List ℕ) → IsComment k → is_separation false (10 ∷ a) r ≡ true → is_separation false (spell_comment k (10 ∷ a)) r ≡ true
 unfolding is_break is_blank
-comment_separates no_comment a r h e = e
-comment_separates (comment more text) a r h e = spaces_separate more (35 ∷ (text ++ 10 ∷ a)) r ∙ over_comment text (10 ∷ a) r h ∙ e
+comment_separates b a r h e = grind (arith, spaces_separate, over_comment)
 
 -- up to the end of the text
 pub ending_separates : (g : List GapLine) → IsGap g → is_separation false (spell_ending g []) [] ≡ true
@@ -129,9 +127,7 @@ broken_at [] (d ∷ y) = record { first = []; others = (split (d ∷ y)).complet
 broken_at (c ∷ x) y = by (is_break c) (is_before_line_feed c (x ++ 10 ∷ y)) (broken_at x y)
   where
     by : (b d : Bool) → Broken (split (x ++ 10 ∷ y)) (split y).last → Broken (split_by b d c (split (x ++ 10 ∷ y))) (split y).last
-    by true true z = z
-    by true false z = record { first = []; others = z.first ∷ z.others; is = rw (z.is) refl }
-    by false d z = record { first = c ∷ z.first; others = z.others; is = rw (z.is) refl }
+    by a d z = grind arith
 
 last_past : (x y : List ℕ) → last_line (x ++ 10 ∷ y) ≡ last_line y
 last_past x y = rw (last_line, (broken_at x y).is) refl
@@ -140,8 +136,7 @@ last_past x y = rw (last_line, (broken_at x y).is) refl
 
 feed_ends : (next : List ℕ) → ends_line 10 next ≡ true
 unfolding is_break
-feed_ends [] = refl
-feed_ends (c ∷ r) = refl
+feed_ends a = grind arith
 
 pub over_break : (w x r : List ℕ) (p : Position) → (q : Position) × (position_after p (w ++ 10 ∷ x) r ≡ position_after q x r) × (q.col ≡ 0)
 over_break [] x r p = (record { index = suc p.index; line = suc p.line; col = 0 }, rw (position_after, feed_ends (x ++ r)) refl, refl)
@@ -182,21 +177,15 @@ spaces_are (suc n) a r = ap (λ x. 32 ∷ x) (spaces_are n a r)
 
 pub gap_is : (g : List GapLine) (a r : List ℕ) → spell_gap g a ++ r ≡ spell_gap g (a ++ r)
 gap_is [] a r = refl
-gap_is (empty_line ∷ g) a r = ap (λ x. 10 ∷ x) (gap_is g a r)
-gap_is (comment_line text ∷ g) a r = ap (λ x. 35 ∷ x) (append_assoc text (10 ∷ spell_gap g a) r ∙ ap (λ x. text ++ 10 ∷ x) (gap_is g a r))
+gap_is (l ∷ g) a r = grind (arith, append_assoc, gap_is g a r)
 
 comment_is : (k : Comment) (a r : List ℕ) → spell_comment k a ++ r ≡ spell_comment k (a ++ r)
-comment_is no_comment a r = refl
-comment_is (comment more text) a r = ap (λ x. 32 ∷ x) (spaces_are more (35 ∷ (text ++ a)) r ∙ ap (λ x. spaces more (35 ∷ x)) (append_assoc text a r))
+comment_is k a r = grind (arith, spaces_are, append_assoc)
 
 has_break_at : (x y : List ℕ) → has_break (x ++ 10 ∷ y) ≡ true
 unfolding is_break
 has_break_at [] y = refl
-has_break_at (c ∷ x) y = by (is_break c) (has_break_at x y)
-  where
-    by : (b : Bool) → has_break (x ++ 10 ∷ y) ≡ true → not (not b && has_no_break (x ++ 10 ∷ y)) ≡ true
-    by true e = refl
-    by false e = e
+has_break_at (c ∷ x) y = grind (arith, has_break, has_break_at x y)
 
 -- ---- after a value and a comment
 
@@ -205,9 +194,7 @@ abbrev pub line_gap : Comment → List GapLine → ℕ → List ℕ
 line_gap k g n = spell_comment k (10 ∷ spell_gap g (spaces n []))
 
 line_free : (l : Line) → is_waiting l ≡ false → line_past_separation false true l ≡ Some free
-line_free free h = refl
-line_free Line.taken h = refl
-line_free (Line.waits begin) h = cc
+line_free a h = grind arith
 
 pub here_after : (k : Comment) (g : List GapLine) (n : ℕ) (r : List ℕ) (p : Position) (before : Previous) (l : Line) → IsComment k → IsGap g → Quiet before → is_waiting l ≡ false → Here n r p before l (line_gap k g n)
 unfolding is_blank is_break

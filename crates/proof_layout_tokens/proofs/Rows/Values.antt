@@ -1,5 +1,5 @@
 -- Values, arrays and hashes of layouts have rows.
-use Rattle.proof_layout_tokens.proofs.Common.{[], all_field_tokens, all_of, Anchor, anchors_after, anchors_after_field, and_from, and_parts, another, ap, append-nil, AreEntries, AreFields, AreFoldedLines, AreLinesOf, arith, begins_with, begins_with_space_or_break, begun, Blank, Block, block_tokens, BlockStyle, Bool, codes, colon_may_precede, Comment, comment, comment_line, dash_may_precede, empty_hash, empty_line, ends_with, Entries, entry_tokens, false, Field, field_tokens, Fields, folded_header, free, fresh, GapLine, goes_on_with_name, has_break, has_no_break, has_tab_before_piece, if◌then◌else◌, inl, Inline, inline_tokens, inr, is_anchor_name, is_ascii_alphanumeric, is_at_gap, is_blank, is_blank_or_end, is_break, is_flow, is_line_character, is_literal_text, is_name, is_nul, is_one_of, is_waiting, IsBlock, IsComment, IsField, IsGap, IsImplicitKey, IsInline, IsJsonCollection, IsJsonOnOneLine, IsLineText, IsScalar, IsValue, Json, last_line, leading, least_column, length, line_past_separation, List, list_all, MayBeAnchored, MayFollowScalarKey, nat_eq, nat_tests, next_line, no_comment, Position, Previous, refl, replicate, Scalar, scalar, scalar_token, Some, spaces, spell_block, spell_comment, spell_entries, spell_field, spell_fields, spell_gap, spell_inline, spell_lines, spell_literal, spell_scalar, spell_value, suc, taken, Tok, Tree, true, Value, value_tokens, zero, ℕ, ◌++◌, ◌+◌, ◌<◌, ◌==◌, ◌∙◌, ◌∷◌, ◌≡◌, ◌≤◌, ◌⊎◌}
+use Rattle.proof_layout_tokens.proofs.Common.{[], all_field_tokens, all_of, Anchor, anchors_after, anchors_after_field, and_from, and_parts, another, ap, append-nil, AreEntries, AreFields, AreFoldedLines, AreLinesOf, arith, begins_with, begins_with_space_or_break, begun, Blank, Block, block_tokens, BlockStyle, Bool, colon_may_precede, Comment, comment, dash_may_precede, empty_hash, Entries, entry_tokens, false, Field, field_tokens, Fields, folded_header, free, fresh, GapLine, goes_on_with_name, has_break, has_no_break, has_tab_before_piece, inl, Inline, inline_tokens, inr, is_anchor_name, is_ascii_alphanumeric, is_at_gap, is_blank, is_blank_or_end, is_break, is_flow, is_line_character, is_literal_text, is_name, is_nul, is_one_of, is_waiting, IsBlock, IsComment, IsField, IsGap, IsImplicitKey, IsInline, IsJsonCollection, IsJsonOnOneLine, IsLineText, IsScalar, IsValue, Json, last_line, leading, least_column, length, line_past_separation, List, list_all, MayBeAnchored, MayFollowScalarKey, nat_tests, next_line, no_comment, Position, Previous, refl, replicate, Scalar, scalar, scalar_token, Some, spaces, spell_block, spell_comment, spell_entries, spell_field, spell_fields, spell_gap, spell_inline, spell_lines, spell_literal, spell_scalar, spell_value, suc, taken, Tok, Tree, true, Value, value_tokens, zero, ℕ, ◌++◌, ◌+◌, ◌<◌, ◌==◌, ◌∙◌, ◌∷◌, ◌≡◌, ◌≤◌, ◌⊎◌}
 use Rattle.defs_layout.specs.JsonGap
 use Rattle.defs_layout.specs.Json
 use Rattle.defs_layout.specs.BlockLines.{Line as BlockLine}
@@ -34,8 +34,7 @@ module _ (k : Comment) (t : Trail) (bs : List ℕ) (tokens : List Tok) (p : Posi
       (λ q waits. closes_at bs b fresh refl taken [] [] r tokens refl (λ e. tt) (trail_ends k t bs trail low).no_comment (λ q waits before quiet deep. arrive k t bs tokens q waits before taken remark trail quiet refl rest) q waits another (λ f. refl))
     where
       hash : (b : Bool) → begins_with 35 (closing_bracket b ∷ spell_comment k (trail_text t)) ≡ false
-      hash true = refl
-      hash false = refl
+      hash a = grind arith
 
   pub inline_reads : (v : Inline) → IsInline v → Reads (at p bs awaits another l []) (f ++ spell_inline v (spell_comment k (trail_text t))) (inline_tokens v tokens)
   inline_reads (scalar s) h = scalar_reads s h k t bs tokens p awaits l f remark trail low line lead rest
@@ -79,8 +78,7 @@ comment_tabless (c ∷ text) a h = let q = and_parts (is_line_character c) (list
 gap_tabless : (g : List GapLine) (a : List ℕ) → IsGap g → has_tab_before_piece false a ≡ false → has_tab_before_piece false (spell_gap g a) ≡ false
 unfolding is_break
 gap_tabless [] a gap h = h
-gap_tabless (empty_line ∷ g) a gap h = gap_tabless g a gap.1 h
-gap_tabless (comment_line text ∷ g) a gap h = comment_tabless text (spell_gap g a) gap.0 ∙ gap_tabless g a gap.1 h
+gap_tabless (l ∷ g) a gap h = grind (arith, comment_tabless, gap_tabless g a)
 
 opens_beside : (more : ℕ) (a : List ℕ) → BeginsContent a → Opens (32 ∷ spaces more a)
 unfolding is_blank is_break is_blank_or_end is_anchor_name
@@ -126,8 +124,7 @@ here_beside n more r p h = record {
 }
   where
     by : (b : Bool) → line_past_separation false b free ≡ Some free
-    by true = refl
-    by false = refl
+    by a = grind arith
 
 beside_text : (more : ℕ) (x : List ℕ) → (32 ∷ spaces more []) ++ x ≡ 32 ∷ spaces more x
 beside_text more x = ap (λ y. 32 ∷ y) (spaces_are more [] x)
@@ -146,34 +143,19 @@ scalar_begins (Scalar.single_quoted text) r h = content_first 39 _ refl refl ref
 
 inline_begins : (v : Inline) (r : List ℕ) → IsInline v → BeginsContent (spell_inline v r)
 unfolding is_blank is_break is_nul
-inline_begins (scalar s) r h = scalar_begins s r h
-inline_begins empty_array r h = content_first 91 _ refl refl refl refl
-inline_begins empty_hash r h = content_first 123 _ refl refl refl refl
+inline_begins v r h = grind (arith, scalar_begins, content_first)
 
 json_begins : (v : Json) (r : List ℕ) → IsJsonCollection v → BeginsContent (Json.spell v r)
 unfolding is_blank is_break is_nul
-json_begins (Json.empty_array g) r h = content_first 91 _ refl refl refl refl
-json_begins (Json.array g es) r h = content_first 91 _ refl refl refl refl
-json_begins (Json.empty_object g) r h = content_first 123 _ refl refl refl refl
-json_begins (Json.object g ms) r h = content_first 123 _ refl refl refl refl
-json_begins Json.false_word r h = absurd h
-json_begins Json.null_word r h = absurd h
-json_begins Json.true_word r h = absurd h
-json_begins (Json.number n) r h = absurd h
-json_begins (Json.string ps) r h = absurd h
+json_begins a r h = grind (arith, content_first)
 
 literal_begins : (column : ℕ) (text : List ℕ) (ls : List BlockLine) (r : List ℕ) → BeginsContent (spell_literal column text ls r)
 unfolding is_blank is_break is_nul
-literal_begins column text ls r = by (ends_with nat_eq text (codes "\n"))
-  where
-    by : (b : Bool) → BeginsContent ((if b then codes "|" else codes "|-") ++ spell_lines column ls r)
-    by true = content_first 124 _ refl refl refl refl
-    by false = content_first 124 _ refl refl refl refl
+literal_begins column text ls r = grind (arith, content_first)
 
 folded_begins : (strips : Bool) (r : List ℕ) → BeginsContent (folded_header strips ++ r)
 unfolding is_blank is_break is_nul
-folded_begins true r = content_first 62 _ refl refl refl refl
-folded_begins false r = content_first 62 _ refl refl refl refl
+folded_begins a r = grind (arith, content_first)
 
 entries_begin : (c : ℕ) (es : Entries) (r : List ℕ) → BeginsContent (spell_entries c es r)
 unfolding is_blank is_break is_nul
@@ -225,31 +207,26 @@ ReadsField c f = Begins c (spell_field c f) Tok.block_mapping_start (field_token
 abbrev ReadsFields : ℕ → Fields → Type 0
 ReadsFields c fs = Begins c (spell_fields c fs) Tok.block_mapping_start (all_field_tokens fs)
 
+abbrev ReadsIn : ℕ → (List ℕ → List ℕ) → (List Tok → List Tok) → Type 0
+ReadsIn c spells gives = (bs : List ℕ) (t : Trail) (tokens : List Tok) (p : Position) (awaits : Bool) (before : Previous) (l : Line) (f : List ℕ) → least_column bs true ≤ c → IsTrail t → EndsAt t c → Here c (spells (trail_text t)) p before l f → After t bs tokens
+    → Reads (at p bs awaits before l []) (f ++ spells (trail_text t)) (gives tokens)
+
 abbrev pub ReadsBlock : ℕ → Block → Type 0
-ReadsBlock c b = (bs : List ℕ) (t : Trail) (tokens : List Tok) (p : Position) (awaits : Bool) (before : Previous) (l : Line) (f : List ℕ) → least_column bs true ≤ c → IsTrail t → EndsAt t c → Here c (spell_block c b (trail_text t)) p before l f → After t bs tokens
-    → Reads (at p bs awaits before l []) (f ++ spell_block c b (trail_text t)) (block_tokens b tokens)
+ReadsBlock c b = ReadsIn c (spell_block c b) (block_tokens b)
 
 low_at : (t : Trail) (c : ℕ) (bs : List ℕ) → EndsAt t c → IsLow t (c ∷ bs)
-low_at (next g d r) c bs h = omega (arith, h)
-low_at (marker g r) c bs h = tt
-low_at (end g) c bs h = tt
+low_at t c bs h = grind arith
 
 ends_deeper : (t : Trail) (c n : ℕ) (bs : List ℕ) → IsLow t (c ∷ bs) → c < n → EndsAt t n
-ends_deeper (next g d r) c n bs low h = omega (arith, low, h)
-ends_deeper (marker g r) c n bs low h = tt
-ends_deeper (end g) c n bs low h = tt
+ends_deeper t c n bs low h = grind arith
 
 -- the collections that end before the next entry
 above : (g : List GapLine) (c : ℕ) (r : List ℕ) (extra : List ℕ) → AllEnd (next g c r) extra → AreAbove c extra
 above g c r [] h = tt
 above g c r (n ∷ extra) h = (h.0, above g c r extra h.1)
 
-array_reads : (c : ℕ) (es : Entries) → ReadsEntries c es → ReadsBlock c (Block.array es)
-array_reads c es one bs t tokens p awaits before l f deep trail ends here rest =
-    one false [] bs t (Tok.block_end ∷ tokens) p awaits before l f tt (λ e. deep) trail (low_at t c bs ends) here (Trails.one_more t c bs tokens ends rest)
-
-hash_reads : (c : ℕ) (fs : Fields) → ReadsFields c fs → ReadsBlock c (Block.hash fs)
-hash_reads c fs one bs t tokens p awaits before l f deep trail ends here rest =
+collection_reads : (c : ℕ) (spells : List ℕ → List ℕ) (collection : Tok) (gives : List Tok → List Tok) → Begins c spells collection gives → ReadsIn c spells (λ o. collection ∷ gives (Tok.block_end ∷ o))
+collection_reads c spells collection gives one bs t tokens p awaits before l f deep trail ends here rest =
     one false [] bs t (Tok.block_end ∷ tokens) p awaits before l f tt (λ e. deep) trail (low_at t c bs ends) here (Trails.one_more t c bs tokens ends rest)
 
 -- ---- values on the line
@@ -344,10 +321,12 @@ last_entry_reads c a v h one is_open extra bs t tokens p awaits before l f all b
     let o = value_opens c a v (trail_text t) h in
     dash_reads is_open c extra bs p awaits before l f (spell_value c v (trail_text t)) (value_tokens v tokens) all begin o.gap o.dash here (λ q waits col. one bs t tokens q waits free trail low refl (omega (arith, col)) (inl (col, refl)) rest)
 
-entry_reads : (c : ℕ) (v : Value) (g : List GapLine) (es : Entries) → IsGap g → ReadsEntries c (Entries.last_entry v) → ReadsEntries c es → ReadsEntries c (Entries.entry v g es)
-entry_reads c v g es gap one more is_open extra bs t tokens p awaits before l f all begin trail low here rest =
-    let r = spell_entries c es (trail_text t) in
-    one is_open extra bs (next g c r) (entry_tokens es tokens) p awaits before l f all begin (gap, entries_begin c es (trail_text t)) (omega arith) here
+-- an entry of a collection, before others
+then_reads : (c : ℕ) (one all : List ℕ → List ℕ) (collection : Tok) (gives gives_all : List Tok → List Tok) (g : List GapLine) → IsGap g → ((r : List ℕ) → BeginsContent (all r))
+    → Begins c one collection gives → Begins c all collection gives_all → Begins c (λ r. one (next_line c g (all r))) collection (λ o. gives (gives_all o))
+then_reads c one_text all collection gives gives_all g gap begins one more is_open extra bs t tokens p awaits before l f above_it begin trail low here rest =
+    let r = all (trail_text t) in
+    one is_open extra bs (next g c r) (gives_all tokens) p awaits before l f above_it begin (gap, begins (trail_text t)) (omega arith) here
     (λ more_extra q waits past m f2 ends there. more true more_extra bs t tokens q waits past m f2 (above g c r more_extra ends) (λ e. cc) trail low there rest)
 
 -- ---- entries of hashes
@@ -363,15 +342,6 @@ explicit_reads c a b k g v key gap value one two is_open extra bs t tokens p awa
     (λ q waits col. one bs n (Tok.value ∷ value_tokens v tokens) q waits free (gap, content_first 58 _ refl refl refl refl) (omega arith) refl (omega (arith, col)) (inl (col, refl))
     (λ more_extra q waits past m f2 ends there. colon_reads true c more_extra bs q waits past m f2 (spell_value c v (trail_text t)) (value_tokens v tokens) (above g c r more_extra ends) (λ e. cc) w.gap w.colon there
     (λ q waits col. two bs t tokens q waits free trail low refl (omega (arith, col)) (inl (col, refl)) rest)))
-
-last_field_reads : (c : ℕ) (f : Field) → ReadsField c f → ReadsFields c (Fields.last_field f)
-last_field_reads c f one = one
-
-more_fields_read : (c : ℕ) (a : List Anchor) (f : Field) (g : List GapLine) (fs : Fields) → IsGap g → AreFields c a fs → ReadsField c f → ReadsFields c fs → ReadsFields c (Fields.field f g fs)
-more_fields_read c a field g fs gap are one more is_open extra bs t tokens p awaits before l f all begin trail low here rest =
-    let r = spell_fields c fs (trail_text t) in
-    one is_open extra bs (next g c r) (all_field_tokens fs tokens) p awaits before l f all begin (gap, fields_begin c a fs (trail_text t) are) (omega arith) here
-    (λ more_extra q waits past m f2 ends there. more true more_extra bs t tokens q waits past m f2 (above g c r more_extra ends) (λ e. cc) trail low there rest)
 
 -- a scalar key
 implicit_reads : (c : ℕ) (a : List Anchor) (k : Scalar) (v : Value) → IsImplicitKey k → MayFollowScalarKey v → IsValue c a v → ReadsValue c v → ReadsField c (Field.implicit k v)
@@ -391,15 +361,7 @@ implicit_reads c a k v key may h one is_open extra bs t tokens p awaits before l
     (scalar_further k key.0) (scalar_precedes k (stood is_open c bs) (58 ∷ r) (rw one_line refl)) o.gap o.colon spot (λ q deep. one bs t tokens q true taken trail low refl deep (inr may) rest))
 
 anchored_follows : (v : Value) → MayBeAnchored v → MayFollowScalarKey v
-anchored_follows (Value.beside more i k) h = tt
-anchored_follows (Value.literal more column text ls) h = tt
-anchored_follows (Value.folded more column strips text ls) h = tt
-anchored_follows (Value.json more v) h = tt
-anchored_follows (Value.compact more b) h = absurd h
-anchored_follows (layout.below k g column b) h = tt
-anchored_follows (Value.at_key k g es) h = tt
-anchored_follows (Value.anchored more name v) h = tt
-anchored_follows (Value.alias more name t) h = tt
+anchored_follows v h = grind arith
 
 -- ---- literal and folded blocks
 
@@ -410,8 +372,7 @@ literal_reads c more column text ls higher one are bs t tokens p awaits l trail 
     (block_is_read BlockStyle.literal (suc c) column (strips_of text) text ls higher (literal_lines c column text ls higher one are) (c ∷ bs) refl tokens p awaits l (32 ∷ spaces more []) line lead.parts lead.deep t trail (nested_follows c column bs t higher trail low) rest)
 
 headed : (strips : Bool) (r : List ℕ) → folded_header strips ++ r ≡ block_text BlockStyle.folded strips r
-headed true r = refl
-headed false r = refl
+headed strips r = grind arith
 
 folded_reads : (c more column : ℕ) (strips : Bool) (text : List ℕ) (ls : List BlockLine) → c < column → AreFoldedLines c column strips text ls → ReadsValue c (Value.folded more column strips text ls)
 folded_reads c more column strips text ls higher are bs t tokens p awaits l trail low line deep fits rest =
@@ -423,8 +384,8 @@ folded_reads c more column strips text ls higher are bs t tokens p awaits l trai
 
 mutual
   pub block_reads : (c : ℕ) (a : List Anchor) (b : Block) → IsBlock c a b → ReadsBlock c b
-  block_reads c a (Block.array es) h = array_reads c es (entries_read c a es h)
-  block_reads c a (Block.hash fs) h = hash_reads c fs (fields_read c a fs h.0)
+  block_reads c a (Block.array es) h = collection_reads c (spell_entries c es) Tok.block_sequence_start (entry_tokens es) (entries_read c a es h)
+  block_reads c a (Block.hash fs) h = collection_reads c (spell_fields c fs) Tok.block_mapping_start (all_field_tokens fs) (fields_read c a fs h.0)
 
   read_value : (c : ℕ) (a : List Anchor) (v : Value) → IsValue c a v → ReadsValue c v
   read_value c a (Value.beside more i k) h = beside_reads c more i k h.0 h.1
@@ -439,12 +400,15 @@ mutual
 
   entries_read : (c : ℕ) (a : List Anchor) (es : Entries) → AreEntries c a es → ReadsEntries c es
   entries_read c a (Entries.last_entry v) h = last_entry_reads c a v h.1 (read_value c a v h.1)
-  entries_read c a (Entries.entry v g es) h = entry_reads c v g es h.2 (last_entry_reads c a v h.1 (read_value c a v h.1)) (entries_read c (anchors_after v a) es h.3)
+  entries_read c a (Entries.entry v g es) h =
+      then_reads c (spell_entries c (Entries.last_entry v)) (spell_entries c es) Tok.block_sequence_start (entry_tokens (Entries.last_entry v)) (entry_tokens es) g h.2 (entries_begin c es) (last_entry_reads c a v h.1 (read_value c a v h.1)) (entries_read c (anchors_after v a) es h.3)
 
   field_read : (c : ℕ) (a : List Anchor) (f : Field) → IsField c a f → ReadsField c f
   field_read c a (Field.implicit k v) h = implicit_reads c a k v h.0 h.1 h.2 (read_value c a v h.2)
   field_read c a (Field.explicit k g v) h = explicit_reads c a (anchors_after k a) k g v h.1 h.2 h.4 (read_value c a k h.1) (read_value c (anchors_after k a) v h.4)
 
   fields_read : (c : ℕ) (a : List Anchor) (fs : Fields) → AreFields c a fs → ReadsFields c fs
-  fields_read c a (Fields.last_field f) h = last_field_reads c f (field_read c a f h)
-  fields_read c a (Fields.field f g fs) h = more_fields_read c (anchors_after_field f a) f g fs h.1 h.2 (field_read c a f h.0) (fields_read c (anchors_after_field f a) fs h.2)
+  fields_read c a (Fields.last_field f) h = field_read c a f h
+  fields_read c a (Fields.field f g fs) h =
+      let b = anchors_after_field f a in
+      then_reads c (spell_field c f) (spell_fields c fs) Tok.block_mapping_start (field_tokens f) (all_field_tokens fs) g h.1 (λ r. fields_begin c b fs r h.2) (field_read c a f h.0) (fields_read c b fs h.2)

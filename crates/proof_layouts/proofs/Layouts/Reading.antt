@@ -1,5 +1,5 @@
 -- The tokens of a layout, part by part, and what they are read as.
-use Rattle.proof_layouts.proofs.Common.{[], all_field_tokens, Anchor, Anchors, anchors_after, anchors_after_block, anchors_after_entries, anchors_after_field, anchors_after_fields, ap, AreEntries, AreFields, Block, block_tokens, block_tree, Bool, Entries, entry_tokens, Ev, Field, field_tokens, Fields, in_block, in_pair, Inline, inline_tokens, inline_tree, IsBlock, IsExplicitKey, IsField, IsInline, IsJson, IsPlain, IsRoot, IsScalar, IsValue, Items, items, Json, json_tokens, List, list_of, MayBeAnchored, MayFollowMark, Names, nested_alias, None, Ok, Option, pair_list, pair_of, Place, refl, Root, root_tokens, root_tree, Scalar, scalar_token, scalar_tree, Side, Some, spelling, spelling_back, Style, Tok, Tree, tree_of, Value, value_tokens, value_tree, ℕ, ◌+◌, ◌∷◌}
+use Rattle.proof_layouts.proofs.Common.{arith, [], all_field_tokens, Anchor, Anchors, anchors_after, anchors_after_block, anchors_after_entries, anchors_after_field, anchors_after_fields, ap, AreEntries, AreFields, Block, block_tokens, block_tree, Bool, Entries, entry_tokens, Ev, Field, field_tokens, Fields, in_block, in_pair, Inline, inline_tokens, inline_tree, IsBlock, IsExplicitKey, IsField, IsInline, IsJson, IsPlain, IsRoot, IsScalar, IsValue, Items, items, Json, json_tokens, List, list_of, MayBeAnchored, MayFollowMark, Names, nested_alias, None, Ok, Option, pair_list, pair_of, Place, refl, Root, root_tokens, root_tree, Scalar, scalar_token, scalar_tree, Side, Some, spelling, spelling_back, Style, Tok, Tree, tree_of, Value, value_tokens, value_tree, ℕ, ◌+◌, ◌∷◌}
 use Rattle.defs_tree.specs.Laws.{IsSpeltPlain}
 use Rattle.defs_event.specs.Grammar as at
 use Rattle.proof_layouts.specs.JsonNest as json_nest
@@ -12,15 +12,7 @@ use Rattle.proof_layouts.proofs.Layouts.Nodes.{ReadsNode, ReadsItems, ReadsPairs
 -- ---- what stands on one line
 
 spelt_plain : (t : Tree) → IsPlain t → IsSpeltPlain t
-spelt_plain (Tree.real text) h = h
-spelt_plain (Tree.integer z) h = h
-spelt_plain (Tree.string text) h = rw h refl
-spelt_plain (Tree.boolean b) h = tt
-spelt_plain (Tree.array ts) h = absurd h
-spelt_plain (Tree.hash ps) h = absurd h
-spelt_plain (Tree.alias n) h = absurd h
-spelt_plain Tree.null h = tt
-spelt_plain Tree.bad_value h = absurd h
+spelt_plain t h = grind arith
 
 written_reads : {keep_tags : Bool} {s : Names} {a : List Anchor} {read : Anchors} (o : Option (List ℕ)) (p : Place) (x : Scalar) → IsScalar x → Agrees s a read
     → ReadsNode keep_tags s a (ended_by o (scalar_tree x) (begun_by o a)) read o p (λ r. scalar_token x ∷ r) (scalar_tree x)
@@ -75,15 +67,10 @@ MayStand (Some at.value) v = Unit {0}
 MayStand _ v = MayFollowMark v
 
 explicit_stands : (k : Value) → IsExplicitKey k → MayFollowMark k
-explicit_stands (Value.at_key after g es) h = h
-explicit_stands _ h = tt
+explicit_stands k h = grind arith
 
 anchored_stands : (q : Option Side) (v : Value) → MayBeAnchored v → MayStand q v
-anchored_stands None (Value.at_key after g es) h = h
-anchored_stands None _ h = tt
-anchored_stands (Some at.key) (Value.at_key after g es) h = h
-anchored_stands (Some at.key) _ h = tt
-anchored_stands (Some at.value) v h = tt
+anchored_stands q v h = grind arith
 
 -- ---- the entries of an array at p
 
@@ -129,8 +116,7 @@ mutual
   value_reads o q c (Value.below after g column b) is may stands h = block_reads o q column b is.3 h
   value_reads None (Some at.value) c (Value.at_key after g vs) is may stands h =
       sequence_reads (λ w r es d. indentless vs r d) (entries_read not_indented c vs is.2 h)
-  value_reads None (Some at.key) c (Value.at_key after g vs) is may stands h = absurd stands
-  value_reads None None c (Value.at_key after g vs) is may stands h = absurd stands
+  value_reads None _ c (Value.at_key after g vs) is may stands h = absurd stands
   value_reads (Some n) q c (Value.at_key after g vs) is may stands h = absurd may
   value_reads None q c (Value.anchored more name v) is may stands h = anchored_reads (value_reads (Some name) q c v is.2 is.1 (anchored_stands q v is.1) h)
   value_reads (Some n) q c (Value.anchored more name v) is may stands h = absurd may

@@ -1,5 +1,5 @@
 -- Which lines a block scalar's text goes up to, and that the lines after it don't change its content column.
-use Rattle.proof_lexers.proofs.Common.{[], and_parts, ap, append-nil, append_assoc, arith, Bool, cases_Bool, cases_lt, column_by, column_same, ends_line, false, first_line, inl, inr, is_content_line, is_document_marker, is_empty_line, is_further_text, is_in_line, is_outside, is_some, is_spaces, IsBefore, le-leb, leading_spaces, length, List, list_all, nat_le, None, not, not-false, Option, refl, row_of, Some, suc, sym, true, up_to_break, zero, ℕ, ◌&&◌, ◌++◌, ◌<◌, ◌==◌, ◌∙◌, ◌∷◌, ◌≡◌, ◌≤◌, ◌⊎◌}
+use Rattle.proof_lexers.proofs.Common.{[], and_parts, ap, append-nil, append_assoc, arith, cases_lt, column_by, column_same, ends_line, false, first_line, inl, inr, is_content_line, is_document_marker, is_empty_line, is_further_text, is_in_line, is_outside, is_some, is_spaces, IsBefore, le-leb, leading_spaces, length, List, list_all, nat_le, None, not, not-false, Option, refl, row_of, suc, sym, true, up_to_break, zero, ℕ, ◌&&◌, ◌++◌, ◌==◌, ◌∙◌, ◌∷◌, ◌≡◌, ◌≤◌, ◌⊎◌}
 use Rattle.defs_text.specs.Classes as classes
 use Rattle.proof_lexers.proofs.Bridges.{same_break}
 use Rattle.proof_lexers.proofs.Blocks.InLine.{first_inner}
@@ -10,36 +10,19 @@ use Rattle.proof_row.proofs.Columns.{further}
 
 -- ---- a line that is no row is further text
 
-leading_within : (w : List ℕ) → leading_spaces w ≤ length w
-leading_within [] = omega arith
-leading_within (c ∷ w) = let h = leading_within w in elim (cases_Bool (c == 32)) [ inl e ↦ rw e (omega (arith, h)) | inr e ↦ rw e (omega arith) ]
-
 all_spaces : (w : List ℕ) → length w ≤ leading_spaces w → is_spaces w ≡ true
 all_spaces [] h = refl
-all_spaces (c ∷ w) h = elim (cases_Bool (c == 32)) [
-  | inl e ↦ let more : suc (length w) ≤ suc (leading_spaces w) = rw e at h in rw e (all_spaces w (omega (arith, more)))
-  | inr e ↦ let no : suc (length w) ≤ 0 = rw e at h in absurd (omega (arith, no))
-]
+all_spaces (c ∷ w) h = grind (arith, all_spaces w)
 
 pub spaces_leading : (w : List ℕ) → is_spaces w ≡ true → leading_spaces w ≡ length w
 spaces_leading [] h = refl
 spaces_leading (c ∷ w) h = let q = and_parts (c == 32) (is_spaces w) h in rw (q.0) (ap suc (spaces_leading w q.1))
 
-outside_from : (n : ℕ) (w y : List ℕ) → is_spaces w ≡ false → suc (leading_spaces w) ≤ n → is_in_line w ≡ true → list_all is_some w ≡ true → is_outside n (w ++ y) ≡ true
+none_outside : (n : ℕ) (w y : List ℕ) → (is_spaces w && nat_le (length w) n) ≡ false → (nat_le n (leading_spaces w) && nat_le (suc n) (length w)) ≡ false → is_in_line w ≡ true → list_all is_some w ≡ true → is_outside n (w ++ y) ≡ true
 unfolding classes.is_nul
-outside_from n [] y h le inner some = cc
-outside_from zero (c ∷ w) y h le inner some = absurd (omega (arith, le))
-outside_from (suc n) (c ∷ w) y h le inner some =
-    let q = and_parts (not (c == 0)) (list_all is_some w) some in
-    elim (cases_Bool (c == 32)) [
-      | inl e ↦
-          let more : suc (suc (leading_spaces w)) ≤ suc n = rw e at le in
-          rw e (outside_from n w y (rw e at h) (omega (arith, more)) ((first_inner c w inner).1) q.1)
-      | inr e ↦ rw (e, same_break c, (first_inner c w inner).0, q.0) refl
-    ]
-
-none_of_some : {A : Type 0} (x : A) → Some x ≡ None → ⊥
-none_of_some x e = cc
+none_outside n [] y e f inner some = grind arith
+none_outside zero (c ∷ w) y e f inner some = grind arith
+none_outside (suc n) (c ∷ w) y e f inner some = grind (arith, none_outside n w y)
 
 -- the tests that both fail
 record NoRow (column : ℕ) (w : List ℕ) : Type 0 where
@@ -48,40 +31,20 @@ record NoRow (column : ℕ) (w : List ℕ) : Type 0 where
 
 no_row : (column : ℕ) (w : List ℕ) → row_of column w ≡ None → NoRow column w
 unfolding row_of is_empty_line is_content_line
-no_row column w h = elim (cases_Bool (is_spaces w && nat_le (length w) column)) [
-  | inl f ↦ absurd (none_of_some _ (rw f at h))
-  | inr f ↦ elim (cases_Bool ((nat_le column (leading_spaces w) && nat_le (suc column) (length w)) && not ((column == 0) && is_document_marker w))) [
-    | inl g ↦ absurd (none_of_some _ (rw (f, g) at h))
-    | inr g ↦ record { no_empty = f; no_content = g }
-  ]
-]
+no_row column w h = grind arith
 
 false_true : false ≡ true → ⊥
 false_true e = cc
 
 none_marked : (w y : List ℕ) → NoRow 0 w → ends_line y ≡ true → is_further_text 0 (w ++ y) ≡ true
-none_marked [] y z ends = absurd (false_true (sym z.no_empty))
-none_marked (c ∷ w) y z ends =
-    let marked : not (is_document_marker (c ∷ w)) ≡ false = rw (le-leb 0 (leading_spaces (c ∷ w)) (omega arith), le-leb 1 (length (c ∷ w)) (omega arith)) at z.no_content in
-    line_marker (c ∷ w) y ends ∙ not-false (is_document_marker (c ∷ w)) marked
-
-none_shallow : (n : ℕ) (w y : List ℕ) → NoRow (suc n) w → is_in_line w ≡ true → list_all is_some w ≡ true → is_outside (suc n) (w ++ y) ≡ true
-none_shallow n w y z inner some = by (cases_lt (leading_spaces w) (suc n)) (cases_lt (suc n) (length w)) (is_spaces w) refl
-  where
-    by : ((leading_spaces w < suc n) ⊎ (suc n ≤ leading_spaces w)) → ((suc n < length w) ⊎ (length w ≤ suc n)) → (s : Bool) → is_spaces w ≡ s → is_outside (suc n) (w ++ y) ≡ true
-    by (inr h) (inr k) s e =
-        let full = all_spaces w (omega (arith, h, k, leading_within w)) in
-        let no : true ≡ false = rw (full, le-leb (length w) (suc n) k) at z.no_empty in absurd (false_true (sym no))
-    by (inr h) (inl k) s e =
-        let no : true ≡ false = rw (le-leb (suc n) (leading_spaces w) h, le-leb (suc (suc n)) (length w) (omega (arith, k)), suc_off n) at z.no_content in absurd (false_true (sym no))
-    by (inl h) k true e =
-        let same = spaces_leading w e in
-        let no : true ≡ false = rw (e, le-leb (length w) (suc n) (omega (arith, h, same))) at z.no_empty in absurd (false_true (sym no))
-    by (inl h) k false e = outside_from (suc n) w y e (omega (arith, h)) inner some
+none_marked a y z b = grind (arith, false_true, le-leb, line_marker, not-false)
 
 pub none_further : (column : ℕ) (w y : List ℕ) → row_of column w ≡ None → is_in_line w ≡ true → list_all is_some w ≡ true → ends_line y ≡ true → is_further_text column (w ++ y) ≡ true
 none_further zero w y h inner some ends = none_marked w y (no_row 0 w h) ends
-none_further (suc n) w y h inner some ends = none_shallow n w y (no_row (suc n) w h) inner some
+none_further (suc n) w y h inner some ends =
+    let z = no_row (suc n) w h in
+    let no_content : (nat_le (suc n) (leading_spaces w) && nat_le (suc (suc n)) (length w)) ≡ false = (let k = z.no_content in grind (arith, suc_off n)) in
+    none_outside (suc n) w y z.no_empty no_content inner some
 
 -- ---- lines one after another
 
@@ -111,17 +74,13 @@ are_second (l ∷ ls) ns e are = are_second ls ns e are.2
 text_first : (ns : List Line) (e : List ℕ) → AreLines ns e → is_in_line e ≡ true → up_to_break (spell ns e) ≡ first_line (texts ns) e
 text_first ns e are inner = of_first ns are
   where
-    whole : (w : List ℕ) → is_in_line w ≡ true → up_to_break w ≡ w
-    whole [] h = refl
-    whole (c ∷ w) h = let q = first_inner c w h in rw (same_break c, q.0) (ap (λ r. c ∷ r) (whole w q.1))
-
     before : (w a : List ℕ) → ends_line a ≡ true → is_in_line w ≡ true → up_to_break (w ++ a) ≡ w
     before [] [] ends h = refl
     before [] (c ∷ a) ends h = rw ends refl
     before (c ∷ w) a ends h = let q = first_inner c w h in rw (same_break c, q.0) (ap (λ r. c ∷ r) (before w a ends q.1))
 
     of_first : (ns : List Line) → AreLines ns e → up_to_break (spell ns e) ≡ first_line (texts ns) e
-    of_first [] are = whole e inner
+    of_first [] are = ap up_to_break (sym (append-nil e)) ∙ before e [] refl inner
     of_first (l ∷ ns) are = before l.text (put l.by (spell ns e)) (break_ends l.by (spell ns e)) are.0
 
 -- further text begins with a line that is no row

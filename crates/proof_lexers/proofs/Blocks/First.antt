@@ -1,8 +1,8 @@
 -- The first lines give the content column.
-use Rattle.proof_lexers.proofs.Common.{[], all_lines, along, and_parts, ap, append-nil, arith, at_least, cases_Bool, collection_of, Column, column_by, deepest_start, digit_base, digit_by, false, First, first_indent, FirstLinesGiveTheColumn, indent_from, inl, inr, is_break, is_in_line, is_spaces, leading_spaces, least_column, List, lt-ltb, max, nat_lt, past, Position, Read, refl, Split, split, suc, sym, true, unbroken, zero, ℕ, ◌++◌, ◌+◌, ◌-◌, ◌==◌, ◌∙◌, ◌∷◌, ◌≡◌, ◌≤◌}
+use Rattle.proof_lexers.proofs.Common.{[], all_lines, along, and_parts, ap, append-nil, arith, at_least, cases_Bool, collection_of, Column, column_by, deepest_start, digit_base, digit_by, false, First, first_indent, FirstLinesGiveTheColumn, indent_from, inl, inr, is_break, is_in_line, is_spaces, leading_spaces, least_column, List, max, past, Position, Read, refl, Split, split, suc, sym, true, unbroken, zero, ℕ, ◌++◌, ◌+◌, ◌-◌, ◌==◌, ◌∙◌, ◌∷◌, ◌≡◌, ◌≤◌, nat_tests}
 use Rattle.model_scanner.specs.BlockScalar.{content}
 use Rattle.proof_lexers.proofs.Blocks.InLine.{first_inner}
-use Rattle.proof_lexers.proofs.Blocks.Written.{Break, feed, carriage, both, Line, put, spell, texts, Fits, AreLines, Lined, lined, split_spell}
+use Rattle.proof_lexers.proofs.Blocks.Written.{Break, Line, put, spell, texts, Fits, AreLines, Lined, lined, split_spell}
 use Rattle.proof_lexers.proofs.Blocks.Margins.{after_break, after_line, at, col_along, empty_passes, last_passes}
 use Rattle.proof_lexers.proofs.Blocks.Columns.{spaces_leading}
 
@@ -19,9 +19,7 @@ first_last w most p b h = ap (λ a. first_indent a (looking most p b)) (sym (app
 
 first_break : (k : Break) (a : List ℕ) (most : ℕ) (p : Position) (b : List ℕ) → Fits k a → first_indent (put k a) (looking most p b) ≡ first_indent a (looking (max most p.col) (after_break k p) (b ++ 10 ∷ []))
 unfolding is_break
-first_break feed a most p b fits = refl
-first_break carriage a most p b fits = rw fits refl
-first_break both a most p b fits = refl
+first_break d a most p b fits = grind arith
 
 abbrev with_column : ℕ → Read Column → Read Column
 with_column n r = record { rest = r.rest; position = r.position; value = record { column = n; breaks = r.value.breaks } }
@@ -30,17 +28,7 @@ with_column n r = record { rest = r.rest; position = r.position; value = record 
 first_other : (column : ℕ) (w a : List ℕ) (most : ℕ) (p : Position) (b : List ℕ) → is_spaces w ≡ false → is_in_line w ≡ true → p.col + leading_spaces w ≤ column
     → first_indent (w ++ a) (looking most p b) ≡ with_column (max most (p.col + leading_spaces w)) (indent_from column (w ++ a) (at p b))
 first_other column [] a most p b h inner le = cc
-first_other column (c ∷ w) a most p b h inner le = elim (cases_Bool (c == 32)) [
-  | inl e ↦
-      let le' : p.col + suc (leading_spaces w) ≤ column = rw e at le in
-      let deep : nat_lt p.col column ≡ true = lt-ltb p.col column (omega (arith, le')) in
-      let same : (p.col + 1) + leading_spaces w ≡ p.col + suc (leading_spaces w) = omega arith in
-      rw (e, deep) (first_other column w a most (past p) b (rw e at h) ((first_inner c w inner).1) (omega (arith, le')) ∙ ap (λ n. with_column (max most n) (indent_from column (w ++ a) (at (past p) b))) same)
-  | inr e ↦
-      let b' = (first_inner c w inner).0 in
-      let same : p.col ≡ p.col + 0 = omega arith in
-      rw (e, b') (ap (λ n. record { rest = c ∷ (w ++ a); position = p; value = record { column = max most n; breaks = b } }) same)
-]
+first_other column (c ∷ w) a most p b h inner le = grind (arith, nat_tests, first_inner, first_other column w a most (past p) b)
 
 -- The search passes what a search up to a column passes that is at least the one it finds.
 first_is_indent : (column : ℕ) (ls : List Line) (last : List ℕ) (most : ℕ) (p : Position) (b : List ℕ) → p.col ≡ 0 → AreLines ls last → is_in_line last ≡ true → max most (deepest_start (texts ls ++ last ∷ [])) ≤ column
@@ -89,12 +77,10 @@ abbrev pub column_for : (indent increment : ℕ) → List Line → List ℕ → 
 column_for indent increment ls last = column_by (digit_by increment) (collection_of indent) (texts ls ++ last ∷ [])
 
 pub least_is : (indent : ℕ) → least_column (collection_of indent) ≡ indent
-least_is zero = refl
-least_is (suc n) = refl
+least_is a = grind (arith, nat_tests)
 
 base_is : (indent : ℕ) → digit_base (collection_of indent) ≡ indent - 1
-base_is zero = refl
-base_is (suc n) = omega arith
+base_is a = grind (arith, nat_tests)
 
 -- The lines before content are passed up to the content column.
 pub content_is : (indent increment : ℕ) (ls : List Line) (last : List ℕ) (p : Position) → p.col ≡ 0 → AreLines ls last → is_in_line last ≡ true

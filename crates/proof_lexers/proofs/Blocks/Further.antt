@@ -1,5 +1,5 @@
 -- Further text ends a block scalar.
-use Rattle.proof_lexers.proofs.Common.{[], and_parts, ap, arith, Bool, cases_Bool, eqb-true, false, indent_from, inl, inr, is_break, is_document_marker, is_further_text, is_outside, Lines, List, lt-ltb, nat_lt, nat_tests, ne_eqb, not, not-true, Ok, past, past_spaces, Position, position_past, refl, suc, sym, true, without_spaces, zero, ℕ, ◌&&◌, ◌+◌, ◌<◌, ◌==◌, ◌∙◌, ◌∷◌, ◌≡◌, ◌≤◌}
+use Rattle.proof_lexers.proofs.Common.{[], and_parts, ap, arith, Bool, cases_Bool, eqb-true, false, indent_from, inl, inr, is_break, is_document_marker, is_further_text, is_outside, Lines, List, lt-ltb, nat_lt, ne_eqb, not, not-true, Ok, past, past_spaces, Position, refl, suc, sym, true, without_spaces, zero, ℕ, ◌&&◌, ◌+◌, ◌<◌, ◌==◌, ◌∙◌, ◌∷◌, ◌≡◌, ◌≤◌}
 use Rattle.defs_text.specs.Classes as classes
 use Rattle.model_scanner.specs.BlockScalar.{begins}
 use Rattle.proof_lexers.proofs.Bridges.{same_break, same_marker}
@@ -23,40 +23,14 @@ pub record Outside (column : ℕ) (next : List ℕ) (p : Position) : Type 0 wher
   pub found : (b : List ℕ) → indent_from column next (at p b) ≡ record { rest = char ∷ rest; position = position; value = record { column = column; breaks = b } }
 
 space_outside : (column c : ℕ) (r : List ℕ) (p : Position) → (c == 32) ≡ true → nat_lt p.col column ≡ true → Outside column r (past p) → Outside column (c ∷ r) p
-space_outside column c r p e deep z =
-    let is : c ≡ 32 = eqb-true c 32 e in
-    record {
-      char = z.char;
-      rest = z.rest;
-      position = z.position;
-      is = rw e (z.is);
-      at_position = rw e (ap (λ x. past_spaces (position_past p x r) r) is ∙ ap (λ q. past_spaces q r) (space_past p r) ∙ z.at_position);
-      solid = z.solid;
-      shallow = z.shallow;
-      margin = z.margin;
-      none = z.none;
-      found = λ b. rw (e, deep) (z.found b);
-    }
+space_outside column c r p e deep z = grind (arith, eqb-true, space_past)
 
 here_outside : (column c : ℕ) (r : List ℕ) (p : Position) → (c == 32) ≡ false → is_break c ≡ false → p.col ≤ column → begins column p.col (c ∷ r) ≡ false → Outside column (c ∷ r) p
-here_outside column c r p e b le none =
-    record {
-      char = c;
-      rest = r;
-      position = p;
-      is = rw e refl;
-      at_position = rw e refl;
-      solid = b;
-      shallow = le;
-      margin = rw e refl;
-      none = none;
-      found = λ x. rw (e, b) refl;
-    }
+here_outside column c r p e b le none = grind arith
 
 before_column : (column : ℕ) (a : List ℕ) (col : ℕ) → col < column → begins column col a ≡ false
 unfolding begins
-before_column column [] col h = refl
-before_column column (c ∷ a) col h = rw (ne_eqb col column (λ e. omega (arith, e, h))) refl
+before_column column b col h = grind (arith, ne_eqb)
 
 pub outside : (n column : ℕ) (r : List ℕ) (p : Position) → p.col + n ≡ column → is_outside n r ≡ true → Outside column r p
 outside zero column r p col h = cc
@@ -68,21 +42,9 @@ outside (suc n) column (c ∷ r) p col h = elim (cases_Bool (c == 32)) [
       here_outside column c r p e (sym (same_break c) ∙ not-true _ q.0) (omega (arith, col)) (before_column column (c ∷ r) p.col (omega (arith, col)))
 ]
 
--- a document marker's first character is neither a break nor a space
-mark : (c d e : ℕ) (r : List ℕ) → is_document_marker (c ∷ d ∷ e ∷ r) ≡ true → (is_break c ≡ false) × ((c == 32) ≡ false)
-unfolding classes.are_marks is_break
-mark c d e r h = (grind (arith, nat_tests), grind (arith, nat_tests))
-
 marked : (r : List ℕ) (p : Position) → p.col ≡ 0 → is_document_marker r ≡ true → Outside 0 r p
-unfolding begins
-marked [] p col h = cc
-marked (c ∷ []) p col h = cc
-marked (c ∷ d ∷ []) p col h = cc
-marked (c ∷ d ∷ e ∷ r) p col h =
-    let m = mark c d e r h in
-    let here = same_marker p.col (c ∷ d ∷ e ∷ r) in
-    let none : begins 0 p.col (c ∷ d ∷ e ∷ r) ≡ false = rw (here, h, col) refl in
-    here_outside 0 c (d ∷ e ∷ r) p m.1 m.0 (omega (arith, col)) none
+unfolding begins classes.are_marks is_break
+marked a p col h = grind (arith, same_marker, begins, here_outside)
 
 pub further_outside : (column : ℕ) (r : List ℕ) (p : Position) → p.col ≡ 0 → is_further_text column r ≡ true → Outside column r p
 further_outside zero r p col h = marked r p col h

@@ -1,5 +1,5 @@
 -- Block scalars' headers are read as what they say.
-use Rattle.proof_lexers.proofs.Common.{[], after_digit, after_sign, after_style, along, and_then, ap, arith, At, begins_with, BlockStyle, Bool, cases_Bool, chomping, chomping_of, clip, comment, digit_of, ends_line, EndsAs, eqb-true, Err, false, folded, further, has_zero, header, header_break, header_end, header_of, HeadersEndAsTheirLineSays, if◌then◌else◌, increment, indicator_of, indicators, indicators_of, inl, inr, is_break, is_in_line, is_rest_of_line, is_sign, IsHeaderRead, IsHeaderRefusal, keep, late_chomping, length, linebreak, List, literal, nat_tests, no_header, None, Ok, Option, or-true, past, past_indicators, Position, Read, reads, refl, refuses, sign_of, slice_index, Some, space, strip, sym, tab, tabbed, true, whole_header, with_chomping, with_indicators, Yes, zero_digit, ℕ, ◌&&◌, ◌++◌, ◌-◌, ◌==◌, ◌∙◌, ◌∷◌, ◌≡◌}
+use Rattle.proof_lexers.proofs.Common.{[], after_digit, after_sign, after_style, along, and_then, ap, arith, At, begins_with, BlockStyle, Bool, cases_Bool, chomping, chomping_of, clip, comment, digit_of, ends_line, EndsAs, Err, false, folded, further, has_zero, header, header_break, header_end, header_of, HeadersEndAsTheirLineSays, if◌then◌else◌, increment, indicator_of, indicators, indicators_of, inl, inr, is_break, is_in_line, is_rest_of_line, is_sign, IsHeaderRead, IsHeaderRefusal, keep, late_chomping, length, linebreak, List, literal, nat_tests, no_header, None, Ok, Option, or-true, past, past_indicators, Position, Read, reads, refl, refuses, sign_of, slice_index, Some, space, strip, sym, tab, tabbed, true, whole_header, with_chomping, with_indicators, Yes, zero_digit, ℕ, ◌++◌, ◌-◌, ◌==◌, ◌∙◌, ◌∷◌, ◌≡◌, eqb-true}
 use Rattle.yaml_chars.specs.Class.{is_digit}
 use Rattle.yaml_tokens.specs.declared.problem.Problem.TheVariants as problem
 use Rattle.yaml_tokens.specs.declared.token.Chomping.TheVariants.{Clip}
@@ -19,12 +19,10 @@ still c h = (grind (arith, nat_tests), grind (arith, nat_tests), grind (arith, n
 -- ---- after a header's line
 
 same_rest : (r : List ℕ) (p q : Position) → (linebreak r p).rest ≡ (linebreak r q).rest
-same_rest [] p q = refl
-same_rest (c ∷ a) p q = elim (cases_Bool ((c == 13) && (slice_index a 0 == 10))) [ inl e ↦ rw e refl | inr e ↦ rw e refl ]
+same_rest a p q = grind arith
 
 same_tab : (a : List ℕ) → (slice_index a 0 == 9) ≡ begins_with tab a
-same_tab [] = refl
-same_tab (c ∷ a) = refl
+same_tab b = grind arith
 
 module _ (start : Position) (style : BlockStyle) (line r : List ℕ) (h : defs.Header) (is : header_of (indicator_of style ∷ line) ≡ Some h) (q : Position) (along_it : along line (past start) ≡ q) where
   at_line_end : ends_line r ≡ true → EndsAs (IsHeaderRead start style line r) (IsHeaderRefusal start style line r) (and_then (header_break start r q) (λ (b : Read Bool). Ok (with_indicators (indicators_of h) b)))
@@ -43,31 +41,41 @@ module _ (start : Position) (style : BlockStyle) (line r : List ℕ) (h : defs.H
 
 -- ---- the indicators
 
--- what a character is before a header's end
-data Kind (c : ℕ) : Type 0 where
-  is_minus : c ≡ 45 → Kind c
-  is_plus : c ≡ 43 → Kind c
-  is_zero : c ≡ 48 → Kind c
-  is_count : (c == 43) ≡ false → (c == 45) ≡ false → is_digit c ≡ true → (c == 48) ≡ false → classes.is_between 49 57 c ≡ true → Kind c
-  is_other : (c == 43) ≡ false → (c == 45) ≡ false → is_digit c ≡ false → (c == 48) ≡ false → classes.is_between 49 57 c ≡ false → Kind c
+-- what a character is where a header's digit may stand
+data Digit (c : ℕ) : Type 0 where
+  is_zero : c ≡ 48 → Digit c
+  count : is_digit c ≡ true → (c == 48) ≡ false → classes.is_between 49 57 c ≡ true → Digit c
+  no_digit : is_digit c ≡ false → (c == 48) ≡ false → classes.is_between 49 57 c ≡ false → Digit c
 
-kind_of : (c : ℕ) → Kind c
+digit_kind : (c : ℕ) → Digit c
 unfolding is_digit
-kind_of c = elim (cases_Bool (c == 45)) [
-  | inl e ↦ is_minus (eqb-true c 45 e)
-  | inr e ↦ elim (cases_Bool (c == 43)) [
-    | inl f ↦ is_plus (eqb-true c 43 f)
-    | inr f ↦ elim (cases_Bool (c == 48)) [
-      | inl g ↦ is_zero (eqb-true c 48 g)
-      | inr g ↦ elim (cases_Bool (classes.is_between 49 57 c)) [ inl h ↦ is_count f e (grind (arith, nat_tests)) g h | inr h ↦ is_other f e (grind (arith, nat_tests)) g h ]
-    ]
+digit_kind c = grind arith
+
+-- what a sign is to both
+record IsSign (c : ℕ) (ch : defs.Chomping) : Type 0 where
+  reads_it : (a : List ℕ) (p : Position) → chomping (c ∷ a) p ≡ record { rest = a; position = past p; value = chomping_of ch }
+  late : (n : Read ℕ) → late_chomping (chomping_of ch) n ≡ record { rest = n.rest; position = n.position; value = record { chomping = chomping_of ch; increment = n.value } }
+  said_so : sign_of c ≡ Some ch
+  is : is_sign c ≡ true
+  no_zero : (c == 48) ≡ false
+
+data Sign (c : ℕ) : Type 0 where
+  sign : (ch : defs.Chomping) → IsSign c ch → Sign c
+  no_sign : (c == 43) ≡ false → (c == 45) ≡ false → Sign c
+
+sign_kind : (c : ℕ) → Sign c
+unfolding chomping sign_of
+sign_kind c = elim (cases_Bool (c == 43)) [
+  | inl e ↦ sign keep (rw (eqb-true c 43 e) (record { reads_it = λ a p. refl; late = λ n. refl; said_so = refl; is = refl; no_zero = refl }))
+  | inr e ↦ elim (cases_Bool (c == 45)) [
+    | inl f ↦ sign strip (rw (eqb-true c 45 f) (record { reads_it = λ a p. refl; late = λ n. refl; said_so = refl; is = refl; no_zero = refl }))
+    | inr f ↦ no_sign e f
   ]
 ]
 
 end_chomping : (r : List ℕ) (p : Position) → ends_line r ≡ true → chomping r p ≡ record { rest = r; position = p; value = Clip }
 unfolding chomping
-end_chomping [] p e = refl
-end_chomping (c ∷ r) p e = let s = still c (sym (same_break c) ∙ e) in rw (s.0, s.1) refl
+end_chomping a p e = grind (arith, still, same_break)
 
 end_increment : (start : Position) (r : List ℕ) (p : Position) → ends_line r ≡ true → increment start r p ≡ Ok (record { rest = r; position = p; value = 0 })
 unfolding increment
@@ -111,14 +119,6 @@ module _ (start : Position) (style : BlockStyle) (r : List ℕ) (ends : ends_lin
 
   -- ---- a sign first
 
-  -- what a sign is to both
-  record IsSign (c : ℕ) (ch : defs.Chomping) : Type 0 where
-    reads_it : (a : List ℕ) (p : Position) → chomping (c ∷ a) p ≡ record { rest = a; position = past p; value = chomping_of ch }
-    late : (n : Read ℕ) → late_chomping (chomping_of ch) n ≡ record { rest = n.rest; position = n.position; value = record { chomping = chomping_of ch; increment = n.value } }
-    said_so : sign_of c ≡ Some ch
-    is : is_sign c ≡ true
-    no_zero : (c == 48) ≡ false
-
   module _ (c : ℕ) (ch : defs.Chomping) (sign : IsSign c ch) where
     sign_said : (l : List ℕ) → header_of (indicator_of style ∷ c ∷ l) ≡ after_sign style ch l
     sign_said l = said (c ∷ l) ∙ rw (sign.said_so) refl
@@ -128,48 +128,23 @@ module _ (start : Position) (style : BlockStyle) (r : List ℕ) (ends : ends_lin
     unfolding indicators
     with_digit l a n p e = rw (sign.reads_it, e) (ap Ok (sign.late (record { rest = a; position = p; value = n })))
 
-    sign_only : Ends (c ∷ [])
-    sign_only = finish (c ∷ []) (c ∷ []) [] (made ch None) refl refl (sign_said []) (sign_said []) (with_digit [] r 0 (past (past start)) (end_increment start r (past (past start)) ends)) (rw (sign.is) refl, rw (sign.no_zero, sign.is) refl)
-
-    sign_other : (d : ℕ) (m : List ℕ) → is_in_line (d ∷ m) ≡ true → is_digit d ≡ false → (d == 48) ≡ false → classes.is_between 49 57 d ≡ false → Ends (c ∷ d ∷ m)
-    unfolding digit_of increment
-    sign_other d m inner e z f =
-        finish (c ∷ d ∷ m) (c ∷ []) (d ∷ m) (made ch None) refl inner (sign_said (d ∷ m) ∙ rw f refl) (sign_said []) (with_digit (d ∷ m) (d ∷ (m ++ r)) 0 (past (past start)) (rw e refl)) (rw (sign.is, f) refl, rw (sign.no_zero, sign.is, z) refl)
-
-    sign_digit : (d : ℕ) (m : List ℕ) → is_in_line m ≡ true → is_digit d ≡ true → (d == 48) ≡ false → classes.is_between 49 57 d ≡ true → Ends (c ∷ d ∷ m)
-    unfolding digit_of increment
-    sign_digit d m inner e f g =
-        finish (c ∷ d ∷ m) (c ∷ d ∷ []) m (made ch (Some (d - 48))) refl inner (sign_said (d ∷ m) ∙ rw g refl) (sign_said (d ∷ []) ∙ rw g refl)
-        (with_digit (d ∷ m) (m ++ r) (d - 48) (past (past (past start))) (rw (e, f) refl)) (rw (sign.is, g) refl, rw (sign.no_zero, sign.is, f) refl)
-
-    sign_zero : (m : List ℕ) → Ends (c ∷ 48 ∷ m)
-    unfolding digit_of indicators classes.is_blank increment is_digit
-    sign_zero m = zero_fails (c ∷ 48 ∷ m) (sign_said (48 ∷ m)) (rw (sign.is) (or-true (c == 48))) (rw (sign.reads_it) refl)
-
     sign_first : (l : List ℕ) → is_in_line l ≡ true → Ends (c ∷ l)
-    unfolding is_digit
-    sign_first [] inner = sign_only
-    sign_first (d ∷ m) inner = elim (kind_of d) [
-      | is_minus e ↦ rw e (sign_other 45 m (rw e at inner) refl refl refl)
-      | is_plus e ↦ rw e (sign_other 43 m (rw e at inner) refl refl refl)
-      | is_zero e ↦ rw e (sign_zero m)
-      | is_count e f g h k ↦ sign_digit d m ((first_inner d m inner).1) g h k
-      | is_other e f g h k ↦ sign_other d m inner g h k
+    unfolding digit_of indicators classes.is_blank increment is_digit
+    sign_first [] inner = finish (c ∷ []) (c ∷ []) [] (made ch None) refl refl (sign_said []) (sign_said []) (with_digit [] r 0 (past (past start)) (end_increment start r (past (past start)) ends)) (rw (sign.is) refl, rw (sign.no_zero, sign.is) refl)
+    sign_first (d ∷ m) inner = elim (digit_kind d) [
+      | is_zero e ↦ rw e (zero_fails (c ∷ 48 ∷ m) (sign_said (48 ∷ m)) (rw (sign.is) (or-true (c == 48))) (rw (sign.reads_it) refl))
+      | count e f g ↦
+          finish (c ∷ d ∷ m) (c ∷ d ∷ []) m (made ch (Some (d - 48))) refl (first_inner d m inner).1 (sign_said (d ∷ m) ∙ rw g refl) (sign_said (d ∷ []) ∙ rw g refl)
+          (with_digit (d ∷ m) (m ++ r) (d - 48) (past (past (past start))) (rw (e, f) refl)) (rw (sign.is, g) refl, rw (sign.no_zero, sign.is, f) refl)
+      | no_digit e z f ↦
+          finish (c ∷ d ∷ m) (c ∷ []) (d ∷ m) (made ch None) refl inner (sign_said (d ∷ m) ∙ rw f refl) (sign_said []) (with_digit (d ∷ m) (d ∷ (m ++ r)) 0 (past (past start)) (rw e refl)) (rw (sign.is, f) refl, rw (sign.no_zero, sign.is, z) refl)
     ]
-
-  minus : IsSign 45 strip
-  unfolding chomping sign_of
-  minus = record { reads_it = λ a p. refl; late = λ n. refl; said_so = refl; is = refl; no_zero = refl }
-
-  plus : IsSign 43 keep
-  unfolding chomping sign_of
-  plus = record { reads_it = λ a p. refl; late = λ n. refl; said_so = refl; is = refl; no_zero = refl }
 
   -- ---- a digit first
 
   module _ (c : ℕ) (no_plus : (c == 43) ≡ false) (no_minus : (c == 45) ≡ false) (is_count_digit : is_digit c ≡ true) (no_zero : (c == 48) ≡ false) (counts : classes.is_between 49 57 c ≡ true) where
-    no_sign : is_sign c ≡ false
-    no_sign = rw (no_plus, no_minus) refl
+    unsigned : is_sign c ≡ false
+    unsigned = rw (no_plus, no_minus) refl
 
     digit_said : (l : List ℕ) → header_of (indicator_of style ∷ c ∷ l) ≡ after_digit style (c - 48) l
     unfolding sign_of digit_of
@@ -180,55 +155,31 @@ module _ (start : Position) (style : BlockStyle) (r : List ℕ) (ends : ends_lin
     unfolding indicators chomping increment
     with_sign l a ch p e = rw (no_plus, no_minus, is_count_digit, no_zero, e) refl
 
-    digit_only : Ends (c ∷ [])
-    digit_only = finish (c ∷ []) (c ∷ []) [] (made clip (Some (c - 48))) refl refl (digit_said []) (digit_said []) (with_sign [] r clip (past (past start)) (end_chomping r (past (past start)) ends)) (rw (no_sign, counts) refl, rw (no_zero, no_sign) refl)
-
-    digit_other : (d : ℕ) (m : List ℕ) → is_in_line (d ∷ m) ≡ true → (d == 43) ≡ false → (d == 45) ≡ false → Ends (c ∷ d ∷ m)
-    unfolding sign_of chomping
-    digit_other d m inner e f =
-        finish (c ∷ d ∷ m) (c ∷ []) (d ∷ m) (made clip (Some (c - 48))) refl inner (digit_said (d ∷ m) ∙ rw (f, e) refl) (digit_said []) (with_sign (d ∷ m) (d ∷ (m ++ r)) clip (past (past start)) (rw (e, f) refl)) (rw (no_sign, counts, e, f) refl, rw (no_zero, no_sign) refl)
-
-    digit_sign : (d : ℕ) (ch : defs.Chomping) (m : List ℕ) → is_in_line m ≡ true → IsSign d ch → Ends (c ∷ d ∷ m)
-    digit_sign d ch m inner sign =
-        finish (c ∷ d ∷ m) (c ∷ d ∷ []) m (made ch (Some (c - 48))) refl inner (digit_said (d ∷ m) ∙ rw (sign.said_so) refl) (digit_said (d ∷ []) ∙ rw (sign.said_so) refl) (with_sign (d ∷ m) (m ++ r) ch (past (past (past start))) (sign.reads_it (m ++ r) (past (past start)))) (rw (no_sign, counts, sign.is) refl, rw (no_zero, no_sign) refl)
-
     digit_first : (l : List ℕ) → is_in_line l ≡ true → Ends (c ∷ l)
-    digit_first [] inner = digit_only
-    digit_first (d ∷ m) inner = elim (kind_of d) [
-      | is_minus e ↦ rw e (digit_sign 45 strip m ((first_inner d m inner).1) minus)
-      | is_plus e ↦ rw e (digit_sign 43 keep m ((first_inner d m inner).1) plus)
-      | is_zero e ↦ rw e (digit_other 48 m (rw e at inner) refl refl)
-      | is_count e f g h k ↦ digit_other d m inner e f
-      | is_other e f g h k ↦ digit_other d m inner e f
+    unfolding sign_of chomping
+    digit_first [] inner = finish (c ∷ []) (c ∷ []) [] (made clip (Some (c - 48))) refl refl (digit_said []) (digit_said [])
+        (with_sign [] r clip (past (past start)) (end_chomping r (past (past start)) ends)) (rw (unsigned, counts) refl, rw (no_zero, unsigned) refl)
+    digit_first (d ∷ m) inner = elim (sign_kind d) [
+      | sign ch is ↦
+          finish (c ∷ d ∷ m) (c ∷ d ∷ []) m (made ch (Some (c - 48))) refl (first_inner d m inner).1 (digit_said (d ∷ m) ∙ rw (is.said_so) refl) (digit_said (d ∷ []) ∙ rw (is.said_so) refl)
+          (with_sign (d ∷ m) (m ++ r) ch (past (past (past start))) (is.reads_it (m ++ r) (past (past start)))) (rw (unsigned, counts, is.is) refl, rw (no_zero, unsigned) refl)
+      | no_sign e f ↦
+          finish (c ∷ d ∷ m) (c ∷ []) (d ∷ m) (made clip (Some (c - 48))) refl inner (digit_said (d ∷ m) ∙ rw (f, e) refl) (digit_said [])
+          (with_sign (d ∷ m) (d ∷ (m ++ r)) clip (past (past start)) (rw (e, f) refl)) (rw (unsigned, counts, e, f) refl, rw (no_zero, unsigned) refl)
     ]
 
   -- ---- neither
 
-  no_indicator : (l : List ℕ) → indicators start (l ++ r) (past start) ≡ Ok (record { rest = l ++ r; position = past start; value = indicators_of (made clip None) })
-      → is_in_line l ≡ true → header_of (indicator_of style ∷ l) ≡ (if is_rest_of_line l then Some (made clip None) else None) → EndsBefore l l → Ends l
-  no_indicator l e inner is before_it = finish l [] l (made clip None) refl inner is (said []) e before_it
-
-  empty_line : Ends []
-  unfolding indicators
-  empty_line = no_indicator [] (rw (end_chomping r (past start) ends, end_increment start r (past start) ends) (ap (λ x. Ok (with_chomping 0 x)) (end_chomping r (past start) ends))) refl (said []) (refl, refl)
-
-  other_first : (c : ℕ) (l : List ℕ) → is_in_line (c ∷ l) ≡ true → (c == 43) ≡ false → (c == 45) ≡ false → is_digit c ≡ false → (c == 48) ≡ false → classes.is_between 49 57 c ≡ false → Ends (c ∷ l)
-  unfolding indicators sign_of digit_of chomping increment
-  other_first c l inner e f g z h =
-      no_indicator (c ∷ l) (rw (e, f, g, e, f) refl) inner (said (c ∷ l) ∙ rw (f, e, h) refl) (rw (e, f, h) refl, rw (z, e, f) refl)
-
-  zero_first : (l : List ℕ) → Ends (48 ∷ l)
-  unfolding indicators sign_of digit_of classes.is_blank chomping increment is_digit
-  zero_first l = zero_fails (48 ∷ l) (said (48 ∷ l)) refl refl
-
   of_line : (l : List ℕ) → is_in_line l ≡ true → Ends l
-  of_line [] inner = empty_line
-  of_line (c ∷ l) inner = elim (kind_of c) [
-    | is_minus e ↦ rw e (sign_first 45 strip minus l ((first_inner c l inner).1))
-    | is_plus e ↦ rw e (sign_first 43 keep plus l ((first_inner c l inner).1))
-    | is_zero e ↦ rw e (zero_first l)
-    | is_count e f g h k ↦ digit_first c e f g h k l ((first_inner c l inner).1)
-    | is_other e f g h k ↦ other_first c l inner e f g h k
+  unfolding indicators sign_of digit_of chomping increment is_digit classes.is_blank
+  of_line [] inner = finish [] [] [] (made clip None) refl refl (said []) (said []) (rw (end_chomping r (past start) ends, end_increment start r (past start) ends) (ap (λ x. Ok (with_chomping 0 x)) (end_chomping r (past start) ends))) (refl, refl)
+  of_line (c ∷ l) inner = elim (sign_kind c) [
+    | sign ch is ↦ sign_first c ch is l (first_inner c l inner).1
+    | no_sign e f ↦ elim (digit_kind c) [
+      | is_zero g ↦ rw g (zero_fails (48 ∷ l) (said (48 ∷ l)) refl refl)
+      | count g h k ↦ digit_first c e f g h k l (first_inner c l inner).1
+      | no_digit g z h ↦ finish (c ∷ l) [] (c ∷ l) (made clip None) refl inner (said (c ∷ l) ∙ rw (f, e, h) refl) (said []) (rw (e, f, g, e, f) refl) (rw (e, f, h) refl, rw (z, e, f) refl)
+    ]
   ]
 
 pub headers_end : HeadersEndAsTheirLineSays

@@ -1,5 +1,5 @@
 -- What the model does before content: spaces and breaks.
-use Rattle.proof_lexers.proofs.Common.{[], along, and_parts, ap, append-nil, arith, BlockState, Bool, cases_Bool, Column, indent_from, inl, inr, is_break, is_cr_lf, is_spaces, length, Lines, lines_from, List, lt-ltb, Margin, margin, nat_lt, past, past_break, Position, Read, refl, sym, true, ℕ, ◌&&◌, ◌++◌, ◌+◌, ◌==◌, ◌∙◌, ◌∷◌, ◌≡◌, ◌≤◌}
+use Rattle.proof_lexers.proofs.Common.{[], along, and_parts, ap, append-nil, arith, BlockState, Bool, indent_from, is_break, is_spaces, length, Lines, lines_from, List, lt-ltb, Margin, margin, nat_lt, past, past_break, Position, refl, sym, true, ℕ, ◌++◌, ◌+◌, ◌==◌, ◌∙◌, ◌∷◌, ◌≡◌, ◌≤◌}
 use Rattle.proof_lexers.proofs.Blocks.Written.{Break, feed, carriage, both, Line, put, Fits}
 
 -- the position after a break
@@ -36,15 +36,7 @@ before p l b = record { mode = margin; position = p; lines = record l { breaks =
 pub margin_passes : (literal : Bool) (column : ℕ) (a : List ℕ) (p : Position) (l : Lines) (b : List ℕ)
     → lines_from literal column a (before p l b) ≡ lines_from literal column (indent_from column a (at p b)).rest (before (indent_from column a (at p b)).position l (indent_from column a (at p b)).value.breaks)
 margin_passes literal column [] p l b = refl
-margin_passes literal column (c ∷ a) p l b = elim (cases_Bool ((c == 32) && nat_lt p.col column)) [
-  | inl e ↦ rw e (margin_passes literal column a (past p) l b)
-  | inr e ↦ elim (cases_Bool (is_break c)) [
-    | inl g ↦ elim (cases_Bool (is_cr_lf c a)) [ inl h ↦ rw (e, g, h) (margin_passes literal column a (past p) l b) | inr h ↦ rw (e, g, h) (margin_passes literal column a (past_break p) l (b ++ 10 ∷ [])) ]
-    | inr g ↦
-        let stops : indent_from column (c ∷ a) (at p b) ≡ record { rest = c ∷ a; position = p; value = record { column = column; breaks = b } } = rw (e, g) refl in
-        ap (λ (r : Read Column). lines_from literal column r.rest (before r.position l r.value.breaks)) (sym stops)
-  ]
-]
+margin_passes literal column (c ∷ a) p l b = grind (arith, margin_passes literal column a (past p) l b, margin_passes literal column a (past p) l b, margin_passes literal column a (past_break p) l (b ++ 10 ∷ []))
 
 -- ---- spaces
 
@@ -61,9 +53,7 @@ col_along (c ∷ w) p = col_along w (past p) ∙ omega arith
 
 at_break : (column : ℕ) (k : Break) (a : List ℕ) (p : Position) (b : List ℕ) → Fits k a → indent_from column (put k a) (at p b) ≡ indent_from column a (at (after_break k p) (b ++ 10 ∷ []))
 unfolding is_break
-at_break column feed a p b fits = refl
-at_break column carriage a p b fits = rw fits refl
-at_break column both a p b fits = refl
+at_break column d a p b fits = grind arith
 
 -- a line of spaces that ends at the column or before it
 pub empty_passes : (column : ℕ) (l : Line) (a : List ℕ) (p : Position) (b : List ℕ) → is_spaces l.text ≡ true → p.col + length l.text ≤ column → Fits l.by a

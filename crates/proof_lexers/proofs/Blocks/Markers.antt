@@ -1,5 +1,5 @@
 -- A document marker is seen alike in a line and in the text that begins with the line.
-use Rattle.proof_lexers.proofs.Common.{[], arith, at_marker, ends_line, false, is_document_marker, List, nat_tests, or-true, refl, true, ℕ, ◌&&◌, ◌++◌, ◌==◌, ◌∙◌, ◌∷◌, ◌≡◌}
+use Rattle.proof_lexers.proofs.Common.{arith, at_marker, ends_line, false, is_document_marker, List, nat_tests, or-true, refl, true, ℕ, ◌&&◌, ◌++◌, ◌==◌, ◌∙◌, ◌≡◌}
 use Rattle.defs_text.specs.Classes as classes
 use Rattle.proof_lexers.proofs.Bridges.{and_false, same_marker}
 
@@ -13,18 +13,7 @@ break_is_gap c h = rw (h, or-true (classes.is_blank c)) refl
 
 pub line_marker : (w r : List ℕ) → ends_line r ≡ true → is_document_marker (w ++ r) ≡ is_document_marker w
 unfolding classes.are_marks
-line_marker [] [] h = refl
-line_marker [] (x ∷ []) h = refl
-line_marker [] (x ∷ y ∷ []) h = refl
-line_marker [] (x ∷ y ∷ z ∷ r) h = let n = break_is_none x h in rw (n.0, n.1) refl
-line_marker (c ∷ []) [] h = refl
-line_marker (c ∷ []) (x ∷ []) h = refl
-line_marker (c ∷ []) (x ∷ y ∷ r) h = let n = break_is_none x h in rw (n.0, n.1, and_false (c == 45), and_false (c == 46)) refl
-line_marker (c ∷ d ∷ []) [] h = refl
-line_marker (c ∷ d ∷ []) (x ∷ r) h = let n = break_is_none x h in rw (n.0, n.1, and_false ((c == 45) && (d == 45)), and_false ((c == 46) && (d == 46))) refl
-line_marker (c ∷ d ∷ e ∷ []) [] h = refl
-line_marker (c ∷ d ∷ e ∷ []) (x ∷ r) h = rw (break_is_gap x h) refl
-line_marker (c ∷ d ∷ e ∷ f ∷ w) r h = refl
+line_marker a r h = grind (arith, break_is_none, and_false, break_is_gap)
 
 pub marker_in_line : (col : ℕ) (w r : List ℕ) → ends_line r ≡ true → at_marker col (w ++ r) ≡ ((col == 0) && is_document_marker w)
 marker_in_line col w r h = same_marker col (w ++ r) ∙ rw (line_marker w r h) refl

@@ -1,10 +1,11 @@
 -- Each piece that is a block scalar is read as it.
-use Rattle.proof_lexers.proofs.Common.{[], and_parts, ap, append-nil, begins_with, block, BlockPiecesAreRead, BlockRead, Body, body, Bool, collection_of, column_by, digit_by, digit_or_zero, false, further_is_no_break, further_text, header_of, indent_from, indicator_of, input_ends, is_at_end, is_further_text, is_in_line, is_literal_style, is_single, is_some, is_tabbed, IsRead, List, list_all, None, not, not-true, Option, Position, read_body, read_lines, read_split, refl, refuses, Row, row_of, rows_of, slice_index, Some, Split, split, starts_with_tab, subst, sym, tab, true, unbroken, value_before_end, value_before_text, ℕ, ◌&&◌, ◌++◌, ◌==◌, ◌∙◌, ◌∷◌, ◌≡◌}
+use Rattle.proof_lexers.proofs.Common.{[], and_parts, ap, append-nil, begins_with, block, BlockPiecesAreRead, BlockRead, Body, body, Bool, collection_of, column_by, digit_by, digit_or_zero, false, further_is_no_break, further_text, header_of, indent_from, indicator_of, input_ends, is_at_end, is_further_text, is_in_line, is_literal_style, is_single, is_some, is_tabbed, IsRead, List, list_all, None, not, not-true, Option, Position, read_body, read_lines, read_split, refl, refuses, Row, row_of, rows_of, slice_index, Some, Split, split, starts_with_tab, subst, sym, tab, true, unbroken, value_before_end, value_before_text, ℕ, ◌&&◌, ◌++◌, ◌==◌, ◌∙◌, ◌∷◌, ◌≡◌, arith, if◌then◌else◌, nat_tests}
 use Rattle.defs_text.specs.Classes as classes
+use Rattle.defs_token.specs.BlockPiece.{with_value}
 use Rattle.defs_text.specs.BlockScalar as defs
 use Rattle.proof_lexers.specs.BlockScan.{tabbed}
 use Rattle.proof_lexers.proofs.Blocks.InLine.{first_inner}
-use Rattle.proof_lexers.proofs.Blocks.Written.{Break, feed, carriage, both, Line, put, spell, texts, Fits, AreLines, lined, split_spell}
+use Rattle.proof_lexers.proofs.Blocks.Written.{Break, Line, put, spell, texts, Fits, AreLines, lined, split_spell}
 use Rattle.proof_lexers.proofs.Blocks.Margins.{at, after_lines, lines_front}
 use Rattle.proof_lexers.proofs.Blocks.Positions.{spell_more}
 use Rattle.proof_lexers.proofs.Blocks.Rows.{row_is}
@@ -12,17 +13,15 @@ use Rattle.proof_lexers.proofs.Blocks.Further.{further_outside}
 use Rattle.proof_lexers.proofs.Blocks.HeaderFacts.{said}
 use Rattle.proof_lexers.proofs.Blocks.Columns.{spell_append, are_append, first_before, same_column}
 use Rattle.proof_lexers.proofs.Blocks.Scans.{style_inner, start, after, block_is, tab_fails, before_further, before_the_end, header_alone_is_read}
+use Rattle.defs_text.specs.BlockScalar.{value_at_end, value_at_text}
 
 -- ---- a TAB after the header
 
 tab_put : (k : Break) (a : List ℕ) → begins_with tab (put k a) ≡ false
-tab_put feed a = refl
-tab_put carriage a = refl
-tab_put both a = refl
+tab_put b a = grind (arith, nat_tests)
 
 pub tab_line : (w a : List ℕ) (k : Break) (ls : List (List ℕ)) → begins_with tab (w ++ put k a) ≡ starts_with_tab (w ∷ ls)
-tab_line [] a k ls = tab_put k a
-tab_line (c ∷ w) a k ls = refl
+tab_line b a k ls = grind (arith, nat_tests, tab_put)
 
 pub tab_whole : (ls : List Line) (e : List ℕ) → begins_with tab (spell ls e) ≡ starts_with_tab (texts ls ++ e ∷ [])
 tab_whole [] [] = refl
@@ -32,34 +31,25 @@ tab_whole (l ∷ ls) e = tab_line l.text (spell ls e) l.by (texts ls ++ e ∷ []
 -- ---- further text begins with no line feed, and is not the end
 
 no_feed : (column : ℕ) (r : List ℕ) → is_further_text column r ≡ true → (slice_index r 0 == 10) ≡ false
-no_feed column r h = by r (further_is_no_break column r h)
-  where
-    by : (r : List ℕ) → begins_with 10 r ≡ false → (slice_index r 0 == 10) ≡ false
-    by [] e = refl
-    by (c ∷ r) e = e
+no_feed column r h = grind (arith, nat_tests, further_is_no_break)
 
--- a break stays one before further text
-fits_put : (k m : Break) (a b : List ℕ) → Fits k (put m a) → Fits k (put m b)
-fits_put feed m a b h = tt
-fits_put both m a b h = tt
-fits_put carriage feed a b h = h
-fits_put carriage carriage a b h = refl
-fits_put carriage both a b h = refl
+-- whether a CR is a break alone goes by the character after it
+pub fits_alone : (k : Break) → Fits k []
+fits_alone a = grind arith
 
-fits_line : (k : Break) (w : List ℕ) (m : Break) (a b : List ℕ) → Fits k (w ++ put m a) → Fits k (w ++ put m b)
-fits_line k [] m a b h = fits_put k m a b h
-fits_line feed (c ∷ w) m a b h = tt
-fits_line carriage (c ∷ w) m a b h = h
-fits_line both (c ∷ w) m a b h = tt
+fits_same : (k : Break) (a b : List ℕ) → (slice_index a 0 == 10) ≡ (slice_index b 0 == 10) → Fits k a → Fits k b
+fits_same d a b e h = grind (arith, nat_tests)
 
 fits_next : (k : Break) (next : List ℕ) → (slice_index next 0 == 10) ≡ false → Fits k next
-fits_next feed next h = tt
-fits_next carriage next h = h
-fits_next both next h = tt
+fits_next k next h = fits_same k [] next (sym h) (fits_alone k)
+
+same_first : (w : List ℕ) (m : Break) (a b : List ℕ) → (slice_index (w ++ put m a) 0 == 10) ≡ (slice_index (w ++ put m b) 0 == 10)
+same_first [] m a b = grind arith
+same_first (c ∷ w) m a b = refl
 
 pub fits_before : (k : Break) (ls : List Line) (a b : List ℕ) → Fits k b → Fits k (spell ls a) → Fits k (spell ls b)
 fits_before k [] a b fits h = fits
-fits_before k (l ∷ ls) a b fits h = fits_line k l.text l.by (spell ls a) (spell ls b) h
+fits_before k (l ∷ ls) a b fits h = fits_same k _ _ (same_first l.text l.by (spell ls a) (spell ls b)) h
 
 pub are_before : (ls : List Line) (a b : List ℕ) → ((k : Break) → Fits k b) → AreLines ls a → AreLines ls b
 are_before [] a b fits are = tt
@@ -77,99 +67,88 @@ whole_column digit indent ls ns e column are inner same further =
 
 module _ (indent : ℕ) (p : Position) (next : List ℕ) where
   -- what a piece before further text is
-  record Before (h : defs.Header) (ls : List Line) (b : BlockRead) : Type 0 where
-    rows : List Row
-    tabless : starts_with_tab (texts ls) ≡ false
-    are_rows : rows_of (column_by h.digit (collection_of indent) (texts ls)) (texts ls) ≡ Some rows
-    further : is_further_text (column_by h.digit (collection_of indent) (texts ls)) next ≡ true
-    value : record { style = h.style; column = column_by h.digit (collection_of indent) (texts ls); text = value_before_text h rows } ≡ b
+  data Before (h : defs.Header) (ls : List Line) (b : BlockRead) : Type 0 where
+    is_before : (rows : List Row) → starts_with_tab (texts ls) ≡ false → rows_of (column_by h.digit (collection_of indent) (texts ls)) (texts ls) ≡ Some rows → is_further_text (column_by h.digit (collection_of indent) (texts ls)) next ≡ true
+        → record { style = h.style; column = column_by h.digit (collection_of indent) (texts ls); text = value_before_text h rows } ≡ b → Before h ls b
 
   before : (h : defs.Header) (ls : List Line) (b : BlockRead) → is_at_end next ≡ false → read_body (Some h) (collection_of indent) (body (texts ls) further_text) next ≡ Some b → Before h ls b
-  before h ls b some e = by (is_further_text K next) (starts_with_tab (texts ls)) (rows_of K (texts ls)) refl refl refl
+  before h ls b some e = by _ _ _ refl refl refl (rw some at e)
     where
       K : ℕ
       K = column_by h.digit (collection_of indent) (texts ls)
 
-      by : (f t : Bool) (o : Option (List Row)) → is_further_text K next ≡ f → starts_with_tab (texts ls) ≡ t → rows_of K (texts ls) ≡ o → Before h ls b
-      by false t o x y z = let no : None ≡ Some b = rw (some, x) at e in cc
-      by true true o x y z = let no : None ≡ Some b = rw (some, x, y) at e in cc
-      by true false None x y z = let no : None ≡ Some b = rw (some, x, y, z) at e in cc
-      by true false (Some rs) x y z =
-          let one : Some (record { style = h.style; column = K; text = value_before_text h rs }) ≡ Some b = rw (some, x, y, z) at e in
-          record { rows = rs; tabless = y; are_rows = z; further = x; value = cc }
+      by : (f t : Bool) (o : Option (List Row)) → is_further_text K next ≡ f → starts_with_tab (texts ls) ≡ t → rows_of K (texts ls) ≡ o → (if f then with_value h K (if t then None else value_at_text h o) else None) ≡ Some b → Before h ls b
+      by false t o x y z e = cc
+      by true true o x y z e = cc
+      by true false None x y z e = cc
+      by true false (Some rs) x y z e = is_before rs y z x cc
 
   module _ (h : defs.Header) (line : List ℕ) (k : Break) (ls : List Line) (b : BlockRead) (is : header_of (indicator_of h.style ∷ line) ≡ Some h) (digit : digit_by (digit_or_zero h.digit) ≡ h.digit) (inner : is_in_line line ≡ true)
-      (fits : Fits k (spell ls [])) (are : AreLines ls []) (not_end : is_at_end next ≡ false) (z : Before h ls b) where
+      (fits : Fits k (spell ls [])) (are : AreLines ls []) (not_end : is_at_end next ≡ false)
+      (rows : List Row) (tabless : starts_with_tab (texts ls) ≡ false) (are_rows : rows_of (column_by h.digit (collection_of indent) (texts ls)) (texts ls) ≡ Some rows) (further : is_further_text (column_by h.digit (collection_of indent) (texts ls)) next ≡ true)
+      (value : record { style = h.style; column = column_by h.digit (collection_of indent) (texts ls); text = value_before_text h rows } ≡ b) where
     abbrev column_here : ℕ
     column_here = column_by h.digit (collection_of indent) (texts ls)
 
     free : (slice_index next 0 == 10) ≡ false
-    free = no_feed column_here next z.further
+    free = no_feed column_here next further
 
-    cut_of : (ls : List Line) → Fits k (spell ls []) → AreLines ls [] → split (indicator_of h.style ∷ (line ++ put k (spell ls []))) ≡ record { complete = (indicator_of h.style ∷ line) ∷ texts ls; last = [] }
-    cut_of ls fits are = split_spell (record { text = indicator_of h.style ∷ line; by = k } ∷ ls) [] (style_inner h.style line inner, fits, are) refl
-
-    no_tab : (ls : List Line) → Fits k (spell ls []) → AreLines ls [] → begins_with tab (spell ls next) ≡ false → is_tabbed (indicator_of h.style ∷ (line ++ put k (spell ls []))) next ≡ false
-    no_tab [] fits are e = ap (λ (s : Split). is_single s.complete && begins_with tab next) (cut_of [] fits are) ∙ e
-    no_tab (l ∷ ls) fits are e = ap (λ (s : Split). is_single s.complete && begins_with tab next) (cut_of (l ∷ ls) fits are)
-
-    text_here : (t : Bool) → begins_with tab (spell ls next) ≡ t → IsRead indent p (record { style = h.style; column = column_here; text = value_before_text h z.rows }) (indicator_of h.style ∷ (line ++ put k (spell ls []))) next (block (is_literal_style h.style) indent (indicator_of h.style ∷ (line ++ put k (spell ls next))) p)
-    text_here true e = refuses _ (tabbed (first_tab ls fits are z.tabless e)) (tab_fails h line k indent p is digit inner (spell ls next) (fits_before k ls [] next (fits_next k next free) fits) e)
+    tabbed_is : (ls : List Line) → Fits k (spell ls []) → AreLines ls [] → starts_with_tab (texts ls) ≡ false → is_tabbed (indicator_of h.style ∷ (line ++ put k (spell ls []))) next ≡ begins_with tab (spell ls next)
+    tabbed_is ls fits are free =
+        ap (λ (s : Split). is_single s.complete && begins_with tab next) (split_spell (record { text = indicator_of h.style ∷ line; by = k } ∷ ls) [] (style_inner h.style line inner, fits, are) refl) ∙ of_lines ls free
       where
-        first_tab : (ls : List Line) → Fits k (spell ls []) → AreLines ls [] → starts_with_tab (texts ls) ≡ false → begins_with tab (spell ls next) ≡ true → is_tabbed (indicator_of h.style ∷ (line ++ put k (spell ls []))) next ≡ true
-        first_tab [] fits are f g = ap (λ (s : Split). is_single s.complete && begins_with tab next) (cut_of [] fits are) ∙ g
-        first_tab (l ∷ ls) fits are f g = let no : false ≡ true = sym f ∙ sym (tab_line l.text (spell ls next) l.by (texts ls)) ∙ g in cc
+        of_lines : (ls : List Line) → starts_with_tab (texts ls) ≡ false → (is_single ((indicator_of h.style ∷ line) ∷ texts ls) && begins_with tab next) ≡ begins_with tab (spell ls next)
+        of_lines [] free = refl
+        of_lines (l ∷ ls) free = sym free ∙ sym (tab_line l.text (spell ls next) l.by (texts ls))
+
+    text_here : (t : Bool) → begins_with tab (spell ls next) ≡ t → IsRead indent p (record { style = h.style; column = column_here; text = value_before_text h rows }) (indicator_of h.style ∷ (line ++ put k (spell ls []))) next (block (is_literal_style h.style) indent (indicator_of h.style ∷ (line ++ put k (spell ls next))) p)
+    text_here true e = refuses _ (tabbed (tabbed_is ls fits are tabless ∙ e)) (tab_fails h line k indent p is digit inner (spell ls next) (fits_before k ls [] next (fits_next k next free) fits) e)
     text_here false e =
         let y = lined next in
         let same : spell (ls ++ y.lines) y.last ≡ spell ls next = spell_append ls y.lines y.last ∙ ap (spell ls) (sym y.is) in
         let fits_there : Fits k (spell ls next) = fits_before k ls [] next (fits_next k next free) fits in
         let are_next : AreLines ls next = are_before ls [] next (λ k. fits_next k next free) are in
         let are_first : AreLines ls (spell y.lines y.last) = subst (AreLines ls) y.is are_next in
-        let here : is_further_text column_here (spell y.lines y.last) ≡ true = ap (is_further_text column_here) (sym y.is) ∙ z.further in
+        let here : is_further_text column_here (spell y.lines y.last) ≡ true = ap (is_further_text column_here) (sym y.is) ∙ further in
         let found : block (is_literal_style h.style) indent (indicator_of h.style ∷ (line ++ put k (spell ls next))) p ≡ _ =
         ap (λ a. block (is_literal_style h.style) indent (indicator_of h.style ∷ (line ++ put k a)) p) (sym same)
         ∙ block_is h line k indent p is digit inner (ls ++ y.lines) y.last column_here (whole_column h.digit indent ls y.lines y.last column_here y.are y.inner refl here) (are_append ls y.lines y.last are_first y.are) y.inner (rw same fits_there) (rw same e)
         ∙ ap (λ a. after h line k indent p is digit inner (indent_from column_here a (at (start h line k indent p is digit inner) []))) same in
-        before_further h line k indent p is digit inner column_here ls next z.rows are_next fits_there are fits z.are_rows not_end (no_tab ls fits are e) found
-        (further_outside column_here next (after_lines ls (start h line k indent p is digit inner)) (lines_front ls (start h line k indent p is digit inner) refl) z.further)
+        before_further h line k indent p is digit inner column_here ls next rows are_next fits_there are fits are_rows not_end (tabbed_is ls fits are tabless ∙ e) found
+        (further_outside column_here next (after_lines ls (start h line k indent p is digit inner)) (lines_front ls (start h line k indent p is digit inner) refl) further)
 
     further_read : IsRead indent p b (indicator_of h.style ∷ (line ++ put k (spell ls []))) next (block (is_literal_style b.style) indent ((indicator_of h.style ∷ (line ++ put k (spell ls []))) ++ next) p)
     further_read =
         let cut : (indicator_of h.style ∷ (line ++ put k (spell ls []))) ++ next ≡ indicator_of h.style ∷ (line ++ put k (spell ls next)) = spell_more (record { text = indicator_of h.style ∷ line; by = k } ∷ ls) [] next in
-        rw (cut, ← z.value) (text_here (begins_with tab (spell ls next)) refl)
+        rw (cut, ← value) (text_here (begins_with tab (spell ls next)) refl)
 
 -- ---- at the end of the text
 
 module _ (indent : ℕ) (p : Position) where
-  record AtEnd (h : defs.Header) (ls : List Line) (last : List ℕ) (b : BlockRead) : Type 0 where
-    rows : List Row
-    row : Row
-    tabless : starts_with_tab (texts ls ++ last ∷ []) ≡ false
-    are_rows : rows_of (column_by h.digit (collection_of indent) (texts ls ++ last ∷ [])) (texts ls) ≡ Some rows
-    last_row : row_of (column_by h.digit (collection_of indent) (texts ls ++ last ∷ [])) last ≡ Some row
-    value : record { style = h.style; column = column_by h.digit (collection_of indent) (texts ls ++ last ∷ []); text = value_before_end h (column_by h.digit (collection_of indent) (texts ls ++ last ∷ [])) rows last row } ≡ b
+  data AtEnd (h : defs.Header) (ls : List Line) (last : List ℕ) (b : BlockRead) : Type 0 where
+    is_at_end_of : (rows : List Row) (row : Row) → starts_with_tab (texts ls ++ last ∷ []) ≡ false → rows_of (column_by h.digit (collection_of indent) (texts ls ++ last ∷ [])) (texts ls) ≡ Some rows
+        → row_of (column_by h.digit (collection_of indent) (texts ls ++ last ∷ [])) last ≡ Some row
+        → record { style = h.style; column = column_by h.digit (collection_of indent) (texts ls ++ last ∷ []); text = value_before_end h (column_by h.digit (collection_of indent) (texts ls ++ last ∷ [])) rows last row } ≡ b → AtEnd h ls last b
 
   at_the_end : (h : defs.Header) (ls : List Line) (last : List ℕ) (b : BlockRead) → read_body (Some h) (collection_of indent) (body (texts ls) (unbroken last)) [] ≡ Some b → AtEnd h ls last b
-  at_the_end h ls last b e = by (starts_with_tab (texts ls ++ last ∷ [])) (rows_of K (texts ls)) (row_of K last) refl refl refl
+  at_the_end h ls last b e = by _ _ _ refl refl refl e
     where
       K : ℕ
       K = column_by h.digit (collection_of indent) (texts ls ++ last ∷ [])
 
-      by : (t : Bool) (o : Option (List Row)) (u : Option Row) → starts_with_tab (texts ls ++ last ∷ []) ≡ t → rows_of K (texts ls) ≡ o → row_of K last ≡ u → AtEnd h ls last b
-      by true o u x y z = let no : None ≡ Some b = rw x at e in cc
-      by false None u x y z = let no : None ≡ Some b = rw (x, y) at e in cc
-      by false (Some rs) None x y z = let no : None ≡ Some b = rw (x, y, z) at e in cc
-      by false (Some rs) (Some r) x y z =
-          let one : Some (record { style = h.style; column = K; text = value_before_end h K rs last r }) ≡ Some b = rw (x, y, z) at e in
-          record { rows = rs; row = r; tabless = x; are_rows = y; last_row = z; value = cc }
+      by : (t : Bool) (o : Option (List Row)) (u : Option Row) → starts_with_tab (texts ls ++ last ∷ []) ≡ t → rows_of K (texts ls) ≡ o → row_of K last ≡ u → with_value h K (if t then None else value_at_end h K last o u) ≡ Some b → AtEnd h ls last b
+      by true o u x y z e = cc
+      by false None u x y z e = cc
+      by false (Some rs) None x y z e = cc
+      by false (Some rs) (Some r) x y z e = is_at_end_of rs r x y z cc
 
   end_read : (h : defs.Header) (line : List ℕ) (k : Break) (ls : List Line) (last : List ℕ) (b : BlockRead) → header_of (indicator_of h.style ∷ line) ≡ Some h → digit_by (digit_or_zero h.digit) ≡ h.digit → is_in_line line ≡ true
       → Fits k (spell ls last) → AreLines ls last → is_in_line last ≡ true → AtEnd h ls last b
       → IsRead indent p b (indicator_of h.style ∷ (line ++ put k (spell ls last))) [] (block (is_literal_style b.style) indent ((indicator_of h.style ∷ (line ++ put k (spell ls last))) ++ []) p)
-  end_read h line k ls last b is digit inner fits are last_inner z =
+  end_read h line k ls last b is digit inner fits are last_inner (is_at_end_of rows row tabless are_rows last_row value) =
       let K = column_by h.digit (collection_of indent) (texts ls ++ last ∷ []) in
-      let found = block_is h line k indent p is digit inner ls last K refl are last_inner fits (tab_whole ls last ∙ z.tabless) in
-      rw (append-nil, ← z.value) (before_the_end h line k indent p is digit inner K ls last z.rows are last_inner fits z.are_rows found z.row (row_is K last z.row z.last_row))
+      let found = block_is h line k indent p is digit inner ls last K refl are last_inner fits (tab_whole ls last ∙ tabless) in
+      rw (append-nil, ← value) (before_the_end h line k indent p is digit inner K ls last rows are last_inner fits are_rows found row (row_is K last row last_row))
 
 -- ---- each piece
 
@@ -181,14 +160,10 @@ unfolding classes.is_nul
 some_next d n h = not-true _ ((and_parts (not (d == 0)) (list_all is_some n) h).0)
 
 -- a piece's first line is a header
-record Headed (indent : ℕ) (w : List ℕ) (content : Body) (next : List ℕ) (b : BlockRead) : Type 0 where
-  header : defs.Header
-  line : List ℕ
-  cut : w ≡ indicator_of header.style ∷ line
-  is : header_of (indicator_of header.style ∷ line) ≡ Some header
-  digit : digit_by (digit_or_zero header.digit) ≡ header.digit
-  inner : is_in_line line ≡ true
-  value : read_body (Some header) (collection_of indent) content next ≡ Some b
+data Headed (indent : ℕ) (w : List ℕ) (content : Body) (next : List ℕ) (b : BlockRead) : Type 0 where
+  by_header : (h : defs.Header) (line : List ℕ) → w ≡ indicator_of h.style ∷ line → header_of (indicator_of h.style ∷ line) ≡ Some h → digit_by (digit_or_zero h.digit) ≡ h.digit
+      → is_in_line line ≡ true → read_body (Some h) (collection_of indent) content next ≡ Some b
+      → Headed indent w content next b
 
 headed : (indent : ℕ) (w : List ℕ) (content : Body) (next : List ℕ) (b : BlockRead) → is_in_line w ≡ true → read_body (header_of w) (collection_of indent) content next ≡ Some b → Headed indent w content next b
 headed indent [] content next b inner e = absurd (none_some b e)
@@ -196,35 +171,30 @@ headed indent (c ∷ line) content next b inner e = by (header_of (c ∷ line)) 
   where
     by : (o : Option defs.Header) → header_of (c ∷ line) ≡ o → Headed indent (c ∷ line) content next b
     by None f = absurd (none_some b (rw f at e))
-    by (Some h) f =
-        let z = said c line h f in
-        record { header = h; line = line; cut = ap (λ d. d ∷ line) z.begins; is = rw (← z.begins) f; digit = z.digit_is; inner = (first_inner c line inner).1; value = rw f at e }
+    by (Some h) f = let z = said c line h f in by_header h line (ap (λ d. d ∷ line) z.begins) (rw (← z.begins) f) z.digit_is (first_inner c line inner).1 (rw f at e)
 
 module _ (indent : ℕ) (p : Position) (b : BlockRead) where
   abbrev pub Read_as : List ℕ → List ℕ → Type 0
   Read_as piece next = IsRead indent p b piece next (block (is_literal_style b.style) indent (piece ++ next) p)
 
-  read_alone : (h : defs.Header) (line : List ℕ) → header_of (indicator_of h.style ∷ line) ≡ Some h → is_in_line line ≡ true → record { style = h.style; column = 0; text = [] } ≡ b → Read_as (indicator_of h.style ∷ line) []
-  read_alone h line is inner same = rw (append-nil, ← same) (header_alone_is_read h line indent p is inner)
-
   alone : (w : List ℕ) → is_in_line w ≡ true → read_body (header_of w) (collection_of indent) input_ends [] ≡ Some b → Read_as w []
-  alone w inner e =
-      let z = headed indent w input_ends [] b inner e in
-      let one : Some (record { style = z.header.style; column = 0; text = [] }) ≡ Some b = z.value in
-      let same : record { style = z.header.style; column = 0; text = [] } ≡ b = cc in
-      rw (z.cut) (read_alone z.header z.line z.is z.inner same)
+  alone w inner e = elim (headed indent w input_ends [] b inner e) [
+    | by_header h line cut is digit inner one ↦ let same : record { style = h.style; column = 0; text = [] } ≡ b = cc in rw (cut, append-nil, ← same) (header_alone_is_read h line indent p is inner)
+  ]
 
   pub to_end : (w : List ℕ) (k : Break) (ls : List Line) (last : List ℕ) → is_in_line w ≡ true → Fits k (spell ls last) → AreLines ls last → is_in_line last ≡ true
       → read_body (header_of w) (collection_of indent) (body (texts ls) (unbroken last)) [] ≡ Some b → Read_as (w ++ put k (spell ls last)) []
-  to_end w k ls last inner fits are last_inner e =
-      let z = headed indent w (body (texts ls) (unbroken last)) [] b inner e in
-      rw (z.cut) (end_read indent p z.header z.line k ls last b z.is z.digit z.inner fits are last_inner (at_the_end indent p z.header ls last b z.value))
+  to_end w k ls last inner fits are last_inner e = elim (headed indent w (body (texts ls) (unbroken last)) [] b inner e) [
+    | by_header h line cut is digit inner value ↦ rw cut (end_read indent p h line k ls last b is digit inner fits are last_inner (at_the_end indent p h ls last b value))
+  ]
 
   pub to_text : (w : List ℕ) (k : Break) (ls : List Line) (next : List ℕ) → is_in_line w ≡ true → Fits k (spell ls []) → AreLines ls [] → is_at_end next ≡ false
       → read_body (header_of w) (collection_of indent) (body (texts ls) further_text) next ≡ Some b → Read_as (w ++ put k (spell ls [])) next
-  to_text w k ls next inner fits are some e =
-      let z = headed indent w (body (texts ls) further_text) next b inner e in
-      rw (z.cut) (further_read indent p next z.header z.line k ls b z.is z.digit z.inner fits are some (before indent p next z.header ls b some z.value))
+  to_text w k ls next inner fits are some e = elim (headed indent w (body (texts ls) further_text) next b inner e) [
+    | by_header h line cut is digit inner value ↦ elim (before indent p next h ls b some value) [
+      | is_before rows tabless are_rows further same ↦ rw cut (further_read indent p next h line k ls b is digit inner fits are some rows tabless are_rows further same)
+    ]
+  ]
 
   of_lines : (ls : List Line) (last next : List ℕ) → AreLines ls last → is_in_line last ≡ true → list_all is_some next ≡ true → (t : Bool) → is_at_end next ≡ t
       → read_lines (collection_of indent) (texts ls) last next t ≡ Some b → Read_as (spell ls last) next

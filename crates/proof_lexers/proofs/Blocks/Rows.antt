@@ -1,13 +1,12 @@
 -- The lines of a block scalar are read row by row.
-use Rattle.proof_lexers.proofs.Common.{[], along, and_parts, ap, append-nil, append_assoc, arith, at_marker, between, BlockState, Bool, cases_Bool, Column, content_row, drop, empty_row, ends_line, eq-eqb, false, Fault, first_content, indent_from, inl, inr, is_blank, is_break, is_content_line, is_document_marker, is_empty_line, is_in_line, is_spaces, le-ltb, leading_spaces, leb-true, length, Lines, lines_from, List, lt-ltb, margin, nat_le, nat_lt, nat_tests, None, not, not-true, Ok, Option, past, Position, put_row, Read, refl, Result, Row, row_of, rows_of, Some, suc, sym, true, zero, ℕ, ◌&&◌, ◌++◌, ◌+◌, ◌==◌, ◌∙◌, ◌∷◌, ◌≡◌, ◌≤◌}
+use Rattle.proof_lexers.proofs.Common.{[], along, ap, append-nil, append_assoc, arith, at_marker, between, BlockState, Bool, cases_Bool, content_row, drop, empty_row, ends_line, eq-eqb, false, Fault, indent_from, inl, inr, is_blank, is_break, is_content_line, is_document_marker, is_empty_line, is_in_line, is_spaces, le-ltb, leading_spaces, leb-true, length, Lines, lines_from, List, lt-ltb, margin, nat_lt, nat_tests, None, not-true, Ok, Option, past, Position, put_row, Read, refl, Result, Row, row_of, rows_of, Some, suc, sym, true, zero, ℕ, ◌&&◌, ◌++◌, ◌+◌, ◌==◌, ◌∙◌, ◌∷◌, ◌≡◌, ◌≤◌}
 use Rattle.defs_text.specs.Classes as classes
 use Rattle.model_scanner.specs.BlockScalar.{line, begins, begun, with_char}
-use Rattle.proof_lexers.proofs.Bridges.{same_break, and_false}
+use Rattle.proof_lexers.proofs.Bridges.{and_false}
 use Rattle.proof_lexers.proofs.Blocks.InLine.{first_inner}
-use Rattle.proof_lexers.proofs.Blocks.Written.{Break, feed, carriage, both, Line, put, spell, texts, Fits, AreLines}
+use Rattle.proof_lexers.proofs.Blocks.Written.{Break, Line, put, spell, texts, Fits, AreLines}
 use Rattle.proof_lexers.proofs.Blocks.Margins.{after_break, after_line, after_lines, at, before, margin_passes, empty_passes, last_passes}
 use Rattle.proof_lexers.proofs.Blocks.Markers.{marker_in_line}
-use Rattle.proof_lexers.proofs.Blocks.Positions.{first_space}
 
 -- ---- what is known after rows
 
@@ -31,12 +30,40 @@ inside p l = record { mode = line; position = p; lines = l }
 
 pub break_ends : (k : Break) (a : List ℕ) → ends_line (put k a) ≡ true
 unfolding classes.is_break
-break_ends feed a = refl
-break_ends carriage a = refl
-break_ends both a = refl
+break_ends b a = grind arith
 
 pub suc_off : (k : ℕ) → (suc k == 0) ≡ false
 suc_off k = grind (arith, nat_tests)
+
+-- ---- where content begins
+
+module _ (column : ℕ) where
+  -- Content begins at the column.
+  pub record Starts (w : List ℕ) (p : Position) (n : ℕ) : Type 0 where
+    pub char : ℕ
+    pub rest : List ℕ
+    pub position : Position
+    pub is : drop n w ≡ char ∷ rest
+    pub in_column : position.col ≡ column
+    pub inner : is_in_line (char ∷ rest) ≡ true
+    pub ends : along rest (past position) ≡ along w p
+    pub found : (a b : List ℕ) → indent_from column (w ++ a) (at p b) ≡ record { rest = char ∷ (rest ++ a); position = position; value = record { column = column; breaks = b } }
+
+  space_then : (c : ℕ) (w : List ℕ) (p : Position) (n : ℕ) → (c == 32) ≡ true → nat_lt p.col column ≡ true → Starts w (past p) n → Starts (c ∷ w) p (suc n)
+  space_then c w p n e deep z = record { char = z.char; rest = z.rest; position = z.position; is = z.is; in_column = z.in_column; inner = z.inner; ends = z.ends; found = λ a b. rw (e, deep) (z.found a b) }
+
+  pub starts : (n : ℕ) (w : List ℕ) (p : Position) → p.col + n ≡ column → n ≤ leading_spaces w → suc n ≤ length w → is_in_line w ≡ true → Starts w p n
+  starts n [] p col lead long inner = absurd (omega (arith, long))
+  starts zero (c ∷ w) p col lead long inner =
+      let q = first_inner c w inner in
+      let deep : nat_lt p.col column ≡ false = le-ltb p.col column (omega (arith, col)) in
+      record { char = c; rest = w; position = p; is = refl; in_column = omega (arith, col); inner = inner; ends = refl; found = λ a b. rw (deep, and_false (c == 32), q.0) refl }
+  starts (suc n) (c ∷ w) p col lead long inner = elim (cases_Bool (c == 32)) [
+    | inl e ↦
+        let more : suc n ≤ suc (leading_spaces w) = rw e at lead in
+        space_then c w p n e (lt-ltb p.col column (omega (arith, col))) (starts n w (past p) (omega (arith, col)) (omega (arith, more)) (omega (arith, long)) ((first_inner c w inner).1))
+    | inr e ↦ let no : suc n ≤ 0 = rw e at lead in absurd (omega (arith, no))
+  ]
 
 module _ (literal : Bool) (column : ℕ) where
   abbrev pub scan : List ℕ → BlockState → Result (Read Lines) Fault
@@ -50,14 +77,11 @@ module _ (literal : Bool) (column : ℕ) where
 
   line_ends : (k : Break) (a : List ℕ) (p : Position) (l : Lines) → Fits k a → scan (put k a) (inside p l) ≡ scan a (front (after_break k p) (record l { broken = true }))
   unfolding is_break
-  line_ends feed a p l fits = refl
-  line_ends carriage a p l fits = rw fits refl
-  line_ends both a p l fits = refl
+  line_ends b a p l fits = grind arith
 
   -- what the search for content passes
   pub through : (a r : List ℕ) (p q : Position) (l : Lines) (b : List ℕ) → indent_from column a (at p l.breaks) ≡ indent_from column r (at q b) → scan a (front p l) ≡ scan r (front q (record l { breaks = b }))
-  through a r p q l b e =
-      margin_passes literal column a p l l.breaks ∙ ap (λ (x : Read Column). scan x.rest (before x.position l x.value.breaks)) e ∙ sym (margin_passes literal column r q l b)
+  through a r p q l b e = grind (arith, nat_tests, margin_passes, before)
 
   -- ---- empty lines
 
@@ -66,35 +90,6 @@ module _ (literal : Bool) (column : ℕ) where
   empty_goes l a p x h le fits = through (l.text ++ put l.by a) a p (after_line l p) x (x.breaks ++ 10 ∷ []) (empty_passes column l a p x.breaks h le fits)
 
   -- ---- content lines
-
-  -- Content begins at the column.
-  pub record Starts (w a : List ℕ) (p : Position) (b : List ℕ) (n : ℕ) : Type 0 where
-    pub char : ℕ
-    pub rest : List ℕ
-    pub position : Position
-    pub is : drop n w ≡ char ∷ rest
-    pub in_column : position.col ≡ column
-    pub inner : is_in_line (char ∷ rest) ≡ true
-    pub ends : along rest (past position) ≡ along w p
-    pub first : (y : List ℕ) → first_content column false p (w ++ y) ≡ Some position
-    pub found : indent_from column (w ++ a) (at p b) ≡ record { rest = char ∷ (rest ++ a); position = position; value = record { column = column; breaks = b } }
-
-  space_then : (c : ℕ) (w a : List ℕ) (p : Position) (b : List ℕ) (n : ℕ) → (c == 32) ≡ true → nat_lt p.col column ≡ true → Starts w a (past p) b n → Starts (c ∷ w) a p b (suc n)
-  space_then c w a p b n e deep z = record { char = z.char; rest = z.rest; position = z.position; is = z.is; in_column = z.in_column; inner = z.inner; ends = z.ends; first = λ y. first_space column c (w ++ y) p e deep ∙ z.first y; found = rw (e, deep) (z.found) }
-
-  pub starts : (n : ℕ) (w a : List ℕ) (p : Position) (b : List ℕ) → p.col + n ≡ column → n ≤ leading_spaces w → suc n ≤ length w → is_in_line w ≡ true → Starts w a p b n
-  starts zero [] a p b col lead long inner = absurd (omega (arith, long))
-  starts zero (c ∷ w) a p b col lead long inner =
-      let q = first_inner c w inner in
-      let deep : nat_lt p.col column ≡ false = le-ltb p.col column (omega (arith, col)) in
-      record { char = c; rest = w; position = p; is = refl; in_column = omega (arith, col); inner = inner; ends = refl; first = λ y. rw (same_break c, q.0, deep, and_false (c == 32)) refl; found = rw (deep, and_false (c == 32), q.0) refl }
-  starts (suc n) [] a p b col lead long inner = absurd (omega (arith, long))
-  starts (suc n) (c ∷ w) a p b col lead long inner = elim (cases_Bool (c == 32)) [
-    | inl e ↦
-        let more : suc n ≤ suc (leading_spaces w) = rw e at lead in
-        space_then c w a p b n e (lt-ltb p.col column (omega (arith, col))) (starts n w a (past p) b (omega (arith, col)) (omega (arith, more)) (omega (arith, long)) ((first_inner c w inner).1))
-    | inr e ↦ let no : suc n ≤ 0 = rw e at lead in absurd (omega (arith, no))
-  ]
 
   begins_free : (k : ℕ) (w a rest : List ℕ) (char : ℕ) (p : Position) → k ≡ column → drop k w ≡ char ∷ rest → p.col ≡ column → ends_line a ≡ true → ((column == 0) && is_document_marker w) ≡ false → begins column p.col (char ∷ (rest ++ a)) ≡ true
   unfolding begins
@@ -114,13 +109,13 @@ module _ (literal : Bool) (column : ℕ) where
   content_chars : (w a : List ℕ) (p : Position) (x : Lines) → p.col ≡ 0 → is_in_line w ≡ true → ends_line a ≡ true → column ≤ leading_spaces w → suc column ≤ length w → ((column == 0) && is_document_marker w) ≡ false
       → scan (w ++ a) (front p x) ≡ scan a (inside (along w p) (written (content_row (drop column w)) x))
   content_chars w a p x col inner ends lead long free =
-      let z = starts column w a p x.breaks (omega (arith, col)) lead long inner in
+      let z = starts column column w p (omega (arith, col)) lead long inner in
       let q = first_inner z.char z.rest z.inner in
       let in_column = z.in_column in
       let deep : nat_lt z.position.col column ≡ false = le-ltb z.position.col column (omega (arith, in_column)) in
       let stops : indent_from column (z.char ∷ (z.rest ++ a)) (at z.position x.breaks) ≡ record { rest = z.char ∷ (z.rest ++ a); position = z.position; value = record { column = column; breaks = x.breaks } } = rw (deep, and_false (z.char == 32), q.0) refl in
       let first = begins_free column w a z.rest z.char z.position refl z.is z.in_column ends free in
-      through (w ++ a) (z.char ∷ (z.rest ++ a)) p z.position x x.breaks (z.found ∙ sym stops)
+      through (w ++ a) (z.char ∷ (z.rest ++ a)) p z.position x x.breaks (z.found a x.breaks ∙ sym stops)
       ∙ begin z.char (z.rest ++ a) z.position x deep q.0 first
       ∙ chars z.rest a (past z.position) (with_char z.char (begun literal z.char x)) q.1
       ∙ ap (λ t. scan a (inside (along z.rest (past z.position)) (record { text = t; breaks = []; broken = false; blank = is_blank z.char }))) (append_assoc (x.text ++ between literal x (is_blank z.char)) (z.char ∷ []) z.rest)
@@ -139,22 +134,7 @@ pub data IsRow (column : ℕ) (w : List ℕ) : Row → Type 0 where
 
 pub row_is : (column : ℕ) (w : List ℕ) (r : Row) → row_of column w ≡ Some r → IsRow column w r
 unfolding row_of is_empty_line is_content_line
-row_is column w r h = elim (cases_Bool (is_spaces w && nat_le (length w) column)) [
-  | inl f ↦
-      let q = and_parts (is_spaces w) (nat_le (length w) column) f in
-      let one : Some empty_row ≡ Some r = rw f at h in
-      let same : empty_row ≡ r = cc in
-      rw (← same) (no_content q.0 (leb-true (length w) column q.1))
-  | inr f ↦ elim (cases_Bool ((nat_le column (leading_spaces w) && nat_le (suc column) (length w)) && not ((column == 0) && is_document_marker w))) [
-    | inl g ↦
-        let q = and_parts (nat_le column (leading_spaces w) && nat_le (suc column) (length w)) _ g in
-        let s = and_parts (nat_le column (leading_spaces w)) (nat_le (suc column) (length w)) q.0 in
-        let one : Some (content_row (drop column w)) ≡ Some r = rw (f, g) at h in
-        let same : content_row (drop column w) ≡ r = cc in
-        rw (← same) (is_content (leb-true column (leading_spaces w) s.0) (leb-true (suc column) (length w) s.1) (not-true _ q.1))
-    | inr g ↦ let no : None ≡ Some r = rw (f, g) at h in cc
-  ]
-]
+row_is column w r h = grind (arith, at, no_content, leb-true, content_row, is_content, not-true)
 
 -- a list of rows by its first
 pub data First (column : ℕ) (w : List ℕ) (ws : List (List ℕ)) (rs : List Row) : Type 0 where
@@ -179,8 +159,7 @@ module _ (literal : Bool) (column : ℕ) where
     where
       -- content is never empty here
       broken_again : (m : List ℕ) → scan literal column a (front (after_line l p) (record (written literal column (content_row m) x) { broken = true })) ≡ scan literal column a (front (after_line l p) (after_row literal (content_row m) x))
-      broken_again [] = refl
-      broken_again (c ∷ m) = refl
+      broken_again b = grind arith
 
   pub rows_go : (ls : List Line) (a : List ℕ) (p : Position) (x : Lines) (rs : List Row) → p.col ≡ 0 → AreLines ls a → rows_of column (texts ls) ≡ Some rs
       → scan literal column (spell ls a) (front p x) ≡ scan literal column a (front (after_lines ls p) (after_rows literal rs x))

@@ -1,7 +1,8 @@
 -- What rows leave in the model's buffers is the text that the definitions give them.
-use Rattle.proof_lexers.proofs.Common.{[], ap, append-nil, append_assoc, arith, between, between_lines, BlockStyle, Bool, breaks, chomping_of, clip, content_row, empty_after, empty_row, empty_text, false, folded, has_content, if◌then◌else◌, is_blank, is_literal_style, keep, length, Lines, List, literal, max, nothing_before_end, nothing_before_text, refl, Row, starts_blank, strip, suc, sym, tail, text_after, text_of, true, with_content, zero, ℕ, ◌++◌, ◌+◌, ◌||◌, ◌∙◌, ◌∷◌, ◌≡◌}
+use Rattle.proof_lexers.proofs.Common.{[], ap, append-nil, append_assoc, arith, between, between_lines, BlockStyle, Bool, breaks, chomping_of, clip, content_row, empty_after, empty_row, empty_text, false, has_content, if◌then◌else◌, is_blank, is_literal_style, keep, length, Lines, List, nothing_before_end, nothing_before_text, refl, Row, starts_blank, strip, suc, sym, tail, text_after, text_of, true, with_content, zero, ℕ, ◌++◌, ◌+◌, ◌||◌, ◌∙◌, ◌∷◌, ◌≡◌}
 use Rattle.defs_text.specs.BlockScalar as defs
 use Rattle.proof_lexers.proofs.Bridges.{same_blank}
+use Rattle.proof_lexers.proofs.Fold.{more_breaks}
 use Rattle.proof_lexers.proofs.Blocks.Rows.{after_row, after_rows}
 
 -- content is never empty
@@ -10,10 +11,6 @@ AreFull [] = Unit {0}
 AreFull (empty_row ∷ rs) = AreFull rs
 AreFull (content_row [] ∷ rs) = ⊥
 AreFull (content_row (c ∷ m) ∷ rs) = AreFull rs
-
-pub more_breaks : (n : ℕ) → breaks n ++ 10 ∷ [] ≡ breaks (suc n)
-more_breaks zero = refl
-more_breaks (suc n) = ap (λ r. 10 ∷ r) (more_breaks n)
 
 break_before : (n : ℕ) (t : List ℕ) → breaks (suc n) ++ t ≡ breaks n ++ 10 ∷ t
 break_before zero t = refl
@@ -37,16 +34,11 @@ holds_on x y t u n e f z = record { text_is = ap (λ (l : Lines). l.text) e ∙ 
 
 between_is : (s : BlockStyle) (t : List ℕ) (n : ℕ) (b k : Bool) → between (is_literal_style s) (after_content t n b) k ≡ between_lines s n (b || k)
 unfolding between
-between_is literal t n b k = refl
-between_is folded t n true k = refl
-between_is folded t n false true = refl
-between_is folded t zero false false = refl
-between_is folded t (suc n) false false = refl
+between_is a t n b k = grind arith
 
 between_first : (s : BlockStyle) (n : ℕ) (k : Bool) → between (is_literal_style s) (after_empty n) k ≡ breaks n
 unfolding between
-between_first literal n k = refl
-between_first folded n k = refl
+between_first a n k = grind arith
 
 module _ (s : BlockStyle) where
   abbrev rows_after : List Row → Lines → Lines
@@ -78,9 +70,7 @@ module _ (s : BlockStyle) where
 
   pub none_goes : (rs : List Row) (n : ℕ) → has_content rs ≡ false → rows_after rs (after_empty n) ≡ after_empty (n + length rs)
   none_goes [] n h = let none : n ≡ n + 0 = omega arith in ap after_empty none
-  none_goes (empty_row ∷ rs) n h =
-      let more : suc n + length rs ≡ n + suc (length rs) = omega arith in
-      ap (λ x. rows_after rs (record { text = []; breaks = x; broken = false; blank = false })) (more_breaks n) ∙ none_goes rs (suc n) h ∙ ap after_empty more
+  none_goes (empty_row ∷ rs) n h = grind (arith, breaks, more_breaks, none_goes rs (suc n) h)
   none_goes (content_row m ∷ rs) n h = cc
 
 -- ---- chomping
@@ -107,9 +97,7 @@ content_value h unbroken rs full some =
 -- no line with content, before further text
 nothing_is : (ch : defs.Chomping) (n : ℕ) → tail (chomping_of ch) false (after_empty n) ≡ nothing_before_text ch n
 unfolding tail
-nothing_is strip n = refl
-nothing_is clip n = refl
-nothing_is keep n = refl
+nothing_is a n = grind arith
 
 pub empty_value : (h : defs.Header) (rs : List Row) → has_content rs ≡ false
     → (after_rows (is_literal_style h.style) rs (after_empty 0)).text ++ tail (chomping_of h.chomping) false (after_rows (is_literal_style h.style) rs (after_empty 0)) ≡ nothing_before_text h.chomping (length rs)
@@ -120,10 +108,7 @@ empty_value h rs none =
 -- no line with content, at the end of the text
 pub end_value : (ch : defs.Chomping) (n : ℕ) → empty_text (chomping_of ch) true (breaks n) ≡ nothing_before_end ch n
 unfolding empty_text
-end_value strip n = refl
-end_value clip n = refl
-end_value keep zero = refl
-end_value keep (suc n) = let some : suc n ≡ max (suc n) 1 = omega arith in ap breaks some
+end_value a n = grind arith
 
 -- ---- a last line of content without a break
 
@@ -144,9 +129,7 @@ some_more (content_row n ∷ rs) m = refl
 
 last_tail : (ch : defs.Chomping) (x : Lines) (n : ℕ) → x.breaks ≡ [] → breaks n ≡ [] → tail (chomping_of ch) true (record x { broken = false }) ≡ defs.tail ch 0 n
 unfolding tail
-last_tail strip x n e f = refl
-last_tail clip x n e f = refl
-last_tail keep x n e f = let one : suc n ≡ suc 0 + n = omega arith in rw e (ap (λ t. 10 ∷ t) (sym f) ∙ ap breaks one)
+last_tail a x n e f = grind arith
 
 pub last_value : (h : defs.Header) (rs : List Row) (c : ℕ) (m : List ℕ) → AreFull rs
     → (after_row (is_literal_style h.style) (content_row (c ∷ m)) (after_rows (is_literal_style h.style) rs (after_empty 0))).text

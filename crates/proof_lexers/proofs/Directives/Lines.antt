@@ -1,5 +1,5 @@
 -- Directives are read as their lines say, and no other text is.
-use Rattle.proof_lexers.proofs.Common.{[], after, after_class, after_declaration, after_major, after_value, after_version, and_parts, and_then, ap, append-nil, append_assoc, arith, At, begins_prefix, begins_with, blanks, Bool, by_comment, by_declaration, by_name, by_octets, by_version, cases_Bool, codes, declaration_by, decoded, Directive, directive, directive_of, DirectivesAreRead, DirectivesEndAsTheirTextSays, eqb-true, Err, false, Fault, first_break, further, handle_and_rest, has_no_break, if◌then◌else◌, inl, inr, is_alpha, is_alphanumeric, is_at_gap, is_blank, is_flow, is_handle, is_rest_of_line, is_same, is_tag, is_uri, is_uri_mark, IsDirectiveRefusal, IsNoDeclaration, IsNoVersion, kind, leading, length, length-append, line_end, List, long_major, long_minor, minor_of, name, next_line, no_major, no_minor, no_name, no_point, no_prefix, None, not, not-false, not-true, number, number_of, Ok, open_name, Option, or_parts, past, Position, position_after, prefix, prefix_after, Problem, problem_of, Read, reads, refl, refuses, reserved, Result, skip_while, slice_index, Some, subst, suc, sym, tag, tag_declaration, tag_value, token_of, true, unknown, UriFault, value, version, version_of, version_value, with_end, with_minor, with_prefix, ℕ, ◌&&◌, ◌++◌, ◌+◌, ◌==◌, ◌||◌, ◌∙◌, ◌∷◌, ◌≡◌}
+use Rattle.proof_lexers.proofs.Common.{[], after, after_declaration, after_major, after_value, after_version, and_parts, and_then, ap, append-nil, append_assoc, arith, At, begins_prefix, begins_with, blanks, Bool, by_comment, by_declaration, by_name, by_octets, by_version, cases_Bool, codes, declaration_by, decoded, Directive, directive, directive_of, DirectivesAreRead, DirectivesEndAsTheirTextSays, eqb-true, Err, false, Fault, first_break, further, handle_and_rest, has_no_break, if◌then◌else◌, inl, inr, is_alpha, is_alphanumeric, is_at_gap, is_blank, is_flow, is_handle, is_rest_of_line, is_same, is_tag, is_uri, is_uri_mark, IsDirectiveRefusal, IsNoDeclaration, IsNoVersion, kind, leading, length, length-append, List, long_major, long_minor, minor_of, name, next_line, no_major, no_minor, no_name, no_point, no_prefix, None, not, not-false, not-true, number, number_of, Ok, open_name, Option, past, Position, position_after, prefix, prefix_after, Problem, problem_of, Read, reads, refl, refuses, reserved, Result, skip_while, slice_index, Some, suc, sym, tag, tag_declaration, tag_value, token_of, true, unknown, UriFault, value, version, version_of, version_value, with_minor, with_prefix, ℕ, ◌++◌, ◌+◌, ◌==◌, ◌||◌, ◌∙◌, ◌∷◌, ◌≡◌, nat_tests}
 use Rattle.defs_token.specs.Token.{Tok}
 use Rattle.yaml_tokens.specs.declared.problem.Problem.TheVariants as problem
 use Rattle.defs_text.specs.Classes as classes
@@ -10,7 +10,7 @@ use Rattle.proof_lexers.specs.DirectiveEnds.{ends_line, after_line, no_mark, goe
 use Rattle.proof_lexers.proofs.Separation.Positions.{position_append, position_in_line}
 use Rattle.proof_lexers.proofs.Properties.Uris.{uris_are_read}
 use Rattle.proof_lexers.proofs.RestOfLine.{line_skipped}
-use Rattle.proof_lexers.proofs.Directives.Parts.{none_at_end, no_break_after, LineEnds, ended, comment, text, line_ends, spells_name, kind_is, gap_is}
+use Rattle.proof_lexers.proofs.Directives.Parts.{none_at_end, no_break_after, ended, comment, text, line_ends, spells_name, kind_is, gap_is}
 use Rattle.proof_lexers.proofs.Directives.Values.{NumberSees, missing, long, found, number_sees, not_at_end, HandleSees, handle_sees}
 use Rattle.proof_lexers.proofs.Directives.Values as values
 use Rattle.proof_lexers.proofs.Classes.{same_place, before_end, skipped, span_cut}
@@ -25,8 +25,7 @@ same_text (c ∷ a) (d ∷ b) h =
     rw first (ap (λ r. d ∷ r) (same_text a b q.1))
 
 none_by : (b : Bool) → ◌≡◌ {A = Option Directive} (if b then None else None) None
-none_by true = refl
-none_by false = refl
+none_by a = grind arith
 
 four_texts : (a b c d r : List ℕ) → a ++ (b ++ (c ++ (46 ∷ (d ++ r)))) ≡ (a ++ (b ++ (c ++ 46 ∷ d))) ++ r
 four_texts a b c d r = sym (append_assoc a (b ++ (c ++ 46 ∷ d)) r ∙ ap (λ k. a ++ k) (append_assoc b (c ++ 46 ∷ d) r ∙ ap (λ k. b ++ k) (append_assoc c (46 ∷ d) r)))
@@ -36,19 +35,10 @@ five_texts a b c d e r =
     sym (append_assoc a (b ++ (c ++ (d ++ e))) r ∙ ap (λ k. a ++ k) (append_assoc b (c ++ (d ++ e)) r ∙ ap (λ k. b ++ k) (append_assoc c (d ++ e) r ∙ ap (λ k. c ++ k) (append_assoc d e r))))
 
 four_positions : (p : Position) (a b c d : List ℕ) → further (length d) (past (further (length c) (further (length b) (further (length a) (past p))))) ≡ further (suc (length (a ++ (b ++ (c ++ 46 ∷ d))))) p
-four_positions p a b c d =
-    let all = length-append a (b ++ (c ++ 46 ∷ d)) in
-    let more = length-append b (c ++ 46 ∷ d) in
-    let last : length (c ++ 46 ∷ d) ≡ length c + suc (length d) = length-append c (46 ∷ d) in
-    same_place p (suc (length (a ++ (b ++ (c ++ 46 ∷ d))))) (omega (arith, all, more, last)) (omega (arith, all, more, last))
+four_positions p a b c d = grind (arith, length-append, same_place)
 
 five_positions : (p : Position) (a b c d e : List ℕ) → further (length e) (further (length d) (further (length c) (further (length b) (further (length a) (past p))))) ≡ further (suc (length (a ++ (b ++ (c ++ (d ++ e)))))) p
-five_positions p a b c d e =
-    let all = length-append a (b ++ (c ++ (d ++ e))) in
-    let more = length-append b (c ++ (d ++ e)) in
-    let rest = length-append c (d ++ e) in
-    let last = length-append d e in
-    same_place p (suc (length (a ++ (b ++ (c ++ (d ++ e)))))) (omega (arith, all, more, rest, last)) (omega (arith, all, more, rest, last))
+five_positions p a b c d e = grind (arith, length-append, same_place)
 
 no_percent_break : (l : List ℕ) → has_no_break l ≡ true → has_no_break (37 ∷ l) ≡ true
 unfolding classes.is_break
@@ -59,8 +49,7 @@ unfolding classes.is_blank_or_end classes.is_blank classes.is_break classes.is_n
 no_hash h = cc
 
 no_minor_of : (r : List ℕ) → minor_of None r ≡ None
-no_minor_of [] = refl
-no_minor_of (c ∷ r) = none_by ((c == 46) && is_rest_of_line (after classes.is_decimal_digit r))
+no_minor_of a = grind (arith, none_by, after)
 
 no_tag_at_end : (n : List ℕ) → ends_line n ≡ true → is_tag (slice_index n 0) ≡ false
 unfolding is_tag is_uri is_alphanumeric is_uri_mark is_flow classes.is_tag classes.is_uri classes.is_decimal_digit classes.is_letter classes.is_flow
@@ -86,22 +75,14 @@ module _ (start : Position) (l n : List ℕ) (line : has_no_break l ≡ true) (e
   finish : (before m : List ℕ) (d : Directive) (p : Position) → l ≡ before ++ m → p ≡ further (suc (length before)) start → directive_of (37 ∷ l) ≡ (if is_rest_of_line m then Some d else None)
       → ((k : List ℕ) → m ≡ 35 ∷ k → IsDirectiveRefusal start l (At problem.CommentNotSeparated (further (suc (length before)) start)))
       → (is_rest_of_line m ≡ false → begins_with 35 m ≡ false → IsDirectiveRefusal start l (At problem.DirectiveEnd start)) → Told start l n (after_value start (record { rest = m ++ n; position = p; value = token_of d }))
-  finish before m d p cut position says by_hash by_other = by (line_end start (m ++ n) p) (line_ends start p m n (no_break_after before m (ap has_no_break (sym cut) ∙ line)) ends)
+  finish before m d p cut position says by_hash by_other = elim (line_ends start p m n (no_break_after before m (ap has_no_break (sym cut) ∙ line)) ends) [
+    | ended is e ↦ rw e (is_directive d (says ∙ rw is refl) (ap (λ q. Ok (record { rest = next_line n; position = q; value = token_of d })) (last_position before m p cut position)))
+    | comment begins none e ↦ rw (e, position) (fails _ (says ∙ rw none refl) (glued m refl begins) refl)
+    | text none begins e ↦ rw e (fails (At problem.DirectiveEnd start) (says ∙ rw none refl) (by_other none begins) refl)
+  ]
     where
-      v : Read Tok
-      v = record { rest = m ++ n; position = p; value = token_of d }
-
-      go : Result (Read (Unit {0})) Fault → Result (Read Tok) Fault
-      go x = and_then x (λ r. Ok (with_end v r))
-
       glued : (k : List ℕ) → m ≡ k → begins_with 35 k ≡ true → IsDirectiveRefusal start l (At problem.CommentNotSeparated (further (suc (length before)) start))
-      glued [] e b = cc
-      glued (c ∷ k) e b = let same : c ≡ 35 = eqb-true c 35 b in by_hash k (e ∙ ap (λ h. h ∷ k) same)
-
-      by : (x : Result (Read (Unit {0})) Fault) → LineEnds start p m n x → Told start l n (go x)
-      by x (ended is e) = is_directive d (says ∙ rw is refl) (ap go e ∙ ap (λ q. Ok (record { rest = next_line n; position = q; value = token_of d })) (last_position before m p cut position))
-      by x (comment begins none e) = fails (At problem.CommentNotSeparated p) (says ∙ rw none refl) (subst (λ q. IsDirectiveRefusal start l (At problem.CommentNotSeparated q)) (sym position) (glued m refl begins)) (ap go e)
-      by x (text none begins e) = fails (At problem.DirectiveEnd start) (says ∙ rw none refl) (by_other none begins) (ap go e)
+      glued a e b = grind arith
 
   -- ---- words
 
@@ -164,14 +145,11 @@ module _ (start : Position) (l n : List ℕ) (line : has_no_break l ≡ true) (e
     minor_read : (s : List ℕ) (v : ℕ) → after classes.is_decimal_digit said ≡ 46 ∷ s → number_of major ≡ Some v
         → Told start l n (and_then (and_then (number start (s ++ n) (past (further (length major) said_position))) (λ k. Ok (with_minor v k))) (λ t. after_value start t))
     minor_read s v point is = elim (number_sees start (past (further (length major) said_position)) s n ends) [
-      | missing none without e ↦ version_refused problem.VersionNumber _ (no_version without) (no_minor v s is point none) (ap go e)
-      | long much without e ↦ version_refused problem.VersionTooLong _ (no_version without) (long_minor v s is point much) (ap go e)
+      | missing none without e ↦ rw e (version_refused problem.VersionNumber _ (no_version without) (no_minor v s is point none) refl)
+      | long much without e ↦ rw e (version_refused problem.VersionTooLong _ (no_version without) (long_minor v s is point much) refl)
       | found w is_w e ↦ rw e (version_end s (leading classes.is_decimal_digit s) v w point refl is is_w)
     ]
       where
-        go : Result (Read ℕ) Fault → Result (Read Tok) Fault
-        go x = and_then (and_then x (λ k. Ok (with_minor v k))) (λ t. after_value start t)
-
         no_version : number_of (leading classes.is_decimal_digit s) ≡ None → version_of said ≡ None
         no_version without = rw (point, is, without) (none_by (is_rest_of_line (after classes.is_decimal_digit s)))
 
@@ -188,19 +166,15 @@ module _ (start : Position) (l n : List ℕ) (line : has_no_break l ≡ true) (e
     versions : Told start l n (and_then (value start version (after_word ++ n) word_position) (λ t. after_value start t))
     unfolding version_value
     versions = rw (blanks_skipped after_word word_position) (elim (number_sees start said_position said n ends) [
-      | missing none without e ↦ version_refused problem.VersionNumber _ (rw without (no_minor_of (after classes.is_decimal_digit said))) (no_major none) (ap go e)
-      | long much without e ↦ version_refused problem.VersionTooLong _ (rw without (no_minor_of (after classes.is_decimal_digit said))) (long_major much) (ap go e)
+      | missing none without e ↦ rw e (version_refused problem.VersionNumber _ (rw without (no_minor_of (after classes.is_decimal_digit said))) (no_major none) refl)
+      | long much without e ↦ rw e (version_refused problem.VersionTooLong _ (rw without (no_minor_of (after classes.is_decimal_digit said))) (long_major much) refl)
       | found v is e ↦ rw e (point_read (after classes.is_decimal_digit said) v refl is)
     ])
-      where
-        go : Result (Read ℕ) Fault → Result (Read Tok) Fault
-        go x = and_then (and_then x (λ k. after_major start k)) (λ t. after_value start t)
 
   -- ---- declarations
 
   begins_with_prefix : (g : List ℕ) → ((slice_index (g ++ n) 0 == 33) || is_tag (slice_index (g ++ n) 0)) ≡ begins_prefix g
-  begins_with_prefix (c ∷ g) = rw (same_tag c) refl
-  begins_with_prefix [] = rw (not_at_end 33 refl refl refl n ends, no_tag_at_end n ends) refl
+  begins_with_prefix a = grind (arith, same_tag, not_at_end, ends, no_tag_at_end)
 
   module _ (word : leading classes.is_alpha l ≡ codes "TAG") (gap : is_at_gap after_word ≡ true) where
     abbrev handle_is : List ℕ
@@ -234,12 +208,7 @@ module _ (start : Position) (l n : List ℕ) (line : has_no_break l ≡ true) (e
 
     gap_missing : (r : List ℕ) → is_at_gap r ≡ false → is_rest_of_line r ≡ false
     unfolding classes.is_blank_or_end
-    gap_missing [] h = cc
-    gap_missing (c ∷ r) h = rw (or_parts (classes.is_blank c) (classes.is_break c) (or_parts (classes.is_blank c || classes.is_break c) (classes.is_nul c) h).0).0 (no_comment (c == 35))
-      where
-        no_comment : (x : Bool) → (not x && (x || false)) ≡ false
-        no_comment true = refl
-        no_comment false = refl
+    gap_missing a h = grind arith
 
     module _ (is : is_handle handle_is ≡ true) (spelled : said ≡ handle_is ++ after_handle) where
       declares : (cs : List ℕ) → begins_prefix from_prefix ≡ true → decoded prefix_text ≡ Ok cs → declaration_by (handle_and_rest said) ≡ (if is_rest_of_line after_prefix then Some (tag_declaration handle_is cs) else None)
@@ -259,8 +228,7 @@ module _ (start : Position) (l n : List ℕ) (line : has_no_break l ≡ true) (e
           tail = spelled ∙ ap (λ r. handle_is ++ r) (span_cut classes.is_blank after_handle ∙ ap (λ r. leading classes.is_blank after_handle ++ r) (span_cut classes.is_uri from_prefix))
 
           cut : l ≡ before ++ after_prefix
-          cut = from_word ∙ ap (λ r. leading classes.is_alpha l ++ (leading classes.is_blank after_word ++ r)) tail
-              ∙ five_texts (leading classes.is_alpha l) (leading classes.is_blank after_word) handle_is (leading classes.is_blank after_handle) prefix_text after_prefix
+          cut = grind (arith, from_word, tail, five_texts, handle_is)
 
           position : further (length prefix_text) prefix_position ≡ further (suc (length before)) start
           position = five_positions start (leading classes.is_alpha l) (leading classes.is_blank after_word) handle_is (leading classes.is_blank after_handle) prefix_text
@@ -272,14 +240,7 @@ module _ (start : Position) (l n : List ℕ) (line : has_no_break l ≡ true) (e
 
       prefix_is : ((slice_index (from_prefix ++ n) 0 == 33) || is_tag (slice_index (from_prefix ++ n) 0)) ≡ true → prefix start (from_prefix ++ n) prefix_position ≡ prefix_result (decoded prefix_text)
       unfolding prefix classes.is_uri classes.is_decimal_digit classes.is_letter
-      prefix_is e =
-          let q = before_end classes.is_uri from_prefix n (none_at_end classes.is_uri refl refl n ends) in
-          rw (e, (uris_are_read start (from_prefix ++ n) prefix_position []).0, q.0) (by q.0 q.1 (decoded prefix_text))
-        where
-          by : leading classes.is_uri (from_prefix ++ n) ≡ prefix_text → after classes.is_uri (from_prefix ++ n) ≡ after_prefix ++ n → (d : Result (List ℕ) UriFault)
-              → after_class classes.is_uri start prefix_position (from_prefix ++ n) [] d ≡ prefix_result d
-          by lead rest (Ok cs) = rw (lead, rest) refl
-          by lead rest (Err f) = refl
+      prefix_is e = grind (arith, nat_tests, before_end, none_at_end, uris_are_read, after)
 
       prefix_fails : ((slice_index (from_prefix ++ n) 0 == 33) || is_tag (slice_index (from_prefix ++ n) 0)) ≡ false → prefix start (from_prefix ++ n) prefix_position ≡ Err (At problem.GlobalTagCharacter start)
       unfolding prefix
@@ -303,13 +264,10 @@ module _ (start : Position) (l n : List ℕ) (line : has_no_break l ≡ true) (e
     declarations : Told start l n (and_then (value start tag (after_word ++ n) word_position) (λ t. after_value start t))
     unfolding tag_value
     declarations = rw (blanks_skipped after_word word_position) (elim (handle_sees start said_position said n ends) [
-      | values.no_mark none without e ↦ declaration_refused problem.TagStart _ (rw without refl) (no_mark none) (ap go e)
-      | values.open_name c name rest same lead none without e ↦ declaration_refused problem.TagDirectiveHandle _ (rw without refl) (open_name c name rest same lead none) (ap go e)
+      | values.no_mark none without e ↦ rw e (declaration_refused problem.TagStart _ (rw without refl) (no_mark none) refl)
+      | values.open_name c name rest same lead none without e ↦ rw e (declaration_refused problem.TagDirectiveHandle _ (rw without refl) (open_name c name rest same lead none) refl)
       | values.found is spelled e ↦ rw e (prefix_read is spelled)
     ])
-      where
-        go : Result (Read (List ℕ)) Fault → Result (Read Tok) Fault
-        go x = and_then (and_then x (λ (h : Read (List ℕ)). prefix_after start h.value (blanks h.rest h.position))) (λ t. after_value start t)
 
   -- ---- other directives
 

@@ -1,14 +1,14 @@
 -- Parts of a directive's line: words, numbers, and what may stand after its value.
-use Rattle.proof_lexers.proofs.Common.{[], after, all_of, and_assoc, and_parts, and_then, ap, arith, At, begins_with, Bool, both_ways, cases_Bool, codes, decimal_value, Digits, digits_end, directive_break, drop, eqb-true, Err, false, Fault, first_break, further, has_no_break, if◌then◌else◌, inl, inr, is_alpha, is_alphanumeric, is_at_gap, is_before_line_feed, is_blank, is_blank_or_breakz, is_break, is_cr_lf, is_empty, is_rest_of_line, is_same, kind, leading, length, line_end, List, nat_le, nat_tests, ne_eqb, next_line, not, number, Ok, or_cases, past, past_break, Position, position_after, position_past, Read, refl, Result, run, slice_index, space, Stop, suc, sym, tag, take, true, unknown, version, Whitespace, Yes, ℕ, ◌&&◌, ◌*◌, ◌++◌, ◌+◌, ◌-◌, ◌==◌, ◌∙◌, ◌∷◌, ◌≡◌, ◌≤◌}
+use Rattle.proof_lexers.proofs.Common.{[], after, all_of, and_assoc, and_parts, and_then, ap, arith, At, begins_with, Bool, both_ways, cases_Bool, codes, decimal_value, Digits, directive_break, drop, eqb-true, Err, false, Fault, first_break, further, has_no_break, if◌then◌else◌, inl, inr, is_alpha, is_alphanumeric, is_at_gap, is_blank, is_blank_or_breakz, is_break, is_empty, is_rest_of_line, is_same, kind, leading, length, line_end, List, nat_le, nat_tests, ne_eqb, next_line, not, number, Ok, or_cases, past, Position, position_after, Read, refl, Result, run, slice_index, space, Stop, sym, tag, true, unknown, version, Whitespace, Yes, ℕ, ◌&&◌, ◌*◌, ◌++◌, ◌+◌, ◌-◌, ◌==◌, ◌∙◌, ◌∷◌, ◌≡◌, ◌≤◌}
 use Rattle.yaml_chars.specs.Class.{is_digit}
 use Rattle.yaml_tokens.specs.declared.problem.Problem.TheVariants as problem
 use Rattle.defs_text.specs.Classes as classes
 use Rattle.model_scanner.specs.Directive.{digit_turn}
 use Rattle.proof_lexers.proofs.Bridges.{same_break, same_gap, same_alpha}
 use Rattle.proof_lexers.specs.DirectiveEnds.{ends_line}
-use Rattle.proof_lexers.proofs.RestOfLine.{Rest, ends, glued, goes_on, rest_of_line}
+use Rattle.proof_lexers.proofs.RestOfLine.{Rest, rest_of_line}
 use Rattle.proof_lexers.proofs.Plain.Turns.{same_feed, in_line_position, line_position}
-use Rattle.proof_lexers.proofs.Classes.{begins_in, none_further, one_further}
+use Rattle.proof_lexers.proofs.Classes.{begins_in, one_further}
 use Rattle.proof_lexers.proofs.Blocks.Positions.{feed_past}
 
 -- ---- classes at a line's end
@@ -34,23 +34,9 @@ pub data LineEnds (start p : Position) (m n : List ℕ) (x : Result (Read (Unit 
   comment : begins_with 35 m ≡ true → is_rest_of_line m ≡ false → x ≡ Err (At problem.CommentNotSeparated p) → LineEnds start p m n x
   text : is_rest_of_line m ≡ false → begins_with 35 m ≡ false → x ≡ Err (At problem.DirectiveEnd start) → LineEnds start p m n x
 
-passed_feed : (c : ℕ) (n : List ℕ) (p : Position) → classes.is_break c ≡ true → is_cr_lf c n ≡ true → past_break (past p) ≡ position_after p (c ∷ take 1 n) (drop 1 n)
-passed_feed c [] p h e = let q = and_parts (c == 13) (0 == 10) e in cc
-passed_feed c (d ∷ r) p h e =
-    let q = and_parts (c == 13) (d == 10) e in
-    let feeds : is_before_line_feed c (d ∷ r) ≡ true = sym (same_feed c (d ∷ r)) ∙ e in
-    let feed : position_past (past p) d r ≡ past_break (past p) = rw (eqb-true d 10 q.1) (feed_past (past p) r) in
-    sym feed ∙ ap (λ z. position_past z d r) (sym (in_line_position c (d ∷ r) p (rw (h, feeds) refl)))
-
 break_passed : (start p : Position) (n : List ℕ) → ends_line n ≡ true → directive_break start n p ≡ Ok (record { rest = next_line n; position = position_after p (first_break n) (next_line n); value = tt })
 unfolding directive_break
-break_passed start p [] h = refl
-break_passed start p (c ∷ n) h = elim (cases_Bool (is_cr_lf c n)) [
-  | inl e ↦ rw (← same_break c, h, ← same_feed c n, e) (ap (λ q. Ok (record { rest = drop 1 n; position = q; value = tt })) (passed_feed c n p h e))
-  | inr e ↦
-      let feeds : is_before_line_feed c n ≡ false = sym (same_feed c n) ∙ e in
-      rw (← same_break c, h, ← same_feed c n, e) (ap (λ q. Ok (record { rest = n; position = q; value = tt })) (sym (line_position c n p (rw (h, feeds) refl))))
-]
+break_passed start p a h = grind (arith, same_break, same_feed, line_position, past, eqb-true, feed_past, in_line_position)
 
 -- how the end of a directive's line is read
 pub line_ends : (start p : Position) (m n : List ℕ) → has_no_break m ≡ true → ends_line n ≡ true → LineEnds start p m n (line_end start (m ++ n) p)
@@ -61,9 +47,7 @@ line_ends start p m n h k = told (space Yes (m ++ n) p) (rest_of_line m n p h k)
     go x = and_then x (λ (w : Read Whitespace). directive_break start w.rest w.position)
 
     told : (x : Result (Read Whitespace) Fault) → Rest m n p x → LineEnds start p m n (go x)
-    told x (ends w is e) = ended is (ap go e ∙ break_passed start (further (length m) p) n k)
-    told x (glued more so unlike e) = comment (ap (begins_with 35) so) unlike (ap go e)
-    told x (goes_on c more q w unlike begins solid e) = text unlike begins (ap go e ∙ rw solid refl)
+    told x a = grind (arith, ended, go, break_passed, start, further, p, comment, begins_with, text)
 
 -- ---- numbers
 
@@ -80,29 +64,11 @@ digits_read start p v k a =
 
 stopped_here : (start p : Position) (v k : ℕ) (a : List ℕ) → k ≤ 9 → leading classes.is_decimal_digit a ≡ [] → after classes.is_decimal_digit a ≡ a
     → Ok (record { rest = a; state = record { position = p; value = v; length = k } }) ≡ digits_read start p v k a
-stopped_here start p v k a few none same =
-    let few_still : nat_le (k + 0) 9 ≡ true = grind (arith, nat_tests, few) in
-    let so_many : k + 0 ≡ k = omega arith in
-    rw (none, same, few_still, so_many, none_further p) refl
+stopped_here start p v k a few none same = grind arith
 
 digits_run : (start : Position) (a : List ℕ) (p : Position) (v k : ℕ) → k ≤ 9 → run (digit_turn start) a (record { position = p; value = v; length = k }) ≡ digits_read start p v k a
 digits_run start [] p v k few = stopped_here start p v k [] few refl refl
-digits_run start (c ∷ a) p v k few = elim (cases_Bool (is_digit c)) [
-  | inr e ↦
-      let no_digit : classes.is_decimal_digit c ≡ false = digit_is c ∙ e in
-      rw e (stopped_here start p v k (c ∷ a) few (rw no_digit refl) (rw no_digit refl))
-  | inl e ↦
-      let digit : classes.is_decimal_digit c ≡ true = digit_is c ∙ e in
-      elim (cases_Bool (k == 9)) [
-        | inl f ↦
-            let many : nat_le (k + suc (length (leading classes.is_decimal_digit a))) 9 ≡ false = grind (arith, nat_tests, eqb-true k 9 f) in
-            rw (e, f, digit, many) refl
-        | inr f ↦
-            let fewer : k + 1 ≤ 9 = grind (arith, nat_tests, f, few) in
-            let so_many : (k + 1) + length (leading classes.is_decimal_digit a) ≡ k + suc (length (leading classes.is_decimal_digit a)) = omega arith in
-            rw (e, f, digit) (digits_run start a (past p) (v * 10 + (c - 48)) (k + 1) fewer ∙ rw (so_many, one_further p (length (leading classes.is_decimal_digit a))) refl)
-      ]
-]
+digits_run start (c ∷ a) p v k few = grind (arith, nat_tests, digit_is, one_further, digits_run start a (past p) (v * 10 + (c - 48)) (k + 1))
 
 -- what the scan of a version's number leaves
 abbrev pub number_read : (start p : Position) → (a : List ℕ) → Result (Read ℕ) Fault
@@ -114,17 +80,7 @@ number_read start p a =
 
 pub number_is_read : (start : Position) (a : List ℕ) (p : Position) → number start a p ≡ number_read start p a
 unfolding number
-number_is_read start a p = ap (digits_end start) (digits_run start a p 0 0 (omega arith)) ∙ by (leading classes.is_decimal_digit a)
-  where
-    by : (w : List ℕ) →
-        digits_end start (if nat_le (0 + length w) 9 then Ok (record { rest = after classes.is_decimal_digit a; state = record { position = further (length w) p; value = decimal_value 0 w; length = 0 + length w } }) else Err (At problem.VersionTooLong start))
-        ≡ (if is_empty w then Err (At problem.VersionNumber start) else
-        (if nat_le (length w) 9 then Ok (record { rest = after classes.is_decimal_digit a; position = further (length w) p; value = decimal_value 0 w }) else Err (At problem.VersionTooLong start)))
-    by [] = refl
-    by (c ∷ w) =
-        let so_many : 0 + suc (length w) ≡ suc (length w) = omega arith in
-        let some_digit : (suc (length w) == 0) ≡ false = grind (arith, nat_tests) in
-        rw so_many (elim (cases_Bool (nat_le (suc (length w)) 9)) [ inl e ↦ rw (e, some_digit) refl | inr e ↦ rw e refl ])
+number_is_read start a p = grind (arith, digits_run, after, further)
 
 -- ---- names
 
@@ -150,19 +106,10 @@ spells_name (d ∷ w) (c ∷ l) n h k =
     elim (cases_Bool (classes.is_alpha c)) [ inl e ↦ rw e (ap (λ x. (c == d) && x) (spells_name w l n q.1 k)) | inr e ↦ rw (e, distinct c d (sym (same_alpha c) ∙ e) q.0) refl ]
 
 version_spelled : (a : List ℕ) → ((slice_index a 0 == 89) && (slice_index a 1 == 65) && (slice_index a 2 == 77) && (slice_index a 3 == 76) && not (is_alpha (slice_index a 4))) ≡ spells (codes "YAML") a
-version_spelled [] = refl
-version_spelled (x ∷ []) = simp and_assoc refl
-version_spelled (x ∷ y ∷ []) = simp and_assoc refl
-version_spelled (x ∷ y ∷ z ∷ []) = simp and_assoc refl
-version_spelled (x ∷ y ∷ z ∷ u ∷ []) = simp and_assoc refl
-version_spelled (x ∷ y ∷ z ∷ u ∷ v ∷ r) = simp and_assoc refl
+version_spelled b = grind (arith, and_assoc)
 
 declaration_spelled : (a : List ℕ) → ((slice_index a 0 == 84) && (slice_index a 1 == 65) && (slice_index a 2 == 71) && not (is_alpha (slice_index a 3))) ≡ spells (codes "TAG") a
-declaration_spelled [] = refl
-declaration_spelled (x ∷ []) = simp and_assoc refl
-declaration_spelled (x ∷ y ∷ []) = simp and_assoc refl
-declaration_spelled (x ∷ y ∷ z ∷ []) = simp and_assoc refl
-declaration_spelled (x ∷ y ∷ z ∷ u ∷ r) = simp and_assoc refl
+declaration_spelled b = grind (arith, and_assoc)
 
 -- the kind of a directive by its name
 pub kind_is : (l n : List ℕ) → ends_line n ≡ true
@@ -176,6 +123,4 @@ kind_is l n h =
 -- whether a blank, a break or the end stands after part of a line
 pub gap_is : (m n : List ℕ) → ends_line n ≡ true → is_blank_or_breakz (slice_index (m ++ n) 0) ≡ is_at_gap m
 unfolding is_blank is_break classes.is_break
-gap_is [] [] h = refl
-gap_is [] (c ∷ n) h = elim (or_cases (c == 10) (c == 13) h) [ inl e ↦ rw (eqb-true c 10 e) refl | inr e ↦ rw (eqb-true c 13 e) refl ]
-gap_is (c ∷ m) n h = sym (same_gap c)
+gap_is a n h = grind (arith, eqb-true, same_gap)

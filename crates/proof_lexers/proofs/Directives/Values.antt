@@ -63,8 +63,7 @@ not_at_end k nul lf cr [] h = nul
 not_at_end k nul lf cr (c ∷ n) h = none_at_end (λ d. d == k) lf cr (c ∷ n) h
 
 no_second_mark : (w s : List ℕ) → begins_with_mark s ≡ false → name_and_mark (33 ∷ []) w s ≡ (33 ∷ w, s)
-no_second_mark w [] h = refl
-no_second_mark w (d ∷ s) h = rw h refl
+no_second_mark w a h = grind arith
 
 -- a name without a second mark is no handle
 pub no_handle : (c : ℕ) (w r : List ℕ) → leading classes.is_alpha r ≡ c ∷ w → begins_with_mark (after classes.is_alpha r) ≡ false → is_handle (handle_and_rest (33 ∷ r)).0 ≡ false
@@ -81,9 +80,7 @@ module _ (start p : Position) (r n : List ℕ) (ends : ends_line n ≡ true) whe
   -- none stands there
   without_mark : (w s : List ℕ) → leading classes.is_alpha r ≡ w → after classes.is_alpha r ≡ s → r ≡ w ++ s → all_of classes.is_alpha w ≡ true → begins_with_mark s ≡ false
       → HandleSees start p (33 ∷ r) n (if is_same w [] then Ok (record { rest = s ++ n; position = further (length w) (past p); value = 33 ∷ w }) else Err (At problem.TagDirectiveHandle start))
-  without_mark [] s lead rest cut all none =
-      let is : handle_and_rest (33 ∷ r) ≡ (33 ∷ [], s) = rw (lead, rest) (no_second_mark [] s none) in
-      found (rw is refl) (rw is (ap (λ k. 33 ∷ k) cut)) (rw is (ap (λ q. Ok (record { rest = s ++ n; position = q; value = 33 ∷ [] })) (same_place p 1 (omega arith) (omega arith))))
+  without_mark [] s lead rest cut all none = grind arith
   without_mark (c ∷ w) s lead rest cut all none =
       let unmarked : begins_with_mark (after classes.is_alpha r) ≡ false = ap begins_with_mark rest ∙ none in
       open_name c w r refl lead unmarked (no_handle c w r lead unmarked) refl

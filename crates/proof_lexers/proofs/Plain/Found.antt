@@ -1,5 +1,5 @@
 -- What a plain scalar's scan finds from a position in it on, and what one character before that adds.
-use Rattle.proof_lexers.proofs.Common.{[], and_parts, ap, append_assoc, arith, At, begins_flow, begins_token, begins_white, Bool, cases_Bool, collection_of, Context, ends_plain, ends_with_content, Err, false, Fault, Folded, goes_on, has_break, if◌then◌else◌, inl, inr, is_apart, is_before_line_feed, is_blanks, is_gap, is_white, joined, List, nat_lt, not, Ok, on_line, Option, or-false, or-true, or_parts, Plain, Position, position_after, position_past, Read, refl, Result, Stand, stand_after, stops, subst, sym, true, with_blank, with_break, with_char, ℕ, ◌&&◌, ◌++◌, ◌==◌, ◌||◌, ◌∙◌, ◌∷◌, ◌≡◌}
+use Rattle.proof_lexers.proofs.Common.{[], and_parts, ap, append_assoc, arith, At, begins_flow, begins_token, begins_white, Bool, collection_of, Context, ends_plain, ends_with_content, Err, false, Fault, Folded, goes_on, has_break, if◌then◌else◌, is_apart, is_before_line_feed, is_blanks, is_gap, is_white, joined, List, nat_lt, not, Ok, on_line, Option, or-false, or-true, Plain, Position, position_after, position_past, Read, refl, Result, Stand, stand_after, stops, subst, sym, true, with_blank, with_break, with_char, ℕ, ◌&&◌, ◌++◌, ◌||◌, ◌∙◌, ◌∷◌, ◌≡◌}
 use Rattle.yaml_tokens.specs.declared.problem.Problem.TheVariants as problem
 use Rattle.defs_text.specs.Classes.{is_blank, is_break, is_flow}
 use Rattle.defs_token.specs.Plain.{inside, past}
@@ -44,13 +44,7 @@ flow_solid c h = grind (arith, h)
 
 -- in flow no plain scalar goes on over a flow indicator
 pub no_flow_in : (flow : Bool) (collection : Option ℕ) (s : Stand) (c : ℕ) (r next : List ℕ) → goes_on flow collection s (c ∷ r) next ≡ true → (flow && is_flow c) ≡ false
-no_flow_in flow collection s c r next h = elim (cases_Bool (flow && is_flow c)) [
-  | inr e ↦ e
-  | inl e ↦
-      let on = (further_on flow collection s c r next h).0 in
-      let ends : ends_plain flow collection s (c ∷ (r ++ next)) ≡ true = rw e (or-true _) in
-      absurd (cc (on, ends, flow_solid c (and_parts flow (is_flow c) e).1))
-]
+no_flow_in flow a s c r next h = grind (arith, further_on, or-true, flow_solid)
 
 -- In flow a scalar does not go on over the start of a text that begins with a flow indicator, up to another character.
 pub no_flow : (flow : Bool) (collection : Option ℕ) (s : Stand) (before : List ℕ) (c : ℕ) (more rest : List ℕ) → flow ≡ true → rest ≡ before ++ c ∷ more → is_flow c ≡ false → begins_flow rest ≡ true → goes_on flow collection s before (c ∷ more) ≡ true → ⊥
@@ -58,6 +52,21 @@ no_flow flow collection s [] c more rest e cut other begins goes = cc (ap begins
 no_flow flow collection s (d ∷ before) c more rest e cut other begins goes =
     let here : (flow && is_flow d) ≡ true = rw e (sym (ap begins_flow cut) ∙ begins) in
     cc (here, no_flow_in flow collection s d before (c ∷ more) goes)
+
+-- whether a text begins with a break
+abbrev pub begins_break : List ℕ → Bool
+begins_break [] = false
+begins_break (c ∷ r) = is_break c
+
+no_break_first : (rest : List ℕ) → begins_white rest ≡ false → begins_break rest ≡ false
+no_break_first a h = grind arith
+
+-- of CR LF the LF is a break
+pub feed_breaks : (c : ℕ) (gap rest : List ℕ) → is_before_line_feed c (gap ++ rest) ≡ true → begins_break rest ≡ false → has_break gap ≡ true
+unfolding is_break
+feed_breaks c [] [] h ends = cc
+feed_breaks c [] (d ∷ r) h ends = grind arith
+feed_breaks c (d ∷ gap) rest h ends = grind arith
 
 module _ (ctx : Context) (start : Position) where
   -- The text after a position in a scalar has a TAB at a line's start and content after it; or, after such a TAB, it is content.
@@ -124,29 +133,11 @@ module _ (ctx : Context) (start : Position) where
   -- ---- a blank or a break before it
 
   gap_text : (c : ℕ) (a : List ℕ) (t : Folded) → is_white c ≡ true → (after_char c a t).text ≡ t.text
-  gap_text c a t h = elim (cases_Bool (is_break c)) [
-    | inl e ↦ elim (cases_Bool (is_before_line_feed c a)) [ inl f ↦ rw (e, f) refl | inr f ↦ rw (e, f) (elim (cases_Bool t.leading) [ inl g ↦ rw g refl | inr g ↦ rw g refl ]) ]
-    | inr e ↦ let blank : is_blank c ≡ true = sym (or-false (is_blank c)) ∙ (rw e at h) in rw (e, blank) (elim (cases_Bool t.leading) [ inl g ↦ rw g refl | inr g ↦ rw g refl ])
-  ]
-
-  feed_is_break : (d : ℕ) → (d == 10) ≡ true → is_break d ≡ true
-  unfolding is_break
-  feed_is_break d h = rw h refl
-
-  feed_breaks : (c : ℕ) (gap rest : List ℕ) → is_before_line_feed c (gap ++ rest) ≡ true → begins_white rest ≡ false → has_break gap ≡ true
-  feed_breaks c [] [] h ends = cc
-  feed_breaks c [] (d ∷ r) h ends = let q = and_parts (c == 13) (d == 10) h in let no : true ≡ false = rw (feed_is_break d q.1, or-true) at ends in cc
-  feed_breaks c (d ∷ gap) rest h ends = let q = and_parts (c == 13) (d == 10) h in rw (feed_is_break d q.1) refl
+  gap_text c a t h = grind arith
 
   -- a break sets that one stands before the gap's end, but for the CR of CR LF, after which a break follows
   gap_leads : (c : ℕ) (gap rest : List ℕ) (t : Folded) → is_white c ≡ true → begins_white rest ≡ false → ((after_char c (gap ++ rest) t).leading || has_break gap) ≡ (t.leading || (is_break c || has_break gap))
-  gap_leads c gap rest t h ends = elim (cases_Bool (is_break c)) [
-    | inl e ↦ elim (cases_Bool (is_before_line_feed c (gap ++ rest))) [
-      | inl f ↦ rw (e, f, feed_breaks c gap rest f ends) refl
-      | inr f ↦ rw (e, f) (elim (cases_Bool t.leading) [ inl g ↦ rw g refl | inr g ↦ rw g refl ])
-    ]
-    | inr e ↦ let blank : is_blank c ≡ true = sym (or-false (is_blank c)) ∙ (rw e at h) in rw (e, blank) (elim (cases_Bool t.leading) [ inl g ↦ rw g refl | inr g ↦ rw g refl ])
-  ]
+  gap_leads c gap rest t h a = grind (arith, feed_breaks, no_break_first, or-false)
 
   pub after_gap : (c : ℕ) (a : List ℕ) (tabs u : Bool) (s : Stand) (p : Position) (t : Folded) (x : Result (Read Plain) Fault) → is_white c ≡ true
       → ((f : Fault) → Fails u (past s c) (position_past p c a) a f → Fails tabs s p (c ∷ a) f)
@@ -162,19 +153,16 @@ module _ (ctx : Context) (start : Position) where
   -- ---- a character of content before it
 
   pub after_inside : (more : List ℕ) → after_more inside more ≡ inside
-  after_inside [] = refl
-  after_inside (c ∷ more) = refl
+  after_inside a = grind arith
 
   pub solid_first : (c : ℕ) (more : List ℕ) → is_white c ≡ false → is_solid_end more ≡ true → ends_with_content c more ≡ true
-  solid_first c [] h e = let q = or_parts (is_blank c) (is_break c) h in rw (q.0, q.1) refl
-  solid_first c (d ∷ more) h e = e
+  solid_first c a h e = grind arith
 
   pub content_char : (c : ℕ) (a : List ℕ) (t : Folded) → is_break c ≡ false → is_blank c ≡ false → with_char c (joined t) ≡ after_char c a t
   content_char c a t e f = rw (e, f) refl
 
   pub no_lead : (c : ℕ) (more gap : List ℕ) (t : Folded) → leads more (with_char c (joined t)) gap ≡ has_break gap
-  no_lead c [] gap t = refl
-  no_lead c (d ∷ more) gap t = refl
+  no_lead c a gap t = grind arith
 
   pub past_content : (c : ℕ) (s : Stand) → is_break c ≡ false → is_blank c ≡ false → past s c ≡ inside
   past_content c s e f = rw (e, f) refl
@@ -197,8 +185,7 @@ module _ (ctx : Context) (start : Position) where
 
   -- Text that begins with a flow indicator has no TAB that is told from there.
   pub flow_untabbed : (a : List ℕ) (s : Stand) → ctx.flow ≡ true → begins_flow a ≡ true → Tabbed false s a → ⊥
-  flow_untabbed a s flow begins (tab before blanks rest column cut goes line less blank solid) = no_flow ctx.flow (collection_of ctx.indent) s before 9 (blanks ++ rest) a flow cut tab_no_flow begins goes
-  flow_untabbed a s flow begins (after_tab blanks rest are cut blank solid) = cc are
+  flow_untabbed a s flow b d = grind (arith, no_flow, tab_no_flow)
 
   pub dash_untabbed : (c : ℕ) (a : List ℕ) (s : Stand) → ctx.flow ≡ true → c ≡ 45 → begins_flow a ≡ true → Tabbed false s (c ∷ a) → ⊥
   dash_untabbed c a s flow is begins t =

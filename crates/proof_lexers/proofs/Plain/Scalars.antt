@@ -64,8 +64,7 @@ module _ (ctx : Context) (start : Position) (c : ℕ) (a : List ℕ) (white : is
       (is ∙ same_left ctx start rest _ _ _ _ _ _ (after_first (more ++ gap) rest) (ap (λ u. (after_text more u).text) (content_char ctx start c more nothing break blank)) (no_lead ctx start c more gap nothing))
     where
       inside_too : (more : List ℕ) → stops ctx.flow (collection_of ctx.indent) (after_more defs.inside more) (gap ++ rest) ≡ true → stops ctx.flow (collection_of ctx.indent) defs.inside (gap ++ rest) ≡ true
-      inside_too [] h = h
-      inside_too (d ∷ more) h = h
+      inside_too a h = grind arith
   ended deep x (fails f why is) = refuses f (refusal deep f why) is
 
   begun : begins_left ctx start ≡ false → has_no_nul a ≡ true → is_indented ctx start ≡ true → EndsAs (IsPlainRead ctx start (c ∷ a)) (IsPlainRefusal ctx start (c ∷ a)) (plain_from ctx start (c ∷ a) (record { mode = first; position = start; folded = nothing }))
@@ -97,5 +96,4 @@ scalars_read ctx piece next value p full solid indented whole is = ends_also by 
         rw (sym z.0, value_is) (just gap rest z.1 gaps ends)
 
     begins : (piece : List ℕ) → begins_solid piece ≡ true → begins_solid (piece ++ next) ≡ true
-    begins [] h = cc
-    begins (c ∷ r) h = h
+    begins a h = grind arith

@@ -16,10 +16,7 @@ data Kind (c : ℕ) : Type 0 where
   solid : is_white c ≡ false → (is_break c || is_blank c) ≡ false → Kind c
 
 kind : (c : ℕ) → Kind c
-kind c = elim (cases_Bool (is_break c)) [
-  | inl e ↦ breaks e
-  | inr e ↦ elim (cases_Bool (is_blank c)) [ inl f ↦ blanks e f | inr f ↦ solid (rw (same_blank c, same_break c, e, f) refl) (rw (e, f) refl) ]
-]
+kind c = grind (arith, breaks, solid, same_blank, same_break)
 
 not_nul : (c : ℕ) → classes.is_nul c ≡ false → (c == 0) ≡ false
 unfolding classes.is_nul
@@ -66,10 +63,7 @@ module _ (ctx : Context) (start : Position) where
       (at_line (suc column) (omega (arith, is)) (rw lead refl)) (rw (e, f, lead, h) refl)
     where
       no_mark : (k : ℕ) → c ≡ 9 → on_line column ≡ on_line k → nat_lt k ctx.indent ≡ true → ⊥
-      no_mark k i l j =
-          let same : k ≡ p.col = cc (l, is) in
-          let marked : ((c == 9) && nat_lt p.col ctx.indent) ≡ true = rw (i, ← same) j in
-          cc (h, marked)
+      no_mark k i l j = grind arith
 
   line_by : (c column : ℕ) (a : List ℕ) (p : Position) (t : Folded) → (c == 0) ≡ false → column ≡ p.col → t.leading ≡ true → Scans ctx start a → Kind c
       → Found ctx start false (on_line column) p t (c ∷ a) (scan ctx start (c ∷ a) between p t)

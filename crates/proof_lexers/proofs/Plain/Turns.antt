@@ -1,12 +1,12 @@
 -- What the model does at each character of a plain scalar, in the definitions' words.
-use Rattle.proof_lexers.proofs.Common.{[], after_blank, and_parts, ap, arith, At, at_break, at_dash, at_marker, at_plain, begins_flow, begins_token, begins_white, Bool, can_be_plain, cases_Bool, collection_of, Context, ends_at_colon, ends_at_comment, ends_at_line, ends_plain, eqb-true, Err, false, Fault, Folded, inl, inr, is_before_line_feed, is_blank, is_blank_or_breakz, is_blanks, is_break, is_cr_lf, is_deeper, is_flow, is_shallow, is_value_indicator, is_white, joined, List, nat_lt, nat_tests, not, Ok, on_line, or-true, or_parts, past, past_break, Plain, plain_from, Position, position_past, Read, refl, Result, slice_index, Stand, stops, suc, sym, tabs, true, with_blank, with_break, with_char, zero, ℕ, ◌&&◌, ◌++◌, ◌+◌, ◌==◌, ◌||◌, ◌∙◌, ◌∷◌, ◌≡◌}
+use Rattle.proof_lexers.proofs.Common.{[], after_blank, and_parts, ap, arith, At, at_break, at_dash, at_marker, at_plain, begins_flow, begins_token, begins_white, Bool, can_be_plain, cases_Bool, collection_of, Context, ends_at_colon, ends_at_comment, ends_at_line, ends_plain, eqb-true, Err, false, Fault, Folded, inl, inr, is_before_line_feed, is_blank, is_blank_or_breakz, is_blanks, is_break, is_cr_lf, is_deeper, is_flow, is_shallow, is_value_indicator, is_white, joined, List, nat_lt, nat_tests, not, Ok, on_line, or-true, or_parts, past, past_break, Plain, plain_from, Position, position_past, Read, refl, Result, slice_index, Stand, stops, suc, sym, tabs, true, with_blank, with_break, with_char, ℕ, ◌&&◌, ◌++◌, ◌+◌, ◌==◌, ◌||◌, ◌∙◌, ◌∷◌, ◌≡◌}
 use Rattle.yaml_tokens.specs.declared.problem.Problem.TheVariants as problem
 use Rattle.defs_text.specs.Classes as classes
 use Rattle.defs_token.specs.Plain as defs
 use Rattle.model_scanner.specs.Plain.{Mode, inside, between, goes_on}
 use Rattle.proof_lexers.proofs.Bridges.{both, same_break, same_blank, same_gap, same_flow, same_marker, and_false}
 pub use Rattle.proof_lexers.proofs.Bridges.{or_false}
-use Rattle.proof_lexers.proofs.Plain.Found.{after_char, tab_blank, Tabbed, Moves, Fails, Found, found, further, after_gap, after_content}
+use Rattle.proof_lexers.proofs.Plain.Found.{after_char, tab_blank, Tabbed, Moves, Found, found, further, after_gap, after_content}
 
 pub or_true : (b : Bool) → (b || true) ≡ true
 or_true b = or-true b
@@ -15,23 +15,18 @@ or_true b = or-true b
 
 colon_is_no_flow : (flow : Bool) → (flow && classes.is_flow 58) ≡ false
 unfolding classes.is_flow
-colon_is_no_flow true = refl
-colon_is_no_flow false = refl
+colon_is_no_flow a = grind arith
 
 pub end_is_a_gap : is_blank_or_breakz 0 ≡ true
 unfolding is_blank is_break
 end_is_a_gap = refl
 
 colon_by : (flow : Bool) (a : List ℕ) → not (is_blank_or_breakz (slice_index a 0) || (flow && is_flow (slice_index a 0))) ≡ not (is_value_indicator flow false a)
-colon_by flow [] = rw end_is_a_gap refl
-colon_by flow (d ∷ a) = rw (same_gap d, same_flow d, or_false (is_flow d)) refl
+colon_by flow b = grind (arith, end_is_a_gap, same_gap, same_flow, or_false)
 
 pub can_be : (flow : Bool) (c : ℕ) (a : List ℕ) → can_be_plain flow c (slice_index a 0) ≡ not (ends_at_colon flow (c ∷ a) || (flow && classes.is_flow c))
 unfolding can_be_plain
-can_be flow c a = elim (cases_Bool (c == 58)) [
-  | inl e ↦ let same : c ≡ 58 = eqb-true c 58 e in rw (same, colon_is_no_flow flow, or_false) (colon_by flow a)
-  | inr e ↦ rw (e, same_flow c) refl
-]
+can_be flow c a = grind (arith, eqb-true, colon_is_no_flow, or_false, colon_by, same_flow)
 
 pub not_nul : (c : ℕ) → (c == 0) ≡ false → classes.is_nul c ≡ false
 unfolding classes.is_nul
@@ -44,8 +39,7 @@ solid_plain flow c a white nul =
     rw (← same_gap c, q.0, q.1, not_nul c nul, can_be flow c a) refl
 
 shallow_by : (indent column : ℕ) → not (is_deeper (collection_of indent) column) ≡ nat_lt column indent
-shallow_by zero column = grind (arith, nat_tests)
-shallow_by (suc n) column = both _ _ (λ h. grind (arith, nat_tests)) (λ h. grind (arith, nat_tests))
+shallow_by a column = grind (arith, nat_tests, both)
 
 pub line_is : (ctx : Context) (c column : ℕ) (a : List ℕ) → ends_at_line ctx.flow (collection_of ctx.indent) (on_line column) (c ∷ a) ≡ (at_marker column (c ∷ a) || is_shallow ctx column)
 unfolding is_shallow
@@ -55,8 +49,7 @@ pub no_line : (ctx : Context) (c : ℕ) (a : List ℕ) (p : Position) → (p.col
 no_line ctx c a p e f = rw (same_marker p.col (c ∷ a), e, f) refl
 
 pub same_feed : (c : ℕ) (a : List ℕ) → is_cr_lf c a ≡ is_before_line_feed c a
-same_feed c [] = and_false (c == 13)
-same_feed c (d ∷ a) = refl
+same_feed c b = grind (arith, and_false)
 
 -- ---- positions
 
@@ -114,25 +107,23 @@ module _ (ctx : Context) (start : Position) where
   broken_leads : (t : Folded) → (with_break t).leading ≡ true
   broken_leads t = elim (cases_Bool t.leading) [ inl e ↦ rw e refl | inr e ↦ rw e refl ]
 
+  -- a blank or a break is passed
+  gap_step : (c : ℕ) (a : List ℕ) (u : Bool) (n : Mode) (s next : Stand) (p q : Position) (t v : Folded) (x : Result (Read Plain) Fault) → is_white c ≡ true → defs.past s c ≡ next → position_past p c a ≡ q → after_char c a t ≡ v
+      → ((blanks rest : List ℕ) → is_tabs n ≡ true → a ≡ blanks ++ rest → is_blanks blanks ≡ true → begins_token rest ≡ true → Tabbed ctx start u s (c ∷ a)) → Moves ctx start c a u (is_tabs n) s
+      → Scans a → IsStanding a q v n next → x ≡ scan a n q v → Found ctx start u s p t (c ∷ a) x
+  gap_step c a u n s next p q t v x white e f g tabs_after moves ih stands is =
+      rw is (after_gap ctx start c a u (is_tabs n) s p t _ white (λ k why. further ctx start c a u (is_tabs n) s (defs.past s c) p k refl (rw white refl) tabs_after moves why) (found_at (is_tabs n) _ next _ q _ v a _ e f g (ih n next q v stands)))
+
   pub break_step : (c : ℕ) (a : List ℕ) (u : Bool) (m : Mode) (s : Stand) (p : Position) (t : Folded) (x : Result (Read Plain) Fault) → is_break c ≡ true → Scans a
       → x ≡ plain_from ctx start a (at_break c a (record { mode = m; position = p; folded = t })) → Found ctx start u s p t (c ∷ a) x
   break_step c a u m s p t x e ih is = elim (cases_Bool (is_cr_lf c a)) [
     | inl f ↦
         let z = feeds a f in
         let g : is_before_line_feed c a ≡ true = sym (same_feed c a) ∙ f in
-        let here : classes.is_break c && not (is_before_line_feed c a) ≡ false = rw g (and_false (classes.is_break c)) in
-        let k = rw f at is in
-        rw k
-        (after_gap ctx start c a u false s p t _ white grow
-        (found_at false (defs.past s c) (on_line 0) (position_past p c a) (past p) (after_char c a t) t a _ (rw breaks refl) (in_line_position c a p here) (rw (breaks, g) refl)
-        (ih between (on_line 0) (past p) t (at_feed 0 z.0 z.1))))
+        gap_step c a u between s (on_line 0) p (past p) t t x white (rw breaks refl) (in_line_position c a p (rw g (and_false (classes.is_break c)))) (rw (breaks, g) refl) (λ b r k. cc) moves ih (at_feed 0 z.0 z.1) (rw f at is)
     | inr f ↦
         let g : is_before_line_feed c a ≡ false = sym (same_feed c a) ∙ f in
-        let k = rw f at is in
-        rw k
-        (after_gap ctx start c a u false s p t _ white grow
-        (found_at false (defs.past s c) (on_line 0) (position_past p c a) (past_break p) (after_char c a t) (with_break t) a _ (rw breaks refl) (line_position c a p (rw (breaks, g) refl)) (rw (breaks, g) refl)
-        (ih between (on_line 0) (past_break p) (with_break t) (at_line 0 refl (broken_leads t)))))
+        gap_step c a u between s (on_line 0) p (past_break p) t (with_break t) x white (rw breaks refl) (line_position c a p (rw (breaks, g) refl)) (rw (breaks, g) refl) (λ b r k. cc) moves ih (at_line 0 refl (broken_leads t)) (rw f at is)
   ]
     where
       breaks : classes.is_break c ≡ true
@@ -148,9 +139,6 @@ module _ (ctx : Context) (start : Position) where
       moves : Moves ctx start c a u false s
       moves = record { begins = λ k i l h. absurd (break_or_blank c breaks (ap classes.is_blank i ∙ tab_blank)); goes_further = λ i b. absurd (break_or_blank c breaks b); is_no_token = λ i. rw white refl }
 
-      grow : (f : Fault) → Fails ctx start false (defs.past s c) (position_past p c a) a f → Fails ctx start u s p (c ∷ a) f
-      grow f why = further ctx start c a u false s (defs.past s c) p f refl (rw white refl) (λ b r k. cc) moves why
-
   -- ---- blanks
 
   blank_white : (c : ℕ) → is_blank c ≡ true → is_white c ≡ true
@@ -161,19 +149,11 @@ module _ (ctx : Context) (start : Position) where
       → ((column : ℕ) → c ≡ 9 → s ≡ on_line column → nat_lt column ctx.indent ≡ true → is_tabs n ≡ true) → (u ≡ true → is_tabs n ≡ true)
       → Scans a → IsStanding a (past p) (with_blank c t) n next → x ≡ scan a n (past p) (with_blank c t) → Found ctx start u s p t (c ∷ a) x
   blank_step c a u m n s next p t x e f g tabs_after begins stays ih stands is =
-      rw is
-      (after_gap ctx start c a u (is_tabs n) s p t _ (blank_white c f) grow
-      (found_at (is_tabs n) (defs.past s c) next (position_past p c a) (past p) (after_char c a t) (with_blank c t) a _ (rw (no_break, blank) g) (in_line_position c a p (rw no_break refl)) (rw (no_break, blank) refl)
-      (ih n next (past p) (with_blank c t) stands)))
-    where
-      no_break : classes.is_break c ≡ false
-      no_break = same_break c ∙ e
-
-      blank : classes.is_blank c ≡ true
-      blank = same_blank c ∙ f
-
-      grow : (k : Fault) → Fails ctx start (is_tabs n) (defs.past s c) (position_past p c a) a k → Fails ctx start u s p (c ∷ a) k
-      grow k why = further ctx start c a u (is_tabs n) s (defs.past s c) p k refl (rw (blank_white c f) refl) tabs_after (record { begins = begins; goes_further = λ i b. stays i; is_no_token = λ i. rw (blank_white c f) refl }) why
+      let no_break : classes.is_break c ≡ false = same_break c ∙ e in
+      let blank : classes.is_blank c ≡ true = same_blank c ∙ f in
+      let white = blank_white c f in
+      gap_step c a u n s next p (past p) t (with_blank c t) x white (rw (no_break, blank) g) (in_line_position c a p (rw no_break refl)) (rw (no_break, blank) refl) tabs_after
+      (record { begins = begins; goes_further = λ i b. stays i; is_no_token = λ i. rw white refl }) ih stands is
 
   pub no_tabs : {A : Type 0} → false ≡ true → A
   no_tabs e = cc
@@ -196,8 +176,7 @@ module _ (ctx : Context) (start : Position) where
     dashed : ctx.flow ≡ true → c ≡ 45 → begins_flow a ≡ true → x ≡ Err (At problem.PlainDashInFlow p) → Outcome c a s p t x
 
   by_over : (g k b : Bool) → (g || k) ≡ b → ((((false || g) || false) || false) || k) ≡ b
-  by_over true k b h = h
-  by_over false k b h = h
+  by_over a k b h = grind arith
 
   ends_line : (c : ℕ) (a : List ℕ) (s : Stand) → ends_at_line ctx.flow (collection_of ctx.indent) s (c ∷ a) ≡ true → ends_plain ctx.flow (collection_of ctx.indent) s (c ∷ a) ≡ true
   ends_line c a s h = rw (h, or-true) refl
@@ -211,8 +190,7 @@ module _ (ctx : Context) (start : Position) where
 
   pub dash_parts : (flow : Bool) (c : ℕ) (a : List ℕ) → at_dash flow (c ∷ a) ≡ true → (flow ≡ true) × (c ≡ 45) × (begins_flow a ≡ true)
   unfolding at_dash is_flow
-  dash_parts flow c [] h = let q = and_parts (flow && (c == 45)) false h in let no : false ≡ true = q.1 in cc
-  dash_parts flow c (d ∷ a) h = let q = and_parts (flow && (c == 45)) (is_flow d) h in let r = and_parts flow (c == 45) q.0 in (r.0, eqb-true c 45 r.1, same_flow d ∙ q.1)
+  dash_parts flow c b h = grind (arith, nat_tests, eqb-true, same_flow)
 
   pub solid_too : (c : ℕ) → is_white c ≡ false → (is_break c || is_blank c) ≡ false
   solid_too c white = let q = or_parts (classes.is_blank c) (classes.is_break c) white in rw (← same_break c, ← same_blank c, q.0, q.1) refl

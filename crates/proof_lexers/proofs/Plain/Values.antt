@@ -1,5 +1,5 @@
 -- The buffers after a plain scalar have its value, and no line of it begins with a document marker.
-use Rattle.proof_lexers.proofs.Common.{[], after_element, after_elements, and_parts, ap, append-nil, are_marks, arith, begins_with_marker, blank, Bool, break_further, cases_Bool, content, drop, Element, elements, ends_plain, ends_with_content, eqb-true, false, Folded, goes_on, has_document_marker, if◌then◌else◌, inl, inr, is_before_line_feed, is_blank_or_end, is_document_marker, is_white, joined, line_break, List, nat_tests, not, not-true, nothing, on_line, Option, or-true, plain_element, plain_value, refl, Some, Spelled, Stand, suc, sym, true, with_break, zero, ℕ, ◌&&◌, ◌++◌, ◌==◌, ◌||◌, ◌∙◌, ◌∷◌, ◌≡◌}
+use Rattle.proof_lexers.proofs.Common.{[], after_element, after_elements, and_parts, ap, append-nil, are_marks, arith, begins_with_marker, blank, Bool, break_further, cases_Bool, content, drop, Element, elements, ends_plain, ends_with_content, eqb-true, false, Folded, goes_on, has_document_marker, if◌then◌else◌, inl, inr, is_before_line_feed, is_blank_or_end, is_document_marker, is_white, joined, line_break, List, nat_tests, not, not-true, nothing, on_line, Option, or-true, plain_element, plain_value, refl, Some, Spelled, Stand, suc, sym, true, with_break, zero, ℕ, ◌&&◌, ◌++◌, ◌||◌, ◌∙◌, ◌∷◌, ◌≡◌}
 use Rattle.defs_text.specs.Classes.{is_blank, is_break}
 use Rattle.defs_token.specs.Plain.{past}
 use Rattle.proof_lexers.proofs.Fold.{buffers_join}
@@ -22,16 +22,10 @@ one_more c a e k is same z = record { all = e ∷ z.all; are = rw (is, z.are) re
 
 feed_text : (b : List ℕ) (t : Folded) → after_text b (with_break t) ≡ after_text (10 ∷ b) t
 unfolding is_break
-feed_text [] t = refl
-feed_text (d ∷ b) t = refl
+feed_text a t = grind arith
 
 broken : (c : ℕ) (a : List ℕ) → is_break c ≡ true → (feed : Bool) → is_before_line_feed c a ≡ feed → (t : Folded) → after_text (drop (if feed then 1 else 0) a) (with_break t) ≡ after_text (c ∷ a) t
-broken c a e false f t = rw (e, f) refl
-broken c [] e true f t = cc
-broken c (d ∷ b) e true f t =
-    let q = and_parts (c == 13) (d == 10) f in
-    let feed : d ≡ 10 = eqb-true d 10 q.1 in
-    rw (e, f, feed) (feed_text b t)
+broken c a e b f t = grind (arith, eqb-true, feed_text)
 
 first_element : (c : ℕ) (a : List ℕ) → ((k : ℕ) → Elements k a) → Elements 0 (c ∷ a)
 unfolding plain_element
@@ -59,11 +53,7 @@ joined_solid c (d ∷ r) t h = joined_solid d r (after_char c (d ∷ r) t) h
 
 marks_stand : (a : List ℕ) (next : List ℕ) → begins_with_marker a ≡ true → is_document_marker (a ++ next) ≡ true
 unfolding begins_with_marker is_blank_or_end
-marks_stand [] next h = cc
-marks_stand (a ∷ []) next h = cc
-marks_stand (a ∷ b ∷ []) next h = cc
-marks_stand (a ∷ b ∷ c ∷ []) next h = cc
-marks_stand (a ∷ b ∷ c ∷ d ∷ r) next h = let q = and_parts (are_marks a b c) (is_blank d || is_break d) h in rw (q.0, q.1) refl
+marks_stand b d h = grind arith
 
 ends_marked : (flow : Bool) (collection : Option ℕ) (c : ℕ) (r : List ℕ) → is_document_marker (c ∷ r) ≡ true → ends_plain flow collection (on_line 0) (c ∷ r) ≡ true
 ends_marked flow collection c r h = rw (h, or-true) refl

@@ -1,5 +1,5 @@
 -- The names of anchors and aliases are read as they stand.
-use Rattle.proof_lexers.proofs.Common.{[], after, all_of, ap, arith, EndsAs, false, further, is_anchor, is_anchor_name, IsNameRead, IsNameRefusal, leading, length, List, nameless, NamesAreRead, NamesEndAsTheirTextSays, Ok, past, Position, reads, refl, refuses, true, ℕ, ◌++◌, ◌+◌, ◌∙◌, ◌∷◌, ◌≡◌}
+use Rattle.proof_lexers.proofs.Common.{[], after, all_of, ap, arith, EndsAs, false, further, is_anchor, is_anchor_name, IsNameRead, IsNameRefusal, leading, length, List, nameless, NamesAreRead, NamesEndAsTheirTextSays, past, Position, reads, refl, refuses, true, ℕ, ◌++◌, ◌∙◌, ◌∷◌, ◌≡◌}
 use Rattle.model_scanner.specs.Anchor.{some_name, anchor_name}
 use Rattle.defs_token.specs.Piece.{goes_on_with_name}
 use Rattle.proof_lexers.proofs.Bridges.{same_flow, same_gap}
@@ -15,10 +15,7 @@ unfolding anchor_name
 read_by c text p = ap (some_name p) (taken is_anchor_name is_anchor same_name text (past p) [])
 
 pub names_are_read : NamesAreRead
-names_are_read c [] rest p h e = cc
-names_are_read c (d ∷ name) rest p h e =
-    let z = leading_all is_anchor_name (d ∷ name) rest h e in
-    read_by c (d ∷ (name ++ rest)) p ∙ rw (z.0, z.1) (ap (λ q. Ok (record { rest = rest; position = q; value = d ∷ name })) (same_place p (1 + length (d ∷ name)) (omega arith) (omega arith)))
+names_are_read c a rest p h e = grind (arith, leading_all, read_by, same_place)
 
 ended : (c : ℕ) (p : Position) (name rest : List ℕ) → all_of is_anchor_name name ≡ true → goes_on_with_name rest ≡ false → EndsAs (IsNameRead p (name ++ rest)) (IsNameRefusal p (name ++ rest)) (anchor_name (c ∷ (name ++ rest)) p)
 ended c p [] rest h e = refuses _ (nameless e) (read_by c rest p ∙ rw (leading_none is_anchor_name rest e).0 refl)

@@ -6,7 +6,7 @@ use Rattle.model_scanner.specs.Tag.{tag}
 use Rattle.proof_row.proofs.Texts.{gaps, flows}
 use Rattle.proof_lexers.proofs.Properties.Uris.{uris_are_read}
 use Rattle.proof_lexers.proofs.Directives.Lines.{same_text}
-use Rattle.proof_lexers.proofs.Properties.Tags.{word, same_end, close_is_no_uri, closed_position, local_position, named_position, alpha_starts, decoded_some, still_some, decoded_word}
+use Rattle.proof_lexers.proofs.Properties.Tags.{word, same_end, close_is_no_uri, closed_position, local_position, named_position, alpha_starts, decoded_some, same_empty, decoded_word}
 use Rattle.proof_lexers.proofs.Classes.{all_leading, before_end, begins_in, leading_all, span_cut}
 
 -- what follows a tag is of no class that has none of these ten characters
@@ -101,14 +101,13 @@ module _ (flow : Bool) (rest : List ℕ) (g : defs.Tag) (p : Position) (follows 
   local_read name m all unmarked some h = by (decoded m) refl (of_class classes.is_tag (codes "!") (name ++ m) g h)
     where
       no_mark : (l : List ℕ) → defs.begins_with_mark l ≡ false → begins_in (λ c. c == 33) l ≡ false
-      no_mark [] e = refl
-      no_mark (c ∷ l) e = e
+      no_mark a e = cc
 
       by : (d : Result (List ℕ) UriFault) → decoded m ≡ d → (all_of classes.is_tag (name ++ m) ≡ true) × (decoded (name ++ m) ≡ Ok g.suffix) × (g.handle ≡ codes "!") → ReadsOn name m
       by (Err f) e k = absurd (cc (k.1, word_fails name m f all e))
       by (Ok cs) e k =
           let whole : name ++ cs ≡ g.suffix = cc (k.1, decoded_word name m cs all e) in
-          rw (none_after m 33 (no_mark m unmarked) mark_ends refl, suffix_of (further (length name) (past p)) m name cs (tags_after name m k.0) e, still_some name m cs some e, same_end flow rest, follows, whole, k.2, local_position p (length name) (length m) (length (name ++ m)) (length-append name m)) refl
+          rw (none_after m 33 (no_mark m unmarked) mark_ends refl, suffix_of (further (length name) (past p)) m name cs (tags_after name m k.0) e, same_empty name m cs e ∙ some, same_end flow rest, follows, whole, k.2, local_position p (length name) (length m) (length (name ++ m)) (length-append name m)) refl
 
   -- a text that begins no verbatim tag
   shorthand_here : (a : List ℕ) → begins_in (λ c. c == 60) a ≡ false → tag flow (33 ∷ (a ++ rest)) p

@@ -1,5 +1,5 @@
 -- Tags are read as what is written, and no other text is.
-use Rattle.proof_lexers.proofs.Common.{[], after, after_class, after_name, all_of, and_parts, and_then, ap, append_assoc, arith, at_start, begins_with, Bool, both_ways, cases_Bool, codes, decoded, decoded_after, ends_tag, EndsAs, eqb-true, Err, false, Fault, further, if◌then◌else◌, inl, inr, is_alpha, is_alphanumeric, is_empty, is_flow, is_tag, is_uri, is_uri_mark, IsTagFault, IsTagRead, IsTagRefusal, leading, length, length-append, List, local, local_goes_on, local_octets, may_follow, named, nat_tests, ne_eqb, no_suffix, Ok, past, Position, put_code, Read, read_tag, reads, refl, refuses, Result, shorthand, slice_index, Some, some_suffix, suc, suffix_goes_on, suffix_octets, sym, tag_end, tag_of_class, TagsEndAsTheirTextSays, take_while, true, uri_character, UriFault, verbatim, verbatim_end, verbatim_goes_on, verbatim_octets, whole_tag, written_tag, ℕ, ◌++◌, ◌+◌, ◌==◌, ◌∙◌, ◌∷◌, ◌≡◌}
+use Rattle.proof_lexers.proofs.Common.{[], after, after_class, after_name, all_of, and_parts, and_then, ap, append_assoc, arith, at_start, begins_with, Bool, both_ways, cases_Bool, codes, decoded, ends_tag, EndsAs, eqb-true, Err, false, Fault, further, if◌then◌else◌, inl, inr, is_alpha, is_alphanumeric, is_empty, is_flow, is_tag, is_uri, is_uri_mark, IsTagFault, IsTagRead, IsTagRefusal, leading, length, length-append, List, local, local_goes_on, local_octets, may_follow, named, nat_tests, ne_eqb, no_suffix, Ok, past, Position, Read, read_tag, reads, refl, refuses, Result, shorthand, slice_index, Some, some_suffix, suc, suffix_goes_on, suffix_octets, sym, tag_end, tag_of_class, TagsEndAsTheirTextSays, take_while, true, uri_character, UriFault, verbatim, verbatim_end, verbatim_goes_on, verbatim_octets, whole_tag, written_tag, ℕ, ◌++◌, ◌+◌, ◌==◌, ◌∙◌, ◌∷◌, ◌≡◌}
 use Rattle.yaml_tokens.specs.declared.problem.Problem.TheVariants as problem
 use Rattle.defs_text.specs.Classes as classes
 use Rattle.defs_text.specs.Tags as defs
@@ -22,8 +22,7 @@ Ends flow start text x = EndsAs (IsTagRead flow start text) (IsTagFault flow sta
 
 pub same_end : (flow : Bool) (r : List ℕ) → ends_tag flow (slice_index r 0) ≡ may_follow flow r
 unfolding ends_tag
-same_end flow [] = rw end_is_a_gap refl
-same_end flow (d ∷ r) = rw (same_gap d, same_flow d) refl
+same_end flow a = grind (arith, end_is_a_gap, same_gap, same_flow)
 
 module _ (flow : Bool) (start : Position) (text : List ℕ) where
   -- a tag that stands there
@@ -74,15 +73,7 @@ module _ (flow : Bool) (start : Position) (b : List ℕ) where
 -- ---- a shorthand
 
 pub decoded_some : (c : ℕ) (r cs : List ℕ) → decoded (c ∷ r) ≡ Ok cs → is_empty cs ≡ false
-decoded_some c r cs h = by (uri_character c r) h
-  where
-    then_by : (code : ℕ) (o : Result (List ℕ) UriFault) → put_code code o ≡ Ok cs → is_empty cs ≡ false
-    then_by code (Err f) h = cc
-    then_by code (Ok ds) h = let same : code ∷ ds ≡ cs = cc in rw (← same) refl
-
-    by : (o : Result defs.Escaped UriFault) → defs.code_followed o (λ n. decoded_after n r) ≡ Ok cs → is_empty cs ≡ false
-    by (Err f) h = cc
-    by (Ok e) h = then_by e.code (decoded_after e.further r) h
+decoded_some c r cs h = grind arith
 
 absent : (class : ℕ → Bool) (c k : ℕ) → class c ≡ true → class k ≡ false → (c == k) ≡ false
 absent class c k h other = ne_eqb c k (λ same. both_ways (class c) (ap class same ∙ other) h)
@@ -118,9 +109,7 @@ is_shorthand (c ∷ name) r h e = let q = and_parts (classes.is_alpha c) (all_of
 -- one that is not empty
 shorthand_by : (name r : List ℕ) → is_empty (name ++ r) ≡ false
     → defs.shorthand (name ++ r) ≡ (if defs.begins_with_mark (after classes.is_alpha (name ++ r)) then defs.named (leading classes.is_alpha (name ++ r)) (after classes.is_alpha (name ++ r)) else tag_of_class classes.is_tag (codes "!") (name ++ r))
-shorthand_by [] [] h = cc
-shorthand_by [] (c ∷ r) h = refl
-shorthand_by (c ∷ name) r h = refl
+shorthand_by a r h = grind arith
 
 some_text : (name r : List ℕ) (c : ℕ) → is_empty (name ++ c ∷ r) ≡ false
 some_text [] r c = refl
@@ -128,9 +117,7 @@ some_text (d ∷ name) r c = refl
 
 named_written : (name : List ℕ) (c : ℕ) (r cs : List ℕ) → all_of classes.is_alpha name ≡ true → all_of classes.is_tag (c ∷ r) ≡ true → decoded (c ∷ r) ≡ Ok cs
     → written_tag (33 ∷ (name ++ 33 ∷ c ∷ r)) ≡ Some (record { handle = (33 ∷ name) ++ 33 ∷ []; suffix = cs })
-named_written name c r cs all tags is =
-    let z = leading_all classes.is_alpha name (33 ∷ c ∷ r) all mark_is_no_word in
-    is_shorthand name (33 ∷ c ∷ r) all refl ∙ shorthand_by name (33 ∷ c ∷ r) (some_text name (c ∷ r) 33) ∙ rw (z.1, z.0, tags, is) refl
+named_written name c r cs all tags is = grind (arith, leading_all, mark_is_no_word, is_shorthand, shorthand_by, some_text)
 
 pub decoded_word : (name r cs : List ℕ) → all_of classes.is_alpha name ≡ true → decoded r ≡ Ok cs → decoded (name ++ r) ≡ Ok (name ++ cs)
 unfolding uri_character
@@ -149,29 +136,20 @@ no_mark (c ∷ r) h = let q = and_parts (classes.is_tag c) (all_of classes.is_ta
 
 local_written : (name r cs : List ℕ) → all_of classes.is_alpha name ≡ true → all_of classes.is_tag r ≡ true → begins_in classes.is_alpha r ≡ false → decoded r ≡ Ok cs → is_empty (name ++ r) ≡ false
     → written_tag (33 ∷ (name ++ r)) ≡ Some (record { handle = 33 ∷ []; suffix = name ++ cs })
-local_written name r cs all tags begins is some =
-    let z = leading_all classes.is_alpha name r all begins in
-    let m = no_mark r tags in
-    is_shorthand name r all m.1 ∙ shorthand_by name r some ∙ rw (z.1, m.0, all_tag name r all tags, decoded_word name r cs all is) refl
+local_written name r cs all tags begins is some = grind (arith, leading_all, no_mark, is_shorthand, shorthand_by, all_tag, decoded_word)
 
 nil_parts : (a b : List ℕ) → is_empty (a ++ b) ≡ true → (a ≡ []) × (b ≡ [])
 nil_parts [] [] h = (refl, refl)
 nil_parts [] (c ∷ b) h = cc
 nil_parts (c ∷ a) b h = cc
 
-still_none : (name l cs : List ℕ) → is_empty (name ++ l) ≡ true → decoded l ≡ Ok cs → is_empty (name ++ cs) ≡ true
-still_none [] [] cs h e = let none : [] ≡ cs = cc in rw (← none) refl
-still_none [] (c ∷ l) cs h e = cc
-still_none (d ∷ name) l cs h e = cc
-
-pub still_some : (name l cs : List ℕ) → is_empty (name ++ l) ≡ false → decoded l ≡ Ok cs → is_empty (name ++ cs) ≡ false
-still_some [] [] cs h e = cc
-still_some [] (c ∷ l) cs h e = decoded_some c l cs e
-still_some (d ∷ name) l cs h e = refl
+pub same_empty : (name l cs : List ℕ) → decoded l ≡ Ok cs → is_empty (name ++ cs) ≡ is_empty (name ++ l)
+same_empty [] [] cs e = let none : [] ≡ cs = cc in rw (← none) refl
+same_empty [] (c ∷ l) cs e = decoded_some c l cs e
+same_empty (d ∷ name) l cs e = refl
 
 still_no_word : (m : List ℕ) → begins_in classes.is_alpha m ≡ false → begins_in classes.is_alpha (leading classes.is_tag m) ≡ false
-still_no_word [] h = refl
-still_no_word (c ∷ m) h = elim (cases_Bool (classes.is_tag c)) [ inl e ↦ rw e h | inr e ↦ rw e refl ]
+still_no_word a h = grind arith
 
 pub local_position : (p : Position) (n m k : ℕ) → k ≡ n + m → further m (further n (past p)) ≡ further (suc k) p
 local_position p n m k e = same_place p (suc k) (omega (arith, e)) (omega (arith, e))
@@ -209,10 +187,10 @@ module _ (flow : Bool) (start : Position) (text name : List ℕ) (all : all_of c
           let parts = nil_parts name l f in
           let zeros : 0 ≡ length name + length l = rw (parts.0, parts.1) refl in
           let here : text ≡ rest = cut ∙ rw (parts.0, parts.1) refl in
-          let none : is_empty (name ++ cs) ≡ true = still_none name l cs f e in
+          let none : is_empty (name ++ cs) ≡ true = same_empty name l cs e ∙ f in
           rw (none, b, lead) (ended flow start text [] rest [] (33 ∷ []) _ here refl (local_position start (length name) (length l) 0 zeros) goes)
       by false f =
-          let some : is_empty (name ++ cs) ≡ false = still_some name l cs f e in
+          let some : is_empty (name ++ cs) ≡ false = same_empty name l cs e ∙ f in
           let tags : all_of classes.is_tag l ≡ true = ap (all_of classes.is_tag) (sym lead) ∙ all_leading classes.is_tag m in
           rw (some, b, lead) (ended flow start text (name ++ l) rest (33 ∷ []) (name ++ cs) _ (cut ∙ sym (append_assoc name l rest)) (local_written name l cs all tags begins e f)
           (local_position start (length name) (length l) (length (name ++ l)) (length-append name l)) goes)
@@ -229,8 +207,7 @@ module _ (flow : Bool) (start : Position) (text name : List ℕ) (all : all_of c
       (local_by m (leading classes.is_tag m) (after classes.is_tag m) (decoded (leading classes.is_tag m)) (cut ∙ ap (λ r. name ++ r) (span_cut classes.is_tag m)) ends not_verbatim (no_mark_at m unmarked) (still_no_word m begins) refl refl refl)
     where
       no_mark_at : (r : List ℕ) → (slice_index r 0 == 33) ≡ false → defs.begins_with_mark r ≡ false
-      no_mark_at [] h = refl
-      no_mark_at (c ∷ r) h = h
+      no_mark_at a h = grind arith
 
 shorthand_from : (flow : Bool) (start : Position) (a m : List ℕ) → begins_with 60 a ≡ false → after classes.is_alpha a ≡ m
     → Ends flow start a (and_then (after_name start (leading classes.is_alpha a) m (further (length (leading classes.is_alpha a)) (past start))) (λ t. tag_end flow start t))
@@ -248,8 +225,7 @@ unfolding tag shorthand
 shorthands flow start a e = rw (e, word a (past start) []) (shorthand_from flow start a (after classes.is_alpha a) (no_angle a e) refl)
   where
     no_angle : (r : List ℕ) → (slice_index r 0 == 60) ≡ false → begins_with 60 r ≡ false
-    no_angle [] h = refl
-    no_angle (c ∷ r) h = h
+    no_angle a h = grind arith
 
 pub tags_end : TagsEndAsTheirTextSays
 tags_end flow [] p = shorthands flow p [] refl

@@ -1,12 +1,12 @@
 -- A URI's characters are read as what they mean.
 use Rattle.std.specs.Char.{is_digit}
-use Rattle.proof_lexers.proofs.Common.{[], after, after_class, and_then, ap, append-nil, append_assoc, arith, At, at_octet, at_trail, Bool, cases_Bool, checked, code_followed, decoded, decoded_after, digit_value, drop, eqb-true, Err, escaped_character, false, Fault, further, high, if◌then◌else◌, inl, inr, is_alphanumeric, is_between, is_character_code, is_flow, is_hex, is_tag, is_trail, is_uri, is_uri_mark, Lead, lead, lead_of, leading, led_by, length, List, nat_le, nat_lt, nat_tests, no_character, None, Octet, octet_at, octet_from, Ok, Option, past, Position, put_code, Read, refl, Result, Some, subst, suc, sym, trail, trail_by, trails, trails_from, true, uri_character, uri_from, UriFault, UrisAreRead, UriState, zero, ℕ, ◌&&◌, ◌*◌, ◌++◌, ◌+◌, ◌-◌, ◌==◌, ◌∙◌, ◌∷◌, ◌≡◌}
+use Rattle.proof_lexers.proofs.Common.{[], after_class, and_then, ap, append-nil, append_assoc, arith, At, at_octet, at_trail, Bool, cases_Bool, checked, code_followed, decoded, decoded_after, digit_value, drop, eqb-true, Err, escaped_character, false, Fault, further, high, if◌then◌else◌, inl, inr, is_alphanumeric, is_between, is_character_code, is_flow, is_hex, is_tag, is_trail, is_uri, is_uri_mark, Lead, lead, lead_of, leading, led_by, List, nat_le, nat_lt, nat_tests, no_character, None, Octet, octet_at, octet_from, Ok, Option, past, Position, put_code, Read, refl, Result, Some, subst, suc, sym, trail, trail_by, trails, trails_from, true, uri_character, uri_from, UriFault, UrisAreRead, UriState, zero, ℕ, ◌&&◌, ◌*◌, ◌++◌, ◌+◌, ◌==◌, ◌∙◌, ◌∷◌, ◌≡◌}
 use Rattle.yaml_tokens.specs.declared.problem.Problem.TheVariants as problem
 use Rattle.defs_text.specs.Classes as classes
 use Rattle.model_scanner.specs.Uri.{plain}
 use Rattle.model_scanner.proofs.UriLemmas.{low_turn}
 use Rattle.proof_lexers.proofs.Bridges.{same_digit, same_code, same_uri, same_tag, both}
-use Rattle.proof_lexers.proofs.Classes.{none_further, one_further}
+use Rattle.proof_lexers.proofs.Classes.{none_further}
 
 -- ---- octets
 
@@ -27,16 +27,7 @@ same_trail n = same_between 0x80 0xBF n
 
 same_lead : (start p : Position) (n : ℕ) (t : List ℕ) → at_octet start lead n p t ≡ lead_to start p t (lead_of n)
 unfolding lead_of
-same_lead start p n t = rw (same_one n, same_between 0xC0 0xDF n, same_between 0xE0 0xEF n, same_between 0xF0 0xF7 n) (elim (cases_Bool (is_between 0x00 0x7F n)) [
-  | inl e ↦ rw e refl
-  | inr e ↦ elim (cases_Bool (is_between 0xC0 0xDF n)) [
-    | inl f ↦ rw (e, f) refl
-    | inr f ↦ elim (cases_Bool (is_between 0xE0 0xEF n)) [
-      | inl g ↦ rw (e, f, g) refl
-      | inr g ↦ elim (cases_Bool (is_between 0xF0 0xF7 n)) [ inl h ↦ rw (e, f, g, h) refl | inr h ↦ rw (e, f, g, h) refl ]
-    ]
-  ]
-])
+same_lead start p n t = grind (arith, same_one, same_between)
 
 -- ---- what an escape means
 
@@ -51,8 +42,7 @@ completed least (Err f) others = Err f
 completed least (Ok code) others = (if nat_le least code && is_character_code code then put_code code others else Err no_character)
 
 is_completed : (l : Lead) (o : Result ℕ UriFault) (x y : ℕ) (r : List ℕ) → code_followed (checked l o) (λ n. decoded_after n (x ∷ y ∷ r)) ≡ completed l.least o (decoded_after 0 (drop (3 * l.further) r))
-is_completed l (Err f) x y r = refl
-is_completed l (Ok code) x y r = elim (cases_Bool (nat_le l.least code && is_character_code code)) [ inl e ↦ let two : 2 + 3 * l.further ≡ suc (suc (3 * l.further)) = omega arith in rw (e, two) (ap (put_code code) (after_some (3 * l.further) r)) | inr e ↦ rw e refl ]
+is_completed l a x y r = grind (arith, nat_tests, after_some)
 
 -- ---- the scan
 
@@ -65,8 +55,7 @@ module _ (test class : ℕ → Bool) (start : Position) (same : (c : ℕ) → cl
 
   -- one character of the class more
   more : (c : ℕ) (a : List ℕ) (p : Position) (t : List ℕ) (d : Result (List ℕ) UriFault) → class c ≡ true → answer a (past p) t d ≡ answer (c ∷ a) p t d
-  more c a p t (Ok cs) e = rw e (ap (λ q. Ok (record { rest = after class a; position = q; value = t ++ cs })) (one_further p (length (leading class a))))
-  more c a p t (Err f) e = refl
+  more c a p t b e = grind arith
 
   with_code : (c : ℕ) (a : List ℕ) (p : Position) (t : List ℕ) (d : Result (List ℕ) UriFault) → answer a p (t ++ c ∷ []) d ≡ answer a p t (put_code c d)
   with_code c a p t (Ok cs) = rw (append_assoc) refl
@@ -83,14 +72,11 @@ module _ (test class : ℕ → Bool) (start : Position) (same : (c : ℕ) → cl
 
   none_by : (b : Bool) (x : ℕ) (l : List ℕ) → is_digit x 16 ≡ false → octet_at (37 ∷ (if b then x ∷ l else [])) ≡ None
   unfolding octet_at
-  none_by false x l e = refl
-  none_by true x [] e = refl
-  none_by true x (y ∷ l) e = rw e refl
+  none_by a x l e = grind arith
 
   second_by : (b : Bool) (x y : ℕ) (l : List ℕ) → is_digit x 16 ≡ true → is_digit y 16 ≡ false → octet_at (37 ∷ x ∷ (if b then y ∷ l else [])) ≡ None
   unfolding octet_at
-  second_by false x y l e f = refl
-  second_by true x y l e f = rw (e, f) refl
+  second_by a x y l e f = grind arith
 
   second_octet : (o : Octet) (x : ℕ) (r : List ℕ) (p : Position) (t : List ℕ) → is_digit x 16 ≡ true → class x ≡ true → is_hex x ≡ true → Octets o (x ∷ r) p t
   unfolding octet_at
@@ -126,10 +112,7 @@ module _ (test class : ℕ → Bool) (start : Position) (same : (c : ℕ) → cl
 
   -- a code that is completed
   whole_code : (code least : ℕ) (a : List ℕ) (p : Position) (t : List ℕ) → Plain a → trails_from test start 0 code least a p t ≡ answer a p t (completed least (Ok code) (decoded (leading class a)))
-  whole_code code least a p t here = rw (same_code code) (elim (cases_Bool (nat_le least code && is_character_code code)) [
-    | inl e ↦ rw e (here p (t ++ code ∷ []) ∙ with_code code a p t (decoded (leading class a)))
-    | inr e ↦ rw e refl
-  ])
+  whole_code code least a p t here = grind (arith, same_code, with_code, class)
 
   three_off : (left x y z : ℕ) (l : List ℕ) → drop (3 * suc left) (x ∷ y ∷ z ∷ l) ≡ drop (3 * left) l
   three_off left x y z l = let e : 3 * suc left ≡ suc (suc (suc (3 * left))) = omega arith in rw e refl
@@ -138,10 +121,7 @@ module _ (test class : ℕ → Bool) (start : Position) (same : (c : ℕ) → cl
   next_octet : (left code least x y n : ℕ) (b : List ℕ) (p : Position) (t : List ℕ) → Trails left → ((k : ℕ) → Plain (drop k b)) → class x ≡ true → class y ≡ true → octet_at (37 ∷ x ∷ y ∷ leading class b) ≡ Some n
       → octet_from test start (trail left code least) n b (past (past (past p))) t
       ≡ answer (37 ∷ x ∷ y ∷ b) p t (completed least (trail_by (octet_at (37 ∷ x ∷ y ∷ leading class b)) code (λ k. trails left k (leading class b))) (decoded_after 0 (drop (3 * left) (leading class b))))
-  next_octet left code least x y n b p t others plains e f oc = rw (oc, same_trail n) (elim (cases_Bool (is_trail n)) [
-    | inl g ↦ rw g (others (code * 64 + (n - 128)) least b (past (past (past p))) t plains ∙ three_more x y b p t _ e f)
-    | inr g ↦ rw g refl
-  ])
+  next_octet left code least x y n b p t others plains e f oc = grind (arith, same_trail, past, three_more)
 
   leads : class 37 ≡ true
   leads = same 37 ∙ percents
@@ -156,10 +136,7 @@ module _ (test class : ℕ → Bool) (start : Position) (same : (c : ℕ) → cl
 
   no_percent : (c : ℕ) (l : List ℕ) (b : Bool) → (c == 37) ≡ false → octet_at (if b then c ∷ l else []) ≡ None
   unfolding octet_at
-  no_percent c l false e = refl
-  no_percent c [] true e = refl
-  no_percent c (x ∷ []) true e = refl
-  no_percent c (x ∷ y ∷ l) true e = rw e refl
+  no_percent c l a e = grind arith
 
   trailing : (left : ℕ) → Trails left
   unfolding octet_at

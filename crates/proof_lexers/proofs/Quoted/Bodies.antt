@@ -17,14 +17,10 @@ pub data Passed (single : Bool) (ctx : Context) (start : Position) (x : Result (
   met_marker : marked_from col a r ≡ true → x ≡ Err (At problem.QuotedDocumentMarker start) → Passed single ctx start x a r col t
   was_shallow : IsShallow ctx start x → Passed single ctx start x a r col t
 
-shallow_on : (ctx : Context) (start : Position) (x y : Result (Read (List ℕ)) Fault) → x ≡ y → IsShallow ctx start y → IsShallow ctx start x
-shallow_on ctx start x y e z = rw e z
-
-passed_on : (single : Bool) (ctx : Context) (start : Position) (x y : Result (Read (List ℕ)) Fault) (a b r : List ℕ) (col n : ℕ) (t : Folded) → x ≡ y → marked_from col a r ≡ marked_from n b r
-    → Passed single ctx start y b r n t → Passed single ctx start x a r col t
-passed_on single ctx start x y a b r col n t e same (passed m q ready none is) = passed m q ready (same ∙ none) (e ∙ is)
-passed_on single ctx start x y a b r col n t e same (met_marker meets is) = met_marker (same ∙ meets) (e ∙ is)
-passed_on single ctx start x y a b r col n t e same (was_shallow s) = was_shallow (shallow_on ctx start x y e s)
+passed_on : (single : Bool) (ctx : Context) (start : Position) (x : Result (Read (List ℕ)) Fault) (a b r : List ℕ) (col n : ℕ) (t : Folded) → marked_from col a r ≡ marked_from n b r → Passed single ctx start x b r n t → Passed single ctx start x a r col t
+passed_on single ctx start x a b r col n t same (passed m q ready none is) = passed m q ready (same ∙ none) is
+passed_on single ctx start x a b r col n t same (met_marker meets is) = met_marker (same ∙ meets) is
+passed_on single ctx start x a b r col n t same (was_shallow s) = was_shallow s
 
 -- a quote begins neither a marker nor a line
 pub quote_still : (single : Bool) (r : List ℕ) → is_document_marker (quote_of single ∷ r) ≡ false
@@ -61,9 +57,9 @@ module _ (single : Bool) (ctx : Context) (start : Position) where
   by_step : (c : ℕ) (b r : List ℕ) (s : Spelled) (es : List Element) (m : Mode) (p : Position) (t : Folded) → element_of single c b ≡ Some s → elements (element_of single) s.further b ≡ Some es → Ready single t m
       → Passes s.further b r → Step single ctx start c b r p t s → Passed single ctx start (scan single ctx start (c ∷ (b ++ r)) m p t) (c ∷ b) r p.col (after_elements (s.element ∷ es) t)
   by_step c b r s es m p t h k ready others (steps n q at after full none marks is) =
-      passed_on single ctx start _ _ (c ∷ b) (drop s.further b) r p.col q.col _ (from_gap c b (b ++ r) s m p t h ready ∙ is) (rw none marks) (others es n q (after_element s.element t) k after)
+      rw (from_gap c b (b ++ r) s m p t h ready ∙ is) (passed_on single ctx start _ (c ∷ b) (drop s.further b) r p.col q.col _ (rw none marks) (others es n q (after_element s.element t) k after))
   by_step c b r s es m p t h k ready others (is_marked e f) = met_marker (rw e refl) (from_gap c b (b ++ r) s m p t h ready ∙ f)
-  by_step c b r s es m p t h k ready others (is_shallow low e) = was_shallow (shallow_on ctx start _ _ (from_gap c b (b ++ r) s m p t h ready) e)
+  by_step c b r s es m p t h k ready others (is_shallow low e) = rw (from_gap c b (b ++ r) s m p t h ready) (was_shallow e)
 
   by_elements : (c : ℕ) (b r : List ℕ) (s : Spelled) (o : Option (List Element)) (es : List Element) (m : Mode) (p : Position) (t : Folded) → element_of single c b ≡ Some s → elements (element_of single) s.further b ≡ o → put_before s.element o ≡ Some es
       → Ready single t m → Passes s.further b r → Step single ctx start c b r p t s → Passed single ctx start (scan single ctx start (c ∷ (b ++ r)) m p t) (c ∷ b) r p.col (after_elements es t)
@@ -109,6 +105,25 @@ module _ (single : Bool) (ctx : Context) (start : Position) where
   pub opens : (a : List ℕ) (p : Position) → (p.col == 0) ≡ false → Opened a p
   opens [] p e = opened refl
   opens (c ∷ a) p e = elim (cases_Bool (nat_lt (p.col + 1) ctx.indent)) [ inl f ↦ not_opened (by_line p f (first_fails c a p e f)) | inr f ↦ opened (first_is_gap (c ∷ a) p e f) ]
+
+  -- What holds of each way in which a text of elements and more ends, holds of its scan from the opening quote on.
+  pub through : (P : Result (Read (List ℕ)) Fault → Type 0) (body rest : List ℕ) (es : List Element) → elements (element_of single) 0 body ≡ Some es → (slice_index rest 0 == 10) ≡ false → is_document_marker rest ≡ false
+      → ((x : Result (Read (List ℕ)) Fault) → IsShallow ctx start x → P x) → (has_marker body rest ≡ true → P (Err (At problem.QuotedDocumentMarker start)))
+      → ((m : Mode) (q : Position) → Ready single (after_elements es nothing) m → has_marker body rest ≡ false → P (scan single ctx start rest m q (after_elements es nothing))) → P (scan single ctx start (body ++ rest) first (past start) nothing)
+  through P body rest es are no_feed still is_low by_mark goes = elim (opens (body ++ rest) (past start) off) [
+    | not_opened s ↦ is_low _ s
+    | opened e ↦ rw e (elim (passes 0 body rest no_feed still es gap (past start) nothing are in_gap) [
+      | passed m q ready none f ↦ rw f (goes m q ready (marks false none))
+      | met_marker meets f ↦ rw f (by_mark (marks true meets))
+      | was_shallow s ↦ is_low _ s
+    ])
+  ]
+    where
+      off : (start.col + 1 == 0) ≡ false
+      off = off_margin start.col 0
+
+      marks : (b : Bool) → marked_from (start.col + 1) body rest ≡ b → has_marker body rest ≡ b
+      marks b h = rw off at h
 
   -- ---- the closing quote
 

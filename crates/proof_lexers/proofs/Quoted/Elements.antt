@@ -1,6 +1,8 @@
 -- What the model does at each element of a body in single and in double quotes.
 use Rattle.std.specs.Char.{is_digit}
-use Rattle.proof_lexers.proofs.Common.{[], along, and_parts, arith, begins_with, Bool, break_further, by_line, cases_Bool, Char, Code, coded, content, Context, count_of, digit_turn, digit_value, digits_from, double_quoted_element, drop, element_of, eqb-true, Escape, escape, escape_by, escape_of, escaped_break, escapes, false, Fault, Folded, has_marker, hexadecimal, if◌then◌else◌, inl, inr, inside, is_blank, is_break, is_character_code, is_document_marker, joined, length, List, list_all, lookup, named_char, named_code, nat_tests, ne_eqb, None, numbered, numeric_escape, numeric_escapes, Option, past, past_break, Position, Read, refl, Result, single_quoted_element, slice_index, Some, subst, suc, sym, take, true, Unknown, with_char, with_escaped_break, zero, ℕ, ◌&&◌, ◌*◌, ◌++◌, ◌+◌, ◌==◌, ◌||◌, ◌∙◌, ◌∷◌, ◌≡◌}
+use Rattle.proof_lexers.proofs.Common.{[], along, and_parts, arith, begins_with, Bool, break_further, by_line, cases_Bool, Char, Code, coded, content, Context, count_of, digit_turn, digit_value, digits_from, double_quoted_element, drop, element_of, eqb-true, Escape, escape, escape_by, escape_of, escaped_break, escapes, false, Fault, Folded, has_marker, hexadecimal, if◌then◌else◌, inl, inr, inside, is_blank, is_break, is_character_code, is_document_marker, joined, length, List, list_all, lookup, named_char, named_code, nat_tests, ne_eqb, None, numbered, numeric_escape, numeric_escapes, Option, past, past_break, Position, Read, refl, Result, single_quoted_element, slice_index, Some, subst, suc, sym, take, true, Unknown, with_char, with_escaped_break, zero, ℕ, ◌&&◌, ◌*◌, ◌++◌, ◌+◌, ◌==◌, ◌||◌, ◌∙◌, ◌∷◌, ◌≡◌, Err, coded_fails, At, digit_fails, length-take, take-append-le}
+use Rattle.std.proofs.lemmas.List.{drop-append-le}
+use Rattle.yaml_tokens.specs.declared.problem.Problem.TheVariants as problem
 use Rattle.defs_text.specs.Classes as classes
 use Rattle.model_scanner.specs.Quoted.{after}
 use Rattle.model_scanner.specs.declared.kind.Digits.{Digits}
@@ -37,13 +39,7 @@ module _ (ctx : Context) (start : Position) where
 
 -- a code has two digits, four or eight
 pub has_digits : (d n : ℕ) → lookup d numeric_escapes ≡ Some n → count_of (digits_of n) ≡ n
-has_digits d n h = by (d == 120) (d == 117) (d == 85) h
-  where
-    by : (x u v : Bool) → (if x then Some 2 else (if u then Some 4 else (if v then Some 8 else None))) ≡ Some n → count_of (digits_of n) ≡ n
-    by true u v h = let same : 2 ≡ n = cc in rw (← same) refl
-    by false true v h = let same : 4 ≡ n = cc in rw (← same) refl
-    by false false true h = let same : 8 ≡ n = cc in rw (← same) refl
-    by false false false h = cc
+has_digits d n h = grind arith
 
 pub same_length : (n m : ℕ) → (suc n == suc m) ≡ (n == m)
 same_length n m = both _ _ (λ h. grind (arith, nat_tests)) (λ h. grind (arith, nat_tests))
@@ -51,34 +47,39 @@ same_length n m = both _ _ (λ h. grind (arith, nat_tests)) (λ h. grind (arith,
 pub too_short : (n : ℕ) → (zero == suc n) ≡ false
 too_short n = grind (arith, nat_tests)
 
+-- the number of so many digits after a value, if they are there
+abbrev pub number_after : ℕ → ℕ → List ℕ → Option ℕ
+number_after n value b = (if length (take n b) == n then hexadecimal value (take n b) else None)
+
+none_either : (b : Bool) → ◌≡◌ {A = Option ℕ} (if b then None else None) None
+none_either b = grind arith
+
 module _ (ctx : Context) (start : Position) where
-  abbrev coded_scan : ℕ → ℕ → List ℕ → Position → Folded → Result (Read (List ℕ)) Fault
-  coded_scan n value a p u = digits_from false ctx start n value a p u
+  -- what a scan makes of a code's number
+  abbrev pub coded_end : List ℕ → Position → Folded → Option ℕ → Result (Read (List ℕ)) Fault
+  coded_end a p u None = Err (At problem.HexadecimalDigit start)
+  coded_end a p u (Some code) = (if is_character_code code then scan false ctx start a inside p (with_char code u) else Err (At problem.EscapedCode start))
 
-  -- The digits of a code were taken.
-  abbrev Counted : (n value : ℕ) (b r : List ℕ) (p : Position) (u : Folded) (code : ℕ) → Type 0
-  Counted n value b r p u code = coded_scan n value (b ++ r) p u ≡ scan false ctx start (drop n b ++ r) inside (along (take n b) p) (with_char code u)
+  -- The digits of a code are taken, or refused.
+  pub digits_read : (n value : ℕ) (b : List ℕ) (p : Position) (u : Folded) → digits_from false ctx start n value b p u ≡ coded_end (drop n b) (along (take n b) p) u (number_after n value b)
+  digits_read zero value b p u = grind (arith, nat_tests, coded, same_code, coded_fails)
+  digits_read (suc n) value [] p u = rw (too_short n) refl
+  digits_read (suc n) value (c ∷ b) p u = grind (arith, nat_tests, digit_turn, same_digit, past, same_length, digit_fails, none_either, digits_read n (value * 16 + digit_value c) b (past p) u)
 
-  counted : (n value code : ℕ) (b r : List ℕ) (p : Position) (u : Folded) → (length (take n b) == n) ≡ true → hexadecimal value (take n b) ≡ Some code → is_character_code code ≡ true → Counted n value b r p u code
-  counted zero value code b r p u many h valid =
-      let same : value ≡ code = cc in
-      rw same (coded false ctx start code (b ++ r) p u (rw (same_code code) valid))
-  counted (suc n) value code [] r p u many h valid = let short = too_short n in cc
-  counted (suc n) value code (c ∷ b) r p u many h valid = elim (cases_Bool (is_digit c 16)) [
-    | inl e ↦ digit_turn false ctx start n value c (c ∷ (b ++ r)) (b ++ r) p u (rw (same_digit c) e) refl ∙ counted n (value * 16 + digit_value c) code b r (past p) u (sym (same_length (length (take n b)) n) ∙ many) (rw e at h) valid
-    | inr e ↦ let no : None ≡ Some code = rw e at h in cc
-  ]
+  counted : (n code : ℕ) (b r : List ℕ) (p : Position) (u : Folded) → (length (take n b) == n) ≡ true → hexadecimal 0 (take n b) ≡ Some code → is_character_code code ≡ true
+      → digits_from false ctx start n 0 (b ++ r) p u ≡ scan false ctx start (drop n b ++ r) inside (along (take n b) p) (with_char code u)
+  counted n code b r p u many a valid = grind (arith, nat_tests, eqb-true, length-take, digits_read, take-append-le, drop-append-le)
 
   -- digits are neither breaks nor NUL
   hex_is_other : (c : ℕ) → is_digit c 16 ≡ true → (classes.is_break c ≡ false) × ((c == 0) ≡ false)
   unfolding classes.is_break
   hex_is_other c h = (grind (arith, nat_tests), grind (arith, nat_tests))
 
-  marks_after_digits : (n value code : ℕ) (b r : List ℕ) → hexadecimal value (take n b) ≡ Some code → has_marker b r ≡ has_marker (drop n b) r
-  marks_after_digits zero value code b r h = refl
-  marks_after_digits (suc n) value code [] r h = refl
-  marks_after_digits (suc n) value code (c ∷ b) r h = elim (cases_Bool (is_digit c 16)) [
-    | inl e ↦ rw ((hex_is_other c e).0) (marks_after_digits n (value * 16 + digit_value c) code b r (rw e at h))
+  over_digits : (n value code : ℕ) (b r : List ℕ) → hexadecimal value (take n b) ≡ Some code → (has_marker b r ≡ has_marker (drop n b) r) × (list_all is_some b ≡ list_all is_some (drop n b))
+  over_digits zero value code b r h = (refl, refl)
+  over_digits (suc n) value code [] r h = (refl, refl)
+  over_digits (suc n) value code (c ∷ b) r h = elim (cases_Bool (is_digit c 16)) [
+    | inl e ↦ let z = over_digits n (value * 16 + digit_value c) code b r (rw e at h) in let o = hex_is_other c e in (rw o.0 z.0, rw o.1 z.1)
     | inr e ↦ let no : None ≡ Some code = rw e at h in cc
   ]
 
@@ -88,18 +89,11 @@ module _ (ctx : Context) (start : Position) where
   unfolding is_break is_blank
   named_taken d code a p u e f = rw e (named_char false ctx start d code (d ∷ a) a (past p) u f refl)
 
-  coded_taken : (d : ℕ) (k : Digits) (code : ℕ) (b r : List ℕ) (p : Position) (u : Folded) → is_break d ≡ false → escape_of d ≡ Code k → Counted (count_of k) 0 b r (past (past p)) u code
+  coded_taken : (d : ℕ) (k : Digits) (code : ℕ) (b r : List ℕ) (p : Position) (u : Folded) → is_break d ≡ false → escape_of d ≡ Code k
+      → digits_from false ctx start (count_of k) 0 (b ++ r) (past (past p)) u ≡ scan false ctx start (drop (count_of k) b ++ r) inside (along (take (count_of k) b) (past (past p))) (with_char code u)
       → Taken false ctx start (scan false ctx start (92 ∷ d ∷ (b ++ r)) inside p u) (drop (count_of k) b ++ r) p (92 ∷ d ∷ take (count_of k) b) u code
   unfolding is_break is_blank
   coded_taken d k code b r p u e f z = rw e (named_code false ctx start d k (d ∷ (b ++ r)) (b ++ r) (past p) u f refl) ∙ z
-
-  some_digits : (n value code : ℕ) (b : List ℕ) → hexadecimal value (take n b) ≡ Some code → list_all is_some b ≡ list_all is_some (drop n b)
-  some_digits zero value code b h = refl
-  some_digits (suc n) value code [] h = refl
-  some_digits (suc n) value code (c ∷ b) h = elim (cases_Bool (is_digit c 16)) [
-    | inl e ↦ rw ((hex_is_other c e).1) (some_digits n (value * 16 + digit_value c) code b (rw e at h))
-    | inr e ↦ let no : None ≡ Some code = rw e at h in cc
-  ]
 
   -- a known escape is none, and no break is
   known_some : (d : ℕ) (e : Escape) → escape_of d ≡ e → (e ≡ Unknown → ⊥) → (d == 0) ≡ false
@@ -125,8 +119,9 @@ module _ (ctx : Context) (start : Position) where
   unfolding classes.is_break
   coded_by d k code b r p t e f many digits valid =
       let g : classes.is_break d ≡ false = same_break d ∙ e in
-      let z = counted (count_of k) 0 code b r (past (past p)) (joined t) many digits valid in
-      content_step false ctx start 92 (d ∷ b) r (suc (count_of k)) code p t no_white (coded_taken d k code b r p (joined t) e f z) (rw g (marks_after_digits (count_of k) 0 code b r digits)) (rw (known_some d (Code k) f (λ h. cc)) (some_digits (count_of k) 0 code b digits))
+      let z = counted (count_of k) code b r (past (past p)) (joined t) many digits valid in
+      let over = over_digits (count_of k) 0 code b r digits in
+      content_step false ctx start 92 (d ∷ b) r (suc (count_of k)) code p t no_white (coded_taken d k code b r p (joined t) e f z) (rw g over.0) (rw (known_some d (Code k) f (λ h. cc)) over.1)
 
   -- ---- an escaped break
 

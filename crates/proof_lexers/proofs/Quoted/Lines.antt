@@ -1,7 +1,7 @@
 -- A character of a line in quotes is read as it is written: as itself, as two single quotes, or by an escape of one letter.
-use Rattle.proof_lexers.proofs.Common.{[], along, ap, append-nil, append_assoc, arith, at_marker, Bool, cases_Bool, Char, closed_end, coded, Context, digit_turn, digit_value, digits_from, escape_of, false, Fault, flat_map, Folded, gap, inl, inr, inside, is_blank, is_break, is_hex, is_scalar, le-ltb, List, map, ne_eqb, not, nothing, Ok, past, Position, quote_of, quoted, quoted_from, QuotedState, Read, refl, refused, Result, slice_index, suc, true, ℕ, ◌&&◌, ◌*◌, ◌++◌, ◌+◌, ◌==◌, ◌||◌, ◌∙◌, ◌∷◌, ◌≡◌, ◌≤◌}
-use Rattle.model_scanner.specs.Quoted
-use Rattle.proof_lexers.proofs.Along.{along_append, along_more}
+use Rattle.proof_lexers.proofs.Common.{[], along, append-nil, arith, at_marker, Bool, cases_Bool, Char, Context, escape_of, false, Fault, Folded, gap, inl, inr, inside, is_blank, is_break, le-ltb, List, ne_eqb, not, Ok, Position, quote_of, quoted_from, QuotedState, Read, refl, refused, Result, true, ℕ, ◌&&◌, ◌++◌, ◌+◌, ◌==◌, ◌||◌, ◌∙◌, ◌∷◌, ◌≡◌, ◌≤◌, nat_lt}
+use Rattle.proof_lexers.proofs.Quoted.Turns.{may_stand, inside_is_gap}
+use Rattle.proof_lexers.proofs.Along.{along_more}
 
 -- where the text of a line may stand
 abbrev pub IsIn : Context → Position → Type 0
@@ -11,9 +11,8 @@ pub moves : (ctx : Context) (w : List ℕ) (p : Position) → IsIn ctx p → IsI
 moves ctx w p h = let k = h.0 in let l = h.1 in let m = along_more w p in (omega (arith, k, m), omega (arith, l, m))
 
 module _ (single : Bool) (ctx : Context) (start : Position) where
-  may_stand : (a : List ℕ) (p : Position) → IsIn ctx p → refused ctx start a p ≡ Ok tt
-  unfolding refused at_marker
-  may_stand a p h = let k = h.0 in let l = h.1 in rw (ne_eqb p.col 0 (λ e. omega (arith, k)), le-ltb (p.col + 1) ctx.indent (omega (arith, l))) refl
+  tests : (p : Position) → IsIn ctx p → ((p.col == 0) ≡ false) × (nat_lt (p.col + 1) ctx.indent ≡ false)
+  tests p h = let k = h.0 in let l = h.1 in (ne_eqb p.col 0 (λ e. omega (arith, k)), le-ltb (p.col + 1) ctx.indent (omega (arith, l)))
 
   abbrev pub folded : List ℕ → List ℕ → Folded
   folded text blanks = record { text = text; gap = blanks; leading = false; escaped = false }
@@ -28,13 +27,9 @@ module _ (single : Bool) (ctx : Context) (start : Position) where
   abbrev pub scan : List ℕ → QuotedState → Result (Read (List ℕ)) Fault
   scan a s = quoted_from single ctx start a s
 
-  same : (a : List ℕ) (p : Position) (text : List ℕ) → IsIn ctx p → scan a (within p text) ≡ scan a (at p text [])
-  same [] p text h = refl
-  same (c ∷ a) p text h = elim (cases_Bool (is_break c || is_blank c)) [ inl e ↦ rw e refl | inr e ↦ rw (e, may_stand (c ∷ a) p h, append-nil) refl ]
-
   -- what is no blank is read as within the line
   joins : (c : ℕ) (a : List ℕ) (p : Position) (text blanks : List ℕ) → (is_break c || is_blank c) ≡ false → IsIn ctx p → scan (c ∷ a) (at p text blanks) ≡ scan (c ∷ a) (within p (text ++ blanks))
-  joins c a p text blanks e h = rw (e, may_stand (c ∷ a) p h) refl
+  joins c a p text blanks e h = rw (e, may_stand single ctx start (c ∷ a) p (tests p h).0 (tests p h).1) refl
 
   -- A character was read, that was written so.
   pub record Went (w a text blanks : List ℕ) (p : Position) (c : ℕ) : Type 0 where
@@ -52,7 +47,7 @@ module _ (single : Bool) (ctx : Context) (start : Position) where
     text_now = (text ++ blanks) ++ c ∷ [];
     blanks_now = [];
     told = append-nil _;
-    now = e ∙ same a (along w p) ((text ++ blanks) ++ c ∷ []) (moves ctx w p h);
+    now = let q = tests (along w p) (moves ctx w p h) in e ∙ inside_is_gap single ctx start a (along w p) ((text ++ blanks) ++ c ∷ []) q.0 q.1;
   }
 
   pub char_goes : (c : ℕ) → (is_break c || is_blank c) ≡ false → ((c == 92) && not single) ≡ false → (c == quote_of single) ≡ false → IsWritten (c ∷ []) c

@@ -1,5 +1,5 @@
 -- What an element of a body is depends on its own characters alone, and on whether a CR ends a line alone.
-use Rattle.proof_lexers.proofs.Common.{[], and-false, ap, arith, begins_with, Bool, break_further, cases_Bool, content, double_quoted_element, drop, element_of, elements, eqb-true, escape, escape_by, escaped_break, escapes, false, hexadecimal, if◌then◌else◌, inl, inr, is_character_code, length, length-take, line_break, List, lookup, None, numbered, numeric_escape, numeric_escapes, Option, plain_element, refl, single_quoted_element, Some, Spelled, suc, take, take-append-le, take_at, true, zero, ℕ, ◌&&◌, ◌++◌, ◌==◌, ◌∙◌, ◌∷◌, ◌≡◌, ◌≤◌}
+use Rattle.proof_lexers.proofs.Common.{[], and-false, ap, arith, begins_with, Bool, break_further, cases_Bool, content, double_quoted_element, drop, element_of, elements, eqb-true, escape, escape_by, escaped_break, escapes, false, hexadecimal, if◌then◌else◌, inl, inr, is_character_code, length, length-take, List, lookup, None, numbered, numeric_escape, numeric_escapes, Option, plain_element, refl, single_quoted_element, Some, Spelled, suc, take, take-append-le, take_at, true, zero, ℕ, ◌++◌, ◌==◌, ◌∷◌, ◌≡◌, nat_tests}
 use Rattle.defs_text.specs.Classes as classes
 use Rattle.proof_lexers.proofs.Quoted.Turns.{spelled}
 
@@ -15,38 +15,22 @@ LocalOf at b (Some s) = Local at b s
 
 -- ---- a character that means itself
 
-lone_further : (c d : ℕ) (b x y : List ℕ) → ((c == 13) && (d == 10)) ≡ false → d ∷ b ≡ x ++ y → break_further c x ≡ 0
-lone_further c d b [] y e h = refl
-lone_further c d b (f ∷ x) y e h = let same : d ≡ f = cc in rw (← same, e) refl
-
 break_same : (c : ℕ) (b x y : List ℕ) → drop (break_further c b) b ≡ x ++ y → break_further c (take (break_further c b) b ++ x) ≡ break_further c b
-break_same c [] [] y h = refl
-break_same c [] (d ∷ x) y h = cc
-break_same c (d ∷ b) x y h = elim (cases_Bool ((c == 13) && (d == 10))) [ inl f ↦ rw (f, f) refl | inr f ↦ rw f (lone_further c d b x y f (rw f at h)) ]
+break_same c a x y h = grind arith
 
 break_fits : (c : ℕ) (b : List ℕ) → length (take (break_further c b) b) ≡ break_further c b
-break_fits c [] = refl
-break_fits c (d ∷ b) = elim (cases_Bool ((c == 13) && (d == 10))) [ inl f ↦ rw f refl | inr f ↦ rw f refl ]
+break_fits c a = grind arith
 
 break_onward : (c : ℕ) (b r : List ℕ) → begins_with 10 r ≡ false → break_further c (b ++ r) ≡ break_further c b
-break_onward c [] [] h = refl
-break_onward c [] (d ∷ r) h = rw (h, and-false (c == 13)) refl
-break_onward c (d ∷ b) r h = refl
+break_onward c a r h = grind (arith, and-false)
 
 plain_local : (c : ℕ) (b : List ℕ) → LocalOf (plain_element c) b (plain_element c b)
 unfolding plain_element
-plain_local c b = elim (cases_Bool (classes.is_break c)) [
-  | inl e ↦ rw e (record { fits = break_fits c b; same = λ x y h. rw e (ap (λ k. Some (spelled line_break k)) (break_same c b x y h)); onward = λ r h. rw e (ap (λ k. Some (spelled line_break k)) (break_onward c b r h)) })
-  | inr e ↦ elim (cases_Bool (classes.is_blank c)) [
-    | inl f ↦ rw (e, f) (record { fits = refl; same = λ x y h. rw (e, f) refl; onward = λ r h. rw (e, f) refl })
-    | inr f ↦ rw (e, f) (record { fits = refl; same = λ x y h. rw (e, f) refl; onward = λ r h. rw (e, f) refl })
-  ]
-]
+plain_local c b = grind arith
 
 -- of a function that is another one for this character
 as_local : (at to : List ℕ → Option Spelled) (b : List ℕ) (o : Option Spelled) → ((r : List ℕ) → at r ≡ to r) → LocalOf to b o → LocalOf at b o
-as_local at to b None e z = tt
-as_local at to b (Some s) e z = record { fits = z.fits; same = λ x y h. e (take s.further b ++ x) ∙ z.same x y h; onward = λ r h. e (b ++ r) ∙ z.onward r h }
+as_local a to b d e z = grind arith
 
 -- ---- single quotes
 
@@ -54,18 +38,11 @@ abbrev doubled_at : List ℕ → Option Spelled
 doubled_at r = (if begins_with 39 r then Some (spelled (content 39) 1) else None)
 
 doubled_local : (b : List ℕ) → LocalOf doubled_at b (doubled_at b)
-doubled_local [] = tt
-doubled_local (d ∷ b) = elim (cases_Bool (d == 39)) [ inl e ↦ rw e (record { fits = refl; same = λ x y h. rw e refl; onward = λ r h. rw e refl }) | inr e ↦ rw e tt ]
+doubled_local a = grind arith
 
 single_local : (c : ℕ) (b : List ℕ) → LocalOf (single_quoted_element c) b (single_quoted_element c b)
 unfolding single_quoted_element
-single_local c b = elim (cases_Bool (classes.is_nul c)) [
-  | inl e ↦ rw e tt
-  | inr e ↦ elim (cases_Bool (c == 39)) [
-    | inl f ↦ rw (e, f) (as_local (single_quoted_element c) doubled_at b (doubled_at b) (λ r. rw (e, f) refl) (doubled_local b))
-    | inr f ↦ rw (e, f) (as_local (single_quoted_element c) (plain_element c) b (plain_element c b) (λ r. rw (e, f) refl) (plain_local c b))
-  ]
-]
+single_local c b = grind (arith, as_local, doubled_local, plain_local)
 
 -- ---- double quotes
 
@@ -83,17 +60,12 @@ coded_same n code b x fits many digits valid = let front = take_at (take n b) x 
 
 coded_onward : (n code : ℕ) (b r : List ℕ) → length (take n b) ≡ n → (length (take n b) == n) ≡ true → hexadecimal 0 (take n b) ≡ Some code → is_character_code code ≡ true → numeric_escape n (b ++ r) ≡ Some (spelled (content code) (suc n))
 unfolding numeric_escape
-coded_onward n code b r fits many digits valid =
-    let enough : n ≤ length b = omega (arith, fits, length-take n b) in
-    let front = take-append-le n b r enough in
-    rw (front, many, digits, valid) refl
+coded_onward n code b r fits many a valid = grind (arith, length-take, take-append-le)
 
 escape_coded : (d n code : ℕ) (b : List ℕ) → classes.is_break d ≡ false → lookup d escapes ≡ None → lookup d numeric_escapes ≡ Some n → (length (take n b) == n) ≡ true → hexadecimal 0 (take n b) ≡ Some code → is_character_code code ≡ true
     → Local escape (d ∷ b) (spelled (content code) (suc n))
 unfolding escape
-escape_coded d n code b e f g many digits valid =
-    let fits : length (take n b) ≡ n = eqb-true _ _ many in
-    record { fits = ap suc fits; same = λ x y h. rw (e, f, g) (coded_same n code b x fits many digits valid); onward = λ r h. rw (e, f, g) (coded_onward n code b r fits many digits valid) }
+escape_coded d n code b e f g many a valid = grind (arith, nat_tests, eqb-true, coded_same, coded_onward)
 
 by_rows : (d : ℕ) (b : List ℕ) (o n : Option ℕ) → classes.is_break d ≡ false → lookup d escapes ≡ o → lookup d numeric_escapes ≡ n → LocalOf escape (d ∷ b) (escape_by o n b)
 unfolding numeric_escape
@@ -112,22 +84,12 @@ escape_local (d ∷ b) = elim (cases_Bool (classes.is_break d)) [ inl e ↦ rw e
 
 double_local : (c : ℕ) (b : List ℕ) → LocalOf (double_quoted_element c) b (double_quoted_element c b)
 unfolding double_quoted_element
-double_local c b = elim (cases_Bool (classes.is_nul c)) [
-  | inl e ↦ rw e tt
-  | inr e ↦ elim (cases_Bool (c == 34)) [
-    | inl f ↦ rw (e, f) tt
-    | inr f ↦ elim (cases_Bool (c == 92)) [
-      | inl g ↦ rw (e, f, g) (as_local (double_quoted_element c) escape b (escape b) (λ r. rw (e, f, g) refl) (escape_local b))
-      | inr g ↦ rw (e, f, g) (as_local (double_quoted_element c) (plain_element c) b (plain_element c b) (λ r. rw (e, f, g) refl) (plain_local c b))
-    ]
-  ]
-]
+double_local c b = grind (arith, as_local, escape_local, plain_local)
 
 -- ---- either
 
 pub local : (single : Bool) (c : ℕ) (b : List ℕ) → LocalOf (element_of single c) b (element_of single c b)
-local true c b = single_local c b
-local false c b = double_local c b
+local a c b = grind (arith, nat_tests, single_local, double_local)
 
 -- elements after so many characters are those of the text after them
 pub after_some : (at : ℕ → List ℕ → Option Spelled) (n : ℕ) (b : List ℕ) → elements at n b ≡ elements at 0 (drop n b)

@@ -1,9 +1,9 @@
 -- A body that has elements has no NUL, and a line of it begins with a marker before the closing quote just where it does in the body.
-use Rattle.proof_lexers.proofs.Common.{[], and_parts, arith, begins_with_marker, Bool, by_line, Context, drop, Element, element_of, elements, false, followed, has_document_marker, has_marker, is_document_marker, le-ltb, List, list_all, nat_lt, None, not-true, nothing, Option, Position, put_before, quote_of, refl, Some, Spelled, suc, true, zero, ℕ, ◌&&◌, ◌++◌, ◌+◌, ◌==◌, ◌∙◌, ◌∷◌, ◌≡◌}
+use Rattle.proof_lexers.proofs.Common.{[], and_parts, arith, begins_with_marker, Bool, Context, drop, Element, element_of, elements, false, followed, has_document_marker, has_marker, is_document_marker, le-ltb, List, list_all, nat_lt, nothing, Option, Position, put_before, quote_of, refl, Some, Spelled, suc, true, zero, ℕ, ◌++◌, ◌==◌, ◌∷◌, ◌≡◌}
 use Rattle.defs_text.specs.Classes as classes
 use Rattle.proof_lexers.proofs.Bridges.{and_false, or_false}
-use Rattle.proof_lexers.specs.QuotedScan.{is_some, by_tab}
-use Rattle.proof_lexers.proofs.Quoted.Turns.{no_marker, Step, steps, is_marked, is_shallow, StepOf}
+use Rattle.proof_lexers.specs.QuotedScan.{is_some}
+use Rattle.proof_lexers.proofs.Quoted.Turns.{no_marker, Step, StepOf}
 use Rattle.proof_lexers.proofs.Quoted.Elements.{step}
 
 pub no_less : (n : ℕ) → nat_lt n 0 ≡ false
@@ -18,23 +18,18 @@ second = record { index = 1; line = 1; col = 1 }
 
 module _ (single : Bool) where
   same_some : (c : ℕ) (b : List ℕ) (s : Spelled) → Step single outside second c b [] second nothing s → list_all is_some (c ∷ b) ≡ list_all is_some (drop s.further b)
-  same_some c b s (steps m q at ready full none marks is) = full
-  same_some c b s (is_marked e f) = cc
-  same_some c b s (is_shallow low (by_line p e f)) = let none = no_less (p.col + 1) in cc
-  same_some c b s (is_shallow low (by_tab p e f)) = let none = no_less (p.col + 1) in cc
+  same_some c b s a = grind (arith, no_less)
 
   abbrev HasNone : ℕ → List ℕ → Type 0
   HasNone n a = (es : List Element) → elements (element_of single) n a ≡ Some es → list_all is_some (drop n a) ≡ true
 
   by_elements : (c : ℕ) (b : List ℕ) (s : Spelled) (o : Option (List Element)) (es : List Element) → elements (element_of single) s.further b ≡ o → put_before s.element o ≡ Some es → HasNone s.further b
       → Step single outside second c b [] second nothing s → list_all is_some (c ∷ b) ≡ true
-  by_elements c b s None es k e others z = cc
-  by_elements c b s (Some fs) es k e others z = same_some c b s z ∙ others fs k
+  by_elements c b s a es k e others z = grind (arith, same_some)
 
   by_element : (c : ℕ) (b : List ℕ) (o : Option Spelled) (es : List Element) → followed o (λ n. elements (element_of single) n b) ≡ Some es → ((n : ℕ) → HasNone n b) → StepOf single outside second c b [] second nothing o
       → list_all is_some (c ∷ b) ≡ true
-  by_element c b None es e others z = cc
-  by_element c b (Some s) es e others z = by_elements c b s (elements (element_of single) s.further b) es refl e (others s.further) z
+  by_element c b a es e others z = grind (arith, by_elements, elements, single)
 
   pub has_none : (n : ℕ) (a : List ℕ) → HasNone n a
   has_none zero [] es h = refl
@@ -45,26 +40,12 @@ module _ (single : Bool) where
 -- ---- document markers
 
 some_fourth : (c d e f : ℕ) (a : List ℕ) → list_all is_some (c ∷ d ∷ e ∷ f ∷ a) ≡ true → (f == 0) ≡ false
-some_fourth c d e f a h =
-    let one = and_parts (is_some c) (list_all is_some (d ∷ e ∷ f ∷ a)) h in
-    let two = and_parts (is_some d) (list_all is_some (e ∷ f ∷ a)) one.1 in
-    let three = and_parts (is_some e) (list_all is_some (f ∷ a)) two.1 in
-    not-true (f == 0) ((and_parts (is_some f) (list_all is_some a) three.1).0)
+some_fourth c d e f a h = grind arith
 
 -- with the closing quote after it a body begins with a marker just where it does alone
 marker_here : (single : Bool) (a r : List ℕ) → list_all is_some a ≡ true → is_document_marker (a ++ quote_of single ∷ r) ≡ begins_with_marker a
 unfolding begins_with_marker classes.are_marks classes.is_blank_or_end classes.is_blank classes.is_break classes.is_nul
-marker_here true [] r h = no_marker 39 r refl refl
-marker_here false [] r h = no_marker 34 r refl refl
-marker_here true (c ∷ []) [] h = refl
-marker_here false (c ∷ []) [] h = refl
-marker_here true (c ∷ []) (d ∷ r) h = rw (and_false (c == 45), and_false (c == 46)) refl
-marker_here false (c ∷ []) (d ∷ r) h = rw (and_false (c == 45), and_false (c == 46)) refl
-marker_here true (c ∷ d ∷ []) r h = rw (and_false ((c == 45) && (d == 45)), and_false ((c == 46) && (d == 46))) refl
-marker_here false (c ∷ d ∷ []) r h = rw (and_false ((c == 45) && (d == 45)), and_false ((c == 46) && (d == 46))) refl
-marker_here true (c ∷ d ∷ e ∷ []) r h = and_false _
-marker_here false (c ∷ d ∷ e ∷ []) r h = and_false _
-marker_here single (c ∷ d ∷ e ∷ f ∷ a) r h = rw (some_fourth c d e f a h, or_false) refl
+marker_here b d r h = grind (arith, no_marker, and_false, some_fourth, or_false)
 
 pub same_marks : (single : Bool) (a r : List ℕ) → list_all is_some a ≡ true → has_marker a (quote_of single ∷ r) ≡ has_document_marker a
 same_marks single [] r h = refl

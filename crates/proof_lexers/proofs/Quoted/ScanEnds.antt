@@ -1,5 +1,5 @@
 -- Each scan of a quoted scalar ends as its text says.
-use Rattle.proof_lexers.proofs.Common.{[], after_elements, after_gap, ap, append-nil, At, Bool, by_end, by_escape, by_line, by_marker, Context, ends_before, EndsAs, escape, false, Fault, first, Folded, gap, has_marker, HasElements, is_blank, is_break, is_document_marker, IsQuotedRead, IsQuotedRefusal, IsShallow, joined, List, Mode, None, nothing, past, Position, quote_of, quoted, QuotedScansEndAsTheirTextSays, Read, read, reads, refl, refuses, Result, shallow, slice_index, Some, sym, true, value_of, ℕ, ◌++◌, ◌+◌, ◌==◌, ◌∙◌, ◌∷◌, ◌≡◌}
+use Rattle.proof_lexers.proofs.Common.{[], after_elements, after_gap, ap, append-nil, At, Bool, by_end, by_escape, by_line, by_marker, Context, ends_before, EndsAs, escape, false, Fault, first, Folded, gap, has_marker, HasElements, is_blank, is_break, is_document_marker, IsQuotedRead, IsQuotedRefusal, IsShallow, joined, List, Mode, None, nothing, past, Position, quote_of, quoted, QuotedScansEndAsTheirTextSays, Read, read, reads, refl, refuses, Result, shallow, slice_index, Some, sym, true, ℕ, ◌++◌, ◌==◌, ◌∙◌, ◌∷◌, ◌≡◌, subst}
 use Rattle.yaml_tokens.specs.declared.problem.Problem.TheVariants as problem
 use Rattle.proof_lexers.specs.QuotedScan.{IsRead}
 use Rattle.proof_lexers.specs.QuotedScan as scans
@@ -8,7 +8,7 @@ use Rattle.proof_lexers.proofs.Fold.{buffers_join}
 use Rattle.proof_lexers.proofs.Quoted.Turns.{no_marker, off_margin, Ready, in_gap, after_escaped, scan, Begun, begun, begins}
 use Rattle.proof_lexers.proofs.Quoted.Turns as turns
 use Rattle.proof_lexers.proofs.Quoted.NoNul.{has_none, same_marks}
-use Rattle.proof_lexers.proofs.Quoted.Bodies.{marked_from, Passed, passed, met_marker, was_shallow, passes, quote_still, quote_feed, close, Opened, opened, not_opened, opens, no_mark}
+use Rattle.proof_lexers.proofs.Quoted.Bodies.{through, quote_still, quote_feed, close, no_mark}
 use Rattle.proof_lexers.proofs.Quoted.Values.{value_is}
 use Rattle.proof_lexers.proofs.Quoted.Shapes.{Shape, closed, unclosed, badly_escaped, shape_of}
 use Rattle.proof_lexers.proofs.Quoted.Faults.{escape_fails}
@@ -21,34 +21,21 @@ module _ (single : Bool) (ctx : Context) (start : Position) (text : List ℕ) wh
   is_shallow x (by_line p h e) = refuses (At problem.QuotedIndentation start) (by_column p h) e
   is_shallow x (scans.by_tab p h e) = refuses (At problem.TabAsIndentation p) (by_tab p h) e
 
-  marks : (body rest : List ℕ) (b : Bool) → marked_from (start.col + 1) body rest ≡ b → has_marker body rest ≡ b
-  marks body rest b h = rw (off_margin start.col 0) at h
-
-  -- a body's elements, and what the text after them is
-  through : (body rest : List ℕ) (has : HasElements single body) → text ≡ body ++ rest → (x : Result (Read (List ℕ)) Fault)
+  from_body : (body rest : List ℕ) (has : HasElements single body) → text ≡ body ++ rest → (slice_index rest 0 == 10) ≡ false → is_document_marker rest ≡ false
       → ((m : Mode) (q : Position) → Ready single (after_elements has.0 nothing) m → has_marker body rest ≡ false → Ends (scan single ctx start rest m q (after_elements has.0 nothing)))
-      → Passed single ctx start x body rest (start.col + 1) (after_elements has.0 nothing) → Ends x
-  through body rest has cut x goes (passed m q ready none e) = rw e (goes m q ready (marks body rest false none))
-  through body rest has cut x goes (met_marker meets e) = refuses (At problem.QuotedDocumentMarker start) (by_marker body rest cut has (marks body rest true meets)) e
-  through body rest has cut x goes (was_shallow s) = is_shallow x s
-
-  from_gap : (body rest : List ℕ) (has : HasElements single body) → text ≡ body ++ rest → (slice_index rest 0 == 10) ≡ false → is_document_marker rest ≡ false
-      → ((m : Mode) (q : Position) → Ready single (after_elements has.0 nothing) m → has_marker body rest ≡ false → Ends (scan single ctx start rest m q (after_elements has.0 nothing)))
-      → Ends (scan single ctx start text gap (past start) nothing)
-  from_gap body rest has cut no_feed still goes =
-      through body rest has cut _ goes (rw cut (passes single ctx start 0 body rest no_feed still has.0 gap (past start) nothing has.1 in_gap))
+      → Ends (scan single ctx start text first (past start) nothing)
+  from_body body rest has cut no_feed still goes =
+      subst (λ a. Ends (scan single ctx start a first (past start) nothing)) (sym cut)
+      (through single ctx start Ends body rest has.0 has.1 no_feed still is_shallow (λ meets. refuses (At problem.QuotedDocumentMarker start) (by_marker body rest cut has meets) refl) goes)
 
   -- ---- a closing quote
 
-  value_here : (body rest : List ℕ) (has : HasElements single body) → has_marker body (quote_of single ∷ rest) ≡ false → value_of single body ≡ Some ((joined (after_elements has.0 nothing)).text)
-  value_here body rest has none =
-      let unmarked = sym (same_marks single body rest (has_none single 0 body has.0 has.1)) ∙ none in
-      value_is single body has.0 has.1 unmarked ∙ ap Some (sym (buffers_join has.0))
-
   closes : (body rest : List ℕ) (has : HasElements single body) → text ≡ body ++ quote_of single ∷ rest → ends_before single rest ≡ true → has_marker body (quote_of single ∷ rest) ≡ false
       → (x : Result (Read (List ℕ)) Fault) → IsRead ctx start ((joined (after_elements has.0 nothing)).text) rest x → Ends x
-  closes body rest has cut ends none x (read position e) = reads _ (record { body = body; is_text = cut; is_value = value_here body rest has none; may_end = ends }) e
   closes body rest has cut ends none x (shallow s) = is_shallow x s
+  closes body rest has cut ends none x (read position e) =
+      let unmarked = sym (same_marks single body rest (has_none single 0 body has.0 has.1)) ∙ none in
+      reads _ (record { body = body; is_text = cut; is_value = value_is single body has.0 has.1 unmarked ∙ ap Some (sym (buffers_join has.0)); may_end = ends }) e
 
   -- ---- no closing quote
 
@@ -74,23 +61,19 @@ module _ (ctx : Context) (start : Position) (text body rest : List ℕ) (cut : t
 
 -- ---- every text
 
-by_shape : (single : Bool) (ctx : Context) (start : Position) (text : List ℕ) → Shape single text → Ends single ctx start text (scan single ctx start text gap (past start) nothing)
+by_shape : (single : Bool) (ctx : Context) (start : Position) (text : List ℕ) → Shape single text → Ends single ctx start text (scan single ctx start text first (past start) nothing)
 by_shape single ctx start text (closed body rest cut has ends) =
-    from_gap single ctx start text body (quote_of single ∷ rest) has cut (quote_feed single rest) (quote_still single rest)
+    from_body single ctx start text body (quote_of single ∷ rest) has cut (quote_feed single rest) (quote_still single rest)
     (λ m q ready none. closes single ctx start text body rest has cut ends none _ (close single ctx start rest ends m q (after_elements has.0 nothing) ready))
 by_shape single ctx start text (unclosed has) =
-    from_gap single ctx start text text [] has (sym (append-nil text)) refl refl (λ m q ready none. at_end single ctx start text m q (after_elements has.0 nothing) ready has)
+    from_body single ctx start text text [] has (sym (append-nil text)) refl refl (λ m q ready none. at_end single ctx start text m q (after_elements has.0 nothing) ready has)
 by_shape single ctx start text (badly_escaped body rest double cut has bad) = of_double single double has
   where
-    of_double : (single : Bool) → single ≡ false → HasElements single body → Ends single ctx start text (scan single ctx start text gap (past start) nothing)
+    of_double : (single : Bool) → single ≡ false → HasElements single body → Ends single ctx start text (scan single ctx start text first (past start) nothing)
     of_double true e has = cc
     of_double false e has =
-        from_gap false ctx start text body (92 ∷ rest) has cut refl (no_marker 92 rest refl refl) (λ m q ready none. at_escape ctx start text body rest cut has bad m q (after_elements has.0 nothing) ready)
-
-by_opening : (single : Bool) (ctx : Context) (start : Position) (text : List ℕ) → Shape single text → Opened single ctx start text (past start) → Ends single ctx start text (scan single ctx start text first (past start) nothing)
-by_opening single ctx start text shape (opened e) = rw e (by_shape single ctx start text shape)
-by_opening single ctx start text shape (not_opened s) = is_shallow single ctx start text _ s
+        from_body false ctx start text body (92 ∷ rest) has cut refl (no_marker 92 rest refl refl) (λ m q ready none. at_escape ctx start text body rest cut has bad m q (after_elements has.0 nothing) ready)
 
 pub scans_end : QuotedScansEndAsTheirTextSays
 unfolding quoted
-scans_end single ctx text p full = by_opening single ctx p text (shape_of single text full) (opens single ctx p text (past p) (off_margin p.col 0))
+scans_end single ctx text p full = by_shape single ctx p text (shape_of single text full)

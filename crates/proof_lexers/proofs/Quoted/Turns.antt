@@ -1,5 +1,5 @@
 -- What the model does at an element of a body.
-use Rattle.proof_lexers.proofs.Common.{[], after_element, along, and_parts, append-nil, arith, At, at_marker, blank, Bool, break_further, by_line, cases_Bool, content, Context, drop, Element, eqb-true, Err, false, Fault, Folded, gap, has_marker, inl, inr, inside, is_blank, is_break, is_document_marker, IsShallow, joined, line_break, List, list_all, Mode, nat_lt, nat_tests, None, not, Ok, Option, past, past_break, plain_element, Position, quote_of, quoted_from, Read, refl, refused, Result, slice_index, Some, Spelled, sym, take, true, with_char, ℕ, ◌&&◌, ◌++◌, ◌+◌, ◌==◌, ◌||◌, ◌∙◌, ◌∷◌, ◌≡◌, ◌≤◌}
+use Rattle.proof_lexers.proofs.Common.{[], after_element, along, and_parts, append-nil, arith, At, at_marker, blank, Bool, break_further, by_line, cases_Bool, content, Context, drop, Element, eqb-true, Err, false, Fault, Folded, gap, has_marker, inl, inr, inside, is_blank, is_break, is_document_marker, IsShallow, joined, line_break, List, list_all, Mode, nat_lt, nat_tests, None, not, Ok, Option, past, past_break, plain_element, Position, quote_of, quoted_from, Read, refl, refused, Result, slice_index, Some, Spelled, take, true, with_char, ℕ, ◌&&◌, ◌++◌, ◌+◌, ◌==◌, ◌||◌, ◌∙◌, ◌∷◌, ◌≡◌, ◌≤◌}
 use Rattle.yaml_tokens.specs.declared.problem.Problem.TheVariants as problem
 use Rattle.defs_text.specs.Classes as classes
 use Rattle.model_scanner.specs.Quoted.{after}
@@ -13,9 +13,7 @@ off_margin n k = grind (arith, nat_tests)
 
 pub no_marker : (c : ℕ) (a : List ℕ) → (c == 45) ≡ false → (c == 46) ≡ false → is_document_marker (c ∷ a) ≡ false
 unfolding classes.are_marks
-no_marker c [] e f = refl
-no_marker c (d ∷ []) e f = refl
-no_marker c (d ∷ g ∷ a) e f = rw (e, f) refl
+no_marker c b e f = grind arith
 
 pub feed_is_no_marker : (a : List ℕ) → is_document_marker (10 ∷ a) ≡ false
 feed_is_no_marker a = no_marker 10 a refl refl
@@ -49,10 +47,7 @@ module _ (single : Bool) (ctx : Context) (start : Position) where
 
   pub begins : (c : ℕ) (a : List ℕ) (p : Position) (t : Folded) → (is_break c || is_blank c) ≡ false → Begun (c ∷ a) p t
   unfolding refused
-  begins c a p t g = elim (cases_Bool (at_marker p.col (c ∷ a))) [
-    | inl e ↦ marked (sym (same_marker p.col (c ∷ a)) ∙ e) (rw (g, e) refl)
-    | inr e ↦ elim (cases_Bool (nat_lt (p.col + 1) ctx.indent)) [ inl f ↦ shallow f (rw (g, e, f) refl) | inr f ↦ begun (sym (same_marker p.col (c ∷ a)) ∙ e) f (rw (g, e, f) refl) ]
-  ]
+  begins c a p t g = grind (arith, marked, same_marker, shallow, begun)
 
   -- where a document marker stands it is refused for that
   pub begins_marked : (c : ℕ) (a : List ℕ) (p : Position) (t : Folded) → (is_break c || is_blank c) ≡ false → ((p.col == 0) && is_document_marker (c ∷ a)) ≡ true → scan (c ∷ a) gap p t ≡ Err (At problem.QuotedDocumentMarker start)

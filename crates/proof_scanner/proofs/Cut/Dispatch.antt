@@ -1,5 +1,5 @@
 -- The next token by its first characters.
-use Rattle.proof_scanner.proofs.Common.{[], and_false, ap, are_single, arith, At, begins_flow, begins_separation, Bool, class_of, comes_marker, comes_plain, eqb-true, Err, false, Fault, fetch_anchor, fetch_block_entry, fetch_block_scalar, fetch_content, fetch_directive, fetch_document_end, fetch_document_marker, fetch_first_column, fetch_flow_collection_end, fetch_flow_collection_start, fetch_flow_entry, fetch_flow_scalar, fetch_indented, fetch_key, fetch_plain_scalar, fetch_tag, fetch_token, fetch_value, has_no_nul, if◌then◌else◌, in_flow, is_at_gap, is_blank_or_breakz, is_document_marker, is_empty, is_literal, is_value, is_value_indicator, is_white, List, mark_of, may_begin, NameKind, nat_lt, not, peek, quote_of, Quotes, refl, Result, same_gap, ScannerState, slice_index, sym, Tok, token_by, true, ℕ, ◌&&◌, ◌+◌, ◌==◌, ◌||◌, ◌∙◌, ◌∷◌, ◌≡◌}
+use Rattle.proof_scanner.proofs.Common.{row, [], and_false, ap, are_single, arith, At, begins_flow, begins_separation, Bool, class_of, comes_marker, comes_plain, eqb-true, Err, false, Fault, fetch_anchor, fetch_block_entry, fetch_block_scalar, fetch_content, fetch_directive, fetch_document_end, fetch_document_marker, fetch_first_column, fetch_flow_collection_end, fetch_flow_collection_start, fetch_flow_entry, fetch_flow_scalar, fetch_indented, fetch_key, fetch_plain_scalar, fetch_tag, fetch_token, fetch_value, has_no_nul, if◌then◌else◌, in_flow, is_at_gap, is_blank_or_breakz, is_document_marker, is_empty, is_literal, is_value, is_value_indicator, is_white, List, mark_of, may_begin, NameKind, nat_lt, not, peek, quote_of, Quotes, refl, Result, same_gap, ScannerState, slice_index, sym, Tok, token_by, true, ℕ, ◌&&◌, ◌+◌, ◌==◌, ◌||◌, ◌∙◌, ◌∷◌, ◌≡◌}
 use Rattle.yaml_chars.specs.Class.{is_blank, is_break, is_flow}
 use Rattle.defs_text.specs.Classes as classes
 use Rattle.yaml_tokens.specs.declared.problem.Problem.TheVariants as problem
@@ -9,7 +9,7 @@ use Rattle.model_scanner.specs.declared.kind.Collection.TheVariants.{Sequence, M
 use Rattle.model_scanner.specs.declared.kind.NameKind.TheVariants.{Alias, Anchor}
 use Rattle.model_scanner.specs.declared.kind.Quotes.TheVariants.{Single, Double}
 use Rattle.proof_lexers.proofs.Bridges.{same_flow}
-use Rattle.proof_scanner.proofs.Cut.Characters.{Ordinary, of_all}
+use Rattle.proof_scanner.proofs.Cut.Characters.{Ordinary}
 use Rattle.proof_scanner.proofs.Cut.Nodes.{IsDeep}
 use Rattle.model_scanner.specs.State.{after}
 use Rattle.proof_scanner.proofs.Cut.Fetched.{begins_with_this, Marked, marked, no_marker, is_deep}
@@ -18,19 +18,16 @@ use Rattle.proof_scanner.proofs.Cut.Fetched.{begins_with_this, Marked, marked, n
 
 pub gap_here : (m : List ℕ) → is_blank_or_breakz (slice_index m 0) ≡ is_at_gap m
 unfolding is_blank is_break
-gap_here [] = refl
-gap_here (c ∷ r) = sym (same_gap c)
+gap_here a = grind (arith, same_gap)
 
 flow_here : (m : List ℕ) → is_flow (slice_index m 0) ≡ begins_flow m
 unfolding is_flow
-flow_here [] = refl
-flow_here (c ∷ r) = sym (same_flow c)
+flow_here a = grind (arith, same_flow)
 
 -- every other character begins a plain scalar
 other_begins : (fl adjacent : Bool) (c : ℕ) (more : List ℕ) → Ordinary c → (if c == 45 then not (is_at_gap more) else may_begin fl adjacent c more) ≡ true
 unfolding classes.is_blank_or_end classes.is_blank classes.is_break classes.is_nul classes.is_flow
-other_begins fl adjacent c more o =
-    rw (o.e45, o.e63, o.e58, o.e124, o.e62, o.e32, o.e9, o.e10, o.e13, o.e0, o.e44, o.e91, o.e93, o.e123, o.e125, o.e35, o.e38, o.e42, o.e33, o.e37, o.e64, o.e96, o.e39, o.e34) refl
+other_begins fl adjacent c more o = grind arith
 
 -- What is so of what the function of each token gives, where it is called, and of the three refusals; whether a colon may stand next to what stands before is known.
 pub record TokensHold (Q : Result ScannerState Fault → Type 0) (t : ScannerState) (adjacent : Bool) : Type 0 where
@@ -67,9 +64,7 @@ value_is t adjacent more e now = by (is_empty t.held.flow) refl
 
     by : (out : Bool) → is_empty t.held.flow ≡ out →
         (is_blank_or_breakz (slice_index t.rest 1) || (not out && (is_flow (slice_index t.rest 1) || (t.held.position.index == t.held.adjacent_value_at)))) ≡ (is_at_gap more || (not out && (begins_flow more || adjacent)))
-    by true o = ap (λ b. b || false) gap
-    by false o = ap (λ b. b || (is_flow (slice_index t.rest 1) || (t.held.position.index == t.held.adjacent_value_at))) gap ∙ ap (λ b. is_at_gap more || (b || (t.held.position.index == t.held.adjacent_value_at))) flows ∙
-        ap (λ b. is_at_gap more || (begins_flow more || b)) (now o)
+    by a o = grind (arith, gap, more, flows, now)
 
 -- ---- the token by its first character
 
@@ -170,33 +165,32 @@ module _ (Q : Result ScannerState Fault → Type 0) (t : ScannerState) (adjacent
 
   each : (c : ℕ) → Reads c
   unfolding class_of
-  each c = of_all Reads (record {
-    nul = no_nul;
-    space = space;
-    tab = tab;
-    feed = feed;
-    carriage = carriage;
-    hash = hash;
-    dash = dash;
-    question = question;
-    colon = colon;
-    comma = h.comma;
-    open_bracket = h.open_bracket;
-    close_bracket = h.close_bracket;
-    open_brace = h.open_brace;
-    close_brace = h.close_brace;
-    asterisk = h.anchor Alias;
-    ampersand = h.anchor Anchor;
-    exclamation = h.tag;
-    bar = bar;
-    greater = greater;
-    single_quote = h.quoted Single;
-    double_quote = h.quoted Double;
-    percent = h.percent;
-    at_sign = h.at_sign;
-    backtick = h.backtick;
-    other = other;
-  }) c
+  each c =
+      row c 0 Reads no_nul (λ e0.
+      row c 32 Reads space (λ e32.
+      row c 9 Reads tab (λ e9.
+      row c 10 Reads feed (λ e10.
+      row c 13 Reads carriage (λ e13.
+      row c 35 Reads hash (λ e35.
+      row c 45 Reads dash (λ e45.
+      row c 63 Reads question (λ e63.
+      row c 58 Reads colon (λ e58.
+      row c 44 Reads h.comma (λ e44.
+      row c 91 Reads h.open_bracket (λ e91.
+      row c 93 Reads h.close_bracket (λ e93.
+      row c 123 Reads h.open_brace (λ e123.
+      row c 125 Reads h.close_brace (λ e125.
+      row c 42 Reads (h.anchor Alias) (λ e42.
+      row c 38 Reads (h.anchor Anchor) (λ e38.
+      row c 33 Reads h.tag (λ e33.
+      row c 124 Reads bar (λ e124.
+      row c 62 Reads greater (λ e62.
+      row c 39 Reads (h.quoted Single) (λ e39.
+      row c 34 Reads (h.quoted Double) (λ e34.
+      row c 37 Reads h.percent (λ e37.
+      row c 64 Reads h.at_sign (λ e64.
+      row c 96 Reads h.backtick (λ e96.
+      other c (record { e0 = e0; e32 = e32; e9 = e9; e10 = e10; e13 = e13; e35 = e35; e45 = e45; e63 = e63; e58 = e58; e44 = e44; e91 = e91; e93 = e93; e123 = e123; e125 = e125; e42 = e42; e38 = e38; e33 = e33; e124 = e124; e62 = e62; e39 = e39; e34 = e34; e37 = e37; e64 = e64; e96 = e96 })))))))))))))))))))))))))
 
   pub token_holds : is_empty t.rest ≡ false → Q (fetch_token t)
   unfolding fetch_token
@@ -226,8 +220,7 @@ content_holds Q t some h =
     either (t.held.position.col == 0) (λ e. first (eqb-true t.held.position.col 0 e)) (λ e. indented (rw e refl, λ col. absurd (grind (arith, e, col))))
   where
     either : {x y : Result ScannerState Fault} (b : Bool) → (b ≡ true → Q x) → (b ≡ false → Q y) → Q (if b then x else y)
-    either true p q = p refl
-    either false p q = q refl
+    either a p q = grind arith
 
     indented : IsNoLine t → Q (fetch_indented t)
     indented n = either (nat_lt (t.held.position.col + 1) t.held.indent) (h.shallow n) (λ e. h.token n (is_deep t.held.position.col t.held.indent e))

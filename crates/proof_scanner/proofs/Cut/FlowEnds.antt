@@ -1,5 +1,5 @@
 -- What the model leaves at closing brackets and commas.
-use Rattle.proof_scanner.proofs.Common.{[], allow_key, and_parts, arith, before_past, begins_token, blocks_past, Bool, collection, decrease_flow_level, end_flow_pair, ends_entry, ends_spaces, false, FlowLevel, has_no_nul, Held, if◌then◌else◌, inl, inr, is_adjacent, is_at_line_end, is_blank, is_blanks, is_break, is_nul, is_pair_at, is_separation, IsAdjacent, IsPiece, Key, Keyed, length, List, Mapping, no_hash, None, not, Option, other, pop, Position, refl, same_blank, Some, suc, sym, Tok, Token, token, true, with_top, Yes, ℕ, ◌&&◌, ◌++◌, ◌+◌, ◌==◌, ◌||◌, ◌∙◌, ◌∷◌, ◌≡◌, ◌⊎◌}
+use Rattle.proof_scanner.proofs.Common.{[], allow_key, arith, before_past, begins_token, blocks_past, Bool, collection, decrease_flow_level, end_flow_pair, ends_entry, ends_spaces, false, FlowLevel, has_no_nul, Held, if◌then◌else◌, inl, inr, is_adjacent, is_at_line_end, is_blank, is_blanks, is_break, is_pair_at, is_separation, IsAdjacent, IsPiece, Key, Keyed, length, List, no_hash, None, not, Option, other, pop, Position, refl, same_blank, Some, suc, sym, Tok, Token, token, true, with_top, Yes, ℕ, ◌&&◌, ◌++◌, ◌+◌, ◌==◌, ◌||◌, ◌∙◌, ◌∷◌, ◌≡◌, ◌⊎◌}
 use Rattle.proof_lexers.specs.PlainEnds.{has_break}
 use Rattle.defs_token.specs.Account.{Account}
 use Rattle.model_scanner.specs.declared.level.FlowLevel.TheVariants.{Entry, Pair}
@@ -31,19 +31,11 @@ entry_now fs s = record s { tokens = closed_tokens fs s.position s.tokens; keys 
 
 pub ended_is : (s : Held) (fs : List FlowLevel) → allow_key false (decrease_flow_level (end_flow_pair (record s { keys = with_top None s.keys; flow = fs }))) ≡ ended_now fs s
 unfolding decrease_flow_level end_flow_pair
-ended_is s [] = refl
-ended_is s (Pair ∷ fs) = refl
-ended_is s (Keyed ∷ fs) = refl
-ended_is s (Mapping ∷ fs) = refl
-ended_is s (Entry ∷ fs) = refl
+ended_is s a = grind arith
 
 pub entry_is : (s : Held) (fs : List FlowLevel) → end_flow_pair (allow_key true (record s { keys = with_top None s.keys; flow = fs })) ≡ entry_now fs s
 unfolding end_flow_pair
-entry_is s [] = refl
-entry_is s (Pair ∷ fs) = refl
-entry_is s (Keyed ∷ fs) = refl
-entry_is s (Mapping ∷ fs) = refl
-entry_is s (Entry ∷ fs) = refl
+entry_is s a = grind arith
 
 -- what is said of a closing bracket or a comma
 pub record IsEndOf (tok : Tok) (c : ℕ) : Type 0 where
@@ -71,46 +63,25 @@ one_line (c ∷ f) rest h n = by (is_blank c) (is_break c) refl h n (one_line f 
   where
     after_comment : (f : List ℕ) → is_separation true f rest ≡ true → has_break f ≡ false → is_at_line_end rest ≡ true
     after_comment [] h n = h
-    after_comment (d ∷ f) h n = of (is_break d) h n (after_comment f)
-      where
-        of : (b : Bool) → is_separation (not b) f rest ≡ true → (b || has_break f) ≡ false → (is_separation true f rest ≡ true → has_break f ≡ false → is_at_line_end rest ≡ true) → is_at_line_end rest ≡ true
-        of true h n k = absurd (cc n)
-        of false h n k = k h n
+    after_comment (d ∷ f) h n = grind (arith, after_comment f)
 
     by : (x y : Bool) → is_blank c ≡ x → ((x || y || (c == 35)) && is_separation (c == 35) f rest) ≡ true → (y || has_break f) ≡ false →
         (is_separation false f rest ≡ true → has_break f ≡ false → (is_blanks f ≡ true) ⊎ (is_at_line_end rest ≡ true)) → ((x && is_blanks f) ≡ true) ⊎ (is_at_line_end rest ≡ true)
-    by x true e h n k = absurd (cc n)
-    by true false e h n k = k (rw (no_hash c (sym (same_blank c) ∙ e)) at h) n
-    by false false e h n k =
-        let a : ((c == 35) ≡ true) × (is_separation (c == 35) f rest ≡ true) = and_parts (c == 35) (is_separation (c == 35) f rest) h in
-        inr (after_comment f (rw (a.0) at (a.1)) n)
+    by x y e h n k = grind (arith, no_hash, same_blank, after_comment)
 
 no_token : (r : List ℕ) → has_no_nul r ≡ true → is_at_line_end r ≡ true → begins_token r ≡ true → ⊥
-no_token [] n l t = cc t
-no_token (c ∷ r) n l t = by (is_break c) (is_nul c) (is_blank c) n l t
-  where
-    by : (x y z : Bool) → (not y && has_no_nul r) ≡ true → (x || y) ≡ true → not ((z || x) || (c == 35)) ≡ true → ⊥
-    by true y true n l t = cc t
-    by true y false n l t = cc t
-    by false true z n l t = cc n
-    by false false z n l t = cc l
+no_token a n l t = grind arith
 
 no_blank : (c : ℕ) → not ((c == 32) || ((c == 9) && true) || (c == 35)) ≡ true → is_blank c ≡ false
 unfolding is_blank
-no_blank c h = by (c == 32) (c == 9) h
-  where
-    by : (x y : Bool) → not (x || (y && true) || (c == 35)) ≡ true → (x || y) ≡ false
-    by true y h = absurd (cc h)
-    by false true h = absurd (cc h)
-    by false false h = refl
+no_blank c h = grind arith
 
 -- after a flow collection and blanks
 pub adjacent_collection : (p : Position) (f rest : List ℕ) → is_separation false f rest ≡ true → has_break f ≡ false → ends_spaces Yes rest ≡ true → has_no_nul rest ≡ true → IsAdjacent (before_past collection f) p p.index rest
 adjacent_collection p f rest fills line ends clean = λ separation r e k t. by separation r e k t
   where
     blanks_first : (b : Bool) (c : ℕ) (g : List ℕ) → is_blank c ≡ false → is_adjacent (before_past (if b then collection else other) (c ∷ g)) ≡ false
-    blanks_first true c g h = rw h refl
-    blanks_first false c g h = refl
+    blanks_first a c g h = grind arith
 
     by : (separation r : List ℕ) → rest ≡ separation ++ r → is_separation false separation r ≡ true → begins_token r ≡ true → is_adjacent (before_past (before_past collection f) separation) ≡ ((p.index + length separation) == p.index)
     by [] r e k t = elim (one_line f rest fills line) [

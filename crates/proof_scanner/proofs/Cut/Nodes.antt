@@ -1,5 +1,5 @@
 -- Columns that are deep enough, and colons that stand next to nothing.
-use Rattle.proof_scanner.proofs.Common.{arith, Bool, false, Held, IsAdjacent, length, List, nat_le, nat_tests, other, Position, refl, suc, sym, true, ℕ, ◌+◌, ◌<◌, ◌==◌, ◌||◌, ◌≡◌, ◌≤◌}
+use Rattle.proof_scanner.proofs.Common.{arith, Bool, false, Held, IsAdjacent, length, List, nat_le, nat_tests, other, Position, suc, sym, true, ℕ, ◌+◌, ◌<◌, ◌==◌, ◌||◌, ◌≡◌, ◌≤◌}
 
 -- whether a token may begin here: not left of the innermost level
 abbrev pub IsDeep : Held → Type 0
@@ -13,5 +13,4 @@ adjacent_other p adj rest h = λ separation r e k t. sym (not_same (p.index + le
 
 -- a column that is deep enough, or no matter
 pub less_or : (b : Bool) (x y : ℕ) → x ≤ suc y → (b || nat_le x (suc y)) ≡ true
-less_or true x y h = refl
-less_or false x y h = grind (arith, nat_tests)
+less_or a x y h = grind arith

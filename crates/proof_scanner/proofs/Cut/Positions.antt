@@ -1,5 +1,5 @@
 -- Positions after texts.
-use Rattle.proof_scanner.proofs.Common.{[], After, arith, Bool, ends_line, false, if◌then◌else◌, is_empty, length, List, NotBefore, Position, position_after, position_past, refl, suc, true, ℕ, ◌++◌, ◌+◌, ◌∷◌, ◌≡◌}
+use Rattle.proof_scanner.proofs.Common.{[], After, arith, false, is_empty, length, List, NotBefore, Position, position_after, position_past, suc, ℕ, ◌++◌, ◌+◌, ◌∷◌, ◌≡◌}
 
 pub not_before_same : (p : Position) → NotBefore p p
 not_before_same p = (omega arith, λ h. omega arith)
@@ -11,11 +11,7 @@ pub after_then : (p q r : Position) → After p q → NotBefore q r → After p 
 after_then p q r a b = (omega (arith, a.0, b.0), λ h. omega (arith, a.1 (omega (arith, h, b.0)), b.1 (omega (arith, h, a.0))))
 
 past_after : (p : Position) (c : ℕ) (next : List ℕ) → After p (position_past p c next)
-past_after p c next = by (ends_line c next)
-  where
-    by : (b : Bool) → After p (if b then record { index = suc p.index; line = suc p.line; col = 0 } else record { index = suc p.index; line = p.line; col = suc p.col })
-    by true = (omega arith, λ h. omega (arith, h))
-    by false = (omega arith, λ h. omega arith)
+past_after p c next = grind arith
 
 pub weaker : (p q : Position) → After p q → NotBefore p q
 weaker p q a = (a.0, λ h. omega (arith, a.1 h))
@@ -32,11 +28,7 @@ is_after p c a next =
     after_then p q (position_after q a next) (past_after p c (a ++ next)) (not_before_after q a next)
 
 index_past : (p : Position) (c : ℕ) (next : List ℕ) → (position_past p c next).index ≡ suc p.index
-index_past p c next = by (ends_line c next)
-  where
-    by : (b : Bool) → (let q : Position = (if b then record { index = suc p.index; line = suc p.line; col = 0 } else record { index = suc p.index; line = p.line; col = suc p.col }) in q.index) ≡ suc p.index
-    by true = refl
-    by false = refl
+index_past p c next = grind arith
 
 -- the index counts characters
 pub index_after : (p : Position) (a next : List ℕ) → (position_after p a next).index ≡ p.index + length a

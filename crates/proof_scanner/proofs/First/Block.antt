@@ -1,5 +1,5 @@
 -- A block scalar has one fault that comes first.
-use Rattle.proof_scanner.proofs.Common.{[], after_digit, after_sign, after_style, and_parts, ap, append_cancel_right, begins_with, block_first, blocks, BlockStyle, Bool, Chomping, digit_of, digit_or_end, eqb-true, false, first_indicator, first_line, folded, has_header, has_no_nul, has_zero, Header, header_first, header_of, if◌then◌else◌, indicator_of, innermost, is_at_end, is_between, is_blank, is_blanks_and_comment, is_in_line, is_rest_of_line, is_sign, IsBlockFault, IsNoHeader, keep, line_is, line_more, List, literal, no_nul_after, None, not, Option, past_indicators, past_spaces, Position, position_after, Problem, refl, sign_of, sign_or_end, Some, split, strip, style_inner, style_same, subst, sym, tab, true, up_to_break, ℕ, ◌&&◌, ◌++◌, ◌-◌, ◌==◌, ◌||◌, ◌∙◌, ◌∷◌, ◌≡◌}
+use Rattle.proof_scanner.proofs.Common.{[], after_digit, after_sign, after_style, ap, append_cancel_right, begins_with, block_first, blocks, BlockStyle, Bool, Chomping, digit_of, false, first_line, has_header, has_no_nul, has_zero, Header, header_first, header_of, if◌then◌else◌, indicator_of, innermost, is_at_end, is_between, is_blanks_and_comment, is_in_line, is_rest_of_line, is_sign, IsBlockFault, IsNoHeader, line_is, line_more, List, no_nul_after, None, Option, past_indicators, past_spaces, Position, position_after, Problem, refl, sign_of, Some, split, style_inner, style_same, subst, sym, tab, true, up_to_break, ℕ, ◌++◌, ◌∙◌, ◌∷◌, ◌≡◌, arith, nat_tests}
 use Rattle.proof_lexers.specs.HeaderEnds as headers
 use Rattle.proof_lexers.specs.HeaderEnds.{past_one}
 use Rattle.proof_scanner.specs.NoPiece as none
@@ -13,83 +13,38 @@ is_given None = false
 is_given (Some h) = true
 
 given_by : (h : Header) (b : Bool) → is_given (if b then Some h else None) ≡ b
-given_by h true = refl
-given_by h false = refl
+given_by h b = grind arith
 
 given_sign : (s : BlockStyle) (ch : Chomping) (r : List ℕ) → is_given (after_sign s ch r) ≡ is_rest_of_line (past_one (is_between 49 57) r)
 unfolding digit_of
-given_sign s ch [] = refl
-given_sign s ch (c ∷ r) = by (is_between 49 57 c)
-  where
-    by : (b : Bool) → is_given (digit_or_end s ch (if b then Some (c - 48) else None) c r) ≡ is_rest_of_line (if b then r else c ∷ r)
-    by true = given_by _ (is_rest_of_line r)
-    by false = given_by _ (is_rest_of_line (c ∷ r))
+given_sign s ch r = grind (arith, given_by)
 
 given_digit : (s : BlockStyle) (d : ℕ) (r : List ℕ) → is_given (after_digit s d r) ≡ is_rest_of_line (past_one is_sign r)
 unfolding sign_of
-given_digit s d [] = refl
-given_digit s d (c ∷ r) = by (c == 43) (c == 45)
-  where
-    by : (k m : Bool) → is_given (sign_or_end s d (if m then Some strip else (if k then Some keep else None)) c r) ≡ is_rest_of_line (if k || m then r else c ∷ r)
-    by true true = given_by _ (is_rest_of_line r)
-    by true false = given_by _ (is_rest_of_line r)
-    by false true = given_by _ (is_rest_of_line r)
-    by false false = given_by _ (is_rest_of_line (c ∷ r))
+given_digit s d r = grind (arith, given_by)
 
 given_style : (s : BlockStyle) (w : List ℕ) → is_given (after_style s w) ≡ is_rest_of_line (past_indicators w)
 unfolding sign_of digit_of
-given_style s [] = refl
-given_style s (c ∷ r) = by (c == 43) (c == 45) (is_between 49 57 c)
-  where
-    by : (k m d : Bool) → is_given (first_indicator s (if m then Some strip else (if k then Some keep else None)) (if d then Some (c - 48) else None) c r) ≡
-        is_rest_of_line (if k || m then past_one (is_between 49 57) r else (if d then past_one is_sign r else c ∷ r))
-    by true true d = given_sign s strip r
-    by true false d = given_sign s keep r
-    by false true d = given_sign s strip r
-    by false false true = given_digit s (c - 48) r
-    by false false false = given_by _ (is_rest_of_line (c ∷ r))
+given_style s w = grind (arith, given_by, given_sign, given_digit)
 
 -- A line is a header if nothing but a line's rest stands after its indicators.
 header_is : (style : BlockStyle) (w : List ℕ) → is_given (header_of (indicator_of style ∷ w)) ≡ is_rest_of_line (past_indicators w)
-header_is literal w = given_style literal w
-header_is folded w = given_style folded w
+header_is style w = grind (arith, given_style)
 
 -- ---- a comment right after the indicators
 
 past_with : (class : ℕ → Bool) (r t : List ℕ) → class 35 ≡ false → past_one class (r ++ 35 ∷ t) ≡ past_one class r ++ 35 ∷ t
-past_with class [] t e = rw e refl
-past_with class (c ∷ r) t e = by (class c)
-  where
-    by : (b : Bool) → (if b then r ++ 35 ∷ t else c ∷ (r ++ 35 ∷ t)) ≡ (if b then r else c ∷ r) ++ 35 ∷ t
-    by true = refl
-    by false = refl
+past_with class r t e = grind arith
 
 indicators_with : (w t : List ℕ) → past_indicators (w ++ 35 ∷ t) ≡ past_indicators w ++ 35 ∷ t
-indicators_with [] t = refl
-indicators_with (c ∷ r) t = by (is_sign c) (is_between 49 57 c)
-  where
-    by : (s d : Bool) → (if s then past_one (is_between 49 57) (r ++ 35 ∷ t) else (if d then past_one is_sign (r ++ 35 ∷ t) else c ∷ (r ++ 35 ∷ t))) ≡
-        (if s then past_one (is_between 49 57) r else (if d then past_one is_sign r else c ∷ r)) ++ 35 ∷ t
-    by true d = past_with (is_between 49 57) r t refl
-    by false true = past_with is_sign r t refl
-    by false false = refl
+indicators_with w t = grind (arith, past_with)
 
 blanks_with : (r t : List ℕ) → is_blanks_and_comment r ≡ true → is_blanks_and_comment (r ++ 35 ∷ t) ≡ true
 blanks_with [] t h = refl
-blanks_with (c ∷ r) t h = by (c == 35) (is_blank c) h (λ k. blanks_with r t k)
-  where
-    by : (hash blank : Bool) → (hash || (blank && is_blanks_and_comment r)) ≡ true → (is_blanks_and_comment r ≡ true → is_blanks_and_comment (r ++ 35 ∷ t) ≡ true) → (hash || (blank && is_blanks_and_comment (r ++ 35 ∷ t))) ≡ true
-    by true blank h goes = refl
-    by false true h goes = goes h
-    by false false h goes = cc h
+blanks_with (c ∷ r) t h = grind (arith, blanks_with r t)
 
 rest_with : (r t : List ℕ) → is_rest_of_line r ≡ true → is_rest_of_line (r ++ 35 ∷ t) ≡ false → r ≡ []
-rest_with [] t h k = refl
-rest_with (c ∷ r) t h k =
-    let q = and_parts (not (c == 35)) (is_blanks_and_comment (c ∷ r)) h in
-    let all : is_blanks_and_comment (c ∷ (r ++ 35 ∷ t)) ≡ true = blanks_with (c ∷ r) t q.1 in
-    let goes : (not (c == 35) && is_blanks_and_comment (c ∷ (r ++ 35 ∷ t))) ≡ true = rw (q.0, all) refl in
-    cc (k, goes)
+rest_with r t h k = grind (arith, blanks_with)
 
 -- a line that is no header, but one before a comment
 comment_is : (style : BlockStyle) (line before text : List ℕ) (h : Header) → header_of (indicator_of style ∷ line) ≡ None → header_of (indicator_of style ∷ before) ≡ Some h → line ≡ before ++ 35 ∷ text → past_indicators line ≡ 35 ∷ text
@@ -102,16 +57,7 @@ comment_is style line before text h lacks is cut =
 -- ---- a digit 0
 
 zero_is : (line : List ℕ) → has_zero line ≡ true → begins_with 48 (past_indicators line) ≡ true
-zero_is [] h = absurd (cc h)
-zero_is (c ∷ r) h = by (c == 48) refl h
-  where
-    second : (r : List ℕ) → begins_with 48 r ≡ true → begins_with 48 (past_one (is_between 49 57) r) ≡ true
-    second [] h = absurd (cc h)
-    second (d ∷ r) h = let same : d ≡ 48 = eqb-true d 48 h in rw same refl
-
-    by : (z : Bool) → (c == 48) ≡ z → (z || (is_sign c && begins_with 48 r)) ≡ true → begins_with 48 (past_indicators (c ∷ r)) ≡ true
-    by true e h = let same : c ≡ 48 = eqb-true c 48 e in rw same refl
-    by false e h = let q = and_parts (is_sign c) (begins_with 48 r) h in rw (q.0) (second r q.1)
+zero_is line h = grind (arith, nat_tests)
 
 -- ---- one reason why a line is no header
 

@@ -1,5 +1,5 @@
 -- Of two reasons at one indicator that both come first, kind and position are the same.
-use Rattle.proof_scanner.proofs.Common.{[], and_parts, ap, arith, begins_entry, begins_separation, begins_with_alpha, begins_with_space_or_break, Bool, colon_may_precede, ends_separation, eqb-true, false, further, GoesOn, has_no_nul, has_tab_before_piece, is_alpha, is_at_gap, is_blank, is_blank_or_end, is_break, is_decimal_digit, is_letter, is_nul, is_separation, List, may_ask, nat_tests, no_nul_after, not, opens, Position, position_after, Problem, refl, separations, subst, sym, true, ℕ, ◌&&◌, ◌++◌, ◌==◌, ◌||◌, ◌∙◌, ◌∷◌, ◌≡◌}
+use Rattle.proof_scanner.proofs.Common.{[], ap, arith, begins_entry, begins_separation, begins_with_alpha, begins_with_space_or_break, Bool, colon_may_precede, ends_separation, false, further, GoesOn, has_no_nul, has_tab_before_piece, is_alpha, is_blank, is_blank_or_end, is_break, is_decimal_digit, is_letter, is_nul, is_separation, List, may_ask, nat_tests, no_nul_after, not, opens, Position, position_after, Problem, refl, separations, subst, sym, true, ℕ, ◌&&◌, ◌++◌, ◌==◌, ◌∙◌, ◌∷◌, ◌≡◌, eqb-true}
 use Rattle.yaml_tokens.specs.declared.problem.Problem.TheVariants as problem
 use Rattle.proof_scanner.proofs.Known.Places.{ends_before}
 use Rattle.proof_scanner.proofs.First.Settings.{Setting}
@@ -22,13 +22,11 @@ same_end start more p q x y g h e f =
 
 entry_ends : (content : List ℕ) → begins_entry content ≡ true → ends_separation content ≡ true
 unfolding is_blank_or_end is_blank is_break is_nul
-entry_ends [] h = refl
-entry_ends (d ∷ r) h = let same : d ≡ 45 = eqb-true d 45 (and_parts (d == 45) (is_at_gap r) h).0 in rw same refl
+entry_ends a h = grind arith
 
 letter_ends : (content : List ℕ) → begins_with_alpha content ≡ true → ends_separation content ≡ true
 unfolding is_blank_or_end is_blank is_break is_nul is_alpha is_decimal_digit is_letter
-letter_ends [] h = refl
-letter_ends (d ∷ r) h = grind (arith, nat_tests, h)
+letter_ends a h = grind (arith, nat_tests, eqb-true)
 
 -- ---- `-`
 
@@ -62,10 +60,8 @@ pub data QuestionReason (s : Setting) (here : Position) (rest : List ℕ) : Prob
 first_tab : (in_comment : Bool) (p q x y : List ℕ) → p ++ 9 ∷ x ≡ q ++ 9 ∷ y → is_separation in_comment p (9 ∷ x) ≡ true → is_separation in_comment q (9 ∷ y) ≡ true → has_tab_before_piece in_comment p ≡ false → has_tab_before_piece in_comment q ≡ false → (p ≡ q) × (x ≡ y)
 unfolding is_blank is_break is_nul
 first_tab b [] [] x y e f g h k = let same : x ≡ y = cc e in (refl, same)
-first_tab true [] (d ∷ q) x y e f g h k = absurd (cc f)
-first_tab false [] (d ∷ q) x y e f g h k = let same : d ≡ 9 = cc e in absurd (cc (k, same))
-first_tab true (c ∷ p) [] x y e f g h k = absurd (cc g)
-first_tab false (c ∷ p) [] x y e f g h k = let same : c ≡ 9 = cc e in absurd (cc (h, same))
+first_tab b [] (d ∷ q) x y e f g h k = grind arith
+first_tab b (c ∷ p) [] x y e f g h k = grind arith
 first_tab true (c ∷ p) (d ∷ q) x y e f g h k =
     let head : c ≡ d = cc e in
     let tail : p ++ 9 ∷ x ≡ q ++ 9 ∷ y = cc e in
@@ -80,14 +76,7 @@ first_tab false (c ∷ p) (d ∷ q) x y e f g h k =
     (cc (head, rest.0), rest.1)
   where
     inner : (c : ℕ) (p x : List ℕ) → is_separation false (c ∷ p) (9 ∷ x) ≡ true → has_tab_before_piece false (c ∷ p) ≡ false → (is_separation (c == 35) p (9 ∷ x) ≡ true) × (has_tab_before_piece (c == 35) p ≡ false)
-    inner c p x f h = by (c == 32) (c == 9) (is_break c) (c == 35) refl f h
-      where
-        by : (s t b k : Bool) → (c == 35) ≡ k → (((s || t) || b || k) && is_separation (c == 35) p (9 ∷ x)) ≡ true → (t || ((s || b || k) && has_tab_before_piece (c == 35) p)) ≡ false → (is_separation (c == 35) p (9 ∷ x) ≡ true) × (has_tab_before_piece (c == 35) p ≡ false)
-        by s true b k i f h = absurd (cc h)
-        by true false b k i f h = (f, h)
-        by false false true k i f h = (f, h)
-        by false false false true i f h = (f, h)
-        by false false false false i f h = absurd (cc f)
+    inner c p x f h = grind arith
 
 pub one_question : (s : Setting) (here : Position) (rest : List ℕ) (why1 why2 : Problem) (at1 at2 : Position) → QuestionReason s here rest why1 at1 → QuestionReason s here rest why2 at2 → AreSame why1 why2 at1 at2
 one_question s here rest why1 why2 at1 at2 (question_not_free i) (question_not_free j) = (refl, refl)

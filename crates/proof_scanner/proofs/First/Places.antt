@@ -11,7 +11,8 @@ use Rattle.proof_scanner.proofs.Refusals.PlainsRefused.{no_tab}
 use Rattle.proof_scanner.proofs.Refusals.StandsRefused.{node_token, quoted_value, same_quoted_value}
 use Rattle.proof_scanner.proofs.Sound.PlainKeeps.{no_comment}
 use Rattle.proof_scanner.proofs.Refusals.NoRows.{step_refuted, no_step_stands}
-use Rattle.proof_scanner.proofs.Known.Ways.{GivesUp, stays, given_up, LeadsBy, GoesOn}
+use Rattle.proof_scanner.proofs.Known.Ways.{Way, GivesUp, stays, given_up, LeadsBy, GoesOn}
+use Rattle.proof_scanner.proofs.Known.Rows.{clean_after}
 
 -- a place that a way leads to, where content begins
 pub record Stands (a : Account) (separation rest : List ℕ) (here : Position) : Type 0 where
@@ -24,10 +25,9 @@ pub record Stands (a : Account) (separation rest : List ℕ) (here : Position) :
 pub clean_way : (text : List ℕ) (vs : List Step) (after : List ℕ) → spelled vs after ≡ up_to_nul text → Holds (has_no_nul (spelled vs after))
 clean_way text vs after e = subst (λ z. Holds (has_no_nul z)) (sym e) (clean_up_to_end text)
 
--- what is left of a clean text is clean
-pub clean_left : (vs : List Step) (after : List ℕ) → Holds (has_no_nul (spelled vs after)) → Holds (has_no_nul after)
-clean_left [] after c = c
-clean_left (v ∷ vs) after c = clean_left vs after (no_nul_after v.piece (spelled vs after) (no_nul_after v.separation (v.piece ++ spelled vs after) c))
+-- what is left of it is clean
+pub clean_place : {J : Account → Account → Type 0} {text after : List ℕ} {a : Account} → Way J text after a → Holds (has_no_nul after)
+clean_place {text = text} {after = after} w = clean_after w.steps after (clean_way text w.steps after w.spells)
 
 -- one place of a text has one separation and one rest
 pub one_cut : (a b : Account) (s1 r1 s2 r2 : List ℕ) (h1 h2 : Position) → Stands a s1 r1 h1 → Stands b s2 r2 h2 → IsLike a b → Holds (has_no_nul (s1 ++ r1)) → s1 ++ r1 ≡ s2 ++ r2 → (s1 ≡ s2) × (r1 ≡ r2) × (h1 ≡ h2)
@@ -82,19 +82,9 @@ clear_way J same o b (v ∷ vs) s2 r2 gap content row filled solid free e fills 
 -- a reason that comes first where a TAB indents what comes is just this
 pub tab_alone : (b : Account) (separation : List ℕ) (here : Position) (rest : List ℕ) (why : Problem) (at : Position) (f : Fails b separation here rest why at) → comes_first b separation here rest why at f → is_free_of_tabs b separation ≡ false
     → (why ≡ problem.TabInBlockIndentation) × (at ≡ here) × (follows_plain b.site.before separation ≡ false)
-tab_alone b separation here rest why at (failing.no_piece n) first tab = absurd (cc (first.0.has_no_tab, tab))
-tab_alone b separation here rest why at (failing.no_plain comes n) first tab = absurd (cc (first.0.has_no_tab, tab))
-tab_alone b separation here rest why at (failing.no_quoted single lacks n) first tab = absurd (cc (first.0.has_no_tab, tab))
-tab_alone b separation here rest why at (failing.no_block out n) first tab = absurd (cc (first.0.has_no_tab, tab))
-tab_alone b separation here rest why at (failing.followed n) first tab = absurd (cc (first.0.has_no_tab, tab))
-tab_alone b separation here rest why at (failing.may_not_stand (failing.shallow inside line left)) first tab = absurd (cc (first, tab))
-tab_alone b separation here rest why at (failing.may_not_stand (failing.too_deep bracket more e is many)) first tab = absurd (cc (first.has_no_tab, tab))
-tab_alone b separation here rest why at (failing.may_not_stand (failing.dash_in_flow more e gap inside)) first tab = absurd (cc (first.has_no_tab, tab))
-tab_alone b separation here rest why at (failing.may_not_stand (failing.dash_not_free more e gap out line)) first tab = absurd (cc (first.has_no_tab, tab))
-tab_alone b separation here rest why at (failing.may_not_stand (failing.key_on_earlier_line more begin x xs e is are takes had late)) first tab = absurd (cc (first.0.has_no_tab, tab))
-tab_alone b separation here rest why at (failing.may_not_stand (failing.question_not_free more e gap out line)) first tab = absurd (cc (first.has_no_tab, tab))
 tab_alone b separation here rest why at (failing.may_not_stand (failing.tab_indents own)) first tab = (refl, refl, first)
-tab_alone b separation here rest why at (failing.may_not_stand (failing.tab_after_quoted single piece gap content e is fills goes_on solid own)) first tab = absurd (cc (first.0.has_no_tab, tab))
+tab_alone b separation here rest why at (failing.may_not_stand n) first tab = absurd (cc tab)
+tab_alone b separation here rest why at f first tab = absurd (cc tab)
 
 module _ (J : Account → Account → Type 0) (same : (x y : Account) → J x y → x.site ≡ y.site) (R : Account → Account → List ℕ → Type 0) (a b : Account) (s1 r1 s2 r2 : List ℕ) (h1 h2 : Position) (p : Stands a s1 r1 h1) (q : Stands b s2 r2 h2)
     (g : GoesOn J R a b (s1 ++ r1) (s2 ++ r2)) (clean : Holds (has_no_nul (s1 ++ r1))) where
@@ -102,7 +92,7 @@ module _ (J : Account → Account → Type 0) (same : (x y : Account) → J x y 
   step = step_of J R a b s1 r1 s2 r2 h1 p g clean
 
   later_clean : Holds (has_no_nul (s2 ++ r2))
-  later_clean = clean_left (g.step ∷ g.steps) (s2 ++ r2) (subst (λ z. Holds (has_no_nul z)) (sym g.spells) clean)
+  later_clean = clean_after (g.step ∷ g.steps) (s2 ++ r2) (subst (λ z. Holds (has_no_nul z)) (sym g.spells) clean)
 
   pub clear : (g.steps ≡ [] → is_free_of_tabs b s2 ≡ true) → IsClearAfter step
   clear free gap content cut fills solid some =

@@ -1,10 +1,10 @@
 -- A text after a `!` is refused for one reason, and so is a line after a `%`: the fault is computed from the line, and each reason for it has that fault.
-use Rattle.proof_scanner.proofs.Common.{[], after, all_of, ap, arith, At, begins_handle, begins_prefix, begins_with, begins_with_mark, Bool, codes, decoded, drop, ends_run, Err, false, Fault, first_position, from_prefix, further, has_no_break, HasName, if◌then◌else◌, is_alpha, is_at_gap, is_break, is_decimal_digit, is_empty, is_same, is_uri, IsDeclarationBefore, IsDirectiveRefusal, IsNoDeclaration, IsNoVersion, IsTagRefusal, IsVersionBefore, leading, length, length-append, List, nat_le, None, not, number_of, Ok, Option, Position, Problem, problem_of, refl, Result, runs, said, Some, suc, sym, true, UriFault, ℕ, ◌&&◌, ◌++◌, ◌+◌, ◌-◌, ◌==◌, ◌∙◌, ◌∷◌, ◌≡◌}
+use Rattle.proof_scanner.proofs.Common.{[], after, ap, arith, At, begins_handle, begins_prefix, begins_with, begins_with_mark, Bool, codes, decoded, drop, Err, false, Fault, first_position, from_prefix, further, has_no_break, HasName, if◌then◌else◌, is_alpha, is_at_gap, is_decimal_digit, is_empty, is_same, is_uri, IsDeclarationBefore, IsDirectiveRefusal, IsNoDeclaration, IsNoVersion, IsTagRefusal, IsVersionBefore, leading, length, length-append, List, nat_le, None, number_of, Ok, Option, Position, Problem, problem_of, refl, Result, said, Some, suc, sym, true, UriFault, ℕ, ◌++◌, ◌+◌, ◌-◌, ◌==◌, ◌∙◌, ◌∷◌, ◌≡◌, nat_tests, eqb-true}
 use Rattle.yaml_tokens.specs.declared.problem.Problem.TheVariants as problem
 use Rattle.proof_lexers.specs.DirectiveEnds as ends
 use Rattle.proof_lexers.specs.DirectiveEnds.{ends_line}
 use Rattle.proof_lexers.proofs.Directives.Values.{no_handle}
-use Rattle.proof_scanner.proofs.Refusals.TextsRefused.{refusal_fails}
+use Rattle.proof_scanner.proofs.Refusals.TextsRefused.{refusal_fails, one_line}
 
 -- ---- tags
 
@@ -30,20 +30,13 @@ abbrev version_wrong : List ℕ → Option Problem
 version_wrong text = number_wrong (leading is_decimal_digit text) (point_wrong (after is_decimal_digit text))
 
 long : (w : List ℕ) (more : Option Problem) → nat_le (length w) 9 ≡ false → number_wrong w more ≡ Some problem.VersionTooLong
-long [] more e = absurd (cc e)
-long (c ∷ w) more e = rw e refl
+long a more e = grind arith
 
 number_right : (w : List ℕ) (more : Option Problem) (v : ℕ) → number_of w ≡ Some v → number_wrong w more ≡ more
-number_right [] more v e = absurd (cc e)
-number_right (c ∷ w) more v e = by (nat_le (length (c ∷ w)) 9) refl
-  where
-    by : (few : Bool) → nat_le (length (c ∷ w)) 9 ≡ few → (if few then more else Some problem.VersionTooLong) ≡ more
-    by true f = refl
-    by false f = absurd (cc (rw f at e))
+number_right a more v e = grind (arith, nat_tests, eqb-true)
 
 pointless : (r : List ℕ) → begins_with 46 r ≡ false → point_wrong r ≡ Some problem.VersionDot
-pointless [] e = refl
-pointless (c ∷ r) e = rw e refl
+pointless a e = grind arith
 
 version_is : (text : List ℕ) (why : Problem) → IsNoVersion text why → version_wrong text ≡ Some why
 version_is text why (ends.no_major e) = rw e refl
@@ -69,8 +62,7 @@ abbrev declaration_wrong : List ℕ → Option Problem
 declaration_wrong text = (if begins_handle text then prefix_wrong (from_prefix text) else (if begins_with_mark text then Some problem.TagDirectiveHandle else Some problem.TagStart))
 
 no_mark_no_handle : (text : List ℕ) → begins_with_mark text ≡ false → begins_handle text ≡ false
-no_mark_no_handle [] e = refl
-no_mark_no_handle (c ∷ r) e = rw e refl
+no_mark_no_handle a e = grind arith
 
 declaration_is : (text : List ℕ) (why : Problem) → IsNoDeclaration text why → declaration_wrong text ≡ Some why
 declaration_is text why (ends.no_mark e) = rw (no_mark_no_handle text e, e) refl
@@ -123,20 +115,6 @@ line_is start line f (ends.after_version rest v more begins) = after_it start li
 line_is start line f (ends.after_declaration rest d more) = of_declaration start line d.is_declaration ∙ rw (declaration_right line rest d) refl
 
 -- ---- one line
-
-abbrev in_line : ℕ → Bool
-in_line c = not (is_break c)
-
-all_in_line : (l : List ℕ) → all_of in_line l ≡ has_no_break l
-all_in_line [] = refl
-all_in_line (c ∷ l) = ap (λ b. in_line c && b) (all_in_line l)
-
-line_ends : (next : List ℕ) → ends_line next ≡ true → ends_run in_line next ≡ true
-line_ends [] e = refl
-line_ends (c ∷ r) e = rw e refl
-
-one_line : (line1 next1 line2 next2 : List ℕ) → line1 ++ next1 ≡ line2 ++ next2 → has_no_break line1 ≡ true → ends_line next1 ≡ true → has_no_break line2 ≡ true → ends_line next2 ≡ true → line1 ≡ line2
-one_line line1 next1 line2 next2 e h j k l = (runs in_line line1 line2 next1 next2 (all_in_line line1 ∙ h) (all_in_line line2 ∙ k) (line_ends next1 j) (line_ends next2 l) e).0
 
 pub one_directive : (here : Position) (line1 next1 line2 next2 : List ℕ) → line1 ++ next1 ≡ line2 ++ next2 → has_no_break line1 ≡ true → ends_line next1 ≡ true → has_no_break line2 ≡ true → ends_line next2 ≡ true
     → (why1 why2 : Problem) (at1 at2 : Position) → IsDirectiveRefusal here line1 (At why1 at1) → IsDirectiveRefusal here line2 (At why2 at2) → (why1 ≡ why2) × (at1 ≡ at2)

@@ -1,5 +1,5 @@
 -- Of two reasons why a quoted scalar is refused at a place that both come first, kind and position are the same.
-use Rattle.proof_scanner.proofs.Common.{[], ap, append-nil, are_indented, AreNotIndented, begins_separation, begins_solid, begins_with, Bool, closed_first, content, Element, eqb-true, false, GoesOn, has_break, has_marker, has_no_nul, has_tab_within, HasNoQuoted, is_empty, is_indented_by_spaces, is_separation, IsNotQuoted, IsQuoted, IsQuotedFault, last_line, least_column, lines_first, List, marked_from, nat_lt, no_nul_after, not, off_margin, past, Position, position_after, Problem, quoted_first, quoted_may_end, quoted_scalar, refl, separations, subst, sym, tab, true, within, ℕ, ◌++◌, ◌==◌, ◌||◌, ◌∙◌, ◌∷◌, ◌≡◌}
+use Rattle.proof_scanner.proofs.Common.{[], ap, append-nil, are_indented, AreNotIndented, begins_separation, begins_solid, begins_with, Bool, closed_first, content, Element, false, GoesOn, has_break, has_marker, has_no_nul, HasNoQuoted, is_empty, is_indented_by_spaces, is_separation, IsNotQuoted, IsQuoted, IsQuotedFault, lines_first, List, marked_from, nat_lt, no_nul_after, off_margin, past, Position, position_after, Problem, quoted_first, quoted_may_end, quoted_scalar, refl, separations, subst, sym, tab, true, within, ℕ, ◌++◌, ◌∙◌, ◌∷◌, ◌≡◌, arith, nat_tests, eqb-true}
 use Rattle.defs_text.specs.Classes as classes
 use Rattle.yaml_tokens.specs.declared.problem.Problem.TheVariants as problem
 use Rattle.proof_row.proofs.Quotes.{singles, doubles}
@@ -8,7 +8,7 @@ use Rattle.proof_scanner.specs.NoPiece.{quote_of}
 use Rattle.proof_scanner.specs.QuotedLines as lines
 use Rattle.proof_scanner.proofs.Known.Places.{ends_before}
 use Rattle.proof_scanner.proofs.Sound.Passed.{same_has_break}
-use Rattle.proof_scanner.proofs.First.QuotedCuts.{one_reason}
+use Rattle.proof_scanner.proofs.Refusals.QuotedCuts.{one_reason}
 use Rattle.proof_scanner.proofs.Refusals.QuotedElements.{after_quote_at}
 use Rattle.proof_scanner.proofs.Refusals.QuotedReasons.{all_stand, indented_are, by_end, by_escape, by_column, by_tab, Reason, marked, other}
 use Rattle.proof_row.proofs.Columns.{further_is_no_break}
@@ -28,10 +28,7 @@ pub data QuotedReason (in_flow : Bool) (least : ℕ) (blocks : List ℕ) (awaits
 -- ---- the quote
 
 same_single : (x y : Bool) (a b : List ℕ) → quote_of x ∷ a ≡ quote_of y ∷ b → x ≡ y
-same_single true true a b e = refl
-same_single false false a b e = refl
-same_single true false a b e = let h : true ≡ false = ap (begins_with 39) e in absurd (cc h)
-same_single false true a b e = let h : false ≡ true = ap (begins_with 39) e in absurd (cc h)
+same_single x y a b e = grind arith
 
 -- a quoted scalar begins with its quote
 begins_quoted : (single : Bool) (rest piece next : List ℕ) → rest ≡ piece ++ next → IsQuoted single piece next → (more : List ℕ) × (rest ≡ quote_of single ∷ more)
@@ -45,12 +42,7 @@ one_end false p q x y h k e = doubles p q x y h k e
 
 solid_no_feed : (r : List ℕ) → begins_solid r ≡ true → begins_with 10 r ≡ false
 unfolding classes.is_break classes.is_blank
-solid_no_feed [] h = refl
-solid_no_feed (c ∷ r) h = by (c == 10) refl
-  where
-    by : (feed : Bool) → (c == 10) ≡ feed → (c == 10) ≡ false
-    by true e = let same : c ≡ 10 = eqb-true c 10 e in absurd (cc (same, h))
-    by false e = e
+solid_no_feed r h = grind arith
 
 module _ (in_flow : Bool) (least : ℕ) (blocks : List ℕ) (awaits : Bool) (here : Position) (rest : List ℕ) where
   -- ---- what follows a quoted scalar
@@ -135,11 +127,7 @@ module _ (in_flow : Bool) (least : ℕ) (blocks : List ℕ) (awaits : Bool) (her
 
   -- a TAB indents a line of its own
   own_line : (gap : List ℕ) → is_indented_by_spaces quoted_scalar blocks awaits gap ≡ false → has_break gap ≡ true
-  own_line gap h = by (has_break gap) refl
-    where
-      by : (b : Bool) → has_break gap ≡ b → b ≡ true
-      by true e = refl
-      by false e = let x : (not false || not (has_tab_within (least_column blocks (awaits || false)) (last_line gap))) ≡ false = rw e at h in absurd (cc x)
+  own_line gap h = grind arith
 
   closed : (single : Bool) (piece next : List ℕ) (why : Problem) (at : Position) → rest ≡ piece ++ next → IsQuoted single piece next → closed_first single least piece → After piece next why at → Read why at
   closed single piece next why at e is fit a =
@@ -151,8 +139,7 @@ module _ (in_flow : Bool) (least : ℕ) (blocks : List ℕ) (awaits : Bool) (her
 
   -- a quote begins a text that is refused for a line
   begins_lines : (single : Bool) (why : Problem) (at : Position) → IsQuotedFault single least here rest why at → (more : List ℕ) × (rest ≡ quote_of single ∷ more)
-  begins_lines single why at (lines.by_column body r es e are solid further low) = (body ++ r, e)
-  begins_lines single why at (lines.by_tab body r es e are further low) = (body ++ tab ∷ r, e)
+  begins_lines a why b d = grind (arith, nat_tests, tab, eqb-true)
 
   read : (why : Problem) (at : Position) → QuotedReason in_flow least blocks awaits here rest why at → Read why at
   read why at (unquoted single more _ e lacks n first) = record { single = single; more = more; whole = e; sorted = fails why here (by_text single more why n first) (λ piece next f is fit. lacks piece next f is) }

@@ -1,5 +1,5 @@
 -- Of two reasons at one place that both come first, kind and position are the same.
-use Rattle.proof_scanner.proofs.Common.{[], Account, alias_name, ap, are_marks, AreNotIndented, arith, At, begins_block, begins_document_at, begins_flow, begins_white_space, begins_with, begins_with_space_or_break, block_begins, BlockStyle, Bool, colon, colon_may_precede, comes_first, comes_plain, comma, dash, dashes, directive_line, dots, eqb-true, Fails, FailsFirst, false, first_line, folded, followed_first, has_no_break, has_no_nul, if◌then◌else◌, in_double_quotes, in_single_quotes, indicator_of, inl, innermost, inr, is_at_gap, is_blank, is_blank_or_end, is_break, is_flow, is_flow_indicator, is_full, is_in_flow, is_nul, is_value_here, is_value_indicator, IsBlockFault, IsDirectiveRefusal, IsFollowed, IsLike, IsLookedAt, IsPlainFault, IsQuoted, IsQuotedFault, IsTagRefusal, Kind, least_column, least_here, line_is, lines_first, List, literal, mapping_closing, mapping_opening, MayNotStand, nat_le, nat_tests, no_piece_first, NoPiece, not, opens, plain_first, Position, Problem, question, refl, sequence_closing, sequence_opening, stands_first, subst, sym, tab, tag_text, true, ℕ, ◌&&◌, ◌++◌, ◌==◌, ◌||◌, ◌∙◌, ◌∷◌, ◌≡◌, ◌⊎◌}
+use Rattle.proof_scanner.proofs.Common.{[], Account, alias_name, ap, are_marks, AreNotIndented, arith, At, begins_block, begins_flow, begins_white_space, begins_with, begins_with_space_or_break, block_begins, BlockStyle, Bool, colon, colon_may_precede, comes_first, comes_plain, dash, dashes, directive_line, dots, eqb-true, Fails, FailsFirst, false, first_line, folded, followed_first, has_no_break, has_no_nul, if◌then◌else◌, in_double_quotes, in_single_quotes, indicator_of, innermost, is_at_gap, is_blank, is_blank_or_end, is_break, is_flow, is_flow_indicator, is_full, is_in_flow, is_nul, is_value_here, is_value_indicator, IsBlockFault, IsDirectiveRefusal, IsFollowed, IsLike, IsLookedAt, IsPlainFault, IsQuoted, IsQuotedFault, IsTagRefusal, Kind, least_column, least_here, line_is, lines_first, List, literal, MayNotStand, nat_tests, no_piece_first, NoPiece, opens, plain_first, Position, Problem, question, refl, stands_first, subst, sym, tab, tag_text, true, ℕ, ◌&&◌, ◌++◌, ◌==◌, ◌||◌, ◌∙◌, ◌∷◌, ◌≡◌, ◌⊎◌}
 use Rattle.yaml_tokens.specs.declared.problem.Problem.TheVariants as problem
 use Rattle.proof_lexers.specs.DirectiveEnds as directives
 use Rattle.proof_row.specs.Ends.{nothing, plain_scalar, anchor_name, block_scalar}
@@ -43,11 +43,6 @@ pub data ReservedReason (here : Position) (rest : List ℕ) : Problem → Positi
 abbrev pub InKind : Kind → Setting → Position → List ℕ → Problem → Position → Type 0
 InKind nothing s here rest why at = ReservedReason here rest why at
 InKind plain_scalar s here rest why at = PlainReason s here rest why at
-InKind sequence_opening s here rest why at = BracketReason s here rest why at
-InKind sequence_closing s here rest why at = BracketReason s here rest why at
-InKind mapping_opening s here rest why at = BracketReason s here rest why at
-InKind mapping_closing s here rest why at = BracketReason s here rest why at
-InKind comma s here rest why at = BracketReason s here rest why at
 InKind question s here rest why at = QuestionReason s here rest why at
 InKind colon s here rest why at = ColonReason s here rest why at
 InKind dash s here rest why at = DashReason s here rest why at
@@ -60,6 +55,7 @@ InKind tag_text s here rest why at = TagReason s.in_flow here rest why at
 InKind in_single_quotes s here rest why at = QuotedReason s.in_flow (least_column s.blocks s.awaits) s.blocks s.awaits here rest why at
 InKind in_double_quotes s here rest why at = QuotedReason s.in_flow (least_column s.blocks s.awaits) s.blocks s.awaits here rest why at
 InKind block_scalar s here rest why at = BlockReason s.blocks here rest why at
+InKind _ s here rest why at = BracketReason s here rest why at
 
 -- ---- the reasons at a place
 
@@ -72,18 +68,15 @@ pub data Reason (s : Setting) (here : Position) (rest : List ℕ) : Problem → 
 -- ---- kinds by the first characters
 
 plain_kind : (s : Setting) (column : ℕ) (rest : List ℕ) → comes_plain s.in_flow s.adjacent column rest ≡ true → kind_here s column rest ≡ plain_scalar
-plain_kind s column [] h = absurd (cc h)
-plain_kind s column (c ∷ r) h = rw h refl
+plain_kind s column a h = grind arith
 
 quoted_kind : (s : Setting) (column : ℕ) (single : Bool) (more : List ℕ) → kind_here s column (quote_of single ∷ more) ≡ (if single then in_single_quotes else in_double_quotes)
 unfolding is_blank_or_end is_blank is_break is_nul is_flow
-quoted_kind s column true more = refl
-quoted_kind s column false more = refl
+quoted_kind s column a more = grind arith
 
 block_kind : (s : Setting) (column : ℕ) (style : BlockStyle) (more : List ℕ) → s.in_flow ≡ false → kind_here s column (indicator_of style ∷ more) ≡ block_scalar
 unfolding is_blank_or_end is_blank is_break is_nul is_flow
-block_kind s column literal more out = rw out refl
-block_kind s column folded more out = rw out refl
+block_kind s column a more out = grind arith
 
 dash_kind : (s : Setting) (column : ℕ) (more : List ℕ) → is_at_gap more ≡ true → kind_here s column (45 ∷ more) ≡ dash
 dash_kind s column more gap = rw gap refl
@@ -99,13 +92,7 @@ unfolding is_blank_or_end is_blank is_break is_nul is_flow are_marks
 dots_kind s column more zero gap = rw (zero, gap) refl
 
 no_white : (more : List ℕ) → begins_with 32 more ≡ false → begins_white_space more ≡ false → begins_with_space_or_break more ≡ false
-no_white [] e f = refl
-no_white (c ∷ r) e f = by (c == 32) (is_break c) e f
-  where
-    by : (x y : Bool) → x ≡ false → (x || y || (c == 35)) ≡ false → (x || y) ≡ false
-    by true y e f = absurd (cc e)
-    by false true e f = absurd (cc f)
-    by false false e f = refl
+no_white a e f = grind arith
 
 -- ---- each reason has its kind
 
@@ -114,8 +101,7 @@ module _ (s : Setting) (here : Position) (rest : List ℕ) where
   OfKind why at = (k : Kind) × (kind_here s here.col rest ≡ k) × InKind k s here rest why at
 
   quoted_reason : (single : Bool) (more : List ℕ) (why : Problem) (at : Position) → rest ≡ quote_of single ∷ more → QuotedReason s.in_flow (least_column s.blocks s.awaits) s.blocks s.awaits here rest why at → OfKind why at
-  quoted_reason true more why at e r = (in_single_quotes, ap (λ z. kind_here s here.col z) e ∙ quoted_kind s here.col true more, r)
-  quoted_reason false more why at e r = (in_double_quotes, ap (λ z. kind_here s here.col z) e ∙ quoted_kind s here.col false more, r)
+  quoted_reason a more why b e r = grind (arith, quoted_kind)
 
   quoted_begins : (single : Bool) (piece next : List ℕ) → rest ≡ piece ++ next → IsQuoted single piece next → (more : List ℕ) × (rest ≡ quote_of single ∷ more)
   quoted_begins true piece next e is = (_, e ∙ ap (λ p. p ++ next) is.1.1)
@@ -126,18 +112,7 @@ module _ (s : Setting) (here : Position) (rest : List ℕ) where
 
   bracket_reason : (c : ℕ) (more : List ℕ) (why : Problem) (at : Position) → rest ≡ c ∷ more → is_flow_indicator c ≡ true → BracketReason s here rest why at → OfKind why at
   unfolding is_blank_or_end is_blank is_break is_nul is_flow
-  bracket_reason c more why at e is r = by (c == 91) (c == 93) (c == 123) (c == 125) (c == 44) refl refl refl refl refl is
-    where
-      moved : (d : ℕ) → (c == d) ≡ true → rest ≡ d ∷ more
-      moved d i = e ∙ ap (λ x. x ∷ more) (eqb-true c d i)
-
-      by : (v w x y z : Bool) → (c == 91) ≡ v → (c == 93) ≡ w → (c == 123) ≡ x → (c == 125) ≡ y → (c == 44) ≡ z → (v || (w || (x || (y || (z || false))))) ≡ true → OfKind why at
-      by true w x y z i j k l m h = (sequence_opening, ap (λ t. kind_here s here.col t) (moved 91 i), r)
-      by false true x y z i j k l m h = (sequence_closing, ap (λ t. kind_here s here.col t) (moved 93 j), r)
-      by false false true y z i j k l m h = (mapping_opening, ap (λ t. kind_here s here.col t) (moved 123 k), r)
-      by false false false true z i j k l m h = (mapping_closing, ap (λ t. kind_here s here.col t) (moved 125 l), r)
-      by false false false false true i j k l m h = (comma, ap (λ t. kind_here s here.col t) (moved 44 m), r)
-      by false false false false false i j k l m h = absurd (cc h)
+  bracket_reason c more why at e is r = grind (arith, nat_tests, eqb-true)
 
   none_reason : (why : Problem) (at : Position) (n : NoPiece s.in_flow here rest why at) → no_piece_first s.in_flow (least_column s.blocks s.awaits) here rest why at n → OfKind why at
   unfolding is_blank_or_end is_blank is_break is_nul is_flow
@@ -161,8 +136,7 @@ module _ (s : Setting) (here : Position) (rest : List ℕ) where
     where
       by : (x y : Bool) → (c == 124) ≡ x → (c == 62) ≡ y → (x || y) ≡ true → kind_here s here.col (c ∷ (p ++ next)) ≡ block_scalar
       by true y i j h = ap (λ d. kind_here s here.col (d ∷ (p ++ next))) (eqb-true c 124 i) ∙ block_kind s here.col literal (p ++ next) out
-      by false true i j h = ap (λ d. kind_here s here.col (d ∷ (p ++ next))) (eqb-true c 62 j) ∙ block_kind s here.col folded (p ++ next) out
-      by false false i j h = absurd (cc h)
+      by false a i j h = grind (arith, p, next, eqb-true, block_kind, folded, out)
 
   block_at : s.in_flow ≡ false → (why : Problem) (at : Position) → IsBlockFault s.blocks here rest why at → kind_here s here.col rest ≡ block_scalar
   block_at out why at (none.by_tab piece header more h cut one is) =
@@ -193,16 +167,14 @@ module _ (a : Account) (separation : List ℕ) (here : Position) (rest : List �
   seen_reason why at l r = looked r.0 why at l.has_no_tab l.is_deep r.1 r.2
 
   stands_reason : (why : Problem) (at : Position) (n : MayNotStand a separation here rest why at) → stands_first a separation here rest why at n → Reason own here rest why at
-  stands_reason why at (failing.shallow inside line left) f =
-      shallow f (ap (λ b. not b || begins_document_at here rest || nat_le (least_here a here) here.col) inside ∙ (ap (λ b. b || nat_le (least_here a here) here.col) line ∙ left))
+  stands_reason why at (failing.shallow inside line left) f = grind (arith, shallow, here, rest, least_here)
   stands_reason why at (failing.too_deep bracket more e is many) f = seen_reason problem.FlowTooDeep here f (bracket_reason own here rest bracket more problem.FlowTooDeep here e (opens_flow bracket is).1 (indicators.too_deep bracket more e (ap (λ b. b && is_full a) (opens_flow bracket is).0 ∙ full)))
     where
       full : is_full a ≡ true
       full = grind (arith, nat_tests, many)
 
       opens_flow : (c : ℕ) → (c ≡ 91) ⊎ (c ≡ 123) → (opens c ≡ true) × (is_flow_indicator c ≡ true)
-      opens_flow c (inl h) = rw h (refl, refl)
-      opens_flow c (inr h) = rw h (refl, refl)
+      opens_flow c a = grind (arith, nat_tests, eqb-true)
   stands_reason why at (failing.dash_in_flow more e gap inside) f = seen_reason problem.BlockEntryInFlow here f (dash, ap (λ r. kind_here own here.col r) e ∙ dash_kind own here.col more gap, indicators.dash_in_flow inside)
   stands_reason why at (failing.dash_not_free more e gap out line) f = seen_reason problem.BlockEntryNotAllowed here f (dash, ap (λ r. kind_here own here.col r) e ∙ dash_kind own here.col more gap, indicators.dash_not_free out line)
   stands_reason why at (failing.key_on_earlier_line more begin x xs e is are takes had late) f =
@@ -243,9 +215,7 @@ colon_alone a b like separation more here is out seen apart why at x =
     none_here why at (indicators.tab_after_colon n passed content e tabs on letter) = cc (apart, tabs, ap colon_may_precede (at_colon n e))
 
     by : (why : Problem) (at : Position) → Reason own here (58 ∷ more) why at → ⊥
-    by why at (tab_indents tabs) = cc (tabs, seen.has_no_tab)
-    by why at (shallow spaced low) = cc (low, seen.is_deep)
-    by why at (looked k why2 at2 spaced deep kind r) = none_here why at (subst (λ z. InKind z own here (58 ∷ more) why at) (sym kind ∙ colon_kind own here.col more is) r)
+    by why a b = grind (arith, none_here, own, here, more, colon_kind, is)
 
 -- ---- one reason
 
@@ -265,17 +235,11 @@ one_line : (here : Position) (rest : List ℕ) (why1 why2 : Problem) (at1 at2 : 
 one_line here rest why1 why2 at1 at2 (percent col) (percent col2) = (refl, refl)
 one_line here rest why1 why2 at1 at2 (percent col) (undirected line2 next2 reason2 place2 col2 e2 one2 ends2 q) = absurd (cc (col, ap (λ n. n == 0) col2))
 one_line here rest why1 why2 at1 at2 (undirected line next reason place col e one ends r) (percent col2) = absurd (cc (col2, ap (λ n. n == 0) col))
-one_line here rest why1 why2 at1 at2 (undirected line next reason place col e one ends r) (undirected line2 next2 reason2 place2 col2 e2 one2 ends2 q) =
-    one_directive here line next line2 next2 (tails 37 rest (line ++ next) (line2 ++ next2) e e2) one ends one2 ends2 reason reason2 place place2 r q
+one_line here rest why1 why2 at1 at2 (undirected line next reason place col e one ends r) (undirected line2 next2 reason2 place2 col2 e2 one2 ends2 q) = grind (arith, one_directive, tails)
 
 one_in : (k : Kind) (s : Setting) (here : Position) (rest : List ℕ) (why1 why2 : Problem) (at1 at2 : Position) → has_no_nul rest ≡ true → InKind k s here rest why1 at1 → InKind k s here rest why2 at2 → AreSame why1 why2 at1 at2
 one_in nothing s here rest why1 why2 at1 at2 clean r q = one_reserved here rest why1 why2 at1 at2 r q
 one_in plain_scalar s here rest why1 why2 at1 at2 clean r q = one_plain s.in_flow s.blocks here rest why1 why2 at1 at2 r.0 r.1 q.0 q.1
-one_in sequence_opening s here rest why1 why2 at1 at2 clean r q = one_bracket s here rest why1 why2 at1 at2 r q
-one_in sequence_closing s here rest why1 why2 at1 at2 clean r q = one_bracket s here rest why1 why2 at1 at2 r q
-one_in mapping_opening s here rest why1 why2 at1 at2 clean r q = one_bracket s here rest why1 why2 at1 at2 r q
-one_in mapping_closing s here rest why1 why2 at1 at2 clean r q = one_bracket s here rest why1 why2 at1 at2 r q
-one_in comma s here rest why1 why2 at1 at2 clean r q = one_bracket s here rest why1 why2 at1 at2 r q
 one_in question s here rest why1 why2 at1 at2 clean r q = one_question s here rest why1 why2 at1 at2 r q
 one_in colon s here rest why1 why2 at1 at2 clean r q = one_colon s here rest why1 why2 at1 at2 r q
 one_in dash s here rest why1 why2 at1 at2 clean r q = one_dash s here rest why1 why2 at1 at2 r q
@@ -288,6 +252,7 @@ one_in tag_text s here rest why1 why2 at1 at2 clean r q = one_refusal s.in_flow 
 one_in in_single_quotes s here rest why1 why2 at1 at2 clean r q = one_quoted s.in_flow (least_column s.blocks s.awaits) s.blocks s.awaits here rest clean why1 why2 at1 at2 r q
 one_in in_double_quotes s here rest why1 why2 at1 at2 clean r q = one_quoted s.in_flow (least_column s.blocks s.awaits) s.blocks s.awaits here rest clean why1 why2 at1 at2 r q
 one_in block_scalar s here rest why1 why2 at1 at2 clean r q = one_block s.blocks here rest clean why1 why2 at1 at2 r q
+one_in k s here rest why1 why2 at1 at2 clean r q = one_bracket s here rest why1 why2 at1 at2 r q
 
 one_of_two : (s : Setting) (here : Position) (rest : List ℕ) (why1 why2 : Problem) (at1 at2 : Position) → has_no_nul rest ≡ true → Reason s here rest why1 at1 → Reason s here rest why2 at2 → AreSame why1 why2 at1 at2
 one_of_two s here rest why1 why2 at1 at2 clean (tab_indents tabs) (tab_indents tabs2) = (refl, refl)

@@ -1,5 +1,5 @@
 -- What the reasons at a place ask of an account; it is the same at accounts that are alike.
-use Rattle.proof_scanner.proofs.Common.{[], Account, before_by, before_past, begins_document_at, begins_free_line, Bool, comes_plain, false, free, if◌then◌else◌, is_adjacent, is_free_of_tabs, is_full, is_in_flow, is_taken, is_taken_line, IsLike, Kind, kind_by, least_column, length, LikeLine, Line, line_past_separation, List, nat_le, not, Position, refl, same_flow, site_at_place, taken, true, waits, ℕ, ◌||◌, ◌∷◌, ◌≡◌}
+use Rattle.proof_scanner.proofs.Common.{[], Account, before_by, before_past, begins_document_at, begins_free_line, Bool, comes_plain, false, if◌then◌else◌, is_adjacent, is_free_of_tabs, is_full, is_in_flow, is_taken, is_taken_line, IsLike, Kind, kind_by, least_column, length, LikeLine, Line, line_past_separation, List, nat_le, not, Position, refl, same_flow, site_at_place, ℕ, ◌||◌, ◌∷◌, ◌≡◌, arith}
 use Rattle.proof_row.specs.Ends.{nothing, plain_scalar}
 use Rattle.proof_scanner.proofs.Refusals.PiecesHere.{many_alike}
 
@@ -37,18 +37,7 @@ kind_here s column (c ∷ r) = (if comes_plain s.in_flow s.adjacent column (c �
 
 -- a line that is taken is so at like accounts, and one that is not is not
 same_taken : (broken : Bool) (l m : Line) → LikeLine l m → is_taken_line (line_past_separation false broken l) ≡ is_taken_line (line_past_separation false broken m)
-same_taken b free free i = refl
-same_taken b free taken i = absurd i
-same_taken b free (waits q) i = absurd i
-same_taken b taken free i = absurd i
-same_taken b taken taken i = refl
-same_taken true taken (waits q) i = refl
-same_taken false taken (waits q) i = refl
-same_taken b (waits p) free i = absurd i
-same_taken true (waits p) taken i = refl
-same_taken false (waits p) taken i = refl
-same_taken true (waits p) (waits q) i = refl
-same_taken false (waits p) (waits q) i = refl
+same_taken b l m i = grind arith
 
 pub same_setting : (a b : Account) (separation : List ℕ) (here : Position) → IsLike a b → setting_of a separation here ≡ setting_of b separation here
 same_setting a b separation here like = rw (flow, site, line, many) refl

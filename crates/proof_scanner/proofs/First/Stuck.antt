@@ -10,7 +10,7 @@ use Rattle.proof_scanner.proofs.Refusals.NoRows.{keyless_step, no_step_stands}
 use Rattle.proof_scanner.proofs.Refusals.KeysThatWait.{Together, Apart, together_keeps, apart_keeps, first_together, not_below}
 use Rattle.proof_scanner.proofs.First.Reasons.{one_reason, colon_alone}
 use Rattle.proof_scanner.proofs.Known.Ways.{With, like_sym, GivesUp, stays, given_up, gives_up_like, Same, Way, way_of, strict_way, way_but_for_key, Meet, same_place, second_on, first_on, KeepsOn, meet}
-use Rattle.proof_scanner.proofs.First.Places.{Stands, clean_way, clean_left, one_cut, gives_up_site, step_of, clear, fails_before}
+use Rattle.proof_scanner.proofs.First.Places.{Stands, clean_way, clean_place, one_cut, gives_up_site, step_of, clear, fails_before}
 
 -- ---- claims
 
@@ -117,20 +117,14 @@ module _ (text : List ℕ) where
       clean : Holds (has_no_nul (spelled f.way.steps (f.separation ++ f.rest)))
       clean = clean_way text f.way.steps (f.separation ++ f.rest) f.way.spells
 
-      clean1 : Holds (has_no_nul (f.separation ++ f.rest))
-      clean1 = clean_left f.way.steps (f.separation ++ f.rest) clean
-
-      clean2 : Holds (has_no_nul (g.separation ++ g.rest))
-      clean2 = clean_left g.way.steps (g.separation ++ g.rest) (clean_way text g.way.steps (g.separation ++ g.rest) g.way.spells)
-
       by : Meet GivesUp GivesUp Nothing f.account g.account (f.separation ++ f.rest) (g.separation ++ g.rest) → (why1 ≡ why2) × (at1 ≡ at2)
       by (same_place like r e) =
-          let cut = one_cut f.account g.account f.separation f.rest g.separation g.rest f.here g.here f.stands g.stands like clean1 e in
-          one_reason f.account g.account like f.separation f.here f.rest (no_nul_after f.separation f.rest clean1) why1 why2 at1 at2 f.first
+          let cut = one_cut f.account g.account f.separation f.rest g.separation g.rest f.here g.here f.stands g.stands like (clean_place f.way) e in
+          one_reason f.account g.account like f.separation f.here f.rest (no_nul_after f.separation f.rest (clean_place f.way)) why1 why2 at1 at2 f.first
           (subst (λ s. FailsFirst g.account s f.here f.rest why2 at2) (sym cut.0) (subst (λ r. FailsFirst g.account g.separation f.here r why2 at2) (sym cut.1) (subst (λ h. FailsFirst g.account g.separation h g.rest why2 at2) (sym cut.2) g.first)))
-      by (second_on n) = fails_before GivesUp gives_up_site Nothing f.account g.account f.separation f.rest g.separation g.rest f.here g.here f.stands g.stands n clean1 why1 why2 at1 at2 f.first g.first
+      by (second_on n) = fails_before GivesUp gives_up_site Nothing f.account g.account f.separation f.rest g.separation g.rest f.here g.here f.stands g.stands n (clean_place f.way) why1 why2 at1 at2 f.first g.first
       by (first_on n) =
-          let turned = fails_before GivesUp gives_up_site (λ x y. Nothing y x) g.account f.account g.separation g.rest f.separation f.rest g.here f.here g.stands f.stands n clean2 why2 why1 at2 at1 g.first f.first in
+          let turned = fails_before GivesUp gives_up_site (λ x y. Nothing y x) g.account f.account g.separation g.rest f.separation f.rest g.here f.here g.stands f.stands n (clean_place g.way) why2 why1 at2 at1 g.first f.first in
           (sym turned.0, sym turned.1)
 
   stands_keyless : (here : Position) (k : KeylessAt text here) → Stands k.account k.separation (58 ∷ k.more) here
@@ -158,19 +152,13 @@ module _ (text : List ℕ) where
       clean : Holds (has_no_nul (spelled v.steps after1))
       clean = clean_way text v.steps after1 v.spells
 
-      clean1 : Holds (has_no_nul after1)
-      clean1 = clean_left v.steps after1 clean
-
-      clean2 : Holds (has_no_nul after2)
-      clean2 = clean_left w.steps after2 (clean_way text w.steps after2 w.spells)
-
       by : Meet Same Same (BothBegin text) k.account l.account after1 after2 → here1 ≡ here2
-      by (same_place like r e) = (one_cut k.account l.account k.separation (58 ∷ k.more) l.separation (58 ∷ l.more) here1 here2 (stands_keyless here1 k) (stands_keyless here2 l) like clean1 e).2
+      by (same_place like r e) = (one_cut k.account l.account k.separation (58 ∷ k.more) l.separation (58 ∷ l.more) here1 here2 (stands_keyless here1 k) (stands_keyless here2 l) like (clean_place v) e).2
       by (second_on n) =
-          let s : StepAt k.account k.separation (58 ∷ k.more) here1 = step_of Same (BothBegin text) k.account l.account k.separation (58 ∷ k.more) l.separation (58 ∷ l.more) here1 (stands_keyless here1 k) n clean1 in
+          let s : StepAt k.account k.separation (58 ∷ k.more) here1 = step_of Same (BothBegin text) k.account l.account k.separation (58 ∷ k.more) l.separation (58 ∷ l.more) here1 (stands_keyless here1 k) n (clean_place v) in
           absurd (keyless_step text k.separation k.more k.account here1 s n.holds.1 k.place.is_filled k.is_value k.is_outside k.is_line_taken k.has_none)
       by (first_on n) =
-          let s : StepAt l.account l.separation (58 ∷ l.more) here2 = step_of Same (λ x y. BothBegin text y x) l.account k.account l.separation (58 ∷ l.more) k.separation (58 ∷ k.more) here2 (stands_keyless here2 l) n clean2 in
+          let s : StepAt l.account l.separation (58 ∷ l.more) here2 = step_of Same (λ x y. BothBegin text y x) l.account k.account l.separation (58 ∷ l.more) k.separation (58 ∷ k.more) here2 (stands_keyless here2 l) n (clean_place w) in
           absurd (keyless_step text l.separation l.more l.account here2 s n.holds.0 l.place.is_filled l.is_value l.is_outside l.is_line_taken l.has_none)
 
   keyless_alone : (why : Problem) (at here : Position) → FailsAt text why at → KeylessAt text here → ⊥
@@ -188,26 +176,20 @@ module _ (text : List ℕ) where
       clean : Holds (has_no_nul (spelled f.way.steps after1))
       clean = clean_way text f.way.steps after1 f.way.spells
 
-      clean1 : Holds (has_no_nul after1)
-      clean1 = clean_left f.way.steps after1 clean
-
-      clean2 : Holds (has_no_nul after2)
-      clean2 = clean_left w.steps after2 (clean_way text w.steps after2 w.spells)
-
       passed : (x : Account) (s : StepAt k.account k.separation (58 ∷ k.more) here) → s.account ≡ x → BeginsOrApart text x k.account after2 → ⊥
       passed x s e (inl r) = keyless_step text k.separation k.more k.account here s (subst (λ u. Begins text after2 u) (sym e) r.1) k.place.is_filled k.is_value k.is_outside k.is_line_taken k.has_none
       passed x s e (inr r) = no_colon_here k.account k.separation (58 ∷ k.more) here s k.more refl k.is_value k.is_outside k.is_line_taken (λ q waiting unbroken near. cc (waiting, ap (λ (u : Account). u.line) e, r.1.none))
 
       by : Meet GivesUp Same (BeginsOrApart text) f.account k.account after1 after2 → ⊥
       by (same_place like r e) =
-          let cut = one_cut f.account k.account f.separation f.rest k.separation (58 ∷ k.more) f.here here f.stands (stands_keyless here k) like clean1 e in
+          let cut = one_cut f.account k.account f.separation f.rest k.separation (58 ∷ k.more) f.here here f.stands (stands_keyless here k) like (clean_place f.way) e in
           colon_alone k.account f.account (like_sym f.account k.account like) k.separation k.more here k.is_value k.is_outside k.looked k.has_no_tab_after why at
           (subst (λ s. FailsFirst f.account s here (58 ∷ k.more) why at) cut.0 (subst (λ r. FailsFirst f.account f.separation here r why at) cut.1 (subst (λ h. FailsFirst f.account f.separation h f.rest why at) cut.2 f.first)))
       by (second_on n) =
-          no_step_stands f.account f.separation f.rest f.here (step_of Same (BeginsOrApart text) f.account k.account f.separation f.rest k.separation (58 ∷ k.more) f.here f.stands n clean1)
-          (clear Same (λ x y e. ap (λ (u : Account). u.site) e) (BeginsOrApart text) f.account k.account f.separation f.rest k.separation (58 ∷ k.more) f.here here f.stands (stands_keyless here k) n clean1 (λ _. k.looked.has_no_tab)) why at f.first.fails
+          no_step_stands f.account f.separation f.rest f.here (step_of Same (BeginsOrApart text) f.account k.account f.separation f.rest k.separation (58 ∷ k.more) f.here f.stands n (clean_place f.way))
+          (clear Same (λ x y e. ap (λ (u : Account). u.site) e) (BeginsOrApart text) f.account k.account f.separation f.rest k.separation (58 ∷ k.more) f.here here f.stands (stands_keyless here k) n (clean_place f.way) (λ _. k.looked.has_no_tab)) why at f.first.fails
       by (first_on n) =
-          passed n.account (step_of GivesUp (λ x y. BeginsOrApart text y x) k.account f.account k.separation (58 ∷ k.more) f.separation f.rest here (stands_keyless here k) n clean2) refl n.holds
+          passed n.account (step_of GivesUp (λ x y. BeginsOrApart text y x) k.account f.account k.separation (58 ∷ k.more) f.separation f.rest here (stands_keyless here k) n (clean_place w)) refl n.holds
 
   -- All claims of a text are one.
   claimed_once : (why1 why2 : Problem) (at1 at2 : Position) → Claim text why1 at1 → Claim text why2 at2 → (why1 ≡ why2) × (at1 ≡ at2)

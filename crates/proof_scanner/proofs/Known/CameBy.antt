@@ -1,5 +1,5 @@
 -- A beginning of a row that goes on past a place does so by the step that was read there, from a beginning up to there; and where a piece begins, a way leads.
-use Rattle.proof_scanner.proofs.Common.{[], Account, account_past, ap, arith, Begins, Bool, chosen, clean_up_to_end, Entry, false, first_account, FlowLevel, has_no_nul, is_empty, IsLike, IsWritten, Key, Leads, length, length-append, line_by, List, MayChoose, no_nul_after, None, not, not-true, Option, outside_key, refl, same_written, ScannerState, Some, spelled, Step, subst, sym, true, up_to_nul, ℕ, ◌++◌, ◌<◌, ◌∙◌, ◌∷◌, ◌≡◌, ◌≤◌}
+use Rattle.proof_scanner.proofs.Common.{[], Account, account_past, ap, arith, Begins, Bool, chosen, clean_up_to_end, Entry, false, first_account, FlowLevel, has_no_nul, is_empty, IsLike, IsWritten, Key, Leads, length, length-append, line_by, List, MayChoose, no_nul_after, None, not, Option, outside_key, refl, same_written, ScannerState, Some, spelled, Step, subst, sym, true, up_to_nul, ℕ, ◌++◌, ◌<◌, ◌∙◌, ◌∷◌, ◌≡◌, ◌≤◌}
 use Rattle.defs_token.specs.Piece.{Holds}
 use Rattle.proof_scanner.proofs.Known.Ways.{With, moved, gives_up_like, GivesUp, Same, LeadsBy, Way, way_of, strict_way, way_but_for_key, Meet, same_place, second_on, first_on, KeepsOn, meet}
 use Rattle.proof_scanner.proofs.Sound.Completed.{begins_at_start, begins_past}
@@ -11,18 +11,10 @@ use Rattle.proof_scanner.proofs.Sound.Arrivals.{not_none}
 
 spelled_longer : (ws : List Step) (after : List ℕ) → length after ≤ length (spelled ws after)
 spelled_longer [] after = omega arith
-spelled_longer (w ∷ ws) after =
-    let rest = spelled_longer ws after in
-    let one = length-append w.separation (w.piece ++ spelled ws after) in
-    let two = length-append w.piece (spelled ws after) in
-    omega (arith, rest, one, two)
+spelled_longer (w ∷ ws) after = grind (arith, length-append, spelled_longer ws after)
 
 longer : (w : Step) (next : List ℕ) → not (is_empty w.piece) ≡ true → length next < length (w.separation ++ (w.piece ++ next))
-longer w next some =
-    let one = length-append w.separation (w.piece ++ next) in
-    let two = length-append w.piece next in
-    let many = not_none w.piece (not-true (is_empty w.piece) some) in
-    omega (arith, one, two, many)
+longer w next some = grind (arith, length-append, not_none)
 
 -- no step leads to where a text begins
 pub begins_whole : (text after : List ℕ) (b : Account) → after ≡ up_to_nul text → Begins text after b → first_account ≡ b

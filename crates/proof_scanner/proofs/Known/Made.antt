@@ -1,5 +1,5 @@
 -- What a step makes of a line: where a key waits after it, and how it came to wait.
-use Rattle.proof_scanner.proofs.Common.{[], Account, account_past, Act, act_of, ap, begins_free_line, begun_by, Bool, entries_past, Entry, false, free, gives_block_scalar, gives_closing, gives_colon, gives_comma, gives_dash, gives_marker, gives_node, gives_nothing, gives_question, has_break, if◌then◌else◌, is_in_column, is_in_flow, is_near, is_renewed, is_waiting, LikeLine, Line, line_past, line_past_separation, List, may_stand, None, on_one_line, opened, Option, Outside, past_inside, past_outside, past_piece, Position, refl, Site, site_at, site_past, Some, Step, Stepped, subst, sym, taken, true, waits, ℕ, ◌&&◌, ◌∙◌, ◌∷◌, ◌≡◌}
+use Rattle.proof_scanner.proofs.Common.{[], Account, account_past, Act, act_of, ap, begins_free_line, begun_by, Bool, entries_past, Entry, false, free, gives_node, has_break, if◌then◌else◌, is_in_column, is_in_flow, is_renewed, is_waiting, LikeLine, Line, line_past, line_past_separation, List, may_stand, None, on_one_line, Option, Outside, past_inside, past_outside, past_piece, Position, refl, Site, site_at, site_past, Some, Step, sym, true, waits, ℕ, ◌&&◌, ◌∙◌, ◌∷◌, ◌≡◌, arith}
 use Rattle.proof_row.proofs.RowLines.{separation_step}
 use Rattle.proof_scanner.proofs.Sound.Sides.{with_entries}
 
@@ -11,26 +11,15 @@ same_of a b e = cc
 
 -- over a separation a key waits that has waited, and no line ends
 pub waited : (fl broken : Bool) (l m : Line) (q : Position) → line_past_separation fl broken l ≡ Some m → m ≡ waits q → (l ≡ waits q) × (broken ≡ false)
-waited fl false l m q h w = (same_of l m h ∙ w, refl)
-waited true true free m q h w = absurd (cc (ap is_waiting (same_of free m h ∙ w)))
-waited true true taken m q h w = absurd (cc (ap is_waiting (same_of taken m h ∙ w)))
-waited false true free m q h w = absurd (cc (ap is_waiting (same_of free m h ∙ w)))
-waited false true taken m q h w = absurd (cc (ap is_waiting (same_of free m h ∙ w)))
-waited fl true (waits p) m q h w = absurd (cc h)
+waited fl broken l m q h w = grind (arith, same_of)
 
 -- where a key waits over a separation no line begins, and it waits after it
 pub still_there : (fl broken : Bool) (l m : Line) (q : Position) → l ≡ waits q → line_past_separation fl broken l ≡ Some m → (broken ≡ false) × (m ≡ waits q)
-still_there fl false l m q e h = (refl, sym (same_of l m h) ∙ e)
-still_there fl true l m q e h = absurd (cc (sym (ap (line_past_separation fl true) e) ∙ h))
+still_there fl broken l m q e h = grind (arith, same_of)
 
 -- like lines are like after a separation
 pub like_past : (fl broken : Bool) (l m n o : Line) → LikeLine l m → line_past_separation fl broken l ≡ Some n → line_past_separation fl broken m ≡ Some o → LikeLine n o
-like_past fl broken l m n o i e f = by (line_past_separation fl broken l) (line_past_separation fl broken m) e f (separation_step fl broken l m i)
-  where
-    by : (x y : Option Line) → x ≡ Some n → y ≡ Some o → Stepped LikeLine (l ≡ m) x y → LikeLine n o
-    by None y e f s = absurd (cc e)
-    by (Some x) None e f s = absurd (cc f)
-    by (Some x) (Some y) e f s = subst (λ z. LikeLine n z) (same_of y o f) (subst (λ z. LikeLine z y) (same_of x n e) s.0)
+like_past fl broken l m n o i e f = grind (arith, separation_step, same_of)
 
 -- ---- a piece outside flow
 
@@ -40,62 +29,7 @@ pub data Waits (must : Bool) (here : Position) (bs : List ℕ) (k : Act) (l : Li
   kept : k ≡ gives_node → l ≡ waits q → o.blocks ≡ bs → Waits must here bs k l o q
 
 pub waits_past : (must : Bool) (here : Position) (bs : List ℕ) (k : Act) (key : Bool) (l : Line) (o : Outside) (q : Position) → line_past must here bs k key l ≡ Some o → o.line ≡ waits q → Waits must here bs k l o q
-waits_past must here bs k key l o q e w = by k key l must e
-  where
-    other : (cs : List ℕ) (m : Line) → is_waiting m ≡ false → Some (let x : Outside = record { line = m; blocks = cs } in x) ≡ Some o → ⊥
-    other cs m n e = cc (n, ap is_waiting (ap (λ (x : Outside). x.line) (same_of _ o e) ∙ w))
-
-    near : (begin : Position) (n : Bool) → (if n then Some (let x : Outside = record { line = taken; blocks = opened begin.col bs } in x) else None) ≡ Some o → ⊥
-    near begin true e = other (opened begin.col bs) taken refl e
-    near begin false e = cc e
-
-    place : (p : Position) → waits p ≡ waits q → p ≡ q
-    place p e = cc e
-
-    blocks : (m : Line) → Some (let x : Outside = record { line = m; blocks = bs } in x) ≡ Some o → o.blocks ≡ bs
-    blocks m e = ap (λ (x : Outside). x.blocks) (sym (same_of _ o e))
-
-    line : (m : Line) → Some (let x : Outside = record { line = m; blocks = bs } in x) ≡ Some o → m ≡ waits q
-    line m e = ap (λ (x : Outside). x.line) (same_of _ o e) ∙ w
-
-    by : (k : Act) (key : Bool) (l : Line) (must : Bool) → line_past must here bs k key l ≡ Some o → Waits must here bs k l o q
-    by gives_node true free must e = begun refl refl (place here (line (waits here) e)) (blocks (waits here) e)
-    by gives_node false free true e = absurd (cc e)
-    by gives_node false free false e = absurd (other bs taken refl e)
-    by gives_node false taken must e = absurd (other bs taken refl e)
-    by gives_node false (waits p) must e = kept refl (line (waits p) e) (blocks (waits p) e)
-    by gives_node true taken must e = absurd (cc e)
-    by gives_node true (waits p) must e = absurd (cc e)
-    by gives_block_scalar true l must e = absurd (cc e)
-    by gives_block_scalar false free true e = absurd (cc e)
-    by gives_block_scalar false free false e = absurd (other bs free refl e)
-    by gives_block_scalar false taken must e = absurd (other bs free refl e)
-    by gives_block_scalar false (waits p) must e = absurd (cc e)
-    by gives_dash true l must e = absurd (cc e)
-    by gives_dash false free must e = absurd (other (opened here.col bs) free refl e)
-    by gives_dash false taken must e = absurd (cc e)
-    by gives_dash false (waits p) must e = absurd (cc e)
-    by gives_question true l must e = absurd (cc e)
-    by gives_question false free must e = absurd (other (opened here.col bs) free refl e)
-    by gives_question false taken must e = absurd (cc e)
-    by gives_question false (waits p) must e = absurd (cc e)
-    by gives_colon true l must e = absurd (cc e)
-    by gives_colon false free must e = absurd (other (opened here.col bs) free refl e)
-    by gives_colon false taken must e = absurd (cc e)
-    by gives_colon false (waits p) must e = absurd (near p (is_near p here) e)
-    by gives_comma true l must e = absurd (cc e)
-    by gives_comma false free must e = absurd (other bs free refl e)
-    by gives_comma false taken must e = absurd (other bs free refl e)
-    by gives_comma false (waits p) must e = absurd (cc e)
-    by gives_closing true l must e = absurd (cc e)
-    by gives_closing false free must e = absurd (other bs taken refl e)
-    by gives_closing false taken must e = absurd (other bs taken refl e)
-    by gives_closing false (waits p) must e = absurd (cc e)
-    by gives_marker true l must e = absurd (cc e)
-    by gives_marker false free must e = absurd (other bs taken refl e)
-    by gives_marker false taken must e = absurd (other bs taken refl e)
-    by gives_marker false (waits p) must e = absurd (cc e)
-    by gives_nothing key l must e = absurd (cc e)
+waits_past must here bs k key l o q e w = grind (arith, begun, kept)
 
 -- ---- what a step makes
 
@@ -142,13 +76,4 @@ made s l (d ∷ ds) w next b e = by (may_stand true s at w.separation w.piece w.
     by true (Some m) f e = to (entries_past at.position (is_renewed s.before w.separation) (act_of w.shown) (begun_by w.shown) w.key d ds) e
       where
         to : (o : Option (List Entry)) → on_one_line w.piece (past_inside at w.piece w.shown next m o) ≡ Some b → Made s l (d ∷ ds) w next b
-        to None e = absurd (cc e)
-        to (Some es) e = last (has_break w.piece && is_waiting m) refl e
-          where
-            past : Account
-            past = record { site = site_past true at w.piece w.shown next at.blocks; line = m; entries = es }
-
-            last : (n : Bool) → (has_break w.piece && is_waiting m) ≡ n → (if n then None else Some past) ≡ Some b → Made s l (d ∷ ds) w next b
-            last true h e = absurd (cc e)
-            last false h e = let same : past ≡ b = same_of past b e in
-                inside refl (f ∙ ap (λ (a : Account). Some a.line) same) (ap (λ (a : Account). a.site) (sym same)) (ap (λ (a : Account). has_break w.piece && is_waiting a.line) (sym same) ∙ h)
+        to o e = grind (arith, inside, f)

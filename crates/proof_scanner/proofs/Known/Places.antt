@@ -1,19 +1,11 @@
 -- Where the piece of a row's step stands: after the separation that was passed. At a text's end none does.
-use Rattle.proof_scanner.proofs.Common.{[], Account, and_parts, begins_separation, Bool, ends_separation, false, has_no_nul, is_blank, is_blank_or_end, is_break, is_nul, is_separation, IsWritten, List, no_piece_at_end, None, not, not_empty, refl, seen, separations, separations_end_before, shown_position, Step, true, ℕ, ◌&&◌, ◌++◌, ◌==◌, ◌||◌, ◌∷◌, ◌≡◌}
+use Rattle.proof_scanner.proofs.Common.{[], Account, begins_separation, ends_separation, false, has_no_nul, is_blank_or_end, is_separation, IsWritten, List, no_piece_at_end, None, not_empty, seen, separations, separations_end_before, shown_position, Step, true, ℕ, ◌++◌, ◌≡◌, arith}
 use Rattle.proof_row.proofs.Written.{At}
 
 -- what begins no separation ends one
 pub ends_before : (r : List ℕ) → begins_separation r ≡ false → has_no_nul r ≡ true → ends_separation r ≡ true
 unfolding is_blank_or_end
-ends_before [] s h = refl
-ends_before (c ∷ r) s h = by (is_blank c) (is_break c) (is_nul c) (c == 35) s (and_parts (not (is_nul c)) (has_no_nul r) h).0
-  where
-    by : (blank break nul mark : Bool) → ((blank || break) || mark) ≡ false → not nul ≡ true → (not (blank || break || nul) && not mark) ≡ true
-    by false false false false e n = refl
-    by true break nul mark e n = absurd (cc e)
-    by false true nul mark e n = absurd (cc e)
-    by false false true mark e n = absurd (cc n)
-    by false false false true e n = absurd (cc e)
+ends_before r s h = grind arith
 
 -- the separation of a written step ends before its piece
 pub piece_ends : (a : Account) (w : Step) (next : List ℕ) → IsWritten a w next → ends_separation (w.piece ++ next) ≡ true
@@ -26,6 +18,4 @@ step_here a w next separation rest written e f s n = separations w.separation se
 
 -- no step begins in the separation at a text's end
 pub at_end : (b : Account) (v : Step) (f next : List ℕ) → is_separation false f [] ≡ true → IsWritten b v next → f ≡ v.separation ++ (v.piece ++ next) → ⊥
-at_end b v f next h k e =
-    no_piece_at_end (seen b (At b v next) v.separation) f v.separation v.piece next None (shown_position (At b v next) v.piece v.shown next) v.shown
-    h k.0 (not_empty v.piece k.1.0) k.1.1 e
+at_end b v f a h k e = grind (arith, no_piece_at_end, not_empty)

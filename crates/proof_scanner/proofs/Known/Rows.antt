@@ -41,7 +41,7 @@ pub record Walked (R : Account → Account → List ℕ → Type 0) (a : Account
   pub spells : spelled steps last ≡ after
   pub is_clean : has_no_nul after ≡ true
 
-clean_after : (ws : List Step) (after : List ℕ) → has_no_nul (spelled ws after) ≡ true → has_no_nul after ≡ true
+pub clean_after : (ws : List Step) (after : List ℕ) → has_no_nul (spelled ws after) ≡ true → has_no_nul after ≡ true
 clean_after [] after h = h
 clean_after (w ∷ ws) after h = clean_after ws after (no_nul_after w.piece (spelled ws after) (no_nul_after w.separation (w.piece ++ spelled ws after) h))
 

@@ -1,5 +1,5 @@
 -- What is known of keys that wait, after a step: from what was known before it.
-use Rattle.proof_scanner.proofs.Common.{[], Account, Act, act_of, ap, arith, Begins, begins_free_line, blocks_at, Bool, false, free, gives_block_scalar, gives_node, inl, inr, is_far, is_free, is_in_column, is_in_flow, IsLineHere, IsWritten, Key, KnowsKey, LikeLine, Line, line_by, line_past, line_past_separation, List, nat_lt, nat_tests, None, Option, Outside, Position, position_after, refl, same_flow, Site, site_here, Some, Step, subst, sym, taken, true, up_to_nul, waits, ℕ, ◌++◌, ◌+◌, ◌||◌, ◌∙◌, ◌∷◌, ◌≡◌, ◌≤◌}
+use Rattle.proof_scanner.proofs.Common.{[], Account, Act, act_of, ap, arith, Begins, begins_free_line, blocks_at, Bool, false, free, gives_block_scalar, gives_node, is_far, is_in_column, is_in_flow, IsLineHere, IsWritten, Key, KnowsKey, LikeLine, Line, line_by, line_past, line_past_separation, List, None, Option, Outside, Position, position_after, refl, same_flow, Site, site_here, Some, Step, subst, sym, taken, true, up_to_nul, waits, ℕ, ◌++◌, ◌+◌, ◌∙◌, ◌∷◌, ◌≡◌, ◌≤◌}
 use Rattle.proof_scanner.specs.KnownKeys.{IsAt}
 use Rattle.proof_scanner.proofs.Cut.Positions.{index_after, not_before_after}
 use Rattle.proof_scanner.proofs.Known.CameBy.{begins_whole, Came, came_by}
@@ -21,21 +21,7 @@ known_past text after p k f rest n =
 -- where the open key is far, none is known
 pub known_far : (text after : List ℕ) (p : Position) (k : Key) → is_far k.position p ≡ true → KnowsKey text after p (Some k) → KnowsKey text after p None
 unfolding is_far
-known_far text after p k far n = record { waiting = λ b begin g e l i. none begin (n.waiting b begin g e l i) l i; required = λ b x g e m. absurd (cc e); rows = n.rows }
-  where
-    none : (begin : Position) → k.position ≡ begin → p.line ≤ begin.line → p.index ≤ begin.index + 1024 → ⊥
-    none begin e l i = by (nat_lt k.position.line p.line) (nat_lt (k.position.index + 1024) p.index) refl refl far
-      where
-        line : k.position.line ≡ begin.line
-        line = ap (λ q. q.line) e
-
-        index : k.position.index ≡ begin.index
-        index = ap (λ q. q.index) e
-
-        by : (a b : Bool) → nat_lt k.position.line p.line ≡ a → nat_lt (k.position.index + 1024) p.index ≡ b → (a || b) ≡ true → ⊥
-        by true b f g h = grind (arith, nat_tests, f, l, line)
-        by false true f g h = grind (arith, nat_tests, g, i, index)
-        by false false f g h = cc h
+known_far text after p k far n = grind arith
 
 -- where a text begins
 pub known_at_start : (text after : List ℕ) (p : Position) → after ≡ up_to_nul text → KnowsKey text after p None
@@ -49,15 +35,7 @@ known_over text next p q k piece separation rest e n = subst (λ x. KnowsKey tex
 
 -- where a line is taken, and no line begins, none like it is free
 none_free : (broken c : Bool) (k : Option Key) (l n u m : Line) → line_past_separation false broken l ≡ Some n → n ≡ taken → LikeLine (line_by c k l) u → line_past_separation false broken u ≡ Some m → m ≡ free → ⊥
-none_free true c k free n u m h t i j f = cc (same_of free n h ∙ t)
-none_free true c k taken n u m h t i j f = cc (same_of free n h ∙ t)
-none_free true c k (waits p) n u m h t i j f = cc h
-none_free false c k l n u m h t i j f = by c k (subst (λ x. LikeLine (line_by c k taken) x) (same_of u m j ∙ f) (subst (λ x. LikeLine (line_by c k x) u) (same_of l n h ∙ t) i))
-  where
-    by : (c : Bool) (k : Option Key) → LikeLine (line_by c k taken) free → ⊥
-    by c None h = h
-    by true (Some k) h = h
-    by false (Some k) h = h
+none_free a c k l n u m h t i j f = grind arith
 
 -- whether a key may begin with a piece
 abbrev pub begins_key : Act → Bool
@@ -65,8 +43,7 @@ begins_key gives_node = true
 begins_key _ = false
 
 waits_node : (must : Bool) (here : Position) (bs : List ℕ) (k : Act) (l : Line) (o : Outside) (q : Position) → Waits must here bs k l o q → k ≡ gives_node
-waits_node must here bs k l o q (begun i f h e) = i
-waits_node must here bs k l o q (kept i f e) = i
+waits_node must a bs k l o q b = grind arith
 
 -- ---- in flow
 
@@ -83,8 +60,7 @@ module _ (text : List ℕ) (a : Account) (w : Step) (next : List ℕ) (written :
       line b c = by (made c.from.site c.from.line c.from.entries (With w c.key) next b c.is_past)
         where
           by : Made c.from.site c.from.line c.from.entries (With w c.key) next b → line_past_separation true (begins_free_line c.from.site.before w.separation) c.from.line ≡ Some b.line
-          by (outside m o none sep past line site one) = absurd (cc (sym fl ∙ (same_flow a.entries c.from.entries c.is_like.2 ∙ ap is_in_flow none)))
-          by (inside some sep site one) = sep
+          by a = grind (arith, same_flow)
 
   -- ---- outside flow
 
@@ -106,34 +82,19 @@ is_of_node gives_block_scalar = true
 is_of_node _ = false
 
 node_blocks : (k : Act) (column : ℕ) (bs : List ℕ) → is_of_node k ≡ true → blocks_at false k column bs ≡ blocks_at false gives_node column bs
-node_blocks gives_node column bs h = refl
-node_blocks gives_block_scalar column bs h = refl
-node_blocks _ column bs h = absurd (cc h)
+node_blocks a column bs h = grind arith
 
 -- where a key must begin with it, it does; a block scalar is none
 must_begin : (k : Act) (here : Position) (bs : List ℕ) (key : Bool) (o : Outside) → is_of_node k ≡ true → line_past true here bs k key free ≡ Some o → o.line ≡ waits here
-must_begin gives_node here bs true o h e = ap (λ (x : Outside). x.line) (sym (same_of _ o e))
-must_begin gives_node here bs false o h e = absurd (cc e)
-must_begin gives_block_scalar here bs true o h e = absurd (cc e)
-must_begin gives_block_scalar here bs false o h e = absurd (cc e)
-must_begin _ here bs key o h e = absurd (cc h)
+must_begin a b bs d o h e = grind arith
 
 -- a key that waits goes on to wait over it
 goes_on : (k : Act) (must : Bool) (here : Position) (bs : List ℕ) (key : Bool) (q : Position) (o : Outside) → is_of_node k ≡ true → line_past must here bs k key (waits q) ≡ Some o → o.line ≡ waits q
-goes_on gives_node must here bs true q o h e = absurd (cc e)
-goes_on gives_node must here bs false q o h e = ap (λ (x : Outside). x.line) (sym (same_of _ o e))
-goes_on gives_block_scalar must here bs true q o h e = absurd (cc e)
-goes_on gives_block_scalar must here bs false q o h e = absurd (cc e)
-goes_on _ must here bs key q o h e = absurd (cc h)
+goes_on a must b bs d q o h e = grind arith
 
 -- what is like a free line is free
 like_free : (l m : Line) → l ≡ free → LikeLine l m → m ≡ free
-like_free l m e i = by m (subst (λ x. LikeLine x m) e i)
-  where
-    by : (m : Line) → LikeLine free m → m ≡ free
-    by free h = refl
-    by taken h = absurd h
-    by (waits q) h = absurd h
+like_free l m e i = grind arith
 
 module _ (text : List ℕ) (s : Site) (l line_here : Line) (allowed : Bool) (k : Option Key) (new : Key) (w : Step) (next : List ℕ) (written : IsWritten (with_entries s l []) w next) (keyed : is_of_node (act_of w.shown) ≡ true)
     (line_is : IsLineHere false allowed (0 ∷ []) k line_here) (sep_is : line_past_separation false (begins_free_line s.before w.separation) l ≡ Some line_here) (c : Bool) (way : Way GivesUp text (w.separation ++ (w.piece ++ next)) (with_entries s (line_by c k l) [])) where
@@ -176,22 +137,13 @@ module _ (text : List ℕ) (s : Site) (l line_here : Line) (allowed : Bool) (k :
       }
 
   taken_here : allowed ≡ false → line_here ≡ taken
-  taken_here e = by k line_is
-    where
-      by : (y : Option Key) → IsLineHere false allowed (0 ∷ []) y line_here → line_here ≡ taken
-      by None (inl f, i) = absurd (cc (e, i, ap is_free f))
-      by None (inr t, i) = t
-      by (Some y) h = (h refl).0
+  taken_here e = grind (arith, line_is)
 
   free_here : allowed ≡ true → k ≡ None → line_here ≡ free
-  free_here e j = by (subst (λ y. IsLineHere false allowed (0 ∷ []) y line_here) j line_is)
-    where
-      by : IsLineHere false allowed (0 ∷ []) None line_here → line_here ≡ free
-      by (inl f, i) = f
-      by (inr t, i) = absurd (cc (e, i, ap is_free t))
+  free_here e j = grind (arith, line_is)
 
   not_open : (y : Key) → allowed ≡ true → k ≡ Some y → ⊥
-  not_open y e j = let h : (line_here ≡ taken) × (allowed ≡ false) = (subst (λ z. IsLineHere false allowed (0 ∷ []) z line_here) j line_is) refl in cc (e, h.1)
+  not_open y e j = grind (arith, line_is)
 
   -- After a node or a block scalar outside flow the key that may begin with it is open, or the one that was.
   pub known_saved : (p : Position) → new.position ≡ here → new.required ≡ is_in_column here.col at.blocks → KnowsKey text (w.separation ++ (w.piece ++ next)) p k → KnowsKey text next p (saved allowed new k)

@@ -1,30 +1,17 @@
 -- Two ways through one text: each beginning of a row goes through the place of the other, or the other goes on past its own. A way may give up a key that waits.
-use Rattle.proof_scanner.proofs.Common.{[], Account, account_past, account_step, ap, Begins, BeginsButForKey, Bool, Entry, filled, first_account, free, fresh, Had, has_no_nul, is_in_column, IsLike, IsWritten, Leads, LikeEntries, LikeHad, LikeLine, Line, List, no_nul_after, None, Option, Position, refl, same_written, settled, Some, spelled, Step, Stepped, subst, sym, taken, true, up_to_nul, waits, ℕ, ◌++◌, ◌∙◌, ◌∷◌, ◌≡◌}
+use Rattle.proof_scanner.proofs.Common.{[], Account, account_past, account_step, ap, Begins, BeginsButForKey, Bool, Entry, first_account, free, Had, has_no_nul, is_in_column, IsLike, IsWritten, Leads, LikeEntries, LikeHad, LikeLine, Line, List, no_nul_after, None, Option, Position, refl, same_written, Some, spelled, Step, Stepped, subst, sym, taken, true, up_to_nul, waits, ℕ, ◌++◌, ◌∙◌, ◌∷◌, ◌≡◌, arith}
 use Rattle.defs_token.specs.Piece.{Holds}
-use Rattle.defs_token.specs.FlowEntry.{Had.waits as had_waits}
 
 -- ---- accounts that are alike
 
 line_sym : (l m : Line) → LikeLine l m → LikeLine m l
-line_sym free free i = tt
-line_sym taken taken i = tt
-line_sym taken (waits p) i = tt
-line_sym (waits p) taken i = tt
-line_sym (waits p) (waits q) i = sym i
-line_sym _ _ i = absurd i
+line_sym l m i = grind arith
 
 had_sym : (h k : Had) → LikeHad h k → LikeHad k h
-had_sym fresh fresh i = tt
-had_sym filled filled i = tt
-had_sym filled (had_waits p) i = tt
-had_sym (had_waits p) filled i = tt
-had_sym (had_waits p) (had_waits q) i = sym i
-had_sym settled settled i = tt
-had_sym _ _ i = absurd i
+had_sym h k i = grind arith
 
 entries_sym : (ds es : List Entry) → LikeEntries ds es → LikeEntries es ds
-entries_sym [] [] i = tt
-entries_sym [] (e ∷ es) i = absurd i
+entries_sym [] es i = grind arith
 entries_sym (d ∷ ds) [] i = absurd i
 entries_sym (d ∷ ds) (e ∷ es) i = ((sym i.0.0, sym i.0.1, had_sym d.had e.had i.0.2), entries_sym ds es i.1)
 
@@ -37,13 +24,7 @@ pub data GivesUp (a x : Account) : Type 0 where
   given_up : (begin : Position) → a.line ≡ waits begin → is_in_column begin.col a.site.blocks ≡ true → record { site = a.site; line = taken; entries = a.entries } ≡ x → GivesUp a x
 
 pub gives_up_like : (a x b : Account) → GivesUp a x → IsLike a b → IsLike x b
-gives_up_like a x b (stays e) i = subst (λ z. IsLike z b) e i
-gives_up_like a x b (given_up begin waiting must e) i = subst (λ z. IsLike z b) e (i.0, by b.line (subst (λ l. LikeLine l b.line) waiting i.1), i.2)
-  where
-    by : (l : Line) → LikeLine (waits begin) l → LikeLine taken l
-    by free h = absurd h
-    by taken h = tt
-    by (waits q) h = tt
+gives_up_like a x b d i = grind (arith, waits, taken, free)
 
 -- ---- ways
 
@@ -148,9 +129,7 @@ pub record KeepsOn (J K : Account → Account → Type 0) (R : Account → Accou
 
 module _ (J K : Account → Account → Type 0) (R : Account → Account → List ℕ → Type 0) (keeps : KeepsOn J K R) where
   pub meet : (vs ws : List Step) (after1 after2 : List ℕ) (x y a b : Account) → IsLike x y → R x y (spelled vs after1) → LeadsBy J (Some x) vs after1 a → LeadsBy K (Some y) ws after2 b → spelled vs after1 ≡ spelled ws after2 → Holds (has_no_nul (spelled vs after1)) → Meet J K R a b after1 after2
-  meet [] [] after1 after2 x y a b i r h k e c =
-      let like : IsLike a y = keeps.first_like x y a h i in
-      same_place (keeps.second_like a y b k like) (keeps.second a y b after1 like k (keeps.first x y a after1 i h r)) e
+  meet [] [] after1 after2 x y a b i r h k e c = grind (arith, same_place)
   meet [] (w ∷ ws) after1 after2 x y a b i r h k e c = to (account_past k.0 w (spelled ws after2)) refl k.3
     where
       like : IsLike a y

@@ -1,6 +1,5 @@
 -- A block scalar that may end is not refused for what stands after it.
-use Rattle.proof_scanner.proofs.Common.{[], after_break, after_line, along, and_false, and_parts, ap, are_empty, AreLines, arith, begins_with, block_may_end, block_read, BlockRead, Bool, collection_of, false, first_content, first_empty, first_header, further_position, has_no_nul, if◌then◌else◌, innermost, is_at_end, is_break, is_empty, is_empty_line, is_in_line, is_none, is_shallow, is_single, is_spaces, is_tabbed, leading_spaces, least_column, length, lines_may_end, List, nat_le, nat_lt, nat_tests, None, not, Option, past, past_is, Position, position_after, position_past, read_may_end, refl, same_break, Some, spell, split, split_spell, sym, tab, texts, true, ℕ, ◌&&◌, ◌++◌, ◌+◌, ◌==◌, ◌||◌, ◌∙◌, ◌∷◌, ◌≡◌, ◌≤◌}
-use Rattle.defs_text.specs.Classes.{space}
+use Rattle.proof_scanner.proofs.Common.{[], after_break, after_line, along, and_parts, ap, are_empty, AreLines, arith, begins_with, block_may_end, block_read, BlockRead, Bool, collection_of, false, first_content, first_empty, first_header, further_position, has_no_nul, innermost, is_at_end, is_empty, is_empty_line, is_in_line, is_none, is_shallow, is_single, is_spaces, is_tabbed, leading_spaces, least_column, length, lines_may_end, List, nat_le, nat_lt, nat_tests, None, not, Option, past, Position, position_after, read_may_end, refl, Some, spell, split, split_spell, sym, tab, texts, true, ℕ, ◌&&◌, ◌++◌, ◌+◌, ◌||◌, ◌∙◌, ◌∷◌, ◌≡◌, ◌≤◌, eqb-true}
 use Rattle.proof_lexers.proofs.Blocks.Written.{Line, put}
 use Rattle.proof_scanner.proofs.Sound.BlockEnds.{IsLeast, Written, written, spaces_col, ends_at_margin}
 use Rattle.proof_scanner.proofs.Cut.Pieces.Blocks.{end_no_text}
@@ -14,18 +13,7 @@ record Passed (column : ℕ) (w y : List ℕ) (p : Position) : Type 0 where
 
 passed : (column : ℕ) (w y : List ℕ) (p : Position) → is_in_line w ≡ true → p.col ≤ column → first_content column false p (w ++ y) ≡ None → Passed column w y p
 passed column [] y p inner low h = record { are_spaces = refl; is_short = omega (arith, low) }
-passed column (c ∷ w) y p inner low h = by (is_break c) (c == space) (nat_lt p.col column) refl refl refl inner h (λ i l k. passed column w y (past p) i l k)
-  where
-    by : (b s d : Bool) → is_break c ≡ b → (c == space) ≡ s → nat_lt p.col column ≡ d → (not b && is_in_line w) ≡ true → (if b || (s && d) then first_content column false (position_past p c (w ++ y)) (w ++ y) else Some p) ≡ None →
-        (is_in_line w ≡ true → (past p).col ≤ column → first_content column false (past p) (w ++ y) ≡ None → Passed column w y (past p)) → Passed column (c ∷ w) y p
-    by true s d e f g i k later = absurd (cc i)
-    by false true true e f g i k later =
-        let stays : position_past p c (w ++ y) ≡ past p = past_is p c (w ++ y) (sym (same_break c) ∙ e) in
-        let up : (past p).col ≤ column = grind (arith, nat_tests, g) in
-        let r : Passed column w y (past p) = later i up (ap (λ q. first_content column false q (w ++ y)) (sym stays) ∙ k) in
-        record { are_spaces = rw (f, r.are_spaces) refl; is_short = omega (arith, r.is_short) }
-    by false true false e f g i k later = absurd (cc k)
-    by false false d e f g i k later = absurd (cc k)
+passed column (c ∷ w) y p inner low h = grind (arith, passed column w y (past p))
 
 none_is_empty : (column : ℕ) (ls : List Line) (p : Position) → AreLines ls [] → p.col ≡ 0 → first_content column false p (spell ls []) ≡ None → are_empty column (texts ls) ≡ true
 unfolding is_empty_line
@@ -63,10 +51,7 @@ module _ (indent : ℕ) (p : Position) (b : BlockRead) (piece next bs : List ℕ
 
   -- at the text's end
   at_end : next ≡ [] → Clear
-  at_end e = record {
-    untabbed = ap (λ x. is_single (split piece).complete && begins_with tab x) e ∙ and_false (is_single (split piece).complete);
-    deep = ap (λ x. ((x && is_none (first_content b.column true p piece)) && nat_le indent (further_position p piece next).col) && nat_lt (further_position p piece next).col b.column) (ap (λ x. not (is_at_end x)) e);
-  }
+  at_end e = grind arith
 
   -- before further text
   module _ (further : is_at_end next ≡ false) (may : read_may_end bs (block_read (innermost bs) piece next) piece next ≡ true) where
@@ -77,9 +62,7 @@ module _ (indent : ℕ) (p : Position) (b : BlockRead) (piece next bs : List ℕ
     both = and_parts _ _ (lines_asked indent b piece next bs least is w ∙ may)
 
     single_by : (h : List ℕ) (ls : List (List ℕ)) (t : Bool) → not (is_empty ls && t) ≡ true → (is_single (h ∷ ls) && t) ≡ false
-    single_by h [] true e = absurd (cc e)
-    single_by h [] false e = refl
-    single_by h (l ∷ ls) t e = refl
+    single_by h a t e = grind arith
 
     column_is : (further_position p piece next).col ≡ leading_spaces next
     column_is =
@@ -94,16 +77,14 @@ module _ (indent : ℕ) (p : Position) (b : BlockRead) (piece next bs : List ℕ
     deep_by true true true k e f g h = absurd (by (nat_lt k (least_column bs true)) (nat_le b.column k) refl refl (ap (λ x. not x || nat_lt k (least_column bs true) || nat_le b.column k) (sym empty) ∙ h))
       where
         none_of : (o : Option Position) → is_none o ≡ true → o ≡ None
-        none_of None i = refl
-        none_of (Some q) i = absurd (cc i)
+        none_of a i = grind (arith, nat_tests, eqb-true)
 
         empty : are_empty b.column (texts w.lines) ≡ true
         empty = no_content b.column piece next p w (none_of (first_content b.column true p piece) e)
 
         by : (x y : Bool) → nat_lt k (least_column bs true) ≡ x → nat_le b.column k ≡ y → (x || y) ≡ true → ⊥
         by true y i j h = let same = least.1 in grind (arith, nat_tests, i, same, f)
-        by false true i j h = grind (arith, nat_tests, j, g)
-        by false false i j h = cc h
+        by false a i j h = grind arith
 
     before_text : Clear
     before_text = record {

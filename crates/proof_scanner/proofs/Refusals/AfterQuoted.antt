@@ -1,5 +1,5 @@
 -- What may follow a scalar in quotes is not refused.
-use Rattle.proof_scanner.proofs.Common.{[], after, and_parts, ap, append_assoc, arith, At, begins_with, Bool, check_after_quoted, ends_spaces, eqb-true, Err, false, Fault, glued, goes_on_quoted, has_break, HasSpaces, held_of, if◌then◌else◌, in_flow, is_blank, is_blanks, is_blanks_and_comment, is_break, is_breakz, is_on_line, is_rest_of_line, is_separation, IsGlued, leading, lexed, line_is_done, List, may_follow_quoted, nat_tests, not, not-true, Ok, or_left, peek, Position, position_after, quoted_may_end, Read, refl, Result, ScannerState, skip_spaces, space, spaces_are_passed, subst, sym, true, Whitespace, Yes, ℕ, ◌&&◌, ◌++◌, ◌==◌, ◌>>=◌, ◌||◌, ◌∙◌, ◌∷◌, ◌≡◌}
+use Rattle.proof_scanner.proofs.Common.{[], after, ap, append_assoc, arith, At, begins_with, Bool, check_after_quoted, ends_spaces, Err, false, Fault, glued, goes_on_quoted, has_break, HasSpaces, held_of, if◌then◌else◌, in_flow, is_blank, is_blanks, is_blanks_and_comment, is_break, is_breakz, is_on_line, is_rest_of_line, is_separation, IsGlued, leading, lexed, line_is_done, List, may_follow_quoted, nat_tests, not, Ok, or_left, peek, Position, position_after, quoted_may_end, Read, refl, Result, ScannerState, skip_spaces, space, spaces_are_passed, subst, sym, true, Whitespace, Yes, ℕ, ◌&&◌, ◌++◌, ◌==◌, ◌>>=◌, ◌||◌, ◌∙◌, ◌∷◌, ◌≡◌, eqb-true}
 use Rattle.proof_lexers.specs.Ends.{EndsAs}
 use Rattle.proof_lexers.specs.Ends as ends
 use Rattle.yaml_chars.specs.Class as model_classes
@@ -20,16 +20,7 @@ pub record Left (P : ScannerState → Type 0) (r : Result ScannerState Fault) : 
 -- no comment stands directly after a quoted scalar
 pub unglued : (flow : Bool) (piece next : List ℕ) → quoted_may_end flow piece next ≡ true → begins_with 35 next ≡ false
 unfolding is_blank is_break
-unglued flow piece [] h = refl
-unglued flow piece (c ∷ r) h = by (c == 35) refl
-  where
-    none : (flow : Bool) → quoted_may_end flow piece (35 ∷ r) ≡ true → ⊥
-    none true h = cc h
-    none false h = cc h
-
-    by : (b : Bool) → (c == 35) ≡ b → b ≡ false
-    by true e = absurd (none flow (subst (λ x. quoted_may_end flow piece (x ∷ r) ≡ true) (eqb-true c 35 e) h))
-    by false e = refl
+unglued flow piece a h = grind arith
 
 -- blanks and a comment after one are skipped
 skipped : (t : ScannerState) → begins_with 35 t.rest ≡ false → Left (Spaced Yes t) (skip_spaces Yes t)
@@ -58,41 +49,18 @@ not_done s d r b e f g = ap is_rest_of_line (on_line s b) ∙ done s b
 
     on_line : (s : List ℕ) → is_blanks s ≡ true → leading is_on_line (s ++ d ∷ r) ≡ s ++ tail
     on_line [] b = rw e refl
-    on_line (c ∷ s) b =
-        let p = and_parts (is_blank c) (is_blanks s) b in
-        let u : is_break c ≡ false = unbroken c p.0 in
-        rw u (ap (λ l. c ∷ l) (on_line s p.1))
+    on_line (c ∷ s) b = grind (arith, unbroken, on_line s)
 
     comment : (s : List ℕ) → is_blanks s ≡ true → is_blanks_and_comment (s ++ tail) ≡ false
     comment [] b = rw (g, f) refl
-    comment (c ∷ s) b =
-        let p = and_parts (is_blank c) (is_blanks s) b in
-        let u : (c == 35) ≡ false = grind (arith, nat_tests, p.0) in
-        rw (u, p.0) (comment s p.1)
+    comment (c ∷ s) b = grind (arith, nat_tests, comment s)
 
     done : (s : List ℕ) → is_blanks s ≡ true → is_rest_of_line (s ++ tail) ≡ false
-    done [] b = rw (g, f) refl
-    done (c ∷ s) b = let p = and_parts (is_blank c) (is_blanks s) b in let u : (c == 35) ≡ false = grind (arith, nat_tests, p.0) in rw (u, p.0) (comment s p.1)
+    done a b = grind (arith, nat_tests, comment, eqb-true)
 
 follows_by : (flow : Bool) (piece : List ℕ) (same : Bool) (c : ℕ) (r : List ℕ) → (has_break piece ≡ false → same ≡ true) → goes_on_quoted flow piece (c ∷ r) ≡ true → may_follow_quoted flow same c ≡ true
 unfolding may_follow_quoted
-follows_by true piece same c r stays h = by (is_breakz c) (c == 44) (c == 93) (c == 125) (c == 58) h
-  where
-    by : (z v w x y : Bool) → (v || (w || (x || (y || false)))) ≡ true → (z || (v || x || w || y)) ≡ true
-    by true v w x y h = refl
-    by false true w x y h = refl
-    by false false true true y h = refl
-    by false false true false y h = refl
-    by false false false true y h = refl
-    by false false false false true h = refl
-    by false false false false false h = absurd (cc h)
-follows_by false piece same c r stays h =
-    let q = and_parts (c == 58) (not (has_break piece)) h in
-    by (is_breakz c) (c == 58) same q.0 (stays (not-true (has_break piece) q.1))
-  where
-    by : (z x y : Bool) → x ≡ true → y ≡ true → (z || (x && y)) ≡ true
-    by true x y e f = refl
-    by false x y e f = rw (e, f) refl
+follows_by a piece same c r b h = grind arith
 
 -- what stands after the blanks and a comment may follow
 follows : (flow : Bool) (piece s rest : List ℕ) (same : Bool) → (has_break piece ≡ false → same ≡ true) → is_separation false s rest ≡ true → plains.has_break s ≡ false → ends_spaces Yes rest ≡ true → quoted_may_end flow piece (s ++ rest) ≡ true → may_follow_quoted flow same (peek rest) ≡ true
@@ -112,22 +80,16 @@ follows flow piece s rest same stays f h e may = by (is_breakz (peek rest)) refl
         follows_by flow piece same d r stays (ap (λ l. goes_on_quoted flow piece l) (sym at) ∙ on)
       where
         none : (x y z : Bool) → not (x || (y && true) || z) ≡ true → (x ≡ false) × (y ≡ false) × (z ≡ false)
-        none true y z h = absurd (cc h)
-        none false true z h = absurd (cc h)
-        none false false true h = absurd (cc h)
-        none false false false h = (refl, refl, refl)
+        none x y z h = grind arith
 
         second : (x y : Bool) → x ≡ false → (x || y) ≡ true → y ≡ true
-        second true y e h = absurd (cc e)
-        second false y e h = h
+        second x y e h = grind arith
 
     some : (l : List ℕ) → rest ≡ l → is_breakz (peek l) ≡ false → may_follow_quoted flow same (peek l) ≡ true
-    some [] i g = absurd (cc g)
-    some (d ∷ r) i g = goes_on d r i g
+    some a i g = grind (arith, nat_tests, goes_on, eqb-true)
 
     by : (b : Bool) → is_breakz (peek rest) ≡ b → may_follow_quoted flow same (peek rest) ≡ true
-    by true g = or_left (is_breakz (peek rest)) _ g
-    by false g = some rest refl g
+    by a g = grind (arith, or_left, rest, some)
 
 -- ---- the check
 

@@ -1,5 +1,5 @@
 -- Faults of block scalars: the line is no header, or what stands after the scalar may not.
-use Rattle.proof_scanner.proofs.Common.{[], after_chars, allow_key, and_parts, ap, append-nil, are_empty, AreLines, arith, Arrives, At, begins_with, block, block_first, block_may_end, block_read, BlockRead, BlockStyle, body, Bool, both, Break, carriage, collection_of, columns, eqb-true, Err, false, Fault, feed, fetch_block_scalar, Fits, folded, further_text, has_no_nul, header_of, Held, if◌then◌else◌, indicator_of, innermost, is_at_end, is_break, is_empty, is_in_line, is_literal, is_literal_style, is_nul, is_shallow, is_tabbed, IsBlockFault, IsStuck, leading_spaces, least_column, linebreak, lines_may_end, List, literal, nat_le, nat_lt, nat_tests, no_block, no_nul_after, None, not, Option, past, Position, position_after, Problem, read_body, read_lines, read_may_end, refl, refused_as, ScannerState, site_at_place, Some, spell, spell_more, split, split_spell, style_inner, subst, sym, tab, texts, true, unroll_non_block_indents, without_open, ℕ, ◌&&◌, ◌++◌, ◌==◌, ◌||◌, ◌∙◌, ◌∷◌, ◌≡◌}
+use Rattle.proof_scanner.proofs.Common.{[], after_chars, allow_key, and_parts, ap, append-nil, are_empty, AreLines, arith, Arrives, At, begins_with, block, block_first, block_may_end, block_read, BlockRead, BlockStyle, body, Bool, Break, collection_of, columns, Err, false, Fault, fetch_block_scalar, Fits, folded, further_text, has_no_nul, header_of, Held, if◌then◌else◌, indicator_of, innermost, is_at_end, is_break, is_empty, is_in_line, is_literal, is_literal_style, is_nul, is_shallow, is_tabbed, IsBlockFault, leading_spaces, least_column, linebreak, lines_may_end, List, literal, nat_le, nat_lt, nat_tests, no_block, no_nul_after, None, not, Option, past, Position, position_after, Problem, read_body, read_lines, read_may_end, refl, refused_as, ScannerState, site_at_place, Some, spell, spell_more, split, split_spell, style_inner, subst, sym, tab, texts, true, unroll_non_block_indents, without_open, ℕ, ◌&&◌, ◌++◌, ◌||◌, ◌∙◌, ◌∷◌, ◌≡◌}
 use Rattle.model_scanner.specs.declared.kind.BlockStyle as kind
 use Rattle.model_scanner.specs.declared.kind.BlockStyle.TheVariants.{Literal, Folded}
 use Rattle.defs_text.specs.BlockScalar as defs
@@ -17,7 +17,7 @@ use Rattle.proof_scanner.proofs.Refusals.AfterBlocks.{block_is_clear, lines_aske
 use Rattle.proof_scanner.specs.NoPiece as none
 use Rattle.proof_scanner.proofs.Refusals.Faults.{Faults, goes, read}
 use Rattle.proof_scanner.proofs.Refusals.TextsRefused.{header_alone}
-use Rattle.proof_scanner.proofs.Refusals.Places.{Told, LiesDeep, account_by, stuck, in_flow_is, blocks_by, looked_at, none_begins, none_here}
+use Rattle.proof_scanner.proofs.Refusals.Places.{Said, IsWhy, LiesDeep, account_by, stuck, in_flow_is, blocks_by, looked_at, none_begins, none_here}
 
 -- ---- texts
 
@@ -30,8 +30,7 @@ along_text : (style : BlockStyle) (before rest : List ℕ) (p : Position) → is
 along_text style before rest p inner = sym (after_chars (indicator_of style ∷ before) [] rest p (style_inner style before inner)) ∙ ap (λ w. position_after p w rest) (append-nil (indicator_of style ∷ before))
 
 tab_first : (r : List ℕ) → begins_with tab r ≡ true → (m : List ℕ) × (r ≡ tab ∷ m)
-tab_first [] h = absurd (cc h)
-tab_first (c ∷ m) h = (m, ap (λ x. x ∷ m) (eqb-true c tab h))
+tab_first a h = grind arith
 
 -- a break, and a TAB after it
 record TabAfter (after : List ℕ) : Type 0 where
@@ -39,33 +38,12 @@ record TabAfter (after : List ℕ) : Type 0 where
   more : List ℕ
   is : after ≡ put by (tab ∷ more)
 
-tab_after_return : (a : List ℕ) (p : Position) → begins_with tab (linebreak (13 ∷ a) p).rest ≡ true → TabAfter (13 ∷ a)
-tab_after_return [] p h = absurd (cc h)
-tab_after_return (d ∷ m) p h = by (d == 10) refl
-  where
-    by : (b : Bool) → (d == 10) ≡ b → TabAfter (13 ∷ d ∷ m)
-    by true e = let k : begins_with tab m ≡ true = rw e at h in let f = tab_first m k in record { by = both; more = f.0; is = ap (λ x. 13 ∷ x ∷ m) (eqb-true d 10 e) ∙ ap (λ r. 13 ∷ 10 ∷ r) f.1 }
-    by false e = let k : begins_with tab (d ∷ m) ≡ true = rw e at h in let f = tab_first (d ∷ m) k in record { by = carriage; more = f.0; is = ap (λ r. 13 ∷ r) f.1 }
-
 tab_after : (after : List ℕ) (p : Position) → headers.ends_line after ≡ true → begins_with tab (linebreak after p).rest ≡ true → TabAfter after
 unfolding is_break
-tab_after [] p e h = absurd (cc h)
-tab_after (c ∷ a) p e h = by (c == 10) (c == 13) refl refl e
-  where
-    by : (f r : Bool) → (c == 10) ≡ f → (c == 13) ≡ r → (f || r) ≡ true → TabAfter (c ∷ a)
-    by true r g k i =
-        let same : c ≡ 10 = eqb-true c 10 g in
-        let m = tab_first a (subst (λ x. begins_with tab (linebreak (x ∷ a) p).rest ≡ true) same h) in
-        record { by = feed; more = m.0; is = ap (λ x. x ∷ a) same ∙ ap (λ x. 10 ∷ x) m.1 }
-    by false true g k i =
-        let same : c ≡ 13 = eqb-true c 13 k in
-        subst (λ x. TabAfter (x ∷ a)) (sym same) (tab_after_return a p (subst (λ x. begins_with tab (linebreak (x ∷ a) p).rest ≡ true) same h))
-    by false false g k i = absurd (cc i)
+tab_after a p e h = grind arith
 
 fits_alone : (k : Break) → Fits k []
-fits_alone feed = tt
-fits_alone carriage = refl
-fits_alone both = tt
+fits_alone a = grind arith
 
 -- a fault that comes first
 abbrev FirstFault : (collection : List ℕ) (here : Position) (text : List ℕ) (why : Problem) (at : Position) → Type 0
@@ -133,8 +111,7 @@ column_fault indent bs here text piece next b least e clean is untabbed low = by
         asked = lines_asked indent b piece next bs least is w ∙ k
 
         untabbed_by : (h : List ℕ) (ls : List (List ℕ)) (t : Bool) → (scan.is_single (h ∷ ls) && t) ≡ false → not (is_empty ls && t) ≡ true
-        untabbed_by h [] t i = ap not i
-        untabbed_by h (l ∷ ls) t i = refl
+        untabbed_by h ls t i = grind arith
 
         no_tab : not (is_empty (texts w.lines) && begins_with tab next) ≡ true
         no_tab = untabbed_by w.header.text (texts w.lines) (begins_with tab next) (ap (λ x. scan.is_single x && begins_with tab next) (sym (lines_written piece next w)) ∙ untabbed)
@@ -171,14 +148,14 @@ module _ (text : List ℕ) (t : ScannerState) (a : Arrives text t) (some : is_em
       (closed.is_least.0 ∙ ap innermost (sym closed.same_columns), ap (λ bs. least_column bs true) closed.same_columns ∙ closed.is_least.1)
 
   -- the block scalar that begins here may not stand
-  block_stuck : (why : Problem) (at : Position) → FirstFault collections t.held.position t.rest why at → IsStuck text why at
+  block_stuck : (why : Problem) (at : Position) → FirstFault collections t.held.position t.rest why at → IsWhy text why at
   block_stuck why at x =
       stuck text t a some [] why at (λ c may.
       let moved : FirstFault (site_at_place (account_by text t a some c []) t.held.position).blocks t.held.position t.rest why at = subst (λ bs. FirstFault bs t.held.position t.rest why at) (sym (blocks_by text t a some c [])) x in
       record { fails = no_block (in_flow_is text t a some c [] ∙ ap not out) moved.0; is_first = (looked_at text t a some lies c [], moved.1) })
 
   -- `|` or `>`
-  header_told : (style : BlockStyle) (line after : List ℕ) → t.rest ≡ indicator_of style ∷ (line ++ after) → is_in_line line ≡ true → headers.ends_line after ≡ true → (g : Fault) → headers.IsHeaderRefusal t.held.position style line after g → Told text g
+  header_told : (style : BlockStyle) (line after : List ℕ) → t.rest ≡ indicator_of style ∷ (line ++ after) → is_in_line line ≡ true → headers.ends_line after ≡ true → (g : Fault) → headers.IsHeaderRefusal t.held.position style line after g → Said text g
   header_told style line after e inline ends g (headers.tabbed h is begins) =
       let f : TabAfter after = tab_after after t.held.position ends begins in
       λ _. block_stuck problem.BlockScalarTab t.held.position
@@ -187,20 +164,20 @@ module _ (text : List ℕ) (t : ScannerState) (a : Arrives text t) (some : is_em
       λ _. none_here text t a some lies problem.BlockScalarZero (none.headless style line after problem.BlockScalarZero t.held.position (ap not out) e inline ends lacks (none.by_zero zero)) tt
   header_told style line after e inline ends g (headers.comment h before more lacks is cut) =
       let place : headers.along before (past t.held.position) ≡ position_after t.held.position (indicator_of style ∷ before) (35 ∷ more) = along_text style before (35 ∷ more) t.held.position (inner_first before (35 ∷ more) (ap is_in_line (sym cut) ∙ inline)) in
-      subst (λ p. Told text (At problem.CommentNotSeparated p)) (sym place)
+      subst (λ p. Said text (At problem.CommentNotSeparated p)) (sym place)
       (λ _. none_begins text t a some lies problem.CommentNotSeparated _
       (none.headless style line after problem.CommentNotSeparated _ (ap not out) e inline ends lacks (none.by_comment h before more is cut)) tt)
   header_told style line after e inline ends g (headers.no_header lacks zero more begins) =
       λ _. none_here text t a some lies problem.BlockScalarHeader (none.headless style line after problem.BlockScalarHeader t.held.position (ap not out) e inline ends lacks (none.by_text zero more begins)) tt
 
-  block_refused : (style : BlockStyle) (indent : ℕ) (more : List ℕ) → t.rest ≡ indicator_of style ∷ more → IsLeast indent collections → (f : Fault) → block (is_literal_style style) indent t.rest t.held.position ≡ Err f → Told text f
+  block_refused : (style : BlockStyle) (indent : ℕ) (more : List ℕ) → t.rest ≡ indicator_of style ∷ more → IsLeast indent collections → (f : Fault) → block (is_literal_style style) indent t.rest t.held.position ≡ Err f → Said text f
   block_refused style indent more e deep f k =
       by f (refused_as (ap (λ r. block (is_literal_style style) indent r t.held.position) (sym e) ∙ k) (blocks.scans_end style indent more t.held.position (some_chars more clean)))
     where
       clean : has_no_nul more ≡ true
       clean = (and_parts (not (is_nul (indicator_of style))) (has_no_nul more) (subst (λ r. has_no_nul r ≡ true) e a.is_clean)).1
 
-      by : (g : Fault) → block_ends.IsBlockRefusal style indent t.held.position more g → Told text g
+      by : (g : Fault) → block_ends.IsBlockRefusal style indent t.held.position more g → Said text g
       by g (block_ends.bad_header line after cut inline ends why) = header_told style line after (e ∙ ap (λ r. indicator_of style ∷ r) cut) inline ends g why
       by g (block_ends.after_piece piece next b it (scan.shallow free low)) =
           λ _. block_stuck problem.BlockScalarIndentation (scan.further_position t.held.position piece next)
@@ -208,7 +185,7 @@ module _ (text : List ℕ) (t : ScannerState) (a : Arrives text t) (some : is_em
       by g (block_ends.after_piece piece next b it (scan.tabbed begins)) =
           λ _. block_stuck problem.BlockScalarTab t.held.position (piece_tab_fault collections (collection_of indent) t.held.position t.rest piece next b (e ∙ it.is_text) it.is_read begins)
 
-  pub block_told : (style : kind.BlockStyle) (more : List ℕ) → t.rest ≡ (if is_literal style then 124 else 62) ∷ more → Faults (Told text) (fetch_block_scalar style t)
+  pub block_told : (style : kind.BlockStyle) (more : List ℕ) → t.rest ≡ (if is_literal style then 124 else 62) ∷ more → Faults (Said text) (fetch_block_scalar style t)
   unfolding fetch_block_scalar
   block_told Literal more e = read _ (block true _ t.rest t.held.position) _ (λ f k. block_refused literal _ more e (least _ (saved_is t.held)) f k) (λ x k. goes)
   block_told Folded more e = read _ (block false _ t.rest t.held.position) _ (λ f k. block_refused folded _ more e (least _ (saved_is t.held)) f k) (λ x k. goes)

@@ -1,5 +1,5 @@
 -- What holds of the fault of a step, if it has one: rules for the forms that the model's functions are made of.
-use Rattle.proof_scanner.proofs.Common.{Bool, Err, false, Fault, go_on, Held, if◌then◌else◌, lexed, Ok, Read, refl, Result, ScannerState, subst, true, with_held, ◌>>=◌, ◌≡◌}
+use Rattle.proof_scanner.proofs.Common.{Bool, Err, false, Fault, go_on, Held, if◌then◌else◌, lexed, Ok, Read, refl, Result, ScannerState, subst, true, with_held, ◌>>=◌, ◌≡◌, sym}
 
 -- F holds of the fault, if there is one
 pub data Faults (F : Fault → Type 0) {A : Type 0} : Result A Fault → Type 0 where
@@ -13,6 +13,11 @@ fault_is f goes e = absurd (cc)
 pub in_turn : {F : Fault → Type 0} {A B : Type 0} {r : Result A Fault} {k : A → Result B Fault} → Faults F r → ((x : A) → r ≡ Ok x → Faults F (k x)) → Faults F (r >>= k)
 in_turn (fault p) h = fault p
 in_turn goes h = h _ refl
+
+-- of a step that may only refuse as the one before it
+pub kept : {F : Fault → Type 0} {A B : Type 0} {r : Result A Fault} (f : Result A Fault → Result B Fault) → ((e : Fault) → f (Err e) ≡ Err e) → ((x : A) → Faults F (f (Ok x))) → Faults F r → Faults F (f r)
+kept {F = F} f on go (fault {f = e} p) = subst (Faults F) (sym (on e)) (fault p)
+kept f on go (goes {x = x}) = go x
 
 pub tried : {F : Fault → Type 0} (t : ScannerState) {r : Result Held Fault} → Faults F r → Faults F (with_held t r)
 tried t (fault p) = fault p

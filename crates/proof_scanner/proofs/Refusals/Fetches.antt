@@ -1,16 +1,16 @@
 -- The faults of a fetch: each of a kind that is told is one by which the text is stuck.
-use Rattle.proof_scanner.proofs.Common.{[], ap, are_marks, AreLevels, arith, Arrives, At, before_by, before_past, begins_document_at, begins_with, Bool, columns, eqb-true, false, fetch_content, fetch_here, fetch_stream_end, fetch_token, gives_node, has_open_level, has_required, Indent, inl, inr, is_adjacent, is_document_marker, is_empty, IsStuck, least_column, List, may_not_stand, nat_le, nat_lt, nat_tests, next_line, not, peek, refl, ScannerState, site_at_place, site_here, site_in, subst, sym, Tok, true, ℕ, ◌&&◌, ◌+◌, ◌==◌, ◌||◌, ◌∙◌, ◌∷◌, ◌≡◌, ◌≤◌}
+use Rattle.proof_scanner.proofs.Common.{[], ap, are_marks, AreLevels, arith, Arrives, At, before_by, before_past, begins_document_at, begins_with, Bool, columns, eqb-true, false, fetch_content, fetch_here, fetch_stream_end, fetch_token, gives_node, has_open_level, has_required, Indent, inl, inr, is_adjacent, is_document_marker, is_empty, least_column, List, may_not_stand, nat_le, nat_lt, nat_tests, next_line, not, peek, refl, ScannerState, site_at_place, site_here, site_in, subst, sym, Tok, true, ℕ, ◌&&◌, ◌+◌, ◌==◌, ◌||◌, ◌∙◌, ◌∷◌, ◌≡◌, ◌≤◌}
 use Rattle.yaml_tokens.specs.declared.problem.Problem.TheVariants as problem
 use Rattle.model_scanner.specs.declared.kind.Collection.TheVariants.{Sequence, Mapping}
 use Rattle.model_scanner.specs.State.{after}
 use Rattle.proof_scanner.proofs.Cut.Nodes.{IsDeep}
 use Rattle.proof_scanner.proofs.Cut.Dispatch.{token_holds, content_holds}
-use Rattle.proof_scanner.proofs.Cut.Fetched.{no_end, goes_on_here, begins_here}
+use Rattle.proof_scanner.proofs.Cut.Fetched.{no_end, goes_on_here}
 use Rattle.proof_scanner.proofs.Sound.Passed.{least_of_levels}
 use Rattle.proof_scanner.proofs.Refusals.Levels.{levels_end}
 use Rattle.proof_scanner.specs.Failing as defs
 use Rattle.proof_scanner.proofs.Refusals.Faults.{Faults, fault, tried, either}
-use Rattle.proof_scanner.proofs.Refusals.Places.{IsRowless, Told, LiesDeep, account_by, rowless_told, stuck, in_flow_is, none_here}
+use Rattle.proof_scanner.proofs.Refusals.Places.{IsRowless, Said, IsWhy, LiesDeep, account_by, rowless_told, stuck, in_flow_is, none_here}
 use Rattle.proof_scanner.proofs.Refusals.Nodes.{name_told, tag_told, quoted_told}
 use Rattle.proof_scanner.proofs.Refusals.Blocks.{block_told}
 use Rattle.proof_scanner.proofs.Refusals.Plains.{plain_told}
@@ -21,9 +21,9 @@ use Rattle.proof_scanner.specs.NoPiece as none
 module _ (text : List ℕ) (t : ScannerState) (a : Arrives text t) (some : is_empty t.rest ≡ false) where
   -- ---- the token by the first character
 
-  token_told : IsDeep t.held → ((t.held.position.col == 0) && is_document_marker t.rest) ≡ false → (t.held.position.col ≡ 0 → (peek t.rest == 37) ≡ false) → Faults (Told text) (fetch_token t)
+  token_told : IsDeep t.held → ((t.held.position.col == 0) && is_document_marker t.rest) ≡ false → (t.held.position.col ≡ 0 → (peek t.rest == 37) ≡ false) → Faults (Said text) (fetch_token t)
   token_told deep marker percent =
-      token_holds (Faults (Told text)) t (is_adjacent (before_past (before_by a.base.site.before) a.separation)) a.is_clean a.is_solid (λ inside. sym (a.is_adjacent_here inside some)) marker (record {
+      token_holds (Faults (Said text)) t (is_adjacent (before_past (before_by a.base.site.before) a.separation)) a.is_clean a.is_solid (λ inside. sym (a.is_adjacent_here inside some)) marker (record {
         anchor = λ kind more e. name_told text t a some lies kind more e;
         tag = λ more e. tag_told text t a some lies more e;
         plain = λ comes. plain_told text t a some lies deep comes;
@@ -46,29 +46,20 @@ module _ (text : List ℕ) (t : ScannerState) (a : Arrives text t) (some : is_em
       lies _ = deep
 
       no_column : (more : List ℕ) → t.rest ≡ 37 ∷ more → (t.held.position.col == 0) ≡ false
-      no_column more e = by (t.held.position.col == 0) refl
-        where
-          by : (b : Bool) → (t.held.position.col == 0) ≡ b → b ≡ false
-          by false i = refl
-          by true i = absurd (cc (percent (eqb-true t.held.position.col 0 i), ap (λ r. peek r == 37) e))
+      no_column more e = grind (arith, percent, eqb-true)
 
   -- ---- columns
 
   least_here : (i : ℕ) (ds : List Indent) → AreLevels i ds → nat_lt (t.held.position.col + 1) i ≡ true → nat_le (least_column (columns i ds) (has_open_level ds)) t.held.position.col ≡ false
-  least_here i [] l low = grind (arith, nat_tests, l, low)
-  least_here i (d ∷ ds) l low = grind (arith, nat_tests, low, least_of_levels i (d ∷ ds) l refl)
+  least_here i a l b = grind (arith, least_of_levels)
 
   no_line : ((t.held.position.col == 0) && is_document_marker t.rest) ≡ false → (t.held.position.col ≡ 0 → (peek t.rest == 37) ≡ false) → begins_document_at t.held.position t.rest ≡ false
-  no_line none percent = by (t.held.position.col == 0) refl none
-    where
-      by : (b : Bool) → (t.held.position.col == 0) ≡ b → (b && is_document_marker t.rest) ≡ false → (b && (begins_with 37 t.rest || is_document_marker t.rest)) ≡ false
-      by false e m = refl
-      by true e m = ap (λ x. x || is_document_marker t.rest) (sym (begins_here 37 t.rest refl) ∙ percent (eqb-true t.held.position.col 0 e)) ∙ m
+  no_line none percent = grind arith
 
-  shallow : begins_document_at t.held.position t.rest ≡ false → nat_lt (t.held.position.col + 1) t.held.indent ≡ true → IsStuck text problem.InvalidIndentation t.held.position
+  shallow : begins_document_at t.held.position t.rest ≡ false → nat_lt (t.held.position.col + 1) t.held.indent ≡ true → IsWhy text problem.InvalidIndentation t.held.position
   shallow none low = by (is_empty t.held.flow) refl
     where
-      by : (out : Bool) → is_empty t.held.flow ≡ out → IsStuck text problem.InvalidIndentation t.held.position
+      by : (out : Bool) → is_empty t.held.flow ≡ out → IsWhy text problem.InvalidIndentation t.held.position
       by true e =
           let deep : t.held.indent ≤ t.held.position.col + 1 = levels_end t.held.position.col a.base.site.blocks a.base.site.awaits t.held.indent t.held.indents a.are_levels
           (subst (λ b. (site_here (not b) t.held.position a.base.site).blocks ≡ columns t.held.indent t.held.indents) e a.blocks_are)
@@ -86,10 +77,10 @@ module _ (text : List ℕ) (t : ScannerState) (a : Arrives text t) (some : is_em
                 (ap (λ w. nat_le (least_column (columns t.held.indent t.held.indents) w) t.held.position.col) awaits_is ∙ least_here t.held.indent t.held.indents a.are_levels low)));
           })
 
-  content_told : Faults (Told text) (fetch_content t)
+  content_told : Faults (Said text) (fetch_content t)
   unfolding are_marks
   content_told =
-      content_holds (Faults (Told text)) t some (record {
+      content_holds (Faults (Said text)) t some (record {
         directive = λ e col. directive_told text t a some (document_line col (ap (λ r. begins_with 37 r || is_document_marker r) e)) (after t.rest) e col;
         document_start = λ more e gap col. marker_told text t a some (document_line col (ap (λ r. begins_with 37 r || is_document_marker r) e ∙ rw gap refl)) Tok.document_start col;
         document_end = λ more e gap col. document_end_told text t a some (document_line col (ap (λ r. begins_with 37 r || is_document_marker r) e ∙ rw gap refl)) more e gap col;
@@ -99,15 +90,15 @@ module _ (text : List ℕ) (t : ScannerState) (a : Arrives text t) (some : is_em
     where
       -- a line for the document may lie in any column
       document_line : t.held.position.col ≡ 0 → (begins_with 37 t.rest || is_document_marker t.rest) ≡ true → LiesDeep t
-      document_line col begins none = absurd (cc (none, ap (λ (n : ℕ). (n == 0) && (begins_with 37 t.rest || is_document_marker t.rest)) col, begins))
+      document_line col begins none = grind arith
 
 -- ---- the text's end
 
-end_told : (text : List ℕ) (t : ScannerState) → (has_required t.held.keys ≡ true → IsRowless text) → Faults (Told text) (fetch_stream_end t)
+end_told : (text : List ℕ) (t : ScannerState) → (has_required t.held.keys ≡ true → IsRowless text) → Faults (Said text) (fetch_stream_end t)
 unfolding fetch_stream_end
 end_told text t rowless = tried t (rowless_told text (has_required t.held.keys) problem.KeyExpected (next_line t.held.position) _ refl rowless)
 
 -- a token of a text that goes on, or the stream's end
-pub here_told : (text : List ℕ) (t : ScannerState) → Arrives text t → Faults (Told text) (fetch_here t)
+pub here_told : (text : List ℕ) (t : ScannerState) → Arrives text t → Faults (Said text) (fetch_here t)
 unfolding fetch_here
 here_told text t a = either (peek t.rest == 0) (λ e. end_told text t (end_rowless text t a (no_end t.rest a.is_clean e))) (λ e. content_told text t a (goes_on_here t.rest e))

@@ -1,11 +1,10 @@
 -- Faults of indicators, markers and directives.
-use Rattle.proof_scanner.proofs.Common.{[], allow_key, and_false, and_parts, ap, append_assoc, AreEntries, arith, Arrives, At, before_by, before_past, begin_flow, begin_key, begin_keyless_mapping, begin_keyless_pair, begin_keyless_value, begin_line, begin_pair, begins_entry, begins_free_line, begins_with, begins_with_alpha, begins_with_space_or_break, blanks_and_comment, Bool, check_after_tab, check_block_entry, check_dash, check_document_end, check_key_space, check_value_space, chosen, closed_key, Collection, colon_may_precede, decrease_flow_level, deepened_flow, directive_of, directives_end, end_entry, end_flow, end_flow_pair, end_pair, ended_flow, entries_by, Entry, entry_by, eqb-true, Err, false, Fault, fetch_block_entry, fetch_directive, fetch_document_end, fetch_document_marker, fetch_flow_collection_end, fetch_flow_collection_start, fetch_flow_entry, fetch_key, fetch_value, flow_level, FlowLevel, followed_first, free, further, go_on, had_by, has, has_no_break, has_no_pair, HasNoKey, HasSpaces, Held, held_of, Holds, if◌then◌else◌, in_flow, increase_flow_level, inl, inr, insert_key, is_adjacent, is_alphanumeric, is_at_gap, is_blank, is_blank_or_breakz, is_breakz, is_empty, is_free, is_full, is_one_of, is_required, is_separation, is_taken, is_taken_line, is_value, is_value_here, is_value_indicator, IsDirectiveRefusal, IsFollowed, IsLineHere, IsLookedAt, IsOpenOutside, IsPlace, IsStuck, Key, leading, length, lexed, Line, line_by, line_past_separation, List, may_ask, may_not_stand, MayChoose, nat_le, nat_lt, nat_tests, next_entry, No, no_key, None, not, not-false, not-true, Ok, on_held, opens, opens_pair, Option, or_true, OutOfMemory, outside_key, paired, pass_indicator, past, past_blanks_and_comment, past_line_rest, peek, pop, Position, position_after, Problem, Read, read_as, refl, refused_as, remove_implicit_key, Result, roll_entry, roll_indent, roll_one_col_indent, same_alpha, ScannerState, skip_indicator, skip_yaml_whitespace, slice_index, Some, space, spaces_are_passed, subst, suc, sym, taken, takes_pair, Tok, top_key, true, try_held, unroll_indent, waits, white, Whitespace, with_top, Yes, ℕ, ◌&&◌, ◌++◌, ◌+◌, ◌-◌, ◌==◌, ◌||◌, ◌∙◌, ◌∷◌, ◌≡◌, ◌≤◌, ◌⊎◌}
+use Rattle.proof_scanner.proofs.Common.{[], allow_key, and_false, and_parts, ap, append_assoc, AreEntries, arith, Arrives, At, before_by, before_past, begin_flow, begin_key, begin_keyless_mapping, begin_keyless_pair, begin_keyless_value, begin_line, begin_pair, begins_entry, begins_free_line, begins_with, begins_with_alpha, begins_with_space_or_break, blanks_and_comment, Bool, check_after_tab, check_block_entry, check_dash, check_document_end, check_key_space, check_value_space, chosen, closed_key, Collection, colon_may_precede, deepened_flow, directive_of, directives_end, end_entry, end_flow, ended_flow, entries_by, Entry, eqb-true, Err, false, Fault, fetch_block_entry, fetch_directive, fetch_document_end, fetch_document_marker, fetch_flow_collection_end, fetch_flow_collection_start, fetch_flow_entry, fetch_key, fetch_value, flow_level, FlowLevel, followed_first, free, further, go_on, has, has_no_break, HasNoKey, HasSpaces, Held, held_of, Holds, if◌then◌else◌, in_flow, increase_flow_level, inl, inr, insert_key, is_adjacent, is_alphanumeric, is_at_gap, is_blank, is_blank_or_breakz, is_breakz, is_empty, is_free, is_full, is_one_of, is_required, is_separation, is_taken, is_taken_line, is_value, is_value_here, is_value_indicator, IsDirectiveRefusal, IsFollowed, IsLineHere, IsLookedAt, IsOpenOutside, IsPlace, Key, leading, length, lexed, Line, line_by, line_past_separation, List, may_ask, may_not_stand, MayChoose, nat_le, nat_lt, nat_tests, next_entry, No, no_key, None, not, not-false, not-true, Ok, on_held, opens, opens_pair, Option, or_true, OutOfMemory, outside_key, paired, pass_indicator, past, past_blanks_and_comment, past_line_rest, peek, Position, position_after, Problem, Read, read_as, refl, refused_as, remove_implicit_key, Result, roll_entry, roll_indent, roll_one_col_indent, same_alpha, ScannerState, skip_indicator, skip_yaml_whitespace, slice_index, Some, space, spaces_are_passed, subst, suc, sym, taken, takes_pair, Tok, top_key, true, try_held, unroll_indent, waits, white, Whitespace, Yes, ℕ, ◌&&◌, ◌++◌, ◌-◌, ◌==◌, ◌||◌, ◌∙◌, ◌∷◌, ◌≡◌, ◌≤◌, ◌⊎◌}
 use Rattle.defs_text.specs.Tags as tags
 use Rattle.defs_token.specs.FlowEntry as entry
 use Rattle.yaml_tokens.specs.declared.problem.Problem.TheVariants as problem
 use Rattle.yaml_chars.specs.Class.{is_alpha}
 use Rattle.model_scanner.specs.Directive.{directive}
-use Rattle.model_scanner.specs.declared.level.FlowLevel.TheVariants as level
 use Rattle.model_scanner.specs.State.{after}
 use Rattle.model_scanner.specs.Block.{value_of}
 use Rattle.model_scanner.proofs.Holds as holds
@@ -26,27 +25,24 @@ use Rattle.proof_scanner.proofs.Refusals.Rolled.{Stays, rolled_stays, unrolled_s
 use Rattle.proof_scanner.proofs.Cut.Saved.{saved_keys, saved_is}
 use Rattle.proof_scanner.specs.NoPiece as none
 use Rattle.proof_scanner.specs.Failing as defs
-use Rattle.proof_scanner.proofs.Refusals.Faults.{Faults, fault, goes, read, in_turn, tried, checked, either}
+use Rattle.proof_scanner.proofs.Refusals.Faults.{Faults, fault, goes, read, in_turn, tried, checked, either, kept}
 use Rattle.proof_scanner.proofs.Refusals.Spaces.{white_goes, space_told, spaces_told, no_comment, no_comment_left, solid_past}
-use Rattle.proof_scanner.proofs.Refusals.Places.{IsRowless, Told, LiesDeep, rowless_told, account_by, place, many_levels, IsAllowed, stuck, in_flow_is, looked_at, none_begins, followed_stuck}
+use Rattle.proof_scanner.proofs.Refusals.Places.{IsRowless, Said, IsWhy, LiesDeep, rowless_told, account_by, place, many_levels, IsAllowed, stuck, in_flow_is, looked_at, none_begins, followed_stuck}
 use Rattle.proof_scanner.proofs.Refusals.RequiredKeys.{not_required, line_rowless, closing_rowless, none_waits}
 use Rattle.proof_scanner.proofs.Sound.WhiteSpaces.{white_of, past_white, white_cut, past_white_space, white_exactly, white_first, no_tab_in, IsMissed, white_or_missed}
 use Rattle.proof_scanner.proofs.Sound.ColonSpaces.{colon_spaced}
 use Rattle.proof_scanner.proofs.Cut.Fetched.{begins_here}
+use Rattle.proof_scanner.proofs.Sound.FlowMarks.{flow_over, entry_over}
 
 -- ---- keys that must be one
 
-remove_told : (text : List ℕ) (s : Held) → (is_required (top_key s.keys) ≡ true → IsRowless text) → Faults (Told text) (remove_implicit_key s)
+remove_told : (text : List ℕ) (s : Held) → (is_required (top_key s.keys) ≡ true → IsRowless text) → Faults (Said text) (remove_implicit_key s)
 unfolding remove_implicit_key
 remove_told text s rowless = rowless_told text (is_required (top_key s.keys)) problem.KeyExpected s.position _ refl rowless
 
-closed_told : {text : List ℕ} {r : Result Held Fault} → Faults (Told text) r → Faults (Told text) (closed_key r)
-closed_told (fault p) = fault p
-closed_told goes = goes
-
-line_told : (text : List ℕ) (s : Held) → (is_required (top_key s.keys) ≡ true → IsRowless text) → Faults (Told text) (begin_line s)
+line_told : (text : List ℕ) (s : Held) → (is_required (top_key s.keys) ≡ true → IsRowless text) → Faults (Said text) (begin_line s)
 unfolding begin_line
-line_told text s rowless = closed_told (remove_told text (unroll_indent 0 s) (λ must. rowless (ap (λ ks. is_required (top_key ks)) (sym (unrolled_stays 0 s).1) ∙ must)))
+line_told text s rowless = kept closed_key (λ e. refl) (λ x. goes) (remove_told text (unroll_indent 0 s) (λ must. rowless (ap (λ ks. is_required (top_key ks)) (sym (unrolled_stays 0 s).1) ∙ must)))
 
 -- ---- positions
 
@@ -56,11 +52,11 @@ line_stays t = holds.tried t (begin_line t.held) (line_begun t.held (unroll_inde
 module _ (text : List ℕ) (t : ScannerState) (a : Arrives text t) (some : is_empty t.rest ≡ false) (lies : LiesDeep t) where
   -- ---- lines for the document
 
-  line_refused : (line next : List ℕ) → t.held.position.col ≡ 0 → t.rest ≡ 37 ∷ (line ++ next) → has_no_break line ≡ true → directives.ends_line next ≡ true → directive_of (37 ∷ line) ≡ None → (f : Fault) → IsDirectiveRefusal t.held.position line f → Told text f
+  line_refused : (line next : List ℕ) → t.held.position.col ≡ 0 → t.rest ≡ 37 ∷ (line ++ next) → has_no_break line ≡ true → directives.ends_line next ≡ true → directive_of (37 ∷ line) ≡ None → (f : Fault) → IsDirectiveRefusal t.held.position line f → Said text f
   line_refused line next col e one ends lacks OutOfMemory r = elim r [ ]
   line_refused line next col e one ends lacks (At why q) r = λ _. none_begins text t a some lies why q (none.undirected line next why q col e one ends lacks r) tt
 
-  pub directive_told : (more : List ℕ) → t.rest ≡ 37 ∷ more → t.held.position.col ≡ 0 → Faults (Told text) (fetch_directive t)
+  pub directive_told : (more : List ℕ) → t.rest ≡ 37 ∷ more → t.held.position.col ≡ 0 → Faults (Said text) (fetch_directive t)
   unfolding fetch_directive
   directive_told more e col =
       in_turn (tried t (line_told text t.held (line_rowless text t a some col))) (λ u k.
@@ -68,10 +64,10 @@ module _ (text : List ℕ) (t : ScannerState) (a : Arrives text t) (some : is_em
       read u.held (directive u.rest u.held.position) _
       (λ f j. by f (refused_as (ap (λ r. directive r t.held.position) (sym (s.0 ∙ e)) ∙ (ap (λ q. directive u.rest q) (sym s.1) ∙ j)) (directives_end more t.held.position))) (λ x j. goes))
     where
-      by : (f : Fault) → directives.IsNoDirective t.held.position more f → Told text f
+      by : (f : Fault) → directives.IsNoDirective t.held.position more f → Said text f
       by f (directives.no_directive line next cut one ends lacks why) = line_refused line next col (e ∙ ap (λ r. 37 ∷ r) cut) one ends lacks f why
 
-  pub marker_told : (tok : Tok) → t.held.position.col ≡ 0 → Faults (Told text) (fetch_document_marker tok t)
+  pub marker_told : (tok : Tok) → t.held.position.col ≡ 0 → Faults (Said text) (fetch_document_marker tok t)
   unfolding fetch_document_marker
   marker_told tok col = in_turn (tried t (line_told text t.held (line_rowless text t a some col))) (λ u e. goes)
 
@@ -84,34 +80,31 @@ module _ (text : List ℕ) (t : ScannerState) (a : Arrives text t) (some : is_em
 
   -- a fault at the end of what was passed on the line
   followed_at : (why : Problem) (q : Position) (p : Position) (passed content : List ℕ) → q ≡ position_after p passed content
-      → (x : IsFollowed (in_flow t.held) t.held.position t.rest why (position_after p passed content)) → HasFirst why (position_after p passed content) x → Told text (At why q)
-  followed_at why q p passed content e x first = λ _. subst (λ z. IsStuck text why z) (sym e) (followed_stuck text t a some lies why (position_after p passed content) x first)
+      → (x : IsFollowed (in_flow t.held) t.held.position t.rest why (position_after p passed content)) → HasFirst why (position_after p passed content) x → Said text (At why q)
+  followed_at why q p passed content e x first = λ _. subst (λ z. IsWhy text why z) (sym e) (followed_stuck text t a some lies why (position_after p passed content) x first)
 
   three_past : (p : Position) → past (past (past p)) ≡ further 3 p
-  three_past p =
-      let i : ((p.index + 1) + 1) + 1 ≡ p.index + 3 = omega arith in
-      let c : ((p.col + 1) + 1) + 1 ≡ p.col + 3 = omega arith in
-      ap (λ x. let q : Position = record { index = x; line = p.line; col = ((p.col + 1) + 1) + 1 } in q) i ∙ ap (λ y. let q : Position = record { index = p.index + 3; line = p.line; col = y } in q) c
+  three_past p = grind arith
 
   marked_state : (tok : Tok) (c : ℕ) (more : List ℕ) → t.rest ≡ c ∷ c ∷ c ∷ more → Holds (λ u. (u.rest ≡ more) × (u.held.position ≡ further 3 t.held.position)) (fetch_document_marker tok t)
   unfolding fetch_document_marker
   marked_state tok c more e = holds.chained (line_stays t) (λ u s. holds.went (ap (λ r. after (after (after r))) (s.0 ∙ e), ap (λ p. past (past (past p))) s.1 ∙ three_past t.held.position))
 
-  end_checked : (u v : ScannerState) (more : List ℕ) → t.rest ≡ 46 ∷ 46 ∷ 46 ∷ more → is_at_gap more ≡ true → t.held.position.col ≡ 0 → (u.rest ≡ more) × (u.held.position ≡ further 3 t.held.position) → Spaced Yes u v → Faults (Told text) (check_document_end v)
+  end_checked : (u v : ScannerState) (more : List ℕ) → t.rest ≡ 46 ∷ 46 ∷ 46 ∷ more → is_at_gap more ≡ true → t.held.position.col ≡ 0 → (u.rest ≡ more) × (u.held.position ≡ further 3 t.held.position) → Spaced Yes u v → Faults (Said text) (check_document_end v)
   unfolding check_document_end
   end_checked u v more e gap col m s = by (is_breakz (peek v.rest)) refl
     where
       passed : List ℕ
       passed = s.blanks ++ s.comment
 
-      by : (b : Bool) → is_breakz (peek v.rest) ≡ b → Faults (Told text) (if b then Ok v else Err (At problem.ContentAfterDocumentEnd v.held.position))
+      by : (b : Bool) → is_breakz (peek v.rest) ≡ b → Faults (Said text) (if b then Ok v else Err (At problem.ContentAfterDocumentEnd v.held.position))
       by true i = goes
       by false i =
           fault {f = At problem.ContentAfterDocumentEnd v.held.position} (followed_at problem.ContentAfterDocumentEnd v.held.position (further 3 t.held.position) (s.blanks ++ s.comment) v.rest
           (ap (λ h. h.position) s.is_held ∙ ap (λ q. position_after q (s.blanks ++ s.comment) v.rest) m.1)
           (none.after_end more (s.blanks ++ s.comment) v.rest col e gap (record { is_text = sym m.0 ∙ (s.is_rest ∙ sym (append_assoc s.blanks s.comment v.rest)); is_filled = s.is_filled; is_on_line = s.no_break }) (not_at_end v.rest i) (solid_past v.rest s.ends i)) (λ c may. tt))
 
-  pub document_end_told : (more : List ℕ) → t.rest ≡ 46 ∷ 46 ∷ 46 ∷ more → is_at_gap more ≡ true → t.held.position.col ≡ 0 → Faults (Told text) (fetch_document_end t)
+  pub document_end_told : (more : List ℕ) → t.rest ≡ 46 ∷ 46 ∷ 46 ∷ more → is_at_gap more ≡ true → t.held.position.col ≡ 0 → Faults (Said text) (fetch_document_end t)
   unfolding fetch_document_end
   document_end_told more e gap col =
       in_turn (marker_told Tok.document_end col) (λ u k. in_turn (spaces_told text Yes u (λ h. absurd (cc (h, ap (λ r. begins_with 35 r) (held_of u (marked_state Tok.document_end 46 more e) k).0, no_comment more gap)))) (λ v i.
@@ -143,29 +136,14 @@ module _ (text : List ℕ) (t : ScannerState) (a : Arrives text t) (some : is_em
 
       by : (k : Option Key) (c : Bool) → MayChoose true c k t.held.position t.rest → IsLineHere false t.held.key_allowed t.rest k a.line_here → IsOpenOutside k a.base.site.position t.held.position t.rest a.base.site.blocks
           → is_taken_line (line_past_separation false broken (line_by c k a.base.line)) ≡ true
-      by None c may h open_here = ap is_taken_line (outer_line out) ∙ taken_by a.line_here h.0 (sym h.1 ∙ none)
-      by (Some k) true may h open_here = ap (λ b. is_taken_line (line_past_separation false b (waits k.position))) (on_its_line k open_here.0.0 may.0)
-      by (Some k) false may h open_here = ap is_taken_line (outer_line out) ∙ ap (λ l. is_taken_line (Some l)) (h some).0
+      by a c may h b = grind (arith, outer_line, out, taken_by, none, waits, on_its_line, some)
 
   line_not_taken : (c : Bool) (cs : List Bool) → IsAllowed text t a some c → is_empty t.held.flow ≡ true → t.held.key_allowed ≡ true → is_taken (chosen c cs t.held.keys a.base) a.separation ≡ false
-  line_not_taken c cs may out allowed =
-      by (outside_key a.base.entries t.held.keys) c (subst (λ b. IsLineHere (not b) t.held.key_allowed t.rest (outside_key a.base.entries t.held.keys) a.line_here) out a.line_is)
-    where
-      free_by : (l : Line) → (l ≡ free) ⊎ (l ≡ taken) → is_free l ≡ true → is_taken_line (Some l) ≡ false
-      free_by l (inl e) h = ap (λ x. is_taken_line (Some x)) e
-      free_by l (inr e) h = absurd (cc (h, ap is_free e))
-
-      by : (k : Option Key) (c : Bool) → IsLineHere false t.held.key_allowed t.rest k a.line_here → is_taken_line (line_past_separation false broken (line_by c k a.base.line)) ≡ false
-      by None c h = ap is_taken_line (outer_line out) ∙ free_by a.line_here h.0 (sym h.1 ∙ allowed)
-      by (Some k) c h = absurd (cc ((h some).1, allowed))
+  line_not_taken c cs may out allowed = grind arith
 
   -- where a `?` is not refused it may stand
   asks : (in_flow t.held || t.held.key_allowed) ≡ true → (c : Bool) → IsAllowed text t a some c → may_ask (in_flow t.held) (is_taken (account_by text t a some c []) a.separation) ≡ true
-  asks h c may = by (in_flow t.held) refl h
-    where
-      by : (b : Bool) → in_flow t.held ≡ b → (b || t.held.key_allowed) ≡ true → may_ask b (is_taken (account_by text t a some c []) a.separation) ≡ true
-      by true e k = refl
-      by false e k = ap not (line_not_taken c [] may (is_outside e) k)
+  asks h c may = grind (arith, text, t, some, line_not_taken, is_outside)
 
   -- a colon that the scanner takes as a value's is an indicator
   value_here : (more : List ℕ) → t.rest ≡ 58 ∷ more → is_value t ≡ true → (c : Bool) (cs : List Bool) → is_value_here (chosen c cs t.held.keys a.base) a.separation more ≡ true
@@ -175,7 +153,7 @@ module _ (text : List ℕ) (t : ScannerState) (a : Arrives text t) (some : is_em
 
   -- ---- `-`, `?` and `:`
 
-  entry_checked : (more : List ℕ) → t.rest ≡ 45 ∷ more → is_at_gap more ≡ true → Faults (Told text) (check_block_entry t.held)
+  entry_checked : (more : List ℕ) → t.rest ≡ 45 ∷ more → is_at_gap more ≡ true → Faults (Said text) (check_block_entry t.held)
   unfolding check_block_entry
   entry_checked more e gap =
       checked (in_flow t.held) (At problem.BlockEntryInFlow t.held.position)
@@ -187,23 +165,19 @@ module _ (text : List ℕ) (t : ScannerState) (a : Arrives text t) (some : is_em
   -- a character of a text stands in it with more after it
   has_more : (b c : List ℕ) → has 9 b ≡ true → has 9 (b ++ c) ≡ true
   has_more [] c h = absurd (cc h)
-  has_more (d ∷ b) c h = by (d == 9) h (has_more b c)
-    where
-      by : (y : Bool) → (y || has 9 b) ≡ true → (has 9 b ≡ true → has 9 (b ++ c) ≡ true) → (y || has 9 (b ++ c)) ≡ true
-      by true h more = refl
-      by false h more = more h
+  has_more (d ∷ b) c h = grind (arith, has_more b c)
 
   -- what a check of the line after an indicator sees
   first_after : (r : List ℕ) (c : ℕ) → (slice_index r 0 == c) ≡ true → (0 == c) ≡ false → (m : List ℕ) × (r ≡ c ∷ m)
   first_after [] c h n = absurd (cc (h, n))
   first_after (d ∷ m) c h n = (m, ap (λ x. x ∷ m) (eqb-true d c h))
 
-  dash_checked : (more : List ℕ) → t.rest ≡ 45 ∷ more → is_at_gap more ≡ true → in_flow t.held ≡ false → t.held.key_allowed ≡ true → (h : Held) → h.position ≡ past t.held.position → (x : Read Whitespace) → space Yes more h.position ≡ Ok x → Faults (Told text) (check_dash x.value (go_on x h))
+  dash_checked : (more : List ℕ) → t.rest ≡ 45 ∷ more → is_at_gap more ≡ true → in_flow t.held ≡ false → t.held.key_allowed ≡ true → (h : Held) → h.position ≡ past t.held.position → (x : Read Whitespace) → space Yes more h.position ≡ Ok x → Faults (Said text) (check_dash x.value (go_on x h))
   unfolding check_dash
   dash_checked more e gap outside allowed h place x k = by x (read_as k (spaces_are_passed Yes more h.position))
     where
       reason : (blanks comment rest : List ℕ) → more ≡ blanks ++ (comment ++ rest) → is_separation false (blanks ++ comment) rest ≡ true → plain_ends.has_break (blanks ++ comment) ≡ false
-          → (has 9 blanks && (slice_index rest 0 == 45) && is_blank_or_breakz (slice_index rest 1)) ≡ true → Told text (At problem.TabAfterDash (position_after h.position (blanks ++ comment) rest))
+          → (has 9 blanks && (slice_index rest 0 == 45) && is_blank_or_breakz (slice_index rest 1)) ≡ true → Said text (At problem.TabAfterDash (position_after h.position (blanks ++ comment) rest))
       reason blanks comment rest cut fills line all =
           let second = and_parts (has 9 blanks && (slice_index rest 0 == 45)) (is_blank_or_breakz (slice_index rest 1)) all in
           let first = and_parts (has 9 blanks) (slice_index rest 0 == 45) second.0 in
@@ -213,13 +187,9 @@ module _ (text : List ℕ) (t : ScannerState) (a : Arrives text t) (some : is_em
           (none.tab_after_dash more (blanks ++ comment) rest outside e gap (record { is_text = cut ∙ sym (append_assoc blanks comment rest); is_filled = fills; is_on_line = line })
           (has_more blanks comment first.0) (ap begins_entry d.1 ∙ gap2)) (λ c may. line_not_taken c [] may (is_outside outside) allowed)
 
-      checked_by : (b : Bool) (q : Position) (u : ScannerState) → (b ≡ true → Told text (At problem.TabAfterDash q)) → Faults (Told text) (if b then Err (At problem.TabAfterDash q) else Ok u)
-      checked_by true q u why = fault {f = At problem.TabAfterDash q} (why refl)
-      checked_by false q u why = goes
-
-      by : (y : Read Whitespace) → HasSpaces Yes h.position more y → Faults (Told text) (if y.value.found_tabs && (slice_index y.rest 0 == 45) && is_blank_or_breakz (slice_index y.rest 1) then Err (At problem.TabAfterDash y.position) else Ok (go_on y h))
+      by : (y : Read Whitespace) → HasSpaces Yes h.position more y → Faults (Said text) (if y.value.found_tabs && (slice_index y.rest 0 == 45) && is_blank_or_breakz (slice_index y.rest 1) then Err (At problem.TabAfterDash y.position) else Ok (go_on y h))
       by y (separations.spaces blanks comment rest cut are fills line ends) =
-          checked_by (has 9 blanks && (slice_index rest 0 == 45) && is_blank_or_breakz (slice_index rest 1)) (position_after h.position (blanks ++ comment) rest) _ (reason blanks comment rest cut fills line)
+          checked (has 9 blanks && (slice_index rest 0 == 45) && is_blank_or_breakz (slice_index rest 1)) (At problem.TabAfterDash (position_after h.position (blanks ++ comment) rest)) (reason blanks comment rest cut fills line) (λ _. goes)
 
   entry_outside : Holds (λ s. (in_flow t.held ≡ false) × (t.held.key_allowed ≡ true) × (s ≡ t.held)) (check_block_entry t.held)
   unfolding check_block_entry
@@ -233,7 +203,7 @@ module _ (text : List ℕ) (t : ScannerState) (a : Arrives text t) (some : is_em
       spaced Yes u check_dash (λ v. (begins_with 35 v.rest ≡ false) × (v.held.keys ≡ u.held.keys)) (λ w v s.
       holds.checked (w.found_tabs && (slice_index v.rest 0 == 45) && is_blank_or_breakz (slice_index v.rest 1)) (At problem.TabAfterDash v.held.position) (λ _. holds.went (no_comment_left Yes v.rest s.ends, ap (λ h. h.keys) s.is_held)))
 
-  pub dash_told : (more : List ℕ) → t.rest ≡ 45 ∷ more → is_at_gap more ≡ true → Faults (Told text) (fetch_block_entry t)
+  pub dash_told : (more : List ℕ) → t.rest ≡ 45 ∷ more → is_at_gap more ≡ true → Faults (Said text) (fetch_block_entry t)
   unfolding fetch_block_entry
   dash_told more e gap =
       in_turn (tried t (entry_checked more e gap)) (λ u i.
@@ -250,7 +220,7 @@ module _ (text : List ℕ) (t : ScannerState) (a : Arrives text t) (some : is_em
       let keys : (roll_entry w).held.keys ≡ t.held.keys = entry_keys w ∙ (ap (λ h. h.keys) (held_of w (spaces_skipped No v) k).is_held ∙ (spaced_on.1 ∙ (stays.1 ∙ ap (λ h. h.keys) was.3))) in
       in_turn (tried (roll_entry w) (remove_told text (roll_entry w).held (λ must. absurd (cc (must, ap (λ ks. is_required (top_key ks)) keys, not_required text t a some (ap (λ b. in_flow t.held || b) was.2 ∙ or_true (in_flow t.held))))))) (λ x l. goes))))
 
-  key_begun : (more : List ℕ) → t.rest ≡ 63 ∷ more → is_at_gap more ≡ true → Faults (Told text) (begin_key t.held)
+  key_begun : (more : List ℕ) → t.rest ≡ 63 ∷ more → is_at_gap more ≡ true → Faults (Said text) (begin_key t.held)
   unfolding begin_key
   key_begun more e gap =
       either (in_flow t.held) (λ _. goes) (λ o.
@@ -265,18 +235,18 @@ module _ (text : List ℕ) (t : ScannerState) (a : Arrives text t) (some : is_em
       holds.checked (not t.held.key_allowed) (At problem.KeyNotAllowed t.held.position) (λ n.
       holds.went (rolled_stays t.held.position.col None Tok.block_mapping_start t.held.position t.held, ap (λ b. b || t.held.key_allowed) o ∙ not-false t.held.key_allowed n)))
 
-  white_told : (in_flow t.held || t.held.key_allowed) ≡ true → (more : List ℕ) → t.rest ≡ 63 ∷ more → is_at_gap more ≡ true → (u : ScannerState) → u.rest ≡ more → u.held.position ≡ past t.held.position → Faults (Told text) (skip_yaml_whitespace u)
+  white_told : (in_flow t.held || t.held.key_allowed) ≡ true → (more : List ℕ) → t.rest ≡ 63 ∷ more → is_at_gap more ≡ true → (u : ScannerState) → u.rest ≡ more → u.held.position ≡ past t.held.position → Faults (Said text) (skip_yaml_whitespace u)
   unfolding skip_yaml_whitespace
   white_told asked more e gap u left place = by (white_or_missed more u.held gap)
     where
-      by : (begins_with_space_or_break more ≡ true) ⊎ IsMissed more u.held → Faults (Told text) (white false false u.rest u.held)
-      by (inl begins) = subst (λ x. Faults (Told text) x) (sym (white_goes u (ap begins_with_space_or_break left ∙ begins))) goes
+      by : (begins_with_space_or_break more ≡ true) ⊎ IsMissed more u.held → Faults (Said text) (white false false u.rest u.held)
+      by (inl begins) = subst (λ x. Faults (Said text) x) (sym (white_goes u (ap begins_with_space_or_break left ∙ begins))) goes
       by (inr m) =
-          subst (λ x. Faults (Told text) x) (sym (ap (λ r. white false false r u.held) left ∙ m.is_refused)) (fault {f = At problem.WhitespaceExpected u.held.position}
+          subst (λ x. Faults (Said text) x) (sym (ap (λ r. white false false r u.held) left ∙ m.is_refused)) (fault {f = At problem.WhitespaceExpected u.held.position}
           (followed_at problem.WhitespaceExpected u.held.position (further 1 t.held.position) [] more place
           (none.no_space more [] more e gap (record { is_text = refl; is_filled = refl; is_on_line = refl }) m.no_space m.ends) (λ c may. (asks asked c may, refl))))
 
-  space_checked : (in_flow t.held || t.held.key_allowed) ≡ true → (more : List ℕ) → t.rest ≡ 63 ∷ more → is_at_gap more ≡ true → (u w : ScannerState) → u.rest ≡ more → u.held.position ≡ past t.held.position → skip_yaml_whitespace u ≡ Ok w → Faults (Told text) (check_key_space w)
+  space_checked : (in_flow t.held || t.held.key_allowed) ≡ true → (more : List ℕ) → t.rest ≡ 63 ∷ more → is_at_gap more ≡ true → (u w : ScannerState) → u.rest ≡ more → u.held.position ≡ past t.held.position → skip_yaml_whitespace u ≡ Ok w → Faults (Said text) (check_key_space w)
   unfolding skip_yaml_whitespace check_key_space
   space_checked asked more e gap u w left place k = by exact.0
     where
@@ -293,14 +263,12 @@ module _ (text : List ℕ) (t : ScannerState) (a : Arrives text t) (some : is_em
       rest = past_white false u.rest
 
       tab_first : (r : List ℕ) → (peek r == 9) ≡ true → r ≡ 9 ∷ after r
-      tab_first [] h = absurd (cc h)
-      tab_first (c ∷ r) h = ap (λ x. x ∷ r) (eqb-true c 9 h)
+      tab_first r h = grind arith
 
-      checked_by : (b : Bool) (q : Position) (v : ScannerState) → (b ≡ true → Told text (At problem.TabAfterKey q)) → Faults (Told text) (if b then Err (At problem.TabAfterKey q) else Ok v)
-      checked_by true q v why = fault {f = At problem.TabAfterKey q} (why refl)
-      checked_by false q v why = goes
+      checked_by : (b : Bool) (q : Position) (v : ScannerState) → (b ≡ true → Said text (At problem.TabAfterKey q)) → Faults (Said text) (if b then Err (At problem.TabAfterKey q) else Ok v)
+      checked_by a q v why = grind (arith, fault, goes)
 
-      reason : (peek rest == 9) ≡ true → Told text (At problem.TabAfterKey (position_after u.held.position separation rest))
+      reason : (peek rest == 9) ≡ true → Said text (At problem.TabAfterKey (position_after u.held.position separation rest))
       reason tab =
           let first = tab_first rest tab in
           followed_at problem.TabAfterKey (position_after u.held.position separation rest) (further 1 t.held.position) separation (9 ∷ after rest)
@@ -308,12 +276,12 @@ module _ (text : List ℕ) (t : ScannerState) (a : Arrives text t) (some : is_em
           (none.tab_after_question more separation (after rest) e gap (sym left ∙ (white_cut false u.rest ∙ ap (λ r. separation ++ r) first)) (subst (λ r. is_separation false separation r ≡ true) first exact.1))
           (λ c may. (asks asked c may, begins, no_tab_in false u.rest))
 
-      by : w ≡ past_white_space u → Faults (Told text) (if peek w.rest == 9 then Err (At problem.TabAfterKey w.held.position) else Ok w)
+      by : w ≡ past_white_space u → Faults (Said text) (if peek w.rest == 9 then Err (At problem.TabAfterKey w.held.position) else Ok w)
       by same =
-          subst (λ (z : ScannerState). Faults (Told text) (if peek z.rest == 9 then Err (At problem.TabAfterKey z.held.position) else Ok z)) (sym same)
-          (checked_by (peek rest == 9) (position_after u.held.position separation rest) _ reason)
+          subst (λ (z : ScannerState). Faults (Said text) (if peek z.rest == 9 then Err (At problem.TabAfterKey z.held.position) else Ok z)) (sym same)
+          (checked (peek rest == 9) (At problem.TabAfterKey (position_after u.held.position separation rest)) reason (λ _. goes))
 
-  pub question_told : (more : List ℕ) → t.rest ≡ 63 ∷ more → is_at_gap more ≡ true → Faults (Told text) (fetch_key t)
+  pub question_told : (more : List ℕ) → t.rest ≡ 63 ∷ more → is_at_gap more ≡ true → Faults (Said text) (fetch_key t)
   unfolding fetch_key
   question_told more e gap =
       in_turn (tried t (key_begun more e gap)) (λ u i.
@@ -338,51 +306,41 @@ module _ (text : List ℕ) (t : ScannerState) (a : Arrives text t) (some : is_em
     had_is : first.had ≡ entry.waits k.position
 
   single_key : (allowed again : Bool) (fs : List FlowLevel) (ks : List (Option Key)) (es : List Entry) (k : Key) → AreEntries allowed again fs ks es → opens_pair fs ≡ true → top_key ks ≡ Some k → SingleKey k (entries_by (true ∷ []) ks es)
-  single_key allowed again [] ks es k h o e = absurd (cc o)
-  single_key allowed again (level.Mapping ∷ fs) ks es k h o e = absurd (cc o)
-  single_key allowed again (level.Keyed ∷ fs) ks es k h o e = absurd (cc o)
-  single_key allowed again (level.Pair ∷ fs) ks es k h o e = absurd (cc o)
-  single_key allowed again (level.Entry ∷ fs) [] es k h o e = absurd h
-  single_key allowed again (level.Entry ∷ fs) (x ∷ ks) [] k h o e = absurd h
-  single_key allowed again (level.Entry ∷ fs) (x ∷ ks) (y ∷ es) k h o e = record {
-    first = entry_by true x y;
-    around = _;
-    are = refl;
-    takes = ap (λ z. takes_pair z y.pair) h.0.kind_is ∙ ap (λ z. has_no_pair z) h.0.pair_is;
-    had_is = ap (λ z. had_by true z y.had) e;
-  }
+  single_key allowed again a ks es k h o e = grind arith
 
-  misplaced : (more : List ℕ) → t.rest ≡ 58 ∷ more → colon_may_precede more ≡ true → is_value t ≡ true → (k : Key) → top_key t.held.keys ≡ Some k → opens_pair t.held.flow ≡ true → nat_lt k.position.line t.held.position.line ≡ true → Told text (At problem.ColonMisplaced t.held.position)
+  misplaced : (more : List ℕ) → t.rest ≡ 58 ∷ more → colon_may_precede more ≡ true → is_value t ≡ true → (k : Key) → top_key t.held.keys ≡ Some k → opens_pair t.held.flow ≡ true → nat_lt k.position.line t.held.position.line ≡ true → Said text (At problem.ColonMisplaced t.held.position)
   misplaced more e apart i k top opens late = λ _.
       let s : SingleKey k (entries_by (true ∷ []) t.held.keys a.base.entries) = single_key t.held.key_allowed _ t.held.flow t.held.keys a.base.entries k a.are_entries opens top in
       stuck text t a some (true ∷ []) problem.ColonMisplaced t.held.position (λ c may.
       record { fails = may_not_stand (defs.key_on_earlier_line more k.position s.first s.around e (value_here more e i c (true ∷ [])) s.are s.takes s.had_is (grind (arith, nat_tests, late))); is_first = (looked_at text t a some lies c (true ∷ []), apart) })
 
-  not_allowed : (more : List ℕ) → t.rest ≡ 58 ∷ more → colon_may_precede more ≡ true → is_value t ≡ true → top_key t.held.keys ≡ None → in_flow t.held ≡ false → t.held.key_allowed ≡ false → Told text (At problem.ValueNotAllowed t.held.position)
+  not_allowed : (more : List ℕ) → t.rest ≡ 58 ∷ more → colon_may_precede more ≡ true → is_value t ≡ true → top_key t.held.keys ≡ None → in_flow t.held ≡ false → t.held.key_allowed ≡ false → Said text (At problem.ValueNotAllowed t.held.position)
   not_allowed more e apart i top o allowed = λ _.
       let out : is_empty t.held.flow ≡ true = is_outside o in
       let none_in : a.base.entries ≡ [] = no_entries t.held.key_allowed _ t.held.flow t.held.keys a.base.entries out a.are_entries in
       let key_is : outside_key a.base.entries t.held.keys ≡ None = ap (λ es. outside_key es t.held.keys) none_in ∙ top in
       let may : MayChoose true false (outside_key a.base.entries t.held.keys) t.held.position t.rest = subst (λ k. MayChoose true false k t.held.position t.rest) (sym key_is) tt in
-      no_key (account_by text t a some false []) a.separation more t.held.position (subst (λ r. IsPlace text (account_by text t a some false []) a.separation r t.held.position) e (place text t a some false [] may)) (value_here more e i false []) (in_flow_is text t a some false [] ∙ o)
-      (line_taken false [] (λ _. may) out allowed) (subst (λ r. HasNoKey text a.separation r t.held.position) e (none_waits text t a some top out))
-      (subst (λ r. IsLookedAt (account_by text t a some false []) a.separation t.held.position r) e (looked_at text t a some lies false [])) apart
+      record {
+        stands = λ h. absurd (cc h);
+        is_stuck = no_key (account_by text t a some false []) a.separation more t.held.position (subst (λ r. IsPlace text (account_by text t a some false []) a.separation r t.held.position) e (place text t a some false [] may)) (value_here more e i false []) (in_flow_is text t a some false [] ∙ o)
+            (line_taken false [] (λ _. may) out allowed) (subst (λ r. HasNoKey text a.separation r t.held.position) e (none_waits text t a some top out))
+            (subst (λ r. IsLookedAt (account_by text t a some false []) a.separation t.held.position r) e (looked_at text t a some lies false [])) apart;
+      }
 
-  pair_told : (more : List ℕ) → t.rest ≡ 58 ∷ more → colon_may_precede more ≡ true → is_value t ≡ true → (k : Key) → top_key t.held.keys ≡ Some k → (pair : Bool) → opens_pair t.held.flow ≡ pair → (s : Held) → Faults (Told text) (begin_pair k t.held.position pair s)
+  pair_told : (more : List ℕ) → t.rest ≡ 58 ∷ more → colon_may_precede more ≡ true → is_value t ≡ true → (k : Key) → top_key t.held.keys ≡ Some k → (pair : Bool) → opens_pair t.held.flow ≡ pair → (s : Held) → Faults (Said text) (begin_pair k t.held.position pair s)
   unfolding begin_pair
   pair_told more e apart i k top true opens s = checked (nat_lt k.position.line t.held.position.line) (At problem.ColonMisplaced t.held.position) (λ late. misplaced more e apart i k top opens late) (λ _. goes)
   pair_told more e apart i k top false opens s = goes
 
-  mapping_told : (more : List ℕ) → t.rest ≡ 58 ∷ more → colon_may_precede more ≡ true → is_value t ≡ true → top_key t.held.keys ≡ None → (s : Held) → in_flow s ≡ in_flow t.held → s.key_allowed ≡ t.held.key_allowed → Faults (Told text) (begin_keyless_mapping t.held.position s)
+  mapping_told : (more : List ℕ) → t.rest ≡ 58 ∷ more → colon_may_precede more ≡ true → is_value t ≡ true → top_key t.held.keys ≡ None → (s : Held) → in_flow s ≡ in_flow t.held → s.key_allowed ≡ t.held.key_allowed → Faults (Said text) (begin_keyless_mapping t.held.position s)
   unfolding begin_keyless_mapping
   mapping_told more e apart i top s flow allowed =
       either (in_flow s) (λ _. goes) (λ o. checked (not s.key_allowed) (At problem.ValueNotAllowed t.held.position) (λ n. not_allowed more e apart i top (sym flow ∙ o) (sym allowed ∙ not-true s.key_allowed n)) (λ _. goes))
 
   keyless_alike : (pair : Bool) (s : Held) → (in_flow (begin_keyless_pair pair s) ≡ in_flow s) × ((begin_keyless_pair pair s).key_allowed ≡ s.key_allowed)
-  keyless_alike true s = (refl, refl)
-  keyless_alike false s = (refl, refl)
+  keyless_alike a s = grind arith
 
-  value_told : (more : List ℕ) → t.rest ≡ 58 ∷ more → colon_may_precede more ≡ true → is_value t ≡ true → (o : Option Key) → top_key t.held.keys ≡ o → (s : Held) → in_flow s ≡ in_flow t.held → s.key_allowed ≡ t.held.key_allowed → Faults (Told text) (value_of o t.held.position (opens_pair t.held.flow) s)
+  value_told : (more : List ℕ) → t.rest ≡ 58 ∷ more → colon_may_precede more ≡ true → is_value t ≡ true → (o : Option Key) → top_key t.held.keys ≡ o → (s : Held) → in_flow s ≡ in_flow t.held → s.key_allowed ≡ t.held.key_allowed → Faults (Said text) (value_of o t.held.position (opens_pair t.held.flow) s)
   unfolding insert_key begin_keyless_value
   value_told more e apart i None top s flow allowed =
       let k = keyless_alike (opens_pair t.held.flow) s in
@@ -390,29 +348,19 @@ module _ (text : List ℕ) (t : ScannerState) (a : Arrives text t) (some : is_em
   value_told more e apart i (Some k) top s flow allowed = in_turn (pair_told more e apart i k top (opens_pair t.held.flow) refl _) (λ u i. goes)
 
   paired_flow : (fs : List FlowLevel) → is_empty (paired fs) ≡ is_empty fs
-  paired_flow [] = refl
-  paired_flow (level.Mapping ∷ fs) = refl
-  paired_flow (level.Entry ∷ fs) = refl
-  paired_flow (level.Keyed ∷ fs) = refl
-  paired_flow (level.Pair ∷ fs) = refl
+  paired_flow a = grind arith
 
-  tab_checked : (more : List ℕ) → t.rest ≡ 58 ∷ more → begins_with 9 more ≡ true → (h : Held) → h.position ≡ past t.held.position → (x : Read Whitespace) → space Yes more h.position ≡ Ok x → Faults (Told text) (check_after_tab x.value (go_on x h))
+  tab_checked : (more : List ℕ) → t.rest ≡ 58 ∷ more → begins_with 9 more ≡ true → (h : Held) → h.position ≡ past t.held.position → (x : Read Whitespace) → space Yes more h.position ≡ Ok x → Faults (Said text) (check_after_tab x.value (go_on x h))
   unfolding check_after_tab is_alpha is_alphanumeric
   tab_checked more e tab h place x k = by (let exact = spaced_parted more h.position (no_hash more tab) in cc (exact, k))
     where
       no_hash : (l : List ℕ) → begins_with 9 l ≡ true → begins_with 35 l ≡ false
-      no_hash [] h = refl
-      no_hash (c ∷ r) h = let same : c ≡ 9 = eqb-true c 9 h in rw same refl
+      no_hash l h = grind arith
 
       letter : (r : List ℕ) → ((peek r == 45) || is_alpha (peek r)) ≡ true → begins_with_alpha r ≡ true
-      letter [] h = absurd (cc h)
-      letter (c ∷ r) h = same_alpha c ∙ on (c == 45) refl h
-        where
-          on : (y : Bool) → (c == 45) ≡ y → (y || is_alpha c) ≡ true → is_alpha c ≡ true
-          on true i h = ap is_alpha (eqb-true c 45 i)
-          on false i h = h
+      letter r h = grind (arith, same_alpha)
 
-      found : (is_one_of (leading is_blank more) 32) ≡ false → begins_with_alpha (past_blanks_and_comment more) ≡ true → Told text (At problem.TabAfterColon (past_line_rest h.position more))
+      found : (is_one_of (leading is_blank more) 32) ≡ false → begins_with_alpha (past_blanks_and_comment more) ≡ true → Said text (At problem.TabAfterColon (past_line_rest h.position more))
       found lacks alpha =
           followed_at problem.TabAfterColon _ (further 1 t.held.position) (blanks_and_comment more) (past_blanks_and_comment more)
           (same_in_line h.position (blanks_and_comment more) [] (past_blanks_and_comment more) (line_rest_in_line more) ∙ ap (λ q. position_after q (blanks_and_comment more) (past_blanks_and_comment more)) place)
@@ -420,29 +368,24 @@ module _ (text : List ℕ) (t : ScannerState) (a : Arrives text t) (some : is_em
           (record { is_text = line_rest_cut more; is_filled = line_rest_fills more; is_on_line = same_has_break (blanks_and_comment more) ∙ ap not (line_rest_in_line more) })
           (no_space (leading is_blank more) (tags.after is_blank more) lacks alpha) alpha) (λ c may. tt)
 
-      checked_by : (b : Bool) (q : Position) (u : ScannerState) → (b ≡ true → Told text (At problem.TabAfterColon q)) → Faults (Told text) (if b then Err (At problem.TabAfterColon q) else Ok u)
-      checked_by true q u why = fault {f = At problem.TabAfterColon q} (why refl)
-      checked_by false q u why = goes
-
       exactly : Read Whitespace
       exactly = record { rest = past_blanks_and_comment more; position = past_line_rest h.position more; value = found_in (leading is_blank more) }
 
-      by : exactly ≡ x → Faults (Told text) (if not x.value.has_valid_yaml_ws && ((peek x.rest == 45) || is_alpha (peek x.rest)) then Err (At problem.TabAfterColon x.position) else Ok (go_on x h))
+      by : exactly ≡ x → Faults (Said text) (if not x.value.has_valid_yaml_ws && ((peek x.rest == 45) || is_alpha (peek x.rest)) then Err (At problem.TabAfterColon x.position) else Ok (go_on x h))
       by same =
-          subst (λ (z : Read Whitespace). Faults (Told text) (if not z.value.has_valid_yaml_ws && ((peek z.rest == 45) || is_alpha (peek z.rest)) then Err (At problem.TabAfterColon z.position) else Ok (go_on z h))) same
-          (checked_by (not (is_one_of (leading is_blank more) 32) && ((peek (past_blanks_and_comment more) == 45) || is_alpha (peek (past_blanks_and_comment more)))) (past_line_rest h.position more) _ (λ all.
+          subst (λ (z : Read Whitespace). Faults (Said text) (if not z.value.has_valid_yaml_ws && ((peek z.rest == 45) || is_alpha (peek z.rest)) then Err (At problem.TabAfterColon z.position) else Ok (go_on z h))) same
+          (checked (not (is_one_of (leading is_blank more) 32) && ((peek (past_blanks_and_comment more) == 45) || is_alpha (peek (past_blanks_and_comment more)))) (At problem.TabAfterColon (past_line_rest h.position more)) (λ all.
           let first = and_parts (not (is_one_of (leading is_blank more) 32)) ((peek (past_blanks_and_comment more) == 45) || is_alpha (peek (past_blanks_and_comment more))) all in
-          found (not-true (is_one_of (leading is_blank more) 32) first.0) (letter (past_blanks_and_comment more) first.1)))
+          found (not-true (is_one_of (leading is_blank more) 32) first.0) (letter (past_blanks_and_comment more) first.1)) (λ _. goes))
 
-  value_checked : (more : List ℕ) → t.rest ≡ 58 ∷ more → (u : ScannerState) → u.rest ≡ more → u.held.position ≡ past t.held.position → Faults (Told text) (check_value_space u)
+  value_checked : (more : List ℕ) → t.rest ≡ 58 ∷ more → (u : ScannerState) → u.rest ≡ more → u.held.position ≡ past t.held.position → Faults (Said text) (check_value_space u)
   unfolding check_value_space
   value_checked more e u left place =
       either (peek u.rest == 9) (λ tab. read u.held (space Yes u.rest u.held.position) check_after_tab (λ f k. space_told text Yes u.rest u.held.position (λ h. absurd (not_both u.rest tab h)) f k)
       (λ x k. tab_checked more e (sym (begins_here 9 more refl) ∙ (ap (λ r. peek r == 9) (sym left) ∙ tab)) u.held place x (ap (λ r. space Yes r u.held.position) (sym left) ∙ k))) (λ _. goes)
     where
       not_both : (r : List ℕ) → (peek r == 9) ≡ true → begins_with 35 r ≡ true → ⊥
-      not_both [] h i = cc h
-      not_both (c ∷ r) h i = let first : c ≡ 9 = eqb-true c 9 h in let second : c ≡ 35 = eqb-true c 35 i in omega (arith, first, second)
+      not_both r h i = grind arith
 
   -- only the position is another
   value_held : (u : ScannerState) → Holds (λ w. w.held ≡ record u.held { position = w.held.position }) (check_value_space u)
@@ -455,7 +398,7 @@ module _ (text : List ℕ) (t : ScannerState) (a : Arrives text t) (some : is_em
   spaced_apart : (more : List ℕ) (u : ScannerState) → u.rest ≡ more → Holds (λ v. colon_may_precede more ≡ true) (check_value_space u)
   spaced_apart more u left = holds.weakened (λ v k. ap colon_may_precede (sym left) ∙ k.1) (colon_spaced u.rest u.held)
 
-  pub colon_told : (more : List ℕ) → t.rest ≡ 58 ∷ more → is_value t ≡ true → Faults (Told text) (fetch_value t)
+  pub colon_told : (more : List ℕ) → t.rest ≡ 58 ∷ more → is_value t ≡ true → Faults (Said text) (fetch_value t)
   unfolding fetch_value
   colon_told more e is =
       let first : ScannerState = skip_indicator (on_held (λ s. record s { flow = paired s.flow }) t) in
@@ -464,7 +407,7 @@ module _ (text : List ℕ) (t : ScannerState) (a : Arrives text t) (some : is_em
       let apart = held_of u (spaced_apart more first (ap after e)) k in
       in_turn (tried u (value_told_by more e apart u (ap (λ s. s.keys) h) (ap (λ s. not (is_empty s.flow)) h ∙ ap not (paired_flow t.held.flow)) (ap (λ s. s.key_allowed) h))) (λ v i. goes))
     where
-      value_told_by : (more : List ℕ) → t.rest ≡ 58 ∷ more → colon_may_precede more ≡ true → (u : ScannerState) → u.held.keys ≡ t.held.keys → in_flow u.held ≡ in_flow t.held → u.held.key_allowed ≡ t.held.key_allowed → Faults (Told text) (value_of (top_key u.held.keys) t.held.position (opens_pair t.held.flow) u.held)
+      value_told_by : (more : List ℕ) → t.rest ≡ 58 ∷ more → colon_may_precede more ≡ true → (u : ScannerState) → u.held.keys ≡ t.held.keys → in_flow u.held ≡ in_flow t.held → u.held.key_allowed ≡ t.held.key_allowed → Faults (Said text) (value_of (top_key u.held.keys) t.held.position (opens_pair t.held.flow) u.held)
       value_told_by more e apart u keys flow allowed = value_told more e apart is (top_key u.held.keys) (sym (ap top_key keys)) u.held flow allowed
 
   -- ---- brackets and commas
@@ -481,7 +424,7 @@ module _ (text : List ℕ) (t : ScannerState) (a : Arrives text t) (some : is_em
   many_here : length t.held.flow ≡ length (entries_by [] t.held.keys a.base.entries)
   many_here = many_levels t.held.key_allowed _ t.held.flow t.held.keys a.base.entries a.are_entries ∙ sym (many_entries [] t.held.keys a.base.entries)
 
-  indicator_passed : (c : ℕ) (more : List ℕ) → t.rest ≡ c ∷ more → none.is_flow_indicator c ≡ true → (opens c && nat_le 255 (length t.held.flow)) ≡ false → (u : ScannerState) → IsHere u → Faults (Told text) (pass_indicator u)
+  indicator_passed : (c : ℕ) (more : List ℕ) → t.rest ≡ c ∷ more → none.is_flow_indicator c ≡ true → (opens c && nat_le 255 (length t.held.flow)) ≡ false → (u : ScannerState) → IsHere u → Faults (Said text) (pass_indicator u)
   unfolding pass_indicator
   indicator_passed c more e is room u h =
       spaces_told text Yes (skip_indicator u) (λ k.
@@ -505,21 +448,17 @@ module _ (text : List ℕ) (t : ScannerState) (a : Arrives text t) (some : is_em
   is_here : (f : Held → Result Held Fault) (u : ScannerState) → Holds (λ s. s.position ≡ t.held.position) (f t.held) → try_held f t ≡ Ok u → IsHere u
   is_here f u h i = held_of {P = IsHere} u (holds.tried t (f t.held) h (λ s k. (refl, k))) i
 
-  deepened_told : {r : Result Held Fault} → Faults (Told text) r → Faults (Told text) (deepened_flow r)
-  deepened_told (fault p) = fault p
-  deepened_told goes = goes
-
-  flow_begun : (kind : Collection) (bracket : ℕ) (more : List ℕ) → t.rest ≡ bracket ∷ more → (bracket ≡ 91) ⊎ (bracket ≡ 123) → Faults (Told text) (begin_flow kind t.held)
+  flow_begun : (kind : Collection) (bracket : ℕ) (more : List ℕ) → t.rest ≡ bracket ∷ more → (bracket ≡ 91) ⊎ (bracket ≡ 123) → Faults (Said text) (begin_flow kind t.held)
   unfolding begin_flow increase_flow_level
   flow_begun kind bracket more e is =
-      subst (λ s. Faults (Told text) (deepened_flow (if nat_le 255 (length s.flow) then Err (At problem.FlowTooDeep s.position) else Ok (record s { keys = None ∷ s.keys; flow = flow_level kind ∷ s.flow }))))
+      subst (λ s. Faults (Said text) (deepened_flow (if nat_le 255 (length s.flow) then Err (At problem.FlowTooDeep s.position) else Ok (record s { keys = None ∷ s.keys; flow = flow_level kind ∷ s.flow }))))
       (sym (ap roll_one_col_indent (saved_is t.held) ∙ rolled_one_is (record t.held { keys = saved_keys t.held })))
-      (deepened_told (checked (nat_le 255 (length t.held.flow)) (At problem.FlowTooDeep t.held.position) (λ full _.
+      (kept deepened_flow (λ e. refl) (λ x. goes) (checked (nat_le 255 (length t.held.flow)) (At problem.FlowTooDeep t.held.position) (λ full _.
       stuck text t a some [] problem.FlowTooDeep t.held.position (λ c may.
       let room : 255 ≤ length t.held.flow = grind (arith, nat_tests, full) in
       record { fails = may_not_stand (defs.too_deep bracket more e is (omega (arith, many_here, room))); is_first = looked_at text t a some lies c [] })) (λ _. goes)))
 
-  pub opening_told : (kind : Collection) (bracket : ℕ) (more : List ℕ) → t.rest ≡ bracket ∷ more → (bracket ≡ 91) ⊎ (bracket ≡ 123) → Faults (Told text) (fetch_flow_collection_start kind t)
+  pub opening_told : (kind : Collection) (bracket : ℕ) (more : List ℕ) → t.rest ≡ bracket ∷ more → (bracket ≡ 91) ⊎ (bracket ≡ 123) → Faults (Said text) (fetch_flow_collection_start kind t)
   unfolding fetch_flow_collection_start
   opening_told kind bracket more e is = in_turn (tried t (flow_begun kind bracket more e is)) (λ u i. in_turn (indicator_passed bracket more e (by bracket is) (ap (λ b. opens bracket && b) (room u i) ∙ and_false (opens bracket)) u (is_here (begin_flow kind) u (holds.weakened (λ s k. k.0) (begun_here kind)) i)) (λ v j. goes))
     where
@@ -527,59 +466,22 @@ module _ (text : List ℕ) (t : ScannerState) (a : Arrives text t) (some : is_em
       room u i = held_of {P = λ v. nat_le 255 (length t.held.flow) ≡ false} u (holds.tried t (begin_flow kind t.held) (begun_here kind) (λ s k. k.1)) i
 
       by : (c : ℕ) → (c ≡ 91) ⊎ (c ≡ 123) → none.is_flow_indicator c ≡ true
-      by c (inl h) = rw h refl
-      by c (inr h) = rw h refl
-
-  ended_told : {r : Result Held Fault} → Faults (Told text) r → Faults (Told text) (ended_flow r)
-  ended_told (fault p) = fault p
-  ended_told goes = goes
-
-  pair_ended : (fs : List FlowLevel) (s : Held) → (end_pair fs s).position ≡ s.position
-  pair_ended [] s = refl
-  pair_ended (level.Mapping ∷ fs) s = refl
-  pair_ended (level.Entry ∷ fs) s = refl
-  pair_ended (level.Keyed ∷ fs) s = refl
-  pair_ended (level.Pair ∷ fs) s = refl
+      by c a = grind arith
 
   ended_here : Holds (λ s. s.position ≡ t.held.position) (end_flow t.held)
-  unfolding end_flow end_flow_pair decrease_flow_level remove_implicit_key
-  ended_here = by (is_required (top_key t.held.keys))
-    where
-      decreased : (b : Bool) (s : Held) → (if b then s else record s { flow = pop s.flow; keys = pop s.keys }).position ≡ s.position
-      decreased true s = refl
-      decreased false s = refl
+  ended_here = holds.weakened (λ s k. ap (λ h. h.position) k.1) (flow_over t.held)
 
-      left : Held
-      left = record t.held { keys = with_top None t.held.keys }
-
-      by : (b : Bool) → Holds (λ s. s.position ≡ t.held.position) (ended_flow (if b then Err (At problem.KeyExpected t.held.position) else Ok left))
-      by true = holds.refused
-      by false = holds.went (decreased (is_empty (end_pair left.flow left).flow) (end_pair left.flow left) ∙ pair_ended left.flow left)
-
-  pub closing_told : (kind : Collection) (c : ℕ) (more : List ℕ) → t.rest ≡ c ∷ more → (c ≡ 93) ⊎ (c ≡ 125) → Faults (Told text) (fetch_flow_collection_end kind t)
+  pub closing_told : (kind : Collection) (c : ℕ) (more : List ℕ) → t.rest ≡ c ∷ more → (c ≡ 93) ⊎ (c ≡ 125) → Faults (Said text) (fetch_flow_collection_end kind t)
   unfolding fetch_flow_collection_end end_flow
   closing_told kind c more e is =
-      in_turn (tried t (ended_told (remove_told text t.held (closing_rowless text t a some c more e (inr is))))) (λ u i. in_turn (indicator_passed c more e (closes c is).0 (ap (λ b. b && nat_le 255 (length t.held.flow)) (closes c is).1) u (is_here end_flow u ended_here i)) (λ v j. goes))
+      in_turn (tried t (kept ended_flow (λ e. refl) (λ x. goes) (remove_told text t.held (closing_rowless text t a some c more e (inr is))))) (λ u i. in_turn (indicator_passed c more e (closes c is).0 (ap (λ b. b && nat_le 255 (length t.held.flow)) (closes c is).1) u (is_here end_flow u ended_here i)) (λ v j. goes))
     where
       closes : (c : ℕ) → (c ≡ 93) ⊎ (c ≡ 125) → (none.is_flow_indicator c ≡ true) × (opens c ≡ false)
-      closes c (inl h) = rw h (refl, refl)
-      closes c (inr h) = rw h (refl, refl)
-
-  next_told : {r : Result Held Fault} → Faults (Told text) r → Faults (Told text) (next_entry r)
-  next_told (fault p) = fault p
-  next_told goes = goes
+      closes c a = grind arith
 
   next_here : Holds (λ s. s.position ≡ t.held.position) (end_entry t.held)
-  unfolding end_entry end_flow_pair remove_implicit_key
-  next_here = by (is_required (top_key t.held.keys))
-    where
-      left : Held
-      left = record t.held { keys = with_top None t.held.keys; key_allowed = true }
+  next_here = holds.weakened (λ s k. ap (λ h. h.position) k.1) (entry_over t.held)
 
-      by : (b : Bool) → Holds (λ s. s.position ≡ t.held.position) (next_entry (if b then Err (At problem.KeyExpected t.held.position) else Ok (record t.held { keys = with_top None t.held.keys })))
-      by true = holds.refused
-      by false = holds.went (pair_ended left.flow left)
-
-  pub comma_told : (more : List ℕ) → t.rest ≡ 44 ∷ more → Faults (Told text) (fetch_flow_entry t)
+  pub comma_told : (more : List ℕ) → t.rest ≡ 44 ∷ more → Faults (Said text) (fetch_flow_entry t)
   unfolding fetch_flow_entry end_entry
-  comma_told more e = in_turn (tried t (next_told (remove_told text t.held (closing_rowless text t a some 44 more e (inl refl))))) (λ u i. in_turn (indicator_passed 44 more e refl refl u (is_here end_entry u next_here i)) (λ v j. goes))
+  comma_told more e = in_turn (tried t (kept next_entry (λ e. refl) (λ x. goes) (remove_told text t.held (closing_rowless text t a some 44 more e (inl refl))))) (λ u i. in_turn (indicator_passed 44 more e refl refl u (is_here end_entry u next_here i)) (λ v j. goes))

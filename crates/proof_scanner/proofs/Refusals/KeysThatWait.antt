@@ -1,6 +1,5 @@
 -- A key that must be one waits in each row of the text; and while it waits no line ends. So no row goes on where a beginning has only gone on over a line's end by making no key of it.
-use Rattle.proof_scanner.proofs.Common.{[], Account, account_past, Act, act_of, ap, arith, begins_free_line, begins_separation, BeginsButForKey, blocks_at, Bool, double_quoted, Entry, fails, false, first_account, free, gives_block_scalar, gives_closing, gives_colon, gives_comma, gives_dash, gives_marker, gives_node, gives_nothing, gives_question, has_break, HasRow, if◌then◌else◌, inl, inr, is_empty, is_in_column, is_in_flow, is_marker, is_near, is_separation, is_waiting, IsRowFrom, IsWritten, key_waits, length, LikeEntries, LikeLine, Line, line_past, line_past_separation, List, nat_lt, nat_tests, no_key, no_nul_after, None, not, not-true, not_ended, opened, Outside, plain, Position, position_after, position_in_line, previous_by, refl, Row, same_flow, scalar, single_quoted, Site, site_at, Some, spelled, Step, subst, sym, tag_directive, taken, TextsWithARowAreNotStuck, Tok, true, version_directive, waits, ℕ, ◌&&◌, ◌++◌, ◌+◌, ◌<◌, ◌∙◌, ◌∷◌, ◌≡◌, ◌≤◌, ◌⊎◌}
-use Rattle.defs_token.specs.Token.{literal, folded}
+use Rattle.proof_scanner.proofs.Common.{[], Account, account_past, Act, act_of, ap, arith, begins_free_line, begins_separation, BeginsButForKey, blocks_at, Bool, Entry, fails, false, first_account, free, gives_node, has_break, HasRow, if◌then◌else◌, inl, inr, is_empty, is_in_column, is_in_flow, is_marker, is_separation, is_waiting, IsRowFrom, IsWritten, key_waits, length, LikeEntries, LikeLine, Line, line_past, line_past_separation, List, no_key, no_nul_after, None, not, not-true, not_ended, opened, Outside, Position, position_after, position_in_line, previous_by, refl, Row, same_flow, Site, site_at, Some, spelled, Step, subst, sym, taken, TextsWithARowAreNotStuck, Tok, true, waits, ℕ, ◌&&◌, ◌++◌, ◌+◌, ◌<◌, ◌∙◌, ◌∷◌, ◌≡◌, ◌≤◌, ◌⊎◌}
 use Rattle.proof_scanner.proofs.Sound.Sides.{with_entries}
 use Rattle.proof_scanner.proofs.Refusals.KindsOfPieces.{marker_begins}
 use Rattle.proof_scanner.proofs.Known.Made.{same_of, waited, still_there, like_past, Waits, begun, kept, waits_past, Made, outside, inside, made}
@@ -31,137 +30,37 @@ more_below p q (n ∷ ns) h b = let first : n < p = b.0 in (omega (arith, first,
 
 below_kept : (q c : ℕ) (ns : List ℕ) → AllBelow q ns → AllBelow q (not_ended c ns)
 below_kept q c [] b = tt
-below_kept q c (n ∷ ns) b = by (nat_lt c n) (below_kept q c ns b.1)
-  where
-    by : (d : Bool) → AllBelow q (not_ended c ns) → AllBelow q (if d then not_ended c ns else n ∷ ns)
-    by true k = k
-    by false k = b
+below_kept q c (n ∷ ns) b = grind (arith, not_ended, below_kept q c ns b.1)
 
 falls_kept : (c : ℕ) (ns : List ℕ) → Falls ns → Falls (not_ended c ns)
 falls_kept c [] f = tt
-falls_kept c (n ∷ ns) f = by (nat_lt c n) (falls_kept c ns f.1)
-  where
-    by : (d : Bool) → Falls (not_ended c ns) → Falls (if d then not_ended c ns else n ∷ ns)
-    by true k = k
-    by false k = f
+falls_kept c (n ∷ ns) f = grind (arith, not_ended, falls_kept c ns f.1)
 
 falls_opened : (c : ℕ) (ns : List ℕ) → Falls ns → Falls (opened c ns)
-falls_opened c [] f = (tt, tt)
-falls_opened c (n ∷ ns) f = by (nat_lt n c) refl
-  where
-    by : (d : Bool) → nat_lt n c ≡ d → Falls (if d then c ∷ n ∷ ns else n ∷ ns)
-    by true e = let less : n < c = grind (arith, nat_tests, e) in let most : n ≤ c = omega (arith, less) in ((less, more_below n c ns most f.0), f)
-    by false e = f
+falls_opened c ns f = grind (arith, more_below)
 
 -- where the innermost collection that goes on has another column, all have columns before it
 below_here : (c : ℕ) (ns : List ℕ) → Falls ns → is_in_column c (not_ended c ns) ≡ false → AllBelow c (not_ended c ns)
 below_here c [] f h = tt
-below_here c (n ∷ ns) f h = by (nat_lt c n) refl (λ k. below_here c ns f.1 k) h
-  where
-    by : (d : Bool) → nat_lt c n ≡ d → (is_in_column c (not_ended c ns) ≡ false → AllBelow c (not_ended c ns)) → is_in_column c (if d then not_ended c ns else n ∷ ns) ≡ false → AllBelow c (if d then not_ended c ns else n ∷ ns)
-    by true e later h = later h
-    by false e later h = let less : n < c = grind (arith, nat_tests, e, h) in let most : n ≤ c = omega (arith, less) in (less, more_below n c ns most f.0)
+below_here c (n ∷ ns) f h = grind (arith, more_below, below_here c ns f.1)
 
 pub not_below : (q : ℕ) (ns : List ℕ) → is_in_column q ns ≡ true → AllBelow q ns → ⊥
-not_below q [] h b = cc h
-not_below q (n ∷ ns) h b = let less : n < q = b.0 in grind (arith, nat_tests, h, less)
+not_below q a h b = grind arith
 
 falls_at : (fl : Bool) (k : Act) (c : ℕ) (ns : List ℕ) → Falls ns → Falls (blocks_at fl k c ns)
-falls_at true k c ns f = f
-falls_at false k c ns f = by (is_marker k)
-  where
-    by : (d : Bool) → Falls (if d then [] else not_ended c ns)
-    by true = tt
-    by false = falls_kept c ns f
+falls_at fl k c ns f = grind (arith, falls_kept)
 
 below_at : (q : ℕ) (fl : Bool) (k : Act) (c : ℕ) (ns : List ℕ) → AllBelow q ns → AllBelow q (blocks_at fl k c ns)
-below_at q true k c ns f = f
-below_at q false k c ns f = by (is_marker k)
-  where
-    by : (d : Bool) → AllBelow q (if d then [] else not_ended c ns)
-    by true = tt
-    by false = below_kept q c ns f
+below_at q fl k c ns f = grind (arith, below_kept)
 
 -- ---- a piece outside flow
 
 falls_past : (must : Bool) (here : Position) (bs : List ℕ) (k : Act) (key : Bool) (l : Line) (o : Outside) → line_past must here bs k key l ≡ Some o → Falls bs → Falls o.blocks
-falls_past must here bs k key l o e f = by k key l must e
-  where
-    same : (cs : List ℕ) (m : Line) → Falls cs → Some (let x : Outside = record { line = m; blocks = cs } in x) ≡ Some o → Falls o.blocks
-    same cs m g e = subst (λ (x : Outside). Falls x.blocks) (same_of _ o e) g
-
-    near : (begin : Position) (n : Bool) → (if n then Some (let x : Outside = record { line = taken; blocks = opened begin.col bs } in x) else None) ≡ Some o → Falls o.blocks
-    near begin true e = same (opened begin.col bs) taken (falls_opened begin.col bs f) e
-    near begin false e = absurd (cc e)
-
-    by : (k : Act) (key : Bool) (l : Line) (must : Bool) → line_past must here bs k key l ≡ Some o → Falls o.blocks
-    by gives_node true free must e = same bs (waits here) f e
-    by gives_node false free true e = absurd (cc e)
-    by gives_node false free false e = same bs taken f e
-    by gives_node false taken must e = same bs taken f e
-    by gives_node false (waits p) must e = same bs (waits p) f e
-    by gives_node true taken must e = absurd (cc e)
-    by gives_node true (waits p) must e = absurd (cc e)
-    by gives_block_scalar true l must e = absurd (cc e)
-    by gives_block_scalar false free true e = absurd (cc e)
-    by gives_block_scalar false free false e = same bs free f e
-    by gives_block_scalar false taken must e = same bs free f e
-    by gives_block_scalar false (waits p) must e = absurd (cc e)
-    by gives_dash true l must e = absurd (cc e)
-    by gives_dash false free must e = same (opened here.col bs) free (falls_opened here.col bs f) e
-    by gives_dash false taken must e = absurd (cc e)
-    by gives_dash false (waits p) must e = absurd (cc e)
-    by gives_question true l must e = absurd (cc e)
-    by gives_question false free must e = same (opened here.col bs) free (falls_opened here.col bs f) e
-    by gives_question false taken must e = absurd (cc e)
-    by gives_question false (waits p) must e = absurd (cc e)
-    by gives_colon true l must e = absurd (cc e)
-    by gives_colon false free must e = same (opened here.col bs) free (falls_opened here.col bs f) e
-    by gives_colon false taken must e = absurd (cc e)
-    by gives_colon false (waits p) must e = near p (is_near p here) e
-    by gives_comma true l must e = absurd (cc e)
-    by gives_comma false free must e = same bs free f e
-    by gives_comma false taken must e = same bs free f e
-    by gives_comma false (waits p) must e = absurd (cc e)
-    by gives_closing true l must e = absurd (cc e)
-    by gives_closing false free must e = same bs taken f e
-    by gives_closing false taken must e = same bs taken f e
-    by gives_closing false (waits p) must e = absurd (cc e)
-    by gives_marker true l must e = absurd (cc e)
-    by gives_marker false free must e = same bs taken f e
-    by gives_marker false taken must e = same bs taken f e
-    by gives_marker false (waits p) must e = absurd (cc e)
-    by gives_nothing key l must e = absurd (cc e)
-
--- a node with which no key begins where one may is in no column of the innermost collection
-no_must : (must key : Bool) (here : Position) (bs : List ℕ) (o : Outside) → line_past must here bs gives_node key free ≡ Some o → o.line ≡ taken → must ≡ false
-no_must true true here bs o e t = absurd (cc (ap (λ (x : Outside). x.line) (same_of _ o e) ∙ t))
-no_must true false here bs o e t = absurd (cc e)
-no_must false key here bs o e t = refl
+falls_past must here bs k key l o e f = grind (arith, falls_opened)
 
 -- while a key waits a piece outside flow is a part of a node, after which it still waits, or the colon; and where none waits on a line that is taken, no colon comes
 still : (must : Bool) (here : Position) (bs : List ℕ) (k : Act) (b c : Bool) (q : Position) (o u : Outside) → line_past must here bs k b taken ≡ Some o → line_past must here bs k c (waits q) ≡ Some u → (o.line ≡ taken) × (u.line ≡ waits q)
-still must here bs k b c q o u e f = by k b c e f
-  where
-    by : (k : Act) (b c : Bool) → line_past must here bs k b taken ≡ Some o → line_past must here bs k c (waits q) ≡ Some u → (o.line ≡ taken) × (u.line ≡ waits q)
-    by gives_node false false e f = (ap (λ (x : Outside). x.line) (sym (same_of _ o e)), ap (λ (x : Outside). x.line) (sym (same_of _ u f)))
-    by gives_node true c e f = absurd (cc e)
-    by gives_node b true e f = absurd (cc f)
-    by gives_block_scalar b true e f = absurd (cc f)
-    by gives_block_scalar b false e f = absurd (cc f)
-    by gives_dash b true e f = absurd (cc f)
-    by gives_dash b false e f = absurd (cc f)
-    by gives_question b true e f = absurd (cc f)
-    by gives_question b false e f = absurd (cc f)
-    by gives_colon true c e f = absurd (cc e)
-    by gives_colon false c e f = absurd (cc e)
-    by gives_comma b true e f = absurd (cc f)
-    by gives_comma b false e f = absurd (cc f)
-    by gives_closing b true e f = absurd (cc f)
-    by gives_closing b false e f = absurd (cc f)
-    by gives_marker b true e f = absurd (cc f)
-    by gives_marker b false e f = absurd (cc f)
-    by gives_nothing b c e f = absurd (cc e)
+still must here bs k b c q o u e f = grind arith
 
 -- ---- the line of a key
 
@@ -175,14 +74,7 @@ stays : (p : Position) (text next : List ℕ) → has_break text ≡ false → (
 stays p text next h = let same = sym (position_in_line p text next (unbroken text h)) in (ap (λ (q : Position). q.line) same, ap (λ (q : Position). q.col) same)
 
 unmarked_by : (t : Tok) → is_marker (act_of t) ≡ false → (f : List ℕ) → begins_free_line (previous_by t) f ≡ has_break f
-unmarked_by (version_directive major minor) h f = absurd (cc h)
-unmarked_by (tag_directive handle prefix) h f = absurd (cc h)
-unmarked_by (scalar plain text) h f = refl
-unmarked_by (scalar single_quoted text) h f = refl
-unmarked_by (scalar double_quoted text) h f = refl
-unmarked_by (scalar literal text) h f = refl
-unmarked_by (scalar folded text) h f = refl
-unmarked_by _ h f = refl
+unmarked_by a h f = grind arith
 
 -- after a piece on the line of a key that waits
 line_after : (q here : Position) (piece : List ℕ) (t : Tok) (next : List ℕ) (s : Site) → s.position ≡ position_after here piece next → s.before ≡ previous_by t → here.line ≡ q.line → not (is_empty piece) ≡ true → has_break piece ≡ false → is_marker (act_of t) ≡ false → OnLine q s
@@ -193,18 +85,14 @@ line_after q here piece t next s p b l some none m = let on = stays here piece n
 }
 
 not_broken : (p : List ℕ) (l : Line) (q : Position) → l ≡ waits q → (has_break p && is_waiting l) ≡ false → has_break p ≡ false
-not_broken p l q w h = by (has_break p) (ap (λ x. has_break p && is_waiting x) (sym w) ∙ h)
-  where
-    by : (b : Bool) → (b && true) ≡ false → b ≡ false
-    by true h = absurd (cc h)
-    by false h = refl
+not_broken p l q w h = grind arith
 
 -- a site is on the line of the key that waits
 abbrev pub Waiting : Line → Site → Type 0
 Waiting l s = (q : Position) → l ≡ waits q → OnLine q s
 
 pub here_on : (q : Position) (s : Site) (sep more : List ℕ) → OnLine q s → begins_free_line s.before sep ≡ false → ((position_after s.position sep more).line ≡ q.line) × (1 ≤ (position_after s.position sep more).col)
-here_on q s sep more on f = let st = stays s.position sep more (sym (on.unmarked sep) ∙ f) in let far = on.further in let col = st.1 in (st.0 ∙ on.line_is, omega (arith, far, col))
+here_on q s sep more on f = grind (arith, stays)
 
 node_no_marker : (k : Act) → k ≡ gives_node → is_marker k ≡ false
 node_no_marker k e = ap is_marker e
@@ -250,28 +138,18 @@ pub record Apart (q : Position) (x y : Account) : Type 0 where
   pub on : OnLine q y.site
 
 not_free : (l m : Line) → LikeLine l m → l ≡ free → m ≡ taken → ⊥
-not_free free free i h k = cc k
-not_free free taken i h k = i
-not_free free (waits q) i h k = i
-not_free taken m i h k = cc h
-not_free (waits p) m i h k = cc h
+not_free a m i h k = grind arith
 
 -- after a node none waits on a line that is taken, where none waited or began
 taken_past : (must : Bool) (here : Position) (bs : List ℕ) (key : Bool) (l : Line) (o : Outside) → line_past must here bs gives_node key l ≡ Some o → o.line ≡ taken → ((l ≡ free) × (must ≡ false)) ⊎ (l ≡ taken)
-taken_past must here bs key free o e t = inl (refl, no_must must key here bs o e t)
-taken_past must here bs key taken o e t = inr refl
-taken_past must here bs true (waits p) o e t = absurd (cc e)
-taken_past must here bs false (waits p) o e t = absurd (cc (ap is_waiting (ap (λ (x : Outside). x.line) (same_of _ o e) ∙ t)))
+taken_past must a bs b d o e t = grind arith
 
 -- where a line is taken after a separation in which no line ends, it was so before
 was_taken : (fl : Bool) (l m : Line) → line_past_separation fl false l ≡ Some m → m ≡ taken → l ≡ taken
 was_taken fl l m e t = same_of l m e ∙ t
 
 was_taken_inside : (broken : Bool) (l m : Line) → line_past_separation true broken l ≡ Some m → m ≡ taken → l ≡ taken
-was_taken_inside false l m e t = same_of l m e ∙ t
-was_taken_inside true free m e t = same_of free m e ∙ t
-was_taken_inside true taken m e t = refl
-was_taken_inside true (waits p) m e t = absurd (cc e)
+was_taken_inside a l m e t = grind (arith, same_of)
 
 -- the columns after a step
 falls_after : (s : Site) (l : Line) (es : List Entry) (w : Step) (next : List ℕ) (b : Account) → Falls s.blocks → account_past (with_entries s l es) w next ≡ Some b → Falls b.site.blocks
@@ -312,11 +190,7 @@ below_after s l m ds es w c next a b i j f below e1 e2 q wt tk = by (made s l ds
         was = waited false broken l n q sep1 is
 
         never : (x y : Line) → LikeLine x y → x ≡ waits q → y ≡ free → ⊥
-        never free y k h g = cc h
-        never taken y k h g = cc h
-        never (waits p) free k h g = k
-        never (waits p) taken k h g = cc g
-        never (waits p) (waits z) k h g = cc g
+        never x y k h g = grind arith
 
         to : ((o ≡ free) × (is_in_column at.position.col at.blocks ≡ false)) ⊎ (o ≡ taken) → AllBelow q.col u.blocks
         to (inl p) = absurd (never n o k is p.0)
@@ -343,8 +217,7 @@ apart_after s ds es w c next a b q j e1 e2 = by (made s taken ds w next a e1) (m
     flows = same_flow ds es j
 
     inside_line : (broken : Bool) (m : Line) → line_past_separation true broken taken ≡ Some m → m ≡ taken
-    inside_line false m e = sym (same_of taken m e)
-    inside_line true m e = sym (same_of taken m e)
+    inside_line a m e = grind (arith, same_of, taken)
 
     both : (n o : Line) (u v : Outside) → n ≡ taken → o ≡ waits q → line_past (is_in_column at.position.col at.blocks) at.position at.blocks (act_of w.shown) w.key n ≡ Some u
         → line_past (is_in_column at.position.col at.blocks) at.position at.blocks (act_of w.shown) c o ≡ Some v → (u.line ≡ taken) × (v.line ≡ waits q)

@@ -1,8 +1,7 @@
 -- The text at a piece says what piece it is; one that stands for the document begins in column 0.
-use Rattle.proof_scanner.proofs.Common.{[], act_of, ap, are_marks, Bool, context_of, dash_marks, Directive, directive_begins, directive_of, document_end, document_start, dot_marks, double_quoted, inl, inr, is_adjacent, is_at_gap, is_document_marker, is_marker, IsPiece, IsTagLine, Kind, kind_at, List, None, Option, or_true, peek, piece_of, plain, Position, scalar, single_quoted, Some, Style, subst, sym, tag_directive, texts_begin, Tok, true, version_directive, Whole, ℕ, ◌++◌, ◌==◌, ◌||◌, ◌∙◌, ◌∷◌, ◌≡◌, ◌≢◌}
+use Rattle.proof_scanner.proofs.Common.{[], act_of, ap, are_marks, Bool, context_of, dash_marks, Directive, directive_begins, directive_of, document_end, document_start, dot_marks, inl, inr, is_adjacent, is_at_gap, is_document_marker, is_marker, IsPiece, IsTagLine, Kind, kind_at, List, None, Option, or_true, peek, piece_of, Position, scalar, Some, Style, subst, sym, tag_directive, texts_begin, Tok, true, version_directive, Whole, ℕ, ◌++◌, ◌==◌, ◌||◌, ◌∙◌, ◌∷◌, ◌≡◌, ◌≢◌, arith}
 use Rattle.defs_token.specs.Account.{Account as PieceAccount, is_in_flow, Account}
 use Rattle.proof_row.specs.Ends.{kind_of}
-use Rattle.defs_token.specs.Token.{literal, folded}
 
 -- a text begins with `%`, or with a document marker
 abbrev pub begins_document : List ℕ → Bool
@@ -16,7 +15,7 @@ directive_line : (p x : List ℕ) (d : Directive) → directive_of p ≡ Some d 
 directive_line p x d e = let b = directive_begins p d e in ap (λ z. begins_document (z ++ x)) b.1
 
 marker_line : (c : ℕ) (x : List ℕ) → are_marks c c c ≡ true → is_at_gap x ≡ true → begins_document (c ∷ c ∷ c ∷ x) ≡ true
-marker_line c x m g = rw (m, g) (or_true (c == 37))
+marker_line c x m g = grind (arith, or_true)
 
 pub marker_begins : (a : Account) (p x : List ℕ) (f : Option Tok) (m : Position) (t : Tok) → IsPiece a p x f m t → is_marker (act_of t) ≡ true → BeginsLine a.position.col (p ++ x)
 marker_begins a p x f m (version_directive major minor) h k = record { column = h.0.2; text_is = directive_line p x _ h.0.0 }
@@ -30,11 +29,7 @@ marker_begins a p x f m document_end h k = record { column = h.0.1; text_is = ap
 marker_begins a p x f m (scalar style text) h k = absurd (none style k)
   where
     none : (s : Style) → is_marker (act_of (scalar s text)) ≡ true → ⊥
-    none plain e = cc e
-    none single_quoted e = cc e
-    none double_quoted e = cc e
-    none literal e = cc e
-    none folded e = cc e
+    none a e = grind arith
 marker_begins a p x f m t h k = absurd (cc k)
 
 -- The text at a piece says what piece it is.

@@ -12,30 +12,30 @@ use Rattle.proof_scanner.specs.NoPiece as none
 use Rattle.proof_scanner.proofs.Refusals.Faults.{Faults, goes, read, in_turn}
 use Rattle.proof_scanner.proofs.Refusals.Quotes.{after_told, refused_told}
 use Rattle.proof_scanner.proofs.Refusals.TabsAfterQuoted.{tab_told}
-use Rattle.proof_scanner.proofs.Refusals.Places.{Told, LiesDeep, none_here}
+use Rattle.proof_scanner.proofs.Refusals.Places.{Said, LiesDeep, none_here}
 
 module _ (text : List ℕ) (t : ScannerState) (a : Arrives text t) (some : is_empty t.rest ≡ false) (lies : LiesDeep t) where
   -- `*` or `&`
-  pub name_told : (kind : NameKind) (more : List ℕ) → t.rest ≡ mark_of kind ∷ more → Faults (Told text) (fetch_anchor kind t)
+  pub name_told : (kind : NameKind) (more : List ℕ) → t.rest ≡ mark_of kind ∷ more → Faults (Said text) (fetch_anchor kind t)
   unfolding fetch_anchor
   name_told kind more e = read (node_start t.held) (anchor_name t.rest t.held.position) _ (λ f k. by kind e f (refused_as (ap (λ r. anchor_name r t.held.position) (sym e) ∙ k) (names_end (mark_of kind) more t.held.position))) (λ x k. goes)
     where
-      by : (kind : NameKind) → t.rest ≡ mark_of kind ∷ more → (f : Fault) → names.IsNameRefusal t.held.position more f → Told text f
+      by : (kind : NameKind) → t.rest ≡ mark_of kind ∷ more → (f : Fault) → names.IsNameRefusal t.held.position more f → Said text f
       by Alias e f (names.nameless lacks) = λ _. none_here text t a some lies problem.AnchorName (none.nameless true more e lacks) tt
       by Anchor e f (names.nameless lacks) = λ _. none_here text t a some lies problem.AnchorName (none.nameless false more e lacks) tt
 
   -- `!`
-  pub tag_told : (more : List ℕ) → t.rest ≡ 33 ∷ more → Faults (Told text) (fetch_tag t)
+  pub tag_told : (more : List ℕ) → t.rest ≡ 33 ∷ more → Faults (Said text) (fetch_tag t)
   unfolding fetch_tag
   tag_told more e =
       read (node_start t.held) (tags.tag (in_flow t.held) t.rest t.held.position) _
       (λ f k. by f (refused_as (ap (λ r. tags.tag (in_flow t.held) r t.held.position) (sym e) ∙ k) (tags_end (in_flow t.held) more t.held.position))) (λ x k. goes)
     where
-      by : (f : Fault) → tag_ends.IsTagFault (in_flow t.held) t.held.position more f → Told text f
+      by : (f : Fault) → tag_ends.IsTagFault (in_flow t.held) t.held.position more f → Said text f
       by f (tag_ends.at_start why reason) = λ _. none_here text t a some lies why (none.tagless more why e reason) tt
 
   -- `'` or `"`
-  pub quoted_told : IsDeep t.held → (quotes : Quotes) (more : List ℕ) → t.rest ≡ none.quote_of (are_single quotes) ∷ more → Faults (Told text) (fetch_flow_scalar quotes t)
+  pub quoted_told : IsDeep t.held → (quotes : Quotes) (more : List ℕ) → t.rest ≡ none.quote_of (are_single quotes) ∷ more → Faults (Said text) (fetch_flow_scalar quotes t)
   unfolding fetch_flow_scalar
   quoted_told deep quotes more e =
       read (node_start t.held) (quoted (are_single quotes) (context (node_start t.held)) t.rest t.held.position) _

@@ -1,5 +1,5 @@
 -- Faults on the way to the next token, from a state between two fetches.
-use Rattle.proof_scanner.proofs.Common.{[], and_parts, another, ap, append-nil, append_assoc, arith, At, Begins, begins_separation, begins_white, BeginsButForKey, block_scalar, Bool, chained, chosen, directive, drop_stale, either, eqb-true, Err, fails, false, Fault, fetch, fetch_here, fetch_next, flow_collection, follows_plain, HasNoTabs, Held, Holds, if◌then◌else◌, in_flow, inl, inr, is_at_comment_or_end, is_blank, is_break, is_empty, is_far, is_indented_by_spaces, is_one_of, is_overdue, is_renewed, is_separation, IsPlace, IsReadOn, IsStuck, Key, key_waits, List, list_any, map, may_not_stand, MayChoose, nat_lt, nat_tests, None, not, Ok, on_held, Option, or_right, outside_key, plain_scalar, Position, position_after, position_append, Previous, quoted_scalar, refl, refused, Result, ScannerState, skip_to_next_token, Some, stale, Stands, still, subst, sym, top_key, tried, true, unroll_indent, went, ℕ, ◌++◌, ◌+◌, ◌<◌, ◌==◌, ◌||◌, ◌∙◌, ◌∷◌, ◌≡◌}
+use Rattle.proof_scanner.proofs.Common.{[], and_parts, ap, append-nil, append_assoc, arith, At, Begins, begins_separation, begins_white, BeginsButForKey, Bool, chained, chosen, drop_stale, either, eqb-true, Err, fails, false, Fault, fetch, fetch_here, fetch_next, follows_plain, HasNoTabs, Held, Holds, if◌then◌else◌, in_flow, inl, inr, is_at_comment_or_end, is_blank, is_break, is_empty, is_far, is_indented_by_spaces, is_one_of, is_overdue, is_renewed, is_separation, IsPlace, IsReadOn, IsStuck, Key, key_waits, List, list_any, map, may_not_stand, MayChoose, not, Ok, on_held, Option, or_right, outside_key, Position, position_after, position_append, Previous, refl, refused, Result, ScannerState, skip_to_next_token, Some, stale, Stands, still, subst, sym, top_key, tried, true, unroll_indent, went, ℕ, ◌++◌, ◌+◌, ◌<◌, ◌==◌, ◌||◌, ◌∙◌, ◌∷◌, ◌≡◌, nat_tests}
 use Rattle.yaml_tokens.specs.declared.problem.Problem.TheVariants as problem
 use Rattle.model_scanner.specs.Keys.{with_keys}
 use Rattle.proof_scanner.proofs.Cut.Pieces.Separations.{separation_append}
@@ -10,7 +10,7 @@ use Rattle.proof_scanner.proofs.Sound.ToToken.{is_in}
 use Rattle.proof_scanner.specs.Failing as defs
 use Rattle.proof_scanner.proofs.Sound.StreamEnds.{same_flow}
 use Rattle.proof_scanner.proofs.Refusals.Faults.{Faults, fault, goes}
-use Rattle.proof_scanner.proofs.Refusals.Places.{entries_alike, Told, Where, placed, behind, where_is}
+use Rattle.proof_scanner.proofs.Refusals.Places.{entries_alike, Said, IsWhy, Where, placed, behind, where_is}
 use Rattle.proof_scanner.proofs.Refusals.Tabs.{TabStands, skip_refused}
 
 -- ---- keys that are near
@@ -24,20 +24,14 @@ unfolding stale drop_stale
 stale_near s = either (in_flow s) (λ i. went (λ o. absurd (cc (o, ap not o, i)))) (λ _. by (list_any (is_overdue s.position) s.keys))
   where
     kept : (o : Option Key) (k : Key) → still s.position o ≡ Some k → is_far k.position s.position ≡ false
-    kept None k e = absurd (cc e)
-    kept (Some x) k e = on (is_far x.position s.position) refl e
-      where
-        on : (b : Bool) → is_far x.position s.position ≡ b → (if b then None else Some x) ≡ Some k → is_far k.position s.position ≡ false
-        on true f e = absurd (cc e)
-        on false f e = let same : x ≡ k = cc e in subst (λ y. is_far y.position s.position ≡ false) same f
+    kept o k e = grind arith
 
     first : (ks : List (Option Key)) (k : Key) → top_key (map (still s.position) ks) ≡ Some k → is_far k.position s.position ≡ false
     first [] k e = absurd (cc e)
     first (o ∷ ks) k e = kept o k e
 
     by : (b : Bool) → Holds HasNear (with_keys s (if b then Err (At problem.KeyWithoutColon s.position) else Ok (map (still s.position) s.keys)))
-    by true = refused
-    by false = went (λ o k e. first s.keys k e)
+    by a = grind (arith, refused, went, first)
 
 pub anything : {A : Type 0} (r : Result A Fault) → Holds (λ x. Unit {0}) r
 anything (Ok x) = went tt
@@ -56,28 +50,17 @@ fetch_near t started = either t.held.started (λ _. next_near t) (λ n. absurd (
 
 -- content begins no comment, and does not end a line
 at_content : (r : List ℕ) → is_empty r ≡ false → begins_separation r ≡ false → is_at_comment_or_end r ≡ true → ⊥
-at_content [] some solid h = cc some
-at_content (c ∷ r) some solid h = by (is_blank c) (is_break c) (c == 35) solid h
-  where
-    by : (blank break mark : Bool) → ((blank || break) || mark) ≡ false → (break || (mark || false)) ≡ true → ⊥
-    by true break mark i k = cc i
-    by false true mark i k = cc i
-    by false false true i k = cc i
-    by false false false i k = cc k
+at_content a b d h = grind arith
 
 -- no key waits behind where it is near
 far_behind : (k p : Position) → is_far k p ≡ false → k.line < p.line → ⊥
 unfolding is_far
-far_behind k p h late = by (nat_lt k.line p.line) refl h
-  where
-    by : (b : Bool) → nat_lt k.line p.line ≡ b → (b || nat_lt (k.index + 1024) p.index) ≡ false → ⊥
-    by true e h = cc h
-    by false e h = grind (arith, nat_tests, e, late)
+far_behind k p h late = grind arith
 
 module _ (text : List ℕ) (t : ScannerState) (s : Stands text t) (near : HasNear t.held) where
   -- a TAB indents the line of what comes next
-  tab_stuck : {f : Fault} → TabStands s.base.site.blocks s.base.site.awaits s.base.site.before s.separation t.rest t.held.position f → Told text f
-  tab_stuck d = subst (λ g. Told text g) (sym d.is_fault) (λ _. by (where_is (outside_key s.base.entries t.held.keys) t.held.position t.rest d.is_some))
+  tab_stuck : {f : Fault} → TabStands s.base.site.blocks s.base.site.awaits s.base.site.before s.separation t.rest t.held.position f → Said text f
+  tab_stuck d = subst (λ g. Said text g) (sym d.is_fault) (λ _. by (where_is (outside_key s.base.entries t.held.keys) t.held.position t.rest d.is_some))
     where
       here : Position
       here = position_after t.held.position d.passed d.rest
@@ -105,18 +88,10 @@ module _ (text : List ℕ) (t : ScannerState) (s : Stands text t) (near : HasNea
           comment (c ∷ p) e fills white tab = by_first (is_blank c) (is_break c) (c == 35) refl (and_parts (is_blank c || is_break c || (c == 35)) (is_separation (c == 35) p d.rest) fills).0 (subst (λ r. begins_white r ≡ false) e white)
             where
               by_first : (blank break mark : Bool) → (c == 35) ≡ mark → (blank || break || mark) ≡ true → (blank || break) ≡ false → is_one_of (s.separation ++ c ∷ p) 35 ≡ true
-              by_first true break mark i h k = absurd (cc k)
-              by_first false true mark i h k = absurd (cc k)
-              by_first false false false i h k = absurd (cc h)
-              by_first false false true i h k = subst (λ x. is_one_of (s.separation ++ x ∷ p) 35 ≡ true) (sym (eqb-true c 35 i)) (hash s.separation p)
+              by_first blank break mark i h k = grind (arith, hash, eqb-true)
 
           by : (b : Previous) → s.base.site.before ≡ b → IsReadOn b s.base.site.position s.separation t.rest → follows_plain b (s.separation ++ d.passed) ≡ false
-          by plain_scalar i white = ap not (comment d.passed d.cut d.is_filled white d.is_indented_by_tab)
-          by quoted_scalar i white = refl
-          by block_scalar i white = refl
-          by flow_collection i white = refl
-          by directive i white = refl
-          by another i white = refl
+          by b i white = grind (arith, nat_tests, comment, eqb-true)
 
       place : (c : Bool) → MayChoose true c (outside_key s.base.entries t.held.keys) t.held.position t.rest → IsPlace text (chosen c [] t.held.keys s.base) (s.separation ++ d.passed) d.rest here
       place c may = record {
@@ -125,25 +100,28 @@ module _ (text : List ℕ) (t : ScannerState) (s : Stands text t) (near : HasNea
         is_here = here_is;
       }
 
-      by : Where (outside_key s.base.entries t.held.keys) t.held.position t.rest → IsStuck text problem.TabInBlockIndentation here
-      by (placed c may) = fails (chosen c [] t.held.keys s.base) (s.separation ++ d.passed) d.rest problem.TabInBlockIndentation here here (place c may) d.goes_on d.is_solid (record { fails = may_not_stand (defs.tab_indents d.is_indented_by_tab); is_first = no_plain })
+      said : IsStuck text problem.TabInBlockIndentation here → IsWhy text problem.TabInBlockIndentation here
+      said h = record { is_stuck = h; stands = λ k. absurd (cc k) }
+
+      by : Where (outside_key s.base.entries t.held.keys) t.held.position t.rest → IsWhy text problem.TabInBlockIndentation here
+      by (placed c may) = said (fails (chosen c [] t.held.keys s.base) (s.separation ++ d.passed) d.rest problem.TabInBlockIndentation here here (place c may) d.goes_on d.is_solid (record { fails = may_not_stand (defs.tab_indents d.is_indented_by_tab); is_first = no_plain }))
       by (behind x e must late) = on (is_empty t.held.flow) refl
         where
-          on : (out : Bool) → is_empty t.held.flow ≡ out → IsStuck text problem.TabInBlockIndentation here
+          on : (out : Bool) → is_empty t.held.flow ≡ out → IsWhy text problem.TabInBlockIndentation here
           on true out =
               let none : s.base.entries ≡ [] = no_entries t.held.key_allowed (is_renewed s.base.site.before s.separation) t.held.flow t.held.keys s.base.entries out s.are_entries in
               absurd (far_behind x.position t.held.position (near out x (ap (λ es. outside_key es t.held.keys) (sym none) ∙ e)) late)
           on false i =
               let later = (not_before_after t.held.position d.passed d.rest).0 in
               let inside : is_empty s.base.entries ≡ false = sym (same_flow t.held.key_allowed (is_renewed s.base.site.before s.separation) t.held.flow t.held.keys s.base.entries s.are_entries) ∙ i in
-              key_waits (chosen false [] t.held.keys s.base) (s.separation ++ d.passed) d.rest problem.TabInBlockIndentation x.position here here
+              said (key_waits (chosen false [] t.held.keys s.base) (s.separation ++ d.passed) d.rest problem.TabInBlockIndentation x.position here here
               (subst (λ r. BeginsButForKey text r x.position (chosen false [] t.held.keys s.base)) (ap (λ r. s.separation ++ r) d.cut ∙ sym (append_assoc s.separation d.passed d.rest)) (s.carries [] x e must inside d.is_some))
-              (ap not (entries_alike [] t.held.keys s.base.entries ∙ inside)) filled here_is (omega (arith, later, late)) d.goes_on d.is_solid (record { fails = may_not_stand (defs.tab_indents d.is_indented_by_tab); is_first = no_plain })
+              (ap not (entries_alike [] t.held.keys s.base.entries ∙ inside)) filled here_is (omega (arith, later, late)) d.goes_on d.is_solid (record { fails = may_not_stand (defs.tab_indents d.is_indented_by_tab); is_first = no_plain }))
 
-  pub passing_told : Faults (Told text) (skip_to_next_token t)
+  pub passing_told : Faults (Said text) (skip_to_next_token t)
   passing_told =
       by (skip_refused s.base.site.before s.base.site.blocks s.base.site.awaits s.separation t (least_is s.base.site.blocks s.base.site.awaits t.held s.blocks_are s.awaits_is s.are_levels) (λ h. is_in text t s h))
     where
-      by : {r : Result ScannerState Fault} → Faults (TabStands s.base.site.blocks s.base.site.awaits s.base.site.before s.separation t.rest t.held.position) r → Faults (Told text) r
+      by : {r : Result ScannerState Fault} → Faults (TabStands s.base.site.blocks s.base.site.awaits s.base.site.before s.separation t.rest t.held.position) r → Faults (Said text) r
       by (fault d) = fault (tab_stuck d)
       by goes = goes

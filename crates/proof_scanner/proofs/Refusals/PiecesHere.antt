@@ -1,5 +1,5 @@
 -- What a row's piece at a place is, by the text there; and texts with which no piece begins.
-use Rattle.proof_scanner.proofs.Common.{[], Account, act_of, alias_name, all_of, and_parts, ap, arith, block_entry, Bool, context_of, dash, Directive, directive_line, directive_token, Entry, false, flow_mapping_start, flow_sequence_start, goes_on_with_name, inl, inr, is_adjacent, is_anchor_name, is_at_gap, is_blank, is_blank_or_end, is_break, is_empty, is_flow, is_in_flow, is_marker, is_name, is_nul, IsPiece, kind_at, length, level_of, LikeEntries, List, mapping_opening, nat_lt, nat_tests, None, not, not_empty, Position, refl, reserved, seen, sequence_opening, shown_position, subst, suc, sym, tag_declaration, true, version, Whole, ℕ, ◌++◌, ◌==◌, ◌∙◌, ◌∷◌, ◌≡◌, ◌≤◌, ◌⊎◌}
+use Rattle.proof_scanner.proofs.Common.{[], Account, act_of, alias_name, all_of, ap, arith, block_entry, Bool, context_of, dash, Directive, directive_line, directive_token, Entry, false, flow_mapping_start, flow_sequence_start, goes_on_with_name, inl, inr, is_adjacent, is_at_gap, is_blank, is_blank_or_end, is_break, is_empty, is_flow, is_in_flow, is_marker, is_name, is_nul, IsPiece, kind_at, length, level_of, LikeEntries, List, mapping_opening, nat_lt, nat_tests, None, not, not_empty, Position, refl, seen, sequence_opening, shown_position, subst, suc, sym, true, Whole, ℕ, ◌++◌, ◌==◌, ◌∙◌, ◌∷◌, ◌≡◌, ◌≤◌, ◌⊎◌, eqb-true}
 use Rattle.defs_token.specs.Account as pieces
 use Rattle.proof_row.specs.Ends.{anchor_name}
 use Rattle.proof_row.proofs.Written as written
@@ -11,8 +11,7 @@ use Rattle.std.proofs.lemmas.List.{length-map}
 
 -- entries that are alike are as many
 pub many_alike : (ds es : List Entry) → LikeEntries ds es → length ds ≡ length es
-many_alike [] [] h = refl
-many_alike [] (e ∷ es) h = absurd h
+many_alike [] a h = grind arith
 many_alike (d ∷ ds) [] h = absurd h
 many_alike (d ∷ ds) (e ∷ es) h = ap suc (many_alike ds es h.1)
 
@@ -59,13 +58,10 @@ module _ (a : Account) (separation rest : List ℕ) (here : Position) (s : StepA
       cc (other, ap (λ n. n == 0) zero)
     where
       is_line : (d : Directive) → is_marker (act_of (directive_token d)) ≡ true
-      is_line (version major minor) = refl
-      is_line (tag_declaration handle prefix) = refl
-      is_line reserved = refl
+      is_line a = grind arith
 
   name_goes_on : (name more : List ℕ) → is_name name ≡ true → name ++ next ≡ more → goes_on_with_name more ≡ true
-  name_goes_on [] more h e = absurd (cc h)
-  name_goes_on (c ∷ r) more h e = sym (ap goes_on_with_name e) ∙ (and_parts (is_anchor_name c) (all_of is_anchor_name r) h).0
+  name_goes_on a more h e = grind (arith, all_of)
 
   pub rest_of : (c : ℕ) (name more : List ℕ) → s.step.piece ≡ c ∷ name → rest ≡ c ∷ more → name ++ next ≡ more
   rest_of c name more p e = let both : c ∷ (name ++ next) ≡ c ∷ more = ap (λ z. z ++ next) (sym p) ∙ (s.text_is ∙ e) in cc both
@@ -79,17 +75,15 @@ module _ (a : Account) (separation rest : List ℕ) (here : Position) (s : StepA
       let named : Whole anchor_name (context_of acct) s.step.piece next s.step.shown = whole_by 38 more e in
       cc (lacks, name_goes_on named.0 more named.1.1 (rest_of 38 named.0 more named.1.0 e))
 
-  dash_kind : (fl adjacent : Bool) (column : ℕ) (more : List ℕ) → is_at_gap more ≡ true → kind_at fl adjacent column (45 ∷ more) ≡ dash
+  pub dash_kind : (fl adjacent : Bool) (column : ℕ) (more : List ℕ) → is_at_gap more ≡ true → kind_at fl adjacent column (45 ∷ more) ≡ dash
   unfolding is_blank_or_end is_blank is_break is_nul is_flow
   dash_kind fl adjacent column more gap = rw gap refl
 
   many_none : {A : Type 0} (xs : List A) → not (is_empty xs) ≡ false → length xs ≡ 0
-  many_none [] h = refl
-  many_none (x ∷ xs) h = absurd (cc h)
+  many_none a h = grind arith
 
   many_some : (es : List Entry) → not (is_empty es) ≡ true → length es ≡ 0 → ⊥
-  many_some [] h n = cc h
-  many_some (e ∷ es) h n = omega (arith, n)
+  many_some a h n = grind arith
 
   pub no_dash : (more : List ℕ) → rest ≡ 45 ∷ more → is_at_gap more ≡ true → is_in_flow a.entries ≡ true → ⊥
   no_dash more e gap inside =
@@ -111,5 +105,4 @@ module _ (a : Account) (separation rest : List ℕ) (here : Position) (s : StepA
       by (subst (λ t. IsPiece acct s.step.piece next None spot t) own.1 is_piece)
     where
       by : IsPiece acct s.step.piece next None spot flow_mapping_start → ⊥
-      by (inl opens) = no_room many opens.0.1
-      by (inr start) = not_empty s.step.piece s.is_written.1.0 start.0
+      by a = grind (arith, nat_tests, no_room, many, not_empty, eqb-true)

@@ -1,7 +1,7 @@
 -- Where a piece may not stand at its column, or before what follows it, no row of the text goes on.
-use Rattle.proof_scanner.proofs.Common.{[], Account, act_of, after, and_parts, ap, are_empty, arith, begins_document_at, begins_entry, begins_separation, begins_with, begins_with_alpha, block_entry, block_may_end, block_position, block_read, BlockRead, blocks_at, BlockStyle, Bool, colon_may_precede, content_position, dash_may_precede, document_end, double_quoted, Entry, eqb-true, false, folded, gives_block_scalar, gives_marker, gives_node, GoesOn, has, has_no_nul, if◌then◌else◌, innermost, innermost_column, is_alpha, is_at_end, is_at_gap, is_at_line_end, is_blank, is_blank_or_end, is_blanks, is_break, is_decimal_digit, is_deep_enough, is_document_marker, is_empty, is_in_flow, is_letter, is_marker, is_nul, is_one_of, is_separation, is_white, IsPiece, IsQuoted, IsWritten, leading, leading_spaces, least_column, least_for, level_of, line_is_done, lines_may_end, List, literal, map, may_precede, may_stand, nat_le, nat_lt, nat_tests, None, not, Option, or_left, or_true, Position, position_after, quoted_may_end, read_may_end, refl, same_flow, same_piece, scalar, seen, shown_position, single_quoted, Site, site_at, site_at_place, site_in, Some, split, Step, sym, tab, Tok, true, value, ℕ, ◌&&◌, ◌++◌, ◌==◌, ◌||◌, ◌∙◌, ◌∷◌, ◌≡◌, ◌≤◌}
+use Rattle.proof_scanner.proofs.Common.{[], Account, act_of, after, and_parts, ap, are_empty, arith, begins_document_at, begins_entry, begins_separation, begins_with, begins_with_alpha, block_entry, block_may_end, block_position, block_read, BlockRead, blocks_at, BlockStyle, Bool, colon_may_precede, content_position, dash_may_precede, document_end, double_quoted, Entry, eqb-true, false, folded, gives_block_scalar, gives_marker, gives_node, GoesOn, has, has_no_nul, if◌then◌else◌, innermost, innermost_column, is_alpha, is_at_end, is_at_gap, is_at_line_end, is_blank, is_blank_or_end, is_blanks, is_break, is_decimal_digit, is_deep_enough, is_document_marker, is_empty, is_in_flow, is_letter, is_marker, is_nul, is_one_of, is_separation, is_white, IsPiece, IsQuoted, IsWritten, leading, leading_spaces, least_column, least_for, level_of, line_is_done, lines_may_end, List, literal, map, may_precede, may_stand, nat_le, nat_lt, nat_tests, None, not, Option, or_left, Position, position_after, quoted_may_end, read_may_end, refl, same_flow, same_piece, scalar, seen, shown_position, single_quoted, Site, site_at, site_at_place, site_in, Some, split, Step, sym, tab, Tok, true, value, ℕ, ◌&&◌, ◌++◌, ◌==◌, ◌||◌, ◌∙◌, ◌∷◌, ◌≡◌, ◌≤◌}
 use Rattle.defs_token.specs.Token as tokens
-use Rattle.proof_scanner.proofs.Refusals.KindsOfPieces.{begins_document, BeginsLine, marker_begins}
+use Rattle.proof_scanner.proofs.Refusals.KindsOfPieces.{begins_document, marker_begins}
 use Rattle.proof_scanner.proofs.Refusals.AfterQuoted.{not_done}
 use Rattle.proof_scanner.proofs.Sound.QuotedEnds.{blanks_alone, after_blanks}
 use Rattle.proof_row.proofs.Written.{At}
@@ -10,37 +10,21 @@ use Rattle.proof_row.proofs.Runs.{neither}
 use Rattle.proof_scanner.proofs.Sound.PlainKeeps.{same_innermost}
 
 pub refused : (x : Option Account) (b : Bool) (y : Account) → b ≡ false → (if b then x else None) ≡ Some y → ⊥
-refused x true y e k = absurd (cc e)
-refused x false y e k = cc k
+refused x a y e k = grind arith
 
 pub second_fails : (x y z w : Bool) → y ≡ false → (x && y && z && w) ≡ false
-second_fails true y z w e = ap (λ b. b && z && w) e
-second_fails false y z w e = refl
+second_fails a y z w e = grind arith
 
 pub and_last : (x y : Bool) → y ≡ false → (x && y) ≡ false
-and_last true y e = e
-and_last false y e = refl
+and_last a y e = grind arith
+
+pub among : (c : ℕ) (l : List ℕ) → is_one_of l c ≡ has c l
+among c [] = refl
+among c (d ∷ l) = grind (arith, nat_tests, among c l)
 
 leading_blanks : (s : List ℕ) (d : ℕ) (r : List ℕ) → is_blanks s ≡ true → is_blank d ≡ false → leading is_blank (s ++ d ∷ r) ≡ s
 leading_blanks [] d r b f = rw f refl
-leading_blanks (c ∷ s) d r b f = let p = and_parts (is_blank c) (is_blanks s) b in rw p.0 (ap (λ l. c ∷ l) (leading_blanks s d r p.1 f))
-
-tab_among : (l : List ℕ) → has 9 l ≡ true → is_one_of l tab ≡ true
-tab_among [] h = absurd (cc h)
-tab_among (c ∷ l) h = by (c == 9) refl h (λ k. tab_among l k)
-  where
-    by : (b : Bool) → (c == 9) ≡ b → (b || has 9 l) ≡ true → (has 9 l ≡ true → is_one_of l tab ≡ true) → ((tab == c) || is_one_of l tab) ≡ true
-    by true e h later = let same : c ≡ 9 = eqb-true c 9 e in rw same refl
-    by false e h later = ap (λ x. (tab == c) || x) (later h) ∙ or_true (tab == c)
-
-space_among : (l : List ℕ) → has 32 l ≡ false → is_one_of l 32 ≡ false
-space_among [] h = refl
-space_among (c ∷ l) h = by (32 == c) (c == 32) refl refl h (λ k. space_among l k)
-  where
-    by : (x y : Bool) → (32 == c) ≡ x → (c == 32) ≡ y → (y || has 32 l) ≡ false → (has 32 l ≡ false → is_one_of l 32 ≡ false) → (x || is_one_of l 32) ≡ false
-    by x true e f g later = absurd (cc g)
-    by true false e f g later = absurd (grind (arith, nat_tests, e, f))
-    by false false e f g later = later g
+leading_blanks (c ∷ s) d r b f = grind (arith, leading_blanks s d r)
 
 -- what may follow a piece at an account
 abbrev may_go : Account → (separation piece : List ℕ) → Tok → (next : List ℕ) → Bool
@@ -58,12 +42,11 @@ no_colon_before more passed (d ∷ r) tab_there on lacks letter =
     ap (λ y. not (y && not (is_one_of (leading is_blank more) 32) && begins_with_alpha (after is_blank more))) tab_there ∙
     (ap (λ m. not (not (is_one_of (leading is_blank m) 32) && begins_with_alpha (after is_blank m))) on.is_text ∙
     (ap (λ l. not (not (is_one_of l 32) && begins_with_alpha (after is_blank (passed ++ d ∷ r)))) (leading_blanks passed d r blanks none) ∙
-    (ap (λ x. not (not (is_one_of passed 32) && begins_with_alpha x)) left ∙ ap (λ y. not (not y && begins_with_alpha (d ∷ r))) (space_among passed lacks) ∙ ap not letter)))
+    (ap (λ x. not (not (is_one_of passed 32) && begins_with_alpha x)) left ∙ ap (λ y. not (not y && begins_with_alpha (d ∷ r))) (among 32 passed ∙ lacks) ∙ ap not letter)))
 
 pub tab_gap : (more : List ℕ) → begins_with 9 more ≡ true → is_at_gap more ≡ true
 unfolding is_blank_or_end is_blank is_break is_nul
-tab_gap [] h = refl
-tab_gap (c ∷ r) h = let same : c ≡ 9 = eqb-true c 9 h in rw same refl
+tab_gap a h = grind arith
 
 module _ (a : Account) (separation rest : List ℕ) (here : Position) (s : StepAt a separation rest here) where
   abbrev next : List ℕ
@@ -77,12 +60,7 @@ module _ (a : Account) (separation rest : List ℕ) (here : Position) (s : StepA
   is_filled = ap (λ f. is_separation false f rest) (sym s.separation_is) ∙ (ap (λ r. is_separation false s.step.separation r) (sym s.text_is) ∙ s.is_written.0)
 
   same_go : (piece more : List ℕ) (t : Tok) → (piece ≡ s.step.piece) × (t ≡ s.step.shown) × (more ≡ next) → may_go a separation piece t more ≡ may_go s.account s.step.separation s.step.piece s.step.shown next
-  same_go piece more t is =
-      ap (λ fl. may_precede fl (site_at fl a.site separation piece t more).blocks t piece more) (same_flow a.entries s.account.entries s.is_like.2) ∙
-      (ap (λ x. may_precede (is_in_flow s.account.entries) (site_at (is_in_flow s.account.entries) x separation piece t more).blocks t piece more) s.is_like.0 ∙
-      (ap (λ f. may_go s.account f piece t more) (sym s.separation_is) ∙
-      (ap (λ p. may_go s.account s.step.separation p t more) is.0 ∙
-      (ap (λ t. may_go s.account s.step.separation s.step.piece t more) is.1 ∙ ap (λ n. may_go s.account s.step.separation s.step.piece s.step.shown n) is.2))))
+  same_go piece more t is = grind (arith, separation, same_flow)
 
   -- the row's piece is the one of this token that begins here
   pub same_step : (piece more : List ℕ) (t : Tok) → rest ≡ piece ++ more → not (is_empty piece) ≡ true → IsPiece (seen a (At a (own piece t) more) separation) piece more None (shown_position (At a (own piece t) more) piece t more) t
@@ -99,8 +77,7 @@ module _ (a : Account) (separation rest : List ℕ) (here : Position) (s : StepA
       refused _ (may_stand (is_in_flow s.account.entries) s.account.site (At s.account s.step next) s.step.separation s.step.piece s.step.shown next) s.past (and_last _ _ stays) s.is_past
 
   flow_seen : (es : List Entry) → is_in_flow es ≡ false → not (is_empty (map level_of es)) ≡ false
-  flow_seen [] h = refl
-  flow_seen (e ∷ es) h = h
+  flow_seen a h = grind arith
 
   -- ---- columns
 
@@ -109,33 +86,22 @@ module _ (a : Account) (separation rest : List ℕ) (here : Position) (s : StepA
   there = At s.account s.step next
 
   both_true : (x y : Bool) → x ≡ true → y ≡ true → (x && y) ≡ false → ⊥
-  both_true true true e f h = cc h
-  both_true true false e f h = cc f
-  both_true false y e f h = cc e
+  both_true a y e f h = grind arith
 
   no_line : begins_document_at here rest ≡ false → is_marker (act_of s.step.shown) ≡ false
   no_line none = by (is_marker (act_of s.step.shown)) refl
     where
       alike : (r : List ℕ) → begins_document r ≡ (begins_with 37 r || is_document_marker r)
-      alike [] = refl
-      alike (c ∷ r) = refl
+      alike a = grind arith
 
       by : (b : Bool) → is_marker (act_of s.step.shown) ≡ b → b ≡ false
-      by false e = refl
-      by true e =
-          let line : BeginsLine there.position.col (s.step.piece ++ next) = marker_begins (seen s.account there s.step.separation) s.step.piece next None (shown_position there s.step.piece s.step.shown next) s.step.shown s.is_written.1.1 e in
-          let zero : (here.col == 0) ≡ true = ap (λ p. p.col == 0) (sym s.position_is) ∙ ap (λ n. n == 0) line.column in
-          let begins : (begins_with 37 rest || is_document_marker rest) ≡ true = sym (alike rest) ∙ (ap begins_document (sym s.text_is) ∙ line.text_is) in
-          absurd (both_true (here.col == 0) (begins_with 37 rest || is_document_marker rest) zero begins none)
+      by b e = grind (arith, marker_begins, alike, both_true)
 
   least_more : (bs : List ℕ) (awaits : Bool) → least_column bs awaits ≤ least_column bs true
-  least_more [] awaits = omega arith
-  least_more (n ∷ bs) true = omega arith
-  least_more (n ∷ bs) false = omega arith
+  least_more a b = grind arith
 
   least_at_most : (t : Tok) (x : Site) → least_column x.blocks x.awaits ≤ least_for t x
-  least_at_most (scalar tokens.plain text) x = least_more x.blocks x.awaits
-  least_at_most t x = omega arith
+  least_at_most t x = grind (arith, least_more)
 
   too_shallow : (t : Tok) (x : Site) → is_marker (act_of t) ≡ false → nat_le (least_column x.blocks x.awaits) x.position.col ≡ false → (is_marker (act_of t) || nat_le (least_for t x) x.position.col) ≡ false
   too_shallow t x e f = ap (λ b. b || nat_le (least_for t x) x.position.col) e ∙ (let up = least_at_most t x in grind (arith, nat_tests, up, f))
@@ -175,7 +141,7 @@ module _ (a : Account) (separation rest : List ℕ) (here : Position) (s : StepA
       let left : after is_blank (passed ++ d ∷ r) ≡ d ∷ r = after_blanks passed (d ∷ r) blanks ∙ rw none refl in
       ap dash_may_precede on.is_text ∙
       (ap (λ l. not (is_one_of l tab && begins_entry (after is_blank (passed ++ d ∷ r)))) (leading_blanks passed d r blanks none) ∙
-      (ap (λ x. not (is_one_of passed tab && begins_entry x)) left ∙ rw (tab_among passed tab_there, begins) refl))
+      (ap (λ x. not (is_one_of passed tab && begins_entry x)) left ∙ rw (among 9 passed ∙ tab_there, begins) refl))
 
   pub no_tabbed_dash : (more passed content : List ℕ) → is_in_flow a.entries ≡ false → rest ≡ 45 ∷ more → is_at_gap more ≡ true → GoesOn more passed content → has 9 passed ≡ true → begins_entry content ≡ true → ⊥
   no_tabbed_dash more passed content out e gap on tab_there begins = no_step (45 ∷ []) more block_entry e refl (refl, gap, flow_seen a.entries out) (no_tab_before more passed content on tab_there begins)
@@ -189,8 +155,7 @@ module _ (a : Account) (separation rest : List ℕ) (here : Position) (s : StepA
   -- ---- the end of a document
 
   closed : (es : List Entry) (column : ℕ) (bs : List ℕ) → (if not (is_empty (map level_of es)) then true else not (not (is_empty (map (λ n. Some n) (blocks_at (is_in_flow es) gives_marker column bs))))) ≡ true
-  closed [] column bs = refl
-  closed (e ∷ es) column bs = refl
+  closed a column bs = grind arith
 
   holds_more : (more passed content : List ℕ) → GoesOn more passed content → is_at_line_end content ≡ false → begins_separation content ≡ false → line_is_done more ≡ false
   holds_more more passed [] on ends solid = absurd (cc ends)
@@ -216,8 +181,7 @@ module _ (a : Account) (separation rest : List ℕ) (here : Position) (s : StepA
   -- ---- block scalars
 
   some_piece : (piece header : List ℕ) (lines : List (List ℕ)) → (split piece).complete ≡ header ∷ lines → not (is_empty piece) ≡ true
-  some_piece [] header lines e = absurd (cc e)
-  some_piece (c ∷ r) header lines e = refl
+  some_piece a header b e = grind arith
 
   module _ (piece header more : List ℕ) (lines : List (List ℕ)) (b : BlockRead) (out : is_in_flow a.entries ≡ false) (cut : rest ≡ piece ++ more) (is : block_read (innermost (site_at_place a here).blocks) piece more ≡ Some b) (further : is_at_end more ≡ false)
       (lines_are : (split piece).complete ≡ header ∷ lines) (empty : are_empty b.column lines ≡ true) (deep : nat_le (least_column (site_at_place a here).blocks true) (leading_spaces more) ≡ true) (left : nat_lt (leading_spaces more) b.column ≡ true) where

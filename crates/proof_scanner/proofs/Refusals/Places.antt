@@ -1,9 +1,9 @@
 -- Where a piece begins, a row of the text may begin with all pieces before it; or a node which must be an implicit key waits there, and its line has ended.
-use Rattle.proof_scanner.proofs.Common.{[], Account, ap, AreEntries, arith, Arrives, At, begins_document_at, Bool, chosen, columns, entries_by, Entry, Err, fails, FailsFirst, false, Fault, FlowLevel, followed_first, gives_node, has_open_level, HasRow, if◌then◌else◌, in_flow, is_empty, is_full, is_in_flow, is_taken, is_told, IsFollowed, IsLookedAt, IsNear, IsPlace, IsStuck, Key, key_waits, least_column, least_here, length, List, MayChoose, nat_le, nat_lt, nat_tests, no_piece, no_piece_first, None, NoPiece, not, Ok, Option, or_left, or_right, OutOfMemory, outside_key, Position, Problem, refl, Row, ScannerState, site_at_place, site_in, Some, subst, suc, sym, true, ℕ, ◌-◌, ◌<◌, ◌||◌, ◌∙◌, ◌∷◌, ◌≡◌}
+use Rattle.proof_scanner.proofs.Common.{[], Account, ap, AreEntries, arith, Arrives, At, begins_document_at, Bool, chosen, columns, entries_by, Entry, Err, fails, FailsFirst, false, Fault, FlowLevel, followed_first, gives_node, has_open_level, HasRow, if◌then◌else◌, in_flow, is_empty, is_full, is_in_flow, is_taken, is_told, IsFollowed, IsLookedAt, IsNear, IsPlace, IsStuck, Key, key_waits, least_here, length, List, MayChoose, nat_le, nat_lt, nat_tests, no_piece, no_piece_first, None, NoPiece, not, Ok, Option, or_left, or_right, OutOfMemory, outside_key, Position, Problem, refl, Row, ScannerState, site_at_place, site_in, Some, subst, sym, true, ℕ, ◌-◌, ◌<◌, ◌||◌, ◌∙◌, ◌≡◌, is_shown, IsThere, eqb-true}
 use Rattle.proof_scanner.proofs.Sound.StreamEnds.{same_flow}
 use Rattle.proof_scanner.proofs.Refusals.Faults.{Faults, fault, goes}
 use Rattle.proof_scanner.proofs.Cut.Nodes.{IsDeep}
-use Rattle.proof_scanner.proofs.Sound.QuotedKeeps.{least_is_less}
+use Rattle.proof_scanner.proofs.Cut.Faults.Shown as shown
 use Rattle.proof_scanner.specs.Failing.{followed}
 use Rattle.proof_scanner.proofs.Sound.Arrivals.{many_around}
 
@@ -35,26 +35,29 @@ abbrev pub Told : (text : List ℕ) → Fault → Type 0
 Told text OutOfMemory = ⊥
 Told text (At why at) = Asked text why → IsStuck text why at
 
+-- The text is stuck by it; and if it is one that stands in the text by itself, it stands there.
+pub record IsWhy (text : List ℕ) (why : Problem) (at : Position) : Type 0 where
+  pub is_stuck : IsStuck text why at
+  pub stands : is_shown (At why at) ≡ true → IsThere text (At why at)
+
+abbrev pub Said : (text : List ℕ) → Fault → Type 0
+Said text OutOfMemory = ⊥
+Said text (At why at) = Asked text why → IsWhy text why at
+
 -- a check whose fault is of a kind that is not told: where it fails the text has no row
-pub rowless_told : (text : List ℕ) {A : Type 0} (b : Bool) (why : Problem) (p : Position) (x : A) → is_told why ≡ false → (b ≡ true → IsRowless text) → Faults (Told text) (if b then Err (At why p) else Ok x)
+pub rowless_told : (text : List ℕ) {A : Type 0} (b : Bool) (why : Problem) (p : Position) (x : A) → is_told why ≡ false → (b ≡ true → IsRowless text) → Faults (Said text) (if b then Err (At why p) else Ok x)
 rowless_told text true why p x e rowless = fault {f = At why p} (λ asked. absurd (by asked))
   where
     by : Asked text why → ⊥
-    by (kind h) = cc (h, e)
-    by (with_row r h) = rowless refl r h
+    by a = grind (arith, nat_tests, eqb-true)
 rowless_told text false why p x e rowless = goes
 
 -- as many flow levels as entries
 pub many_levels : (allowed again : Bool) (fs : List FlowLevel) (ks : List (Option Key)) (es : List Entry) → AreEntries allowed again fs ks es → length fs ≡ length es
-many_levels allowed again [] ks [] h = refl
-many_levels allowed again [] ks (e ∷ es) h = absurd h
-many_levels allowed again (f ∷ fs) [] es h = absurd h
-many_levels allowed again (f ∷ fs) (k ∷ ks) [] h = absurd h
-many_levels allowed again (f ∷ fs) (k ∷ ks) (e ∷ es) h = ap suc (many_around fs ks es h.2)
+many_levels allowed again a ks es h = grind (arith, many_around)
 
 pub entries_alike : (cs : List Bool) (ks : List (Option Key)) (es : List Entry) → is_empty (entries_by cs ks es) ≡ is_empty es
-entries_alike cs ks [] = refl
-entries_alike cs ks (e ∷ es) = refl
+entries_alike cs ks a = grind arith
 
 module _ (text : List ℕ) (t : ScannerState) (a : Arrives text t) (some : is_empty t.rest ≡ false) where
   -- the account after the last piece by a choice of keys
@@ -73,18 +76,22 @@ module _ (text : List ℕ) (t : ScannerState) (a : Arrives text t) (some : is_em
   IsAllowed c = is_empty t.held.flow ≡ true → MayChoose true c (outside_key a.base.entries t.held.keys) t.held.position t.rest
 
   -- What fails here, whatever is chosen, is what the text is stuck by.
-  pub stuck : (cs : List Bool) (why : Problem) (at : Position) → ((c : Bool) → IsAllowed c → FailsFirst (account_by c cs) a.separation t.held.position t.rest why at) → IsStuck text why at
+  pub stuck : (cs : List Bool) (why : Problem) (at : Position) → ((c : Bool) → IsAllowed c → FailsFirst (account_by c cs) a.separation t.held.position t.rest why at) → IsWhy text why at
   stuck cs why at h = by (where_is (outside_key a.base.entries t.held.keys) t.held.position t.rest some)
     where
-      by : Where (outside_key a.base.entries t.held.keys) t.held.position t.rest → IsStuck text why at
-      by (placed c may) = fails (account_by c cs) a.separation t.rest why t.held.position at (place c cs may) some a.is_solid (h c (λ _. may))
+      by : Where (outside_key a.base.entries t.held.keys) t.held.position t.rest → IsWhy text why at
+      by (placed c may) = record { is_stuck = fails (account_by c cs) a.separation t.rest why t.held.position at (place c cs may) some a.is_solid (h c (λ _. may)); stands = shown.stands text t a c cs why at (h c (λ _. may)).fails }
       by (behind x e must late) = on (is_empty t.held.flow) refl
         where
-          on : (out : Bool) → is_empty t.held.flow ≡ out → IsStuck text why at
+          on : (out : Bool) → is_empty t.held.flow ≡ out → IsWhy text why at
           on true o = let near : IsNear (Some x) t.held.position = subst (λ k. IsNear k t.held.position) e (a.is_near o) in absurd (omega (arith, near.0, late))
           on false i =
               let entries : is_empty a.base.entries ≡ false = sym (same_flow t.held.key_allowed _ t.held.flow t.held.keys a.base.entries a.are_entries) ∙ i in
-              key_waits (account_by false cs) a.separation t.rest why x.position t.held.position at (a.carries cs x e must entries some) (in_flow_is false cs ∙ ap not i) a.is_filled a.position_is late some a.is_solid (h false (λ o. absurd (cc (o, i))))
+              let first = h false (λ o. absurd (cc (o, i))) in
+              record {
+                is_stuck = key_waits (account_by false cs) a.separation t.rest why x.position t.held.position at (a.carries cs x e must entries some) (in_flow_is false cs ∙ ap not i) a.is_filled a.position_is late some a.is_solid first;
+                stands = shown.stands text t a false cs why at first.fails;
+              }
 
 -- what comes lies deep enough, unless it is a line for the document
 abbrev pub LiesDeep : ScannerState → Type 0
@@ -100,9 +107,7 @@ module _ (text : List ℕ) (t : ScannerState) (a : Arrives text t) (some : is_em
 
   -- the least column there
   pub least_by : (c : Bool) (cs : List Bool) → least_here (account_by text t a some c cs) t.held.position ≡ t.held.indent - 1
-  least_by c cs =
-      ap (λ bs. least_column bs (site_at_place (account_by text t a some c cs) t.held.position).awaits) (blocks_by c cs) ∙
-      (ap (λ w. least_column (columns t.held.indent t.held.indents) w) (awaits_by c cs) ∙ least_is_less t.held.indent t.held.indents a.are_levels)
+  least_by c cs = grind arith
 
 module _ (text : List ℕ) (t : ScannerState) (a : Arrives text t) (some : is_empty t.rest ≡ false) (deep : LiesDeep t) where
   -- a piece is looked at here, whatever is chosen
@@ -113,11 +118,10 @@ module _ (text : List ℕ) (t : ScannerState) (a : Arrives text t) (some : is_em
       low d = let l = least_by text t a some c cs in grind (arith, nat_tests, l, d)
 
       by : (b : Bool) → begins_document_at t.held.position t.rest ≡ b → (not (is_in_flow (account_by text t a some c cs).entries) || b || nat_le (least_here (account_by text t a some c cs) t.held.position) t.held.position.col) ≡ true
-      by true e = or_left (not (is_in_flow (account_by text t a some c cs).entries) || true) (nat_le (least_here (account_by text t a some c cs) t.held.position) t.held.position.col) (or_right (not (is_in_flow (account_by text t a some c cs).entries)) true refl)
-      by false e = or_right (not (is_in_flow (account_by text t a some c cs).entries) || false) (nat_le (least_here (account_by text t a some c cs) t.held.position) t.held.position.col) (low (deep e))
+      by d e = grind (arith, nat_tests, or_left, text, t, some, least_here, or_right, low, deep, eqb-true)
 
   -- where no piece begins the text is stuck
-  pub none_begins : (why : Problem) (at : Position) (n : NoPiece (in_flow t.held) t.held.position t.rest why at) → no_piece_first (in_flow t.held) (t.held.indent - 1) t.held.position t.rest why at n → IsStuck text why at
+  pub none_begins : (why : Problem) (at : Position) (n : NoPiece (in_flow t.held) t.held.position t.rest why at) → no_piece_first (in_flow t.held) (t.held.indent - 1) t.held.position t.rest why at n → IsWhy text why at
   none_begins why at n first =
       stuck text t a some [] why at (λ c may.
       let P : Bool → ℕ → Type 0 = λ b k. (x : NoPiece b t.held.position t.rest why at) × no_piece_first b k t.held.position t.rest why at x in
@@ -125,12 +129,12 @@ module _ (text : List ℕ) (t : ScannerState) (a : Arrives text t) (some : is_em
       subst (λ k. P (is_in_flow (account_by text t a some c []).entries) k) (sym (least_by text t a some c [])) (subst (λ b. P b (t.held.indent - 1)) (sym (in_flow_is text t a some c [])) (n, first)) in
       record { fails = no_piece moved.0; is_first = (looked_at c [], moved.1) })
 
-  pub none_here : (why : Problem) (n : NoPiece (in_flow t.held) t.held.position t.rest why t.held.position) → no_piece_first (in_flow t.held) (t.held.indent - 1) t.held.position t.rest why t.held.position n → IsStuck text why t.held.position
+  pub none_here : (why : Problem) (n : NoPiece (in_flow t.held) t.held.position t.rest why t.held.position) → no_piece_first (in_flow t.held) (t.held.indent - 1) t.held.position t.rest why t.held.position n → IsWhy text why t.held.position
   none_here why n first = none_begins why t.held.position n first
 
   -- what follows the piece that begins here is what the text is stuck by
   pub followed_stuck : (why : Problem) (at : Position) (x : IsFollowed (in_flow t.held) t.held.position t.rest why at)
-      → ((c : Bool) → IsAllowed text t a some c → followed_first (in_flow t.held) (t.held.indent - 1) (is_taken (account_by text t a some c []) a.separation) (is_full (account_by text t a some c [])) t.held.position t.rest why at x) → IsStuck text why at
+      → ((c : Bool) → IsAllowed text t a some c → followed_first (in_flow t.held) (t.held.indent - 1) (is_taken (account_by text t a some c []) a.separation) (is_full (account_by text t a some c [])) t.held.position t.rest why at x) → IsWhy text why at
   followed_stuck why at x first =
       stuck text t a some [] why at (λ c may.
       let b : Account = account_by text t a some c [] in

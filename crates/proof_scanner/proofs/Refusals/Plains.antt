@@ -1,5 +1,5 @@
 -- Faults of plain scalars.
-use Rattle.proof_scanner.proofs.Common.{[], after_plain, allow_key, ap, arith, Arrives, before_by, before_past, begins_left, Bool, collection_of, columns, comes_plain, Context, context, false, Fault, fetch_plain_scalar, goes_on, goes_over, HasNoPlainFault, HasTab, in_flow, innermost, is_adjacent, is_empty, is_in_flow, IsPlainFault, IsPlainRefusal, IsStuck, least_column, lexed, List, nat_le, nat_lt, nat_tests, no_plain, Ok, on_held, Option, plain_first, Position, position_after, Problem, push, refl, refused_as, ScannerState, scans_end, site_at_place, Style, subst, sym, Tok, true, unroll_non_block_indents, without_open, ℕ, ◌++◌, ◌∙◌, ◌∷◌, ◌≡◌}
+use Rattle.proof_scanner.proofs.Common.{[], after_plain, allow_key, ap, arith, Arrives, before_by, before_past, begins_left, Bool, collection_of, columns, comes_plain, Context, context, false, Fault, fetch_plain_scalar, goes_on, goes_over, HasNoPlainFault, HasTab, in_flow, innermost, is_adjacent, is_empty, is_in_flow, IsPlainFault, IsPlainRefusal, least_column, lexed, List, nat_le, nat_lt, nat_tests, no_plain, Ok, on_held, Option, plain_first, Position, position_after, Problem, push, refl, refused_as, ScannerState, scans_end, site_at_place, Style, subst, sym, Tok, true, unroll_non_block_indents, without_open, ℕ, ◌++◌, ◌∙◌, ◌∷◌, ◌≡◌}
 use Rattle.defs_token.specs.Plain.{inside}
 use Rattle.yaml_tokens.specs.declared.problem.Problem.TheVariants as problem
 use Rattle.model_scanner.specs.Plain.{plain}
@@ -9,14 +9,13 @@ use Rattle.proof_scanner.proofs.Cut.Saved.{saved_keys, saved_is}
 use Rattle.proof_scanner.proofs.Sound.WithoutOpen.{AreClosed, without_is}
 use Rattle.proof_scanner.specs.NoPiece as none
 use Rattle.proof_scanner.proofs.Refusals.Faults.{Faults, goes, read}
-use Rattle.proof_scanner.proofs.Refusals.Places.{Told, LiesDeep, account_by, stuck, in_flow_is, blocks_by, looked_at}
+use Rattle.proof_scanner.proofs.Refusals.Places.{Said, IsWhy, LiesDeep, account_by, stuck, in_flow_is, blocks_by, looked_at}
 use Rattle.proof_scanner.proofs.Sound.PlainKeeps.{solid_text}
 
 -- ---- texts
 
 over_alike : (c : Context) (collection : Option ℕ) (text next : List ℕ) → collection_of c.indent ≡ collection → plains.goes_over c text next ≡ goes_over c.flow collection text next
-over_alike c collection [] next e = refl
-over_alike c collection (x ∷ r) next e = ap (λ o. goes_on c.flow o inside r next) e
+over_alike c a b d e = grind (arith, goes_on, inside)
 
 -- ---- the scan
 
@@ -39,7 +38,7 @@ module _ (text : List ℕ) (t : ScannerState) (a : Arrives text t) (some : is_em
   collection_is = closed.is_least.0 ∙ ap innermost (sym closed.same_columns)
 
   -- the plain scalar that begins here is none
-  plain_stuck : (why : Problem) (at : Position) (x : IsPlainFault (in_flow t.held) blocks t.held.position t.rest why at) → plain_first (in_flow t.held) blocks t.held.position t.rest why at x → IsStuck text why at
+  plain_stuck : (why : Problem) (at : Position) (x : IsPlainFault (in_flow t.held) blocks t.held.position t.rest why at) → plain_first (in_flow t.held) blocks t.held.position t.rest why at x → IsWhy text why at
   plain_stuck why at x first =
       stuck text t a some [] why at (λ c may.
       let P : Bool → List ℕ → Type 0 = λ b bs. (y : IsPlainFault b bs t.held.position t.rest why at) × plain_first b bs t.held.position t.rest why at y in
@@ -63,7 +62,7 @@ module _ (text : List ℕ) (t : ScannerState) (a : Arrives text t) (some : is_em
   no_tab free place (none.by_tab before blanks rest column cut over stands left are solid) =
       free (record { before = before; blanks = blanks; rest = rest; column = column; is_text = cut; is_over = over_alike ctx (innermost blocks) before (9 ∷ (blanks ++ rest)) collection_is ∙ over; is_at = stands; is_left = ap (nat_lt column) (sym least_is) ∙ left; are_blanks = are; is_token = solid })
 
-  refused : (f : Fault) → IsPlainRefusal ctx t.held.position t.rest f → Told text f
+  refused : (f : Fault) → IsPlainRefusal ctx t.held.position t.rest f → Said text f
   refused f (plains.by_column flow left) =
       let shallow : nat_le (least_column blocks true) t.held.position.col ≡ false = grind (arith, nat_tests, least_is, left) in
       λ _. plain_stuck problem.FlowIndentation t.held.position (none.by_column flow shallow) tt
@@ -76,10 +75,10 @@ module _ (text : List ℕ) (t : ScannerState) (a : Arrives text t) (some : is_em
       (none.by_dash before rest flow cut begins (sym (over_alike ctx (innermost blocks) before (45 ∷ rest) collection_is) ∙ over) apart)
       (no_column deep, no_tab free)
 
-  pub plain_told : Faults (Told text) (fetch_plain_scalar t)
+  pub plain_told : Faults (Said text) (fetch_plain_scalar t)
   unfolding fetch_plain_scalar unroll_non_block_indents
   plain_told =
-      subst (λ h. Faults (Told text) (lexed (plain (context (unroll_non_block_indents (allow_key false h))) t.rest t.held.position) (unroll_non_block_indents (allow_key false h))
+      subst (λ h. Faults (Said text) (lexed (plain (context (unroll_non_block_indents (allow_key false h))) t.rest t.held.position) (unroll_non_block_indents (allow_key false h))
       (λ r u. Ok (on_held (λ v. push t.held.position (Tok.scalar Style.plain r.text) (after_plain r.leading v)) u)))) (sym (saved_is t.held))
       (read (unroll_non_block_indents (allow_key false (record t.held { keys = saved_keys t.held }))) (plain ctx t.rest t.held.position) _ (λ f k. refused f (refused_as k
       (scans_end ctx t.rest t.held.position a.is_clean (solid_text t.rest some a.is_solid) (less_or (in_flow t.held) ctx.indent t.held.position.col (omega (arith, deep, closed.not_deeper)))))) (λ x k. goes))

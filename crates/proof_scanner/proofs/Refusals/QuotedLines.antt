@@ -1,5 +1,5 @@
 -- The scan of a quoted scalar reads one, or refuses the text for what is wrong with it first.
-use Rattle.proof_scanner.proofs.Common.{[], after_element, after_escaped, after_gap, after_quote, along, along_more, and_false, and_parts, ap, append-nil, arith, At, at_start, begins_further, begins_marked, begins_with, Begun, begun, blank, Bool, break_further, content, Context, drop, Element, element_of, ends_before, eqb-true, Err, escape, escaped_break, false, Fault, first_is_gap, Folded, gap, if◌then◌else◌, in_gap, inside, is_document_marker, is_marked, is_some, joined, line_break, LineStand, List, list_all, marked, Mode, nat_lt, nat_tests, None, not, not-true, nothing, off_margin, Ok, Option, OutOfMemory, past, past_break, past_element, past_escaped, past_is, Position, position_after, position_past, Problem, quoted, Read, refl, Result, scan, shallow, slice_index, Some, Spelled, step, StepOf, steps, subst, suc, sym, take, true, white_stands, with_break, with_escaped_break, within, zero, ℕ, ◌&&◌, ◌+◌, ◌==◌, ◌∙◌, ◌∷◌, ◌≡◌, ◌≤◌}
+use Rattle.proof_scanner.proofs.Common.{position_append, [], cases_Bool, inl, inr, after_element, after_escaped, after_gap, after_quote, along, along_more, and_false, and_parts, ap, append-nil, arith, At, at_start, begins_further, begins_marked, begins_with, Begun, begun, blank, Bool, break_further, content, Context, drop, Element, element_of, ends_before, eqb-true, Err, escape, escaped_break, false, Fault, first_is_gap, first_fails, Folded, gap, in_gap, inside, is_document_marker, is_marked, is_some, append_cancel_right, ◌++◌, quoted_lines_fit, joined, line_break, LineStand, List, list_all, marked, Mode, nat_lt, nat_tests, None, not, not-true, nothing, off_margin, Ok, Option, OutOfMemory, past, past_element, past_escaped, past_is, Position, position_after, position_past, Problem, quoted, Read, refl, Result, scan, shallow, Some, Spelled, step, StepOf, steps, subst, suc, sym, take, true, white_stands, with_break, with_escaped_break, within, zero, ℕ, ◌&&◌, ◌+◌, ◌==◌, ◌∙◌, ◌∷◌, ◌≡◌, ◌≤◌}
 use Rattle.yaml_chars.specs.Class.{is_break, is_blank}
 use Rattle.yaml_tokens.specs.declared.problem.Problem.TheVariants as problem
 use Rattle.model_scanner.specs.Quoted.{after}
@@ -7,14 +7,13 @@ use Rattle.model_scanner.specs.Quoted as model
 use Rattle.proof_lexers.proofs.Quoted.Faults.{escape_fails}
 use Rattle.proof_lexers.proofs.Quoted.Shapes.{NoElement, closing, slash, no_element}
 use Rattle.proof_lexers.proofs.Quoted.Turns.{spelled, begins, Step, is_shallow}
-use Rattle.proof_scanner.proofs.Sound.QuotedBreaks.{Kind, has_content, has_blank, has_line, has_escaped, is_white, quote_white, slash_white}
+use Rattle.proof_scanner.proofs.Sound.QuotedBreaks.{Kind, has_content, has_blank, has_line, has_escaped, is_white, quote_white, slash_white, body_between}
 use Rattle.proof_scanner.specs.NoPiece.{quote_of}
-use Rattle.proof_scanner.proofs.Refusals.QuotedElements.{no_quote, solid_here, past_line, past_two, after_it, kind_of, content_after}
+use Rattle.proof_scanner.proofs.Refusals.QuotedElements.{quote_no_break, after_quote_at, no_quote, solid_here, past_line, past_two, after_it, kind_of, content_after}
 use Rattle.proof_scanner.proofs.Refusals.QuotedReasons as reasons
-use Rattle.proof_scanner.proofs.Refusals.QuotedReasons.{stands, all_stand, Place, by_end, by_escape, by_column, by_tab, Reason, other, grown}
+use Rattle.proof_scanner.proofs.Refusals.QuotedReasons.{stands, Place, by_end, by_escape, by_column, by_tab, Reason, other, grown, Closed, closed_grown, all_stand, before_quote, lines_close}
 use Rattle.model_scanner.proofs.PlainLemmas.{break_leads}
 use Rattle.proof_row.proofs.Columns.{further_is_no_break}
-use Rattle.proof_scanner.proofs.Refusals.QuotedBodies.{closes}
 
 -- the faults of further lines
 abbrev pub is_of_lines : Fault → Bool
@@ -28,19 +27,30 @@ is_of_lines (At _ p) = false
 -- nor does what is neither blank nor break
 solid_no_feed : (c : ℕ) → is_white c ≡ false → (c == 10) ≡ false
 unfolding is_break is_blank
-solid_no_feed c h = by (c == 10) refl
-  where
-    by : (feed : Bool) → (c == 10) ≡ feed → (c == 10) ≡ false
-    by true e = absurd (grind (arith, nat_tests, e, h))
-    by false e = e
+solid_no_feed c h = grind arith
+
+closes : (single : Bool) (ctx : Context) (start : Position) (r : List ℕ) (p : Position) (u : Folded) → ends_before single r ≡ true → scan single ctx start (quote_of single ∷ r) inside p u ≡ Ok (record { rest = r; position = past p; value = u.text })
+unfolding is_break is_blank
+closes a ctx b r p u e = grind arith
 
 same_quote : (single : Bool) → model.quote_of single ≡ quote_of single
-same_quote true = refl
-same_quote false = refl
+same_quote a = grind arith
 
 slash_no_quote : (single : Bool) → (92 == quote_of single) ≡ false
-slash_no_quote true = refl
-slash_no_quote false = refl
+slash_no_quote a = grind arith
+
+-- after an escaped break a line begins
+escaped_goes : (single : Bool) (ctx : Context) (start : Position) → single ≡ false → (d : ℕ) (a : List ℕ) (p : Position) (u : Folded) → is_break d ≡ true
+    → scan single ctx start (92 ∷ d ∷ a) inside p u ≡ scan single ctx start (drop (break_further d a) a) after (position_after p (92 ∷ d ∷ take (break_further d a) a) (drop (break_further d a) a)) (with_escaped_break u)
+unfolding is_break is_blank
+escaped_goes true ctx start double d a p u e = absurd (cc double)
+escaped_goes false ctx start double d [] p u e = grind (arith, past_line, past_is, and_false)
+escaped_goes false ctx start double d (f ∷ a) p u e = elim (cases_Bool ((d == 13) && (f == 10))) [
+  | inl g ↦
+      let q = and_parts (d == 13) (f == 10) g in
+      rw (eqb-true d 13 q.0, eqb-true f 10 q.1) (ap (λ x. scan false ctx start a after x (with_escaped_break u)) (sym (ap (λ x. position_after x (13 ∷ 10 ∷ []) a) (past_is p 92 (13 ∷ 10 ∷ a) refl) ∙ past_two (past p) a)))
+  | inr g ↦ rw (e, g) (ap (λ x. scan false ctx start (f ∷ a) after x (with_escaped_break u)) (sym (ap (λ x. position_past x d (f ∷ a)) (past_is p 92 (d ∷ f ∷ a) refl) ∙ past_line (past p) d (f ∷ a) e g)))
+]
 
 module _ (single : Bool) (ctx : Context) (start : Position) (least : ℕ) (limit : (k : ℕ) → nat_lt (k + 1) ctx.indent ≡ nat_lt k least) where
   abbrev pub Why : LineStand → Position → List ℕ → Problem → Position → Type 0
@@ -49,11 +59,11 @@ module _ (single : Bool) (ctx : Context) (start : Position) (least : ℕ) (limit
   -- How a scan ends of a text from an element on.
   pub data Ends (s : LineStand) (p : Position) (text : List ℕ) (x : Result (Read (List ℕ)) Fault) : Type 0 where
     refused : (why : Problem) (at : Position) → Why s p text why at → x ≡ Err (At why at) → Ends s p text x
-    reads : (y : Read (List ℕ)) → x ≡ Ok y → Ends s p text x
+    reads : (y : Read (List ℕ)) → Closed single least start s p text y.rest y.position → x ≡ Ok y → Ends s p text x
 
   ends_on : (s : LineStand) (p : Position) (text : List ℕ) (x y : Result (Read (List ℕ)) Fault) → x ≡ y → Ends s p text y → Ends s p text x
   ends_on s p text x y e (refused why at h i) = refused why at h (e ∙ i)
-  ends_on s p text x y e (reads y' i) = reads y' (e ∙ i)
+  ends_on s p text x y e (reads y' c i) = reads y' c (e ∙ i)
 
   -- how the scan stands where an element may begin
   data Stood (p : Position) (t : Folded) : LineStand → Mode → Type 0 where
@@ -86,9 +96,7 @@ module _ (single : Bool) (ctx : Context) (start : Position) (least : ℕ) (limit
   started c b s m p t solid stood unlike = by ((p.col == 0) && is_document_marker (c ∷ b)) refl (begins single ctx start c b p t solid)
     where
       further : (s : LineStand) (m : Mode) → Stood p t s m → (s ≡ past_escaped → (c == quote_of single) ≡ false) → nat_lt p.col least ≡ true → begins_further s (c == quote_of single) ≡ true
-      further s m (in_line deep) unlike low = absurd (cc (deep, low))
-      further s m (begins_here leads) unlike low = refl
-      further s m (escaped double leads) unlike low = ap not (unlike refl)
+      further s m a unlike b = grind arith
 
       by : (marker : Bool) → ((p.col == 0) && is_document_marker (c ∷ b)) ≡ marker → Begun single ctx start (c ∷ b) p t → Started s p (c ∷ b) t
       by true h z = stops (refused problem.QuotedDocumentMarker start (marked_here s p (c ∷ b) h) (begins_marked single ctx start c b p t solid h))
@@ -105,7 +113,7 @@ module _ (single : Bool) (ctx : Context) (start : Position) (least : ℕ) (limit
     ends_grown : (x y : Result (Read (List ℕ)) Fault) → x ≡ y → stands least s p.col e.element ≡ true → ((p.col == 0) && is_document_marker (c ∷ b)) ≡ false
         → Ends (past_element s e.element) (after_it single c b e is p) (drop e.further b) y → Ends s p (c ∷ b) x
     ends_grown x y i fit none (refused why at h j) = refused why at (grown single least start c b e is s p fit none why at h) (i ∙ j)
-    ends_grown x y i fit none (reads z j) = reads z (i ∙ j)
+    ends_grown x y i fit none (reads z w j) = reads z (closed_grown single least start c b e is s p fit none z.rest z.position w) (i ∙ j)
 
     not_quote : single ≡ false → (c == quote_of single) ≡ false
     not_quote double = by single double is
@@ -118,9 +126,7 @@ module _ (single : Bool) (ctx : Context) (start : Position) (least : ℕ) (limit
   deep_stands s k h = rw (h, and_false (begins_further s false)) refl
 
   no_escaped : (s : LineStand) (m : Mode) (p : Position) (t : Folded) (c : ℕ) → Stood p t s m → (single ≡ false → (c == quote_of single) ≡ false) → s ≡ past_escaped → (c == quote_of single) ≡ false
-  no_escaped s m p t c (in_line deep) unlike h = absurd (cc h)
-  no_escaped s m p t c (begins_here leads) unlike h = absurd (cc h)
-  no_escaped s m p t c (escaped double leads) unlike h = unlike double
+  no_escaped s m p t c a unlike h = grind arith
 
   -- content
   content_ends : (c : ℕ) (b : List ℕ) (code k : ℕ) → element_of single c b ≡ Some (spelled (content code) k) → is_white c ≡ false → (s : LineStand) (p : Position) (m : Mode) (t : Folded) → Stood p t s m → Later (drop k b)
@@ -174,7 +180,7 @@ module _ (single : Bool) (ctx : Context) (start : Position) (least : ℕ) (limit
 
       -- where a line begins a TAB is refused that stands left of the column
       no_tab : t.leading ≡ true → (t.leading && (c == 9) && nat_lt (p.col + 1) ctx.indent) ≡ false → not ((c == 9) && nat_lt p.col least) ≡ true
-      no_tab leads h = ap (λ x. not ((c == 9) && x)) (sym (limit p.col)) ∙ (ap (λ x. not (x && (c == 9) && nat_lt (p.col + 1) ctx.indent)) (sym leads) ∙ ap not h)
+      no_tab leads h = grind arith
 
       tabbed : (s : LineStand) → begins_further s false ≡ true → (t.leading && (c == 9) && nat_lt (p.col + 1) ctx.indent) ≡ true → Ends s p (c ∷ b) here
       tabbed s further h =
@@ -193,73 +199,18 @@ module _ (single : Bool) (ctx : Context) (start : Position) (least : ℕ) (limit
 
   -- ---- breaks
 
-  -- after a break the scan goes on at the start of a line
-  record Broken (x : Result (Read (List ℕ)) Fault) (text : List ℕ) (m : Mode) (q : Position) : Type 0 where
-    now : Folded
-    leads : now.leading ≡ true
-    is : x ≡ scan single ctx start text m q now
-
-  broken_on : (x : Result (Read (List ℕ)) Fault) (text : List ℕ) (m : Mode) (q r : Position) (u : Folded) → u.leading ≡ true → x ≡ scan single ctx start text m r u → q ≡ r → Broken x text m q
-  broken_on x text m q r u leads e at = record { now = u; leads = leads; is = e ∙ ap (λ z. scan single ctx start text m z u) (sym at) }
-
-  break_goes : (c : ℕ) (b : List ℕ) (p : Position) (t : Folded) → is_break c ≡ true → Broken (scan single ctx start (c ∷ b) gap p t) (drop (break_further c b) b) gap (position_after p (c ∷ take (break_further c b) b) (drop (break_further c b) b))
+  break_goes : (c : ℕ) (b : List ℕ) (p : Position) (t : Folded) → is_break c ≡ true → scan single ctx start (c ∷ b) gap p t ≡ scan single ctx start (drop (break_further c b) b) gap (position_after p (c ∷ take (break_further c b) b) (drop (break_further c b) b)) (with_break t)
   unfolding is_break is_blank
-  break_goes c b p t e = by_next b
-    where
-      alone : (b : List ℕ) → ((c == 13) && (slice_index b 0 == 10)) ≡ false → Broken (scan single ctx start (c ∷ b) gap p t) b gap (position_after p (c ∷ []) b)
-      alone b f = broken_on _ b gap _ (past_break p) (with_break t) (break_leads t) (rw (e, f) refl) (past_line p c b e f)
-
-      two_goes : (b : List ℕ) → Broken (scan single ctx start (13 ∷ 10 ∷ b) gap p t) b gap (position_after p (13 ∷ 10 ∷ []) b)
-      two_goes b = broken_on _ b gap _ (past_break (past p)) (with_break t) (break_leads t) refl (past_two p b)
-
-      by_next : (b : List ℕ) → Broken (scan single ctx start (c ∷ b) gap p t) (drop (break_further c b) b) gap (position_after p (c ∷ take (break_further c b) b) (drop (break_further c b) b))
-      by_next [] = alone [] (and_false (c == 13))
-      by_next (d ∷ b) = by ((c == 13) && (d == 10)) refl
-        where
-          by : (two : Bool) → ((c == 13) && (d == 10)) ≡ two → Broken (scan single ctx start (c ∷ d ∷ b) gap p t) (drop (if two then 1 else 0) (d ∷ b)) gap (position_after p (c ∷ take (if two then 1 else 0) (d ∷ b)) (drop (if two then 1 else 0) (d ∷ b)))
-          by true f =
-              let q = and_parts (c == 13) (d == 10) f in
-              subst (λ y. Broken (scan single ctx start (y ∷ d ∷ b) gap p t) b gap (position_after p (y ∷ d ∷ []) b)) (sym (eqb-true c 13 q.0))
-              (subst (λ y. Broken (scan single ctx start (13 ∷ y ∷ b) gap p t) b gap (position_after p (13 ∷ y ∷ []) b)) (sym (eqb-true d 10 q.1)) (two_goes b))
-          by false f = alone (d ∷ b) f
+  break_goes c [] p t e = grind (arith, past_line, and_false)
+  break_goes c (d ∷ b) p t e = elim (cases_Bool ((c == 13) && (d == 10))) [
+    | inl f ↦ let q = and_parts (c == 13) (d == 10) f in rw (eqb-true c 13 q.0, eqb-true d 10 q.1) (ap (λ x. scan single ctx start b gap x (with_break t)) (sym (past_two p b)))
+    | inr f ↦ rw (e, f) (ap (λ x. scan single ctx start (d ∷ b) gap x (with_break t)) (sym (past_line p c (d ∷ b) e f)))
+  ]
 
   line_ends : (c : ℕ) (b : List ℕ) → element_of single c b ≡ Some (spelled line_break (break_further c b)) → is_break c ≡ true → (s : LineStand) (p : Position) (t : Folded) → Later (drop (break_further c b) b) → Ends s p (c ∷ b) (scan single ctx start (c ∷ b) gap p t)
   unfolding is_break is_blank
   line_ends c b is f s p t later =
-      let g = break_goes c b p t f in
-      ends_grown c b (spelled line_break (break_further c b)) is s p _ _ g.is refl (white_stands single ctx start c b p.col (rw f refl)) (later at_start _ gap g.now (begins_here g.leads))
-
-  escaped_goes : single ≡ false → (d : ℕ) (a : List ℕ) (p : Position) (u : Folded) → is_break d ≡ true → Broken (scan single ctx start (92 ∷ d ∷ a) inside p u) (drop (break_further d a) a) after (position_after p (92 ∷ d ∷ take (break_further d a) a) (drop (break_further d a) a))
-  unfolding is_break is_blank
-  escaped_goes double d a p u e = by_next a
-    where
-      slashed : (x : List ℕ) → position_past p 92 x ≡ past p
-      slashed x = past_is p 92 x refl
-
-      lone : (x : Bool) (a : List ℕ) → x ≡ false → ((d == 13) && (slice_index a 0 == 10)) ≡ false → scan x ctx start (92 ∷ d ∷ a) inside p u ≡ scan x ctx start a after (past_break (past p)) (with_escaped_break u)
-      lone true a x f = absurd (cc x)
-      lone false a x f = rw (e, f) refl
-
-      two : (x : Bool) (a : List ℕ) → x ≡ false → scan x ctx start (92 ∷ 13 ∷ 10 ∷ a) inside p u ≡ scan x ctx start a after (past_break (past (past p))) (with_escaped_break u)
-      two true a x = absurd (cc x)
-      two false a x = refl
-
-      alone : (a : List ℕ) → ((d == 13) && (slice_index a 0 == 10)) ≡ false → Broken (scan single ctx start (92 ∷ d ∷ a) inside p u) a after (position_after p (92 ∷ d ∷ []) a)
-      alone a f = broken_on _ a after _ (past_break (past p)) (with_escaped_break u) refl (lone single a double f) (ap (λ q. position_past q d a) (slashed (d ∷ a)) ∙ past_line (past p) d a e f)
-
-      two_goes : (a : List ℕ) → Broken (scan single ctx start (92 ∷ 13 ∷ 10 ∷ a) inside p u) a after (position_after p (92 ∷ 13 ∷ 10 ∷ []) a)
-      two_goes a = broken_on _ a after _ (past_break (past (past p))) (with_escaped_break u) refl (two single a double) (ap (λ q. position_after q (13 ∷ 10 ∷ []) a) (slashed (13 ∷ 10 ∷ a)) ∙ past_two (past p) a)
-
-      by_next : (a : List ℕ) → Broken (scan single ctx start (92 ∷ d ∷ a) inside p u) (drop (break_further d a) a) after (position_after p (92 ∷ d ∷ take (break_further d a) a) (drop (break_further d a) a))
-      by_next [] = alone [] (and_false (d == 13))
-      by_next (f ∷ a) = by ((d == 13) && (f == 10)) refl
-        where
-          by : (y : Bool) → ((d == 13) && (f == 10)) ≡ y → Broken (scan single ctx start (92 ∷ d ∷ f ∷ a) inside p u) (drop (if y then 1 else 0) (f ∷ a)) after (position_after p (92 ∷ d ∷ take (if y then 1 else 0) (f ∷ a)) (drop (if y then 1 else 0) (f ∷ a)))
-          by true g =
-              let q = and_parts (d == 13) (f == 10) g in
-              subst (λ y. Broken (scan single ctx start (92 ∷ y ∷ f ∷ a) inside p u) a after (position_after p (92 ∷ y ∷ f ∷ []) a)) (sym (eqb-true d 13 q.0))
-              (subst (λ y. Broken (scan single ctx start (92 ∷ 13 ∷ y ∷ a) inside p u) a after (position_after p (92 ∷ 13 ∷ y ∷ []) a)) (sym (eqb-true f 10 q.1)) (two_goes a))
-          by false g = alone (f ∷ a) g
+      ends_grown c b (spelled line_break (break_further c b)) is s p _ _ (break_goes c b p t f) refl (white_stands single ctx start c b p.col (rw f refl)) (later at_start _ gap _ (begins_here (break_leads t)))
 
   escaped_ends : (d : ℕ) (a : List ℕ) → single ≡ false → element_of single 92 (d ∷ a) ≡ Some (spelled escaped_break (suc (break_further d a))) → is_break d ≡ true → (s : LineStand) (p : Position) (m : Mode) (t : Folded) → Stood p t s m → Later (drop (break_further d a) a)
       → Ends s p (92 ∷ d ∷ a) (scan single ctx start (92 ∷ d ∷ a) gap p t)
@@ -268,29 +219,33 @@ module _ (single : Bool) (ctx : Context) (start : Position) (least : ℕ) (limit
       by : Started s p (92 ∷ d ∷ a) t → Ends s p (92 ∷ d ∷ a) (scan single ctx start (92 ∷ d ∷ a) gap p t)
       by (stops x) = x
       by (begins_or_goes none deep i) =
-          let g = escaped_goes double d a p (joined t) f in
-          ends_grown 92 (d ∷ a) (spelled escaped_break (suc (break_further d a))) is s p _ _ (i ∙ g.is) (deep_stands s p.col deep) none (later past_escaped _ after g.now (escaped double g.leads))
+          ends_grown 92 (d ∷ a) (spelled escaped_break (suc (break_further d a))) is s p _ _ (i ∙ escaped_goes single ctx start double d a p (joined t) f) (deep_stands s p.col deep) none (later past_escaped _ after _ (escaped double refl))
 
   -- ---- where no element stands
+
+  quote_stands : (s : LineStand) (k : ℕ) → nat_lt k least ≡ false → all_stand least s k (before_quote s) ≡ true
+  quote_stands a k deep = grind (arith, and_false)
 
   closed_ends : (r : List ℕ) → ends_before single r ≡ true → Later (model.quote_of single ∷ r)
   closed_ends r ended s p m t stood = by s m stood
     where
+      closed : (s : LineStand) → all_stand least s p.col (before_quote s) ≡ true → Closed single least start s p (model.quote_of single ∷ r) r (past p)
+      closed s fit = record { body = []; es = []; is_text = ap (λ q. q ∷ r) (same_quote single); are = refl; fits = fit; end_is = refl }
+
       in_its_line : (s : LineStand) → Started s p (model.quote_of single ∷ r) t → Ends s p (model.quote_of single ∷ r) (scan single ctx start (model.quote_of single ∷ r) gap p t)
       in_its_line s (stops x) = x
-      in_its_line s (begins_or_goes none deep i) = reads _ (i ∙ closes single ctx start r p (joined t) ended)
+      in_its_line s (begins_or_goes none deep i) = reads _ (closed s (quote_stands s p.col deep)) (i ∙ closes single ctx start r p (joined t) ended)
 
       by : (s : LineStand) (m : Mode) → Stood p t s m → Ends s p (model.quote_of single ∷ r) (scan single ctx start (model.quote_of single ∷ r) m p t)
       by s m (in_line deep) = in_its_line within (started (model.quote_of single) r within gap p t (quote_white single) (in_line deep) (λ e. absurd (cc e)))
       by s m (begins_here leads) = in_its_line at_start (started (model.quote_of single) r at_start gap p t (quote_white single) (begins_here leads) (λ e. absurd (cc e)))
-      by s m (escaped double leads) = reads _ (after_quote single ctx start (model.quote_of single) (model.quote_of single ∷ r) p t refl refl ∙ closes single ctx start r p t ended)
+      by s m (escaped double leads) = reads _ (closed past_escaped refl) (after_quote single ctx start (model.quote_of single) (model.quote_of single ∷ r) p t refl refl ∙ closes single ctx start r p t ended)
 
   bad_ends : single ≡ false → (r : List ℕ) → escape r ≡ None → Later (92 ∷ r)
   bad_ends double r bad s p m t stood = by s m stood (started 92 r s m p t slash_white stood (λ _. slash_no_quote single))
     where
       fails : (x : Bool) → x ≡ false → (z : Problem) → scan false ctx start (92 ∷ r) inside p (joined t) ≡ Err (At z start) → scan x ctx start (92 ∷ r) inside p (joined t) ≡ Err (At z start)
-      fails true e z h = absurd (cc e)
-      fails false e z h = h
+      fails a e z h = grind arith
 
       in_gap_ends : (s : LineStand) → Started s p (92 ∷ r) t → Ends s p (92 ∷ r) (scan single ctx start (92 ∷ r) gap p t)
       in_gap_ends s (stops x) = x
@@ -349,8 +304,40 @@ module _ (single : Bool) (ctx : Context) (start : Position) (least : ℕ) (limit
   each_ends zero (c ∷ b) full = let q = and_parts (is_some c) (list_all is_some b) full in by_element c b (element_of single c b) refl (not-true (c == 0) q.0) (λ n. each_ends n b q.1)
 
   -- the whole scalar, where it may begin
-  pub quoted_ends : ctx.indent ≤ start.col + 1 → (more : List ℕ) → list_all is_some more ≡ true → Ends within (past start) more (quoted single ctx (quote_of single ∷ more) start)
+  whole_ends : nat_lt ((start.col + 1) + 1) ctx.indent ≡ false → (more : List ℕ) → list_all is_some more ≡ true → Ends within (past start) more (quoted single ctx (quote_of single ∷ more) start)
   unfolding quoted
-  quoted_ends deep more full =
-      let low : nat_lt ((start.col + 1) + 1) ctx.indent ≡ false = grind (arith, nat_tests, deep) in
-      ends_on within (past start) more _ _ (first_is_gap single ctx start more (past start) (off_margin start.col 0) low) (each_ends 0 more full within (past start) gap nothing (in_line (sym (limit (start.col + 1)) ∙ low)))
+  whole_ends low more full = ends_on within (past start) more _ _ (first_is_gap single ctx start more (past start) (off_margin start.col 0) low) (each_ends 0 more full within (past start) gap nothing (in_line (sym (limit (start.col + 1)) ∙ low)))
+
+  pub quoted_ends : ctx.indent ≤ start.col + 1 → (more : List ℕ) → list_all is_some more ≡ true → Ends within (past start) more (quoted single ctx (quote_of single ∷ more) start)
+  quoted_ends deep = whole_ends (grind (arith, nat_tests, deep))
+
+  -- what is read is a body whose lines are indented
+  pub record IsBody (q : ℕ) (body : List ℕ) (x : Read (List ℕ)) : Type 0 where
+    pub lines : quoted_lines_fit least (element_of single) (q ∷ (body ++ q ∷ [])) ≡ true
+    pub end_is : x.position ≡ position_after start (q ∷ (body ++ q ∷ [])) x.rest
+
+  is_body : (body : List ℕ) (x : Read (List ℕ)) → list_all is_some (body ++ quote_of single ∷ x.rest) ≡ true → quoted single ctx (quote_of single ∷ (body ++ quote_of single ∷ x.rest)) start ≡ Ok x → IsBody (quote_of single) body x
+  unfolding quoted
+  is_body body x full e = elim (cases_Bool (nat_lt ((start.col + 1) + 1) ctx.indent)) [ inl f ↦ absurd (fails body f e) | inr f ↦ by (whole_ends f (body ++ quote_of single ∷ x.rest) full) ]
+    where
+      fails : (body : List ℕ) → nat_lt ((start.col + 1) + 1) ctx.indent ≡ true → scan single ctx start (body ++ quote_of single ∷ x.rest) model.first (past start) nothing ≡ Ok x → ⊥
+      fails [] f i = cc (i, first_fails single ctx start (quote_of single) x.rest (past start) (off_margin start.col 0) f)
+      fails (c ∷ b) f i = cc (i, first_fails single ctx start c (b ++ quote_of single ∷ x.rest) (past start) (off_margin start.col 0) f)
+
+      position_of : (position : Position) → position ≡ past (position_after (past start) body (quote_of single ∷ x.rest)) → position ≡ position_after start (quote_of single ∷ (body ++ quote_of single ∷ [])) x.rest
+      position_of position e =
+          e ∙ (sym (past_is (position_after (past start) body (quote_of single ∷ x.rest)) (quote_of single) x.rest (quote_no_break single)) ∙
+          (sym (position_append (past start) body (quote_of single ∷ []) x.rest) ∙ sym (after_quote_at single start (body ++ quote_of single ∷ []) x.rest)))
+
+      by : Ends within (past start) (body ++ quote_of single ∷ x.rest) (quoted single ctx (quote_of single ∷ (body ++ quote_of single ∷ x.rest)) start) → IsBody (quote_of single) body x
+      by (refused why at h i) = absurd (cc (i, e))
+      by (reads y w i) =
+          let read : y ≡ x = cc (i, e) in
+          let same : body ≡ w.body = append_cancel_right body w.body (quote_of single ∷ x.rest) (w.is_text ∙ ap (λ (z : Read (List ℕ)). w.body ++ quote_of single ∷ z.rest) read) in
+          record {
+            lines = rw (body_between (quote_of single) body, same, w.are) (lines_close least (start.col + 1) w.es ∙ w.fits);
+            end_is = position_of x.position (cc (w.end_is, read, same));
+          }
+
+  pub body_read : (body : List ℕ) (x : Read (List ℕ)) → list_all is_some (body ++ model.quote_of single ∷ x.rest) ≡ true → quoted single ctx (model.quote_of single ∷ (body ++ model.quote_of single ∷ x.rest)) start ≡ Ok x → IsBody (model.quote_of single) body x
+  body_read body x = rw (same_quote single) (is_body body x)

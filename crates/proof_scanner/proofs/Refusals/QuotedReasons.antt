@@ -1,13 +1,9 @@
 -- Why the text after an opening quote is refused, told of the text from an element on.
-use Rattle.proof_scanner.proofs.Common.{[], after_own, and_false, and_parts, ap, append_assoc, are_indented, arith, at_start, begins_further, begins_solid, begins_with, begun_with, blank, blanks_before, Bool, content, drop, Element, element_of, elements, escaped_break, false, further_lines_fit, has_marker, has_more, is_document_marker, IsBadEscape, line, line_break, Lines, lines_fit, lines_of, LineStand, List, Local, local, LocalOf, marked_from, nat_le, nat_lt, nat_tests, not, not-true, past_element, past_elements, past_escaped, past_is, Position, position_after, position_append, Problem, refl, replicate, Some, Spelled, subst, suc, sym, take, take-append-drop, true, within, zero, ℕ, ◌&&◌, ◌++◌, ◌+◌, ◌-◌, ◌==◌, ◌||◌, ◌∙◌, ◌∷◌, ◌≡◌}
-use Rattle.defs_text.specs.FlowScalar.{last_line}
+use Rattle.proof_scanner.proofs.Common.{past, [], after_own, and_false, ap, append_assoc, are_indented, arith, at_start, begins_further, begins_solid, begins_with, begun_with, blank, Bool, content, drop, Element, element_of, elements, escaped_break, false, further_lines_fit, has_more, is_document_marker, IsBadEscape, line_break, Lines, lines_fit, lines_of, LineStand, List, Local, local, LocalOf, marked_from, nat_lt, nat_tests, not, past_element, past_elements, past_escaped, past_is, Position, position_after, position_append, Problem, refl, replicate, Some, Spelled, subst, suc, sym, take, take-append-drop, true, within, zero, ℕ, ◌&&◌, ◌++◌, ◌+◌, ◌==◌, ◌∙◌, ◌∷◌, ◌≡◌}
 use Rattle.yaml_tokens.specs.declared.problem.Problem.TheVariants as problem
-use Rattle.proof_scanner.proofs.Sound.QuotedBreaks.{Kind, has_content, has_blank, has_line, has_escaped, fits_from, lines_from, lines_here, empty_here, one_more_blank}
-use Rattle.proof_scanner.proofs.Sound.TabsWithin.{take_none}
-use Rattle.proof_scanner.proofs.Refusals.QuotedBodies.{blank_first}
+use Rattle.proof_scanner.proofs.Sound.QuotedBreaks.{Kind, has_content, has_blank, has_line, has_escaped, fits_from, lines_from, lines_here, empty_here}
 use Rattle.proof_scanner.specs.NoPiece.{quote_of}
 use Rattle.proof_scanner.proofs.Refusals.QuotedElements.{break_column, escaped_column, after_it, kind_of, marks_after}
-use Rattle.proof_lexers.proofs.Bridges.{both}
 
 -- ---- indented lines, element by element
 
@@ -36,52 +32,28 @@ fits_at least at_start k es = lines_from k least false (lines_of es)
 fits_at least past_escaped k es = lines_from k least true (lines_of es)
 
 and_true : (b : Bool) → b ≡ (b && true)
-and_true true = refl
-and_true false = refl
+and_true a = grind arith
 
 pub and_assoc : (x y z : Bool) → ((x && y) && z) ≡ (x && (y && z))
-and_assoc true y z = refl
-and_assoc false y z = refl
+and_assoc a y z = grind arith
 
 deep_is : (k least : ℕ) → fits_from k least true [] ≡ not (nat_lt k least)
-deep_is k least = rw (take_none (least - k)) (by (nat_lt k least) refl)
-  where
-    by : (low : Bool) → nat_lt k least ≡ low → nat_le least (k + 0) ≡ not low
-    by true h = grind (arith, nat_tests, h)
-    by false h = grind (arith, nat_tests, h)
+deep_is k least = grind arith
 
 blank_is : (k least c : ℕ) (holds : Bool) (bs : List ℕ) → fits_from k least holds (c ∷ bs) ≡ (not ((c == 9) && nat_lt k least) && fits_from (suc k) least holds bs)
-blank_is k least c holds bs =
-    both (fits_from k least holds (c ∷ bs)) (not ((c == 9) && nat_lt k least) && fits_from (suc k) least holds bs)
-    (λ h. let f = blank_first k least c holds bs h in rw (f.0, f.1) refl)
-    (λ h. let q = and_parts (not ((c == 9) && nat_lt k least)) (fits_from (suc k) least holds bs) h in one_more_blank k least c holds bs (not-true ((c == 9) && nat_lt k least) q.0) q.1)
+blank_is k least c holds bs = grind arith
 
 content_is : (k least code : ℕ) (e : Bool) (ls : Lines) → lines_from k least e (begun_with (content code) ls) ≡ (not (nat_lt k least) && further_lines_fit least ls)
-content_is k least code e (last_line l) = ap (λ b. fits_from k least (not b) []) (and_false e) ∙ (deep_is k least ∙ and_true (not (nat_lt k least)))
-content_is k least code e (line l escaped ls) = ap (λ b. b && lines_fit least escaped ls) (deep_is k least)
+content_is k least code e a = grind (arith, and_false, deep_is, and_true, lines_fit)
 
 blanks_are : (k least c : ℕ) (e : Bool) (ls : Lines) → lines_from k least e (begun_with (blank c) ls) ≡ (not ((c == 9) && nat_lt k least) && lines_from (suc k) least false ls)
-blanks_are k least c e (last_line l) = ap (λ b. fits_from k least (not b) (c ∷ blanks_before l)) (and_false e) ∙ blank_is k least c true (blanks_before l)
-blanks_are k least c e (line l escaped ls) =
-    ap (λ b. b && lines_fit least escaped ls) (blank_is k least c (has_more l || escaped) (blanks_before l)) ∙ and_assoc (not ((c == 9) && nat_lt k least)) (fits_from (suc k) least (has_more l || escaped) (blanks_before l)) (lines_fit least escaped ls)
+blanks_are k least c e a = grind (arith, and_false, blank_is, lines_fit, has_more, and_assoc)
 
 further_begun : (least : ℕ) (e : Element) (ls : Lines) → further_lines_fit least (begun_with e ls) ≡ further_lines_fit least ls
-further_begun least e (last_line l) = refl
-further_begun least e (line l escaped ls) = refl
+further_begun least e a = grind arith
 
 fits_past : (least : ℕ) (s : LineStand) (k : ℕ) (e : Element) (fs : List Element) → fits_at least s k (e ∷ fs) ≡ (stands least s k e && fits_at least (past_element s e) (column_past k e) fs)
-fits_past least within k (content c) fs = further_begun least (content c) (lines_of fs)
-fits_past least within k (blank c) fs = further_begun least (blank c) (lines_of fs)
-fits_past least within k line_break fs = sym (lines_here least false (lines_of fs))
-fits_past least within k escaped_break fs = sym (lines_here least true (lines_of fs))
-fits_past least at_start k (content c) fs = content_is k least c false (lines_of fs)
-fits_past least at_start k (blank c) fs = blanks_are k least c false (lines_of fs)
-fits_past least at_start k line_break fs = ap (λ b. b && lines_fit least false (lines_of fs)) (empty_here k least) ∙ sym (lines_here least false (lines_of fs))
-fits_past least at_start k escaped_break fs = ap (λ b. b && lines_fit least true (lines_of fs)) (deep_is k least) ∙ ap (λ b. not (nat_lt k least) && b) (sym (lines_here least true (lines_of fs)))
-fits_past least past_escaped k (content c) fs = content_is k least c true (lines_of fs)
-fits_past least past_escaped k (blank c) fs = blanks_are k least c true (lines_of fs)
-fits_past least past_escaped k line_break fs = ap (λ b. b && lines_fit least false (lines_of fs)) (empty_here k least) ∙ sym (lines_here least false (lines_of fs))
-fits_past least past_escaped k escaped_break fs = ap (λ b. b && lines_fit least true (lines_of fs)) (deep_is k least) ∙ ap (λ b. not (nat_lt k least) && b) (sym (lines_here least true (lines_of fs)))
+fits_past least a k b fs = grind (arith, further_begun, lines_here, content_is, blanks_are, lines_fit, empty_here, deep_is)
 
 -- an indented line fits
 spaces_fit : (n k least : ℕ) → least ≡ k + n → fits_at least at_start k (replicate n (blank 32)) ≡ true
@@ -96,13 +68,25 @@ fits_are least s k (e ∷ es) = fits_past least s k e (es ++ line_break ∷ repl
 pub indented_are : (least k : ℕ) (es : List Element) → are_indented least es ≡ all_stand least within k es
 indented_are least k es = fits_are least within k es
 
+-- what may stand before a closing quote that begins a line, stands there too; after an escaped break the quote begins none
+abbrev pub before_quote : LineStand → List Element
+before_quote past_escaped = []
+before_quote s = content 92 ∷ []
+
+fits_closed : (least : ℕ) (s : LineStand) (k : ℕ) (es : List Element) → fits_at least s k es ≡ all_stand least s k (es ++ before_quote (past_elements s es))
+fits_closed least s k [] = grind (arith, deep_is, and_true, empty_here)
+fits_closed least s k (e ∷ es) = fits_past least s k e es ∙ ap (λ b. stands least s k e && b) (fits_closed least (past_element s e) (column_past k e) es)
+
+-- The lines of a whole body are indented just where each element may stand, and the closing quote.
+pub lines_close : (least k : ℕ) (es : List Element) → further_lines_fit least (lines_of es) ≡ all_stand least within k (es ++ before_quote (past_elements within es))
+lines_close least k es = fits_closed least within k es
+
 -- within a line the column does not matter
 within_alike : (least k j : ℕ) (es : List Element) → all_stand least within k es ≡ all_stand least within j es
 within_alike least k j [] = refl
 within_alike least k j (content c ∷ es) = within_alike least k j es
 within_alike least k j (blank c ∷ es) = within_alike least (suc k) (suc j) es
-within_alike least k j (line_break ∷ es) = refl
-within_alike least k j (escaped_break ∷ es) = refl
+within_alike least k j (e ∷ es) = refl
 
 -- ---- reasons
 
@@ -128,6 +112,15 @@ module _ (single : Bool) (least : ℕ) (start : Position) where
   pub data Reason (s : LineStand) (p : Position) (text : List ℕ) : Problem → Position → Type 0 where
     marked : (x : Cut [] s p text) → is_document_marker x.rest ≡ true → marked_from p.col x.body x.rest ≡ true → Reason s p text problem.QuotedDocumentMarker start
     other : (last : List Element) (why : Problem) (at : Position) (x : Cut last s p text) → marked_from p.col x.body x.rest ≡ false → Place (past_elements s x.es) (position_after p x.body x.rest) x.rest last why at → Reason s p text why at
+
+  -- A text begins with a body whose lines are indented, and its closing quote; the position after that.
+  pub record Closed (s : LineStand) (p : Position) (text rest : List ℕ) (end : Position) : Type 0 where
+    pub body : List ℕ
+    pub es : List Element
+    pub is_text : text ≡ body ++ quote_of single ∷ rest
+    pub are : elements (element_of single) 0 body ≡ Some es
+    pub fits : all_stand least s p.col (es ++ before_quote (past_elements s es)) ≡ true
+    pub end_is : end ≡ past (position_after p body (quote_of single ∷ rest))
 
   -- ---- an element before
 
@@ -176,10 +169,18 @@ module _ (single : Bool) (least : ℕ) (start : Position) where
         fits = rw fit (columns_are s p (x.es ++ last) ∙ x.fits);
       }
 
+      pub closed_grown : (rest : List ℕ) (end : Position) → Closed (past_element s e.element) (past_it p) (drop e.further b) rest end → Closed s p (c ∷ b) rest end
+      closed_grown rest end x = record {
+        body = before x.body;
+        es = e.element ∷ x.es;
+        is_text = cut x.body (quote_of single ∷ rest) x.is_text;
+        are = more x.body (quote_of single ∷ rest) x.es x.is_text x.are;
+        fits = rw fit (columns_are s p (x.es ++ before_quote (past_elements (past_element s e.element) x.es)) ∙ x.fits);
+        end_is = x.end_is ∙ ap past (sym (place p x.body (quote_of single ∷ rest) x.is_text));
+      }
+
       marks_grown : (body rest : List ℕ) → drop e.further b ≡ body ++ rest → marked_from p.col (before body) rest ≡ marked_from (past_it p).col body rest
-      marks_grown body rest h =
-          ap (λ t. ((p.col == 0) && is_document_marker t) || has_marker (before body) rest) (sym (cut body rest h)) ∙
-          (ap (λ x. x || has_marker (before body) rest) none ∙ marks_after single c b e is p body rest)
+      marks_grown body rest h = grind (arith, cut, none, marks_after)
 
       -- what is wrong after an element that may stand is wrong with the text before it
       pub grown : (why : Problem) (at : Position) → Reason (past_element s e.element) (past_it p) (drop e.further b) why at → Reason s p (c ∷ b) why at

@@ -1,5 +1,5 @@
 -- Faults of quoted scalars: a further line is not indented, or what stands after the scalar may not follow it.
-use Rattle.proof_scanner.proofs.Common.{[], ap, append-nil, append_assoc, are_indented, AreNotIndented, arith, Arrives, At, begins_separation, begins_with, bodies_are_read, Bool, check_after_quoted, closed_first, content, Context, Element, element_of, elements, ends_before, ends_spaces, Err, false, Fault, go_on, has_marker, has_no_nul, held_of, if◌then◌else◌, in_flow, is_breakz, is_document_marker, is_empty, IsBadEscape, IsQuoted, IsQuotedFault, IsStuck, least_here, lines_first, List, marked_from, may_follow_quoted, nat_lt, no_quoted, node_start, not, not-true, off_margin, Ok, on_held, past, past_elements, peek, Position, position_after, Problem, quote_of, quoted, quoted_lines_fit, quoted_may_end, Read, refl, Result, ScannerState, skip_spaces, Some, subst, sym, tab, true, unled, value_of, within, Yes, ℕ, ◌&&◌, ◌++◌, ◌+◌, ◌-◌, ◌==◌, ◌||◌, ◌∙◌, ◌∷◌, ◌≡◌}
+use Rattle.proof_scanner.proofs.Common.{[], ap, append-nil, append_assoc, are_indented, AreNotIndented, arith, Arrives, At, begins_separation, begins_with, bodies_are_read, Bool, check_after_quoted, closed_first, content, Context, Element, element_of, elements, ends_before, ends_spaces, Err, false, Fault, go_on, has_marker, has_no_nul, held_of, if◌then◌else◌, in_flow, is_breakz, is_document_marker, is_empty, IsBadEscape, IsQuoted, IsQuotedFault, least_here, lines_first, List, marked_from, may_follow_quoted, nat_lt, no_quoted, node_start, not, not-true, off_margin, Ok, on_held, past, past_elements, peek, Position, position_after, Problem, quote_of, quoted, quoted_lines_fit, quoted_may_end, Read, refl, Result, ScannerState, skip_spaces, Some, subst, sym, tab, true, unled, value_of, within, Yes, ℕ, ◌&&◌, ◌++◌, ◌+◌, ◌-◌, ◌==◌, ◌||◌, ◌∙◌, ◌∷◌, ◌≡◌, further_lines_fit, lines_of}
 use Rattle.yaml_tokens.specs.declared.problem.Problem.TheVariants as problem
 use Rattle.proof_lexers.specs.QuotedEnds as bad
 use Rattle.proof_lexers.specs.QuotedScan as scans
@@ -7,19 +7,19 @@ use Rattle.proof_scanner.proofs.Cut.Nodes.{IsDeep}
 use Rattle.proof_scanner.proofs.Cut.Pieces.Quoted.{some_chars}
 use Rattle.proof_scanner.proofs.Cut.Passes.{Spaced, spaces_skipped}
 use Rattle.proof_scanner.proofs.Cut.Saved.{saved_is}
-use Rattle.proof_scanner.proofs.Sound.QuotedBreaks.{same_limit}
+use Rattle.proof_scanner.proofs.Sound.QuotedBreaks.{same_limit, has_elements, body_between}
 use Rattle.proof_scanner.proofs.Sound.QuotedEnds.{unglued}
 use Rattle.proof_scanner.proofs.Sound.QuotedKeeps.{QuotedAs, piece_of}
 use Rattle.proof_scanner.proofs.Refusals.AfterQuoted.{check_passes}
-use Rattle.proof_scanner.proofs.Refusals.QuotedBodies.{quoted_scanned}
+use Rattle.proof_scanner.proofs.Refusals.QuotedCuts.{not_closed}
 use Rattle.proof_scanner.specs.NoPiece as none
 use Rattle.proof_scanner.specs.QuotedLines as lines
 use Rattle.proof_scanner.proofs.Refusals.QuotedElements.{after_quote_at}
 use Rattle.proof_scanner.proofs.Refusals.QuotedLines.{is_of_lines, Ends, refused, reads, quoted_ends}
-use Rattle.proof_scanner.proofs.Refusals.QuotedReasons.{all_stand, indented_are, Cut, Place, by_end, by_escape, by_column, by_tab, Reason, marked, other}
+use Rattle.proof_scanner.proofs.Refusals.QuotedReasons.{all_stand, indented_are, Cut, Place, by_end, by_escape, by_column, by_tab, Reason, marked, other, lines_close}
 use Rattle.proof_scanner.proofs.Refusals.Faults.{Faults, fault, goes, in_turn}
 use Rattle.proof_scanner.proofs.Refusals.Spaces.{spaces_told, solid_past}
-use Rattle.proof_scanner.proofs.Refusals.Places.{Told, LiesDeep, account_by, stuck, least_by, looked_at, none_here, followed_stuck}
+use Rattle.proof_scanner.proofs.Refusals.Places.{Said, IsWhy, LiesDeep, account_by, stuck, least_by, looked_at, none_here, followed_stuck}
 use Rattle.proof_row.proofs.Runs.{neither}
 
 -- ---- texts
@@ -56,8 +56,7 @@ bodied false more piece next cut is =
     record { body = is.1.0; value = is.0; piece_is = is.1.1; is_text = left ∙ append_assoc is.1.0 (34 ∷ []) next; value_is = is.1.2; ends = refl }
 
 same_quote : (single : Bool) → quote_of single ≡ none.quote_of single
-same_quote true = refl
-same_quote false = refl
+same_quote a = grind arith
 
 -- A text that the scan refuses, and not for its lines, begins with no quoted scalar.
 pub none_quoted : (single : Bool) (ctx : Context) (more : List ℕ) (p : Position) (f : Fault) → quoted single ctx (none.quote_of single ∷ more) p ≡ Err f → is_of_lines f ≡ false → none.HasNoQuoted single (none.quote_of single ∷ more)
@@ -67,9 +66,7 @@ none_quoted single ctx more p f fails unlike piece next cut is = by b (quoted si
     b = bodied single more piece next cut is
 
     by : (b : Bodied single more piece next) (x : Result (Read (List ℕ)) Fault) → x ≡ Err f → scans.IsRead ctx p b.value next x → ⊥
-    by b x i (scans.read position e) = cc (i, e)
-    by b x i (scans.shallow (scans.by_line q h e)) = let same : At problem.QuotedIndentation p ≡ f = cc (i, e) in cc (unlike, ap is_of_lines same)
-    by b x i (scans.shallow (scans.by_tab q h e)) = let same : At problem.TabAsIndentation q ≡ f = cc (i, e) in cc (unlike, ap is_of_lines same)
+    by b x i a = grind arith
 
 -- ---- the check
 
@@ -92,9 +89,9 @@ module _ (text : List ℕ) (t : ScannerState) (a : Arrives text t) (some : is_em
   fits = ap (λ n. quoted_lines_fit (n - 1) (element_of single) piece) (sym same) ∙ q.fits
 
   -- a comment right after the quote
-  glued : begins_with 35 x.rest ≡ true → Told text (At problem.CommentNotSeparated x.position)
+  glued : begins_with 35 x.rest ≡ true → Said text (At problem.CommentNotSeparated x.position)
   glued h =
-      λ _. subst (λ p. IsStuck text problem.CommentNotSeparated p) (sym q.end_is)
+      λ _. subst (λ p. IsWhy text problem.CommentNotSeparated p) (sym q.end_is)
       (followed_stuck text t a some lies problem.CommentNotSeparated (position_after t.held.position piece x.rest) (none.glued_to_quoted single piece x.rest q.cut is h) (λ c may. fits))
 
   refuses : (v : ScannerState) → skip_spaces Yes closed ≡ Ok v → may_follow_quoted (in_flow v.held) (t.held.position.line == v.held.position.line) (peek v.rest) ≡ false
@@ -110,22 +107,22 @@ module _ (text : List ℕ) (t : ScannerState) (a : Arrives text t) (some : is_em
       by true i = absurd (cc ((check_passes t.held.position piece closed q.end_is (ap (λ b. quoted_may_end b piece x.rest) flow_is ∙ i)).is, refuses v e n))
 
   -- other text on its line
-  followed_by : (v : ScannerState) → skip_spaces Yes closed ≡ Ok v → Spaced Yes closed v → may_follow_quoted (in_flow v.held) (t.held.position.line == v.held.position.line) (peek v.rest) ≡ false → Told text (At problem.ContentAfterQuoted v.held.position)
+  followed_by : (v : ScannerState) → skip_spaces Yes closed ≡ Ok v → Spaced Yes closed v → may_follow_quoted (in_flow v.held) (t.held.position.line == v.held.position.line) (peek v.rest) ≡ false → Said text (At problem.ContentAfterQuoted v.held.position)
   followed_by v e s n =
       let end : Position = position_after t.held.position piece x.rest in
       let passed : List ℕ = s.blanks ++ s.comment in
       let place : v.held.position ≡ position_after end passed v.rest = ap (λ h. h.position) s.is_held ∙ ap (λ p. position_after p passed v.rest) q.end_is in
-      λ _. subst (λ p. IsStuck text problem.ContentAfterQuoted p) (sym place)
+      λ _. subst (λ p. IsWhy text problem.ContentAfterQuoted p) (sym place)
       (followed_stuck text t a some lies problem.ContentAfterQuoted (position_after end passed v.rest)
       (none.after_quoted single piece x.rest passed v.rest q.cut is (may_not_end v e n) (record { is_text = s.is_rest ∙ sym (append_assoc s.blanks s.comment v.rest); is_filled = s.is_filled; is_on_line = s.no_break })
       (solid_left (in_flow v.held) (t.held.position.line == v.held.position.line) v.rest s.ends n)) (λ c may. (fits, held_of v (unglued Yes closed) e)))
 
-  pub after_told : Faults (Told text) (check_after_quoted t.held.position.line closed)
+  pub after_told : Faults (Said text) (check_after_quoted t.held.position.line closed)
   unfolding check_after_quoted
   after_told = in_turn (spaces_told text Yes closed glued) (λ v e. by v e (held_of v (spaces_skipped Yes closed) e) (may_follow_quoted (in_flow v.held) (t.held.position.line == v.held.position.line) (peek v.rest)) refl)
     where
       by : (v : ScannerState) → skip_spaces Yes closed ≡ Ok v → Spaced Yes closed v → (b : Bool) → may_follow_quoted (in_flow v.held) (t.held.position.line == v.held.position.line) (peek v.rest) ≡ b
-          → Faults (Told text) (if b then Ok v else Err (At problem.ContentAfterQuoted v.held.position))
+          → Faults (Said text) (if b then Ok v else Err (At problem.ContentAfterQuoted v.held.position))
       by v e s true n = goes
       by v e s false n = fault {f = At problem.ContentAfterQuoted v.held.position} (followed_by v e s n)
 
@@ -133,9 +130,7 @@ module _ (text : List ℕ) (t : ScannerState) (a : Arrives text t) (some : is_em
 
 not_of_lines : (text : List ℕ) (why : Problem) (p : Position) → IsBadEscape text why → is_of_lines (At why p) ≡ false
 not_of_lines text why p bad.ends = refl
-not_of_lines text why p (bad.unknown c r i j k) = refl
-not_of_lines text why p (bad.no_digit c digits r i j k) = refl
-not_of_lines text why p (bad.no_character c digits code r i j k l) = refl
+not_of_lines text why p n = refl
 
 module _ (text : List ℕ) (t : ScannerState) (a : Arrives text t) (some : is_empty t.rest ≡ false) (lies : LiesDeep t) where
   abbrev here : Position
@@ -145,7 +140,7 @@ module _ (text : List ℕ) (t : ScannerState) (a : Arrives text t) (some : is_em
   least = t.held.indent - 1
 
   -- the quoted scalar that begins here is none
-  lines_stuck : (single : Bool) (why : Problem) (at : Position) → AreNotIndented single least t.rest → (x : IsQuotedFault single least here t.rest why at) → lines_first single least here t.rest why at x → IsStuck text why at
+  lines_stuck : (single : Bool) (why : Problem) (at : Position) → AreNotIndented single least t.rest → (x : IsQuotedFault single least here t.rest why at) → lines_first single least here t.rest why at x → IsWhy text why at
   lines_stuck single why at none_fits x first =
       stuck text t a some [] why at (λ c may.
       let P : ℕ → Type 0 = λ n. (y : IsQuotedFault single n here t.rest why at) × lines_first single n here t.rest why at y in
@@ -160,8 +155,9 @@ module _ (text : List ℕ) (t : ScannerState) (a : Arrives text t) (some : is_em
       none_there : is_of_lines f ≡ false → none.HasNoQuoted single t.rest
       none_there told = subst (λ r. none.HasNoQuoted single r) (sym e) (none_quoted single ctx more here f fails told)
 
-      none_fits : AreNotIndented single least t.rest
-      none_fits piece next cut is = on (quoted_lines_fit least (element_of single) piece) refl
+      none_fits : (last : List Element) (why : Problem) (at : Position) (x : Cut single least here last within (past here) more)
+          → Place single least here (past_elements within x.es) (position_after (past here) x.body x.rest) x.rest last why at → AreNotIndented single least t.rest
+      none_fits last why at x wrong piece next cut is = on (quoted_lines_fit least (element_of single) piece) refl
         where
           b : Bodied single more piece next
           b = bodied single more piece next (sym e ∙ cut) is
@@ -169,18 +165,16 @@ module _ (text : List ℕ) (t : ScannerState) (a : Arrives text t) (some : is_em
           on : (fit : Bool) → quoted_lines_fit least (element_of single) piece ≡ fit → fit ≡ false
           on false i = refl
           on true i =
-              let fit : quoted_lines_fit (ctx.indent - 1) (element_of single) (quote_of single ∷ (b.body ++ quote_of single ∷ [])) ≡ true =
-              ap (λ n. quoted_lines_fit (n - 1) (element_of single) (quote_of single ∷ (b.body ++ quote_of single ∷ []))) same ∙
-              (ap (λ q. quoted_lines_fit least (element_of single) (q ∷ (b.body ++ q ∷ []))) (same_quote single) ∙ (ap (λ p. quoted_lines_fit least (element_of single) p) (sym b.piece_is) ∙ i)) in
-              let reads = (quoted_scanned single ctx b.body next b.value here b.value_is b.ends (omega (arith, deep, same)) fit).is in
-              let at_text = ap (λ q. quoted single ctx (q ∷ (b.body ++ q ∷ next)) here) (same_quote single) ∙ ap (λ r. quoted single ctx (none.quote_of single ∷ r) here) (sym b.is_text) in
-              absurd (cc (reads, at_text, fails))
+              let es = has_elements single b.body b.value b.value_is in
+              let whole : quoted_lines_fit least (element_of single) (none.quote_of single ∷ (b.body ++ none.quote_of single ∷ [])) ≡ true = ap (quoted_lines_fit least (element_of single)) (sym b.piece_is) ∙ i in
+              let fit : further_lines_fit least (lines_of es.0) ≡ true = rw (body_between (none.quote_of single) b.body, es.1) at whole in
+              absurd (not_closed single least here within (past here) more b.body next es.0 b.is_text b.ends es.1 (sym (lines_close least (past here).col es.0) ∙ fit) last why at x wrong)
 
       indented : (es : List Element) → all_stand least within (past here).col (es ++ []) ≡ true → are_indented least es ≡ true
       indented es h = indented_are least (past here).col es ∙ (ap (all_stand least within (past here).col) (sym (append-nil es)) ∙ h)
 
       -- what is wrong with the text after the quote is what the whole text is stuck by
-      told_by : (why : Problem) (at : Position) → At why at ≡ f → Reason single least here within (past here) more why at → IsStuck text why at
+      told_by : (why : Problem) (at : Position) → At why at ≡ f → Reason single least here within (past here) more why at → IsWhy text why at
       told_by why at is (marked x marker m) =
           none_here text t a some lies problem.QuotedDocumentMarker
           (none.unquoted single more problem.QuotedDocumentMarker e (none_there (ap is_of_lines (sym is))) (none.by_marker x.body x.rest x.is_text (x.es, x.are) (marks_in (has_marker x.body x.rest) m)))
@@ -194,7 +188,7 @@ module _ (text : List ℕ) (t : ScannerState) (a : Arrives text t) (some : is_em
           unmarked body rest h = rw (off_margin here.col 0) at h
 
           by : (last : List Element) (why : Problem) (at : Position) → At why at ≡ f → (x : Cut single least here last within (past here) more) → marked_from (past here).col x.body x.rest ≡ false
-              → Place single least here (past_elements within x.es) (position_after (past here) x.body x.rest) x.rest last why at → IsStuck text why at
+              → Place single least here (past_elements within x.es) (position_after (past here) x.body x.rest) x.rest last why at → IsWhy text why at
           by last why at is x m (by_end ends) =
               let all : more ≡ x.body = x.is_text ∙ (ap (λ r. x.body ++ r) ends ∙ append-nil x.body) in
               none_here text t a some lies problem.QuotedEnd
@@ -205,19 +199,19 @@ module _ (text : List ℕ) (t : ScannerState) (a : Arrives text t) (some : is_em
               (none.unquoted single more why e (none_there (ap is_of_lines (sym is) ∙ not_of_lines next why here bad)) (none.by_escape x.body next why double (x.is_text ∙ ap (λ r. x.body ++ r) cut) (x.es, x.are) bad))
               (ap (λ r. has_marker x.body r) (sym cut) ∙ unmarked x.body x.rest m, indented_are least (past here).col (x.es ++ content 92 ∷ []) ∙ x.fits)
           by last why at is x m (by_column solid further low) =
-              lines_stuck single problem.QuotedIndentation here none_fits
+              lines_stuck single problem.QuotedIndentation here (none_fits last why at x (by_column solid further low))
               (lines.by_column x.body x.rest x.es (e ∙ ap (λ r. none.quote_of single ∷ r) x.is_text) x.are solid further (ap (λ (q : Position). nat_lt q.col least) (after_quote_at single here x.body x.rest) ∙ low))
               (unmarked x.body x.rest m, indented x.es x.fits)
           by last why at is x m (by_tab next cut further low) =
               let same_place : position_after (past here) x.body x.rest ≡ position_after here (none.quote_of single ∷ x.body) (tab ∷ next) = sym (after_quote_at single here x.body x.rest) ∙ ap (λ r. position_after here (none.quote_of single ∷ x.body) r) cut in
-              subst (λ z. IsStuck text problem.TabAsIndentation z) (sym same_place)
-              (lines_stuck single problem.TabAsIndentation (position_after here (none.quote_of single ∷ x.body) (tab ∷ next)) none_fits
+              subst (λ z. IsWhy text problem.TabAsIndentation z) (sym same_place)
+              (lines_stuck single problem.TabAsIndentation (position_after here (none.quote_of single ∷ x.body) (tab ∷ next)) (none_fits last why at x (by_tab next cut further low))
               (lines.by_tab x.body next x.es (e ∙ ap (λ r. none.quote_of single ∷ r) (x.is_text ∙ ap (λ r. x.body ++ r) cut)) x.are further (ap (λ (q : Position). nat_lt q.col least) (sym same_place) ∙ low))
               (ap (λ r. has_marker x.body r) (sym cut) ∙ unmarked x.body x.rest m, indented x.es x.fits))
 
-    pub refused_told : has_no_nul more ≡ true → (f : Fault) → quoted single ctx (none.quote_of single ∷ more) here ≡ Err f → Told text f
+    pub refused_told : has_no_nul more ≡ true → (f : Fault) → quoted single ctx (none.quote_of single ∷ more) here ≡ Err f → Said text f
     refused_told clean f fails = by (quoted_ends single ctx here least limit (omega (arith, deep, same)) more (some_chars more clean))
       where
-        by : Ends single ctx here least limit within (past here) more (quoted single ctx (none.quote_of single ∷ more) here) → Told text f
-        by (reads y i) = absurd (cc (i, fails))
-        by (refused why at h i) = let is : At why at ≡ f = cc (i, fails) in subst (λ g. Told text g) is (λ _. told_by f fails why at is h)
+        by : Ends single ctx here least limit within (past here) more (quoted single ctx (none.quote_of single ∷ more) here) → Said text f
+        by (reads y w i) = absurd (cc (i, fails))
+        by (refused why at h i) = let is : At why at ≡ f = cc (i, fails) in subst (λ g. Said text g) is (λ _. told_by f fails why at is h)

@@ -1,5 +1,5 @@
 -- Where the scanner's model refuses a text with a fault of a kind that is told, the text is stuck.
-use Rattle.proof_scanner.proofs.Common.{[], ap, Arrives, At, begins, Bool, cleared, drop_stale, false, Fares, Fault, fetch, fetch_here, fetch_next, fetch_stream_end, fetch_stream_start, has_no_nul, has_required, Held, held_of, here, Holds, in_flow, inl, inr, is_empty, is_far, is_overdue, IsRefused, Key, List, list_any, map, next_line, None, not-false, Ok, on_held, Option, outside_key, over, peek, Position, Reaches, refl, RefusedTextsAreStuck, Result, ScannerState, Some, stale, Stands, start, still, subst, sym, there, top_key, true, unroll_indent, ℕ, ◌&&◌, ◌+◌, ◌==◌, ◌||◌, ◌∙◌, ◌∷◌, ◌≡◌, ◌⊎◌}
+use Rattle.proof_scanner.proofs.Common.{OutOfMemory, [], ap, Arrives, At, begins, cleared, drop_stale, false, Fares, Fault, fetch, fetch_here, fetch_next, fetch_stream_end, fetch_stream_start, has_no_nul, has_required, held_of, here, Holds, in_flow, inl, inr, is_empty, is_far, is_overdue, IsRefused, Key, List, list_any, map, next_line, not-false, Ok, on_held, Option, outside_key, over, peek, Position, Reaches, refl, RefusedTextsAreStuck, ScannerState, Some, stale, Stands, start, still, subst, sym, there, top_key, true, unroll_indent, ℕ, ◌+◌, ◌==◌, ◌∙◌, ◌∷◌, ◌≡◌, ◌⊎◌, arith}
 use Rattle.yaml_tokens.specs.declared.problem.Problem.TheVariants as problem
 use Rattle.model_scanner.specs.Keys.{with_keys}
 use Rattle.model_scanner.proofs.Holds as holds
@@ -13,18 +13,14 @@ use Rattle.proof_scanner.specs.Never.{AnchorIndentationNeverComes}
 use Rattle.proof_scanner.proofs.Refusals.Faults as faults
 use Rattle.proof_scanner.proofs.Refusals.Faults.{Faults, fault_is, in_turn, tried, either}
 use Rattle.proof_scanner.proofs.Refusals.Fetches.{here_told}
-use Rattle.proof_scanner.proofs.Refusals.OtherFaults.{stuck_other}
+use Rattle.proof_scanner.proofs.Refusals.OtherFaults.{stuck_never}
 use Rattle.proof_scanner.proofs.Refusals.Passing.{HasNear, fetch_near, passing_told}
-use Rattle.proof_scanner.proofs.Refusals.Places.{Told, kind, rowless_told}
+use Rattle.proof_scanner.proofs.Refusals.Places.{Told, Said, kind, rowless_told}
 use Rattle.proof_scanner.proofs.Refusals.RequiredKeys.{stale_rowless}
 use Rattle.proof_scanner.proofs.Refusals.Rolled.{unrolled_stays}
 use Rattle.proof_scanner.proofs.Refusals.Shortens.{stale_arrives}
 
 -- ---- a fetch
-
-keys_told : {text : List ℕ} (s : Held) {r : Result (List (Option Key)) Fault} → Faults (Told text) r → Faults (Told text) (with_keys s r)
-keys_told s (faults.fault p) = faults.fault p
-keys_told s faults.goes = faults.goes
 
 -- an open key that is far and must be one
 record Overdue (k : Option Key) (p : Position) : Type 0 where
@@ -34,18 +30,13 @@ record Overdue (k : Option Key) (p : Position) : Type 0 where
   must : key.required ≡ true
 
 overdue : (p : Position) (k : Option Key) (ks : List (Option Key)) → ks ≡ k ∷ [] → list_any (is_overdue p) ks ≡ true → Overdue k p
-overdue p None ks e h = absurd (cc (sym (ap (list_any (is_overdue p)) e) ∙ h))
-overdue p (Some k) ks e h = by (is_far k.position p) k.required refl refl (sym (ap (list_any (is_overdue p)) e) ∙ h)
-  where
-    by : (far must : Bool) → is_far k.position p ≡ far → k.required ≡ must → ((far && must) || false) ≡ true → Overdue (Some k) p
-    by true true f m h = record { key = k; is_open = refl; is_far = f; must = m }
-    by true false f m h = absurd (cc h)
-    by false must f m h = absurd (cc h)
+overdue p k ks e h = grind arith
 
-stale_told : (text : List ℕ) → has_no_nul text ≡ true → (u : ScannerState) → Stands text u → Faults (Told text) (stale u.held)
+stale_told : (text : List ℕ) → has_no_nul text ≡ true → (u : ScannerState) → Stands text u → Faults (Said text) (stale u.held)
 unfolding stale drop_stale
 stale_told text nul u s =
-    either (in_flow u.held) (λ _. faults.goes) (λ o. keys_told u.held (rowless_told text (list_any (is_overdue u.held.position) u.held.keys) problem.KeyWithoutColon u.held.position (map (still u.held.position) u.held.keys) refl (λ h.
+    either (in_flow u.held) (λ _. faults.goes) (λ o. faults.kept (with_keys u.held) (λ e. refl) (λ x. faults.goes)
+    (rowless_told text (list_any (is_overdue u.held.position) u.held.keys) problem.KeyWithoutColon u.held.position (map (still u.held.position) u.held.keys) refl (λ h.
     let out : is_empty u.held.flow ≡ true = not-false (is_empty u.held.flow) o in
     let only = one_key u.held.keys u.held.flow s.one_each out in
     let far = overdue u.held.position only.0 u.held.keys only.1 h in
@@ -55,13 +46,7 @@ stale_told text nul u s =
 -- where no key must be one none is refused
 none_overdue : (p : Position) (ks : List (Option Key)) → has_required ks ≡ false → list_any (is_overdue p) ks ≡ false
 none_overdue p [] h = refl
-none_overdue p (None ∷ ks) h = none_overdue p ks h
-none_overdue p (Some k ∷ ks) h = by (is_far k.position p) k.required h (none_overdue p ks)
-  where
-    by : (far must : Bool) → (must || has_required ks) ≡ false → (has_required ks ≡ false → list_any (is_overdue p) ks ≡ false) → ((far && must) || list_any (is_overdue p) ks) ≡ false
-    by far true h on = absurd (cc h)
-    by true false h on = on h
-    by false false h on = on h
+none_overdue p (k ∷ ks) h = grind (arith, none_overdue p ks)
 
 -- A fetch that goes on stands again before it drops keys; one that ends the stream leaves none.
 abbrev StandsOrEnds : List ℕ → ScannerState → Type 0
@@ -79,12 +64,14 @@ here_stands : (text : List ℕ) (t : ScannerState) → Arrives text t → Holds 
 unfolding fetch_here
 here_stands text t a = holds.either (peek t.rest == 0) (λ _. holds.weakened (λ u x. inr x) (end_cleared t)) (λ e. holds.weakened (λ u x. inl x) (content_kept text t a (goes_on_here t.rest e)))
 
-left_told : (text : List ℕ) → has_no_nul text ≡ true → (t : ScannerState) → StandsOrEnds text t → Faults (Told text) (stale t.held)
+left_told : (text : List ℕ) → has_no_nul text ≡ true → (t : ScannerState) → StandsOrEnds text t → Faults (Said text) (stale t.held)
 unfolding stale drop_stale
 left_told text nul t (inl s) = stale_told text nul t s
-left_told text nul t (inr none) = either (in_flow t.held) (λ _. faults.goes) (λ _. keys_told t.held (rowless_told text (list_any (is_overdue t.held.position) t.held.keys) problem.KeyWithoutColon t.held.position (map (still t.held.position) t.held.keys) refl (λ h. absurd (cc (h, none_overdue t.held.position t.held.keys none)))))
+left_told text nul t (inr none) =
+    either (in_flow t.held) (λ _. faults.goes) (λ _. faults.kept (with_keys t.held) (λ e. refl) (λ x. faults.goes)
+    (rowless_told text (list_any (is_overdue t.held.position) t.held.keys) problem.KeyWithoutColon t.held.position (map (still t.held.position) t.held.keys) refl (λ h. absurd (cc (h, none_overdue t.held.position t.held.keys none)))))
 
-next_told : (text : List ℕ) → has_no_nul text ≡ true → (t : ScannerState) → Stands text t → HasNear t.held → Faults (Told text) (fetch_next t)
+next_told : (text : List ℕ) → has_no_nul text ≡ true → (t : ScannerState) → Stands text t → HasNear t.held → Faults (Said text) (fetch_next t)
 unfolding fetch_next
 next_told text nul t s near =
     in_turn (passing_told text t s near) (λ u e.
@@ -95,7 +82,7 @@ next_told text nul t s near =
     in_turn (here_told text here b) (λ w i.
     tried w (left_told text nul w (held_of w (here_stands text here b) i)))))
 
-fetch_told : (text : List ℕ) → has_no_nul text ≡ true → (t : ScannerState) → Stands text t → HasNear t.held → Faults (Told text) (fetch t)
+fetch_told : (text : List ℕ) → has_no_nul text ≡ true → (t : ScannerState) → Stands text t → HasNear t.held → Faults (Said text) (fetch t)
 unfolding fetch
 fetch_told text nul t s near = either t.held.started (λ _. next_told text nul t s near) (λ n. absurd (cc (n, s.started)))
 
@@ -132,19 +119,26 @@ first_known : (text : List ℕ) → Known text (start text)
 first_known text = record { fares = begins refl; near = λ o k e. absurd (cc e) }
 
 -- What a refusal says of the text.
-pub refusal_told : (text : List ℕ) (f : Fault) → has_no_nul text ≡ true → IsRefused text f → Told text f
-refusal_told text f nul r = by k.fares
+pub refusal_said : (text : List ℕ) (f : Fault) → has_no_nul text ≡ true → IsRefused text f → Said text f
+refusal_said text f nul r = by k.fares
   where
     k : Known text r.last
     k = known_on text nul (start text) r.last r.run (first_known text)
 
-    by : Fares text r.last → Told text f
+    by : Fares text r.last → Said text f
     by (begins b) = absurd (cc (sym (first_fetch text) ∙ (ap fetch (sym b) ∙ r.refused)))
     by (goes s) = fault_is f (fetch_told text nul r.last s k.near) r.refused
     by (over g n m) = absurd (cc (g, r.going))
+
+pub refusal_told : (text : List ℕ) (f : Fault) → has_no_nul text ≡ true → IsRefused text f → Told text f
+refusal_told text f nul r = by f (refusal_said text f nul r)
+  where
+    by : (f : Fault) → Said text f → Told text f
+    by OutOfMemory h = h
+    by (At why at) h = λ asked. (h asked).is_stuck
 
 pub refused_texts_are_stuck : RefusedTextsAreStuck
 refused_texts_are_stuck text why at nul r told = refusal_told text (At why at) nul r (kind told)
 
 pub anchor_indentation_never_comes : AnchorIndentationNeverComes
-anchor_indentation_never_comes text at nul r = cc (stuck_other text problem.AnchorIndentation at (refused_texts_are_stuck text problem.AnchorIndentation at nul r refl))
+anchor_indentation_never_comes text at nul r = stuck_never text at (refused_texts_are_stuck text problem.AnchorIndentation at nul r refl)

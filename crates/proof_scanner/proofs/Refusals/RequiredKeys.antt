@@ -1,5 +1,5 @@
 -- A key that must be one waits in each row of the text. So a text has no row where the scanner's model refuses one that comes to no colon.
-use Rattle.proof_scanner.proofs.Common.{[], Account, account_past, Act, act_of, ap, append-nil, append_assoc, append_cancel_right, AreAround, AreEntries, arith, Arrives, Begins, begins_free_line, Bool, comma, context_of, Entry, false, first_account, first_position, FlowLevel, gives_closing, gives_comma, GoesThrough, has_no_nul, has_required, HasNoKey, in_flow, inl, inr, is_blank, is_blank_or_end, is_break, is_empty, is_far, is_flow, is_in_flow, is_nul, is_required, is_separation, IsLineHere, IsNear, IsPositionIn, IsRowFrom, Key, Leads, length, Line, line_past, List, mapping_closing, MayChoose, nat_tests, None, not, Option, Outside, outside_key, Position, position_after, position_append, refl, same_flow, ScannerState, sequence_closing, Some, spelled, Stands, Step, subst, suc, sym, top_key, true, waits, Whole, ℕ, ◌++◌, ◌||◌, ◌∙◌, ◌∷◌, ◌≡◌, ◌≤◌, ◌⊎◌}
+use Rattle.proof_scanner.proofs.Common.{[], Account, account_past, Act, act_of, ap, append-nil, append_assoc, append_cancel_right, AreAround, AreEntries, arith, Arrives, Begins, begins_free_line, Bool, comma, context_of, Entry, false, first_account, first_position, FlowLevel, gives_closing, gives_comma, GoesThrough, has_no_nul, has_required, HasNoKey, in_flow, inl, inr, is_blank, is_blank_or_end, is_break, is_empty, is_far, is_flow, is_in_flow, is_nul, is_required, is_separation, IsNear, IsPositionIn, IsRowFrom, Key, Leads, length, Line, line_past, List, mapping_closing, MayChoose, nat_tests, None, not, Option, Outside, outside_key, Position, position_after, position_append, refl, same_flow, ScannerState, sequence_closing, Some, spelled, Stands, Step, subst, suc, sym, top_key, true, waits, Whole, ℕ, ◌++◌, ◌||◌, ◌∙◌, ◌∷◌, ◌≡◌, ◌≤◌, ◌⊎◌}
 use Rattle.proof_scanner.proofs.Cut.Documents.{whole_text}
 use Rattle.proof_scanner.proofs.Cut.Positions.{not_before_after, index_after}
 use Rattle.proof_scanner.proofs.Sound.CutsSoFar.{stands_cut, cut_position}
@@ -32,7 +32,7 @@ begins_waiting text after b g = leads_waiting g.steps after first_account b (λ 
 -- the text of steps, without what comes after them
 before_is : (ws : List Step) (after : List ℕ) → spelled ws after ≡ spelled ws [] ++ after
 before_is [] after = refl
-before_is (w ∷ ws) after = ap (λ x. w.separation ++ (w.piece ++ x)) (before_is ws after) ∙ (ap (λ x. w.separation ++ x) (sym (append_assoc w.piece (spelled ws []) after)) ∙ sym (append_assoc w.separation (w.piece ++ spelled ws []) after))
+before_is (w ∷ ws) after = grind (arith, append_assoc, before_is ws after)
 
 leads_position : (ws : List Step) (after : List ℕ) (a b : Account) → Leads (Some a) ws after b → b.site.position ≡ position_after a.site.position (spelled ws []) after
 leads_position [] after a b e = ap (λ (x : Account). x.site.position) (sym e)
@@ -97,27 +97,20 @@ none_at_end text separation rest q g waiting filled none = by g.steps g.is_row g
 -- a key that must be one is the one outside flow
 required_around : (fs : List FlowLevel) (ks : List (Option Key)) (es : List Entry) → AreAround fs ks es → length ks ≡ suc (length fs) → has_required ks ≡ true → (k : Key) × (outside_key es ks ≡ Some k) × (k.required ≡ true)
 required_around [] [] es a n h = absurd (cc h)
-required_around [] (None ∷ ks) (e ∷ es) a n h = absurd a
-required_around [] (Some k ∷ ks) (e ∷ es) a n h = absurd a
+required_around [] b (e ∷ es) a n h = grind arith
 required_around [] (None ∷ []) [] a n h = absurd (cc h)
-required_around [] (Some k ∷ []) [] a n h = (k, refl, by k.required h)
-  where
-    by : (b : Bool) → (b || false) ≡ true → b ≡ true
-    by true h = refl
-    by false h = absurd (cc h)
+required_around [] (Some k ∷ []) [] a n h = grind arith
 required_around [] (k ∷ x ∷ ks) [] a n h = absurd (omega (arith, n))
-required_around (f ∷ fs) [] es a n h = absurd (cc h)
-required_around (f ∷ fs) (k ∷ ks) [] a n h = absurd a
-required_around (f ∷ fs) (None ∷ ks) (e ∷ es) a n h = required_around fs ks es a.2 (omega (arith, n)) h
-required_around (f ∷ fs) (Some k ∷ ks) (e ∷ es) a n h = required_around fs ks es a.2 (omega (arith, n)) (ap (λ b. b || has_required ks) (sym a.0.key_is) ∙ h)
+required_around (f ∷ fs) ks [] a n h = grind arith
+required_around (f ∷ fs) [] (e ∷ es) a n h = absurd (cc h)
+required_around (f ∷ fs) (k ∷ ks) (e ∷ es) a n h = grind (arith, required_around fs ks es)
 
 required_outside : (allowed again : Bool) (fs : List FlowLevel) (ks : List (Option Key)) (es : List Entry) → AreEntries allowed again fs ks es → length ks ≡ suc (length fs) → has_required ks ≡ true → (k : Key) × (outside_key es ks ≡ Some k) × (k.required ≡ true)
 required_outside allowed again [] ks [] a n h = required_around [] ks [] tt n h
 required_outside allowed again [] ks (e ∷ es) a n h = absurd a
 required_outside allowed again (f ∷ fs) [] es a n h = absurd (cc h)
 required_outside allowed again (f ∷ fs) (k ∷ ks) [] a n h = absurd a
-required_outside allowed again (f ∷ fs) (None ∷ ks) (e ∷ es) a n h = required_around fs ks es a.2 (omega (arith, n)) h
-required_outside allowed again (f ∷ fs) (Some k ∷ ks) (e ∷ es) a n h = required_around fs ks es a.2 (omega (arith, n)) (ap (λ b. b || has_required ks) (sym a.0.key_is) ∙ h)
+required_outside allowed again (f ∷ fs) b (e ∷ es) a n h = grind (arith, required_around)
 
 -- ---- between two fetches, and at the text's end
 
@@ -137,16 +130,7 @@ end_rowless text t a none must r h =
 
 -- no comma and no closing bracket comes while a key waits
 none_closes : (must : Bool) (here : Position) (bs : List ℕ) (k : Act) (key : Bool) (l : Line) (q : Position) (o : Outside) → l ≡ waits q → (k ≡ gives_comma) ⊎ (k ≡ gives_closing) → line_past must here bs k key l ≡ Some o → ⊥
-none_closes must here bs k key l q o e (inl c) h = by key (sym (ap (λ x. line_past must here bs x key l) c ∙ ap (line_past must here bs gives_comma key) e) ∙ h)
-  where
-    by : (key : Bool) → line_past must here bs gives_comma key (waits q) ≡ Some o → ⊥
-    by true h = cc h
-    by false h = cc h
-none_closes must here bs k key l q o e (inr c) h = by key (sym (ap (λ x. line_past must here bs x key l) c ∙ ap (line_past must here bs gives_closing key) e) ∙ h)
-  where
-    by : (key : Bool) → line_past must here bs gives_closing key (waits q) ≡ Some o → ⊥
-    by true h = cc h
-    by false h = cc h
+none_closes must a bs k b l q o e d h = grind arith
 
 -- The row's step at a place, while a key waits outside flow: no comma or closing bracket, and nothing in column 0.
 module _ (a : Account) (separation rest : List ℕ) (here : Position) (s : StepAt a separation rest here) (q : Position) (waiting : s.account.line ≡ waits q) where
@@ -179,11 +163,7 @@ module _ (a : Account) (separation rest : List ℕ) (here : Position) (s : StepA
 
 -- in flow the innermost open key need not be one
 free_inside : (allowed again : Bool) (fs : List FlowLevel) (ks : List (Option Key)) (es : List Entry) → is_empty fs ≡ false → AreEntries allowed again fs ks es → is_required (top_key ks) ≡ false
-free_inside allowed again [] ks es i a = absurd (cc i)
-free_inside allowed again (f ∷ fs) [] es i a = refl
-free_inside allowed again (f ∷ fs) (None ∷ ks) es i a = refl
-free_inside allowed again (f ∷ fs) (Some k ∷ ks) [] i a = absurd a
-free_inside allowed again (f ∷ fs) (Some k ∷ ks) (e ∷ es) i a = a.0.key_is
+free_inside allowed again a ks es i b = grind arith
 
 module _ (text : List ℕ) (t : ScannerState) (a : Arrives text t) (some : is_empty t.rest ≡ false) where
   -- outside flow the open key is that outside
@@ -192,17 +172,7 @@ module _ (text : List ℕ) (t : ScannerState) (a : Arrives text t) (some : is_em
 
   -- A key that must be one has taken the line.
   pub not_required : (in_flow t.held || t.held.key_allowed) ≡ true → is_required (top_key t.held.keys) ≡ false
-  not_required free = by (is_empty t.held.flow) refl
-    where
-      none : (k : Option Key) (l : Line) → IsLineHere false t.held.key_allowed t.rest k l → t.held.key_allowed ≡ true → is_required k ≡ false
-      none None l h free = refl
-      none (Some k) l h free = absurd (cc (free, (h some).1))
-
-      by : (out : Bool) → is_empty t.held.flow ≡ out → is_required (top_key t.held.keys) ≡ false
-      by false i = free_inside t.held.key_allowed _ t.held.flow t.held.keys a.base.entries i a.are_entries
-      by true out =
-          none (top_key t.held.keys) a.line_here (subst (λ k. IsLineHere false t.held.key_allowed t.rest k a.line_here) (key_outside out) (subst (λ b. IsLineHere (not b) t.held.key_allowed t.rest (outside_key a.base.entries t.held.keys) a.line_here) out a.line_is))
-          (subst (λ b. (not b || t.held.key_allowed) ≡ true) out free)
+  not_required free = grind arith
 
   -- If the innermost open key must be one, it waits where the row goes on; so no row does where no such step stands.
   rowless : ((b : Account) (s : StepAt b a.separation t.rest t.held.position) (q : Position) → is_in_flow b.entries ≡ false → s.account.line ≡ waits q → Waiting s.account.line s.account.site → ⊥) → is_required (top_key t.held.keys) ≡ true → IsRowless text
@@ -210,12 +180,10 @@ module _ (text : List ℕ) (t : ScannerState) (a : Arrives text t) (some : is_em
     where
       -- it is near
       may : (k : Option Key) → IsNear k t.held.position → MayChoose true true k t.held.position t.rest
-      may None near = tt
-      may (Some k) near = (near.0, some)
+      may a near = grind (arith, some)
 
       found : (k : Option Key) → outside_key a.base.entries t.held.keys ≡ k → is_required k ≡ true → (x : Key) × (outside_key a.base.entries t.held.keys ≡ Some x) × (x.required ≡ true)
-      found None e m = absurd (cc m)
-      found (Some x) e m = (x, e, m)
+      found a e m = grind arith
 
       by : (out : Bool) → is_empty t.held.flow ≡ out → IsRowless text
       by false i r h = absurd (cc (free_inside t.held.key_allowed _ t.held.flow t.held.keys a.base.entries i a.are_entries, must))

@@ -1,8 +1,7 @@
 -- Each fetch reads on: where a piece begins, less text is left after it.
 use Rattle.std.proofs.lemmas.List.{length-append}
-use Rattle.proof_scanner.proofs.Common.{[], after_plain, allow_key, anchor_name, and_parts, ap, append_assoc, are_single, arith, Arrives, At, Before, before_by, before_past, begin_flow, begin_key, begin_line, begins_separation, block, Bool, both_hold, chained, check_after_quoted, check_after_tab, check_block_entry, check_dash, check_document_end, check_key_space, check_value_space, checked, Collection, collection_column, collection_of, comes_plain, Context, context, directives_end, either, end_entry, end_flow, end_stream, Err, false, Fault, fetch, fetch_anchor, fetch_block_entry, fetch_block_scalar, fetch_content, fetch_directive, fetch_document_end, fetch_document_marker, fetch_flow_collection_end, fetch_flow_collection_start, fetch_flow_entry, fetch_flow_scalar, fetch_here, fetch_key, fetch_next, fetch_plain_scalar, fetch_stream_end, fetch_tag, fetch_token, fetch_value, go_on, has_no_nul, has_required, Held, Holds, if◌then◌else◌, in_flow, inl, inr, is_adjacent, is_breakz, is_document_marker, is_empty, is_literal, is_nul, length, lexed, List, mark_of, may_follow_quoted, NameKind, next_line, No, node_start, None, not, Ok, on_held, opens_pair, Option, other, paired, pass_indicator, peek, Position, push, quote_of, quoted, Quotes, Read, read, read_as, ReadAs, refl, refused, remove_implicit_key, Result, roll_entry, roll_indent, roll_one_col_indent, save_implicit_key, ScannerState, sequence, skip_indicator, SkipTabs, Some, stale, Stands, Style, subst, sym, Tok, top_key, tried, true, try_held, unled, unroll_indent, unroll_non_block_indents, weakened, went, without_open, Yes, ℕ, ◌&&◌, ◌++◌, ◌+◌, ◌<◌, ◌==◌, ◌>>=◌, ◌||◌, ◌∙◌, ◌∷◌, ◌≡◌, ◌≤◌, ◌⊎◌}
+use Rattle.proof_scanner.proofs.Common.{[], after_plain, allow_key, anchor_name, and_parts, ap, append_assoc, are_single, arith, Arrives, At, Before, before_by, before_past, begin_flow, begin_key, begin_line, begins_separation, block, Bool, both_hold, chained, check_after_quoted, check_after_tab, check_block_entry, check_dash, check_document_end, check_key_space, check_value_space, checked, Collection, collection_column, collection_of, comes_plain, Context, context, directives_end, either, end_entry, end_flow, end_stream, Err, false, Fault, fetch, fetch_anchor, fetch_block_entry, fetch_block_scalar, fetch_content, fetch_directive, fetch_document_end, fetch_document_marker, fetch_flow_collection_end, fetch_flow_collection_start, fetch_flow_entry, fetch_flow_scalar, fetch_here, fetch_key, fetch_next, fetch_plain_scalar, fetch_stream_end, fetch_tag, fetch_token, fetch_value, go_on, has_no_nul, has_required, Held, Holds, if◌then◌else◌, in_flow, inl, inr, is_adjacent, is_document_marker, is_empty, is_literal, is_nul, length, lexed, List, mark_of, may_follow_quoted, NameKind, next_line, No, node_start, None, not, Ok, on_held, opens_pair, Option, other, paired, pass_indicator, peek, Position, push, quote_of, quoted, Quotes, Read, read, read_as, ReadAs, refl, refused, remove_implicit_key, Result, roll_entry, roll_indent, save_implicit_key, ScannerState, sequence, skip_indicator, SkipTabs, stale, Stands, Style, subst, sym, Tok, top_key, tried, true, try_held, unled, unroll_indent, unroll_non_block_indents, weakened, went, without_open, Yes, ℕ, ◌&&◌, ◌++◌, ◌+◌, ◌<◌, ◌==◌, ◌>>=◌, ◌∙◌, ◌∷◌, ◌≡◌, ◌≤◌, ◌⊎◌}
 use Rattle.defs_token.specs.Account.{Account, is_in_flow}
-use Rattle.yaml_chars.specs.Class.{is_break, is_flow}
 use Rattle.yaml_tokens.specs.declared.problem.Problem.TheVariants as problem
 use Rattle.model_scanner.specs.Directive.{directive}
 use Rattle.model_scanner.specs.Plain.{plain}
@@ -30,12 +29,10 @@ use Rattle.proof_scanner.proofs.Refusals.Passing.{anything}
 -- ---- lengths
 
 after_shorter : (r : List ℕ) → is_empty r ≡ false → length (after r) < length r
-after_shorter [] some = absurd (cc some)
-after_shorter (c ∷ r) some = omega arith
+after_shorter a b = grind arith
 
 after_no_longer : (r : List ℕ) → length (after r) ≤ length r
-after_no_longer [] = omega arith
-after_no_longer (c ∷ r) = omega arith
+after_no_longer a = grind arith
 
 cut_no_longer : (g a r : List ℕ) → a ≡ g ++ r → length r ≤ length a
 cut_no_longer g a r e = let k = ap length e in let n = length-append g r in omega (arith, k, n)
@@ -44,23 +41,17 @@ spaced_no_longer : (tabs : SkipTabs) (t u : ScannerState) → Spaced tabs t u �
 spaced_no_longer tabs t u s = cut_no_longer (s.blanks ++ s.comment) t.rest u.rest (s.is_rest ∙ sym (append_assoc s.blanks s.comment u.rest))
 
 read_shorter : (a : Account) (text : List ℕ) (tok : Tok) (p : Position) (rest : List ℕ) (end : Position) → ReadAs a text tok p rest end → length rest < length text
-read_shorter a text tok p rest end r =
-    let e = ap length r.is_text in
-    let n = length-append r.more (r.separation ++ rest) in
-    let m = length-append r.separation rest in
-    omega (arith, e, n, m)
+read_shorter a text tok p rest end r = grind (arith, length-append)
 
 -- an account that a lexing function asks for
 abbrev asked : Position → (flow : Bool) → (column : Option ℕ) → Before → Account
 asked p flow column before = record { position = p; blocks = column ∷ []; levels = (if flow then record { kind = sequence; pair = false } ∷ [] else []); before = before }
 
 asked_flow : (p : Position) (flow : Bool) (column : Option ℕ) (before : Before) → is_in_flow (asked p flow column before) ≡ flow
-asked_flow p true column before = refl
-asked_flow p false column before = refl
+asked_flow p a column before = grind arith
 
 asked_column : (p : Position) (flow : Bool) (column : Option ℕ) (before : Before) → collection_column (asked p flow column before) ≡ column
-asked_column p flow None before = refl
-asked_column p flow (Some n) before = refl
+asked_column p flow a before = grind arith
 
 -- ---- where a piece begins
 
@@ -89,8 +80,7 @@ module _ (text : List ℕ) (t : ScannerState) (a : Arrives text t) (some : is_em
   after_quoted line u = chained (spaces_skipped Yes u) (λ v s. by v (may_follow_quoted (in_flow v.held) (line == v.held.position.line) (peek v.rest)) (spaced_no_longer Yes u v s))
     where
       by : (v : ScannerState) (b : Bool) → length v.rest ≤ length u.rest → Holds (λ w. length w.rest ≤ length u.rest) (if b then Ok v else Err (At problem.ContentAfterQuoted v.held.position))
-      by v true n = went n
-      by v false n = refused
+      by v a n = grind (arith, went, refused)
 
   quoted_shortens : (quotes : Quotes) (more : List ℕ) → t.rest ≡ quote_of (are_single quotes) ∷ more → Holds Shorter (fetch_flow_scalar quotes t)
   unfolding fetch_flow_scalar
@@ -158,11 +148,7 @@ module _ (text : List ℕ) (t : ScannerState) (a : Arrives text t) (some : is_em
 
   rolled_rest : (u : ScannerState) → (roll_entry u).rest ≡ u.rest
   unfolding roll_entry
-  rolled_rest u = by (is_break (peek u.rest) || is_flow (peek u.rest))
-    where
-      by : (b : Bool) → (if b then on_held roll_one_col_indent u else u).rest ≡ u.rest
-      by true = refl
-      by false = refl
+  rolled_rest u = grind arith
 
   dash_shortens : Holds Shorter (fetch_block_entry t)
   unfolding fetch_block_entry check_dash
@@ -230,11 +216,7 @@ module _ (text : List ℕ) (t : ScannerState) (a : Arrives text t) (some : is_em
 
   end_checked : (v : ScannerState) → length v.rest < length t.rest → Holds Shorter (check_document_end v)
   unfolding check_document_end
-  end_checked v n = by (is_breakz (peek v.rest))
-    where
-      by : (b : Bool) → Holds Shorter (if b then Ok v else Err (At problem.ContentAfterDocumentEnd v.held.position))
-      by true = went n
-      by false = refused
+  end_checked v n = grind (arith, went, refused)
 
   end_shortens : Holds Shorter (fetch_document_end t)
   unfolding fetch_document_end
@@ -301,8 +283,7 @@ next_reads_on text t s =
     tried w (stale w.held) (keys_only w.held) (λ h k. by u v w h n (ap (λ x. x.ended) k) (ap length a.1) (cut_no_longer p.1.separation t.rest u.rest p.1.cut)))))
   where
     by : (u v w : ScannerState) (h : Held) → ReadsOn v w → h.ended ≡ w.held.ended → length v.rest ≡ length u.rest → length u.rest ≤ length t.rest → ReadsOn t (record w { held = h })
-    by u v w h (inl ended) same e m = inl (same ∙ ended)
-    by u v w h (inr less) same e m = inr (omega (arith, less, e, m))
+    by u v w h a same e m = grind arith
 
 pub fetch_reads_on : (text : List ℕ) (t : ScannerState) → Stands text t → Holds (ReadsOn t) (fetch t)
 unfolding fetch

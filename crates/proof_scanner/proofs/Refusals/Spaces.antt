@@ -1,47 +1,37 @@
 -- Faults of what is passed between pieces.
-use Rattle.proof_scanner.proofs.Common.{[], ap, are_skipped, arith, At, begins_separation, begins_white_space, begins_with, begins_with_space_or_break, Bool, ends_spaces, Err, false, Fault, glued, HasNoWhiteSpace, HasPassed, held_of, Holds, is_at_gap, is_blank, is_blank_or_end, is_break, is_breakz, is_nul, is_separation, IsGlued, List, misses, nat_tests, not, Ok, or_parts, peek, Position, refl, refused_as, Result, ScannerState, skip_spaces, skip_yaml_whitespace, SkipTabs, space, spaces_are_passed, subst, sym, true, white_space_is_passed, Yes, ℕ, ◌&&◌, ◌++◌, ◌==◌, ◌||◌, ◌∙◌, ◌∷◌, ◌≡◌}
+use Rattle.proof_scanner.proofs.Common.{[], arith, At, begins_separation, begins_white_space, begins_with, begins_with_space_or_break, ends_spaces, Err, false, Fault, glued, HasNoWhiteSpace, HasPassed, Holds, is_at_gap, is_blank, is_blank_or_end, is_break, is_breakz, is_nul, is_separation, IsGlued, List, Ok, peek, Position, refused_as, Result, ScannerState, skip_spaces, skip_yaml_whitespace, SkipTabs, space, spaces_are_passed, true, white_space_is_passed, Yes, ℕ, ◌++◌, ◌∷◌, ◌≡◌}
 use Rattle.yaml_tokens.specs.declared.problem.Problem.TheVariants as problem
 use Rattle.yaml_chars.specs.Class as model_classes
 use Rattle.proof_scanner.proofs.Refusals.Faults.{Faults, goes, read}
-use Rattle.proof_scanner.proofs.Refusals.Places.{Told}
+use Rattle.proof_scanner.proofs.Refusals.Places.{Said}
 use Rattle.proof_lexers.specs.PlainEnds as ends
 use Rattle.proof_lexers.specs.Ends.{EndsAs}
-use Rattle.proof_lexers.specs.Ends as passing
 use Rattle.proof_scanner.proofs.Sound.WhiteSpaces.{white_of, past_white, past_white_space, white_exactly}
 
 -- over blanks and a comment in a line; what is to be said of a comment that no blank parts from what stands before it
-pub space_told : (text : List ℕ) (tabs : SkipTabs) (more : List ℕ) (p : Position) → (begins_with 35 more ≡ true → Told text (At problem.CommentNotSeparated p)) → (f : Fault) → space tabs more p ≡ Err f → Told text f
+pub space_told : (text : List ℕ) (tabs : SkipTabs) (more : List ℕ) (p : Position) → (begins_with 35 more ≡ true → Said text (At problem.CommentNotSeparated p)) → (f : Fault) → space tabs more p ≡ Err f → Said text f
 space_told text tabs more p why f k = by f (refused_as k (spaces_are_passed tabs more p))
   where
-    by : (g : Fault) → IsGlued p more g → Told text g
+    by : (g : Fault) → IsGlued p more g → Said text g
     by g (glued begins) = why begins
 
-pub spaces_told : (text : List ℕ) (tabs : SkipTabs) (t : ScannerState) → (begins_with 35 t.rest ≡ true → Told text (At problem.CommentNotSeparated t.held.position)) → Faults (Told text) (skip_spaces tabs t)
+pub spaces_told : (text : List ℕ) (tabs : SkipTabs) (t : ScannerState) → (begins_with 35 t.rest ≡ true → Said text (At problem.CommentNotSeparated t.held.position)) → Faults (Said text) (skip_spaces tabs t)
 unfolding skip_spaces
 spaces_told text tabs t why = read t.held (space tabs t.rest t.held.position) _ (λ f k. space_told text tabs t.rest t.held.position why f k) (λ x k. goes)
 
 -- no comment stands at a gap
 pub no_comment : (r : List ℕ) → is_at_gap r ≡ true → begins_with 35 r ≡ false
 unfolding is_blank_or_end is_blank is_break is_nul
-no_comment [] h = refl
-no_comment (c ∷ r) h = grind (arith, nat_tests, h)
+no_comment a h = grind arith
 
 -- none stands where blanks were passed
 pub no_comment_left : (tabs : SkipTabs) (r : List ℕ) → ends_spaces tabs r ≡ true → begins_with 35 r ≡ false
-no_comment_left tabs [] h = refl
-no_comment_left tabs (c ∷ r) h = by (c == 32) ((c == 9) && are_skipped tabs) (c == 35) h
-  where
-    by : (x y z : Bool) → not (x || y || z) ≡ true → z ≡ false
-    by true y z h = absurd (cc h)
-    by false true z h = absurd (cc h)
-    by false false true h = absurd (cc h)
-    by false false false h = refl
+no_comment_left a b h = grind arith
 
 -- and no separation, where the line goes on
 pub solid_past : (r : List ℕ) → ends_spaces Yes r ≡ true → is_breakz (peek r) ≡ false → begins_separation r ≡ false
 unfolding is_blank is_break model_classes.is_break
-solid_past [] h n = refl
-solid_past (c ∷ r) h n = grind (arith, nat_tests, h, n)
+solid_past a h n = grind arith
 
 -- a space or a break stands first, so spaces, breaks and comments are read
 pub white_goes : (t : ScannerState) → begins_with_space_or_break t.rest ≡ true → skip_yaml_whitespace t ≡ Ok (past_white_space t)
@@ -50,19 +40,8 @@ white_goes t h = by (skip_yaml_whitespace t) (white_space_is_passed t.held t.res
   where
     first : (text separation rest : List ℕ) → begins_with_space_or_break text ≡ true → text ≡ separation ++ rest → begins_with 32 text ≡ false → ends.has_break separation ≡ false → begins_white_space rest ≡ false → ⊥
     first [] separation rest h e f g i = absurd (cc h)
-    first (c ∷ r) [] rest h e f g i = of (c == 32) (is_break c) h (subst (λ x. begins_white_space x ≡ false) (sym e) i)
-      where
-        of : (x y : Bool) → (x || y) ≡ true → (x || y || (c == 35)) ≡ false → ⊥
-        of true y h i = absurd (cc i)
-        of false true h i = absurd (cc i)
-        of false false h i = absurd (cc h)
-    first (c ∷ r) (d ∷ separation) rest h e f g i = of (c == 32) (is_break c) h f (subst (λ x. is_break x ≡ false) (sym (ap (λ l. peek l) e)) (or_parts (is_break d) (ends.has_break separation) g).0)
-      where
-        of : (x y : Bool) → (x || y) ≡ true → x ≡ false → y ≡ false → ⊥
-        of true y h f g = absurd (cc f)
-        of false true h f g = absurd (cc g)
-        of false false h f g = absurd (cc h)
+    first (c ∷ r) [] rest h e f g i = grind arith
+    first (c ∷ r) (d ∷ separation) rest h e f g i = grind arith
 
     by : (x : Result ScannerState Fault) → EndsAs (HasPassed begins_white_space t.held t.rest) (HasNoWhiteSpace t.held t.rest) x → Holds (λ u. (u ≡ past_white_space t) × (is_separation false (white_of false t.rest) (past_white false t.rest) ≡ true)) x → x ≡ Ok (past_white_space t)
-    by x (passing.reads u p e) k = e ∙ ap (λ u. Ok u) (held_of _ k e).0
-    by x (passing.refuses f (misses separation rest cut fills begins none ends) e) k = absurd (first t.rest separation rest h cut begins none ends)
+    by x a k = grind (arith, first, h)

@@ -1,164 +1,57 @@
 -- Where a piece may not stand for what stands before or after it, no row of the text goes on.
-use Rattle.proof_scanner.proofs.Common.{[], Account, account_past, act_of, ap, arith, awaits_past, before_by, before_past, begins_free_line, begins_separation, begins_white_space, begins_with, begins_with_space_or_break, Bool, colon, comma, context_of, dash, double_quoted, entries_past, Entry, eqb-true, false, flow_entry, flow_mapping_end, flow_mapping_start, flow_sequence_end, flow_sequence_start, free, further_lines_stand, gives_colon, gives_dash, gives_node, gives_question, GoesOn, has_tab_before_piece, if◌then◌else◌, inl, inr, is_adjacent, is_at_gap, is_blank, is_blank_or_end, is_break, is_deep_enough, is_empty, is_flow, is_flow_indicator, is_in_column, is_in_flow, is_indented_by_spaces, is_near, is_nul, is_renewed, is_separation, is_taken, is_taken_line, is_value_here, is_value_indicator, IsQuoted, Kind, kind_at, least_for, level_of, LikeEntries, LikeHad, LikeLine, Line, line_past, line_past_separation, List, map, mapping_closing, mapping_opening, may_precede, may_stand, nat_tests, None, not, on_one_line, opened, Option, Outside, past_inside, past_outside, past_piece, Position, previous_by, question, quoted_may_end, quoted_scalar, refl, same_flow, scalar, sequence_closing, sequence_opening, single_quoted, Site, site_at, site_at_place, site_in, site_past, Some, Step, subst, sym, taken, takes_pair, Tok, true, waits, Whole, ℕ, ◌&&◌, ◌++◌, ◌<◌, ◌==◌, ◌||◌, ◌∙◌, ◌∷◌, ◌≡◌, ◌⊎◌}
+use Rattle.proof_scanner.proofs.Common.{[], Account, account_past, act_of, ap, arith, awaits_past, before_by, before_past, begins_free_line, begins_separation, begins_white_space, begins_with, begins_with_space_or_break, Bool, colon, comma, context_of, dash, double_quoted, entries_past, Entry, eqb-true, false, flow_entry, flow_mapping_end, flow_mapping_start, flow_sequence_end, flow_sequence_start, further_lines_stand, gives_colon, gives_dash, gives_node, gives_question, GoesOn, has_tab_before_piece, if◌then◌else◌, inl, inr, is_adjacent, is_at_gap, is_blank, is_blank_or_end, is_break, is_deep_enough, is_empty, is_flow, is_flow_indicator, is_in_flow, is_indented_by_spaces, is_near, is_nul, is_renewed, is_separation, is_taken, is_taken_line, is_value_here, is_value_indicator, IsQuoted, Kind, kind_at, least_for, level_of, LikeEntries, LikeHad, Line, line_past_separation, List, map, mapping_closing, mapping_opening, may_precede, may_stand, None, not, on_one_line, Option, past_inside, past_piece, Position, previous_by, question, quoted_may_end, quoted_scalar, refl, same_flow, scalar, sequence_closing, sequence_opening, single_quoted, Site, site_at_place, site_past, Some, Step, subst, sym, takes_pair, Tok, true, waits, Whole, ℕ, ◌&&◌, ◌++◌, ◌<◌, ◌==◌, ◌||◌, ◌∙◌, ◌∷◌, ◌≡◌, ◌⊎◌}
 use Rattle.defs_token.specs.Account as pieces
 use Rattle.defs_token.specs.FlowEntry as entry
 use Rattle.proof_lexers.specs.PlainEnds.{has_break}
 use Rattle.proof_row.proofs.Written.{At}
-use Rattle.proof_scanner.proofs.Known.Made.{same_of, waited, Made, outside, inside, made}
+use Rattle.proof_scanner.proofs.Known.Made.{waited, Made, made}
 use Rattle.proof_scanner.proofs.Sound.Sides.{with_entries}
 use Rattle.proof_scanner.proofs.Refusals.OtherRows.{StepAt, IsClearAfter}
-use Rattle.proof_scanner.proofs.Refusals.PiecesHere.{acct, whole_by, rest_of}
+use Rattle.proof_scanner.proofs.Refusals.PiecesHere.{acct, whole_by, rest_of, dash_kind}
 use Rattle.proof_scanner.proofs.Refusals.PiecesRefused.{refused, and_last, same_step, no_step, not_nothing, second_fails}
 
 -- ---- the site after a part of a node
 
--- it ends no block collection and begins none
-node_blocks : (must : Bool) (here : Position) (bs : List ℕ) (key : Bool) (l : Line) (x : Outside) → line_past must here bs gives_node key l ≡ Some x → x.blocks ≡ bs
-node_blocks must here bs true free x h = ap (λ y. y.blocks) (sym (same_of _ x h))
-node_blocks true here bs false free x h = absurd (cc h)
-node_blocks false here bs false free x h = ap (λ y. y.blocks) (sym (same_of _ x h))
-node_blocks must here bs true taken x h = absurd (cc h)
-node_blocks must here bs false taken x h = ap (λ y. y.blocks) (sym (same_of _ x h))
-node_blocks must here bs true (waits p) x h = absurd (cc h)
-node_blocks must here bs false (waits p) x h = ap (λ y. y.blocks) (sym (same_of _ x h))
-
 made_site : (s : Site) (l : Line) (es : List Entry) (w : Step) (next : List ℕ) (b : Account) → act_of w.shown ≡ gives_node → Made s l es w next b → b.site ≡ site_past (is_in_flow es) (At (with_entries s l es) w next) w.piece w.shown next (At (with_entries s l es) w next).blocks
-made_site s l [] w next b act (outside m o none sep past line site one) =
-    let at : Site = site_at false s w.separation w.piece w.shown next in
-    let must : Bool = is_in_column at.position.col at.blocks in
-    site ∙ ap (λ bs. site_past false at w.piece w.shown next bs) (node_blocks must at.position at.blocks w.key m o (subst (λ k. line_past must at.position at.blocks k w.key m ≡ Some o) act past))
-made_site s l [] w next b act (inside some sep site one) = absurd (cc some)
-made_site s l (d ∷ ds) w next b act (outside m o none sep past line site one) = absurd (cc none)
-made_site s l (d ∷ ds) w next b act (inside some sep site one) = site
+made_site s l a w d b act e = grind arith
 
 pub node_site_past : (a : Account) (w : Step) (next : List ℕ) (b : Account) → act_of w.shown ≡ gives_node → account_past a w next ≡ Some b → b.site ≡ site_past (is_in_flow a.entries) (At a w next) w.piece w.shown next (At a w next).blocks
 node_site_past a w next b act e = made_site a.site a.line a.entries w next b act (made a.site a.line a.entries w next b e)
 
 -- ---- lines and accounts
 
--- a line that is taken is so at like accounts
-taken_alike : (broken : Bool) (l m : Line) → LikeLine l m → is_taken_line (line_past_separation false broken l) ≡ true → is_taken_line (line_past_separation false broken m) ≡ true
-taken_alike true free m i h = absurd (cc h)
-taken_alike true taken m i h = absurd (cc h)
-taken_alike true (waits p) m i h = absurd (cc h)
-taken_alike false free m i h = absurd (cc h)
-taken_alike false taken free i h = absurd i
-taken_alike false taken taken i h = refl
-taken_alike false taken (waits q) i h = refl
-taken_alike false (waits p) free i h = absurd i
-taken_alike false (waits p) taken i h = refl
-taken_alike false (waits p) (waits q) i h = refl
-
 -- on such a line no entry and no `?` begins
 none_begins : (x : Site) (piece : List ℕ) (t : Tok) (next : List ℕ) (again is_key : Bool) (o : Option Line) → (act_of t ≡ gives_dash) ⊎ (act_of t ≡ gives_question) → is_taken_line o ≡ true → past_piece x piece t next again is_key o [] ≡ None
-none_begins x piece t next again is_key None is h = absurd (cc h)
-none_begins x piece t next again is_key (Some free) is h = absurd (cc h)
-none_begins x piece t next again is_key (Some taken) is h = by is
-  where
-    dash_key : (k : Bool) → line_past (is_in_column x.position.col x.blocks) x.position x.blocks gives_dash k taken ≡ None
-    dash_key true = refl
-    dash_key false = refl
-
-    question_key : (k : Bool) → line_past (is_in_column x.position.col x.blocks) x.position x.blocks gives_question k taken ≡ None
-    question_key true = refl
-    question_key false = refl
-
-    by : (act_of t ≡ gives_dash) ⊎ (act_of t ≡ gives_question) → past_outside x piece t next (line_past (is_in_column x.position.col x.blocks) x.position x.blocks (act_of t) is_key taken) ≡ None
-    by (inl e) = ap (λ k. past_outside x piece t next (line_past (is_in_column x.position.col x.blocks) x.position x.blocks k is_key taken)) e ∙ ap (past_outside x piece t next) (dash_key is_key)
-    by (inr e) = ap (λ k. past_outside x piece t next (line_past (is_in_column x.position.col x.blocks) x.position x.blocks k is_key taken)) e ∙ ap (past_outside x piece t next) (question_key is_key)
-none_begins x piece t next again is_key (Some (waits q)) is h = by is
-  where
-    dash_key : (k : Bool) → line_past (is_in_column x.position.col x.blocks) x.position x.blocks gives_dash k (waits q) ≡ None
-    dash_key true = refl
-    dash_key false = refl
-
-    question_key : (k : Bool) → line_past (is_in_column x.position.col x.blocks) x.position x.blocks gives_question k (waits q) ≡ None
-    question_key true = refl
-    question_key false = refl
-
-    by : (act_of t ≡ gives_dash) ⊎ (act_of t ≡ gives_question) → past_outside x piece t next (line_past (is_in_column x.position.col x.blocks) x.position x.blocks (act_of t) is_key (waits q)) ≡ None
-    by (inl e) = ap (λ k. past_outside x piece t next (line_past (is_in_column x.position.col x.blocks) x.position x.blocks k is_key (waits q))) e ∙ ap (past_outside x piece t next) (dash_key is_key)
-    by (inr e) = ap (λ k. past_outside x piece t next (line_past (is_in_column x.position.col x.blocks) x.position x.blocks k is_key (waits q))) e ∙ ap (past_outside x piece t next) (question_key is_key)
+none_begins x piece t a again b d is h = grind arith
 
 -- a colon on a line that is taken ends a key that waits, if that is near
 none_ends : (x : Site) (piece : List ℕ) (t : Tok) (next : List ℕ) (again is_key : Bool) (o : Option Line) → act_of t ≡ gives_colon → is_taken_line o ≡ true → ((q : Position) → o ≡ Some (waits q) → is_near q x.position ≡ true → ⊥) → past_piece x piece t next again is_key o [] ≡ None
-none_ends x piece t next again is_key None is h none = absurd (cc h)
-none_ends x piece t next again is_key (Some free) is h none = absurd (cc h)
-none_ends x piece t next again is_key (Some taken) is h none = ap (λ k. past_outside x piece t next (line_past (is_in_column x.position.col x.blocks) x.position x.blocks k is_key taken)) is ∙ ap (past_outside x piece t next) (colon_key is_key)
-  where
-    colon_key : (k : Bool) → line_past (is_in_column x.position.col x.blocks) x.position x.blocks gives_colon k taken ≡ None
-    colon_key true = refl
-    colon_key false = refl
-none_ends x piece t next again is_key (Some (waits q)) is h none = ap (λ k. past_outside x piece t next (line_past (is_in_column x.position.col x.blocks) x.position x.blocks k is_key (waits q))) is ∙ ap (past_outside x piece t next) (colon_key is_key)
-  where
-    far : (b : Bool) → is_near q x.position ≡ b → b ≡ false
-    far true e = absurd (none q refl e)
-    far false e = refl
-
-    colon_key : (k : Bool) → line_past (is_in_column x.position.col x.blocks) x.position x.blocks gives_colon k (waits q) ≡ None
-    colon_key true = refl
-    colon_key false = ap (λ b. if b then Some (record { line = taken; blocks = opened q.col x.blocks }) else None) (far (is_near q x.position) refl)
+none_ends x piece t a again b d is h e = grind arith
 
 none_out : (es : List Entry) → is_in_flow es ≡ false → es ≡ []
-none_out [] h = refl
-none_out (e ∷ es) h = absurd (cc h)
+none_out a h = grind arith
 
 gone : (b : Bool) (piece : List ℕ) (x : Option Account) (y : Account) → x ≡ None → (if b then on_one_line piece x else None) ≡ Some y → ⊥
-gone true piece None y e k = cc k
-gone true piece (Some z) y e k = cc e
-gone false piece x y e k = cc k
-
-first_fails : (x y z w : Bool) → x ≡ false → (x && y && z && w) ≡ false
-first_fails true y z w e = absurd (cc e)
-first_fails false y z w e = refl
+gone a piece x y e k = grind arith
 
 -- ---- entries in flow
 
 -- no colon comes to an entry whose key waits on an earlier line, nor to one that has had a node that is no key
 none_had : (p begin : Position) (again is_key : Bool) (h : entry.Had) → LikeHad (entry.waits begin) h → begin.line < p.line → entry.had_after p true gives_colon is_key (entry.renewed again gives_colon h) ≡ None
-none_had p begin true true h i late = by h i
-  where
-    by : (h : entry.Had) → LikeHad (entry.waits begin) h → entry.had_after p true gives_colon true (entry.renewed true gives_colon h) ≡ None
-    by entry.fresh i = absurd i
-    by entry.filled i = refl
-    by (entry.waits q) i = refl
-    by entry.settled i = absurd i
-none_had p begin false true h i late = by h i
-  where
-    by : (h : entry.Had) → LikeHad (entry.waits begin) h → entry.had_after p true gives_colon true (entry.renewed false gives_colon h) ≡ None
-    by entry.fresh i = absurd i
-    by entry.filled i = refl
-    by (entry.waits q) i = refl
-    by entry.settled i = absurd i
-none_had p begin again false h i late = by again h i
-  where
-    earlier : (q : Position) → begin ≡ q → (q.line == p.line) ≡ false
-    earlier q e = let same = ap (λ x. x.line) e in grind (arith, nat_tests, late, same)
-
-    by : (again : Bool) (h : entry.Had) → LikeHad (entry.waits begin) h → entry.had_after p true gives_colon false (entry.renewed again gives_colon h) ≡ None
-    by again entry.fresh i = absurd i
-    by true entry.filled i = refl
-    by false entry.filled i = refl
-    by true (entry.waits q) i = ap (λ b. if b then Some entry.settled else None) (earlier q i)
-    by false (entry.waits q) i = ap (λ b. if b then Some entry.settled else None) (earlier q i)
-    by again entry.settled i = absurd i
+none_had p begin again a h i late = grind arith
 
 -- ---- TABs after `?`
 
 tabbed : (in_comment : Bool) (passed content : List ℕ) → is_separation in_comment passed (9 ∷ content) ≡ true → has_tab_before_piece in_comment (passed ++ 9 ∷ content) ≡ true
 unfolding is_blank is_break is_nul
-tabbed true [] content h = absurd (cc h)
-tabbed false [] content h = refl
+tabbed a [] content h = grind arith
 tabbed true (c ∷ r) content h = tabbed (not (is_break c)) r content h
-tabbed false (c ∷ r) content h = by (c == 32) (c == 9) (is_break c) (c == 35) refl h (tabbed (c == 35) r content)
-  where
-    by : (s t b k : Bool) → (c == 35) ≡ k → (((s || t) || b || k) && is_separation (c == 35) r (9 ∷ content)) ≡ true → (is_separation (c == 35) r (9 ∷ content) ≡ true → has_tab_before_piece (c == 35) (r ++ 9 ∷ content) ≡ true)
-        → (t || ((s || b || k) && has_tab_before_piece (c == 35) (r ++ 9 ∷ content))) ≡ true
-    by s true b k e h more = refl
-    by true false b k e h more = more h
-    by false false true k e h more = more h
-    by false false false true e h more = more h
-    by false false false false e h more = absurd (cc h)
+tabbed false (c ∷ r) content h = grind (arith, tabbed (c == 35) r content)
+
+-- a line that goes on without a space, and then with no space, break or comment, begins with none of these
+no_space_gap : (passed content : List ℕ) → has_break passed ≡ false → begins_with 32 (passed ++ content) ≡ false → begins_white_space content ≡ false → begins_with_space_or_break (passed ++ content) ≡ false
+no_space_gap [] content line none ends = grind arith
+no_space_gap (c ∷ p) content line none ends = grind arith
 
 -- the token of a quoted scalar
 abbrev quoted_token : (single : Bool) → List ℕ → Tok
@@ -176,16 +69,11 @@ module _ (a : Account) (separation rest : List ℕ) (here : Position) (s : StepA
   stands_not e = refused _ (may_stand (is_in_flow s.account.entries) s.account.site there s.step.separation s.step.piece s.step.shown next) s.past e s.is_past
 
   third_fails : (x y z w : Bool) → z ≡ false → (x && y && z && w) ≡ false
-  third_fails true true z w e = ap (λ b. b && w) e
-  third_fails true false z w e = refl
-  third_fails false y z w e = refl
+  third_fails a y z w e = grind arith
 
   -- the site of a node's piece here
   pub node_site : act_of s.step.shown ≡ gives_node → there ≡ site_at_place a here
-  node_site is =
-      ap (λ k. site_in (is_in_flow s.account.entries) k there.position s.account.site) is ∙
-      (ap (λ p. site_in (is_in_flow s.account.entries) gives_node p s.account.site) s.position_is ∙
-      (ap (λ b. site_in b gives_node here s.account.site) (sym (same_flow a.entries s.account.entries s.is_like.2)) ∙ ap (λ x. site_in (is_in_flow a.entries) gives_node here x) (sym s.is_like.0)))
+  node_site is = grind arith
 
   -- a node's piece does not lie deep enough
   pub no_depth : (t : Tok) → s.step.shown ≡ t → act_of t ≡ gives_node → is_deep_enough (is_in_flow a.entries) t (site_at_place a here) ≡ false → ⊥
@@ -210,9 +98,7 @@ module _ (a : Account) (separation rest : List ℕ) (here : Position) (s : StepA
   -- ---- the line of a piece
 
   pub no_tabbed_line : is_indented_by_spaces a.site.before a.site.blocks a.site.awaits separation ≡ false → ⊥
-  no_tabbed_line e =
-      stands_not (first_fails (is_indented_by_spaces s.account.site.before s.account.site.blocks s.account.site.awaits s.step.separation) _ _ _
-      (ap (λ (x : Site). is_indented_by_spaces x.before x.blocks x.awaits s.step.separation) (sym s.is_like.0) ∙ (ap (λ f. is_indented_by_spaces a.site.before a.site.blocks a.site.awaits f) s.separation_is ∙ e)))
+  no_tabbed_line e = grind arith
 
   -- ---- entries, `?`
 
@@ -220,10 +106,7 @@ module _ (a : Account) (separation rest : List ℕ) (here : Position) (s : StepA
   no_entries out = none_out s.account.entries (sym (same_flow a.entries s.account.entries s.is_like.2) ∙ out)
 
   taken_there : is_taken a separation ≡ true → is_taken_line (line_past_separation false (begins_free_line s.account.site.before s.step.separation) s.account.line) ≡ true
-  taken_there h =
-      ap (λ f. is_taken_line (line_past_separation false (begins_free_line s.account.site.before f) s.account.line)) s.separation_is ∙
-      (ap (λ (x : Site). is_taken_line (line_past_separation false (begins_free_line x.before separation) s.account.line)) (sym s.is_like.0) ∙
-      taken_alike (begins_free_line a.site.before separation) a.line s.account.line s.is_like.1 h)
+  taken_there h = grind arith
 
   none_on_line : is_in_flow a.entries ≡ false → is_taken a separation ≡ true → (act_of s.step.shown ≡ gives_dash) ⊎ (act_of s.step.shown ≡ gives_question) → ⊥
   none_on_line out line is =
@@ -237,11 +120,8 @@ module _ (a : Account) (separation rest : List ℕ) (here : Position) (s : StepA
   pub no_dash_here : (more : List ℕ) → rest ≡ 45 ∷ more → is_at_gap more ≡ true → is_in_flow a.entries ≡ false → is_taken a separation ≡ true → ⊥
   unfolding is_blank_or_end is_blank is_break is_nul is_flow
   no_dash_here more e gap out line =
-      let w : Here dash = subst Here (dash_kind (pieces.is_in_flow (acct a separation rest here s)) (is_adjacent (acct a separation rest here s).before) (acct a separation rest here s).position.col) (whole_by a separation rest here s 45 more e) in
+      let w : Here dash = subst Here (dash_kind a separation rest here s (pieces.is_in_flow (acct a separation rest here s)) (is_adjacent (acct a separation rest here s).before) (acct a separation rest here s).position.col more gap) (whole_by a separation rest here s 45 more e) in
       none_on_line out line (inl (ap act_of w.2))
-    where
-      dash_kind : (fl adjacent : Bool) (column : ℕ) → kind_at fl adjacent column (45 ∷ more) ≡ dash
-      dash_kind fl adjacent column = rw gap refl
 
   question_here : (more : List ℕ) → rest ≡ 63 ∷ more → is_at_gap more ≡ true → Here question
   unfolding is_blank_or_end is_blank is_break is_nul is_flow
@@ -260,31 +140,7 @@ module _ (a : Account) (separation rest : List ℕ) (here : Position) (s : StepA
   pub no_space_after : (more passed content : List ℕ) → rest ≡ 63 ∷ more → is_at_gap more ≡ true → GoesOn more passed content → begins_with 32 more ≡ false → begins_white_space content ≡ false → ⊥
   no_space_after more passed content e gap on none ends =
       let w : Here question = question_here more e gap in
-      by passed content more on.is_text on.is_on_line none ends (sym (ap begins_with_space_or_break (after_one 63 more e w.0)) ∙ w.1)
-    where
-      by : (passed content more : List ℕ) → more ≡ passed ++ content → has_break passed ≡ false → begins_with 32 more ≡ false → begins_white_space content ≡ false → begins_with_space_or_break more ≡ true → ⊥
-      by [] [] [] cut line none ends h = cc h
-      by [] [] (d ∷ m) cut line none ends h = cc cut
-      by [] (c ∷ r) [] cut line none ends h = cc cut
-      by [] (c ∷ r) (d ∷ m) cut line none ends h = let same : d ≡ c = cc cut in first (d == 32) (is_break d) (c == 32) (is_break c) (c == 35) none h (ap (λ x. x == 32) same) (ap is_break same) ends
-        where
-          first : (x y u v w : Bool) → x ≡ false → (x || y) ≡ true → x ≡ u → y ≡ v → (u || v || w) ≡ false → ⊥
-          first true y u v w e h i j k = cc e
-          first false true u true w e h i j k = by2 u k
-            where
-              by2 : (u : Bool) → (u || true || w) ≡ false → ⊥
-              by2 true k = cc k
-              by2 false k = cc k
-          first false true u false w e h i j k = cc j
-          first false false u v w e h i j k = cc h
-      by (c ∷ p) content [] cut line none ends h = cc h
-      by (c ∷ p) content (d ∷ m) cut line none ends h = let same : d ≡ c = cc cut in first (d == 32) (is_break d) (is_break c) (has_break p) none h (ap is_break same) line
-        where
-          first : (x y v w : Bool) → x ≡ false → (x || y) ≡ true → y ≡ v → (v || w) ≡ false → ⊥
-          first true y v w e h j k = cc e
-          first false true true w e h j k = cc k
-          first false true false w e h j k = cc j
-          first false false v w e h j k = cc h
+      cc (no_space_gap passed content on.is_on_line (ap (begins_with 32) (sym on.is_text) ∙ none) ends, ap begins_with_space_or_break on.is_text, ap begins_with_space_or_break (after_one 63 more e w.0), w.1)
 
   pub no_tab_after : (more passed content : List ℕ) → rest ≡ 63 ∷ more → is_at_gap more ≡ true → more ≡ passed ++ 9 ∷ content → is_separation false passed (9 ∷ content) ≡ true → ⊥
   no_tab_after more passed content e gap cut fills =
@@ -295,8 +151,7 @@ module _ (a : Account) (separation rest : List ℕ) (here : Position) (s : StepA
   -- ---- colons
 
   levels_flow : (es : List Entry) → not (is_empty (map level_of es)) ≡ is_in_flow es
-  levels_flow [] = refl
-  levels_flow (e ∷ es) = refl
+  levels_flow a = grind arith
 
   pub flow_is : pieces.is_in_flow (acct a separation rest here s) ≡ is_in_flow a.entries
   flow_is = levels_flow s.account.entries ∙ sym (same_flow a.entries s.account.entries s.is_like.2)
@@ -324,11 +179,7 @@ module _ (a : Account) (separation rest : List ℕ) (here : Position) (s : StepA
 
   -- no TAB indents the line of the row's piece
   pub spaces_indent : is_indented_by_spaces s.account.site.before s.account.site.blocks s.account.site.awaits separation ≡ true
-  spaces_indent = by (is_indented_by_spaces a.site.before a.site.blocks a.site.awaits separation) refl
-    where
-      by : (b : Bool) → is_indented_by_spaces a.site.before a.site.blocks a.site.awaits separation ≡ b → is_indented_by_spaces s.account.site.before s.account.site.blocks s.account.site.awaits separation ≡ true
-      by true e = ap (λ (x : Site). is_indented_by_spaces x.before x.blocks x.awaits separation) (sym s.is_like.0) ∙ e
-      by false e = absurd (no_tabbed_line e)
+  spaces_indent = grind (arith, no_tabbed_line)
 
   pub no_late_colon : (more : List ℕ) (begin : Position) (e : Entry) (es : List Entry) → rest ≡ 58 ∷ more → is_value_here a separation more ≡ true → a.entries ≡ e ∷ es → takes_pair e.kind e.pair ≡ true → e.had ≡ entry.waits begin → begin.line < here.line → ⊥
   no_late_colon more begin e es cut is are takes had late = by s.account.entries refl (subst (λ ds. LikeEntries ds s.account.entries) are s.is_like.2)
@@ -368,45 +219,27 @@ module _ (a : Account) (separation rest : List ℕ) (here : Position) (s : StepA
   begun_glued : (t : Tok) (more : List ℕ) → s.step.shown ≡ t → next ≡ more → may_precede (is_in_flow s.account.entries) there.blocks t s.step.piece more ≡ false → ⊥
   begun_glued t more is left e = no_end (ap (λ t. may_precede (is_in_flow s.account.entries) there.blocks t s.step.piece next) is ∙ (ap (λ r. may_precede (is_in_flow s.account.entries) there.blocks t s.step.piece r) left ∙ e))
 
-  glued_at : (c : ℕ) (more : List ℕ) → rest ≡ c ∷ more → begins_with 35 more ≡ true → (c == 91) ≡ true ⊎ ((c == 93) ≡ true ⊎ ((c == 123) ≡ true ⊎ ((c == 125) ≡ true ⊎ ((c == 44) ≡ true)))) → ⊥
-  unfolding is_blank_or_end is_blank is_break is_nul is_flow
-  glued_at c more e hash (inl i) =
-      let at : rest ≡ 91 ∷ more = e ∙ ap (λ x. x ∷ more) (eqb-true c 91 i) in
-      let w : Here sequence_opening = whole_by a separation rest here s 91 more at in
-      begun_glued flow_sequence_start more w.1 (after_one 91 more at w.0) (ap not hash)
-  glued_at c more e hash (inr (inl i)) =
-      let at : rest ≡ 93 ∷ more = e ∙ ap (λ x. x ∷ more) (eqb-true c 93 i) in
-      let w : Here sequence_closing = whole_by a separation rest here s 93 more at in
-      begun_glued flow_sequence_end more w.1 (after_one 93 more at w.0) (ap not hash)
-  glued_at c more e hash (inr (inr (inl i))) =
-      let at : rest ≡ 123 ∷ more = e ∙ ap (λ x. x ∷ more) (eqb-true c 123 i) in
-      let w : Here mapping_opening = whole_by a separation rest here s 123 more at in
-      begun_glued flow_mapping_start more w.1 (after_one 123 more at w.0) (ap not hash)
-  glued_at c more e hash (inr (inr (inr (inl i)))) =
-      let at : rest ≡ 125 ∷ more = e ∙ ap (λ x. x ∷ more) (eqb-true c 125 i) in
-      let w : Here mapping_closing = whole_by a separation rest here s 125 more at in
-      begun_glued flow_mapping_end more w.1 (after_one 125 more at w.0) (ap not hash)
-  glued_at c more e hash (inr (inr (inr (inr i)))) =
-      let at : rest ≡ 44 ∷ more = e ∙ ap (λ x. x ∷ more) (eqb-true c 44 i) in
-      let w : Here comma = whole_by a separation rest here s 44 more at in
-      begun_glued flow_entry more w.1 (after_one 44 more at w.0) (ap not hash)
+  glued_by : (c : ℕ) (t : Tok) (more : List ℕ) → rest ≡ c ∷ more → s.step.piece ≡ c ∷ [] → s.step.shown ≡ t → may_precede (is_in_flow s.account.entries) there.blocks t s.step.piece more ≡ false → ⊥
+  glued_by c t more e piece is h = begun_glued t more is (after_one c more e piece) h
 
   pub no_glued : (c : ℕ) (more : List ℕ) → rest ≡ c ∷ more → is_flow_indicator c ≡ true → begins_with 35 more ≡ true → ⊥
+  unfolding is_blank_or_end is_blank is_break is_nul is_flow
   no_glued c more e is hash = by (c == 91) (c == 93) (c == 123) (c == 125) (c == 44) refl refl refl refl refl is
     where
+      at : (d : ℕ) → (c == d) ≡ true → rest ≡ d ∷ more
+      at d i = e ∙ ap (λ x. x ∷ more) (eqb-true c d i)
+
       by : (v w x y z : Bool) → (c == 91) ≡ v → (c == 93) ≡ w → (c == 123) ≡ x → (c == 125) ≡ y → (c == 44) ≡ z → (v || (w || (x || (y || (z || false))))) ≡ true → ⊥
-      by true w x y z i j k l m h = glued_at c more e hash (inl i)
-      by false true x y z i j k l m h = glued_at c more e hash (inr (inl j))
-      by false false true y z i j k l m h = glued_at c more e hash (inr (inr (inl k)))
-      by false false false true z i j k l m h = glued_at c more e hash (inr (inr (inr (inl l))))
-      by false false false false true i j k l m h = glued_at c more e hash (inr (inr (inr (inr m))))
+      by true w x y z i j k l m h = let w : Here sequence_opening = whole_by a separation rest here s 91 more (at 91 i) in glued_by 91 flow_sequence_start more (at 91 i) w.0 w.1 (ap not hash)
+      by false true x y z i j k l m h = let w : Here sequence_closing = whole_by a separation rest here s 93 more (at 93 j) in glued_by 93 flow_sequence_end more (at 93 j) w.0 w.1 (ap not hash)
+      by false false true y z i j k l m h = let w : Here mapping_opening = whole_by a separation rest here s 123 more (at 123 k) in glued_by 123 flow_mapping_start more (at 123 k) w.0 w.1 (ap not hash)
+      by false false false true z i j k l m h = let w : Here mapping_closing = whole_by a separation rest here s 125 more (at 125 l) in glued_by 125 flow_mapping_end more (at 125 l) w.0 w.1 (ap not hash)
+      by false false false false true i j k l m h = let w : Here comma = whole_by a separation rest here s 44 more (at 44 m) in glued_by 44 flow_entry more (at 44 m) w.0 w.1 (ap not hash)
       by false false false false false i j k l m h = cc h
 
   hash_holds : (in_flow : Bool) (piece more : List ℕ) → begins_with 35 more ≡ true → quoted_may_end in_flow piece more ≡ false
   unfolding is_blank is_break
-  hash_holds in_flow piece [] h = absurd (cc h)
-  hash_holds true piece (c ∷ r) h = let same : c ≡ 35 = eqb-true c 35 h in rw same refl
-  hash_holds false piece (c ∷ r) h = let same : c ≡ 35 = eqb-true c 35 h in rw same refl
+  hash_holds in_flow piece more h = grind (arith, eqb-true)
 
   pub no_glued_quoted : (single : Bool) (piece more : List ℕ) → rest ≡ piece ++ more → IsQuoted single piece more → begins_with 35 more ≡ true → ⊥
   no_glued_quoted true piece more e is hash = no_step a separation rest here s piece more (scalar single_quoted is.0) e (not_nothing a separation rest here s _ piece _ is.1.1) (is.1, refl) (hash_holds (is_in_flow a.entries) piece more hash)
@@ -415,12 +248,7 @@ module _ (a : Account) (separation rest : List ℕ) (here : Position) (s : StepA
   -- ---- TABs after a quoted scalar
 
   awaits_stay : (fl single : Bool) (value : List ℕ) (bs : List ℕ) (w : Bool) (more : List ℕ) → awaits_past fl (quoted_token single value) bs w more ≡ w
-  awaits_stay true true value bs w more = refl
-  awaits_stay true false value bs w more = refl
-  awaits_stay false true value bs true more = refl
-  awaits_stay false true value bs false more = refl
-  awaits_stay false false value bs true more = refl
-  awaits_stay false false value bs false more = refl
+  awaits_stay a b d bs w more = grind arith
 
   abbrev pub quoted_value : (single : Bool) (piece more : List ℕ) → IsQuoted single piece more → List ℕ
   quoted_value true piece more is = is.0
@@ -431,8 +259,7 @@ module _ (a : Account) (separation rest : List ℕ) (here : Position) (s : StepA
   same_quoted_value false piece more e is = let same = same_step a separation rest here s piece more (scalar double_quoted is.0) e (not_nothing a separation rest here s _ piece _ is.1.1) (is.1, refl) in same
 
   pub node_token : (single : Bool) (value : List ℕ) → (act_of (quoted_token single value) ≡ gives_node) × (previous_by (quoted_token single value) ≡ quoted_scalar)
-  node_token true value = (refl, refl)
-  node_token false value = (refl, refl)
+  node_token a b = grind arith
 
   pub no_tab_after_quoted : (single : Bool) (piece gap content : List ℕ) → rest ≡ piece ++ (gap ++ content) → IsQuoted single piece (gap ++ content) → is_separation false gap content ≡ true → is_empty content ≡ false → begins_separation content ≡ false
       → is_indented_by_spaces quoted_scalar (site_at_place a here).blocks (site_at_place a here).awaits gap ≡ false → IsClearAfter s → ⊥

@@ -1,5 +1,5 @@
 -- A TAB that indents a line: where the way to the next token is refused, the line of what comes next is not indented by spaces.
-use Rattle.proof_scanner.proofs.Common.{[], and_parts, ap, append-nil, append_assoc, arith, At, begins_line, begins_separation, begins_token, between, Bool, eqb-true, Err, false, Fault, fills_blank, follows_plain, Gap, has_tab_within, Held, if◌then◌else◌, is_before_indent, is_blanks, is_empty, is_indented_by_spaces, is_separation, IsTabRefusal, last_line, least_column, length, List, nat_lt, nat_tests, not, not-true, Position, position_after, Previous, refl, Result, same_blank, same_break, ScannerState, separations_are_passed, skip, skip_to_next_token, subst, suc, sym, true, zero, ℕ, ◌&&◌, ◌++◌, ◌+◌, ◌<◌, ◌==◌, ◌||◌, ◌∙◌, ◌∷◌, ◌≡◌, ◌≤◌}
+use Rattle.proof_scanner.proofs.Common.{[], ap, append-nil, append_assoc, arith, At, begins_line, begins_separation, begins_token, between, Bool, Err, false, Fault, fills_blank, follows_plain, Gap, has_tab_within, Held, is_before_indent, is_blanks, is_empty, is_indented_by_spaces, is_separation, IsTabRefusal, last_line, least_column, length, List, nat_tests, not, not-true, Position, position_after, Previous, refl, Result, same_blank, same_break, ScannerState, separations_are_passed, skip, skip_to_next_token, subst, suc, sym, true, zero, ℕ, ◌&&◌, ◌++◌, ◌+◌, ◌<◌, ◌==◌, ◌||◌, ◌∙◌, ◌∷◌, ◌≡◌, ◌≤◌}
 use Rattle.yaml_chars.specs.Class.{is_break}
 use Rattle.yaml_tokens.specs.declared.problem.Problem.TheVariants as problem
 use Rattle.defs_text.specs.Classes as classes
@@ -19,21 +19,13 @@ within_more : (n m : ℕ) (l r : List ℕ) → n ≤ m → has_tab_within n l �
 within_more zero m l r less h = absurd (cc h)
 within_more (suc n) m [] r less h = absurd (cc h)
 within_more (suc n) zero (c ∷ l) r less h = absurd (omega (arith, less))
-within_more (suc n) (suc m) (c ∷ l) r less h = by (9 == c) h (within_more n m l r (omega (arith, less)))
-  where
-    by : (b : Bool) → (b || has_tab_within n l) ≡ true → (has_tab_within n l ≡ true → has_tab_within m (l ++ r) ≡ true) → (b || has_tab_within m (l ++ r)) ≡ true
-    by true h more = refl
-    by false h more = more h
+within_more (suc n) (suc m) (c ∷ l) r less h = grind (arith, within_more n m l r)
 
 -- at the end of a line that is shorter
 within_end : (n : ℕ) (l : List ℕ) → length l < n → has_tab_within n (l ++ 9 ∷ []) ≡ true
 within_end zero l less = absurd (omega (arith, less))
 within_end (suc n) [] less = refl
-within_end (suc n) (c ∷ l) less = by (9 == c) (within_end n l (omega (arith, less)))
-  where
-    by : (b : Bool) → has_tab_within n (l ++ 9 ∷ []) ≡ true → (b || has_tab_within n (l ++ 9 ∷ [])) ≡ true
-    by true h = refl
-    by false h = h
+within_end (suc n) (c ∷ l) less = grind (arith, within_end n l)
 
 -- ---- the way to the next token
 
@@ -67,27 +59,11 @@ module _ (before : Previous) (least : ℕ) where
   -- a TAB left of the innermost level
   tab_here : (g : List ℕ) (c : ℕ) (s : Held) → is_break c ≡ false → ((c == 9) && is_before_indent s) ≡ true → IsLeast before least s → IsAt before least g s → IsTabbed (g ++ c ∷ [])
   unfolding is_before_indent
-  tab_here g c s e f l h =
-      let q = and_parts (c == 9) (not (is_empty s.indents) && s.leading && nat_lt (s.position.col + 1) s.indent) f in
-      let z = and_parts (not (is_empty s.indents) && s.leading) (nat_lt (s.position.col + 1) s.indent) q.1 in
-      let y = and_parts (not (is_empty s.indents)) s.leading z.0 in
-      let some : is_empty s.indents ≡ false = not-true (is_empty s.indents) y.0 in
-      let begins : begins_line before g ≡ true = sym (h.leading_is some) ∙ y.1 in
-      let no_break : classes.is_break c ≡ false = same_break c ∙ e in
-      let left : s.position.col + 1 < s.indent = grind (arith, nat_tests, z.1) in
-      let level : s.indent ≡ suc least = l.1 some in
-      let col : s.position.col ≡ length (last_line g) = h.col_is begins in (
-        line_more before g c ∙ ap (λ b. b || classes.is_break c) begins,
-        ap (λ x. has_tab_within least x) (last_more g c ∙ (ap (λ b. if b then [] else last_line g ++ c ∷ []) no_break ∙ ap (λ d. last_line g ++ d ∷ []) (eqb-true c 9 q.0))) ∙ within_end least (last_line g) (omega (arith, left, level, col)),
-      )
+  tab_here g c s e f l h = grind (arith, nat_tests, line_more, last_more, within_end, same_break)
 
   -- a blank more in its line
   blank_after : (g : List ℕ) (c : ℕ) → is_break c ≡ false → IsTabbed g → IsTabbed (g ++ c ∷ [])
-  blank_after g c e h =
-      let no_break : classes.is_break c ≡ false = same_break c ∙ e in (
-        line_more before g c ∙ ap (λ b. b || classes.is_break c) h.0,
-        ap (λ x. has_tab_within least x) (last_more g c ∙ ap (λ b. if b then [] else last_line g ++ c ∷ []) no_break) ∙ within_more least least (last_line g) (c ∷ []) (omega arith) h.1,
-      )
+  blank_after g c e h = grind (arith, line_more, last_more, within_more, same_break)
 
   tabs_tell : (a : List ℕ) (m : Gap) (g : List ℕ) (s : Held) → IsLeast before least s → IsPassed before least IsTabbed m g s a → Faults (TabbedAt g a s) (skip m a s)
   tabs_tell = skip_tells before least (λ g a s r. Faults (TabbedAt g a s) r) IsTabbed (record {
@@ -116,24 +92,20 @@ pub record TabStands (bs : List ℕ) (awaits : Bool) (before : Previous) (separa
 -- two beginnings of a text that are equally long are the same
 same_length : (a b r s : List ℕ) → a ++ r ≡ b ++ s → length a ≡ length b → a ≡ b
 same_length [] [] r s e n = refl
-same_length [] (d ∷ b) r s e n = absurd (omega (arith, n))
-same_length (c ∷ a) [] r s e n = absurd (omega (arith, n))
-same_length (c ∷ a) (d ∷ b) r s e n = let h : c ≡ d = cc e in let t : a ++ r ≡ b ++ s = cc e in ap (λ x. x ∷ a) h ∙ ap (λ y. d ∷ y) (same_length a b r s t (omega (arith, n)))
+same_length [] (d ∷ b) r s e n = grind arith
+same_length (c ∷ a) [] r s e n = grind arith
+same_length (c ∷ a) (d ∷ b) r s e n = grind (arith, same_length a b r s)
 
 blanks_fill : (bs rest : List ℕ) → is_blanks bs ≡ true → is_separation false bs rest ≡ true
 blanks_fill [] rest h = refl
-blanks_fill (c ∷ bs) rest h = let q = and_parts (classes.is_blank c) (is_blanks bs) h in fills_blank c bs rest (sym (same_blank c) ∙ q.0) (blanks_fill bs rest q.1)
+blanks_fill (c ∷ bs) rest h = grind (arith, fills_blank, same_blank, blanks_fill bs rest)
 
 token_solid : (rest : List ℕ) → begins_token rest ≡ true → begins_separation rest ≡ false
-token_solid [] h = refl
-token_solid (c ∷ r) h = not-true _ h
+token_solid a h = grind (arith, not-true)
 
 -- the least column is not less where a value may be awaited
 least_less : (bs : List ℕ) (a b : Bool) → least_column bs a ≤ least_column bs (a || b)
-least_less [] a b = omega arith
-least_less (n ∷ ns) true b = omega arith
-least_less (n ∷ ns) false true = omega arith
-least_less (n ∷ ns) false false = omega arith
+least_less d a b = grind arith
 
 tabbed_is : (before : Previous) (bs : List ℕ) (awaits : Bool) (g : List ℕ) → begins_line before g ≡ true → has_tab_within (least_column bs awaits) (last_line g) ≡ true → is_indented_by_spaces before bs awaits g ≡ false
 tabbed_is before bs awaits g b h =
@@ -153,12 +125,10 @@ skip_refused before bs awaits separation t l known = by (begins_separation t.res
     Own f = TabStands bs awaits before separation t.rest t.held.position f
 
     some_text : (a : List ℕ) → begins_separation a ≡ true → is_empty a ≡ false
-    some_text [] h = absurd (cc h)
-    some_text (c ∷ a) h = refl
+    some_text b h = grind arith
 
     token_is_text : (a : List ℕ) → begins_token a ≡ true → is_empty a ≡ false
-    token_is_text [] h = absurd (cc h)
-    token_is_text (c ∷ a) h = refl
+    token_is_text b h = grind arith
 
     told : begins_separation t.rest ≡ true → (x : Result ScannerState Fault) → EndsAs (Exact t) (IsTabRefusal t.held t.rest) x → Faults (TabbedAt before least separation t.rest t.held) x → Faults Own x
     told begins x p goes = goes

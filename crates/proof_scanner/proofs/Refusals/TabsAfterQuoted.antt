@@ -1,5 +1,5 @@
 -- A TAB after a quoted scalar, on a later line, which would indent the next piece.
-use Rattle.proof_scanner.proofs.Common.{[], ap, append_assoc, Arrives, begins_with, between, Bool, check_after_quoted, closed_first, columns, Context, false, Fault, has_break, has_no_nul, has_open_level, held_of, in_flow, inr, is_empty, is_indented_by_spaces, is_separation, IsQuoted, IsStuck, least_column, List, may_not_stand, no_nul_after, Ok, Position, position_after, position_append, quoted_scalar, Read, refl, Result, ScannerState, site_at_place, skip_to_next_token, subst, sym, true, ℕ, ◌++◌, ◌∙◌, ◌≡◌}
+use Rattle.proof_scanner.proofs.Common.{[], ap, append_assoc, Arrives, begins_with, between, Bool, check_after_quoted, closed_first, columns, Context, false, Fault, has_break, has_no_nul, has_open_level, held_of, in_flow, inr, is_empty, is_indented_by_spaces, is_separation, IsQuoted, least_column, List, may_not_stand, no_nul_after, Ok, Position, position_after, position_append, quoted_scalar, Read, refl, Result, ScannerState, site_at_place, skip_to_next_token, subst, sym, true, ℕ, ◌++◌, ◌∙◌, ◌≡◌}
 use Rattle.yaml_tokens.specs.declared.problem.Problem.TheVariants as problem
 use Rattle.proof_scanner.proofs.Cut.Pieces.Separations.{separation_append}
 use Rattle.proof_scanner.proofs.Cut.Saved.{saved_is}
@@ -10,7 +10,7 @@ use Rattle.proof_scanner.proofs.Sound.Skips.{IsLeast, IsIn}
 use Rattle.proof_scanner.specs.Failing as defs
 use Rattle.proof_scanner.proofs.Refusals.AfterQuoted.{unglued}
 use Rattle.proof_scanner.proofs.Refusals.Faults.{Faults, fault, goes}
-use Rattle.proof_scanner.proofs.Refusals.Places.{Told, LiesDeep, account_by, stuck, blocks_by, awaits_by, least_by, looked_at}
+use Rattle.proof_scanner.proofs.Refusals.Places.{Said, IsWhy, LiesDeep, account_by, stuck, blocks_by, awaits_by, least_by, looked_at}
 use Rattle.proof_scanner.proofs.Refusals.Quotes.{closed, piece, is, fits}
 use Rattle.proof_scanner.proofs.Refusals.Tabs.{TabStands, skip_refused}
 
@@ -44,9 +44,9 @@ module _ (text : List ℕ) (t : ScannerState) (a : Arrives text t) (some : is_em
     start_in : IsIn quoted_scalar (least_column blocks awaits) between spaces v.held v.rest
     start_in = inr (record { leading_is = λ i. ap (λ h. h.leading) c.spaces.is_held ∙ sym no_break; col_is = λ b. absurd (cc (b, no_break)); spaced = λ b. absurd (cc (b, no_break)) })
 
-    tab_stuck : {f : Fault} → TabStands blocks awaits quoted_scalar spaces v.rest v.held.position f → Told text f
+    tab_stuck : {f : Fault} → TabStands blocks awaits quoted_scalar spaces v.rest v.held.position f → Said text f
     tab_stuck d =
-        subst (λ g. Told text g) (sym d.is_fault) (λ _. subst (λ p. IsStuck text problem.TabInBlockIndentation p) (sym place)
+        subst (λ g. Said text g) (sym d.is_fault) (λ _. subst (λ p. IsWhy text problem.TabInBlockIndentation p) (sym place)
         (stuck text t a some [] problem.TabInBlockIndentation (position_after end gap d.rest) (λ k may.
         record {
           fails = may_not_stand (defs.tab_after_quoted single scalar gap d.rest whole (subst (λ r. defs_quoted r) cut (is text t a some lies single ctx x q same)) is_filled d.goes_on d.is_solid
@@ -78,15 +78,15 @@ module _ (text : List ℕ) (t : ScannerState) (a : Arrives text t) (some : is_em
             ap (λ p. position_after p d.passed d.rest) (ap (λ h. h.position) c.spaces.is_held ∙ ap (λ r. position_after x.position spaces r) d.cut) ∙
             (sym (position_append x.position spaces d.passed d.rest) ∙ ap (λ p. position_after p gap d.rest) (q.end_is ∙ ap (λ r. position_after t.held.position scalar r) cut))
 
-    told : Faults (Told text) (skip_to_next_token v)
+    told : Faults (Said text) (skip_to_next_token v)
     told = by (skip_refused quoted_scalar blocks awaits spaces v start_least (λ _. start_in))
       where
-        by : {r : Result ScannerState Fault} → Faults (TabStands blocks awaits quoted_scalar spaces v.rest v.held.position) r → Faults (Told text) r
+        by : {r : Result ScannerState Fault} → Faults (TabStands blocks awaits quoted_scalar spaces v.rest v.held.position) r → Faults (Said text) r
         by (fault d) = fault (tab_stuck d)
         by goes = goes
 
   -- what stands on the way to the next token after a quoted scalar
-  pub tab_told : (v : ScannerState) → check_after_quoted t.held.position.line own ≡ Ok v → Faults (Told text) (skip_to_next_token v)
+  pub tab_told : (v : ScannerState) → check_after_quoted t.held.position.line own ≡ Ok v → Faults (Said text) (skip_to_next_token v)
   tab_told v e = told v (held_of v (quoted_checked t.held.position scalar own (in_line single q.body) clean q.end_is) e)
     where
       clean : has_no_nul x.rest ≡ true

@@ -1,5 +1,5 @@
 -- Where a tag, a directive or a block scalar's header is none, no row of the text goes on.
-use Rattle.proof_scanner.proofs.Common.{[], Account, after, all_lines, all_of, alpha_starts, and_parts, ap, append-nil, are_marks, AreNotIndented, At, begins_flow, begins_with, begins_with_mark, block_may_end, block_read, block_token, block_value, BlockRead, BlockStyle, Body, body, Bool, column_of, context_of, decoded, decoded_some, directive_begins, directive_line, directive_of, double_quoted, Ending, eqb-true, Err, false, first_line, folded, further, further_text, has_header, has_no_break, has_no_nul, HasNoQuoted, Header, header_of, if◌then◌else◌, in_double_quotes, in_single_quotes, indicator_of, inl, innermost, inr, is_adjacent, is_alpha, is_at_end, is_at_gap, is_at_line_end, is_blank, is_blank_or_end, is_break, is_decimal_digit, is_empty, is_flow, is_further_text, is_in_flow, is_in_line, is_letter, is_nul, is_past, is_tag, is_uri, IsTagRefusal, Kind, kind_at, leading, leading_all, least_column, length, line_is, line_more, lines_after, lines_may_end, List, literal, local_goes_on, local_octets, may_follow, may_precede, More, no_lines, no_nul_after, no_suffix, None, not, not-true, of_lines, Ok, Option, past, Position, Problem, put_first, read_body, read_lines, read_may_end, refl, same_end, scalar, single_quoted, site_at_place, slice_index, Some, split, split_append, splits, starts_with_tab, subst, suc, suffix_goes_on, suffix_octets, sym, tag_text, tags_are_read, true, unclosed, up_to_break, verbatim_goes_on, verbatim_octets, Whole, with_value, word, written_tag, zero, ℕ, ◌&&◌, ◌++◌, ◌==◌, ◌||◌, ◌∙◌, ◌∷◌, ◌≡◌, ◌⊎◌}
+use Rattle.proof_scanner.proofs.Common.{[], Account, after, all_lines, all_of, alpha_starts, and_parts, ap, append-nil, are_marks, AreNotIndented, At, begins_flow, begins_with, begins_with_mark, block_may_end, block_read, block_token, BlockRead, BlockStyle, Body, body, Bool, context_of, decoded, decoded_some, directive_begins, directive_line, directive_of, double_quoted, Ending, eqb-true, Err, false, first_line, folded, further, further_text, has_header, has_no_break, has_no_nul, HasNoQuoted, Header, header_of, if◌then◌else◌, in_double_quotes, in_single_quotes, indicator_of, inl, innermost, inr, is_adjacent, is_alpha, is_at_end, is_at_gap, is_at_line_end, is_blank, is_blank_or_end, is_break, is_decimal_digit, is_empty, is_flow, is_further_text, is_in_flow, is_in_line, is_letter, is_nul, is_past, is_tag, is_uri, IsTagRefusal, Kind, kind_at, leading, leading_all, least_column, length, line_is, line_more, lines_after, List, literal, local_goes_on, local_octets, may_follow, may_precede, More, no_lines, no_nul_after, no_suffix, None, not, of_lines, Ok, Option, past, Position, Problem, put_first, read_body, read_lines, read_may_end, refl, same_end, scalar, single_quoted, site_at_place, slice_index, Some, split, split_append, splits, starts_with_tab, subst, suffix_goes_on, suffix_octets, sym, tag_text, tags_are_read, true, unclosed, up_to_break, verbatim_goes_on, verbatim_octets, Whole, word, written_tag, ℕ, ◌&&◌, ◌++◌, ◌==◌, ◌||◌, ◌∙◌, ◌∷◌, ◌≡◌, ◌⊎◌, arith, ends_run, runs, nat_tests}
 use Rattle.defs_text.specs.BlockScalar as block
 use Rattle.defs_text.specs.BlockScalar.{unbroken as unbroken_line}
 use Rattle.defs_token.specs.Account as pieces
@@ -25,8 +25,7 @@ unfolding is_alpha is_decimal_digit is_letter
 no_mark = refl
 
 closes_not : (start p : Position) (uri r : List ℕ) → begins_with 62 r ≡ false → verbatim_end start uri r p ≡ Err (At problem.VerbatimTagEnd start)
-closes_not start p uri [] h = refl
-closes_not start p uri (c ∷ r) h = rw h refl
+closes_not start p uri r h = grind arith
 
 -- a word and a second mark begin no verbatim tag
 no_angle : (name rest : List ℕ) → all_of is_alpha name ≡ true → (slice_index (name ++ 33 ∷ rest) 0 == 60) ≡ false
@@ -34,16 +33,13 @@ no_angle [] rest h = refl
 no_angle (c ∷ name) rest h = (alpha_starts c (and_parts (is_alpha c) (all_of is_alpha name) h).0).0
 
 plainly : (text : List ℕ) → begins_with 60 text ≡ false → (slice_index text 0 == 60) ≡ false
-plainly [] h = refl
-plainly (c ∷ r) h = h
+plainly text h = grind arith
 
 unmarked : (text : List ℕ) → begins_with_mark text ≡ false → (slice_index text 0 == 33) ≡ false
-unmarked [] h = refl
-unmarked (c ∷ r) h = h
+unmarked text h = grind arith
 
 suffix_given : (l suffix : List ℕ) → is_empty l ≡ false → decoded l ≡ Ok suffix → is_empty suffix ≡ false
-suffix_given [] suffix h e = absurd (cc h)
-suffix_given (c ∷ l) suffix h e = decoded_some c l suffix e
+suffix_given l suffix h e = grind (arith, decoded_some)
 
 -- The scan refuses a text after `!` for each of these reasons.
 pub refusal_fails : (flow : Bool) (text : List ℕ) (why : Problem) (p : Position) → IsTagRefusal flow text why → tag flow (33 ∷ text) p ≡ Err (At why p)
@@ -68,72 +64,45 @@ refusal_fails flow text why p (local_goes_on suffix no_verbatim none e goes) =
     (by (is_empty (leading is_alpha text ++ suffix)) refl)
   where
     by : (b : Bool) → is_empty (leading is_alpha text ++ suffix) ≡ b → tag_end flow p (tags.local (record { rest = after is_tag (after is_alpha text); position = further (length (leading is_tag (after is_alpha text))) (further (length (leading is_alpha text)) (past p)); value = leading is_alpha text ++ suffix })) ≡ Err (At problem.TagEnd p)
-    by true i = rw (i, same_end flow (after is_tag (after is_alpha text)), goes) refl
-    by false i = rw (i, same_end flow (after is_tag (after is_alpha text)), goes) refl
+    by a i = grind (arith, nat_tests, same_end, flow, after, text, goes, eqb-true)
 
 -- ---- lines
 
+abbrev in_line : ℕ → Bool
+in_line c = not (is_break c)
+
+all_in_line : (l : List ℕ) → all_of in_line l ≡ has_no_break l
+all_in_line [] = refl
+all_in_line (c ∷ l) = ap (λ b. in_line c && b) (all_in_line l)
+
+line_ends : (next : List ℕ) → directives.ends_line next ≡ true → ends_run in_line next ≡ true
+line_ends a e = grind arith
+
 -- two lines of one text are the same
-same_line : (a b x y : List ℕ) → has_no_break a ≡ true → has_no_break b ≡ true → is_at_line_end x ≡ true → directives.ends_line y ≡ true → has_no_nul (a ++ x) ≡ true → a ++ x ≡ b ++ y → a ≡ b
-same_line [] [] x y h k i j n e = refl
-same_line [] (d ∷ b) [] y h k i j n e = absurd (cc e)
-same_line [] (d ∷ b) (c ∷ x) y h k i j n e = let same : c ≡ d = cc e in absurd (by (is_break c) (is_nul c) (is_break d) i (ap is_break same) (and_parts (not (is_break d)) (has_no_break b) k).0 (and_parts (not (is_nul c)) (has_no_nul x) n).0)
-  where
-    by : (b n d : Bool) → (b || n) ≡ true → b ≡ d → not d ≡ true → not n ≡ true → ⊥
-    by true n true h e i j = cc i
-    by true n false h e i j = cc e
-    by false true d h e i j = cc j
-    by false false d h e i j = cc h
-same_line (c ∷ a) [] x [] h k i j n e = absurd (cc e)
-same_line (c ∷ a) [] x (d ∷ y) h k i j n e = let same : c ≡ d = cc e in absurd (by (is_break c) (is_break d) (and_parts (not (is_break c)) (has_no_break a) h).0 (ap is_break same) j)
-  where
-    by : (b d : Bool) → not b ≡ true → b ≡ d → d ≡ true → ⊥
-    by true d h e j = cc h
-    by false d h e j = cc (e, j)
-same_line (c ∷ a) (d ∷ b) x y h k i j n e =
-    let first : c ≡ d = cc e in
-    let others : a ++ x ≡ b ++ y = cc e in
-    rw first (ap (λ r. d ∷ r) (same_line a b x y (and_parts (not (is_break c)) (has_no_break a) h).1 (and_parts (not (is_break d)) (has_no_break b) k).1 i j (and_parts (not (is_nul c)) (has_no_nul (a ++ x)) n).1 others))
+pub one_line : (line1 next1 line2 next2 : List ℕ) → line1 ++ next1 ≡ line2 ++ next2 → has_no_break line1 ≡ true → directives.ends_line next1 ≡ true → has_no_break line2 ≡ true → directives.ends_line next2 ≡ true → line1 ≡ line2
+one_line line1 next1 line2 next2 e h j k l = (runs in_line line1 line2 next1 next2 (all_in_line line1 ∙ h) (all_in_line line2 ∙ k) (line_ends next1 j) (line_ends next2 l) e).0
+
+clean_end : (next : List ℕ) → is_at_line_end next ≡ true → has_no_nul next ≡ true → directives.ends_line next ≡ true
+clean_end a e n = grind arith
 
 -- a text's first line
 pub first_of : (line after : List ℕ) → is_in_line line ≡ true → ends_line after ≡ true → up_to_break (line ++ after) ≡ line
-first_of [] [] h e = refl
-first_of [] (c ∷ r) h e = rw e refl
-first_of (c ∷ line) after h e = let parts = and_parts (not (is_break c)) (is_in_line line) h in rw (not-true (is_break c) parts.0) (ap (λ r. c ∷ r) (first_of line after parts.1 e))
+first_of [] after h e = grind arith
+first_of (c ∷ line) after h e = grind (arith, first_of line after)
 
 -- a block scalar's piece has the first line of the text
 pub piece_line : (collection : Option ℕ) (piece next : List ℕ) (r : BlockRead) → has_no_nul next ≡ true → block_read collection piece next ≡ Some r → up_to_break (piece ++ next) ≡ up_to_break piece
-piece_line collection piece next r clean is = by ((split piece).complete) refl
-  where
-    at_end : (ended : Bool) → read_lines collection [] ((split piece).last) next ended ≡ Some r → ended ≡ true
-    at_end true e = refl
-    at_end false e = absurd (cc e)
-
-    by : (ls : List (List ℕ)) → (split piece).complete ≡ ls → up_to_break (piece ++ next) ≡ up_to_break piece
-    by [] e =
-        let ends : is_at_end next ≡ true = at_end (is_at_end next) (ap (λ l. read_lines collection l ((split piece).last) next (is_at_end next)) (sym e) ∙ is) in
-        ap (λ z. up_to_break (piece ++ z)) (end_no_text next clean ends) ∙ ap up_to_break (append-nil piece)
-    by (l ∷ ls) e = line_more piece (λ none. absurd (cc (none, e))) next
+piece_line collection piece next r clean is = grind (arith, end_no_text, append-nil, line_more)
 
 -- ---- a TAB after a header
 
 -- a block scalar that was read ends before the text after it
 ended_body : (collection : Option ℕ) (h : Option Header) (b : Body) (next : List ℕ) (r : BlockRead) → read_body h collection b next ≡ Some r → (column : ℕ) × (is_past column next ≡ true)
-ended_body collection None b next r e = absurd (cc e)
-ended_body collection (Some h) b next r e = (column_of h collection b, by (is_past (column_of h collection b) next) e)
-  where
-    by : (x : Bool) → (if x then with_value h (column_of h collection b) (block_value h collection b) else None) ≡ Some r → x ≡ true
-    by true e = refl
-    by false e = absurd (cc e)
+ended_body collection h b next r e = grind arith
 
 -- its first line does not begin with a TAB
 untabbed_body : (collection : Option ℕ) (h : Option Header) (ls : List (List ℕ)) (ending : Ending) (next : List ℕ) (r : BlockRead) → read_body h collection (body ls ending) next ≡ Some r → starts_with_tab (all_lines ls ending) ≡ true → ⊥
-untabbed_body collection None ls ending next r e tabs = cc e
-untabbed_body collection (Some h) ls ending next r e tabs = by (is_past (column_of h collection (body ls ending)) next) e
-  where
-    by : (x : Bool) → (if x then with_value h (column_of h collection (body ls ending)) (block_value h collection (body ls ending)) else None) ≡ Some r → ⊥
-    by true e = let none : block_value h collection (body ls ending) ≡ None = rw tabs refl in cc (e, ap (with_value h (column_of h collection (body ls ending))) none)
-    by false e = cc e
+untabbed_body collection h ls ending next r e tabs = grind arith
 
 tab_is_text : is_at_end (9 ∷ []) ≡ false
 unfolding is_nul
@@ -141,10 +110,7 @@ tab_is_text = refl
 
 not_past : (column : ℕ) (r : List ℕ) → is_further_text column (10 ∷ r) ≡ false
 unfolding is_break are_marks
-not_past zero [] = refl
-not_past zero (d ∷ []) = refl
-not_past zero (d ∷ e ∷ r) = refl
-not_past (suc n) r = refl
+not_past column r = grind arith
 
 module _ (collection : Option ℕ) (header more : List ℕ) where
   -- a piece that goes on after its header with a TAB
@@ -155,11 +121,7 @@ module _ (collection : Option ℕ) (header more : List ℕ) where
       by ((split q).complete) ((split q).last) (is_at_end next) (ap (λ z. read_lines collection z.complete z.last next (is_at_end next)) (sym lines) ∙ is)
     where
       by : (complete : List (List ℕ)) (last : List ℕ) (ended : Bool) → read_lines collection (header ∷ (put_first 9 complete last).complete) ((put_first 9 complete last).last) next ended ≡ Some r → ⊥
-      by [] last true e = untabbed_body collection (header_of header) [] (unbroken_line (9 ∷ last)) next r e refl
-      by [] last false e = cc e
-      by (l ∷ ls) last true e = untabbed_body collection (header_of header) ((9 ∷ l) ∷ ls) (unbroken_line last) next r e refl
-      by (l ∷ ls) [] false e = untabbed_body collection (header_of header) ((9 ∷ l) ∷ ls) further_text next r e refl
-      by (l ∷ ls) (c ∷ last) false e = cc e
+      by complete last ended e = grind (arith, untabbed_body)
 
   -- a piece that ends before the header's break does
   shorter : (own : List ℕ) (d : ℕ) (q next : List ℕ) (r : BlockRead) → split (own ++ d ∷ q) ≡ of_lines (header ∷ []) [] → has_no_nul (d ∷ next) ≡ true → block_read collection own (d ∷ next) ≡ Some r → ⊥
@@ -207,8 +169,7 @@ module _ (collection : Option ℕ) (header more : List ℕ) where
         where
           on : (q : List ℕ) → own ≡ piece ++ q → next ≡ q ++ 9 ∷ more → (piece ≡ own) × (next ≡ 9 ∷ more)
           on [] e f = (sym (append-nil piece) ∙ sym e, f)
-          on (d ∷ q) e f =
-              absurd (shorter piece d q (q ++ 9 ∷ more) r (ap split (sym e) ∙ one) (ap has_no_nul (sym f) ∙ clean) (ap (block_read collection piece) (sym f) ∙ is))
+          on (d ∷ q) e f = grind (arith, nat_tests, shorter, more, split, one, clean, block_read, is, eqb-true)
       by (inr m) = on m.more m.longer m.rest
         where
           on : (q : List ℕ) → piece ≡ own ++ q → 9 ∷ more ≡ q ++ next → (piece ≡ own) × (next ≡ 9 ∷ more)
@@ -225,16 +186,14 @@ module _ (collection : Option ℕ) (header more : List ℕ) where
       alone = header_alone own piece next r cut one clean is
 
       tabbed_end : (o : Option BlockRead) → read_may_end bs o own (9 ∷ more) ≡ false
-      tabbed_end None = refl
-      tabbed_end (Some b) = ap (λ z. lines_may_end bs b.column z.complete (9 ∷ more)) one
+      tabbed_end a = grind (arith, nat_tests, more, one, eqb-true)
 
       own_end : (p n : List ℕ) → p ≡ own → n ≡ 9 ∷ more → block_may_end bs p n ≡ false
       own_end p n e f = ap (λ x. block_may_end bs x n) e ∙ (ap (block_may_end bs own) f ∙ (ap (λ b. b || read_may_end bs (block_read (innermost bs) own (9 ∷ more)) own (9 ∷ more)) tab_is_text ∙ tabbed_end (block_read (innermost bs) own (9 ∷ more))))
 
 unbroken : (style : BlockStyle) → is_break (indicator_of style) ≡ false
 unfolding is_break
-unbroken literal = refl
-unbroken folded = refl
+unbroken style = grind arith
 
 -- a text whose first line is a header begins with its indicator
 pub first_char : (own header : List ℕ) (h : Header) → up_to_break own ≡ header → header_of header ≡ Some h → (style : BlockStyle) × (p : List ℕ) × (own ≡ indicator_of style ∷ p)
@@ -275,7 +234,7 @@ module _ (a : Account) (separation rest : List ℕ) (here : Position) (s : StepA
       let first = directive_begins s.step.piece w.0 w.1 in
       let left : first.0 ++ next ≡ line ++ after = rest_of a separation rest here s 37 first.0 (line ++ after) first.1 e in
       let clean : has_no_nul (first.0 ++ next) ≡ true = ap has_no_nul left ∙ no_nul_more (line ++ after) (sym (ap has_no_nul e) ∙ s.is_clean) in
-      let same : first.0 ≡ line = same_line first.0 line next after (inner first.0 (sym (ap has_no_break first.1) ∙ w.2)) one w.3 ends clean left in
+      let same : first.0 ≡ line = one_line first.0 next line after left (inner first.0 (sym (ap has_no_break first.1) ∙ w.2)) (clean_end next w.3 (no_nul_after first.0 next clean)) one ends in
       cc (none, ap (λ r. directive_of (37 ∷ r)) (sym same), ap directive_of (sym first.1), w.1)
     where
       no_nul_more : (r : List ℕ) → has_no_nul (37 ∷ r) ≡ true → has_no_nul r ≡ true
@@ -289,8 +248,7 @@ module _ (a : Account) (separation rest : List ℕ) (here : Position) (s : StepA
   block_here style more out e = subst Here (block_kind style (pieces.is_in_flow (acct a separation rest here s)) (is_adjacent (acct a separation rest here s).before) (acct a separation rest here s).position.col (flow_is a separation rest here s ∙ out)) (whole_by a separation rest here s (indicator_of style) more e)
     where
       block_kind : (style : BlockStyle) (fl adjacent : Bool) (column : ℕ) → fl ≡ false → kind_at fl adjacent column (indicator_of style ∷ more) ≡ block_scalar
-      block_kind literal fl adjacent column h = rw h refl
-      block_kind folded fl adjacent column h = rw h refl
+      block_kind a fl adjacent column h = grind (arith, nat_tests, eqb-true)
 
   pub no_block_header : (style : BlockStyle) (line after : List ℕ) → is_in_flow a.entries ≡ false → rest ≡ indicator_of style ∷ (line ++ after) → is_in_line line ≡ true → ends_line after ≡ true → header_of (indicator_of style ∷ line) ≡ None → ⊥
   no_block_header style line after out e inner ends none =
@@ -310,8 +268,7 @@ module _ (a : Account) (separation rest : List ℕ) (here : Position) (s : StepA
       (same_end_by w.0.style w.0.text ∙ tab_follows (pieces.collection_column (acct a separation rest here s)) header more own s.step.piece next (written.At s.account s.step next).blocks w.0 (s.text_is ∙ e) one clean w.1))
     where
       same_end_by : (style : BlockStyle) (text : List ℕ) → may_precede (is_in_flow s.account.entries) (written.At s.account s.step next).blocks (block_token style text) s.step.piece next ≡ block_may_end (written.At s.account s.step next).blocks s.step.piece next
-      same_end_by literal text = refl
-      same_end_by folded text = refl
+      same_end_by a b = grind (arith, nat_tests, eqb-true)
 
   -- ---- quoted scalars
 

@@ -1,29 +1,16 @@
 -- A key that waits outside flow is near as long as a row goes on: its colon is still to come, on its line, at most 1024 characters after its start.
-use Rattle.proof_scanner.proofs.Common.{[], Account, account_past, Act, act_of, and_parts, ap, arith, begins_free_line, Bool, ends_separation, false, gives_colon, gives_node, have_no_key, if◌then◌else◌, inl, inr, is_at_line_end, is_blank, is_break, is_in_column, is_near, is_separation, is_waiting, IsRowFrom, line_past, List, longer, may_end, nat_tests, None, not, opened, Option, Outside, Position, position_after, refl, same_head, Site, site_at, Some, spelled, Step, subst, sym, taken, true, waits, ℕ, ◌&&◌, ◌++◌, ◌+◌, ◌==◌, ◌||◌, ◌∙◌, ◌∷◌, ◌≡◌, ◌≤◌, ◌⊎◌}
+use Rattle.proof_scanner.proofs.Common.{[], Account, account_past, Act, act_of, and_parts, ap, arith, begins_free_line, Bool, ends_separation, false, inl, inr, is_blank, is_break, is_in_column, is_separation, IsRowFrom, line_past, List, longer, may_end, None, not, Option, Outside, Position, position_after, refl, same_head, Site, site_at, Some, spelled, Step, subst, sym, true, waits, ℕ, ◌++◌, ◌+◌, ◌==◌, ◌||◌, ◌∙◌, ◌∷◌, ◌≡◌, ◌≤◌, ◌⊎◌}
 use Rattle.proof_row.proofs.Separations.{over}
 use Rattle.proof_scanner.proofs.Cut.Positions.{index_after}
-use Rattle.proof_scanner.proofs.Known.Made.{same_of, still_there, Made, outside, inside, made}
+use Rattle.proof_scanner.proofs.Known.Made.{still_there, Made, outside, inside, made}
 
 -- where a text ends no key waits
 pub none_ends : (a : Account) (begin : Position) → a.line ≡ waits begin → may_end a ≡ true → ⊥
-none_ends a begin e h = cc (ap is_waiting e, (and_first (is_waiting a.line) (have_no_key a.entries) h))
-  where
-    and_first : (x y : Bool) → (not x && y) ≡ true → x ≡ false
-    and_first true y h = absurd (cc h)
-    and_first false y h = refl
+none_ends a begin e h = grind arith
 
 -- Outside flow a piece is a part of a node, after which the key waits still, or it is its colon and near.
 waits_on : (must : Bool) (here : Position) (bs : List ℕ) (k : Act) (key : Bool) (q : Position) (o : Outside) → line_past must here bs k key (waits q) ≡ Some o → (o.line ≡ waits q) ⊎ (here.index ≤ q.index + 1024)
-waits_on must here bs gives_node true q o e = absurd (cc e)
-waits_on must here bs gives_node false q o e = inl (ap (λ (x : Outside). x.line) (sym (same_of _ o e)))
-waits_on must here bs gives_colon true q o e = absurd (cc e)
-waits_on must here bs gives_colon false q o e = by (is_near q here) refl e
-  where
-    by : (b : Bool) → is_near q here ≡ b → (if b then Some (record { line = taken; blocks = opened q.col bs }) else None) ≡ Some o → (o.line ≡ waits q) ⊎ (here.index ≤ q.index + 1024)
-    by true n f = inr (grind (arith, nat_tests, n))
-    by false n f = absurd (cc f)
-waits_on must here bs _ true q o e = absurd (cc e)
-waits_on must here bs _ false q o e = absurd (cc e)
+waits_on must a bs b d q o e = grind arith
 
 -- What a row's step says of a key that waits before it: no line begins before its piece, which is near.
 pub record GoesNear (a : Account) (w : Step) (next : List ℕ) (q : Position) : Type 0 where
@@ -44,7 +31,7 @@ near_by w ws last a q e row further = by (account_past a w next) refl row.1
 
     -- the piece ends no nearer than it begins
     earlier : (b : Account) → b.site.position ≡ position_after here w.piece next → b.site.position.index ≤ q.index + 1024 → here.index ≤ q.index + 1024
-    earlier b i n = let index = ap (λ (p : Position). p.index) i in let many = index_after here w.piece next in omega (arith, index, many, n)
+    earlier b i n = grind (arith, index_after)
 
     by : (o : Option Account) → account_past a w next ≡ o → IsRowFrom o ws last → GoesNear a w next q
     by None i on = absurd on
@@ -65,11 +52,7 @@ near_by w ws last a q e row further = by (account_past a w next) refl row.1
 -- where the last piece of a row ended while a key waits
 ends_near : (ws : List Step) (last : List ℕ) (a : Account) (q : Position) → a.line ≡ waits q → IsRowFrom (Some a) ws last → a.site.position.index ≤ q.index + 1024
 ends_near [] last a q e row = absurd (none_ends a q e row.1)
-ends_near (w ∷ ws) last a q e row =
-    let n = near_by w ws last a q e row (λ b. ends_near ws last b q) in
-    let near = n.near in
-    let many = index_after a.site.position w.separation (w.piece ++ spelled ws last) in
-    omega (arith, near, many)
+ends_near (w ∷ ws) last a q e row = grind (arith, near_by w ws last a q e row (λ b. ends_near ws last b q), index_after)
 
 -- While a key waits the row goes on so.
 pub goes_near : (w : Step) (ws : List Step) (last : List ℕ) (a : Account) (q : Position) → a.line ≡ waits q → IsRowFrom (Some a) (w ∷ ws) last → GoesNear a w (spelled ws last) q
@@ -86,8 +69,7 @@ pub record BeginsWith (whole part next rest : List ℕ) : Type 0 where
 -- A separation before a piece begins with each separation of the same text.
 pub begins_with_part : (in_comment : Bool) (whole part next rest : List ℕ) → is_separation in_comment whole next ≡ true → is_separation in_comment part rest ≡ true → ends_separation next ≡ true → whole ++ next ≡ part ++ rest → BeginsWith whole part next rest
 begins_with_part b whole [] next rest h k f e = record { more = whole; whole_is = refl; rest_is = sym e }
-begins_with_part b [] (d ∷ part) next rest h k f e =
-    absurd (over b d part rest (part ++ rest) k (subst (λ z. (not b || is_at_line_end z) ≡ true) e h) (subst (λ z. ends_separation z ≡ true) e f))
+begins_with_part b [] (d ∷ part) next rest h k f e = grind (arith, over)
 begins_with_part false (c ∷ whole) (d ∷ part) next rest h k f e =
     let heads : (c ≡ d) × (whole ++ next ≡ part ++ rest) = same_head c d (whole ++ next) (part ++ rest) e in
     let first : is_separation (c == 35) whole next ≡ true = (and_parts (is_blank c || is_break c || (c == 35)) (is_separation (c == 35) whole next) h).1 in

@@ -1,8 +1,8 @@
 -- A piece in flow, and the open key outside flow: while that is live, no break stands before the piece or in it.
-use Rattle.proof_scanner.proofs.Common.{After, ap, append-nil, arith, begins_free_line, Bool, Entry, false, FlowLevel, has_break, is_empty, is_waiting, IsLive, IsOpenHere, IsOpenOutside, Key, line_by, line_past_separation, List, MayChoose, None, NotBefore, Option, outside_key, Position, refl, ScannerState, Some, subst, sym, taken, true, ℕ, ◌&&◌, ◌∙◌, ◌∷◌, ◌≡◌, ◌≤◌}
+use Rattle.proof_scanner.proofs.Common.{After, Bool, Entry, FlowLevel, IsLive, IsOpenHere, IsOpenOutside, Key, List, MayChoose, NotBefore, Option, Position, ScannerState, Some, after, ap, append-nil, arith, begins_free_line, false, has_break, is_empty, is_waiting, line_by, line_past_separation, outside_key, refl, subst, sym, taken, true, ℕ, ◌&&◌, ◌∙◌, ◌∷◌, ◌≡◌, ◌≤◌}
 use Rattle.proof_scanner.proofs.Cut.Positions.{not_before_after, not_before_then, after_then, weaker}
 use Rattle.proof_scanner.proofs.Sound.NodeSteps.{separated}
-use Rattle.proof_scanner.proofs.Sound.StepsOutside.{no_waiting}
+use Rattle.proof_scanner.proofs.Sound.OutOfFlow.{no_waiting}
 use Rattle.proof_scanner.proofs.Sound.Sides.{ArrivesBy}
 use Rattle.proof_scanner.proofs.Sound.Arrivals.{unbroken, not_free, live_before, line_kept}
 
@@ -41,36 +41,19 @@ module _ (text : List ℕ) (t : ScannerState) (f : FlowLevel) (fs : List FlowLev
             not_free a.site.before a.separation (unbroken a.site.position a.separation t.rest some a.is_solid (omega (arith, (around_of x i).0.0, live.0, line)))
 
         by : (strict c : Bool) (y : Option Key) → outside_key es ks ≡ y → MayChoose strict c y end rest → line_past_separation true (begins_free_line a.site.before a.separation) (line_by c y a.line) ≡ Some (line_by c y a.line)
-        by strict c None i may = line_through
-        by strict false (Some x) i may = line_through
-        by false true (Some x) i may = absurd may
-        by true true (Some x) i may = separated true (begins_free_line a.site.before a.separation) true (Some x) a.line a.line (λ _. none x i may) line_through a.no_key
+        by strict c a i may = grind (arith, line_through, separated, none)
 
     pub one_around : (piece : List ℕ) → (is_empty rest ≡ false → end.line ≤ t.held.position.line → has_break piece ≡ false) → (strict c : Bool) → MayChoose strict c (outside_key es ks) end rest → (has_break piece && is_waiting (line_by c (outside_key es ks) a.line)) ≡ false
     one_around piece one strict c may = by strict c (outside_key es ks) refl may
       where
         by : (strict c : Bool) (y : Option Key) → outside_key es ks ≡ y → MayChoose strict c y end rest → (has_break piece && is_waiting (line_by c y a.line)) ≡ false
-        by strict c None i may = no_waiting (has_break piece) (is_waiting a.line) a.no_key
-        by strict false (Some x) i may = no_waiting (has_break piece) (is_waiting a.line) a.no_key
-        by false true (Some x) i may = absurd may
-        by true true (Some x) i may = ap (λ b. b && true) (one may.1 (omega (arith, (around_before x i).0, may.0)))
+        by strict c y i may = grind (arith, no_waiting, one, around_before)
 
     pub may_around : (strict c : Bool) → MayChoose strict c (outside_key es ks) end rest → MayChoose strict c (outside_key es ks) t.held.position t.rest
-    may_around strict c may = by strict c (outside_key es ks) may
-      where
-        by : (strict c : Bool) (y : Option Key) → MayChoose strict c y end rest → MayChoose strict c y t.held.position t.rest
-        by strict c None may = tt
-        by true true (Some x) may = live_inside x may
-        by true false (Some x) may = may
-        by false true (Some x) may = absurd may
-        by false false (Some x) may = tt
+    may_around strict c may = grind arith
 
     pub open_around : (q : Position) → NotBefore t.held.position q → IsOpenOutside (outside_key es ks) q end rest a.site.blocks
     open_around q after = by (outside_key es ks) refl
       where
         by : (y : Option Key) → outside_key es ks ≡ y → IsOpenOutside y q end rest a.site.blocks
-        by None i = tt
-        by (Some x) i = (
-          after_then x.position a.site.position q (around_of x i).0 (not_before_then a.site.position t.held.position q last_before after),
-          λ l. let here : IsOpenHere x t.held.position a.site.blocks = (around_of x i).1 (live_inside x l) in record { column_is = here.column_is; must_be = here.must_be },
-        )
+        by y i = grind (arith, around_of, after_then, not_before_then, last_before, live_inside, after)

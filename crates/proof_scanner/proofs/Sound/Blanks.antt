@@ -1,6 +1,6 @@
 -- Blanks and a comment after a piece, within its line: what the model reads there is all of them, and it stands where they end.
 use Rattle.std.proofs.lemmas.List.{append-nil}
-use Rattle.proof_scanner.proofs.Common.{[], after, after_spaces, ap, append_assoc, At, begins_with, blanks_and_comment, Bool, comment_after, comment_of, eqb-true, Err, false, Fault, has_no_break, Holds, if◌then◌else◌, in_line_position, is_blank, is_break, is_line, is_on_line, is_one_of, is_separation, leading, lexed, List, No, not, Ok, or_false, or_true, past, past_blanks_and_comment, past_comment, past_line_rest, Position, position_after, position_append, position_in_line, Read, refl, refused, Result, same_break, ScannerState, skip_spaces, skip_while, space, space_step, Spaces, spaces_end, span_cut, Stop, subst, sym, true, walk, went, Whitespace, with_found, Yes, ℕ, ◌&&◌, ◌++◌, ◌==◌, ◌||◌, ◌∙◌, ◌∷◌, ◌≡◌}
+use Rattle.proof_scanner.proofs.Common.{At, Bool, Err, Fault, Holds, List, No, Ok, Position, Read, Result, ScannerState, Spaces, Stop, Whitespace, Yes, [], after, after_spaces, ap, append_assoc, arith, begins_with, blanks_and_comment, comment_after, comment_of, eqb-true, false, has_no_break, if◌then◌else◌, in_line_position, is_blank, is_break, is_line, is_on_line, is_one_of, is_separation, leading, lexed, nat_tests, not, or_false, or_true, past, past_blanks_and_comment, past_comment, past_line_rest, position_after, position_append, position_in_line, refl, refused, same_break, skip_spaces, skip_while, space, space_step, spaces_end, span_cut, subst, sym, true, walk, went, with_found, ℕ, ◌&&◌, ◌++◌, ◌==◌, ◌||◌, ◌∙◌, ◌∷◌, ◌≡◌}
 use Rattle.yaml_tokens.specs.declared.problem.Problem.TheVariants as problem
 use Rattle.proof_scanner.proofs.Cut.Pieces.Separations.{no_break_append}
 
@@ -23,8 +23,7 @@ no_break_in_blanks (c ∷ a) = by (c == 32) (c == 9) refl refl (no_break_in_blan
   where
     by : (x y : Bool) → (c == 32) ≡ x → (c == 9) ≡ y → has_no_break (leading is_blank a) ≡ true → has_no_break (if (x || y) then c ∷ leading is_blank a else []) ≡ true
     by true y e f h = let same : c ≡ 32 = eqb-true c 32 e in rw same h
-    by false true e f h = let same : c ≡ 9 = eqb-true c 9 f in rw same h
-    by false false e f h = refl
+    by false b e f h = grind arith
 
 same_spaces : (p q : Position) (w v : Whitespace) (a : List ℕ) → p ≡ q → w.found_tabs ≡ v.found_tabs → w.has_valid_yaml_ws ≡ v.has_valid_yaml_ws →
     ◌≡◌ {A = Stop Spaces} (record { rest = a; state = record { position = p; found = w } }) (record { rest = a; state = record { position = q; found = v } })
@@ -34,22 +33,7 @@ blanks_walked : (a : List ℕ) (p : Position) (w : Whitespace) →
     walk (space_step Yes) a (record { position = p; found = w }) ≡ record { rest = after is_blank a; state = record { position = position_after p (leading is_blank a) []; found = with_blanks w (leading is_blank a) } }
 unfolding is_blank is_break
 blanks_walked [] p w = same_spaces p p w (with_blanks w []) [] refl (sym (or_false w.found_tabs)) (sym (or_false w.has_valid_yaml_ws))
-blanks_walked (c ∷ a) p w = by (c == 32) (c == 9) refl refl (λ q v. blanks_walked a q v)
-  where
-    position : (d : ℕ) → is_break d ≡ false → position_after (past p) (leading is_blank a) [] ≡ position_after p (d ∷ leading is_blank a) []
-    position d e = ap (λ q. position_after q (leading is_blank a) []) (sym (in_line_position d (leading is_blank a ++ []) p (rw e refl)))
-
-    by : (x y : Bool) → (c == 32) ≡ x → (c == 9) ≡ y →
-        ((q : Position) (v : Whitespace) → walk (space_step Yes) a (record { position = q; found = v }) ≡ record { rest = after is_blank a; state = record { position = position_after q (leading is_blank a) []; found = with_blanks v (leading is_blank a) } }) →
-        walk (space_step Yes) (c ∷ a) (record { position = p; found = w }) ≡
-        record { rest = (if (x || y) then after is_blank a else c ∷ a); state = record { position = position_after p (if (x || y) then c ∷ leading is_blank a else []) []; found = with_blanks w (if (x || y) then c ∷ leading is_blank a else []) } }
-    by true y e f h =
-        let same : c ≡ 32 = eqb-true c 32 e in
-        rw same (h (past p) (record w { has_valid_yaml_ws = true }) ∙ same_spaces _ _ _ _ (after is_blank a) (position 32 refl) refl (sym (or_true w.has_valid_yaml_ws)))
-    by false true e f h =
-        let same : c ≡ 9 = eqb-true c 9 f in
-        rw same (h (past p) (record w { found_tabs = true }) ∙ same_spaces _ _ _ _ (after is_blank a) (position 9 refl) (sym (or_true w.found_tabs)) refl)
-    by false false e f h = rw (e, f) (same_spaces p p w (with_blanks w []) (c ∷ a) refl (sym (or_false w.found_tabs)) (sym (or_false w.has_valid_yaml_ws)))
+blanks_walked (c ∷ a) p w = grind (arith, blanks_walked a)
 
 -- ---- a comment
 
@@ -135,17 +119,14 @@ past_rest_is_clear (c ∷ a) = by (c == 32) (c == 9) refl refl (past_rest_is_cle
       where
         on : (x y : Bool) → (d == 10) ≡ x → (d == 13) ≡ y → is_clear (after is_on_line b) ≡ true → is_clear (if not (x || y) then after is_on_line b else d ∷ b) ≡ true
         on true y e f h = let same : d ≡ 10 = eqb-true d 10 e in rw same refl
-        on false true e f h = let same : d ≡ 13 = eqb-true d 13 f in rw same refl
-        on false false e f h = h
+        on false a e f h = grind arith
 
     hash : (x : Bool) → (c == 35) ≡ x → (c == 32) ≡ false → (c == 9) ≡ false → is_clear (if x then after is_on_line (c ∷ a) else c ∷ a) ≡ true
     hash true e f g = line_end (c ∷ a)
     hash false e f g = rw (e, f, g) refl
 
     by : (x y : Bool) → (c == 32) ≡ x → (c == 9) ≡ y → is_clear (past_blanks_and_comment a) ≡ true → is_clear (past_comment (if (x || y) then after is_blank a else c ∷ a)) ≡ true
-    by true y e f h = h
-    by false true e f h = h
-    by false false e f h = hash (c == 35) refl e f
+    by b y e f h = grind (arith, nat_tests, hash, eqb-true)
 
 -- ---- what the model reads
 
@@ -176,8 +157,7 @@ no_blank_first (c ∷ a) h = by (c == 32) (c == 9) refl refl h
   where
     by : (x y : Bool) → (c == 32) ≡ x → (c == 9) ≡ y → (is_one_of (if (x || y) then c ∷ leading is_blank a else []) 9 || is_one_of (if (x || y) then c ∷ leading is_blank a else []) 32) ≡ false → (if (x || y) then after is_blank a else c ∷ a) ≡ c ∷ a
     by true y e f h = let same : c ≡ 32 = eqb-true c 32 e in absurd (cc (or_true (is_one_of (leading is_blank a) 9), rw same at h))
-    by false true e f h = let same : c ≡ 9 = eqb-true c 9 f in absurd (cc (rw same at h))
-    by false false e f h = refl
+    by false b e f h = grind arith
 
 clear_first : (a : List ℕ) → begins_with 35 (after is_blank a) ≡ false → begins_with 35 a ≡ false
 unfolding is_blank
@@ -269,8 +249,4 @@ none_skipped t h = by t.rest t.held.position h
     by (c ∷ a) p h = on (c == 32) (c == 35) (c == 9) refl refl refl h
       where
         on : (x y z : Bool) → (c == 32) ≡ x → (c == 35) ≡ y → (c == 9) ≡ z → (not (x || z) && not y) ≡ true → lexed (space No (c ∷ a) p) t.held (λ w u. Ok u) ≡ Ok (record { rest = c ∷ a; held = record t.held { position = p } })
-        on true y z e f g h = absurd (cc h)
-        on false true true e f g h = absurd (cc h)
-        on false true false e f g h = absurd (cc h)
-        on false false true e f g h = absurd (cc h)
-        on false false false e f g h = rw (e, g, f) refl
+        on b y z e f g h = grind (arith, nat_tests, eqb-true)

@@ -1,5 +1,5 @@
 -- What stands after a block scalar that the scanner reads: it stands clear of the scalar.
-use Rattle.proof_scanner.proofs.Common.{[], after_break, after_line, after_spell, along, and_parts, ap, are_empty, AreLines, arith, begins_with, Block, block, block_may_end, block_read, BlockRead, BlockStyle, Bool, both, Break, carriage, collection_of, eqb-true, false, feed, first_content, first_empty, first_header, Fits, further_position, has_no_nul, if◌then◌else◌, indicator_of, innermost, is_at_end, is_empty, is_empty_line, is_literal_style, is_none, is_shallow, is_single, is_spaces, is_tabbed, IsBlockRead, leading_spaces, least_column, length, Lined, lined, lines_may_end, List, nat_le, nat_lt, nat_tests, None, not, Ok, Option, past_spaces, Position, position_after, position_past, Read, read_as, read_block, read_lines, read_may_end, refl, slice_index, Some, space_past, spell, split, split_spell, suc, sym, tab, texts, true, whole_block, ℕ, ◌&&◌, ◌++◌, ◌+◌, ◌==◌, ◌||◌, ◌∙◌, ◌∷◌, ◌≡◌, ◌≤◌}
+use Rattle.proof_scanner.proofs.Common.{AreLines, Block, BlockRead, BlockStyle, Bool, Break, Fits, IsBlockRead, Lined, List, None, Ok, Option, Position, Read, Some, [], after_break, after_line, after_spell, along, and_parts, ap, are_empty, arith, begins_with, block, block_may_end, block_read, collection_of, eqb-true, false, first_content, first_empty, first_header, further_position, has_no_nul, if◌then◌else◌, indicator_of, innermost, is_at_end, is_empty, is_empty_line, is_literal_style, is_none, is_shallow, is_single, is_spaces, is_tabbed, leading_spaces, least_column, length, lined, lines_may_end, nat_le, nat_lt, nat_tests, not, past_spaces, position_after, position_past, read_as, read_block, read_lines, read_may_end, refl, slice_index, space_past, spell, split, split_spell, suc, sym, tab, texts, true, whole_block, ℕ, ◌&&◌, ◌++◌, ◌+◌, ◌==◌, ◌||◌, ◌∙◌, ◌∷◌, ◌≡◌, ◌≤◌}
 use Rattle.defs_text.specs.Classes.{space}
 use Rattle.proof_lexers.specs.BlockScan.{read}
 use Rattle.proof_lexers.proofs.Blocks.Ends.{scans_end}
@@ -23,8 +23,7 @@ written_by collection piece next b z h none = by z.lines z.last z.is z.are h
   where
     by : (ls : List Line) (last : List ℕ) → piece ≡ spell ls last → AreLines ls last → read_lines collection (texts ls) last next false ≡ Some b → Written piece next
     by [] last is are h = absurd (cc h)
-    by (l ∷ ls) (c ∷ last) is are h = absurd (cc h)
-    by (l ∷ ls) [] is are h = record { header = l; lines = ls; is = is; are = are; no_feed = none }
+    by (l ∷ ls) a is are h = grind arith
 
 split_is : (piece : List ℕ) (z : Lined piece) → split piece ≡ record { complete = texts z.lines; last = z.last }
 split_is piece z = ap split z.is ∙ split_spell z.lines z.last z.are z.inner
@@ -36,15 +35,12 @@ written collection piece next b h e =
     written_by collection piece next b z (ap (λ s. read_lines collection s.complete s.last next false) (sym (split_is piece z)) ∙ (ap (λ x. read_lines collection (split piece).complete (split piece).last next x) (sym e) ∙ h)) none
   where
     first_is : (r : List ℕ) → (slice_index r 0 == 10) ≡ begins_with 10 r
-    first_is [] = refl
-    first_is (c ∷ r) = refl
+    first_is a = grind arith
 
 -- ---- positions
 
 first_of : (w : List ℕ) (k : Break) (a b : List ℕ) → (slice_index (w ++ put k a) 0 == 10) ≡ (slice_index (w ++ put k b) 0 == 10)
-first_of [] feed a b = refl
-first_of [] carriage a b = refl
-first_of [] both a b = refl
+first_of [] d a b = grind arith
 first_of (c ∷ w) k a b = refl
 
 -- the lines are so before further text too
@@ -57,9 +53,7 @@ before_text (l ∷ ls) next a h = (a.0, fits l.by a.1, before_text ls next a.2 h
     same (l ∷ ls) k = first_of l.text l.by (spell ls next) (spell ls []) ∙ k
 
     fits : (k : Break) → Fits k (spell ls []) → Fits k (spell ls next)
-    fits feed f = tt
-    fits carriage f = same ls f
-    fits both f = tt
+    fits a f = grind (arith, same)
 
 -- before further text a piece ends where a line begins
 pub ends_at_margin : (collection : Option ℕ) (piece next : List ℕ) (b : BlockRead) (p : Position) → block_read collection piece next ≡ Some b → is_at_end next ≡ false → (position_after p piece next).col ≡ 0
@@ -104,15 +98,7 @@ IsLeast indent bs = (collection_of indent ≡ innermost bs) × (least_column bs 
 
 module _ (indent column : ℕ) (p : Position) (b : BlockRead) (piece next : List ℕ) (bs : List ℕ) where
   clear_by : (empty : Bool) → (k : ℕ) → least_column bs true ≡ indent → (empty ≡ true → (nat_le indent k && nat_lt k column) ≡ false) → (not empty || nat_lt k (least_column bs true) || nat_le column k) ≡ true
-  clear_by false k l h = refl
-  clear_by true k l h = by (nat_lt k (least_column bs true)) (nat_le column k) (nat_le indent k) (nat_lt k column) refl refl refl refl (h refl)
-    where
-      by : (w x y z : Bool) → nat_lt k (least_column bs true) ≡ w → nat_le column k ≡ x → nat_le indent k ≡ y → nat_lt k column ≡ z → (y && z) ≡ false → (w || x) ≡ true
-      by true x y z e f g i h = refl
-      by false true y z e f g i h = refl
-      by false false true true e f g i h = absurd (cc h)
-      by false false false z e f g i h = absurd (grind (arith, nat_tests, e, g, l))
-      by false false true false e f g i h = absurd (grind (arith, nat_tests, f, i))
+  clear_by a k l h = grind arith
 
   -- before further text
   read_clear : IsLeast indent bs → block_read (collection_of indent) piece next ≡ Some b → is_at_end next ≡ false → is_tabbed piece next ≡ false → is_shallow indent p b piece next ≡ false → b.column ≡ column → read_may_end bs (block_read (innermost bs) piece next) piece next ≡ true
@@ -141,16 +127,11 @@ module _ (indent column : ℕ) (p : Position) (b : BlockRead) (piece next : List
       both_hold x y e f = rw (e, f) refl
 
       no_tab : (h : List ℕ) (ls : List (List ℕ)) (t : Bool) → (is_single (h ∷ ls) && t) ≡ false → not (is_empty ls && t) ≡ true
-      no_tab h [] t e = ap not e
-      no_tab h (l ∷ ls) t e = refl
+      no_tab h a t e = grind arith
 
 -- A block scalar that was read, and was not refused for what stands after it, may end there.
 pub block_clear : (indent : ℕ) (p : Position) (b : BlockRead) (piece next bs : List ℕ) → IsLeast indent bs → block_read (collection_of indent) piece next ≡ Some b → is_tabbed piece next ≡ false → is_shallow indent p b piece next ≡ false → block_may_end bs piece next ≡ true
-block_clear indent p b piece next bs l h untabbed clear = by (is_at_end next) refl
-  where
-    by : (e : Bool) → is_at_end next ≡ e → (e || read_may_end bs (block_read (innermost bs) piece next) piece next) ≡ true
-    by true e = refl
-    by false e = read_clear indent b.column p b piece next bs l h e untabbed clear refl
+block_clear indent p b piece next bs l h untabbed clear = grind (arith, block_read, read_clear)
 
 -- ---- a scalar as it was read
 

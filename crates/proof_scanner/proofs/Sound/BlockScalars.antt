@@ -1,11 +1,10 @@
 -- Block scalars: what holds where one begins holds between two fetches after it. No key waits over it, and after it a key may begin.
-use Rattle.proof_scanner.proofs.Common.{[], Act, act_of, allow_key, ap, append-nil, append_assoc, arith, Arrives, awaits_past, begins_line, begun_by, begun_outside, Block, block, block_may_end, block_position, block_read, block_scalar, block_style, BlockStyle, Bool, chosen, collection_of, columns, content_position, ends_at, eqb-true, false, fetch_block_scalar, folded, free, further_lines_stand, further_position, gives_block_scalar, has_break, has_no_nul, has_tab_within, Holds, if◌then◌else◌, indicator_of, inl, innermost, inr, is_at_end, is_break, is_deeper, is_empty, is_free, is_in_column, is_indented_by_spaces, is_literal, is_literal_style, is_nul, is_one_of, is_separation, IsLineHere, IsLive, IsOpenOutside, IsPiece, IsReadOn, IsTakenBy, IsWritten, Key, KnowsKey, least_column, least_for, Levels, lexed, Line, line_past, List, literal, may_precede, may_stand, MayChoose, nat_lt, nat_tests, no_nul_after, None, not, NotBefore, Ok, on_held, Option, Position, position_after, Previous, previous_by, push, put, Read, read, read_block, refl, ScannerState, seen, shown_position, Site, site_here, site_in, site_past, SoFar, Some, Stands, subst, suc, sym, take, taken, Tok, Token, token, tokens_up_to, true, unroll_non_block_indents, went, without_open, without_spaces, zero, ℕ, ◌&&◌, ◌++◌, ◌==◌, ◌||◌, ◌∙◌, ◌∷◌, ◌≡◌, ◌≤◌, ◌⊎◌}
+use Rattle.proof_scanner.proofs.Common.{Act, Arrives, Block, BlockStyle, Bool, HasNoTabs, Holds, IsLive, IsOpenOutside, IsPiece, IsReadOn, IsTakenBy, IsWritten, Key, KnowsKey, Levels, Line, List, MayChoose, None, NotBefore, Ok, Option, Outside, Position, Previous, Read, ScannerState, Site, SoFar, Some, Stands, Tok, Token, [], act_of, allow_key, ap, append-nil, append_assoc, arith, awaits_past, before_by, begins_line, begun_by, begun_outside, block, block_may_end, block_position, block_read, block_scalar, block_style, chosen, collection_of, columns, content_position, ends_at, false, fetch_block_scalar, folded, free, further_lines_stand, further_position, gives_block_scalar, has_break, has_no_nul, has_tab_within, if◌then◌else◌, indicator_of, inl, innermost, inr, is_at_end, is_break, is_deeper, is_empty, is_in_column, is_indented_by_spaces, is_literal, is_literal_style, is_nul, is_one_of, is_separation, least_column, least_for, lexed, line_past, literal, may_precede, may_stand, nat_lt, nat_tests, no_nul_after, not, on_held, position_after, previous_by, push, put, read, read_block, refl, seen, shown_position, site_at, site_here, site_in, site_past, subst, suc, sym, take, taken, token, tokens_up_to, true, unroll_non_block_indents, went, without_open, without_spaces, zero, ℕ, ◌&&◌, ◌++◌, ◌||◌, ◌∙◌, ◌∷◌, ◌≡◌, ◌≤◌, ◌⊎◌}
 use Rattle.model_scanner.specs.declared.kind.BlockStyle as kind
 use Rattle.model_scanner.specs.declared.kind.BlockStyle.TheVariants.{Literal, Folded}
-use Rattle.defs_text.specs.Classes.{space}
 use Rattle.defs_token.specs.Account as pieces
 use Rattle.proof_scanner.proofs.Cut.Nodes.{IsDeep}
-use Rattle.proof_scanner.proofs.Cut.Positions.{not_before_after, not_before_then, not_before_same, index_after, after_piece, weaker}
+use Rattle.proof_scanner.proofs.Cut.Positions.{not_before_after, not_before_then, not_before_same, after_piece, weaker}
 use Rattle.proof_scanner.proofs.Cut.Saved.{saved_keys, saved_is}
 use Rattle.proof_scanner.proofs.Cut.Pieces.Blocks.{spaces_of, spaces_cut, spaces_fill, spaces_position, some_piece, piece_of, token_of, IsBelow, below}
 use Rattle.proof_scanner.proofs.Known.Read.{keyless, knows_saved}
@@ -15,37 +14,26 @@ use Rattle.proof_scanner.proofs.Sound.BlockEnds.{IsLeast, BlockAs, block_as, end
 use Rattle.proof_scanner.proofs.Sound.LastLines.{last_whole}
 use Rattle.proof_scanner.proofs.Sound.NodeSteps.{saved}
 use Rattle.proof_scanner.proofs.Sound.Outsides.{must_be_here, numbered_past, open_node}
-use Rattle.proof_scanner.proofs.Sound.OutsidePieces.{line_free, none_open}
 use Rattle.proof_scanner.proofs.Sound.KeyStarts.{new_key, keys_saved}
-use Rattle.proof_scanner.proofs.Sound.Sides.{with_entries, ArrivesBy, ArrivesOutside, ArrivesInside, arrives_side, stands_by}
+use Rattle.proof_scanner.proofs.Sound.Sides.{with_entries, ArrivesBy, ArrivesOutside, ArrivesInside, arrives_side}
 use Rattle.proof_scanner.proofs.Sound.Stales.{none_completes}
-use Rattle.proof_scanner.proofs.Sound.StepsOutside.{piece_cuts, IsHere, Piece, at, piece_completes}
+use Rattle.proof_scanner.proofs.Sound.OutOfFlow as out
+use Rattle.proof_scanner.proofs.Sound.OutOfFlow.{tokens_then, no_waiting}
 use Rattle.proof_scanner.proofs.Sound.WithoutOpen.{AreClosed, without_is}
 use Rattle.proof_scanner.proofs.Sound.PlainKeeps.{same_innermost}
-use Rattle.proof_scanner.specs.StandsInRow.{StandsWith}
+use Rattle.proof_scanner.proofs.Sound.Reads.{Reads, stands_so, adjacent_kept}
 
 -- ---- spaces
 
 spaces_in_line : (t : List ℕ) → has_break (spaces_of t) ≡ false
 unfolding is_break
 spaces_in_line [] = refl
-spaces_in_line (c ∷ r) = by (c == space) refl (spaces_in_line r)
-  where
-    by : (b : Bool) → (c == space) ≡ b → has_break (spaces_of r) ≡ false → has_break (if b then c ∷ spaces_of r else []) ≡ false
-    by true e h = let same : c ≡ 32 = eqb-true c 32 e in rw same h
-    by false e h = refl
+spaces_in_line (c ∷ r) = grind (arith, spaces_in_line r)
 
 no_tab_in : (n : ℕ) (t : List ℕ) → is_one_of (take n (spaces_of t)) 9 ≡ false
 no_tab_in zero t = refl
-no_tab_in (suc n) [] = none n
-  where
-    none : (n : ℕ) → is_one_of (take (suc n) []) 9 ≡ false
-    none n = refl
-no_tab_in (suc n) (c ∷ r) = by (c == space) refl (no_tab_in n r)
-  where
-    by : (b : Bool) → (c == space) ≡ b → is_one_of (take n (spaces_of r)) 9 ≡ false → is_one_of (take (suc n) (if b then c ∷ spaces_of r else [])) 9 ≡ false
-    by true e h = let same : c ≡ 32 = eqb-true c 32 e in rw same h
-    by false e h = refl
+no_tab_in (suc n) [] = grind arith
+no_tab_in (suc n) (c ∷ r) = grind (arith, no_tab_in n r)
 
 -- spaces indent by no TAB
 spaces_indent : (bs : List ℕ) (awaits : Bool) (t : List ℕ) → is_indented_by_spaces block_scalar bs awaits (spaces_of t) ≡ true
@@ -65,21 +53,15 @@ pub record IsBlockToken (style : BlockStyle) (text : List ℕ) (tok : Tok) : Typ
   pub is_same : tok ≡ token_of style text
 
 pub block_token : (style : BlockStyle) (text : List ℕ) → IsBlockToken style text (token_of style text)
-block_token literal text = record { act = refl; begun = refl; before = refl; lines = λ c p. refl; precedes = λ bs p n. refl; awaits = λ bs b n. refl; shown = λ s p n. refl; is_same = refl }
-block_token folded text = record { act = refl; begun = refl; before = refl; lines = λ c p. refl; precedes = λ bs p n. refl; awaits = λ bs b n. refl; shown = λ s p n. refl; is_same = refl }
+block_token a b = grind arith
 
 -- ---- the step
 
 -- what may begin after it: a key, if none must begin with it
 after_by : (must : Bool) (here : Position) (bs : List ℕ) (k : Act) (l : Line) → k ≡ gives_block_scalar → ((l ≡ free) × (must ≡ false)) ⊎ (l ≡ taken) → line_past must here bs k false l ≡ Some (record { line = free; blocks = bs })
-after_by must here bs k l e (inl (f, m)) = rw (e, f, m) refl
-after_by must here bs k l e (inr f) = rw (e, f) (by must)
-  where
-    by : (must : Bool) → line_past must here bs gives_block_scalar false taken ≡ Some (record { line = free; blocks = bs })
-    by true = refl
-    by false = refl
+after_by must a bs k l e b = grind arith
 
-module _ (text : List ℕ) (t : ScannerState) (k : Option Key) (a : ArrivesBy text t [] (k ∷ []) []) (out : t.held.flow ≡ []) (keys : t.held.keys ≡ k ∷ []) (deep : IsDeep t.held) (w : Levels) (closed : AreClosed t.held.indent t.held.indents t.held.tokens w)
+module _ (text : List ℕ) (t : ScannerState) (k : Option Key) (a : ArrivesBy text t [] (k ∷ []) []) (within : t.held.flow ≡ []) (keys : t.held.keys ≡ k ∷ []) (deep : IsDeep t.held) (w : Levels) (closed : AreClosed t.held.indent t.held.indents t.held.tokens w)
     (style : BlockStyle) (x : Read Block) (r : BlockAs style w.indent t.held.position t.rest x) (tok : Tok) (n : IsBlockToken style r.scalar.text tok) where
   abbrev p : Position
   p = t.held.position
@@ -166,45 +148,17 @@ module _ (text : List ℕ) (t : ScannerState) (k : Option Key) (a : ArrivesBy te
 
   -- ---- rows
 
-  -- what is known at a site where the piece stands
-  record Known (strict : Bool) (y : Site) : Type 0 where
-    pub is_piece : IsPiece (seen (with_entries a.site a.line []) y a.separation) r.piece r.next None (shown_position y r.piece tok r.next) tok
-    pub stands : may_stand false a.site y a.separation r.piece tok r.next ≡ true
-    pub after_is : line_past (strict && is_in_column y.position.col y.blocks) y.position y.blocks (act_of tok) false a.line_here ≡ Some (record { line = free; blocks = y.blocks })
+  same_site : site_at false a.site a.separation r.piece tok r.next ≡ here
+  same_site = ap (λ q. site_in false (act_of tok) q a.site) (sym (a.position_is ∙ ap (λ l. position_after a.site.position a.separation l) r.is_text)) ∙ ap (λ b. site_in false b p a.site) n.act
 
-  abbrev Tokens : Site → List Token
-  Tokens y = (ends_at y.position a.site.blocks y.blocks ++ begun_outside (is_deeper y.position.col y.blocks) y.position y.position (act_of tok) false (Some a.line_here)) ++ (put (shown_position y r.piece tok r.next) tok ∷ [])
-
-  abbrev Result : Bool → Site → Type 0
-  Result strict y = SoFar strict text r.next (record { site = site_past false y r.piece tok r.next y.blocks; line = free; entries = begun_by tok }) (λ ws last. a.tokens ++ Tokens y)
-
-  abbrev d : Site → Piece
-  d y = record { site = a.site; line = a.line; line_here = a.line_here; separation = a.separation; piece = r.piece; next = r.next; tok = tok; after = record { line = free; blocks = y.blocks }; tokens = a.tokens }
-
-  same_site : here ≡ at (d here)
-  same_site =
-      ap (λ b. site_in false b p a.site) (sym n.act) ∙ ap (λ q. site_in false (act_of tok) q a.site) (a.position_is ∙ ap (λ l. position_after a.site.position a.separation l) r.is_text)
-
-  is_here : (strict : Bool) → Known strict (at (d here)) → IsHere (strict && is_in_column (at (d here)).position.col (at (d here)).blocks) (d (at (d here)))
-  is_here strict known = record {
-    is_filled = subst (λ l. is_separation false a.separation l ≡ true) r.is_text a.is_filled;
-    is_solid = is_solid;
-    is_piece = known.is_piece;
-    stands = known.stands;
-    line_is = a.is_line;
-    after_is = known.after_is;
-    no_key = refl;
-  }
+  is_filled : is_separation false a.separation (r.piece ++ r.next) ≡ true
+  is_filled = subst (λ l. is_separation false a.separation l ≡ true) r.is_text a.is_filled
 
   before_at : (strict : Bool) → MayChoose strict false k t.held.position t.rest → SoFar strict text (a.separation ++ (r.piece ++ r.next)) (with_entries a.site a.line []) (λ ws last. a.tokens)
   before_at strict may = subst (λ l. SoFar strict text (a.separation ++ l) (with_entries a.site a.line []) (λ ws last. a.tokens)) r.is_text
       (none_completes strict text (a.separation ++ t.rest) (with_entries a.site a.line []) (k ∷ []) a.tokens a.no_key refl (a.completes strict false [] may))
 
-  rows_at : (strict : Bool) → MayChoose strict false k t.held.position t.rest → Known strict (at (d here)) → Result strict (at (d here))
-  rows_at true may known = piece_completes text (d (at (d here))) (is_here true known) (before_at true may)
-  rows_at false may known = piece_cuts false text (d (at (d here))) (is_here false known) (before_at false may)
-
-  tokens_are : a.tokens ++ Tokens here ≡ t.held.tokens ++ own ∷ []
+  tokens_are : a.tokens ++ tokens_then a.site here r.piece tok r.next a.line_here ≡ t.held.tokens ++ own ∷ []
   tokens_are =
       ap (λ b. a.tokens ++ ((ends_at p a.site.blocks here.blocks ++ begun_outside (is_deeper p.col here.blocks) p p b false (Some a.line_here)) ++ (put (shown_position here r.piece tok r.next) tok ∷ []))) n.act ∙
       (ap (λ ts. a.tokens ++ (ts ++ (put (shown_position here r.piece tok r.next) tok ∷ []))) (append-nil (ends_at p a.site.blocks here.blocks)) ∙
@@ -221,34 +175,18 @@ module _ (text : List ℕ) (t : ScannerState) (k : Option Key) (a : ArrivesBy te
   -- if a key need not begin here, and the open one need not be one
   rows : (strict : Bool) → LineHere strict → MayChoose strict false k t.held.position t.rest → SoFar strict text (gap ++ rest) (with_entries site_then free []) (λ ws last. t.held.tokens ++ own ∷ [])
   rows strict line may =
-      let known : Known strict here = record { is_piece = is_piece; stands = stands; after_is = after_by (strict && is_in_column p.col here.blocks) p here.blocks (act_of tok) a.line_here n.act line } in
-      let all : Result strict here = subst (λ y. Result strict y) (sym same_site) (rows_at strict may (subst (λ y. Known strict y) same_site known)) in
+      let after : Outside = record { line = free; blocks = here.blocks } in
+      let all : SoFar strict text r.next (out.outer_then text a.site a.separation r.piece r.next tok here same_site after) (λ ws last. a.tokens ++ tokens_then a.site here r.piece tok r.next a.line_here) =
+      out.outer_completes text a.site a.separation r.piece r.next tok here same_site strict false a.line a.line_here after (λ ws last. a.tokens) (λ ws last. a.tokens ++ tokens_then a.site here r.piece tok r.next a.line_here)
+      (assumption (is_filled, is_solid, is_piece, stands, a.is_line, after_by (strict && is_in_column p.col here.blocks) p here.blocks (act_of tok) a.line_here n.act line, no_waiting (has_break r.piece) false refl))
+      (λ ws last h. out.outer_tokens text a.site a.separation r.piece r.next tok here same_site a.line a.line_here a.is_line a.tokens ws last h) (before_at strict may) in
       subst (λ l. SoFar strict text l (with_entries site_then free []) (λ ws last. t.held.tokens ++ own ∷ [])) (spaces_cut r.next)
       (subst (λ es. SoFar strict text r.next (with_entries site_then free es) (λ ws last. t.held.tokens ++ own ∷ [])) n.begun
       (subst (λ ts. SoFar strict text r.next (with_entries site_then free (begun_by tok)) (λ ws last. ts)) tokens_are all))
 
   -- what may begin at it
   line_by_allowed : (strict b : Bool) (y : Option Key) → t.held.key_allowed ≡ b → k ≡ y → MayChoose strict false (saved b (new_key t) y) end rest → LineHere strict × MayChoose strict false k t.held.position t.rest
-  line_by_allowed strict true y e i may =
-      let none : k ≡ None = none_open t.held.key_allowed t.rest k a.line_here e some a.line_is in
-      let is_free_here : a.line_here ≡ free = line_free t.held.key_allowed t.rest a.line_here e (subst (λ o. IsLineHere false t.held.key_allowed t.rest o a.line_here) none a.line_is) in
-      (inl (is_free_here, must_not strict may), subst (λ o. MayChoose strict false o t.held.position t.rest) (sym none) tt)
-    where
-      must_not : (strict : Bool) → MayChoose strict false (Some (new_key t)) end rest → (strict && is_in_column p.col here.blocks) ≡ false
-      must_not true may = sym (must_be_here text t k a out deep) ∙ may
-      must_not false may = refl
-  line_by_allowed strict false None e i may = (inr (taken_now (subst (λ o. IsLineHere false t.held.key_allowed t.rest o a.line_here) i a.line_is)), subst (λ o. MayChoose strict false o t.held.position t.rest) (sym i) tt)
-    where
-      taken_now : IsLineHere false t.held.key_allowed t.rest None a.line_here → a.line_here ≡ taken
-      taken_now (inl f, g) = absurd (cc (e, g ∙ ap is_free f))
-      taken_now (inr f, g) = f
-  line_by_allowed strict false (Some y) e i may =
-      let line : IsLineHere false t.held.key_allowed t.rest (Some y) a.line_here = subst (λ o. IsLineHere false t.held.key_allowed t.rest o a.line_here) i a.line_is in
-      (inr (line some).0, subst (λ o. MayChoose strict false o t.held.position t.rest) (sym i) (still strict may))
-    where
-      still : (strict : Bool) → MayChoose strict false (Some y) end rest → MayChoose strict false (Some y) t.held.position t.rest
-      still true may = may
-      still false may = tt
+  line_by_allowed strict b y e i may = grind (arith, must_be_here text t k a within deep, some)
 
   abbrev key_now : Option Key
   key_now = saved t.held.key_allowed (new_key t) k
@@ -257,20 +195,14 @@ module _ (text : List ℕ) (t : ScannerState) (k : Option Key) (a : ArrivesBy te
   Then strict y c cs = SoFar strict text (gap ++ rest) (chosen c cs (y ∷ []) (with_entries site_then free [])) (tokens_up_to (chosen c cs (y ∷ []) (with_entries site_then free [])) (y ∷ []) (t.held.tokens ++ own ∷ []))
 
   is_open : IsOpenOutside key_now (position_after p r.piece r.next) end rest here.blocks
-  is_open = open_node text t k a out deep some end rest later (position_after p r.piece r.next) (after_piece p r.piece r.next is_solid)
+  is_open = open_node text t k a within deep some end rest later (position_after p r.piece r.next) (after_piece p r.piece r.next is_solid)
 
   -- the saved or open key is not after the position
   before_it : (y : Key) → key_now ≡ Some y → NotBefore y.position p
   before_it y e = by t.held.key_allowed k refl e
     where
       by : (b : Bool) (o : Option Key) → k ≡ o → saved b (new_key t) o ≡ Some y → NotBefore y.position p
-      by true o i e =
-          let first : Some (new_key t) ≡ Some y = e in
-          let same : new_key t ≡ y = cc first in
-          subst (λ z. NotBefore z.position p) same (not_before_same p)
-      by false o i e =
-          let open_here = subst (λ z. IsOpenOutside z a.site.position p t.rest a.site.blocks) (i ∙ e) a.is_open in
-          not_before_then y.position a.site.position p (weaker y.position a.site.position open_here.0) (subst (λ z. NotBefore a.site.position z) (sym a.position_is) (not_before_after a.site.position a.separation t.rest))
+      by b o i e = grind (arith, not_before_same, not_before_then, weaker, not_before_after)
 
   then_rows : (strict c : Bool) (cs : List Bool) (y : Option Key) → key_now ≡ y → MayChoose strict c y end rest → Then strict y c cs
   then_rows strict c cs None e may =
@@ -302,44 +234,31 @@ module _ (text : List ℕ) (t : ScannerState) (k : Option Key) (a : ArrivesBy te
 
   is_written : IsWritten (with_entries a.site a.line []) (keyless a.separation r.piece tok) r.next
   is_written = (
-    subst (λ l. is_separation false a.separation l ≡ true) r.is_text a.is_filled,
-    (ap not is_solid, subst (λ y. IsPiece (seen (with_entries a.site a.line []) y a.separation) r.piece r.next None (shown_position y r.piece tok r.next) tok) same_site is_piece),
+    is_filled,
+    (ap not is_solid, subst (λ y. IsPiece (seen (with_entries a.site a.line []) y a.separation) r.piece r.next None (shown_position y r.piece tok r.next) tok) (sym same_site) is_piece),
   )
 
-  scalar_by : KnowsKey text (a.separation ++ t.rest) t.held.position k → StandsWith text after_it [] (key_now ∷ []) (with_entries site_then free [])
-  scalar_by known = record {
-    separation = gap;
-    is_clean = no_nul_after gap rest (subst (λ l. has_no_nul l ≡ true) (spaces_cut r.next) clean);
-    is_filled = spaces_fill r.next rest;
-    position_is = place;
-    blocks_are = blocks_are;
-    awaits_is = n.awaits here.blocks here.awaits r.next ∙ sym closed.none_open;
-    are_levels = closed.are_levels;
-    has_no_tabs = inr (subst (λ b. is_indented_by_spaces b here.blocks (awaits_past false tok here.blocks here.awaits r.next) gap ≡ true) (sym n.before) (spaces_indent here.blocks (awaits_past false tok here.blocks here.awaits r.next) r.next));
-    is_leading = λ b s c. sym (ap (λ z. begins_line z gap) n.before);
-    read_on = read_on (previous_by tok) n.before;
+  scalar_reads : Reads t after_it site_then r.piece r.next gap
+  scalar_reads =
+      let far = adjacent_kept t after_it (before_by (previous_by tok)) r.piece r.next gap is_solid place a.was_adjacent refl (ap before_by n.before) in
+      let no_tabs : HasNoTabs site_then gap rest =
+      inr (subst (λ b. is_indented_by_spaces b here.blocks (awaits_past false tok here.blocks here.awaits r.next) gap ≡ true) (sym n.before) (spaces_indent here.blocks (awaits_past false tok here.blocks here.awaits r.next) r.next)) in
+      assumption (is_solid, r, spaces_cut r.next, spaces_fill r.next rest, place, blocks_are, n.awaits here.blocks here.awaits r.next ∙ sym closed.none_open, no_tabs, sym (ap (λ z. begins_line z gap) n.before), read_on (previous_by tok) n.before, far)
+
+  pub scalar_stands : KnowsKey text (a.separation ++ t.rest) t.held.position k → Stands text after_it
+  scalar_stands known = stands_so text t after_it r.piece r.next gap [] (key_now ∷ []) (with_entries site_then free []) a.is_clean a.started a.going scalar_reads (record {
+    flow_is = within;
+    keys_are = keys_saved t k [] keys;
     one_each = refl;
     are_entries = tt;
     line_is = (inl refl, refl, taken_by key_now refl);
     is_open = is_open;
     no_key = refl;
-    are_numbered = numbered_past text t k a out deep own t.held.key_allowed;
-    was_adjacent = λ e. absurd (cc e);
-    adjacent_before =
-        let i = index_after p r.piece r.next in
-        let j = index_after (position_after p r.piece r.next) gap rest in
-        let same : end.index ≡ (position_after (position_after p r.piece r.next) gap rest).index = ap (λ q. q.index) place in
-        let was = a.was_adjacent in
-        omega (arith, i, j, same, was);
-    started = a.started;
-    going = a.going;
+    are_numbered = numbered_past text t k a within deep own t.held.key_allowed;
     carries = λ cs x key m inside some. absurd (cc inside);
-    knows = knows_saved text t r.piece r.next tok r.is_text end gap rest place (spaces_cut r.next) k a is_written out deep (ap is_of_node n.act) known;
+    knows = knows_saved text t r.piece r.next tok r.is_text end gap rest place (spaces_cut r.next) k a is_written within deep (ap is_of_node n.act) known;
     completes = λ strict c cs may. then_rows strict c cs key_now refl may;
-  }
-
-  pub scalar_stands : KnowsKey text (a.separation ++ t.rest) t.held.position k → Stands text after_it
-  scalar_stands known = stands_by text after_it [] (key_now ∷ []) _ out (keys_saved t k [] keys) (scalar_by known)
+  })
 
 -- ---- the function
 

@@ -1,51 +1,52 @@
 -- A colon that ends the key that is open: what holds where it begins holds between two fetches after it.
-use Rattle.proof_scanner.proofs.Common.{[], Account, ap, append-nil, arith, At, before_by, before_past, begin_pair, BeginsButForKey, Bool, chained, checked, chosen, colon_may_precede, columns, Completes, ends_at, Entry, false, FlowLevel, gives_colon, Held, Holds, if◌then◌else◌, in_flow, innermost, inr, insert, insert_key, is_adjacent, is_break, is_deeper, is_empty, is_separation, is_value_indicator, IsLive, IsNotRight, IsOpenHere, Key, Keyed, length, length-append, List, Mapping, may_stand, MayChoose, nat_le, nat_lt, nat_tests, None, not, not_ended, NotBefore, Ok, on_held, opened, opens_pair, Option, Outside, outside_key, pair_position, past, placed, Position, position_after, push, put, put_key, refl, replicate, roll_indent, roll_one_col_indent, ScannerState, site_here, site_in, SoFar, Some, Stands, subst, sym, taken, takes_pair, Tok, Token, token, tokens_up_to, tried, true, went, with_held, with_top, ℕ, ◌++◌, ◌+◌, ◌-◌, ◌==◌, ◌>>=◌, ◌||◌, ◌∙◌, ◌∷◌, ◌≡◌, ◌≤◌}
+use Rattle.proof_scanner.proofs.Common.{At, Bool, Completes, Entry, FlowLevel, Held, Holds, IsLive, IsNotRight, IsOpenHere, Key, Keyed, Line, List, Mapping, None, NotBefore, Ok, Option, Outside, Position, ScannerState, Site, Some, Stands, Step, Tok, Token, [], ap, append-nil, arith, before_by, before_past, begin_pair, begins_free_line, begun_outside, chained, checked, colon_may_precede, columns, ends_at, entries_by, entries_past, entry_by, false, gives_colon, has_break, if◌then◌else◌, in_flow, innermost, inr, insert, insert_key, inside, is_adjacent, is_break, is_deeper, is_empty, is_near, is_renewed, is_separation, is_value_indicator, length, length-append, line_past_separation, nat_lt, nat_tests, not, not_ended, on_held, opened, opens_pair, pair_position, past, placed, pop, position_after, push, put, put_key, refl, roll_indent, roll_one_col_indent, site_at, site_here, spelled, subst, suc, sym, taken, takes_pair, token, tokens_at, tokens_of_step, tokens_up_to, tried, true, waits, went, with_keys, with_top, ℕ, ◌++◌, ◌==◌, ◌||◌, ◌∙◌, ◌∷◌, ◌≡◌, ◌≤◌}
 use Rattle.yaml_tokens.specs.declared.problem.Problem.TheVariants as problem
 use Rattle.model_scanner.specs.declared.level.FlowLevel.TheVariants.{Entry as InEntry, Pair as InPair}
 use Rattle.proof_scanner.proofs.Cut.Nodes.{IsDeep}
 use Rattle.proof_scanner.proofs.Cut.Positions.{not_before_after, not_before_then, weaker}
-use Rattle.proof_scanner.proofs.Sound.Arrivals.{unbroken, not_free, all_go_on, numbered_more, numbered_around, completes_at, carried_at}
-use Rattle.proof_scanner.proofs.Sound.ColonSpaces.{colon_gap, past_gap, gap_cut, gap_fills, gap_in_line, gap_end}
-use Rattle.proof_scanner.proofs.Sound.Colons.{at_value, value_by, colon_end, valued_entry, single_is, one_line_colon, ends_inside}
-use Rattle.proof_scanner.proofs.Sound.Around.{tokens_before, unbroken_around, one_around, may_around, line_taken}
-use Rattle.proof_scanner.proofs.Sound.EntryPieces.{low_enough, site_inside, later_after, read_inside}
-use Rattle.proof_scanner.proofs.Sound.Inserts.{among, first_among, key_longer}
+use Rattle.proof_scanner.proofs.Sound.Arrivals.{all_go_on, numbered_more, numbered_around}
+use Rattle.proof_scanner.proofs.Sound.ColonSpaces.{colon_gap, past_gap, gap_is}
+use Rattle.proof_scanner.proofs.Sound.Colons.{at_value, value_by, colon_end, valued_entry, single_is, one_line_colon, colon_reads, valued_is}
+use Rattle.proof_scanner.proofs.Sound.Around.{tokens_before, line_taken}
+use Rattle.proof_scanner.proofs.Sound.EntryPieces.{low_enough}
+use Rattle.proof_scanner.proofs.Sound.Inserts.{among, first_among, key_longer, fewer, keys_first}
 use Rattle.proof_scanner.proofs.Sound.Indicated.{past_one}
+use Rattle.proof_scanner.proofs.Sound.OutOfFlow as out
+use Rattle.proof_scanner.proofs.Sound.OutOfFlow.{Outer, no_waiting}
 use Rattle.proof_scanner.proofs.Sound.Completed.{goes_of}
-use Rattle.proof_scanner.proofs.Sound.KeyedColons.{Colon, IsColon, at, before, tokens_past, colon_completes}
-use Rattle.proof_scanner.proofs.Sound.Completed.{goes_of}
-use Rattle.proof_scanner.proofs.Sound.KeyedColons as keyed
+use Rattle.proof_scanner.proofs.Sound.InFlow as flow
 use Rattle.proof_scanner.proofs.Sound.Questions.{pair_level}
-use Rattle.proof_scanner.proofs.Sound.OutsidePieces.{EndsOutside, site_then, ends_outside, spaces_in_line}
+use Rattle.proof_scanner.proofs.Sound.OutsidePieces.{ends_outside}
 use Rattle.proof_scanner.proofs.Sound.Rolled.{RollsTo, rolls_to, OpensOne, opens_one, opens_none, opened_some, some_levels}
 use Rattle.proof_scanner.proofs.Sound.Sides.{with_entries, ArrivesBy}
+use Rattle.proof_scanner.proofs.Known.Read.{keyless}
+use Rattle.proof_scanner.proofs.Sound.NodeTokens.{past_step, keys_along}
 
 -- ---- outside flow
 
 -- where all collections go on, none ends
 none_ends : (p : Position) (bs : List ℕ) → ends_at p bs bs ≡ []
-none_ends p bs = ap (λ n. replicate n (put p Tok.block_end)) less
-  where
-    less : length bs - length bs ≡ 0
-    less = omega arith
+none_ends p bs = grind arith
 
 -- the key, and the start of its mapping where that begins, before the tokens of its number
 abbrev pub with_key : (begins : Bool) → (start : Token) → Key → List Token → List Token
 with_key begins start k ts = (if begins then placed (Some k.number) start (insert ts k.number (token k.position Tok.key)) else insert ts k.number (token k.position Tok.key))
 
 key_put : (begins : Bool) (start : Token) (k : Key) (ts : List Token) → with_key begins start k ts ≡ put_key begins start k.number k.position ts
-key_put true start k ts = refl
-key_put false start k ts = refl
+key_put a b k ts = grind arith
 
 module _ (text more : List ℕ) (t : ScannerState) (k : Key) (a : ArrivesBy text t [] (Some k ∷ []) []) (e : t.rest ≡ 58 ∷ more) (apart : colon_may_precede more ≡ true) (ind : is_value_indicator false (is_adjacent (before_past (before_by a.site.before) a.separation)) more ≡ true) where
   abbrev p : Position
   p = t.held.position
 
-  abbrev d : Colon
-  d = record { site = a.site; separation = a.separation; piece = 58 ∷ []; next = more; key = k; tokens = a.tokens }
+  abbrev x : Site
+  x = site_here false t.held.position a.site
 
-  place : t.held.position ≡ (at d).position
-  place = a.position_is ∙ ap (λ x. position_after a.site.position a.separation x) e
+  place : t.held.position ≡ position_after a.site.position a.separation (58 ∷ more)
+  place = a.position_is ∙ ap (λ y. position_after a.site.position a.separation y) e
+
+  same_site : site_at false a.site a.separation (58 ∷ []) Tok.value more ≡ x
+  same_site = ap (λ q. site_here false q a.site) (sym place)
 
   some : is_empty t.rest ≡ false
   some = ap is_empty e
@@ -69,18 +70,9 @@ module _ (text more : List ℕ) (t : ScannerState) (k : Key) (a : ArrivesBy text
   same_tokens : t.held.tokens ≡ a.tokens
   same_tokens = a.tokens_are ∙ (ap (λ bs. a.tokens ++ ends_at t.held.position a.site.blocks bs) same_blocks ∙ (ap (λ x. a.tokens ++ x) (none_ends t.held.position a.site.blocks) ∙ append-nil a.tokens))
 
-  is_colon : IsColon d
-  is_colon = record {
-    is_filled = subst (λ x. is_separation false a.separation x ≡ true) e a.is_filled;
-    is_solid = refl;
-    is_piece = (refl, ind);
-    stands = rw (a.is_indented some, apart) refl;
-    unbroken = not_free a.site.before a.separation (unbroken a.site.position a.separation t.rest some a.is_solid (omega (arith, a.is_open.0.0, live.0, ap (λ x. x.line) a.position_is)));
-    near = ap (λ q. nat_le q.index (k.position.index + 1024)) (sym place) ∙ within t.held.position.index (k.position.index + 1024) (a.is_near refl).1;
-  }
-    where
-      within : (m n : ℕ) → m ≤ n → nat_le m n ≡ true
-      within m n h = grind (arith, nat_tests)
+  -- no line begins before the colon, and it is near
+  quiet : (begins_free_line a.site.before a.separation ≡ false) × (is_near k.position t.held.position ≡ true)
+  quiet = grind arith
 
   -- what the scanner holds with the key, and with its mapping
   abbrev pub held_key : Held
@@ -113,42 +105,45 @@ module _ (text more : List ℕ) (t : ScannerState) (k : Key) (a : ArrivesBy text
       (ap (λ bs. put_key (is_deeper k.position.col bs) start k.number k.position t.held.tokens) (sym same_columns) ∙ ap (λ ts. put_key (is_deeper k.position.col a.site.blocks) start k.number k.position ts) same_tokens)) ∙
       ap (λ x. put_key (is_deeper k.position.col a.site.blocks) start k.number k.position a.tokens ++ ((x ++ []) ++ (value ∷ []))) (sym (ap (λ bs. ends_at t.held.position a.site.blocks bs) same_blocks ∙ none_ends t.held.position a.site.blocks))
 
-  abbrev pub outside_after : Position → Outside
-  outside_after q = record { line = taken; blocks = opened k.position.col (not_ended q.col a.site.blocks) }
+  abbrev outside_after : Outside
+  outside_after = record { line = taken; blocks = opened k.position.col x.blocks }
 
-  ends : EndsOutside t after (58 ∷ []) more Tok.value (outside_after t.held.position) (site_here false t.held.position a.site)
-  ends = record {
-    cut = e;
-    separation = colon_gap more;
-    is_rest = gap_cut more;
-    is_filled = gap_fills more;
-    position_is = gap_end t.held.position more;
-    blocks_are = ap (opened k.position.col) a.blocks_are ∙ sym (awaiting.columns_are ∙ rolled.columns_are);
-    awaits_is = sym awaiting.awaits;
-    are_levels = awaiting.are_levels;
-    read_on = tt;
-    has_no_tabs = inr (spaces_in_line (opened k.position.col (not_ended t.held.position.col a.site.blocks)) true (colon_gap more) (gap_in_line more));
-    is_leading = λ b r h. sym (ap not (gap_in_line more));
-    line_is = (inr refl, sym (ap not (gap_in_line more)), tt);
-    no_key = refl;
-    flow_is = refl;
-    keys_are = refl;
-    unchanged = (refl, refl, refl);
+  goes : out.Goes text a.site a.separation (58 ∷ []) more Tok.value x same_site true false (waits k.position) (waits k.position) outside_after
+  goes = record {
+    is_filled = subst (λ y. is_separation false a.separation y ≡ true) e a.is_filled;
+    is_solid = refl;
+    is_piece = (refl, ind);
+    stands = rw (a.is_indented some, apart) refl;
+    line_is = rw quiet.0 refl;
+    after_is = rw quiet.1 refl;
+    in_line = no_waiting (has_break (58 ∷ [])) false refl;
+    idle = λ _. refl;
   }
+
+  -- the key goes in before the tokens of its number
+  keyed_tokens : (ws : List Step) (last : List ℕ) → spelled ws last ≡ more →
+      (let w : Step = keyless a.separation (58 ∷ []) Tok.value in tokens_up_to (Outer a.site (waits k.position)) (Some k ∷ []) a.tokens (w ∷ ws) last ++ tokens_of_step (Outer a.site (waits k.position)) w ws last ≡ after.held.tokens)
+  keyed_tokens ws last h =
+      let q : List ℕ → Position = λ r. position_after a.site.position a.separation (58 ∷ r) in
+      let r : List ℕ = spelled ws last in
+      let bs : List ℕ = not_ended (q r).col a.site.blocks in
+      ap (λ b. put_key (is_deeper k.position.col a.site.blocks) (put (q r) Tok.block_mapping_start) k.number k.position a.tokens ++
+      ((ends_at (q r) a.site.blocks bs ++ begun_outside (is_deeper (q r).col bs) (q r) (q r) gives_colon false (line_past_separation false b (waits k.position))) ++ (put (q r) Tok.value ∷ []))) quiet.0 ∙
+      (ap (λ y. row_tokens (q y)) h ∙ (ap row_tokens (sym place) ∙ sym tokens_alike))
 
   pub keyed_stands : Stands text after
   keyed_stands =
-      let rows : Completes text (a.separation ++ (58 ∷ more)) (before d) (tokens_up_to (before d) (Some k ∷ []) a.tokens) =
-      subst (λ x. Completes text (a.separation ++ x) (before d) (tokens_up_to (before d) (Some k ∷ []) a.tokens)) e (a.completes true true [] live) in
-      ends_outside text t after (Some k) a (58 ∷ []) more Tok.value (outside_after t.held.position) (site_here false t.held.position a.site) refl ends (is_colon.is_filled, (refl, is_colon.is_piece)) refl
-      (λ strict. subst (λ q. SoFar strict text more (with_entries (site_then (site_here false q a.site) (58 ∷ []) Tok.value more (outside_after q)) taken []) (λ ws last. after.held.tokens)) (sym place)
-      (subst (λ ts. SoFar strict text more (keyed.past d) (λ ws last. ts)) (sym (tokens_alike ∙ ap row_tokens place)) (goes_of strict text more (keyed.past d) (keyed.tokens_past d) refl refl (colon_completes text d is_colon rows))))
+      ends_outside text t after (Some k) a (58 ∷ []) more (colon_gap more) Tok.value outside_after x refl
+      (colon_reads t more awaiting.indents awaiting.indent now false [] (None ∷ []) _ e refl refl (ap (opened k.position.col) a.blocks_are ∙ sym (awaiting.columns_are ∙ rolled.columns_are)) (sym awaiting.awaits) awaiting.are_levels a.was_adjacent)
+      (record { line_is = (inr refl, sym (ap not (gap_is more).2), tt); no_key = refl; flow_is = refl; keys_are = refl })
+      (out.is_written text a.site a.separation (58 ∷ []) more Tok.value x same_site true false (waits k.position) (waits k.position) outside_after goes) refl
+      (λ strict. goes_of strict text more (out.outer_then text a.site a.separation (58 ∷ []) more Tok.value x same_site outside_after) after.held.tokens refl refl
+      (out.outer_completes text a.site a.separation (58 ∷ []) more Tok.value x same_site true false (waits k.position) (waits k.position) outside_after (tokens_up_to (Outer a.site (waits k.position)) (Some k ∷ []) a.tokens) (λ ws last. after.held.tokens) goes keyed_tokens
+      (subst (λ y. Completes text (a.separation ++ y) (Outer a.site (waits k.position)) (tokens_up_to (Outer a.site (waits k.position)) (Some k ∷ []) a.tokens)) e (a.completes true true [] live))))
 
   pub keyed_is : value_by more t [] (Some k ∷ []) ≡ Ok after
   unfolding insert_key begin_pair
-  keyed_is =
-      ap (λ v. with_held (record { rest = past_gap more; held = at_value more t [] (Some k ∷ []) }) (Ok (record v { keys = with_top None v.keys; key_allowed = false })) >>= λ w. Ok (on_held (push t.held.position Tok.value) w))
-      (ap roll_one_col_indent rolled.is_held ∙ awaiting.is_held)
+  keyed_is = grind arith
 
   pub keyed_outside : Holds (Stands text) (value_by more t [] (Some k ∷ []))
   keyed_outside = subst (λ r. Holds (Stands text) r) (sym keyed_is) (went keyed_stands)
@@ -188,58 +183,44 @@ module _ (text more : List ℕ) (t : ScannerState) (f : FlowLevel) (fs : List Fl
   abbrev pub inner_after : ScannerState
   inner_after = colon_end t more t.held.indents t.held.indent (in_pair (opens_pair (f ∷ fs))) false (pair_level InPair f ∷ fs) (None ∷ ks)
 
-  abbrev n : keyed.Inner
-  n = record {
-    site = a.site;
-    line = a.line;
-    entry = x;
-    around = es;
-    separation = a.separation;
-    piece = 58 ∷ [];
-    next = more;
-    key = k;
-    outer_keys = ks;
-    tokens = a.tokens;
-    past = inner_after.held.position;
-    rest = past_gap more;
-  }
-
-  inner_place : t.held.position ≡ (keyed.inner_at n).position
+  inner_place : t.held.position ≡ position_after a.site.position a.separation (58 ∷ more)
   inner_place = a.position_is ∙ ap (λ y. position_after a.site.position a.separation y) e
-
-  inner_some : is_empty t.rest ≡ false
-  inner_some = ap is_empty e
-
-  inner_later : NotBefore t.held.position inner_after.held.position
-  inner_later = subst (λ q. NotBefore t.held.position q) (sym (gap_end t.held.position more)) (later_after t.held.position (58 ∷ []) more (colon_gap more) (past_gap more))
 
   single_here : takes_pair x.kind x.pair ≡ opens_pair (f ∷ fs)
   single_here = single_is f fs (Some k) x a.are_entries.0
 
-  is_inner : (not (opens_pair (f ∷ fs)) || (k.position.line == t.held.position.line)) ≡ true → keyed.IsInner n
-  is_inner on = record {
-    is_filled = subst (λ y. is_separation false a.separation y ≡ true) e a.is_filled;
-    is_solid = refl;
-    is_piece = (refl, ind);
-    stands = subst (λ q. may_stand true a.site (site_here true q a.site) a.separation (58 ∷ []) Tok.value more ≡ true) inner_place (rw (a.is_indented inner_some, low_enough text t f fs (Some k ∷ ks) (x ∷ es) a deep, apart) refl);
-    on_line = ap (λ b. not b || (k.position.line == (keyed.inner_at n).position.line)) single_here ∙ (ap (λ q. not (opens_pair (f ∷ fs)) || (k.position.line == q.line)) (sym inner_place) ∙ on);
-    are_among = (first_among (length a.tokens) (Some k) ks (among (length a.tokens) (Some k ∷ ks) a.are_numbered)).1;
-    unbroken = λ strict c may. unbroken_around text t f fs (Some k) ks x es a inner_some inner_after.held.position (past_gap more) inner_later strict c may;
-    one_line = λ strict c may. one_around text t f fs (Some k) ks x es a inner_some inner_after.held.position (past_gap more) inner_later (58 ∷ []) (λ _ _. one_line_colon) strict c may;
-    may_before = λ strict c may. subst (λ q. MayChoose strict c (outside_key es ks) q (58 ∷ more)) inner_place
-        (subst (λ y. MayChoose strict c (outside_key es ks) t.held.position y) e (may_around text t f fs (Some k) ks x es a inner_some inner_after.held.position (past_gap more) inner_later strict c may));
-  }
+  -- the entry's key ends, and no single pair's key on an earlier line
+  key_ends : (again : Bool) (xs : List Entry) → (not (opens_pair (f ∷ fs)) || (k.position.line == t.held.position.line)) ≡ true → entries_past t.held.position again gives_colon [] false (entry_by true (Some k) x) xs ≡ Some (valued_entry x ∷ xs)
+  key_ends again xs its_line = grind (arith, single_here)
 
-  -- the tokens of the row
-  abbrev inner_row : Position → List Token
-  inner_row q = put_key (takes_pair x.kind x.pair) (put (pair_position (position_after q (58 ∷ []) more) more) Tok.flow_mapping_start) k.number k.position a.tokens ++ (put q Tok.value ∷ [])
+  -- the tokens of the row, at a colon's end
+  abbrev key_in : Bool → Position → (next : List ℕ) → List Token → List Token
+  key_in single q next ts = put_key single (put (pair_position q next) Tok.flow_mapping_start) k.number k.position ts
 
-  inner_alike : inner_after.held.tokens ≡ inner_row t.held.position
+  abbrev own : List Token
+  own = put t.held.position Tok.value ∷ []
+
+  inner_alike : key_in (takes_pair x.kind x.pair) (position_after (position_after a.site.position a.separation (58 ∷ more)) (58 ∷ []) more) more a.tokens ++ (put (position_after a.site.position a.separation (58 ∷ more)) Tok.value ∷ []) ≡ inner_after.held.tokens
   unfolding is_break
   inner_alike =
-      let put_in : Bool → Position → List Token → List Token = λ b q ts. put_key b (put (pair_position q more) Tok.flow_mapping_start) k.number k.position ts ++ (put t.held.position Tok.value ∷ []) in
-      ap (λ b. put_in b (past t.held.position) t.held.tokens) (sym single_here) ∙
-      (ap (λ q. put_in (takes_pair x.kind x.pair) q t.held.tokens) (sym (past_one t.held.position 58 more refl)) ∙ ap (λ ts. put_in (takes_pair x.kind x.pair) (position_after t.held.position (58 ∷ []) more) ts) (tokens_before text t f fs (Some k) ks x es a))
+      ap (λ q. key_in (takes_pair x.kind x.pair) (position_after q (58 ∷ []) more) more a.tokens ++ (put q Tok.value ∷ [])) (sym inner_place) ∙
+      (ap (λ b. key_in b (position_after t.held.position (58 ∷ []) more) more a.tokens ++ own) single_here ∙ ap (λ q. key_in (opens_pair (f ∷ fs)) q more a.tokens ++ own) (past_one t.held.position 58 more refl) ∙
+      ap (λ ts. key_in (opens_pair (f ∷ fs)) (past t.held.position) more ts ++ own) (sym (tokens_before text t f fs (Some k) ks x es a)))
+
+  inner_tokens : (cs : List Bool) (l : Line) (ws : List Step) (last : List ℕ) → spelled ws last ≡ more →
+      (let w : Step = keyless a.separation (58 ∷ []) Tok.value in let ys : List Entry = entry_by true (Some k) x ∷ entries_by (pop cs) ks es in
+      tokens_up_to (with_entries a.site l ys) (Some k ∷ ks) a.tokens (w ∷ ws) last ++ tokens_at a.site (site_here true (position_after a.site.position a.separation (58 ∷ spelled ws last)) a.site) w ws last l ys ≡
+      with_keys 1 (past_step a.site.position w ws last) ws last a.site.blocks l (entries_by (pop cs) ks es) ks inner_after.held.tokens)
+  inner_tokens cs l ws last h =
+      let w : Step = keyless a.separation (58 ∷ []) Tok.value in
+      let ys : List Entry = entries_by (pop cs) ks es in
+      let first : List ℕ → List Token = λ r. key_in (takes_pair x.kind x.pair) (position_after (position_after a.site.position a.separation (58 ∷ r)) (58 ∷ []) r) r a.tokens in
+      let put_in : List Token = first (spelled ws last) in
+      let shown : List Token = put (position_after a.site.position a.separation (58 ∷ spelled ws last)) Tok.value ∷ [] in
+      let many : length a.tokens ≤ length put_in = key_longer (takes_pair x.kind x.pair) (put (pair_position (past_step a.site.position w ws last) (spelled ws last)) Tok.flow_mapping_start) k.number k.position a.tokens in
+      sym (keys_first 1 a.site.position (w ∷ ws) last a.site.blocks l ys ks put_in shown (fewer (length a.tokens) (length put_in) ks many (first_among (length a.tokens) (Some k) ks (among (length a.tokens) (Some k ∷ ks) a.are_numbered)).1)) ∙
+      (keys_along (λ m. suc m) (λ m. suc m) (λ m. refl) (λ m. refl) 0 a.site.position (past_step a.site.position w ws last) w ws last (λ m. refl) a.site.blocks l ys ks (put_in ++ shown) ∙
+      ap (λ ts. with_keys 1 (past_step a.site.position w ws last) ws last a.site.blocks l ys ks ts) (ap (λ r. first r ++ (put (position_after a.site.position a.separation (58 ∷ r)) Tok.value ∷ [])) h ∙ inner_alike))
 
   inner_many : length a.tokens ≤ length inner_after.held.tokens
   inner_many =
@@ -251,16 +232,26 @@ module _ (text more : List ℕ) (t : ScannerState) (f : FlowLevel) (fs : List Fl
       omega (arith, l, same, all)
 
   pub inner_stands : (not (opens_pair (f ∷ fs)) || (k.position.line == t.held.position.line)) ≡ true → Stands text inner_after
-  inner_stands on =
-      read_inside text t inner_after f (pair_level InPair f) fs (Some k) ks x (valued_entry x) es a (58 ∷ []) more Tok.value
-      (ends_inside text more t f fs (Some k) ks x es a e (in_pair (opens_pair (f ∷ fs))) (tt, numbered_more (length a.tokens) (length inner_after.held.tokens) ks inner_many (numbered_around (length a.tokens) (Some k) ks a.are_numbered))) ((is_inner on).is_filled, (refl, (is_inner on).is_piece))
-      (λ strict c cs may.
-      subst (λ q. let b : Account = with_entries (site_inside (site_in true gives_colon q a.site) (58 ∷ []) Tok.value more) a.line (valued_entry x ∷ es) in SoFar strict text more (chosen c cs (None ∷ ks) b) (tokens_up_to (chosen c cs (None ∷ ks) b) (None ∷ ks) inner_after.held.tokens))
-      (sym inner_place)
-      (subst (λ ts. SoFar strict text more (keyed.inner_past n c cs) (tokens_up_to (keyed.inner_past n c cs) (None ∷ ks) ts)) (sym (inner_alike ∙ ap inner_row inner_place))
-      (keyed.inner_completes text n (is_inner on) (λ st b bs q. completes_at text t (f ∷ fs) (Some k ∷ ks) (x ∷ es) a (58 ∷ more) (keyed.inner_at n).position e inner_place st b bs q) strict c cs may)))
-      (λ cs key own must inside_flow rest_goes. subst (λ q. BeginsButForKey text more key.position (chosen false cs (None ∷ ks) (with_entries (site_inside (site_in true gives_colon q a.site) (58 ∷ []) Tok.value more) a.line (valued_entry x ∷ es)))) (sym inner_place)
-      (keyed.inner_carried text key.position n (is_inner on) (line_taken text t f fs (Some k) ks x es a) (λ bs. carried_at text t (f ∷ fs) (Some k ∷ ks) (x ∷ es) a (58 ∷ more) e key own must refl inner_some bs) cs))
+  inner_stands its_line =
+      flow.steps_in_flow text t inner_after f fs (Some k) ks x es a (58 ∷ []) more Tok.value (None ∷ ks) (valued_entry x ∷ es) (pair_level InPair f ∷ fs) (colon_gap more)
+      (colon_reads t more t.held.indents t.held.indent (in_pair (opens_pair (f ∷ fs))) false (pair_level InPair f ∷ fs) (None ∷ ks) _ e refl refl a.blocks_are a.awaits_is a.are_levels a.was_adjacent) (record {
+        flow_is = refl;
+        keys_are = refl;
+        one_each = a.one_each;
+        same_key = refl;
+        are_entries = (valued_is f (Some k) x a.are_entries.0, (inr refl, refl), a.are_entries.2);
+        line_is = line_taken text t f fs (Some k) ks x es a;
+        are_numbered = (tt, numbered_more (length a.tokens) (length inner_after.held.tokens) ks inner_many (numbered_around (length a.tokens) (Some k) ks a.are_numbered));
+        in_line = λ _ _. one_line_colon;
+      }) (record {
+        is_piece = (refl, ind);
+        stands = rw (a.is_indented (ap is_empty e), low_enough text t f fs (Some k ∷ ks) (x ∷ es) a deep, apart) refl;
+        choice = λ cs. true;
+        outer = pop;
+        bit = λ cs. false;
+        entry_past = λ cs. key_ends (is_renewed a.site.before a.separation) (entries_by (pop cs) ks es) its_line;
+        tokens_are = inner_tokens;
+      })
 
   pub keyed_inside : k.position.line ≤ t.held.position.line → Holds (Stands text) (value_by more t (f ∷ fs) (Some k ∷ ks))
   keyed_inside early =

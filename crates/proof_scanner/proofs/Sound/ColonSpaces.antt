@@ -1,5 +1,5 @@
 -- What the model reads after a colon: where a TAB stands next, the blanks and a comment; else nothing.
-use Rattle.proof_scanner.proofs.Common.{[], after, ap, At, begins_with, begins_with_alpha, blanks_and_comment, Bool, check_after_tab, check_value_space, checked, colon_may_precede, eqb-true, false, has_no_break, Held, Holds, if◌then◌else◌, is_blank, is_break, is_on_line, is_one_of, is_separation, leading, lexed, List, not, Ok, or_parts, pair_position, past, past_blanks_and_comment, past_comment, past_line_rest, peek, Position, position_after, refl, same_alpha, ScannerState, space, subst, sym, tab, true, went, Yes, ℕ, ◌&&◌, ◌++◌, ◌==◌, ◌||◌, ◌∙◌, ◌∷◌, ◌≡◌}
+use Rattle.proof_scanner.proofs.Common.{arith, At, Bool, Held, Holds, List, Ok, Position, ScannerState, Yes, [], after, ap, begins_with, begins_with_alpha, blanks_and_comment, check_after_tab, check_value_space, checked, colon_may_precede, eqb-true, false, has_no_break, if◌then◌else◌, is_blank, is_break, is_on_line, is_one_of, is_separation, leading, lexed, not, or_parts, pair_position, past, past_blanks_and_comment, past_comment, past_line_rest, peek, position_after, refl, same_alpha, space, subst, sym, tab, true, went, ℕ, ◌&&◌, ◌++◌, ◌==◌, ◌||◌, ◌∙◌, ◌∷◌, ◌≡◌}
 use Rattle.yaml_chars.specs.Class.{is_alpha}
 use Rattle.defs_text.specs.Classes as classes
 use Rattle.yaml_tokens.specs.declared.problem.Problem.TheVariants as problem
@@ -14,26 +14,9 @@ colon_gap more = (if begins_with tab more then blanks_and_comment more else [])
 abbrev pub past_gap : List ℕ → List ℕ
 past_gap more = (if begins_with tab more then past_blanks_and_comment more else more)
 
-pub gap_cut : (more : List ℕ) → more ≡ colon_gap more ++ past_gap more
-gap_cut more = by (begins_with tab more)
-  where
-    by : (b : Bool) → more ≡ (if b then blanks_and_comment more else []) ++ (if b then past_blanks_and_comment more else more)
-    by true = line_rest_cut more
-    by false = refl
-
-pub gap_fills : (more : List ℕ) → is_separation false (colon_gap more) (past_gap more) ≡ true
-gap_fills more = by (begins_with tab more)
-  where
-    by : (b : Bool) → is_separation false (if b then blanks_and_comment more else []) (if b then past_blanks_and_comment more else more) ≡ true
-    by true = line_rest_fills more
-    by false = refl
-
-pub gap_in_line : (more : List ℕ) → has_no_break (colon_gap more) ≡ true
-gap_in_line more = by (begins_with tab more)
-  where
-    by : (b : Bool) → has_no_break (if b then blanks_and_comment more else []) ≡ true
-    by true = line_rest_in_line more
-    by false = refl
+-- it is a separation on the colon's line
+pub gap_is : (more : List ℕ) → (more ≡ colon_gap more ++ past_gap more) × (is_separation false (colon_gap more) (past_gap more) ≡ true) × (has_no_break (colon_gap more) ≡ true)
+gap_is more = grind (arith, line_rest_cut, line_rest_fills, line_rest_in_line)
 
 -- where the start of a single pair stands, the gap ends
 pub gap_end : (p : Position) (more : List ℕ) → pair_position (past p) more ≡ position_after (position_after p (58 ∷ []) more) (colon_gap more) (past_gap more)

@@ -1,21 +1,20 @@
 -- A colon that ends no key: what holds where it begins holds between two fetches after it.
-use Rattle.proof_scanner.proofs.Common.{[], allow_key, ap, append_assoc, AreLevels, AreNumbered, arith, At, before_by, before_past, begin_keyless_mapping, begin_keyless_value, begun_inside, begun_outside, Bool, chained, checked, colon_may_precede, columns, ends_at, entries_past, Entry, false, Fault, FlowLevel, free, fresh, gives_colon, Had, had_after, has_break, has_open_level, Held, Holds, if◌then◌else◌, in_flow, Indent, inl, inr, is_adjacent, is_break, is_deeper, is_empty, is_in_column, is_renewed, is_value, is_value_indicator, IsEntryOf, IsPairOf, Key, Keyed, length, length-append, line_past, List, Mapping, None, not, not-false, not_ended, Ok, on_held, opened, opens_pair, Option, Pair, pair_past, pair_position, paired, past, placed, Position, position_after, push, put, refl, renewed, Result, roll_indent, roll_one_col_indent, ScannerState, settled, Some, Stands, start_if, subst, sym, takes_pair, Tok, Token, token, top_key, tried, true, went, with_held, ℕ, ◌++◌, ◌+◌, ◌>>=◌, ◌∙◌, ◌∷◌, ◌≡◌, ◌⊎◌}
+use Rattle.proof_scanner.proofs.Common.{AreLevels, At, Bool, Entry, Fault, FlowLevel, Had, Held, Holds, Indent, IsEntryOf, Key, List, None, Ok, Option, Pair, Position, Result, ScannerState, Site, Some, Stands, Tok, Token, [], allow_key, another, ap, append_assoc, arith, before_by, before_past, begin_keyless_mapping, begin_keyless_value, begun_inside, begun_outside, chained, checked, colon_may_precede, columns, ends_at, entries_past, false, free, fresh, gives_colon, has_break, has_open_level, if◌then◌else◌, in_flow, inl, inr, is_adjacent, is_break, is_deeper, is_empty, is_in_column, is_renewed, is_value, is_value_indicator, line_past, not, not-false, not_ended, on_held, opened, opens_pair, pair_past, pair_position, paired, past, placed, position_after, push, put, refl, roll_indent, roll_one_col_indent, settled, start_if, subst, sym, takes_pair, token, top_key, tried, true, went, with_held, ℕ, ◌++◌, ◌>>=◌, ◌∙◌, ◌∷◌, ◌≡◌, ◌≤◌, ◌⊎◌}
 use Rattle.yaml_tokens.specs.declared.problem.Problem.TheVariants as problem
-use Rattle.defs_token.specs.FlowEntry.{with_had}
-use Rattle.model_scanner.specs.declared.level.FlowLevel.TheVariants.{Entry as InEntry, Pair as InPair}
+use Rattle.model_scanner.specs.declared.level.FlowLevel.TheVariants.{Pair as InPair}
 use Rattle.model_scanner.specs.Block.{value_of}
 use Rattle.proof_scanner.proofs.Cut.Dispatch.{value_is}
 use Rattle.proof_scanner.proofs.Cut.Nodes.{IsDeep}
-use Rattle.proof_scanner.specs.StandsInRow.{kind_of}
-use Rattle.proof_scanner.proofs.Sound.Arrivals.{first_not_right, numbered_more, numbered_around}
+use Rattle.proof_scanner.proofs.Sound.Arrivals.{first_not_right}
 use Rattle.proof_scanner.proofs.Sound.Around.{tokens_before}
-use Rattle.proof_scanner.proofs.Sound.ColonSpaces.{colon_gap, past_gap, gap_cut, gap_fills, gap_in_line, gap_end}
-use Rattle.proof_scanner.proofs.Sound.EntryPieces.{low_enough, ReadInside, goes_inside}
+use Rattle.proof_scanner.proofs.Sound.ColonSpaces.{colon_gap, past_gap, gap_is, gap_end}
+use Rattle.proof_scanner.proofs.Sound.EntryPieces.{low_enough, goes_inside}
 use Rattle.proof_scanner.proofs.Sound.Indicated.{past_one}
-use Rattle.proof_scanner.proofs.Sound.OutsidePieces.{read_outside, line_free, spaces_in_line, started_tokens, begun_after, with_start}
-use Rattle.proof_scanner.proofs.Sound.Questions.{pair_level, same_kind}
+use Rattle.proof_scanner.proofs.Sound.OutsidePieces.{read_outside, line_free, started_tokens, begun_after, with_start}
+use Rattle.proof_scanner.proofs.Sound.Questions.{pair_level}
 use Rattle.proof_scanner.proofs.Sound.Rolled.{RollsTo, rolls_to, OpensOne, opens_one, opens_none, opened_some, some_levels}
 use Rattle.proof_scanner.proofs.Sound.Sides.{ArrivesBy}
+use Rattle.proof_scanner.proofs.Sound.Reads.{Reads, reads_before_none}
 
 -- ---- where a colon is an indicator
 
@@ -43,14 +42,21 @@ colon_end t more ds i ts allowed fs ks = record {
   held = record t.held { position = pair_position (past t.held.position) more; leading = false; indents = ds; indent = i; tokens = ts ++ token t.held.position Tok.value ∷ []; key_allowed = allowed; flow = fs; keys = ks };
 }
 
+-- what was read with it
+pub colon_reads : (t : ScannerState) (more : List ℕ) (ds : List Indent) (i : ℕ) (ts : List Token) (allowed : Bool) (fs : List FlowLevel) (ks : List (Option Key)) (y : Site) → t.rest ≡ 58 ∷ more → y.position ≡ position_after t.held.position (58 ∷ []) more → y.before ≡ another →
+    y.blocks ≡ columns i ds → y.awaits ≡ has_open_level ds → AreLevels i ds → t.held.adjacent_value_at ≤ t.held.position.index → Reads t (colon_end t more ds i ts allowed fs ks) y (58 ∷ []) more (colon_gap more)
+colon_reads t more ds i ts allowed fs ks y cut here before columns_are awaits levels was =
+    reads_before_none t (colon_end t more ds i ts allowed fs ks) y (58 ∷ []) more (colon_gap more) refl cut (gap_is more).0 (gap_is more).1 (gap_is more).2 here (gap_end t.held.position more) refl before columns_are awaits levels was (refl, refl, refl)
+
 -- ---- outside flow
 
 pub keyless_stands : (text more : List ℕ) (t : ScannerState) (a : ArrivesBy text t [] (None ∷ []) []) → t.rest ≡ 58 ∷ more → t.held.key_allowed ≡ true → colon_may_precede more ≡ true →
     is_value_indicator false (is_adjacent (before_past (before_by a.site.before) a.separation)) more ≡ true → (i : ℕ) (ds : List Indent) → columns i ds ≡ opened t.held.position.col (columns t.held.indent t.held.indents) → AreLevels i ds → has_open_level ds ≡ true →
     Stands text (colon_end t more ds i (with_start Tok.block_mapping_start t) true [] (None ∷ []))
 keyless_stands text more t a e allowed apart ind i ds columns_are levels awaits =
-    read_outside text t (colon_end t more ds i (with_start Tok.block_mapping_start t) true [] (None ∷ [])) a (58 ∷ []) more Tok.value (begun_after t.held.position a.site.blocks) (record {
-      is_solid = refl;
+    read_outside text t (colon_end t more ds i (with_start Tok.block_mapping_start t) true [] (None ∷ [])) a (58 ∷ []) more (colon_gap more) Tok.value (begun_after t.held.position a.site.blocks) _ refl
+    (colon_reads t more ds i (with_start Tok.block_mapping_start t) true [] (None ∷ []) _ e refl refl (ap (opened t.held.position.col) a.blocks_are ∙ sym columns_are) (sym awaits) levels a.was_adjacent)
+    (record { line_is = (inl refl, refl, tt); no_key = refl; flow_is = refl; keys_are = refl }) (record {
       is_piece = (refl, ind);
       stands = rw (a.is_indented (ap is_empty e), apart) refl;
       after_is = ap (λ l. line_past (is_in_column t.held.position.col bs) t.held.position bs gives_colon false l) here_free;
@@ -59,24 +65,6 @@ keyless_stands text more t a e allowed apart ind i ds columns_are levels awaits 
       tokens_are = ap (λ cs. (if is_deeper t.held.position.col cs then placed None (token t.held.position Tok.block_mapping_start) t.held.tokens else t.held.tokens) ++ put t.held.position Tok.value ∷ []) (sym a.blocks_are) ∙
           (started_tokens (is_deeper t.held.position.col bs) t.held.tokens a.tokens (ends_at t.held.position a.site.blocks bs) t.held.position Tok.block_mapping_start (put t.held.position Tok.value) a.tokens_are ∙
           ap (λ l. a.tokens ++ ((ends_at t.held.position a.site.blocks bs ++ begun_outside (is_deeper t.held.position.col bs) t.held.position t.held.position gives_colon false (Some l)) ++ (put t.held.position Tok.value ∷ []))) (sym here_free));
-      ends = record {
-        no_key = refl;
-        cut = e;
-        separation = colon_gap more;
-        is_rest = gap_cut more;
-        is_filled = gap_fills more;
-        position_is = gap_end t.held.position more;
-        blocks_are = ap (opened t.held.position.col) a.blocks_are ∙ sym columns_are;
-        awaits_is = sym awaits;
-        are_levels = levels;
-        read_on = tt;
-        has_no_tabs = inr (spaces_in_line (opened t.held.position.col bs) true (colon_gap more) (gap_in_line more));
-        is_leading = λ b r h. sym (ap not (gap_in_line more));
-        line_is = (inl refl, refl, tt);
-        flow_is = refl;
-        keys_are = refl;
-        unchanged = (refl, refl, refl);
-      };
     })
   where
     bs : List ℕ
@@ -132,67 +120,22 @@ valued_entry e = record { kind = e.kind; pair = pair_past (takes_pair e.kind e.p
 
 -- a single pair begins just where the scanner opens one
 pub single_is : (f : FlowLevel) (fs : List FlowLevel) (k : Option Key) (e : Entry) → IsEntryOf f k e → takes_pair e.kind e.pair ≡ opens_pair (f ∷ fs)
-single_is f fs k e h = ap (λ x. takes_pair x e.pair) h.kind_is ∙ by f e.pair h.pair_is
-  where
-    by : (f : FlowLevel) (p : Pair) → IsPairOf f p → takes_pair (kind_of f) p ≡ opens_pair (f ∷ fs)
-    by Mapping p i = refl
-    by _ p i = rw i refl
+single_is f fs k e h = grind arith
 
 pub valued_is : (f : FlowLevel) (k : Option Key) (e : Entry) → IsEntryOf f k e → IsEntryOf (pair_level InPair f) None (valued_entry e)
-valued_is f k e h = record { kind_is = h.kind_is ∙ same_kind InPair f refl; pair_is = subst (λ b. IsPairOf (pair_level InPair f) (pair_past b gives_colon e.pair)) (sym (single_is f [] k e h)) (pair f e.pair h.pair_is); key_is = tt }
-  where
-    pair : (f : FlowLevel) (p : Pair) → IsPairOf f p → IsPairOf (pair_level InPair f) (pair_past (opens_pair (f ∷ [])) gives_colon p)
-    pair InEntry p i = refl
-    pair Mapping p i = i
-    pair Keyed p i = i
-    pair InPair p i = i
+valued_is f k e h = grind arith
 
 -- the entry is settled
 values : (here : Position) (again : Bool) (e : Entry) (xs : List Entry) → (e.had ≡ fresh) ⊎ (e.had ≡ settled) → entries_past here again gives_colon [] false e xs ≡ Some (valued_entry e ∷ xs)
-values here again e xs h = ap (λ o. with_had e.kind (pair_past (takes_pair e.kind e.pair) gives_colon e.pair) [] xs o) (by again e.had h)
-  where
-    of : (b : Bool) (x : Had) → renewed b gives_colon x ≡ Some x
-    of true x = refl
-    of false x = refl
-
-    by : (b : Bool) (x : Had) → (x ≡ fresh) ⊎ (x ≡ settled) → had_after here (takes_pair e.kind e.pair) gives_colon false (renewed b gives_colon x) ≡ Some settled
-    by b x (inl i) = ap (λ o. had_after here (takes_pair e.kind e.pair) gives_colon false o) (of b x ∙ ap (λ y. Some y) i)
-    by b x (inr i) = ap (λ o. had_after here (takes_pair e.kind e.pair) gives_colon false o) (of b x ∙ ap (λ y. Some y) i)
+values here again e xs h = grind arith
 
 -- the start of a single pair, if one begins
 pair_begun : (single : Bool) (pair : Pair) (here own : Position) (x : Had) → (x ≡ fresh) ⊎ (x ≡ settled) → begun_inside single pair here own own gives_colon false x ≡ start_if single own Tok.flow_mapping_start
-pair_begun single pair here own x (inl i) = ap (λ y. begun_inside single pair here own own gives_colon false y) i
-pair_begun single pair here own x (inr i) = ap (λ y. begun_inside single pair here own own gives_colon false y) i
+pair_begun a pair b own x d = grind arith
 
 pub one_line_colon : has_break (58 ∷ []) ≡ false
 unfolding is_break
 one_line_colon = refl
-
--- What the scanner holds after it, with tokens up to it.
-unfoldable pub ends_inside : (text more : List ℕ) (t : ScannerState) (f : FlowLevel) (fs : List FlowLevel) (k : Option Key) (ks : List (Option Key)) (e : Entry) (es : List Entry) (a : ArrivesBy text t (f ∷ fs) (k ∷ ks) (e ∷ es)) → t.rest ≡ 58 ∷ more → (ts : List Token) →
-    AreNumbered (length (ts ++ token t.held.position Tok.value ∷ [])) (None ∷ ks) →
-    ReadInside text t (colon_end t more t.held.indents t.held.indent ts false (pair_level InPair f ∷ fs) (None ∷ ks)) f (pair_level InPair f) fs k ks e (valued_entry e) es a (58 ∷ []) more Tok.value
-ends_inside text more t f fs k ks e es a cut ts numbered = record {
-  is_solid = refl;
-  cut = cut;
-  separation = colon_gap more;
-  is_rest = gap_cut more;
-  is_filled = gap_fills more;
-  position_is = gap_end t.held.position more;
-  columns_are = refl;
-  awaits_is = a.awaits_is;
-  are_levels = a.are_levels;
-  read_on = tt;
-  has_no_tabs = inr (spaces_in_line a.site.blocks a.site.awaits (colon_gap more) (gap_in_line more));
-  is_leading = λ b r h. sym (ap not (gap_in_line more));
-  entry_is = valued_is f k e a.are_entries.0;
-  has_had = (inr refl, refl);
-  flow_is = refl;
-  keys_are = refl;
-  are_numbered = numbered;
-  before_is = refl;
-  unchanged = (refl, refl, refl);
-}
 
 -- the tokens with the start of a single pair, if one begins
 abbrev pub with_pair : (single : Bool) → (more : List ℕ) → ScannerState → List Token
@@ -200,8 +143,7 @@ with_pair single more t = (if single then t.held.tokens ++ token (pair_position 
 
 pair_tokens : (single : Bool) (ts before : List Token) (q : Position) (own : Token) → ts ≡ before →
     (if single then ts ++ token q Tok.flow_mapping_start ∷ [] else ts) ++ own ∷ [] ≡ before ++ (start_if single q Tok.flow_mapping_start ++ (own ∷ []))
-pair_tokens true ts before q own e = append_assoc ts (token q Tok.flow_mapping_start ∷ []) (own ∷ []) ∙ ap (λ x. x ++ (token q Tok.flow_mapping_start ∷ (own ∷ []))) e
-pair_tokens false ts before q own e = ap (λ x. x ++ own ∷ []) e
+pair_tokens single ts before q own e = grind (arith, append_assoc)
 
 -- what stands after it, with its account
 pub keyless_within : (text more : List ℕ) (t : ScannerState) (f : FlowLevel) (fs : List FlowLevel) (ks : List (Option Key)) (e : Entry) (es : List Entry) (a : ArrivesBy text t (f ∷ fs) (None ∷ ks) (e ∷ es)) → t.rest ≡ 58 ∷ more → colon_may_precede more ≡ true →
@@ -209,8 +151,13 @@ pub keyless_within : (text more : List ℕ) (t : ScannerState) (f : FlowLevel) (
     Stands text (colon_end t more t.held.indents t.held.indent (with_pair (opens_pair (f ∷ fs)) more t) false (pair_level InPair f ∷ fs) (None ∷ ks))
 unfolding is_break
 keyless_within text more t f fs ks e es a cut apart ind deep =
-    goes_inside text t (colon_end t more t.held.indents t.held.indent (with_pair single more t) false (pair_level InPair f ∷ fs) (None ∷ ks)) f (pair_level InPair f) fs None ks e (valued_entry e) es a (58 ∷ []) more Tok.value (ends_inside text more t f fs None ks e es a cut (with_pair single more t) (tt, numbered_more (length a.tokens) (length (with_pair single more t ++ token t.held.position Tok.value ∷ [])) ks (omega (arith, many)) (numbered_around (length a.tokens) None ks a.are_numbered)))
+    goes_inside text t (colon_end t more t.held.indents t.held.indent (with_pair single more t) false (pair_level InPair f ∷ fs) (None ∷ ks)) f (pair_level InPair f) fs None ks e (valued_entry e) es a (58 ∷ []) more Tok.value (colon_gap more)
+    (colon_reads t more t.held.indents t.held.indent (with_pair single more t) false (pair_level InPair f ∷ fs) (None ∷ ks) _ cut refl refl a.blocks_are a.awaits_is a.are_levels a.was_adjacent)
     (record {
+      flow_is = refl;
+      keys_are = refl;
+      entry_is = valued_is f None e a.are_entries.0;
+      has_had = (inr refl, refl);
       in_line = one_line_colon;
       begun = refl;
       is_piece = (refl, ind);
@@ -239,9 +186,6 @@ keyless_within text more t f fs ks e es a cut apart ind deep =
         (ap (λ b. a.tokens ++ (start_if b (place (position_after t.held.position (58 ∷ []) more)) Tok.flow_mapping_start ++ (put t.held.position Tok.value ∷ []))) (sym (single_is f fs None e a.are_entries.0)) ∙
         ap (λ x. a.tokens ++ (x ++ (put t.held.position Tok.value ∷ []))) (sym (pair_begun (takes_pair e.kind e.pair) e.pair t.held.position (place (position_after t.held.position (58 ∷ []) more)) e.had had))))
 
-    many : length (with_pair single more t ++ token t.held.position Tok.value ∷ []) ≡ length a.tokens + length own
-    many = ap length tokens ∙ length-append a.tokens own
-
 pub keyless_inside : (text more : List ℕ) (t : ScannerState) (f : FlowLevel) (fs : List FlowLevel) (ks : List (Option Key)) (e : Entry) (es : List Entry) (a : ArrivesBy text t (f ∷ fs) (None ∷ ks) (e ∷ es)) → t.rest ≡ 58 ∷ more → colon_may_precede more ≡ true →
     is_value_indicator true (is_adjacent (before_past (before_by a.site.before) a.separation)) more ≡ true → IsDeep t.held → Holds (Stands text) (value_by more t (f ∷ fs) (None ∷ ks))
 unfolding begin_keyless_value begin_keyless_mapping
@@ -257,7 +201,4 @@ keyless_inside text more t f fs ks e es a cut apart ind deep =
 
     begun : (f : FlowLevel) → Holds (λ y. y ≡ record t.held { flow = pair_level InPair f ∷ fs; keys = None ∷ ks; position = pair_position (past t.held.position) more; leading = false; key_allowed = false; tokens = with_pair (opens_pair (f ∷ fs)) more t })
         (begin_keyless_value t.held.position (opens_pair (f ∷ fs)) (at_value more t (f ∷ fs) (None ∷ ks)))
-    begun Mapping = went (ap (λ v. allow_key (not (in_flow v)) v) (opens_none _ refl))
-    begun InEntry = went (ap (λ v. allow_key (not (in_flow v)) v) (opens_none _ refl))
-    begun Keyed = went (ap (λ v. allow_key (not (in_flow v)) v) (opens_none _ refl))
-    begun InPair = went (ap (λ v. allow_key (not (in_flow v)) v) (opens_none _ refl))
+    begun a = grind (arith, went, opens_none)

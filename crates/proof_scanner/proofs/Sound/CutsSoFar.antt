@@ -1,5 +1,5 @@
 -- The tokens so far are a cut of the text up to the last piece, and the position is that after the text that was passed.
-use Rattle.proof_scanner.proofs.Common.{[], Account, ap, append-nil, append_assoc, Arrives, false, first_position, is_renewed, IsCutUpTo, IsPositionIn, Key, List, MayChoose, None, Option, outside_key, Position, position_after, position_append, refl, ScannerState, Some, Stands, sym, Token, up_to_nul, ℕ, ◌++◌, ◌∙◌, ◌≡◌}
+use Rattle.proof_scanner.proofs.Common.{Account, Arrives, IsCutUpTo, IsPositionIn, Key, List, MayChoose, None, Option, Position, ScannerState, Some, Stands, Token, [], ap, append-nil, append_assoc, false, first_position, is_renewed, outside_key, position_after, position_append, refl, sym, up_to_nul, ℕ, ◌++◌, ◌∙◌, ◌≡◌}
 use Rattle.defs_token.specs.Account.{first_account}
 use Rattle.defs_token.specs.Cut.{spelled}
 use Rattle.proof_scanner.proofs.Cut.RowPositions.{row_position, spelled_before}

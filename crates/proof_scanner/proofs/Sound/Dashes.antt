@@ -1,5 +1,5 @@
 -- The function of the model that reads a dash: what holds where it begins holds between two fetches after it.
-use Rattle.proof_scanner.proofs.Common.{[], after, allow_key, ap, AreLevels, Arrives, At, begins_entry, blanks_and_comment, Bool, chained, check_block_entry, check_dash, checked, columns, dash_may_precede, ends_at, eqb-true, false, Fault, fetch_block_entry, gives_dash, has_open_level, Held, Holds, if◌then◌else◌, in_flow, Indent, inl, inr, is_at_break_or_flow, is_at_gap, is_blank, is_blank_or_breakz, is_break, is_deeper, is_empty, is_in_column, is_on_line, is_one_of, leading, lexed, line_past, List, No, None, not, not-false, not_ended, Ok, on_held, opened, past, past_blanks_and_comment, past_comment, past_line_rest, peek, placed, Position, position_after, push, put, refl, remove_implicit_key, Result, roll_entry, roll_indent, roll_one_col_indent, same_break, ScannerState, skip_indicator, skip_spaces, slice_index, space, Stands, start_if, subst, sym, Tok, Token, token, top_needs_block_end, tried, true, try_held, went, with_top, Yes, ℕ, ◌&&◌, ◌++◌, ◌==◌, ◌>>=◌, ◌||◌, ◌∙◌, ◌∷◌, ◌≡◌, ◌⊎◌}
+use Rattle.proof_scanner.proofs.Common.{AreLevels, Arrives, At, Bool, Fault, Held, Holds, Indent, List, No, None, Ok, Position, Result, ScannerState, Stands, Tok, Token, Yes, [], after, allow_key, ap, begins_entry, blanks_and_comment, chained, check_block_entry, check_dash, checked, columns, dash_may_precede, ends_at, eqb-true, false, fetch_block_entry, gap, gives_dash, has_open_level, if◌then◌else◌, in_flow, inl, inr, is_at_break_or_flow, is_at_gap, is_blank, is_blank_or_breakz, is_break, is_deeper, is_empty, is_in_column, is_on_line, is_one_of, leading, lexed, line_past, not, not-false, not_ended, on_held, opened, past, past_blanks_and_comment, past_comment, past_line_rest, peek, placed, position_after, push, put, refl, remove_implicit_key, roll_entry, roll_indent, roll_one_col_indent, same_break, skip_indicator, skip_spaces, slice_index, space, start_if, subst, sym, token, top_needs_block_end, tried, true, try_held, went, with_top, ℕ, ◌&&◌, ◌++◌, ◌==◌, ◌>>=◌, ◌||◌, ◌∙◌, ◌∷◌, ◌≡◌, ◌⊎◌}
 use Rattle.yaml_chars.specs.Class.{is_break as is_break_here, is_flow as is_flow_here}
 use Rattle.yaml_tokens.specs.declared.problem.Problem.TheVariants as problem
 use Rattle.model_scanner.specs.State.{after as after_first}
@@ -10,9 +10,10 @@ use Rattle.proof_scanner.proofs.Cut.Blocks.{entry_from, key_removed}
 use Rattle.proof_scanner.proofs.Sound.Arrivals.{first_not_right}
 use Rattle.proof_scanner.proofs.Sound.Blanks.{line_rest_cut, line_rest_fills, line_rest_in_line, past_rest_is_clear, found_in, past_rest, rest_read, none_skipped}
 use Rattle.proof_scanner.proofs.Sound.Indicated.{past_one, indicator_end}
-use Rattle.proof_scanner.proofs.Sound.OutsidePieces.{read_outside, line_free, none_open, spaces_in_line, started_tokens, begun_after, with_start}
+use Rattle.proof_scanner.proofs.Sound.OutsidePieces.{read_outside, line_free, none_open, started_tokens, begun_after, with_start}
 use Rattle.proof_scanner.proofs.Sound.Rolled.{RollsTo, rolls_to, OpensOne, opens_one, top_closed}
 use Rattle.proof_scanner.proofs.Sound.Sides.{ArrivesBy, ArrivesOutside, ArrivesInside, arrives_side}
+use Rattle.proof_scanner.proofs.Sound.Reads.{reads_before_none}
 
 -- ---- what the model checks
 
@@ -100,32 +101,16 @@ pub dash_stands : (text more : List ℕ) (t : ScannerState) (a : ArrivesBy text 
     (i : ℕ) (ds : List Indent) → columns i ds ≡ opened t.held.position.col (columns t.held.indent t.held.indents) → AreLevels i ds → has_open_level ds ≡ is_at_break_or_flow (past_blanks_and_comment more) →
     Stands text (dash_end t more ds i (with_start Tok.block_sequence_start t))
 dash_stands text more t a flow keys e gap allowed apart i ds columns_are levels awaits =
-    read_outside text t (dash_end t more ds i (with_start Tok.block_sequence_start t)) a (45 ∷ []) more Tok.block_entry (begun_after t.held.position a.site.blocks) (record {
-      is_solid = refl;
+    read_outside text t (dash_end t more ds i (with_start Tok.block_sequence_start t)) a (45 ∷ []) more (blanks_and_comment more) Tok.block_entry (begun_after t.held.position a.site.blocks) _ refl
+    (reads_before_none t _ _ (45 ∷ []) more (blanks_and_comment more) refl e (line_rest_cut more) (line_rest_fills more) (line_rest_in_line more) refl (dash_ends t.held.position more)
+    refl refl (ap (opened t.held.position.col) a.blocks_are ∙ sym columns_are) (sym awaits) levels a.was_adjacent (refl, refl, refl))
+    (record { line_is = (inl refl, refl, tt); no_key = refl; flow_is = flow; keys_are = ap (with_top None) keys }) (record {
       is_piece = (refl, gap, refl);
       stands = rw (a.is_indented (ap is_empty e), apart) refl;
       after_is = ap (λ l. line_past (is_in_column t.held.position.col bs) t.held.position bs gives_dash false l) (line_free t.held.key_allowed t.rest a.line_here allowed a.line_is);
       begun = refl;
       begins_none = refl;
       tokens_are = tokens;
-      ends = record {
-        no_key = refl;
-        cut = e;
-        separation = blanks_and_comment more;
-        is_rest = line_rest_cut more;
-        is_filled = line_rest_fills more;
-        position_is = dash_ends t.held.position more;
-        blocks_are = ap (opened t.held.position.col) a.blocks_are ∙ sym columns_are;
-        awaits_is = sym awaits;
-        are_levels = levels;
-        read_on = tt;
-        has_no_tabs = inr (spaces_in_line (opened t.held.position.col bs) (is_at_break_or_flow (past_blanks_and_comment more)) (blanks_and_comment more) (line_rest_in_line more));
-        is_leading = λ b r h. sym (ap not (line_rest_in_line more));
-        line_is = (inl refl, refl, tt);
-        flow_is = flow;
-        keys_are = ap (with_top None) keys;
-        unchanged = (refl, refl, refl);
-      };
     })
   where
     bs : List ℕ
@@ -142,17 +127,13 @@ dash_stands text more t a flow keys e gap allowed apart i ds columns_are levels 
 
 -- ---- the function
 
--- what the model does after the dash and the start of a sequence
-abbrev pub entry_on : ScannerState → Result ScannerState Fault
-entry_on v =
-    lexed (space Yes v.rest v.held.position) v.held check_dash >>= λ w.
-    skip_spaces No w >>= λ x.
-    try_held remove_implicit_key (roll_entry x) >>= λ y.
-    Ok (on_held (λ s. push s.position Tok.block_entry (allow_key true s)) y)
-
--- the same after blanks and a comment
+-- what the model does after the dash, the start of a sequence, and blanks and a comment
 abbrev pub entry_then : ScannerState → Result ScannerState Fault
 entry_then x = try_held remove_implicit_key (roll_entry x) >>= λ y. Ok (on_held (λ s. push s.position Tok.block_entry (allow_key true s)) y)
+
+-- the same before them
+abbrev pub entry_on : ScannerState → Result ScannerState Fault
+entry_on v = lexed (space Yes v.rest v.held.position) v.held check_dash >>= λ w. skip_spaces No w >>= entry_then
 
 dash_outside : (text more : List ℕ) (t : ScannerState) (a : ArrivesBy text t [] (None ∷ []) []) → t.held.flow ≡ [] → t.held.keys ≡ None ∷ [] → t.rest ≡ 45 ∷ more → is_at_gap more ≡ true → t.held.key_allowed ≡ true → IsDeep t.held →
     Holds (Stands text) (entry_from t t)

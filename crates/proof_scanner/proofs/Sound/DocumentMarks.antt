@@ -1,5 +1,5 @@
 -- The functions of the model that read document markers and directives keep what holds where they begin.
-use Rattle.proof_scanner.proofs.Common.{[], and_false, and_parts, another, ap, Arrives, begin_line, begins_free_line, begins_line, begins_with, blanks_and_comment, Bool, chained, check_document_end, Directive, directive_of, directives_end, drop, either, eqb-true, false, fetch_directive, fetch_document_end, fetch_document_marker, first_break, has_break, has_no_break, has_no_nul, has_tab_within, HasFirst, Held, Holds, if◌then◌else◌, is_at_gap, is_before_line_feed, is_break, is_breakz, is_empty, is_indented_by_spaces, is_renewed, is_required, IsDirectiveRead, IsPiece, IsReadOn, last_line, least_column, line_is_done, List, may_precede, no_nul_after, None, not, Ok, on_held, or_true, past, past_blanks_and_comment, past_line_rest, peek, Position, position_after, position_append, previous_by, push, read, read_as, refl, refused, reserved, ScannerState, skip_indicator, Some, split, split_by, Stands, subst, suc, sym, tag_declaration, take, Tok, token_of, top_key, tried, true, version, went, whole_directive, without_break, zero, ℕ, ◌++◌, ◌==◌, ◌||◌, ◌∙◌, ◌∷◌, ◌≡◌}
+use Rattle.proof_scanner.proofs.Common.{Arrives, Bool, Directive, HasFirst, Held, Holds, IsDirectiveRead, IsPiece, IsReadOn, List, None, Ok, Position, ScannerState, Some, Stands, Tok, [], and_false, and_parts, another, ap, arith, begin_line, begins_free_line, begins_line, begins_with, blanks_and_comment, chained, check_document_end, directive_of, directives_end, either, eqb-true, false, fetch_directive, fetch_document_end, fetch_document_marker, first_break, gap, has_break, has_no_break, has_no_nul, has_tab_within, if◌then◌else◌, is_at_gap, is_before_line_feed, is_break, is_breakz, is_empty, is_indented_by_spaces, is_renewed, is_required, last_line, least_column, line_is_done, may_precede, nat_tests, no_nul_after, not, on_held, or_true, past, past_blanks_and_comment, past_line_rest, peek, position_after, position_append, previous_by, push, read, read_as, refl, refused, skip_indicator, split, split_by, subst, suc, sym, take, token_of, top_key, tried, true, went, whole_directive, zero, ℕ, ◌++◌, ◌==◌, ◌||◌, ◌∙◌, ◌∷◌, ◌≡◌}
 use Rattle.defs_token.specs.Step.{directive as after_directive}
 use Rattle.model_scanner.specs.Machine as machine
 use Rattle.model_scanner.specs.Directive.{directive}
@@ -22,22 +22,7 @@ start_read more p = record { tok = Tok.document_start; piece = 45 ∷ 45 ∷ 45 
 
 pub start_is_read : (t : ScannerState) (more : List ℕ) (p : Position) → p ≡ t.held.position → t.rest ≡ 45 ∷ 45 ∷ 45 ∷ more → is_at_gap more ≡ true → t.held.position.col ≡ 0 → IsRead t (start_read more p)
 unfolding is_break
-start_is_read t more p same e gap col = record {
-  token = start_token;
-  at_margin = col;
-  cut = e;
-  is_solid = refl;
-  in_line = refl;
-  is_filled = refl;
-  end_is = ap (λ q. past (past (past q))) same ∙ three_past t.held.position 45 more refl;
-  is_piece = λ a column closed. ((refl, column, gap, closed), refl);
-  precedes = λ fl bs. refl;
-  no_tabs = λ bs b. none_indents another bs b [] refl;
-  leads = λ some. refl;
-  read_on = λ q. tt;
-  not_free = refl;
-  not_renewed = refl;
-}
+start_is_read t more p same e gap col = assumption (start_token, ap (λ q. past (past (past q))) same ∙ three_past t.held.position 45 more refl)
 
 -- `---`
 pub document_start_keeps : (text more : List ℕ) (t : ScannerState) → Arrives text t → t.rest ≡ 45 ∷ 45 ∷ 45 ∷ more → is_at_gap more ≡ true → t.held.position.col ≡ 0 → Holds (Stands text) (fetch_document_marker Tok.document_start t)
@@ -63,28 +48,13 @@ end_is_read t more p same e gap col done =
     let g : List ℕ = blanks_and_comment more in
     let r : List ℕ = past_blanks_and_comment more in
     let quiet : has_break g ≡ false = ap not (line_rest_in_line more) in
-    record {
-      token = end_token;
-      at_margin = col;
-      cut = e ∙ ap (λ l. 46 ∷ 46 ∷ 46 ∷ l) (line_rest_cut more);
-      is_solid = refl;
-      in_line = refl;
-      is_filled = line_rest_fills more;
-      end_is = ap (λ q. past_line_rest (past (past (past q))) more) same ∙ (ap (λ q. position_after q g []) (three_past t.held.position 46 (g ++ r) refl) ∙ same_in_line (position_after t.held.position (46 ∷ 46 ∷ 46 ∷ []) (g ++ r)) g [] r (line_rest_in_line more));
-      is_piece = λ a column closed. ((refl, column, subst (λ l. is_at_gap l ≡ true) (line_rest_cut more) gap, closed), refl);
-      precedes = λ fl bs. done;
-      no_tabs = λ bs b. none_indents another bs b g quiet;
-      leads = λ some. sym quiet;
-      read_on = λ q. tt;
-      not_free = quiet;
-      not_renewed = refl;
-    }
+    let place : past_line_rest (past (past (past p))) more ≡ position_after (position_after t.held.position (46 ∷ 46 ∷ 46 ∷ []) (g ++ r)) g r =
+    ap (λ q. past_line_rest (past (past (past q))) more) same ∙ (ap (λ q. position_after q g []) (three_past t.held.position 46 (g ++ r) refl) ∙ same_in_line (position_after t.held.position (46 ∷ 46 ∷ 46 ∷ []) (g ++ r)) g [] r (line_rest_in_line more)) in
+    let no_tabs : (bs : List ℕ) (b : Bool) → is_indented_by_spaces another bs b g ≡ true = λ bs b. none_indents another bs b g quiet in
+    assumption (end_token, e ∙ ap (λ l. 46 ∷ 46 ∷ 46 ∷ l) (line_rest_cut more), line_rest_fills more, place, subst (λ l. is_at_gap l ≡ true) (line_rest_cut more) gap, no_tabs, sym quiet)
 
 done_there : (more : List ℕ) → has_no_nul more ≡ true → begins_with 35 more ≡ false → is_breakz (peek (past_blanks_and_comment more)) ≡ true → line_is_done (blanks_and_comment more ++ past_blanks_and_comment more) ≡ true
-done_there more clean hash ends =
-    let g : List ℕ = blanks_and_comment more in
-    let r : List ℕ = past_blanks_and_comment more in
-    is_done g r (line_rest_fills more) (no_break_alike g (line_rest_in_line more)) (at_end_of r ends) (no_nul_after g r (subst (λ l. has_no_nul l ≡ true) (line_rest_cut more) clean)) (subst (λ l. begins_with 35 l ≡ false) (line_rest_cut more) hash)
+done_there more clean hash ends = grind (arith, nat_tests, blanks_and_comment, is_done, line_rest_fills, no_break_alike, line_rest_in_line, at_end_of, no_nul_after, line_rest_cut, begins_with, eqb-true)
 
 -- the state after the marker
 abbrev pub marked : ScannerState → Held → (rest : List ℕ) → ScannerState
@@ -134,47 +104,24 @@ no_tab_there zero = refl
 no_tab_there (suc n) = refl
 
 break_has : (next : List ℕ) → ends_line next ≡ true → is_empty (next_line next) ≡ false → true ≡ has_break (first_break next)
-break_has [] h some = absurd (cc some)
-break_has (c ∷ r) h some = by (is_before_line_feed c r)
-  where
-    by : (b : Bool) → true ≡ has_break (if b then c ∷ take 1 r else c ∷ [])
-    by true = rw h refl
-    by false = rw h refl
+break_has a h b = grind (arith, nat_tests, has_break, eqb-true)
 
 -- its own break does not let a key begin
 no_second : (next : List ℕ) → begins_free_line after_directive (first_break next) ≡ false
 unfolding is_break
-no_second [] = refl
-no_second (c ∷ r) = by (is_before_line_feed c r) r refl
-  where
-    by : (b : Bool) (r : List ℕ) → is_before_line_feed c r ≡ b → has_break (without_break (if b then c ∷ take 1 r else c ∷ [])) ≡ false
-    by false r e = refl
-    by true [] e = refl
-    by true (d ∷ r) e = rw e refl
+no_second a = grind (arith, nat_tests, has_break, eqb-true)
 
 first_whole : (next : List ℕ) → is_empty (next_line next) ≡ false → HasFirst (first_break next) (next_line next)
-first_whole [] some = absurd (cc some)
-first_whole (c ∷ r) some = by (is_before_line_feed c r) r refl
-  where
-    by : (b : Bool) (r : List ℕ) → is_before_line_feed c r ≡ b → HasFirst (if b then c ∷ take 1 r else c ∷ []) (if b then drop 1 r else r)
-    by false r e = e
-    by true [] e = absurd (cc e)
-    by true (d ∷ r) e = refl
+first_whole a b = grind (arith, nat_tests, eqb-true)
 
 directive_token : (d : Directive) → IsDocumentToken (token_of d)
-directive_token (version major minor) = record { act = refl; begun = refl; shown = λ s p n. refl; lines = λ c p. refl; awaits_inside = λ bs b n. refl; awaits_outside = λ bs b n. and_false b; before = refl }
-directive_token (tag_declaration handle prefix) = record { act = refl; begun = refl; shown = λ s p n. refl; lines = λ c p. refl; awaits_inside = λ bs b n. refl; awaits_outside = λ bs b n. and_false b; before = refl }
-directive_token reserved = record { act = refl; begun = refl; shown = λ s p n. refl; lines = λ c p. refl; awaits_inside = λ bs b n. refl; awaits_outside = λ bs b n. and_false b; before = refl }
+directive_token d = grind (arith, and_false)
 
 directive_before : (d : Directive) → previous_by (token_of d) ≡ after_directive
-directive_before (version major minor) = refl
-directive_before (tag_declaration handle prefix) = refl
-directive_before reserved = refl
+directive_before a = grind (arith, nat_tests, eqb-true)
 
 directive_precedes : (d : Directive) (fl : Bool) (bs piece next : List ℕ) → may_precede fl bs (token_of d) piece next ≡ true
-directive_precedes (version major minor) fl bs piece next = refl
-directive_precedes (tag_declaration handle prefix) fl bs piece next = refl
-directive_precedes reserved fl bs piece next = refl
+directive_precedes a fl bs piece b = grind (arith, nat_tests, eqb-true)
 
 abbrev pub directive_read : (line next : List ℕ) → Directive → Position → lines.Read
 directive_read line next d p = record { tok = token_of d; piece = 37 ∷ line; gap = first_break next; rest = next_line next; end = position_after p ((37 ∷ line) ++ first_break next) (next_line next); leading = true }

@@ -1,5 +1,5 @@
 -- The block collections that end where a piece begins: the levels that go on are those of the row, and each end has its token.
-use Rattle.proof_scanner.proofs.Common.{[], ap, append-nil, append_assoc, AreCollections, AreLevels, arith, block_end, Bool, columns, end_level, ends_at, false, has_open_level, if◌then◌else◌, Indent, is_deeper, is_empty, IsTopLevel, length, Levels, List, nat_lt, nat_tests, not, not_ended, Position, put, refl, replicate, subst, suc, sym, Token, true, unrolled, ℕ, ◌&&◌, ◌++◌, ◌+◌, ◌-◌, ◌∙◌, ◌∷◌, ◌≡◌}
+use Rattle.proof_scanner.proofs.Common.{AreCollections, AreLevels, Bool, Indent, IsTopLevel, Levels, List, Position, Token, [], ap, append-nil, append_assoc, arith, block_end, columns, end_level, ends_at, false, has_open_level, if◌then◌else◌, is_deeper, is_empty, length, nat_lt, nat_tests, not, not_ended, put, refl, replicate, subst, suc, sym, true, unrolled, ℕ, ◌&&◌, ◌++◌, ◌+◌, ◌-◌, ◌∙◌, ◌∷◌, ◌≡◌}
 use Rattle.proof_scanner.proofs.Sound.StreamEnds.{shorter}
 
 -- what goes on, of levels whose columns are these, and the tokens with the ends
@@ -19,8 +19,7 @@ no_ends : (p : Position) (bs : List ℕ) (ts : List Token) → ts ≡ ts ++ ends
 no_ends p bs ts = let none : length bs - length bs ≡ 0 = omega arith in sym (ap (λ n. ts ++ replicate n (put p block_end)) none ∙ append-nil ts)
 
 deeper_now : (col i : ℕ) (b : Bool) → nat_lt (col + 1) i ≡ b → nat_lt col (i - 1) ≡ b
-deeper_now col i true e = grind (arith, nat_tests, e)
-deeper_now col i false e = grind (arith, nat_tests, e)
+deeper_now col i a e = grind arith
 
 -- one end more
 one_end : (p : Position) (n : ℕ) (cs : List ℕ) (ts us : List Token) → us ≡ (ts ++ put p block_end ∷ []) ++ ends_at p cs (not_ended p.col cs) → us ≡ ts ++ ends_at p (n ∷ cs) (not_ended p.col cs)
@@ -57,14 +56,8 @@ collections_end p i (d ∷ ds) ts a =
           tokens_are = no_ends p ((i - 1) ∷ cs) ts ∙ ap (λ x. ts ++ ends_at p ((i - 1) ∷ cs) x) (sym stays);
         }
 
-levels_of_collections : (i : ℕ) (ds : List Indent) → AreCollections i ds → (AreLevels i ds) × (has_open_level ds ≡ false)
-levels_of_collections i [] a = (a, refl)
-levels_of_collections i (d ∷ ds) a = ((subst (λ b. IsTopLevel b i d.indent ds) (sym a.0) a.1, a.2), ap not a.0)
-
 alone : (p : Position) (cols : List ℕ) (awaits : Bool) (ts : List Token) (u : Levels) → (awaits && is_deeper p.col cols) ≡ false → EndedAlone p cols ts u → Ended p cols awaits ts u
-alone p cols awaits ts u e h =
-    let l = levels_of_collections u.indent u.indents h.are in
-    record { columns_are = h.columns_are; open_is = e ∙ sym l.1; are_levels = l.0; tokens_are = h.tokens_are }
+alone p cols awaits ts u e h = grind arith
 
 -- Outside flow the levels that are deeper than a position end there.
 pub levels_end : (p : Position) (i : ℕ) (ds : List Indent) (ts : List Token) → AreLevels i ds → Ended p (columns i ds) (has_open_level ds) ts (unrolled (p.col + 1) p i ds ts)

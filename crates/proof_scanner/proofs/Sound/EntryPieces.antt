@@ -1,97 +1,18 @@
--- A piece in flow with which its entry goes on, and after which no key of the entry is open: what holds where it begins holds between two fetches after it.
-use Rattle.proof_scanner.proofs.Common.{[], Account, act_of, ap, AreLevels, AreNumbered, arith, awaits_past, before_by, before_past, BeginsButForKey, begun_by, begun_inside, Bool, chosen, colon_of, columns, entries_past, Entry, false, FlowLevel, has_break, has_no_nul, has_open_level, HasHadHere, HasNoTabs, is_empty, is_renewed, is_separation, IsAdjacent, IsCarriedOn, IsEntryOf, IsLeading, IsPiece, IsReadOn, IsWritten, Key, least_column, length, List, may_stand, MayChoose, nat_le, no_nul_after, None, NotBefore, Option, other, outside_key, pair_position, Position, position_after, previous_by, put, refl, ScannerState, seen, shown_position, Site, site_in, site_past, SoFar, Some, Stands, Step, subst, suc, sym, takes_pair, Tok, Token, tokens_up_to, true, ℕ, ◌++◌, ◌∙◌, ◌∷◌, ◌≡◌, ◌≤◌}
-use Rattle.proof_scanner.proofs.Cut.Positions.{index_after, not_before_after, not_before_then}
-use Rattle.proof_scanner.proofs.Cut.Nodes.{IsDeep, adjacent_other}
-use Rattle.proof_scanner.proofs.Known.Read.{keyless, knows_inside}
-use Rattle.proof_scanner.proofs.Sound.Arrivals.{some_rest, deep_enough, completes_at, carried_at, not_none}
-use Rattle.proof_scanner.proofs.Sound.Around.{line_taken, unbroken_around, one_around, may_around, open_around}
-use Rattle.proof_scanner.proofs.Sound.Inserts.{among}
-use Rattle.proof_scanner.proofs.Sound.NodeTokens.{past_step}
-use Rattle.proof_scanner.proofs.Sound.NodesInside.{not_keyed}
-use Rattle.proof_scanner.proofs.Sound.StepsInside.{Piece, IsHere, is_written, at, past, piece_completes, piece_carried}
-use Rattle.proof_scanner.proofs.Sound.Sides.{with_entries, ArrivesBy, stands_by}
+-- A piece in flow with which its entry goes on, and before and after which no key of the entry waits: `?`, a colon without a key, and a line for the document. What holds where it begins holds between two fetches after it.
+use Rattle.proof_scanner.proofs.Sound.NodeTokens.{past_step, keys_along, not_keyed, had_as_it_was, no_had}
+use Rattle.proof_scanner.proofs.Sound.InFlow as flow
+use Rattle.proof_scanner.proofs.Common.{Act, AreNumbered, Bool, Colon, Entry, FlowLevel, Had, HasHadHere, IsEntryOf, IsPiece, Key, Line, List, None, Option, Pair, Position, ScannerState, Site, Some, Stands, Step, Tok, Token, [], act_of, ap, arith, begun_by, begun_inside, colon_of, columns, entries_by, entries_past, entry_by, false, had_by, has_break, is_renewed, key_end, least_column, length, length-append, may_stand, nat_le, pair_position, pop, position_after, previous_by, put, refl, seen, shown_position, site_here, spelled, suc, sym, takes_pair, tokens_at, tokens_up_to, true, with_had, with_keys, ℕ, ◌++◌, ◌∙◌, ◌∷◌, ◌≡◌}
+use Rattle.proof_scanner.proofs.Cut.Nodes.{IsDeep}
+use Rattle.proof_scanner.proofs.Known.Read.{keyless}
+use Rattle.proof_scanner.proofs.Sound.Around.{line_taken}
+use Rattle.proof_scanner.proofs.Sound.Arrivals.{deep_enough, numbered_around, numbered_more}
+use Rattle.proof_scanner.proofs.Sound.Reads.{Reads}
+use Rattle.proof_scanner.proofs.Sound.Sides.{with_entries, ArrivesBy}
+use Rattle.proof_scanner.proofs.Sound.Inserts.{among, first_among, keys_first}
 
 -- where a piece begins deep enough, the least column is not right of it
 pub low_enough : (text : List ℕ) (t : ScannerState) (f : FlowLevel) (fs : List FlowLevel) (ks : List (Option Key)) (es : List Entry) (a : ArrivesBy text t (f ∷ fs) ks es) → IsDeep t.held → nat_le (least_column a.site.blocks a.site.awaits) t.held.position.col ≡ true
-low_enough text t f fs ks es a deep =
-    ap (λ bs. nat_le (least_column bs a.site.awaits) t.held.position.col) a.blocks_are ∙
-    (ap (λ b. nat_le (least_column (columns t.held.indent t.held.indents) b) t.held.position.col) a.awaits_is ∙ deep_enough t.held.position.col t.held.indent t.held.indents a.are_levels deep)
-
--- the site after a piece at a site
-abbrev pub site_inside : Site → (piece : List ℕ) → Tok → (next : List ℕ) → Site
-site_inside x piece tok next = site_past true x piece tok next x.blocks
-
--- What was read from one state to another: a piece at a site, and a separation after it; and what the scanner holds then, with the innermost flow level and entry.
-pub record ReadInside (text : List ℕ) (t u : ScannerState) (f g : FlowLevel) (fs : List FlowLevel) (k : Option Key) (ks : List (Option Key)) (e e2 : Entry) (es : List Entry) (a : ArrivesBy text t (f ∷ fs) (k ∷ ks) (e ∷ es)) (piece next : List ℕ) (tok : Tok) : Type 0 where
-  pub is_solid : is_empty piece ≡ false
-  pub cut : t.rest ≡ piece ++ next
-  pub separation : List ℕ
-  pub is_rest : next ≡ separation ++ u.rest
-  pub is_filled : is_separation false separation u.rest ≡ true
-  pub position_is : u.held.position ≡ position_after (position_after t.held.position piece next) separation u.rest
-  pub columns_are : columns t.held.indent t.held.indents ≡ columns u.held.indent u.held.indents
-  pub awaits_is : awaits_past true tok a.site.blocks a.site.awaits next ≡ has_open_level u.held.indents
-  pub are_levels : AreLevels u.held.indent u.held.indents
-  pub read_on : IsReadOn (previous_by tok) (position_after t.held.position piece next) separation u.rest
-  pub has_no_tabs : HasNoTabs (site_inside (site_in true (act_of tok) t.held.position a.site) piece tok next) separation u.rest
-  pub is_leading : IsLeading u.held.leading (site_inside (site_in true (act_of tok) t.held.position a.site) piece tok next) separation u.rest
-  pub entry_is : IsEntryOf g None e2
-  pub has_had : HasHadHere u.held.key_allowed (is_renewed (previous_by tok) separation) None e2.had
-  pub flow_is : u.held.flow ≡ g ∷ fs
-  pub keys_are : u.held.keys ≡ None ∷ ks
-  pub are_numbered : AreNumbered (length u.held.tokens) (None ∷ ks)
-  pub before_is : before_by (previous_by tok) ≡ other
-  pub unchanged : (u.held.adjacent_value_at ≡ t.held.adjacent_value_at) × (u.held.started ≡ t.held.started) × (u.held.ended ≡ t.held.ended)
-
--- later in the text
-pub later_after : (p : Position) (piece next separation rest : List ℕ) → NotBefore p (position_after (position_after p piece next) separation rest)
-later_after p piece next separation rest = not_before_then p (position_after p piece next) (position_after (position_after p piece next) separation rest) (not_before_after p piece next) (not_before_after (position_after p piece next) separation rest)
-
--- If each choice after it is one of a row, what holds between two fetches holds after it, with this account.
-pub read_inside : (text : List ℕ) (t u : ScannerState) (f g : FlowLevel) (fs : List FlowLevel) (k : Option Key) (ks : List (Option Key)) (e e2 : Entry) (es : List Entry) (a : ArrivesBy text t (f ∷ fs) (k ∷ ks) (e ∷ es)) (piece next : List ℕ) (tok : Tok) →
-    (r : ReadInside text t u f g fs k ks e e2 es a piece next tok) → IsWritten (with_entries a.site a.line (e ∷ es)) (keyless a.separation piece tok) next →
-    ((strict c : Bool) (cs : List Bool) → MayChoose strict c (outside_key es ks) u.held.position u.rest →
-    let b : Account = with_entries (site_inside (site_in true (act_of tok) t.held.position a.site) piece tok next) a.line (e2 ∷ es) in SoFar strict text next (chosen c cs (None ∷ ks) b) (tokens_up_to (chosen c cs (None ∷ ks) b) (None ∷ ks) u.held.tokens)) →
-    IsCarriedOn text next u.rest (None ∷ ks) (with_entries (site_inside (site_in true (act_of tok) t.held.position a.site) piece tok next) a.line (e2 ∷ es)) →
-    Stands text u
-read_inside text t u f g fs k ks e e2 es a piece next tok r written rows carried =
-    let x : Site = site_in true (act_of tok) t.held.position a.site in
-    let after : Site = site_inside x piece tok next in
-    let i = index_after (position_after t.held.position piece next) r.separation u.rest in
-    let j = index_after t.held.position piece next in
-    let there : u.held.position.index ≡ (position_after (position_after t.held.position piece next) r.separation u.rest).index = ap (λ p. p.index) r.position_is in
-    let later : NotBefore t.held.position u.held.position = subst (λ p. NotBefore t.held.position p) (sym r.position_is) (later_after t.held.position piece next r.separation u.rest) in
-    let some : is_empty t.rest ≡ false = some_rest t.rest piece next r.cut r.is_solid in
-    let long : 1 ≤ length piece = not_none piece r.is_solid in
-    let was = a.was_adjacent in
-    let same = r.unchanged.0 in
-    stands_by text u (g ∷ fs) (None ∷ ks) (with_entries after a.line (e2 ∷ es)) r.flow_is r.keys_are (record {
-      separation = r.separation;
-      is_clean = no_nul_after r.separation u.rest (subst (λ x. has_no_nul x ≡ true) r.is_rest (no_nul_after piece next (subst (λ x. has_no_nul x ≡ true) r.cut a.is_clean)));
-      is_filled = r.is_filled;
-      position_is = r.position_is;
-      blocks_are = a.blocks_are ∙ r.columns_are;
-      awaits_is = r.awaits_is;
-      are_levels = r.are_levels;
-      has_no_tabs = r.has_no_tabs;
-      is_leading = r.is_leading;
-      read_on = r.read_on;
-      one_each = a.one_each;
-      are_entries = (r.entry_is, r.has_had, a.are_entries.2);
-      line_is = line_taken text t f fs k ks e es a;
-      is_open = open_around text t f fs k ks e es a some u.held.position u.rest later (position_after t.held.position piece next) (not_before_after t.held.position piece next);
-      no_key = a.no_key;
-      are_numbered = r.are_numbered;
-      was_adjacent = λ _. subst (λ b. IsAdjacent (before_past b r.separation) u.held.position u.held.adjacent_value_at u.rest) (sym r.before_is) (adjacent_other u.held.position u.held.adjacent_value_at u.rest (omega (arith, i, j, there, long, was, same)));
-      adjacent_before = omega (arith, i, j, there, was, same);
-      started = r.unchanged.1 ∙ a.started;
-      going = r.unchanged.2 ∙ a.going;
-      carries = λ cs key own must inside_flow more. subst (λ l. BeginsButForKey text l key.position (chosen false cs (None ∷ ks) (with_entries after a.line (e2 ∷ es)))) r.is_rest (carried cs key own must inside_flow more);
-      knows = knows_inside text t piece next tok r.cut u.held.position r.separation u.rest r.position_is r.is_rest f fs k ks e es a written;
-      completes = λ strict c cs may. subst (λ l. let b : Account = with_entries after a.line (e2 ∷ es) in SoFar strict text l (chosen c cs (None ∷ ks) b) (tokens_up_to (chosen c cs (None ∷ ks) b) (None ∷ ks) u.held.tokens)) r.is_rest (rows strict c cs may);
-    })
-
--- ---- the rows: a piece before which no key of the entry waits
+low_enough text t f fs ks es a deep = grind (arith, columns, deep_enough)
 
 -- the tokens of the step: the start of a single pair, and the token that the piece shows
 abbrev pub tokens_inside : Site → (piece : List ℕ) → Tok → (next : List ℕ) → Entry → List Token
@@ -99,64 +20,73 @@ tokens_inside x piece tok next e =
     let own : Position = pair_position (position_after x.position piece next) next in
     begun_inside (takes_pair e.kind e.pair) e.pair x.position own own (act_of tok) false e.had ++ (put (shown_position x piece tok next) tok ∷ [])
 
--- What is to be known of such a piece at a site.
-pub record GoesInside (text : List ℕ) (t u : ScannerState) (f : FlowLevel) (fs : List FlowLevel) (k : Option Key) (ks : List (Option Key)) (e e2 : Entry) (es : List Entry) (a : ArrivesBy text t (f ∷ fs) (k ∷ ks) (e ∷ es)) (piece next : List ℕ) (tok : Tok) (x : Site) : Type 0 where
-  pub in_line : has_break piece ≡ false
-  pub begun : begun_by tok ≡ []
-  pub is_piece : IsPiece (seen (with_entries a.site a.line (e ∷ es)) x a.separation) piece next None (shown_position x piece tok next) tok
-  pub stands : may_stand true a.site x a.separation piece tok next ≡ true
-  pub entry_past : (xs : List Entry) → entries_past x.position (is_renewed a.site.before a.separation) (act_of tok) [] false e xs ≡ Some (e2 ∷ xs)
-  pub colons : (n : ℕ) (p : Position) (ws : List Step) (last : List ℕ) →
-      let w : Step = record { separation = a.separation; piece = piece; shown = tok; key = false } in colon_of (suc n) p (w ∷ ws) last ≡ colon_of (suc n) (past_step p w ws last) ws last
-  pub tokens_are : u.held.tokens ≡ a.tokens ++ tokens_inside x piece tok next e
+-- where no key begins, it does not matter where a colon stands
+begun_alike : (single : Bool) (pair : Pair) (here p q own : Position) (k : Act) (h : Had) → begun_inside single pair here p own k false h ≡ begun_inside single pair here q own k false h
+begun_alike a pair b p q own d h = cc
 
-pub goes_inside : (text : List ℕ) (t u : ScannerState) (f g : FlowLevel) (fs : List FlowLevel) (k : Option Key) (ks : List (Option Key)) (e e2 : Entry) (es : List Entry) (a : ArrivesBy text t (f ∷ fs) (k ∷ ks) (e ∷ es)) (piece next : List ℕ) (tok : Tok) →
-    (r : ReadInside text t u f g fs k ks e e2 es a piece next tok) → GoesInside text t u f fs k ks e e2 es a piece next tok (site_in true (act_of tok) t.held.position a.site) →
-    Stands text u
-goes_inside text t u f g fs k ks e e2 es a piece next tok r n = read_inside text t u f g fs k ks e e2 es a piece next tok r (is_written d (here there)) (λ strict c cs may.
-    subst (λ p. let b : Account = with_entries (site_inside (site_in true (act_of tok) p a.site) piece tok next) a.line (e2 ∷ es) in SoFar strict text next (chosen c cs (None ∷ ks) b) (tokens_up_to (chosen c cs (None ∷ ks) b) (None ∷ ks) u.held.tokens)) (sym place)
-    (rows there strict c cs may))
-    (λ cs key own must inside_flow more. subst (λ p. BeginsButForKey text next key.position (chosen false cs (None ∷ ks) (with_entries (site_inside (site_in true (act_of tok) p a.site) piece tok next) a.line (e2 ∷ es)))) (sym place)
-    (piece_carried text key.position d (here there) (line_taken text t f fs k ks e es a)
-    (λ bs. carried_at text t (f ∷ fs) (k ∷ ks) (e ∷ es) a (piece ++ next) r.cut key own must refl some bs) cs))
-  where
-    place : t.held.position ≡ position_after a.site.position a.separation (piece ++ next)
-    place = a.position_is ∙ ap (λ x. position_after a.site.position a.separation x) r.cut
+-- what an entry and the open keys around it ask of the tokens
+pub numbered_then : (before after : List Token) (k : Option Key) (ks : List (Option Key)) (own : List Token) → after ≡ before ++ own → AreNumbered (length before) (k ∷ ks) → AreNumbered (length after) ks
+numbered_then before after k ks own e h =
+    let more = length-append before own in
+    let same = ap length e in
+    numbered_more (length before) (length after) ks (omega (arith, more, same)) (numbered_around (length before) k ks h)
 
-    there : GoesInside text t u f fs k ks e e2 es a piece next tok (site_in true (act_of tok) (position_after a.site.position a.separation (piece ++ next)) a.site)
-    there = subst (λ p. GoesInside text t u f fs k ks e e2 es a piece next tok (site_in true (act_of tok) p a.site)) place n
+-- the tokens of such a step, before a key around the entry has its colon
+module _ (text : List ℕ) (t : ScannerState) (f : FlowLevel) (fs : List FlowLevel) (k : Option Key) (ks : List (Option Key)) (e : Entry) (es : List Entry) (a : ArrivesBy text t (f ∷ fs) (k ∷ ks) (e ∷ es)) (piece next : List ℕ) (tok : Tok) (cut : t.rest ≡ piece ++ next) where
+  abbrev at_text : List ℕ → Site
+  at_text y = site_here true (position_after a.site.position a.separation (piece ++ y)) a.site
 
-    some : is_empty t.rest ≡ false
-    some = some_rest t.rest piece next r.cut r.is_solid
+  pub keyless_tokens : (l : Line) (xs : List Entry) (ws : List Step) (last : List ℕ) → spelled ws last ≡ next →
+      (let w : Step = keyless a.separation piece tok in tokens_up_to (with_entries a.site l (entry_by false k e ∷ xs)) (k ∷ ks) a.tokens (w ∷ ws) last ++ tokens_at a.site (at_text (spelled ws last)) w ws last l (entry_by false k e ∷ xs) ≡
+      with_keys 1 a.site.position (w ∷ ws) last a.site.blocks l xs ks (a.tokens ++ tokens_inside (site_here true t.held.position a.site) piece tok next e))
+  keyless_tokens l xs ws last h =
+      let w : Step = keyless a.separation piece tok in
+      let p : Position = a.site.position in
+      let x : Site = at_text (spelled ws last) in
+      let own : List Token = tokens_inside (site_here true t.held.position a.site) piece tok next e in
+      let single : Bool = takes_pair e.kind e.pair in
+      let past : Position = position_after x.position piece (spelled ws last) in
+      let there : Position = pair_position past (spelled ws last) in
+      let at_end : Colon = key_end tok past ws last in
+      let first : with_had (colon_of 0 p (w ∷ ws) last) single (had_by false k e.had) k a.tokens ≡ a.tokens =
+      rw (had_as_it_was k e.had) (no_had (colon_of 0 p (w ∷ ws) last) single e.had k a.tokens (not_keyed t.held.key_allowed (is_renewed a.site.before a.separation) k e.had a.are_entries.1)) in
+      let second : tokens_at a.site x w ws last l (entry_by false k e ∷ xs) ≡ own =
+      ap (λ y. y ++ (put (shown_position x piece tok (spelled ws last)) tok ∷ []))
+      (begun_alike single e.pair x.position (pair_position at_end.past at_end.next) there there (act_of tok) (had_by false k e.had) ∙ ap (λ y. begun_inside single e.pair x.position there there (act_of tok) false y) (had_as_it_was k e.had)) ∙
+      (ap (λ y. tokens_inside (at_text y) piece tok y e) h ∙ ap (λ q. tokens_inside (site_here true q a.site) piece tok next e) (sym (a.position_is ∙ ap (λ y. position_after p a.separation y) cut))) in
+      ap (λ y. with_keys 1 p (w ∷ ws) last a.site.blocks l xs ks y ++ tokens_at a.site x w ws last l (entry_by false k e ∷ xs)) first ∙
+      (ap (λ y. with_keys 1 p (w ∷ ws) last a.site.blocks l xs ks a.tokens ++ y) second ∙
+      sym (keys_first 1 p (w ∷ ws) last a.site.blocks l xs ks a.tokens own (first_among (length a.tokens) k ks (among (length a.tokens) (k ∷ ks) a.are_numbered)).1))
 
-    later : NotBefore t.held.position u.held.position
-    later = subst (λ p. NotBefore t.held.position p) (sym r.position_is) (later_after t.held.position piece next r.separation u.rest)
+module _ (text : List ℕ) (t u : ScannerState) (f g : FlowLevel) (fs : List FlowLevel) (k : Option Key) (ks : List (Option Key)) (e e2 : Entry) (es : List Entry) (a : ArrivesBy text t (f ∷ fs) (k ∷ ks) (e ∷ es)) (piece next : List ℕ) (tok : Tok) where
+  abbrev at_piece : Site
+  at_piece = site_here true t.held.position a.site
 
-    d : Piece
-    d = record {
-      step = record { site = a.site; line = a.line; entry = e; around = es; separation = a.separation; piece = piece; next = next; tok = tok; open_key = k; outer_keys = ks; tokens = a.tokens; past = u.held.position; rest = u.rest };
-      entry_after = e2;
-    }
+  -- What is to be known of such a piece; no colon of a key around the entry is this piece, and it opens or closes no collection.
+  pub record GoesInside (gap : List ℕ) : Type 0 where
+    pub flow_is : u.held.flow ≡ g ∷ fs
+    pub keys_are : u.held.keys ≡ None ∷ ks
+    pub entry_is : IsEntryOf g None e2
+    pub has_had : HasHadHere u.held.key_allowed (is_renewed (previous_by tok) gap) None e2.had
+    pub in_line : has_break piece ≡ false
+    pub begun : begun_by tok ≡ []
+    pub is_piece : IsPiece (seen (with_entries a.site a.line (e ∷ es)) at_piece a.separation) piece next None (shown_position at_piece piece tok next) tok
+    pub stands : may_stand true a.site at_piece a.separation piece tok next ≡ true
+    pub entry_past : (xs : List Entry) → entries_past t.held.position (is_renewed a.site.before a.separation) (act_of tok) [] false e xs ≡ Some (e2 ∷ xs)
+    pub colons : (n : ℕ) (p : Position) (ws : List Step) (last : List ℕ) → let w : Step = keyless a.separation piece tok in colon_of (suc n) p (w ∷ ws) last ≡ colon_of (suc n) (past_step p w ws last) ws last
+    pub tokens_are : u.held.tokens ≡ a.tokens ++ tokens_inside at_piece piece tok next e
 
-    here : GoesInside text t u f fs k ks e e2 es a piece next tok (at d) → IsHere d
-    here m = record {
-      begun = m.begun;
-      is_filled = subst (λ x. is_separation false a.separation x ≡ true) r.cut a.is_filled;
-      is_solid = r.is_solid;
-      is_piece = m.is_piece;
-      stands = m.stands;
-      no_key = not_keyed t.held.key_allowed (is_renewed a.site.before a.separation) k e.had a.are_entries.1;
-      entry_is = m.entry_past;
-      colons = m.colons;
-      are_among = among (length a.tokens) (k ∷ ks) a.are_numbered;
-      unbroken = λ strict c may. unbroken_around text t f fs k ks e es a some u.held.position u.rest later strict c may;
-      one_line = λ strict c may. one_around text t f fs k ks e es a some u.held.position u.rest later piece (λ _ _. m.in_line) strict c may;
-      may_before = λ strict c may. subst (λ x. MayChoose strict c (outside_key es ks) x (piece ++ next)) place
-          (subst (λ x. MayChoose strict c (outside_key es ks) t.held.position x) r.cut (may_around text t f fs k ks e es a some u.held.position u.rest later strict c may));
-    }
-
-    rows : GoesInside text t u f fs k ks e e2 es a piece next tok (at d) → (strict c : Bool) (cs : List Bool) → MayChoose strict c (outside_key es ks) u.held.position u.rest →
-        let b : Account = with_entries (site_inside (at d) piece tok next) a.line (e2 ∷ es) in SoFar strict text next (chosen c cs (None ∷ ks) b) (tokens_up_to (chosen c cs (None ∷ ks) b) (None ∷ ks) u.held.tokens)
-    rows m strict c cs may =
-        subst (λ ts. SoFar strict text next (past d c cs) (tokens_up_to (past d c cs) (None ∷ ks) ts)) (sym m.tokens_are)
-        (piece_completes text d (here m) (λ st b bs q. completes_at text t (f ∷ fs) (k ∷ ks) (e ∷ es) a (piece ++ next) (at d).position r.cut place st b bs q) strict c cs may)
+  pub goes_inside : (gap : List ℕ) → Reads t u (flow.flow_past text t u f fs k ks e es a piece next tok (None ∷ ks) (e2 ∷ es) t.held.position) piece next gap → GoesInside gap → Stands text u
+  goes_inside gap r n =
+      flow.steps_in_flow text t u f fs k ks e es a piece next tok (None ∷ ks) (e2 ∷ es) (g ∷ fs) gap r (assumption (n, a, line_taken text t f fs k ks e es a, numbered_then a.tokens u.held.tokens k ks (tokens_inside at_piece piece tok next e) n.tokens_are a.are_numbered)) (record {
+        is_piece = n.is_piece;
+        stands = n.stands;
+        choice = λ cs. false;
+        outer = pop;
+        bit = λ cs. false;
+        entry_past = λ cs. rw (n.begun, had_as_it_was k e.had) (n.entry_past (entries_by (pop cs) ks es));
+        tokens_are = λ cs l ws last h. keyless_tokens text t f fs k ks e es a piece next tok r.cut l (entries_by (pop cs) ks es) ws last h ∙
+            (keys_along (λ m. suc m) (λ m. suc m) (λ m. refl) (λ m. refl) 0 a.site.position (past_step a.site.position (keyless a.separation piece tok) ws last) (keyless a.separation piece tok) ws last
+            (λ m. n.colons m a.site.position ws last) a.site.blocks l (entries_by (pop cs) ks es) ks (a.tokens ++ tokens_inside at_piece piece tok next e) ∙
+            ap (λ ts. with_keys 1 (past_step a.site.position (keyless a.separation piece tok) ws last) ws last a.site.blocks l (entries_by (pop cs) ks es) ks ts) (sym n.tokens_are));
+      })

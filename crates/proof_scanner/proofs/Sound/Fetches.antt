@@ -1,6 +1,5 @@
 -- Each fetch what holds between two fetches, or ends the stream with a row of the text, if the function of each token it.
-use Rattle.proof_scanner.proofs.Common.{[], ap, Arrives, before_by, before_past, chained, either, false, Fares, fetch, fetch_content, fetch_here, fetch_next, fetch_token, FetchKeeps, first_position, has_no_nul, held_of, Holds, inl, inr, is_adjacent, is_document_marker, is_empty, IsAtEnd, IsPositionIn, IsRead, List, next_line, peek, position_after, refused, ScannerState, stale, Stands, subst, sym, true, try_held, weakened, ℕ, ◌&&◌, ◌==◌, ◌>>=◌, ◌∙◌, ◌≡◌, ◌⊎◌}
-use Rattle.model_scanner.specs.declared.kind.Collection.TheVariants.{Sequence, Mapping}
+use Rattle.proof_scanner.proofs.Common.{Arrives, Fares, FetchKeeps, Holds, IsAtEnd, IsPositionIn, IsRead, List, ScannerState, Stands, [], ap, before_by, before_past, chained, either, false, fetch, fetch_content, fetch_here, fetch_next, fetch_token, first_position, has_no_nul, held_of, inl, inr, is_adjacent, is_document_marker, is_empty, next_line, peek, position_after, refused, stale, subst, sym, true, try_held, weakened, ℕ, ◌&&◌, ◌==◌, ◌>>=◌, ◌∙◌, ◌≡◌, ◌⊎◌}
 use Rattle.model_scanner.specs.State.{after}
 use Rattle.proof_scanner.proofs.Cut.Nodes.{IsDeep}
 use Rattle.proof_scanner.proofs.Cut.Dispatch.{token_holds, content_holds}
@@ -27,24 +26,8 @@ use Rattle.proof_scanner.proofs.Sound.Values.{value_keeps}
 
 token_kept : (text : List ℕ) (t : ScannerState) → Arrives text t → is_empty t.rest ≡ false → IsDeep t.held → ((t.held.position.col == 0) && is_document_marker t.rest) ≡ false → Holds (Stands text) (fetch_token t)
 token_kept text t a some deep marker =
-    token_holds (Holds (Stands text)) t (is_adjacent (before_past (before_by a.base.site.before) a.separation)) a.is_clean a.is_solid (λ inside. sym (a.is_adjacent_here inside some)) marker (record {
-      anchor = λ kind more e. anchor_keeps text kind t more e deep a;
-      tag = λ more e. tag_keeps text t more e deep a;
-      plain = plain_keeps text t a deep;
-      quoted = λ quotes more e. quoted_keeps text quotes t more e deep a;
-      block = λ style more e o. block_keeps text style t more e o deep a;
-      dash = λ more e g. dash_keeps text more t a e g deep;
-      question = λ more e g. key_keeps text more t a e g deep;
-      colon = λ more e i. value_keeps text more t a e i deep;
-      open_bracket = λ more e. opening_keeps text more Sequence 91 opening_bracket t e deep a;
-      open_brace = λ more e. opening_keeps text more Mapping 123 opening_brace t e deep a;
-      close_bracket = λ more e. closing_keeps text more Sequence 93 closing_bracket t e deep a;
-      close_brace = λ more e. closing_keeps text more Mapping 125 closing_brace t e deep a;
-      comma = λ more e. comma_keeps text more t e deep a;
-      percent = λ more e. refused;
-      at_sign = λ more e. refused;
-      backtick = λ more e. refused;
-    }) some
+    token_holds (Holds (Stands text)) t (is_adjacent (before_past (before_by a.base.site.before) a.separation)) a.is_clean a.is_solid (λ inside. sym (a.is_adjacent_here inside some)) marker
+    (search (anchor_keeps, tag_keeps, plain_keeps, quoted_keeps, block_keeps, dash_keeps, key_keeps, value_keeps, opening_keeps, opening_bracket, opening_brace, closing_keeps, closing_bracket, closing_brace, comma_keeps, refused)) some
 
 -- ---- markers, and the text's end
 

@@ -1,6 +1,5 @@
 -- The first of a text's tokens are a cut of a beginning of it.
-use Rattle.proof_scanner.proofs.Common.{[], alias, anchor, ap, begins, block_end, block_entry, block_mapping_start, block_sequence_start, document_end, document_start, double_quoted, end_token, Fares, first_position, first_token, flow_entry, flow_mapping_end, flow_mapping_start, flow_sequence_end, flow_sequence_start, has_no_nul, inl, inr, IsCut, IsCutOfBeginning, IsCutUpTo, IsPiece, IsRow, key, List, None, Option, over, plain, Position, Reaches, refl, rows_are_cuts, scalar, ScannerState, single_quoted, Some, spelled_append, start, start_token, stream_end, stream_start, subst, sym, tag, tag_directive, Tok, Token, tokens_of, true, up_to_nul, value, version_directive, Written, ℕ, ◌++◌, ◌∙◌, ◌∷◌, ◌≡◌, ◌⊎◌}
-use Rattle.defs_token.specs.Token.{literal, folded}
+use Rattle.proof_scanner.proofs.Common.{Fares, IsCut, IsCutOfBeginning, IsCutUpTo, IsPiece, IsRow, List, None, Option, Position, Reaches, ScannerState, Some, Tok, Token, Written, [], ap, arith, begins, end_token, eqb-true, first_position, first_token, has_no_nul, inl, inr, nat_tests, over, refl, rows_are_cuts, spelled_append, start, start_token, stream_end, subst, sym, tokens_of, true, up_to_nul, ℕ, ◌++◌, ◌∙◌, ◌∷◌, ◌≡◌, ◌⊎◌}
 use Rattle.defs_token.specs.Account.{Account, first_account}
 use Rattle.defs_token.specs.Cut.{IsWritten, spelled, account_past}
 use Rattle.proof_scanner.specs.Laws.{TokensAreACut}
@@ -19,34 +18,7 @@ rest_of (x ∷ xs) = xs
 
 -- which token follows may be forgotten
 piece_forgotten : (a : Account) (p n : List ℕ) (o : Option Tok) (at : Position) (t : Tok) → IsPiece a p n o at t → IsPiece a p n None at t
-piece_forgotten a p n o at (alias x) q = q
-piece_forgotten a p n o at (anchor x) q = q
-piece_forgotten a p n o at (tag x s) q = q
-piece_forgotten a p n o at (scalar plain x) q = q
-piece_forgotten a p n o at (scalar single_quoted x) q = q
-piece_forgotten a p n o at (scalar double_quoted x) q = q
-piece_forgotten a p n o at (scalar literal x) q = q
-piece_forgotten a p n o at (scalar folded x) q = q
-piece_forgotten a p n o at flow_sequence_start q = q
-piece_forgotten a p n o at flow_sequence_end q = q
-piece_forgotten a p n o at flow_mapping_start (inl q) = inl q
-piece_forgotten a p n o at flow_mapping_start (inr q) = inr (q.0, q.1, refl, q.3)
-piece_forgotten a p n o at flow_mapping_end (inl q) = inl q
-piece_forgotten a p n o at flow_mapping_end (inr q) = inr (q.0, q.1, refl)
-piece_forgotten a p n o at flow_entry q = q
-piece_forgotten a p n o at key (inl q) = inl q
-piece_forgotten a p n o at key (inr q) = inr (q.0, refl)
-piece_forgotten a p n o at value q = q
-piece_forgotten a p n o at stream_start q = q
-piece_forgotten a p n o at stream_end q = q
-piece_forgotten a p n o at (version_directive x y) q = q
-piece_forgotten a p n o at (tag_directive x y) q = q
-piece_forgotten a p n o at document_start q = q
-piece_forgotten a p n o at document_end q = q
-piece_forgotten a p n o at block_sequence_start q = q
-piece_forgotten a p n o at block_mapping_start q = q
-piece_forgotten a p n o at block_end q = q
-piece_forgotten a p n o at block_entry q = q
+piece_forgotten a p n o b d q = grind (arith, nat_tests, eqb-true)
 
 -- a row up to one of its tokens
 row_first : (a : Account) (ws vs : List Written) (f : List ℕ) (last : Option Tok) → IsRow a (ws ++ vs) f last → IsRow a ws (spelled vs f) None

@@ -1,5 +1,5 @@
 -- The functions of the model that read commas and closing brackets keep what holds where they begin.
-use Rattle.proof_scanner.proofs.Common.{[], adjacent_in_flow, ap, Arrives, At, begins_with, Bool, chained, Collection, end_entry, end_flow, ended_flow, Err, false, fetch_flow_collection_end, fetch_flow_entry, flow_end, FlowLevel, Held, Holds, if◌then◌else◌, inl, inr, is_empty, is_required, Key, List, MayChoose, next_entry, None, Ok, on_held, Option, pop, Position, push, refl, refused, remove_implicit_key, ScannerState, Some, Stands, subst, sym, Tok, top_key, tried, true, went, with_top, ℕ, ◌∙◌, ◌∷◌, ◌≡◌, ◌⊎◌}
+use Rattle.proof_scanner.proofs.Common.{arith, Arrives, At, Bool, Collection, Err, FlowLevel, Held, Holds, Key, List, MayChoose, None, Ok, Option, Position, ScannerState, Some, Stands, Tok, [], adjacent_in_flow, ap, begins_with, chained, end_entry, end_flow, ended_flow, false, fetch_flow_collection_end, fetch_flow_entry, flow_end, if◌then◌else◌, inl, inr, is_empty, is_required, next_entry, on_held, pop, push, refl, refused, remove_implicit_key, subst, sym, top_key, tried, true, went, with_top, ℕ, ◌∙◌, ◌∷◌, ◌≡◌, ◌⊎◌}
 use Rattle.yaml_tokens.specs.declared.problem.Problem.TheVariants as problem
 use Rattle.model_scanner.specs.State.{after}
 use Rattle.proof_scanner.proofs.Cut.FlowEnds.{higher_keys, ended_now, entry_now, ended_is, entry_is}
@@ -13,21 +13,19 @@ use Rattle.proof_scanner.proofs.Sound.Sides.{ArrivesOutside, ArrivesInside, arri
 -- ---- what the model leaves
 
 -- the innermost key need not be one
-flow_over : (s : Held) → Holds (λ u. (is_required (top_key s.keys) ≡ false) × (u ≡ ended_now s.flow s)) (end_flow s)
+pub flow_over : (s : Held) → Holds (λ u. (is_required (top_key s.keys) ≡ false) × (u ≡ ended_now s.flow s)) (end_flow s)
 unfolding end_flow remove_implicit_key
 flow_over s = by (is_required (top_key s.keys)) refl
   where
     by : (b : Bool) → is_required (top_key s.keys) ≡ b → Holds (λ u. (is_required (top_key s.keys) ≡ false) × (u ≡ ended_now s.flow s)) (ended_flow (if b then Err (At problem.KeyExpected s.position) else Ok (record s { keys = with_top None s.keys })))
-    by true e = refused
-    by false e = went (e, ended_is s s.flow)
+    by b e = grind (arith, refused, went, ended_is s s.flow)
 
-entry_over : (s : Held) → Holds (λ u. (is_required (top_key s.keys) ≡ false) × (u ≡ entry_now s.flow s)) (end_entry s)
+pub entry_over : (s : Held) → Holds (λ u. (is_required (top_key s.keys) ≡ false) × (u ≡ entry_now s.flow s)) (end_entry s)
 unfolding end_entry remove_implicit_key
 entry_over s = by (is_required (top_key s.keys)) refl
   where
     by : (b : Bool) → is_required (top_key s.keys) ≡ b → Holds (λ u. (is_required (top_key s.keys) ≡ false) × (u ≡ entry_now s.flow s)) (next_entry (if b then Err (At problem.KeyExpected s.position) else Ok (record s { keys = with_top None s.keys })))
-    by true e = refused
-    by false e = went (e, entry_is s s.flow)
+    by b e = grind (arith, refused, went, entry_is s s.flow)
 
 -- so outside flow it may be none
 pub may_be_none : (k : Option Key) (ks : List (Option Key)) (keys : List (Option Key)) (p : Position) (rest : List ℕ) → keys ≡ k ∷ ks → is_required (top_key keys) ≡ false → MayChoose true false k p rest

@@ -1,15 +1,11 @@
 -- An open key that need not be one is dropped where a piece begins.
-use Rattle.proof_scanner.proofs.Common.{[], ap, Bool, false, inr, is_empty, is_free, IsLineHere, Key, Line, List, MayChoose, None, Option, refl, ScannerState, Some, sym, taken, true, ℕ, ◌++◌, ◌∙◌, ◌∷◌, ◌≡◌}
+use Rattle.proof_scanner.proofs.Common.{arith, Bool, IsLineHere, Key, Line, List, MayChoose, None, Option, ScannerState, [], false, is_empty, refl, true, ℕ, ◌++◌, ◌∷◌, ◌≡◌}
 use Rattle.proof_scanner.proofs.Sound.Sides.{with_entries, ArrivesBy}
 use Rattle.proof_scanner.proofs.Sound.Completed.{may_be_no_key}
 use Rattle.proof_scanner.proofs.Sound.Stales.{none_completes}
 
 pub line_without : (allowed : Bool) (rest : List ℕ) (k : Option Key) (l : Line) → is_empty rest ≡ false → IsLineHere false allowed rest k l → IsLineHere false allowed rest None l
-line_without allowed rest None l some h = h
-line_without allowed rest (Some k) l some h = (inr (h some).0, (h some).1 ∙ sym (taken_is l (h some).0))
-  where
-    taken_is : (l : Line) → l ≡ taken → is_free l ≡ false
-    taken_is l e = ap is_free e
+line_without allowed rest k l some h = grind arith
 
 -- Outside flow what holds where a piece begins holds without the open key, unless that must be one.
 unfoldable pub key_gone : (text : List ℕ) (t : ScannerState) (k : Option Key) → ArrivesBy text t [] (k ∷ []) [] → is_empty t.rest ≡ false → MayChoose true false k t.held.position t.rest → ArrivesBy text t [] (None ∷ []) []

@@ -1,5 +1,5 @@
 -- An indicator of one character, and the blanks and the comment after it.
-use Rattle.proof_scanner.proofs.Common.{[], ap, begins_line, begins_with, blanks_and_comment, Bool, false, follows_plain, has_no_break, has_tab_within, Holds, is_break, is_indented_by_spaces, last_line, least_column, List, not, pass_indicator, past, past_blanks_and_comment, past_line_rest, Position, position_after, Previous, refl, ScannerState, skip_indicator, subst, sym, true, ℕ, ◌&&◌, ◌||◌, ◌∙◌, ◌∷◌, ◌≡◌}
+use Rattle.proof_scanner.proofs.Common.{Bool, Holds, List, Position, Previous, ScannerState, [], ap, arith, begins_line, begins_with, blanks_and_comment, false, follows_plain, has_no_break, has_tab_within, is_break, is_indented_by_spaces, last_line, least_column, not, pass_indicator, past, past_blanks_and_comment, past_line_rest, position_after, refl, skip_indicator, subst, sym, true, ℕ, ◌||◌, ◌∙◌, ◌∷◌, ◌≡◌}
 use Rattle.model_scanner.specs.State.{after}
 use Rattle.proof_lexers.specs.PlainEnds as plains
 use Rattle.proof_scanner.proofs.Sound.Blanks.{same_in_line, line_rest_in_line, rest_skipped}
@@ -31,8 +31,4 @@ none_indents before bs awaits f h = ap (λ b. not b || not (has_tab_within (leas
 -- a text of one line, by the other word
 pub no_break_alike : (f : List ℕ) → has_no_break f ≡ true → plains.has_break f ≡ false
 no_break_alike [] h = refl
-no_break_alike (c ∷ f) h = by (is_break c) h (λ k. no_break_alike f k)
-  where
-    by : (b : Bool) → (not b && has_no_break f) ≡ true → (has_no_break f ≡ true → plains.has_break f ≡ false) → (b || plains.has_break f) ≡ false
-    by true h k = absurd (cc h)
-    by false h k = k h
+no_break_alike (c ∷ f) h = grind (arith, no_break_alike f)

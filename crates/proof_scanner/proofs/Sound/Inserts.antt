@@ -1,8 +1,6 @@
 -- Tokens that go in before others, and tokens after all of them.
 use Rattle.std.proofs.lemmas.List.Edits.{insert-append_left}
-use Rattle.proof_scanner.proofs.Common.{[], ap, AreNumbered, arith, Bool, Colon, colon_of, Entry, false, filled, free, fresh, Had, insert, Key, key, length, Line, List, None, Option, Position, put, put_if, put_key, refl, settled, Some, Step, suc, taken, takes_pair, Token, true, with_had, with_keys, with_line, zero, ℕ, ◌++◌, ◌∙◌, ◌∷◌, ◌≡◌, ◌≤◌}
-use Rattle.defs_token.specs.Key.{waits as waits_on_line}
-use Rattle.defs_token.specs.FlowEntry.{waits}
+use Rattle.proof_scanner.proofs.Common.{AreNumbered, Bool, Colon, Entry, Had, Key, Line, List, None, Option, Position, Some, Step, Token, [], ap, arith, colon_of, insert, key, length, put, put_if, put_key, refl, suc, takes_pair, with_had, with_keys, with_line, zero, ℕ, ◌++◌, ◌∙◌, ◌∷◌, ◌≡◌, ◌≤◌}
 
 longer : (ts : List Token) (n : ℕ) (t : Token) → length (insert ts n t) ≡ suc (length ts)
 longer ts zero t = refl
@@ -10,8 +8,7 @@ longer [] (suc n) t = refl
 longer (x ∷ ts) (suc n) t = ap suc (longer ts n t)
 
 if_first : (b : Bool) (ts us : List Token) (n : ℕ) (t : Token) → n ≤ length ts → put_if b n t (ts ++ us) ≡ put_if b n t ts ++ us
-if_first true ts us n t h = insert-append_left ts us n t h
-if_first false ts us n t h = refl
+if_first a ts us n t h = grind (arith, insert-append_left)
 
 key_first : (b : Bool) (start : Token) (n : ℕ) (here : Position) (ts us : List Token) → n ≤ length ts → put_key b start n here (ts ++ us) ≡ put_key b start n here ts ++ us
 key_first b start n here ts us h =
@@ -19,8 +16,7 @@ key_first b start n here ts us h =
     ap (λ x. put_if b n start x) (insert-append_left ts us n (put here key) h) ∙ if_first b (insert ts n (put here key)) us n start (omega (arith, h, l))
 
 if_longer : (b : Bool) (ts : List Token) (n : ℕ) (t : Token) → length ts ≤ length (put_if b n t ts)
-if_longer true ts n t = let l = longer ts n t in omega (arith, l)
-if_longer false ts n t = omega arith
+if_longer a ts n t = grind (arith, longer)
 
 pub key_longer : (b : Bool) (start : Token) (n : ℕ) (here : Position) (ts : List Token) → length ts ≤ length (put_key b start n here ts)
 key_longer b start n here ts = let k = longer ts n (put here key) in let l = if_longer b (insert ts n (put here key)) n start in omega (arith, k, l)
@@ -42,28 +38,16 @@ among many (None ∷ ks) a = among many ks a.1
 among many (Some k ∷ ks) a = (omega (arith, a.0), fewer k.number many ks (omega (arith, a.0)) (among k.number ks a.1))
 
 pub line_first : (c : Colon) (bs : List ℕ) (l : Line) (k : Option Key) (ts us : List Token) → AreAmong (length ts) (k ∷ []) → with_line c bs l k (ts ++ us) ≡ with_line c bs l k ts ++ us
-line_first c bs l None ts us h = refl
-line_first c bs (waits_on_line b) (Some k) ts us h = key_first _ _ k.number b ts us h.0
-line_first c bs free (Some k) ts us h = refl
-line_first c bs taken (Some k) ts us h = refl
+line_first c bs l a ts us h = grind (arith, key_first)
 
 pub had_first : (c : Colon) (single : Bool) (d : Had) (k : Option Key) (ts us : List Token) → AreAmong (length ts) (k ∷ []) → with_had c single d k (ts ++ us) ≡ with_had c single d k ts ++ us
-had_first c single d None ts us h = refl
-had_first c single (waits b) (Some k) ts us h = key_first _ _ k.number b ts us h.0
-had_first c single fresh (Some k) ts us h = refl
-had_first c single filled (Some k) ts us h = refl
-had_first c single settled (Some k) ts us h = refl
+had_first c a d b ts us h = grind (arith, key_first)
 
 pub had_longer : (c : Colon) (single : Bool) (d : Had) (k : Option Key) (ts : List Token) → length ts ≤ length (with_had c single d k ts)
-had_longer c single d None ts = omega arith
-had_longer c single (waits b) (Some k) ts = key_longer _ _ k.number b ts
-had_longer c single fresh (Some k) ts = omega arith
-had_longer c single filled (Some k) ts = omega arith
-had_longer c single settled (Some k) ts = omega arith
+had_longer c a d b ts = grind (arith, key_longer)
 
 pub first_among : (many : ℕ) (k : Option Key) (ks : List (Option Key)) → AreAmong many (k ∷ ks) → AreAmong many (k ∷ []) × AreAmong many ks
-first_among many None ks a = (tt, a)
-first_among many (Some k) ks a = ((a.0, tt), a.1)
+first_among many a ks b = grind arith
 
 -- Keys that go in among the first tokens do not move those after them.
 pub keys_first : (d : ℕ) (p : Position) (ws : List Step) (last : List ℕ) (bs : List ℕ) (l : Line) (es : List Entry) (ks : List (Option Key)) (ts us : List Token) → AreAmong (length ts) ks →

@@ -1,5 +1,5 @@
 -- The key that may begin with a node, among the open keys.
-use Rattle.proof_scanner.proofs.Common.{[], ap, AreNumbered, arith, Bool, Entry, false, FlowLevel, if◌then◌else◌, IsEntryOf, IsFreeKey, Key, length, length-append, List, must_be_key, Option, refl, ScannerState, Some, suc, Token, true, with_top, ℕ, ◌++◌, ◌+◌, ◌∙◌, ◌∷◌, ◌≡◌}
+use Rattle.proof_scanner.proofs.Common.{AreNumbered, Bool, Entry, FlowLevel, IsEntryOf, IsFreeKey, Key, List, Option, ScannerState, Token, [], arith, false, length, length-append, must_be_key, refl, suc, ◌++◌, ◌∷◌, ◌≡◌}
 use Rattle.proof_scanner.proofs.Cut.Saved.{saved_keys}
 use Rattle.proof_scanner.proofs.Sound.Arrivals.{numbered_more, numbered_around}
 use Rattle.proof_scanner.proofs.Sound.NodeSteps.{saved, entry_past_node}
@@ -10,30 +10,16 @@ new_key t = record { required = must_be_key t.held; number = length t.held.token
 
 -- the open keys after a node's start
 pub keys_saved : (t : ScannerState) (k : Option Key) (ks : List (Option Key)) → t.held.keys ≡ k ∷ ks → saved_keys t.held ≡ saved t.held.key_allowed (new_key t) k ∷ ks
-keys_saved t k ks e = ap (λ xs. if t.held.key_allowed then with_top (Some (new_key t)) xs else xs) e ∙ by t.held.key_allowed
-  where
-    by : (b : Bool) → (if b then with_top (Some (new_key t)) (k ∷ ks) else k ∷ ks) ≡ saved b (new_key t) k ∷ ks
-    by true = refl
-    by false = refl
+keys_saved t k ks e = grind (arith, new_key)
 
 -- one token more
 pub one_more : (ts : List Token) (u : Token) → length (ts ++ (u ∷ [])) ≡ suc (length ts)
-one_more ts u = length-append ts (u ∷ []) ∙ more (length ts)
-  where
-    more : (n : ℕ) → n + 1 ≡ suc n
-    more n = omega arith
+one_more ts u = omega (arith, length-append ts (u ∷ []))
 
 -- in flow the numbers of the open keys are those of tokens so far
 pub numbered_inside : (t : ScannerState) (before : List Token) (k : Option Key) (ks : List (Option Key)) (own : Token) → t.held.tokens ≡ before → AreNumbered (length before) (k ∷ ks) →
     (b : Bool) → AreNumbered (length (t.held.tokens ++ (own ∷ []))) (saved b (new_key t) k ∷ ks)
-numbered_inside t before k ks own e h true =
-    let more = one_more t.held.tokens own in
-    let same = ap length e in
-    (omega (arith, more), numbered_more (length before) (length t.held.tokens) ks (omega (arith, same)) (numbered_around (length before) k ks h))
-numbered_inside t before k ks own e h false =
-    let more = one_more t.held.tokens own in
-    let same = ap length e in
-    numbered_more (length before) (length (t.held.tokens ++ (own ∷ []))) (k ∷ ks) (omega (arith, more, same)) h
+numbered_inside t before k ks own e h b = grind (arith, one_more, numbered_more, numbered_around)
 
 -- in flow no key must be one
 pub not_required : (t : ScannerState) (f : FlowLevel) (fs : List FlowLevel) → t.held.flow ≡ f ∷ fs → must_be_key t.held ≡ false
@@ -45,5 +31,4 @@ pub entry_kept : (t : ScannerState) (f : FlowLevel) (fs : List FlowLevel) (k : O
 entry_kept t f fs k e within b h = record { kind_is = h.kind_is; pair_is = h.pair_is; key_is = by b h.key_is }
   where
     by : (b : Bool) → IsFreeKey k → IsFreeKey (saved b (new_key t) k)
-    by true i = not_required t f fs within
-    by false i = i
+    by a i = grind (arith, not_required, t, within)

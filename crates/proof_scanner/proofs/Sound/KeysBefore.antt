@@ -1,5 +1,5 @@
 -- The open key of an entry began on the scanner's line, or before it: so a row says it in which it waits.
-use Rattle.proof_scanner.proofs.Common.{[], Account, ap, arith, Begins, BeginsButForKey, Bool, chosen, Entry, false, first_account, FlowLevel, is_empty, Key, List, MayChoose, None, Option, outside_key, Position, refl, ScannerState, Some, spelled, subst, sym, taken, true, ℕ, ◌++◌, ◌∷◌, ◌≡◌, ◌≤◌}
+use Rattle.proof_scanner.proofs.Common.{Account, Begins, BeginsButForKey, Bool, Entry, FlowLevel, Key, List, MayChoose, None, Option, Position, ScannerState, Some, [], ap, arith, chosen, false, first_account, is_empty, outside_key, refl, spelled, subst, sym, taken, true, ℕ, ◌++◌, ◌∷◌, ◌≡◌, ◌≤◌}
 use Rattle.proof_row.proofs.KeyLines.{KeysBefore, keys_before, line_grows}
 use Rattle.proof_scanner.proofs.Sound.Sides.{ArrivesBy, with_entries}
 

@@ -1,21 +1,16 @@
 -- The last line of a text as the text grows, and the column after it.
-use Rattle.proof_scanner.proofs.Common.{[], and_parts, ap, arith, Bool, eqb-true, false, has_break, has_no_break, has_tab_within, if◌then◌else◌, inl, inr, is_at_line_end, is_before_line_feed, is_blank, is_break, is_empty, is_one_of, is_separation, last_line, length, List, not, not-true, or-true, Position, position_after, position_past, put_first, refl, split, split_by, suc, sym, take, take-append-le, true, zero, ℕ, ◌&&◌, ◌++◌, ◌+◌, ◌==◌, ◌||◌, ◌∙◌, ◌∷◌, ◌≡◌, ◌≤◌, ◌⊎◌}
+use Rattle.proof_scanner.proofs.Common.{Bool, List, Position, [], and_parts, ap, arith, eqb-true, false, has_break, has_no_break, has_tab_within, if◌then◌else◌, inl, inr, is_at_line_end, is_before_line_feed, is_blank, is_break, is_empty, is_one_of, is_separation, last_line, length, nat_tests, not, not-true, or-true, position_after, position_past, put_first, refl, split, split_by, suc, sym, take, take-append-le, true, zero, ℕ, ◌&&◌, ◌++◌, ◌+◌, ◌==◌, ◌||◌, ◌∙◌, ◌∷◌, ◌≡◌, ◌≤◌, ◌⊎◌}
 
 -- ---- breaks in a text and one character more
 
 feed_breaks : (c : ℕ) (r : List ℕ) → is_before_line_feed c r ≡ true → has_break r ≡ true
 unfolding is_break
-feed_breaks c [] h = absurd (cc h)
-feed_breaks c (d ∷ r) h = rw (eqb-true d 10 (and_parts (c == 13) (d == 10) h).1) refl
+feed_breaks c a h = grind (arith, eqb-true)
 
 -- a break anywhere is one of either part
 pub break_append : (a b : List ℕ) → has_break (a ++ b) ≡ (has_break a || has_break b)
 break_append [] b = refl
-break_append (c ∷ a) b = by (is_break c) (break_append a b)
-  where
-    by : (x : Bool) → has_break (a ++ b) ≡ (has_break a || has_break b) → not (not x && has_no_break (a ++ b)) ≡ (not (not x && has_no_break a) || has_break b)
-    by true h = refl
-    by false h = h
+break_append (c ∷ a) b = grind (arith, break_append a b)
 
 -- ---- the last line
 
@@ -24,12 +19,10 @@ complete_is [] = refl
 complete_is (c ∷ r) = by (is_break c) (is_before_line_feed c r) refl (complete_is r)
   where
     kept : (complete : List (List ℕ)) (last : List ℕ) → is_empty (put_first c complete last).complete ≡ is_empty complete
-    kept [] last = refl
-    kept (l ∷ ls) last = refl
+    kept a last = grind arith
 
     by : (x y : Bool) → is_before_line_feed c r ≡ y → is_empty (split r).complete ≡ has_no_break r → is_empty (split_by x y c (split r)).complete ≡ (not x && has_no_break r)
-    by true true e h = h ∙ not-true (has_no_break r) (feed_breaks c r e)
-    by true false e h = refl
+    by true a e h = grind (arith, not-true, feed_breaks)
     by false y e h = kept (split r).complete (split r).last ∙ h
 
 -- one character more at its start
@@ -37,21 +30,15 @@ pub last_first : (c : ℕ) (r : List ℕ) → last_line (c ∷ r) ≡ (if is_bre
 last_first c r = by (is_break c) (is_before_line_feed c r) ∙ ap (λ b. if is_break c || not b then last_line r else c ∷ last_line r) (complete_is r)
   where
     kept : (complete : List (List ℕ)) (last : List ℕ) → (put_first c complete last).last ≡ (if not (is_empty complete) then last else c ∷ last)
-    kept [] last = refl
-    kept (l ∷ ls) last = refl
+    kept a last = grind arith
 
     by : (x y : Bool) → (split_by x y c (split r)).last ≡ (if x || not (is_empty (split r).complete) then last_line r else c ∷ last_line r)
-    by true true = refl
-    by true false = refl
+    by true a = grind arith
     by false y = kept (split r).complete (split r).last
 
 -- one character more at its end
 pub last_more : (g : List ℕ) (c : ℕ) → last_line (g ++ c ∷ []) ≡ (if is_break c then [] else last_line g ++ c ∷ [])
-last_more [] c = last_first c [] ∙ by (is_break c)
-  where
-    by : (x : Bool) → (if x || false then [] else c ∷ []) ≡ (if x then [] else c ∷ [])
-    by true = refl
-    by false = refl
+last_more [] c = grind arith
 last_more (d ∷ g) c =
     last_first d (g ++ c ∷ []) ∙ ap (λ b. if is_break d || b then last_line (g ++ c ∷ []) else d ∷ last_line (g ++ c ∷ [])) (break_append g (c ∷ [])) ∙
     ap (λ l. if is_break d || (has_break g || has_break (c ∷ [])) then l else d ∷ l) (last_more g c) ∙
@@ -59,12 +46,7 @@ last_more (d ∷ g) c =
   where
     by : (x y z : Bool) → (if y || (z || not (not x && true)) then (if x then [] else last_line g ++ c ∷ []) else d ∷ (if x then [] else last_line g ++ c ∷ [])) ≡
         (if x then [] else (if y || z then last_line g else d ∷ last_line g) ++ c ∷ [])
-    by true true z = refl
-    by true false true = refl
-    by true false false = refl
-    by false true z = refl
-    by false false true = refl
-    by false false false = refl
+    by a b z = grind arith
 
 -- a text of one line is its last line
 pub last_whole : (g : List ℕ) → has_break g ≡ false → last_line g ≡ g
@@ -72,9 +54,7 @@ last_whole [] h = refl
 last_whole (c ∷ g) h = last_first c g ∙ by (is_break c) (has_no_break g) refl h (λ k. last_whole g k)
   where
     by : (x y : Bool) → has_no_break g ≡ y → not (not x && y) ≡ false → (has_break g ≡ false → last_line g ≡ g) → (if x || not y then last_line g else c ∷ last_line g) ≡ c ∷ g
-    by true y e h k = absurd (cc h)
-    by false true e h k = ap (λ l. c ∷ l) (k (ap not e))
-    by false false e h k = absurd (cc h)
+    by a y e h k = grind arith
 
 -- ---- the column after it
 
@@ -105,11 +85,7 @@ column_after p (c ∷ g) a h =
     by : (x y z : Bool) → is_break c ≡ x → is_before_line_feed c (g ++ a) ≡ y → has_no_break g ≡ z →
         (if not z then length (last_line g) else (let q : Position = (if x && not y then record { index = suc p.index; line = suc p.line; col = 0 } else record { index = suc p.index; line = p.line; col = suc p.col }) in q.col) + length g) ≡
         (if not (not x && z) then length (if x || not z then last_line g else c ∷ last_line g) else p.col + suc (length g))
-    by true true true e f k = absurd (cut g f k)
-    by true false true e f k = let z : 0 + length g ≡ length g = omega arith in z ∙ ap length (sym (last_whole g (ap not k)))
-    by true y false e f k = refl
-    by false y true e f k = omega arith
-    by false y false e f k = refl
+    by b y d e f k = grind (arith, cut, last_whole)
 
 -- ---- no `#` in it, outside comments
 
@@ -131,13 +107,7 @@ no_comment_in_last g rest h ends = outside g h
         swapped e = grind (arith, e)
 
         first : (x y : Bool) → (c == 35) ≡ y → (x && is_separation y g rest) ≡ true → Both g → is_one_of (last_line (c ∷ g)) 35 ≡ false
-        first false y e h b = absurd (cc h)
-        first true true e h b = rw (last_first c g, (b.1 h).0, or-true (is_break c)) (b.1 h).1
-        first true false e h b = ap (λ l. is_one_of l 35) (last_first c g) ∙ by (is_break c || has_break g)
-          where
-            by : (z : Bool) → is_one_of (if z then last_line g else c ∷ last_line g) 35 ≡ false
-            by true = b.0 h
-            by false = in_no_comment c (last_line g) (swapped e) (b.0 h)
+        first a y e h b = grind (arith, nat_tests, last_first, or-true, has_break, in_no_comment, swapped, eqb-true)
 
         second : (x : Bool) → is_break c ≡ x → is_separation (not x) g rest ≡ true → Both g → (has_break (c ∷ g) ≡ true) × (is_one_of (last_line (c ∷ g)) 35 ≡ false)
         second true e h b = (rw e refl, rw (last_first c g, e) (b.0 h))
@@ -160,8 +130,4 @@ tab_within_more n l c (inl other) h = go n l h
         none : (n : ℕ) → is_one_of (take n []) 9 ≡ false
         none zero = refl
         none (suc n) = refl
-    go (suc n) (x ∷ l) h = by (9 == x) h (λ k. go n l k)
-      where
-        by : (b : Bool) → (b || is_one_of (take n l) 9) ≡ false → (is_one_of (take n l) 9 ≡ false → is_one_of (take n (l ++ c ∷ [])) 9 ≡ false) → (b || is_one_of (take n (l ++ c ∷ [])) 9) ≡ false
-        by true h k = absurd (cc h)
-        by false h k = k h
+    go (suc n) (x ∷ l) h = grind (arith, go n l)

@@ -1,6 +1,23 @@
 -- The tokens of a part of a node: with its key put in, or without.
-use Rattle.proof_scanner.proofs.Common.{[], act_of, ap, append_assoc, begins_free_line, begun_by, begun_inside, begun_outside, block_mapping_start, Bool, Colon, colon_of, depth_past, ends_at, Entry, false, flow_mapping_start, FlowKind, gives_node, Had, insert, is_deeper, Key, key, key_tokens, length, Line, line_past_separation, List, Option, Pair, pair_position, Position, position_after, put, put_key, refl, shown_position, Site, spelled, Step, suc, sym, takes_pair, Tok, Token, tokens_at, true, with_had, with_keys, with_line, ℕ, ◌++◌, ◌∙◌, ◌∷◌, ◌≡◌}
+use Rattle.proof_scanner.proofs.Common.{Bool, Colon, Entry, FlowLevel, Had, HasHadHere, Key, Line, List, None, Option, Pair, Position, Site, Some, Step, Tok, Token, [], act_of, ap, append_assoc, arith, begins_free_line, begun_by, begun_inside, begun_outside, block_mapping_start, colon_of, depth_past, ends_at, entries_by, false, flow_mapping_start, gives_node, had_by, insert, is_deeper, is_keyed, key, key_tokens, length, level_of, line_past_separation, map, pair_position, pop, position_after, put, put_key, refl, shown_position, spelled, suc, sym, takes_pair, tokens_at, true, with_had, with_keys, with_line, ℕ, ◌++◌, ◌∙◌, ◌∷◌, ◌≡◌}
 use Rattle.proof_scanner.proofs.Sound.Begun.{with_begun, depth_begun, depth_rises}
+
+-- ---- an entry in which no key waits
+
+pub not_keyed : (allowed again : Bool) (k : Option Key) (h : Had) → HasHadHere allowed again k h → is_keyed h ≡ false
+not_keyed allowed again k h p = grind arith
+
+pub no_had : (c : Colon) (single : Bool) (h : Had) (k : Option Key) (ts : List Token) → is_keyed h ≡ false → with_had c single h k ts ≡ ts
+no_had c single h k ts e = grind arith
+
+pub had_as_it_was : (k : Option Key) (h : Had) → had_by false k h ≡ h
+had_as_it_was None h = refl
+had_as_it_was (Some k) h = refl
+
+-- what waits in entries is not seen
+pub same_levels : (cs : List Bool) (ks : List (Option Key)) (es : List Entry) → map level_of (entries_by cs ks es) ≡ map level_of es
+same_levels cs ks [] = refl
+same_levels cs ks (e ∷ es) = ap (λ x. level_of e ∷ x) (same_levels (pop cs) (pop ks) es)
 
 -- ---- colons after a step
 
@@ -9,7 +26,7 @@ abbrev pub past_step : Position → Step → List Step → (last : List ℕ) →
 past_step p w ws last = position_after (position_after p w.separation (w.piece ++ spelled ws last)) w.piece (spelled ws last)
 
 -- a part of a node is no colon of a key; a collection that it begins is open inside the key
-pub colon_past : (kind : Option FlowKind) (d : ℕ) (p : Position) (w : Step) (ws : List Step) (last : List ℕ) → act_of w.shown ≡ gives_node → begun_by w.shown ≡ with_begun kind [] →
+pub colon_past : (kind : Option FlowLevel) (d : ℕ) (p : Position) (w : Step) (ws : List Step) (last : List ℕ) → act_of w.shown ≡ gives_node → begun_by w.shown ≡ with_begun kind [] →
     colon_of d p (w ∷ ws) last ≡ colon_of (depth_begun kind d) (past_step p w ws last) ws last
 colon_past kind d p w ws last e f = rw (e, f) refl
 
@@ -27,7 +44,7 @@ keys_along from to up rise d p q w ws last h bs l (x ∷ es) (k ∷ ks) ts =
     ap (λ c. with_keys (suc (to d)) q ws last bs l es ks (with_had c (takes_pair x.kind x.pair) x.had k ts)) (h d)))
 
 -- so it is after a part of a node
-pub keys_past : (kind : Option FlowKind) (d : ℕ) (p : Position) (w : Step) (ws : List Step) (last : List ℕ) → act_of w.shown ≡ gives_node → begun_by w.shown ≡ with_begun kind [] →
+pub keys_past : (kind : Option FlowLevel) (d : ℕ) (p : Position) (w : Step) (ws : List Step) (last : List ℕ) → act_of w.shown ≡ gives_node → begun_by w.shown ≡ with_begun kind [] →
     (bs : List ℕ) (l : Line) (es : List Entry) (ks : List (Option Key)) (ts : List Token) → with_keys d p (w ∷ ws) last bs l es ks ts ≡ with_keys (depth_begun kind d) (past_step p w ws last) ws last bs l es ks ts
 keys_past kind d p w ws last e f bs l es ks ts = keys_along (λ n. n) (depth_begun kind) (λ n. refl) (depth_rises kind) d p (past_step p w ws last) w ws last (λ n. colon_past kind n p w ws last e f) bs l es ks ts
 

@@ -1,5 +1,5 @@
 -- What holds between two fetches still holds at the next token, or at the text's end, with the separation up to there.
-use Rattle.proof_scanner.proofs.Common.{[], another, ap, append-nil, AreCollections, AreLevels, arith, begins_free_line, begins_separation, begins_white, between, block_scalar, Bool, columns, directive, drop, eqb-true, false, flow_collection, has_break, has_no_break, has_open_level, HasFirst, HasPassed, Held, Holds, if◌then◌else◌, Indent, is_before_line_feed, is_blank, is_break, is_empty, is_no_comment, is_renewed, is_separation, is_white, IsLive, IsReadOn, IsTopLevel, Key, leading, least_column, List, MayChoose, None, not, Ok, Option, or-false, plain_scalar, Position, position_after, Previous, quoted_scalar, refl, same_blank, same_break, ScannerState, separations_are_passed, skip, skip_to_next_token, Some, suc, sym, true, without_break, ℕ, ◌&&◌, ◌++◌, ◌+◌, ◌-◌, ◌==◌, ◌||◌, ◌∙◌, ◌∷◌, ◌≡◌}
+use Rattle.proof_scanner.proofs.Common.{AreLevels, Bool, HasFirst, HasPassed, Held, Holds, Indent, IsLive, IsReadOn, Key, List, MayChoose, None, Ok, Option, Position, Previous, ScannerState, Some, [], another, ap, append-nil, arith, begins_free_line, begins_separation, begins_white, between, block_scalar, columns, directive, drop, eqb-true, false, has_break, has_open_level, if◌then◌else◌, is_before_line_feed, is_blank, is_break, is_empty, is_no_comment, is_renewed, is_separation, is_white, leading, least_column, nat_tests, not, or-false, plain_scalar, position_after, refl, same_blank, same_break, separations_are_passed, skip, skip_to_next_token, suc, sym, true, without_break, ℕ, ◌++◌, ◌==◌, ◌||◌, ◌∙◌, ◌∷◌, ◌≡◌}
 use Rattle.proof_lexers.specs.PlainEnds as plain_ends
 use Rattle.proof_scanner.proofs.Cut.Passes.{read_holds}
 use Rattle.proof_scanner.proofs.Cut.Positions.{not_before_after}
@@ -11,8 +11,7 @@ use Rattle.proof_scanner.proofs.Sound.Skips.{IsLeast}
 
 no_tab : (c : ℕ) (x : Bool) → (c == 9) ≡ x → is_blank c ≡ false → x ≡ false
 unfolding is_blank
-no_tab c false e f = refl
-no_tab c true e f = let same : c ≡ 9 = eqb-true c 9 e in absurd (cc (ap is_blank same, f))
+no_tab c a e f = grind arith
 
 -- where no separation begins, nothing is skipped
 pub skip_stays : (a : List ℕ) (s : Held) → begins_separation a ≡ false → skip between a s ≡ Ok (record { rest = a; held = s })
@@ -21,10 +20,7 @@ skip_stays [] s h = refl
 skip_stays (c ∷ a) s h = by (is_blank c) (is_break c) (c == 35) refl refl refl h
   where
     by : (x y z : Bool) → is_blank c ≡ x → is_break c ≡ y → (c == 35) ≡ z → ((x || y) || z) ≡ false → skip between (c ∷ a) s ≡ Ok (record { rest = c ∷ a; held = s })
-    by true y z e f g h = absurd (cc h)
-    by false true z e f g h = absurd (cc h)
-    by false false true e f g h = absurd (cc h)
-    by false false false e f g h = rw (sym (same_break c), sym (same_blank c), e, f, g, no_tab c (c == 9) refl e) refl
+    by b y z e f g h = grind (arith, nat_tests, same_break, same_blank, no_tab, eqb-true)
 
 -- ---- what was passed
 
@@ -49,36 +45,21 @@ pub may_before : (strict c : Bool) (k : Option Key) (p : Position) (g rest rest2
 may_before strict c None p g rest rest2 e m = tt
 may_before true true (Some k) p g rest rest2 e m = live_before_it k p g rest rest2 e m
 may_before true false (Some k) p g rest rest2 e m = m
-may_before false true (Some k) p g rest rest2 e m = absurd m
-may_before false false (Some k) p g rest rest2 e m = tt
+may_before false a (Some k) p g rest rest2 e m = grind arith
 
 -- ---- what the last piece asks of the separation
 
 pub same_has_break : (g : List ℕ) → plain_ends.has_break g ≡ has_break g
 same_has_break [] = refl
-same_has_break (c ∷ g) = by (is_break c) (same_has_break g)
-  where
-    by : (x : Bool) → plain_ends.has_break g ≡ has_break g → (x || plain_ends.has_break g) ≡ not (not x && has_no_break g)
-    by true h = refl
-    by false h = h
+same_has_break (c ∷ g) = grind (arith, same_has_break g)
 
 -- what a separation begins with, if no blank and no break, is a comment
 pub first_comment : (c : ℕ) (p rest : List ℕ) → is_white c ≡ false → is_separation false (c ∷ p) rest ≡ true → (c == 35) ≡ true
-first_comment c p rest h f = by (is_blank c) (is_break c) (c == 35) h f
-  where
-    by : (x y z : Bool) → (x || y) ≡ false → ((x || y || z) && is_separation z p rest) ≡ true → z ≡ true
-    by true y z h f = absurd (cc h)
-    by false true z h f = absurd (cc h)
-    by false false true h f = refl
-    by false false false h f = absurd (cc f)
+first_comment c p rest h f = grind arith
 
 leading_stop : (g p : List ℕ) (c : ℕ) → is_no_comment c ≡ false → leading is_no_comment (g ++ c ∷ p) ≡ leading is_no_comment g
 leading_stop [] p c h = rw h refl
-leading_stop (d ∷ g) p c h = by (is_no_comment d) (leading_stop g p c h)
-  where
-    by : (x : Bool) → leading is_no_comment (g ++ c ∷ p) ≡ leading is_no_comment g → (if x then d ∷ leading is_no_comment (g ++ c ∷ p) else []) ≡ (if x then d ∷ leading is_no_comment g else [])
-    by true e = ap (λ l. d ∷ l) e
-    by false e = refl
+leading_stop (d ∷ g) p c h = grind (arith, leading_stop g p c h)
 
 -- whether a key may begin again in an entry is known before all of the separation is passed
 pub renewed_alike : (b : Previous) (q : Position) (f g rest rest2 : List ℕ) → rest ≡ g ++ rest2 → is_separation false g rest2 ≡ true → IsReadOn b q f rest → is_renewed b (f ++ g) ≡ is_renewed b f
@@ -86,19 +67,10 @@ renewed_alike plain_scalar q f [] rest rest2 cut fills r = ap (λ x. has_break (
 renewed_alike plain_scalar q f (c ∷ p) rest rest2 cut fills r =
     let white : is_white c ≡ false = rw cut at r in
     ap has_break (leading_stop f p c (ap not (first_comment c p rest2 white fills)))
-renewed_alike quoted_scalar q f g rest rest2 cut fills r = refl
-renewed_alike block_scalar q f g rest rest2 cut fills r = refl
-renewed_alike flow_collection q f g rest rest2 cut fills r = refl
-renewed_alike directive q f g rest rest2 cut fills r = refl
-renewed_alike another q f g rest rest2 cut fills r = refl
+renewed_alike _ q f g rest rest2 cut fills r = refl
 
 -- a key may begin on a line after what was passed, or what was passed before
 pub free_line_append : (b : Previous) (q : Position) (f g rest rest2 : List ℕ) → rest ≡ g ++ rest2 → IsReadOn b q f rest → begins_free_line b (f ++ g) ≡ (begins_free_line b f || has_break g)
-free_line_append plain_scalar q f g rest rest2 cut r = break_append f g
-free_line_append quoted_scalar q f g rest rest2 cut r = break_append f g
-free_line_append block_scalar q f g rest rest2 cut r = break_append f g
-free_line_append flow_collection q f g rest rest2 cut r = break_append f g
-free_line_append another q f g rest rest2 cut r = break_append f g
 free_line_append directive q f [] rest rest2 cut r = ap (λ x. has_break (without_break x)) (append-nil f) ∙ sym (or-false (has_break (without_break f)))
 free_line_append directive q f (c ∷ p) rest rest2 cut r = by f (r (ap is_empty cut))
   where
@@ -112,6 +84,7 @@ free_line_append directive q f (c ∷ p) rest rest2 cut r = by f (r (ap is_empty
         two : (b : Bool) → has_break (if b then f ++ c ∷ p else x ∷ (f ++ c ∷ p)) ≡ (has_break (if b then f else x ∷ f) || has_break (c ∷ p))
         two true = break_append f (c ∷ p)
         two false = break_append (x ∷ f) (c ∷ p)
+free_line_append _ q f g rest rest2 cut r = break_append f g
 
 -- what was read on over stays so
 pub read_on_append : (b : Previous) (q : Position) (f g rest rest2 : List ℕ) → rest ≡ g ++ rest2 → begins_separation rest2 ≡ false → IsReadOn b q f rest → IsReadOn b q (f ++ g) rest2
@@ -124,10 +97,7 @@ read_on_append plain_scalar q f g rest rest2 cut solid r = white rest2 solid
         by : (x : Bool) → (x || (c == 35)) ≡ false → x ≡ false
         by true h = absurd (cc h)
         by false h = refl
-read_on_append quoted_scalar q f g rest rest2 cut solid r = tt
 read_on_append block_scalar q f g rest rest2 cut solid r = λ some. r (goes_on g rest rest2 cut some)
-read_on_append flow_collection q f g rest rest2 cut solid r = tt
-read_on_append another q f g rest rest2 cut solid r = tt
 read_on_append directive q f g rest rest2 cut solid r = λ some. by f (r (goes_on g rest rest2 cut some))
   where
     alone : (d : ℕ) (g : List ℕ) → is_before_line_feed d (g ++ rest2) ≡ false → is_before_line_feed d (g ++ rest2) ≡ is_before_line_feed d g
@@ -135,45 +105,16 @@ read_on_append directive q f g rest rest2 cut solid r = λ some. by f (r (goes_o
     alone d (x ∷ g) h = refl
 
     by : (f : List ℕ) → HasFirst f rest → HasFirst (f ++ g) rest2
-    by [] h = absurd h
-    by (d ∷ []) h = alone d g (ap (λ y. is_before_line_feed d y) (sym cut) ∙ h)
-    by (d ∷ x ∷ f) h = refl
+    by a h = grind arith
+read_on_append _ q f g rest rest2 cut solid r = tt
 
 -- ---- the least column
 
--- each level of a collection has a column
-some_collections : (i : ℕ) (ds : List Indent) → AreCollections i ds → is_empty ds ≡ false → is_empty (columns i ds) ≡ false
-some_collections i [] a e = absurd (cc e)
-some_collections i (d ∷ ds) a e = rw a.0 refl
-
 pub some_columns : (i : ℕ) (ds : List Indent) → AreLevels i ds → is_empty ds ≡ false → is_empty (columns i ds) ≡ false
-some_columns i [] a e = absurd (cc e)
-some_columns i (d ∷ ds) a e = by d.needs_block_end a.0
-  where
-    by : (b : Bool) → IsTopLevel b i d.indent ds → is_empty (if b then (i - 1) ∷ columns d.indent ds else columns d.indent ds) ≡ false
-    by true h = refl
-    by false h = some_collections d.indent ds a.1 h.1
-
--- the least column is that of the innermost level
-least_of_collections : (i : ℕ) (ds : List Indent) → AreCollections i ds → is_empty ds ≡ false → i ≡ suc (least_column (columns i ds) false)
-least_of_collections i [] a e = absurd (cc e)
-least_of_collections i (d ∷ ds) a e = rw a.0 (omega (arith, a.1))
+some_columns i a b e = grind arith
 
 pub least_of_levels : (i : ℕ) (ds : List Indent) → AreLevels i ds → is_empty ds ≡ false → i ≡ suc (least_column (columns i ds) (has_open_level ds))
-least_of_levels i [] a e = absurd (cc e)
-least_of_levels i (d ∷ ds) a e = by d.needs_block_end a.0
-  where
-    open_level : (cs : List ℕ) (o : ℕ) → o ≡ suc (least_column cs false) → is_empty cs ≡ false → i ≡ o + 1 → i ≡ suc (least_column cs true)
-    open_level [] o h s k = absurd (cc s)
-    open_level (n ∷ ns) o h s k = omega (arith, h, k)
-
-    by : (b : Bool) → IsTopLevel b i d.indent ds → i ≡ suc (least_column (if b then (i - 1) ∷ columns d.indent ds else columns d.indent ds) (not b))
-    by true h = omega (arith, h)
-    by false h = open_level (columns d.indent ds) d.indent (least_of_collections d.indent ds a.1 h.1) (some_collections d.indent ds a.1 h.1) h.0
+least_of_levels i a b e = grind arith
 
 pub least_is : (bs : List ℕ) (aw : Bool) (s : Held) → bs ≡ columns s.indent s.indents → aw ≡ has_open_level s.indents → AreLevels s.indent s.indents → IsLeast another (least_column bs aw) s
-least_is bs aw s b w a = (λ e. rw (b, w) (none s.indents e), λ e. rw (b, w) (least_of_levels s.indent s.indents a e))
-  where
-    none : (ds : List Indent) → is_empty ds ≡ true → least_column (columns s.indent ds) (has_open_level ds) ≡ 0
-    none [] e = refl
-    none (d ∷ ds) e = absurd (cc e)
+least_is bs aw s b w a = grind arith

@@ -1,23 +1,23 @@
 -- Plain scalars: what holds between two fetches holds after them.
-use Rattle.proof_scanner.proofs.Common.{[], after_plain, allow_key, and_parts, ap, arith, Arrives, awaits_past, before_by, before_past, begins_plain, begins_separation, begins_solid, begins_white, Bool, collection_column, collection_of, columns, comes_plain, Context, context, ends_with_content, Entry, eqb-true, false, fetch_plain_scalar, FlowLevel, goes_on, has_break, has_dash_before_flow, has_no_nul, has_tab_within, HasNoTabs, Held, Holds, in_flow, inl, innermost, innermost_column, inr, is_adjacent, is_at_comment_or_end, is_blank, is_break, is_deep_enough, is_empty, is_gap, is_indented, is_indented_by_spaces, is_no_comment, is_one_of, is_renewed, is_white, is_whole_plain, IsPiece, IsPlainRead, Key, last_line, leading, least_column, Levels, lexed, List, map, nat_le, nat_tests, None, not, Ok, on_held, Option, Plain, plain_lines_fit, plain_scalar, plain_value, Position, position_after, position_append, push, read, read_as, refl, ScannerState, scans_end, seen, Site, Some, Stands, stops, Style, subst, sym, Tok, true, unroll_non_block_indents, went, whole_plain, without_open, ℕ, ◌&&◌, ◌++◌, ◌<◌, ◌==◌, ◌||◌, ◌∙◌, ◌∷◌, ◌≡◌, ◌≤◌, ◌⊎◌}
+use Rattle.proof_scanner.proofs.Common.{Arrives, Bool, Context, Entry, FlowLevel, HasNoTabs, Held, Holds, IsPiece, IsPlainRead, Key, Levels, List, None, Ok, Option, Plain, Position, ScannerState, Site, Some, Stands, Style, Tok, [], after_plain, allow_key, and_parts, ap, arith, awaits_past, before_by, before_past, begins_plain, begins_separation, begins_solid, begins_white, collection_column, collection_of, columns, comes_plain, context, ends_with_content, eqb-true, false, fetch_plain_scalar, goes_on, has_break, has_dash_before_flow, has_no_nul, has_open_level, has_tab_within, in_flow, innermost, innermost_column, inr, is_adjacent, is_at_comment_or_end, is_blank, is_break, is_deep_enough, is_empty, is_gap, is_indented, is_indented_by_spaces, is_no_comment, is_one_of, is_renewed, is_white, is_whole_plain, last_line, leading, least_column, lexed, map, nat_le, nat_tests, not, on_held, other, plain_lines_fit, plain_scalar, plain_value, position_after, position_append, push, read, read_as, refl, scans_end, seen, stops, subst, sym, true, unroll_non_block_indents, went, whole_plain, without_open, ℕ, ◌&&◌, ◌++◌, ◌==◌, ◌||◌, ◌∙◌, ◌∷◌, ◌≡◌, ◌≤◌, ◌⊎◌}
 use Rattle.defs_token.specs.Account.{Account as PieceAccount, is_in_flow}
 use Rattle.model_scanner.specs.Machine as machine
 use Rattle.model_scanner.specs.Plain.{plain}
 use Rattle.proof_lexers.specs.PlainEnds as plains
 use Rattle.proof_scanner.proofs.Cut.Pieces.Separations.{white_is_no_hash, gap_is_separation}
 use Rattle.proof_scanner.proofs.Cut.Pieces.Inserted.{no_break_on_line}
-use Rattle.proof_scanner.proofs.Cut.Positions.{not_before_after, index_after}
+use Rattle.proof_scanner.proofs.Cut.Positions.{not_before_after}
 use Rattle.proof_scanner.proofs.Cut.Saved.{saved_keys, saved_is}
-use Rattle.proof_scanner.proofs.Cut.Nodes.{IsDeep, adjacent_other, less_or}
+use Rattle.proof_scanner.proofs.Cut.Nodes.{IsDeep, less_or}
 use Rattle.proof_scanner.proofs.Sound.Sides.{with_entries, ArrivesBy}
 use Rattle.proof_scanner.proofs.Sound.StreamEnds.{same_flow, same_levels}
 use Rattle.proof_scanner.proofs.Sound.Passed.{same_has_break}
 use Rattle.proof_scanner.proofs.Sound.QuotedEnds.{ends_in_line, on_one_line}
 use Rattle.proof_scanner.proofs.Sound.PlainLines.{PlainFits, plain_fits}
 use Rattle.proof_scanner.proofs.Sound.WithoutOpen.{AreClosed, without_is}
-use Rattle.proof_scanner.proofs.Sound.ReadNodes.{Read, next_of, site_of, site_then, allowed_past, IsRead, node_read}
+use Rattle.proof_scanner.proofs.Sound.ReadNodes.{Read, next_of, site_of, site_then, allowed_past, IsRead, node_read, state_after}
 use Rattle.proof_scanner.proofs.Cut.Pieces.Plains.{begins_as_read}
-use Rattle.proof_scanner.proofs.Sound.Arrivals.{not_none}
+use Rattle.proof_scanner.proofs.Sound.Reads.{adjacent_kept}
 
 -- ---- what was read
 
@@ -63,8 +63,7 @@ whole_ends fl collection (c ∷ r) next h =
     content_last c r (and_parts (goes_on fl collection _ r next) (ends_with_content c r) (and_parts (goes_on fl collection _ r next && ends_with_content c r) (stops fl collection _ next) h).0).1
 
 whole_solid : (fl : Bool) (collection : Option ℕ) (piece next : List ℕ) → is_whole_plain fl collection piece next ≡ true → is_empty piece ≡ false
-whole_solid fl collection [] next h = absurd (cc h)
-whole_solid fl collection (c ∷ r) next h = refl
+whole_solid fl a b d h = grind arith
 
 -- a gap has no comment
 pub no_comment : (g : List ℕ) → is_gap g ≡ true → (is_one_of g 35 ≡ false) × (leading is_no_comment g ≡ g)
@@ -99,27 +98,15 @@ gap_in_line q g (c ∷ r) some ends h = ap not (no_break_on_line q g c r no_feed
         by true e = absurd (white_feed (is_blank c) (is_break c) (feed e) ends)
         by false e = refl
 
--- outside flow it does not matter what stands before
-comes_alike : (x y : Bool) (column : ℕ) (text : List ℕ) → comes_plain false x column text ≡ comes_plain false y column text
-comes_alike x y column [] = refl
-comes_alike x y column (c ∷ r) = refl
-
 -- what begins no separation begins with content
 pub solid_text : (text : List ℕ) → is_empty text ≡ false → begins_separation text ≡ false → begins_solid text ≡ true
-solid_text [] some h = absurd (cc some)
-solid_text (c ∷ r) some h = by (is_white c) h
-  where
-    by : (w : Bool) → (w || (c == 35)) ≡ false → not w ≡ true
-    by true h = absurd (cc h)
-    by false h = refl
+solid_text a b h = grind (arith, is_white)
 
 some_plain : (fl x : Bool) (column : ℕ) (text : List ℕ) → comes_plain fl x column text ≡ true → is_empty text ≡ false
-some_plain fl x column [] h = absurd (cc h)
-some_plain fl x column (c ∷ r) h = refl
+some_plain fl x column a h = grind arith
 
 pub same_innermost : (bs : List ℕ) → innermost_column (map (λ n. Some n) bs) ≡ innermost bs
-same_innermost [] = refl
-same_innermost (n ∷ ns) = refl
+same_innermost a = grind arith
 
 -- ---- the step
 
@@ -167,11 +154,6 @@ module _ (text : List ℕ) (t : ScannerState) (a : Arrives text t) (deep : IsDee
     solid : is_empty q.piece ≡ false
     solid = whole_solid ctx.flow (collection_of ctx.indent) q.piece (q.gap ++ x.rest) q.whole
 
-    later : t.held.position.index < x.position.index
-    later =
-        let past : Position = position_after t.held.position q.piece (q.gap ++ x.rest) in
-        omega (arith, ap (λ p. p.index) q.end_is, index_after past q.gap x.rest, index_after t.held.position q.piece (q.gap ++ x.rest), not_none q.piece solid)
-
     one_line_of : is_empty x.rest ≡ false → x.position.line ≤ t.held.position.line → (has_break q.piece ≡ false) × (has_break q.gap ≡ false)
     one_line_of some h =
         let past : Position = position_after t.held.position q.piece (q.gap ++ x.rest) in
@@ -180,13 +162,12 @@ module _ (text : List ℕ) (t : ScannerState) (a : Arrives text t) (deep : IsDee
         let same : x.position.line ≡ (position_after past q.gap x.rest).line = ap (λ p. p.line) q.end_is in
         (on_one_line t.held.position q.piece (q.gap ++ x.rest) in_line (omega (arith, h, up, same)), gap_in_line past q.gap x.rest some q.ends (omega (arith, h, first, same)))
 
-    allowed_by : (fl : Bool) → x.value.leading ≡ allowed_past fl plain_scalar q.gap
+    allowed_by : (fl : Bool) → x.value.leading ≡ allowed_past None fl plain_scalar q.gap
     allowed_by true = q.leads ∙ ap has_break (sym (no_comment q.gap q.white).1)
     allowed_by false = q.leads
 
     none_awaits : (fl : Bool) (bs : List ℕ) (b : Bool) (next : List ℕ) → awaits_past fl tok bs b next ≡ false
-    none_awaits true bs b next = refl
-    none_awaits false bs b next = refl
+    none_awaits a bs b d = grind arith
 
     module _ (fs : List FlowLevel) (ks : List (Option Key)) (es : List Entry) (flow : t.held.flow ≡ fs) (r : ArrivesBy text t fs ks es) where
       abbrev at : Site
@@ -215,15 +196,7 @@ module _ (text : List ℕ) (t : ScannerState) (a : Arrives text t) (deep : IsDee
       least_here = ap (λ bs. least_column bs true) blocks_then ∙ closed.is_least.1
 
       comes_here : comes_plain (in_flow t.held) (is_adjacent own.before) t.held.position.col t.rest ≡ true
-      comes_here = by (is_empty fs) refl
-        where
-          by : (y : Bool) → is_empty fs ≡ y → comes_plain (in_flow t.held) (is_adjacent own.before) t.held.position.col t.rest ≡ true
-          by false h = ap (λ z. comes_plain (in_flow t.held) z t.held.position.col t.rest) (r.is_adjacent_here h some_here) ∙ comes
-          by true h =
-              let out : in_flow t.held ≡ false = flow_is ∙ ap not h in
-              ap (λ z. comes_plain z (is_adjacent own.before) t.held.position.col t.rest) out ∙
-              (comes_alike (is_adjacent own.before) (t.held.position.index == t.held.adjacent_value_at) t.held.position.col t.rest ∙
-              (ap (λ z. comes_plain z (t.held.position.index == t.held.adjacent_value_at) t.held.position.col t.rest) (sym out) ∙ comes))
+      comes_here = grind arith
 
       begins : begins_plain (is_in_flow own) (is_adjacent own.before) own.position.col (q.piece ++ next_of d) ≡ true
       begins = ap (begins_plain (is_in_flow own) (is_adjacent own.before) own.position.col) (sym q.cut) ∙ (ap (λ f. begins_plain f (is_adjacent own.before) own.position.col t.rest) own_flow ∙ begins_as_read ctx (is_adjacent own.before) t.rest t.held.position x comes_here scanned)
@@ -248,8 +221,7 @@ module _ (text : List ℕ) (t : ScannerState) (a : Arrives text t) (deep : IsDee
           value = rw (e, (no_comment q.gap q.white).0) refl
 
           by : (y : Bool) → has_break q.gap ≡ y → (not y || not (has_tab_within (least_column at.blocks (aw || not (is_one_of q.gap 35))) (last_line q.gap))) ≡ true
-          by false f = refl
-          by true f = ap (λ z. not (has_tab_within (least_column at.blocks z) (last_line q.gap))) value ∙ (ap (λ n. not (has_tab_within n (last_line q.gap))) least_here ∙ ap not (h f))
+          by a f = grind (arith, value, least_here, h)
 
       no_tabs : HasNoTabs (site_then t fs r.site d) q.gap x.rest
       no_tabs = by (has_break q.gap) refl
@@ -258,37 +230,19 @@ module _ (text : List ℕ) (t : ScannerState) (a : Arrives text t) (deep : IsDee
           awaits_then = none_awaits fl at.blocks at.awaits (next_of d)
 
           of : has_break q.gap ≡ true → (is_at_comment_or_end x.rest ≡ true) ⊎ (has_tab_within gone.indent (last_line q.gap) ≡ false) → HasNoTabs (site_then t fs r.site d) q.gap x.rest
-          of e (inl h) = inl h
-          of e (inr h) = inr (spaced (λ _. h) (awaits_past fl tok at.blocks at.awaits (next_of d)) awaits_then)
+          of e a = grind (arith, spaced, next_of, awaits_then)
 
           by : (y : Bool) → has_break q.gap ≡ y → HasNoTabs (site_then t fs r.site d) q.gap x.rest
           by true e = of e (q.fits.clear q.white e)
           by false e = inr (spaced (λ h. absurd (cc (e, h))) (awaits_past fl tok at.blocks at.awaits (next_of d)) awaits_then)
 
-      pub is_read : IsRead t fs r.site r.line es r.separation d
-      is_read = record {
-        act = refl;
-        begun = refl;
-        cut = q.cut;
-        is_solid = solid;
-        is_filled = gap_is_separation q.gap x.rest q.white;
-        end_is = q.end_is;
-        shown = λ s. refl;
-        is_piece = piece_is;
-        is_deep = deep_by fl (sym flow_is);
-        lines_stand = ap (λ n. plain_lines_fit n q.piece) least_here ∙ q.fits.lines;
-        precedes = dash_by fl (sym flow_is);
-        columns_are = closed.same_columns;
-        awaits_is = none_awaits fl at.blocks at.awaits (next_of d) ∙ sym closed.none_open;
-        are_levels = closed.are_levels;
-        has_no_tabs = no_tabs;
-        is_leading = λ some more hash. q.leads;
-        read_on = q.ends;
-        allowed_is = allowed_by fl;
-        one_line = one_line_of;
-        was_adjacent = λ inside. adjacent_other x.position t.held.adjacent_value_at x.rest (omega (arith, a.was_adjacent, later));
-        adjacent_before = omega (arith, a.was_adjacent, later);
-      }
+      pub is_read : IsRead t None fs r.site r.line es r.separation d
+      is_read =
+          let far = adjacent_kept t (state_after t None d) other q.piece (next_of d) q.gap solid q.end_is a.was_adjacent refl refl in
+          let filled = gap_is_separation q.gap x.rest q.white in
+          let awaits_then : awaits_past fl tok at.blocks at.awaits (next_of d) ≡ has_open_level gone.indents = none_awaits fl at.blocks at.awaits (next_of d) ∙ sym closed.none_open in
+          let further : plain_lines_fit (least_column at.blocks true) q.piece ≡ true = ap (λ n. plain_lines_fit n q.piece) least_here ∙ q.fits.lines in
+          assumption (q, closed, solid, far, filled, blocks_then, awaits_then, no_tabs, piece_is, deep_by fl (sym flow_is), further, dash_by fl (sym flow_is), allowed_by fl, one_line_of)
 
     abbrev pub scalar_held : Held
     scalar_held = record t.held {
@@ -303,7 +257,7 @@ module _ (text : List ℕ) (t : ScannerState) (a : Arrives text t) (deep : IsDee
     pub stands : Stands text (record { rest = x.rest; held = push t.held.position tok (after_plain x.value.leading scalar_held) })
     stands =
         subst (λ ts. Stands text (record { rest = x.rest; held = push t.held.position tok (after_plain x.value.leading (record scalar_held { tokens = ts })) })) (sym closed.same_tokens)
-        (node_read text t d deep a (λ fs ks es f r. is_read fs ks es f r))
+        (node_read text t None d deep a (λ fs ks es f r. is_read fs ks es f r))
 
 -- a plain scalar
 pub plain_keeps_by : (text : List ℕ) (t : ScannerState) → IsDeep t.held → comes_plain (in_flow t.held) (t.held.position.index == t.held.adjacent_value_at) t.held.position.col t.rest ≡ true → Arrives text t → Holds (Stands text) (fetch_plain_scalar t)
@@ -316,20 +270,7 @@ plain_keeps_by text t deep comes a =
 -- where a plain scalar is looked for by the account, the scanner looks for it too
 pub comes_as_held : (text : List ℕ) (t : ScannerState) (a : Arrives text t) → comes_plain (in_flow t.held) (is_adjacent (before_past (before_by a.base.site.before) a.separation)) t.held.position.col t.rest ≡ true →
     comes_plain (in_flow t.held) (t.held.position.index == t.held.adjacent_value_at) t.held.position.col t.rest ≡ true
-comes_as_held text t a comes = by (is_empty t.held.flow) refl
-  where
-    here : Bool
-    here = is_adjacent (before_past (before_by a.base.site.before) a.separation)
-
-    some : is_empty t.rest ≡ false
-    some = some_plain (in_flow t.held) here t.held.position.col t.rest comes
-
-    by : (y : Bool) → is_empty t.held.flow ≡ y → comes_plain (in_flow t.held) (t.held.position.index == t.held.adjacent_value_at) t.held.position.col t.rest ≡ true
-    by false e = ap (λ z. comes_plain (in_flow t.held) z t.held.position.col t.rest) (sym (a.is_adjacent_here e some)) ∙ comes
-    by true e =
-        let out : in_flow t.held ≡ false = ap not e in
-        ap (λ z. comes_plain z (t.held.position.index == t.held.adjacent_value_at) t.held.position.col t.rest) out ∙
-        (comes_alike (t.held.position.index == t.held.adjacent_value_at) here t.held.position.col t.rest ∙ (ap (λ z. comes_plain z here t.held.position.col t.rest) (sym out) ∙ comes))
+comes_as_held text t a comes = grind arith
 
 -- the same, as the dispatch knows it
 pub plain_keeps : (text : List ℕ) (t : ScannerState) (a : Arrives text t) → IsDeep t.held → comes_plain (in_flow t.held) (is_adjacent (before_past (before_by a.base.site.before) a.separation)) t.held.position.col t.rest ≡ true → Holds (Stands text) (fetch_plain_scalar t)

@@ -1,5 +1,5 @@
 -- The scan of a plain scalar refuses TABs that indent its further lines, and in flow a dash before a flow indicator.
-use Rattle.proof_scanner.proofs.Common.{[], after_first, and_false, and_parts, and_then, ap, append_assoc, append_cancel_right, arith, At, at_break, at_char, at_dash, at_gap, at_marker, begins_flow, begins_solid, Bool, can_be_plain, Context, ended, eqb-true, Err, fail, false, Fault, first, Folded, has_break, has_dash_before_flow, has_no_break, has_tab_within, if◌then◌else◌, inl, inr, is_at_comment_or_end, is_before_line_feed, is_blanks, is_cr_lf, is_gap, is_one_of, is_white, joined, last_line, leading, lines_have_no_tab, List, nat_lt, nat_tests, not, not-true, nothing, Ok, on, or_true, past, past_break, Plain, plain_from, plain_lines_fit, PlainState, Position, put_first, Read, refl, Result, run, same_blank, same_break, slice_index, split, split_by, starts, Stop, stop, subst, suc, sym, tabs, true, Turn, turn, turn_in, turned, with_blank, with_break, ℕ, ◌&&◌, ◌++◌, ◌+◌, ◌-◌, ◌==◌, ◌||◌, ◌∙◌, ◌∷◌, ◌≡◌, ◌≤◌, ◌⊎◌}
+use Rattle.proof_scanner.proofs.Common.{At, Bool, Context, Err, Fault, Folded, List, Ok, Plain, PlainState, Position, Read, Result, Stop, Turn, [], after_first, and_false, and_parts, and_then, ap, append_assoc, append_cancel_right, arith, at_break, at_char, at_dash, at_gap, at_marker, begins_flow, begins_solid, can_be_plain, ended, eqb-true, fail, false, first, has_break, has_dash_before_flow, has_no_break, has_tab_within, if◌then◌else◌, inl, inr, is_at_comment_or_end, is_before_line_feed, is_blanks, is_cr_lf, is_gap, is_one_of, is_white, joined, last_line, leading, lines_have_no_tab, nat_lt, nat_tests, not, not-true, nothing, on, or_true, past, past_break, plain_from, plain_lines_fit, put_first, refl, run, same_blank, same_break, slice_index, split, split_by, starts, stop, subst, suc, sym, tabs, true, turn, turn_in, turned, with_blank, with_break, ℕ, ◌&&◌, ◌++◌, ◌+◌, ◌-◌, ◌==◌, ◌||◌, ◌∙◌, ◌∷◌, ◌≡◌, ◌≤◌, ◌⊎◌}
 use Rattle.defs_text.specs.Classes as classes
 use Rattle.yaml_chars.specs.Class.{is_break, is_blank}
 use Rattle.yaml_chars.specs.Class as model_classes
@@ -77,38 +77,22 @@ abbrev pub IsAt : PlainState → Spot → (rest : List ℕ) → Type 0
 IsAt t x a = (spot_of t.mode t.folded.leading t.position.col ≡ x) ⊎ ((x ≡ at 0) × (begins_break a ≡ true))
 
 same_leading : (c : ℕ) (t : Folded) → (with_blank c t).leading ≡ t.leading
-same_leading c t = by t.leading refl
-  where
-    by : (b : Bool) → t.leading ≡ b → (with_blank c t).leading ≡ t.leading
-    by true e = rw e refl
-    by false e = rw e refl
+same_leading c t = grind arith
 
 pub white_is_no_dash : (flow apart next : Bool) (c : ℕ) → (is_break c || is_blank c) ≡ true → (flow && apart && (c == 45) && next) ≡ false
 unfolding is_break is_blank
-white_is_no_dash flow apart next c h = by flow apart (c == 45) refl
-  where
-    by : (x y z : Bool) → (c == 45) ≡ z → (x && y && z && next) ≡ false
-    by x y true e = let same : c ≡ 45 = eqb-true c 45 e in absurd (cc (rw same at h))
-    by true true false e = refl
-    by true false false e = refl
-    by false y false e = refl
+white_is_no_dash flow apart next c h = grind arith
 
 pub not_apart : (flow dash next : Bool) → (flow && false && dash && next) ≡ false
-not_apart true dash next = refl
-not_apart false dash next = refl
+not_apart a b d = grind arith
 
 solid_is_no_tab : (c : ℕ) → is_blank c ≡ false → (c == 9) ≡ false
 unfolding is_blank
-solid_is_no_tab c h = by (c == 9) refl
-  where
-    by : (b : Bool) → (c == 9) ≡ b → b ≡ false
-    by true e = let same : c ≡ 9 = eqb-true c 9 e in absurd (cc (rw same at h))
-    by false e = refl
+solid_is_no_tab c h = grind arith
 
 feed_breaks : (c : ℕ) (a : List ℕ) → is_cr_lf c a ≡ true → begins_break a ≡ true
 unfolding is_break
-feed_breaks c [] h = absurd (cc (and_parts (c == 13) (0 == 10) h).1)
-feed_breaks c (d ∷ a) h = let same : d ≡ 10 = eqb-true d 10 (and_parts (c == 13) (d == 10) h).1 in rw same refl
+feed_breaks c b h = grind arith
 
 module _ (ctx : Context) (start : Position) (c : ℕ) (a : List ℕ) where
   -- What a turn does at a character: it stays before it; fails, because of a TAB or a dash; or is after it.
@@ -119,9 +103,7 @@ module _ (ctx : Context) (start : Position) (c : ℕ) (a : List ℕ) where
         (ctx.flow && is_apart m && (c == 45) && begins_flow a) ≡ false → is_apart t.mode ≡ (is_break c || is_blank c) → Goes m s (on t)
 
   white_goes : (x : Spot) → (is_break c || is_blank c) ≡ true → may_go x c ≡ true
-  white_goes in_text h = refl
-  white_goes (at k) h = refl
-  white_goes tabbed h = h
+  white_goes a h = grind arith
 
   break_goes : (m : Mode) (s : PlainState) → is_break c ≡ true → Goes m s (on (at_break c a s))
   break_goes m s e = by (is_cr_lf c a) refl
@@ -136,8 +118,7 @@ module _ (ctx : Context) (start : Position) (c : ℕ) (a : List ℕ) where
       margin = rw e refl
 
       by : (feeds : Bool) → is_cr_lf c a ≡ feeds → Goes m s (on (if feeds then record { mode = between; position = past s.position; folded = s.folded } else record { mode = between; position = past_break s.position; folded = with_break s.folded }))
-      by true f = goes _ tt (white_goes x white) (inr (margin, feed_breaks c a f)) (white_is_no_dash ctx.flow (is_apart m) (begins_flow a) c white) (sym white)
-      by false f = goes _ tt (white_goes x white) (inl (ap (λ l. spot_of between l 0) (break_leads s.folded) ∙ sym margin)) (white_is_no_dash ctx.flow (is_apart m) (begins_flow a) c white) (sym white)
+      by b f = grind (arith, goes, white_goes, x, white, margin, feed_breaks, white_is_no_dash, is_apart, between, break_leads)
 
   module _ (breaks : is_break c ≡ false) where
     -- a blank that is no TAB in the indentation
@@ -176,8 +157,7 @@ module _ (ctx : Context) (start : Position) (c : ℕ) (a : List ℕ) where
         more = omega arith
 
         go : (l : Bool) → may_go (spot_of between l k) c ≡ true
-        go true = refl
-        go false = refl
+        go a = grind arith
 
         on_line : ((c == 9) && nat_lt k ctx.indent) ≡ false → at (k + 1) ≡ past_spot ctx.indent (at k) c
         on_line g = ap (λ n. at n) more ∙ rw (breaks, g, f) refl
@@ -191,9 +171,7 @@ module _ (ctx : Context) (start : Position) (c : ℕ) (a : List ℕ) where
 
     module _ (solid : is_blank c ≡ false) where
       no_spot : (x : Spot) → may_go x c ≡ true → past_spot ctx.indent x c ≡ in_text
-      no_spot in_text h = rw breaks refl
-      no_spot (at k) h = rw (breaks, solid, solid_is_no_tab c solid) refl
-      no_spot tabbed h = absurd (cc (rw (breaks, solid) at h))
+      no_spot a h = grind (arith, breaks, solid, solid_is_no_tab)
 
       -- one more character of a line
       char_inside : (s : PlainState) → s.folded.leading ≡ false → Goes inside s (on (at_char c s.position s.folded))
@@ -204,8 +182,7 @@ module _ (ctx : Context) (start : Position) (c : ℕ) (a : List ℕ) where
       char_between s d = goes _ refl (free s.folded.leading) (inl (sym (no_spot (spot_of between s.folded.leading s.position.col) (free s.folded.leading)))) d (rw (breaks, solid) refl)
         where
           free : (l : Bool) → may_go (spot_of between l s.position.col) c ≡ true
-          free true = refl
-          free false = refl
+          free a = grind arith
 
   -- ---- a turn
 
@@ -215,15 +192,10 @@ module _ (ctx : Context) (start : Position) (c : ℕ) (a : List ℕ) where
     where
       by : (x y : Bool) → is_break c ≡ x → is_blank c ≡ y → Goes m s (if x || y then on (at_gap ctx c a s) else u)
       by true y e f = let is : at_gap ctx c a s ≡ at_break c a s = rw e refl in subst (λ t. Goes m s (on t)) (sym is) (break_goes m s e)
-      by false true e f = blank e f
-      by false false e f = other e f
+      by false b e f = grind (arith, blank, other)
 
   stays_between : (s : PlainState) → Goes between s (stop s)
-  stays_between s = stays (by s.folded.leading) s
-    where
-      by : (l : Bool) → may_stop (spot_of between l s.position.col) (c ∷ a) ≡ true
-      by true = refl
-      by false = refl
+  stays_between s = grind (arith, stays, between)
 
   -- the dash that is looked for before a scalar goes on
   pub dash_is : (ctx.flow && true && (c == 45) && begins_flow a) ≡ at_dash ctx.flow (c ∷ a)
@@ -236,10 +208,7 @@ module _ (ctx : Context) (start : Position) (c : ℕ) (a : List ℕ) where
   no_dash p h = by (is_shallow ctx p.col) ((c == 35) || at_marker p.col (c ∷ a)) (at_dash ctx.flow (c ∷ a)) refl refl refl
     where
       by : (x y z : Bool) → is_shallow ctx p.col ≡ x → ((c == 35) || at_marker p.col (c ∷ a)) ≡ y → at_dash ctx.flow (c ∷ a) ≡ z → (ctx.flow && true && (c == 45) && begins_flow a) ≡ false
-      by true y z e f g = absurd (cc (rw e at h))
-      by false true z e f g = absurd (cc (rw (e, f) at h))
-      by false false true e f g = absurd (cc (rw (e, f, g) at h))
-      by false false false e f g = dash_is ∙ g
+      by b y z e f g = grind (arith, at, h, dash_is)
 
   -- and one that is refused there has
   has_dash : (p : Position) (f : Fault) → goes_on ctx (c ∷ a) p ≡ Err f → (ctx.flow && true && (c == 45) && begins_flow a) ≡ true
@@ -247,10 +216,7 @@ module _ (ctx : Context) (start : Position) (c : ℕ) (a : List ℕ) where
   has_dash p f h = by (is_shallow ctx p.col) ((c == 35) || at_marker p.col (c ∷ a)) (at_dash ctx.flow (c ∷ a)) refl refl refl
     where
       by : (x y z : Bool) → is_shallow ctx p.col ≡ x → ((c == 35) || at_marker p.col (c ∷ a)) ≡ y → at_dash ctx.flow (c ∷ a) ≡ z → (ctx.flow && true && (c == 45) && begins_flow a) ≡ true
-      by true y z e i g = absurd (cc (rw e at h))
-      by false true z e i g = absurd (cc (rw (e, i) at h))
-      by false false true e i g = dash_is ∙ g
-      by false false false e i g = absurd (cc (rw (e, i, g) at h))
+      by b y z e i g = grind (arith, at, h, dash_is)
 
   begun_goes : (s : PlainState) (x : Result Bool Fault) → goes_on ctx (c ∷ a) s.position ≡ x → is_break c ≡ false → is_blank c ≡ false → Goes between s (begun x c s)
   begun_goes s (Ok true) h e f = char_between e f s (no_dash s.position h)
@@ -314,9 +280,7 @@ module _ (ctx : Context) (start : Position) where
   PassedFrom s a rest = Passed ctx.indent ctx.flow (spot s) (is_apart s.mode) a rest
 
   stop_here : (x : Spot) → may_stop x [] ≡ true
-  stop_here in_text = refl
-  stop_here (at k) = refl
-  stop_here tabbed = refl
+  stop_here a = grind arith
 
   one_more : (c : ℕ) (a rest : List ℕ) (x : Spot) (apart : Bool) (t : PlainState) → may_go x c ≡ true → IsAt t (past_spot ctx.indent x c) a → (ctx.flow && apart && (c == 45) && begins_flow a) ≡ false → is_apart t.mode ≡ (is_break c || is_blank c) →
       PassedFrom t a rest → Passed ctx.indent ctx.flow x apart (c ∷ a) rest
@@ -359,22 +323,18 @@ lines_are column tabbed t = is_blanks (first_line t) && plain_lines_fit column t
 
 -- all lines: the first, and the others
 pub all_lines : (column : ℕ) (ls : List (List ℕ)) (last : List ℕ) → lines_have_no_tab column (ls ++ (last ∷ [])) ≡ (line_is 0 column (first_of ls last) && lines_have_no_tab column (after_first ls last))
-all_lines column [] last = rw (none_before column) refl
-all_lines column (l ∷ ls) last = rw (none_before column) refl
+all_lines column a last = grind (arith, none_before)
 
 put_first_line : (c : ℕ) (ls : List (List ℕ)) (last : List ℕ) → first_of (put_first c ls last).complete (put_first c ls last).last ≡ c ∷ first_of ls last
-put_first_line c [] last = refl
-put_first_line c (l ∷ ls) last = refl
+put_first_line c a last = grind arith
 
 put_first_others : (c : ℕ) (ls : List (List ℕ)) (last : List ℕ) → after_first (put_first c ls last).complete (put_first c ls last).last ≡ after_first ls last
-put_first_others c [] last = refl
-put_first_others c (l ∷ ls) last = refl
+put_first_others c a last = grind arith
 
 -- a line feed ends an empty line
 feed_line : (r : List ℕ) → split_by (classes.is_break 10) (is_before_line_feed 10 r) 10 (split r) ≡ record { complete = [] ∷ (split r).complete; last = (split r).last }
 unfolding classes.is_break
-feed_line [] = refl
-feed_line (d ∷ r) = refl
+feed_line a = grind arith
 
 pub feed_first : (c : ℕ) (r : List ℕ) → is_before_line_feed c r ≡ true → first_line r ≡ []
 feed_first c [] h = absurd (cc h)
@@ -391,9 +351,7 @@ module _ (column : ℕ) (c : ℕ) (r : List ℕ) where
       q = and_parts (line_is 0 column (first_line r)) (plain_lines_fit column r) h
 
       spots : (x : Spot) → first_line (c ∷ r) ≡ [] → plain_lines_fit column (c ∷ r) ≡ true → lines_are column x (c ∷ r) ≡ true
-      spots in_text f g = g
-      spots (at k) f g = rw (f, g) refl
-      spots tabbed f g = rw (f, g) refl
+      spots a f g = grind arith
 
       by : (f : Bool) → is_before_line_feed c r ≡ f → lines_are column x (c ∷ r) ≡ true
       by true f =
@@ -415,11 +373,7 @@ module _ (column : ℕ) (c : ℕ) (r : List ℕ) where
 
     -- a blank more, which is no TAB left of the column
     blank_line : (k : ℕ) → classes.is_blank c ≡ true → ((c == 9) && nat_lt k column) ≡ false → (l : List ℕ) → line_is (suc k) column l ≡ true → line_is k column (c ∷ l) ≡ true
-    blank_line k f g l h = rw f (by (is_blanks l) h)
-      where
-        by : (b : Bool) → (b || not (has_tab_within (column - suc k) (leading classes.is_blank l))) ≡ true → (b || not (has_tab_within (column - k) (c ∷ leading classes.is_blank l))) ≡ true
-        by true h = refl
-        by false h = ap not (blank_more k column c (leading classes.is_blank l) g (not-true (has_tab_within (column - suc k) (leading classes.is_blank l)) h))
+    blank_line k f g l h = grind (arith, column, blank_more, not-true)
 
     -- content ends the indentation
     content_line : (k : ℕ) → classes.is_blank c ≡ false → (l : List ℕ) → line_is k column (c ∷ l) ≡ true
@@ -428,17 +382,13 @@ module _ (column : ℕ) (c : ℕ) (r : List ℕ) where
 -- What the scan says of each character says that the further lines fit.
 lines_fit : (column : ℕ) (x : Spot) (t g rest : List ℕ) → tabs_fit column x (t ++ g) rest ≡ true → lines_are column x t ≡ true
 unfolding classes.is_blank
-lines_fit column in_text [] g rest h = refl
-lines_fit column (at k) [] g rest h = refl
-lines_fit column tabbed [] g rest h = refl
+lines_fit column a [] g rest h = grind arith
 lines_fit column x (c ∷ r) g rest h =
     let q = and_parts (may_go x c) (tabs_fit column (past_spot column x c) (r ++ g) rest) h in
     by x (is_break c) refl q.0 (lines_fit column (past_spot column x c) r g rest q.1)
   where
     further : (y : Spot) → lines_are column y r ≡ true → plain_lines_fit column r ≡ true
-    further in_text h = h
-    further (at k) h = (and_parts (line_is k column (first_line r)) (plain_lines_fit column r) h).1
-    further tabbed h = (and_parts (is_blanks (first_line r)) (plain_lines_fit column r) h).1
+    further a h = grind (arith, line_is, column, first_line)
 
     on_line : (k : ℕ) → is_break c ≡ false → (tab blank : Bool) → ((c == 9) && nat_lt k column) ≡ tab → is_blank c ≡ blank → lines_are column (if tab then tabbed else (if blank then at (suc k) else in_text)) r ≡ true → lines_are column (at k) (c ∷ r) ≡ true
     on_line k e true blank f g h =
@@ -483,8 +433,7 @@ tabbed_gap column [] rest n h = h
 tabbed_gap column (c ∷ g) rest n h = by (is_break c) refl n (and_parts (is_break c || is_blank c) (tabs_fit column (past_spot column tabbed c) g rest) h).1 (λ k i. tabbed_gap column g rest k i)
   where
     by : (b : Bool) → is_break c ≡ b → has_break (c ∷ g) ≡ false → tabs_fit column (if b then at 0 else tabbed) g rest ≡ true → (has_break g ≡ false → tabs_fit column tabbed g rest ≡ true → is_at_comment_or_end rest ≡ true) → is_at_comment_or_end rest ≡ true
-    by true e n h later = absurd (cc (rw (same_break c, e) at n))
-    by false e n h later = later (rw (same_break c, e) at n) h
+    by a e n h d = grind (arith, same_break, at)
 
 blanks_gap : (column k : ℕ) (g rest : List ℕ) → has_break g ≡ false → is_gap g ≡ true → tabs_fit column (at k) g rest ≡ true → IsClear (column - k) g rest
 blanks_gap column k [] rest n w h = inr (ap (λ l. is_one_of l 9) (take_none (column - k)))
@@ -519,9 +468,7 @@ broken_gap column x (c ∷ g) rest w b h = by (has_break g) refl (λ k. broken_g
     breaks k = here (classes.is_break c) (has_no_break g) refl b k
       where
         here : (x y : Bool) → classes.is_break c ≡ x → not (not x && y) ≡ true → not y ≡ false → is_break c ≡ true
-        here true y e b k = sym (same_break c) ∙ e
-        here false true e b k = absurd (cc b)
-        here false false e b k = absurd (cc k)
+        here a y e b k = grind (arith, same_break)
 
     by : (y : Bool) → has_break g ≡ y → (has_break g ≡ true → IsClear column (last_line g) rest) → IsClear column (last_line (c ∷ g)) rest
     by true e others =
@@ -546,11 +493,7 @@ no_last_dash flow apart (c ∷ d ∷ []) g rest h = rw (same_break c, same_blank
     dash = (and_parts (not (flow && (is_break c || is_blank c) && (d == 45) && begins_flow (g ++ rest))) (dashes_fit flow (is_break d || is_blank d) g rest) more).0
 
     by : (f b l n w : Bool) → (f && (b || l) && n && w) ≡ false → (f && (((l || b) && n) && w)) ≡ false
-    by false b l n w h = refl
-    by true true true n w h = h
-    by true true false n w h = h
-    by true false true n w h = h
-    by true false false n w h = h
+    by a b l n w h = grind arith
 no_last_dash flow apart (c ∷ d ∷ e ∷ r) g rest h =
     no_last_dash flow (is_break c || is_blank c) (d ∷ e ∷ r) g rest
     (and_parts (not (flow && apart && (c == 45) && begins_flow (d ∷ e ∷ (r ++ g) ++ rest))) (dashes_fit flow (is_break c || is_blank c) (d ∷ e ∷ (r ++ g)) rest) h).1
@@ -566,11 +509,7 @@ pub record PlainFits (ctx : Context) (p : Position) (piece gap rest : List ℕ) 
 
 starts_deep : (ctx : Context) (a : List ℕ) (p : Position) → starts ctx a p ≡ Ok tt → ctx.flow ≡ true → ctx.indent ≤ p.col
 unfolding starts
-starts_deep ctx a p h f = by (nat_lt p.col ctx.indent) refl
-  where
-    by : (b : Bool) → nat_lt p.col ctx.indent ≡ b → ctx.indent ≤ p.col
-    by true e = absurd (cc (rw (f, e) at h))
-    by false e = grind (arith, nat_tests, e)
+starts_deep ctx a p h f = grind (arith, at)
 
 of_passed : (ctx : Context) (p : Position) (text piece gap rest : List ℕ) → text ≡ piece ++ (gap ++ rest) → (ctx.flow ≡ true → ctx.indent ≤ p.col) → Passed ctx.indent ctx.flow in_text false text rest → PlainFits ctx p piece gap rest
 of_passed ctx p text piece gap rest cut deep w =
@@ -598,9 +537,7 @@ plain_fits ctx p [] piece gap r begins cut e = absurd (cc begins)
 plain_fits ctx p (c ∷ a) piece gap r begins cut e = by (starts ctx (c ∷ a) p) refl e
   where
     solids : (b l : Bool) → classes.is_break c ≡ b → classes.is_blank c ≡ l → not (l || b) ≡ true → (is_break c ≡ false) × (is_blank c ≡ false)
-    solids false false f g h = (sym (same_break c) ∙ f, sym (same_blank c) ∙ g)
-    solids true false f g h = absurd (cc h)
-    solids b true f g h = absurd (cc h)
+    solids b a f g h = grind (arith, nat_tests, same_break, same_blank, eqb-true)
 
     solid : (is_break c ≡ false) × (is_blank c ≡ false)
     solid = solids (classes.is_break c) (classes.is_blank c) refl refl begins

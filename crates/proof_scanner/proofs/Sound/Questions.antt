@@ -1,23 +1,22 @@
 -- The function of the model that reads a `?`: what holds where it begins holds between two fetches after it.
-use Rattle.proof_scanner.proofs.Common.{[], allow_key, another, ap, AreLevels, arith, Arrives, asked_pair, At, begin_key, begins_with_space_or_break, Bool, both_hold, chained, check_key_space, checked, columns, either, ends_at, entries_past, Entry, false, Fault, fetch_key, FlowLevel, free, gives_question, Had, had_after, has_break, has_open_level, has_tab_before_piece, has_tab_within, HasNoTabs, Held, Holds, if◌then◌else◌, in_flow, Indent, inl, inr, is_at_comment_or_end, is_at_gap, is_break, is_deeper, is_empty, is_in_column, is_keyed, is_one_of, is_renewed, is_separation, IsEntryOf, IsPairOf, Key, Keyed, keyed, last_line, length, length-append, line_past, List, Mapping, no_pair, None, not, not-false, not_ended, Ok, on_held, opened, Option, or_parts, or_true, Pair, pair_past, past, peek, placed, Position, position_after, push, put, refl, remove_implicit_key, renewed, Result, roll_indent, ScannerState, settled, single_pair, Site, site_in, skip_indicator, skip_yaml_whitespace, Some, Stands, subst, suc, sym, take, takes_pair, Tok, Token, token, tried, true, went, with_top, zero, ℕ, ◌&&◌, ◌++◌, ◌+◌, ◌==◌, ◌>>=◌, ◌||◌, ◌∙◌, ◌∷◌, ◌≡◌, ◌⊎◌}
+use Rattle.proof_scanner.proofs.Common.{IsLeading, AreLevels, Arrives, At, Bool, Entry, Fault, FlowLevel, HasNoTabs, Held, Holds, Indent, IsEntryOf, IsReadOn, Key, Keyed, List, None, Ok, Option, Position, Result, ScannerState, Site, Some, Stands, Tok, Token, [], allow_key, another, ap, arith, before_by, begin_key, begins_line, begins_with_space_or_break, both_hold, chained, check_key_space, checked, columns, either, ends_at, entries_past, false, fetch_key, gap, gives_question, has_break, has_open_level, has_tab_before_piece, has_tab_within, if◌then◌else◌, in_flow, inl, inr, is_at_gap, is_break, is_deeper, is_empty, is_in_column, is_keyed, is_one_of, is_renewed, is_separation, keyed, last_line, line_past, not, not-false, not_ended, on_held, opened, or_parts, or_true, pair_past, past, peek, placed, position_after, push, put, refl, remove_implicit_key, roll_indent, settled, skip_indicator, skip_yaml_whitespace, subst, suc, sym, take, takes_pair, token, tried, true, went, with_top, zero, ℕ, ◌&&◌, ◌++◌, ◌==◌, ◌>>=◌, ◌||◌, ◌∙◌, ◌∷◌, ◌≡◌, ◌≤◌, ◌⊎◌}
 use Rattle.yaml_tokens.specs.declared.problem.Problem.TheVariants as problem
-use Rattle.defs_token.specs.FlowEntry.{waits, with_had}
 use Rattle.model_scanner.specs.declared.level.FlowLevel.TheVariants.{Entry as InEntry}
 use Rattle.model_scanner.specs.State.{after}
 use Rattle.proof_lexers.specs.PlainEnds as ends
 use Rattle.proof_scanner.proofs.Cut.Nodes.{IsDeep}
 use Rattle.proof_scanner.proofs.Cut.Blocks.{key_removed}
-use Rattle.proof_scanner.specs.StandsInRow.{kind_of}
-use Rattle.proof_scanner.proofs.Sound.Arrivals.{first_not_right, numbered_more, numbered_around}
+use Rattle.proof_scanner.proofs.Sound.Arrivals.{first_not_right}
 use Rattle.proof_scanner.proofs.Sound.Around.{tokens_before}
-use Rattle.proof_scanner.proofs.Sound.EntryPieces.{low_enough, site_inside, goes_inside}
+use Rattle.proof_scanner.proofs.Sound.EntryPieces.{low_enough, goes_inside}
 use Rattle.proof_scanner.proofs.Sound.Indicated.{past_one}
-use Rattle.proof_scanner.proofs.Sound.NodesInside.{not_keyed}
-use Rattle.proof_scanner.proofs.Sound.OutsidePieces.{site_then, read_outside, line_free, none_open, started_tokens, begun_after, with_start}
+use Rattle.proof_scanner.proofs.Sound.NodeTokens.{not_keyed}
+use Rattle.proof_scanner.proofs.Sound.OutsidePieces.{read_outside, line_free, none_open, started_tokens, begun_after, with_start}
 use Rattle.proof_scanner.proofs.Sound.Rolled.{RollsTo, rolls_to, top_closed}
 use Rattle.proof_scanner.proofs.Sound.Sides.{ArrivesBy, ArrivesOutside, ArrivesInside, arrives_side}
 use Rattle.proof_scanner.proofs.Sound.WhiteSpaces.{white_of, past_white, white_cut, no_tab_before, no_tab_in_last, past_white_space, white_exactly, white_first}
 use Rattle.proof_scanner.proofs.Cut.Fetched.{begins_here}
+use Rattle.proof_scanner.proofs.Sound.Reads.{Reads, adjacent_kept}
 
 -- ---- what is read after it
 
@@ -31,12 +30,10 @@ pub white_indents : (s : Site) (more : List ℕ) → s.before ≡ another → Ha
 white_indents s more before = by (no_tab_in_last false more)
   where
     all : (b : Bool) (n : ℕ) → is_one_of (last_line (white_of false more)) 9 ≡ false → (not b || not (has_tab_within n (last_line (white_of false more)))) ≡ true
-    all true n h = ap not (no_tab_taken n (last_line (white_of false more)) h)
-    all false n h = refl
+    all a n h = grind (arith, no_tab_taken, white_of, more)
 
     by : (past_white false more ≡ []) ⊎ (is_one_of (last_line (white_of false more)) 9 ≡ false) → HasNoTabs s (white_of false more) (past_white false more)
-    by (inl e) = inl (ap is_at_comment_or_end e)
-    by (inr h) = inr (all _ _ h)
+    by a = grind (arith, all)
 
 -- no TAB stands there
 space_checked : (more : List ℕ) (t : ScannerState) → t.rest ≡ past_white false more → Holds (λ u. (u ≡ t) × (has_tab_before_piece false more ≡ false)) (check_key_space t)
@@ -64,13 +61,34 @@ question_end t more ds i ts = record {
   };
 }
 
+-- what was read with it
+question_reads : (t u : ScannerState) (more : List ℕ) (y : Site) → t.rest ≡ 63 ∷ more → u.rest ≡ past_white false more → is_separation false (white_of false more) (past_white false more) ≡ true →
+    u.held.position ≡ position_after (past t.held.position) (white_of false more) (past_white false more) →
+    u.held.leading ≡ has_break (white_of false more) → y.position ≡ position_after t.held.position (63 ∷ []) more → y.before ≡ another → y.blocks ≡ columns u.held.indent u.held.indents → y.awaits ≡ has_open_level u.held.indents → AreLevels u.held.indent u.held.indents →
+    t.held.adjacent_value_at ≤ t.held.position.index → (u.held.adjacent_value_at ≡ t.held.adjacent_value_at) × (u.held.started ≡ t.held.started) × (u.held.ended ≡ t.held.ended) → Reads t u y (63 ∷ []) more (white_of false more)
+question_reads t u more y cut rest fills place leads here before columns_are awaits levels was same =
+    let stop : u.held.position ≡ position_after (position_after t.held.position (63 ∷ []) more) (white_of false more) u.rest = place ∙ (ap (λ q. position_after q (white_of false more) (past_white false more)) (sym (past_question t.held.position more)) ∙
+    ap (λ l. position_after (position_after t.held.position (63 ∷ []) more) (white_of false more) l) (sym rest)) in
+    let far = adjacent_kept t u (before_by y.before) (63 ∷ []) more (white_of false more) refl stop was same.0 (ap before_by before) in
+    let cut_then : more ≡ white_of false more ++ u.rest = white_cut false more ∙ ap (λ l. white_of false more ++ l) (sym rest) in
+    let filled : is_separation false (white_of false more) u.rest ≡ true = rw rest fills in
+    let no_tabs : HasNoTabs y (white_of false more) u.rest = subst (λ l. HasNoTabs y (white_of false more) l) (sym rest) (white_indents y more before) in
+    let leads_then : IsLeading u.held.leading y (white_of false more) u.rest = λ _ _ _. leads ∙ ap (λ b. begins_line b (white_of false more)) (sym before) in
+    let read_on : IsReadOn y.before y.position (white_of false more) u.rest = subst (λ b. IsReadOn b y.position (white_of false more) u.rest) (sym before) tt in
+    assumption (cut_then, filled, no_tabs, leads_then, read_on, stop ∙ ap (λ q. position_after q (white_of false more) u.rest) (sym here), far)
+
 pub question_stands : (text more : List ℕ) (t : ScannerState) (a : ArrivesBy text t [] (None ∷ []) []) → t.held.flow ≡ [] → t.held.keys ≡ None ∷ [] → t.rest ≡ 63 ∷ more → t.held.key_allowed ≡ true →
     begins_with_space_or_break more ≡ true → has_tab_before_piece false more ≡ false → is_separation false (white_of false more) (past_white false more) ≡ true →
     (i : ℕ) (ds : List Indent) → columns i ds ≡ opened t.held.position.col (columns t.held.indent t.held.indents) → AreLevels i ds → has_open_level ds ≡ false →
     Stands text (question_end t more ds i (with_start Tok.block_mapping_start t))
 question_stands text more t a flow keys e allowed begins apart fills i ds columns_are levels awaits =
-    read_outside text t (question_end t more ds i (with_start Tok.block_mapping_start t)) a (63 ∷ []) more Tok.key (begun_after t.held.position a.site.blocks) (record {
-      is_solid = refl;
+    read_outside text t u a (63 ∷ []) more (white_of false more) Tok.key (begun_after t.held.position a.site.blocks) _ refl
+    (question_reads t u more _ e refl fills refl refl refl refl (ap (opened t.held.position.col) a.blocks_are ∙ sym columns_are) (sym awaits) levels a.was_adjacent (refl, refl, refl)) (record {
+      line_is = (inl refl, ap (λ fs. (not (not (is_empty fs)) && ends.has_break (white_of false more)) || not (not (is_empty fs))) flow ∙ or_true (ends.has_break (white_of false more)), tt);
+      no_key = refl;
+      flow_is = flow;
+      keys_are = ap (with_top None) keys;
+    }) (record {
       is_piece = inl (refl, begins);
       stands = rw (a.is_indented (ap is_empty e), apart) refl;
       after_is = ap (λ l. line_past (is_in_column t.held.position.col bs) t.held.position bs gives_question false l) (line_free t.held.key_allowed t.rest a.line_here allowed a.line_is);
@@ -78,31 +96,13 @@ question_stands text more t a flow keys e allowed begins apart fills i ds column
       begins_none = refl;
       tokens_are = ap (λ cs. (if is_deeper t.held.position.col cs then placed None (token t.held.position Tok.block_mapping_start) t.held.tokens else t.held.tokens) ++ put t.held.position Tok.key ∷ []) (sym a.blocks_are) ∙
           started_tokens (is_deeper t.held.position.col bs) t.held.tokens a.tokens (ends_at t.held.position a.site.blocks bs) t.held.position Tok.block_mapping_start (put t.held.position Tok.key) a.tokens_are;
-      ends = record {
-        no_key = refl;
-        cut = e;
-        separation = white_of false more;
-        is_rest = white_cut false more;
-        is_filled = fills;
-        position_is = ap (λ q. position_after q (white_of false more) (past_white false more)) (sym (past_question t.held.position more));
-        blocks_are = ap (opened t.held.position.col) a.blocks_are ∙ sym columns_are;
-        awaits_is = sym awaits;
-        are_levels = levels;
-        read_on = tt;
-        has_no_tabs = white_indents (site_then x (63 ∷ []) Tok.key more (record { line = free; blocks = opened t.held.position.col bs })) more refl;
-        is_leading = λ b r h. refl;
-        line_is = (inl refl, ap (λ fs. (not (not (is_empty fs)) && ends.has_break (white_of false more)) || not (not (is_empty fs))) flow ∙ or_true (ends.has_break (white_of false more)), tt);
-        flow_is = flow;
-        keys_are = ap (with_top None) keys;
-        unchanged = (refl, refl, refl);
-      };
     })
   where
+    u : ScannerState
+    u = question_end t more ds i (with_start Tok.block_mapping_start t)
+
     bs : List ℕ
     bs = not_ended t.held.position.col a.site.blocks
-
-    x : Site
-    x = site_in false gives_question t.held.position a.site
 
 -- ---- the function
 
@@ -162,35 +162,19 @@ abbrev pub pair_level : (pair : FlowLevel) → FlowLevel → FlowLevel
 pair_level p InEntry = p
 pair_level p f = f
 
-pub same_kind : (p f : FlowLevel) → kind_of InEntry ≡ kind_of p → kind_of f ≡ kind_of (pair_level p f)
-same_kind p InEntry e = e
-same_kind p _ e = refl
-
 pub asked_levels : (f : FlowLevel) (fs : List FlowLevel) → keyed (f ∷ fs) ≡ pair_level Keyed f ∷ fs
-asked_levels InEntry fs = refl
-asked_levels _ fs = refl
+asked_levels a fs = grind arith
 
 -- the entry after it
 abbrev pub asked_entry : Entry → Entry
 asked_entry e = record { kind = e.kind; pair = pair_past (takes_pair e.kind e.pair) gives_question e.pair; had = settled }
 
 asked_is : (f : FlowLevel) (k : Option Key) (e : Entry) → IsEntryOf f k e → IsEntryOf (pair_level Keyed f) None (asked_entry e)
-asked_is f k e h = record { kind_is = h.kind_is ∙ same_kind Keyed f refl; pair_is = pair f e.pair h.pair_is; key_is = tt }
-  where
-    pair : (f : FlowLevel) (p : Pair) → IsPairOf f p → IsPairOf (pair_level Keyed f) (pair_past (takes_pair e.kind e.pair) gives_question p)
-    pair Mapping no_pair i = tt
-    pair Mapping asked_pair i = tt
-    pair Mapping single_pair i = absurd i
-    pair _ p i = rw i refl
+asked_is f k e h = grind arith
 
 -- the entry is settled, whatever it has had
 pub settles : (here : Position) (again : Bool) (e : Entry) (xs : List Entry) → is_keyed e.had ≡ false → entries_past here again gives_question [] false e xs ≡ Some (asked_entry e ∷ xs)
-settles here again e xs h = ap (λ o. with_had e.kind (pair_past (takes_pair e.kind e.pair) gives_question e.pair) [] xs o) (by again e.had h)
-  where
-    by : (b : Bool) (x : Had) → is_keyed x ≡ false → had_after here (takes_pair e.kind e.pair) gives_question false (renewed b gives_question x) ≡ Some settled
-    by b (waits p) i = absurd (cc i)
-    by true _ i = refl
-    by false _ i = refl
+settles here again e xs h = grind arith
 
 -- what the scanner holds after it
 abbrev pub question_within : ScannerState → (more : List ℕ) → ScannerState
@@ -214,27 +198,12 @@ pub question_inside : (text more : List ℕ) (t : ScannerState) (f : FlowLevel) 
     Stands text (question_within t more)
 unfolding is_break
 question_inside text more t f fs k ks e es a flow keys cut deep begins apart fills =
-    goes_inside text t (question_within t more) f (pair_level Keyed f) fs k ks e (asked_entry e) es a (63 ∷ []) more Tok.key (record {
-      is_solid = refl;
-      cut = cut;
-      separation = white_of false more;
-      is_rest = white_cut false more;
-      is_filled = fills;
-      position_is = ap (λ q. position_after q (white_of false more) (past_white false more)) (sym (past_question t.held.position more));
-      columns_are = refl;
-      awaits_is = a.awaits_is;
-      are_levels = a.are_levels;
-      read_on = tt;
-      has_no_tabs = white_indents (site_inside x (63 ∷ []) Tok.key more) more refl;
-      is_leading = λ b r h. refl;
-      entry_is = asked_is f k e a.are_entries.0;
-      has_had = (inr refl, ap (λ ls. (not (not (is_empty ls)) && ends.has_break (white_of false more)) || not (not (is_empty ls))) levels);
+    goes_inside text t (question_within t more) f (pair_level Keyed f) fs k ks e (asked_entry e) es a (63 ∷ []) more Tok.key (white_of false more)
+    (question_reads t (question_within t more) more _ cut refl fills refl refl refl refl a.blocks_are a.awaits_is a.are_levels a.was_adjacent (refl, refl, refl)) (record {
       flow_is = levels;
       keys_are = ap (with_top None) keys;
-      are_numbered = (tt, numbered_more (length a.tokens) (length (t.held.tokens ++ token t.held.position Tok.key ∷ [])) ks (omega (arith, more_tokens, same)) (numbered_around (length a.tokens) k ks a.are_numbered));
-      before_is = refl;
-      unchanged = (refl, refl, refl);
-    }) (record {
+      entry_is = asked_is f k e a.are_entries.0;
+      has_had = (inr refl, ap (λ ls. (not (not (is_empty ls)) && ends.has_break (white_of false more)) || not (not (is_empty ls))) levels);
       in_line = one_line 63 refl;
       begun = refl;
       is_piece = inl (refl, begins);
@@ -244,17 +213,8 @@ question_inside text more t f fs k ks e es a flow keys cut deep begins apart fil
       tokens_are = ap (λ ts. ts ++ token t.held.position Tok.key ∷ []) (tokens_before text t f fs k ks e es a);
     })
   where
-    x : Site
-    x = site_in true gives_question t.held.position a.site
-
     levels : keyed t.held.flow ≡ pair_level Keyed f ∷ fs
     levels = ap keyed flow ∙ asked_levels f fs
-
-    same : length t.held.tokens ≡ length a.tokens
-    same = ap length (tokens_before text t f fs k ks e es a)
-
-    more_tokens : length (t.held.tokens ++ token t.held.position Tok.key ∷ []) ≡ length t.held.tokens + 1
-    more_tokens = length-append t.held.tokens (token t.held.position Tok.key ∷ [])
 
 -- ---- both
 

@@ -1,5 +1,5 @@
 -- What the scanner checks after a quoted scalar: the line holds no more, or goes on as it may.
-use Rattle.proof_scanner.proofs.Common.{[], after, and_parts, ap, append_assoc, arith, begins_with, Bool, both_hold, chained, check_after_quoted, either, eqb-true, Err, false, Fault, goes_on_quoted, has_break, has_no_break, has_no_nul, Holds, if◌then◌else◌, in_flow, is_at_line_end, is_blank, is_blanks, is_blanks_and_comment, is_break, is_breakz, is_nul, is_on_line, is_rest_of_line, is_separation, leading, lexed, line_is_done, List, may_follow_quoted, No, no_nul_after, not, Ok, or_right, or_true, peek, Position, position_after, position_past, quoted_may_end, refl, refused, Result, ScannerState, skip_spaces, SkipTabs, space, subst, suc, sym, true, went, Yes, ℕ, ◌&&◌, ◌++◌, ◌<◌, ◌==◌, ◌||◌, ◌∙◌, ◌∷◌, ◌≡◌, ◌≤◌}
+use Rattle.proof_scanner.proofs.Common.{Bool, Err, Fault, Holds, List, No, Ok, Position, Result, ScannerState, SkipTabs, Yes, [], after, and_parts, ap, append_assoc, arith, begins_with, both_hold, chained, check_after_quoted, either, eqb-true, false, goes_on_quoted, has_break, has_no_break, has_no_nul, if◌then◌else◌, in_flow, is_at_line_end, is_blank, is_blanks, is_blanks_and_comment, is_break, is_breakz, is_nul, is_on_line, is_rest_of_line, is_separation, leading, lexed, line_is_done, may_follow_quoted, no_nul_after, not, or_right, peek, position_after, position_past, quoted_may_end, refl, refused, skip_spaces, space, subst, suc, sym, true, went, ℕ, ◌&&◌, ◌++◌, ◌<◌, ◌==◌, ◌||◌, ◌∙◌, ◌∷◌, ◌≡◌, ◌≤◌}
 use Rattle.yaml_chars.specs.Class as model_classes
 use Rattle.proof_lexers.specs.PlainEnds as plains
 use Rattle.proof_scanner.proofs.Cut.Passes.{Spaced, spaces_skipped}
@@ -17,11 +17,7 @@ ends_in_line (c ∷ d ∷ r) = ends_in_line (d ∷ r)
 pub broken_later : (p : Position) (a next : List ℕ) → ends_in_line a ≡ true → has_break a ≡ true → p.line < (position_after p a next).line
 unfolding is_break
 broken_later p [] next e h = absurd (cc h)
-broken_later p (c ∷ []) next e h = absurd (by (is_break c) e h)
-  where
-    by : (b : Bool) → not b ≡ true → not (not b && true) ≡ true → ⊥
-    by true e h = cc e
-    by false e h = cc h
+broken_later p (c ∷ []) next e h = grind arith
 broken_later p (c ∷ d ∷ a) next e h =
     by (is_break c) ((c == 13) && (d == 10)) refl refl h (λ k. omega (arith, broken_later (position_past p c (d ∷ (a ++ next))) (d ∷ a) next e k, (not_before_after p (c ∷ []) (d ∷ (a ++ next))).0))
   where
@@ -40,77 +36,44 @@ broken_later p (c ∷ d ∷ a) next e h =
 
 -- on the same line there is no break
 pub on_one_line : (p : Position) (a next : List ℕ) → ends_in_line a ≡ true → (position_after p a next).line ≤ p.line → has_break a ≡ false
-on_one_line p a next e h = by (has_break a) refl
-  where
-    by : (b : Bool) → has_break a ≡ b → b ≡ false
-    by true k = absurd (omega (arith, broken_later p a next e k, h))
-    by false k = refl
+on_one_line p a next e h = grind (arith, has_break, broken_later)
 
 -- without a break the line stays
 pub same_line : (p : Position) (a next : List ℕ) → plains.has_break a ≡ false → (position_after p a next).line ≡ p.line
 same_line p [] next h = refl
-same_line p (c ∷ a) next h = by (is_break c) refl h (λ k. same_line (position_past p c (a ++ next)) a next k)
-  where
-    q : Position
-    q = position_past p c (a ++ next)
-
-    by : (b : Bool) → is_break c ≡ b → (b || plains.has_break a) ≡ false → (plains.has_break a ≡ false → (position_after q a next).line ≡ q.line) → (position_after q a next).line ≡ p.line
-    by true e h later = absurd (cc h)
-    by false e h later = let stays : q.line ≡ p.line = rw e refl in later h ∙ stays
+same_line p (c ∷ a) next h = grind (arith, same_line (position_past p c (a ++ next)) a next)
 
 -- ---- the rest of a line
 
 -- a separation without a break is blanks and maybe a comment
 pub blanks_and_comment : (s next : List ℕ) → is_separation false s next ≡ true → plains.has_break s ≡ false → is_blanks_and_comment s ≡ true
 blanks_and_comment [] next f h = refl
-blanks_and_comment (c ∷ s) next f h = by (is_blank c) (is_break c) (c == 35) f h (λ g i. blanks_and_comment s next g i)
-  where
-    by : (b k n : Bool) → ((b || k || n) && is_separation n s next) ≡ true → (k || plains.has_break s) ≡ false → (is_separation false s next ≡ true → plains.has_break s ≡ false → is_blanks_and_comment s ≡ true) → (n || (b && is_blanks_and_comment s)) ≡ true
-    by b true n f h later = absurd (cc h)
-    by b false true f h later = refl
-    by true false false f h later = later f h
-    by false false false f h later = absurd (cc f)
+blanks_and_comment (c ∷ s) next f h = grind (arith, blanks_and_comment s next)
 
 -- before what does not end the line it is blanks alone
 pub blanks_alone : (in_comment : Bool) (s next : List ℕ) → is_separation in_comment s next ≡ true → plains.has_break s ≡ false → is_at_line_end next ≡ false → (in_comment ≡ false) × (is_blanks s ≡ true)
-blanks_alone true [] next f h e = absurd (cc (f, e))
-blanks_alone false [] next f h e = (refl, refl)
+blanks_alone a [] next f h e = grind arith
 blanks_alone true (c ∷ s) next f h e = by (is_break c) f h (λ g i. blanks_alone true s next g i e)
   where
     by : (k : Bool) → is_separation (not k) s next ≡ true → (k || plains.has_break s) ≡ false → (is_separation true s next ≡ true → plains.has_break s ≡ false → (true ≡ false) × (is_blanks s ≡ true)) → (true ≡ false) × (is_blanks (c ∷ s) ≡ true)
-    by true f h later = absurd (cc h)
-    by false f h later = absurd (cc (later f h).0)
+    by a f h b = grind arith
 blanks_alone false (c ∷ s) next f h e = (refl, by (is_blank c) (is_break c) (c == 35) f h (λ n g i. blanks_alone n s next g i e))
   where
     by : (b k n : Bool) → ((b || k || n) && is_separation n s next) ≡ true → (k || plains.has_break s) ≡ false → ((n : Bool) → is_separation n s next ≡ true → plains.has_break s ≡ false → (n ≡ false) × (is_blanks s ≡ true)) → (b && is_blanks s) ≡ true
-    by b true n f h later = absurd (cc h)
-    by false false false f h later = absurd (cc f)
-    by true false n f h later = (later n f h).1
-    by false false true f h later = absurd (cc (later true f h).0)
+    by b a n f h d = grind arith
 
 -- up to the line's end
 pub leading_line : (s next : List ℕ) → plains.has_break s ≡ false → is_at_line_end next ≡ true → has_no_nul next ≡ true → leading is_on_line (s ++ next) ≡ s
-leading_line [] [] h e n = refl
-leading_line [] (c ∷ next) h e n = by (is_break c) (is_nul c) refl refl e n
-  where
-    by : (k z : Bool) → is_break c ≡ k → is_nul c ≡ z → (k || z) ≡ true → (not z && has_no_nul next) ≡ true → (if not k then c ∷ leading is_on_line next else []) ≡ []
-    by true z e1 e2 e n = refl
-    by false true e1 e2 e n = absurd (cc n)
-    by false false e1 e2 e n = absurd (cc e)
+leading_line [] a h e n = grind arith
 leading_line (c ∷ s) next h e n = by (is_break c) h (λ k. leading_line s next k e n)
   where
     by : (k : Bool) → (k || plains.has_break s) ≡ false → (plains.has_break s ≡ false → leading is_on_line (s ++ next) ≡ s) → (if not k then c ∷ leading is_on_line (s ++ next) else []) ≡ c ∷ s
-    by true h later = absurd (cc h)
-    by false h later = ap (λ l. c ∷ l) (later h)
+    by a h b = grind arith
 
 -- past blanks
 pub after_blanks : (s next : List ℕ) → is_blanks s ≡ true → after is_blank (s ++ next) ≡ after is_blank next
 after_blanks [] next h = refl
-after_blanks (c ∷ s) next h = by (is_blank c) h (λ k. after_blanks s next k)
-  where
-    by : (b : Bool) → (b && is_blanks s) ≡ true → (is_blanks s ≡ true → after is_blank (s ++ next) ≡ after is_blank next) → (if b then after is_blank (s ++ next) else c ∷ (s ++ next)) ≡ after is_blank next
-    by true h later = later h
-    by false h later = absurd (cc h)
+after_blanks (c ∷ s) next h = grind (arith, after_blanks s next)
 
 -- a line with nothing but blanks and a comment, which no comment begins
 pub is_done : (s next : List ℕ) → is_separation false s next ≡ true → plains.has_break s ≡ false → is_at_line_end next ≡ true → has_no_nul next ≡ true → begins_with 35 (s ++ next) ≡ false → line_is_done (s ++ next) ≡ true
@@ -147,29 +110,16 @@ unglued tabs t = by t.rest
 
 pub at_end_of : (r : List ℕ) → is_breakz (peek r) ≡ true → is_at_line_end r ≡ true
 unfolding model_classes.is_break is_break is_nul
-at_end_of [] h = refl
-at_end_of (c ∷ r) h = h
+at_end_of a h = grind arith
 
 pub not_at_end : (r : List ℕ) → is_breakz (peek r) ≡ false → is_at_line_end r ≡ false
 unfolding model_classes.is_break is_break is_nul
-not_at_end [] h = absurd (cc h)
-not_at_end (c ∷ r) h = h
+not_at_end a h = grind arith
 
 -- what may follow, by the character that stands there
 comes_by : (flow : Bool) (piece : List ℕ) (line here : ℕ) (c : ℕ) (r : List ℕ) → ((line == here) ≡ true → has_break piece ≡ false) → may_follow_quoted flow (line == here) c ≡ true → is_breakz c ≡ false → (goes_on_quoted flow piece (c ∷ r) ≡ true) × (is_blank c ≡ false)
 unfolding may_follow_quoted is_blank
-comes_by true piece line here c r unbroken h e = by (c == 44) (c == 125) (c == 93) (c == 58) refl refl refl refl (rw e at h)
-  where
-    by : (w x y z : Bool) → (c == 44) ≡ w → (c == 125) ≡ x → (c == 93) ≡ y → (c == 58) ≡ z → (w || x || y || z) ≡ true → ((w || (y || (x || (z || false)))) ≡ true) × (is_blank c ≡ false)
-    by true x y z e1 e2 e3 e4 h = (refl, let same : c ≡ 44 = eqb-true c 44 e1 in rw same refl)
-    by false true y z e1 e2 e3 e4 h = (or_true y, let same : c ≡ 125 = eqb-true c 125 e2 in rw same refl)
-    by false false true z e1 e2 e3 e4 h = (refl, let same : c ≡ 93 = eqb-true c 93 e3 in rw same refl)
-    by false false false true e1 e2 e3 e4 h = (refl, let same : c ≡ 58 = eqb-true c 58 e4 in rw same refl)
-    by false false false false e1 e2 e3 e4 h = absurd (cc h)
-comes_by false piece line here c r unbroken h e =
-    let q = and_parts (c == 58) (line == here) (rw e at h) in
-    let same : c ≡ 58 = eqb-true c 58 q.0 in
-    (rw (q.0, unbroken q.1) refl, rw same refl)
+comes_by a piece b d c r e h g = grind arith
 
 -- After a quoted scalar at a position the check lets through only what may follow it.
 may_end_by : (flow : Bool) (p : Position) (piece s rest : List ℕ) (here : Position) → ends_in_line piece ≡ true → has_no_nul rest ≡ true → is_separation false s rest ≡ true → plains.has_break s ≡ false → begins_with 35 (s ++ rest) ≡ false →

@@ -1,34 +1,33 @@
 -- Quoted scalars: what holds between two fetches holds after them.
-use Rattle.proof_scanner.proofs.Common.{[], act_of, adjacent_here, after_separation, allow_key, and_parts, ap, append_assoc, append_cancel_right, are_single, AreLevels, arith, Arrives, awaits_past, before_by, before_past, begins_free_line, begins_line, begins_with, begun_by, between, Bool, both_hold, chained, check_after_quoted, columns, Context, context, element_of, ends_before, Entry, false, Fault, fetch_flow_scalar, FlowLevel, further_lines_stand, gives_node, go_on, has_break, has_no_nul, has_open_level, has_tab_within, HasNoTabs, Held, Holds, in_flow, Indent, inl, inr, is_at_comment_or_end, is_break, is_empty, is_indented_by_spaces, is_nul, is_separation, IsAdjacent, IsPiece, IsQuotedRead, IsReadOn, Key, last_line, least_column, least_for, lexed, List, may_precede, nat_le, no_nul_after, None, not, not-true, Ok, on_held, Option, Position, position_after, position_append, previous_by, push, quote_of, quoted, quoted_lines_fit, quoted_may_end, quoted_scalar, quoted_style, Quotes, read, read_as, ReadAs, refl, Result, ScannerState, seen, shown_position, Site, skip_to_next_token, Some, Stands, subst, suc, sym, Tok, true, unled, value_of, weakened, went, ℕ, ◌&&◌, ◌++◌, ◌-◌, ◌>>=◌, ◌||◌, ◌∙◌, ◌∷◌, ◌≡◌, ◌≤◌}
-use Rattle.model_scanner.specs.declared.kind.Quotes.TheVariants.{Single, Double}
+use Rattle.proof_scanner.proofs.Common.{list_all, is_some, AreLevels, Arrives, Bool, Context, Entry, Fault, FlowLevel, HasNoTabs, Held, Holds, Indent, IsAdjacent, IsPiece, IsQuotedRead, IsReadOn, Key, List, None, Ok, Option, Position, Quotes, Result, ScannerState, Site, Some, Stands, Tok, [], act_of, adjacent_here, after_separation, allow_key, and_parts, ap, append_assoc, append_cancel_right, are_single, arith, awaits_past, before_by, before_past, begins_free_line, begins_line, begins_with, begun_by, between, both_hold, chained, check_after_quoted, columns, context, element_of, ends_before, false, fetch_flow_scalar, further_lines_stand, gives_node, go_on, has_break, has_no_nul, has_open_level, has_tab_within, in_flow, inl, inr, is_at_comment_or_end, is_break, is_empty, is_indented_by_spaces, is_nul, is_separation, last_line, least_column, least_for, lexed, may_precede, nat_le, no_nul_after, not, not-true, on_held, position_after, position_append, previous_by, push, quote_of, quoted, quoted_lines_fit, quoted_may_end, quoted_scalar, quoted_style, read, read_as, refl, seen, shown_position, skip_to_next_token, subst, sym, true, unled, value_of, weakened, went, ℕ, ◌&&◌, ◌++◌, ◌-◌, ◌>>=◌, ◌||◌, ◌∙◌, ◌∷◌, ◌≡◌, ◌≤◌}
 use Rattle.defs_token.specs.Account.{Account as PieceAccount}
-use Rattle.defs_token.specs.Account as pieces
 use Rattle.model_scanner.specs.Machine as machine
 use Rattle.proof_lexers.specs.PlainEnds as plains
 use Rattle.proof_lexers.proofs.Quoted.ScanEnds.{scans_end}
-use Rattle.proof_scanner.proofs.Cut.Pieces.Quoted.{some_chars, quoted_is_read}
+use Rattle.proof_scanner.proofs.Cut.Pieces.Quoted.{some_chars}
 use Rattle.proof_scanner.proofs.Cut.Pieces.Separations.{separation_append}
 use Rattle.proof_scanner.proofs.Cut.Positions.{not_before_after}
 use Rattle.proof_scanner.proofs.Cut.Saved.{saved_keys, saved_is}
 use Rattle.proof_scanner.proofs.Cut.Scalars.{adjacent_quoted}
 use Rattle.proof_scanner.proofs.Cut.Nodes.{IsDeep}
 use Rattle.proof_lexers.proofs.Bridges.{or_false}
-use Rattle.proof_scanner.proofs.Sound.Standing.{deep_for, awaits_kept}
+use Rattle.proof_scanner.proofs.Sound.Standing.{deep_for}
 use Rattle.proof_scanner.proofs.Sound.Sides.{with_entries, ArrivesBy}
 use Rattle.proof_scanner.proofs.Sound.Arrivals.{unbroken, deep_enough}
 use Rattle.proof_scanner.proofs.Sound.LastLines.{break_append}
 use Rattle.proof_scanner.proofs.Sound.Skips.{IsAt, IsLeast, Cleared, skip_clears}
-use Rattle.proof_scanner.proofs.Sound.Passed.{Exact, exact, same_has_break, least_of_levels, least_is}
+use Rattle.proof_scanner.proofs.Sound.Passed.{Exact, exact, same_has_break, least_is}
 use Rattle.proof_scanner.proofs.Sound.QuotedEnds.{ends_in_line, on_one_line, Checked, quoted_checked}
-use Rattle.proof_scanner.proofs.Sound.QuotedLines.{quoted_fits}
+use Rattle.proof_scanner.proofs.Sound.QuotedBreaks.{same_limit}
+use Rattle.proof_scanner.proofs.Refusals.QuotedLines.{body_read}
 use Rattle.proof_scanner.proofs.Sound.ReadNodes.{Read, next_of, state_after, site_of, site_then, allowed_past, IsRead, node_read}
 use Rattle.proof_scanner.proofs.Sound.Rolled.{some_levels}
 
 -- What a function has read of a node where a piece begins, and what it leaves.
 pub record ReadNode (text : List ℕ) (t u : ScannerState) : Type 0 where
   pub read : Read
-  pub known : (fs : List FlowLevel) (ks : List (Option Key)) (es : List Entry) → t.held.flow ≡ fs → (a : ArrivesBy text t fs ks es) → IsRead t fs a.site a.line es a.separation read
-  pub is : u ≡ state_after t read
+  pub known : (fs : List FlowLevel) (ks : List (Option Key)) (es : List Entry) → t.held.flow ≡ fs → (a : ArrivesBy text t fs ks es) → IsRead t None fs a.site a.line es a.separation read
+  pub is : u ≡ state_after t None read
 
 -- ---- what was read
 
@@ -47,26 +46,19 @@ pub record QuotedAs (single : Bool) (ctx : Context) (p : Position) (text : List 
 whole : (q : ℕ) (body rest : List ℕ) → q ∷ (body ++ q ∷ rest) ≡ (q ∷ (body ++ q ∷ [])) ++ rest
 whole q body rest = ap (λ l. q ∷ l) (sym (append_assoc body (q ∷ []) rest))
 
--- the position after it is that of its text
-end_of : (quotes : Quotes) (ctx : Context) (p : Position) (more piece : List ℕ) (x : machine.Read (List ℕ)) → has_no_nul more ≡ true → quoted (are_single quotes) ctx (quote_of (are_single quotes) ∷ more) p ≡ Ok x → quote_of (are_single quotes) ∷ more ≡ piece ++ x.rest → x.position ≡ position_after p piece x.rest
-end_of quotes ctx p more piece x none e cut =
-    let a : PieceAccount = record { position = p; blocks = []; levels = []; before = pieces.other } in
-    let r : ReadAs a (quote_of (are_single quotes) ∷ more) (Tok.scalar (quoted_style quotes) x.value) p x.rest x.position = quoted_is_read a quotes ctx more x none e in
-    let own : List ℕ = r.first ∷ r.more in
-    let same : own ++ r.separation ≡ piece = append_cancel_right (own ++ r.separation) piece x.rest (append_assoc own r.separation x.rest ∙ (sym r.is_text ∙ cut)) in
-    r.is_end ∙ (sym (position_append p own r.separation x.rest) ∙ ap (λ l. position_after p l x.rest) same)
-
 pub quoted_as : (quotes : Quotes) (ctx : Context) (p : Position) (more : List ℕ) (x : machine.Read (List ℕ)) → has_no_nul more ≡ true → quoted (are_single quotes) ctx (quote_of (are_single quotes) ∷ more) p ≡ Ok x → QuotedAs (are_single quotes) ctx p (quote_of (are_single quotes) ∷ more) x
 quoted_as quotes ctx p more x none e =
     let q : IsQuotedRead (are_single quotes) more x = read_as e (scans_end (are_single quotes) ctx more p (some_chars more none)) in
+    let there = body_read (are_single quotes) ctx p (ctx.indent - 1) (λ k. same_limit k ctx.indent) q.body x (subst (λ l. list_all is_some l ≡ true) q.is_text (some_chars more none))
+    (ap (λ l. quoted (are_single quotes) ctx (quote_of (are_single quotes) ∷ l) p) (sym q.is_text) ∙ e) in
     let all : quote_of (are_single quotes) ∷ more ≡ piece_of (are_single quotes) q.body ++ x.rest = ap (λ l. quote_of (are_single quotes) ∷ l) q.is_text ∙ whole (quote_of (are_single quotes)) q.body x.rest in
     record {
       body = q.body;
       value_is = q.is_value;
       ends = q.may_end;
       cut = all;
-      end_is = end_of quotes ctx p more (piece_of (are_single quotes) q.body) x none e all;
-      fits = quoted_fits (are_single quotes) ctx q.body x.rest x.value p x q.is_value (ap (λ l. quoted (are_single quotes) ctx (quote_of (are_single quotes) ∷ l) p) (sym q.is_text) ∙ e);
+      end_is = there.end_is;
+      fits = there.lines;
     }
 
 -- a quote is no break
@@ -75,8 +67,7 @@ unfolding is_break
 in_line single body = last (quote_of single) (quote_of single) body (no_break single)
   where
     no_break : (b : Bool) → not (is_break (quote_of b)) ≡ true
-    no_break true = refl
-    no_break false = refl
+    no_break a = grind arith
 
     last : (c q : ℕ) (r : List ℕ) → not (is_break q) ≡ true → ends_in_line (c ∷ (r ++ q ∷ [])) ≡ true
     last c q [] h = h
@@ -96,36 +87,25 @@ pub record IsQuotedToken (single : Bool) (tok : Tok) : Type 0 where
   pub awaits : (fl : Bool) (bs : List ℕ) (b : Bool) (next : List ℕ) → awaits_past fl tok bs b next ≡ b
 
 pub quoted_token : (quotes : Quotes) (text : List ℕ) → IsQuotedToken (are_single quotes) (Tok.scalar (quoted_style quotes) text)
-quoted_token Single text = record { act = refl; begun = refl; shown = λ s p n. refl; before = refl; least = λ s. refl; lines = λ c p. refl; precedes = λ f bs p n. refl; awaits = awaits_kept _ (λ b. refl) (λ bs b n. refl) }
-quoted_token Double text = record { act = refl; begun = refl; shown = λ s p n. refl; before = refl; least = λ s. refl; lines = λ c p. refl; precedes = λ f bs p n. refl; awaits = awaits_kept _ (λ b. refl) (λ bs b n. refl) }
+quoted_token a b = grind arith
 
 piece_is : (a : PieceAccount) (quotes : Quotes) (body next value : List ℕ) → value_of (are_single quotes) body ≡ Some value → ends_before (are_single quotes) next ≡ true → IsPiece a (piece_of (are_single quotes) body) next None a.position (Tok.scalar (quoted_style quotes) value)
-piece_is a Single body next value is ends = ((body, refl, is, not-true (begins_with 39 next) ends), refl)
-piece_is a Double body next value is ends = ((body, refl, is), refl)
+piece_is a b d e g is i = grind (arith, not-true, begins_with)
 
 -- ---- levels of indentation
 
 -- the least column is one less than the indentation
 pub least_is_less : (i : ℕ) (ds : List Indent) → AreLevels i ds → least_column (columns i ds) (has_open_level ds) ≡ i - 1
-least_is_less i [] a = omega (arith, a)
-least_is_less i (d ∷ ds) a = let h : i ≡ suc (least_column (columns i (d ∷ ds)) (has_open_level (d ∷ ds))) = least_of_levels i (d ∷ ds) a refl in less (least_column (columns i (d ∷ ds)) (has_open_level (d ∷ ds))) i h
-  where
-    less : (n i : ℕ) → i ≡ suc n → n ≡ i - 1
-    less n i h = omega (arith, h)
+least_is_less i a b = grind arith
 
 -- ---- TABs after it
 
 pub empty_end : (r : List ℕ) → is_empty r ≡ true → is_at_comment_or_end r ≡ true
-empty_end [] h = refl
-empty_end (c ∷ r) h = absurd (cc h)
+empty_end a h = grind arith
 
 -- no TAB indents what comes next, by what is known of the line
 spaced_by : (least : ℕ) (bs : List ℕ) (aw : Bool) (gap : List ℕ) → least_column bs aw ≡ least → (begins_line quoted_scalar gap ≡ true → has_tab_within least (last_line gap) ≡ false) → is_indented_by_spaces quoted_scalar bs aw gap ≡ true
-spaced_by least bs aw gap e h = by (begins_line quoted_scalar gap) refl
-  where
-    by : (b : Bool) → begins_line quoted_scalar gap ≡ b → (not b || not (has_tab_within (least_column bs (aw || false)) (last_line gap))) ≡ true
-    by false f = refl
-    by true f = rw (or_false aw, e, h f) refl
+spaced_by least bs aw gap e h = grind (arith, or_false)
 
 -- ---- the step
 
@@ -218,9 +198,8 @@ module _ (text : List ℕ) (quotes : Quotes) (t : ScannerState) (a : Arrives tex
         adjacent = end.index;
       }
 
-      allowed_by : (fl : Bool) → ((not fl && plains.has_break b.separation) || false) ≡ allowed_past fl quoted_scalar gap
-      allowed_by true = refl
-      allowed_by false = or_false (plains.has_break b.separation) ∙ sym broken
+      allowed_by : (fl : Bool) → ((not fl && plains.has_break b.separation) || false) ≡ allowed_past None fl quoted_scalar gap
+      allowed_by a = grind (arith, or_false, broken)
 
       leads : is_empty t.held.indents ≡ false → is_empty w.rest ≡ false → b.is_leading ≡ has_break gap
       leads i some = sym (ap (λ h. h.leading) held_is) ∙ (at_token some).leading_is (ap (λ h. is_empty h.indents) held_is ∙ i)
@@ -258,29 +237,34 @@ module _ (text : List ℕ) (quotes : Quotes) (t : ScannerState) (a : Arrives tex
                 inr (subst (λ y. is_indented_by_spaces y at.blocks (awaits_past fl tok at.blocks at.awaits (next_of d)) gap ≡ true) (sym k.before)
                 (spaced_by least at.blocks (awaits_past fl tok at.blocks at.awaits (next_of d)) gap (ap (λ y. least_column at.blocks y) awaits_then ∙ least_here) (at_token e).spaced))
 
-        is_read : IsRead t fs r.site r.line es r.separation d
+        is_read : IsRead t None fs r.site r.line es r.separation d
         is_read = record {
+          reads = record {
+            is_solid = refl;
+            cut = q.cut ∙ ap (λ y. piece ++ y) cut;
+            is_rest = refl;
+            is_filled = is_filled;
+            position_is = end_is;
+            blocks_are = r.blocks_are;
+            awaits_is = awaits_then ∙ r.awaits_is;
+            are_levels = a.are_levels;
+            has_no_tabs = no_tabs;
+            is_leading = λ some more hash. subst (λ y. b.is_leading ≡ begins_line y gap) (sym k.before) (leads (some_levels t.held.indent t.held.indents (ap is_empty (sym r.blocks_are) ∙ some)) more);
+            read_on = subst (λ y. IsReadOn y (site_then t fs r.site d).position gap w.rest) (sym k.before) tt;
+            was_adjacent = λ inside. subst (λ y. IsAdjacent (before_past (before_by y) gap) end end.index w.rest) (sym k.before) (adjacent_quoted end w.rest gap b.solid);
+            adjacent_before = omega arith;
+            unchanged = (refl, refl);
+          };
           act = k.act;
           begun = k.begun;
-          cut = q.cut ∙ ap (λ y. piece ++ y) cut;
-          is_solid = refl;
-          is_filled = is_filled;
-          end_is = end_is;
+          is_begun = tt;
           shown = λ s. k.shown s piece (next_of d);
           is_piece = piece_is (seen (with_entries r.site r.line es) at r.separation) quotes q.body (next_of d) x.value q.value_is (subst (λ y. ends_before (are_single quotes) y ≡ true) cut q.ends);
           is_deep = deep_for fl tok at (k.least at) (ap (λ y. nat_le y t.held.position.col) least_here ∙ deep_enough t.held.position.col t.held.indent t.held.indents a.are_levels deep);
           lines_stand = k.lines (least_for tok at) piece ∙ (ap (λ y. quoted_lines_fit y (element_of (are_single quotes)) piece) (k.least at ∙ (least_here ∙ least_is_less t.held.indent t.held.indents a.are_levels)) ∙ q.fits);
           precedes = k.precedes fl at.blocks piece (next_of d) ∙ (ap (λ y. quoted_may_end y piece (next_of d)) (sym flow_is) ∙ (ap (λ y. quoted_may_end (in_flow t.held) piece y) (sym cut) ∙ c.may_end));
-          columns_are = refl;
-          awaits_is = awaits_then ∙ r.awaits_is;
-          are_levels = a.are_levels;
-          has_no_tabs = no_tabs;
-          is_leading = λ some more hash. subst (λ y. b.is_leading ≡ begins_line y gap) (sym k.before) (leads (some_levels t.held.indent t.held.indents (ap is_empty (sym r.blocks_are) ∙ some)) more);
-          read_on = subst (λ y. IsReadOn y (site_then t fs r.site d).position gap w.rest) (sym k.before) tt;
-          allowed_is = ap (λ f. (not f && plains.has_break b.separation) || false) flow_is ∙ (allowed_by fl ∙ ap (λ y. allowed_past fl y gap) (sym k.before));
+          allowed_is = ap (λ f. (not f && plains.has_break b.separation) || false) flow_is ∙ (allowed_by fl ∙ ap (λ y. allowed_past None fl y gap) (sym k.before));
           one_line = λ some h. ((one_line_of some h).0, subst (λ y. begins_free_line y gap ≡ false) (sym k.before) (one_line_of some h).1);
-          was_adjacent = λ inside. subst (λ y. IsAdjacent (before_past (before_by y) gap) end end.index w.rest) (sym k.before) (adjacent_quoted end w.rest gap b.solid);
-          adjacent_before = omega arith;
         }
 
       node : ReadNode text t (on_held (λ s. push t.held.position tok (adjacent_here s)) w)
@@ -317,4 +301,4 @@ quoted_node text quotes t more e deep a =
         went (node text quotes t a deep x q v c w z.0 z.1)))
 
 pub quoted_keeps : (text : List ℕ) (quotes : Quotes) (t : ScannerState) (more : List ℕ) → t.rest ≡ quote_of (are_single quotes) ∷ more → IsDeep t.held → Arrives text t → Holds (Stands text) (fetch_flow_scalar quotes t)
-quoted_keeps text quotes t more e deep a = weakened (λ u n. subst (λ y. Stands text y) (sym n.is) (node_read text t n.read deep a n.known)) (quoted_node text quotes t more e deep a)
+quoted_keeps text quotes t more e deep a = weakened (λ u n. subst (λ y. Stands text y) (sym n.is) (node_read text t None n.read deep a n.known)) (quoted_node text quotes t more e deep a)

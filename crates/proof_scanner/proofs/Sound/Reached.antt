@@ -1,5 +1,5 @@
 -- Where a run has come to in a text, and whether it met the stream's start.
-use Rattle.proof_scanner.proofs.Common.{[], ap, begins, false, Fares, has_no_nul, is_empty, IsCut, IsCutUpTo, IsWhere, List, over, Reaches, refl, rows_are_cuts, ScannerState, start, subst, sym, Token, true, ℕ, ◌++◌, ◌∷◌, ◌≡◌}
+use Rattle.proof_scanner.proofs.Common.{Fares, IsCut, IsCutUpTo, IsWhere, List, Reaches, ScannerState, Token, [], ap, begins, false, has_no_nul, is_empty, over, refl, rows_are_cuts, start, subst, sym, true, ℕ, ◌++◌, ◌∷◌, ◌≡◌}
 use Rattle.proof_scanner.specs.StandsInRow.{goes}
 use Rattle.proof_scanner.proofs.Cut.Documents.{whole_text}
 use Rattle.proof_scanner.proofs.Sound.CutsSoFar.{stands_cut, cut_position}

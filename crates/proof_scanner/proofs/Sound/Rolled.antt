@@ -1,10 +1,9 @@
 -- Where a block collection begins, and where the value of an entry is awaited: the levels of indentation, and the columns of the block collections.
-use Rattle.proof_scanner.proofs.Common.{[], ap, AreCollections, AreLevels, arith, Bool, columns, deepen, drop_open, drop_open_level, false, has_open_level, Held, if◌then◌else◌, in_block, in_flow, Indent, innermost, is_deeper, is_empty, IsNotRight, IsTopLevel, level, List, nat_le, nat_lt, nat_tests, not, opened, Option, placed, Position, refl, roll_indent, roll_one_col_indent, subst, sym, Tok, Token, token, top_needs_block_end, true, ℕ, ◌+◌, ◌-◌, ◌<◌, ◌∙◌, ◌∷◌, ◌≡◌, ◌≤◌}
+use Rattle.proof_scanner.proofs.Common.{AreCollections, AreLevels, Bool, Held, Indent, IsNotRight, IsTopLevel, List, Option, Position, Tok, Token, [], ap, arith, columns, deepen, drop_open, drop_open_level, false, has_open_level, if◌then◌else◌, in_block, in_flow, innermost, is_deeper, is_empty, level, nat_le, nat_lt, nat_tests, opened, placed, refl, roll_indent, roll_one_col_indent, subst, sym, token, top_needs_block_end, true, ℕ, ◌+◌, ◌-◌, ◌<◌, ◌∙◌, ◌∷◌, ◌≡◌, ◌≤◌}
 
 -- collections alone are levels
 pub levels_of_collections : (i : ℕ) (ds : List Indent) → AreCollections i ds → AreLevels i ds
-levels_of_collections i [] a = a
-levels_of_collections i (d ∷ ds) a = (subst (λ b. IsTopLevel b i d.indent ds) (sym a.0) a.1, a.2)
+levels_of_collections i a b = grind arith
 
 -- a column is deeper than the innermost collection just where it is deeper than its level
 pub deeper_is : (col i : ℕ) (ds : List Indent) → AreCollections i ds → is_deeper col (columns i ds) ≡ nat_lt i (col + 1)
@@ -16,8 +15,7 @@ deeper_is col i (d ∷ ds) a = rw a.0 (same (nat_lt (i - 1) col) (nat_lt i (col 
   where
     same : (b c : Bool) → nat_lt (i - 1) col ≡ b → nat_lt i (col + 1) ≡ c → b ≡ c
     same true true e f = refl
-    same false false e f = refl
-    same true false e f = let h = a.1 in absurd (grind (arith, nat_tests, h))
+    same a false e f = grind arith
     same false true e f = let h = a.1 in absurd (grind (arith, nat_tests, h))
 
 -- A collection begins at a column where that is deeper than the innermost one, and its start is put among the tokens; else that one goes on.
@@ -40,8 +38,7 @@ deepened col number t s a low = by (nat_lt s.indent (col + 1)) refl
     one_less = omega arith
 
     some : (ds : List Indent) → AreCollections s.indent ds → nat_lt s.indent (col + 1) ≡ false → top_needs_block_end ds ≡ true
-    some [] h e = absurd (grind (arith, nat_tests, h, e))
-    some (d ∷ ds) h e = h.0
+    some a h e = grind arith
 
     by : (b : Bool) → nat_lt s.indent (col + 1) ≡ b → RollsTo col number t s (if b then record s { indents = level s.indent true ∷ s.indents; indent = col + 1; tokens = placed number t s.tokens } else s)
     by true e =
@@ -101,14 +98,7 @@ open_goes_on col number t s d ds e no_end l right high = rw stays (record {
 
 -- an open level that goes before it
 rolls_past : (col : ℕ) (number : Option ℕ) (t : Token) (s : Held) (i : ℕ) (ds : List Indent) (u : Held) → columns i ds ≡ columns s.indent s.indents → s.indent ≡ i + 1 → RollsTo col number t (record s { indent = i; indents = ds }) u → RollsTo col number t s u
-rolls_past col number t s i ds u same more r = record {
-  indents = r.indents;
-  indent = r.indent;
-  is_held = r.is_held ∙ ap (λ bs. record s { indents = r.indents; indent = r.indent; tokens = (if is_deeper col bs then placed number t s.tokens else s.tokens) }) same;
-  columns_are = r.columns_are ∙ ap (opened col) same;
-  are_levels = r.are_levels;
-  is_top = λ h. r.is_top (omega (arith, h, more));
-}
+rolls_past col number t s i ds u same more r = grind arith
 
 -- outside flow
 pub rolls_to : (col : ℕ) (number : Option ℕ) (tok : Tok) (p : Position) (s : Held) → in_flow s ≡ false → AreLevels s.indent s.indents → IsNotRight (innermost (columns s.indent s.indents)) col →
@@ -153,31 +143,7 @@ pub record OpensOne (s u : Held) : Type 0 where
 -- outside flow, in a block collection
 pub opens_one : (s : Held) → in_flow s ≡ false → AreLevels s.indent s.indents → is_empty s.indents ≡ false → OpensOne s (roll_one_col_indent s)
 unfolding roll_one_col_indent in_block
-opens_one s out levels some = rw out (by s.indents refl levels some)
-  where
-    at : (d : Indent) (ds : List Indent) (b : Bool) → s.indents ≡ d ∷ ds → d.needs_block_end ≡ b → AreLevels s.indent (d ∷ ds) → OpensOne s (if b then record s { indents = level s.indent false ∷ s.indents; indent = s.indent + 1 } else s)
-    at d ds true e f l =
-        let first : IsTopLevel true s.indent d.indent ds = subst (λ b. IsTopLevel b s.indent d.indent ds) f l.0 in
-        record {
-          indents = level s.indent false ∷ s.indents;
-          indent = s.indent + 1;
-          is_held = refl;
-          columns_are = refl;
-          are_levels = ((refl, ap is_empty e), subst (λ x. AreCollections s.indent x) (sym e) (f, first, l.1));
-          awaits = refl;
-        }
-    at d ds false e f l = record {
-      indents = s.indents;
-      indent = s.indent;
-      is_held = refl;
-      columns_are = refl;
-      are_levels = subst (λ x. AreLevels s.indent x) (sym e) l;
-      awaits = ap has_open_level e ∙ ap not f;
-    }
-
-    by : (ds : List Indent) → s.indents ≡ ds → AreLevels s.indent ds → is_empty ds ≡ false → OpensOne s (if top_needs_block_end ds then record s { indents = level s.indent false ∷ s.indents; indent = s.indent + 1 } else s)
-    by [] e l n = absurd (cc n)
-    by (d ∷ ds) e l n = at d ds d.needs_block_end e refl l
+opens_one s out levels some = grind arith
 
 -- in flow nothing changes
 pub opens_none : (s : Held) → in_flow s ≡ true → roll_one_col_indent s ≡ s
@@ -186,19 +152,12 @@ opens_none s inside = rw inside refl
 
 -- where a collection is innermost, no value is awaited
 pub top_closed : (ds : List Indent) → top_needs_block_end ds ≡ true → (is_empty ds ≡ false) × (has_open_level ds ≡ false)
-top_closed [] h = absurd (cc h)
-top_closed (d ∷ ds) h = (refl, ap not h)
+top_closed a h = grind arith
 
 -- where a collection begins or goes on, there is one
 pub opened_some : (col : ℕ) (bs : List ℕ) → is_empty (opened col bs) ≡ false
-opened_some col [] = refl
-opened_some col (n ∷ ns) = by (nat_lt n col)
-  where
-    by : (b : Bool) → is_empty (if b then col ∷ (n ∷ ns) else n ∷ ns) ≡ false
-    by true = refl
-    by false = refl
+opened_some col a = grind arith
 
 -- and so a level
 pub some_levels : (i : ℕ) (ds : List Indent) → is_empty (columns i ds) ≡ false → is_empty ds ≡ false
-some_levels i [] h = absurd (cc h)
-some_levels i (d ∷ ds) h = refl
+some_levels i a h = grind arith

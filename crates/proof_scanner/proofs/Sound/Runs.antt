@@ -1,5 +1,5 @@
 -- A run keeps what each fetch keeps; at its end the tokens are those of a row.
-use Rattle.proof_scanner.proofs.Common.{ap, begins, false, Fares, fetch, fetch_stream_start, FetchKeeps, has_no_nul, here, IsRead, List, Ok, over, Reaches, refl, ScannerState, Stands, start, subst, sym, there, TokensAreOfARow, true, ℕ, ◌∙◌, ◌≡◌}
+use Rattle.proof_scanner.proofs.Common.{Fares, FetchKeeps, IsRead, List, Ok, Reaches, ScannerState, Stands, TokensAreOfARow, ap, begins, false, fetch, fetch_stream_start, has_no_nul, here, over, refl, start, subst, sym, there, true, ℕ, ◌∙◌, ◌≡◌}
 use Rattle.proof_scanner.specs.StandsInRow.{goes}
 use Rattle.proof_scanner.proofs.Sound.Starts.{stream_started}
 

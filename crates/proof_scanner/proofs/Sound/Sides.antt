@@ -1,5 +1,5 @@
 -- Where a piece begins, and between two fetches: what holds with the flow levels, the open keys and the entries taken apart, outside flow and in flow.
-use Rattle.proof_scanner.proofs.Common.{[], Account, arith, Arrives, Entry, false, FlowLevel, inl, inr, is_empty, Key, KnowsKey, Line, List, Option, outside_key, refl, ScannerState, Site, Stands, subst, sym, ℕ, ◌++◌, ◌∷◌, ◌≡◌, ◌⊎◌}
+use Rattle.proof_scanner.proofs.Common.{Account, Arrives, Entry, FlowLevel, Key, KnowsKey, Line, List, Option, ScannerState, Site, Stands, [], arith, false, inl, is_empty, outside_key, refl, subst, sym, ℕ, ◌++◌, ◌∷◌, ◌≡◌, ◌⊎◌}
 use Rattle.proof_scanner.specs.Arrives.{ArrivesWith}
 use Rattle.proof_scanner.specs.StandsInRow.{StandsWith}
 
@@ -47,8 +47,7 @@ arrives_side text t a = by t.held.flow t.held.keys a.base.entries refl refl (rec
     by [] (k ∷ []) [] f q p n = inl (record { key = k; flow_is = f; keys_are = q; here = p; knows = n })
     by [] (k ∷ []) (e ∷ es) f q p n = absurd p.are_entries
     by (f ∷ fs) [] es i q p n = absurd (omega (arith, p.one_each))
-    by (f ∷ fs) (k ∷ ks) [] i q p n = absurd p.are_entries
-    by (f ∷ fs) (k ∷ ks) (e ∷ es) i q p n = inr (record { level = f; levels = fs; key = k; keys = ks; entry = e; entries = es; flow_is = i; keys_are = q; here = p })
+    by (f ∷ fs) (k ∷ ks) a i q p n = grind arith
 
 -- ---- between two fetches
 

@@ -1,6 +1,6 @@
 -- What the model skips between tokens leaves no TAB in the indentation of the next one.
 use Rattle.std.proofs.lemmas.List.{length-append}
-use Rattle.proof_scanner.proofs.Common.{[], and_parts, another, ap, append-nil, append_assoc, arith, At, begins_line, between, block_scalar, Bool, comment, directive, eqb-true, Err, false, Fault, flow_collection, Gap, has_break, has_tab_within, Held, Holds, if◌then◌else◌, inl, inr, is_at_comment_or_end, is_before_indent, is_cr_lf, is_empty, last_line, length, List, moved, nat_lt, nat_tests, no_hash, not, Ok, or-false, or-true, past_line, plain_scalar, Previous, quoted_scalar, refl, refused, Result, same_break, ScannerState, skip, subst, suc, sym, tab_line, true, weakened, went, zero, ℕ, ◌&&◌, ◌++◌, ◌+◌, ◌==◌, ◌||◌, ◌∙◌, ◌∷◌, ◌≡◌, ◌≤◌, ◌⊎◌}
+use Rattle.proof_scanner.proofs.Common.{At, Bool, Err, Fault, Gap, Held, Holds, List, Ok, Previous, Result, ScannerState, [], and_parts, ap, append-nil, append_assoc, arith, begins_line, between, comment, eqb-true, false, has_break, has_tab_within, if◌then◌else◌, inl, inr, is_at_comment_or_end, is_before_indent, is_cr_lf, is_empty, last_line, length, moved, nat_lt, nat_tests, no_hash, not, or-false, or-true, past_line, refl, refused, same_break, skip, subst, suc, sym, tab_line, true, weakened, went, zero, ℕ, ◌&&◌, ◌++◌, ◌+◌, ◌==◌, ◌||◌, ◌∙◌, ◌∷◌, ◌≡◌, ◌≤◌, ◌⊎◌}
 use Rattle.yaml_chars.specs.Class.{is_break, is_blank}
 use Rattle.yaml_tokens.specs.declared.problem.Problem.TheVariants as problem
 use Rattle.defs_text.specs.Classes as classes
@@ -11,20 +11,13 @@ pub line_more : (before : Previous) (g : List ℕ) (c : ℕ) → begins_line bef
 line_more before g c = by before
   where
     same : (x y : Bool) → (x || not (not y && true)) ≡ (x || y)
-    same true y = refl
-    same false true = refl
-    same false false = refl
+    same a y = grind arith
 
     broken : has_break (g ++ c ∷ []) ≡ (has_break g || classes.is_break c)
     broken = break_append g (c ∷ []) ∙ same (has_break g) (classes.is_break c)
 
     by : (before : Previous) → begins_line before (g ++ c ∷ []) ≡ (begins_line before g || classes.is_break c)
-    by plain_scalar = broken
-    by quoted_scalar = broken
-    by block_scalar = refl
-    by flow_collection = broken
-    by directive = broken
-    by another = broken
+    by a = grind (arith, broken)
 
 module _ (before : Previous) (least : ℕ) where
   -- no TAB stands before the least column, if the line begins here
@@ -76,8 +69,7 @@ module _ (before : Previous) (least : ℕ) where
 
   pub feed_next : (c : ℕ) (a : List ℕ) → is_cr_lf c a ≡ true → is_at_comment_or_end a ≡ true
   unfolding classes.is_break
-  feed_next c [] h = refl
-  feed_next c (d ∷ a) h = rw (eqb-true d 10 (and_parts (c == 13) (d == 10) h).1) refl
+  feed_next c b h = grind (arith, eqb-true)
 
   -- ---- a blank
 
@@ -112,9 +104,7 @@ module _ (before : Previous) (least : ℕ) where
               omega (arith, d, p, n)
 
           within : (i x : Bool) → is_empty s.indents ≡ i → nat_lt (s.position.col + 1) s.indent ≡ x → (not i && s.leading && x) ≡ false → least ≤ length (last_line g)
-          within true x i k q = deep i
-          within false true i k q = absurd (cc (h.leading_is i, now, q))
-          within false false i k q = level i k
+          within a x i k q = grind (arith, nat_tests, deep, now, level, eqb-true)
 
           by : (t : Bool) → (c == 9) ≡ t → (t && (not (is_empty s.indents) && s.leading && nat_lt (s.position.col + 1) s.indent)) ≡ false → ((9 == c) ≡ false) ⊎ (least ≤ length (last_line g))
           by false t q = inl (other t)

@@ -1,5 +1,5 @@
 -- Each fetch keeps what holds between two fetches; so the tokens that the scanner's model gives a text are those of the text's row.
-use Rattle.proof_scanner.proofs.Common.{begins, Fares, has_no_nul, List, Reaches, refl, ScannerState, start, TokensAreOfARow, true, ℕ, ◌≡◌}
+use Rattle.proof_scanner.proofs.Common.{Fares, List, Reaches, ScannerState, TokensAreOfARow, begins, has_no_nul, refl, start, true, ℕ, ◌≡◌}
 use Rattle.proof_scanner.proofs.Sound.Fetches.{fetch_keeps}
 use Rattle.proof_scanner.proofs.Sound.Runs.{reached, read_as_a_row}
 

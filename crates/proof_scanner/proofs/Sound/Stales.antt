@@ -1,5 +1,5 @@
 -- Keys that are too far back are dropped: what holds between two fetches still holds, without them.
-use Rattle.proof_scanner.proofs.Common.{[], Account, ap, AreEntries, arith, At, begins_free_line, Bool, chosen, drop_stale, either, Entry, Err, false, Fares, Fault, FlowLevel, have_no_key, Held, Holds, if◌then◌else◌, in_flow, inl, inr, is_empty, is_far, is_overdue, is_renewed, is_waiting, IsAtEnd, IsCutUpTo, IsLine, IsNear, IsOpenOutside, IsRead, Key, KnowsKey, length, List, list_any, map, MayChoose, nat_lt, nat_tests, None, not, not-false, Ok, Option, outside_key, over, Position, refl, refused, Result, ScannerState, SoFar, Some, stale, Stands, Step, still, subst, suc, sym, Token, tokens_from, tokens_up_to, tried, true, try_held, went, ℕ, ◌&&◌, ◌++◌, ◌+◌, ◌||◌, ◌∙◌, ◌∷◌, ◌≡◌, ◌≤◌, ◌⊎◌}
+use Rattle.proof_scanner.proofs.Common.{Account, AreEntries, At, Bool, Entry, Err, Fares, Fault, FlowLevel, Held, Holds, IsAtEnd, IsCarriedOn, IsCutUpTo, IsLine, IsNear, IsOpenOutside, IsRead, Key, KnowsKey, List, MayChoose, None, Ok, Option, Position, Result, ScannerState, SoFar, Some, Stands, Step, Token, [], ap, arith, begins_free_line, chosen, drop_stale, either, false, have_no_key, if◌then◌else◌, in_flow, inl, inr, is_empty, is_far, is_overdue, is_renewed, is_waiting, length, list_any, map, not, not-false, outside_key, over, refl, refused, stale, still, subst, suc, sym, tokens_from, tokens_up_to, tried, true, try_held, went, ℕ, ◌&&◌, ◌++◌, ◌+◌, ◌||◌, ◌∙◌, ◌∷◌, ◌≡◌, ◌≤◌, ◌⊎◌}
 use Rattle.yaml_tokens.specs.declared.problem.Problem.TheVariants as problem
 use Rattle.model_scanner.specs.Keys.{with_keys}
 use Rattle.proof_scanner.proofs.Known.Steps.{known_far}
@@ -15,14 +15,10 @@ completes_alike false text after a T U same h = (h.0, λ ws last e. subst (λ ts
 
 -- outside flow there is one open key or none, and no entry
 pub no_entries : (allowed again : Bool) (fs : List FlowLevel) (ks : List (Option Key)) (es : List Entry) → is_empty fs ≡ true → AreEntries allowed again fs ks es → es ≡ []
-no_entries allowed again [] ks [] o a = refl
-no_entries allowed again [] ks (e ∷ es) o a = absurd a
-no_entries allowed again (f ∷ fs) ks es o a = absurd (cc o)
+no_entries allowed again a ks es o b = grind arith
 
 pub entries_outside : (allowed again : Bool) (fs : List FlowLevel) (ks : List (Option Key)) (es : List Entry) → is_empty fs ≡ true → es ≡ [] → AreEntries allowed again fs ks es
-entries_outside allowed again [] ks [] o e = tt
-entries_outside allowed again [] ks (x ∷ es) o e = absurd (cc e)
-entries_outside allowed again (f ∷ fs) ks es o e = absurd (cc o)
+entries_outside allowed again a ks es o e = grind arith
 
 pub one_key : (ks : List (Option Key)) (fs : List FlowLevel) → length ks ≡ suc (length fs) → is_empty fs ≡ true → (k : Option Key) × (ks ≡ k ∷ [])
 one_key [] fs n o = absurd (omega (arith, n))
@@ -51,8 +47,7 @@ key_dropped text u s out k only far free = dropped
     none = no_entries u.held.key_allowed (is_renewed s.base.site.before s.separation) u.held.flow u.held.keys s.base.entries out s.are_entries
 
     line : (fl : Bool) (k : Option Key) → IsLine fl u.held.key_allowed (begins_free_line s.base.site.before s.separation) u.held.position u.rest k s.base.line → IsLine fl u.held.key_allowed (begins_free_line s.base.site.before s.separation) u.held.position u.rest None s.base.line
-    line true k h = h
-    line false k h = (h.0, h.1, tt)
+    line a k h = grind arith
 
     may : MayChoose true false (outside_key s.base.entries u.held.keys) u.held.position u.rest
     may = subst (λ es. MayChoose true false (outside_key es u.held.keys) u.held.position u.rest) (sym none) (subst (λ ks. MayChoose true false (outside_key [] ks) u.held.position u.rest) (sym only) free)
@@ -65,32 +60,21 @@ key_dropped text u s out k only far free = dropped
     own strict c cs = base strict
 
     dropped : Stands text (record u { held = record u.held { keys = None ∷ [] } })
-    dropped = stands_by text _ u.held.flow (None ∷ []) s.base refl refl (record {
-      separation = s.separation;
-      is_clean = s.is_clean;
-      is_filled = s.is_filled;
-      position_is = s.position_is;
-      blocks_are = s.blocks_are;
-      awaits_is = s.awaits_is;
-      are_levels = s.are_levels;
-      has_no_tabs = s.has_no_tabs;
-      is_leading = s.is_leading;
-      read_on = s.read_on;
-      one_each = sym (ap length only) ∙ s.one_each;
-      are_entries = entries_outside u.held.key_allowed (is_renewed s.base.site.before s.separation) u.held.flow (None ∷ []) s.base.entries out none;
-      line_is = subst (λ es. IsLine (not (is_empty u.held.flow)) u.held.key_allowed (begins_free_line s.base.site.before s.separation) u.held.position u.rest (outside_key es (None ∷ [])) s.base.line) (sym none) (line (not (is_empty u.held.flow)) (outside_key s.base.entries u.held.keys) s.line_is);
-      is_open = subst (λ es. IsOpenOutside (outside_key es (None ∷ [])) s.base.site.position u.held.position u.rest s.base.site.blocks) (sym none) tt;
-      no_key = s.no_key;
-      are_numbered = (tt, tt);
-      was_adjacent = s.was_adjacent;
-      adjacent_before = s.adjacent_before;
-      started = s.started;
-      going = s.going;
-      carries = λ cs x key m inside some. absurd (cc (inside, ap is_empty none));
-      knows = subst (λ es. KnowsKey text After u.held.position (outside_key es (None ∷ []))) (sym none)
-          (known_far text After u.held.position k far (subst (λ ks. KnowsKey text After u.held.position (outside_key [] ks)) only (subst (λ es. KnowsKey text After u.held.position (outside_key es u.held.keys)) none s.knows)));
-      completes = λ strict c cs may. subst (λ es. Of strict c cs (record s.base { entries = es })) (sym none) (own strict c cs);
-    })
+    dropped = stands_by text _ u.held.flow (None ∷ []) s.base refl refl (
+        let carries : IsCarriedOn text After u.rest (None ∷ []) s.base = λ cs x key m inside some. absurd (cc (inside, ap is_empty none)) in
+        let completes : (strict c : Bool) (cs : List Bool) → MayChoose strict c (outside_key s.base.entries (None ∷ [])) u.held.position u.rest → Of strict c cs s.base = λ strict c cs may. subst (λ es. Of strict c cs (record s.base { entries = es })) (sym none) (own strict c cs) in
+        search (
+          s.is_filled,
+          s,
+          sym (ap length only) ∙ s.one_each,
+          entries_outside u.held.key_allowed (is_renewed s.base.site.before s.separation) u.held.flow (None ∷ []) s.base.entries out none,
+          carries,
+          completes,
+          subst (λ es. IsLine (not (is_empty u.held.flow)) u.held.key_allowed (begins_free_line s.base.site.before s.separation) u.held.position u.rest (outside_key es (None ∷ [])) s.base.line) (sym none) (line (not (is_empty u.held.flow)) (outside_key s.base.entries u.held.keys) s.line_is),
+          subst (λ es. IsOpenOutside (outside_key es (None ∷ [])) s.base.site.position u.held.position u.rest s.base.site.blocks) (sym none) tt,
+          subst (λ es. KnowsKey text After u.held.position (outside_key es (None ∷ []))) (sym none)
+              (known_far text After u.held.position k far (subst (λ ks. KnowsKey text After u.held.position (outside_key [] ks)) only (subst (λ es. KnowsKey text After u.held.position (outside_key es u.held.keys)) none s.knows))),
+        ))
 
 -- ---- the step
 
@@ -102,12 +86,7 @@ pub record Nearer (text : List ℕ) (u : ScannerState) (h : Held) : Type 0 where
 
 not_far : (k p : Position) → is_far k p ≡ false → (p.line ≤ k.line) × (p.index ≤ k.index + 1024)
 unfolding is_far
-not_far k p h = by (nat_lt k.line p.line) (nat_lt (k.index + 1024) p.index) refl refl h
-  where
-    by : (a b : Bool) → nat_lt k.line p.line ≡ a → nat_lt (k.index + 1024) p.index ≡ b → (a || b) ≡ false → (p.line ≤ k.line) × (p.index ≤ k.index + 1024)
-    by true b e f h = absurd (cc h)
-    by false true e f h = absurd (cc h)
-    by false false e f h = (grind (arith, nat_tests, e), grind (arith, nat_tests, f))
+not_far k p h = grind arith
 
 outside_now : (text : List ℕ) (u : ScannerState) (s : Stands text u) → is_empty u.held.flow ≡ true → (k : Option Key) → u.held.keys ≡ k ∷ [] → list_any (is_overdue u.held.position) (k ∷ []) ≡ false →
     Nearer text u (record u.held { keys = map (still u.held.position) (k ∷ []) })
@@ -144,8 +123,7 @@ stale_stands text u s =
     (by (list_any (is_overdue u.held.position) (k.0 ∷ [])) (outside_now text u s out k.0 k.1)))
   where
     by : {ks : List (Option Key)} (b : Bool) → (b ≡ false → Nearer text u (record u.held { keys = ks })) → Holds (Nearer text u) (with_keys u.held (if b then Err (At problem.KeyWithoutColon u.held.position) else Ok ks))
-    by true f = refused
-    by false f = went (f refl)
+    by a f = grind (arith, refused, went)
 
 -- The stale keys of a fetch are dropped.
 pub keys_only : (s : Held) → Holds (λ h. h ≡ record s { keys = h.keys }) (stale s)
@@ -153,8 +131,7 @@ unfolding stale
 keys_only s = either (in_flow s) (λ _. went refl) (λ _. by (drop_stale s.position s.keys))
   where
     by : (r : Result (List (Option Key)) Fault) → Holds (λ h. h ≡ record s { keys = h.keys }) (with_keys s r)
-    by (Ok ks) = went refl
-    by (Err f) = refused
+    by a = grind (arith, went, refused)
 
 -- What holds after a token, or after the end, holds after stale keys are dropped.
 pub fares_stale : (text : List ℕ) (t : ScannerState) → Stands text t ⊎ ((t.held.ended ≡ true) × IsRead text t.held.tokens × IsAtEnd text t.held) → Holds (Fares text) (try_held stale t)

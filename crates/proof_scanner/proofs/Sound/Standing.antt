@@ -1,5 +1,5 @@
 -- What lets a piece stand: four tests, and its column in flow.
-use Rattle.proof_scanner.proofs.Common.{act_of, ap, awaits_past, Bool, false, is_deep_enough, is_marker, least_column, least_for, List, nat_le, or_true, refl, Site, Tok, true, ℕ, ◌&&◌, ◌||◌, ◌∙◌, ◌≡◌}
+use Rattle.proof_scanner.proofs.Common.{Bool, List, Site, Tok, act_of, ap, awaits_past, false, is_deep_enough, is_marker, least_column, least_for, nat_le, or_true, refl, true, ℕ, ◌&&◌, ◌||◌, ◌∙◌, ◌≡◌}
 use Rattle.defs_token.specs.Indentation.{awaits_in_flow, awaits_in_block}
 
 pub and_yes : (b : Bool) → (b && true) ≡ b
@@ -11,9 +11,6 @@ pub awaits_kept : (tok : Tok) → ((b : Bool) → awaits_in_flow tok b ≡ b) �
     (fl : Bool) (bs : List ℕ) (b : Bool) (next : List ℕ) → awaits_past fl tok bs b next ≡ b
 awaits_kept tok inside outside true bs b next = inside b
 awaits_kept tok inside outside false bs b next = outside bs b next ∙ and_yes b
-
-pub all_true : (w x y z : Bool) → w ≡ true → x ≡ true → y ≡ true → z ≡ true → (w && x && y && z) ≡ true
-all_true w x y z e f g h = rw (e, f, g, h) refl
 
 -- a piece that is no plain scalar, in the least column or deeper
 pub deep_for : (fl : Bool) (tok : Tok) (x : Site) → least_for tok x ≡ least_column x.blocks x.awaits → nat_le (least_column x.blocks x.awaits) x.position.col ≡ true → is_deep_enough fl tok x ≡ true

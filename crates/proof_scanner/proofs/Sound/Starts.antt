@@ -1,5 +1,5 @@
 -- What holds between fetches holds after the stream's start.
-use Rattle.proof_scanner.proofs.Common.{[], arith, fetch_stream_start, first_account, first_position, has_no_nul, inl, inr, List, put, refl, SoFar, Stands, start, stream_start, subst, sym, true, up_to_nul, ℕ, ◌∷◌, ◌≡◌}
+use Rattle.proof_scanner.proofs.Common.{List, SoFar, Stands, [], arith, fetch_stream_start, first_account, first_position, has_no_nul, inl, inr, put, refl, start, stream_start, subst, sym, true, up_to_nul, ℕ, ◌∷◌, ◌≡◌}
 use Rattle.proof_scanner.proofs.Cut.Documents.{whole_text}
 use Rattle.proof_scanner.proofs.Known.Steps.{known_at_start}
 use Rattle.proof_scanner.proofs.Sound.Completed.{completed_at_start, goes_of}

@@ -1,18 +1,17 @@
 -- Where a text ends: no open key is one, and the stream's end and those of the block collections stand where the row has them.
 use Rattle.yaml_tokens.specs.declared.problem.Problem.TheVariants as problem
 use Rattle.std.proofs.lemmas.List.{append-nil}
-use Rattle.proof_scanner.proofs.Common.{[], Account, ap, append_assoc, AreAround, AreCollections, AreEntries, AreLevels, arith, Arrives, At, block_end, Bool, checked, chosen, cleared, colon_of, columns, Completes, ended_at, ends_at, ends_here, ends_with_stream, entries_by, Entry, entry_by, false, fetch_stream_end, FlowLevel, Had, has_required, HasHad, have_no_key, Held, Holds, if◌then◌else◌, in_flow, Indent, is_empty, is_keyed, is_renewed, is_required, is_separation, is_waiting, IsRead, IsTopLevel, Key, length, level_of, Line, line_by, List, map, may_end, MayChoose, nat_lt, nat_tests, next_line, None, not, not-true, not_ended, Option, outside_key, pop, Position, position_after, put, refl, replicate, ScannerState, Site, site_here, Some, Step, stream_end, stream_position, subst, suc, sym, takes_pair, Token, tokens_at_end, tokens_up_to, top_key, tried, true, unroll_indent, unrolled, went, with_keys, ℕ, ◌&&◌, ◌++◌, ◌+◌, ◌-◌, ◌<◌, ◌==◌, ◌||◌, ◌∙◌, ◌∷◌, ◌≡◌, ◌≤◌}
+use Rattle.proof_scanner.proofs.Common.{Account, AreAround, AreCollections, AreEntries, AreLevels, Arrives, At, Bool, Completes, Entry, FlowLevel, Had, HasHad, Held, Holds, Indent, IsRead, IsTopLevel, Key, Levels, Line, List, MayChoose, Option, Position, ScannerState, Site, Step, Token, [], ap, append_assoc, arith, block_end, blocks, checked, chosen, cleared, colon_of, columns, ended_at, ends_at, ends_here, ends_with_stream, entries_by, entry_by, false, fetch_stream_end, has_required, have_no_key, if◌then◌else◌, in_flow, is_empty, is_keyed, is_renewed, is_required, is_separation, is_waiting, length, level_of, line_by, map, may_end, nat_lt, nat_tests, next_line, not, not-true, not_ended, outside_key, pop, position_after, put, refl, replicate, site_here, stream_end, stream_position, subst, suc, sym, takes_pair, tokens_at_end, tokens_up_to, top_key, tried, true, unroll_indent, unrolled, went, with_keys, ℕ, ◌&&◌, ◌++◌, ◌-◌, ◌<◌, ◌||◌, ◌∙◌, ◌∷◌, ◌≡◌, ◌≤◌}
 use Rattle.proof_scanner.proofs.Cut.Documents.{unroll_keeps}
 use Rattle.proof_scanner.proofs.Sound.Completed.{completed_at_end}
-use Rattle.proof_scanner.proofs.Sound.NodesInside.{no_had, not_keyed}
+use Rattle.proof_scanner.proofs.Sound.NodeTokens.{no_had, not_keyed}
 use Rattle.proof_scanner.proofs.Sound.NodesOutside.{no_line}
 use Rattle.proof_scanner.proofs.Cut.Unrolls.{unrolled_in_flow}
 
 -- ---- no key waits
 
 had_no_key : (k : Option Key) (h : Had) → HasHad k h → is_keyed h ≡ false
-had_no_key (Some k) h e = ap is_keyed e
-had_no_key None h e = ap is_keyed e
+had_no_key a h e = grind arith
 
 around_no_key : (fs : List FlowLevel) (ks : List (Option Key)) (es : List Entry) → AreAround fs ks es → have_no_key es ≡ true
 around_no_key [] ks [] a = refl
@@ -22,23 +21,17 @@ around_no_key (f ∷ fs) [] es a = absurd a
 around_no_key (f ∷ fs) (k ∷ ks) [] a = absurd a
 
 pub entries_no_key : (allowed again : Bool) (fs : List FlowLevel) (ks : List (Option Key)) (es : List Entry) → AreEntries allowed again fs ks es → have_no_key es ≡ true
-entries_no_key allowed again [] ks [] a = refl
-entries_no_key allowed again (f ∷ fs) (k ∷ ks) (e ∷ es) a = rw (not_keyed allowed again k e.had a.1, around_no_key fs ks es a.2) refl
-entries_no_key allowed again [] ks (e ∷ es) a = absurd a
-entries_no_key allowed again (f ∷ fs) [] es a = absurd a
-entries_no_key allowed again (f ∷ fs) (k ∷ ks) [] a = absurd a
+entries_no_key allowed again a ks es b = grind (arith, not_keyed, around_no_key)
 
 same_entry : (k : Option Key) (e : Entry) → entry_by false k e ≡ e
-same_entry None e = refl
-same_entry (Some k) e = refl
+same_entry a e = grind arith
 
 none_inside : (ks : List (Option Key)) (es : List Entry) → entries_by [] ks es ≡ es
 none_inside ks [] = refl
 none_inside ks (e ∷ es) = ap (λ x. x ∷ entries_by [] (pop ks) es) (same_entry (top_key ks) e) ∙ ap (λ xs. e ∷ xs) (none_inside (pop ks) es)
 
 none_outside : (k : Option Key) (l : Line) → line_by false k l ≡ l
-none_outside None l = refl
-none_outside (Some k) l = refl
+none_outside a l = grind arith
 
 -- with no choice for a key, the account is the one in which no open key is one
 pub none_chosen : (ks : List (Option Key)) (a : Account) → chosen false [] ks a ≡ a
@@ -47,8 +40,7 @@ none_chosen ks a =
     ap (λ es. record { site = a.site; line = a.line; entries = es }) (none_inside ks a.entries)
 
 not_both : (b c : Bool) → (not b && c) ≡ true → (b ≡ false) × (c ≡ true)
-not_both true c h = absurd (cc h)
-not_both false c h = (refl, h)
+not_both a c h = grind arith
 
 -- where no key waits, the tokens are those that the scanner holds
 pub none_put : (d : ℕ) (p : Position) (ws : List Step) (last bs : List ℕ) (l : Line) (es : List Entry) (ks : List (Option Key)) (ts : List Token) → is_waiting l ≡ false → have_no_key es ≡ true → with_keys d p ws last bs l es ks ts ≡ ts
@@ -61,10 +53,7 @@ none_put d p ws last bs l (e ∷ es) (k ∷ ks) ts h n =
 -- ---- positions
 
 pub same_line_start : (p : Position) → next_line p ≡ stream_position p
-same_line_start p = ap (λ n. if p.col == 0 then p else record { index = p.index; line = n; col = 0 }) more
-  where
-    more : p.line + 1 ≡ suc p.line
-    more = omega arith
+same_line_start p = grind arith
 
 -- ---- the ends of block collections
 
@@ -78,24 +67,26 @@ more_ends n p ts = append_assoc ts (put p block_end ∷ []) (ends_of n p)
 pub positive : (n i : ℕ) → n < i → nat_lt 0 i ≡ true
 positive n i h = grind (arith, nat_tests)
 
-all_collections : (p : Position) (i : ℕ) (ds : List Indent) (ts : List Token) → AreCollections i ds → (unrolled 0 p i ds ts).tokens ≡ ts ++ ends_of (length (columns i ds)) p
+-- no level is left then
+abbrev pub none_left : Position → ℕ → List Indent → List Token → Levels
+none_left p i ds ts = record { indent = 0; indents = []; tokens = ts ++ ends_of (length (columns i ds)) p }
+
+ended_more : (p : Position) (i : ℕ) (ds : List Indent) (ts : List Token) → none_left p i ds (ts ++ put p block_end ∷ []) ≡ record { indent = 0; indents = []; tokens = ts ++ ends_of (suc (length (columns i ds))) p }
+ended_more p i ds ts = ap (λ (x : List Token). record { indent = 0; indents = []; tokens = x }) (more_ends (length (columns i ds)) p ts)
+
+all_collections : (p : Position) (i : ℕ) (ds : List Indent) (ts : List Token) → AreCollections i ds → unrolled 0 p i ds ts ≡ none_left p i ds ts
 unfolding unrolled
-all_collections p i [] ts a = sym (append_nil ts)
-  where
-    append_nil : (xs : List Token) → xs ++ [] ≡ xs
-    append_nil [] = refl
-    append_nil (x ∷ xs) = ap (λ l. x ∷ l) (append_nil xs)
-all_collections p i (d ∷ ds) ts a =
-    rw (positive d.indent i a.1, a.0) (all_collections p d.indent ds (ts ++ put p block_end ∷ []) a.2 ∙ more_ends (length (columns d.indent ds)) p ts)
+all_collections p i [] ts a = rw (a, append-nil) refl
+all_collections p i (d ∷ ds) ts a = rw (positive d.indent i a.1, a.0) (all_collections p d.indent ds (ts ++ put p block_end ∷ []) a.2 ∙ ended_more p d.indent ds ts)
 
 -- all levels end at the stream's end, each collection with its token
-pub all_levels : (p : Position) (i : ℕ) (ds : List Indent) (ts : List Token) → AreLevels i ds → (unrolled 0 p i ds ts).tokens ≡ ts ++ ends_of (length (columns i ds)) p
+pub all_levels : (p : Position) (i : ℕ) (ds : List Indent) (ts : List Token) → AreLevels i ds → unrolled 0 p i ds ts ≡ none_left p i ds ts
 unfolding unrolled
 all_levels p i [] ts a = all_collections p i [] ts a
 all_levels p i (d ∷ ds) ts a = by d.needs_block_end a.0
   where
-    by : (b : Bool) → IsTopLevel b i d.indent ds → (unrolled 0 p i (record { indent = d.indent; needs_block_end = b } ∷ ds) ts).tokens ≡ ts ++ ends_of (length (if b then (i - 1) ∷ columns d.indent ds else columns d.indent ds)) p
-    by true h = rw (positive d.indent i h) (all_collections p d.indent ds (ts ++ put p block_end ∷ []) a.1 ∙ more_ends (length (columns d.indent ds)) p ts)
+    by : (b : Bool) → IsTopLevel b i d.indent ds → unrolled 0 p i (record { indent = d.indent; needs_block_end = b } ∷ ds) ts ≡ none_left p i (record { indent = d.indent; needs_block_end = b } ∷ ds) ts
+    by true h = rw (positive d.indent i h) (all_collections p d.indent ds (ts ++ put p block_end ∷ []) a.1 ∙ ended_more p d.indent ds ts)
     by false h = rw (positive d.indent i (omega (arith, h.0))) (all_collections p d.indent ds ts a.1)
 
 -- whether no collection is deeper than a column
@@ -105,10 +96,7 @@ NoneDeeper col (n ∷ ns) = (n ≤ col) × NoneDeeper col ns
 
 none_ends : (end : Position) (bs : List ℕ) → NoneDeeper end.col bs → ends_with_stream end bs ≡ ends_of (length bs) (stream_position end)
 none_ends end [] h = refl
-none_ends end (n ∷ ns) h = rw (by end.col n h.0) (ap (λ l. put (stream_position end) block_end ∷ l) (none_ends end ns h.1))
-  where
-    by : (c m : ℕ) → m ≤ c → nat_lt c m ≡ false
-    by c m k = grind (arith, nat_tests)
+none_ends end (n ∷ ns) h = grind (arith, put, none_ends end ns h.1)
 
 -- ---- the ends that stand at the text's end, and those after it
 
@@ -124,11 +112,7 @@ FirstIsNot col (n ∷ ns) = n ≤ col
 
 first_going_on : (col : ℕ) (bs : List ℕ) → FirstIsNot col (not_ended col bs)
 first_going_on col [] = tt
-first_going_on col (n ∷ ns) = by (nat_lt col n) refl (first_going_on col ns)
-  where
-    by : (b : Bool) → nat_lt col n ≡ b → FirstIsNot col (not_ended col ns) → FirstIsNot col (if b then not_ended col ns else n ∷ ns)
-    by true e h = h
-    by false e h = grind (arith, nat_tests, e)
+first_going_on col (n ∷ ns) = grind (arith, first_going_on col ns)
 
 collections_below : (col i : ℕ) (ds : List Indent) → AreCollections i ds → FirstIsNot col (columns i ds) → NoneDeeper col (columns i ds)
 collections_below col i [] a f = tt
@@ -146,11 +130,7 @@ levels_below col i (d ∷ ds) a f = by d.needs_block_end a.0 f
 
 pub shorter : (col : ℕ) (bs : List ℕ) → length (not_ended col bs) ≤ length bs
 shorter col [] = omega arith
-shorter col (n ∷ ns) = by (nat_lt col n) (shorter col ns)
-  where
-    by : (b : Bool) → length (not_ended col ns) ≤ length ns → length (if b then not_ended col ns else n ∷ ns) ≤ suc (length ns)
-    by true h = omega (arith, h)
-    by false h = omega arith
+shorter col (n ∷ ns) = grind (arith, shorter col ns)
 
 -- Collections deeper than the text's end end there, and the others with the stream.
 pub ends_split : (end : Position) (bs : List ℕ) → NoneDeeper end.col (not_ended end.col bs) →
@@ -180,19 +160,12 @@ ends_by_levels end bs i ds a e =
 
 -- a key outside flow need not be one, if none must be
 outside_free : (es : List Entry) (ks : List (Option Key)) (p : Position) (rest : List ℕ) → has_required ks ≡ false → MayChoose true false (outside_key es ks) p rest
-outside_free [] [] p rest h = tt
-outside_free [] (None ∷ ks) p rest h = tt
-outside_free [] (Some k ∷ ks) p rest h = by k.required h
-  where
-    by : (b : Bool) → (b || has_required ks) ≡ false → b ≡ false
-    by true e = absurd (cc e)
-    by false e = refl
+outside_free [] ks p rest h = grind arith
 outside_free (e ∷ es) [] p rest h = outside_free es [] p rest h
 outside_free (e ∷ es) (k ∷ ks) p rest h = outside_free es ks p rest (by (is_required k) h)
   where
     by : (b : Bool) → (b || has_required ks) ≡ false → has_required ks ≡ false
-    by true e = absurd (cc e)
-    by false e = e
+    by a e = grind arith
 
 -- the text is read as the tokens before the separation and those at its end
 at_end : (text : List ℕ) (t : ScannerState) (a : Arrives text t) → t.rest ≡ [] → has_required t.held.keys ≡ false → IsRead text (a.tokens ++ tokens_at_end t.held.position a.base.site.blocks a.base.entries)
@@ -214,7 +187,7 @@ at_end text t a e required =
 -- what the scanner holds after the ends of all levels
 unrolled_outside : (s : Held) → in_flow s ≡ false → AreLevels s.indent s.indents → ((unroll_indent 0 s).tokens ≡ s.tokens ++ ends_of (length (columns s.indent s.indents)) s.position) × ((unroll_indent 0 s).position ≡ s.position)
 unfolding unroll_indent
-unrolled_outside s e a = rw e (all_levels s.position s.indent s.indents s.tokens a, refl)
+unrolled_outside s e a = rw e (ap (λ u. u.tokens) (all_levels s.position s.indent s.indents s.tokens a), refl)
 
 -- the scanner where its stream ends, before the last ends
 abbrev at_stream_end : Held → Held
@@ -222,15 +195,10 @@ at_stream_end h = record h { position = next_line h.position; keys = cleared h.k
 
 -- an account has a level for each entry
 pub same_levels : (es : List Entry) → is_empty (map level_of es) ≡ is_empty es
-same_levels [] = refl
-same_levels (e ∷ es) = refl
+same_levels a = grind arith
 
 pub same_flow : (allowed again : Bool) (fs : List FlowLevel) (ks : List (Option Key)) (es : List Entry) → AreEntries allowed again fs ks es → is_empty fs ≡ is_empty es
-same_flow allowed again [] ks [] a = refl
-same_flow allowed again (f ∷ fs) (k ∷ ks) (e ∷ es) a = refl
-same_flow allowed again [] ks (e ∷ es) a = absurd a
-same_flow allowed again (f ∷ fs) [] es a = absurd a
-same_flow allowed again (f ∷ fs) (k ∷ ks) [] a = absurd a
+same_flow allowed again a ks es b = grind arith
 
 -- Its tokens with the stream's end are those of the row.
 outside_flow : (h : Held) (ts : List Token) (bs : List ℕ) → in_flow h ≡ false → AreLevels h.indent h.indents → h.tokens ≡ ts ++ ends_at h.position bs (not_ended h.position.col bs) → not_ended h.position.col bs ≡ columns h.indent h.indents →
@@ -260,8 +228,7 @@ in_flow_too h ts bs e es within tokens =
 
 last_tokens : (h : Held) (ts : List Token) (x : Site) (es : List Entry) → is_empty h.flow ≡ is_empty es → AreLevels h.indent h.indents → h.tokens ≡ ts ++ ends_here (not (is_empty h.flow)) h.position x.blocks →
     (site_here (not (is_empty h.flow)) h.position x).blocks ≡ columns h.indent h.indents → (ended_at (unroll_indent 0 (at_stream_end h))).tokens ≡ ts ++ tokens_at_end h.position x.blocks es
-last_tokens h ts x [] e levels tokens blocks =
-    outside_flow h ts x.blocks (ap not e) levels (subst (λ b. h.tokens ≡ ts ++ ends_here (not b) h.position x.blocks) e tokens) (subst (λ b. (site_here (not b) h.position x).blocks ≡ columns h.indent h.indents) e blocks)
+last_tokens h ts x [] e levels tokens blocks = grind (arith, outside_flow, ends_here, columns)
 last_tokens h ts x (y ∷ es) e levels tokens blocks =
     in_flow_too h ts x.blocks y es (ap not e) (subst (λ b. h.tokens ≡ ts ++ ends_here (not b) h.position x.blocks) e tokens ∙ append-nil ts)
 

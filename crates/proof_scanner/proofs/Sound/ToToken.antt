@@ -1,5 +1,5 @@
 -- The way to the next token, or to the text's end, keeps what holds between two fetches, with the separation up to there.
-use Rattle.proof_scanner.proofs.Common.{[], after_separation, another, ap, append_assoc, append_cancel_right, AreEntries, arith, before_by, before_past, begins_free_line, begins_line, begins_separation, begins_white, BeginsButForKey, between, block_scalar, Bool, both_hold, chosen, columns, directive, Entry, false, flow_collection, FlowLevel, follows_plain, has_break, has_no_nul, has_tab_within, HasNoTabs, Holds, if◌then◌else◌, in_flow, Indent, inl, inr, is_at_comment_or_end, is_at_line_end, is_blank, is_break, is_empty, is_free, is_indented_by_spaces, is_nul, is_one_of, is_renewed, is_separation, is_white, IsAdjacent, IsLine, IsLive, IsOpenHere, IsOpenOutside, IsReadOn, IsTakenBy, Key, KnowsKey, last_line, least_column, length, Line, List, None, not, Ok, Option, or-false, or-true, outside_key, plain_scalar, Position, position_after, position_append, Previous, quoted_scalar, refl, ScannerState, skip_to_next_token, SoFar, Some, Stands, subst, sym, tokens_up_to, true, weakened, went, ℕ, ◌&&◌, ◌++◌, ◌+◌, ◌==◌, ◌||◌, ◌∙◌, ◌∷◌, ◌≡◌, ◌≤◌}
+use Rattle.proof_scanner.proofs.Common.{AreEntries, BeginsButForKey, Bool, Entry, FlowLevel, HasNoTabs, Holds, IsAdjacent, IsLine, IsLive, IsOpenHere, IsOpenOutside, IsReadOn, IsTakenBy, Key, KnowsKey, Line, List, None, Ok, Option, Position, Previous, ScannerState, SoFar, Some, Stands, [], after_separation, ap, append_assoc, append_cancel_right, arith, before_by, before_past, begins_free_line, begins_line, begins_separation, begins_white, between, block_scalar, both_hold, chosen, eqb-true, false, follows_plain, has_break, has_no_nul, has_tab_within, if◌then◌else◌, in_flow, inl, inr, is_at_comment_or_end, is_at_line_end, is_empty, is_free, is_indented_by_spaces, is_one_of, is_renewed, is_separation, is_white, last_line, least_column, length, nat_tests, not, or-false, or-true, outside_key, plain_scalar, position_after, position_append, refl, skip_to_next_token, subst, sym, tokens_up_to, true, weakened, went, ℕ, ◌&&◌, ◌++◌, ◌+◌, ◌==◌, ◌||◌, ◌∙◌, ◌∷◌, ◌≡◌, ◌≤◌}
 use Rattle.proof_lexers.specs.PlainEnds as plain_ends
 use Rattle.proof_lexers.proofs.Separation.EachSeparation.{no_nul_after}
 use Rattle.proof_scanner.proofs.Cut.Positions.{not_before_after, index_after}
@@ -18,56 +18,26 @@ use Rattle.proof_scanner.proofs.Sound.Sides.{stands_by}
 
 -- where a line begins, the column is the length of the last line so far
 col_here : (b : Previous) (q : Position) (g a : List ℕ) → at_break a ≡ false → is_empty a ≡ false → IsReadOn b q g a → begins_line b g ≡ true → (position_after q g a).col ≡ length (last_line g)
-col_here plain_scalar q g a e some r h = column_after q g a e ∙ ap (λ x. if x then length (last_line g) else q.col + length g) h
-col_here quoted_scalar q g a e some r h = column_after q g a e ∙ ap (λ x. if x then length (last_line g) else q.col + length g) h
-col_here flow_collection q g a e some r h = column_after q g a e ∙ ap (λ x. if x then length (last_line g) else q.col + length g) h
-col_here directive q g a e some r h = column_after q g a e ∙ ap (λ x. if x then length (last_line g) else q.col + length g) h
-col_here another q g a e some r h = column_after q g a e ∙ ap (λ x. if x then length (last_line g) else q.col + length g) h
 col_here block_scalar q g a e some r h = column_after q g a e ∙ by (has_break g) refl
   where
     by : (x : Bool) → has_break g ≡ x → (if x then length (last_line g) else q.col + length g) ≡ length (last_line g)
     by true k = refl
     by false k = let z : q.col ≡ 0 = r some in let w : length (last_line g) ≡ length g = ap length (last_whole g k) in omega (arith, z, w)
+col_here _ q g a e some r h = column_after q g a e ∙ ap (λ x. if x then length (last_line g) else q.col + length g) h
 
 spaced_by : (b f : Bool) (n m : ℕ) (l : List ℕ) → b ≡ true → (not b || not (has_tab_within n l)) ≡ true → n ≡ m → has_tab_within m l ≡ false
-spaced_by b f n m l e h k = by (has_tab_within m l) (subst (λ x. (not b || not (has_tab_within x l)) ≡ true) k h)
-  where
-    by : (x : Bool) → (not b || not x) ≡ true → x ≡ false
-    by false h = refl
-    by true h = absurd (both b e h)
-      where
-        both : (b : Bool) → b ≡ true → (not b || false) ≡ true → ⊥
-        both true e h = cc h
-        both false e h = cc e
+spaced_by b f n m l e h k = grind arith
 
 -- a plain scalar's gap is followed by a comment, or by no separation
 after_plain : (a : List ℕ) → begins_white a ≡ false → begins_separation a ≡ true → is_at_comment_or_end a ≡ true
-after_plain [] w h = refl
-after_plain (c ∷ a) w h = by (is_blank c) (is_break c) (c == 35) w h
-  where
-    by : (x y z : Bool) → (x || y) ≡ false → ((x || y) || z) ≡ true → (y || (z || false)) ≡ true
-    by true y z w h = absurd (cc w)
-    by false true z w h = refl
-    by false false true w h = refl
-    by false false false w h = absurd (cc h)
+after_plain b w h = grind arith
 
 spaced_here : (b : Previous) (bs : List ℕ) (aw : Bool) (q : Position) (g a : List ℕ) → is_indented_by_spaces b bs aw g ≡ true → begins_separation a ≡ true → is_at_comment_or_end a ≡ false → IsReadOn b q g a → Spaced b (least_column bs aw) g
-spaced_here plain_scalar bs aw q g a h s n r = λ e. absurd (cc (n, after_plain a r s))
-spaced_here quoted_scalar bs aw q g a h s n r = λ e. spaced_by (begins_line quoted_scalar g) false (least_column bs (aw || false)) (least_column bs aw) (last_line g) e h (ap (least_column bs) (or-false aw))
-spaced_here block_scalar bs aw q g a h s n r = λ e. spaced_by (begins_line block_scalar g) false (least_column bs (aw || false)) (least_column bs aw) (last_line g) e h (ap (least_column bs) (or-false aw))
-spaced_here flow_collection bs aw q g a h s n r = λ e. spaced_by (begins_line flow_collection g) false (least_column bs (aw || false)) (least_column bs aw) (last_line g) e h (ap (least_column bs) (or-false aw))
-spaced_here directive bs aw q g a h s n r = λ e. spaced_by (begins_line directive g) false (least_column bs (aw || false)) (least_column bs aw) (last_line g) e h (ap (least_column bs) (or-false aw))
-spaced_here another bs aw q g a h s n r = λ e. spaced_by (begins_line another g) false (least_column bs (aw || false)) (least_column bs aw) (last_line g) e h (ap (least_column bs) (or-false aw))
+spaced_here d bs aw q g a h s n r = grind (arith, after_plain, spaced_by, or-false)
 
 -- in the midst of a line
 in_midst : (a : List ℕ) → has_no_nul a ≡ true → is_at_comment_or_end a ≡ false → (at_break a ≡ false) × (is_empty a ≡ false) × (is_at_line_end a ≡ false)
-in_midst [] n h = absurd (cc h)
-in_midst (c ∷ a) n h = by (is_break c) (is_nul c) h n
-  where
-    by : (x z : Bool) → (x || ((c == 35) || false)) ≡ false → (not z && has_no_nul a) ≡ true → (x ≡ false) × (false ≡ false) × ((x || z) ≡ false)
-    by true z h n = absurd (cc h)
-    by false true h n = absurd (cc n)
-    by false false h n = (refl, refl, refl)
+in_midst b n h = grind arith
 
 -- What is known of the line where the way begins.
 at_start : (text : List ℕ) (t : ScannerState) (s : Stands text t) → begins_separation t.rest ≡ true → is_at_comment_or_end t.rest ≡ false → is_indented_by_spaces s.base.site.before s.base.site.blocks s.base.site.awaits s.separation ≡ true →
@@ -91,10 +61,7 @@ is_in text t s begins = by (is_at_comment_or_end t.rest) refl s.has_no_tabs
 -- ---- where it ends
 
 among : (f p : List ℕ) (c : ℕ) → (c == 35) ≡ true → is_one_of (f ++ c ∷ p) 35 ≡ true
-among [] p c h = rw (same (c == 35) refl) refl
-  where
-    same : (x : Bool) → (c == 35) ≡ x → (35 == c) ≡ true
-    same x e = grind (arith, h)
+among [] p c h = grind arith
 among (d ∷ f) p c h = rw (among f p c h) (or-true (35 == d))
 
 -- where a separation was passed, it is none that follows a plain scalar without a comment
@@ -103,18 +70,10 @@ no_plain plain_scalar q f [] rest rest2 cut r begins solid fills = absurd (cc (b
 no_plain plain_scalar q f (c ∷ p) rest rest2 cut r begins solid fills =
     let white : is_white c ≡ false = rw cut at r in
     ap not (among f p c (first_comment c p rest2 white fills))
-no_plain quoted_scalar q f g rest rest2 cut r begins solid fills = refl
-no_plain block_scalar q f g rest rest2 cut r begins solid fills = refl
-no_plain flow_collection q f g rest rest2 cut r begins solid fills = refl
-no_plain directive q f g rest rest2 cut r begins solid fills = refl
-no_plain another q f g rest rest2 cut r begins solid fills = refl
+no_plain _ q f g rest rest2 cut r begins solid fills = refl
 
 indented_after : (b : Previous) (bs : List ℕ) (aw : Bool) (g : List ℕ) → follows_plain b g ≡ false → Spaced b (least_column bs aw) g → is_indented_by_spaces b bs aw g ≡ true
-indented_after b bs aw g f h = rw (f, or-false aw) (by (begins_line b g) h)
-  where
-    by : (x : Bool) → (x ≡ true → has_tab_within (least_column bs aw) (last_line g) ≡ false) → (not x || not (has_tab_within (least_column bs aw) (last_line g))) ≡ true
-    by true h = ap not (h refl)
-    by false h = refl
+indented_after b bs aw g f h = grind arith
 
 -- what may begin outside flow
 line_after : (fl allowed broken breaks : Bool) (k : Option Key) (p p2 : Position) (rest rest2 : List ℕ) (l : Line) → ((x : Key) → IsLive x p2 rest2 → IsLive x p rest) → ((x : Key) → k ≡ Some x → IsLive x p2 rest2 → breaks ≡ false) →
@@ -123,12 +82,7 @@ line_after true allowed broken breaks k p p2 rest rest2 l before none h = h
 line_after false allowed broken breaks k p p2 rest rest2 l before none h = (h.0, ap (λ x. breaks || x) h.1 ∙ by breaks (is_free l) broken, taken k none h.2)
   where
     by : (x y z : Bool) → (x || (y || z)) ≡ (y || (z || x))
-    by true true z = refl
-    by true false true = refl
-    by true false false = refl
-    by false true z = refl
-    by false false true = refl
-    by false false false = refl
+    by a b z = grind (arith, nat_tests, eqb-true)
 
     taken : (k : Option Key) → ((x : Key) → k ≡ Some x → IsLive x p2 rest2 → breaks ≡ false) → IsTakenBy allowed p rest k l → IsTakenBy (breaks || allowed) p2 rest2 k l
     taken None none h = tt
@@ -139,18 +93,11 @@ open_after None q p p2 rest rest2 bs before h = tt
 open_after (Some k) q p p2 rest rest2 bs before h = (h.0, λ live. let o : IsOpenHere k p bs = h.1 (before k live) in record { column_is = o.column_is; must_be = o.must_be })
 
 entries_after : (allowed again breaks : Bool) (fs : List FlowLevel) (ks : List (Option Key)) (es : List Entry) → AreEntries allowed again fs ks es → AreEntries ((not (not (is_empty fs)) && breaks) || allowed) again fs ks es
-entries_after allowed again breaks [] ks [] h = tt
-entries_after allowed again breaks [] ks (e ∷ es) h = absurd h
-entries_after allowed again breaks (f ∷ fs) ks es h = h
+entries_after allowed again a b ks es h = grind arith
 
 -- the line of an open key is that of the last piece's end, or before
 key_line : (k : Option Key) (q p : Position) (rest bs : List ℕ) (x : Key) → IsOpenOutside k q p rest bs → k ≡ Some x → x.position.line ≤ q.line
-key_line None q p rest bs x h e = absurd (cc e)
-key_line (Some k) q p rest bs x h e = subst (λ y. y ≤ q.line) (ap (λ o. line_of o) e) h.0.0
-  where
-    line_of : Option Key → ℕ
-    line_of None = 0
-    line_of (Some y) = y.position.line
+key_line a q p rest bs x h e = grind arith
 
 module _ (text : List ℕ) (t u : ScannerState) (s : Stands text t) (begins : begins_separation t.rest ≡ true) (e : Exact t u) (c : Cleared s.base.site.before (least_column s.base.site.blocks s.base.site.awaits) s.separation t.rest u) where
   same_passed : c.passed ≡ e.separation
@@ -182,11 +129,7 @@ module _ (text : List ℕ) (t u : ScannerState) (s : Stands text t) (begins : be
       same_has_break e.separation ∙ unbroken t.held.position e.separation u.rest l.1 e.solid (omega (arith, first, later, l.0))
 
   levels : is_empty s.base.site.blocks ≡ false → is_empty u.held.indents ≡ false
-  levels h = ap (λ y. is_empty y.held.indents) e.is_state ∙ by t.held.indents (ap is_empty (sym s.blocks_are) ∙ h)
-    where
-      by : (ds : List Indent) → is_empty (columns t.held.indent ds) ≡ false → is_empty ds ≡ false
-      by [] h = absurd (cc h)
-      by (d ∷ ds) h = refl
+  levels h = grind arith
 
   now : Stands text Now
   now = stands_by text Now t.held.flow t.held.keys s.base refl refl (record {

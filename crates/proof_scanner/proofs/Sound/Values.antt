@@ -1,5 +1,5 @@
 -- The function of the model that reads a colon: what holds where it begins holds between two fetches after it.
-use Rattle.proof_scanner.proofs.Common.{[], ap, Arrives, chained, check_value_space, colon_may_precede, Entry, false, Fault, fetch_value, FlowLevel, Held, Holds, inl, inr, is_empty, is_value, Key, List, None, Ok, on_held, opens_pair, Option, paired, past, push, Result, ScannerState, Some, Stands, subst, sym, Tok, top_key, true, try_held, ℕ, ◌>>=◌, ◌∷◌, ◌≡◌, ◌⊎◌}
+use Rattle.proof_scanner.proofs.Common.{Arrives, Entry, Fault, FlowLevel, Held, Holds, Key, List, None, Ok, Option, Result, ScannerState, Some, Stands, Tok, [], ap, chained, check_value_space, colon_may_precede, false, fetch_value, inl, inr, is_empty, is_value, on_held, opens_pair, paired, past, push, subst, sym, top_key, true, try_held, ℕ, ◌>>=◌, ◌∷◌, ◌≡◌, ◌⊎◌}
 use Rattle.model_scanner.specs.State.{after}
 use Rattle.model_scanner.specs.Block.{value_of}
 use Rattle.proof_scanner.proofs.Cut.Nodes.{IsDeep}

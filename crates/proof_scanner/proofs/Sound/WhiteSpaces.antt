@@ -1,5 +1,5 @@
 -- Spaces, breaks and comments after a `?`: what the model reads there is all of them, and no TAB is among them but in comments.
-use Rattle.proof_scanner.proofs.Common.{[], after_separation, and_false, and_parts, ap, append_cancel_right, At, begins_white_space, begins_with, begins_with_space_or_break, Bool, both_hold, eqb-true, Err, false, Fault, has_break, has_no_break, has_tab_before_piece, HasPassed, Held, Holds, if◌then◌else◌, inl, inr, is_at_gap, is_blank, is_blank_or_end, is_break, is_cr_lf, is_nul, is_one_of, is_separation, last_line, List, moved, no_break_hash, not, Ok, or_false, or_true, past_line, refl, refused, Result, same_break, ScannerState, skip_yaml_whitespace, slice_index, subst, sym, true, weakened, went, white, white_end, ℕ, ◌&&◌, ◌++◌, ◌==◌, ◌||◌, ◌∙◌, ◌∷◌, ◌≡◌, ◌⊎◌}
+use Rattle.proof_scanner.proofs.Common.{At, Bool, Err, Fault, HasPassed, Held, Holds, List, Ok, Result, ScannerState, [], after_separation, and_false, and_parts, ap, append_cancel_right, arith, begins_white_space, begins_with, begins_with_space_or_break, both_hold, eqb-true, false, has_break, has_no_break, has_tab_before_piece, if◌then◌else◌, inl, inr, is_at_gap, is_blank, is_blank_or_end, is_break, is_cr_lf, is_nul, is_one_of, is_separation, last_line, moved, nat_tests, no_break_hash, not, or_false, or_true, past_line, refl, refused, same_break, skip_yaml_whitespace, slice_index, subst, sym, true, weakened, went, white, white_end, ℕ, ◌&&◌, ◌++◌, ◌==◌, ◌||◌, ◌∙◌, ◌∷◌, ◌≡◌, ◌⊎◌}
 use Rattle.yaml_chars.specs.Class as class
 use Rattle.model_scanner.specs.Space.{at_break}
 use Rattle.proof_scanner.proofs.Cut.Passes.{white_passed}
@@ -40,30 +40,16 @@ pub no_tab_before : (in_comment : Bool) (a : List ℕ) → begins_with 9 (past_w
 unfolding is_break
 no_tab_before b [] h = refl
 no_tab_before true (c ∷ r) h = no_tab_before (not (is_break c)) r h
-no_tab_before false (c ∷ r) h = by (c == 9) (goes_over c) refl refl h (λ k. no_tab_before (c == 35) r k)
-  where
-    by : (x y : Bool) → (c == 9) ≡ x → goes_over c ≡ y → begins_with 9 (if y then past_white (c == 35) r else c ∷ r) ≡ false → (begins_with 9 (past_white (c == 35) r) ≡ false → has_tab_before_piece (c == 35) r ≡ false) → (x || (y && has_tab_before_piece (c == 35) r)) ≡ false
-    by true true e f h k = absurd (cc (f, goes_over_none c (eqb-true c 9 e)))
-    by true false e f h k = absurd (cc (e, h))
-    by false true e f h k = k h
-    by false false e f h k = refl
+no_tab_before false (c ∷ r) h = grind (arith, no_tab_before (c == 35) r)
 
 -- ---- the last line of them
 
 in_comment_ends : (a : List ℕ) → has_no_break (white_of true a) ≡ true → past_white true a ≡ []
 in_comment_ends [] h = refl
-in_comment_ends (c ∷ r) h = by (is_break c) h (λ k. in_comment_ends r k)
-  where
-    by : (b : Bool) → (not b && has_no_break (white_of (not b) r)) ≡ true → (has_no_break (white_of true r) ≡ true → past_white true r ≡ []) → past_white (not b) r ≡ []
-    by true h k = absurd (cc h)
-    by false h k = k h
+in_comment_ends (c ∷ r) h = grind (arith, in_comment_ends r)
 
 none_first : (c : ℕ) (s : List ℕ) → (9 == c) ≡ false → is_one_of (last_line s) 9 ≡ false → is_one_of (last_line (c ∷ s)) 9 ≡ false
-none_first c s e h = ap (λ l. is_one_of l 9) (last_first c s) ∙ by (is_break c || has_break s)
-  where
-    by : (b : Bool) → is_one_of (if b then last_line s else c ∷ last_line s) 9 ≡ false
-    by true = h
-    by false = rw (e, h) refl
+none_first c s e h = grind (arith, nat_tests, last_first, has_break, eqb-true)
 
 -- Its last line has no TAB, unless the text ends with it.
 pub no_tab_in_last : (in_comment : Bool) (a : List ℕ) → (past_white in_comment a ≡ []) ⊎ (is_one_of (last_line (white_of in_comment a)) 9 ≡ false)
@@ -79,10 +65,7 @@ no_tab_in_last true (c ∷ r) = by (is_break c) refl (no_tab_in_last (not (is_br
     commented false e h = h
 
     by : (b : Bool) → is_break c ≡ b → Fits b → (past_white (not b) r ≡ []) ⊎ (is_one_of (last_line (c ∷ white_of (not b) r)) 9 ≡ false)
-    by true e (inl h) = inl h
-    by true e (inr h) = inr (ap (λ l. is_one_of l 9) (last_first c (white_of false r) ∙ ap (λ b. if b || has_break (white_of false r) then last_line (white_of false r) else c ∷ last_line (white_of false r)) e) ∙ h)
-    by false e h = subst (λ l. (past_white true r ≡ []) ⊎ (is_one_of l 9 ≡ false)) (sym (last_first c (white_of true r) ∙ ap (λ b. if b || has_break (white_of true r) then last_line (white_of true r) else c ∷ last_line (white_of true r)) e))
-        (commented (has_no_break (white_of true r)) refl h)
+    by a e h = grind (arith, nat_tests, last_first, white_of, has_break, commented, eqb-true)
 no_tab_in_last false (c ∷ r) = by (goes_over c) refl (no_tab_in_last (c == 35) r)
   where
     no_tab : (d : ℕ) → goes_over d ≡ true → (9 == d) ≡ false
@@ -94,9 +77,7 @@ no_tab_in_last false (c ∷ r) = by (goes_over c) refl (no_tab_in_last (c == 35)
 
     by : (b : Bool) → goes_over c ≡ b → (past_white (c == 35) r ≡ []) ⊎ (is_one_of (last_line (white_of (c == 35) r)) 9 ≡ false) →
         ((if b then past_white (c == 35) r else c ∷ r) ≡ []) ⊎ (is_one_of (last_line (if b then c ∷ white_of (c == 35) r else [])) 9 ≡ false)
-    by true e (inl h) = inl h
-    by true e (inr h) = inr (none_first c (white_of (c == 35) r) (no_tab c e) h)
-    by false e h = inr refl
+    by a e h = grind (arith, nat_tests, none_first, white_of, no_tab, eqb-true)
 
 -- ---- what the model reads
 
@@ -202,9 +183,7 @@ no_tab_in true (c ∷ r) = no_tab_in (not (is_break c)) r
 no_tab_in false (c ∷ r) = by (goes_over c) (c == 9) refl refl (no_tab_in (c == 35) r)
   where
     by : (b x : Bool) → goes_over c ≡ b → (c == 9) ≡ x → has_tab_before_piece (c == 35) (white_of (c == 35) r) ≡ false → has_tab_before_piece false (if b then c ∷ white_of (c == 35) r else []) ≡ false
-    by false x e f h = refl
-    by true true e f h = absurd (cc (e, goes_over_none c (eqb-true c 9 f)))
-    by true false e f h = rw (f, h) (and_false (goes_over c))
+    by a x e f h = grind (arith, nat_tests, goes_over_none, and_false, goes_over, eqb-true)
 
 -- Neither a space nor a break stands there, and that is refused.
 pub record IsMissed (more : List ℕ) (s : Held) : Type 0 where
@@ -224,8 +203,7 @@ white_or_missed (c ∷ a) s gap = by (class.is_break c) (c == 32) (c == 35) refl
     by : (x y z : Bool) → class.is_break c ≡ x → (c == 32) ≡ y → (c == 35) ≡ z → (begins_with_space_or_break (c ∷ a) ≡ true) ⊎ IsMissed (c ∷ a) s
     by true y z e f g = inl (ap (λ b. (c == 32) || b) (same_break c ∙ e) ∙ or_true (c == 32))
     by false true z e f g = inl (ap (λ b. b || is_break c) f)
-    by false false true e f g = absurd (hash c g gap)
-    by false false false e f g = inr (record { is_refused = rw (e, f, g) refl; no_space = f; ends = let breaks : is_break c ≡ false = same_break c ∙ e in rw (f, breaks, g) refl })
+    by false false b e f g = grind arith
 
 -- what stands after a `?`, where it is at a gap, is a space or a break
 pub white_first : (more : List ℕ) (s : Held) → is_at_gap more ≡ true → Holds (λ u. begins_with_space_or_break more ≡ true) (white false false more s)

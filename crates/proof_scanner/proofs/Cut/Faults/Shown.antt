@@ -1,72 +1,80 @@
--- Rules for what is said of a refusal, and the steps of the model whose refusals show nothing of the faults above.
-use Rattle.proof_scanner.proofs.Common.{At, Bool, drop_stale, Err, false, Fault, glued, go_on, HasNoWhiteSpace, Held, if◌then◌else◌, in_flow, is_overdue, is_required, is_shown, IsGlued, IsTabRefusal, IsThere, lexed, List, list_any, map, misses, Ok, Position, Read, refl, remove_implicit_key, Result, ScannerState, separations_are_passed, skip_spaces, skip_to_next_token, skip_yaml_whitespace, SkipTabs, space, spaces_are_passed, stale, still, top_key, true, white_space_is_passed, Whitespace, ℕ, ◌≡◌}
-use Rattle.yaml_tokens.specs.declared.problem.Problem.TheVariants as problem
-use Rattle.model_scanner.specs.Keys.{with_keys}
-use Rattle.proof_lexers.specs.Ends.{EndsAs}
-use Rattle.proof_lexers.specs.Ends as ends
-use Rattle.proof_lexers.specs.Separations.{tab_left}
-use Rattle.proof_scanner.proofs.Refusals.Faults.{Faults, goes, fault, either}
+-- What is wrong where a piece begins stands in the text, if it is a fault that stands there by itself.
+use Rattle.proof_scanner.proofs.Common.{[], account_past_separation, ap, arith, Arrives, At, before_by, before_past, Bool, chosen, Entry, entries_by, Fails, false, is_empty, is_in_flow, is_shown, IsCutUpTo, IsSpot, IsThere, Key, length, List, nat_tests, NoPiece, None, not, Option, Problem, refl, ScannerState, subst, suc, sym, true, ℕ, ◌++◌, ◌==◌, ◌||◌, ◌∙◌, ◌∷◌, ◌≡◌, ◌⊎◌, Position, IsQuotedFault, BlockStyle, eqb-true}
+use Rattle.defs_token.specs.Account.{Account}
+use Rattle.proof_row.proofs.CutPieces.{account_by}
+use Rattle.proof_row.proofs.CutSteps.{somes, with_key, levels_in}
+use Rattle.proof_scanner.specs.NoPiece as none
+use Rattle.proof_scanner.specs.Failing as failing
+use Rattle.proof_scanner.specs.QuotedLines as lines
+use Rattle.proof_scanner.specs.Faults.{bad_escape, open_quote, marked_quote, too_deep, entry_in_flow, dash_in_flow}
+use Rattle.proof_scanner.proofs.Sound.CutsSoFar.{arrives_cut}
+use Rattle.proof_scanner.proofs.Cut.Faults.Reasons.{line_neither, tag_neither}
 
--- the fault is none of those that are shown
-abbrev pub IsOther : Fault → Type 0
-IsOther f = is_shown f ≡ false
+many_levels : (cs : List Bool) (ks : List (Option Key)) (es : List Entry) → length (entries_by cs ks es) ≡ length (levels_in es)
+many_levels cs ks [] = refl
+many_levels cs ks (e ∷ es) = ap suc (many_levels _ _ es)
 
--- each fault of these stands in the text
-abbrev pub IsTold : (text : List ℕ) → Fault → Type 0
-IsTold text f = is_shown f ≡ true → IsThere text f
+flows : (cs : List Bool) (ks : List (Option Key)) (es : List Entry) → is_in_flow (entries_by cs ks es) ≡ true → not (is_empty (levels_in es)) ≡ true
+flows cs ks [] h = absurd (cc h)
+flows cs ks (e ∷ es) h = refl
 
-pub lexes : {A : Type 0} {P : Fault → Type 0} (r : Result (Read A) Fault) (h : Held) (go : A → ScannerState → Result ScannerState Fault) → Faults P r → ((x : Read A) → r ≡ Ok x → Faults P (go x.value (go_on x h))) → Faults P (lexed r h go)
-lexes (Ok x) h go q g = g x refl
-lexes (Err e) h go (fault p) g = fault p
+opens : (c : ℕ) → (c ≡ 91) ⊎ (c ≡ 123) → ((c == 91) || (c == 123)) ≡ true
+opens c a = grind arith
 
--- of a scan that ends as its text says, what is said of each reason
-pub ends_told : {A : Type 0} {P : Fault → Type 0} {Reads : A → Type 0} {Why : Fault → Type 0} {x : Result A Fault} → ((f : Fault) → Why f → P f) → EndsAs Reads Why x → Faults P x
-ends_told h (ends.reads r is e) = rw e goes
-ends_told h (ends.refuses f why e) = rw e (fault (h f why))
+module _ (text : List ℕ) (t : ScannerState) (a : Arrives text t) where
+  -- the account where a piece begins
+  abbrev now : Account
+  now = account_by t.held.position (before_past (before_by a.base.site.before) a.separation) (somes (with_key a.base.site.blocks a.base.line)) (levels_in a.base.entries)
 
--- what is said of other faults is said
-pub other_told : {A : Type 0} {r : Result A Fault} (text : List ℕ) → Faults IsOther r → Faults (IsTold text) r
-other_told text goes = goes
-other_told text (fault p) = fault (λ s. absurd (cc (p, s)))
+  -- where a piece begins is a position after a row of pieces
+  spot : (rest : List ℕ) → t.rest ≡ rest → IsSpot text rest now
+  spot rest e = subst (λ r. IsSpot text r now) e (record {
+    row = c.row;
+    separation = a.separation;
+    is_text = c.is_text;
+    is_row = c.is_row.is_row None;
+    is_filled = a.is_filled;
+    is_account = ap (λ b. account_past_separation b a.separation t.rest) c.is_row.past ∙
+        ap (λ p. account_by p (before_past (before_by a.base.site.before) a.separation) (somes (with_key a.base.site.blocks a.base.line)) (levels_in a.base.entries)) (sym a.position_is);
+  })
+    where
+      c : IsCutUpTo text (a.separation ++ t.rest) a.base a.tokens
+      c = arrives_cut text t a
 
--- ---- steps that refuse for other reasons
+  quoted_stands : (single : Bool) (more : List ℕ) (why : Problem) → t.rest ≡ none.quote_of single ∷ more → none.IsNotQuoted single more why → IsThere text (At why t.held.position)
+  quoted_stands single more why e (none.by_marker body rest cut has marks) = marked_quote now single body rest (spot _ (e ∙ ap (λ r. none.quote_of single ∷ r) cut)) has marks
+  quoted_stands single more why e (none.by_end has) = open_quote now single more (spot _ e) has
+  quoted_stands true more why e (none.by_escape body rest _ double cut has bad) = absurd (cc double)
+  quoted_stands false more why e (none.by_escape body rest _ double cut has bad) = bad_escape now body rest why (spot _ (e ∙ ap (λ r. 34 ∷ r) cut)) has bad
 
-pub skip_other : (t : ScannerState) → Faults IsOther (skip_to_next_token t)
-unfolding skip_to_next_token
-skip_other t = ends_told by (separations_are_passed t.held t.rest)
-  where
-    by : (f : Fault) → IsTabRefusal t.held t.rest f → IsOther f
-    by f (tab_left before blanks rest cut fills left are begins) = refl
+  header_hidden : (style : BlockStyle) (line : List ℕ) (why : Problem) (at : Position) → none.IsNoHeader style t.held.position line why at → is_shown (At why at) ≡ true → ⊥
+  header_hidden style a why b n h = grind (arith, nat_tests, eqb-true)
 
-pub white_other : (t : ScannerState) → Faults IsOther (skip_yaml_whitespace t)
-unfolding skip_yaml_whitespace
-white_other t = ends_told by (white_space_is_passed t.held t.rest)
-  where
-    by : (f : Fault) → HasNoWhiteSpace t.held t.rest f → IsOther f
-    by f (misses separation rest cut fills no_space break ends) = refl
+  piece_stands : (fl : Bool) (why : Problem) (at : Position) → NoPiece fl t.held.position t.rest why at → is_shown (At why at) ≡ true → IsThere text (At why at)
+  piece_stands fl why a n h = grind (arith, quoted_stands, tag_neither, line_neither, header_hidden)
 
-space_other : (tabs : SkipTabs) (text : List ℕ) (p : Position) → Faults IsOther (space tabs text p)
-space_other tabs text p = ends_told by (spaces_are_passed tabs text p)
-  where
-    by : (f : Fault) → IsGlued p text f → IsOther f
-    by f (glued begins) = refl
+  module _ (c : Bool) (cs : List Bool) where
+    plain_stands : (why : Problem) (at : Position)
+        → none.IsPlainFault (is_in_flow (entries_by cs t.held.keys a.base.entries)) (failing.site_at_place (chosen c cs t.held.keys a.base) t.held.position).blocks t.held.position t.rest why at → is_shown (At why at) ≡ true → IsThere text (At why at)
+    plain_stands why at (none.by_dash before rest flow cut begins over apart) h = dash_in_flow now before rest (spot _ cut) begins (flows cs t.held.keys a.base.entries flow) apart
+    plain_stands why at n h = absurd (cc h)
 
--- spaces, and a step after them
-pub spaced_other : (tabs : SkipTabs) (t : ScannerState) (go : Whitespace → ScannerState → Result ScannerState Fault) → ((w : Whitespace) (u : ScannerState) → Faults IsOther (go w u)) → Faults IsOther (lexed (space tabs t.rest t.held.position) t.held go)
-spaced_other tabs t go h = lexes (space tabs t.rest t.held.position) t.held go (space_other tabs t.rest t.held.position) (λ x e. h x.value (go_on x t.held))
+    followed_hidden : (fl : Bool) (why : Problem) (at : Position) → none.IsFollowed fl t.held.position t.rest why at → is_shown (At why at) ≡ true → ⊥
+    followed_hidden fl why a n h = grind (arith, nat_tests, eqb-true)
 
-pub spaces_other : (tabs : SkipTabs) (t : ScannerState) → Faults IsOther (skip_spaces tabs t)
-unfolding skip_spaces
-spaces_other tabs t = spaced_other tabs t _ (λ w u. goes)
+    lines_hidden : (single : Bool) (least : ℕ) (why : Problem) (at : Position) → lines.IsQuotedFault single least t.held.position t.rest why at → is_shown (At why at) ≡ true → ⊥
+    lines_hidden a least why b n h = grind (arith, nat_tests, eqb-true)
 
-pub stale_other : (s : Held) → Faults IsOther (stale s)
-unfolding stale drop_stale
-stale_other s = either (in_flow s) (λ e. goes) (λ e. by (list_any (is_overdue s.position) s.keys))
-  where
-    by : (b : Bool) → Faults IsOther (with_keys s (if b then Err (At problem.KeyWithoutColon s.position) else Ok (map (still s.position) s.keys)))
-    by true = fault refl
-    by false = goes
+    block_hidden : (bs : List ℕ) (why : Problem) (at : Position) → none.IsBlockFault bs t.held.position t.rest why at → is_shown (At why at) ≡ true → ⊥
+    block_hidden bs why a n h = grind (arith, nat_tests, eqb-true)
 
-pub removed_other : (s : Held) → Faults IsOther (remove_implicit_key s)
-unfolding remove_implicit_key
-removed_other s = either (is_required (top_key s.keys)) (λ e. fault refl) (λ e. goes)
+    may_not_stands : (why : Problem) (at : Position) → failing.MayNotStand (chosen c cs t.held.keys a.base) a.separation t.held.position t.rest why at → is_shown (At why at) ≡ true → IsThere text (At why at)
+    may_not_stands why at (failing.too_deep bracket more e is many) h =
+        let same = many_levels cs t.held.keys a.base.entries in
+        too_deep now bracket more (spot _ e) (opens bracket is) (grind (arith, nat_tests, many, same))
+    may_not_stands why at (failing.dash_in_flow more e gap inside) h = entry_in_flow now more (spot _ e) gap (flows cs t.held.keys a.base.entries inside)
+    may_not_stands why at n h = absurd (cc h)
+
+    -- what fails by a choice of keys
+    pub stands : (why : Problem) (at : Position) → Fails (chosen c cs t.held.keys a.base) a.separation t.held.position t.rest why at → is_shown (At why at) ≡ true → IsThere text (At why at)
+    stands why a b h = grind (arith, piece_stands, plain_stands, lines_hidden, block_hidden, followed_hidden, may_not_stands)

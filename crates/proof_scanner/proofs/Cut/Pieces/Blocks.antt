@@ -1,5 +1,5 @@
 -- What the scan of a block scalar reads is its piece.
-use Rattle.proof_scanner.proofs.Common.{[], and_false, and_parts, ap, arith, begins_with, Block, block, block_position, block_read, block_value, BlockIsRead, BlockRead, BlockStyle, body, Bool, collection_column, collection_of, column_of, ends_line, eqb-true, false, folded, further_position, further_text, has_no_nul, Header, header_of, if◌then◌else◌, indicator_of, inl, inr, is_at_end, is_before_line_feed, is_blank, is_break, is_empty, is_literal_style, is_nul, is_past, is_separation, IsBlockRead, IsBlockScalar, IsPiece, List, literal, nat_lt, nat_tests, None, not, Ok, Option, past_spaces, Position, position_after, position_past, put_first, Read, read_as, read_body, read_lines, ReadAs, refl, scalar, Some, split, split_by, Style, subst, suc, Tok, true, whole_block, with_value, without_spaces, zero, ℕ, ◌++◌, ◌<◌, ◌==◌, ◌∙◌, ◌∷◌, ◌≡◌, ◌≤◌, ◌⊎◌}
+use Rattle.proof_scanner.proofs.Common.{[], and_false, ap, arith, begins_with, Block, block, block_position, block_read, BlockIsRead, BlockRead, BlockStyle, body, Bool, collection_column, collection_of, false, folded, further_position, further_text, has_no_nul, Header, if◌then◌else◌, indicator_of, inl, inr, is_at_end, is_before_line_feed, is_blank, is_empty, is_literal_style, is_nul, is_past, is_separation, IsBlockRead, IsBlockScalar, IsPiece, List, literal, nat_lt, nat_tests, Ok, Option, past_spaces, Position, position_after, position_past, Read, read_as, read_body, read_lines, ReadAs, refl, scalar, Some, split, Style, subst, Tok, true, whole_block, without_spaces, ℕ, ◌++◌, ◌<◌, ◌==◌, ◌∙◌, ◌∷◌, ◌≡◌, ◌≤◌, ◌⊎◌}
 use Rattle.model_scanner.specs.declared.kind.BlockStyle.TheVariants.{Literal, Folded}
 use Rattle.defs_text.specs.Classes.{space}
 use Rattle.defs_token.specs.Account.{Account, is_in_flow}
@@ -20,104 +20,50 @@ spaces_of (c ∷ r) = (if c == space then c ∷ spaces_of r else [])
 
 pub spaces_cut : (t : List ℕ) → t ≡ spaces_of t ++ without_spaces t
 spaces_cut [] = refl
-spaces_cut (c ∷ r) = by (c == space) (spaces_cut r)
-  where
-    by : (b : Bool) → r ≡ spaces_of r ++ without_spaces r → c ∷ r ≡ (if b then c ∷ spaces_of r else []) ++ (if b then without_spaces r else c ∷ r)
-    by true e = ap (λ l. c ∷ l) e
-    by false e = refl
+spaces_cut (c ∷ r) = grind (arith, space, spaces_cut r)
 
 pub spaces_fill : (t rest : List ℕ) → is_separation false (spaces_of t) rest ≡ true
 unfolding is_blank
 spaces_fill [] rest = refl
-spaces_fill (c ∷ r) rest = by (c == space) refl (spaces_fill r rest)
-  where
-    by : (b : Bool) → (c == space) ≡ b → is_separation false (spaces_of r) rest ≡ true → is_separation false (if b then c ∷ spaces_of r else []) rest ≡ true
-    by true e h = let same : c ≡ 32 = eqb-true c 32 e in rw same h
-    by false e h = refl
+spaces_fill (c ∷ r) rest = grind (arith, spaces_fill r rest)
 
 pub spaces_position : (p : Position) (t : List ℕ) → past_spaces p t ≡ position_after p (spaces_of t) (without_spaces t)
 spaces_position p [] = refl
-spaces_position p (c ∷ r) = by (c == space) (spaces_position (position_past p c r) r)
-  where
-    by : (b : Bool) → past_spaces (position_past p c r) r ≡ position_after (position_past p c r) (spaces_of r) (without_spaces r)
-        → (if b then past_spaces (position_past p c r) r else p) ≡ position_after p (if b then c ∷ spaces_of r else []) (if b then without_spaces r else c ∷ r)
-    by true e = e ∙ ap (λ l. position_after (position_past p c l) (spaces_of r) (without_spaces r)) (spaces_cut r)
-    by false e = refl
+spaces_position p (c ∷ r) = grind (arith, space, spaces_cut, spaces_position (position_past p c r) r)
 
 -- ---- lines
 
 step_up : (p : Position) (c : ℕ) (r : List ℕ) → p.line ≤ (position_past p c r).line
-step_up p c r = by (ends_line c r)
-  where
-    line_of : Position → ℕ
-    line_of q = q.line
-
-    by : (b : Bool) → p.line ≤ line_of (if b then record { index = suc p.index; line = suc p.line; col = 0 } else record { index = suc p.index; line = p.line; col = suc p.col })
-    by true = omega arith
-    by false = omega arith
+step_up p c r = grind arith
 
 no_feed : (c : ℕ) (r : List ℕ) → begins_with 10 r ≡ false → is_before_line_feed c r ≡ false
-no_feed c [] h = refl
-no_feed c (d ∷ r) h = rw h (and_false (c == 13))
+no_feed c a h = grind (arith, and_false)
 
 -- a text with a whole line ends on a later one
 lines_up : (p : Position) (t next : List ℕ) → is_empty (split t).complete ≡ false → begins_with 10 next ≡ false → p.line < (position_after p t next).line
 lines_up p [] next h f = cc
-lines_up p (c ∷ t) next h f = by (is_break c) (is_before_line_feed c t) refl refl h (λ k. lines_up (position_past p c (t ++ next)) t next k f)
-  where
-    feed_next : (r : List ℕ) → is_before_line_feed c r ≡ false → is_before_line_feed c (r ++ next) ≡ false
-    feed_next [] e = no_feed c next f
-    feed_next (d ∷ r) e = e
-
-    by : (b l : Bool) → is_break c ≡ b → is_before_line_feed c t ≡ l → is_empty (split_by b l c (split t)).complete ≡ false
-        → (is_empty (split t).complete ≡ false → (position_past p c (t ++ next)).line < (position_after (position_past p c (t ++ next)) t next).line) → p.line < (position_after (position_past p c (t ++ next)) t next).line
-    by true true e g h ih = let k = step_up p c (t ++ next) in let j = ih h in omega (arith, k, j)
-    by true false e g h ih =
-        let here = line_ended p c (t ++ next) (rw (e, feed_next t g) refl) in
-        let k = line_grows (position_past p c (t ++ next)) t next in omega (arith, here, k)
-    by false l e g h ih = let k = step_up p c (t ++ next) in let j = ih (still (split t).complete h) in omega (arith, k, j)
-      where
-        still : (ls : List (List ℕ)) → is_empty (put_first c ls (split t).last).complete ≡ false → is_empty ls ≡ false
-        still [] h = cc
-        still (l ∷ ls) h = refl
+lines_up p (c ∷ t) next h f = grind (arith, step_up, line_ended, line_grows, no_feed, lines_up (position_past p c (t ++ next)) t next)
 
 -- ---- what a piece shows
 
 pub some_piece : (collection : Option ℕ) (piece next : List ℕ) (b : BlockRead) → block_read collection piece next ≡ Some b → is_empty piece ≡ false
-some_piece collection [] next b h = by (is_at_end next) h
-  where
-    by : (e : Bool) → read_lines collection [] [] next e ≡ Some b → is_empty {A = ℕ} [] ≡ false
-    by true h = cc
-    by false h = cc
-some_piece collection (c ∷ piece) next b h = refl
+some_piece a d e b h = grind arith
 
 -- after the last line stands no line feed
 past_text : (column : ℕ) (next : List ℕ) → is_at_end next ≡ false → is_past column next ≡ true → begins_with 10 next ≡ false
 past_text column next e h = further_is_no_break column next (rw e at h)
 
 body_past : (collection : Option ℕ) (h : Option Header) (ls : List (List ℕ)) (next : List ℕ) (b : BlockRead) → is_at_end next ≡ false → read_body h collection (body ls further_text) next ≡ Some b → begins_with 10 next ≡ false
-body_past collection None ls next b e k = cc
-body_past collection (Some h) ls next b e k = by (is_past (column_of h collection (body ls further_text)) next) refl k
-  where
-    by : (x : Bool) → is_past (column_of h collection (body ls further_text)) next ≡ x
-        → (if x then with_value h (column_of h collection (body ls further_text)) (block_value h collection (body ls further_text)) else None) ≡ Some b → begins_with 10 next ≡ false
-    by true f k = past_text (column_of h collection (body ls further_text)) next e f
-    by false f k = cc
+body_past collection h ls next b e k = grind (arith, past_text)
 
 -- before further text a piece has a whole line
 whole_line : (collection : Option ℕ) (ls : List (List ℕ)) (last next : List ℕ) (b : BlockRead) → is_at_end next ≡ false → read_lines collection ls last next false ≡ Some b → (is_empty ls ≡ false) × (begins_with 10 next ≡ false)
-whole_line collection [] last next b e h = cc
-whole_line collection (l ∷ ls) [] next b e h = (refl, body_past collection (header_of l) ls next b e h)
-whole_line collection (l ∷ ls) (c ∷ last) next b e h = cc
+whole_line a d last e b g h = grind (arith, body_past)
 
 pub piece_has_line : (collection : Option ℕ) (piece next : List ℕ) (b : BlockRead) → is_at_end next ≡ false → block_read collection piece next ≡ Some b → (is_empty (split piece).complete ≡ false) × (begins_with 10 next ≡ false)
 piece_has_line collection piece next b e h = whole_line collection (split piece).complete (split piece).last next b e (rw e at h)
 
 -- ---- the piece
-
-same_collection : (indent : ℕ) → collection_of indent ≡ collection_of indent
-same_collection zero = refl
-same_collection (suc n) = refl
 
 -- a block scalar's token
 abbrev pub token_of : BlockStyle → List ℕ → Tok
@@ -125,21 +71,16 @@ token_of literal text = scalar Style.literal text
 token_of folded text = scalar Style.folded text
 
 pub piece_of : (a : Account) (style : BlockStyle) (piece next text : List ℕ) (p : Position) (following : Option Tok) → IsBlockScalar a piece next style text p → IsPiece a piece next following p (token_of style text)
-piece_of a literal piece next text p following h = h
-piece_of a folded piece next text p following h = h
+piece_of a b piece d e p following h = grind arith
 
 -- the scan ended on a later line, or at the text's end
 abbrev pub IsBelow : (start end : Position) → (rest : List ℕ) → Type 0
 IsBelow start end rest = (rest ≡ []) ⊎ (nat_lt start.line end.line ≡ true)
 
 pub end_no_text : (t : List ℕ) → has_no_nul t ≡ true → is_at_end t ≡ true → t ≡ []
-end_no_text [] h e = refl
-end_no_text (c ∷ t) h e = let q = and_parts (not (is_nul c)) (has_no_nul t) h in absurd (cc (q.0, e))
+end_no_text a h e = grind arith
 
 module _ (a : Account) (indent : ℕ) (outside : is_in_flow a ≡ false) (column : collection_column a ≡ collection_of indent) where
-  same_column : collection_column a ≡ collection_of indent
-  same_column = column ∙ same_collection indent
-
   pub below : (c : ℕ) (piece next : List ℕ) (b : BlockRead) → has_no_nul next ≡ true → block_read (collection_of indent) (c ∷ piece) next ≡ Some b → IsBelow a.position (further_position a.position (c ∷ piece) next) (without_spaces next)
   below c piece next b nul is = by (is_at_end next) refl
     where
@@ -170,7 +111,7 @@ module _ (a : Account) (indent : ℕ) (outside : is_in_flow a ≡ false) (column
   )
     where
       read_is : block_read (collection_column a) (c ∷ piece) next ≡ Some (record { style = style; column = b.column; text = b.text })
-      read_is = rw same_column (is ∙ ap (λ z. Some (record { style = z; column = b.column; text = b.text })) looks)
+      read_is = rw column (is ∙ ap (λ z. Some (record { style = z; column = b.column; text = b.text })) looks)
 
   by_style : (style : BlockStyle) (more : List ℕ) (r : Read Block) → has_no_nul (indicator_of style ∷ more) ≡ true → has_no_nul more ≡ true → block (is_literal_style style) indent (indicator_of style ∷ more) a.position ≡ Ok r
       → ReadAs a (indicator_of style ∷ more) (token_of style r.value.text) r.value.position r.rest r.position × IsBelow a.position r.position r.rest

@@ -1,32 +1,20 @@
 -- What the scan of a directive reads is its piece.
-use Rattle.proof_scanner.proofs.Common.{[], and_parts, ap, Bool, Directive, DirectiveIsRead, directives_end, drop, eqb-true, false, first_break, has_no_break, if◌then◌else◌, inl, inr, is_at_line_end, is_before_line_feed, is_blank, is_break, is_directive_token, is_separation, IsDirective, IsDirectiveRead, IsPiece, List, Option, position_append, Read, read_as, ReadAs, refl, reserved, subst, tag_declaration, take, Tok, token_of, true, version, whole_directive, ℕ, ◌++◌, ◌==◌, ◌||◌, ◌∙◌, ◌∷◌, ◌≡◌}
+use Rattle.proof_scanner.proofs.Common.{[], ap, Bool, Directive, DirectiveIsRead, directives_end, drop, false, first_break, has_no_break, if◌then◌else◌, is_at_line_end, is_before_line_feed, is_blank, is_break, is_directive_token, is_separation, IsDirective, IsDirectiveRead, IsPiece, List, Option, position_append, Read, read_as, ReadAs, refl, subst, take, Tok, token_of, true, whole_directive, ℕ, ◌++◌, ◌∙◌, ◌∷◌, ◌≡◌, arith, nat_tests}
 use Rattle.defs_token.specs.Account.{Account}
 use Rattle.proof_lexers.specs.DirectiveEnds.{ends_line, next_line}
 
 -- ---- the break after a directive
 
 pub break_cut : (next : List ℕ) → next ≡ first_break next ++ next_line next
-break_cut [] = refl
-break_cut (c ∷ r) = by (is_before_line_feed c r) r
-  where
-    by : (b : Bool) (k : List ℕ) → c ∷ k ≡ (if b then c ∷ take 1 k else c ∷ []) ++ (if b then drop 1 k else k)
-    by true [] = refl
-    by true (d ∷ k) = refl
-    by false k = refl
+break_cut next = grind arith
 
 break_fills : (c : ℕ) (f rest : List ℕ) → is_break c ≡ true → is_separation false f rest ≡ true → is_separation false (c ∷ f) rest ≡ true
 unfolding is_blank is_break
-break_fills c f rest h k = by (c == 10) (c == 13) refl refl h
-  where
-    by : (x y : Bool) → (c == 10) ≡ x → (c == 13) ≡ y → (x || y) ≡ true → is_separation false (c ∷ f) rest ≡ true
-    by true y e g h = let same : c ≡ 10 = eqb-true c 10 e in rw same k
-    by false true e g h = let same : c ≡ 13 = eqb-true c 13 g in rw same k
-    by false false e g h = cc
+break_fills c f rest h k = grind (arith, nat_tests)
 
 feed_fills : (c : ℕ) (r rest : List ℕ) → is_before_line_feed c r ≡ true → is_separation false (take 1 r) rest ≡ true
 unfolding is_break
-feed_fills c [] rest h = cc
-feed_fills c (d ∷ r) rest h = let q = and_parts (c == 13) (d == 10) h in let same : d ≡ 10 = eqb-true d 10 q.1 in rw same (break_fills 10 [] rest refl refl)
+feed_fills c r rest h = grind (arith, nat_tests, break_fills)
 
 pub break_is_separation : (next : List ℕ) → ends_line next ≡ true → is_separation false (first_break next) (next_line next) ≡ true
 break_is_separation [] h = refl
@@ -37,20 +25,15 @@ break_is_separation (c ∷ r) h = by (is_before_line_feed c r) refl
     by false e = break_fills c [] r h refl
 
 pub line_end_there : (next : List ℕ) → ends_line next ≡ true → is_at_line_end next ≡ true
-line_end_there [] h = refl
-line_end_there (c ∷ r) h = rw h refl
+line_end_there next h = grind arith
 
 -- ---- the piece
 
 pub piece_of : (a : Account) (piece next : List ℕ) (d : Directive) (following : Option Tok) → IsDirective a piece next d → IsPiece a piece next following a.position (token_of d)
-piece_of a piece next (version major minor) following h = (h, refl)
-piece_of a piece next (tag_declaration handle prefix) following h = (inl h, refl)
-piece_of a piece next reserved following h = (inr (refl, refl, h), refl)
+piece_of a piece b e following h = grind arith
 
 pub token_is : (d : Directive) → is_directive_token (token_of d) ≡ true
-token_is (version major minor) = refl
-token_is (tag_declaration handle prefix) = refl
-token_is reserved = refl
+token_is d = grind arith
 
 pub percent_in_line : (l : List ℕ) → has_no_break l ≡ true → has_no_break (37 ∷ l) ≡ true
 unfolding is_break

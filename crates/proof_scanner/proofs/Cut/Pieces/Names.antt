@@ -1,7 +1,6 @@
 -- What the scan of an anchor's or an alias's name reads is its piece.
-use Rattle.proof_scanner.proofs.Common.{[], all_of, anchor_name, anchor_token, and_parts, ap, arith, Bool, false, further, goes_on_with_name, has_no_break, is_anchor_name, is_blank, is_blank_or_end, is_break, is_flow, is_name, is_nul, IsNameRead, IsPiece, length, List, mark_of, named, NameIsRead, NameKind, names_end, not, Ok, Option, Position, position_after, position_in_line, Read, read_as, ReadAs, refl, suc, sym, Tok, true, ℕ, ◌&&◌, ◌++◌, ◌+◌, ◌==◌, ◌||◌, ◌∙◌, ◌∷◌, ◌≡◌}
+use Rattle.proof_scanner.proofs.Common.{[], all_of, anchor_name, anchor_token, and_parts, ap, arith, Bool, false, further, goes_on_with_name, has_no_break, is_anchor_name, is_blank_or_end, is_break, is_name, IsNameRead, IsPiece, length, List, mark_of, named, NameIsRead, NameKind, names_end, Ok, Option, Position, position_after, position_in_line, Read, read_as, ReadAs, refl, suc, sym, Tok, true, ℕ, ◌++◌, ◌+◌, ◌∙◌, ◌∷◌, ◌≡◌}
 use Rattle.defs_token.specs.Account.{Account, is_in_flow}
-use Rattle.model_scanner.specs.declared.kind.NameKind.TheVariants.{Alias, Anchor}
 
 -- ---- no break stands among the characters of a class that has none
 
@@ -11,23 +10,16 @@ all_in_line class none (c ∷ l) h = let q = and_parts (class c) (all_of class l
 
 name_has_none : (c : ℕ) → is_anchor_name c ≡ true → is_break c ≡ false
 unfolding is_anchor_name is_blank_or_end
-name_has_none c h = by (is_blank c) (is_break c) (is_nul c) (c == 0xFEFF) (is_flow c) h
-  where
-    by : (w b z m f : Bool) → (not (w || b || z) && not m && not f) ≡ true → b ≡ false
-    by w false z m f h = refl
-    by true true z m f h = cc
-    by false true z m f h = cc
+name_has_none c h = grind arith
 
 pub name_in_line : (name : List ℕ) → is_name name ≡ true → has_no_break name ≡ true
-name_in_line [] h = cc
-name_in_line (c ∷ name) h = all_in_line is_anchor_name name_has_none (c ∷ name) h
+name_in_line a h = grind (arith, all_in_line, name_has_none)
 
 -- ---- the piece
 
 pub mark_in_line : (kind : NameKind) → is_break (mark_of kind) ≡ false
 unfolding is_break
-mark_in_line Alias = refl
-mark_in_line Anchor = refl
+mark_in_line a = grind arith
 
 -- A property or an alias that was read: its piece, which has no break, and nothing after it.
 pub record IsProperty (fl : Bool) (tok : Tok) (p : Position) (text rest : List ℕ) (end : Position) : Type 0 where
@@ -49,8 +41,7 @@ pub name_property : (fl : Bool) (kind : NameKind) (p : Position) (text more : Li
 name_property fl kind p text more e x k = by x (read_as (ap (λ r. anchor_name r p) (sym e) ∙ k) (names_end (mark_of kind) more p))
   where
     piece_of : (kind : NameKind) (name rest : List ℕ) → is_name name ≡ true → goes_on_with_name rest ≡ false → (a : Account) (following : Option Tok) → a.position ≡ p → IsPiece a (mark_of kind ∷ name) rest following p (anchor_token kind name)
-    piece_of Alias name rest is ends a following q = ((refl, is, ends), sym q)
-    piece_of Anchor name rest is ends a following q = ((refl, is, ends), sym q)
+    piece_of b name rest is d a following q = grind arith
 
     by : (y : Read (List ℕ)) → IsNameRead p more y → IsProperty fl (anchor_token kind y.value) p text y.rest y.position
     by y (named name rest cut is ends) =

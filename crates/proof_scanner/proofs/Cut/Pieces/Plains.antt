@@ -1,5 +1,5 @@
 -- What the scan of a plain scalar reads is its piece.
-use Rattle.proof_scanner.proofs.Common.{[], and_parts, ap, at_dash, begins_flow, begins_plain, begins_solid, Bool, codes, collection_column, collection_of, comes_plain, Context, eqb-true, false, if◌then◌else◌, is_adjacent, is_at_gap, is_blank, is_blank_or_end, is_break, is_document_marker, is_flow, is_nul, is_one_of, is_separation, is_value_indicator, is_white, is_whole_plain, IsPlainRead, List, may_begin, nat_lt, not, Ok, Plain, plain, plain_value, PlainIsRead, Position, position_after, position_append, Read, read_as, ReadAs, refl, scalar, scans_end, slice_index, Some, starts, sym, true, whole_plain, ℕ, ◌&&◌, ◌++◌, ◌==◌, ◌||◌, ◌∙◌, ◌∷◌, ◌≡◌}
+use Rattle.proof_scanner.proofs.Common.{[], and_parts, ap, at_dash, begins_flow, begins_plain, begins_solid, Bool, collection_column, collection_of, comes_plain, Context, false, is_adjacent, is_blank, is_blank_or_end, is_break, is_document_marker, is_separation, is_white, is_whole_plain, IsPlainRead, List, may_begin, not, Ok, Plain, plain, plain_value, PlainIsRead, Position, position_after, position_append, Read, read_as, ReadAs, refl, scalar, scans_end, slice_index, Some, starts, sym, true, whole_plain, ℕ, ◌&&◌, ◌++◌, ◌==◌, ◌∙◌, ◌∷◌, ◌≡◌, arith, nat_tests, eqb-true}
 use Rattle.yaml_chars.specs.Class as model_classes
 use Rattle.defs_token.specs.Account.{Account, is_in_flow}
 use Rattle.model_scanner.specs.Plain as models
@@ -12,28 +12,9 @@ use Rattle.proof_scanner.proofs.Cut.Pieces.Separations.{gap_is_separation}
 abbrev IsSolid : ℕ → Type 0
 IsSolid c = not (is_white c) ≡ true
 
-solid_at : (c k : ℕ) → (c == k) ≡ true → IsSolid k → IsSolid c
-solid_at c k e h = let same : c ≡ k = eqb-true c k e in rw same h
-
 solid_start : (fl adjacent : Bool) (c : ℕ) (r : List ℕ) → may_begin fl adjacent c r ≡ true → IsSolid c
 unfolding is_blank is_break is_blank_or_end
-solid_start fl adjacent c r h =
-    by (c == 45) (c == 63) (c == 58) (c == 124) (c == 62) refl refl refl refl refl h
-  where
-    other : (w l n f o : Bool) → not ((w || l || n) || f || o) ≡ true → not (w || l) ≡ true
-    other false false n f o h = refl
-    other true l n f o h = cc
-    other false true n f o h = cc
-
-    by : (x y z u v : Bool) → (c == 45) ≡ x → (c == 63) ≡ y → (c == 58) ≡ z → (c == 124) ≡ u → (c == 62) ≡ v →
-        (if x then not (is_at_gap r) && not (fl && begins_flow r) else (if y then not (is_at_gap r) else (if z then not (is_value_indicator fl adjacent r) else
-        (if u || (v || false) then fl else not (is_blank_or_end c || is_flow c || is_one_of (codes "#&*!%@`'\"") c))))) ≡ true → IsSolid c
-    by true y z u v e1 e2 e3 e4 e5 h = solid_at c 45 e1 refl
-    by false true z u v e1 e2 e3 e4 e5 h = solid_at c 63 e2 refl
-    by false false true u v e1 e2 e3 e4 e5 h = solid_at c 58 e3 refl
-    by false false false true v e1 e2 e3 e4 e5 h = solid_at c 124 e4 refl
-    by false false false false true e1 e2 e3 e4 e5 h = solid_at c 62 e5 refl
-    by false false false false false e1 e2 e3 e4 e5 h = other (is_blank c) (is_break c) (is_nul c) (is_flow c) (is_one_of (codes "#&*!%@`'\"") c) h
+solid_start fl adjacent c r h = grind (arith, nat_tests)
 
 begins_solid_with : (fl adjacent : Bool) (col : ℕ) (t : List ℕ) → begins_plain fl adjacent col t ≡ true → begins_solid t ≡ true
 begins_solid_with fl adjacent col [] h = cc
@@ -43,36 +24,16 @@ begins_solid_with fl adjacent col (c ∷ r) h = solid_start fl adjacent c r (and
 
 pub same_flow_start : (r : List ℕ) → model_classes.is_flow (slice_index r 0) ≡ begins_flow r
 unfolding model_classes.is_flow
-same_flow_start [] = refl
-same_flow_start (d ∷ r) = sym (same_flow d)
+same_flow_start a = grind (arith, nat_tests, same_flow, eqb-true)
 
 dash_refused : (ctx : Context) (text : List ℕ) (p : Position) (r : Read Plain) → at_dash ctx.flow text ≡ true → models.plain ctx text p ≡ Ok r → ⊥
 unfolding models.plain starts
-dash_refused ctx text p r d e = by (ctx.flow && nat_lt p.col ctx.indent) refl
-  where
-    by : (left : Bool) → (ctx.flow && nat_lt p.col ctx.indent) ≡ left → ⊥
-    by true f = cc (rw f at e)
-    by false f = cc (rw (f, d) at e)
-
-between : (x y : Bool) → (x && y) ≡ true → (x && true && y) ≡ true
-between true y h = h
-between false y h = cc
+dash_refused ctx text p r d e = grind arith
 
 -- what is read began as a plain scalar may
 pub begins_as_read : (ctx : Context) (adjacent : Bool) (text : List ℕ) (p : Position) (r : Read Plain) → comes_plain ctx.flow adjacent p.col text ≡ true → models.plain ctx text p ≡ Ok r → begins_plain ctx.flow adjacent p.col text ≡ true
 unfolding at_dash
-begins_as_read ctx adjacent [] p r h e = cc
-begins_as_read ctx adjacent (c ∷ t) p r h e = by_dash (c == 45) refl
-  where
-    by_dash : (dash : Bool) → (c == 45) ≡ dash → begins_plain ctx.flow adjacent p.col (c ∷ t) ≡ true
-    by_dash false d = rw d (rw d at h)
-    by_dash true d = by (ctx.flow && begins_flow t) refl
-      where
-        by : (refused : Bool) → (ctx.flow && begins_flow t) ≡ refused → begins_plain ctx.flow adjacent p.col (c ∷ t) ≡ true
-        by true f = absurd (dash_refused ctx (c ∷ t) p r (rw (d, same_flow_start t) (between ctx.flow (begins_flow t) f)) e)
-        by false f =
-            let q = and_parts (not (is_at_gap t)) (not ((p.col == 0) && is_document_marker (c ∷ t))) (rw d at h) in
-            rw (d, f, q.0) q.1
+begins_as_read ctx adjacent text p r h e = grind (arith, dash_refused, same_flow_start)
 
 -- ---- the piece
 

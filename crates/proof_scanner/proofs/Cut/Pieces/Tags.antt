@@ -1,5 +1,5 @@
 -- What the scan of a tag reads is its piece.
-use Rattle.proof_scanner.proofs.Common.{[], after, all_leading, all_of, and_parts, ap, begins_with_mark, Bool, codes, decoded, eqb-true, false, has_no_break, if◌then◌else◌, is_alpha, is_break, is_decimal_digit, is_letter, is_same, is_tag, is_uri, IsTagRead, leading, List, may_follow, None, Ok, Position, position_in_line, Read, read_as, refl, shorthand, Some, span_cut, subst, sym, Tag, tag_by, tag_of_class, TagIsRead, tags_end, Tok, true, verbatim, whole_tag, written_tag, ℕ, ◌++◌, ◌==◌, ◌||◌, ◌∙◌, ◌∷◌, ◌≡◌}
+use Rattle.proof_scanner.proofs.Common.{[], after, all_leading, ap, begins_with_mark, Bool, codes, eqb-true, false, has_no_break, if◌then◌else◌, is_alpha, is_break, is_decimal_digit, is_letter, is_same, is_tag, is_uri, IsTagRead, leading, List, may_follow, None, Ok, Position, position_in_line, Read, read_as, refl, shorthand, Some, span_cut, subst, sym, Tag, tag_of_class, TagIsRead, tags_end, Tok, true, verbatim, whole_tag, written_tag, ℕ, ◌++◌, ◌==◌, ◌∙◌, ◌∷◌, ◌≡◌, arith, nat_tests}
 use Rattle.defs_text.specs.Tags.{named}
 use Rattle.model_scanner.specs.Tag as models
 use Rattle.proof_scanner.proofs.Cut.Pieces.Separations.{no_break_append}
@@ -10,12 +10,7 @@ use Rattle.proof_scanner.proofs.Cut.Pieces.Names.{all_in_line, IsProperty, prope
 -- a class without the two breaks
 pub without_breaks : (class : ℕ → Bool) → class 10 ≡ false → class 13 ≡ false → (c : ℕ) → class c ≡ true → is_break c ≡ false
 unfolding is_break
-without_breaks class lf cr c h = by (c == 10) (c == 13) refl refl
-  where
-    by : (x y : Bool) → (c == 10) ≡ x → (c == 13) ≡ y → (x || y) ≡ false
-    by true y e f = let same : c ≡ 10 = eqb-true c 10 e in absurd (cc (lf, rw same at h))
-    by false true e f = let same : c ≡ 13 = eqb-true c 13 f in absurd (cc (cr, rw same at h))
-    by false false e f = refl
+without_breaks class lf cr c h = grind (arith, nat_tests)
 
 pub uri_has_none : (c : ℕ) → is_uri c ≡ true → is_break c ≡ false
 unfolding is_uri is_decimal_digit is_letter
@@ -34,17 +29,13 @@ spanned : (class : ℕ → Bool) → ((c : ℕ) → class c ≡ true → is_brea
 spanned class none t h = rw (span_cut class t) (no_break_append (leading class t) (after class t) (all_in_line class none (leading class t) (all_leading class t)) h)
 
 of_class : (class : ℕ → Bool) → ((c : ℕ) → class c ≡ true → is_break c ≡ false) → (handle t : List ℕ) (g : Tag) → tag_of_class class handle t ≡ Some g → has_no_break t ≡ true
-of_class class none handle t g h = by (all_of class t) refl h
-  where
-    by : (b : Bool) → all_of class t ≡ b → (if b then tag_by handle (decoded t) else None) ≡ Some g → has_no_break t ≡ true
-    by true e h = all_in_line class none t e
-    by false e h = cc
+of_class class none handle t g h = grind (arith, all_in_line)
 
 closed_in_line : (t : List ℕ) → is_same t (codes ">") ≡ true → has_no_break t ≡ true
 unfolding is_break
 closed_in_line [] h = cc
-closed_in_line (c ∷ []) h = let q = and_parts (c == 62) true h in let same : c ≡ 62 = eqb-true c 62 q.0 in rw same refl
-closed_in_line (c ∷ d ∷ t) h = let q = and_parts (c == 62) false h in cc
+closed_in_line (c ∷ []) h = grind arith
+closed_in_line (c ∷ d ∷ t) h = grind arith
 
 verbatim_in_line : (t : List ℕ) (g : Tag) → verbatim t ≡ Some g → has_no_break t ≡ true
 verbatim_in_line t g h = by (is_same (after is_uri t) (codes ">")) refl h

@@ -5,9 +5,4 @@ pub held-init : goal.held-init
 held-init c = λ k a b. absurd (omega (arith, a, b))
 
 pub held-preserved : goal.held-preserved
-held-preserved c = λ k a b. elim (cases_lt k c.held.i) [
-  | inl before ↦ c.held.invariant k a before
-  | inr last ↦
-      let here : c.held.i ≡ k = omega (arith, last, b) in
-      subst (λ i. is_simple (slice_index c.args.held.now i) ≡ true) here (ap is_simple (sym c.get.ensures) ∙ sym c.is_simple.ensures ∙ c.if-not-is_simple.false)
-]
+held-preserved c = grind arith

@@ -7,9 +7,7 @@ pub returns-in_default : goal.returns-in_default
 returns-in_default g c = pairs_end c.args.is_first c.args.level c.args.outer.now refl (ap pairs_view (nil_from_length _ c.in_default.ensures.cases))
 
 pub returns-in_default-split_first : goal.returns-in_default-split_first
-returns-in_default-split_first g c =
-    pairs_end c.args.is_first c.args.level c.args.outer.now refl
-    (ap pairs_view (c.in-Some.ensures.cases.0 ∙ ap (λ ys. c.in-Some.key.now ∷ ys) (nil_from_length _ c.in_default-split_first.ensures.cases)))
+returns-in_default-split_first g c = grind (arith, nil_from_length)
 
 pub returns-in_err-begin_entry : goal.returns-in_err-begin_entry
 returns-in_err-begin_entry g c =

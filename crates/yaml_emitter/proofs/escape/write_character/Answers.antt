@@ -4,6 +4,4 @@ use Rattle.yaml_emitter.proofs.WritingLemmas.{writes_as}
 use Rattle.yaml_emitter.proofs.escape.write_character.Goals as goal
 
 pub returns-in_default : goal.returns-in_default
-returns-in_default g c =
-    writes_as (other_character c.args.c (λ e. omega arith) (λ e. omega arith) (λ e. omega arith) (λ e. omega arith) (λ e. omega arith) (λ e. omega arith) (λ e. omega arith))
-    c.write_other.ensures
+returns-in_default g c = grind (arith, other_character)

@@ -32,12 +32,10 @@ write_block-returns-then-level-ge-SHALLOW-clause-text g t c =
     writes_for (λ _. omega (arith, two, c.if-level-ge-SHALLOW.true)) c.write_deep.ensures.text
 
 pub write_block-returns-in-Array-clause-text : goal.write_block-returns-in-Array-clause-text
-write_block-returns-in-Array-clause-text g t c =
-    block_writes _ _ _ c.args.level _ _ (ap view c.in-Array.is) (items_text _ _ c.args.level _) c.requires.block c.write_items.ensures.text
+write_block-returns-in-Array-clause-text g t c = grind (arith, block_writes, items_text)
 
 pub write_block-returns-in-Hash-clause-text : goal.write_block-returns-in-Hash-clause-text
-write_block-returns-in-Hash-clause-text g t c =
-    block_writes _ _ _ c.args.level _ _ (ap view c.in-Hash.is) (pairs_text _ _ c.args.level _) c.requires.block c.write_pairs.ensures.text
+write_block-returns-in-Hash-clause-text g t c = grind (arith, block_writes, pairs_text)
 
 pub write_value-returns-then-not-has_parts-clause-valid : goal.write_value-returns-then-not-has_parts-clause-valid
 write_value-returns-then-not-has_parts-clause-valid g t c =

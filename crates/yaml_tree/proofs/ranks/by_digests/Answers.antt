@@ -59,14 +59,4 @@ loop-rank-preserved c =
     record { sorted = both.0; digested = both.1 }
 
 pub returns-clause-indexed : goal.returns-clause-indexed
-returns-clause-indexed c =
-    let es = c.loop-rank.entries.items in
-    let rs = c.args.few.now in
-    let ps = pairs_view c.args.row.now in
-    let sorted = c.loop-rank.invariant.sorted in
-    let all = sorted_all (map place_of_entry es) rs ps c.loop-rank.rank sorted c.requires.hash.ranked.counted (omega (arith, c.loop-rank-test.false, c.len-rank-end.ensures.count)) (omega (arith, c.loop-rank.auto.rank-end, c.len-rank-end.ensures.count)) in
-    let made : joined c.in_ok-blocks.blocks.value ≡ es = ap joined (c.in_ok-blocks.ensures {u = tt}).ok ∙ c.in_ok-of.ensures {u = tt} in
-    record {
-      hash = record { even = c.requires.hash.even; distinct = c.requires.hash.distinct; ranked = subst (λ xs. AreRanked digest (map place_of_entry xs) ps) (sym made) all };
-      digested = subst (λ xs. AreDigests (map digest_of_entry xs) (map place_of_entry xs) ps) (sym made) c.loop-rank.invariant.digested;
-    }
+returns-clause-indexed c = grind arith

@@ -4,14 +4,7 @@ use Rattle.yaml_tree.proofs.ranks.end_of.Goals as goal
 -- what holds from one on, holds from the one before on if it holds there
 from_before : (es : List Entry) (digest end : ℕ) → 0 < end → digest < digest_at es (end - 1) → ((i : ℕ) → end ≤ i → i < length es → digest < digest_at es i)
     → (i : ℕ) → end - 1 ≤ i → i < length es → digest < digest_at es i
-from_before es digest end some here after i h g = by (cases_lt i end)
-  where
-    by : (i < end) ⊎ (end ≤ i) → digest < digest_at es i
-    by (inr f) = after i f g
-    by (inl f) = omega (arith, here, ap (digest_at es) (same f))
-      where
-        same : i < end → i ≡ end - 1
-        same f = omega (arith, h)
+from_before es digest end some here after i h g = grind arith
 
 pub returns-then-entries-end-clause-before : goal.returns-then-entries-end-clause-before
 returns-then-entries-end-clause-before c =

@@ -4,12 +4,10 @@ use Rattle.yaml_tree.proofs.Seating.{is_away, is_ready, is_ready_without}
 use Rattle.yaml_tree.proofs.row.seat.Goals as goal
 
 always : {A B P : Type 0} (r : Result A B) → P → OnErr r P
-always (Ok x) p = tt
-always (Err e) p = p
+always a p = grind arith
 
 pub move_to_end-requires-clause-all : goal.move_to_end-requires-clause-all
-move_to_end-requires-clause-all c =
-    omega (arith, c.len-count.ensures, c.args.row.now.ok.0, row_length c.args.row.now.items (pairs_view c.args.row.now.items) c.requires.indexed.hash.even, c.requires.indexed.hash.ranked.counted)
+move_to_end-requires-clause-all c = grind (arith, row_length)
 
 pub returns-in-Ok-clause-ready_without : goal.returns-in-Ok-clause-ready_without
 returns-in-Ok-clause-ready_without c =

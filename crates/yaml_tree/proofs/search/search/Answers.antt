@@ -113,11 +113,7 @@ returns-in-Equal-clause-keys c =
     (omega (arith, i.counted, c.compare.ensures.keys), omega (arith, half, i.keys, c.compare.ensures.keys))
 
 pub returns-in-Equal-clause-digests : goal.returns-in-Equal-clause-digests
-returns-in-Equal-clause-digests c =
-    let risen = c.window-count.ensures.compared in
-    (omega (arith, risen.0, c.loop-count.invariant.digests, c.compare.ensures.digests), omega (arith, risen.1, c.loop-count.invariant.digests, c.compare.ensures.digests))
+returns-in-Equal-clause-digests c = grind arith
 
 pub returns-clause-digests : goal.returns-clause-digests
-returns-clause-digests c =
-    let risen = c.window-count.ensures.compared in
-    (omega (arith, risen.0, c.loop-count.invariant.digests), omega (arith, risen.1, c.loop-count.invariant.digests))
+returns-clause-digests c = grind arith

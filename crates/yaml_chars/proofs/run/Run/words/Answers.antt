@@ -3,11 +3,7 @@ use Rattle.yaml_chars.proofs.WordsLemmas.{words_none, word_further, words_more, 
 use Rattle.yaml_chars.proofs.run.Run.words.Goals as goal
 
 pub words-init : goal.words-init
-words-init c = (
-  word_further _ _ _ _ c.blocks-blocks.ensures.words c.word_end-first.ensures.word,
-  λ h. let parts = or_parts _ _ h in ascii_further _ 0 _ _ (c.blocks-blocks.ensures.ascii parts.0) (c.word_end-first.ensures.ascii parts.1),
-  c.word_end-first.ensures.ends,
-)
+words-init c = grind arith
 
 pub words-preserved : goal.words-preserved
 words-preserved c = (

@@ -10,9 +10,7 @@ range-words-requires-clause-end_boundary g c =
     (subst (λ b. EndsAtAscii c.args.run b c.words-found.result.end) same (c.words-found.ensures.ends c.if-found-eq0.false))
 
 pub character_count-count-requires : goal.character_count-count-requires
-character_count-count-requires g c = λ narrow.
-    subst IsAscii (sym (c.range-words.ensures.value ∙ front_range _ _))
-    (ascii_of c.known-known.result.now c.words-found.result.end (subst (λ b. AreAscii b 0 c.words-found.result.end) c.as_bytes.ensures.value (c.words-found.ensures.ascii narrow)))
+character_count-count-requires g c = grind (arith, front_range, ascii_of)
 
 pub pass-requires-clause-cut : goal.pass-requires-clause-cut
 pass-requires-clause-cut g c =

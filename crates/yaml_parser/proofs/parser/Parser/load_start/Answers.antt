@@ -21,4 +21,4 @@ returns-in_err-on_event-clause-starts g c = λ multi.
 pub returns-clause-starts : goal.returns-clause-starts
 returns-clause-starts g c = λ multi.
     let st = begins g.R.MarkedEventReceiver.takes multi (parsed c.args.self.now) c.args.recv.now run.before_stream false (sym c.has_started.ensures ∙ c.if-has_started.false) refl in
-    goes_on g.R.MarkedEventReceiver.takes multi (parsed c.args.self.now) c.args.recv.now (ev_of c.in_ok-event.event) c.in_ok-event.mark st (λ rest. refl) c.in_ok-event.ensures.pulls c.in_ok-on_event.ensures
+    goes_on g.R.MarkedEventReceiver.takes multi (parsed c.args.self.now) c.args.recv.now {on' = run.load_from run.between multi} (ev_of c.in_ok-event.event) c.in_ok-event.mark st (λ rest. refl) c.in_ok-event.ensures.pulls c.in_ok-on_event.ensures

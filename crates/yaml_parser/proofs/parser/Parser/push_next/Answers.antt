@@ -1,4 +1,4 @@
-use Rattle.yaml_parser.proofs.Answering.{ap, advanced, all_placed, Err, ev_of, inl, inr, not_closed, Ok, parsed, refl, stopped, subst, ◌≡◌}
+use Rattle.yaml_parser.proofs.Answering.{ap, advanced, all_placed, Err, ev_of, inl, inr, not_closed, Ok, parsed, refl, stopped, subst}
 use Rattle.yaml_parser.proofs.parser.Parser.push_next.Goals as goal
 
 pub advance-requires : goal.advance-requires

@@ -1,4 +1,4 @@
-use Rattle.yaml_parser.proofs.Answering.{answers_err, block_sequence, BlockSequenceEntry, entries_dash, entries_end, entries_refuses, entries_ways, faulted_as, gives, Goal, goes, goes_apart, names_nothing, no_entry, not_as, refl, refuses, says_inside, under_no_colon, wrote_event}
+use Rattle.yaml_parser.proofs.Answering.{not, ap, answers_err, block_sequence, BlockSequenceEntry, entries_dash, entries_end, entries_refuses, entries_ways, faulted_as, gives, Goal, goes, goes_apart, names_nothing, not_entry, not_as, refl, refuses, says_inside, under_no_colon, wrote_event}
 use Rattle.yaml_parser.proofs.reader.Reader.block_sequence_entry.Goals as goal
 
 pub returns-in_err-next-clause-answers : goal.returns-in_err-next-clause-answers
@@ -11,4 +11,4 @@ pub returns-in-BlockEntry-clause-answers : goal.returns-in-BlockEntry-clause-ans
 returns-in-BlockEntry-clause-answers g c = λ names given h. c.block_sequence_item.ensures.answers names given (goes c.in_ok-next.ensures.peeked c.in-BlockEntry.is refl c.skip.ensures.took (entries_dash _) refl tt refl refl (λ t i. tt) (c.in_ok-next.ensures.at Goal.entries refl names given h))
 
 pub returns-in_default-clause-answers : goal.returns-in_default-clause-answers
-returns-in_default-clause-answers g c = λ names given h. faulted_as _ given c.halt.ensures (refuses BlockSequenceEntry refl (no_entry _ c.in_default.not-BlockEntry c.in_default.not-BlockEnd) c.mark.ensures c.in_ok-next.ensures.peeked (λ t e. entries_refuses _ t (not_as c.in_default.not-BlockEnd e) (not_as c.in_default.not-BlockEntry e)) (λ _ _ _ _. tt) (goes_apart entries_ways (λ ss f. (refl, refl))) (says_inside block_sequence (λ ss. (refl, refl, refl))) (c.in_ok-next.ensures.at Goal.entries refl names given h))
+returns-in_default-clause-answers g c = λ names given h. faulted_as _ given c.halt.ensures (refuses BlockSequenceEntry refl (ap not (not_entry _ c.in_default.not-BlockEntry c.in_default.not-BlockEnd)) c.mark.ensures c.in_ok-next.ensures.peeked (λ t e. entries_refuses _ t (not_as c.in_default.not-BlockEnd e) (not_as c.in_default.not-BlockEntry e)) (λ _ _ _ _. tt) (goes_apart entries_ways (λ ss f. (refl, refl))) (says_inside block_sequence (λ ss. (refl, refl, refl))) (c.in_ok-next.ensures.at Goal.entries refl names given h))

@@ -1,4 +1,4 @@
-use Rattle.yaml_parser.proofs.Answering.{answers_err, faulted_as, flow_sequence, FlowSequenceEntry, gives, Goal, goes, goes_apart, more_items_comma, more_items_end, more_items_refuses, more_items_ways, names_nothing, no_item, not_as, refl, refuses, says_inside, under_no_colon, wrote_event}
+use Rattle.yaml_parser.proofs.Answering.{not, ap, answers_err, faulted_as, flow_sequence, FlowSequenceEntry, gives, Goal, goes, goes_apart, more_items_comma, more_items_end, more_items_refuses, more_items_ways, names_nothing, not_item, not_as, refl, refuses, says_inside, under_no_colon, wrote_event}
 use Rattle.yaml_parser.proofs.reader.Reader.flow_sequence_entry.Goals as goal
 
 pub returns-in_err-next-clause-answers : goal.returns-in_err-next-clause-answers
@@ -11,4 +11,4 @@ pub returns-in-FlowEntry-clause-answers : goal.returns-in-FlowEntry-clause-answe
 returns-in-FlowEntry-clause-answers g c = λ names given h. c.flow_sequence_next.ensures.answers names given (goes c.in_ok-next.ensures.peeked c.in-FlowEntry.is refl c.skip.ensures.took (more_items_comma _) refl tt refl refl (λ t i. tt) (c.in_ok-next.ensures.at Goal.more_items refl names given h))
 
 pub returns-in_default-clause-answers : goal.returns-in_default-clause-answers
-returns-in_default-clause-answers g c = λ names given h. faulted_as _ given c.halt.ensures (refuses FlowSequenceEntry refl (no_item _ c.in_default.not-FlowEntry c.in_default.not-FlowSequenceEnd) c.mark.ensures c.in_ok-next.ensures.peeked (λ t e. more_items_refuses _ t (not_as c.in_default.not-FlowSequenceEnd e) (not_as c.in_default.not-FlowEntry e)) (λ _ _ _ _. tt) (goes_apart more_items_ways (λ ss f. (refl, refl))) (says_inside flow_sequence (λ ss. (refl, refl, refl))) (c.in_ok-next.ensures.at Goal.more_items refl names given h))
+returns-in_default-clause-answers g c = λ names given h. faulted_as _ given c.halt.ensures (refuses FlowSequenceEntry refl (ap not (not_item _ c.in_default.not-FlowEntry c.in_default.not-FlowSequenceEnd)) c.mark.ensures c.in_ok-next.ensures.peeked (λ t e. more_items_refuses _ t (not_as c.in_default.not-FlowSequenceEnd e) (not_as c.in_default.not-FlowEntry e)) (λ _ _ _ _. tt) (goes_apart more_items_ways (λ ss f. (refl, refl))) (says_inside flow_sequence (λ ss. (refl, refl, refl))) (c.in_ok-next.ensures.at Goal.more_items refl names given h))

@@ -1,4 +1,4 @@
-use Rattle.yaml_parser.proofs.Answering.{bare, BeginsNoBlock, block_entry_alone, block_mapping_alone, block_sequence_alone, HasNoProperties, in_flow, None, one_of, refl}
+use Rattle.yaml_parser.proofs.Answering.{bare, BeginsNoBlock, block_alone, HasNoProperties, in_flow, None, refl}
 use Rattle.yaml_parser.proofs.reader.Reader.node.Goals as goal
 
 pub returns-in-Alias-clause-answers : goal.returns-in-Alias-clause-answers
@@ -12,7 +12,7 @@ returns-in-Tag-clause-answers g c = λ names given h. c.tagged.ensures.answers n
 
 pub returns-in-BlockEntry-clause-answers : goal.returns-in-BlockEntry-clause-answers
 returns-in-BlockEntry-clause-answers g c = λ names given h.
-    let plain = one_of HasNoProperties block_entry_alone block_sequence_alone block_mapping_alone c.in-BlockEntry.is in
+    let plain = block_alone c.in-BlockEntry.is in
     c.content.ensures.answers None names given (record { both = refl; anchor = refl; tag = refl }) (bare c.args.context c.requires plain h)
 
 pub returns-in_default-clause-answers : goal.returns-in_default-clause-answers

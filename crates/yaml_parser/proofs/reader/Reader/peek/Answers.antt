@@ -1,4 +1,4 @@
-use Rattle.yaml_parser.proofs.Answering.{if_some_at, look_fails, looks_on, refl, Some, ◌∙◌, ◌≡◌}
+use Rattle.yaml_parser.proofs.Answering.{if_some_at, look_fails, looks_on, refl, Some, ◌≡◌}
 use Rattle.yaml_parser.proofs.reader.Reader.peek.Goals as goal
 
 pub returns-in-Ok-clause-at : goal.returns-in-Ok-clause-at

@@ -1,5 +1,5 @@
 use Rattle.yaml_scanner.proofs.Common.{fetch_block_entry, refl}
-use Rattle.yaml_scanner.specs.Blocks.{begin_entry}
+use Rattle.model_scanner.specs.Block.{begin_entry}
 use Rattle.yaml_scanner.proofs.RunsLemmas.{becomes_runs, indicator_runs, runs_as, runs_exit, runs_stop, runs_then, step_runs}
 use Rattle.yaml_scanner.proofs.fetcher.Fetcher.fetch_block_entry.Goals as goal
 

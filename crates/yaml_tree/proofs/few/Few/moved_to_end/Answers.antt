@@ -16,9 +16,7 @@ module _ (xs : List ℕ) (gone count left : ℕ) (few : count ≤ 14) (all : cou
   counted h = omega (arith, all, h, length-map (drop left xs) (moved_up gone count), length-drop left xs)
 
   every : left ≤ 0 → ps ≡ map (moved_up gone (length xs)) xs
-  every h =
-      let none : left ≡ 0 = omega (arith, h) in
-      ap (λ n. map (moved_up gone count) (drop n xs)) none ∙ ap (λ n. map (moved_up gone n) xs) all
+  every h = grind arith
 
 pub loop-left-init : goal.loop-left-init
 loop-left-init c =
@@ -30,19 +28,10 @@ loop-left-init c =
     }
 
 pub overflow_mul-moved : goal.overflow_mul-moved
-overflow_mul-moved c =
-    let i = c.loop-left.invariant in
-    omega (arith, fits c.args.self.now c.args.gone c.len-count.result c.loop-left.left c.len-count.ensures.within c.len-count.ensures.count i.low c.loop-left.moved i.moved)
+overflow_mul-moved c = grind (arith, fits)
 
 pub overflow_add-moved : goal.overflow_add-moved
-overflow_add-moved c =
-    let i = c.loop-left.invariant in
-    omega (
-      arith,
-      fits c.args.self.now c.args.gone c.len-count.result c.loop-left.left c.len-count.ensures.within c.len-count.ensures.count i.low c.loop-left.moved i.moved,
-      c.moved_up.ensures,
-      low_moved c.args.gone c.len-count.result c.at.result c.len-count.ensures.within c.at.ensures.low,
-    )
+overflow_add-moved c = grind (arith, fits, low_moved)
 
 pub loop-left-preserved : goal.loop-left-preserved
 loop-left-preserved c =
@@ -61,18 +50,10 @@ loop-left-preserved c =
     }
 
 pub overflow_mul-result : goal.overflow_mul-result
-overflow_mul-result c =
-    let i = c.loop-left.invariant in
-    omega (arith, fits c.args.self.now c.args.gone c.len-count.result c.loop-left.left c.len-count.ensures.within c.len-count.ensures.count i.low c.loop-left.moved i.moved)
+overflow_mul-result c = grind (arith, fits)
 
 pub overflow_add-result : goal.overflow_add-result
-overflow_add-result c =
-    let i = c.loop-left.invariant in
-    omega (
-      arith,
-      fits c.args.self.now c.args.gone c.len-count.result c.loop-left.left c.len-count.ensures.within c.len-count.ensures.count i.low c.loop-left.moved i.moved,
-      c.len-count.ensures.within,
-    )
+overflow_add-result c = grind (arith, fits)
 
 pub invariant_of-result : goal.invariant_of-result
 invariant_of-result c =

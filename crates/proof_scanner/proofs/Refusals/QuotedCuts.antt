@@ -1,18 +1,14 @@
--- Of two reasons why the text after an opening quote is refused, kind and position are the same.
-use Rattle.proof_scanner.proofs.Common.{[], and_parts, ap, append-nil, append_assoc, arith, at_start, begins_further, begins_solid, begins_with, Bool, content, double_quoted_element, drop, drop-append-le, Element, element_of, elements, eqb-true, escape, false, followed, has_marker, hexadecimal, if◌then◌else◌, inl, inr, is_document_marker, IsBadEscape, length, length-take, LineStand, List, Local, local, LocalOf, lookup, marked_from, More, nat_lt, None, not, number_at, numbered, numeric_escape, numeric_escapes, Option, past_element, past_elements, past_escaped, Position, position_after, Problem, put_before, refl, same_blank, same_break, Some, Spelled, splits, subst, suc, sym, take, take-append-drop, take-append-le, true, within, zero, ℕ, ◌&&◌, ◌++◌, ◌==◌, ◌||◌, ◌∙◌, ◌∷◌, ◌≡◌, ◌≤◌, ◌⊎◌}
+-- Of two reasons why the text after an opening quote is refused, kind and position are the same; and none is there where a quoted scalar with indented lines begins.
+use Rattle.proof_scanner.proofs.Common.{[], and_parts, ap, append-nil, append_assoc, arith, begins_further, begins_solid, begins_with, Bool, content, double_quoted_element, drop, drop-append-le, Element, element_of, elements, escape, false, has_marker, inl, inr, IsBadEscape, length, length-take, LineStand, List, Local, local, LocalOf, lookup, marked_from, More, nat_lt, None, not, number_at, numbered, numeric_escape, numeric_escapes, past_element, past_elements, Position, position_after, Problem, refl, same_blank, same_break, Some, Spelled, splits, subst, suc, sym, take, take-append-drop, take-append-le, true, zero, ℕ, ◌&&◌, ◌++◌, ◌==◌, ◌∙◌, ◌∷◌, ◌≡◌, ◌≤◌, ◌⊎◌, single_quoted_element, ends_before, nat_tests, eqb-true}
 use Rattle.defs_text.specs.Classes as classes
 use Rattle.yaml_chars.specs.Class.{is_break, is_blank}
 use Rattle.proof_lexers.specs.QuotedEnds as bad
 use Rattle.proof_scanner.proofs.Sound.QuotedBreaks.{Kind, has_content, has_blank, has_line, has_escaped, is_white}
 use Rattle.proof_scanner.specs.NoPiece.{quote_of}
 use Rattle.proof_scanner.proofs.Refusals.QuotedElements.{after_it, kind_of}
-use Rattle.proof_scanner.proofs.Refusals.QuotedReasons.{and_assoc, stands, column_past, all_stand, Cut, Place, by_end, by_escape, by_column, by_tab, Reason, marked, other, columns_are, place}
+use Rattle.proof_scanner.proofs.Refusals.QuotedReasons.{and_assoc, stands, column_past, all_stand, Cut, Place, by_end, by_escape, by_column, by_tab, Reason, marked, other, columns_are, place, before_quote}
 
 -- ---- elements of a text and of a longer one
-
-first_of : (e : Element) (o : Option (List Element)) (es : List Element) → put_before e o ≡ Some es → (fs : List Element) × (o ≡ Some fs) × (es ≡ e ∷ fs)
-first_of e None es h = absurd (cc h)
-first_of e (Some fs) es h = let same : e ∷ fs ≡ es = cc h in (fs, refl, sym same)
 
 -- the elements of a body begin with one
 record Begins (single : Bool) (c : ℕ) (b : List ℕ) (es : List Element) : Type 0 where
@@ -23,11 +19,7 @@ record Begins (single : Bool) (c : ℕ) (b : List ℕ) (es : List Element) : Typ
   all : es ≡ first.element ∷ others
 
 begins : (single : Bool) (c : ℕ) (b : List ℕ) (es : List Element) → elements (element_of single) 0 (c ∷ b) ≡ Some es → Begins single c b es
-begins single c b es h = by (element_of single c b) refl h
-  where
-    by : (o : Option Spelled) → element_of single c b ≡ o → followed o (λ n. elements (element_of single) n b) ≡ Some es → Begins single c b es
-    by None e h = absurd (cc h)
-    by (Some s) e h = let z = first_of s.element (elements (element_of single) s.further b) es h in record { first = s; is = e; others = z.0; are = z.1; all = z.2 }
+begins single c b es h = grind arith
 
 own : (single : Bool) (c : ℕ) (b : List ℕ) (s : Spelled) → element_of single c b ≡ Some s → Local (element_of single c) b s
 own single c b s is = subst (λ o. LocalOf (element_of single c) b o) is (local single c b)
@@ -58,8 +50,7 @@ parted single zero (c ∷ b) x es fs l no_feed h k = on (begins single c b es h)
 -- Elements and others after them may stand, if they may, and the others where they end.
 along_body : (single : Bool) (least : ℕ) (r : List ℕ) → begins_with 10 r ≡ false → (n : ℕ) (a : List ℕ) (es : List Element) (s : LineStand) (p : Position) (fs : List Element) → n ≤ length a → elements (element_of single) n a ≡ Some es
     → all_stand least s p.col (es ++ fs) ≡ (all_stand least s p.col es && all_stand least (past_elements s es) (position_after p (drop n a) r).col fs)
-along_body single least r no_feed zero [] es s p fs l h = let none : [] ≡ es = cc h in subst (λ es. all_stand least s p.col (es ++ fs) ≡ (all_stand least s p.col es && all_stand least (past_elements s es) p.col fs)) none refl
-along_body single least r no_feed (suc n) [] es s p fs l h = absurd (omega (arith, l))
+along_body single least r no_feed b [] es s p fs l h = grind arith
 along_body single least r no_feed (suc n) (c ∷ a) es s p fs l h = along_body single least r no_feed n a es s p fs (omega (arith, l)) h
 along_body single least r no_feed zero (c ∷ b) es s p fs l h = on (begins single c b es h) (λ n es s p l h. along_body single least r no_feed n b es s p fs l h)
   where
@@ -114,21 +105,11 @@ bad_same r why1 why2 (bad.no_character c digits code s i j k l) (bad.no_characte
 
 numeric_is : (n : ℕ) (r : List ℕ) → numeric_escape n r ≡ numbered n (number_at n r)
 unfolding numeric_escape
-numeric_is n r = by (length (take n r) == n)
-  where
-    by : (many : Bool) → (if many then numbered n (hexadecimal 0 (take n r)) else None) ≡ numbered n (if many then hexadecimal 0 (take n r) else None)
-    by true = refl
-    by false = refl
+numeric_is n r = grind arith
 
 no_break : (c n : ℕ) → lookup c numeric_escapes ≡ Some n → classes.is_break c ≡ false
 unfolding classes.is_break
-no_break c n h = by (c == 120) (c == 117) (c == 85) refl refl refl h
-  where
-    by : (x y z : Bool) → (c == 120) ≡ x → (c == 117) ≡ y → (c == 85) ≡ z → (if x then Some 2 else (if y then Some 4 else (if z then Some 8 else None))) ≡ Some n → classes.is_break c ≡ false
-    by true y z e f g h = let same : c ≡ 120 = eqb-true c 120 e in rw same refl
-    by false true z e f g h = let same : c ≡ 117 = eqb-true c 117 f in rw same refl
-    by false false true e f g h = let same : c ≡ 85 = eqb-true c 85 g in rw same refl
-    by false false false e f g h = absurd (cc h)
+no_break c n h = grind arith
 
 bad_none : (r : List ℕ) (why : Problem) → IsBadEscape r why → escape r ≡ None
 unfolding escape
@@ -139,8 +120,17 @@ bad_none r why (bad.no_character c digits code s i j k l) = let n = no_break c d
 
 none_here : (single : Bool) (r : List ℕ) (why : Problem) → single ≡ false → IsBadEscape r why → element_of single 92 r ≡ None
 unfolding double_quoted_element classes.is_nul
-none_here true r why e b = absurd (cc e)
-none_here false r why e b = bad_none r why b
+none_here single r why e b = grind (arith, bad_none)
+
+-- ---- quotes
+
+quote_is_solid : (single : Bool) (next : List ℕ) → begins_with 10 (quote_of single ∷ next) ≡ false
+quote_is_solid a next = grind arith
+
+-- where a scalar ends, no element begins with the quote
+quote_ends : (single : Bool) (next : List ℕ) (c : ℕ) (b : List ℕ) (e : Spelled) → ends_before single next ≡ true → quote_of single ∷ next ≡ c ∷ b → element_of single c b ≡ Some e → ⊥
+unfolding single_quoted_element double_quoted_element classes.is_nul
+quote_ends a next c b e ends h is = grind arith
 
 -- ---- a place where another text goes on
 
@@ -154,21 +144,10 @@ record Ahead (single : Bool) (least : ℕ) (s : LineStand) (p : Position) (text 
   fit : stands least s p.col e.element ≡ true
 
 further_open : (s : LineStand) (closes : Bool) → begins_further s closes ≡ true → begins_further s false ≡ true
-further_open within closes h = absurd (cc h)
-further_open at_start closes h = refl
-further_open past_escaped closes h = refl
+further_open a closes h = grind arith
 
 not_solid : (c : ℕ) (b : List ℕ) → is_white c ≡ true → begins_solid (c ∷ b) ≡ true → ⊥
-not_solid c b h e = by (is_break c) (is_blank c) (same_break c) (same_blank c) h
-  where
-    none : (x : Bool) → not (x || true) ≡ true → ⊥
-    none true f = cc f
-    none false f = cc f
-
-    by : (x y : Bool) → classes.is_break c ≡ x → classes.is_blank c ≡ y → (x || y) ≡ true → ⊥
-    by true y i j k = none (classes.is_blank c) (rw i at e)
-    by false true i j k = let f : not true ≡ true = rw j at e in cc f
-    by false false i j k = cc k
+not_solid c b h e = grind (arith, same_break, same_blank)
 
 tab_white : is_white 9 ≡ true
 unfolding is_break is_blank
@@ -220,10 +199,7 @@ module _ (single : Bool) (least : ℕ) (start : Position) where
   -- ---- two reasons at one place
 
   stops_column : (s : LineStand) (p : Position) (text : List ℕ) → all_stand least s p.col (content 92 ∷ []) ≡ true → begins_further s (begins_with (quote_of single) text) ≡ true → nat_lt p.col least ≡ true → ⊥
-  stops_column s p text fit further low =
-      let open_here : begins_further s false ≡ true = further_open s (begins_with (quote_of single) text) further in
-      let x : (not (true && true) && true) ≡ true = rw (open_here, low) at fit in
-      absurd (cc x)
+  stops_column s p text fit further low = grind arith
 
   no_solid_tab : (text next : List ℕ) → text ≡ 9 ∷ next → begins_solid text ≡ true → ⊥
   no_solid_tab text next cut solid = not_solid 9 next tab_white (ap begins_solid (sym cut) ∙ solid)
@@ -249,6 +225,10 @@ module _ (single : Bool) (least : ℕ) (start : Position) where
   at_one_place s p text l1 l2 why1 why2 at1 at2 f1 f2 (by_tab next cut further low) (by_escape next2 _ double cut2 b) = let heads : 92 ∷ next2 ≡ 9 ∷ next = sym cut2 ∙ cut in let bad : ◌≡◌ {A = ℕ} 92 9 = cc heads in absurd (cc bad)
   at_one_place s p text l1 l2 why1 why2 at1 at2 f1 f2 (by_tab next cut further low) (by_column solid further2 low2) = absurd (no_solid_tab text next cut solid)
   at_one_place s p text l1 l2 why1 why2 at1 at2 f1 f2 (by_tab next cut further low) (by_tab next2 cut2 further2 low2) = (refl, refl)
+
+  -- nothing is wrong at a closing quote that may stand there
+  at_quote : (s : LineStand) (p : Position) (next : List ℕ) (last : List Element) (why : Problem) (at : Position) → all_stand least s p.col (before_quote s) ≡ true → Place single least start s p (quote_of single ∷ next) last why at → ⊥
+  at_quote s p next last why at fit h = grind arith
 
   -- ---- two cuts of one text
 
@@ -287,24 +267,10 @@ module _ (single : Bool) (least : ℕ) (start : Position) where
     -- a marker in a cut, or at its end, is one of a longer cut
     marks_longer : (a m t : List ℕ) → has_marker a (m ++ t) ≡ true → has_marker (a ++ m) t ≡ true
     marks_longer [] m t h = absurd (cc h)
-    marks_longer (c ∷ a) m t h = by (classes.is_break c && is_document_marker (a ++ (m ++ t))) refl (has_marker a (m ++ t)) refl h (marks_longer a m t)
-      where
-        same : is_document_marker ((a ++ m) ++ t) ≡ is_document_marker (a ++ (m ++ t))
-        same = ap is_document_marker (append_assoc a m t)
-
-        by : (x : Bool) → (classes.is_break c && is_document_marker (a ++ (m ++ t))) ≡ x → (y : Bool) → has_marker a (m ++ t) ≡ y → (x || y) ≡ true → (has_marker a (m ++ t) ≡ true → has_marker (a ++ m) t ≡ true)
-            → ((classes.is_break c && is_document_marker ((a ++ m) ++ t)) || has_marker (a ++ m) t) ≡ true
-        by true e y f h later = rw (same, e) refl
-        by false e true f h later = rw (same, e) (later f)
-        by false e false f h later = absurd (cc h)
+    marks_longer (c ∷ a) m t h = grind (arith, append_assoc, marks_longer a m t)
 
     marked_longer : (col : ℕ) (a m t : List ℕ) → marked_from col a (m ++ t) ≡ true → marked_from col (a ++ m) t ≡ true
-    marked_longer col a m t h = by ((col == 0) && is_document_marker (a ++ (m ++ t))) refl (has_marker a (m ++ t)) refl h
-      where
-        by : (x : Bool) → ((col == 0) && is_document_marker (a ++ (m ++ t))) ≡ x → (y : Bool) → has_marker a (m ++ t) ≡ y → (x || y) ≡ true → marked_from col (a ++ m) t ≡ true
-        by true e y f h = rw (append_assoc a m t, e) refl
-        by false e true f h = rw (append_assoc a m t, e) (marks_longer a m t f)
-        by false e false f h = absurd (cc h)
+    marked_longer col a m t h = grind (arith, append_assoc, marks_longer)
 
     -- a marker, and before any something else that is wrong
     not_both : (last : List Element) (why : Problem) (at : Position) (x : Cut single least start [] s p text) → marked_from p.col x.body x.rest ≡ true → (y : Cut single least start last s p text) → marked_from p.col y.body y.rest ≡ false
@@ -324,6 +290,11 @@ module _ (single : Bool) (least : ℕ) (start : Position) where
         by (inl m) = within_longer m.more m.longer m.rest
         by (inr m) = shorter m.more m.longer m.rest
 
+    -- of two cuts that are the same, what is wrong at one is so at the other
+    moved : {l1 l2 : List Element} (x : Cut single least start l1 s p text) (y : Cut single least start l2 s p text) (last : List Element) (why : Problem) (at : Position) → y.body ≡ x.body → y.rest ≡ x.rest
+        → Place single least start (stand_of y) (end_of y) y.rest last why at → Place single least start (stand_of x) (end_of x) x.rest last why at
+    moved x y last why at body rest h = grind (arith, nat_tests, elements, single, least, start, p, end_of, eqb-true)
+
     -- two that are no markers
     both_wrong : (l1 l2 : List Element) (why1 why2 : Problem) (at1 at2 : Position) (x : Cut single least start l1 s p text) (y : Cut single least start l2 s p text)
         → Place single least start (stand_of x) (end_of x) x.rest l1 why1 at1 → Place single least start (stand_of y) (end_of y) y.rest l2 why2 at2 → (why1 ≡ why2) × (at1 ≡ at2)
@@ -334,10 +305,8 @@ module _ (single : Bool) (least : ℕ) (start : Position) where
             let es : y.es ≡ x.es = cc (y.are, ap (λ b. elements (element_of single) 0 b) body, x.are) in
             let stand : stand_of y ≡ stand_of x = ap (past_elements s) es in
             let end : end_of y ≡ end_of x = ap (λ b. position_after p b y.rest) body ∙ ap (position_after p x.body) rest in
-            let there : Place single least start (stand_of x) (end_of x) x.rest l2 why2 at2 =
-            subst (λ r. Place single least start (stand_of x) (end_of x) r l2 why2 at2) rest (subst (λ q. Place single least start (stand_of x) q y.rest l2 why2 at2) end (subst (λ z. Place single least start z (end_of y) y.rest l2 why2 at2) stand wrong2)) in
             let fit : all_stand least (stand_of x) (end_of x).col l2 ≡ true = ap (λ (q : Position). all_stand least (stand_of x) q.col l2) (sym end) ∙ (ap (λ z. all_stand least z (end_of y).col l2) (sym stand) ∙ last_stands l2 y) in
-            at_one_place (stand_of x) (end_of x) x.rest l1 l2 why1 why2 at1 at2 (last_stands l1 x) fit wrong1 there
+            at_one_place (stand_of x) (end_of x) x.rest l1 l2 why1 why2 at1 at2 (last_stands l1 x) fit wrong1 (moved x y l2 why2 at2 body rest wrong2)
 
         first : (m : List ℕ) → y.body ≡ x.body ++ m → x.rest ≡ m ++ y.rest → (why1 ≡ why2) × (at1 ≡ at2)
         first [] longer rest = together (longer ∙ append-nil x.body) (sym rest)
@@ -348,8 +317,29 @@ module _ (single : Bool) (least : ℕ) (start : Position) where
         second (c ∷ m) longer rest = absurd (goes_on (stand_of y) (end_of y) y.rest l2 why2 at2 wrong2 (past_end l2 l1 y x c m longer rest))
 
         by : More x.body y.body x.rest y.rest ⊎ More y.body x.body y.rest x.rest → (why1 ≡ why2) × (at1 ≡ at2)
-        by (inl m) = first m.more m.longer m.rest
-        by (inr m) = second m.more m.longer m.rest
+        by a = grind (arith, first, second)
+
+    -- Nothing but a marker is wrong where a body stands whose lines are indented, and its closing quote.
+    pub not_closed : (body next : List ℕ) (es : List Element) → text ≡ body ++ quote_of single ∷ next → ends_before single next ≡ true → elements (element_of single) 0 body ≡ Some es → all_stand least s p.col (es ++ before_quote (past_elements s es)) ≡ true
+        → (last : List Element) (why : Problem) (at : Position) (x : Cut single least start last s p text) → Place single least start (stand_of x) (end_of x) x.rest last why at → ⊥
+    not_closed body next es is_text ends are fits last why at x wrong = by (splits x.body body x.rest (quote_of single ∷ next) (sym x.is_text ∙ is_text))
+      where
+        y : Cut single least start (before_quote (past_elements s es)) s p text
+        y = record { body = body; rest = quote_of single ∷ next; es = es; is_text = is_text; are = are; no_feed = quote_is_solid single next; fits = fits }
+
+        together : y.body ≡ x.body → y.rest ≡ x.rest → ⊥
+        together same rest = at_quote (stand_of y) (end_of y) next last why at (last_stands (before_quote (past_elements s es)) y) (moved y x last why at (sym same) (sym rest) wrong)
+
+        first : (m : List ℕ) → body ≡ x.body ++ m → x.rest ≡ m ++ quote_of single ∷ next → ⊥
+        first [] longer rest = together (longer ∙ append-nil x.body) (sym rest)
+        first (c ∷ m) longer rest = goes_on (stand_of x) (end_of x) x.rest last why at wrong (past_end last (before_quote (past_elements s es)) x y c m longer rest)
+
+        second : (m : List ℕ) → x.body ≡ body ++ m → quote_of single ∷ next ≡ m ++ x.rest → ⊥
+        second [] longer rest = together (sym (longer ∙ append-nil body)) rest
+        second (c ∷ m) longer rest = let a = past_end (before_quote (past_elements s es)) last y x c m longer rest in quote_ends single next a.c a.b a.e ends a.is_text a.is
+
+        by : More x.body body x.rest (quote_of single ∷ next) ⊎ More body x.body (quote_of single ∷ next) x.rest → ⊥
+        by a = grind (arith, first, second)
 
     -- What is wrong first with a text is one thing at one position.
     pub one_reason : (why1 why2 : Problem) (at1 at2 : Position) → Reason single least start s p text why1 at1 → Reason single least start s p text why2 at2 → (why1 ≡ why2) × (at1 ≡ at2)
