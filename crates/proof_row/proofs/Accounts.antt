@@ -47,15 +47,6 @@ on_one_line_step p Were (Some a) (Some b) h = unless IsLike Were (has_break p &&
 abbrev With : Step → (key : Bool) → Step
 With w key = record { separation = w.separation; piece = w.piece; shown = w.shown; key = key }
 
-site_step : (fl : Bool) (s : Site) (w : Step) (next : List ℕ) (b c : Bool) (l m : Line) (ds es : List Entry) → LikeLine l m → LikeEntries ds es →
-    Stepped IsLike ((l ≡ m) × (ds ≡ es) × (b ≡ c)) (past_site fl s (site_at fl s w.separation w.piece w.shown next) (With w b) next l ds)
-    (past_site fl s (site_at fl s w.separation w.piece w.shown next) (With w c) next m es)
-site_step fl s w next b c l m ds es i j =
-    let at : Site = site_at fl s w.separation w.piece w.shown next in
-    where_both IsLike ((l ≡ m) × (ds ≡ es) × (b ≡ c)) (may_stand fl s at w.separation w.piece w.shown next) _ _
-    (on_one_line_step w.piece ((l ≡ m) × (ds ≡ es) × (b ≡ c)) _ _
-    (piece_step at w.piece w.shown next (is_renewed s.before w.separation) b c (l ≡ m) _ _ ds es j (separation_step fl (begins_free_line s.before w.separation) l m i)))
-
 pub same_flow : (ds es : List Entry) → LikeEntries ds es → is_in_flow ds ≡ is_in_flow es
 same_flow [] [] j = refl
 same_flow (d ∷ ds) (e ∷ es) j = refl
@@ -84,7 +75,10 @@ account_step a b w v x y i f p t n =
     let first : Option Account = account_past a w x in
     let T : Bool → Site → Step → List ℕ → Type 0 = λ fl s u z. Stepped IsLike Were first
     (past_site fl s (site_at fl s u.separation u.piece u.shown z) (With u v.key) z b.line b.entries) in
-    let own : T (is_in_flow a.entries) a.site w x = site_step (is_in_flow a.entries) a.site w x w.key v.key a.line b.line a.entries b.entries i.1 i.2 in
+    let own : T (is_in_flow a.entries) a.site w x = let at : Site = site_at (is_in_flow a.entries) a.site w.separation w.piece w.shown x in
+    where_both IsLike ((a.line ≡ b.line) × (a.entries ≡ b.entries) × (w.key ≡ v.key)) (may_stand (is_in_flow a.entries) a.site at w.separation w.piece w.shown x) _ _
+    (on_one_line_step w.piece ((a.line ≡ b.line) × (a.entries ≡ b.entries) × (w.key ≡ v.key)) _ _
+    (piece_step at w.piece w.shown x (is_renewed a.site.before w.separation) w.key v.key (a.line ≡ b.line) _ _ a.entries b.entries i.2 (separation_step (is_in_flow a.entries) (begins_free_line a.site.before w.separation) a.line b.line i.1))) in
     let flows : T (is_in_flow b.entries) a.site w x = subst (λ z. T z a.site w x) (same_flow a.entries b.entries i.2) own in
     let sites : T (is_in_flow b.entries) b.site w x = subst (λ z. T (is_in_flow b.entries) z w x) i.0 flows in
     let steps : T (is_in_flow b.entries) b.site (With v w.key) x = subst (λ z. T (is_in_flow b.entries) b.site z x) moved sites in

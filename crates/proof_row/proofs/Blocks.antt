@@ -94,13 +94,6 @@ before_text collection (h ∷ ls) [] next r i e = by (header_of h) refl e
 
 -- ---- lines after it have no value
 
-no_text : (h : Header) (collection : Option ℕ) (ls : List (List ℕ)) (l : List ℕ) (more : List (List ℕ)) → IsBefore (column_by h.digit collection ls) l →
-    value_by h (content_column h collection (ls ++ (l ∷ more)) further_text) (ls ++ (l ∷ more)) further_text ≡ None
-no_text h collection ls l more b =
-    let column : column_by h.digit collection (ls ++ (l ∷ more)) ≡ column_by h.digit collection ls = column_same h.digit collection ls l more b.written b.start in
-    let row : row_of (column_by h.digit collection (ls ++ (l ∷ more))) l ≡ None = ap (λ n. row_of n l) column ∙ b.none in
-    ap (λ o. value_at_text h o) (no_rows (column_by h.digit collection (ls ++ (l ∷ more))) ls l more row)
-
 -- the column of all lines, the last of which has no break
 columns : (digit collection : Option ℕ) (ls zs : List (List ℕ)) (last : List ℕ) → IsBefore (column_by digit collection ls) (first_line zs last) →
     column_by digit collection ((ls ++ zs) ++ (last ∷ [])) ≡ column_by digit collection ls
@@ -173,8 +166,10 @@ longer_lines collection head ls h z y [] [] s i j k n c false e f = n (no_lines 
 longer_lines collection head ls h z y (l ∷ zs) [] s i j k n c false e f =
     let lines : (split z).complete ≡ [] → ⊥ = λ g. absurd (two_lines (sym (ap (λ x. x.complete) j) ∙ g)) in
     let first : up_to_break (z ++ y) ≡ l = line_more z lines y ∙ (sym (line_is z) ∙ ap (λ x. first_line (x.complete) (x.last)) j) in
-    let b : IsBefore (column_by h.digit collection ls) l = subst (λ l. IsBefore (column_by h.digit collection ls) l) first (further _ _ k) in
-    unread h collection (ls ++ (l ∷ zs)) further_text y s (no_text h collection ls l zs b) (ap (λ o. read_body o collection (body (ls ++ (l ∷ zs)) further_text) y) (sym i) ∙ f)
+    let b : IsBefore (column_by h.digit collection ls) l = subst (λ l. IsBefore (column_by h.digit collection ls) l) first (further _ _ k) in let no_text : value_by h (content_column h collection (ls ++ (l ∷ zs)) further_text) (ls ++ (l ∷ zs)) further_text ≡ None = let column : column_by h.digit collection (ls ++ (l ∷ zs)) ≡ column_by h.digit collection ls = column_same h.digit collection ls l zs b.written b.start in
+    let row : row_of (column_by h.digit collection (ls ++ (l ∷ zs))) l ≡ None = ap (λ n. row_of n l) column ∙ b.none in
+    ap (λ o. value_at_text h o) (no_rows (column_by h.digit collection (ls ++ (l ∷ zs))) ls l zs row) in
+    unread h collection (ls ++ (l ∷ zs)) further_text y s (no_text) (ap (λ o. read_body o collection (body (ls ++ (l ∷ zs)) further_text) y) (sym i) ∙ f)
   where
     two_lines : l ∷ zs ≡ [] → ⊥
     two_lines g = cc g

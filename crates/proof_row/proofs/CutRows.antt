@@ -52,9 +52,6 @@ stepped a w ws after b us p fills tokens empty piece same kept =
 
 -- ---- outside flow
 
-node_of_key : (t : Tok) → act_of t ≡ gives_node → is_of_key t ≡ true
-node_of_key a k = grind arith
-
 -- a key that waits, at a piece on its line
 abbrev WaitsAt : Line → ℕ → List ℕ → Type 0
 WaitsAt (waits begin) col bs = (not_ended begin.col bs ≡ bs) × (begin.col ≤ col)
@@ -159,7 +156,7 @@ outside_so must s line l f c r t key ws after x h same_line same on_line in_line
       where
         sees : (o : Outside) → (is_waiting o.line ≡ true → has_no_break (c ∷ r) ≡ true) → (is_waiting o.line ≡ true → is_in_line next ≡ true) → Sees (act_of t) at.blocks o → IsPiece (account_by at.position b (somes (with_key o.blocks o.line)) []) (c ∷ r) next None own t
         sees o one on (inl e) = subst (λ bs. IsPiece (account_by at.position b (somes bs) []) (c ∷ r) next None own t) (sym e) h.1.1
-        sees o one on (inr (inl k)) = piece_with_blocks (somes (with_key o.blocks o.line)) (account_by at.position b (somes at.blocks) []) (c ∷ r) next None own t (node_of_key t k.1) (one k.0) (on k.0) h.1.1
+        sees o one on (inr (inl k)) = piece_with_blocks (somes (with_key o.blocks o.line)) (account_by at.position b (somes at.blocks) []) (c ∷ r) next None own t (grind arith) (one k.0) (on k.0) h.1.1
         sees o one on (inr (inr i)) = indicator_with_blocks (somes (with_key o.blocks o.line)) (account_by at.position b (somes at.blocks) []) c r next None own t i h.1.1
 
 -- after a piece outside flow, where a key must begin or not
@@ -221,10 +218,6 @@ same_many : (es : List Entry) → length (map level_of es) ≡ length (levels_in
 same_many [] = refl
 same_many (e ∷ es) = ap suc (same_many es)
 
--- in flow a separation changes no line
-line_in_flow : (broken : Bool) (line l : Line) → line_past_separation true broken line ≡ Some l → (l ≡ line) × (is_waiting line ≡ true → broken ≡ false)
-line_in_flow a b l e = grind arith
-
 inside_step : (s : Site) (line : Line) (e : Entry) (es : List Entry) (f : List ℕ) (c : ℕ) (r : List ℕ) (t : Tok) (key : Bool) (ws : List Step) (after : List ℕ) (x : Account) →
     (let a : Account = record { site = s; line = line; entries = e ∷ es } in
     let w : Step = record { separation = f; piece = c ∷ r; shown = t; key = key } in
@@ -269,7 +262,7 @@ inside_step s line e es f c r t key ws after x h same on_line kept = by_line (li
     by_entries l g (Some zs) i n =
         let z : Account = record { site = site_past true at (c ∷ r) t next at.blocks; line = l; entries = zs } in
         let to : z ≡ x = cc i in
-        let flow : (l ≡ line) × (is_waiting line ≡ true → begins_free_line s.before f ≡ false) = line_in_flow (begins_free_line s.before f) line l g in
+        let flow : (l ≡ line) × (is_waiting line ≡ true → begins_free_line s.before f ≡ false) = grind arith in
         let one_line : is_waiting line ≡ true → has_no_break (c ∷ r) ≡ true = λ j. broken_by c r (is_waiting line) (ap (λ y. has_break (c ∷ r) && is_waiting y) (sym flow.0 ∙ ap (λ y. y.line) to) ∙ on_line) j in
         let after_all : PieceAccount = account_by at.position b bs (n.level ∷ levels_in es) in
         let there : account_at_piece (past_all here us) (c ∷ r) ≡ after_all = ap (λ d. account_at_piece d (c ∷ r)) n.account_is ∙ ap (λ y. account_by at.position b y (n.level ∷ levels_in es)) (settled_all at.position.col (with_key s.blocks line)) in

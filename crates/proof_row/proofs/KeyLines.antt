@@ -28,12 +28,9 @@ line_grows p (c ∷ t) next = by (ends_line c (t ++ next)) (line_grows (position
         p.line ≤ (position_after (position_past p c (t ++ next)) t next).line
     by a h = grind arith
 
-had_later : (h : Had) (m n : ℕ) → m ≤ n → IsBefore h m → IsBefore h n
-had_later a m n l b = grind arith
-
 later : (es : List Entry) (m n : ℕ) → m ≤ n → AreBefore es m → AreBefore es n
 later [] m n l b = tt
-later (e ∷ es) m n l b = (had_later e.had m n l b.0, later es m n l b.1)
+later (e ∷ es) m n l b = ((grind arith), later es m n l b.1)
 
 -- ---- a step
 
@@ -69,16 +66,12 @@ piece_before s p t next again key (Some l) (e ∷ es) b = by (entries_past s.pos
 one_line_before : (may : Bool) (p : List ℕ) (o : Option Account) → Kept o → Kept (if may then on_one_line p o else None)
 one_line_before a p o b = grind arith
 
-step_before : (a : Account) (w : Step) (next : List ℕ) → KeysBefore a → Kept (account_past a w next)
-step_before a w next b =
-    let at : Site = site_at (is_in_flow a.entries) a.site w.separation w.piece w.shown next in
-    let l : Option Line = line_past_separation (is_in_flow a.entries) (begins_free_line a.site.before w.separation) a.line in
-    let again : Bool = is_renewed a.site.before w.separation in
-    one_line_before (may_stand (is_in_flow a.entries) a.site at w.separation w.piece w.shown next) w.piece (past_piece at w.piece w.shown next again w.key l a.entries)
-    (piece_before at w.piece w.shown next again w.key l a.entries (later a.entries a.site.position.line at.position.line (line_grows a.site.position w.separation (w.piece ++ next)) b))
-
 -- Steps keep it.
 pub keys_before : (o : Option Account) (ws : List Step) (after : List ℕ) (b : Account) → Leads o ws after b → Kept o → KeysBefore b
 keys_before None ws after b h k = absurd h
 keys_before (Some a) [] after b h k = subst KeysBefore h k
-keys_before (Some a) (w ∷ ws) after b h k = keys_before (account_past a w (spelled ws after)) ws after b h.1 (step_before a w (spelled ws after) k)
+keys_before (Some a) (w ∷ ws) after b h k = let step_before : Kept (account_past a w (spelled ws after)) = let at : Site = site_at (is_in_flow a.entries) a.site w.separation w.piece w.shown (spelled ws after) in
+    let l : Option Line = line_past_separation (is_in_flow a.entries) (begins_free_line a.site.before w.separation) a.line in
+    let again : Bool = is_renewed a.site.before w.separation in
+    one_line_before (may_stand (is_in_flow a.entries) a.site at w.separation w.piece w.shown (spelled ws after)) w.piece (past_piece at w.piece w.shown (spelled ws after) again w.key l a.entries)
+    (piece_before at w.piece w.shown (spelled ws after) again w.key l a.entries (later a.entries a.site.position.line at.position.line (line_grows a.site.position w.separation (w.piece ++ (spelled ws after))) k)) in keys_before (account_past a w (spelled ws after)) ws after b h.1 (step_before)

@@ -110,14 +110,6 @@ one_of block_scalar a p q x y t u h k e n = one_block a p q x y t u h k e n
 
 -- ---- pieces at accounts that are seen alike
 
-kinds_are_one : (a b : Account) (p q x y : List ℕ) (t u : Tok) → IsSeenAlike a b → Whole (kind_of t) (context_of a) p x t → Whole (kind_of u) (context_of b) q y u → p ++ x ≡ q ++ y → kind_of t ≡ kind_of u
-kinds_are_one a b p q x y t u i h k e =
-    let flow : kind_at (is_in_flow a) (is_adjacent a.before) (a.position.col) (p ++ x) ≡ kind_at (is_in_flow b) (is_adjacent a.before) (a.position.col) (p ++ x) = ap (λ z. kind_at z (is_adjacent a.before) (a.position.col) (p ++ x)) i.0 in
-    let next_to : kind_at (is_in_flow b) (is_adjacent a.before) (a.position.col) (p ++ x) ≡ kind_at (is_in_flow b) (is_adjacent b.before) (a.position.col) (p ++ x) = ap (λ z. kind_at (is_in_flow b) z (a.position.col) (p ++ x)) i.1 in
-    let column : kind_at (is_in_flow b) (is_adjacent b.before) (a.position.col) (p ++ x) ≡ kind_at (is_in_flow b) (is_adjacent b.before) (b.position.col) (p ++ x) = ap (λ z. kind_at (is_in_flow b) (is_adjacent b.before) z (p ++ x)) i.2 in
-    let text : kind_at (is_in_flow b) (is_adjacent b.before) (b.position.col) (p ++ x) ≡ kind_at (is_in_flow b) (is_adjacent b.before) (b.position.col) (q ++ y) = ap (λ z. kind_at (is_in_flow b) (is_adjacent b.before) (b.position.col) z) e in
-    sym (kind_there (kind_of t) (context_of a) p x t h) ∙ (flow ∙ (next_to ∙ (column ∙ (text ∙ kind_there (kind_of u) (context_of b) q y u k))))
-
 same_context : (f g i j : Bool) (m n : ℕ) (o r : Option ℕ) → f ≡ g → i ≡ j → m ≡ n → o ≡ r →
     ◌≡◌ {A = Context} (record { in_flow = f; adjacent = i; column = m; collection = o }) (record { in_flow = g; adjacent = j; column = n; collection = r })
 same_context f g i j m n o r e h k l = cc
@@ -126,7 +118,11 @@ pub pieces_seen_alike : PiecesSeenAlikeHaveOneEnd
 pieces_seen_alike a b p q x y f g m n t u like collection i j h k e c =
     let first : Whole (kind_of t) (context_of a) p x t = piece_of a p x f m t i h in
     let second : Whole (kind_of u) (context_of b) q y u = piece_of b q y g n u j k in
-    let kinds : kind_of t ≡ kind_of u = kinds_are_one a b p q x y t u like first second e in
+    let kinds : kind_of t ≡ kind_of u = let flow : kind_at (is_in_flow a) (is_adjacent a.before) (a.position.col) (p ++ x) ≡ kind_at (is_in_flow b) (is_adjacent a.before) (a.position.col) (p ++ x) = ap (λ z. kind_at z (is_adjacent a.before) (a.position.col) (p ++ x)) like.0 in
+    let next_to : kind_at (is_in_flow b) (is_adjacent a.before) (a.position.col) (p ++ x) ≡ kind_at (is_in_flow b) (is_adjacent b.before) (a.position.col) (p ++ x) = ap (λ z. kind_at (is_in_flow b) z (a.position.col) (p ++ x)) like.1 in
+    let column : kind_at (is_in_flow b) (is_adjacent b.before) (a.position.col) (p ++ x) ≡ kind_at (is_in_flow b) (is_adjacent b.before) (b.position.col) (p ++ x) = ap (λ z. kind_at (is_in_flow b) (is_adjacent b.before) z (p ++ x)) like.2 in
+    let text : kind_at (is_in_flow b) (is_adjacent b.before) (b.position.col) (p ++ x) ≡ kind_at (is_in_flow b) (is_adjacent b.before) (b.position.col) (q ++ y) = ap (λ z. kind_at (is_in_flow b) (is_adjacent b.before) (b.position.col) z) e in
+    sym (kind_there (kind_of t) (context_of a) p x t first) ∙ (flow ∙ (next_to ∙ (column ∙ (text ∙ kind_there (kind_of u) (context_of b) q y u second)))) in
     let contexts : context_of a ≡ context_of b = same_context _ _ _ _ _ _ _ _ like.0 like.1 like.2 (collection kinds) in
     let third : Whole (kind_of t) (context_of b) q y u = subst (λ z. Whole z (context_of b) q y u) (sym kinds) second in
     one_of (kind_of t) (context_of a) p q x y t u first (subst (λ z. Whole (kind_of t) z q y u) (sym contexts) third) e c

@@ -16,12 +16,6 @@ IsOnward at = (c : ℕ) (r z : List ℕ) → begins_with 10 z ≡ false → Onwa
 abbrev spelled : Element → ℕ → Spelled
 spelled e n = record { element = e; further = n }
 
-further_fits : (c : ℕ) (r : List ℕ) → break_further c r ≤ length r
-further_fits c a = grind arith
-
-further_same : (c : ℕ) (r z : List ℕ) → begins_with 10 z ≡ false → break_further c (r ++ z) ≡ break_further c r
-further_same c a z h = grind arith
-
 plain_onward : IsOnward plain_element
 unfolding plain_element
 plain_onward c r z h = grind arith
@@ -31,22 +25,16 @@ plain_onward c r z h = grind arith
 abbrev doubled : List ℕ → Option Spelled
 doubled r = (if begins_with single_quote r then Some (spelled (content single_quote) 1) else None)
 
-doubled_onward : (r z : List ℕ) → Onward r (doubled r) (doubled (r ++ z))
-doubled_onward a z = grind arith
-
 single_onward : IsOnward single_quoted_element
 unfolding single_quoted_element
 single_onward c r z h = by (is_nul c) (c == single_quote)
   where
     by : (nul quote : Bool) → Onward r (if nul then None else (if quote then doubled r else plain_element c r)) (if nul then None else (if quote then doubled (r ++ z) else plain_element c (r ++ z)))
     by true quote = tt
-    by false true = doubled_onward r z
+    by false true = grind arith
     by false false = plain_onward c r z h
 
 -- ---- double quotes
-
-numbered_onward : (n d : ℕ) (r : List ℕ) (o : Option ℕ) → n ≤ length r → Onward (d ∷ r) (numbered n o) (numbered n o)
-numbered_onward n d r a l = grind arith
 
 numeric_onward : (n d : ℕ) (r z : List ℕ) → Onward (d ∷ r) (numeric_escape n r) (numeric_escape n (r ++ z))
 unfolding numeric_escape
@@ -57,7 +45,7 @@ numeric_onward n d r z = by (length (take n r) == n) refl
     by false e = tt
     by true e =
         let fits : n ≤ length r = omega (arith, eqb-true (length (take n r)) n e, length-take n r) in
-        rw (take-append-le n r z fits, e) (numbered_onward n d r (hexadecimal 0 (take n r)) fits)
+        rw (take-append-le n r z fits, e) (grind arith)
 
 escape_onward : (r z : List ℕ) → begins_with 10 z ≡ false → Onward r (escape r) (escape (r ++ z))
 unfolding escape
@@ -67,7 +55,7 @@ escape_onward (d ∷ r) z h = by (is_break d) (lookup d escapes) (lookup d numer
     by : (break : Bool) (named number : Option ℕ) →
         Onward (d ∷ r) (if break then Some (spelled escaped_break (suc (break_further d r))) else escape_by named number r)
         (if break then Some (spelled escaped_break (suc (break_further d (r ++ z)))) else escape_by named number (r ++ z))
-    by true named number = (omega (arith, further_fits d r), ap (λ n. Some (spelled escaped_break (suc n))) (further_same d r z h))
+    by true named number = let further_fits : break_further d r ≤ length r = grind arith in (omega (arith, further_fits), ap (λ n. Some (spelled escaped_break (suc n))) (grind arith))
     by false (Some code) number = (omega arith, refl)
     by false None (Some n) = numeric_onward n d r z
     by false None None = tt

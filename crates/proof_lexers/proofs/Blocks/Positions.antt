@@ -66,11 +66,6 @@ pub first_empty : (column : ℕ) (l : Line) (y : List ℕ) (p : Position) → is
     → first_content column false p (l.text ++ put l.by y) ≡ first_content column false (after_line l p) y
 first_empty column l y p h le fits = first_is column (l.text ++ put l.by y) p [] ∙ ap stopped_at (empty_passes column l y p [] h le fits) ∙ sym (first_is column y (after_line l p) (10 ∷ []))
 
--- the header's line is passed over
-header_put : (column : ℕ) (k : Break) (y : List ℕ) (p : Position) → Fits k y → first_content column true p (put k y) ≡ first_content column false (after_break k p) y
-unfolding classes.is_break
-header_put column a b p fits = grind arith
-
 header_chars : (column : ℕ) (w y : List ℕ) (p : Position) → is_in_line w ≡ true → first_content column true p (w ++ y) ≡ first_content column true (along w p) y
 header_chars column [] y p h = refl
 header_chars column (c ∷ w) y p h =
@@ -79,7 +74,8 @@ header_chars column (c ∷ w) y p h =
     ap (λ b. first_content column (not b) (position_past p c (w ++ y)) (w ++ y)) ends ∙ ap (λ x. first_content column true x (w ++ y)) (past_is p c (w ++ y) q.0) ∙ header_chars column w y (past p) q.1
 
 pub first_header : (column : ℕ) (w : List ℕ) (k : Break) (y : List ℕ) (p : Position) → is_in_line w ≡ true → Fits k y → first_content column true p (w ++ put k y) ≡ first_content column false (after_break k (along w p)) y
-first_header column w k y p h fits = header_chars column w (put k y) p h ∙ header_put column k y (along w p) fits
+unfolding classes.is_break
+first_header column w k y p h fits = header_chars column w (put k y) p h ∙ (grind arith)
 
 pub header_alone : (column : ℕ) (w : List ℕ) (p : Position) → is_in_line w ≡ true → first_content column true p w ≡ None
 header_alone column w p h = ap (λ x. first_content column true p x) (sym (append-nil w)) ∙ header_chars column w [] p h

@@ -122,13 +122,6 @@ module _ (h : defs.Header) (line : List ℕ) (k : Break) (indent : ℕ) (p : Pos
     where_is : {o : Option Position} → first_content column true p piece ≡ o → block_position column p piece next ≡ position_or o (further_position p piece next)
     where_is e = rw (e, text) refl
 
-    with_rows : has_content rs ≡ true → Outside column next (after_lines ls start) → Found column ls start [] → IsRead indent p before_text piece next (scanned (spell ls next))
-    with_rows some z f =
-        let first : first_content column true p piece ≡ Some (f.position) = piece_first column (spell ls []) _ fits_alone (f.found [] are_alone) in
-        reads_it column before_text (spell ls next) piece next (f.rest next) f.char f.position _ f.breaks_before lines_read free (rw (first, second_false (not (is_at_end next))) refl)
-        found_by (f.found next are) (in_position column f.position.col f.in_column) (read_to z) position_is (where_is first)
-        (ap (λ b. lines_read.text ++ tail (chomping_of h.chomping) b lines_read) (closed z _) ∙ content_value h false rs (are_full column (texts ls) rs rows) some ∙ rw some refl)
-
     without_rows : has_content rs ≡ false → (z : Outside column next (after_lines ls start)) → (l i : Bool) → nat_lt z.position.col column ≡ l → nat_le indent z.position.col ≡ i → IsRead indent p before_text piece next (scanned (spell ls next))
     without_rows none z = by
       where
@@ -155,7 +148,13 @@ module _ (h : defs.Header) (line : List ℕ) (k : Break) (indent : ℕ) (p : Pos
         by false i e g = go (rw e refl) (is_here ∙ rw e (and_false (nat_le indent z.position.col)))
 
     pub before_further : Outside column next (after_lines ls start) → IsRead indent p before_text piece next (scanned (spell ls next))
-    before_further z = elim (cases_Bool (has_content rs)) [ inl e ↦ with_rows e z (found_in column ls next start [] rs refl are rows e) | inr e ↦ without_rows e z _ _ refl refl ]
+    before_further z = elim (cases_Bool (has_content rs)) [
+      | inl e ↦ let f = found_in column ls next start [] rs refl are rows e in let first : first_content column true p piece ≡ Some f.position = piece_first column (spell ls []) _ fits_alone (f.found [] are_alone) in
+          reads_it column before_text (spell ls next) piece next (f.rest next) f.char f.position _ f.breaks_before lines_read free (rw (first, second_false (not (is_at_end next))) refl)
+          found_by (f.found next are) (in_position column f.position.col f.in_column) (read_to z) position_is (where_is first)
+          (ap (λ b. lines_read.text ++ tail (chomping_of h.chomping) b lines_read) (closed z _) ∙ content_value h false rs (are_full column (texts ls) rs rows) e ∙ rw e refl)
+      | inr e ↦ without_rows e z _ _ refl refl
+    ]
 
   -- ---- at the end of the text
 
@@ -180,9 +179,6 @@ module _ (h : defs.Header) (line : List ℕ) (k : Break) (indent : ℕ) (p : Pos
     reaches : (n : ℕ) → (nat_le column n && nat_lt 0 n) ≡ nat_le (max column 1) n
     reaches n = both _ _ (λ e. grind (arith, nat_tests)) (λ e. grind (arith, nat_tests))
 
-    last_col : (along last last_position).col ≡ last_position.col + length last
-    last_col = col_along last last_position
-
     at_front : last_position.col ≡ 0
     at_front = lines_front ls start refl
 
@@ -190,7 +186,7 @@ module _ (h : defs.Header) (line : List ℕ) (k : Break) (indent : ℕ) (p : Pos
     read_end r = IsRead indent p (before_end r) whole [] (scanned (spell ls last))
 
     far : (along last last_position).col ≡ length last
-    far = let e = at_front in let g = last_col in omega (arith, e, g)
+    far = let e = at_front in let g : (along last last_position).col ≡ last_position.col + length last = col_along last last_position in omega (arith, e, g)
 
     -- lines with content, after the search for it
     content_by : (r : Row) (x : Lines) → Sees column (spell ls last) → lines_from (is_literal_style h.style) column (spell ls last) (front start (after_empty 0)) ≡ Ok (record { rest = []; position = along last last_position; value = x })
@@ -201,14 +197,6 @@ module _ (h : defs.Header) (line : List ℕ) (k : Break) (indent : ℕ) (p : Pos
 
     sees_before : has_content rs ≡ true → Sees column (spell ls last)
     sees_before some = let f = found_in column ls last start [] rs refl are rows some in record { char = f.char; rest = f.rest last; position = f.position; breaks_before = f.breaks_before; in_column = f.in_column; found = f.found last are }
-
-    -- an empty last line
-    empty_some : has_content rs ≡ true → is_spaces last ≡ true → length last ≤ column → read_end empty_row
-    empty_some some spaces le =
-        content_by empty_row rows_read (sees_before some)
-        (rows_go (is_literal_style h.style) column ls last start (after_empty 0) rs refl are rows ∙ last_empty (is_literal_style h.style) column last last_position rows_read at_front spaces le)
-        (ap (λ b. rows_read.text ++ tail (chomping_of h.chomping) b rows_read) (reaches (along last last_position).col ∙ ap (nat_le (max column 1)) far)
-        ∙ content_value h (nat_le (max column 1) (length last)) rs (are_full column (texts ls) rs rows) some ∙ rw some refl)
 
     empty_none : has_content rs ≡ false → is_spaces last ≡ true → length last ≤ column → read_end empty_row
     empty_none none spaces le =
@@ -236,22 +224,28 @@ module _ (h : defs.Header) (line : List ℕ) (k : Break) (indent : ℕ) (p : Pos
         ∙ last_value h rs z.char z.rest (are_full column (texts ls) rs rows)
         ∙ ap (λ m. with_content h 0 (rs ++ content_row m ∷ [])) (sym z.is)
 
-    sees_last : has_content rs ≡ false → Starts column last last_position column → Sees column (spell ls last)
-    sees_last none z = record {
-      char = z.char;
-      rest = z.rest ++ [];
-      position = z.position;
-      breaks_before = breaks (length rs);
-      in_column = z.in_column;
-      found = all_empty column ls last start [] rs refl are rows none ∙ ap (λ a. indent_from column a (at last_position (breaks (length rs)))) (sym (append-nil last)) ∙ z.found [] (breaks (length rs));
-    }
-
     pub before_the_end : (r : Row) → IsRow column last r → read_end r
-    before_the_end empty_row (no_content spaces le) = elim (cases_Bool (has_content rs)) [ inl e ↦ empty_some e spaces le | inr e ↦ empty_none e spaces le ]
+    before_the_end empty_row (no_content spaces le) = elim (cases_Bool (has_content rs)) [
+      | inl e ↦ content_by empty_row rows_read (sees_before e)
+          (rows_go (is_literal_style h.style) column ls last start (after_empty 0) rs refl are rows ∙ last_empty (is_literal_style h.style) column last last_position rows_read at_front spaces le)
+          (ap (λ b. rows_read.text ++ tail (chomping_of h.chomping) b rows_read) (reaches (along last last_position).col ∙ ap (nat_le (max column 1)) far)
+          ∙ content_value h (nat_le (max column 1) (length last)) rs (are_full column (texts ls) rs rows) e ∙ rw e refl)
+      | inr e ↦ empty_none e spaces le
+    ]
     before_the_end (content_row m) (is_content lead long free) =
         let col : last_position.col + column ≡ column = (let e = at_front in omega (arith, e)) in
         let z = starts column column last last_position col lead long last_inner in
-        content_by last_row last_read (elim (cases_Bool (has_content rs)) [ inl e ↦ sees_before e | inr e ↦ sees_last e z ])
+        content_by last_row last_read (elim (cases_Bool (has_content rs)) [
+          | inl e ↦ sees_before e
+          | inr e ↦ record {
+            char = z.char;
+            rest = z.rest ++ [];
+            position = z.position;
+            breaks_before = breaks (length rs);
+            in_column = z.in_column;
+            found = all_empty column ls last start [] rs refl are rows e ∙ ap (λ a. indent_from column a (at last_position (breaks (length rs)))) (sym (append-nil last)) ∙ z.found [] (breaks (length rs));
+          }
+        ])
         (rows_go (is_literal_style h.style) column ls last start (after_empty 0) rs refl are rows ∙ last_content (is_literal_style h.style) column last last_position rows_read at_front last_inner lead long free) (content_text z long)
 
 -- ---- a header at the end of the text

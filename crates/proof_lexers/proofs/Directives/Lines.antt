@@ -34,16 +34,6 @@ five_texts : (a b c d e r : List ℕ) → a ++ (b ++ (c ++ (d ++ (e ++ r)))) ≡
 five_texts a b c d e r =
     sym (append_assoc a (b ++ (c ++ (d ++ e))) r ∙ ap (λ k. a ++ k) (append_assoc b (c ++ (d ++ e)) r ∙ ap (λ k. b ++ k) (append_assoc c (d ++ e) r ∙ ap (λ k. c ++ k) (append_assoc d e r))))
 
-four_positions : (p : Position) (a b c d : List ℕ) → further (length d) (past (further (length c) (further (length b) (further (length a) (past p))))) ≡ further (suc (length (a ++ (b ++ (c ++ 46 ∷ d))))) p
-four_positions p a b c d = grind (arith, length-append, same_place)
-
-five_positions : (p : Position) (a b c d e : List ℕ) → further (length e) (further (length d) (further (length c) (further (length b) (further (length a) (past p))))) ≡ further (suc (length (a ++ (b ++ (c ++ (d ++ e)))))) p
-five_positions p a b c d e = grind (arith, length-append, same_place)
-
-no_percent_break : (l : List ℕ) → has_no_break l ≡ true → has_no_break (37 ∷ l) ≡ true
-unfolding classes.is_break
-no_percent_break l h = h
-
 no_hash : classes.is_blank_or_end 35 ≡ true → ⊥
 unfolding classes.is_blank_or_end classes.is_blank classes.is_break classes.is_nul
 no_hash h = cc
@@ -66,10 +56,11 @@ module _ (start : Position) (l n : List ℕ) (line : has_no_break l ≡ true) (e
 
   last_position : (before m : List ℕ) (p : Position) → l ≡ before ++ m → p ≡ further (suc (length before)) start
       → position_after (further (length m) p) (first_break n) (next_line n) ≡ position_after start ((37 ∷ l) ++ first_break n) (next_line n)
+  unfolding classes.is_break
   last_position before m p cut position =
       let so_long : length l ≡ length before + length m = ap length cut ∙ length-append before m in
       let here : further (length m) p ≡ position_after start (37 ∷ l) (first_break n ++ next_line n) =
-      ap (further (length m)) position ∙ same_place start (suc (length l)) (omega (arith, so_long)) (omega (arith, so_long)) ∙ position_in_line start (37 ∷ l) (first_break n ++ next_line n) (no_percent_break l line) in
+      ap (further (length m)) position ∙ same_place start (suc (length l)) (omega (arith, so_long)) (omega (arith, so_long)) ∙ position_in_line start (37 ∷ l) (first_break n ++ next_line n) line in
       ap (λ q. position_after q (first_break n) (next_line n)) here ∙ sym (position_append start (37 ∷ l) (first_break n) (next_line n))
 
   finish : (before m : List ℕ) (d : Directive) (p : Position) → l ≡ before ++ m → p ≡ further (suc (length before)) start → directive_of (37 ∷ l) ≡ (if is_rest_of_line m then Some d else None)
@@ -140,7 +131,7 @@ module _ (start : Position) (l n : List ℕ) (line : has_no_break l ≡ true) (e
         cut = from_word ∙ ap (λ r. leading classes.is_alpha l ++ (leading classes.is_blank after_word ++ r)) tail ∙ four_texts (leading classes.is_alpha l) (leading classes.is_blank after_word) major minor rest
 
         position : further (length minor) (past (further (length major) said_position)) ≡ further (suc (length before)) start
-        position = four_positions start (leading classes.is_alpha l) (leading classes.is_blank after_word) major minor
+        position = grind (arith, length-append, same_place)
 
     minor_read : (s : List ℕ) (v : ℕ) → after classes.is_decimal_digit said ≡ 46 ∷ s → number_of major ≡ Some v
         → Told start l n (and_then (and_then (number start (s ++ n) (past (further (length major) said_position))) (λ k. Ok (with_minor v k))) (λ t. after_value start t))
@@ -231,7 +222,7 @@ module _ (start : Position) (l n : List ℕ) (line : has_no_break l ≡ true) (e
           cut = grind (arith, from_word, tail, five_texts, handle_is)
 
           position : further (length prefix_text) prefix_position ≡ further (suc (length before)) start
-          position = five_positions start (leading classes.is_alpha l) (leading classes.is_blank after_word) handle_is (leading classes.is_blank after_handle) prefix_text
+          position = grind (arith, length-append, same_place)
 
       -- what the scan of the prefix leaves, by what its characters mean
       abbrev prefix_result : Result (List ℕ) UriFault → Result (Read (List ℕ)) Fault

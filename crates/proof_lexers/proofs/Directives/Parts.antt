@@ -62,12 +62,8 @@ digits_read start p v k a =
     then Ok (record { rest = after classes.is_decimal_digit a; state = record { position = further (length (leading classes.is_decimal_digit a)) p; value = decimal_value v (leading classes.is_decimal_digit a); length = k + length (leading classes.is_decimal_digit a) } })
     else Err (At problem.VersionTooLong start))
 
-stopped_here : (start p : Position) (v k : ℕ) (a : List ℕ) → k ≤ 9 → leading classes.is_decimal_digit a ≡ [] → after classes.is_decimal_digit a ≡ a
-    → Ok (record { rest = a; state = record { position = p; value = v; length = k } }) ≡ digits_read start p v k a
-stopped_here start p v k a few none same = grind arith
-
 digits_run : (start : Position) (a : List ℕ) (p : Position) (v k : ℕ) → k ≤ 9 → run (digit_turn start) a (record { position = p; value = v; length = k }) ≡ digits_read start p v k a
-digits_run start [] p v k few = stopped_here start p v k [] few refl refl
+digits_run start [] p v k few = grind arith
 digits_run start (c ∷ a) p v k few = grind (arith, nat_tests, digit_is, one_further, digits_run start a (past p) (v * 10 + (c - 48)) (k + 1))
 
 -- what the scan of a version's number leaves

@@ -135,16 +135,12 @@ module _ (ctx : Context) (start : Position) where
   gap_text : (c : ℕ) (a : List ℕ) (t : Folded) → is_white c ≡ true → (after_char c a t).text ≡ t.text
   gap_text c a t h = grind arith
 
-  -- a break sets that one stands before the gap's end, but for the CR of CR LF, after which a break follows
-  gap_leads : (c : ℕ) (gap rest : List ℕ) (t : Folded) → is_white c ≡ true → begins_white rest ≡ false → ((after_char c (gap ++ rest) t).leading || has_break gap) ≡ (t.leading || (is_break c || has_break gap))
-  gap_leads c gap rest t h a = grind (arith, feed_breaks, no_break_first, or-false)
-
   pub after_gap : (c : ℕ) (a : List ℕ) (tabs u : Bool) (s : Stand) (p : Position) (t : Folded) (x : Result (Read Plain) Fault) → is_white c ≡ true
       → ((f : Fault) → Fails u (past s c) (position_past p c a) a f → Fails tabs s p (c ∷ a) f)
       → Found u (past s c) (position_past p c a) (after_char c a t) a x → Found tabs s p t (c ∷ a) x
   after_gap c a tabs u s p t x white grow (found [] gap rest cut goes solid stop gaps ends is) =
       found [] (c ∷ gap) rest (ap (λ r. c ∷ r) cut) refl refl (rw white stop) (rw white gaps) ends
-      (is ∙ same_left rest _ _ _ _ _ _ (same_position c a [] gap rest p cut) (gap_text c a t white) (ap (λ b. (after_char c b t).leading || has_break gap) cut ∙ gap_leads c gap rest t white ends))
+      (is ∙ same_left rest _ _ _ _ _ _ (same_position c a [] gap rest p cut) (gap_text c a t white) (ap (λ b. (after_char c b t).leading || has_break gap) cut ∙ (grind (arith, feed_breaks, no_break_first, or-false))))
   after_gap c a tabs u s p t x white grow (found (d ∷ more) gap rest cut goes solid stop gaps ends is) =
       found (c ∷ d ∷ more) gap rest (ap (λ r. c ∷ r) cut) (rw white goes) solid stop gaps ends
       (is ∙ same_left rest _ _ _ _ _ _ (same_position c a (d ∷ more) gap rest p cut) (ap (λ b. (after_text (d ∷ more) (after_char c b t)).text) cut) refl)
@@ -179,13 +175,10 @@ module _ (ctx : Context) (start : Position) where
 
   -- ---- a dash before a flow indicator
 
-  tab_no_flow : is_flow 9 ≡ false
-  unfolding is_flow
-  tab_no_flow = refl
-
   -- Text that begins with a flow indicator has no TAB that is told from there.
   pub flow_untabbed : (a : List ℕ) (s : Stand) → ctx.flow ≡ true → begins_flow a ≡ true → Tabbed false s a → ⊥
-  flow_untabbed a s flow b d = grind (arith, no_flow, tab_no_flow)
+  unfolding is_flow
+  flow_untabbed a s flow b d = grind (arith, no_flow, refl)
 
   pub dash_untabbed : (c : ℕ) (a : List ℕ) (s : Stand) → ctx.flow ≡ true → c ≡ 45 → begins_flow a ≡ true → Tabbed false s (c ∷ a) → ⊥
   dash_untabbed c a s flow is begins t =

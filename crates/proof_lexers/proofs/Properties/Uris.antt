@@ -41,9 +41,6 @@ abbrev completed : (least : ℕ) → Result ℕ UriFault → Result (List ℕ) U
 completed least (Err f) others = Err f
 completed least (Ok code) others = (if nat_le least code && is_character_code code then put_code code others else Err no_character)
 
-is_completed : (l : Lead) (o : Result ℕ UriFault) (x y : ℕ) (r : List ℕ) → code_followed (checked l o) (λ n. decoded_after n (x ∷ y ∷ r)) ≡ completed l.least o (decoded_after 0 (drop (3 * l.further) r))
-is_completed l a x y r = grind (arith, nat_tests, after_some)
-
 -- ---- the scan
 
 module _ (test class : ℕ → Bool) (start : Position) (same : (c : ℕ) → class c ≡ test c) (percents : test 37 ≡ true) (digits : (c : ℕ) → is_digit c 16 ≡ true → test c ≡ true) where
@@ -74,10 +71,6 @@ module _ (test class : ℕ → Bool) (start : Position) (same : (c : ℕ) → cl
   unfolding octet_at
   none_by a x l e = grind arith
 
-  second_by : (b : Bool) (x y : ℕ) (l : List ℕ) → is_digit x 16 ≡ true → is_digit y 16 ≡ false → octet_at (37 ∷ x ∷ (if b then y ∷ l else [])) ≡ None
-  unfolding octet_at
-  second_by a x y l e f = grind arith
-
   second_octet : (o : Octet) (x : ℕ) (r : List ℕ) (p : Position) (t : List ℕ) → is_digit x 16 ≡ true → class x ≡ true → is_hex x ≡ true → Octets o (x ∷ r) p t
   unfolding octet_at
   second_octet o x [] p t e f g = no_octets (rw f refl) (rw g refl)
@@ -88,7 +81,7 @@ module _ (test class : ℕ → Bool) (start : Position) (same : (c : ℕ) → cl
         octet x y (digit_value x * 16 + digit_value y) b refl f of_y (rw (f, of_y, e, h) refl) (rw g (low_turn test start o (digit_value x) y (y ∷ b) b (past p) t hex refl))
     | inr h ↦
         let no_hex : is_hex y ≡ false = same_digit y ∙ h in
-        no_octets (rw f (second_by (class y) x y (leading class b) e h)) (rw (g, no_hex) refl)
+        no_octets (rw f (grind arith)) (rw (g, no_hex) refl)
   ]
 
   octets_at : (o : Octet) (a : List ℕ) (p : Position) (t : List ℕ) → Octets o a p t
@@ -163,7 +156,7 @@ module _ (test class : ℕ → Bool) (start : Position) (same : (c : ℕ) → cl
       by (Some l) =
           trailing l.further l.bits l.least b (past (past (past p))) t plains
           ∙ three_more x y b p t _ e f
-          ∙ ap (answer (37 ∷ x ∷ y ∷ b) p t) (sym (is_completed l (trails l.further l.bits (leading class b)) x y (leading class b)))
+          ∙ ap (answer (37 ∷ x ∷ y ∷ b) p t) (sym (grind (arith, nat_tests, after_some)))
 
   at_percent : (a : List ℕ) (p : Position) (t : List ℕ) → ((k : ℕ) → Plain (drop k a)) → Octets lead a (past p) t → scan (37 ∷ a) p t ≡ answer (37 ∷ a) p t (decoded (37 ∷ leading class a))
   unfolding uri_character escaped_character

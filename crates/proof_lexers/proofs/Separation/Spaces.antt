@@ -93,17 +93,13 @@ module _ (tabs : SkipTabs) where
       one_more tabs w (record w { found_tabs = true }) p 9 a _ refl refl (rw skipped refl) (λ b. sym (or_both w.found_tabs (has 9 b))) (λ b. refl) refl
       (passes_on tabs (record w { found_tabs = true }) (past p) a _ _ (rw skipped refl) (ih (record w { found_tabs = true }) (past p)))
 
-  hash_position : (p : Position) (l rest : List ℕ) → position_after (past p) l rest ≡ position_after p (35 ∷ l) rest
-  unfolding classes.is_break
-  hash_position p l rest = ap (λ q. position_after q l rest) (sym (in_line_position 35 (l ++ rest) p refl))
-
   comment_here : (a : List ℕ) (w : Whitespace) (p : Position) → Passes tabs w p (35 ∷ a) (comment_after w (35 ∷ a) p)
   unfolding is_break classes.is_break classes.is_blank
   comment_here a w p = elim (cases_Bool (w.found_tabs || w.has_valid_yaml_ws)) [
     | inl e ↦
         let z = line_of a (past p) in
         rw e (passed [] (35 ∷ z.line) z.rest (ap (λ r. 35 ∷ r) z.cut) refl z.fills z.breaks (line_ends tabs z.rest z.ends)
-        (ap (λ r. Ok (with_found w r)) z.is ∙ same_space _ _ z.rest _ _ _ _ (hash_position p z.line z.rest) (sym (or_false w.found_tabs)) (sym (or_false w.has_valid_yaml_ws))))
+        (ap (λ r. Ok (with_found w r)) z.is ∙ same_space _ _ z.rest _ _ _ _ (ap (λ q. position_after q z.line z.rest) (sym (in_line_position 35 (z.line ++ z.rest) p refl))) (sym (or_false w.found_tabs)) (sym (or_false w.has_valid_yaml_ws))))
     | inr e ↦ rw e (stuck refl e refl)
   ]
 
