@@ -7,6 +7,7 @@ use Rattle.defs_token.specs.BlockPiece as cut
 use Rattle.proof_lexers.proofs.Blocks.Written as written
 use Rattle.proof_lexers.proofs.Blocks.Written.{spell}
 use Rattle.proof_layout_tokens.proofs.BlockTexts.{header_by, line_of, lines_at, empties, texts_are, line_more, Last, last_of, deepest, rows_split, row_full}
+use Rattle.proof_layout_tokens.proofs.Nul.{HasNone, both, text_none, spaces_none}
 
 -- ---- the block
 
@@ -165,6 +166,19 @@ pub are_lines : (column : ℕ) (ls : List Line) (more : List written.Line) (e : 
 are_lines column [] more e h are = are
 are_lines column (full w ∷ ls) more e h are = (inner_spaces column (w ++ []) (inner_line w h.0), tt, are_lines column ls more e h.1 are)
 are_lines column (blank n ∷ ls) more e h are = (inner_spaces n [] refl, tt, are_lines column ls more e h are)
+
+-- nor has a line a NUL
+pub lines_none : (column : ℕ) (ls : List Line) (more : List written.Line) (e : List ℕ) → AreLineTexts ls → HasNone (spell more e) → HasNone (spell (lines_at column ls ++ more) e)
+lines_none column [] more e h n = n
+lines_none column (full w ∷ ls) more e h n = both (spaces column (w ++ [])) _ (spaces_none column (w ++ []) (both w [] (text_none w h.0) refl)) (lines_none column ls more e h.1 n)
+lines_none column (blank k ∷ ls) more e h n = both (spaces k []) _ (spaces_none k [] refl) (lines_none column ls more e h n)
+
+pub empties_none : (n : ℕ) → HasNone (spell (empties n) [])
+empties_none zero = refl
+empties_none (suc n) = empties_none n
+
+pub header_none : (s : BlockStyle) (strips : Bool) (a : List ℕ) → HasNone a → HasNone (block_text s strips (10 ∷ a))
+header_none s strips a n = grind arith
 
 -- each line, and then an LF
 pub spelt_feeds : (column : ℕ) (ls : List Line) (r : List ℕ) → spell_lines column ls (10 ∷ r) ≡ 10 ∷ spell (lines_at column ls) r

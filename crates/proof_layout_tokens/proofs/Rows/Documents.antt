@@ -1,16 +1,16 @@
 -- Whole layouts have rows: roots, and documents one after the other.
-use Rattle.proof_layout_tokens.proofs.Common.{[], and_false, another, append-nil, are_marks, AreDocuments, arith, awaits_at, awaits_past, BlockStyle, Bool, codes, Documents, documents_tokens, false, first_account, first_position, free, GapLine, has_break, is_blank, is_blank_or_end, is_break, is_nul, is_waiting, IsAfterRoot, IsGap, IsLayout, IsRoot, Layout, length, line_past_separation, List, marked, no_comment, Position, position_after, Previous, refl, Root, root_tokens, Some, spaces, spell_block, spell_documents, spell_gap, spell_inline, spell_lines, spell_literal, spell_root, taken, Tok, true, ℕ, ◌++◌, ◌-◌, ◌∷◌, ◌≡◌}
+use Rattle.proof_layout_tokens.proofs.Common.{[], and_false, another, append-nil, are_marks, AreDocuments, AreEmptyLines, arith, awaits_at, awaits_past, BlockStyle, Bool, codes, Documents, documents_tokens, false, first_account, first_position, free, GapLine, has_break, is_blank, is_blank_or_end, is_break, is_nul, is_waiting, IsAfterRoot, IsGap, IsLayout, IsRoot, Layout, length, line_past_separation, List, marked, no_comment, Position, position_after, Previous, refl, Root, root_tokens, Some, spaces, spell_block, spell_documents, spell_gap, spell_inline, spell_lines, spell_literal, spell_root, taken, Tok, true, ℕ, ◌++◌, ◌-◌, ◌∷◌, ◌≡◌}
 use Rattle.defs_token.specs.Key.{Line}
 use Rattle.defs_layout.specs.BlockLines.{Line as BlockLine}
 use Rattle.defs_layout.specs.Layout.{spell}
 use Rattle.defs_layout.specs.Layout as layout
 use Rattle.proof_layout_tokens.proofs.LiteralTexts.{strips_of, headed_literal, root_literal_lines}
-use Rattle.proof_layout_tokens.proofs.LayoutNul.{after_gap}
+use Rattle.proof_layout_tokens.proofs.Nul.{spaces_none}
 use Rattle.proof_layout_tokens.proofs.Rows.Steps.{Reads, at, step_of, Steps, step}
 use Rattle.proof_layout_tokens.proofs.Rows.Nodes.{or_true}
 use Rattle.proof_layout_tokens.proofs.Rows.Texts.{ended, read_end}
 use Rattle.proof_layout_tokens.proofs.Rows.Blocks.{Here, ends_are, ended_append}
-use Rattle.proof_layout_tokens.proofs.Rows.Trails.{Trail, next, marker, end, marker_text, trail_text, IsTrail, IsLow, EndsAt, After, gap_separates, spaces_separate, gap_last, no_tab, gap_column, spaces_are, gap_is, here_after}
+use Rattle.proof_layout_tokens.proofs.Rows.Trails.{Trail, next, marker, end, marker_text, trail_text, IsTrail, IsLow, EndsAt, After, gap_separates, gap_none, spaces_separate, gap_last, no_tab, gap_column, spaces_are, gap_is, here_after}
 use Rattle.proof_layout_tokens.proofs.Rows.Leaves.{Lead}
 use Rattle.proof_layout_tokens.proofs.Rows.BlockScalars.{at_text, Follows, block_is_read}
 use Rattle.proof_layout_tokens.proofs.Rows.Values.{block_reads, inline_reads}
@@ -43,10 +43,11 @@ module _ (b : Bool) (g : List GapLine) (gap : IsGap g) (p : Position) (l : Line)
         tabless = λ m. rw (gap_last g n) (no_tab m n);
         line = rw ((begins refl).1) (any (has_break (spell_gap g (spaces n []))));
         column = gap_column g n r p (begins refl).0;
+        none = gap_none g (spaces n []) gap (spaces_none n [] refl);
       }
 
   lead : Lead [] p (lead_text b g 0)
-  lead = record { parts = record { separates = λ r. (here_at 0 r).separates; tabless = λ awaits. refl }; deep = λ r. omega arith }
+  lead = record { parts = record { separates = λ r. (here_at 0 r).separates; tabless = λ awaits. refl; none = (here_at 0 []).none }; deep = λ r. omega arith }
 
 -- ---- roots
 
@@ -55,6 +56,13 @@ abbrev EndsDocument : Root → Trail → Type 0
 EndsDocument root (next g d r) = ⊥
 EndsDocument root (marker g r) = IsAfterRoot root g
 EndsDocument root (end g) = IsAfterRoot root g
+
+empty_gap : (g : List GapLine) → AreEmptyLines g → IsGap g
+empty_gap [] are = tt
+empty_gap (l ∷ g) are = grind (arith, empty_gap g)
+
+after_gap : (x : Root) (g : List GapLine) → IsAfterRoot x g → IsGap g
+after_gap x g is = grind (arith, empty_gap)
 
 is_trail : (root : Root) (t : Trail) → EndsDocument root t → IsTrail t
 is_trail root t h = grind (arith, after_gap)
@@ -100,13 +108,14 @@ marker_reads r tokens rest extra p awaits before l f here =
       stands = rw (here.tabless, or_true _) refl;
       leads = rw (here.line, and_false (has_break w)) refl;
       begins = λ past colon. rw (all_left (length extra)) (ends_are extra there []);
+      none = (here.none, refl);
     } in
     rw append-nil (rw (← ended_append extra [] (Tok.document_start ∷ tokens)) (step (step_of f w Tok.document_start false) text first (rest _ _)))
 
 -- ---- documents
 
 end_reads : (g : List GapLine) → After (end g) [] (Tok.stream_end ∷ [])
-end_reads g extra p awaits before l f all (separates, line) = rw (append-nil, append-nil) (read_end p extra awaits before l f line separates)
+end_reads g extra p awaits before l f all (separates, line, none) = rw (append-nil, append-nil) (read_end p extra awaits before l f line separates none)
 
 documents_read : (ds : Documents) → AreDocuments ds → (b : Bool) (p : Position) (awaits : Bool) (l : Line) → is_waiting l ≡ false → (b ≡ false → (p.col ≡ 0) × (l ≡ free)) → Reads (at p [] awaits another l []) (pre b (spell_documents ds [])) (documents_tokens ds)
 documents_read (Documents.last_document d after) are b p awaits l line begins = root_reads d.root are.1 b d.gap are.0 (end after) are.2 (Tok.stream_end ∷ []) p awaits l line begins (end_reads after)
@@ -119,5 +128,5 @@ pub layout_reads : (w : Layout) → IsLayout w → Reads first_account (spell w 
 layout_reads w is = by w.is_marked
   where
     by : (b : Bool) → Reads first_account (layout.spell_mark b (spell_documents w.documents [])) (marked b (documents_tokens w.documents))
-    by true = marker_reads (spell_documents w.documents []) (documents_tokens w.documents) (λ q waits. documents_read w.documents is true q waits taken refl (λ e. cc)) [] first_position false another free [] (record { separates = refl; tabless = λ n. no_tab n 0; line = refl; column = refl })
+    by true = marker_reads (spell_documents w.documents []) (documents_tokens w.documents) (λ q waits. documents_read w.documents is true q waits taken refl (λ e. cc)) [] first_position false another free [] (record { separates = refl; tabless = λ n. no_tab n 0; line = refl; column = refl; none = refl })
     by false = documents_read w.documents is false first_position false free refl (λ e. (refl, refl))

@@ -3,6 +3,7 @@ use Rattle.proof_layout_tokens.proofs.Common.{[], after_blank, and_false, and_fr
 use Rattle.defs_text.specs.FlowScalar.{blank}
 use Rattle.proof_layout_tokens.proofs.Rows.OneLine.{IsOneLine, nothing, with_content, with_blank, value_is}
 use Rattle.proof_layout_tokens.proofs.PlainTexts.{is_plain_char, are_plain, closes, IsPlainText, is_first, is_second, first_space}
+use Rattle.proof_layout_tokens.proofs.Nul.{HasNone}
 
 pub record PlainChar (c : ℕ) : Type 0 where
   pub break : is_break c ≡ false
@@ -26,6 +27,11 @@ MayFlow in_flow w = in_flow ≡ true → list_all is_in_flow w ≡ true
 no_break : (w : List ℕ) → are_plain w ≡ true → has_no_break w ≡ true
 no_break [] h = refl
 no_break (c ∷ w) h = let q = and_parts (is_plain_char c) (are_plain w) h in rw ((plain_char c q.0).break) (no_break w q.1)
+
+no_nul : (w : List ℕ) → are_plain w ≡ true → HasNone w
+unfolding is_nul
+no_nul [] h = refl
+no_nul (c ∷ w) h = let q = and_parts (is_plain_char c) (are_plain w) h in rw ((plain_char c q.0).nul) (no_nul w q.1)
 
 -- ---- the value
 
@@ -127,6 +133,7 @@ pub record IsPlainPiece (in_flow : Bool) (collection : Option ℕ) (w next : Lis
   pub no_break : has_no_break w ≡ true
   pub some : not (is_empty w) ≡ true
   pub no_dash : (in_flow && has_dash_before_flow w next) ≡ false
+  pub none : HasNone w
 
 no_last_dash : (w : List ℕ) → are_plain w ≡ true → list_all is_in_flow w ≡ true → ends_with_dash w ≡ false
 no_last_dash [] h flow = refl
@@ -159,4 +166,5 @@ plain_piece in_flow collection w next text flow stops = rw (text.whole) (by (rw 
           no_break = no_break (c ∷ v) all;
           some = refl;
           no_dash = dashless in_flow (c ∷ v) next all flow;
+          none = no_nul (c ∷ v) all;
         }

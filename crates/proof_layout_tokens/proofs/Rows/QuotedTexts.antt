@@ -6,6 +6,7 @@ use Rattle.proof_layout_tokens.proofs.Rows.Steps.{Reads, at, step_of, site_of, s
 use Rattle.proof_layout_tokens.proofs.Rows.Nodes.{outside, node_step}
 use Rattle.proof_layout_tokens.proofs.Rows.OneLine.{between}
 use Rattle.proof_layout_tokens.proofs.Rows.Texts.{read_end}
+use Rattle.proof_layout_tokens.proofs.Nul.{HasNone, quoted_none}
 
 -- outside all collections no line is refused for its column
 no_column : (n : ℕ) → nat_le 0 n ≡ true
@@ -29,6 +30,10 @@ unfolding is_blank is_break
 feeds_end zero = refl
 feeds_end (suc n) = feeds_end n
 
+feeds_none : (n : ℕ) → HasNone (replicate n 10)
+feeds_none zero = refl
+feeds_none (suc n) = feeds_none n
+
 feeds_follow : (n : ℕ) (piece : List ℕ) → quoted_may_end false piece (replicate n 10) ≡ true
 unfolding is_blank is_break
 feeds_follow zero piece = refl
@@ -39,12 +44,12 @@ module _ (quote : ℕ) (t : Tok) (body : List ℕ) (n : ℕ) where
   abbrev piece : List ℕ
   piece = quote ∷ (body ++ quote ∷ [])
 
-  scalar_reads : act_of t ≡ gives_node → begun_by t ≡ [] → IsShown first_account (site_of first_account (step_of [] piece t false) (replicate n 10)) (step_of [] piece t false) (replicate n 10)
+  scalar_reads : act_of t ≡ gives_node → begun_by t ≡ [] → HasNone piece → IsShown first_account (site_of first_account (step_of [] piece t false) (replicate n 10)) (step_of [] piece t false) (replicate n 10)
       → further_lines_stand (least_for t (site_of first_account (step_of [] piece t false) (replicate n 10))) t piece ≡ true → may_precede false [] t piece (replicate n 10) ≡ true
       → Reads first_account (piece ++ replicate n 10) (t ∷ Tok.stream_end ∷ [])
-  scalar_reads node none shown further follows =
-      let first = node_step [] [] piece (replicate n 10) t node outside first_position false free refl (omega arith) (record { separates = λ r. refl; tabless = λ awaits. refl }) shown further follows in
-      step (step_of [] piece t false) (replicate n 10) first (rw none (read_end _ [] _ (previous_by t) taken (replicate n 10) refl (feeds_end n)))
+  scalar_reads node none clean shown further follows =
+      let first = node_step [] [] piece (replicate n 10) t node outside first_position false free refl (omega arith) (record { separates = λ r. refl; tabless = λ awaits. refl; none = refl }) clean shown further follows in
+      step (step_of [] piece t false) (replicate n 10) first (rw none (read_end _ [] _ (previous_by t) taken (replicate n 10) refl (feeds_end n) (feeds_none n)))
 
 no_quote : (n : ℕ) → begins_with 39 (replicate n 10) ≡ false
 no_quote zero = refl
@@ -55,8 +60,8 @@ pub quoted_reads : (quotes : Quotes) (body value : List ℕ) (n : ℕ) → body_
 quoted_reads laid.single body value n h =
     let z = parts true body value h in
     rw (← append_assoc (39 ∷ body) (39 ∷ []) (replicate n 10))
-    (scalar_reads 39 (Tok.scalar (style_of laid.single) value) body n refl refl (refl, ((body, refl, h, no_quote n), refl)) (fits single_quoted_element 39 body z.all z.are) (feeds_follow n (39 ∷ (body ++ 39 ∷ []))))
+    (scalar_reads 39 (Tok.scalar (style_of laid.single) value) body n refl refl (quoted_none laid.single body value h) (refl, ((body, refl, h, no_quote n), refl)) (fits single_quoted_element 39 body z.all z.are) (feeds_follow n (39 ∷ (body ++ 39 ∷ []))))
 quoted_reads laid.double body value n h =
     let z = parts false body value h in
     rw (← append_assoc (34 ∷ body) (34 ∷ []) (replicate n 10))
-    (scalar_reads 34 (Tok.scalar (style_of laid.double) value) body n refl refl (refl, ((body, refl, h), refl)) (fits double_quoted_element 34 body z.all z.are) (feeds_follow n (34 ∷ (body ++ 34 ∷ []))))
+    (scalar_reads 34 (Tok.scalar (style_of laid.double) value) body n refl refl (quoted_none laid.double body value h) (refl, ((body, refl, h), refl)) (fits double_quoted_element 34 body z.all z.are) (feeds_follow n (34 ∷ (body ++ 34 ∷ []))))

@@ -7,6 +7,7 @@ use Rattle.proof_layout_tokens.proofs.Rows.Gaps.{Ends}
 use Rattle.proof_layout_tokens.proofs.Rows.Nodes.{or_true, Quiet}
 use Rattle.proof_layout_tokens.proofs.Rows.Blocks.{Here}
 use Rattle.proof_layout_tokens.proofs.Rows.Texts.{ended}
+use Rattle.proof_layout_tokens.proofs.Nul.{HasNone, both, text_none, spaces_none}
 
 -- a gap, and at a column of the next line the rest; a gap, and the `---` of a next document with the rest; or a gap up to the end
 pub data Trail : Type 0 where
@@ -46,7 +47,7 @@ AllEnd t (n ∷ ns) = EndsAt t n × AllEnd t ns
 abbrev pub Arrives : Trail → Position → Previous → Line → (separation : List ℕ) → Type 0
 Arrives (next g d r) p before l f = Here d r p before l f
 Arrives (marker g r) p before l f = Here 0 (marker_text r) p before l f
-Arrives (end g) p before l f = (is_separation false f [] ≡ true) × (is_waiting l ≡ false)
+Arrives (end g) p before l f = (is_separation false f [] ≡ true) × (is_waiting l ≡ false) × HasNone f
 
 abbrev pub rest_of : Trail → List ℕ
 rest_of (next g d r) = r
@@ -111,6 +112,18 @@ unfolding is_break is_blank
 end_separates no_comment g h gap = ending_separates g gap
 end_separates (comment more text) [] h gap = spaces_separate more (35 ∷ (text ++ [])) [] ∙ over_comment text [] [] h
 end_separates (comment more text) (l ∷ g) h gap = spaces_separate more (35 ∷ (text ++ spell_ending (l ∷ g) [])) [] ∙ over_comment text (spell_ending (l ∷ g) []) [] h ∙ ending_separates (l ∷ g) gap
+
+-- they have no NUL
+pub gap_none : (g : List GapLine) (a : List ℕ) → IsGap g → HasNone a → HasNone (spell_gap g a)
+gap_none [] a h n = n
+gap_none (l ∷ g) a h n = grind (arith, both, text_none, gap_none g a)
+
+comment_none : (k : Comment) (a : List ℕ) → IsComment k → HasNone a → HasNone (spell_comment k a)
+comment_none k a h n = grind (arith, spaces_none, both, text_none)
+
+pub ending_none : (g : List GapLine) → IsGap g → HasNone (spell_ending g [])
+ending_none [] h = refl
+ending_none (l ∷ g) h = grind (arith, both, text_none, ending_none g)
 
 -- ---- the last line
 
@@ -207,6 +220,7 @@ here_after k g n r p before l remark gap quiet line =
       tabless = λ m. rw (text, last_past (spell_comment k []) x, gap_last g n) (no_tab m n);
       line = rw (quiet (spell_comment k (10 ∷ x)), text, has_break_at (spell_comment k []) x) (line_free l line);
       column = rw (text, z.1) (gap_column g n r z.0 z.2);
+      none = comment_none k (10 ∷ x) remark (gap_none g (spaces n []) gap (spaces_none n [] refl));
     }
 
 pub gap_text : (k : Comment) (g : List GapLine) (n : ℕ) (r : List ℕ) → line_gap k g n ++ r ≡ spell_comment k (next_line n g r)
@@ -216,7 +230,7 @@ gap_text k g n r = comment_is k (10 ∷ spell_gap g (spaces n [])) r ∙ ap (λ 
 pub arrive : (k : Comment) (t : Trail) (bs : List ℕ) (tokens : List Tok) (p : Position) (awaits : Bool) (before : Previous) (l : Line) → IsComment k → IsTrail t → Quiet before → is_waiting l ≡ false → After t bs tokens → Reads (at p bs awaits before l []) (spell_comment k (trail_text t)) tokens
 arrive k (next g d r) bs tokens p awaits before l remark trail quiet line rest = rw (← gap_text k g d r) (rest [] p awaits before l (line_gap k g d) tt (here_after k g d r p before l remark trail.0 quiet line))
 arrive k (marker g r) bs tokens p awaits before l remark trail quiet line rest = rw (← gap_text k g 0 (marker_text r)) (rest [] p awaits before l (line_gap k g 0) tt (here_after k g 0 (marker_text r) p before l remark trail quiet line))
-arrive k (end g) bs tokens p awaits before l remark trail quiet line rest = rw (← append-nil (spell_comment k (spell_ending g []))) (rest [] p awaits before l (spell_comment k (spell_ending g [])) tt (end_separates k g remark trail, line))
+arrive k (end g) bs tokens p awaits before l remark trail quiet line rest = rw (← append-nil (spell_comment k (spell_ending g []))) (rest [] p awaits before l (spell_comment k (spell_ending g [])) tt (end_separates k g remark trail, line, comment_none k (spell_ending g []) remark (ending_none g trail)))
 
 -- ---- what a scalar ends before
 

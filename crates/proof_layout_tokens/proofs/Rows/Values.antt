@@ -22,7 +22,8 @@ use Rattle.proof_layout_tokens.proofs.Rows.Plain.{plain_char, first_char}
 use Rattle.proof_layout_tokens.proofs.LiteralTexts.{strips_of, headed_literal, literal_lines}
 use Rattle.proof_layout_tokens.proofs.BlockLines.{block_text}
 use Rattle.proof_layout_tokens.proofs.Rows.BlockScalars.{nested_follows, block_is_read}
-use Rattle.proof_layout_tokens.proofs.Rows.Leaves.{Lead, scalar_reads, piece_of, piece_spelt, scalar_node, scalar_no_break, scalar_further, scalar_precedes, scalar_shown}
+use Rattle.proof_layout_tokens.proofs.Rows.Leaves.{Lead, scalar_reads, piece_of, piece_spelt, scalar_node, scalar_no_break, scalar_none, scalar_further, scalar_precedes, scalar_shown}
+use Rattle.proof_layout_tokens.proofs.Nul.{HasNone, of_class, spaces_none}
 
 -- ---- what stands on one line
 
@@ -110,7 +111,7 @@ opens_below (comment more text) g n a remark gap z =
 
 lead_beside : (c : ℕ) (bs : List ℕ) (more : ℕ) (p : Position) → suc c ≤ p.col → Lead (c ∷ bs) p (32 ∷ spaces more [])
 lead_beside c bs more p deep = record {
-  parts = record { separates = λ r. spaces_separate (suc more) [] r; tabless = λ awaits. rw (last_line, spaces_line (suc more)) (no_tab (least_column (c ∷ bs) awaits) (suc more)) };
+  parts = record { separates = λ r. spaces_separate (suc more) [] r; tabless = λ awaits. rw (last_line, spaces_line (suc more)) (no_tab (least_column (c ∷ bs) awaits) (suc more)); none = spaces_none more [] refl };
   deep = λ r. let z = spaces_column (suc more) r p in omega (arith, deep, z);
 }
 
@@ -121,6 +122,7 @@ here_beside n more r p h = record {
   tabless = λ m. rw (last_line, spaces_line (suc more)) (no_tab m (suc more));
   line = by (has_break (32 ∷ spaces more []));
   column = let z = spaces_column (suc more) r p in omega (arith, z, h);
+  none = spaces_none more [] refl;
 }
   where
     by : (b : Bool) → line_past_separation false b free ≡ Some free
@@ -279,9 +281,9 @@ names (c ∷ name) h =
     let r = names name q.1 in
     (and_from _ _ z.0 r.0, rw (z.1) (r.1))
 
-a_name : (name : List ℕ) → is_name name ≡ true → (piece.is_name name ≡ true) × (has_no_break name ≡ true)
+a_name : (name : List ℕ) → is_name name ≡ true → (piece.is_name name ≡ true) × (has_no_break name ≡ true) × HasNone name
 a_name [] h = cc
-a_name (c ∷ name) h = names (c ∷ name) h
+a_name (c ∷ name) h = let z = names (c ∷ name) h in (z.0, z.1, of_class is_ascii_alphanumeric refl (c ∷ name) h)
 
 -- an indicator and a name
 module _ (c : ℕ) (bs : List ℕ) (more : ℕ) (name r : List ℕ) (tokens : List Tok) (p : Position) (awaits : Bool) (l : Line) (is : is_name name ≡ true) (ends : goes_on_with_name r ≡ false) (line : is_waiting l ≡ false) (deep : suc c ≤ p.col) (rest : (q : Position) (waits : Bool) → suc c ≤ q.col → Reads (at q (c ∷ bs) waits another taken []) r tokens) where
@@ -290,14 +292,14 @@ module _ (c : ℕ) (bs : List ℕ) (more : ℕ) (name r : List ℕ) (tokens : Li
   anchor_reads =
       let lead = lead_beside c bs more p deep in
       rw (← beside_text more (38 ∷ (name ++ r)))
-      (node_goes (c ∷ bs) (Tok.anchor name) (38 ∷ name) refl (a_name name is).1 outside p awaits l (32 ∷ spaces more []) r tokens line lead.parts (lead.deep _) (refl, ((refl, (a_name name is).0, ends), refl)) (λ column. refl) refl rest)
+      (node_goes (c ∷ bs) (Tok.anchor name) (38 ∷ name) refl (a_name name is).1 (a_name name is).2 outside p awaits l (32 ∷ spaces more []) r tokens line lead.parts (lead.deep _) (refl, ((refl, (a_name name is).0, ends), refl)) (λ column. refl) refl rest)
 
   name_alias_reads : Reads (at p (c ∷ bs) awaits another l []) (32 ∷ spaces more (42 ∷ (name ++ r))) (Tok.alias name ∷ tokens)
   unfolding is_break
   name_alias_reads =
       let lead = lead_beside c bs more p deep in
       rw (← beside_text more (42 ∷ (name ++ r)))
-      (node_goes (c ∷ bs) (Tok.alias name) (42 ∷ name) refl (a_name name is).1 outside p awaits l (32 ∷ spaces more []) r tokens line lead.parts (lead.deep _) (refl, ((refl, (a_name name is).0, ends), refl)) (λ column. refl) refl rest)
+      (node_goes (c ∷ bs) (Tok.alias name) (42 ∷ name) refl (a_name name is).1 (a_name name is).2 outside p awaits l (32 ∷ spaces more []) r tokens line lead.parts (lead.deep _) (refl, ((refl, (a_name name is).0, ends), refl)) (λ column. refl) refl rest)
 
 trail_no_name : (t : Trail) → goes_on_with_name (trail_text t) ≡ false
 unfolding is_anchor_name is_blank_or_end is_blank is_break
@@ -356,7 +358,7 @@ implicit_reads c a k v key may h one is_open extra bs t tokens p awaits before l
     let column = spot.column in
     let short : length w ≤ 1024 = rw (append-nil w) at rw (piece_spelt k []) at key.1 in
     rw (piece_spelt k (58 ∷ r))
-    (key_reads is_open c extra bs p awaits before l f w (scalar_token k) r (value_tokens v tokens) all begin z.node z.none (z.quiet []) one_line short
+    (key_reads is_open c extra bs p awaits before l f w (scalar_token k) r (value_tokens v tokens) all begin z.node z.none (z.quiet []) one_line (scalar_none k key.0) short
     (scalar_shown k key.0 p (extra ++ stood is_open c bs) awaits before l f true (58 ∷ r) (stood is_open c bs) (rw column (left_open c extra (stood is_open c bs) all (stands is_open c bs begin))) (rw (o.gap) refl) refl)
     (scalar_further k key.0) (scalar_precedes k (stood is_open c bs) (58 ∷ r) (rw one_line refl)) o.gap o.colon spot (λ q deep. one bs t tokens q true taken trail low refl deep (inr may) rest))
 
