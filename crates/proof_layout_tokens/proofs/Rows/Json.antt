@@ -4,10 +4,9 @@ use Rattle.defs_token.specs.Key.{Line}
 use Rattle.defs_token.specs.RowAccount as accounts
 use Rattle.defs_layout.specs.Json.{number}
 use Rattle.defs_layout.specs.JsonGap.{spell_gap}
-use Rattle.proof_layout_tokens.proofs.Json.Words.{is_word, are_words, begins_word, IsWord}
 use Rattle.proof_layout_tokens.proofs.Json.Numbers.{number_then, number_word}
 use Rattle.proof_layout_tokens.proofs.Json.OnOneLine.{HasSpaces, HaveSpaces, MembersHaveSpaces}
-use Rattle.proof_layout_tokens.proofs.PlainTexts.{is_plain_char, are_plain, closes, IsPlainText, is_first, is_second}
+use Rattle.proof_layout_tokens.proofs.PlainTexts.{is_word, are_words, IsWord, word_text}
 use Rattle.proof_layout_tokens.proofs.Rows.Steps.{Reads, at, step_of, site_of, step}
 use Rattle.proof_layout_tokens.proofs.Rows.Nodes.{IsDeep, none_ends, Parts, Quiet, Place, outside, within, awaiting, entries_before, entries_after, line_after, node_step}
 use Rattle.proof_layout_tokens.proofs.Rows.Flow.{opening, closing, opening_bracket, closing_bracket, entry_of, close_at, comma_at, key_at, colon_at}
@@ -20,34 +19,10 @@ use Rattle.defs_layout.specs.QuotedText as laid
 
 -- ---- words and numbers
 
-word_plain : (c : ℕ) → is_word c ≡ true → (is_plain_char c ≡ true) × (is_in_flow c ≡ true) × ((c == 32) ≡ false)
+words_flow : (w : List ℕ) → are_words w ≡ true → list_all is_in_flow w ≡ true
 unfolding is_flow
-word_plain c h = (grind (arith, nat_tests), grind (arith, nat_tests), grind (arith, nat_tests))
-
-word_first : (c : ℕ) → is_word c ≡ true → (c == 46) ≡ false → is_first c ≡ true
-word_first c h e = grind (arith, nat_tests)
-
-words_plain : (w : List ℕ) → are_words w ≡ true → (are_plain w ≡ true) × (list_all is_in_flow w ≡ true) × (closes false w ≡ true)
-words_plain [] h = (refl, refl, refl)
-words_plain (c ∷ w) h =
-    let q = and_parts (is_word c) (are_words w) h in
-    let z = word_plain c q.0 in
-    let r = words_plain w q.1 in
-    (and_from _ _ z.0 r.0, and_from _ _ z.1 r.1, rw (z.2) (r.2))
-
-word_text : (w : List ℕ) → IsWord w → IsPlainText w
-word_text [] word = cc (word.begins)
-word_text (c ∷ w) word =
-    let q = and_parts (is_word c) (are_words w) word.chars in
-    let r = words_plain w q.1 in
-    let s = second w word.chars word.begins in
-    record { head = c; tail = w; whole = refl; first = word_first c q.0 s.0; second = s.1; chars = r.0; close = r.2 }
-  where
-    second : (w : List ℕ) → are_words (c ∷ w) ≡ true → begins_word (c ∷ w) ≡ true → ((c == 46) ≡ false) × (is_second c w ≡ true)
-    second a h e = grind arith
-
-word_flows : (in_flow : Bool) (w : List ℕ) → IsWord w → MayFlow in_flow w
-word_flows in_flow w word = λ e. (words_plain w word.chars).1
+words_flow [] h = refl
+words_flow (c ∷ w) h = let q = and_parts (is_word c) (are_words w) h in and_from _ _ (let e = q.0 in grind (arith, nat_tests)) (words_flow w q.1)
 
 -- ---- what a value begins with
 
@@ -110,7 +85,7 @@ module _ (bs : List ℕ) where
   word_reads : (w : List ℕ) → IsWord w → (pl : Place) (p : Position) (awaits : Bool) (l : Line) (g : List Blank) (r : List ℕ) (tokens : List Tok) → is_waiting l ≡ false → IsDeep bs p → MayStand bs g → Ends (flows pl) (innermost bs) r
       → Then bs (line_after pl l) (entries_after pl []) r tokens → Reads (from p awaits l (entries_before pl)) (spell_gap g (w ++ r)) (Tok.scalar Style.plain w ∷ tokens)
   word_reads w word pl p awaits l g r tokens line deep may ends rest =
-      let z = plain_piece (flows pl) (innermost bs) w r (word_text w word) (word_flows (flows pl) w word) ends.stopped in
+      let z = plain_piece (flows pl) (innermost bs) w r (word_text w word) (λ e. words_flow w word.chars) ends.stopped in
       node_reads (Tok.scalar Style.plain w) w refl z.no_break z.none pl p awaits l g r tokens line deep may (λ there. plain_shown pl p awaits l (white g) w r there z) z.fits (rw (z.no_dash) refl) (λ p awaits. rest p awaits plain_scalar (λ f. refl))
 
   string_reads : (ps : List Piece) → are_pieces ps ≡ true → (pl : Place) (p : Position) (awaits : Bool) (l : Line) (g : List Blank) (r : List ℕ) (tokens : List Tok) → is_waiting l ≡ false → IsDeep bs p → MayStand bs g → Ends (flows pl) (innermost bs) r

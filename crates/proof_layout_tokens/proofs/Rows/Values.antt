@@ -231,11 +231,7 @@ collection_reads : (c : ℕ) (spells : List ℕ → List ℕ) (collection : Tok)
 collection_reads c spells collection gives one bs t tokens p awaits before l f deep trail ends here rest =
     one false [] bs t (Tok.block_end ∷ tokens) p awaits before l f tt (λ e. deep) trail (low_at t c bs ends) here (Trails.one_more t c bs tokens ends rest)
 
--- ---- values on the line
-
-beside_reads : (c more : ℕ) (v : Inline) (k : Comment) → IsInline v → IsComment k → ReadsValue c (Value.beside more v k)
-beside_reads c more v k h remark bs t tokens p awaits l trail low line deep fits rest =
-    rw (← beside_text more (spell_inline v (spell_comment k (trail_text t)))) (inline_reads k t (c ∷ bs) tokens p awaits l (32 ∷ spaces more []) remark trail low line (lead_beside c bs more p deep) rest v h)
+-- ---- spaces as white space of JSON
 
 blanks_are : (n : ℕ) (r : List ℕ) → JsonGap.spell_gap (replicate n Blank.space) r ≡ spaces n r
 blanks_are zero r = refl
@@ -244,28 +240,6 @@ blanks_are (suc n) r = ap (λ x. 32 ∷ x) (blanks_are n r)
 are_spaces : (n : ℕ) → AreSpaces (replicate n Blank.space)
 are_spaces zero = tt
 are_spaces (suc n) = are_spaces n
-
-json_reads : (c more : ℕ) (v : Json) → IsJsonOnOneLine v → ReadsValue c (Value.json more v)
-json_reads c more v h bs t tokens p awaits l trail low line deep fits rest =
-    rw (← blanks_are (suc more) (Json.spell v (trail_text t)))
-    (value_reads (c ∷ bs) v h.1 (λ e. (json_spaces v [] h.3).0) outside p awaits l (replicate (suc more) Blank.space) (trail_text t) tokens line deep (λ e. are_spaces (suc more)) (trail_ends no_comment t (c ∷ bs) trail low) (let few = h.2 in omega (arith, few))
-    (λ q waits before quiet deep. arrive no_comment t (c ∷ bs) tokens q waits before taken tt trail quiet refl rest))
-
-compact_reads : (c more : ℕ) (b : Block) → ReadsBlock (c + 2 + more) b → ReadsValue c (Value.compact more b)
-compact_reads c more b one bs t tokens p awaits l trail low line deep (inl (col, is_free)) rest =
-    rw (← beside_text more (spell_block (c + 2 + more) b (trail_text t)), is_free)
-    (one (c ∷ bs) t tokens p awaits another free (32 ∷ spaces more []) (omega arith) trail (ends_deeper t c (c + 2 + more) bs low (omega arith)) (here_beside (c + 2 + more) more _ p (omega (arith, col))) rest)
-compact_reads c more b one bs t tokens p awaits l trail low line deep (inr none) rest = absurd none
-
-below_reads : (c : ℕ) (k : Comment) (g : List GapLine) (n : ℕ) (b : Block) → IsComment k → IsGap g → c < n → ReadsBlock n b → ReadsValue c (layout.below k g n b)
-below_reads c k g n b remark gap higher one bs t tokens p awaits l trail low line deep fits rest =
-    rw (← gap_text k g n (spell_block n b (trail_text t)))
-    (one (c ∷ bs) t tokens p awaits another l (line_gap k g n) (omega (arith, higher)) trail (ends_deeper t c n bs low higher) (here_after k g n _ p another l remark gap (λ f. refl) line) rest)
-
-at_key_reads : (c : ℕ) (k : Comment) (g : List GapLine) (es : Entries) → IsComment k → IsGap g → ReadsEntries c es → ReadsValue c (Value.at_key k g es)
-at_key_reads c k g es remark gap one bs t tokens p awaits l trail low line deep fits rest =
-    rw (← gap_text k g c (spell_entries c es (trail_text t)))
-    (one true [] bs t tokens p awaits another l (line_gap k g c) tt (λ e. cc) trail low (here_after k g c _ p another l remark gap (λ f. refl) line) rest)
 
 -- ---- anchors and aliases
 
@@ -308,14 +282,6 @@ trail_no_name (marker g r) = refl
 trail_no_name (end []) = refl
 trail_no_name (end (l ∷ g)) = refl
 
-alias_reads : (c more : ℕ) (name : List ℕ) (tree : Tree) → is_name name ≡ true → ReadsValue c (Value.alias more name tree)
-alias_reads c more name tree is bs t tokens p awaits l trail low line deep fits rest =
-    name_alias_reads c bs more name (trail_text t) tokens p awaits l is (trail_no_name t) line deep (λ q waits deeper. arrive no_comment t (c ∷ bs) tokens q waits another taken tt trail (λ f. refl) refl rest)
-
-anchored_reads : (c more : ℕ) (name : List ℕ) (a : List Anchor) (v : Value) → is_name name ≡ true → MayFollowScalarKey v → IsValue c a v → ReadsValue c v → ReadsValue c (Value.anchored more name v)
-anchored_reads c more name a v is may h one bs t tokens p awaits l trail low line deep fits rest =
-    anchor_reads c bs more name (spell_value c v (trail_text t)) (value_tokens v tokens) p awaits l is (value_opens c a v (trail_text t) h).no_name line deep (λ q waits deeper. one bs t tokens q waits taken trail low refl deeper (inr may) rest)
-
 -- ---- entries of arrays
 
 last_entry_reads : (c : ℕ) (a : List Anchor) (v : Value) → IsValue c a v → ReadsValue c v → ReadsEntries c (Entries.last_entry v)
@@ -331,74 +297,50 @@ then_reads c one_text all collection gives gives_all g gap begins one more is_op
     one is_open extra bs (next g c r) (gives_all tokens) p awaits before l f above_it begin (gap, begins (trail_text t)) (omega arith) here
     (λ more_extra q waits past m f2 ends there. more true more_extra bs t tokens q waits past m f2 (above g c r more_extra ends) (λ e. cc) trail low there rest)
 
--- ---- entries of hashes
-
-explicit_reads : (c : ℕ) (a b : List Anchor) (k : Value) (g : List GapLine) (v : Value) → IsValue c a k → IsGap g → IsValue c b v → ReadsValue c k → ReadsValue c v → ReadsField c (Field.explicit k g v)
-unfolding is_blank is_break is_nul
-explicit_reads c a b k g v key gap value one two is_open extra bs t tokens p awaits before l f all begin trail low here rest =
-    let r = 58 ∷ spell_value c v (trail_text t) in
-    let n = next g c r in
-    let o = value_opens c a k (trail_text n) key in
-    let w = value_opens c b v (trail_text t) value in
-    question_reads is_open c extra bs p awaits before l f (spell_value c k (trail_text n)) (value_tokens k (Tok.value ∷ value_tokens v tokens)) all begin o.space_or_break o.tabless here
-    (λ q waits col. one bs n (Tok.value ∷ value_tokens v tokens) q waits free (gap, content_first 58 _ refl refl refl refl) (omega arith) refl (omega (arith, col)) (inl (col, refl))
-    (λ more_extra q waits past m f2 ends there. colon_reads true c more_extra bs q waits past m f2 (spell_value c v (trail_text t)) (value_tokens v tokens) (above g c r more_extra ends) (λ e. cc) w.gap w.colon there
-    (λ q waits col. two bs t tokens q waits free trail low refl (omega (arith, col)) (inl (col, refl)) rest)))
-
--- a scalar key
-implicit_reads : (c : ℕ) (a : List Anchor) (k : Scalar) (v : Value) → IsImplicitKey k → MayFollowScalarKey v → IsValue c a v → ReadsValue c v → ReadsField c (Field.implicit k v)
-unfolding is_blank is_break is_nul
-implicit_reads c a k v key may h one is_open extra bs t tokens p awaits before l f all begin trail low here rest =
-    let r = spell_value c v (trail_text t) in
-    let w = piece_of k in
-    let o = value_opens c a v (trail_text t) h in
-    let z = scalar_node k in
-    let one_line = scalar_no_break k key.0 in
-    let spot : Here c (w ++ 58 ∷ r) p before l f = rw (piece_spelt k (58 ∷ r)) at here in
-    let column = spot.column in
-    let short : length w ≤ 1024 = rw (append-nil w) at rw (piece_spelt k []) at key.1 in
-    rw (piece_spelt k (58 ∷ r))
-    (key_reads is_open c extra bs p awaits before l f w (scalar_token k) r (value_tokens v tokens) all begin z.node z.none (z.quiet []) one_line (scalar_none k key.0) short
-    (scalar_shown k key.0 p (extra ++ stood is_open c bs) awaits before l f true (58 ∷ r) (stood is_open c bs) (rw column (left_open c extra (stood is_open c bs) all (stands is_open c bs begin))) (rw (o.gap) refl) refl)
-    (scalar_further k key.0) (scalar_precedes k (stood is_open c bs) (58 ∷ r) (rw one_line refl)) o.gap o.colon spot (λ q deep. one bs t tokens q true taken trail low refl deep (inr may) rest))
-
 anchored_follows : (v : Value) → MayBeAnchored v → MayFollowScalarKey v
 anchored_follows v h = grind arith
-
--- ---- literal and folded blocks
-
-literal_reads : (c more column : ℕ) (text : List ℕ) (ls : List BlockLine) → c < column → is_literal_text text ≡ true → AreLinesOf text column ls → ReadsValue c (Value.literal more column text ls)
-literal_reads c more column text ls higher one are bs t tokens p awaits l trail low line deep fits rest =
-    let lead = lead_beside c bs more p deep in
-    rw (headed_literal text (spell_lines column ls (trail_text t)), ← beside_text more (block_text BlockStyle.literal (strips_of text) (spell_lines column ls (trail_text t))))
-    (block_is_read BlockStyle.literal (suc c) column (strips_of text) text ls higher (literal_lines c column text ls higher one are) (c ∷ bs) refl tokens p awaits l (32 ∷ spaces more []) line lead.parts lead.deep t trail (nested_follows c column bs t higher trail low) rest)
 
 headed : (strips : Bool) (r : List ℕ) → folded_header strips ++ r ≡ block_text BlockStyle.folded strips r
 headed strips r = grind arith
 
-folded_reads : (c more column : ℕ) (strips : Bool) (text : List ℕ) (ls : List BlockLine) → c < column → AreFoldedLines c column strips text ls → ReadsValue c (Value.folded more column strips text ls)
-folded_reads c more column strips text ls higher are bs t tokens p awaits l trail low line deep fits rest =
-    let lead = lead_beside c bs more p deep in
-    rw (headed strips (spell_lines column ls (trail_text t)), ← beside_text more (block_text BlockStyle.folded strips (spell_lines column ls (trail_text t))))
-    (block_is_read BlockStyle.folded (suc c) column strips text ls higher are (c ∷ bs) refl tokens p awaits l (32 ∷ spaces more []) line lead.parts lead.deep t trail (nested_follows c column bs t higher trail low) rest)
-
 -- ---- all of them
 
 mutual
+  unfolding is_blank is_break is_nul
+
   pub block_reads : (c : ℕ) (a : List Anchor) (b : Block) → IsBlock c a b → ReadsBlock c b
   block_reads c a (Block.array es) h = collection_reads c (spell_entries c es) Tok.block_sequence_start (entry_tokens es) (entries_read c a es h)
   block_reads c a (Block.hash fs) h = collection_reads c (spell_fields c fs) Tok.block_mapping_start (all_field_tokens fs) (fields_read c a fs h.0)
 
   read_value : (c : ℕ) (a : List Anchor) (v : Value) → IsValue c a v → ReadsValue c v
-  read_value c a (Value.beside more i k) h = beside_reads c more i k h.0 h.1
-  read_value c a (Value.literal more column text ls) h = literal_reads c more column text ls h.0 h.1 h.2
-  read_value c a (Value.folded more column strips text ls) h = folded_reads c more column strips text ls h.0 h.1
-  read_value c a (Value.json more v) h = json_reads c more v h
-  read_value c a (Value.compact more b) h = compact_reads c more b (block_reads (c + 2 + more) a b h)
-  read_value c a (layout.below k g column b) h = below_reads c k g column b h.0 h.1 h.2 (block_reads column a b h.3)
-  read_value c a (Value.at_key k g es) h = at_key_reads c k g es h.0 h.1 (entries_read c a es h.2)
-  read_value c a (Value.anchored more name v) h = anchored_reads c more name (begun name ∷ a) v h.0 (anchored_follows v h.1) h.2 (read_value c (begun name ∷ a) v h.2)
-  read_value c a (Value.alias more name t) h = alias_reads c more name t h.0
+  read_value c a (Value.beside more v k) h bs t tokens p awaits l trail low line deep fits rest =
+      rw (← beside_text more (spell_inline v (spell_comment k (trail_text t)))) (inline_reads k t (c ∷ bs) tokens p awaits l (32 ∷ spaces more []) h.1 trail low line (lead_beside c bs more p deep) rest v h.0)
+  read_value c a (Value.literal more column text ls) h bs t tokens p awaits l trail low line deep fits rest =
+      let lead = lead_beside c bs more p deep in
+      rw (headed_literal text (spell_lines column ls (trail_text t)), ← beside_text more (block_text BlockStyle.literal (strips_of text) (spell_lines column ls (trail_text t))))
+      (block_is_read BlockStyle.literal (suc c) column (strips_of text) text ls h.0 (literal_lines c column text ls h.0 h.1 h.2) (c ∷ bs) refl tokens p awaits l (32 ∷ spaces more []) line lead.parts lead.deep t trail (nested_follows c column bs t h.0 trail low) rest)
+  read_value c a (Value.folded more column strips text ls) h bs t tokens p awaits l trail low line deep fits rest =
+      let lead = lead_beside c bs more p deep in
+      rw (headed strips (spell_lines column ls (trail_text t)), ← beside_text more (block_text BlockStyle.folded strips (spell_lines column ls (trail_text t))))
+      (block_is_read BlockStyle.folded (suc c) column strips text ls h.0 h.1 (c ∷ bs) refl tokens p awaits l (32 ∷ spaces more []) line lead.parts lead.deep t trail (nested_follows c column bs t h.0 trail low) rest)
+  read_value c a (Value.json more v) h bs t tokens p awaits l trail low line deep fits rest =
+      rw (← blanks_are (suc more) (Json.spell v (trail_text t)))
+      (value_reads (c ∷ bs) v h.1 (λ e. (json_spaces v [] h.3).0) outside p awaits l (replicate (suc more) Blank.space) (trail_text t) tokens line deep (λ e. are_spaces (suc more)) (trail_ends no_comment t (c ∷ bs) trail low) (let few = h.2 in omega (arith, few))
+      (λ q waits before quiet deep. arrive no_comment t (c ∷ bs) tokens q waits before taken tt trail quiet refl rest))
+  read_value c a (Value.compact more b) h bs t tokens p awaits l trail low line deep (inl (col, is_free)) rest =
+      rw (← beside_text more (spell_block (c + 2 + more) b (trail_text t)), is_free)
+      (block_reads (c + 2 + more) a b h (c ∷ bs) t tokens p awaits another free (32 ∷ spaces more []) (omega arith) trail (ends_deeper t c (c + 2 + more) bs low (omega arith)) (here_beside (c + 2 + more) more _ p (omega (arith, col))) rest)
+  read_value c a (Value.compact more b) h bs t tokens p awaits l trail low line deep (inr none) rest = absurd none
+  read_value c a (layout.below k g n b) h bs t tokens p awaits l trail low line deep fits rest =
+      rw (← gap_text k g n (spell_block n b (trail_text t)))
+      (block_reads n a b h.3 (c ∷ bs) t tokens p awaits another l (line_gap k g n) (omega (arith, h.2)) trail (ends_deeper t c n bs low h.2) (here_after k g n _ p another l h.0 h.1 (λ f. refl) line) rest)
+  read_value c a (Value.at_key k g es) h bs t tokens p awaits l trail low line deep fits rest =
+      rw (← gap_text k g c (spell_entries c es (trail_text t)))
+      (entries_read c a es h.2 true [] bs t tokens p awaits another l (line_gap k g c) tt (λ e. cc) trail low (here_after k g c _ p another l h.0 h.1 (λ f. refl) line) rest)
+  read_value c a (Value.anchored more name v) h bs t tokens p awaits l trail low line deep fits rest =
+      anchor_reads c bs more name (spell_value c v (trail_text t)) (value_tokens v tokens) p awaits l h.0 (value_opens c (begun name ∷ a) v (trail_text t) h.2).no_name line deep (λ q waits deeper. read_value c (begun name ∷ a) v h.2 bs t tokens q waits taken trail low refl deeper (inr (anchored_follows v h.1)) rest)
+  read_value c a (Value.alias more name tree) h bs t tokens p awaits l trail low line deep fits rest =
+      name_alias_reads c bs more name (trail_text t) tokens p awaits l h.0 (trail_no_name t) line deep (λ q waits deeper. arrive no_comment t (c ∷ bs) tokens q waits another taken tt trail (λ f. refl) refl rest)
 
   entries_read : (c : ℕ) (a : List Anchor) (es : Entries) → AreEntries c a es → ReadsEntries c es
   entries_read c a (Entries.last_entry v) h = last_entry_reads c a v h.1 (read_value c a v h.1)
@@ -406,8 +348,28 @@ mutual
       then_reads c (spell_entries c (Entries.last_entry v)) (spell_entries c es) Tok.block_sequence_start (entry_tokens (Entries.last_entry v)) (entry_tokens es) g h.2 (entries_begin c es) (last_entry_reads c a v h.1 (read_value c a v h.1)) (entries_read c (anchors_after v a) es h.3)
 
   field_read : (c : ℕ) (a : List Anchor) (f : Field) → IsField c a f → ReadsField c f
-  field_read c a (Field.implicit k v) h = implicit_reads c a k v h.0 h.1 h.2 (read_value c a v h.2)
-  field_read c a (Field.explicit k g v) h = explicit_reads c a (anchors_after k a) k g v h.1 h.2 h.4 (read_value c a k h.1) (read_value c (anchors_after k a) v h.4)
+  field_read c a (Field.implicit k v) h is_open extra bs t tokens p awaits before l f all begin trail low here rest =
+      let r = spell_value c v (trail_text t) in
+      let w = piece_of k in
+      let o = value_opens c a v (trail_text t) h.2 in
+      let z = scalar_node k in
+      let one_line = scalar_no_break k h.0.0 in
+      let spot : Here c (w ++ 58 ∷ r) p before l f = rw (piece_spelt k (58 ∷ r)) at here in
+      let column = spot.column in
+      let short : length w ≤ 1024 = rw (append-nil w) at rw (piece_spelt k []) at h.0.1 in
+      rw (piece_spelt k (58 ∷ r))
+      (key_reads is_open c extra bs p awaits before l f w (scalar_token k) r (value_tokens v tokens) all begin z.node z.none (z.quiet []) one_line (scalar_none k h.0.0) short
+      (scalar_shown k h.0.0 p (extra ++ stood is_open c bs) awaits before l f true (58 ∷ r) (stood is_open c bs) (rw column (left_open c extra (stood is_open c bs) all (stands is_open c bs begin))) (rw (o.gap) refl) refl)
+      (scalar_further k h.0.0) (scalar_precedes k (stood is_open c bs) (58 ∷ r) (rw one_line refl)) o.gap o.colon spot (λ q deep. read_value c a v h.2 bs t tokens q true taken trail low refl deep (inr h.1) rest))
+  field_read c a (Field.explicit k g v) h is_open extra bs t tokens p awaits before l f all begin trail low here rest =
+      let r = 58 ∷ spell_value c v (trail_text t) in
+      let n = next g c r in
+      let o = value_opens c a k (trail_text n) h.1 in
+      let w = value_opens c (anchors_after k a) v (trail_text t) h.4 in
+      question_reads is_open c extra bs p awaits before l f (spell_value c k (trail_text n)) (value_tokens k (Tok.value ∷ value_tokens v tokens)) all begin o.space_or_break o.tabless here
+      (λ q waits col. read_value c a k h.1 bs n (Tok.value ∷ value_tokens v tokens) q waits free (h.2, content_first 58 _ refl refl refl refl) (omega arith) refl (omega (arith, col)) (inl (col, refl))
+      (λ more_extra q waits past m f2 ends there. colon_reads true c more_extra bs q waits past m f2 (spell_value c v (trail_text t)) (value_tokens v tokens) (above g c r more_extra ends) (λ e. cc) w.gap w.colon there
+      (λ q waits col. read_value c (anchors_after k a) v h.4 bs t tokens q waits free trail low refl (omega (arith, col)) (inl (col, refl)) rest)))
 
   fields_read : (c : ℕ) (a : List Anchor) (fs : Fields) → AreFields c a fs → ReadsFields c fs
   fields_read c a (Fields.last_field f) h = field_read c a f h
