@@ -83,13 +83,10 @@ first_space c h = grind (arith, nat_tests)
 
 -- ---- strings
 
-fit_char : (c : ℕ) → is_unfit_for_plain c ≡ false → is_plain_char c ≡ true
-unfolding is_unfit_for_plain
-fit_char c h = grind (arith, nat_tests)
-
 fit_chars : (w : List ℕ) → list_any is_unfit_for_plain w ≡ false → are_plain w ≡ true
+unfolding is_unfit_for_plain
 fit_chars [] h = refl
-fit_chars (c ∷ w) h = let q = or_parts (is_unfit_for_plain c) (list_any is_unfit_for_plain w) h in and_from _ _ (fit_char c q.0) (fit_chars w q.1)
+fit_chars (c ∷ w) h = let q = or_parts (is_unfit_for_plain c) (list_any is_unfit_for_plain w) h in and_from _ _ (grind (arith, nat_tests)) (fit_chars w q.1)
 
 no_last_space : (c : ℕ) (w : List ℕ) → ends_with nat_eq (c ∷ w) (codes " ") ≡ false → closes (c == 32) w ≡ true
 no_last_space c [] h = let e : (32 == c) ≡ false = cc (ends_with-one 32 c, h) in grind (arith, nat_tests)
@@ -135,12 +132,9 @@ numeral_plain (d ∷ ds) h =
     let range : (48 ≤ d) × (d ≤ 57) = digit_from_value d h.1.0 in
     word_text (d ∷ ds) (record { chars = digits_words (d ∷ ds) h.1; begins = second_fits d ds (ne_eqb d 45 (λ e. omega arith)) (ne_eqb d 46 (λ e. omega arith)) })
 
-digit_second : (d : ℕ) (ds : List ℕ) → 48 ≤ d → is_second 45 (d ∷ ds) ≡ true
-digit_second d ds h = rw (ne_eqb d 45 (λ e. omega arith), ne_eqb d 32 (λ e. omega arith)) refl
-
 negative_plain : (ds : List ℕ) → IsNumeral 10 ds → IsPlainText (45 ∷ ds)
 negative_plain [] h = absurd (omega (arith, h.0))
-negative_plain (d ∷ ds) h = let range : (48 ≤ d) × (d ≤ 57) = digit_from_value d h.1.0 in word_text (45 ∷ d ∷ ds) (record { chars = digits_words (d ∷ ds) h.1; begins = digit_second d ds range.0 })
+negative_plain (d ∷ ds) h = let range : (48 ≤ d) × (d ≤ 57) = digit_from_value d h.1.0 in word_text (45 ∷ d ∷ ds) (record { chars = digits_words (d ∷ ds) h.1; begins = (rw (ne_eqb d 45 (λ e. omega arith), ne_eqb d 32 (λ e. omega arith)) refl) })
 
 integer_plain : (z : ℤ) → fits_i64 z ≡ true → IsPlainText (decimal_digits z)
 integer_plain (pos n) h = let small : n < 2 ^ 63 = ltb-true n (2 ^ 63) h in numeral_plain (decimal n) (decimal_is_IsNumeral n (omega arith)).0
@@ -155,15 +149,6 @@ real_words (c ∷ w) h = let q = and_parts (is_real_character c) (list_all is_re
 real_no_space : (c : ℕ) → is_real_character c ≡ true → (c == 32) ≡ false
 real_no_space c h = grind (arith, nat_tests)
 
--- no real is one of these
-lone_dash : is_real_text (45 ∷ []) ≡ false
-unfolding typing is_decimal
-lone_dash = refl
-
-lone_point : is_real_text (46 ∷ []) ≡ false
-unfolding typing is_decimal
-lone_point = refl
-
 two_dashes : (w : List ℕ) → is_real_text (45 ∷ 45 ∷ w) ≡ true → ⊥
 two_dashes w h = let z = real_text-cases (45 ∷ 45 ∷ w) h in let f = is_decimal-read (45 ∷ 45 ∷ w) in grind arith
 
@@ -177,7 +162,8 @@ not_double : (c d : ℕ) (w : List ℕ) (b : Bool) (x : ℕ) → ((c == x) && (d
 not_double c d w a x e f h = grind arith
 
 real_second : (c : ℕ) (w : List ℕ) → is_real_text (c ∷ w) ≡ true → list_all is_real_character w ≡ true → is_second c w ≡ true
-real_second c [] h e = rw (not_alone c (c == 45) 45 refl lone_dash h, not_alone c (c == 46) 46 refl lone_point h) refl
+unfolding typing is_decimal
+real_second c [] h e = rw (not_alone c (c == 45) 45 refl refl h, not_alone c (c == 46) 46 refl refl h) refl
 real_second c (d ∷ w) h e =
     let q = and_parts (is_real_character d) (list_all is_real_character w) e in
     rw (not_double c d w ((c == 45) && (d == 45)) 45 refl (two_dashes w) h, not_double c d w ((c == 46) && (d == 46)) 46 refl (two_points w) h, real_no_space d q.0, and_false (c == 45)) refl
@@ -191,14 +177,11 @@ real_plain (c ∷ w) h =
 
 -- ---- all of them
 
-boolean_plain : (b : Bool) → IsPlainText (spelling (boolean b))
-boolean_plain a = grind arith
-
 pub spelt_plain : (t : Tree) → IsPlain t → IsPlainText (spelling t)
 spelt_plain (real s) h = real_plain s h
 spelt_plain (integer z) h = integer_plain z h
 spelt_plain (string s) h = rw h (string_plain s h)
-spelt_plain (boolean b) h = boolean_plain b
+spelt_plain (boolean b) h = grind arith
 spelt_plain (array ts) h = absurd h
 spelt_plain (hash ps) h = absurd h
 spelt_plain (alias n) h = absurd h

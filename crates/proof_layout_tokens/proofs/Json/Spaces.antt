@@ -23,12 +23,9 @@ gap_spaces (b ∷ g) r h = grind (arith, gap_spaces g r)
 after_number : (n : Number) (r : List ℕ) → OnOneLine (spell_number n r) → OnOneLine r
 after_number n r h = after (spell_number n []) r (rw (number_then n r) at h)
 
-after_piece : (p : Piece) (r : List ℕ) → OnOneLine (spell_piece p r) → OnOneLine r
-after_piece p r h = grind (arith, after_one)
-
 after_pieces : (ps : List Piece) (r : List ℕ) → OnOneLine (spell_pieces ps r) → OnOneLine r
 after_pieces [] r h = h
-after_pieces (p ∷ ps) r h = after_pieces ps r (after_piece p (spell_pieces ps r) h)
+after_pieces (p ∷ ps) r h = after_pieces ps r (grind (arith, after_one))
 
 after_string : (ps : List Piece) (r : List ℕ) → OnOneLine (spell_string ps r) → OnOneLine r
 after_string ps r h = after_one 34 r (after_pieces ps (34 ∷ r) (after_one 34 (spell_pieces ps (34 ∷ r)) h))

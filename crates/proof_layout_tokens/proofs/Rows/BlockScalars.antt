@@ -60,14 +60,8 @@ module _ (s : BlockStyle) (i column : ℕ) (strips : Bool) (text : List ℕ) (ls
     all_rows : rows_of column (texts all_lines) ≡ Some ((known.before ++ known.row ∷ []) ++ empty_rows n)
     all_rows = ap (rows_of column) all_texts ∙ rows_append column (indented_lines column ls) (texts (empties n)) (known.before ++ known.row ∷ []) (empty_rows n) known.all (rows_empty column n)
 
-    are_all : (e : List ℕ) → written.AreLines (header ∷ all_lines) e
-    are_all e = (header_inner s strips, tt, are_lines column ls (empties n) e h.2 (scans.are_empty n e))
-
     is_split : split piece ≡ record { complete = texts (header ∷ all_lines); last = [] }
-    is_split = split_spell (header ∷ all_lines) [] (are_all []) refl
-
-    some_full : are_empty column (texts all_lines) ≡ false
-    some_full = not_all_empty column (texts all_lines) _ all_rows (content_more (known.before ++ known.row ∷ []) (empty_rows n) some)
+    is_split = split_spell (header ∷ all_lines) [] (header_inner s strips, tt, are_lines column ls (empties n) [] h.2 (scans.are_empty n [])) refl
 
     pub spelt_all : (more_text : List ℕ) → block_text s strips (spell_lines column ls (10 ∷ spell (empties n) more_text)) ≡ piece ++ more_text
     spelt_all more_text = ap (λ x. block_text s strips x) (spelt_feeds column ls (spell (empties n) more_text) ∙ ap (λ x. 10 ∷ x) (sym (spell_append (lines_at column ls) (empties n) more_text))) ∙ sym (spell_more (header ∷ all_lines) [] more_text)
@@ -86,7 +80,7 @@ module _ (s : BlockStyle) (i column : ℕ) (strips : Bool) (text : List ℕ) (ls
         let value = text_value s strips (known.before ++ known.row ∷ []) n some ∙ known.value in
         let body = text_body s i column strips (texts all_lines) more_text _ (ap (column_by None (collection_of i)) all_texts ∙ known.in_column (texts (empties n))) some_text is_further (ap starts_with_tab all_texts ∙ known.tabless (texts (empties n))) all_rows ∙ ap (λ t. Some (is_block s i column strips t)) value in
         let read : block_read (innermost bs) piece more_text ≡ Some (is_block s i column strips text) = rw (same, is_split, some_text) body in
-        record { column = column; read = read; may = rw (read, is_split, some_full, tabless, some_text, and_false (is_empty (texts all_lines))) refl; none = piece_none }
+        record { column = column; read = read; may = rw (read, is_split, (not_all_empty column (texts all_lines) _ all_rows (content_more (known.before ++ known.row ∷ []) (empty_rows n) some)), tabless, some_text, and_false (is_empty (texts all_lines))) refl; none = piece_none }
 
     -- a line begins after it
     pub piece_column : (more_text : List ℕ) (p : Position) → (position_after p piece more_text).col ≡ 0

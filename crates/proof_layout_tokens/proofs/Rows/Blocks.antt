@@ -18,11 +18,8 @@ abbrev pub Stay : ℕ → List ℕ → Type 0
 Stay c [] = Unit {0}
 Stay c (n ∷ ns) = n ≤ c
 
-stay_open : (c : ℕ) (bs : List ℕ) → Stay c bs → not_ended c bs ≡ bs
-stay_open c a h = grind (arith, le-ltb)
-
 pub left_open : (c : ℕ) (extra bs : List ℕ) → AreAbove c extra → Stay c bs → not_ended c (extra ++ bs) ≡ bs
-left_open c [] bs above stay = stay_open c bs stay
+left_open c [] bs above stay = grind (arith, le-ltb)
 left_open c (n ∷ extra) bs above stay = let low = above.0 in let e : nat_lt c n ≡ true = grind (arith, low) in rw e (left_open c extra bs above.1 stay)
 
 so_many : (extra bs : List ℕ) → length (extra ++ bs) - length bs ≡ length extra
@@ -147,9 +144,6 @@ no_tab : (n : ℕ) → has_tab_within n [] ≡ false
 no_tab zero = refl
 no_tab (suc n) = refl
 
-stay_more : (n m : ℕ) (bs : List ℕ) → n ≤ m → Stay n bs → Stay m bs
-stay_more n m a b h = grind arith
-
 -- the colon right after a key
 module _ (bs bs' next : List ℕ) (begin p : Position) (awaits : Bool) (before : Previous) (stay : Stay p.col bs) (near : p.index ≤ begin.index + 1024) (opens : opened begin.col bs ≡ bs') (gap : is_at_gap next ≡ true) (follows : colon_may_precede next ≡ true) (quiet : begins_free_line before [] ≡ false) where
   abbrev waiting : Account
@@ -159,9 +153,6 @@ module _ (bs bs' next : List ℕ) (begin p : Position) (awaits : Bool) (before :
   colon_step = grind arith
 
 module _ (is_open : Bool) (c : ℕ) (extra bs : List ℕ) (p : Position) (awaits : Bool) (before : Previous) (l : Line) (f w : List ℕ) (t : Tok) (next : List ℕ) (tokens : List Tok) (above : AreAbove c extra) (may : MayBegin is_open c bs) where
-  key_first : (here colon : Position) → toks (key_tokens (not is_open) colon Tok.block_mapping_start here) ≡ starts is_open Tok.block_mapping_start (Tok.key ∷ [])
-  key_first here colon = grind (arith, is_open, starts)
-
   key_more : (o : List Tok) → starts is_open Tok.block_mapping_start (Tok.key ∷ []) ++ o ≡ starts is_open Tok.block_mapping_start (Tok.key ∷ o)
   key_more o = grind (arith, is_open, starts)
 
@@ -177,9 +168,9 @@ module _ (is_open : Bool) (c : ℕ) (extra bs : List ℕ) (p : Position) (awaits
       let past = position_after begin w (58 ∷ next) in
       let z = along w begin (58 ∷ next) one_line in
       let at_c = here.column in
-      let on : Stay past.col (stood is_open c bs) = stay_more c past.col (stood is_open c bs) (omega (arith, z, at_c)) (stands is_open c bs may) in
+      let on : Stay past.col (stood is_open c bs) = grind arith in
       let opened_at : opened begin.col (stood is_open c bs) ≡ c ∷ bs = rw at_c (opens is_open c bs may) in
       rw (← key_more (t ∷ Tok.value ∷ tokens))
       (block_reads c extra (stood is_open c bs) p awaits before l f w t true (58 ∷ next) here (stood is_open c bs) (Line.waits begin) (starts is_open Tok.block_mapping_start (Tok.key ∷ [])) (Tok.value ∷ tokens) above (stands is_open c bs may) (rw node refl) clean
-      shown further precede (rw node refl) (rw one_line refl) (λ colon. rw (is_deep is_open c bs may) (key_first begin colon))
+      shown further precede (rw node refl) (rw one_line refl) (λ colon. rw (is_deep is_open c bs may) (grind (arith, is_open, starts)))
       (λ awaits. rw none (step (step_of [] (58 ∷ []) Tok.value false) next (colon_step (stood is_open c bs) (c ∷ bs) next begin past awaits (previous_by t) on (omega (arith, z, short)) opened_at gap follows quiet) (rest (position_after past (58 ∷ []) next) (omega (arith, z, at_c))))))

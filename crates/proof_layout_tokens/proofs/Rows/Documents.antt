@@ -33,15 +33,12 @@ module _ (b : Bool) (g : List GapLine) (gap : IsGap g) (p : Position) (l : Line)
   here_at : (n : ℕ) (r : List ℕ) → Here n r p another l (lead_text b g n)
   here_at n r = by b begins
     where
-      any : (m : Bool) → line_past_separation false m free ≡ Some free
-      any a = grind arith
-
       by : (b : Bool) → (b ≡ false → (p.col ≡ 0) × (l ≡ free)) → Here n r p another l (lead_text b g n)
       by true begins = here_after no_comment g n r p another l tt gap (λ f. refl) line
       by false begins = record {
         separates = gap_separates g (spaces n []) r gap (spaces_separate n [] r);
         tabless = λ m. rw (gap_last g n) (no_tab m n);
-        line = rw ((begins refl).1) (any (has_break (spell_gap g (spaces n []))));
+        line = rw ((begins refl).1) (grind arith);
         column = gap_column g n r p (begins refl).0;
         none = gap_none g (spaces n []) gap (spaces_none n [] refl);
       }
@@ -67,28 +64,19 @@ after_gap x g is = grind (arith, empty_gap)
 is_trail : (root : Root) (t : Trail) → EndsDocument root t → IsTrail t
 is_trail root t h = grind (arith, after_gap)
 
-is_low : (root : Root) (t : Trail) → EndsDocument root t → IsLow t []
-is_low root a h = grind arith
-
-all_end : (root : Root) (t : Trail) (c : ℕ) → EndsDocument root t → EndsAt t c
-all_end root a c h = grind arith
-
-literal_follows : (text : List ℕ) (ls : List BlockLine) (t : Trail) → EndsDocument (Root.literal text ls) t → Follows 0 t
-unfolding is_nul are_marks is_blank_or_end is_blank is_break
-literal_follows a ls b h = grind (arith, at_text)
-
 root_reads : (root : Root) → IsRoot root → (b : Bool) (g : List GapLine) → IsGap g → (t : Trail) → EndsDocument root t → (tokens : List Tok) (p : Position) (awaits : Bool) (l : Line) → is_waiting l ≡ false → (b ≡ false → (p.col ≡ 0) × (l ≡ free)) → After t [] tokens
     → Reads (at p [] awaits another l []) (pre b (spell_gap g (spell_root root (trail_text t)))) (root_tokens root tokens)
+unfolding is_nul are_marks is_blank_or_end is_blank is_break
 root_reads (Root.block column block) is b g gap t ends tokens p awaits l line begins rest =
     rw (lead_is b g column (spell_block column block (trail_text t)))
-    (block_reads column [] block is [] t tokens p awaits another l (lead_text b g column) (omega arith) (is_trail (Root.block column block) t ends) (all_end (Root.block column block) t column ends) (here_at b g gap p l line begins column _) rest)
+    (block_reads column [] block is [] t tokens p awaits another l (lead_text b g column) (omega arith) (is_trail (Root.block column block) t ends) (grind arith) (here_at b g gap p l line begins column _) rest)
 root_reads (Root.inline i) is b g gap t ends tokens p awaits l line begins rest =
     rw (lead_is b g 0 (spell_inline i (trail_text t)))
-    (inline_reads no_comment t [] tokens p awaits l (lead_text b g 0) tt (is_trail (Root.inline i) t ends) (is_low (Root.inline i) t ends) line (lead b g gap p l line begins) rest i is)
+    (inline_reads no_comment t [] tokens p awaits l (lead_text b g 0) tt (is_trail (Root.inline i) t ends) (grind arith) line (lead b g gap p l line begins) rest i is)
 root_reads (Root.literal text ls) is b g gap t ends tokens p awaits l line begins rest =
     let z = lead b g gap p l line begins in
     rw (lead_is b g 0 (spell_literal 0 text ls (trail_text t)), headed_literal text (spell_lines 0 ls (trail_text t)))
-    (block_is_read BlockStyle.literal 0 0 (strips_of text) text ls refl (root_literal_lines text ls is.0 is.1) [] refl tokens p awaits l (lead_text b g 0) line z.parts z.deep t (is_trail (Root.literal text ls) t ends) (literal_follows text ls t ends) rest)
+    (block_is_read BlockStyle.literal 0 0 (strips_of text) text ls refl (root_literal_lines text ls is.0 is.1) [] refl tokens p awaits l (lead_text b g 0) line z.parts z.deep t (is_trail (Root.literal text ls) t ends) (grind (arith, at_text)) rest)
 
 -- ---- markers
 

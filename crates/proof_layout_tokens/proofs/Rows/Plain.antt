@@ -44,10 +44,6 @@ elements_are (c ∷ w) h = let q = and_parts (is_plain_char c) (are_plain w) h i
     by true p e z = record { all = blank c ∷ z.all; are = rw (p.break, p.blank, e, z.are) refl; in_line = with_blank c z.in_line }
     by false p e z = record { all = content c ∷ z.all; are = rw (p.break, p.blank, e, z.are) refl; in_line = with_content c z.in_line }
 
-value_of : (w : List ℕ) → are_plain w ≡ true → plain_value w ≡ Some w
-unfolding plain_value
-value_of w h = value_is plain_element w w (elements_are w h) (no_break w h)
-
 -- ---- its lines
 
 one_line : (w : List ℕ) → has_no_break w ≡ true → split w ≡ record { complete = []; last = w }
@@ -67,15 +63,12 @@ module _ (in_flow : Bool) (collection : Option ℕ) (next : List ℕ) where
   no_flow : (c : ℕ) → (in_flow ≡ true → is_in_flow c ≡ true) → (in_flow && is_flow c) ≡ false
   no_flow c may = grind (arith, not-true)
 
-  no_end : (b : Bool) (c : ℕ) (r : List ℕ) → PlainChar c → (in_flow && is_flow c) ≡ false → ends_plain in_flow collection (stand b) (c ∷ r) ≡ false
-  no_end a c r z flow = grind arith
-
   goes_over : (b : Bool) (w : List ℕ) → are_plain w ≡ true → MayFlow in_flow w → goes_on in_flow collection (stand b) w next ≡ true
   goes_over b [] h flow = refl
   goes_over b (c ∷ w) h flow =
       let q = and_parts (is_plain_char c) (are_plain w) h in
       let z = plain_char c q.0 in
-      by b (c == 32) refl z (no_end b c (w ++ next) z (no_flow c (λ e. (and_parts (is_in_flow c) (list_all is_in_flow w) (flow e)).0))) (goes_over (c == 32) w q.1 (λ e. (and_parts (is_in_flow c) (list_all is_in_flow w) (flow e)).1))
+      by b (c == 32) refl z (grind arith) (goes_over (c == 32) w q.1 (λ e. (and_parts (is_in_flow c) (list_all is_in_flow w) (flow e)).1))
     where
       by : (b d : Bool) → (c == 32) ≡ d → PlainChar c → ends_plain in_flow collection (stand b) (c ∷ (w ++ next)) ≡ false → goes_on in_flow collection (stand (c == 32)) w next ≡ true → goes_on in_flow collection (stand b) (c ∷ w) next ≡ true
       by a e g z i rest = grind arith
@@ -145,6 +138,7 @@ dashless : (in_flow : Bool) (w next : List ℕ) → are_plain w ≡ true → May
 dashless a w b h flow = grind (arith, no_last_dash)
 
 pub plain_piece : (in_flow : Bool) (collection : Option ℕ) (w next : List ℕ) → IsPlainText w → MayFlow in_flow w → stops in_flow collection inside next ≡ true → IsPlainPiece in_flow collection w next
+unfolding plain_value
 plain_piece in_flow collection w next text flow stops = rw (text.whole) (by (rw (text.whole) at flow))
   where
     c : ℕ
@@ -161,7 +155,7 @@ plain_piece in_flow collection w next text flow stops = rw (text.whole) (by (rw 
         record {
           begins = λ adjacent column. begins in_flow adjacent column c v next text.first text.second text.chars flow;
           whole = rw (goes_over in_flow collection next false v text.chars (λ e. (and_parts (is_in_flow c) (list_all is_in_flow v) (flow e)).1), full, stops) refl;
-          value = value_of (c ∷ v) all;
+          value = value_is plain_element (c ∷ v) (c ∷ v) (elements_are (c ∷ v) all) (no_break (c ∷ v) all);
           fits = λ column. lines_fit column (c ∷ v) (no_break (c ∷ v) all);
           no_break = no_break (c ∷ v) all;
           some = refl;

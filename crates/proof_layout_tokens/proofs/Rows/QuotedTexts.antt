@@ -19,11 +19,8 @@ any_lines : (escaped : Bool) (ls : Lines) → lines_fit 0 escaped ls ≡ true
 any_lines escaped (flow.last_line l) = line_any (not (escaped && is_empty l)) (length (blanks_before l))
 any_lines escaped (flow.line l e ls) = rw (line_any (has_more l || e) (length (blanks_before l))) (any_lines e ls)
 
-any_further : (ls : Lines) → further_lines_fit 0 ls ≡ true
-any_further a = grind (arith, any_lines)
-
 fits : (at : ℕ → List ℕ → Option Spelled) (quote : ℕ) (body : List ℕ) (es : List Element) → elements at 0 body ≡ Some es → quoted_lines_fit 0 at (quote ∷ (body ++ quote ∷ [])) ≡ true
-fits at quote body es e = rw (between quote body, e) (any_further (flow.lines_of es))
+fits at quote body es e = rw (between quote body, e) (grind (arith, any_lines))
 
 feeds_end : (n : ℕ) → is_separation false (replicate n 10) [] ≡ true
 unfolding is_blank is_break

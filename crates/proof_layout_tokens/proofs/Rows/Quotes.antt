@@ -18,17 +18,6 @@ is_code : (c : ℕ) → c < 128 → is_character_code c ≡ true
 unfolding is_character_code
 is_code c h = grind (arith, nat_tests)
 
-plain_character : (c : ℕ) → (nat_lt c 32 || (c == 127)) ≡ false → (is_nul c ≡ false) × (is_break c ≡ false) × (is_blank c ≡ (c == 32))
-unfolding is_nul is_break is_blank
-plain_character c h = (grind (arith, nat_tests), grind (arith, nat_tests), grind (arith, nat_tests))
-
-line_character : (c : ℕ) → is_line_character c ≡ true → (is_nul c ≡ false) × (is_break c ≡ false)
-unfolding is_nul is_break is_line_character
-line_character c h = (grind (arith, nat_tests), grind (arith, nat_tests))
-
-low_code : (c : ℕ) → (nat_lt c 32 || (c == 127)) ≡ true → c < 128
-low_code c h = grind (arith, nat_tests)
-
 -- a character before a body
 abbrev Goes : Bool → List ℕ → ℕ → Type 0
 Goes single w c = (body text : List ℕ) → IsBody single body text → IsBody single (w ++ body) (c ∷ text)
@@ -45,8 +34,8 @@ coded c low body text z =
     }
 
 itself_goes : (c : ℕ) → (c == 34) ≡ false → (c == 92) ≡ false → (nat_lt c 32 || (c == 127)) ≡ false → Goes false (c ∷ []) c
-unfolding double_quoted_element plain_element
-itself_goes c quote backslash low body text z = by (c == 32) refl (plain_character c low)
+unfolding double_quoted_element plain_element is_nul is_break is_blank
+itself_goes c quote backslash low body text z = by (c == 32) refl (grind (arith, nat_tests), grind (arith, nat_tests), grind (arith, nat_tests))
   where
     by : (b : Bool) → (c == 32) ≡ b → (is_nul c ≡ false) × (is_break c ≡ false) × (is_blank c ≡ (c == 32)) → IsBody false (c ∷ body) (c ∷ text)
     by true e u = record { one_line = record { all = blank c ∷ z.one_line.all; are = rw (u.0, quote, backslash, u.1, u.2, e, z.one_line.are) refl; in_line = with_blank c z.one_line.in_line }; no_break = rw (u.1) (z.no_break) }
@@ -73,7 +62,7 @@ character_goes c = by (c == 34) (c == 92) (c == 8) (c == 9) (c == 10) (c == 12) 
     by false false false false true b5 b6 b7 e0 e1 e2 e3 e4 e5 e6 e7 = named 110 10 c e4 refl (λ body. refl)
     by false false false false false true b6 b7 e0 e1 e2 e3 e4 e5 e6 e7 = named 102 12 c e5 refl (λ body. refl)
     by false false false false false false true b7 e0 e1 e2 e3 e4 e5 e6 e7 = named 114 13 c e6 refl (λ body. refl)
-    by false false false false false false false true e0 e1 e2 e3 e4 e5 e6 e7 = coded c (low_code c e7)
+    by false false false false false false false true e0 e1 e2 e3 e4 e5 e6 e7 = coded c (grind (arith, nat_tests))
     by false false false false false false false false e0 e1 e2 e3 e4 e5 e6 e7 = itself_goes c e0 e1 e7
 
 nothing_is : (single : Bool) → IsBody single [] []
@@ -87,8 +76,8 @@ double_is (c ∷ w) = character_goes c (written_escapes w) w (double_is w)
 -- ---- in single quotes
 
 plain_goes : (c : ℕ) → is_line_character c ≡ true → (c == 39) ≡ false → Goes true (c ∷ []) c
-unfolding single_quoted_element plain_element
-plain_goes c h quote body text z = by (is_blank c) refl (line_character c h)
+unfolding single_quoted_element plain_element is_nul is_break is_line_character
+plain_goes c h quote body text z = by (is_blank c) refl (grind (arith, nat_tests), grind (arith, nat_tests))
   where
     by : (b : Bool) → is_blank c ≡ b → (is_nul c ≡ false) × (is_break c ≡ false) → IsBody true (c ∷ body) (c ∷ text)
     by true e u = record { one_line = record { all = blank c ∷ z.one_line.all; are = rw (u.0, quote, u.1, e, z.one_line.are) refl; in_line = with_blank c z.one_line.in_line }; no_break = rw (u.1) (z.no_break) }

@@ -31,9 +31,6 @@ record Code (a b c d : ℕ) : Type 0 where
   valid : is_character_code ((((0 * 16 + digit_value a) * 16 + digit_value b) * 16 + digit_value c) * 16 + digit_value d) ≡ true
   value : (((0 * 16 + digit_value a) * 16 + digit_value b) * 16 + digit_value c) * 16 + digit_value d ≡ four_digits a b c d
 
-value_of_digits : (a b c d : ℕ) → (((0 * 16 + a) * 16 + b) * 16 + c) * 16 + d ≡ a * 4096 + b * 256 + c * 16 + d
-value_of_digits a b c d = omega arith
-
 code : (a b c d : ℕ) → is_piece (unicode a b c d) ≡ true → Code a b c d
 code a b c d h =
     let valid = and_parts (is_hex_digit a && is_hex_digit b && is_hex_digit c && is_hex_digit d) (not (is_surrogate (four_digits a b c d))) h in
@@ -44,7 +41,7 @@ code a b c d h =
     let f = small_digit b second.1 in
     let g = small_digit c third.1 in
     let k = small_digit d fourth.1 in
-    let same = value_of_digits (digit_value a) (digit_value b) (digit_value c) (digit_value d) in
+    let same : (((0 * 16 + (digit_value a)) * 16 + (digit_value b)) * 16 + (digit_value c)) * 16 + (digit_value d) ≡ (digit_value a) * 4096 + (digit_value b) * 256 + (digit_value c) * 16 + (digit_value d) = omega arith in
     record { first = second.0; second = second.1; third = third.1; fourth = fourth.1; valid = rw same (is_code (four_digits a b c d) (omega arith) valid.1); value = same }
 
 record Unescaped (c : ℕ) : Type 0 where

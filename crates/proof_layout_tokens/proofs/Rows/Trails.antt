@@ -206,9 +206,6 @@ has_break_at (c ∷ x) y = grind (arith, has_break, has_break_at x y)
 abbrev pub line_gap : Comment → List GapLine → ℕ → List ℕ
 line_gap k g n = spell_comment k (10 ∷ spell_gap g (spaces n []))
 
-line_free : (l : Line) → is_waiting l ≡ false → line_past_separation false true l ≡ Some free
-line_free a h = grind arith
-
 pub here_after : (k : Comment) (g : List GapLine) (n : ℕ) (r : List ℕ) (p : Position) (before : Previous) (l : Line) → IsComment k → IsGap g → Quiet before → is_waiting l ≡ false → Here n r p before l (line_gap k g n)
 unfolding is_blank is_break
 here_after k g n r p before l remark gap quiet line =
@@ -218,7 +215,7 @@ here_after k g n r p before l remark gap quiet line =
     record {
       separates = comment_separates k x r remark (gap_separates g (spaces n []) r gap (spaces_separate n [] r));
       tabless = λ m. rw (text, last_past (spell_comment k []) x, gap_last g n) (no_tab m n);
-      line = rw (quiet (spell_comment k (10 ∷ x)), text, has_break_at (spell_comment k []) x) (line_free l line);
+      line = rw (quiet (spell_comment k (10 ∷ x)), text, has_break_at (spell_comment k []) x) (grind arith);
       column = rw (text, z.1) (gap_column g n r z.0 z.2);
       none = comment_none k (10 ∷ x) remark (gap_none g (spaces n []) gap (spaces_none n [] refl));
     }
@@ -255,10 +252,6 @@ module _ (collection : Option ℕ) where
   stops_next : (d : ℕ) (r : List ℕ) → BeginsContent r → (not (is_deeper collection d)) ≡ true → stops false collection (on_line d) r ≡ true
   stops_next d r (content_first c x blank break hash nul) low = rw (blank, break, low, or_true ((d == 0) && is_document_marker (c ∷ x)), or_true (is_nul c || ((c == 58) && is_value_indicator false false x) || (c == 35))) refl
 
-  stops_marker : (r : List ℕ) → stops false collection (on_line 0) (marker_text r) ≡ true
-  unfolding is_blank is_break is_nul is_blank_or_end are_marks
-  stops_marker r = refl
-
   stops_ending : (g : List GapLine) (s : Stand) → stops false collection s (spell_ending g []) ≡ true
   unfolding is_blank is_break is_nul
   stops_ending [] s = refl
@@ -276,12 +269,12 @@ comment_rest zero a = refl
 comment_rest (suc n) a = comment_rest n a
 
 pub trail_ends : (k : Comment) (t : Trail) (bs : List ℕ) → IsTrail t → IsLow t bs → Ends false (innermost bs) (spell_comment k (trail_text t))
-unfolding is_blank is_break
+unfolding is_blank is_break is_nul is_blank_or_end are_marks
 trail_ends (comment more text) t bs trail low = record { stopped = stops_comment (innermost bs) more (text ++ trail_text t); done = λ piece. rw (comment_rest more (text ++ trail_text t)) refl; no_comment = refl }
 trail_ends no_comment (next g d r) [] trail low = absurd low
 trail_ends no_comment (next g d r) (n ∷ bs) trail low =
     let deep : not (nat_le (suc n) d) ≡ true = grind (arith, low) in
     record { stopped = stops_gap (Some n) g (spaces d r) (stops_spaces (Some n) d 0 r (let e : 0 + d ≡ d = omega arith in rw e (stops_next (Some n) d r trail.1 deep))); done = λ piece. refl; no_comment = refl }
-trail_ends no_comment (marker g r) bs trail low = record { stopped = stops_gap (innermost bs) g (marker_text r) (stops_marker (innermost bs) r); done = λ piece. refl; no_comment = refl }
+trail_ends no_comment (marker g r) bs trail low = record { stopped = stops_gap (innermost bs) g (marker_text r) refl; done = λ piece. refl; no_comment = refl }
 trail_ends no_comment (end []) bs trail low = record { stopped = refl; done = λ piece. refl; no_comment = refl }
 trail_ends no_comment (end (l ∷ g)) bs trail low = record { stopped = stops_ending (innermost bs) (l ∷ g) inside; done = λ piece. refl; no_comment = refl }

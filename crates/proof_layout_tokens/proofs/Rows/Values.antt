@@ -143,18 +143,6 @@ scalar_begins (Scalar.plain t) r h =
 scalar_begins (Scalar.quoted text) r h = content_first 34 _ refl refl refl refl
 scalar_begins (Scalar.single_quoted text) r h = content_first 39 _ refl refl refl refl
 
-inline_begins : (v : Inline) (r : List ℕ) → IsInline v → BeginsContent (spell_inline v r)
-unfolding is_blank is_break is_nul
-inline_begins v r h = grind (arith, scalar_begins, content_first)
-
-json_begins : (v : Json) (r : List ℕ) → IsJsonCollection v → BeginsContent (Json.spell v r)
-unfolding is_blank is_break is_nul
-json_begins a r h = grind (arith, content_first)
-
-literal_begins : (column : ℕ) (text : List ℕ) (ls : List BlockLine) (r : List ℕ) → BeginsContent (spell_literal column text ls r)
-unfolding is_blank is_break is_nul
-literal_begins column text ls r = grind (arith, content_first)
-
 folded_begins : (strips : Bool) (r : List ℕ) → BeginsContent (folded_header strips ++ r)
 unfolding is_blank is_break is_nul
 folded_begins a r = grind (arith, content_first)
@@ -179,10 +167,10 @@ block_begins c a (Block.hash fs) r h = fields_begin c a fs r h.0
 
 value_opens : (c : ℕ) (a : List Anchor) (v : Value) (r : List ℕ) → IsValue c a v → Opens (spell_value c v r)
 unfolding is_blank is_break is_nul
-value_opens c a (Value.beside more i k) r h = opens_beside more (spell_inline i (spell_comment k r)) (inline_begins i _ h.0)
-value_opens c a (Value.literal more column text ls) r h = opens_beside more _ (literal_begins column text ls r)
+value_opens c a (Value.beside more i k) r h = opens_beside more (spell_inline i (spell_comment k r)) (grind (arith, scalar_begins, content_first))
+value_opens c a (Value.literal more column text ls) r h = opens_beside more _ (grind (arith, content_first))
 value_opens c a (Value.folded more column strips text ls) r h = opens_beside more _ (folded_begins strips _)
-value_opens c a (Value.json more v) r h = opens_beside more _ (json_begins v r h.0)
+value_opens c a (Value.json more v) r h = opens_beside more _ (grind (arith, content_first))
 value_opens c a (Value.compact more b) r h = opens_beside more _ (block_begins (c + 2 + more) a b r h)
 value_opens c a (layout.below k g column b) r h = opens_below k g column _ h.0 h.1 (block_begins column a b r h.3)
 value_opens c a (Value.at_key k g es) r h = opens_below k g c _ h.0 h.1 (entries_begin c es r)
@@ -216,9 +204,6 @@ ReadsIn c spells gives = (bs : List ℕ) (t : Trail) (tokens : List Tok) (p : Po
 abbrev pub ReadsBlock : ℕ → Block → Type 0
 ReadsBlock c b = ReadsIn c (spell_block c b) (block_tokens b)
 
-low_at : (t : Trail) (c : ℕ) (bs : List ℕ) → EndsAt t c → IsLow t (c ∷ bs)
-low_at t c bs h = grind arith
-
 ends_deeper : (t : Trail) (c n : ℕ) (bs : List ℕ) → IsLow t (c ∷ bs) → c < n → EndsAt t n
 ends_deeper t c n bs low h = grind arith
 
@@ -229,7 +214,7 @@ above g c r (n ∷ extra) h = (h.0, above g c r extra h.1)
 
 collection_reads : (c : ℕ) (spells : List ℕ → List ℕ) (collection : Tok) (gives : List Tok → List Tok) → Begins c spells collection gives → ReadsIn c spells (λ o. collection ∷ gives (Tok.block_end ∷ o))
 collection_reads c spells collection gives one bs t tokens p awaits before l f deep trail ends here rest =
-    one false [] bs t (Tok.block_end ∷ tokens) p awaits before l f tt (λ e. deep) trail (low_at t c bs ends) here (Trails.one_more t c bs tokens ends rest)
+    one false [] bs t (Tok.block_end ∷ tokens) p awaits before l f tt (λ e. deep) trail (grind arith) here (Trails.one_more t c bs tokens ends rest)
 
 -- ---- spaces as white space of JSON
 
@@ -243,15 +228,12 @@ are_spaces (suc n) = are_spaces n
 
 -- ---- anchors and aliases
 
-name_character : (c : ℕ) → is_ascii_alphanumeric c ≡ true → (is_anchor_name c ≡ true) × (is_break c ≡ false)
-unfolding is_anchor_name is_blank_or_end is_blank is_break is_nul is_flow
-name_character c h = (grind (arith, nat_tests), grind (arith, nat_tests))
-
 names : (name : List ℕ) → list_all is_ascii_alphanumeric name ≡ true → (all_of is_anchor_name name ≡ true) × (has_no_break name ≡ true)
+unfolding is_anchor_name is_blank_or_end is_blank is_break is_nul is_flow
 names [] h = (refl, refl)
 names (c ∷ name) h =
     let q = and_parts (is_ascii_alphanumeric c) (list_all is_ascii_alphanumeric name) h in
-    let z = name_character c q.0 in
+    let z : (is_anchor_name c ≡ true) × (is_break c ≡ false) = (grind (arith, nat_tests), grind (arith, nat_tests)) in
     let r = names name q.1 in
     (and_from _ _ z.0 r.0, rw (z.1) (r.1))
 
@@ -297,9 +279,6 @@ then_reads c one_text all collection gives gives_all g gap begins one more is_op
     one is_open extra bs (next g c r) (gives_all tokens) p awaits before l f above_it begin (gap, begins (trail_text t)) (omega arith) here
     (λ more_extra q waits past m f2 ends there. more true more_extra bs t tokens q waits past m f2 (above g c r more_extra ends) (λ e. cc) trail low there rest)
 
-anchored_follows : (v : Value) → MayBeAnchored v → MayFollowScalarKey v
-anchored_follows v h = grind arith
-
 headed : (strips : Bool) (r : List ℕ) → folded_header strips ++ r ≡ block_text BlockStyle.folded strips r
 headed strips r = grind arith
 
@@ -338,7 +317,7 @@ mutual
       rw (← gap_text k g c (spell_entries c es (trail_text t)))
       (entries_read c a es h.2 true [] bs t tokens p awaits another l (line_gap k g c) tt (λ e. cc) trail low (here_after k g c _ p another l h.0 h.1 (λ f. refl) line) rest)
   read_value c a (Value.anchored more name v) h bs t tokens p awaits l trail low line deep fits rest =
-      anchor_reads c bs more name (spell_value c v (trail_text t)) (value_tokens v tokens) p awaits l h.0 (value_opens c (begun name ∷ a) v (trail_text t) h.2).no_name line deep (λ q waits deeper. read_value c (begun name ∷ a) v h.2 bs t tokens q waits taken trail low refl deeper (inr (anchored_follows v h.1)) rest)
+      anchor_reads c bs more name (spell_value c v (trail_text t)) (value_tokens v tokens) p awaits l h.0 (value_opens c (begun name ∷ a) v (trail_text t) h.2).no_name line deep (λ q waits deeper. read_value c (begun name ∷ a) v h.2 bs t tokens q waits taken trail low refl deeper (inr (grind arith)) rest)
   read_value c a (Value.alias more name tree) h bs t tokens p awaits l trail low line deep fits rest =
       name_alias_reads c bs more name (trail_text t) tokens p awaits l h.0 (trail_no_name t) line deep (λ q waits deeper. arrive no_comment t (c ∷ bs) tokens q waits another taken tt trail (λ f. refl) refl rest)
 
