@@ -62,13 +62,10 @@ shallow : (column : ℕ) (l : List ℕ) → leading_spaces l < column → is_con
 unfolding is_content_line
 shallow column l h = rw (lt-leb column (leading_spaces l) h) refl
 
-and_false : (a b : Bool) → b ≡ false → (a && b) ≡ false
-and_false d b h = grind arith
-
 -- a document marker in column 0 is no content
 unmarked : (l : List ℕ) → is_document_marker l ≡ true → is_content_line 0 l ≡ false
 unfolding is_content_line
-unmarked l h = and_false (nat_le 0 (leading_spaces l) && nat_le 1 (length l)) (not (is_document_marker l)) (ap not h)
+unmarked l h = grind arith
 
 -- what holds of the two document markers
 marks : (P : ℕ → ℕ → ℕ → Type 0) (a b c : ℕ) → are_marks a b c ≡ true → P 45 45 45 → P 46 46 46 → P a b c

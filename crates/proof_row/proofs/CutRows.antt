@@ -61,12 +61,6 @@ abbrev WaitsThen : Act → ℕ → Option Outside → Type 0
 WaitsThen k col None = Unit {0}
 WaitsThen k col (Some x) = WaitsAt x.line col x.blocks × (is_waiting x.line ≡ true → k ≡ gives_node)
 
-waits_unless : (must : Bool) (l : Line) (bs : List ℕ) (k : Act) (col : ℕ) → is_waiting l ≡ false → WaitsThen k col (unless_key must l bs)
-waits_unless a l bs k col h = grind arith
-
-waits_keyed : (begin here : Position) (bs : List ℕ) (k : Act) (col : ℕ) → WaitsThen k col (keyed begin here bs)
-waits_keyed begin here bs k col = grind arith
-
 waits_on : (k : Act) (must key : Bool) (l : Line) (here : Position) (bs : List ℕ) → WaitsAt l here.col bs → (k ≡ gives_node → not_ended here.col bs ≡ bs) → WaitsThen k here.col (line_past must here bs k key l)
 waits_on a must b l d bs w n = grind arith
 

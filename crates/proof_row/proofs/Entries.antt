@@ -5,17 +5,14 @@ use Rattle.proof_row.proofs.Like.{LikeHad, LikeEntry, LikeEntries, Stepped, none
 
 -- ---- where a key may begin again
 
-renewed_node : (d e : Had) → LikeHad d e → Stepped LikeHad (d ≡ e) (renewed true gives_node d) (renewed true gives_node e)
-renewed_node fresh fresh i = (tt, λ h. refl)
-renewed_node filled filled i = (tt, λ h. refl)
-renewed_node settled settled i = (tt, λ h. refl)
-renewed_node (waits p) e i = tt
-renewed_node d (waits q) i = none_second LikeHad (d ≡ waits q) (renewed true gives_node d)
-renewed_node _ _ i = absurd i
-
 renewed_step : (again : Bool) (k : Act) (d e : Had) → LikeHad d e → Stepped LikeHad (d ≡ e) (renewed again k d) (renewed again k e)
 renewed_step false k d e i = (i, λ h. h)
-renewed_step true gives_node d e i = renewed_node d e i
+renewed_step true gives_node fresh fresh i = (tt, λ h. refl)
+renewed_step true gives_node filled filled i = (tt, λ h. refl)
+renewed_step true gives_node settled settled i = (tt, λ h. refl)
+renewed_step true gives_node (waits p) e i = tt
+renewed_step true gives_node d (waits q) i = none_second LikeHad (d ≡ waits q) (renewed true gives_node d)
+renewed_step true gives_node _ _ i = absurd i
 renewed_step true gives_block_scalar d e i = (i, λ h. h)
 renewed_step true gives_dash d e i = (i, λ h. h)
 renewed_step true gives_question d e i = (i, λ h. h)
@@ -57,31 +54,22 @@ settled_step (waits p) e i = tt
 settled_step d (waits q) i = none_second LikeHad ((d ≡ waits q) × (false ≡ false)) (settled_past d)
 settled_step _ _ i = absurd i
 
-question_had : HadStep gives_question
-question_had here s false false d e i = settled_step d e i
-question_had here s true c d e i = tt
-question_had here s false true d e i = none_second LikeHad ((d ≡ e) × (false ≡ true)) (settled_past d)
+-- what settles an entry, and is no key
+settled_had : (f : (key : Bool) → Had → Option Had) → ((d : Had) → f false d ≡ settled_past d) → ((d : Had) → f true d ≡ None) → (b c : Bool) (d e : Had) → LikeHad d e → Stepped LikeHad ((d ≡ e) × (b ≡ c)) (f b d) (f c e)
+settled_had f settles key false false d e i = rw (settles d, settles e) (settled_step d e i)
+settled_had f settles key true c d e i = rw (key d) tt
+settled_had f settles key false true d e i = rw (key e) (none_second LikeHad ((d ≡ e) × (false ≡ true)) (f false d))
 
-marker_had : HadStep gives_marker
-marker_had here s false false d e i = settled_step d e i
-marker_had here s true c d e i = tt
-marker_had here s false true d e i = none_second LikeHad ((d ≡ e) × (false ≡ true)) (settled_past d)
-
--- a colon ends one key in both
-waiting_colon : (here : Position) (s : Bool) (p q : Position) → p ≡ q →
-    Stepped LikeHad ((waits p ≡ waits q) × (false ≡ false)) (had_past here s gives_colon false (waits p)) (had_past here s gives_colon false (waits q))
-waiting_colon here s p q i =
+colon_had : HadStep gives_colon
+colon_had here s false false fresh fresh i = (tt, λ h. (refl, refl))
+colon_had here s false false settled settled i = (tt, λ h. (refl, refl))
+colon_had here s false false (waits p) (waits q) i =
     subst (λ x. Stepped LikeHad ((waits p ≡ waits x) × (false ≡ false)) (had_past here s gives_colon false (waits p)) (had_past here s gives_colon false (waits x))) i
     (by (not s || (p.line == here.line)))
   where
     by : (n : Bool) → Stepped LikeHad ((waits p ≡ waits p) × (false ≡ false)) (if n then Some settled else None) (if n then Some settled else None)
     by true = (tt, λ h. (refl, refl))
     by false = tt
-
-colon_had : HadStep gives_colon
-colon_had here s false false fresh fresh i = (tt, λ h. (refl, refl))
-colon_had here s false false settled settled i = (tt, λ h. (refl, refl))
-colon_had here s false false (waits p) (waits q) i = waiting_colon here s p q i
 colon_had here s true c d e i = tt
 colon_had here s false true d e i = none_second LikeHad ((d ≡ e) × (false ≡ true)) (had_past here s gives_colon false d)
 colon_had here s false false filled e i = tt
@@ -90,8 +78,8 @@ colon_had here s false false _ _ i = absurd i
 
 had_step : (k : Act) → HadStep k
 had_step gives_node = node_had
-had_step gives_question = question_had
-had_step gives_marker = marker_had
+had_step gives_question = λ here s. settled_had (had_past here s gives_question) (λ d. refl) (λ d. refl)
+had_step gives_marker = λ here s. settled_had (had_past here s gives_marker) (λ d. refl) (λ d. refl)
 had_step gives_colon = colon_had
 had_step gives_block_scalar = λ here s b c d e i. tt
 had_step gives_dash = λ here s b c d e i. tt

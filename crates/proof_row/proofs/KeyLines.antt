@@ -38,10 +38,6 @@ abbrev Then : ℕ → Option (List Entry) → Type 0
 Then n None = Unit {0}
 Then n (Some es) = AreBefore es n
 
-abbrev HadThen : ℕ → Option Had → Type 0
-HadThen n None = Unit {0}
-HadThen n (Some h) = IsBefore h n
-
 end_before : (es : List Entry) (key : Bool) (h : Had) (n : ℕ) → AreBefore es n → Then n (past_end es key h)
 end_before es a h n b = grind arith
 
