@@ -166,10 +166,11 @@ longer_lines collection head ls h z y [] [] s i j k n c false e f = n (no_lines 
 longer_lines collection head ls h z y (l ∷ zs) [] s i j k n c false e f =
     let lines : (split z).complete ≡ [] → ⊥ = λ g. absurd (two_lines (sym (ap (λ x. x.complete) j) ∙ g)) in
     let first : up_to_break (z ++ y) ≡ l = line_more z lines y ∙ (sym (line_is z) ∙ ap (λ x. first_line (x.complete) (x.last)) j) in
-    let b : IsBefore (column_by h.digit collection ls) l = subst (λ l. IsBefore (column_by h.digit collection ls) l) first (further _ _ k) in let no_text : value_by h (content_column h collection (ls ++ (l ∷ zs)) further_text) (ls ++ (l ∷ zs)) further_text ≡ None = let column : column_by h.digit collection (ls ++ (l ∷ zs)) ≡ column_by h.digit collection ls = column_same h.digit collection ls l zs b.written b.start in
+    let b : IsBefore (column_by h.digit collection ls) l = subst (λ l. IsBefore (column_by h.digit collection ls) l) first (further _ _ k) in
+    let no_text : value_by h (content_column h collection (ls ++ (l ∷ zs)) further_text) (ls ++ (l ∷ zs)) further_text ≡ None = let column : column_by h.digit collection (ls ++ (l ∷ zs)) ≡ column_by h.digit collection ls = column_same h.digit collection ls l zs b.written b.start in
     let row : row_of (column_by h.digit collection (ls ++ (l ∷ zs))) l ≡ None = ap (λ n. row_of n l) column ∙ b.none in
     ap (λ o. value_at_text h o) (no_rows (column_by h.digit collection (ls ++ (l ∷ zs))) ls l zs row) in
-    unread h collection (ls ++ (l ∷ zs)) further_text y s (no_text) (ap (λ o. read_body o collection (body (ls ++ (l ∷ zs)) further_text) y) (sym i) ∙ f)
+    unread h collection (ls ++ (l ∷ zs)) further_text y s no_text (ap (λ o. read_body o collection (body (ls ++ (l ∷ zs)) further_text) y) (sym i) ∙ f)
   where
     two_lines : l ∷ zs ≡ [] → ⊥
     two_lines g = cc g

@@ -70,4 +70,4 @@ keys_before (Some a) (w ∷ ws) after b h k = let step_before : Kept (account_pa
     let l : Option Line = line_past_separation (is_in_flow a.entries) (begins_free_line a.site.before w.separation) a.line in
     let again : Bool = is_renewed a.site.before w.separation in
     one_line_before (may_stand (is_in_flow a.entries) a.site at w.separation w.piece w.shown (spelled ws after)) w.piece (past_piece at w.piece w.shown (spelled ws after) again w.key l a.entries)
-    (piece_before at w.piece w.shown (spelled ws after) again w.key l a.entries (later a.entries a.site.position.line at.position.line (line_grows a.site.position w.separation (w.piece ++ (spelled ws after))) k)) in keys_before (account_past a w (spelled ws after)) ws after b h.1 (step_before)
+    (piece_before at w.piece w.shown (spelled ws after) again w.key l a.entries (later a.entries a.site.position.line at.position.line (line_grows a.site.position w.separation (w.piece ++ (spelled ws after))) k)) in keys_before (account_past a w (spelled ws after)) ws after b h.1 step_before

@@ -20,10 +20,6 @@ pub feed_past : (p : Position) (r : List ℕ) → position_past p 10 r ≡ past_
 unfolding classes.is_break
 feed_past p a = grind (arith, line_position)
 
-carriage_past : (p : Position) (r : List ℕ) → (slice_index r 0 == 10) ≡ false → position_past p 13 r ≡ past_break p
-unfolding classes.is_break
-carriage_past p a h = grind (arith, line_position)
-
 both_past : (p : Position) (r : List ℕ) → position_past p 13 (10 ∷ r) ≡ past p
 unfolding classes.is_break
 both_past p r = in_line_position 13 (10 ∷ r) p refl
@@ -37,7 +33,8 @@ after_chars (c ∷ w) y next p h =
     ap (λ x. position_after x (w ++ y) next) (past_is p c ((w ++ y) ++ next) q.0) ∙ after_chars w y next (past p) q.1
 
 pub after_put : (k : Break) (y next : List ℕ) (p : Position) → Fits k (y ++ next) → position_after p (put k y) next ≡ position_after (after_break k p) y next
-after_put a y next p fits = grind (arith, feed_past, carriage_past, both_past, past)
+unfolding classes.is_break
+after_put a y next p fits = grind (arith, feed_past, line_position, both_past, past)
 
 pub spell_more : (ls : List Line) (a b : List ℕ) → spell ls a ++ b ≡ spell ls (a ++ b)
 spell_more [] a b = refl

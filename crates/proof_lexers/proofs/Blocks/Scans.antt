@@ -16,9 +16,6 @@ use Rattle.proof_lexers.proofs.Blocks.Values.{after_empty, content_value, empty_
 use Rattle.proof_lexers.proofs.Blocks.HeaderFacts.{header_reads, header_tabs, linebreak_put}
 use Rattle.proof_lexers.proofs.Blocks.Walks.{Found, found_in, all_empty, are_full}
 
-not_nil : (k : Break) (a : List ℕ) → is_empty (put k a) ≡ false
-not_nil b a = grind arith
-
 second_false : (a b c : Bool) → (((a && false) && b) && c) ≡ false
 second_false d b c = grind arith
 
@@ -44,7 +41,7 @@ module _ (h : defs.Header) (line : List ℕ) (k : Break) (indent : ℕ) (p : Pos
   pub block_is : (ms : List Line) (e : List ℕ) (column : ℕ) → column_by h.digit (collection_of indent) (texts ms ++ e ∷ []) ≡ column → AreLines ms e → is_in_line e ≡ true → Fits k (spell ms e) → begins_with tab (spell ms e) ≡ false
       → scanned (spell ms e) ≡ after (indent_from column (spell ms e) (at start []))
   unfolding block
-  block_is ms e column same are last fits still = grind (arith, content, content_is, at, tab, linebreak_put, header_reads, break_ends, past, not_nil)
+  block_is ms e column same are last fits still = grind (arith, content, content_is, at, tab, linebreak_put, header_reads, break_ends, past)
 
   pub tab_fails : (a : List ℕ) → Fits k a → begins_with tab a ≡ true → scanned a ≡ Err (At problem.BlockScalarTab p)
   unfolding block
@@ -80,18 +77,6 @@ module _ (h : defs.Header) (line : List ℕ) (k : Break) (indent : ℕ) (p : Pos
   abbrev pub with_header : List ℕ → List ℕ
   with_header a = indicator_of h.style ∷ (line ++ put k a)
 
-  piece_position : (ls : List Line) (next : List ℕ) → AreLines ls next → Fits k (spell ls next) → position_after p (with_header (spell ls [])) next ≡ after_lines ls start
-  piece_position ls next are fits =
-      let more : Fits k (spell ls [] ++ next) = rw (spell_more ls [] next) fits in
-      after_chars (indicator_of h.style ∷ line) (put k (spell ls [])) next p (style_inner h.style line inner) ∙ after_put k (spell ls []) next (along line (past p)) more ∙ after_spell ls [] next start are
-
-  end_position : (ls : List Line) (last : List ℕ) → AreLines ls last → is_in_line last ≡ true → Fits k (spell ls last) → position_after p (with_header (spell ls last)) [] ≡ along last (after_lines ls start)
-  end_position ls last are last_inner fits =
-      let more : Fits k (spell ls last ++ []) = rw append-nil fits in
-      let are' : AreLines ls (last ++ []) = rw append-nil are in
-      after_chars (indicator_of h.style ∷ line) (put k (spell ls last)) [] p (style_inner h.style line inner) ∙ after_put k (spell ls last) [] (along line (past p)) more ∙ after_spell ls last [] start are'
-      ∙ ap (λ x. position_after (after_lines ls start) x []) (sym (append-nil last)) ∙ after_chars last [] [] (after_lines ls start) last_inner
-
   piece_first : (column : ℕ) (a : List ℕ) (r : Read Column) → Fits k a → indent_from column a (at start []) ≡ r → first_content column true p (with_header a) ≡ stopped_at r
   piece_first column a r fits e = first_header column (indicator_of h.style ∷ line) k a p (style_inner h.style line inner) fits ∙ first_is column a start [] ∙ ap stopped_at e
 
@@ -116,7 +101,8 @@ module _ (h : defs.Header) (line : List ℕ) (k : Break) (indent : ℕ) (p : Pos
     closed z n = rw (z.is) refl
 
     position_is : past_spaces (after_lines ls start) next ≡ further_position p piece next
-    position_is = ap (λ q. past_spaces q next) (sym (piece_position ls next are fits))
+    position_is = let piece_position : position_after p (with_header (spell ls [])) next ≡ after_lines ls start = let more : Fits k (spell ls [] ++ next) = rw (spell_more ls [] next) fits in
+        after_chars (indicator_of h.style ∷ line) (put k (spell ls [])) next p (style_inner h.style line inner) ∙ after_put k (spell ls []) next (along line (past p)) more ∙ after_spell ls [] next start are in ap (λ q. past_spaces q next) (sym piece_position)
 
     -- where the piece's content begins, if the search in it ends so
     where_is : {o : Option Position} → first_content column true p piece ≡ o → block_position column p piece next ≡ position_or o (further_position p piece next)
@@ -174,7 +160,10 @@ module _ (h : defs.Header) (line : List ℕ) (k : Break) (indent : ℕ) (p : Pos
     last_position = after_lines ls start
 
     whole_position : along last last_position ≡ further_position p whole []
-    whole_position = sym (end_position ls last are last_inner fits)
+    whole_position = let end_position : position_after p (with_header (spell ls last)) [] ≡ along last (after_lines ls start) = let more : Fits k (spell ls last ++ []) = rw append-nil fits in
+        let are' : AreLines ls (last ++ []) = rw append-nil are in
+        after_chars (indicator_of h.style ∷ line) (put k (spell ls last)) [] p (style_inner h.style line inner) ∙ after_put k (spell ls last) [] (along line (past p)) more ∙ after_spell ls last [] start are'
+        ∙ ap (λ x. position_after (after_lines ls start) x []) (sym (append-nil last)) ∙ after_chars last [] [] (after_lines ls start) last_inner in sym end_position
 
     reaches : (n : ℕ) → (nat_le column n && nat_lt 0 n) ≡ nat_le (max column 1) n
     reaches n = both _ _ (λ e. grind (arith, nat_tests)) (λ e. grind (arith, nat_tests))
@@ -215,15 +204,6 @@ module _ (h : defs.Header) (line : List ℕ) (k : Break) (indent : ℕ) (p : Pos
     opens : (n : ℕ) → suc column ≤ n → (nat_le column n && nat_lt 0 n) ≡ true
     opens n h = grind (arith, nat_tests)
 
-    content_text : Starts column last last_position column → suc column ≤ length last
-        → last_read.text ++ tail (chomping_of h.chomping) (is_open column [] (along last last_position).col) last_read ≡ value_before_end h column rs last last_row
-    content_text z long =
-        let open_is : is_open column [] (along last last_position).col ≡ true = ap (λ n. nat_le column n && nat_lt 0 n) far ∙ opens (length last) long in
-        ap (λ b. last_read.text ++ tail (chomping_of h.chomping) b last_read) open_is
-        ∙ ap (λ m. (written (is_literal_style h.style) column (content_row m) rows_read).text ++ tail (chomping_of h.chomping) true (written (is_literal_style h.style) column (content_row m) rows_read)) z.is
-        ∙ last_value h rs z.char z.rest (are_full column (texts ls) rs rows)
-        ∙ ap (λ m. with_content h 0 (rs ++ content_row m ∷ [])) (sym z.is)
-
     pub before_the_end : (r : Row) → IsRow column last r → read_end r
     before_the_end empty_row (no_content spaces le) = elim (cases_Bool (has_content rs)) [
       | inl e ↦ content_by empty_row rows_read (sees_before e)
@@ -235,6 +215,11 @@ module _ (h : defs.Header) (line : List ℕ) (k : Break) (indent : ℕ) (p : Pos
     before_the_end (content_row m) (is_content lead long free) =
         let col : last_position.col + column ≡ column = (let e = at_front in omega (arith, e)) in
         let z = starts column column last last_position col lead long last_inner in
+        let content_text : last_read.text ++ tail (chomping_of h.chomping) (is_open column [] (along last last_position).col) last_read ≡ value_before_end h column rs last last_row = let open_is : is_open column [] (along last last_position).col ≡ true = ap (λ n. nat_le column n && nat_lt 0 n) far ∙ opens (length last) long in
+        ap (λ b. last_read.text ++ tail (chomping_of h.chomping) b last_read) open_is
+        ∙ ap (λ m. (written (is_literal_style h.style) column (content_row m) rows_read).text ++ tail (chomping_of h.chomping) true (written (is_literal_style h.style) column (content_row m) rows_read)) z.is
+        ∙ last_value h rs z.char z.rest (are_full column (texts ls) rs rows)
+        ∙ ap (λ m. with_content h 0 (rs ++ content_row m ∷ [])) (sym z.is) in
         content_by last_row last_read (elim (cases_Bool (has_content rs)) [
           | inl e ↦ sees_before e
           | inr e ↦ record {
@@ -246,7 +231,7 @@ module _ (h : defs.Header) (line : List ℕ) (k : Break) (indent : ℕ) (p : Pos
             found = all_empty column ls last start [] rs refl are rows e ∙ ap (λ a. indent_from column a (at last_position (breaks (length rs)))) (sym (append-nil last)) ∙ z.found [] (breaks (length rs));
           }
         ])
-        (rows_go (is_literal_style h.style) column ls last start (after_empty 0) rs refl are rows ∙ last_content (is_literal_style h.style) column last last_position rows_read at_front last_inner lead long free) (content_text z long)
+        (rows_go (is_literal_style h.style) column ls last start (after_empty 0) rs refl are rows ∙ last_content (is_literal_style h.style) column last last_position rows_read at_front last_inner lead long free) content_text
 
 -- ---- a header at the end of the text
 

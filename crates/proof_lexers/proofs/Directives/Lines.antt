@@ -30,10 +30,6 @@ none_by a = grind arith
 four_texts : (a b c d r : List ℕ) → a ++ (b ++ (c ++ (46 ∷ (d ++ r)))) ≡ (a ++ (b ++ (c ++ 46 ∷ d))) ++ r
 four_texts a b c d r = sym (append_assoc a (b ++ (c ++ 46 ∷ d)) r ∙ ap (λ k. a ++ k) (append_assoc b (c ++ 46 ∷ d) r ∙ ap (λ k. b ++ k) (append_assoc c (46 ∷ d) r)))
 
-five_texts : (a b c d e r : List ℕ) → a ++ (b ++ (c ++ (d ++ (e ++ r)))) ≡ (a ++ (b ++ (c ++ (d ++ e)))) ++ r
-five_texts a b c d e r =
-    sym (append_assoc a (b ++ (c ++ (d ++ e))) r ∙ ap (λ k. a ++ k) (append_assoc b (c ++ (d ++ e)) r ∙ ap (λ k. b ++ k) (append_assoc c (d ++ e) r ∙ ap (λ k. c ++ k) (append_assoc d e r))))
-
 no_hash : classes.is_blank_or_end 35 ≡ true → ⊥
 unfolding classes.is_blank_or_end classes.is_blank classes.is_break classes.is_nul
 no_hash h = cc
@@ -219,7 +215,7 @@ module _ (start : Position) (l n : List ℕ) (line : has_no_break l ≡ true) (e
           tail = spelled ∙ ap (λ r. handle_is ++ r) (span_cut classes.is_blank after_handle ∙ ap (λ r. leading classes.is_blank after_handle ++ r) (span_cut classes.is_uri from_prefix))
 
           cut : l ≡ before ++ after_prefix
-          cut = grind (arith, from_word, tail, five_texts, handle_is)
+          cut = grind (arith, from_word, tail, append_assoc, handle_is)
 
           position : further (length prefix_text) prefix_position ≡ further (suc (length before)) start
           position = grind (arith, length-append, same_place)
@@ -262,17 +258,14 @@ module _ (start : Position) (l n : List ℕ) (line : has_no_break l ≡ true) (e
 
   -- ---- other directives
 
-  ignored_position : further (length after_word) word_position ≡ further (suc (length l)) start
-  ignored_position =
-      let so_long : length l ≡ length (leading classes.is_alpha l) + length after_word = ap length (span_cut classes.is_alpha l) ∙ length-append (leading classes.is_alpha l) after_word in
-      same_place start (suc (length l)) (omega (arith, so_long)) (omega (arith, so_long))
-
   ignored : (c : ℕ) (w : List ℕ) → leading classes.is_alpha l ≡ c ∷ w → is_same (c ∷ w) (codes "YAML") ≡ false → is_same (c ∷ w) (codes "TAG") ≡ false → is_at_gap after_word ≡ true
       → Told start l n (and_then (value start unknown (after_word ++ n) word_position) (λ t. after_value start t))
   unfolding directive_of
   ignored c w lead no_version no_tag gap =
       let in_line : has_no_break after_word ≡ true = no_break_after (leading classes.is_alpha l) after_word (ap has_no_break (sym (span_cut classes.is_alpha l)) ∙ line) in
       let says : directive_of (37 ∷ l) ≡ Some reserved = rw (lead, gap, no_version, no_tag) refl in
+      let ignored_position : further (length after_word) word_position ≡ further (suc (length l)) start = let so_long : length l ≡ length (leading classes.is_alpha l) + length after_word = ap length (span_cut classes.is_alpha l) ∙ length-append (leading classes.is_alpha l) after_word in
+      same_place start (suc (length l)) (omega (arith, so_long)) (omega (arith, so_long)) in
       rw (line_skipped after_word n word_position in_line ends) (finish l [] reserved (further (length after_word) word_position) (rw append-nil refl) ignored_position says (λ k e. absurd (cc e)) (λ none begins. absurd (cc none)))
 
   -- ---- the directive
@@ -286,16 +279,12 @@ module _ (start : Position) (l n : List ℕ) (line : has_no_break l ≡ true) (e
     ]
   ]
 
-  word_skipped : skip_while is_alpha (l ++ n) (past start) ≡ record { rest = after_word ++ n; position = word_position; value = tt }
-  unfolding classes.is_alpha classes.is_decimal_digit classes.is_letter
-  word_skipped = let q = before_end classes.is_alpha l n (none_at_end classes.is_alpha refl refl n ends) in skipped classes.is_alpha is_alpha same_alpha (l ++ n) (past start) ∙ rw (q.0, q.1) refl
-
   by_word : (w : List ℕ) → leading classes.is_alpha l ≡ w → Told start l n (directive (37 ∷ (l ++ n)) start)
-  unfolding directive name directive_of
+  unfolding directive name directive_of classes.is_alpha classes.is_decimal_digit classes.is_letter
   by_word [] lead =
       let no_letter : is_alpha (slice_index (l ++ n) 0) ≡ false = not-true (is_alpha (slice_index (l ++ n) 0)) (spells_name [] l n refl ends ∙ rw lead refl) in
       fails (At problem.DirectiveName (past start)) (rw lead refl) (no_name lead) (rw no_letter refl)
-  by_word (c ∷ w) lead = rw (not-false (is_alpha (slice_index (l ++ n) 0)) (spells_name [] l n refl ends ∙ rw lead refl), word_skipped, gap_is after_word n ends) (elim (cases_Bool (is_at_gap after_word)) [
+  by_word (c ∷ w) lead = let word_skipped : skip_while is_alpha (l ++ n) (past start) ≡ record { rest = after_word ++ n; position = word_position; value = tt } = let q = before_end classes.is_alpha l n (none_at_end classes.is_alpha refl refl n ends) in skipped classes.is_alpha is_alpha same_alpha (l ++ n) (past start) ∙ rw (q.0, q.1) refl in rw (not-false (is_alpha (slice_index (l ++ n) 0)) (spells_name [] l n refl ends ∙ rw lead refl), word_skipped, gap_is after_word n ends) (elim (cases_Bool (is_at_gap after_word)) [
     | inl e ↦ rw e (by_kind c w lead e)
     | inr e ↦ rw e (fails (At problem.DirectiveNameEnd (past start)) (rw (lead, e) refl) (by_name (rw lead refl) e) refl)
   ])

@@ -13,10 +13,6 @@ or_true b = or-true b
 
 -- ---- what the tests of both say
 
-colon_is_no_flow : (flow : Bool) → (flow && classes.is_flow 58) ≡ false
-unfolding classes.is_flow
-colon_is_no_flow a = grind arith
-
 pub end_is_a_gap : is_blank_or_breakz 0 ≡ true
 unfolding is_blank is_break
 end_is_a_gap = refl
@@ -25,8 +21,8 @@ colon_by : (flow : Bool) (a : List ℕ) → not (is_blank_or_breakz (slice_index
 colon_by flow b = grind (arith, end_is_a_gap, same_gap, same_flow, or_false)
 
 pub can_be : (flow : Bool) (c : ℕ) (a : List ℕ) → can_be_plain flow c (slice_index a 0) ≡ not (ends_at_colon flow (c ∷ a) || (flow && classes.is_flow c))
-unfolding can_be_plain
-can_be flow c a = grind (arith, eqb-true, colon_is_no_flow, or_false, colon_by, same_flow)
+unfolding can_be_plain classes.is_flow
+can_be flow c a = grind (arith, eqb-true, or_false, colon_by, same_flow)
 
 pub not_nul : (c : ℕ) → (c == 0) ≡ false → classes.is_nul c ≡ false
 unfolding classes.is_nul

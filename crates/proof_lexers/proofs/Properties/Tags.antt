@@ -39,9 +39,6 @@ pub close_is_no_uri : classes.is_uri 62 ≡ false
 unfolding classes.is_uri classes.is_decimal_digit classes.is_letter
 close_is_no_uri = refl
 
-verbatim_written : (l cs : List ℕ) → all_of classes.is_uri l ≡ true → decoded l ≡ Ok cs → written_tag (33 ∷ 60 ∷ (l ++ 62 ∷ [])) ≡ Some (record { handle = []; suffix = cs })
-verbatim_written l cs all is = let z = leading_all classes.is_uri l (62 ∷ []) all close_is_no_uri in rw (z.1, z.0, all, is) refl
-
 pub closed_position : (p : Position) (n m : ℕ) → m ≡ n + 1 → past (further n (past (past p))) ≡ further (suc (suc m)) p
 closed_position p n m e = same_place p (suc (suc m)) (omega (arith, e)) (omega (arith, e))
 
@@ -52,11 +49,11 @@ module _ (flow : Bool) (start : Position) (b : List ℕ) where
   closing : (cs : List ℕ) (r : List ℕ) → decoded written ≡ Ok cs → after classes.is_uri b ≡ r
       → Ends flow start (60 ∷ b) (and_then (verbatim_end start cs r (further (length written) (past (past start)))) (λ t. tag_end flow start t))
   closing cs [] is e = refuses _ (at_start _ (unclosed b cs refl is (ap (begins_with 62) e))) refl
-  closing cs (c ∷ r) is e = elim (cases_Bool (c == 62)) [
+  closing cs (c ∷ r) is e = let verbatim_written : written_tag (33 ∷ 60 ∷ (written ++ 62 ∷ [])) ≡ Some (record { handle = []; suffix = cs }) = let z = leading_all classes.is_uri written (62 ∷ []) (all_leading classes.is_uri b) close_is_no_uri in rw (z.1, z.0, (all_leading classes.is_uri b), is) refl in elim (cases_Bool (c == 62)) [
     | inl f ↦
         let same : c ≡ 62 = eqb-true c 62 f in
         let cut : b ≡ (written ++ 62 ∷ []) ++ r = span_cut classes.is_uri b ∙ ap (λ k. written ++ k) (e ∙ ap (λ d. d ∷ r) same) ∙ sym (append_assoc written (62 ∷ []) r) in
-        rw f (ended flow start (60 ∷ b) (60 ∷ (written ++ 62 ∷ [])) r [] cs _ (ap (λ k. 60 ∷ k) cut) (verbatim_written written cs (all_leading classes.is_uri b) is) (closed_position start (length written) _ (length-append written (62 ∷ [])))
+        rw f (ended flow start (60 ∷ b) (60 ∷ (written ++ 62 ∷ [])) r [] cs _ (ap (λ k. 60 ∷ k) cut) verbatim_written (closed_position start (length written) _ (length-append written (62 ∷ [])))
         (verbatim_goes_on b cs r refl is (e ∙ ap (λ d. d ∷ r) same)))
     | inr f ↦ refuses _ (at_start _ (unclosed b cs refl is (ap (begins_with 62) e ∙ f))) (rw f refl)
   ]

@@ -15,9 +15,6 @@ abbrev lead_to : Position → Position → List ℕ → Option Lead → Result U
 lead_to start p t None = Err (At problem.TagLeadingOctet start)
 lead_to start p t (Some l) = at_trail start l.further l.bits l.least p t
 
-same_one : (n : ℕ) → nat_lt n 128 ≡ is_between 0x00 0x7F n
-same_one n = both _ _ (λ h. grind (arith, nat_tests)) (λ h. grind (arith, nat_tests))
-
 same_between : (least most n : ℕ) → (nat_le least n && nat_lt n (suc most)) ≡ is_between least most n
 same_between least most n = both _ _ (λ h. grind (arith, nat_tests)) (λ h. grind (arith, nat_tests))
 
@@ -27,7 +24,7 @@ same_trail n = same_between 0x80 0xBF n
 
 same_lead : (start p : Position) (n : ℕ) (t : List ℕ) → at_octet start lead n p t ≡ lead_to start p t (lead_of n)
 unfolding lead_of
-same_lead start p n t = grind (arith, same_one, same_between)
+same_lead start p n t = grind (arith, both, nat_tests, same_between)
 
 -- ---- what an escape means
 
@@ -107,9 +104,6 @@ module _ (test class : ℕ → Bool) (start : Position) (same : (c : ℕ) → cl
   whole_code : (code least : ℕ) (a : List ℕ) (p : Position) (t : List ℕ) → Plain a → trails_from test start 0 code least a p t ≡ answer a p t (completed least (Ok code) (decoded (leading class a)))
   whole_code code least a p t here = grind (arith, same_code, with_code, class)
 
-  three_off : (left x y z : ℕ) (l : List ℕ) → drop (3 * suc left) (x ∷ y ∷ z ∷ l) ≡ drop (3 * left) l
-  three_off left x y z l = let e : 3 * suc left ≡ suc (suc (suc (3 * left))) = omega arith in rw e refl
-
   -- an octet more of a code
   next_octet : (left code least x y n : ℕ) (b : List ℕ) (p : Position) (t : List ℕ) → Trails left → ((k : ℕ) → Plain (drop k b)) → class x ≡ true → class y ≡ true → octet_at (37 ∷ x ∷ y ∷ leading class b) ≡ Some n
       → octet_from test start (trail left code least) n b (past (past (past p))) t
@@ -124,7 +118,8 @@ module _ (test class : ℕ → Bool) (start : Position) (same : (c : ℕ) → cl
   after_percent left code least a p t others plains (octet x y n b cut e f oc is) =
       let here = rw cut at is in
       let known = rw (cut, e, f) at oc in
-      rw (cut, e, f, three_off left 37 x y (leading class b)) (here ∙ next_octet left code least x y n b p t others (λ k. subst (λ (l : List ℕ). Plain (drop (suc (suc k)) l)) cut (plains (suc (suc (suc k))))) e f known)
+      let three_off : drop (3 * suc left) (37 ∷ x ∷ y ∷ (leading class b)) ≡ drop (3 * left) (leading class b) = let e : 3 * suc left ≡ suc (suc (suc (3 * left))) = omega arith in rw e refl in
+      rw (cut, e, f, three_off) (here ∙ next_octet left code least x y n b p t others (λ k. subst (λ (l : List ℕ). Plain (drop (suc (suc k)) l)) cut (plains (suc (suc (suc k))))) e f known)
   after_percent left code least a p t others plains (no_octets oc is) = is ∙ rw oc refl
 
   no_percent : (c : ℕ) (l : List ℕ) (b : Bool) → (c == 37) ≡ false → octet_at (if b then c ∷ l else []) ≡ None

@@ -34,9 +34,6 @@ module _ (ctx : Context) (start : Position) where
 pub has_digits : (d n : ℕ) → lookup d numeric_escapes ≡ Some n → count_of (digits_of n) ≡ n
 has_digits d n h = grind arith
 
-pub same_length : (n m : ℕ) → (suc n == suc m) ≡ (n == m)
-same_length n m = both _ _ (λ h. grind (arith, nat_tests)) (λ h. grind (arith, nat_tests))
-
 pub too_short : (n : ℕ) → (zero == suc n) ≡ false
 too_short n = grind (arith, nat_tests)
 
@@ -57,7 +54,7 @@ module _ (ctx : Context) (start : Position) where
   pub digits_read : (n value : ℕ) (b : List ℕ) (p : Position) (u : Folded) → digits_from false ctx start n value b p u ≡ coded_end (drop n b) (along (take n b) p) u (number_after n value b)
   digits_read zero value b p u = grind (arith, nat_tests, coded, same_code, coded_fails)
   digits_read (suc n) value [] p u = rw (too_short n) refl
-  digits_read (suc n) value (c ∷ b) p u = grind (arith, nat_tests, digit_turn, same_digit, past, same_length, digit_fails, none_either, digits_read n (value * 16 + digit_value c) b (past p) u)
+  digits_read (suc n) value (c ∷ b) p u = grind (arith, nat_tests, digit_turn, same_digit, past, both, digit_fails, none_either, digits_read n (value * 16 + digit_value c) b (past p) u)
 
   counted : (n code : ℕ) (b r : List ℕ) (p : Position) (u : Folded) → (length (take n b) == n) ≡ true → hexadecimal 0 (take n b) ≡ Some code → is_character_code code ≡ true
       → digits_from false ctx start n 0 (b ++ r) p u ≡ scan false ctx start (drop n b ++ r) inside (along (take n b) p) (with_char code u)
@@ -78,10 +75,6 @@ module _ (ctx : Context) (start : Position) where
   known_some : (d : ℕ) (e : Escape) → escape_of d ≡ e → (e ≡ Unknown → ⊥) → (d == 0) ≡ false
   unfolding escape_of
   known_some d e h known = ne_eqb d 0 (λ z. known (sym h ∙ rw z refl))
-
-  break_some : (d : ℕ) → is_break d ≡ true → (d == 0) ≡ false
-  unfolding is_break
-  break_some d h = grind (arith, nat_tests)
 
   no_white : (is_break 92 || is_blank 92) ≡ false
   unfolding is_break is_blank
@@ -111,7 +104,8 @@ module _ (ctx : Context) (start : Position) where
   unfolding is_break is_blank
   lone_broken_step d b r p t e f =
       let g : classes.is_break d ≡ true = same_break d ∙ e in
-      broken_by d b r 0 p (past p) t (rw (e, f) refl) (rw g refl) (rw (break_some d e) refl) (begins false ctx start 92 (d ∷ (b ++ r)) p t no_white)
+      let break_some : (d == 0) ≡ false = grind (arith, nat_tests) in
+      broken_by d b r 0 p (past p) t (rw (e, f) refl) (rw g refl) (rw (break_some) refl) (begins false ctx start 92 (d ∷ (b ++ r)) p t no_white)
 
   broken_step : (d : ℕ) (b r : List ℕ) (p : Position) (t : Folded) → (slice_index r 0 == 10) ≡ false → is_break d ≡ true → Step false ctx start 92 (d ∷ b) r p t (spelled escaped_break (suc (break_further d b)))
   unfolding is_break is_blank classes.is_break

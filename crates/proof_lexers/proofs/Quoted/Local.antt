@@ -28,12 +28,9 @@ as_local a to b d e z = grind arith
 abbrev doubled_at : List ℕ → Option Spelled
 doubled_at r = (if begins_with 39 r then Some (spelled (content 39) 1) else None)
 
-doubled_local : (b : List ℕ) → LocalOf doubled_at b (doubled_at b)
-doubled_local a = grind arith
-
 single_local : (c : ℕ) (b : List ℕ) → LocalOf (single_quoted_element c) b (single_quoted_element c b)
 unfolding single_quoted_element
-single_local c b = grind (arith, as_local, doubled_local, plain_local)
+single_local c b = grind (arith, as_local, plain_local)
 
 -- ---- double quotes
 
@@ -64,14 +61,11 @@ unfolding escape
 escape_local [] = tt
 escape_local (d ∷ b) = elim (cases_Bool (classes.is_break d)) [ inl e ↦ rw e (escape_broken d b e) | inr e ↦ rw e (by_rows d b (lookup d escapes) (lookup d numeric_escapes) e refl refl) ]
 
-double_local : (c : ℕ) (b : List ℕ) → LocalOf (double_quoted_element c) b (double_quoted_element c b)
-unfolding double_quoted_element
-double_local c b = grind (arith, as_local, escape_local, plain_local)
-
 -- ---- either
 
 pub local : (single : Bool) (c : ℕ) (b : List ℕ) → LocalOf (element_of single c) b (element_of single c b)
-local a c b = grind (arith, nat_tests, single_local, double_local)
+unfolding double_quoted_element
+local a c b = grind (arith, nat_tests, single_local, as_local, escape_local, plain_local)
 
 -- elements after so many characters are those of the text after them
 pub after_some : (at : ℕ → List ℕ → Option Spelled) (n : ℕ) (b : List ℕ) → elements at n b ≡ elements at 0 (drop n b)
