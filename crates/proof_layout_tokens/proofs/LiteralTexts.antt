@@ -15,15 +15,12 @@ in_line c h e = grind (arith, nat_tests)
 abbrev are_line_texts : List (List ℕ) → Bool
 are_line_texts ls = list_all (λ l. list_all is_line_character l) ls
 
-onto_text : (c : ℕ) (ls : List (List ℕ)) → is_line_character c ≡ true → are_line_texts ls ≡ true → are_line_texts (onto_first_line c ls) ≡ true
-onto_text c a h e = grind arith
-
 text_lines : (text : List ℕ) → list_all is_literal_character text ≡ true → are_line_texts (lines_of text) ≡ true
 text_lines [] h = refl
 text_lines (c ∷ cs) h = let q = and_parts (is_literal_character c) (list_all is_literal_character cs) h in by (c == 10) refl q.0 (text_lines cs q.1)
   where
     by : (b : Bool) → (c == 10) ≡ b → is_literal_character c ≡ true → are_line_texts (lines_of cs) ≡ true → are_line_texts (if b then [] ∷ lines_of cs else onto_first_line c (lines_of cs)) ≡ true
-    by a e d g = grind (arith, onto_text, in_line)
+    by a e d g = grind (arith, in_line)
 
 -- ---- the last line
 
@@ -31,9 +28,6 @@ abbrev ends_full : List (List ℕ) → Bool
 ends_full [] = false
 ends_full (l ∷ []) = not (is_empty l)
 ends_full (l ∷ m ∷ ls) = ends_full (m ∷ ls)
-
-below_empty : (ls : List (List ℕ)) → ends_full ls ≡ true → ends_full ([] ∷ ls) ≡ true
-below_empty a h = grind arith
 
 onto_full : (c : ℕ) (ls : List (List ℕ)) → ends_full ls ≡ true → ends_full (onto_first_line c ls) ≡ true
 onto_full c a h = grind arith
@@ -47,7 +41,7 @@ last_full c (d ∷ []) h e = grind arith
 last_full c (d ∷ e ∷ cs) h f = by (c == 10) (last_full d (e ∷ cs) (and_false (d == 10)) (sym (two_step c d e cs) ∙ f))
   where
     by : (b : Bool) → ends_full (lines_of (d ∷ e ∷ cs)) ≡ true → ends_full (if b then [] ∷ lines_of (d ∷ e ∷ cs) else onto_first_line c (lines_of (d ∷ e ∷ cs))) ≡ true
-    by a z = grind (arith, below_empty, onto_full)
+    by a z = grind (arith, onto_full)
 
 -- ---- the written lines
 

@@ -146,9 +146,6 @@ real_words : (w : List ℕ) → list_all is_real_character w ≡ true → are_wo
 real_words [] h = refl
 real_words (c ∷ w) h = let q = and_parts (is_real_character c) (list_all is_real_character w) h in and_from _ _ (let e = q.0 in grind (arith, nat_tests)) (real_words w q.1)
 
-real_no_space : (c : ℕ) → is_real_character c ≡ true → (c == 32) ≡ false
-real_no_space c h = grind (arith, nat_tests)
-
 two_dashes : (w : List ℕ) → is_real_text (45 ∷ 45 ∷ w) ≡ true → ⊥
 two_dashes w h = let z = real_text-cases (45 ∷ 45 ∷ w) h in let f = is_decimal-read (45 ∷ 45 ∷ w) in grind arith
 
@@ -165,8 +162,8 @@ real_second : (c : ℕ) (w : List ℕ) → is_real_text (c ∷ w) ≡ true → l
 unfolding typing is_decimal
 real_second c [] h e = rw (not_alone c (c == 45) 45 refl refl h, not_alone c (c == 46) 46 refl refl h) refl
 real_second c (d ∷ w) h e =
-    let q = and_parts (is_real_character d) (list_all is_real_character w) e in
-    rw (not_double c d w ((c == 45) && (d == 45)) 45 refl (two_dashes w) h, not_double c d w ((c == 46) && (d == 46)) 46 refl (two_points w) h, real_no_space d q.0, and_false (c == 45)) refl
+    let q = and_parts (is_real_character d) (list_all is_real_character w) e in let real_no_space : (d == 32) ≡ false = grind (arith, nat_tests) in
+    rw (not_double c d w ((c == 45) && (d == 45)) 45 refl (two_dashes w) h, not_double c d w ((c == 46) && (d == 46)) 46 refl (two_points w) h, real_no_space, and_false (c == 45)) refl
 
 real_plain : (s : List ℕ) → is_real_text s ≡ true → IsPlainText s
 unfolding typing is_decimal

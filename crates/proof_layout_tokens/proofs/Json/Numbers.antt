@@ -21,24 +21,15 @@ with_nil w r = rw append-nil refl
 fraction_then : (f : Fraction) (r : List ℕ) → spell_fraction f r ≡ spell_fraction f [] ++ r
 fraction_then a r = grind (arith, with_nil)
 
-sign_then : (s : Sign) (w r : List ℕ) → spell_sign s (w ++ r) ≡ spell_sign s (w ++ []) ++ r
-sign_then a w r = grind (arith, with_nil)
-
 rest_then : (f : Fraction) (e : Exponent) (r : List ℕ) → spell_fraction f (spell_exponent e r) ≡ spell_fraction f (spell_exponent e []) ++ r
-rest_then f e r = fraction_then f (spell_exponent e r) ∙ ap (λ l. spell_fraction f [] ++ l) (grind (arith, sign_then)) ∙ sym (append_assoc (spell_fraction f []) (spell_exponent e []) r) ∙ ap (λ l. l ++ r) (sym (fraction_then f (spell_exponent e [])))
-
-whole_then : (w : List ℕ) (f : Fraction) (e : Exponent) (r : List ℕ) → w ++ spell_fraction f (spell_exponent e r) ≡ (w ++ spell_fraction f (spell_exponent e [])) ++ r
-whole_then w f e r = ap (λ l. w ++ l) (rest_then f e r) ∙ sym (append_assoc w (spell_fraction f (spell_exponent e [])) r)
+rest_then f e r = fraction_then f (spell_exponent e r) ∙ ap (λ l. spell_fraction f [] ++ l) (grind (arith, with_nil)) ∙ sym (append_assoc (spell_fraction f []) (spell_exponent e []) r) ∙ ap (λ l. l ++ r) (sym (fraction_then f (spell_exponent e [])))
 
 -- a number before a text
 pub number_then : (n : Number) (r : List ℕ) → spell_number n r ≡ spell_number n [] ++ r
-number_then a r = grind (arith, whole_then)
-
-sign_words : (s : Sign) (w : List ℕ) → are_words w ≡ true → are_words (spell_sign s w) ≡ true
-sign_words a w h = grind arith
+number_then a r = grind (arith, rest_then, append_assoc, spell_fraction, spell_exponent)
 
 rest_words : (f : Fraction) (e : Exponent) → is_fraction f ≡ true → is_exponent e ≡ true → are_words (spell_fraction f (spell_exponent e [])) ≡ true
-rest_words f e h i = rw (fraction_then f (spell_exponent e [])) (append_words (spell_fraction f []) (spell_exponent e []) (grind (arith, append_words, are_digits_words)) (grind (arith, sign_words, append_words, are_digits_words)))
+rest_words f e h i = rw (fraction_then f (spell_exponent e [])) (append_words (spell_fraction f []) (spell_exponent e []) (grind (arith, append_words, are_digits_words)) (grind (arith, append_words, are_digits_words)))
 
 whole_digits : (w : List ℕ) → is_whole w ≡ true → are_digits w ≡ true
 whole_digits a h = grind (arith, and_from)

@@ -20,9 +20,6 @@ unfolding is_on_one_line
 gap_spaces [] r h = (tt, h)
 gap_spaces (b ∷ g) r h = grind (arith, gap_spaces g r)
 
-after_number : (n : Number) (r : List ℕ) → OnOneLine (spell_number n r) → OnOneLine r
-after_number n r h = after (spell_number n []) r (rw (number_then n r) at h)
-
 after_pieces : (ps : List Piece) (r : List ℕ) → OnOneLine (spell_pieces ps r) → OnOneLine r
 after_pieces [] r h = h
 after_pieces (p ∷ ps) r h = after_pieces ps r (grind (arith, after_one))
@@ -37,7 +34,7 @@ mutual
   json_spaces true_word r h = (tt, after (116 ∷ 114 ∷ 117 ∷ 101 ∷ []) r h)
   json_spaces (array g es) r h = grind (arith, gap_spaces, after_one, elements_spaces es)
   json_spaces (object g ms) r h = grind (arith, gap_spaces, after_one, members_spaces ms)
-  json_spaces v r h = grind (arith, gap_spaces, after_one, after_number, after_string)
+  json_spaces v r h = grind (arith, gap_spaces, after_one, after, spell_number, number_then, after_string)
 
   elements_spaces : (es : Elements) (r : List ℕ) → OnOneLine (spell_elements es r) → HaveSpaces es × OnOneLine r
   elements_spaces (last_element v a) r h = grind (arith, json_spaces v, gap_spaces)

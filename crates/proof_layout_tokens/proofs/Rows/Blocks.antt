@@ -22,9 +22,6 @@ pub left_open : (c : ℕ) (extra bs : List ℕ) → AreAbove c extra → Stay c 
 left_open c [] bs above stay = grind (arith, le-ltb)
 left_open c (n ∷ extra) bs above stay = let low = above.0 in let e : nat_lt c n ≡ true = grind (arith, low) in rw e (left_open c extra bs above.1 stay)
 
-so_many : (extra bs : List ℕ) → length (extra ++ bs) - length bs ≡ length extra
-so_many extra bs = rw length-append (omega arith)
-
 pub ends_are : (extra : List ℕ) (p : Position) (first : List Token) → toks (replicate (length extra) (put p Tok.block_end) ++ first) ≡ ended extra (toks first)
 ends_are [] p first = refl
 ends_are (n ∷ extra) p first = ap (λ o. Tok.block_end ∷ o) (ends_are extra p first)
@@ -60,13 +57,13 @@ module _ (c : ℕ) (extra bs : List ℕ) (p : Position) (awaits : Bool) (before 
       → Reads from (f ++ (w ++ next)) (ended extra (first ++ (t ∷ tokens)))
   block_reads bs' l' first tokens above stay no_marker none shown further precede leads one_line begins rest =
       let stay_on = left_open c extra bs above stay in
-      let awaits_then = awaits_past false t (site_of from (step_of f w t key) next).blocks (site_of from (step_of f w t key) next).awaits next in
+      let awaits_then = awaits_past false t (site_of from (step_of f w t key) next).blocks (site_of from (step_of f w t key) next).awaits next in let so_many : length (extra ++ bs) - length bs ≡ length extra = rw length-append (omega arith) in
       let z : Steps from (step_of f w t key) next (at (position_after there w next) bs' awaits_then (previous_by t) l' (begun_by t)) (ended extra first) = record {
         is_separated = here.separates;
         is_shown = shown;
         stands = rw (here.tabless, or_true, further _, no_marker, here.column, stay_on, precede) refl;
         leads = rw (here.line, no_marker, here.column, stay_on, leads, one_line) refl;
-        begins = λ past colon. rw (here.line, no_marker, here.column, stay_on, so_many extra bs) (ends_are extra there _ ∙ ap (ended extra) (begins colon.here));
+        begins = λ past colon. rw (here.line, no_marker, here.column, stay_on, so_many) (ends_are extra there _ ∙ ap (ended extra) (begins colon.here));
         none = (here.none, none);
       } in
       rw (← ended_append extra first (t ∷ tokens)) (step (step_of f w t key) next z (rest awaits_then))

@@ -58,11 +58,8 @@ empty_gap : (g : List GapLine) → AreEmptyLines g → IsGap g
 empty_gap [] are = tt
 empty_gap (l ∷ g) are = grind (arith, empty_gap g)
 
-after_gap : (x : Root) (g : List GapLine) → IsAfterRoot x g → IsGap g
-after_gap x g is = grind (arith, empty_gap)
-
 is_trail : (root : Root) (t : Trail) → EndsDocument root t → IsTrail t
-is_trail root t h = grind (arith, after_gap)
+is_trail root t h = grind (arith, empty_gap)
 
 root_reads : (root : Root) → IsRoot root → (b : Bool) (g : List GapLine) → IsGap g → (t : Trail) → EndsDocument root t → (tokens : List Tok) (p : Position) (awaits : Bool) (l : Line) → is_waiting l ≡ false → (b ≡ false → (p.col ≡ 0) × (l ≡ free)) → After t [] tokens
     → Reads (at p [] awaits another l []) (pre b (spell_gap g (spell_root root (trail_text t)))) (root_tokens root tokens)
@@ -80,22 +77,19 @@ root_reads (Root.literal text ls) is b g gap t ends tokens p awaits l line begin
 
 -- ---- markers
 
-all_left : (n : ℕ) → n - 0 ≡ n
-all_left n = omega arith
-
 marker_reads : (r : List ℕ) (tokens : List Tok) → ((p : Position) (awaits : Bool) → Reads (at p [] awaits another taken []) (10 ∷ r) tokens)
     → (extra : List ℕ) (p : Position) (awaits : Bool) (before : Previous) (l : Line) (f : List ℕ) → Here 0 (marker_text r) p before l f → Reads (at p (extra ++ []) awaits before l []) (f ++ marker_text r) (ended extra (Tok.document_start ∷ tokens))
 unfolding is_blank_or_end is_blank is_break
 marker_reads r tokens rest extra p awaits before l f here =
     let text = 10 ∷ r in
     let w = codes "---" in
-    let there = position_after p f (w ++ text) in
+    let there = position_after p f (w ++ text) in let all_left : (length extra) - 0 ≡ (length extra) = omega arith in
     let first : Steps (at p extra awaits before l []) (step_of f w Tok.document_start false) text (at (position_after there w text) [] (awaits_past false Tok.document_start [] (awaits_at false there.col extra awaits) text) another taken []) (ended extra []) = record {
       is_separated = here.separates;
       is_shown = (refl, ((refl, here.column, refl, refl), refl));
       stands = rw (here.tabless, or_true _) refl;
       leads = rw (here.line, and_false (has_break w)) refl;
-      begins = λ past colon. rw (all_left (length extra)) (ends_are extra there []);
+      begins = λ past colon. rw (all_left) (ends_are extra there []);
       none = (here.none, refl);
     } in
     rw append-nil (rw (← ended_append extra [] (Tok.document_start ∷ tokens)) (step (step_of f w Tok.document_start false) text first (rest _ _)))

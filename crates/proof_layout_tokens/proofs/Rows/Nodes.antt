@@ -13,9 +13,6 @@ IsDeep bs p = least_column bs true ≤ p.col
 pub low : (bs : List ℕ) (awaits : Bool) (n : ℕ) → least_column bs true ≤ n → nat_le (least_column bs awaits) n ≡ true
 low a b n h = grind arith
 
-low_for : (t : Tok) (s : Site) → IsDeep s.blocks s.position → nat_le (least_for t s) s.position.col ≡ true
-low_for t s h = grind (arith, low)
-
 pub none_ends : (bs : List ℕ) (n : ℕ) → least_column bs true ≤ n → not_ended n bs ≡ bs
 none_ends a n h = grind (arith, le-ltb)
 
@@ -128,4 +125,4 @@ module _ (bs f w next : List ℕ) (t : Tok) (node : act_of t ≡ gives_node) whe
           → may_precede (is_in_flow (entries_before pl)) bs t w next ≡ true
           → may_stand (is_in_flow (entries_before pl)) (at p bs awaits another l (entries_before pl)).site (site_of (at p bs awaits another l (entries_before pl)) (step_of f w t false) next) f w t next ≡ true
       stand outside further precede = rw (indented another bs awaits f parts, further, node, none_ends bs (here p).col deep, precede) refl
-      stand (within b es) further precede = rw (indented another bs awaits f parts, node, low_for t (site_of (at p bs awaits another l (awaiting b ∷ es)) (step_of f w t false) next) deep, further, precede) refl
+      stand (within b es) further precede = let low_for : nat_le (least_for t (site_of (at p bs awaits another l (awaiting b ∷ es)) (step_of f w t false) next)) (site_of (at p bs awaits another l (awaiting b ∷ es)) (step_of f w t false) next).position.col ≡ true = grind (arith, low) in rw (indented another bs awaits f parts, node, low_for, further, precede) refl

@@ -60,9 +60,6 @@ module _ (in_flow : Bool) (collection : Option ℕ) (next : List ℕ) where
   stand true = after_blank
   stand false = inside
 
-  no_flow : (c : ℕ) → (in_flow ≡ true → is_in_flow c ≡ true) → (in_flow && is_flow c) ≡ false
-  no_flow c may = grind (arith, not-true)
-
   goes_over : (b : Bool) (w : List ℕ) → are_plain w ≡ true → MayFlow in_flow w → goes_on in_flow collection (stand b) w next ≡ true
   goes_over b [] h flow = refl
   goes_over b (c ∷ w) h flow =
@@ -111,8 +108,8 @@ module _ (in_flow adjacent : Bool) (column : ℕ) where
       by true e (d ∷ w) second plain flow =
           let q = and_parts (not ((c == 45) && (d == 45)) && not ((c == 46) && (d == 46))) (not ((c == 45) && (d == 32))) second in
           let n : (d == 32) ≡ false = rw e at (not-true ((c == 45) && (d == 32)) q.1) in
-          let one = and_parts (is_plain_char d) (are_plain w) plain in
-          rw (e, no_gap d one.0 n, no_flow in_flow None [] d (λ i. (and_parts (is_in_flow d) (list_all is_in_flow w) (and_parts (is_in_flow c) (list_all is_in_flow (d ∷ w)) (flow i)).1).0)) refl
+          let one = and_parts (is_plain_char d) (are_plain w) plain in let no_flow : (in_flow && is_flow d) ≡ false = grind (arith, not-true) in
+          rw (e, no_gap d one.0 n, no_flow) refl
       by false e w second plain flow = let z = first_char c first in rw (e, z.2, (plain_char c z.0).colon, z.3, z.4) refl
 
 -- ---- the piece

@@ -53,10 +53,6 @@ pub record Opens (a : List ℕ) : Type 0 where
   pub tabless : has_tab_before_piece false a ≡ false
   pub no_name : goes_on_with_name a ≡ false
 
-no_blank_tab : (c : ℕ) → is_blank c ≡ false → (c == 9) ≡ false
-unfolding is_blank
-no_blank_tab c h = grind (arith, nat_tests)
-
 no_blank_space : (c : ℕ) → is_blank c ≡ false → (c == 32) ≡ false
 unfolding is_blank
 no_blank_space c h = grind (arith, nat_tests)
@@ -67,8 +63,8 @@ leading_tabless zero a (content_first c r blank break hash nul) = rw blank refl
 leading_tabless (suc n) a z = leading_tabless n a z
 
 piece_tabless : (n : ℕ) (a : List ℕ) → BeginsContent a → has_tab_before_piece false (spaces n a) ≡ false
-unfolding is_break
-piece_tabless zero a (content_first c r blank break hash nul) = rw (no_blank_tab c blank, no_blank_space c blank, break, hash) refl
+unfolding is_break is_blank
+piece_tabless zero a (content_first c r blank break hash nul) = let no_blank_tab : (c == 9) ≡ false = grind (arith, nat_tests) in rw (no_blank_tab, no_blank_space c blank, break, hash) refl
 piece_tabless (suc n) a z = piece_tabless n a z
 
 comment_tabless : (text a : List ℕ) → IsLineText text → has_tab_before_piece true (text ++ 10 ∷ a) ≡ has_tab_before_piece false a
@@ -143,10 +139,6 @@ scalar_begins (Scalar.plain t) r h =
 scalar_begins (Scalar.quoted text) r h = content_first 34 _ refl refl refl refl
 scalar_begins (Scalar.single_quoted text) r h = content_first 39 _ refl refl refl refl
 
-folded_begins : (strips : Bool) (r : List ℕ) → BeginsContent (folded_header strips ++ r)
-unfolding is_blank is_break is_nul
-folded_begins a r = grind (arith, content_first)
-
 entries_begin : (c : ℕ) (es : Entries) (r : List ℕ) → BeginsContent (spell_entries c es r)
 unfolding is_blank is_break is_nul
 entries_begin c (Entries.last_entry v) r = content_first 45 _ refl refl refl refl
@@ -169,7 +161,7 @@ value_opens : (c : ℕ) (a : List Anchor) (v : Value) (r : List ℕ) → IsValue
 unfolding is_blank is_break is_nul
 value_opens c a (Value.beside more i k) r h = opens_beside more (spell_inline i (spell_comment k r)) (grind (arith, scalar_begins, content_first))
 value_opens c a (Value.literal more column text ls) r h = opens_beside more _ (grind (arith, content_first))
-value_opens c a (Value.folded more column strips text ls) r h = opens_beside more _ (folded_begins strips _)
+value_opens c a (Value.folded more column strips text ls) r h = let folded_begins : BeginsContent (folded_header strips ++ _) = grind (arith, content_first) in opens_beside more _ (folded_begins)
 value_opens c a (Value.json more v) r h = opens_beside more _ (grind (arith, content_first))
 value_opens c a (Value.compact more b) r h = opens_beside more _ (block_begins (c + 2 + more) a b r h)
 value_opens c a (layout.below k g column b) r h = opens_below k g column _ h.0 h.1 (block_begins column a b r h.3)
@@ -279,9 +271,6 @@ then_reads c one_text all collection gives gives_all g gap begins one more is_op
     one is_open extra bs (next g c r) (gives_all tokens) p awaits before l f above_it begin (gap, begins (trail_text t)) (omega arith) here
     (λ more_extra q waits past m f2 ends there. more true more_extra bs t tokens q waits past m f2 (above g c r more_extra ends) (λ e. cc) trail low there rest)
 
-headed : (strips : Bool) (r : List ℕ) → folded_header strips ++ r ≡ block_text BlockStyle.folded strips r
-headed strips r = grind arith
-
 -- ---- all of them
 
 mutual
@@ -299,8 +288,8 @@ mutual
       rw (headed_literal text (spell_lines column ls (trail_text t)), ← beside_text more (block_text BlockStyle.literal (strips_of text) (spell_lines column ls (trail_text t))))
       (block_is_read BlockStyle.literal (suc c) column (strips_of text) text ls h.0 (literal_lines c column text ls h.0 h.1 h.2) (c ∷ bs) refl tokens p awaits l (32 ∷ spaces more []) line lead.parts lead.deep t trail (nested_follows c column bs t h.0 trail low) rest)
   read_value c a (Value.folded more column strips text ls) h bs t tokens p awaits l trail low line deep fits rest =
-      let lead = lead_beside c bs more p deep in
-      rw (headed strips (spell_lines column ls (trail_text t)), ← beside_text more (block_text BlockStyle.folded strips (spell_lines column ls (trail_text t))))
+      let lead = lead_beside c bs more p deep in let headed : folded_header strips ++ (spell_lines column ls (trail_text t)) ≡ block_text BlockStyle.folded strips (spell_lines column ls (trail_text t)) = grind arith in
+      rw (headed, ← beside_text more (block_text BlockStyle.folded strips (spell_lines column ls (trail_text t))))
       (block_is_read BlockStyle.folded (suc c) column strips text ls h.0 h.1 (c ∷ bs) refl tokens p awaits l (32 ∷ spaces more []) line lead.parts lead.deep t trail (nested_follows c column bs t h.0 trail low) rest)
   read_value c a (Value.json more v) h bs t tokens p awaits l trail low line deep fits rest =
       rw (← blanks_are (suc more) (Json.spell v (trail_text t)))
