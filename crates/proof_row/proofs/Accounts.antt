@@ -5,6 +5,7 @@ use Rattle.defs_token.specs.RowAccount.{Account}
 use Rattle.proof_row.proofs.Like.{LikeLine, LikeHad, LikeEntries, IsLike, LikeOutside, entries_themselves, Stepped, none_second, weaker, unless, where_both, both, same_entry}
 use Rattle.proof_row.proofs.RowLines.{separation_step, line_step}
 use Rattle.proof_row.proofs.Entries.{entries_step}
+use Rattle.std.proofs.lemmas.Bool.{and_parts}
 
 -- ---- after a piece
 
@@ -88,10 +89,6 @@ account_step a b w v x y i f p t n =
 
 -- ---- the text's end
 
-both_hold : (x y : Bool) → (x && y) ≡ true → (x ≡ true) × (y ≡ true)
-both_hold true y h = (refl, h)
-both_hold false y h = absurd (cc h)
-
 same_line : (l m : Line) → LikeLine l m → not (is_waiting l) ≡ true → not (is_waiting m) ≡ true → l ≡ m
 same_line free free i h k = refl
 same_line taken taken i h k = refl
@@ -110,8 +107,8 @@ same_had _ _ i h k = absurd i
 same_entries : (ds es : List Entry) → LikeEntries ds es → have_no_key ds ≡ true → have_no_key es ≡ true → ds ≡ es
 same_entries [] [] i h k = refl
 same_entries (d ∷ ds) (e ∷ es) i h k =
-    let first : (not (is_keyed d.had) ≡ true) × (have_no_key ds ≡ true) = both_hold _ _ h in
-    let second : (not (is_keyed e.had) ≡ true) × (have_no_key es ≡ true) = both_hold _ _ k in
+    let first : (not (is_keyed d.had) ≡ true) × (have_no_key ds ≡ true) = and_parts _ _ h in
+    let second : (not (is_keyed e.had) ≡ true) × (have_no_key es ≡ true) = and_parts _ _ k in
     both d e ds es (same_entry d e i.0.0 i.0.1 (same_had d.had e.had i.0.2 first.0 second.0)) (same_entries ds es i.1 first.1 second.1)
 same_entries [] (e ∷ es) i h k = absurd i
 same_entries (d ∷ ds) [] i h k = absurd i
@@ -119,6 +116,6 @@ same_entries (d ∷ ds) [] i h k = absurd i
 -- Like accounts at which a text may end are equal.
 pub same_at_end : (a b : Account) → IsLike a b → may_end a ≡ true → may_end b ≡ true → a ≡ b
 same_at_end a b i h k =
-    let first : (not (is_waiting a.line) ≡ true) × (have_no_key a.entries ≡ true) = both_hold _ _ h in
-    let second : (not (is_waiting b.line) ≡ true) × (have_no_key b.entries ≡ true) = both_hold _ _ k in
+    let first : (not (is_waiting a.line) ≡ true) × (have_no_key a.entries ≡ true) = and_parts _ _ h in
+    let second : (not (is_waiting b.line) ≡ true) × (have_no_key b.entries ≡ true) = and_parts _ _ k in
     same_account a b i.0 (same_line a.line b.line i.1 first.0 second.0) (same_entries a.entries b.entries i.2 first.1 second.1)

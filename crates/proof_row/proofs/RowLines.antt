@@ -23,38 +23,6 @@ Outer l bs = record { line = l; blocks = bs }
 line_of : (l m : Line) (bs cs : List ℕ) → Outer l bs ≡ Outer m cs → l ≡ m
 line_of l m bs cs h = ap (λ x. x.line) h
 
-node_step : LineStep gives_node
-node_step must here bs true true free free i = ((refl, refl), λ h. (refl, refl))
-node_step true here bs true false free free i = tt
-node_step false here bs true false free free i = ((tt, refl), λ h. absurd (cc (line_of (waits here) taken bs bs h)))
-node_step true here bs false true free free i = tt
-node_step false here bs false true free free i = ((tt, refl), λ h. absurd (cc (line_of taken (waits here) bs bs h)))
-node_step true here bs false false free free i = tt
-node_step false here bs false false free free i = ((tt, refl), λ h. (refl, refl))
-node_step must here bs false false taken taken i = ((tt, refl), λ h. (refl, refl))
-node_step must here bs false false taken (waits q) i = ((tt, refl), λ h. (line_of taken (waits q) bs bs h, refl))
-node_step must here bs false false (waits p) taken i = ((tt, refl), λ h. (line_of (waits p) taken bs bs h, refl))
-node_step must here bs false false (waits p) (waits q) i = ((i, refl), λ h. (ap waits i, refl))
-node_step must here bs true c taken m i = tt
-node_step must here bs true c (waits p) m i = tt
-node_step must here bs b true l taken i = none_second LikeOutside ((l ≡ taken) × (b ≡ true)) (line_past must here bs gives_node b l)
-node_step must here bs b true l (waits q) i = none_second LikeOutside ((l ≡ waits q) × (b ≡ true)) (line_past must here bs gives_node b l)
-node_step must here bs _ _ _ _ i = absurd i
-
-colon_step : LineStep gives_colon
-colon_step must here bs false false free free i = ((tt, refl), λ h. (refl, refl))
-colon_step must here bs false false (waits p) (waits q) i =
-    subst (λ x. Stepped LikeOutside ((waits p ≡ waits x) × (false ≡ false)) (keyed p here bs) (keyed x here bs)) i (by (is_near p here) (opened p.col bs))
-  where
-    by : (n : Bool) (cs : List ℕ) → Stepped LikeOutside ((waits p ≡ waits p) × (false ≡ false)) (if n then Some (Outer taken cs) else None) (if n then Some (Outer taken cs) else None)
-    by true cs = ((tt, refl), λ h. (refl, refl))
-    by false cs = tt
-colon_step must here bs true c l m i = tt
-colon_step must here bs false true l m i = none_second LikeOutside ((l ≡ m) × (false ≡ true)) (line_past must here bs gives_colon false l)
-colon_step must here bs false false taken m i = tt
-colon_step must here bs false false (waits p) taken i = none_second LikeOutside ((waits p ≡ taken) × (false ≡ false)) (keyed p here bs)
-colon_step must here bs false false _ _ i = absurd i
-
 line_itself : (l : Line) → LikeLine l l
 line_itself free = tt
 line_itself taken = tt
@@ -77,12 +45,38 @@ settled f waiting key false false _ _ i = absurd i
 
 -- Like lines are like again after a piece outside flow.
 pub line_step : (k : Act) → LineStep k
-line_step gives_node = node_step
-line_step gives_colon = colon_step
-line_step gives_block_scalar = λ must here bs. settled (line_past must here bs gives_block_scalar) (λ p. refl) (λ l. refl)
-line_step gives_dash = λ must here bs. settled (line_past must here bs gives_dash) (λ p. refl) (λ l. refl)
-line_step gives_question = λ must here bs. settled (line_past must here bs gives_question) (λ p. refl) (λ l. refl)
-line_step gives_comma = λ must here bs. settled (line_past must here bs gives_comma) (λ p. refl) (λ l. refl)
-line_step gives_closing = λ must here bs. settled (line_past must here bs gives_closing) (λ p. refl) (λ l. refl)
-line_step gives_marker = λ must here bs. settled (line_past must here bs gives_marker) (λ p. refl) (λ l. refl)
-line_step gives_nothing = λ must here bs b c l m i. tt
+line_step gives_node must here bs true true free free i = ((refl, refl), λ h. (refl, refl))
+line_step gives_node true here bs true false free free i = tt
+line_step gives_node false here bs true false free free i = ((tt, refl), λ h. absurd (cc (line_of (waits here) taken bs bs h)))
+line_step gives_node true here bs false true free free i = tt
+line_step gives_node false here bs false true free free i = ((tt, refl), λ h. absurd (cc (line_of taken (waits here) bs bs h)))
+line_step gives_node true here bs false false free free i = tt
+line_step gives_node false here bs false false free free i = ((tt, refl), λ h. (refl, refl))
+line_step gives_node must here bs false false taken taken i = ((tt, refl), λ h. (refl, refl))
+line_step gives_node must here bs false false taken (waits q) i = ((tt, refl), λ h. (line_of taken (waits q) bs bs h, refl))
+line_step gives_node must here bs false false (waits p) taken i = ((tt, refl), λ h. (line_of (waits p) taken bs bs h, refl))
+line_step gives_node must here bs false false (waits p) (waits q) i = ((i, refl), λ h. (ap waits i, refl))
+line_step gives_node must here bs true c taken m i = tt
+line_step gives_node must here bs true c (waits p) m i = tt
+line_step gives_node must here bs b true l taken i = none_second LikeOutside ((l ≡ taken) × (b ≡ true)) (line_past must here bs gives_node b l)
+line_step gives_node must here bs b true l (waits q) i = none_second LikeOutside ((l ≡ waits q) × (b ≡ true)) (line_past must here bs gives_node b l)
+line_step gives_node must here bs _ _ _ _ i = absurd i
+line_step gives_colon must here bs false false free free i = ((tt, refl), λ h. (refl, refl))
+line_step gives_colon must here bs false false (waits p) (waits q) i =
+    subst (λ x. Stepped LikeOutside ((waits p ≡ waits x) × (false ≡ false)) (keyed p here bs) (keyed x here bs)) i (by (is_near p here) (opened p.col bs))
+  where
+    by : (n : Bool) (cs : List ℕ) → Stepped LikeOutside ((waits p ≡ waits p) × (false ≡ false)) (if n then Some (Outer taken cs) else None) (if n then Some (Outer taken cs) else None)
+    by true cs = ((tt, refl), λ h. (refl, refl))
+    by false cs = tt
+line_step gives_colon must here bs true c l m i = tt
+line_step gives_colon must here bs false true l m i = none_second LikeOutside ((l ≡ m) × (false ≡ true)) (line_past must here bs gives_colon false l)
+line_step gives_colon must here bs false false taken m i = tt
+line_step gives_colon must here bs false false (waits p) taken i = none_second LikeOutside ((waits p ≡ taken) × (false ≡ false)) (keyed p here bs)
+line_step gives_colon must here bs false false _ _ i = absurd i
+line_step gives_block_scalar must here bs b c l m i = settled (line_past must here bs gives_block_scalar) (λ p. refl) (λ l. refl) b c l m i
+line_step gives_dash must here bs b c l m i = settled (line_past must here bs gives_dash) (λ p. refl) (λ l. refl) b c l m i
+line_step gives_question must here bs b c l m i = settled (line_past must here bs gives_question) (λ p. refl) (λ l. refl) b c l m i
+line_step gives_comma must here bs b c l m i = settled (line_past must here bs gives_comma) (λ p. refl) (λ l. refl) b c l m i
+line_step gives_closing must here bs b c l m i = settled (line_past must here bs gives_closing) (λ p. refl) (λ l. refl) b c l m i
+line_step gives_marker must here bs b c l m i = settled (line_past must here bs gives_marker) (λ p. refl) (λ l. refl) b c l m i
+line_step gives_nothing must here bs b c l m i = tt
