@@ -8,6 +8,7 @@ use Rattle.proof_lexers.proofs.Blocks.Written as written
 use Rattle.proof_lexers.proofs.Blocks.Written.{spell}
 use Rattle.proof_layout_tokens.proofs.BlockTexts.{header_by, line_of, lines_at, empties, texts_are, line_more, Last, last_of, deepest, rows_split, row_full}
 use Rattle.proof_layout_tokens.proofs.Nul.{HasNone, both, text_none, spaces_none}
+use Rattle.proof_lexers.proofs.Blocks.First.{least_is}
 
 -- ---- the block
 
@@ -63,17 +64,13 @@ full_last : (column : ℕ) (init : List Line) (w : List ℕ) → AreLines column
 full_last column [] w are = are.0
 full_last column (l ∷ init) w are = full_last column init w are.1
 
-least : (i : ℕ) → least_column (collection_of i) ≡ i
-least zero = refl
-least (suc c) = refl
-
 pub high : (i column : ℕ) → IsInside i column → i ≤ column
 high zero column h = omega arith
 high (suc c) column h = omega (arith, h)
 
 -- the lines have their column, whatever lines stand after them
 in_column_with : (i column : ℕ) (ls : List Line) (more : List (List ℕ)) → IsInside i column → BeginsWithText ls → AreLines column ls → column_by None (collection_of i) (indented_lines column ls ++ more) ≡ column
-in_column_with i column ls more inside begins are = let e = deepest column ls more begins are in let f = least i in let g = high i column inside in omega (arith, e, f, g)
+in_column_with i column ls more inside begins are = let e = deepest column ls more begins are in let f = least_is i in let g = high i column inside in omega (arith, e, f, g)
 
 pub in_its_column : (i column : ℕ) (ls : List Line) → IsInside i column → BeginsWithText ls → AreLines column ls → column_by None (collection_of i) (indented_lines column ls) ≡ column
 in_its_column i column ls inside begins are = ap (column_by None (collection_of i)) (sym (append-nil (indented_lines column ls))) ∙ in_column_with i column ls [] inside begins are

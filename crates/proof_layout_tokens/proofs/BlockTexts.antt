@@ -22,13 +22,13 @@ pub texts_are : (column : ℕ) (ls : List Line) → texts (lines_at column ls) �
 texts_are column [] = refl
 texts_are column (l ∷ ls) = ap (λ x. spell_line column l [] ∷ x) (texts_are column ls)
 
-spaces_more : (n : ℕ) (w r : List ℕ) → spaces n w ++ r ≡ spaces n (w ++ r)
-spaces_more zero w r = refl
-spaces_more (suc n) w r = ap (λ x. 32 ∷ x) (spaces_more n w r)
+pub spaces_are : (n : ℕ) (w r : List ℕ) → spaces n w ++ r ≡ spaces n (w ++ r)
+spaces_are zero w r = refl
+spaces_are (suc n) w r = ap (λ x. 32 ∷ x) (spaces_are n w r)
 
 pub line_more : (column : ℕ) (l : Line) (r : List ℕ) → spell_line column l [] ++ r ≡ spell_line column l r
-line_more column (full text) r = spaces_more column (text ++ []) r ∙ ap (λ x. spaces column (x ++ r)) (append-nil text)
-line_more column (blank n) r = spaces_more n [] r
+line_more column (full text) r = spaces_are column (text ++ []) r ∙ ap (λ x. spaces column (x ++ r)) (append-nil text)
+line_more column (blank n) r = spaces_are n [] r
 
 -- lines of which the last is this one
 pub spelt : (column : ℕ) (ls : List Line) (w r : List ℕ) → spell_lines column (ls ++ full w ∷ []) r ≡ 10 ∷ written.spell (lines_at column ls) (spell_line column (full w) [] ++ r)
@@ -92,9 +92,6 @@ abbrev pub empty_rows : ℕ → List Row
 empty_rows zero = []
 empty_rows (suc n) = empty_row ∷ empty_rows n
 
-none_some : {A : Type 0} (x : A) → None ≡ Some x → ⊥
-none_some x e = cc
-
 module _ (column : ℕ) where
   pub rows_append : (a b : List (List ℕ)) (rs ss : List Row) → rows_of column a ≡ Some rs → rows_of column b ≡ Some ss → rows_of column (a ++ b) ≡ Some (rs ++ ss)
   rows_append [] b rs ss e f = let z : [] ≡ rs = cc in rw (← z) f
@@ -116,8 +113,8 @@ module _ (column : ℕ) where
   rows_split (m ∷ a) l rs e = by (row_of column m) (rows_of column (a ++ l ∷ [])) refl refl (λ more g. rows_split a l more g)
     where
       by : (o : Option Row) (os : Option (List Row)) → row_of column m ≡ o → rows_of column (a ++ l ∷ []) ≡ os → ((more : List Row) → rows_of column (a ++ l ∷ []) ≡ Some more → Rows a l more) → Rows (m ∷ a) l rs
-      by None os x y go = let no : None ≡ Some rs = rw x at e in absurd (none_some rs no)
-      by (Some r) None x y go = let no : None ≡ Some rs = rw (x, y) at e in absurd (none_some rs no)
+      by None os x y go = let no : None ≡ Some rs = rw x at e in cc
+      by (Some r) None x y go = let no : None ≡ Some rs = rw (x, y) at e in cc
       by (Some r) (Some more) x y go =
           let one : Some (r ∷ more) ≡ Some rs = rw (x, y) at e in
           let z = go more y in
@@ -155,7 +152,7 @@ module _ (column : ℕ) where
         where
           one_is : (m : Row) (n : Row) → Some m ≡ Some n → m ≡ n
           one_is m n f = cc
-      by false x = let no : None ≡ Some r = rw (full_line c w, x) at e in absurd (none_some r no)
+      by false x = let no : None ≡ Some r = rw (full_line c w, x) at e in cc
 
   -- it is its text, but for a document marker at column 0
   pub text_row : (c : ℕ) (w : List ℕ) → (column ≡ 0 → is_document_marker ((c ∷ w) ++ []) ≡ false) → row_of column (spell_line column (full (c ∷ w)) []) ≡ Some (content_row (c ∷ w))

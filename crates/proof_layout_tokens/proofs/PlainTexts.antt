@@ -162,7 +162,8 @@ real_second : (c : ℕ) (w : List ℕ) → is_real_text (c ∷ w) ≡ true → l
 unfolding typing is_decimal
 real_second c [] h e = rw (not_alone c (c == 45) 45 refl refl h, not_alone c (c == 46) 46 refl refl h) refl
 real_second c (d ∷ w) h e =
-    let q = and_parts (is_real_character d) (list_all is_real_character w) e in let real_no_space : (d == 32) ≡ false = grind (arith, nat_tests) in
+    let q = and_parts (is_real_character d) (list_all is_real_character w) e in
+    let real_no_space : (d == 32) ≡ false = grind (arith, nat_tests) in
     rw (not_double c d w ((c == 45) && (d == 45)) 45 refl (two_dashes w) h, not_double c d w ((c == 46) && (d == 46)) 46 refl (two_points w) h, real_no_space, and_false (c == 45)) refl
 
 real_plain : (s : List ℕ) → is_real_text s ≡ true → IsPlainText s

@@ -9,14 +9,11 @@ use Rattle.proof_row.proofs.Columns.{column_same, IsBefore, further, further_is_
 
 -- ---- its first character
 
-headed : (collection : Option ℕ) (h : Option Header) (b : Body) (next : List ℕ) (r : BlockRead) → read_body h collection b next ≡ Some r → h ≡ None → ⊥
-headed a d b e r g f = cc
-
 -- a block scalar has a header
 pub has_header : (collection : Option ℕ) (lines : List (List ℕ)) (last next : List ℕ) (at_end : Bool) (r : BlockRead) → read_lines collection lines last next at_end ≡ Some r → header_of (first_line lines last) ≡ None → ⊥
-has_header collection [] last next true r e f = headed collection (header_of last) input_ends next r e f
-has_header collection (h ∷ ls) last next true r e f = headed collection (header_of h) (body ls (unbroken last)) next r e f
-has_header collection (h ∷ ls) [] next false r e f = headed collection (header_of h) (body ls further_text) next r e f
+has_header collection [] last next true r e f = cc
+has_header collection (h ∷ ls) last next true r e f = cc
+has_header collection (h ∷ ls) [] next false r e f = cc
 has_header collection [] last next false r e f = cc e
 has_header collection (h ∷ ls) (c ∷ last) next false r e f = cc e
 

@@ -72,20 +72,16 @@ marks : (P : ℕ → ℕ → ℕ → Type 0) (a b c : ℕ) → are_marks a b c �
 unfolding are_marks
 marks P a b c h p45 p46 = grind arith
 
--- a text at a gap, cut at its first break, is still at one
-gap_kept : (r : List ℕ) → is_at_gap r ≡ true → is_at_gap (up_to_break r) ≡ true
-gap_kept a h = grind arith
-
 abbrev Marked : ℕ → ℕ → ℕ → List ℕ → Type 0
 Marked a b c r = IsBefore 0 (up_to_break (a ∷ b ∷ c ∷ r))
 
 dashes : (r : List ℕ) → is_at_gap r ≡ true → Marked 45 45 45 r
 unfolding is_break are_marks
-dashes r h = record { written = refl; start = omega arith; none = no_row 0 (45 ∷ 45 ∷ 45 ∷ up_to_break r) refl (unmarked (45 ∷ 45 ∷ 45 ∷ up_to_break r) (gap_kept r h)) }
+dashes r h = record { written = refl; start = omega arith; none = no_row 0 (45 ∷ 45 ∷ 45 ∷ up_to_break r) refl (unmarked (45 ∷ 45 ∷ 45 ∷ up_to_break r) (grind arith)) }
 
 dots : (r : List ℕ) → is_at_gap r ≡ true → Marked 46 46 46 r
 unfolding is_break are_marks
-dots r h = record { written = refl; start = omega arith; none = no_row 0 (46 ∷ 46 ∷ 46 ∷ up_to_break r) refl (unmarked (46 ∷ 46 ∷ 46 ∷ up_to_break r) (gap_kept r h)) }
+dots r h = record { written = refl; start = omega arith; none = no_row 0 (46 ∷ 46 ∷ 46 ∷ up_to_break r) refl (unmarked (46 ∷ 46 ∷ 46 ∷ up_to_break r) (grind arith)) }
 
 marker : (t : List ℕ) → is_document_marker t ≡ true → IsBefore 0 (up_to_break t)
 marker [] h = absurd (cc h)

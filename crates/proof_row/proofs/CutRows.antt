@@ -64,9 +64,6 @@ WaitsThen k col (Some x) = WaitsAt x.line col x.blocks × (is_waiting x.line ≡
 waits_on : (k : Act) (must key : Bool) (l : Line) (here : Position) (bs : List ℕ) → WaitsAt l here.col bs → (k ≡ gives_node → not_ended here.col bs ≡ bs) → WaitsThen k here.col (line_past must here bs k key l)
 waits_on a must b l d bs w n = grind arith
 
-broken_by : (c : ℕ) (r : List ℕ) (b : Bool) → (has_break (c ∷ r) && b) ≡ false → b ≡ true → has_no_break (c ∷ r) ≡ true
-broken_by c r a h e = grind arith
-
 -- a key that waits still does after a piece
 kept_on : (l : Line) (here : Position) (bs : List ℕ) (awaits : Bool) (c : ℕ) (r next : List ℕ) (t : Tok) → WaitsAt l here.col bs → (is_waiting l ≡ true → has_no_break (c ∷ r) ≡ true) → (is_waiting l ≡ true → (f : List ℕ) → begins_free_line (previous_by t) f ≡ has_break f) →
     KeptBy l (record { position = position_after here (c ∷ r) next; blocks = bs; awaits = awaits; before = previous_by t })
@@ -132,7 +129,7 @@ outside_so must s line l f c r t key ws after x h same_line same on_line in_line
         let z : Account = record { site = site_past false at (c ∷ r) t next o.blocks; line = o.line; entries = begun_by t } in
         let to : z ≡ x = cc e in
         let line_is : o.line ≡ x.line = ap (λ y. y.line) to in
-        let one_line : is_waiting o.line ≡ true → has_no_break (c ∷ r) ≡ true = λ h. broken_by c r (is_waiting o.line) (ap (λ l. has_break (c ∷ r) && is_waiting l) line_is ∙ on_line) h in
+        let one_line : is_waiting o.line ≡ true → has_no_break (c ∷ r) ≡ true = λ h. (grind arith) in
         let lead : AreEmpty (account_past_separation (in_cut a) f ((c ∷ r) ++ next)) us ((c ∷ r) ++ next) t × (past_all (account_past_separation (in_cut a) f ((c ∷ r) ++ next)) us ≡ past_all begin (more (Some l))) =
         leads (more (Some l)) ((c ∷ r) ++ next) t g.are_empty in
         let opened : PieceAccount = account_by at.position b (somes (with_key o.blocks o.line)) [] in
@@ -257,7 +254,7 @@ inside_step s line e es f c r t key ws after x h same on_line kept = by_line (li
         let z : Account = record { site = site_past true at (c ∷ r) t next at.blocks; line = l; entries = zs } in
         let to : z ≡ x = cc i in
         let flow : (l ≡ line) × (is_waiting line ≡ true → begins_free_line s.before f ≡ false) = grind arith in
-        let one_line : is_waiting line ≡ true → has_no_break (c ∷ r) ≡ true = λ j. broken_by c r (is_waiting line) (ap (λ y. has_break (c ∷ r) && is_waiting y) (sym flow.0 ∙ ap (λ y. y.line) to) ∙ on_line) j in
+        let one_line : is_waiting line ≡ true → has_no_break (c ∷ r) ≡ true = λ j. (grind arith) in
         let after_all : PieceAccount = account_by at.position b bs (n.level ∷ levels_in es) in
         let there : account_at_piece (past_all here us) (c ∷ r) ≡ after_all = ap (λ d. account_at_piece d (c ∷ r)) n.account_is ∙ ap (λ y. account_by at.position b y (n.level ∷ levels_in es)) (settled_all at.position.col (with_key s.blocks line)) in
         let piece : IsPiece after_all (c ∷ r) next None own t = piece_in_flow at.position b (somes at.blocks) bs (level_of e) n.level (map level_of es) (levels_in es) c r next None None own t (same_many es) n.has_no_pair h.1.1 in

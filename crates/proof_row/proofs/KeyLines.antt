@@ -38,12 +38,9 @@ abbrev Then : ℕ → Option (List Entry) → Type 0
 Then n None = Unit {0}
 Then n (Some es) = AreBefore es n
 
-end_before : (es : List Entry) (key : Bool) (h : Had) (n : ℕ) → AreBefore es n → Then n (past_end es key h)
-end_before es a h n b = grind arith
-
 entries_before : (k : Act) (here : Position) (again key : Bool) (t : Tok) (e : Entry) (es : List Entry) (n : ℕ) → here.line ≤ n → AreBefore (e ∷ es) n → Then n (entries_past here again k (begun_by t) key e es)
-entries_before gives_comma here again key t e es n l b = end_before (first_entry e.kind ∷ es) key e.had n (tt, b.1)
-entries_before gives_closing here again key t e es n l b = end_before es key e.had n b.1
+entries_before gives_comma here again key t e es n l b = grind arith
+entries_before gives_closing here again key t e es n l b = grind arith
 entries_before k here again key t e es n l b = grind arith
 
 abbrev Kept : Option Account → Type 0

@@ -77,9 +77,6 @@ abbrev is_read : Option (List Element) → Bool
 is_read None = false
 is_read (Some es) = true
 
-rest_read : (e : Element) (o : Option (List Element)) → is_read (put_before e o) ≡ true → is_read o ≡ true
-rest_read e a h = grind arith
-
 -- If a text is read, and also with more after it, the more is read.
 reads : (at : ℕ → List ℕ → Option Spelled) → IsOnward at → (n : ℕ) (b z : List ℕ) → n ≤ length b → begins_with 10 z ≡ false →
     is_read (elements at n b) ≡ true → is_read (elements at n (b ++ z)) ≡ true → is_read (elements at 0 z) ≡ true
@@ -90,7 +87,7 @@ reads at f zero (c ∷ b) z l h i j = by (at c b) (at c (b ++ z)) (f c b z h) i 
   where
     by : (o more : Option Spelled) → Onward b o more → is_read (followed o (λ n. elements at n b)) ≡ true → is_read (followed more (λ n. elements at n (b ++ z))) ≡ true →
         ((n : ℕ) → n ≤ length b → is_read (elements at n b) ≡ true → is_read (elements at n (b ++ z)) ≡ true → is_read (elements at 0 z) ≡ true) → is_read (elements at 0 z) ≡ true
-    by a more g i j d = grind (arith, rest_read, elements, at, is_read)
+    by a more g i j d = grind (arith, elements, at, is_read)
 
 -- ---- two bodies
 

@@ -57,7 +57,8 @@ module _ (c : ℕ) (extra bs : List ℕ) (p : Position) (awaits : Bool) (before 
       → Reads from (f ++ (w ++ next)) (ended extra (first ++ (t ∷ tokens)))
   block_reads bs' l' first tokens above stay no_marker none shown further precede leads one_line begins rest =
       let stay_on = left_open c extra bs above stay in
-      let awaits_then = awaits_past false t (site_of from (step_of f w t key) next).blocks (site_of from (step_of f w t key) next).awaits next in let so_many : length (extra ++ bs) - length bs ≡ length extra = rw length-append (omega arith) in
+      let awaits_then = awaits_past false t (site_of from (step_of f w t key) next).blocks (site_of from (step_of f w t key) next).awaits next in
+      let so_many : length (extra ++ bs) - length bs ≡ length extra = rw length-append (omega arith) in
       let z : Steps from (step_of f w t key) next (at (position_after there w next) bs' awaits_then (previous_by t) l' (begun_by t)) (ended extra first) = record {
         is_separated = here.separates;
         is_shown = shown;

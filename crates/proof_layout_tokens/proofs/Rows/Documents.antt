@@ -83,7 +83,8 @@ unfolding is_blank_or_end is_blank is_break
 marker_reads r tokens rest extra p awaits before l f here =
     let text = 10 ∷ r in
     let w = codes "---" in
-    let there = position_after p f (w ++ text) in let all_left : (length extra) - 0 ≡ (length extra) = omega arith in
+    let there = position_after p f (w ++ text) in
+    let all_left : (length extra) - 0 ≡ (length extra) = omega arith in
     let first : Steps (at p extra awaits before l []) (step_of f w Tok.document_start false) text (at (position_after there w text) [] (awaits_past false Tok.document_start [] (awaits_at false there.col extra awaits) text) another taken []) (ended extra []) = record {
       is_separated = here.separates;
       is_shown = (refl, ((refl, here.column, refl, refl), refl));

@@ -3,6 +3,7 @@ use Rattle.proof_layout_tokens.proofs.Common.{[], Account, act_of, and_false, an
 use Rattle.defs_token.specs.Key.{Line}
 use Rattle.proof_layout_tokens.proofs.Rows.Steps.{at, step_of, site_of, past_step, first_tokens, Steps}
 use Rattle.proof_layout_tokens.proofs.Nul.{HasNone}
+pub use Rattle.proof_lexers.proofs.Plain.Turns.{or_true}
 
 -- ---- columns
 
@@ -29,9 +30,6 @@ pub record Parts (bs : List ℕ) (f : List ℕ) : Type 0 where
   pub separates : (next : List ℕ) → is_separation false f next ≡ true
   pub tabless : (awaits : Bool) → has_tab_within (least_column bs awaits) (last_line f) ≡ false
   pub none : HasNone f
-
-pub or_true : (b : Bool) → (b || true) ≡ true
-or_true a = grind arith
 
 pub indented : (before : Previous) (bs : List ℕ) (awaits : Bool) (f : List ℕ) → Parts bs f → is_indented_by_spaces before bs awaits f ≡ true
 indented before bs awaits f parts = rw (parts.tabless) (or_true (not (begins_line before f)))

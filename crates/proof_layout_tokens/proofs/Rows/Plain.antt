@@ -108,7 +108,8 @@ module _ (in_flow adjacent : Bool) (column : ℕ) where
       by true e (d ∷ w) second plain flow =
           let q = and_parts (not ((c == 45) && (d == 45)) && not ((c == 46) && (d == 46))) (not ((c == 45) && (d == 32))) second in
           let n : (d == 32) ≡ false = rw e at (not-true ((c == 45) && (d == 32)) q.1) in
-          let one = and_parts (is_plain_char d) (are_plain w) plain in let no_flow : (in_flow && is_flow d) ≡ false = grind (arith, not-true) in
+          let one = and_parts (is_plain_char d) (are_plain w) plain in
+          let no_flow : (in_flow && is_flow d) ≡ false = grind (arith, not-true) in
           rw (e, no_gap d one.0 n, no_flow) refl
       by false e w second plain flow = let z = first_char c first in rw (e, z.2, (plain_char c z.0).colon, z.3, z.4) refl
 

@@ -8,6 +8,7 @@ use Rattle.proof_layout_tokens.proofs.Rows.Nodes.{or_true, Quiet}
 use Rattle.proof_layout_tokens.proofs.Rows.Blocks.{Here}
 use Rattle.proof_layout_tokens.proofs.Rows.Texts.{ended}
 use Rattle.proof_layout_tokens.proofs.Nul.{HasNone, both, text_none, spaces_none}
+pub use Rattle.proof_layout_tokens.proofs.BlockTexts.{spaces_are}
 
 -- a gap, and at a column of the next line the rest; a gap, and the `---` of a next document with the rest; or a gap up to the end
 pub data Trail : Type 0 where
@@ -183,10 +184,6 @@ gap_last (empty_line ∷ g) n = last_past [] (spell_gap g (spaces n [])) ∙ gap
 gap_last (comment_line text ∷ g) n = last_past (35 ∷ text) (spell_gap g (spaces n [])) ∙ gap_last g n
 
 -- ---- texts
-
-pub spaces_are : (n : ℕ) (a r : List ℕ) → spaces n a ++ r ≡ spaces n (a ++ r)
-spaces_are zero a r = refl
-spaces_are (suc n) a r = ap (λ x. 32 ∷ x) (spaces_are n a r)
 
 pub gap_is : (g : List GapLine) (a r : List ℕ) → spell_gap g a ++ r ≡ spell_gap g (a ++ r)
 gap_is [] a r = refl

@@ -161,7 +161,7 @@ value_opens : (c : ℕ) (a : List Anchor) (v : Value) (r : List ℕ) → IsValue
 unfolding is_blank is_break is_nul
 value_opens c a (Value.beside more i k) r h = opens_beside more (spell_inline i (spell_comment k r)) (grind (arith, scalar_begins, content_first))
 value_opens c a (Value.literal more column text ls) r h = opens_beside more _ (grind (arith, content_first))
-value_opens c a (Value.folded more column strips text ls) r h = let folded_begins : BeginsContent (folded_header strips ++ _) = grind (arith, content_first) in opens_beside more _ (folded_begins)
+value_opens c a (Value.folded more column strips text ls) r h = let folded_begins : BeginsContent (folded_header strips ++ _) = grind (arith, content_first) in opens_beside more _ folded_begins
 value_opens c a (Value.json more v) r h = opens_beside more _ (grind (arith, content_first))
 value_opens c a (Value.compact more b) r h = opens_beside more _ (block_begins (c + 2 + more) a b r h)
 value_opens c a (layout.below k g column b) r h = opens_below k g column _ h.0 h.1 (block_begins column a b r h.3)
@@ -288,7 +288,8 @@ mutual
       rw (headed_literal text (spell_lines column ls (trail_text t)), ← beside_text more (block_text BlockStyle.literal (strips_of text) (spell_lines column ls (trail_text t))))
       (block_is_read BlockStyle.literal (suc c) column (strips_of text) text ls h.0 (literal_lines c column text ls h.0 h.1 h.2) (c ∷ bs) refl tokens p awaits l (32 ∷ spaces more []) line lead.parts lead.deep t trail (nested_follows c column bs t h.0 trail low) rest)
   read_value c a (Value.folded more column strips text ls) h bs t tokens p awaits l trail low line deep fits rest =
-      let lead = lead_beside c bs more p deep in let headed : folded_header strips ++ (spell_lines column ls (trail_text t)) ≡ block_text BlockStyle.folded strips (spell_lines column ls (trail_text t)) = grind arith in
+      let lead = lead_beside c bs more p deep in
+      let headed : folded_header strips ++ (spell_lines column ls (trail_text t)) ≡ block_text BlockStyle.folded strips (spell_lines column ls (trail_text t)) = grind arith in
       rw (headed, ← beside_text more (block_text BlockStyle.folded strips (spell_lines column ls (trail_text t))))
       (block_is_read BlockStyle.folded (suc c) column strips text ls h.0 h.1 (c ∷ bs) refl tokens p awaits l (32 ∷ spaces more []) line lead.parts lead.deep t trail (nested_follows c column bs t h.0 trail low) rest)
   read_value c a (Value.json more v) h bs t tokens p awaits l trail low line deep fits rest =

@@ -34,9 +34,6 @@ no_hash : classes.is_blank_or_end 35 ≡ true → ⊥
 unfolding classes.is_blank_or_end classes.is_blank classes.is_break classes.is_nul
 no_hash h = cc
 
-no_minor_of : (r : List ℕ) → minor_of None r ≡ None
-no_minor_of a = grind (arith, none_by, after)
-
 no_tag_at_end : (n : List ℕ) → ends_line n ≡ true → is_tag (slice_index n 0) ≡ false
 unfolding is_tag is_uri is_alphanumeric is_uri_mark is_flow classes.is_tag classes.is_uri classes.is_decimal_digit classes.is_letter classes.is_flow
 no_tag_at_end [] h = refl
@@ -153,8 +150,8 @@ module _ (start : Position) (l n : List ℕ) (line : has_no_break l ≡ true) (e
     versions : Told start l n (and_then (value start version (after_word ++ n) word_position) (λ t. after_value start t))
     unfolding version_value
     versions = rw (blanks_skipped after_word word_position) (elim (number_sees start said_position said n ends) [
-      | missing none without e ↦ rw e (version_refused problem.VersionNumber _ (rw without (no_minor_of (after classes.is_decimal_digit said))) (no_major none) refl)
-      | long much without e ↦ rw e (version_refused problem.VersionTooLong _ (rw without (no_minor_of (after classes.is_decimal_digit said))) (long_major much) refl)
+      | missing none without e ↦ rw e (version_refused problem.VersionNumber _ (rw without (grind (arith, none_by, after))) (no_major none) refl)
+      | long much without e ↦ rw e (version_refused problem.VersionTooLong _ (rw without (grind (arith, none_by, after))) (long_major much) refl)
       | found v is e ↦ rw e (point_read (after classes.is_decimal_digit said) v refl is)
     ])
 
@@ -186,12 +183,9 @@ module _ (start : Position) (l n : List ℕ) (line : has_no_break l ≡ true) (e
     abbrev prefix_position : Position
     prefix_position = further (length (leading classes.is_blank after_handle)) handle_position
 
-    says_declaration : directive_of (37 ∷ l) ≡ declaration_by (handle_and_rest said)
-    unfolding directive_of
-    says_declaration = rw (word, gap) refl
-
     declaration_refused : (why : Problem) (x : Result (Read Tok) Fault) → declaration_by (handle_and_rest said) ≡ None → IsNoDeclaration said why → x ≡ Err (At why start) → Told start l n x
-    declaration_refused why x none reason e = fails (At why start) (says_declaration ∙ none) (by_declaration why (record { is_name = word; is_whole = gap }) reason) e
+    unfolding directive_of
+    declaration_refused why x none reason e = fails (At why start) ((rw (word, gap) refl) ∙ none) (by_declaration why (record { is_name = word; is_whole = gap }) reason) e
 
     gap_missing : (r : List ℕ) → is_at_gap r ≡ false → is_rest_of_line r ≡ false
     unfolding classes.is_blank_or_end
@@ -203,8 +197,9 @@ module _ (start : Position) (l n : List ℕ) (line : has_no_break l ≡ true) (e
 
       declaration_end : (cs : List ℕ) → begins_prefix from_prefix ≡ true → decoded prefix_text ≡ Ok cs → is_at_gap after_prefix ≡ true
           → Told start l n (after_value start (record { rest = after_prefix ++ n; position = further (length prefix_text) prefix_position; value = Tok.tag_directive handle_is cs }))
+      unfolding directive_of
       declaration_end cs begins means apart =
-          finish before after_prefix (tag_declaration handle_is cs) _ cut position (says_declaration ∙ declares cs begins means)
+          finish before after_prefix (tag_declaration handle_is cs) _ cut position ((rw (word, gap) refl) ∙ declares cs begins means)
           (λ k e. absurd (no_hash (sym (ap is_at_gap e) ∙ apart)))
           (λ none begins_no. after_declaration after_prefix (record { prefix = cs; is_declaration = record { is_name = word; is_whole = gap }; has_handle = is; has_prefix = begins; is_prefix = means; is_before = refl; is_apart = apart }) none)
         where

@@ -24,10 +24,6 @@ pub can_be : (flow : Bool) (c : ℕ) (a : List ℕ) → can_be_plain flow c (sli
 unfolding can_be_plain classes.is_flow
 can_be flow c a = grind (arith, eqb-true, or_false, colon_by, same_flow)
 
-pub not_nul : (c : ℕ) → (c == 0) ≡ false → classes.is_nul c ≡ false
-unfolding classes.is_nul
-not_nul c h = h
-
 shallow_by : (indent column : ℕ) → not (is_deeper (collection_of indent) column) ≡ nat_lt column indent
 shallow_by a column = grind (arith, nat_tests, both)
 
@@ -90,10 +86,6 @@ module _ (ctx : Context) (start : Position) where
 
   -- ---- breaks
 
-  break_or_blank : (c : ℕ) → classes.is_break c ≡ true → classes.is_blank c ≡ true → ⊥
-  unfolding classes.is_break classes.is_blank
-  break_or_blank c h k = grind (arith, h, k)
-
   -- a blank or a break is passed
   gap_step : (c : ℕ) (a : List ℕ) (u : Bool) (n : Mode) (s next : Stand) (p q : Position) (t v : Folded) (x : Result (Read Plain) Fault) → is_white c ≡ true → defs.past s c ≡ next → position_past p c a ≡ q → after_char c a t ≡ v
       → ((blanks rest : List ℕ) → is_tabs n ≡ true → a ≡ blanks ++ rest → is_blanks blanks ≡ true → begins_token rest ≡ true → Tabbed ctx start u s (c ∷ a)) → Moves ctx start c a u (is_tabs n) s
@@ -103,6 +95,7 @@ module _ (ctx : Context) (start : Position) where
 
   pub break_step : (c : ℕ) (a : List ℕ) (u : Bool) (m : Mode) (s : Stand) (p : Position) (t : Folded) (x : Result (Read Plain) Fault) → is_break c ≡ true → Scans a
       → x ≡ plain_from ctx start a (at_break c a (record { mode = m; position = p; folded = t })) → Found ctx start u s p t (c ∷ a) x
+  unfolding classes.is_break classes.is_blank
   break_step c a u m s p t x e ih is = elim (cases_Bool (is_cr_lf c a)) [
     | inl f ↦
         let z = feeds a f in
@@ -124,7 +117,7 @@ module _ (ctx : Context) (start : Position) where
       feeds (d ∷ b) h = let q = and_parts (c == 13) (d == 10) h in (b, ap (λ k. k ∷ b) (eqb-true d 10 q.1))
 
       moves : Moves ctx start c a u false s
-      moves = record { begins = λ k i l h. absurd (break_or_blank c breaks (ap classes.is_blank i ∙ tab_blank)); goes_further = λ i b. absurd (break_or_blank c breaks b); is_no_token = λ i. rw white refl }
+      moves = record { begins = λ k i l h. absurd (grind (arith, breaks, (ap classes.is_blank i ∙ tab_blank))); goes_further = λ i b. absurd (grind (arith, breaks, b)); is_no_token = λ i. rw white refl }
 
   -- ---- blanks
 
@@ -167,7 +160,8 @@ module _ (ctx : Context) (start : Position) where
 
   pub ends_over : (c : ℕ) (a : List ℕ) (s : Stand) (b : Bool) → (c == 0) ≡ false → ends_at_comment s (c ∷ a) ≡ false → ends_at_line ctx.flow (collection_of ctx.indent) s (c ∷ a) ≡ false
       → (ends_at_colon ctx.flow (c ∷ a) || (ctx.flow && classes.is_flow c)) ≡ b → ends_plain ctx.flow (collection_of ctx.indent) s (c ∷ a) ≡ b
-  ends_over c a s b nul f g h = rw (not_nul c nul, f, g) (grind arith)
+  unfolding classes.is_nul
+  ends_over c a s b nul f g h = rw (nul, f, g) (grind arith)
 
   pub dash_parts : (flow : Bool) (c : ℕ) (a : List ℕ) → at_dash flow (c ∷ a) ≡ true → (flow ≡ true) × (c ≡ 45) × (begins_flow a ≡ true)
   unfolding at_dash is_flow
@@ -175,7 +169,7 @@ module _ (ctx : Context) (start : Position) where
 
   pub outcome : (c : ℕ) (a : List ℕ) (s : Stand) (p : Position) (t : Folded) → is_white c ≡ false → (c == 0) ≡ false → ends_at_comment s (c ∷ a) ≡ (c == 35)
       → ends_at_line ctx.flow (collection_of ctx.indent) s (c ∷ a) ≡ (at_marker p.col (c ∷ a) || is_shallow ctx p.col) → Outcome c a s p t (scan (c ∷ a) between p t)
-  unfolding goes_on at_plain classes.is_blank_or_end
+  unfolding goes_on at_plain classes.is_blank_or_end classes.is_nul
   outcome c a s p t white nul comment line =
       let solid : (is_break c || is_blank c) ≡ false = let q = or_parts (classes.is_blank c) (classes.is_break c) white in rw (← same_break c, ← same_blank c, q.0, q.1) refl in
       elim (cases_Bool (is_shallow ctx p.col)) [
@@ -188,7 +182,7 @@ module _ (ctx : Context) (start : Position) where
               | inl h ↦ let q = dash_parts ctx.flow c a h in dashed q.0 q.1 q.2 (rw (solid, e, f, g, h) refl)
               | inr h ↦
                   let plain : at_plain ctx.flow (c ∷ a) ≡ not (ends_at_colon ctx.flow (c ∷ a) || (ctx.flow && classes.is_flow c)) = let q = or_parts (classes.is_blank c) (classes.is_break c) white in
-                  rw (← same_gap c, q.0, q.1, not_nul c nul, can_be ctx.flow c a) refl in
+                  rw (← same_gap c, q.0, q.1, nul, can_be ctx.flow c a) refl in
                   elim (cases_Bool (ends_at_colon ctx.flow (c ∷ a) || (ctx.flow && classes.is_flow c))) [
                     | inl k ↦ stopped (ends_over c a s true nul (comment ∙ f) (line ∙ rw (e, g) refl) k) (rw (solid, e, f, g, h, plain ∙ ap not k) refl)
                     | inr k ↦ went (ends_over c a s false nul (comment ∙ f) (line ∙ rw (e, g) refl) k) e (rw (solid, e, f, g, h, plain ∙ ap not k) refl)
