@@ -194,12 +194,9 @@ module _ (s : BlockStyle) where
   same_text (empty_row ∷ rs) n h = ap (λ x. 10 ∷ x) (same_text rs n h)
   same_text (content_row l ∷ rs) n h = ap (λ x. l ++ x) (same_after l 0 rs n)
 
-  same_content : (strips : Bool) (rs : List Row) (n : ℕ) → has_content rs ≡ true → with_content (header_by s strips) 0 (rs ++ empty_rows n) ≡ with_content (header_by s strips) 0 rs
-  same_content a rs n h = grind (arith, same_text)
-
   -- before further text
   pub text_value : (strips : Bool) (rs : List Row) (n : ℕ) → has_content rs ≡ true → value_before_text (header_by s strips) (rs ++ empty_rows n) ≡ value_before_text (header_by s strips) rs
-  text_value strips rs n h = rw (content_more rs (empty_rows n) h, h) (same_content strips rs n h)
+  text_value strips rs n h = rw (content_more rs (empty_rows n) h, h) (grind (arith, same_text))
 
   -- at the end of the text, in a line of spaces
   pub spaces_value : (strips : Bool) (column : ℕ) (rs : List Row) (n width : ℕ) → has_content rs ≡ true → width < max column 1
@@ -207,7 +204,7 @@ module _ (s : BlockStyle) where
   spaces_value strips column rs n width h low =
       let long : length (spaces width []) ≡ width + 0 = spaces_long width [] in
       let short : nat_le (max column 1) (length (spaces width [])) ≡ false = grind (arith, nat_tests) in
-      rw (content_more rs (empty_rows n) h, h, short) (same_content strips rs n h)
+      rw (content_more rs (empty_rows n) h, h, short) (grind (arith, same_text))
 
   -- at the end of the text, in the last line
   pub last_value : (strips : Bool) (column : ℕ) (rs : List Row) (r : Row) (l : List ℕ) → has_content (r ∷ []) ≡ true → value_before_end (header_by s strips) column rs l r ≡ value_before_text (header_by s strips) (rs ++ r ∷ [])

@@ -99,9 +99,6 @@ first_fits c w h e f = grind (arith, nat_tests)
 no_dash : (c : ℕ) (w : List ℕ) → has_indicator_first (c ∷ w) ≡ false → ((c == 45) ≡ false) × ((c == 46) ≡ false)
 no_dash c w e = (grind (arith, nat_tests), grind (arith, nat_tests))
 
-second_fits : (c : ℕ) (w : List ℕ) → (c == 45) ≡ false → (c == 46) ≡ false → is_second c w ≡ true
-second_fits c a d p = grind arith
-
 string_plain : (s : List ℕ) → is_quoted s ≡ false → IsPlainText s
 string_plain [] h = let z = unquoted [] h in let e = z.nonempty in cc
 string_plain (c ∷ w) h =
@@ -115,7 +112,7 @@ string_plain (c ∷ w) h =
       tail = w;
       whole = refl;
       first = first;
-      second = second_fits c w dash.0 dash.1;
+      second = grind arith;
       chars = fit_chars w fit.1;
       close = rw (first_space c first) at (no_last_space c w outer.1);
     }
@@ -130,15 +127,11 @@ numeral_plain : (ds : List ℕ) → IsNumeral 10 ds → IsPlainText ds
 numeral_plain [] h = absurd (omega (arith, h.0))
 numeral_plain (d ∷ ds) h =
     let range : (48 ≤ d) × (d ≤ 57) = digit_from_value d h.1.0 in
-    word_text (d ∷ ds) (record { chars = digits_words (d ∷ ds) h.1; begins = second_fits d ds (ne_eqb d 45 (λ e. omega arith)) (ne_eqb d 46 (λ e. omega arith)) })
+    word_text (d ∷ ds) (record { chars = digits_words (d ∷ ds) h.1; begins = (grind arith) })
 
 negative_plain : (ds : List ℕ) → IsNumeral 10 ds → IsPlainText (45 ∷ ds)
 negative_plain [] h = absurd (omega (arith, h.0))
 negative_plain (d ∷ ds) h = let range : (48 ≤ d) × (d ≤ 57) = digit_from_value d h.1.0 in word_text (45 ∷ d ∷ ds) (record { chars = digits_words (d ∷ ds) h.1; begins = (rw (ne_eqb d 45 (λ e. omega arith), ne_eqb d 32 (λ e. omega arith)) refl) })
-
-integer_plain : (z : ℤ) → fits_i64 z ≡ true → IsPlainText (decimal_digits z)
-integer_plain (pos n) h = let small : n < 2 ^ 63 = ltb-true n (2 ^ 63) h in numeral_plain (decimal n) (decimal_is_IsNumeral n (omega arith)).0
-integer_plain (negsuc n) h = let small : n < 2 ^ 63 = ltb-true n (2 ^ 63) h in negative_plain (decimal (suc n)) (decimal_is_IsNumeral (suc n) (omega arith)).0
 
 -- ---- reals
 
@@ -166,18 +159,16 @@ real_second c (d ∷ w) h e =
     let real_no_space : (d == 32) ≡ false = grind (arith, nat_tests) in
     rw (not_double c d w ((c == 45) && (d == 45)) 45 refl (two_dashes w) h, not_double c d w ((c == 46) && (d == 46)) 46 refl (two_points w) h, real_no_space, and_false (c == 45)) refl
 
-real_plain : (s : List ℕ) → is_real_text s ≡ true → IsPlainText s
-unfolding typing is_decimal
-real_plain [] h = cc
-real_plain (c ∷ w) h =
-    let all = real_text-characters (c ∷ w) h in
-    word_text (c ∷ w) (record { chars = real_words (c ∷ w) all; begins = real_second c w h (and_parts (is_real_character c) (list_all is_real_character w) all).1 })
-
 -- ---- all of them
 
 pub spelt_plain : (t : Tree) → IsPlain t → IsPlainText (spelling t)
-spelt_plain (real s) h = real_plain s h
-spelt_plain (integer z) h = integer_plain z h
+unfolding typing is_decimal
+spelt_plain (real []) h = cc
+spelt_plain (real (c ∷ w)) h =
+    let all = real_text-characters (c ∷ w) h in
+    word_text (c ∷ w) (record { chars = real_words (c ∷ w) all; begins = real_second c w h (and_parts (is_real_character c) (list_all is_real_character w) all).1 })
+spelt_plain (integer (pos n)) h = let small : n < 2 ^ 63 = ltb-true n (2 ^ 63) h in numeral_plain (decimal n) (decimal_is_IsNumeral n (omega arith)).0
+spelt_plain (integer (negsuc n)) h = let small : n < 2 ^ 63 = ltb-true n (2 ^ 63) h in negative_plain (decimal (suc n)) (decimal_is_IsNumeral (suc n) (omega arith)).0
 spelt_plain (string s) h = rw h (string_plain s h)
 spelt_plain (boolean b) h = grind arith
 spelt_plain (array ts) h = absurd h

@@ -108,9 +108,6 @@ module _ (is_open : Bool) (c : ℕ) (extra bs : List ℕ) (p : Position) (awaits
   Begins mark t collection l' = Here c (mark ∷ next) p before l f → ((p : Position) (awaits : Bool) → p.col ≡ suc c → Reads (at p (c ∷ bs) awaits another l' []) next tokens)
       → Reads (at p (extra ++ stood is_open c bs) awaits before l []) (f ++ mark ∷ next) (ended extra (starts is_open collection (t ∷ tokens)))
 
-  start_is : (t : Tok) (here : Position) → toks (start_if (not is_open) here t) ≡ starts is_open t []
-  start_is t here = grind (arith, is_open, starts)
-
   start_more : (t : Tok) (o : List Tok) → starts is_open t [] ++ o ≡ starts is_open t o
   start_more t o = grind (arith, is_open, starts)
 
@@ -119,14 +116,14 @@ module _ (is_open : Bool) (c : ℕ) (extra bs : List ℕ) (p : Position) (awaits
   dash_reads gap follows here rest =
       rw (← start_more Tok.block_sequence_start (Tok.block_entry ∷ tokens))
       (block_reads c extra (stood is_open c bs) p awaits before l f (45 ∷ []) Tok.block_entry false next here (c ∷ bs) free (starts is_open Tok.block_sequence_start []) tokens above (stands is_open c bs may) refl refl
-      (refl, (refl, gap, refl)) (λ column. refl) follows (rw (here.column, opens is_open c bs may) refl) refl (λ colon. rw (is_deep is_open c bs may) (start_is Tok.block_sequence_start _)) (λ awaits. rest _ awaits (ap suc here.column)))
+      (refl, (refl, gap, refl)) (λ column. refl) follows (rw (here.column, opens is_open c bs may) refl) refl (λ colon. rw (is_deep is_open c bs may) (grind (arith, is_open, starts))) (λ awaits. rest _ awaits (ap suc here.column)))
 
   pub question_reads : begins_with_space_or_break next ≡ true → has_tab_before_piece false next ≡ false → Begins 63 Tok.key Tok.block_mapping_start free
   unfolding is_break
   question_reads gap follows here rest =
       rw (← start_more Tok.block_mapping_start (Tok.key ∷ tokens))
       (block_reads c extra (stood is_open c bs) p awaits before l f (63 ∷ []) Tok.key false next here (c ∷ bs) free (starts is_open Tok.block_mapping_start []) tokens above (stands is_open c bs may) refl refl
-      (refl, inl (refl, gap)) (λ column. refl) (rw follows refl) (rw (here.column, opens is_open c bs may) refl) refl (λ colon. rw (is_deep is_open c bs may) (start_is Tok.block_mapping_start _)) (λ awaits. rest _ awaits (ap suc here.column)))
+      (refl, inl (refl, gap)) (λ column. refl) (rw follows refl) (rw (here.column, opens is_open c bs may) refl) refl (λ colon. rw (is_deep is_open c bs may) (grind (arith, is_open, starts))) (λ awaits. rest _ awaits (ap suc here.column)))
 
   -- the colon of an explicit key, or of an empty one
   pub colon_reads : is_at_gap next ≡ true → colon_may_precede next ≡ true → Begins 58 Tok.value Tok.block_mapping_start free
@@ -134,7 +131,7 @@ module _ (is_open : Bool) (c : ℕ) (extra bs : List ℕ) (p : Position) (awaits
   colon_reads gap follows here rest =
       rw (← start_more Tok.block_mapping_start (Tok.value ∷ tokens))
       (block_reads c extra (stood is_open c bs) p awaits before l f (58 ∷ []) Tok.value false next here (c ∷ bs) free (starts is_open Tok.block_mapping_start []) tokens above (stands is_open c bs may) refl refl
-      (refl, (refl, rw gap refl)) (λ column. refl) follows (rw (here.column, opens is_open c bs may) refl) refl (λ colon. rw (is_deep is_open c bs may) (start_is Tok.block_mapping_start _)) (λ awaits. rest _ awaits (ap suc here.column)))
+      (refl, (refl, rw gap refl)) (λ column. refl) follows (rw (here.column, opens is_open c bs may) refl) refl (λ colon. rw (is_deep is_open c bs may) (grind (arith, is_open, starts))) (λ awaits. rest _ awaits (ap suc here.column)))
 
 -- ---- implicit keys
 

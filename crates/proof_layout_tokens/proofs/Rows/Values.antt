@@ -196,9 +196,6 @@ ReadsIn c spells gives = (bs : List ℕ) (t : Trail) (tokens : List Tok) (p : Po
 abbrev pub ReadsBlock : ℕ → Block → Type 0
 ReadsBlock c b = ReadsIn c (spell_block c b) (block_tokens b)
 
-ends_deeper : (t : Trail) (c n : ℕ) (bs : List ℕ) → IsLow t (c ∷ bs) → c < n → EndsAt t n
-ends_deeper t c n bs low h = grind arith
-
 -- the collections that end before the next entry
 above : (g : List GapLine) (c : ℕ) (r : List ℕ) (extra : List ℕ) → AllEnd (next g c r) extra → AreAbove c extra
 above g c r [] h = tt
@@ -298,11 +295,11 @@ mutual
       (λ q waits before quiet deep. arrive no_comment t (c ∷ bs) tokens q waits before taken tt trail quiet refl rest))
   read_value c a (Value.compact more b) h bs t tokens p awaits l trail low line deep (inl (col, is_free)) rest =
       rw (← beside_text more (spell_block (c + 2 + more) b (trail_text t)), is_free)
-      (block_reads (c + 2 + more) a b h (c ∷ bs) t tokens p awaits another free (32 ∷ spaces more []) (omega arith) trail (ends_deeper t c (c + 2 + more) bs low (omega arith)) (here_beside (c + 2 + more) more _ p (omega (arith, col))) rest)
+      (block_reads (c + 2 + more) a b h (c ∷ bs) t tokens p awaits another free (32 ∷ spaces more []) (omega arith) trail (grind arith) (here_beside (c + 2 + more) more _ p (omega (arith, col))) rest)
   read_value c a (Value.compact more b) h bs t tokens p awaits l trail low line deep (inr none) rest = absurd none
   read_value c a (layout.below k g n b) h bs t tokens p awaits l trail low line deep fits rest =
       rw (← gap_text k g n (spell_block n b (trail_text t)))
-      (block_reads n a b h.3 (c ∷ bs) t tokens p awaits another l (line_gap k g n) (omega (arith, h.2)) trail (ends_deeper t c n bs low h.2) (here_after k g n _ p another l h.0 h.1 (λ f. refl) line) rest)
+      (block_reads n a b h.3 (c ∷ bs) t tokens p awaits another l (line_gap k g n) (omega (arith, h.2)) trail (grind arith) (here_after k g n _ p another l h.0 h.1 (λ f. refl) line) rest)
   read_value c a (Value.at_key k g es) h bs t tokens p awaits l trail low line deep fits rest =
       rw (← gap_text k g c (spell_entries c es (trail_text t)))
       (entries_read c a es h.2 true [] bs t tokens p awaits another l (line_gap k g c) tt (λ e. cc) trail low (here_after k g c _ p another l h.0 h.1 (λ f. refl) line) rest)
