@@ -1,5 +1,5 @@
 -- A block scalar has one end.
-use Rattle.proof_row.proofs.Common.{[], after_style, all_lines, ap, append-nil, append_assoc, begins_with, block_read, block_value, BlockRead, BlockScalarsHaveOneEnd, Body, body, Bool, column_by, content_column, Ending, eqb-true, false, further_text, has_no_nul, Header, header_of, if◌then◌else◌, inl, input_ends, inr, is_at_end, is_break, is_further_text, is_nul, is_past, List, None, Option, read_body, read_lines, read_split, refl, Row, row_of, rows_of, Some, Split, split, starts_with_tab, subst, sym, true, value_at_end, value_at_text, value_by, with_value, ℕ, ◌++◌, ◌==◌, ◌||◌, ◌∙◌, ◌∷◌, ◌≡◌, ◌⊎◌}
+use Rattle.proof_row.proofs.Common.{[], after_style, all_lines, ap, append-nil, append_assoc, begins_with, block_read, block_value, BlockRead, BlockScalarsHaveOneEnd, body, Bool, column_by, content_column, Ending, eqb-true, false, further_text, has_no_nul, Header, header_of, if◌then◌else◌, inl, inr, is_at_end, is_break, is_further_text, is_nul, is_past, List, None, Option, read_body, read_lines, read_split, refl, Row, row_of, rows_of, Some, Split, split, starts_with_tab, subst, sym, true, value_at_end, value_at_text, value_by, with_value, ℕ, ◌++◌, ◌==◌, ◌||◌, ◌∙◌, ◌∷◌, ◌≡◌, ◌⊎◌}
 use Rattle.defs_text.specs.BlockScalar.{literal, folded, unbroken}
 use Rattle.proof_row.proofs.Runs.{both, untrue, contrary}
 use Rattle.proof_row.proofs.Splits.{More, splits}

@@ -1,5 +1,5 @@
 -- Pieces of a row at the accounts of a cut: other block collections are open there while a key waits, and pairs are open in flow levels.
-use Rattle.proof_row.proofs.Common.{[], Account, act_of, after_blank, ap, Before, begins_with_key_indicator, begins_with_space_or_break, block_end, block_entry, block_mapping_start, block_sequence_start, Bool, double_quoted, ends_entry, ends_plain, ends_with_content, eqb-true, false, flow_entry, flow_mapping_end, flow_mapping_start, flow_sequence_end, flow_sequence_start, folded, gives_colon, gives_dash, gives_node, gives_question, goes_on, if◌then◌else◌, inl, innermost_column, inr, inside, is_adjacent, is_blank, is_blank_or_end, is_break, is_document_marker, is_nul, is_whole_plain, IsPiece, key, kind_at, kind_of, length, Level, List, literal, not, on_line, Option, past, past_separation, plain, plain_scalar, Position, question, refl, scalar, single_quoted, Some, Stand, stops, stream_end, stream_start, subst, sym, Tok, true, value, with_blocks, ℕ, ◌&&◌, ◌++◌, ◌==◌, ◌||◌, ◌∙◌, ◌∷◌, ◌≡◌, ◌⊎◌}
+use Rattle.proof_row.proofs.Common.{[], Account, act_of, ap, Before, begins_with_key_indicator, begins_with_space_or_break, block_end, block_entry, block_mapping_start, block_sequence_start, Bool, double_quoted, ends_entry, ends_plain, ends_with_content, eqb-true, false, flow_entry, flow_mapping_end, flow_mapping_start, flow_sequence_end, flow_sequence_start, folded, gives_colon, gives_dash, gives_node, gives_question, goes_on, if◌then◌else◌, inl, innermost_column, inr, inside, is_adjacent, is_blank, is_blank_or_end, is_break, is_document_marker, is_nul, is_whole_plain, IsPiece, key, kind_at, kind_of, length, Level, List, literal, not, Option, past, past_separation, plain, plain_scalar, Position, question, refl, scalar, single_quoted, Some, Stand, stops, stream_end, stream_start, subst, sym, Tok, true, value, with_blocks, ℕ, ◌&&◌, ◌++◌, ◌==◌, ◌||◌, ◌∙◌, ◌∷◌, ◌≡◌, ◌⊎◌}
 use Rattle.defs_token.specs.Account.{is_in_flow}
 use Rattle.proof_row.proofs.Begins.{texts_begin, separations_end_before}
 

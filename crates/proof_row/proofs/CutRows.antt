@@ -1,5 +1,5 @@
 -- Each step of a row is a row of a cut: tokens without a piece, and the one that it shows.
-use Rattle.proof_row.proofs.Common.{[], account_at_piece, account_past, account_past_separation, account_past_token, Act, act_of, ap, arith, Before, before_past, before_past_token, begins_free_line, begun_by, begun_inside, begun_outside, blocks_at, Bool, Colon, double_quoted, ends_at, entries_past, Entry, false, folded, free, gives_block_scalar, gives_closing, gives_colon, gives_comma, gives_dash, gives_marker, gives_node, gives_question, has_break, has_no_break, if◌then◌else◌, inl, inr, is_deeper, is_in_column, is_in_line, is_marker, is_near, is_of_key, is_renewed, is_separation, is_waiting, IsPiece, IsWritten, key_end, keyed, length, level_of, levels_past, Line, line_past, line_past_separation, List, literal, map, may_stand, None, not_ended, on_one_line, opened, Option, Outside, pair_position, past_inside, past_outside, past_piece, piece_with_blocks, plain, Position, position_after, previous_by, put, refl, scalar, seen, shown_position, single_quoted, Site, site_at, site_past, Some, spelled, Step, subst, suc, sym, taken, takes_pair, Tok, Token, tokens_of, tokens_of_step, true, unless_key, waits, Written, ℕ, ◌&&◌, ◌++◌, ◌<◌, ◌∙◌, ◌∷◌, ◌≡◌, ◌≤◌}
+use Rattle.proof_row.proofs.Common.{[], account_at_piece, account_past, account_past_separation, account_past_token, Act, act_of, ap, arith, Before, before_past, before_past_token, begins_free_line, begun_by, begun_inside, begun_outside, blocks_at, Bool, Colon, ends_at, entries_past, Entry, false, free, gives_node, has_break, has_no_break, if◌then◌else◌, inl, inr, is_deeper, is_in_column, is_in_line, is_marker, is_renewed, is_separation, is_waiting, IsPiece, IsWritten, key_end, length, level_of, levels_past, Line, line_past, line_past_separation, List, map, may_stand, None, not_ended, on_one_line, Option, Outside, pair_position, past_inside, past_outside, past_piece, piece_with_blocks, Position, position_after, previous_by, put, refl, seen, shown_position, Site, site_at, site_past, Some, spelled, Step, subst, suc, sym, taken, takes_pair, Tok, Token, tokens_of, tokens_of_step, true, waits, Written, ℕ, ◌&&◌, ◌++◌, ◌<◌, ◌∙◌, ◌∷◌, ◌≡◌, ◌≤◌}
 use Rattle.defs_token.specs.Account.{Account as PieceAccount}
 use Rattle.defs_token.specs.Step as step
 use Rattle.defs_token.specs.RowAccount.{Account, before_by as before_by_previous}

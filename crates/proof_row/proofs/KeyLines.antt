@@ -1,5 +1,5 @@
 -- A key that waits in an entry of a flow collection began on the position's line, or on an earlier one.
-use Rattle.proof_row.proofs.Common.{[], account_past, Act, act_of, arith, begins_free_line, begun_by, Bool, ends_line, entries_past, Entry, false, filled, first_entry, flow_mapping_start, flow_sequence_start, FlowKind, fresh, gives_closing, gives_colon, gives_comma, gives_node, Had, had_after, had_past, has_break, if◌then◌else◌, is_in_column, is_in_flow, is_renewed, is_waiting, Leads, Line, line_past, line_past_separation, List, may_stand, None, not, on_one_line, Option, Outside, Pair, pair_past, past_end, past_inside, past_outside, past_piece, Position, position_after, position_past, renewed, settled, Site, site_at, Some, Step, subst, suc, takes_pair, Tok, true, with_had, ℕ, ◌&&◌, ◌++◌, ◌==◌, ◌||◌, ◌∷◌, ◌≤◌}
+use Rattle.proof_row.proofs.Common.{[], account_past, Act, act_of, arith, begins_free_line, begun_by, Bool, ends_line, entries_past, Entry, gives_closing, gives_comma, Had, if◌then◌else◌, is_in_flow, is_renewed, Leads, Line, line_past_separation, List, may_stand, None, on_one_line, Option, past_inside, past_piece, Position, position_after, position_past, Site, site_at, Some, Step, subst, suc, Tok, ℕ, ◌++◌, ◌∷◌, ◌≤◌}
 use Rattle.defs_token.specs.Step.{spelled}
 use Rattle.defs_token.specs.FlowEntry.{waits}
 use Rattle.defs_token.specs.RowAccount.{Account}

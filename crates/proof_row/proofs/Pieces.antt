@@ -1,5 +1,5 @@
 -- At one account a text begins with one piece of one token.
-use Rattle.proof_row.proofs.Common.{[], Account, alias_name, anchor_name, ap, append-nil, block_read, block_scalar, BlockRead, Bool, colon, comma, dash, dashes, directive_line, directive_of, dots, double_quoted_value, false, has_no_nul, if◌then◌else◌, in_double_quotes, in_single_quotes, is_adjacent, is_nul, IsSeenAlike, Kind, kind_at, kind_of, List, mapping_closing, mapping_opening, NoPieceIsInASeparation, not, nothing, Option, PiecesHaveOneEnd, PiecesSeenAlikeHaveOneEnd, plain_scalar, plain_value, question, refl, SeparationsBeforePiecesAreOne, sequence_closing, sequence_opening, single_quoted_value, Some, subst, sym, Tag, tag, tag_text, TextsUpToTheirEndHaveNoNul, Tok, true, up_to_nul, written_tag, ℕ, ◌++◌, ◌∙◌, ◌∷◌, ◌≡◌, IsNamed, alias, anchor}
+use Rattle.proof_row.proofs.Common.{[], alias_name, anchor_name, ap, append-nil, block_read, block_scalar, BlockRead, Bool, colon, comma, dash, dashes, directive_line, directive_of, dots, double_quoted_value, false, has_no_nul, if◌then◌else◌, in_double_quotes, in_single_quotes, is_adjacent, is_nul, Kind, kind_at, kind_of, List, mapping_closing, mapping_opening, NoPieceIsInASeparation, not, nothing, Option, PiecesHaveOneEnd, PiecesSeenAlikeHaveOneEnd, plain_scalar, plain_value, question, refl, SeparationsBeforePiecesAreOne, sequence_closing, sequence_opening, single_quoted_value, Some, subst, sym, Tag, tag, tag_text, TextsUpToTheirEndHaveNoNul, Tok, true, up_to_nul, written_tag, ℕ, ◌++◌, ◌∙◌, ◌∷◌, ◌≡◌, IsNamed, alias, anchor}
 use Rattle.defs_token.specs.Account.{is_in_flow}
 use Rattle.proof_row.proofs.Runs.{joined, same_head}
 use Rattle.proof_row.proofs.Separations.{separations}

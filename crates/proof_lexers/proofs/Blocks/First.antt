@@ -1,5 +1,5 @@
 -- The first lines give the content column.
-use Rattle.proof_lexers.proofs.Common.{[], all_lines, along, and_parts, ap, append-nil, arith, at_least, cases_Bool, collection_of, Column, column_by, deepest_start, digit_base, digit_by, false, First, first_indent, FirstLinesGiveTheColumn, indent_from, inl, inr, is_break, is_in_line, is_spaces, leading_spaces, least_column, List, max, past, Position, Read, refl, Split, split, suc, sym, true, unbroken, zero, ℕ, ◌++◌, ◌+◌, ◌-◌, ◌==◌, ◌∙◌, ◌∷◌, ◌≡◌, ◌≤◌, nat_tests}
+use Rattle.proof_lexers.proofs.Common.{[], all_lines, along, and_parts, ap, append-nil, arith, at_least, cases_Bool, collection_of, Column, column_by, deepest_start, digit_by, false, First, first_indent, FirstLinesGiveTheColumn, indent_from, inl, inr, is_break, is_in_line, is_spaces, leading_spaces, least_column, List, max, past, Position, Read, refl, Split, split, suc, sym, true, unbroken, zero, ℕ, ◌++◌, ◌+◌, ◌==◌, ◌∙◌, ◌∷◌, ◌≡◌, ◌≤◌, nat_tests}
 use Rattle.model_scanner.specs.BlockScalar.{content}
 use Rattle.proof_lexers.proofs.Blocks.InLine.{first_inner}
 use Rattle.proof_lexers.proofs.Blocks.Written.{Break, Line, put, spell, texts, Fits, AreLines, Lined, lined, split_spell}

@@ -1,5 +1,5 @@
 -- Further text ends a block scalar.
-use Rattle.proof_lexers.proofs.Common.{[], and_parts, ap, arith, Bool, cases_Bool, eqb-true, false, indent_from, inl, inr, is_break, is_document_marker, is_further_text, is_outside, Lines, List, lt-ltb, nat_lt, ne_eqb, not, not-true, Ok, past, past_spaces, Position, refl, suc, sym, true, without_spaces, zero, ℕ, ◌&&◌, ◌+◌, ◌<◌, ◌==◌, ◌∙◌, ◌∷◌, ◌≡◌, ◌≤◌}
+use Rattle.proof_lexers.proofs.Common.{[], and_parts, ap, arith, Bool, cases_Bool, eqb-true, false, indent_from, inl, inr, is_break, is_document_marker, is_further_text, is_outside, Lines, List, lt-ltb, nat_lt, ne_eqb, not, not-true, Ok, past, past_spaces, Position, refl, suc, sym, true, without_spaces, zero, ℕ, ◌&&◌, ◌+◌, ◌==◌, ◌∙◌, ◌∷◌, ◌≡◌, ◌≤◌}
 use Rattle.defs_text.specs.Classes as classes
 use Rattle.model_scanner.specs.BlockScalar.{begins}
 use Rattle.proof_lexers.proofs.Bridges.{same_break, same_marker}

@@ -1,5 +1,5 @@
 -- The definitions' positions are the model's.
-use Rattle.proof_lexers.proofs.Common.{[], along, ap, append-nil, append_assoc, arith, false, first_content, is_break, is_in_line, is_spaces, length, List, None, not, past, past_break, Position, position_after, position_past, refl, slice_index, sym, true, ℕ, ◌++◌, ◌+◌, ◌==◌, ◌∙◌, ◌∷◌, ◌≡◌, ◌≤◌, Read, indent_from, Column, Option, if◌then◌else◌, is_empty, Some}
+use Rattle.proof_lexers.proofs.Common.{[], along, ap, append-nil, append_assoc, arith, false, first_content, is_break, is_in_line, is_spaces, length, List, None, not, past, past_break, Position, position_after, position_past, refl, sym, true, ℕ, ◌++◌, ◌+◌, ◌∙◌, ◌∷◌, ◌≡◌, ◌≤◌, Read, indent_from, Column, Option, if◌then◌else◌, is_empty, Some}
 use Rattle.defs_text.specs.Classes as classes
 use Rattle.defs_text.specs.Breaks as cut
 use Rattle.proof_lexers.proofs.Bridges.{same_break}

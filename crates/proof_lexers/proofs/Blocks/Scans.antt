@@ -1,5 +1,5 @@
 -- The whole scan of a block scalar whose lines are known.
-use Rattle.proof_lexers.proofs.Common.{[], after_header, along, and_then, ap, append-nil, arith, At, begins_with, Block, block, block_position, BlockRead, Bool, breaks, cases_Bool, chomping_of, collection_of, Column, column_by, content_row, digit_by, digit_or_zero, drop, empty_row, empty_text, Err, false, Fault, first_content, further_position, has_content, Header, header, header_of, indent_from, indicator_of, indicators_of, inl, inr, is_at_end, is_empty, is_in_line, is_literal_style, is_open, is_spaces, is_tabbed, IsRead, le-ltb, length, Lines, lines_from, List, max, nat_le, nat_lt, nat_tests, None, not, Ok, past, past_spaces, Position, position_after, position_or, Read, read_header, reads, refl, refuses, Result, Row, rows_of, Some, suc, sym, tab, tail, true, value_before_end, value_before_text, with_content, without_spaces, ℕ, ◌&&◌, ◌++◌, ◌+◌, ◌∙◌, ◌∷◌, ◌≡◌, ◌≤◌, Option}
+use Rattle.proof_lexers.proofs.Common.{[], after_header, along, and_then, ap, append-nil, arith, At, begins_with, Block, block, block_position, BlockRead, Bool, breaks, cases_Bool, chomping_of, collection_of, Column, column_by, content_row, digit_by, digit_or_zero, drop, empty_row, empty_text, Err, false, Fault, first_content, further_position, has_content, Header, header, header_of, indent_from, indicator_of, indicators_of, inl, inr, is_at_end, is_in_line, is_literal_style, is_open, is_spaces, is_tabbed, IsRead, le-ltb, length, Lines, lines_from, List, max, nat_le, nat_lt, nat_tests, None, not, Ok, past, past_spaces, Position, position_after, position_or, Read, read_header, reads, refl, refuses, Result, Row, rows_of, Some, suc, sym, tab, tail, true, value_before_end, value_before_text, with_content, without_spaces, ℕ, ◌&&◌, ◌++◌, ◌+◌, ◌∙◌, ◌∷◌, ◌≡◌, ◌≤◌, Option}
 use Rattle.yaml_tokens.specs.declared.problem.Problem.TheVariants as problem
 use Rattle.defs_text.specs.Classes as classes
 use Rattle.defs_text.specs.BlockScalar as defs
@@ -10,11 +10,11 @@ use Rattle.proof_lexers.proofs.Blocks.Written.{Break, Line, put, spell, texts, F
 use Rattle.proof_lexers.proofs.Blocks.Margins.{after_break, after_lines, at, before, margin_passes, last_passes, col_along, lines_front}
 use Rattle.proof_lexers.proofs.Blocks.First.{content_is}
 use Rattle.proof_lexers.proofs.Blocks.Positions.{spell_more, after_chars, after_put, after_spell, first_header, header_alone, stopped_at, first_is}
-use Rattle.proof_lexers.proofs.Blocks.Rows.{after_rows, front, written, rows_go, last_empty, last_content, break_ends, IsRow, no_content, is_content, Starts, starts}
+use Rattle.proof_lexers.proofs.Blocks.Rows.{after_rows, front, written, rows_go, last_empty, last_content, break_ends, IsRow, no_content, is_content, starts}
 use Rattle.proof_lexers.proofs.Blocks.Further.{Outside, further_stops}
 use Rattle.proof_lexers.proofs.Blocks.Values.{after_empty, content_value, empty_value, end_value, last_value}
 use Rattle.proof_lexers.proofs.Blocks.HeaderFacts.{header_reads, header_tabs, linebreak_put}
-use Rattle.proof_lexers.proofs.Blocks.Walks.{Found, found_in, all_empty, are_full}
+use Rattle.proof_lexers.proofs.Blocks.Walks.{found_in, all_empty, are_full}
 
 second_false : (a b c : Bool) → (((a && false) && b) && c) ≡ false
 second_false d b c = grind arith

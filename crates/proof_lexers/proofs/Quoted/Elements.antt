@@ -8,7 +8,7 @@ use Rattle.model_scanner.specs.Quoted.{after}
 use Rattle.model_scanner.specs.declared.kind.Digits.{Digits}
 use Rattle.proof_lexers.specs.QuotedScan.{is_some}
 use Rattle.proof_lexers.proofs.Bridges.{same_break, same_digit, same_code, digits_of, same_escape, and_false, both}
-use Rattle.proof_lexers.proofs.Quoted.Turns.{feed_is_no_marker, after_escaped, scan, Begun, begun, marked, shallow, begins, Taken, Step, steps, is_marked, is_shallow, StepOf, spelled, content_step, itself_step}
+use Rattle.proof_lexers.proofs.Quoted.Turns.{feed_is_no_marker, after_escaped, scan, Begun, begun, marked, shallow, begins, Step, steps, is_marked, is_shallow, StepOf, spelled, content_step, itself_step}
 
 -- ---- single quotes
 

@@ -2,7 +2,6 @@
 use Rattle.proof_lexers.proofs.Common.{[], ap, At, break_further, cases_Bool, content, Context, digits_from, Err, escape, escape_by, escaped_break, escapes, false, Folded, inl, inr, inside, is_blank, is_break, is_character_code, IsBadEscape, length, List, lookup, named_code, named_unknown, no_digit, None, number_at, numbered, numeric_escape, numeric_escapes, Option, past, Position, Problem, refl, Some, suc, sym, take, ℕ, ◌==◌, ◌∙◌, ◌∷◌, ◌≡◌}
 use Rattle.yaml_tokens.specs.declared.problem.Problem.TheVariants as problem
 use Rattle.defs_text.specs.Classes as classes
-use Rattle.model_scanner.specs.Quoted.{named}
 use Rattle.proof_lexers.specs.QuotedEnds.{ends, unknown, no_character}
 use Rattle.proof_lexers.proofs.Bridges.{digits_of, same_break, same_escape}
 use Rattle.proof_lexers.proofs.Quoted.Turns.{scan, spelled}

@@ -1,5 +1,5 @@
 -- A character of a line in quotes is read as it is written: as itself, as two single quotes, or by an escape of one letter.
-use Rattle.proof_lexers.proofs.Common.{[], along, append-nil, arith, at_marker, Bool, cases_Bool, Char, Context, escape_of, false, Fault, Folded, gap, inl, inr, inside, is_blank, is_break, le-ltb, List, ne_eqb, not, Ok, Position, quote_of, quoted_from, QuotedState, Read, refl, refused, Result, true, ℕ, ◌&&◌, ◌++◌, ◌+◌, ◌==◌, ◌||◌, ◌∙◌, ◌∷◌, ◌≡◌, ◌≤◌, nat_lt}
+use Rattle.proof_lexers.proofs.Common.{[], along, append-nil, arith, Bool, Char, Context, escape_of, false, Fault, Folded, gap, inside, is_blank, is_break, le-ltb, List, ne_eqb, not, Position, quote_of, quoted_from, QuotedState, Read, refl, Result, true, ℕ, ◌&&◌, ◌++◌, ◌+◌, ◌==◌, ◌||◌, ◌∙◌, ◌∷◌, ◌≡◌, ◌≤◌, nat_lt}
 use Rattle.proof_lexers.proofs.Quoted.Turns.{may_stand, inside_is_gap}
 use Rattle.proof_lexers.proofs.Along.{along_more}
 

@@ -1,5 +1,5 @@
 -- A body that has elements has no NUL, and a line of it begins with a marker before the closing quote just where it does in the body.
-use Rattle.proof_lexers.proofs.Common.{[], and_parts, arith, begins_with_marker, Bool, Context, drop, Element, element_of, elements, false, followed, has_document_marker, has_marker, is_document_marker, le-ltb, List, list_all, nat_lt, nothing, Option, Position, put_before, quote_of, refl, Some, Spelled, suc, true, zero, ℕ, ◌++◌, ◌==◌, ◌∷◌, ◌≡◌}
+use Rattle.proof_lexers.proofs.Common.{[], and_parts, arith, begins_with_marker, Bool, Context, drop, Element, element_of, elements, false, followed, has_document_marker, has_marker, is_document_marker, le-ltb, List, list_all, nat_lt, nothing, Option, Position, put_before, quote_of, refl, Some, Spelled, suc, true, zero, ℕ, ◌++◌, ◌∷◌, ◌≡◌}
 use Rattle.defs_text.specs.Classes as classes
 use Rattle.proof_lexers.proofs.Bridges.{and_false, or_false}
 use Rattle.proof_lexers.specs.QuotedScan.{is_some}
