@@ -2,7 +2,6 @@
 use Rattle.proof_layout_tokens.proofs.Common.{[], and_parts, ap, append-nil, AreLines, AreLineTexts, arith, begins_with, BeginsWithText, blank, block_value, BlockStyle, body, Bool, collection_of, column_by, digit_of, EndsInText, false, full, further_text, has_content, header_of, indented_lines, indicator_of, is_at_end, is_further_text, is_in_line, is_line_character, is_outside, IsLineText, Line, List, list_all, nat_tests, None, not, Option, read_body, refl, Row, row_of, rows_of, sign_of, Some, spaces, spell_line, spell_lines, starts_with_tab, suc, sym, texts, texts_append, true, unbroken, value_before_end, value_before_text, zero, ℕ, ◌&&◌, ◌++◌, ◌<◌, ◌==◌, ◌||◌, ◌∙◌, ◌∷◌, ◌≡◌, ◌≢◌, ◌≤◌}
 use Rattle.defs_text.specs.Classes as classes
 use Rattle.defs_text.specs.Classes.{tab}
-use Rattle.defs_text.specs.BlockScalar.{least_column}
 use Rattle.defs_token.specs.BlockPiece as cut
 use Rattle.proof_lexers.proofs.Blocks.Written as written
 use Rattle.proof_lexers.proofs.Blocks.Written.{spell}

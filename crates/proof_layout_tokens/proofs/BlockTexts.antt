@@ -1,6 +1,5 @@
 -- The lines of a literal or folded block as the definitions of block scalars read them: empty lines after them change neither its column nor its value.
 use Rattle.proof_layout_tokens.proofs.Common.{[], and_false, ap, append-nil, AreLines, arith, BeginsWithText, blank, BlockStyle, Bool, Chomping, content_row, deepest_start, drop, empty_row, EndsInText, false, feed, full, has_content, Header, if◌then◌else◌, indented_lines, is_content_line, is_document_marker, is_empty_line, is_spaces, leading_spaces, length, Line, List, max, nat_le, nat_tests, ne_eqb, None, Option, refl, Row, row_of, rows_of, Some, spaces, spell_line, spell_lines, suc, sym, text_after, text_of, texts, true, value_before_end, value_before_text, zero, ℕ, ◌&&◌, ◌++◌, ◌+◌, ◌<◌, ◌==◌, ◌∙◌, ◌∷◌, ◌≡◌, ◌≢◌, ◌≤◌}
-use Rattle.defs_text.specs.BlockScalar.{with_content}
 use Rattle.proof_lexers.proofs.Blocks.Written as written
 
 -- ---- lines

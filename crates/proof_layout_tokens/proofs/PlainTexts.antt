@@ -1,6 +1,5 @@
 -- The scalars that are spelt without quotes, as texts that a plain scalar may be.
-use Rattle.std.specs.Fmt.{signed_decimal as decimal_digits}
-use Rattle.proof_layout_tokens.proofs.Common.{[], alias, AllDigits, and_false, and_from, and_parts, arith, bad_value, Bool, boolean, codes, decimal, decimal_is_IsNumeral, digit_from_value, ends_with, ends_with-one, ends_with-step, false, fits_i64, has_indicator_first, hash, integer, is_decimal, is_quoted, is_real_character, is_real_text, is_unfit_for_plain, IsNumeral, IsPlain, List, list_all, list_any, ltb-true, nat_eq, nat_le, nat_tests, ne_eqb, negsuc, not, null, or_parts, pos, real, real_text-characters, refl, spelling, suc, Tree, true, typing, unquoted, ℕ, ℤ, ◌&&◌, ◌<◌, ◌==◌, ◌^◌, ◌||◌, ◌∷◌, ◌≡◌, ◌≤◌}
+use Rattle.proof_layout_tokens.proofs.Common.{[], alias, AllDigits, and_false, and_from, and_parts, arith, bad_value, Bool, boolean, codes, decimal, decimal_is_IsNumeral, digit_from_value, ends_with, ends_with-one, ends_with-step, false, has_indicator_first, hash, integer, is_decimal, is_quoted, is_real_character, is_real_text, is_unfit_for_plain, IsNumeral, IsPlain, List, list_all, list_any, ltb-true, nat_eq, nat_le, nat_tests, ne_eqb, negsuc, not, null, or_parts, pos, real, real_text-characters, refl, spelling, suc, Tree, true, typing, unquoted, ℕ, ◌&&◌, ◌<◌, ◌==◌, ◌^◌, ◌||◌, ◌∷◌, ◌≡◌, ◌≤◌}
 use Rattle.defs_tree.specs.Tree.{string, array}
 use Rattle.defs_tree.specs.Quoting.{begins_with}
 use Rattle.defs_tree.proofs.DecimalReading.{is_decimal-read}

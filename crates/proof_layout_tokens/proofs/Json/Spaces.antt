@@ -1,5 +1,5 @@
 -- Between the parts of a JSON value on one line without TAB only spaces stand.
-use Rattle.proof_layout_tokens.proofs.Common.{arith, [], and_parts, array, Blank, element, Elements, false_word, is_on_one_line, Json, last_element, last_member, List, list_all, member, Members, null_word, Number, object, Piece, spell, spell_elements, spell_members, spell_number, spell_piece, spell_pieces, spell_string, true, true_word, ℕ, ◌++◌, ◌∷◌, ◌≡◌}
+use Rattle.proof_layout_tokens.proofs.Common.{arith, [], and_parts, array, Blank, element, Elements, false_word, is_on_one_line, Json, last_element, last_member, List, list_all, member, Members, null_word, object, Piece, spell, spell_elements, spell_members, spell_number, spell_pieces, spell_string, true, true_word, ℕ, ◌++◌, ◌∷◌, ◌≡◌}
 use Rattle.defs_layout.specs.JsonGap.{spell_gap}
 use Rattle.proof_layout_tokens.proofs.Json.OnOneLine.{AreSpaces}
 use Rattle.proof_layout_tokens.proofs.Json.OnOneLine.{HasSpaces, HaveSpaces, MembersHaveSpaces}

@@ -1,6 +1,6 @@
 -- Texts laid out in lines and their tokens: what the theorem says of one with each form, and what the model computes for small ones.
 use Rattle.std.specs.Fmt.{digits}
-use Rattle.proof_layout_tokens.proofs.Common.{[], ap, arith, below, blank, codes, comment_line, compact, empty_hash, empty_line, entry, explicit, false, field, full, HasToks, implicit, Inline, is_decimal, is_line_character, is_literal_character, is_literal_text, is_quoted, is_unfit_for_plain, last_document, last_entry, last_field, List, literal, no_comment, plain, pos, quoted, Root, Scalar, scalar, Style, sym, Tok, Tree, tree_eq, true, true≢false, typing, Value, written_character, ℕ, ◌∙◌, ◌∷◌, ◌≡◌, ◌≢◌}
+use Rattle.proof_layout_tokens.proofs.Common.{[], arith, below, blank, codes, comment_line, compact, empty_hash, empty_line, entry, explicit, field, full, HasToks, implicit, Inline, is_decimal, is_line_character, is_literal_character, is_literal_text, is_quoted, is_unfit_for_plain, last_document, last_entry, last_field, List, literal, no_comment, plain, pos, quoted, Root, Scalar, scalar, Style, Tok, Tree, true, typing, Value, written_character, ℕ, ◌∷◌}
 use Rattle.defs_layout.specs.Layout.{empty_array, array, hash}
 use Rattle.proof_layout_tokens.proofs.Layouts.Texts.{layouts_have_their_tokens}
 use Rattle.proof_layout_tokens.proofs.AnchorRows.{differ}

@@ -1,9 +1,6 @@
 -- Texts of one quoted scalar have their tokens.
-use Rattle.proof_layout_tokens.proofs.Common.{[], arith, body_value, false, is_nul, List, list_all, parts, quote_of, QuotedText, QuotedTextsHaveTheirTokens, Quotes, refl, replicate, Some, style_of, suc, Tok, true, up_to_nul, zero, ℕ, ◌++◌, ◌∷◌, ◌≡◌, ◌≢◌}
+use Rattle.proof_layout_tokens.proofs.Common.{[], body_value, List, QuotedText, QuotedTextsHaveTheirTokens, Some, style_of, Tok, up_to_nul, ℕ, ◌∷◌, ◌≡◌}
 use Rattle.defs_layout.specs.QuotedText.{spell}
-use Rattle.defs_layout.specs.QuotedText as laid
-use Rattle.proof_lexers.specs.QuotedScan.{is_some}
-use Rattle.proof_lexers.proofs.Quoted.NoNul.{has_none}
 use Rattle.proof_layout_tokens.proofs.Nul.{whole}
 use Rattle.proof_layout_tokens.proofs.Rows.QuotedTexts.{quoted_reads}
 use Rattle.proof_layout_tokens.proofs.Rows.Texts.{has_tokens}

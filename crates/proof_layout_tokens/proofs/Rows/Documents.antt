@@ -1,7 +1,6 @@
 -- Whole layouts have rows: roots, and documents one after the other.
-use Rattle.proof_layout_tokens.proofs.Common.{[], and_false, another, append-nil, are_marks, AreDocuments, AreEmptyLines, arith, awaits_at, awaits_past, BlockStyle, Bool, codes, Documents, documents_tokens, false, first_account, first_position, free, GapLine, has_break, is_blank, is_blank_or_end, is_break, is_nul, is_waiting, IsAfterRoot, IsGap, IsLayout, IsRoot, Layout, length, line_past_separation, List, marked, no_comment, Position, position_after, Previous, refl, Root, root_tokens, Some, spaces, spell_block, spell_documents, spell_gap, spell_inline, spell_lines, spell_literal, spell_root, taken, Tok, true, ℕ, ◌++◌, ◌-◌, ◌∷◌, ◌≡◌}
+use Rattle.proof_layout_tokens.proofs.Common.{[], and_false, another, append-nil, are_marks, AreDocuments, AreEmptyLines, arith, awaits_at, awaits_past, BlockStyle, Bool, codes, Documents, documents_tokens, false, first_account, first_position, free, GapLine, has_break, is_blank, is_blank_or_end, is_break, is_nul, is_waiting, IsAfterRoot, IsGap, IsLayout, IsRoot, Layout, length, List, marked, no_comment, Position, position_after, Previous, refl, Root, root_tokens, spaces, spell_block, spell_documents, spell_gap, spell_inline, spell_lines, spell_literal, spell_root, taken, Tok, true, ℕ, ◌++◌, ◌-◌, ◌∷◌, ◌≡◌}
 use Rattle.defs_token.specs.Key.{Line}
-use Rattle.defs_layout.specs.BlockLines.{Line as BlockLine}
 use Rattle.defs_layout.specs.Layout.{spell}
 use Rattle.defs_layout.specs.Layout as layout
 use Rattle.proof_layout_tokens.proofs.LiteralTexts.{strips_of, headed_literal, root_literal_lines}
@@ -10,9 +9,9 @@ use Rattle.proof_layout_tokens.proofs.Rows.Steps.{Reads, at, step_of, Steps, ste
 use Rattle.proof_layout_tokens.proofs.Rows.Nodes.{or_true}
 use Rattle.proof_layout_tokens.proofs.Rows.Texts.{ended, read_end}
 use Rattle.proof_layout_tokens.proofs.Rows.Blocks.{Here, ends_are, ended_append}
-use Rattle.proof_layout_tokens.proofs.Rows.Trails.{Trail, next, marker, end, marker_text, trail_text, IsTrail, IsLow, EndsAt, After, gap_separates, gap_none, spaces_separate, gap_last, no_tab, gap_column, spaces_are, gap_is, here_after}
+use Rattle.proof_layout_tokens.proofs.Rows.Trails.{Trail, next, marker, end, marker_text, trail_text, IsTrail, After, gap_separates, gap_none, spaces_separate, gap_last, no_tab, gap_column, spaces_are, gap_is, here_after}
 use Rattle.proof_layout_tokens.proofs.Rows.Leaves.{Lead}
-use Rattle.proof_layout_tokens.proofs.Rows.BlockScalars.{at_text, Follows, block_is_read}
+use Rattle.proof_layout_tokens.proofs.Rows.BlockScalars.{at_text, block_is_read}
 use Rattle.proof_layout_tokens.proofs.Rows.Values.{block_reads, inline_reads}
 
 -- ---- in front of a root

@@ -1,5 +1,5 @@
 -- JSON values have rows.
-use Rattle.proof_layout_tokens.proofs.Common.{[], Account, act_of, and_from, and_parts, another, are_pieces, AreElements, AreMembers, arith, array, begins_with, begun_by, Blank, Bool, codes, colon_may_precede, element, element_levels, element_tokens, Elements, empty_array, empty_object, Entry, false, false_word, filled, flow_collection, fresh, further_lines_stand, gives_node, Had, has_no_break, inl, innermost, innermost_column, is_break, is_empty, is_flow, is_keyed, is_waiting, IsJson, IsJsonGap, IsShown, Json, json_tokens, last_element, last_member, length, length-map, level_of, levels, List, list_all, map, may_precede, member, member_levels, member_tokens, Members, nat_lt, nat_tests, null_word, object, Piece, plain_scalar, Position, position_after, Previous, previous_by, quoted_scalar, refl, settled, Some, spell, spell_elements, spell_members, spell_number, spell_string, string, string_token, Style, Tok, true, true_word, unescaped, ℕ, ◌++◌, ◌+◌, ◌<◌, ◌==◌, ◌∷◌, ◌≡◌, ◌≤◌}
+use Rattle.proof_layout_tokens.proofs.Common.{[], Account, act_of, and_from, and_parts, another, are_pieces, AreElements, AreMembers, arith, array, begins_with, begun_by, Blank, Bool, codes, colon_may_precede, element, element_levels, element_tokens, Elements, empty_array, empty_object, Entry, false, false_word, filled, flow_collection, fresh, further_lines_stand, gives_node, Had, has_no_break, inl, innermost, innermost_column, is_break, is_empty, is_flow, is_keyed, is_waiting, IsJson, IsJsonGap, IsShown, Json, json_tokens, last_element, last_member, length, length-map, level_of, levels, List, list_all, map, may_precede, member, member_levels, member_tokens, Members, nat_lt, nat_tests, null_word, object, Piece, plain_scalar, Position, position_after, Previous, previous_by, quoted_scalar, refl, settled, Some, spell, spell_elements, spell_members, spell_number, spell_string, string, string_token, Style, Tok, true, true_word, unescaped, ℕ, ◌++◌, ◌+◌, ◌<◌, ◌∷◌, ◌≡◌, ◌≤◌}
 use Rattle.defs_token.specs.Key.{Line}
 use Rattle.defs_token.specs.RowAccount as accounts
 use Rattle.defs_layout.specs.Json.{number}
@@ -12,7 +12,7 @@ use Rattle.proof_layout_tokens.proofs.Rows.Nodes.{IsDeep, none_ends, Parts, Quie
 use Rattle.proof_layout_tokens.proofs.Rows.Flow.{opening, closing, opening_bracket, closing_bracket, entry_of, close_at, comma_at, key_at, colon_at}
 use Rattle.proof_layout_tokens.proofs.Rows.Gaps.{white, MayStand, parts, deep_gap, deep_piece, Ends, comma_ends, closing_ends, colon_follows, no_comment_past, IsSolid, solid_past, colon_stands}
 use Rattle.proof_layout_tokens.proofs.Rows.Gaps
-use Rattle.proof_layout_tokens.proofs.Rows.Plain.{is_in_flow, MayFlow, IsPlainPiece, plain_piece}
+use Rattle.proof_layout_tokens.proofs.Rows.Plain.{is_in_flow, IsPlainPiece, plain_piece}
 use Rattle.proof_layout_tokens.proofs.Rows.Strings.{body_of, quoted, quoted_is, value_is, lines_fit, quoted_no_break}
 use Rattle.proof_layout_tokens.proofs.Nul.{HasNone, quoted_none}
 use Rattle.defs_layout.specs.QuotedText as laid

@@ -1,5 +1,5 @@
 -- A text of one quoted scalar, with line feeds alone after it, has a row.
-use Rattle.proof_layout_tokens.proofs.Common.{[], act_of, append_assoc, arith, begins_with, begun_by, blanks_before, body_value, Bool, double_quoted_element, Element, elements, false, first_account, first_position, free, further_lines_fit, further_lines_stand, gives_node, has_more, is_blank, is_break, is_empty, is_separation, IsShown, least_for, length, Lines, lines_fit, List, may_precede, nat_le, not, Option, parts, previous_by, quoted_lines_fit, quoted_may_end, Quotes, refl, replicate, single_quoted_element, Some, Spelled, style_of, suc, taken, Tok, true, zero, ℕ, ◌&&◌, ◌++◌, ◌||◌, ◌∷◌, ◌≡◌}
+use Rattle.proof_layout_tokens.proofs.Common.{[], act_of, append_assoc, arith, begins_with, begun_by, blanks_before, body_value, Bool, double_quoted_element, Element, elements, false, first_account, first_position, free, further_lines_stand, gives_node, has_more, is_blank, is_break, is_empty, is_separation, IsShown, least_for, length, Lines, lines_fit, List, may_precede, nat_le, not, Option, parts, previous_by, quoted_lines_fit, quoted_may_end, Quotes, refl, replicate, single_quoted_element, Some, Spelled, style_of, suc, taken, Tok, true, zero, ℕ, ◌&&◌, ◌++◌, ◌||◌, ◌∷◌, ◌≡◌}
 use Rattle.defs_text.specs.FlowScalar as flow
 use Rattle.defs_layout.specs.QuotedText as laid
 use Rattle.proof_layout_tokens.proofs.Rows.Steps.{Reads, at, step_of, site_of, step}

@@ -1,8 +1,7 @@
 -- Values, arrays and hashes of layouts have rows.
-use Rattle.proof_layout_tokens.proofs.Common.{[], all_field_tokens, all_of, Anchor, anchors_after, anchors_after_field, and_from, and_parts, another, ap, append-nil, AreEntries, AreFields, AreFoldedLines, AreLinesOf, arith, begins_with, begins_with_space_or_break, begun, Blank, Block, block_tokens, BlockStyle, Bool, colon_may_precede, Comment, comment, dash_may_precede, empty_hash, Entries, entry_tokens, false, Field, field_tokens, Fields, folded_header, free, fresh, GapLine, goes_on_with_name, has_break, has_no_break, has_tab_before_piece, inl, Inline, inline_tokens, inr, is_anchor_name, is_ascii_alphanumeric, is_at_gap, is_blank, is_blank_or_end, is_break, is_flow, is_line_character, is_literal_text, is_name, is_nul, is_one_of, is_waiting, IsBlock, IsComment, IsField, IsGap, IsImplicitKey, IsInline, IsJsonCollection, IsJsonOnOneLine, IsLineText, IsScalar, IsValue, Json, last_line, leading, least_column, length, line_past_separation, List, list_all, MayBeAnchored, MayFollowScalarKey, nat_tests, next_line, no_comment, Position, Previous, refl, replicate, Scalar, scalar, scalar_token, Some, spaces, spell_block, spell_comment, spell_entries, spell_field, spell_fields, spell_gap, spell_inline, spell_lines, spell_literal, spell_scalar, spell_value, suc, taken, Tok, Tree, true, Value, value_tokens, zero, ℕ, ◌++◌, ◌+◌, ◌<◌, ◌==◌, ◌∙◌, ◌∷◌, ◌≡◌, ◌≤◌, ◌⊎◌}
+use Rattle.proof_layout_tokens.proofs.Common.{[], all_field_tokens, all_of, Anchor, anchors_after, anchors_after_field, and_from, and_parts, another, ap, append-nil, AreEntries, AreFields, arith, begins_with, begins_with_space_or_break, begun, Blank, Block, block_tokens, BlockStyle, Bool, colon_may_precede, Comment, comment, dash_may_precede, empty_hash, Entries, entry_tokens, false, Field, field_tokens, Fields, folded_header, free, fresh, GapLine, goes_on_with_name, has_break, has_no_break, has_tab_before_piece, inl, Inline, inline_tokens, inr, is_anchor_name, is_ascii_alphanumeric, is_at_gap, is_blank, is_blank_or_end, is_break, is_flow, is_line_character, is_name, is_nul, is_one_of, is_waiting, IsBlock, IsComment, IsField, IsGap, IsInline, IsLineText, IsScalar, IsValue, last_line, leading, least_column, length, line_past_separation, List, list_all, MayFollowScalarKey, nat_tests, next_line, no_comment, Position, Previous, refl, replicate, Scalar, scalar, scalar_token, Some, spaces, spell_block, spell_comment, spell_entries, spell_field, spell_fields, spell_gap, spell_inline, spell_lines, spell_scalar, spell_value, suc, taken, Tok, true, Value, value_tokens, zero, ℕ, ◌++◌, ◌+◌, ◌==◌, ◌∙◌, ◌∷◌, ◌≡◌, ◌≤◌, ◌⊎◌}
 use Rattle.defs_layout.specs.JsonGap
 use Rattle.defs_layout.specs.Json
-use Rattle.defs_layout.specs.BlockLines.{Line as BlockLine}
 use Rattle.defs_token.specs.Piece as piece
 use Rattle.defs_layout.specs.Layout.{empty_array}
 use Rattle.defs_layout.specs.Layout as layout
