@@ -19,15 +19,11 @@ coded c low =
     let small = hex_digit (c % 16) (omega arith) in
     unicode_goes 48 48 (hexadecimal_digit (c / 16)) (hexadecimal_digit (c % 16)) c (record { first = refl; second = refl; third = high.0; fourth = small.0; valid = is_code c low; value = rw (high.1, small.1) (omega arith) })
 
-plain_character : (c : ℕ) → (c == 34) ≡ false → (c == 92) ≡ false → (nat_lt c 32 || (c == 127)) ≡ false → Unescaped c
-unfolding is_nul is_break is_blank
-plain_character c quote backslash low = record { nul = grind (arith, nat_tests); break = grind (arith, nat_tests); blank = grind (arith, nat_tests); backslash = backslash; quote = quote }
-
 named : (l x c : ℕ) → (c == x) ≡ true → is_break l ≡ false → ((body : List ℕ) → escape (l ∷ body) ≡ Some (record { element = content x; further = 1 })) → Goes false (92 ∷ l ∷ []) c
 named l x c e no_break is = rw (eqb-true c x e) (named_goes l x no_break is)
 
 character_goes : (c : ℕ) → Goes false (written_character c) c
-unfolding written_character is_break escape
+unfolding written_character is_break escape is_nul is_blank
 character_goes c = by (c == 34) (c == 92) (c == 8) (c == 9) (c == 10) (c == 12) (c == 13) (nat_lt c 32 || (c == 127)) refl refl refl refl refl refl refl refl
   where
     by : (b0 b1 b2 b3 b4 b5 b6 b7 : Bool) → (c == 34) ≡ b0 → (c == 92) ≡ b1 → (c == 8) ≡ b2 → (c == 9) ≡ b3 → (c == 10) ≡ b4 → (c == 12) ≡ b5 → (c == 13) ≡ b6 → (nat_lt c 32 || (c == 127)) ≡ b7
@@ -42,7 +38,7 @@ character_goes c = by (c == 34) (c == 92) (c == 8) (c == 9) (c == 10) (c == 12) 
     by false false false false false true b6 b7 e0 e1 e2 e3 e4 e5 e6 e7 = named 102 12 c e5 refl (λ body. refl)
     by false false false false false false true b7 e0 e1 e2 e3 e4 e5 e6 e7 = named 114 13 c e6 refl (λ body. refl)
     by false false false false false false false true e0 e1 e2 e3 e4 e5 e6 e7 = coded c (grind (arith, nat_tests))
-    by false false false false false false false false e0 e1 e2 e3 e4 e5 e6 e7 = itself_goes c (plain_character c e0 e1 e7)
+    by false false false false false false false false e0 e1 e2 e3 e4 e5 e6 e7 = itself_goes c (record { nul = grind (arith, nat_tests); break = grind (arith, nat_tests); blank = grind (arith, nat_tests); backslash = e1; quote = e0 })
 
 pub double_is : (w : List ℕ) → IsBody false (written_escapes w) w
 double_is [] = nothing_is false
