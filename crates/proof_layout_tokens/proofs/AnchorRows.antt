@@ -9,7 +9,7 @@ word w = plain (Tree.string w)
 abbrev text_tok : List ℕ → Tok
 text_tok w = Tok.scalar Style.plain w
 
-differ : (a b : Tree) → tree_eq a a ≡ true → tree_eq a b ≡ false → a ≢ b
+pub differ : (a b : Tree) → tree_eq a a ≡ true → tree_eq a b ≡ false → a ≢ b
 differ a b same other e = true≢false (sym same ∙ ap (tree_eq a) e ∙ other)
 
 -- an anchor before a block, a scalar and a literal block; a folded block and an empty line after it

@@ -2,11 +2,12 @@
 use Rattle.proof_layout_tokens.proofs.Common.{[], and_parts, ap, append-nil, AreLines, AreLineTexts, arith, begins_with, BeginsWithText, blank, block_value, BlockStyle, body, Bool, collection_of, column_by, digit_of, EndsInText, false, full, further_text, has_content, header_of, indented_lines, indicator_of, is_at_end, is_further_text, is_in_line, is_line_character, is_outside, IsLineText, Line, List, list_all, nat_tests, None, not, Option, read_body, refl, Row, row_of, rows_of, sign_of, Some, spaces, spell_line, spell_lines, starts_with_tab, suc, sym, texts, texts_append, true, unbroken, value_before_end, value_before_text, zero, ℕ, ◌&&◌, ◌++◌, ◌<◌, ◌==◌, ◌||◌, ◌∙◌, ◌∷◌, ◌≡◌, ◌≢◌, ◌≤◌}
 use Rattle.defs_text.specs.Classes as classes
 use Rattle.defs_text.specs.Classes.{tab}
-use Rattle.defs_text.specs.BlockScalar.{least_column}
 use Rattle.defs_token.specs.BlockPiece as cut
 use Rattle.proof_lexers.proofs.Blocks.Written as written
 use Rattle.proof_lexers.proofs.Blocks.Written.{spell}
 use Rattle.proof_layout_tokens.proofs.BlockTexts.{header_by, line_of, lines_at, empties, texts_are, line_more, Last, last_of, deepest, rows_split, row_full}
+use Rattle.proof_layout_tokens.proofs.Nul.{HasNone, both, text_none, spaces_none}
+use Rattle.proof_lexers.proofs.Blocks.First.{least_is}
 
 -- ---- the block
 
@@ -62,17 +63,13 @@ full_last : (column : ℕ) (init : List Line) (w : List ℕ) → AreLines column
 full_last column [] w are = are.0
 full_last column (l ∷ init) w are = full_last column init w are.1
 
-least : (i : ℕ) → least_column (collection_of i) ≡ i
-least zero = refl
-least (suc c) = refl
-
 pub high : (i column : ℕ) → IsInside i column → i ≤ column
 high zero column h = omega arith
 high (suc c) column h = omega (arith, h)
 
 -- the lines have their column, whatever lines stand after them
 in_column_with : (i column : ℕ) (ls : List Line) (more : List (List ℕ)) → IsInside i column → BeginsWithText ls → AreLines column ls → column_by None (collection_of i) (indented_lines column ls ++ more) ≡ column
-in_column_with i column ls more inside begins are = let e = deepest column ls more begins are in let f = least i in let g = high i column inside in omega (arith, e, f, g)
+in_column_with i column ls more inside begins are = let e = deepest column ls more begins are in let f = least_is i in let g = high i column inside in omega (arith, e, f, g)
 
 pub in_its_column : (i column : ℕ) (ls : List Line) → IsInside i column → BeginsWithText ls → AreLines column ls → column_by None (collection_of i) (indented_lines column ls) ≡ column
 in_its_column i column ls inside begins are = ap (column_by None (collection_of i)) (sym (append-nil (indented_lines column ls))) ∙ in_column_with i column ls [] inside begins are
@@ -165,6 +162,19 @@ pub are_lines : (column : ℕ) (ls : List Line) (more : List written.Line) (e : 
 are_lines column [] more e h are = are
 are_lines column (full w ∷ ls) more e h are = (inner_spaces column (w ++ []) (inner_line w h.0), tt, are_lines column ls more e h.1 are)
 are_lines column (blank n ∷ ls) more e h are = (inner_spaces n [] refl, tt, are_lines column ls more e h are)
+
+-- nor has a line a NUL
+pub lines_none : (column : ℕ) (ls : List Line) (more : List written.Line) (e : List ℕ) → AreLineTexts ls → HasNone (spell more e) → HasNone (spell (lines_at column ls ++ more) e)
+lines_none column [] more e h n = n
+lines_none column (full w ∷ ls) more e h n = both (spaces column (w ++ [])) _ (spaces_none column (w ++ []) (both w [] (text_none w h.0) refl)) (lines_none column ls more e h.1 n)
+lines_none column (blank k ∷ ls) more e h n = both (spaces k []) _ (spaces_none k [] refl) (lines_none column ls more e h n)
+
+pub empties_none : (n : ℕ) → HasNone (spell (empties n) [])
+empties_none zero = refl
+empties_none (suc n) = empties_none n
+
+pub header_none : (s : BlockStyle) (strips : Bool) (a : List ℕ) → HasNone a → HasNone (block_text s strips (10 ∷ a))
+header_none s strips a n = grind arith
 
 -- each line, and then an LF
 pub spelt_feeds : (column : ℕ) (ls : List Line) (r : List ℕ) → spell_lines column ls (10 ∷ r) ≡ 10 ∷ spell (lines_at column ls) r

@@ -1,6 +1,5 @@
 -- The lines of a literal or folded block as the definitions of block scalars read them: empty lines after them change neither its column nor its value.
 use Rattle.proof_layout_tokens.proofs.Common.{[], and_false, ap, append-nil, AreLines, arith, BeginsWithText, blank, BlockStyle, Bool, Chomping, content_row, deepest_start, drop, empty_row, EndsInText, false, feed, full, has_content, Header, if◌then◌else◌, indented_lines, is_content_line, is_document_marker, is_empty_line, is_spaces, leading_spaces, length, Line, List, max, nat_le, nat_tests, ne_eqb, None, Option, refl, Row, row_of, rows_of, Some, spaces, spell_line, spell_lines, suc, sym, text_after, text_of, texts, true, value_before_end, value_before_text, zero, ℕ, ◌&&◌, ◌++◌, ◌+◌, ◌<◌, ◌==◌, ◌∙◌, ◌∷◌, ◌≡◌, ◌≢◌, ◌≤◌}
-use Rattle.defs_text.specs.BlockScalar.{with_content}
 use Rattle.proof_lexers.proofs.Blocks.Written as written
 
 -- ---- lines
@@ -22,13 +21,13 @@ pub texts_are : (column : ℕ) (ls : List Line) → texts (lines_at column ls) �
 texts_are column [] = refl
 texts_are column (l ∷ ls) = ap (λ x. spell_line column l [] ∷ x) (texts_are column ls)
 
-spaces_more : (n : ℕ) (w r : List ℕ) → spaces n w ++ r ≡ spaces n (w ++ r)
-spaces_more zero w r = refl
-spaces_more (suc n) w r = ap (λ x. 32 ∷ x) (spaces_more n w r)
+pub spaces_are : (n : ℕ) (w r : List ℕ) → spaces n w ++ r ≡ spaces n (w ++ r)
+spaces_are zero w r = refl
+spaces_are (suc n) w r = ap (λ x. 32 ∷ x) (spaces_are n w r)
 
 pub line_more : (column : ℕ) (l : Line) (r : List ℕ) → spell_line column l [] ++ r ≡ spell_line column l r
-line_more column (full text) r = spaces_more column (text ++ []) r ∙ ap (λ x. spaces column (x ++ r)) (append-nil text)
-line_more column (blank n) r = spaces_more n [] r
+line_more column (full text) r = spaces_are column (text ++ []) r ∙ ap (λ x. spaces column (x ++ r)) (append-nil text)
+line_more column (blank n) r = spaces_are n [] r
 
 -- lines of which the last is this one
 pub spelt : (column : ℕ) (ls : List Line) (w r : List ℕ) → spell_lines column (ls ++ full w ∷ []) r ≡ 10 ∷ written.spell (lines_at column ls) (spell_line column (full w) [] ++ r)
@@ -92,9 +91,6 @@ abbrev pub empty_rows : ℕ → List Row
 empty_rows zero = []
 empty_rows (suc n) = empty_row ∷ empty_rows n
 
-none_some : {A : Type 0} (x : A) → None ≡ Some x → ⊥
-none_some x e = cc
-
 module _ (column : ℕ) where
   pub rows_append : (a b : List (List ℕ)) (rs ss : List Row) → rows_of column a ≡ Some rs → rows_of column b ≡ Some ss → rows_of column (a ++ b) ≡ Some (rs ++ ss)
   rows_append [] b rs ss e f = let z : [] ≡ rs = cc in rw (← z) f
@@ -116,8 +112,8 @@ module _ (column : ℕ) where
   rows_split (m ∷ a) l rs e = by (row_of column m) (rows_of column (a ++ l ∷ [])) refl refl (λ more g. rows_split a l more g)
     where
       by : (o : Option Row) (os : Option (List Row)) → row_of column m ≡ o → rows_of column (a ++ l ∷ []) ≡ os → ((more : List Row) → rows_of column (a ++ l ∷ []) ≡ Some more → Rows a l more) → Rows (m ∷ a) l rs
-      by None os x y go = let no : None ≡ Some rs = rw x at e in absurd (none_some rs no)
-      by (Some r) None x y go = let no : None ≡ Some rs = rw (x, y) at e in absurd (none_some rs no)
+      by None os x y go = let no : None ≡ Some rs = rw x at e in cc
+      by (Some r) None x y go = let no : None ≡ Some rs = rw (x, y) at e in cc
       by (Some r) (Some more) x y go =
           let one : Some (r ∷ more) ≡ Some rs = rw (x, y) at e in
           let z = go more y in
@@ -155,7 +151,7 @@ module _ (column : ℕ) where
         where
           one_is : (m : Row) (n : Row) → Some m ≡ Some n → m ≡ n
           one_is m n f = cc
-      by false x = let no : None ≡ Some r = rw (full_line c w, x) at e in absurd (none_some r no)
+      by false x = let no : None ≡ Some r = rw (full_line c w, x) at e in cc
 
   -- it is its text, but for a document marker at column 0
   pub text_row : (c : ℕ) (w : List ℕ) → (column ≡ 0 → is_document_marker ((c ∷ w) ++ []) ≡ false) → row_of column (spell_line column (full (c ∷ w)) []) ≡ Some (content_row (c ∷ w))
@@ -197,12 +193,9 @@ module _ (s : BlockStyle) where
   same_text (empty_row ∷ rs) n h = ap (λ x. 10 ∷ x) (same_text rs n h)
   same_text (content_row l ∷ rs) n h = ap (λ x. l ++ x) (same_after l 0 rs n)
 
-  same_content : (strips : Bool) (rs : List Row) (n : ℕ) → has_content rs ≡ true → with_content (header_by s strips) 0 (rs ++ empty_rows n) ≡ with_content (header_by s strips) 0 rs
-  same_content a rs n h = grind (arith, same_text)
-
   -- before further text
   pub text_value : (strips : Bool) (rs : List Row) (n : ℕ) → has_content rs ≡ true → value_before_text (header_by s strips) (rs ++ empty_rows n) ≡ value_before_text (header_by s strips) rs
-  text_value strips rs n h = rw (content_more rs (empty_rows n) h, h) (same_content strips rs n h)
+  text_value strips rs n h = rw (content_more rs (empty_rows n) h, h) (grind (arith, same_text))
 
   -- at the end of the text, in a line of spaces
   pub spaces_value : (strips : Bool) (column : ℕ) (rs : List Row) (n width : ℕ) → has_content rs ≡ true → width < max column 1
@@ -210,7 +203,7 @@ module _ (s : BlockStyle) where
   spaces_value strips column rs n width h low =
       let long : length (spaces width []) ≡ width + 0 = spaces_long width [] in
       let short : nat_le (max column 1) (length (spaces width [])) ≡ false = grind (arith, nat_tests) in
-      rw (content_more rs (empty_rows n) h, h, short) (same_content strips rs n h)
+      rw (content_more rs (empty_rows n) h, h, short) (grind (arith, same_text))
 
   -- at the end of the text, in the last line
   pub last_value : (strips : Bool) (column : ℕ) (rs : List Row) (r : Row) (l : List ℕ) → has_content (r ∷ []) ≡ true → value_before_end (header_by s strips) column rs l r ≡ value_before_text (header_by s strips) (rs ++ r ∷ [])

@@ -3,4 +3,3 @@ pub mod OnOneLine
 pub mod Spaces
 pub mod TextRows
 pub mod Texts
-pub mod Words

@@ -12,6 +12,3 @@ mod TextTokens
 pub mod Rows
 mod Common
 pub mod Nul
-pub mod JsonNul
-pub mod LayoutNul
-mod PartsNul

@@ -15,15 +15,12 @@ in_line c h e = grind (arith, nat_tests)
 abbrev are_line_texts : List (List ℕ) → Bool
 are_line_texts ls = list_all (λ l. list_all is_line_character l) ls
 
-onto_text : (c : ℕ) (ls : List (List ℕ)) → is_line_character c ≡ true → are_line_texts ls ≡ true → are_line_texts (onto_first_line c ls) ≡ true
-onto_text c a h e = grind arith
-
 text_lines : (text : List ℕ) → list_all is_literal_character text ≡ true → are_line_texts (lines_of text) ≡ true
 text_lines [] h = refl
 text_lines (c ∷ cs) h = let q = and_parts (is_literal_character c) (list_all is_literal_character cs) h in by (c == 10) refl q.0 (text_lines cs q.1)
   where
     by : (b : Bool) → (c == 10) ≡ b → is_literal_character c ≡ true → are_line_texts (lines_of cs) ≡ true → are_line_texts (if b then [] ∷ lines_of cs else onto_first_line c (lines_of cs)) ≡ true
-    by a e d g = grind (arith, onto_text, in_line)
+    by a e d g = grind (arith, in_line)
 
 -- ---- the last line
 
@@ -31,9 +28,6 @@ abbrev ends_full : List (List ℕ) → Bool
 ends_full [] = false
 ends_full (l ∷ []) = not (is_empty l)
 ends_full (l ∷ m ∷ ls) = ends_full (m ∷ ls)
-
-below_empty : (ls : List (List ℕ)) → ends_full ls ≡ true → ends_full ([] ∷ ls) ≡ true
-below_empty a h = grind arith
 
 onto_full : (c : ℕ) (ls : List (List ℕ)) → ends_full ls ≡ true → ends_full (onto_first_line c ls) ≡ true
 onto_full c a h = grind arith
@@ -47,7 +41,7 @@ last_full c (d ∷ []) h e = grind arith
 last_full c (d ∷ e ∷ cs) h f = by (c == 10) (last_full d (e ∷ cs) (and_false (d == 10)) (sym (two_step c d e cs) ∙ f))
   where
     by : (b : Bool) → ends_full (lines_of (d ∷ e ∷ cs)) ≡ true → ends_full (if b then [] ∷ lines_of (d ∷ e ∷ cs) else onto_first_line c (lines_of (d ∷ e ∷ cs))) ≡ true
-    by a z = grind (arith, below_empty, onto_full)
+    by a z = grind (arith, onto_full)
 
 -- ---- the written lines
 
@@ -71,24 +65,17 @@ begins_lines column (l ∷ ls) are ends h = grind (arith, begins_lines column ls
 abbrev AreFree : ℕ → List (List ℕ) → Type 0
 AreFree column ls = column ≡ 0 → list_any begins_as_marker ls ≡ false
 
-three_alike : (a b c : ℕ) → begins_as_marker (a ∷ b ∷ c ∷ []) ≡ false → is_document_marker (a ∷ b ∷ c ∷ []) ≡ false
-unfolding are_marks
-three_alike a b c h = grind (arith, nat_tests)
-
-four_alike : (a b c d : ℕ) (r s : List ℕ) → is_line_character d ≡ true → begins_as_marker (a ∷ b ∷ c ∷ d ∷ r) ≡ false → is_document_marker (a ∷ b ∷ c ∷ d ∷ s) ≡ false
-unfolding are_marks is_line_character is_blank_or_end is_blank is_break is_nul
-four_alike a b c d r s h e = grind (arith, nat_tests)
-
 no_marker : (w : List ℕ) → IsLineText w → begins_as_marker w ≡ false → is_document_marker (w ++ []) ≡ false
+unfolding are_marks is_line_character is_blank_or_end is_blank is_break is_nul
 no_marker [] h e = refl
 no_marker (a ∷ []) h e = refl
 no_marker (a ∷ b ∷ []) h e = refl
-no_marker (a ∷ b ∷ c ∷ []) h e = three_alike a b c e
+no_marker (a ∷ b ∷ c ∷ []) h e = grind (arith, nat_tests)
 no_marker (a ∷ b ∷ c ∷ d ∷ r) h e =
     let p = and_parts (is_line_character a) (list_all is_line_character (b ∷ c ∷ d ∷ r)) h in
     let q = and_parts (is_line_character b) (list_all is_line_character (c ∷ d ∷ r)) p.1 in
     let s = and_parts (is_line_character c) (list_all is_line_character (d ∷ r)) q.1 in
-    four_alike a b c d r (r ++ []) ((and_parts (is_line_character d) (list_all is_line_character r) s.1).0) e
+    grind (arith, nat_tests)
 
 abbrev rows : List Line → List Row
 rows [] = []
@@ -173,9 +160,6 @@ record LiteralText (text : List ℕ) : Type 0 where
   last : ends_full (lines_of text) ≡ true
   first : first_full_line_is_indented (lines_of text) ≡ false
 
-not_lone : (c : ℕ) (cs : List ℕ) → list_all is_line_feed (c ∷ cs) ≡ false → ((c == 10) && is_empty cs) ≡ false
-not_lone c a h = grind (arith, and_false)
-
 literal_text : (text : List ℕ) → is_literal_text text ≡ true → LiteralText text
 unfolding is_literal_text
 literal_text [] h = cc
@@ -185,7 +169,7 @@ literal_text (c ∷ cs) h =
     let r = and_parts (list_any is_line_feed text && list_all is_literal_character text && not (list_all is_line_feed text)) (not (ends_with nat_eq text (codes "\n\n"))) q.0 in
     let s = and_parts (list_any is_line_feed text && list_all is_literal_character text) (not (list_all is_line_feed text)) r.0 in
     let t = and_parts (list_any is_line_feed text) (list_all is_literal_character text) s.0 in
-    record { some = refl; chars = t.1; last = last_full c cs (not_lone c cs (not-true _ s.1)) (not-true _ r.1); first = not-true _ q.1 }
+    record { some = refl; chars = t.1; last = last_full c cs (grind (arith, and_false)) (not-true _ r.1); first = not-true _ q.1 }
 
 -- at column 0 it begins with no TAB, and no line is read as a document marker
 abbrev MayStandAt : ℕ → List ℕ → Type 0

@@ -1,6 +1,5 @@
 -- The scalars that are spelt without quotes, as texts that a plain scalar may be.
-use Rattle.std.specs.Fmt.{signed_decimal as decimal_digits}
-use Rattle.proof_layout_tokens.proofs.Common.{[], alias, AllDigits, and_false, and_from, and_parts, arith, bad_value, Bool, boolean, codes, decimal, decimal_is_IsNumeral, digit_from_value, ends_with, ends_with-one, ends_with-step, false, fits_i64, has_indicator_first, hash, integer, is_decimal, is_quoted, is_real_character, is_real_text, is_unfit_for_plain, IsNumeral, IsPlain, List, list_all, list_any, ltb-true, nat_eq, nat_tests, ne_eqb, negsuc, not, null, or_parts, pos, real, real_text-characters, refl, spelling, suc, Tree, true, typing, unquoted, ℕ, ℤ, ◌&&◌, ◌<◌, ◌==◌, ◌^◌, ◌||◌, ◌∷◌, ◌≡◌, ◌≤◌}
+use Rattle.proof_layout_tokens.proofs.Common.{[], alias, AllDigits, and_false, and_from, and_parts, arith, bad_value, Bool, boolean, codes, decimal, decimal_is_IsNumeral, digit_from_value, ends_with, ends_with-one, ends_with-step, false, has_indicator_first, hash, integer, is_decimal, is_quoted, is_real_character, is_real_text, is_unfit_for_plain, IsNumeral, IsPlain, List, list_all, list_any, ltb-true, nat_eq, nat_le, nat_tests, ne_eqb, negsuc, not, null, or_parts, pos, real, real_text-characters, refl, spelling, suc, Tree, true, typing, unquoted, ℕ, ◌&&◌, ◌<◌, ◌==◌, ◌^◌, ◌||◌, ◌∷◌, ◌≡◌, ◌≤◌}
 use Rattle.defs_tree.specs.Tree.{string, array}
 use Rattle.defs_tree.specs.Quoting.{begins_with}
 use Rattle.defs_tree.proofs.DecimalReading.{is_decimal-read}
@@ -38,6 +37,44 @@ pub record IsPlainText (w : List ℕ) : Type 0 where
   pub chars : are_plain tail ≡ true
   pub close : closes false tail ≡ true
 
+-- ---- words
+
+-- a digit, a letter, or one of `+ - .`
+abbrev pub is_word : ℕ → Bool
+is_word c = (nat_le 48 c && nat_le c 57) || (c == 43) || (c == 45) || (c == 46) || (nat_le 65 c && nat_le c 90) || (nat_le 97 c && nat_le c 122)
+
+-- each character is one
+abbrev pub are_words : List ℕ → Bool
+are_words [] = true
+are_words (c ∷ w) = is_word c && are_words w
+
+abbrev pub begins_word : List ℕ → Bool
+begins_word [] = false
+begins_word (c ∷ w) = is_second c w
+
+-- the words of JSON and its numbers, integers and reals
+pub record IsWord (w : List ℕ) : Type 0 where
+  pub chars : are_words w ≡ true
+  pub begins : begins_word w ≡ true
+
+word_char : (c : ℕ) → is_word c ≡ true → (is_plain_char c ≡ true) × ((c == 32) ≡ false) × (is_first c ≡ true)
+word_char c h = (grind (arith, nat_tests), grind (arith, nat_tests), grind (arith, nat_tests))
+
+words_plain : (w : List ℕ) → are_words w ≡ true → (are_plain w ≡ true) × (closes false w ≡ true)
+words_plain [] h = (refl, refl)
+words_plain (c ∷ w) h =
+    let q = and_parts (is_word c) (are_words w) h in
+    let z = word_char c q.0 in
+    let r = words_plain w q.1 in
+    (and_from _ _ z.0 r.0, rw (z.1) (r.1))
+
+pub word_text : (w : List ℕ) → IsWord w → IsPlainText w
+word_text [] word = cc (word.begins)
+word_text (c ∷ w) word =
+    let q = and_parts (is_word c) (are_words w) word.chars in
+    let r = words_plain w q.1 in
+    record { head = c; tail = w; whole = refl; first = (word_char c q.0).2; second = word.begins; chars = r.0; close = r.1 }
+
 -- ---- what a plain scalar doesn't begin with
 
 pub first_space : (c : ℕ) → is_first c ≡ true → (c == 32) ≡ false
@@ -45,13 +82,10 @@ first_space c h = grind (arith, nat_tests)
 
 -- ---- strings
 
-fit_char : (c : ℕ) → is_unfit_for_plain c ≡ false → is_plain_char c ≡ true
-unfolding is_unfit_for_plain
-fit_char c h = grind (arith, nat_tests)
-
 fit_chars : (w : List ℕ) → list_any is_unfit_for_plain w ≡ false → are_plain w ≡ true
+unfolding is_unfit_for_plain
 fit_chars [] h = refl
-fit_chars (c ∷ w) h = let q = or_parts (is_unfit_for_plain c) (list_any is_unfit_for_plain w) h in and_from _ _ (fit_char c q.0) (fit_chars w q.1)
+fit_chars (c ∷ w) h = let q = or_parts (is_unfit_for_plain c) (list_any is_unfit_for_plain w) h in and_from _ _ (grind (arith, nat_tests)) (fit_chars w q.1)
 
 no_last_space : (c : ℕ) (w : List ℕ) → ends_with nat_eq (c ∷ w) (codes " ") ≡ false → closes (c == 32) w ≡ true
 no_last_space c [] h = let e : (32 == c) ≡ false = cc (ends_with-one 32 c, h) in grind (arith, nat_tests)
@@ -63,9 +97,6 @@ first_fits c w h e f = grind (arith, nat_tests)
 
 no_dash : (c : ℕ) (w : List ℕ) → has_indicator_first (c ∷ w) ≡ false → ((c == 45) ≡ false) × ((c == 46) ≡ false)
 no_dash c w e = (grind (arith, nat_tests), grind (arith, nat_tests))
-
-second_fits : (c : ℕ) (w : List ℕ) → (c == 45) ≡ false → (c == 46) ≡ false → is_second c w ≡ true
-second_fits c a d p = grind arith
 
 string_plain : (s : List ℕ) → is_quoted s ≡ false → IsPlainText s
 string_plain [] h = let z = unquoted [] h in let e = z.nonempty in cc
@@ -80,73 +111,32 @@ string_plain (c ∷ w) h =
       tail = w;
       whole = refl;
       first = first;
-      second = second_fits c w dash.0 dash.1;
+      second = grind arith;
       chars = fit_chars w fit.1;
       close = rw (first_space c first) at (no_last_space c w outer.1);
     }
 
 -- ---- integers
 
-digit_char : (c : ℕ) → 48 ≤ c → c ≤ 57 → is_plain_char c ≡ true
-digit_char c h e = grind (arith, nat_tests)
-
-digit_first : (c : ℕ) → 48 ≤ c → c ≤ 57 → is_first c ≡ true
-digit_first c h e = grind (arith, nat_tests)
-
-digits_chars : (ds : List ℕ) → AllDigits 10 ds → are_plain ds ≡ true
-digits_chars [] h = refl
-digits_chars (d ∷ ds) h = let range : (48 ≤ d) × (d ≤ 57) = digit_from_value d h.0 in and_from _ _ (digit_char d range.0 range.1) (digits_chars ds h.1)
-
-digits_close : (ds : List ℕ) → AllDigits 10 ds → closes false ds ≡ true
-digits_close [] h = refl
-digits_close (d ∷ ds) h = let range : (48 ≤ d) × (d ≤ 57) = digit_from_value d h.0 in rw (ne_eqb d 32 (λ e. omega arith)) (digits_close ds h.1)
+digits_words : (ds : List ℕ) → AllDigits 10 ds → are_words ds ≡ true
+digits_words [] h = refl
+digits_words (d ∷ ds) h = let range : (48 ≤ d) × (d ≤ 57) = digit_from_value d h.0 in and_from _ _ (grind (arith, nat_tests)) (digits_words ds h.1)
 
 numeral_plain : (ds : List ℕ) → IsNumeral 10 ds → IsPlainText ds
 numeral_plain [] h = absurd (omega (arith, h.0))
 numeral_plain (d ∷ ds) h =
     let range : (48 ≤ d) × (d ≤ 57) = digit_from_value d h.1.0 in
-    record { head = d; tail = ds; whole = refl; first = digit_first d range.0 range.1; second = second_fits d ds (ne_eqb d 45 (λ e. omega arith)) (ne_eqb d 46 (λ e. omega arith)); chars = digits_chars ds h.1.1; close = digits_close ds h.1.1 }
-
-digit_second : (d : ℕ) (ds : List ℕ) → 48 ≤ d → is_second 45 (d ∷ ds) ≡ true
-digit_second d ds h = rw (ne_eqb d 45 (λ e. omega arith), ne_eqb d 32 (λ e. omega arith)) refl
+    word_text (d ∷ ds) (record { chars = digits_words (d ∷ ds) h.1; begins = (grind arith) })
 
 negative_plain : (ds : List ℕ) → IsNumeral 10 ds → IsPlainText (45 ∷ ds)
 negative_plain [] h = absurd (omega (arith, h.0))
-negative_plain (d ∷ ds) h =
-    let range : (48 ≤ d) × (d ≤ 57) = digit_from_value d h.1.0 in
-    record { head = 45; tail = d ∷ ds; whole = refl; first = refl; second = digit_second d ds range.0; chars = digits_chars (d ∷ ds) h.1; close = digits_close (d ∷ ds) h.1 }
-
-integer_plain : (z : ℤ) → fits_i64 z ≡ true → IsPlainText (decimal_digits z)
-integer_plain (pos n) h = let small : n < 2 ^ 63 = ltb-true n (2 ^ 63) h in numeral_plain (decimal n) (decimal_is_IsNumeral n (omega arith)).0
-integer_plain (negsuc n) h = let small : n < 2 ^ 63 = ltb-true n (2 ^ 63) h in negative_plain (decimal (suc n)) (decimal_is_IsNumeral (suc n) (omega arith)).0
+negative_plain (d ∷ ds) h = let range : (48 ≤ d) × (d ≤ 57) = digit_from_value d h.1.0 in word_text (45 ∷ d ∷ ds) (record { chars = digits_words (d ∷ ds) h.1; begins = (rw (ne_eqb d 45 (λ e. omega arith), ne_eqb d 32 (λ e. omega arith)) refl) })
 
 -- ---- reals
 
-real_char : (c : ℕ) → is_real_character c ≡ true → is_plain_char c ≡ true
-real_char c h = grind (arith, nat_tests)
-
-real_first : (c : ℕ) → is_real_character c ≡ true → is_first c ≡ true
-real_first c h = grind (arith, nat_tests)
-
-real_no_space : (c : ℕ) → is_real_character c ≡ true → (c == 32) ≡ false
-real_no_space c h = grind (arith, nat_tests)
-
-real_chars : (w : List ℕ) → list_all is_real_character w ≡ true → are_plain w ≡ true
-real_chars [] h = refl
-real_chars (c ∷ w) h = let q = and_parts (is_real_character c) (list_all is_real_character w) h in and_from _ _ (real_char c q.0) (real_chars w q.1)
-
-real_close : (w : List ℕ) → list_all is_real_character w ≡ true → closes false w ≡ true
-real_close [] h = refl
-real_close (c ∷ w) h = let q = and_parts (is_real_character c) (list_all is_real_character w) h in rw (real_no_space c q.0) (real_close w q.1)
-
--- no real is one of these
-lone_dash : is_real_text (45 ∷ []) ≡ false
-unfolding typing is_decimal
-lone_dash = refl
-
-lone_point : is_real_text (46 ∷ []) ≡ false
-unfolding typing is_decimal
-lone_point = refl
+real_words : (w : List ℕ) → list_all is_real_character w ≡ true → are_words w ≡ true
+real_words [] h = refl
+real_words (c ∷ w) h = let q = and_parts (is_real_character c) (list_all is_real_character w) h in and_from _ _ (let e = q.0 in grind (arith, nat_tests)) (real_words w q.1)
 
 two_dashes : (w : List ℕ) → is_real_text (45 ∷ 45 ∷ w) ≡ true → ⊥
 two_dashes w h = let z = real_text-cases (45 ∷ 45 ∷ w) h in let f = is_decimal-read (45 ∷ 45 ∷ w) in grind arith
@@ -161,28 +151,25 @@ not_double : (c d : ℕ) (w : List ℕ) (b : Bool) (x : ℕ) → ((c == x) && (d
 not_double c d w a x e f h = grind arith
 
 real_second : (c : ℕ) (w : List ℕ) → is_real_text (c ∷ w) ≡ true → list_all is_real_character w ≡ true → is_second c w ≡ true
-real_second c [] h e = rw (not_alone c (c == 45) 45 refl lone_dash h, not_alone c (c == 46) 46 refl lone_point h) refl
+unfolding typing is_decimal
+real_second c [] h e = rw (not_alone c (c == 45) 45 refl refl h, not_alone c (c == 46) 46 refl refl h) refl
 real_second c (d ∷ w) h e =
     let q = and_parts (is_real_character d) (list_all is_real_character w) e in
-    rw (not_double c d w ((c == 45) && (d == 45)) 45 refl (two_dashes w) h, not_double c d w ((c == 46) && (d == 46)) 46 refl (two_points w) h, real_no_space d q.0, and_false (c == 45)) refl
-
-real_plain : (s : List ℕ) → is_real_text s ≡ true → IsPlainText s
-unfolding typing is_decimal
-real_plain [] h = cc
-real_plain (c ∷ w) h =
-    let all = and_parts (is_real_character c) (list_all is_real_character w) (real_text-characters (c ∷ w) h) in
-    record { head = c; tail = w; whole = refl; first = real_first c all.0; second = real_second c w h all.1; chars = real_chars w all.1; close = real_close w all.1 }
+    let real_no_space : (d == 32) ≡ false = grind (arith, nat_tests) in
+    rw (not_double c d w ((c == 45) && (d == 45)) 45 refl (two_dashes w) h, not_double c d w ((c == 46) && (d == 46)) 46 refl (two_points w) h, real_no_space, and_false (c == 45)) refl
 
 -- ---- all of them
 
-boolean_plain : (b : Bool) → IsPlainText (spelling (boolean b))
-boolean_plain a = grind arith
-
 pub spelt_plain : (t : Tree) → IsPlain t → IsPlainText (spelling t)
-spelt_plain (real s) h = real_plain s h
-spelt_plain (integer z) h = integer_plain z h
+unfolding typing is_decimal
+spelt_plain (real []) h = cc
+spelt_plain (real (c ∷ w)) h =
+    let all = real_text-characters (c ∷ w) h in
+    word_text (c ∷ w) (record { chars = real_words (c ∷ w) all; begins = real_second c w h (and_parts (is_real_character c) (list_all is_real_character w) all).1 })
+spelt_plain (integer (pos n)) h = let small : n < 2 ^ 63 = ltb-true n (2 ^ 63) h in numeral_plain (decimal n) (decimal_is_IsNumeral n (omega arith)).0
+spelt_plain (integer (negsuc n)) h = let small : n < 2 ^ 63 = ltb-true n (2 ^ 63) h in negative_plain (decimal (suc n)) (decimal_is_IsNumeral (suc n) (omega arith)).0
 spelt_plain (string s) h = rw h (string_plain s h)
-spelt_plain (boolean b) h = boolean_plain b
+spelt_plain (boolean b) h = grind arith
 spelt_plain (array ts) h = absurd h
 spelt_plain (hash ps) h = absurd h
 spelt_plain (alias n) h = absurd h

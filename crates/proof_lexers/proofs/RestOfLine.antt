@@ -37,13 +37,6 @@ record Blank (c : ℕ) (a : List ℕ) (s : Spaces) : Type 0 where
   some : (next.found.found_tabs || next.found.has_valid_yaml_ws) ≡ true
   is : space_from Yes (c ∷ a) s ≡ space_from Yes a next
 
-blank_passed : (c : ℕ) (a : List ℕ) (s : Spaces) → classes.is_blank c ≡ true → Blank c a s
-unfolding classes.is_blank
-blank_passed c a s h = elim (or_cases (c == 32) (c == 9) h) [
-  | inl e ↦ record { next = record { position = past s.position; found = record (s.found) { has_valid_yaml_ws = true } }; position = refl; some = or-true s.found.found_tabs; is = rw e refl }
-  | inr e ↦ let tab : c ≡ 9 = eqb-true c 9 e in record { next = record { position = past s.position; found = record (s.found) { found_tabs = true } }; position = refl; some = refl; is = rw tab refl }
-]
-
 at_end : (n : List ℕ) (s : Spaces) → ends_line n ≡ true → space_from Yes n s ≡ Ok (record { rest = n; position = further 0 s.position; value = s.found })
 at_end [] s k = ap (λ q. Ok (record { rest = []; position = q; value = s.found })) (sym (none_further s.position))
 at_end (c ∷ n) s k = let q = break_is_none c (sym (same_break c) ∙ k) in rw (q.0, q.1, q.2) (ap (λ z. Ok (record { rest = c ∷ n; position = z; value = s.found })) (sym (none_further s.position)))
@@ -62,7 +55,10 @@ walked [] n s h k = ended s.found refl (or-true _) (at_end n s k)
 walked (c ∷ m) n s h k = elim (cases_Bool (c == 35)) [
   | inl e ↦ rw (eqb-true c 35 e) (hash (rw (eqb-true c 35 e) at h) _ refl)
   | inr e ↦ elim (cases_Bool (classes.is_blank c)) [
-    | inl blank ↦ let z = blank_passed c (m ++ n) s blank in onward e blank z (rw (z.some) at (walked m n z.next no_break.1 k))
+    | inl blank ↦ let z : Blank c (m ++ n) s = elim (or_cases (c == 32) (c == 9) blank) [
+      | inl e ↦ record { next = record { position = past s.position; found = record (s.found) { has_valid_yaml_ws = true } }; position = refl; some = or-true s.found.found_tabs; is = rw e refl }
+      | inr e ↦ let tab : c ≡ 9 = eqb-true c 9 e in record { next = record { position = past s.position; found = record (s.found) { found_tabs = true } }; position = refl; some = refl; is = rw tab refl }
+    ] in onward e blank z (rw (z.some) at (walked m n z.next no_break.1 k))
     | inr solid ↦ let r = or_parts (c == 32) (c == 9) solid in other c (m ++ n) s.position s.found (rw (e, r.0, r.1) refl) e (sym (same_break c) ∙ not-true (classes.is_break c) no_break.0) (rw (r.0, r.1, e) refl)
   ]
 ]

@@ -5,6 +5,7 @@ use Rattle.defs_token.specs.RowAccount.{Account}
 use Rattle.proof_row.proofs.Like.{LikeLine, LikeHad, LikeEntries, IsLike, LikeOutside, entries_themselves, Stepped, none_second, weaker, unless, where_both, both, same_entry}
 use Rattle.proof_row.proofs.RowLines.{separation_step, line_step}
 use Rattle.proof_row.proofs.Entries.{entries_step}
+use Rattle.std.proofs.lemmas.Bool.{and_parts}
 
 -- ---- after a piece
 
@@ -47,15 +48,6 @@ on_one_line_step p Were (Some a) (Some b) h = unless IsLike Were (has_break p &&
 abbrev With : Step → (key : Bool) → Step
 With w key = record { separation = w.separation; piece = w.piece; shown = w.shown; key = key }
 
-site_step : (fl : Bool) (s : Site) (w : Step) (next : List ℕ) (b c : Bool) (l m : Line) (ds es : List Entry) → LikeLine l m → LikeEntries ds es →
-    Stepped IsLike ((l ≡ m) × (ds ≡ es) × (b ≡ c)) (past_site fl s (site_at fl s w.separation w.piece w.shown next) (With w b) next l ds)
-    (past_site fl s (site_at fl s w.separation w.piece w.shown next) (With w c) next m es)
-site_step fl s w next b c l m ds es i j =
-    let at : Site = site_at fl s w.separation w.piece w.shown next in
-    where_both IsLike ((l ≡ m) × (ds ≡ es) × (b ≡ c)) (may_stand fl s at w.separation w.piece w.shown next) _ _
-    (on_one_line_step w.piece ((l ≡ m) × (ds ≡ es) × (b ≡ c)) _ _
-    (piece_step at w.piece w.shown next (is_renewed s.before w.separation) b c (l ≡ m) _ _ ds es j (separation_step fl (begins_free_line s.before w.separation) l m i)))
-
 pub same_flow : (ds es : List Entry) → LikeEntries ds es → is_in_flow ds ≡ is_in_flow es
 same_flow [] [] j = refl
 same_flow (d ∷ ds) (e ∷ es) j = refl
@@ -84,7 +76,10 @@ account_step a b w v x y i f p t n =
     let first : Option Account = account_past a w x in
     let T : Bool → Site → Step → List ℕ → Type 0 = λ fl s u z. Stepped IsLike Were first
     (past_site fl s (site_at fl s u.separation u.piece u.shown z) (With u v.key) z b.line b.entries) in
-    let own : T (is_in_flow a.entries) a.site w x = site_step (is_in_flow a.entries) a.site w x w.key v.key a.line b.line a.entries b.entries i.1 i.2 in
+    let own : T (is_in_flow a.entries) a.site w x = let at : Site = site_at (is_in_flow a.entries) a.site w.separation w.piece w.shown x in
+    where_both IsLike ((a.line ≡ b.line) × (a.entries ≡ b.entries) × (w.key ≡ v.key)) (may_stand (is_in_flow a.entries) a.site at w.separation w.piece w.shown x) _ _
+    (on_one_line_step w.piece ((a.line ≡ b.line) × (a.entries ≡ b.entries) × (w.key ≡ v.key)) _ _
+    (piece_step at w.piece w.shown x (is_renewed a.site.before w.separation) w.key v.key (a.line ≡ b.line) _ _ a.entries b.entries i.2 (separation_step (is_in_flow a.entries) (begins_free_line a.site.before w.separation) a.line b.line i.1))) in
     let flows : T (is_in_flow b.entries) a.site w x = subst (λ z. T z a.site w x) (same_flow a.entries b.entries i.2) own in
     let sites : T (is_in_flow b.entries) b.site w x = subst (λ z. T (is_in_flow b.entries) z w x) i.0 flows in
     let steps : T (is_in_flow b.entries) b.site (With v w.key) x = subst (λ z. T (is_in_flow b.entries) b.site z x) moved sites in
@@ -93,10 +88,6 @@ account_step a b w v x y i f p t n =
     (λ h. (same_account a b i.0 h.0 h.1, same_step w v f p t h.2)) texts
 
 -- ---- the text's end
-
-both_hold : (x y : Bool) → (x && y) ≡ true → (x ≡ true) × (y ≡ true)
-both_hold true y h = (refl, h)
-both_hold false y h = absurd (cc h)
 
 same_line : (l m : Line) → LikeLine l m → not (is_waiting l) ≡ true → not (is_waiting m) ≡ true → l ≡ m
 same_line free free i h k = refl
@@ -116,8 +107,8 @@ same_had _ _ i h k = absurd i
 same_entries : (ds es : List Entry) → LikeEntries ds es → have_no_key ds ≡ true → have_no_key es ≡ true → ds ≡ es
 same_entries [] [] i h k = refl
 same_entries (d ∷ ds) (e ∷ es) i h k =
-    let first : (not (is_keyed d.had) ≡ true) × (have_no_key ds ≡ true) = both_hold _ _ h in
-    let second : (not (is_keyed e.had) ≡ true) × (have_no_key es ≡ true) = both_hold _ _ k in
+    let first : (not (is_keyed d.had) ≡ true) × (have_no_key ds ≡ true) = and_parts _ _ h in
+    let second : (not (is_keyed e.had) ≡ true) × (have_no_key es ≡ true) = and_parts _ _ k in
     both d e ds es (same_entry d e i.0.0 i.0.1 (same_had d.had e.had i.0.2 first.0 second.0)) (same_entries ds es i.1 first.1 second.1)
 same_entries [] (e ∷ es) i h k = absurd i
 same_entries (d ∷ ds) [] i h k = absurd i
@@ -125,6 +116,6 @@ same_entries (d ∷ ds) [] i h k = absurd i
 -- Like accounts at which a text may end are equal.
 pub same_at_end : (a b : Account) → IsLike a b → may_end a ≡ true → may_end b ≡ true → a ≡ b
 same_at_end a b i h k =
-    let first : (not (is_waiting a.line) ≡ true) × (have_no_key a.entries ≡ true) = both_hold _ _ h in
-    let second : (not (is_waiting b.line) ≡ true) × (have_no_key b.entries ≡ true) = both_hold _ _ k in
+    let first : (not (is_waiting a.line) ≡ true) × (have_no_key a.entries ≡ true) = and_parts _ _ h in
+    let second : (not (is_waiting b.line) ≡ true) × (have_no_key b.entries ≡ true) = and_parts _ _ k in
     same_account a b i.0 (same_line a.line b.line i.1 first.0 second.0) (same_entries a.entries b.entries i.2 first.1 second.1)

@@ -194,17 +194,9 @@ kind_there in_single_quotes a p x t h = known a p (39 ∷ (h.1.0 ++ (39 ∷ []))
 kind_there in_double_quotes a p x t h = known a p (34 ∷ (h.1.0 ++ (34 ∷ []))) x _ h.1.1 (here a 34 ((h.1.0 ++ (34 ∷ [])) ++ x) refl)
 kind_there block_scalar a p x t h = block_there a p x h.2 (block_begins a.collection p x h.0 h.1)
 
--- what begins a piece is no separation
-nothing_there : (a : Context) (c : ℕ) (r : List ℕ) → is_blank_or_end c ≡ true → IsThere a (c ∷ r) nothing
-unfolding is_blank_or_end is_blank is_break is_nul is_flow
-nothing_there a c r h = gaps (λ z. IsThere a (z ∷ r) nothing) c h refl refl refl refl refl
-
-comment_there : (a : Context) (r : List ℕ) → IsThere a (35 ∷ r) nothing
-unfolding is_blank_or_end is_blank is_break is_nul is_flow
-comment_there a r = refl
-
 -- and no separation goes on over it
 pub separations_end : (k : Kind) (a : Context) (p x : List ℕ) (t : Tok) → Whole k a p x t → ends_separation (p ++ x) ≡ true
+unfolding is_blank_or_end is_blank is_break is_nul is_flow
 separations_end k a p x t h = of_kind (p ++ x) (kind_there k a p x t h)
   where
     none : k ≡ nothing → ⊥
@@ -215,8 +207,8 @@ separations_end k a p x t h = of_kind (p ++ x) (kind_there k a p x t h)
     of_kind (c ∷ r) i = by (is_blank_or_end c) (c == 35) refl refl
       where
         by : (gap mark : Bool) → is_blank_or_end c ≡ gap → (c == 35) ≡ mark → (not gap && not mark) ≡ true
-        by true mark f g = absurd (none (sym i ∙ nothing_there a c r f))
-        by false true f g = absurd (none (sym i ∙ subst (λ z. IsThere a (z ∷ r) nothing) (sym (eqb-true c 35 g)) (comment_there a r)))
+        by true mark f g = absurd (none (sym i ∙ (gaps (λ z. IsThere a (z ∷ r) nothing) c f refl refl refl refl refl)))
+        by false true f g = absurd (none (sym i ∙ subst (λ z. IsThere a (z ∷ r) nothing) (sym (eqb-true c 35 g)) refl))
         by false false f g = refl
 
 pub texts_begin : TextsBeginWithOneKind

@@ -1,5 +1,5 @@
 -- A block scalar has one end.
-use Rattle.proof_row.proofs.Common.{[], after_style, all_lines, ap, append-nil, append_assoc, begins_with, block_read, block_value, BlockRead, BlockScalarsHaveOneEnd, Body, body, Bool, column_by, content_column, Ending, eqb-true, false, further_text, has_no_nul, Header, header_of, if◌then◌else◌, inl, input_ends, inr, is_at_end, is_break, is_further_text, is_nul, is_past, List, None, Option, read_body, read_lines, read_split, refl, Row, row_of, rows_of, Some, Split, split, starts_with_tab, subst, sym, true, value_at_end, value_at_text, value_by, with_value, ℕ, ◌++◌, ◌==◌, ◌||◌, ◌∙◌, ◌∷◌, ◌≡◌, ◌⊎◌}
+use Rattle.proof_row.proofs.Common.{[], after_style, all_lines, ap, append-nil, append_assoc, begins_with, block_read, block_value, BlockRead, BlockScalarsHaveOneEnd, body, Bool, column_by, content_column, Ending, eqb-true, false, further_text, has_no_nul, Header, header_of, if◌then◌else◌, inl, inr, is_at_end, is_break, is_further_text, is_nul, is_past, List, None, Option, read_body, read_lines, read_split, refl, Row, row_of, rows_of, Some, Split, split, starts_with_tab, subst, sym, true, value_at_end, value_at_text, value_by, with_value, ℕ, ◌++◌, ◌==◌, ◌||◌, ◌∙◌, ◌∷◌, ◌≡◌, ◌⊎◌}
 use Rattle.defs_text.specs.BlockScalar.{literal, folded, unbroken}
 use Rattle.proof_row.proofs.Runs.{both, untrue, contrary}
 use Rattle.proof_row.proofs.Splits.{More, splits}
@@ -9,14 +9,11 @@ use Rattle.proof_row.proofs.Columns.{column_same, IsBefore, further, further_is_
 
 -- ---- its first character
 
-headed : (collection : Option ℕ) (h : Option Header) (b : Body) (next : List ℕ) (r : BlockRead) → read_body h collection b next ≡ Some r → h ≡ None → ⊥
-headed a d b e r g f = cc
-
 -- a block scalar has a header
 pub has_header : (collection : Option ℕ) (lines : List (List ℕ)) (last next : List ℕ) (at_end : Bool) (r : BlockRead) → read_lines collection lines last next at_end ≡ Some r → header_of (first_line lines last) ≡ None → ⊥
-has_header collection [] last next true r e f = headed collection (header_of last) input_ends next r e f
-has_header collection (h ∷ ls) last next true r e f = headed collection (header_of h) (body ls (unbroken last)) next r e f
-has_header collection (h ∷ ls) [] next false r e f = headed collection (header_of h) (body ls further_text) next r e f
+has_header collection [] last next true r e f = cc
+has_header collection (h ∷ ls) last next true r e f = cc
+has_header collection (h ∷ ls) [] next false r e f = cc
 has_header collection [] last next false r e f = cc e
 has_header collection (h ∷ ls) (c ∷ last) next false r e f = cc e
 
@@ -94,13 +91,6 @@ before_text collection (h ∷ ls) [] next r i e = by (header_of h) refl e
 
 -- ---- lines after it have no value
 
-no_text : (h : Header) (collection : Option ℕ) (ls : List (List ℕ)) (l : List ℕ) (more : List (List ℕ)) → IsBefore (column_by h.digit collection ls) l →
-    value_by h (content_column h collection (ls ++ (l ∷ more)) further_text) (ls ++ (l ∷ more)) further_text ≡ None
-no_text h collection ls l more b =
-    let column : column_by h.digit collection (ls ++ (l ∷ more)) ≡ column_by h.digit collection ls = column_same h.digit collection ls l more b.written b.start in
-    let row : row_of (column_by h.digit collection (ls ++ (l ∷ more))) l ≡ None = ap (λ n. row_of n l) column ∙ b.none in
-    ap (λ o. value_at_text h o) (no_rows (column_by h.digit collection (ls ++ (l ∷ more))) ls l more row)
-
 -- the column of all lines, the last of which has no break
 columns : (digit collection : Option ℕ) (ls zs : List (List ℕ)) (last : List ℕ) → IsBefore (column_by digit collection ls) (first_line zs last) →
     column_by digit collection ((ls ++ zs) ++ (last ∷ [])) ≡ column_by digit collection ls
@@ -174,7 +164,10 @@ longer_lines collection head ls h z y (l ∷ zs) [] s i j k n c false e f =
     let lines : (split z).complete ≡ [] → ⊥ = λ g. absurd (two_lines (sym (ap (λ x. x.complete) j) ∙ g)) in
     let first : up_to_break (z ++ y) ≡ l = line_more z lines y ∙ (sym (line_is z) ∙ ap (λ x. first_line (x.complete) (x.last)) j) in
     let b : IsBefore (column_by h.digit collection ls) l = subst (λ l. IsBefore (column_by h.digit collection ls) l) first (further _ _ k) in
-    unread h collection (ls ++ (l ∷ zs)) further_text y s (no_text h collection ls l zs b) (ap (λ o. read_body o collection (body (ls ++ (l ∷ zs)) further_text) y) (sym i) ∙ f)
+    let no_text : value_by h (content_column h collection (ls ++ (l ∷ zs)) further_text) (ls ++ (l ∷ zs)) further_text ≡ None = let column : column_by h.digit collection (ls ++ (l ∷ zs)) ≡ column_by h.digit collection ls = column_same h.digit collection ls l zs b.written b.start in
+    let row : row_of (column_by h.digit collection (ls ++ (l ∷ zs))) l ≡ None = ap (λ n. row_of n l) column ∙ b.none in
+    ap (λ o. value_at_text h o) (no_rows (column_by h.digit collection (ls ++ (l ∷ zs))) ls l zs row) in
+    unread h collection (ls ++ (l ∷ zs)) further_text y s no_text (ap (λ o. read_body o collection (body (ls ++ (l ∷ zs)) further_text) y) (sym i) ∙ f)
   where
     two_lines : l ∷ zs ≡ [] → ⊥
     two_lines g = cc g

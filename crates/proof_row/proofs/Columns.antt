@@ -1,6 +1,6 @@
 -- The content column of a block scalar is fixed by its lines up to the first content line; and further text is no line of it.
-use Rattle.proof_row.proofs.Common.{[], ap, are_marks, arith, begins_with, Bool, column_by, deepest_start, eqb-true, false, if◌then◌else◌, is_at_gap, is_break, is_content_line, is_document_marker, is_empty_line, is_further_text, is_nul, is_outside, is_spaces, leading_spaces, length, List, lt-leb, max, nat_le, None, not, Option, put_row, refl, Row, row_of, rows_of, Some, space, subst, suc, sym, true, zero, ℕ, ◌&&◌, ◌++◌, ◌<◌, ◌==◌, ◌||◌, ◌∷◌, ◌≡◌, ◌≤◌}
-use Rattle.proof_row.proofs.Runs.{both, contrary}
+use Rattle.proof_row.proofs.Common.{[], are_marks, arith, begins_with, Bool, column_by, deepest_start, eqb-true, false, if◌then◌else◌, is_at_gap, is_break, is_content_line, is_document_marker, is_empty_line, is_further_text, is_nul, is_outside, is_spaces, leading_spaces, List, lt-leb, max, None, not, Option, refl, row_of, rows_of, space, subst, suc, sym, true, zero, ℕ, ◌&&◌, ◌++◌, ◌<◌, ◌==◌, ◌∷◌, ◌≡◌, ◌≤◌}
+use Rattle.proof_row.proofs.Runs.{both}
 use Rattle.proof_row.proofs.Lines.{up_to_break}
 
 -- ---- the column
@@ -62,33 +62,26 @@ shallow : (column : ℕ) (l : List ℕ) → leading_spaces l < column → is_con
 unfolding is_content_line
 shallow column l h = rw (lt-leb column (leading_spaces l) h) refl
 
-and_false : (a b : Bool) → b ≡ false → (a && b) ≡ false
-and_false d b h = grind arith
-
 -- a document marker in column 0 is no content
 unmarked : (l : List ℕ) → is_document_marker l ≡ true → is_content_line 0 l ≡ false
 unfolding is_content_line
-unmarked l h = and_false (nat_le 0 (leading_spaces l) && nat_le 1 (length l)) (not (is_document_marker l)) (ap not h)
+unmarked l h = grind arith
 
 -- what holds of the two document markers
 marks : (P : ℕ → ℕ → ℕ → Type 0) (a b c : ℕ) → are_marks a b c ≡ true → P 45 45 45 → P 46 46 46 → P a b c
 unfolding are_marks
 marks P a b c h p45 p46 = grind arith
 
--- a text at a gap, cut at its first break, is still at one
-gap_kept : (r : List ℕ) → is_at_gap r ≡ true → is_at_gap (up_to_break r) ≡ true
-gap_kept a h = grind arith
-
 abbrev Marked : ℕ → ℕ → ℕ → List ℕ → Type 0
 Marked a b c r = IsBefore 0 (up_to_break (a ∷ b ∷ c ∷ r))
 
 dashes : (r : List ℕ) → is_at_gap r ≡ true → Marked 45 45 45 r
 unfolding is_break are_marks
-dashes r h = record { written = refl; start = omega arith; none = no_row 0 (45 ∷ 45 ∷ 45 ∷ up_to_break r) refl (unmarked (45 ∷ 45 ∷ 45 ∷ up_to_break r) (gap_kept r h)) }
+dashes r h = record { written = refl; start = omega arith; none = no_row 0 (45 ∷ 45 ∷ 45 ∷ up_to_break r) refl (unmarked (45 ∷ 45 ∷ 45 ∷ up_to_break r) (grind arith)) }
 
 dots : (r : List ℕ) → is_at_gap r ≡ true → Marked 46 46 46 r
 unfolding is_break are_marks
-dots r h = record { written = refl; start = omega arith; none = no_row 0 (46 ∷ 46 ∷ 46 ∷ up_to_break r) refl (unmarked (46 ∷ 46 ∷ 46 ∷ up_to_break r) (gap_kept r h)) }
+dots r h = record { written = refl; start = omega arith; none = no_row 0 (46 ∷ 46 ∷ 46 ∷ up_to_break r) refl (unmarked (46 ∷ 46 ∷ 46 ∷ up_to_break r) (grind arith)) }
 
 marker : (t : List ℕ) → is_document_marker t ≡ true → IsBefore 0 (up_to_break t)
 marker [] h = absurd (cc h)

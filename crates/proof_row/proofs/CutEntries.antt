@@ -56,20 +56,6 @@ key_enters kind pair here colon b bs next t c r es a q =
     in_entry (Unkeyed here b bs kind pair es) (key_tokens false colon flow_mapping_start here) next t c r es (entry_by kind pair (waits here)) gives_node a (λ h. cc h) (λ h. cc h)
     (inr (refl, node_begins t a), tt) refl
 
-node_enters : (again key : Bool) (had : Had) (kind : FlowKind) (pair : Pair) (here colon own : Position) (b : Before) (bs : List (Option ℕ)) (next : List ℕ) (t : Tok) (c : ℕ) (r : List ℕ) (es : List Entry) →
-    act_of t ≡ gives_node → begins_with_key_indicator (past_separation false next) ≡ false →
-    EnteredBy (Inner here b bs (entry_by kind pair had) es) (begun_inside (takes_pair kind pair) pair here colon own gives_node key had) next t c r es (entries_past here again gives_node (begun_by t) key (entry_by kind pair had) es)
-node_enters true true fresh kind pair here colon own b bs next t c r es a q = key_enters kind pair here colon b bs next t c r es a q
-node_enters true true filled kind pair here colon own b bs next t c r es a q = key_enters kind pair here colon b bs next t c r es a q
-node_enters true true settled kind pair here colon own b bs next t c r es a q = key_enters kind pair here colon b bs next t c r es a q
-node_enters false true fresh kind pair here colon own b bs next t c r es a q = key_enters kind pair here colon b bs next t c r es a q
-node_enters true false fresh kind pair here colon own b bs next t c r es a q = nothing here b bs (entry_by kind pair fresh) (entry_by kind pair filled) next t c r es gives_node a (λ h. cc h) (λ h. cc h) refl
-node_enters true false filled kind pair here colon own b bs next t c r es a q = nothing here b bs (entry_by kind pair filled) (entry_by kind pair filled) next t c r es gives_node a (λ h. cc h) (λ h. cc h) refl
-node_enters true false settled kind pair here colon own b bs next t c r es a q = nothing here b bs (entry_by kind pair settled) (entry_by kind pair filled) next t c r es gives_node a (λ h. cc h) (λ h. cc h) refl
-node_enters false false fresh kind pair here colon own b bs next t c r es a q = nothing here b bs (entry_by kind pair fresh) (entry_by kind pair filled) next t c r es gives_node a (λ h. cc h) (λ h. cc h) refl
-node_enters false false had kind pair here colon own b bs next t c r es a q = nothing here b bs (entry_by kind pair had) (entry_by kind pair had) next t c r es gives_node a (λ h. cc h) (λ h. cc h) refl
-node_enters _ _ _ kind pair here colon own b bs next t c r es a q = tt
-
 -- ---- `?`, lines for the document, and colons
 
 question_pair : (single : Bool) (pair : Pair) → is_single (pair_past single gives_question pair) ≡ is_single pair
@@ -78,9 +64,30 @@ question_pair false no_pair = refl
 question_pair true pair = refl
 question_pair false pair = refl
 
-question_enters : (again key : Bool) (had : Had) (kind : FlowKind) (pair : Pair) (here colon own : Position) (b : Before) (bs : List (Option ℕ)) (next : List ℕ) (t : Tok) (c : ℕ) (r : List ℕ) (es : List Entry) → act_of t ≡ gives_question →
-    EnteredBy (Inner here b bs (entry_by kind pair had) es) (begun_inside (takes_pair kind pair) pair here colon own gives_question key had) next t c r es (entries_past here again gives_question (begun_by t) key (entry_by kind pair had) es)
-question_enters again key had kind pair here colon own b bs next t c r es a = by again key had
+-- ---- ends of entries
+
+-- the end of a single pair, before a token that ends an entry
+pair_ends : (pair : Pair) (kind : FlowKind) (here : Position) (b : Before) (bs : List (Option ℕ)) (next : List ℕ) (t : Tok) (c : ℕ) (r : List ℕ) (es zs : List Entry) → ends_entry (Some t) ≡ true →
+    levels_past (record { kind = kind; pair = false } ∷ levels_in es) (c ∷ r) t ≡ levels_in zs → Entered (Unkeyed here b bs kind pair es) (pair_end here pair) next t c r es zs
+pair_ends single_pair kind here b bs next t c r es zs e l = record { level = record { kind = kind; pair = false }; are_empty = (inr (refl, refl, e), tt); account_is = refl; has_no_pair = λ h. refl; levels_are = l }
+pair_ends no_pair kind here b bs next t c r es zs e l = record { level = record { kind = kind; pair = false }; are_empty = tt; account_is = refl; has_no_pair = λ h. refl; levels_are = l }
+pair_ends asked_pair kind here b bs next t c r es zs e l = record { level = record { kind = kind; pair = false }; are_empty = tt; account_is = refl; has_no_pair = λ h. refl; levels_are = l }
+
+-- Every piece in flow.
+pub entered : (k : Act) (again key : Bool) (had : Had) (kind : FlowKind) (pair : Pair) (here colon own : Position) (b : Before) (bs : List (Option ℕ)) (next : List ℕ) (t : Tok) (c : ℕ) (r : List ℕ) (es : List Entry) → act_of t ≡ k →
+    ((act_of t ≡ gives_node) ⊎ (act_of t ≡ gives_colon) → begins_with_key_indicator (past_separation false next) ≡ false) →
+    EnteredBy (Inner here b bs (entry_by kind pair had) es) (begun_inside (takes_pair kind pair) pair here colon own k key had) next t c r es (entries_past here again k (begun_by t) key (entry_by kind pair had) es)
+entered gives_node true true fresh kind pair here colon own b bs next t c r es a q = key_enters kind pair here colon b bs next t c r es a (q (inl a))
+entered gives_node true true filled kind pair here colon own b bs next t c r es a q = key_enters kind pair here colon b bs next t c r es a (q (inl a))
+entered gives_node true true settled kind pair here colon own b bs next t c r es a q = key_enters kind pair here colon b bs next t c r es a (q (inl a))
+entered gives_node false true fresh kind pair here colon own b bs next t c r es a q = key_enters kind pair here colon b bs next t c r es a (q (inl a))
+entered gives_node true false fresh kind pair here colon own b bs next t c r es a q = nothing here b bs (entry_by kind pair fresh) (entry_by kind pair filled) next t c r es gives_node a (λ h. cc h) (λ h. cc h) refl
+entered gives_node true false filled kind pair here colon own b bs next t c r es a q = nothing here b bs (entry_by kind pair filled) (entry_by kind pair filled) next t c r es gives_node a (λ h. cc h) (λ h. cc h) refl
+entered gives_node true false settled kind pair here colon own b bs next t c r es a q = nothing here b bs (entry_by kind pair settled) (entry_by kind pair filled) next t c r es gives_node a (λ h. cc h) (λ h. cc h) refl
+entered gives_node false false fresh kind pair here colon own b bs next t c r es a q = nothing here b bs (entry_by kind pair fresh) (entry_by kind pair filled) next t c r es gives_node a (λ h. cc h) (λ h. cc h) refl
+entered gives_node false false had kind pair here colon own b bs next t c r es a q = nothing here b bs (entry_by kind pair had) (entry_by kind pair had) next t c r es gives_node a (λ h. cc h) (λ h. cc h) refl
+entered gives_node _ _ _ kind pair here colon own b bs next t c r es a q = tt
+entered gives_question again key had kind pair here colon own b bs next t c r es a q = by again key had
   where
     entry : Entry
     entry = entry_by kind (pair_past (takes_pair kind pair) gives_question pair) settled
@@ -96,10 +103,7 @@ question_enters again key had kind pair here colon own b bs next t c r es a = by
     by false false filled = settles
     by false false settled = settles
     by _ _ _ = tt
-
-marker_enters : (again key : Bool) (had : Had) (kind : FlowKind) (pair : Pair) (here colon own : Position) (b : Before) (bs : List (Option ℕ)) (next : List ℕ) (t : Tok) (c : ℕ) (r : List ℕ) (es : List Entry) → act_of t ≡ gives_marker →
-    EnteredBy (Inner here b bs (entry_by kind pair had) es) (begun_inside (takes_pair kind pair) pair here colon own gives_marker key had) next t c r es (entries_past here again gives_marker (begun_by t) key (entry_by kind pair had) es)
-marker_enters again key had kind pair here colon own b bs next t c r es a = by again key had
+entered gives_marker again key had kind pair here colon own b bs next t c r es a q = by again key had
   where
     settles : Entered (Unkeyed here b bs kind pair es) [] next t c r es (begun_by t ++ (entry_by kind pair settled ∷ es))
     settles = nothing here b bs (entry_by kind pair fresh) (entry_by kind pair settled) next t c r es gives_marker a (λ h. cc h) (λ h. cc h) refl
@@ -112,19 +116,14 @@ marker_enters again key had kind pair here colon own b bs next t c r es a = by a
     by false false filled = settles
     by false false settled = settles
     by _ _ _ = tt
-
--- a colon after no key begins a single pair in a sequence, and one after a key ends the key
-colon_enters : (again key : Bool) (had : Had) (kind : FlowKind) (pair : Pair) (here colon own : Position) (b : Before) (bs : List (Option ℕ)) (next : List ℕ) (t : Tok) (c : ℕ) (r : List ℕ) (es : List Entry) →
-    act_of t ≡ gives_colon → begins_with_key_indicator (past_separation false next) ≡ false →
-    EnteredBy (Inner here b bs (entry_by kind pair had) es) (begun_inside (takes_pair kind pair) pair here colon own gives_colon key had) next t c r es (entries_past here again gives_colon (begun_by t) key (entry_by kind pair had) es)
-colon_enters again key had kind pair here colon own b bs next t c r es a q = by again key had kind pair
+entered gives_colon again key had kind pair here colon own b bs next t c r es a q = by again key had kind pair
   where
     Of : Bool → Bool → Had → FlowKind → Pair → Type 0
     Of again key had kind pair = EnteredBy (Inner here b bs (entry_by kind pair had) es) (begun_inside (takes_pair kind pair) pair here colon own gives_colon key had) next t c r es (entries_past here again gives_colon (begun_by t) key (entry_by kind pair had) es)
 
     starts : Entered (Unkeyed here b bs sequence no_pair es) (put own flow_mapping_start ∷ []) next t c r es (begun_by t ++ (entry_by sequence single_pair settled ∷ es))
     starts = in_entry (Unkeyed here b bs sequence no_pair es) (put own flow_mapping_start ∷ []) next t c r es (entry_by sequence single_pair settled) gives_colon a (λ h. cc h) (λ h. cc h)
-        (inr (refl, refl, ap (λ x. begins_pair (Some x)) (is_colon t a), q), tt) refl
+        (inr (refl, refl, ap (λ x. begins_pair (Some x)) (is_colon t a), (q (inr a))), tt) refl
 
     ends : (begin : Position) (e f : Entry) (x : Bool) → level_in e ≡ level_in f → EnteredBy (Inner here b bs e es) [] next t c r es (with_had f.kind f.pair (begun_by t) es (if x then Some f.had else None))
     ends begin e f true same = nothing here b bs e f next t c r es gives_colon a (λ h. cc h) (λ h. cc h) same
@@ -144,19 +143,7 @@ colon_enters again key had kind pair here colon own b bs next t c r es a q = by 
     by false false settled kind pair = ends here (entry_by kind pair settled) (entry_by kind pair settled) true refl
     by false false (waits begin) kind pair = ends begin (entry_by kind pair (waits begin)) (entry_by kind pair settled) true refl
     by _ _ _ _ _ = tt
-
--- ---- ends of entries
-
--- the end of a single pair, before a token that ends an entry
-pair_ends : (pair : Pair) (kind : FlowKind) (here : Position) (b : Before) (bs : List (Option ℕ)) (next : List ℕ) (t : Tok) (c : ℕ) (r : List ℕ) (es zs : List Entry) → ends_entry (Some t) ≡ true →
-    levels_past (record { kind = kind; pair = false } ∷ levels_in es) (c ∷ r) t ≡ levels_in zs → Entered (Unkeyed here b bs kind pair es) (pair_end here pair) next t c r es zs
-pair_ends single_pair kind here b bs next t c r es zs e l = record { level = record { kind = kind; pair = false }; are_empty = (inr (refl, refl, e), tt); account_is = refl; has_no_pair = λ h. refl; levels_are = l }
-pair_ends no_pair kind here b bs next t c r es zs e l = record { level = record { kind = kind; pair = false }; are_empty = tt; account_is = refl; has_no_pair = λ h. refl; levels_are = l }
-pair_ends asked_pair kind here b bs next t c r es zs e l = record { level = record { kind = kind; pair = false }; are_empty = tt; account_is = refl; has_no_pair = λ h. refl; levels_are = l }
-
-comma_enters : (again key : Bool) (had : Had) (kind : FlowKind) (pair : Pair) (here colon own : Position) (b : Before) (bs : List (Option ℕ)) (next : List ℕ) (t : Tok) (c : ℕ) (r : List ℕ) (es : List Entry) → act_of t ≡ gives_comma →
-    EnteredBy (Inner here b bs (entry_by kind pair had) es) (begun_inside (takes_pair kind pair) pair here colon own gives_comma key had) next t c r es (entries_past here again gives_comma (begun_by t) key (entry_by kind pair had) es)
-comma_enters again key had kind pair here colon own b bs next t c r es a = by key had
+entered gives_comma again key had kind pair here colon own b bs next t c r es a q = by key had
   where
     ends : Entered (Unkeyed here b bs kind pair es) (pair_end here pair) next t c r es (first_entry kind ∷ es)
     ends = subst (λ x. Entered (Unkeyed here b bs kind pair es) (pair_end here pair) next x c r es (first_entry kind ∷ es)) (sym (is_comma t a)) (pair_ends pair kind here b bs next flow_entry c r es (first_entry kind ∷ es) refl refl)
@@ -166,10 +153,7 @@ comma_enters again key had kind pair here colon own b bs next t c r es a = by ke
     by false filled = ends
     by false settled = ends
     by _ _ = tt
-
-closing_enters : (again key : Bool) (had : Had) (kind : FlowKind) (pair : Pair) (here colon own : Position) (b : Before) (bs : List (Option ℕ)) (next : List ℕ) (t : Tok) (c : ℕ) (r : List ℕ) (es : List Entry) → act_of t ≡ gives_closing →
-    EnteredBy (Inner here b bs (entry_by kind pair had) es) (begun_inside (takes_pair kind pair) pair here colon own gives_closing key had) next t c r es (entries_past here again gives_closing (begun_by t) key (entry_by kind pair had) es)
-closing_enters again key had kind pair here colon own b bs next t c r es a = by key had
+entered gives_closing again key had kind pair here colon own b bs next t c r es a q = by key had
   where
     ends : Entered (Unkeyed here b bs kind pair es) (pair_end here pair) next t c r es es
     ends = pair_ends pair kind here b bs next t c r es es (closing_ends t a) (levels_close t c r (record { kind = kind; pair = false }) es a)
@@ -179,16 +163,5 @@ closing_enters again key had kind pair here colon own b bs next t c r es a = by 
     by false filled = ends
     by false settled = ends
     by _ _ = tt
-
--- Every piece in flow.
-pub entered : (k : Act) (again key : Bool) (had : Had) (kind : FlowKind) (pair : Pair) (here colon own : Position) (b : Before) (bs : List (Option ℕ)) (next : List ℕ) (t : Tok) (c : ℕ) (r : List ℕ) (es : List Entry) → act_of t ≡ k →
-    ((act_of t ≡ gives_node) ⊎ (act_of t ≡ gives_colon) → begins_with_key_indicator (past_separation false next) ≡ false) →
-    EnteredBy (Inner here b bs (entry_by kind pair had) es) (begun_inside (takes_pair kind pair) pair here colon own k key had) next t c r es (entries_past here again k (begun_by t) key (entry_by kind pair had) es)
-entered gives_node again key had kind pair here colon own b bs next t c r es a q = node_enters again key had kind pair here colon own b bs next t c r es a (q (inl a))
-entered gives_question again key had kind pair here colon own b bs next t c r es a q = question_enters again key had kind pair here colon own b bs next t c r es a
-entered gives_marker again key had kind pair here colon own b bs next t c r es a q = marker_enters again key had kind pair here colon own b bs next t c r es a
-entered gives_colon again key had kind pair here colon own b bs next t c r es a q = colon_enters again key had kind pair here colon own b bs next t c r es a (q (inr a))
-entered gives_comma again key had kind pair here colon own b bs next t c r es a q = comma_enters again key had kind pair here colon own b bs next t c r es a
-entered gives_closing again key had kind pair here colon own b bs next t c r es a q = closing_enters again key had kind pair here colon own b bs next t c r es a
 entered _ true key had kind pair here colon own b bs next t c r es a q = tt
 entered _ false key had kind pair here colon own b bs next t c r es a q = tt

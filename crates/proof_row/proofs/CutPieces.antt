@@ -1,5 +1,5 @@
 -- Pieces of a row at the accounts of a cut: other block collections are open there while a key waits, and pairs are open in flow levels.
-use Rattle.proof_row.proofs.Common.{[], Account, act_of, after_blank, ap, Before, begins_with_key_indicator, begins_with_space_or_break, block_end, block_entry, block_mapping_start, block_sequence_start, Bool, double_quoted, ends_entry, ends_plain, ends_with_content, eqb-true, false, flow_entry, flow_mapping_end, flow_mapping_start, flow_sequence_end, flow_sequence_start, folded, gives_colon, gives_dash, gives_node, gives_question, goes_on, if◌then◌else◌, inl, innermost_column, inr, inside, is_adjacent, is_blank, is_blank_or_end, is_break, is_document_marker, is_nul, is_whole_plain, IsPiece, key, kind_at, kind_of, length, Level, List, literal, not, on_line, Option, past, past_separation, plain, plain_scalar, Position, question, refl, scalar, single_quoted, Some, Stand, stops, stream_end, stream_start, subst, sym, Tok, true, value, with_blocks, ℕ, ◌&&◌, ◌++◌, ◌==◌, ◌||◌, ◌∙◌, ◌∷◌, ◌≡◌, ◌⊎◌}
+use Rattle.proof_row.proofs.Common.{[], Account, act_of, ap, Before, begins_with_key_indicator, begins_with_space_or_break, block_end, block_entry, block_mapping_start, block_sequence_start, Bool, double_quoted, ends_entry, ends_plain, ends_with_content, eqb-true, false, flow_entry, flow_mapping_end, flow_mapping_start, flow_sequence_end, flow_sequence_start, folded, gives_colon, gives_dash, gives_node, gives_question, goes_on, if◌then◌else◌, inl, innermost_column, inr, inside, is_adjacent, is_blank, is_blank_or_end, is_break, is_document_marker, is_nul, is_whole_plain, IsPiece, key, kind_at, kind_of, length, Level, List, literal, not, Option, past, past_separation, plain, plain_scalar, Position, question, refl, scalar, single_quoted, Some, Stand, stops, stream_end, stream_start, subst, sym, Tok, true, value, with_blocks, ℕ, ◌&&◌, ◌++◌, ◌==◌, ◌||◌, ◌∙◌, ◌∷◌, ◌≡◌, ◌⊎◌}
 use Rattle.defs_token.specs.Account.{is_in_flow}
 use Rattle.proof_row.proofs.Begins.{texts_begin, separations_end_before}
 
@@ -50,12 +50,6 @@ stops_in_flow c d s (x ∷ r) =
     ap (λ g. if is_blank x || is_break x then g else ends_plain true c s (x ∷ r)) (stops_in_flow c d (past s x) r) ∙
     ap (λ e. if is_blank x || is_break x then stops true d (past s x) r else e) (ends_in_flow c d s (x ∷ r))
 
--- in flow a plain scalar is whole whatever block collections are open
-whole_in_flow : (c d : Option ℕ) (x : ℕ) (r n : List ℕ) → is_whole_plain true c (x ∷ r) n ≡ is_whole_plain true d (x ∷ r) n
-whole_in_flow c d x r n =
-    ap (λ g. g && ends_with_content x r && stops true c inside n) (goes_on_in_flow c d inside r n) ∙
-    ap (λ g. goes_on true d inside r n && ends_with_content x r && g) (stops_in_flow c d inside n)
-
 -- an account by its parts
 abbrev pub account_by : Position → Before → List (Option ℕ) → List Level → Account
 account_by p b bs ls = record { position = p; blocks = bs; levels = ls; before = b }
@@ -79,7 +73,8 @@ piece_in_flow p b bs cs l m ls ms c r n f g q flow_entry e k h = ((h.0.0, k refl
 piece_in_flow p b bs cs l m ls ms c r n f g q block_entry e k h = absurd (cc h.2)
 piece_in_flow p b bs cs l m ls ms c r n f g q key e k (inl h) = inl h
 piece_in_flow p b bs cs l m ls ms c r n f g q key e k (inr h) = absurd (cc h.0)
-piece_in_flow p b bs cs l m ls ms c r n f g q (scalar plain x) e k h = ((h.0.0, whole_in_flow (innermost_column cs) (innermost_column bs) c r n ∙ h.0.1, h.0.2), h.1)
+piece_in_flow p b bs cs l m ls ms c r n f g q (scalar plain x) e k h = let whole_in_flow : is_whole_plain true (innermost_column cs) (c ∷ r) n ≡ is_whole_plain true (innermost_column bs) (c ∷ r) n = ap (λ g. g && ends_with_content c r && stops true (innermost_column cs) inside n) (goes_on_in_flow (innermost_column cs) (innermost_column bs) inside r n) ∙
+    ap (λ g. goes_on true (innermost_column bs) inside r n && ends_with_content c r && g) (stops_in_flow (innermost_column cs) (innermost_column bs) inside n) in ((h.0.0, whole_in_flow ∙ h.0.1, h.0.2), h.1)
 piece_in_flow p b bs cs l m ls ms c r n f g q (scalar single_quoted x) e k h = h
 piece_in_flow p b bs cs l m ls ms c r n f g q (scalar double_quoted x) e k h = h
 piece_in_flow p b bs cs l m ls ms c r n f g q (scalar literal x) e k h = absurd (cc h.0)

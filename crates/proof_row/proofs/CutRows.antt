@@ -1,5 +1,5 @@
 -- Each step of a row is a row of a cut: tokens without a piece, and the one that it shows.
-use Rattle.proof_row.proofs.Common.{[], account_at_piece, account_past, account_past_separation, account_past_token, Act, act_of, ap, arith, Before, before_past, before_past_token, begins_free_line, begun_by, begun_inside, begun_outside, blocks_at, Bool, Colon, double_quoted, ends_at, entries_past, Entry, false, folded, free, gives_block_scalar, gives_closing, gives_colon, gives_comma, gives_dash, gives_marker, gives_node, gives_question, has_break, has_no_break, if◌then◌else◌, inl, inr, is_deeper, is_in_column, is_in_line, is_marker, is_near, is_of_key, is_renewed, is_separation, is_waiting, IsPiece, IsWritten, key_end, keyed, length, level_of, levels_past, Line, line_past, line_past_separation, List, literal, map, may_stand, None, not_ended, on_one_line, opened, Option, Outside, pair_position, past_inside, past_outside, past_piece, piece_with_blocks, plain, Position, position_after, previous_by, put, refl, scalar, seen, shown_position, single_quoted, Site, site_at, site_past, Some, spelled, Step, subst, suc, sym, taken, takes_pair, Tok, Token, tokens_of, tokens_of_step, true, unless_key, waits, Written, ℕ, ◌&&◌, ◌++◌, ◌<◌, ◌∙◌, ◌∷◌, ◌≡◌, ◌≤◌}
+use Rattle.proof_row.proofs.Common.{[], account_at_piece, account_past, account_past_separation, account_past_token, Act, act_of, ap, arith, Before, before_past, before_past_token, begins_free_line, begun_by, begun_inside, begun_outside, blocks_at, Bool, Colon, ends_at, entries_past, Entry, false, free, gives_node, has_break, has_no_break, if◌then◌else◌, inl, inr, is_deeper, is_in_column, is_in_line, is_marker, is_renewed, is_separation, is_waiting, IsPiece, IsWritten, key_end, length, level_of, levels_past, Line, line_past, line_past_separation, List, map, may_stand, None, not_ended, on_one_line, Option, Outside, pair_position, past_inside, past_outside, past_piece, piece_with_blocks, Position, position_after, previous_by, put, refl, seen, shown_position, Site, site_at, site_past, Some, spelled, Step, subst, suc, sym, taken, takes_pair, Tok, Token, tokens_of, tokens_of_step, true, waits, Written, ℕ, ◌&&◌, ◌++◌, ◌<◌, ◌∙◌, ◌∷◌, ◌≡◌, ◌≤◌}
 use Rattle.defs_token.specs.Account.{Account as PieceAccount}
 use Rattle.defs_token.specs.Step as step
 use Rattle.defs_token.specs.RowAccount.{Account, before_by as before_by_previous}
@@ -52,9 +52,6 @@ stepped a w ws after b us p fills tokens empty piece same kept =
 
 -- ---- outside flow
 
-node_of_key : (t : Tok) → act_of t ≡ gives_node → is_of_key t ≡ true
-node_of_key a k = grind arith
-
 -- a key that waits, at a piece on its line
 abbrev WaitsAt : Line → ℕ → List ℕ → Type 0
 WaitsAt (waits begin) col bs = (not_ended begin.col bs ≡ bs) × (begin.col ≤ col)
@@ -64,17 +61,8 @@ abbrev WaitsThen : Act → ℕ → Option Outside → Type 0
 WaitsThen k col None = Unit {0}
 WaitsThen k col (Some x) = WaitsAt x.line col x.blocks × (is_waiting x.line ≡ true → k ≡ gives_node)
 
-waits_unless : (must : Bool) (l : Line) (bs : List ℕ) (k : Act) (col : ℕ) → is_waiting l ≡ false → WaitsThen k col (unless_key must l bs)
-waits_unless a l bs k col h = grind arith
-
-waits_keyed : (begin here : Position) (bs : List ℕ) (k : Act) (col : ℕ) → WaitsThen k col (keyed begin here bs)
-waits_keyed begin here bs k col = grind arith
-
 waits_on : (k : Act) (must key : Bool) (l : Line) (here : Position) (bs : List ℕ) → WaitsAt l here.col bs → (k ≡ gives_node → not_ended here.col bs ≡ bs) → WaitsThen k here.col (line_past must here bs k key l)
 waits_on a must b l d bs w n = grind arith
-
-broken_by : (c : ℕ) (r : List ℕ) (b : Bool) → (has_break (c ∷ r) && b) ≡ false → b ≡ true → has_no_break (c ∷ r) ≡ true
-broken_by c r a h e = grind arith
 
 -- a key that waits still does after a piece
 kept_on : (l : Line) (here : Position) (bs : List ℕ) (awaits : Bool) (c : ℕ) (r next : List ℕ) (t : Tok) → WaitsAt l here.col bs → (is_waiting l ≡ true → has_no_break (c ∷ r) ≡ true) → (is_waiting l ≡ true → (f : List ℕ) → begins_free_line (previous_by t) f ≡ has_break f) →
@@ -141,7 +129,7 @@ outside_so must s line l f c r t key ws after x h same_line same on_line in_line
         let z : Account = record { site = site_past false at (c ∷ r) t next o.blocks; line = o.line; entries = begun_by t } in
         let to : z ≡ x = cc e in
         let line_is : o.line ≡ x.line = ap (λ y. y.line) to in
-        let one_line : is_waiting o.line ≡ true → has_no_break (c ∷ r) ≡ true = λ h. broken_by c r (is_waiting o.line) (ap (λ l. has_break (c ∷ r) && is_waiting l) line_is ∙ on_line) h in
+        let one_line : is_waiting o.line ≡ true → has_no_break (c ∷ r) ≡ true = λ h. (grind arith) in
         let lead : AreEmpty (account_past_separation (in_cut a) f ((c ∷ r) ++ next)) us ((c ∷ r) ++ next) t × (past_all (account_past_separation (in_cut a) f ((c ∷ r) ++ next)) us ≡ past_all begin (more (Some l))) =
         leads (more (Some l)) ((c ∷ r) ++ next) t g.are_empty in
         let opened : PieceAccount = account_by at.position b (somes (with_key o.blocks o.line)) [] in
@@ -159,7 +147,7 @@ outside_so must s line l f c r t key ws after x h same_line same on_line in_line
       where
         sees : (o : Outside) → (is_waiting o.line ≡ true → has_no_break (c ∷ r) ≡ true) → (is_waiting o.line ≡ true → is_in_line next ≡ true) → Sees (act_of t) at.blocks o → IsPiece (account_by at.position b (somes (with_key o.blocks o.line)) []) (c ∷ r) next None own t
         sees o one on (inl e) = subst (λ bs. IsPiece (account_by at.position b (somes bs) []) (c ∷ r) next None own t) (sym e) h.1.1
-        sees o one on (inr (inl k)) = piece_with_blocks (somes (with_key o.blocks o.line)) (account_by at.position b (somes at.blocks) []) (c ∷ r) next None own t (node_of_key t k.1) (one k.0) (on k.0) h.1.1
+        sees o one on (inr (inl k)) = piece_with_blocks (somes (with_key o.blocks o.line)) (account_by at.position b (somes at.blocks) []) (c ∷ r) next None own t (grind arith) (one k.0) (on k.0) h.1.1
         sees o one on (inr (inr i)) = indicator_with_blocks (somes (with_key o.blocks o.line)) (account_by at.position b (somes at.blocks) []) c r next None own t i h.1.1
 
 -- after a piece outside flow, where a key must begin or not
@@ -221,10 +209,6 @@ same_many : (es : List Entry) → length (map level_of es) ≡ length (levels_in
 same_many [] = refl
 same_many (e ∷ es) = ap suc (same_many es)
 
--- in flow a separation changes no line
-line_in_flow : (broken : Bool) (line l : Line) → line_past_separation true broken line ≡ Some l → (l ≡ line) × (is_waiting line ≡ true → broken ≡ false)
-line_in_flow a b l e = grind arith
-
 inside_step : (s : Site) (line : Line) (e : Entry) (es : List Entry) (f : List ℕ) (c : ℕ) (r : List ℕ) (t : Tok) (key : Bool) (ws : List Step) (after : List ℕ) (x : Account) →
     (let a : Account = record { site = s; line = line; entries = e ∷ es } in
     let w : Step = record { separation = f; piece = c ∷ r; shown = t; key = key } in
@@ -269,8 +253,8 @@ inside_step s line e es f c r t key ws after x h same on_line kept = by_line (li
     by_entries l g (Some zs) i n =
         let z : Account = record { site = site_past true at (c ∷ r) t next at.blocks; line = l; entries = zs } in
         let to : z ≡ x = cc i in
-        let flow : (l ≡ line) × (is_waiting line ≡ true → begins_free_line s.before f ≡ false) = line_in_flow (begins_free_line s.before f) line l g in
-        let one_line : is_waiting line ≡ true → has_no_break (c ∷ r) ≡ true = λ j. broken_by c r (is_waiting line) (ap (λ y. has_break (c ∷ r) && is_waiting y) (sym flow.0 ∙ ap (λ y. y.line) to) ∙ on_line) j in
+        let flow : (l ≡ line) × (is_waiting line ≡ true → begins_free_line s.before f ≡ false) = grind arith in
+        let one_line : is_waiting line ≡ true → has_no_break (c ∷ r) ≡ true = λ j. (grind arith) in
         let after_all : PieceAccount = account_by at.position b bs (n.level ∷ levels_in es) in
         let there : account_at_piece (past_all here us) (c ∷ r) ≡ after_all = ap (λ d. account_at_piece d (c ∷ r)) n.account_is ∙ ap (λ y. account_by at.position b y (n.level ∷ levels_in es)) (settled_all at.position.col (with_key s.blocks line)) in
         let piece : IsPiece after_all (c ∷ r) next None own t = piece_in_flow at.position b (somes at.blocks) bs (level_of e) n.level (map level_of es) (levels_in es) c r next None None own t (same_many es) n.has_no_pair h.1.1 in

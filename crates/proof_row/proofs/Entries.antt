@@ -5,17 +5,14 @@ use Rattle.proof_row.proofs.Like.{LikeHad, LikeEntry, LikeEntries, Stepped, none
 
 -- ---- where a key may begin again
 
-renewed_node : (d e : Had) → LikeHad d e → Stepped LikeHad (d ≡ e) (renewed true gives_node d) (renewed true gives_node e)
-renewed_node fresh fresh i = (tt, λ h. refl)
-renewed_node filled filled i = (tt, λ h. refl)
-renewed_node settled settled i = (tt, λ h. refl)
-renewed_node (waits p) e i = tt
-renewed_node d (waits q) i = none_second LikeHad (d ≡ waits q) (renewed true gives_node d)
-renewed_node _ _ i = absurd i
-
 renewed_step : (again : Bool) (k : Act) (d e : Had) → LikeHad d e → Stepped LikeHad (d ≡ e) (renewed again k d) (renewed again k e)
 renewed_step false k d e i = (i, λ h. h)
-renewed_step true gives_node d e i = renewed_node d e i
+renewed_step true gives_node fresh fresh i = (tt, λ h. refl)
+renewed_step true gives_node filled filled i = (tt, λ h. refl)
+renewed_step true gives_node settled settled i = (tt, λ h. refl)
+renewed_step true gives_node (waits p) e i = tt
+renewed_step true gives_node d (waits q) i = none_second LikeHad (d ≡ waits q) (renewed true gives_node d)
+renewed_step true gives_node _ _ i = absurd i
 renewed_step true gives_block_scalar d e i = (i, λ h. h)
 renewed_step true gives_dash d e i = (i, λ h. h)
 renewed_step true gives_question d e i = (i, λ h. h)
@@ -31,24 +28,6 @@ abbrev pub HadStep : Act → Type 0
 HadStep k = (here : Position) (single : Bool) (b c : Bool) (d e : Had) → LikeHad d e →
     Stepped LikeHad ((d ≡ e) × (b ≡ c)) (had_past here single k b d) (had_past here single k c e)
 
-node_had : HadStep gives_node
-node_had here s true true fresh fresh i = (refl, λ h. (refl, refl))
-node_had here s true false fresh fresh i = (tt, λ h. absurd (cc h))
-node_had here s false true fresh fresh i = (tt, λ h. absurd (cc h))
-node_had here s false false fresh fresh i = (tt, λ h. (refl, refl))
-node_had here s false false filled filled i = (tt, λ h. (refl, refl))
-node_had here s false false filled (waits q) i = (tt, λ h. absurd (cc h))
-node_had here s false false (waits p) filled i = (tt, λ h. absurd (cc h))
-node_had here s false false (waits p) (waits q) i = (i, λ h. (ap waits i, refl))
-node_had here s false false settled settled i = (tt, λ h. (refl, refl))
-node_had here s true c filled e i = tt
-node_had here s true c (waits p) e i = tt
-node_had here s true c settled e i = tt
-node_had here s b true d filled i = none_second LikeHad ((d ≡ filled) × (b ≡ true)) (had_past here s gives_node b d)
-node_had here s b true d (waits q) i = none_second LikeHad ((d ≡ waits q) × (b ≡ true)) (had_past here s gives_node b d)
-node_had here s b true d settled i = none_second LikeHad ((d ≡ settled) × (b ≡ true)) (had_past here s gives_node b d)
-node_had here s _ _ _ _ i = absurd i
-
 settled_step : (d e : Had) → LikeHad d e → Stepped LikeHad ((d ≡ e) × (false ≡ false)) (settled_past d) (settled_past e)
 settled_step fresh fresh i = (tt, λ h. (refl, refl))
 settled_step filled filled i = (tt, λ h. (refl, refl))
@@ -57,47 +36,50 @@ settled_step (waits p) e i = tt
 settled_step d (waits q) i = none_second LikeHad ((d ≡ waits q) × (false ≡ false)) (settled_past d)
 settled_step _ _ i = absurd i
 
-question_had : HadStep gives_question
-question_had here s false false d e i = settled_step d e i
-question_had here s true c d e i = tt
-question_had here s false true d e i = none_second LikeHad ((d ≡ e) × (false ≡ true)) (settled_past d)
+-- what settles an entry, and is no key
+settled_had : (f : (key : Bool) → Had → Option Had) → ((d : Had) → f false d ≡ settled_past d) → ((d : Had) → f true d ≡ None) → (b c : Bool) (d e : Had) → LikeHad d e → Stepped LikeHad ((d ≡ e) × (b ≡ c)) (f b d) (f c e)
+settled_had f settles key false false d e i = rw (settles d, settles e) (settled_step d e i)
+settled_had f settles key true c d e i = rw (key d) tt
+settled_had f settles key false true d e i = rw (key e) (none_second LikeHad ((d ≡ e) × (false ≡ true)) (f false d))
 
-marker_had : HadStep gives_marker
-marker_had here s false false d e i = settled_step d e i
-marker_had here s true c d e i = tt
-marker_had here s false true d e i = none_second LikeHad ((d ≡ e) × (false ≡ true)) (settled_past d)
-
--- a colon ends one key in both
-waiting_colon : (here : Position) (s : Bool) (p q : Position) → p ≡ q →
-    Stepped LikeHad ((waits p ≡ waits q) × (false ≡ false)) (had_past here s gives_colon false (waits p)) (had_past here s gives_colon false (waits q))
-waiting_colon here s p q i =
+had_step : (k : Act) → HadStep k
+had_step gives_node here s true true fresh fresh i = (refl, λ h. (refl, refl))
+had_step gives_node here s true false fresh fresh i = (tt, λ h. absurd (cc h))
+had_step gives_node here s false true fresh fresh i = (tt, λ h. absurd (cc h))
+had_step gives_node here s false false fresh fresh i = (tt, λ h. (refl, refl))
+had_step gives_node here s false false filled filled i = (tt, λ h. (refl, refl))
+had_step gives_node here s false false filled (waits q) i = (tt, λ h. absurd (cc h))
+had_step gives_node here s false false (waits p) filled i = (tt, λ h. absurd (cc h))
+had_step gives_node here s false false (waits p) (waits q) i = (i, λ h. (ap waits i, refl))
+had_step gives_node here s false false settled settled i = (tt, λ h. (refl, refl))
+had_step gives_node here s true c filled e i = tt
+had_step gives_node here s true c (waits p) e i = tt
+had_step gives_node here s true c settled e i = tt
+had_step gives_node here s b true d filled i = none_second LikeHad ((d ≡ filled) × (b ≡ true)) (had_past here s gives_node b d)
+had_step gives_node here s b true d (waits q) i = none_second LikeHad ((d ≡ waits q) × (b ≡ true)) (had_past here s gives_node b d)
+had_step gives_node here s b true d settled i = none_second LikeHad ((d ≡ settled) × (b ≡ true)) (had_past here s gives_node b d)
+had_step gives_node here s _ _ _ _ i = absurd i
+had_step gives_colon here s false false fresh fresh i = (tt, λ h. (refl, refl))
+had_step gives_colon here s false false settled settled i = (tt, λ h. (refl, refl))
+had_step gives_colon here s false false (waits p) (waits q) i =
     subst (λ x. Stepped LikeHad ((waits p ≡ waits x) × (false ≡ false)) (had_past here s gives_colon false (waits p)) (had_past here s gives_colon false (waits x))) i
     (by (not s || (p.line == here.line)))
   where
     by : (n : Bool) → Stepped LikeHad ((waits p ≡ waits p) × (false ≡ false)) (if n then Some settled else None) (if n then Some settled else None)
     by true = (tt, λ h. (refl, refl))
     by false = tt
-
-colon_had : HadStep gives_colon
-colon_had here s false false fresh fresh i = (tt, λ h. (refl, refl))
-colon_had here s false false settled settled i = (tt, λ h. (refl, refl))
-colon_had here s false false (waits p) (waits q) i = waiting_colon here s p q i
-colon_had here s true c d e i = tt
-colon_had here s false true d e i = none_second LikeHad ((d ≡ e) × (false ≡ true)) (had_past here s gives_colon false d)
-colon_had here s false false filled e i = tt
-colon_had here s false false d filled i = none_second LikeHad ((d ≡ filled) × (false ≡ false)) (had_past here s gives_colon false d)
-colon_had here s false false _ _ i = absurd i
-
-had_step : (k : Act) → HadStep k
-had_step gives_node = node_had
-had_step gives_question = question_had
-had_step gives_marker = marker_had
-had_step gives_colon = colon_had
-had_step gives_block_scalar = λ here s b c d e i. tt
-had_step gives_dash = λ here s b c d e i. tt
-had_step gives_comma = λ here s b c d e i. tt
-had_step gives_closing = λ here s b c d e i. tt
-had_step gives_nothing = λ here s b c d e i. tt
+had_step gives_colon here s true c d e i = tt
+had_step gives_colon here s false true d e i = none_second LikeHad ((d ≡ e) × (false ≡ true)) (had_past here s gives_colon false d)
+had_step gives_colon here s false false filled e i = tt
+had_step gives_colon here s false false d filled i = none_second LikeHad ((d ≡ filled) × (false ≡ false)) (had_past here s gives_colon false d)
+had_step gives_colon here s false false _ _ i = absurd i
+had_step gives_question here s b c d e i = settled_had (had_past here s gives_question) (λ d. refl) (λ d. refl) b c d e i
+had_step gives_marker here s b c d e i = settled_had (had_past here s gives_marker) (λ d. refl) (λ d. refl) b c d e i
+had_step gives_block_scalar here s b c d e i = tt
+had_step gives_dash here s b c d e i = tt
+had_step gives_comma here s b c d e i = tt
+had_step gives_closing here s b c d e i = tt
+had_step gives_nothing here s b c d e i = tt
 
 after_step : (here : Position) (s : Bool) (k : Act) (b c : Bool) (Were : Type 0) (x y : Option Had) → Stepped LikeHad Were x y →
     Stepped LikeHad (Were × (b ≡ c)) (had_after here s k b x) (had_after here s k c y)
@@ -148,25 +130,19 @@ ended (waits p) e after next false false i j = tt
 ended d (waits q) after next false false i j = none_second LikeEntries (((d ≡ waits q) × (false ≡ false)) × (after ≡ next)) (past_end after false d)
 ended _ _ after next false false i j = absurd i
 
-comma_step : EntriesStep gives_comma
-comma_step here again begun b c d e ds es i j =
+-- Like entries are like again after a piece in flow.
+pub entries_step : (k : Act) → EntriesStep k
+entries_step gives_comma here again begun b c d e ds es i j =
     weaker LikeEntries (((d.had ≡ e.had) × (b ≡ c)) × (first_entry d.kind ∷ ds ≡ first_entry e.kind ∷ es)) ((d ∷ ds ≡ e ∷ es) × (b ≡ c)) _ _
     (λ h. (both d e ds es (same_entry d e i.0 i.1 h.0.0) (tails (first_entry d.kind) (first_entry e.kind) ds es h.1).1, h.0.1))
     (ended d.had e.had (first_entry d.kind ∷ ds) (first_entry e.kind ∷ es) b c i.2 ((i.0, refl, tt), j))
-
-closing_step : EntriesStep gives_closing
-closing_step here again begun b c d e ds es i j =
+entries_step gives_closing here again begun b c d e ds es i j =
     weaker LikeEntries (((d.had ≡ e.had) × (b ≡ c)) × (ds ≡ es)) ((d ∷ ds ≡ e ∷ es) × (b ≡ c)) _ _
     (λ h. (both d e ds es (same_entry d e i.0 i.1 h.0.0) h.1, h.0.1)) (ended d.had e.had ds es b c i.2 j)
-
--- Like entries are like again after a piece in flow.
-pub entries_step : (k : Act) → EntriesStep k
-entries_step gives_comma = comma_step
-entries_step gives_closing = closing_step
-entries_step gives_node = goes_on gives_node
-entries_step gives_block_scalar = goes_on gives_block_scalar
-entries_step gives_dash = goes_on gives_dash
-entries_step gives_question = goes_on gives_question
-entries_step gives_colon = goes_on gives_colon
-entries_step gives_marker = goes_on gives_marker
-entries_step gives_nothing = goes_on gives_nothing
+entries_step gives_node here again begun b c d e ds es i j = goes_on gives_node here again begun b c d e ds es i j
+entries_step gives_block_scalar here again begun b c d e ds es i j = goes_on gives_block_scalar here again begun b c d e ds es i j
+entries_step gives_dash here again begun b c d e ds es i j = goes_on gives_dash here again begun b c d e ds es i j
+entries_step gives_question here again begun b c d e ds es i j = goes_on gives_question here again begun b c d e ds es i j
+entries_step gives_colon here again begun b c d e ds es i j = goes_on gives_colon here again begun b c d e ds es i j
+entries_step gives_marker here again begun b c d e ds es i j = goes_on gives_marker here again begun b c d e ds es i j
+entries_step gives_nothing here again begun b c d e ds es i j = goes_on gives_nothing here again begun b c d e ds es i j

@@ -1,5 +1,5 @@
 -- A key that waits in an entry of a flow collection began on the position's line, or on an earlier one.
-use Rattle.proof_row.proofs.Common.{[], account_past, Act, act_of, arith, begins_free_line, begun_by, Bool, ends_line, entries_past, Entry, false, filled, first_entry, flow_mapping_start, flow_sequence_start, FlowKind, fresh, gives_closing, gives_colon, gives_comma, gives_node, Had, had_after, had_past, has_break, if◌then◌else◌, is_in_column, is_in_flow, is_renewed, is_waiting, Leads, Line, line_past, line_past_separation, List, may_stand, None, not, on_one_line, Option, Outside, Pair, pair_past, past_end, past_inside, past_outside, past_piece, Position, position_after, position_past, renewed, settled, Site, site_at, Some, Step, subst, suc, takes_pair, Tok, true, with_had, ℕ, ◌&&◌, ◌++◌, ◌==◌, ◌||◌, ◌∷◌, ◌≤◌}
+use Rattle.proof_row.proofs.Common.{[], account_past, Act, act_of, arith, begins_free_line, begun_by, Bool, ends_line, entries_past, Entry, gives_closing, gives_comma, Had, if◌then◌else◌, is_in_flow, is_renewed, Leads, Line, line_past_separation, List, may_stand, None, on_one_line, Option, past_inside, past_piece, Position, position_after, position_past, Site, site_at, Some, Step, subst, suc, Tok, ℕ, ◌++◌, ◌∷◌, ◌≤◌}
 use Rattle.defs_token.specs.Step.{spelled}
 use Rattle.defs_token.specs.FlowEntry.{waits}
 use Rattle.defs_token.specs.RowAccount.{Account}
@@ -28,12 +28,9 @@ line_grows p (c ∷ t) next = by (ends_line c (t ++ next)) (line_grows (position
         p.line ≤ (position_after (position_past p c (t ++ next)) t next).line
     by a h = grind arith
 
-had_later : (h : Had) (m n : ℕ) → m ≤ n → IsBefore h m → IsBefore h n
-had_later a m n l b = grind arith
-
 later : (es : List Entry) (m n : ℕ) → m ≤ n → AreBefore es m → AreBefore es n
 later [] m n l b = tt
-later (e ∷ es) m n l b = (had_later e.had m n l b.0, later es m n l b.1)
+later (e ∷ es) m n l b = ((grind arith), later es m n l b.1)
 
 -- ---- a step
 
@@ -41,16 +38,9 @@ abbrev Then : ℕ → Option (List Entry) → Type 0
 Then n None = Unit {0}
 Then n (Some es) = AreBefore es n
 
-abbrev HadThen : ℕ → Option Had → Type 0
-HadThen n None = Unit {0}
-HadThen n (Some h) = IsBefore h n
-
-end_before : (es : List Entry) (key : Bool) (h : Had) (n : ℕ) → AreBefore es n → Then n (past_end es key h)
-end_before es a h n b = grind arith
-
 entries_before : (k : Act) (here : Position) (again key : Bool) (t : Tok) (e : Entry) (es : List Entry) (n : ℕ) → here.line ≤ n → AreBefore (e ∷ es) n → Then n (entries_past here again k (begun_by t) key e es)
-entries_before gives_comma here again key t e es n l b = end_before (first_entry e.kind ∷ es) key e.had n (tt, b.1)
-entries_before gives_closing here again key t e es n l b = end_before es key e.had n b.1
+entries_before gives_comma here again key t e es n l b = grind arith
+entries_before gives_closing here again key t e es n l b = grind arith
 entries_before k here again key t e es n l b = grind arith
 
 abbrev Kept : Option Account → Type 0
@@ -69,16 +59,12 @@ piece_before s p t next again key (Some l) (e ∷ es) b = by (entries_past s.pos
 one_line_before : (may : Bool) (p : List ℕ) (o : Option Account) → Kept o → Kept (if may then on_one_line p o else None)
 one_line_before a p o b = grind arith
 
-step_before : (a : Account) (w : Step) (next : List ℕ) → KeysBefore a → Kept (account_past a w next)
-step_before a w next b =
-    let at : Site = site_at (is_in_flow a.entries) a.site w.separation w.piece w.shown next in
-    let l : Option Line = line_past_separation (is_in_flow a.entries) (begins_free_line a.site.before w.separation) a.line in
-    let again : Bool = is_renewed a.site.before w.separation in
-    one_line_before (may_stand (is_in_flow a.entries) a.site at w.separation w.piece w.shown next) w.piece (past_piece at w.piece w.shown next again w.key l a.entries)
-    (piece_before at w.piece w.shown next again w.key l a.entries (later a.entries a.site.position.line at.position.line (line_grows a.site.position w.separation (w.piece ++ next)) b))
-
 -- Steps keep it.
 pub keys_before : (o : Option Account) (ws : List Step) (after : List ℕ) (b : Account) → Leads o ws after b → Kept o → KeysBefore b
 keys_before None ws after b h k = absurd h
 keys_before (Some a) [] after b h k = subst KeysBefore h k
-keys_before (Some a) (w ∷ ws) after b h k = keys_before (account_past a w (spelled ws after)) ws after b h.1 (step_before a w (spelled ws after) k)
+keys_before (Some a) (w ∷ ws) after b h k = let step_before : Kept (account_past a w (spelled ws after)) = let at : Site = site_at (is_in_flow a.entries) a.site w.separation w.piece w.shown (spelled ws after) in
+    let l : Option Line = line_past_separation (is_in_flow a.entries) (begins_free_line a.site.before w.separation) a.line in
+    let again : Bool = is_renewed a.site.before w.separation in
+    one_line_before (may_stand (is_in_flow a.entries) a.site at w.separation w.piece w.shown (spelled ws after)) w.piece (past_piece at w.piece w.shown (spelled ws after) again w.key l a.entries)
+    (piece_before at w.piece w.shown (spelled ws after) again w.key l a.entries (later a.entries a.site.position.line at.position.line (line_grows a.site.position w.separation (w.piece ++ (spelled ws after))) k)) in keys_before (account_past a w (spelled ws after)) ws after b h.1 step_before

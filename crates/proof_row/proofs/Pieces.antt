@@ -1,5 +1,5 @@
 -- At one account a text begins with one piece of one token.
-use Rattle.proof_row.proofs.Common.{[], Account, alias_name, anchor_name, ap, append-nil, block_read, block_scalar, BlockRead, Bool, colon, comma, dash, dashes, directive_line, directive_of, dots, double_quoted_value, false, has_no_nul, if◌then◌else◌, in_double_quotes, in_single_quotes, is_adjacent, is_nul, IsSeenAlike, Kind, kind_at, kind_of, List, mapping_closing, mapping_opening, NoPieceIsInASeparation, not, nothing, Option, PiecesHaveOneEnd, PiecesSeenAlikeHaveOneEnd, plain_scalar, plain_value, question, refl, SeparationsBeforePiecesAreOne, sequence_closing, sequence_opening, single_quoted_value, Some, subst, sym, Tag, tag, tag_text, TextsUpToTheirEndHaveNoNul, Tok, true, up_to_nul, written_tag, ℕ, ◌++◌, ◌∙◌, ◌∷◌, ◌≡◌}
+use Rattle.proof_row.proofs.Common.{[], alias_name, anchor_name, ap, append-nil, block_read, block_scalar, BlockRead, Bool, colon, comma, dash, dashes, directive_line, directive_of, dots, double_quoted_value, false, has_no_nul, if◌then◌else◌, in_double_quotes, in_single_quotes, is_adjacent, is_nul, Kind, kind_at, kind_of, List, mapping_closing, mapping_opening, NoPieceIsInASeparation, not, nothing, Option, PiecesHaveOneEnd, PiecesSeenAlikeHaveOneEnd, plain_scalar, plain_value, question, refl, SeparationsBeforePiecesAreOne, sequence_closing, sequence_opening, single_quoted_value, Some, subst, sym, Tag, tag, tag_text, TextsUpToTheirEndHaveNoNul, Tok, true, up_to_nul, written_tag, ℕ, ◌++◌, ◌∙◌, ◌∷◌, ◌≡◌, IsNamed, alias, anchor}
 use Rattle.defs_token.specs.Account.{is_in_flow}
 use Rattle.proof_row.proofs.Runs.{joined, same_head}
 use Rattle.proof_row.proofs.Separations.{separations}
@@ -31,65 +31,24 @@ same_by p q x y t u s e = (s.0, s.1, e)
 abbrev OneOf : Kind → Type 0
 OneOf k = (a : Context) (p q x y : List ℕ) (t u : Tok) → Whole k a p x t → Whole k a q y u → p ++ x ≡ q ++ y → has_no_nul (p ++ x) ≡ true → Same p q x y t u
 
-one_plain : OneOf plain_scalar
-one_plain a p q x y t u h k e n =
-    let same : (p ≡ q) × (x ≡ y) = plains a.in_flow a.collection p q x y h.1.1 k.1.1 e in
-    let text : h.0 ≡ k.0 = some _ _ (sym h.1.2 ∙ (ap plain_value same.0 ∙ k.1.2)) in
-    same_by p q x y t u same (cc (h.2, k.2, text))
-
-one_directive : OneOf directive_line
-one_directive a p q x y t u h k e n =
-    let same : (p ≡ q) × (x ≡ y) = directives p q x y (h.0, h.1, h.2, h.3, n) (k.0, k.1, k.2, k.3, subst (λ z. has_no_nul z ≡ true) e n) e in
-    let d : h.0 ≡ k.0 = some _ _ (sym h.1 ∙ (ap directive_of same.0 ∙ k.1)) in
-    same_by p q x y t u same (h.4 ∙ (ap directive_token d ∙ sym k.4))
-
-one_alias : OneOf alias_name
-one_alias a p q x y t u h k e n =
-    let same : (p ≡ q) × (x ≡ y) = names 42 p q x y (h.0, h.1) (k.0, k.1) e in
-    let name : h.0 ≡ k.0 = (same_head 42 42 h.0 k.0 (sym h.1.0 ∙ (same.0 ∙ k.1.0))).1 in
-    same_by p q x y t u same (cc (h.2, k.2, name))
-
-one_anchor : OneOf anchor_name
-one_anchor a p q x y t u h k e n =
-    let same : (p ≡ q) × (x ≡ y) = names 38 p q x y (h.0, h.1) (k.0, k.1) e in
-    let name : h.0 ≡ k.0 = (same_head 38 38 h.0 k.0 (sym h.1.0 ∙ (same.0 ∙ k.1.0))).1 in
-    same_by p q x y t u same (cc (h.2, k.2, name))
+one_name : (i : ℕ) (token : List ℕ → Tok) (p q x y : List ℕ) (t u : Tok) → (name : List ℕ) × IsNamed i p x name × (t ≡ token name) → (name : List ℕ) × IsNamed i q y name × (u ≡ token name) → p ++ x ≡ q ++ y → Same p q x y t u
+one_name i token p q x y t u h k e =
+    let same : (p ≡ q) × (x ≡ y) = names i p q x y (h.0, h.1) (k.0, k.1) e in
+    let name : h.0 ≡ k.0 = (same_head i i h.0 k.0 (sym h.1.0 ∙ (same.0 ∙ k.1.0))).1 in
+    same_by p q x y t u same (h.2 ∙ (ap token name ∙ sym k.2))
 
 abbrev tag_token : Tag → Tok
 tag_token t = tag (t.handle) (t.suffix)
 
-one_tag : OneOf tag_text
-one_tag a p q x y t u h k e n =
-    let same : (p ≡ q) × (x ≡ y) = tags a.in_flow p q x y (h.0, h.1, h.2) (k.0, k.1, k.2) e in
-    let d : h.0 ≡ k.0 = some _ _ (sym h.1 ∙ (ap written_tag same.0 ∙ k.1)) in
-    same_by p q x y t u same (h.3 ∙ (ap tag_token d ∙ sym k.3))
-
-one_single : OneOf in_single_quotes
-one_single a p q x y t u h k e n =
-    let same : (h.1.0 ≡ k.1.0) × (x ≡ y) = single_bodies p q x y h.0 k.0 h.1 k.1 e in
-    let text : h.0 ≡ k.0 = some _ _ (sym h.1.2 ∙ (ap single_quoted_value same.0 ∙ k.1.2)) in
-    same_by p q x y t u (singles p q x y (h.0, h.1) (k.0, k.1) e) (cc (h.2, k.2, text))
-
-one_double : OneOf in_double_quotes
-one_double a p q x y t u h k e n =
-    let same : (h.1.0 ≡ k.1.0) × (x ≡ y) = double_bodies p q x y h.0 k.0 h.1 k.1 e in
-    let text : h.0 ≡ k.0 = some _ _ (sym h.1.2 ∙ (ap double_quoted_value same.0 ∙ k.1.2)) in
-    same_by p q x y t u (doubles p q x y (h.0, h.1) (k.0, k.1) e) (cc (h.2, k.2, text))
-
 abbrev read_token : BlockRead → Tok
 read_token r = block_token (r.style) (r.text)
 
-one_block : OneOf block_scalar
-one_block a p q x y t u h k e n =
-    let same : (p ≡ q) × (x ≡ y) = blocks a.collection p q x y (h.0, h.1, n) (k.0, k.1, subst (λ z. has_no_nul z ≡ true) e n) e in
-    let first : block_read a.collection p x ≡ block_read a.collection q x = ap (λ z. block_read a.collection z x) same.0 in
-    let second : block_read a.collection q x ≡ block_read a.collection q y = ap (λ z. block_read a.collection q z) same.1 in
-    let r : h.0 ≡ k.0 = some _ _ (sym h.1 ∙ (first ∙ (second ∙ k.1))) in
-    same_by p q x y t u same (h.3 ∙ (ap read_token r ∙ sym k.3))
-
 pub one_of : (k : Kind) → OneOf k
 one_of nothing a p q x y t u h k e n = absurd h
-one_of plain_scalar a p q x y t u h k e n = one_plain a p q x y t u h k e n
+one_of plain_scalar a p q x y t u h k e n =
+    let same : (p ≡ q) × (x ≡ y) = plains a.in_flow a.collection p q x y h.1.1 k.1.1 e in
+    let text : h.0 ≡ k.0 = some _ _ (sym h.1.2 ∙ (ap plain_value same.0 ∙ k.1.2)) in
+    same_by p q x y t u same (cc (h.2, k.2, text))
 one_of sequence_opening a p q x y t u h k e n = same_by p q x y t u (alike p q _ x y h.0 k.0 e) (h.1 ∙ sym k.1)
 one_of sequence_closing a p q x y t u h k e n = same_by p q x y t u (alike p q _ x y h.0 k.0 e) (h.1 ∙ sym k.1)
 one_of mapping_opening a p q x y t u h k e n = same_by p q x y t u (alike p q _ x y h.0 k.0 e) (h.1 ∙ sym k.1)
@@ -100,23 +59,32 @@ one_of colon a p q x y t u h k e n = same_by p q x y t u (alike p q _ x y h.0 k.
 one_of dash a p q x y t u h k e n = same_by p q x y t u (alike p q _ x y h.0 k.0 e) (h.2 ∙ sym k.2)
 one_of dashes a p q x y t u h k e n = same_by p q x y t u (alike p q _ x y h.0.0 k.0.0 e) (h.1 ∙ sym k.1)
 one_of dots a p q x y t u h k e n = same_by p q x y t u (alike p q _ x y h.0.0 k.0.0 e) (h.1 ∙ sym k.1)
-one_of directive_line a p q x y t u h k e n = one_directive a p q x y t u h k e n
-one_of alias_name a p q x y t u h k e n = one_alias a p q x y t u h k e n
-one_of anchor_name a p q x y t u h k e n = one_anchor a p q x y t u h k e n
-one_of tag_text a p q x y t u h k e n = one_tag a p q x y t u h k e n
-one_of in_single_quotes a p q x y t u h k e n = one_single a p q x y t u h k e n
-one_of in_double_quotes a p q x y t u h k e n = one_double a p q x y t u h k e n
-one_of block_scalar a p q x y t u h k e n = one_block a p q x y t u h k e n
+one_of directive_line a p q x y t u h k e n =
+    let same : (p ≡ q) × (x ≡ y) = directives p q x y (h.0, h.1, h.2, h.3, n) (k.0, k.1, k.2, k.3, subst (λ z. has_no_nul z ≡ true) e n) e in
+    let d : h.0 ≡ k.0 = some _ _ (sym h.1 ∙ (ap directive_of same.0 ∙ k.1)) in
+    same_by p q x y t u same (h.4 ∙ (ap directive_token d ∙ sym k.4))
+one_of alias_name a p q x y t u h k e n = one_name 42 alias p q x y t u h k e
+one_of anchor_name a p q x y t u h k e n = one_name 38 anchor p q x y t u h k e
+one_of tag_text a p q x y t u h k e n =
+    let same : (p ≡ q) × (x ≡ y) = tags a.in_flow p q x y (h.0, h.1, h.2) (k.0, k.1, k.2) e in
+    let d : h.0 ≡ k.0 = some _ _ (sym h.1 ∙ (ap written_tag same.0 ∙ k.1)) in
+    same_by p q x y t u same (h.3 ∙ (ap tag_token d ∙ sym k.3))
+one_of in_single_quotes a p q x y t u h k e n =
+    let same : (h.1.0 ≡ k.1.0) × (x ≡ y) = single_bodies p q x y h.0 k.0 h.1 k.1 e in
+    let text : h.0 ≡ k.0 = some _ _ (sym h.1.2 ∙ (ap single_quoted_value same.0 ∙ k.1.2)) in
+    same_by p q x y t u (singles p q x y (h.0, h.1) (k.0, k.1) e) (cc (h.2, k.2, text))
+one_of in_double_quotes a p q x y t u h k e n =
+    let same : (h.1.0 ≡ k.1.0) × (x ≡ y) = double_bodies p q x y h.0 k.0 h.1 k.1 e in
+    let text : h.0 ≡ k.0 = some _ _ (sym h.1.2 ∙ (ap double_quoted_value same.0 ∙ k.1.2)) in
+    same_by p q x y t u (doubles p q x y (h.0, h.1) (k.0, k.1) e) (cc (h.2, k.2, text))
+one_of block_scalar a p q x y t u h k e n =
+    let same : (p ≡ q) × (x ≡ y) = blocks a.collection p q x y (h.0, h.1, n) (k.0, k.1, subst (λ z. has_no_nul z ≡ true) e n) e in
+    let first : block_read a.collection p x ≡ block_read a.collection q x = ap (λ z. block_read a.collection z x) same.0 in
+    let second : block_read a.collection q x ≡ block_read a.collection q y = ap (λ z. block_read a.collection q z) same.1 in
+    let r : h.0 ≡ k.0 = some _ _ (sym h.1 ∙ (first ∙ (second ∙ k.1))) in
+    same_by p q x y t u same (h.3 ∙ (ap read_token r ∙ sym k.3))
 
 -- ---- pieces at accounts that are seen alike
-
-kinds_are_one : (a b : Account) (p q x y : List ℕ) (t u : Tok) → IsSeenAlike a b → Whole (kind_of t) (context_of a) p x t → Whole (kind_of u) (context_of b) q y u → p ++ x ≡ q ++ y → kind_of t ≡ kind_of u
-kinds_are_one a b p q x y t u i h k e =
-    let flow : kind_at (is_in_flow a) (is_adjacent a.before) (a.position.col) (p ++ x) ≡ kind_at (is_in_flow b) (is_adjacent a.before) (a.position.col) (p ++ x) = ap (λ z. kind_at z (is_adjacent a.before) (a.position.col) (p ++ x)) i.0 in
-    let next_to : kind_at (is_in_flow b) (is_adjacent a.before) (a.position.col) (p ++ x) ≡ kind_at (is_in_flow b) (is_adjacent b.before) (a.position.col) (p ++ x) = ap (λ z. kind_at (is_in_flow b) z (a.position.col) (p ++ x)) i.1 in
-    let column : kind_at (is_in_flow b) (is_adjacent b.before) (a.position.col) (p ++ x) ≡ kind_at (is_in_flow b) (is_adjacent b.before) (b.position.col) (p ++ x) = ap (λ z. kind_at (is_in_flow b) (is_adjacent b.before) z (p ++ x)) i.2 in
-    let text : kind_at (is_in_flow b) (is_adjacent b.before) (b.position.col) (p ++ x) ≡ kind_at (is_in_flow b) (is_adjacent b.before) (b.position.col) (q ++ y) = ap (λ z. kind_at (is_in_flow b) (is_adjacent b.before) (b.position.col) z) e in
-    sym (kind_there (kind_of t) (context_of a) p x t h) ∙ (flow ∙ (next_to ∙ (column ∙ (text ∙ kind_there (kind_of u) (context_of b) q y u k))))
 
 same_context : (f g i j : Bool) (m n : ℕ) (o r : Option ℕ) → f ≡ g → i ≡ j → m ≡ n → o ≡ r →
     ◌≡◌ {A = Context} (record { in_flow = f; adjacent = i; column = m; collection = o }) (record { in_flow = g; adjacent = j; column = n; collection = r })
@@ -126,7 +94,11 @@ pub pieces_seen_alike : PiecesSeenAlikeHaveOneEnd
 pieces_seen_alike a b p q x y f g m n t u like collection i j h k e c =
     let first : Whole (kind_of t) (context_of a) p x t = piece_of a p x f m t i h in
     let second : Whole (kind_of u) (context_of b) q y u = piece_of b q y g n u j k in
-    let kinds : kind_of t ≡ kind_of u = kinds_are_one a b p q x y t u like first second e in
+    let kinds : kind_of t ≡ kind_of u = let flow : kind_at (is_in_flow a) (is_adjacent a.before) (a.position.col) (p ++ x) ≡ kind_at (is_in_flow b) (is_adjacent a.before) (a.position.col) (p ++ x) = ap (λ z. kind_at z (is_adjacent a.before) (a.position.col) (p ++ x)) like.0 in
+    let next_to : kind_at (is_in_flow b) (is_adjacent a.before) (a.position.col) (p ++ x) ≡ kind_at (is_in_flow b) (is_adjacent b.before) (a.position.col) (p ++ x) = ap (λ z. kind_at (is_in_flow b) z (a.position.col) (p ++ x)) like.1 in
+    let column : kind_at (is_in_flow b) (is_adjacent b.before) (a.position.col) (p ++ x) ≡ kind_at (is_in_flow b) (is_adjacent b.before) (b.position.col) (p ++ x) = ap (λ z. kind_at (is_in_flow b) (is_adjacent b.before) z (p ++ x)) like.2 in
+    let text : kind_at (is_in_flow b) (is_adjacent b.before) (b.position.col) (p ++ x) ≡ kind_at (is_in_flow b) (is_adjacent b.before) (b.position.col) (q ++ y) = ap (λ z. kind_at (is_in_flow b) (is_adjacent b.before) (b.position.col) z) e in
+    sym (kind_there (kind_of t) (context_of a) p x t first) ∙ (flow ∙ (next_to ∙ (column ∙ (text ∙ kind_there (kind_of u) (context_of b) q y u second)))) in
     let contexts : context_of a ≡ context_of b = same_context _ _ _ _ _ _ _ _ like.0 like.1 like.2 (collection kinds) in
     let third : Whole (kind_of t) (context_of b) q y u = subst (λ z. Whole z (context_of b) q y u) (sym kinds) second in
     one_of (kind_of t) (context_of a) p q x y t u first (subst (λ z. Whole (kind_of t) z q y u) (sym contexts) third) e c

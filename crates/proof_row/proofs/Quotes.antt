@@ -1,5 +1,5 @@
 -- A scalar in quotes has one end: no quote that would end it stands inside a body that has a value.
-use Rattle.proof_row.proofs.Common.{[], ap, append-nil, append_assoc, arith, backslash, begins_with, Bool, break_further, content, double_quote, double_quoted_element, double_quoted_value, DoubleQuotedScalarsHaveOneEnd, Element, elements, eqb-true, escape, escape_by, escaped_break, escapes, false, folded_elements, followed, has_document_marker, hexadecimal, if◌then◌else◌, inl, inr, is_blank, is_break, is_character_code, is_nul, IsDoubleQuoted, IsSingleQuoted, length, length-take, line_break, List, lookup, None, numbered, numeric_escape, numeric_escapes, Option, plain_element, put_before, refl, single_quote, single_quoted_element, single_quoted_value, SingleQuotedScalarsHaveOneEnd, Some, Spelled, subst, suc, sym, take, take-append-le, true, zero, ℕ, ◌&&◌, ◌++◌, ◌==◌, ◌∙◌, ◌∷◌, ◌≡◌, ◌≤◌, ◌⊎◌}
+use Rattle.proof_row.proofs.Common.{[], ap, append-nil, append_assoc, arith, backslash, begins_with, Bool, break_further, content, double_quote, double_quoted_element, double_quoted_value, DoubleQuotedScalarsHaveOneEnd, Element, elements, eqb-true, escape, escape_by, escaped_break, escapes, false, folded_elements, followed, has_document_marker, hexadecimal, if◌then◌else◌, is_break, is_nul, IsDoubleQuoted, IsSingleQuoted, length, length-take, List, lookup, None, numbered, numeric_escape, numeric_escapes, Option, plain_element, refl, single_quote, single_quoted_element, single_quoted_value, SingleQuotedScalarsHaveOneEnd, Some, Spelled, subst, suc, sym, take, take-append-le, true, zero, ℕ, ◌++◌, ◌==◌, ◌∙◌, ◌∷◌, ◌≡◌, ◌≤◌, ◌⊎◌}
 use Rattle.proof_row.proofs.Runs.{contrary, same_head}
 use Rattle.proof_row.proofs.Splits.{More, splits}
 
@@ -16,12 +16,6 @@ IsOnward at = (c : ℕ) (r z : List ℕ) → begins_with 10 z ≡ false → Onwa
 abbrev spelled : Element → ℕ → Spelled
 spelled e n = record { element = e; further = n }
 
-further_fits : (c : ℕ) (r : List ℕ) → break_further c r ≤ length r
-further_fits c a = grind arith
-
-further_same : (c : ℕ) (r z : List ℕ) → begins_with 10 z ≡ false → break_further c (r ++ z) ≡ break_further c r
-further_same c a z h = grind arith
-
 plain_onward : IsOnward plain_element
 unfolding plain_element
 plain_onward c r z h = grind arith
@@ -31,22 +25,16 @@ plain_onward c r z h = grind arith
 abbrev doubled : List ℕ → Option Spelled
 doubled r = (if begins_with single_quote r then Some (spelled (content single_quote) 1) else None)
 
-doubled_onward : (r z : List ℕ) → Onward r (doubled r) (doubled (r ++ z))
-doubled_onward a z = grind arith
-
 single_onward : IsOnward single_quoted_element
 unfolding single_quoted_element
 single_onward c r z h = by (is_nul c) (c == single_quote)
   where
     by : (nul quote : Bool) → Onward r (if nul then None else (if quote then doubled r else plain_element c r)) (if nul then None else (if quote then doubled (r ++ z) else plain_element c (r ++ z)))
     by true quote = tt
-    by false true = doubled_onward r z
+    by false true = grind arith
     by false false = plain_onward c r z h
 
 -- ---- double quotes
-
-numbered_onward : (n d : ℕ) (r : List ℕ) (o : Option ℕ) → n ≤ length r → Onward (d ∷ r) (numbered n o) (numbered n o)
-numbered_onward n d r a l = grind arith
 
 numeric_onward : (n d : ℕ) (r z : List ℕ) → Onward (d ∷ r) (numeric_escape n r) (numeric_escape n (r ++ z))
 unfolding numeric_escape
@@ -57,7 +45,7 @@ numeric_onward n d r z = by (length (take n r) == n) refl
     by false e = tt
     by true e =
         let fits : n ≤ length r = omega (arith, eqb-true (length (take n r)) n e, length-take n r) in
-        rw (take-append-le n r z fits, e) (numbered_onward n d r (hexadecimal 0 (take n r)) fits)
+        rw (take-append-le n r z fits, e) (grind arith)
 
 escape_onward : (r z : List ℕ) → begins_with 10 z ≡ false → Onward r (escape r) (escape (r ++ z))
 unfolding escape
@@ -67,7 +55,7 @@ escape_onward (d ∷ r) z h = by (is_break d) (lookup d escapes) (lookup d numer
     by : (break : Bool) (named number : Option ℕ) →
         Onward (d ∷ r) (if break then Some (spelled escaped_break (suc (break_further d r))) else escape_by named number r)
         (if break then Some (spelled escaped_break (suc (break_further d (r ++ z)))) else escape_by named number (r ++ z))
-    by true named number = (omega (arith, further_fits d r), ap (λ n. Some (spelled escaped_break (suc n))) (further_same d r z h))
+    by true named number = let further_fits : break_further d r ≤ length r = grind arith in (omega (arith, further_fits), ap (λ n. Some (spelled escaped_break (suc n))) (grind arith))
     by false (Some code) number = (omega arith, refl)
     by false None (Some n) = numeric_onward n d r z
     by false None None = tt
@@ -89,9 +77,6 @@ abbrev is_read : Option (List Element) → Bool
 is_read None = false
 is_read (Some es) = true
 
-rest_read : (e : Element) (o : Option (List Element)) → is_read (put_before e o) ≡ true → is_read o ≡ true
-rest_read e a h = grind arith
-
 -- If a text is read, and also with more after it, the more is read.
 reads : (at : ℕ → List ℕ → Option Spelled) → IsOnward at → (n : ℕ) (b z : List ℕ) → n ≤ length b → begins_with 10 z ≡ false →
     is_read (elements at n b) ≡ true → is_read (elements at n (b ++ z)) ≡ true → is_read (elements at 0 z) ≡ true
@@ -102,7 +87,7 @@ reads at f zero (c ∷ b) z l h i j = by (at c b) (at c (b ++ z)) (f c b z h) i 
   where
     by : (o more : Option Spelled) → Onward b o more → is_read (followed o (λ n. elements at n b)) ≡ true → is_read (followed more (λ n. elements at n (b ++ z))) ≡ true →
         ((n : ℕ) → n ≤ length b → is_read (elements at n b) ≡ true → is_read (elements at n (b ++ z)) ≡ true → is_read (elements at 0 z) ≡ true) → is_read (elements at 0 z) ≡ true
-    by a more g i j d = grind (arith, rest_read, elements, at, is_read)
+    by a more g i j d = grind (arith, elements, at, is_read)
 
 -- ---- two bodies
 

@@ -27,10 +27,6 @@ unfolding is_tag is_uri is_flow is_decimal_digit is_letter
 tag_goes_on c h =
     going is_tag c (λ f. gaps (λ z. is_tag z ≡ false) c f refl refl refl refl refl) (λ f. flows (λ z. is_tag z ≡ false) c f refl refl refl refl refl) h
 
-mark_goes_on : (c : ℕ) → is_tag_mark c ≡ true → goes_on c ≡ true
-unfolding is_blank_or_end is_blank is_break is_nul is_flow
-mark_goes_on c h = subst (λ z. goes_on z ≡ true) (sym (eqb-true c 33 h)) refl
-
 ended : (fl : Bool) (x : List ℕ) → (is_at_gap x || (fl && begins_flow x)) ≡ true → ends_run goes_on x ≡ true
 ended fl [] h = refl
 ended fl (c ∷ x) h = by fl (is_blank_or_end c) (is_flow c) h
@@ -57,9 +53,10 @@ of_class class h r t e = by (all_of class r) e
     by false f = absurd (cc f)
 
 of_named : (name r : List ℕ) (t : Tag) → begins_with_mark r ≡ true → named name r ≡ Some t → all_of goes_on r ≡ true
+unfolding is_blank_or_end is_blank is_break is_nul is_flow
 of_named name [] t m e = absurd (cc e)
 of_named name (c ∷ []) t m e = absurd (cc e)
-of_named name (c ∷ d ∷ r) t m e = joined _ _ (mark_goes_on c m) (all_weaker is_tag goes_on tag_goes_on (d ∷ r) (of_class is_tag _ (d ∷ r) t e))
+of_named name (c ∷ d ∷ r) t m e = joined _ _ (subst (λ z. goes_on z ≡ true) (sym (eqb-true c 33 m)) refl) (all_weaker is_tag goes_on tag_goes_on (d ∷ r) (of_class is_tag _ (d ∷ r) t e))
 
 of_shorthand : (c : ℕ) (r : List ℕ) (t : Tag) → shorthand (c ∷ r) ≡ Some t → all_of goes_on (c ∷ r) ≡ true
 of_shorthand c r t e = by (begins_with_mark (after is_alpha (c ∷ r))) refl e
@@ -94,15 +91,6 @@ shape (c ∷ r) t e = by (c == 60) refl e
 
 -- ---- two tags
 
-verbatims : (r s x y : List ℕ) → IsVerbatim r → IsVerbatim s → r ++ x ≡ s ++ y → (r ≡ s) × (x ≡ y)
-unfolding is_uri is_decimal_digit is_letter
-verbatims r s x y h k e =
-    let whole : (60 ∷ (h.0 ++ (62 ∷ []))) ++ x ≡ (60 ∷ (k.0 ++ (62 ∷ []))) ++ y = ap (λ z. z ++ x) (sym h.1) ∙ (e ∙ ap (λ z. z ++ y) k.1) in
-    let tails : h.0 ++ (62 ∷ x) ≡ k.0 ++ (62 ∷ y) =
-    sym (append_assoc h.0 (62 ∷ []) x) ∙ ((same_head 60 60 _ _ whole).1 ∙ append_assoc k.0 (62 ∷ []) y) in
-    let same : (h.0 ≡ k.0) × (62 ∷ x ≡ 62 ∷ y) = runs is_uri h.0 k.0 (62 ∷ x) (62 ∷ y) h.2 k.2 refl refl tails in
-    (h.1 ∙ (ap (λ z. 60 ∷ (z ++ (62 ∷ []))) same.0 ∙ sym k.1), (same_head 62 62 x y same.1).1)
-
 -- a verbatim tag's `<` is no part of a shorthand, and ends none
 apart : (r s x y : List ℕ) → IsVerbatim r → IsShorthand s → ends_run goes_on y ≡ true → r ++ x ≡ s ++ y → ⊥
 unfolding is_blank_or_end is_blank is_break is_nul is_flow
@@ -124,7 +112,12 @@ mark_is_first (c ∷ r) t e = by (is_tag_mark c) refl e
     by false i f = absurd (cc f)
 
 shapes : (r s x y : List ℕ) → IsVerbatim r ⊎ IsShorthand r → IsVerbatim s ⊎ IsShorthand s → ends_run goes_on x ≡ true → ends_run goes_on y ≡ true → r ++ x ≡ s ++ y → (r ≡ s) × (x ≡ y)
-shapes r s x y (inl h) (inl k) f g e = verbatims r s x y h k e
+unfolding is_uri is_decimal_digit is_letter
+shapes r s x y (inl h) (inl k) f g e = let whole : (60 ∷ (h.0 ++ (62 ∷ []))) ++ x ≡ (60 ∷ (k.0 ++ (62 ∷ []))) ++ y = ap (λ z. z ++ x) (sym h.1) ∙ (e ∙ ap (λ z. z ++ y) k.1) in
+    let tails : h.0 ++ (62 ∷ x) ≡ k.0 ++ (62 ∷ y) =
+    sym (append_assoc h.0 (62 ∷ []) x) ∙ ((same_head 60 60 _ _ whole).1 ∙ append_assoc k.0 (62 ∷ []) y) in
+    let same : (h.0 ≡ k.0) × (62 ∷ x ≡ 62 ∷ y) = runs is_uri h.0 k.0 (62 ∷ x) (62 ∷ y) h.2 k.2 refl refl tails in
+    (h.1 ∙ (ap (λ z. 60 ∷ (z ++ (62 ∷ []))) same.0 ∙ sym k.1), (same_head 62 62 x y same.1).1)
 shapes r s x y (inl h) (inr k) f g e = absurd (apart r s x y h k g e)
 shapes r s x y (inr h) (inl k) f g e = absurd (apart s r y x k h f (sym e))
 shapes r s x y (inr h) (inr k) f g e = runs goes_on r s x y h.0 k.0 f g e

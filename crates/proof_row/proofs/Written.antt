@@ -19,9 +19,6 @@ pub marker_by_kind : (t : Tok) → is_marker (act_of t) ≡ is_marker_kind (kind
 marker_by_kind (scalar literal text) = refl
 marker_by_kind _ = refl
 
-same_marker : (t u : Tok) → kind_of t ≡ kind_of u → is_marker (act_of t) ≡ is_marker (act_of u)
-same_marker t u k = marker_by_kind t ∙ (ap is_marker_kind k ∙ sym (marker_by_kind u))
-
 same_blocks : (fl : Bool) (j k : Act) (col : ℕ) (bs : List ℕ) → is_marker j ≡ is_marker k → blocks_at fl j col bs ≡ blocks_at fl k col bs
 same_blocks true j k col bs h = refl
 same_blocks false j k col bs h = ap (λ m. if m then [] else not_ended col bs) h
@@ -38,15 +35,6 @@ same_levels (d ∷ ds) [] j = absurd j
 abbrev pub At : Account → Step → (next : List ℕ) → Site
 At a w next = site_at (is_in_flow a.entries) a.site w.separation w.piece w.shown next
 
-seen_alike : (a b : Account) (w v : Step) (x y : List ℕ) → IsLike a b → w.separation ≡ v.separation → w.piece ++ x ≡ v.piece ++ y →
-    IsSeenAlike (seen a (At a w x) w.separation) (seen b (At b v y) v.separation)
-seen_alike a b w v x y i f e = (
-  same_levels a.entries b.entries i.2,
-  ap (λ s. is_adjacent (before_past (before_by s.before) w.separation)) i.0 ∙ ap (λ z. is_adjacent (before_past (before_by b.site.before) z)) f,
-  ap (λ s. (position_after s.position w.separation (w.piece ++ x)).col) i.0 ∙
-      (ap (λ z. (position_after b.site.position z (w.piece ++ x)).col) f ∙ ap (λ z. (position_after b.site.position v.separation z).col) e),
-)
-
 -- the column of the innermost block collection, as a piece at a site sees it
 abbrev Innermost : Bool → Act → (col : ℕ) → List ℕ → Option ℕ
 Innermost fl k col bs = innermost_column (map (λ n. Some n) (blocks_at fl k col bs))
@@ -55,7 +43,7 @@ same_column : (a b : Account) (w v : Step) (x y : List ℕ) → IsLike a b → (
     Innermost (is_in_flow a.entries) (act_of w.shown) (At a w x).position.col a.site.blocks ≡ Innermost (is_in_flow b.entries) (act_of v.shown) (At b v y).position.col b.site.blocks
 same_column a b w v x y i c k =
     ap (λ z. Innermost z (act_of w.shown) (At a w x).position.col a.site.blocks) (same_flow a.entries b.entries i.2) ∙
-    (ap (λ z. innermost_column (map (λ n. Some n) z)) (same_blocks (is_in_flow b.entries) (act_of w.shown) (act_of v.shown) (At a w x).position.col a.site.blocks (same_marker w.shown v.shown k)) ∙
+    (ap (λ z. innermost_column (map (λ n. Some n) z)) (same_blocks (is_in_flow b.entries) (act_of w.shown) (act_of v.shown) (At a w x).position.col a.site.blocks (marker_by_kind w.shown ∙ (ap is_marker_kind k ∙ sym (marker_by_kind v.shown)))) ∙
     (ap (λ z. Innermost (is_in_flow b.entries) (act_of v.shown) z a.site.blocks) c ∙
     ap (λ s. Innermost (is_in_flow b.entries) (act_of v.shown) (At b v y).position.col s.blocks) i.0))
 
@@ -68,7 +56,12 @@ not_empty a h e = cc
 pub same_piece : (a b : Account) (w v : Step) (x y : List ℕ) → IsLike a b → IsWritten a w x → IsWritten b v y → w.separation ≡ v.separation → w.piece ++ x ≡ v.piece ++ y → Holds (has_no_nul (w.piece ++ x)) →
     (w.piece ≡ v.piece) × (w.shown ≡ v.shown) × (x ≡ y)
 same_piece a b w v x y i h k f e clean =
-    let alike : IsSeenAlike (seen a (At a w x) w.separation) (seen b (At b v y) v.separation) = seen_alike a b w v x y i f e in
+    let alike : IsSeenAlike (seen a (At a w x) w.separation) (seen b (At b v y) v.separation) = (
+      same_levels a.entries b.entries i.2,
+      ap (λ s. is_adjacent (before_past (before_by s.before) w.separation)) i.0 ∙ ap (λ z. is_adjacent (before_past (before_by b.site.before) z)) f,
+      ap (λ s. (position_after s.position w.separation (w.piece ++ x)).col) i.0 ∙
+          (ap (λ z. (position_after b.site.position z (w.piece ++ x)).col) f ∙ ap (λ z. (position_after b.site.position v.separation z).col) e),
+    ) in
     let pieces : (w.piece ≡ v.piece) × (x ≡ y) × (w.shown ≡ v.shown) =
     pieces_seen_alike (seen a (At a w x) w.separation) (seen b (At b v y) v.separation) w.piece v.piece x y None None
     (shown_position (At a w x) w.piece w.shown x) (shown_position (At b v y) v.piece v.shown y) w.shown v.shown alike (same_column a b w v x y i alike.2)

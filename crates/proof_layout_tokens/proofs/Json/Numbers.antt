@@ -1,13 +1,10 @@
 -- The words of JSON and its numbers are words.
-use Rattle.proof_layout_tokens.proofs.Common.{[], and_from, and_parts, ap, append-nil, append_assoc, are_digits, arith, Bool, Exponent, Fraction, is_ascii_digit, is_exponent, is_fraction, is_number, is_whole, List, list_all, nat_tests, Number, number, refl, Sign, spell_exponent, spell_fraction, spell_minus, spell_number, spell_sign, sym, true, ℕ, ◌&&◌, ◌++◌, ◌∙◌, ◌∷◌, ◌≡◌}
-use Rattle.proof_layout_tokens.proofs.Json.Words.{is_word, are_words, begins_word, IsWord}
-
-digit_word : (c : ℕ) → is_ascii_digit c ≡ true → is_word c ≡ true
-digit_word c h = grind (arith, nat_tests)
+use Rattle.proof_layout_tokens.proofs.Common.{[], and_from, and_parts, ap, append-nil, append_assoc, are_digits, arith, Bool, Exponent, Fraction, is_ascii_digit, is_exponent, is_fraction, is_number, is_whole, List, list_all, nat_tests, Number, number, refl, spell_exponent, spell_fraction, spell_minus, spell_number, sym, true, ℕ, ◌&&◌, ◌++◌, ◌∙◌, ◌∷◌, ◌≡◌}
+use Rattle.proof_layout_tokens.proofs.PlainTexts.{is_word, are_words, IsWord}
 
 digits_words : (w : List ℕ) → list_all is_ascii_digit w ≡ true → are_words w ≡ true
 digits_words [] h = refl
-digits_words (c ∷ w) h = let q = and_parts (is_ascii_digit c) (list_all is_ascii_digit w) h in and_from _ _ (digit_word c q.0) (digits_words w q.1)
+digits_words (c ∷ w) h = let q = and_parts (is_ascii_digit c) (list_all is_ascii_digit w) h in and_from _ _ (grind (arith, nat_tests)) (digits_words w q.1)
 
 append_words : (w v : List ℕ) → are_words w ≡ true → are_words v ≡ true → are_words (w ++ v) ≡ true
 append_words [] v h e = e
@@ -24,39 +21,18 @@ with_nil w r = rw append-nil refl
 fraction_then : (f : Fraction) (r : List ℕ) → spell_fraction f r ≡ spell_fraction f [] ++ r
 fraction_then a r = grind (arith, with_nil)
 
-sign_then : (s : Sign) (w r : List ℕ) → spell_sign s (w ++ r) ≡ spell_sign s (w ++ []) ++ r
-sign_then a w r = grind (arith, with_nil)
-
-exponent_then : (e : Exponent) (r : List ℕ) → spell_exponent e r ≡ spell_exponent e [] ++ r
-exponent_then a r = grind (arith, sign_then)
-
 rest_then : (f : Fraction) (e : Exponent) (r : List ℕ) → spell_fraction f (spell_exponent e r) ≡ spell_fraction f (spell_exponent e []) ++ r
-rest_then f e r = fraction_then f (spell_exponent e r) ∙ ap (λ l. spell_fraction f [] ++ l) (exponent_then e r) ∙ sym (append_assoc (spell_fraction f []) (spell_exponent e []) r) ∙ ap (λ l. l ++ r) (sym (fraction_then f (spell_exponent e [])))
-
-whole_then : (w : List ℕ) (f : Fraction) (e : Exponent) (r : List ℕ) → w ++ spell_fraction f (spell_exponent e r) ≡ (w ++ spell_fraction f (spell_exponent e [])) ++ r
-whole_then w f e r = ap (λ l. w ++ l) (rest_then f e r) ∙ sym (append_assoc w (spell_fraction f (spell_exponent e [])) r)
+rest_then f e r = fraction_then f (spell_exponent e r) ∙ ap (λ l. spell_fraction f [] ++ l) (grind (arith, with_nil)) ∙ sym (append_assoc (spell_fraction f []) (spell_exponent e []) r) ∙ ap (λ l. l ++ r) (sym (fraction_then f (spell_exponent e [])))
 
 -- a number before a text
 pub number_then : (n : Number) (r : List ℕ) → spell_number n r ≡ spell_number n [] ++ r
-number_then a r = grind (arith, whole_then)
-
-fraction_words : (f : Fraction) → is_fraction f ≡ true → are_words (spell_fraction f []) ≡ true
-fraction_words a h = grind (arith, append_words, are_digits_words)
-
-sign_words : (s : Sign) (w : List ℕ) → are_words w ≡ true → are_words (spell_sign s w) ≡ true
-sign_words a w h = grind arith
-
-exponent_words : (e : Exponent) → is_exponent e ≡ true → are_words (spell_exponent e []) ≡ true
-exponent_words a h = grind (arith, sign_words, append_words, are_digits_words)
+number_then a r = grind (arith, rest_then, append_assoc, spell_fraction, spell_exponent)
 
 rest_words : (f : Fraction) (e : Exponent) → is_fraction f ≡ true → is_exponent e ≡ true → are_words (spell_fraction f (spell_exponent e [])) ≡ true
-rest_words f e h i = rw (fraction_then f (spell_exponent e [])) (append_words (spell_fraction f []) (spell_exponent e []) (fraction_words f h) (exponent_words e i))
+rest_words f e h i = rw (fraction_then f (spell_exponent e [])) (append_words (spell_fraction f []) (spell_exponent e []) (grind (arith, append_words, are_digits_words)) (grind (arith, append_words, are_digits_words)))
 
 whole_digits : (w : List ℕ) → is_whole w ≡ true → are_digits w ≡ true
 whole_digits a h = grind (arith, and_from)
-
-number_begins : (is_negative : Bool) (w a : List ℕ) → are_digits w ≡ true → begins_word (spell_minus is_negative (w ++ a)) ≡ true
-number_begins b d a h = grind (arith, nat_tests)
 
 minus_words : (is_negative : Bool) (w : List ℕ) → are_words w ≡ true → are_words (spell_minus is_negative w) ≡ true
 minus_words a w h = grind arith
@@ -68,5 +44,5 @@ number_word (number is_negative whole f e) h =
     let digits = whole_digits whole r.0 in
     record {
       chars = minus_words is_negative _ (append_words whole _ (are_digits_words whole digits) (rest_words f e r.1 q.1));
-      begins = number_begins is_negative whole _ digits;
+      begins = grind (arith, nat_tests);
     }

@@ -1,5 +1,5 @@
 -- Between the parts of a JSON value on one line without TAB only spaces stand.
-use Rattle.proof_layout_tokens.proofs.Common.{arith, [], and_parts, array, Blank, element, Elements, false_word, is_on_one_line, Json, last_element, last_member, List, list_all, member, Members, null_word, Number, object, Piece, spell, spell_elements, spell_members, spell_number, spell_piece, spell_pieces, spell_string, true, true_word, ℕ, ◌++◌, ◌∷◌, ◌≡◌}
+use Rattle.proof_layout_tokens.proofs.Common.{arith, [], and_parts, array, Blank, element, Elements, false_word, is_on_one_line, Json, last_element, last_member, List, list_all, member, Members, null_word, object, Piece, spell, spell_elements, spell_members, spell_number, spell_pieces, spell_string, true, true_word, ℕ, ◌++◌, ◌∷◌, ◌≡◌}
 use Rattle.defs_layout.specs.JsonGap.{spell_gap}
 use Rattle.proof_layout_tokens.proofs.Json.OnOneLine.{AreSpaces}
 use Rattle.proof_layout_tokens.proofs.Json.OnOneLine.{HasSpaces, HaveSpaces, MembersHaveSpaces}
@@ -20,15 +20,9 @@ unfolding is_on_one_line
 gap_spaces [] r h = (tt, h)
 gap_spaces (b ∷ g) r h = grind (arith, gap_spaces g r)
 
-after_number : (n : Number) (r : List ℕ) → OnOneLine (spell_number n r) → OnOneLine r
-after_number n r h = after (spell_number n []) r (rw (number_then n r) at h)
-
-after_piece : (p : Piece) (r : List ℕ) → OnOneLine (spell_piece p r) → OnOneLine r
-after_piece p r h = grind (arith, after_one)
-
 after_pieces : (ps : List Piece) (r : List ℕ) → OnOneLine (spell_pieces ps r) → OnOneLine r
 after_pieces [] r h = h
-after_pieces (p ∷ ps) r h = after_pieces ps r (after_piece p (spell_pieces ps r) h)
+after_pieces (p ∷ ps) r h = after_pieces ps r (grind (arith, after_one))
 
 after_string : (ps : List Piece) (r : List ℕ) → OnOneLine (spell_string ps r) → OnOneLine r
 after_string ps r h = after_one 34 r (after_pieces ps (34 ∷ r) (after_one 34 (spell_pieces ps (34 ∷ r)) h))
@@ -40,7 +34,7 @@ mutual
   json_spaces true_word r h = (tt, after (116 ∷ 114 ∷ 117 ∷ 101 ∷ []) r h)
   json_spaces (array g es) r h = grind (arith, gap_spaces, after_one, elements_spaces es)
   json_spaces (object g ms) r h = grind (arith, gap_spaces, after_one, members_spaces ms)
-  json_spaces v r h = grind (arith, gap_spaces, after_one, after_number, after_string)
+  json_spaces v r h = grind (arith, gap_spaces, after_one, after, spell_number, number_then, after_string)
 
   elements_spaces : (es : Elements) (r : List ℕ) → OnOneLine (spell_elements es r) → HaveSpaces es × OnOneLine r
   elements_spaces (last_element v a) r h = grind (arith, json_spaces v, gap_spaces)

@@ -1,8 +1,9 @@
 -- Texts laid out in lines and their tokens: what the theorem says of one with each form, and what the model computes for small ones.
 use Rattle.std.specs.Fmt.{digits}
-use Rattle.proof_layout_tokens.proofs.Common.{[], ap, arith, below, blank, codes, comment_line, compact, empty_hash, empty_line, entry, explicit, false, field, full, HasToks, implicit, Inline, is_decimal, is_line_character, is_literal_character, is_literal_text, is_quoted, is_unfit_for_plain, last_document, last_entry, last_field, List, literal, no_comment, plain, pos, quoted, Root, Scalar, scalar, Style, sym, Tok, Tree, tree_eq, true, true≢false, typing, Value, written_character, ℕ, ◌∙◌, ◌∷◌, ◌≡◌, ◌≢◌}
+use Rattle.proof_layout_tokens.proofs.Common.{[], arith, below, blank, codes, comment_line, compact, empty_hash, empty_line, entry, explicit, field, full, HasToks, implicit, Inline, is_decimal, is_line_character, is_literal_character, is_literal_text, is_quoted, is_unfit_for_plain, last_document, last_entry, last_field, List, literal, no_comment, plain, pos, quoted, Root, Scalar, scalar, Style, Tok, Tree, true, typing, Value, written_character, ℕ, ◌∷◌}
 use Rattle.defs_layout.specs.Layout.{empty_array, array, hash}
 use Rattle.proof_layout_tokens.proofs.Layouts.Texts.{layouts_have_their_tokens}
+use Rattle.proof_layout_tokens.proofs.AnchorRows.{differ}
 
 abbrev word : List ℕ → Scalar
 word w = plain (Tree.string w)
@@ -13,9 +14,6 @@ beside i = Value.beside 0 i no_comment
 
 abbrev text_tok : List ℕ → Tok
 text_tok w = Tok.scalar Style.plain w
-
-differ : (a b : Tree) → tree_eq a a ≡ true → tree_eq a b ≡ false → a ≢ b
-differ a b same other e = true≢false (sym same ∙ ap (tree_eq a) e ∙ other)
 
 -- arrays and hashes at many columns, an array as key, empty lines and comment lines between entries, a literal block with an empty line
 each_form : HasToks (codes "---\n# top\n\n   ? - 1\n     - []\n# mid\n   :       - x\n           - |\n                 p\n\n                 q\n   k:\n# c\n     \"z\": {}\n")

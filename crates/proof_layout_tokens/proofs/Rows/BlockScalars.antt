@@ -5,14 +5,15 @@ use Rattle.proof_lexers.proofs.Blocks.Written as written
 use Rattle.proof_lexers.proofs.Blocks.Written.{spell}
 use Rattle.proof_lexers.proofs.Blocks.Positions.{spell_more}
 use Rattle.proof_layout_tokens.proofs.BlockTexts.{lines_at, empties, texts_are, empty_rows, rows_append, rows_empty, row_spaces, content_append, content_more, text_value, spaces_value, last_value, spelt}
-use Rattle.proof_layout_tokens.proofs.BlockLines.{header_line, block_text, header_is, header_inner, IsInside, AreBlockLines, Lines, lines_are, text_body, end_body, is_block, inner_line, inner_spaces, are_lines, spelt_feeds, texts_split, high}
+use Rattle.proof_layout_tokens.proofs.BlockLines.{header_line, block_text, header_is, header_inner, IsInside, AreBlockLines, Lines, lines_are, text_body, end_body, is_block, inner_line, inner_spaces, are_lines, lines_none, empties_none, header_none, spelt_feeds, texts_split, high}
 use Rattle.proof_layout_tokens.proofs.BlockLines as scans
 use Rattle.defs_token.specs.Key
 use Rattle.proof_layout_tokens.proofs.Rows.Steps.{Reads, at, step_of, Steps, step}
 use Rattle.proof_layout_tokens.proofs.Rows.Nodes.{IsDeep, none_ends, no_column, no_less, outside_line, Parts, indented}
 use Rattle.proof_layout_tokens.proofs.Rows.Json.{column_is}
-use Rattle.proof_layout_tokens.proofs.Rows.Trails.{over_break, gap_separates, spaces_separate, gap_last, no_tab, gap_column, spaces_are, gap_is, ending_separates, Trail, next, marker, end, marker_text, trail_text, BeginsContent, content_first, IsTrail, IsLow, After}
+use Rattle.proof_layout_tokens.proofs.Rows.Trails.{over_break, gap_none, ending_none, gap_separates, spaces_separate, gap_last, no_tab, gap_column, spaces_are, gap_is, ending_separates, Trail, next, marker, end, marker_text, trail_text, BeginsContent, content_first, IsTrail, IsLow, After}
 use Rattle.proof_layout_tokens.proofs.Rows.Blocks.{Here}
+use Rattle.proof_layout_tokens.proofs.Nul.{HasNone, both, text_none, spaces_none}
 
 -- what may stand directly after a block's last break: the end, or further text that begins with no TAB
 pub data Next (column : ℕ) : List ℕ → Type 0 where
@@ -24,6 +25,7 @@ pub record IsBlockPiece (bs : List ℕ) (style : BlockStyle) (text piece more_te
   pub column : ℕ
   pub read : block_read (innermost bs) piece more_text ≡ Some (record { style = style; column = column; text = text })
   pub may : block_may_end bs piece more_text ≡ true
+  pub none : HasNone piece
 
 -- lines of which one has content are not all empty
 not_all_empty : (column : ℕ) (ls : List (List ℕ)) (rs : List Row) → rows_of column ls ≡ Some rs → has_content rs ≡ true → are_empty column ls ≡ false
@@ -58,17 +60,14 @@ module _ (s : BlockStyle) (i column : ℕ) (strips : Bool) (text : List ℕ) (ls
     all_rows : rows_of column (texts all_lines) ≡ Some ((known.before ++ known.row ∷ []) ++ empty_rows n)
     all_rows = ap (rows_of column) all_texts ∙ rows_append column (indented_lines column ls) (texts (empties n)) (known.before ++ known.row ∷ []) (empty_rows n) known.all (rows_empty column n)
 
-    are_all : (e : List ℕ) → written.AreLines (header ∷ all_lines) e
-    are_all e = (header_inner s strips, tt, are_lines column ls (empties n) e h.2 (scans.are_empty n e))
-
     is_split : split piece ≡ record { complete = texts (header ∷ all_lines); last = [] }
-    is_split = split_spell (header ∷ all_lines) [] (are_all []) refl
-
-    some_full : are_empty column (texts all_lines) ≡ false
-    some_full = not_all_empty column (texts all_lines) _ all_rows (content_more (known.before ++ known.row ∷ []) (empty_rows n) some)
+    is_split = split_spell (header ∷ all_lines) [] (header_inner s strips, tt, are_lines column ls (empties n) [] h.2 (scans.are_empty n [])) refl
 
     pub spelt_all : (more_text : List ℕ) → block_text s strips (spell_lines column ls (10 ∷ spell (empties n) more_text)) ≡ piece ++ more_text
     spelt_all more_text = ap (λ x. block_text s strips x) (spelt_feeds column ls (spell (empties n) more_text) ∙ ap (λ x. 10 ∷ x) (sym (spell_append (lines_at column ls) (empties n) more_text))) ∙ sym (spell_more (header ∷ all_lines) [] more_text)
+
+    piece_none : HasNone piece
+    piece_none = header_none s strips (spell all_lines []) (lines_none column ls (empties n) [] h.2 (empties_none n))
 
     pub block_piece : (more_text : List ℕ) → Next column more_text → IsBlockPiece bs s text piece more_text
     block_piece [] at_end =
@@ -76,12 +75,12 @@ module _ (s : BlockStyle) (i column : ℕ) (strips : Bool) (text : List ℕ) (ls
         let more = texts (empties n) ++ [] ∷ [] in
         let lines : texts all_lines ++ [] ∷ [] ≡ indented_lines column ls ++ more = ap (λ x. x ++ [] ∷ []) all_texts ∙ append_assoc (indented_lines column ls) (texts (empties n)) ([] ∷ []) in
         let body = end_body s i column strips (texts all_lines) [] _ _ (ap (column_by None (collection_of i)) lines ∙ known.in_column more) (ap starts_with_tab lines ∙ known.tabless more) all_rows (row_spaces column 0 (omega arith)) ∙ ap (λ t. Some (is_block s i column strips t)) value in
-        record { column = column; read = rw (same, is_split) body; may = refl }
+        record { column = column; read = rw (same, is_split) body; may = refl; none = piece_none }
     block_piece more_text (at_text further some_text is_further tabless) =
         let value = text_value s strips (known.before ++ known.row ∷ []) n some ∙ known.value in
         let body = text_body s i column strips (texts all_lines) more_text _ (ap (column_by None (collection_of i)) all_texts ∙ known.in_column (texts (empties n))) some_text is_further (ap starts_with_tab all_texts ∙ known.tabless (texts (empties n))) all_rows ∙ ap (λ t. Some (is_block s i column strips t)) value in
         let read : block_read (innermost bs) piece more_text ≡ Some (is_block s i column strips text) = rw (same, is_split, some_text) body in
-        record { column = column; read = read; may = rw (read, is_split, some_full, tabless, some_text, and_false (is_empty (texts all_lines))) refl }
+        record { column = column; read = read; may = rw (read, is_split, (not_all_empty column (texts all_lines) _ all_rows (content_more (known.before ++ known.row ∷ []) (empty_rows n) some)), tabless, some_text, and_false (is_empty (texts all_lines))) refl; none = piece_none }
 
     -- a line begins after it
     pub piece_column : (more_text : List ℕ) (p : Position) → (position_after p piece more_text).col ≡ 0
@@ -107,11 +106,12 @@ module _ (s : BlockStyle) (i column : ℕ) (strips : Bool) (text : List ℕ) (ls
       let before = lines_at column known.init in
       let q = texts_split known.init known.last (rw (known.is) at h.2) in
       let inner : is_in_line last_text ≡ true = inner_spaces column (known.last ++ []) (inner_line known.last q.1) in
+      let last : HasNone last_text = spaces_none column (known.last ++ []) (both known.last [] (text_none known.last q.1) refl) in
       let are : written.AreLines (header ∷ before) last_text = (header_inner s strips, tt, rw append-nil at (are_lines column known.init [] last_text q.0 tt)) in
       let lines : texts before ++ last_text ∷ [] ≡ indented_lines column ls ++ [] = known.lines ∙ sym (append-nil (indented_lines column ls)) in
       let body = end_body s i column strips (texts before) last_text known.before known.row (ap (column_by None (collection_of i)) lines ∙ known.in_column []) (ap starts_with_tab lines ∙ known.tabless []) known.rows known.last_row
       ∙ ap (λ t. Some (is_block s i column strips t)) (last_value s strips column known.before known.row last_text known.content ∙ known.value) in
-      record { column = column; read = rw (same, split_spell (header ∷ before) last_text are inner) body; may = refl }
+      record { column = column; read = rw (same, split_spell (header ∷ before) last_text are inner) body; may = refl; none = header_none s strips (spell before last_text) (rw append-nil at (lines_none column known.init [] last_text q.0 last)) }
 
   pub last_spelt : block_text s strips (spell_lines column ls []) ≡ last_piece
   last_spelt = ap (λ x. block_text s strips x) (ap (λ l. spell_lines column l []) known.is ∙ spelt column known.init known.last [] ∙ ap (λ x. 10 ∷ spell (lines_at column known.init) x) (append-nil last_text))
@@ -136,6 +136,7 @@ module _ (bs : List ℕ) (p : Position) (awaits : Bool) (l : Key.Line) (f piece 
         stands = rw (indented another bs awaits f parts, none_ends bs col deep, z.may) refl;
         leads = rw (none_ends bs col deep, m.1, block_line (is_in_column col bs) (position_after p f (piece ++ more_text)) bs m.0 (no_column bs col deep) m.2, and_false (has_break piece)) refl;
         begins = λ past colon. rw (none_ends bs col deep, no_less (length bs)) refl;
+        none = (parts.none, z.none);
       }
   block_scalar_step BlockStyle.folded z =
       let m = outside_line (has_break f) l line in
@@ -146,6 +147,7 @@ module _ (bs : List ℕ) (p : Position) (awaits : Bool) (l : Key.Line) (f piece 
         stands = rw (indented another bs awaits f parts, none_ends bs col deep, z.may) refl;
         leads = rw (none_ends bs col deep, m.1, block_line (is_in_column col bs) (position_after p f (piece ++ more_text)) bs m.0 (no_column bs col deep) m.2, and_false (has_break piece)) refl;
         begins = λ past colon. rw (none_ends bs col deep, no_less (length bs)) refl;
+        none = (parts.none, z.none);
       }
 
 -- ---- what stands after a block
@@ -173,6 +175,7 @@ here_gap g d r p gap col = record {
   tabless = λ n. rw (gap_last g d) (no_tab n d);
   line = by (has_break (spell_gap g (spaces d [])));
   column = gap_column g d r p col;
+  none = gap_none g (spaces d []) gap (spaces_none d [] refl);
 }
   where
     by : (b : Bool) → line_past_separation false b free ≡ Some free
@@ -186,11 +189,11 @@ module _ (column : ℕ) (bs : List ℕ) (tokens : List Tok) where
       let h : List GapLine = comment_line text ∷ g in
       record { count = 0; rest = spell_gap h (spaces d r); is = refl; follows = remark_follows column (λ e. (empty e).0) (text ++ 10 ∷ spell_gap g (spaces d r)); reads = λ p col. rw (← (gap_is h (spaces d []) r ∙ ap (spell_gap h) (spaces_are d [] r))) (go (spell_gap h (spaces d [])) p (here_gap h d r p gap col)) }
 
-  ending_tail : (l : GapLine) (g : List GapLine) → IsGap (l ∷ g) → (column ≡ 0 → AreEmptyLines (l ∷ g)) → ((p : Position) (f : List ℕ) → is_separation false f [] ≡ true → Reads (at p bs false block_scalar free []) f tokens) → Tail column bs (spell_gap_line l (spell_ending g [])) tokens
+  ending_tail : (l : GapLine) (g : List GapLine) → IsGap (l ∷ g) → (column ≡ 0 → AreEmptyLines (l ∷ g)) → ((p : Position) (f : List ℕ) → is_separation false f [] ≡ true → HasNone f → Reads (at p bs false block_scalar free []) f tokens) → Tail column bs (spell_gap_line l (spell_ending g [])) tokens
   unfolding is_blank is_break
-  ending_tail empty_line [] gap empty go = record { count = 0; rest = []; is = refl; follows = at_end; reads = λ p col. go p [] refl }
+  ending_tail empty_line [] gap empty go = record { count = 0; rest = []; is = refl; follows = at_end; reads = λ p col. go p [] refl refl }
   ending_tail empty_line (m ∷ g) gap empty go = one_more column bs (spell_gap_line m (spell_ending g [])) tokens (ending_tail m g gap.1 (λ e. (empty e).1) go)
-  ending_tail (comment_line text) g gap empty go = record { count = 0; rest = 35 ∷ (text ++ spell_ending g []); is = refl; follows = remark_follows column (λ e. (empty e).0) (text ++ spell_ending g []); reads = λ p col. go p (35 ∷ (text ++ spell_ending g [])) (ending_separates (comment_line text ∷ g) gap) }
+  ending_tail (comment_line text) g gap empty go = record { count = 0; rest = 35 ∷ (text ++ spell_ending g []); is = refl; follows = remark_follows column (λ e. (empty e).0) (text ++ spell_ending g []); reads = λ p col. go p (35 ∷ (text ++ spell_ending g [])) (ending_separates (comment_line text ∷ g) gap) (ending_none (comment_line text ∷ g) gap) }
 
 -- ---- a block is read
 
@@ -231,5 +234,5 @@ module _ (s : BlockStyle) (i column : ℕ) (strips : Bool) (text : List ℕ) (ls
   block_is_read (end []) trail follows rest =
       let w = last_piece s i column strips text ls inside h bs same in
       rw (last_spelt s i column strips text ls inside h bs same) (subst (λ x. Reads (at p bs awaits another l []) (f ++ x) (token_of s text ∷ tokens)) (append-nil w)
-      (step (step_of f w (token_of s text) false) [] (block_scalar_step bs p awaits l f w [] text line parts (deep (w ++ [])) refl s (block_ends s i column strips text ls inside h bs same)) (rest [] _ false block_scalar free [] tt (refl, refl))))
-  block_is_read (end (m ∷ g)) trail follows rest = by_tail (spell_gap_line m (spell_ending g [])) (ending_tail column bs tokens m g trail follows (λ p x separates. rw (← append-nil x) (rest [] p false block_scalar free x tt (separates, refl))))
+      (step (step_of f w (token_of s text) false) [] (block_scalar_step bs p awaits l f w [] text line parts (deep (w ++ [])) refl s (block_ends s i column strips text ls inside h bs same)) (rest [] _ false block_scalar free [] tt (refl, refl, refl))))
+  block_is_read (end (m ∷ g)) trail follows rest = by_tail (spell_gap_line m (spell_ending g [])) (ending_tail column bs tokens m g trail follows (λ p x separates none. rw (← append-nil x) (rest [] p false block_scalar free x tt (separates, refl, none))))

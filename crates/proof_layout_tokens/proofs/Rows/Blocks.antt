@@ -1,9 +1,10 @@
 -- Steps outside flow that begin at a column, after block collections that end there.
-use Rattle.proof_layout_tokens.proofs.Common.{[], Account, act_of, and_parts, another, ap, arith, awaits_past, begins_free_line, begins_with_space_or_break, begun_by, begun_outside, Bool, colon_may_precede, dash_may_precede, false, free, further_lines_stand, gives_node, has_break, has_no_break, has_tab_before_piece, has_tab_within, inl, is_at_gap, is_break, is_deeper, is_in_column, is_marker, is_separation, is_waiting, IsShown, key_tokens, last_line, le-ltb, least_column, length, length-append, line_past, line_past_separation, List, may_precede, nat_lt, not, not-true, not_ended, opened, Position, position_after, Previous, previous_by, put, refl, replicate, Some, start_if, suc, taken, Tok, Token, toks, true, zero, ℕ, ◌&&◌, ◌++◌, ◌+◌, ◌-◌, ◌<◌, ◌∙◌, ◌∷◌, ◌≡◌, ◌≤◌}
+use Rattle.proof_layout_tokens.proofs.Common.{[], Account, act_of, and_parts, another, ap, arith, awaits_past, begins_free_line, begins_with_space_or_break, begun_by, begun_outside, Bool, colon_may_precede, dash_may_precede, false, free, further_lines_stand, gives_node, has_break, has_no_break, has_tab_before_piece, has_tab_within, inl, is_at_gap, is_break, is_deeper, is_in_column, is_marker, is_separation, is_waiting, IsShown, last_line, le-ltb, least_column, length, length-append, line_past, line_past_separation, List, may_precede, nat_lt, not, not-true, not_ended, opened, Position, position_after, Previous, previous_by, put, refl, replicate, Some, suc, taken, Tok, Token, toks, true, zero, ℕ, ◌&&◌, ◌++◌, ◌+◌, ◌-◌, ◌<◌, ◌∙◌, ◌∷◌, ◌≡◌, ◌≤◌}
 use Rattle.defs_token.specs.Key.{Line}
 use Rattle.proof_layout_tokens.proofs.Rows.Steps.{Reads, at, step_of, site_of, Steps, step}
 use Rattle.proof_layout_tokens.proofs.Rows.Nodes.{or_true, deeper}
 use Rattle.proof_layout_tokens.proofs.Rows.Texts.{ended}
+use Rattle.proof_layout_tokens.proofs.Nul.{HasNone}
 
 -- ---- columns
 
@@ -17,15 +18,9 @@ abbrev pub Stay : ℕ → List ℕ → Type 0
 Stay c [] = Unit {0}
 Stay c (n ∷ ns) = n ≤ c
 
-stay_open : (c : ℕ) (bs : List ℕ) → Stay c bs → not_ended c bs ≡ bs
-stay_open c a h = grind (arith, le-ltb)
-
 pub left_open : (c : ℕ) (extra bs : List ℕ) → AreAbove c extra → Stay c bs → not_ended c (extra ++ bs) ≡ bs
-left_open c [] bs above stay = stay_open c bs stay
+left_open c [] bs above stay = grind (arith, le-ltb)
 left_open c (n ∷ extra) bs above stay = let low = above.0 in let e : nat_lt c n ≡ true = grind (arith, low) in rw e (left_open c extra bs above.1 stay)
-
-so_many : (extra bs : List ℕ) → length (extra ++ bs) - length bs ≡ length extra
-so_many extra bs = rw length-append (omega arith)
 
 pub ends_are : (extra : List ℕ) (p : Position) (first : List Token) → toks (replicate (length extra) (put p Tok.block_end) ++ first) ≡ ended extra (toks first)
 ends_are [] p first = refl
@@ -43,6 +38,7 @@ pub record Here (c : ℕ) (r : List ℕ) (p : Position) (before : Previous) (l :
   pub tabless : (n : ℕ) → has_tab_within n (last_line f) ≡ false
   pub line : line_past_separation false (begins_free_line before f) l ≡ Some free
   pub column : (position_after p f r).col ≡ c
+  pub none : HasNone f
 
 module _ (c : ℕ) (extra bs : List ℕ) (p : Position) (awaits : Bool) (before : Previous) (l : Line) (f w : List ℕ) (t : Tok) (key : Bool) (next : List ℕ) (here : Here c (w ++ next) p before l f) where
   abbrev from : Account
@@ -52,22 +48,24 @@ module _ (c : ℕ) (extra bs : List ℕ) (p : Position) (awaits : Bool) (before 
   there = position_after p f (w ++ next)
 
   -- a step at the column, from all of these collections, with what is read after it
-  pub block_reads : (bs' : List ℕ) (l' : Line) (first tokens : List Tok) → AreAbove c extra → Stay c bs → is_marker (act_of t) ≡ false
+  pub block_reads : (bs' : List ℕ) (l' : Line) (first tokens : List Tok) → AreAbove c extra → Stay c bs → is_marker (act_of t) ≡ false → HasNone w
       → IsShown from (site_of from (step_of f w t key) next) (step_of f w t key) next
       → ((column : ℕ) → further_lines_stand column t w ≡ true) → may_precede false bs t w next ≡ true
       → line_past (is_in_column c bs) there bs (act_of t) key free ≡ Some (record { line = l'; blocks = bs' }) → (has_break w && is_waiting l') ≡ false
       → ((colon : Position) → toks (begun_outside (is_deeper c bs) there colon (act_of t) key (Some free)) ≡ first)
       → ((awaits : Bool) → Reads (at (position_after there w next) bs' awaits (previous_by t) l' (begun_by t)) next tokens)
       → Reads from (f ++ (w ++ next)) (ended extra (first ++ (t ∷ tokens)))
-  block_reads bs' l' first tokens above stay no_marker shown further precede leads one_line begins rest =
+  block_reads bs' l' first tokens above stay no_marker none shown further precede leads one_line begins rest =
       let stay_on = left_open c extra bs above stay in
       let awaits_then = awaits_past false t (site_of from (step_of f w t key) next).blocks (site_of from (step_of f w t key) next).awaits next in
+      let so_many : length (extra ++ bs) - length bs ≡ length extra = rw length-append (omega arith) in
       let z : Steps from (step_of f w t key) next (at (position_after there w next) bs' awaits_then (previous_by t) l' (begun_by t)) (ended extra first) = record {
         is_separated = here.separates;
         is_shown = shown;
         stands = rw (here.tabless, or_true, further _, no_marker, here.column, stay_on, precede) refl;
         leads = rw (here.line, no_marker, here.column, stay_on, leads, one_line) refl;
-        begins = λ past colon. rw (here.line, no_marker, here.column, stay_on, so_many extra bs) (ends_are extra there _ ∙ ap (ended extra) (begins colon.here));
+        begins = λ past colon. rw (here.line, no_marker, here.column, stay_on, so_many) (ends_are extra there _ ∙ ap (ended extra) (begins colon.here));
+        none = (here.none, none);
       } in
       rw (← ended_append extra first (t ∷ tokens)) (step (step_of f w t key) next z (rest awaits_then))
 
@@ -110,9 +108,6 @@ module _ (is_open : Bool) (c : ℕ) (extra bs : List ℕ) (p : Position) (awaits
   Begins mark t collection l' = Here c (mark ∷ next) p before l f → ((p : Position) (awaits : Bool) → p.col ≡ suc c → Reads (at p (c ∷ bs) awaits another l' []) next tokens)
       → Reads (at p (extra ++ stood is_open c bs) awaits before l []) (f ++ mark ∷ next) (ended extra (starts is_open collection (t ∷ tokens)))
 
-  start_is : (t : Tok) (here : Position) → toks (start_if (not is_open) here t) ≡ starts is_open t []
-  start_is t here = grind (arith, is_open, starts)
-
   start_more : (t : Tok) (o : List Tok) → starts is_open t [] ++ o ≡ starts is_open t o
   start_more t o = grind (arith, is_open, starts)
 
@@ -120,35 +115,29 @@ module _ (is_open : Bool) (c : ℕ) (extra bs : List ℕ) (p : Position) (awaits
   unfolding is_break
   dash_reads gap follows here rest =
       rw (← start_more Tok.block_sequence_start (Tok.block_entry ∷ tokens))
-      (block_reads c extra (stood is_open c bs) p awaits before l f (45 ∷ []) Tok.block_entry false next here (c ∷ bs) free (starts is_open Tok.block_sequence_start []) tokens above (stands is_open c bs may) refl
-      (refl, (refl, gap, refl)) (λ column. refl) follows (rw (here.column, opens is_open c bs may) refl) refl (λ colon. rw (is_deep is_open c bs may) (start_is Tok.block_sequence_start _)) (λ awaits. rest _ awaits (ap suc here.column)))
+      (block_reads c extra (stood is_open c bs) p awaits before l f (45 ∷ []) Tok.block_entry false next here (c ∷ bs) free (starts is_open Tok.block_sequence_start []) tokens above (stands is_open c bs may) refl refl
+      (refl, (refl, gap, refl)) (λ column. refl) follows (rw (here.column, opens is_open c bs may) refl) refl (λ colon. rw (is_deep is_open c bs may) (grind (arith, is_open, starts))) (λ awaits. rest _ awaits (ap suc here.column)))
 
   pub question_reads : begins_with_space_or_break next ≡ true → has_tab_before_piece false next ≡ false → Begins 63 Tok.key Tok.block_mapping_start free
   unfolding is_break
   question_reads gap follows here rest =
       rw (← start_more Tok.block_mapping_start (Tok.key ∷ tokens))
-      (block_reads c extra (stood is_open c bs) p awaits before l f (63 ∷ []) Tok.key false next here (c ∷ bs) free (starts is_open Tok.block_mapping_start []) tokens above (stands is_open c bs may) refl
-      (refl, inl (refl, gap)) (λ column. refl) (rw follows refl) (rw (here.column, opens is_open c bs may) refl) refl (λ colon. rw (is_deep is_open c bs may) (start_is Tok.block_mapping_start _)) (λ awaits. rest _ awaits (ap suc here.column)))
+      (block_reads c extra (stood is_open c bs) p awaits before l f (63 ∷ []) Tok.key false next here (c ∷ bs) free (starts is_open Tok.block_mapping_start []) tokens above (stands is_open c bs may) refl refl
+      (refl, inl (refl, gap)) (λ column. refl) (rw follows refl) (rw (here.column, opens is_open c bs may) refl) refl (λ colon. rw (is_deep is_open c bs may) (grind (arith, is_open, starts))) (λ awaits. rest _ awaits (ap suc here.column)))
 
   -- the colon of an explicit key, or of an empty one
   pub colon_reads : is_at_gap next ≡ true → colon_may_precede next ≡ true → Begins 58 Tok.value Tok.block_mapping_start free
   unfolding is_break
   colon_reads gap follows here rest =
       rw (← start_more Tok.block_mapping_start (Tok.value ∷ tokens))
-      (block_reads c extra (stood is_open c bs) p awaits before l f (58 ∷ []) Tok.value false next here (c ∷ bs) free (starts is_open Tok.block_mapping_start []) tokens above (stands is_open c bs may) refl
-      (refl, (refl, rw gap refl)) (λ column. refl) follows (rw (here.column, opens is_open c bs may) refl) refl (λ colon. rw (is_deep is_open c bs may) (start_is Tok.block_mapping_start _)) (λ awaits. rest _ awaits (ap suc here.column)))
+      (block_reads c extra (stood is_open c bs) p awaits before l f (58 ∷ []) Tok.value false next here (c ∷ bs) free (starts is_open Tok.block_mapping_start []) tokens above (stands is_open c bs may) refl refl
+      (refl, (refl, rw gap refl)) (λ column. refl) follows (rw (here.column, opens is_open c bs may) refl) refl (λ colon. rw (is_deep is_open c bs may) (grind (arith, is_open, starts))) (λ awaits. rest _ awaits (ap suc here.column)))
 
 -- ---- implicit keys
 
 no_tab : (n : ℕ) → has_tab_within n [] ≡ false
 no_tab zero = refl
 no_tab (suc n) = refl
-
-stay_more : (n m : ℕ) (bs : List ℕ) → n ≤ m → Stay n bs → Stay m bs
-stay_more n m a b h = grind arith
-
-none_left : (n : ℕ) → n - n ≡ 0
-none_left n = omega arith
 
 -- the colon right after a key
 module _ (bs bs' next : List ℕ) (begin p : Position) (awaits : Bool) (before : Previous) (stay : Stay p.col bs) (near : p.index ≤ begin.index + 1024) (opens : opened begin.col bs ≡ bs') (gap : is_at_gap next ≡ true) (follows : colon_may_precede next ≡ true) (quiet : begins_free_line before [] ≡ false) where
@@ -159,27 +148,24 @@ module _ (bs bs' next : List ℕ) (begin p : Position) (awaits : Bool) (before :
   colon_step = grind arith
 
 module _ (is_open : Bool) (c : ℕ) (extra bs : List ℕ) (p : Position) (awaits : Bool) (before : Previous) (l : Line) (f w : List ℕ) (t : Tok) (next : List ℕ) (tokens : List Tok) (above : AreAbove c extra) (may : MayBegin is_open c bs) where
-  key_first : (here colon : Position) → toks (key_tokens (not is_open) colon Tok.block_mapping_start here) ≡ starts is_open Tok.block_mapping_start (Tok.key ∷ [])
-  key_first here colon = grind (arith, is_open, starts)
-
   key_more : (o : List Tok) → starts is_open Tok.block_mapping_start (Tok.key ∷ []) ++ o ≡ starts is_open Tok.block_mapping_start (Tok.key ∷ o)
   key_more o = grind (arith, is_open, starts)
 
   -- a key and its colon
-  pub key_reads : act_of t ≡ gives_node → begun_by t ≡ [] → begins_free_line (previous_by t) [] ≡ false → has_no_break w ≡ true → length w ≤ 1024
+  pub key_reads : act_of t ≡ gives_node → begun_by t ≡ [] → begins_free_line (previous_by t) [] ≡ false → has_no_break w ≡ true → HasNone w → length w ≤ 1024
       → IsShown (at p (extra ++ stood is_open c bs) awaits before l []) (site_of (at p (extra ++ stood is_open c bs) awaits before l []) (step_of f w t true) (58 ∷ next)) (step_of f w t true) (58 ∷ next)
       → ((column : ℕ) → further_lines_stand column t w ≡ true) → may_precede false (stood is_open c bs) t w (58 ∷ next) ≡ true → is_at_gap next ≡ true → colon_may_precede next ≡ true
       → Here c (w ++ 58 ∷ next) p before l f → ((p : Position) → suc c ≤ p.col → Reads (at p (c ∷ bs) true another taken []) next tokens)
       → Reads (at p (extra ++ stood is_open c bs) awaits before l []) (f ++ (w ++ 58 ∷ next)) (ended extra (starts is_open Tok.block_mapping_start (Tok.key ∷ t ∷ Tok.value ∷ tokens)))
   unfolding is_break
-  key_reads node none quiet one_line short shown further precede gap follows here rest =
+  key_reads node none quiet one_line clean short shown further precede gap follows here rest =
       let begin = position_after p f (w ++ 58 ∷ next) in
       let past = position_after begin w (58 ∷ next) in
       let z = along w begin (58 ∷ next) one_line in
       let at_c = here.column in
-      let on : Stay past.col (stood is_open c bs) = stay_more c past.col (stood is_open c bs) (omega (arith, z, at_c)) (stands is_open c bs may) in
+      let on : Stay past.col (stood is_open c bs) = grind arith in
       let opened_at : opened begin.col (stood is_open c bs) ≡ c ∷ bs = rw at_c (opens is_open c bs may) in
       rw (← key_more (t ∷ Tok.value ∷ tokens))
-      (block_reads c extra (stood is_open c bs) p awaits before l f w t true (58 ∷ next) here (stood is_open c bs) (Line.waits begin) (starts is_open Tok.block_mapping_start (Tok.key ∷ [])) (Tok.value ∷ tokens) above (stands is_open c bs may) (rw node refl)
-      shown further precede (rw node refl) (rw one_line refl) (λ colon. rw (is_deep is_open c bs may) (key_first begin colon))
+      (block_reads c extra (stood is_open c bs) p awaits before l f w t true (58 ∷ next) here (stood is_open c bs) (Line.waits begin) (starts is_open Tok.block_mapping_start (Tok.key ∷ [])) (Tok.value ∷ tokens) above (stands is_open c bs may) (rw node refl) clean
+      shown further precede (rw node refl) (rw one_line refl) (λ colon. rw (is_deep is_open c bs may) (grind (arith, is_open, starts)))
       (λ awaits. rw none (step (step_of [] (58 ∷ []) Tok.value false) next (colon_step (stood is_open c bs) (c ∷ bs) next begin past awaits (previous_by t) on (omega (arith, z, short)) opened_at gap follows quiet) (rest (position_after past (58 ∷ []) next) (omega (arith, z, at_c))))))

@@ -5,6 +5,8 @@ use Rattle.defs_token.specs.Key.{Line}
 use Rattle.defs_token.specs.FlowEntry as flow
 use Rattle.proof_layout_tokens.proofs.Rows.Steps.{at, step_of, Steps}
 use Rattle.proof_layout_tokens.proofs.Rows.Nodes.{IsDeep, low, Parts, indented, kind_of, awaiting, same_line, or_true}
+use Rattle.proof_layout_tokens.proofs.Nul.{quoted_none}
+use Rattle.defs_layout.specs.QuotedText as laid
 
 -- an entry without a single pair
 abbrev pub entry_of : (is_object : Bool) → Had → Entry
@@ -47,6 +49,7 @@ module _ (bs f next : List ℕ) (p : Position) (awaits : Bool) (l : Line) (line 
       stands = rw (indented before bs awaits f parts, low bs awaits (here (125 ∷ [])).col deep, no_comment) refl;
       leads = rw (same_line (begins_free_line before f) l line, entry_ends es h ends, line, and_false (has_break (125 ∷ []))) refl;
       begins = λ past colon. refl;
+      none = (parts.none, refl);
     }
     close_at false h ends no_comment deep = record {
       is_separated = parts.separates (93 ∷ next);
@@ -54,6 +57,7 @@ module _ (bs f next : List ℕ) (p : Position) (awaits : Bool) (l : Line) (line 
       stands = rw (indented before bs awaits f parts, low bs awaits (here (93 ∷ [])).col deep, no_comment) refl;
       leads = rw (same_line (begins_free_line before f) l line, entry_ends es h ends, line, and_false (has_break (93 ∷ []))) refl;
       begins = λ past colon. refl;
+      none = (parts.none, refl);
     }
 
     pub comma_at : (b : Bool) (h : Had) → is_keyed h ≡ false → begins_with 35 next ≡ false → IsDeep bs (here (44 ∷ []))
@@ -64,6 +68,7 @@ module _ (bs f next : List ℕ) (p : Position) (awaits : Bool) (l : Line) (line 
       stands = rw (indented before bs awaits f parts, low bs awaits (here (44 ∷ [])).col deep, no_comment) refl;
       leads = rw (same_line (begins_free_line before f) l line, entry_ends (first_entry (kind_of b) ∷ es) h ends, line, and_false (has_break (44 ∷ []))) refl;
       begins = λ past colon. refl;
+      none = (parts.none, refl);
     }
 
   module _ (es : List Entry) where
@@ -76,6 +81,7 @@ module _ (bs f next : List ℕ) (p : Position) (awaits : Bool) (l : Line) (line 
       stands = rw (indented another bs awaits f parts, low bs awaits (here (34 ∷ (w ++ 34 ∷ []))).col deep, further, precede) refl;
       leads = rw (same_line (has_break f) l line, line, and_false (has_break (34 ∷ (w ++ 34 ∷ [])))) refl;
       begins = λ past colon. refl;
+      none = (parts.none, quoted_none laid.double w text is);
     }
 
     pub colon_at : (begin : Position) → colon_may_precede next ≡ true → IsDeep bs (here (58 ∷ []))
@@ -86,4 +92,5 @@ module _ (bs f next : List ℕ) (p : Position) (awaits : Bool) (l : Line) (line 
       stands = rw (indented quoted_scalar bs awaits f parts, low bs awaits (here (58 ∷ [])).col deep, follows) refl;
       leads = rw (same_line (has_break f) l line, line, and_false (has_break (58 ∷ []))) refl;
       begins = λ past colon. refl;
+      none = (parts.none, refl);
     }

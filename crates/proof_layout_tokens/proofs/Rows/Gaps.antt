@@ -4,6 +4,7 @@ use Rattle.defs_layout.specs.JsonGap.{spell_gap}
 use Rattle.proof_layout_tokens.proofs.Json.OnOneLine.{AreSpaces}
 use Rattle.proof_layout_tokens.proofs.Rows.Nodes.{IsDeep, Parts, or_true}
 use Rattle.proof_layout_tokens.proofs.Rows.Flow.{closing_bracket}
+use Rattle.proof_layout_tokens.proofs.Nul.{HasNone}
 
 -- the white space as text
 abbrev pub white : List Blank → List ℕ
@@ -22,6 +23,10 @@ unfolding is_blank is_break
 separates [] next = refl
 separates (b ∷ g) next = grind (arith, separates g next)
 
+pub white_none : (g : List Blank) → HasNone (white g)
+white_none [] = refl
+white_none (b ∷ g) = grind (arith, white_none g)
+
 one_line : (g : List Blank) → AreSpaces g → split (white g) ≡ record { complete = []; last = white g }
 unfolding is_break
 one_line [] h = refl
@@ -33,7 +38,7 @@ no_tab (suc n) [] h = refl
 no_tab (suc n) (b ∷ g) h = grind (arith, no_tab n g)
 
 pub parts : (bs : List ℕ) (g : List Blank) → MayStand bs g → Parts bs (white g)
-parts bs g may = record { separates = separates g; tabless = by bs may }
+parts bs g may = record { separates = separates g; tabless = by bs may; none = white_none g }
   where
     by : (bs : List ℕ) → MayStand bs g → (awaits : Bool) → has_tab_within (least_column bs awaits) (last_line (white g)) ≡ false
     by a may b = grind (arith, one_line, no_tab)

@@ -1,51 +1,28 @@
 -- JSON values have rows.
-use Rattle.proof_layout_tokens.proofs.Common.{[], Account, act_of, and_from, and_parts, another, are_pieces, AreElements, AreMembers, arith, array, begins_with, begun_by, Blank, Bool, codes, colon_may_precede, element, element_levels, element_tokens, Elements, empty_array, empty_object, Entry, false, false_word, filled, flow_collection, fresh, further_lines_stand, gives_node, Had, has_no_break, inl, innermost, innermost_column, is_break, is_empty, is_flow, is_keyed, is_waiting, IsJson, IsJsonGap, IsShown, Json, json_tokens, last_element, last_member, length, length-map, level_of, levels, List, list_all, map, may_precede, member, member_levels, member_tokens, Members, nat_lt, nat_tests, null_word, object, Piece, plain_scalar, Position, position_after, Previous, previous_by, quoted_scalar, refl, settled, Some, spell, spell_elements, spell_members, spell_number, spell_string, string, string_token, Style, Tok, true, true_word, ℕ, ◌++◌, ◌+◌, ◌<◌, ◌==◌, ◌∷◌, ◌≡◌, ◌≤◌}
+use Rattle.proof_layout_tokens.proofs.Common.{[], Account, act_of, and_from, and_parts, another, are_pieces, AreElements, AreMembers, arith, array, begins_with, begun_by, Blank, Bool, codes, colon_may_precede, element, element_levels, element_tokens, Elements, empty_array, empty_object, Entry, false, false_word, filled, flow_collection, fresh, further_lines_stand, gives_node, Had, has_no_break, inl, innermost, innermost_column, is_break, is_empty, is_flow, is_keyed, is_waiting, IsJson, IsJsonGap, IsShown, Json, json_tokens, last_element, last_member, length, length-map, level_of, levels, List, list_all, map, may_precede, member, member_levels, member_tokens, Members, nat_lt, nat_tests, null_word, object, Piece, plain_scalar, Position, position_after, Previous, previous_by, quoted_scalar, refl, settled, Some, spell, spell_elements, spell_members, spell_number, spell_string, string, string_token, Style, Tok, true, true_word, unescaped, ℕ, ◌++◌, ◌+◌, ◌<◌, ◌∷◌, ◌≡◌, ◌≤◌}
 use Rattle.defs_token.specs.Key.{Line}
 use Rattle.defs_token.specs.RowAccount as accounts
 use Rattle.defs_layout.specs.Json.{number}
 use Rattle.defs_layout.specs.JsonGap.{spell_gap}
-use Rattle.proof_layout_tokens.proofs.Json.Words.{is_word, are_words, begins_word, IsWord}
 use Rattle.proof_layout_tokens.proofs.Json.Numbers.{number_then, number_word}
 use Rattle.proof_layout_tokens.proofs.Json.OnOneLine.{HasSpaces, HaveSpaces, MembersHaveSpaces}
-use Rattle.proof_layout_tokens.proofs.PlainTexts.{is_plain_char, are_plain, closes, IsPlainText, is_first, is_second}
+use Rattle.proof_layout_tokens.proofs.PlainTexts.{is_word, are_words, IsWord, word_text}
 use Rattle.proof_layout_tokens.proofs.Rows.Steps.{Reads, at, step_of, site_of, step}
 use Rattle.proof_layout_tokens.proofs.Rows.Nodes.{IsDeep, none_ends, Parts, Quiet, Place, outside, within, awaiting, entries_before, entries_after, line_after, node_step}
 use Rattle.proof_layout_tokens.proofs.Rows.Flow.{opening, closing, opening_bracket, closing_bracket, entry_of, close_at, comma_at, key_at, colon_at}
 use Rattle.proof_layout_tokens.proofs.Rows.Gaps.{white, MayStand, parts, deep_gap, deep_piece, Ends, comma_ends, closing_ends, colon_follows, no_comment_past, IsSolid, solid_past, colon_stands}
 use Rattle.proof_layout_tokens.proofs.Rows.Gaps
-use Rattle.proof_layout_tokens.proofs.Rows.Plain.{is_in_flow, MayFlow, IsPlainPiece, plain_piece}
+use Rattle.proof_layout_tokens.proofs.Rows.Plain.{is_in_flow, IsPlainPiece, plain_piece}
 use Rattle.proof_layout_tokens.proofs.Rows.Strings.{body_of, quoted, quoted_is, value_is, lines_fit, quoted_no_break}
+use Rattle.proof_layout_tokens.proofs.Nul.{HasNone, quoted_none}
+use Rattle.defs_layout.specs.QuotedText as laid
 
 -- ---- words and numbers
 
-word_plain : (c : ℕ) → is_word c ≡ true → (is_plain_char c ≡ true) × (is_in_flow c ≡ true) × ((c == 32) ≡ false)
+words_flow : (w : List ℕ) → are_words w ≡ true → list_all is_in_flow w ≡ true
 unfolding is_flow
-word_plain c h = (grind (arith, nat_tests), grind (arith, nat_tests), grind (arith, nat_tests))
-
-word_first : (c : ℕ) → is_word c ≡ true → (c == 46) ≡ false → is_first c ≡ true
-word_first c h e = grind (arith, nat_tests)
-
-words_plain : (w : List ℕ) → are_words w ≡ true → (are_plain w ≡ true) × (list_all is_in_flow w ≡ true) × (closes false w ≡ true)
-words_plain [] h = (refl, refl, refl)
-words_plain (c ∷ w) h =
-    let q = and_parts (is_word c) (are_words w) h in
-    let z = word_plain c q.0 in
-    let r = words_plain w q.1 in
-    (and_from _ _ z.0 r.0, and_from _ _ z.1 r.1, rw (z.2) (r.2))
-
-word_text : (w : List ℕ) → IsWord w → IsPlainText w
-word_text [] word = cc (word.begins)
-word_text (c ∷ w) word =
-    let q = and_parts (is_word c) (are_words w) word.chars in
-    let r = words_plain w q.1 in
-    let s = second w word.chars word.begins in
-    record { head = c; tail = w; whole = refl; first = word_first c q.0 s.0; second = s.1; chars = r.0; close = r.2 }
-  where
-    second : (w : List ℕ) → are_words (c ∷ w) ≡ true → begins_word (c ∷ w) ≡ true → ((c == 46) ≡ false) × (is_second c w ≡ true)
-    second a h e = grind arith
-
-word_flows : (in_flow : Bool) (w : List ℕ) → IsWord w → MayFlow in_flow w
-word_flows in_flow w word = λ e. (words_plain w word.chars).1
+words_flow [] h = refl
+words_flow (c ∷ w) h = let q = and_parts (is_word c) (are_words w) h in and_from _ _ (let e = q.0 in grind (arith, nat_tests)) (words_flow w q.1)
 
 -- ---- what a value begins with
 
@@ -87,35 +64,35 @@ module _ (bs : List ℕ) where
   plain_shown (within b es) p awaits l f w next deep z = rw (column_is bs) (z.some, ((z.begins false _, z.whole, z.value), refl))
 
   -- a text whose first piece is a node, after a separation
-  pub node_goes : (t : Tok) (w : List ℕ) → act_of t ≡ gives_node → has_no_break w ≡ true → (pl : Place) (p : Position) (awaits : Bool) (l : Line) (f r : List ℕ) (tokens : List Tok) → is_waiting l ≡ false → Parts bs f → IsDeep bs (position_after p f (w ++ r))
+  pub node_goes : (t : Tok) (w : List ℕ) → act_of t ≡ gives_node → has_no_break w ≡ true → HasNone w → (pl : Place) (p : Position) (awaits : Bool) (l : Line) (f r : List ℕ) (tokens : List Tok) → is_waiting l ≡ false → Parts bs f → IsDeep bs (position_after p f (w ++ r))
       → IsShown (from p awaits l (entries_before pl)) (site_of (from p awaits l (entries_before pl)) (step_of f w t false) r) (step_of f w t false) r
       → ((column : ℕ) → further_lines_stand column t w ≡ true) → may_precede (flows pl) bs t w r ≡ true
       → ((p : Position) (awaits : Bool) → IsDeep bs p → Reads (at p bs awaits (previous_by t) (line_after pl l) (entries_after pl (begun_by t))) r tokens)
       → Reads (from p awaits l (entries_before pl)) (f ++ (w ++ r)) (t ∷ tokens)
-  node_goes t w node one_line pl p awaits l f r tokens line separation there shown further precede rest =
-      step (step_of f w t false) r (node_step bs f w r t node pl p awaits l line there separation shown (further _) precede) (rest _ _ (deep_piece bs w _ r one_line there))
+  node_goes t w node one_line none pl p awaits l f r tokens line separation there shown further precede rest =
+      step (step_of f w t false) r (node_step bs f w r t node pl p awaits l line there separation none shown (further _) precede) (rest _ _ (deep_piece bs w _ r one_line there))
 
   -- after white space
-  node_reads : (t : Tok) (w : List ℕ) → act_of t ≡ gives_node → has_no_break w ≡ true → (pl : Place) (p : Position) (awaits : Bool) (l : Line) (g : List Blank) (r : List ℕ) (tokens : List Tok) → is_waiting l ≡ false → IsDeep bs p → MayStand bs g
+  node_reads : (t : Tok) (w : List ℕ) → act_of t ≡ gives_node → has_no_break w ≡ true → HasNone w → (pl : Place) (p : Position) (awaits : Bool) (l : Line) (g : List Blank) (r : List ℕ) (tokens : List Tok) → is_waiting l ≡ false → IsDeep bs p → MayStand bs g
       → (IsDeep bs (position_after p (white g) (w ++ r)) → IsShown (from p awaits l (entries_before pl)) (site_of (from p awaits l (entries_before pl)) (step_of (white g) w t false) r) (step_of (white g) w t false) r)
       → ((column : ℕ) → further_lines_stand column t w ≡ true) → may_precede (flows pl) bs t w r ≡ true
       → ((p : Position) (awaits : Bool) → IsDeep bs p → Reads (at p bs awaits (previous_by t) (line_after pl l) (entries_after pl (begun_by t))) r tokens)
       → Reads (from p awaits l (entries_before pl)) (spell_gap g (w ++ r)) (t ∷ tokens)
-  node_reads t w node one_line pl p awaits l g r tokens line deep may shown further precede rest =
+  node_reads t w node one_line none pl p awaits l g r tokens line deep may shown further precede rest =
       let there = deep_gap bs g p (w ++ r) may deep in
-      rw (Gaps.spelt g (w ++ r)) (node_goes t w node one_line pl p awaits l (white g) r tokens line (parts bs g may) there (shown there) further precede rest)
+      rw (Gaps.spelt g (w ++ r)) (node_goes t w node one_line none pl p awaits l (white g) r tokens line (parts bs g may) there (shown there) further precede rest)
 
   word_reads : (w : List ℕ) → IsWord w → (pl : Place) (p : Position) (awaits : Bool) (l : Line) (g : List Blank) (r : List ℕ) (tokens : List Tok) → is_waiting l ≡ false → IsDeep bs p → MayStand bs g → Ends (flows pl) (innermost bs) r
       → Then bs (line_after pl l) (entries_after pl []) r tokens → Reads (from p awaits l (entries_before pl)) (spell_gap g (w ++ r)) (Tok.scalar Style.plain w ∷ tokens)
   word_reads w word pl p awaits l g r tokens line deep may ends rest =
-      let z = plain_piece (flows pl) (innermost bs) w r (word_text w word) (word_flows (flows pl) w word) ends.stopped in
-      node_reads (Tok.scalar Style.plain w) w refl z.no_break pl p awaits l g r tokens line deep may (λ there. plain_shown pl p awaits l (white g) w r there z) z.fits (rw (z.no_dash) refl) (λ p awaits. rest p awaits plain_scalar (λ f. refl))
+      let z = plain_piece (flows pl) (innermost bs) w r (word_text w word) (λ e. words_flow w word.chars) ends.stopped in
+      node_reads (Tok.scalar Style.plain w) w refl z.no_break z.none pl p awaits l g r tokens line deep may (λ there. plain_shown pl p awaits l (white g) w r there z) z.fits (rw (z.no_dash) refl) (λ p awaits. rest p awaits plain_scalar (λ f. refl))
 
   string_reads : (ps : List Piece) → are_pieces ps ≡ true → (pl : Place) (p : Position) (awaits : Bool) (l : Line) (g : List Blank) (r : List ℕ) (tokens : List Tok) → is_waiting l ≡ false → IsDeep bs p → MayStand bs g → Ends (flows pl) (innermost bs) r
       → Then bs (line_after pl l) (entries_after pl []) r tokens → Reads (from p awaits l (entries_before pl)) (spell_gap g (spell_string ps r)) (string_token ps ∷ tokens)
   string_reads ps are pl p awaits l g r tokens line deep may ends rest =
       rw (quoted_is ps r)
-      (node_reads (string_token ps) (quoted ps) refl (quoted_no_break ps are) pl p awaits l g r tokens line deep may (λ there. (refl, ((body_of ps, refl, value_is ps are), refl))) (λ column. lines_fit column ps are) (ends.done (quoted ps)) (λ p awaits. rest p awaits quoted_scalar (λ f. refl)))
+      (node_reads (string_token ps) (quoted ps) refl (quoted_no_break ps are) (quoted_none laid.double (body_of ps) (unescaped ps) (value_is ps are)) pl p awaits l g r tokens line deep may (λ there. (refl, ((body_of ps, refl, value_is ps are), refl))) (λ column. lines_fit column ps are) (ends.done (quoted ps)) (λ p awaits. rest p awaits quoted_scalar (λ f. refl)))
 
   few : (es : List Entry) → length es < 255 → nat_lt (length (map level_of es)) 255 ≡ true
   few es h = rw length-map (grind (arith, h))
@@ -125,10 +102,10 @@ module _ (bs : List ℕ) where
       → ((p : Position) (awaits : Bool) → IsDeep bs p → Reads (from p awaits (line_after pl l) (entry_of b fresh ∷ entries_after pl [])) r tokens)
       → Reads (from p awaits l (entries_before pl)) (f ++ opening_bracket b ∷ r) (opening b ∷ tokens)
   unfolding is_break
-  opens_at true outside p awaits l f r tokens line separation there no_comment room rest = node_goes Tok.flow_mapping_start (123 ∷ []) refl refl outside p awaits l f r tokens line separation there (refl, inl ((refl, few [] room), refl)) (λ column. refl) (rw no_comment refl) rest
-  opens_at false outside p awaits l f r tokens line separation there no_comment room rest = node_goes Tok.flow_sequence_start (91 ∷ []) refl refl outside p awaits l f r tokens line separation there (refl, ((refl, few [] room), refl)) (λ column. refl) (rw no_comment refl) rest
-  opens_at true (within c es) p awaits l f r tokens line separation there no_comment room rest = node_goes Tok.flow_mapping_start (123 ∷ []) refl refl (within c es) p awaits l f r tokens line separation there (refl, inl ((refl, few (awaiting c ∷ es) room), refl)) (λ column. refl) (rw no_comment refl) rest
-  opens_at false (within c es) p awaits l f r tokens line separation there no_comment room rest = node_goes Tok.flow_sequence_start (91 ∷ []) refl refl (within c es) p awaits l f r tokens line separation there (refl, ((refl, few (awaiting c ∷ es) room), refl)) (λ column. refl) (rw no_comment refl) rest
+  opens_at true outside p awaits l f r tokens line separation there no_comment room rest = node_goes Tok.flow_mapping_start (123 ∷ []) refl refl refl outside p awaits l f r tokens line separation there (refl, inl ((refl, few [] room), refl)) (λ column. refl) (rw no_comment refl) rest
+  opens_at false outside p awaits l f r tokens line separation there no_comment room rest = node_goes Tok.flow_sequence_start (91 ∷ []) refl refl refl outside p awaits l f r tokens line separation there (refl, ((refl, few [] room), refl)) (λ column. refl) (rw no_comment refl) rest
+  opens_at true (within c es) p awaits l f r tokens line separation there no_comment room rest = node_goes Tok.flow_mapping_start (123 ∷ []) refl refl refl (within c es) p awaits l f r tokens line separation there (refl, inl ((refl, few (awaiting c ∷ es) room), refl)) (λ column. refl) (rw no_comment refl) rest
+  opens_at false (within c es) p awaits l f r tokens line separation there no_comment room rest = node_goes Tok.flow_sequence_start (91 ∷ []) refl refl refl (within c es) p awaits l f r tokens line separation there (refl, ((refl, few (awaiting c ∷ es) room), refl)) (λ column. refl) (rw no_comment refl) rest
 
   opens : (b : Bool) (pl : Place) (p : Position) (awaits : Bool) (l : Line) (g : List Blank) (r : List ℕ) (tokens : List Tok) → is_waiting l ≡ false → IsDeep bs p → MayStand bs g → begins_with 35 r ≡ false → length (entries_before pl) < 255
       → ((p : Position) (awaits : Bool) → IsDeep bs p → Reads (from p awaits (line_after pl l) (entry_of b fresh ∷ entries_after pl [])) r tokens)

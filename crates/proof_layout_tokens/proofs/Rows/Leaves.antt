@@ -9,6 +9,8 @@ use Rattle.proof_layout_tokens.proofs.Rows.Json.{column_is, node_goes}
 use Rattle.proof_layout_tokens.proofs.Rows.Plain.{IsPlainPiece, plain_piece}
 use Rattle.proof_layout_tokens.proofs.Rows.Quotes.{double_is, single_is}
 use Rattle.proof_layout_tokens.proofs.Rows.Trails.{Trail, next, marker, end, trail_text, IsTrail, IsLow, After, arrive, trail_ends}
+use Rattle.proof_layout_tokens.proofs.Nul.{HasNone, quoted_none}
+use Rattle.defs_layout.specs.QuotedText as laid
 
 -- ---- pieces
 
@@ -40,6 +42,12 @@ unfolding is_break
 scalar_no_break (plain t) h = (plain_is (spelling t) (spelt_plain t h)).no_break
 scalar_no_break (quoted text) h = quote_no_break 34 (written_escapes text) refl (double_is text).no_break
 scalar_no_break (single_quoted text) h = quote_no_break 39 (flat_map doubled text) refl (single_is text h).no_break
+
+pub scalar_none : (s : Scalar) → IsScalar s → HasNone (piece_of s)
+unfolding single_quoted_value double_quoted_value
+scalar_none (plain t) h = (plain_is (spelling t) (spelt_plain t h)).none
+scalar_none (quoted text) h = let z = double_is text in quoted_none laid.double (written_escapes text) text (value_is double_quoted_element (written_escapes text) text z.one_line z.no_break)
+scalar_none (single_quoted text) h = let z = single_is text h in quoted_none laid.single (flat_map doubled text) text (value_is single_quoted_element (flat_map doubled text) text z.one_line z.no_break)
 
 pub scalar_further : (s : Scalar) → IsScalar s → (column : ℕ) → further_lines_stand column (scalar_token s) (piece_of s) ≡ true
 scalar_further (plain t) h column = (plain_is (spelling t) (spelt_plain t h)).fits column
@@ -83,6 +91,6 @@ scalar_reads s h k t bs tokens p awaits l f remark trail low line lead rest =
     let ends = trail_ends k t bs trail low in
     let there = lead.deep (piece_of s ++ r) in
     rw (piece_spelt s r)
-    (node_goes bs (scalar_token s) (piece_of s) z.node (scalar_no_break s h) outside p awaits l f r tokens line lead.parts there
+    (node_goes bs (scalar_token s) (piece_of s) z.node (scalar_no_break s h) (scalar_none s h) outside p awaits l f r tokens line lead.parts there
     (scalar_shown s h p bs awaits another l f false r bs (none_ends bs _ there) ends.stopped (no_quote k t)) (scalar_further s h) (scalar_precedes s bs r (ends.done (piece_of s)))
     (λ q waits deep. rw (z.none) (arrive k t bs tokens q waits (previous_by (scalar_token s)) taken remark trail z.quiet refl rest)))

@@ -1,7 +1,9 @@
 -- Steps whose pieces are nodes, outside flow and in an entry of a JSON array or object.
-use Rattle.proof_layout_tokens.proofs.Common.{[], Account, act_of, and_false, another, arith, awaits_at, awaits_past, begins_free_line, begins_line, begun_by, Bool, Colon, Entry, false, filled, FlowKind, free, fresh, further_lines_stand, gives_node, has_break, has_tab_within, if◌then◌else◌, is_deeper, is_in_column, is_in_flow, is_indented_by_spaces, is_separation, is_waiting, IsShown, last_line, le-ltb, least_column, least_for, line_past, line_past_separation, List, mapping, may_precede, may_stand, nat_le, ne_eqb, no_pair, not, not_ended, Position, position_after, Previous, previous_by, refl, sequence, settled, Site, Some, taken, Tok, toks, true, ℕ, ◌++◌, ◌-◌, ◌||◌, ◌∷◌, ◌≡◌, ◌≤◌}
+use Rattle.proof_layout_tokens.proofs.Common.{[], Account, act_of, and_false, another, arith, awaits_at, awaits_past, begins_free_line, begins_line, begun_by, Bool, Colon, Entry, false, filled, FlowKind, free, fresh, further_lines_stand, gives_node, has_break, has_tab_within, if◌then◌else◌, is_deeper, is_in_column, is_in_flow, is_indented_by_spaces, is_separation, is_waiting, IsShown, last_line, le-ltb, least_column, least_for, line_past_separation, List, mapping, may_precede, may_stand, nat_le, ne_eqb, no_pair, not, not_ended, Position, position_after, Previous, previous_by, refl, sequence, settled, Some, taken, Tok, toks, true, ℕ, ◌++◌, ◌-◌, ◌∷◌, ◌≡◌, ◌≤◌}
 use Rattle.defs_token.specs.Key.{Line}
 use Rattle.proof_layout_tokens.proofs.Rows.Steps.{at, step_of, site_of, past_step, first_tokens, Steps}
+use Rattle.proof_layout_tokens.proofs.Nul.{HasNone}
+pub use Rattle.proof_lexers.proofs.Plain.Turns.{or_true}
 
 -- ---- columns
 
@@ -11,9 +13,6 @@ IsDeep bs p = least_column bs true ≤ p.col
 
 pub low : (bs : List ℕ) (awaits : Bool) (n : ℕ) → least_column bs true ≤ n → nat_le (least_column bs awaits) n ≡ true
 low a b n h = grind arith
-
-low_for : (t : Tok) (s : Site) → IsDeep s.blocks s.position → nat_le (least_for t s) s.position.col ≡ true
-low_for t s h = grind (arith, low)
 
 pub none_ends : (bs : List ℕ) (n : ℕ) → least_column bs true ≤ n → not_ended n bs ≡ bs
 none_ends a n h = grind (arith, le-ltb)
@@ -30,9 +29,7 @@ no_column a n h = grind (arith, ne_eqb)
 pub record Parts (bs : List ℕ) (f : List ℕ) : Type 0 where
   pub separates : (next : List ℕ) → is_separation false f next ≡ true
   pub tabless : (awaits : Bool) → has_tab_within (least_column bs awaits) (last_line f) ≡ false
-
-pub or_true : (b : Bool) → (b || true) ≡ true
-or_true a = grind arith
+  pub none : HasNone f
 
 pub indented : (before : Previous) (bs : List ℕ) (awaits : Bool) (f : List ℕ) → Parts bs f → is_indented_by_spaces before bs awaits f ≡ true
 indented before bs awaits f parts = rw (parts.tabless) (or_true (not (begins_line before f)))
@@ -82,9 +79,6 @@ outside_line true taken h = (free, refl, refl)
 outside_line true (Line.waits begin) h = cc
 outside_line false l h = (l, refl, h)
 
-node_line : (here : Position) (bs : List ℕ) (l : Line) → is_waiting l ≡ false → line_past false here bs gives_node false l ≡ Some (record { line = taken; blocks = bs })
-node_line a bs b h = grind arith
-
 pub no_less : (n : ℕ) → n - n ≡ 0
 no_less n = omega arith
 
@@ -111,21 +105,22 @@ module _ (bs f w next : List ℕ) (t : Tok) (node : act_of t ≡ gives_node) whe
   first a p b l deep past d = grind arith
 
   -- a piece that may stand here, before what may follow it
-  pub node_step : (pl : Place) (p : Position) (awaits : Bool) (l : Line) → is_waiting l ≡ false → IsDeep bs (here p) → Parts bs f
+  pub node_step : (pl : Place) (p : Position) (awaits : Bool) (l : Line) → is_waiting l ≡ false → IsDeep bs (here p) → Parts bs f → HasNone w
       → IsShown (at p bs awaits another l (entries_before pl)) (site_of (at p bs awaits another l (entries_before pl)) (step_of f w t false) next) (step_of f w t false) next
       → further_lines_stand (least_for t (site_of (at p bs awaits another l (entries_before pl)) (step_of f w t false) next)) t w ≡ true
       → may_precede (is_in_flow (entries_before pl)) bs t w next ≡ true
       → Steps (at p bs awaits another l (entries_before pl)) (step_of f w t false) next (after_node pl p (now pl p awaits) l) []
-  node_step pl p awaits l line deep parts is_shown further precede = record {
+  node_step pl p awaits l line deep parts none is_shown further precede = record {
     is_separated = parts.separates (w ++ next);
     is_shown = is_shown;
     stands = stand pl further precede;
     leads = leads pl p awaits l line deep;
     begins = first pl p awaits l deep;
+    none = (parts.none, none);
   }
     where
       stand : (pl : Place) → further_lines_stand (least_for t (site_of (at p bs awaits another l (entries_before pl)) (step_of f w t false) next)) t w ≡ true
           → may_precede (is_in_flow (entries_before pl)) bs t w next ≡ true
           → may_stand (is_in_flow (entries_before pl)) (at p bs awaits another l (entries_before pl)).site (site_of (at p bs awaits another l (entries_before pl)) (step_of f w t false) next) f w t next ≡ true
       stand outside further precede = rw (indented another bs awaits f parts, further, node, none_ends bs (here p).col deep, precede) refl
-      stand (within b es) further precede = rw (indented another bs awaits f parts, node, low_for t (site_of (at p bs awaits another l (awaiting b ∷ es)) (step_of f w t false) next) deep, further, precede) refl
+      stand (within b es) further precede = let low_for : nat_le (least_for t (site_of (at p bs awaits another l (awaiting b ∷ es)) (step_of f w t false) next)) (site_of (at p bs awaits another l (awaiting b ∷ es)) (step_of f w t false) next).position.col ≡ true = grind (arith, low) in rw (indented another bs awaits f parts, node, low_for, further, precede) refl

@@ -1,8 +1,9 @@
 -- Plain scalars on one line, by the definition of pieces.
-use Rattle.proof_layout_tokens.proofs.Common.{[], after_blank, and_false, and_from, and_parts, are_marks, arith, begins_plain, Bool, codes, content, ends_plain, ends_with_content, ends_with_dash, false, goes_on, has_dash_before_flow, has_no_break, inside, is_blank, is_blank_or_end, is_break, is_document_marker, is_empty, is_flow, is_nul, is_one_of, is_whole_plain, List, list_all, may_begin, nat_tests, None, not, not-true, Option, plain_element, plain_lines_fit, plain_value, refl, Some, split, Stand, stops, true, ℕ, ◌&&◌, ◌++◌, ◌==◌, ◌||◌, ◌∷◌, ◌≡◌}
+use Rattle.proof_layout_tokens.proofs.Common.{[], after_blank, and_false, and_from, and_parts, are_marks, arith, begins_plain, Bool, codes, content, ends_plain, ends_with_content, ends_with_dash, false, goes_on, has_dash_before_flow, has_no_break, inside, is_blank, is_blank_or_end, is_break, is_document_marker, is_empty, is_flow, is_nul, is_one_of, is_whole_plain, List, list_all, may_begin, nat_tests, not, not-true, Option, plain_element, plain_lines_fit, plain_value, refl, Some, split, Stand, stops, true, ℕ, ◌&&◌, ◌++◌, ◌==◌, ◌||◌, ◌∷◌, ◌≡◌}
 use Rattle.defs_text.specs.FlowScalar.{blank}
 use Rattle.proof_layout_tokens.proofs.Rows.OneLine.{IsOneLine, nothing, with_content, with_blank, value_is}
 use Rattle.proof_layout_tokens.proofs.PlainTexts.{is_plain_char, are_plain, closes, IsPlainText, is_first, is_second, first_space}
+use Rattle.proof_layout_tokens.proofs.Nul.{HasNone}
 
 pub record PlainChar (c : ℕ) : Type 0 where
   pub break : is_break c ≡ false
@@ -27,6 +28,11 @@ no_break : (w : List ℕ) → are_plain w ≡ true → has_no_break w ≡ true
 no_break [] h = refl
 no_break (c ∷ w) h = let q = and_parts (is_plain_char c) (are_plain w) h in rw ((plain_char c q.0).break) (no_break w q.1)
 
+no_nul : (w : List ℕ) → are_plain w ≡ true → HasNone w
+unfolding is_nul
+no_nul [] h = refl
+no_nul (c ∷ w) h = let q = and_parts (is_plain_char c) (are_plain w) h in rw ((plain_char c q.0).nul) (no_nul w q.1)
+
 -- ---- the value
 
 elements_are : (w : List ℕ) → are_plain w ≡ true → IsOneLine plain_element w w
@@ -37,10 +43,6 @@ elements_are (c ∷ w) h = let q = and_parts (is_plain_char c) (are_plain w) h i
     by : (b : Bool) → PlainChar c → (c == 32) ≡ b → IsOneLine plain_element w w → IsOneLine plain_element (c ∷ w) (c ∷ w)
     by true p e z = record { all = blank c ∷ z.all; are = rw (p.break, p.blank, e, z.are) refl; in_line = with_blank c z.in_line }
     by false p e z = record { all = content c ∷ z.all; are = rw (p.break, p.blank, e, z.are) refl; in_line = with_content c z.in_line }
-
-value_of : (w : List ℕ) → are_plain w ≡ true → plain_value w ≡ Some w
-unfolding plain_value
-value_of w h = value_is plain_element w w (elements_are w h) (no_break w h)
 
 -- ---- its lines
 
@@ -58,18 +60,12 @@ module _ (in_flow : Bool) (collection : Option ℕ) (next : List ℕ) where
   stand true = after_blank
   stand false = inside
 
-  no_flow : (c : ℕ) → (in_flow ≡ true → is_in_flow c ≡ true) → (in_flow && is_flow c) ≡ false
-  no_flow c may = grind (arith, not-true)
-
-  no_end : (b : Bool) (c : ℕ) (r : List ℕ) → PlainChar c → (in_flow && is_flow c) ≡ false → ends_plain in_flow collection (stand b) (c ∷ r) ≡ false
-  no_end a c r z flow = grind arith
-
   goes_over : (b : Bool) (w : List ℕ) → are_plain w ≡ true → MayFlow in_flow w → goes_on in_flow collection (stand b) w next ≡ true
   goes_over b [] h flow = refl
   goes_over b (c ∷ w) h flow =
       let q = and_parts (is_plain_char c) (are_plain w) h in
       let z = plain_char c q.0 in
-      by b (c == 32) refl z (no_end b c (w ++ next) z (no_flow c (λ e. (and_parts (is_in_flow c) (list_all is_in_flow w) (flow e)).0))) (goes_over (c == 32) w q.1 (λ e. (and_parts (is_in_flow c) (list_all is_in_flow w) (flow e)).1))
+      by b (c == 32) refl z (grind arith) (goes_over (c == 32) w q.1 (λ e. (and_parts (is_in_flow c) (list_all is_in_flow w) (flow e)).1))
     where
       by : (b d : Bool) → (c == 32) ≡ d → PlainChar c → ends_plain in_flow collection (stand b) (c ∷ (w ++ next)) ≡ false → goes_on in_flow collection (stand (c == 32)) w next ≡ true → goes_on in_flow collection (stand b) (c ∷ w) next ≡ true
       by a e g z i rest = grind arith
@@ -113,7 +109,8 @@ module _ (in_flow adjacent : Bool) (column : ℕ) where
           let q = and_parts (not ((c == 45) && (d == 45)) && not ((c == 46) && (d == 46))) (not ((c == 45) && (d == 32))) second in
           let n : (d == 32) ≡ false = rw e at (not-true ((c == 45) && (d == 32)) q.1) in
           let one = and_parts (is_plain_char d) (are_plain w) plain in
-          rw (e, no_gap d one.0 n, no_flow in_flow None [] d (λ i. (and_parts (is_in_flow d) (list_all is_in_flow w) (and_parts (is_in_flow c) (list_all is_in_flow (d ∷ w)) (flow i)).1).0)) refl
+          let no_flow : (in_flow && is_flow d) ≡ false = grind (arith, not-true) in
+          rw (e, no_gap d one.0 n, no_flow) refl
       by false e w second plain flow = let z = first_char c first in rw (e, z.2, (plain_char c z.0).colon, z.3, z.4) refl
 
 -- ---- the piece
@@ -127,6 +124,7 @@ pub record IsPlainPiece (in_flow : Bool) (collection : Option ℕ) (w next : Lis
   pub no_break : has_no_break w ≡ true
   pub some : not (is_empty w) ≡ true
   pub no_dash : (in_flow && has_dash_before_flow w next) ≡ false
+  pub none : HasNone w
 
 no_last_dash : (w : List ℕ) → are_plain w ≡ true → list_all is_in_flow w ≡ true → ends_with_dash w ≡ false
 no_last_dash [] h flow = refl
@@ -138,6 +136,7 @@ dashless : (in_flow : Bool) (w next : List ℕ) → are_plain w ≡ true → May
 dashless a w b h flow = grind (arith, no_last_dash)
 
 pub plain_piece : (in_flow : Bool) (collection : Option ℕ) (w next : List ℕ) → IsPlainText w → MayFlow in_flow w → stops in_flow collection inside next ≡ true → IsPlainPiece in_flow collection w next
+unfolding plain_value
 plain_piece in_flow collection w next text flow stops = rw (text.whole) (by (rw (text.whole) at flow))
   where
     c : ℕ
@@ -154,9 +153,10 @@ plain_piece in_flow collection w next text flow stops = rw (text.whole) (by (rw 
         record {
           begins = λ adjacent column. begins in_flow adjacent column c v next text.first text.second text.chars flow;
           whole = rw (goes_over in_flow collection next false v text.chars (λ e. (and_parts (is_in_flow c) (list_all is_in_flow v) (flow e)).1), full, stops) refl;
-          value = value_of (c ∷ v) all;
+          value = value_is plain_element (c ∷ v) (c ∷ v) (elements_are (c ∷ v) all) (no_break (c ∷ v) all);
           fits = λ column. lines_fit column (c ∷ v) (no_break (c ∷ v) all);
           no_break = no_break (c ∷ v) all;
           some = refl;
           no_dash = dashless in_flow (c ∷ v) next all flow;
+          none = no_nul (c ∷ v) all;
         }

@@ -1,65 +1,29 @@
 -- Texts in quotes as layouts write them, by the definition of their values: in double quotes with the written escapes, in single quotes with quotes doubled.
-use Rattle.proof_layout_tokens.proofs.Common.{[], and_parts, arith, Bool, codes, content, digit_value, double_quoted_element, doubled, eqb-true, escape, escaped_code, false, flat_map, has_no_break, hexadecimal_digit, if◌then◌else◌, is_blank, is_break, is_character_code, is_digit, is_line_character, is_nul, IsLineText, List, list_all, nat_lt, nat_tests, numeric_escape, plain_element, refl, single_quoted_element, Some, true, written_character, written_escapes, ℕ, ◌%◌, ◌*◌, ◌++◌, ◌+◌, ◌/◌, ◌<◌, ◌==◌, ◌||◌, ◌∷◌, ◌≡◌}
+use Rattle.proof_layout_tokens.proofs.Common.{[], and_parts, arith, Bool, codes, content, digit_value, doubled, eqb-true, escape, escaped_code, false, flat_map, hexadecimal_digit, if◌then◌else◌, is_blank, is_break, is_character_code, is_digit, is_line_character, is_nul, IsLineText, List, list_all, nat_lt, nat_tests, plain_element, refl, single_quoted_element, Some, true, written_character, written_escapes, ℕ, ◌%◌, ◌/◌, ◌<◌, ◌==◌, ◌||◌, ◌∷◌, ◌≡◌}
 use Rattle.defs_text.specs.FlowScalar.{blank}
-use Rattle.proof_layout_tokens.proofs.Rows.OneLine.{IsOneLine, nothing, with_content, with_blank}
-
--- a text and a body that it is the value of, on one line
-pub record IsBody (single : Bool) (body text : List ℕ) : Type 0 where
-  pub one_line : IsOneLine (if single then single_quoted_element else double_quoted_element) body text
-  pub no_break : has_no_break body ≡ true
+use Rattle.proof_layout_tokens.proofs.Rows.OneLine.{with_content, with_blank}
+use Rattle.proof_layout_tokens.proofs.Rows.Strings.{IsBody, Goes, Unescaped, nothing_is, itself_goes, named_goes, unicode_goes}
 
 -- ---- in double quotes
-
-hex_digit : (n : ℕ) → n < 16 → (is_digit (hexadecimal_digit n) 16 ≡ true) × (digit_value (hexadecimal_digit n) ≡ n) × (is_break (hexadecimal_digit n) ≡ false)
-unfolding is_break
-hex_digit n h = (grind (arith, nat_tests), grind (arith, nat_tests), grind (arith, nat_tests))
 
 is_code : (c : ℕ) → c < 128 → is_character_code c ≡ true
 unfolding is_character_code
 is_code c h = grind (arith, nat_tests)
 
-plain_character : (c : ℕ) → (nat_lt c 32 || (c == 127)) ≡ false → (is_nul c ≡ false) × (is_break c ≡ false) × (is_blank c ≡ (c == 32))
-unfolding is_nul is_break is_blank
-plain_character c h = (grind (arith, nat_tests), grind (arith, nat_tests), grind (arith, nat_tests))
-
-line_character : (c : ℕ) → is_line_character c ≡ true → (is_nul c ≡ false) × (is_break c ≡ false)
-unfolding is_nul is_break is_line_character
-line_character c h = (grind (arith, nat_tests), grind (arith, nat_tests))
-
-low_code : (c : ℕ) → (nat_lt c 32 || (c == 127)) ≡ true → c < 128
-low_code c h = grind (arith, nat_tests)
-
--- a character before a body
-abbrev Goes : Bool → List ℕ → ℕ → Type 0
-Goes single w c = (body text : List ℕ) → IsBody single body text → IsBody single (w ++ body) (c ∷ text)
+hex_digit : (n : ℕ) → n < 16 → (is_digit (hexadecimal_digit n) 16 ≡ true) × (digit_value (hexadecimal_digit n) ≡ n)
+hex_digit n h = (grind (arith, nat_tests), grind (arith, nat_tests))
 
 coded : (c : ℕ) → c < 128 → Goes false (escaped_code c) c
-unfolding double_quoted_element is_nul is_break escape numeric_escape
-coded c low body text z =
+coded c low =
     let high = hex_digit (c / 16) (omega (arith, low)) in
     let small = hex_digit (c % 16) (omega arith) in
-    let value : (((0 * 16 + 0) * 16 + 0) * 16 + digit_value (hexadecimal_digit (c / 16))) * 16 + digit_value (hexadecimal_digit (c % 16)) ≡ c = rw (high.1, small.1) (omega arith) in
-    record {
-      one_line = record { all = content c ∷ z.one_line.all; are = rw (high.0, small.0, value, is_code c low, z.one_line.are) refl; in_line = with_content c z.one_line.in_line };
-      no_break = rw (high.2, small.2) (z.no_break);
-    }
-
-itself_goes : (c : ℕ) → (c == 34) ≡ false → (c == 92) ≡ false → (nat_lt c 32 || (c == 127)) ≡ false → Goes false (c ∷ []) c
-unfolding double_quoted_element plain_element
-itself_goes c quote backslash low body text z = by (c == 32) refl (plain_character c low)
-  where
-    by : (b : Bool) → (c == 32) ≡ b → (is_nul c ≡ false) × (is_break c ≡ false) × (is_blank c ≡ (c == 32)) → IsBody false (c ∷ body) (c ∷ text)
-    by true e u = record { one_line = record { all = blank c ∷ z.one_line.all; are = rw (u.0, quote, backslash, u.1, u.2, e, z.one_line.are) refl; in_line = with_blank c z.one_line.in_line }; no_break = rw (u.1) (z.no_break) }
-    by false e u = record { one_line = record { all = content c ∷ z.one_line.all; are = rw (u.0, quote, backslash, u.1, u.2, e, z.one_line.are) refl; in_line = with_content c z.one_line.in_line }; no_break = rw (u.1) (z.no_break) }
+    unicode_goes 48 48 (hexadecimal_digit (c / 16)) (hexadecimal_digit (c % 16)) c (record { first = refl; second = refl; third = high.0; fourth = small.0; valid = is_code c low; value = rw (high.1, small.1) (omega arith) })
 
 named : (l x c : ℕ) → (c == x) ≡ true → is_break l ≡ false → ((body : List ℕ) → escape (l ∷ body) ≡ Some (record { element = content x; further = 1 })) → Goes false (92 ∷ l ∷ []) c
-unfolding double_quoted_element is_nul is_break
-named l x c e no_break is body text z =
-    let s : c ≡ x = eqb-true c x e in
-    rw s (record { one_line = record { all = content x ∷ z.one_line.all; are = rw (is body, z.one_line.are) refl; in_line = with_content x z.one_line.in_line }; no_break = rw no_break (z.no_break) })
+named l x c e no_break is = rw (eqb-true c x e) (named_goes l x no_break is)
 
 character_goes : (c : ℕ) → Goes false (written_character c) c
-unfolding written_character is_break escape
+unfolding written_character is_break escape is_nul is_blank
 character_goes c = by (c == 34) (c == 92) (c == 8) (c == 9) (c == 10) (c == 12) (c == 13) (nat_lt c 32 || (c == 127)) refl refl refl refl refl refl refl refl
   where
     by : (b0 b1 b2 b3 b4 b5 b6 b7 : Bool) → (c == 34) ≡ b0 → (c == 92) ≡ b1 → (c == 8) ≡ b2 → (c == 9) ≡ b3 → (c == 10) ≡ b4 → (c == 12) ≡ b5 → (c == 13) ≡ b6 → (nat_lt c 32 || (c == 127)) ≡ b7
@@ -73,12 +37,8 @@ character_goes c = by (c == 34) (c == 92) (c == 8) (c == 9) (c == 10) (c == 12) 
     by false false false false true b5 b6 b7 e0 e1 e2 e3 e4 e5 e6 e7 = named 110 10 c e4 refl (λ body. refl)
     by false false false false false true b6 b7 e0 e1 e2 e3 e4 e5 e6 e7 = named 102 12 c e5 refl (λ body. refl)
     by false false false false false false true b7 e0 e1 e2 e3 e4 e5 e6 e7 = named 114 13 c e6 refl (λ body. refl)
-    by false false false false false false false true e0 e1 e2 e3 e4 e5 e6 e7 = coded c (low_code c e7)
-    by false false false false false false false false e0 e1 e2 e3 e4 e5 e6 e7 = itself_goes c e0 e1 e7
-
-nothing_is : (single : Bool) → IsBody single [] []
-nothing_is true = record { one_line = record { all = []; are = refl; in_line = nothing }; no_break = refl }
-nothing_is false = record { one_line = record { all = []; are = refl; in_line = nothing }; no_break = refl }
+    by false false false false false false false true e0 e1 e2 e3 e4 e5 e6 e7 = coded c (grind (arith, nat_tests))
+    by false false false false false false false false e0 e1 e2 e3 e4 e5 e6 e7 = itself_goes c (record { nul = grind (arith, nat_tests); break = grind (arith, nat_tests); blank = grind (arith, nat_tests); backslash = e1; quote = e0 })
 
 pub double_is : (w : List ℕ) → IsBody false (written_escapes w) w
 double_is [] = nothing_is false
@@ -87,8 +47,8 @@ double_is (c ∷ w) = character_goes c (written_escapes w) w (double_is w)
 -- ---- in single quotes
 
 plain_goes : (c : ℕ) → is_line_character c ≡ true → (c == 39) ≡ false → Goes true (c ∷ []) c
-unfolding single_quoted_element plain_element
-plain_goes c h quote body text z = by (is_blank c) refl (line_character c h)
+unfolding single_quoted_element plain_element is_nul is_break is_line_character
+plain_goes c h quote body text z = by (is_blank c) refl (grind (arith, nat_tests), grind (arith, nat_tests))
   where
     by : (b : Bool) → is_blank c ≡ b → (is_nul c ≡ false) × (is_break c ≡ false) → IsBody true (c ∷ body) (c ∷ text)
     by true e u = record { one_line = record { all = blank c ∷ z.one_line.all; are = rw (u.0, quote, u.1, e, z.one_line.are) refl; in_line = with_blank c z.one_line.in_line }; no_break = rw (u.1) (z.no_break) }

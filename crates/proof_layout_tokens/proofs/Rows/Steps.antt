@@ -1,6 +1,7 @@
 -- Rows from an account on, given from their last step to their first.
 use Rattle.proof_layout_tokens.proofs.Common.{[], Account, account_past, ap, append_assoc, begins_free_line, Bool, Colon, Entry, false, is_in_flow, is_renewed, is_separation, IsRowFrom, IsShown, line_past_separation, List, map-append, may_stand, on_one_line, Option, past_piece, Position, Previous, Site, site_at, Some, spelled, Step, subst, sym, Tok, Token, tokens_before, tokens_from, toks, true, ℕ, ◌++◌, ◌∷◌, ◌≡◌}
 use Rattle.defs_token.specs.Key.{Line}
+use Rattle.proof_layout_tokens.proofs.Nul.{HasNone, both}
 
 -- From an account on a text has a row, with these tokens.
 pub record Reads (a : Account) (text : List ℕ) (tokens : List Tok) : Type 0 where
@@ -9,6 +10,7 @@ pub record Reads (a : Account) (text : List ℕ) (tokens : List Tok) : Type 0 wh
   pub is_text : spelled steps last ≡ text
   pub is_row : IsRowFrom (Some a) steps last
   pub are_tokens : toks (tokens_from (Some a) steps last) ≡ tokens
+  pub none : HasNone text
 
 -- an account by its parts
 abbrev pub at : Position → (blocks : List ℕ) → (awaits : Bool) → Previous → Line → List Entry → Account
@@ -38,6 +40,7 @@ pub record Steps (a : Account) (w : Step) (next : List ℕ) (b : Account) (first
   pub stands : may_stand (is_in_flow a.entries) a.site (site_of a w next) w.separation w.piece w.shown next ≡ true
   pub leads : past_step a w next ≡ Some b
   pub begins : (past : Position) (colon : Colon) → toks (first_tokens a w next past colon) ≡ first
+  pub none : HasNone w.separation × HasNone w.piece
 
 -- a step before a text that is read from the account after it
 pub step : {a b : Account} (w : Step) (next : List ℕ) {first tokens : List Tok} → Steps a w next b first → Reads b next tokens → Reads a (w.separation ++ (w.piece ++ next)) (first ++ (w.shown ∷ tokens))
@@ -52,4 +55,5 @@ step {a} {b} w next {first} {tokens} s z = by (subst (λ n. Steps a w n b first)
           is_text = ap (λ n. w.separation ++ (w.piece ++ n)) z.is_text;
           is_row = ((s.is_separated, s.is_shown), subst (λ o. IsRowFrom o z.steps z.last) (sym past) z.is_row);
           are_tokens = rw (past, map-append, map-append, s.begins, z.are_tokens) (append_assoc first (w.shown ∷ []) tokens);
+          none = both w.separation (w.piece ++ next) s.none.0 (both w.piece next s.none.1 z.none);
         }

@@ -1,5 +1,5 @@
 -- Strings of JSON texts as bodies in double quotes, by the definition of their value.
-use Rattle.proof_layout_tokens.proofs.Common.{[], and_parts, ap, append_assoc, are_pieces, arith, Bool, character_of, content, digit_value, double_quoted_element, double_quoted_value, elements, escape, false, four_digits, has_no_break, is_blank, is_break, is_character_code, is_digit, is_hex_digit, is_nul, is_piece, is_surrogate, is_unescaped, itself, letter_of, List, ltb-true, nat_tests, not, numeric_escape, Piece, plain_element, quoted_lines_fit, refl, Short, short, Some, spell_pieces, spell_string, sym, true, unescaped, unicode, ℕ, ◌&&◌, ◌*◌, ◌++◌, ◌+◌, ◌<◌, ◌==◌, ◌∙◌, ◌∷◌, ◌≡◌}
+use Rattle.proof_layout_tokens.proofs.Common.{[], and_parts, ap, append_assoc, are_pieces, arith, Bool, character_of, content, digit_value, double_quoted_element, double_quoted_value, escape, false, four_digits, has_no_break, if◌then◌else◌, is_blank, is_break, is_character_code, is_digit, is_hex_digit, is_nul, is_piece, is_surrogate, is_unescaped, itself, letter_of, List, ltb-true, nat_tests, not, numeric_escape, Piece, plain_element, quoted_lines_fit, refl, Short, short, single_quoted_element, Some, spell_pieces, spell_string, sym, true, unescaped, unicode, ℕ, ◌&&◌, ◌*◌, ◌++◌, ◌+◌, ◌<◌, ◌==◌, ◌∙◌, ◌∷◌, ◌≡◌}
 use Rattle.defs_text.specs.FlowScalar.{blank}
 use Rattle.proof_layout_tokens.proofs.Rows.OneLine.{IsOneLine, nothing, with_content, with_blank}
 use Rattle.proof_layout_tokens.proofs.Rows.OneLine
@@ -23,18 +23,15 @@ digit_break : (c : ℕ) → is_digit c 16 ≡ true → is_break c ≡ false
 unfolding is_break
 digit_break c h = grind (arith, nat_tests)
 
-record Code (a b c d : ℕ) : Type 0 where
-  first : is_digit a 16 ≡ true
-  second : is_digit b 16 ≡ true
-  third : is_digit c 16 ≡ true
-  fourth : is_digit d 16 ≡ true
-  valid : is_character_code ((((0 * 16 + digit_value a) * 16 + digit_value b) * 16 + digit_value c) * 16 + digit_value d) ≡ true
-  value : (((0 * 16 + digit_value a) * 16 + digit_value b) * 16 + digit_value c) * 16 + digit_value d ≡ four_digits a b c d
+pub record Code (a b c d v : ℕ) : Type 0 where
+  pub first : is_digit a 16 ≡ true
+  pub second : is_digit b 16 ≡ true
+  pub third : is_digit c 16 ≡ true
+  pub fourth : is_digit d 16 ≡ true
+  pub valid : is_character_code v ≡ true
+  pub value : (((0 * 16 + digit_value a) * 16 + digit_value b) * 16 + digit_value c) * 16 + digit_value d ≡ v
 
-value_of_digits : (a b c d : ℕ) → (((0 * 16 + a) * 16 + b) * 16 + c) * 16 + d ≡ a * 4096 + b * 256 + c * 16 + d
-value_of_digits a b c d = omega arith
-
-code : (a b c d : ℕ) → is_piece (unicode a b c d) ≡ true → Code a b c d
+code : (a b c d : ℕ) → is_piece (unicode a b c d) ≡ true → Code a b c d (four_digits a b c d)
 code a b c d h =
     let valid = and_parts (is_hex_digit a && is_hex_digit b && is_hex_digit c && is_hex_digit d) (not (is_surrogate (four_digits a b c d))) h in
     let fourth = and_parts (is_hex_digit a && is_hex_digit b && is_hex_digit c) (is_hex_digit d) valid.0 in
@@ -44,62 +41,69 @@ code a b c d h =
     let f = small_digit b second.1 in
     let g = small_digit c third.1 in
     let k = small_digit d fourth.1 in
-    let same = value_of_digits (digit_value a) (digit_value b) (digit_value c) (digit_value d) in
-    record { first = second.0; second = second.1; third = third.1; fourth = fourth.1; valid = rw same (is_code (four_digits a b c d) (omega arith) valid.1); value = same }
+    let same : (((0 * 16 + (digit_value a)) * 16 + (digit_value b)) * 16 + (digit_value c)) * 16 + (digit_value d) ≡ (digit_value a) * 4096 + (digit_value b) * 256 + (digit_value c) * 16 + (digit_value d) = omega arith in
+    record { first = second.0; second = second.1; third = third.1; fourth = fourth.1; valid = is_code (four_digits a b c d) (omega arith) valid.1; value = same }
 
-record Unescaped (c : ℕ) : Type 0 where
-  nul : is_nul c ≡ false
-  break : is_break c ≡ false
-  blank : is_blank c ≡ (c == 32)
-  backslash : (c == 92) ≡ false
-  quote : (c == 34) ≡ false
+pub record Unescaped (c : ℕ) : Type 0 where
+  pub nul : is_nul c ≡ false
+  pub break : is_break c ≡ false
+  pub blank : is_blank c ≡ (c == 32)
+  pub backslash : (c == 92) ≡ false
+  pub quote : (c == 34) ≡ false
 
 unescaped_char : (c : ℕ) → is_unescaped c ≡ true → Unescaped c
 unfolding is_unescaped is_break is_blank is_nul
 unescaped_char c h = record { nul = grind (arith, nat_tests); break = grind (arith, nat_tests); blank = grind (arith, nat_tests); backslash = grind (arith, nat_tests); quote = grind (arith, nat_tests) }
 
-abbrev IsString : List Piece → Type 0
-IsString ps = IsOneLine double_quoted_element (body_of ps) (unescaped ps)
+-- a text and a body that it is the value of, on one line
+pub record IsBody (single : Bool) (body text : List ℕ) : Type 0 where
+  pub one_line : IsOneLine (if single then single_quoted_element else double_quoted_element) body text
+  pub no_break : has_no_break body ≡ true
 
-itself_goes : (c : ℕ) (ps : List Piece) → is_unescaped c ≡ true → IsString ps → IsString (itself c ∷ ps)
+-- a character before a body
+abbrev pub Goes : Bool → List ℕ → ℕ → Type 0
+Goes single w c = (body text : List ℕ) → IsBody single body text → IsBody single (w ++ body) (c ∷ text)
+
+pub nothing_is : (single : Bool) → IsBody single [] []
+nothing_is true = record { one_line = record { all = []; are = refl; in_line = nothing }; no_break = refl }
+nothing_is false = record { one_line = record { all = []; are = refl; in_line = nothing }; no_break = refl }
+
+pub itself_goes : (c : ℕ) → Unescaped c → Goes false (c ∷ []) c
 unfolding double_quoted_element plain_element
-itself_goes c ps h z = by (c == 32) refl (unescaped_char c h)
+itself_goes c u body text z = by (c == 32) refl
   where
-    by : (b : Bool) → (c == 32) ≡ b → Unescaped c → IsString (itself c ∷ ps)
-    by true e u = record { all = blank c ∷ z.all; are = rw (u.nul, u.quote, u.backslash, u.break, u.blank, e, z.are) refl; in_line = with_blank c z.in_line }
-    by false e u = record { all = content c ∷ z.all; are = rw (u.nul, u.quote, u.backslash, u.break, u.blank, e, z.are) refl; in_line = with_content c z.in_line }
+    by : (b : Bool) → (c == 32) ≡ b → IsBody false (c ∷ body) (c ∷ text)
+    by true e = record { one_line = record { all = blank c ∷ z.one_line.all; are = rw (u.nul, u.quote, u.backslash, u.break, u.blank, e, z.one_line.are) refl; in_line = with_blank c z.one_line.in_line }; no_break = rw (u.break) (z.no_break) }
+    by false e = record { one_line = record { all = content c ∷ z.one_line.all; are = rw (u.nul, u.quote, u.backslash, u.break, u.blank, e, z.one_line.are) refl; in_line = with_content c z.one_line.in_line }; no_break = rw (u.break) (z.no_break) }
 
-short_goes : (s : Short) (ps : List Piece) → IsString ps → IsString (short s ∷ ps)
-unfolding double_quoted_element is_nul is_break escape
-short_goes s ps z = record { all = content (character_of s) ∷ z.all; are = by s; in_line = with_content (character_of s) z.in_line }
+-- an escape of one letter
+pub named_goes : (l x : ℕ) → is_break l ≡ false → ((body : List ℕ) → escape (l ∷ body) ≡ Some (record { element = content x; further = 1 })) → Goes false (92 ∷ l ∷ []) x
+unfolding double_quoted_element is_nul is_break
+named_goes l x no_break is body text z = record { one_line = record { all = content x ∷ z.one_line.all; are = rw (is body, z.one_line.are) refl; in_line = with_content x z.one_line.in_line }; no_break = rw no_break (z.no_break) }
+
+short_goes : (s : Short) → Goes false (92 ∷ letter_of s ∷ []) (character_of s)
+unfolding is_break escape
+short_goes s = named_goes (letter_of s) (character_of s) (by s) (names s)
   where
-    by : (s : Short) → elements double_quoted_element 0 (body_of (short s ∷ ps)) ≡ Some (content (character_of s) ∷ z.all)
-    by s = grind (arith, z.are)
+    by : (s : Short) → is_break (letter_of s) ≡ false
+    by s = grind arith
 
-unicode_goes : (a b c d : ℕ) (ps : List Piece) → is_piece (unicode a b c d) ≡ true → IsString ps → IsString (unicode a b c d ∷ ps)
+    names : (s : Short) (body : List ℕ) → escape (letter_of s ∷ body) ≡ Some (record { element = content (character_of s); further = 1 })
+    names s body = grind arith
+
+-- four hexadecimal digits
+pub unicode_goes : (a b c d v : ℕ) → Code a b c d v → Goes false (92 ∷ 117 ∷ a ∷ b ∷ c ∷ d ∷ []) v
 unfolding double_quoted_element is_nul is_break escape numeric_escape
-unicode_goes a b c d ps h z = let u = code a b c d h in record {
-  all = content (four_digits a b c d) ∷ z.all;
-  are = rw (u.first, u.second, u.third, u.fourth, u.valid, u.value, z.are) refl;
-  in_line = with_content (four_digits a b c d) z.in_line;
+unicode_goes a b c d v u body text z = record {
+  one_line = record { all = content v ∷ z.one_line.all; are = rw (u.first, u.second, u.third, u.fourth, u.value, u.valid, z.one_line.are) refl; in_line = with_content v z.one_line.in_line };
+  no_break = rw (digit_break a u.first, digit_break b u.second, digit_break c u.third, digit_break d u.fourth) (z.no_break);
 }
 
-string_is : (ps : List Piece) → are_pieces ps ≡ true → IsString ps
-string_is [] h = record { all = []; are = refl; in_line = nothing }
-string_is (itself c ∷ ps) h = let q = and_parts (is_piece (itself c)) (are_pieces ps) h in itself_goes c ps q.0 (string_is ps q.1)
-string_is (short s ∷ ps) h = short_goes s ps (string_is ps h)
-string_is (unicode a b c d ∷ ps) h = let q = and_parts (is_piece (unicode a b c d)) (are_pieces ps) h in unicode_goes a b c d ps q.0 (string_is ps q.1)
-
-short_break : (s : Short) (r : List ℕ) → has_no_break r ≡ true → has_no_break (92 ∷ letter_of s ∷ r) ≡ true
-unfolding is_break
-short_break s r h = grind arith
-
-pub no_break : (ps : List Piece) → are_pieces ps ≡ true → has_no_break (body_of ps) ≡ true
-unfolding is_break
-no_break [] h = refl
-no_break (itself c ∷ ps) h = let q = and_parts (is_piece (itself c)) (are_pieces ps) h in rw ((unescaped_char c q.0).break) (no_break ps q.1)
-no_break (short s ∷ ps) h = short_break s (body_of ps) (no_break ps h)
-no_break (unicode a b c d ∷ ps) h = let q = and_parts (is_piece (unicode a b c d)) (are_pieces ps) h in let u = code a b c d q.0 in rw (digit_break a u.first, digit_break b u.second, digit_break c u.third, digit_break d u.fourth) (no_break ps q.1)
+string_is : (ps : List Piece) → are_pieces ps ≡ true → IsBody false (body_of ps) (unescaped ps)
+string_is [] h = nothing_is false
+string_is (itself c ∷ ps) h = let q = and_parts (is_piece (itself c)) (are_pieces ps) h in itself_goes c (unescaped_char c q.0) (body_of ps) (unescaped ps) (string_is ps q.1)
+string_is (short s ∷ ps) h = short_goes s (body_of ps) (unescaped ps) (string_is ps h)
+string_is (unicode a b c d ∷ ps) h = let q = and_parts (is_piece (unicode a b c d)) (are_pieces ps) h in unicode_goes a b c d _ (code a b c d q.0) (body_of ps) (unescaped ps) (string_is ps q.1)
 
 -- a string between its quotes
 abbrev pub quoted : List Piece → List ℕ
@@ -110,11 +114,11 @@ quoted_is ps r = ap (λ x. 34 ∷ x) (spelt ps (34 ∷ r) ∙ sym (append_assoc 
 
 pub value_is : (ps : List Piece) → are_pieces ps ≡ true → double_quoted_value (body_of ps) ≡ Some (unescaped ps)
 unfolding double_quoted_value
-value_is ps h = OneLine.value_is double_quoted_element (body_of ps) (unescaped ps) (string_is ps h) (no_break ps h)
+value_is ps h = let z = string_is ps h in OneLine.value_is double_quoted_element (body_of ps) (unescaped ps) z.one_line z.no_break
 
 pub lines_fit : (column : ℕ) (ps : List Piece) → are_pieces ps ≡ true → quoted_lines_fit column double_quoted_element (quoted ps) ≡ true
-lines_fit column ps h = OneLine.lines_fit double_quoted_element (body_of ps) (unescaped ps) (string_is ps h) column 34
+lines_fit column ps h = OneLine.lines_fit double_quoted_element (body_of ps) (unescaped ps) (string_is ps h).one_line column 34
 
 pub quoted_no_break : (ps : List Piece) → are_pieces ps ≡ true → has_no_break (quoted ps) ≡ true
 unfolding is_break
-quoted_no_break ps h = OneLine.quote_no_break 34 (body_of ps) refl (no_break ps h)
+quoted_no_break ps h = OneLine.quote_no_break 34 (body_of ps) refl (string_is ps h).no_break

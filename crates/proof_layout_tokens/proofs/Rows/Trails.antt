@@ -1,5 +1,5 @@
 -- What stands after a value of a layout: gaps and comments as separations, and how the next piece is read.
-use Rattle.proof_layout_tokens.proofs.Common.{[], after_blank, and_parts, ap, append-nil, append_assoc, are_marks, arith, Bool, codes, Comment, comment, comment_line, empty_line, ends_line, false, free, GapLine, has_break, has_tab_within, innermost, inside, is_before_line_feed, is_blank, is_blank_or_end, is_blanks_and_comment, is_break, is_document_marker, is_line_character, is_nul, is_on_line, is_separation, is_value_indicator, is_waiting, IsComment, IsGap, IsLineText, last_line, leading, line_past_separation, List, list_all, nat_le, nat_tests, next_line, no_comment, not, on_line, Option, Position, position_after, position_past, Previous, refl, Some, spaces, spell_comment, spell_ending, spell_gap, Split, split, split_by, Stand, stops, subst, suc, sym, Tok, true, zero, ℕ, ◌&&◌, ◌++◌, ◌+◌, ◌<◌, ◌==◌, ◌||◌, ◌∙◌, ◌∷◌, ◌≡◌, ◌≤◌}
+use Rattle.proof_layout_tokens.proofs.Common.{[], after_blank, and_parts, ap, append-nil, append_assoc, are_marks, arith, Bool, codes, Comment, comment, comment_line, empty_line, ends_line, false, GapLine, has_break, has_tab_within, innermost, inside, is_before_line_feed, is_blank, is_blank_or_end, is_blanks_and_comment, is_break, is_document_marker, is_line_character, is_nul, is_on_line, is_separation, is_value_indicator, is_waiting, IsComment, IsGap, IsLineText, last_line, leading, List, list_all, nat_le, nat_tests, next_line, no_comment, not, on_line, Option, Position, position_after, position_past, Previous, refl, Some, spaces, spell_comment, spell_ending, spell_gap, Split, split, split_by, Stand, stops, subst, suc, sym, Tok, true, zero, ℕ, ◌&&◌, ◌++◌, ◌+◌, ◌<◌, ◌==◌, ◌||◌, ◌∙◌, ◌∷◌, ◌≡◌, ◌≤◌}
 use Rattle.defs_token.specs.Key.{Line}
 use Rattle.defs_token.specs.Plain.{is_deeper}
 use Rattle.proof_layout_tokens.proofs.Rows.Steps.{Reads, at}
@@ -7,6 +7,8 @@ use Rattle.proof_layout_tokens.proofs.Rows.Gaps.{Ends}
 use Rattle.proof_layout_tokens.proofs.Rows.Nodes.{or_true, Quiet}
 use Rattle.proof_layout_tokens.proofs.Rows.Blocks.{Here}
 use Rattle.proof_layout_tokens.proofs.Rows.Texts.{ended}
+use Rattle.proof_layout_tokens.proofs.Nul.{HasNone, both, text_none, spaces_none}
+pub use Rattle.proof_layout_tokens.proofs.BlockTexts.{spaces_are}
 
 -- a gap, and at a column of the next line the rest; a gap, and the `---` of a next document with the rest; or a gap up to the end
 pub data Trail : Type 0 where
@@ -46,7 +48,7 @@ AllEnd t (n ∷ ns) = EndsAt t n × AllEnd t ns
 abbrev pub Arrives : Trail → Position → Previous → Line → (separation : List ℕ) → Type 0
 Arrives (next g d r) p before l f = Here d r p before l f
 Arrives (marker g r) p before l f = Here 0 (marker_text r) p before l f
-Arrives (end g) p before l f = (is_separation false f [] ≡ true) × (is_waiting l ≡ false)
+Arrives (end g) p before l f = (is_separation false f [] ≡ true) × (is_waiting l ≡ false) × HasNone f
 
 abbrev pub rest_of : Trail → List ℕ
 rest_of (next g d r) = r
@@ -112,6 +114,18 @@ end_separates no_comment g h gap = ending_separates g gap
 end_separates (comment more text) [] h gap = spaces_separate more (35 ∷ (text ++ [])) [] ∙ over_comment text [] [] h
 end_separates (comment more text) (l ∷ g) h gap = spaces_separate more (35 ∷ (text ++ spell_ending (l ∷ g) [])) [] ∙ over_comment text (spell_ending (l ∷ g) []) [] h ∙ ending_separates (l ∷ g) gap
 
+-- they have no NUL
+pub gap_none : (g : List GapLine) (a : List ℕ) → IsGap g → HasNone a → HasNone (spell_gap g a)
+gap_none [] a h n = n
+gap_none (l ∷ g) a h n = grind (arith, both, text_none, gap_none g a)
+
+comment_none : (k : Comment) (a : List ℕ) → IsComment k → HasNone a → HasNone (spell_comment k a)
+comment_none k a h n = grind (arith, spaces_none, both, text_none)
+
+pub ending_none : (g : List GapLine) → IsGap g → HasNone (spell_ending g [])
+ending_none [] h = refl
+ending_none (l ∷ g) h = grind (arith, both, text_none, ending_none g)
+
 -- ---- the last line
 
 -- after a break the lines before do not matter
@@ -171,10 +185,6 @@ gap_last (comment_line text ∷ g) n = last_past (35 ∷ text) (spell_gap g (spa
 
 -- ---- texts
 
-pub spaces_are : (n : ℕ) (a r : List ℕ) → spaces n a ++ r ≡ spaces n (a ++ r)
-spaces_are zero a r = refl
-spaces_are (suc n) a r = ap (λ x. 32 ∷ x) (spaces_are n a r)
-
 pub gap_is : (g : List GapLine) (a r : List ℕ) → spell_gap g a ++ r ≡ spell_gap g (a ++ r)
 gap_is [] a r = refl
 gap_is (l ∷ g) a r = grind (arith, append_assoc, gap_is g a r)
@@ -193,9 +203,6 @@ has_break_at (c ∷ x) y = grind (arith, has_break, has_break_at x y)
 abbrev pub line_gap : Comment → List GapLine → ℕ → List ℕ
 line_gap k g n = spell_comment k (10 ∷ spell_gap g (spaces n []))
 
-line_free : (l : Line) → is_waiting l ≡ false → line_past_separation false true l ≡ Some free
-line_free a h = grind arith
-
 pub here_after : (k : Comment) (g : List GapLine) (n : ℕ) (r : List ℕ) (p : Position) (before : Previous) (l : Line) → IsComment k → IsGap g → Quiet before → is_waiting l ≡ false → Here n r p before l (line_gap k g n)
 unfolding is_blank is_break
 here_after k g n r p before l remark gap quiet line =
@@ -205,8 +212,9 @@ here_after k g n r p before l remark gap quiet line =
     record {
       separates = comment_separates k x r remark (gap_separates g (spaces n []) r gap (spaces_separate n [] r));
       tabless = λ m. rw (text, last_past (spell_comment k []) x, gap_last g n) (no_tab m n);
-      line = rw (quiet (spell_comment k (10 ∷ x)), text, has_break_at (spell_comment k []) x) (line_free l line);
+      line = rw (quiet (spell_comment k (10 ∷ x)), text, has_break_at (spell_comment k []) x) (grind arith);
       column = rw (text, z.1) (gap_column g n r z.0 z.2);
+      none = comment_none k (10 ∷ x) remark (gap_none g (spaces n []) gap (spaces_none n [] refl));
     }
 
 pub gap_text : (k : Comment) (g : List GapLine) (n : ℕ) (r : List ℕ) → line_gap k g n ++ r ≡ spell_comment k (next_line n g r)
@@ -216,7 +224,7 @@ gap_text k g n r = comment_is k (10 ∷ spell_gap g (spaces n [])) r ∙ ap (λ 
 pub arrive : (k : Comment) (t : Trail) (bs : List ℕ) (tokens : List Tok) (p : Position) (awaits : Bool) (before : Previous) (l : Line) → IsComment k → IsTrail t → Quiet before → is_waiting l ≡ false → After t bs tokens → Reads (at p bs awaits before l []) (spell_comment k (trail_text t)) tokens
 arrive k (next g d r) bs tokens p awaits before l remark trail quiet line rest = rw (← gap_text k g d r) (rest [] p awaits before l (line_gap k g d) tt (here_after k g d r p before l remark trail.0 quiet line))
 arrive k (marker g r) bs tokens p awaits before l remark trail quiet line rest = rw (← gap_text k g 0 (marker_text r)) (rest [] p awaits before l (line_gap k g 0) tt (here_after k g 0 (marker_text r) p before l remark trail quiet line))
-arrive k (end g) bs tokens p awaits before l remark trail quiet line rest = rw (← append-nil (spell_comment k (spell_ending g []))) (rest [] p awaits before l (spell_comment k (spell_ending g [])) tt (end_separates k g remark trail, line))
+arrive k (end g) bs tokens p awaits before l remark trail quiet line rest = rw (← append-nil (spell_comment k (spell_ending g []))) (rest [] p awaits before l (spell_comment k (spell_ending g [])) tt (end_separates k g remark trail, line, comment_none k (spell_ending g []) remark (ending_none g trail)))
 
 -- ---- what a scalar ends before
 
@@ -241,10 +249,6 @@ module _ (collection : Option ℕ) where
   stops_next : (d : ℕ) (r : List ℕ) → BeginsContent r → (not (is_deeper collection d)) ≡ true → stops false collection (on_line d) r ≡ true
   stops_next d r (content_first c x blank break hash nul) low = rw (blank, break, low, or_true ((d == 0) && is_document_marker (c ∷ x)), or_true (is_nul c || ((c == 58) && is_value_indicator false false x) || (c == 35))) refl
 
-  stops_marker : (r : List ℕ) → stops false collection (on_line 0) (marker_text r) ≡ true
-  unfolding is_blank is_break is_nul is_blank_or_end are_marks
-  stops_marker r = refl
-
   stops_ending : (g : List GapLine) (s : Stand) → stops false collection s (spell_ending g []) ≡ true
   unfolding is_blank is_break is_nul
   stops_ending [] s = refl
@@ -262,12 +266,12 @@ comment_rest zero a = refl
 comment_rest (suc n) a = comment_rest n a
 
 pub trail_ends : (k : Comment) (t : Trail) (bs : List ℕ) → IsTrail t → IsLow t bs → Ends false (innermost bs) (spell_comment k (trail_text t))
-unfolding is_blank is_break
+unfolding is_blank is_break is_nul is_blank_or_end are_marks
 trail_ends (comment more text) t bs trail low = record { stopped = stops_comment (innermost bs) more (text ++ trail_text t); done = λ piece. rw (comment_rest more (text ++ trail_text t)) refl; no_comment = refl }
 trail_ends no_comment (next g d r) [] trail low = absurd low
 trail_ends no_comment (next g d r) (n ∷ bs) trail low =
     let deep : not (nat_le (suc n) d) ≡ true = grind (arith, low) in
     record { stopped = stops_gap (Some n) g (spaces d r) (stops_spaces (Some n) d 0 r (let e : 0 + d ≡ d = omega arith in rw e (stops_next (Some n) d r trail.1 deep))); done = λ piece. refl; no_comment = refl }
-trail_ends no_comment (marker g r) bs trail low = record { stopped = stops_gap (innermost bs) g (marker_text r) (stops_marker (innermost bs) r); done = λ piece. refl; no_comment = refl }
+trail_ends no_comment (marker g r) bs trail low = record { stopped = stops_gap (innermost bs) g (marker_text r) refl; done = λ piece. refl; no_comment = refl }
 trail_ends no_comment (end []) bs trail low = record { stopped = refl; done = λ piece. refl; no_comment = refl }
 trail_ends no_comment (end (l ∷ g)) bs trail low = record { stopped = stops_ending (innermost bs) (l ∷ g) inside; done = λ piece. refl; no_comment = refl }

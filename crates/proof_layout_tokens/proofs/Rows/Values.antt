@@ -1,8 +1,7 @@
 -- Values, arrays and hashes of layouts have rows.
-use Rattle.proof_layout_tokens.proofs.Common.{[], all_field_tokens, all_of, Anchor, anchors_after, anchors_after_field, and_from, and_parts, another, ap, append-nil, AreEntries, AreFields, AreFoldedLines, AreLinesOf, arith, begins_with, begins_with_space_or_break, begun, Blank, Block, block_tokens, BlockStyle, Bool, colon_may_precede, Comment, comment, dash_may_precede, empty_hash, Entries, entry_tokens, false, Field, field_tokens, Fields, folded_header, free, fresh, GapLine, goes_on_with_name, has_break, has_no_break, has_tab_before_piece, inl, Inline, inline_tokens, inr, is_anchor_name, is_ascii_alphanumeric, is_at_gap, is_blank, is_blank_or_end, is_break, is_flow, is_line_character, is_literal_text, is_name, is_nul, is_one_of, is_waiting, IsBlock, IsComment, IsField, IsGap, IsImplicitKey, IsInline, IsJsonCollection, IsJsonOnOneLine, IsLineText, IsScalar, IsValue, Json, last_line, leading, least_column, length, line_past_separation, List, list_all, MayBeAnchored, MayFollowScalarKey, nat_tests, next_line, no_comment, Position, Previous, refl, replicate, Scalar, scalar, scalar_token, Some, spaces, spell_block, spell_comment, spell_entries, spell_field, spell_fields, spell_gap, spell_inline, spell_lines, spell_literal, spell_scalar, spell_value, suc, taken, Tok, Tree, true, Value, value_tokens, zero, ℕ, ◌++◌, ◌+◌, ◌<◌, ◌==◌, ◌∙◌, ◌∷◌, ◌≡◌, ◌≤◌, ◌⊎◌}
+use Rattle.proof_layout_tokens.proofs.Common.{[], all_field_tokens, all_of, Anchor, anchors_after, anchors_after_field, and_from, and_parts, another, ap, append-nil, AreEntries, AreFields, arith, begins_with, begins_with_space_or_break, begun, Blank, Block, block_tokens, BlockStyle, Bool, colon_may_precede, Comment, comment, dash_may_precede, empty_hash, Entries, entry_tokens, false, Field, field_tokens, Fields, folded_header, free, fresh, GapLine, goes_on_with_name, has_break, has_no_break, has_tab_before_piece, inl, Inline, inline_tokens, inr, is_anchor_name, is_ascii_alphanumeric, is_at_gap, is_blank, is_blank_or_end, is_break, is_flow, is_line_character, is_name, is_nul, is_one_of, is_waiting, IsBlock, IsComment, IsField, IsGap, IsInline, IsLineText, IsScalar, IsValue, last_line, leading, least_column, length, line_past_separation, List, list_all, MayFollowScalarKey, nat_tests, next_line, no_comment, Position, Previous, refl, replicate, Scalar, scalar, scalar_token, Some, spaces, spell_block, spell_comment, spell_entries, spell_field, spell_fields, spell_gap, spell_inline, spell_lines, spell_scalar, spell_value, suc, taken, Tok, true, Value, value_tokens, zero, ℕ, ◌++◌, ◌+◌, ◌==◌, ◌∙◌, ◌∷◌, ◌≡◌, ◌≤◌, ◌⊎◌}
 use Rattle.defs_layout.specs.JsonGap
 use Rattle.defs_layout.specs.Json
-use Rattle.defs_layout.specs.BlockLines.{Line as BlockLine}
 use Rattle.defs_token.specs.Piece as piece
 use Rattle.defs_layout.specs.Layout.{empty_array}
 use Rattle.defs_layout.specs.Layout as layout
@@ -22,7 +21,8 @@ use Rattle.proof_layout_tokens.proofs.Rows.Plain.{plain_char, first_char}
 use Rattle.proof_layout_tokens.proofs.LiteralTexts.{strips_of, headed_literal, literal_lines}
 use Rattle.proof_layout_tokens.proofs.BlockLines.{block_text}
 use Rattle.proof_layout_tokens.proofs.Rows.BlockScalars.{nested_follows, block_is_read}
-use Rattle.proof_layout_tokens.proofs.Rows.Leaves.{Lead, scalar_reads, piece_of, piece_spelt, scalar_node, scalar_no_break, scalar_further, scalar_precedes, scalar_shown}
+use Rattle.proof_layout_tokens.proofs.Rows.Leaves.{Lead, scalar_reads, piece_of, piece_spelt, scalar_node, scalar_no_break, scalar_none, scalar_further, scalar_precedes, scalar_shown}
+use Rattle.proof_layout_tokens.proofs.Nul.{HasNone, of_class, spaces_none}
 
 -- ---- what stands on one line
 
@@ -52,10 +52,6 @@ pub record Opens (a : List ℕ) : Type 0 where
   pub tabless : has_tab_before_piece false a ≡ false
   pub no_name : goes_on_with_name a ≡ false
 
-no_blank_tab : (c : ℕ) → is_blank c ≡ false → (c == 9) ≡ false
-unfolding is_blank
-no_blank_tab c h = grind (arith, nat_tests)
-
 no_blank_space : (c : ℕ) → is_blank c ≡ false → (c == 32) ≡ false
 unfolding is_blank
 no_blank_space c h = grind (arith, nat_tests)
@@ -66,8 +62,8 @@ leading_tabless zero a (content_first c r blank break hash nul) = rw blank refl
 leading_tabless (suc n) a z = leading_tabless n a z
 
 piece_tabless : (n : ℕ) (a : List ℕ) → BeginsContent a → has_tab_before_piece false (spaces n a) ≡ false
-unfolding is_break
-piece_tabless zero a (content_first c r blank break hash nul) = rw (no_blank_tab c blank, no_blank_space c blank, break, hash) refl
+unfolding is_break is_blank
+piece_tabless zero a (content_first c r blank break hash nul) = let no_blank_tab : (c == 9) ≡ false = grind (arith, nat_tests) in rw (no_blank_tab, no_blank_space c blank, break, hash) refl
 piece_tabless (suc n) a z = piece_tabless n a z
 
 comment_tabless : (text a : List ℕ) → IsLineText text → has_tab_before_piece true (text ++ 10 ∷ a) ≡ has_tab_before_piece false a
@@ -110,7 +106,7 @@ opens_below (comment more text) g n a remark gap z =
 
 lead_beside : (c : ℕ) (bs : List ℕ) (more : ℕ) (p : Position) → suc c ≤ p.col → Lead (c ∷ bs) p (32 ∷ spaces more [])
 lead_beside c bs more p deep = record {
-  parts = record { separates = λ r. spaces_separate (suc more) [] r; tabless = λ awaits. rw (last_line, spaces_line (suc more)) (no_tab (least_column (c ∷ bs) awaits) (suc more)) };
+  parts = record { separates = λ r. spaces_separate (suc more) [] r; tabless = λ awaits. rw (last_line, spaces_line (suc more)) (no_tab (least_column (c ∷ bs) awaits) (suc more)); none = spaces_none more [] refl };
   deep = λ r. let z = spaces_column (suc more) r p in omega (arith, deep, z);
 }
 
@@ -121,6 +117,7 @@ here_beside n more r p h = record {
   tabless = λ m. rw (last_line, spaces_line (suc more)) (no_tab m (suc more));
   line = by (has_break (32 ∷ spaces more []));
   column = let z = spaces_column (suc more) r p in omega (arith, z, h);
+  none = spaces_none more [] refl;
 }
   where
     by : (b : Bool) → line_past_separation false b free ≡ Some free
@@ -140,22 +137,6 @@ scalar_begins (Scalar.plain t) r h =
     rw (z.whole) (content_first z.head (z.tail ++ r) (rw (c.blank) (first_space z.head z.first)) c.break c.hash c.nul)
 scalar_begins (Scalar.quoted text) r h = content_first 34 _ refl refl refl refl
 scalar_begins (Scalar.single_quoted text) r h = content_first 39 _ refl refl refl refl
-
-inline_begins : (v : Inline) (r : List ℕ) → IsInline v → BeginsContent (spell_inline v r)
-unfolding is_blank is_break is_nul
-inline_begins v r h = grind (arith, scalar_begins, content_first)
-
-json_begins : (v : Json) (r : List ℕ) → IsJsonCollection v → BeginsContent (Json.spell v r)
-unfolding is_blank is_break is_nul
-json_begins a r h = grind (arith, content_first)
-
-literal_begins : (column : ℕ) (text : List ℕ) (ls : List BlockLine) (r : List ℕ) → BeginsContent (spell_literal column text ls r)
-unfolding is_blank is_break is_nul
-literal_begins column text ls r = grind (arith, content_first)
-
-folded_begins : (strips : Bool) (r : List ℕ) → BeginsContent (folded_header strips ++ r)
-unfolding is_blank is_break is_nul
-folded_begins a r = grind (arith, content_first)
 
 entries_begin : (c : ℕ) (es : Entries) (r : List ℕ) → BeginsContent (spell_entries c es r)
 unfolding is_blank is_break is_nul
@@ -177,10 +158,10 @@ block_begins c a (Block.hash fs) r h = fields_begin c a fs r h.0
 
 value_opens : (c : ℕ) (a : List Anchor) (v : Value) (r : List ℕ) → IsValue c a v → Opens (spell_value c v r)
 unfolding is_blank is_break is_nul
-value_opens c a (Value.beside more i k) r h = opens_beside more (spell_inline i (spell_comment k r)) (inline_begins i _ h.0)
-value_opens c a (Value.literal more column text ls) r h = opens_beside more _ (literal_begins column text ls r)
-value_opens c a (Value.folded more column strips text ls) r h = opens_beside more _ (folded_begins strips _)
-value_opens c a (Value.json more v) r h = opens_beside more _ (json_begins v r h.0)
+value_opens c a (Value.beside more i k) r h = opens_beside more (spell_inline i (spell_comment k r)) (grind (arith, scalar_begins, content_first))
+value_opens c a (Value.literal more column text ls) r h = opens_beside more _ (grind (arith, content_first))
+value_opens c a (Value.folded more column strips text ls) r h = let folded_begins : BeginsContent (folded_header strips ++ _) = grind (arith, content_first) in opens_beside more _ folded_begins
+value_opens c a (Value.json more v) r h = opens_beside more _ (grind (arith, content_first))
 value_opens c a (Value.compact more b) r h = opens_beside more _ (block_begins (c + 2 + more) a b r h)
 value_opens c a (layout.below k g column b) r h = opens_below k g column _ h.0 h.1 (block_begins column a b r h.3)
 value_opens c a (Value.at_key k g es) r h = opens_below k g c _ h.0 h.1 (entries_begin c es r)
@@ -214,12 +195,6 @@ ReadsIn c spells gives = (bs : List ℕ) (t : Trail) (tokens : List Tok) (p : Po
 abbrev pub ReadsBlock : ℕ → Block → Type 0
 ReadsBlock c b = ReadsIn c (spell_block c b) (block_tokens b)
 
-low_at : (t : Trail) (c : ℕ) (bs : List ℕ) → EndsAt t c → IsLow t (c ∷ bs)
-low_at t c bs h = grind arith
-
-ends_deeper : (t : Trail) (c n : ℕ) (bs : List ℕ) → IsLow t (c ∷ bs) → c < n → EndsAt t n
-ends_deeper t c n bs low h = grind arith
-
 -- the collections that end before the next entry
 above : (g : List GapLine) (c : ℕ) (r : List ℕ) (extra : List ℕ) → AllEnd (next g c r) extra → AreAbove c extra
 above g c r [] h = tt
@@ -227,13 +202,9 @@ above g c r (n ∷ extra) h = (h.0, above g c r extra h.1)
 
 collection_reads : (c : ℕ) (spells : List ℕ → List ℕ) (collection : Tok) (gives : List Tok → List Tok) → Begins c spells collection gives → ReadsIn c spells (λ o. collection ∷ gives (Tok.block_end ∷ o))
 collection_reads c spells collection gives one bs t tokens p awaits before l f deep trail ends here rest =
-    one false [] bs t (Tok.block_end ∷ tokens) p awaits before l f tt (λ e. deep) trail (low_at t c bs ends) here (Trails.one_more t c bs tokens ends rest)
+    one false [] bs t (Tok.block_end ∷ tokens) p awaits before l f tt (λ e. deep) trail (grind arith) here (Trails.one_more t c bs tokens ends rest)
 
--- ---- values on the line
-
-beside_reads : (c more : ℕ) (v : Inline) (k : Comment) → IsInline v → IsComment k → ReadsValue c (Value.beside more v k)
-beside_reads c more v k h remark bs t tokens p awaits l trail low line deep fits rest =
-    rw (← beside_text more (spell_inline v (spell_comment k (trail_text t)))) (inline_reads k t (c ∷ bs) tokens p awaits l (32 ∷ spaces more []) remark trail low line (lead_beside c bs more p deep) rest v h)
+-- ---- spaces as white space of JSON
 
 blanks_are : (n : ℕ) (r : List ℕ) → JsonGap.spell_gap (replicate n Blank.space) r ≡ spaces n r
 blanks_are zero r = refl
@@ -243,45 +214,20 @@ are_spaces : (n : ℕ) → AreSpaces (replicate n Blank.space)
 are_spaces zero = tt
 are_spaces (suc n) = are_spaces n
 
-json_reads : (c more : ℕ) (v : Json) → IsJsonOnOneLine v → ReadsValue c (Value.json more v)
-json_reads c more v h bs t tokens p awaits l trail low line deep fits rest =
-    rw (← blanks_are (suc more) (Json.spell v (trail_text t)))
-    (value_reads (c ∷ bs) v h.1 (λ e. (json_spaces v [] h.3).0) outside p awaits l (replicate (suc more) Blank.space) (trail_text t) tokens line deep (λ e. are_spaces (suc more)) (trail_ends no_comment t (c ∷ bs) trail low) (let few = h.2 in omega (arith, few))
-    (λ q waits before quiet deep. arrive no_comment t (c ∷ bs) tokens q waits before taken tt trail quiet refl rest))
-
-compact_reads : (c more : ℕ) (b : Block) → ReadsBlock (c + 2 + more) b → ReadsValue c (Value.compact more b)
-compact_reads c more b one bs t tokens p awaits l trail low line deep (inl (col, is_free)) rest =
-    rw (← beside_text more (spell_block (c + 2 + more) b (trail_text t)), is_free)
-    (one (c ∷ bs) t tokens p awaits another free (32 ∷ spaces more []) (omega arith) trail (ends_deeper t c (c + 2 + more) bs low (omega arith)) (here_beside (c + 2 + more) more _ p (omega (arith, col))) rest)
-compact_reads c more b one bs t tokens p awaits l trail low line deep (inr none) rest = absurd none
-
-below_reads : (c : ℕ) (k : Comment) (g : List GapLine) (n : ℕ) (b : Block) → IsComment k → IsGap g → c < n → ReadsBlock n b → ReadsValue c (layout.below k g n b)
-below_reads c k g n b remark gap higher one bs t tokens p awaits l trail low line deep fits rest =
-    rw (← gap_text k g n (spell_block n b (trail_text t)))
-    (one (c ∷ bs) t tokens p awaits another l (line_gap k g n) (omega (arith, higher)) trail (ends_deeper t c n bs low higher) (here_after k g n _ p another l remark gap (λ f. refl) line) rest)
-
-at_key_reads : (c : ℕ) (k : Comment) (g : List GapLine) (es : Entries) → IsComment k → IsGap g → ReadsEntries c es → ReadsValue c (Value.at_key k g es)
-at_key_reads c k g es remark gap one bs t tokens p awaits l trail low line deep fits rest =
-    rw (← gap_text k g c (spell_entries c es (trail_text t)))
-    (one true [] bs t tokens p awaits another l (line_gap k g c) tt (λ e. cc) trail low (here_after k g c _ p another l remark gap (λ f. refl) line) rest)
-
 -- ---- anchors and aliases
 
-name_character : (c : ℕ) → is_ascii_alphanumeric c ≡ true → (is_anchor_name c ≡ true) × (is_break c ≡ false)
-unfolding is_anchor_name is_blank_or_end is_blank is_break is_nul is_flow
-name_character c h = (grind (arith, nat_tests), grind (arith, nat_tests))
-
 names : (name : List ℕ) → list_all is_ascii_alphanumeric name ≡ true → (all_of is_anchor_name name ≡ true) × (has_no_break name ≡ true)
+unfolding is_anchor_name is_blank_or_end is_blank is_break is_nul is_flow
 names [] h = (refl, refl)
 names (c ∷ name) h =
     let q = and_parts (is_ascii_alphanumeric c) (list_all is_ascii_alphanumeric name) h in
-    let z = name_character c q.0 in
+    let z : (is_anchor_name c ≡ true) × (is_break c ≡ false) = (grind (arith, nat_tests), grind (arith, nat_tests)) in
     let r = names name q.1 in
     (and_from _ _ z.0 r.0, rw (z.1) (r.1))
 
-a_name : (name : List ℕ) → is_name name ≡ true → (piece.is_name name ≡ true) × (has_no_break name ≡ true)
+a_name : (name : List ℕ) → is_name name ≡ true → (piece.is_name name ≡ true) × (has_no_break name ≡ true) × HasNone name
 a_name [] h = cc
-a_name (c ∷ name) h = names (c ∷ name) h
+a_name (c ∷ name) h = let z = names (c ∷ name) h in (z.0, z.1, of_class is_ascii_alphanumeric refl (c ∷ name) h)
 
 -- an indicator and a name
 module _ (c : ℕ) (bs : List ℕ) (more : ℕ) (name r : List ℕ) (tokens : List Tok) (p : Position) (awaits : Bool) (l : Line) (is : is_name name ≡ true) (ends : goes_on_with_name r ≡ false) (line : is_waiting l ≡ false) (deep : suc c ≤ p.col) (rest : (q : Position) (waits : Bool) → suc c ≤ q.col → Reads (at q (c ∷ bs) waits another taken []) r tokens) where
@@ -290,14 +236,14 @@ module _ (c : ℕ) (bs : List ℕ) (more : ℕ) (name r : List ℕ) (tokens : Li
   anchor_reads =
       let lead = lead_beside c bs more p deep in
       rw (← beside_text more (38 ∷ (name ++ r)))
-      (node_goes (c ∷ bs) (Tok.anchor name) (38 ∷ name) refl (a_name name is).1 outside p awaits l (32 ∷ spaces more []) r tokens line lead.parts (lead.deep _) (refl, ((refl, (a_name name is).0, ends), refl)) (λ column. refl) refl rest)
+      (node_goes (c ∷ bs) (Tok.anchor name) (38 ∷ name) refl (a_name name is).1 (a_name name is).2 outside p awaits l (32 ∷ spaces more []) r tokens line lead.parts (lead.deep _) (refl, ((refl, (a_name name is).0, ends), refl)) (λ column. refl) refl rest)
 
   name_alias_reads : Reads (at p (c ∷ bs) awaits another l []) (32 ∷ spaces more (42 ∷ (name ++ r))) (Tok.alias name ∷ tokens)
   unfolding is_break
   name_alias_reads =
       let lead = lead_beside c bs more p deep in
       rw (← beside_text more (42 ∷ (name ++ r)))
-      (node_goes (c ∷ bs) (Tok.alias name) (42 ∷ name) refl (a_name name is).1 outside p awaits l (32 ∷ spaces more []) r tokens line lead.parts (lead.deep _) (refl, ((refl, (a_name name is).0, ends), refl)) (λ column. refl) refl rest)
+      (node_goes (c ∷ bs) (Tok.alias name) (42 ∷ name) refl (a_name name is).1 (a_name name is).2 outside p awaits l (32 ∷ spaces more []) r tokens line lead.parts (lead.deep _) (refl, ((refl, (a_name name is).0, ends), refl)) (λ column. refl) refl rest)
 
 trail_no_name : (t : Trail) → goes_on_with_name (trail_text t) ≡ false
 unfolding is_anchor_name is_blank_or_end is_blank is_break
@@ -305,14 +251,6 @@ trail_no_name (next g d r) = refl
 trail_no_name (marker g r) = refl
 trail_no_name (end []) = refl
 trail_no_name (end (l ∷ g)) = refl
-
-alias_reads : (c more : ℕ) (name : List ℕ) (tree : Tree) → is_name name ≡ true → ReadsValue c (Value.alias more name tree)
-alias_reads c more name tree is bs t tokens p awaits l trail low line deep fits rest =
-    name_alias_reads c bs more name (trail_text t) tokens p awaits l is (trail_no_name t) line deep (λ q waits deeper. arrive no_comment t (c ∷ bs) tokens q waits another taken tt trail (λ f. refl) refl rest)
-
-anchored_reads : (c more : ℕ) (name : List ℕ) (a : List Anchor) (v : Value) → is_name name ≡ true → MayFollowScalarKey v → IsValue c a v → ReadsValue c v → ReadsValue c (Value.anchored more name v)
-anchored_reads c more name a v is may h one bs t tokens p awaits l trail low line deep fits rest =
-    anchor_reads c bs more name (spell_value c v (trail_text t)) (value_tokens v tokens) p awaits l is (value_opens c a v (trail_text t) h).no_name line deep (λ q waits deeper. one bs t tokens q waits taken trail low refl deeper (inr may) rest)
 
 -- ---- entries of arrays
 
@@ -329,74 +267,45 @@ then_reads c one_text all collection gives gives_all g gap begins one more is_op
     one is_open extra bs (next g c r) (gives_all tokens) p awaits before l f above_it begin (gap, begins (trail_text t)) (omega arith) here
     (λ more_extra q waits past m f2 ends there. more true more_extra bs t tokens q waits past m f2 (above g c r more_extra ends) (λ e. cc) trail low there rest)
 
--- ---- entries of hashes
-
-explicit_reads : (c : ℕ) (a b : List Anchor) (k : Value) (g : List GapLine) (v : Value) → IsValue c a k → IsGap g → IsValue c b v → ReadsValue c k → ReadsValue c v → ReadsField c (Field.explicit k g v)
-unfolding is_blank is_break is_nul
-explicit_reads c a b k g v key gap value one two is_open extra bs t tokens p awaits before l f all begin trail low here rest =
-    let r = 58 ∷ spell_value c v (trail_text t) in
-    let n = next g c r in
-    let o = value_opens c a k (trail_text n) key in
-    let w = value_opens c b v (trail_text t) value in
-    question_reads is_open c extra bs p awaits before l f (spell_value c k (trail_text n)) (value_tokens k (Tok.value ∷ value_tokens v tokens)) all begin o.space_or_break o.tabless here
-    (λ q waits col. one bs n (Tok.value ∷ value_tokens v tokens) q waits free (gap, content_first 58 _ refl refl refl refl) (omega arith) refl (omega (arith, col)) (inl (col, refl))
-    (λ more_extra q waits past m f2 ends there. colon_reads true c more_extra bs q waits past m f2 (spell_value c v (trail_text t)) (value_tokens v tokens) (above g c r more_extra ends) (λ e. cc) w.gap w.colon there
-    (λ q waits col. two bs t tokens q waits free trail low refl (omega (arith, col)) (inl (col, refl)) rest)))
-
--- a scalar key
-implicit_reads : (c : ℕ) (a : List Anchor) (k : Scalar) (v : Value) → IsImplicitKey k → MayFollowScalarKey v → IsValue c a v → ReadsValue c v → ReadsField c (Field.implicit k v)
-unfolding is_blank is_break is_nul
-implicit_reads c a k v key may h one is_open extra bs t tokens p awaits before l f all begin trail low here rest =
-    let r = spell_value c v (trail_text t) in
-    let w = piece_of k in
-    let o = value_opens c a v (trail_text t) h in
-    let z = scalar_node k in
-    let one_line = scalar_no_break k key.0 in
-    let spot : Here c (w ++ 58 ∷ r) p before l f = rw (piece_spelt k (58 ∷ r)) at here in
-    let column = spot.column in
-    let short : length w ≤ 1024 = rw (append-nil w) at rw (piece_spelt k []) at key.1 in
-    rw (piece_spelt k (58 ∷ r))
-    (key_reads is_open c extra bs p awaits before l f w (scalar_token k) r (value_tokens v tokens) all begin z.node z.none (z.quiet []) one_line short
-    (scalar_shown k key.0 p (extra ++ stood is_open c bs) awaits before l f true (58 ∷ r) (stood is_open c bs) (rw column (left_open c extra (stood is_open c bs) all (stands is_open c bs begin))) (rw (o.gap) refl) refl)
-    (scalar_further k key.0) (scalar_precedes k (stood is_open c bs) (58 ∷ r) (rw one_line refl)) o.gap o.colon spot (λ q deep. one bs t tokens q true taken trail low refl deep (inr may) rest))
-
-anchored_follows : (v : Value) → MayBeAnchored v → MayFollowScalarKey v
-anchored_follows v h = grind arith
-
--- ---- literal and folded blocks
-
-literal_reads : (c more column : ℕ) (text : List ℕ) (ls : List BlockLine) → c < column → is_literal_text text ≡ true → AreLinesOf text column ls → ReadsValue c (Value.literal more column text ls)
-literal_reads c more column text ls higher one are bs t tokens p awaits l trail low line deep fits rest =
-    let lead = lead_beside c bs more p deep in
-    rw (headed_literal text (spell_lines column ls (trail_text t)), ← beside_text more (block_text BlockStyle.literal (strips_of text) (spell_lines column ls (trail_text t))))
-    (block_is_read BlockStyle.literal (suc c) column (strips_of text) text ls higher (literal_lines c column text ls higher one are) (c ∷ bs) refl tokens p awaits l (32 ∷ spaces more []) line lead.parts lead.deep t trail (nested_follows c column bs t higher trail low) rest)
-
-headed : (strips : Bool) (r : List ℕ) → folded_header strips ++ r ≡ block_text BlockStyle.folded strips r
-headed strips r = grind arith
-
-folded_reads : (c more column : ℕ) (strips : Bool) (text : List ℕ) (ls : List BlockLine) → c < column → AreFoldedLines c column strips text ls → ReadsValue c (Value.folded more column strips text ls)
-folded_reads c more column strips text ls higher are bs t tokens p awaits l trail low line deep fits rest =
-    let lead = lead_beside c bs more p deep in
-    rw (headed strips (spell_lines column ls (trail_text t)), ← beside_text more (block_text BlockStyle.folded strips (spell_lines column ls (trail_text t))))
-    (block_is_read BlockStyle.folded (suc c) column strips text ls higher are (c ∷ bs) refl tokens p awaits l (32 ∷ spaces more []) line lead.parts lead.deep t trail (nested_follows c column bs t higher trail low) rest)
-
 -- ---- all of them
 
 mutual
+  unfolding is_blank is_break is_nul
+
   pub block_reads : (c : ℕ) (a : List Anchor) (b : Block) → IsBlock c a b → ReadsBlock c b
   block_reads c a (Block.array es) h = collection_reads c (spell_entries c es) Tok.block_sequence_start (entry_tokens es) (entries_read c a es h)
   block_reads c a (Block.hash fs) h = collection_reads c (spell_fields c fs) Tok.block_mapping_start (all_field_tokens fs) (fields_read c a fs h.0)
 
   read_value : (c : ℕ) (a : List Anchor) (v : Value) → IsValue c a v → ReadsValue c v
-  read_value c a (Value.beside more i k) h = beside_reads c more i k h.0 h.1
-  read_value c a (Value.literal more column text ls) h = literal_reads c more column text ls h.0 h.1 h.2
-  read_value c a (Value.folded more column strips text ls) h = folded_reads c more column strips text ls h.0 h.1
-  read_value c a (Value.json more v) h = json_reads c more v h
-  read_value c a (Value.compact more b) h = compact_reads c more b (block_reads (c + 2 + more) a b h)
-  read_value c a (layout.below k g column b) h = below_reads c k g column b h.0 h.1 h.2 (block_reads column a b h.3)
-  read_value c a (Value.at_key k g es) h = at_key_reads c k g es h.0 h.1 (entries_read c a es h.2)
-  read_value c a (Value.anchored more name v) h = anchored_reads c more name (begun name ∷ a) v h.0 (anchored_follows v h.1) h.2 (read_value c (begun name ∷ a) v h.2)
-  read_value c a (Value.alias more name t) h = alias_reads c more name t h.0
+  read_value c a (Value.beside more v k) h bs t tokens p awaits l trail low line deep fits rest =
+      rw (← beside_text more (spell_inline v (spell_comment k (trail_text t)))) (inline_reads k t (c ∷ bs) tokens p awaits l (32 ∷ spaces more []) h.1 trail low line (lead_beside c bs more p deep) rest v h.0)
+  read_value c a (Value.literal more column text ls) h bs t tokens p awaits l trail low line deep fits rest =
+      let lead = lead_beside c bs more p deep in
+      rw (headed_literal text (spell_lines column ls (trail_text t)), ← beside_text more (block_text BlockStyle.literal (strips_of text) (spell_lines column ls (trail_text t))))
+      (block_is_read BlockStyle.literal (suc c) column (strips_of text) text ls h.0 (literal_lines c column text ls h.0 h.1 h.2) (c ∷ bs) refl tokens p awaits l (32 ∷ spaces more []) line lead.parts lead.deep t trail (nested_follows c column bs t h.0 trail low) rest)
+  read_value c a (Value.folded more column strips text ls) h bs t tokens p awaits l trail low line deep fits rest =
+      let lead = lead_beside c bs more p deep in
+      let headed : folded_header strips ++ (spell_lines column ls (trail_text t)) ≡ block_text BlockStyle.folded strips (spell_lines column ls (trail_text t)) = grind arith in
+      rw (headed, ← beside_text more (block_text BlockStyle.folded strips (spell_lines column ls (trail_text t))))
+      (block_is_read BlockStyle.folded (suc c) column strips text ls h.0 h.1 (c ∷ bs) refl tokens p awaits l (32 ∷ spaces more []) line lead.parts lead.deep t trail (nested_follows c column bs t h.0 trail low) rest)
+  read_value c a (Value.json more v) h bs t tokens p awaits l trail low line deep fits rest =
+      rw (← blanks_are (suc more) (Json.spell v (trail_text t)))
+      (value_reads (c ∷ bs) v h.1 (λ e. (json_spaces v [] h.3).0) outside p awaits l (replicate (suc more) Blank.space) (trail_text t) tokens line deep (λ e. are_spaces (suc more)) (trail_ends no_comment t (c ∷ bs) trail low) (let few = h.2 in omega (arith, few))
+      (λ q waits before quiet deep. arrive no_comment t (c ∷ bs) tokens q waits before taken tt trail quiet refl rest))
+  read_value c a (Value.compact more b) h bs t tokens p awaits l trail low line deep (inl (col, is_free)) rest =
+      rw (← beside_text more (spell_block (c + 2 + more) b (trail_text t)), is_free)
+      (block_reads (c + 2 + more) a b h (c ∷ bs) t tokens p awaits another free (32 ∷ spaces more []) (omega arith) trail (grind arith) (here_beside (c + 2 + more) more _ p (omega (arith, col))) rest)
+  read_value c a (Value.compact more b) h bs t tokens p awaits l trail low line deep (inr none) rest = absurd none
+  read_value c a (layout.below k g n b) h bs t tokens p awaits l trail low line deep fits rest =
+      rw (← gap_text k g n (spell_block n b (trail_text t)))
+      (block_reads n a b h.3 (c ∷ bs) t tokens p awaits another l (line_gap k g n) (omega (arith, h.2)) trail (grind arith) (here_after k g n _ p another l h.0 h.1 (λ f. refl) line) rest)
+  read_value c a (Value.at_key k g es) h bs t tokens p awaits l trail low line deep fits rest =
+      rw (← gap_text k g c (spell_entries c es (trail_text t)))
+      (entries_read c a es h.2 true [] bs t tokens p awaits another l (line_gap k g c) tt (λ e. cc) trail low (here_after k g c _ p another l h.0 h.1 (λ f. refl) line) rest)
+  read_value c a (Value.anchored more name v) h bs t tokens p awaits l trail low line deep fits rest =
+      anchor_reads c bs more name (spell_value c v (trail_text t)) (value_tokens v tokens) p awaits l h.0 (value_opens c (begun name ∷ a) v (trail_text t) h.2).no_name line deep (λ q waits deeper. read_value c (begun name ∷ a) v h.2 bs t tokens q waits taken trail low refl deeper (inr (grind arith)) rest)
+  read_value c a (Value.alias more name tree) h bs t tokens p awaits l trail low line deep fits rest =
+      name_alias_reads c bs more name (trail_text t) tokens p awaits l h.0 (trail_no_name t) line deep (λ q waits deeper. arrive no_comment t (c ∷ bs) tokens q waits another taken tt trail (λ f. refl) refl rest)
 
   entries_read : (c : ℕ) (a : List Anchor) (es : Entries) → AreEntries c a es → ReadsEntries c es
   entries_read c a (Entries.last_entry v) h = last_entry_reads c a v h.1 (read_value c a v h.1)
@@ -404,8 +313,28 @@ mutual
       then_reads c (spell_entries c (Entries.last_entry v)) (spell_entries c es) Tok.block_sequence_start (entry_tokens (Entries.last_entry v)) (entry_tokens es) g h.2 (entries_begin c es) (last_entry_reads c a v h.1 (read_value c a v h.1)) (entries_read c (anchors_after v a) es h.3)
 
   field_read : (c : ℕ) (a : List Anchor) (f : Field) → IsField c a f → ReadsField c f
-  field_read c a (Field.implicit k v) h = implicit_reads c a k v h.0 h.1 h.2 (read_value c a v h.2)
-  field_read c a (Field.explicit k g v) h = explicit_reads c a (anchors_after k a) k g v h.1 h.2 h.4 (read_value c a k h.1) (read_value c (anchors_after k a) v h.4)
+  field_read c a (Field.implicit k v) h is_open extra bs t tokens p awaits before l f all begin trail low here rest =
+      let r = spell_value c v (trail_text t) in
+      let w = piece_of k in
+      let o = value_opens c a v (trail_text t) h.2 in
+      let z = scalar_node k in
+      let one_line = scalar_no_break k h.0.0 in
+      let spot : Here c (w ++ 58 ∷ r) p before l f = rw (piece_spelt k (58 ∷ r)) at here in
+      let column = spot.column in
+      let short : length w ≤ 1024 = rw (append-nil w) at rw (piece_spelt k []) at h.0.1 in
+      rw (piece_spelt k (58 ∷ r))
+      (key_reads is_open c extra bs p awaits before l f w (scalar_token k) r (value_tokens v tokens) all begin z.node z.none (z.quiet []) one_line (scalar_none k h.0.0) short
+      (scalar_shown k h.0.0 p (extra ++ stood is_open c bs) awaits before l f true (58 ∷ r) (stood is_open c bs) (rw column (left_open c extra (stood is_open c bs) all (stands is_open c bs begin))) (rw (o.gap) refl) refl)
+      (scalar_further k h.0.0) (scalar_precedes k (stood is_open c bs) (58 ∷ r) (rw one_line refl)) o.gap o.colon spot (λ q deep. read_value c a v h.2 bs t tokens q true taken trail low refl deep (inr h.1) rest))
+  field_read c a (Field.explicit k g v) h is_open extra bs t tokens p awaits before l f all begin trail low here rest =
+      let r = 58 ∷ spell_value c v (trail_text t) in
+      let n = next g c r in
+      let o = value_opens c a k (trail_text n) h.1 in
+      let w = value_opens c (anchors_after k a) v (trail_text t) h.4 in
+      question_reads is_open c extra bs p awaits before l f (spell_value c k (trail_text n)) (value_tokens k (Tok.value ∷ value_tokens v tokens)) all begin o.space_or_break o.tabless here
+      (λ q waits col. read_value c a k h.1 bs n (Tok.value ∷ value_tokens v tokens) q waits free (h.2, content_first 58 _ refl refl refl refl) (omega arith) refl (omega (arith, col)) (inl (col, refl))
+      (λ more_extra q waits past m f2 ends there. colon_reads true c more_extra bs q waits past m f2 (spell_value c v (trail_text t)) (value_tokens v tokens) (above g c r more_extra ends) (λ e. cc) w.gap w.colon there
+      (λ q waits col. read_value c (anchors_after k a) v h.4 bs t tokens q waits free trail low refl (omega (arith, col)) (inl (col, refl)) rest)))
 
   fields_read : (c : ℕ) (a : List Anchor) (fs : Fields) → AreFields c a fs → ReadsFields c fs
   fields_read c a (Fields.last_field f) h = field_read c a f h

@@ -1,5 +1,5 @@
 -- The first lines give the content column.
-use Rattle.proof_lexers.proofs.Common.{[], all_lines, along, and_parts, ap, append-nil, arith, at_least, cases_Bool, collection_of, Column, column_by, deepest_start, digit_base, digit_by, false, First, first_indent, FirstLinesGiveTheColumn, indent_from, inl, inr, is_break, is_in_line, is_spaces, leading_spaces, least_column, List, max, past, Position, Read, refl, Split, split, suc, sym, true, unbroken, zero, ℕ, ◌++◌, ◌+◌, ◌-◌, ◌==◌, ◌∙◌, ◌∷◌, ◌≡◌, ◌≤◌, nat_tests}
+use Rattle.proof_lexers.proofs.Common.{[], all_lines, along, and_parts, ap, append-nil, arith, at_least, cases_Bool, collection_of, Column, column_by, deepest_start, digit_by, false, First, first_indent, FirstLinesGiveTheColumn, indent_from, inl, inr, is_break, is_in_line, is_spaces, leading_spaces, least_column, List, max, past, Position, Read, refl, Split, split, suc, sym, true, unbroken, zero, ℕ, ◌++◌, ◌+◌, ◌==◌, ◌∙◌, ◌∷◌, ◌≡◌, ◌≤◌, nat_tests}
 use Rattle.model_scanner.specs.BlockScalar.{content}
 use Rattle.proof_lexers.proofs.Blocks.InLine.{first_inner}
 use Rattle.proof_lexers.proofs.Blocks.Written.{Break, Line, put, spell, texts, Fits, AreLines, Lined, lined, split_spell}
@@ -13,9 +13,6 @@ looking most p b = record { most = most; spaces = p.col; position = p; breaks = 
 first_spaces : (w a : List ℕ) (most : ℕ) (p : Position) (b : List ℕ) → is_spaces w ≡ true → first_indent (w ++ a) (looking most p b) ≡ first_indent a (looking most (along w p) b)
 first_spaces [] a most p b h = refl
 first_spaces (c ∷ w) a most p b h = let q = and_parts (c == 32) (is_spaces w) h in rw (q.0) (first_spaces w a most (past p) b q.1)
-
-first_last : (w : List ℕ) (most : ℕ) (p : Position) (b : List ℕ) → is_spaces w ≡ true → first_indent w (looking most p b) ≡ record { rest = []; position = along w p; value = record { column = max most (along w p).col; breaks = b } }
-first_last w most p b h = ap (λ a. first_indent a (looking most p b)) (sym (append-nil w)) ∙ first_spaces w [] most p b h
 
 first_break : (k : Break) (a : List ℕ) (most : ℕ) (p : Position) (b : List ℕ) → Fits k a → first_indent (put k a) (looking most p b) ≡ first_indent a (looking (max most p.col) (after_break k p) (b ++ 10 ∷ []))
 unfolding is_break
@@ -39,7 +36,7 @@ first_is_indent column [] last most p b col are inner le = elim (cases_Bool (is_
       let far = col_along last p in
       let deep : deepest_start (last ∷ []) ≡ leading_spaces last = rw e (omega arith) in
       let same : max most (along last p).col ≡ max most (deepest_start (last ∷ [])) = omega (arith, deep, lead, far, col) in
-      first_last last most p b e ∙ ap (λ n. record { rest = []; position = along last p; value = record { column = n; breaks = b } }) same
+      (ap (λ a. first_indent a (looking most p b)) (sym (append-nil last)) ∙ first_spaces last [] most p b e) ∙ ap (λ n. record { rest = []; position = along last p; value = record { column = n; breaks = b } }) same
       ∙ ap (with_column (max most (deepest_start (last ∷ [])))) (sym (last_passes column last p b e (omega (arith, le, deep, lead, col))))
   | inr e ↦
       let deep : deepest_start (last ∷ []) ≡ leading_spaces last = rw e refl in
@@ -79,9 +76,6 @@ column_for indent increment ls last = column_by (digit_by increment) (collection
 pub least_is : (indent : ℕ) → least_column (collection_of indent) ≡ indent
 least_is a = grind (arith, nat_tests)
 
-base_is : (indent : ℕ) → digit_base (collection_of indent) ≡ indent - 1
-base_is a = grind (arith, nat_tests)
-
 -- The lines before content are passed up to the content column.
 pub content_is : (indent increment : ℕ) (ls : List Line) (last : List ℕ) (p : Position) → p.col ≡ 0 → AreLines ls last → is_in_line last ≡ true
     → content indent increment (spell ls last) p ≡ indent_from (column_for indent increment ls last) (spell ls last) (at p [])
@@ -95,7 +89,7 @@ content_is indent zero ls last p col are inner =
     ap (λ s. at_least indent (first_indent (spell ls last) s)) start
     ∙ ap (at_least indent) (first_is_indent K ls last 0 p [] col are inner (omega (arith, same)))
     ∙ ap (λ n. with_column n (indent_from K (spell ls last) (at p []))) same
-content_is indent (suc n) ls last p col are inner = ap (λ k. indent_from (k + suc n) (spell ls last) (at p [])) (sym (base_is indent))
+content_is indent (suc n) ls last p col are inner = ap (λ k. indent_from (k + suc n) (spell ls last) (at p [])) (sym (grind (arith, nat_tests)))
 
 pub first_lines : FirstLinesGiveTheColumn
 first_lines indent increment text p col = of_lines (lined text)

@@ -1,5 +1,5 @@
 -- Further text ends a block scalar.
-use Rattle.proof_lexers.proofs.Common.{[], and_parts, ap, arith, Bool, cases_Bool, eqb-true, false, indent_from, inl, inr, is_break, is_document_marker, is_further_text, is_outside, Lines, List, lt-ltb, nat_lt, ne_eqb, not, not-true, Ok, past, past_spaces, Position, refl, suc, sym, true, without_spaces, zero, ℕ, ◌&&◌, ◌+◌, ◌<◌, ◌==◌, ◌∙◌, ◌∷◌, ◌≡◌, ◌≤◌}
+use Rattle.proof_lexers.proofs.Common.{[], and_parts, ap, arith, Bool, cases_Bool, eqb-true, false, indent_from, inl, inr, is_break, is_document_marker, is_further_text, is_outside, Lines, List, lt-ltb, nat_lt, ne_eqb, not, not-true, Ok, past, past_spaces, Position, refl, suc, sym, true, without_spaces, zero, ℕ, ◌&&◌, ◌+◌, ◌==◌, ◌∙◌, ◌∷◌, ◌≡◌, ◌≤◌}
 use Rattle.defs_text.specs.Classes as classes
 use Rattle.model_scanner.specs.BlockScalar.{begins}
 use Rattle.proof_lexers.proofs.Bridges.{same_break, same_marker}
@@ -28,18 +28,15 @@ space_outside column c r p e deep z = grind (arith, eqb-true, space_past)
 here_outside : (column c : ℕ) (r : List ℕ) (p : Position) → (c == 32) ≡ false → is_break c ≡ false → p.col ≤ column → begins column p.col (c ∷ r) ≡ false → Outside column (c ∷ r) p
 here_outside column c r p e b le none = grind arith
 
-before_column : (column : ℕ) (a : List ℕ) (col : ℕ) → col < column → begins column col a ≡ false
-unfolding begins
-before_column column b col h = grind (arith, ne_eqb)
-
 pub outside : (n column : ℕ) (r : List ℕ) (p : Position) → p.col + n ≡ column → is_outside n r ≡ true → Outside column r p
+unfolding begins
 outside zero column r p col h = cc
 outside (suc n) column [] p col h = cc
 outside (suc n) column (c ∷ r) p col h = elim (cases_Bool (c == 32)) [
   | inl e ↦ space_outside column c r p e (lt-ltb p.col column (omega (arith, col))) (outside n column r (past p) (omega (arith, col)) (rw e at h))
   | inr e ↦
       let q = and_parts (not (classes.is_break c)) (not (classes.is_nul c)) (rw e at h) in
-      here_outside column c r p e (sym (same_break c) ∙ not-true _ q.0) (omega (arith, col)) (before_column column (c ∷ r) p.col (omega (arith, col)))
+      here_outside column c r p e (sym (same_break c) ∙ not-true _ q.0) (omega (arith, col)) (grind (arith, ne_eqb))
 ]
 
 marked : (r : List ℕ) (p : Position) → p.col ≡ 0 → is_document_marker r ≡ true → Outside 0 r p

@@ -11,13 +11,9 @@ pub record From (s : BlockStyle) (h : defs.Header) : Type 0 where
   pub style_is : h.style ≡ s
   pub digit_is : digit_by (digit_or_zero h.digit) ≡ h.digit
 
-digit_from : (c d : ℕ) → digit_of c ≡ Some d → digit_by d ≡ Some d
-unfolding digit_of
-digit_from c d h = grind arith
-
 from_style : (s : BlockStyle) (l : List ℕ) (h : defs.Header) → after_style s l ≡ Some h → From s h
 unfolding digit_of sign_of
-from_style s l h e = grind (arith, digit_from)
+from_style s l h e = grind arith
 
 -- the same of a header and its first character
 pub record Said (c : ℕ) (h : defs.Header) : Type 0 where

@@ -152,9 +152,6 @@ module _ (indent : ℕ) (p : Position) where
 
 -- ---- each piece
 
-none_some : {A : Type 0} (x : A) → None ≡ Some x → ⊥
-none_some x e = cc
-
 pub some_next : (d : ℕ) (n : List ℕ) → list_all is_some (d ∷ n) ≡ true → is_at_end (d ∷ n) ≡ false
 unfolding classes.is_nul
 some_next d n h = not-true _ ((and_parts (not (d == 0)) (list_all is_some n) h).0)
@@ -166,11 +163,11 @@ data Headed (indent : ℕ) (w : List ℕ) (content : Body) (next : List ℕ) (b 
       → Headed indent w content next b
 
 headed : (indent : ℕ) (w : List ℕ) (content : Body) (next : List ℕ) (b : BlockRead) → is_in_line w ≡ true → read_body (header_of w) (collection_of indent) content next ≡ Some b → Headed indent w content next b
-headed indent [] content next b inner e = absurd (none_some b e)
+headed indent [] content next b inner e = cc
 headed indent (c ∷ line) content next b inner e = by (header_of (c ∷ line)) refl
   where
     by : (o : Option defs.Header) → header_of (c ∷ line) ≡ o → Headed indent (c ∷ line) content next b
-    by None f = absurd (none_some b (rw f at e))
+    by None f = let no : None ≡ Some b = rw f at e in cc
     by (Some h) f = let z = said c line h f in by_header h line (ap (λ d. d ∷ line) z.begins) (rw (← z.begins) f) z.digit_is (first_inner c line inner).1 (rw f at e)
 
 module _ (indent : ℕ) (p : Position) (b : BlockRead) where
@@ -202,9 +199,9 @@ module _ (indent : ℕ) (p : Position) (b : BlockRead) where
   of_lines (l ∷ ls) last [] are inner some true x e = to_end l.text l.by ls last are.0 are.1 are.2 inner e
   of_lines ls last [] are inner some false x e = let no : true ≡ false = x in cc
   of_lines ls last (d ∷ n) are inner some true x e = let no : false ≡ true = sym (some_next d n some) ∙ x in cc
-  of_lines [] last (d ∷ n) are inner some false x e = absurd (none_some b e)
+  of_lines [] last (d ∷ n) are inner some false x e = cc
   of_lines (l ∷ ls) [] (d ∷ n) are inner some false x e = to_text l.text l.by ls (d ∷ n) are.0 are.1 are.2 x e
-  of_lines (l ∷ ls) (c ∷ last) (d ∷ n) are inner some false x e = absurd (none_some b e)
+  of_lines (l ∷ ls) (c ∷ last) (d ∷ n) are inner some false x e = cc
 
 pub pieces_are_read : BlockPiecesAreRead
 pieces_are_read indent piece next p b some e =

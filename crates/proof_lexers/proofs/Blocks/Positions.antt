@@ -1,5 +1,5 @@
 -- The definitions' positions are the model's.
-use Rattle.proof_lexers.proofs.Common.{[], along, ap, append-nil, append_assoc, arith, false, first_content, is_break, is_in_line, is_spaces, length, List, None, not, past, past_break, Position, position_after, position_past, refl, slice_index, sym, true, ℕ, ◌++◌, ◌+◌, ◌==◌, ◌∙◌, ◌∷◌, ◌≡◌, ◌≤◌, Read, indent_from, Column, Option, if◌then◌else◌, is_empty, Some}
+use Rattle.proof_lexers.proofs.Common.{[], along, ap, append-nil, append_assoc, arith, false, first_content, is_break, is_in_line, is_spaces, length, List, None, not, past, past_break, Position, position_after, position_past, refl, sym, true, ℕ, ◌++◌, ◌+◌, ◌∙◌, ◌∷◌, ◌≡◌, ◌≤◌, Read, indent_from, Column, Option, if◌then◌else◌, is_empty, Some}
 use Rattle.defs_text.specs.Classes as classes
 use Rattle.defs_text.specs.Breaks as cut
 use Rattle.proof_lexers.proofs.Bridges.{same_break}
@@ -20,10 +20,6 @@ pub feed_past : (p : Position) (r : List ℕ) → position_past p 10 r ≡ past_
 unfolding classes.is_break
 feed_past p a = grind (arith, line_position)
 
-carriage_past : (p : Position) (r : List ℕ) → (slice_index r 0 == 10) ≡ false → position_past p 13 r ≡ past_break p
-unfolding classes.is_break
-carriage_past p a h = grind (arith, line_position)
-
 both_past : (p : Position) (r : List ℕ) → position_past p 13 (10 ∷ r) ≡ past p
 unfolding classes.is_break
 both_past p r = in_line_position 13 (10 ∷ r) p refl
@@ -37,7 +33,8 @@ after_chars (c ∷ w) y next p h =
     ap (λ x. position_after x (w ++ y) next) (past_is p c ((w ++ y) ++ next) q.0) ∙ after_chars w y next (past p) q.1
 
 pub after_put : (k : Break) (y next : List ℕ) (p : Position) → Fits k (y ++ next) → position_after p (put k y) next ≡ position_after (after_break k p) y next
-after_put a y next p fits = grind (arith, feed_past, carriage_past, both_past, past)
+unfolding classes.is_break
+after_put a y next p fits = grind (arith, feed_past, line_position, both_past, past)
 
 pub spell_more : (ls : List Line) (a b : List ℕ) → spell ls a ++ b ≡ spell ls (a ++ b)
 spell_more [] a b = refl
@@ -66,11 +63,6 @@ pub first_empty : (column : ℕ) (l : Line) (y : List ℕ) (p : Position) → is
     → first_content column false p (l.text ++ put l.by y) ≡ first_content column false (after_line l p) y
 first_empty column l y p h le fits = first_is column (l.text ++ put l.by y) p [] ∙ ap stopped_at (empty_passes column l y p [] h le fits) ∙ sym (first_is column y (after_line l p) (10 ∷ []))
 
--- the header's line is passed over
-header_put : (column : ℕ) (k : Break) (y : List ℕ) (p : Position) → Fits k y → first_content column true p (put k y) ≡ first_content column false (after_break k p) y
-unfolding classes.is_break
-header_put column a b p fits = grind arith
-
 header_chars : (column : ℕ) (w y : List ℕ) (p : Position) → is_in_line w ≡ true → first_content column true p (w ++ y) ≡ first_content column true (along w p) y
 header_chars column [] y p h = refl
 header_chars column (c ∷ w) y p h =
@@ -79,7 +71,8 @@ header_chars column (c ∷ w) y p h =
     ap (λ b. first_content column (not b) (position_past p c (w ++ y)) (w ++ y)) ends ∙ ap (λ x. first_content column true x (w ++ y)) (past_is p c (w ++ y) q.0) ∙ header_chars column w y (past p) q.1
 
 pub first_header : (column : ℕ) (w : List ℕ) (k : Break) (y : List ℕ) (p : Position) → is_in_line w ≡ true → Fits k y → first_content column true p (w ++ put k y) ≡ first_content column false (after_break k (along w p)) y
-first_header column w k y p h fits = header_chars column w (put k y) p h ∙ header_put column k y (along w p) fits
+unfolding classes.is_break
+first_header column w k y p h fits = header_chars column w (put k y) p h ∙ (grind arith)
 
 pub header_alone : (column : ℕ) (w : List ℕ) (p : Position) → is_in_line w ≡ true → first_content column true p w ≡ None
 header_alone column w p h = ap (λ x. first_content column true p x) (sym (append-nil w)) ∙ header_chars column w [] p h

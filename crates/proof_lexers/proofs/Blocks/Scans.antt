@@ -1,5 +1,5 @@
 -- The whole scan of a block scalar whose lines are known.
-use Rattle.proof_lexers.proofs.Common.{[], after_header, along, and_then, ap, append-nil, arith, At, begins_with, Block, block, block_position, BlockRead, Bool, breaks, cases_Bool, chomping_of, collection_of, Column, column_by, content_row, digit_by, digit_or_zero, drop, empty_row, empty_text, Err, false, Fault, first_content, further_position, has_content, Header, header, header_of, indent_from, indicator_of, indicators_of, inl, inr, is_at_end, is_empty, is_in_line, is_literal_style, is_open, is_spaces, is_tabbed, IsRead, le-ltb, length, Lines, lines_from, List, max, nat_le, nat_lt, nat_tests, None, not, Ok, past, past_spaces, Position, position_after, position_or, Read, read_header, reads, refl, refuses, Result, Row, rows_of, Some, suc, sym, tab, tail, true, value_before_end, value_before_text, with_content, without_spaces, ℕ, ◌&&◌, ◌++◌, ◌+◌, ◌∙◌, ◌∷◌, ◌≡◌, ◌≤◌, Option}
+use Rattle.proof_lexers.proofs.Common.{[], after_header, along, and_then, ap, append-nil, arith, At, begins_with, Block, block, block_position, BlockRead, Bool, breaks, cases_Bool, chomping_of, collection_of, Column, column_by, content_row, digit_by, digit_or_zero, drop, empty_row, empty_text, Err, false, Fault, first_content, further_position, has_content, Header, header, header_of, indent_from, indicator_of, indicators_of, inl, inr, is_at_end, is_in_line, is_literal_style, is_open, is_spaces, is_tabbed, IsRead, le-ltb, length, Lines, lines_from, List, max, nat_le, nat_lt, nat_tests, None, not, Ok, past, past_spaces, Position, position_after, position_or, Read, read_header, reads, refl, refuses, Result, Row, rows_of, Some, suc, sym, tab, tail, true, value_before_end, value_before_text, with_content, without_spaces, ℕ, ◌&&◌, ◌++◌, ◌+◌, ◌∙◌, ◌∷◌, ◌≡◌, ◌≤◌, Option}
 use Rattle.yaml_tokens.specs.declared.problem.Problem.TheVariants as problem
 use Rattle.defs_text.specs.Classes as classes
 use Rattle.defs_text.specs.BlockScalar as defs
@@ -10,14 +10,11 @@ use Rattle.proof_lexers.proofs.Blocks.Written.{Break, Line, put, spell, texts, F
 use Rattle.proof_lexers.proofs.Blocks.Margins.{after_break, after_lines, at, before, margin_passes, last_passes, col_along, lines_front}
 use Rattle.proof_lexers.proofs.Blocks.First.{content_is}
 use Rattle.proof_lexers.proofs.Blocks.Positions.{spell_more, after_chars, after_put, after_spell, first_header, header_alone, stopped_at, first_is}
-use Rattle.proof_lexers.proofs.Blocks.Rows.{after_rows, front, written, rows_go, last_empty, last_content, break_ends, IsRow, no_content, is_content, Starts, starts}
+use Rattle.proof_lexers.proofs.Blocks.Rows.{after_rows, front, written, rows_go, last_empty, last_content, break_ends, IsRow, no_content, is_content, starts}
 use Rattle.proof_lexers.proofs.Blocks.Further.{Outside, further_stops}
 use Rattle.proof_lexers.proofs.Blocks.Values.{after_empty, content_value, empty_value, end_value, last_value}
 use Rattle.proof_lexers.proofs.Blocks.HeaderFacts.{header_reads, header_tabs, linebreak_put}
-use Rattle.proof_lexers.proofs.Blocks.Walks.{Found, found_in, all_empty, are_full}
-
-not_nil : (k : Break) (a : List ℕ) → is_empty (put k a) ≡ false
-not_nil b a = grind arith
+use Rattle.proof_lexers.proofs.Blocks.Walks.{found_in, all_empty, are_full}
 
 second_false : (a b c : Bool) → (((a && false) && b) && c) ≡ false
 second_false d b c = grind arith
@@ -44,7 +41,7 @@ module _ (h : defs.Header) (line : List ℕ) (k : Break) (indent : ℕ) (p : Pos
   pub block_is : (ms : List Line) (e : List ℕ) (column : ℕ) → column_by h.digit (collection_of indent) (texts ms ++ e ∷ []) ≡ column → AreLines ms e → is_in_line e ≡ true → Fits k (spell ms e) → begins_with tab (spell ms e) ≡ false
       → scanned (spell ms e) ≡ after (indent_from column (spell ms e) (at start []))
   unfolding block
-  block_is ms e column same are last fits still = grind (arith, content, content_is, at, tab, linebreak_put, header_reads, break_ends, past, not_nil)
+  block_is ms e column same are last fits still = grind (arith, content, content_is, at, tab, linebreak_put, header_reads, break_ends, past)
 
   pub tab_fails : (a : List ℕ) → Fits k a → begins_with tab a ≡ true → scanned a ≡ Err (At problem.BlockScalarTab p)
   unfolding block
@@ -80,18 +77,6 @@ module _ (h : defs.Header) (line : List ℕ) (k : Break) (indent : ℕ) (p : Pos
   abbrev pub with_header : List ℕ → List ℕ
   with_header a = indicator_of h.style ∷ (line ++ put k a)
 
-  piece_position : (ls : List Line) (next : List ℕ) → AreLines ls next → Fits k (spell ls next) → position_after p (with_header (spell ls [])) next ≡ after_lines ls start
-  piece_position ls next are fits =
-      let more : Fits k (spell ls [] ++ next) = rw (spell_more ls [] next) fits in
-      after_chars (indicator_of h.style ∷ line) (put k (spell ls [])) next p (style_inner h.style line inner) ∙ after_put k (spell ls []) next (along line (past p)) more ∙ after_spell ls [] next start are
-
-  end_position : (ls : List Line) (last : List ℕ) → AreLines ls last → is_in_line last ≡ true → Fits k (spell ls last) → position_after p (with_header (spell ls last)) [] ≡ along last (after_lines ls start)
-  end_position ls last are last_inner fits =
-      let more : Fits k (spell ls last ++ []) = rw append-nil fits in
-      let are' : AreLines ls (last ++ []) = rw append-nil are in
-      after_chars (indicator_of h.style ∷ line) (put k (spell ls last)) [] p (style_inner h.style line inner) ∙ after_put k (spell ls last) [] (along line (past p)) more ∙ after_spell ls last [] start are'
-      ∙ ap (λ x. position_after (after_lines ls start) x []) (sym (append-nil last)) ∙ after_chars last [] [] (after_lines ls start) last_inner
-
   piece_first : (column : ℕ) (a : List ℕ) (r : Read Column) → Fits k a → indent_from column a (at start []) ≡ r → first_content column true p (with_header a) ≡ stopped_at r
   piece_first column a r fits e = first_header column (indicator_of h.style ∷ line) k a p (style_inner h.style line inner) fits ∙ first_is column a start [] ∙ ap stopped_at e
 
@@ -116,18 +101,12 @@ module _ (h : defs.Header) (line : List ℕ) (k : Break) (indent : ℕ) (p : Pos
     closed z n = rw (z.is) refl
 
     position_is : past_spaces (after_lines ls start) next ≡ further_position p piece next
-    position_is = ap (λ q. past_spaces q next) (sym (piece_position ls next are fits))
+    position_is = let piece_position : position_after p (with_header (spell ls [])) next ≡ after_lines ls start = let more : Fits k (spell ls [] ++ next) = rw (spell_more ls [] next) fits in
+        after_chars (indicator_of h.style ∷ line) (put k (spell ls [])) next p (style_inner h.style line inner) ∙ after_put k (spell ls []) next (along line (past p)) more ∙ after_spell ls [] next start are in ap (λ q. past_spaces q next) (sym piece_position)
 
     -- where the piece's content begins, if the search in it ends so
     where_is : {o : Option Position} → first_content column true p piece ≡ o → block_position column p piece next ≡ position_or o (further_position p piece next)
     where_is e = rw (e, text) refl
-
-    with_rows : has_content rs ≡ true → Outside column next (after_lines ls start) → Found column ls start [] → IsRead indent p before_text piece next (scanned (spell ls next))
-    with_rows some z f =
-        let first : first_content column true p piece ≡ Some (f.position) = piece_first column (spell ls []) _ fits_alone (f.found [] are_alone) in
-        reads_it column before_text (spell ls next) piece next (f.rest next) f.char f.position _ f.breaks_before lines_read free (rw (first, second_false (not (is_at_end next))) refl)
-        found_by (f.found next are) (in_position column f.position.col f.in_column) (read_to z) position_is (where_is first)
-        (ap (λ b. lines_read.text ++ tail (chomping_of h.chomping) b lines_read) (closed z _) ∙ content_value h false rs (are_full column (texts ls) rs rows) some ∙ rw some refl)
 
     without_rows : has_content rs ≡ false → (z : Outside column next (after_lines ls start)) → (l i : Bool) → nat_lt z.position.col column ≡ l → nat_le indent z.position.col ≡ i → IsRead indent p before_text piece next (scanned (spell ls next))
     without_rows none z = by
@@ -155,7 +134,13 @@ module _ (h : defs.Header) (line : List ℕ) (k : Break) (indent : ℕ) (p : Pos
         by false i e g = go (rw e refl) (is_here ∙ rw e (and_false (nat_le indent z.position.col)))
 
     pub before_further : Outside column next (after_lines ls start) → IsRead indent p before_text piece next (scanned (spell ls next))
-    before_further z = elim (cases_Bool (has_content rs)) [ inl e ↦ with_rows e z (found_in column ls next start [] rs refl are rows e) | inr e ↦ without_rows e z _ _ refl refl ]
+    before_further z = elim (cases_Bool (has_content rs)) [
+      | inl e ↦ let f = found_in column ls next start [] rs refl are rows e in let first : first_content column true p piece ≡ Some f.position = piece_first column (spell ls []) _ fits_alone (f.found [] are_alone) in
+          reads_it column before_text (spell ls next) piece next (f.rest next) f.char f.position _ f.breaks_before lines_read free (rw (first, second_false (not (is_at_end next))) refl)
+          found_by (f.found next are) (in_position column f.position.col f.in_column) (read_to z) position_is (where_is first)
+          (ap (λ b. lines_read.text ++ tail (chomping_of h.chomping) b lines_read) (closed z _) ∙ content_value h false rs (are_full column (texts ls) rs rows) e ∙ rw e refl)
+      | inr e ↦ without_rows e z _ _ refl refl
+    ]
 
   -- ---- at the end of the text
 
@@ -175,13 +160,13 @@ module _ (h : defs.Header) (line : List ℕ) (k : Break) (indent : ℕ) (p : Pos
     last_position = after_lines ls start
 
     whole_position : along last last_position ≡ further_position p whole []
-    whole_position = sym (end_position ls last are last_inner fits)
+    whole_position = let end_position : position_after p (with_header (spell ls last)) [] ≡ along last (after_lines ls start) = let more : Fits k (spell ls last ++ []) = rw append-nil fits in
+        let are' : AreLines ls (last ++ []) = rw append-nil are in
+        after_chars (indicator_of h.style ∷ line) (put k (spell ls last)) [] p (style_inner h.style line inner) ∙ after_put k (spell ls last) [] (along line (past p)) more ∙ after_spell ls last [] start are'
+        ∙ ap (λ x. position_after (after_lines ls start) x []) (sym (append-nil last)) ∙ after_chars last [] [] (after_lines ls start) last_inner in sym end_position
 
     reaches : (n : ℕ) → (nat_le column n && nat_lt 0 n) ≡ nat_le (max column 1) n
     reaches n = both _ _ (λ e. grind (arith, nat_tests)) (λ e. grind (arith, nat_tests))
-
-    last_col : (along last last_position).col ≡ last_position.col + length last
-    last_col = col_along last last_position
 
     at_front : last_position.col ≡ 0
     at_front = lines_front ls start refl
@@ -190,7 +175,7 @@ module _ (h : defs.Header) (line : List ℕ) (k : Break) (indent : ℕ) (p : Pos
     read_end r = IsRead indent p (before_end r) whole [] (scanned (spell ls last))
 
     far : (along last last_position).col ≡ length last
-    far = let e = at_front in let g = last_col in omega (arith, e, g)
+    far = let e = at_front in let g : (along last last_position).col ≡ last_position.col + length last = col_along last last_position in omega (arith, e, g)
 
     -- lines with content, after the search for it
     content_by : (r : Row) (x : Lines) → Sees column (spell ls last) → lines_from (is_literal_style h.style) column (spell ls last) (front start (after_empty 0)) ≡ Ok (record { rest = []; position = along last last_position; value = x })
@@ -201,14 +186,6 @@ module _ (h : defs.Header) (line : List ℕ) (k : Break) (indent : ℕ) (p : Pos
 
     sees_before : has_content rs ≡ true → Sees column (spell ls last)
     sees_before some = let f = found_in column ls last start [] rs refl are rows some in record { char = f.char; rest = f.rest last; position = f.position; breaks_before = f.breaks_before; in_column = f.in_column; found = f.found last are }
-
-    -- an empty last line
-    empty_some : has_content rs ≡ true → is_spaces last ≡ true → length last ≤ column → read_end empty_row
-    empty_some some spaces le =
-        content_by empty_row rows_read (sees_before some)
-        (rows_go (is_literal_style h.style) column ls last start (after_empty 0) rs refl are rows ∙ last_empty (is_literal_style h.style) column last last_position rows_read at_front spaces le)
-        (ap (λ b. rows_read.text ++ tail (chomping_of h.chomping) b rows_read) (reaches (along last last_position).col ∙ ap (nat_le (max column 1)) far)
-        ∙ content_value h (nat_le (max column 1) (length last)) rs (are_full column (texts ls) rs rows) some ∙ rw some refl)
 
     empty_none : has_content rs ≡ false → is_spaces last ≡ true → length last ≤ column → read_end empty_row
     empty_none none spaces le =
@@ -227,32 +204,34 @@ module _ (h : defs.Header) (line : List ℕ) (k : Break) (indent : ℕ) (p : Pos
     opens : (n : ℕ) → suc column ≤ n → (nat_le column n && nat_lt 0 n) ≡ true
     opens n h = grind (arith, nat_tests)
 
-    content_text : Starts column last last_position column → suc column ≤ length last
-        → last_read.text ++ tail (chomping_of h.chomping) (is_open column [] (along last last_position).col) last_read ≡ value_before_end h column rs last last_row
-    content_text z long =
-        let open_is : is_open column [] (along last last_position).col ≡ true = ap (λ n. nat_le column n && nat_lt 0 n) far ∙ opens (length last) long in
-        ap (λ b. last_read.text ++ tail (chomping_of h.chomping) b last_read) open_is
-        ∙ ap (λ m. (written (is_literal_style h.style) column (content_row m) rows_read).text ++ tail (chomping_of h.chomping) true (written (is_literal_style h.style) column (content_row m) rows_read)) z.is
-        ∙ last_value h rs z.char z.rest (are_full column (texts ls) rs rows)
-        ∙ ap (λ m. with_content h 0 (rs ++ content_row m ∷ [])) (sym z.is)
-
-    sees_last : has_content rs ≡ false → Starts column last last_position column → Sees column (spell ls last)
-    sees_last none z = record {
-      char = z.char;
-      rest = z.rest ++ [];
-      position = z.position;
-      breaks_before = breaks (length rs);
-      in_column = z.in_column;
-      found = all_empty column ls last start [] rs refl are rows none ∙ ap (λ a. indent_from column a (at last_position (breaks (length rs)))) (sym (append-nil last)) ∙ z.found [] (breaks (length rs));
-    }
-
     pub before_the_end : (r : Row) → IsRow column last r → read_end r
-    before_the_end empty_row (no_content spaces le) = elim (cases_Bool (has_content rs)) [ inl e ↦ empty_some e spaces le | inr e ↦ empty_none e spaces le ]
+    before_the_end empty_row (no_content spaces le) = elim (cases_Bool (has_content rs)) [
+      | inl e ↦ content_by empty_row rows_read (sees_before e)
+          (rows_go (is_literal_style h.style) column ls last start (after_empty 0) rs refl are rows ∙ last_empty (is_literal_style h.style) column last last_position rows_read at_front spaces le)
+          (ap (λ b. rows_read.text ++ tail (chomping_of h.chomping) b rows_read) (reaches (along last last_position).col ∙ ap (nat_le (max column 1)) far)
+          ∙ content_value h (nat_le (max column 1) (length last)) rs (are_full column (texts ls) rs rows) e ∙ rw e refl)
+      | inr e ↦ empty_none e spaces le
+    ]
     before_the_end (content_row m) (is_content lead long free) =
         let col : last_position.col + column ≡ column = (let e = at_front in omega (arith, e)) in
         let z = starts column column last last_position col lead long last_inner in
-        content_by last_row last_read (elim (cases_Bool (has_content rs)) [ inl e ↦ sees_before e | inr e ↦ sees_last e z ])
-        (rows_go (is_literal_style h.style) column ls last start (after_empty 0) rs refl are rows ∙ last_content (is_literal_style h.style) column last last_position rows_read at_front last_inner lead long free) (content_text z long)
+        let content_text : last_read.text ++ tail (chomping_of h.chomping) (is_open column [] (along last last_position).col) last_read ≡ value_before_end h column rs last last_row = let open_is : is_open column [] (along last last_position).col ≡ true = ap (λ n. nat_le column n && nat_lt 0 n) far ∙ opens (length last) long in
+        ap (λ b. last_read.text ++ tail (chomping_of h.chomping) b last_read) open_is
+        ∙ ap (λ m. (written (is_literal_style h.style) column (content_row m) rows_read).text ++ tail (chomping_of h.chomping) true (written (is_literal_style h.style) column (content_row m) rows_read)) z.is
+        ∙ last_value h rs z.char z.rest (are_full column (texts ls) rs rows)
+        ∙ ap (λ m. with_content h 0 (rs ++ content_row m ∷ [])) (sym z.is) in
+        content_by last_row last_read (elim (cases_Bool (has_content rs)) [
+          | inl e ↦ sees_before e
+          | inr e ↦ record {
+            char = z.char;
+            rest = z.rest ++ [];
+            position = z.position;
+            breaks_before = breaks (length rs);
+            in_column = z.in_column;
+            found = all_empty column ls last start [] rs refl are rows e ∙ ap (λ a. indent_from column a (at last_position (breaks (length rs)))) (sym (append-nil last)) ∙ z.found [] (breaks (length rs));
+          }
+        ])
+        (rows_go (is_literal_style h.style) column ls last start (after_empty 0) rs refl are rows ∙ last_content (is_literal_style h.style) column last last_position rows_read at_front last_inner lead long free) content_text
 
 -- ---- a header at the end of the text
 

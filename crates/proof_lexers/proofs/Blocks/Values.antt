@@ -32,39 +32,33 @@ record Holds (x : Lines) (text : List ℕ) (n : ℕ) : Type 0 where
 holds_on : (x y : Lines) (t u : List ℕ) (n : ℕ) → x ≡ y → t ≡ u → Holds y t n → Holds x u n
 holds_on x y t u n e f z = record { text_is = ap (λ (l : Lines). l.text) e ∙ z.text_is ∙ f; breaks_are = ap (λ (l : Lines). l.breaks) e ∙ z.breaks_are; is_broken = ap (λ (l : Lines). l.broken) e ∙ z.is_broken }
 
-between_is : (s : BlockStyle) (t : List ℕ) (n : ℕ) (b k : Bool) → between (is_literal_style s) (after_content t n b) k ≡ between_lines s n (b || k)
-unfolding between
-between_is a t n b k = grind arith
-
-between_first : (s : BlockStyle) (n : ℕ) (k : Bool) → between (is_literal_style s) (after_empty n) k ≡ breaks n
-unfolding between
-between_first a n k = grind arith
-
 module _ (s : BlockStyle) where
   abbrev rows_after : List Row → Lines → Lines
   rows_after rs l = after_rows (is_literal_style s) rs l
 
   text_goes : (rs : List Row) (t l : List ℕ) (n : ℕ) (b : Bool) → AreFull rs → b ≡ starts_blank l → Holds (rows_after rs (after_content t n b)) (t ++ text_after s l n rs) (empty_after n rs)
+  unfolding between
   text_goes [] t l n b full e = record { text_is = sym (append-nil t); breaks_are = refl; is_broken = refl }
   text_goes (empty_row ∷ rs) t l n b full e =
       holds_on _ _ _ _ _ (ap (λ x. rows_after rs (record { text = t; breaks = x; broken = true; blank = b })) (more_breaks n)) refl (text_goes rs t l (suc n) b full e)
   text_goes (content_row [] ∷ rs) t l n b full e = absurd full
   text_goes (content_row (c ∷ m) ∷ rs) t l n b full e =
       let gap = between_lines s n (starts_blank l || starts_blank (c ∷ m)) in
-      let same : between (is_literal_style s) (after_content t n b) (is_blank c) ≡ gap = between_is s t n b (is_blank c) ∙ ap (λ k. between_lines s n (k || is_blank c)) e ∙ ap (λ k. between_lines s n (starts_blank l || k)) (sym (same_blank c)) in
+      let same : between (is_literal_style s) (after_content t n b) (is_blank c) ≡ gap = (grind arith) ∙ ap (λ k. between_lines s n (k || is_blank c)) e ∙ ap (λ k. between_lines s n (starts_blank l || k)) (sym (same_blank c)) in
       holds_on _ (rows_after rs (after_content ((t ++ gap) ++ c ∷ m) 0 (is_blank c))) (((t ++ gap) ++ c ∷ m) ++ text_after s (c ∷ m) 0 rs) _ _
       (ap (λ g. rows_after rs (after_content ((t ++ g) ++ c ∷ m) 0 (is_blank c))) same)
       (ap (λ y. y ++ text_after s (c ∷ m) 0 rs) (append_assoc t gap (c ∷ m)) ∙ append_assoc t (gap ++ c ∷ m) (text_after s (c ∷ m) 0 rs))
       (text_goes rs ((t ++ gap) ++ c ∷ m) (c ∷ m) 0 (is_blank c) full (sym (same_blank c)))
 
   first_goes : (rs : List Row) (n k : ℕ) → AreFull rs → has_content rs ≡ true → Holds (rows_after rs (after_empty n)) (breaks n ++ text_of s rs) (empty_after k rs)
+  unfolding between
   first_goes [] n k full h = cc
   first_goes (empty_row ∷ rs) n k full h =
       holds_on _ _ _ _ _ (ap (λ x. rows_after rs (record { text = []; breaks = x; broken = false; blank = false })) (more_breaks n)) (break_before n (text_of s rs)) (first_goes rs (suc n) (suc k) full h)
   first_goes (content_row [] ∷ rs) n k full h = absurd full
   first_goes (content_row (c ∷ m) ∷ rs) n k full h =
       holds_on _ (rows_after rs (after_content (breaks n ++ c ∷ m) 0 (is_blank c))) ((breaks n ++ c ∷ m) ++ text_after s (c ∷ m) 0 rs) _ _
-      (ap (λ g. rows_after rs (after_content (g ++ c ∷ m) 0 (is_blank c))) (between_first s n (is_blank c)))
+      (ap (λ g. rows_after rs (after_content (g ++ c ∷ m) 0 (is_blank c))) (grind arith))
       (append_assoc (breaks n) (c ∷ m) (text_after s (c ∷ m) 0 rs))
       (text_goes rs (breaks n ++ c ∷ m) (c ∷ m) 0 (is_blank c) full (sym (same_blank c)))
 
@@ -94,16 +88,12 @@ content_value h unbroken rs full some =
     ap (λ t. t ++ tail (chomping_of h.chomping) unbroken (after_rows (is_literal_style h.style) rs (after_empty 0))) z.text_is
     ∙ ap (λ t. text_of h.style rs ++ t) (tail_is h.chomping unbroken _ (empty_after 0 rs) z.breaks_are z.is_broken)
 
--- no line with content, before further text
-nothing_is : (ch : defs.Chomping) (n : ℕ) → tail (chomping_of ch) false (after_empty n) ≡ nothing_before_text ch n
-unfolding tail
-nothing_is a n = grind arith
-
 pub empty_value : (h : defs.Header) (rs : List Row) → has_content rs ≡ false
     → (after_rows (is_literal_style h.style) rs (after_empty 0)).text ++ tail (chomping_of h.chomping) false (after_rows (is_literal_style h.style) rs (after_empty 0)) ≡ nothing_before_text h.chomping (length rs)
+unfolding tail
 empty_value h rs none =
     let same : (n : ℕ) → 0 + n ≡ n = λ n. omega arith in
-    ap (λ (l : Lines). l.text ++ tail (chomping_of h.chomping) false l) (none_goes h.style rs 0 none ∙ ap after_empty (same (length rs))) ∙ nothing_is h.chomping (length rs)
+    ap (λ (l : Lines). l.text ++ tail (chomping_of h.chomping) false l) (none_goes h.style rs 0 none ∙ ap after_empty (same (length rs))) ∙ (grind arith)
 
 -- no line with content, at the end of the text
 pub end_value : (ch : defs.Chomping) (n : ℕ) → empty_text (chomping_of ch) true (breaks n) ≡ nothing_before_end ch n
@@ -127,14 +117,11 @@ some_more [] m = refl
 some_more (empty_row ∷ rs) m = some_more rs m
 some_more (content_row n ∷ rs) m = refl
 
-last_tail : (ch : defs.Chomping) (x : Lines) (n : ℕ) → x.breaks ≡ [] → breaks n ≡ [] → tail (chomping_of ch) true (record x { broken = false }) ≡ defs.tail ch 0 n
-unfolding tail
-last_tail a x n e f = grind arith
-
 pub last_value : (h : defs.Header) (rs : List Row) (c : ℕ) (m : List ℕ) → AreFull rs
     → (after_row (is_literal_style h.style) (content_row (c ∷ m)) (after_rows (is_literal_style h.style) rs (after_empty 0))).text
     ++ tail (chomping_of h.chomping) true (record (after_row (is_literal_style h.style) (content_row (c ∷ m)) (after_rows (is_literal_style h.style) rs (after_empty 0))) { broken = false })
     ≡ with_content h 0 (rs ++ content_row (c ∷ m) ∷ [])
+unfolding tail
 last_value h rs c m full =
     let all = rs ++ content_row (c ∷ m) ∷ [] in
     let x = after_row (is_literal_style h.style) (content_row (c ∷ m)) (after_rows (is_literal_style h.style) rs (after_empty 0)) in
@@ -142,4 +129,4 @@ last_value h rs c m full =
     let more = rows_more (is_literal_style h.style) rs (content_row (c ∷ m)) (after_empty 0) in
     let text : x.text ≡ text_of h.style all = ap (λ (l : Lines). l.text) (sym more) ∙ z.text_is in
     let none : breaks (empty_after 0 all) ≡ [] = sym z.breaks_are ∙ ap (λ (l : Lines). l.breaks) more in
-    ap (λ t. t ++ tail (chomping_of h.chomping) true (record x { broken = false })) text ∙ ap (λ t. text_of h.style all ++ t) (last_tail h.chomping x (empty_after 0 all) refl none)
+    ap (λ t. t ++ tail (chomping_of h.chomping) true (record x { broken = false })) text ∙ ap (λ t. text_of h.style all ++ t) (grind arith)

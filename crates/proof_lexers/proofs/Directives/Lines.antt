@@ -1,5 +1,5 @@
 -- Directives are read as their lines say, and no other text is.
-use Rattle.proof_lexers.proofs.Common.{[], after, after_declaration, after_major, after_value, after_version, and_parts, and_then, ap, append-nil, append_assoc, arith, At, begins_prefix, begins_with, blanks, Bool, by_comment, by_declaration, by_name, by_octets, by_version, cases_Bool, codes, declaration_by, decoded, Directive, directive, directive_of, DirectivesAreRead, DirectivesEndAsTheirTextSays, eqb-true, Err, false, Fault, first_break, further, handle_and_rest, has_no_break, if◌then◌else◌, inl, inr, is_alpha, is_alphanumeric, is_at_gap, is_blank, is_flow, is_handle, is_rest_of_line, is_same, is_tag, is_uri, is_uri_mark, IsDirectiveRefusal, IsNoDeclaration, IsNoVersion, kind, leading, length, length-append, List, long_major, long_minor, minor_of, name, next_line, no_major, no_minor, no_name, no_point, no_prefix, None, not, not-false, not-true, number, number_of, Ok, open_name, Option, past, Position, position_after, prefix, prefix_after, Problem, problem_of, Read, reads, refl, refuses, reserved, Result, skip_while, slice_index, Some, suc, sym, tag, tag_declaration, tag_value, token_of, true, unknown, UriFault, value, version, version_of, version_value, with_minor, with_prefix, ℕ, ◌++◌, ◌+◌, ◌==◌, ◌||◌, ◌∙◌, ◌∷◌, ◌≡◌, nat_tests}
+use Rattle.proof_lexers.proofs.Common.{[], after, after_declaration, after_major, after_value, after_version, and_parts, and_then, ap, append-nil, append_assoc, arith, At, begins_prefix, begins_with, blanks, Bool, by_comment, by_declaration, by_name, by_octets, by_version, cases_Bool, codes, declaration_by, decoded, Directive, directive, directive_of, DirectivesAreRead, DirectivesEndAsTheirTextSays, eqb-true, Err, false, Fault, first_break, further, handle_and_rest, has_no_break, if◌then◌else◌, inl, inr, is_alpha, is_alphanumeric, is_at_gap, is_blank, is_flow, is_handle, is_rest_of_line, is_same, is_tag, is_uri, is_uri_mark, IsDirectiveRefusal, IsNoDeclaration, IsNoVersion, kind, leading, length, length-append, List, long_major, long_minor, name, next_line, no_major, no_minor, no_name, no_point, no_prefix, None, not, not-false, not-true, number, number_of, Ok, open_name, Option, past, Position, position_after, prefix, prefix_after, Problem, problem_of, Read, reads, refl, refuses, reserved, Result, skip_while, slice_index, Some, suc, sym, tag, tag_declaration, tag_value, token_of, true, unknown, UriFault, value, version, version_of, version_value, with_minor, with_prefix, ℕ, ◌++◌, ◌+◌, ◌==◌, ◌||◌, ◌∙◌, ◌∷◌, ◌≡◌, nat_tests}
 use Rattle.defs_token.specs.Token.{Tok}
 use Rattle.yaml_tokens.specs.declared.problem.Problem.TheVariants as problem
 use Rattle.defs_text.specs.Classes as classes
@@ -30,26 +30,9 @@ none_by a = grind arith
 four_texts : (a b c d r : List ℕ) → a ++ (b ++ (c ++ (46 ∷ (d ++ r)))) ≡ (a ++ (b ++ (c ++ 46 ∷ d))) ++ r
 four_texts a b c d r = sym (append_assoc a (b ++ (c ++ 46 ∷ d)) r ∙ ap (λ k. a ++ k) (append_assoc b (c ++ 46 ∷ d) r ∙ ap (λ k. b ++ k) (append_assoc c (46 ∷ d) r)))
 
-five_texts : (a b c d e r : List ℕ) → a ++ (b ++ (c ++ (d ++ (e ++ r)))) ≡ (a ++ (b ++ (c ++ (d ++ e)))) ++ r
-five_texts a b c d e r =
-    sym (append_assoc a (b ++ (c ++ (d ++ e))) r ∙ ap (λ k. a ++ k) (append_assoc b (c ++ (d ++ e)) r ∙ ap (λ k. b ++ k) (append_assoc c (d ++ e) r ∙ ap (λ k. c ++ k) (append_assoc d e r))))
-
-four_positions : (p : Position) (a b c d : List ℕ) → further (length d) (past (further (length c) (further (length b) (further (length a) (past p))))) ≡ further (suc (length (a ++ (b ++ (c ++ 46 ∷ d))))) p
-four_positions p a b c d = grind (arith, length-append, same_place)
-
-five_positions : (p : Position) (a b c d e : List ℕ) → further (length e) (further (length d) (further (length c) (further (length b) (further (length a) (past p))))) ≡ further (suc (length (a ++ (b ++ (c ++ (d ++ e)))))) p
-five_positions p a b c d e = grind (arith, length-append, same_place)
-
-no_percent_break : (l : List ℕ) → has_no_break l ≡ true → has_no_break (37 ∷ l) ≡ true
-unfolding classes.is_break
-no_percent_break l h = h
-
 no_hash : classes.is_blank_or_end 35 ≡ true → ⊥
 unfolding classes.is_blank_or_end classes.is_blank classes.is_break classes.is_nul
 no_hash h = cc
-
-no_minor_of : (r : List ℕ) → minor_of None r ≡ None
-no_minor_of a = grind (arith, none_by, after)
 
 no_tag_at_end : (n : List ℕ) → ends_line n ≡ true → is_tag (slice_index n 0) ≡ false
 unfolding is_tag is_uri is_alphanumeric is_uri_mark is_flow classes.is_tag classes.is_uri classes.is_decimal_digit classes.is_letter classes.is_flow
@@ -66,10 +49,11 @@ module _ (start : Position) (l n : List ℕ) (line : has_no_break l ≡ true) (e
 
   last_position : (before m : List ℕ) (p : Position) → l ≡ before ++ m → p ≡ further (suc (length before)) start
       → position_after (further (length m) p) (first_break n) (next_line n) ≡ position_after start ((37 ∷ l) ++ first_break n) (next_line n)
+  unfolding classes.is_break
   last_position before m p cut position =
       let so_long : length l ≡ length before + length m = ap length cut ∙ length-append before m in
       let here : further (length m) p ≡ position_after start (37 ∷ l) (first_break n ++ next_line n) =
-      ap (further (length m)) position ∙ same_place start (suc (length l)) (omega (arith, so_long)) (omega (arith, so_long)) ∙ position_in_line start (37 ∷ l) (first_break n ++ next_line n) (no_percent_break l line) in
+      ap (further (length m)) position ∙ same_place start (suc (length l)) (omega (arith, so_long)) (omega (arith, so_long)) ∙ position_in_line start (37 ∷ l) (first_break n ++ next_line n) line in
       ap (λ q. position_after q (first_break n) (next_line n)) here ∙ sym (position_append start (37 ∷ l) (first_break n) (next_line n))
 
   finish : (before m : List ℕ) (d : Directive) (p : Position) → l ≡ before ++ m → p ≡ further (suc (length before)) start → directive_of (37 ∷ l) ≡ (if is_rest_of_line m then Some d else None)
@@ -140,7 +124,7 @@ module _ (start : Position) (l n : List ℕ) (line : has_no_break l ≡ true) (e
         cut = from_word ∙ ap (λ r. leading classes.is_alpha l ++ (leading classes.is_blank after_word ++ r)) tail ∙ four_texts (leading classes.is_alpha l) (leading classes.is_blank after_word) major minor rest
 
         position : further (length minor) (past (further (length major) said_position)) ≡ further (suc (length before)) start
-        position = four_positions start (leading classes.is_alpha l) (leading classes.is_blank after_word) major minor
+        position = grind (arith, length-append, same_place)
 
     minor_read : (s : List ℕ) (v : ℕ) → after classes.is_decimal_digit said ≡ 46 ∷ s → number_of major ≡ Some v
         → Told start l n (and_then (and_then (number start (s ++ n) (past (further (length major) said_position))) (λ k. Ok (with_minor v k))) (λ t. after_value start t))
@@ -166,8 +150,8 @@ module _ (start : Position) (l n : List ℕ) (line : has_no_break l ≡ true) (e
     versions : Told start l n (and_then (value start version (after_word ++ n) word_position) (λ t. after_value start t))
     unfolding version_value
     versions = rw (blanks_skipped after_word word_position) (elim (number_sees start said_position said n ends) [
-      | missing none without e ↦ rw e (version_refused problem.VersionNumber _ (rw without (no_minor_of (after classes.is_decimal_digit said))) (no_major none) refl)
-      | long much without e ↦ rw e (version_refused problem.VersionTooLong _ (rw without (no_minor_of (after classes.is_decimal_digit said))) (long_major much) refl)
+      | missing none without e ↦ rw e (version_refused problem.VersionNumber _ (rw without (grind (arith, none_by, after))) (no_major none) refl)
+      | long much without e ↦ rw e (version_refused problem.VersionTooLong _ (rw without (grind (arith, none_by, after))) (long_major much) refl)
       | found v is e ↦ rw e (point_read (after classes.is_decimal_digit said) v refl is)
     ])
 
@@ -199,12 +183,9 @@ module _ (start : Position) (l n : List ℕ) (line : has_no_break l ≡ true) (e
     abbrev prefix_position : Position
     prefix_position = further (length (leading classes.is_blank after_handle)) handle_position
 
-    says_declaration : directive_of (37 ∷ l) ≡ declaration_by (handle_and_rest said)
-    unfolding directive_of
-    says_declaration = rw (word, gap) refl
-
     declaration_refused : (why : Problem) (x : Result (Read Tok) Fault) → declaration_by (handle_and_rest said) ≡ None → IsNoDeclaration said why → x ≡ Err (At why start) → Told start l n x
-    declaration_refused why x none reason e = fails (At why start) (says_declaration ∙ none) (by_declaration why (record { is_name = word; is_whole = gap }) reason) e
+    unfolding directive_of
+    declaration_refused why x none reason e = fails (At why start) ((rw (word, gap) refl) ∙ none) (by_declaration why (record { is_name = word; is_whole = gap }) reason) e
 
     gap_missing : (r : List ℕ) → is_at_gap r ≡ false → is_rest_of_line r ≡ false
     unfolding classes.is_blank_or_end
@@ -216,8 +197,9 @@ module _ (start : Position) (l n : List ℕ) (line : has_no_break l ≡ true) (e
 
       declaration_end : (cs : List ℕ) → begins_prefix from_prefix ≡ true → decoded prefix_text ≡ Ok cs → is_at_gap after_prefix ≡ true
           → Told start l n (after_value start (record { rest = after_prefix ++ n; position = further (length prefix_text) prefix_position; value = Tok.tag_directive handle_is cs }))
+      unfolding directive_of
       declaration_end cs begins means apart =
-          finish before after_prefix (tag_declaration handle_is cs) _ cut position (says_declaration ∙ declares cs begins means)
+          finish before after_prefix (tag_declaration handle_is cs) _ cut position ((rw (word, gap) refl) ∙ declares cs begins means)
           (λ k e. absurd (no_hash (sym (ap is_at_gap e) ∙ apart)))
           (λ none begins_no. after_declaration after_prefix (record { prefix = cs; is_declaration = record { is_name = word; is_whole = gap }; has_handle = is; has_prefix = begins; is_prefix = means; is_before = refl; is_apart = apart }) none)
         where
@@ -228,10 +210,10 @@ module _ (start : Position) (l n : List ℕ) (line : has_no_break l ≡ true) (e
           tail = spelled ∙ ap (λ r. handle_is ++ r) (span_cut classes.is_blank after_handle ∙ ap (λ r. leading classes.is_blank after_handle ++ r) (span_cut classes.is_uri from_prefix))
 
           cut : l ≡ before ++ after_prefix
-          cut = grind (arith, from_word, tail, five_texts, handle_is)
+          cut = grind (arith, from_word, tail, append_assoc, handle_is)
 
           position : further (length prefix_text) prefix_position ≡ further (suc (length before)) start
-          position = five_positions start (leading classes.is_alpha l) (leading classes.is_blank after_word) handle_is (leading classes.is_blank after_handle) prefix_text
+          position = grind (arith, length-append, same_place)
 
       -- what the scan of the prefix leaves, by what its characters mean
       abbrev prefix_result : Result (List ℕ) UriFault → Result (Read (List ℕ)) Fault
@@ -271,17 +253,14 @@ module _ (start : Position) (l n : List ℕ) (line : has_no_break l ≡ true) (e
 
   -- ---- other directives
 
-  ignored_position : further (length after_word) word_position ≡ further (suc (length l)) start
-  ignored_position =
-      let so_long : length l ≡ length (leading classes.is_alpha l) + length after_word = ap length (span_cut classes.is_alpha l) ∙ length-append (leading classes.is_alpha l) after_word in
-      same_place start (suc (length l)) (omega (arith, so_long)) (omega (arith, so_long))
-
   ignored : (c : ℕ) (w : List ℕ) → leading classes.is_alpha l ≡ c ∷ w → is_same (c ∷ w) (codes "YAML") ≡ false → is_same (c ∷ w) (codes "TAG") ≡ false → is_at_gap after_word ≡ true
       → Told start l n (and_then (value start unknown (after_word ++ n) word_position) (λ t. after_value start t))
   unfolding directive_of
   ignored c w lead no_version no_tag gap =
       let in_line : has_no_break after_word ≡ true = no_break_after (leading classes.is_alpha l) after_word (ap has_no_break (sym (span_cut classes.is_alpha l)) ∙ line) in
       let says : directive_of (37 ∷ l) ≡ Some reserved = rw (lead, gap, no_version, no_tag) refl in
+      let ignored_position : further (length after_word) word_position ≡ further (suc (length l)) start = let so_long : length l ≡ length (leading classes.is_alpha l) + length after_word = ap length (span_cut classes.is_alpha l) ∙ length-append (leading classes.is_alpha l) after_word in
+      same_place start (suc (length l)) (omega (arith, so_long)) (omega (arith, so_long)) in
       rw (line_skipped after_word n word_position in_line ends) (finish l [] reserved (further (length after_word) word_position) (rw append-nil refl) ignored_position says (λ k e. absurd (cc e)) (λ none begins. absurd (cc none)))
 
   -- ---- the directive
@@ -295,16 +274,12 @@ module _ (start : Position) (l n : List ℕ) (line : has_no_break l ≡ true) (e
     ]
   ]
 
-  word_skipped : skip_while is_alpha (l ++ n) (past start) ≡ record { rest = after_word ++ n; position = word_position; value = tt }
-  unfolding classes.is_alpha classes.is_decimal_digit classes.is_letter
-  word_skipped = let q = before_end classes.is_alpha l n (none_at_end classes.is_alpha refl refl n ends) in skipped classes.is_alpha is_alpha same_alpha (l ++ n) (past start) ∙ rw (q.0, q.1) refl
-
   by_word : (w : List ℕ) → leading classes.is_alpha l ≡ w → Told start l n (directive (37 ∷ (l ++ n)) start)
-  unfolding directive name directive_of
+  unfolding directive name directive_of classes.is_alpha classes.is_decimal_digit classes.is_letter
   by_word [] lead =
       let no_letter : is_alpha (slice_index (l ++ n) 0) ≡ false = not-true (is_alpha (slice_index (l ++ n) 0)) (spells_name [] l n refl ends ∙ rw lead refl) in
       fails (At problem.DirectiveName (past start)) (rw lead refl) (no_name lead) (rw no_letter refl)
-  by_word (c ∷ w) lead = rw (not-false (is_alpha (slice_index (l ++ n) 0)) (spells_name [] l n refl ends ∙ rw lead refl), word_skipped, gap_is after_word n ends) (elim (cases_Bool (is_at_gap after_word)) [
+  by_word (c ∷ w) lead = let word_skipped : skip_while is_alpha (l ++ n) (past start) ≡ record { rest = after_word ++ n; position = word_position; value = tt } = let q = before_end classes.is_alpha l n (none_at_end classes.is_alpha refl refl n ends) in skipped classes.is_alpha is_alpha same_alpha (l ++ n) (past start) ∙ rw (q.0, q.1) refl in rw (not-false (is_alpha (slice_index (l ++ n) 0)) (spells_name [] l n refl ends ∙ rw lead refl), word_skipped, gap_is after_word n ends) (elim (cases_Bool (is_at_gap after_word)) [
     | inl e ↦ rw e (by_kind c w lead e)
     | inr e ↦ rw e (fails (At problem.DirectiveNameEnd (past start)) (rw (lead, e) refl) (by_name (rw lead refl) e) refl)
   ])

@@ -34,10 +34,6 @@ pub data LineEnds (start p : Position) (m n : List ℕ) (x : Result (Read (Unit 
   comment : begins_with 35 m ≡ true → is_rest_of_line m ≡ false → x ≡ Err (At problem.CommentNotSeparated p) → LineEnds start p m n x
   text : is_rest_of_line m ≡ false → begins_with 35 m ≡ false → x ≡ Err (At problem.DirectiveEnd start) → LineEnds start p m n x
 
-break_passed : (start p : Position) (n : List ℕ) → ends_line n ≡ true → directive_break start n p ≡ Ok (record { rest = next_line n; position = position_after p (first_break n) (next_line n); value = tt })
-unfolding directive_break
-break_passed start p a h = grind (arith, same_break, same_feed, line_position, past, eqb-true, feed_past, in_line_position)
-
 -- how the end of a directive's line is read
 pub line_ends : (start p : Position) (m n : List ℕ) → has_no_break m ≡ true → ends_line n ≡ true → LineEnds start p m n (line_end start (m ++ n) p)
 unfolding line_end directive_break
@@ -47,7 +43,7 @@ line_ends start p m n h k = told (space Yes (m ++ n) p) (rest_of_line m n p h k)
     go x = and_then x (λ (w : Read Whitespace). directive_break start w.rest w.position)
 
     told : (x : Result (Read Whitespace) Fault) → Rest m n p x → LineEnds start p m n (go x)
-    told x a = grind (arith, ended, go, break_passed, start, further, p, comment, begins_with, text)
+    told x a = grind (arith, ended, go, same_break, same_feed, line_position, past, eqb-true, feed_past, in_line_position, start, further, p, comment, begins_with, text)
 
 -- ---- numbers
 
@@ -62,12 +58,8 @@ digits_read start p v k a =
     then Ok (record { rest = after classes.is_decimal_digit a; state = record { position = further (length (leading classes.is_decimal_digit a)) p; value = decimal_value v (leading classes.is_decimal_digit a); length = k + length (leading classes.is_decimal_digit a) } })
     else Err (At problem.VersionTooLong start))
 
-stopped_here : (start p : Position) (v k : ℕ) (a : List ℕ) → k ≤ 9 → leading classes.is_decimal_digit a ≡ [] → after classes.is_decimal_digit a ≡ a
-    → Ok (record { rest = a; state = record { position = p; value = v; length = k } }) ≡ digits_read start p v k a
-stopped_here start p v k a few none same = grind arith
-
 digits_run : (start : Position) (a : List ℕ) (p : Position) (v k : ℕ) → k ≤ 9 → run (digit_turn start) a (record { position = p; value = v; length = k }) ≡ digits_read start p v k a
-digits_run start [] p v k few = stopped_here start p v k [] few refl refl
+digits_run start [] p v k few = grind arith
 digits_run start (c ∷ a) p v k few = grind (arith, nat_tests, digit_is, one_further, digits_run start a (past p) (v * 10 + (c - 48)) (k + 1))
 
 -- what the scan of a version's number leaves

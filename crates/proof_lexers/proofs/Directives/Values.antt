@@ -41,13 +41,10 @@ pub data HandleSees (start p : Position) (t n : List ℕ) (x : Result (Read (Lis
   found : is_handle (handle_and_rest t).0 ≡ true → t ≡ (handle_and_rest t).0 ++ (handle_and_rest t).1
       → x ≡ Ok (record { rest = (handle_and_rest t).1 ++ n; position = further (length (handle_and_rest t).0) p; value = (handle_and_rest t).0 }) → HandleSees start p t n x
 
-alpha_is_no_mark : (c : ℕ) → classes.is_alpha c ≡ true → (c == 33) ≡ false
-unfolding classes.is_alpha classes.is_decimal_digit classes.is_letter
-alpha_is_no_mark c h = ne_eqb c 33 (λ same. both_ways (classes.is_alpha 33) refl (ap classes.is_alpha (sym same) ∙ h))
-
 -- a name alone is no handle, and one with a mark after it is
 marked : (c : ℕ) (w : List ℕ) → all_of classes.is_alpha (c ∷ w) ≡ true → (is_marked_name (c ∷ w) ≡ false) × (is_marked_name ((c ∷ w) ++ 33 ∷ []) ≡ true)
-marked c [] h = let q = and_parts (classes.is_alpha c) true h in (alpha_is_no_mark c q.0, rw q.0 refl)
+unfolding classes.is_alpha classes.is_decimal_digit classes.is_letter
+marked c [] h = let q = and_parts (classes.is_alpha c) true h in ((ne_eqb c 33 (λ same. both_ways (classes.is_alpha 33) refl (ap classes.is_alpha (sym same) ∙ q.0))), rw q.0 refl)
 marked c (d ∷ w) h =
     let q = and_parts (classes.is_alpha c) (all_of classes.is_alpha (d ∷ w)) h in
     let r = marked d w q.1 in

@@ -42,24 +42,18 @@ pub flow_solid : (c : ℕ) → is_flow c ≡ true → is_white c ≡ false
 unfolding is_flow is_blank is_break
 flow_solid c h = grind (arith, h)
 
--- in flow no plain scalar goes on over a flow indicator
-pub no_flow_in : (flow : Bool) (collection : Option ℕ) (s : Stand) (c : ℕ) (r next : List ℕ) → goes_on flow collection s (c ∷ r) next ≡ true → (flow && is_flow c) ≡ false
-no_flow_in flow a s c r next h = grind (arith, further_on, or-true, flow_solid)
-
 -- In flow a scalar does not go on over the start of a text that begins with a flow indicator, up to another character.
 pub no_flow : (flow : Bool) (collection : Option ℕ) (s : Stand) (before : List ℕ) (c : ℕ) (more rest : List ℕ) → flow ≡ true → rest ≡ before ++ c ∷ more → is_flow c ≡ false → begins_flow rest ≡ true → goes_on flow collection s before (c ∷ more) ≡ true → ⊥
 no_flow flow collection s [] c more rest e cut other begins goes = cc (ap begins_flow cut, begins, other)
 no_flow flow collection s (d ∷ before) c more rest e cut other begins goes =
     let here : (flow && is_flow d) ≡ true = rw e (sym (ap begins_flow cut) ∙ begins) in
-    cc (here, no_flow_in flow collection s d before (c ∷ more) goes)
+    let no_flow_in : (flow && is_flow d) ≡ false = grind (arith, further_on, or-true, flow_solid) in
+    cc (here, no_flow_in)
 
 -- whether a text begins with a break
 abbrev pub begins_break : List ℕ → Bool
 begins_break [] = false
 begins_break (c ∷ r) = is_break c
-
-no_break_first : (rest : List ℕ) → begins_white rest ≡ false → begins_break rest ≡ false
-no_break_first a h = grind arith
 
 -- of CR LF the LF is a break
 pub feed_breaks : (c : ℕ) (gap rest : List ℕ) → is_before_line_feed c (gap ++ rest) ≡ true → begins_break rest ≡ false → has_break gap ≡ true
@@ -135,25 +129,18 @@ module _ (ctx : Context) (start : Position) where
   gap_text : (c : ℕ) (a : List ℕ) (t : Folded) → is_white c ≡ true → (after_char c a t).text ≡ t.text
   gap_text c a t h = grind arith
 
-  -- a break sets that one stands before the gap's end, but for the CR of CR LF, after which a break follows
-  gap_leads : (c : ℕ) (gap rest : List ℕ) (t : Folded) → is_white c ≡ true → begins_white rest ≡ false → ((after_char c (gap ++ rest) t).leading || has_break gap) ≡ (t.leading || (is_break c || has_break gap))
-  gap_leads c gap rest t h a = grind (arith, feed_breaks, no_break_first, or-false)
-
   pub after_gap : (c : ℕ) (a : List ℕ) (tabs u : Bool) (s : Stand) (p : Position) (t : Folded) (x : Result (Read Plain) Fault) → is_white c ≡ true
       → ((f : Fault) → Fails u (past s c) (position_past p c a) a f → Fails tabs s p (c ∷ a) f)
       → Found u (past s c) (position_past p c a) (after_char c a t) a x → Found tabs s p t (c ∷ a) x
   after_gap c a tabs u s p t x white grow (found [] gap rest cut goes solid stop gaps ends is) =
       found [] (c ∷ gap) rest (ap (λ r. c ∷ r) cut) refl refl (rw white stop) (rw white gaps) ends
-      (is ∙ same_left rest _ _ _ _ _ _ (same_position c a [] gap rest p cut) (gap_text c a t white) (ap (λ b. (after_char c b t).leading || has_break gap) cut ∙ gap_leads c gap rest t white ends))
+      (is ∙ same_left rest _ _ _ _ _ _ (same_position c a [] gap rest p cut) (gap_text c a t white) (ap (λ b. (after_char c b t).leading || has_break gap) cut ∙ (grind (arith, feed_breaks, or-false))))
   after_gap c a tabs u s p t x white grow (found (d ∷ more) gap rest cut goes solid stop gaps ends is) =
       found (c ∷ d ∷ more) gap rest (ap (λ r. c ∷ r) cut) (rw white goes) solid stop gaps ends
       (is ∙ same_left rest _ _ _ _ _ _ (same_position c a (d ∷ more) gap rest p cut) (ap (λ b. (after_text (d ∷ more) (after_char c b t)).text) cut) refl)
   after_gap c a tabs u s p t x white grow (fails f why is) = fails f (grow f why) is
 
   -- ---- a character of content before it
-
-  pub after_inside : (more : List ℕ) → after_more inside more ≡ inside
-  after_inside a = grind arith
 
   pub solid_first : (c : ℕ) (more : List ℕ) → is_white c ≡ false → is_solid_end more ≡ true → ends_with_content c more ≡ true
   solid_first c a h e = grind arith
@@ -171,7 +158,8 @@ module _ (ctx : Context) (start : Position) where
       → Found false inside (position_past p c a) (with_char c (joined t)) a x → Found false s p t (c ∷ a) x
   after_content c a s p t x breaks blanks on (found more gap rest cut goes solid stop gaps ends is) =
       let here : ends_plain ctx.flow (collection_of ctx.indent) s (c ∷ (more ++ (gap ++ rest))) ≡ false = rw cut at on in
-      found (c ∷ more) gap rest (ap (λ r. c ∷ r) cut) (rw (here, breaks, blanks) goes) (solid_first c more (rw (breaks, blanks) refl) solid) (rw (← after_inside more) stop) gaps ends
+      let after_inside : after_more inside more ≡ inside = grind arith in
+      found (c ∷ more) gap rest (ap (λ r. c ∷ r) cut) (rw (here, breaks, blanks) goes) (solid_first c more (rw (breaks, blanks) refl) solid) (rw (← after_inside) stop) gaps ends
       (is ∙ same_left rest _ _ _ _ _ _ (same_position c a more gap rest p cut) (ap (λ u. (after_text more u).text) (content_char c more t breaks blanks)) (no_lead c more gap t))
   after_content c a s p t x breaks blanks on (fails f why is) =
       let moves : Moves c a false false s = record { begins = λ k e l h. absurd (cc (sym blanks, ap is_blank e, tab_blank)); goes_further = λ e b. cc e; is_no_token = λ e. cc e } in
@@ -179,13 +167,10 @@ module _ (ctx : Context) (start : Position) where
 
   -- ---- a dash before a flow indicator
 
-  tab_no_flow : is_flow 9 ≡ false
-  unfolding is_flow
-  tab_no_flow = refl
-
   -- Text that begins with a flow indicator has no TAB that is told from there.
   pub flow_untabbed : (a : List ℕ) (s : Stand) → ctx.flow ≡ true → begins_flow a ≡ true → Tabbed false s a → ⊥
-  flow_untabbed a s flow b d = grind (arith, no_flow, tab_no_flow)
+  unfolding is_flow
+  flow_untabbed a s flow b d = grind (arith, no_flow, refl)
 
   pub dash_untabbed : (c : ℕ) (a : List ℕ) (s : Stand) → ctx.flow ≡ true → c ≡ 45 → begins_flow a ≡ true → Tabbed false s (c ∷ a) → ⊥
   dash_untabbed c a s flow is begins t =

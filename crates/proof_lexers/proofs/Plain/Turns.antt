@@ -13,10 +13,6 @@ or_true b = or-true b
 
 -- ---- what the tests of both say
 
-colon_is_no_flow : (flow : Bool) → (flow && classes.is_flow 58) ≡ false
-unfolding classes.is_flow
-colon_is_no_flow a = grind arith
-
 pub end_is_a_gap : is_blank_or_breakz 0 ≡ true
 unfolding is_blank is_break
 end_is_a_gap = refl
@@ -25,18 +21,8 @@ colon_by : (flow : Bool) (a : List ℕ) → not (is_blank_or_breakz (slice_index
 colon_by flow b = grind (arith, end_is_a_gap, same_gap, same_flow, or_false)
 
 pub can_be : (flow : Bool) (c : ℕ) (a : List ℕ) → can_be_plain flow c (slice_index a 0) ≡ not (ends_at_colon flow (c ∷ a) || (flow && classes.is_flow c))
-unfolding can_be_plain
-can_be flow c a = grind (arith, eqb-true, colon_is_no_flow, or_false, colon_by, same_flow)
-
-pub not_nul : (c : ℕ) → (c == 0) ≡ false → classes.is_nul c ≡ false
-unfolding classes.is_nul
-not_nul c h = h
-
-solid_plain : (flow : Bool) (c : ℕ) (a : List ℕ) → is_white c ≡ false → (c == 0) ≡ false → at_plain flow (c ∷ a) ≡ not (ends_at_colon flow (c ∷ a) || (flow && classes.is_flow c))
-unfolding at_plain classes.is_blank_or_end
-solid_plain flow c a white nul =
-    let q = or_parts (classes.is_blank c) (classes.is_break c) white in
-    rw (← same_gap c, q.0, q.1, not_nul c nul, can_be flow c a) refl
+unfolding can_be_plain classes.is_flow
+can_be flow c a = grind (arith, eqb-true, or_false, colon_by, same_flow)
 
 shallow_by : (indent column : ℕ) → not (is_deeper (collection_of indent) column) ≡ nat_lt column indent
 shallow_by a column = grind (arith, nat_tests, both)
@@ -100,13 +86,6 @@ module _ (ctx : Context) (start : Position) where
 
   -- ---- breaks
 
-  break_or_blank : (c : ℕ) → classes.is_break c ≡ true → classes.is_blank c ≡ true → ⊥
-  unfolding classes.is_break classes.is_blank
-  break_or_blank c h k = grind (arith, h, k)
-
-  broken_leads : (t : Folded) → (with_break t).leading ≡ true
-  broken_leads t = elim (cases_Bool t.leading) [ inl e ↦ rw e refl | inr e ↦ rw e refl ]
-
   -- a blank or a break is passed
   gap_step : (c : ℕ) (a : List ℕ) (u : Bool) (n : Mode) (s next : Stand) (p q : Position) (t v : Folded) (x : Result (Read Plain) Fault) → is_white c ≡ true → defs.past s c ≡ next → position_past p c a ≡ q → after_char c a t ≡ v
       → ((blanks rest : List ℕ) → is_tabs n ≡ true → a ≡ blanks ++ rest → is_blanks blanks ≡ true → begins_token rest ≡ true → Tabbed ctx start u s (c ∷ a)) → Moves ctx start c a u (is_tabs n) s
@@ -116,6 +95,7 @@ module _ (ctx : Context) (start : Position) where
 
   pub break_step : (c : ℕ) (a : List ℕ) (u : Bool) (m : Mode) (s : Stand) (p : Position) (t : Folded) (x : Result (Read Plain) Fault) → is_break c ≡ true → Scans a
       → x ≡ plain_from ctx start a (at_break c a (record { mode = m; position = p; folded = t })) → Found ctx start u s p t (c ∷ a) x
+  unfolding classes.is_break classes.is_blank
   break_step c a u m s p t x e ih is = elim (cases_Bool (is_cr_lf c a)) [
     | inl f ↦
         let z = feeds a f in
@@ -123,7 +103,7 @@ module _ (ctx : Context) (start : Position) where
         gap_step c a u between s (on_line 0) p (past p) t t x white (rw breaks refl) (in_line_position c a p (rw g (and_false (classes.is_break c)))) (rw (breaks, g) refl) (λ b r k. cc) moves ih (at_feed 0 z.0 z.1) (rw f at is)
     | inr f ↦
         let g : is_before_line_feed c a ≡ false = sym (same_feed c a) ∙ f in
-        gap_step c a u between s (on_line 0) p (past_break p) t (with_break t) x white (rw breaks refl) (line_position c a p (rw (breaks, g) refl)) (rw (breaks, g) refl) (λ b r k. cc) moves ih (at_line 0 refl (broken_leads t)) (rw f at is)
+        gap_step c a u between s (on_line 0) p (past_break p) t (with_break t) x white (rw breaks refl) (line_position c a p (rw (breaks, g) refl)) (rw (breaks, g) refl) (λ b r k. cc) moves ih (at_line 0 refl (elim (cases_Bool t.leading) [ inl e ↦ rw e refl | inr e ↦ rw e refl ])) (rw f at is)
   ]
     where
       breaks : classes.is_break c ≡ true
@@ -137,12 +117,9 @@ module _ (ctx : Context) (start : Position) where
       feeds (d ∷ b) h = let q = and_parts (c == 13) (d == 10) h in (b, ap (λ k. k ∷ b) (eqb-true d 10 q.1))
 
       moves : Moves ctx start c a u false s
-      moves = record { begins = λ k i l h. absurd (break_or_blank c breaks (ap classes.is_blank i ∙ tab_blank)); goes_further = λ i b. absurd (break_or_blank c breaks b); is_no_token = λ i. rw white refl }
+      moves = record { begins = λ k i l h. absurd (grind (arith, breaks, (ap classes.is_blank i ∙ tab_blank))); goes_further = λ i b. absurd (grind (arith, breaks, b)); is_no_token = λ i. rw white refl }
 
   -- ---- blanks
-
-  blank_white : (c : ℕ) → is_blank c ≡ true → is_white c ≡ true
-  blank_white c e = rw (same_blank c, e) refl
 
   pub blank_step : (c : ℕ) (a : List ℕ) (u : Bool) (m n : Mode) (s next : Stand) (p : Position) (t : Folded) (x : Result (Read Plain) Fault) → is_break c ≡ false → is_blank c ≡ true → defs.past_blank s ≡ next
       → ((blanks rest : List ℕ) → is_tabs n ≡ true → a ≡ blanks ++ rest → is_blanks blanks ≡ true → begins_token rest ≡ true → Tabbed ctx start u s (c ∷ a))
@@ -151,7 +128,7 @@ module _ (ctx : Context) (start : Position) where
   blank_step c a u m n s next p t x e f g tabs_after begins stays ih stands is =
       let no_break : classes.is_break c ≡ false = same_break c ∙ e in
       let blank : classes.is_blank c ≡ true = same_blank c ∙ f in
-      let white = blank_white c f in
+      let white : is_white c ≡ true = rw (same_blank c, f) refl in
       gap_step c a u n s next p (past p) t (with_blank c t) x white (rw (no_break, blank) g) (in_line_position c a p (rw no_break refl)) (rw (no_break, blank) refl) tabs_after
       (record { begins = begins; goes_further = λ i b. stays i; is_no_token = λ i. rw white refl }) ih stands is
 
@@ -175,9 +152,6 @@ module _ (ctx : Context) (start : Position) where
     went : ends_plain ctx.flow (collection_of ctx.indent) s (c ∷ a) ≡ false → is_shallow ctx p.col ≡ false → x ≡ scan a inside (past p) (with_char c (joined t)) → Outcome c a s p t x
     dashed : ctx.flow ≡ true → c ≡ 45 → begins_flow a ≡ true → x ≡ Err (At problem.PlainDashInFlow p) → Outcome c a s p t x
 
-  by_over : (g k b : Bool) → (g || k) ≡ b → ((((false || g) || false) || false) || k) ≡ b
-  by_over a k b h = grind arith
-
   ends_line : (c : ℕ) (a : List ℕ) (s : Stand) → ends_at_line ctx.flow (collection_of ctx.indent) s (c ∷ a) ≡ true → ends_plain ctx.flow (collection_of ctx.indent) s (c ∷ a) ≡ true
   ends_line c a s h = rw (h, or-true) refl
 
@@ -186,20 +160,18 @@ module _ (ctx : Context) (start : Position) where
 
   pub ends_over : (c : ℕ) (a : List ℕ) (s : Stand) (b : Bool) → (c == 0) ≡ false → ends_at_comment s (c ∷ a) ≡ false → ends_at_line ctx.flow (collection_of ctx.indent) s (c ∷ a) ≡ false
       → (ends_at_colon ctx.flow (c ∷ a) || (ctx.flow && classes.is_flow c)) ≡ b → ends_plain ctx.flow (collection_of ctx.indent) s (c ∷ a) ≡ b
-  ends_over c a s b nul f g h = rw (not_nul c nul, f, g) (by_over (ends_at_colon ctx.flow (c ∷ a)) (ctx.flow && classes.is_flow c) b h)
+  unfolding classes.is_nul
+  ends_over c a s b nul f g h = rw (nul, f, g) (grind arith)
 
   pub dash_parts : (flow : Bool) (c : ℕ) (a : List ℕ) → at_dash flow (c ∷ a) ≡ true → (flow ≡ true) × (c ≡ 45) × (begins_flow a ≡ true)
   unfolding at_dash is_flow
   dash_parts flow c b h = grind (arith, nat_tests, eqb-true, same_flow)
 
-  pub solid_too : (c : ℕ) → is_white c ≡ false → (is_break c || is_blank c) ≡ false
-  solid_too c white = let q = or_parts (classes.is_blank c) (classes.is_break c) white in rw (← same_break c, ← same_blank c, q.0, q.1) refl
-
   pub outcome : (c : ℕ) (a : List ℕ) (s : Stand) (p : Position) (t : Folded) → is_white c ≡ false → (c == 0) ≡ false → ends_at_comment s (c ∷ a) ≡ (c == 35)
       → ends_at_line ctx.flow (collection_of ctx.indent) s (c ∷ a) ≡ (at_marker p.col (c ∷ a) || is_shallow ctx p.col) → Outcome c a s p t (scan (c ∷ a) between p t)
-  unfolding goes_on
+  unfolding goes_on at_plain classes.is_blank_or_end classes.is_nul
   outcome c a s p t white nul comment line =
-      let solid = solid_too c white in
+      let solid : (is_break c || is_blank c) ≡ false = let q = or_parts (classes.is_blank c) (classes.is_break c) white in rw (← same_break c, ← same_blank c, q.0, q.1) refl in
       elim (cases_Bool (is_shallow ctx p.col)) [
         | inl e ↦ stopped (ends_line c a s (line ∙ rw e (or_true (at_marker p.col (c ∷ a))))) (rw (solid, e) refl)
         | inr e ↦ elim (cases_Bool (c == 35)) [
@@ -209,7 +181,8 @@ module _ (ctx : Context) (start : Position) where
             | inr g ↦ elim (cases_Bool (at_dash ctx.flow (c ∷ a))) [
               | inl h ↦ let q = dash_parts ctx.flow c a h in dashed q.0 q.1 q.2 (rw (solid, e, f, g, h) refl)
               | inr h ↦
-                  let plain = solid_plain ctx.flow c a white nul in
+                  let plain : at_plain ctx.flow (c ∷ a) ≡ not (ends_at_colon ctx.flow (c ∷ a) || (ctx.flow && classes.is_flow c)) = let q = or_parts (classes.is_blank c) (classes.is_break c) white in
+                  rw (← same_gap c, q.0, q.1, nul, can_be ctx.flow c a) refl in
                   elim (cases_Bool (ends_at_colon ctx.flow (c ∷ a) || (ctx.flow && classes.is_flow c))) [
                     | inl k ↦ stopped (ends_over c a s true nul (comment ∙ f) (line ∙ rw (e, g) refl) k) (rw (solid, e, f, g, h, plain ∙ ap not k) refl)
                     | inr k ↦ went (ends_over c a s false nul (comment ∙ f) (line ∙ rw (e, g) refl) k) e (rw (solid, e, f, g, h, plain ∙ ap not k) refl)

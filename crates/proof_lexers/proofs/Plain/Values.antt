@@ -51,29 +51,18 @@ joined_solid c (d ∷ r) t h = joined_solid d r (after_char c (d ∷ r) t) h
 
 -- ---- document markers
 
-marks_stand : (a : List ℕ) (next : List ℕ) → begins_with_marker a ≡ true → is_document_marker (a ++ next) ≡ true
-unfolding begins_with_marker is_blank_or_end
-marks_stand b d h = grind arith
-
-ends_marked : (flow : Bool) (collection : Option ℕ) (c : ℕ) (r : List ℕ) → is_document_marker (c ∷ r) ≡ true → ends_plain flow collection (on_line 0) (c ∷ r) ≡ true
-ends_marked flow collection c r h = rw (h, or-true) refl
-
-mark_by : (a b c : ℕ) → are_marks a b c ≡ true → is_white a ≡ false
-unfolding are_marks is_blank is_break
-mark_by a b c h = grind (arith, nat_tests)
-
 -- over a line that begins with a marker no scalar goes on
 no_marker_on : (flow : Bool) (collection : Option ℕ) (a next : List ℕ) → begins_with_marker a ≡ true → goes_on flow collection (on_line 0) a next ≡ true → ⊥
-unfolding begins_with_marker
+unfolding begins_with_marker is_blank_or_end are_marks is_blank is_break
 no_marker_on flow collection [] next h e = cc
 no_marker_on flow collection (a ∷ []) next h e = cc
 no_marker_on flow collection (a ∷ b ∷ []) next h e = cc
 no_marker_on flow collection (a ∷ b ∷ c ∷ []) next h e = cc
 no_marker_on flow collection (a ∷ b ∷ c ∷ d ∷ r) next h e =
     let q = and_parts (are_marks a b c) (is_blank d || is_break d) h in
-    let white : is_white a ≡ false = mark_by a b c q.0 in
-    let mark : is_document_marker (a ∷ b ∷ c ∷ d ∷ (r ++ next)) ≡ true = marks_stand (a ∷ b ∷ c ∷ d ∷ r) next h in
-    let ends : ends_plain flow collection (on_line 0) (a ∷ b ∷ c ∷ d ∷ (r ++ next)) ≡ true = ends_marked flow collection a (b ∷ c ∷ d ∷ (r ++ next)) mark in
+    let white : is_white a ≡ false = grind (arith, nat_tests) in
+    let mark : is_document_marker (a ∷ b ∷ c ∷ d ∷ (r ++ next)) ≡ true = grind arith in
+    let ends : ends_plain flow collection (on_line 0) (a ∷ b ∷ c ∷ d ∷ (r ++ next)) ≡ true = rw (mark, or-true) refl in
     let here = (and_parts (is_white a || not (ends_plain flow collection (on_line 0) (a ∷ b ∷ c ∷ d ∷ (r ++ next)))) _ e).0 in
     let no : false ≡ true = rw (white, ends) at here in
     cc
@@ -90,11 +79,8 @@ no_markers flow collection s (c ∷ r) next h =
 
 -- ---- the value
 
-value_by : (piece : List ℕ) → has_document_marker piece ≡ false → (es : List Element) → elements plain_element 0 piece ≡ Some es → plain_value piece ≡ Some ((joined (after_elements es nothing)).text)
-unfolding plain_value
-value_by piece e es f = rw (e, f) (ap Some (sym (buffers_join es)))
-
 pub value_is : (c : ℕ) (r : List ℕ) → has_document_marker (c ∷ r) ≡ false → ends_with_content c r ≡ true → plain_value (c ∷ r) ≡ Some ((after_text (c ∷ r) nothing).text)
+unfolding plain_value
 value_is c r e f =
     let z = elements_of 0 (c ∷ r) in
-    value_by (c ∷ r) e z.all z.are ∙ ap (λ t. Some ((joined t).text)) (z.same nothing) ∙ ap Some (joined_solid c r nothing f)
+    (rw (e, z.are) (ap Some (sym (buffers_join z.all)))) ∙ ap (λ t. Some ((joined t).text)) (z.same nothing) ∙ ap Some (joined_solid c r nothing f)

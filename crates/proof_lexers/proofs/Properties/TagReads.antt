@@ -37,14 +37,6 @@ tags_after [] b h = h
 tags_after (c ∷ a) b h = tags_after a b (and_parts (classes.is_tag c) (all_of classes.is_tag (a ++ b)) h).1
 
 module _ (flow : Bool) (rest : List ℕ) (g : defs.Tag) (p : Position) (follows : may_follow flow rest ≡ true) where
-  word_ends : begins_in classes.is_alpha rest ≡ false
-  unfolding classes.is_alpha classes.is_decimal_digit classes.is_letter
-  word_ends = follower classes.is_alpha flow rest follows refl refl refl refl refl refl refl refl refl refl
-
-  suffix_ends : begins_in classes.is_tag rest ≡ false
-  unfolding classes.is_tag classes.is_uri classes.is_decimal_digit classes.is_letter classes.is_flow
-  suffix_ends = follower classes.is_tag flow rest follows refl refl refl refl refl refl refl refl refl refl
-
   mark_ends : begins_in (λ c. c == 33) rest ≡ false
   mark_ends = follower (λ c. c == 33) flow rest follows refl refl refl refl refl refl refl refl refl refl
 
@@ -58,25 +50,22 @@ module _ (flow : Bool) (rest : List ℕ) (g : defs.Tag) (p : Position) (follows 
       at_end (c ∷ r) e = e
 
   suffix_of : (q : Position) (l before cs : List ℕ) → all_of classes.is_tag l ≡ true → decoded l ≡ Ok cs → uri is_tag p (l ++ rest) q before ≡ Ok (record { rest = rest; position = further (length l) q; value = before ++ cs })
-  suffix_of q l before cs all means = let z = leading_all classes.is_tag l rest all suffix_ends in (uris_are_read p (l ++ rest) q before).1 ∙ ap (after_class classes.is_tag p q (l ++ rest) before) (ap decoded z.0 ∙ means) ∙ rw (z.0, z.1) refl
+  unfolding classes.is_tag classes.is_uri classes.is_decimal_digit classes.is_letter classes.is_flow
+  suffix_of q l before cs all means = let z = leading_all classes.is_tag l rest all (follower classes.is_tag flow rest follows refl refl refl refl refl refl refl refl refl refl) in (uris_are_read p (l ++ rest) q before).1 ∙ ap (after_class classes.is_tag p q (l ++ rest) before) (ap decoded z.0 ∙ means) ∙ rw (z.0, z.1) refl
 
   abbrev Reads : List ℕ → Type 0
   Reads piece = tag flow (33 ∷ (piece ++ rest)) p ≡ Ok (after_tag p (33 ∷ piece) rest g.handle g.suffix)
 
   -- ---- verbatim tags
 
-  closed_read : (b u : List ℕ) → b ≡ u ++ 62 ∷ [] → all_of classes.is_uri u ≡ true → decoded u ≡ Ok g.suffix → g.handle ≡ [] → Reads (60 ∷ b)
-  unfolding tag verbatim
-  closed_read b u cut all means none =
-      let z = leading_all classes.is_uri u (62 ∷ rest) all close_is_no_uri in
-      rw (cut, append_assoc u (62 ∷ []) rest, (uris_are_read p (u ++ 62 ∷ rest) (past (past p)) []).0, z.0, means, z.0, z.1, same_end flow rest, follows, none) (ap (λ q. Ok (read_tag rest q [] g.suffix)) (closed_position p (length u) (length (u ++ 62 ∷ [])) (length-append u (62 ∷ []))))
-
   verbatim_read : (b : List ℕ) → defs.verbatim b ≡ Some g → Reads (60 ∷ b)
+  unfolding tag verbatim
   verbatim_read b h = elim (cases_Bool (is_same (after classes.is_uri b) (codes ">"))) [
     | inl e ↦
         let u = leading classes.is_uri b in
         let k = of_class classes.is_uri [] u g (rw e at h) in
-        closed_read b u (span_cut classes.is_uri b ∙ ap (λ r. u ++ r) (same_text (after classes.is_uri b) (codes ">") e)) k.0 k.1 k.2
+        let z = leading_all classes.is_uri u (62 ∷ rest) k.0 close_is_no_uri in
+        rw ((span_cut classes.is_uri b ∙ ap (λ r. u ++ r) (same_text (after classes.is_uri b) (codes ">") e)), append_assoc u (62 ∷ []) rest, (uris_are_read p (u ++ 62 ∷ rest) (past (past p)) []).0, z.0, k.1, z.0, z.1, same_end flow rest, follows, k.2) (ap (λ q. Ok (read_tag rest q [] g.suffix)) (closed_position p (length u) (length (u ++ 62 ∷ [])) (length-append u (62 ∷ []))))
     | inr e ↦ let no : None ≡ Some g = rw e at h in cc
   ]
 
@@ -112,8 +101,8 @@ module _ (flow : Bool) (rest : List ℕ) (g : defs.Tag) (p : Position) (follows 
   -- a text that begins no verbatim tag
   shorthand_here : (a : List ℕ) → begins_in (λ c. c == 60) a ≡ false → tag flow (33 ∷ (a ++ rest)) p
       ≡ and_then (after_name p (leading classes.is_alpha a) (after classes.is_alpha a ++ rest) (further (length (leading classes.is_alpha a)) (past p))) (λ r. tag_end flow p r)
-  unfolding tag shorthand
-  shorthand_here a e = let z = before_end classes.is_alpha a rest word_ends in rw (none_after a 60 e (follower (λ c. c == 60) flow rest follows refl refl refl refl refl refl refl refl refl refl) refl, word (a ++ rest) (past p) [], z.0, z.1) refl
+  unfolding tag shorthand classes.is_alpha classes.is_decimal_digit classes.is_letter
+  shorthand_here a e = let z = before_end classes.is_alpha a rest (follower classes.is_alpha flow rest follows refl refl refl refl refl refl refl refl refl refl) in rw (none_after a 60 e (follower (λ c. c == 60) flow rest follows refl refl refl refl refl refl refl refl refl refl) refl, word (a ++ rest) (past p) [], z.0, z.1) refl
 
   shorthand_read : (a : List ℕ) → begins_in (λ c. c == 60) a ≡ false → defs.shorthand a ≡ Some g → Reads a
   shorthand_read [] e h =

@@ -39,9 +39,6 @@ pub close_is_no_uri : classes.is_uri 62 ≡ false
 unfolding classes.is_uri classes.is_decimal_digit classes.is_letter
 close_is_no_uri = refl
 
-verbatim_written : (l cs : List ℕ) → all_of classes.is_uri l ≡ true → decoded l ≡ Ok cs → written_tag (33 ∷ 60 ∷ (l ++ 62 ∷ [])) ≡ Some (record { handle = []; suffix = cs })
-verbatim_written l cs all is = let z = leading_all classes.is_uri l (62 ∷ []) all close_is_no_uri in rw (z.1, z.0, all, is) refl
-
 pub closed_position : (p : Position) (n m : ℕ) → m ≡ n + 1 → past (further n (past (past p))) ≡ further (suc (suc m)) p
 closed_position p n m e = same_place p (suc (suc m)) (omega (arith, e)) (omega (arith, e))
 
@@ -52,11 +49,11 @@ module _ (flow : Bool) (start : Position) (b : List ℕ) where
   closing : (cs : List ℕ) (r : List ℕ) → decoded written ≡ Ok cs → after classes.is_uri b ≡ r
       → Ends flow start (60 ∷ b) (and_then (verbatim_end start cs r (further (length written) (past (past start)))) (λ t. tag_end flow start t))
   closing cs [] is e = refuses _ (at_start _ (unclosed b cs refl is (ap (begins_with 62) e))) refl
-  closing cs (c ∷ r) is e = elim (cases_Bool (c == 62)) [
+  closing cs (c ∷ r) is e = let verbatim_written : written_tag (33 ∷ 60 ∷ (written ++ 62 ∷ [])) ≡ Some (record { handle = []; suffix = cs }) = let z = leading_all classes.is_uri written (62 ∷ []) (all_leading classes.is_uri b) close_is_no_uri in rw (z.1, z.0, (all_leading classes.is_uri b), is) refl in elim (cases_Bool (c == 62)) [
     | inl f ↦
         let same : c ≡ 62 = eqb-true c 62 f in
         let cut : b ≡ (written ++ 62 ∷ []) ++ r = span_cut classes.is_uri b ∙ ap (λ k. written ++ k) (e ∙ ap (λ d. d ∷ r) same) ∙ sym (append_assoc written (62 ∷ []) r) in
-        rw f (ended flow start (60 ∷ b) (60 ∷ (written ++ 62 ∷ [])) r [] cs _ (ap (λ k. 60 ∷ k) cut) (verbatim_written written cs (all_leading classes.is_uri b) is) (closed_position start (length written) _ (length-append written (62 ∷ [])))
+        rw f (ended flow start (60 ∷ b) (60 ∷ (written ++ 62 ∷ [])) r [] cs _ (ap (λ k. 60 ∷ k) cut) verbatim_written (closed_position start (length written) _ (length-append written (62 ∷ [])))
         (verbatim_goes_on b cs r refl is (e ∙ ap (λ d. d ∷ r) same)))
     | inr f ↦ refuses _ (at_start _ (unclosed b cs refl is (ap (begins_with 62) e ∙ f))) (rw f refl)
   ]
@@ -96,10 +93,6 @@ alpha_starts c h = (absent classes.is_alpha c 60 h no_words.0, absent classes.is
 tag_starts : (c : ℕ) → classes.is_tag c ≡ true → ((c == 60) ≡ false) × ((c == 33) ≡ false)
 tag_starts c h = (absent classes.is_tag c 60 h no_tags.0, absent classes.is_tag c 33 h no_tags.1)
 
-mark_is_no_word : classes.is_alpha 33 ≡ false
-unfolding classes.is_alpha classes.is_decimal_digit classes.is_letter
-mark_is_no_word = refl
-
 -- a text that begins with a word or a mark is no verbatim tag
 is_shorthand : (name r : List ℕ) → all_of classes.is_alpha name ≡ true → (begins_in (λ c. c == 60) r) ≡ false → defs.after_mark (name ++ r) ≡ defs.shorthand (name ++ r)
 is_shorthand [] [] h e = refl
@@ -114,10 +107,6 @@ shorthand_by a r h = grind arith
 some_text : (name r : List ℕ) (c : ℕ) → is_empty (name ++ c ∷ r) ≡ false
 some_text [] r c = refl
 some_text (d ∷ name) r c = refl
-
-named_written : (name : List ℕ) (c : ℕ) (r cs : List ℕ) → all_of classes.is_alpha name ≡ true → all_of classes.is_tag (c ∷ r) ≡ true → decoded (c ∷ r) ≡ Ok cs
-    → written_tag (33 ∷ (name ++ 33 ∷ c ∷ r)) ≡ Some (record { handle = (33 ∷ name) ++ 33 ∷ []; suffix = cs })
-named_written name c r cs all tags is = grind (arith, leading_all, mark_is_no_word, is_shorthand, shorthand_by, some_text)
 
 pub decoded_word : (name r cs : List ℕ) → all_of classes.is_alpha name ≡ true → decoded r ≡ Ok cs → decoded (name ++ r) ≡ Ok (name ++ cs)
 unfolding uri_character
@@ -134,10 +123,6 @@ no_mark : (r : List ℕ) → all_of classes.is_tag r ≡ true → (defs.begins_w
 no_mark [] h = (refl, refl)
 no_mark (c ∷ r) h = let q = and_parts (classes.is_tag c) (all_of classes.is_tag r) h in ((tag_starts c q.0).1, (tag_starts c q.0).0)
 
-local_written : (name r cs : List ℕ) → all_of classes.is_alpha name ≡ true → all_of classes.is_tag r ≡ true → begins_in classes.is_alpha r ≡ false → decoded r ≡ Ok cs → is_empty (name ++ r) ≡ false
-    → written_tag (33 ∷ (name ++ r)) ≡ Some (record { handle = 33 ∷ []; suffix = name ++ cs })
-local_written name r cs all tags begins is some = grind (arith, leading_all, no_mark, is_shorthand, shorthand_by, all_tag, decoded_word)
-
 nil_parts : (a b : List ℕ) → is_empty (a ++ b) ≡ true → (a ≡ []) × (b ≡ [])
 nil_parts [] [] h = (refl, refl)
 nil_parts [] (c ∷ b) h = cc
@@ -147,9 +132,6 @@ pub same_empty : (name l cs : List ℕ) → decoded l ≡ Ok cs → is_empty (na
 same_empty [] [] cs e = let none : [] ≡ cs = cc in rw (← none) refl
 same_empty [] (c ∷ l) cs e = decoded_some c l cs e
 same_empty (d ∷ name) l cs e = refl
-
-still_no_word : (m : List ℕ) → begins_in classes.is_alpha m ≡ false → begins_in classes.is_alpha (leading classes.is_tag m) ≡ false
-still_no_word a h = grind arith
 
 pub local_position : (p : Position) (n m k : ℕ) → k ≡ n + m → further m (further n (past p)) ≡ further (suc k) p
 local_position p n m k e = same_place p (suc k) (omega (arith, e)) (omega (arith, e))
@@ -161,6 +143,7 @@ module _ (flow : Bool) (start : Position) (text name : List ℕ) (all : all_of c
   -- after a name and a second mark
   suffix_by : (s l rest : List ℕ) (d : Result (List ℕ) UriFault) → text ≡ name ++ 33 ∷ (l ++ rest) → leading classes.is_tag s ≡ l → s ≡ l ++ rest → after classes.is_tag s ≡ rest → decoded l ≡ d
       → Ends flow start text (and_then (and_then (after_class classes.is_tag start (past (further (length name) (past start))) s [] d) (λ r. some_suffix start name r)) (λ t. tag_end flow start t))
+  unfolding classes.is_alpha classes.is_decimal_digit classes.is_letter
   suffix_by s l rest (Err f) cut lead same b e = refuses _ (at_start _ (suffix_octets name s f (cut ∙ ap (λ r. name ++ 33 ∷ r) (sym same)) all (ap decoded lead ∙ e))) refl
   suffix_by s [] rest (Ok cs) cut lead same b e =
       let none : [] ≡ cs = cc in
@@ -168,7 +151,7 @@ module _ (flow : Bool) (start : Position) (text name : List ℕ) (all : all_of c
   suffix_by s (c ∷ l) rest (Ok cs) cut lead same b e =
       let some : is_empty cs ≡ false = decoded_some c l cs e in
       let tags : all_of classes.is_tag (c ∷ l) ≡ true = ap (all_of classes.is_tag) (sym lead) ∙ all_leading classes.is_tag s in
-      rw (some, b, lead) (ended flow start text (name ++ 33 ∷ c ∷ l) rest ((33 ∷ name) ++ 33 ∷ []) cs _ (cut ∙ sym (append_assoc name (33 ∷ c ∷ l) rest)) (named_written name c l cs all tags e)
+      rw (some, b, lead) (ended flow start text (name ++ 33 ∷ c ∷ l) rest ((33 ∷ name) ++ 33 ∷ []) cs _ (cut ∙ sym (append_assoc name (33 ∷ c ∷ l) rest)) (grind (arith, leading_all, refl, is_shorthand, shorthand_by, some_text))
       (named_position start (length name) (length (c ∷ l)) (length (name ++ 33 ∷ c ∷ l)) (length-append name (33 ∷ c ∷ l)))
       (λ g. suffix_goes_on name s cs (cut ∙ ap (λ r. name ++ 33 ∷ r) (sym same)) all (ap is_empty lead) (ap decoded lead ∙ e) (ap (may_follow flow) b ∙ g)))
 
@@ -192,7 +175,7 @@ module _ (flow : Bool) (start : Position) (text name : List ℕ) (all : all_of c
       by false f =
           let some : is_empty (name ++ cs) ≡ false = same_empty name l cs e ∙ f in
           let tags : all_of classes.is_tag l ≡ true = ap (all_of classes.is_tag) (sym lead) ∙ all_leading classes.is_tag m in
-          rw (some, b, lead) (ended flow start text (name ++ l) rest (33 ∷ []) (name ++ cs) _ (cut ∙ sym (append_assoc name l rest)) (local_written name l cs all tags begins e f)
+          rw (some, b, lead) (ended flow start text (name ++ l) rest (33 ∷ []) (name ++ cs) _ (cut ∙ sym (append_assoc name l rest)) (grind (arith, leading_all, no_mark, is_shorthand, shorthand_by, all_tag, decoded_word))
           (local_position start (length name) (length l) (length (name ++ l)) (length-append name l)) goes)
 
   from_mark : (s : List ℕ) → text ≡ name ++ 33 ∷ s → Ends flow start text (and_then (after_name start name (33 ∷ s) (further (length name) (past start))) (λ t. tag_end flow start t))
@@ -204,7 +187,7 @@ module _ (flow : Bool) (start : Position) (text name : List ℕ) (all : all_of c
   from_word : (m : List ℕ) → text ≡ name ++ m → after classes.is_alpha text ≡ m → begins_with 60 text ≡ false → begins_in classes.is_alpha m ≡ false → (slice_index m 0 == 33) ≡ false → Ends flow start text (and_then (after_name start name m (further (length name) (past start))) (λ t. tag_end flow start t))
   from_word m cut ends not_verbatim begins unmarked =
       rw (unmarked, (uris_are_read start m (further (length name) (past start)) name).1)
-      (local_by m (leading classes.is_tag m) (after classes.is_tag m) (decoded (leading classes.is_tag m)) (cut ∙ ap (λ r. name ++ r) (span_cut classes.is_tag m)) ends not_verbatim (no_mark_at m unmarked) (still_no_word m begins) refl refl refl)
+      (local_by m (leading classes.is_tag m) (after classes.is_tag m) (decoded (leading classes.is_tag m)) (cut ∙ ap (λ r. name ++ r) (span_cut classes.is_tag m)) ends not_verbatim (no_mark_at m unmarked) (grind arith) refl refl refl)
     where
       no_mark_at : (r : List ℕ) → (slice_index r 0 == 33) ≡ false → defs.begins_with_mark r ≡ false
       no_mark_at a h = grind arith

@@ -1,6 +1,6 @@
 -- A URI's characters are read as what they mean.
 use Rattle.std.specs.Char.{is_digit}
-use Rattle.proof_lexers.proofs.Common.{[], after_class, and_then, ap, append-nil, append_assoc, arith, At, at_octet, at_trail, Bool, cases_Bool, checked, code_followed, decoded, decoded_after, digit_value, drop, eqb-true, Err, escaped_character, false, Fault, further, high, if◌then◌else◌, inl, inr, is_alphanumeric, is_between, is_character_code, is_flow, is_hex, is_tag, is_trail, is_uri, is_uri_mark, Lead, lead, lead_of, leading, led_by, List, nat_le, nat_lt, nat_tests, no_character, None, Octet, octet_at, octet_from, Ok, Option, past, Position, put_code, Read, refl, Result, Some, subst, suc, sym, trail, trail_by, trails, trails_from, true, uri_character, uri_from, UriFault, UrisAreRead, UriState, zero, ℕ, ◌&&◌, ◌*◌, ◌++◌, ◌+◌, ◌==◌, ◌∙◌, ◌∷◌, ◌≡◌}
+use Rattle.proof_lexers.proofs.Common.{[], after_class, and_then, ap, append-nil, append_assoc, arith, At, at_octet, at_trail, Bool, cases_Bool, code_followed, decoded, decoded_after, digit_value, drop, eqb-true, Err, escaped_character, false, Fault, further, high, if◌then◌else◌, inl, inr, is_alphanumeric, is_between, is_character_code, is_flow, is_hex, is_tag, is_trail, is_uri, is_uri_mark, Lead, lead, lead_of, leading, led_by, List, nat_le, nat_lt, nat_tests, no_character, None, Octet, octet_at, octet_from, Ok, Option, past, Position, put_code, Read, refl, Result, Some, subst, suc, sym, trail, trail_by, trails, trails_from, true, uri_character, uri_from, UriFault, UrisAreRead, UriState, zero, ℕ, ◌&&◌, ◌*◌, ◌++◌, ◌+◌, ◌==◌, ◌∙◌, ◌∷◌, ◌≡◌}
 use Rattle.yaml_tokens.specs.declared.problem.Problem.TheVariants as problem
 use Rattle.defs_text.specs.Classes as classes
 use Rattle.model_scanner.specs.Uri.{plain}
@@ -15,9 +15,6 @@ abbrev lead_to : Position → Position → List ℕ → Option Lead → Result U
 lead_to start p t None = Err (At problem.TagLeadingOctet start)
 lead_to start p t (Some l) = at_trail start l.further l.bits l.least p t
 
-same_one : (n : ℕ) → nat_lt n 128 ≡ is_between 0x00 0x7F n
-same_one n = both _ _ (λ h. grind (arith, nat_tests)) (λ h. grind (arith, nat_tests))
-
 same_between : (least most n : ℕ) → (nat_le least n && nat_lt n (suc most)) ≡ is_between least most n
 same_between least most n = both _ _ (λ h. grind (arith, nat_tests)) (λ h. grind (arith, nat_tests))
 
@@ -27,7 +24,7 @@ same_trail n = same_between 0x80 0xBF n
 
 same_lead : (start p : Position) (n : ℕ) (t : List ℕ) → at_octet start lead n p t ≡ lead_to start p t (lead_of n)
 unfolding lead_of
-same_lead start p n t = grind (arith, same_one, same_between)
+same_lead start p n t = grind (arith, both, nat_tests, same_between)
 
 -- ---- what an escape means
 
@@ -40,9 +37,6 @@ after_some (suc n) (c ∷ r) = after_some n r
 abbrev completed : (least : ℕ) → Result ℕ UriFault → Result (List ℕ) UriFault → Result (List ℕ) UriFault
 completed least (Err f) others = Err f
 completed least (Ok code) others = (if nat_le least code && is_character_code code then put_code code others else Err no_character)
-
-is_completed : (l : Lead) (o : Result ℕ UriFault) (x y : ℕ) (r : List ℕ) → code_followed (checked l o) (λ n. decoded_after n (x ∷ y ∷ r)) ≡ completed l.least o (decoded_after 0 (drop (3 * l.further) r))
-is_completed l a x y r = grind (arith, nat_tests, after_some)
 
 -- ---- the scan
 
@@ -74,10 +68,6 @@ module _ (test class : ℕ → Bool) (start : Position) (same : (c : ℕ) → cl
   unfolding octet_at
   none_by a x l e = grind arith
 
-  second_by : (b : Bool) (x y : ℕ) (l : List ℕ) → is_digit x 16 ≡ true → is_digit y 16 ≡ false → octet_at (37 ∷ x ∷ (if b then y ∷ l else [])) ≡ None
-  unfolding octet_at
-  second_by a x y l e f = grind arith
-
   second_octet : (o : Octet) (x : ℕ) (r : List ℕ) (p : Position) (t : List ℕ) → is_digit x 16 ≡ true → class x ≡ true → is_hex x ≡ true → Octets o (x ∷ r) p t
   unfolding octet_at
   second_octet o x [] p t e f g = no_octets (rw f refl) (rw g refl)
@@ -88,7 +78,7 @@ module _ (test class : ℕ → Bool) (start : Position) (same : (c : ℕ) → cl
         octet x y (digit_value x * 16 + digit_value y) b refl f of_y (rw (f, of_y, e, h) refl) (rw g (low_turn test start o (digit_value x) y (y ∷ b) b (past p) t hex refl))
     | inr h ↦
         let no_hex : is_hex y ≡ false = same_digit y ∙ h in
-        no_octets (rw f (second_by (class y) x y (leading class b) e h)) (rw (g, no_hex) refl)
+        no_octets (rw f (grind arith)) (rw (g, no_hex) refl)
   ]
 
   octets_at : (o : Octet) (a : List ℕ) (p : Position) (t : List ℕ) → Octets o a p t
@@ -114,9 +104,6 @@ module _ (test class : ℕ → Bool) (start : Position) (same : (c : ℕ) → cl
   whole_code : (code least : ℕ) (a : List ℕ) (p : Position) (t : List ℕ) → Plain a → trails_from test start 0 code least a p t ≡ answer a p t (completed least (Ok code) (decoded (leading class a)))
   whole_code code least a p t here = grind (arith, same_code, with_code, class)
 
-  three_off : (left x y z : ℕ) (l : List ℕ) → drop (3 * suc left) (x ∷ y ∷ z ∷ l) ≡ drop (3 * left) l
-  three_off left x y z l = let e : 3 * suc left ≡ suc (suc (suc (3 * left))) = omega arith in rw e refl
-
   -- an octet more of a code
   next_octet : (left code least x y n : ℕ) (b : List ℕ) (p : Position) (t : List ℕ) → Trails left → ((k : ℕ) → Plain (drop k b)) → class x ≡ true → class y ≡ true → octet_at (37 ∷ x ∷ y ∷ leading class b) ≡ Some n
       → octet_from test start (trail left code least) n b (past (past (past p))) t
@@ -131,7 +118,8 @@ module _ (test class : ℕ → Bool) (start : Position) (same : (c : ℕ) → cl
   after_percent left code least a p t others plains (octet x y n b cut e f oc is) =
       let here = rw cut at is in
       let known = rw (cut, e, f) at oc in
-      rw (cut, e, f, three_off left 37 x y (leading class b)) (here ∙ next_octet left code least x y n b p t others (λ k. subst (λ (l : List ℕ). Plain (drop (suc (suc k)) l)) cut (plains (suc (suc (suc k))))) e f known)
+      let three_off : drop (3 * suc left) (37 ∷ x ∷ y ∷ (leading class b)) ≡ drop (3 * left) (leading class b) = let e : 3 * suc left ≡ suc (suc (suc (3 * left))) = omega arith in rw e refl in
+      rw (cut, e, f, three_off) (here ∙ next_octet left code least x y n b p t others (λ k. subst (λ (l : List ℕ). Plain (drop (suc (suc k)) l)) cut (plains (suc (suc (suc k))))) e f known)
   after_percent left code least a p t others plains (no_octets oc is) = is ∙ rw oc refl
 
   no_percent : (c : ℕ) (l : List ℕ) (b : Bool) → (c == 37) ≡ false → octet_at (if b then c ∷ l else []) ≡ None
@@ -163,7 +151,7 @@ module _ (test class : ℕ → Bool) (start : Position) (same : (c : ℕ) → cl
       by (Some l) =
           trailing l.further l.bits l.least b (past (past (past p))) t plains
           ∙ three_more x y b p t _ e f
-          ∙ ap (answer (37 ∷ x ∷ y ∷ b) p t) (sym (is_completed l (trails l.further l.bits (leading class b)) x y (leading class b)))
+          ∙ ap (answer (37 ∷ x ∷ y ∷ b) p t) (sym (grind (arith, nat_tests, after_some)))
 
   at_percent : (a : List ℕ) (p : Position) (t : List ℕ) → ((k : ℕ) → Plain (drop k a)) → Octets lead a (past p) t → scan (37 ∷ a) p t ≡ answer (37 ∷ a) p t (decoded (37 ∷ leading class a))
   unfolding uri_character escaped_character

@@ -124,11 +124,7 @@ module _ (single : Bool) (ctx : Context) (start : Position) where
 
       marks : (b : Bool) → marked_from (start.col + 1) body rest ≡ b → has_marker body rest ≡ b
       marks b h = rw off at h
-
-  -- ---- the closing quote
-
-  open_gap : (t : Folded) → t.gap ≡ [] → t.escaped ≡ true → t.text ≡ (joined t).text
-  open_gap t e f = elim (cases_Bool t.leading) [ inl g ↦ rw (g, f, e) (sym (append-nil t.text)) | inr g ↦ rw (g, e) (sym (append-nil t.text)) ]
+      -- ---- the closing quote
 
 closes : (single : Bool) (ctx : Context) (start : Position) (r : List ℕ) (p : Position) (u : Folded) → ends_before single r ≡ true → scan single ctx start (quote_of single ∷ r) inside p u ≡ Ok (record { rest = r; position = past p; value = u.text })
 unfolding is_break is_blank
@@ -149,4 +145,4 @@ module _ (single : Bool) (ctx : Context) (start : Position) (r : List ℕ) (ends
   pub close : (m : Mode) (p : Position) (t : Folded) → Ready single t m → IsRead ctx start (joined t).text r (scan single ctx start (quote_of single ∷ r) m p t)
   close m p t in_gap = in_line p t (begins single ctx start (quote_of single) r p t (quote_solid single))
   close m p t (after_escaped double e f) =
-      read (past p) (after_quote single ctx start (quote_of single) (quote_of single ∷ r) p t refl refl ∙ closes single ctx start r p t ends ∙ ap (λ text. Ok (record { rest = r; position = past p; value = text })) (open_gap single ctx start t e f))
+      read (past p) (after_quote single ctx start (quote_of single) (quote_of single ∷ r) p t refl refl ∙ closes single ctx start r p t ends ∙ ap (λ text. Ok (record { rest = r; position = past p; value = text })) (elim (cases_Bool t.leading) [ inl g ↦ rw (g, f, e) (sym (append-nil t.text)) | inr g ↦ rw (g, e) (sym (append-nil t.text)) ]))

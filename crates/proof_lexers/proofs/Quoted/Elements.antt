@@ -8,22 +8,15 @@ use Rattle.model_scanner.specs.Quoted.{after}
 use Rattle.model_scanner.specs.declared.kind.Digits.{Digits}
 use Rattle.proof_lexers.specs.QuotedScan.{is_some}
 use Rattle.proof_lexers.proofs.Bridges.{same_break, same_digit, same_code, digits_of, same_escape, and_false, both}
-use Rattle.proof_lexers.proofs.Quoted.Turns.{feed_is_no_marker, after_escaped, scan, Begun, begun, marked, shallow, begins, Taken, Step, steps, is_marked, is_shallow, StepOf, spelled, content_step, itself_step}
+use Rattle.proof_lexers.proofs.Quoted.Turns.{feed_is_no_marker, after_escaped, scan, Begun, begun, marked, shallow, begins, Step, steps, is_marked, is_shallow, StepOf, spelled, content_step, itself_step}
 
 -- ---- single quotes
 
 module _ (ctx : Context) (start : Position) where
-  doubled_taken : (a : List ℕ) (p : Position) (u : Folded) → Taken true ctx start (scan true ctx start (39 ∷ 39 ∷ a) inside p u) a p (39 ∷ 39 ∷ []) u 39
-  unfolding is_break is_blank
-  doubled_taken a p u = refl
-
-  doubled_step : (b r : List ℕ) (p : Position) (t : Folded) → Step true ctx start 39 (39 ∷ b) r p t (spelled (content 39) 1)
-  unfolding is_break is_blank classes.is_break
-  doubled_step b r p t = content_step true ctx start 39 (39 ∷ b) r 1 39 p t refl (doubled_taken (b ++ r) p (joined t)) refl refl
-
   quote_step : (b r : List ℕ) (p : Position) (t : Folded) → StepOf true ctx start 39 b r p t (if begins_with 39 b then Some (spelled (content 39) 1) else None)
+  unfolding is_break is_blank classes.is_break
   quote_step [] r p t = tt
-  quote_step (d ∷ b) r p t = elim (cases_Bool (d == 39)) [ inl e ↦ rw (eqb-true d 39 e) (doubled_step b r p t) | inr e ↦ rw e tt ]
+  quote_step (d ∷ b) r p t = elim (cases_Bool (d == 39)) [ inl e ↦ rw (eqb-true d 39 e) (content_step true ctx start 39 (39 ∷ b) r 1 39 p t refl refl refl refl) | inr e ↦ rw e tt ]
 
   single_step : (c : ℕ) (b r : List ℕ) (p : Position) (t : Folded) → (slice_index r 0 == 10) ≡ false → StepOf true ctx start c b r p t (single_quoted_element c b)
   unfolding single_quoted_element classes.is_nul
@@ -40,9 +33,6 @@ module _ (ctx : Context) (start : Position) where
 -- a code has two digits, four or eight
 pub has_digits : (d n : ℕ) → lookup d numeric_escapes ≡ Some n → count_of (digits_of n) ≡ n
 has_digits d n h = grind arith
-
-pub same_length : (n m : ℕ) → (suc n == suc m) ≡ (n == m)
-same_length n m = both _ _ (λ h. grind (arith, nat_tests)) (λ h. grind (arith, nat_tests))
 
 pub too_short : (n : ℕ) → (zero == suc n) ≡ false
 too_short n = grind (arith, nat_tests)
@@ -64,64 +54,40 @@ module _ (ctx : Context) (start : Position) where
   pub digits_read : (n value : ℕ) (b : List ℕ) (p : Position) (u : Folded) → digits_from false ctx start n value b p u ≡ coded_end (drop n b) (along (take n b) p) u (number_after n value b)
   digits_read zero value b p u = grind (arith, nat_tests, coded, same_code, coded_fails)
   digits_read (suc n) value [] p u = rw (too_short n) refl
-  digits_read (suc n) value (c ∷ b) p u = grind (arith, nat_tests, digit_turn, same_digit, past, same_length, digit_fails, none_either, digits_read n (value * 16 + digit_value c) b (past p) u)
+  digits_read (suc n) value (c ∷ b) p u = grind (arith, nat_tests, digit_turn, same_digit, past, both, digit_fails, none_either, digits_read n (value * 16 + digit_value c) b (past p) u)
 
   counted : (n code : ℕ) (b r : List ℕ) (p : Position) (u : Folded) → (length (take n b) == n) ≡ true → hexadecimal 0 (take n b) ≡ Some code → is_character_code code ≡ true
       → digits_from false ctx start n 0 (b ++ r) p u ≡ scan false ctx start (drop n b ++ r) inside (along (take n b) p) (with_char code u)
   counted n code b r p u many a valid = grind (arith, nat_tests, eqb-true, length-take, digits_read, take-append-le, drop-append-le)
 
-  -- digits are neither breaks nor NUL
-  hex_is_other : (c : ℕ) → is_digit c 16 ≡ true → (classes.is_break c ≡ false) × ((c == 0) ≡ false)
-  unfolding classes.is_break
-  hex_is_other c h = (grind (arith, nat_tests), grind (arith, nat_tests))
-
   over_digits : (n value code : ℕ) (b r : List ℕ) → hexadecimal value (take n b) ≡ Some code → (has_marker b r ≡ has_marker (drop n b) r) × (list_all is_some b ≡ list_all is_some (drop n b))
+  unfolding classes.is_break
   over_digits zero value code b r h = (refl, refl)
   over_digits (suc n) value code [] r h = (refl, refl)
   over_digits (suc n) value code (c ∷ b) r h = elim (cases_Bool (is_digit c 16)) [
-    | inl e ↦ let z = over_digits n (value * 16 + digit_value c) code b r (rw e at h) in let o = hex_is_other c e in (rw o.0 z.0, rw o.1 z.1)
+    | inl e ↦ let z = over_digits n (value * 16 + digit_value c) code b r (rw e at h) in let o : (classes.is_break c ≡ false) × ((c == 0) ≡ false) = (grind (arith, nat_tests), grind (arith, nat_tests)) in (rw o.0 z.0, rw o.1 z.1)
     | inr e ↦ let no : None ≡ Some code = rw e at h in cc
   ]
 
   -- ---- an escape
-
-  named_taken : (d code : ℕ) (a : List ℕ) (p : Position) (u : Folded) → is_break d ≡ false → escape_of d ≡ Char code → Taken false ctx start (scan false ctx start (92 ∷ d ∷ a) inside p u) a p (92 ∷ d ∷ []) u code
-  unfolding is_break is_blank
-  named_taken d code a p u e f = rw e (named_char false ctx start d code (d ∷ a) a (past p) u f refl)
-
-  coded_taken : (d : ℕ) (k : Digits) (code : ℕ) (b r : List ℕ) (p : Position) (u : Folded) → is_break d ≡ false → escape_of d ≡ Code k
-      → digits_from false ctx start (count_of k) 0 (b ++ r) (past (past p)) u ≡ scan false ctx start (drop (count_of k) b ++ r) inside (along (take (count_of k) b) (past (past p))) (with_char code u)
-      → Taken false ctx start (scan false ctx start (92 ∷ d ∷ (b ++ r)) inside p u) (drop (count_of k) b ++ r) p (92 ∷ d ∷ take (count_of k) b) u code
-  unfolding is_break is_blank
-  coded_taken d k code b r p u e f z = rw e (named_code false ctx start d k (d ∷ (b ++ r)) (b ++ r) (past p) u f refl) ∙ z
 
   -- a known escape is none, and no break is
   known_some : (d : ℕ) (e : Escape) → escape_of d ≡ e → (e ≡ Unknown → ⊥) → (d == 0) ≡ false
   unfolding escape_of
   known_some d e h known = ne_eqb d 0 (λ z. known (sym h ∙ rw z refl))
 
-  break_some : (d : ℕ) → is_break d ≡ true → (d == 0) ≡ false
-  unfolding is_break
-  break_some d h = grind (arith, nat_tests)
-
   no_white : (is_break 92 || is_blank 92) ≡ false
   unfolding is_break is_blank
   no_white = refl
 
-  named_step : (d code : ℕ) (b r : List ℕ) (p : Position) (t : Folded) → is_break d ≡ false → escape_of d ≡ Char code → Step false ctx start 92 (d ∷ b) r p t (spelled (content code) 1)
-  unfolding classes.is_break
-  named_step d code b r p t e f =
-      let g : classes.is_break d ≡ false = same_break d ∙ e in
-      content_step false ctx start 92 (d ∷ b) r 1 code p t no_white (named_taken d code (b ++ r) p (joined t) e f) (rw g refl) (rw (known_some d (Char code) f (λ h. cc)) refl)
-
   coded_by : (d : ℕ) (k : Digits) (code : ℕ) (b r : List ℕ) (p : Position) (t : Folded) → is_break d ≡ false → escape_of d ≡ Code k → (length (take (count_of k) b) == count_of k) ≡ true → hexadecimal 0 (take (count_of k) b) ≡ Some code → is_character_code code ≡ true
       → Step false ctx start 92 (d ∷ b) r p t (spelled (content code) (suc (count_of k)))
-  unfolding classes.is_break
+  unfolding classes.is_break is_break is_blank
   coded_by d k code b r p t e f many digits valid =
       let g : classes.is_break d ≡ false = same_break d ∙ e in
       let z = counted (count_of k) code b r (past (past p)) (joined t) many digits valid in
       let over = over_digits (count_of k) 0 code b r digits in
-      content_step false ctx start 92 (d ∷ b) r (suc (count_of k)) code p t no_white (coded_taken d k code b r p (joined t) e f z) (rw g over.0) (rw (known_some d (Code k) f (λ h. cc)) over.1)
+      content_step false ctx start 92 (d ∷ b) r (suc (count_of k)) code p t no_white (rw e (named_code false ctx start d k (d ∷ (b ++ r)) (b ++ r) (past p) (joined t) f refl) ∙ z) (rw g over.0) (rw (known_some d (Code k) f (λ h. cc)) over.1)
 
   -- ---- an escaped break
 
@@ -134,30 +100,20 @@ module _ (ctx : Context) (start : Position) where
   broken_by d b r k p q t is marks full (marked e f) = is_marked e f
   broken_by d b r k p q t is marks full (shallow e f) = is_shallow e (by_line p e f)
 
-  lone_broken : (d : ℕ) (b r : List ℕ) (p : Position) (u : Folded) → is_break d ≡ true → ((d == 13) && (slice_index (b ++ r) 0 == 10)) ≡ false
-      → scan false ctx start (92 ∷ d ∷ (b ++ r)) inside p u ≡ scan false ctx start (b ++ r) after (past_break (past p)) (with_escaped_break u)
-  unfolding is_break is_blank
-  lone_broken d b r p u e f = rw (e, f) refl
-
-  two_marks : (b r : List ℕ) → has_marker (13 ∷ 10 ∷ b) r ≡ (is_document_marker (b ++ r) || has_marker b r)
-  unfolding classes.is_break
-  two_marks b r = rw (feed_is_no_marker (b ++ r)) refl
-
   lone_broken_step : (d : ℕ) (b r : List ℕ) (p : Position) (t : Folded) → is_break d ≡ true → ((d == 13) && (slice_index (b ++ r) 0 == 10)) ≡ false → Step false ctx start 92 (d ∷ b) r p t (spelled escaped_break 1)
+  unfolding is_break is_blank
   lone_broken_step d b r p t e f =
       let g : classes.is_break d ≡ true = same_break d ∙ e in
-      broken_by d b r 0 p (past p) t (lone_broken d b r p (joined t) e f) (rw g refl) (rw (break_some d e) refl) (begins false ctx start 92 (d ∷ (b ++ r)) p t no_white)
-
-  two_broken_step : (b r : List ℕ) (p : Position) (t : Folded) → Step false ctx start 92 (13 ∷ 10 ∷ b) r p t (spelled escaped_break 2)
-  unfolding is_break is_blank
-  two_broken_step b r p t = broken_by 13 (10 ∷ b) r 1 p (past (past p)) t refl (two_marks b r) refl (begins false ctx start 92 (13 ∷ 10 ∷ (b ++ r)) p t no_white)
+      let break_some : (d == 0) ≡ false = grind (arith, nat_tests) in
+      broken_by d b r 0 p (past p) t (rw (e, f) refl) (rw g refl) (rw (break_some) refl) (begins false ctx start 92 (d ∷ (b ++ r)) p t no_white)
 
   broken_step : (d : ℕ) (b r : List ℕ) (p : Position) (t : Folded) → (slice_index r 0 == 10) ≡ false → is_break d ≡ true → Step false ctx start 92 (d ∷ b) r p t (spelled escaped_break (suc (break_further d b)))
+  unfolding is_break is_blank classes.is_break
   broken_step d [] r p t no_feed e = lone_broken_step d [] r p t e (rw no_feed (and_false (d == 13)))
   broken_step d (f ∷ b) r p t no_feed e = elim (cases_Bool ((d == 13) && (f == 10))) [
     | inl g ↦
         let both = and_parts (d == 13) (f == 10) g in
-        rw (eqb-true d 13 both.0, eqb-true f 10 both.1) (two_broken_step b r p t)
+        rw (eqb-true d 13 both.0, eqb-true f 10 both.1) (broken_by 13 (10 ∷ b) r 1 p (past (past p)) t refl (rw (feed_is_no_marker (b ++ r)) refl) refl (begins false ctx start 92 (13 ∷ 10 ∷ (b ++ r)) p t no_white))
     | inr g ↦ rw g (lone_broken_step d (f ∷ b) r p t e g)
   ]
 
@@ -172,7 +128,9 @@ module _ (ctx : Context) (start : Position) where
       of_number (Some code) many digits = elim (cases_Bool (is_character_code code)) [ inl valid ↦ rw valid (coded_by d k code b r p t e f many digits valid) | inr valid ↦ rw valid tt ]
 
   by_rows : (d : ℕ) (b r : List ℕ) (p : Position) (t : Folded) (o n : Option ℕ) → is_break d ≡ false → lookup d escapes ≡ o → lookup d numeric_escapes ≡ n → StepOf false ctx start 92 (d ∷ b) r p t (escape_by o n b)
-  by_rows d b r p t (Some code) n e f g = named_step d code b r p t e (same_escape d ∙ rw f refl)
+  unfolding classes.is_break is_break is_blank
+  by_rows d b r p t (Some code) n e f g = let g : classes.is_break d ≡ false = same_break d ∙ e in
+      content_step false ctx start 92 (d ∷ b) r 1 code p t no_white (rw e (named_char false ctx start d code (d ∷ (b ++ r)) (b ++ r) (past p) (joined t) (same_escape d ∙ rw f refl) refl)) (rw g refl) (rw (known_some d (Char code) (same_escape d ∙ rw f refl) (λ h. cc)) refl)
   by_rows d b r p t None None e f g = tt
   by_rows d b r p t None (Some n) e f g = subst (λ m. StepOf false ctx start 92 (d ∷ b) r p t (numeric_escape m b)) (has_digits d n g) (by_digits d (digits_of n) b r p t e (same_escape d ∙ rw (f, g) refl))
 

@@ -2,7 +2,6 @@
 use Rattle.proof_lexers.proofs.Common.{[], ap, At, break_further, cases_Bool, content, Context, digits_from, Err, escape, escape_by, escaped_break, escapes, false, Folded, inl, inr, inside, is_blank, is_break, is_character_code, IsBadEscape, length, List, lookup, named_code, named_unknown, no_digit, None, number_at, numbered, numeric_escape, numeric_escapes, Option, past, Position, Problem, refl, Some, suc, sym, take, ℕ, ◌==◌, ◌∙◌, ◌∷◌, ◌≡◌}
 use Rattle.yaml_tokens.specs.declared.problem.Problem.TheVariants as problem
 use Rattle.defs_text.specs.Classes as classes
-use Rattle.model_scanner.specs.Quoted.{named}
 use Rattle.proof_lexers.specs.QuotedEnds.{ends, unknown, no_character}
 use Rattle.proof_lexers.proofs.Bridges.{digits_of, same_break, same_escape}
 use Rattle.proof_lexers.proofs.Quoted.Turns.{scan, spelled}
@@ -14,20 +13,10 @@ module _ (ctx : Context) (start : Position) where
     pub bad : IsBadEscape b why
     pub is : scan false ctx start (92 ∷ b) inside p u ≡ Err (At why start)
 
-  to_named : (d : ℕ) (b : List ℕ) (p : Position) (u : Folded) → is_break d ≡ false → scan false ctx start (92 ∷ d ∷ b) inside p u ≡ scan false ctx start (d ∷ b) named (past p) u
-  unfolding is_break is_blank
-  to_named d b p u e = rw e refl
-
-  unknown_fails : (d : ℕ) (b : List ℕ) (p : Position) (u : Folded) → is_break d ≡ false → lookup d escapes ≡ None → lookup d numeric_escapes ≡ None → Fails (d ∷ b) p u
-  unknown_fails d b p u e f g = record {
-    why = problem.UnknownEscape;
-    bad = unknown d b (same_break d ∙ e) f g;
-    is = to_named d b p u e ∙ named_unknown false ctx start d (d ∷ b) (past p) u (same_escape d ∙ rw (f, g) refl) refl;
-  }
-
   to_digits : (d n : ℕ) (b : List ℕ) (p : Position) (u : Folded) → is_break d ≡ false → lookup d escapes ≡ None → lookup d numeric_escapes ≡ Some n → scan false ctx start (92 ∷ d ∷ b) inside p u ≡ digits_from false ctx start n 0 b (past (past p)) u
+  unfolding is_break is_blank
   to_digits d n b p u e f g =
-      to_named d b p u e ∙ named_code false ctx start d (digits_of n) (d ∷ b) b (past p) u (same_escape d ∙ rw (f, g) refl) refl ∙ ap (λ m. digits_from false ctx start m 0 b (past (past p)) u) (has_digits d n g)
+      (rw e refl) ∙ named_code false ctx start d (digits_of n) (d ∷ b) b (past p) u (same_escape d ∙ rw (f, g) refl) refl ∙ ap (λ m. digits_from false ctx start m 0 b (past (past p)) u) (has_digits d n g)
 
   code_fails_by : (d n : ℕ) (b : List ℕ) (p : Position) (u : Folded) (o : Option ℕ) → is_break d ≡ false → lookup d escapes ≡ None → lookup d numeric_escapes ≡ Some n → number_at n b ≡ o → numbered n o ≡ None → Fails (d ∷ b) p u
   code_fails_by d n b p u None e f g number h = record { why = problem.HexadecimalDigit; bad = no_digit d n b f g number; is = to_digits d n b p u e f g ∙ digits_read ctx start n 0 b (past (past p)) u ∙ rw number refl }
@@ -36,14 +25,15 @@ module _ (ctx : Context) (start : Position) where
     | inr invalid ↦ record { why = problem.EscapedCode; bad = no_character d n code b f g number invalid; is = to_digits d n b p u e f g ∙ digits_read ctx start n 0 b (past (past p)) u ∙ rw (number, invalid) refl }
   ]
 
-  numbers_are : (n : ℕ) (b : List ℕ) → numeric_escape n b ≡ None → numbered n (number_at n b) ≡ None
-  unfolding numeric_escape
-  numbers_are n b h = elim (cases_Bool (length (take n b) == n)) [ inl e ↦ rw e (rw e at h) | inr e ↦ rw e refl ]
-
   rows_fail : (d : ℕ) (b : List ℕ) (p : Position) (u : Folded) (o n : Option ℕ) → is_break d ≡ false → lookup d escapes ≡ o → lookup d numeric_escapes ≡ n → escape_by o n b ≡ None → Fails (d ∷ b) p u
+  unfolding numeric_escape is_break is_blank
   rows_fail d b p u (Some code) n e f g h = cc
-  rows_fail d b p u None (Some n) e f g h = code_fails_by d n b p u (number_at n b) e f g refl (numbers_are n b h)
-  rows_fail d b p u None None e f g h = unknown_fails d b p u e f g
+  rows_fail d b p u None (Some n) e f g h = code_fails_by d n b p u (number_at n b) e f g refl (elim (cases_Bool (length (take n b) == n)) [ inl e ↦ rw e (rw e at h) | inr e ↦ rw e refl ])
+  rows_fail d b p u None None e f g h = record {
+    why = problem.UnknownEscape;
+    bad = unknown d b (same_break d ∙ e) f g;
+    is = (rw e refl) ∙ named_unknown false ctx start d (d ∷ b) (past p) u (same_escape d ∙ rw (f, g) refl) refl;
+  }
 
   pub escape_fails : (b : List ℕ) (p : Position) (u : Folded) → escape b ≡ None → Fails b p u
   unfolding escape is_break is_blank

@@ -1,5 +1,5 @@
 -- A character of a line in quotes is read as it is written: as itself, as two single quotes, or by an escape of one letter.
-use Rattle.proof_lexers.proofs.Common.{[], along, append-nil, arith, at_marker, Bool, cases_Bool, Char, Context, escape_of, false, Fault, Folded, gap, inl, inr, inside, is_blank, is_break, le-ltb, List, ne_eqb, not, Ok, Position, quote_of, quoted_from, QuotedState, Read, refl, refused, Result, true, ℕ, ◌&&◌, ◌++◌, ◌+◌, ◌==◌, ◌||◌, ◌∙◌, ◌∷◌, ◌≡◌, ◌≤◌, nat_lt}
+use Rattle.proof_lexers.proofs.Common.{[], along, append-nil, arith, Bool, Char, Context, escape_of, false, Fault, Folded, gap, inside, is_blank, is_break, le-ltb, List, ne_eqb, not, Position, quote_of, quoted_from, QuotedState, Read, refl, Result, true, ℕ, ◌&&◌, ◌++◌, ◌+◌, ◌==◌, ◌||◌, ◌∙◌, ◌∷◌, ◌≡◌, ◌≤◌, nat_lt}
 use Rattle.proof_lexers.proofs.Quoted.Turns.{may_stand, inside_is_gap}
 use Rattle.proof_lexers.proofs.Along.{along_more}
 
@@ -62,11 +62,7 @@ quote_goes ctx start a text blanks p h = went true ctx start (39 ∷ 39 ∷ []) 
 -- ---- escapes
 
 module _ (ctx : Context) (start : Position) where
-  backslash_joins : (a text blanks : List ℕ) (p : Position) → IsIn ctx p → scan false ctx start (92 ∷ a) (at false ctx start p text blanks) ≡ scan false ctx start (92 ∷ a) (within false ctx start p (text ++ blanks))
-  unfolding is_break is_blank
-  backslash_joins a text blanks p h = joins false ctx start 92 a p text blanks refl h
-
   -- an escape of one letter
   pub named_goes : (l c : ℕ) → is_break l ≡ false → escape_of l ≡ Char c → IsWritten false ctx start (92 ∷ l ∷ []) c
   unfolding is_break is_blank
-  named_goes l c e f a text blanks p h = went false ctx start (92 ∷ l ∷ []) a text blanks p c h (backslash_joins (l ∷ a) text blanks p h ∙ rw (e, f) refl)
+  named_goes l c e f a text blanks p h = went false ctx start (92 ∷ l ∷ []) a text blanks p c h ((joins false ctx start 92 (l ∷ a) p text blanks refl h) ∙ rw (e, f) refl)

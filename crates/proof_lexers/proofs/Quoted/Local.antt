@@ -15,15 +15,6 @@ LocalOf at b (Some s) = Local at b s
 
 -- ---- a character that means itself
 
-break_same : (c : ℕ) (b x y : List ℕ) → drop (break_further c b) b ≡ x ++ y → break_further c (take (break_further c b) b ++ x) ≡ break_further c b
-break_same c a x y h = grind arith
-
-break_fits : (c : ℕ) (b : List ℕ) → length (take (break_further c b) b) ≡ break_further c b
-break_fits c a = grind arith
-
-break_onward : (c : ℕ) (b r : List ℕ) → begins_with 10 r ≡ false → break_further c (b ++ r) ≡ break_further c b
-break_onward c a r h = grind (arith, and-false)
-
 plain_local : (c : ℕ) (b : List ℕ) → LocalOf (plain_element c) b (plain_element c b)
 unfolding plain_element
 plain_local c b = grind arith
@@ -37,22 +28,15 @@ as_local a to b d e z = grind arith
 abbrev doubled_at : List ℕ → Option Spelled
 doubled_at r = (if begins_with 39 r then Some (spelled (content 39) 1) else None)
 
-doubled_local : (b : List ℕ) → LocalOf doubled_at b (doubled_at b)
-doubled_local a = grind arith
-
 single_local : (c : ℕ) (b : List ℕ) → LocalOf (single_quoted_element c) b (single_quoted_element c b)
 unfolding single_quoted_element
-single_local c b = grind (arith, as_local, doubled_local, plain_local)
+single_local c b = grind (arith, as_local, plain_local)
 
 -- ---- double quotes
 
 escape_broken : (d : ℕ) (b : List ℕ) → classes.is_break d ≡ true → Local escape (d ∷ b) (spelled escaped_break (suc (break_further d b)))
 unfolding escape
-escape_broken d b e = record { fits = ap suc (break_fits d b); same = λ x y h. rw e (ap (λ k. Some (spelled escaped_break (suc k))) (break_same d b x y h)); onward = λ r h. rw e (ap (λ k. Some (spelled escaped_break (suc k))) (break_onward d b r h)) }
-
-escape_named : (d code : ℕ) (b : List ℕ) → classes.is_break d ≡ false → lookup d escapes ≡ Some code → Local escape (d ∷ b) (spelled (content code) 1)
-unfolding escape
-escape_named d code b e f = record { fits = refl; same = λ x y h. rw (e, f) refl; onward = λ r h. rw (e, f) refl }
+escape_broken d b e = record { fits = ap suc (grind arith); same = λ x y h. rw e (ap (λ k. Some (spelled escaped_break (suc k))) (grind arith)); onward = λ r h. rw e (ap (λ k. Some (spelled escaped_break (suc k))) (grind (arith, and-false))) }
 
 coded_same : (n code : ℕ) (b x : List ℕ) → length (take n b) ≡ n → (length (take n b) == n) ≡ true → hexadecimal 0 (take n b) ≡ Some code → is_character_code code ≡ true → numeric_escape n (take n b ++ x) ≡ Some (spelled (content code) (suc n))
 unfolding numeric_escape
@@ -62,34 +46,26 @@ coded_onward : (n code : ℕ) (b r : List ℕ) → length (take n b) ≡ n → (
 unfolding numeric_escape
 coded_onward n code b r fits many a valid = grind (arith, length-take, take-append-le)
 
-escape_coded : (d n code : ℕ) (b : List ℕ) → classes.is_break d ≡ false → lookup d escapes ≡ None → lookup d numeric_escapes ≡ Some n → (length (take n b) == n) ≡ true → hexadecimal 0 (take n b) ≡ Some code → is_character_code code ≡ true
-    → Local escape (d ∷ b) (spelled (content code) (suc n))
-unfolding escape
-escape_coded d n code b e f g many a valid = grind (arith, nat_tests, eqb-true, coded_same, coded_onward)
-
 by_rows : (d : ℕ) (b : List ℕ) (o n : Option ℕ) → classes.is_break d ≡ false → lookup d escapes ≡ o → lookup d numeric_escapes ≡ n → LocalOf escape (d ∷ b) (escape_by o n b)
-unfolding numeric_escape
-by_rows d b (Some code) n e f g = escape_named d code b e f
+unfolding numeric_escape escape
+by_rows d b (Some code) n e f g = record { fits = refl; same = λ x y h. rw (e, f) refl; onward = λ r h. rw (e, f) refl }
 by_rows d b None None e f g = tt
 by_rows d b None (Some n) e f g = elim (cases_Bool (length (take n b) == n)) [ inl many ↦ rw many (of_number (hexadecimal 0 (take n b)) many refl) | inr many ↦ rw many tt ]
   where
     of_number : (o : Option ℕ) → (length (take n b) == n) ≡ true → hexadecimal 0 (take n b) ≡ o → LocalOf escape (d ∷ b) (numbered n o)
     of_number None many digits = tt
-    of_number (Some code) many digits = elim (cases_Bool (is_character_code code)) [ inl valid ↦ rw valid (escape_coded d n code b e f g many digits valid) | inr valid ↦ rw valid tt ]
+    of_number (Some code) many digits = elim (cases_Bool (is_character_code code)) [ inl valid ↦ rw valid (grind (arith, nat_tests, eqb-true, coded_same, coded_onward)) | inr valid ↦ rw valid tt ]
 
 escape_local : (b : List ℕ) → LocalOf escape b (escape b)
 unfolding escape
 escape_local [] = tt
 escape_local (d ∷ b) = elim (cases_Bool (classes.is_break d)) [ inl e ↦ rw e (escape_broken d b e) | inr e ↦ rw e (by_rows d b (lookup d escapes) (lookup d numeric_escapes) e refl refl) ]
 
-double_local : (c : ℕ) (b : List ℕ) → LocalOf (double_quoted_element c) b (double_quoted_element c b)
-unfolding double_quoted_element
-double_local c b = grind (arith, as_local, escape_local, plain_local)
-
 -- ---- either
 
 pub local : (single : Bool) (c : ℕ) (b : List ℕ) → LocalOf (element_of single c) b (element_of single c b)
-local a c b = grind (arith, nat_tests, single_local, double_local)
+unfolding double_quoted_element
+local a c b = grind (arith, nat_tests, single_local, as_local, escape_local, plain_local)
 
 -- elements after so many characters are those of the text after them
 pub after_some : (at : ℕ → List ℕ → Option Spelled) (n : ℕ) (b : List ℕ) → elements at n b ≡ elements at 0 (drop n b)

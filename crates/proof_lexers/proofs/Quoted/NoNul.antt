@@ -1,5 +1,5 @@
 -- A body that has elements has no NUL, and a line of it begins with a marker before the closing quote just where it does in the body.
-use Rattle.proof_lexers.proofs.Common.{[], and_parts, arith, begins_with_marker, Bool, Context, drop, Element, element_of, elements, false, followed, has_document_marker, has_marker, is_document_marker, le-ltb, List, list_all, nat_lt, nothing, Option, Position, put_before, quote_of, refl, Some, Spelled, suc, true, zero, ℕ, ◌++◌, ◌==◌, ◌∷◌, ◌≡◌}
+use Rattle.proof_lexers.proofs.Common.{[], and_parts, arith, begins_with_marker, Bool, Context, drop, Element, element_of, elements, false, followed, has_document_marker, has_marker, is_document_marker, le-ltb, List, list_all, nat_lt, nothing, Option, Position, put_before, quote_of, refl, Some, Spelled, suc, true, zero, ℕ, ◌++◌, ◌∷◌, ◌≡◌}
 use Rattle.defs_text.specs.Classes as classes
 use Rattle.proof_lexers.proofs.Bridges.{and_false, or_false}
 use Rattle.proof_lexers.specs.QuotedScan.{is_some}
@@ -17,15 +17,12 @@ abbrev second : Position
 second = record { index = 1; line = 1; col = 1 }
 
 module _ (single : Bool) where
-  same_some : (c : ℕ) (b : List ℕ) (s : Spelled) → Step single outside second c b [] second nothing s → list_all is_some (c ∷ b) ≡ list_all is_some (drop s.further b)
-  same_some c b s a = grind (arith, no_less)
-
   abbrev HasNone : ℕ → List ℕ → Type 0
   HasNone n a = (es : List Element) → elements (element_of single) n a ≡ Some es → list_all is_some (drop n a) ≡ true
 
   by_elements : (c : ℕ) (b : List ℕ) (s : Spelled) (o : Option (List Element)) (es : List Element) → elements (element_of single) s.further b ≡ o → put_before s.element o ≡ Some es → HasNone s.further b
       → Step single outside second c b [] second nothing s → list_all is_some (c ∷ b) ≡ true
-  by_elements c b s a es k e others z = grind (arith, same_some)
+  by_elements c b s a es k e others z = grind (arith, no_less)
 
   by_element : (c : ℕ) (b : List ℕ) (o : Option Spelled) (es : List Element) → followed o (λ n. elements (element_of single) n b) ≡ Some es → ((n : ℕ) → HasNone n b) → StepOf single outside second c b [] second nothing o
       → list_all is_some (c ∷ b) ≡ true
@@ -39,13 +36,10 @@ module _ (single : Bool) where
 
 -- ---- document markers
 
-some_fourth : (c d e f : ℕ) (a : List ℕ) → list_all is_some (c ∷ d ∷ e ∷ f ∷ a) ≡ true → (f == 0) ≡ false
-some_fourth c d e f a h = grind arith
-
 -- with the closing quote after it a body begins with a marker just where it does alone
 marker_here : (single : Bool) (a r : List ℕ) → list_all is_some a ≡ true → is_document_marker (a ++ quote_of single ∷ r) ≡ begins_with_marker a
 unfolding begins_with_marker classes.are_marks classes.is_blank_or_end classes.is_blank classes.is_break classes.is_nul
-marker_here b d r h = grind (arith, no_marker, and_false, some_fourth, or_false)
+marker_here b d r h = grind (arith, no_marker, and_false, or_false)
 
 pub same_marks : (single : Bool) (a r : List ℕ) → list_all is_some a ≡ true → has_marker a (quote_of single ∷ r) ≡ has_document_marker a
 same_marks single [] r h = refl

@@ -51,13 +51,10 @@ module _ (ctx : Context) (start : Position) (text body rest : List ℕ) (cut : t
   in_line p t (turns.marked e f) = absurd (no_mark (p.col == 0) (is_document_marker (92 ∷ rest)) (no_marker 92 rest refl refl) e)
   in_line p t (turns.shallow h e) = refuses (At problem.QuotedIndentation start) (by_column p h) e
 
-  solid : (p : Position) (t : Folded) → Begun false ctx start (92 ∷ rest) p t
-  unfolding is_break is_blank
-  solid p t = begins false ctx start 92 rest p t refl
-
   at_escape : (m : Mode) (p : Position) (t : Folded) → Ready false t m → Ends false ctx start text (scan false ctx start (92 ∷ rest) m p t)
-  at_escape m p t in_gap = in_line p t (solid p t)
-  at_escape m p t (after_escaped double e f) = rw (after_gap false ctx start 92 (92 ∷ rest) p t refl refl) (in_line p t (solid p t))
+  unfolding is_break is_blank
+  at_escape m p t in_gap = in_line p t (begins false ctx start 92 rest p t refl)
+  at_escape m p t (after_escaped double e f) = rw (after_gap false ctx start 92 (92 ∷ rest) p t refl refl) (in_line p t (begins false ctx start 92 rest p t refl))
 
 -- ---- every text
 

@@ -20,11 +20,8 @@ module _ (single : Bool) (c : ℕ) (b : List ℕ) (s : Spelled) (is : element_of
   cut : (body rest : List ℕ) → drop s.further b ≡ body ++ rest → c ∷ b ≡ before body ++ rest
   cut body rest e = ap (λ r. c ∷ r) (sym (take-append-drop s.further b) ∙ ap (λ r. take s.further b ++ r) e ∙ sym (append_assoc (take s.further b) body rest))
 
-  after_taken : (body : List ℕ) → elements (element_of single) s.further (take s.further b ++ body) ≡ elements (element_of single) 0 body
-  after_taken body = ap (λ n. elements (element_of single) n (take s.further b ++ body)) (sym own.fits) ∙ after_own (element_of single) (take s.further b) body
-
   more : (body rest : List ℕ) → drop s.further b ≡ body ++ rest → HasElements single body → HasElements single (before body)
-  more body rest e (es, h) = (s.element ∷ es, rw (own.same body rest e, after_taken body, h) refl)
+  more body rest e (es, h) = (s.element ∷ es, rw (own.same body rest e, (ap (λ n. elements (element_of single) n (take s.further b ++ body)) (sym own.fits) ∙ after_own (element_of single) (take s.further b) body), h) refl)
 
   more_unclosed : HasElements single (drop s.further b) → HasElements single (c ∷ b)
   more_unclosed (es, h) = (s.element ∷ es, rw (is, after_some (element_of single) s.further b, h) refl)

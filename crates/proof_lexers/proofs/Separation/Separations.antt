@@ -34,11 +34,6 @@ same_after s rest leading p q k l e f = rw (e, f) refl
 pub stayed : (s : Held) (rest : List ℕ) → ◌≡◌ {A = Result ScannerState Fault} (Ok (record { rest = rest; held = s })) (Ok (after_separation s s.leading [] rest))
 stayed s rest = same_after s rest s.leading s.position s.position s.key_allowed ((not (in_flow s) && false) || s.key_allowed) refl (rw (and-false (not (in_flow s))) refl)
 
--- after one character more
-pub passes_more : (s : Held) (c : ℕ) (a : List ℕ) (b k leading : Bool) (separation rest : List ℕ) (x : Result ScannerState Fault) → Allows s c k a → a ≡ separation ++ rest → begins_break rest ≡ false
-    → x ≡ Ok (after_separation (at s (position_past s.position c a) b k) leading separation rest) → x ≡ Ok (after_separation s leading (c ∷ separation) rest)
-passes_more s c a b k leading separation rest x allows cut ends e = grind (arith, same_after)
-
 -- ---- what a character adds
 
 pub same_allowed : (s : Held) (c : ℕ) (a : List ℕ) → classes.is_break c ≡ false → Allows s c s.key_allowed a
@@ -97,7 +92,7 @@ module _ {M : Type 0} (in_comment : M → Bool) (begins : List ℕ → Bool) (no
   one_more m n s c a b k p position fills allows keeps ih = rw (← position) (by (ih n (at s (position_past s.position c a) b k)))
     where
       by : {x : Result ScannerState Fault} → Walks n (at s (position_past s.position c a) b k) a x → Walks m s (c ∷ a) x
-      by (gone leading separation rest cut is ends e) = gone leading (c ∷ separation) rest (ap (λ r. c ∷ r) cut) (fills separation rest is) ends (passes_more s c a b k leading separation rest _ allows cut (no_break rest ends) e)
+      by (gone leading separation rest cut is ends e) = gone leading (c ∷ separation) rest (ap (λ r. c ∷ r) cut) (fills separation rest is) ends (grind (arith, same_after))
       by (failed f why e) = failed f (keeps f why) e
 
   -- a character that is no break moves the position by one
@@ -159,25 +154,18 @@ kind c = elim (cases_Bool (is_blank c)) [ inl e ↦ blank e | inr e ↦ elim (ca
 no_separation : (c : ℕ) → is_break c ≡ false → is_blank c ≡ false → (c == 35) ≡ false → (is_white c || (c == 35)) ≡ false
 no_separation c e f g = rw (same_blank c, same_break c, e, f, g) refl
 
-tab_is_blank : (c : ℕ) → (c == 9) ≡ true → is_blank c ≡ true
-unfolding is_blank
-tab_is_blank c h = grind arith
-
-left_here : (s : Held) → is_before_indent s ≡ true → is_left s s.position ≡ true
-unfolding is_before_indent
-left_here s h = grind arith
-
 -- after a TAB left of the innermost level
 tab_fails : (s : Held) (c : ℕ) (a blanks rest : List ℕ) → (c == 9) ≡ true → is_before_indent s ≡ true → a ≡ blanks ++ rest → is_blanks blanks ≡ true → begins_token rest ≡ true
     → Left between s (c ∷ a) (At problem.TabInBlockIndentation (position_after (position_past s.position c a) blanks rest))
-tab_fails s c a blanks rest tab left cut are ends = rw (eqb-true c 9 tab, cut) (later [] blanks rest refl refl (left_here s left) are ends)
+unfolding is_before_indent
+tab_fails s c a blanks rest tab left cut are ends = rw (eqb-true c 9 tab, cut) (later [] blanks rest refl refl (grind arith) are ends)
 
 in_gap : (s : Held) (c : ℕ) (a : List ℕ) → is_break c ≡ false → Passed a → Kind c → Skips between s (c ∷ a) (skip between (c ∷ a) s)
-unfolding skip
+unfolding skip is_blank
 in_gap s c a e ih k = elim (cases_Bool ((c == 9) && is_before_indent s)) [
   | inl f ↦
       let q = and_parts (c == 9) (is_before_indent s) f in
-      rw (e, f) (step between tab_line s c a s.leading e (λ separation rest h. fills_blank c separation rest (tab_is_blank c q.0) h) (λ blanks rest line cut are ends. tab_fails s c a blanks rest q.0 q.1 cut are ends) ih)
+      rw (e, f) (step between tab_line s c a s.leading e (λ separation rest h. fills_blank c separation rest (grind arith) h) (λ blanks rest line cut are ends. tab_fails s c a blanks rest q.0 q.1 cut are ends) ih)
   | inr f ↦ elim k [
     | blank g ↦ rw (e, f, g) (step between between s c a s.leading e (λ separation rest h. fills_blank c separation rest g h) (λ blanks rest no. cc) ih)
     | hash g h ↦ rw (e, f, g, h) (step between comment s c a false e (λ separation rest k. fills_hash c separation rest h k) (λ blanks rest no. cc) ih)

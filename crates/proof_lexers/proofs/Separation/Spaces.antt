@@ -82,42 +82,32 @@ module _ (tabs : SkipTabs) where
   abbrev Passed : List ℕ → Type 0
   Passed a = (w : Whitespace) (p : Position) → Passes tabs w p a (space_from tabs a (record { position = p; found = w }))
 
-  space_more : (a : List ℕ) (w : Whitespace) (p : Position) → Passed a → Passes tabs w p (32 ∷ a) (space_from tabs (32 ∷ a) (record { position = p; found = w }))
-  unfolding is_blank is_break
-  space_more a w p ih =
-      one_more tabs w (record w { has_valid_yaml_ws = true }) p 32 a _ refl refl refl (λ b. refl) (λ b. sym (or_both w.has_valid_yaml_ws (has 32 b))) (or_true w.found_tabs) (ih (record w { has_valid_yaml_ws = true }) (past p))
-
   tab_more : (a : List ℕ) (w : Whitespace) (p : Position) → are_skipped tabs ≡ true → Passed a → Passes tabs w p (9 ∷ a) (space_from tabs (9 ∷ a) (record { position = p; found = w }))
   unfolding is_blank is_break
   tab_more a w p skipped ih =
       one_more tabs w (record w { found_tabs = true }) p 9 a _ refl refl (rw skipped refl) (λ b. sym (or_both w.found_tabs (has 9 b))) (λ b. refl) refl
       (passes_on tabs (record w { found_tabs = true }) (past p) a _ _ (rw skipped refl) (ih (record w { found_tabs = true }) (past p)))
 
-  hash_position : (p : Position) (l rest : List ℕ) → position_after (past p) l rest ≡ position_after p (35 ∷ l) rest
-  unfolding classes.is_break
-  hash_position p l rest = ap (λ q. position_after q l rest) (sym (in_line_position 35 (l ++ rest) p refl))
-
-  comment_here : (a : List ℕ) (w : Whitespace) (p : Position) → Passes tabs w p (35 ∷ a) (comment_after w (35 ∷ a) p)
-  unfolding is_break classes.is_break classes.is_blank
-  comment_here a w p = elim (cases_Bool (w.found_tabs || w.has_valid_yaml_ws)) [
-    | inl e ↦
-        let z = line_of a (past p) in
-        rw e (passed [] (35 ∷ z.line) z.rest (ap (λ r. 35 ∷ r) z.cut) refl z.fills z.breaks (line_ends tabs z.rest z.ends)
-        (ap (λ r. Ok (with_found w r)) z.is ∙ same_space _ _ z.rest _ _ _ _ (hash_position p z.line z.rest) (sym (or_false w.found_tabs)) (sym (or_false w.has_valid_yaml_ws))))
-    | inr e ↦ rw e (stuck refl e refl)
-  ]
-
   stop_here : (c : ℕ) (a : List ℕ) (w : Whitespace) (p : Position) (hash : Bool) → (c == 35) ≡ hash → (c == 32) ≡ false → ((c == 9) && are_skipped tabs) ≡ false → Passes tabs w p (c ∷ a) (space_from tabs (c ∷ a) (record { position = p; found = w }))
+  unfolding is_break classes.is_break classes.is_blank
   stop_here c a w p true h e f =
       let same : c ≡ 35 = eqb-true c 35 h in
-      passes_on tabs w p (c ∷ a) _ (comment_after w (c ∷ a) p) (rw (e, f, h) refl) (rw same (comment_here a w p))
+      let comment_here : Passes tabs w p (35 ∷ a) (comment_after w (35 ∷ a) p) = elim (cases_Bool (w.found_tabs || w.has_valid_yaml_ws)) [
+        | inl e ↦
+            let z = line_of a (past p) in
+            rw e (passed [] (35 ∷ z.line) z.rest (ap (λ r. 35 ∷ r) z.cut) refl z.fills z.breaks (line_ends tabs z.rest z.ends)
+            (ap (λ r. Ok (with_found w r)) z.is ∙ same_space _ _ z.rest _ _ _ _ (ap (λ q. position_after q z.line z.rest) (sym (in_line_position 35 (z.line ++ z.rest) p refl))) (sym (or_false w.found_tabs)) (sym (or_false w.has_valid_yaml_ws))))
+        | inr e ↦ rw e (stuck refl e refl)
+      ] in
+      passes_on tabs w p (c ∷ a) _ (comment_after w (c ∷ a) p) (rw (e, f, h) refl) (rw same comment_here)
   stop_here c a w p false h e f =
       passed [] [] (c ∷ a) refl refl refl refl (rw (e, f, h) refl) (rw (e, f, h) (same_space p p (c ∷ a) _ _ _ _ refl (sym (or_false w.found_tabs)) (sym (or_false w.has_valid_yaml_ws))))
 
   all_passed : (a : List ℕ) → Passed a
+  unfolding is_blank is_break
   all_passed [] w p = passed [] [] [] refl refl refl refl refl (same_space p p [] _ _ _ _ refl (sym (or_false w.found_tabs)) (sym (or_false w.has_valid_yaml_ws)))
-  all_passed (c ∷ a) w p = elim (cases_Bool (c == 32)) [
-    | inl e ↦ rw (eqb-true c 32 e) (space_more a w p (all_passed a))
+  all_passed (c ∷ a) w p = let space_more : Passes tabs w p (32 ∷ a) (space_from tabs (32 ∷ a) (record { position = p; found = w })) = one_more tabs w (record w { has_valid_yaml_ws = true }) p 32 a _ refl refl refl (λ b. refl) (λ b. sym (or_both w.has_valid_yaml_ws (has 32 b))) (or_true w.found_tabs) ((all_passed a) (record w { has_valid_yaml_ws = true }) (past p)) in elim (cases_Bool (c == 32)) [
+    | inl e ↦ rw (eqb-true c 32 e) space_more
     | inr e ↦ elim (cases_Bool ((c == 9) && are_skipped tabs)) [
       | inl f ↦ let q = and_parts (c == 9) (are_skipped tabs) f in rw (eqb-true c 9 q.0) (tab_more a w p q.1 (all_passed a))
       | inr f ↦ stop_here c a w p (c == 35) refl e f

@@ -40,23 +40,19 @@ step : (m n : Bool × Bool) (s : Held) (c : ℕ) (a : List ℕ) → is_break c �
 step m n s c a e fills founds ih =
     on_line in_comment begins_white_space no_break_at go Misses m n s c a s.leading e fills (still_missed m n s c a s.leading s.key_allowed fills (λ none. let z = founds none in (z.0, same_break c ∙ e, z.1))) ih
 
-space_is_blank : (c : ℕ) → (c == 32) ≡ true → is_blank c ≡ true
-unfolding is_blank
-space_is_blank c h = rw h refl
-
 at_end : (f : Bool) (s : Held) (a : List ℕ) (i : Bool) → is_separation i [] a ≡ true → (i || not (begins_with 32 a)) ≡ true → begins_white_space a ≡ false → Goes (i, f) s a (white_end f a s)
 at_end true s a i is here ends = gone s.leading [] a refl is ends (stayed s a)
 at_end false s a i is here ends = failed _ (missed [] a refl refl is here refl ends) refl
 
 passed : (a : List ℕ) → Passed a
-unfolding white
+unfolding white is_blank
 passed [] (i, f) s = at_end f s [] i (or_true (not i)) (or_true i) refl
 passed (c ∷ a) (i, f) s = elim (cases_Bool (is_break c)) [
   | inl e ↦ rw e (broken in_comment begins_white_space no_break_at go Misses (i, f) (false, true) s c a e refl (λ b k g. still_missed (i, f) (false, true) s c a b k (λ separation rest h. fills_break i c separation rest e h) (λ none. cc) g) (passed a))
   | inr e ↦ elim i as (λ j. Goes (j, f) s (c ∷ a) (white j f (c ∷ a) s)) [
     | true ↦ rw e (step (true, f) (true, f) s c a e (λ separation rest k. fills_comment c separation rest e k) (λ none. (none, refl)) (passed a))
     | false ↦ elim (cases_Bool (c == 32)) [
-      | inl g ↦ rw (e, g) (step (false, f) (false, true) s c a e (λ separation rest k. fills_blank c separation rest (space_is_blank c g) k) (λ none. cc) (passed a))
+      | inl g ↦ rw (e, g) (step (false, f) (false, true) s c a e (λ separation rest k. fills_blank c separation rest (rw g refl) k) (λ none. cc) (passed a))
       | inr g ↦ elim (cases_Bool (c == 35)) [
         | inl h ↦ rw (e, g, h) (step (false, f) (true, f) s c a e (λ separation rest k. fills_hash c separation rest h k) (λ none. (none, rw g refl)) (passed a))
         | inr h ↦ let still : classes.is_break c ≡ false = same_break c ∙ e in rw (e, g, h) (at_end f s (c ∷ a) false refl (rw g refl) (rw (g, still, h) refl))
