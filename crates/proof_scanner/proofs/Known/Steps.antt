@@ -1,5 +1,5 @@
 -- What is known of keys that wait, after a step: from what was known before it.
-use Rattle.proof_scanner.proofs.Common.{[], Account, Act, act_of, ap, arith, Begins, begins_free_line, blocks_at, Bool, false, free, gives_block_scalar, gives_node, is_far, is_in_column, is_in_flow, IsLineHere, IsWritten, Key, KnowsKey, LikeLine, Line, line_by, line_past, line_past_separation, List, None, Option, Outside, Position, position_after, refl, same_flow, Site, site_here, Some, Step, subst, sym, taken, true, up_to_nul, waits, ℕ, ◌++◌, ◌+◌, ◌∙◌, ◌∷◌, ◌≡◌, ◌≤◌}
+use Rattle.proof_scanner.proofs.Common.{[], Account, Act, act_of, ap, arith, Begins, begins_free_line, blocks_at, Bool, false, free, gives_block_scalar, gives_node, is_far, is_in_column, is_in_flow, IsLineHere, IsWritten, Key, KnowsKey, LikeLine, Line, line_by, line_past, line_past_separation, List, None, Option, Outside, Position, position_after, refl, same_flow, Site, site_here, Some, Step, subst, sym, taken, true, up_to_nul, waits, ℕ, ◌++◌, ◌+◌, ◌∙◌, ◌∷◌, ◌≡◌, ◌≤◌, eqb-true, nat_tests}
 use Rattle.proof_scanner.specs.KnownKeys.{IsAt}
 use Rattle.proof_scanner.proofs.Cut.Positions.{index_after, not_before_after}
 use Rattle.proof_scanner.proofs.Known.CameBy.{begins_whole, Came, came_by}
@@ -13,10 +13,7 @@ use Rattle.proof_scanner.proofs.Sound.Sides.{with_entries}
 
 -- at a later position before the same text
 pub known_past : (text after : List ℕ) (p : Position) (k : Option Key) (f rest : List ℕ) → KnowsKey text after p k → KnowsKey text after (position_after p f rest) k
-known_past text after p k f rest n =
-    let later = (not_before_after p f rest).0 in
-    let further = index_after p f rest in
-    record { waiting = λ b begin g e l i. n.waiting b begin g e (omega (arith, later, l)) (omega (arith, further, i)); required = n.required; rows = n.rows }
+known_past text after p k f rest n = grind (arith, nat_tests, eqb-true, not_before_after, index_after)
 
 -- where the open key is far, none is known
 pub known_far : (text after : List ℕ) (p : Position) (k : Key) → is_far k.position p ≡ true → KnowsKey text after p (Some k) → KnowsKey text after p None

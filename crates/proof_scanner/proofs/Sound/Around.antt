@@ -1,5 +1,5 @@
 -- A piece in flow, and the open key outside flow: while that is live, no break stands before the piece or in it.
-use Rattle.proof_scanner.proofs.Common.{After, Bool, Entry, FlowLevel, IsLive, IsOpenHere, IsOpenOutside, Key, List, MayChoose, NotBefore, Option, Position, ScannerState, Some, after, ap, append-nil, arith, begins_free_line, false, has_break, is_empty, is_waiting, line_by, line_past_separation, outside_key, refl, subst, sym, taken, true, ℕ, ◌&&◌, ◌∙◌, ◌∷◌, ◌≡◌, ◌≤◌}
+use Rattle.proof_scanner.proofs.Common.{After, Bool, Entry, FlowLevel, IsLive, IsOpenHere, IsOpenOutside, Key, List, MayChoose, NotBefore, Option, Position, ScannerState, Some, after, ap, append-nil, arith, begins_free_line, false, has_break, is_empty, is_waiting, line_by, line_past_separation, outside_key, refl, subst, sym, taken, true, ℕ, ◌&&◌, ◌∙◌, ◌∷◌, ◌≡◌, ◌≤◌, eqb-true, nat_tests}
 use Rattle.proof_scanner.proofs.Cut.Positions.{not_before_after, not_before_then, after_then, weaker}
 use Rattle.proof_scanner.proofs.Sound.NodeSteps.{separated}
 use Rattle.proof_scanner.proofs.Sound.OutOfFlow.{no_waiting}
@@ -32,28 +32,13 @@ module _ (text : List ℕ) (t : ScannerState) (f : FlowLevel) (fs : List FlowLev
     live_inside x l = live_before x t.held.position end t.rest rest later some l
 
     pub unbroken_around : (strict c : Bool) → MayChoose strict c (outside_key es ks) end rest → line_past_separation true (begins_free_line a.site.before a.separation) (line_by c (outside_key es ks) a.line) ≡ Some (line_by c (outside_key es ks) a.line)
-    unbroken_around strict c may = by strict c (outside_key es ks) refl may
-      where
-        none : (x : Key) → outside_key es ks ≡ Some x → IsLive x end rest → begins_free_line a.site.before a.separation ≡ false
-        none x i l =
-            let live : IsLive x t.held.position t.rest = live_inside x l in
-            let line = ap (λ p. p.line) a.position_is in
-            not_free a.site.before a.separation (unbroken a.site.position a.separation t.rest some a.is_solid (omega (arith, (around_of x i).0.0, live.0, line)))
-
-        by : (strict c : Bool) (y : Option Key) → outside_key es ks ≡ y → MayChoose strict c y end rest → line_past_separation true (begins_free_line a.site.before a.separation) (line_by c y a.line) ≡ Some (line_by c y a.line)
-        by strict c a i may = grind (arith, line_through, separated, none)
+    unbroken_around strict c may = grind (arith, nat_tests, eqb-true, live_inside, not_free, unbroken, around_of, line_through, separated)
 
     pub one_around : (piece : List ℕ) → (is_empty rest ≡ false → end.line ≤ t.held.position.line → has_break piece ≡ false) → (strict c : Bool) → MayChoose strict c (outside_key es ks) end rest → (has_break piece && is_waiting (line_by c (outside_key es ks) a.line)) ≡ false
-    one_around piece one strict c may = by strict c (outside_key es ks) refl may
-      where
-        by : (strict c : Bool) (y : Option Key) → outside_key es ks ≡ y → MayChoose strict c y end rest → (has_break piece && is_waiting (line_by c y a.line)) ≡ false
-        by strict c y i may = grind (arith, no_waiting, one, around_before)
+    one_around piece one strict c may = grind (arith, nat_tests, eqb-true, no_waiting, around_before)
 
     pub may_around : (strict c : Bool) → MayChoose strict c (outside_key es ks) end rest → MayChoose strict c (outside_key es ks) t.held.position t.rest
     may_around strict c may = grind arith
 
     pub open_around : (q : Position) → NotBefore t.held.position q → IsOpenOutside (outside_key es ks) q end rest a.site.blocks
-    open_around q after = by (outside_key es ks) refl
-      where
-        by : (y : Option Key) → outside_key es ks ≡ y → IsOpenOutside y q end rest a.site.blocks
-        by y i = grind (arith, around_of, after_then, not_before_then, last_before, live_inside, after)
+    open_around q a = grind (arith, nat_tests, eqb-true, around_of, after_then, not_before_then, last_before, live_inside)

@@ -1,5 +1,5 @@
 -- Facts where a piece begins: lines and positions, the open key outside flow, and levels of indentation.
-use Rattle.proof_scanner.proofs.Common.{AreAround, AreLevels, AreNumbered, BeginsButForKey, Bool, Entry, FlowLevel, Held, Indent, IsLive, IsNotRight, Key, Line, List, MayChoose, None, NotBefore, Option, Position, Previous, ScannerState, SoFar, Some, [], ap, arith, begins_free_line, begins_separation, chosen, columns, false, has_break, has_open_level, in_flow, innermost, is_break, is_empty, is_in_column, is_waiting, least_column, length, line_past_separation, must_be_key, nat_le, not, not_ended, outside_key, position_after, subst, suc, tokens_up_to, true, ℕ, ◌++◌, ◌+◌, ◌==◌, ◌∙◌, ◌∷◌, ◌≡◌, ◌≤◌}
+use Rattle.proof_scanner.proofs.Common.{AreAround, AreLevels, AreNumbered, BeginsButForKey, Bool, Entry, FlowLevel, Held, Indent, IsLive, IsNotRight, Key, Line, List, MayChoose, None, NotBefore, Option, Position, Previous, ScannerState, SoFar, Some, [], ap, arith, begins_free_line, begins_separation, chosen, columns, false, has_break, has_open_level, in_flow, innermost, is_break, is_empty, is_in_column, is_waiting, least_column, length, line_past_separation, must_be_key, nat_le, not, not_ended, outside_key, position_after, subst, suc, tokens_up_to, true, ℕ, ◌++◌, ◌+◌, ◌==◌, ◌∙◌, ◌∷◌, ◌≡◌, ◌≤◌, eqb-true, nat_tests}
 use Rattle.proof_scanner.proofs.Cut.Pieces.Inserted.{no_break_on_line}
 use Rattle.proof_scanner.proofs.Cut.Nodes.{IsDeep}
 use Rattle.proof_scanner.proofs.Sound.Sides.{with_entries, ArrivesBy}
@@ -65,8 +65,7 @@ numbered_more m n (Some k ∷ ks) h a = (omega (arith, h, a.0), a.1)
 
 -- the keys around one are numbered too
 pub numbered_around : (m : ℕ) (k : Option Key) (ks : List (Option Key)) → AreNumbered m (k ∷ ks) → AreNumbered m ks
-numbered_around m None ks a = a.1
-numbered_around m (Some k) ks a = numbered_more k.number m ks (omega (arith, a.0)) a.1
+numbered_around m b ks a = grind (arith, nat_tests, eqb-true, numbered_more)
 
 -- ---- rows
 

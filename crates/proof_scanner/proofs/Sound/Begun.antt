@@ -1,5 +1,5 @@
 -- What a part of a node begins: an opening bracket the first entry of a collection, other pieces nothing.
-use Rattle.proof_scanner.proofs.Common.{AreNumbered, Bool, Entry, FlowLevel, Key, Line, List, None, Option, Position, Some, Step, Token, [], arith, depth_past, entries_by, entry_by, first_choice, first_entry, gives_node, length, outside_key, pop, refl, suc, with_keys, ℕ, ◌++◌, ◌∷◌, ◌≡◌}
+use Rattle.proof_scanner.proofs.Common.{AreNumbered, Bool, Entry, FlowLevel, Key, Line, List, None, Option, Position, Some, Step, Token, [], arith, depth_past, entries_by, entry_by, first_choice, first_entry, gives_node, length, outside_key, pop, refl, suc, with_keys, ℕ, ◌++◌, ◌∷◌, ◌≡◌, eqb-true, nat_tests}
 use Rattle.proof_scanner.specs.StandsInRow.{kind_of}
 
 -- the entries after it, by the flow level that it begins, if any
@@ -22,18 +22,15 @@ abbrev pub depth_begun : Option FlowLevel → ℕ → ℕ
 depth_begun level n = depth_past gives_node (with_begun level []) n
 
 pub depth_rises : (level : Option FlowLevel) (n : ℕ) → depth_begun level (suc n) ≡ suc (depth_begun level n)
-depth_rises None n = refl
-depth_rises (Some level) n = refl
+depth_rises a n = grind (arith, nat_tests, eqb-true)
 
 pub begun_before : (level : Option FlowLevel) (es : List Entry) → with_begun level [] ++ es ≡ with_begun level es
-begun_before None es = refl
-begun_before (Some level) es = refl
+begun_before a es = grind (arith, nat_tests, eqb-true)
 
 -- keys around what it begins wait for a colon after as many closing brackets
 pub keys_around_begun : (level : Option FlowLevel) (p : Position) (ws : List Step) (last bs : List ℕ) (l : Line) (es : List Entry) (ks : List (Option Key)) (ts : List Token) →
     with_keys 0 p ws last bs l (with_begun level es) (with_no_key level ks) ts ≡ with_keys (depth_begun level 0) p ws last bs l es ks ts
-keys_around_begun None p ws last bs l es ks ts = refl
-keys_around_begun (Some level) p ws last bs l es ks ts = refl
+keys_around_begun a p ws last bs l es ks ts = grind (arith, nat_tests, eqb-true)
 
 -- the entries by choices
 pub begun_chosen : (level : Option FlowLevel) (cs : List Bool) (k : Option Key) (ks : List (Option Key)) (e : Entry) (es : List Entry) →

@@ -19,11 +19,7 @@ with_blanks w l = record { found_tabs = w.found_tabs || is_one_of l 9; has_valid
 pub no_break_in_blanks : (a : List ℕ) → has_no_break (leading is_blank a) ≡ true
 unfolding is_blank is_break
 no_break_in_blanks [] = refl
-no_break_in_blanks (c ∷ a) = by (c == 32) (c == 9) refl refl (no_break_in_blanks a)
-  where
-    by : (x y : Bool) → (c == 32) ≡ x → (c == 9) ≡ y → has_no_break (leading is_blank a) ≡ true → has_no_break (if (x || y) then c ∷ leading is_blank a else []) ≡ true
-    by true y e f h = let same : c ≡ 32 = eqb-true c 32 e in rw same h
-    by false b e f h = grind arith
+no_break_in_blanks (c ∷ a) = grind (arith, nat_tests, eqb-true, no_break_in_blanks a)
 
 same_spaces : (p q : Position) (w v : Whitespace) (a : List ℕ) → p ≡ q → w.found_tabs ≡ v.found_tabs → w.has_valid_yaml_ws ≡ v.has_valid_yaml_ws →
     ◌≡◌ {A = Stop Spaces} (record { rest = a; state = record { position = p; found = w } }) (record { rest = a; state = record { position = q; found = v } })
@@ -39,33 +35,16 @@ blanks_walked (c ∷ a) p w = grind (arith, blanks_walked a)
 
 pub no_break_in_line : (a : List ℕ) → has_no_break (leading is_on_line a) ≡ true
 no_break_in_line [] = refl
-no_break_in_line (c ∷ a) = by (is_break c) refl (no_break_in_line a)
-  where
-    by : (b : Bool) → is_break c ≡ b → has_no_break (leading is_on_line a) ≡ true → has_no_break (if not b then c ∷ leading is_on_line a else []) ≡ true
-    by true e h = refl
-    by false e h = rw e h
+no_break_in_line (c ∷ a) = grind (arith, nat_tests, eqb-true, no_break_in_line a)
 
 comment_passed : (a : List ℕ) (p : Position) → skip_while is_line a p ≡ record { rest = after is_on_line a; position = position_after p (leading is_on_line a) []; value = tt }
 comment_passed [] p = refl
-comment_passed (c ∷ a) p = by (is_break c) refl (comment_passed a (past p))
-  where
-    by : (b : Bool) → is_break c ≡ b → skip_while is_line a (past p) ≡ record { rest = after is_on_line a; position = position_after (past p) (leading is_on_line a) []; value = tt } →
-        skip_while is_line (c ∷ a) p ≡ record { rest = (if not b then after is_on_line a else c ∷ a); position = position_after p (if not b then c ∷ leading is_on_line a else []) []; value = tt }
-    by true e h = rw (sym (same_break c) ∙ e) refl
-    by false e h = rw (sym (same_break c) ∙ e) (h ∙ ap (λ q. record { rest = after is_on_line a; position = position_after q (leading is_on_line a) []; value = tt }) (sym (in_line_position c (leading is_on_line a ++ []) p (rw e refl))))
+comment_passed (c ∷ a) p = grind (arith, nat_tests, eqb-true, same_break, in_line_position, comment_passed a (past p))
 
 -- ---- both
 
 pub line_rest_in_line : (a : List ℕ) → has_no_break (blanks_and_comment a) ≡ true
-line_rest_in_line a = no_break_append (leading is_blank a) (comment_of (after is_blank a)) (no_break_in_blanks a) (of_comment (after is_blank a))
-  where
-    of_comment : (a : List ℕ) → has_no_break (comment_of a) ≡ true
-    of_comment [] = refl
-    of_comment (c ∷ a) = by (c == 35) (no_break_in_line (c ∷ a))
-      where
-        by : (b : Bool) → has_no_break (leading is_on_line (c ∷ a)) ≡ true → has_no_break (if b then leading is_on_line (c ∷ a) else []) ≡ true
-        by true h = h
-        by false h = refl
+line_rest_in_line a = grind (arith, nat_tests, eqb-true, no_break_append, no_break_in_blanks, no_break_in_line)
 
 -- blanks and a comment, and the text after them, are the text
 pub line_rest_cut : (a : List ℕ) → a ≡ blanks_and_comment a ++ past_blanks_and_comment a
@@ -81,27 +60,13 @@ line_rest_cut a = span_cut is_blank a ∙ (ap (λ r. leading is_blank a ++ r) (c
 
 comment_fills : (a : List ℕ) → is_separation true (leading is_on_line a) (after is_on_line a) ≡ true
 comment_fills [] = refl
-comment_fills (c ∷ a) = by (is_break c) refl (comment_fills a)
-  where
-    by : (b : Bool) → is_break c ≡ b → is_separation true (leading is_on_line a) (after is_on_line a) ≡ true → is_separation true (if not b then c ∷ leading is_on_line a else []) (if not b then after is_on_line a else c ∷ a) ≡ true
-    by true e h = rw e refl
-    by false e h = ap (λ b. is_separation (not b) (leading is_on_line a) (after is_on_line a)) e ∙ h
+comment_fills (c ∷ a) = grind (arith, nat_tests, eqb-true, comment_fills a)
 
 -- They are a separation.
 pub line_rest_fills : (a : List ℕ) → is_separation false (blanks_and_comment a) (past_blanks_and_comment a) ≡ true
 unfolding is_blank is_break
 line_rest_fills [] = refl
-line_rest_fills (c ∷ a) = by (c == 32) (c == 9) refl refl (line_rest_fills a)
-  where
-    hash : (x : Bool) → (c == 35) ≡ x → is_separation false (if x then leading is_on_line (c ∷ a) else []) (if x then after is_on_line (c ∷ a) else c ∷ a) ≡ true
-    hash true e = let same : c ≡ 35 = eqb-true c 35 e in rw same (comment_fills a)
-    hash false e = refl
-
-    by : (x y : Bool) → (c == 32) ≡ x → (c == 9) ≡ y → is_separation false (blanks_and_comment a) (past_blanks_and_comment a) ≡ true →
-        is_separation false ((if (x || y) then c ∷ leading is_blank a else []) ++ comment_of (if (x || y) then after is_blank a else c ∷ a)) (past_comment (if (x || y) then after is_blank a else c ∷ a)) ≡ true
-    by true y e f h = let same : c ≡ 32 = eqb-true c 32 e in rw same h
-    by false true e f h = let same : c ≡ 9 = eqb-true c 9 f in rw same h
-    by false false e f h = hash (c == 35) refl
+line_rest_fills (c ∷ a) = grind (arith, nat_tests, eqb-true, comment_fills, line_rest_fills a)
 
 -- whether a text begins with no blank and no comment
 abbrev pub is_clear : List ℕ → Bool
@@ -142,12 +107,7 @@ pub data IsSpaced (a : List ℕ) (p : Position) (x : Result (Read Whitespace) Fa
 -- where blanks stand, a text begins with no comment
 blank_first : (a : List ℕ) → (is_one_of (leading is_blank a) 9 || is_one_of (leading is_blank a) 32) ≡ true → begins_with 35 a ≡ false
 unfolding is_blank
-blank_first [] h = refl
-blank_first (c ∷ a) h = by (c == 35) refl h
-  where
-    by : (x : Bool) → (c == 35) ≡ x → (is_one_of (leading is_blank (c ∷ a)) 9 || is_one_of (leading is_blank (c ∷ a)) 32) ≡ true → x ≡ false
-    by true e h = let same : c ≡ 35 = eqb-true c 35 e in absurd (cc (rw same at h))
-    by false e h = refl
+blank_first b h = grind (arith, nat_tests, eqb-true)
 
 -- where none stands, it begins after them
 no_blank_first : (a : List ℕ) → (is_one_of (leading is_blank a) 9 || is_one_of (leading is_blank a) 32) ≡ false → after is_blank a ≡ a
@@ -161,12 +121,7 @@ no_blank_first (c ∷ a) h = by (c == 32) (c == 9) refl refl h
 
 clear_first : (a : List ℕ) → begins_with 35 (after is_blank a) ≡ false → begins_with 35 a ≡ false
 unfolding is_blank
-clear_first [] h = refl
-clear_first (c ∷ a) h = by (c == 35) refl h
-  where
-    by : (x : Bool) → (c == 35) ≡ x → begins_with 35 (after is_blank (c ∷ a)) ≡ false → x ≡ false
-    by true e h = let same : c ≡ 35 = eqb-true c 35 e in absurd (cc (rw same at h))
-    by false e h = refl
+clear_first b h = grind (arith, nat_tests, eqb-true)
 
 pub spaced_exactly : (a : List ℕ) (p : Position) → IsSpaced a p (space Yes a p)
 unfolding space
@@ -216,11 +171,7 @@ spaced_exactly a p = subst (λ x. IsSpaced a p (spaces_end x)) (sym (blanks_walk
 
 -- where no comment stands directly, they are read
 pub spaced_parted : (a : List ℕ) (p : Position) → begins_with 35 a ≡ false → space Yes a p ≡ Ok (record { rest = past_blanks_and_comment a; position = past_line_rest p a; value = found_in (leading is_blank a) })
-spaced_parted a p none = by (space Yes a p) (spaced_exactly a p)
-  where
-    by : (x : Result (Read Whitespace) Fault) → IsSpaced a p x → x ≡ Ok (record { rest = past_blanks_and_comment a; position = past_line_rest p a; value = found_in (leading is_blank a) })
-    by x (parted h e) = e
-    by x (glued f h e) = absurd (cc (h, none))
+spaced_parted a p none = grind (arith, nat_tests, eqb-true, spaced_exactly)
 
 -- the state after blanks and a comment
 abbrev pub past_rest : ScannerState → ScannerState
@@ -242,11 +193,4 @@ rest_skipped t = rest_read t (λ w u. Ok u) _ (λ h. went (refl, h))
 -- after them no further spaces are skipped
 pub none_skipped : (t : ScannerState) → is_clear t.rest ≡ true → skip_spaces No t ≡ Ok t
 unfolding skip_spaces space is_blank
-none_skipped t h = by t.rest t.held.position h
-  where
-    by : (a : List ℕ) (p : Position) → is_clear a ≡ true → lexed (space No a p) t.held (λ w u. Ok u) ≡ Ok (record { rest = a; held = record t.held { position = p } })
-    by [] p h = refl
-    by (c ∷ a) p h = on (c == 32) (c == 35) (c == 9) refl refl refl h
-      where
-        on : (x y z : Bool) → (c == 32) ≡ x → (c == 35) ≡ y → (c == 9) ≡ z → (not (x || z) && not y) ≡ true → lexed (space No (c ∷ a) p) t.held (λ w u. Ok u) ≡ Ok (record { rest = c ∷ a; held = record t.held { position = p } })
-        on b y z e f g h = grind (arith, nat_tests, eqb-true)
+none_skipped t h = grind (arith, nat_tests, eqb-true)

@@ -64,31 +64,17 @@ ends_at_margin collection piece next b p h e =
 
 pub spaces_col : (p : Position) (a : List ℕ) → (past_spaces p a).col ≡ p.col + leading_spaces a
 spaces_col p [] = omega arith
-spaces_col p (c ∷ a) = by (c == space) refl (spaces_col (position_past p c a) a)
-  where
-    by : (b : Bool) → (c == space) ≡ b → (past_spaces (position_past p c a) a).col ≡ (position_past p c a).col + leading_spaces a →
-        (let q : Position = (if b then past_spaces (position_past p c a) a else p) in q.col) ≡ p.col + (if b then suc (leading_spaces a) else 0)
-    by true e h =
-        let same : c ≡ 32 = eqb-true c space e in
-        let one : (position_past p c a).col ≡ p.col + 1 = ap (λ x. (position_past p x a).col) same ∙ ap (λ (q : Position). q.col) (space_past p a) in
-        omega (arith, h, one)
-    by false e h = omega arith
+spaces_col p (c ∷ a) = grind (arith, nat_tests, eqb-true, space_past, spaces_col (position_past p c a) a)
 
 -- ---- a scalar without content
 
 none_from : (column : ℕ) (ls : List Line) (p : Position) → AreLines ls [] → are_empty column (texts ls) ≡ true → p.col ≡ 0 → first_content column false p (spell ls []) ≡ None
 unfolding is_empty_line
 none_from column [] p a h z = refl
-none_from column (l ∷ ls) p a h z =
-    let q = and_parts (is_spaces l.text && nat_le (length l.text) column) (are_empty column (texts ls)) h in
-    let r = and_parts (is_spaces l.text) (nat_le (length l.text) column) q.0 in
-    let short : length l.text ≤ column = grind (arith, nat_tests, r.1) in
-    first_empty column l (spell ls []) p r.0 (omega (arith, short, z)) a.1 ∙ none_from column ls (after_line l p) a.2 q.1 refl
+none_from column (l ∷ ls) p a h z = grind (arith, nat_tests, eqb-true, and_parts, first_empty, none_from column ls (after_line l p) a.2)
 
 no_content : (column : ℕ) (piece next : List ℕ) (p : Position) (w : Written piece next) → are_empty column (texts w.lines) ≡ true → first_content column true p piece ≡ None
-no_content column piece next p w h =
-    ap (λ x. first_content column true p x) w.is ∙
-    (first_header column w.header.text w.header.by (spell w.lines []) p w.are.0 w.are.1 ∙ none_from column w.lines (after_break w.header.by (along w.header.text p)) w.are.2 h refl)
+no_content column piece next p w h = grind (arith, nat_tests, eqb-true, first_header, none_from)
 
 -- ---- what follows
 

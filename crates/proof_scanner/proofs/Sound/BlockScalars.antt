@@ -1,5 +1,5 @@
 -- Block scalars: what holds where one begins holds between two fetches after it. No key waits over it, and after it a key may begin.
-use Rattle.proof_scanner.proofs.Common.{Act, Arrives, Block, BlockStyle, Bool, HasNoTabs, Holds, IsLive, IsOpenOutside, IsPiece, IsReadOn, IsTakenBy, IsWritten, Key, KnowsKey, Levels, Line, List, MayChoose, None, NotBefore, Ok, Option, Outside, Position, Previous, Read, ScannerState, Site, SoFar, Some, Stands, Tok, Token, [], act_of, allow_key, ap, append-nil, append_assoc, arith, awaits_past, before_by, begins_line, begun_by, begun_outside, block, block_may_end, block_position, block_read, block_scalar, block_style, chosen, collection_of, columns, content_position, ends_at, false, fetch_block_scalar, folded, free, further_lines_stand, further_position, gives_block_scalar, has_break, has_no_nul, has_tab_within, if◌then◌else◌, indicator_of, inl, innermost, inr, is_at_end, is_break, is_deeper, is_empty, is_in_column, is_indented_by_spaces, is_literal, is_literal_style, is_nul, is_one_of, is_separation, least_column, least_for, lexed, line_past, literal, may_precede, may_stand, nat_lt, nat_tests, no_nul_after, not, on_held, position_after, previous_by, push, put, read, read_block, refl, seen, shown_position, site_at, site_here, site_in, site_past, subst, suc, sym, take, taken, token, tokens_up_to, true, unroll_non_block_indents, went, without_open, without_spaces, zero, ℕ, ◌&&◌, ◌++◌, ◌||◌, ◌∙◌, ◌∷◌, ◌≡◌, ◌≤◌, ◌⊎◌}
+use Rattle.proof_scanner.proofs.Common.{Act, Arrives, Block, BlockStyle, Bool, HasNoTabs, Holds, IsLive, IsOpenOutside, IsPiece, IsReadOn, IsTakenBy, IsWritten, Key, KnowsKey, Levels, Line, List, MayChoose, None, NotBefore, Ok, Option, Outside, Position, Previous, Read, ScannerState, Site, SoFar, Some, Stands, Tok, Token, [], act_of, allow_key, ap, append-nil, append_assoc, arith, awaits_past, before_by, begins_line, begun_by, begun_outside, block, block_may_end, block_position, block_read, block_scalar, block_style, chosen, collection_of, columns, content_position, ends_at, false, fetch_block_scalar, folded, free, further_lines_stand, further_position, gives_block_scalar, has_break, has_no_nul, has_tab_within, if◌then◌else◌, indicator_of, inl, innermost, inr, is_at_end, is_break, is_deeper, is_empty, is_in_column, is_indented_by_spaces, is_literal, is_literal_style, is_nul, is_one_of, is_separation, least_column, least_for, lexed, line_past, literal, may_precede, may_stand, nat_lt, nat_tests, no_nul_after, not, on_held, position_after, previous_by, push, put, read, read_block, refl, seen, shown_position, site_at, site_here, site_in, site_past, subst, suc, sym, take, taken, token, tokens_up_to, true, unroll_non_block_indents, went, without_open, without_spaces, zero, ℕ, ◌&&◌, ◌++◌, ◌||◌, ◌∙◌, ◌∷◌, ◌≡◌, ◌≤◌, ◌⊎◌, eqb-true}
 use Rattle.model_scanner.specs.declared.kind.BlockStyle as kind
 use Rattle.model_scanner.specs.declared.kind.BlockStyle.TheVariants.{Literal, Folded}
 use Rattle.defs_token.specs.Account as pieces
@@ -116,10 +116,7 @@ module _ (text : List ℕ) (t : ScannerState) (k : Option Key) (a : ArrivesBy te
   seen_read = ap (λ c. block_read c r.piece r.next) column_is ∙ (r.is_read ∙ ap (λ z. Some (record { style = z; column = r.scalar.column; text = r.scalar.text })) r.style_is)
 
   is_piece : IsPiece seen_here r.piece r.next None (shown_position here r.piece tok r.next) tok
-  is_piece =
-      subst (λ q. IsPiece seen_here r.piece r.next None q tok) (sym shown_is)
-      (subst (λ y. IsPiece seen_here r.piece r.next None (block_position r.scalar.column p r.piece r.next) y) (sym n.is_same)
-      (piece_of seen_here style r.piece r.next r.scalar.text (block_position r.scalar.column p r.piece r.next) None (refl, (r.scalar.column, seen_read, refl))))
+  is_piece = grind (arith, nat_tests, eqb-true, shown_is, piece_of, seen_read)
 
   stands : may_stand false a.site here a.separation r.piece tok r.next ≡ true
   stands = rw (a.is_indented some, n.lines (least_for tok here) r.piece, n.precedes here.blocks r.piece r.next, r.may_end here.blocks least) refl
@@ -133,18 +130,13 @@ module _ (text : List ℕ) (t : ScannerState) (k : Option Key) (a : ArrivesBy te
       by (c ∷ piece) e h = below seen_here w.indent refl column_is c piece r.next r.scalar clean e
 
   dead : (y : Key) → NotBefore y.position p → IsLive y end rest → ⊥
-  dead y h l = by is_below
-    where
-      by : IsBelow p end rest → ⊥
-      by (inl e) = cc (ap is_empty e, l.1)
-      by (inr e) = let up : nat_lt p.line end.line ≡ true = e in let first : y.position.line ≤ p.line = h.0 in let last : end.line ≤ y.position.line = l.0 in grind (arith, nat_tests, up, first, last)
+  dead y h l = grind (arith, nat_tests, eqb-true, is_below)
 
   place : end ≡ position_after (position_after p r.piece r.next) gap rest
   place = spaces_position (position_after p r.piece r.next) r.next
 
   later : NotBefore p end
-  later = subst (λ q. NotBefore p q) (sym place)
-      (not_before_then p (position_after p r.piece r.next) (position_after (position_after p r.piece r.next) gap rest) (not_before_after p r.piece r.next) (not_before_after (position_after p r.piece r.next) gap rest))
+  later = grind (arith, nat_tests, eqb-true, place, not_before_then, not_before_after)
 
   -- ---- rows
 
@@ -159,11 +151,7 @@ module _ (text : List ℕ) (t : ScannerState) (k : Option Key) (a : ArrivesBy te
       (none_completes strict text (a.separation ++ t.rest) (with_entries a.site a.line []) (k ∷ []) a.tokens a.no_key refl (a.completes strict false [] may))
 
   tokens_are : a.tokens ++ tokens_then a.site here r.piece tok r.next a.line_here ≡ t.held.tokens ++ own ∷ []
-  tokens_are =
-      ap (λ b. a.tokens ++ ((ends_at p a.site.blocks here.blocks ++ begun_outside (is_deeper p.col here.blocks) p p b false (Some a.line_here)) ++ (put (shown_position here r.piece tok r.next) tok ∷ []))) n.act ∙
-      (ap (λ ts. a.tokens ++ (ts ++ (put (shown_position here r.piece tok r.next) tok ∷ []))) (append-nil (ends_at p a.site.blocks here.blocks)) ∙
-      (ap (λ q. a.tokens ++ (ends_at p a.site.blocks here.blocks ++ (put q tok ∷ []))) shown_is ∙
-      (sym (append_assoc a.tokens (ends_at p a.site.blocks here.blocks) (own ∷ [])) ∙ ap (λ ts. ts ++ own ∷ []) (sym a.tokens_are))))
+  tokens_are = grind (arith, nat_tests, eqb-true, append-nil, shown_is, append_assoc)
 
   abbrev site_then : Site
   site_then = site_past false here r.piece tok r.next here.blocks
@@ -199,10 +187,7 @@ module _ (text : List ℕ) (t : ScannerState) (k : Option Key) (a : ArrivesBy te
 
   -- the saved or open key is not after the position
   before_it : (y : Key) → key_now ≡ Some y → NotBefore y.position p
-  before_it y e = by t.held.key_allowed k refl e
-    where
-      by : (b : Bool) (o : Option Key) → k ≡ o → saved b (new_key t) o ≡ Some y → NotBefore y.position p
-      by b o i e = grind (arith, not_before_same, not_before_then, weaker, not_before_after)
+  before_it y e = grind (arith, nat_tests, eqb-true, not_before_same, not_before_then, weaker, not_before_after)
 
   then_rows : (strict c : Bool) (cs : List Bool) (y : Option Key) → key_now ≡ y → MayChoose strict c y end rest → Then strict y c cs
   then_rows strict c cs None e may =
@@ -222,21 +207,10 @@ module _ (text : List ℕ) (t : ScannerState) (k : Option Key) (a : ArrivesBy te
   taken_by (Some y) e = λ l. absurd (dead y (before_it y e) l)
 
   read_on : (b : Previous) → b ≡ block_scalar → IsReadOn b (position_after p r.piece r.next) gap rest
-  read_on b e = subst (λ z. IsReadOn z (position_after p r.piece r.next) gap rest) (sym e) (λ h. ends_at_margin (collection_of w.indent) r.piece r.next r.scalar p r.is_read (not_end r.next clean h))
-    where
-      not_end : (l : List ℕ) → has_no_nul l ≡ true → is_empty (without_spaces l) ≡ false → is_at_end l ≡ false
-      not_end [] m h = absurd (cc h)
-      not_end (c ∷ l) m h = by (is_nul c) m
-        where
-          by : (z : Bool) → (not z && has_no_nul l) ≡ true → z ≡ false
-          by true m = absurd (cc m)
-          by false m = refl
+  read_on b e = grind (arith, ends_at_margin, clean)
 
   is_written : IsWritten (with_entries a.site a.line []) (keyless a.separation r.piece tok) r.next
-  is_written = (
-    is_filled,
-    (ap not is_solid, subst (λ y. IsPiece (seen (with_entries a.site a.line []) y a.separation) r.piece r.next None (shown_position y r.piece tok r.next) tok) (sym same_site) is_piece),
-  )
+  is_written = grind (arith, nat_tests, eqb-true, is_filled, is_solid, same_site, is_piece)
 
   scalar_reads : Reads t after_it site_then r.piece r.next gap
   scalar_reads =
@@ -296,9 +270,7 @@ block_stands text style t deep o w closed x r =
     (subst (λ ts. Stands text (record { rest = y.rest; held = record t.held { position = y.position; tokens = ts ++ token y.value.position tok ∷ []; keys = saved_keys t.held; indents = w.indents; indent = w.indent; key_allowed = true; leading = true } })) (sym closed.same_tokens) stands)
 
 read_as : (text : List ℕ) (style : BlockStyle) (t : ScannerState) (more : List ℕ) → t.rest ≡ indicator_of style ∷ more → ArrivesOutside text t → (indent : ℕ) (x : Read Block) → block (is_literal_style style) indent t.rest t.held.position ≡ Ok x → BlockAs style indent t.held.position t.rest x
-read_as text style t more e o indent x i =
-    let clean : has_no_nul more ≡ true = no_nul_after (indicator_of style ∷ []) more (subst (λ l. has_no_nul l ≡ true) e o.here.is_clean) in
-    subst (λ l. BlockAs style indent t.held.position l x) (sym e) (block_as style indent more t.held.position x clean (ap (λ l. block (is_literal_style style) indent l t.held.position) (sym e) ∙ i))
+read_as text style t more e o indent x i = grind (arith, nat_tests, eqb-true, clean, no_nul_after, block_as)
 
 -- A block scalar is read as in the row.
 pub block_keeps : (text : List ℕ) (style : kind.BlockStyle) (t : ScannerState) (more : List ℕ) → t.rest ≡ (if is_literal style then 124 else 62) ∷ more → is_empty t.held.flow ≡ true → IsDeep t.held → Arrives text t → Holds (Stands text) (fetch_block_scalar style t)

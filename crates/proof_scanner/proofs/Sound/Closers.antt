@@ -42,8 +42,7 @@ pub closing_brace : IsCloser true Tok.flow_mapping_end 125
 closing_brace = record { act = refl; begun = refl; is_end = ends_mapping; shown = λ s p n. refl; previous = refl; least = λ s. refl; lines = λ c p. refl; precedes = λ f bs p n. refl; awaits = awaits_kept _ (λ b. refl) (λ bs b n. refl) }
 
 pub is_previous : {before : Previous} (closes : Bool) → before ≡ previous_of closes → (before ≡ another) ⊎ (before ≡ flow_collection)
-is_previous true e = inr e
-is_previous false e = inl e
+is_previous a e = grind (arith, nat_tests, eqb-true)
 
 -- the site is the same for all of them
 pub site_alike : (closes fl : Bool) (p : Position) (s : Site) → site_in fl (act_by closes) p s ≡ site_here fl p s

@@ -1,5 +1,5 @@
 -- Commas and closing brackets in flow: the entry ends, and with it a single pair.
-use Rattle.proof_scanner.proofs.Common.{AreAround, AreEntries, AreNumbered, Bool, Entry, FlowLevel, IsAdjacent, IsEntryOf, IsLine, IsPairOf, IsPiece, Key, Line, List, None, Option, Pair, Position, ScannerState, Site, Some, Stands, Step, Tok, Token, Yes, [], act_of, ap, append_assoc, arith, before_by, before_past, begins_free_line, begins_with, begun_by, blanks_and_comment, colon_of, ends_spaces, entries_by, entries_past, false, first_entry, gives_closing, gives_comma, has_no_break, has_no_nul, in_line, is_blank, is_empty, is_keyed, is_renewed, is_separation, least_for, length, no_nul_after, not, other, outside_key, pair_end, past, past_blanks_and_comment, past_line_rest, pop, previous_by, put, refl, seen, shown_position, site_here, subst, suc, sym, taken, true, with_keys, ℕ, ◌&&◌, ◌++◌, ◌∙◌, ◌∷◌, ◌≡◌, ◌≤◌}
+use Rattle.proof_scanner.proofs.Common.{AreAround, AreEntries, AreNumbered, Bool, Entry, FlowLevel, IsAdjacent, IsEntryOf, IsLine, IsPairOf, IsPiece, Key, Line, List, None, Option, Pair, Position, ScannerState, Site, Some, Stands, Step, Tok, Token, Yes, [], act_of, ap, append_assoc, arith, before_by, before_past, begins_free_line, begins_with, begun_by, blanks_and_comment, colon_of, ends_spaces, entries_by, entries_past, false, first_entry, gives_closing, gives_comma, has_no_break, has_no_nul, in_line, is_blank, is_empty, is_keyed, is_renewed, is_separation, least_for, length, no_nul_after, not, other, outside_key, pair_end, past, past_blanks_and_comment, past_line_rest, pop, previous_by, put, refl, seen, shown_position, site_here, subst, suc, sym, taken, true, with_keys, ℕ, ◌&&◌, ◌++◌, ◌∙◌, ◌∷◌, ◌≡◌, ◌≤◌, eqb-true, nat_tests}
 use Rattle.proof_scanner.proofs.Cut.FlowEnds.{closed_tokens, entered, adjacent_collection}
 use Rattle.proof_scanner.proofs.Cut.Nodes.{IsDeep}
 use Rattle.proof_scanner.proofs.Known.Read.{keyless}
@@ -68,8 +68,7 @@ keys_around false p w ws last h f bs l cs e es ks ts =
 -- the tokens of a closing bracket or a comma
 end_tokens : (closes : Bool) (tok : Tok) (x : Site) (piece next : List ℕ) (e : Entry) → act_of tok ≡ act_by closes → ((s : Site) (piece next : List ℕ) → shown_position s piece tok next ≡ s.position) →
     tokens_inside x piece tok next e ≡ pair_end x.position e.pair ++ (put x.position tok ∷ [])
-end_tokens true tok x piece next e act shown = rw (act, shown x piece next) refl
-end_tokens false tok x piece next e act shown = rw (act, shown x piece next) refl
+end_tokens a tok x piece next e act shown = grind (arith, nat_tests, eqb-true)
 
 -- the scanner after it
 abbrev pub closed_past : (closes : Bool) → ScannerState → Tok → (more : List ℕ) → FlowLevel → List FlowLevel → List (Option Key) → ScannerState
@@ -117,9 +116,7 @@ adjacent_least a fs old new h = grind arith
 -- where a colon may stand after it in flow
 adjacent_after : (closes : Bool) (f : FlowLevel) (fs : List FlowLevel) (old : ℕ) (p : Position) (gap rest : List ℕ) → IsAdjacent (before_past other gap) p old rest → is_separation false gap rest ≡ true → has_no_break gap ≡ true → ends_spaces Yes rest ≡ true → has_no_nul rest ≡ true →
     is_empty (levels_then closes f fs) ≡ false → IsAdjacent (before_past (before_by (previous_of closes)) gap) p (adjacent_then closes fs old p.index) rest
-adjacent_after true f [] old p gap rest far fills in_line ends clean some = absurd (cc some)
-adjacent_after true f (g ∷ fs) old p gap rest far fills in_line ends clean some = adjacent_collection p gap rest fills (no_break_alike gap in_line) ends clean
-adjacent_after false f fs old p gap rest far fills in_line ends clean some = far
+adjacent_after a f fs old p gap rest far fills b ends clean some = grind (arith, nat_tests, eqb-true, adjacent_collection, no_break_alike)
 
 -- ---- the step
 

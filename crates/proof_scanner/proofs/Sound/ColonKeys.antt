@@ -1,5 +1,5 @@
 -- A colon that ends the key that is open: what holds where it begins holds between two fetches after it.
-use Rattle.proof_scanner.proofs.Common.{At, Bool, Completes, Entry, FlowLevel, Held, Holds, IsLive, IsNotRight, IsOpenHere, Key, Keyed, Line, List, Mapping, None, NotBefore, Ok, Option, Outside, Position, ScannerState, Site, Some, Stands, Step, Tok, Token, [], ap, append-nil, arith, before_by, before_past, begin_pair, begins_free_line, begun_outside, chained, checked, colon_may_precede, columns, ends_at, entries_by, entries_past, entry_by, false, gives_colon, has_break, if◌then◌else◌, in_flow, innermost, inr, insert, insert_key, inside, is_adjacent, is_break, is_deeper, is_empty, is_near, is_renewed, is_separation, is_value_indicator, length, length-append, line_past_separation, nat_lt, nat_tests, not, not_ended, on_held, opened, opens_pair, pair_position, past, placed, pop, position_after, push, put, put_key, refl, roll_indent, roll_one_col_indent, site_at, site_here, spelled, subst, suc, sym, taken, takes_pair, token, tokens_at, tokens_of_step, tokens_up_to, tried, true, waits, went, with_keys, with_top, ℕ, ◌++◌, ◌==◌, ◌||◌, ◌∙◌, ◌∷◌, ◌≡◌, ◌≤◌}
+use Rattle.proof_scanner.proofs.Common.{At, Bool, Completes, Entry, FlowLevel, Held, Holds, IsLive, IsNotRight, IsOpenHere, Key, Keyed, Line, List, Mapping, None, NotBefore, Ok, Option, Outside, Position, ScannerState, Site, Some, Stands, Step, Tok, Token, [], ap, append-nil, arith, before_by, before_past, begin_pair, begins_free_line, begun_outside, chained, checked, colon_may_precede, columns, ends_at, entries_by, entries_past, entry_by, false, gives_colon, has_break, if◌then◌else◌, in_flow, innermost, inr, insert, insert_key, inside, is_adjacent, is_break, is_deeper, is_empty, is_near, is_renewed, is_separation, is_value_indicator, length, length-append, line_past_separation, nat_lt, nat_tests, not, not_ended, on_held, opened, opens_pair, pair_position, past, placed, pop, position_after, push, put, put_key, refl, roll_indent, roll_one_col_indent, site_at, site_here, spelled, subst, suc, sym, taken, takes_pair, token, tokens_at, tokens_of_step, tokens_up_to, tried, true, waits, went, with_keys, with_top, ℕ, ◌++◌, ◌==◌, ◌||◌, ◌∙◌, ◌∷◌, ◌≡◌, ◌≤◌, eqb-true}
 use Rattle.yaml_tokens.specs.declared.problem.Problem.TheVariants as problem
 use Rattle.model_scanner.specs.declared.level.FlowLevel.TheVariants.{Entry as InEntry, Pair as InPair}
 use Rattle.proof_scanner.proofs.Cut.Nodes.{IsDeep}
@@ -98,38 +98,18 @@ module _ (text more : List ℕ) (t : ScannerState) (k : Key) (a : ArrivesBy text
   row_tokens q = put_key (is_deeper k.position.col a.site.blocks) (put q Tok.block_mapping_start) k.number k.position a.tokens ++ ((ends_at q a.site.blocks (not_ended q.col a.site.blocks) ++ []) ++ (put q Tok.value ∷ []))
 
   tokens_alike : after.held.tokens ≡ row_tokens t.held.position
-  tokens_alike =
-      let value : Token = put t.held.position Tok.value in
-      let start : Token = put t.held.position Tok.block_mapping_start in
-      ap (λ x. x ++ (value ∷ [])) (key_put (is_deeper k.position.col (columns t.held.indent t.held.indents)) start k t.held.tokens ∙
-      (ap (λ bs. put_key (is_deeper k.position.col bs) start k.number k.position t.held.tokens) (sym same_columns) ∙ ap (λ ts. put_key (is_deeper k.position.col a.site.blocks) start k.number k.position ts) same_tokens)) ∙
-      ap (λ x. put_key (is_deeper k.position.col a.site.blocks) start k.number k.position a.tokens ++ ((x ++ []) ++ (value ∷ []))) (sym (ap (λ bs. ends_at t.held.position a.site.blocks bs) same_blocks ∙ none_ends t.held.position a.site.blocks))
+  tokens_alike = grind (arith, nat_tests, eqb-true, key_put, same_columns, same_tokens, same_blocks, none_ends)
 
   abbrev outside_after : Outside
   outside_after = record { line = taken; blocks = opened k.position.col x.blocks }
 
   goes : out.Goes text a.site a.separation (58 ∷ []) more Tok.value x same_site true false (waits k.position) (waits k.position) outside_after
-  goes = record {
-    is_filled = subst (λ y. is_separation false a.separation y ≡ true) e a.is_filled;
-    is_solid = refl;
-    is_piece = (refl, ind);
-    stands = rw (a.is_indented some, apart) refl;
-    line_is = rw quiet.0 refl;
-    after_is = rw quiet.1 refl;
-    in_line = no_waiting (has_break (58 ∷ [])) false refl;
-    idle = λ _. refl;
-  }
+  goes = grind (arith, nat_tests, eqb-true, some, quiet, no_waiting)
 
   -- the key goes in before the tokens of its number
   keyed_tokens : (ws : List Step) (last : List ℕ) → spelled ws last ≡ more →
       (let w : Step = keyless a.separation (58 ∷ []) Tok.value in tokens_up_to (Outer a.site (waits k.position)) (Some k ∷ []) a.tokens (w ∷ ws) last ++ tokens_of_step (Outer a.site (waits k.position)) w ws last ≡ after.held.tokens)
-  keyed_tokens ws last h =
-      let q : List ℕ → Position = λ r. position_after a.site.position a.separation (58 ∷ r) in
-      let r : List ℕ = spelled ws last in
-      let bs : List ℕ = not_ended (q r).col a.site.blocks in
-      ap (λ b. put_key (is_deeper k.position.col a.site.blocks) (put (q r) Tok.block_mapping_start) k.number k.position a.tokens ++
-      ((ends_at (q r) a.site.blocks bs ++ begun_outside (is_deeper (q r).col bs) (q r) (q r) gives_colon false (line_past_separation false b (waits k.position))) ++ (put (q r) Tok.value ∷ []))) quiet.0 ∙
-      (ap (λ y. row_tokens (q y)) h ∙ (ap row_tokens (sym place) ∙ sym tokens_alike))
+  keyed_tokens ws last h = grind (arith, nat_tests, eqb-true, quiet, place, tokens_alike)
 
   pub keyed_stands : Stands text after
   keyed_stands =
@@ -223,13 +203,7 @@ module _ (text more : List ℕ) (t : ScannerState) (f : FlowLevel) (fs : List Fl
       ap (λ ts. with_keys 1 (past_step a.site.position w ws last) ws last a.site.blocks l ys ks ts) (ap (λ r. first r ++ (put (position_after a.site.position a.separation (58 ∷ r)) Tok.value ∷ [])) h ∙ inner_alike))
 
   inner_many : length a.tokens ≤ length inner_after.held.tokens
-  inner_many =
-      let begins : Bool = opens_pair (f ∷ fs) in
-      let start : Token = put (pair_position (past t.held.position) more) Tok.flow_mapping_start in
-      let l = key_longer begins start k.number k.position t.held.tokens in
-      let same = ap length (tokens_before text t f fs (Some k) ks x es a) in
-      let all = length-append (in_pair begins) (put t.held.position Tok.value ∷ []) in
-      omega (arith, l, same, all)
+  inner_many = grind (arith, nat_tests, eqb-true, key_longer, tokens_before, length-append)
 
   pub inner_stands : (not (opens_pair (f ∷ fs)) || (k.position.line == t.held.position.line)) ≡ true → Stands text inner_after
   inner_stands its_line =

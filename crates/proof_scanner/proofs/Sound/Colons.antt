@@ -1,5 +1,5 @@
 -- A colon that ends no key: what holds where it begins holds between two fetches after it.
-use Rattle.proof_scanner.proofs.Common.{AreLevels, At, Bool, Entry, Fault, FlowLevel, Had, Held, Holds, Indent, IsEntryOf, Key, List, None, Ok, Option, Pair, Position, Result, ScannerState, Site, Some, Stands, Tok, Token, [], allow_key, another, ap, append_assoc, arith, before_by, before_past, begin_keyless_mapping, begin_keyless_value, begun_inside, begun_outside, chained, checked, colon_may_precede, columns, ends_at, entries_past, false, free, fresh, gives_colon, has_break, has_open_level, if◌then◌else◌, in_flow, inl, inr, is_adjacent, is_break, is_deeper, is_empty, is_in_column, is_renewed, is_value, is_value_indicator, line_past, not, not-false, not_ended, on_held, opened, opens_pair, pair_past, pair_position, paired, past, placed, position_after, push, put, refl, roll_indent, roll_one_col_indent, settled, start_if, subst, sym, takes_pair, token, top_key, tried, true, went, with_held, ℕ, ◌++◌, ◌>>=◌, ◌∙◌, ◌∷◌, ◌≡◌, ◌≤◌, ◌⊎◌}
+use Rattle.proof_scanner.proofs.Common.{AreLevels, At, Bool, Entry, Fault, FlowLevel, Had, Held, Holds, Indent, IsEntryOf, Key, List, None, Ok, Option, Pair, Position, Result, ScannerState, Site, Some, Stands, Tok, Token, [], allow_key, another, ap, append_assoc, arith, before_by, before_past, begin_keyless_mapping, begin_keyless_value, begun_inside, begun_outside, chained, checked, colon_may_precede, columns, ends_at, entries_past, false, free, fresh, gives_colon, has_break, has_open_level, if◌then◌else◌, in_flow, inl, inr, is_adjacent, is_break, is_deeper, is_empty, is_in_column, is_renewed, is_value, is_value_indicator, line_past, not, not-false, not_ended, on_held, opened, opens_pair, pair_past, pair_position, paired, past, placed, position_after, push, put, refl, roll_indent, roll_one_col_indent, settled, start_if, subst, sym, takes_pair, token, top_key, tried, true, went, with_held, ℕ, ◌++◌, ◌>>=◌, ◌∙◌, ◌∷◌, ◌≡◌, ◌≤◌, ◌⊎◌, eqb-true, nat_tests}
 use Rattle.yaml_tokens.specs.declared.problem.Problem.TheVariants as problem
 use Rattle.model_scanner.specs.declared.level.FlowLevel.TheVariants.{Pair as InPair}
 use Rattle.model_scanner.specs.Block.{value_of}
@@ -21,10 +21,7 @@ use Rattle.proof_scanner.proofs.Sound.Reads.{Reads, reads_before_none}
 -- the model and the definition say alike
 pub value_here : (text more : List ℕ) (t : ScannerState) (fs : List FlowLevel) (ks : List (Option Key)) (es : List Entry) (a : ArrivesBy text t fs ks es) → t.held.flow ≡ fs → t.rest ≡ 58 ∷ more → is_value t ≡ true →
     is_value_indicator (not (is_empty fs)) (is_adjacent (before_past (before_by a.site.before) a.separation)) more ≡ true
-value_here text more t fs ks es a flow e h =
-    let adjacent : Bool = is_adjacent (before_past (before_by a.site.before) a.separation) in
-    subst (λ x. is_value_indicator (not (is_empty x)) adjacent more ≡ true) flow
-    (sym (value_is t adjacent more e (λ o. sym (a.is_adjacent_here (subst (λ x. is_empty x ≡ false) flow o) (ap is_empty e)))) ∙ h)
+value_here text more t fs ks es a flow e h = grind (arith, nat_tests, eqb-true, value_is)
 
 -- ---- what the model does after the colon and what is read there
 

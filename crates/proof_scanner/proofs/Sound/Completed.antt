@@ -12,11 +12,8 @@ spelled_past (v ∷ ws) w next = ap (λ x. v.separation ++ (v.piece ++ x)) (spel
 
 leads_past : (o : Option Account) (ws : List Step) (w : Step) (next : List ℕ) (a b : Account) → Leads o ws (w.separation ++ (w.piece ++ next)) a → IsWritten a w next → account_past a w next ≡ Some b → Leads o (ws ++ w ∷ []) next b
 leads_past None ws w next a b h written stands = absurd h
-leads_past (Some x) [] w next a b h written stands =
-    subst (λ y. IsWritten y w next × Leads (account_past y w next) [] next b) (sym h) (written, subst (λ o. Leads o [] next b) (sym stands) refl)
-leads_past (Some x) (v ∷ ws) w next a b h written stands =
-    subst (λ r. IsWritten x v r × Leads (account_past x v r) (ws ++ w ∷ []) next b) (sym (spelled_past ws w next))
-    (h.0, leads_past (account_past x v (spelled ws (w.separation ++ (w.piece ++ next)))) ws w next a b h.1 written stands)
+leads_past (Some x) [] w next a b h written stands = grind (arith, nat_tests, eqb-true)
+leads_past (Some x) (v ∷ ws) w next a b h written stands = grind (arith, nat_tests, eqb-true, spelled_past, leads_past (account_past x v (spelled ws (w.separation ++ (w.piece ++ next)))) ws w next a b h.1 written stands)
 
 -- over a step that may stand
 pub begins_past : (text after : List ℕ) (a b : Account) (w : Step) (next : List ℕ) → after ≡ w.separation ++ (w.piece ++ next) → IsWritten a w next → account_past a w next ≡ Some b → Begins text after a → Begins text next b

@@ -1,5 +1,5 @@
 -- Document markers and directives: what holds where they begin holds between two fetches after them.
-use Rattle.proof_scanner.proofs.Common.{AreLevels, Arrives, At, Bool, Entry, Err, FlowKind, FlowLevel, Had, HasNoTabs, Held, Holds, IsLeading, IsPiece, IsReadOn, Key, Levels, Line, List, None, Ok, Option, Pair, Position, ScannerState, Site, Some, Stands, Step, Tok, Token, [], act_of, ap, append-nil, append_assoc, arith, awaits_past, before_by, begin_line, begins_free_line, begins_line, begun_by, begun_inside, begun_outside, block_end, closed_key, colon_of, columns, ends_at, entries_past, false, free, further_lines_stand, gives_marker, has_break, has_open_level, if◌then◌else◌, in_flow, inl, inr, is_closed, is_deeper, is_empty, is_in_column, is_indented_by_spaces, is_keyed, is_renewed, is_required, is_separation, least_for, length, may_precede, not, not_ended, other, pair_position, position_after, previous_by, put, refl, refused, remove_implicit_key, replicate, replicate-append-replicate, seen, settled, shown_position, site_in, subst, suc, sym, taken, takes_pair, top_key, true, unroll_indent, went, with_top, ℕ, ◌++◌, ◌+◌, ◌-◌, ◌∙◌, ◌∷◌, ◌≡◌, ◌≤◌, ◌⊎◌}
+use Rattle.proof_scanner.proofs.Common.{AreLevels, Arrives, At, Bool, Entry, Err, FlowKind, FlowLevel, Had, HasNoTabs, Held, Holds, IsLeading, IsPiece, IsReadOn, Key, Levels, Line, List, None, Ok, Option, Pair, Position, ScannerState, Site, Some, Stands, Step, Tok, Token, [], act_of, ap, append-nil, append_assoc, arith, awaits_past, before_by, begin_line, begins_free_line, begins_line, begun_by, begun_inside, begun_outside, block_end, closed_key, colon_of, columns, ends_at, entries_past, false, free, further_lines_stand, gives_marker, has_break, has_open_level, if◌then◌else◌, in_flow, inl, inr, is_closed, is_deeper, is_empty, is_in_column, is_indented_by_spaces, is_keyed, is_renewed, is_required, is_separation, least_for, length, may_precede, not, not_ended, other, pair_position, position_after, previous_by, put, refl, refused, remove_implicit_key, replicate, replicate-append-replicate, seen, settled, shown_position, site_in, subst, suc, sym, taken, takes_pair, top_key, true, unroll_indent, went, with_top, ℕ, ◌++◌, ◌+◌, ◌-◌, ◌∙◌, ◌∷◌, ◌≡◌, ◌≤◌, ◌⊎◌, eqb-true, nat_tests}
 use Rattle.proof_scanner.proofs.Sound.OutOfFlow.{tokens_then}
 use Rattle.yaml_tokens.specs.declared.problem.Problem.TheVariants as problem
 use Rattle.defs_token.specs.Account.{Account as PieceAccount}
@@ -95,10 +95,7 @@ unrolled_outside s e a = rw e (ap (λ (u : Levels). record s { indent = u.indent
 
 -- the ends of the collections that a piece would end anyway, and of the others
 both_ends : (p : Position) (bs : List ℕ) → ends_at p bs (not_ended p.col bs) ++ ends_of (length (not_ended p.col bs)) p ≡ ends_at p bs []
-both_ends p bs =
-    let fewer = shorter p.col bs in
-    let all : length bs - length (not_ended p.col bs) + length (not_ended p.col bs) ≡ length bs - 0 = omega (arith, fewer) in
-    replicate-append-replicate (length bs - length (not_ended p.col bs)) (length (not_ended p.col bs)) (put p block_end) ∙ ap (λ n. replicate n (put p block_end)) all
+both_ends p bs = grind (arith, nat_tests, eqb-true, shorter, replicate-append-replicate)
 
 marker_line : (must : Bool) (here : Position) (bs : List ℕ) (l : Line) → (l ≡ free) ⊎ (l ≡ taken) → line_of_piece must here bs gives_marker false l ≡ Some (record { line = taken; blocks = bs })
 marker_line must a bs l b = grind arith

@@ -1,5 +1,5 @@
 -- The block collections that end where a piece begins: the levels that go on are those of the row, and each end has its token.
-use Rattle.proof_scanner.proofs.Common.{AreCollections, AreLevels, Bool, Indent, IsTopLevel, Levels, List, Position, Token, [], ap, append-nil, append_assoc, arith, block_end, columns, end_level, ends_at, false, has_open_level, if◌then◌else◌, is_deeper, is_empty, length, nat_lt, nat_tests, not, not_ended, put, refl, replicate, subst, suc, sym, true, unrolled, ℕ, ◌&&◌, ◌++◌, ◌+◌, ◌-◌, ◌∙◌, ◌∷◌, ◌≡◌}
+use Rattle.proof_scanner.proofs.Common.{AreCollections, AreLevels, Bool, Indent, IsTopLevel, Levels, List, Position, Token, [], ap, append-nil, append_assoc, arith, block_end, columns, end_level, ends_at, false, has_open_level, if◌then◌else◌, is_deeper, is_empty, length, nat_lt, nat_tests, not, not_ended, put, refl, replicate, subst, suc, sym, true, unrolled, ℕ, ◌&&◌, ◌++◌, ◌+◌, ◌-◌, ◌∙◌, ◌∷◌, ◌≡◌, eqb-true}
 use Rattle.proof_scanner.proofs.Sound.StreamEnds.{shorter}
 
 -- what goes on, of levels whose columns are these, and the tokens with the ends
@@ -23,10 +23,7 @@ deeper_now col i a e = grind arith
 
 -- one end more
 one_end : (p : Position) (n : ℕ) (cs : List ℕ) (ts us : List Token) → us ≡ (ts ++ put p block_end ∷ []) ++ ends_at p cs (not_ended p.col cs) → us ≡ ts ++ ends_at p (n ∷ cs) (not_ended p.col cs)
-one_end p n cs ts us e =
-    let s = shorter p.col cs in
-    let many : suc (length cs) - length (not_ended p.col cs) ≡ suc (length cs - length (not_ended p.col cs)) = omega (arith, s) in
-    e ∙ append_assoc ts (put p block_end ∷ []) (ends_at p cs (not_ended p.col cs)) ∙ ap (λ m. ts ++ replicate m (put p block_end)) (sym many)
+one_end p n cs ts us e = grind (arith, nat_tests, eqb-true, shorter, append_assoc)
 
 collections_end : (p : Position) (i : ℕ) (ds : List Indent) (ts : List Token) → AreCollections i ds → EndedAlone p (columns i ds) ts (unrolled (p.col + 1) p i ds ts)
 unfolding unrolled

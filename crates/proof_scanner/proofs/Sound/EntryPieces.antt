@@ -1,7 +1,7 @@
 -- A piece in flow with which its entry goes on, and before and after which no key of the entry waits: `?`, a colon without a key, and a line for the document. What holds where it begins holds between two fetches after it.
 use Rattle.proof_scanner.proofs.Sound.NodeTokens.{past_step, keys_along, not_keyed, had_as_it_was, no_had}
 use Rattle.proof_scanner.proofs.Sound.InFlow as flow
-use Rattle.proof_scanner.proofs.Common.{Act, AreNumbered, Bool, Colon, Entry, FlowLevel, Had, HasHadHere, IsEntryOf, IsPiece, Key, Line, List, None, Option, Pair, Position, ScannerState, Site, Some, Stands, Step, Tok, Token, [], act_of, ap, arith, begun_by, begun_inside, colon_of, columns, entries_by, entries_past, entry_by, false, had_by, has_break, is_renewed, key_end, least_column, length, length-append, may_stand, nat_le, pair_position, pop, position_after, previous_by, put, refl, seen, shown_position, site_here, spelled, suc, sym, takes_pair, tokens_at, tokens_up_to, true, with_had, with_keys, ℕ, ◌++◌, ◌∙◌, ◌∷◌, ◌≡◌}
+use Rattle.proof_scanner.proofs.Common.{Act, AreNumbered, Bool, Colon, Entry, FlowLevel, Had, HasHadHere, IsEntryOf, IsPiece, Key, Line, List, None, Option, Pair, Position, ScannerState, Site, Some, Stands, Step, Tok, Token, [], act_of, ap, arith, begun_by, begun_inside, colon_of, columns, entries_by, entries_past, entry_by, false, had_by, has_break, is_renewed, key_end, least_column, length, length-append, may_stand, nat_le, pair_position, pop, position_after, previous_by, put, refl, seen, shown_position, site_here, spelled, suc, sym, takes_pair, tokens_at, tokens_up_to, true, with_had, with_keys, ℕ, ◌++◌, ◌∙◌, ◌∷◌, ◌≡◌, eqb-true, nat_tests}
 use Rattle.proof_scanner.proofs.Cut.Nodes.{IsDeep}
 use Rattle.proof_scanner.proofs.Known.Read.{keyless}
 use Rattle.proof_scanner.proofs.Sound.Around.{line_taken}
@@ -26,10 +26,7 @@ begun_alike a pair b p q own d h = cc
 
 -- what an entry and the open keys around it ask of the tokens
 pub numbered_then : (before after : List Token) (k : Option Key) (ks : List (Option Key)) (own : List Token) → after ≡ before ++ own → AreNumbered (length before) (k ∷ ks) → AreNumbered (length after) ks
-numbered_then before after k ks own e h =
-    let more = length-append before own in
-    let same = ap length e in
-    numbered_more (length before) (length after) ks (omega (arith, more, same)) (numbered_around (length before) k ks h)
+numbered_then before after k ks own e h = grind (arith, nat_tests, eqb-true, length-append, numbered_more, numbered_around)
 
 -- the tokens of such a step, before a key around the entry has its colon
 module _ (text : List ℕ) (t : ScannerState) (f : FlowLevel) (fs : List FlowLevel) (k : Option Key) (ks : List (Option Key)) (e : Entry) (es : List Entry) (a : ArrivesBy text t (f ∷ fs) (k ∷ ks) (e ∷ es)) (piece next : List ℕ) (tok : Tok) (cut : t.rest ≡ piece ++ next) where

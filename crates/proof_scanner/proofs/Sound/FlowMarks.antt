@@ -1,5 +1,5 @@
 -- The functions of the model that read commas and closing brackets keep what holds where they begin.
-use Rattle.proof_scanner.proofs.Common.{arith, Arrives, At, Bool, Collection, Err, FlowLevel, Held, Holds, Key, List, MayChoose, None, Ok, Option, Position, ScannerState, Some, Stands, Tok, [], adjacent_in_flow, ap, begins_with, chained, end_entry, end_flow, ended_flow, false, fetch_flow_collection_end, fetch_flow_entry, flow_end, if◌then◌else◌, inl, inr, is_empty, is_required, next_entry, on_held, pop, push, refl, refused, remove_implicit_key, subst, sym, top_key, tried, true, went, with_top, ℕ, ◌∙◌, ◌∷◌, ◌≡◌, ◌⊎◌}
+use Rattle.proof_scanner.proofs.Common.{arith, Arrives, At, Bool, Collection, Err, FlowLevel, Held, Holds, Key, List, MayChoose, None, Ok, Option, Position, ScannerState, Some, Stands, Tok, [], adjacent_in_flow, ap, begins_with, chained, end_entry, end_flow, ended_flow, false, fetch_flow_collection_end, fetch_flow_entry, flow_end, if◌then◌else◌, inl, inr, is_empty, is_required, next_entry, on_held, pop, push, refl, refused, remove_implicit_key, subst, sym, top_key, tried, true, went, with_top, ℕ, ◌∙◌, ◌∷◌, ◌≡◌, ◌⊎◌, eqb-true, nat_tests}
 use Rattle.yaml_tokens.specs.declared.problem.Problem.TheVariants as problem
 use Rattle.model_scanner.specs.State.{after}
 use Rattle.proof_scanner.proofs.Cut.FlowEnds.{higher_keys, ended_now, entry_now, ended_is, entry_is}
@@ -29,8 +29,7 @@ entry_over s = by (is_required (top_key s.keys)) refl
 
 -- so outside flow it may be none
 pub may_be_none : (k : Option Key) (ks : List (Option Key)) (keys : List (Option Key)) (p : Position) (rest : List ℕ) → keys ≡ k ∷ ks → is_required (top_key keys) ≡ false → MayChoose true false k p rest
-may_be_none None ks keys p rest e h = tt
-may_be_none (Some x) ks keys p rest e h = sym (ap (λ l. is_required (top_key l)) e) ∙ h
+may_be_none a ks keys p rest e h = grind (arith, nat_tests, eqb-true)
 
 -- ---- what stands after either, with its account
 
@@ -66,8 +65,7 @@ comma_keeps text more t e deep a =
 
 pub adjacent_is : (s : Held) (fs : List FlowLevel) → adjacent_in_flow (record s { flow = fs }) ≡ record s { flow = fs; adjacent_value_at = adjacent_then true fs s.adjacent_value_at s.position.index }
 unfolding adjacent_in_flow
-adjacent_is s [] = refl
-adjacent_is s (f ∷ fs) = refl
+adjacent_is s a = grind (arith, nat_tests, eqb-true)
 
 abbrev pub after_closing : Tok → List FlowLevel → List (Option Key) → ScannerState → (more : List ℕ) → ScannerState
 after_closing tok fs ks t more = on_held (λ s. push t.held.position tok (adjacent_in_flow s)) (past_it (record t { held = record (ended_now fs t.held) { keys = ks } }) more)

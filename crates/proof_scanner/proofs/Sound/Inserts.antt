@@ -1,6 +1,6 @@
 -- Tokens that go in before others, and tokens after all of them.
 use Rattle.std.proofs.lemmas.List.Edits.{insert-append_left}
-use Rattle.proof_scanner.proofs.Common.{AreNumbered, Bool, Colon, Entry, Had, Key, Line, List, None, Option, Position, Some, Step, Token, [], ap, arith, colon_of, insert, key, length, put, put_if, put_key, refl, suc, takes_pair, with_had, with_keys, with_line, zero, ℕ, ◌++◌, ◌∙◌, ◌∷◌, ◌≡◌, ◌≤◌}
+use Rattle.proof_scanner.proofs.Common.{AreNumbered, Bool, Colon, Entry, Had, Key, Line, List, None, Option, Position, Some, Step, Token, [], ap, arith, colon_of, insert, key, length, put, put_if, put_key, refl, suc, takes_pair, with_had, with_keys, with_line, zero, ℕ, ◌++◌, ◌∙◌, ◌∷◌, ◌≡◌, ◌≤◌, eqb-true, nat_tests}
 
 longer : (ts : List Token) (n : ℕ) (t : Token) → length (insert ts n t) ≡ suc (length ts)
 longer ts zero t = refl
@@ -53,10 +53,5 @@ first_among many a ks b = grind arith
 pub keys_first : (d : ℕ) (p : Position) (ws : List Step) (last : List ℕ) (bs : List ℕ) (l : Line) (es : List Entry) (ks : List (Option Key)) (ts us : List Token) → AreAmong (length ts) ks →
     with_keys d p ws last bs l es ks (ts ++ us) ≡ with_keys d p ws last bs l es ks ts ++ us
 keys_first d p ws last bs l es [] ts us a = refl
-keys_first d p ws last bs l [] (k ∷ ks) ts us a = line_first (colon_of d p ws last) bs l k ts us (first_among (length ts) k ks a).0
-keys_first d p ws last bs l (e ∷ es) (k ∷ ks) ts us a =
-    let q = first_among (length ts) k ks a in
-    let c : Colon = colon_of d p ws last in
-    let more : List Token = with_had c (takes_pair e.kind e.pair) e.had k ts in
-    ap (λ x. with_keys (suc d) p ws last bs l es ks x) (had_first c (takes_pair e.kind e.pair) e.had k ts us q.0) ∙
-    keys_first (suc d) p ws last bs l es ks more us (fewer (length ts) (length more) ks (had_longer c (takes_pair e.kind e.pair) e.had k ts) q.1)
+keys_first d p ws last bs l [] (k ∷ ks) ts us a = grind (arith, nat_tests, eqb-true, line_first, first_among)
+keys_first d p ws last bs l (e ∷ es) (k ∷ ks) ts us a = grind (arith, nat_tests, eqb-true, first_among, had_first, fewer, had_longer, keys_first (suc d) p ws last bs l es ks)

@@ -39,22 +39,12 @@ last_first c r = by (is_break c) (is_before_line_feed c r) ∙ ap (λ b. if is_b
 -- one character more at its end
 pub last_more : (g : List ℕ) (c : ℕ) → last_line (g ++ c ∷ []) ≡ (if is_break c then [] else last_line g ++ c ∷ [])
 last_more [] c = grind arith
-last_more (d ∷ g) c =
-    last_first d (g ++ c ∷ []) ∙ ap (λ b. if is_break d || b then last_line (g ++ c ∷ []) else d ∷ last_line (g ++ c ∷ [])) (break_append g (c ∷ [])) ∙
-    ap (λ l. if is_break d || (has_break g || has_break (c ∷ [])) then l else d ∷ l) (last_more g c) ∙
-    by (is_break c) (is_break d) (has_break g) ∙ ap (λ l. if is_break c then [] else l ++ c ∷ []) (sym (last_first d g))
-  where
-    by : (x y z : Bool) → (if y || (z || not (not x && true)) then (if x then [] else last_line g ++ c ∷ []) else d ∷ (if x then [] else last_line g ++ c ∷ [])) ≡
-        (if x then [] else (if y || z then last_line g else d ∷ last_line g) ++ c ∷ [])
-    by a b z = grind arith
+last_more (d ∷ g) c = grind (arith, nat_tests, eqb-true, last_first, break_append, last_more g c)
 
 -- a text of one line is its last line
 pub last_whole : (g : List ℕ) → has_break g ≡ false → last_line g ≡ g
 last_whole [] h = refl
-last_whole (c ∷ g) h = last_first c g ∙ by (is_break c) (has_no_break g) refl h (λ k. last_whole g k)
-  where
-    by : (x y : Bool) → has_no_break g ≡ y → not (not x && y) ≡ false → (has_break g ≡ false → last_line g ≡ g) → (if x || not y then last_line g else c ∷ last_line g) ≡ c ∷ g
-    by a y e h k = grind arith
+last_whole (c ∷ g) h = grind (arith, nat_tests, eqb-true, last_first, last_whole g)
 
 -- ---- the column after it
 
@@ -70,22 +60,7 @@ feed_at d k = rw k refl
 -- the column after a text, which is not in the middle of CR LF
 pub column_after : (p : Position) (g a : List ℕ) → at_break a ≡ false → (position_after p g a).col ≡ (if has_break g then length (last_line g) else p.col + length g)
 column_after p [] a h = omega arith
-column_after p (c ∷ g) a h =
-    column_after (position_past p c (g ++ a)) g a h ∙ by (is_break c) (is_before_line_feed c (g ++ a)) (has_no_break g) refl refl refl ∙
-    ap (λ l. if has_break (c ∷ g) then length l else p.col + suc (length g)) (sym (last_first c g))
-  where
-    cut : (g : List ℕ) → is_before_line_feed c (g ++ a) ≡ true → has_no_break g ≡ true → ⊥
-    cut [] e k = first a e h
-      where
-        first : (a : List ℕ) → is_before_line_feed c a ≡ true → at_break a ≡ false → ⊥
-        first [] e h = cc e
-        first (d ∷ r) e h = cc (h, feed_at d (and_parts (c == 13) (d == 10) e).1)
-    cut (d ∷ g) e k = cc (feed_at d (and_parts (c == 13) (d == 10) e).1, (and_parts (not (is_break d)) (has_no_break g) k).0)
-
-    by : (x y z : Bool) → is_break c ≡ x → is_before_line_feed c (g ++ a) ≡ y → has_no_break g ≡ z →
-        (if not z then length (last_line g) else (let q : Position = (if x && not y then record { index = suc p.index; line = suc p.line; col = 0 } else record { index = suc p.index; line = p.line; col = suc p.col }) in q.col) + length g) ≡
-        (if not (not x && z) then length (if x || not z then last_line g else c ∷ last_line g) else p.col + suc (length g))
-    by b y d e f k = grind (arith, cut, last_whole)
+column_after p (c ∷ g) a h = grind (arith, nat_tests, eqb-true, last_first, feed_at, and_parts, last_whole, column_after (position_past p c (g ++ a)) g a h)
 
 -- ---- no `#` in it, outside comments
 

@@ -53,10 +53,7 @@ module _ (begun es : List Entry) (e : Entry) (here : Position) (new : Key) (plac
 -- in flow; the node may be a collection, which begins with an entry of its own
 pub node_in_entry : (again allowed c : Bool) (k : Option Key) (new : Key) (e : Entry) (here : Position) (begun es : List Entry) → HasHadHere allowed again k e.had → new.position ≡ here →
     entries_past here again gives_node begun (bit_of allowed c) (entry_by (choice_before allowed c) k e) es ≡ Some (begun ++ (entry_by c (saved allowed new k) (entry_past_node allowed e) ∷ es))
-node_in_entry again allowed c k new e here begun es h q = by (had_there allowed again k e.had h)
-  where
-    by : ((is_some k ≡ true) × (e.had ≡ filled) × (allowed ≡ again)) ⊎ (((k ≡ None) × (e.had ≡ fresh) × (allowed ≡ true)) ⊎ ((k ≡ None) × (e.had ≡ settled) × (allowed ≡ again))) → IsStepped begun es e here new again allowed c k e.had
-    by a = grind (arith, begun, here, new, q, again)
+node_in_entry again allowed c k new e here begun es h q = grind (arith, nat_tests, eqb-true, had_there)
 
 -- ---- on one line
 

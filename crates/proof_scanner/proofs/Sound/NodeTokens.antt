@@ -1,5 +1,5 @@
 -- The tokens of a part of a node: with its key put in, or without.
-use Rattle.proof_scanner.proofs.Common.{Bool, Colon, Entry, FlowLevel, Had, HasHadHere, Key, Line, List, None, Option, Pair, Position, Site, Some, Step, Tok, Token, [], act_of, ap, append_assoc, arith, begins_free_line, begun_by, begun_inside, begun_outside, block_mapping_start, colon_of, depth_past, ends_at, entries_by, false, flow_mapping_start, gives_node, had_by, insert, is_deeper, is_keyed, key, key_tokens, length, level_of, line_past_separation, map, pair_position, pop, position_after, put, put_key, refl, shown_position, spelled, suc, sym, takes_pair, tokens_at, true, with_had, with_keys, with_line, ℕ, ◌++◌, ◌∙◌, ◌∷◌, ◌≡◌}
+use Rattle.proof_scanner.proofs.Common.{Bool, Colon, Entry, FlowLevel, Had, HasHadHere, Key, Line, List, None, Option, Pair, Position, Site, Some, Step, Tok, Token, [], act_of, ap, append_assoc, arith, begins_free_line, begun_by, begun_inside, begun_outside, block_mapping_start, colon_of, depth_past, ends_at, entries_by, false, flow_mapping_start, gives_node, had_by, insert, is_deeper, is_keyed, key, key_tokens, length, level_of, line_past_separation, map, pair_position, pop, position_after, put, put_key, refl, shown_position, spelled, suc, sym, takes_pair, tokens_at, true, with_had, with_keys, with_line, ℕ, ◌++◌, ◌∙◌, ◌∷◌, ◌≡◌, eqb-true, nat_tests}
 use Rattle.proof_scanner.proofs.Sound.Begun.{with_begun, depth_begun, depth_rises}
 
 -- ---- an entry in which no key waits
@@ -11,8 +11,7 @@ pub no_had : (c : Colon) (single : Bool) (h : Had) (k : Option Key) (ts : List T
 no_had c single h k ts e = grind arith
 
 pub had_as_it_was : (k : Option Key) (h : Had) → had_by false k h ≡ h
-had_as_it_was None h = refl
-had_as_it_was (Some k) h = refl
+had_as_it_was a h = grind (arith, nat_tests, eqb-true)
 
 -- what waits in entries is not seen
 pub same_levels : (cs : List Bool) (ks : List (Option Key)) (es : List Entry) → map level_of (entries_by cs ks es) ≡ map level_of es
@@ -36,12 +35,7 @@ pub keys_along : (from to : ℕ → ℕ) → ((n : ℕ) → from (suc n) ≡ suc
     with_keys (from d) p (w ∷ ws) last bs l es ks ts ≡ with_keys (to d) q ws last bs l es ks ts
 keys_along from to up rise d p q w ws last h bs l es [] ts = refl
 keys_along from to up rise d p q w ws last h bs l [] (k ∷ ks) ts = ap (λ c. with_line c bs l k ts) (h d)
-keys_along from to up rise d p q w ws last h bs l (x ∷ es) (k ∷ ks) ts =
-    let before : List Token = with_had (colon_of (from d) p (w ∷ ws) last) (takes_pair x.kind x.pair) x.had k ts in
-    ap (λ n. with_keys n p (w ∷ ws) last bs l es ks before) (sym (up d)) ∙
-    (keys_along from to up rise (suc d) p q w ws last h bs l es ks before ∙
-    (ap (λ n. with_keys n q ws last bs l es ks before) (rise d) ∙
-    ap (λ c. with_keys (suc (to d)) q ws last bs l es ks (with_had c (takes_pair x.kind x.pair) x.had k ts)) (h d)))
+keys_along from to up rise d p q w ws last h bs l (x ∷ es) (k ∷ ks) ts = grind (arith, nat_tests, eqb-true, keys_along from to up rise (suc d) p q w ws last h bs l es ks)
 
 -- so it is after a part of a node
 pub keys_past : (kind : Option FlowLevel) (d : ℕ) (p : Position) (w : Step) (ws : List Step) (last : List ℕ) → act_of w.shown ≡ gives_node → begun_by w.shown ≡ with_begun kind [] →
@@ -56,8 +50,7 @@ insert_between (x ∷ ts) us t = ap (λ l. x ∷ l) (insert_between ts us t)
 
 -- a key goes in before the tokens of its node
 pub key_between : (begins : Bool) (p : Position) (start : Tok) (here : Position) (ts us : List Token) → put_key begins (put p start) (length ts) here (ts ++ us) ≡ ts ++ (key_tokens begins p start here ++ us)
-key_between true p start here ts us = ap (λ l. insert l (length ts) (put p start)) (insert_between ts us (put here key)) ∙ insert_between ts (put here key ∷ us) (put p start)
-key_between false p start here ts us = insert_between ts us (put here key)
+key_between a p start here ts us = grind (arith, nat_tests, eqb-true, insert_between)
 
 -- ---- the tokens of the step
 
@@ -81,33 +74,18 @@ shown_token at w ws last = put (shown_position at w.piece w.shown (spelled ws la
 
 begun_out : (deeper : Bool) (here colon : Position) (bit : Bool) (l : Option Line) (at : Site) (c : Colon) → deeper ≡ is_deeper at.position.col at.blocks → here ≡ at.position → colon ≡ c.here →
     begun_outside deeper here colon gives_node bit l ≡ key_outside bit at c
-begun_out deeper here colon true l at c d h e = rw (d, h, e) refl
-begun_out deeper here colon false l at c d h e = refl
+begun_out deeper here colon a l at c d h e = grind (arith, nat_tests, eqb-true)
 
 -- outside flow
 pub tokens_outside : (s at : Site) (w : Step) (ws : List Step) (last : List ℕ) (l : Line) (begins : List Entry) → act_of w.shown ≡ gives_node → begun_by w.shown ≡ begins →
     tokens_at s at w ws last l [] ≡ ends_at at.position s.blocks at.blocks ++ (key_outside w.key at (colon_of (depth_past gives_node begins 0) (past_piece at w ws last) ws last) ++ (shown_token at w ws last ∷ []))
-tokens_outside s at w ws last l begins e f =
-    let x : Option Line = line_past_separation false (begins_free_line s.before w.separation) l in
-    let c : Colon = colon_of (depth_past gives_node begins 0) (past_piece at w ws last) ws last in
-    let ends : List Token = ends_at at.position s.blocks at.blocks in
-    let shown : List Token = shown_token at w ws last ∷ [] in
-    let begun : List Token = begun_outside (is_deeper at.position.col at.blocks) at.position c.here gives_node w.key x in
-    let computed : tokens_at s at w ws last l [] ≡ (ends ++ begun) ++ shown = rw (e, f) refl in
-    computed ∙ (ap (λ y. (ends ++ y) ++ shown) (begun_out (is_deeper at.position.col at.blocks) at.position c.here w.key x at c refl refl refl) ∙ append_assoc ends (key_outside w.key at c) shown)
+tokens_outside s at w ws last l begins e f = grind (arith, nat_tests, eqb-true, begun_out, append_assoc)
 
 begun_in : (single : Bool) (pair : Pair) (here colon own : Position) (bit : Bool) (h : Had) (at : Site) (c : Colon) → here ≡ at.position → colon ≡ pair_position c.past c.next →
     begun_inside single pair here colon own gives_node bit h ≡ key_inside bit single at c
-begun_in single pair here colon own true h at c p e = rw (p, e) refl
-begun_in single pair here colon own false h at c p e = refl
+begun_in single pair here colon own a h at c p e = grind (arith, nat_tests, eqb-true)
 
 -- in flow
 pub tokens_inside : (s at : Site) (w : Step) (ws : List Step) (last : List ℕ) (l : Line) (n : Entry) (es begins : List Entry) → act_of w.shown ≡ gives_node → begun_by w.shown ≡ begins →
     tokens_at s at w ws last l (n ∷ es) ≡ key_inside w.key (takes_pair n.kind n.pair) at (colon_of (depth_past gives_node begins 0) (past_piece at w ws last) ws last) ++ (shown_token at w ws last ∷ [])
-tokens_inside s at w ws last l n es begins e f =
-    let c : Colon = colon_of (depth_past gives_node begins 0) (past_piece at w ws last) ws last in
-    let single : Bool = takes_pair n.kind n.pair in
-    let shown : List Token = shown_token at w ws last ∷ [] in
-    let begun : List Token = begun_inside single n.pair at.position (pair_position c.past c.next) (pair_position (past_piece at w ws last) (spelled ws last)) gives_node w.key n.had in
-    let computed : tokens_at s at w ws last l (n ∷ es) ≡ begun ++ shown = rw (e, f) refl in
-    computed ∙ ap (λ y. y ++ shown) (begun_in single n.pair at.position (pair_position c.past c.next) (pair_position (past_piece at w ws last) (spelled ws last)) w.key n.had at c refl refl)
+tokens_inside s at w ws last l n es begins e f = grind (arith, nat_tests, eqb-true, begun_in)

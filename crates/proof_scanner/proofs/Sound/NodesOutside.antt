@@ -31,12 +31,7 @@ taken_there must c k here bs = grind arith
 -- of a row, and of a cut
 pub line_after_node : (strict must allowed c : Bool) (k : Option Key) (new : Key) (l : Line) (here p : Position) (bs rest : List ℕ) → IsLineHere false allowed (0 ∷ []) k l → new.position ≡ here → new.required ≡ must → MayChoose strict c (saved allowed new k) p rest →
     line_past (strict && must) here bs gives_node (bit_of allowed c) (line_by (choice_before allowed c) k l) ≡ Some (record { line = line_by c (saved allowed new k) taken; blocks = bs })
-line_after_node strict must allowed c k new l here p bs rest h e q may = by (line_there allowed k l h)
-  where
-    by : ((allowed ≡ true) × (k ≡ None) × (l ≡ free)) ⊎ ((allowed ≡ false) × (l ≡ taken)) →
-        line_past (strict && must) here bs gives_node (bit_of allowed c) (line_by (choice_before allowed c) k l) ≡ Some (record { line = line_by c (saved allowed new k) taken; blocks = bs })
-    by (inl x) = rw (x.0, x.1, x.2) (key_there strict must c new here p bs rest e q (rw x.0 at may))
-    by (inr x) = rw (x.0, x.1) (taken_there (strict && must) c k here bs)
+line_after_node strict must allowed c k new l here p bs rest h e q may = grind (arith, nat_tests, eqb-true, line_there, key_there, taken_there)
 
 -- ---- the tokens after it
 

@@ -74,8 +74,7 @@ less : (m n : ℕ) → m ≡ n → nat_le 255 m ≡ false → nat_lt n 255 ≡ t
 less m n same h = grind (arith, nat_tests)
 
 awaits_then : (tok : Tok) (lv : FlowLevel) (c : ℕ) (o : IsOpener lv tok c) (fl : Bool) (bs : List ℕ) (b : Bool) (next : List ℕ) → awaits_past fl tok bs b next ≡ (if fl then b else not (is_empty bs))
-awaits_then tok lv c o true bs b next = o.awaits_inside bs b next
-awaits_then tok lv c o false bs b next = o.awaits_outside bs b next
+awaits_then tok lv c o a bs b next = grind (arith, nat_tests, eqb-true)
 
 -- with the key that may begin here
 abbrev pub with_key : Held → Held

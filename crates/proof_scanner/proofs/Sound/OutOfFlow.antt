@@ -7,8 +7,7 @@ abbrev pub Outer : Site → Line → Account
 Outer s l = record { site = s; line = l; entries = [] }
 
 pub no_waiting : (b w : Bool) → w ≡ false → (b && w) ≡ false
-no_waiting true w h = h
-no_waiting false w h = refl
+no_waiting a w h = grind (arith, nat_tests, eqb-true)
 
 -- the tokens of a step without a key: ends of block collections, the start of one, and the token that the piece shows
 abbrev pub tokens_then : Site → Site → (piece : List ℕ) → Tok → (next : List ℕ) → Line → List Token
@@ -62,10 +61,4 @@ module _ (text : List ℕ) (s : Site) (separation piece next : List ℕ) (tok : 
   -- the tokens after a step without a key
   pub outer_tokens : (l m : Line) → line_past_separation false (begins_free_line s.before separation) l ≡ Some m → (ts : List Token) (ws : List Step) (last : List ℕ) → spelled ws last ≡ next →
       ts ++ tokens_of_step (Outer s l) (outer_step false) ws last ≡ ts ++ tokens_then s x piece tok next m
-  outer_tokens l m line_is ts ws last h =
-      let y : Site = site_at false s separation piece tok (spelled ws last) in
-      let deeper : Bool = is_deeper y.position.col y.blocks in
-      let colon : Position = (key_end tok (position_after y.position piece (spelled ws last)) ws last).here in
-      ap (λ o. ts ++ ((ends_at y.position s.blocks y.blocks ++ begun_outside deeper y.position colon (act_of tok) false o) ++ (put (shown_position y piece tok (spelled ws last)) tok ∷ []))) line_is ∙
-      (ap (λ b. ts ++ ((ends_at y.position s.blocks y.blocks ++ b) ++ (put (shown_position y piece tok (spelled ws last)) tok ∷ []))) (begun_alike deeper y.position colon y.position (act_of tok) m) ∙
-      (ap (λ r. ts ++ tokens_then s (site_at false s separation piece tok r) piece tok r m) h ∙ ap (λ z. ts ++ tokens_then s z piece tok next m) same))
+  outer_tokens l m line_is ts ws last h = grind (arith, nat_tests, eqb-true, begun_alike)

@@ -1,6 +1,6 @@
 -- A piece outside flow before and after which no key waits: what holds where it begins holds between two fetches after it.
 use Rattle.std.proofs.lemmas.List.{append-nil}
-use Rattle.proof_scanner.proofs.Common.{Account, Bool, Completes, IsCarriedOn, IsLine, IsLineHere, IsPiece, IsWritten, Key, Line, List, MayChoose, None, Option, Outside, Position, ScannerState, Site, SoFar, Some, Stands, Tok, Token, [], act_of, ap, append_assoc, arith, begins_free_line, begun_by, columns, false, free, has_break, if◌then◌else◌, is_deeper, is_empty, is_in_column, is_separation, is_waiting, line_past, may_stand, not_ended, opened, placed, position_after, previous_by, refl, seen, shown_position, site_at, site_in, site_past, start_if, subst, sym, token, true, ℕ, ◌++◌, ◌∙◌, ◌∷◌, ◌≡◌}
+use Rattle.proof_scanner.proofs.Common.{Account, Bool, Completes, IsCarriedOn, IsLine, IsLineHere, IsPiece, IsWritten, Key, Line, List, MayChoose, None, Option, Outside, Position, ScannerState, Site, SoFar, Some, Stands, Tok, Token, [], act_of, ap, append_assoc, arith, begins_free_line, begun_by, columns, false, free, has_break, if◌then◌else◌, is_deeper, is_empty, is_in_column, is_separation, is_waiting, line_past, may_stand, not_ended, opened, placed, position_after, previous_by, refl, seen, shown_position, site_at, site_in, site_past, start_if, subst, sym, token, true, ℕ, ◌++◌, ◌∙◌, ◌∷◌, ◌≡◌, eqb-true, nat_tests}
 use Rattle.proof_scanner.proofs.Known.Read.{keyless, knows_none}
 use Rattle.proof_scanner.proofs.Known.Steps.{begins_key}
 use Rattle.proof_scanner.proofs.Sound.Sides.{with_entries, ArrivesBy}
@@ -79,9 +79,4 @@ none_open allowed rest a l e b h = grind arith
 -- the tokens of a piece with which a block collection may begin
 pub started_tokens : (begins : Bool) (ts before ends : List Token) (p : Position) (start : Tok) (own : Token) → ts ≡ before ++ ends →
     (if begins then placed None (token p start) ts else ts) ++ own ∷ [] ≡ before ++ ((ends ++ start_if begins p start) ++ (own ∷ []))
-started_tokens begins ts before ends p start own e =
-    ap (λ x. x ++ own ∷ []) (by begins ∙ (ap (λ x. x ++ start_if begins p start) e ∙ append_assoc before ends (start_if begins p start))) ∙ append_assoc before (ends ++ start_if begins p start) (own ∷ [])
-  where
-    by : (b : Bool) → (if b then placed None (token p start) ts else ts) ≡ ts ++ start_if b p start
-    by true = refl
-    by false = sym (append-nil ts)
+started_tokens begins ts before ends p start own e = grind (arith, nat_tests, eqb-true, append_assoc, append-nil)

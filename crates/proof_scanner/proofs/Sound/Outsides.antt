@@ -1,5 +1,5 @@
 -- A part of a node outside flow, and the open key: the one that was open, or the one that may begin with the node.
-use Rattle.proof_scanner.proofs.Common.{After, AreNumbered, Bool, IsLineHere, IsLive, IsOpenHere, IsOpenOutside, IsTakenBy, Key, List, MayChoose, NotBefore, Option, Position, ScannerState, Site, Some, Token, [], after, ap, arith, begins_free_line, false, has_break, is_empty, is_in_column, is_waiting, length, length-append, line_by, line_past_separation, must_be_key, not, refl, site_here, subst, sym, taken, ℕ, ◌&&◌, ◌++◌, ◌∙◌, ◌∷◌, ◌≡◌, ◌≤◌}
+use Rattle.proof_scanner.proofs.Common.{After, AreNumbered, Bool, IsLineHere, IsLive, IsOpenHere, IsOpenOutside, IsTakenBy, Key, List, MayChoose, NotBefore, Option, Position, ScannerState, Site, Some, Token, [], after, ap, arith, begins_free_line, false, has_break, is_empty, is_in_column, is_waiting, length, length-append, line_by, line_past_separation, must_be_key, not, refl, site_here, subst, sym, taken, ℕ, ◌&&◌, ◌++◌, ◌∙◌, ◌∷◌, ◌≡◌, ◌≤◌, eqb-true, nat_tests}
 use Rattle.proof_scanner.proofs.Cut.Positions.{not_before_after, not_before_then, not_before_same, after_then, weaker}
 use Rattle.proof_scanner.proofs.Cut.Nodes.{IsDeep}
 use Rattle.proof_scanner.proofs.Sound.NodeSteps.{saved, choice_before}
@@ -39,9 +39,7 @@ module _ (text : List ℕ) (t : ScannerState) (k : Option Key) (a : ArrivesBy te
 
     -- no collection ends on a live key's line
     none_ends : (x : Key) → k ≡ Some x → IsLive x end rest → here.blocks ≡ a.site.blocks
-    none_ends x e l =
-        let live : IsLive x t.held.position t.rest = live_now x l in
-        all_go_on t.held.position.col x.position.col a.site.blocks ((open_of x e).1 live).column_is ((open_before x e).1 live.0)
+    none_ends x e l = grind (arith, nat_tests, eqb-true, live_now, all_go_on, open_of, open_before)
 
     none_broken : (x : Key) → k ≡ Some x → IsLive x end rest → begins_free_line a.site.before a.separation ≡ false
     none_broken x e l = grind arith
@@ -52,17 +50,11 @@ module _ (text : List ℕ) (t : ScannerState) (k : Option Key) (a : ArrivesBy te
 
     pub one_node : (piece : List ℕ) → (is_empty rest ≡ false → end.line ≤ t.held.position.line → has_break piece ≡ false) → (strict c : Bool) → MayChoose strict c (saved t.held.key_allowed (new_key t) k) end rest →
         (has_break piece && is_waiting (line_by c (saved t.held.key_allowed (new_key t) k) taken)) ≡ false
-    one_node piece one strict c may = by strict c (saved t.held.key_allowed (new_key t) k) (saved_before t.held.key_allowed) may
-      where
-        by : (strict c : Bool) (y : Option Key) → ((x : Key) → y ≡ Some x → NotBefore x.position t.held.position) → MayChoose strict c y end rest → (has_break piece && is_waiting (line_by c y taken)) ≡ false
-        by strict c a h may = grind (arith, no_waiting, has_break, one)
+    one_node piece one strict c may = grind (arith, nat_tests, eqb-true, saved_before, no_waiting)
 
     -- after it a live key has taken the line, if no key may begin there
     pub taken_node : (allowed : Bool) → (is_empty rest ≡ false → end.line ≤ t.held.position.line → allowed ≡ false) → IsTakenBy allowed end rest (saved t.held.key_allowed (new_key t) k) taken
-    taken_node allowed none = by (saved t.held.key_allowed (new_key t) k) (saved_before t.held.key_allowed)
-      where
-        by : (y : Option Key) → ((x : Key) → y ≡ Some x → NotBefore x.position t.held.position) → IsTakenBy allowed end rest y taken
-        by a h = grind (arith, none)
+    taken_node allowed none = grind (arith, nat_tests, eqb-true, saved_before)
 
     pub may_node : (strict c : Bool) → MayChoose strict c (saved t.held.key_allowed (new_key t) k) end rest → MayChoose strict (choice_before t.held.key_allowed c) k t.held.position t.rest
     may_node strict c may = grind arith
@@ -71,10 +63,7 @@ module _ (text : List ℕ) (t : ScannerState) (k : Option Key) (a : ArrivesBy te
     line_node = grind arith
 
     pub same_node : AreSame k end rest a.site.blocks here.blocks
-    same_node = by k refl
-      where
-        by : (y : Option Key) → k ≡ y → AreSame y end rest a.site.blocks here.blocks
-        by a e = grind (arith, none_ends)
+    same_node = grind (arith, nat_tests, eqb-true, none_ends)
 
     pub open_node : (q : Position) → After t.held.position q → IsOpenOutside (saved t.held.key_allowed (new_key t) k) q end rest here.blocks
     open_node q after = by t.held.key_allowed (saved t.held.key_allowed (new_key t) k) refl

@@ -16,11 +16,7 @@ no_tab c a e f = grind arith
 -- where no separation begins, nothing is skipped
 pub skip_stays : (a : List ℕ) (s : Held) → begins_separation a ≡ false → skip between a s ≡ Ok (record { rest = a; held = s })
 unfolding skip
-skip_stays [] s h = refl
-skip_stays (c ∷ a) s h = by (is_blank c) (is_break c) (c == 35) refl refl refl h
-  where
-    by : (x y z : Bool) → is_blank c ≡ x → is_break c ≡ y → (c == 35) ≡ z → ((x || y) || z) ≡ false → skip between (c ∷ a) s ≡ Ok (record { rest = c ∷ a; held = s })
-    by b y z e f g h = grind (arith, nat_tests, same_break, same_blank, no_tab, eqb-true)
+skip_stays b s h = grind (arith, nat_tests, same_break, same_blank, no_tab, eqb-true)
 
 -- ---- what was passed
 
@@ -71,42 +67,11 @@ renewed_alike _ q f g rest rest2 cut fills r = refl
 
 -- a key may begin on a line after what was passed, or what was passed before
 pub free_line_append : (b : Previous) (q : Position) (f g rest rest2 : List ℕ) → rest ≡ g ++ rest2 → IsReadOn b q f rest → begins_free_line b (f ++ g) ≡ (begins_free_line b f || has_break g)
-free_line_append directive q f [] rest rest2 cut r = ap (λ x. has_break (without_break x)) (append-nil f) ∙ sym (or-false (has_break (without_break f)))
-free_line_append directive q f (c ∷ p) rest rest2 cut r = by f (r (ap is_empty cut))
-  where
-    by : (f : List ℕ) → HasFirst f rest → has_break (without_break (f ++ c ∷ p)) ≡ (has_break (without_break f) || has_break (c ∷ p))
-    by [] h = absurd h
-    by (d ∷ []) h =
-        let none : is_before_line_feed d (c ∷ p) ≡ false = rw cut at h in
-        ap (λ b. has_break (if b then drop 1 (c ∷ p) else c ∷ p)) none
-    by (d ∷ x ∷ f) h = two (is_before_line_feed d (x ∷ f))
-      where
-        two : (b : Bool) → has_break (if b then f ++ c ∷ p else x ∷ (f ++ c ∷ p)) ≡ (has_break (if b then f else x ∷ f) || has_break (c ∷ p))
-        two true = break_append f (c ∷ p)
-        two false = break_append (x ∷ f) (c ∷ p)
-free_line_append _ q f g rest rest2 cut r = break_append f g
+free_line_append a q f g rest rest2 cut r = grind (arith, nat_tests, eqb-true, append-nil, or-false, break_append)
 
 -- what was read on over stays so
 pub read_on_append : (b : Previous) (q : Position) (f g rest rest2 : List ℕ) → rest ≡ g ++ rest2 → begins_separation rest2 ≡ false → IsReadOn b q f rest → IsReadOn b q (f ++ g) rest2
-read_on_append plain_scalar q f g rest rest2 cut solid r = white rest2 solid
-  where
-    white : (a : List ℕ) → begins_separation a ≡ false → begins_white a ≡ false
-    white [] h = refl
-    white (c ∷ a) h = by (is_white c) h
-      where
-        by : (x : Bool) → (x || (c == 35)) ≡ false → x ≡ false
-        by true h = absurd (cc h)
-        by false h = refl
-read_on_append block_scalar q f g rest rest2 cut solid r = λ some. r (goes_on g rest rest2 cut some)
-read_on_append directive q f g rest rest2 cut solid r = λ some. by f (r (goes_on g rest rest2 cut some))
-  where
-    alone : (d : ℕ) (g : List ℕ) → is_before_line_feed d (g ++ rest2) ≡ false → is_before_line_feed d (g ++ rest2) ≡ is_before_line_feed d g
-    alone d [] h = h
-    alone d (x ∷ g) h = refl
-
-    by : (f : List ℕ) → HasFirst f rest → HasFirst (f ++ g) rest2
-    by a h = grind arith
-read_on_append _ q f g rest rest2 cut solid r = tt
+read_on_append a q f g rest rest2 cut solid r = grind (arith, nat_tests, eqb-true, goes_on)
 
 -- ---- the least column
 

@@ -58,9 +58,7 @@ content_last c [] h = (and_parts (not (is_blank c)) (not (is_break c)) h).1
 content_last c (d ∷ r) h = content_last d r h
 
 whole_ends : (fl : Bool) (collection : Option ℕ) (piece next : List ℕ) → is_whole_plain fl collection piece next ≡ true → ends_in_line piece ≡ true
-whole_ends fl collection [] next h = absurd (cc h)
-whole_ends fl collection (c ∷ r) next h =
-    content_last c r (and_parts (goes_on fl collection _ r next) (ends_with_content c r) (and_parts (goes_on fl collection _ r next && ends_with_content c r) (stops fl collection _ next) h).0).1
+whole_ends fl collection a next h = grind (arith, nat_tests, eqb-true, content_last, and_parts)
 
 whole_solid : (fl : Bool) (collection : Option ℕ) (piece next : List ℕ) → is_whole_plain fl collection piece next ≡ true → is_empty piece ≡ false
 whole_solid fl a b d h = grind arith
@@ -68,35 +66,12 @@ whole_solid fl a b d h = grind arith
 -- a gap has no comment
 pub no_comment : (g : List ℕ) → is_gap g ≡ true → (is_one_of g 35 ≡ false) × (leading is_no_comment g ≡ g)
 no_comment [] h = (refl, refl)
-no_comment (c ∷ g) h =
-    let q = and_parts (is_white c) (is_gap g) h in
-    let none : (c == 35) ≡ false = white_is_no_hash c q.0 in
-    let swapped : (35 == c) ≡ false = flip none in
-    let others = no_comment g q.1 in
-    (rw swapped others.0, rw none (ap (λ l. c ∷ l) others.1))
-  where
-    flip : (c == 35) ≡ false → (35 == c) ≡ false
-    flip e = grind (arith, e)
+no_comment (c ∷ g) h = grind (arith, nat_tests, eqb-true, and_parts, white_is_no_hash, no_comment g)
 
 -- a gap that stays on its line has no break
 gap_in_line : (q : Position) (g rest : List ℕ) → is_empty rest ≡ false → begins_white rest ≡ false → (position_after q g rest).line ≤ q.line → has_break g ≡ false
 unfolding is_break
-gap_in_line q g [] some ends h = absurd (cc some)
-gap_in_line q g (c ∷ r) some ends h = ap not (no_break_on_line q g c r no_feed h)
-  where
-    white_feed : (x y : Bool) → y ≡ true → (x || y) ≡ false → ⊥
-    white_feed true y e h = cc h
-    white_feed false y e h = cc (e, h)
-
-    feed : (c == 10) ≡ true → is_break c ≡ true
-    feed e = rw (eqb-true c 10 e) refl
-
-    no_feed : (c == 10) ≡ false
-    no_feed = by (c == 10) refl
-      where
-        by : (b : Bool) → (c == 10) ≡ b → b ≡ false
-        by true e = absurd (white_feed (is_blank c) (is_break c) (feed e) ends)
-        by false e = refl
+gap_in_line q g a some ends h = grind (arith, nat_tests, no_break_on_line, eqb-true)
 
 -- what begins no separation begins with content
 pub solid_text : (text : List ℕ) → is_empty text ≡ false → begins_separation text ≡ false → begins_solid text ≡ true
@@ -155,12 +130,7 @@ module _ (text : List ℕ) (t : ScannerState) (a : Arrives text t) (deep : IsDee
     solid = whole_solid ctx.flow (collection_of ctx.indent) q.piece (q.gap ++ x.rest) q.whole
 
     one_line_of : is_empty x.rest ≡ false → x.position.line ≤ t.held.position.line → (has_break q.piece ≡ false) × (has_break q.gap ≡ false)
-    one_line_of some h =
-        let past : Position = position_after t.held.position q.piece (q.gap ++ x.rest) in
-        let up : past.line ≤ (position_after past q.gap x.rest).line = (not_before_after past q.gap x.rest).0 in
-        let first : t.held.position.line ≤ past.line = (not_before_after t.held.position q.piece (q.gap ++ x.rest)).0 in
-        let same : x.position.line ≡ (position_after past q.gap x.rest).line = ap (λ p. p.line) q.end_is in
-        (on_one_line t.held.position q.piece (q.gap ++ x.rest) in_line (omega (arith, h, up, same)), gap_in_line past q.gap x.rest some q.ends (omega (arith, h, first, same)))
+    one_line_of some h = grind (arith, nat_tests, eqb-true, q, not_before_after, on_one_line, in_line, gap_in_line)
 
     allowed_by : (fl : Bool) → x.value.leading ≡ allowed_past None fl plain_scalar q.gap
     allowed_by true = q.leads ∙ ap has_break (sym (no_comment q.gap q.white).1)
@@ -205,36 +175,16 @@ module _ (text : List ℕ) (t : ScannerState) (a : Arrives text t) (deep : IsDee
       piece_is = ((begins, ap (λ f. is_whole_plain f (collection_column own) q.piece (next_of d)) own_flow ∙ (ap (λ c. is_whole_plain (in_flow t.held) c q.piece (next_of d)) own_column ∙ q.whole), q.value_is), refl)
 
       deep_by : (f : Bool) → f ≡ in_flow t.held → is_deep_enough f tok at ≡ true
-      deep_by false h = refl
-      deep_by true h = let k : gone.indent ≤ t.held.position.col = q.fits.deep (sym h) in less (least_column at.blocks true) t.held.position.col (omega (arith, k, least_here))
-        where
-          less : (m n : ℕ) → m ≤ n → nat_le m n ≡ true
-          less m n h = grind (arith, nat_tests)
+      deep_by a h = grind (arith, nat_tests, eqb-true, q, least_here)
 
       dash_by : (f : Bool) → f ≡ in_flow t.held → not (f && has_dash_before_flow q.piece (next_of d)) ≡ true
       dash_by f h = ap not (ap (λ y. y && has_dash_before_flow q.piece (next_of d)) h ∙ q.fits.dash)
 
       spaced : (has_break q.gap ≡ true → has_tab_within gone.indent (last_line q.gap) ≡ false) → (aw : Bool) → aw ≡ false → is_indented_by_spaces plain_scalar at.blocks aw q.gap ≡ true
-      spaced h aw e = by (has_break q.gap) refl
-        where
-          value : (aw || not (is_one_of q.gap 35)) ≡ true
-          value = rw (e, (no_comment q.gap q.white).0) refl
-
-          by : (y : Bool) → has_break q.gap ≡ y → (not y || not (has_tab_within (least_column at.blocks (aw || not (is_one_of q.gap 35))) (last_line q.gap))) ≡ true
-          by a f = grind (arith, value, least_here, h)
+      spaced h aw e = grind (arith, nat_tests, eqb-true, q, no_comment, least_here)
 
       no_tabs : HasNoTabs (site_then t fs r.site d) q.gap x.rest
-      no_tabs = by (has_break q.gap) refl
-        where
-          awaits_then : awaits_past fl tok at.blocks at.awaits (next_of d) ≡ false
-          awaits_then = none_awaits fl at.blocks at.awaits (next_of d)
-
-          of : has_break q.gap ≡ true → (is_at_comment_or_end x.rest ≡ true) ⊎ (has_tab_within gone.indent (last_line q.gap) ≡ false) → HasNoTabs (site_then t fs r.site d) q.gap x.rest
-          of e a = grind (arith, spaced, next_of, awaits_then)
-
-          by : (y : Bool) → has_break q.gap ≡ y → HasNoTabs (site_then t fs r.site d) q.gap x.rest
-          by true e = of e (q.fits.clear q.white e)
-          by false e = inr (spaced (λ h. absurd (cc (e, h))) (awaits_past fl tok at.blocks at.awaits (next_of d)) awaits_then)
+      no_tabs = grind (arith, nat_tests, eqb-true, q, none_awaits, spaced)
 
       pub is_read : IsRead t None fs r.site r.line es r.separation d
       is_read =

@@ -133,8 +133,7 @@ module _ (ctx : Context) (start : Position) (c : ℕ) (a : List ℕ) where
 
     -- after content
     blank_inside : (s : PlainState) → is_blank c ≡ true → s.folded.leading ≡ false → Goes inside s (on (at_gap ctx c a s))
-    blank_inside s f l =
-        gap_goes inside s f (ap (λ x. x && (c == 9) && nat_lt s.position.col ctx.indent) l) refl (ap (λ x. spot_of between x (s.position.col + 1)) l ∙ rw breaks refl)
+    blank_inside s f l = grind (arith, nat_tests, eqb-true, gap_goes)
 
     -- a TAB in the indentation
     tab_goes : (s : PlainState) → is_blank c ≡ true → s.folded.leading ≡ true → ((c == 9) && nat_lt s.position.col ctx.indent) ≡ true → Goes between s (on (at_gap ctx c a s))
@@ -148,26 +147,7 @@ module _ (ctx : Context) (start : Position) (c : ℕ) (a : List ℕ) where
         (white_is_no_dash ctx.flow true (begins_flow a) c white) (sym white))
 
     blank_between : (s : PlainState) → is_blank c ≡ true → Goes between s (on (at_gap ctx c a s))
-    blank_between s f = by s.folded.leading refl ((c == 9) && nat_lt s.position.col ctx.indent) refl
-      where
-        k : ℕ
-        k = s.position.col
-
-        more : k + 1 ≡ suc k
-        more = omega arith
-
-        go : (l : Bool) → may_go (spot_of between l k) c ≡ true
-        go a = grind arith
-
-        on_line : ((c == 9) && nat_lt k ctx.indent) ≡ false → at (k + 1) ≡ past_spot ctx.indent (at k) c
-        on_line g = ap (λ n. at n) more ∙ rw (breaks, g, f) refl
-
-        by : (l : Bool) → s.folded.leading ≡ l → (t : Bool) → ((c == 9) && nat_lt k ctx.indent) ≡ t → Goes between s (on (at_gap ctx c a s))
-        by false e t g =
-            gap_goes between s f (ap (λ x. x && (c == 9) && nat_lt k ctx.indent) e) (go s.folded.leading) (ap (λ x. spot_of between x (k + 1)) e ∙ (rw breaks refl ∙ ap (λ x. past_spot ctx.indent (spot_of between x k) c) (sym e)))
-        by true e true g = tab_goes s f e g
-        by true e false g =
-            gap_goes between s f (ap (λ x. x && (c == 9) && nat_lt k ctx.indent) e ∙ g) (go s.folded.leading) (ap (λ x. spot_of between x (k + 1)) e ∙ (on_line g ∙ ap (λ x. past_spot ctx.indent (spot_of between x k) c) (sym e)))
+    blank_between s f = grind (arith, nat_tests, eqb-true, gap_goes, tab_goes)
 
     module _ (solid : is_blank c ≡ false) where
       no_spot : (x : Spot) → may_go x c ≡ true → past_spot ctx.indent x c ≡ in_text
@@ -188,11 +168,7 @@ module _ (ctx : Context) (start : Position) (c : ℕ) (a : List ℕ) where
 
   white_turn : (m : Mode) (s : PlainState) (u : Turn PlainState Fault) → (is_break c ≡ false → is_blank c ≡ true → Goes m s (on (at_gap ctx c a s))) → (is_break c ≡ false → is_blank c ≡ false → Goes m s u) →
       Goes m s (if is_break c || is_blank c then on (at_gap ctx c a s) else u)
-  white_turn m s u blank other = by (is_break c) (is_blank c) refl refl
-    where
-      by : (x y : Bool) → is_break c ≡ x → is_blank c ≡ y → Goes m s (if x || y then on (at_gap ctx c a s) else u)
-      by true y e f = let is : at_gap ctx c a s ≡ at_break c a s = rw e refl in subst (λ t. Goes m s (on t)) (sym is) (break_goes m s e)
-      by false b e f = grind (arith, blank, other)
+  white_turn m s u blank other = grind (arith, nat_tests, eqb-true, break_goes)
 
   stays_between : (s : PlainState) → Goes between s (stop s)
   stays_between s = grind (arith, stays, between)
@@ -205,18 +181,12 @@ module _ (ctx : Context) (start : Position) (c : ℕ) (a : List ℕ) where
   -- a scalar that goes on has no dash before a flow indicator
   no_dash : (p : Position) → goes_on ctx (c ∷ a) p ≡ Ok true → (ctx.flow && true && (c == 45) && begins_flow a) ≡ false
   unfolding goes_on
-  no_dash p h = by (is_shallow ctx p.col) ((c == 35) || at_marker p.col (c ∷ a)) (at_dash ctx.flow (c ∷ a)) refl refl refl
-    where
-      by : (x y z : Bool) → is_shallow ctx p.col ≡ x → ((c == 35) || at_marker p.col (c ∷ a)) ≡ y → at_dash ctx.flow (c ∷ a) ≡ z → (ctx.flow && true && (c == 45) && begins_flow a) ≡ false
-      by b y z e f g = grind (arith, at, h, dash_is)
+  no_dash p h = grind (arith, nat_tests, eqb-true, dash_is)
 
   -- and one that is refused there has
   has_dash : (p : Position) (f : Fault) → goes_on ctx (c ∷ a) p ≡ Err f → (ctx.flow && true && (c == 45) && begins_flow a) ≡ true
   unfolding goes_on
-  has_dash p f h = by (is_shallow ctx p.col) ((c == 35) || at_marker p.col (c ∷ a)) (at_dash ctx.flow (c ∷ a)) refl refl refl
-    where
-      by : (x y z : Bool) → is_shallow ctx p.col ≡ x → ((c == 35) || at_marker p.col (c ∷ a)) ≡ y → at_dash ctx.flow (c ∷ a) ≡ z → (ctx.flow && true && (c == 45) && begins_flow a) ≡ true
-      by b y z e i g = grind (arith, at, h, dash_is)
+  has_dash p f h = grind (arith, nat_tests, eqb-true, dash_is)
 
   begun_goes : (s : PlainState) (x : Result Bool Fault) → goes_on ctx (c ∷ a) s.position ≡ x → is_break c ≡ false → is_blank c ≡ false → Goes between s (begun x c s)
   begun_goes s (Ok true) h e f = char_between e f s (no_dash s.position h)
@@ -337,29 +307,12 @@ unfolding classes.is_break
 feed_line a = grind arith
 
 pub feed_first : (c : ℕ) (r : List ℕ) → is_before_line_feed c r ≡ true → first_line r ≡ []
-feed_first c [] h = absurd (cc h)
-feed_first c (d ∷ r) h =
-    let same : d ≡ 10 = eqb-true d 10 (and_parts (c == 13) (d == 10) h).1 in
-    ap (λ x. first_line (x ∷ r)) same ∙ ap (λ s. first_of s.complete s.last) (feed_line r)
+feed_first c a h = grind (arith, nat_tests, eqb-true, and_parts, feed_line)
 
 module _ (column : ℕ) (c : ℕ) (r : List ℕ) where
   -- with a break before it
   broken_lines : classes.is_break c ≡ true → (x : Spot) → lines_are column (at 0) r ≡ true → lines_are column x (c ∷ r) ≡ true
-  broken_lines e x h = by (is_before_line_feed c r) refl
-    where
-      q : (line_is 0 column (first_line r) ≡ true) × (plain_lines_fit column r ≡ true)
-      q = and_parts (line_is 0 column (first_line r)) (plain_lines_fit column r) h
-
-      spots : (x : Spot) → first_line (c ∷ r) ≡ [] → plain_lines_fit column (c ∷ r) ≡ true → lines_are column x (c ∷ r) ≡ true
-      spots a f g = grind arith
-
-      by : (f : Bool) → is_before_line_feed c r ≡ f → lines_are column x (c ∷ r) ≡ true
-      by true f =
-          let is : split (c ∷ r) ≡ split r = rw (e, f) refl in
-          spots x (ap (λ s. first_of s.complete s.last) is ∙ feed_first c r f) (ap (λ s. lines_have_no_tab column (after_first s.complete s.last)) is ∙ q.1)
-      by false f =
-          let is : split (c ∷ r) ≡ record { complete = [] ∷ (split r).complete; last = (split r).last } = rw (e, f) refl in
-          spots x (ap (λ s. first_of s.complete s.last) is) (ap (λ s. lines_have_no_tab column (after_first s.complete s.last)) is ∙ (all_lines column (split r).complete (split r).last ∙ h))
+  broken_lines e x h = grind (arith, nat_tests, eqb-true, and_parts, feed_first, all_lines)
 
   module _ (no_break : classes.is_break c ≡ false) where
     split_is : split (c ∷ r) ≡ put_first c (split r).complete (split r).last
@@ -383,39 +336,7 @@ module _ (column : ℕ) (c : ℕ) (r : List ℕ) where
 lines_fit : (column : ℕ) (x : Spot) (t g rest : List ℕ) → tabs_fit column x (t ++ g) rest ≡ true → lines_are column x t ≡ true
 unfolding classes.is_blank
 lines_fit column a [] g rest h = grind arith
-lines_fit column x (c ∷ r) g rest h =
-    let q = and_parts (may_go x c) (tabs_fit column (past_spot column x c) (r ++ g) rest) h in
-    by x (is_break c) refl q.0 (lines_fit column (past_spot column x c) r g rest q.1)
-  where
-    further : (y : Spot) → lines_are column y r ≡ true → plain_lines_fit column r ≡ true
-    further a h = grind (arith, line_is, column, first_line)
-
-    on_line : (k : ℕ) → is_break c ≡ false → (tab blank : Bool) → ((c == 9) && nat_lt k column) ≡ tab → is_blank c ≡ blank → lines_are column (if tab then tabbed else (if blank then at (suc k) else in_text)) r ≡ true → lines_are column (at k) (c ∷ r) ≡ true
-    on_line k e true blank f g h =
-        let no_break : classes.is_break c ≡ false = same_break c ∙ e in
-        let q = and_parts (is_blanks (first_line r)) (plain_lines_fit column r) h in
-        let tab : classes.is_blank c ≡ true = tab_blank (eqb-true c 9 (and_parts (c == 9) (nat_lt k column) f).0) in
-        rw (first_is column c r no_break, others_are column c r no_break, tab, q.0) q.1
-      where
-        tab_blank : c ≡ 9 → classes.is_blank c ≡ true
-        tab_blank same = rw same refl
-    on_line k e false true f g h =
-        let no_break : classes.is_break c ≡ false = same_break c ∙ e in
-        let q = and_parts (line_is (suc k) column (first_line r)) (plain_lines_fit column r) h in
-        rw (first_is column c r no_break, others_are column c r no_break, blank_line column c r no_break k (same_blank c ∙ g) f (first_line r) q.0) q.1
-    on_line k e false false f g h =
-        let no_break : classes.is_break c ≡ false = same_break c ∙ e in
-        rw (first_is column c r no_break, others_are column c r no_break, content_line column c r no_break k (same_blank c ∙ g) (first_line r)) h
-
-    by : (x : Spot) → (b : Bool) → is_break c ≡ b → may_go x c ≡ true → lines_are column (if b then at 0 else spot_past column x c) r ≡ true → lines_are column x (c ∷ r) ≡ true
-    by x true e go h = broken_lines column c r (same_break c ∙ e) x h
-    by in_text false e go h = others_are column c r (same_break c ∙ e) ∙ h
-    by (at k) false e go h = on_line k e ((c == 9) && nat_lt k column) (is_blank c) refl refl h
-    by tabbed false e go h =
-        let no_break : classes.is_break c ≡ false = same_break c ∙ e in
-        let q = and_parts (is_blanks (first_line r)) (plain_lines_fit column r) h in
-        let blank : classes.is_blank c ≡ true = same_blank c ∙ rw e at go in
-        rw (first_is column c r no_break, others_are column c r no_break, blank, q.0) q.1
+lines_fit column x (c ∷ r) g rest h = grind (arith, nat_tests, and_parts, same_break, eqb-true, first_is, others_are, blank_line, same_blank, content_line, broken_lines, lines_fit column (past_spot column x c) r g rest)
 
 -- ---- the gap
 
@@ -430,73 +351,23 @@ IsClear column bs rest = (is_at_comment_or_end rest ≡ true) ⊎ (has_tab_withi
 
 tabbed_gap : (column : ℕ) (g rest : List ℕ) → has_break g ≡ false → tabs_fit column tabbed g rest ≡ true → is_at_comment_or_end rest ≡ true
 tabbed_gap column [] rest n h = h
-tabbed_gap column (c ∷ g) rest n h = by (is_break c) refl n (and_parts (is_break c || is_blank c) (tabs_fit column (past_spot column tabbed c) g rest) h).1 (λ k i. tabbed_gap column g rest k i)
-  where
-    by : (b : Bool) → is_break c ≡ b → has_break (c ∷ g) ≡ false → tabs_fit column (if b then at 0 else tabbed) g rest ≡ true → (has_break g ≡ false → tabs_fit column tabbed g rest ≡ true → is_at_comment_or_end rest ≡ true) → is_at_comment_or_end rest ≡ true
-    by a e n h d = grind (arith, same_break, at)
+tabbed_gap column (c ∷ g) rest n h = grind (arith, nat_tests, eqb-true, and_parts, same_break, tabbed_gap column g rest)
 
 blanks_gap : (column k : ℕ) (g rest : List ℕ) → has_break g ≡ false → is_gap g ≡ true → tabs_fit column (at k) g rest ≡ true → IsClear (column - k) g rest
-blanks_gap column k [] rest n w h = inr (ap (λ l. is_one_of l 9) (take_none (column - k)))
-blanks_gap column k (c ∷ g) rest n w h =
-    by (is_break c) (is_blank c) ((c == 9) && nat_lt k column) refl refl refl (and_parts (is_white c) (is_gap g) w).0 (λ x i. tabbed_gap column g rest (rest_of x) i) (λ x i. blanks_gap column (suc k) g rest (rest_of x) (and_parts (is_white c) (is_gap g) w).1 i)
-  where
-    rest_of : is_break c ≡ false → has_break g ≡ false
-    rest_of e = rw (same_break c, e) at n
-
-    by : (b l t : Bool) → is_break c ≡ b → is_blank c ≡ l → ((c == 9) && nat_lt k column) ≡ t → is_white c ≡ true → (is_break c ≡ false → tabs_fit column tabbed g rest ≡ true → is_at_comment_or_end rest ≡ true) →
-        (is_break c ≡ false → tabs_fit column (at (suc k)) g rest ≡ true → IsClear (column - suc k) g rest) → IsClear (column - k) (c ∷ g) rest
-    by true l t e f i w tab more = absurd (cc (rw (same_break c, e) at n))
-    by false false t e f i w tab more = absurd (cc (rw (same_break c, same_blank c, e, f) at w))
-    by false true true e f i w tab more = inl (tab e (rw (e, i) at h))
-    by false true false e f i w tab more = clear (more e (rw (e, i, f) at h))
-      where
-        clear : IsClear (column - suc k) g rest → IsClear (column - k) (c ∷ g) rest
-        clear (inl x) = inl x
-        clear (inr x) = inr (blank_more k column c g i x)
+blanks_gap column k [] rest n w h = grind (arith, nat_tests, eqb-true, take_none)
+blanks_gap column k (c ∷ g) rest n w h = grind (arith, nat_tests, eqb-true, and_parts, tabbed_gap, same_break, same_blank, blank_more, blanks_gap column (suc k) g rest)
 
 broken_gap : (column : ℕ) (x : Spot) (g rest : List ℕ) → is_gap g ≡ true → has_break g ≡ true → tabs_fit column x g rest ≡ true → IsClear column (last_line g) rest
 broken_gap column x [] rest w b h = absurd (cc b)
-broken_gap column x (c ∷ g) rest w b h = by (has_break g) refl (λ k. broken_gap column (past_spot column x c) g rest white k later)
-  where
-    white : is_gap g ≡ true
-    white = (and_parts (is_white c) (is_gap g) w).1
-
-    later : tabs_fit column (past_spot column x c) g rest ≡ true
-    later = (and_parts (may_go x c) (tabs_fit column (past_spot column x c) g rest) h).1
-
-    breaks : has_break g ≡ false → is_break c ≡ true
-    breaks k = here (classes.is_break c) (has_no_break g) refl b k
-      where
-        here : (x y : Bool) → classes.is_break c ≡ x → not (not x && y) ≡ true → not y ≡ false → is_break c ≡ true
-        here a y e b k = grind (arith, same_break)
-
-    by : (y : Bool) → has_break g ≡ y → (has_break g ≡ true → IsClear column (last_line g) rest) → IsClear column (last_line (c ∷ g)) rest
-    by true e others =
-        let same : last_line (c ∷ g) ≡ last_line g = last_first c g ∙ rw (e, or_true (classes.is_break c)) refl in
-        subst (λ l. IsClear column l rest) (sym same) (others e)
-    by false e others =
-        let now : is_break c ≡ true = breaks e in
-        let same : last_line (c ∷ g) ≡ g = last_first c g ∙ (rw (same_break c, now) refl ∙ last_whole g e) in
-        subst (λ l. IsClear column l rest) (sym same) (subst (λ n. IsClear n g rest) (none_before column) (blanks_gap column 0 g rest e white (rw now at later)))
+broken_gap column x (c ∷ g) rest w b h = grind (arith, nat_tests, eqb-true, and_parts, same_break, last_first, or_true, last_whole, none_before, blanks_gap, broken_gap column (past_spot column x c) g rest)
 
 -- ---- the dash
 
 no_last_dash : (flow apart : Bool) (t g rest : List ℕ) → dashes_fit flow apart (t ++ g) rest ≡ true → (flow && has_dash_before_flow t (g ++ rest)) ≡ false
 no_last_dash flow apart [] g rest h = and_false flow
 no_last_dash flow apart (c ∷ []) g rest h = and_false flow
-no_last_dash flow apart (c ∷ d ∷ []) g rest h = rw (same_break c, same_blank c) (by flow (is_break c) (is_blank c) (d == 45) (begins_flow (g ++ rest)) (not-true _ dash))
-  where
-    more : dashes_fit flow (is_break c || is_blank c) (d ∷ g) rest ≡ true
-    more = (and_parts (not (flow && apart && (c == 45) && begins_flow (d ∷ (g ++ rest)))) (dashes_fit flow (is_break c || is_blank c) (d ∷ g) rest) h).1
-
-    dash : not (flow && (is_break c || is_blank c) && (d == 45) && begins_flow (g ++ rest)) ≡ true
-    dash = (and_parts (not (flow && (is_break c || is_blank c) && (d == 45) && begins_flow (g ++ rest))) (dashes_fit flow (is_break d || is_blank d) g rest) more).0
-
-    by : (f b l n w : Bool) → (f && (b || l) && n && w) ≡ false → (f && (((l || b) && n) && w)) ≡ false
-    by a b l n w h = grind arith
-no_last_dash flow apart (c ∷ d ∷ e ∷ r) g rest h =
-    no_last_dash flow (is_break c || is_blank c) (d ∷ e ∷ r) g rest
-    (and_parts (not (flow && apart && (c == 45) && begins_flow (d ∷ e ∷ (r ++ g) ++ rest))) (dashes_fit flow (is_break c || is_blank c) (d ∷ e ∷ (r ++ g)) rest) h).1
+no_last_dash flow apart (c ∷ d ∷ []) g rest h = grind (arith, nat_tests, eqb-true, same_break, same_blank, not-true, and_parts)
+no_last_dash flow apart (c ∷ d ∷ e ∷ r) g rest h = grind (arith, nat_tests, eqb-true, and_parts, no_last_dash flow (is_break c || is_blank c) (d ∷ e ∷ r) g rest)
 
 -- ---- the whole scan
 

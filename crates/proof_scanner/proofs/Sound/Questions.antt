@@ -1,5 +1,5 @@
 -- The function of the model that reads a `?`: what holds where it begins holds between two fetches after it.
-use Rattle.proof_scanner.proofs.Common.{IsLeading, AreLevels, Arrives, At, Bool, Entry, Fault, FlowLevel, HasNoTabs, Held, Holds, Indent, IsEntryOf, IsReadOn, Key, Keyed, List, None, Ok, Option, Position, Result, ScannerState, Site, Some, Stands, Tok, Token, [], allow_key, another, ap, arith, before_by, begin_key, begins_line, begins_with_space_or_break, both_hold, chained, check_key_space, checked, columns, either, ends_at, entries_past, false, fetch_key, gap, gives_question, has_break, has_open_level, has_tab_before_piece, has_tab_within, if◌then◌else◌, in_flow, inl, inr, is_at_gap, is_break, is_deeper, is_empty, is_in_column, is_keyed, is_one_of, is_renewed, is_separation, keyed, last_line, line_past, not, not-false, not_ended, on_held, opened, or_parts, or_true, pair_past, past, peek, placed, position_after, push, put, refl, remove_implicit_key, roll_indent, settled, skip_indicator, skip_yaml_whitespace, subst, suc, sym, take, takes_pair, token, tried, true, went, with_top, zero, ℕ, ◌&&◌, ◌++◌, ◌==◌, ◌>>=◌, ◌||◌, ◌∙◌, ◌∷◌, ◌≡◌, ◌≤◌, ◌⊎◌}
+use Rattle.proof_scanner.proofs.Common.{IsLeading, AreLevels, Arrives, At, Bool, Entry, Fault, FlowLevel, HasNoTabs, Held, Holds, Indent, IsEntryOf, IsReadOn, Key, Keyed, List, None, Ok, Option, Position, Result, ScannerState, Site, Some, Stands, Tok, Token, [], allow_key, another, ap, arith, before_by, begin_key, begins_line, begins_with_space_or_break, both_hold, chained, check_key_space, checked, columns, either, ends_at, entries_past, false, fetch_key, gap, gives_question, has_break, has_open_level, has_tab_before_piece, has_tab_within, if◌then◌else◌, in_flow, inl, inr, is_at_gap, is_break, is_deeper, is_empty, is_in_column, is_keyed, is_one_of, is_renewed, is_separation, keyed, last_line, line_past, not, not-false, not_ended, on_held, opened, or_parts, or_true, pair_past, past, peek, placed, position_after, push, put, refl, remove_implicit_key, roll_indent, settled, skip_indicator, skip_yaml_whitespace, subst, suc, sym, take, takes_pair, token, tried, true, went, with_top, zero, ℕ, ◌&&◌, ◌++◌, ◌==◌, ◌>>=◌, ◌||◌, ◌∙◌, ◌∷◌, ◌≡◌, ◌≤◌, ◌⊎◌, eqb-true, nat_tests}
 use Rattle.yaml_tokens.specs.declared.problem.Problem.TheVariants as problem
 use Rattle.model_scanner.specs.declared.level.FlowLevel.TheVariants.{Entry as InEntry}
 use Rattle.model_scanner.specs.State.{after}
@@ -27,13 +27,7 @@ no_tab_taken (suc n) (c ∷ l) h = let q = or_parts (9 == c) (is_one_of l 9) h i
 
 -- no TAB indents what comes next
 pub white_indents : (s : Site) (more : List ℕ) → s.before ≡ another → HasNoTabs s (white_of false more) (past_white false more)
-white_indents s more before = by (no_tab_in_last false more)
-  where
-    all : (b : Bool) (n : ℕ) → is_one_of (last_line (white_of false more)) 9 ≡ false → (not b || not (has_tab_within n (last_line (white_of false more)))) ≡ true
-    all a n h = grind (arith, no_tab_taken, white_of, more)
-
-    by : (past_white false more ≡ []) ⊎ (is_one_of (last_line (white_of false more)) 9 ≡ false) → HasNoTabs s (white_of false more) (past_white false more)
-    by a = grind (arith, all)
+white_indents s more before = grind (arith, nat_tests, eqb-true, no_tab_in_last, no_tab_taken)
 
 -- no TAB stands there
 space_checked : (more : List ℕ) (t : ScannerState) → t.rest ≡ past_white false more → Holds (λ u. (u ≡ t) × (has_tab_before_piece false more ≡ false)) (check_key_space t)

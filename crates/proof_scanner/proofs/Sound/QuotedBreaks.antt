@@ -1,5 +1,5 @@
 -- The elements of a quoted body by their characters, and the lines that are left of one from a column on.
-use Rattle.proof_scanner.proofs.Common.{sym, ◌∙◌, Bool, Element, Lines, List, None, Option, Some, Spelled, [], ap, arith, begins_with, blank, blanks_before, break_further, content, double_quoted_element, double_quoted_value, element_of, elements, eqb-true, escape, escape_by, escaped_break, escapes, false, folded_elements, has_more, has_tab_within, hexadecimal, if◌then◌else◌, is_character_code, is_empty, length, line, line_break, lines_fit, lookup, nat_le, nat_lt, not, numbered, numeric_escape, numeric_escapes, plain_element, quote_of, refl, same_blank, same_break, single_quoted_element, single_quoted_value, suc, take, true, value_of, without_last, ℕ, ◌&&◌, ◌++◌, ◌+◌, ◌-◌, ◌==◌, ◌||◌, ◌∷◌, ◌≡◌}
+use Rattle.proof_scanner.proofs.Common.{sym, ◌∙◌, Bool, Element, Lines, List, None, Option, Some, Spelled, [], ap, arith, begins_with, blank, blanks_before, break_further, content, double_quoted_element, double_quoted_value, element_of, elements, eqb-true, escape, escape_by, escaped_break, escapes, false, folded_elements, has_more, has_tab_within, hexadecimal, if◌then◌else◌, is_character_code, is_empty, length, line, line_break, lines_fit, lookup, nat_le, nat_lt, not, numbered, numeric_escape, numeric_escapes, plain_element, quote_of, refl, same_blank, same_break, single_quoted_element, single_quoted_value, suc, take, true, value_of, without_last, ℕ, ◌&&◌, ◌++◌, ◌+◌, ◌-◌, ◌==◌, ◌||◌, ◌∷◌, ◌≡◌, nat_tests}
 use Rattle.defs_text.specs.Classes as classes
 use Rattle.defs_text.specs.FlowScalar.{last_line}
 use Rattle.yaml_chars.specs.Class.{is_break, is_blank}
@@ -25,8 +25,7 @@ KindOf single c b (Some s) = Kind single c b s
 
 -- either way of a choice
 kind_if : (single : Bool) (c : ℕ) (b : List ℕ) (x : Bool) (o p : Option Spelled) → (x ≡ true → KindOf single c b o) → (x ≡ false → KindOf single c b p) → KindOf single c b (if x then o else p)
-kind_if single c b true o p f g = f refl
-kind_if single c b false o p f g = g refl
+kind_if single c b a o p f g = grind (arith, nat_tests, eqb-true)
 
 plain_kind : (single : Bool) (c : ℕ) (b : List ℕ) → KindOf single c b (plain_element c b)
 unfolding plain_element
@@ -72,8 +71,7 @@ double_kind c b = kind_if false c b (classes.is_nul c) _ _ (λ e. tt) (λ e. kin
     kind_if false c b (c == 92) _ _ (λ g. let same : c ≡ 92 = eqb-true c 92 g in rw same (escape_kind b)) (λ g. plain_kind false c b)))
 
 pub kind : (single : Bool) (c : ℕ) (b : List ℕ) → KindOf single c b (element_of single c b)
-kind true c b = single_kind c b
-kind false c b = double_kind c b
+kind a c b = grind (arith, nat_tests, eqb-true, single_kind, double_kind)
 
 -- ---- a line from a column on
 

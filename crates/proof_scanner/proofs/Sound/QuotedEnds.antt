@@ -1,5 +1,5 @@
 -- What the scanner checks after a quoted scalar: the line holds no more, or goes on as it may.
-use Rattle.proof_scanner.proofs.Common.{Bool, Err, Fault, Holds, List, No, Ok, Position, Result, ScannerState, SkipTabs, Yes, [], after, and_parts, ap, append_assoc, arith, begins_with, both_hold, chained, check_after_quoted, either, eqb-true, false, goes_on_quoted, has_break, has_no_break, has_no_nul, if◌then◌else◌, in_flow, is_at_line_end, is_blank, is_blanks, is_blanks_and_comment, is_break, is_breakz, is_nul, is_on_line, is_rest_of_line, is_separation, leading, lexed, line_is_done, may_follow_quoted, no_nul_after, not, or_right, peek, position_after, position_past, quoted_may_end, refl, refused, skip_spaces, space, subst, suc, sym, true, went, ℕ, ◌&&◌, ◌++◌, ◌<◌, ◌==◌, ◌||◌, ◌∙◌, ◌∷◌, ◌≡◌, ◌≤◌}
+use Rattle.proof_scanner.proofs.Common.{Bool, Err, Fault, Holds, List, No, Ok, Position, Result, ScannerState, SkipTabs, Yes, [], after, and_parts, ap, append_assoc, arith, begins_with, both_hold, chained, check_after_quoted, either, eqb-true, false, goes_on_quoted, has_break, has_no_break, has_no_nul, if◌then◌else◌, in_flow, is_at_line_end, is_blank, is_blanks, is_blanks_and_comment, is_break, is_breakz, is_nul, is_on_line, is_rest_of_line, is_separation, leading, lexed, line_is_done, may_follow_quoted, no_nul_after, not, or_right, peek, position_after, position_past, quoted_may_end, refl, refused, skip_spaces, space, subst, suc, sym, true, went, ℕ, ◌&&◌, ◌++◌, ◌<◌, ◌==◌, ◌||◌, ◌∙◌, ◌∷◌, ◌≡◌, ◌≤◌, nat_tests}
 use Rattle.yaml_chars.specs.Class as model_classes
 use Rattle.proof_lexers.specs.PlainEnds as plains
 use Rattle.proof_scanner.proofs.Cut.Passes.{Spaced, spaces_skipped}
@@ -18,21 +18,7 @@ pub broken_later : (p : Position) (a next : List ℕ) → ends_in_line a ≡ tru
 unfolding is_break
 broken_later p [] next e h = absurd (cc h)
 broken_later p (c ∷ []) next e h = grind arith
-broken_later p (c ∷ d ∷ a) next e h =
-    by (is_break c) ((c == 13) && (d == 10)) refl refl h (λ k. omega (arith, broken_later (position_past p c (d ∷ (a ++ next))) (d ∷ a) next e k, (not_before_after p (c ∷ []) (d ∷ (a ++ next))).0))
-  where
-    q : Position
-    q = position_past p c (d ∷ (a ++ next))
-
-    feed_breaks : ((c == 13) && (d == 10)) ≡ true → has_break (d ∷ a) ≡ true
-    feed_breaks f = let two : d ≡ 10 = eqb-true d 10 (and_parts (c == 13) (d == 10) f).1 in rw two refl
-
-    by : (b f : Bool) → is_break c ≡ b → ((c == 13) && (d == 10)) ≡ f → not (not b && has_no_break (d ∷ a)) ≡ true → (has_break (d ∷ a) ≡ true → p.line < (position_after q (d ∷ a) next).line) → p.line < (position_after q (d ∷ a) next).line
-    by true true g f h later = later (feed_breaks f)
-    by true false g f h later =
-        let next_line : q.line ≡ suc p.line = rw (g, f) refl in
-        omega (arith, next_line, (not_before_after q (d ∷ a) next).0)
-    by false f g i h later = later h
+broken_later p (c ∷ d ∷ a) next e h = grind (arith, nat_tests, not_before_after, eqb-true, and_parts, broken_later (position_past p c (d ∷ (a ++ next))) (d ∷ a) next e)
 
 -- on the same line there is no break
 pub on_one_line : (p : Position) (a next : List ℕ) → ends_in_line a ≡ true → (position_after p a next).line ≤ p.line → has_break a ≡ false
@@ -65,10 +51,7 @@ blanks_alone false (c ∷ s) next f h e = (refl, by (is_blank c) (is_break c) (c
 -- up to the line's end
 pub leading_line : (s next : List ℕ) → plains.has_break s ≡ false → is_at_line_end next ≡ true → has_no_nul next ≡ true → leading is_on_line (s ++ next) ≡ s
 leading_line [] a h e n = grind arith
-leading_line (c ∷ s) next h e n = by (is_break c) h (λ k. leading_line s next k e n)
-  where
-    by : (k : Bool) → (k || plains.has_break s) ≡ false → (plains.has_break s ≡ false → leading is_on_line (s ++ next) ≡ s) → (if not k then c ∷ leading is_on_line (s ++ next) else []) ≡ c ∷ s
-    by a h b = grind arith
+leading_line (c ∷ s) next h e n = grind (arith, nat_tests, eqb-true, leading_line s next)
 
 -- past blanks
 pub after_blanks : (s next : List ℕ) → is_blanks s ≡ true → after is_blank (s ++ next) ≡ after is_blank next
@@ -77,11 +60,7 @@ after_blanks (c ∷ s) next h = grind (arith, after_blanks s next)
 
 -- a line with nothing but blanks and a comment, which no comment begins
 pub is_done : (s next : List ℕ) → is_separation false s next ≡ true → plains.has_break s ≡ false → is_at_line_end next ≡ true → has_no_nul next ≡ true → begins_with 35 (s ++ next) ≡ false → line_is_done (s ++ next) ≡ true
-is_done s next f h e n g = ap is_rest_of_line (leading_line s next h e n) ∙ rest s f h g
-  where
-    rest : (s : List ℕ) → is_separation false s next ≡ true → plains.has_break s ≡ false → begins_with 35 (s ++ next) ≡ false → is_rest_of_line s ≡ true
-    rest [] f h g = refl
-    rest (c ∷ s) f h g = let all : is_blanks_and_comment (c ∷ s) ≡ true = blanks_and_comment (c ∷ s) next f h in rw g (rw g at all)
+is_done s next f h e n g = grind (arith, nat_tests, eqb-true, leading_line, blanks_and_comment)
 
 -- ---- what is skipped
 

@@ -1,5 +1,5 @@
 -- Quoted scalars: what holds between two fetches holds after them.
-use Rattle.proof_scanner.proofs.Common.{list_all, is_some, AreLevels, Arrives, Bool, Context, Entry, Fault, FlowLevel, HasNoTabs, Held, Holds, Indent, IsAdjacent, IsPiece, IsQuotedRead, IsReadOn, Key, List, None, Ok, Option, Position, Quotes, Result, ScannerState, Site, Some, Stands, Tok, [], act_of, adjacent_here, after_separation, allow_key, and_parts, ap, append_assoc, append_cancel_right, are_single, arith, awaits_past, before_by, before_past, begins_free_line, begins_line, begins_with, begun_by, between, both_hold, chained, check_after_quoted, columns, context, element_of, ends_before, false, fetch_flow_scalar, further_lines_stand, gives_node, go_on, has_break, has_no_nul, has_open_level, has_tab_within, in_flow, inl, inr, is_at_comment_or_end, is_break, is_empty, is_indented_by_spaces, is_nul, is_separation, last_line, least_column, least_for, lexed, may_precede, nat_le, no_nul_after, not, not-true, on_held, position_after, position_append, previous_by, push, quote_of, quoted, quoted_lines_fit, quoted_may_end, quoted_scalar, quoted_style, read, read_as, refl, seen, shown_position, skip_to_next_token, subst, sym, true, unled, value_of, weakened, went, ℕ, ◌&&◌, ◌++◌, ◌-◌, ◌>>=◌, ◌||◌, ◌∙◌, ◌∷◌, ◌≡◌, ◌≤◌}
+use Rattle.proof_scanner.proofs.Common.{list_all, is_some, AreLevels, Arrives, Bool, Context, Entry, Fault, FlowLevel, HasNoTabs, Held, Holds, Indent, IsAdjacent, IsPiece, IsQuotedRead, IsReadOn, Key, List, None, Ok, Option, Position, Quotes, Result, ScannerState, Site, Some, Stands, Tok, [], act_of, adjacent_here, after_separation, allow_key, and_parts, ap, append_assoc, append_cancel_right, are_single, arith, awaits_past, before_by, before_past, begins_free_line, begins_line, begins_with, begun_by, between, both_hold, chained, check_after_quoted, columns, context, element_of, ends_before, false, fetch_flow_scalar, further_lines_stand, gives_node, go_on, has_break, has_no_nul, has_open_level, has_tab_within, in_flow, inl, inr, is_at_comment_or_end, is_break, is_empty, is_indented_by_spaces, is_nul, is_separation, last_line, least_column, least_for, lexed, may_precede, nat_le, no_nul_after, not, not-true, on_held, position_after, position_append, previous_by, push, quote_of, quoted, quoted_lines_fit, quoted_may_end, quoted_scalar, quoted_style, read, read_as, refl, seen, shown_position, skip_to_next_token, subst, sym, true, unled, value_of, weakened, went, ℕ, ◌&&◌, ◌++◌, ◌-◌, ◌>>=◌, ◌||◌, ◌∙◌, ◌∷◌, ◌≡◌, ◌≤◌, eqb-true, nat_tests}
 use Rattle.defs_token.specs.Account.{Account as PieceAccount}
 use Rattle.model_scanner.specs.Machine as machine
 use Rattle.proof_lexers.specs.PlainEnds as plains
@@ -166,11 +166,7 @@ module _ (text : List ℕ) (quotes : Quotes) (t : ScannerState) (a : Arrives tex
       cut = c.spaces.is_rest ∙ (sym (append_assoc c.spaces.blanks c.spaces.comment v.rest) ∙ (ap (λ r. spaces ++ r) b.cut ∙ sym (append_assoc spaces b.separation w.rest)))
 
       held_is : w.held ≡ record closed.held { position = end; leading = b.is_leading; key_allowed = allowed_then }
-      held_is =
-          ap (λ s. s.held) b.is_state ∙
-          (ap (λ h. (after_separation h b.is_leading b.separation w.rest).held) c.spaces.is_held ∙
-          ap (λ p. record closed.held { position = p; leading = b.is_leading; key_allowed = allowed_then })
-          (ap (λ r. position_after (position_after x.position spaces r) b.separation w.rest) b.cut ∙ sym (position_append x.position spaces b.separation w.rest)))
+      held_is = grind (arith, nat_tests, eqb-true, position_append)
 
       is_filled : is_separation false gap w.rest ≡ true
       is_filled = separation_append false spaces b.separation w.rest (subst (λ r. is_separation false spaces r ≡ true) b.cut c.spaces.is_filled) b.is_filled
@@ -229,43 +225,10 @@ module _ (text : List ℕ) (quotes : Quotes) (t : ScannerState) (a : Arrives tex
         awaits_then = k.awaits fl at.blocks at.awaits (next_of d)
 
         no_tabs : HasNoTabs (site_then t fs r.site d) gap w.rest
-        no_tabs = by (is_empty w.rest) refl
-          where
-            by : (y : Bool) → is_empty w.rest ≡ y → HasNoTabs (site_then t fs r.site d) gap w.rest
-            by true e = inl (empty_end w.rest e)
-            by false e =
-                inr (subst (λ y. is_indented_by_spaces y at.blocks (awaits_past fl tok at.blocks at.awaits (next_of d)) gap ≡ true) (sym k.before)
-                (spaced_by least at.blocks (awaits_past fl tok at.blocks at.awaits (next_of d)) gap (ap (λ y. least_column at.blocks y) awaits_then ∙ least_here) (at_token e).spaced))
+        no_tabs = grind (arith, nat_tests, eqb-true, empty_end, k, spaced_by, awaits_then, least_here, at_token)
 
         is_read : IsRead t None fs r.site r.line es r.separation d
-        is_read = record {
-          reads = record {
-            is_solid = refl;
-            cut = q.cut ∙ ap (λ y. piece ++ y) cut;
-            is_rest = refl;
-            is_filled = is_filled;
-            position_is = end_is;
-            blocks_are = r.blocks_are;
-            awaits_is = awaits_then ∙ r.awaits_is;
-            are_levels = a.are_levels;
-            has_no_tabs = no_tabs;
-            is_leading = λ some more hash. subst (λ y. b.is_leading ≡ begins_line y gap) (sym k.before) (leads (some_levels t.held.indent t.held.indents (ap is_empty (sym r.blocks_are) ∙ some)) more);
-            read_on = subst (λ y. IsReadOn y (site_then t fs r.site d).position gap w.rest) (sym k.before) tt;
-            was_adjacent = λ inside. subst (λ y. IsAdjacent (before_past (before_by y) gap) end end.index w.rest) (sym k.before) (adjacent_quoted end w.rest gap b.solid);
-            adjacent_before = omega arith;
-            unchanged = (refl, refl);
-          };
-          act = k.act;
-          begun = k.begun;
-          is_begun = tt;
-          shown = λ s. k.shown s piece (next_of d);
-          is_piece = piece_is (seen (with_entries r.site r.line es) at r.separation) quotes q.body (next_of d) x.value q.value_is (subst (λ y. ends_before (are_single quotes) y ≡ true) cut q.ends);
-          is_deep = deep_for fl tok at (k.least at) (ap (λ y. nat_le y t.held.position.col) least_here ∙ deep_enough t.held.position.col t.held.indent t.held.indents a.are_levels deep);
-          lines_stand = k.lines (least_for tok at) piece ∙ (ap (λ y. quoted_lines_fit y (element_of (are_single quotes)) piece) (k.least at ∙ (least_here ∙ least_is_less t.held.indent t.held.indents a.are_levels)) ∙ q.fits);
-          precedes = k.precedes fl at.blocks piece (next_of d) ∙ (ap (λ y. quoted_may_end y piece (next_of d)) (sym flow_is) ∙ (ap (λ y. quoted_may_end (in_flow t.held) piece y) (sym cut) ∙ c.may_end));
-          allowed_is = ap (λ f. (not f && plains.has_break b.separation) || false) flow_is ∙ (allowed_by fl ∙ ap (λ y. allowed_past None fl y gap) (sym k.before));
-          one_line = λ some h. ((one_line_of some h).0, subst (λ y. begins_free_line y gap ≡ false) (sym k.before) (one_line_of some h).1);
-        }
+        is_read = grind (arith, nat_tests, eqb-true, cut, is_filled, end_is, awaits_then, no_tabs, k, leads, some_levels, adjacent_quoted, piece_is, deep_for, least_here, deep_enough, least_is_less, flow_is, allowed_by, one_line_of)
 
       node : ReadNode text t (on_held (λ s. push t.held.position tok (adjacent_here s)) w)
       node = record {

@@ -1,5 +1,5 @@
 -- A part of a node was read where a piece begins, be it an opening bracket or no collection: what holds between two fetches holds after it.
-use Rattle.proof_scanner.proofs.Common.{Account, AreEntries, Arrives, Bool, Entry, FlowLevel, Had, HasHad, HasHadHere, Indent, IsCarriedOn, IsLine, IsLive, IsNear, IsOpenOutside, IsPairOf, IsPiece, Key, KnowsKey, Line, List, MayChoose, None, NotBefore, Option, Outside, Position, Previous, ScannerState, Site, SoFar, Some, Stands, Step, Tok, Token, [], act_of, ap, arith, begins_free_line, begun_by, chosen, ends_at, entries_by, entry_by, false, first_choice, first_entry, further_lines_stand, gives_node, has_break, inl, inr, is_deep_enough, is_empty, is_in_column, is_renewed, is_separation, least_column, least_for, length, line_by, line_past, may_precede, may_stand, nat_le, no_pair, not, outside_key, pop, position_after, previous_by, put, refl, seen, shown_position, site_at, site_here, site_in, site_past, spelled, subst, sym, taken, tokens_of_step, tokens_up_to, true, with_keys, ℕ, ◌&&◌, ◌++◌, ◌∙◌, ◌∷◌, ◌≡◌, ◌≤◌, ◌⊎◌}
+use Rattle.proof_scanner.proofs.Common.{Account, AreEntries, Arrives, Bool, Entry, FlowLevel, Had, HasHad, HasHadHere, Indent, IsCarriedOn, IsLine, IsLive, IsNear, IsOpenOutside, IsPairOf, IsPiece, Key, KnowsKey, Line, List, MayChoose, None, NotBefore, Option, Outside, Position, Previous, ScannerState, Site, SoFar, Some, Stands, Step, Tok, Token, [], act_of, ap, arith, begins_free_line, begun_by, chosen, ends_at, entries_by, entry_by, false, first_choice, first_entry, further_lines_stand, gives_node, has_break, inl, inr, is_deep_enough, is_empty, is_in_column, is_renewed, is_separation, least_column, least_for, length, line_by, line_past, may_precede, may_stand, nat_le, no_pair, not, outside_key, pop, position_after, previous_by, put, refl, seen, shown_position, site_at, site_here, site_in, site_past, spelled, subst, sym, taken, tokens_of_step, tokens_up_to, true, with_keys, ℕ, ◌&&◌, ◌++◌, ◌∙◌, ◌∷◌, ◌≡◌, ◌≤◌, ◌⊎◌, eqb-true, nat_tests}
 use Rattle.proof_scanner.proofs.Cut.Saved.{saved_keys}
 use Rattle.proof_scanner.proofs.Cut.Nodes.{IsDeep}
 use Rattle.proof_scanner.proofs.Known.Read.{knows_saved}
@@ -102,9 +102,7 @@ module _ (text : List ℕ) (t : ScannerState) (level : Option FlowLevel) (fs : L
   some_here = some_rest t.rest d.piece (next_of d) r.reads.cut r.reads.is_solid
 
   before_end : NotBefore t.held.position d.end
-  before_end = subst (λ x. NotBefore t.held.position x) (sym r.reads.position_is)
-      (not_before_then t.held.position (position_after t.held.position d.piece (next_of d)) (position_after (position_after t.held.position d.piece (next_of d)) d.gap d.rest)
-      (not_before_after t.held.position d.piece (next_of d)) (not_before_after (position_after t.held.position d.piece (next_of d)) d.gap d.rest))
+  before_end = grind (arith, nat_tests, eqb-true, not_before_then, not_before_after)
 
   stands_here : may_stand (not (is_empty fs)) a.site (site_of t fs a.site) a.separation d.piece d.tok (next_of d) ≡ true
   stands_here = rw (a.is_indented some_here, r.is_deep, r.lines_stand, r.precedes) refl

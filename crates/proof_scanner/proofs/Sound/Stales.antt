@@ -1,5 +1,5 @@
 -- Keys that are too far back are dropped: what holds between two fetches still holds, without them.
-use Rattle.proof_scanner.proofs.Common.{Account, AreEntries, At, Bool, Entry, Err, Fares, Fault, FlowLevel, Held, Holds, IsAtEnd, IsCarriedOn, IsCutUpTo, IsLine, IsNear, IsOpenOutside, IsRead, Key, KnowsKey, List, MayChoose, None, Ok, Option, Position, Result, ScannerState, SoFar, Some, Stands, Step, Token, [], ap, arith, begins_free_line, chosen, drop_stale, either, false, have_no_key, if◌then◌else◌, in_flow, inl, inr, is_empty, is_far, is_overdue, is_renewed, is_waiting, length, list_any, map, not, not-false, outside_key, over, refl, refused, stale, still, subst, suc, sym, tokens_from, tokens_up_to, tried, true, try_held, went, ℕ, ◌&&◌, ◌++◌, ◌+◌, ◌||◌, ◌∙◌, ◌∷◌, ◌≡◌, ◌≤◌, ◌⊎◌}
+use Rattle.proof_scanner.proofs.Common.{Account, AreEntries, At, Bool, Entry, Err, Fares, Fault, FlowLevel, Held, Holds, IsAtEnd, IsCarriedOn, IsCutUpTo, IsLine, IsNear, IsOpenOutside, IsRead, Key, KnowsKey, List, MayChoose, None, Ok, Option, Position, Result, ScannerState, SoFar, Some, Stands, Step, Token, [], ap, arith, begins_free_line, chosen, drop_stale, either, false, have_no_key, if◌then◌else◌, in_flow, inl, inr, is_empty, is_far, is_overdue, is_renewed, is_waiting, length, list_any, map, not, not-false, outside_key, over, refl, refused, stale, still, subst, suc, sym, tokens_from, tokens_up_to, tried, true, try_held, went, ℕ, ◌&&◌, ◌++◌, ◌+◌, ◌||◌, ◌∙◌, ◌∷◌, ◌≡◌, ◌≤◌, ◌⊎◌, eqb-true, nat_tests}
 use Rattle.yaml_tokens.specs.declared.problem.Problem.TheVariants as problem
 use Rattle.model_scanner.specs.Keys.{with_keys}
 use Rattle.proof_scanner.proofs.Known.Steps.{known_far}
@@ -29,9 +29,7 @@ one_key (k ∷ x ∷ ks) (f ∷ fs) n o = absurd (cc o)
 -- where no open key is one, the tokens are those that the scanner holds
 pub none_completes : (strict : Bool) (text after : List ℕ) (a : Account) (ks : List (Option Key)) (ts : List Token) → is_waiting a.line ≡ false → have_no_key a.entries ≡ true →
     SoFar strict text after (chosen false [] ks a) (tokens_up_to (chosen false [] ks a) ks ts) → SoFar strict text after a (λ ws last. ts)
-none_completes strict text after a ks ts no_key none h =
-    completes_alike strict text after a (tokens_up_to a ks ts) (λ ws last. ts) (λ ws last. none_put 0 a.site.position ws last a.site.blocks a.line a.entries ks ts no_key none)
-    (subst (λ x. SoFar strict text after x (tokens_up_to x ks ts)) (none_chosen ks a) h)
+none_completes strict text after a ks ts no_key none h = grind (arith, nat_tests, eqb-true, completes_alike, none_put, none_chosen)
 
 -- The open key outside flow is dropped, if it need not be one.
 pub key_dropped : (text : List ℕ) (u : ScannerState) → (s : Stands text u) → is_empty u.held.flow ≡ true → (k : Key) → u.held.keys ≡ Some k ∷ [] → is_far k.position u.held.position ≡ true → k.required ≡ false → Stands text (record u { held = record u.held { keys = None ∷ [] } })
@@ -90,28 +88,7 @@ not_far k p h = grind arith
 
 outside_now : (text : List ℕ) (u : ScannerState) (s : Stands text u) → is_empty u.held.flow ≡ true → (k : Option Key) → u.held.keys ≡ k ∷ [] → list_any (is_overdue u.held.position) (k ∷ []) ≡ false →
     Nearer text u (record u.held { keys = map (still u.held.position) (k ∷ []) })
-outside_now text u s out None only h = record {
-  stands = subst (λ ks. Stands text (record u { held = record u.held { keys = ks } })) only s;
-  same = refl;
-  near = λ _. (None, refl, tt);
-}
-outside_now text u s out (Some k) only h = by (is_far k.position u.held.position) refl (first (is_far k.position u.held.position && k.required) h)
-  where
-    first : (b : Bool) → (b || false) ≡ false → b ≡ false
-    first true e = absurd (cc e)
-    first false e = refl
-
-    by : (b : Bool) → is_far k.position u.held.position ≡ b → (b && k.required) ≡ false → Nearer text u (record u.held { keys = (if b then None else Some k) ∷ [] })
-    by true e f = record {
-      stands = key_dropped text u s out k only e f;
-      same = refl;
-      near = λ _. (None, refl, tt);
-    }
-    by false e f = record {
-      stands = subst (λ ks. Stands text (record u { held = record u.held { keys = ks } })) only s;
-      same = refl;
-      near = λ _. (Some k, refl, not_far k.position u.held.position e);
-    }
+outside_now text u s out a only h = grind (arith, nat_tests, eqb-true, key_dropped, not_far)
 
 pub stale_stands : (text : List ℕ) (u : ScannerState) → Stands text u → Holds (Nearer text u) (stale u.held)
 unfolding stale drop_stale

@@ -1,7 +1,7 @@
 -- Where a text ends: no open key is one, and the stream's end and those of the block collections stand where the row has them.
 use Rattle.yaml_tokens.specs.declared.problem.Problem.TheVariants as problem
 use Rattle.std.proofs.lemmas.List.{append-nil}
-use Rattle.proof_scanner.proofs.Common.{Account, AreAround, AreCollections, AreEntries, AreLevels, Arrives, At, Bool, Completes, Entry, FlowLevel, Had, HasHad, Held, Holds, Indent, IsRead, IsTopLevel, Key, Levels, Line, List, MayChoose, Option, Position, ScannerState, Site, Step, Token, [], ap, append_assoc, arith, block_end, blocks, checked, chosen, cleared, colon_of, columns, ended_at, ends_at, ends_here, ends_with_stream, entries_by, entry_by, false, fetch_stream_end, has_required, have_no_key, if◌then◌else◌, in_flow, is_empty, is_keyed, is_renewed, is_required, is_separation, is_waiting, length, level_of, line_by, map, may_end, nat_lt, nat_tests, next_line, not, not-true, not_ended, outside_key, pop, position_after, put, refl, replicate, site_here, stream_end, stream_position, subst, suc, sym, takes_pair, tokens_at_end, tokens_up_to, top_key, tried, true, unroll_indent, unrolled, went, with_keys, ℕ, ◌&&◌, ◌++◌, ◌-◌, ◌<◌, ◌||◌, ◌∙◌, ◌∷◌, ◌≡◌, ◌≤◌}
+use Rattle.proof_scanner.proofs.Common.{Account, AreAround, AreCollections, AreEntries, AreLevels, Arrives, At, Bool, Completes, Entry, FlowLevel, Had, HasHad, Held, Holds, Indent, IsRead, IsTopLevel, Key, Levels, Line, List, MayChoose, Option, Position, ScannerState, Site, Step, Token, [], ap, append_assoc, arith, block_end, blocks, checked, chosen, cleared, colon_of, columns, ended_at, ends_at, ends_here, ends_with_stream, entries_by, entry_by, false, fetch_stream_end, has_required, have_no_key, if◌then◌else◌, in_flow, is_empty, is_keyed, is_renewed, is_required, is_separation, is_waiting, length, level_of, line_by, map, may_end, nat_lt, nat_tests, next_line, not, not-true, not_ended, outside_key, pop, position_after, put, refl, replicate, site_here, stream_end, stream_position, subst, suc, sym, takes_pair, tokens_at_end, tokens_up_to, top_key, tried, true, unroll_indent, unrolled, went, with_keys, ℕ, ◌&&◌, ◌++◌, ◌-◌, ◌<◌, ◌||◌, ◌∙◌, ◌∷◌, ◌≡◌, ◌≤◌, eqb-true}
 use Rattle.proof_scanner.proofs.Cut.Documents.{unroll_keeps}
 use Rattle.proof_scanner.proofs.Sound.Completed.{completed_at_end}
 use Rattle.proof_scanner.proofs.Sound.NodeTokens.{no_had, not_keyed}
@@ -35,9 +35,7 @@ none_outside a l = grind arith
 
 -- with no choice for a key, the account is the one in which no open key is one
 pub none_chosen : (ks : List (Option Key)) (a : Account) → chosen false [] ks a ≡ a
-none_chosen ks a =
-    ap (λ l. record { site = a.site; line = l; entries = entries_by [] ks a.entries }) (none_outside (outside_key a.entries ks) a.line) ∙
-    ap (λ es. record { site = a.site; line = a.line; entries = es }) (none_inside ks a.entries)
+none_chosen ks a = grind (arith, nat_tests, eqb-true, none_outside, none_inside)
 
 not_both : (b c : Bool) → (not b && c) ≡ true → (b ≡ false) × (c ≡ true)
 not_both a c h = grind arith
@@ -45,10 +43,8 @@ not_both a c h = grind arith
 -- where no key waits, the tokens are those that the scanner holds
 pub none_put : (d : ℕ) (p : Position) (ws : List Step) (last bs : List ℕ) (l : Line) (es : List Entry) (ks : List (Option Key)) (ts : List Token) → is_waiting l ≡ false → have_no_key es ≡ true → with_keys d p ws last bs l es ks ts ≡ ts
 none_put d p ws last bs l es [] ts h n = refl
-none_put d p ws last bs l [] (k ∷ ks) ts h n = no_line (colon_of d p ws last) bs l k ts h
-none_put d p ws last bs l (e ∷ es) (k ∷ ks) ts h n =
-    let q = not_both (is_keyed e.had) (have_no_key es) n in
-    ap (λ x. with_keys (suc d) p ws last bs l es ks x) (no_had (colon_of d p ws last) (takes_pair e.kind e.pair) e.had k ts q.0) ∙ none_put (suc d) p ws last bs l es ks ts h q.1
+none_put d p ws last bs l [] (k ∷ ks) ts h n = grind (arith, nat_tests, eqb-true, no_line)
+none_put d p ws last bs l (e ∷ es) (k ∷ ks) ts h n = grind (arith, nat_tests, eqb-true, not_both, no_had, none_put (suc d) p ws last bs l es ks ts h)
 
 -- ---- positions
 
@@ -82,12 +78,7 @@ all_collections p i (d ∷ ds) ts a = rw (positive d.indent i a.1, a.0) (all_col
 -- all levels end at the stream's end, each collection with its token
 pub all_levels : (p : Position) (i : ℕ) (ds : List Indent) (ts : List Token) → AreLevels i ds → unrolled 0 p i ds ts ≡ none_left p i ds ts
 unfolding unrolled
-all_levels p i [] ts a = all_collections p i [] ts a
-all_levels p i (d ∷ ds) ts a = by d.needs_block_end a.0
-  where
-    by : (b : Bool) → IsTopLevel b i d.indent ds → unrolled 0 p i (record { indent = d.indent; needs_block_end = b } ∷ ds) ts ≡ none_left p i (record { indent = d.indent; needs_block_end = b } ∷ ds) ts
-    by true h = rw (positive d.indent i h) (all_collections p d.indent ds (ts ++ put p block_end ∷ []) a.1 ∙ ended_more p d.indent ds ts)
-    by false h = rw (positive d.indent i (omega (arith, h.0))) (all_collections p d.indent ds ts a.1)
+all_levels p i b ts a = grind (arith, nat_tests, eqb-true, all_collections, positive, ended_more)
 
 -- whether no collection is deeper than a column
 abbrev pub NoneDeeper : (column : ℕ) → List ℕ → Type 0
@@ -161,11 +152,8 @@ ends_by_levels end bs i ds a e =
 -- a key outside flow need not be one, if none must be
 outside_free : (es : List Entry) (ks : List (Option Key)) (p : Position) (rest : List ℕ) → has_required ks ≡ false → MayChoose true false (outside_key es ks) p rest
 outside_free [] ks p rest h = grind arith
-outside_free (e ∷ es) [] p rest h = outside_free es [] p rest h
-outside_free (e ∷ es) (k ∷ ks) p rest h = outside_free es ks p rest (by (is_required k) h)
-  where
-    by : (b : Bool) → (b || has_required ks) ≡ false → has_required ks ≡ false
-    by a e = grind arith
+outside_free (e ∷ es) [] p rest h = grind (arith, nat_tests, eqb-true, outside_free es [] p rest h)
+outside_free (e ∷ es) (k ∷ ks) p rest h = grind (arith, nat_tests, eqb-true, outside_free es ks p rest)
 
 -- the text is read as the tokens before the separation and those at its end
 at_end : (text : List ℕ) (t : ScannerState) (a : Arrives text t) → t.rest ≡ [] → has_required t.held.keys ≡ false → IsRead text (a.tokens ++ tokens_at_end t.held.position a.base.site.blocks a.base.entries)
@@ -203,28 +191,10 @@ same_flow allowed again a ks es b = grind arith
 -- Its tokens with the stream's end are those of the row.
 outside_flow : (h : Held) (ts : List Token) (bs : List ℕ) → in_flow h ≡ false → AreLevels h.indent h.indents → h.tokens ≡ ts ++ ends_at h.position bs (not_ended h.position.col bs) → not_ended h.position.col bs ≡ columns h.indent h.indents →
     (ended_at (unroll_indent 0 (at_stream_end h))).tokens ≡ ts ++ tokens_at_end h.position bs []
-outside_flow h ts bs out levels tokens blocks =
-    let s : Held = at_stream_end h in
-    let u = unrolled_outside s out levels in
-    let p : Position = next_line h.position in
-    let q : Position = stream_position h.position in
-    let here : List Token = ends_at h.position bs (not_ended h.position.col bs) in
-    let more : List Token = ends_of (length (columns h.indent h.indents)) q in
-    let ended : List Token = put q stream_end ∷ [] in
-    let all : List Token → Position → List Token = λ x y. x ++ put y stream_end ∷ [] in
-    ap (λ x. all x (unroll_indent 0 s).position) u.0 ∙
-    (ap (λ y. all (h.tokens ++ ends_of (length (columns h.indent h.indents)) p) y) u.1 ∙
-    (ap (λ y. all (h.tokens ++ ends_of (length (columns h.indent h.indents)) y) y) (same_line_start h.position) ∙
-    (ap (λ x. all (x ++ more) q) tokens ∙
-    (ap (λ x. x ++ ended) (append_assoc ts here more) ∙
-    (append_assoc ts (here ++ more) ended ∙
-    ap (λ x. ts ++ (x ++ ended)) (sym (ends_by_levels h.position bs h.indent h.indents levels blocks)))))))
+outside_flow h ts bs out levels tokens a = grind (arith, nat_tests, eqb-true, unrolled_outside, same_line_start, append_assoc, ends_by_levels)
 
 in_flow_too : (h : Held) (ts : List Token) (bs : List ℕ) (e : Entry) (es : List Entry) → in_flow h ≡ true → h.tokens ≡ ts → (ended_at (unroll_indent 0 (at_stream_end h))).tokens ≡ ts ++ tokens_at_end h.position bs (e ∷ es)
-in_flow_too h ts bs e es within tokens =
-    let s : Held = at_stream_end h in
-    ap (λ x. x.tokens ++ put x.position stream_end ∷ []) (unrolled_in_flow 0 s (not-true (is_empty s.flow) within)) ∙
-    (ap (λ y. h.tokens ++ put y stream_end ∷ []) (same_line_start h.position) ∙ ap (λ x. x ++ put (stream_position h.position) stream_end ∷ []) tokens)
+in_flow_too h ts bs e es within tokens = grind (arith, nat_tests, eqb-true, unrolled_in_flow, not-true, same_line_start)
 
 last_tokens : (h : Held) (ts : List Token) (x : Site) (es : List Entry) → is_empty h.flow ≡ is_empty es → AreLevels h.indent h.indents → h.tokens ≡ ts ++ ends_here (not (is_empty h.flow)) h.position x.blocks →
     (site_here (not (is_empty h.flow)) h.position x).blocks ≡ columns h.indent h.indents → (ended_at (unroll_indent 0 (at_stream_end h))).tokens ≡ ts ++ tokens_at_end h.position x.blocks es

@@ -18,12 +18,7 @@ use Rattle.proof_scanner.proofs.Sound.Sides.{stands_by}
 
 -- where a line begins, the column is the length of the last line so far
 col_here : (b : Previous) (q : Position) (g a : List ℕ) → at_break a ≡ false → is_empty a ≡ false → IsReadOn b q g a → begins_line b g ≡ true → (position_after q g a).col ≡ length (last_line g)
-col_here block_scalar q g a e some r h = column_after q g a e ∙ by (has_break g) refl
-  where
-    by : (x : Bool) → has_break g ≡ x → (if x then length (last_line g) else q.col + length g) ≡ length (last_line g)
-    by true k = refl
-    by false k = let z : q.col ≡ 0 = r some in let w : length (last_line g) ≡ length g = ap length (last_whole g k) in omega (arith, z, w)
-col_here _ q g a e some r h = column_after q g a e ∙ ap (λ x. if x then length (last_line g) else q.col + length g) h
+col_here b q g a e some r h = grind (arith, nat_tests, eqb-true, column_after, last_whole)
 
 spaced_by : (b f : Bool) (n m : ℕ) (l : List ℕ) → b ≡ true → (not b || not (has_tab_within n l)) ≡ true → n ≡ m → has_tab_within m l ≡ false
 spaced_by b f n m l e h k = grind arith
@@ -42,13 +37,7 @@ in_midst b n h = grind arith
 -- What is known of the line where the way begins.
 at_start : (text : List ℕ) (t : ScannerState) (s : Stands text t) → begins_separation t.rest ≡ true → is_at_comment_or_end t.rest ≡ false → is_indented_by_spaces s.base.site.before s.base.site.blocks s.base.site.awaits s.separation ≡ true →
     IsAt s.base.site.before (least_column s.base.site.blocks s.base.site.awaits) s.separation t.held
-at_start text t s begins midst indented =
-    let m = in_midst t.rest s.is_clean midst in
-    record {
-      leading_is = λ i. s.is_leading (ap is_empty s.blocks_are ∙ some_columns t.held.indent t.held.indents s.are_levels i) m.1 (no_comment_in_last s.separation t.rest s.is_filled m.2);
-      col_is = λ b. ap (λ p. p.col) s.position_is ∙ col_here s.base.site.before s.base.site.position s.separation t.rest m.0 m.1 s.read_on b;
-      spaced = spaced_here s.base.site.before s.base.site.blocks s.base.site.awaits s.base.site.position s.separation t.rest indented begins midst s.read_on;
-    }
+at_start text t s begins midst indented = grind (arith, nat_tests, eqb-true, in_midst, some_columns, no_comment_in_last, col_here, spaced_here)
 
 pub is_in : (text : List ℕ) (t : ScannerState) (s : Stands text t) → begins_separation t.rest ≡ true → IsIn s.base.site.before (least_column s.base.site.blocks s.base.site.awaits) between s.separation t.held t.rest
 is_in text t s begins = by (is_at_comment_or_end t.rest) refl s.has_no_tabs
@@ -123,10 +112,7 @@ module _ (text : List ℕ) (t u : ScannerState) (s : Stands text t) (begins : be
 
   -- and then no break was passed
   none_broken : (x : Key) → outside_key s.base.entries t.held.keys ≡ Some x → IsLive x (position_after t.held.position e.separation u.rest) u.rest → plain_ends.has_break e.separation ≡ false
-  none_broken x k l =
-      let first : x.position.line ≤ s.base.site.position.line = key_line (outside_key s.base.entries t.held.keys) s.base.site.position t.held.position t.rest s.base.site.blocks x s.is_open k in
-      let later : s.base.site.position.line ≤ t.held.position.line = subst (λ p. s.base.site.position.line ≤ p.line) (sym s.position_is) (not_before_after s.base.site.position s.separation t.rest).0 in
-      same_has_break e.separation ∙ unbroken t.held.position e.separation u.rest l.1 e.solid (omega (arith, first, later, l.0))
+  none_broken x k l = grind (arith, nat_tests, eqb-true, key_line, not_before_after, same_has_break, unbroken)
 
   levels : is_empty s.base.site.blocks ≡ false → is_empty u.held.indents ≡ false
   levels h = grind arith

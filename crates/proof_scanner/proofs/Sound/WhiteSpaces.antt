@@ -24,12 +24,8 @@ past_white false (c ∷ r) = (if goes_over c then past_white (c == 35) r else c 
 
 pub white_cut : (in_comment : Bool) (a : List ℕ) → a ≡ white_of in_comment a ++ past_white in_comment a
 white_cut b [] = refl
-white_cut true (c ∷ r) = ap (λ x. c ∷ x) (white_cut (not (is_break c)) r)
-white_cut false (c ∷ r) = by (goes_over c) (white_cut (c == 35) r)
-  where
-    by : (b : Bool) → r ≡ white_of (c == 35) r ++ past_white (c == 35) r → c ∷ r ≡ (if b then c ∷ white_of (c == 35) r else []) ++ (if b then past_white (c == 35) r else c ∷ r)
-    by true e = ap (λ x. c ∷ x) e
-    by false e = refl
+white_cut true (c ∷ r) = grind (arith, nat_tests, eqb-true, white_cut (not (is_break c)) r)
+white_cut false (c ∷ r) = grind (arith, nat_tests, eqb-true, white_cut (c == 35) r)
 
 goes_over_none : (c : ℕ) → c ≡ 9 → goes_over c ≡ false
 unfolding is_break
@@ -55,29 +51,8 @@ none_first c s e h = grind (arith, nat_tests, last_first, has_break, eqb-true)
 pub no_tab_in_last : (in_comment : Bool) (a : List ℕ) → (past_white in_comment a ≡ []) ⊎ (is_one_of (last_line (white_of in_comment a)) 9 ≡ false)
 unfolding is_break
 no_tab_in_last b [] = inr refl
-no_tab_in_last true (c ∷ r) = by (is_break c) refl (no_tab_in_last (not (is_break c)) r)
-  where
-    Fits : Bool → Type 0
-    Fits b = (past_white (not b) r ≡ []) ⊎ (is_one_of (last_line (white_of (not b) r)) 9 ≡ false)
-
-    commented : (x : Bool) → has_no_break (white_of true r) ≡ x → Fits false → (past_white true r ≡ []) ⊎ (is_one_of (if not x then last_line (white_of true r) else c ∷ last_line (white_of true r)) 9 ≡ false)
-    commented true e h = inl (in_comment_ends r e)
-    commented false e h = h
-
-    by : (b : Bool) → is_break c ≡ b → Fits b → (past_white (not b) r ≡ []) ⊎ (is_one_of (last_line (c ∷ white_of (not b) r)) 9 ≡ false)
-    by a e h = grind (arith, nat_tests, last_first, white_of, has_break, commented, eqb-true)
-no_tab_in_last false (c ∷ r) = by (goes_over c) refl (no_tab_in_last (c == 35) r)
-  where
-    no_tab : (d : ℕ) → goes_over d ≡ true → (9 == d) ≡ false
-    no_tab d h = of (9 == d) refl
-      where
-        of : (b : Bool) → (9 == d) ≡ b → b ≡ false
-        of true e = let same : 9 ≡ d = eqb-true 9 d e in absurd (cc (subst (λ x. goes_over x ≡ true) (sym same) h))
-        of false e = refl
-
-    by : (b : Bool) → goes_over c ≡ b → (past_white (c == 35) r ≡ []) ⊎ (is_one_of (last_line (white_of (c == 35) r)) 9 ≡ false) →
-        ((if b then past_white (c == 35) r else c ∷ r) ≡ []) ⊎ (is_one_of (last_line (if b then c ∷ white_of (c == 35) r else [])) 9 ≡ false)
-    by a e h = grind (arith, nat_tests, none_first, white_of, no_tab, eqb-true)
+no_tab_in_last true (c ∷ r) = grind (arith, in_comment_ends, last_first, eqb-true, no_tab_in_last (not (is_break c)) r)
+no_tab_in_last false (c ∷ r) = grind (arith, eqb-true, none_first, no_tab_in_last (c == 35) r)
 
 -- ---- what the model reads
 
@@ -179,11 +154,8 @@ white_exactly t = weakened exactly (both_hold (white_passed t) (white_read false
 pub no_tab_in : (in_comment : Bool) (a : List ℕ) → has_tab_before_piece in_comment (white_of in_comment a) ≡ false
 unfolding is_break
 no_tab_in b [] = refl
-no_tab_in true (c ∷ r) = no_tab_in (not (is_break c)) r
-no_tab_in false (c ∷ r) = by (goes_over c) (c == 9) refl refl (no_tab_in (c == 35) r)
-  where
-    by : (b x : Bool) → goes_over c ≡ b → (c == 9) ≡ x → has_tab_before_piece (c == 35) (white_of (c == 35) r) ≡ false → has_tab_before_piece false (if b then c ∷ white_of (c == 35) r else []) ≡ false
-    by a x e f h = grind (arith, nat_tests, goes_over_none, and_false, goes_over, eqb-true)
+no_tab_in true (c ∷ r) = grind (arith, nat_tests, eqb-true, no_tab_in (not (is_break c)) r)
+no_tab_in false (c ∷ r) = grind (arith, nat_tests, goes_over_none, and_false, eqb-true, no_tab_in (c == 35) r)
 
 -- Neither a space nor a break stands there, and that is refused.
 pub record IsMissed (more : List ℕ) (s : Held) : Type 0 where
@@ -194,16 +166,7 @@ pub record IsMissed (more : List ℕ) (s : Held) : Type 0 where
 -- one of them stands after a `?` that is at a gap, or it is refused
 pub white_or_missed : (more : List ℕ) (s : Held) → is_at_gap more ≡ true → (begins_with_space_or_break more ≡ true) ⊎ IsMissed more s
 unfolding white is_blank_or_end is_blank is_break is_nul
-white_or_missed [] s gap = inr (record { is_refused = refl; no_space = refl; ends = refl })
-white_or_missed (c ∷ a) s gap = by (class.is_break c) (c == 32) (c == 35) refl refl refl
-  where
-    hash : (d : ℕ) → (d == 35) ≡ true → is_at_gap (d ∷ a) ≡ true → ⊥
-    hash d e h = let same : d ≡ 35 = eqb-true d 35 e in absurd (cc (subst (λ x. is_at_gap (x ∷ a) ≡ true) same h))
-
-    by : (x y z : Bool) → class.is_break c ≡ x → (c == 32) ≡ y → (c == 35) ≡ z → (begins_with_space_or_break (c ∷ a) ≡ true) ⊎ IsMissed (c ∷ a) s
-    by true y z e f g = inl (ap (λ b. (c == 32) || b) (same_break c ∙ e) ∙ or_true (c == 32))
-    by false true z e f g = inl (ap (λ b. b || is_break c) f)
-    by false false b e f g = grind arith
+white_or_missed b s gap = grind (arith, nat_tests, eqb-true, same_break, or_true)
 
 -- what stands after a `?`, where it is at a gap, is a space or a break
 pub white_first : (more : List ℕ) (s : Held) → is_at_gap more ≡ true → Holds (λ u. begins_with_space_or_break more ≡ true) (white false false more s)

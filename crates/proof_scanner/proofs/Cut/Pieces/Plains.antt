@@ -17,8 +17,7 @@ unfolding is_blank is_break is_blank_or_end
 solid_start fl adjacent c r h = grind (arith, nat_tests)
 
 begins_solid_with : (fl adjacent : Bool) (col : ℕ) (t : List ℕ) → begins_plain fl adjacent col t ≡ true → begins_solid t ≡ true
-begins_solid_with fl adjacent col [] h = cc
-begins_solid_with fl adjacent col (c ∷ r) h = solid_start fl adjacent c r (and_parts (may_begin fl adjacent c r) (not ((col == 0) && is_document_marker (c ∷ r))) h).0
+begins_solid_with fl adjacent col a h = grind (arith, nat_tests, eqb-true, solid_start, and_parts)
 
 -- ---- in flow a dash before a flow indicator is refused
 
@@ -41,24 +40,10 @@ module _ (a : Account) (ctx : Context) (text : List ℕ) (flows : is_in_flow a �
     (begins : begins_plain (is_in_flow a) (is_adjacent a.before) a.position.col text ≡ true) where
   found : (piece gap rest value : List ℕ) → text ≡ piece ++ (gap ++ rest) → is_whole_plain (is_in_flow a) (collection_column a) piece (gap ++ rest) ≡ true → is_separation false gap rest ≡ true
       → plain_value piece ≡ Some value → ReadAs a text (scalar plain value) a.position rest (position_after a.position (piece ++ gap) rest)
-  found [] gap rest value cut whole filled is = absurd (cc whole)
-  found (c ∷ piece) gap rest value cut whole filled is = record {
-    first = c;
-    more = piece;
-    separation = gap;
-    is_text = cut;
-    is_piece = λ following. ((begins_text cut, whole, is), refl);
-    is_filled = filled;
-    is_end = position_append a.position (c ∷ piece) gap rest;
-  }
-    where
-      begins_text : {t : List ℕ} → text ≡ t → begins_plain (is_in_flow a) (is_adjacent a.before) a.position.col t ≡ true
-      begins_text e = sym (ap (begins_plain (is_in_flow a) (is_adjacent a.before) a.position.col) e) ∙ begins
+  found a gap rest value cut whole filled is = grind (arith, nat_tests, eqb-true, position_append)
 
   by : (x : Read Plain) → IsPlainRead ctx a.position text x → ReadAs a text (scalar plain x.value.text) a.position x.rest x.position
-  by x (whole_plain piece gap rest value cut whole white ends is) =
-      let here : is_whole_plain (is_in_flow a) (collection_column a) piece (gap ++ rest) ≡ true = rw (flows, column) whole in
-      found piece gap rest value cut here (gap_is_separation gap rest white) is
+  by x a = grind (arith, nat_tests, eqb-true, found, gap_is_separation)
 
 -- a plain scalar that was read is the piece of its token, and after it blanks and breaks were passed
 pub plain_is_read : PlainIsRead
