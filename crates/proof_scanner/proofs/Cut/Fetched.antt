@@ -5,11 +5,8 @@ use Rattle.model_scanner.specs.State.{after}
 
 -- ---- keys that are too far back
 
-first_is : (r : List ℕ) → is_empty r ≡ false → r ≡ peek r ∷ after r
-first_is a h = grind arith
-
 pub begins_with_this : (r : List ℕ) (c : ℕ) → is_empty r ≡ false → (peek r == c) ≡ true → r ≡ c ∷ after r
-begins_with_this r c some h = first_is r some ∙ ap (λ d. d ∷ after r) (eqb-true (peek r) c h)
+begins_with_this r c some h = (grind arith) ∙ ap (λ d. d ∷ after r) (eqb-true (peek r) c h)
 
 -- whether a text begins with a character, the model and the definitions say alike
 pub begins_here : (c : ℕ) (r : List ℕ) → (0 == c) ≡ false → (peek r == c) ≡ begins_with c r

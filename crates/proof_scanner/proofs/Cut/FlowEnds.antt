@@ -69,9 +69,6 @@ one_line (c ∷ f) rest h n = by (is_blank c) (is_break c) refl h n (one_line f 
         (is_separation false f rest ≡ true → has_break f ≡ false → (is_blanks f ≡ true) ⊎ (is_at_line_end rest ≡ true)) → ((x && is_blanks f) ≡ true) ⊎ (is_at_line_end rest ≡ true)
     by x y e h n k = grind (arith, no_hash, same_blank, after_comment)
 
-no_token : (r : List ℕ) → has_no_nul r ≡ true → is_at_line_end r ≡ true → begins_token r ≡ true → ⊥
-no_token a n l t = grind arith
-
 no_blank : (c : ℕ) → not ((c == 32) || ((c == 9) && true) || (c == 35)) ≡ true → is_blank c ≡ false
 unfolding is_blank
 no_blank c h = grind arith
@@ -86,6 +83,6 @@ adjacent_collection p f rest fills line ends clean = λ separation r e k t. by s
     by : (separation r : List ℕ) → rest ≡ separation ++ r → is_separation false separation r ≡ true → begins_token r ≡ true → is_adjacent (before_past (before_past collection f) separation) ≡ ((p.index + length separation) == p.index)
     by [] r e k t = elim (one_line f rest fills line) [
       | inl b ↦ rw b (sym (same_number p.index))
-      | inr l ↦ absurd (no_token r (rw e at clean) (rw e at l) t)
+      | inr l ↦ absurd (grind arith)
     ]
     by (c ∷ g) r e k t = blanks_first (is_blanks f) c g (no_blank c (rw e at ends)) ∙ sym (not_same (p.index + suc (length g)) p.index (omega arith))

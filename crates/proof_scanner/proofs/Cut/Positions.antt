@@ -22,9 +22,6 @@ not_before_after p (c ∷ a) next =
     let q : Position = position_past p c (a ++ next) in
     not_before_then p q (position_after q a next) (weaker p q (past_after p c (a ++ next))) (not_before_after q a next)
 
-pub is_after : (p : Position) (c : ℕ) (a next : List ℕ) → After p (position_after p (c ∷ a) next)
-is_after p c a next = grind (arith, nat_tests, eqb-true, after_then, past_after, not_before_after)
-
 index_past : (p : Position) (c : ℕ) (next : List ℕ) → (position_past p c next).index ≡ suc p.index
 index_past p c next = grind arith
 
@@ -35,4 +32,4 @@ index_after p (c ∷ a) next = omega (arith, index_after (position_past p c (a +
 
 -- the position after a piece
 pub after_piece : (p : Position) (piece next : List ℕ) → is_empty piece ≡ false → After p (position_after p piece next)
-after_piece p a next h = grind (arith, nat_tests, eqb-true, is_after)
+after_piece p a next h = grind (arith, nat_tests, eqb-true, after_then, past_after, not_before_after)

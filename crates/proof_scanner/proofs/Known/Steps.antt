@@ -78,21 +78,6 @@ is_of_node gives_node = true
 is_of_node gives_block_scalar = true
 is_of_node _ = false
 
-node_blocks : (k : Act) (column : ℕ) (bs : List ℕ) → is_of_node k ≡ true → blocks_at false k column bs ≡ blocks_at false gives_node column bs
-node_blocks a column bs h = grind arith
-
--- where a key must begin with it, it does; a block scalar is none
-must_begin : (k : Act) (here : Position) (bs : List ℕ) (key : Bool) (o : Outside) → is_of_node k ≡ true → line_past true here bs k key free ≡ Some o → o.line ≡ waits here
-must_begin a b bs d o h e = grind arith
-
--- a key that waits goes on to wait over it
-goes_on : (k : Act) (must : Bool) (here : Position) (bs : List ℕ) (key : Bool) (q : Position) (o : Outside) → is_of_node k ≡ true → line_past must here bs k key (waits q) ≡ Some o → o.line ≡ waits q
-goes_on a must b bs d q o h e = grind arith
-
--- what is like a free line is free
-like_free : (l m : Line) → l ≡ free → LikeLine l m → m ≡ free
-like_free l m e i = grind arith
-
 module _ (text : List ℕ) (s : Site) (l line_here : Line) (allowed : Bool) (k : Option Key) (new : Key) (w : Step) (next : List ℕ) (written : IsWritten (with_entries s l []) w next) (keyed : is_of_node (act_of w.shown) ≡ true)
     (line_is : IsLineHere false allowed (0 ∷ []) k line_here) (sep_is : line_past_separation false (begins_free_line s.before w.separation) l ≡ Some line_here) (c : Bool) (way : Way GivesUp text (w.separation ++ (w.piece ++ next)) (with_entries s (line_by c k l) [])) where
   abbrev here : Position
@@ -129,12 +114,9 @@ module _ (text : List ℕ) (s : Site) (l line_here : Line) (allowed : Bool) (k :
         is_like = came.is_like.1;
         begins = came.begins;
         sep = sep;
-        past = subst (λ bs. line_past (is_in_column here.col bs) here bs (act_of w.shown) came.key m ≡ Some o) (node_blocks (act_of w.shown) here.col s.blocks keyed) past;
+        past = subst (λ bs. line_past (is_in_column here.col bs) here bs (act_of w.shown) came.key m ≡ Some o) (grind arith) past;
         own = line;
       }
-
-  taken_here : allowed ≡ false → line_here ≡ taken
-  taken_here e = grind (arith, line_is)
 
   free_here : allowed ≡ true → k ≡ None → line_here ≡ free
   free_here e j = grind (arith, line_is)
@@ -154,7 +136,7 @@ module _ (text : List ℕ) (s : Site) (l line_here : Line) (allowed : Bool) (k :
     where
       opened : (d : Bool) (y : Option Key) → allowed ≡ d → k ≡ y → (b : Account) (begin : Position) (x : Past b) → Waits (is_in_column here.col at.blocks) here at.blocks (act_of w.shown) x.line x.after begin → p.line ≤ begin.line → p.index ≤ begin.index + 1024 → IsAt (saved d new y) begin
       opened true y i j b begin x (begun act f h bs) near_line near_index = place ∙ h
-      opened false y i j b begin x (begun act f h bs) near_line near_index = absurd (none_free (begins_free_line s.before w.separation) c k l line_here x.from.line x.line sep_is (taken_here i) x.is_like x.sep f)
+      opened false y i j b begin x (begun act f h bs) near_line near_index = absurd (none_free (begins_free_line s.before w.separation) c k l line_here x.from.line x.line sep_is (grind (arith, line_is)) x.is_like x.sep f)
       opened d y i j b begin x (kept act f bs) near_line near_index =
           old d y i j (subst (λ z. IsAt z begin) j (n.waiting x.from begin x.begins (waited false (begins_free_line s.before w.separation) x.from.line x.line begin x.sep f).0 near_line near_index))
         where
@@ -168,11 +150,11 @@ module _ (text : List ℕ) (s : Site) (l line_here : Line) (allowed : Bool) (k :
       waited_on true None i j b x z e m =
           let same : new ≡ x = same_of new x e in
           let like : LikeLine l z.from.line = subst (λ o. LikeLine (line_by c o l) z.from.line) j z.is_like in
-          let line : z.line ≡ free = like_free line_here z.line (free_here i j) (like_past false (begins_free_line s.before w.separation) l z.from.line line_here z.line like sep_is z.sep) in
+          let line : z.line ≡ free = (grind arith) in
           let is : is_in_column here.col at.blocks ≡ true = sym must ∙ (ap (λ (q : Key). q.required) same ∙ m) in
-          must_begin (act_of w.shown) here at.blocks z.key z.after keyed (subst (λ q. line_past true here at.blocks (act_of w.shown) z.key q ≡ Some z.after) line (subst (λ q. line_past q here at.blocks (act_of w.shown) z.key z.line ≡ Some z.after) is z.past)) ∙
+          (grind arith) ∙
           ap (λ q. waits q) (sym place ∙ ap (λ (q : Key). q.position) same)
       waited_on false None i j b x z e m = absurd (cc e)
       waited_on false (Some y) i j b x z e m =
           let was : z.line ≡ waits x.position = (still_there false (begins_free_line s.before w.separation) z.from.line z.line x.position (n.required z.from x z.begins (j ∙ e) m) z.sep).1 in
-          goes_on (act_of w.shown) (is_in_column here.col at.blocks) here at.blocks z.key x.position z.after keyed (subst (λ q. line_past (is_in_column here.col at.blocks) here at.blocks (act_of w.shown) z.key q ≡ Some z.after) was z.past)
+          (grind arith)

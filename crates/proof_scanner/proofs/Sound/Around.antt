@@ -7,10 +7,6 @@ use Rattle.proof_scanner.proofs.Sound.Sides.{ArrivesBy}
 use Rattle.proof_scanner.proofs.Sound.Arrivals.{unbroken, not_free, live_before, line_kept}
 
 module _ (text : List ℕ) (t : ScannerState) (f : FlowLevel) (fs : List FlowLevel) (k : Option Key) (ks : List (Option Key)) (e : Entry) (es : List Entry) (a : ArrivesBy text t (f ∷ fs) (k ∷ ks) (e ∷ es)) where
-  -- what may begin outside flow is as it was before the separation, and that is nothing
-  pub line_through : line_past_separation true (begins_free_line a.site.before a.separation) a.line ≡ Some a.line
-  line_through = a.is_line ∙ ap (λ l. Some l) (sym (line_kept (begins_free_line a.site.before a.separation) a.line a.line_here a.no_key a.is_line))
-
   pub line_taken : a.line ≡ taken
   line_taken = line_kept (begins_free_line a.site.before a.separation) a.line a.line_here a.no_key a.is_line ∙ a.line_is
 
@@ -32,7 +28,7 @@ module _ (text : List ℕ) (t : ScannerState) (f : FlowLevel) (fs : List FlowLev
     live_inside x l = live_before x t.held.position end t.rest rest later some l
 
     pub unbroken_around : (strict c : Bool) → MayChoose strict c (outside_key es ks) end rest → line_past_separation true (begins_free_line a.site.before a.separation) (line_by c (outside_key es ks) a.line) ≡ Some (line_by c (outside_key es ks) a.line)
-    unbroken_around strict c may = grind (arith, nat_tests, eqb-true, live_inside, not_free, unbroken, around_of, line_through, separated)
+    unbroken_around strict c may = grind (arith, nat_tests, eqb-true, live_inside, not_free, unbroken, around_of, (a.is_line ∙ ap (λ l. Some l) (sym (line_kept (begins_free_line a.site.before a.separation) a.line a.line_here a.no_key a.is_line))), separated)
 
     pub one_around : (piece : List ℕ) → (is_empty rest ≡ false → end.line ≤ t.held.position.line → has_break piece ≡ false) → (strict c : Bool) → MayChoose strict c (outside_key es ks) end rest → (has_break piece && is_waiting (line_by c (outside_key es ks) a.line)) ≡ false
     one_around piece one strict c may = grind (arith, nat_tests, eqb-true, no_waiting, around_before)

@@ -21,14 +21,10 @@ unfolding is_blank is_break
 no_break_in_blanks [] = refl
 no_break_in_blanks (c ∷ a) = grind (arith, nat_tests, eqb-true, no_break_in_blanks a)
 
-same_spaces : (p q : Position) (w v : Whitespace) (a : List ℕ) → p ≡ q → w.found_tabs ≡ v.found_tabs → w.has_valid_yaml_ws ≡ v.has_valid_yaml_ws →
-    ◌≡◌ {A = Stop Spaces} (record { rest = a; state = record { position = p; found = w } }) (record { rest = a; state = record { position = q; found = v } })
-same_spaces p q w v a e f g = ap (λ (x : Position). record { rest = a; state = record { position = x; found = w } }) e ∙ ap (λ (x : Whitespace). record { rest = a; state = record { position = q; found = x } }) (ap (λ b. record { found_tabs = b; has_valid_yaml_ws = w.has_valid_yaml_ws }) f ∙ ap (λ b. record { found_tabs = v.found_tabs; has_valid_yaml_ws = b }) g)
-
 blanks_walked : (a : List ℕ) (p : Position) (w : Whitespace) →
     walk (space_step Yes) a (record { position = p; found = w }) ≡ record { rest = after is_blank a; state = record { position = position_after p (leading is_blank a) []; found = with_blanks w (leading is_blank a) } }
 unfolding is_blank is_break
-blanks_walked [] p w = same_spaces p p w (with_blanks w []) [] refl (sym (or_false w.found_tabs)) (sym (or_false w.has_valid_yaml_ws))
+blanks_walked [] p w = ap (λ (x : Position). record { rest = []; state = record { position = x; found = w } }) refl ∙ ap (λ (x : Whitespace). record { rest = []; state = record { position = p; found = x } }) (ap (λ b. record { found_tabs = b; has_valid_yaml_ws = w.has_valid_yaml_ws }) (sym (or_false w.found_tabs)) ∙ ap (λ b. record { found_tabs = (with_blanks w []).found_tabs; has_valid_yaml_ws = b }) (sym (or_false w.has_valid_yaml_ws)))
 blanks_walked (c ∷ a) p w = grind (arith, blanks_walked a)
 
 -- ---- a comment
@@ -125,11 +121,8 @@ clear_first b h = grind (arith, nat_tests, eqb-true)
 
 pub spaced_exactly : (a : List ℕ) (p : Position) → IsSpaced a p (space Yes a p)
 unfolding space
-spaced_exactly a p = subst (λ x. IsSpaced a p (spaces_end x)) (sym (blanks_walked a p none)) (of (after is_blank a) refl)
+spaced_exactly a p = subst (λ x. IsSpaced a p (spaces_end x)) (sym (blanks_walked a p (record { found_tabs = false; has_valid_yaml_ws = false }))) (of (after is_blank a) refl)
   where
-    none : Whitespace
-    none = record { found_tabs = false; has_valid_yaml_ws = false }
-
     l : List ℕ
     l = leading is_blank a
 
@@ -161,12 +154,8 @@ spaced_exactly a p = subst (λ x. IsSpaced a p (spaces_end x)) (sym (blanks_walk
             is_rest : past_comment (after is_blank a) ≡ after is_on_line (c ∷ b)
             is_rest = ap past_comment e ∙ rw f refl
 
-            position : position_after q m [] ≡ past_line_rest p a
-            position =
-                ap (λ x. position_after x m []) (same_in_line p l [] (m ++ []) (no_break_in_blanks a)) ∙ (sym (position_append p l m []) ∙ ap (λ x. position_after p (l ++ x) []) (sym is_m))
-
             found : (x : Bool) → (is_one_of l 9 || is_one_of l 32) ≡ x → IsSpaced a p (if x then Ok (with_found (found_in l) (skip_while is_line (c ∷ b) q)) else Err (At problem.CommentNotSeparated q))
-            found true g = parted (blank_first a g) (ap (λ r. Ok (with_found (found_in l) r)) (comment_passed (c ∷ b) q) ∙ (ap (λ x. at (after is_on_line (c ∷ b)) x) position ∙ ap (λ r. at r (past_line_rest p a)) (sym is_rest)))
+            found true g = parted (blank_first a g) (ap (λ r. Ok (with_found (found_in l) r)) (comment_passed (c ∷ b) q) ∙ (ap (λ x. at (after is_on_line (c ∷ b)) x) (ap (λ x. position_after x m []) (same_in_line p l [] (m ++ []) (no_break_in_blanks a)) ∙ (sym (position_append p l m []) ∙ ap (λ x. position_after p (l ++ x) []) (sym is_m))) ∙ ap (λ r. at r (past_line_rest p a)) (sym is_rest)))
             found false g = glued (At problem.CommentNotSeparated q) (ap (begins_with 35) (sym (no_blank_first a g) ∙ e) ∙ f) refl
 
 -- where no comment stands directly, they are read

@@ -35,10 +35,6 @@ no_tab_in zero t = refl
 no_tab_in (suc n) [] = grind arith
 no_tab_in (suc n) (c ∷ r) = grind (arith, no_tab_in n r)
 
--- spaces indent by no TAB
-spaces_indent : (bs : List ℕ) (awaits : Bool) (t : List ℕ) → is_indented_by_spaces block_scalar bs awaits (spaces_of t) ≡ true
-spaces_indent bs awaits t = ap not (ap (λ l. has_tab_within (least_column bs (awaits || false)) l) (last_whole (spaces_of t) (spaces_in_line t)) ∙ no_tab_in (least_column bs (awaits || false)) t)
-
 -- ---- its token
 
 -- what is said of the token of a block scalar
@@ -51,9 +47,6 @@ pub record IsBlockToken (style : BlockStyle) (text : List ℕ) (tok : Tok) : Typ
   pub awaits : (bs : List ℕ) (b : Bool) (next : List ℕ) → awaits_past false tok bs b next ≡ false
   pub shown : (s : Site) (piece next : List ℕ) → shown_position s piece tok next ≡ content_position (block_read (innermost s.blocks) piece next) s.position piece next
   pub is_same : tok ≡ token_of style text
-
-pub block_token : (style : BlockStyle) (text : List ℕ) → IsBlockToken style text (token_of style text)
-block_token a b = grind arith
 
 -- ---- the step
 
@@ -100,11 +93,8 @@ module _ (text : List ℕ) (t : ScannerState) (k : Option Key) (a : ArrivesBy te
   least : IsLeast w.indent here.blocks
   least = subst (λ bs. IsLeast w.indent bs) (sym blocks_are) closed.is_least
 
-  read_here : block_read (innermost here.blocks) r.piece r.next ≡ Some r.scalar
-  read_here = ap (λ c. block_read c r.piece r.next) (sym least.0) ∙ r.is_read
-
   shown_is : shown_position here r.piece tok r.next ≡ block_position r.scalar.column p r.piece r.next
-  shown_is = n.shown here r.piece r.next ∙ ap (λ o. content_position o p r.piece r.next) read_here
+  shown_is = n.shown here r.piece r.next ∙ ap (λ o. content_position o p r.piece r.next) (ap (λ c. block_read c r.piece r.next) (sym least.0) ∙ r.is_read)
 
   abbrev seen_here : pieces.Account
   seen_here = seen (with_entries a.site a.line []) here a.separation
@@ -112,11 +102,8 @@ module _ (text : List ℕ) (t : ScannerState) (k : Option Key) (a : ArrivesBy te
   column_is : pieces.collection_column seen_here ≡ collection_of w.indent
   column_is = same_innermost here.blocks ∙ sym least.0
 
-  seen_read : block_read (pieces.collection_column seen_here) r.piece r.next ≡ Some (record { style = style; column = r.scalar.column; text = r.scalar.text })
-  seen_read = ap (λ c. block_read c r.piece r.next) column_is ∙ (r.is_read ∙ ap (λ z. Some (record { style = z; column = r.scalar.column; text = r.scalar.text })) r.style_is)
-
   is_piece : IsPiece seen_here r.piece r.next None (shown_position here r.piece tok r.next) tok
-  is_piece = grind (arith, nat_tests, eqb-true, shown_is, piece_of, seen_read)
+  is_piece = grind (arith, nat_tests, eqb-true, shown_is, piece_of, (ap (λ c. block_read c r.piece r.next) column_is ∙ (r.is_read ∙ ap (λ z. Some (record { style = z; column = r.scalar.column; text = r.scalar.text })) r.style_is)))
 
   stands : may_stand false a.site here a.separation r.piece tok r.next ≡ true
   stands = rw (a.is_indented some, n.lines (least_for tok here) r.piece, n.precedes here.blocks r.piece r.next, r.may_end here.blocks least) refl
@@ -135,9 +122,6 @@ module _ (text : List ℕ) (t : ScannerState) (k : Option Key) (a : ArrivesBy te
   place : end ≡ position_after (position_after p r.piece r.next) gap rest
   place = spaces_position (position_after p r.piece r.next) r.next
 
-  later : NotBefore p end
-  later = grind (arith, nat_tests, eqb-true, place, not_before_then, not_before_after)
-
   -- ---- rows
 
   same_site : site_at false a.site a.separation r.piece tok r.next ≡ here
@@ -145,13 +129,6 @@ module _ (text : List ℕ) (t : ScannerState) (k : Option Key) (a : ArrivesBy te
 
   is_filled : is_separation false a.separation (r.piece ++ r.next) ≡ true
   is_filled = subst (λ l. is_separation false a.separation l ≡ true) r.is_text a.is_filled
-
-  before_at : (strict : Bool) → MayChoose strict false k t.held.position t.rest → SoFar strict text (a.separation ++ (r.piece ++ r.next)) (with_entries a.site a.line []) (λ ws last. a.tokens)
-  before_at strict may = subst (λ l. SoFar strict text (a.separation ++ l) (with_entries a.site a.line []) (λ ws last. a.tokens)) r.is_text
-      (none_completes strict text (a.separation ++ t.rest) (with_entries a.site a.line []) (k ∷ []) a.tokens a.no_key refl (a.completes strict false [] may))
-
-  tokens_are : a.tokens ++ tokens_then a.site here r.piece tok r.next a.line_here ≡ t.held.tokens ++ own ∷ []
-  tokens_are = grind (arith, nat_tests, eqb-true, append-nil, shown_is, append_assoc)
 
   abbrev site_then : Site
   site_then = site_past false here r.piece tok r.next here.blocks
@@ -167,10 +144,10 @@ module _ (text : List ℕ) (t : ScannerState) (k : Option Key) (a : ArrivesBy te
       let all : SoFar strict text r.next (out.outer_then text a.site a.separation r.piece r.next tok here same_site after) (λ ws last. a.tokens ++ tokens_then a.site here r.piece tok r.next a.line_here) =
       out.outer_completes text a.site a.separation r.piece r.next tok here same_site strict false a.line a.line_here after (λ ws last. a.tokens) (λ ws last. a.tokens ++ tokens_then a.site here r.piece tok r.next a.line_here)
       (assumption (is_filled, is_solid, is_piece, stands, a.is_line, after_by (strict && is_in_column p.col here.blocks) p here.blocks (act_of tok) a.line_here n.act line, no_waiting (has_break r.piece) false refl))
-      (λ ws last h. out.outer_tokens text a.site a.separation r.piece r.next tok here same_site a.line a.line_here a.is_line a.tokens ws last h) (before_at strict may) in
+      (λ ws last h. out.outer_tokens text a.site a.separation r.piece r.next tok here same_site a.line a.line_here a.is_line a.tokens ws last h) (subst (λ l. SoFar strict text (a.separation ++ l) (with_entries a.site a.line []) (λ ws last. a.tokens)) r.is_text (none_completes strict text (a.separation ++ t.rest) (with_entries a.site a.line []) (k ∷ []) a.tokens a.no_key refl (a.completes strict false [] may))) in
       subst (λ l. SoFar strict text l (with_entries site_then free []) (λ ws last. t.held.tokens ++ own ∷ [])) (spaces_cut r.next)
       (subst (λ es. SoFar strict text r.next (with_entries site_then free es) (λ ws last. t.held.tokens ++ own ∷ [])) n.begun
-      (subst (λ ts. SoFar strict text r.next (with_entries site_then free (begun_by tok)) (λ ws last. ts)) tokens_are all))
+      (subst (λ ts. SoFar strict text r.next (with_entries site_then free (begun_by tok)) (λ ws last. ts)) (grind (arith, nat_tests, eqb-true, append-nil, shown_is, append_assoc)) all))
 
   -- what may begin at it
   line_by_allowed : (strict b : Bool) (y : Option Key) → t.held.key_allowed ≡ b → k ≡ y → MayChoose strict false (saved b (new_key t) y) end rest → LineHere strict × MayChoose strict false k t.held.position t.rest
@@ -183,7 +160,7 @@ module _ (text : List ℕ) (t : ScannerState) (k : Option Key) (a : ArrivesBy te
   Then strict y c cs = SoFar strict text (gap ++ rest) (chosen c cs (y ∷ []) (with_entries site_then free [])) (tokens_up_to (chosen c cs (y ∷ []) (with_entries site_then free [])) (y ∷ []) (t.held.tokens ++ own ∷ []))
 
   is_open : IsOpenOutside key_now (position_after p r.piece r.next) end rest here.blocks
-  is_open = open_node text t k a within deep some end rest later (position_after p r.piece r.next) (after_piece p r.piece r.next is_solid)
+  is_open = open_node text t k a within deep some end rest (grind (arith, nat_tests, eqb-true, place, not_before_then, not_before_after)) (position_after p r.piece r.next) (after_piece p r.piece r.next is_solid)
 
   -- the saved or open key is not after the position
   before_it : (y : Key) → key_now ≡ Some y → NotBefore y.position p
@@ -209,14 +186,11 @@ module _ (text : List ℕ) (t : ScannerState) (k : Option Key) (a : ArrivesBy te
   read_on : (b : Previous) → b ≡ block_scalar → IsReadOn b (position_after p r.piece r.next) gap rest
   read_on b e = grind (arith, ends_at_margin, clean)
 
-  is_written : IsWritten (with_entries a.site a.line []) (keyless a.separation r.piece tok) r.next
-  is_written = grind (arith, nat_tests, eqb-true, is_filled, is_solid, same_site, is_piece)
-
   scalar_reads : Reads t after_it site_then r.piece r.next gap
   scalar_reads =
       let far = adjacent_kept t after_it (before_by (previous_by tok)) r.piece r.next gap is_solid place a.was_adjacent refl (ap before_by n.before) in
       let no_tabs : HasNoTabs site_then gap rest =
-      inr (subst (λ b. is_indented_by_spaces b here.blocks (awaits_past false tok here.blocks here.awaits r.next) gap ≡ true) (sym n.before) (spaces_indent here.blocks (awaits_past false tok here.blocks here.awaits r.next) r.next)) in
+      inr (subst (λ b. is_indented_by_spaces b here.blocks (awaits_past false tok here.blocks here.awaits r.next) gap ≡ true) (sym n.before) (ap not (ap (λ l. has_tab_within (least_column here.blocks ((awaits_past false tok here.blocks here.awaits r.next) || false)) l) (last_whole (spaces_of r.next) (spaces_in_line r.next)) ∙ no_tab_in (least_column here.blocks ((awaits_past false tok here.blocks here.awaits r.next) || false)) r.next))) in
       assumption (is_solid, r, spaces_cut r.next, spaces_fill r.next rest, place, blocks_are, n.awaits here.blocks here.awaits r.next ∙ sym closed.none_open, no_tabs, sym (ap (λ z. begins_line z gap) n.before), read_on (previous_by tok) n.before, far)
 
   pub scalar_stands : KnowsKey text (a.separation ++ t.rest) t.held.position k → Stands text after_it
@@ -230,7 +204,7 @@ module _ (text : List ℕ) (t : ScannerState) (k : Option Key) (a : ArrivesBy te
     no_key = refl;
     are_numbered = numbered_past text t k a within deep own t.held.key_allowed;
     carries = λ cs x key m inside some. absurd (cc inside);
-    knows = knows_saved text t r.piece r.next tok r.is_text end gap rest place (spaces_cut r.next) k a is_written within deep (ap is_of_node n.act) known;
+    knows = knows_saved text t r.piece r.next tok r.is_text end gap rest place (spaces_cut r.next) k a (grind (arith, nat_tests, eqb-true, is_filled, is_solid, same_site, is_piece)) within deep (ap is_of_node n.act) known;
     completes = λ strict c cs may. then_rows strict c cs key_now refl may;
   })
 
@@ -265,7 +239,7 @@ block_stands text style t deep o w closed x r =
     let tok : Tok = token_of style r.scalar.text in
     let y : Read Block = read_block t.held.position r.scalar r.piece r.next in
     let stands : Stands text (record { rest = y.rest; held = record t.held { position = y.position; tokens = t.held.tokens ++ token y.value.position tok ∷ []; keys = saved_keys t.held; indents = w.indents; indent = w.indent; key_allowed = true; leading = true } }) =
-    scalar_stands text t o.key o.here o.flow_is o.keys_are deep w closed style x r tok (block_token style r.scalar.text) o.knows in
+    scalar_stands text t o.key o.here o.flow_is o.keys_are deep w closed style x r tok (grind arith) o.knows in
     subst (λ z. Stands text (read_state t w style z)) (sym r.is)
     (subst (λ ts. Stands text (record { rest = y.rest; held = record t.held { position = y.position; tokens = ts ++ token y.value.position tok ∷ []; keys = saved_keys t.held; indents = w.indents; indent = w.indent; key_allowed = true; leading = true } })) (sym closed.same_tokens) stands)
 

@@ -32,9 +32,6 @@ none_ends p bs = grind arith
 abbrev pub with_key : (begins : Bool) → (start : Token) → Key → List Token → List Token
 with_key begins start k ts = (if begins then placed (Some k.number) start (insert ts k.number (token k.position Tok.key)) else insert ts k.number (token k.position Tok.key))
 
-key_put : (begins : Bool) (start : Token) (k : Key) (ts : List Token) → with_key begins start k ts ≡ put_key begins start k.number k.position ts
-key_put a b k ts = grind arith
-
 module _ (text more : List ℕ) (t : ScannerState) (k : Key) (a : ArrivesBy text t [] (Some k ∷ []) []) (e : t.rest ≡ 58 ∷ more) (apart : colon_may_precede more ≡ true) (ind : is_value_indicator false (is_adjacent (before_past (before_by a.site.before) a.separation)) more ≡ true) where
   abbrev p : Position
   p = t.held.position
@@ -54,15 +51,12 @@ module _ (text more : List ℕ) (t : ScannerState) (k : Key) (a : ArrivesBy text
   live : IsLive k t.held.position t.rest
   live = ((a.is_near refl).0, some)
 
-  key_before : NotBefore k.position t.held.position
-  key_before = not_before_then k.position a.site.position t.held.position (weaker k.position a.site.position a.is_open.0) (subst (λ x. NotBefore a.site.position x) (sym a.position_is) (not_before_after a.site.position a.separation t.rest))
-
   open_here : IsOpenHere k t.held.position a.site.blocks
   open_here = a.is_open.1 live
 
   -- no collection ends here
   same_blocks : not_ended t.held.position.col a.site.blocks ≡ a.site.blocks
-  same_blocks = all_go_on t.held.position.col k.position.col a.site.blocks open_here.column_is (key_before.1 live.0)
+  same_blocks = all_go_on t.held.position.col k.position.col a.site.blocks open_here.column_is ((not_before_then k.position a.site.position t.held.position (weaker k.position a.site.position a.is_open.0) (subst (λ x. NotBefore a.site.position x) (sym a.position_is) (not_before_after a.site.position a.separation t.rest))).1 live.0)
 
   same_columns : a.site.blocks ≡ columns t.held.indent t.held.indents
   same_columns = sym same_blocks ∙ a.blocks_are
@@ -98,7 +92,7 @@ module _ (text more : List ℕ) (t : ScannerState) (k : Key) (a : ArrivesBy text
   row_tokens q = put_key (is_deeper k.position.col a.site.blocks) (put q Tok.block_mapping_start) k.number k.position a.tokens ++ ((ends_at q a.site.blocks (not_ended q.col a.site.blocks) ++ []) ++ (put q Tok.value ∷ []))
 
   tokens_alike : after.held.tokens ≡ row_tokens t.held.position
-  tokens_alike = grind (arith, nat_tests, eqb-true, key_put, same_columns, same_tokens, same_blocks, none_ends)
+  tokens_alike = grind (arith, nat_tests, eqb-true, same_columns, same_tokens, same_blocks, none_ends)
 
   abbrev outside_after : Outside
   outside_after = record { line = taken; blocks = opened k.position.col x.blocks }
@@ -139,9 +133,6 @@ module _ (text more : List ℕ) (t : ScannerState) (f : FlowLevel) (fs : List Fl
   abbrev pub held_pair : FlowLevel → Held
   held_pair g = record t.held { flow = pair_level InPair g ∷ fs; keys = None ∷ ks; position = pair_position (past t.held.position) more; leading = false; key_allowed = false; tokens = in_pair (opens_pair (g ∷ fs)) }
 
-  same_line : (m n : ℕ) → m ≤ n → nat_lt m n ≡ false → (m == n) ≡ true
-  same_line m n h g = grind (arith, nat_tests)
-
   closed : (h : Held) → in_flow h ≡ true → record (roll_one_col_indent h) { keys = with_top None (roll_one_col_indent h).keys; key_allowed = false } ≡ record h { keys = with_top None h.keys; key_allowed = false }
   closed h inside = ap {A = Held} {B = Held} (λ v. record v { keys = with_top None v.keys; key_allowed = false }) (opens_none h inside)
 
@@ -150,7 +141,7 @@ module _ (text more : List ℕ) (t : ScannerState) (f : FlowLevel) (fs : List Fl
       Holds (λ y. (y ≡ held_pair g) × ((not (opens_pair (g ∷ fs)) || (k.position.line == t.held.position.line)) ≡ true)) (insert_key k t.held.position (opens_pair (g ∷ fs)) (at_value more t (g ∷ fs) (Some k ∷ ks)))
   unfolding insert_key begin_pair roll_indent
   pair_begun InEntry h =
-      chained {P = λ u. (u ≡ inner) × ((k.position.line == t.held.position.line) ≡ true)} (checked (nat_lt k.position.line t.held.position.line) (At problem.ColonMisplaced t.held.position) (λ i. went (refl, same_line k.position.line t.held.position.line h i))) (λ u i.
+      chained {P = λ u. (u ≡ inner) × ((k.position.line == t.held.position.line) ≡ true)} (checked (nat_lt k.position.line t.held.position.line) (At problem.ColonMisplaced t.held.position) (λ i. went (refl, (grind (arith, nat_tests))))) (λ u i.
       subst (λ y. Holds (λ z. (z ≡ held_pair InEntry) × ((not (opens_pair (InEntry ∷ fs)) || (k.position.line == t.held.position.line)) ≡ true)) (let v = roll_one_col_indent (roll_indent k.position.col (Some k.number) Tok.block_mapping_start t.held.position y) in Ok (record v { keys = with_top None v.keys; key_allowed = false }))) (sym i.0)
       (went (closed inner refl, i.1)))
     where
@@ -163,15 +154,8 @@ module _ (text more : List ℕ) (t : ScannerState) (f : FlowLevel) (fs : List Fl
   abbrev pub inner_after : ScannerState
   inner_after = colon_end t more t.held.indents t.held.indent (in_pair (opens_pair (f ∷ fs))) false (pair_level InPair f ∷ fs) (None ∷ ks)
 
-  inner_place : t.held.position ≡ position_after a.site.position a.separation (58 ∷ more)
-  inner_place = a.position_is ∙ ap (λ y. position_after a.site.position a.separation y) e
-
   single_here : takes_pair x.kind x.pair ≡ opens_pair (f ∷ fs)
   single_here = single_is f fs (Some k) x a.are_entries.0
-
-  -- the entry's key ends, and no single pair's key on an earlier line
-  key_ends : (again : Bool) (xs : List Entry) → (not (opens_pair (f ∷ fs)) || (k.position.line == t.held.position.line)) ≡ true → entries_past t.held.position again gives_colon [] false (entry_by true (Some k) x) xs ≡ Some (valued_entry x ∷ xs)
-  key_ends again xs its_line = grind (arith, single_here)
 
   -- the tokens of the row, at a colon's end
   abbrev key_in : Bool → Position → (next : List ℕ) → List Token → List Token
@@ -183,7 +167,7 @@ module _ (text more : List ℕ) (t : ScannerState) (f : FlowLevel) (fs : List Fl
   inner_alike : key_in (takes_pair x.kind x.pair) (position_after (position_after a.site.position a.separation (58 ∷ more)) (58 ∷ []) more) more a.tokens ++ (put (position_after a.site.position a.separation (58 ∷ more)) Tok.value ∷ []) ≡ inner_after.held.tokens
   unfolding is_break
   inner_alike =
-      ap (λ q. key_in (takes_pair x.kind x.pair) (position_after q (58 ∷ []) more) more a.tokens ++ (put q Tok.value ∷ [])) (sym inner_place) ∙
+      ap (λ q. key_in (takes_pair x.kind x.pair) (position_after q (58 ∷ []) more) more a.tokens ++ (put q Tok.value ∷ [])) (sym (a.position_is ∙ ap (λ y. position_after a.site.position a.separation y) e)) ∙
       (ap (λ b. key_in b (position_after t.held.position (58 ∷ []) more) more a.tokens ++ own) single_here ∙ ap (λ q. key_in (opens_pair (f ∷ fs)) q more a.tokens ++ own) (past_one t.held.position 58 more refl) ∙
       ap (λ ts. key_in (opens_pair (f ∷ fs)) (past t.held.position) more ts ++ own) (sym (tokens_before text t f fs (Some k) ks x es a)))
 
@@ -202,9 +186,6 @@ module _ (text more : List ℕ) (t : ScannerState) (f : FlowLevel) (fs : List Fl
       (keys_along (λ m. suc m) (λ m. suc m) (λ m. refl) (λ m. refl) 0 a.site.position (past_step a.site.position w ws last) w ws last (λ m. refl) a.site.blocks l ys ks (put_in ++ shown) ∙
       ap (λ ts. with_keys 1 (past_step a.site.position w ws last) ws last a.site.blocks l ys ks ts) (ap (λ r. first r ++ (put (position_after a.site.position a.separation (58 ∷ r)) Tok.value ∷ [])) h ∙ inner_alike))
 
-  inner_many : length a.tokens ≤ length inner_after.held.tokens
-  inner_many = grind (arith, nat_tests, eqb-true, key_longer, tokens_before, length-append)
-
   pub inner_stands : (not (opens_pair (f ∷ fs)) || (k.position.line == t.held.position.line)) ≡ true → Stands text inner_after
   inner_stands its_line =
       flow.steps_in_flow text t inner_after f fs (Some k) ks x es a (58 ∷ []) more Tok.value (None ∷ ks) (valued_entry x ∷ es) (pair_level InPair f ∷ fs) (colon_gap more)
@@ -215,7 +196,7 @@ module _ (text more : List ℕ) (t : ScannerState) (f : FlowLevel) (fs : List Fl
         same_key = refl;
         are_entries = (valued_is f (Some k) x a.are_entries.0, (inr refl, refl), a.are_entries.2);
         line_is = line_taken text t f fs (Some k) ks x es a;
-        are_numbered = (tt, numbered_more (length a.tokens) (length inner_after.held.tokens) ks inner_many (numbered_around (length a.tokens) (Some k) ks a.are_numbered));
+        are_numbered = (tt, numbered_more (length a.tokens) (length inner_after.held.tokens) ks (grind (arith, nat_tests, eqb-true, key_longer, tokens_before, length-append)) (numbered_around (length a.tokens) (Some k) ks a.are_numbered));
         in_line = λ _ _. one_line_colon;
       }) (record {
         is_piece = (refl, ind);
@@ -223,7 +204,7 @@ module _ (text more : List ℕ) (t : ScannerState) (f : FlowLevel) (fs : List Fl
         choice = λ cs. true;
         outer = pop;
         bit = λ cs. false;
-        entry_past = λ cs. key_ends (is_renewed a.site.before a.separation) (entries_by (pop cs) ks es) its_line;
+        entry_past = λ cs. (grind (arith, single_here));
         tokens_are = inner_tokens;
       })
 

@@ -122,14 +122,6 @@ single_is f fs k e h = grind arith
 pub valued_is : (f : FlowLevel) (k : Option Key) (e : Entry) → IsEntryOf f k e → IsEntryOf (pair_level InPair f) None (valued_entry e)
 valued_is f k e h = grind arith
 
--- the entry is settled
-values : (here : Position) (again : Bool) (e : Entry) (xs : List Entry) → (e.had ≡ fresh) ⊎ (e.had ≡ settled) → entries_past here again gives_colon [] false e xs ≡ Some (valued_entry e ∷ xs)
-values here again e xs h = grind arith
-
--- the start of a single pair, if one begins
-pair_begun : (single : Bool) (pair : Pair) (here own : Position) (x : Had) → (x ≡ fresh) ⊎ (x ≡ settled) → begun_inside single pair here own own gives_colon false x ≡ start_if single own Tok.flow_mapping_start
-pair_begun a pair b own x d = grind arith
-
 pub one_line_colon : has_break (58 ∷ []) ≡ false
 unfolding is_break
 one_line_colon = refl
@@ -137,10 +129,6 @@ one_line_colon = refl
 -- the tokens with the start of a single pair, if one begins
 abbrev pub with_pair : (single : Bool) → (more : List ℕ) → ScannerState → List Token
 with_pair single more t = (if single then t.held.tokens ++ token (pair_position (past t.held.position) more) Tok.flow_mapping_start ∷ [] else t.held.tokens)
-
-pair_tokens : (single : Bool) (ts before : List Token) (q : Position) (own : Token) → ts ≡ before →
-    (if single then ts ++ token q Tok.flow_mapping_start ∷ [] else ts) ++ own ∷ [] ≡ before ++ (start_if single q Tok.flow_mapping_start ++ (own ∷ []))
-pair_tokens single ts before q own e = grind (arith, append_assoc)
 
 -- what stands after it, with its account
 pub keyless_within : (text more : List ℕ) (t : ScannerState) (f : FlowLevel) (fs : List FlowLevel) (ks : List (Option Key)) (e : Entry) (es : List Entry) (a : ArrivesBy text t (f ∷ fs) (None ∷ ks) (e ∷ es)) → t.rest ≡ 58 ∷ more → colon_may_precede more ≡ true →
@@ -159,7 +147,7 @@ keyless_within text more t f fs ks e es a cut apart ind deep =
       begun = refl;
       is_piece = (refl, ind);
       stands = rw (a.is_indented (ap is_empty cut), low_enough text t f fs (None ∷ ks) (e ∷ es) a deep, apart) refl;
-      entry_past = λ xs. values t.held.position (is_renewed a.site.before a.separation) e xs had;
+      entry_past = λ xs. (grind arith);
       colons = λ n p ws last. refl;
       tokens_are = tokens;
     })
@@ -173,29 +161,19 @@ keyless_within text more t f fs ks e es a cut apart ind deep =
     place : Position → Position
     place q = pair_position q more
 
-    own : List Token
-    own = begun_inside (takes_pair e.kind e.pair) e.pair t.held.position (place (position_after t.held.position (58 ∷ []) more)) (place (position_after t.held.position (58 ∷ []) more)) gives_colon false e.had ++ (put t.held.position Tok.value ∷ [])
-
-    tokens : with_pair single more t ++ token t.held.position Tok.value ∷ [] ≡ a.tokens ++ own
+    tokens : with_pair single more t ++ token t.held.position Tok.value ∷ [] ≡ a.tokens ++ (begun_inside (takes_pair e.kind e.pair) e.pair t.held.position (place (position_after t.held.position (58 ∷ []) more)) (place (position_after t.held.position (58 ∷ []) more)) gives_colon false e.had ++ (put t.held.position Tok.value ∷ []))
     tokens =
-        pair_tokens single t.held.tokens a.tokens (place (past t.held.position)) (put t.held.position Tok.value) (tokens_before text t f fs None ks e es a) ∙
+        (grind (arith, append_assoc)) ∙
         (ap (λ q. a.tokens ++ (start_if single (place q) Tok.flow_mapping_start ++ (put t.held.position Tok.value ∷ []))) (sym (past_one t.held.position 58 more refl)) ∙
         (ap (λ b. a.tokens ++ (start_if b (place (position_after t.held.position (58 ∷ []) more)) Tok.flow_mapping_start ++ (put t.held.position Tok.value ∷ []))) (sym (single_is f fs None e a.are_entries.0)) ∙
-        ap (λ x. a.tokens ++ (x ++ (put t.held.position Tok.value ∷ []))) (sym (pair_begun (takes_pair e.kind e.pair) e.pair t.held.position (place (position_after t.held.position (58 ∷ []) more)) e.had had))))
+        ap (λ x. a.tokens ++ (x ++ (put t.held.position Tok.value ∷ []))) (sym (grind arith))))
 
 pub keyless_inside : (text more : List ℕ) (t : ScannerState) (f : FlowLevel) (fs : List FlowLevel) (ks : List (Option Key)) (e : Entry) (es : List Entry) (a : ArrivesBy text t (f ∷ fs) (None ∷ ks) (e ∷ es)) → t.rest ≡ 58 ∷ more → colon_may_precede more ≡ true →
     is_value_indicator true (is_adjacent (before_past (before_by a.site.before) a.separation)) more ≡ true → IsDeep t.held → Holds (Stands text) (value_by more t (f ∷ fs) (None ∷ ks))
 unfolding begin_keyless_value begin_keyless_mapping
 keyless_inside text more t f fs ks e es a cut apart ind deep =
-    chained {P = λ w. w ≡ record { rest = past_gap more; held = last }} (tried (record { rest = past_gap more; held = at_value more t (f ∷ fs) (None ∷ ks) }) _ (begun f) (λ s d. ap (λ y. record { rest = past_gap more; held = y }) d)) (λ w d.
+    chained {P = λ w. w ≡ record { rest = past_gap more; held = last }} (tried (record { rest = past_gap more; held = at_value more t (f ∷ fs) (None ∷ ks) }) _ (grind (arith, went, opens_none)) (λ s d. ap (λ y. record { rest = past_gap more; held = y }) d)) (λ w d.
     went (subst (λ z. Stands text (on_held (push t.held.position Tok.value) z)) (sym d) (keyless_within text more t f fs ks e es a cut apart ind deep)))
   where
-    single : Bool
-    single = opens_pair (f ∷ fs)
-
     last : Held
-    last = record t.held { flow = pair_level InPair f ∷ fs; keys = None ∷ ks; position = pair_position (past t.held.position) more; leading = false; key_allowed = false; tokens = with_pair single more t }
-
-    begun : (f : FlowLevel) → Holds (λ y. y ≡ record t.held { flow = pair_level InPair f ∷ fs; keys = None ∷ ks; position = pair_position (past t.held.position) more; leading = false; key_allowed = false; tokens = with_pair (opens_pair (f ∷ fs)) more t })
-        (begin_keyless_value t.held.position (opens_pair (f ∷ fs)) (at_value more t (f ∷ fs) (None ∷ ks)))
-    begun a = grind (arith, went, opens_none)
+    last = record t.held { flow = pair_level InPair f ∷ fs; keys = None ∷ ks; position = pair_position (past t.held.position) more; leading = false; key_allowed = false; tokens = with_pair (opens_pair (f ∷ fs)) more t }

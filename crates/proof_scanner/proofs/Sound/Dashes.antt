@@ -138,7 +138,7 @@ entry_on v = lexed (space Yes v.rest v.held.position) v.held check_dash >>= λ w
 dash_outside : (text more : List ℕ) (t : ScannerState) (a : ArrivesBy text t [] (None ∷ []) []) → t.held.flow ≡ [] → t.held.keys ≡ None ∷ [] → t.rest ≡ 45 ∷ more → is_at_gap more ≡ true → t.held.key_allowed ≡ true → IsDeep t.held →
     Holds (Stands text) (entry_from t t)
 dash_outside text more t a flow keys e gap allowed deep =
-    subst (λ v. Holds (Stands text) (entry_on v)) (sym is_v)
+    subst (λ v. Holds (Stands text) (entry_on v)) (sym (ap (λ x. record { rest = after_first x; held = roll_indent t.held.position.col None Tok.block_sequence_start t.held.position h }) e ∙ ap (λ x. record { rest = more; held = x }) r.is_held))
     (chained {P = λ w. (w ≡ past_rest v) × (dash_may_precede more ≡ true)} (rest_read v check_dash _ (λ h. dash_checked more (past_rest v) refl)) (λ w d.
     subst (λ x. Holds (Stands text) (skip_spaces No x >>= entry_then)) (sym d.0)
     (subst (λ r. Holds (Stands text) (r >>= entry_then)) (sym (none_skipped (past_rest v) (past_rest_is_clear more))) (last d.1))))
@@ -154,9 +154,6 @@ dash_outside text more t a flow keys e gap allowed deep =
 
     v : ScannerState
     v = record { rest = more; held = record h { indents = r.indents; indent = r.indent; tokens = with_start Tok.block_sequence_start t } }
-
-    is_v : on_held (roll_indent t.held.position.col None Tok.block_sequence_start t.held.position) (skip_indicator t) ≡ v
-    is_v = ap (λ x. record { rest = after_first x; held = roll_indent t.held.position.col None Tok.block_sequence_start t.held.position h }) e ∙ ap (λ x. record { rest = more; held = x }) r.is_held
 
     last : dash_may_precede more ≡ true → Holds (Stands text) (entry_then (past_rest v))
     last apart =

@@ -78,10 +78,7 @@ begun_from u = record u { keys = with_top None u.keys; key_allowed = false }
 
 pub line_begun : (s u : Held) → unroll_indent 0 s ≡ u → Holds (λ v. (is_required (top_key u.keys) ≡ false) × (v ≡ begun_from u)) (begin_line s)
 unfolding begin_line remove_implicit_key
-line_begun s u e = subst (λ (h : Held). Holds (λ v. (is_required (top_key u.keys) ≡ false) × (v ≡ begun_from u)) (closed_key (if is_required (top_key h.keys) then Err (At problem.KeyExpected h.position) else Ok (record h { keys = with_top None h.keys })))) (sym e) (by (is_required (top_key u.keys)) refl)
-  where
-    by : (b : Bool) → is_required (top_key u.keys) ≡ b → Holds (λ v. (is_required (top_key u.keys) ≡ false) × (v ≡ begun_from u)) (closed_key (if b then Err (At problem.KeyExpected u.position) else Ok (record u { keys = with_top None u.keys })))
-    by a i = grind (arith, refused, went)
+line_begun s u e = subst (λ (h : Held). Holds (λ v. (is_required (top_key u.keys) ≡ false) × (v ≡ begun_from u)) (closed_key (if is_required (top_key h.keys) then Err (At problem.KeyExpected h.position) else Ok (record h { keys = with_top None h.keys })))) (sym e) (grind (arith, refused, went))
 
 -- all levels have ended
 abbrev pub all_ended : Held → Held
@@ -93,20 +90,13 @@ unrolled_outside s e a = rw e (ap (λ (u : Levels). record s { indent = u.indent
 
 -- ---- outside flow
 
--- the ends of the collections that a piece would end anyway, and of the others
-both_ends : (p : Position) (bs : List ℕ) → ends_at p bs (not_ended p.col bs) ++ ends_of (length (not_ended p.col bs)) p ≡ ends_at p bs []
-both_ends p bs = grind (arith, nat_tests, eqb-true, shorter, replicate-append-replicate)
-
-marker_line : (must : Bool) (here : Position) (bs : List ℕ) (l : Line) → (l ≡ free) ⊎ (l ≡ taken) → line_of_piece must here bs gives_marker false l ≡ Some (record { line = taken; blocks = bs })
-marker_line must a bs l b = grind arith
-
 line_stands : (text : List ℕ) (t : ScannerState) (d : Read) (a : ArrivesBy text t [] (None ∷ []) []) → IsRead t d → t.held.flow ≡ [] → with_top None t.held.keys ≡ None ∷ [] → Stands text (line_past t (begun_from (all_ended t.held)) d)
 line_stands text t d a r flow keys =
     read_outside text t (line_past t (begun_from (all_ended t.held)) d) a d.piece (next_of d) d.gap d.tok (record { line = taken; blocks = [] }) x (ap (λ k. site_in false k t.held.position a.site) r.token.act)
     (line_reads t d (begun_from (all_ended t.held)) _ r refl refl refl (r.token.awaits_outside x.blocks x.awaits (next_of d)) refl a.was_adjacent (refl, refl, refl)) (record { line_is = (inr refl, sym r.not_free, tt); no_key = refl; flow_is = flow; keys_are = keys }) (record {
       is_piece = subst (λ p. IsPiece (seen (with_entries a.site a.line []) x a.separation) d.piece (next_of d) None p d.tok) (sym (r.token.shown x d.piece (next_of d))) (r.is_piece (seen (with_entries a.site a.line []) x a.separation) r.at_margin refl);
       stands = rw (a.is_indented (some_rest t.rest d.piece (next_of d) r.cut r.is_solid), r.token.lines (least_for d.tok x) d.piece, r.precedes false x.blocks) refl;
-      after_is = ap (λ k. line_of_piece (is_in_column x.position.col x.blocks) x.position x.blocks k false a.line_here) r.token.act ∙ marker_line (is_in_column x.position.col x.blocks) x.position x.blocks a.line_here a.line_is.0;
+      after_is = ap (λ k. line_of_piece (is_in_column x.position.col x.blocks) x.position x.blocks k false a.line_here) r.token.act ∙ (grind arith);
       begun = r.token.begun;
       begins_none = ap begins_key r.token.act;
       tokens_are = tokens;
@@ -127,7 +117,7 @@ line_stands text t d a r flow keys =
         let ends : List Token = ends_at t.held.position bs here in
         let first : t.held.tokens ++ ends_of (length (columns t.held.indent t.held.indents)) t.held.position ≡ a.tokens ++ ends_at t.held.position bs [] =
         ap (λ cs. t.held.tokens ++ ends_of (length cs) t.held.position) (sym a.blocks_are) ∙ (ap (λ ts. ts ++ ends_of (length here) t.held.position) a.tokens_are ∙
-        (append_assoc a.tokens ends (ends_of (length here) t.held.position) ∙ ap (λ ts. a.tokens ++ ts) (both_ends t.held.position bs))) in
+        (append_assoc a.tokens ends (ends_of (length here) t.held.position) ∙ ap (λ ts. a.tokens ++ ts) (grind (arith, nat_tests, eqb-true, shorter, replicate-append-replicate)))) in
         let begun : begun_outside (is_deeper x.position.col x.blocks) x.position x.position (act_of d.tok) false (Some a.line_here) ≡ [] = ap (λ k. begun_outside (is_deeper x.position.col x.blocks) x.position x.position k false (Some a.line_here)) r.token.act in
         ap (λ ts. ts ++ (own ∷ [])) first ∙ (append_assoc a.tokens (ends_at t.held.position bs []) (own ∷ []) ∙
         ap (λ ts. a.tokens ++ ts) (ap (λ ts. ts ++ (own ∷ [])) (sym (append-nil (ends_at t.held.position bs []))) ∙
@@ -135,14 +125,6 @@ line_stands text t d a r flow keys =
         ap (λ p. (ends_at t.held.position bs [] ++ begun_outside (is_deeper x.position.col x.blocks) x.position x.position (act_of d.tok) false (Some a.line_here)) ++ (put p d.tok ∷ [])) (sym (r.token.shown x d.piece (next_of d))))))
 
 -- ---- in flow
-
-had_settled : (again : Bool) (h : Had) → is_keyed h ≡ false → (kind : FlowKind) (pair : Pair) (here : Position) (xs : List Entry) →
-    entries_past here again gives_marker [] false (record { kind = kind; pair = pair; had = h }) xs ≡ Some (record { kind = kind; pair = pair; had = settled } ∷ xs)
-had_settled again h k kind pair here xs = grind arith
-
--- no key's colon
-marker_past : (n : ℕ) (p : Position) (w : Step) (ws : List Step) (last : List ℕ) → act_of w.shown ≡ gives_marker → begun_by w.shown ≡ [] → colon_of n p (w ∷ ws) last ≡ colon_of n (past_step p w ws last) ws last
-marker_past n p w ws last e f = rw (e, f) refl
 
 -- no key of the entry waits after it, and none may begin
 abbrev pub entry_settled : Entry → Entry
@@ -162,8 +144,8 @@ line_goes text t d f fs k ks e es a r flow keys =
       is_piece = subst (λ p. IsPiece (seen (with_entries a.site a.line (e ∷ es)) x a.separation) d.piece (next_of d) None p d.tok) (sym (r.token.shown x d.piece (next_of d))) (r.is_piece (seen (with_entries a.site a.line (e ∷ es)) x a.separation) r.at_margin refl);
       stands = rw (a.is_indented (some_rest t.rest d.piece (next_of d) r.cut r.is_solid), r.token.act, r.token.lines (least_for d.tok x) d.piece, r.precedes true x.blocks) refl;
       entry_past = λ xs. ap (λ y. entries_past x.position (is_renewed a.site.before a.separation) y [] false e xs) r.token.act ∙
-          had_settled (is_renewed a.site.before a.separation) e.had (not_keyed t.held.key_allowed (is_renewed a.site.before a.separation) k e.had a.are_entries.1) e.kind e.pair x.position xs;
-      colons = λ n p ws last. marker_past (suc n) p (record { separation = a.separation; piece = d.piece; shown = d.tok; key = false }) ws last r.token.act r.token.begun;
+          (grind arith);
+      colons = λ n p ws last. (rw (r.token.act, r.token.begun) refl);
       tokens_are = tokens;
     })
   where

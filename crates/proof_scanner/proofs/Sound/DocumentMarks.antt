@@ -46,9 +46,6 @@ pub end_is_read : (t : ScannerState) (more : List ℕ) (p : Position) → p ≡ 
 unfolding is_break
 end_is_read t more p same e a col done = grind (arith, nat_tests, eqb-true, line_rest_in_line, three_past, same_in_line, none_indents, end_token, line_rest_cut, line_rest_fills)
 
-done_there : (more : List ℕ) → has_no_nul more ≡ true → begins_with 35 more ≡ false → is_breakz (peek (past_blanks_and_comment more)) ≡ true → line_is_done (blanks_and_comment more ++ past_blanks_and_comment more) ≡ true
-done_there more clean hash ends = grind (arith, nat_tests, blanks_and_comment, is_done, line_rest_fills, no_break_alike, line_rest_in_line, at_end_of, no_nul_after, line_rest_cut, begins_with, eqb-true)
-
 -- the state after the marker
 abbrev pub marked : ScannerState → Held → (rest : List ℕ) → ScannerState
 marked t h r = on_held (push t.held.position Tok.document_end) (skip_indicator (skip_indicator (skip_indicator (record { rest = r; held = begun_from h }))))
@@ -66,7 +63,7 @@ document_end_keeps text more t a e gap col =
     let is : v ≡ past_rest (marked t b.held (46 ∷ 46 ∷ 46 ∷ more)) = s.0 ∙ ap past_rest d.1 in
     let ends : is_breakz (peek (past_blanks_and_comment more)) ≡ true = ap (λ y. is_breakz (peek y.rest)) (sym is) ∙ yes in
     let hash : begins_with 35 more ≡ false = ap (λ y. begins_with 35 y.rest) (sym d.1) ∙ s.1 in
-    subst (Stands text) (sym is) (b.stands (end_read more b.held.position) (end_is_read t more b.held.position b.same_position e gap col (done_there more clean hash ends)) d.0)
+    subst (Stands text) (sym is) (b.stands (end_read more b.held.position) (end_is_read t more b.held.position b.same_position e gap col (grind (arith, nat_tests, blanks_and_comment, is_done, line_rest_fills, no_break_alike, line_rest_in_line, at_end_of, no_nul_after, line_rest_cut, begins_with, eqb-true))) d.0)
     )) (λ no. refused)))
 
 -- ---- directives
@@ -74,10 +71,6 @@ document_end_keeps text more t a e gap col =
 two_break : last_line (13 ∷ 10 ∷ []) ≡ []
 unfolding is_break
 two_break = refl
-
--- after the break after a directive the line is empty
-last_of_break : (next : List ℕ) → ends_line next ≡ true → last_line (first_break next) ≡ []
-last_of_break a h = grind (arith, nat_tests, and_parts, eqb-true, two_break)
 
 no_tab_there : (n : ℕ) → has_tab_within n [] ≡ false
 no_tab_there a = grind (arith, nat_tests, eqb-true)
@@ -106,7 +99,7 @@ abbrev pub directive_read : (line next : List ℕ) → Directive → Position �
 directive_read line next d p = record { tok = token_of d; piece = 37 ∷ line; gap = first_break next; rest = next_line next; end = position_after p ((37 ∷ line) ++ first_break next) (next_line next); leading = true }
 
 pub directive_is_read : (t : ScannerState) (line next : List ℕ) (d : Directive) → t.rest ≡ 37 ∷ (line ++ next) → has_no_break line ≡ true → ends_line next ≡ true → directive_of (37 ∷ line) ≡ Some d → t.held.position.col ≡ 0 → IsRead t (directive_read line next d t.held.position)
-directive_is_read t line next d e no_break ends is col = grind (arith, nat_tests, eqb-true, directive_token, break_cut, percent_in_line, break_is_separation, position_append, piece_of, line_end_there, directive_precedes, directive_before, last_of_break, no_tab_there, or_true, break_has, first_whole, no_second)
+directive_is_read t line next d e no_break ends is col = grind (arith, nat_tests, eqb-true, directive_token, break_cut, percent_in_line, break_is_separation, position_append, piece_of, line_end_there, directive_precedes, directive_before, and_parts, two_break, no_tab_there, or_true, break_has, first_whole, no_second)
 
 -- the scanner after a directive
 abbrev pub after_it : ScannerState → machine.Read Tok → Held → ScannerState

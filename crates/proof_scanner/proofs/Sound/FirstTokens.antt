@@ -16,14 +16,10 @@ abbrev rest_of : List Token → List Token
 rest_of [] = []
 rest_of (x ∷ xs) = xs
 
--- which token follows may be forgotten
-piece_forgotten : (a : Account) (p n : List ℕ) (o : Option Tok) (at : Position) (t : Tok) → IsPiece a p n o at t → IsPiece a p n None at t
-piece_forgotten a p n o b d q = grind (arith, nat_tests, eqb-true)
-
 -- a row up to one of its tokens
 row_first : (a : Account) (ws vs : List Written) (f : List ℕ) (last : Option Tok) → IsRow a (ws ++ vs) f last → IsRow a ws (spelled vs f) None
 row_first a [] vs f last r = tt
-row_first a (w ∷ []) vs f last r = ((r.0.0, piece_forgotten _ w.piece (spelled vs f) (first_token vs last) (w.token.position) (w.token.tok) r.0.1), tt)
+row_first a (w ∷ []) vs f last r = ((r.0.0, (grind (arith, nat_tests, eqb-true))), tt)
 row_first a (w ∷ v ∷ ws) vs f last r =
     let same : spelled ((v ∷ ws) ++ vs) f ≡ spelled (v ∷ ws) (spelled vs f) = spelled_append (v ∷ ws) vs f in
     subst (λ t. IsWritten a w t (Some v.token.tok) × IsRow (account_past a w t) (v ∷ ws) (spelled vs f) None) same

@@ -15,17 +15,11 @@ use Rattle.proof_scanner.proofs.Sound.Sides.{ArrivesOutside, ArrivesInside, arri
 -- the innermost key need not be one
 pub flow_over : (s : Held) → Holds (λ u. (is_required (top_key s.keys) ≡ false) × (u ≡ ended_now s.flow s)) (end_flow s)
 unfolding end_flow remove_implicit_key
-flow_over s = by (is_required (top_key s.keys)) refl
-  where
-    by : (b : Bool) → is_required (top_key s.keys) ≡ b → Holds (λ u. (is_required (top_key s.keys) ≡ false) × (u ≡ ended_now s.flow s)) (ended_flow (if b then Err (At problem.KeyExpected s.position) else Ok (record s { keys = with_top None s.keys })))
-    by b e = grind (arith, refused, went, ended_is s s.flow)
+flow_over s = grind (arith, refused, went, ended_is s s.flow)
 
 pub entry_over : (s : Held) → Holds (λ u. (is_required (top_key s.keys) ≡ false) × (u ≡ entry_now s.flow s)) (end_entry s)
 unfolding end_entry remove_implicit_key
-entry_over s = by (is_required (top_key s.keys)) refl
-  where
-    by : (b : Bool) → is_required (top_key s.keys) ≡ b → Holds (λ u. (is_required (top_key s.keys) ≡ false) × (u ≡ entry_now s.flow s)) (next_entry (if b then Err (At problem.KeyExpected s.position) else Ok (record s { keys = with_top None s.keys })))
-    by b e = grind (arith, refused, went, entry_is s s.flow)
+entry_over s = grind (arith, refused, went, entry_is s s.flow)
 
 -- so outside flow it may be none
 pub may_be_none : (k : Option Key) (ks : List (Option Key)) (keys : List (Option Key)) (p : Position) (rest : List ℕ) → keys ≡ k ∷ ks → is_required (top_key keys) ≡ false → MayChoose true false k p rest

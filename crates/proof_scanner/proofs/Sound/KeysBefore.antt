@@ -16,15 +16,8 @@ key_before text t f fs k ks x es a some = by (outside_key es ks) refl
         let grows = line_grows a.site.position a.separation t.rest in
         omega (arith, h.0, there, grows)
 
-    begun : Begins text (a.separation ++ t.rest) (Then false) → k.position.line ≤ t.held.position.line
-    begun g = early (Then false) (keys_before (Some first_account) g.steps (a.separation ++ t.rest) (Then false) g.leads tt)
-
-    but_for_key : (p : Position) → BeginsButForKey text (a.separation ++ t.rest) p (Then false) → k.position.line ≤ t.held.position.line
-    but_for_key p g =
-        early (Then false) (keys_before (Some (record g.account { line = taken })) g.steps (a.separation ++ t.rest) (Then false) g.leads (keys_before (Some first_account) g.begins.steps (spelled g.steps (a.separation ++ t.rest)) g.account g.begins.leads tt))
-
     may : (y : Option Key) → outside_key es ks ≡ y → MayChoose true false y t.held.position t.rest → k.position.line ≤ t.held.position.line
-    may y i h = begun (a.completes true false (true ∷ []) (subst (λ z. MayChoose true false z t.held.position t.rest) (sym i) h)).0
+    may y i h = early (Then false) (keys_before (Some first_account) (a.completes true false (true ∷ []) (subst (λ z. MayChoose true false z t.held.position t.rest) (sym i) h)).0.steps (a.separation ++ t.rest) (Then false) (a.completes true false (true ∷ []) (subst (λ z. MayChoose true false z t.held.position t.rest) (sym i) h)).0.leads tt)
 
     by : (y : Option Key) → outside_key es ks ≡ y → k.position.line ≤ t.held.position.line
     by None i = may None i tt
@@ -32,4 +25,4 @@ key_before text t f fs k ks x es a some = by (outside_key es ks) refl
       where
         by_must : (b : Bool) → z.required ≡ b → k.position.line ≤ t.held.position.line
         by_must false e = may (Some z) i e
-        by_must true e = but_for_key z.position (a.carries (true ∷ []) z i e refl some)
+        by_must true e = early (Then false) (keys_before (Some (record (a.carries (true ∷ []) z i e refl some).account { line = taken })) (a.carries (true ∷ []) z i e refl some).steps (a.separation ++ t.rest) (Then false) (a.carries (true ∷ []) z i e refl some).leads (keys_before (Some first_account) (a.carries (true ∷ []) z i e refl some).begins.steps (spelled (a.carries (true ∷ []) z i e refl some).steps (a.separation ++ t.rest)) (a.carries (true ∷ []) z i e refl some).account (a.carries (true ∷ []) z i e refl some).begins.leads tt))

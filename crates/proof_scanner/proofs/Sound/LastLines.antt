@@ -29,12 +29,9 @@ complete_is (c ∷ r) = by (is_break c) (is_before_line_feed c r) refl (complete
 pub last_first : (c : ℕ) (r : List ℕ) → last_line (c ∷ r) ≡ (if is_break c || has_break r then last_line r else c ∷ last_line r)
 last_first c r = by (is_break c) (is_before_line_feed c r) ∙ ap (λ b. if is_break c || not b then last_line r else c ∷ last_line r) (complete_is r)
   where
-    kept : (complete : List (List ℕ)) (last : List ℕ) → (put_first c complete last).last ≡ (if not (is_empty complete) then last else c ∷ last)
-    kept a last = grind arith
-
     by : (x y : Bool) → (split_by x y c (split r)).last ≡ (if x || not (is_empty (split r).complete) then last_line r else c ∷ last_line r)
     by true a = grind arith
-    by false y = kept (split r).complete (split r).last
+    by false y = grind arith
 
 -- one character more at its end
 pub last_more : (g : List ℕ) (c : ℕ) → last_line (g ++ c ∷ []) ≡ (if is_break c then [] else last_line g ++ c ∷ [])
@@ -69,7 +66,7 @@ in_no_comment d l e f = rw (e, f) refl
 
 -- where a separation ends within a line, and not in a comment, its last line has no `#`
 pub no_comment_in_last : (g rest : List ℕ) → is_separation false g rest ≡ true → is_at_line_end rest ≡ false → is_one_of (last_line g) 35 ≡ false
-no_comment_in_last g rest h ends = outside g h
+no_comment_in_last g rest h ends = (both g).0 h
   where
     Both : List ℕ → Type 0
     Both g = (is_separation false g rest ≡ true → is_one_of (last_line g) 35 ≡ false) × (is_separation true g rest ≡ true → (has_break g ≡ true) × (is_one_of (last_line g) 35 ≡ false))
@@ -87,9 +84,6 @@ no_comment_in_last g rest h ends = outside g h
         second : (x : Bool) → is_break c ≡ x → is_separation (not x) g rest ≡ true → Both g → (has_break (c ∷ g) ≡ true) × (is_one_of (last_line (c ∷ g)) 35 ≡ false)
         second true e h b = (rw e refl, rw (last_first c g, e) (b.0 h))
         second false e h b = (rw e (b.1 h).0, rw (last_first c g, e, (b.1 h).0) (b.1 h).1)
-
-    outside : (g : List ℕ) → is_separation false g rest ≡ true → is_one_of (last_line g) 35 ≡ false
-    outside g h = (both g).0 h
 
 -- ---- TABs in its first columns
 

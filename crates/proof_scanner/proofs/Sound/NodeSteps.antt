@@ -36,10 +36,6 @@ abbrev IsStepped : (begun es : List Entry) → Entry → Position → Key → (a
 IsStepped begun es e here new again allowed c k d =
     entries_past here again gives_node begun (bit_of allowed c) (Own e (had_by (choice_before allowed c) k d)) es ≡ Some (begun ++ (Own e (had_by c (saved allowed new k) (had_past_node allowed d)) ∷ es))
 
--- what an entry has had where a node begins
-had_there : (allowed again : Bool) (k : Option Key) (d : Had) → HasHadHere allowed again k d → ((is_some k ≡ true) × (d ≡ filled) × (allowed ≡ again)) ⊎ (((k ≡ None) × (d ≡ fresh) × (allowed ≡ true)) ⊎ ((k ≡ None) × (d ≡ settled) × (allowed ≡ again)))
-had_there allowed again k d h = grind arith
-
 module _ (begun es : List Entry) (e : Entry) (here : Position) (new : Key) (place : new.position ≡ here) (again c : Bool) where
   filled_goes : (k : Option Key) → is_some k ≡ true → IsStepped begun es e here new again again c k filled
   filled_goes k h = grind (arith, place)
@@ -53,7 +49,7 @@ module _ (begun es : List Entry) (e : Entry) (here : Position) (new : Key) (plac
 -- in flow; the node may be a collection, which begins with an entry of its own
 pub node_in_entry : (again allowed c : Bool) (k : Option Key) (new : Key) (e : Entry) (here : Position) (begun es : List Entry) → HasHadHere allowed again k e.had → new.position ≡ here →
     entries_past here again gives_node begun (bit_of allowed c) (entry_by (choice_before allowed c) k e) es ≡ Some (begun ++ (entry_by c (saved allowed new k) (entry_past_node allowed e) ∷ es))
-node_in_entry again allowed c k new e here begun es h q = grind (arith, nat_tests, eqb-true, had_there)
+node_in_entry again allowed c k new e here begun es h q = grind (arith, nat_tests, eqb-true)
 
 -- ---- on one line
 

@@ -24,11 +24,6 @@ same_levels cs ks (e ∷ es) = ap (λ x. level_of e ∷ x) (same_levels (pop cs)
 abbrev pub past_step : Position → Step → List Step → (last : List ℕ) → Position
 past_step p w ws last = position_after (position_after p w.separation (w.piece ++ spelled ws last)) w.piece (spelled ws last)
 
--- a part of a node is no colon of a key; a collection that it begins is open inside the key
-pub colon_past : (kind : Option FlowLevel) (d : ℕ) (p : Position) (w : Step) (ws : List Step) (last : List ℕ) → act_of w.shown ≡ gives_node → begun_by w.shown ≡ with_begun kind [] →
-    colon_of d p (w ∷ ws) last ≡ colon_of (depth_begun kind d) (past_step p w ws last) ws last
-colon_past kind d p w ws last e f = rw (e, f) refl
-
 -- Keys that wait have the colons that they have after a step, if each colon is the same from there on. Before it and after it so many more flow collections may be open inside each key.
 pub keys_along : (from to : ℕ → ℕ) → ((n : ℕ) → from (suc n) ≡ suc (from n)) → ((n : ℕ) → to (suc n) ≡ suc (to n)) → (d : ℕ) (p q : Position) (w : Step) (ws : List Step) (last : List ℕ) →
     ((n : ℕ) → colon_of (from n) p (w ∷ ws) last ≡ colon_of (to n) q ws last) → (bs : List ℕ) (l : Line) (es : List Entry) (ks : List (Option Key)) (ts : List Token) →
@@ -40,7 +35,7 @@ keys_along from to up rise d p q w ws last h bs l (x ∷ es) (k ∷ ks) ts = gri
 -- so it is after a part of a node
 pub keys_past : (kind : Option FlowLevel) (d : ℕ) (p : Position) (w : Step) (ws : List Step) (last : List ℕ) → act_of w.shown ≡ gives_node → begun_by w.shown ≡ with_begun kind [] →
     (bs : List ℕ) (l : Line) (es : List Entry) (ks : List (Option Key)) (ts : List Token) → with_keys d p (w ∷ ws) last bs l es ks ts ≡ with_keys (depth_begun kind d) (past_step p w ws last) ws last bs l es ks ts
-keys_past kind d p w ws last e f bs l es ks ts = keys_along (λ n. n) (depth_begun kind) (λ n. refl) (depth_rises kind) d p (past_step p w ws last) w ws last (λ n. colon_past kind n p w ws last e f) bs l es ks ts
+keys_past kind d p w ws last e f bs l es ks ts = keys_along (λ n. n) (depth_begun kind) (λ n. refl) (depth_rises kind) d p (past_step p w ws last) w ws last (λ n. (rw (e, f) refl)) bs l es ks ts
 
 -- ---- a key that begins with the last token
 
@@ -72,20 +67,12 @@ past_piece at w ws last = position_after at.position w.piece (spelled ws last)
 abbrev pub shown_token : Site → Step → List Step → (last : List ℕ) → Token
 shown_token at w ws last = put (shown_position at w.piece w.shown (spelled ws last)) w.shown
 
-begun_out : (deeper : Bool) (here colon : Position) (bit : Bool) (l : Option Line) (at : Site) (c : Colon) → deeper ≡ is_deeper at.position.col at.blocks → here ≡ at.position → colon ≡ c.here →
-    begun_outside deeper here colon gives_node bit l ≡ key_outside bit at c
-begun_out deeper here colon a l at c d h e = grind (arith, nat_tests, eqb-true)
-
 -- outside flow
 pub tokens_outside : (s at : Site) (w : Step) (ws : List Step) (last : List ℕ) (l : Line) (begins : List Entry) → act_of w.shown ≡ gives_node → begun_by w.shown ≡ begins →
     tokens_at s at w ws last l [] ≡ ends_at at.position s.blocks at.blocks ++ (key_outside w.key at (colon_of (depth_past gives_node begins 0) (past_piece at w ws last) ws last) ++ (shown_token at w ws last ∷ []))
-tokens_outside s at w ws last l begins e f = grind (arith, nat_tests, eqb-true, begun_out, append_assoc)
-
-begun_in : (single : Bool) (pair : Pair) (here colon own : Position) (bit : Bool) (h : Had) (at : Site) (c : Colon) → here ≡ at.position → colon ≡ pair_position c.past c.next →
-    begun_inside single pair here colon own gives_node bit h ≡ key_inside bit single at c
-begun_in single pair here colon own a h at c p e = grind (arith, nat_tests, eqb-true)
+tokens_outside s at w ws last l begins e f = grind (arith, nat_tests, eqb-true, append_assoc)
 
 -- in flow
 pub tokens_inside : (s at : Site) (w : Step) (ws : List Step) (last : List ℕ) (l : Line) (n : Entry) (es begins : List Entry) → act_of w.shown ≡ gives_node → begun_by w.shown ≡ begins →
     tokens_at s at w ws last l (n ∷ es) ≡ key_inside w.key (takes_pair n.kind n.pair) at (colon_of (depth_past gives_node begins 0) (past_piece at w ws last) ws last) ++ (shown_token at w ws last ∷ [])
-tokens_inside s at w ws last l n es begins e f = grind (arith, nat_tests, eqb-true, begun_in)
+tokens_inside s at w ws last l n es begins e f = grind (arith, nat_tests, eqb-true)

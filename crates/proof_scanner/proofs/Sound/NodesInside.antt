@@ -6,11 +6,6 @@ use Rattle.proof_scanner.proofs.Sound.NodeSteps.{saved, choice_before, bit_of, h
 use Rattle.proof_scanner.proofs.Sound.NodeTokens.{past_step, keys_past, key_between, key_inside, tokens_inside, no_had, had_as_it_was}
 use Rattle.proof_scanner.proofs.Sound.Sides.{with_entries}
 
--- In the entry itself, by the choice: a key that begins here goes in before its token, and one that waits where it did.
-pub by_choice : (allowed ch : Bool) (k : Option Key) (new : Key) (h : Had) (c : Colon) (single : Bool) (s : Site) (ts : List Token) (own : Token) → is_keyed h ≡ false → new.position ≡ s.position → new.number ≡ length ts → AreAmong (length ts) (k ∷ []) →
-    with_had c single (had_by (choice_before allowed ch) k h) k ts ++ (key_inside (bit_of allowed ch) single s c ++ (own ∷ [])) ≡ with_had c single (had_by ch (saved allowed new k) (had_past_node allowed h)) (saved allowed new k) (ts ++ (own ∷ []))
-by_choice allowed ch k new h c single s ts own idle q i a = grind (arith, key_between, had_first, no_had, had_as_it_was)
-
 -- The tokens after it are those before, and its own.
 pub node_tokens : (level : Option FlowLevel) (s : Site) (separation piece : List ℕ) (tok : Tok) (allowed c : Bool) (k : Option Key) (new : Key) (e : Entry) (es : List Entry) (ks : List (Option Key)) (ts : List Token) (l : Line) (ws : List Step) (last : List ℕ) →
     act_of tok ≡ gives_node → begun_by tok ≡ with_begun level [] → is_keyed e.had ≡ false →
@@ -36,5 +31,5 @@ node_tokens level s separation piece tok allowed c k new e es ks ts l ws last ac
     ap (λ y. y ++ tokens_at s at w ws last l (x ∷ es)) first ∙
     (ap (λ y. with_keys (suc depth) p ws last s.blocks l es ks inner ++ y) (tokens_inside s at w ws last l x es (with_begun level []) act begins) ∙
     (sym (keys_first (suc depth) p ws last s.blocks l es ks inner step (fewer (length ts) (length inner) ks (had_longer colon single x.had k ts) parts.1)) ∙
-    (ap (λ y. with_keys (suc depth) p ws last s.blocks l es ks y) (by_choice allowed c k new e.had colon single at ts own idle place number parts.0) ∙
+    (ap (λ y. with_keys (suc depth) p ws last s.blocks l es ks y) (grind (arith, key_between, had_first, no_had, had_as_it_was)) ∙
     sym (keys_around_begun level p ws last s.blocks l (entry_by c (saved allowed new k) (entry_past_node allowed e) ∷ es) (saved allowed new k ∷ ks) (ts ++ (own ∷ []))))))

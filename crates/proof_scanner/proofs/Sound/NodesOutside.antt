@@ -17,10 +17,6 @@ AreSame (Some k) p rest bs cs = IsLive k p rest → bs ≡ cs
 pub idle_by : (c : Bool) (k : Option Key) (l : Line) (p : Position) (rest : List ℕ) → is_waiting l ≡ false → MayChoose false c k p rest → is_waiting (line_by c k l) ≡ false
 idle_by c a l p rest h may = grind (arith, nat_tests, eqb-true)
 
--- a key may begin there, and none is open; or the line is taken
-line_there : (allowed : Bool) (k : Option Key) (l : Line) → IsLineHere false allowed (0 ∷ []) k l → ((allowed ≡ true) × (k ≡ None) × (l ≡ free)) ⊎ ((allowed ≡ false) × (l ≡ taken))
-line_there allowed k l h = grind arith
-
 key_there : (strict must c : Bool) (new : Key) (here p : Position) (bs rest : List ℕ) → new.position ≡ here → new.required ≡ must → MayChoose strict c (Some new) p rest →
     line_past (strict && must) here bs gives_node c free ≡ Some (record { line = line_by c (Some new) taken; blocks = bs })
 key_there strict must c new here p bs rest e q may = grind arith
@@ -31,7 +27,7 @@ taken_there must c k here bs = grind arith
 -- of a row, and of a cut
 pub line_after_node : (strict must allowed c : Bool) (k : Option Key) (new : Key) (l : Line) (here p : Position) (bs rest : List ℕ) → IsLineHere false allowed (0 ∷ []) k l → new.position ≡ here → new.required ≡ must → MayChoose strict c (saved allowed new k) p rest →
     line_past (strict && must) here bs gives_node (bit_of allowed c) (line_by (choice_before allowed c) k l) ≡ Some (record { line = line_by c (saved allowed new k) taken; blocks = bs })
-line_after_node strict must allowed c k new l here p bs rest h e q may = grind (arith, nat_tests, eqb-true, line_there, key_there, taken_there)
+line_after_node strict must allowed c k new l here p bs rest h e q may = grind (arith, nat_tests, eqb-true, key_there, taken_there)
 
 -- ---- the tokens after it
 

@@ -66,15 +66,8 @@ opener_read t tok c more ds i = record {
   adjacent = t.held.adjacent_value_at;
 }
 
--- as many entries are open as flow levels
-many_entries : (allowed again : Bool) (fs : List FlowLevel) (ks : List (Option Key)) (es : List Entry) → AreEntries allowed again fs ks es → length fs ≡ length es
-many_entries allowed again a ks es h = grind (arith, nat_tests, many_around, eqb-true)
-
 less : (m n : ℕ) → m ≡ n → nat_le 255 m ≡ false → nat_lt n 255 ≡ true
 less m n same h = grind (arith, nat_tests)
-
-awaits_then : (tok : Tok) (lv : FlowLevel) (c : ℕ) (o : IsOpener lv tok c) (fl : Bool) (bs : List ℕ) (b : Bool) (next : List ℕ) → awaits_past fl tok bs b next ≡ (if fl then b else not (is_empty bs))
-awaits_then tok lv c o a bs b next = grind (arith, nat_tests, eqb-true)
 
 -- with the key that may begin here
 abbrev pub with_key : Held → Held
@@ -91,14 +84,14 @@ opener_is_read text more lv tok c o t u r e deep hash few fs ks es flow a =
     record {
       reads = reads_before_none t (state_after t (Some lv) d) (site_then t fs a.site d) (c ∷ []) (next_of d) d.gap refl (e ∙ ap (λ l. c ∷ l) cut) refl (line_rest_fills more) (line_rest_in_line more) refl
           (indicator_end t.held.position c more o.is_opening.in_line ∙ ap (λ l. position_after (position_after t.held.position (c ∷ []) l) d.gap d.rest) cut) refl o.previous (a.blocks_are ∙ sym r.columns_are)
-          (awaits_then tok lv c o fl x.blocks x.awaits (next_of d) ∙ (ap (λ b. if fl then b else not (is_empty x.blocks)) a.awaits_is ∙ (ap (λ bs. if fl then has_open_level t.held.indents else not (is_empty bs)) a.blocks_are ∙
+          ((grind (arith, nat_tests, eqb-true)) ∙ (ap (λ b. if fl then b else not (is_empty x.blocks)) a.awaits_is ∙ (ap (λ bs. if fl then has_open_level t.held.indents else not (is_empty bs)) a.blocks_are ∙
           (ap (λ f. if not (is_empty f) then has_open_level t.held.indents else not (is_empty (columns t.held.indent t.held.indents))) (sym flow) ∙ sym r.awaits)))) r.are_levels a.was_adjacent (refl, refl, refl);
       act = o.act;
       begun = o.begun;
       is_begun = (o.no_pair_yet, omega (arith, stays));
       shown = λ y. o.shown y (c ∷ []) (next_of d);
       is_piece = o.is_opening.piece (seen (with_entries a.site a.line es) x a.separation) (next_of d) None
-          (less (length fs) (length (map level_of es)) (many_entries t.held.key_allowed (is_renewed a.site.before a.separation) fs ks es a.are_entries ∙ sym (length-map es level_of)) (ap (λ f. nat_le 255 (length f)) (sym flow) ∙ few));
+          (less (length fs) (length (map level_of es)) ((grind (arith, nat_tests, many_around, eqb-true)) ∙ sym (length-map es level_of)) (ap (λ f. nat_le 255 (length f)) (sym flow) ∙ few));
       is_deep = deep_for fl tok x (o.least x) (deep_there text t fs ks es a deep);
       lines_stand = o.lines (least_for tok x) (c ∷ []);
       precedes = o.precedes fl x.blocks (c ∷ []) (next_of d) ∙ ap (λ l. not (begins_with 35 l)) (sym cut) ∙ ap not hash;

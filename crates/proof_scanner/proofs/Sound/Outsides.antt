@@ -66,7 +66,4 @@ module _ (text : List ℕ) (t : ScannerState) (k : Option Key) (a : ArrivesBy te
     same_node = grind (arith, nat_tests, eqb-true, none_ends)
 
     pub open_node : (q : Position) → After t.held.position q → IsOpenOutside (saved t.held.key_allowed (new_key t) k) q end rest here.blocks
-    open_node q after = by t.held.key_allowed (saved t.held.key_allowed (new_key t) k) refl
-      where
-        by : (b : Bool) (y : Option Key) → saved b (new_key t) k ≡ y → IsOpenOutside y q end rest here.blocks
-        by b y e = grind (arith, after, after_then, not_before_then, last_before, open_of, none_ends, live_now, weaker, first_not_right, must_be_here)
+    open_node q after = grind (arith, after, after_then, not_before_then, last_before, open_of, none_ends, live_now, weaker, first_not_right, must_be_here)

@@ -57,9 +57,6 @@ content_last : (c : ℕ) (r : List ℕ) → ends_with_content c r ≡ true → e
 content_last c [] h = (and_parts (not (is_blank c)) (not (is_break c)) h).1
 content_last c (d ∷ r) h = content_last d r h
 
-whole_ends : (fl : Bool) (collection : Option ℕ) (piece next : List ℕ) → is_whole_plain fl collection piece next ≡ true → ends_in_line piece ≡ true
-whole_ends fl collection a next h = grind (arith, nat_tests, eqb-true, content_last, and_parts)
-
 whole_solid : (fl : Bool) (collection : Option ℕ) (piece next : List ℕ) → is_whole_plain fl collection piece next ≡ true → is_empty piece ≡ false
 whole_solid fl a b d h = grind arith
 
@@ -77,9 +74,6 @@ gap_in_line q g a some ends h = grind (arith, nat_tests, no_break_on_line, eqb-t
 pub solid_text : (text : List ℕ) → is_empty text ≡ false → begins_separation text ≡ false → begins_solid text ≡ true
 solid_text a b h = grind (arith, is_white)
 
-some_plain : (fl x : Bool) (column : ℕ) (text : List ℕ) → comes_plain fl x column text ≡ true → is_empty text ≡ false
-some_plain fl x column a h = grind arith
-
 pub same_innermost : (bs : List ℕ) → innermost_column (map (λ n. Some n) bs) ≡ innermost bs
 same_innermost a = grind arith
 
@@ -96,15 +90,12 @@ module _ (text : List ℕ) (t : ScannerState) (a : Arrives text t) (deep : IsDee
   abbrev pub ctx : Context
   ctx = record { flow = in_flow t.held; indent = gone.indent }
 
-  indented : is_indented ctx t.held.position ≡ true
-  indented = less_or (in_flow t.held) gone.indent t.held.position.col (omega (arith, deep, closed.not_deeper))
-
   pub some_here : is_empty t.rest ≡ false
-  some_here = some_plain (in_flow t.held) (t.held.position.index == t.held.adjacent_value_at) t.held.position.col t.rest comes
+  some_here = grind arith
 
   module _ (x : machine.Read Plain) (scanned : plain ctx t.rest t.held.position ≡ Ok x) where
     pub q : PlainAs ctx t.held.position t.rest x
-    q = plain_as ctx t.held.position t.rest x a.is_clean (solid_text t.rest some_here a.is_solid) indented scanned
+    q = plain_as ctx t.held.position t.rest x a.is_clean (solid_text t.rest some_here a.is_solid) (less_or (in_flow t.held) gone.indent t.held.position.col (omega (arith, deep, closed.not_deeper))) scanned
 
     abbrev tok : Tok
     tok = Tok.scalar Style.plain x.value.text
@@ -124,7 +115,7 @@ module _ (text : List ℕ) (t : ScannerState) (a : Arrives text t) (deep : IsDee
     }
 
     in_line : ends_in_line q.piece ≡ true
-    in_line = whole_ends ctx.flow (collection_of ctx.indent) q.piece (q.gap ++ x.rest) q.whole
+    in_line = grind (arith, nat_tests, eqb-true, content_last, and_parts)
 
     solid : is_empty q.piece ≡ false
     solid = whole_solid ctx.flow (collection_of ctx.indent) q.piece (q.gap ++ x.rest) q.whole
@@ -159,32 +150,20 @@ module _ (text : List ℕ) (t : ScannerState) (a : Arrives text t) (deep : IsDee
       blocks_then : at.blocks ≡ columns gone.indent gone.indents
       blocks_then = r.blocks_are ∙ closed.same_columns
 
-      own_column : collection_column own ≡ collection_of gone.indent
-      own_column = same_innermost at.blocks ∙ (ap innermost blocks_then ∙ sym closed.is_least.0)
-
       least_here : least_column at.blocks true ≡ gone.indent
       least_here = ap (λ bs. least_column bs true) blocks_then ∙ closed.is_least.1
 
-      comes_here : comes_plain (in_flow t.held) (is_adjacent own.before) t.held.position.col t.rest ≡ true
-      comes_here = grind arith
-
       begins : begins_plain (is_in_flow own) (is_adjacent own.before) own.position.col (q.piece ++ next_of d) ≡ true
-      begins = ap (begins_plain (is_in_flow own) (is_adjacent own.before) own.position.col) (sym q.cut) ∙ (ap (λ f. begins_plain f (is_adjacent own.before) own.position.col t.rest) own_flow ∙ begins_as_read ctx (is_adjacent own.before) t.rest t.held.position x comes_here scanned)
+      begins = ap (begins_plain (is_in_flow own) (is_adjacent own.before) own.position.col) (sym q.cut) ∙ (ap (λ f. begins_plain f (is_adjacent own.before) own.position.col t.rest) own_flow ∙ begins_as_read ctx (is_adjacent own.before) t.rest t.held.position x (grind arith) scanned)
 
       piece_is : IsPiece own q.piece (next_of d) None t.held.position tok
-      piece_is = ((begins, ap (λ f. is_whole_plain f (collection_column own) q.piece (next_of d)) own_flow ∙ (ap (λ c. is_whole_plain (in_flow t.held) c q.piece (next_of d)) own_column ∙ q.whole), q.value_is), refl)
+      piece_is = ((begins, ap (λ f. is_whole_plain f (collection_column own) q.piece (next_of d)) own_flow ∙ (ap (λ c. is_whole_plain (in_flow t.held) c q.piece (next_of d)) (same_innermost at.blocks ∙ (ap innermost blocks_then ∙ sym closed.is_least.0)) ∙ q.whole), q.value_is), refl)
 
       deep_by : (f : Bool) → f ≡ in_flow t.held → is_deep_enough f tok at ≡ true
       deep_by a h = grind (arith, nat_tests, eqb-true, q, least_here)
 
-      dash_by : (f : Bool) → f ≡ in_flow t.held → not (f && has_dash_before_flow q.piece (next_of d)) ≡ true
-      dash_by f h = ap not (ap (λ y. y && has_dash_before_flow q.piece (next_of d)) h ∙ q.fits.dash)
-
-      spaced : (has_break q.gap ≡ true → has_tab_within gone.indent (last_line q.gap) ≡ false) → (aw : Bool) → aw ≡ false → is_indented_by_spaces plain_scalar at.blocks aw q.gap ≡ true
-      spaced h aw e = grind (arith, nat_tests, eqb-true, q, no_comment, least_here)
-
       no_tabs : HasNoTabs (site_then t fs r.site d) q.gap x.rest
-      no_tabs = grind (arith, nat_tests, eqb-true, q, none_awaits, spaced)
+      no_tabs = grind (arith, nat_tests, eqb-true, q, none_awaits, no_comment, least_here)
 
       pub is_read : IsRead t None fs r.site r.line es r.separation d
       is_read =
@@ -192,7 +171,7 @@ module _ (text : List ℕ) (t : ScannerState) (a : Arrives text t) (deep : IsDee
           let filled = gap_is_separation q.gap x.rest q.white in
           let awaits_then : awaits_past fl tok at.blocks at.awaits (next_of d) ≡ has_open_level gone.indents = none_awaits fl at.blocks at.awaits (next_of d) ∙ sym closed.none_open in
           let further : plain_lines_fit (least_column at.blocks true) q.piece ≡ true = ap (λ n. plain_lines_fit n q.piece) least_here ∙ q.fits.lines in
-          assumption (q, closed, solid, far, filled, blocks_then, awaits_then, no_tabs, piece_is, deep_by fl (sym flow_is), further, dash_by fl (sym flow_is), allowed_by fl, one_line_of)
+          assumption (q, closed, solid, far, filled, blocks_then, awaits_then, no_tabs, piece_is, deep_by fl (sym flow_is), further, (ap not (ap (λ y. y && has_dash_before_flow q.piece (next_of d)) (sym flow_is) ∙ q.fits.dash)), allowed_by fl, one_line_of)
 
     abbrev pub scalar_held : Held
     scalar_held = record t.held {
@@ -217,11 +196,6 @@ plain_keeps_by text t deep comes a =
     (λ r u. Ok (on_held (λ v. push t.held.position (Tok.scalar Style.plain r.text) (after_plain r.leading v)) u)))) (sym (saved_is t.held))
     (read (unroll_non_block_indents (allow_key false (record t.held { keys = saved_keys t.held }))) (plain (ctx text t a deep comes) t.rest t.held.position) _ (λ x k. went (stands text t a deep comes x k)))
 
--- where a plain scalar is looked for by the account, the scanner looks for it too
-pub comes_as_held : (text : List ℕ) (t : ScannerState) (a : Arrives text t) → comes_plain (in_flow t.held) (is_adjacent (before_past (before_by a.base.site.before) a.separation)) t.held.position.col t.rest ≡ true →
-    comes_plain (in_flow t.held) (t.held.position.index == t.held.adjacent_value_at) t.held.position.col t.rest ≡ true
-comes_as_held text t a comes = grind arith
-
 -- the same, as the dispatch knows it
 pub plain_keeps : (text : List ℕ) (t : ScannerState) (a : Arrives text t) → IsDeep t.held → comes_plain (in_flow t.held) (is_adjacent (before_past (before_by a.base.site.before) a.separation)) t.held.position.col t.rest ≡ true → Holds (Stands text) (fetch_plain_scalar t)
-plain_keeps text t a deep comes = plain_keeps_by text t deep (comes_as_held text t a comes) a
+plain_keeps text t a deep comes = plain_keeps_by text t deep (grind arith) a

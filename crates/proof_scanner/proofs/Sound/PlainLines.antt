@@ -76,9 +76,6 @@ IsCalm tabs l = Unit {0}
 abbrev pub IsAt : PlainState → Spot → (rest : List ℕ) → Type 0
 IsAt t x a = (spot_of t.mode t.folded.leading t.position.col ≡ x) ⊎ ((x ≡ at 0) × (begins_break a ≡ true))
 
-same_leading : (c : ℕ) (t : Folded) → (with_blank c t).leading ≡ t.leading
-same_leading c t = grind arith
-
 pub white_is_no_dash : (flow apart next : Bool) (c : ℕ) → (is_break c || is_blank c) ≡ true → (flow && apart && (c == 45) && next) ≡ false
 unfolding is_break is_blank
 white_is_no_dash flow apart next c h = grind arith
@@ -102,9 +99,6 @@ module _ (ctx : Context) (start : Position) (c : ℕ) (a : List ℕ) where
     goes : (t : PlainState) → IsCalm t.mode t.folded.leading → may_go (spot_of m s.folded.leading s.position.col) c ≡ true → IsAt t (past_spot ctx.indent (spot_of m s.folded.leading s.position.col) c) a →
         (ctx.flow && is_apart m && (c == 45) && begins_flow a) ≡ false → is_apart t.mode ≡ (is_break c || is_blank c) → Goes m s (on t)
 
-  white_goes : (x : Spot) → (is_break c || is_blank c) ≡ true → may_go x c ≡ true
-  white_goes a h = grind arith
-
   break_goes : (m : Mode) (s : PlainState) → is_break c ≡ true → Goes m s (on (at_break c a s))
   break_goes m s e = by (is_cr_lf c a) refl
     where
@@ -118,7 +112,7 @@ module _ (ctx : Context) (start : Position) (c : ℕ) (a : List ℕ) where
       margin = rw e refl
 
       by : (feeds : Bool) → is_cr_lf c a ≡ feeds → Goes m s (on (if feeds then record { mode = between; position = past s.position; folded = s.folded } else record { mode = between; position = past_break s.position; folded = with_break s.folded }))
-      by b f = grind (arith, goes, white_goes, x, white, margin, feed_breaks, white_is_no_dash, is_apart, between, break_leads)
+      by b f = grind (arith, goes, x, white, margin, feed_breaks, white_is_no_dash, is_apart, between, break_leads)
 
   module _ (breaks : is_break c ≡ false) where
     -- a blank that is no TAB in the indentation
@@ -128,7 +122,7 @@ module _ (ctx : Context) (start : Position) (c : ℕ) (a : List ℕ) where
         let white : (is_break c || is_blank c) ≡ true = rw (breaks, f) refl in
         let is : at_gap ctx c a s ≡ record { mode = between; position = past s.position; folded = with_blank c s.folded } = rw (breaks, h) refl in
         subst (λ t. Goes m s (on t)) (sym is)
-        (goes (record { mode = between; position = past s.position; folded = with_blank c s.folded }) tt go (inl (ap (λ l. spot_of between l (s.position.col + 1)) (same_leading c s.folded) ∙ x))
+        (goes (record { mode = between; position = past s.position; folded = with_blank c s.folded }) tt go (inl (ap (λ l. spot_of between l (s.position.col + 1)) (grind arith) ∙ x))
         (white_is_no_dash ctx.flow (is_apart m) (begins_flow a) c white) (sym white))
 
     -- after content
@@ -170,9 +164,6 @@ module _ (ctx : Context) (start : Position) (c : ℕ) (a : List ℕ) where
       Goes m s (if is_break c || is_blank c then on (at_gap ctx c a s) else u)
   white_turn m s u blank other = grind (arith, nat_tests, eqb-true, break_goes)
 
-  stays_between : (s : PlainState) → Goes between s (stop s)
-  stays_between s = grind (arith, stays, between)
-
   -- the dash that is looked for before a scalar goes on
   pub dash_is : (ctx.flow && true && (c == 45) && begins_flow a) ≡ at_dash ctx.flow (c ∷ a)
   unfolding at_dash model_classes.is_flow
@@ -190,7 +181,7 @@ module _ (ctx : Context) (start : Position) (c : ℕ) (a : List ℕ) where
 
   begun_goes : (s : PlainState) (x : Result Bool Fault) → goes_on ctx (c ∷ a) s.position ≡ x → is_break c ≡ false → is_blank c ≡ false → Goes between s (begun x c s)
   begun_goes s (Ok true) h e f = char_between e f s (no_dash s.position h)
-  begun_goes s (Ok false) h e f = stays_between s
+  begun_goes s (Ok false) h e f = grind (arith, stays, between)
   begun_goes s (Err g) h e f = fails g (inr (has_dash s.position g h))
 
   -- after a TAB in the indentation
@@ -249,9 +240,6 @@ module _ (ctx : Context) (start : Position) where
   abbrev PassedFrom : PlainState → (text rest : List ℕ) → Type 0
   PassedFrom s a rest = Passed ctx.indent ctx.flow (spot s) (is_apart s.mode) a rest
 
-  stop_here : (x : Spot) → may_stop x [] ≡ true
-  stop_here a = grind arith
-
   one_more : (c : ℕ) (a rest : List ℕ) (x : Spot) (apart : Bool) (t : PlainState) → may_go x c ≡ true → IsAt t (past_spot ctx.indent x c) a → (ctx.flow && apart && (c == 45) && begins_flow a) ≡ false → is_apart t.mode ≡ (is_break c || is_blank c) →
       PassedFrom t a rest → Passed ctx.indent ctx.flow x apart (c ∷ a) rest
   one_more c a rest x apart t go here dash after p = record {
@@ -264,7 +252,7 @@ module _ (ctx : Context) (start : Position) where
   }
 
   went : (a : List ℕ) (s : PlainState) → IsCalm s.mode s.folded.leading → (t : Stop PlainState) → run (turn ctx start) a s ≡ Ok t → PassedFrom s a t.rest
-  went [] s l t e = let same : record { rest = []; state = s } ≡ t = cc in rw (← same) (record { passed = []; cut = refl; tabs_are = stop_here (spot s); dashes_are = refl })
+  went [] s l t e = let same : record { rest = []; state = s } ≡ t = cc in rw (← same) (record { passed = []; cut = refl; tabs_are = (grind arith); dashes_are = refl })
   went (c ∷ a) s l t e = by (λ u m k. went a u m t k) (turn ctx start s c a) (turn_goes ctx start c a s.mode s l) e
     where
       by : ((u : PlainState) → IsCalm u.mode u.folded.leading → run (turn ctx start) a u ≡ Ok t → PassedFrom u a t.rest) → (u : Turn PlainState Fault) → Goes ctx start c a s.mode s u →
@@ -295,9 +283,6 @@ lines_are column tabbed t = is_blanks (first_line t) && plain_lines_fit column t
 pub all_lines : (column : ℕ) (ls : List (List ℕ)) (last : List ℕ) → lines_have_no_tab column (ls ++ (last ∷ [])) ≡ (line_is 0 column (first_of ls last) && lines_have_no_tab column (after_first ls last))
 all_lines column a last = grind (arith, none_before)
 
-put_first_line : (c : ℕ) (ls : List (List ℕ)) (last : List ℕ) → first_of (put_first c ls last).complete (put_first c ls last).last ≡ c ∷ first_of ls last
-put_first_line c a last = grind arith
-
 put_first_others : (c : ℕ) (ls : List (List ℕ)) (last : List ℕ) → after_first (put_first c ls last).complete (put_first c ls last).last ≡ after_first ls last
 put_first_others c a last = grind arith
 
@@ -319,7 +304,7 @@ module _ (column : ℕ) (c : ℕ) (r : List ℕ) where
     split_is = rw no_break refl
 
     pub first_is : first_line (c ∷ r) ≡ c ∷ first_line r
-    first_is = ap (λ s. first_of s.complete s.last) split_is ∙ put_first_line c (split r).complete (split r).last
+    first_is = ap (λ s. first_of s.complete s.last) split_is ∙ (grind arith)
 
     pub others_are : plain_lines_fit column (c ∷ r) ≡ plain_lines_fit column r
     others_are = ap (λ s. lines_have_no_tab column (after_first s.complete s.last)) split_is ∙ ap (λ ls. lines_have_no_tab column ls) (put_first_others c (split r).complete (split r).last)
@@ -407,11 +392,8 @@ unfolding plain
 plain_fits ctx p [] piece gap r begins cut e = absurd (cc begins)
 plain_fits ctx p (c ∷ a) piece gap r begins cut e = by (starts ctx (c ∷ a) p) refl e
   where
-    solids : (b l : Bool) → classes.is_break c ≡ b → classes.is_blank c ≡ l → not (l || b) ≡ true → (is_break c ≡ false) × (is_blank c ≡ false)
-    solids b a f g h = grind (arith, nat_tests, same_break, same_blank, eqb-true)
-
     solid : (is_break c ≡ false) × (is_blank c ≡ false)
-    solid = solids (classes.is_break c) (classes.is_blank c) refl refl begins
+    solid = grind (arith, nat_tests, same_break, same_blank, eqb-true)
 
     ran : (x : Result (Stop PlainState) Fault) → run (turn ctx p) (c ∷ a) (record { mode = first; position = p; folded = nothing }) ≡ x → ended x ≡ Ok r → Passed ctx.indent ctx.flow in_text false (c ∷ a) r.rest
     ran (Ok t) f h =

@@ -25,10 +25,6 @@ no_tab_taken zero l h = refl
 no_tab_taken (suc n) [] h = refl
 no_tab_taken (suc n) (c ∷ l) h = let q = or_parts (9 == c) (is_one_of l 9) h in rw (q.0, no_tab_taken n l q.1) refl
 
--- no TAB indents what comes next
-pub white_indents : (s : Site) (more : List ℕ) → s.before ≡ another → HasNoTabs s (white_of false more) (past_white false more)
-white_indents s more before = grind (arith, nat_tests, eqb-true, no_tab_in_last, no_tab_taken)
-
 -- no TAB stands there
 space_checked : (more : List ℕ) (t : ScannerState) → t.rest ≡ past_white false more → Holds (λ u. (u ≡ t) × (has_tab_before_piece false more ≡ false)) (check_key_space t)
 unfolding check_key_space
@@ -66,7 +62,7 @@ question_reads t u more y cut rest fills place leads here before columns_are awa
     let far = adjacent_kept t u (before_by y.before) (63 ∷ []) more (white_of false more) refl stop was same.0 (ap before_by before) in
     let cut_then : more ≡ white_of false more ++ u.rest = white_cut false more ∙ ap (λ l. white_of false more ++ l) (sym rest) in
     let filled : is_separation false (white_of false more) u.rest ≡ true = rw rest fills in
-    let no_tabs : HasNoTabs y (white_of false more) u.rest = subst (λ l. HasNoTabs y (white_of false more) l) (sym rest) (white_indents y more before) in
+    let no_tabs : HasNoTabs y (white_of false more) u.rest = subst (λ l. HasNoTabs y (white_of false more) l) (sym rest) (grind (arith, nat_tests, eqb-true, no_tab_in_last, no_tab_taken)) in
     let leads_then : IsLeading u.held.leading y (white_of false more) u.rest = λ _ _ _. leads ∙ ap (λ b. begins_line b (white_of false more)) (sym before) in
     let read_on : IsReadOn y.before y.position (white_of false more) u.rest = subst (λ b. IsReadOn b y.position (white_of false more) u.rest) (sym before) tt in
     assumption (cut_then, filled, no_tabs, leads_then, read_on, stop ∙ ap (λ q. position_after q (white_of false more) u.rest) (sym here), far)
@@ -137,11 +133,8 @@ question_outside text more t a flow keys e gap allowed deep =
     (question_read text more t.held.position (now (record t.held { indents = r.indents; indent = r.indent; tokens = with_start Tok.block_mapping_start t })) gap (λ begins apart fills.
     (question_stands text more t a flow keys e allowed begins apart fills r.indent r.indents r.columns_are r.are_levels (top_closed r.indents (r.is_top deep)).1))))
   where
-    out : in_flow t.held ≡ false
-    out = ap (λ fs. not (is_empty fs)) flow
-
     r : RollsTo t.held.position.col None (token t.held.position Tok.block_mapping_start) t.held (roll_indent t.held.position.col None Tok.block_mapping_start t.held.position t.held)
-    r = rolls_to t.held.position.col None Tok.block_mapping_start t.held.position t.held out a.are_levels (first_not_right t.held.position.col t.held.indent t.held.indents a.are_levels deep)
+    r = rolls_to t.held.position.col None Tok.block_mapping_start t.held.position t.held (ap (λ fs. not (is_empty fs)) flow) a.are_levels (first_not_right t.held.position.col t.held.indent t.held.indents a.are_levels deep)
 
     now : Held → Held
     now h = record h { keys = with_top None h.keys; key_allowed = not (in_flow h); position = past h.position; leading = false }
@@ -156,19 +149,9 @@ abbrev pub pair_level : (pair : FlowLevel) → FlowLevel → FlowLevel
 pair_level p InEntry = p
 pair_level p f = f
 
-pub asked_levels : (f : FlowLevel) (fs : List FlowLevel) → keyed (f ∷ fs) ≡ pair_level Keyed f ∷ fs
-asked_levels a fs = grind arith
-
 -- the entry after it
 abbrev pub asked_entry : Entry → Entry
 asked_entry e = record { kind = e.kind; pair = pair_past (takes_pair e.kind e.pair) gives_question e.pair; had = settled }
-
-asked_is : (f : FlowLevel) (k : Option Key) (e : Entry) → IsEntryOf f k e → IsEntryOf (pair_level Keyed f) None (asked_entry e)
-asked_is f k e h = grind arith
-
--- the entry is settled, whatever it has had
-pub settles : (here : Position) (again : Bool) (e : Entry) (xs : List Entry) → is_keyed e.had ≡ false → entries_past here again gives_question [] false e xs ≡ Some (asked_entry e ∷ xs)
-settles here again e xs h = grind arith
 
 -- what the scanner holds after it
 abbrev pub question_within : ScannerState → (more : List ℕ) → ScannerState
@@ -196,19 +179,19 @@ question_inside text more t f fs k ks e es a flow keys cut deep begins apart fil
     (question_reads t (question_within t more) more _ cut refl fills refl refl refl refl a.blocks_are a.awaits_is a.are_levels a.was_adjacent (refl, refl, refl)) (record {
       flow_is = levels;
       keys_are = ap (with_top None) keys;
-      entry_is = asked_is f k e a.are_entries.0;
+      entry_is = grind arith;
       has_had = (inr refl, ap (λ ls. (not (not (is_empty ls)) && ends.has_break (white_of false more)) || not (not (is_empty ls))) levels);
       in_line = one_line 63 refl;
       begun = refl;
       is_piece = inl (refl, begins);
       stands = rw (a.is_indented (ap is_empty cut), low_enough text t f fs (k ∷ ks) (e ∷ es) a deep, apart) refl;
-      entry_past = λ xs. settles t.held.position (is_renewed a.site.before a.separation) e xs (not_keyed t.held.key_allowed (is_renewed a.site.before a.separation) k e.had a.are_entries.1);
+      entry_past = λ xs. (grind arith);
       colons = λ n p ws last. refl;
       tokens_are = ap (λ ts. ts ++ token t.held.position Tok.key ∷ []) (tokens_before text t f fs k ks e es a);
     })
   where
     levels : keyed t.held.flow ≡ pair_level Keyed f ∷ fs
-    levels = ap keyed flow ∙ asked_levels f fs
+    levels = ap keyed flow ∙ (grind arith)
 
 -- ---- both
 
@@ -229,11 +212,8 @@ key_keeps text more t a e gap deep =
     by (inr i) u (outside out allowed d) = absurd (cc (out, ap (λ fs. not (is_empty fs)) i.flow_is))
     by (inr i) u (inside in_it d) =
         subst (λ h. Holds (Stands text) (key_from t (record t { held = record h { keys = with_top None h.keys } }))) (sym d)
-        (subst (λ l. Holds (Stands text) (from l)) (sym e)
+        (subst (λ l. Holds (Stands text) (skip_yaml_whitespace (record { rest = after l; held = now }) >>= λ w. check_key_space w >>= λ x. Ok (on_held (push t.held.position Tok.key) x))) (sym e)
         (question_read text more t.held.position now gap (λ begins apart fills. question_inside text more t i.level i.levels i.key i.keys i.entry i.entries i.here i.flow_is i.keys_are e deep begins apart fills)))
       where
         now : Held
         now = record t.held { flow = keyed t.held.flow; keys = with_top None t.held.keys; key_allowed = not (not (is_empty (keyed t.held.flow))); position = past t.held.position; leading = false }
-
-        from : List ℕ → Result ScannerState Fault
-        from l = skip_yaml_whitespace (record { rest = after l; held = now }) >>= λ w. check_key_space w >>= λ x. Ok (on_held (push t.held.position Tok.key) x)

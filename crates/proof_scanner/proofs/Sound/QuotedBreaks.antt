@@ -104,11 +104,8 @@ pub has_elements : (single : Bool) (body value : List ℕ) → value_of single b
 unfolding single_quoted_value double_quoted_value
 has_elements single body value h = by (elements (element_of single) 0 body) refl (some single h)
   where
-    some_by : (marked : Bool) (o : Option (List Element)) → (if marked then None else folded_elements o) ≡ Some value → folded_elements o ≡ Some value
-    some_by a o h = grind arith
-
     some : (single : Bool) → value_of single body ≡ Some value → folded_elements (elements (element_of single) 0 body) ≡ Some value
-    some a h = grind (arith, some_by, body, elements)
+    some a h = grind (arith, body, elements)
 
     by : (o : Option (List Element)) → elements (element_of single) 0 body ≡ o → folded_elements o ≡ Some value → (es : List Element) × (o ≡ Some es)
     by a e h = grind arith

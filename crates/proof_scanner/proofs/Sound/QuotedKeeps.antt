@@ -43,15 +43,12 @@ pub record QuotedAs (single : Bool) (ctx : Context) (p : Position) (text : List 
   pub end_is : x.position ≡ position_after p (piece_of single body) x.rest
   pub fits : quoted_lines_fit (ctx.indent - 1) (element_of single) (piece_of single body) ≡ true
 
-whole : (q : ℕ) (body rest : List ℕ) → q ∷ (body ++ q ∷ rest) ≡ (q ∷ (body ++ q ∷ [])) ++ rest
-whole q body rest = ap (λ l. q ∷ l) (sym (append_assoc body (q ∷ []) rest))
-
 pub quoted_as : (quotes : Quotes) (ctx : Context) (p : Position) (more : List ℕ) (x : machine.Read (List ℕ)) → has_no_nul more ≡ true → quoted (are_single quotes) ctx (quote_of (are_single quotes) ∷ more) p ≡ Ok x → QuotedAs (are_single quotes) ctx p (quote_of (are_single quotes) ∷ more) x
 quoted_as quotes ctx p more x none e =
     let q : IsQuotedRead (are_single quotes) more x = read_as e (scans_end (are_single quotes) ctx more p (some_chars more none)) in
     let there = body_read (are_single quotes) ctx p (ctx.indent - 1) (λ k. same_limit k ctx.indent) q.body x (subst (λ l. list_all is_some l ≡ true) q.is_text (some_chars more none))
     (ap (λ l. quoted (are_single quotes) ctx (quote_of (are_single quotes) ∷ l) p) (sym q.is_text) ∙ e) in
-    let all : quote_of (are_single quotes) ∷ more ≡ piece_of (are_single quotes) q.body ++ x.rest = ap (λ l. quote_of (are_single quotes) ∷ l) q.is_text ∙ whole (quote_of (are_single quotes)) q.body x.rest in
+    let all : quote_of (are_single quotes) ∷ more ≡ piece_of (are_single quotes) q.body ++ x.rest = ap (λ l. quote_of (are_single quotes) ∷ l) q.is_text ∙ (ap (λ l. (quote_of (are_single quotes)) ∷ l) (sym (append_assoc q.body ((quote_of (are_single quotes)) ∷ []) x.rest))) in
     record {
       body = q.body;
       value_is = q.is_value;
@@ -64,11 +61,8 @@ quoted_as quotes ctx p more x none e =
 -- a quote is no break
 pub in_line : (single : Bool) (body : List ℕ) → ends_in_line (piece_of single body) ≡ true
 unfolding is_break
-in_line single body = last (quote_of single) (quote_of single) body (no_break single)
+in_line single body = last (quote_of single) (quote_of single) body (grind arith)
   where
-    no_break : (b : Bool) → not (is_break (quote_of b)) ≡ true
-    no_break a = grind arith
-
     last : (c q : ℕ) (r : List ℕ) → not (is_break q) ≡ true → ends_in_line (c ∷ (r ++ q ∷ [])) ≡ true
     last c q [] h = h
     last c q (d ∷ r) h = last d q r h
@@ -86,26 +80,15 @@ pub record IsQuotedToken (single : Bool) (tok : Tok) : Type 0 where
   pub precedes : (fl : Bool) (bs piece next : List ℕ) → may_precede fl bs tok piece next ≡ quoted_may_end fl piece next
   pub awaits : (fl : Bool) (bs : List ℕ) (b : Bool) (next : List ℕ) → awaits_past fl tok bs b next ≡ b
 
-pub quoted_token : (quotes : Quotes) (text : List ℕ) → IsQuotedToken (are_single quotes) (Tok.scalar (quoted_style quotes) text)
-quoted_token a b = grind arith
-
 piece_is : (a : PieceAccount) (quotes : Quotes) (body next value : List ℕ) → value_of (are_single quotes) body ≡ Some value → ends_before (are_single quotes) next ≡ true → IsPiece a (piece_of (are_single quotes) body) next None a.position (Tok.scalar (quoted_style quotes) value)
 piece_is a b d e g is i = grind (arith, not-true, begins_with)
 
 -- ---- levels of indentation
 
--- the least column is one less than the indentation
-pub least_is_less : (i : ℕ) (ds : List Indent) → AreLevels i ds → least_column (columns i ds) (has_open_level ds) ≡ i - 1
-least_is_less i a b = grind arith
-
 -- ---- TABs after it
 
 pub empty_end : (r : List ℕ) → is_empty r ≡ true → is_at_comment_or_end r ≡ true
 empty_end a h = grind arith
-
--- no TAB indents what comes next, by what is known of the line
-spaced_by : (least : ℕ) (bs : List ℕ) (aw : Bool) (gap : List ℕ) → least_column bs aw ≡ least → (begins_line quoted_scalar gap ≡ true → has_tab_within least (last_line gap) ≡ false) → is_indented_by_spaces quoted_scalar bs aw gap ≡ true
-spaced_by least bs aw gap e h = grind (arith, or_false)
 
 -- ---- the step
 
@@ -127,7 +110,7 @@ module _ (text : List ℕ) (quotes : Quotes) (t : ScannerState) (a : Arrives tex
   least = least_column (columns t.held.indent t.held.indents) (has_open_level t.held.indents)
 
   k : IsQuotedToken (are_single quotes) tok
-  k = quoted_token quotes x.value
+  k = grind arith
 
   pub rest_is_clean : has_no_nul x.rest ≡ true
   rest_is_clean = no_nul_after piece x.rest (subst (λ r. has_no_nul r ≡ true) q.cut a.is_clean)
@@ -142,15 +125,12 @@ module _ (text : List ℕ) (quotes : Quotes) (t : ScannerState) (a : Arrives tex
     none : has_break spaces ≡ true → ⊥
     none h = cc (h, no_break)
 
-    pub start_at : IsAt quoted_scalar least spaces v.held
-    start_at = record { leading_is = λ i. ap (λ h. h.leading) c.spaces.is_held ∙ sym no_break; col_is = λ b. absurd (none b); spaced = λ b. absurd (none b) }
-
     pub start_least : IsLeast quoted_scalar least v.held
     start_least = subst (λ h. IsLeast quoted_scalar least h) (sym c.spaces.is_held) (least_is (columns t.held.indent t.held.indents) (has_open_level t.held.indents) now refl refl a.are_levels)
 
     skipped : Holds (Cleared quoted_scalar least spaces v.rest) (skip_to_next_token v)
     unfolding skip_to_next_token
-    skipped = skip_clears quoted_scalar least v.rest between spaces v.held start_least (inr start_at)
+    skipped = skip_clears quoted_scalar least v.rest between spaces v.held start_least (inr (record { leading_is = λ i. ap (λ h. h.leading) c.spaces.is_held ∙ sym no_break; col_is = λ b. absurd (none b); spaced = λ b. absurd (none b) }))
 
     module _ (w : ScannerState) (b : Exact v w) (z : Cleared quoted_scalar least spaces v.rest w) where
       abbrev gap : List ℕ
@@ -174,9 +154,6 @@ module _ (text : List ℕ) (quotes : Quotes) (t : ScannerState) (a : Arrives tex
       at_token : is_empty w.rest ≡ false → IsAt quoted_scalar least gap w.held
       at_token some = subst (λ g. IsAt quoted_scalar least (spaces ++ g) w.held) (append_cancel_right z.passed b.separation w.rest (sym z.cut ∙ b.cut)) (z.clear some)
 
-      broken : has_break gap ≡ plains.has_break b.separation
-      broken = break_append spaces b.separation ∙ (ap (λ y. y || has_break b.separation) no_break ∙ sym (same_has_break b.separation))
-
       end_is : end ≡ position_after (position_after t.held.position piece (gap ++ w.rest)) gap w.rest
       end_is = ap (λ p. position_after p gap w.rest) (q.end_is ∙ ap (λ r. position_after t.held.position piece r) cut)
 
@@ -195,7 +172,7 @@ module _ (text : List ℕ) (quotes : Quotes) (t : ScannerState) (a : Arrives tex
       }
 
       allowed_by : (fl : Bool) → ((not fl && plains.has_break b.separation) || false) ≡ allowed_past None fl quoted_scalar gap
-      allowed_by a = grind (arith, or_false, broken)
+      allowed_by a = grind (arith, or_false, (break_append spaces b.separation ∙ (ap (λ y. y || has_break b.separation) no_break ∙ sym (same_has_break b.separation))))
 
       leads : is_empty t.held.indents ≡ false → is_empty w.rest ≡ false → b.is_leading ≡ has_break gap
       leads i some = sym (ap (λ h. h.leading) held_is) ∙ (at_token some).leading_is (ap (λ h. is_empty h.indents) held_is ∙ i)
@@ -225,10 +202,10 @@ module _ (text : List ℕ) (quotes : Quotes) (t : ScannerState) (a : Arrives tex
         awaits_then = k.awaits fl at.blocks at.awaits (next_of d)
 
         no_tabs : HasNoTabs (site_then t fs r.site d) gap w.rest
-        no_tabs = grind (arith, nat_tests, eqb-true, empty_end, k, spaced_by, awaits_then, least_here, at_token)
+        no_tabs = grind (arith, nat_tests, eqb-true, empty_end, k, or_false, awaits_then, least_here, at_token)
 
         is_read : IsRead t None fs r.site r.line es r.separation d
-        is_read = grind (arith, nat_tests, eqb-true, cut, is_filled, end_is, awaits_then, no_tabs, k, leads, some_levels, adjacent_quoted, piece_is, deep_for, least_here, deep_enough, least_is_less, flow_is, allowed_by, one_line_of)
+        is_read = grind (arith, nat_tests, eqb-true, cut, is_filled, end_is, awaits_then, no_tabs, k, leads, some_levels, adjacent_quoted, piece_is, deep_for, least_here, deep_enough, flow_is, allowed_by, one_line_of)
 
       node : ReadNode text t (on_held (λ s. push t.held.position tok (adjacent_here s)) w)
       node = record {
@@ -251,11 +228,8 @@ quoted_node text quotes t more e deep a =
     subst (λ h. Holds (ReadNode text t) (lexed (quoted (are_single quotes) (context (allow_key false h)) t.rest t.held.position) (allow_key false h) (after_body quotes t))) (sym (saved_is t.held))
     (read (allow_key false (record t.held { keys = saved_keys t.held })) (quoted (are_single quotes) (context t.held) t.rest t.held.position) (after_body quotes t) (λ x i. by x (read_as x i)))
   where
-    more_clean : has_no_nul more ≡ true
-    more_clean = (and_parts (not (is_nul (quote_of (are_single quotes)))) (has_no_nul more) (subst (λ r. has_no_nul r ≡ true) e a.is_clean)).1
-
     read_as : (x : machine.Read (List ℕ)) → quoted (are_single quotes) (context t.held) t.rest t.held.position ≡ Ok x → QuotedAs (are_single quotes) (context t.held) t.held.position t.rest x
-    read_as x i = subst (λ r. QuotedAs (are_single quotes) (context t.held) t.held.position r x) (sym e) (quoted_as quotes (context t.held) t.held.position more x more_clean (subst (λ r. quoted (are_single quotes) (context t.held) r t.held.position ≡ Ok x) e i))
+    read_as x i = subst (λ r. QuotedAs (are_single quotes) (context t.held) t.held.position r x) (sym e) (quoted_as quotes (context t.held) t.held.position more x ((and_parts (not (is_nul (quote_of (are_single quotes)))) (has_no_nul more) (subst (λ r. has_no_nul r ≡ true) e a.is_clean)).1) (subst (λ r. quoted (are_single quotes) (context t.held) r t.held.position ≡ Ok x) e i))
 
     by : (x : machine.Read (List ℕ)) → QuotedAs (are_single quotes) (context t.held) t.held.position t.rest x → Holds (ReadNode text t) (after_body quotes t x.value (go_on x (allow_key false (record t.held { keys = saved_keys t.held }))))
     by x q =

@@ -224,9 +224,6 @@ module _ (text : List ℕ) (t : ScannerState) (level : Option FlowLevel) (k : Op
       is_live : IsLive x d.end d.rest
       is_live = let own_line = key_line t.held.key_allowed is in let stays = i.1 in (omega (arith, stays, own_line), goes)
 
-  line_then : (lv : Option FlowLevel) → d.allowed ≡ allowed_past lv false (previous_by d.tok) d.gap → IsLine (not (is_empty (levels_by lv []))) d.allowed (begins_free_line (previous_by d.tok) d.gap) d.end d.rest key_then taken
-  line_then lv e = grind (arith, taken_node text t k a within deep some d.end d.rest later d.allowed, r.one_line)
-
   node_outside : t.held.keys ≡ k ∷ [] → KnowsKey text (a.separation ++ t.rest) t.held.position k → Stands text (state_after t level d)
   node_outside keys known =
       let same : outside_key (with_begun level []) keys_then ≡ key_then = begun_around level [] (key_then ∷ []) in
@@ -235,7 +232,7 @@ module _ (text : List ℕ) (t : ScannerState) (level : Option FlowLevel) (k : Op
         keys_are = ap (with_no_key level) (keys_saved t k [] keys);
         one_each = begun_each level [] (key_then ∷ []) refl;
         are_entries = entries_outside level t d (previous_by d.tok) false r.is_begun r.allowed_is (is_renewed (previous_by d.tok) d.gap) (key_then ∷ []);
-        line_is = subst (λ y. IsLine (not (is_empty (levels_by level []))) d.allowed (begins_free_line (previous_by d.tok) d.gap) d.end d.rest y taken) (sym same) (line_then level r.allowed_is);
+        line_is = subst (λ y. IsLine (not (is_empty (levels_by level []))) d.allowed (begins_free_line (previous_by d.tok) d.gap) d.end d.rest y taken) (sym same) (grind (arith, taken_node text t k a within deep some d.end d.rest later d.allowed, r.one_line));
         is_open = subst (λ y. IsOpenOutside y (site_then t [] a.site d).position d.end d.rest (site_of t [] a.site).blocks) (sym same) is_open_then;
         no_key = refl;
         are_numbered = begun_numbered level (length (t.held.tokens ++ (own ∷ []))) (key_then ∷ []) (numbered_past text t k a within deep own t.held.key_allowed);
@@ -256,20 +253,10 @@ module _ (text : List ℕ) (t : ScannerState) (level : Option FlowLevel) (f : Fl
   abbrev shown_token : Token
   shown_token = put t.held.position d.tok
 
-  -- what the entry has had
-  had_past : (b : Bool) (y : Option Key) (h : Had) → HasHadHere b (is_renewed a.site.before a.separation) y h → HasHad (saved b (new_key t) y) (had_past_node b h)
-  had_past b y h p = grind arith
-
-  had_then : (b : Bool) (y : Option Key) (h : Had) → HasHadHere b (is_renewed a.site.before a.separation) y h → d.allowed ≡ is_renewed (previous_by d.tok) d.gap → HasHadHere d.allowed (is_renewed (previous_by d.tok) d.gap) (saved b (new_key t) y) (had_past_node b h)
-  had_then b y h p i = grind arith
-
   entries_then : (lv : Option FlowLevel) → IsBegun lv t d → d.allowed ≡ allowed_past lv true (previous_by d.tok) d.gap →
       AreEntries d.allowed (is_renewed (previous_by d.tok) d.gap) (levels_by lv (f ∷ fs)) (with_no_key lv (key_past ∷ ks)) (with_begun lv (entry_past_node t.held.key_allowed e ∷ es))
-  entries_then None i h = (entry_kept t f fs k e within t.held.key_allowed a.are_entries.0, had_then t.held.key_allowed k e.had a.are_entries.1 h, a.are_entries.2)
-  entries_then (Some lv) i h = (record { kind_is = refl; pair_is = i.0; key_is = tt }, (inl refl, h), (entry_kept t f fs k e within t.held.key_allowed a.are_entries.0, had_past t.held.key_allowed k e.had a.are_entries.1, a.are_entries.2))
-
-  line_within : (lv : Option FlowLevel) (y : Option Key) → IsLine (not (is_empty (levels_by lv (f ∷ fs)))) d.allowed (begins_free_line (previous_by d.tok) d.gap) d.end d.rest y a.line
-  line_within lv y = grind (arith, line_taken text t f fs k ks e es a)
+  entries_then None i h = (entry_kept t f fs k e within t.held.key_allowed a.are_entries.0, (grind arith), a.are_entries.2)
+  entries_then (Some lv) i h = (record { kind_is = refl; pair_is = i.0; key_is = tt }, (inl refl, h), (entry_kept t f fs k e within t.held.key_allowed a.are_entries.0, (grind arith), a.are_entries.2))
 
   node_inside : t.held.keys ≡ k ∷ ks → Stands text (state_after t level d)
   node_inside keys =
@@ -281,7 +268,7 @@ module _ (text : List ℕ) (t : ScannerState) (level : Option FlowLevel) (f : Fl
         one_each = begun_each level (f ∷ fs) (key_past ∷ ks) a.one_each;
         same_key = begun_around level (n ∷ es) (key_past ∷ ks);
         are_entries = entries_then level r.is_begun r.allowed_is;
-        line_is = line_within level (outside_key (with_begun level (n ∷ es)) (with_no_key level (key_past ∷ ks)));
+        line_is = grind (arith, line_taken text t f fs k ks e es a);
         are_numbered = begun_numbered level (length (t.held.tokens ++ (shown_token ∷ []))) (key_past ∷ ks) (numbered_inside t a.tokens k ks shown_token (tokens_before text t f fs k ks e es a) a.are_numbered t.held.key_allowed);
         in_line = λ x y. (r.one_line x y).0;
       }) (record {

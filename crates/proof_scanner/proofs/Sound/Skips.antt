@@ -94,9 +94,6 @@ module _ (before : Previous) (least : ℕ) where
             from (inl x) = absurd (cc (x, no_end c a e f))
             from (inr x) = x
 
-        no_tab : (c == 9) ≡ true → (c == 35) ≡ false
-        no_tab h = let i : c ≡ 9 = eqb-true c 9 h in rw i refl
-
         later : (b : Bool) → is_blank c ≡ b → ((c == 9) && is_before_indent s) ≡ false → Q g (c ∷ a) s (if b then skip between a (moved s) else (if c == 35 then skip comment a (record (moved s) { leading = false }) else Ok (record { rest = c ∷ a; held = s })))
         later true b f = w.further g a c s (moved s) _ (omega arith) (ih between (g ++ c ∷ []) (moved s) l (inr (at_blank g c s (same_break c ∙ e) f l (at (no_hash c b)))))
         later false b f = last (c == 35) refl
@@ -109,7 +106,7 @@ module _ (before : Previous) (least : ℕ) where
             (if t then skip tab_line a (moved s) else (if is_blank c then skip between a (moved s) else (if c == 35 then skip comment a (record (moved s) { leading = false }) else Ok (record { rest = c ∷ a; held = s }))))
         by true t =
             let q = and_parts (c == 9) (is_before_indent s) t in
-            w.further g a c s (moved s) _ (omega arith) (ih tab_line (g ++ c ∷ []) (moved s) l (w.tab g c s e t l (at (no_tab q.0))))
+            w.further g a c s (moved s) _ (omega arith) (ih tab_line (g ++ c ∷ []) (moved s) l (w.tab g c s e t l (at (let i : c ≡ 9 = eqb-true c 9 q.0 in rw i refl))))
         by false t = later (is_blank c) refl t
 
     comment_by : (g a : List ℕ) (c : ℕ) (s : Held) → is_break c ≡ false → IsLeast s → Tells a → Q g (c ∷ a) s (skip comment (c ∷ a) s)
@@ -133,13 +130,10 @@ module _ (before : Previous) (least : ℕ) where
     skip_tells [] m g s l h = w.ended g s
     skip_tells (c ∷ a) m g s l h = one_by m g a c s (is_break c) refl l h (skip_tells a)
 
-  one_more : (g a : List ℕ) (c : ℕ) (r : Result ScannerState Fault) → Holds (Cleared (g ++ c ∷ []) a) r → Holds (Cleared g (c ∷ a)) r
-  one_more g a c r h = weakened (λ u x. record { passed = c ∷ x.passed; cut = ap (λ y. c ∷ y) x.cut; clear = λ e. subst (λ y. IsAt y u.held) (append_assoc g (c ∷ []) x.passed) (x.clear e) }) h
-
   pub skip_clears : (a : List ℕ) (m : Gap) (g : List ℕ) (s : Held) → IsLeast s → IsIn m g s a → Holds (Cleared g a) (skip m a s)
   skip_clears = skip_tells (λ g a s r. Holds (Cleared g a) r) (λ _. Unit {0}) (record {
     ended = λ g s. went (record { passed = []; cut = refl; clear = λ e. absurd (cc e) });
-    further = λ g a c s u r next h. one_more g a c r h;
+    further = λ g a c s u r next h. (weakened (λ u x. record { passed = c ∷ x.passed; cut = ap (λ y. c ∷ y) x.cut; clear = λ e. subst (λ y. IsAt y u.held) (append_assoc g (c ∷ []) x.passed) (x.clear e) }) h);
     arrives = λ g a c s at. went (record { passed = []; cut = refl; clear = λ _. subst (λ y. IsAt y s) (sym (append-nil g)) at });
     tab = λ g c s e f l h. tt;
     blank = λ g c e h. tt;

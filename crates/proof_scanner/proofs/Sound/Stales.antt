@@ -44,18 +44,11 @@ key_dropped text u s out k only far free = dropped
     none : s.base.entries ≡ []
     none = no_entries u.held.key_allowed (is_renewed s.base.site.before s.separation) u.held.flow u.held.keys s.base.entries out s.are_entries
 
-    line : (fl : Bool) (k : Option Key) → IsLine fl u.held.key_allowed (begins_free_line s.base.site.before s.separation) u.held.position u.rest k s.base.line → IsLine fl u.held.key_allowed (begins_free_line s.base.site.before s.separation) u.held.position u.rest None s.base.line
-    line a k h = grind arith
-
     may : MayChoose true false (outside_key s.base.entries u.held.keys) u.held.position u.rest
     may = subst (λ es. MayChoose true false (outside_key es u.held.keys) u.held.position u.rest) (sym none) (subst (λ ks. MayChoose true false (outside_key [] ks) u.held.position u.rest) (sym only) free)
 
-    base : (strict : Bool) → SoFar strict text After (record s.base { entries = [] }) (λ ws last. u.held.tokens)
-    base strict = subst (λ es. SoFar strict text After (record s.base { entries = es }) (λ ws last. u.held.tokens)) none
-        (none_completes strict text After s.base u.held.keys u.held.tokens s.no_key (entries_no_key u.held.key_allowed (is_renewed s.base.site.before s.separation) u.held.flow u.held.keys s.base.entries s.are_entries) (s.completes strict false [] (may_be_no_key strict (outside_key s.base.entries u.held.keys) u.held.position u.rest may)))
-
     own : (strict c : Bool) (cs : List Bool) → Of strict c cs (record s.base { entries = [] })
-    own strict c cs = base strict
+    own strict c cs = subst (λ es. SoFar strict text After (record s.base { entries = es }) (λ ws last. u.held.tokens)) none (none_completes strict text After s.base u.held.keys u.held.tokens s.no_key (entries_no_key u.held.key_allowed (is_renewed s.base.site.before s.separation) u.held.flow u.held.keys s.base.entries s.are_entries) (s.completes strict false [] (may_be_no_key strict (outside_key s.base.entries u.held.keys) u.held.position u.rest may)))
 
     dropped : Stands text (record u { held = record u.held { keys = None ∷ [] } })
     dropped = stands_by text _ u.held.flow (None ∷ []) s.base refl refl (
@@ -68,7 +61,7 @@ key_dropped text u s out k only far free = dropped
           entries_outside u.held.key_allowed (is_renewed s.base.site.before s.separation) u.held.flow (None ∷ []) s.base.entries out none,
           carries,
           completes,
-          subst (λ es. IsLine (not (is_empty u.held.flow)) u.held.key_allowed (begins_free_line s.base.site.before s.separation) u.held.position u.rest (outside_key es (None ∷ [])) s.base.line) (sym none) (line (not (is_empty u.held.flow)) (outside_key s.base.entries u.held.keys) s.line_is),
+          subst (λ es. IsLine (not (is_empty u.held.flow)) u.held.key_allowed (begins_free_line s.base.site.before s.separation) u.held.position u.rest (outside_key es (None ∷ [])) s.base.line) (sym none) (grind arith),
           subst (λ es. IsOpenOutside (outside_key es (None ∷ [])) s.base.site.position u.held.position u.rest s.base.site.blocks) (sym none) tt,
           subst (λ es. KnowsKey text After u.held.position (outside_key es (None ∷ []))) (sym none)
               (known_far text After u.held.position k far (subst (λ ks. KnowsKey text After u.held.position (outside_key [] ks)) only (subst (λ es. KnowsKey text After u.held.position (outside_key es u.held.keys)) none s.knows))),
@@ -105,10 +98,7 @@ stale_stands text u s =
 -- The stale keys of a fetch are dropped.
 pub keys_only : (s : Held) → Holds (λ h. h ≡ record s { keys = h.keys }) (stale s)
 unfolding stale
-keys_only s = either (in_flow s) (λ _. went refl) (λ _. by (drop_stale s.position s.keys))
-  where
-    by : (r : Result (List (Option Key)) Fault) → Holds (λ h. h ≡ record s { keys = h.keys }) (with_keys s r)
-    by a = grind (arith, went, refused)
+keys_only s = either (in_flow s) (λ _. went refl) (λ _. (grind (arith, went, refused)))
 
 -- What holds after a token, or after the end, holds after stale keys are dropped.
 pub fares_stale : (text : List ℕ) (t : ScannerState) → Stands text t ⊎ ((t.held.ended ≡ true) × IsRead text t.held.tokens × IsAtEnd text t.held) → Holds (Fares text) (try_held stale t)

@@ -23,28 +23,19 @@ around_no_key (f ∷ fs) (k ∷ ks) [] a = absurd a
 pub entries_no_key : (allowed again : Bool) (fs : List FlowLevel) (ks : List (Option Key)) (es : List Entry) → AreEntries allowed again fs ks es → have_no_key es ≡ true
 entries_no_key allowed again a ks es b = grind (arith, not_keyed, around_no_key)
 
-same_entry : (k : Option Key) (e : Entry) → entry_by false k e ≡ e
-same_entry a e = grind arith
-
 none_inside : (ks : List (Option Key)) (es : List Entry) → entries_by [] ks es ≡ es
 none_inside ks [] = refl
-none_inside ks (e ∷ es) = ap (λ x. x ∷ entries_by [] (pop ks) es) (same_entry (top_key ks) e) ∙ ap (λ xs. e ∷ xs) (none_inside (pop ks) es)
-
-none_outside : (k : Option Key) (l : Line) → line_by false k l ≡ l
-none_outside a l = grind arith
+none_inside ks (e ∷ es) = ap (λ x. x ∷ entries_by [] (pop ks) es) (grind arith) ∙ ap (λ xs. e ∷ xs) (none_inside (pop ks) es)
 
 -- with no choice for a key, the account is the one in which no open key is one
 pub none_chosen : (ks : List (Option Key)) (a : Account) → chosen false [] ks a ≡ a
-none_chosen ks a = grind (arith, nat_tests, eqb-true, none_outside, none_inside)
-
-not_both : (b c : Bool) → (not b && c) ≡ true → (b ≡ false) × (c ≡ true)
-not_both a c h = grind arith
+none_chosen ks a = grind (arith, nat_tests, eqb-true, none_inside)
 
 -- where no key waits, the tokens are those that the scanner holds
 pub none_put : (d : ℕ) (p : Position) (ws : List Step) (last bs : List ℕ) (l : Line) (es : List Entry) (ks : List (Option Key)) (ts : List Token) → is_waiting l ≡ false → have_no_key es ≡ true → with_keys d p ws last bs l es ks ts ≡ ts
 none_put d p ws last bs l es [] ts h n = refl
 none_put d p ws last bs l [] (k ∷ ks) ts h n = grind (arith, nat_tests, eqb-true, no_line)
-none_put d p ws last bs l (e ∷ es) (k ∷ ks) ts h n = grind (arith, nat_tests, eqb-true, not_both, no_had, none_put (suc d) p ws last bs l es ks ts h)
+none_put d p ws last bs l (e ∷ es) (k ∷ ks) ts h n = grind (arith, nat_tests, eqb-true, no_had, none_put (suc d) p ws last bs l es ks ts h)
 
 -- ---- positions
 
@@ -57,9 +48,6 @@ same_line_start p = grind arith
 abbrev pub ends_of : ℕ → Position → List Token
 ends_of n p = replicate n (put p block_end)
 
-more_ends : (n : ℕ) (p : Position) (ts : List Token) → (ts ++ put p block_end ∷ []) ++ ends_of n p ≡ ts ++ ends_of (suc n) p
-more_ends n p ts = append_assoc ts (put p block_end ∷ []) (ends_of n p)
-
 pub positive : (n i : ℕ) → n < i → nat_lt 0 i ≡ true
 positive n i h = grind (arith, nat_tests)
 
@@ -68,7 +56,7 @@ abbrev pub none_left : Position → ℕ → List Indent → List Token → Level
 none_left p i ds ts = record { indent = 0; indents = []; tokens = ts ++ ends_of (length (columns i ds)) p }
 
 ended_more : (p : Position) (i : ℕ) (ds : List Indent) (ts : List Token) → none_left p i ds (ts ++ put p block_end ∷ []) ≡ record { indent = 0; indents = []; tokens = ts ++ ends_of (suc (length (columns i ds))) p }
-ended_more p i ds ts = ap (λ (x : List Token). record { indent = 0; indents = []; tokens = x }) (more_ends (length (columns i ds)) p ts)
+ended_more p i ds ts = ap (λ (x : List Token). record { indent = 0; indents = []; tokens = x }) (append_assoc ts (put p block_end ∷ []) (ends_of (length (columns i ds)) p))
 
 all_collections : (p : Position) (i : ℕ) (ds : List Indent) (ts : List Token) → AreCollections i ds → unrolled 0 p i ds ts ≡ none_left p i ds ts
 unfolding unrolled
@@ -188,17 +176,12 @@ same_levels a = grind arith
 pub same_flow : (allowed again : Bool) (fs : List FlowLevel) (ks : List (Option Key)) (es : List Entry) → AreEntries allowed again fs ks es → is_empty fs ≡ is_empty es
 same_flow allowed again a ks es b = grind arith
 
--- Its tokens with the stream's end are those of the row.
-outside_flow : (h : Held) (ts : List Token) (bs : List ℕ) → in_flow h ≡ false → AreLevels h.indent h.indents → h.tokens ≡ ts ++ ends_at h.position bs (not_ended h.position.col bs) → not_ended h.position.col bs ≡ columns h.indent h.indents →
-    (ended_at (unroll_indent 0 (at_stream_end h))).tokens ≡ ts ++ tokens_at_end h.position bs []
-outside_flow h ts bs out levels tokens a = grind (arith, nat_tests, eqb-true, unrolled_outside, same_line_start, append_assoc, ends_by_levels)
-
 in_flow_too : (h : Held) (ts : List Token) (bs : List ℕ) (e : Entry) (es : List Entry) → in_flow h ≡ true → h.tokens ≡ ts → (ended_at (unroll_indent 0 (at_stream_end h))).tokens ≡ ts ++ tokens_at_end h.position bs (e ∷ es)
 in_flow_too h ts bs e es within tokens = grind (arith, nat_tests, eqb-true, unrolled_in_flow, not-true, same_line_start)
 
 last_tokens : (h : Held) (ts : List Token) (x : Site) (es : List Entry) → is_empty h.flow ≡ is_empty es → AreLevels h.indent h.indents → h.tokens ≡ ts ++ ends_here (not (is_empty h.flow)) h.position x.blocks →
     (site_here (not (is_empty h.flow)) h.position x).blocks ≡ columns h.indent h.indents → (ended_at (unroll_indent 0 (at_stream_end h))).tokens ≡ ts ++ tokens_at_end h.position x.blocks es
-last_tokens h ts x [] e levels tokens blocks = grind (arith, outside_flow, ends_here, columns)
+last_tokens h ts x [] e levels tokens blocks = grind (arith, nat_tests, eqb-true, unrolled_outside, same_line_start, append_assoc, ends_by_levels, ends_here, columns)
 last_tokens h ts x (y ∷ es) e levels tokens blocks =
     in_flow_too h ts x.blocks y es (ap not e) (subst (λ b. h.tokens ≡ ts ++ ends_here (not b) h.position x.blocks) e tokens ∙ append-nil ts)
 

@@ -23,21 +23,12 @@ col_here b q g a e some r h = grind (arith, nat_tests, eqb-true, column_after, l
 spaced_by : (b f : Bool) (n m : ℕ) (l : List ℕ) → b ≡ true → (not b || not (has_tab_within n l)) ≡ true → n ≡ m → has_tab_within m l ≡ false
 spaced_by b f n m l e h k = grind arith
 
--- a plain scalar's gap is followed by a comment, or by no separation
-after_plain : (a : List ℕ) → begins_white a ≡ false → begins_separation a ≡ true → is_at_comment_or_end a ≡ true
-after_plain b w h = grind arith
-
 spaced_here : (b : Previous) (bs : List ℕ) (aw : Bool) (q : Position) (g a : List ℕ) → is_indented_by_spaces b bs aw g ≡ true → begins_separation a ≡ true → is_at_comment_or_end a ≡ false → IsReadOn b q g a → Spaced b (least_column bs aw) g
-spaced_here d bs aw q g a h s n r = grind (arith, after_plain, spaced_by, or-false)
+spaced_here d bs aw q g a h s n r = grind (arith, spaced_by, or-false)
 
 -- in the midst of a line
 in_midst : (a : List ℕ) → has_no_nul a ≡ true → is_at_comment_or_end a ≡ false → (at_break a ≡ false) × (is_empty a ≡ false) × (is_at_line_end a ≡ false)
 in_midst b n h = grind arith
-
--- What is known of the line where the way begins.
-at_start : (text : List ℕ) (t : ScannerState) (s : Stands text t) → begins_separation t.rest ≡ true → is_at_comment_or_end t.rest ≡ false → is_indented_by_spaces s.base.site.before s.base.site.blocks s.base.site.awaits s.separation ≡ true →
-    IsAt s.base.site.before (least_column s.base.site.blocks s.base.site.awaits) s.separation t.held
-at_start text t s begins midst indented = grind (arith, nat_tests, eqb-true, in_midst, some_columns, no_comment_in_last, col_here, spaced_here)
 
 pub is_in : (text : List ℕ) (t : ScannerState) (s : Stands text t) → begins_separation t.rest ≡ true → IsIn s.base.site.before (least_column s.base.site.blocks s.base.site.awaits) between s.separation t.held t.rest
 is_in text t s begins = by (is_at_comment_or_end t.rest) refl s.has_no_tabs
@@ -45,7 +36,7 @@ is_in text t s begins = by (is_at_comment_or_end t.rest) refl s.has_no_tabs
     by : (x : Bool) → is_at_comment_or_end t.rest ≡ x → HasNoTabs s.base.site s.separation t.rest → IsIn s.base.site.before (least_column s.base.site.blocks s.base.site.awaits) between s.separation t.held t.rest
     by true e h = inl e
     by false e (inl h) = absurd (cc (e, h))
-    by false e (inr h) = inr (at_start text t s begins e h)
+    by false e (inr h) = inr (grind (arith, nat_tests, eqb-true, in_midst, some_columns, no_comment_in_last, col_here, spaced_here))
 
 -- ---- where it ends
 
@@ -68,11 +59,8 @@ indented_after b bs aw g f h = grind arith
 line_after : (fl allowed broken breaks : Bool) (k : Option Key) (p p2 : Position) (rest rest2 : List ℕ) (l : Line) → ((x : Key) → IsLive x p2 rest2 → IsLive x p rest) → ((x : Key) → k ≡ Some x → IsLive x p2 rest2 → breaks ≡ false) →
     IsLine fl allowed broken p rest k l → IsLine fl ((not fl && breaks) || allowed) (broken || breaks) p2 rest2 k l
 line_after true allowed broken breaks k p p2 rest rest2 l before none h = h
-line_after false allowed broken breaks k p p2 rest rest2 l before none h = (h.0, ap (λ x. breaks || x) h.1 ∙ by breaks (is_free l) broken, taken k none h.2)
+line_after false allowed broken breaks k p p2 rest rest2 l before none h = (h.0, ap (λ x. breaks || x) h.1 ∙ (grind (arith, nat_tests, eqb-true)), taken k none h.2)
   where
-    by : (x y z : Bool) → (x || (y || z)) ≡ (y || (z || x))
-    by a b z = grind (arith, nat_tests, eqb-true)
-
     taken : (k : Option Key) → ((x : Key) → k ≡ Some x → IsLive x p2 rest2 → breaks ≡ false) → IsTakenBy allowed p rest k l → IsTakenBy (breaks || allowed) p2 rest2 k l
     taken None none h = tt
     taken (Some x) none h = λ live. let d = h (before x live) in (d.0, ap (λ y. y || allowed) (none x refl live) ∙ d.1)
@@ -81,19 +69,9 @@ open_after : (k : Option Key) (q p p2 : Position) (rest rest2 bs : List ℕ) →
 open_after None q p p2 rest rest2 bs before h = tt
 open_after (Some k) q p p2 rest rest2 bs before h = (h.0, λ live. let o : IsOpenHere k p bs = h.1 (before k live) in record { column_is = o.column_is; must_be = o.must_be })
 
-entries_after : (allowed again breaks : Bool) (fs : List FlowLevel) (ks : List (Option Key)) (es : List Entry) → AreEntries allowed again fs ks es → AreEntries ((not (not (is_empty fs)) && breaks) || allowed) again fs ks es
-entries_after allowed again a b ks es h = grind arith
-
--- the line of an open key is that of the last piece's end, or before
-key_line : (k : Option Key) (q p : Position) (rest bs : List ℕ) (x : Key) → IsOpenOutside k q p rest bs → k ≡ Some x → x.position.line ≤ q.line
-key_line a q p rest bs x h e = grind arith
-
 module _ (text : List ℕ) (t u : ScannerState) (s : Stands text t) (begins : begins_separation t.rest ≡ true) (e : Exact t u) (c : Cleared s.base.site.before (least_column s.base.site.blocks s.base.site.awaits) s.separation t.rest u) where
-  same_passed : c.passed ≡ e.separation
-  same_passed = append_cancel_right c.passed e.separation u.rest (sym c.cut ∙ e.cut)
-
   at : is_empty u.rest ≡ false → IsAt s.base.site.before (least_column s.base.site.blocks s.base.site.awaits) (s.separation ++ e.separation) u.held
-  at some = subst (λ g. IsAt s.base.site.before (least_column s.base.site.blocks s.base.site.awaits) (s.separation ++ g) u.held) same_passed (c.clear some)
+  at some = subst (λ g. IsAt s.base.site.before (least_column s.base.site.blocks s.base.site.awaits) (s.separation ++ g) u.held) (append_cancel_right c.passed e.separation u.rest (sym c.cut ∙ e.cut)) (c.clear some)
 
   abbrev Now : ScannerState
   Now = after_separation t.held e.is_leading e.separation u.rest
@@ -112,10 +90,7 @@ module _ (text : List ℕ) (t u : ScannerState) (s : Stands text t) (begins : be
 
   -- and then no break was passed
   none_broken : (x : Key) → outside_key s.base.entries t.held.keys ≡ Some x → IsLive x (position_after t.held.position e.separation u.rest) u.rest → plain_ends.has_break e.separation ≡ false
-  none_broken x k l = grind (arith, nat_tests, eqb-true, key_line, not_before_after, same_has_break, unbroken)
-
-  levels : is_empty s.base.site.blocks ≡ false → is_empty u.held.indents ≡ false
-  levels h = grind arith
+  none_broken x k l = grind (arith, nat_tests, eqb-true, not_before_after, same_has_break, unbroken)
 
   now : Stands text Now
   now = stands_by text Now t.held.flow t.held.keys s.base refl refl (record {
@@ -127,12 +102,12 @@ module _ (text : List ℕ) (t u : ScannerState) (s : Stands text t) (begins : be
     awaits_is = s.awaits_is;
     are_levels = s.are_levels;
     has_no_tabs = tabs;
-    is_leading = λ blocks some comment. sym (ap (λ y. y.held.leading) e.is_state) ∙ (at some).leading_is (levels blocks);
+    is_leading = λ blocks some comment. sym (ap (λ y. y.held.leading) e.is_state) ∙ (at some).leading_is (grind arith);
     read_on = read_on_append s.base.site.before s.base.site.position s.separation e.separation t.rest u.rest e.cut e.solid s.read_on;
     one_each = s.one_each;
     are_entries = subst (λ b. AreEntries ((not (in_flow t.held) && plain_ends.has_break e.separation) || t.held.key_allowed) b t.held.flow t.held.keys s.base.entries)
         (sym (renewed_alike s.base.site.before s.base.site.position s.separation e.separation t.rest u.rest e.cut e.is_filled s.read_on))
-        (entries_after t.held.key_allowed (is_renewed s.base.site.before s.separation) (plain_ends.has_break e.separation) t.held.flow t.held.keys s.base.entries s.are_entries);
+        (grind arith);
     line_is = subst (λ b. IsLine (in_flow t.held) ((not (in_flow t.held) && plain_ends.has_break e.separation) || t.held.key_allowed) b (position_after t.held.position e.separation u.rest) u.rest (outside_key s.base.entries t.held.keys) s.base.line)
         (ap (λ b. begins_free_line s.base.site.before s.separation || b) (same_has_break e.separation) ∙ sym (free_line_append s.base.site.before s.base.site.position s.separation e.separation t.rest u.rest e.cut s.read_on))
         (line_after (in_flow t.held) t.held.key_allowed (begins_free_line s.base.site.before s.separation) (plain_ends.has_break e.separation) (outside_key s.base.entries t.held.keys) t.held.position (position_after t.held.position e.separation u.rest) t.rest u.rest s.base.line live none_broken s.line_is);

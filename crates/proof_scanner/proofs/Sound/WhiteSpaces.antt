@@ -69,10 +69,7 @@ feed_after c a s e = by (is_cr_lf c a) refl
     feed [] h = absurd (cc h)
     feed (d ∷ r) h = let same : d ≡ 10 = eqb-true d 10 h in rw same refl
 
-    leads : Held → Bool
-    leads h = h.leading
-
-    by : (b : Bool) → is_cr_lf c a ≡ b → (leads (if b then moved s else past_line s) || has_break (white_of false a)) ≡ true
+    by : (b : Bool) → is_cr_lf c a ≡ b → (((if b then moved s else past_line s).leading) || has_break (white_of false a)) ≡ true
     by true f = ap (λ b. s.leading || b) (feed a (and_parts (c == 13) (slice_index a 0 == 10) f).1) ∙ or_true s.leading
     by false f = refl
 
@@ -85,9 +82,6 @@ white_read b found [] s = ended found []
     ended false r = refused
 white_read i found (c ∷ a) s = of i (class.is_break c) (c == 32) (c == 35) refl refl refl (λ i f u. white_read i f a u)
   where
-    Reads : Bool → Type 0
-    Reads i = (f : Bool) (u : Held) → Holds (IsPastWhite i u.leading a) (white i f a u)
-
     ended : (f : Bool) → Holds (λ u. (u.rest ≡ c ∷ a) × (u.held.leading ≡ (s.leading || false))) (white_end f (c ∷ a) s)
     ended true = went (refl, sym (or_false s.leading))
     ended false = refused
@@ -97,9 +91,6 @@ white_read i found (c ∷ a) s = of i (class.is_break c) (c == 32) (c == 35) ref
 
     line : (u : ScannerState) → is_break c ≡ true → IsPastWhite false (at_break c a s).leading a u → (u.rest ≡ past_white false a) × (u.held.leading ≡ (s.leading || has_break (c ∷ white_of false a)))
     line u e h = (h.0, h.1 ∙ feed_after c a s e ∙ (sym (or_true s.leading) ∙ ap (λ b. s.leading || not (not b && has_no_break (white_of false a))) (sym e)))
-
-    space_no_hash : (c == 32) ≡ true → (c == 35) ≡ false
-    space_no_hash f = let same : c ≡ 32 = eqb-true c 32 f in rw same refl
 
     over : (u : ScannerState) (z : Bool) → goes_over c ≡ true → (c == 35) ≡ z → (u.rest ≡ past_white z a) × (u.held.leading ≡ (s.leading || has_break (c ∷ white_of z a))) → IsPastWhite false s.leading (c ∷ a) u
     over u z e f h =
@@ -112,7 +103,7 @@ white_read i found (c ∷ a) s = of i (class.is_break c) (c == 32) (c == 35) ref
     stay : (u : ScannerState) → goes_over c ≡ false → (u.rest ≡ c ∷ a) × (u.held.leading ≡ (s.leading || false)) → IsPastWhite false s.leading (c ∷ a) u
     stay u e h = subst (λ g. (u.rest ≡ (if g then past_white (c == 35) a else c ∷ a)) × (u.held.leading ≡ (s.leading || has_break (if g then c ∷ white_of (c == 35) a else [])))) (sym e) h
 
-    of : (i x y z : Bool) → class.is_break c ≡ x → (c == 32) ≡ y → (c == 35) ≡ z → ((j : Bool) → Reads j) →
+    of : (i x y z : Bool) → class.is_break c ≡ x → (c == 32) ≡ y → (c == 35) ≡ z → ((j : Bool) → ((f : Bool) (u : Held) → Holds (IsPastWhite j u.leading a) (white j f a u))) →
         Holds (IsPastWhite i s.leading (c ∷ a)) (if x then white false true a (at_break c a s) else (if i then white true found a (moved s) else (if y then white false true a (moved s) else (if z then white true found a (moved s) else white_end found (c ∷ a) s))))
     of true true y z e f g h = let br : is_break c ≡ true = same_break c ∙ e in weakened (λ u k. under u true br (line u br k)) (h false true (at_break c a s))
     of true false y z e f g h = let br : is_break c ≡ false = same_break c ∙ e in weakened (λ u k. under u false br (more true u br k)) (h true found (moved s))
@@ -121,7 +112,7 @@ white_read i found (c ∷ a) s = of i (class.is_break c) (c == 32) (c == 35) ref
         weakened (λ u k. over u false (ap (λ b. ((c == 32) || b) || (c == 35)) br ∙ ap (λ b. b || (c == 35)) (or_true (c == 32))) (no_break_hash c e) (line u br k)) (h false true (at_break c a s))
     of false false true z e f g h =
         let br : is_break c ≡ false = same_break c ∙ e in
-        weakened (λ u k. over u false (ap (λ b. (b || is_break c) || (c == 35)) f) (space_no_hash f) (more false u br k)) (h false true (moved s))
+        weakened (λ u k. over u false (ap (λ b. (b || is_break c) || (c == 35)) f) (let same : c ≡ 32 = eqb-true c 32 f in rw same refl) (more false u br k)) (h false true (moved s))
     of false false false true e f g h =
         let br : is_break c ≡ false = same_break c ∙ e in
         weakened (λ u k. over u true (ap (λ b. ((c == 32) || is_break c) || b) g ∙ or_true ((c == 32) || is_break c)) g (more true u br k)) (h true found (moved s))

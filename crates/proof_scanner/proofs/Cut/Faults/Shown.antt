@@ -18,9 +18,6 @@ flows : (cs : List Bool) (ks : List (Option Key)) (es : List Entry) → is_in_fl
 flows cs ks [] h = absurd (cc h)
 flows cs ks (e ∷ es) h = refl
 
-opens : (c : ℕ) → (c ≡ 91) ⊎ (c ≡ 123) → ((c == 91) || (c == 123)) ≡ true
-opens c a = grind arith
-
 module _ (text : List ℕ) (t : ScannerState) (a : Arrives text t) where
   -- the account where a piece begins
   abbrev now : Account
@@ -47,20 +44,14 @@ module _ (text : List ℕ) (t : ScannerState) (a : Arrives text t) where
   quoted_stands true more why e (none.by_escape body rest _ double cut has bad) = absurd (cc double)
   quoted_stands false more why e (none.by_escape body rest _ double cut has bad) = bad_escape now body rest why (spot _ (e ∙ ap (λ r. 34 ∷ r) cut)) has bad
 
-  header_hidden : (style : BlockStyle) (line : List ℕ) (why : Problem) (at : Position) → none.IsNoHeader style t.held.position line why at → is_shown (At why at) ≡ true → ⊥
-  header_hidden style a why b n h = grind (arith, nat_tests, eqb-true)
-
   piece_stands : (fl : Bool) (why : Problem) (at : Position) → NoPiece fl t.held.position t.rest why at → is_shown (At why at) ≡ true → IsThere text (At why at)
-  piece_stands fl why a n h = grind (arith, quoted_stands, tag_neither, line_neither, header_hidden)
+  piece_stands fl why a n h = grind (arith, quoted_stands, tag_neither, line_neither, nat_tests, eqb-true)
 
   module _ (c : Bool) (cs : List Bool) where
     plain_stands : (why : Problem) (at : Position)
         → none.IsPlainFault (is_in_flow (entries_by cs t.held.keys a.base.entries)) (failing.site_at_place (chosen c cs t.held.keys a.base) t.held.position).blocks t.held.position t.rest why at → is_shown (At why at) ≡ true → IsThere text (At why at)
     plain_stands why at (none.by_dash before rest flow cut begins over apart) h = dash_in_flow now before rest (spot _ cut) begins (flows cs t.held.keys a.base.entries flow) apart
     plain_stands why at n h = absurd (cc h)
-
-    followed_hidden : (fl : Bool) (why : Problem) (at : Position) → none.IsFollowed fl t.held.position t.rest why at → is_shown (At why at) ≡ true → ⊥
-    followed_hidden fl why a n h = grind (arith, nat_tests, eqb-true)
 
     lines_hidden : (single : Bool) (least : ℕ) (why : Problem) (at : Position) → lines.IsQuotedFault single least t.held.position t.rest why at → is_shown (At why at) ≡ true → ⊥
     lines_hidden a least why b n h = grind (arith, nat_tests, eqb-true)
@@ -71,10 +62,10 @@ module _ (text : List ℕ) (t : ScannerState) (a : Arrives text t) where
     may_not_stands : (why : Problem) (at : Position) → failing.MayNotStand (chosen c cs t.held.keys a.base) a.separation t.held.position t.rest why at → is_shown (At why at) ≡ true → IsThere text (At why at)
     may_not_stands why at (failing.too_deep bracket more e is many) h =
         let same = many_levels cs t.held.keys a.base.entries in
-        too_deep now bracket more (spot _ e) (opens bracket is) (grind (arith, nat_tests, many, same))
+        too_deep now bracket more (spot _ e) (grind arith) (grind (arith, nat_tests, many, same))
     may_not_stands why at (failing.dash_in_flow more e gap inside) h = entry_in_flow now more (spot _ e) gap (flows cs t.held.keys a.base.entries inside)
     may_not_stands why at n h = absurd (cc h)
 
     -- what fails by a choice of keys
     pub stands : (why : Problem) (at : Position) → Fails (chosen c cs t.held.keys a.base) a.separation t.held.position t.rest why at → is_shown (At why at) ≡ true → IsThere text (At why at)
-    stands why a b h = grind (arith, piece_stands, plain_stands, lines_hidden, block_hidden, followed_hidden, may_not_stands)
+    stands why a b h = grind (arith, piece_stands, plain_stands, lines_hidden, block_hidden, nat_tests, eqb-true, may_not_stands)

@@ -32,9 +32,6 @@ line_end_there next h = grind arith
 pub piece_of : (a : Account) (piece next : List ℕ) (d : Directive) (following : Option Tok) → IsDirective a piece next d → IsPiece a piece next following a.position (token_of d)
 piece_of a piece b e following h = grind arith
 
-pub token_is : (d : Directive) → is_directive_token (token_of d) ≡ true
-token_is d = grind arith
-
 pub percent_in_line : (l : List ℕ) → has_no_break l ≡ true → has_no_break (37 ∷ l) ≡ true
 unfolding is_break
 percent_in_line l h = h
@@ -55,5 +52,5 @@ directive_is_read a more r nul column closed e = by r (read_as e (directives_end
             (piece_of a (37 ∷ line) next d following (is, percent_in_line line no_break, column, line_end_there next ends, closed));
         is_end = position_append a.position (37 ∷ line) (first_break next) (next_line next);
       },
-      token_is d,
+      (grind arith),
     )

@@ -16,9 +16,6 @@ solid_start : (fl adjacent : Bool) (c : ℕ) (r : List ℕ) → may_begin fl adj
 unfolding is_blank is_break is_blank_or_end
 solid_start fl adjacent c r h = grind (arith, nat_tests)
 
-begins_solid_with : (fl adjacent : Bool) (col : ℕ) (t : List ℕ) → begins_plain fl adjacent col t ≡ true → begins_solid t ≡ true
-begins_solid_with fl adjacent col a h = grind (arith, nat_tests, eqb-true, solid_start, and_parts)
-
 -- ---- in flow a dash before a flow indicator is refused
 
 pub same_flow_start : (r : List ℕ) → model_classes.is_flow (slice_index r 0) ≡ begins_flow r
@@ -49,4 +46,4 @@ module _ (a : Account) (ctx : Context) (text : List ℕ) (flows : is_in_flow a �
 pub plain_is_read : PlainIsRead
 plain_is_read a ctx text r nul flows column comes indented is =
     let begins : begins_plain (is_in_flow a) (is_adjacent a.before) a.position.col text ≡ true = rw flows (begins_as_read ctx (is_adjacent a.before) text a.position r comes is) in
-    by a ctx text flows column begins r (read_as is (scans_end ctx text a.position nul (begins_solid_with (is_in_flow a) (is_adjacent a.before) a.position.col text begins) indented))
+    by a ctx text flows column begins r (read_as is (scans_end ctx text a.position nul (grind (arith, nat_tests, eqb-true, solid_start, and_parts)) indented))
