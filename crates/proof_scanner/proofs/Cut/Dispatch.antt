@@ -1,5 +1,5 @@
 -- The next token by its first characters.
-use Rattle.proof_scanner.proofs.Common.{row, [], and_false, ap, are_single, arith, At, begins_flow, begins_separation, Bool, class_of, comes_marker, comes_plain, eqb-true, Err, false, Fault, fetch_anchor, fetch_block_entry, fetch_block_scalar, fetch_content, fetch_directive, fetch_document_end, fetch_document_marker, fetch_first_column, fetch_flow_collection_end, fetch_flow_collection_start, fetch_flow_entry, fetch_flow_scalar, fetch_indented, fetch_key, fetch_plain_scalar, fetch_tag, fetch_token, fetch_value, has_no_nul, if◌then◌else◌, in_flow, is_at_gap, is_blank_or_breakz, is_document_marker, is_empty, is_literal, is_value, is_value_indicator, is_white, List, mark_of, may_begin, NameKind, nat_lt, not, peek, quote_of, Quotes, refl, Result, same_gap, ScannerState, slice_index, sym, Tok, token_by, true, ℕ, ◌&&◌, ◌+◌, ◌==◌, ◌||◌, ◌∙◌, ◌∷◌, ◌≡◌, nat_tests}
+use Rattle.proof_scanner.proofs.Common.{row, and_false, ap, are_single, arith, At, begins_flow, begins_separation, Bool, class_of, comes_marker, comes_plain, eqb-true, Err, false, Fault, fetch_anchor, fetch_block_entry, fetch_block_scalar, fetch_content, fetch_directive, fetch_document_end, fetch_document_marker, fetch_first_column, fetch_flow_collection_end, fetch_flow_collection_start, fetch_flow_entry, fetch_flow_scalar, fetch_indented, fetch_key, fetch_plain_scalar, fetch_tag, fetch_token, fetch_value, has_no_nul, if◌then◌else◌, in_flow, is_at_gap, is_blank_or_breakz, is_document_marker, is_empty, is_literal, is_value, is_value_indicator, is_white, List, mark_of, may_begin, NameKind, nat_lt, not, peek, quote_of, Quotes, refl, Result, same_gap, ScannerState, slice_index, sym, Tok, token_by, true, ℕ, ◌&&◌, ◌+◌, ◌==◌, ◌||◌, ◌∙◌, ◌∷◌, ◌≡◌, nat_tests}
 use Rattle.yaml_chars.specs.Class.{is_blank, is_break, is_flow}
 use Rattle.defs_text.specs.Classes as classes
 use Rattle.yaml_tokens.specs.declared.problem.Problem.TheVariants as problem
@@ -12,7 +12,7 @@ use Rattle.proof_lexers.proofs.Bridges.{same_flow}
 use Rattle.proof_scanner.proofs.Cut.Characters.{Ordinary}
 use Rattle.proof_scanner.proofs.Cut.Nodes.{IsDeep}
 use Rattle.model_scanner.specs.State.{after}
-use Rattle.proof_scanner.proofs.Cut.Fetched.{begins_with_this, Marked, marked, no_marker, is_deep}
+use Rattle.proof_scanner.proofs.Cut.Fetched.{Marked, marked, no_marker}
 
 -- ---- characters
 
@@ -195,11 +195,11 @@ content_holds Q t some h =
     either a p q = grind arith
 
     indented : IsNoLine t → Q (fetch_indented t)
-    indented n = either (nat_lt (t.held.position.col + 1) t.held.indent) (h.shallow n) (λ e. h.token n (is_deep t.held.position.col t.held.indent e))
+    indented n = either (nat_lt (t.held.position.col + 1) t.held.indent) (h.shallow n) (λ e. h.token n (grind (arith, nat_tests)))
 
     first : t.held.position.col ≡ 0 → Q (fetch_first_column t)
     first col =
-        either (peek t.rest == 37) (λ e. h.directive (begins_with_this t.rest 37 some e) col) (λ n.
+        either (peek t.rest == 37) (λ e. h.directive (((grind arith) ∙ ap (λ d. d ∷ after t.rest) (eqb-true (peek t.rest) 37 e))) col) (λ n.
         either (comes_marker 45 t.rest) (λ e. let m : Marked 45 t.rest = marked 45 t.rest refl e in h.document_start m.more m.is_text m.gap col) (λ x.
         either (comes_marker 46 t.rest) (λ e. let m : Marked 46 t.rest = marked 46 t.rest refl e in h.document_end m.more m.is_text m.gap col) (λ y.
         indented (ap (λ b. (t.held.position.col == 0) && b) (no_marker t.rest x y) ∙ and_false (t.held.position.col == 0), λ _. n))))

@@ -1,9 +1,8 @@
 -- What the model leaves at closing brackets and commas.
-use Rattle.proof_scanner.proofs.Common.{[], allow_key, arith, before_past, begins_token, blocks_past, Bool, collection, decrease_flow_level, end_flow_pair, ends_entry, ends_spaces, false, FlowLevel, has_no_nul, Held, if◌then◌else◌, inl, inr, is_adjacent, is_at_line_end, is_blank, is_blanks, is_break, is_pair_at, is_separation, IsAdjacent, IsPiece, Key, Keyed, length, List, no_hash, None, not, Option, other, pop, Position, refl, same_blank, Some, suc, sym, Tok, Token, token, true, with_top, Yes, ℕ, ◌&&◌, ◌++◌, ◌+◌, ◌==◌, ◌||◌, ◌∙◌, ◌∷◌, ◌≡◌, ◌⊎◌}
+use Rattle.proof_scanner.proofs.Common.{[], allow_key, arith, before_past, begins_token, blocks_past, Bool, collection, decrease_flow_level, end_flow_pair, ends_entry, ends_spaces, false, FlowLevel, has_no_nul, Held, if◌then◌else◌, inl, inr, is_adjacent, is_at_line_end, is_blank, is_blanks, is_break, is_pair_at, is_separation, IsAdjacent, IsPiece, Key, Keyed, length, List, no_hash, None, not, Option, other, pop, Position, refl, same_blank, Some, sym, Tok, Token, token, true, with_top, Yes, ℕ, ◌&&◌, ◌++◌, ◌+◌, ◌==◌, ◌||◌, ◌∙◌, ◌∷◌, ◌≡◌, ◌⊎◌, nat_tests}
 use Rattle.proof_lexers.specs.PlainEnds.{has_break}
 use Rattle.defs_token.specs.Account.{Account}
 use Rattle.model_scanner.specs.declared.level.FlowLevel.TheVariants.{Entry, Pair}
-use Rattle.proof_scanner.proofs.Cut.Nodes.{not_same}
 use Rattle.proof_scanner.proofs.Cut.Scalars.{same_number}
 
 -- ---- what the model leaves
@@ -85,4 +84,4 @@ adjacent_collection p f rest fills line ends clean = λ separation r e k t. by s
       | inl b ↦ rw b (sym (same_number p.index))
       | inr l ↦ absurd (grind arith)
     ]
-    by (c ∷ g) r e k t = blanks_first (is_blanks f) c g (no_blank c (rw e at ends)) ∙ sym (not_same (p.index + suc (length g)) p.index (omega arith))
+    by (c ∷ g) r e k t = blanks_first (is_blanks f) c g (no_blank c (rw e at ends)) ∙ sym (grind (arith, nat_tests))

@@ -1,9 +1,9 @@
 -- What is known of keys that wait, after a step: from what was known before it.
-use Rattle.proof_scanner.proofs.Common.{[], Account, Act, act_of, ap, arith, Begins, begins_free_line, blocks_at, Bool, false, free, gives_block_scalar, gives_node, is_far, is_in_column, is_in_flow, IsLineHere, IsWritten, Key, KnowsKey, LikeLine, Line, line_by, line_past, line_past_separation, List, None, Option, Outside, Position, position_after, refl, same_flow, Site, site_here, Some, Step, subst, sym, taken, true, up_to_nul, waits, ℕ, ◌++◌, ◌+◌, ◌∙◌, ◌∷◌, ◌≡◌, ◌≤◌, eqb-true, nat_tests}
+use Rattle.proof_scanner.proofs.Common.{[], Account, Act, act_of, ap, arith, Begins, begins_free_line, Bool, false, free, gives_block_scalar, gives_node, is_far, is_in_column, is_in_flow, IsLineHere, IsWritten, Key, KnowsKey, LikeLine, Line, line_by, line_past, line_past_separation, List, None, Option, Outside, Position, position_after, refl, same_flow, Site, site_here, Some, Step, subst, sym, taken, true, up_to_nul, waits, ℕ, ◌++◌, ◌+◌, ◌∙◌, ◌∷◌, ◌≡◌, ◌≤◌, eqb-true, nat_tests}
 use Rattle.proof_scanner.specs.KnownKeys.{IsAt}
 use Rattle.proof_scanner.proofs.Cut.Positions.{index_after, not_before_after}
 use Rattle.proof_scanner.proofs.Known.CameBy.{begins_whole, Came, came_by}
-use Rattle.proof_scanner.proofs.Known.Made.{same_of, waited, still_there, like_past, begun, kept, Waits, waits_past, Made, outside, inside, made}
+use Rattle.proof_scanner.proofs.Known.Made.{same_of, waited, still_there, begun, kept, Waits, waits_past, Made, outside, inside, made}
 use Rattle.proof_scanner.proofs.Known.Rows.{goes_from_start, goes_past}
 use Rattle.proof_scanner.proofs.Known.Ways.{With, GivesUp, Way}
 use Rattle.proof_scanner.proofs.Sound.NodeSteps.{saved}
@@ -121,9 +121,6 @@ module _ (text : List ℕ) (s : Site) (l line_here : Line) (allowed : Bool) (k :
   free_here : allowed ≡ true → k ≡ None → line_here ≡ free
   free_here e j = grind (arith, line_is)
 
-  not_open : (y : Key) → allowed ≡ true → k ≡ Some y → ⊥
-  not_open y e j = grind (arith, line_is)
-
   -- After a node or a block scalar outside flow the key that may begin with it is open, or the one that was.
   pub known_saved : (p : Position) → new.position ≡ here → new.required ≡ is_in_column here.col at.blocks → KnowsKey text (w.separation ++ (w.piece ++ next)) p k → KnowsKey text next p (saved allowed new k)
   known_saved p place must n = record {
@@ -142,11 +139,11 @@ module _ (text : List ℕ) (s : Site) (l line_here : Line) (allowed : Bool) (k :
         where
           old : (d : Bool) (y : Option Key) → allowed ≡ d → k ≡ y → IsAt y begin → IsAt (saved d new y) begin
           old true None i j h = absurd h
-          old true (Some z) i j h = absurd (not_open z i j)
+          old true (Some z) i j h = absurd (grind (arith, line_is))
           old false y i j h = h
 
       waited_on : (d : Bool) (y : Option Key) → allowed ≡ d → k ≡ y → (b : Account) (x : Key) (z : Past b) → saved d new y ≡ Some x → x.required ≡ true → z.after.line ≡ waits x.position
-      waited_on true (Some y) i j b x z e m = absurd (not_open y i j)
+      waited_on true (Some y) i j b x z e m = absurd (grind (arith, line_is))
       waited_on true None i j b x z e m =
           let same : new ≡ x = same_of new x e in
           let like : LikeLine l z.from.line = subst (λ o. LikeLine (line_by c o l) z.from.line) j z.is_like in

@@ -1,5 +1,5 @@
 -- Two ways through one text: each beginning of a row goes through the place of the other, or the other goes on past its own. A way may give up a key that waits.
-use Rattle.proof_scanner.proofs.Common.{[], Account, account_past, account_step, ap, Begins, BeginsButForKey, Bool, Entry, first_account, free, Had, has_no_nul, is_in_column, IsLike, IsWritten, Leads, LikeEntries, LikeHad, LikeLine, Line, List, no_nul_after, None, Option, Position, refl, same_written, Some, spelled, Step, Stepped, subst, sym, taken, true, up_to_nul, waits, ℕ, ◌++◌, ◌∙◌, ◌∷◌, ◌≡◌, arith, eqb-true, nat_tests}
+use Rattle.proof_scanner.proofs.Common.{[], Account, account_past, account_step, ap, Begins, BeginsButForKey, Bool, Entry, first_account, free, has_no_nul, is_in_column, IsLike, IsWritten, Leads, LikeEntries, List, no_nul_after, None, Option, Position, refl, same_written, Some, spelled, Step, Stepped, subst, sym, taken, true, up_to_nul, waits, ℕ, ◌++◌, ◌∙◌, ◌∷◌, ◌≡◌, arith, eqb-true, nat_tests}
 use Rattle.defs_token.specs.Piece.{Holds}
 
 -- ---- accounts that are alike
@@ -149,24 +149,18 @@ module _ (J K : Account → Account → Type 0) (R : Account → Account → Lis
       m : List ℕ
       m = spelled ws after2
 
-      half : IsLike h.0 y
-      half = keeps.first_like x y h.0 h.1 i
-
       like : IsLike h.0 k.0
-      like = keeps.second_like h.0 y k.0 k.1 half
+      like = keeps.second_like h.0 y k.0 k.1 (keeps.first_like x y h.0 h.1 i)
 
       rest : R h.0 k.0 (spelled (v ∷ vs) after1)
-      rest = keeps.second h.0 y k.0 (spelled (v ∷ vs) after1) half k.1 (keeps.first x y h.0 (spelled (v ∷ vs) after1) i h.1 r)
+      rest = keeps.second h.0 y k.0 (spelled (v ∷ vs) after1) (keeps.first_like x y h.0 h.1 i) k.1 (keeps.first x y h.0 (spelled (v ∷ vs) after1) i h.1 r)
 
       same : (v.separation ≡ w.separation) × (v.piece ≡ w.piece) × (v.shown ≡ w.shown) × (n ≡ m)
       same = same_written h.0 k.0 v w n m like h.2 k.2 e c
-
-      step : w ≡ With v w.key
-      step = moved w v (sym same.0) (sym same.1) (sym same.2)
 
       to : (g f : Option Account) → account_past h.0 v n ≡ g → account_past k.0 w m ≡ f → LeadsBy J g vs after1 a → LeadsBy K f ws after2 b → Stepped IsLike ((h.0 ≡ k.0) × (v ≡ w)) g f
           → ((g f : Account) → IsLike g f → R g f n → LeadsBy J (Some g) vs after1 a → LeadsBy K (Some f) ws after2 b → Meet J K R a b after1 after2) → Meet J K R a b after1 after2
       to None f ge fe l o s on = absurd l
       to (Some g) None ge fe l o s on = absurd o
       to (Some g) (Some f) ge fe l o s on =
-          on g f s.0 (keeps.both h.0 k.0 g f v w.key n like rest h.2 (subst (λ z. IsWritten k.0 (With v w.key) z) (sym same.3) (subst (λ z. IsWritten k.0 z m) step k.2)) ge (subst (λ z. account_past k.0 (With v w.key) z ≡ Some f) (sym same.3) (subst (λ z. account_past k.0 z m ≡ Some f) step fe))) l o
+          on g f s.0 (keeps.both h.0 k.0 g f v w.key n like rest h.2 (subst (λ z. IsWritten k.0 (With v w.key) z) (sym same.3) (subst (λ z. IsWritten k.0 z m) (moved w v (sym same.0) (sym same.1) (sym same.2)) k.2)) ge (subst (λ z. account_past k.0 (With v w.key) z ≡ Some f) (sym same.3) (subst (λ z. account_past k.0 z m ≡ Some f) (moved w v (sym same.0) (sym same.1) (sym same.2)) fe))) l o

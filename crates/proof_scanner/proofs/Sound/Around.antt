@@ -1,10 +1,9 @@
 -- A piece in flow, and the open key outside flow: while that is live, no break stands before the piece or in it.
-use Rattle.proof_scanner.proofs.Common.{After, Bool, Entry, FlowLevel, IsLive, IsOpenHere, IsOpenOutside, Key, List, MayChoose, NotBefore, Option, Position, ScannerState, Some, after, ap, append-nil, arith, begins_free_line, false, has_break, is_empty, is_waiting, line_by, line_past_separation, outside_key, refl, subst, sym, taken, true, ℕ, ◌&&◌, ◌∙◌, ◌∷◌, ◌≡◌, ◌≤◌, eqb-true, nat_tests}
+use Rattle.proof_scanner.proofs.Common.{After, Bool, Entry, FlowLevel, IsLive, IsOpenHere, IsOpenOutside, Key, List, MayChoose, NotBefore, Option, Position, ScannerState, Some, ap, append-nil, arith, begins_free_line, false, has_break, is_empty, is_waiting, line_by, line_past_separation, outside_key, subst, sym, taken, true, ℕ, ◌&&◌, ◌∙◌, ◌∷◌, ◌≡◌, ◌≤◌, eqb-true, nat_tests}
 use Rattle.proof_scanner.proofs.Cut.Positions.{not_before_after, not_before_then, after_then, weaker}
-use Rattle.proof_scanner.proofs.Sound.NodeSteps.{separated}
 use Rattle.proof_scanner.proofs.Sound.OutOfFlow.{no_waiting}
 use Rattle.proof_scanner.proofs.Sound.Sides.{ArrivesBy}
-use Rattle.proof_scanner.proofs.Sound.Arrivals.{unbroken, not_free, live_before, line_kept}
+use Rattle.proof_scanner.proofs.Sound.Arrivals.{unbroken, not_free, line_kept}
 
 module _ (text : List ℕ) (t : ScannerState) (f : FlowLevel) (fs : List FlowLevel) (k : Option Key) (ks : List (Option Key)) (e : Entry) (es : List Entry) (a : ArrivesBy text t (f ∷ fs) (k ∷ ks) (e ∷ es)) where
   pub line_taken : a.line ≡ taken
@@ -25,10 +24,10 @@ module _ (text : List ℕ) (t : ScannerState) (f : FlowLevel) (fs : List FlowLev
   -- to a later position, where other text is left
   module _ (some : is_empty t.rest ≡ false) (end : Position) (rest : List ℕ) (later : NotBefore t.held.position end) where
     live_inside : (x : Key) → IsLive x end rest → IsLive x t.held.position t.rest
-    live_inside x l = live_before x t.held.position end t.rest rest later some l
+    live_inside x l = (omega (arith, later.0, l.0), some)
 
     pub unbroken_around : (strict c : Bool) → MayChoose strict c (outside_key es ks) end rest → line_past_separation true (begins_free_line a.site.before a.separation) (line_by c (outside_key es ks) a.line) ≡ Some (line_by c (outside_key es ks) a.line)
-    unbroken_around strict c may = grind (arith, nat_tests, eqb-true, live_inside, not_free, unbroken, around_of, (a.is_line ∙ ap (λ l. Some l) (sym (line_kept (begins_free_line a.site.before a.separation) a.line a.line_here a.no_key a.is_line))), separated)
+    unbroken_around strict c may = grind (arith, nat_tests, eqb-true, live_inside, not_free, unbroken, around_of, (a.is_line ∙ ap (λ l. Some l) (sym (line_kept (begins_free_line a.site.before a.separation) a.line a.line_here a.no_key a.is_line))))
 
     pub one_around : (piece : List ℕ) → (is_empty rest ≡ false → end.line ≤ t.held.position.line → has_break piece ≡ false) → (strict c : Bool) → MayChoose strict c (outside_key es ks) end rest → (has_break piece && is_waiting (line_by c (outside_key es ks) a.line)) ≡ false
     one_around piece one strict c may = grind (arith, nat_tests, eqb-true, no_waiting, around_before)

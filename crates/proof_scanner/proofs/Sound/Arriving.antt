@@ -53,17 +53,14 @@ arrives_with : (text : List ℕ) (v : ScannerState) (s : Stands text v) → begi
     u.tokens ≡ v.held.tokens ++ ends_here (not (is_empty v.held.flow)) v.held.position s.base.site.blocks → Arrives text (with_ends v u)
 arrives_with text v s solid near u blocks awaits levels tokens = ended
   where
-    fl : Bool
-    fl = not (is_empty v.held.flow)
-
     ended : Arrives text (with_ends v u)
     ended = record {
       base = s.base;
       known =
-          let line = past_line fl (begins_free_line s.base.site.before s.separation) v.held.key_allowed v.held.position v.rest (outside_key s.base.entries v.held.keys) s.base.line s.line_is in
+          let line = past_line (not (is_empty v.held.flow)) (begins_free_line s.base.site.before s.separation) v.held.key_allowed v.held.position v.rest (outside_key s.base.entries v.held.keys) s.base.line s.line_is in
           let among : ArrivesAmong (with_ends v u) v.held.flow s.base.site s.base.line = search (line, s.is_filled, s, tokens, indented text v s solid, adjacent text v s solid) in
           let near_now : is_empty v.held.flow ≡ true → IsNear (outside_key s.base.entries v.held.keys) v.held.position = λ out. (grind arith) in
-          let line_then = line_here fl (begins_free_line s.base.site.before s.separation) v.held.key_allowed v.held.position v.rest (outside_key s.base.entries v.held.keys) s.base.line (λ e. near_now (not-false (is_empty v.held.flow) e)) s.line_is in
+          let line_then = line_here (not (is_empty v.held.flow)) (begins_free_line s.base.site.before s.separation) v.held.key_allowed v.held.position v.rest (outside_key s.base.entries v.held.keys) s.base.line (λ e. near_now (not-false (is_empty v.held.flow) e)) s.line_is in
           record { among = among; one_each = s.one_each; are_entries = s.are_entries; line_is = line_then; is_open = s.is_open; is_near = near_now; are_numbered = s.are_numbered; carries = s.carries; completes = s.completes };
       knows = s.knows;
     }

@@ -1,6 +1,6 @@
 -- Blanks and a comment after a piece, within its line: what the model reads there is all of them, and it stands where they end.
 use Rattle.std.proofs.lemmas.List.{append-nil}
-use Rattle.proof_scanner.proofs.Common.{At, Bool, Err, Fault, Holds, List, No, Ok, Position, Read, Result, ScannerState, Spaces, Stop, Whitespace, Yes, [], after, after_spaces, ap, append_assoc, arith, begins_with, blanks_and_comment, comment_after, comment_of, eqb-true, false, has_no_break, if◌then◌else◌, in_line_position, is_blank, is_break, is_line, is_on_line, is_one_of, is_separation, leading, lexed, nat_tests, not, or_false, or_true, past, past_blanks_and_comment, past_comment, past_line_rest, position_after, position_append, position_in_line, refl, refused, same_break, skip_spaces, skip_while, space, space_step, spaces_end, span_cut, subst, sym, true, walk, went, with_found, ℕ, ◌&&◌, ◌++◌, ◌==◌, ◌||◌, ◌∙◌, ◌∷◌, ◌≡◌}
+use Rattle.proof_scanner.proofs.Common.{At, Bool, Err, Fault, Holds, List, No, Ok, Position, Read, Result, ScannerState, Whitespace, Yes, [], after, after_spaces, ap, append_assoc, arith, begins_with, blanks_and_comment, comment_after, comment_of, eqb-true, false, has_no_break, if◌then◌else◌, in_line_position, is_blank, is_break, is_line, is_on_line, is_one_of, is_separation, leading, lexed, nat_tests, not, or_false, or_true, past, past_blanks_and_comment, past_comment, past_line_rest, position_after, position_append, position_in_line, refl, refused, same_break, skip_spaces, skip_while, space, space_step, spaces_end, span_cut, subst, sym, true, walk, went, with_found, ℕ, ◌&&◌, ◌++◌, ◌==◌, ◌||◌, ◌∙◌, ◌∷◌, ◌≡◌}
 use Rattle.yaml_tokens.specs.declared.problem.Problem.TheVariants as problem
 use Rattle.proof_scanner.proofs.Cut.Pieces.Separations.{no_break_append}
 
@@ -148,14 +148,8 @@ spaced_exactly a p = subst (λ x. IsSpaced a p (spaces_end x)) (sym (blanks_walk
             m : List ℕ
             m = leading is_on_line (c ∷ b)
 
-            is_m : comment_of (after is_blank a) ≡ m
-            is_m = ap comment_of e ∙ rw f refl
-
-            is_rest : past_comment (after is_blank a) ≡ after is_on_line (c ∷ b)
-            is_rest = ap past_comment e ∙ rw f refl
-
             found : (x : Bool) → (is_one_of l 9 || is_one_of l 32) ≡ x → IsSpaced a p (if x then Ok (with_found (found_in l) (skip_while is_line (c ∷ b) q)) else Err (At problem.CommentNotSeparated q))
-            found true g = parted (blank_first a g) (ap (λ r. Ok (with_found (found_in l) r)) (comment_passed (c ∷ b) q) ∙ (ap (λ x. at (after is_on_line (c ∷ b)) x) (ap (λ x. position_after x m []) (same_in_line p l [] (m ++ []) (no_break_in_blanks a)) ∙ (sym (position_append p l m []) ∙ ap (λ x. position_after p (l ++ x) []) (sym is_m))) ∙ ap (λ r. at r (past_line_rest p a)) (sym is_rest)))
+            found true g = parted (blank_first a g) (ap (λ r. Ok (with_found (found_in l) r)) (comment_passed (c ∷ b) q) ∙ (ap (λ x. at (after is_on_line (c ∷ b)) x) (ap (λ x. position_after x m []) (same_in_line p l [] (m ++ []) (no_break_in_blanks a)) ∙ (sym (position_append p l m []) ∙ ap (λ x. position_after p (l ++ x) []) (sym (ap comment_of e ∙ rw f refl)))) ∙ ap (λ r. at r (past_line_rest p a)) (sym (ap past_comment e ∙ rw f refl))))
             found false g = glued (At problem.CommentNotSeparated q) (ap (begins_with 35) (sym (no_blank_first a g) ∙ e) ∙ f) refl
 
 -- where no comment stands directly, they are read

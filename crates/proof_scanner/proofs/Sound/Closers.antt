@@ -1,6 +1,5 @@
 -- Commas and closing brackets: what holds where they begin holds between two fetches after them. Outside flow they close nothing.
-use Rattle.proof_scanner.proofs.Common.{Act, Bool, IsAdjacent, IsLine, IsPiece, IsReadOn, Line, List, None, Outside, Position, Previous, ScannerState, Site, Some, Stands, Tok, Token, [], act_of, another, ap, arith, awaits_past, before_past, begins_free_line, begins_line, begins_with, begun_by, begun_outside, blanks_and_comment, ends_at, eqb-true, false, flow_collection, free, further_lines_stand, gives_closing, gives_comma, inl, inr, is_deeper, is_empty, is_in_column, is_renewed, is_waiting, least_column, least_for, line_past, may_precede, nat_tests, not, other, past, past_blanks_and_comment, past_line_rest, previous_by, put, refl, seen, shown_position, site_here, site_in, subst, sym, taken, true, with_top, ℕ, ◌++◌, ◌∙◌, ◌∷◌, ◌≡◌, ◌≤◌, ◌⊎◌}
-use Rattle.proof_scanner.proofs.Sound.OutOfFlow.{tokens_then}
+use Rattle.proof_scanner.proofs.Common.{Act, Bool, IsLine, IsPiece, Line, List, None, Outside, Previous, ScannerState, Site, Some, Stands, Tok, Token, [], act_of, another, ap, arith, awaits_past, begins_free_line, begins_with, begun_by, begun_outside, blanks_and_comment, ends_at, eqb-true, false, flow_collection, free, further_lines_stand, gives_closing, gives_comma, is_deeper, is_empty, is_in_column, is_waiting, least_column, least_for, line_past, may_precede, nat_tests, not, other, past, past_blanks_and_comment, past_line_rest, previous_by, put, refl, seen, shown_position, site_here, site_in, subst, sym, taken, true, with_top, ℕ, ◌++◌, ◌∙◌, ◌∷◌, ◌≡◌, ◌⊎◌}
 use Rattle.proof_scanner.proofs.Cut.FlowEnds.{IsEndOf, ends_sequence, ends_mapping, ends_by_comma}
 use Rattle.proof_scanner.proofs.Known.Steps.{begins_key}
 use Rattle.proof_scanner.proofs.Sound.Blanks.{line_rest_in_line, line_rest_cut, line_rest_fills}
@@ -70,7 +69,7 @@ stray_at text more closes tok c k t a keys e hash =
       after_is = ap (λ x. line_past (is_in_column at.position.col at.blocks) at.position at.blocks x false a.line_here) k.act ∙ (grind (arith, nat_tests, eqb-true));
       begun = k.begun;
       begins_none = ap begins_key k.act ∙ (grind arith);
-      tokens_are = tokens;
+      tokens_are = started_tokens false t.held.tokens a.tokens (ends_at t.held.position a.site.blocks at.blocks) t.held.position tok own a.tokens_are ∙ (ap (λ x. a.tokens ++ ((ends_at t.held.position a.site.blocks at.blocks ++ x) ++ (own ∷ []))) (sym (ap (λ x. begun_outside (is_deeper at.position.col at.blocks) at.position at.position x false (Some a.line_here)) k.act ∙ (grind arith))) ∙ ap (λ p. a.tokens ++ ((ends_at t.held.position a.site.blocks at.blocks ++ begun_outside (is_deeper at.position.col at.blocks) at.position at.position (act_of tok) false (Some a.line_here)) ++ (put p tok ∷ []))) (sym (k.shown at (c ∷ []) more)));
     })
   where
     at : Site
@@ -88,10 +87,3 @@ stray_at text more closes tok c k t a keys e hash =
 
     own : Token
     own = put t.held.position tok
-
-    tokens : t.held.tokens ++ (own ∷ []) ≡ a.tokens ++ tokens_then a.site at (c ∷ []) tok more a.line_here
-    tokens =
-        started_tokens false t.held.tokens a.tokens (ends_at t.held.position a.site.blocks at.blocks) t.held.position tok own a.tokens_are ∙
-        (ap (λ x. a.tokens ++ ((ends_at t.held.position a.site.blocks at.blocks ++ x) ++ (own ∷ [])))
-        (sym (ap (λ x. begun_outside (is_deeper at.position.col at.blocks) at.position at.position x false (Some a.line_here)) k.act ∙ (grind arith))) ∙
-        ap (λ p. a.tokens ++ ((ends_at t.held.position a.site.blocks at.blocks ++ begun_outside (is_deeper at.position.col at.blocks) at.position at.position (act_of tok) false (Some a.line_here)) ++ (put p tok ∷ []))) (sym (k.shown at (c ∷ []) more)))

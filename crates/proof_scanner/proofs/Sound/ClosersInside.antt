@@ -1,5 +1,5 @@
 -- Commas and closing brackets in flow: the entry ends, and with it a single pair.
-use Rattle.proof_scanner.proofs.Common.{AreAround, AreEntries, AreNumbered, Bool, Entry, FlowLevel, IsAdjacent, IsEntryOf, IsLine, IsPairOf, IsPiece, Key, Line, List, None, Option, Pair, Position, ScannerState, Site, Some, Stands, Step, Tok, Token, Yes, [], act_of, ap, append_assoc, arith, before_by, before_past, begins_free_line, begins_with, begun_by, blanks_and_comment, colon_of, ends_spaces, entries_by, entries_past, false, first_entry, gives_closing, gives_comma, has_no_break, has_no_nul, in_line, is_blank, is_empty, is_keyed, is_renewed, is_separation, least_for, length, no_nul_after, not, other, outside_key, pair_end, past, past_blanks_and_comment, past_line_rest, pop, previous_by, put, refl, seen, shown_position, site_here, subst, suc, sym, taken, true, with_keys, ℕ, ◌&&◌, ◌++◌, ◌∙◌, ◌∷◌, ◌≡◌, ◌≤◌, eqb-true, nat_tests}
+use Rattle.proof_scanner.proofs.Common.{AreAround, AreEntries, AreNumbered, Bool, Entry, FlowLevel, IsAdjacent, IsEntryOf, IsLine, IsPiece, Key, Line, List, None, Option, Position, ScannerState, Site, Stands, Step, Tok, Token, Yes, [], act_of, ap, append_assoc, arith, before_by, before_past, begins_free_line, begins_with, begun_by, blanks_and_comment, ends_spaces, entries_by, false, first_entry, has_no_break, has_no_nul, in_line, is_blank, is_empty, is_renewed, is_separation, least_for, length, no_nul_after, not, other, outside_key, pair_end, past, past_blanks_and_comment, past_line_rest, pop, previous_by, put, refl, seen, site_here, subst, suc, sym, taken, true, with_keys, ℕ, ◌&&◌, ◌++◌, ◌∙◌, ◌∷◌, ◌≡◌, eqb-true, nat_tests}
 use Rattle.proof_scanner.proofs.Cut.FlowEnds.{closed_tokens, entered, adjacent_collection}
 use Rattle.proof_scanner.proofs.Cut.Nodes.{IsDeep}
 use Rattle.proof_scanner.proofs.Known.Read.{keyless}
@@ -8,10 +8,10 @@ use Rattle.proof_scanner.proofs.Sound.Blanks.{line_rest_cut, line_rest_fills, is
 use Rattle.proof_scanner.proofs.Sound.Closers.{previous_of, IsCloser, act_by, is_previous}
 use Rattle.proof_scanner.proofs.Sound.InFlow as flow
 use Rattle.proof_scanner.proofs.Sound.Indicated.{indicator_end, no_break_alike}
-use Rattle.proof_scanner.proofs.Sound.NodeTokens.{not_keyed, had_as_it_was, past_step, keys_along}
+use Rattle.proof_scanner.proofs.Sound.NodeTokens.{had_as_it_was, past_step, keys_along}
 use Rattle.proof_scanner.proofs.Sound.Standing.{deep_for}
 use Rattle.proof_scanner.proofs.Sound.Sides.{with_entries, ArrivesBy, ArrivesInside}
-use Rattle.proof_scanner.proofs.Sound.EntryPieces.{low_enough, numbered_then, keyless_tokens, tokens_inside}
+use Rattle.proof_scanner.proofs.Sound.EntryPieces.{low_enough, numbered_then, keyless_tokens}
 use Rattle.proof_scanner.proofs.Sound.Reads.{adjacent_kept, quiet_before, reads_in_line}
 
 -- ---- what the model leaves

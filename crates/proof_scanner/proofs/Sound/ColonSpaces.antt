@@ -1,5 +1,5 @@
 -- What the model reads after a colon: where a TAB stands next, the blanks and a comment; else nothing.
-use Rattle.proof_scanner.proofs.Common.{arith, At, Bool, Held, Holds, List, Ok, Position, ScannerState, Yes, [], after, ap, begins_with, begins_with_alpha, blanks_and_comment, check_after_tab, check_value_space, checked, colon_may_precede, eqb-true, false, has_no_break, if◌then◌else◌, is_blank, is_break, is_on_line, is_one_of, is_separation, leading, lexed, not, or_parts, pair_position, past, past_blanks_and_comment, past_comment, past_line_rest, peek, position_after, refl, same_alpha, space, subst, sym, tab, true, went, ℕ, ◌&&◌, ◌++◌, ◌==◌, ◌||◌, ◌∙◌, ◌∷◌, ◌≡◌, nat_tests}
+use Rattle.proof_scanner.proofs.Common.{arith, At, Bool, Held, Holds, List, Ok, Position, ScannerState, Yes, [], after, ap, begins_with, begins_with_alpha, blanks_and_comment, check_after_tab, check_value_space, checked, colon_may_precede, eqb-true, false, has_no_break, if◌then◌else◌, is_blank, is_break, is_one_of, is_separation, leading, lexed, not, or_parts, pair_position, past, past_blanks_and_comment, past_comment, past_line_rest, peek, position_after, refl, same_alpha, space, subst, sym, tab, true, went, ℕ, ◌&&◌, ◌++◌, ◌==◌, ◌||◌, ◌∙◌, ◌∷◌, ◌≡◌, nat_tests}
 use Rattle.yaml_chars.specs.Class.{is_alpha}
 use Rattle.defs_text.specs.Classes as classes
 use Rattle.yaml_tokens.specs.declared.problem.Problem.TheVariants as problem

@@ -1,18 +1,17 @@
 -- A colon that ends no key: what holds where it begins holds between two fetches after it.
-use Rattle.proof_scanner.proofs.Common.{AreLevels, At, Bool, Entry, Fault, FlowLevel, Had, Held, Holds, Indent, IsEntryOf, Key, List, None, Ok, Option, Pair, Position, Result, ScannerState, Site, Some, Stands, Tok, Token, [], allow_key, another, ap, append_assoc, arith, before_by, before_past, begin_keyless_mapping, begin_keyless_value, begun_inside, begun_outside, chained, checked, colon_may_precede, columns, ends_at, entries_past, false, free, fresh, gives_colon, has_break, has_open_level, if◌then◌else◌, in_flow, inl, inr, is_adjacent, is_break, is_deeper, is_empty, is_in_column, is_renewed, is_value, is_value_indicator, line_past, not, not-false, not_ended, on_held, opened, opens_pair, pair_past, pair_position, paired, past, placed, position_after, push, put, refl, roll_indent, roll_one_col_indent, settled, start_if, subst, sym, takes_pair, token, top_key, tried, true, went, with_held, ℕ, ◌++◌, ◌>>=◌, ◌∙◌, ◌∷◌, ◌≡◌, ◌≤◌, ◌⊎◌, eqb-true, nat_tests}
+use Rattle.proof_scanner.proofs.Common.{AreLevels, At, Bool, Entry, Fault, FlowLevel, Held, Holds, Indent, IsEntryOf, Key, List, None, Ok, Option, Position, Result, ScannerState, Site, Some, Stands, Tok, Token, [], allow_key, another, ap, append_assoc, arith, before_by, before_past, begin_keyless_mapping, begin_keyless_value, begun_outside, chained, checked, colon_may_precede, columns, ends_at, false, fresh, gives_colon, has_break, has_open_level, if◌then◌else◌, in_flow, inl, inr, is_adjacent, is_break, is_deeper, is_empty, is_in_column, is_value, is_value_indicator, line_past, not, not-false, not_ended, on_held, opened, opens_pair, pair_past, pair_position, paired, past, placed, position_after, push, put, refl, roll_indent, roll_one_col_indent, settled, start_if, subst, sym, takes_pair, token, top_key, tried, true, went, with_held, ℕ, ◌++◌, ◌>>=◌, ◌∙◌, ◌∷◌, ◌≡◌, ◌≤◌, ◌⊎◌, eqb-true, nat_tests}
 use Rattle.yaml_tokens.specs.declared.problem.Problem.TheVariants as problem
 use Rattle.model_scanner.specs.declared.level.FlowLevel.TheVariants.{Pair as InPair}
 use Rattle.model_scanner.specs.Block.{value_of}
 use Rattle.proof_scanner.proofs.Cut.Dispatch.{value_is}
 use Rattle.proof_scanner.proofs.Cut.Nodes.{IsDeep}
 use Rattle.proof_scanner.proofs.Sound.Arrivals.{first_not_right}
-use Rattle.proof_scanner.proofs.Sound.Around.{tokens_before}
 use Rattle.proof_scanner.proofs.Sound.ColonSpaces.{colon_gap, past_gap, gap_is, gap_end}
 use Rattle.proof_scanner.proofs.Sound.EntryPieces.{low_enough, goes_inside}
 use Rattle.proof_scanner.proofs.Sound.Indicated.{past_one}
 use Rattle.proof_scanner.proofs.Sound.OutsidePieces.{read_outside, line_free, started_tokens, begun_after, with_start}
 use Rattle.proof_scanner.proofs.Sound.Questions.{pair_level}
-use Rattle.proof_scanner.proofs.Sound.Rolled.{RollsTo, rolls_to, OpensOne, opens_one, opens_none, opened_some, some_levels}
+use Rattle.proof_scanner.proofs.Sound.Rolled.{RollsTo, rolls_to, OpensOne, opens_one, opens_none, some_levels}
 use Rattle.proof_scanner.proofs.Sound.Sides.{ArrivesBy}
 use Rattle.proof_scanner.proofs.Sound.Reads.{Reads, reads_before_none}
 
@@ -56,19 +55,16 @@ keyless_stands text more t a e allowed apart ind i ds columns_are levels awaits 
     (record { line_is = (inl refl, refl, tt); no_key = refl; flow_is = refl; keys_are = refl }) (record {
       is_piece = (refl, ind);
       stands = rw (a.is_indented (ap is_empty e), apart) refl;
-      after_is = ap (λ l. line_past (is_in_column t.held.position.col bs) t.held.position bs gives_colon false l) here_free;
+      after_is = ap (λ l. line_past (is_in_column t.held.position.col bs) t.held.position bs gives_colon false l) (line_free t.held.key_allowed t.rest a.line_here allowed a.line_is);
       begun = refl;
       begins_none = refl;
       tokens_are = ap (λ cs. (if is_deeper t.held.position.col cs then placed None (token t.held.position Tok.block_mapping_start) t.held.tokens else t.held.tokens) ++ put t.held.position Tok.value ∷ []) (sym a.blocks_are) ∙
           (started_tokens (is_deeper t.held.position.col bs) t.held.tokens a.tokens (ends_at t.held.position a.site.blocks bs) t.held.position Tok.block_mapping_start (put t.held.position Tok.value) a.tokens_are ∙
-          ap (λ l. a.tokens ++ ((ends_at t.held.position a.site.blocks bs ++ begun_outside (is_deeper t.held.position.col bs) t.held.position t.held.position gives_colon false (Some l)) ++ (put t.held.position Tok.value ∷ []))) (sym here_free));
+          ap (λ l. a.tokens ++ ((ends_at t.held.position a.site.blocks bs ++ begun_outside (is_deeper t.held.position.col bs) t.held.position t.held.position gives_colon false (Some l)) ++ (put t.held.position Tok.value ∷ []))) (sym (line_free t.held.key_allowed t.rest a.line_here allowed a.line_is)));
     })
   where
     bs : List ℕ
     bs = not_ended t.held.position.col a.site.blocks
-
-    here_free : a.line_here ≡ free
-    here_free = line_free t.held.key_allowed t.rest a.line_here allowed a.line_is
 
 -- The levels after it: that of a mapping, if one begins, and one that no collection opens.
 pub record KeylessLevels (more : List ℕ) (t : ScannerState) : Type 0 where
@@ -82,14 +78,14 @@ keyless_levels more t levels deep =
     rolls_to t.held.position.col None Tok.block_mapping_start t.held.position h refl levels (first_not_right t.held.position.col t.held.indent t.held.indents levels deep) in
     record {
       mapping = r;
-      level = opens_one (record h { indents = r.indents; indent = r.indent; tokens = with_start Tok.block_mapping_start t }) refl r.are_levels (some_levels r.indent r.indents (ap is_empty r.columns_are ∙ opened_some t.held.position.col (columns t.held.indent t.held.indents)));
+      level = opens_one (record h { indents = r.indents; indent = r.indent; tokens = with_start Tok.block_mapping_start t }) refl r.are_levels (some_levels r.indent r.indents (ap is_empty r.columns_are ∙ (grind arith)));
     }
 
 pub keyless_outside : (text more : List ℕ) (t : ScannerState) (a : ArrivesBy text t [] (None ∷ []) []) → t.rest ≡ 58 ∷ more → colon_may_precede more ≡ true → is_value_indicator false (is_adjacent (before_past (before_by a.site.before) a.separation)) more ≡ true → IsDeep t.held →
     Holds (Stands text) (value_by more t [] (None ∷ []))
 unfolding begin_keyless_value begin_keyless_mapping
 keyless_outside text more t a e apart ind deep =
-    chained {P = λ w. (w ≡ record { rest = past_gap more; held = last }) × (t.held.key_allowed ≡ true)} (tried (record { rest = past_gap more; held = h }) _ begun (λ s d. (ap (λ y. record { rest = past_gap more; held = y }) d.0, d.1))) (λ w d.
+    chained {P = λ w. (w ≡ record { rest = past_gap more; held = last }) × (t.held.key_allowed ≡ true)} (tried (record { rest = past_gap more; held = h }) _ (chained {P = λ u. (u ≡ rolled) × (t.held.key_allowed ≡ true)} (checked (not t.held.key_allowed) (At problem.ValueNotAllowed t.held.position) (λ f. went (k.mapping.is_held, not-false t.held.key_allowed f))) (λ u d. subst (λ y. Holds (λ z. (z ≡ last) × (t.held.key_allowed ≡ true)) (let v = roll_one_col_indent y in Ok (allow_key (not (in_flow v)) v))) (sym d.0) (went (ap (λ v. allow_key (not (in_flow v)) v) k.level.is_held, d.1)))) (λ s d. (ap (λ y. record { rest = past_gap more; held = y }) d.0, d.1))) (λ w d.
     went (subst (λ z. Stands text (on_held (push t.held.position Tok.value) z)) (sym d.0) (keyless_stands text more t a e d.1 apart ind k.level.indent k.level.indents (k.level.columns_are ∙ k.mapping.columns_are) k.level.are_levels k.level.awaits)))
   where
     h : Held
@@ -104,11 +100,6 @@ keyless_outside text more t a e apart ind deep =
     last : Held
     last = record rolled { indents = k.level.indents; indent = k.level.indent; key_allowed = true }
 
-    begun : Holds (λ y. (y ≡ last) × (t.held.key_allowed ≡ true)) (begin_keyless_value t.held.position false h)
-    begun =
-        chained {P = λ u. (u ≡ rolled) × (t.held.key_allowed ≡ true)} (checked (not t.held.key_allowed) (At problem.ValueNotAllowed t.held.position) (λ f. went (k.mapping.is_held, not-false t.held.key_allowed f))) (λ u d.
-        subst (λ y. Holds (λ z. (z ≡ last) × (t.held.key_allowed ≡ true)) (let v = roll_one_col_indent y in Ok (allow_key (not (in_flow v)) v))) (sym d.0) (went (ap (λ v. allow_key (not (in_flow v)) v) k.level.is_held, d.1)))
-
 -- ---- in flow
 
 -- the entry after it
@@ -118,9 +109,6 @@ valued_entry e = record { kind = e.kind; pair = pair_past (takes_pair e.kind e.p
 -- a single pair begins just where the scanner opens one
 pub single_is : (f : FlowLevel) (fs : List FlowLevel) (k : Option Key) (e : Entry) → IsEntryOf f k e → takes_pair e.kind e.pair ≡ opens_pair (f ∷ fs)
 single_is f fs k e h = grind arith
-
-pub valued_is : (f : FlowLevel) (k : Option Key) (e : Entry) → IsEntryOf f k e → IsEntryOf (pair_level InPair f) None (valued_entry e)
-valued_is f k e h = grind arith
 
 pub one_line_colon : has_break (58 ∷ []) ≡ false
 unfolding is_break
@@ -141,7 +129,7 @@ keyless_within text more t f fs ks e es a cut apart ind deep =
     (record {
       flow_is = refl;
       keys_are = refl;
-      entry_is = valued_is f None e a.are_entries.0;
+      entry_is = grind arith;
       has_had = (inr refl, refl);
       in_line = one_line_colon;
       begun = refl;
@@ -149,7 +137,7 @@ keyless_within text more t f fs ks e es a cut apart ind deep =
       stands = rw (a.is_indented (ap is_empty cut), low_enough text t f fs (None ∷ ks) (e ∷ es) a deep, apart) refl;
       entry_past = λ xs. (grind arith);
       colons = λ n p ws last. refl;
-      tokens_are = tokens;
+      tokens_are = (grind (arith, append_assoc)) ∙ (ap (λ q. a.tokens ++ (start_if single (place q) Tok.flow_mapping_start ++ (put t.held.position Tok.value ∷ []))) (sym (past_one t.held.position 58 more refl)) ∙ (ap (λ b. a.tokens ++ (start_if b (place (position_after t.held.position (58 ∷ []) more)) Tok.flow_mapping_start ++ (put t.held.position Tok.value ∷ []))) (sym (single_is f fs None e a.are_entries.0)) ∙ ap (λ x. a.tokens ++ (x ++ (put t.held.position Tok.value ∷ []))) (sym (grind arith))));
     })
   where
     single : Bool
@@ -160,13 +148,6 @@ keyless_within text more t f fs ks e es a cut apart ind deep =
 
     place : Position → Position
     place q = pair_position q more
-
-    tokens : with_pair single more t ++ token t.held.position Tok.value ∷ [] ≡ a.tokens ++ (begun_inside (takes_pair e.kind e.pair) e.pair t.held.position (place (position_after t.held.position (58 ∷ []) more)) (place (position_after t.held.position (58 ∷ []) more)) gives_colon false e.had ++ (put t.held.position Tok.value ∷ []))
-    tokens =
-        (grind (arith, append_assoc)) ∙
-        (ap (λ q. a.tokens ++ (start_if single (place q) Tok.flow_mapping_start ++ (put t.held.position Tok.value ∷ []))) (sym (past_one t.held.position 58 more refl)) ∙
-        (ap (λ b. a.tokens ++ (start_if b (place (position_after t.held.position (58 ∷ []) more)) Tok.flow_mapping_start ++ (put t.held.position Tok.value ∷ []))) (sym (single_is f fs None e a.are_entries.0)) ∙
-        ap (λ x. a.tokens ++ (x ++ (put t.held.position Tok.value ∷ []))) (sym (grind arith))))
 
 pub keyless_inside : (text more : List ℕ) (t : ScannerState) (f : FlowLevel) (fs : List FlowLevel) (ks : List (Option Key)) (e : Entry) (es : List Entry) (a : ArrivesBy text t (f ∷ fs) (None ∷ ks) (e ∷ es)) → t.rest ≡ 58 ∷ more → colon_may_precede more ≡ true →
     is_value_indicator true (is_adjacent (before_past (before_by a.site.before) a.separation)) more ≡ true → IsDeep t.held → Holds (Stands text) (value_by more t (f ∷ fs) (None ∷ ks))

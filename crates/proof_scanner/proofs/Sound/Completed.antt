@@ -1,5 +1,5 @@
 -- Rows that are begun and completed: where a text begins, over a step, and where it ends.
-use Rattle.proof_scanner.proofs.Common.{Account, Begins, BeginsButForKey, Bool, Completes, IsCutUpTo, IsRead, IsRowFrom, IsWritten, Key, Leads, Line, List, MayChoose, None, Option, Position, SoFar, Some, Step, Token, [], account_past, ap, append-nil, append_assoc, arith, beginnings_are_cuts, cut_past, eqb-true, false, first_account, first_position, is_separation, is_waiting, line_by, line_past_separation, may_end, nat_tests, position_after, put, refl, spelled, stream_start, subst, sym, taken, tokens_at_end, tokens_from, tokens_of_step, true, up_to_nul, ℕ, ◌&&◌, ◌++◌, ◌∙◌, ◌∷◌, ◌≡◌}
+use Rattle.proof_scanner.proofs.Common.{Account, Begins, BeginsButForKey, Bool, Completes, IsCutUpTo, IsRead, IsRowFrom, IsWritten, Key, Leads, List, MayChoose, None, Option, Position, SoFar, Some, Step, Token, [], account_past, ap, append-nil, append_assoc, arith, beginnings_are_cuts, cut_past, eqb-true, false, first_account, first_position, is_separation, is_waiting, may_end, nat_tests, position_after, put, refl, spelled, stream_start, subst, sym, taken, tokens_at_end, tokens_from, tokens_of_step, true, up_to_nul, ℕ, ◌++◌, ◌∙◌, ◌∷◌, ◌≡◌}
 
 -- ---- beginnings of rows
 
@@ -34,13 +34,6 @@ but_for_key_past text after begin a b w next cut written stands g = record {
   must_be = g.must_be;
   leads = leads_past (Some (record g.account { line = taken })) g.steps w next a b (subst (λ x. Leads (Some (record g.account { line = taken })) g.steps x a) cut g.leads) written stands;
 }
-
--- in flow, where no key is chosen outside it, breaks do not matter
-pub none_broken : (b : Bool) (k : Option Key) (l : Line) → l ≡ taken → line_past_separation true b (line_by false k l) ≡ Some (line_by false k l)
-none_broken b k l e = grind arith
-
-pub none_waits : (b : Bool) (k : Option Key) (l : Line) → l ≡ taken → (b && is_waiting (line_by false k l)) ≡ false
-none_waits a k l e = grind (arith, nat_tests, eqb-true)
 
 -- an open key that need not be one may be none
 pub may_be_no_key : (strict : Bool) (k : Option Key) (p : Position) (rest : List ℕ) → MayChoose true false k p rest → MayChoose strict false k p rest

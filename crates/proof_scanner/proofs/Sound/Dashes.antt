@@ -1,5 +1,5 @@
 -- The function of the model that reads a dash: what holds where it begins holds between two fetches after it.
-use Rattle.proof_scanner.proofs.Common.{AreLevels, Arrives, At, Bool, Fault, Held, Holds, Indent, List, No, None, Ok, Position, Result, ScannerState, Stands, Tok, Token, Yes, [], after, allow_key, ap, begins_entry, blanks_and_comment, chained, check_block_entry, check_dash, checked, columns, dash_may_precede, ends_at, eqb-true, false, fetch_block_entry, gap, gives_dash, has_open_level, if◌then◌else◌, in_flow, inl, inr, is_at_break_or_flow, is_at_gap, is_blank, is_blank_or_breakz, is_break, is_deeper, is_empty, is_in_column, is_on_line, is_one_of, leading, lexed, line_past, not, not-false, not_ended, on_held, opened, past, past_blanks_and_comment, past_comment, past_line_rest, peek, placed, position_after, push, put, refl, remove_implicit_key, roll_entry, roll_indent, roll_one_col_indent, same_break, skip_indicator, skip_spaces, slice_index, space, start_if, subst, sym, token, top_needs_block_end, tried, true, try_held, went, with_top, ℕ, ◌&&◌, ◌++◌, ◌==◌, ◌>>=◌, ◌||◌, ◌∙◌, ◌∷◌, ◌≡◌, ◌⊎◌}
+use Rattle.proof_scanner.proofs.Common.{AreLevels, Arrives, At, Bool, Fault, Held, Holds, Indent, List, No, None, Ok, Position, Result, ScannerState, Stands, Tok, Token, Yes, [], after, allow_key, ap, begins_entry, blanks_and_comment, chained, check_block_entry, check_dash, checked, columns, dash_may_precede, ends_at, eqb-true, false, fetch_block_entry, gap, gives_dash, has_open_level, if◌then◌else◌, in_flow, inl, inr, is_at_break_or_flow, is_at_gap, is_blank, is_blank_or_breakz, is_break, is_deeper, is_empty, is_in_column, is_on_line, is_one_of, leading, lexed, line_past, not, not-false, not_ended, on_held, opened, past, past_blanks_and_comment, past_comment, past_line_rest, peek, placed, position_after, push, put, refl, remove_implicit_key, roll_entry, roll_indent, roll_one_col_indent, same_break, skip_indicator, skip_spaces, slice_index, space, start_if, subst, sym, token, top_needs_block_end, tried, true, try_held, went, with_top, ℕ, ◌&&◌, ◌++◌, ◌==◌, ◌>>=◌, ◌||◌, ◌∙◌, ◌∷◌, ◌≡◌, ◌⊎◌, arith}
 use Rattle.yaml_chars.specs.Class.{is_break as is_break_here, is_flow as is_flow_here}
 use Rattle.yaml_tokens.specs.declared.problem.Problem.TheVariants as problem
 use Rattle.model_scanner.specs.State.{after as after_first}
@@ -10,7 +10,7 @@ use Rattle.proof_scanner.proofs.Cut.Blocks.{entry_from, key_removed}
 use Rattle.proof_scanner.proofs.Sound.Arrivals.{first_not_right}
 use Rattle.proof_scanner.proofs.Sound.Blanks.{line_rest_cut, line_rest_fills, line_rest_in_line, past_rest_is_clear, found_in, past_rest, rest_read, none_skipped}
 use Rattle.proof_scanner.proofs.Sound.Indicated.{past_one, indicator_end}
-use Rattle.proof_scanner.proofs.Sound.OutsidePieces.{read_outside, line_free, none_open, started_tokens, begun_after, with_start}
+use Rattle.proof_scanner.proofs.Sound.OutsidePieces.{read_outside, line_free, started_tokens, begun_after, with_start}
 use Rattle.proof_scanner.proofs.Sound.Rolled.{RollsTo, rolls_to, OpensOne, opens_one, top_closed}
 use Rattle.proof_scanner.proofs.Sound.Sides.{ArrivesBy, ArrivesOutside, ArrivesInside, arrives_side}
 use Rattle.proof_scanner.proofs.Sound.Reads.{reads_before_none}
@@ -110,7 +110,7 @@ dash_stands text more t a flow keys e gap allowed apart i ds columns_are levels 
       after_is = ap (λ l. line_past (is_in_column t.held.position.col bs) t.held.position bs gives_dash false l) (line_free t.held.key_allowed t.rest a.line_here allowed a.line_is);
       begun = refl;
       begins_none = refl;
-      tokens_are = tokens;
+      tokens_are = ap (λ cs. (if is_deeper t.held.position.col cs then placed None (token t.held.position Tok.block_sequence_start) t.held.tokens else t.held.tokens) ++ own (past t.held.position) ∷ []) (sym a.blocks_are) ∙ (started_tokens (is_deeper t.held.position.col bs) t.held.tokens a.tokens (ends_at t.held.position a.site.blocks bs) t.held.position Tok.block_sequence_start (own (past t.held.position)) a.tokens_are ∙ ap (λ q. a.tokens ++ ((ends_at t.held.position a.site.blocks bs ++ start_if (is_deeper t.held.position.col bs) t.held.position Tok.block_sequence_start) ++ (own q ∷ []))) (sym (past_dash t.held.position more)));
     })
   where
     bs : List ℕ
@@ -118,12 +118,6 @@ dash_stands text more t a flow keys e gap allowed apart i ds columns_are levels 
 
     own : Position → Token
     own q = put (past_line_rest q more) Tok.block_entry
-
-    tokens : with_start Tok.block_sequence_start t ++ own (past t.held.position) ∷ [] ≡ a.tokens ++ ((ends_at t.held.position a.site.blocks bs ++ start_if (is_deeper t.held.position.col bs) t.held.position Tok.block_sequence_start) ++ (own (position_after t.held.position (45 ∷ []) more) ∷ []))
-    tokens =
-        ap (λ cs. (if is_deeper t.held.position.col cs then placed None (token t.held.position Tok.block_sequence_start) t.held.tokens else t.held.tokens) ++ own (past t.held.position) ∷ []) (sym a.blocks_are) ∙
-        (started_tokens (is_deeper t.held.position.col bs) t.held.tokens a.tokens (ends_at t.held.position a.site.blocks bs) t.held.position Tok.block_sequence_start (own (past t.held.position)) a.tokens_are ∙
-        ap (λ q. a.tokens ++ ((ends_at t.held.position a.site.blocks bs ++ start_if (is_deeper t.held.position.col bs) t.held.position Tok.block_sequence_start) ++ (own q ∷ []))) (sym (past_dash t.held.position more)))
 
 -- ---- the function
 
@@ -146,11 +140,8 @@ dash_outside text more t a flow keys e gap allowed deep =
     h : Held
     h = (skip_indicator t).held
 
-    out : in_flow t.held ≡ false
-    out = ap (λ fs. not (is_empty fs)) flow
-
     r : RollsTo t.held.position.col None (token t.held.position Tok.block_sequence_start) h (roll_indent t.held.position.col None Tok.block_sequence_start t.held.position h)
-    r = rolls_to t.held.position.col None Tok.block_sequence_start t.held.position h out a.are_levels (first_not_right t.held.position.col t.held.indent t.held.indents a.are_levels deep)
+    r = rolls_to t.held.position.col None Tok.block_sequence_start t.held.position h (ap (λ fs. not (is_empty fs)) flow) a.are_levels (first_not_right t.held.position.col t.held.indent t.held.indents a.are_levels deep)
 
     v : ScannerState
     v = record { rest = more; held = record h { indents = r.indents; indent = r.indent; tokens = with_start Tok.block_sequence_start t } }
@@ -158,7 +149,7 @@ dash_outside text more t a flow keys e gap allowed deep =
     last : dash_may_precede more ≡ true → Holds (Stands text) (entry_then (past_rest v))
     last apart =
         let w : ScannerState = past_rest v in
-        let n : Entered w (roll_entry w) = entered w out r.are_levels (r.is_top deep) in
+        let n : Entered w (roll_entry w) = entered w (ap (λ fs. not (is_empty fs)) flow) r.are_levels (r.is_top deep) in
         chained {P = λ y. y ≡ record (roll_entry w) { held = record (roll_entry w).held { keys = with_top None (roll_entry w).held.keys } }}
         (tried (roll_entry w) (remove_implicit_key (roll_entry w).held) (key_removed (roll_entry w).held) (λ s d. ap (λ z. record (roll_entry w) { held = z }) d)) (λ y d.
         went (subst (λ z. Stands text (on_held (λ s. push s.position Tok.block_entry (allow_key true s)) z)) (sym d)
@@ -174,6 +165,6 @@ dash_keeps text more t a e gap deep =
   where
     by : ArrivesOutside text t ⊎ ArrivesInside text t → in_flow t.held ≡ false → t.held.key_allowed ≡ true → Holds (Stands text) (entry_from t t)
     by (inl o) out allowed =
-        let none : o.key ≡ None = none_open t.held.key_allowed t.rest o.key o.here.line_here allowed (ap is_empty e) o.here.line_is in
+        let none : o.key ≡ None = (grind arith) in
         dash_outside text more t (subst (λ k. ArrivesBy text t [] (k ∷ []) []) none o.here) o.flow_is (o.keys_are ∙ ap (λ k. k ∷ []) none) e gap allowed deep
     by (inr i) out allowed = absurd (cc (out, ap (λ fs. not (is_empty fs)) i.flow_is))

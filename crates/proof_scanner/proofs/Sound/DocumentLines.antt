@@ -1,5 +1,5 @@
 -- Document markers and directives: what holds where they begin holds between two fetches after them.
-use Rattle.proof_scanner.proofs.Common.{AreLevels, Arrives, At, Bool, Entry, Err, FlowKind, FlowLevel, Had, HasNoTabs, Held, Holds, IsLeading, IsPiece, IsReadOn, Key, Levels, Line, List, None, Ok, Option, Pair, Position, ScannerState, Site, Some, Stands, Step, Tok, Token, [], act_of, ap, append-nil, append_assoc, arith, awaits_past, before_by, begin_line, begins_free_line, begins_line, begun_by, begun_inside, begun_outside, block_end, closed_key, colon_of, columns, ends_at, entries_past, false, free, further_lines_stand, gives_marker, has_break, has_open_level, if◌then◌else◌, in_flow, inl, inr, is_closed, is_deeper, is_empty, is_in_column, is_indented_by_spaces, is_keyed, is_renewed, is_required, is_separation, least_for, length, may_precede, not, not_ended, other, pair_position, position_after, previous_by, put, refl, refused, remove_implicit_key, replicate, replicate-append-replicate, seen, settled, shown_position, site_in, subst, suc, sym, taken, takes_pair, top_key, true, unroll_indent, went, with_top, ℕ, ◌++◌, ◌+◌, ◌-◌, ◌∙◌, ◌∷◌, ◌≡◌, ◌≤◌, ◌⊎◌, eqb-true, nat_tests}
+use Rattle.proof_scanner.proofs.Common.{AreLevels, Arrives, At, Bool, Entry, Err, FlowLevel, HasNoTabs, Held, Holds, IsLeading, IsPiece, IsReadOn, Key, Levels, List, None, Ok, Option, Position, ScannerState, Site, Some, Stands, Tok, Token, [], act_of, ap, append-nil, append_assoc, arith, awaits_past, before_by, begin_line, begins_free_line, begins_line, begun_by, begun_inside, begun_outside, closed_key, columns, ends_at, entries_past, false, further_lines_stand, gives_marker, has_break, has_open_level, if◌then◌else◌, in_flow, inl, inr, is_closed, is_deeper, is_empty, is_in_column, is_indented_by_spaces, is_renewed, is_required, is_separation, least_for, length, may_precede, not, not_ended, other, pair_position, position_after, previous_by, put, refl, refused, remove_implicit_key, replicate-append-replicate, seen, settled, shown_position, site_in, subst, sym, taken, takes_pair, top_key, true, unroll_indent, went, with_top, ℕ, ◌++◌, ◌+◌, ◌-◌, ◌∙◌, ◌∷◌, ◌≡◌, ◌≤◌, ◌⊎◌, eqb-true, nat_tests}
 use Rattle.proof_scanner.proofs.Sound.OutOfFlow.{tokens_then}
 use Rattle.yaml_tokens.specs.declared.problem.Problem.TheVariants as problem
 use Rattle.defs_token.specs.Account.{Account as PieceAccount}
@@ -7,10 +7,9 @@ use Rattle.defs_token.specs.Key.{line_past as line_of_piece}
 use Rattle.proof_scanner.proofs.Known.Steps.{begins_key}
 use Rattle.proof_scanner.proofs.Sound.Around.{tokens_before}
 use Rattle.proof_scanner.proofs.Sound.Arrivals.{some_rest}
-use Rattle.proof_scanner.proofs.Sound.EntryPieces.{tokens_inside, goes_inside}
+use Rattle.proof_scanner.proofs.Sound.EntryPieces.{goes_inside}
 use Rattle.proof_scanner.proofs.Sound.FlowMarks.{may_be_none}
 use Rattle.proof_scanner.proofs.Sound.Gone.{key_gone}
-use Rattle.proof_scanner.proofs.Sound.NodeTokens.{past_step, not_keyed}
 use Rattle.proof_scanner.proofs.Sound.OutsidePieces.{read_outside}
 use Rattle.proof_scanner.proofs.Sound.Sides.{with_entries, ArrivesBy, ArrivesOutside, ArrivesInside, arrives_side}
 use Rattle.proof_scanner.proofs.Sound.StreamEnds.{ends_of, all_levels, shorter}
@@ -146,7 +145,7 @@ line_goes text t d f fs k ks e es a r flow keys =
       entry_past = λ xs. ap (λ y. entries_past x.position (is_renewed a.site.before a.separation) y [] false e xs) r.token.act ∙
           (grind arith);
       colons = λ n p ws last. (rw (r.token.act, r.token.begun) refl);
-      tokens_are = tokens;
+      tokens_are = let pair : Position = pair_position (position_after x.position d.piece (next_of d)) (next_of d) in ap (λ ts. ts ++ (own ∷ [])) (tokens_before text t f fs k ks e es a) ∙ (ap (λ b. a.tokens ++ (b ++ (own ∷ []))) (sym (ap (λ y. begun_inside (takes_pair e.kind e.pair) e.pair x.position pair pair y false e.had) r.token.act)) ∙ ap (λ p. a.tokens ++ (begun_inside (takes_pair e.kind e.pair) e.pair x.position pair pair (act_of d.tok) false e.had ++ (put p d.tok ∷ []))) (sym (r.token.shown x d.piece (next_of d))));
     })
   where
     x : Site
@@ -155,23 +154,7 @@ line_goes text t d f fs k ks e es a r flow keys =
     own : Token
     own = put t.held.position d.tok
 
-    tokens : t.held.tokens ++ (own ∷ []) ≡ a.tokens ++ tokens_inside x d.piece d.tok (next_of d) e
-    tokens =
-        let pair : Position = pair_position (position_after x.position d.piece (next_of d)) (next_of d) in
-        ap (λ ts. ts ++ (own ∷ [])) (tokens_before text t f fs k ks e es a) ∙
-        (ap (λ b. a.tokens ++ (b ++ (own ∷ []))) (sym (ap (λ y. begun_inside (takes_pair e.kind e.pair) e.pair x.position pair pair y false e.had) r.token.act)) ∙
-        ap (λ p. a.tokens ++ (begun_inside (takes_pair e.kind e.pair) e.pair x.position pair pair (act_of d.tok) false e.had ++ (put p d.tok ∷ []))) (sym (r.token.shown x d.piece (next_of d))))
-
 -- ---- both
-
--- outside flow, if no key must be one
-pub outside_at : (text : List ℕ) (t : ScannerState) (o : ArrivesOutside text t) → is_empty t.rest ≡ false → is_required (top_key t.held.keys) ≡ false → (d : Read) → IsRead t d →
-    Stands text (line_past t (begun_from (all_ended t.held)) d)
-outside_at text t o some none d r = line_stands text t d (key_gone text t o.key o.here some (may_be_none o.key [] t.held.keys t.held.position t.rest o.keys_are none)) r o.flow_is (ap (with_top None) o.keys_are)
-
--- in flow
-pub inside_at : (text : List ℕ) (t : ScannerState) (i : ArrivesInside text t) (d : Read) → IsRead t d → Stands text (line_past t (begun_from t.held) d)
-inside_at text t i d r = line_goes text t d i.level i.levels i.key i.keys i.entry i.entries i.here r i.flow_is (ap (with_top None) i.keys_are)
 
 -- What begins such a line, and what holds after it.
 pub record Begins (text : List ℕ) (t : ScannerState) : Type 0 where
@@ -188,11 +171,11 @@ begins text t some a = by (arrives_side text t a)
       held = all_ended t.held;
       rolled = unrolled_outside t.held (ap (λ fs. not (is_empty fs)) o.flow_is) o.here.are_levels;
       same_position = refl;
-      stands = λ d r none. outside_at text t o some none d r;
+      stands = λ d r none. (line_stands text t d (key_gone text t o.key o.here some (may_be_none o.key [] t.held.keys t.held.position t.rest o.keys_are none)) r o.flow_is (ap (with_top None) o.keys_are));
     }
     by (inr i) = record {
       held = t.held;
       rolled = unrolled_in_flow 0 t.held (ap is_empty i.flow_is);
       same_position = refl;
-      stands = λ d r none. inside_at text t i d r;
+      stands = λ d r none. (line_goes text t d i.level i.levels i.key i.keys i.entry i.entries i.here r i.flow_is (ap (with_top None) i.keys_are));
     }

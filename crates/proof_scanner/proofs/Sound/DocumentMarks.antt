@@ -1,11 +1,11 @@
 -- The functions of the model that read document markers and directives keep what holds where they begin.
-use Rattle.proof_scanner.proofs.Common.{Arrives, Bool, Directive, HasFirst, Held, Holds, IsDirectiveRead, IsPiece, IsReadOn, List, None, Ok, Position, ScannerState, Some, Stands, Tok, [], and_false, and_parts, another, ap, arith, begin_line, begins_free_line, begins_line, begins_with, blanks_and_comment, chained, check_document_end, directive_of, directives_end, either, eqb-true, false, fetch_directive, fetch_document_end, fetch_document_marker, first_break, gap, has_break, has_no_break, has_no_nul, has_tab_within, if◌then◌else◌, is_at_gap, is_before_line_feed, is_break, is_breakz, is_empty, is_indented_by_spaces, is_renewed, is_required, last_line, least_column, line_is_done, may_precede, nat_tests, no_nul_after, not, on_held, or_true, past, past_blanks_and_comment, past_line_rest, peek, position_after, position_append, previous_by, push, read, read_as, refl, refused, skip_indicator, split, split_by, subst, suc, sym, take, token_of, top_key, tried, true, went, whole_directive, zero, ℕ, ◌++◌, ◌==◌, ◌||◌, ◌∙◌, ◌∷◌, ◌≡◌}
+use Rattle.proof_scanner.proofs.Common.{Arrives, Directive, Held, Holds, IsDirectiveRead, List, Ok, Position, ScannerState, Some, Stands, Tok, [], and_false, and_parts, ap, arith, begin_line, begins_free_line, begins_with, blanks_and_comment, chained, check_document_end, directive_of, directives_end, either, eqb-true, false, fetch_directive, fetch_document_end, fetch_document_marker, first_break, gap, has_break, has_no_break, has_no_nul, is_at_gap, is_break, is_breakz, is_empty, is_required, last_line, line_is_done, nat_tests, no_nul_after, on_held, or_true, past, past_blanks_and_comment, past_line_rest, peek, position_after, position_append, push, read, read_as, refl, refused, skip_indicator, subst, sym, token_of, top_key, tried, true, went, whole_directive, ℕ, ◌++◌, ◌∙◌, ◌∷◌, ◌≡◌}
 use Rattle.defs_token.specs.Step.{directive as after_directive}
 use Rattle.model_scanner.specs.Machine as machine
 use Rattle.model_scanner.specs.Directive.{directive}
 use Rattle.proof_lexers.specs.DirectiveEnds.{ends_line, next_line}
 use Rattle.proof_scanner.proofs.Cut.Documents.{three_past}
-use Rattle.proof_scanner.proofs.Cut.Pieces.Directives.{break_cut, break_is_separation, line_end_there, piece_of, percent_in_line}
+use Rattle.proof_scanner.proofs.Cut.Pieces.Directives.{break_cut, break_is_separation, piece_of, percent_in_line}
 use Rattle.proof_scanner.proofs.Sound.Blanks.{same_in_line, line_rest_in_line, line_rest_cut, line_rest_fills, past_rest, rest_skipped}
 use Rattle.proof_scanner.proofs.Sound.DocumentLines as lines
 use Rattle.proof_scanner.proofs.Sound.DocumentLines.{IsDocumentToken, IsRead, begun_from, line_begun, Begins, begins}
@@ -72,34 +72,16 @@ two_break : last_line (13 ∷ 10 ∷ []) ≡ []
 unfolding is_break
 two_break = refl
 
-no_tab_there : (n : ℕ) → has_tab_within n [] ≡ false
-no_tab_there a = grind (arith, nat_tests, eqb-true)
-
-break_has : (next : List ℕ) → ends_line next ≡ true → is_empty (next_line next) ≡ false → true ≡ has_break (first_break next)
-break_has a h b = grind (arith, nat_tests, has_break, eqb-true)
-
 -- its own break does not let a key begin
 no_second : (next : List ℕ) → begins_free_line after_directive (first_break next) ≡ false
 unfolding is_break
 no_second a = grind (arith, nat_tests, has_break, eqb-true)
 
-first_whole : (next : List ℕ) → is_empty (next_line next) ≡ false → HasFirst (first_break next) (next_line next)
-first_whole a b = grind (arith, nat_tests, eqb-true)
-
-directive_token : (d : Directive) → IsDocumentToken (token_of d)
-directive_token d = grind (arith, and_false)
-
-directive_before : (d : Directive) → previous_by (token_of d) ≡ after_directive
-directive_before a = grind (arith, nat_tests, eqb-true)
-
-directive_precedes : (d : Directive) (fl : Bool) (bs piece next : List ℕ) → may_precede fl bs (token_of d) piece next ≡ true
-directive_precedes a fl bs piece b = grind (arith, nat_tests, eqb-true)
-
 abbrev pub directive_read : (line next : List ℕ) → Directive → Position → lines.Read
 directive_read line next d p = record { tok = token_of d; piece = 37 ∷ line; gap = first_break next; rest = next_line next; end = position_after p ((37 ∷ line) ++ first_break next) (next_line next); leading = true }
 
 pub directive_is_read : (t : ScannerState) (line next : List ℕ) (d : Directive) → t.rest ≡ 37 ∷ (line ++ next) → has_no_break line ≡ true → ends_line next ≡ true → directive_of (37 ∷ line) ≡ Some d → t.held.position.col ≡ 0 → IsRead t (directive_read line next d t.held.position)
-directive_is_read t line next d e no_break ends is col = grind (arith, nat_tests, eqb-true, directive_token, break_cut, percent_in_line, break_is_separation, position_append, piece_of, line_end_there, directive_precedes, directive_before, and_parts, two_break, no_tab_there, or_true, break_has, first_whole, no_second)
+directive_is_read t line next d e no_break ends is col = grind (arith, nat_tests, eqb-true, and_false, break_cut, percent_in_line, break_is_separation, position_append, piece_of, and_parts, two_break, or_true, has_break, no_second)
 
 -- the scanner after a directive
 abbrev pub after_it : ScannerState → machine.Read Tok → Held → ScannerState

@@ -1,5 +1,5 @@
 -- The first of a text's tokens are a cut of a beginning of it.
-use Rattle.proof_scanner.proofs.Common.{Fares, IsCut, IsCutOfBeginning, IsCutUpTo, IsPiece, IsRow, List, None, Option, Position, Reaches, ScannerState, Some, Tok, Token, Written, [], ap, arith, begins, end_token, eqb-true, first_position, first_token, has_no_nul, inl, inr, nat_tests, over, refl, rows_are_cuts, spelled_append, start, start_token, stream_end, subst, sym, tokens_of, true, up_to_nul, ℕ, ◌++◌, ◌∙◌, ◌∷◌, ◌≡◌, ◌⊎◌}
+use Rattle.proof_scanner.proofs.Common.{Fares, IsCut, IsCutOfBeginning, IsCutUpTo, IsRow, List, None, Option, Position, Reaches, ScannerState, Some, Tok, Token, Written, [], ap, arith, begins, end_token, eqb-true, first_position, has_no_nul, inl, inr, nat_tests, over, refl, rows_are_cuts, spelled_append, start, start_token, stream_end, subst, sym, tokens_of, true, up_to_nul, ℕ, ◌++◌, ◌∙◌, ◌∷◌, ◌≡◌, ◌⊎◌}
 use Rattle.defs_token.specs.Account.{Account, first_account}
 use Rattle.defs_token.specs.Cut.{IsWritten, spelled, account_past}
 use Rattle.proof_scanner.specs.Laws.{TokensAreACut}

@@ -1,11 +1,10 @@
 -- The functions of the model that read commas and closing brackets keep what holds where they begin.
-use Rattle.proof_scanner.proofs.Common.{arith, Arrives, At, Bool, Collection, Err, FlowLevel, Held, Holds, Key, List, MayChoose, None, Ok, Option, Position, ScannerState, Some, Stands, Tok, [], adjacent_in_flow, ap, begins_with, chained, end_entry, end_flow, ended_flow, false, fetch_flow_collection_end, fetch_flow_entry, flow_end, if◌then◌else◌, inl, inr, is_empty, is_required, next_entry, on_held, pop, push, refl, refused, remove_implicit_key, subst, sym, top_key, tried, true, went, with_top, ℕ, ◌∙◌, ◌∷◌, ◌≡◌, ◌⊎◌, eqb-true, nat_tests}
-use Rattle.yaml_tokens.specs.declared.problem.Problem.TheVariants as problem
+use Rattle.proof_scanner.proofs.Common.{arith, Arrives, Bool, Collection, FlowLevel, Held, Holds, Key, List, MayChoose, None, Option, Position, ScannerState, Stands, Tok, [], adjacent_in_flow, ap, begins_with, chained, end_entry, end_flow, false, fetch_flow_collection_end, fetch_flow_entry, flow_end, inl, inr, is_empty, is_required, on_held, pop, push, refused, remove_implicit_key, subst, sym, top_key, tried, true, went, with_top, ℕ, ◌∙◌, ◌∷◌, ◌≡◌, ◌⊎◌, eqb-true, nat_tests}
 use Rattle.model_scanner.specs.State.{after}
 use Rattle.proof_scanner.proofs.Cut.FlowEnds.{higher_keys, ended_now, entry_now, ended_is, entry_is}
 use Rattle.proof_scanner.proofs.Cut.Nodes.{IsDeep}
 use Rattle.proof_scanner.proofs.Sound.Closers.{IsCloser, comma, stray_past, stray_at}
-use Rattle.proof_scanner.proofs.Sound.ClosersInside.{adjacent_then, closed_inside}
+use Rattle.proof_scanner.proofs.Sound.ClosersInside.{closed_inside}
 use Rattle.proof_scanner.proofs.Sound.Gone.{key_gone}
 use Rattle.proof_scanner.proofs.Sound.Indicated.{past_it, indicator_passed}
 use Rattle.proof_scanner.proofs.Sound.Sides.{ArrivesOutside, ArrivesInside, arrives_side}
@@ -57,10 +56,6 @@ comma_keeps text more t e deep a =
 
 -- ---- a closing bracket
 
-pub adjacent_is : (s : Held) (fs : List FlowLevel) → adjacent_in_flow (record s { flow = fs }) ≡ record s { flow = fs; adjacent_value_at = adjacent_then true fs s.adjacent_value_at s.position.index }
-unfolding adjacent_in_flow
-adjacent_is s a = grind (arith, nat_tests, eqb-true)
-
 abbrev pub after_closing : Tok → List FlowLevel → List (Option Key) → ScannerState → (more : List ℕ) → ScannerState
 after_closing tok fs ks t more = on_held (λ s. push t.held.position tok (adjacent_in_flow s)) (past_it (record t { held = record (ended_now fs t.held) { keys = ks } }) more)
 
@@ -75,7 +70,7 @@ closing_stands text more tok c k t e hash deep a free = by (arrives_side text t 
         let now : ScannerState = past_it (record t { held = record (ended_now (i.level ∷ i.levels) t.held) { keys = i.keys } }) more in
         subst (λ fs. Stands text (after_closing tok fs (higher_keys fs t.held.keys) t more)) (sym i.flow_is)
         (subst (λ ks. Stands text (after_closing tok (i.level ∷ i.levels) (pop (with_top None ks)) t more)) (sym i.keys_are)
-        (subst (λ h. Stands text (record now { held = push t.held.position tok h })) (sym (adjacent_is now.held i.levels)) (closed_inside text more true tok c k t i e hash deep)))
+        (subst (λ h. Stands text (record now { held = push t.held.position tok h })) (sym (grind (arith, nat_tests, eqb-true))) (closed_inside text more true tok c k t i e hash deep)))
 
 -- `]` or `}`
 pub closing_keeps : (text more : List ℕ) (kind : Collection) (c : ℕ) → IsCloser true (flow_end kind) c → (t : ScannerState) → t.rest ≡ c ∷ more → IsDeep t.held → Arrives text t → Holds (Stands text) (fetch_flow_collection_end kind t)

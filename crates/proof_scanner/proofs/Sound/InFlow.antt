@@ -1,10 +1,10 @@
 -- A piece in flow was read: if the definition and the scanner agree on its entries and tokens, what holds where it begins holds between two fetches after it.
-use Rattle.proof_scanner.proofs.Common.{Account, AreEntries, AreNumbered, BeginsButForKey, Bool, Entry, FlowLevel, IsLine, IsOpenOutside, IsPiece, IsWritten, Key, KnowsKey, Line, List, MayChoose, None, NotBefore, Option, Position, ScannerState, Site, SoFar, Some, Stands, Step, Tok, account_past, act_of, ap, begins_free_line, begun_by, chosen, entries_by, entries_past, entry_by, false, has_break, is_empty, is_renewed, is_separation, is_waiting, length, line_by, line_past_separation, may_stand, not, outside_key, position_after, previous_by, refl, seen, shown_position, site_here, site_past, spelled, subst, suc, sym, taken, tokens_at, tokens_of_step, tokens_up_to, true, with_keys, ℕ, ◌&&◌, ◌++◌, ◌∙◌, ◌∷◌, ◌≡◌, ◌≤◌}
+use Rattle.proof_scanner.proofs.Common.{Account, AreEntries, AreNumbered, BeginsButForKey, Bool, Entry, FlowLevel, IsLine, IsOpenOutside, IsPiece, IsWritten, Key, KnowsKey, Line, List, MayChoose, None, NotBefore, Option, Position, ScannerState, Site, SoFar, Some, Stands, Step, Tok, account_past, act_of, ap, begins_free_line, begun_by, chosen, entries_by, entries_past, entry_by, false, has_break, is_empty, is_renewed, is_separation, is_waiting, length, line_by, line_past_separation, may_stand, not, outside_key, position_after, previous_by, refl, seen, shown_position, site_here, site_past, spelled, subst, suc, sym, taken, tokens_at, tokens_of_step, tokens_up_to, true, with_keys, ℕ, ◌&&◌, ◌++◌, ◌∙◌, ◌∷◌, ◌≡◌, ◌≤◌, ◌+◌, arith, nat_tests, eqb-true}
 use Rattle.proof_scanner.proofs.Cut.Positions.{not_before_then, not_before_after}
 use Rattle.proof_scanner.proofs.Known.Read.{knows_inside}
 use Rattle.proof_scanner.proofs.Sound.Around.{line_taken, unbroken_around, one_around, may_around, open_around}
-use Rattle.proof_scanner.proofs.Sound.Arrivals.{some_rest, completes_at, carried_at, unbroken}
-use Rattle.proof_scanner.proofs.Sound.Completed.{but_for_key_past, goes_past, none_broken, none_waits}
+use Rattle.proof_scanner.proofs.Sound.Arrivals.{some_rest, completes_at, unbroken}
+use Rattle.proof_scanner.proofs.Sound.Completed.{but_for_key_past, goes_past}
 use Rattle.proof_scanner.proofs.Sound.Reads.{Reads, stands_so}
 use Rattle.proof_scanner.proofs.Sound.Sides.{with_entries, ArrivesBy}
 use Rattle.proof_scanner.proofs.Sound.NodeTokens.{past_step, same_levels}
@@ -65,9 +65,9 @@ module _ (text : List ℕ) (t u : ScannerState) (f : FlowLevel) (fs : List FlowL
     carries = λ cs key own must inside more. subst (λ l. BeginsButForKey text l key.position (chosen false cs ls (account_then t.held.position))) r.is_rest
         (subst (λ p. BeginsButForKey text next key.position (chosen false cs ls (account_then p))) (sym place)
         (but_for_key_past text (a.separation ++ (piece ++ next)) key.position (before false cs) (chosen false cs ls (account_then piece_here)) (flow_step (n.bit cs)) next refl (written false cs)
-        (account false cs (none_broken (begins_free_line a.site.before a.separation) (outside_key es ks) a.line taken_line) (none_waits (has_break piece) (outside_key es ks) a.line taken_line))
-        (carried_at text t (f ∷ fs) (k ∷ ks) (e ∷ es) a (piece ++ next) r.cut key (sym g.same_key ∙ own) must refl some (n.choice cs ∷ n.outer cs))));
-    knows = subst (λ y. KnowsKey text (gap ++ u.rest) u.held.position y) (sym g.same_key) (knows_inside text t piece next tok r.cut u.held.position gap u.rest r.position_is r.is_rest f fs k ks e es a (is_filled, (ap not r.is_solid, n.is_piece)));
+        (account false cs (grind arith) (grind (arith, nat_tests, eqb-true)))
+        (subst (λ x. BeginsButForKey text (a.separation ++ x) key.position (chosen false (n.choice cs ∷ n.outer cs) (k ∷ ks) (with_entries a.site a.line (e ∷ es)))) r.cut (a.carries (n.choice cs ∷ n.outer cs) key (sym g.same_key ∙ own) must refl some))));
+    knows = subst (λ y. KnowsKey text (gap ++ u.rest) u.held.position y) (sym g.same_key) (knows_inside text t piece next tok r.cut u.held.position gap u.rest r.position_is r.is_rest f fs k ks e es a ((subst (λ l. is_separation false a.separation l ≡ true) r.cut a.is_filled), (ap not r.is_solid, n.is_piece)));
     completes = λ strict c cs may.
         let was : MayChoose strict c (outside_key es ks) u.held.position u.rest = subst (λ y. MayChoose strict c y u.held.position u.rest) g.same_key may in
         subst (λ l. SoFar strict text l (chosen c cs ls (account_then t.held.position)) (tokens_up_to (chosen c cs ls (account_then t.held.position)) ls u.held.tokens)) r.is_rest
@@ -90,15 +90,12 @@ module _ (text : List ℕ) (t u : ScannerState) (f : FlowLevel) (fs : List FlowL
       taken_line : a.line ≡ taken
       taken_line = line_taken text t f fs k ks e es a
 
-      is_filled : is_separation false a.separation (piece ++ next) ≡ true
-      is_filled = subst (λ l. is_separation false a.separation l ≡ true) r.cut a.is_filled
-
       before : Bool → List Bool → Account
       before c cs = chosen c (n.choice cs ∷ n.outer cs) (k ∷ ks) (with_entries a.site a.line (e ∷ es))
 
       written : (c : Bool) (cs : List Bool) → IsWritten (before c cs) (flow_step (n.bit cs)) next
       written c cs = (
-        is_filled,
+        (subst (λ l. is_separation false a.separation l ≡ true) r.cut a.is_filled),
         (
           ap not r.is_solid,
           subst (λ levels. IsPiece (let s = seen (with_entries a.site a.line (e ∷ es)) (flow_at piece_here) a.separation in record s { levels = levels }) piece next None (shown_position (flow_at piece_here) piece tok next) tok)

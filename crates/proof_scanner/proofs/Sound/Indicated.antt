@@ -1,5 +1,5 @@
 -- An indicator of one character, and the blanks and the comment after it.
-use Rattle.proof_scanner.proofs.Common.{Bool, Holds, List, Position, Previous, ScannerState, [], ap, arith, begins_line, begins_with, blanks_and_comment, false, follows_plain, has_no_break, has_tab_within, is_break, is_indented_by_spaces, last_line, least_column, not, pass_indicator, past, past_blanks_and_comment, past_line_rest, position_after, refl, skip_indicator, subst, sym, true, ℕ, ◌||◌, ◌∙◌, ◌∷◌, ◌≡◌, eqb-true, nat_tests}
+use Rattle.proof_scanner.proofs.Common.{Bool, Holds, List, Position, Previous, ScannerState, [], ap, arith, begins_line, begins_with, blanks_and_comment, false, follows_plain, has_no_break, has_tab_within, is_break, is_indented_by_spaces, last_line, least_column, not, pass_indicator, past, past_blanks_and_comment, past_line_rest, position_after, refl, skip_indicator, subst, true, ℕ, ◌||◌, ◌∷◌, ◌≡◌, eqb-true, nat_tests}
 use Rattle.model_scanner.specs.State.{after}
 use Rattle.proof_lexers.specs.PlainEnds as plains
 use Rattle.proof_scanner.proofs.Sound.Blanks.{same_in_line, line_rest_in_line, rest_skipped}

@@ -1,6 +1,6 @@
 -- Tokens that go in before others, and tokens after all of them.
 use Rattle.std.proofs.lemmas.List.Edits.{insert-append_left}
-use Rattle.proof_scanner.proofs.Common.{AreNumbered, Bool, Colon, Entry, Had, Key, Line, List, None, Option, Position, Some, Step, Token, [], ap, arith, colon_of, insert, key, length, put, put_if, put_key, refl, suc, takes_pair, with_had, with_keys, with_line, zero, ℕ, ◌++◌, ◌∙◌, ◌∷◌, ◌≡◌, ◌≤◌, eqb-true, nat_tests}
+use Rattle.proof_scanner.proofs.Common.{AreNumbered, Bool, Colon, Entry, Had, Key, Line, List, None, Option, Position, Some, Step, Token, [], ap, arith, insert, key, length, put, put_if, put_key, refl, suc, with_had, with_keys, with_line, zero, ℕ, ◌++◌, ◌∙◌, ◌∷◌, ◌≡◌, ◌≤◌, eqb-true, nat_tests}
 
 longer : (ts : List Token) (n : ℕ) (t : Token) → length (insert ts n t) ≡ suc (length ts)
 longer ts zero t = refl

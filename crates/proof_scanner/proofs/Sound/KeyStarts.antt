@@ -1,5 +1,5 @@
 -- The key that may begin with a node, among the open keys.
-use Rattle.proof_scanner.proofs.Common.{AreNumbered, Bool, Entry, FlowLevel, IsEntryOf, IsFreeKey, Key, List, Option, ScannerState, Token, [], arith, false, length, length-append, must_be_key, refl, suc, ◌++◌, ◌∷◌, ◌≡◌, eqb-true, nat_tests}
+use Rattle.proof_scanner.proofs.Common.{AreNumbered, Bool, Entry, FlowLevel, IsEntryOf, Key, List, Option, ScannerState, Token, [], arith, false, length, length-append, must_be_key, refl, suc, ◌++◌, ◌∷◌, ◌≡◌, eqb-true, nat_tests}
 use Rattle.proof_scanner.proofs.Cut.Saved.{saved_keys}
 use Rattle.proof_scanner.proofs.Sound.Arrivals.{numbered_more, numbered_around}
 use Rattle.proof_scanner.proofs.Sound.NodeSteps.{saved, entry_past_node}

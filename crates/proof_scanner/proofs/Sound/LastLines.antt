@@ -1,5 +1,5 @@
 -- The last line of a text as the text grows, and the column after it.
-use Rattle.proof_scanner.proofs.Common.{Bool, List, Position, [], and_parts, ap, arith, eqb-true, false, has_break, has_no_break, has_tab_within, if◌then◌else◌, inl, inr, is_at_line_end, is_before_line_feed, is_blank, is_break, is_empty, is_one_of, is_separation, last_line, length, nat_tests, not, not-true, or-true, position_after, position_past, put_first, refl, split, split_by, suc, sym, take, take-append-le, true, zero, ℕ, ◌&&◌, ◌++◌, ◌+◌, ◌==◌, ◌||◌, ◌∙◌, ◌∷◌, ◌≡◌, ◌≤◌, ◌⊎◌}
+use Rattle.proof_scanner.proofs.Common.{Bool, List, Position, [], and_parts, ap, arith, eqb-true, false, has_break, has_no_break, has_tab_within, if◌then◌else◌, inl, inr, is_at_line_end, is_before_line_feed, is_blank, is_break, is_empty, is_one_of, is_separation, last_line, length, nat_tests, not, not-true, or-true, position_after, position_past, put_first, refl, split, split_by, suc, take, take-append-le, true, zero, ℕ, ◌&&◌, ◌++◌, ◌+◌, ◌==◌, ◌||◌, ◌∙◌, ◌∷◌, ◌≡◌, ◌≤◌, ◌⊎◌}
 
 -- ---- breaks in a text and one character more
 

@@ -1,5 +1,5 @@
 -- A part of a node: from each choice after it there is a choice before it, and a bit for its step.
-use Rattle.proof_scanner.proofs.Common.{Bool, Entry, Had, HasHadHere, Key, Line, List, None, Option, Position, Some, arith, entries_past, entry_by, eqb-true, false, filled, fresh, gives_node, had_by, is_waiting, line_by, line_past_separation, nat_tests, settled, true, ◌++◌, ◌∷◌, ◌≡◌, ◌⊎◌}
+use Rattle.proof_scanner.proofs.Common.{Bool, Entry, Had, HasHadHere, Key, List, None, Option, Position, Some, arith, entries_past, entry_by, eqb-true, false, filled, fresh, gives_node, had_by, nat_tests, settled, true, ◌++◌, ◌∷◌, ◌≡◌}
 
 -- the open key after a node's start: the new one, where one may begin
 abbrev pub saved : (allowed : Bool) → (new : Key) → Option Key → Option Key
@@ -52,7 +52,3 @@ pub node_in_entry : (again allowed c : Bool) (k : Option Key) (new : Key) (e : E
 node_in_entry again allowed c k new e here begun es h q = grind (arith, nat_tests, eqb-true)
 
 -- ---- on one line
-
--- a waiting key and a separation without a break, or no waiting key
-pub separated : (fl broken c : Bool) (k : Option Key) (l m : Line) → (c ≡ true → broken ≡ false) → line_past_separation fl broken l ≡ Some m → is_waiting l ≡ false → line_past_separation fl broken (line_by c k l) ≡ Some (line_by c k m)
-separated fl broken c a l m h e n = grind (arith, nat_tests, eqb-true)

@@ -1,11 +1,8 @@
 -- The tokens of a part of a node: with its key put in, or without.
-use Rattle.proof_scanner.proofs.Common.{Bool, Colon, Entry, FlowLevel, Had, HasHadHere, Key, Line, List, None, Option, Pair, Position, Site, Some, Step, Tok, Token, [], act_of, ap, append_assoc, arith, begins_free_line, begun_by, begun_inside, begun_outside, block_mapping_start, colon_of, depth_past, ends_at, entries_by, false, flow_mapping_start, gives_node, had_by, insert, is_deeper, is_keyed, key, key_tokens, length, level_of, line_past_separation, map, pair_position, pop, position_after, put, put_key, refl, shown_position, spelled, suc, sym, takes_pair, tokens_at, true, with_had, with_keys, with_line, ℕ, ◌++◌, ◌∙◌, ◌∷◌, ◌≡◌, eqb-true, nat_tests}
+use Rattle.proof_scanner.proofs.Common.{Bool, Colon, Entry, FlowLevel, Had, Key, Line, List, Option, Position, Site, Step, Tok, Token, [], act_of, ap, arith, begun_by, block_mapping_start, colon_of, depth_past, entries_by, false, flow_mapping_start, gives_node, had_by, insert, is_deeper, is_keyed, key, key_tokens, length, level_of, map, pair_position, pop, position_after, put, put_key, refl, shown_position, spelled, suc, takes_pair, tokens_at, true, with_had, with_keys, with_line, ℕ, ◌++◌, ◌∷◌, ◌≡◌, eqb-true, nat_tests}
 use Rattle.proof_scanner.proofs.Sound.Begun.{with_begun, depth_begun, depth_rises}
 
 -- ---- an entry in which no key waits
-
-pub not_keyed : (allowed again : Bool) (k : Option Key) (h : Had) → HasHadHere allowed again k h → is_keyed h ≡ false
-not_keyed allowed again k h p = grind arith
 
 pub no_had : (c : Colon) (single : Bool) (h : Had) (k : Option Key) (ts : List Token) → is_keyed h ≡ false → with_had c single h k ts ≡ ts
 no_had c single h k ts e = grind arith
@@ -66,11 +63,6 @@ past_piece at w ws last = position_after at.position w.piece (spelled ws last)
 -- the token that the piece shows
 abbrev pub shown_token : Site → Step → List Step → (last : List ℕ) → Token
 shown_token at w ws last = put (shown_position at w.piece w.shown (spelled ws last)) w.shown
-
--- outside flow
-pub tokens_outside : (s at : Site) (w : Step) (ws : List Step) (last : List ℕ) (l : Line) (begins : List Entry) → act_of w.shown ≡ gives_node → begun_by w.shown ≡ begins →
-    tokens_at s at w ws last l [] ≡ ends_at at.position s.blocks at.blocks ++ (key_outside w.key at (colon_of (depth_past gives_node begins 0) (past_piece at w ws last) ws last) ++ (shown_token at w ws last ∷ []))
-tokens_outside s at w ws last l begins e f = grind (arith, nat_tests, eqb-true, append_assoc)
 
 -- in flow
 pub tokens_inside : (s at : Site) (w : Step) (ws : List Step) (last : List ℕ) (l : Line) (n : Entry) (es begins : List Entry) → act_of w.shown ≡ gives_node → begun_by w.shown ≡ begins →

@@ -1,8 +1,8 @@
 -- A part of a node in flow, be it an opening bracket or no collection: its tokens, and where a key that begins with it goes in.
-use Rattle.proof_scanner.proofs.Common.{arith, Bool, Colon, Entry, FlowLevel, Had, Key, Line, List, Option, Position, Site, Step, Tok, Token, [], act_of, ap, begun_by, colon_of, entry_by, false, gives_node, had_by, is_keyed, length, position_after, put, shown_position, site_here, spelled, suc, sym, takes_pair, tokens_at, tokens_up_to, true, with_had, with_keys, ℕ, ◌++◌, ◌∙◌, ◌∷◌, ◌≡◌}
+use Rattle.proof_scanner.proofs.Common.{arith, Bool, Colon, Entry, FlowLevel, Key, Line, List, Option, Position, Site, Step, Tok, Token, [], act_of, ap, begun_by, colon_of, entry_by, false, gives_node, is_keyed, length, position_after, put, shown_position, site_here, spelled, suc, sym, takes_pair, tokens_at, tokens_up_to, true, with_had, with_keys, ℕ, ◌++◌, ◌∙◌, ◌∷◌, ◌≡◌}
 use Rattle.proof_scanner.proofs.Sound.Begun.{with_begun, with_no_key, depth_begun, keys_around_begun}
 use Rattle.proof_scanner.proofs.Sound.Inserts.{AreAmong, fewer, had_first, had_longer, keys_first, first_among}
-use Rattle.proof_scanner.proofs.Sound.NodeSteps.{saved, choice_before, bit_of, had_past_node, entry_past_node}
+use Rattle.proof_scanner.proofs.Sound.NodeSteps.{saved, choice_before, bit_of, entry_past_node}
 use Rattle.proof_scanner.proofs.Sound.NodeTokens.{past_step, keys_past, key_between, key_inside, tokens_inside, no_had, had_as_it_was}
 use Rattle.proof_scanner.proofs.Sound.Sides.{with_entries}
 

@@ -1,5 +1,5 @@
 -- Opening brackets: what holds where they begin holds between two fetches after them.
-use Rattle.proof_scanner.proofs.Common.{AreEntries, AreLevels, Bool, Entry, FlowLevel, Held, Indent, IsPairOf, Key, List, Mapping, None, Option, ScannerState, Site, Some, Tok, [], act_of, another, ap, arith, awaits_past, begins_free_line, begins_with, begun_by, blanks_and_comment, columns, eqb-true, false, first_entry, further_lines_stand, gives_node, has_open_level, if◌then◌else◌, in_block, in_flow, is_empty, is_renewed, least_column, least_for, length, level_of, map, may_precede, nat_le, nat_lt, nat_tests, no_pair, not, past, past_blanks_and_comment, past_line_rest, position_after, position_in_line, previous_by, refl, roll_one_col_indent, seen, shown_position, sym, true, ℕ, ◌&&◌, ◌∙◌, ◌∷◌, ◌≡◌}
+use Rattle.proof_scanner.proofs.Common.{AreLevels, Bool, Entry, FlowLevel, Held, Indent, IsPairOf, Key, List, Mapping, None, Option, ScannerState, Site, Some, Tok, [], act_of, another, ap, arith, awaits_past, begins_free_line, begins_with, begun_by, blanks_and_comment, columns, eqb-true, false, first_entry, further_lines_stand, gives_node, has_open_level, if◌then◌else◌, in_block, in_flow, is_empty, least_column, least_for, length, level_of, map, may_precede, nat_le, nat_lt, nat_tests, no_pair, not, past, past_blanks_and_comment, past_line_rest, position_after, position_in_line, previous_by, refl, roll_one_col_indent, seen, shown_position, sym, true, ℕ, ◌&&◌, ◌∙◌, ◌∷◌, ◌≡◌}
 use Rattle.model_scanner.specs.declared.level.FlowLevel.TheVariants.{Entry as InEntry}
 use Rattle.proof_scanner.proofs.Cut.Flows.{IsOpeningOf, opening_sequence, opening_mapping}
 use Rattle.proof_scanner.proofs.Cut.Nodes.{IsDeep}

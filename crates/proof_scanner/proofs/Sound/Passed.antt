@@ -1,9 +1,8 @@
 -- What holds between two fetches still holds at the next token, or at the text's end, with the separation up to there.
-use Rattle.proof_scanner.proofs.Common.{AreLevels, Bool, HasFirst, HasPassed, Held, Holds, Indent, IsLive, IsReadOn, Key, List, MayChoose, None, Ok, Option, Position, Previous, ScannerState, Some, [], another, ap, append-nil, arith, begins_free_line, begins_separation, begins_white, between, block_scalar, columns, directive, drop, eqb-true, false, has_break, has_open_level, if◌then◌else◌, is_before_line_feed, is_blank, is_break, is_empty, is_no_comment, is_renewed, is_separation, is_white, leading, least_column, nat_tests, not, or-false, plain_scalar, position_after, refl, same_blank, same_break, separations_are_passed, skip, skip_to_next_token, suc, sym, true, without_break, ℕ, ◌++◌, ◌==◌, ◌||◌, ◌∙◌, ◌∷◌, ◌≡◌}
+use Rattle.proof_scanner.proofs.Common.{AreLevels, Bool, HasPassed, Held, Holds, Indent, IsLive, IsReadOn, Key, List, MayChoose, None, Ok, Option, Position, Previous, ScannerState, Some, [], another, ap, append-nil, arith, begins_free_line, begins_separation, between, columns, eqb-true, false, has_break, has_open_level, is_blank, is_empty, is_no_comment, is_renewed, is_separation, is_white, leading, least_column, nat_tests, not, or-false, plain_scalar, position_after, refl, same_blank, same_break, separations_are_passed, skip, skip_to_next_token, suc, true, ℕ, ◌++◌, ◌==◌, ◌||◌, ◌∙◌, ◌∷◌, ◌≡◌}
 use Rattle.proof_lexers.specs.PlainEnds as plain_ends
 use Rattle.proof_scanner.proofs.Cut.Passes.{read_holds}
 use Rattle.proof_scanner.proofs.Cut.Positions.{not_before_after}
-use Rattle.proof_scanner.proofs.Sound.Arrivals.{live_before}
 use Rattle.proof_scanner.proofs.Sound.LastLines.{break_append}
 use Rattle.proof_scanner.proofs.Sound.Skips.{IsLeast}
 
@@ -35,7 +34,7 @@ goes_on (c ∷ g) rest rest2 e h = ap is_empty e
 
 -- a key that may be one after a separation may be one before it
 pub live_before_it : (k : Key) (p : Position) (g rest rest2 : List ℕ) → rest ≡ g ++ rest2 → IsLive k (position_after p g rest2) rest2 → IsLive k p rest
-live_before_it k p g rest rest2 e l = live_before k p (position_after p g rest2) rest rest2 (not_before_after p g rest2) (goes_on g rest rest2 e l.1) l
+live_before_it k p g rest rest2 e l = (omega (arith, (not_before_after p g rest2).0, l.0), (goes_on g rest rest2 e l.1))
 
 pub may_before : (strict c : Bool) (k : Option Key) (p : Position) (g rest rest2 : List ℕ) → rest ≡ g ++ rest2 → MayChoose strict c k (position_after p g rest2) rest2 → MayChoose strict c k p rest
 may_before strict c None p g rest rest2 e m = tt
@@ -74,9 +73,6 @@ pub read_on_append : (b : Previous) (q : Position) (f g rest rest2 : List ℕ) �
 read_on_append a q f g rest rest2 cut solid r = grind (arith, nat_tests, eqb-true, goes_on)
 
 -- ---- the least column
-
-pub some_columns : (i : ℕ) (ds : List Indent) → AreLevels i ds → is_empty ds ≡ false → is_empty (columns i ds) ≡ false
-some_columns i a b e = grind arith
 
 pub least_of_levels : (i : ℕ) (ds : List Indent) → AreLevels i ds → is_empty ds ≡ false → i ≡ suc (least_column (columns i ds) (has_open_level ds))
 least_of_levels i a b e = grind arith

@@ -1,5 +1,5 @@
 -- Plain scalars: what holds between two fetches holds after them.
-use Rattle.proof_scanner.proofs.Common.{Arrives, Bool, Context, Entry, FlowLevel, HasNoTabs, Held, Holds, IsPiece, IsPlainRead, Key, Levels, List, None, Ok, Option, Plain, Position, ScannerState, Site, Some, Stands, Style, Tok, [], after_plain, allow_key, and_parts, ap, arith, awaits_past, before_by, before_past, begins_plain, begins_separation, begins_solid, begins_white, collection_column, collection_of, columns, comes_plain, context, ends_with_content, eqb-true, false, fetch_plain_scalar, goes_on, has_break, has_dash_before_flow, has_no_nul, has_open_level, has_tab_within, in_flow, innermost, innermost_column, inr, is_adjacent, is_at_comment_or_end, is_blank, is_break, is_deep_enough, is_empty, is_gap, is_indented, is_indented_by_spaces, is_no_comment, is_one_of, is_renewed, is_white, is_whole_plain, last_line, leading, least_column, lexed, map, nat_le, nat_tests, not, on_held, other, plain_lines_fit, plain_scalar, plain_value, position_after, position_append, push, read, read_as, refl, scans_end, seen, stops, subst, sym, true, unroll_non_block_indents, went, whole_plain, without_open, ℕ, ◌&&◌, ◌++◌, ◌==◌, ◌||◌, ◌∙◌, ◌∷◌, ◌≡◌, ◌≤◌, ◌⊎◌}
+use Rattle.proof_scanner.proofs.Common.{Arrives, Bool, Context, Entry, FlowLevel, HasNoTabs, Held, Holds, IsPiece, IsPlainRead, Key, Levels, List, None, Ok, Option, Plain, Position, ScannerState, Site, Some, Stands, Style, Tok, [], after_plain, allow_key, and_parts, ap, arith, awaits_past, before_by, before_past, begins_plain, begins_separation, begins_solid, begins_white, collection_column, collection_of, comes_plain, context, ends_with_content, eqb-true, false, fetch_plain_scalar, has_break, has_dash_before_flow, has_no_nul, has_open_level, in_flow, innermost, innermost_column, is_adjacent, is_blank, is_break, is_deep_enough, is_empty, is_gap, is_indented, is_no_comment, is_one_of, is_renewed, is_white, is_whole_plain, leading, least_column, lexed, map, nat_tests, not, on_held, other, plain_lines_fit, plain_scalar, plain_value, position_after, position_append, push, read, read_as, refl, scans_end, seen, subst, sym, true, unroll_non_block_indents, went, whole_plain, without_open, ℕ, ◌&&◌, ◌++◌, ◌==◌, ◌∙◌, ◌∷◌, ◌≡◌, ◌≤◌}
 use Rattle.defs_token.specs.Account.{Account as PieceAccount, is_in_flow}
 use Rattle.model_scanner.specs.Machine as machine
 use Rattle.model_scanner.specs.Plain.{plain}
@@ -10,7 +10,7 @@ use Rattle.proof_scanner.proofs.Cut.Positions.{not_before_after}
 use Rattle.proof_scanner.proofs.Cut.Saved.{saved_keys, saved_is}
 use Rattle.proof_scanner.proofs.Cut.Nodes.{IsDeep, less_or}
 use Rattle.proof_scanner.proofs.Sound.Sides.{with_entries, ArrivesBy}
-use Rattle.proof_scanner.proofs.Sound.StreamEnds.{same_flow, same_levels}
+use Rattle.proof_scanner.proofs.Sound.StreamEnds.{same_flow}
 use Rattle.proof_scanner.proofs.Sound.Passed.{same_has_break}
 use Rattle.proof_scanner.proofs.Sound.QuotedEnds.{ends_in_line, on_one_line}
 use Rattle.proof_scanner.proofs.Sound.PlainLines.{PlainFits, plain_fits}
@@ -90,12 +90,9 @@ module _ (text : List ℕ) (t : ScannerState) (a : Arrives text t) (deep : IsDee
   abbrev pub ctx : Context
   ctx = record { flow = in_flow t.held; indent = gone.indent }
 
-  pub some_here : is_empty t.rest ≡ false
-  some_here = grind arith
-
   module _ (x : machine.Read Plain) (scanned : plain ctx t.rest t.held.position ≡ Ok x) where
     pub q : PlainAs ctx t.held.position t.rest x
-    q = plain_as ctx t.held.position t.rest x a.is_clean (solid_text t.rest some_here a.is_solid) (less_or (in_flow t.held) gone.indent t.held.position.col (omega (arith, deep, closed.not_deeper))) scanned
+    q = plain_as ctx t.held.position t.rest x a.is_clean (solid_text t.rest (grind arith) a.is_solid) (less_or (in_flow t.held) gone.indent t.held.position.col (omega (arith, deep, closed.not_deeper))) scanned
 
     abbrev tok : Tok
     tok = Tok.scalar Style.plain x.value.text
@@ -137,27 +134,18 @@ module _ (text : List ℕ) (t : ScannerState) (a : Arrives text t) (deep : IsDee
       abbrev fl : Bool
       fl = not (is_empty fs)
 
-      flow_is : in_flow t.held ≡ fl
-      flow_is = ap (λ f. not (is_empty f)) flow
-
       -- the account with which the piece is looked at
       abbrev own : PieceAccount
       own = seen (with_entries r.site r.line es) at r.separation
 
       own_flow : is_in_flow own ≡ in_flow t.held
-      own_flow = ap not (same_levels es ∙ sym (same_flow t.held.key_allowed (is_renewed r.site.before r.separation) fs ks es r.are_entries)) ∙ sym flow_is
-
-      blocks_then : at.blocks ≡ columns gone.indent gone.indents
-      blocks_then = r.blocks_are ∙ closed.same_columns
+      own_flow = ap not ((grind arith) ∙ sym (same_flow t.held.key_allowed (is_renewed r.site.before r.separation) fs ks es r.are_entries)) ∙ sym (ap (λ f. not (is_empty f)) flow)
 
       least_here : least_column at.blocks true ≡ gone.indent
-      least_here = ap (λ bs. least_column bs true) blocks_then ∙ closed.is_least.1
-
-      begins : begins_plain (is_in_flow own) (is_adjacent own.before) own.position.col (q.piece ++ next_of d) ≡ true
-      begins = ap (begins_plain (is_in_flow own) (is_adjacent own.before) own.position.col) (sym q.cut) ∙ (ap (λ f. begins_plain f (is_adjacent own.before) own.position.col t.rest) own_flow ∙ begins_as_read ctx (is_adjacent own.before) t.rest t.held.position x (grind arith) scanned)
+      least_here = ap (λ bs. least_column bs true) (r.blocks_are ∙ closed.same_columns) ∙ closed.is_least.1
 
       piece_is : IsPiece own q.piece (next_of d) None t.held.position tok
-      piece_is = ((begins, ap (λ f. is_whole_plain f (collection_column own) q.piece (next_of d)) own_flow ∙ (ap (λ c. is_whole_plain (in_flow t.held) c q.piece (next_of d)) (same_innermost at.blocks ∙ (ap innermost blocks_then ∙ sym closed.is_least.0)) ∙ q.whole), q.value_is), refl)
+      piece_is = (((ap (begins_plain (is_in_flow own) (is_adjacent own.before) own.position.col) (sym q.cut) ∙ (ap (λ f. begins_plain f (is_adjacent own.before) own.position.col t.rest) own_flow ∙ begins_as_read ctx (is_adjacent own.before) t.rest t.held.position x (grind arith) scanned)), ap (λ f. is_whole_plain f (collection_column own) q.piece (next_of d)) own_flow ∙ (ap (λ c. is_whole_plain (in_flow t.held) c q.piece (next_of d)) (same_innermost at.blocks ∙ (ap innermost (r.blocks_are ∙ closed.same_columns) ∙ sym closed.is_least.0)) ∙ q.whole), q.value_is), refl)
 
       deep_by : (f : Bool) → f ≡ in_flow t.held → is_deep_enough f tok at ≡ true
       deep_by a h = grind (arith, nat_tests, eqb-true, q, least_here)
@@ -171,7 +159,7 @@ module _ (text : List ℕ) (t : ScannerState) (a : Arrives text t) (deep : IsDee
           let filled = gap_is_separation q.gap x.rest q.white in
           let awaits_then : awaits_past fl tok at.blocks at.awaits (next_of d) ≡ has_open_level gone.indents = none_awaits fl at.blocks at.awaits (next_of d) ∙ sym closed.none_open in
           let further : plain_lines_fit (least_column at.blocks true) q.piece ≡ true = ap (λ n. plain_lines_fit n q.piece) least_here ∙ q.fits.lines in
-          assumption (q, closed, solid, far, filled, blocks_then, awaits_then, no_tabs, piece_is, deep_by fl (sym flow_is), further, (ap not (ap (λ y. y && has_dash_before_flow q.piece (next_of d)) (sym flow_is) ∙ q.fits.dash)), allowed_by fl, one_line_of)
+          assumption (q, closed, solid, far, filled, (r.blocks_are ∙ closed.same_columns), awaits_then, no_tabs, piece_is, deep_by fl (sym (ap (λ f. not (is_empty f)) flow)), further, (ap not (ap (λ y. y && has_dash_before_flow q.piece (next_of d)) (sym (ap (λ f. not (is_empty f)) flow)) ∙ q.fits.dash)), allowed_by fl, one_line_of)
 
     abbrev pub scalar_held : Held
     scalar_held = record t.held {

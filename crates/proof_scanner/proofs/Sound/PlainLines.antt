@@ -1,10 +1,10 @@
 -- The scan of a plain scalar refuses TABs that indent its further lines, and in flow a dash before a flow indicator.
-use Rattle.proof_scanner.proofs.Common.{At, Bool, Context, Err, Fault, Folded, List, Ok, Plain, PlainState, Position, Read, Result, Stop, Turn, [], after_first, and_false, and_parts, and_then, ap, append_assoc, append_cancel_right, arith, at_break, at_char, at_dash, at_gap, at_marker, begins_flow, begins_solid, can_be_plain, ended, eqb-true, fail, false, first, has_break, has_dash_before_flow, has_no_break, has_tab_within, if◌then◌else◌, inl, inr, is_at_comment_or_end, is_before_line_feed, is_blanks, is_cr_lf, is_gap, is_one_of, is_white, joined, last_line, leading, lines_have_no_tab, nat_lt, nat_tests, not, not-true, nothing, on, or_true, past, past_break, plain_from, plain_lines_fit, put_first, refl, run, same_blank, same_break, slice_index, split, split_by, starts, stop, subst, suc, sym, tabs, true, turn, turn_in, turned, with_blank, with_break, ℕ, ◌&&◌, ◌++◌, ◌+◌, ◌-◌, ◌==◌, ◌||◌, ◌∙◌, ◌∷◌, ◌≡◌, ◌≤◌, ◌⊎◌}
+use Rattle.proof_scanner.proofs.Common.{At, Bool, Context, Err, Fault, List, Ok, Plain, PlainState, Position, Read, Result, Stop, Turn, [], after_first, and_false, and_parts, and_then, ap, append_assoc, append_cancel_right, arith, at_break, at_char, at_dash, at_gap, begins_flow, begins_solid, can_be_plain, ended, eqb-true, fail, false, first, has_break, has_dash_before_flow, has_tab_within, if◌then◌else◌, inl, inr, is_at_comment_or_end, is_before_line_feed, is_blanks, is_cr_lf, is_gap, joined, last_line, leading, lines_have_no_tab, nat_lt, nat_tests, not, not-true, nothing, on, or_true, past, plain_from, plain_lines_fit, put_first, refl, run, same_blank, same_break, slice_index, split, split_by, starts, stop, subst, suc, sym, tabs, true, turn, turn_in, turned, with_blank, ℕ, ◌&&◌, ◌++◌, ◌+◌, ◌-◌, ◌==◌, ◌||◌, ◌∙◌, ◌∷◌, ◌≡◌, ◌≤◌, ◌⊎◌}
 use Rattle.defs_text.specs.Classes as classes
 use Rattle.yaml_chars.specs.Class.{is_break, is_blank}
 use Rattle.yaml_chars.specs.Class as model_classes
 use Rattle.yaml_tokens.specs.declared.problem.Problem.TheVariants as problem
-use Rattle.model_scanner.specs.Plain.{Mode, inside, between, is_shallow, goes_on, begun, plain}
+use Rattle.model_scanner.specs.Plain.{Mode, inside, between, goes_on, begun, plain}
 use Rattle.proof_scanner.proofs.Sound.LastLines.{last_first, last_whole}
 use Rattle.proof_scanner.proofs.Sound.TabsWithin.{take_none, none_before, blank_more}
 use Rattle.proof_scanner.proofs.Cut.Pieces.Plains.{same_flow_start}
@@ -100,7 +100,7 @@ module _ (ctx : Context) (start : Position) (c : ℕ) (a : List ℕ) where
         (ctx.flow && is_apart m && (c == 45) && begins_flow a) ≡ false → is_apart t.mode ≡ (is_break c || is_blank c) → Goes m s (on t)
 
   break_goes : (m : Mode) (s : PlainState) → is_break c ≡ true → Goes m s (on (at_break c a s))
-  break_goes m s e = by (is_cr_lf c a) refl
+  break_goes m s e = grind (arith, goes, x, white, margin, feed_breaks, white_is_no_dash, is_apart, between, break_leads)
     where
       x : Spot
       x = spot_of m s.folded.leading s.position.col
@@ -110,9 +110,6 @@ module _ (ctx : Context) (start : Position) (c : ℕ) (a : List ℕ) where
 
       margin : past_spot ctx.indent x c ≡ at 0
       margin = rw e refl
-
-      by : (feeds : Bool) → is_cr_lf c a ≡ feeds → Goes m s (on (if feeds then record { mode = between; position = past s.position; folded = s.folded } else record { mode = between; position = past_break s.position; folded = with_break s.folded }))
-      by b f = grind (arith, goes, x, white, margin, feed_breaks, white_is_no_dash, is_apart, between, break_leads)
 
   module _ (breaks : is_break c ≡ false) where
     -- a blank that is no TAB in the indentation
@@ -153,10 +150,7 @@ module _ (ctx : Context) (start : Position) (c : ℕ) (a : List ℕ) where
 
       -- the first one after a gap
       char_between : (s : PlainState) → (ctx.flow && true && (c == 45) && begins_flow a) ≡ false → Goes between s (on (at_char c s.position (joined s.folded)))
-      char_between s d = goes _ refl (free s.folded.leading) (inl (sym (no_spot (spot_of between s.folded.leading s.position.col) (free s.folded.leading)))) d (rw (breaks, solid) refl)
-        where
-          free : (l : Bool) → may_go (spot_of between l s.position.col) c ≡ true
-          free a = grind arith
+      char_between s d = goes _ refl (grind arith) (inl (sym (no_spot (spot_of between s.folded.leading s.position.col) (grind arith)))) d (rw (breaks, solid) refl)
 
   -- ---- a turn
 
@@ -380,13 +374,6 @@ of_passed ctx p text piece gap rest cut deep w =
       clear = λ white breaks. broken_gap ctx.indent after.0 gap rest white breaks after.1;
     }
 
--- from the first character on
-run_passed : (ctx : Context) (p : Position) (c : ℕ) (a : List ℕ) (t : Stop PlainState) → is_break c ≡ false → is_blank c ≡ false → run (turn ctx p) (c ∷ a) (record { mode = first; position = p; folded = nothing }) ≡ Ok t →
-    Passed ctx.indent ctx.flow in_text false (c ∷ a) t.rest
-run_passed ctx p c a t breaks solid h =
-    let s : PlainState = at_char c p (joined nothing) in
-    one_more ctx p c a t.rest in_text false s refl (inl (sym (no_spot ctx p c a breaks solid in_text refl))) (not_apart ctx.flow (c == 45) (begins_flow a)) (rw (breaks, solid) refl) (went ctx p a s refl t h)
-
 pub plain_fits : (ctx : Context) (p : Position) (text piece gap : List ℕ) (r : Read Plain) → begins_solid text ≡ true → text ≡ piece ++ (gap ++ r.rest) → plain ctx text p ≡ Ok r → PlainFits ctx p piece gap r.rest
 unfolding plain
 plain_fits ctx p [] piece gap r begins cut e = absurd (cc begins)
@@ -398,7 +385,7 @@ plain_fits ctx p (c ∷ a) piece gap r begins cut e = by (starts ctx (c ∷ a) p
     ran : (x : Result (Stop PlainState) Fault) → run (turn ctx p) (c ∷ a) (record { mode = first; position = p; folded = nothing }) ≡ x → ended x ≡ Ok r → Passed ctx.indent ctx.flow in_text false (c ∷ a) r.rest
     ran (Ok t) f h =
         let same : record { rest = t.rest; position = t.state.position; value = record { text = t.state.folded.text; leading = t.state.folded.leading } } ≡ r = cc in
-        subst (λ (q : Read Plain). Passed ctx.indent ctx.flow in_text false (c ∷ a) q.rest) same (run_passed ctx p c a t solid.0 solid.1 f)
+        subst (λ (q : Read Plain). Passed ctx.indent ctx.flow in_text false (c ∷ a) q.rest) same (let s : PlainState = at_char c p (joined nothing) in one_more ctx p c a t.rest in_text false s refl (inl (sym (no_spot ctx p c a solid.0 solid.1 in_text refl))) (not_apart ctx.flow (c == 45) (begins_flow a)) (rw (solid.0, solid.1) refl) (went ctx p a s refl t f))
     ran (Err g) f h = absurd (cc h)
 
     by : (x : Result (Unit {0}) Fault) → starts ctx (c ∷ a) p ≡ x → and_then x (λ _. plain_from ctx p (c ∷ a) (record { mode = first; position = p; folded = nothing })) ≡ Ok r → PlainFits ctx p piece gap r.rest

@@ -3,7 +3,7 @@ use Rattle.proof_scanner.proofs.Common.{Arrives, Bool, Entry, FlowLevel, Holds, 
 use Rattle.model_scanner.specs.Tag as tags
 use Rattle.proof_scanner.proofs.Cut.Nodes.{IsDeep}
 use Rattle.proof_scanner.proofs.Cut.Saved.{saved_is}
-use Rattle.proof_scanner.proofs.Sound.StreamEnds.{same_flow, same_levels}
+use Rattle.proof_scanner.proofs.Sound.StreamEnds.{same_flow}
 use Rattle.proof_scanner.proofs.Sound.Standing.{deep_for, awaits_kept}
 use Rattle.proof_scanner.proofs.Sound.Sides.{with_entries, ArrivesBy}
 use Rattle.proof_scanner.proofs.Sound.ReadNodes.{Read, site_of, allowed_past, IsRead, site_then, node_read, state_after, deep_there}
@@ -36,7 +36,7 @@ property_is_read text t tok rest end r k deep fs ks es flow a =
     let x : Site = site_of t fs a.site in
     let reads = reads_before_none t (state_after t None (property_read t tok rest end r)) (site_then t fs a.site (property_read t tok rest end r)) (r.first ∷ r.more) rest [] refl r.cut refl refl refl refl r.end_is refl k.before
     a.blocks_are (k.awaits (not (is_empty fs)) x.blocks x.awaits rest ∙ a.awaits_is) a.are_levels a.was_adjacent (refl, refl, refl) in
-    let piece_is = r.is_piece (seen (with_entries a.site a.line es) x a.separation) None refl (ap not (same_levels es ∙ sym (same_flow t.held.key_allowed (is_renewed a.site.before a.separation) fs ks es a.are_entries) ∙ sym (ap is_empty flow))) in
+    let piece_is = r.is_piece (seen (with_entries a.site a.line es) x a.separation) None refl (ap not ((grind arith) ∙ sym (same_flow t.held.key_allowed (is_renewed a.site.before a.separation) fs ks es a.are_entries) ∙ sym (ap is_empty flow))) in
     let allowed : false ≡ allowed_past None (not (is_empty fs)) (previous_by tok) [] = subst (λ b. false ≡ allowed_past None (not (is_empty fs)) b []) (sym k.before) (grind arith) in
     let quiet : begins_free_line (previous_by tok) [] ≡ false = subst (λ b. begins_free_line b [] ≡ false) (sym k.before) refl in
     let shown : (y : Site) → shown_position y (r.first ∷ r.more) tok rest ≡ y.position = λ y. k.shown y (r.first ∷ r.more) rest in

@@ -1,5 +1,5 @@
 -- The function of the model that reads a `?`: what holds where it begins holds between two fetches after it.
-use Rattle.proof_scanner.proofs.Common.{IsLeading, AreLevels, Arrives, At, Bool, Entry, Fault, FlowLevel, HasNoTabs, Held, Holds, Indent, IsEntryOf, IsReadOn, Key, Keyed, List, None, Ok, Option, Position, Result, ScannerState, Site, Some, Stands, Tok, Token, [], allow_key, another, ap, arith, before_by, begin_key, begins_line, begins_with_space_or_break, both_hold, chained, check_key_space, checked, columns, either, ends_at, entries_past, false, fetch_key, gap, gives_question, has_break, has_open_level, has_tab_before_piece, has_tab_within, if◌then◌else◌, in_flow, inl, inr, is_at_gap, is_break, is_deeper, is_empty, is_in_column, is_keyed, is_one_of, is_renewed, is_separation, keyed, last_line, line_past, not, not-false, not_ended, on_held, opened, or_parts, or_true, pair_past, past, peek, placed, position_after, push, put, refl, remove_implicit_key, roll_indent, settled, skip_indicator, skip_yaml_whitespace, subst, suc, sym, take, takes_pair, token, tried, true, went, with_top, zero, ℕ, ◌&&◌, ◌++◌, ◌==◌, ◌>>=◌, ◌||◌, ◌∙◌, ◌∷◌, ◌≡◌, ◌≤◌, ◌⊎◌, eqb-true, nat_tests}
+use Rattle.proof_scanner.proofs.Common.{IsLeading, AreLevels, Arrives, At, Entry, Fault, FlowLevel, HasNoTabs, Held, Holds, Indent, IsReadOn, Key, Keyed, List, None, Ok, Option, Position, Result, ScannerState, Site, Stands, Tok, Token, [], allow_key, another, ap, arith, before_by, begin_key, begins_line, begins_with_space_or_break, both_hold, chained, check_key_space, checked, columns, either, ends_at, false, fetch_key, gap, gives_question, has_break, has_open_level, has_tab_before_piece, if◌then◌else◌, in_flow, inl, inr, is_at_gap, is_break, is_deeper, is_empty, is_in_column, is_one_of, is_separation, keyed, line_past, not, not-false, not_ended, on_held, opened, or_parts, or_true, pair_past, past, peek, placed, position_after, push, put, refl, remove_implicit_key, roll_indent, settled, skip_indicator, skip_yaml_whitespace, subst, suc, sym, take, takes_pair, token, tried, true, went, with_top, zero, ℕ, ◌&&◌, ◌++◌, ◌==◌, ◌>>=◌, ◌||◌, ◌∙◌, ◌∷◌, ◌≡◌, ◌≤◌, ◌⊎◌, eqb-true, nat_tests}
 use Rattle.yaml_tokens.specs.declared.problem.Problem.TheVariants as problem
 use Rattle.model_scanner.specs.declared.level.FlowLevel.TheVariants.{Entry as InEntry}
 use Rattle.model_scanner.specs.State.{after}
@@ -10,8 +10,7 @@ use Rattle.proof_scanner.proofs.Sound.Arrivals.{first_not_right}
 use Rattle.proof_scanner.proofs.Sound.Around.{tokens_before}
 use Rattle.proof_scanner.proofs.Sound.EntryPieces.{low_enough, goes_inside}
 use Rattle.proof_scanner.proofs.Sound.Indicated.{past_one}
-use Rattle.proof_scanner.proofs.Sound.NodeTokens.{not_keyed}
-use Rattle.proof_scanner.proofs.Sound.OutsidePieces.{read_outside, line_free, none_open, started_tokens, begun_after, with_start}
+use Rattle.proof_scanner.proofs.Sound.OutsidePieces.{read_outside, line_free, started_tokens, begun_after, with_start}
 use Rattle.proof_scanner.proofs.Sound.Rolled.{RollsTo, rolls_to, top_closed}
 use Rattle.proof_scanner.proofs.Sound.Sides.{ArrivesBy, ArrivesOutside, ArrivesInside, arrives_side}
 use Rattle.proof_scanner.proofs.Sound.WhiteSpaces.{white_of, past_white, white_cut, no_tab_before, no_tab_in_last, past_white_space, white_exactly, white_first}
@@ -130,17 +129,14 @@ question_outside : (text more : List ℕ) (t : ScannerState) (a : ArrivesBy text
 question_outside text more t a flow keys e gap allowed deep =
     subst (λ r. Holds (Stands text) (from r (roll_indent t.held.position.col None Tok.block_mapping_start t.held.position t.held))) (sym e)
     (subst (λ h. Holds (Stands text) (from (63 ∷ more) h)) (sym r.is_held)
-    (question_read text more t.held.position (now (record t.held { indents = r.indents; indent = r.indent; tokens = with_start Tok.block_mapping_start t })) gap (λ begins apart fills.
+    (question_read text more t.held.position (record (record t.held { indents = r.indents; indent = r.indent; tokens = with_start Tok.block_mapping_start t }) { keys = with_top None (record t.held { indents = r.indents; indent = r.indent; tokens = with_start Tok.block_mapping_start t }).keys; key_allowed = not (in_flow (record t.held { indents = r.indents; indent = r.indent; tokens = with_start Tok.block_mapping_start t })); position = past (record t.held { indents = r.indents; indent = r.indent; tokens = with_start Tok.block_mapping_start t }).position; leading = false }) gap (λ begins apart fills.
     (question_stands text more t a flow keys e allowed begins apart fills r.indent r.indents r.columns_are r.are_levels (top_closed r.indents (r.is_top deep)).1))))
   where
     r : RollsTo t.held.position.col None (token t.held.position Tok.block_mapping_start) t.held (roll_indent t.held.position.col None Tok.block_mapping_start t.held.position t.held)
     r = rolls_to t.held.position.col None Tok.block_mapping_start t.held.position t.held (ap (λ fs. not (is_empty fs)) flow) a.are_levels (first_not_right t.held.position.col t.held.indent t.held.indents a.are_levels deep)
 
-    now : Held → Held
-    now h = record h { keys = with_top None h.keys; key_allowed = not (in_flow h); position = past h.position; leading = false }
-
     from : List ℕ → Held → Result ScannerState Fault
-    from l h = skip_yaml_whitespace (record { rest = after l; held = now h }) >>= λ w. check_key_space w >>= λ x. Ok (on_held (push t.held.position Tok.key) x)
+    from l h = skip_yaml_whitespace (record { rest = after l; held = (record h { keys = with_top None h.keys; key_allowed = not (in_flow h); position = past h.position; leading = false }) }) >>= λ w. check_key_space w >>= λ x. Ok (on_held (push t.held.position Tok.key) x)
 
 -- ---- in flow
 
@@ -205,7 +201,7 @@ key_keeps text more t a e gap deep =
   where
     by : ArrivesOutside text t ⊎ ArrivesInside text t → (u : Held) → Begins t.held u → Holds (Stands text) (key_from t (record t { held = record u { keys = with_top None u.keys } }))
     by (inl o) u (outside out allowed d) =
-        let none : o.key ≡ None = none_open t.held.key_allowed t.rest o.key o.here.line_here allowed (ap is_empty e) o.here.line_is in
+        let none : o.key ≡ None = (grind arith) in
         subst (λ h. Holds (Stands text) (key_from t (record t { held = record h { keys = with_top None h.keys } }))) (sym d)
         (question_outside text more t (subst (λ k. ArrivesBy text t [] (k ∷ []) []) none o.here) o.flow_is (o.keys_are ∙ ap (λ k. k ∷ []) none) e gap allowed deep)
     by (inl o) u (inside in_it d) = absurd (cc (in_it, ap (λ fs. not (is_empty fs)) o.flow_is))

@@ -1,5 +1,5 @@
 -- Quoted scalars: what holds between two fetches holds after them.
-use Rattle.proof_scanner.proofs.Common.{list_all, is_some, AreLevels, Arrives, Bool, Context, Entry, Fault, FlowLevel, HasNoTabs, Held, Holds, Indent, IsAdjacent, IsPiece, IsQuotedRead, IsReadOn, Key, List, None, Ok, Option, Position, Quotes, Result, ScannerState, Site, Some, Stands, Tok, [], act_of, adjacent_here, after_separation, allow_key, and_parts, ap, append_assoc, append_cancel_right, are_single, arith, awaits_past, before_by, before_past, begins_free_line, begins_line, begins_with, begun_by, between, both_hold, chained, check_after_quoted, columns, context, element_of, ends_before, false, fetch_flow_scalar, further_lines_stand, gives_node, go_on, has_break, has_no_nul, has_open_level, has_tab_within, in_flow, inl, inr, is_at_comment_or_end, is_break, is_empty, is_indented_by_spaces, is_nul, is_separation, last_line, least_column, least_for, lexed, may_precede, nat_le, no_nul_after, not, not-true, on_held, position_after, position_append, previous_by, push, quote_of, quoted, quoted_lines_fit, quoted_may_end, quoted_scalar, quoted_style, read, read_as, refl, seen, shown_position, skip_to_next_token, subst, sym, true, unled, value_of, weakened, went, ℕ, ◌&&◌, ◌++◌, ◌-◌, ◌>>=◌, ◌||◌, ◌∙◌, ◌∷◌, ◌≡◌, ◌≤◌, eqb-true, nat_tests}
+use Rattle.proof_scanner.proofs.Common.{list_all, is_some, Arrives, Bool, Context, Entry, Fault, FlowLevel, HasNoTabs, Held, Holds, IsPiece, IsQuotedRead, Key, List, None, Ok, Option, Position, Quotes, Result, ScannerState, Site, Some, Stands, Tok, [], act_of, adjacent_here, allow_key, and_parts, ap, append_assoc, append_cancel_right, are_single, arith, awaits_past, begins_with, begun_by, between, both_hold, chained, check_after_quoted, columns, context, element_of, ends_before, false, fetch_flow_scalar, further_lines_stand, gives_node, go_on, has_break, has_no_nul, has_open_level, in_flow, inr, is_break, is_empty, is_nul, is_separation, least_column, least_for, lexed, may_precede, no_nul_after, not, not-true, on_held, position_after, position_append, previous_by, push, quote_of, quoted, quoted_lines_fit, quoted_may_end, quoted_scalar, quoted_style, read, read_as, refl, shown_position, skip_to_next_token, subst, sym, true, unled, value_of, weakened, went, ℕ, ◌&&◌, ◌++◌, ◌-◌, ◌>>=◌, ◌||◌, ◌∙◌, ◌∷◌, ◌≡◌, ◌≤◌, eqb-true, nat_tests}
 use Rattle.defs_token.specs.Account.{Account as PieceAccount}
 use Rattle.model_scanner.specs.Machine as machine
 use Rattle.proof_lexers.specs.PlainEnds as plains
@@ -12,15 +12,15 @@ use Rattle.proof_scanner.proofs.Cut.Scalars.{adjacent_quoted}
 use Rattle.proof_scanner.proofs.Cut.Nodes.{IsDeep}
 use Rattle.proof_lexers.proofs.Bridges.{or_false}
 use Rattle.proof_scanner.proofs.Sound.Standing.{deep_for}
-use Rattle.proof_scanner.proofs.Sound.Sides.{with_entries, ArrivesBy}
-use Rattle.proof_scanner.proofs.Sound.Arrivals.{unbroken, deep_enough}
+use Rattle.proof_scanner.proofs.Sound.Sides.{ArrivesBy}
+use Rattle.proof_scanner.proofs.Sound.Arrivals.{unbroken}
 use Rattle.proof_scanner.proofs.Sound.LastLines.{break_append}
 use Rattle.proof_scanner.proofs.Sound.Skips.{IsAt, IsLeast, Cleared, skip_clears}
 use Rattle.proof_scanner.proofs.Sound.Passed.{Exact, exact, same_has_break, least_is}
 use Rattle.proof_scanner.proofs.Sound.QuotedEnds.{ends_in_line, on_one_line, Checked, quoted_checked}
 use Rattle.proof_scanner.proofs.Sound.QuotedBreaks.{same_limit}
 use Rattle.proof_scanner.proofs.Refusals.QuotedLines.{body_read}
-use Rattle.proof_scanner.proofs.Sound.ReadNodes.{Read, next_of, state_after, site_of, site_then, allowed_past, IsRead, node_read}
+use Rattle.proof_scanner.proofs.Sound.ReadNodes.{Read, next_of, state_after, site_of, site_then, IsRead, node_read}
 use Rattle.proof_scanner.proofs.Sound.Rolled.{some_levels}
 
 -- What a function has read of a node where a piece begins, and what it leaves.
@@ -87,9 +87,6 @@ piece_is a b d e g is i = grind (arith, not-true, begins_with)
 
 -- ---- TABs after it
 
-pub empty_end : (r : List ℕ) → is_empty r ≡ true → is_at_comment_or_end r ≡ true
-empty_end a h = grind arith
-
 -- ---- the step
 
 module _ (text : List ℕ) (quotes : Quotes) (t : ScannerState) (a : Arrives text t) (deep : IsDeep t.held) (x : machine.Read (List ℕ)) (q : QuotedAs (are_single quotes) (context t.held) t.held.position t.rest x) where
@@ -125,12 +122,9 @@ module _ (text : List ℕ) (quotes : Quotes) (t : ScannerState) (a : Arrives tex
     none : has_break spaces ≡ true → ⊥
     none h = cc (h, no_break)
 
-    pub start_least : IsLeast quoted_scalar least v.held
-    start_least = subst (λ h. IsLeast quoted_scalar least h) (sym c.spaces.is_held) (least_is (columns t.held.indent t.held.indents) (has_open_level t.held.indents) now refl refl a.are_levels)
-
     skipped : Holds (Cleared quoted_scalar least spaces v.rest) (skip_to_next_token v)
     unfolding skip_to_next_token
-    skipped = skip_clears quoted_scalar least v.rest between spaces v.held start_least (inr (record { leading_is = λ i. ap (λ h. h.leading) c.spaces.is_held ∙ sym no_break; col_is = λ b. absurd (none b); spaced = λ b. absurd (none b) }))
+    skipped = skip_clears quoted_scalar least v.rest between spaces v.held (subst (λ h. IsLeast quoted_scalar least h) (sym c.spaces.is_held) (least_is (columns t.held.indent t.held.indents) (has_open_level t.held.indents) now refl refl a.are_levels)) (inr (record { leading_is = λ i. ap (λ h. h.leading) c.spaces.is_held ∙ sym no_break; col_is = λ b. absurd (none b); spaced = λ b. absurd (none b) }))
 
     module _ (w : ScannerState) (b : Exact v w) (z : Cleared quoted_scalar least spaces v.rest w) where
       abbrev gap : List ℕ
@@ -142,20 +136,14 @@ module _ (text : List ℕ) (quotes : Quotes) (t : ScannerState) (a : Arrives tex
       abbrev allowed_then : Bool
       allowed_then = (not (in_flow t.held) && plains.has_break b.separation) || false
 
-      cut : x.rest ≡ gap ++ w.rest
-      cut = c.spaces.is_rest ∙ (sym (append_assoc c.spaces.blanks c.spaces.comment v.rest) ∙ (ap (λ r. spaces ++ r) b.cut ∙ sym (append_assoc spaces b.separation w.rest)))
-
       held_is : w.held ≡ record closed.held { position = end; leading = b.is_leading; key_allowed = allowed_then }
       held_is = grind (arith, nat_tests, eqb-true, position_append)
-
-      is_filled : is_separation false gap w.rest ≡ true
-      is_filled = separation_append false spaces b.separation w.rest (subst (λ r. is_separation false spaces r ≡ true) b.cut c.spaces.is_filled) b.is_filled
 
       at_token : is_empty w.rest ≡ false → IsAt quoted_scalar least gap w.held
       at_token some = subst (λ g. IsAt quoted_scalar least (spaces ++ g) w.held) (append_cancel_right z.passed b.separation w.rest (sym z.cut ∙ b.cut)) (z.clear some)
 
       end_is : end ≡ position_after (position_after t.held.position piece (gap ++ w.rest)) gap w.rest
-      end_is = ap (λ p. position_after p gap w.rest) (q.end_is ∙ ap (λ r. position_after t.held.position piece r) cut)
+      end_is = ap (λ p. position_after p gap w.rest) (q.end_is ∙ ap (λ r. position_after t.held.position piece r) (c.spaces.is_rest ∙ (sym (append_assoc c.spaces.blanks c.spaces.comment v.rest) ∙ (ap (λ r. spaces ++ r) b.cut ∙ sym (append_assoc spaces b.separation w.rest)))))
 
       abbrev d : Read
       d = record {
@@ -170,9 +158,6 @@ module _ (text : List ℕ) (quotes : Quotes) (t : ScannerState) (a : Arrives tex
         allowed = allowed_then;
         adjacent = end.index;
       }
-
-      allowed_by : (fl : Bool) → ((not fl && plains.has_break b.separation) || false) ≡ allowed_past None fl quoted_scalar gap
-      allowed_by a = grind (arith, or_false, (break_append spaces b.separation ∙ (ap (λ y. y || has_break b.separation) no_break ∙ sym (same_has_break b.separation))))
 
       leads : is_empty t.held.indents ≡ false → is_empty w.rest ≡ false → b.is_leading ≡ has_break gap
       leads i some = sym (ap (λ h. h.leading) held_is) ∙ (at_token some).leading_is (ap (λ h. is_empty h.indents) held_is ∙ i)
@@ -192,20 +177,11 @@ module _ (text : List ℕ) (quotes : Quotes) (t : ScannerState) (a : Arrives tex
         abbrev fl : Bool
         fl = not (is_empty fs)
 
-        flow_is : in_flow t.held ≡ fl
-        flow_is = ap (λ f. not (is_empty f)) flow
-
-        least_here : least_column at.blocks at.awaits ≡ least
-        least_here = ap (λ bs. least_column bs at.awaits) r.blocks_are ∙ ap (λ y. least_column (columns t.held.indent t.held.indents) y) r.awaits_is
-
-        awaits_then : awaits_past fl tok at.blocks at.awaits (next_of d) ≡ at.awaits
-        awaits_then = k.awaits fl at.blocks at.awaits (next_of d)
-
         no_tabs : HasNoTabs (site_then t fs r.site d) gap w.rest
-        no_tabs = grind (arith, nat_tests, eqb-true, empty_end, k, or_false, awaits_then, least_here, at_token)
+        no_tabs = grind (arith, nat_tests, eqb-true, k, or_false, (k.awaits fl at.blocks at.awaits (next_of d)), (ap (λ bs. least_column bs at.awaits) r.blocks_are ∙ ap (λ y. least_column (columns t.held.indent t.held.indents) y) r.awaits_is), at_token)
 
         is_read : IsRead t None fs r.site r.line es r.separation d
-        is_read = grind (arith, nat_tests, eqb-true, cut, is_filled, end_is, awaits_then, no_tabs, k, leads, some_levels, adjacent_quoted, piece_is, deep_for, least_here, deep_enough, flow_is, allowed_by, one_line_of)
+        is_read = grind (arith, nat_tests, eqb-true, (c.spaces.is_rest ∙ (sym (append_assoc c.spaces.blanks c.spaces.comment v.rest) ∙ (ap (λ r. spaces ++ r) b.cut ∙ sym (append_assoc spaces b.separation w.rest)))), (separation_append false spaces b.separation w.rest (subst (λ r. is_separation false spaces r ≡ true) b.cut c.spaces.is_filled) b.is_filled), end_is, (k.awaits fl at.blocks at.awaits (next_of d)), no_tabs, k, leads, some_levels, adjacent_quoted, piece_is, deep_for, (ap (λ bs. least_column bs at.awaits) r.blocks_are ∙ ap (λ y. least_column (columns t.held.indent t.held.indents) y) r.awaits_is), (ap (λ f. not (is_empty f)) flow), or_false, (break_append spaces b.separation ∙ (ap (λ y. y || has_break b.separation) no_break ∙ sym (same_has_break b.separation))), one_line_of)
 
       node : ReadNode text t (on_held (λ s. push t.held.position tok (adjacent_here s)) w)
       node = record {
@@ -226,16 +202,10 @@ pub quoted_node : (text : List ℕ) (quotes : Quotes) (t : ScannerState) (more :
 unfolding fetch_flow_scalar
 quoted_node text quotes t more e deep a =
     subst (λ h. Holds (ReadNode text t) (lexed (quoted (are_single quotes) (context (allow_key false h)) t.rest t.held.position) (allow_key false h) (after_body quotes t))) (sym (saved_is t.held))
-    (read (allow_key false (record t.held { keys = saved_keys t.held })) (quoted (are_single quotes) (context t.held) t.rest t.held.position) (after_body quotes t) (λ x i. by x (read_as x i)))
+    (read (allow_key false (record t.held { keys = saved_keys t.held })) (quoted (are_single quotes) (context t.held) t.rest t.held.position) (after_body quotes t) (λ x i. (chained (quoted_checked t.held.position (piece_of (are_single quotes) (read_as x i).body) (closed text quotes t a deep x (read_as x i)) (in_line (are_single quotes) (read_as x i).body) (rest_is_clean text quotes t a deep x (read_as x i)) (read_as x i).end_is) (λ v c. chained (both_hold (exact v) (skipped text quotes t a deep x (read_as x i) v c)) (λ w z. went (node text quotes t a deep x (read_as x i) v c w z.0 z.1))))))
   where
     read_as : (x : machine.Read (List ℕ)) → quoted (are_single quotes) (context t.held) t.rest t.held.position ≡ Ok x → QuotedAs (are_single quotes) (context t.held) t.held.position t.rest x
     read_as x i = subst (λ r. QuotedAs (are_single quotes) (context t.held) t.held.position r x) (sym e) (quoted_as quotes (context t.held) t.held.position more x ((and_parts (not (is_nul (quote_of (are_single quotes)))) (has_no_nul more) (subst (λ r. has_no_nul r ≡ true) e a.is_clean)).1) (subst (λ r. quoted (are_single quotes) (context t.held) r t.held.position ≡ Ok x) e i))
-
-    by : (x : machine.Read (List ℕ)) → QuotedAs (are_single quotes) (context t.held) t.held.position t.rest x → Holds (ReadNode text t) (after_body quotes t x.value (go_on x (allow_key false (record t.held { keys = saved_keys t.held }))))
-    by x q =
-        chained (quoted_checked t.held.position (piece_of (are_single quotes) q.body) (closed text quotes t a deep x q) (in_line (are_single quotes) q.body) (rest_is_clean text quotes t a deep x q) q.end_is) (λ v c.
-        chained (both_hold (exact v) (skipped text quotes t a deep x q v c)) (λ w z.
-        went (node text quotes t a deep x q v c w z.0 z.1)))
 
 pub quoted_keeps : (text : List ℕ) (quotes : Quotes) (t : ScannerState) (more : List ℕ) → t.rest ≡ quote_of (are_single quotes) ∷ more → IsDeep t.held → Arrives text t → Holds (Stands text) (fetch_flow_scalar quotes t)
 quoted_keeps text quotes t more e deep a = weakened (λ u n. subst (λ y. Stands text y) (sym n.is) (node_read text t None n.read deep a n.known)) (quoted_node text quotes t more e deep a)

@@ -69,11 +69,8 @@ open_goes_on col number t s d ds e no_end l right high = rw stays (record {
     here [] n a r = absurd (cc n)
     here (x ∷ es) n a r = let first : d.indent - 1 ≤ col = subst (λ b. IsNotRight (innermost (if b then (d.indent - 1) ∷ columns x.indent es else columns x.indent es)) col) a.0 r in omega (arith, first)
 
-    level_is : nat_lt d.indent (col + 1) ≡ false
-    level_is = let h = (subst (λ b. IsTopLevel b s.indent d.indent ds) no_end l.0).0 in grind (arith, nat_tests, h, high)
-
     not_deeper : false ≡ is_deeper col (columns s.indent s.indents)
-    not_deeper = sym (ap (is_deeper col) (ap (columns s.indent) e ∙ ap (λ b. if b then (s.indent - 1) ∷ columns d.indent ds else columns d.indent ds) no_end) ∙ (deeper_is col d.indent ds l.1 ∙ level_is))
+    not_deeper = sym (ap (is_deeper col) (ap (columns s.indent) e ∙ ap (λ b. if b then (s.indent - 1) ∷ columns d.indent ds else columns d.indent ds) no_end) ∙ (deeper_is col d.indent ds l.1 ∙ (let h = (subst (λ b. IsTopLevel b s.indent d.indent ds) no_end l.0).0 in grind (arith, nat_tests, h, high))))
 
 -- ---- a collection begins
 
@@ -134,10 +131,6 @@ opens_none s inside = rw inside refl
 -- where a collection is innermost, no value is awaited
 pub top_closed : (ds : List Indent) → top_needs_block_end ds ≡ true → (is_empty ds ≡ false) × (has_open_level ds ≡ false)
 top_closed a h = grind arith
-
--- where a collection begins or goes on, there is one
-pub opened_some : (col : ℕ) (bs : List ℕ) → is_empty (opened col bs) ≡ false
-opened_some col a = grind arith
 
 -- and so a level
 pub some_levels : (i : ℕ) (ds : List Indent) → is_empty (columns i ds) ≡ false → is_empty ds ≡ false

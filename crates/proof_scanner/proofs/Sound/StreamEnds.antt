@@ -1,10 +1,10 @@
 -- Where a text ends: no open key is one, and the stream's end and those of the block collections stand where the row has them.
 use Rattle.yaml_tokens.specs.declared.problem.Problem.TheVariants as problem
 use Rattle.std.proofs.lemmas.List.{append-nil}
-use Rattle.proof_scanner.proofs.Common.{Account, AreAround, AreCollections, AreEntries, AreLevels, Arrives, At, Bool, Completes, Entry, FlowLevel, Had, HasHad, Held, Holds, Indent, IsRead, IsTopLevel, Key, Levels, Line, List, MayChoose, Option, Position, ScannerState, Site, Step, Token, [], ap, append_assoc, arith, block_end, blocks, checked, chosen, cleared, colon_of, columns, ended_at, ends_at, ends_here, ends_with_stream, entries_by, entry_by, false, fetch_stream_end, has_required, have_no_key, if◌then◌else◌, in_flow, is_empty, is_keyed, is_renewed, is_required, is_separation, is_waiting, length, level_of, line_by, map, may_end, nat_lt, nat_tests, next_line, not, not-true, not_ended, outside_key, pop, position_after, put, refl, replicate, site_here, stream_end, stream_position, subst, suc, sym, takes_pair, tokens_at_end, tokens_up_to, top_key, tried, true, unroll_indent, unrolled, went, with_keys, ℕ, ◌&&◌, ◌++◌, ◌-◌, ◌<◌, ◌||◌, ◌∙◌, ◌∷◌, ◌≡◌, ◌≤◌, eqb-true}
+use Rattle.proof_scanner.proofs.Common.{Account, AreAround, AreCollections, AreEntries, AreLevels, Arrives, At, Bool, Completes, Entry, FlowLevel, Had, HasHad, Held, Holds, Indent, IsRead, IsTopLevel, Key, Levels, Line, List, MayChoose, Option, Position, ScannerState, Site, Step, Token, [], ap, append_assoc, arith, block_end, blocks, checked, chosen, cleared, columns, ended_at, ends_at, ends_here, ends_with_stream, entries_by, false, fetch_stream_end, has_required, have_no_key, if◌then◌else◌, in_flow, is_empty, is_keyed, is_renewed, is_separation, is_waiting, length, may_end, nat_lt, nat_tests, next_line, not, not-true, not_ended, outside_key, pop, position_after, put, refl, replicate, site_here, stream_position, subst, suc, sym, tokens_at_end, tokens_up_to, tried, true, unroll_indent, unrolled, went, with_keys, ℕ, ◌++◌, ◌-◌, ◌<◌, ◌∙◌, ◌∷◌, ◌≡◌, ◌≤◌, eqb-true}
 use Rattle.proof_scanner.proofs.Cut.Documents.{unroll_keeps}
 use Rattle.proof_scanner.proofs.Sound.Completed.{completed_at_end}
-use Rattle.proof_scanner.proofs.Sound.NodeTokens.{no_had, not_keyed}
+use Rattle.proof_scanner.proofs.Sound.NodeTokens.{no_had}
 use Rattle.proof_scanner.proofs.Sound.NodesOutside.{no_line}
 use Rattle.proof_scanner.proofs.Cut.Unrolls.{unrolled_in_flow}
 
@@ -21,7 +21,7 @@ around_no_key (f ∷ fs) [] es a = absurd a
 around_no_key (f ∷ fs) (k ∷ ks) [] a = absurd a
 
 pub entries_no_key : (allowed again : Bool) (fs : List FlowLevel) (ks : List (Option Key)) (es : List Entry) → AreEntries allowed again fs ks es → have_no_key es ≡ true
-entries_no_key allowed again a ks es b = grind (arith, not_keyed, around_no_key)
+entries_no_key allowed again a ks es b = grind (arith, around_no_key)
 
 none_inside : (ks : List (Option Key)) (es : List Entry) → entries_by [] ks es ≡ es
 none_inside ks [] = refl
@@ -168,10 +168,6 @@ unrolled_outside s e a = rw e (ap (λ u. u.tokens) (all_levels s.position s.inde
 -- the scanner where its stream ends, before the last ends
 abbrev at_stream_end : Held → Held
 at_stream_end h = record h { position = next_line h.position; keys = cleared h.keys }
-
--- an account has a level for each entry
-pub same_levels : (es : List Entry) → is_empty (map level_of es) ≡ is_empty es
-same_levels a = grind arith
 
 pub same_flow : (allowed again : Bool) (fs : List FlowLevel) (ks : List (Option Key)) (es : List Entry) → AreEntries allowed again fs ks es → is_empty fs ≡ is_empty es
 same_flow allowed again a ks es b = grind arith

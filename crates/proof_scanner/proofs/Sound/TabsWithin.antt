@@ -1,5 +1,5 @@
 -- TABs among the blanks of a line, left of a column.
-use Rattle.proof_scanner.proofs.Common.{List, [], arith, false, has_tab_within, nat_lt, refl, suc, take, zero, ℕ, ◌&&◌, ◌-◌, ◌==◌, ◌∷◌, ◌≡◌, eqb-true, nat_tests}
+use Rattle.proof_scanner.proofs.Common.{List, [], arith, false, has_tab_within, nat_lt, suc, take, ℕ, ◌&&◌, ◌-◌, ◌==◌, ◌∷◌, ◌≡◌, eqb-true, nat_tests}
 
 pub take_none : (n : ℕ) → ◌≡◌ {A = List ℕ} (take n []) []
 take_none a = grind (arith, nat_tests, eqb-true)

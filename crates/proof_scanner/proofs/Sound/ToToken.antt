@@ -1,5 +1,5 @@
 -- The way to the next token, or to the text's end, keeps what holds between two fetches, with the separation up to there.
-use Rattle.proof_scanner.proofs.Common.{AreEntries, BeginsButForKey, Bool, Entry, FlowLevel, HasNoTabs, Holds, IsAdjacent, IsLine, IsLive, IsOpenHere, IsOpenOutside, IsReadOn, IsTakenBy, Key, KnowsKey, Line, List, None, Ok, Option, Position, Previous, ScannerState, SoFar, Some, Stands, [], after_separation, ap, append_assoc, append_cancel_right, arith, before_by, before_past, begins_free_line, begins_line, begins_separation, begins_white, between, block_scalar, both_hold, chosen, eqb-true, false, follows_plain, has_break, has_no_nul, has_tab_within, if◌then◌else◌, in_flow, inl, inr, is_at_comment_or_end, is_at_line_end, is_empty, is_free, is_indented_by_spaces, is_one_of, is_renewed, is_separation, is_white, last_line, least_column, length, nat_tests, not, or-false, or-true, outside_key, plain_scalar, position_after, position_append, refl, skip_to_next_token, subst, sym, tokens_up_to, true, weakened, went, ℕ, ◌&&◌, ◌++◌, ◌+◌, ◌==◌, ◌||◌, ◌∙◌, ◌∷◌, ◌≡◌, ◌≤◌}
+use Rattle.proof_scanner.proofs.Common.{AreEntries, BeginsButForKey, Bool, HasNoTabs, Holds, IsAdjacent, IsLine, IsLive, IsOpenHere, IsOpenOutside, IsReadOn, IsTakenBy, Key, KnowsKey, Line, List, None, Ok, Option, Position, Previous, ScannerState, SoFar, Some, Stands, [], after_separation, ap, append_assoc, append_cancel_right, arith, before_by, before_past, begins_free_line, begins_separation, between, both_hold, chosen, eqb-true, false, follows_plain, has_break, has_no_nul, in_flow, inl, inr, is_at_comment_or_end, is_empty, is_indented_by_spaces, is_one_of, is_separation, is_white, least_column, nat_tests, not, or-false, or-true, outside_key, plain_scalar, position_after, position_append, refl, skip_to_next_token, subst, sym, tokens_up_to, true, weakened, went, ℕ, ◌&&◌, ◌++◌, ◌+◌, ◌==◌, ◌||◌, ◌∙◌, ◌∷◌, ◌≡◌, ◌≤◌}
 use Rattle.proof_lexers.specs.PlainEnds as plain_ends
 use Rattle.proof_lexers.proofs.Separation.EachSeparation.{no_nul_after}
 use Rattle.proof_scanner.proofs.Cut.Positions.{not_before_after, index_after}
@@ -8,27 +8,15 @@ use Rattle.proof_scanner.proofs.Cut.Heres.{before_both}
 use Rattle.proof_scanner.proofs.Cut.Stoods.{adjacent_filled}
 use Rattle.proof_scanner.proofs.Known.Steps.{known_past}
 use Rattle.proof_scanner.proofs.Sound.Arrivals.{unbroken}
-use Rattle.proof_scanner.proofs.Sound.LastLines.{last_whole, at_break, column_after, no_comment_in_last}
+use Rattle.proof_scanner.proofs.Sound.LastLines.{last_whole, column_after, no_comment_in_last}
 use Rattle.proof_scanner.proofs.Sound.Skips.{Spaced, IsAt, IsIn, Cleared, skip_clears}
-use Rattle.proof_scanner.proofs.Sound.Passed.{skip_stays, Exact, exact, live_before_it, may_before, same_has_break, first_comment, renewed_alike, free_line_append, read_on_append, some_columns, least_is, goes_on}
-use Rattle.proof_scanner.proofs.Sound.QuotedKeeps.{empty_end}
+use Rattle.proof_scanner.proofs.Sound.Passed.{skip_stays, Exact, exact, live_before_it, may_before, same_has_break, first_comment, renewed_alike, free_line_append, read_on_append, least_is, goes_on}
 use Rattle.proof_scanner.proofs.Sound.Sides.{stands_by}
 
 -- ---- where the way begins
 
--- where a line begins, the column is the length of the last line so far
-col_here : (b : Previous) (q : Position) (g a : List ℕ) → at_break a ≡ false → is_empty a ≡ false → IsReadOn b q g a → begins_line b g ≡ true → (position_after q g a).col ≡ length (last_line g)
-col_here b q g a e some r h = grind (arith, nat_tests, eqb-true, column_after, last_whole)
-
-spaced_by : (b f : Bool) (n m : ℕ) (l : List ℕ) → b ≡ true → (not b || not (has_tab_within n l)) ≡ true → n ≡ m → has_tab_within m l ≡ false
-spaced_by b f n m l e h k = grind arith
-
 spaced_here : (b : Previous) (bs : List ℕ) (aw : Bool) (q : Position) (g a : List ℕ) → is_indented_by_spaces b bs aw g ≡ true → begins_separation a ≡ true → is_at_comment_or_end a ≡ false → IsReadOn b q g a → Spaced b (least_column bs aw) g
-spaced_here d bs aw q g a h s n r = grind (arith, spaced_by, or-false)
-
--- in the midst of a line
-in_midst : (a : List ℕ) → has_no_nul a ≡ true → is_at_comment_or_end a ≡ false → (at_break a ≡ false) × (is_empty a ≡ false) × (is_at_line_end a ≡ false)
-in_midst b n h = grind arith
+spaced_here d bs aw q g a h s n r = grind (arith, or-false)
 
 pub is_in : (text : List ℕ) (t : ScannerState) (s : Stands text t) → begins_separation t.rest ≡ true → IsIn s.base.site.before (least_column s.base.site.blocks s.base.site.awaits) between s.separation t.held t.rest
 is_in text t s begins = by (is_at_comment_or_end t.rest) refl s.has_no_tabs
@@ -36,7 +24,7 @@ is_in text t s begins = by (is_at_comment_or_end t.rest) refl s.has_no_tabs
     by : (x : Bool) → is_at_comment_or_end t.rest ≡ x → HasNoTabs s.base.site s.separation t.rest → IsIn s.base.site.before (least_column s.base.site.blocks s.base.site.awaits) between s.separation t.held t.rest
     by true e h = inl e
     by false e (inl h) = absurd (cc (e, h))
-    by false e (inr h) = inr (grind (arith, nat_tests, eqb-true, in_midst, some_columns, no_comment_in_last, col_here, spaced_here))
+    by false e (inr h) = inr (grind (arith, nat_tests, eqb-true, no_comment_in_last, column_after, last_whole, spaced_here))
 
 -- ---- where it ends
 
@@ -80,7 +68,7 @@ module _ (text : List ℕ) (t u : ScannerState) (s : Stands text t) (begins : be
   tabs = by (is_empty u.rest) refl
     where
       by : (x : Bool) → is_empty u.rest ≡ x → HasNoTabs s.base.site (s.separation ++ e.separation) u.rest
-      by true h = inl (empty_end u.rest h)
+      by true h = inl (grind arith)
       by false h = inr (indented_after s.base.site.before s.base.site.blocks s.base.site.awaits (s.separation ++ e.separation)
           (no_plain s.base.site.before s.base.site.position s.separation e.separation t.rest u.rest e.cut s.read_on begins e.solid e.is_filled) (at h).spaced)
 

@@ -89,9 +89,6 @@ white_read i found (c ∷ a) s = of i (class.is_break c) (c == 32) (c == 35) ref
     more : (i : Bool) (u : ScannerState) → is_break c ≡ false → IsPastWhite i s.leading a u → (u.rest ≡ past_white i a) × (u.held.leading ≡ (s.leading || has_break (c ∷ white_of i a)))
     more i u e h = (h.0, h.1 ∙ ap (λ b. s.leading || not (not b && has_no_break (white_of i a))) (sym e))
 
-    line : (u : ScannerState) → is_break c ≡ true → IsPastWhite false (at_break c a s).leading a u → (u.rest ≡ past_white false a) × (u.held.leading ≡ (s.leading || has_break (c ∷ white_of false a)))
-    line u e h = (h.0, h.1 ∙ feed_after c a s e ∙ (sym (or_true s.leading) ∙ ap (λ b. s.leading || not (not b && has_no_break (white_of false a))) (sym e)))
-
     over : (u : ScannerState) (z : Bool) → goes_over c ≡ true → (c == 35) ≡ z → (u.rest ≡ past_white z a) × (u.held.leading ≡ (s.leading || has_break (c ∷ white_of z a))) → IsPastWhite false s.leading (c ∷ a) u
     over u z e f h =
         subst (λ g. (u.rest ≡ (if g then past_white (c == 35) a else c ∷ a)) × (u.held.leading ≡ (s.leading || has_break (if g then c ∷ white_of (c == 35) a else [])))) (sym e)
@@ -105,11 +102,11 @@ white_read i found (c ∷ a) s = of i (class.is_break c) (c == 32) (c == 35) ref
 
     of : (i x y z : Bool) → class.is_break c ≡ x → (c == 32) ≡ y → (c == 35) ≡ z → ((j : Bool) → ((f : Bool) (u : Held) → Holds (IsPastWhite j u.leading a) (white j f a u))) →
         Holds (IsPastWhite i s.leading (c ∷ a)) (if x then white false true a (at_break c a s) else (if i then white true found a (moved s) else (if y then white false true a (moved s) else (if z then white true found a (moved s) else white_end found (c ∷ a) s))))
-    of true true y z e f g h = let br : is_break c ≡ true = same_break c ∙ e in weakened (λ u k. under u true br (line u br k)) (h false true (at_break c a s))
+    of true true y z e f g h = let br : is_break c ≡ true = same_break c ∙ e in weakened (λ u k. under u true br (((k.0, k.1 ∙ feed_after c a s br ∙ (sym (or_true s.leading) ∙ ap (λ b. s.leading || not (not b && has_no_break (white_of false a))) (sym br)))))) (h false true (at_break c a s))
     of true false y z e f g h = let br : is_break c ≡ false = same_break c ∙ e in weakened (λ u k. under u false br (more true u br k)) (h true found (moved s))
     of false true y z e f g h =
         let br : is_break c ≡ true = same_break c ∙ e in
-        weakened (λ u k. over u false (ap (λ b. ((c == 32) || b) || (c == 35)) br ∙ ap (λ b. b || (c == 35)) (or_true (c == 32))) (no_break_hash c e) (line u br k)) (h false true (at_break c a s))
+        weakened (λ u k. over u false (ap (λ b. ((c == 32) || b) || (c == 35)) br ∙ ap (λ b. b || (c == 35)) (or_true (c == 32))) (no_break_hash c e) (((k.0, k.1 ∙ feed_after c a s br ∙ (sym (or_true s.leading) ∙ ap (λ b. s.leading || not (not b && has_no_break (white_of false a))) (sym br)))))) (h false true (at_break c a s))
     of false false true z e f g h =
         let br : is_break c ≡ false = same_break c ∙ e in
         weakened (λ u k. over u false (ap (λ b. (b || is_break c) || (c == 35)) f) (let same : c ≡ 32 = eqb-true c 32 f in rw same refl) (more false u br k)) (h false true (moved s))

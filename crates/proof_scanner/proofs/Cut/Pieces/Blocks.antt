@@ -1,5 +1,5 @@
 -- What the scan of a block scalar reads is its piece.
-use Rattle.proof_scanner.proofs.Common.{[], and_false, ap, arith, begins_with, Block, block, block_position, block_read, BlockIsRead, BlockRead, BlockStyle, body, Bool, collection_column, collection_of, false, folded, further_position, further_text, has_no_nul, Header, if◌then◌else◌, indicator_of, inl, inr, is_at_end, is_before_line_feed, is_blank, is_empty, is_literal_style, is_nul, is_past, is_separation, IsBlockRead, IsBlockScalar, IsPiece, List, literal, nat_lt, nat_tests, Ok, Option, past_spaces, Position, position_after, position_past, Read, read_as, read_body, read_lines, ReadAs, refl, scalar, Some, split, Style, subst, Tok, true, whole_block, without_spaces, ℕ, ◌++◌, ◌<◌, ◌==◌, ◌∙◌, ◌∷◌, ◌≡◌, ◌≤◌, ◌⊎◌}
+use Rattle.proof_scanner.proofs.Common.{[], and_false, ap, arith, begins_with, Block, block, block_position, block_read, BlockIsRead, BlockRead, BlockStyle, Bool, collection_column, collection_of, false, folded, further_position, has_no_nul, if◌then◌else◌, indicator_of, inl, inr, is_at_end, is_blank, is_empty, is_literal_style, is_nul, is_past, is_separation, IsBlockRead, IsBlockScalar, IsPiece, List, literal, nat_lt, nat_tests, Ok, Option, past_spaces, Position, position_after, position_past, Read, read_as, ReadAs, refl, scalar, Some, split, Style, subst, Tok, true, whole_block, without_spaces, ℕ, ◌++◌, ◌<◌, ◌==◌, ◌∙◌, ◌∷◌, ◌≡◌, ◌⊎◌}
 use Rattle.model_scanner.specs.declared.kind.BlockStyle.TheVariants.{Literal, Folded}
 use Rattle.defs_text.specs.Classes.{space}
 use Rattle.defs_token.specs.Account.{Account, is_in_flow}
@@ -33,13 +33,10 @@ spaces_position p (c ∷ r) = grind (arith, space, spaces_cut, spaces_position (
 
 -- ---- lines
 
-no_feed : (c : ℕ) (r : List ℕ) → begins_with 10 r ≡ false → is_before_line_feed c r ≡ false
-no_feed c a h = grind (arith, and_false)
-
 -- a text with a whole line ends on a later one
 lines_up : (p : Position) (t next : List ℕ) → is_empty (split t).complete ≡ false → begins_with 10 next ≡ false → p.line < (position_after p t next).line
 lines_up p [] next h f = cc
-lines_up p (c ∷ t) next h f = grind (arith, line_ended, line_grows, no_feed, lines_up (position_past p c (t ++ next)) t next)
+lines_up p (c ∷ t) next h f = grind (arith, line_ended, line_grows, and_false, lines_up (position_past p c (t ++ next)) t next)
 
 -- ---- what a piece shows
 
@@ -50,11 +47,8 @@ some_piece a d e b h = grind arith
 past_text : (column : ℕ) (next : List ℕ) → is_at_end next ≡ false → is_past column next ≡ true → begins_with 10 next ≡ false
 past_text column next e h = further_is_no_break column next (rw e at h)
 
-body_past : (collection : Option ℕ) (h : Option Header) (ls : List (List ℕ)) (next : List ℕ) (b : BlockRead) → is_at_end next ≡ false → read_body h collection (body ls further_text) next ≡ Some b → begins_with 10 next ≡ false
-body_past collection h ls next b e k = grind (arith, past_text)
-
 pub piece_has_line : (collection : Option ℕ) (piece next : List ℕ) (b : BlockRead) → is_at_end next ≡ false → block_read collection piece next ≡ Some b → (is_empty (split piece).complete ≡ false) × (begins_with 10 next ≡ false)
-piece_has_line collection piece next b e h = grind (arith, body_past)
+piece_has_line collection piece next b e h = grind (arith, past_text)
 
 -- ---- the piece
 
