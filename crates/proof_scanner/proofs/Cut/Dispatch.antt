@@ -97,8 +97,7 @@ module _ (Q : Result ScannerState Fault → Type 0) (t : ScannerState) (adjacent
   block_or_plain style c more e is may = by (is_empty t.held.flow) refl
     where
       by : (out : Bool) → is_empty t.held.flow ≡ out → Q (if not out then fetch_plain_scalar t else fetch_block_scalar style t)
-      by true o = h.block style more (e ∙ ap (λ k. k ∷ more) is) o
-      by false o = plain_here c more e (may (ap not o))
+      by a o = grind (arith, plain_here)
 
   bar : Reads 124
   unfolding class_of

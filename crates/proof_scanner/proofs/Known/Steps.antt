@@ -69,8 +69,7 @@ module _ (text : List ℕ) (a : Account) (w : Step) (next : List ℕ) (written :
       none b begin c e = by (made c.from.site c.from.line c.from.entries (With w c.key) next b c.is_past)
         where
           by : Made c.from.site c.from.line c.from.entries (With w c.key) next b → ⊥
-          by (inside some sep site one) = cc (fl, same_flow a.entries c.from.entries c.is_like.2, some)
-          by (outside m o none sep past line site one) = cc (idle, ap begins_key (waits_node _ _ _ _ m o begin (waits_past _ _ _ _ c.key m o begin past (sym line ∙ e))))
+          by a = grind (arith, nat_tests, eqb-true, same_flow, waits_node, waits_past)
 
 -- a part of a node, or a block scalar
 abbrev pub is_of_node : Act → Bool
@@ -138,9 +137,7 @@ module _ (text : List ℕ) (s : Site) (l line_here : Line) (allowed : Bool) (k :
           old d y i j (subst (λ z. IsAt z begin) j (n.waiting x.from begin x.begins (waited false (begins_free_line s.before w.separation) x.from.line x.line begin x.sep f).0 near_line near_index))
         where
           old : (d : Bool) (y : Option Key) → allowed ≡ d → k ≡ y → IsAt y begin → IsAt (saved d new y) begin
-          old true None i j h = absurd h
-          old true (Some z) i j h = absurd (grind (arith, line_is))
-          old false y i j h = h
+          old a y i j h = grind (arith, nat_tests, eqb-true)
 
       waited_on : (d : Bool) (y : Option Key) → allowed ≡ d → k ≡ y → (b : Account) (x : Key) (z : Past b) → saved d new y ≡ Some x → x.required ≡ true → z.after.line ≡ waits x.position
       waited_on true (Some y) i j b x z e m = absurd (grind (arith, line_is))

@@ -51,8 +51,7 @@ line_rest_cut a = span_cut is_blank a ∙ (ap (λ r. leading is_blank a ++ r) (c
     comment_cut (c ∷ b) = by (c == 35) (span_cut is_on_line (c ∷ b))
       where
         by : (x : Bool) → c ∷ b ≡ leading is_on_line (c ∷ b) ++ after is_on_line (c ∷ b) → c ∷ b ≡ (if x then leading is_on_line (c ∷ b) else []) ++ (if x then after is_on_line (c ∷ b) else c ∷ b)
-        by true e = e
-        by false e = refl
+        by a e = grind (arith, nat_tests, eqb-true)
 
 comment_fills : (a : List ℕ) → is_separation true (leading is_on_line a) (after is_on_line a) ≡ true
 comment_fills [] = refl
@@ -76,15 +75,10 @@ past_rest_is_clear (c ∷ a) = by (c == 32) (c == 9) refl refl (past_rest_is_cle
   where
     line_end : (b : List ℕ) → is_clear (after is_on_line b) ≡ true
     line_end [] = refl
-    line_end (d ∷ b) = on (d == 10) (d == 13) refl refl (line_end b)
-      where
-        on : (x y : Bool) → (d == 10) ≡ x → (d == 13) ≡ y → is_clear (after is_on_line b) ≡ true → is_clear (if not (x || y) then after is_on_line b else d ∷ b) ≡ true
-        on true y e f h = let same : d ≡ 10 = eqb-true d 10 e in rw same refl
-        on false a e f h = grind arith
+    line_end (d ∷ b) = grind (arith, nat_tests, eqb-true, line_end b)
 
     hash : (x : Bool) → (c == 35) ≡ x → (c == 32) ≡ false → (c == 9) ≡ false → is_clear (if x then after is_on_line (c ∷ a) else c ∷ a) ≡ true
-    hash true e f g = line_end (c ∷ a)
-    hash false e f g = rw (e, f, g) refl
+    hash a e f g = grind (arith, nat_tests, eqb-true, line_end)
 
     by : (x y : Bool) → (c == 32) ≡ x → (c == 9) ≡ y → is_clear (past_blanks_and_comment a) ≡ true → is_clear (past_comment (if (x || y) then after is_blank a else c ∷ a)) ≡ true
     by b y e f h = grind (arith, nat_tests, hash, eqb-true)
@@ -112,8 +106,7 @@ no_blank_first [] h = refl
 no_blank_first (c ∷ a) h = by (c == 32) (c == 9) refl refl h
   where
     by : (x y : Bool) → (c == 32) ≡ x → (c == 9) ≡ y → (is_one_of (if (x || y) then c ∷ leading is_blank a else []) 9 || is_one_of (if (x || y) then c ∷ leading is_blank a else []) 32) ≡ false → (if (x || y) then after is_blank a else c ∷ a) ≡ c ∷ a
-    by true y e f h = let same : c ≡ 32 = eqb-true c 32 e in absurd (cc (or_true (is_one_of (leading is_blank a) 9), rw same at h))
-    by false b e f h = grind arith
+    by a y e f h = grind (arith, nat_tests, eqb-true, or_true)
 
 clear_first : (a : List ℕ) → begins_with 35 (after is_blank a) ≡ false → begins_with 35 a ≡ false
 unfolding is_blank
@@ -133,9 +126,7 @@ spaced_exactly a p = subst (λ x. IsSpaced a p (spaces_end x)) (sym (blanks_walk
     at r x = Ok (record { rest = r; position = x; value = found_in l })
 
     end : (b : List ℕ) → after is_blank a ≡ b → past_comment b ≡ b → comment_of b ≡ [] → at b q ≡ at (past_blanks_and_comment a) (past_line_rest p a)
-    end b e f g =
-        ap (λ r. at r q) (sym f ∙ ap past_comment (sym e)) ∙
-        ap (λ m. at (past_blanks_and_comment a) (position_after p m [])) (sym (append-nil l) ∙ ap (λ m. l ++ m) (sym g ∙ ap comment_of (sym e)))
+    end b e f g = grind (arith, nat_tests, eqb-true, q, append-nil, l)
 
     of : (b : List ℕ) → after is_blank a ≡ b → IsSpaced a p (after_spaces b (record { position = q; found = found_in l }))
     of [] e = parted (clear_first a (ap (begins_with 35) e)) (end [] e refl refl)

@@ -79,8 +79,7 @@ stray_at text more closes tok c k t a keys e hash =
     after = record { line = line_then closes; blocks = at.blocks }
 
     known : (b : Bool) → is_waiting (line_then b) ≡ false
-    known true = refl
-    known false = refl
+    known a = grind (arith, nat_tests, eqb-true)
 
     allowed_by : (b broken : Bool) → broken ≡ false → IsLine false (not b) broken (past_line_rest (past t.held.position) more) (past_blanks_and_comment more) None (line_then b)
     allowed_by b broken h = grind arith

@@ -1,5 +1,5 @@
 -- What the model reads after a colon: where a TAB stands next, the blanks and a comment; else nothing.
-use Rattle.proof_scanner.proofs.Common.{arith, At, Bool, Held, Holds, List, Ok, Position, ScannerState, Yes, [], after, ap, begins_with, begins_with_alpha, blanks_and_comment, check_after_tab, check_value_space, checked, colon_may_precede, eqb-true, false, has_no_break, if◌then◌else◌, is_blank, is_break, is_one_of, is_separation, leading, lexed, not, or_parts, pair_position, past, past_blanks_and_comment, past_comment, past_line_rest, peek, position_after, refl, same_alpha, space, subst, sym, tab, true, went, ℕ, ◌&&◌, ◌++◌, ◌==◌, ◌||◌, ◌∙◌, ◌∷◌, ◌≡◌, nat_tests}
+use Rattle.proof_scanner.proofs.Common.{arith, At, Bool, Held, Holds, List, Ok, Position, ScannerState, Yes, [], after, begins_with, begins_with_alpha, blanks_and_comment, check_after_tab, check_value_space, checked, colon_may_precede, eqb-true, false, has_no_break, if◌then◌else◌, is_blank, is_break, is_one_of, is_separation, leading, lexed, not, or_parts, pair_position, past, past_blanks_and_comment, past_comment, past_line_rest, peek, position_after, refl, same_alpha, space, subst, sym, tab, true, went, ℕ, ◌&&◌, ◌++◌, ◌==◌, ◌||◌, ◌∙◌, ◌∷◌, ◌≡◌, nat_tests}
 use Rattle.yaml_chars.specs.Class.{is_alpha}
 use Rattle.defs_text.specs.Classes as classes
 use Rattle.yaml_tokens.specs.declared.problem.Problem.TheVariants as problem
@@ -45,8 +45,7 @@ colon_spaced more h = by (begins_with tab more) refl
     Ends b u = (u ≡ record { rest = (if b then past_blanks_and_comment more else more); held = record h { position = (if b then past_line_rest h.position more else h.position) } }) × (not (b && not (is_one_of (leading is_blank more) 32) && begins_with_alpha (after is_blank more)) ≡ true)
 
     letter : (x y z : Bool) → (x && y) ≡ false → (y ≡ false → z ≡ false) → not (true && x && z) ≡ true
-    letter true y z e f = ap not (f e)
-    letter false y z e f = refl
+    letter a y z e f = grind (arith, nat_tests, eqb-true)
 
     by : (b : Bool) → begins_with tab more ≡ b → Holds (λ u. (u ≡ past_colon more h) × (colon_may_precede more ≡ true)) (if peek more == 9 then lexed (space Yes more h.position) h check_after_tab else Ok t)
     by true e =

@@ -1,5 +1,5 @@
 -- The function of the model that reads a dash: what holds where it begins holds between two fetches after it.
-use Rattle.proof_scanner.proofs.Common.{AreLevels, Arrives, At, Bool, Fault, Held, Holds, Indent, List, No, None, Ok, Position, Result, ScannerState, Stands, Tok, Token, Yes, [], after, allow_key, ap, begins_entry, blanks_and_comment, chained, check_block_entry, check_dash, checked, columns, dash_may_precede, ends_at, eqb-true, false, fetch_block_entry, gap, gives_dash, has_open_level, if◌then◌else◌, in_flow, inl, inr, is_at_break_or_flow, is_at_gap, is_blank, is_blank_or_breakz, is_break, is_deeper, is_empty, is_in_column, is_on_line, is_one_of, leading, lexed, line_past, not, not-false, not_ended, on_held, opened, past, past_blanks_and_comment, past_comment, past_line_rest, peek, placed, position_after, push, put, refl, remove_implicit_key, roll_entry, roll_indent, roll_one_col_indent, same_break, skip_indicator, skip_spaces, slice_index, space, start_if, subst, sym, token, top_needs_block_end, tried, true, try_held, went, with_top, ℕ, ◌&&◌, ◌++◌, ◌==◌, ◌>>=◌, ◌||◌, ◌∙◌, ◌∷◌, ◌≡◌, ◌⊎◌, arith}
+use Rattle.proof_scanner.proofs.Common.{AreLevels, Arrives, At, Bool, Fault, Held, Holds, Indent, List, No, None, Ok, Position, Result, ScannerState, Stands, Tok, Token, Yes, [], after, allow_key, ap, begins_entry, blanks_and_comment, chained, check_block_entry, check_dash, checked, columns, dash_may_precede, ends_at, eqb-true, false, fetch_block_entry, gap, gives_dash, has_open_level, if◌then◌else◌, in_flow, inl, is_at_break_or_flow, is_at_gap, is_blank, is_blank_or_breakz, is_break, is_deeper, is_empty, is_in_column, is_one_of, leading, lexed, line_past, not, not-false, not_ended, on_held, opened, past, past_blanks_and_comment, past_comment, past_line_rest, peek, placed, position_after, push, put, refl, remove_implicit_key, roll_entry, roll_indent, roll_one_col_indent, same_break, skip_indicator, skip_spaces, slice_index, space, start_if, subst, sym, token, top_needs_block_end, tried, true, try_held, went, with_top, ℕ, ◌&&◌, ◌++◌, ◌==◌, ◌>>=◌, ◌||◌, ◌∙◌, ◌∷◌, ◌≡◌, ◌⊎◌, arith, nat_tests}
 use Rattle.yaml_chars.specs.Class.{is_break as is_break_here, is_flow as is_flow_here}
 use Rattle.yaml_tokens.specs.declared.problem.Problem.TheVariants as problem
 use Rattle.model_scanner.specs.State.{after as after_first}
@@ -33,14 +33,7 @@ dash_checked more t e =
     ))
   where
     of : (tabs : Bool) (b : List ℕ) → (tabs && (slice_index (past_comment b) 0 == 45) && is_blank_or_breakz (slice_index (past_comment b) 1)) ≡ false → not (tabs && begins_entry b) ≡ true
-    of false b h = refl
-    of true [] h = refl
-    of true (c ∷ r) h = on (c == 35) (c == 45) refl refl h
-      where
-        on : (x y : Bool) → (c == 35) ≡ x → (c == 45) ≡ y → ((slice_index (if x then after is_on_line (c ∷ r) else c ∷ r) 0 == 45) && is_blank_or_breakz (slice_index (if x then after is_on_line (c ∷ r) else c ∷ r) 1)) ≡ false → not ((c == 45) && is_at_gap r) ≡ true
-        on x false e f h = rw f refl
-        on true true e f h = let same : c ≡ 35 = eqb-true c 35 e in absurd (cc (rw same at f))
-        on false true e f h = let none : is_at_gap r ≡ false = sym (gap_here r) ∙ (rw f at h) in rw (f, none) refl
+    of a b h = grind (arith, nat_tests, eqb-true, gap_here)
 
 -- a flow indicator or a break after the blanks and the comment
 pub flow_or_break : (r : List ℕ) → (is_break_here (peek r) || is_flow_here (peek r)) ≡ is_at_break_or_flow r
@@ -164,7 +157,4 @@ dash_keeps text more t a e gap deep =
     (λ u d. subst (λ y. Holds (Stands text) (entry_from t y)) (sym d.0) (by (arrives_side text t a) d.1 d.2))
   where
     by : ArrivesOutside text t ⊎ ArrivesInside text t → in_flow t.held ≡ false → t.held.key_allowed ≡ true → Holds (Stands text) (entry_from t t)
-    by (inl o) out allowed =
-        let none : o.key ≡ None = (grind arith) in
-        dash_outside text more t (subst (λ k. ArrivesBy text t [] (k ∷ []) []) none o.here) o.flow_is (o.keys_are ∙ ap (λ k. k ∷ []) none) e gap allowed deep
-    by (inr i) out allowed = absurd (cc (out, ap (λ fs. not (is_empty fs)) i.flow_is))
+    by a out allowed = grind (arith, nat_tests, eqb-true, dash_outside)

@@ -75,8 +75,7 @@ levels_end p i (d ∷ ds) ts a = by d.needs_block_end refl a.0
         (two z.0 z.1 z.2 z.3 (nat_lt (p.col + 1) i) refl)
       where
         is_right : (n : ℕ) → d.indent ≡ suc n → (b : Bool) → nat_lt (p.col + 1) i ≡ b → nat_lt n p.col ≡ not b
-        is_right n k true f = let g : i ≡ d.indent + 1 = h.0 in grind (arith, nat_tests, f, g, k)
-        is_right n k false f = let g : i ≡ d.indent + 1 = h.0 in grind (arith, nat_tests, f, g, k)
+        is_right n k a f = grind (arith, nat_tests, eqb-true)
 
         not_left : (n : ℕ) → d.indent ≡ suc n → nat_lt (p.col + 1) i ≡ false → nat_lt p.col n ≡ false
         not_left n k f = let g : i ≡ d.indent + 1 = h.0 in grind (arith, nat_tests, f, g, k)

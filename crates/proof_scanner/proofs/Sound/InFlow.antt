@@ -84,8 +84,7 @@ module _ (text : List ℕ) (t u : ScannerState) (f : FlowLevel) (fs : List FlowL
       some = some_rest t.rest piece next r.cut r.is_solid
 
       later : NotBefore t.held.position u.held.position
-      later = subst (λ p. NotBefore t.held.position p) (sym r.position_is)
-          (not_before_then t.held.position (flow_past t.held.position).position (position_after (flow_past t.held.position).position gap u.rest) (not_before_after t.held.position piece next) (not_before_after (flow_past t.held.position).position gap u.rest))
+      later = grind (arith, nat_tests, eqb-true, not_before_then, not_before_after)
 
       taken_line : a.line ≡ taken
       taken_line = line_taken text t f fs k ks e es a
@@ -94,14 +93,7 @@ module _ (text : List ℕ) (t u : ScannerState) (f : FlowLevel) (fs : List FlowL
       before c cs = chosen c (n.choice cs ∷ n.outer cs) (k ∷ ks) (with_entries a.site a.line (e ∷ es))
 
       written : (c : Bool) (cs : List Bool) → IsWritten (before c cs) (flow_step (n.bit cs)) next
-      written c cs = (
-        (subst (λ l. is_separation false a.separation l ≡ true) r.cut a.is_filled),
-        (
-          ap not r.is_solid,
-          subst (λ levels. IsPiece (let s = seen (with_entries a.site a.line (e ∷ es)) (flow_at piece_here) a.separation in record s { levels = levels }) piece next None (shown_position (flow_at piece_here) piece tok next) tok)
-              (sym (same_levels (n.choice cs ∷ n.outer cs) (k ∷ ks) (e ∷ es))) n.is_piece,
-        ),
-      )
+      written c cs = grind (arith, nat_tests, eqb-true, same_levels)
 
       account : (c : Bool) (cs : List Bool) → line_past_separation true (begins_free_line a.site.before a.separation) (line_by c (outside_key es ks) a.line) ≡ Some (line_by c (outside_key es ks) a.line) → (has_break piece && is_waiting (line_by c (outside_key es ks) a.line)) ≡ false →
           account_past (before c cs) (flow_step (n.bit cs)) next ≡ Some (chosen c cs ls (account_then piece_here))
@@ -109,10 +101,7 @@ module _ (text : List ℕ) (t u : ScannerState) (f : FlowLevel) (fs : List FlowL
 
       tokens : (c : Bool) (cs : List Bool) (ws : List Step) (last : List ℕ) → spelled ws last ≡ next →
           tokens_up_to (before c cs) (k ∷ ks) a.tokens (flow_step (n.bit cs) ∷ ws) last ++ tokens_of_step (before c cs) (flow_step (n.bit cs)) ws last ≡ tokens_up_to (chosen c cs ls (account_then piece_here)) ls u.held.tokens ws last
-      tokens c cs ws last h =
-          let l : Line = line_by c (outside_key es ks) a.line in
-          n.tokens_are cs l ws last h ∙ (ap (λ y. with_keys 0 (position_after (position_after a.site.position a.separation (piece ++ y)) piece y) ws last a.site.blocks l (entries_by cs ls es2) ls u.held.tokens) h ∙
-          ap (λ y. tokens_up_to (with_entries (flow_past piece_here) (line_by c y a.line) (entries_by cs ls es2)) ls u.held.tokens ws last) (sym g.same_key))
+      tokens c cs ws last h = grind (arith, nat_tests, eqb-true)
 
   -- What holds where the piece begins holds between two fetches after it.
   pub steps_in_flow : (gs : List FlowLevel) (gap : List ℕ) → Reads t u (flow_past t.held.position) piece next gap → Enters gs gap → Steps t.held.position → Stands text u

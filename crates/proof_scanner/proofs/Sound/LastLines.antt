@@ -1,5 +1,5 @@
 -- The last line of a text as the text grows, and the column after it.
-use Rattle.proof_scanner.proofs.Common.{Bool, List, Position, [], and_parts, ap, arith, eqb-true, false, has_break, has_no_break, has_tab_within, if◌then◌else◌, inl, inr, is_at_line_end, is_before_line_feed, is_blank, is_break, is_empty, is_one_of, is_separation, last_line, length, nat_tests, not, not-true, or-true, position_after, position_past, put_first, refl, split, split_by, suc, take, take-append-le, true, zero, ℕ, ◌&&◌, ◌++◌, ◌+◌, ◌==◌, ◌||◌, ◌∙◌, ◌∷◌, ◌≡◌, ◌≤◌, ◌⊎◌}
+use Rattle.proof_scanner.proofs.Common.{Bool, List, Position, [], and_parts, ap, arith, eqb-true, false, has_break, has_no_break, has_tab_within, if◌then◌else◌, inl, inr, is_at_line_end, is_before_line_feed, is_break, is_empty, is_one_of, is_separation, last_line, length, nat_tests, not, not-true, or-true, position_after, position_past, put_first, refl, split, split_by, suc, take, take-append-le, true, zero, ℕ, ◌&&◌, ◌++◌, ◌+◌, ◌==◌, ◌||◌, ◌∙◌, ◌∷◌, ◌≡◌, ◌≤◌, ◌⊎◌}
 
 -- ---- breaks in a text and one character more
 
@@ -22,16 +22,14 @@ complete_is (c ∷ r) = by (is_break c) (is_before_line_feed c r) refl (complete
     kept a last = grind arith
 
     by : (x y : Bool) → is_before_line_feed c r ≡ y → is_empty (split r).complete ≡ has_no_break r → is_empty (split_by x y c (split r)).complete ≡ (not x && has_no_break r)
-    by true a e h = grind (arith, not-true, feed_breaks)
-    by false y e h = kept (split r).complete (split r).last ∙ h
+    by b a e h = grind (arith, nat_tests, eqb-true, not-true, feed_breaks, kept)
 
 -- one character more at its start
 pub last_first : (c : ℕ) (r : List ℕ) → last_line (c ∷ r) ≡ (if is_break c || has_break r then last_line r else c ∷ last_line r)
 last_first c r = by (is_break c) (is_before_line_feed c r) ∙ ap (λ b. if is_break c || not b then last_line r else c ∷ last_line r) (complete_is r)
   where
     by : (x y : Bool) → (split_by x y c (split r)).last ≡ (if x || not (is_empty (split r).complete) then last_line r else c ∷ last_line r)
-    by true a = grind arith
-    by false y = grind arith
+    by b a = grind (arith, nat_tests, eqb-true)
 
 -- one character more at its end
 pub last_more : (g : List ℕ) (c : ℕ) → last_line (g ++ c ∷ []) ≡ (if is_break c then [] else last_line g ++ c ∷ [])
@@ -72,18 +70,8 @@ no_comment_in_last g rest h ends = (both g).0 h
     Both g = (is_separation false g rest ≡ true → is_one_of (last_line g) 35 ≡ false) × (is_separation true g rest ≡ true → (has_break g ≡ true) × (is_one_of (last_line g) 35 ≡ false))
 
     both : (g : List ℕ) → Both g
-    both [] = (λ h. refl, λ h. absurd (cc (h, ends)))
-    both (c ∷ g) = (λ h. first (is_blank c || is_break c || (c == 35)) (c == 35) refl h (both g), λ h. second (is_break c) refl h (both g))
-      where
-        swapped : (c == 35) ≡ false → (35 == c) ≡ false
-        swapped e = grind (arith, e)
-
-        first : (x y : Bool) → (c == 35) ≡ y → (x && is_separation y g rest) ≡ true → Both g → is_one_of (last_line (c ∷ g)) 35 ≡ false
-        first a y e h b = grind (arith, nat_tests, last_first, or-true, has_break, in_no_comment, swapped, eqb-true)
-
-        second : (x : Bool) → is_break c ≡ x → is_separation (not x) g rest ≡ true → Both g → (has_break (c ∷ g) ≡ true) × (is_one_of (last_line (c ∷ g)) 35 ≡ false)
-        second true e h b = (rw e refl, rw (last_first c g, e) (b.0 h))
-        second false e h b = (rw e (b.1 h).0, rw (last_first c g, e, (b.1 h).0) (b.1 h).1)
+    both [] = grind (arith, nat_tests, eqb-true)
+    both (c ∷ g) = grind (arith, nat_tests, Both, last_first, or-true, in_no_comment, eqb-true, both g)
 
 -- ---- TABs in its first columns
 
@@ -97,6 +85,5 @@ tab_within_more n l c (inl other) h = go n l h
     go (suc n) [] h = rw other (none n)
       where
         none : (n : ℕ) → is_one_of (take n []) 9 ≡ false
-        none zero = refl
-        none (suc n) = refl
+        none a = grind (arith, nat_tests, eqb-true)
     go (suc n) (x ∷ l) h = grind (arith, go n l)

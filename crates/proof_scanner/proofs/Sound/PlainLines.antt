@@ -187,8 +187,7 @@ module _ (ctx : Context) (start : Position) (c : ℕ) (a : List ℕ) where
       by false true z e f g = stays (hash (classes.is_break c)) s
         where
           hash : (b : Bool) → (b || ((c == 35) || false)) ≡ true
-          hash true = refl
-          hash false = rw f refl
+          hash a = grind (arith, nat_tests, eqb-true)
       by false false true e f g =
           let white : (is_break c || is_blank c) ≡ true = rw (e, g) refl in
           goes (record { mode = tabs; position = past s.position; folded = s.folded }) tt white (inl (rw e refl)) (white_is_no_dash ctx.flow true (begins_flow a) c white) (sym white)

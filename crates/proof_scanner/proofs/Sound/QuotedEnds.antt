@@ -82,8 +82,7 @@ unglued tabs t = by t.rest
         by_tabs No e = rw e refused
 
         by_hash : (b : Bool) → (c == 35) ≡ b → Holds (λ u. begins_with 35 (c ∷ a) ≡ false) (lexed (space tabs (c ∷ a) t.held.position) t.held (λ w u. Ok u))
-        by_hash true e = by_tabs tabs (eqb-true c 35 e)
-        by_hash false e = always (lexed (space tabs (c ∷ a) t.held.position) t.held (λ w u. Ok u)) (λ u. e)
+        by_hash a e = grind (arith, nat_tests, by_tabs, eqb-true, always)
 
 -- ---- after a quoted scalar
 
@@ -107,21 +106,14 @@ unfolding model_classes.is_break
 may_end_by flow p piece s rest here in_line none f h no_hash is follows = by (is_breakz (peek rest)) refl
   where
     same : (p.line == here.line) ≡ true → has_break piece ≡ false
-    same e =
-        let q : Position = position_after p piece (s ++ rest) in
-        let stays : here.line ≡ q.line = ap (λ x. x.line) is ∙ same_line q s rest h in
-        let equal : p.line ≡ here.line = eqb-true p.line here.line e in
-        on_one_line p piece (s ++ rest) in_line (omega (arith, stays, equal))
+    same e = grind (arith, nat_tests, same_line, eqb-true, on_one_line)
 
     some : (r : List ℕ) → is_breakz (peek r) ≡ false → may_follow_quoted flow (p.line == here.line) (peek r) ≡ true → goes_on_quoted flow piece (after is_blank r) ≡ true
     some [] e k = absurd (cc e)
     some (c ∷ r) e k = let q = comes_by flow piece p.line here.line c r same k e in rw q.1 q.0
 
     by : (b : Bool) → is_breakz (peek rest) ≡ b → quoted_may_end flow piece (s ++ rest) ≡ true
-    by true e = rw (is_done s rest f h (at_end_of rest e) none no_hash) refl
-    by false e =
-        let blanks : is_blanks s ≡ true = (blanks_alone false s rest f h (not_at_end rest e)).1 in
-        or_right (line_is_done (s ++ rest)) (goes_on_quoted flow piece (after is_blank (s ++ rest))) (ap (λ x. goes_on_quoted flow piece x) (after_blanks s rest blanks) ∙ some rest e follows)
+    by a e = grind (arith, nat_tests, eqb-true, is_done, at_end_of, blanks_alone, not_at_end, or_right, after_blanks, some)
 
 -- blanks and a comment were skipped after a piece, and what stands there may follow a quoted scalar
 pub record Checked (piece : List ℕ) (t u : ScannerState) : Type 0 where

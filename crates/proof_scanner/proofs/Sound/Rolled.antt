@@ -1,5 +1,5 @@
 -- Where a block collection begins, and where the value of an entry is awaited: the levels of indentation, and the columns of the block collections.
-use Rattle.proof_scanner.proofs.Common.{AreCollections, AreLevels, Bool, Held, Indent, IsNotRight, IsTopLevel, List, Option, Position, Tok, Token, [], ap, arith, columns, deepen, drop_open, drop_open_level, false, has_open_level, if◌then◌else◌, in_block, in_flow, innermost, is_deeper, is_empty, level, nat_le, nat_lt, nat_tests, opened, placed, refl, roll_indent, roll_one_col_indent, subst, sym, token, top_needs_block_end, true, ℕ, ◌+◌, ◌-◌, ◌<◌, ◌∙◌, ◌∷◌, ◌≡◌, ◌≤◌}
+use Rattle.proof_scanner.proofs.Common.{AreCollections, AreLevels, Bool, Held, Indent, IsNotRight, IsTopLevel, List, Option, Position, Tok, Token, [], ap, arith, columns, deepen, drop_open, drop_open_level, false, has_open_level, if◌then◌else◌, in_block, in_flow, innermost, is_deeper, is_empty, level, nat_le, nat_lt, nat_tests, opened, placed, refl, roll_indent, roll_one_col_indent, subst, sym, token, top_needs_block_end, true, ℕ, ◌+◌, ◌-◌, ◌<◌, ◌∙◌, ◌∷◌, ◌≡◌, ◌≤◌, eqb-true}
 
 -- a column is deeper than the innermost collection just where it is deeper than its level
 pub deeper_is : (col i : ℕ) (ds : List Indent) → AreCollections i ds → is_deeper col (columns i ds) ≡ nat_lt i (col + 1)
@@ -66,8 +66,7 @@ open_goes_on col number t s d ds e no_end l right high = rw stays (record {
     stays = grind (arith, nat_tests, high)
 
     here : (es : List Indent) → is_empty es ≡ false → AreCollections d.indent es → IsNotRight (innermost (columns d.indent es)) col → d.indent ≤ col + 1
-    here [] n a r = absurd (cc n)
-    here (x ∷ es) n a r = let first : d.indent - 1 ≤ col = subst (λ b. IsNotRight (innermost (if b then (d.indent - 1) ∷ columns x.indent es else columns x.indent es)) col) a.0 r in omega (arith, first)
+    here b n a r = grind (arith, nat_tests, eqb-true)
 
     not_deeper : false ≡ is_deeper col (columns s.indent s.indents)
     not_deeper = sym (ap (is_deeper col) (ap (columns s.indent) e ∙ ap (λ b. if b then (s.indent - 1) ∷ columns d.indent ds else columns d.indent ds) no_end) ∙ (deeper_is col d.indent ds l.1 ∙ (let h = (subst (λ b. IsTopLevel b s.indent d.indent ds) no_end l.0).0 in grind (arith, nat_tests, h, high))))
@@ -98,8 +97,7 @@ rolls_to col number tok p s out levels right = rw out (on (nat_le s.indent (col 
         (deepened col number t (record s { indent = d.indent; indents = ds }) l.1 (omega (arith, h, more)))
 
     high : (d : Indent) (ds : List Indent) (b : Bool) → s.indents ≡ d ∷ ds → d.needs_block_end ≡ b → AreLevels s.indent (d ∷ ds) → IsNotRight (innermost (columns s.indent (d ∷ ds))) col → col + 1 < s.indent → RollsTo col number t s (deepen col number t s)
-    high d ds true e f l r h = let first : s.indent - 1 ≤ col = subst (λ b. IsNotRight (innermost (if b then (s.indent - 1) ∷ columns d.indent ds else columns d.indent ds)) col) f r in absurd (omega (arith, first, h))
-    high d ds false e f l r h = open_goes_on col number t s d ds e f l (subst (λ b. IsNotRight (innermost (if b then (s.indent - 1) ∷ columns d.indent ds else columns d.indent ds)) col) f r) h
+    high d ds a e f l r h = grind (arith, nat_tests, eqb-true, open_goes_on, t)
 
     on : (b : Bool) → nat_le s.indent (col + 1) ≡ b → (ds : List Indent) → s.indents ≡ ds → AreLevels s.indent ds → IsNotRight (innermost (columns s.indent ds)) col → RollsTo col number t s (deepen col number t (if b then drop_open s ds else s))
     on true e [] f l r = deepened col number t s (subst (λ x. AreCollections s.indent x) (sym f) l) (grind (arith, nat_tests, e))

@@ -120,13 +120,7 @@ ends_split end (n ∷ ns) h = by (nat_lt end.col n) refl (λ k. ends_split end n
     by : (b : Bool) → nat_lt end.col n ≡ b →
         (NoneDeeper end.col (not_ended end.col ns) → ends_with_stream end ns ≡ ends_at end ns (not_ended end.col ns) ++ ends_of (length (not_ended end.col ns)) (stream_position end)) → NoneDeeper end.col (if b then not_ended end.col ns else n ∷ ns) →
         put (if b then end else stream_position end) block_end ∷ ends_with_stream end ns ≡ ends_at end (n ∷ ns) (if b then not_ended end.col ns else n ∷ ns) ++ ends_of (length (if b then not_ended end.col ns else n ∷ ns)) (stream_position end)
-    by true e later k =
-        let s = shorter end.col ns in
-        let many : suc (length ns) - length (not_ended end.col ns) ≡ suc (length ns - length (not_ended end.col ns)) = omega (arith, s) in
-        ap (λ l. put end block_end ∷ l) (later k) ∙ ap (λ m. replicate m (put end block_end) ++ ends_of (length (not_ended end.col ns)) (stream_position end)) (sym many)
-    by false e later k =
-        let none : suc (length ns) - suc (length ns) ≡ 0 = omega arith in
-        ap (λ l. put (stream_position end) block_end ∷ l) (none_ends end ns k.1) ∙ ap (λ m. replicate m (put end block_end) ++ ends_of (suc (length ns)) (stream_position end)) (sym none)
+    by a e later k = grind (arith, nat_tests, eqb-true, shorter, none_ends)
 
 -- the same by the levels of indentation that the scanner holds
 pub ends_by_levels : (end : Position) (bs : List ℕ) (i : ℕ) (ds : List Indent) → AreLevels i ds → not_ended end.col bs ≡ columns i ds → ends_with_stream end bs ≡ ends_at end bs (not_ended end.col bs) ++ ends_of (length (columns i ds)) (stream_position end)

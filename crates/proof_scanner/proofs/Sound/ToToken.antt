@@ -22,9 +22,7 @@ pub is_in : (text : List ℕ) (t : ScannerState) (s : Stands text t) → begins_
 is_in text t s begins = by (is_at_comment_or_end t.rest) refl s.has_no_tabs
   where
     by : (x : Bool) → is_at_comment_or_end t.rest ≡ x → HasNoTabs s.base.site s.separation t.rest → IsIn s.base.site.before (least_column s.base.site.blocks s.base.site.awaits) between s.separation t.held t.rest
-    by true e h = inl e
-    by false e (inl h) = absurd (cc (e, h))
-    by false e (inr h) = inr (grind (arith, nat_tests, eqb-true, no_comment_in_last, column_after, last_whole, spaced_here))
+    by a e h = grind (arith, nat_tests, eqb-true, no_comment_in_last, column_after, last_whole, spaced_here)
 
 -- ---- where it ends
 

@@ -70,8 +70,7 @@ feed_after c a s e = by (is_cr_lf c a) refl
     feed (d ∷ r) h = let same : d ≡ 10 = eqb-true d 10 h in rw same refl
 
     by : (b : Bool) → is_cr_lf c a ≡ b → (((if b then moved s else past_line s).leading) || has_break (white_of false a)) ≡ true
-    by true f = ap (λ b. s.leading || b) (feed a (and_parts (c == 13) (slice_index a 0 == 10) f).1) ∙ or_true s.leading
-    by false f = refl
+    by a f = grind (arith, nat_tests, eqb-true, feed, and_parts, or_true)
 
 white_read : (in_comment found : Bool) (a : List ℕ) (s : Held) → Holds (IsPastWhite in_comment s.leading a) (white in_comment found a s)
 unfolding white is_break
@@ -90,9 +89,7 @@ white_read i found (c ∷ a) s = of i (class.is_break c) (c == 32) (c == 35) ref
     more i u e h = (h.0, h.1 ∙ ap (λ b. s.leading || not (not b && has_no_break (white_of i a))) (sym e))
 
     over : (u : ScannerState) (z : Bool) → goes_over c ≡ true → (c == 35) ≡ z → (u.rest ≡ past_white z a) × (u.held.leading ≡ (s.leading || has_break (c ∷ white_of z a))) → IsPastWhite false s.leading (c ∷ a) u
-    over u z e f h =
-        subst (λ g. (u.rest ≡ (if g then past_white (c == 35) a else c ∷ a)) × (u.held.leading ≡ (s.leading || has_break (if g then c ∷ white_of (c == 35) a else [])))) (sym e)
-        (subst (λ x. (u.rest ≡ past_white x a) × (u.held.leading ≡ (s.leading || has_break (c ∷ white_of x a)))) (sym f) h)
+    over u z e f h = grind (arith, nat_tests, eqb-true)
 
     under : (u : ScannerState) (x : Bool) → is_break c ≡ x → (u.rest ≡ past_white (not x) a) × (u.held.leading ≡ (s.leading || has_break (c ∷ white_of (not x) a))) → IsPastWhite true s.leading (c ∷ a) u
     under u x e h = subst (λ y. (u.rest ≡ past_white (not y) a) × (u.held.leading ≡ (s.leading || has_break (c ∷ white_of (not y) a)))) (sym e) h
