@@ -39,9 +39,6 @@ abbrev pub begins_key : Act → Bool
 begins_key gives_node = true
 begins_key _ = false
 
-waits_node : (must : Bool) (here : Position) (bs : List ℕ) (k : Act) (l : Line) (o : Outside) (q : Position) → Waits must here bs k l o q → k ≡ gives_node
-waits_node must a bs k l o q b = grind arith
-
 -- ---- in flow
 
 module _ (text : List ℕ) (a : Account) (w : Step) (next : List ℕ) (written : IsWritten a w next) where
@@ -69,7 +66,7 @@ module _ (text : List ℕ) (a : Account) (w : Step) (next : List ℕ) (written :
       none b begin c e = by (made c.from.site c.from.line c.from.entries (With w c.key) next b c.is_past)
         where
           by : Made c.from.site c.from.line c.from.entries (With w c.key) next b → ⊥
-          by a = grind (arith, nat_tests, eqb-true, same_flow, waits_node, waits_past)
+          by a = grind (arith, nat_tests, eqb-true, same_flow, waits_past)
 
 -- a part of a node, or a block scalar
 abbrev pub is_of_node : Act → Bool

@@ -77,11 +77,8 @@ past_rest_is_clear (c ∷ a) = by (c == 32) (c == 9) refl refl (past_rest_is_cle
     line_end [] = refl
     line_end (d ∷ b) = grind (arith, nat_tests, eqb-true, line_end b)
 
-    hash : (x : Bool) → (c == 35) ≡ x → (c == 32) ≡ false → (c == 9) ≡ false → is_clear (if x then after is_on_line (c ∷ a) else c ∷ a) ≡ true
-    hash a e f g = grind (arith, nat_tests, eqb-true, line_end)
-
     by : (x y : Bool) → (c == 32) ≡ x → (c == 9) ≡ y → is_clear (past_blanks_and_comment a) ≡ true → is_clear (past_comment (if (x || y) then after is_blank a else c ∷ a)) ≡ true
-    by b y e f h = grind (arith, nat_tests, hash, eqb-true)
+    by b y e f h = grind (arith, nat_tests, line_end, eqb-true)
 
 -- ---- what the model reads
 
@@ -103,10 +100,7 @@ blank_first b h = grind (arith, nat_tests, eqb-true)
 no_blank_first : (a : List ℕ) → (is_one_of (leading is_blank a) 9 || is_one_of (leading is_blank a) 32) ≡ false → after is_blank a ≡ a
 unfolding is_blank
 no_blank_first [] h = refl
-no_blank_first (c ∷ a) h = by (c == 32) (c == 9) refl refl h
-  where
-    by : (x y : Bool) → (c == 32) ≡ x → (c == 9) ≡ y → (is_one_of (if (x || y) then c ∷ leading is_blank a else []) 9 || is_one_of (if (x || y) then c ∷ leading is_blank a else []) 32) ≡ false → (if (x || y) then after is_blank a else c ∷ a) ≡ c ∷ a
-    by a y e f h = grind (arith, nat_tests, eqb-true, or_true)
+no_blank_first (c ∷ a) h = grind (arith, nat_tests, eqb-true, or_true)
 
 clear_first : (a : List ℕ) → begins_with 35 (after is_blank a) ≡ false → begins_with 35 a ≡ false
 unfolding is_blank
@@ -125,22 +119,16 @@ spaced_exactly a p = subst (λ x. IsSpaced a p (spaces_end x)) (sym (blanks_walk
     at : List ℕ → Position → Result (Read Whitespace) Fault
     at r x = Ok (record { rest = r; position = x; value = found_in l })
 
-    end : (b : List ℕ) → after is_blank a ≡ b → past_comment b ≡ b → comment_of b ≡ [] → at b q ≡ at (past_blanks_and_comment a) (past_line_rest p a)
-    end b e f g = grind (arith, nat_tests, eqb-true, q, append-nil, l)
-
     of : (b : List ℕ) → after is_blank a ≡ b → IsSpaced a p (after_spaces b (record { position = q; found = found_in l }))
-    of [] e = parted (clear_first a (ap (begins_with 35) e)) (end [] e refl refl)
+    of [] e = parted (clear_first a (ap (begins_with 35) e)) (grind (arith, nat_tests, eqb-true, q, append-nil, l))
     of (c ∷ b) e = by (c == 35) refl
       where
         by : (x : Bool) → (c == 35) ≡ x → IsSpaced a p (if x then comment_after (found_in l) (c ∷ b) q else at (c ∷ b) q)
-        by false f = parted (clear_first a (ap (begins_with 35) e ∙ f)) (end (c ∷ b) e (rw f refl) (rw f refl))
+        by false f = parted (clear_first a (ap (begins_with 35) e ∙ f)) (grind (arith, nat_tests, eqb-true, q, append-nil, l))
         by true f = found (is_one_of l 9 || is_one_of l 32) refl
           where
-            m : List ℕ
-            m = leading is_on_line (c ∷ b)
-
             found : (x : Bool) → (is_one_of l 9 || is_one_of l 32) ≡ x → IsSpaced a p (if x then Ok (with_found (found_in l) (skip_while is_line (c ∷ b) q)) else Err (At problem.CommentNotSeparated q))
-            found true g = parted (blank_first a g) (ap (λ r. Ok (with_found (found_in l) r)) (comment_passed (c ∷ b) q) ∙ (ap (λ x. at (after is_on_line (c ∷ b)) x) (ap (λ x. position_after x m []) (same_in_line p l [] (m ++ []) (no_break_in_blanks a)) ∙ (sym (position_append p l m []) ∙ ap (λ x. position_after p (l ++ x) []) (sym (ap comment_of e ∙ rw f refl)))) ∙ ap (λ r. at r (past_line_rest p a)) (sym (ap past_comment e ∙ rw f refl))))
+            found true g = parted (blank_first a g) (ap (λ r. Ok (with_found (found_in l) r)) (comment_passed (c ∷ b) q) ∙ (ap (λ x. at (after is_on_line (c ∷ b)) x) (ap (λ x. position_after x (leading is_on_line (c ∷ b)) []) (same_in_line p l [] ((leading is_on_line (c ∷ b)) ++ []) (no_break_in_blanks a)) ∙ (sym (position_append p l (leading is_on_line (c ∷ b)) []) ∙ ap (λ x. position_after p (l ++ x) []) (sym (ap comment_of e ∙ rw f refl)))) ∙ ap (λ r. at r (past_line_rest p a)) (sym (ap past_comment e ∙ rw f refl))))
             found false g = glued (At problem.CommentNotSeparated q) (ap (begins_with 35) (sym (no_blank_first a g) ∙ e) ∙ f) refl
 
 -- where no comment stands directly, they are read
@@ -153,11 +141,7 @@ past_rest t = record { rest = past_blanks_and_comment t.rest; held = record t.he
 
 pub rest_read : (t : ScannerState) (go : Whitespace → ScannerState → Result ScannerState Fault) (P : ScannerState → Type 0) → (begins_with 35 t.rest ≡ false → Holds P (go (found_in (leading is_blank t.rest)) (past_rest t))) →
     Holds P (lexed (space Yes t.rest t.held.position) t.held go)
-rest_read t go P f = by (space Yes t.rest t.held.position) (spaced_exactly t.rest t.held.position)
-  where
-    by : (x : Result (Read Whitespace) Fault) → IsSpaced t.rest t.held.position x → Holds P (lexed x t.held go)
-    by x (parted h e) = rw e (f h)
-    by x (glued y h e) = rw e refused
+rest_read t go a f = grind (arith, nat_tests, eqb-true, spaced_exactly, parted, glued, refused)
 
 -- TABs and spaces, and a comment, are skipped, and that is all of them.
 pub rest_skipped : (t : ScannerState) → Holds (λ u. (u ≡ past_rest t) × (begins_with 35 t.rest ≡ false)) (skip_spaces Yes t)

@@ -6,7 +6,7 @@ use Rattle.defs_token.specs.Account as pieces
 use Rattle.proof_scanner.proofs.Cut.Nodes.{IsDeep}
 use Rattle.proof_scanner.proofs.Cut.Positions.{not_before_after, not_before_then, not_before_same, after_piece, weaker}
 use Rattle.proof_scanner.proofs.Cut.Saved.{saved_keys, saved_is}
-use Rattle.proof_scanner.proofs.Cut.Pieces.Blocks.{spaces_of, spaces_cut, spaces_fill, spaces_position, some_piece, piece_of, token_of, IsBelow, below}
+use Rattle.proof_scanner.proofs.Cut.Pieces.Blocks.{spaces_of, spaces_cut, spaces_fill, spaces_position, some_piece, token_of, IsBelow, below}
 use Rattle.proof_scanner.proofs.Known.Read.{knows_saved}
 use Rattle.proof_scanner.proofs.Known.Steps.{is_of_node}
 use Rattle.proof_scanner.proofs.Sound.Arrivals.{some_rest}
@@ -94,7 +94,7 @@ module _ (text : List ℕ) (t : ScannerState) (k : Option Key) (a : ArrivesBy te
   seen_here = seen (with_entries a.site a.line []) here a.separation
 
   is_piece : IsPiece seen_here r.piece r.next None (shown_position here r.piece tok r.next) tok
-  is_piece = grind (arith, nat_tests, eqb-true, (n.shown here r.piece r.next ∙ ap (λ o. content_position o p r.piece r.next) (ap (λ c. block_read c r.piece r.next) (sym least.0) ∙ r.is_read)), piece_of, (ap (λ c. block_read c r.piece r.next) (same_innermost here.blocks ∙ sym least.0) ∙ (r.is_read ∙ ap (λ z. Some (record { style = z; column = r.scalar.column; text = r.scalar.text })) r.style_is)))
+  is_piece = grind (arith, nat_tests, eqb-true, (n.shown here r.piece r.next ∙ ap (λ o. content_position o p r.piece r.next) (ap (λ c. block_read c r.piece r.next) (sym least.0) ∙ r.is_read)), (ap (λ c. block_read c r.piece r.next) (same_innermost here.blocks ∙ sym least.0) ∙ (r.is_read ∙ ap (λ z. Some (record { style = z; column = r.scalar.column; text = r.scalar.text })) r.style_is)))
 
   stands : may_stand false a.site here a.separation r.piece tok r.next ≡ true
   stands = rw (a.is_indented some, n.lines (least_for tok here) r.piece, n.precedes here.blocks r.piece r.next, r.may_end here.blocks least) refl

@@ -126,7 +126,7 @@ module _ (text more : List ℕ) (closes : Bool) (tok : Tok) (c : ℕ) (i : IsClo
       flow.steps_in_flow text t past_it f fs k ks e es a (c ∷ []) more tok (keys_by closes ks) (entries_after closes e es) (levels_then closes f fs) gap
       (reads_in_line t past_it _ (c ∷ []) more gap refl cut (line_rest_cut more) (line_rest_fills more) (line_rest_in_line more) (indicator_end t.held.position c more i.is_end.in_line) refl (is_previous closes i.previous) a.blocks_are
       (i.awaits true x.blocks x.awaits more ∙ a.awaits_is) a.are_levels (λ some. subst (λ b. IsAdjacent (before_past (before_by b) gap) end (adjacent_then closes fs t.held.adjacent_value_at end.index) left) (sym i.previous)
-      (adjacent_after closes f fs t.held.adjacent_value_at end gap left far.0 (line_rest_fills more) (line_rest_in_line more) (clear_ends left (past_rest_is_clear more)) clean some)) (grind arith) (refl, refl)) (
+      (adjacent_after closes f fs t.held.adjacent_value_at end gap left far.0 (line_rest_fills more) (line_rest_in_line more) (clear_ends left (past_rest_is_clear more)) (no_nul_after gap left (subst (λ r. has_no_nul r ≡ true) (line_rest_cut more) (no_nul_after (c ∷ []) more (subst (λ r. has_no_nul r ≡ true) cut a.is_clean)))) some)) (grind arith) (refl, refl)) (
       assumption (
         many_then closes f fs ks (cc a.one_each),
         same_key closes e es ks,
@@ -147,9 +147,6 @@ module _ (text more : List ℕ) (closes : Bool) (tok : Tok) (c : ℕ) (i : IsClo
             (ap (λ ts. with_keys 1 a.site.position (w ∷ ws) last a.site.blocks l (entries_by (choices_by closes cs) ks es) ks ts) (ap (λ ts. a.tokens ++ ts) (grind (arith, nat_tests, eqb-true)) ∙ tokens_are) ∙
             keys_around closes a.site.position w ws last i.act i.begun a.site.blocks l cs e es ks past_it.held.tokens);
       })
-    where
-      clean : has_no_nul left ≡ true
-      clean = no_nul_after gap left (subst (λ r. has_no_nul r ≡ true) (line_rest_cut more) (no_nul_after (c ∷ []) more (subst (λ r. has_no_nul r ≡ true) cut a.is_clean)))
 
 pub closed_inside : (text more : List ℕ) (closes : Bool) (tok : Tok) (c : ℕ) → IsCloser closes tok c → (t : ScannerState) (i : ArrivesInside text t) → t.rest ≡ c ∷ more → begins_with 35 more ≡ false → IsDeep t.held →
     Stands text (closed_past closes t tok more i.level i.levels i.keys)

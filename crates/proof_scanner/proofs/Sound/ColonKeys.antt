@@ -1,7 +1,6 @@
 -- A colon that ends the key that is open: what holds where it begins holds between two fetches after it.
-use Rattle.proof_scanner.proofs.Common.{At, Bool, Completes, Entry, FlowLevel, Held, Holds, IsLive, IsNotRight, Key, Keyed, Line, List, Mapping, None, NotBefore, Ok, Option, Outside, Position, ScannerState, Site, Some, Stands, Step, Tok, Token, [], ap, append-nil, arith, before_by, before_past, begin_pair, begins_free_line, chained, checked, colon_may_precede, columns, ends_at, entries_by, entry_by, false, if◌then◌else◌, in_flow, innermost, inr, insert, insert_key, inside, is_adjacent, is_break, is_deeper, is_empty, is_near, is_value_indicator, length, length-append, nat_lt, nat_tests, not, not_ended, on_held, opened, opens_pair, pair_position, past, placed, pop, position_after, push, put, put_key, refl, roll_indent, roll_one_col_indent, site_at, site_here, spelled, subst, suc, sym, taken, takes_pair, token, tokens_at, tokens_of_step, tokens_up_to, tried, true, waits, went, with_keys, with_top, ℕ, ◌++◌, ◌==◌, ◌||◌, ◌∙◌, ◌∷◌, ◌≡◌, ◌≤◌, eqb-true}
-use Rattle.yaml_tokens.specs.declared.problem.Problem.TheVariants as problem
-use Rattle.model_scanner.specs.declared.level.FlowLevel.TheVariants.{Entry as InEntry, Pair as InPair}
+use Rattle.proof_scanner.proofs.Common.{Bool, Completes, Entry, FlowLevel, Held, Holds, IsLive, IsNotRight, Key, Line, List, None, NotBefore, Ok, Option, Outside, Position, ScannerState, Site, Some, Stands, Step, Tok, Token, [], ap, append-nil, arith, before_by, before_past, begin_pair, begins_free_line, chained, checked, colon_may_precede, columns, ends_at, entries_by, entry_by, false, if◌then◌else◌, in_flow, innermost, inr, insert, insert_key, inside, is_adjacent, is_break, is_deeper, is_empty, is_near, is_value_indicator, length, length-append, nat_tests, not, not_ended, on_held, opened, opens_pair, pair_position, past, placed, pop, position_after, push, put, put_key, refl, roll_indent, roll_one_col_indent, site_at, site_here, spelled, subst, suc, sym, taken, takes_pair, token, tokens_at, tokens_of_step, tokens_up_to, tried, true, waits, went, with_keys, with_top, ℕ, ◌++◌, ◌==◌, ◌||◌, ◌∙◌, ◌∷◌, ◌≡◌, ◌≤◌, eqb-true}
+use Rattle.model_scanner.specs.declared.level.FlowLevel.TheVariants.{Pair as InPair}
 use Rattle.proof_scanner.proofs.Cut.Nodes.{IsDeep}
 use Rattle.proof_scanner.proofs.Cut.Positions.{not_before_after, not_before_then, weaker}
 use Rattle.proof_scanner.proofs.Sound.Arrivals.{all_go_on, numbered_more, numbered_around}
@@ -35,11 +34,8 @@ module _ (text more : List ℕ) (t : ScannerState) (k : Key) (a : ArrivesBy text
   abbrev x : Site
   x = site_here false t.held.position a.site
 
-  place : t.held.position ≡ position_after a.site.position a.separation (58 ∷ more)
-  place = a.position_is ∙ ap (λ y. position_after a.site.position a.separation y) e
-
   same_site : site_at false a.site a.separation (58 ∷ []) Tok.value more ≡ x
-  same_site = ap (λ q. site_here false q a.site) (sym place)
+  same_site = ap (λ q. site_here false q a.site) (sym (a.position_is ∙ ap (λ y. position_after a.site.position a.separation y) e))
 
   some : is_empty t.rest ≡ false
   some = ap is_empty e
@@ -50,9 +46,6 @@ module _ (text more : List ℕ) (t : ScannerState) (k : Key) (a : ArrivesBy text
   -- no collection ends here
   same_blocks : not_ended t.held.position.col a.site.blocks ≡ a.site.blocks
   same_blocks = all_go_on t.held.position.col k.position.col a.site.blocks (a.is_open.1 live).column_is ((not_before_then k.position a.site.position t.held.position (weaker k.position a.site.position a.is_open.0) (subst (λ x. NotBefore a.site.position x) (sym a.position_is) (not_before_after a.site.position a.separation t.rest))).1 live.0)
-
-  same_tokens : t.held.tokens ≡ a.tokens
-  same_tokens = a.tokens_are ∙ (ap (λ bs. a.tokens ++ ends_at t.held.position a.site.blocks bs) same_blocks ∙ (ap (λ x. a.tokens ++ x) (grind arith) ∙ append-nil a.tokens))
 
   -- no line begins before the colon, and it is near
   quiet : (begins_free_line a.site.before a.separation ≡ false) × (is_near k.position t.held.position ≡ true)
@@ -82,7 +75,7 @@ module _ (text more : List ℕ) (t : ScannerState) (k : Key) (a : ArrivesBy text
   row_tokens q = put_key (is_deeper k.position.col a.site.blocks) (put q Tok.block_mapping_start) k.number k.position a.tokens ++ ((ends_at q a.site.blocks (not_ended q.col a.site.blocks) ++ []) ++ (put q Tok.value ∷ []))
 
   tokens_alike : after.held.tokens ≡ row_tokens t.held.position
-  tokens_alike = grind (arith, nat_tests, eqb-true, (sym same_blocks ∙ a.blocks_are), same_tokens, same_blocks)
+  tokens_alike = grind (arith, nat_tests, eqb-true, (sym same_blocks ∙ a.blocks_are), (a.tokens_are ∙ (ap (λ bs. a.tokens ++ ends_at t.held.position a.site.blocks bs) same_blocks ∙ (ap (λ x. a.tokens ++ x) (grind arith) ∙ append-nil a.tokens))), same_blocks)
 
   abbrev outside_after : Outside
   outside_after = record { line = taken; blocks = opened k.position.col x.blocks }
@@ -90,7 +83,7 @@ module _ (text more : List ℕ) (t : ScannerState) (k : Key) (a : ArrivesBy text
   -- the key goes in before the tokens of its number
   keyed_tokens : (ws : List Step) (last : List ℕ) → spelled ws last ≡ more →
       (let w : Step = keyless a.separation (58 ∷ []) Tok.value in tokens_up_to (Outer a.site (waits k.position)) (Some k ∷ []) a.tokens (w ∷ ws) last ++ tokens_of_step (Outer a.site (waits k.position)) w ws last ≡ after.held.tokens)
-  keyed_tokens ws last h = grind (arith, nat_tests, eqb-true, quiet, place, tokens_alike)
+  keyed_tokens ws last h = grind (arith, nat_tests, eqb-true, quiet, (a.position_is ∙ ap (λ y. position_after a.site.position a.separation y) e), tokens_alike)
 
   pub keyed_stands : Stands text after
   keyed_stands =
@@ -127,13 +120,7 @@ module _ (text more : List ℕ) (t : ScannerState) (f : FlowLevel) (fs : List Fl
   pair_begun : (g : FlowLevel) → k.position.line ≤ t.held.position.line →
       Holds (λ y. (y ≡ held_pair g) × ((not (opens_pair (g ∷ fs)) || (k.position.line == t.held.position.line)) ≡ true)) (insert_key k t.held.position (opens_pair (g ∷ fs)) (at_value more t (g ∷ fs) (Some k ∷ ks)))
   unfolding insert_key begin_pair roll_indent
-  pair_begun InEntry h =
-      chained {P = λ u. (u ≡ (record (at_value more t (InEntry ∷ fs) (Some k ∷ ks)) { tokens = in_pair true })) × ((k.position.line == t.held.position.line) ≡ true)} (checked (nat_lt k.position.line t.held.position.line) (At problem.ColonMisplaced t.held.position) (λ i. went (refl, (grind (arith, nat_tests))))) (λ u i.
-      subst (λ y. Holds (λ z. (z ≡ held_pair InEntry) × ((not (opens_pair (InEntry ∷ fs)) || (k.position.line == t.held.position.line)) ≡ true)) (let v = roll_one_col_indent (roll_indent k.position.col (Some k.number) Tok.block_mapping_start t.held.position y) in Ok (record v { keys = with_top None v.keys; key_allowed = false }))) (sym i.0)
-      (went (closed (record (at_value more t (InEntry ∷ fs) (Some k ∷ ks)) { tokens = in_pair true }) refl, i.1)))
-  pair_begun Mapping h = went (closed (record (at_value more t (Mapping ∷ fs) (Some k ∷ ks)) { tokens = in_pair false }) refl, refl)
-  pair_begun Keyed h = went (closed (record (at_value more t (Keyed ∷ fs) (Some k ∷ ks)) { tokens = in_pair false }) refl, refl)
-  pair_begun InPair h = went (closed (record (at_value more t (InPair ∷ fs) (Some k ∷ ks)) { tokens = in_pair false }) refl, refl)
+  pair_begun a h = grind (arith, nat_tests, eqb-true, chained, checked, went, closed)
 
   abbrev pub inner_after : ScannerState
   inner_after = colon_end t more t.held.indents t.held.indent (in_pair (opens_pair (f ∷ fs))) false (pair_level InPair f ∷ fs) (None ∷ ks)

@@ -1,5 +1,5 @@
 -- A colon that ends no key: what holds where it begins holds between two fetches after it.
-use Rattle.proof_scanner.proofs.Common.{AreLevels, At, Bool, Entry, Fault, FlowLevel, Held, Holds, Indent, IsEntryOf, Key, List, None, Ok, Option, Position, Result, ScannerState, Site, Some, Stands, Tok, Token, [], allow_key, another, ap, append_assoc, arith, before_by, before_past, begin_keyless_mapping, begin_keyless_value, begun_outside, chained, checked, colon_may_precede, columns, ends_at, false, fresh, gives_colon, has_break, has_open_level, if◌then◌else◌, in_flow, inl, inr, is_adjacent, is_break, is_deeper, is_empty, is_in_column, is_value, is_value_indicator, line_past, not, not-false, not_ended, on_held, opened, opens_pair, pair_past, pair_position, paired, past, placed, position_after, push, put, refl, roll_indent, roll_one_col_indent, settled, start_if, subst, sym, takes_pair, token, top_key, tried, true, went, with_held, ℕ, ◌++◌, ◌>>=◌, ◌∙◌, ◌∷◌, ◌≡◌, ◌≤◌, ◌⊎◌, eqb-true, nat_tests}
+use Rattle.proof_scanner.proofs.Common.{AreLevels, At, Bool, Entry, Fault, FlowLevel, Held, Holds, Indent, IsEntryOf, Key, List, None, Ok, Option, Result, ScannerState, Site, Some, Stands, Tok, Token, [], allow_key, another, ap, append_assoc, arith, before_by, before_past, begin_keyless_mapping, begin_keyless_value, begun_outside, chained, checked, colon_may_precede, columns, ends_at, false, fresh, gives_colon, has_break, has_open_level, if◌then◌else◌, in_flow, inl, inr, is_adjacent, is_break, is_deeper, is_empty, is_in_column, is_value, is_value_indicator, line_past, not, not-false, not_ended, on_held, opened, opens_pair, pair_past, pair_position, paired, past, placed, position_after, push, put, refl, roll_indent, roll_one_col_indent, settled, start_if, subst, sym, takes_pair, token, top_key, tried, true, went, with_held, ℕ, ◌++◌, ◌>>=◌, ◌∙◌, ◌∷◌, ◌≡◌, ◌≤◌, ◌⊎◌, eqb-true, nat_tests}
 use Rattle.yaml_tokens.specs.declared.problem.Problem.TheVariants as problem
 use Rattle.model_scanner.specs.declared.level.FlowLevel.TheVariants.{Pair as InPair}
 use Rattle.model_scanner.specs.Block.{value_of}
@@ -85,20 +85,14 @@ pub keyless_outside : (text more : List ℕ) (t : ScannerState) (a : ArrivesBy t
     Holds (Stands text) (value_by more t [] (None ∷ []))
 unfolding begin_keyless_value begin_keyless_mapping
 keyless_outside text more t a e apart ind deep =
-    chained {P = λ w. (w ≡ record { rest = past_gap more; held = last }) × (t.held.key_allowed ≡ true)} (tried (record { rest = past_gap more; held = h }) _ (chained {P = λ u. (u ≡ rolled) × (t.held.key_allowed ≡ true)} (checked (not t.held.key_allowed) (At problem.ValueNotAllowed t.held.position) (λ f. went (k.mapping.is_held, not-false t.held.key_allowed f))) (λ u d. subst (λ y. Holds (λ z. (z ≡ last) × (t.held.key_allowed ≡ true)) (let v = roll_one_col_indent y in Ok (allow_key (not (in_flow v)) v))) (sym d.0) (went (ap (λ v. allow_key (not (in_flow v)) v) k.level.is_held, d.1)))) (λ s d. (ap (λ y. record { rest = past_gap more; held = y }) d.0, d.1))) (λ w d.
+    chained {P = λ w. (w ≡ record { rest = past_gap more; held = (record rolled { indents = k.level.indents; indent = k.level.indent; key_allowed = true }) }) × (t.held.key_allowed ≡ true)} (tried (record { rest = past_gap more; held = (at_value more t [] (None ∷ [])) }) _ (chained {P = λ u. (u ≡ rolled) × (t.held.key_allowed ≡ true)} (checked (not t.held.key_allowed) (At problem.ValueNotAllowed t.held.position) (λ f. went (k.mapping.is_held, not-false t.held.key_allowed f))) (λ u d. subst (λ y. Holds (λ z. (z ≡ (record rolled { indents = k.level.indents; indent = k.level.indent; key_allowed = true })) × (t.held.key_allowed ≡ true)) (let v = roll_one_col_indent y in Ok (allow_key (not (in_flow v)) v))) (sym d.0) (went (ap (λ v. allow_key (not (in_flow v)) v) k.level.is_held, d.1)))) (λ s d. (ap (λ y. record { rest = past_gap more; held = y }) d.0, d.1))) (λ w d.
     went (subst (λ z. Stands text (on_held (push t.held.position Tok.value) z)) (sym d.0) (keyless_stands text more t a e d.1 apart ind k.level.indent k.level.indents (k.level.columns_are ∙ k.mapping.columns_are) k.level.are_levels k.level.awaits)))
   where
-    h : Held
-    h = at_value more t [] (None ∷ [])
-
     k : KeylessLevels more t
     k = keyless_levels more t a.are_levels deep
 
     rolled : Held
-    rolled = record h { indents = k.mapping.indents; indent = k.mapping.indent; tokens = with_start Tok.block_mapping_start t }
-
-    last : Held
-    last = record rolled { indents = k.level.indents; indent = k.level.indent; key_allowed = true }
+    rolled = record (at_value more t [] (None ∷ [])) { indents = k.mapping.indents; indent = k.mapping.indent; tokens = with_start Tok.block_mapping_start t }
 
 -- ---- in flow
 
@@ -124,8 +118,8 @@ pub keyless_within : (text more : List ℕ) (t : ScannerState) (f : FlowLevel) (
     Stands text (colon_end t more t.held.indents t.held.indent (with_pair (opens_pair (f ∷ fs)) more t) false (pair_level InPair f ∷ fs) (None ∷ ks))
 unfolding is_break
 keyless_within text more t f fs ks e es a cut apart ind deep =
-    goes_inside text t (colon_end t more t.held.indents t.held.indent (with_pair single more t) false (pair_level InPair f ∷ fs) (None ∷ ks)) f (pair_level InPair f) fs None ks e (valued_entry e) es a (58 ∷ []) more Tok.value (colon_gap more)
-    (colon_reads t more t.held.indents t.held.indent (with_pair single more t) false (pair_level InPair f ∷ fs) (None ∷ ks) _ cut refl refl a.blocks_are a.awaits_is a.are_levels a.was_adjacent)
+    goes_inside text t (colon_end t more t.held.indents t.held.indent (with_pair (opens_pair (f ∷ fs)) more t) false (pair_level InPair f ∷ fs) (None ∷ ks)) f (pair_level InPair f) fs None ks e (valued_entry e) es a (58 ∷ []) more Tok.value (colon_gap more)
+    (colon_reads t more t.held.indents t.held.indent (with_pair (opens_pair (f ∷ fs)) more t) false (pair_level InPair f ∷ fs) (None ∷ ks) _ cut refl refl a.blocks_are a.awaits_is a.are_levels a.was_adjacent)
     (record {
       flow_is = refl;
       keys_are = refl;
@@ -137,24 +131,15 @@ keyless_within text more t f fs ks e es a cut apart ind deep =
       stands = rw (a.is_indented (ap is_empty cut), low_enough text t f fs (None ∷ ks) (e ∷ es) a deep, apart) refl;
       entry_past = λ xs. (grind arith);
       colons = λ n p ws last. refl;
-      tokens_are = (grind (arith, append_assoc)) ∙ (ap (λ q. a.tokens ++ (start_if single (place q) Tok.flow_mapping_start ++ (put t.held.position Tok.value ∷ []))) (sym (past_one t.held.position 58 more refl)) ∙ (ap (λ b. a.tokens ++ (start_if b (place (position_after t.held.position (58 ∷ []) more)) Tok.flow_mapping_start ++ (put t.held.position Tok.value ∷ []))) (sym (single_is f fs None e a.are_entries.0)) ∙ ap (λ x. a.tokens ++ (x ++ (put t.held.position Tok.value ∷ []))) (sym (grind arith))));
+      tokens_are = (grind (arith, append_assoc)) ∙ (ap (λ q. a.tokens ++ (start_if (opens_pair (f ∷ fs)) (pair_position q more) Tok.flow_mapping_start ++ (put t.held.position Tok.value ∷ []))) (sym (past_one t.held.position 58 more refl)) ∙ (ap (λ b. a.tokens ++ (start_if b (pair_position (position_after t.held.position (58 ∷ []) more) more) Tok.flow_mapping_start ++ (put t.held.position Tok.value ∷ []))) (sym (single_is f fs None e a.are_entries.0)) ∙ ap (λ x. a.tokens ++ (x ++ (put t.held.position Tok.value ∷ []))) (sym (grind arith))));
     })
   where
-    single : Bool
-    single = opens_pair (f ∷ fs)
-
     had : (e.had ≡ fresh) ⊎ (e.had ≡ settled)
     had = a.are_entries.1.0
-
-    place : Position → Position
-    place q = pair_position q more
 
 pub keyless_inside : (text more : List ℕ) (t : ScannerState) (f : FlowLevel) (fs : List FlowLevel) (ks : List (Option Key)) (e : Entry) (es : List Entry) (a : ArrivesBy text t (f ∷ fs) (None ∷ ks) (e ∷ es)) → t.rest ≡ 58 ∷ more → colon_may_precede more ≡ true →
     is_value_indicator true (is_adjacent (before_past (before_by a.site.before) a.separation)) more ≡ true → IsDeep t.held → Holds (Stands text) (value_by more t (f ∷ fs) (None ∷ ks))
 unfolding begin_keyless_value begin_keyless_mapping
 keyless_inside text more t f fs ks e es a cut apart ind deep =
-    chained {P = λ w. w ≡ record { rest = past_gap more; held = last }} (tried (record { rest = past_gap more; held = at_value more t (f ∷ fs) (None ∷ ks) }) _ (grind (arith, went, opens_none)) (λ s d. ap (λ y. record { rest = past_gap more; held = y }) d)) (λ w d.
+    chained {P = λ w. w ≡ record { rest = past_gap more; held = (record t.held { flow = pair_level InPair f ∷ fs; keys = None ∷ ks; position = pair_position (past t.held.position) more; leading = false; key_allowed = false; tokens = with_pair (opens_pair (f ∷ fs)) more t }) }} (tried (record { rest = past_gap more; held = at_value more t (f ∷ fs) (None ∷ ks) }) _ (grind (arith, went, opens_none)) (λ s d. ap (λ y. record { rest = past_gap more; held = y }) d)) (λ w d.
     went (subst (λ z. Stands text (on_held (push t.held.position Tok.value) z)) (sym d) (keyless_within text more t f fs ks e es a cut apart ind deep)))
-  where
-    last : Held
-    last = record t.held { flow = pair_level InPair f ∷ fs; keys = None ∷ ks; position = pair_position (past t.held.position) more; leading = false; key_allowed = false; tokens = with_pair (opens_pair (f ∷ fs)) more t }

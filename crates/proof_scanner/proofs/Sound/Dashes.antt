@@ -1,5 +1,5 @@
 -- The function of the model that reads a dash: what holds where it begins holds between two fetches after it.
-use Rattle.proof_scanner.proofs.Common.{AreLevels, Arrives, At, Bool, Fault, Held, Holds, Indent, List, No, None, Ok, Position, Result, ScannerState, Stands, Tok, Token, Yes, [], after, allow_key, ap, begins_entry, blanks_and_comment, chained, check_block_entry, check_dash, checked, columns, dash_may_precede, ends_at, eqb-true, false, fetch_block_entry, gap, gives_dash, has_open_level, if◌then◌else◌, in_flow, inl, is_at_break_or_flow, is_at_gap, is_blank, is_blank_or_breakz, is_break, is_deeper, is_empty, is_in_column, is_one_of, leading, lexed, line_past, not, not-false, not_ended, on_held, opened, past, past_blanks_and_comment, past_comment, past_line_rest, peek, placed, position_after, push, put, refl, remove_implicit_key, roll_entry, roll_indent, roll_one_col_indent, same_break, skip_indicator, skip_spaces, slice_index, space, start_if, subst, sym, token, top_needs_block_end, tried, true, try_held, went, with_top, ℕ, ◌&&◌, ◌++◌, ◌==◌, ◌>>=◌, ◌||◌, ◌∙◌, ◌∷◌, ◌≡◌, ◌⊎◌, arith, nat_tests}
+use Rattle.proof_scanner.proofs.Common.{AreLevels, Arrives, At, Bool, Fault, Held, Holds, Indent, List, No, None, Ok, Position, Result, ScannerState, Stands, Tok, Token, Yes, [], allow_key, ap, blanks_and_comment, chained, check_block_entry, check_dash, checked, columns, dash_may_precede, ends_at, eqb-true, false, fetch_block_entry, gap, gives_dash, has_open_level, if◌then◌else◌, in_flow, inl, is_at_break_or_flow, is_at_gap, is_blank, is_break, is_deeper, is_empty, is_in_column, leading, lexed, line_past, not, not-false, not_ended, on_held, opened, past, past_blanks_and_comment, past_line_rest, peek, placed, position_after, push, put, refl, remove_implicit_key, roll_entry, roll_indent, roll_one_col_indent, same_break, skip_indicator, skip_spaces, space, start_if, subst, sym, token, top_needs_block_end, tried, true, try_held, went, with_top, ℕ, ◌++◌, ◌>>=◌, ◌||◌, ◌∙◌, ◌∷◌, ◌≡◌, ◌⊎◌, arith, nat_tests}
 use Rattle.yaml_chars.specs.Class.{is_break as is_break_here, is_flow as is_flow_here}
 use Rattle.yaml_tokens.specs.declared.problem.Problem.TheVariants as problem
 use Rattle.model_scanner.specs.State.{after as after_first}
@@ -25,15 +25,7 @@ entry_checked s = checked (in_flow s) (At problem.BlockEntryInFlow s.position) (
 -- no dash stands after a TAB
 dash_checked : (more : List ℕ) (t : ScannerState) → t.rest ≡ past_blanks_and_comment more → Holds (λ u. (u ≡ t) × (dash_may_precede more ≡ true)) (check_dash (found_in (leading is_blank more)) t)
 unfolding check_dash
-dash_checked more t e =
-    checked _ (At problem.TabAfterDash t.held.position) (λ h. went (
-      refl,
-      of (is_one_of (leading is_blank more) 9) (after is_blank more)
-          (subst (λ r. (is_one_of (leading is_blank more) 9 && (slice_index r 0 == 45) && is_blank_or_breakz (slice_index r 1)) ≡ false) e h),
-    ))
-  where
-    of : (tabs : Bool) (b : List ℕ) → (tabs && (slice_index (past_comment b) 0 == 45) && is_blank_or_breakz (slice_index (past_comment b) 1)) ≡ false → not (tabs && begins_entry b) ≡ true
-    of a b h = grind (arith, nat_tests, eqb-true, gap_here)
+dash_checked more t e = grind (arith, nat_tests, checked, went, eqb-true, gap_here)
 
 -- a flow indicator or a break after the blanks and the comment
 pub flow_or_break : (r : List ℕ) → (is_break_here (peek r) || is_flow_here (peek r)) ≡ is_at_break_or_flow r
@@ -56,14 +48,11 @@ pub entered : (w : ScannerState) → in_flow w.held ≡ false → AreLevels w.he
 unfolding roll_entry
 entered w out levels top = by (is_break_here (peek w.rest) || is_flow_here (peek w.rest)) (sym (flow_or_break w.rest))
   where
-    closed : (is_empty w.held.indents ≡ false) × (has_open_level w.held.indents ≡ false)
-    closed = top_closed w.held.indents top
-
     by : (b : Bool) → is_at_break_or_flow w.rest ≡ b → Entered w (if b then on_held roll_one_col_indent w else w)
     by true e =
-        let o : OpensOne w.held (roll_one_col_indent w.held) = opens_one w.held out levels closed.0 in
+        let o : OpensOne w.held (roll_one_col_indent w.held) = opens_one w.held out levels (top_closed w.held.indents top).0 in
         record { indents = o.indents; indent = o.indent; is = ap (λ h. record w { held = h }) o.is_held; columns_are = o.columns_are; are_levels = o.are_levels; awaits = o.awaits ∙ sym e }
-    by false e = record { indents = w.held.indents; indent = w.held.indent; is = refl; columns_are = refl; are_levels = levels; awaits = closed.1 ∙ sym e }
+    by false e = record { indents = w.held.indents; indent = w.held.indent; is = refl; columns_are = refl; are_levels = levels; awaits = (top_closed w.held.indents top).1 ∙ sym e }
 
 -- ---- the step
 

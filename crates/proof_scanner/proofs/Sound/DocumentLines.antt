@@ -8,7 +8,6 @@ use Rattle.proof_scanner.proofs.Known.Steps.{begins_key}
 use Rattle.proof_scanner.proofs.Sound.Around.{tokens_before}
 use Rattle.proof_scanner.proofs.Sound.Arrivals.{some_rest}
 use Rattle.proof_scanner.proofs.Sound.EntryPieces.{goes_inside}
-use Rattle.proof_scanner.proofs.Sound.FlowMarks.{may_be_none}
 use Rattle.proof_scanner.proofs.Sound.Gone.{key_gone}
 use Rattle.proof_scanner.proofs.Sound.OutsidePieces.{read_outside}
 use Rattle.proof_scanner.proofs.Sound.Sides.{with_entries, ArrivesBy, ArrivesOutside, ArrivesInside, arrives_side}
@@ -145,14 +144,11 @@ line_goes text t d f fs k ks e es a r flow keys =
       entry_past = λ xs. ap (λ y. entries_past x.position (is_renewed a.site.before a.separation) y [] false e xs) r.token.act ∙
           (grind arith);
       colons = λ n p ws last. (rw (r.token.act, r.token.begun) refl);
-      tokens_are = let pair : Position = pair_position (position_after x.position d.piece (next_of d)) (next_of d) in ap (λ ts. ts ++ (own ∷ [])) (tokens_before text t f fs k ks e es a) ∙ (ap (λ b. a.tokens ++ (b ++ (own ∷ []))) (sym (ap (λ y. begun_inside (takes_pair e.kind e.pair) e.pair x.position pair pair y false e.had) r.token.act)) ∙ ap (λ p. a.tokens ++ (begun_inside (takes_pair e.kind e.pair) e.pair x.position pair pair (act_of d.tok) false e.had ++ (put p d.tok ∷ []))) (sym (r.token.shown x d.piece (next_of d))));
+      tokens_are = let pair : Position = pair_position (position_after x.position d.piece (next_of d)) (next_of d) in ap (λ ts. ts ++ ((put t.held.position d.tok) ∷ [])) (tokens_before text t f fs k ks e es a) ∙ (ap (λ b. a.tokens ++ (b ++ ((put t.held.position d.tok) ∷ []))) (sym (ap (λ y. begun_inside (takes_pair e.kind e.pair) e.pair x.position pair pair y false e.had) r.token.act)) ∙ ap (λ p. a.tokens ++ (begun_inside (takes_pair e.kind e.pair) e.pair x.position pair pair (act_of d.tok) false e.had ++ (put p d.tok ∷ []))) (sym (r.token.shown x d.piece (next_of d))));
     })
   where
     x : Site
     x = site_in true gives_marker t.held.position a.site
-
-    own : Token
-    own = put t.held.position d.tok
 
 -- ---- both
 
@@ -171,7 +167,7 @@ begins text t some a = by (arrives_side text t a)
       held = all_ended t.held;
       rolled = unrolled_outside t.held (ap (λ fs. not (is_empty fs)) o.flow_is) o.here.are_levels;
       same_position = refl;
-      stands = λ d r none. (line_stands text t d (key_gone text t o.key o.here some (may_be_none o.key [] t.held.keys t.held.position t.rest o.keys_are none)) r o.flow_is (ap (with_top None) o.keys_are));
+      stands = λ d r none. (line_stands text t d (key_gone text t o.key o.here some (grind (arith, nat_tests, eqb-true))) r o.flow_is (ap (with_top None) o.keys_are));
     }
     by (inr i) = record {
       held = t.held;

@@ -74,20 +74,17 @@ levels_end p i (d ∷ ds) ts a = by d.needs_block_end refl a.0
         (if nat_lt (p.col + 1) i then unrolled (p.col + 1) p d.indent ds (end_level b p ts) else record { indent = i; indents = d ∷ ds; tokens = ts })) (sym e)
         (two z.0 z.1 z.2 z.3 (nat_lt (p.col + 1) i) refl)
       where
-        is_right : (n : ℕ) → d.indent ≡ suc n → (b : Bool) → nat_lt (p.col + 1) i ≡ b → nat_lt n p.col ≡ not b
-        is_right n k a f = grind (arith, nat_tests, eqb-true)
-
         not_left : (n : ℕ) → d.indent ≡ suc n → nat_lt (p.col + 1) i ≡ false → nat_lt p.col n ≡ false
         not_left n k f = let g : i ≡ d.indent + 1 = h.0 in grind (arith, nat_tests, f, g, k)
 
         two : (n : ℕ) (ns : List ℕ) → columns d.indent ds ≡ n ∷ ns → d.indent ≡ suc n → (b : Bool) → nat_lt (p.col + 1) i ≡ b →
             Ended p (columns d.indent ds) true ts (if b then unrolled (p.col + 1) p d.indent ds ts else record { indent = i; indents = d ∷ ds; tokens = ts })
-        two n ns c k true f = alone p (columns d.indent ds) true ts (unrolled (p.col + 1) p d.indent ds ts) (ap (λ x. is_deeper p.col x) c ∙ is_right n k true f) (collections_end p d.indent ds ts a.1)
+        two n ns c k true f = alone p (columns d.indent ds) true ts (unrolled (p.col + 1) p d.indent ds ts) (ap (λ x. is_deeper p.col x) c ∙ (grind (arith, nat_tests, eqb-true))) (collections_end p d.indent ds ts a.1)
         two n ns c k false f =
             let stays : not_ended p.col (columns d.indent ds) ≡ columns d.indent ds = ap (not_ended p.col) c ∙ (ap (λ b. if b then not_ended p.col ns else n ∷ ns) (not_left n k f) ∙ sym c) in
             record {
               columns_are = stays ∙ sym (ap (λ b. if b then (i - 1) ∷ columns d.indent ds else columns d.indent ds) e);
-              open_is = ap (λ x. is_deeper p.col x) c ∙ (is_right n k false f ∙ ap not (sym e));
+              open_is = ap (λ x. is_deeper p.col x) c ∙ ((grind (arith, nat_tests, eqb-true)) ∙ ap not (sym e));
               are_levels = a;
               tokens_are = no_ends p (columns d.indent ds) ts ∙ ap (λ x. ts ++ ends_at p (columns d.indent ds) x) (sym stays);
             }

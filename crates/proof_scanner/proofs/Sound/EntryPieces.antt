@@ -1,5 +1,5 @@
 -- A piece in flow with which its entry goes on, and before and after which no key of the entry waits: `?`, a colon without a key, and a line for the document. What holds where it begins holds between two fetches after it.
-use Rattle.proof_scanner.proofs.Sound.NodeTokens.{past_step, keys_along, had_as_it_was, no_had}
+use Rattle.proof_scanner.proofs.Sound.NodeTokens.{past_step, keys_along, had_as_it_was}
 use Rattle.proof_scanner.proofs.Sound.InFlow as flow
 use Rattle.proof_scanner.proofs.Common.{Act, AreNumbered, Bool, Colon, Entry, FlowLevel, Had, HasHadHere, IsEntryOf, IsPiece, Key, Line, List, None, Option, Pair, Position, ScannerState, Site, Some, Stands, Step, Tok, Token, [], act_of, ap, arith, begun_by, begun_inside, colon_of, columns, entries_by, entries_past, entry_by, false, had_by, has_break, is_renewed, key_end, least_column, length, length-append, may_stand, nat_le, pair_position, pop, position_after, previous_by, put, refl, seen, shown_position, site_here, spelled, suc, sym, takes_pair, tokens_at, tokens_up_to, true, with_had, with_keys, ℕ, ◌++◌, ◌∙◌, ◌∷◌, ◌≡◌, eqb-true, nat_tests}
 use Rattle.proof_scanner.proofs.Cut.Nodes.{IsDeep}
@@ -46,7 +46,7 @@ module _ (text : List ℕ) (t : ScannerState) (f : FlowLevel) (fs : List FlowLev
       let there : Position = pair_position past (spelled ws last) in
       let at_end : Colon = key_end tok past ws last in
       let first : with_had (colon_of 0 p (w ∷ ws) last) single (had_by false k e.had) k a.tokens ≡ a.tokens =
-      rw (had_as_it_was k e.had) (no_had (colon_of 0 p (w ∷ ws) last) single e.had k a.tokens (grind arith)) in
+      rw (had_as_it_was k e.had) (grind arith) in
       let second : tokens_at a.site x w ws last l (entry_by false k e ∷ xs) ≡ own =
       ap (λ y. y ++ (put (shown_position x piece tok (spelled ws last)) tok ∷ []))
       (begun_alike single e.pair x.position (pair_position at_end.past at_end.next) there there (act_of tok) (had_by false k e.had) ∙ ap (λ y. begun_inside single e.pair x.position there there (act_of tok) false y) (had_as_it_was k e.had)) ∙

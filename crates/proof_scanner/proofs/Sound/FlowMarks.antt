@@ -1,5 +1,5 @@
 -- The functions of the model that read commas and closing brackets keep what holds where they begin.
-use Rattle.proof_scanner.proofs.Common.{arith, Arrives, Bool, Collection, FlowLevel, Held, Holds, Key, List, MayChoose, None, Option, Position, ScannerState, Stands, Tok, [], adjacent_in_flow, ap, begins_with, chained, end_entry, end_flow, false, fetch_flow_collection_end, fetch_flow_entry, flow_end, inl, inr, is_empty, is_required, on_held, pop, push, refused, remove_implicit_key, subst, sym, top_key, tried, true, went, with_top, ℕ, ◌∙◌, ◌∷◌, ◌≡◌, ◌⊎◌, eqb-true, nat_tests}
+use Rattle.proof_scanner.proofs.Common.{arith, Arrives, Bool, Collection, FlowLevel, Held, Holds, Key, List, None, Option, ScannerState, Stands, Tok, adjacent_in_flow, ap, begins_with, chained, end_entry, end_flow, false, fetch_flow_collection_end, fetch_flow_entry, flow_end, inl, inr, is_empty, is_required, on_held, pop, push, refused, remove_implicit_key, subst, sym, top_key, tried, true, went, with_top, ℕ, ◌∙◌, ◌∷◌, ◌≡◌, ◌⊎◌, eqb-true, nat_tests}
 use Rattle.model_scanner.specs.State.{after}
 use Rattle.proof_scanner.proofs.Cut.FlowEnds.{higher_keys, ended_now, entry_now, ended_is, entry_is}
 use Rattle.proof_scanner.proofs.Cut.Nodes.{IsDeep}
@@ -20,17 +20,13 @@ pub entry_over : (s : Held) → Holds (λ u. (is_required (top_key s.keys) ≡ f
 unfolding end_entry remove_implicit_key
 entry_over s = grind (arith, refused, went, entry_is s s.flow)
 
--- so outside flow it may be none
-pub may_be_none : (k : Option Key) (ks : List (Option Key)) (keys : List (Option Key)) (p : Position) (rest : List ℕ) → keys ≡ k ∷ ks → is_required (top_key keys) ≡ false → MayChoose true false k p rest
-may_be_none a ks keys p rest e h = grind (arith, nat_tests, eqb-true)
-
 -- ---- what stands after either, with its account
 
 -- outside flow
 pub stray_outside : (text more : List ℕ) (closes : Bool) (tok : Tok) (c : ℕ) → IsCloser closes tok c → (t : ScannerState) (o : ArrivesOutside text t) → t.rest ≡ c ∷ more → begins_with 35 more ≡ false → is_required (top_key t.held.keys) ≡ false →
     Stands text (stray_past closes t tok more)
 stray_outside text more closes tok c k t o e hash free =
-    stray_at text more closes tok c k t (key_gone text t o.key o.here (ap is_empty e) (may_be_none o.key [] t.held.keys t.held.position t.rest o.keys_are free)) (ap (with_top None) o.keys_are) e hash
+    stray_at text more closes tok c k t (key_gone text t o.key o.here (ap is_empty e) (grind (arith, nat_tests, eqb-true))) (ap (with_top None) o.keys_are) e hash
 
 -- ---- a comma
 

@@ -1,5 +1,5 @@
 -- A piece in flow was read: if the definition and the scanner agree on its entries and tokens, what holds where it begins holds between two fetches after it.
-use Rattle.proof_scanner.proofs.Common.{Account, AreEntries, AreNumbered, BeginsButForKey, Bool, Entry, FlowLevel, IsLine, IsOpenOutside, IsPiece, IsWritten, Key, KnowsKey, Line, List, MayChoose, None, NotBefore, Option, Position, ScannerState, Site, SoFar, Some, Stands, Step, Tok, account_past, act_of, ap, begins_free_line, begun_by, chosen, entries_by, entries_past, entry_by, false, has_break, is_empty, is_renewed, is_separation, is_waiting, length, line_by, line_past_separation, may_stand, not, outside_key, position_after, previous_by, refl, seen, shown_position, site_here, site_past, spelled, subst, suc, sym, taken, tokens_at, tokens_of_step, tokens_up_to, true, with_keys, ℕ, ◌&&◌, ◌++◌, ◌∙◌, ◌∷◌, ◌≡◌, ◌≤◌, ◌+◌, arith, nat_tests, eqb-true}
+use Rattle.proof_scanner.proofs.Common.{Account, AreEntries, AreNumbered, BeginsButForKey, Bool, Entry, FlowLevel, IsLine, IsOpenOutside, IsPiece, Key, KnowsKey, Line, List, MayChoose, None, NotBefore, Option, Position, ScannerState, Site, SoFar, Some, Stands, Step, Tok, account_past, act_of, ap, begins_free_line, begun_by, chosen, entries_by, entries_past, entry_by, false, has_break, is_empty, is_renewed, is_separation, is_waiting, length, line_by, line_past_separation, may_stand, not, outside_key, position_after, previous_by, refl, seen, shown_position, site_here, site_past, spelled, subst, suc, sym, taken, tokens_at, tokens_of_step, tokens_up_to, true, with_keys, ℕ, ◌&&◌, ◌++◌, ◌∙◌, ◌∷◌, ◌≡◌, ◌≤◌, ◌+◌, arith, nat_tests, eqb-true}
 use Rattle.proof_scanner.proofs.Cut.Positions.{not_before_then, not_before_after}
 use Rattle.proof_scanner.proofs.Known.Read.{knows_inside}
 use Rattle.proof_scanner.proofs.Sound.Around.{line_taken, unbroken_around, one_around, may_around, open_around}
@@ -64,7 +64,7 @@ module _ (text : List ℕ) (t u : ScannerState) (f : FlowLevel) (fs : List FlowL
     are_numbered = g.are_numbered;
     carries = λ cs key own must inside more. subst (λ l. BeginsButForKey text l key.position (chosen false cs ls (account_then t.held.position))) r.is_rest
         (subst (λ p. BeginsButForKey text next key.position (chosen false cs ls (account_then p))) (sym place)
-        (but_for_key_past text (a.separation ++ (piece ++ next)) key.position (before false cs) (chosen false cs ls (account_then piece_here)) (flow_step (n.bit cs)) next refl (written false cs)
+        (but_for_key_past text (a.separation ++ (piece ++ next)) key.position (before false cs) (chosen false cs ls (account_then piece_here)) (flow_step (n.bit cs)) next refl (grind (arith, nat_tests, eqb-true, same_levels))
         (account false cs (grind arith) (grind (arith, nat_tests, eqb-true)))
         (subst (λ x. BeginsButForKey text (a.separation ++ x) key.position (chosen false (n.choice cs ∷ n.outer cs) (k ∷ ks) (with_entries a.site a.line (e ∷ es)))) r.cut (a.carries (n.choice cs ∷ n.outer cs) key (sym g.same_key ∙ own) must refl some))));
     knows = subst (λ y. KnowsKey text (gap ++ u.rest) u.held.position y) (sym g.same_key) (knows_inside text t piece next tok r.cut u.held.position gap u.rest r.position_is r.is_rest f fs k ks e es a ((subst (λ l. is_separation false a.separation l ≡ true) r.cut a.is_filled), (ap not r.is_solid, n.is_piece)));
@@ -73,7 +73,7 @@ module _ (text : List ℕ) (t u : ScannerState) (f : FlowLevel) (fs : List FlowL
         subst (λ l. SoFar strict text l (chosen c cs ls (account_then t.held.position)) (tokens_up_to (chosen c cs ls (account_then t.held.position)) ls u.held.tokens)) r.is_rest
         (subst (λ p. SoFar strict text next (chosen c cs ls (account_then p)) (tokens_up_to (chosen c cs ls (account_then p)) ls u.held.tokens)) (sym place)
         (goes_past strict text (a.separation ++ (piece ++ next)) (before c cs) (chosen c cs ls (account_then piece_here)) (tokens_up_to (before c cs) (k ∷ ks) a.tokens) (tokens_up_to (chosen c cs ls (account_then piece_here)) ls u.held.tokens)
-        (flow_step (n.bit cs)) next refl (written c cs)
+        (flow_step (n.bit cs)) next refl (grind (arith, nat_tests, eqb-true, same_levels))
         (account c cs (unbroken_around text t f fs k ks e es a some u.held.position u.rest later strict c was) (one_around text t f fs k ks e es a some u.held.position u.rest later piece g.in_line strict c was))
         (λ _ i. ap (λ y. is_waiting (line_by c y a.line)) g.same_key ∙ i) (tokens c cs)
         (completes_at text t (f ∷ fs) (k ∷ ks) (e ∷ es) a (piece ++ next) piece_here r.cut place strict c (n.choice cs ∷ n.outer cs)
@@ -91,9 +91,6 @@ module _ (text : List ℕ) (t u : ScannerState) (f : FlowLevel) (fs : List FlowL
 
       before : Bool → List Bool → Account
       before c cs = chosen c (n.choice cs ∷ n.outer cs) (k ∷ ks) (with_entries a.site a.line (e ∷ es))
-
-      written : (c : Bool) (cs : List Bool) → IsWritten (before c cs) (flow_step (n.bit cs)) next
-      written c cs = grind (arith, nat_tests, eqb-true, same_levels)
 
       account : (c : Bool) (cs : List Bool) → line_past_separation true (begins_free_line a.site.before a.separation) (line_by c (outside_key es ks) a.line) ≡ Some (line_by c (outside_key es ks) a.line) → (has_break piece && is_waiting (line_by c (outside_key es ks) a.line)) ≡ false →
           account_past (before c cs) (flow_step (n.bit cs)) next ≡ Some (chosen c cs ls (account_then piece_here))

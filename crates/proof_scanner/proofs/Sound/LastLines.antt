@@ -26,10 +26,7 @@ complete_is (c ∷ r) = by (is_break c) (is_before_line_feed c r) refl (complete
 
 -- one character more at its start
 pub last_first : (c : ℕ) (r : List ℕ) → last_line (c ∷ r) ≡ (if is_break c || has_break r then last_line r else c ∷ last_line r)
-last_first c r = by (is_break c) (is_before_line_feed c r) ∙ ap (λ b. if is_break c || not b then last_line r else c ∷ last_line r) (complete_is r)
-  where
-    by : (x y : Bool) → (split_by x y c (split r)).last ≡ (if x || not (is_empty (split r).complete) then last_line r else c ∷ last_line r)
-    by b a = grind (arith, nat_tests, eqb-true)
+last_first c r = (grind (arith, nat_tests, eqb-true)) ∙ ap (λ b. if is_break c || not b then last_line r else c ∷ last_line r) (complete_is r)
 
 -- one character more at its end
 pub last_more : (g : List ℕ) (c : ℕ) → last_line (g ++ c ∷ []) ≡ (if is_break c then [] else last_line g ++ c ∷ [])

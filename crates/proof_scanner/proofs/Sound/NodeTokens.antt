@@ -1,11 +1,8 @@
 -- The tokens of a part of a node: with its key put in, or without.
-use Rattle.proof_scanner.proofs.Common.{Bool, Colon, Entry, FlowLevel, Had, Key, Line, List, Option, Position, Site, Step, Tok, Token, [], act_of, ap, arith, begun_by, block_mapping_start, colon_of, depth_past, entries_by, false, flow_mapping_start, gives_node, had_by, insert, is_deeper, is_keyed, key, key_tokens, length, level_of, map, pair_position, pop, position_after, put, put_key, refl, shown_position, spelled, suc, takes_pair, tokens_at, true, with_had, with_keys, with_line, ℕ, ◌++◌, ◌∷◌, ◌≡◌, eqb-true, nat_tests}
+use Rattle.proof_scanner.proofs.Common.{Bool, Colon, Entry, FlowLevel, Had, Key, Line, List, Option, Position, Site, Step, Tok, Token, [], act_of, ap, arith, begun_by, block_mapping_start, colon_of, entries_by, false, flow_mapping_start, gives_node, had_by, insert, is_deeper, key_tokens, length, level_of, map, pair_position, pop, position_after, put, put_key, refl, shown_position, spelled, suc, true, with_keys, with_line, ℕ, ◌++◌, ◌∷◌, ◌≡◌, eqb-true, nat_tests}
 use Rattle.proof_scanner.proofs.Sound.Begun.{with_begun, depth_begun, depth_rises}
 
 -- ---- an entry in which no key waits
-
-pub no_had : (c : Colon) (single : Bool) (h : Had) (k : Option Key) (ts : List Token) → is_keyed h ≡ false → with_had c single h k ts ≡ ts
-no_had c single h k ts e = grind arith
 
 pub had_as_it_was : (k : Option Key) (h : Had) → had_by false k h ≡ h
 had_as_it_was a h = grind (arith, nat_tests, eqb-true)
@@ -63,8 +60,3 @@ past_piece at w ws last = position_after at.position w.piece (spelled ws last)
 -- the token that the piece shows
 abbrev pub shown_token : Site → Step → List Step → (last : List ℕ) → Token
 shown_token at w ws last = put (shown_position at w.piece w.shown (spelled ws last)) w.shown
-
--- in flow
-pub tokens_inside : (s at : Site) (w : Step) (ws : List Step) (last : List ℕ) (l : Line) (n : Entry) (es begins : List Entry) → act_of w.shown ≡ gives_node → begun_by w.shown ≡ begins →
-    tokens_at s at w ws last l (n ∷ es) ≡ key_inside w.key (takes_pair n.kind n.pair) at (colon_of (depth_past gives_node begins 0) (past_piece at w ws last) ws last) ++ (shown_token at w ws last ∷ [])
-tokens_inside s at w ws last l n es begins e f = grind (arith, nat_tests, eqb-true)

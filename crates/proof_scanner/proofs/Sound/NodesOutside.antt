@@ -1,9 +1,9 @@
 -- A part of a node outside flow, be it an opening bracket or no collection: what may begin after it, and its tokens, where a key that begins with it goes in.
-use Rattle.proof_scanner.proofs.Common.{Account, Bool, Colon, FlowLevel, IsLineHere, IsLive, Key, Line, List, MayChoose, None, Option, Position, Site, Some, Step, Tok, Token, [], act_of, ap, append_assoc, arith, begun_by, colon_of, ends_at, eqb-true, false, gives_node, is_waiting, length, line_by, line_is, line_past, nat_tests, position_after, put, shown_position, site_here, site_in, spelled, sym, taken, tokens_at, tokens_of_step, tokens_up_to, with_keys, with_line, ℕ, ◌&&◌, ◌++◌, ◌∙◌, ◌∷◌, ◌≡◌}
-use Rattle.proof_scanner.proofs.Sound.Begun.{with_begun, with_no_key, depth_begun, keys_around_begun}
-use Rattle.proof_scanner.proofs.Sound.Inserts.{AreAmong, line_first, among}
+use Rattle.proof_scanner.proofs.Common.{Account, Bool, FlowLevel, IsLineHere, IsLive, Key, Line, List, MayChoose, None, Option, Position, Site, Some, Step, Tok, Token, [], act_of, append_assoc, arith, begun_by, ends_at, eqb-true, false, gives_node, is_waiting, length, line_by, line_past, nat_tests, position_after, put, shown_position, site_here, spelled, taken, tokens_of_step, tokens_up_to, with_keys, ℕ, ◌&&◌, ◌++◌, ◌∷◌, ◌≡◌}
+use Rattle.proof_scanner.proofs.Sound.Begun.{with_begun, with_no_key, keys_around_begun}
+use Rattle.proof_scanner.proofs.Sound.Inserts.{AreAmong, line_first}
 use Rattle.proof_scanner.proofs.Sound.NodeSteps.{saved, choice_before, bit_of}
-use Rattle.proof_scanner.proofs.Sound.NodeTokens.{past_step, keys_past, key_between, key_outside}
+use Rattle.proof_scanner.proofs.Sound.NodeTokens.{past_step, keys_past, key_between}
 use Rattle.proof_scanner.proofs.Sound.OutOfFlow.{Outer}
 
 -- no block collection ends where a key may still come to its colon
@@ -20,9 +20,6 @@ line_after_node strict must allowed c k new l here p bs rest h e q may = grind (
 
 -- ---- the tokens after it
 
-pub no_line : (c : Colon) (bs : List ℕ) (l : Line) (k : Option Key) (ts : List Token) → is_waiting l ≡ false → with_line c bs l k ts ≡ ts
-no_line c bs l a ts h = grind (arith, nat_tests, eqb-true)
-
 -- The tokens after it are those before, with the ends that stand here, and its own.
 pub node_tokens : (level : Option FlowLevel) (s : Site) (separation piece : List ℕ) (tok : Tok) (strict allowed c : Bool) (k : Option Key) (new : Key) (l m : Line) (p : Position) (rest : List ℕ) (ts : List Token) (ws : List Step) (last : List ℕ) →
     act_of tok ≡ gives_node → begun_by tok ≡ with_begun level [] →
@@ -32,16 +29,4 @@ pub node_tokens : (level : Option FlowLevel) (s : Site) (separation piece : List
     let before : Account = Outer s (line_by (choice_before allowed c) k l) in
     new.position ≡ b.position → new.number ≡ length (ts ++ ends_at b.position s.blocks b.blocks) → AreSame k p rest s.blocks b.blocks → tokens_up_to before (k ∷ []) ts (w ∷ ws) last ++ tokens_of_step before w ws last ≡
     with_keys 0 (past_step s.position w ws last) ws last b.blocks (line_by c (saved allowed new k) taken) (with_begun level []) (with_no_key level (saved allowed new k ∷ [])) ((ts ++ ends_at b.position s.blocks b.blocks) ++ (put (shown_position b piece tok (spelled ws last)) tok ∷ [])))
-node_tokens level s separation piece tok strict allowed c k new l m p rest ts ws last act begins line_is may idle among place number same =
-    let b : Site = site_here false (position_after s.position separation (piece ++ spelled ws last)) s in
-    let w : Step = record { separation = separation; piece = piece; shown = tok; key = bit_of allowed c } in
-    let x : Line = line_by (choice_before allowed c) k l in
-    let q : Position = past_step s.position w ws last in
-    let colon : Colon = colon_of (depth_begun level 0) q ws last in
-    let ends : List Token = ends_at b.position s.blocks b.blocks in
-    let own : Token = put (shown_position b piece tok (spelled ws last)) tok in
-    let second : tokens_of_step (Outer s x) w ws last ≡ ends ++ (key_outside w.key b colon ++ (own ∷ [])) = ap (λ y. tokens_at s (site_in false y b.position s) w ws last x []) act ∙ (grind (arith, nat_tests, eqb-true, append_assoc)) in
-    ap (λ y. y ++ tokens_of_step (Outer s x) w ws last) (keys_past level 0 s.position w ws last act begins s.blocks x [] (k ∷ []) ts) ∙
-    (ap (λ y. with_line colon s.blocks x k ts ++ y) second ∙
-    ((grind (arith, append_assoc, key_between, no_line, line_first)) ∙
-    sym (keys_around_begun level q ws last b.blocks (line_by c (saved allowed new k) taken) [] (saved allowed new k ∷ []) ((ts ++ ends) ++ (own ∷ [])))))
+node_tokens level s separation piece tok strict allowed c k new l m p rest ts ws last act begins a may idle b place number same = grind (arith, nat_tests, eqb-true, append_assoc, keys_past, key_between, line_first, keys_around_begun, taken)

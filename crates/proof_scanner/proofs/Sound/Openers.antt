@@ -11,7 +11,7 @@ use Rattle.proof_scanner.proofs.Sound.Standing.{deep_for}
 use Rattle.proof_scanner.proofs.Sound.Sides.{with_entries, ArrivesBy}
 use Rattle.std.proofs.lemmas.List.{length-map}
 use Rattle.proof_scanner.proofs.Cut.Saved.{saved_keys}
-use Rattle.proof_scanner.proofs.Sound.ReadNodes.{Read, next_of, site_then, IsRead, state_after, site_of, deep_there}
+use Rattle.proof_scanner.proofs.Sound.ReadNodes.{Read, next_of, site_then, IsRead, state_after, site_of}
 use Rattle.proof_scanner.proofs.Sound.Reads.{reads_before_none}
 
 -- What is said of an opening bracket.
@@ -92,7 +92,7 @@ opener_is_read text more lv tok c o t u r e deep hash few fs ks es flow a =
       shown = λ y. o.shown y (c ∷ []) (next_of d);
       is_piece = o.is_opening.piece (seen (with_entries a.site a.line es) x a.separation) (next_of d) None
           (less (length fs) (length (map level_of es)) ((grind (arith, nat_tests, many_around, eqb-true)) ∙ sym (length-map es level_of)) (ap (λ f. nat_le 255 (length f)) (sym flow) ∙ few));
-      is_deep = deep_for fl tok x (o.least x) (deep_there text t fs ks es a deep);
+      is_deep = deep_for fl tok x (o.least x) (rw (a.blocks_are, a.awaits_is) (grind arith));
       lines_stand = o.lines (least_for tok x) (c ∷ []);
       precedes = o.precedes fl x.blocks (c ∷ []) (next_of d) ∙ ap (λ l. not (begins_with 35 l)) (sym cut) ∙ ap not hash;
       allowed_is = refl;

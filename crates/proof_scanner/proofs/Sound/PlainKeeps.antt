@@ -114,9 +114,6 @@ module _ (text : List ℕ) (t : ScannerState) (a : Arrives text t) (deep : IsDee
     in_line : ends_in_line q.piece ≡ true
     in_line = grind (arith, nat_tests, eqb-true, content_last, and_parts)
 
-    solid : is_empty q.piece ≡ false
-    solid = whole_solid ctx.flow (collection_of ctx.indent) q.piece (q.gap ++ x.rest) q.whole
-
     one_line_of : is_empty x.rest ≡ false → x.position.line ≤ t.held.position.line → (has_break q.piece ≡ false) × (has_break q.gap ≡ false)
     one_line_of some h = grind (arith, nat_tests, eqb-true, q, not_before_after, on_one_line, in_line, gap_in_line)
 
@@ -155,11 +152,11 @@ module _ (text : List ℕ) (t : ScannerState) (a : Arrives text t) (deep : IsDee
 
       pub is_read : IsRead t None fs r.site r.line es r.separation d
       is_read =
-          let far = adjacent_kept t (state_after t None d) other q.piece (next_of d) q.gap solid q.end_is a.was_adjacent refl refl in
+          let far = adjacent_kept t (state_after t None d) other q.piece (next_of d) q.gap (whole_solid ctx.flow (collection_of ctx.indent) q.piece (q.gap ++ x.rest) q.whole) q.end_is a.was_adjacent refl refl in
           let filled = gap_is_separation q.gap x.rest q.white in
           let awaits_then : awaits_past fl tok at.blocks at.awaits (next_of d) ≡ has_open_level gone.indents = none_awaits fl at.blocks at.awaits (next_of d) ∙ sym closed.none_open in
           let further : plain_lines_fit (least_column at.blocks true) q.piece ≡ true = ap (λ n. plain_lines_fit n q.piece) least_here ∙ q.fits.lines in
-          assumption (q, closed, solid, far, filled, (r.blocks_are ∙ closed.same_columns), awaits_then, no_tabs, piece_is, deep_by fl (sym (ap (λ f. not (is_empty f)) flow)), further, (ap not (ap (λ y. y && has_dash_before_flow q.piece (next_of d)) (sym (ap (λ f. not (is_empty f)) flow)) ∙ q.fits.dash)), allowed_by fl, one_line_of)
+          assumption (q, closed, (whole_solid ctx.flow (collection_of ctx.indent) q.piece (q.gap ++ x.rest) q.whole), far, filled, (r.blocks_are ∙ closed.same_columns), awaits_then, no_tabs, piece_is, deep_by fl (sym (ap (λ f. not (is_empty f)) flow)), further, (ap not (ap (λ y. y && has_dash_before_flow q.piece (next_of d)) (sym (ap (λ f. not (is_empty f)) flow)) ∙ q.fits.dash)), allowed_by fl, one_line_of)
 
     abbrev pub scalar_held : Held
     scalar_held = record t.held {

@@ -1,9 +1,8 @@
 -- The scan of a plain scalar refuses TABs that indent its further lines, and in flow a dash before a flow indicator.
-use Rattle.proof_scanner.proofs.Common.{At, Bool, Context, Err, Fault, List, Ok, Plain, PlainState, Position, Read, Result, Stop, Turn, [], after_first, and_false, and_parts, and_then, ap, append_assoc, append_cancel_right, arith, at_break, at_char, at_dash, at_gap, begins_flow, begins_solid, can_be_plain, ended, eqb-true, fail, false, first, has_break, has_dash_before_flow, has_tab_within, if◌then◌else◌, inl, inr, is_at_comment_or_end, is_before_line_feed, is_blanks, is_cr_lf, is_gap, joined, last_line, leading, lines_have_no_tab, nat_lt, nat_tests, not, not-true, nothing, on, or_true, past, plain_from, plain_lines_fit, put_first, refl, run, same_blank, same_break, slice_index, split, split_by, starts, stop, subst, suc, sym, tabs, true, turn, turn_in, turned, with_blank, ℕ, ◌&&◌, ◌++◌, ◌+◌, ◌-◌, ◌==◌, ◌||◌, ◌∙◌, ◌∷◌, ◌≡◌, ◌≤◌, ◌⊎◌}
+use Rattle.proof_scanner.proofs.Common.{Bool, Context, Err, Fault, List, Ok, Plain, PlainState, Position, Read, Result, Stop, Turn, [], after_first, and_false, and_parts, and_then, ap, append_assoc, append_cancel_right, arith, at_break, at_char, at_dash, at_gap, begins_flow, begins_solid, ended, eqb-true, fail, false, first, has_break, has_dash_before_flow, has_tab_within, if◌then◌else◌, inl, inr, is_at_comment_or_end, is_before_line_feed, is_blanks, is_cr_lf, is_gap, joined, last_line, leading, lines_have_no_tab, nat_lt, nat_tests, not, not-true, nothing, on, or_true, plain_from, plain_lines_fit, put_first, refl, run, same_blank, same_break, split, split_by, starts, stop, subst, suc, sym, tabs, true, turn, turn_in, turned, ℕ, ◌&&◌, ◌++◌, ◌+◌, ◌-◌, ◌==◌, ◌||◌, ◌∙◌, ◌∷◌, ◌≡◌, ◌≤◌, ◌⊎◌}
 use Rattle.defs_text.specs.Classes as classes
 use Rattle.yaml_chars.specs.Class.{is_break, is_blank}
 use Rattle.yaml_chars.specs.Class as model_classes
-use Rattle.yaml_tokens.specs.declared.problem.Problem.TheVariants as problem
 use Rattle.model_scanner.specs.Plain.{Mode, inside, between, goes_on, begun, plain}
 use Rattle.proof_scanner.proofs.Sound.LastLines.{last_first, last_whole}
 use Rattle.proof_scanner.proofs.Sound.TabsWithin.{take_none, none_before, blank_more}
@@ -80,9 +79,6 @@ pub white_is_no_dash : (flow apart next : Bool) (c : ℕ) → (is_break c || is_
 unfolding is_break is_blank
 white_is_no_dash flow apart next c h = grind arith
 
-pub not_apart : (flow dash next : Bool) → (flow && false && dash && next) ≡ false
-not_apart a b d = grind arith
-
 solid_is_no_tab : (c : ℕ) → is_blank c ≡ false → (c == 9) ≡ false
 unfolding is_blank
 solid_is_no_tab c h = grind arith
@@ -100,27 +96,13 @@ module _ (ctx : Context) (start : Position) (c : ℕ) (a : List ℕ) where
         (ctx.flow && is_apart m && (c == 45) && begins_flow a) ≡ false → is_apart t.mode ≡ (is_break c || is_blank c) → Goes m s (on t)
 
   break_goes : (m : Mode) (s : PlainState) → is_break c ≡ true → Goes m s (on (at_break c a s))
-  break_goes m s e = grind (arith, goes, x, white, margin, feed_breaks, white_is_no_dash, is_apart, between, break_leads)
-    where
-      x : Spot
-      x = spot_of m s.folded.leading s.position.col
-
-      white : (is_break c || is_blank c) ≡ true
-      white = rw e refl
-
-      margin : past_spot ctx.indent x c ≡ at 0
-      margin = rw e refl
+  break_goes m s e = grind (arith, nat_tests, eqb-true, goes, feed_breaks, white_is_no_dash, between, break_leads)
 
   module _ (breaks : is_break c ≡ false) where
     -- a blank that is no TAB in the indentation
     gap_goes : (m : Mode) (s : PlainState) → is_blank c ≡ true → (s.folded.leading && (c == 9) && nat_lt s.position.col ctx.indent) ≡ false →
         may_go (spot_of m s.folded.leading s.position.col) c ≡ true → spot_of between s.folded.leading (s.position.col + 1) ≡ past_spot ctx.indent (spot_of m s.folded.leading s.position.col) c → Goes m s (on (at_gap ctx c a s))
-    gap_goes m s f h go x =
-        let white : (is_break c || is_blank c) ≡ true = rw (breaks, f) refl in
-        let is : at_gap ctx c a s ≡ record { mode = between; position = past s.position; folded = with_blank c s.folded } = rw (breaks, h) refl in
-        subst (λ t. Goes m s (on t)) (sym is)
-        (goes (record { mode = between; position = past s.position; folded = with_blank c s.folded }) tt go (inl (ap (λ l. spot_of between l (s.position.col + 1)) (grind arith) ∙ x))
-        (white_is_no_dash ctx.flow (is_apart m) (begins_flow a) c white) (sym white))
+    gap_goes m s f h go x = grind (arith, nat_tests, eqb-true, between, on, goes, white_is_no_dash)
 
     -- after content
     blank_inside : (s : PlainState) → is_blank c ≡ true → s.folded.leading ≡ false → Goes inside s (on (at_gap ctx c a s))
@@ -128,14 +110,7 @@ module _ (ctx : Context) (start : Position) (c : ℕ) (a : List ℕ) where
 
     -- a TAB in the indentation
     tab_goes : (s : PlainState) → is_blank c ≡ true → s.folded.leading ≡ true → ((c == 9) && nat_lt s.position.col ctx.indent) ≡ true → Goes between s (on (at_gap ctx c a s))
-    tab_goes s f l h =
-        let white : (is_break c || is_blank c) ≡ true = rw (breaks, f) refl in
-        let tab : (s.folded.leading && (c == 9) && nat_lt s.position.col ctx.indent) ≡ true = ap (λ x. x && (c == 9) && nat_lt s.position.col ctx.indent) l ∙ h in
-        let is : at_gap ctx c a s ≡ record { mode = tabs; position = past s.position; folded = s.folded } = rw (breaks, tab) refl in
-        let here : spot_of between s.folded.leading s.position.col ≡ at s.position.col = ap (λ x. spot_of between x s.position.col) l in
-        subst (λ t. Goes between s (on t)) (sym is)
-        (goes (record { mode = tabs; position = past s.position; folded = s.folded }) tt (subst (λ x. may_go x c ≡ true) (sym here) refl) (inl (sym (ap (λ x. past_spot ctx.indent x c) here ∙ rw (breaks, h) refl)))
-        (white_is_no_dash ctx.flow true (begins_flow a) c white) (sym white))
+    tab_goes s f l h = grind (arith, nat_tests, eqb-true, tabs, between, on, goes, white_is_no_dash)
 
     blank_between : (s : PlainState) → is_blank c ≡ true → Goes between s (on (at_gap ctx c a s))
     blank_between s f = grind (arith, nat_tests, eqb-true, gap_goes, tab_goes)
@@ -146,7 +121,7 @@ module _ (ctx : Context) (start : Position) (c : ℕ) (a : List ℕ) where
 
       -- one more character of a line
       char_inside : (s : PlainState) → s.folded.leading ≡ false → Goes inside s (on (at_char c s.position s.folded))
-      char_inside s l = goes _ l refl (inl (sym (no_spot in_text refl))) (not_apart ctx.flow (c == 45) (begins_flow a)) (rw (breaks, solid) refl)
+      char_inside s l = goes _ l refl (inl (sym (no_spot in_text refl))) (grind arith) (rw (breaks, solid) refl)
 
       -- the first one after a gap
       char_between : (s : PlainState) → (ctx.flow && true && (c == 45) && begins_flow a) ≡ false → Goes between s (on (at_char c s.position (joined s.folded)))
@@ -174,34 +149,14 @@ module _ (ctx : Context) (start : Position) (c : ℕ) (a : List ℕ) where
   has_dash p f h = grind (arith, nat_tests, eqb-true, dash_is)
 
   begun_goes : (s : PlainState) (x : Result Bool Fault) → goes_on ctx (c ∷ a) s.position ≡ x → is_break c ≡ false → is_blank c ≡ false → Goes between s (begun x c s)
-  begun_goes s (Ok true) h e f = char_between e f s (no_dash s.position h)
-  begun_goes s (Ok false) h e f = grind (arith, stays, between)
-  begun_goes s (Err g) h e f = fails g (inr (has_dash s.position g h))
+  begun_goes s a h e f = grind (arith, nat_tests, eqb-true, char_between, no_dash, stays, between, fails, has_dash)
 
   -- after a TAB in the indentation
   tabs_goes : (s : PlainState) → Goes tabs s (turn_in ctx start tabs s c a)
-  tabs_goes s = by (is_break c) (c == 35) (is_blank c) refl refl refl
-    where
-      by : (x y z : Bool) → is_break c ≡ x → (c == 35) ≡ y → is_blank c ≡ z → Goes tabs s (if x then on (at_break c a s) else (if y then stop s else (if z then on (record { mode = tabs; position = past s.position; folded = s.folded }) else fail (At problem.PlainTab start))))
-      by true y z e f g = break_goes tabs s e
-      by false true z e f g = stays (hash (classes.is_break c)) s
-        where
-          hash : (b : Bool) → (b || ((c == 35) || false)) ≡ true
-          hash a = grind (arith, nat_tests, eqb-true)
-      by false false true e f g =
-          let white : (is_break c || is_blank c) ≡ true = rw (e, g) refl in
-          goes (record { mode = tabs; position = past s.position; folded = s.folded }) tt white (inl (rw e refl)) (white_is_no_dash ctx.flow true (begins_flow a) c white) (sym white)
-      by false false false e f g = fails _ (inl (rw (e, g) refl))
+  tabs_goes s = grind (arith, nat_tests, tabs, on, stop, fail, break_goes, stays, eqb-true, goes, white_is_no_dash, fails)
 
   pub turn_goes : (m : Mode) (s : PlainState) → IsCalm m s.folded.leading → Goes m s (turn_in ctx start m s c a)
-  turn_goes first s l = absurd l
-  turn_goes inside s l = white_turn inside s (if can_be_plain ctx.flow c (slice_index a 0) then on (at_char c s.position s.folded) else stop s) (λ e f. blank_inside e s f l) (λ e f. by (can_be_plain ctx.flow c (slice_index a 0)) e f)
-    where
-      by : (b : Bool) → is_break c ≡ false → is_blank c ≡ false → Goes inside s (if b then on (at_char c s.position s.folded) else stop s)
-      by true e f = char_inside e f s l
-      by false e f = stays refl s
-  turn_goes between s l = white_turn between s (begun (goes_on ctx (c ∷ a) s.position) c s) (λ e f. blank_between e s f) (λ e f. begun_goes s (goes_on ctx (c ∷ a) s.position) refl e f)
-  turn_goes tabs s l = tabs_goes s
+  turn_goes a s l = grind (arith, nat_tests, eqb-true, white_turn, on, stop, blank_inside, char_inside, stays, blank_between, begun_goes, tabs_goes)
 
 -- ---- a run
 
@@ -220,11 +175,8 @@ relocated column t y a (d ∷ p) rest (inr b) cut h =
     let breaks : is_break d ≡ true = subst (λ z. begins_break z ≡ true) cut b.1 in
     let x : Spot = spot_of t.mode t.folded.leading t.position.col in
     let later : tabs_fit column (past_spot column x d) p rest ≡ true = (and_parts (may_go x d) (tabs_fit column (past_spot column x d) p rest) h).1 in
-    let at_line : tabs_fit column (at 0) p rest ≡ true = subst (λ z. tabs_fit column z p rest ≡ true) (margin x breaks) later in
-    subst (λ z. tabs_fit column z (d ∷ p) rest ≡ true) (sym b.0) (subst (λ z. tabs_fit column z p rest ≡ true) (sym (margin (at 0) breaks)) at_line)
-  where
-    margin : (z : Spot) → is_break d ≡ true → past_spot column z d ≡ at 0
-    margin z e = rw e refl
+    let at_line : tabs_fit column (at 0) p rest ≡ true = subst (λ z. tabs_fit column z p rest ≡ true) (rw breaks refl) later in
+    subst (λ z. tabs_fit column z (d ∷ p) rest ≡ true) (sym b.0) (subst (λ z. tabs_fit column z p rest ≡ true) (sym (rw breaks refl)) at_line)
 
 module _ (ctx : Context) (start : Position) where
   abbrev spot : PlainState → Spot
@@ -384,7 +336,7 @@ plain_fits ctx p (c ∷ a) piece gap r begins cut e = by (starts ctx (c ∷ a) p
     ran : (x : Result (Stop PlainState) Fault) → run (turn ctx p) (c ∷ a) (record { mode = first; position = p; folded = nothing }) ≡ x → ended x ≡ Ok r → Passed ctx.indent ctx.flow in_text false (c ∷ a) r.rest
     ran (Ok t) f h =
         let same : record { rest = t.rest; position = t.state.position; value = record { text = t.state.folded.text; leading = t.state.folded.leading } } ≡ r = cc in
-        subst (λ (q : Read Plain). Passed ctx.indent ctx.flow in_text false (c ∷ a) q.rest) same (let s : PlainState = at_char c p (joined nothing) in one_more ctx p c a t.rest in_text false s refl (inl (sym (no_spot ctx p c a solid.0 solid.1 in_text refl))) (not_apart ctx.flow (c == 45) (begins_flow a)) (rw (solid.0, solid.1) refl) (went ctx p a s refl t f))
+        subst (λ (q : Read Plain). Passed ctx.indent ctx.flow in_text false (c ∷ a) q.rest) same (let s : PlainState = at_char c p (joined nothing) in one_more ctx p c a t.rest in_text false s refl (inl (sym (no_spot ctx p c a solid.0 solid.1 in_text refl))) (grind arith) (rw (solid.0, solid.1) refl) (went ctx p a s refl t f))
     ran (Err g) f h = absurd (cc h)
 
     by : (x : Result (Unit {0}) Fault) → starts ctx (c ∷ a) p ≡ x → and_then x (λ _. plain_from ctx p (c ∷ a) (record { mode = first; position = p; folded = nothing })) ≡ Ok r → PlainFits ctx p piece gap r.rest

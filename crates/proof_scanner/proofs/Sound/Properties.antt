@@ -6,7 +6,7 @@ use Rattle.proof_scanner.proofs.Cut.Saved.{saved_is}
 use Rattle.proof_scanner.proofs.Sound.StreamEnds.{same_flow}
 use Rattle.proof_scanner.proofs.Sound.Standing.{deep_for, awaits_kept}
 use Rattle.proof_scanner.proofs.Sound.Sides.{with_entries, ArrivesBy}
-use Rattle.proof_scanner.proofs.Sound.ReadNodes.{Read, site_of, allowed_past, IsRead, site_then, node_read, state_after, deep_there}
+use Rattle.proof_scanner.proofs.Sound.ReadNodes.{Read, site_of, allowed_past, IsRead, site_then, node_read, state_after}
 use Rattle.proof_scanner.proofs.Cut.Pieces.Names.{IsProperty, name_property}
 use Rattle.proof_scanner.proofs.Cut.Pieces.Tags.{tag_property}
 use Rattle.proof_scanner.proofs.Sound.Reads.{reads_before_none}
@@ -40,7 +40,7 @@ property_is_read text t tok rest end r k deep fs ks es flow a =
     let allowed : false ≡ allowed_past None (not (is_empty fs)) (previous_by tok) [] = subst (λ b. false ≡ allowed_past None (not (is_empty fs)) b []) (sym k.before) (grind arith) in
     let quiet : begins_free_line (previous_by tok) [] ≡ false = subst (λ b. begins_free_line b [] ≡ false) (sym k.before) refl in
     let shown : (y : Site) → shown_position y (r.first ∷ r.more) tok rest ≡ y.position = λ y. k.shown y (r.first ∷ r.more) rest in
-    assumption (reads, k.act, k.begun, shown, piece_is, deep_for (not (is_empty fs)) tok x (k.least x) (deep_there text t fs ks es a deep), k.lines (least_for tok x) (r.first ∷ r.more), k.precedes (not (is_empty fs)) x.blocks (r.first ∷ r.more) rest, allowed, ap not r.in_line, quiet)
+    assumption (reads, k.act, k.begun, shown, piece_is, deep_for (not (is_empty fs)) tok x (k.least x) (rw (a.blocks_are, a.awaits_is) (grind arith)), k.lines (least_for tok x) (r.first ∷ r.more), k.precedes (not (is_empty fs)) x.blocks (r.first ∷ r.more) rest, allowed, ap not r.in_line, quiet)
 
 -- After a property or an alias what holds between fetches holds.
 property_stands : (text : List ℕ) (t : ScannerState) (tok : Tok) (rest : List ℕ) (end : Position) → IsProperty (in_flow t.held) tok t.held.position t.rest rest end → IsPropertyToken tok → IsDeep t.held → Arrives text t →

@@ -71,8 +71,8 @@ pub question_stands : (text more : List ℕ) (t : ScannerState) (a : ArrivesBy t
     (i : ℕ) (ds : List Indent) → columns i ds ≡ opened t.held.position.col (columns t.held.indent t.held.indents) → AreLevels i ds → has_open_level ds ≡ false →
     Stands text (question_end t more ds i (with_start Tok.block_mapping_start t))
 question_stands text more t a flow keys e allowed begins apart fills i ds columns_are levels awaits =
-    read_outside text t u a (63 ∷ []) more (white_of false more) Tok.key (begun_after t.held.position a.site.blocks) _ refl
-    (question_reads t u more _ e refl fills refl refl refl refl (ap (opened t.held.position.col) a.blocks_are ∙ sym columns_are) (sym awaits) levels a.was_adjacent (refl, refl, refl)) (record {
+    read_outside text t (question_end t more ds i (with_start Tok.block_mapping_start t)) a (63 ∷ []) more (white_of false more) Tok.key (begun_after t.held.position a.site.blocks) _ refl
+    (question_reads t (question_end t more ds i (with_start Tok.block_mapping_start t)) more _ e refl fills refl refl refl refl (ap (opened t.held.position.col) a.blocks_are ∙ sym columns_are) (sym awaits) levels a.was_adjacent (refl, refl, refl)) (record {
       line_is = (inl refl, ap (λ fs. (not (not (is_empty fs)) && ends.has_break (white_of false more)) || not (not (is_empty fs))) flow ∙ or_true (ends.has_break (white_of false more)), tt);
       no_key = refl;
       flow_is = flow;
@@ -87,9 +87,6 @@ question_stands text more t a flow keys e allowed begins apart fills i ds column
           started_tokens (is_deeper t.held.position.col bs) t.held.tokens a.tokens (ends_at t.held.position a.site.blocks bs) t.held.position Tok.block_mapping_start (put t.held.position Tok.key) a.tokens_are;
     })
   where
-    u : ScannerState
-    u = question_end t more ds i (with_start Tok.block_mapping_start t)
-
     bs : List ℕ
     bs = not_ended t.held.position.col a.site.blocks
 

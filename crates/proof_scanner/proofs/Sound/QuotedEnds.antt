@@ -1,5 +1,5 @@
 -- What the scanner checks after a quoted scalar: the line holds no more, or goes on as it may.
-use Rattle.proof_scanner.proofs.Common.{Bool, Err, Fault, Holds, List, No, Ok, Position, Result, ScannerState, SkipTabs, Yes, [], after, and_parts, ap, append_assoc, arith, begins_with, both_hold, chained, check_after_quoted, either, eqb-true, false, goes_on_quoted, has_break, has_no_nul, in_flow, is_at_line_end, is_blank, is_blanks, is_blanks_and_comment, is_break, is_breakz, is_nul, is_on_line, is_separation, leading, lexed, line_is_done, may_follow_quoted, no_nul_after, not, or_right, peek, position_after, position_past, quoted_may_end, refl, refused, skip_spaces, space, subst, sym, true, went, ℕ, ◌&&◌, ◌++◌, ◌<◌, ◌==◌, ◌||◌, ◌∙◌, ◌∷◌, ◌≡◌, ◌≤◌, nat_tests}
+use Rattle.proof_scanner.proofs.Common.{Bool, Err, Fault, Holds, List, Ok, Position, Result, ScannerState, SkipTabs, Yes, [], after, and_parts, ap, append_assoc, arith, begins_with, both_hold, chained, check_after_quoted, either, eqb-true, false, goes_on_quoted, has_break, has_no_nul, in_flow, is_at_line_end, is_blank, is_blanks, is_blanks_and_comment, is_break, is_breakz, is_nul, is_on_line, is_separation, leading, line_is_done, may_follow_quoted, no_nul_after, not, or_right, peek, position_after, position_past, quoted_may_end, refl, refused, skip_spaces, space, subst, sym, true, went, ℕ, ◌&&◌, ◌++◌, ◌<◌, ◌==◌, ◌||◌, ◌∙◌, ◌∷◌, ◌≡◌, ◌≤◌, nat_tests}
 use Rattle.yaml_chars.specs.Class as model_classes
 use Rattle.proof_lexers.specs.PlainEnds as plains
 use Rattle.proof_scanner.proofs.Cut.Passes.{Spaced, spaces_skipped}
@@ -71,18 +71,7 @@ always (Err e) f = refused
 -- no comment stands directly where blanks are skipped
 pub unglued : (tabs : SkipTabs) (t : ScannerState) → Holds (λ u. begins_with 35 t.rest ≡ false) (skip_spaces tabs t)
 unfolding skip_spaces space
-unglued tabs t = by t.rest
-  where
-    by : (a : List ℕ) → Holds (λ u. begins_with 35 a ≡ false) (lexed (space tabs a t.held.position) t.held (λ w u. Ok u))
-    by [] = always (lexed (space tabs [] t.held.position) t.held (λ w u. Ok u)) (λ u. refl)
-    by (c ∷ a) = by_hash (c == 35) refl
-      where
-        by_tabs : (tabs : SkipTabs) → c ≡ 35 → Holds (λ u. begins_with 35 (c ∷ a) ≡ false) (lexed (space tabs (c ∷ a) t.held.position) t.held (λ w u. Ok u))
-        by_tabs Yes e = rw e refused
-        by_tabs No e = rw e refused
-
-        by_hash : (b : Bool) → (c == 35) ≡ b → Holds (λ u. begins_with 35 (c ∷ a) ≡ false) (lexed (space tabs (c ∷ a) t.held.position) t.held (λ w u. Ok u))
-        by_hash a e = grind (arith, nat_tests, by_tabs, eqb-true, always)
+unglued tabs t = grind (arith, nat_tests, always, eqb-true, refused)
 
 -- ---- after a quoted scalar
 
@@ -103,7 +92,7 @@ comes_by a piece b d c r e h g = grind arith
 may_end_by : (flow : Bool) (p : Position) (piece s rest : List ℕ) (here : Position) → ends_in_line piece ≡ true → has_no_nul rest ≡ true → is_separation false s rest ≡ true → plains.has_break s ≡ false → begins_with 35 (s ++ rest) ≡ false →
     here ≡ position_after (position_after p piece (s ++ rest)) s rest → may_follow_quoted flow (p.line == here.line) (peek rest) ≡ true → quoted_may_end flow piece (s ++ rest) ≡ true
 unfolding model_classes.is_break
-may_end_by flow p piece s rest here in_line none f h no_hash is follows = by (is_breakz (peek rest)) refl
+may_end_by flow p piece s rest here in_line none f h no_hash is follows = grind (arith, nat_tests, eqb-true, is_done, at_end_of, blanks_alone, not_at_end, or_right, after_blanks, some)
   where
     same : (p.line == here.line) ≡ true → has_break piece ≡ false
     same e = grind (arith, nat_tests, same_line, eqb-true, on_one_line)
@@ -111,9 +100,6 @@ may_end_by flow p piece s rest here in_line none f h no_hash is follows = by (is
     some : (r : List ℕ) → is_breakz (peek r) ≡ false → may_follow_quoted flow (p.line == here.line) (peek r) ≡ true → goes_on_quoted flow piece (after is_blank r) ≡ true
     some [] e k = absurd (cc e)
     some (c ∷ r) e k = let q = comes_by flow piece p.line here.line c r same k e in rw q.1 q.0
-
-    by : (b : Bool) → is_breakz (peek rest) ≡ b → quoted_may_end flow piece (s ++ rest) ≡ true
-    by a e = grind (arith, nat_tests, eqb-true, is_done, at_end_of, blanks_alone, not_at_end, or_right, after_blanks, some)
 
 -- blanks and a comment were skipped after a piece, and what stands there may follow a quoted scalar
 pub record Checked (piece : List ℕ) (t u : ScannerState) : Type 0 where

@@ -119,12 +119,9 @@ module _ (text : List ℕ) (quotes : Quotes) (t : ScannerState) (a : Arrives tex
     no_break : has_break spaces ≡ false
     no_break = sym (same_has_break spaces) ∙ c.spaces.no_break
 
-    none : has_break spaces ≡ true → ⊥
-    none h = cc (h, no_break)
-
     skipped : Holds (Cleared quoted_scalar least spaces v.rest) (skip_to_next_token v)
     unfolding skip_to_next_token
-    skipped = skip_clears quoted_scalar least v.rest between spaces v.held (subst (λ h. IsLeast quoted_scalar least h) (sym c.spaces.is_held) (least_is (columns t.held.indent t.held.indents) (has_open_level t.held.indents) now refl refl a.are_levels)) (inr (record { leading_is = λ i. ap (λ h. h.leading) c.spaces.is_held ∙ sym no_break; col_is = λ b. absurd (none b); spaced = λ b. absurd (none b) }))
+    skipped = skip_clears quoted_scalar least v.rest between spaces v.held (subst (λ h. IsLeast quoted_scalar least h) (sym c.spaces.is_held) (least_is (columns t.held.indent t.held.indents) (has_open_level t.held.indents) now refl refl a.are_levels)) (inr (record { leading_is = λ i. ap (λ h. h.leading) c.spaces.is_held ∙ sym no_break; col_is = λ b. absurd (cc (b, no_break)); spaced = λ b. absurd (cc (b, no_break)) }))
 
     module _ (w : ScannerState) (b : Exact v w) (z : Cleared quoted_scalar least spaces v.rest w) where
       abbrev gap : List ℕ

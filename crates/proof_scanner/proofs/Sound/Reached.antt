@@ -3,10 +3,11 @@ use Rattle.proof_scanner.proofs.Common.{Fares, IsCut, IsCutUpTo, IsWhere, List, 
 use Rattle.proof_scanner.specs.StandsInRow.{goes}
 use Rattle.proof_scanner.proofs.Cut.Documents.{whole_text}
 use Rattle.proof_scanner.proofs.Sound.CutsSoFar.{stands_cut, cut_position}
-use Rattle.proof_scanner.proofs.Sound.Sound.{fares_there}
+use Rattle.proof_scanner.proofs.Sound.Fetches.{fetch_keeps}
+use Rattle.proof_scanner.proofs.Sound.Runs.{reached}
 
 pub run_is_where : (text : List ℕ) (t : ScannerState) → has_no_nul text ≡ true → Reaches (start text) t → IsWhere text t
-run_is_where text t nul run = by (fares_there text nul t run)
+run_is_where text t nul run = by (reached fetch_keeps text nul (start text) t run (begins refl))
   where
     by : Fares text t → IsWhere text t
     by (begins e) = subst (λ u. IsWhere text u) (sym e) (record {

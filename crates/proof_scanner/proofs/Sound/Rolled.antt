@@ -96,14 +96,11 @@ rolls_to col number tok p s out levels right = rw out (on (nat_le s.indent (col 
         rolls_past col number t s d.indent ds _ (sym (ap (columns s.indent) e ∙ ap (λ b. if b then (s.indent - 1) ∷ columns d.indent ds else columns d.indent ds) f)) more
         (deepened col number t (record s { indent = d.indent; indents = ds }) l.1 (omega (arith, h, more)))
 
-    high : (d : Indent) (ds : List Indent) (b : Bool) → s.indents ≡ d ∷ ds → d.needs_block_end ≡ b → AreLevels s.indent (d ∷ ds) → IsNotRight (innermost (columns s.indent (d ∷ ds))) col → col + 1 < s.indent → RollsTo col number t s (deepen col number t s)
-    high d ds a e f l r h = grind (arith, nat_tests, eqb-true, open_goes_on, t)
-
     on : (b : Bool) → nat_le s.indent (col + 1) ≡ b → (ds : List Indent) → s.indents ≡ ds → AreLevels s.indent ds → IsNotRight (innermost (columns s.indent ds)) col → RollsTo col number t s (deepen col number t (if b then drop_open s ds else s))
     on true e [] f l r = deepened col number t s (subst (λ x. AreCollections s.indent x) (sym f) l) (grind (arith, nat_tests, e))
     on true e (d ∷ ds) f l r = low d ds d.needs_block_end f refl l (grind (arith, nat_tests, e))
     on false e [] f l r = let none : s.indent ≡ 0 = l in absurd (grind (arith, nat_tests, e, none))
-    on false e (d ∷ ds) f l r = high d ds d.needs_block_end f refl l r (grind (arith, nat_tests, e))
+    on false e (d ∷ ds) f l r = grind (arith, nat_tests, eqb-true, open_goes_on, t)
 
 -- ---- the value of an entry is awaited
 

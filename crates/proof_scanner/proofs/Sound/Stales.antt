@@ -1,7 +1,5 @@
 -- Keys that are too far back are dropped: what holds between two fetches still holds, without them.
-use Rattle.proof_scanner.proofs.Common.{Account, AreEntries, At, Bool, Entry, Err, Fares, FlowLevel, Held, Holds, IsAtEnd, IsCarriedOn, IsCutUpTo, IsLine, IsNear, IsOpenOutside, IsRead, Key, KnowsKey, List, MayChoose, None, Ok, Option, Position, ScannerState, SoFar, Some, Stands, Step, Token, [], ap, arith, begins_free_line, chosen, drop_stale, either, false, have_no_key, if◌then◌else◌, in_flow, inl, inr, is_empty, is_far, is_overdue, is_renewed, is_waiting, length, list_any, map, not, not-false, outside_key, over, refl, refused, stale, still, subst, suc, sym, tokens_from, tokens_up_to, tried, true, try_held, went, ℕ, ◌++◌, ◌+◌, ◌∙◌, ◌∷◌, ◌≡◌, ◌≤◌, ◌⊎◌, eqb-true, nat_tests}
-use Rattle.yaml_tokens.specs.declared.problem.Problem.TheVariants as problem
-use Rattle.model_scanner.specs.Keys.{with_keys}
+use Rattle.proof_scanner.proofs.Common.{Account, AreEntries, Bool, Entry, Fares, FlowLevel, Held, Holds, IsAtEnd, IsCarriedOn, IsCutUpTo, IsLine, IsNear, IsOpenOutside, IsRead, Key, KnowsKey, List, MayChoose, None, Option, Position, ScannerState, SoFar, Some, Stands, Step, Token, [], ap, arith, begins_free_line, chosen, drop_stale, either, false, have_no_key, in_flow, inl, inr, is_empty, is_far, is_overdue, is_renewed, is_waiting, length, list_any, map, not, not-false, outside_key, over, refl, refused, stale, still, subst, suc, sym, tokens_from, tokens_up_to, tried, true, try_held, went, ℕ, ◌++◌, ◌+◌, ◌∙◌, ◌∷◌, ◌≡◌, ◌≤◌, ◌⊎◌, eqb-true, nat_tests}
 use Rattle.proof_scanner.proofs.Known.Steps.{known_far}
 use Rattle.proof_scanner.specs.StandsInRow.{goes}
 use Rattle.proof_scanner.proofs.Sound.Completed.{may_be_no_key}
@@ -85,15 +83,7 @@ outside_now text u s out a only h = grind (arith, nat_tests, eqb-true, key_dropp
 
 pub stale_stands : (text : List ℕ) (u : ScannerState) → Stands text u → Holds (Nearer text u) (stale u.held)
 unfolding stale drop_stale
-stale_stands text u s =
-    either (in_flow u.held) (λ e. went (record { stands = s; same = refl; near = λ o. absurd (cc (e, ap not o)) })) (λ e.
-    let out : is_empty u.held.flow ≡ true = not-false (is_empty u.held.flow) e in
-    let k : (k : Option Key) × (u.held.keys ≡ k ∷ []) = one_key u.held.keys u.held.flow s.one_each out in
-    subst (λ ks. Holds (Nearer text u) (with_keys u.held (if list_any (is_overdue u.held.position) ks then Err (At problem.KeyWithoutColon u.held.position) else Ok (map (still u.held.position) ks)))) (sym k.1)
-    (by (list_any (is_overdue u.held.position) (k.0 ∷ [])) (outside_now text u s out k.0 k.1)))
-  where
-    by : {ks : List (Option Key)} (b : Bool) → (b ≡ false → Nearer text u (record u.held { keys = ks })) → Holds (Nearer text u) (with_keys u.held (if b then Err (At problem.KeyWithoutColon u.held.position) else Ok ks))
-    by a f = grind (arith, refused, went)
+stale_stands text u s = grind (arith, nat_tests, eqb-true, either, went, not-false, one_key, outside_now, refused)
 
 -- The stale keys of a fetch are dropped.
 pub keys_only : (s : Held) → Holds (λ h. h ≡ record s { keys = h.keys }) (stale s)

@@ -4,8 +4,6 @@ use Rattle.std.proofs.lemmas.List.{append-nil}
 use Rattle.proof_scanner.proofs.Common.{Account, AreAround, AreCollections, AreEntries, AreLevels, Arrives, At, Bool, Completes, Entry, FlowLevel, Had, HasHad, Held, Holds, Indent, IsRead, IsTopLevel, Key, Levels, Line, List, MayChoose, Option, Position, ScannerState, Site, Step, Token, [], ap, append_assoc, arith, block_end, blocks, checked, chosen, cleared, columns, ended_at, ends_at, ends_here, ends_with_stream, entries_by, false, fetch_stream_end, has_required, have_no_key, if◌then◌else◌, in_flow, is_empty, is_keyed, is_renewed, is_separation, is_waiting, length, may_end, nat_lt, nat_tests, next_line, not, not-true, not_ended, outside_key, pop, position_after, put, refl, replicate, site_here, stream_position, subst, suc, sym, tokens_at_end, tokens_up_to, tried, true, unroll_indent, unrolled, went, with_keys, ℕ, ◌++◌, ◌-◌, ◌<◌, ◌∙◌, ◌∷◌, ◌≡◌, ◌≤◌, eqb-true}
 use Rattle.proof_scanner.proofs.Cut.Documents.{unroll_keeps}
 use Rattle.proof_scanner.proofs.Sound.Completed.{completed_at_end}
-use Rattle.proof_scanner.proofs.Sound.NodeTokens.{no_had}
-use Rattle.proof_scanner.proofs.Sound.NodesOutside.{no_line}
 use Rattle.proof_scanner.proofs.Cut.Unrolls.{unrolled_in_flow}
 
 -- ---- no key waits
@@ -34,8 +32,8 @@ none_chosen ks a = grind (arith, nat_tests, eqb-true, none_inside)
 -- where no key waits, the tokens are those that the scanner holds
 pub none_put : (d : ℕ) (p : Position) (ws : List Step) (last bs : List ℕ) (l : Line) (es : List Entry) (ks : List (Option Key)) (ts : List Token) → is_waiting l ≡ false → have_no_key es ≡ true → with_keys d p ws last bs l es ks ts ≡ ts
 none_put d p ws last bs l es [] ts h n = refl
-none_put d p ws last bs l [] (k ∷ ks) ts h n = grind (arith, nat_tests, eqb-true, no_line)
-none_put d p ws last bs l (e ∷ es) (k ∷ ks) ts h n = grind (arith, nat_tests, eqb-true, no_had, none_put (suc d) p ws last bs l es ks ts h)
+none_put d p ws last bs l [] (k ∷ ks) ts h n = grind (arith, nat_tests, eqb-true)
+none_put d p ws last bs l (e ∷ es) (k ∷ ks) ts h n = grind (arith, nat_tests, eqb-true, none_put (suc d) p ws last bs l es ks ts h)
 
 -- ---- positions
 

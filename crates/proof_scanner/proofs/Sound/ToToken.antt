@@ -19,10 +19,7 @@ spaced_here : (b : Previous) (bs : List ℕ) (aw : Bool) (q : Position) (g a : L
 spaced_here d bs aw q g a h s n r = grind (arith, or-false)
 
 pub is_in : (text : List ℕ) (t : ScannerState) (s : Stands text t) → begins_separation t.rest ≡ true → IsIn s.base.site.before (least_column s.base.site.blocks s.base.site.awaits) between s.separation t.held t.rest
-is_in text t s begins = by (is_at_comment_or_end t.rest) refl s.has_no_tabs
-  where
-    by : (x : Bool) → is_at_comment_or_end t.rest ≡ x → HasNoTabs s.base.site s.separation t.rest → IsIn s.base.site.before (least_column s.base.site.blocks s.base.site.awaits) between s.separation t.held t.rest
-    by a e h = grind (arith, nat_tests, eqb-true, no_comment_in_last, column_after, last_whole, spaced_here)
+is_in text t s begins = grind (arith, nat_tests, eqb-true, no_comment_in_last, column_after, last_whole, spaced_here)
 
 -- ---- where it ends
 

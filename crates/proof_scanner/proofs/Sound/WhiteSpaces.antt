@@ -1,5 +1,5 @@
 -- Spaces, breaks and comments after a `?`: what the model reads there is all of them, and no TAB is among them but in comments.
-use Rattle.proof_scanner.proofs.Common.{At, Bool, Err, Fault, HasPassed, Held, Holds, List, Ok, Result, ScannerState, [], after_separation, and_false, and_parts, ap, append_cancel_right, arith, begins_white_space, begins_with, begins_with_space_or_break, both_hold, eqb-true, false, has_break, has_no_break, has_tab_before_piece, if◌then◌else◌, inl, inr, is_at_gap, is_blank, is_blank_or_end, is_break, is_cr_lf, is_nul, is_one_of, is_separation, last_line, moved, nat_tests, no_break_hash, not, or_false, or_true, past_line, refl, refused, same_break, skip_yaml_whitespace, slice_index, subst, sym, true, weakened, went, white, white_end, ℕ, ◌&&◌, ◌++◌, ◌==◌, ◌||◌, ◌∙◌, ◌∷◌, ◌≡◌, ◌⊎◌}
+use Rattle.proof_scanner.proofs.Common.{At, Bool, Err, Fault, HasPassed, Held, Holds, List, Ok, Result, ScannerState, [], after_separation, and_false, and_parts, ap, append_cancel_right, arith, begins_white_space, begins_with, begins_with_space_or_break, both_hold, eqb-true, false, has_break, has_no_break, has_tab_before_piece, if◌then◌else◌, inr, is_at_gap, is_blank, is_blank_or_end, is_break, is_nul, is_one_of, is_separation, last_line, moved, nat_tests, no_break_hash, not, or_true, refl, refused, same_break, skip_yaml_whitespace, slice_index, subst, sym, true, weakened, went, white, white_end, ℕ, ◌&&◌, ◌++◌, ◌==◌, ◌||◌, ◌∙◌, ◌∷◌, ◌≡◌, ◌⊎◌}
 use Rattle.yaml_chars.specs.Class as class
 use Rattle.model_scanner.specs.Space.{at_break}
 use Rattle.proof_scanner.proofs.Cut.Passes.{white_passed}
@@ -63,27 +63,22 @@ IsPastWhite b leading a u = (u.rest ≡ past_white b a) × (u.held.leading ≡ (
 -- a line begins after a break, and after the line feed of CR LF
 feed_after : (c : ℕ) (a : List ℕ) (s : Held) → is_break c ≡ true → ((at_break c a s).leading || has_break (white_of false a)) ≡ true
 unfolding is_break
-feed_after c a s e = by (is_cr_lf c a) refl
+feed_after c a s e = grind (arith, nat_tests, eqb-true, feed, and_parts, or_true)
   where
     feed : (r : List ℕ) → (slice_index r 0 == 10) ≡ true → has_break (white_of false r) ≡ true
     feed [] h = absurd (cc h)
     feed (d ∷ r) h = let same : d ≡ 10 = eqb-true d 10 h in rw same refl
-
-    by : (b : Bool) → is_cr_lf c a ≡ b → (((if b then moved s else past_line s).leading) || has_break (white_of false a)) ≡ true
-    by a f = grind (arith, nat_tests, eqb-true, feed, and_parts, or_true)
 
 white_read : (in_comment found : Bool) (a : List ℕ) (s : Held) → Holds (IsPastWhite in_comment s.leading a) (white in_comment found a s)
 unfolding white is_break
 white_read b found [] s = ended found []
   where
     ended : (f : Bool) (r : List ℕ) → Holds (λ u. (u.rest ≡ r) × (u.held.leading ≡ (s.leading || false))) (white_end f r s)
-    ended true r = went (refl, sym (or_false s.leading))
-    ended false r = refused
+    ended a r = grind (arith, nat_tests, eqb-true, went, refused)
 white_read i found (c ∷ a) s = of i (class.is_break c) (c == 32) (c == 35) refl refl refl (λ i f u. white_read i f a u)
   where
     ended : (f : Bool) → Holds (λ u. (u.rest ≡ c ∷ a) × (u.held.leading ≡ (s.leading || false))) (white_end f (c ∷ a) s)
-    ended true = went (refl, sym (or_false s.leading))
-    ended false = refused
+    ended a = grind (arith, nat_tests, eqb-true, went, refused)
 
     more : (i : Bool) (u : ScannerState) → is_break c ≡ false → IsPastWhite i s.leading a u → (u.rest ≡ past_white i a) × (u.held.leading ≡ (s.leading || has_break (c ∷ white_of i a)))
     more i u e h = (h.0, h.1 ∙ ap (λ b. s.leading || not (not b && has_no_break (white_of i a))) (sym e))
@@ -91,28 +86,12 @@ white_read i found (c ∷ a) s = of i (class.is_break c) (c == 32) (c == 35) ref
     over : (u : ScannerState) (z : Bool) → goes_over c ≡ true → (c == 35) ≡ z → (u.rest ≡ past_white z a) × (u.held.leading ≡ (s.leading || has_break (c ∷ white_of z a))) → IsPastWhite false s.leading (c ∷ a) u
     over u z e f h = grind (arith, nat_tests, eqb-true)
 
-    under : (u : ScannerState) (x : Bool) → is_break c ≡ x → (u.rest ≡ past_white (not x) a) × (u.held.leading ≡ (s.leading || has_break (c ∷ white_of (not x) a))) → IsPastWhite true s.leading (c ∷ a) u
-    under u x e h = subst (λ y. (u.rest ≡ past_white (not y) a) × (u.held.leading ≡ (s.leading || has_break (c ∷ white_of (not y) a)))) (sym e) h
-
     stay : (u : ScannerState) → goes_over c ≡ false → (u.rest ≡ c ∷ a) × (u.held.leading ≡ (s.leading || false)) → IsPastWhite false s.leading (c ∷ a) u
     stay u e h = subst (λ g. (u.rest ≡ (if g then past_white (c == 35) a else c ∷ a)) × (u.held.leading ≡ (s.leading || has_break (if g then c ∷ white_of (c == 35) a else [])))) (sym e) h
 
     of : (i x y z : Bool) → class.is_break c ≡ x → (c == 32) ≡ y → (c == 35) ≡ z → ((j : Bool) → ((f : Bool) (u : Held) → Holds (IsPastWhite j u.leading a) (white j f a u))) →
         Holds (IsPastWhite i s.leading (c ∷ a)) (if x then white false true a (at_break c a s) else (if i then white true found a (moved s) else (if y then white false true a (moved s) else (if z then white true found a (moved s) else white_end found (c ∷ a) s))))
-    of true true y z e f g h = let br : is_break c ≡ true = same_break c ∙ e in weakened (λ u k. under u true br (((k.0, k.1 ∙ feed_after c a s br ∙ (sym (or_true s.leading) ∙ ap (λ b. s.leading || not (not b && has_no_break (white_of false a))) (sym br)))))) (h false true (at_break c a s))
-    of true false y z e f g h = let br : is_break c ≡ false = same_break c ∙ e in weakened (λ u k. under u false br (more true u br k)) (h true found (moved s))
-    of false true y z e f g h =
-        let br : is_break c ≡ true = same_break c ∙ e in
-        weakened (λ u k. over u false (ap (λ b. ((c == 32) || b) || (c == 35)) br ∙ ap (λ b. b || (c == 35)) (or_true (c == 32))) (no_break_hash c e) (((k.0, k.1 ∙ feed_after c a s br ∙ (sym (or_true s.leading) ∙ ap (λ b. s.leading || not (not b && has_no_break (white_of false a))) (sym br)))))) (h false true (at_break c a s))
-    of false false true z e f g h =
-        let br : is_break c ≡ false = same_break c ∙ e in
-        weakened (λ u k. over u false (ap (λ b. (b || is_break c) || (c == 35)) f) (let same : c ≡ 32 = eqb-true c 32 f in rw same refl) (more false u br k)) (h false true (moved s))
-    of false false false true e f g h =
-        let br : is_break c ≡ false = same_break c ∙ e in
-        weakened (λ u k. over u true (ap (λ b. ((c == 32) || is_break c) || b) g ∙ or_true ((c == 32) || is_break c)) g (more true u br k)) (h true found (moved s))
-    of false false false false e f g h =
-        let br : is_break c ≡ false = same_break c ∙ e in
-        weakened (λ u k. stay u (ap (λ b. (b || is_break c) || (c == 35)) f ∙ (ap (λ b. b || (c == 35)) br ∙ g)) k) (ended found)
+    of a b y z e f g h = grind (arith, nat_tests, same_break, weakened, feed_after, or_true, more, over, no_break_hash, eqb-true, stay, ended)
 
 -- The state after spaces, breaks and comments.
 abbrev pub past_white_space : ScannerState → ScannerState
@@ -162,5 +141,4 @@ white_first more s gap = by (white_or_missed more s gap)
     anyway (Err f) h = refused
 
     by : (begins_with_space_or_break more ≡ true) ⊎ IsMissed more s → Holds (λ u. begins_with_space_or_break more ≡ true) (white false false more s)
-    by (inl begins) = anyway (white false false more s) begins
-    by (inr m) = subst (λ r. Holds (λ u. begins_with_space_or_break more ≡ true) r) (sym m.is_refused) refused
+    by a = grind (arith, nat_tests, eqb-true, anyway, refused)

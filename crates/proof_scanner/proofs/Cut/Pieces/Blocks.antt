@@ -1,5 +1,5 @@
 -- What the scan of a block scalar reads is its piece.
-use Rattle.proof_scanner.proofs.Common.{[], and_false, ap, arith, begins_with, Block, block, block_position, block_read, BlockIsRead, BlockRead, BlockStyle, Bool, collection_column, collection_of, false, folded, further_position, has_no_nul, if◌then◌else◌, indicator_of, inl, inr, is_at_end, is_blank, is_empty, is_literal_style, is_nul, is_past, is_separation, IsBlockRead, IsBlockScalar, IsPiece, List, literal, nat_lt, nat_tests, Ok, Option, past_spaces, Position, position_after, position_past, Read, read_as, ReadAs, refl, scalar, Some, split, Style, subst, Tok, true, whole_block, without_spaces, ℕ, ◌++◌, ◌<◌, ◌==◌, ◌∙◌, ◌∷◌, ◌≡◌, ◌⊎◌}
+use Rattle.proof_scanner.proofs.Common.{[], and_false, ap, arith, begins_with, Block, block, block_position, block_read, BlockIsRead, BlockRead, BlockStyle, Bool, collection_column, collection_of, false, folded, further_position, has_no_nul, if◌then◌else◌, indicator_of, inl, inr, is_at_end, is_blank, is_empty, is_literal_style, is_nul, is_past, is_separation, IsBlockRead, IsPiece, List, literal, nat_lt, nat_tests, Ok, Option, past_spaces, Position, position_after, position_past, Read, read_as, ReadAs, refl, scalar, Some, split, Style, subst, Tok, true, whole_block, without_spaces, ℕ, ◌++◌, ◌<◌, ◌==◌, ◌∙◌, ◌∷◌, ◌≡◌, ◌⊎◌}
 use Rattle.model_scanner.specs.declared.kind.BlockStyle.TheVariants.{Literal, Folded}
 use Rattle.defs_text.specs.Classes.{space}
 use Rattle.defs_token.specs.Account.{Account, is_in_flow}
@@ -57,9 +57,6 @@ abbrev pub token_of : BlockStyle → List ℕ → Tok
 token_of literal text = scalar Style.literal text
 token_of folded text = scalar Style.folded text
 
-pub piece_of : (a : Account) (style : BlockStyle) (piece next text : List ℕ) (p : Position) (following : Option Tok) → IsBlockScalar a piece next style text p → IsPiece a piece next following p (token_of style text)
-piece_of a b piece d e p following h = grind arith
-
 -- the scan ended on a later line, or at the text's end
 abbrev pub IsBelow : (start end : Position) → (rest : List ℕ) → Type 0
 IsBelow start end rest = (rest ≡ []) ⊎ (nat_lt start.line end.line ≡ true)
@@ -91,7 +88,7 @@ module _ (a : Account) (indent : ℕ) (outside : is_in_flow a ≡ false) (column
       is_text = cut ∙ ap (λ l. (c ∷ piece) ++ l) (spaces_cut next);
       is_filled = spaces_fill next (without_spaces next);
       is_piece = λ following. subst (λ l. IsPiece a (c ∷ piece) l following (block_position b.column a.position (c ∷ piece) next) (token_of style b.text)) (spaces_cut next)
-          (piece_of a style (c ∷ piece) next b.text (block_position b.column a.position (c ∷ piece) next) following (outside, (b.column, (rw column (is ∙ ap (λ z. Some (record { style = z; column = b.column; text = b.text })) looks)), refl)));
+          (grind arith);
       is_end = spaces_position (position_after a.position (c ∷ piece) next) next ∙ ap (λ l. position_after (position_after a.position (c ∷ piece) l) (spaces_of next) (without_spaces next)) (spaces_cut next);
     },
     below c piece next b nul is,
