@@ -37,11 +37,8 @@ module _ (text more : List ℕ) (t : ScannerState) (k : Key) (a : ArrivesBy text
   same_site : site_at false a.site a.separation (58 ∷ []) Tok.value more ≡ x
   same_site = ap (λ q. site_here false q a.site) (sym (a.position_is ∙ ap (λ y. position_after a.site.position a.separation y) e))
 
-  some : is_empty t.rest ≡ false
-  some = ap is_empty e
-
   live : IsLive k t.held.position t.rest
-  live = ((a.is_near refl).0, some)
+  live = ((a.is_near refl).0, (ap is_empty e))
 
   -- no collection ends here
   same_blocks : not_ended t.held.position.col a.site.blocks ≡ a.site.blocks
@@ -90,9 +87,9 @@ module _ (text more : List ℕ) (t : ScannerState) (k : Key) (a : ArrivesBy text
       ends_outside text t after (Some k) a (58 ∷ []) more (colon_gap more) Tok.value outside_after x refl
       (colon_reads t more awaiting.indents awaiting.indent now false [] (None ∷ []) _ e refl refl (ap (opened k.position.col) a.blocks_are ∙ sym (awaiting.columns_are ∙ rolled.columns_are)) (sym awaiting.awaits) awaiting.are_levels a.was_adjacent)
       (record { line_is = (inr refl, sym (ap not (gap_is more).2), tt); no_key = refl; flow_is = refl; keys_are = refl })
-      (out.is_written text a.site a.separation (58 ∷ []) more Tok.value x same_site true false (waits k.position) (waits k.position) outside_after (grind (arith, nat_tests, eqb-true, some, quiet, no_waiting))) refl
+      (out.is_written text a.site a.separation (58 ∷ []) more Tok.value x same_site true false (waits k.position) (waits k.position) outside_after (grind (arith, nat_tests, eqb-true, (ap is_empty e), quiet, no_waiting))) refl
       (λ strict. goes_of strict text more (out.outer_then text a.site a.separation (58 ∷ []) more Tok.value x same_site outside_after) after.held.tokens refl refl
-      (out.outer_completes text a.site a.separation (58 ∷ []) more Tok.value x same_site true false (waits k.position) (waits k.position) outside_after (tokens_up_to (Outer a.site (waits k.position)) (Some k ∷ []) a.tokens) (λ ws last. after.held.tokens) (grind (arith, nat_tests, eqb-true, some, quiet, no_waiting)) keyed_tokens
+      (out.outer_completes text a.site a.separation (58 ∷ []) more Tok.value x same_site true false (waits k.position) (waits k.position) outside_after (tokens_up_to (Outer a.site (waits k.position)) (Some k ∷ []) a.tokens) (λ ws last. after.held.tokens) (grind (arith, nat_tests, eqb-true, (ap is_empty e), quiet, no_waiting)) keyed_tokens
       (subst (λ y. Completes text (a.separation ++ y) (Outer a.site (waits k.position)) (tokens_up_to (Outer a.site (waits k.position)) (Some k ∷ []) a.tokens)) e (a.completes true true [] live))))
 
   pub keyed_is : value_by more t [] (Some k ∷ []) ≡ Ok after

@@ -1,9 +1,9 @@
 -- The functions of the model that read commas and closing brackets keep what holds where they begin.
-use Rattle.proof_scanner.proofs.Common.{arith, Arrives, Bool, Collection, FlowLevel, Held, Holds, Key, List, None, Option, ScannerState, Stands, Tok, adjacent_in_flow, ap, begins_with, chained, end_entry, end_flow, false, fetch_flow_collection_end, fetch_flow_entry, flow_end, inl, inr, is_empty, is_required, on_held, pop, push, refused, remove_implicit_key, subst, sym, top_key, tried, true, went, with_top, ℕ, ◌∙◌, ◌∷◌, ◌≡◌, ◌⊎◌, eqb-true, nat_tests}
+use Rattle.proof_scanner.proofs.Common.{arith, Arrives, Collection, FlowLevel, Held, Holds, Key, List, None, Option, ScannerState, Stands, Tok, adjacent_in_flow, ap, begins_with, chained, end_entry, end_flow, false, fetch_flow_collection_end, fetch_flow_entry, flow_end, inl, inr, is_empty, is_required, on_held, pop, push, refused, remove_implicit_key, subst, sym, top_key, tried, true, went, with_top, ℕ, ◌∙◌, ◌∷◌, ◌≡◌, ◌⊎◌, eqb-true, nat_tests}
 use Rattle.model_scanner.specs.State.{after}
 use Rattle.proof_scanner.proofs.Cut.FlowEnds.{higher_keys, ended_now, entry_now, ended_is, entry_is}
 use Rattle.proof_scanner.proofs.Cut.Nodes.{IsDeep}
-use Rattle.proof_scanner.proofs.Sound.Closers.{IsCloser, comma, stray_past, stray_at}
+use Rattle.proof_scanner.proofs.Sound.Closers.{IsCloser, comma, stray_at}
 use Rattle.proof_scanner.proofs.Sound.ClosersInside.{closed_inside}
 use Rattle.proof_scanner.proofs.Sound.Gone.{key_gone}
 use Rattle.proof_scanner.proofs.Sound.Indicated.{past_it, indicator_passed}
@@ -22,12 +22,6 @@ entry_over s = grind (arith, refused, went, entry_is s s.flow)
 
 -- ---- what stands after either, with its account
 
--- outside flow
-pub stray_outside : (text more : List ℕ) (closes : Bool) (tok : Tok) (c : ℕ) → IsCloser closes tok c → (t : ScannerState) (o : ArrivesOutside text t) → t.rest ≡ c ∷ more → begins_with 35 more ≡ false → is_required (top_key t.held.keys) ≡ false →
-    Stands text (stray_past closes t tok more)
-stray_outside text more closes tok c k t o e hash free =
-    stray_at text more closes tok c k t (key_gone text t o.key o.here (ap is_empty e) (grind (arith, nat_tests, eqb-true))) (ap (with_top None) o.keys_are) e hash
-
 -- ---- a comma
 
 abbrev pub after_comma : List FlowLevel → List (Option Key) → ScannerState → (more : List ℕ) → ScannerState
@@ -37,7 +31,7 @@ comma_stands : (text more : List ℕ) (t : ScannerState) → t.rest ≡ 44 ∷ m
 comma_stands text more t e hash deep a free = by (arrives_side text t a)
   where
     by : ArrivesOutside text t ⊎ ArrivesInside text t → Stands text (after_comma t.held.flow (with_top None t.held.keys) t more)
-    by (inl o) = subst (λ fs. Stands text (after_comma fs (with_top None t.held.keys) t more)) (sym o.flow_is) (stray_outside text more false Tok.flow_entry 44 comma t o e hash free)
+    by (inl o) = subst (λ fs. Stands text (after_comma fs (with_top None t.held.keys) t more)) (sym o.flow_is) (stray_at text more false Tok.flow_entry 44 comma t (key_gone text t o.key o.here (ap is_empty e) (grind (arith, nat_tests, eqb-true))) (ap (with_top None) o.keys_are) e hash)
     by (inr i) =
         subst (λ fs. Stands text (after_comma fs (with_top None t.held.keys) t more)) (sym i.flow_is)
         (subst (λ ks. Stands text (after_comma (i.level ∷ i.levels) ks t more)) (sym (ap (with_top None) i.keys_are)) (closed_inside text more false Tok.flow_entry 44 comma t i e hash deep))
@@ -61,7 +55,7 @@ unfolding adjacent_in_flow
 closing_stands text more tok c k t e hash deep a free = by (arrives_side text t a)
   where
     by : ArrivesOutside text t ⊎ ArrivesInside text t → Stands text (after_closing tok t.held.flow (higher_keys t.held.flow t.held.keys) t more)
-    by (inl o) = subst (λ fs. Stands text (after_closing tok fs (higher_keys fs t.held.keys) t more)) (sym o.flow_is) (stray_outside text more true tok c k t o e hash free)
+    by (inl o) = subst (λ fs. Stands text (after_closing tok fs (higher_keys fs t.held.keys) t more)) (sym o.flow_is) (stray_at text more true tok c k t (key_gone text t o.key o.here (ap is_empty e) (grind (arith, nat_tests, eqb-true))) (ap (with_top None) o.keys_are) e hash)
     by (inr i) =
         let now : ScannerState = past_it (record t { held = record (ended_now (i.level ∷ i.levels) t.held) { keys = i.keys } }) more in
         subst (λ fs. Stands text (after_closing tok fs (higher_keys fs t.held.keys) t more)) (sym i.flow_is)

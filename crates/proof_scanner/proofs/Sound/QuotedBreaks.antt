@@ -1,5 +1,5 @@
 -- The elements of a quoted body by their characters, and the lines that are left of one from a column on.
-use Rattle.proof_scanner.proofs.Common.{sym, ◌∙◌, Bool, Element, Lines, List, None, Option, Some, Spelled, [], ap, arith, begins_with, blank, blanks_before, break_further, content, double_quoted_element, double_quoted_value, element_of, elements, eqb-true, escape, escape_by, escaped_break, escapes, false, folded_elements, has_more, has_tab_within, hexadecimal, if◌then◌else◌, is_empty, length, line, line_break, lines_fit, lookup, nat_le, nat_lt, not, numbered, numeric_escape, numeric_escapes, plain_element, quote_of, refl, same_blank, same_break, single_quoted_element, single_quoted_value, suc, take, true, value_of, without_last, ℕ, ◌&&◌, ◌++◌, ◌+◌, ◌-◌, ◌==◌, ◌||◌, ◌∷◌, ◌≡◌, nat_tests}
+use Rattle.proof_scanner.proofs.Common.{sym, ◌∙◌, Bool, Element, Lines, List, None, Option, Some, Spelled, [], ap, arith, begins_with, blank, blanks_before, break_further, content, double_quoted_element, double_quoted_value, element_of, elements, eqb-true, escape, escape_by, escaped_break, escapes, false, folded_elements, has_more, has_tab_within, if◌then◌else◌, is_empty, length, line, line_break, lines_fit, lookup, nat_le, nat_lt, not, numeric_escape, numeric_escapes, plain_element, quote_of, refl, same_blank, same_break, single_quoted_element, single_quoted_value, suc, take, true, value_of, without_last, ℕ, ◌&&◌, ◌++◌, ◌+◌, ◌-◌, ◌==◌, ◌||◌, ◌∷◌, ◌≡◌, nat_tests}
 use Rattle.defs_text.specs.Classes as classes
 use Rattle.defs_text.specs.FlowScalar.{last_line}
 use Rattle.yaml_chars.specs.Class.{is_break, is_blank}
@@ -45,12 +45,9 @@ single_kind c b = kind_if true c b (classes.is_nul c) _ _ (λ e. tt) (λ e. kind
     kind_if true c b (begins_with 39 b) _ _ (λ g. has_content 39 1 (let same : c ≡ 39 = eqb-true c 39 f in rw same (quote_white true))) (λ g. tt)) (λ f. plain_kind true c b))
 
 module _ (c : ℕ) (b : List ℕ) (solid : is_white c ≡ false) where
-  numbered_kind : (n : ℕ) (o : Option ℕ) → KindOf false c b (numbered n o)
-  numbered_kind n a = grind (arith, nat_tests, eqb-true, kind_if, has_content)
-
   numeric_kind : (n : ℕ) (r : List ℕ) → KindOf false c b (numeric_escape n r)
   unfolding numeric_escape
-  numeric_kind n r = kind_if false c b (length (take n r) == n) _ _ (λ e. numbered_kind n (hexadecimal 0 (take n r))) (λ e. tt)
+  numeric_kind n r = kind_if false c b (length (take n r) == n) _ _ (λ e. (grind (arith, nat_tests, eqb-true, kind_if, has_content))) (λ e. tt)
 
   escape_kind_by : (o n : Option ℕ) (r : List ℕ) → KindOf false c b (escape_by o n r)
   escape_kind_by a n r = grind (arith, nat_tests, eqb-true, has_content, numeric_kind)
@@ -97,11 +94,8 @@ body_between q (c ∷ d ∷ body) = ap (λ l. c ∷ l) (body_between q (d ∷ bo
 -- a body with a value has elements
 pub has_elements : (single : Bool) (body value : List ℕ) → value_of single body ≡ Some value → (es : List Element) × (elements (element_of single) 0 body ≡ Some es)
 unfolding single_quoted_value double_quoted_value
-has_elements single body value h = by (elements (element_of single) 0 body) refl (some single h)
+has_elements single body value h = by (elements (element_of single) 0 body) refl (grind (arith, body, elements))
   where
-    some : (single : Bool) → value_of single body ≡ Some value → folded_elements (elements (element_of single) 0 body) ≡ Some value
-    some a h = grind (arith, body, elements)
-
     by : (o : Option (List Element)) → elements (element_of single) 0 body ≡ o → folded_elements o ≡ Some value → (es : List Element) × (o ≡ Some es)
     by a e h = grind arith
 

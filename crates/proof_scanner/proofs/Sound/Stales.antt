@@ -1,5 +1,5 @@
 -- Keys that are too far back are dropped: what holds between two fetches still holds, without them.
-use Rattle.proof_scanner.proofs.Common.{Account, AreEntries, Bool, Entry, Fares, FlowLevel, Held, Holds, IsAtEnd, IsCarriedOn, IsCutUpTo, IsLine, IsNear, IsOpenOutside, IsRead, Key, KnowsKey, List, MayChoose, None, Option, Position, ScannerState, SoFar, Some, Stands, Step, Token, [], ap, arith, begins_free_line, chosen, drop_stale, either, false, have_no_key, in_flow, inl, inr, is_empty, is_far, is_overdue, is_renewed, is_waiting, length, list_any, map, not, not-false, outside_key, over, refl, refused, stale, still, subst, suc, sym, tokens_from, tokens_up_to, tried, true, try_held, went, ℕ, ◌++◌, ◌+◌, ◌∙◌, ◌∷◌, ◌≡◌, ◌≤◌, ◌⊎◌, eqb-true, nat_tests}
+use Rattle.proof_scanner.proofs.Common.{Account, AreEntries, Bool, Entry, Fares, FlowLevel, Held, Holds, IsAtEnd, IsCarriedOn, IsCutUpTo, IsLine, IsNear, IsOpenOutside, IsRead, Key, KnowsKey, List, MayChoose, None, Option, Position, ScannerState, SoFar, Some, Stands, Step, Token, [], ap, arith, begins_free_line, chosen, drop_stale, either, false, have_no_key, in_flow, inl, inr, is_empty, is_far, is_renewed, is_waiting, length, not, not-false, outside_key, over, refl, refused, stale, subst, suc, sym, tokens_from, tokens_up_to, tried, true, try_held, went, ℕ, ◌++◌, ◌+◌, ◌∙◌, ◌∷◌, ◌≡◌, ◌≤◌, ◌⊎◌, eqb-true, nat_tests}
 use Rattle.proof_scanner.proofs.Known.Steps.{known_far}
 use Rattle.proof_scanner.specs.StandsInRow.{goes}
 use Rattle.proof_scanner.proofs.Sound.Completed.{may_be_no_key}
@@ -77,13 +77,9 @@ not_far : (k p : Position) → is_far k p ≡ false → (p.line ≤ k.line) × (
 unfolding is_far
 not_far k p h = grind arith
 
-outside_now : (text : List ℕ) (u : ScannerState) (s : Stands text u) → is_empty u.held.flow ≡ true → (k : Option Key) → u.held.keys ≡ k ∷ [] → list_any (is_overdue u.held.position) (k ∷ []) ≡ false →
-    Nearer text u (record u.held { keys = map (still u.held.position) (k ∷ []) })
-outside_now text u s out a only h = grind (arith, nat_tests, eqb-true, key_dropped, not_far)
-
 pub stale_stands : (text : List ℕ) (u : ScannerState) → Stands text u → Holds (Nearer text u) (stale u.held)
 unfolding stale drop_stale
-stale_stands text u s = grind (arith, nat_tests, eqb-true, either, went, not-false, one_key, outside_now, refused)
+stale_stands text u s = grind (arith, nat_tests, eqb-true, either, went, not-false, one_key, key_dropped, not_far, refused)
 
 -- The stale keys of a fetch are dropped.
 pub keys_only : (s : Held) → Holds (λ h. h ≡ record s { keys = h.keys }) (stale s)
