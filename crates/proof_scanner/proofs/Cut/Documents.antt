@@ -1,5 +1,5 @@
 -- The text up to its end, the position after a document marker, and what the ends of levels leave as it was.
-use Rattle.proof_scanner.proofs.Common.{[], and_parts, ap, Bool, false, has_no_nul, Held, if◌then◌else◌, in_line_position, is_before_line_feed, is_break, is_empty, is_nul, List, not, past, Position, position_after, position_past, refl, sym, true, unroll_indent, up_to_nul, ℕ, ◌&&◌, ◌∙◌, ◌∷◌, ◌≡◌}
+use Rattle.proof_scanner.proofs.Common.{[], and_parts, ap, Bool, false, has_no_nul, Held, in_line_position, is_before_line_feed, is_break, is_empty, List, not, past, Position, position_after, position_past, refl, sym, true, unroll_indent, up_to_nul, ℕ, ◌&&◌, ◌∙◌, ◌∷◌, ◌≡◌, nat_tests, eqb-true, arith}
 use Rattle.proof_scanner.proofs.Cut.Unrolls.{unrolled_in_flow, unrolled_outside}
 
 -- the position after an indicator
@@ -14,13 +14,7 @@ three_past p c next e =
 
 pub whole_text : (text : List ℕ) → has_no_nul text ≡ true → up_to_nul text ≡ text
 whole_text [] h = refl
-whole_text (c ∷ r) h =
-    let q = and_parts (not (is_nul c)) (has_no_nul r) h in
-    by (is_nul c) q.0 (whole_text r q.1)
-  where
-    by : (b : Bool) → not b ≡ true → up_to_nul r ≡ r → (if b then [] else c ∷ up_to_nul r) ≡ c ∷ r
-    by true n e = cc
-    by false n e = ap (λ l. c ∷ l) e
+whole_text (c ∷ r) h = grind (arith, nat_tests, eqb-true, and_parts, whole_text r)
 
 -- the ends of levels change neither the position nor whether the stream's start was met
 pub unroll_keeps : (limit : ℕ) (h : Held) → ((unroll_indent limit h).position ≡ h.position) × ((unroll_indent limit h).started ≡ h.started)

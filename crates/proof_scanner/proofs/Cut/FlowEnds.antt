@@ -1,5 +1,5 @@
 -- What the model leaves at closing brackets and commas.
-use Rattle.proof_scanner.proofs.Common.{[], allow_key, arith, before_past, begins_token, blocks_past, Bool, collection, decrease_flow_level, end_flow_pair, ends_entry, ends_spaces, false, FlowLevel, has_no_nul, Held, if◌then◌else◌, inl, inr, is_adjacent, is_at_line_end, is_blank, is_blanks, is_break, is_pair_at, is_separation, IsAdjacent, IsPiece, Key, Keyed, length, List, no_hash, None, not, Option, other, pop, Position, refl, same_blank, Some, sym, Tok, Token, token, true, with_top, Yes, ℕ, ◌&&◌, ◌++◌, ◌+◌, ◌==◌, ◌||◌, ◌∙◌, ◌∷◌, ◌≡◌, ◌⊎◌, nat_tests}
+use Rattle.proof_scanner.proofs.Common.{[], allow_key, arith, before_past, begins_token, blocks_past, Bool, collection, decrease_flow_level, end_flow_pair, ends_entry, ends_spaces, false, FlowLevel, has_no_nul, Held, if◌then◌else◌, inl, is_adjacent, is_at_line_end, is_blank, is_blanks, is_break, is_pair_at, is_separation, IsAdjacent, IsPiece, Key, Keyed, length, List, no_hash, None, not, Option, other, pop, Position, refl, same_blank, Some, sym, Tok, Token, token, true, with_top, Yes, ℕ, ◌&&◌, ◌++◌, ◌+◌, ◌==◌, ◌||◌, ◌∙◌, ◌∷◌, ◌≡◌, ◌⊎◌, nat_tests, eqb-true}
 use Rattle.proof_lexers.specs.PlainEnds.{has_break}
 use Rattle.defs_token.specs.Account.{Account}
 use Rattle.model_scanner.specs.declared.level.FlowLevel.TheVariants.{Entry, Pair}
@@ -80,8 +80,5 @@ adjacent_collection p f rest fills line ends clean = λ separation r e k t. by s
     blanks_first a c g h = grind arith
 
     by : (separation r : List ℕ) → rest ≡ separation ++ r → is_separation false separation r ≡ true → begins_token r ≡ true → is_adjacent (before_past (before_past collection f) separation) ≡ ((p.index + length separation) == p.index)
-    by [] r e k t = elim (one_line f rest fills line) [
-      | inl b ↦ rw b (sym (same_number p.index))
-      | inr l ↦ absurd (grind arith)
-    ]
+    by [] r e k t = grind (arith, nat_tests, eqb-true, one_line, same_number)
     by (c ∷ g) r e k t = blanks_first (is_blanks f) c g (no_blank c (rw e at ends)) ∙ sym (grind (arith, nat_tests))

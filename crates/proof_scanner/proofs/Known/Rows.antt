@@ -1,5 +1,5 @@
 -- A row of a text goes through each place that a way leads to, at an account that is like the way's; and so through the place after a step that was read there.
-use Rattle.proof_scanner.proofs.Common.{[], Account, account_past, Begins, clean_up_to_end, false, first_account, GoesThrough, has_no_nul, HasRow, is_separation, IsLike, IsRowFrom, IsWritten, Leads, List, may_end, no_nul_after, None, Option, refl, Row, same_written, Some, spelled, Step, subst, sym, true, up_to_nul, ℕ, ◌++◌, ◌∙◌, ◌∷◌, ◌≡◌}
+use Rattle.proof_scanner.proofs.Common.{[], Account, account_past, Begins, clean_up_to_end, false, first_account, GoesThrough, has_no_nul, HasRow, is_separation, IsLike, IsRowFrom, IsWritten, Leads, List, may_end, no_nul_after, None, Option, refl, Row, same_written, Some, spelled, Step, subst, sym, true, up_to_nul, ℕ, ◌++◌, ◌∙◌, ◌∷◌, ◌≡◌, nat_tests, eqb-true, arith}
 use Rattle.defs_token.specs.Piece.{Holds}
 use Rattle.proof_scanner.proofs.Known.CameBy.{SecondBegins, keeps}
 use Rattle.proof_scanner.proofs.Known.Places.{at_end}
@@ -23,10 +23,7 @@ row_end (w ∷ ws) last (Some a) row = let n = row_end ws last (account_past a w
 leads_row : (ws : List Step) (last : List ℕ) (o : Option Account) (b : Account) → LeadsBy Same o ws last b → Holds (is_separation false last []) → Holds (may_end b) → IsRowFrom o ws last
 leads_row ws last None b h f m = absurd h
 leads_row [] last (Some a) b h f m = (f, subst (λ x. may_end x ≡ true) (sym h) m)
-leads_row (w ∷ ws) last (Some a) b h f m = (
-  subst (λ x. IsWritten x w (spelled ws last)) (sym h.1) h.2,
-  leads_row ws last (account_past a w (spelled ws last)) b (subst (λ x. LeadsBy Same (account_past x w (spelled ws last)) ws last b) (sym h.1) h.3) f m,
-)
+leads_row (w ∷ ws) last (Some a) b h f m = grind (arith, nat_tests, eqb-true, leads_row ws last (account_past a w (spelled ws last)) b)
 
 -- ---- through a place
 

@@ -102,17 +102,7 @@ module _ (text : List ℕ) (s : Site) (l line_here : Line) (allowed : Bool) (k :
 
       by : Made s came.from.line came.from.entries (With w came.key) next b → Past b
       by (inside some sep site one) = absurd (cc (same_flow [] came.from.entries came.is_like.2, some))
-      by (outside m o none sep past line site one) = record {
-        from = came.from;
-        line = m;
-        after = o;
-        key = came.key;
-        is_like = came.is_like.1;
-        begins = came.begins;
-        sep = sep;
-        past = subst (λ bs. line_past (is_in_column here.col bs) here bs (act_of w.shown) came.key m ≡ Some o) (grind arith) past;
-        own = line;
-      }
+      by (outside m o none sep past line site one) = grind (arith, nat_tests, eqb-true, came)
 
   free_here : allowed ≡ true → k ≡ None → line_here ≡ free
   free_here e j = grind (arith, line_is)

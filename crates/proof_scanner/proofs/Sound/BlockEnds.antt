@@ -39,7 +39,7 @@ first_of (c ∷ w) k a b = refl
 -- the lines are so before further text too
 before_text : (ls : List Line) (next : List ℕ) → AreLines ls [] → (slice_index next 0 == 10) ≡ false → AreLines ls next
 before_text [] next a h = tt
-before_text (l ∷ ls) next a h = (a.0, (grind (arith, same)), before_text ls next a.2 h)
+before_text (l ∷ ls) next a h = (a.0, grind (arith, same), before_text ls next a.2 h)
   where
     same : (ls : List Line) → (slice_index (spell ls []) 0 == 10) ≡ false → (slice_index (spell ls next) 0 == 10) ≡ false
     same [] k = h

@@ -152,9 +152,7 @@ module _ (text : List ℕ) (t : ScannerState) (k : Option Key) (a : ArrivesBy te
   before_it y e = grind (arith, nat_tests, eqb-true, not_before_same, not_before_then, weaker, not_before_after)
 
   then_rows : (strict c : Bool) (cs : List Bool) (y : Option Key) → key_now ≡ y → MayChoose strict c y end rest → Then strict y c cs
-  then_rows strict c cs None e may =
-      let q = line_by_allowed strict t.held.key_allowed k refl refl (subst (λ o. MayChoose strict false o end rest) (sym e) tt) in
-      rows strict q.0 q.1
+  then_rows strict c cs None e may = grind (arith, nat_tests, eqb-true, line_by_allowed, rows)
   then_rows true true cs (Some y) e may = absurd (dead y (before_it y e) may)
   then_rows false true cs (Some y) e may = absurd may
   then_rows true false cs (Some y) e may =

@@ -1,5 +1,5 @@
 -- Rows that are begun and completed: where a text begins, over a step, and where it ends.
-use Rattle.proof_scanner.proofs.Common.{Account, Begins, BeginsButForKey, Bool, Completes, IsCutUpTo, IsRead, IsRowFrom, IsWritten, Key, Leads, List, MayChoose, None, Option, Position, SoFar, Some, Step, Token, [], account_past, ap, append-nil, append_assoc, arith, beginnings_are_cuts, cut_past, eqb-true, false, first_account, first_position, is_separation, is_waiting, may_end, nat_tests, position_after, put, refl, spelled, stream_start, subst, sym, taken, tokens_at_end, tokens_from, tokens_of_step, true, up_to_nul, ℕ, ◌++◌, ◌∙◌, ◌∷◌, ◌≡◌}
+use Rattle.proof_scanner.proofs.Common.{Account, Begins, BeginsButForKey, Bool, Completes, IsRead, IsRowFrom, IsWritten, Key, Leads, List, MayChoose, None, Option, Position, SoFar, Some, Step, Token, [], account_past, ap, append-nil, append_assoc, arith, beginnings_are_cuts, cut_past, eqb-true, false, first_account, first_position, is_separation, is_waiting, may_end, nat_tests, position_after, put, refl, spelled, stream_start, subst, sym, taken, tokens_at_end, tokens_from, tokens_of_step, true, up_to_nul, ℕ, ◌++◌, ◌∙◌, ◌∷◌, ◌≡◌}
 
 -- ---- beginnings of rows
 
@@ -70,11 +70,7 @@ pub goes_past : (strict : Bool) (text after : List ℕ) (a b : Account) (before 
     ((ws : List Step) (last : List ℕ) → spelled ws last ≡ next → before (w ∷ ws) last ++ tokens_of_step a w ws last ≡ past ws last) →
     SoFar strict text after a before → SoFar strict text next b past
 goes_past true text after a b before past w next cut written stands idle tokens h = completed_past text after a b before past w next cut written stands tokens h
-goes_past false text after a b before past w next cut written stands idle tokens h = (
-  idle refl h.0,
-  λ ws last e. subst (λ ts. IsCutUpTo text next b ts) (tokens ws last e)
-      (cut_past text after a b (before (w ∷ ws) last) w ws last next cut e written stands h.0 (idle refl h.0) (h.1 (w ∷ ws) last (ap (λ x. w.separation ++ (w.piece ++ x)) e ∙ sym cut))),
-)
+goes_past false text after a b before past w next cut written stands idle tokens h = grind (arith, nat_tests, eqb-true, cut_past)
 
 -- where no key waits, the tokens of a row so far are a cut
 pub goes_of : (strict : Bool) (text after : List ℕ) (a : Account) (ts : List Token) → may_end a ≡ true → is_waiting a.line ≡ false → Completes text after a (λ ws last. ts) → SoFar strict text after a (λ ws last. ts)

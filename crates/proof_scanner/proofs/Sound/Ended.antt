@@ -44,14 +44,7 @@ collections_end p i (d ∷ ds) ts a =
           are = h.are;
           tokens_are = one_end p (i - 1) cs ts (unrolled (p.col + 1) p d.indent ds (ts ++ put p block_end ∷ [])).tokens h.tokens_are ∙ ap (λ x. ts ++ ends_at p ((i - 1) ∷ cs) x) (sym ends);
         }
-    by false e h =
-        let stays : not_ended p.col ((i - 1) ∷ cs) ≡ (i - 1) ∷ cs = ap (λ b. if b then not_ended p.col cs else (i - 1) ∷ cs) (deeper_now p.col i false e) in
-        let own : columns i (d ∷ ds) ≡ (i - 1) ∷ cs = ap (λ b. if b then (i - 1) ∷ cs else cs) a.0 in
-        record {
-          columns_are = stays ∙ sym own;
-          are = a;
-          tokens_are = no_ends p ((i - 1) ∷ cs) ts ∙ ap (λ x. ts ++ ends_at p ((i - 1) ∷ cs) x) (sym stays);
-        }
+    by false e h = grind (arith, nat_tests, eqb-true, cs, deeper_now, no_ends)
 
 alone : (p : Position) (cols : List ℕ) (awaits : Bool) (ts : List Token) (u : Levels) → (awaits && is_deeper p.col cols) ≡ false → EndedAlone p cols ts u → Ended p cols awaits ts u
 alone p cols awaits ts u e h = grind arith
@@ -80,11 +73,4 @@ levels_end p i (d ∷ ds) ts a = by d.needs_block_end refl a.0
         two : (n : ℕ) (ns : List ℕ) → columns d.indent ds ≡ n ∷ ns → d.indent ≡ suc n → (b : Bool) → nat_lt (p.col + 1) i ≡ b →
             Ended p (columns d.indent ds) true ts (if b then unrolled (p.col + 1) p d.indent ds ts else record { indent = i; indents = d ∷ ds; tokens = ts })
         two n ns c k true f = alone p (columns d.indent ds) true ts (unrolled (p.col + 1) p d.indent ds ts) (ap (λ x. is_deeper p.col x) c ∙ (grind (arith, nat_tests, eqb-true))) (collections_end p d.indent ds ts a.1)
-        two n ns c k false f =
-            let stays : not_ended p.col (columns d.indent ds) ≡ columns d.indent ds = ap (not_ended p.col) c ∙ (ap (λ b. if b then not_ended p.col ns else n ∷ ns) (not_left n k f) ∙ sym c) in
-            record {
-              columns_are = stays ∙ sym (ap (λ b. if b then (i - 1) ∷ columns d.indent ds else columns d.indent ds) e);
-              open_is = ap (λ x. is_deeper p.col x) c ∙ ((grind (arith, nat_tests, eqb-true)) ∙ ap not (sym e));
-              are_levels = a;
-              tokens_are = no_ends p (columns d.indent ds) ts ∙ ap (λ x. ts ++ ends_at p (columns d.indent ds) x) (sym stays);
-            }
+        two n ns c k false f = grind (arith, nat_tests, not_left, eqb-true, no_ends)

@@ -21,7 +21,7 @@ rest_of (x ∷ xs) = xs
 -- a row up to one of its tokens
 row_first : (a : Account) (ws vs : List Written) (f : List ℕ) (last : Option Tok) → IsRow a (ws ++ vs) f last → IsRow a ws (spelled vs f) None
 row_first a [] vs f last r = tt
-row_first a (w ∷ []) vs f last r = ((r.0.0, (grind (arith, nat_tests, eqb-true))), tt)
+row_first a (w ∷ []) vs f last r = ((r.0.0, grind (arith, nat_tests, eqb-true)), tt)
 row_first a (w ∷ v ∷ ws) vs f last r =
     let same : spelled ((v ∷ ws) ++ vs) f ≡ spelled (v ∷ ws) (spelled vs f) = spelled_append (v ∷ ws) vs f in
     subst (λ t. IsWritten a w t (Some v.token.tok) × IsRow (account_past a w t) (v ∷ ws) (spelled vs f) None) same

@@ -1,5 +1,5 @@
 -- What holds between two fetches still holds at the next token, or at the text's end, with the separation up to there.
-use Rattle.proof_scanner.proofs.Common.{AreLevels, Bool, HasPassed, Held, Holds, Indent, IsLive, IsReadOn, Key, List, MayChoose, None, Ok, Option, Position, Previous, ScannerState, Some, [], another, ap, append-nil, arith, begins_free_line, begins_separation, between, columns, eqb-true, false, has_break, has_open_level, is_blank, is_empty, is_no_comment, is_renewed, is_separation, is_white, leading, least_column, nat_tests, not, or-false, plain_scalar, position_after, refl, same_blank, same_break, separations_are_passed, skip, skip_to_next_token, suc, true, ℕ, ◌++◌, ◌==◌, ◌||◌, ◌∙◌, ◌∷◌, ◌≡◌}
+use Rattle.proof_scanner.proofs.Common.{AreLevels, Bool, HasPassed, Held, Holds, Indent, IsLive, IsReadOn, Key, List, MayChoose, None, Ok, Option, Position, Previous, ScannerState, Some, [], another, ap, append-nil, arith, begins_free_line, begins_separation, between, columns, eqb-true, false, has_break, has_open_level, is_blank, is_empty, is_no_comment, is_renewed, is_separation, is_white, leading, least_column, nat_tests, or-false, plain_scalar, position_after, refl, same_blank, same_break, separations_are_passed, skip, skip_to_next_token, suc, true, ℕ, ◌++◌, ◌==◌, ◌||◌, ◌∙◌, ◌∷◌, ◌≡◌}
 use Rattle.proof_lexers.specs.PlainEnds as plain_ends
 use Rattle.proof_scanner.proofs.Cut.Passes.{read_holds}
 use Rattle.proof_scanner.proofs.Cut.Positions.{not_before_after}
@@ -59,9 +59,7 @@ leading_stop (d ∷ g) p c h = grind (arith, leading_stop g p c h)
 -- whether a key may begin again in an entry is known before all of the separation is passed
 pub renewed_alike : (b : Previous) (q : Position) (f g rest rest2 : List ℕ) → rest ≡ g ++ rest2 → is_separation false g rest2 ≡ true → IsReadOn b q f rest → is_renewed b (f ++ g) ≡ is_renewed b f
 renewed_alike plain_scalar q f [] rest rest2 cut fills r = ap (λ x. has_break (leading is_no_comment x)) (append-nil f)
-renewed_alike plain_scalar q f (c ∷ p) rest rest2 cut fills r =
-    let white : is_white c ≡ false = rw cut at r in
-    ap has_break (leading_stop f p c (ap not (first_comment c p rest2 white fills)))
+renewed_alike plain_scalar q f (c ∷ p) rest rest2 cut fills r = grind (arith, nat_tests, eqb-true, leading_stop, first_comment)
 renewed_alike _ q f g rest rest2 cut fills r = refl
 
 -- a key may begin on a line after what was passed, or what was passed before

@@ -171,12 +171,7 @@ record Passed (column : ℕ) (flow : Bool) (x : Spot) (apart : Bool) (text rest 
 relocated : (column : ℕ) (t : PlainState) (y : Spot) (a passed rest : List ℕ) → IsAt t y a → a ≡ passed ++ rest → tabs_fit column (spot_of t.mode t.folded.leading t.position.col) passed rest ≡ true → tabs_fit column y passed rest ≡ true
 relocated column t y a passed rest (inl e) cut h = subst (λ z. tabs_fit column z passed rest ≡ true) e h
 relocated column t y a [] rest (inr b) cut h = subst (λ z. may_stop z rest ≡ true) (sym b.0) refl
-relocated column t y a (d ∷ p) rest (inr b) cut h =
-    let breaks : is_break d ≡ true = subst (λ z. begins_break z ≡ true) cut b.1 in
-    let x : Spot = spot_of t.mode t.folded.leading t.position.col in
-    let later : tabs_fit column (past_spot column x d) p rest ≡ true = (and_parts (may_go x d) (tabs_fit column (past_spot column x d) p rest) h).1 in
-    let at_line : tabs_fit column (at 0) p rest ≡ true = subst (λ z. tabs_fit column z p rest ≡ true) (rw breaks refl) later in
-    subst (λ z. tabs_fit column z (d ∷ p) rest ≡ true) (sym b.0) (subst (λ z. tabs_fit column z p rest ≡ true) (sym (rw breaks refl)) at_line)
+relocated column t y a (d ∷ p) rest (inr b) cut h = grind (arith, nat_tests, eqb-true, and_parts)
 
 module _ (ctx : Context) (start : Position) where
   abbrev spot : PlainState → Spot
@@ -197,7 +192,7 @@ module _ (ctx : Context) (start : Position) where
   }
 
   went : (a : List ℕ) (s : PlainState) → IsCalm s.mode s.folded.leading → (t : Stop PlainState) → run (turn ctx start) a s ≡ Ok t → PassedFrom s a t.rest
-  went [] s l t e = let same : record { rest = []; state = s } ≡ t = cc in rw (← same) (record { passed = []; cut = refl; tabs_are = (grind arith); dashes_are = refl })
+  went [] s l t e = let same : record { rest = []; state = s } ≡ t = cc in rw (← same) (record { passed = []; cut = refl; tabs_are = grind arith; dashes_are = refl })
   went (c ∷ a) s l t e = by (λ u m k. went a u m t k) (turn ctx start s c a) (turn_goes ctx start c a s.mode s l) e
     where
       by : ((u : PlainState) → IsCalm u.mode u.folded.leading → run (turn ctx start) a u ≡ Ok t → PassedFrom u a t.rest) → (u : Turn PlainState Fault) → Goes ctx start c a s.mode s u →

@@ -197,10 +197,7 @@ key_keeps text more t a e gap deep =
     subst (λ y. Holds (Stands text) (key_from t y)) (sym (i ∙ ap {A = ScannerState} {B = ScannerState} (λ z. record z { held = record u.held { keys = with_top None u.held.keys } }) d.0)) (by (arrives_side text t a) u.held d.1)))
   where
     by : ArrivesOutside text t ⊎ ArrivesInside text t → (u : Held) → Begins t.held u → Holds (Stands text) (key_from t (record t { held = record u { keys = with_top None u.keys } }))
-    by (inl o) u (outside out allowed d) =
-        let none : o.key ≡ None = (grind arith) in
-        subst (λ h. Holds (Stands text) (key_from t (record t { held = record h { keys = with_top None h.keys } }))) (sym d)
-        (question_outside text more t (subst (λ k. ArrivesBy text t [] (k ∷ []) []) none o.here) o.flow_is (o.keys_are ∙ ap (λ k. k ∷ []) none) e gap allowed deep)
+    by (inl o) u (outside out allowed d) = grind (arith, nat_tests, eqb-true, question_outside)
     by (inl o) u (inside in_it d) = absurd (cc (in_it, ap (λ fs. not (is_empty fs)) o.flow_is))
     by (inr i) u (outside out allowed d) = absurd (cc (out, ap (λ fs. not (is_empty fs)) i.flow_is))
     by (inr i) u (inside in_it d) =

@@ -39,10 +39,7 @@ blanks_and_comment (c ∷ s) next f h = grind (arith, blanks_and_comment s next)
 -- before what does not end the line it is blanks alone
 pub blanks_alone : (in_comment : Bool) (s next : List ℕ) → is_separation in_comment s next ≡ true → plains.has_break s ≡ false → is_at_line_end next ≡ false → (in_comment ≡ false) × (is_blanks s ≡ true)
 blanks_alone a [] next f h e = grind arith
-blanks_alone true (c ∷ s) next f h e = by (is_break c) f h (λ g i. blanks_alone true s next g i e)
-  where
-    by : (k : Bool) → is_separation (not k) s next ≡ true → (k || plains.has_break s) ≡ false → (is_separation true s next ≡ true → plains.has_break s ≡ false → (true ≡ false) × (is_blanks s ≡ true)) → (true ≡ false) × (is_blanks (c ∷ s) ≡ true)
-    by a f h b = grind arith
+blanks_alone true (c ∷ s) next f h e = grind (arith, nat_tests, eqb-true, blanks_alone true s next)
 blanks_alone false (c ∷ s) next f h e = (refl, by (is_blank c) (is_break c) (c == 35) f h (λ n g i. blanks_alone n s next g i e))
   where
     by : (b k n : Bool) → ((b || k || n) && is_separation n s next) ≡ true → (k || plains.has_break s) ≡ false → ((n : Bool) → is_separation n s next ≡ true → plains.has_break s ≡ false → (n ≡ false) × (is_blanks s ≡ true)) → (b && is_blanks s) ≡ true

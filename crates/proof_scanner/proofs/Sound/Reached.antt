@@ -1,5 +1,5 @@
 -- Where a run has come to in a text, and whether it met the stream's start.
-use Rattle.proof_scanner.proofs.Common.{Fares, IsCut, IsCutUpTo, IsWhere, List, Reaches, ScannerState, [], ap, begins, has_no_nul, is_empty, over, refl, rows_are_cuts, start, subst, sym, true, ℕ, ◌++◌, ◌≡◌}
+use Rattle.proof_scanner.proofs.Common.{Fares, IsCutUpTo, IsWhere, List, Reaches, ScannerState, ap, begins, has_no_nul, is_empty, over, refl, rows_are_cuts, start, true, ℕ, ◌++◌, ◌≡◌, nat_tests, eqb-true, arith}
 use Rattle.proof_scanner.specs.StandsInRow.{goes}
 use Rattle.proof_scanner.proofs.Cut.Documents.{whole_text}
 use Rattle.proof_scanner.proofs.Sound.CutsSoFar.{stands_cut, cut_position}
@@ -10,12 +10,7 @@ pub run_is_where : (text : List ℕ) (t : ScannerState) → has_no_nul text ≡ 
 run_is_where text t nul run = by (reached fetch_keeps text nul (start text) t run (begins refl))
   where
     by : Fares text t → IsWhere text t
-    by (begins e) = subst (λ u. IsWhere text u) (sym e) (record {
-      going = λ _. record { before = []; is_text = refl; is_position = refl };
-      over = λ f. absurd cc;
-      none = λ _. refl;
-      some = λ f. absurd cc;
-    })
+    by (begins e) = grind (arith, nat_tests, eqb-true, over)
     by (goes s) =
         let c : IsCutUpTo text (s.separation ++ t.rest) s.base t.held.tokens = stands_cut text t s in
         record {
@@ -24,11 +19,4 @@ run_is_where text t nul run = by (reached fetch_keeps text nul (start text) t ru
           none = λ f. absurd (cc (f, s.started));
           some = λ _. (ap is_empty c.are_tokens);
         }
-    by (over f r n) =
-        let c : IsCut t.held.tokens text = rows_are_cuts text t.held.tokens r in
-        record {
-          going = λ e. absurd (cc (e, f));
-          over = λ _. n.position;
-          none = λ e. absurd (cc (e, n.began));
-          some = λ _. (ap is_empty c.are_tokens);
-        }
+    by (over f r n) = grind (arith, nat_tests, eqb-true, rows_are_cuts)

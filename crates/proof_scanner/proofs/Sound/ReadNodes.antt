@@ -239,8 +239,8 @@ module _ (text : List ℕ) (t : ScannerState) (level : Option FlowLevel) (f : Fl
 
   entries_then : (lv : Option FlowLevel) → IsBegun lv t d → d.allowed ≡ allowed_past lv true (previous_by d.tok) d.gap →
       AreEntries d.allowed (is_renewed (previous_by d.tok) d.gap) (levels_by lv (f ∷ fs)) (with_no_key lv (key_past ∷ ks)) (with_begun lv (entry_past_node t.held.key_allowed e ∷ es))
-  entries_then None i h = (entry_kept t f fs k e within t.held.key_allowed a.are_entries.0, (grind arith), a.are_entries.2)
-  entries_then (Some lv) i h = (record { kind_is = refl; pair_is = i.0; key_is = tt }, (inl refl, h), (entry_kept t f fs k e within t.held.key_allowed a.are_entries.0, (grind arith), a.are_entries.2))
+  entries_then None i h = (entry_kept t f fs k e within t.held.key_allowed a.are_entries.0, grind arith, a.are_entries.2)
+  entries_then (Some lv) i h = (record { kind_is = refl; pair_is = i.0; key_is = tt }, (inl refl, h), (entry_kept t f fs k e within t.held.key_allowed a.are_entries.0, grind arith, a.are_entries.2))
 
   node_inside : t.held.keys ≡ k ∷ ks → Stands text (state_after t level d)
   node_inside keys =

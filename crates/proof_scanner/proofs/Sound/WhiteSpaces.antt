@@ -71,10 +71,7 @@ feed_after c a s e = grind (arith, nat_tests, eqb-true, feed, and_parts, or_true
 
 white_read : (in_comment found : Bool) (a : List ℕ) (s : Held) → Holds (IsPastWhite in_comment s.leading a) (white in_comment found a s)
 unfolding white is_break
-white_read b found [] s = ended found []
-  where
-    ended : (f : Bool) (r : List ℕ) → Holds (λ u. (u.rest ≡ r) × (u.held.leading ≡ (s.leading || false))) (white_end f r s)
-    ended a r = grind (arith, nat_tests, eqb-true, went, refused)
+white_read b found [] s = grind (arith, nat_tests, eqb-true, went, refused)
 white_read i found (c ∷ a) s = of i (class.is_break c) (c == 32) (c == 35) refl refl refl (λ i f u. white_read i f a u)
   where
     ended : (f : Bool) → Holds (λ u. (u.rest ≡ c ∷ a) × (u.held.leading ≡ (s.leading || false))) (white_end f (c ∷ a) s)

@@ -46,7 +46,7 @@ directive_is_read a more r nul column closed e = by r (read_as e (directives_end
         is_text = ap (λ l. 37 ∷ l) (cut ∙ ap (λ l. line ++ l) (break_cut next));
         is_filled = break_is_separation next ends;
         is_piece = λ following. subst (λ l. IsPiece a (37 ∷ line) l following a.position (token_of d)) (break_cut next)
-            (piece_of a (37 ∷ line) next d following (is, percent_in_line line no_break, column, (grind arith), closed));
+            (piece_of a (37 ∷ line) next d following (is, percent_in_line line no_break, column, grind arith, closed));
         is_end = position_append a.position (37 ∷ line) (first_break next) (next_line next);
       },
       (grind arith),
