@@ -99,21 +99,12 @@ module _ (ctx : Context) (start : Position) (c : ℕ) (a : List ℕ) where
   break_goes m s e = grind (arith, nat_tests, eqb-true, goes, feed_breaks, white_is_no_dash, between, break_leads)
 
   module _ (breaks : is_break c ≡ false) where
-    -- a blank that is no TAB in the indentation
-    gap_goes : (m : Mode) (s : PlainState) → is_blank c ≡ true → (s.folded.leading && (c == 9) && nat_lt s.position.col ctx.indent) ≡ false →
-        may_go (spot_of m s.folded.leading s.position.col) c ≡ true → spot_of between s.folded.leading (s.position.col + 1) ≡ past_spot ctx.indent (spot_of m s.folded.leading s.position.col) c → Goes m s (on (at_gap ctx c a s))
-    gap_goes m s f h go x = grind (arith, nat_tests, eqb-true, between, on, goes, white_is_no_dash)
-
     -- after content
     blank_inside : (s : PlainState) → is_blank c ≡ true → s.folded.leading ≡ false → Goes inside s (on (at_gap ctx c a s))
-    blank_inside s f l = grind (arith, nat_tests, eqb-true, gap_goes)
-
-    -- a TAB in the indentation
-    tab_goes : (s : PlainState) → is_blank c ≡ true → s.folded.leading ≡ true → ((c == 9) && nat_lt s.position.col ctx.indent) ≡ true → Goes between s (on (at_gap ctx c a s))
-    tab_goes s f l h = grind (arith, nat_tests, eqb-true, tabs, between, on, goes, white_is_no_dash)
+    blank_inside s f l = grind (arith, nat_tests, eqb-true, between, on, goes, white_is_no_dash)
 
     blank_between : (s : PlainState) → is_blank c ≡ true → Goes between s (on (at_gap ctx c a s))
-    blank_between s f = grind (arith, nat_tests, eqb-true, gap_goes, tab_goes)
+    blank_between s f = grind (arith, nat_tests, eqb-true, between, on, goes, white_is_no_dash, tabs)
 
     module _ (solid : is_blank c ≡ false) where
       no_spot : (x : Spot) → may_go x c ≡ true → past_spot ctx.indent x c ≡ in_text
@@ -151,12 +142,8 @@ module _ (ctx : Context) (start : Position) (c : ℕ) (a : List ℕ) where
   begun_goes : (s : PlainState) (x : Result Bool Fault) → goes_on ctx (c ∷ a) s.position ≡ x → is_break c ≡ false → is_blank c ≡ false → Goes between s (begun x c s)
   begun_goes s a h e f = grind (arith, nat_tests, eqb-true, char_between, no_dash, stays, between, fails, has_dash)
 
-  -- after a TAB in the indentation
-  tabs_goes : (s : PlainState) → Goes tabs s (turn_in ctx start tabs s c a)
-  tabs_goes s = grind (arith, nat_tests, tabs, on, stop, fail, break_goes, stays, eqb-true, goes, white_is_no_dash, fails)
-
   pub turn_goes : (m : Mode) (s : PlainState) → IsCalm m s.folded.leading → Goes m s (turn_in ctx start m s c a)
-  turn_goes a s l = grind (arith, nat_tests, eqb-true, white_turn, on, stop, blank_inside, char_inside, stays, blank_between, begun_goes, tabs_goes)
+  turn_goes a s l = grind (arith, nat_tests, eqb-true, white_turn, on, stop, blank_inside, char_inside, stays, blank_between, begun_goes, tabs, fail, break_goes, goes, white_is_no_dash, fails)
 
 -- ---- a run
 

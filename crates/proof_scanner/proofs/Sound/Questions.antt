@@ -114,12 +114,9 @@ question_read : (text more : List ℕ) (p : Position) (h : Held) → is_at_gap m
     Holds (Stands text) (skip_yaml_whitespace (record { rest = more; held = h }) >>= λ w. check_key_space w >>= λ x. Ok (on_held (push p Tok.key) x))
 unfolding skip_yaml_whitespace
 question_read text more p h gap f =
-    chained {P = λ w. ((w ≡ past_white_space t) × (is_separation false (white_of false more) (past_white false more) ≡ true)) × (begins_with_space_or_break more ≡ true)} (both_hold (white_exactly t) (white_first more h gap)) (λ w d.
+    chained {P = λ w. ((w ≡ past_white_space (record { rest = more; held = h })) × (is_separation false (white_of false more) (past_white false more) ≡ true)) × (begins_with_space_or_break more ≡ true)} (both_hold (white_exactly (record { rest = more; held = h })) (white_first more h gap)) (λ w d.
     subst (λ y. Holds (Stands text) (check_key_space y >>= λ x. Ok (on_held (push p Tok.key) x))) (sym d.0.0)
-    (chained (space_checked more (past_white_space t) refl) (λ x b. went (subst (λ y. Stands text (on_held (push p Tok.key) y)) (sym b.0) (f d.1 b.1 d.0.1)))))
-  where
-    t : ScannerState
-    t = record { rest = more; held = h }
+    (chained (space_checked more (past_white_space (record { rest = more; held = h })) refl) (λ x b. went (subst (λ y. Stands text (on_held (push p Tok.key) y)) (sym b.0) (f d.1 b.1 d.0.1)))))
 
 question_outside : (text more : List ℕ) (t : ScannerState) (a : ArrivesBy text t [] (None ∷ []) []) → t.held.flow ≡ [] → t.held.keys ≡ None ∷ [] → t.rest ≡ 63 ∷ more → is_at_gap more ≡ true → t.held.key_allowed ≡ true → IsDeep t.held →
     Holds (Stands text) (key_from t (record t { held = record (roll_indent t.held.position.col None Tok.block_mapping_start t.held.position t.held) { keys = with_top None (roll_indent t.held.position.col None Tok.block_mapping_start t.held.position t.held).keys } }))

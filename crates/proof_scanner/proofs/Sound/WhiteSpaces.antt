@@ -74,9 +74,6 @@ unfolding white is_break
 white_read b found [] s = grind (arith, nat_tests, eqb-true, went, refused)
 white_read i found (c ∷ a) s = of i (class.is_break c) (c == 32) (c == 35) refl refl refl (λ i f u. white_read i f a u)
   where
-    ended : (f : Bool) → Holds (λ u. (u.rest ≡ c ∷ a) × (u.held.leading ≡ (s.leading || false))) (white_end f (c ∷ a) s)
-    ended a = grind (arith, nat_tests, eqb-true, went, refused)
-
     more : (i : Bool) (u : ScannerState) → is_break c ≡ false → IsPastWhite i s.leading a u → (u.rest ≡ past_white i a) × (u.held.leading ≡ (s.leading || has_break (c ∷ white_of i a)))
     more i u e h = (h.0, h.1 ∙ ap (λ b. s.leading || not (not b && has_no_break (white_of i a))) (sym e))
 
@@ -85,7 +82,7 @@ white_read i found (c ∷ a) s = of i (class.is_break c) (c == 32) (c == 35) ref
 
     of : (i x y z : Bool) → class.is_break c ≡ x → (c == 32) ≡ y → (c == 35) ≡ z → ((j : Bool) → ((f : Bool) (u : Held) → Holds (IsPastWhite j u.leading a) (white j f a u))) →
         Holds (IsPastWhite i s.leading (c ∷ a)) (if x then white false true a (at_break c a s) else (if i then white true found a (moved s) else (if y then white false true a (moved s) else (if z then white true found a (moved s) else white_end found (c ∷ a) s))))
-    of a b y z e f g h = grind (arith, nat_tests, same_break, weakened, feed_after, or_true, more, no_break_hash, eqb-true, stay, ended)
+    of a b y z e f g h = grind (arith, nat_tests, same_break, weakened, feed_after, or_true, more, no_break_hash, eqb-true, stay, went, refused)
 
 -- The state after spaces, breaks and comments.
 abbrev pub past_white_space : ScannerState → ScannerState
