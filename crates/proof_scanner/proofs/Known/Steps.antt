@@ -104,9 +104,6 @@ module _ (text : List ℕ) (s : Site) (l line_here : Line) (allowed : Bool) (k :
       by (inside some sep site one) = absurd (cc (same_flow [] came.from.entries came.is_like.2, some))
       by (outside m o none sep past line site one) = grind (arith, nat_tests, eqb-true, came)
 
-  free_here : allowed ≡ true → k ≡ None → line_here ≡ free
-  free_here e j = grind (arith, line_is)
-
   -- After a node or a block scalar outside flow the key that may begin with it is open, or the one that was.
   pub known_saved : (p : Position) → new.position ≡ here → new.required ≡ is_in_column here.col at.blocks → KnowsKey text (w.separation ++ (w.piece ++ next)) p k → KnowsKey text next p (saved allowed new k)
   known_saved p place must n = record {

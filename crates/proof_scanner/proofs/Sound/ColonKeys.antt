@@ -28,9 +28,6 @@ abbrev pub with_key : (begins : Bool) → (start : Token) → Key → List Token
 with_key begins start k ts = (if begins then placed (Some k.number) start (insert ts k.number (token k.position Tok.key)) else insert ts k.number (token k.position Tok.key))
 
 module _ (text more : List ℕ) (t : ScannerState) (k : Key) (a : ArrivesBy text t [] (Some k ∷ []) []) (e : t.rest ≡ 58 ∷ more) (apart : colon_may_precede more ≡ true) (ind : is_value_indicator false (is_adjacent (before_past (before_by a.site.before) a.separation)) more ≡ true) where
-  abbrev p : Position
-  p = t.held.position
-
   abbrev x : Site
   x = site_here false t.held.position a.site
 

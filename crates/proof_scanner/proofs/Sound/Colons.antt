@@ -1,5 +1,5 @@
 -- A colon that ends no key: what holds where it begins holds between two fetches after it.
-use Rattle.proof_scanner.proofs.Common.{AreLevels, At, Bool, Entry, Fault, FlowLevel, Held, Holds, Indent, IsEntryOf, Key, List, None, Ok, Option, Result, ScannerState, Site, Some, Stands, Tok, Token, [], allow_key, another, ap, append_assoc, arith, before_by, before_past, begin_keyless_mapping, begin_keyless_value, begun_outside, chained, checked, colon_may_precede, columns, ends_at, false, fresh, gives_colon, has_break, has_open_level, if◌then◌else◌, in_flow, inl, inr, is_adjacent, is_break, is_deeper, is_empty, is_in_column, is_value, is_value_indicator, line_past, not, not-false, not_ended, on_held, opened, opens_pair, pair_past, pair_position, paired, past, placed, position_after, push, put, refl, roll_indent, roll_one_col_indent, settled, start_if, subst, sym, takes_pair, token, top_key, tried, true, went, with_held, ℕ, ◌++◌, ◌>>=◌, ◌∙◌, ◌∷◌, ◌≡◌, ◌≤◌, ◌⊎◌, eqb-true, nat_tests}
+use Rattle.proof_scanner.proofs.Common.{AreLevels, At, Bool, Entry, Fault, FlowLevel, Held, Holds, Indent, IsEntryOf, Key, List, None, Ok, Option, Result, ScannerState, Site, Some, Stands, Tok, Token, [], allow_key, another, ap, append_assoc, arith, before_by, before_past, begin_keyless_mapping, begin_keyless_value, begun_outside, chained, checked, colon_may_precede, columns, ends_at, false, gives_colon, has_break, has_open_level, if◌then◌else◌, in_flow, inl, inr, is_adjacent, is_break, is_deeper, is_empty, is_in_column, is_value, is_value_indicator, line_past, not, not-false, not_ended, on_held, opened, opens_pair, pair_past, pair_position, paired, past, placed, position_after, push, put, refl, roll_indent, roll_one_col_indent, settled, start_if, subst, sym, takes_pair, token, top_key, tried, true, went, with_held, ℕ, ◌++◌, ◌>>=◌, ◌∙◌, ◌∷◌, ◌≡◌, ◌≤◌, eqb-true, nat_tests}
 use Rattle.yaml_tokens.specs.declared.problem.Problem.TheVariants as problem
 use Rattle.model_scanner.specs.declared.level.FlowLevel.TheVariants.{Pair as InPair}
 use Rattle.model_scanner.specs.Block.{value_of}
@@ -133,9 +133,6 @@ keyless_within text more t f fs ks e es a cut apart ind deep =
       colons = λ n p ws last. refl;
       tokens_are = (grind (arith, append_assoc)) ∙ (ap (λ q. a.tokens ++ (start_if (opens_pair (f ∷ fs)) (pair_position q more) Tok.flow_mapping_start ++ (put t.held.position Tok.value ∷ []))) (sym (past_one t.held.position 58 more refl)) ∙ (ap (λ b. a.tokens ++ (start_if b (pair_position (position_after t.held.position (58 ∷ []) more) more) Tok.flow_mapping_start ++ (put t.held.position Tok.value ∷ []))) (sym (single_is f fs None e a.are_entries.0)) ∙ ap (λ x. a.tokens ++ (x ++ (put t.held.position Tok.value ∷ []))) (sym (grind arith))));
     })
-  where
-    had : (e.had ≡ fresh) ⊎ (e.had ≡ settled)
-    had = a.are_entries.1.0
 
 pub keyless_inside : (text more : List ℕ) (t : ScannerState) (f : FlowLevel) (fs : List FlowLevel) (ks : List (Option Key)) (e : Entry) (es : List Entry) (a : ArrivesBy text t (f ∷ fs) (None ∷ ks) (e ∷ es)) → t.rest ≡ 58 ∷ more → colon_may_precede more ≡ true →
     is_value_indicator true (is_adjacent (before_past (before_by a.site.before) a.separation)) more ≡ true → IsDeep t.held → Holds (Stands text) (value_by more t (f ∷ fs) (None ∷ ks))

@@ -21,8 +21,6 @@ use Rattle.proof_scanner.proofs.Sound.Questions.{key_keeps}
 use Rattle.proof_scanner.proofs.Sound.QuotedKeeps.{quoted_keeps}
 use Rattle.proof_scanner.proofs.Sound.Values.{value_keeps}
 
--- ---- a token
-
 -- ---- markers, and the text's end
 
 pub content_kept : (text : List ℕ) (t : ScannerState) → Arrives text t → is_empty t.rest ≡ false → Holds (Stands text) (fetch_content t)

@@ -20,8 +20,6 @@ pub entry_over : (s : Held) → Holds (λ u. (is_required (top_key s.keys) ≡ f
 unfolding end_entry remove_implicit_key
 entry_over s = grind (arith, refused, went, entry_is s s.flow)
 
--- ---- what stands after either, with its account
-
 -- ---- a comma
 
 abbrev pub after_comma : List FlowLevel → List (Option Key) → ScannerState → (more : List ℕ) → ScannerState

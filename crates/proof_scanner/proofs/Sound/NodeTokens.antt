@@ -1,5 +1,5 @@
 -- The tokens of a part of a node: with its key put in, or without.
-use Rattle.proof_scanner.proofs.Common.{Bool, Colon, Entry, FlowLevel, Had, Key, Line, List, Option, Position, Site, Step, Tok, Token, [], act_of, ap, arith, begun_by, block_mapping_start, colon_of, entries_by, false, flow_mapping_start, gives_node, had_by, insert, is_deeper, key_tokens, length, level_of, map, pair_position, pop, position_after, put, put_key, refl, shown_position, spelled, suc, true, with_keys, with_line, ℕ, ◌++◌, ◌∷◌, ◌≡◌, eqb-true, nat_tests}
+use Rattle.proof_scanner.proofs.Common.{Bool, Colon, Entry, FlowLevel, Had, Key, Line, List, Option, Position, Site, Step, Tok, Token, [], act_of, ap, arith, begun_by, colon_of, entries_by, false, flow_mapping_start, gives_node, had_by, insert, key_tokens, length, level_of, map, pair_position, pop, position_after, put, put_key, refl, spelled, suc, true, with_keys, with_line, ℕ, ◌++◌, ◌∷◌, ◌≡◌, eqb-true, nat_tests}
 use Rattle.proof_scanner.proofs.Sound.Begun.{with_begun, depth_begun, depth_rises}
 
 -- ---- an entry in which no key waits
@@ -43,20 +43,7 @@ key_between a p start here ts us = grind (arith, nat_tests, eqb-true, insert_bet
 
 -- ---- the tokens of the step
 
--- the key of a step outside flow, if one begins with it
-abbrev pub key_outside : (bit : Bool) → Site → Colon → List Token
-key_outside true at c = key_tokens (is_deeper at.position.col at.blocks) c.here block_mapping_start at.position
-key_outside false at c = []
-
 -- the key of a step in flow, if one begins with it
 abbrev pub key_inside : (bit single : Bool) → Site → Colon → List Token
 key_inside true single at c = key_tokens single (pair_position c.past c.next) flow_mapping_start at.position
 key_inside false single at c = []
-
--- the position after a piece at a site
-abbrev pub past_piece : Site → Step → List Step → (last : List ℕ) → Position
-past_piece at w ws last = position_after at.position w.piece (spelled ws last)
-
--- the token that the piece shows
-abbrev pub shown_token : Site → Step → List Step → (last : List ℕ) → Token
-shown_token at w ws last = put (shown_position at w.piece w.shown (spelled ws last)) w.shown

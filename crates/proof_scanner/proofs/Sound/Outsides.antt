@@ -31,9 +31,6 @@ module _ (text : List ℕ) (t : ScannerState) (k : Option Key) (a : ArrivesBy te
     live_now : (x : Key) → IsLive x end rest → IsLive x t.held.position t.rest
     live_now x l = (omega (arith, later.0, l.0), some)
 
-    none_broken : (x : Key) → k ≡ Some x → IsLive x end rest → begins_free_line a.site.before a.separation ≡ false
-    none_broken x e l = grind arith
-
     pub unbroken_node : (strict c : Bool) → MayChoose strict c (saved t.held.key_allowed (new_key t) k) end rest →
         line_past_separation false (begins_free_line a.site.before a.separation) (line_by (choice_before t.held.key_allowed c) k a.line) ≡ Some (line_by (choice_before t.held.key_allowed c) k a.line_here)
     unbroken_node strict c may = grind arith

@@ -83,10 +83,6 @@ pub record IsQuotedToken (single : Bool) (tok : Tok) : Type 0 where
 piece_is : (a : PieceAccount) (quotes : Quotes) (body next value : List ℕ) → value_of (are_single quotes) body ≡ Some value → ends_before (are_single quotes) next ≡ true → IsPiece a (piece_of (are_single quotes) body) next None a.position (Tok.scalar (quoted_style quotes) value)
 piece_is a b d e g is i = grind (arith, not-true, begins_with)
 
--- ---- levels of indentation
-
--- ---- TABs after it
-
 -- ---- the step
 
 module _ (text : List ℕ) (quotes : Quotes) (t : ScannerState) (a : Arrives text t) (deep : IsDeep t.held) (x : machine.Read (List ℕ)) (q : QuotedAs (are_single quotes) (context t.held) t.held.position t.rest x) where

@@ -60,9 +60,6 @@ open_goes_on col number t s d ds e no_end l right high = rw stays (record {
     stays : nat_lt s.indent (col + 1) ≡ false
     stays = grind (arith, nat_tests, high)
 
-    here : (es : List Indent) → is_empty es ≡ false → AreCollections d.indent es → IsNotRight (innermost (columns d.indent es)) col → d.indent ≤ col + 1
-    here b n a r = grind (arith, nat_tests, eqb-true)
-
     not_deeper : false ≡ is_deeper col (columns s.indent s.indents)
     not_deeper = sym (ap (is_deeper col) (ap (columns s.indent) e ∙ ap (λ b. if b then (s.indent - 1) ∷ columns d.indent ds else columns d.indent ds) no_end) ∙ (deeper_is col d.indent ds l.1 ∙ (let h = (subst (λ b. IsTopLevel b s.indent d.indent ds) no_end l.0).0 in grind (arith, nat_tests, h, high))))
 
