@@ -1,5 +1,5 @@
 -- The function of the model that reads a dash: what holds where it begins holds between two fetches after it.
-use Rattle.proof_scanner.proofs.Common.{AreLevels, Arrives, At, Bool, Fault, Held, Holds, Indent, List, No, None, Ok, Position, Result, ScannerState, Stands, Tok, Token, Yes, [], allow_key, ap, blanks_and_comment, chained, check_block_entry, check_dash, checked, columns, dash_may_precede, ends_at, eqb-true, false, fetch_block_entry, gap, gives_dash, has_open_level, if◌then◌else◌, in_flow, inl, is_at_break_or_flow, is_at_gap, is_blank, is_break, is_deeper, is_empty, is_in_column, leading, lexed, line_past, not, not-false, not_ended, on_held, opened, past, past_blanks_and_comment, past_line_rest, peek, placed, position_after, push, put, refl, remove_implicit_key, roll_entry, roll_indent, roll_one_col_indent, same_break, skip_indicator, skip_spaces, space, start_if, subst, sym, token, top_needs_block_end, tried, true, try_held, went, with_top, ℕ, ◌++◌, ◌>>=◌, ◌||◌, ◌∙◌, ◌∷◌, ◌≡◌, ◌⊎◌, arith, nat_tests}
+use Rattle.proof_scanner.proofs.Common.{AreLevels, Arrives, At, Fault, Held, Holds, Indent, List, No, None, Ok, Position, Result, ScannerState, Stands, Tok, Token, Yes, [], allow_key, ap, blanks_and_comment, chained, check_block_entry, check_dash, checked, columns, dash_may_precede, ends_at, eqb-true, false, fetch_block_entry, gap, gives_dash, has_open_level, if◌then◌else◌, in_flow, inl, is_at_break_or_flow, is_at_gap, is_blank, is_break, is_deeper, is_empty, is_in_column, leading, lexed, line_past, not, not-false, not_ended, on_held, opened, past, past_blanks_and_comment, past_line_rest, peek, placed, position_after, push, put, refl, remove_implicit_key, roll_entry, roll_indent, same_break, skip_indicator, skip_spaces, space, start_if, subst, sym, token, top_needs_block_end, tried, true, try_held, went, with_top, ℕ, ◌++◌, ◌>>=◌, ◌||◌, ◌∙◌, ◌∷◌, ◌≡◌, ◌⊎◌, arith, nat_tests}
 use Rattle.yaml_chars.specs.Class.{is_break as is_break_here, is_flow as is_flow_here}
 use Rattle.yaml_tokens.specs.declared.problem.Problem.TheVariants as problem
 use Rattle.model_scanner.specs.State.{after as after_first}
@@ -11,7 +11,7 @@ use Rattle.proof_scanner.proofs.Sound.Arrivals.{first_not_right}
 use Rattle.proof_scanner.proofs.Sound.Blanks.{line_rest_cut, line_rest_fills, line_rest_in_line, past_rest_is_clear, found_in, past_rest, rest_read, none_skipped}
 use Rattle.proof_scanner.proofs.Sound.Indicated.{past_one, indicator_end}
 use Rattle.proof_scanner.proofs.Sound.OutsidePieces.{read_outside, line_free, started_tokens, begun_after, with_start}
-use Rattle.proof_scanner.proofs.Sound.Rolled.{RollsTo, rolls_to, OpensOne, opens_one, top_closed}
+use Rattle.proof_scanner.proofs.Sound.Rolled.{RollsTo, rolls_to, opens_one, top_closed}
 use Rattle.proof_scanner.proofs.Sound.Sides.{ArrivesBy, ArrivesOutside, ArrivesInside, arrives_side}
 use Rattle.proof_scanner.proofs.Sound.Reads.{reads_before_none}
 
@@ -46,13 +46,7 @@ pub record Entered (w u : ScannerState) : Type 0 where
 
 pub entered : (w : ScannerState) → in_flow w.held ≡ false → AreLevels w.held.indent w.held.indents → top_needs_block_end w.held.indents ≡ true → Entered w (roll_entry w)
 unfolding roll_entry
-entered w out levels top = by (is_break_here (peek w.rest) || is_flow_here (peek w.rest)) (sym (flow_or_break w.rest))
-  where
-    by : (b : Bool) → is_at_break_or_flow w.rest ≡ b → Entered w (if b then on_held roll_one_col_indent w else w)
-    by true e =
-        let o : OpensOne w.held (roll_one_col_indent w.held) = opens_one w.held out levels (top_closed w.held.indents top).0 in
-        record { indents = o.indents; indent = o.indent; is = ap (λ h. record w { held = h }) o.is_held; columns_are = o.columns_are; are_levels = o.are_levels; awaits = o.awaits ∙ sym e }
-    by false e = record { indents = w.held.indents; indent = w.held.indent; is = refl; columns_are = refl; are_levels = levels; awaits = (top_closed w.held.indents top).1 ∙ sym e }
+entered w out levels top = grind (arith, nat_tests, eqb-true, flow_or_break, opens_one, top_closed)
 
 -- ---- the step
 

@@ -1,5 +1,5 @@
 -- Document markers and directives: what holds where they begin holds between two fetches after them.
-use Rattle.proof_scanner.proofs.Common.{AreLevels, Arrives, At, Bool, Entry, Err, FlowLevel, HasNoTabs, Held, Holds, IsLeading, IsPiece, IsReadOn, Key, Levels, List, None, Ok, Option, Position, ScannerState, Site, Some, Stands, Tok, Token, [], act_of, ap, append-nil, append_assoc, arith, awaits_past, before_by, begin_line, begins_free_line, begins_line, begun_by, begun_inside, begun_outside, closed_key, columns, ends_at, entries_past, false, further_lines_stand, gives_marker, has_break, has_open_level, if◌then◌else◌, in_flow, inl, inr, is_closed, is_deeper, is_empty, is_in_column, is_indented_by_spaces, is_renewed, is_required, is_separation, least_for, length, may_precede, not, not_ended, other, pair_position, position_after, previous_by, put, refl, refused, remove_implicit_key, replicate-append-replicate, seen, settled, shown_position, site_in, subst, sym, taken, takes_pair, top_key, true, unroll_indent, went, with_top, ℕ, ◌++◌, ◌+◌, ◌-◌, ◌∙◌, ◌∷◌, ◌≡◌, ◌≤◌, ◌⊎◌, eqb-true, nat_tests}
+use Rattle.proof_scanner.proofs.Common.{AreLevels, Arrives, At, Bool, Entry, Err, FlowLevel, HasNoTabs, Held, Holds, IsLeading, IsPiece, IsReadOn, Key, Levels, List, None, Ok, Option, Position, ScannerState, Site, Stands, Tok, Token, [], act_of, ap, append-nil, append_assoc, arith, awaits_past, before_by, begin_line, begins_free_line, begins_line, begun_by, begun_inside, closed_key, columns, entries_past, false, further_lines_stand, gives_marker, has_break, has_open_level, if◌then◌else◌, in_flow, inl, inr, is_closed, is_empty, is_in_column, is_indented_by_spaces, is_renewed, is_required, is_separation, least_for, length, may_precede, not, other, pair_position, position_after, previous_by, put, refl, refused, remove_implicit_key, replicate-append-replicate, seen, settled, shown_position, site_in, subst, sym, taken, takes_pair, top_key, true, unroll_indent, went, with_top, ℕ, ◌++◌, ◌+◌, ◌-◌, ◌∙◌, ◌∷◌, ◌≡◌, ◌≤◌, ◌⊎◌, eqb-true, nat_tests}
 use Rattle.proof_scanner.proofs.Sound.OutOfFlow.{tokens_then}
 use Rattle.yaml_tokens.specs.declared.problem.Problem.TheVariants as problem
 use Rattle.defs_token.specs.Account.{Account as PieceAccount}
@@ -110,17 +110,7 @@ line_stands text t d a r flow keys =
     own = put t.held.position d.tok
 
     tokens : (t.held.tokens ++ ends_of (length (columns t.held.indent t.held.indents)) t.held.position) ++ (own ∷ []) ≡ a.tokens ++ tokens_then a.site x d.piece d.tok (next_of d) a.line_here
-    tokens =
-        let here : List ℕ = not_ended t.held.position.col bs in
-        let ends : List Token = ends_at t.held.position bs here in
-        let first : t.held.tokens ++ ends_of (length (columns t.held.indent t.held.indents)) t.held.position ≡ a.tokens ++ ends_at t.held.position bs [] =
-        ap (λ cs. t.held.tokens ++ ends_of (length cs) t.held.position) (sym a.blocks_are) ∙ (ap (λ ts. ts ++ ends_of (length here) t.held.position) a.tokens_are ∙
-        (append_assoc a.tokens ends (ends_of (length here) t.held.position) ∙ ap (λ ts. a.tokens ++ ts) (grind (arith, nat_tests, eqb-true, shorter, replicate-append-replicate)))) in
-        let begun : begun_outside (is_deeper x.position.col x.blocks) x.position x.position (act_of d.tok) false (Some a.line_here) ≡ [] = ap (λ k. begun_outside (is_deeper x.position.col x.blocks) x.position x.position k false (Some a.line_here)) r.token.act in
-        ap (λ ts. ts ++ (own ∷ [])) first ∙ (append_assoc a.tokens (ends_at t.held.position bs []) (own ∷ []) ∙
-        ap (λ ts. a.tokens ++ ts) (ap (λ ts. ts ++ (own ∷ [])) (sym (append-nil (ends_at t.held.position bs []))) ∙
-        (ap (λ ts. (ends_at t.held.position bs [] ++ ts) ++ (own ∷ [])) (sym begun) ∙
-        ap (λ p. (ends_at t.held.position bs [] ++ begun_outside (is_deeper x.position.col x.blocks) x.position x.position (act_of d.tok) false (Some a.line_here)) ++ (put p d.tok ∷ [])) (sym (r.token.shown x d.piece (next_of d))))))
+    tokens = grind (arith, nat_tests, bs, append_assoc, eqb-true, shorter, replicate-append-replicate, x, own, append-nil)
 
 -- ---- in flow
 

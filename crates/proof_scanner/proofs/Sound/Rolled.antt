@@ -87,10 +87,7 @@ rolls_to col number tok p s out levels right = rw out (on (nat_le s.indent (col 
         (deepened col number t (record s { indent = d.indent; indents = ds }) l.1 (omega (arith, h, more)))
 
     on : (b : Bool) → nat_le s.indent (col + 1) ≡ b → (ds : List Indent) → s.indents ≡ ds → AreLevels s.indent ds → IsNotRight (innermost (columns s.indent ds)) col → RollsTo col number t s (deepen col number t (if b then drop_open s ds else s))
-    on true e [] f l r = deepened col number t s (subst (λ x. AreCollections s.indent x) (sym f) l) (grind (arith, nat_tests, e))
-    on true e (d ∷ ds) f l r = low d ds d.needs_block_end f refl l (grind (arith, nat_tests, e))
-    on false e [] f l r = let none : s.indent ≡ 0 = l in absurd (grind (arith, nat_tests, e, none))
-    on false e (d ∷ ds) f l r = grind (arith, nat_tests, eqb-true, open_goes_on, t)
+    on a e b f l r = grind (arith, nat_tests, deepened, t, low, eqb-true, open_goes_on)
 
 -- ---- the value of an entry is awaited
 
