@@ -30,8 +30,7 @@ dash_checked more t e = grind (arith, nat_tests, checked, went, eqb-true, gap_he
 -- a flow indicator or a break after the blanks and the comment
 pub flow_or_break : (r : List ℕ) → (is_break_here (peek r) || is_flow_here (peek r)) ≡ is_at_break_or_flow r
 unfolding is_break_here is_flow_here
-flow_or_break [] = refl
-flow_or_break (c ∷ r) = ap (λ b. b || is_flow_here c) (sym (same_break c)) ∙ ap (λ b. is_break c || b) (sym (same_flow c))
+flow_or_break a = grind (arith, nat_tests, eqb-true, same_break, same_flow)
 
 -- ---- the levels of indentation after it
 

@@ -99,6 +99,4 @@ module _ (text : List ℕ) (t u : ScannerState) (f : FlowLevel) (fs : List FlowL
 
   -- What holds where the piece begins holds between two fetches after it.
   pub steps_in_flow : (gs : List FlowLevel) (gap : List ℕ) → Reads t u (flow_past t.held.position) piece next gap → Enters gs gap → Steps t.held.position → Stands text u
-  steps_in_flow gs gap r g n =
-      let place : t.held.position ≡ piece_here = a.position_is ∙ ap (λ l. position_after a.site.position a.separation l) r.cut in
-      steps_there gs gap r g (subst Steps place n) place
+  steps_in_flow gs gap r g n = grind (arith, nat_tests, eqb-true, steps_there)
