@@ -1,5 +1,5 @@
 -- Commas and closing brackets in flow: the entry ends, and with it a single pair.
-use Rattle.proof_scanner.proofs.Common.{AreAround, AreEntries, AreNumbered, Bool, Entry, FlowLevel, IsAdjacent, IsEntryOf, IsLine, IsPiece, Key, Line, List, None, Option, Position, ScannerState, Site, Stands, Step, Tok, Token, Yes, [], act_of, ap, append_assoc, arith, before_by, before_past, begins_free_line, begins_with, begun_by, blanks_and_comment, ends_spaces, entries_by, false, first_entry, has_no_break, has_no_nul, in_line, is_blank, is_empty, is_renewed, is_separation, least_for, length, no_nul_after, not, other, outside_key, pair_end, past, past_blanks_and_comment, past_line_rest, pop, previous_by, put, refl, seen, site_here, subst, suc, sym, taken, true, with_keys, ℕ, ◌&&◌, ◌++◌, ◌∙◌, ◌∷◌, ◌≡◌, eqb-true, nat_tests}
+use Rattle.proof_scanner.proofs.Common.{AreAround, AreEntries, AreNumbered, Bool, Entry, FlowLevel, IsAdjacent, IsEntryOf, IsLine, IsPiece, Key, Line, List, None, Option, Position, ScannerState, Site, Stands, Step, Tok, Token, Yes, [], act_of, ap, append_assoc, arith, before_by, before_past, begins_free_line, begins_with, begun_by, blanks_and_comment, ends_spaces, entries_by, false, first_entry, has_no_break, has_no_nul, is_blank, is_empty, is_renewed, is_separation, least_for, length, no_nul_after, not, other, outside_key, pair_end, past, past_blanks_and_comment, past_line_rest, pop, previous_by, put, refl, seen, site_here, subst, suc, sym, taken, true, with_keys, ℕ, ◌&&◌, ◌++◌, ◌∙◌, ◌∷◌, ◌≡◌, eqb-true, nat_tests}
 use Rattle.proof_scanner.proofs.Cut.FlowEnds.{closed_tokens, entered, adjacent_collection}
 use Rattle.proof_scanner.proofs.Cut.Nodes.{IsDeep}
 use Rattle.proof_scanner.proofs.Known.Read.{keyless}

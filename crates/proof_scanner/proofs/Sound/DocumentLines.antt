@@ -1,5 +1,5 @@
 -- Document markers and directives: what holds where they begin holds between two fetches after them.
-use Rattle.proof_scanner.proofs.Common.{AreLevels, Arrives, At, Bool, Entry, Err, FlowLevel, HasNoTabs, Held, Holds, IsLeading, IsPiece, IsReadOn, Key, Levels, List, None, Ok, Option, Position, ScannerState, Site, Stands, Tok, Token, [], act_of, ap, append-nil, append_assoc, arith, awaits_past, before_by, begin_line, begins_free_line, begins_line, begun_by, begun_inside, closed_key, columns, entries_past, false, further_lines_stand, gives_marker, has_break, has_open_level, if◌then◌else◌, in_flow, inl, inr, is_closed, is_empty, is_in_column, is_indented_by_spaces, is_renewed, is_required, is_separation, least_for, length, may_precede, not, other, pair_position, position_after, previous_by, put, refl, refused, remove_implicit_key, replicate-append-replicate, seen, settled, shown_position, site_in, subst, sym, taken, takes_pair, top_key, true, unroll_indent, went, with_top, ℕ, ◌++◌, ◌+◌, ◌-◌, ◌∙◌, ◌∷◌, ◌≡◌, ◌≤◌, ◌⊎◌, eqb-true, nat_tests}
+use Rattle.proof_scanner.proofs.Common.{AreLevels, Arrives, At, Bool, Entry, Err, FlowLevel, HasNoTabs, Held, Holds, IsLeading, IsPiece, IsReadOn, Key, Levels, List, None, Ok, Option, Position, ScannerState, Site, Stands, Tok, Token, [], act_of, ap, append-nil, append_assoc, arith, awaits_past, before_by, begin_line, begins_free_line, begins_line, begun_by, begun_inside, closed_key, columns, entries_past, false, further_lines_stand, gives_marker, has_break, has_open_level, if◌then◌else◌, in_flow, inl, inr, is_closed, is_empty, is_in_column, is_indented_by_spaces, is_renewed, is_required, is_separation, least_for, length, may_precede, not, other, pair_position, position_after, previous_by, put, refl, refused, remove_implicit_key, replicate-append-replicate, seen, settled, shown_position, site_in, subst, sym, taken, takes_pair, top_key, true, unroll_indent, went, with_top, ℕ, ◌++◌, ◌∙◌, ◌∷◌, ◌≡◌, ◌≤◌, ◌⊎◌, eqb-true, nat_tests}
 use Rattle.proof_scanner.proofs.Sound.OutOfFlow.{tokens_then}
 use Rattle.yaml_tokens.specs.declared.problem.Problem.TheVariants as problem
 use Rattle.defs_token.specs.Account.{Account as PieceAccount}

@@ -1,5 +1,5 @@
 -- A piece in flow was read: if the definition and the scanner agree on its entries and tokens, what holds where it begins holds between two fetches after it.
-use Rattle.proof_scanner.proofs.Common.{Account, AreEntries, AreNumbered, BeginsButForKey, Bool, Entry, FlowLevel, IsLine, IsOpenOutside, IsPiece, Key, KnowsKey, Line, List, MayChoose, None, NotBefore, Option, Position, ScannerState, Site, SoFar, Some, Stands, Step, Tok, account_past, act_of, ap, begins_free_line, begun_by, chosen, entries_by, entries_past, entry_by, false, has_break, is_empty, is_renewed, is_separation, is_waiting, length, line_by, line_past_separation, may_stand, not, outside_key, position_after, previous_by, refl, seen, shown_position, site_here, site_past, spelled, subst, suc, sym, tokens_at, tokens_of_step, tokens_up_to, true, with_keys, ℕ, ◌&&◌, ◌++◌, ◌∙◌, ◌∷◌, ◌≡◌, ◌≤◌, ◌+◌, arith, nat_tests, eqb-true}
+use Rattle.proof_scanner.proofs.Common.{Account, AreEntries, AreNumbered, BeginsButForKey, Bool, Entry, FlowLevel, IsLine, IsOpenOutside, IsPiece, Key, KnowsKey, Line, List, MayChoose, None, NotBefore, Option, Position, ScannerState, Site, SoFar, Some, Stands, Step, Tok, account_past, act_of, ap, begins_free_line, begun_by, chosen, entries_by, entries_past, entry_by, false, has_break, is_empty, is_renewed, is_separation, is_waiting, length, line_by, line_past_separation, may_stand, not, outside_key, position_after, previous_by, refl, seen, shown_position, site_here, site_past, spelled, subst, suc, sym, tokens_at, tokens_of_step, tokens_up_to, true, with_keys, ℕ, ◌&&◌, ◌++◌, ◌∙◌, ◌∷◌, ◌≡◌, ◌≤◌, arith, nat_tests, eqb-true}
 use Rattle.proof_scanner.proofs.Cut.Positions.{not_before_then, not_before_after}
 use Rattle.proof_scanner.proofs.Known.Read.{knows_inside}
 use Rattle.proof_scanner.proofs.Sound.Around.{unbroken_around, one_around, may_around, open_around}

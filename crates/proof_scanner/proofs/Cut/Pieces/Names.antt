@@ -1,5 +1,5 @@
 -- What the scan of an anchor's or an alias's name reads is its piece.
-use Rattle.proof_scanner.proofs.Common.{[], all_of, anchor_name, anchor_token, and_parts, ap, arith, Bool, false, further, has_no_break, is_anchor_name, is_blank_or_end, is_break, is_name, IsNameRead, IsPiece, List, mark_of, named, NameIsRead, NameKind, names_end, Ok, Option, Position, position_after, position_in_line, Read, read_as, ReadAs, refl, sym, Tok, true, ℕ, ◌++◌, ◌+◌, ◌∙◌, ◌∷◌, ◌≡◌}
+use Rattle.proof_scanner.proofs.Common.{[], all_of, anchor_name, anchor_token, and_parts, ap, arith, Bool, false, further, has_no_break, is_anchor_name, is_blank_or_end, is_break, is_name, IsNameRead, IsPiece, List, mark_of, named, NameIsRead, NameKind, names_end, Ok, Option, Position, position_after, position_in_line, Read, read_as, ReadAs, refl, sym, Tok, true, ℕ, ◌++◌, ◌∙◌, ◌∷◌, ◌≡◌}
 use Rattle.defs_token.specs.Account.{Account, is_in_flow}
 
 -- ---- no break stands among the characters of a class that has none
