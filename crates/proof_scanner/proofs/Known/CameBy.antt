@@ -52,7 +52,8 @@ keeps text = record {
 
 pub came_by : (text : List ℕ) (a : Account) (w : Step) (next : List ℕ) (b : Account) → Way GivesUp text (w.separation ++ (w.piece ++ next)) a → IsWritten a w next → Begins text next b → Came text a w next b
 came_by text a w next b way written g =
-    by (meet GivesUp Same (SecondBegins text) (keeps text) way.steps (strict_way text next b g).steps (w.separation ++ (w.piece ++ next)) next first_account first_account a b (refl, tt, tt) (subst (λ r. Begins text r first_account) (sym way.spells) (begins_at_start text), (subst (λ r. Holds (has_no_nul r)) (sym way.spells) (clean_up_to_end text))) way.leads (strict_way text next b g).leads (way.spells ∙ sym (strict_way text next b g).spells) (subst (λ r. Holds (has_no_nul r)) (sym way.spells) (clean_up_to_end text)))
+    by (meet GivesUp Same (SecondBegins text) (keeps text) way.steps (strict_way text next b g).steps (w.separation ++ (w.piece ++ next)) next first_account first_account a b (refl, tt, tt) (subst (λ r. Begins text r first_account) (sym way.spells) (begins_at_start text), (subst (λ r. Holds (has_no_nul r)) (sym way.spells) (clean_up_to_end text))) way.leads
+    (strict_way text next b g).leads (way.spells ∙ sym (strict_way text next b g).spells) (subst (λ r. Holds (has_no_nul r)) (sym way.spells) (clean_up_to_end text)))
   where
     by : Meet GivesUp Same (SecondBegins text) a b (w.separation ++ (w.piece ++ next)) next → Came text a w next b
     by (same_place i r e) = let more = longer w next written.1.0 in let same = ap length e in absurd (omega (arith, more, same))

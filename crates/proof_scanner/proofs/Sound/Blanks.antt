@@ -24,7 +24,8 @@ no_break_in_blanks (c ∷ a) = grind (arith, nat_tests, eqb-true, no_break_in_bl
 blanks_walked : (a : List ℕ) (p : Position) (w : Whitespace) →
     walk (space_step Yes) a (record { position = p; found = w }) ≡ record { rest = after is_blank a; state = record { position = position_after p (leading is_blank a) []; found = with_blanks w (leading is_blank a) } }
 unfolding is_blank is_break
-blanks_walked [] p w = ap (λ (x : Position). record { rest = []; state = record { position = x; found = w } }) refl ∙ ap (λ (x : Whitespace). record { rest = []; state = record { position = p; found = x } }) (ap (λ b. record { found_tabs = b; has_valid_yaml_ws = w.has_valid_yaml_ws }) (sym (or_false w.found_tabs)) ∙ ap (λ b. record { found_tabs = (with_blanks w []).found_tabs; has_valid_yaml_ws = b }) (sym (or_false w.has_valid_yaml_ws)))
+blanks_walked [] p w = ap (λ (x : Position). record { rest = []; state = record { position = x; found = w } }) refl ∙ ap (λ (x : Whitespace). record { rest = []; state = record { position = p; found = x } })
+    (ap (λ b. record { found_tabs = b; has_valid_yaml_ws = w.has_valid_yaml_ws }) (sym (or_false w.found_tabs)) ∙ ap (λ b. record { found_tabs = (with_blanks w []).found_tabs; has_valid_yaml_ws = b }) (sym (or_false w.has_valid_yaml_ws)))
 blanks_walked (c ∷ a) p w = grind (arith, blanks_walked a)
 
 -- ---- a comment
@@ -128,7 +129,8 @@ spaced_exactly a p = subst (λ x. IsSpaced a p (spaces_end x)) (sym (blanks_walk
         by true f = found (is_one_of l 9 || is_one_of l 32) refl
           where
             found : (x : Bool) → (is_one_of l 9 || is_one_of l 32) ≡ x → IsSpaced a p (if x then Ok (with_found (found_in l) (skip_while is_line (c ∷ b) q)) else Err (At problem.CommentNotSeparated q))
-            found true g = parted (blank_first a g) (ap (λ r. Ok (with_found (found_in l) r)) (comment_passed (c ∷ b) q) ∙ (ap (λ x. at (after is_on_line (c ∷ b)) x) (ap (λ x. position_after x (leading is_on_line (c ∷ b)) []) (same_in_line p l [] ((leading is_on_line (c ∷ b)) ++ []) (no_break_in_blanks a)) ∙ (sym (position_append p l (leading is_on_line (c ∷ b)) []) ∙ ap (λ x. position_after p (l ++ x) []) (sym (ap comment_of e ∙ rw f refl)))) ∙ ap (λ r. at r (past_line_rest p a)) (sym (ap past_comment e ∙ rw f refl))))
+            found true g = parted (blank_first a g) (ap (λ r. Ok (with_found (found_in l) r)) (comment_passed (c ∷ b) q) ∙ (ap (λ x. at (after is_on_line (c ∷ b)) x)
+                (ap (λ x. position_after x (leading is_on_line (c ∷ b)) []) (same_in_line p l [] ((leading is_on_line (c ∷ b)) ++ []) (no_break_in_blanks a)) ∙ (sym (position_append p l (leading is_on_line (c ∷ b)) []) ∙ ap (λ x. position_after p (l ++ x) []) (sym (ap comment_of e ∙ rw f refl)))) ∙ ap (λ r. at r (past_line_rest p a)) (sym (ap past_comment e ∙ rw f refl))))
             found false g = glued (At problem.CommentNotSeparated q) (ap (begins_with 35) (sym (no_blank_first a g) ∙ e) ∙ f) refl
 
 -- where no comment stands directly, they are read

@@ -69,7 +69,9 @@ stray_at text more closes tok c k t a keys e hash =
       after_is = ap (λ x. line_past (is_in_column at.position.col at.blocks) at.position at.blocks x false a.line_here) k.act ∙ (grind (arith, nat_tests, eqb-true));
       begun = k.begun;
       begins_none = ap begins_key k.act ∙ (grind arith);
-      tokens_are = started_tokens false t.held.tokens a.tokens (ends_at t.held.position a.site.blocks at.blocks) t.held.position tok (put t.held.position tok) a.tokens_are ∙ (ap (λ x. a.tokens ++ ((ends_at t.held.position a.site.blocks at.blocks ++ x) ++ ((put t.held.position tok) ∷ []))) (sym (ap (λ x. begun_outside (is_deeper at.position.col at.blocks) at.position at.position x false (Some a.line_here)) k.act ∙ (grind arith))) ∙ ap (λ p. a.tokens ++ ((ends_at t.held.position a.site.blocks at.blocks ++ begun_outside (is_deeper at.position.col at.blocks) at.position at.position (act_of tok) false (Some a.line_here)) ++ (put p tok ∷ []))) (sym (k.shown at (c ∷ []) more)));
+      tokens_are = started_tokens false t.held.tokens a.tokens (ends_at t.held.position a.site.blocks at.blocks) t.held.position tok (put t.held.position tok) a.tokens_are ∙
+          (ap (λ x. a.tokens ++ ((ends_at t.held.position a.site.blocks at.blocks ++ x) ++ ((put t.held.position tok) ∷ []))) (sym (ap (λ x. begun_outside (is_deeper at.position.col at.blocks) at.position at.position x false (Some a.line_here)) k.act ∙ (grind arith))) ∙ ap
+          (λ p. a.tokens ++ ((ends_at t.held.position a.site.blocks at.blocks ++ begun_outside (is_deeper at.position.col at.blocks) at.position at.position (act_of tok) false (Some a.line_here)) ++ (put p tok ∷ []))) (sym (k.shown at (c ∷ []) more)));
     })
   where
     at : Site

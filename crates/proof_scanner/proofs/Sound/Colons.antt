@@ -85,7 +85,9 @@ pub keyless_outside : (text more : List ℕ) (t : ScannerState) (a : ArrivesBy t
     Holds (Stands text) (value_by more t [] (None ∷ []))
 unfolding begin_keyless_value begin_keyless_mapping
 keyless_outside text more t a e apart ind deep =
-    chained {P = λ w. (w ≡ record { rest = past_gap more; held = (record rolled { indents = k.level.indents; indent = k.level.indent; key_allowed = true }) }) × (t.held.key_allowed ≡ true)} (tried (record { rest = past_gap more; held = (at_value more t [] (None ∷ [])) }) _ (chained {P = λ u. (u ≡ rolled) × (t.held.key_allowed ≡ true)} (checked (not t.held.key_allowed) (At problem.ValueNotAllowed t.held.position) (λ f. went (k.mapping.is_held, not-false t.held.key_allowed f))) (λ u d. subst (λ y. Holds (λ z. (z ≡ (record rolled { indents = k.level.indents; indent = k.level.indent; key_allowed = true })) × (t.held.key_allowed ≡ true)) (let v = roll_one_col_indent y in Ok (allow_key (not (in_flow v)) v))) (sym d.0) (went (ap (λ v. allow_key (not (in_flow v)) v) k.level.is_held, d.1)))) (λ s d. (ap (λ y. record { rest = past_gap more; held = y }) d.0, d.1))) (λ w d.
+    chained {P = λ w. (w ≡ record { rest = past_gap more; held = (record rolled { indents = k.level.indents; indent = k.level.indent; key_allowed = true }) }) × (t.held.key_allowed ≡ true)}
+    (tried (record { rest = past_gap more; held = (at_value more t [] (None ∷ [])) }) _ (chained {P = λ u. (u ≡ rolled) × (t.held.key_allowed ≡ true)} (checked (not t.held.key_allowed) (At problem.ValueNotAllowed t.held.position) (λ f. went (k.mapping.is_held, not-false t.held.key_allowed f)))
+    (λ u d. subst (λ y. Holds (λ z. (z ≡ (record rolled { indents = k.level.indents; indent = k.level.indent; key_allowed = true })) × (t.held.key_allowed ≡ true)) (let v = roll_one_col_indent y in Ok (allow_key (not (in_flow v)) v))) (sym d.0) (went (ap (λ v. allow_key (not (in_flow v)) v) k.level.is_held, d.1)))) (λ s d. (ap (λ y. record { rest = past_gap more; held = y }) d.0, d.1))) (λ w d.
     went (subst (λ z. Stands text (on_held (push t.held.position Tok.value) z)) (sym d.0) (keyless_stands text more t a e d.1 apart ind k.level.indent k.level.indents (k.level.columns_are ∙ k.mapping.columns_are) k.level.are_levels k.level.awaits)))
   where
     k : KeylessLevels more t
@@ -131,12 +133,14 @@ keyless_within text more t f fs ks e es a cut apart ind deep =
       stands = rw (a.is_indented (ap is_empty cut), low_enough text t f fs (None ∷ ks) (e ∷ es) a deep, apart) refl;
       entry_past = λ xs. (grind arith);
       colons = λ n p ws last. refl;
-      tokens_are = (grind (arith, append_assoc)) ∙ (ap (λ q. a.tokens ++ (start_if (opens_pair (f ∷ fs)) (pair_position q more) Tok.flow_mapping_start ++ (put t.held.position Tok.value ∷ []))) (sym (past_one t.held.position 58 more refl)) ∙ (ap (λ b. a.tokens ++ (start_if b (pair_position (position_after t.held.position (58 ∷ []) more) more) Tok.flow_mapping_start ++ (put t.held.position Tok.value ∷ []))) (sym (single_is f fs None e a.are_entries.0)) ∙ ap (λ x. a.tokens ++ (x ++ (put t.held.position Tok.value ∷ []))) (sym (grind arith))));
+      tokens_are = (grind (arith, append_assoc)) ∙ (ap (λ q. a.tokens ++ (start_if (opens_pair (f ∷ fs)) (pair_position q more) Tok.flow_mapping_start ++ (put t.held.position Tok.value ∷ []))) (sym (past_one t.held.position 58 more refl)) ∙
+          (ap (λ b. a.tokens ++ (start_if b (pair_position (position_after t.held.position (58 ∷ []) more) more) Tok.flow_mapping_start ++ (put t.held.position Tok.value ∷ []))) (sym (single_is f fs None e a.are_entries.0)) ∙ ap (λ x. a.tokens ++ (x ++ (put t.held.position Tok.value ∷ []))) (sym (grind arith))));
     })
 
 pub keyless_inside : (text more : List ℕ) (t : ScannerState) (f : FlowLevel) (fs : List FlowLevel) (ks : List (Option Key)) (e : Entry) (es : List Entry) (a : ArrivesBy text t (f ∷ fs) (None ∷ ks) (e ∷ es)) → t.rest ≡ 58 ∷ more → colon_may_precede more ≡ true →
     is_value_indicator true (is_adjacent (before_past (before_by a.site.before) a.separation)) more ≡ true → IsDeep t.held → Holds (Stands text) (value_by more t (f ∷ fs) (None ∷ ks))
 unfolding begin_keyless_value begin_keyless_mapping
 keyless_inside text more t f fs ks e es a cut apart ind deep =
-    chained {P = λ w. w ≡ record { rest = past_gap more; held = (record t.held { flow = pair_level InPair f ∷ fs; keys = None ∷ ks; position = pair_position (past t.held.position) more; leading = false; key_allowed = false; tokens = with_pair (opens_pair (f ∷ fs)) more t }) }} (tried (record { rest = past_gap more; held = at_value more t (f ∷ fs) (None ∷ ks) }) _ (grind (arith, went, opens_none)) (λ s d. ap (λ y. record { rest = past_gap more; held = y }) d)) (λ w d.
+    chained {P = λ w. w ≡ record { rest = past_gap more; held = (record t.held { flow = pair_level InPair f ∷ fs; keys = None ∷ ks; position = pair_position (past t.held.position) more; leading = false; key_allowed = false; tokens = with_pair (opens_pair (f ∷ fs)) more t }) }}
+    (tried (record { rest = past_gap more; held = at_value more t (f ∷ fs) (None ∷ ks) }) _ (grind (arith, went, opens_none)) (λ s d. ap (λ y. record { rest = past_gap more; held = y }) d)) (λ w d.
     went (subst (λ z. Stands text (on_held (push t.held.position Tok.value) z)) (sym d) (keyless_within text more t f fs ks e es a cut apart ind deep)))

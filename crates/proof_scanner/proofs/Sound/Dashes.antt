@@ -85,7 +85,9 @@ dash_stands text more t a flow keys e gap allowed apart i ds columns_are levels 
       after_is = ap (λ l. line_past (is_in_column t.held.position.col bs) t.held.position bs gives_dash false l) (line_free t.held.key_allowed t.rest a.line_here allowed a.line_is);
       begun = refl;
       begins_none = refl;
-      tokens_are = ap (λ cs. (if is_deeper t.held.position.col cs then placed None (token t.held.position Tok.block_sequence_start) t.held.tokens else t.held.tokens) ++ own (past t.held.position) ∷ []) (sym a.blocks_are) ∙ (started_tokens (is_deeper t.held.position.col bs) t.held.tokens a.tokens (ends_at t.held.position a.site.blocks bs) t.held.position Tok.block_sequence_start (own (past t.held.position)) a.tokens_are ∙ ap (λ q. a.tokens ++ ((ends_at t.held.position a.site.blocks bs ++ start_if (is_deeper t.held.position.col bs) t.held.position Tok.block_sequence_start) ++ (own q ∷ []))) (sym (past_dash t.held.position more)));
+      tokens_are = ap (λ cs. (if is_deeper t.held.position.col cs then placed None (token t.held.position Tok.block_sequence_start) t.held.tokens else t.held.tokens) ++ own (past t.held.position) ∷ []) (sym a.blocks_are) ∙
+          (started_tokens (is_deeper t.held.position.col bs) t.held.tokens a.tokens (ends_at t.held.position a.site.blocks bs) t.held.position Tok.block_sequence_start (own (past t.held.position)) a.tokens_are ∙ ap (λ q. a.tokens ++ ((ends_at t.held.position a.site.blocks bs ++ start_if (is_deeper t.held.position.col bs) t.held.position Tok.block_sequence_start) ++ (own q ∷ [])))
+          (sym (past_dash t.held.position more)));
     })
   where
     bs : List ℕ

@@ -134,7 +134,8 @@ line_goes text t d f fs k ks e es a r flow keys =
       entry_past = λ xs. ap (λ y. entries_past x.position (is_renewed a.site.before a.separation) y [] false e xs) r.token.act ∙
           (grind arith);
       colons = λ n p ws last. (rw (r.token.act, r.token.begun) refl);
-      tokens_are = let pair : Position = pair_position (position_after x.position d.piece (next_of d)) (next_of d) in ap (λ ts. ts ++ ((put t.held.position d.tok) ∷ [])) (tokens_before text t f fs k ks e es a) ∙ (ap (λ b. a.tokens ++ (b ++ ((put t.held.position d.tok) ∷ []))) (sym (ap (λ y. begun_inside (takes_pair e.kind e.pair) e.pair x.position pair pair y false e.had) r.token.act)) ∙ ap (λ p. a.tokens ++ (begun_inside (takes_pair e.kind e.pair) e.pair x.position pair pair (act_of d.tok) false e.had ++ (put p d.tok ∷ []))) (sym (r.token.shown x d.piece (next_of d))));
+      tokens_are = let pair : Position = pair_position (position_after x.position d.piece (next_of d)) (next_of d) in ap (λ ts. ts ++ ((put t.held.position d.tok) ∷ [])) (tokens_before text t f fs k ks e es a) ∙
+          (ap (λ b. a.tokens ++ (b ++ ((put t.held.position d.tok) ∷ []))) (sym (ap (λ y. begun_inside (takes_pair e.kind e.pair) e.pair x.position pair pair y false e.had) r.token.act)) ∙ ap (λ p. a.tokens ++ (begun_inside (takes_pair e.kind e.pair) e.pair x.position pair pair (act_of d.tok) false e.had ++ (put p d.tok ∷ []))) (sym (r.token.shown x d.piece (next_of d))));
     })
   where
     x : Site

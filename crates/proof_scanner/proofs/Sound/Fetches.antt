@@ -30,7 +30,8 @@ content_kept text t a some =
       document_start = λ more. document_start_keeps text more t a;
       document_end = λ more. document_end_keeps text more t a;
       shallow = λ n low. refused;
-      token = λ n deep. (token_holds (Holds (Stands text)) t (is_adjacent (before_past (before_by a.base.site.before) a.separation)) a.is_clean a.is_solid (λ inside. sym (a.is_adjacent_here inside some)) n.0 (search (anchor_keeps, tag_keeps, plain_keeps, quoted_keeps, block_keeps, dash_keeps, key_keeps, value_keeps, opening_keeps, opening_bracket, opening_brace, closing_keeps, closing_bracket, closing_brace, comma_keeps, refused)) some);
+      token = λ n deep. (token_holds (Holds (Stands text)) t (is_adjacent (before_past (before_by a.base.site.before) a.separation)) a.is_clean a.is_solid (λ inside. sym (a.is_adjacent_here inside some)) n.0
+          (search (anchor_keeps, tag_keeps, plain_keeps, quoted_keeps, block_keeps, dash_keeps, key_keeps, value_keeps, opening_keeps, opening_bracket, opening_brace, closing_keeps, closing_bracket, closing_brace, comma_keeps, refused)) some);
     })
 
 -- after a token, or after the stream's end
@@ -40,7 +41,17 @@ Kept text t = Stands text t ⊎ ((t.held.ended ≡ true) × IsRead text t.held.t
 here_kept : (text : List ℕ) → has_no_nul text ≡ true → (t : ScannerState) → Arrives text t → Holds (Kept text) (fetch_here t)
 unfolding fetch_here
 here_kept text nul t a =
-    either (peek t.rest == 0) (λ e. let none : t.rest ≡ [] = no_end t.rest a.is_clean e in weakened (λ u x. inr (x.0, x.1, record { began = x.2 ∙ a.started; position = x.3 ∙ ap next_line (((subst (λ r. IsPositionIn text r t.held.position) none (cut_position text a.separation t.rest a.base a.tokens t.held.position (whole_text text nul) a.position_is (arrives_cut text t a))).is_position ∙ ap (λ b. position_after first_position b []) (sym (append-nil (subst (λ r. IsPositionIn text r t.held.position) none (cut_position text a.separation t.rest a.base a.tokens t.held.position (whole_text text nul) a.position_is (arrives_cut text t a))).before) ∙ sym (subst (λ r. IsPositionIn text r t.held.position) none (cut_position text a.separation t.rest a.base a.tokens t.held.position (whole_text text nul) a.position_is (arrives_cut text t a))).is_text))) })) (stream_ended text t a none)) (λ e. weakened (λ u x. inl x) (content_kept text t a (goes_on_here t.rest e)))
+    either (peek t.rest == 0) (λ e. let none : t.rest ≡ [] = no_end t.rest a.is_clean e in weakened (λ u x. inr (
+      x.0,
+      x.1,
+      record {
+        began = x.2 ∙ a.started;
+        position = x.3 ∙ ap next_line
+            (((subst (λ r. IsPositionIn text r t.held.position) none (cut_position text a.separation t.rest a.base a.tokens t.held.position (whole_text text nul) a.position_is (arrives_cut text t a))).is_position ∙ ap (λ b. position_after first_position b [])
+            (sym (append-nil (subst (λ r. IsPositionIn text r t.held.position) none (cut_position text a.separation t.rest a.base a.tokens t.held.position (whole_text text nul) a.position_is (arrives_cut text t a))).before) ∙ sym
+            (subst (λ r. IsPositionIn text r t.held.position) none (cut_position text a.separation t.rest a.base a.tokens t.held.position (whole_text text nul) a.position_is (arrives_cut text t a))).is_text)));
+      },
+    )) (stream_ended text t a none)) (λ e. weakened (λ u x. inl x) (content_kept text t a (goes_on_here t.rest e)))
 
 next_kept : (text : List ℕ) → has_no_nul text ≡ true → (t : ScannerState) → Stands text t → Holds (Fares text) (fetch_next t)
 unfolding fetch_next

@@ -86,7 +86,12 @@ first_tokens_are_cut text given more t nul run e = by (reached fetch_keeps text 
     by (goes s) =
         let c : IsCutUpTo text (s.separation ++ t.rest) s.base t.held.tokens = stands_cut text t s in
         inr (begun_by text first_position c.row (s.separation ++ t.rest) None given more c.is_text (c.is_row.is_row None) (sym c.are_tokens ∙ e))
-    by (over f r n) = elim (before_last (end_token (rows_are_cuts text t.held.tokens r).end) (start_token (rows_are_cuts text t.held.tokens r).begin ∷ tokens_of (rows_are_cuts text t.held.tokens r).row) given more (sym (rows_are_cuts text t.held.tokens r).are_tokens ∙ e)) [ all k ↦ inl (subst (λ ts. IsCut ts text) ((rows_are_cuts text t.held.tokens r).are_tokens ∙ sym k) (rows_are_cuts text t.held.tokens r)) | some others k ↦ inr (begun_by text (rows_are_cuts text t.held.tokens r).begin (rows_are_cuts text t.held.tokens r).row (rows_are_cuts text t.held.tokens r).separation (Some stream_end) given others (rows_are_cuts text t.held.tokens r).is_text (rows_are_cuts text t.held.tokens r).is_row k) ]
+    by (over f r n) = elim (before_last (end_token (rows_are_cuts text t.held.tokens r).end) (start_token (rows_are_cuts text t.held.tokens r).begin ∷ tokens_of (rows_are_cuts text t.held.tokens r).row) given more (sym (rows_are_cuts text t.held.tokens r).are_tokens ∙ e)) [
+      | all k ↦ inl
+          (subst (λ ts. IsCut ts text) ((rows_are_cuts text t.held.tokens r).are_tokens ∙ sym k) (rows_are_cuts text t.held.tokens r))
+      | some others k ↦ inr
+          (begun_by text (rows_are_cuts text t.held.tokens r).begin (rows_are_cuts text t.held.tokens r).row (rows_are_cuts text t.held.tokens r).separation (Some stream_end) given others (rows_are_cuts text t.held.tokens r).is_text (rows_are_cuts text t.held.tokens r).is_row k)
+    ]
 
 -- The tokens that the model gives a text are a cut of it.
 pub tokens_are_cut : TokensAreACut

@@ -117,7 +117,8 @@ module _ (text : List ℕ) (quotes : Quotes) (t : ScannerState) (a : Arrives tex
 
     skipped : Holds (Cleared quoted_scalar least spaces v.rest) (skip_to_next_token v)
     unfolding skip_to_next_token
-    skipped = skip_clears quoted_scalar least v.rest between spaces v.held (subst (λ h. IsLeast quoted_scalar least h) (sym c.spaces.is_held) (least_is (columns t.held.indent t.held.indents) (has_open_level t.held.indents) now refl refl a.are_levels)) (inr (record { leading_is = λ i. ap (λ h. h.leading) c.spaces.is_held ∙ sym no_break; col_is = λ b. absurd (cc (b, no_break)); spaced = λ b. absurd (cc (b, no_break)) }))
+    skipped = skip_clears quoted_scalar least v.rest between spaces v.held (subst (λ h. IsLeast quoted_scalar least h) (sym c.spaces.is_held) (least_is (columns t.held.indent t.held.indents) (has_open_level t.held.indents) now refl refl a.are_levels))
+        (inr (record { leading_is = λ i. ap (λ h. h.leading) c.spaces.is_held ∙ sym no_break; col_is = λ b. absurd (cc (b, no_break)); spaced = λ b. absurd (cc (b, no_break)) }))
 
     module _ (w : ScannerState) (b : Exact v w) (z : Cleared quoted_scalar least spaces v.rest w) where
       abbrev gap : List ℕ
@@ -174,7 +175,27 @@ module _ (text : List ℕ) (quotes : Quotes) (t : ScannerState) (a : Arrives tex
         no_tabs = grind (arith, nat_tests, eqb-true, k, or_false, (k.awaits fl at.blocks at.awaits (next_of d)), (ap (λ bs. least_column bs at.awaits) r.blocks_are ∙ ap (λ y. least_column (columns t.held.indent t.held.indents) y) r.awaits_is), at_token)
 
         is_read : IsRead t None fs r.site r.line es r.separation d
-        is_read = grind (arith, nat_tests, eqb-true, (c.spaces.is_rest ∙ (sym (append_assoc c.spaces.blanks c.spaces.comment v.rest) ∙ (ap (λ r. spaces ++ r) b.cut ∙ sym (append_assoc spaces b.separation w.rest)))), (separation_append false spaces b.separation w.rest (subst (λ r. is_separation false spaces r ≡ true) b.cut c.spaces.is_filled) b.is_filled), end_is, (k.awaits fl at.blocks at.awaits (next_of d)), no_tabs, k, leads, some_levels, adjacent_quoted, piece_is, deep_for, (ap (λ bs. least_column bs at.awaits) r.blocks_are ∙ ap (λ y. least_column (columns t.held.indent t.held.indents) y) r.awaits_is), (ap (λ f. not (is_empty f)) flow), or_false, (break_append spaces b.separation ∙ (ap (λ y. y || has_break b.separation) no_break ∙ sym (same_has_break b.separation))), one_line_of)
+        is_read = grind (
+          arith,
+          nat_tests,
+          eqb-true,
+          (c.spaces.is_rest ∙ (sym (append_assoc c.spaces.blanks c.spaces.comment v.rest) ∙ (ap (λ r. spaces ++ r) b.cut ∙ sym (append_assoc spaces b.separation w.rest)))),
+          (separation_append false spaces b.separation w.rest (subst (λ r. is_separation false spaces r ≡ true) b.cut c.spaces.is_filled) b.is_filled),
+          end_is,
+          (k.awaits fl at.blocks at.awaits (next_of d)),
+          no_tabs,
+          k,
+          leads,
+          some_levels,
+          adjacent_quoted,
+          piece_is,
+          deep_for,
+          (ap (λ bs. least_column bs at.awaits) r.blocks_are ∙ ap (λ y. least_column (columns t.held.indent t.held.indents) y) r.awaits_is),
+          (ap (λ f. not (is_empty f)) flow),
+          or_false,
+          (break_append spaces b.separation ∙ (ap (λ y. y || has_break b.separation) no_break ∙ sym (same_has_break b.separation))),
+          one_line_of,
+        )
 
       node : ReadNode text t (on_held (λ s. push t.held.position tok (adjacent_here s)) w)
       node = record {
@@ -195,7 +216,9 @@ pub quoted_node : (text : List ℕ) (quotes : Quotes) (t : ScannerState) (more :
 unfolding fetch_flow_scalar
 quoted_node text quotes t more e deep a =
     subst (λ h. Holds (ReadNode text t) (lexed (quoted (are_single quotes) (context (allow_key false h)) t.rest t.held.position) (allow_key false h) (after_body quotes t))) (sym (saved_is t.held))
-    (read (allow_key false (record t.held { keys = saved_keys t.held })) (quoted (are_single quotes) (context t.held) t.rest t.held.position) (after_body quotes t) (λ x i. (chained (quoted_checked t.held.position (piece_of (are_single quotes) (read_as x i).body) (closed text quotes t a deep x (read_as x i)) (in_line (are_single quotes) (read_as x i).body) (rest_is_clean text quotes t a deep x (read_as x i)) (read_as x i).end_is) (λ v c. chained (both_hold (exact v) (skipped text quotes t a deep x (read_as x i) v c)) (λ w z. went (node text quotes t a deep x (read_as x i) v c w z.0 z.1))))))
+    (read (allow_key false (record t.held { keys = saved_keys t.held })) (quoted (are_single quotes) (context t.held) t.rest t.held.position) (after_body quotes t)
+    (λ x i. (chained (quoted_checked t.held.position (piece_of (are_single quotes) (read_as x i).body) (closed text quotes t a deep x (read_as x i)) (in_line (are_single quotes) (read_as x i).body) (rest_is_clean text quotes t a deep x (read_as x i)) (read_as x i).end_is)
+    (λ v c. chained (both_hold (exact v) (skipped text quotes t a deep x (read_as x i) v c)) (λ w z. went (node text quotes t a deep x (read_as x i) v c w z.0 z.1))))))
   where
     read_as : (x : machine.Read (List ℕ)) → quoted (are_single quotes) (context t.held) t.rest t.held.position ≡ Ok x → QuotedAs (are_single quotes) (context t.held) t.held.position t.rest x
     read_as x i = subst (λ r. QuotedAs (are_single quotes) (context t.held) t.held.position r x) (sym e) (quoted_as quotes (context t.held) t.held.position more x ((and_parts (not (is_nul (quote_of (are_single quotes)))) (has_no_nul more) (subst (λ r. has_no_nul r ≡ true) e a.is_clean)).1) (subst (λ r. quoted (are_single quotes) (context t.held) r t.held.position ≡ Ok x) e i))

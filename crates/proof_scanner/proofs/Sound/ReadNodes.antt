@@ -222,8 +222,14 @@ module _ (text : List ℕ) (t : ScannerState) (level : Option FlowLevel) (k : Op
         are_numbered = begun_numbered level (length (t.held.tokens ++ (own ∷ []))) (key_then ∷ []) (numbered_past text t k a within deep own t.held.key_allowed);
         carries = carried level r.is_begun rows;
         knows = subst (λ y. KnowsKey text (next_of d) d.end y) (sym same)
-            (knows_saved text t d.piece (next_of d) d.tok r.reads.cut d.end d.gap d.rest r.reads.position_is refl k a
-            ((subst (λ y. is_separation false a.separation y ≡ true) r.reads.cut a.is_filled), (ap not r.reads.is_solid, subst (λ y. IsPiece (seen (with_entries a.site a.line []) y a.separation) d.piece (next_of d) None (shown_position y d.piece d.tok (next_of d)) d.tok) (sym same_site) (subst (λ p. IsPiece (seen (with_entries a.site a.line []) x a.separation) d.piece (next_of d) None p d.tok) (sym (r.shown x)) r.is_piece))) within deep (ap is_of_node r.act) known);
+            (knows_saved text t d.piece (next_of d) d.tok r.reads.cut d.end d.gap d.rest r.reads.position_is refl k a (
+              (subst (λ y. is_separation false a.separation y ≡ true) r.reads.cut a.is_filled),
+              (
+                ap not r.reads.is_solid,
+                subst (λ y. IsPiece (seen (with_entries a.site a.line []) y a.separation) d.piece (next_of d) None (shown_position y d.piece d.tok (next_of d)) d.tok) (sym same_site)
+                    (subst (λ p. IsPiece (seen (with_entries a.site a.line []) x a.separation) d.piece (next_of d) None p d.tok) (sym (r.shown x)) r.is_piece),
+              ),
+            ) within deep (ap is_of_node r.act) known);
         completes = λ strict c cs may. rows strict c cs (subst (λ y. MayChoose strict c y d.end d.rest) same may);
       })
 

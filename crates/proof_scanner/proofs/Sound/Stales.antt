@@ -46,7 +46,8 @@ key_dropped text u s out k only far free = dropped
     may = subst (λ es. MayChoose true false (outside_key es u.held.keys) u.held.position u.rest) (sym none) (subst (λ ks. MayChoose true false (outside_key [] ks) u.held.position u.rest) (sym only) free)
 
     own : (strict c : Bool) (cs : List Bool) → Of strict c cs (record s.base { entries = [] })
-    own strict c cs = subst (λ es. SoFar strict text After (record s.base { entries = es }) (λ ws last. u.held.tokens)) none (none_completes strict text After s.base u.held.keys u.held.tokens s.no_key (entries_no_key u.held.key_allowed (is_renewed s.base.site.before s.separation) u.held.flow u.held.keys s.base.entries s.are_entries) (s.completes strict false [] (may_be_no_key strict (outside_key s.base.entries u.held.keys) u.held.position u.rest may)))
+    own strict c cs = subst (λ es. SoFar strict text After (record s.base { entries = es }) (λ ws last. u.held.tokens)) none (none_completes strict text After s.base u.held.keys u.held.tokens s.no_key (entries_no_key u.held.key_allowed (is_renewed s.base.site.before s.separation) u.held.flow u.held.keys s.base.entries s.are_entries)
+        (s.completes strict false [] (may_be_no_key strict (outside_key s.base.entries u.held.keys) u.held.position u.rest may)))
 
     dropped : Stands text (record u { held = record u.held { keys = None ∷ [] } })
     dropped = stands_by text _ u.held.flow (None ∷ []) s.base refl refl (
