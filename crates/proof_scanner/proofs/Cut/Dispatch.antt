@@ -1,5 +1,5 @@
 -- The next token by its first characters.
-use Rattle.proof_scanner.proofs.Common.{row, [], and_false, ap, are_single, arith, At, begins_flow, begins_separation, Bool, class_of, comes_marker, comes_plain, eqb-true, Err, false, Fault, fetch_anchor, fetch_block_entry, fetch_block_scalar, fetch_content, fetch_directive, fetch_document_end, fetch_document_marker, fetch_first_column, fetch_flow_collection_end, fetch_flow_collection_start, fetch_flow_entry, fetch_flow_scalar, fetch_indented, fetch_key, fetch_plain_scalar, fetch_tag, fetch_token, fetch_value, has_no_nul, if◌then◌else◌, in_flow, is_at_gap, is_blank_or_breakz, is_document_marker, is_empty, is_literal, is_value, is_value_indicator, is_white, List, mark_of, may_begin, NameKind, nat_lt, not, peek, quote_of, Quotes, refl, Result, same_gap, ScannerState, slice_index, sym, Tok, token_by, true, ℕ, ◌&&◌, ◌+◌, ◌==◌, ◌||◌, ◌∙◌, ◌∷◌, ◌≡◌}
+use Rattle.proof_scanner.proofs.Common.{row, and_false, ap, are_single, arith, At, begins_flow, begins_separation, Bool, class_of, comes_marker, comes_plain, eqb-true, Err, false, Fault, fetch_anchor, fetch_block_entry, fetch_block_scalar, fetch_content, fetch_directive, fetch_document_end, fetch_document_marker, fetch_first_column, fetch_flow_collection_end, fetch_flow_collection_start, fetch_flow_entry, fetch_flow_scalar, fetch_indented, fetch_key, fetch_plain_scalar, fetch_tag, fetch_token, fetch_value, has_no_nul, if◌then◌else◌, in_flow, is_at_gap, is_blank_or_breakz, is_document_marker, is_empty, is_literal, is_value, is_value_indicator, is_white, List, mark_of, may_begin, NameKind, nat_lt, not, peek, quote_of, Quotes, refl, Result, same_gap, ScannerState, slice_index, sym, Tok, token_by, true, ℕ, ◌&&◌, ◌+◌, ◌==◌, ◌||◌, ◌∙◌, ◌∷◌, ◌≡◌, nat_tests}
 use Rattle.yaml_chars.specs.Class.{is_blank, is_break, is_flow}
 use Rattle.defs_text.specs.Classes as classes
 use Rattle.yaml_tokens.specs.declared.problem.Problem.TheVariants as problem
@@ -12,7 +12,7 @@ use Rattle.proof_lexers.proofs.Bridges.{same_flow}
 use Rattle.proof_scanner.proofs.Cut.Characters.{Ordinary}
 use Rattle.proof_scanner.proofs.Cut.Nodes.{IsDeep}
 use Rattle.model_scanner.specs.State.{after}
-use Rattle.proof_scanner.proofs.Cut.Fetched.{begins_with_this, Marked, marked, no_marker, is_deep}
+use Rattle.proof_scanner.proofs.Cut.Fetched.{Marked, marked, no_marker}
 
 -- ---- characters
 
@@ -54,17 +54,7 @@ gap_after t c more gap e g = ap (λ l. is_blank_or_breakz (slice_index l 1)) e �
 -- whether a colon is the indicator of a value, the model and the definition say alike
 pub value_is : (t : ScannerState) (adjacent : Bool) (more : List ℕ) → t.rest ≡ 58 ∷ more → (is_empty t.held.flow ≡ false → (t.held.position.index == t.held.adjacent_value_at) ≡ adjacent) → is_value t ≡ is_value_indicator (not (is_empty t.held.flow)) adjacent more
 unfolding is_value
-value_is t adjacent more e now = by (is_empty t.held.flow) refl
-  where
-    gap : is_blank_or_breakz (slice_index t.rest 1) ≡ is_at_gap more
-    gap = gap_after t 58 more (is_at_gap more) e refl
-
-    flows : is_flow (slice_index t.rest 1) ≡ begins_flow more
-    flows = ap (λ l. is_flow (slice_index l 1)) e ∙ flow_here more
-
-    by : (out : Bool) → is_empty t.held.flow ≡ out →
-        (is_blank_or_breakz (slice_index t.rest 1) || (not out && (is_flow (slice_index t.rest 1) || (t.held.position.index == t.held.adjacent_value_at)))) ≡ (is_at_gap more || (not out && (begins_flow more || adjacent)))
-    by a o = grind (arith, gap, more, flows, now)
+value_is t adjacent more e now = grind (arith, nat_tests, eqb-true, gap_after, flow_here)
 
 -- ---- the token by its first character
 
@@ -75,9 +65,7 @@ module _ (Q : Result ScannerState Fault → Type 0) (t : ScannerState) (adjacent
   Reads c = (more : List ℕ) → t.rest ≡ c ∷ more → Q (token_by (class_of c) t)
 
   plain_here : (c : ℕ) (more : List ℕ) → t.rest ≡ c ∷ more → (if c == 45 then not (is_at_gap more) else may_begin (in_flow t.held) adjacent c more) ≡ true → Q (fetch_plain_scalar t)
-  plain_here c more e g =
-      let none : ((t.held.position.col == 0) && is_document_marker (c ∷ more)) ≡ false = ap (λ l. (t.held.position.col == 0) && is_document_marker l) (sym e) ∙ marker in
-      h.plain (ap (comes_plain (in_flow t.held) adjacent t.held.position.col) e ∙ rw (g, none) refl)
+  plain_here c more e g = grind (arith, nat_tests, eqb-true)
 
   -- ---- characters that begin no token
 
@@ -92,27 +80,15 @@ module _ (Q : Result ScannerState Fault → Type 0) (t : ScannerState) (adjacent
 
   dash : Reads 45
   unfolding class_of
-  dash more e = by (is_at_gap more) refl
-    where
-      by : (gap : Bool) → is_at_gap more ≡ gap → Q (if is_blank_or_breakz (slice_index t.rest 1) then fetch_block_entry t else fetch_plain_scalar t)
-      by true g = rw (gap_after t 45 more true e g) (h.dash more e g)
-      by false g = rw (gap_after t 45 more false e g) (plain_here 45 more e (rw g refl))
+  dash more e = grind (arith, nat_tests, eqb-true, gap_after, plain_here)
 
   question : Reads 63
   unfolding class_of
-  question more e = by (is_at_gap more) refl
-    where
-      by : (gap : Bool) → is_at_gap more ≡ gap → Q (if is_blank_or_breakz (slice_index t.rest 1) then fetch_key t else fetch_plain_scalar t)
-      by true g = rw (gap_after t 63 more true e g) (h.question more e g)
-      by false g = rw (gap_after t 63 more false e g) (plain_here 63 more e (rw g refl))
+  question more e = grind (arith, nat_tests, eqb-true, gap_after, plain_here)
 
   colon : Reads 58
   unfolding class_of
-  colon more e = by (is_value t) refl
-    where
-      by : (b : Bool) → is_value t ≡ b → Q (if b then fetch_value t else fetch_plain_scalar t)
-      by true i = h.colon more e i
-      by false i = plain_here 58 more e (rw (sym (value_is t adjacent more e now) ∙ i) refl)
+  colon more e = grind (arith, nat_tests, eqb-true, plain_here, value_is)
 
   -- an indicator outside flow, which in flow begins a plain scalar
   block_or_plain : (style : BlockStyle) (c : ℕ) (more : List ℕ) → t.rest ≡ c ∷ more → c ≡ (if is_literal style then 124 else 62)
@@ -121,8 +97,7 @@ module _ (Q : Result ScannerState Fault → Type 0) (t : ScannerState) (adjacent
   block_or_plain style c more e is may = by (is_empty t.held.flow) refl
     where
       by : (out : Bool) → is_empty t.held.flow ≡ out → Q (if not out then fetch_plain_scalar t else fetch_block_scalar style t)
-      by true o = h.block style more (e ∙ ap (λ k. k ∷ more) is) o
-      by false o = plain_here c more e (may (ap not o))
+      by a o = grind (arith, plain_here)
 
   bar : Reads 124
   unfolding class_of
@@ -194,11 +169,7 @@ module _ (Q : Result ScannerState Fault → Type 0) (t : ScannerState) (adjacent
 
   pub token_holds : is_empty t.rest ≡ false → Q (fetch_token t)
   unfolding fetch_token
-  token_holds some = by t.rest refl some
-    where
-      by : (l : List ℕ) → t.rest ≡ l → is_empty l ≡ false → Q (token_by (class_of (peek t.rest)) t)
-      by [] e n = absurd (cc n)
-      by (c ∷ more) e n = rw (ap peek e) (each c more e)
+  token_holds some = grind (arith, nat_tests, eqb-true, each)
 
 -- ---- lines for the document, and content
 
@@ -223,11 +194,11 @@ content_holds Q t some h =
     either a p q = grind arith
 
     indented : IsNoLine t → Q (fetch_indented t)
-    indented n = either (nat_lt (t.held.position.col + 1) t.held.indent) (h.shallow n) (λ e. h.token n (is_deep t.held.position.col t.held.indent e))
+    indented n = either (nat_lt (t.held.position.col + 1) t.held.indent) (h.shallow n) (λ e. h.token n (grind (arith, nat_tests)))
 
     first : t.held.position.col ≡ 0 → Q (fetch_first_column t)
     first col =
-        either (peek t.rest == 37) (λ e. h.directive (begins_with_this t.rest 37 some e) col) (λ n.
+        either (peek t.rest == 37) (λ e. h.directive (((grind arith) ∙ ap (λ d. d ∷ after t.rest) (eqb-true (peek t.rest) 37 e))) col) (λ n.
         either (comes_marker 45 t.rest) (λ e. let m : Marked 45 t.rest = marked 45 t.rest refl e in h.document_start m.more m.is_text m.gap col) (λ x.
         either (comes_marker 46 t.rest) (λ e. let m : Marked 46 t.rest = marked 46 t.rest refl e in h.document_end m.more m.is_text m.gap col) (λ y.
         indented (ap (λ b. (t.held.position.col == 0) && b) (no_marker t.rest x y) ∙ and_false (t.held.position.col == 0), λ _. n))))

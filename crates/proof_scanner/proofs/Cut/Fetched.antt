@@ -1,15 +1,8 @@
 -- What the first characters of a text say: the text goes on, or a document marker stands there.
-use Rattle.proof_scanner.proofs.Common.{[], ap, are_marks, arith, begins_with, comes_marker, eqb-true, false, has_no_nul, is_at_gap, is_blank_or_breakz, is_document_marker, is_empty, is_nul, List, nat_lt, nat_tests, peek, same_gap, slice_index, true, ℕ, ◌+◌, ◌==◌, ◌∙◌, ◌∷◌, ◌≡◌, ◌≤◌}
+use Rattle.proof_scanner.proofs.Common.{[], are_marks, arith, begins_with, comes_marker, false, has_no_nul, is_at_gap, is_blank_or_breakz, is_document_marker, is_empty, is_nul, List, nat_tests, peek, same_gap, slice_index, true, ℕ, ◌==◌, ◌∷◌, ◌≡◌}
 use Rattle.yaml_chars.specs.Class.{is_blank, is_break}
-use Rattle.model_scanner.specs.State.{after}
 
 -- ---- keys that are too far back
-
-first_is : (r : List ℕ) → is_empty r ≡ false → r ≡ peek r ∷ after r
-first_is a h = grind arith
-
-pub begins_with_this : (r : List ℕ) (c : ℕ) → is_empty r ≡ false → (peek r == c) ≡ true → r ≡ c ∷ after r
-begins_with_this r c some h = first_is r some ∙ ap (λ d. d ∷ after r) (eqb-true (peek r) c h)
 
 -- whether a text begins with a character, the model and the definitions say alike
 pub begins_here : (c : ℕ) (r : List ℕ) → (0 == c) ≡ false → (peek r == c) ≡ begins_with c r
@@ -37,9 +30,6 @@ unfolding comes_marker are_marks
 no_marker b h k = grind (arith, is_gap_after)
 
 -- ---- the next token
-
-pub is_deep : (col indent : ℕ) → nat_lt (col + 1) indent ≡ false → indent ≤ col + 1
-is_deep col indent h = grind (arith, nat_tests)
 
 pub no_end : (r : List ℕ) → has_no_nul r ≡ true → (peek r == 0) ≡ true → r ≡ []
 unfolding is_nul

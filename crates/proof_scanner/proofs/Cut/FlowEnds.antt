@@ -1,9 +1,8 @@
 -- What the model leaves at closing brackets and commas.
-use Rattle.proof_scanner.proofs.Common.{[], allow_key, arith, before_past, begins_token, blocks_past, Bool, collection, decrease_flow_level, end_flow_pair, ends_entry, ends_spaces, false, FlowLevel, has_no_nul, Held, if◌then◌else◌, inl, inr, is_adjacent, is_at_line_end, is_blank, is_blanks, is_break, is_pair_at, is_separation, IsAdjacent, IsPiece, Key, Keyed, length, List, no_hash, None, not, Option, other, pop, Position, refl, same_blank, Some, suc, sym, Tok, Token, token, true, with_top, Yes, ℕ, ◌&&◌, ◌++◌, ◌+◌, ◌==◌, ◌||◌, ◌∙◌, ◌∷◌, ◌≡◌, ◌⊎◌}
+use Rattle.proof_scanner.proofs.Common.{[], allow_key, arith, before_past, begins_token, blocks_past, Bool, collection, decrease_flow_level, end_flow_pair, ends_entry, ends_spaces, false, FlowLevel, has_no_nul, Held, if◌then◌else◌, inl, is_adjacent, is_at_line_end, is_blank, is_blanks, is_break, is_pair_at, is_separation, IsAdjacent, IsPiece, Key, Keyed, length, List, no_hash, None, not, Option, other, pop, Position, refl, same_blank, Some, sym, Tok, Token, token, true, with_top, Yes, ℕ, ◌&&◌, ◌++◌, ◌+◌, ◌==◌, ◌||◌, ◌∙◌, ◌∷◌, ◌≡◌, ◌⊎◌, nat_tests, eqb-true}
 use Rattle.proof_lexers.specs.PlainEnds.{has_break}
 use Rattle.defs_token.specs.Account.{Account}
 use Rattle.model_scanner.specs.declared.level.FlowLevel.TheVariants.{Entry, Pair}
-use Rattle.proof_scanner.proofs.Cut.Nodes.{not_same}
 use Rattle.proof_scanner.proofs.Cut.Scalars.{same_number}
 
 -- ---- what the model leaves
@@ -69,9 +68,6 @@ one_line (c ∷ f) rest h n = by (is_blank c) (is_break c) refl h n (one_line f 
         (is_separation false f rest ≡ true → has_break f ≡ false → (is_blanks f ≡ true) ⊎ (is_at_line_end rest ≡ true)) → ((x && is_blanks f) ≡ true) ⊎ (is_at_line_end rest ≡ true)
     by x y e h n k = grind (arith, no_hash, same_blank, after_comment)
 
-no_token : (r : List ℕ) → has_no_nul r ≡ true → is_at_line_end r ≡ true → begins_token r ≡ true → ⊥
-no_token a n l t = grind arith
-
 no_blank : (c : ℕ) → not ((c == 32) || ((c == 9) && true) || (c == 35)) ≡ true → is_blank c ≡ false
 unfolding is_blank
 no_blank c h = grind arith
@@ -84,8 +80,5 @@ adjacent_collection p f rest fills line ends clean = λ separation r e k t. by s
     blanks_first a c g h = grind arith
 
     by : (separation r : List ℕ) → rest ≡ separation ++ r → is_separation false separation r ≡ true → begins_token r ≡ true → is_adjacent (before_past (before_past collection f) separation) ≡ ((p.index + length separation) == p.index)
-    by [] r e k t = elim (one_line f rest fills line) [
-      | inl b ↦ rw b (sym (same_number p.index))
-      | inr l ↦ absurd (no_token r (rw e at clean) (rw e at l) t)
-    ]
-    by (c ∷ g) r e k t = blanks_first (is_blanks f) c g (no_blank c (rw e at ends)) ∙ sym (not_same (p.index + suc (length g)) p.index (omega arith))
+    by [] r e k t = grind (arith, nat_tests, eqb-true, one_line, same_number)
+    by (c ∷ g) r e k t = blanks_first (is_blanks f) c g (no_blank c (rw e at ends)) ∙ sym (grind (arith, nat_tests))

@@ -1,5 +1,5 @@
 -- Levels of indentation that a bracket begins.
-use Rattle.proof_scanner.proofs.Common.{Bool, false, Held, if◌then◌else◌, in_block, Indent, level, List, refl, roll_one_col_indent, true, ℕ, ◌+◌, ◌∷◌, ◌≡◌}
+use Rattle.proof_scanner.proofs.Common.{false, Held, if◌then◌else◌, in_block, Indent, level, List, roll_one_col_indent, ℕ, ◌+◌, ◌∷◌, ◌≡◌, nat_tests, eqb-true, arith}
 
 unfoldable pub one_indents : Held → List Indent
 one_indents s = (if in_block s then level s.indent false ∷ s.indents else s.indents)
@@ -9,9 +9,4 @@ one_indent s = (if in_block s then s.indent + 1 else s.indent)
 
 pub rolled_one_is : (s : Held) → roll_one_col_indent s ≡ record s { indents = one_indents s; indent = one_indent s }
 unfolding roll_one_col_indent one_indents one_indent
-rolled_one_is s = by (in_block s)
-  where
-    by : (b : Bool) → (if b then record s { indents = level s.indent false ∷ s.indents; indent = s.indent + 1 } else s) ≡
-        record s { indents = (if b then level s.indent false ∷ s.indents else s.indents); indent = (if b then s.indent + 1 else s.indent) }
-    by true = refl
-    by false = refl
+rolled_one_is a = grind (arith, nat_tests, eqb-true)

@@ -1,13 +1,11 @@
 -- What the model passes between tokens.
-use Rattle.proof_scanner.proofs.Common.{are_spaces, begins_white_space, ends_spaces, false, Fault, go_on, HasPassed, HasSpaces, Holds, is_separation, lexed, List, position_after, Read, read, read_as, refl, refused, Result, ScannerState, skip_spaces, skip_yaml_whitespace, SkipTabs, space, spaces, spaces_are_passed, true, went, white_space_is_passed, Whitespace, ℕ, ◌++◌, ◌≡◌}
+use Rattle.proof_scanner.proofs.Common.{are_spaces, begins_white_space, ends_spaces, false, Fault, go_on, HasPassed, HasSpaces, Holds, is_separation, lexed, List, position_after, Read, read, read_as, refl, refused, Result, ScannerState, skip_spaces, skip_yaml_whitespace, SkipTabs, space, spaces, spaces_are_passed, true, went, white_space_is_passed, Whitespace, ℕ, ◌++◌, ◌≡◌, nat_tests, eqb-true, arith}
 use Rattle.proof_lexers.specs.PlainEnds.{has_break}
 use Rattle.proof_lexers.specs.Ends.{EndsAs}
-use Rattle.proof_lexers.specs.Ends as ends
 
 -- of a scan that ends as its text says, what was read
 pub read_holds : {A : Type 0} {Reads : A → Type 0} {Why : Fault → Type 0} {x : Result A Fault} → EndsAs Reads Why x → Holds Reads x
-read_holds (ends.reads r is e) = rw e (went is)
-read_holds (ends.refuses f why e) = rw e refused
+read_holds a = grind (arith, nat_tests, eqb-true, went, refused)
 
 pub white_passed : (t : ScannerState) → Holds (HasPassed begins_white_space t.held t.rest) (skip_yaml_whitespace t)
 unfolding skip_yaml_whitespace

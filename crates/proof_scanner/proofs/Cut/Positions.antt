@@ -1,5 +1,5 @@
 -- Positions after texts.
-use Rattle.proof_scanner.proofs.Common.{[], After, arith, false, is_empty, length, List, NotBefore, Position, position_after, position_past, suc, ℕ, ◌++◌, ◌+◌, ◌∷◌, ◌≡◌}
+use Rattle.proof_scanner.proofs.Common.{[], After, arith, false, is_empty, length, List, NotBefore, Position, position_after, position_past, suc, ℕ, ◌++◌, ◌+◌, ◌∷◌, ◌≡◌, eqb-true, nat_tests}
 
 pub not_before_same : (p : Position) → NotBefore p p
 not_before_same p = (omega arith, λ h. omega arith)
@@ -10,9 +10,6 @@ not_before_then p q r a b = (omega (arith, a.0, b.0), λ h. omega (arith, a.1 (o
 pub after_then : (p q r : Position) → After p q → NotBefore q r → After p r
 after_then p q r a b = (omega (arith, a.0, b.0), λ h. omega (arith, a.1 (omega (arith, h, b.0)), b.1 (omega (arith, h, a.0))))
 
-past_after : (p : Position) (c : ℕ) (next : List ℕ) → After p (position_past p c next)
-past_after p c next = grind arith
-
 pub weaker : (p q : Position) → After p q → NotBefore p q
 weaker p q a = (a.0, λ h. omega (arith, a.1 h))
 
@@ -20,12 +17,7 @@ pub not_before_after : (p : Position) (a next : List ℕ) → NotBefore p (posit
 not_before_after p [] next = not_before_same p
 not_before_after p (c ∷ a) next =
     let q : Position = position_past p c (a ++ next) in
-    not_before_then p q (position_after q a next) (weaker p q (past_after p c (a ++ next))) (not_before_after q a next)
-
-pub is_after : (p : Position) (c : ℕ) (a next : List ℕ) → After p (position_after p (c ∷ a) next)
-is_after p c a next =
-    let q : Position = position_past p c (a ++ next) in
-    after_then p q (position_after q a next) (past_after p c (a ++ next)) (not_before_after q a next)
+    not_before_then p q (position_after q a next) (weaker p q (grind arith)) (not_before_after q a next)
 
 index_past : (p : Position) (c : ℕ) (next : List ℕ) → (position_past p c next).index ≡ suc p.index
 index_past p c next = grind arith
@@ -37,5 +29,4 @@ index_after p (c ∷ a) next = omega (arith, index_after (position_past p c (a +
 
 -- the position after a piece
 pub after_piece : (p : Position) (piece next : List ℕ) → is_empty piece ≡ false → After p (position_after p piece next)
-after_piece p [] next h = absurd (cc h)
-after_piece p (c ∷ piece) next h = is_after p c piece next
+after_piece p a next h = grind (arith, nat_tests, eqb-true, after_then, not_before_after)

@@ -1,12 +1,11 @@
 -- The position after a row of pieces and a separation is that after the text that they spell.
-use Rattle.proof_scanner.proofs.Common.{[], account_past_row, ap, append_assoc, List, Position, position_after, position_append, refl, sym, Written, ℕ, ◌++◌, ◌∙◌, ◌∷◌, ◌≡◌}
+use Rattle.proof_scanner.proofs.Common.{[], account_past_row, ap, append_assoc, List, Position, position_after, position_append, refl, sym, Written, ℕ, ◌++◌, ◌∙◌, ◌∷◌, ◌≡◌, nat_tests, eqb-true, arith}
 use Rattle.defs_token.specs.Account.{Account}
 use Rattle.defs_token.specs.Cut.{spelled, account_past}
 
 pub spelled_before : (ws : List Written) (after : List ℕ) → spelled ws after ≡ spelled ws [] ++ after
 spelled_before [] after = refl
-spelled_before (w ∷ ws) after =
-    ap (λ t. w.separation ++ (w.piece ++ t)) (spelled_before ws after) ∙ ap (λ t. w.separation ++ t) (sym (append_assoc w.piece (spelled ws []) after)) ∙ sym (append_assoc w.separation (w.piece ++ spelled ws []) after)
+spelled_before (w ∷ ws) after = grind (arith, nat_tests, eqb-true, append_assoc, spelled_before ws after)
 
 pub row_position : (a : Account) (ws : List Written) (after : List ℕ) → (account_past_row a ws after).position ≡ position_after a.position (spelled ws []) after
 row_position a [] after = refl

@@ -1,5 +1,5 @@
 -- A colon right after a quoted scalar.
-use Rattle.proof_scanner.proofs.Common.{[], and_parts, arith, before_past, begins_separation, false, is_adjacent, is_blank, is_break, is_separation, IsAdjacent, length, List, nat_tests, Position, sym, true, ℕ, ◌++◌, ◌+◌, ◌==◌, ◌||◌, ◌∷◌, ◌≡◌}
+use Rattle.proof_scanner.proofs.Common.{[], and_parts, arith, before_past, begins_separation, false, is_adjacent, is_separation, IsAdjacent, length, List, nat_tests, Position, sym, true, ℕ, ◌++◌, ◌+◌, ◌==◌, ◌∷◌, ◌≡◌, eqb-true}
 use Rattle.defs_token.specs.Account.{quoted}
 
 pub same_number : (n : ℕ) → (n + 0 == n) ≡ true
@@ -11,7 +11,4 @@ adjacent_quoted p rest separation2 solid = λ separation r e k t. by separation 
   where
     by : (separation r : List ℕ) → rest ≡ separation ++ r → is_separation false separation r ≡ true → is_adjacent (before_past (before_past quoted separation2) separation) ≡ ((p.index + length separation) == p.index)
     by [] r e k = sym (same_number p.index)
-    by (c ∷ f) r e k =
-        let a : (is_blank c || is_break c || (c == 35)) ≡ true = (and_parts (is_blank c || is_break c || (c == 35)) (is_separation (c == 35) f r) k).0 in
-        let b : (is_blank c || is_break c || (c == 35)) ≡ false = rw e at solid in
-        absurd (cc (a, b))
+    by (c ∷ f) r e k = grind (arith, nat_tests, eqb-true, and_parts)

@@ -52,22 +52,14 @@ keeps text = record {
 
 pub came_by : (text : List ℕ) (a : Account) (w : Step) (next : List ℕ) (b : Account) → Way GivesUp text (w.separation ++ (w.piece ++ next)) a → IsWritten a w next → Begins text next b → Came text a w next b
 came_by text a w next b way written g =
-    by (meet GivesUp Same (SecondBegins text) (keeps text) way.steps own.steps before next first_account first_account a b (refl, tt, tt) (subst (λ r. Begins text r first_account) (sym way.spells) (begins_at_start text), clean) way.leads own.leads (way.spells ∙ sym own.spells) clean)
+    by (meet GivesUp Same (SecondBegins text) (keeps text) way.steps (strict_way text next b g).steps (w.separation ++ (w.piece ++ next)) next first_account first_account a b (refl, tt, tt) (subst (λ r. Begins text r first_account) (sym way.spells) (begins_at_start text), (subst (λ r. Holds (has_no_nul r)) (sym way.spells) (clean_up_to_end text))) way.leads
+    (strict_way text next b g).leads (way.spells ∙ sym (strict_way text next b g).spells) (subst (λ r. Holds (has_no_nul r)) (sym way.spells) (clean_up_to_end text)))
   where
-    own : Way Same text next b
-    own = strict_way text next b g
-
-    before : List ℕ
-    before = w.separation ++ (w.piece ++ next)
-
-    clean : Holds (has_no_nul (spelled way.steps before))
-    clean = subst (λ r. Holds (has_no_nul r)) (sym way.spells) (clean_up_to_end text)
-
-    by : Meet GivesUp Same (SecondBegins text) a b before next → Came text a w next b
+    by : Meet GivesUp Same (SecondBegins text) a b (w.separation ++ (w.piece ++ next)) next → Came text a w next b
     by (same_place i r e) = let more = longer w next written.1.0 in let same = ap length e in absurd (omega (arith, more, same))
     by (first_on n) =
         let more = longer w next written.1.0 in
-        let on = spelled_longer (n.step ∷ n.steps) before in
+        let on = spelled_longer (n.step ∷ n.steps) (w.separation ++ (w.piece ++ next)) in
         let same = ap length n.spells in
         absurd (omega (arith, more, on, same))
     by (second_on n) = to n.steps n.leads same.3 (subst (λ v. account_past n.account v (spelled n.steps next) ≡ Some n.past) (moved n.step w (sym same.0) (sym same.1) (sym same.2)) n.is_past)
@@ -102,13 +94,10 @@ module _ (text : List ℕ) (t : ScannerState) (some : is_empty t.rest ≡ false)
       base : Account
       base = with_entries a.site a.line (e ∷ es)
 
-      free : MayChoose true false (outside_key es ks) t.held.position t.rest → Way GivesUp text (a.separation ++ t.rest) (chosen false [] (k ∷ ks) base)
-      free may = way_of text _ _ (a.completes true false [] may).0
-
       by : (y : Option Key) → outside_key es ks ≡ y → Way GivesUp text (a.separation ++ t.rest) (chosen false [] (k ∷ ks) base)
-      by None i = free (subst (λ z. MayChoose true false z t.held.position t.rest) (sym i) tt)
+      by None i = way_of text _ _ (a.completes true false [] (subst (λ z. MayChoose true false z t.held.position t.rest) (sym i) tt)).0
       by (Some x) i = of x.required refl
         where
           of : (b : Bool) → x.required ≡ b → Way GivesUp text (a.separation ++ t.rest) (chosen false [] (k ∷ ks) base)
           of true m = way_but_for_key text (a.separation ++ t.rest) x.position (chosen false [] (k ∷ ks) base) (a.carries [] x i m refl some)
-          of false m = free (subst (λ z. MayChoose true false z t.held.position t.rest) (sym i) m)
+          of false m = way_of text _ _ (a.completes true false [] (subst (λ z. MayChoose true false z t.held.position t.rest) (sym i) m)).0

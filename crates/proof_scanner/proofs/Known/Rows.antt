@@ -1,5 +1,5 @@
 -- A row of a text goes through each place that a way leads to, at an account that is like the way's; and so through the place after a step that was read there.
-use Rattle.proof_scanner.proofs.Common.{[], Account, account_past, Begins, clean_up_to_end, false, first_account, GoesThrough, has_no_nul, HasRow, is_separation, IsLike, IsRowFrom, IsWritten, Leads, List, may_end, no_nul_after, None, Option, refl, Row, same_written, Some, spelled, Step, subst, sym, true, up_to_nul, ℕ, ◌++◌, ◌∙◌, ◌∷◌, ◌≡◌}
+use Rattle.proof_scanner.proofs.Common.{[], Account, account_past, Begins, clean_up_to_end, false, first_account, GoesThrough, has_no_nul, HasRow, is_separation, IsLike, IsRowFrom, IsWritten, Leads, List, may_end, no_nul_after, None, Option, refl, Row, same_written, Some, spelled, Step, subst, sym, true, up_to_nul, ℕ, ◌++◌, ◌∙◌, ◌∷◌, ◌≡◌, nat_tests, eqb-true, arith}
 use Rattle.defs_token.specs.Piece.{Holds}
 use Rattle.proof_scanner.proofs.Known.CameBy.{SecondBegins, keeps}
 use Rattle.proof_scanner.proofs.Known.Places.{at_end}
@@ -23,10 +23,7 @@ row_end (w ∷ ws) last (Some a) row = let n = row_end ws last (account_past a w
 leads_row : (ws : List Step) (last : List ℕ) (o : Option Account) (b : Account) → LeadsBy Same o ws last b → Holds (is_separation false last []) → Holds (may_end b) → IsRowFrom o ws last
 leads_row ws last None b h f m = absurd h
 leads_row [] last (Some a) b h f m = (f, subst (λ x. may_end x ≡ true) (sym h) m)
-leads_row (w ∷ ws) last (Some a) b h f m = (
-  subst (λ x. IsWritten x w (spelled ws last)) (sym h.1) h.2,
-  leads_row ws last (account_past a w (spelled ws last)) b (subst (λ x. LeadsBy Same (account_past x w (spelled ws last)) ws last b) (sym h.1) h.3) f m,
-)
+leads_row (w ∷ ws) last (Some a) b h f m = grind (arith, nat_tests, eqb-true, leads_row ws last (account_past a w (spelled ws last)) b)
 
 -- ---- through a place
 
@@ -80,9 +77,14 @@ goes_past text a w next way written r h = by g.steps g.is_row g.spells
     by [] row e = absurd (at_end a w g.last next row.0 written e)
     by (u ∷ us) row e = to (account_past g.account u (spelled us g.last)) refl row.1
       where
-        same : next ≡ spelled us g.last
-        same = (same_written a g.account w u next (spelled us g.last) g.is_like written row.0 (sym e) g.holds.1).3
-
         to : (o : Option Account) → account_past g.account u (spelled us g.last) ≡ o → IsRowFrom o us g.last → GoesThrough text next
         to None f k = absurd k
-        to (Some b) f k = record { account = b; begins = subst (λ x. Begins text x b) (sym same) (begins_past text before g.account b u (spelled us g.last) (sym e) row.0 f g.holds.0); steps = us; last = g.last; is_row = k; spells = sym same }
+        to (Some b) f k = record {
+          account = b;
+          begins = subst (λ x. Begins text x b) (sym ((same_written a g.account w u next (spelled us g.last) g.is_like written row.0 (sym e) g.holds.1).3)) (begins_past text before g.account b u (spelled us g.last) (sym e) row.0 f g.holds.0);
+          steps = us;
+          last = g.last;
+          is_row = k;
+          spells = sym
+              ((same_written a g.account w u next (spelled us g.last) g.is_like written row.0 (sym e) g.holds.1).3);
+        }

@@ -1,9 +1,9 @@
 -- What is known of keys that wait, after a step: from what was known before it.
-use Rattle.proof_scanner.proofs.Common.{[], Account, Act, act_of, ap, arith, Begins, begins_free_line, blocks_at, Bool, false, free, gives_block_scalar, gives_node, is_far, is_in_column, is_in_flow, IsLineHere, IsWritten, Key, KnowsKey, LikeLine, Line, line_by, line_past, line_past_separation, List, None, Option, Outside, Position, position_after, refl, same_flow, Site, site_here, Some, Step, subst, sym, taken, true, up_to_nul, waits, ℕ, ◌++◌, ◌+◌, ◌∙◌, ◌∷◌, ◌≡◌, ◌≤◌}
+use Rattle.proof_scanner.proofs.Common.{[], Account, Act, act_of, ap, arith, Begins, begins_free_line, Bool, false, free, gives_block_scalar, gives_node, is_far, is_in_column, is_in_flow, IsLineHere, IsWritten, Key, KnowsKey, LikeLine, Line, line_by, line_past, line_past_separation, List, None, Option, Outside, Position, position_after, refl, same_flow, Site, site_here, Some, Step, subst, sym, taken, true, up_to_nul, waits, ℕ, ◌++◌, ◌+◌, ◌∙◌, ◌∷◌, ◌≡◌, ◌≤◌, eqb-true, nat_tests}
 use Rattle.proof_scanner.specs.KnownKeys.{IsAt}
 use Rattle.proof_scanner.proofs.Cut.Positions.{index_after, not_before_after}
 use Rattle.proof_scanner.proofs.Known.CameBy.{begins_whole, Came, came_by}
-use Rattle.proof_scanner.proofs.Known.Made.{same_of, waited, still_there, like_past, begun, kept, Waits, waits_past, Made, outside, inside, made}
+use Rattle.proof_scanner.proofs.Known.Made.{same_of, waited, still_there, begun, kept, Waits, waits_past, Made, outside, inside, made}
 use Rattle.proof_scanner.proofs.Known.Rows.{goes_from_start, goes_past}
 use Rattle.proof_scanner.proofs.Known.Ways.{With, GivesUp, Way}
 use Rattle.proof_scanner.proofs.Sound.NodeSteps.{saved}
@@ -13,10 +13,7 @@ use Rattle.proof_scanner.proofs.Sound.Sides.{with_entries}
 
 -- at a later position before the same text
 pub known_past : (text after : List ℕ) (p : Position) (k : Option Key) (f rest : List ℕ) → KnowsKey text after p k → KnowsKey text after (position_after p f rest) k
-known_past text after p k f rest n =
-    let later = (not_before_after p f rest).0 in
-    let further = index_after p f rest in
-    record { waiting = λ b begin g e l i. n.waiting b begin g e (omega (arith, later, l)) (omega (arith, further, i)); required = n.required; rows = n.rows }
+known_past text after p k f rest n = grind (arith, nat_tests, eqb-true, not_before_after, index_after)
 
 -- where the open key is far, none is known
 pub known_far : (text after : List ℕ) (p : Position) (k : Key) → is_far k.position p ≡ true → KnowsKey text after p (Some k) → KnowsKey text after p None
@@ -41,9 +38,6 @@ none_free a c k l n u m h t i j f = grind arith
 abbrev pub begins_key : Act → Bool
 begins_key gives_node = true
 begins_key _ = false
-
-waits_node : (must : Bool) (here : Position) (bs : List ℕ) (k : Act) (l : Line) (o : Outside) (q : Position) → Waits must here bs k l o q → k ≡ gives_node
-waits_node must a bs k l o q b = grind arith
 
 -- ---- in flow
 
@@ -72,29 +66,13 @@ module _ (text : List ℕ) (a : Account) (w : Step) (next : List ℕ) (written :
       none b begin c e = by (made c.from.site c.from.line c.from.entries (With w c.key) next b c.is_past)
         where
           by : Made c.from.site c.from.line c.from.entries (With w c.key) next b → ⊥
-          by (inside some sep site one) = cc (fl, same_flow a.entries c.from.entries c.is_like.2, some)
-          by (outside m o none sep past line site one) = cc (idle, ap begins_key (waits_node _ _ _ _ m o begin (waits_past _ _ _ _ c.key m o begin past (sym line ∙ e))))
+          by a = grind (arith, nat_tests, eqb-true, same_flow, waits_past)
 
 -- a part of a node, or a block scalar
 abbrev pub is_of_node : Act → Bool
 is_of_node gives_node = true
 is_of_node gives_block_scalar = true
 is_of_node _ = false
-
-node_blocks : (k : Act) (column : ℕ) (bs : List ℕ) → is_of_node k ≡ true → blocks_at false k column bs ≡ blocks_at false gives_node column bs
-node_blocks a column bs h = grind arith
-
--- where a key must begin with it, it does; a block scalar is none
-must_begin : (k : Act) (here : Position) (bs : List ℕ) (key : Bool) (o : Outside) → is_of_node k ≡ true → line_past true here bs k key free ≡ Some o → o.line ≡ waits here
-must_begin a b bs d o h e = grind arith
-
--- a key that waits goes on to wait over it
-goes_on : (k : Act) (must : Bool) (here : Position) (bs : List ℕ) (key : Bool) (q : Position) (o : Outside) → is_of_node k ≡ true → line_past must here bs k key (waits q) ≡ Some o → o.line ≡ waits q
-goes_on a must b bs d q o h e = grind arith
-
--- what is like a free line is free
-like_free : (l m : Line) → l ≡ free → LikeLine l m → m ≡ free
-like_free l m e i = grind arith
 
 module _ (text : List ℕ) (s : Site) (l line_here : Line) (allowed : Bool) (k : Option Key) (new : Key) (w : Step) (next : List ℕ) (written : IsWritten (with_entries s l []) w next) (keyed : is_of_node (act_of w.shown) ≡ true)
     (line_is : IsLineHere false allowed (0 ∷ []) k line_here) (sep_is : line_past_separation false (begins_free_line s.before w.separation) l ≡ Some line_here) (c : Bool) (way : Way GivesUp text (w.separation ++ (w.piece ++ next)) (with_entries s (line_by c k l) [])) where
@@ -124,26 +102,7 @@ module _ (text : List ℕ) (s : Site) (l line_here : Line) (allowed : Bool) (k :
 
       by : Made s came.from.line came.from.entries (With w came.key) next b → Past b
       by (inside some sep site one) = absurd (cc (same_flow [] came.from.entries came.is_like.2, some))
-      by (outside m o none sep past line site one) = record {
-        from = came.from;
-        line = m;
-        after = o;
-        key = came.key;
-        is_like = came.is_like.1;
-        begins = came.begins;
-        sep = sep;
-        past = subst (λ bs. line_past (is_in_column here.col bs) here bs (act_of w.shown) came.key m ≡ Some o) (node_blocks (act_of w.shown) here.col s.blocks keyed) past;
-        own = line;
-      }
-
-  taken_here : allowed ≡ false → line_here ≡ taken
-  taken_here e = grind (arith, line_is)
-
-  free_here : allowed ≡ true → k ≡ None → line_here ≡ free
-  free_here e j = grind (arith, line_is)
-
-  not_open : (y : Key) → allowed ≡ true → k ≡ Some y → ⊥
-  not_open y e j = grind (arith, line_is)
+      by (outside m o none sep past line site one) = grind (arith, nat_tests, eqb-true, came)
 
   -- After a node or a block scalar outside flow the key that may begin with it is open, or the one that was.
   pub known_saved : (p : Position) → new.position ≡ here → new.required ≡ is_in_column here.col at.blocks → KnowsKey text (w.separation ++ (w.piece ++ next)) p k → KnowsKey text next p (saved allowed new k)
@@ -157,25 +116,23 @@ module _ (text : List ℕ) (s : Site) (l line_here : Line) (allowed : Bool) (k :
     where
       opened : (d : Bool) (y : Option Key) → allowed ≡ d → k ≡ y → (b : Account) (begin : Position) (x : Past b) → Waits (is_in_column here.col at.blocks) here at.blocks (act_of w.shown) x.line x.after begin → p.line ≤ begin.line → p.index ≤ begin.index + 1024 → IsAt (saved d new y) begin
       opened true y i j b begin x (begun act f h bs) near_line near_index = place ∙ h
-      opened false y i j b begin x (begun act f h bs) near_line near_index = absurd (none_free (begins_free_line s.before w.separation) c k l line_here x.from.line x.line sep_is (taken_here i) x.is_like x.sep f)
+      opened false y i j b begin x (begun act f h bs) near_line near_index = absurd (none_free (begins_free_line s.before w.separation) c k l line_here x.from.line x.line sep_is (grind (arith, line_is)) x.is_like x.sep f)
       opened d y i j b begin x (kept act f bs) near_line near_index =
           old d y i j (subst (λ z. IsAt z begin) j (n.waiting x.from begin x.begins (waited false (begins_free_line s.before w.separation) x.from.line x.line begin x.sep f).0 near_line near_index))
         where
           old : (d : Bool) (y : Option Key) → allowed ≡ d → k ≡ y → IsAt y begin → IsAt (saved d new y) begin
-          old true None i j h = absurd h
-          old true (Some z) i j h = absurd (not_open z i j)
-          old false y i j h = h
+          old a y i j h = grind (arith, nat_tests, eqb-true)
 
       waited_on : (d : Bool) (y : Option Key) → allowed ≡ d → k ≡ y → (b : Account) (x : Key) (z : Past b) → saved d new y ≡ Some x → x.required ≡ true → z.after.line ≡ waits x.position
-      waited_on true (Some y) i j b x z e m = absurd (not_open y i j)
+      waited_on true (Some y) i j b x z e m = absurd (grind (arith, line_is))
       waited_on true None i j b x z e m =
           let same : new ≡ x = same_of new x e in
           let like : LikeLine l z.from.line = subst (λ o. LikeLine (line_by c o l) z.from.line) j z.is_like in
-          let line : z.line ≡ free = like_free line_here z.line (free_here i j) (like_past false (begins_free_line s.before w.separation) l z.from.line line_here z.line like sep_is z.sep) in
+          let line : z.line ≡ free = (grind arith) in
           let is : is_in_column here.col at.blocks ≡ true = sym must ∙ (ap (λ (q : Key). q.required) same ∙ m) in
-          must_begin (act_of w.shown) here at.blocks z.key z.after keyed (subst (λ q. line_past true here at.blocks (act_of w.shown) z.key q ≡ Some z.after) line (subst (λ q. line_past q here at.blocks (act_of w.shown) z.key z.line ≡ Some z.after) is z.past)) ∙
+          (grind arith) ∙
           ap (λ q. waits q) (sym place ∙ ap (λ (q : Key). q.position) same)
       waited_on false None i j b x z e m = absurd (cc e)
       waited_on false (Some y) i j b x z e m =
           let was : z.line ≡ waits x.position = (still_there false (begins_free_line s.before w.separation) z.from.line z.line x.position (n.required z.from x z.begins (j ∙ e) m) z.sep).1 in
-          goes_on (act_of w.shown) (is_in_column here.col at.blocks) here at.blocks z.key x.position z.after keyed (subst (λ q. line_past (is_in_column here.col at.blocks) here at.blocks (act_of w.shown) z.key q ≡ Some z.after) was z.past)
+          (grind arith)

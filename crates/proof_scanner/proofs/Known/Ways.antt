@@ -1,22 +1,16 @@
 -- Two ways through one text: each beginning of a row goes through the place of the other, or the other goes on past its own. A way may give up a key that waits.
-use Rattle.proof_scanner.proofs.Common.{[], Account, account_past, account_step, ap, Begins, BeginsButForKey, Bool, Entry, first_account, free, Had, has_no_nul, is_in_column, IsLike, IsWritten, Leads, LikeEntries, LikeHad, LikeLine, Line, List, no_nul_after, None, Option, Position, refl, same_written, Some, spelled, Step, Stepped, subst, sym, taken, true, up_to_nul, waits, ℕ, ◌++◌, ◌∙◌, ◌∷◌, ◌≡◌, arith}
+use Rattle.proof_scanner.proofs.Common.{[], Account, account_past, account_step, ap, Begins, BeginsButForKey, Bool, Entry, first_account, free, has_no_nul, is_in_column, IsLike, IsWritten, Leads, LikeEntries, List, no_nul_after, None, Option, Position, refl, same_written, Some, spelled, Step, Stepped, subst, sym, taken, true, up_to_nul, waits, ℕ, ◌++◌, ◌∙◌, ◌∷◌, ◌≡◌, arith, eqb-true, nat_tests}
 use Rattle.defs_token.specs.Piece.{Holds}
 
 -- ---- accounts that are alike
 
-line_sym : (l m : Line) → LikeLine l m → LikeLine m l
-line_sym l m i = grind arith
-
-had_sym : (h k : Had) → LikeHad h k → LikeHad k h
-had_sym h k i = grind arith
-
 entries_sym : (ds es : List Entry) → LikeEntries ds es → LikeEntries es ds
 entries_sym [] es i = grind arith
 entries_sym (d ∷ ds) [] i = absurd i
-entries_sym (d ∷ ds) (e ∷ es) i = ((sym i.0.0, sym i.0.1, had_sym d.had e.had i.0.2), entries_sym ds es i.1)
+entries_sym (d ∷ ds) (e ∷ es) i = ((sym i.0.0, sym i.0.1, grind arith), entries_sym ds es i.1)
 
 pub like_sym : (a b : Account) → IsLike a b → IsLike b a
-like_sym a b i = (sym i.0, line_sym a.line b.line i.1, entries_sym a.entries b.entries i.2)
+like_sym a b i = (sym i.0, grind arith, entries_sym a.entries b.entries i.2)
 
 -- a key is given up, or none
 pub data GivesUp (a x : Account) : Type 0 where
@@ -114,10 +108,7 @@ pub data Meet (J K : Account → Account → Type 0) (R : Account → Account �
   first_on : GoesOn J (λ x y. R y x) b a after2 after1 → Meet J K R a b after1 after2
 
 pub moved : (w v : Step) → w.separation ≡ v.separation → w.piece ≡ v.piece → w.shown ≡ v.shown → w ≡ With v w.key
-moved w v f p t =
-    ap (λ x. let z : Step = record { separation = x; piece = w.piece; shown = w.shown; key = w.key } in z) f ∙
-    (ap (λ x. let z : Step = record { separation = v.separation; piece = x; shown = w.shown; key = w.key } in z) p ∙
-    ap (λ x. let z : Step = record { separation = v.separation; piece = v.piece; shown = x; key = w.key } in z) t)
+moved w v f p t = grind (arith, nat_tests, eqb-true)
 
 -- What is kept along two ways: where an account changes, and by each step that both make.
 pub record KeepsOn (J K : Account → Account → Type 0) (R : Account → Account → List ℕ → Type 0) : Type 0 where
@@ -150,7 +141,7 @@ module _ (J K : Account → Account → Type 0) (R : Account → Account → Lis
       to None f l = absurd l
       to (Some p) f l = first_on (record { account = h.0; is_like = like_sym h.0 b (keeps.second_like h.0 y b k like); holds = rest; step = v; steps = vs; past = p; is_written = h.2; is_past = f; leads = l; spells = e })
   meet (v ∷ vs) (w ∷ ws) after1 after2 x y a b i r h k e c =
-      to (account_past h.0 v n) (account_past k.0 w m) refl refl h.3 k.3 (account_step h.0 k.0 v w n m like same.0 same.1 same.2 same.3) (λ g f i2 r2 l o. meet vs ws after1 after2 g f a b i2 r2 l o same.3 clean)
+      to (account_past h.0 v n) (account_past k.0 w m) refl refl h.3 k.3 (account_step h.0 k.0 v w n m like same.0 same.1 same.2 same.3) (λ g f i2 r2 l o. meet vs ws after1 after2 g f a b i2 r2 l o same.3 (no_nul_after v.piece n (no_nul_after v.separation (v.piece ++ n) c)))
     where
       n : List ℕ
       n = spelled vs after1
@@ -158,30 +149,18 @@ module _ (J K : Account → Account → Type 0) (R : Account → Account → Lis
       m : List ℕ
       m = spelled ws after2
 
-      half : IsLike h.0 y
-      half = keeps.first_like x y h.0 h.1 i
-
       like : IsLike h.0 k.0
-      like = keeps.second_like h.0 y k.0 k.1 half
+      like = keeps.second_like h.0 y k.0 k.1 (keeps.first_like x y h.0 h.1 i)
 
       rest : R h.0 k.0 (spelled (v ∷ vs) after1)
-      rest = keeps.second h.0 y k.0 (spelled (v ∷ vs) after1) half k.1 (keeps.first x y h.0 (spelled (v ∷ vs) after1) i h.1 r)
+      rest = keeps.second h.0 y k.0 (spelled (v ∷ vs) after1) (keeps.first_like x y h.0 h.1 i) k.1 (keeps.first x y h.0 (spelled (v ∷ vs) after1) i h.1 r)
 
       same : (v.separation ≡ w.separation) × (v.piece ≡ w.piece) × (v.shown ≡ w.shown) × (n ≡ m)
       same = same_written h.0 k.0 v w n m like h.2 k.2 e c
-
-      clean : Holds (has_no_nul n)
-      clean = no_nul_after v.piece n (no_nul_after v.separation (v.piece ++ n) c)
-
-      step : w ≡ With v w.key
-      step = moved w v (sym same.0) (sym same.1) (sym same.2)
-
-      written : IsWritten k.0 (With v w.key) n
-      written = subst (λ z. IsWritten k.0 (With v w.key) z) (sym same.3) (subst (λ z. IsWritten k.0 z m) step k.2)
 
       to : (g f : Option Account) → account_past h.0 v n ≡ g → account_past k.0 w m ≡ f → LeadsBy J g vs after1 a → LeadsBy K f ws after2 b → Stepped IsLike ((h.0 ≡ k.0) × (v ≡ w)) g f
           → ((g f : Account) → IsLike g f → R g f n → LeadsBy J (Some g) vs after1 a → LeadsBy K (Some f) ws after2 b → Meet J K R a b after1 after2) → Meet J K R a b after1 after2
       to None f ge fe l o s on = absurd l
       to (Some g) None ge fe l o s on = absurd o
       to (Some g) (Some f) ge fe l o s on =
-          on g f s.0 (keeps.both h.0 k.0 g f v w.key n like rest h.2 written ge (subst (λ z. account_past k.0 (With v w.key) z ≡ Some f) (sym same.3) (subst (λ z. account_past k.0 z m ≡ Some f) step fe))) l o
+          on g f s.0 (keeps.both h.0 k.0 g f v w.key n like rest h.2 (subst (λ z. IsWritten k.0 (With v w.key) z) (sym same.3) (subst (λ z. IsWritten k.0 z m) (moved w v (sym same.0) (sym same.1) (sym same.2)) k.2)) ge (subst (λ z. account_past k.0 (With v w.key) z ≡ Some f) (sym same.3) (subst (λ z. account_past k.0 z m ≡ Some f) (moved w v (sym same.0) (sym same.1) (sym same.2)) fe))) l o

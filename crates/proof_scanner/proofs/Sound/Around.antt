@@ -1,16 +1,11 @@
 -- A piece in flow, and the open key outside flow: while that is live, no break stands before the piece or in it.
-use Rattle.proof_scanner.proofs.Common.{After, Bool, Entry, FlowLevel, IsLive, IsOpenHere, IsOpenOutside, Key, List, MayChoose, NotBefore, Option, Position, ScannerState, Some, after, ap, append-nil, arith, begins_free_line, false, has_break, is_empty, is_waiting, line_by, line_past_separation, outside_key, refl, subst, sym, taken, true, ℕ, ◌&&◌, ◌∙◌, ◌∷◌, ◌≡◌, ◌≤◌}
+use Rattle.proof_scanner.proofs.Common.{After, Bool, Entry, FlowLevel, IsLive, IsOpenHere, IsOpenOutside, Key, List, MayChoose, NotBefore, Option, Position, ScannerState, Some, ap, append-nil, arith, begins_free_line, false, has_break, is_empty, is_waiting, line_by, line_past_separation, outside_key, subst, sym, taken, true, ℕ, ◌&&◌, ◌∙◌, ◌∷◌, ◌≡◌, ◌≤◌, eqb-true, nat_tests}
 use Rattle.proof_scanner.proofs.Cut.Positions.{not_before_after, not_before_then, after_then, weaker}
-use Rattle.proof_scanner.proofs.Sound.NodeSteps.{separated}
 use Rattle.proof_scanner.proofs.Sound.OutOfFlow.{no_waiting}
 use Rattle.proof_scanner.proofs.Sound.Sides.{ArrivesBy}
-use Rattle.proof_scanner.proofs.Sound.Arrivals.{unbroken, not_free, live_before, line_kept}
+use Rattle.proof_scanner.proofs.Sound.Arrivals.{unbroken, not_free, line_kept}
 
 module _ (text : List ℕ) (t : ScannerState) (f : FlowLevel) (fs : List FlowLevel) (k : Option Key) (ks : List (Option Key)) (e : Entry) (es : List Entry) (a : ArrivesBy text t (f ∷ fs) (k ∷ ks) (e ∷ es)) where
-  -- what may begin outside flow is as it was before the separation, and that is nothing
-  pub line_through : line_past_separation true (begins_free_line a.site.before a.separation) a.line ≡ Some a.line
-  line_through = a.is_line ∙ ap (λ l. Some l) (sym (line_kept (begins_free_line a.site.before a.separation) a.line a.line_here a.no_key a.is_line))
-
   pub line_taken : a.line ≡ taken
   line_taken = line_kept (begins_free_line a.site.before a.separation) a.line a.line_here a.no_key a.is_line ∙ a.line_is
 
@@ -29,31 +24,16 @@ module _ (text : List ℕ) (t : ScannerState) (f : FlowLevel) (fs : List FlowLev
   -- to a later position, where other text is left
   module _ (some : is_empty t.rest ≡ false) (end : Position) (rest : List ℕ) (later : NotBefore t.held.position end) where
     live_inside : (x : Key) → IsLive x end rest → IsLive x t.held.position t.rest
-    live_inside x l = live_before x t.held.position end t.rest rest later some l
+    live_inside x l = (omega (arith, later.0, l.0), some)
 
     pub unbroken_around : (strict c : Bool) → MayChoose strict c (outside_key es ks) end rest → line_past_separation true (begins_free_line a.site.before a.separation) (line_by c (outside_key es ks) a.line) ≡ Some (line_by c (outside_key es ks) a.line)
-    unbroken_around strict c may = by strict c (outside_key es ks) refl may
-      where
-        none : (x : Key) → outside_key es ks ≡ Some x → IsLive x end rest → begins_free_line a.site.before a.separation ≡ false
-        none x i l =
-            let live : IsLive x t.held.position t.rest = live_inside x l in
-            let line = ap (λ p. p.line) a.position_is in
-            not_free a.site.before a.separation (unbroken a.site.position a.separation t.rest some a.is_solid (omega (arith, (around_of x i).0.0, live.0, line)))
-
-        by : (strict c : Bool) (y : Option Key) → outside_key es ks ≡ y → MayChoose strict c y end rest → line_past_separation true (begins_free_line a.site.before a.separation) (line_by c y a.line) ≡ Some (line_by c y a.line)
-        by strict c a i may = grind (arith, line_through, separated, none)
+    unbroken_around strict c may = grind (arith, nat_tests, eqb-true, live_inside, not_free, unbroken, around_of, (a.is_line ∙ ap (λ l. Some l) (sym (line_kept (begins_free_line a.site.before a.separation) a.line a.line_here a.no_key a.is_line))))
 
     pub one_around : (piece : List ℕ) → (is_empty rest ≡ false → end.line ≤ t.held.position.line → has_break piece ≡ false) → (strict c : Bool) → MayChoose strict c (outside_key es ks) end rest → (has_break piece && is_waiting (line_by c (outside_key es ks) a.line)) ≡ false
-    one_around piece one strict c may = by strict c (outside_key es ks) refl may
-      where
-        by : (strict c : Bool) (y : Option Key) → outside_key es ks ≡ y → MayChoose strict c y end rest → (has_break piece && is_waiting (line_by c y a.line)) ≡ false
-        by strict c y i may = grind (arith, no_waiting, one, around_before)
+    one_around piece one strict c may = grind (arith, nat_tests, eqb-true, no_waiting, around_before)
 
     pub may_around : (strict c : Bool) → MayChoose strict c (outside_key es ks) end rest → MayChoose strict c (outside_key es ks) t.held.position t.rest
     may_around strict c may = grind arith
 
     pub open_around : (q : Position) → NotBefore t.held.position q → IsOpenOutside (outside_key es ks) q end rest a.site.blocks
-    open_around q after = by (outside_key es ks) refl
-      where
-        by : (y : Option Key) → outside_key es ks ≡ y → IsOpenOutside y q end rest a.site.blocks
-        by y i = grind (arith, around_of, after_then, not_before_then, last_before, live_inside, after)
+    open_around q a = grind (arith, nat_tests, eqb-true, around_of, after_then, not_before_then, last_before, live_inside)

@@ -1,17 +1,14 @@
 -- Facts where a piece begins: lines and positions, the open key outside flow, and levels of indentation.
-use Rattle.proof_scanner.proofs.Common.{AreAround, AreLevels, AreNumbered, BeginsButForKey, Bool, Entry, FlowLevel, Held, Indent, IsLive, IsNotRight, Key, Line, List, MayChoose, None, NotBefore, Option, Position, Previous, ScannerState, SoFar, Some, [], ap, arith, begins_free_line, begins_separation, chosen, columns, false, has_break, has_open_level, in_flow, innermost, is_break, is_empty, is_in_column, is_waiting, least_column, length, line_past_separation, must_be_key, nat_le, not, not_ended, outside_key, position_after, subst, suc, tokens_up_to, true, ℕ, ◌++◌, ◌+◌, ◌==◌, ◌∙◌, ◌∷◌, ◌≡◌, ◌≤◌}
+use Rattle.proof_scanner.proofs.Common.{AreAround, AreLevels, AreNumbered, Bool, Entry, FlowLevel, Held, Indent, IsNotRight, Key, Line, List, MayChoose, None, Option, Position, Previous, ScannerState, SoFar, Some, [], ap, arith, begins_free_line, begins_separation, chosen, columns, false, has_break, in_flow, innermost, is_break, is_empty, is_in_column, is_waiting, length, line_past_separation, must_be_key, not, not_ended, outside_key, position_after, suc, tokens_up_to, true, ℕ, ◌++◌, ◌+◌, ◌==◌, ◌∙◌, ◌∷◌, ◌≡◌, ◌≤◌, eqb-true, nat_tests}
 use Rattle.proof_scanner.proofs.Cut.Pieces.Inserted.{no_break_on_line}
 use Rattle.proof_scanner.proofs.Cut.Nodes.{IsDeep}
 use Rattle.proof_scanner.proofs.Sound.Sides.{with_entries, ArrivesBy}
 
 -- ---- texts
 
-pub some_text : (a b : List ℕ) → is_empty a ≡ false → is_empty (a ++ b) ≡ false
-some_text d b h = grind arith
-
 -- a text that begins with a piece is not empty
 pub some_rest : (rest a b : List ℕ) → rest ≡ a ++ b → is_empty a ≡ false → is_empty rest ≡ false
-some_rest rest a b e h = ap is_empty e ∙ some_text a b h
+some_rest rest a b e h = ap is_empty e ∙ (grind arith)
 
 -- what begins no separation is no line feed
 no_feed : (c : ℕ) (r : List ℕ) → begins_separation (c ∷ r) ≡ false → (c == 10) ≡ false
@@ -29,10 +26,6 @@ not_free a f h = grind arith
 
 -- ---- lines
 
--- a key that is live later is live before
-pub live_before : (k : Key) (p e : Position) (rest rest2 : List ℕ) → NotBefore p e → is_empty rest ≡ false → IsLive k e rest2 → IsLive k p rest
-live_before k p e rest rest2 n some l = (omega (arith, n.0, l.0), some)
-
 -- in flow a separation does not change what may begin outside
 pub line_kept : (broken : Bool) (l m : Line) → is_waiting l ≡ false → line_past_separation true broken l ≡ Some m → l ≡ m
 line_kept a l m h e = grind arith
@@ -46,10 +39,6 @@ all_go_on col k a r h = grind arith
 -- the innermost collection is not right of a column that is deep enough
 pub first_not_right : (col i : ℕ) (ds : List Indent) → AreLevels i ds → i ≤ col + 1 → IsNotRight (innermost (columns i ds)) col
 first_not_right col i a l h = grind arith
-
--- a level of indentation that is deep enough for a piece that is no plain scalar
-pub deep_enough : (col i : ℕ) (ds : List Indent) → AreLevels i ds → i ≤ col + 1 → nat_le (least_column (columns i ds) (has_open_level ds)) col ≡ true
-deep_enough col i a l h = grind arith
 
 -- Outside flow the scanner asks for a key just in the column of the innermost collection.
 pub must_be : (s : Held) → in_flow s ≡ false → AreLevels s.indent s.indents → IsDeep s → must_be_key s ≡ is_in_column s.position.col (columns s.indent s.indents)
@@ -65,8 +54,7 @@ numbered_more m n (Some k ∷ ks) h a = (omega (arith, h, a.0), a.1)
 
 -- the keys around one are numbered too
 pub numbered_around : (m : ℕ) (k : Option Key) (ks : List (Option Key)) → AreNumbered m (k ∷ ks) → AreNumbered m ks
-numbered_around m None ks a = a.1
-numbered_around m (Some k) ks a = numbered_more k.number m ks (omega (arith, a.0)) a.1
+numbered_around m b ks a = grind (arith, nat_tests, eqb-true, numbered_more)
 
 -- ---- rows
 
@@ -75,11 +63,6 @@ pub completes_at : (text : List ℕ) (t : ScannerState) (fs : List FlowLevel) (k
     (strict c : Bool) (cs : List Bool) → MayChoose strict c (outside_key es ks) q r →
     SoFar strict text (a.separation ++ r) (chosen c cs ks (with_entries a.site a.line es)) (tokens_up_to (chosen c cs ks (with_entries a.site a.line es)) ks a.tokens)
 completes_at text t fs ks es a r q e f strict c cs may = grind arith
-
--- the same where a row may begin but for the key outside flow
-pub carried_at : (text : List ℕ) (t : ScannerState) (fs : List FlowLevel) (ks : List (Option Key)) (es : List Entry) (a : ArrivesBy text t fs ks es) (r : List ℕ) → t.rest ≡ r → (k : Key) → outside_key es ks ≡ Some k → k.required ≡ true → is_empty es ≡ false → is_empty t.rest ≡ false →
-    (cs : List Bool) → BeginsButForKey text (a.separation ++ r) k.position (chosen false cs ks (with_entries a.site a.line es))
-carried_at text t fs ks es a r e k key must inside some cs = subst (λ x. BeginsButForKey text (a.separation ++ x) k.position (chosen false cs ks (with_entries a.site a.line es))) e (a.carries cs k key must inside some)
 
 pub many_around : (fs : List FlowLevel) (ks : List (Option Key)) (es : List Entry) → AreAround fs ks es → length fs ≡ length es
 many_around [] ks a h = grind arith

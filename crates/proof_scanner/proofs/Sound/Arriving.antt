@@ -41,9 +41,6 @@ adjacent text v s solid fl some =
 abbrev pub HasNearKey : (v : ScannerState) → Type 0
 HasNearKey v = is_empty v.held.flow ≡ true → (k : Option Key) × (v.held.keys ≡ k ∷ []) × IsNear k v.held.position
 
-near_outside : (text : List ℕ) (v : ScannerState) (s : Stands text v) → HasNearKey v → is_empty v.held.flow ≡ true → IsNear (outside_key s.base.entries v.held.keys) v.held.position
-near_outside text v s near out = grind arith
-
 -- ---- all
 
 -- the state with other levels and tokens
@@ -56,17 +53,14 @@ arrives_with : (text : List ℕ) (v : ScannerState) (s : Stands text v) → begi
     u.tokens ≡ v.held.tokens ++ ends_here (not (is_empty v.held.flow)) v.held.position s.base.site.blocks → Arrives text (with_ends v u)
 arrives_with text v s solid near u blocks awaits levels tokens = ended
   where
-    fl : Bool
-    fl = not (is_empty v.held.flow)
-
     ended : Arrives text (with_ends v u)
     ended = record {
       base = s.base;
       known =
-          let line = past_line fl (begins_free_line s.base.site.before s.separation) v.held.key_allowed v.held.position v.rest (outside_key s.base.entries v.held.keys) s.base.line s.line_is in
+          let line = past_line (not (is_empty v.held.flow)) (begins_free_line s.base.site.before s.separation) v.held.key_allowed v.held.position v.rest (outside_key s.base.entries v.held.keys) s.base.line s.line_is in
           let among : ArrivesAmong (with_ends v u) v.held.flow s.base.site s.base.line = search (line, s.is_filled, s, tokens, indented text v s solid, adjacent text v s solid) in
-          let near_now : is_empty v.held.flow ≡ true → IsNear (outside_key s.base.entries v.held.keys) v.held.position = λ out. near_outside text v s near out in
-          let line_then = line_here fl (begins_free_line s.base.site.before s.separation) v.held.key_allowed v.held.position v.rest (outside_key s.base.entries v.held.keys) s.base.line (λ e. near_now (not-false (is_empty v.held.flow) e)) s.line_is in
+          let near_now : is_empty v.held.flow ≡ true → IsNear (outside_key s.base.entries v.held.keys) v.held.position = λ out. (grind arith) in
+          let line_then = line_here (not (is_empty v.held.flow)) (begins_free_line s.base.site.before s.separation) v.held.key_allowed v.held.position v.rest (outside_key s.base.entries v.held.keys) s.base.line (λ e. near_now (not-false (is_empty v.held.flow) e)) s.line_is in
           record { among = among; one_each = s.one_each; are_entries = s.are_entries; line_is = line_then; is_open = s.is_open; is_near = near_now; are_numbered = s.are_numbered; carries = s.carries; completes = s.completes };
       knows = s.knows;
     }
@@ -110,14 +104,10 @@ arrives_now text v s solid near = let e : EndedAt text v = ended_at text v s sol
 pub near_key : (text : List ℕ) (u : ScannerState) (h : Held) → Nearer text u h → HasNearKey (record u { held = h })
 near_key text u h n out = grind arith
 
--- the state after the way to the next token, with stale keys dropped
-nearer_now : (text : List ℕ) (u : ScannerState) (h : Held) → Nearer text u h → begins_separation u.rest ≡ false → Arrives text (on_held (λ s. unroll_indent (s.position.col + 1) s) (record u { held = h }))
-nearer_now text u h n solid = arrives_now text (record u { held = h }) n.stands solid (near_key text u h n)
-
 -- From one fetch to where the next piece begins, or to the text's end: the way to the next token, stale keys, and the ends of block collections.
 pub arrived : (text : List ℕ) (t : ScannerState) (f : ScannerState → Result ScannerState Fault) (P : ScannerState → Type 0) → Stands text t → ((v : ScannerState) → Arrives text v → Holds P (f v)) →
     Holds P (skip_to_next_token t >>= λ u. try_held stale u >>= λ v. f (on_held (λ s. unroll_indent (s.position.col + 1) s) v))
 arrived text t f P s go =
     chained (passed_stands text t s) (λ u a.
     chained {P = λ v. Arrives text (on_held (λ s. unroll_indent (s.position.col + 1) s) v)}
-    (tried u (stale u.held) (stale_stands text u a.0) (λ h n. nearer_now text u h n a.1)) (λ v b. go (on_held (λ s. unroll_indent (s.position.col + 1) s) v) b))
+    (tried u (stale u.held) (stale_stands text u a.0) (λ h n. (arrives_now text (record u { held = h }) n.stands a.1 (near_key text u h n)))) (λ v b. go (on_held (λ s. unroll_indent (s.position.col + 1) s) v) b))

@@ -1,6 +1,6 @@
 -- Blanks and a comment after a piece, within its line: what the model reads there is all of them, and it stands where they end.
 use Rattle.std.proofs.lemmas.List.{append-nil}
-use Rattle.proof_scanner.proofs.Common.{At, Bool, Err, Fault, Holds, List, No, Ok, Position, Read, Result, ScannerState, Spaces, Stop, Whitespace, Yes, [], after, after_spaces, ap, append_assoc, arith, begins_with, blanks_and_comment, comment_after, comment_of, eqb-true, false, has_no_break, if◌then◌else◌, in_line_position, is_blank, is_break, is_line, is_on_line, is_one_of, is_separation, leading, lexed, nat_tests, not, or_false, or_true, past, past_blanks_and_comment, past_comment, past_line_rest, position_after, position_append, position_in_line, refl, refused, same_break, skip_spaces, skip_while, space, space_step, spaces_end, span_cut, subst, sym, true, walk, went, with_found, ℕ, ◌&&◌, ◌++◌, ◌==◌, ◌||◌, ◌∙◌, ◌∷◌, ◌≡◌}
+use Rattle.proof_scanner.proofs.Common.{At, Bool, Err, Fault, Holds, List, No, Ok, Position, Read, Result, ScannerState, Whitespace, Yes, [], after, after_spaces, ap, append_assoc, arith, begins_with, blanks_and_comment, comment_after, comment_of, eqb-true, false, has_no_break, if◌then◌else◌, in_line_position, is_blank, is_break, is_line, is_on_line, is_one_of, is_separation, leading, lexed, nat_tests, not, or_false, or_true, past, past_blanks_and_comment, past_comment, past_line_rest, position_after, position_append, position_in_line, refl, refused, same_break, skip_spaces, skip_while, space, space_step, spaces_end, span_cut, subst, sym, true, walk, went, with_found, ℕ, ◌&&◌, ◌++◌, ◌==◌, ◌||◌, ◌∙◌, ◌∷◌, ◌≡◌}
 use Rattle.yaml_tokens.specs.declared.problem.Problem.TheVariants as problem
 use Rattle.proof_scanner.proofs.Cut.Pieces.Separations.{no_break_append}
 
@@ -19,53 +19,29 @@ with_blanks w l = record { found_tabs = w.found_tabs || is_one_of l 9; has_valid
 pub no_break_in_blanks : (a : List ℕ) → has_no_break (leading is_blank a) ≡ true
 unfolding is_blank is_break
 no_break_in_blanks [] = refl
-no_break_in_blanks (c ∷ a) = by (c == 32) (c == 9) refl refl (no_break_in_blanks a)
-  where
-    by : (x y : Bool) → (c == 32) ≡ x → (c == 9) ≡ y → has_no_break (leading is_blank a) ≡ true → has_no_break (if (x || y) then c ∷ leading is_blank a else []) ≡ true
-    by true y e f h = let same : c ≡ 32 = eqb-true c 32 e in rw same h
-    by false b e f h = grind arith
-
-same_spaces : (p q : Position) (w v : Whitespace) (a : List ℕ) → p ≡ q → w.found_tabs ≡ v.found_tabs → w.has_valid_yaml_ws ≡ v.has_valid_yaml_ws →
-    ◌≡◌ {A = Stop Spaces} (record { rest = a; state = record { position = p; found = w } }) (record { rest = a; state = record { position = q; found = v } })
-same_spaces p q w v a e f g = ap (λ (x : Position). record { rest = a; state = record { position = x; found = w } }) e ∙ ap (λ (x : Whitespace). record { rest = a; state = record { position = q; found = x } }) (ap (λ b. record { found_tabs = b; has_valid_yaml_ws = w.has_valid_yaml_ws }) f ∙ ap (λ b. record { found_tabs = v.found_tabs; has_valid_yaml_ws = b }) g)
+no_break_in_blanks (c ∷ a) = grind (arith, nat_tests, eqb-true, no_break_in_blanks a)
 
 blanks_walked : (a : List ℕ) (p : Position) (w : Whitespace) →
     walk (space_step Yes) a (record { position = p; found = w }) ≡ record { rest = after is_blank a; state = record { position = position_after p (leading is_blank a) []; found = with_blanks w (leading is_blank a) } }
 unfolding is_blank is_break
-blanks_walked [] p w = same_spaces p p w (with_blanks w []) [] refl (sym (or_false w.found_tabs)) (sym (or_false w.has_valid_yaml_ws))
+blanks_walked [] p w = ap (λ (x : Position). record { rest = []; state = record { position = x; found = w } }) refl ∙ ap (λ (x : Whitespace). record { rest = []; state = record { position = p; found = x } })
+    (ap (λ b. record { found_tabs = b; has_valid_yaml_ws = w.has_valid_yaml_ws }) (sym (or_false w.found_tabs)) ∙ ap (λ b. record { found_tabs = (with_blanks w []).found_tabs; has_valid_yaml_ws = b }) (sym (or_false w.has_valid_yaml_ws)))
 blanks_walked (c ∷ a) p w = grind (arith, blanks_walked a)
 
 -- ---- a comment
 
 pub no_break_in_line : (a : List ℕ) → has_no_break (leading is_on_line a) ≡ true
 no_break_in_line [] = refl
-no_break_in_line (c ∷ a) = by (is_break c) refl (no_break_in_line a)
-  where
-    by : (b : Bool) → is_break c ≡ b → has_no_break (leading is_on_line a) ≡ true → has_no_break (if not b then c ∷ leading is_on_line a else []) ≡ true
-    by true e h = refl
-    by false e h = rw e h
+no_break_in_line (c ∷ a) = grind (arith, nat_tests, eqb-true, no_break_in_line a)
 
 comment_passed : (a : List ℕ) (p : Position) → skip_while is_line a p ≡ record { rest = after is_on_line a; position = position_after p (leading is_on_line a) []; value = tt }
 comment_passed [] p = refl
-comment_passed (c ∷ a) p = by (is_break c) refl (comment_passed a (past p))
-  where
-    by : (b : Bool) → is_break c ≡ b → skip_while is_line a (past p) ≡ record { rest = after is_on_line a; position = position_after (past p) (leading is_on_line a) []; value = tt } →
-        skip_while is_line (c ∷ a) p ≡ record { rest = (if not b then after is_on_line a else c ∷ a); position = position_after p (if not b then c ∷ leading is_on_line a else []) []; value = tt }
-    by true e h = rw (sym (same_break c) ∙ e) refl
-    by false e h = rw (sym (same_break c) ∙ e) (h ∙ ap (λ q. record { rest = after is_on_line a; position = position_after q (leading is_on_line a) []; value = tt }) (sym (in_line_position c (leading is_on_line a ++ []) p (rw e refl))))
+comment_passed (c ∷ a) p = grind (arith, nat_tests, eqb-true, same_break, in_line_position, comment_passed a (past p))
 
 -- ---- both
 
 pub line_rest_in_line : (a : List ℕ) → has_no_break (blanks_and_comment a) ≡ true
-line_rest_in_line a = no_break_append (leading is_blank a) (comment_of (after is_blank a)) (no_break_in_blanks a) (of_comment (after is_blank a))
-  where
-    of_comment : (a : List ℕ) → has_no_break (comment_of a) ≡ true
-    of_comment [] = refl
-    of_comment (c ∷ a) = by (c == 35) (no_break_in_line (c ∷ a))
-      where
-        by : (b : Bool) → has_no_break (leading is_on_line (c ∷ a)) ≡ true → has_no_break (if b then leading is_on_line (c ∷ a) else []) ≡ true
-        by true h = h
-        by false h = refl
+line_rest_in_line a = grind (arith, nat_tests, eqb-true, no_break_append, no_break_in_blanks, no_break_in_line)
 
 -- blanks and a comment, and the text after them, are the text
 pub line_rest_cut : (a : List ℕ) → a ≡ blanks_and_comment a ++ past_blanks_and_comment a
@@ -76,32 +52,17 @@ line_rest_cut a = span_cut is_blank a ∙ (ap (λ r. leading is_blank a ++ r) (c
     comment_cut (c ∷ b) = by (c == 35) (span_cut is_on_line (c ∷ b))
       where
         by : (x : Bool) → c ∷ b ≡ leading is_on_line (c ∷ b) ++ after is_on_line (c ∷ b) → c ∷ b ≡ (if x then leading is_on_line (c ∷ b) else []) ++ (if x then after is_on_line (c ∷ b) else c ∷ b)
-        by true e = e
-        by false e = refl
+        by a e = grind (arith, nat_tests, eqb-true)
 
 comment_fills : (a : List ℕ) → is_separation true (leading is_on_line a) (after is_on_line a) ≡ true
 comment_fills [] = refl
-comment_fills (c ∷ a) = by (is_break c) refl (comment_fills a)
-  where
-    by : (b : Bool) → is_break c ≡ b → is_separation true (leading is_on_line a) (after is_on_line a) ≡ true → is_separation true (if not b then c ∷ leading is_on_line a else []) (if not b then after is_on_line a else c ∷ a) ≡ true
-    by true e h = rw e refl
-    by false e h = ap (λ b. is_separation (not b) (leading is_on_line a) (after is_on_line a)) e ∙ h
+comment_fills (c ∷ a) = grind (arith, nat_tests, eqb-true, comment_fills a)
 
 -- They are a separation.
 pub line_rest_fills : (a : List ℕ) → is_separation false (blanks_and_comment a) (past_blanks_and_comment a) ≡ true
 unfolding is_blank is_break
 line_rest_fills [] = refl
-line_rest_fills (c ∷ a) = by (c == 32) (c == 9) refl refl (line_rest_fills a)
-  where
-    hash : (x : Bool) → (c == 35) ≡ x → is_separation false (if x then leading is_on_line (c ∷ a) else []) (if x then after is_on_line (c ∷ a) else c ∷ a) ≡ true
-    hash true e = let same : c ≡ 35 = eqb-true c 35 e in rw same (comment_fills a)
-    hash false e = refl
-
-    by : (x y : Bool) → (c == 32) ≡ x → (c == 9) ≡ y → is_separation false (blanks_and_comment a) (past_blanks_and_comment a) ≡ true →
-        is_separation false ((if (x || y) then c ∷ leading is_blank a else []) ++ comment_of (if (x || y) then after is_blank a else c ∷ a)) (past_comment (if (x || y) then after is_blank a else c ∷ a)) ≡ true
-    by true y e f h = let same : c ≡ 32 = eqb-true c 32 e in rw same h
-    by false true e f h = let same : c ≡ 9 = eqb-true c 9 f in rw same h
-    by false false e f h = hash (c == 35) refl
+line_rest_fills (c ∷ a) = grind (arith, nat_tests, eqb-true, comment_fills, line_rest_fills a)
 
 -- whether a text begins with no blank and no comment
 abbrev pub is_clear : List ℕ → Bool
@@ -115,18 +76,10 @@ past_rest_is_clear (c ∷ a) = by (c == 32) (c == 9) refl refl (past_rest_is_cle
   where
     line_end : (b : List ℕ) → is_clear (after is_on_line b) ≡ true
     line_end [] = refl
-    line_end (d ∷ b) = on (d == 10) (d == 13) refl refl (line_end b)
-      where
-        on : (x y : Bool) → (d == 10) ≡ x → (d == 13) ≡ y → is_clear (after is_on_line b) ≡ true → is_clear (if not (x || y) then after is_on_line b else d ∷ b) ≡ true
-        on true y e f h = let same : d ≡ 10 = eqb-true d 10 e in rw same refl
-        on false a e f h = grind arith
-
-    hash : (x : Bool) → (c == 35) ≡ x → (c == 32) ≡ false → (c == 9) ≡ false → is_clear (if x then after is_on_line (c ∷ a) else c ∷ a) ≡ true
-    hash true e f g = line_end (c ∷ a)
-    hash false e f g = rw (e, f, g) refl
+    line_end (d ∷ b) = grind (arith, nat_tests, eqb-true, line_end b)
 
     by : (x y : Bool) → (c == 32) ≡ x → (c == 9) ≡ y → is_clear (past_blanks_and_comment a) ≡ true → is_clear (past_comment (if (x || y) then after is_blank a else c ∷ a)) ≡ true
-    by b y e f h = grind (arith, nat_tests, hash, eqb-true)
+    by b y e f h = grind (arith, nat_tests, line_end, eqb-true)
 
 -- ---- what the model reads
 
@@ -142,39 +95,22 @@ pub data IsSpaced (a : List ℕ) (p : Position) (x : Result (Read Whitespace) Fa
 -- where blanks stand, a text begins with no comment
 blank_first : (a : List ℕ) → (is_one_of (leading is_blank a) 9 || is_one_of (leading is_blank a) 32) ≡ true → begins_with 35 a ≡ false
 unfolding is_blank
-blank_first [] h = refl
-blank_first (c ∷ a) h = by (c == 35) refl h
-  where
-    by : (x : Bool) → (c == 35) ≡ x → (is_one_of (leading is_blank (c ∷ a)) 9 || is_one_of (leading is_blank (c ∷ a)) 32) ≡ true → x ≡ false
-    by true e h = let same : c ≡ 35 = eqb-true c 35 e in absurd (cc (rw same at h))
-    by false e h = refl
+blank_first b h = grind (arith, nat_tests, eqb-true)
 
 -- where none stands, it begins after them
 no_blank_first : (a : List ℕ) → (is_one_of (leading is_blank a) 9 || is_one_of (leading is_blank a) 32) ≡ false → after is_blank a ≡ a
 unfolding is_blank
 no_blank_first [] h = refl
-no_blank_first (c ∷ a) h = by (c == 32) (c == 9) refl refl h
-  where
-    by : (x y : Bool) → (c == 32) ≡ x → (c == 9) ≡ y → (is_one_of (if (x || y) then c ∷ leading is_blank a else []) 9 || is_one_of (if (x || y) then c ∷ leading is_blank a else []) 32) ≡ false → (if (x || y) then after is_blank a else c ∷ a) ≡ c ∷ a
-    by true y e f h = let same : c ≡ 32 = eqb-true c 32 e in absurd (cc (or_true (is_one_of (leading is_blank a) 9), rw same at h))
-    by false b e f h = grind arith
+no_blank_first (c ∷ a) h = grind (arith, nat_tests, eqb-true, or_true)
 
 clear_first : (a : List ℕ) → begins_with 35 (after is_blank a) ≡ false → begins_with 35 a ≡ false
 unfolding is_blank
-clear_first [] h = refl
-clear_first (c ∷ a) h = by (c == 35) refl h
-  where
-    by : (x : Bool) → (c == 35) ≡ x → begins_with 35 (after is_blank (c ∷ a)) ≡ false → x ≡ false
-    by true e h = let same : c ≡ 35 = eqb-true c 35 e in absurd (cc (rw same at h))
-    by false e h = refl
+clear_first b h = grind (arith, nat_tests, eqb-true)
 
 pub spaced_exactly : (a : List ℕ) (p : Position) → IsSpaced a p (space Yes a p)
 unfolding space
-spaced_exactly a p = subst (λ x. IsSpaced a p (spaces_end x)) (sym (blanks_walked a p none)) (of (after is_blank a) refl)
+spaced_exactly a p = subst (λ x. IsSpaced a p (spaces_end x)) (sym (blanks_walked a p (record { found_tabs = false; has_valid_yaml_ws = false }))) (of (after is_blank a) refl)
   where
-    none : Whitespace
-    none = record { found_tabs = false; has_valid_yaml_ws = false }
-
     l : List ℕ
     l = leading is_blank a
 
@@ -184,43 +120,22 @@ spaced_exactly a p = subst (λ x. IsSpaced a p (spaces_end x)) (sym (blanks_walk
     at : List ℕ → Position → Result (Read Whitespace) Fault
     at r x = Ok (record { rest = r; position = x; value = found_in l })
 
-    end : (b : List ℕ) → after is_blank a ≡ b → past_comment b ≡ b → comment_of b ≡ [] → at b q ≡ at (past_blanks_and_comment a) (past_line_rest p a)
-    end b e f g =
-        ap (λ r. at r q) (sym f ∙ ap past_comment (sym e)) ∙
-        ap (λ m. at (past_blanks_and_comment a) (position_after p m [])) (sym (append-nil l) ∙ ap (λ m. l ++ m) (sym g ∙ ap comment_of (sym e)))
-
     of : (b : List ℕ) → after is_blank a ≡ b → IsSpaced a p (after_spaces b (record { position = q; found = found_in l }))
-    of [] e = parted (clear_first a (ap (begins_with 35) e)) (end [] e refl refl)
+    of [] e = parted (clear_first a (ap (begins_with 35) e)) (grind (arith, nat_tests, eqb-true, q, append-nil, l))
     of (c ∷ b) e = by (c == 35) refl
       where
         by : (x : Bool) → (c == 35) ≡ x → IsSpaced a p (if x then comment_after (found_in l) (c ∷ b) q else at (c ∷ b) q)
-        by false f = parted (clear_first a (ap (begins_with 35) e ∙ f)) (end (c ∷ b) e (rw f refl) (rw f refl))
+        by false f = parted (clear_first a (ap (begins_with 35) e ∙ f)) (grind (arith, nat_tests, eqb-true, q, append-nil, l))
         by true f = found (is_one_of l 9 || is_one_of l 32) refl
           where
-            m : List ℕ
-            m = leading is_on_line (c ∷ b)
-
-            is_m : comment_of (after is_blank a) ≡ m
-            is_m = ap comment_of e ∙ rw f refl
-
-            is_rest : past_comment (after is_blank a) ≡ after is_on_line (c ∷ b)
-            is_rest = ap past_comment e ∙ rw f refl
-
-            position : position_after q m [] ≡ past_line_rest p a
-            position =
-                ap (λ x. position_after x m []) (same_in_line p l [] (m ++ []) (no_break_in_blanks a)) ∙ (sym (position_append p l m []) ∙ ap (λ x. position_after p (l ++ x) []) (sym is_m))
-
             found : (x : Bool) → (is_one_of l 9 || is_one_of l 32) ≡ x → IsSpaced a p (if x then Ok (with_found (found_in l) (skip_while is_line (c ∷ b) q)) else Err (At problem.CommentNotSeparated q))
-            found true g = parted (blank_first a g) (ap (λ r. Ok (with_found (found_in l) r)) (comment_passed (c ∷ b) q) ∙ (ap (λ x. at (after is_on_line (c ∷ b)) x) position ∙ ap (λ r. at r (past_line_rest p a)) (sym is_rest)))
+            found true g = parted (blank_first a g) (ap (λ r. Ok (with_found (found_in l) r)) (comment_passed (c ∷ b) q) ∙ (ap (λ x. at (after is_on_line (c ∷ b)) x)
+                (ap (λ x. position_after x (leading is_on_line (c ∷ b)) []) (same_in_line p l [] ((leading is_on_line (c ∷ b)) ++ []) (no_break_in_blanks a)) ∙ (sym (position_append p l (leading is_on_line (c ∷ b)) []) ∙ ap (λ x. position_after p (l ++ x) []) (sym (ap comment_of e ∙ rw f refl)))) ∙ ap (λ r. at r (past_line_rest p a)) (sym (ap past_comment e ∙ rw f refl))))
             found false g = glued (At problem.CommentNotSeparated q) (ap (begins_with 35) (sym (no_blank_first a g) ∙ e) ∙ f) refl
 
 -- where no comment stands directly, they are read
 pub spaced_parted : (a : List ℕ) (p : Position) → begins_with 35 a ≡ false → space Yes a p ≡ Ok (record { rest = past_blanks_and_comment a; position = past_line_rest p a; value = found_in (leading is_blank a) })
-spaced_parted a p none = by (space Yes a p) (spaced_exactly a p)
-  where
-    by : (x : Result (Read Whitespace) Fault) → IsSpaced a p x → x ≡ Ok (record { rest = past_blanks_and_comment a; position = past_line_rest p a; value = found_in (leading is_blank a) })
-    by x (parted h e) = e
-    by x (glued f h e) = absurd (cc (h, none))
+spaced_parted a p none = grind (arith, nat_tests, eqb-true, spaced_exactly)
 
 -- the state after blanks and a comment
 abbrev pub past_rest : ScannerState → ScannerState
@@ -228,11 +143,7 @@ past_rest t = record { rest = past_blanks_and_comment t.rest; held = record t.he
 
 pub rest_read : (t : ScannerState) (go : Whitespace → ScannerState → Result ScannerState Fault) (P : ScannerState → Type 0) → (begins_with 35 t.rest ≡ false → Holds P (go (found_in (leading is_blank t.rest)) (past_rest t))) →
     Holds P (lexed (space Yes t.rest t.held.position) t.held go)
-rest_read t go P f = by (space Yes t.rest t.held.position) (spaced_exactly t.rest t.held.position)
-  where
-    by : (x : Result (Read Whitespace) Fault) → IsSpaced t.rest t.held.position x → Holds P (lexed x t.held go)
-    by x (parted h e) = rw e (f h)
-    by x (glued y h e) = rw e refused
+rest_read t go a f = grind (arith, nat_tests, eqb-true, spaced_exactly, parted, glued, refused)
 
 -- TABs and spaces, and a comment, are skipped, and that is all of them.
 pub rest_skipped : (t : ScannerState) → Holds (λ u. (u ≡ past_rest t) × (begins_with 35 t.rest ≡ false)) (skip_spaces Yes t)
@@ -242,11 +153,4 @@ rest_skipped t = rest_read t (λ w u. Ok u) _ (λ h. went (refl, h))
 -- after them no further spaces are skipped
 pub none_skipped : (t : ScannerState) → is_clear t.rest ≡ true → skip_spaces No t ≡ Ok t
 unfolding skip_spaces space is_blank
-none_skipped t h = by t.rest t.held.position h
-  where
-    by : (a : List ℕ) (p : Position) → is_clear a ≡ true → lexed (space No a p) t.held (λ w u. Ok u) ≡ Ok (record { rest = a; held = record t.held { position = p } })
-    by [] p h = refl
-    by (c ∷ a) p h = on (c == 32) (c == 35) (c == 9) refl refl refl h
-      where
-        on : (x y z : Bool) → (c == 32) ≡ x → (c == 35) ≡ y → (c == 9) ≡ z → (not (x || z) && not y) ≡ true → lexed (space No (c ∷ a) p) t.held (λ w u. Ok u) ≡ Ok (record { rest = c ∷ a; held = record t.held { position = p } })
-        on b y z e f g h = grind (arith, nat_tests, eqb-true)
+none_skipped t h = grind (arith, nat_tests, eqb-true)

@@ -1,6 +1,5 @@
 -- What stands after a block scalar that the scanner reads: it stands clear of the scalar.
-use Rattle.proof_scanner.proofs.Common.{AreLines, Block, BlockRead, BlockStyle, Bool, Break, Fits, IsBlockRead, Lined, List, None, Ok, Option, Position, Read, Some, [], after_break, after_line, after_spell, along, and_parts, ap, are_empty, arith, begins_with, block, block_may_end, block_read, collection_of, eqb-true, false, first_content, first_empty, first_header, further_position, has_no_nul, if◌then◌else◌, indicator_of, innermost, is_at_end, is_empty, is_empty_line, is_literal_style, is_none, is_shallow, is_single, is_spaces, is_tabbed, leading_spaces, least_column, length, lined, lines_may_end, nat_le, nat_lt, nat_tests, not, past_spaces, position_after, position_past, read_as, read_block, read_lines, read_may_end, refl, slice_index, space_past, spell, split, split_spell, suc, sym, tab, texts, true, whole_block, ℕ, ◌&&◌, ◌++◌, ◌+◌, ◌==◌, ◌||◌, ◌∙◌, ◌∷◌, ◌≡◌, ◌≤◌}
-use Rattle.defs_text.specs.Classes.{space}
+use Rattle.proof_scanner.proofs.Common.{AreLines, Block, BlockRead, BlockStyle, Bool, Break, IsBlockRead, Lined, List, None, Ok, Option, Position, Read, Some, [], after_line, after_spell, and_parts, ap, are_empty, arith, begins_with, block, block_may_end, block_read, collection_of, eqb-true, false, first_content, first_empty, first_header, further_position, has_no_nul, indicator_of, innermost, is_at_end, is_empty, is_empty_line, is_literal_style, is_none, is_shallow, is_tabbed, leading_spaces, least_column, lined, lines_may_end, nat_le, nat_lt, nat_tests, not, past_spaces, position_after, position_past, read_as, read_block, read_lines, read_may_end, refl, slice_index, space_past, spell, split, split_spell, sym, tab, texts, true, whole_block, ℕ, ◌&&◌, ◌++◌, ◌+◌, ◌==◌, ◌||◌, ◌∙◌, ◌∷◌, ◌≡◌}
 use Rattle.proof_lexers.specs.BlockScan.{read}
 use Rattle.proof_lexers.proofs.Blocks.Ends.{scans_end}
 use Rattle.proof_scanner.proofs.Cut.Pieces.Blocks.{piece_has_line}
@@ -25,17 +24,11 @@ written_by collection piece next b z h none = by z.lines z.last z.is z.are h
     by [] last is are h = absurd (cc h)
     by (l ∷ ls) a is are h = grind arith
 
-split_is : (piece : List ℕ) (z : Lined piece) → split piece ≡ record { complete = texts z.lines; last = z.last }
-split_is piece z = ap split z.is ∙ split_spell z.lines z.last z.are z.inner
-
 pub written : (collection : Option ℕ) (piece next : List ℕ) (b : BlockRead) → block_read collection piece next ≡ Some b → is_at_end next ≡ false → Written piece next
 written collection piece next b h e =
     let z : Lined piece = lined piece in
-    let none : (slice_index next 0 == 10) ≡ false = first_is next ∙ (piece_has_line collection piece next b e h).1 in
-    written_by collection piece next b z (ap (λ s. read_lines collection s.complete s.last next false) (sym (split_is piece z)) ∙ (ap (λ x. read_lines collection (split piece).complete (split piece).last next x) (sym e) ∙ h)) none
-  where
-    first_is : (r : List ℕ) → (slice_index r 0 == 10) ≡ begins_with 10 r
-    first_is a = grind arith
+    let none : (slice_index next 0 == 10) ≡ false = (grind arith) ∙ (piece_has_line collection piece next b e h).1 in
+    written_by collection piece next b z (ap (λ s. read_lines collection s.complete s.last next false) (sym (ap split z.is ∙ split_spell z.lines z.last z.are z.inner)) ∙ (ap (λ x. read_lines collection (split piece).complete (split piece).last next x) (sym e) ∙ h)) none
 
 -- ---- positions
 
@@ -46,14 +39,11 @@ first_of (c ∷ w) k a b = refl
 -- the lines are so before further text too
 before_text : (ls : List Line) (next : List ℕ) → AreLines ls [] → (slice_index next 0 == 10) ≡ false → AreLines ls next
 before_text [] next a h = tt
-before_text (l ∷ ls) next a h = (a.0, fits l.by a.1, before_text ls next a.2 h)
+before_text (l ∷ ls) next a h = (a.0, grind (arith, same), before_text ls next a.2 h)
   where
     same : (ls : List Line) → (slice_index (spell ls []) 0 == 10) ≡ false → (slice_index (spell ls next) 0 == 10) ≡ false
     same [] k = h
     same (l ∷ ls) k = first_of l.text l.by (spell ls next) (spell ls []) ∙ k
-
-    fits : (k : Break) → Fits k (spell ls []) → Fits k (spell ls next)
-    fits a f = grind (arith, same)
 
 -- before further text a piece ends where a line begins
 pub ends_at_margin : (collection : Option ℕ) (piece next : List ℕ) (b : BlockRead) (p : Position) → block_read collection piece next ≡ Some b → is_at_end next ≡ false → (position_after p piece next).col ≡ 0
@@ -64,31 +54,14 @@ ends_at_margin collection piece next b p h e =
 
 pub spaces_col : (p : Position) (a : List ℕ) → (past_spaces p a).col ≡ p.col + leading_spaces a
 spaces_col p [] = omega arith
-spaces_col p (c ∷ a) = by (c == space) refl (spaces_col (position_past p c a) a)
-  where
-    by : (b : Bool) → (c == space) ≡ b → (past_spaces (position_past p c a) a).col ≡ (position_past p c a).col + leading_spaces a →
-        (let q : Position = (if b then past_spaces (position_past p c a) a else p) in q.col) ≡ p.col + (if b then suc (leading_spaces a) else 0)
-    by true e h =
-        let same : c ≡ 32 = eqb-true c space e in
-        let one : (position_past p c a).col ≡ p.col + 1 = ap (λ x. (position_past p x a).col) same ∙ ap (λ (q : Position). q.col) (space_past p a) in
-        omega (arith, h, one)
-    by false e h = omega arith
+spaces_col p (c ∷ a) = grind (arith, nat_tests, eqb-true, space_past, spaces_col (position_past p c a) a)
 
 -- ---- a scalar without content
 
 none_from : (column : ℕ) (ls : List Line) (p : Position) → AreLines ls [] → are_empty column (texts ls) ≡ true → p.col ≡ 0 → first_content column false p (spell ls []) ≡ None
 unfolding is_empty_line
 none_from column [] p a h z = refl
-none_from column (l ∷ ls) p a h z =
-    let q = and_parts (is_spaces l.text && nat_le (length l.text) column) (are_empty column (texts ls)) h in
-    let r = and_parts (is_spaces l.text) (nat_le (length l.text) column) q.0 in
-    let short : length l.text ≤ column = grind (arith, nat_tests, r.1) in
-    first_empty column l (spell ls []) p r.0 (omega (arith, short, z)) a.1 ∙ none_from column ls (after_line l p) a.2 q.1 refl
-
-no_content : (column : ℕ) (piece next : List ℕ) (p : Position) (w : Written piece next) → are_empty column (texts w.lines) ≡ true → first_content column true p piece ≡ None
-no_content column piece next p w h =
-    ap (λ x. first_content column true p x) w.is ∙
-    (first_header column w.header.text w.header.by (spell w.lines []) p w.are.0 w.are.1 ∙ none_from column w.lines (after_break w.header.by (along w.header.text p)) w.are.2 h refl)
+none_from column (l ∷ ls) p a h z = grind (arith, nat_tests, eqb-true, and_parts, first_empty, none_from column ls (after_line l p) a.2)
 
 -- ---- what follows
 
@@ -112,7 +85,7 @@ module _ (indent column : ℕ) (p : Position) (b : BlockRead) (piece next : List
       let at : (further_position p piece next).col ≡ leading_spaces next = omega (arith, margin, spaces) in
       let not_shallow : are_empty column ls ≡ true → (nat_le indent (leading_spaces next) && nat_lt (leading_spaces next) column) ≡ false =
       λ empty.
-      let none : first_content b.column true p piece ≡ None = no_content b.column piece next p w (ap (λ c. are_empty c ls) same ∙ empty) in
+      let none : first_content b.column true p piece ≡ None = (grind (arith, nat_tests, eqb-true, first_header, none_from)) in
       ap (λ c. nat_le indent (leading_spaces next) && nat_lt (leading_spaces next) c) (sym same) ∙
       (ap (λ k. nat_le indent k && nat_lt k b.column) (sym at) ∙
       (ap (λ o. ((not false && is_none o) && nat_le indent (further_position p piece next).col) && nat_lt (further_position p piece next).col b.column) (sym none) ∙
@@ -121,13 +94,10 @@ module _ (indent column : ℕ) (p : Position) (b : BlockRead) (piece next : List
       (ap (λ x. lines_may_end bs b.column x next) lines ∙
       (ap (λ c. lines_may_end bs c (w.header.text ∷ ls) next) same ∙
       both_hold (not (is_empty ls && begins_with tab next)) (not (are_empty column ls) || nat_lt (leading_spaces next) (least_column bs true) || nat_le column (leading_spaces next))
-      (no_tab w.header.text ls (begins_with tab next) (ap (λ x. is_single x && begins_with tab next) (sym lines) ∙ untabbed)) (clear_by (are_empty column ls) (leading_spaces next) l.1 not_shallow)))
+      (grind arith) (clear_by (are_empty column ls) (leading_spaces next) l.1 not_shallow)))
     where
       both_hold : (x y : Bool) → x ≡ true → y ≡ true → (x && y) ≡ true
       both_hold x y e f = rw (e, f) refl
-
-      no_tab : (h : List ℕ) (ls : List (List ℕ)) (t : Bool) → (is_single (h ∷ ls) && t) ≡ false → not (is_empty ls && t) ≡ true
-      no_tab h a t e = grind arith
 
 -- A block scalar that was read, and was not refused for what stands after it, may end there.
 pub block_clear : (indent : ℕ) (p : Position) (b : BlockRead) (piece next bs : List ℕ) → IsLeast indent bs → block_read (collection_of indent) piece next ≡ Some b → is_tabbed piece next ≡ false → is_shallow indent p b piece next ≡ false → block_may_end bs piece next ≡ true

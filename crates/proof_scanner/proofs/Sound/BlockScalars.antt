@@ -1,13 +1,13 @@
 -- Block scalars: what holds where one begins holds between two fetches after it. No key waits over it, and after it a key may begin.
-use Rattle.proof_scanner.proofs.Common.{Act, Arrives, Block, BlockStyle, Bool, HasNoTabs, Holds, IsLive, IsOpenOutside, IsPiece, IsReadOn, IsTakenBy, IsWritten, Key, KnowsKey, Levels, Line, List, MayChoose, None, NotBefore, Ok, Option, Outside, Position, Previous, Read, ScannerState, Site, SoFar, Some, Stands, Tok, Token, [], act_of, allow_key, ap, append-nil, append_assoc, arith, awaits_past, before_by, begins_line, begun_by, begun_outside, block, block_may_end, block_position, block_read, block_scalar, block_style, chosen, collection_of, columns, content_position, ends_at, false, fetch_block_scalar, folded, free, further_lines_stand, further_position, gives_block_scalar, has_break, has_no_nul, has_tab_within, if◌then◌else◌, indicator_of, inl, innermost, inr, is_at_end, is_break, is_deeper, is_empty, is_in_column, is_indented_by_spaces, is_literal, is_literal_style, is_nul, is_one_of, is_separation, least_column, least_for, lexed, line_past, literal, may_precede, may_stand, nat_lt, nat_tests, no_nul_after, not, on_held, position_after, previous_by, push, put, read, read_block, refl, seen, shown_position, site_at, site_here, site_in, site_past, subst, suc, sym, take, taken, token, tokens_up_to, true, unroll_non_block_indents, went, without_open, without_spaces, zero, ℕ, ◌&&◌, ◌++◌, ◌||◌, ◌∙◌, ◌∷◌, ◌≡◌, ◌≤◌, ◌⊎◌}
+use Rattle.proof_scanner.proofs.Common.{Act, Arrives, Block, BlockStyle, Bool, HasNoTabs, Holds, IsLive, IsPiece, IsReadOn, IsTakenBy, Key, KnowsKey, Levels, Line, List, MayChoose, None, NotBefore, Ok, Option, Outside, Position, Previous, Read, ScannerState, Site, SoFar, Some, Stands, Tok, Token, [], act_of, allow_key, ap, append-nil, append_assoc, arith, awaits_past, before_by, begins_line, begun_by, block, block_may_end, block_position, block_read, block_scalar, block_style, chosen, collection_of, content_position, false, fetch_block_scalar, folded, free, further_lines_stand, further_position, gives_block_scalar, has_break, has_no_nul, has_tab_within, if◌then◌else◌, inl, innermost, inr, is_break, is_empty, is_in_column, is_indented_by_spaces, is_literal, is_one_of, is_separation, least_column, least_for, lexed, line_past, literal, may_precede, may_stand, nat_tests, no_nul_after, not, on_held, position_after, previous_by, push, read, read_block, refl, seen, shown_position, site_at, site_here, site_in, site_past, subst, suc, sym, take, taken, token, tokens_up_to, true, unroll_non_block_indents, went, without_open, without_spaces, zero, ℕ, ◌&&◌, ◌++◌, ◌||◌, ◌∙◌, ◌∷◌, ◌≡◌, ◌⊎◌, eqb-true}
 use Rattle.model_scanner.specs.declared.kind.BlockStyle as kind
 use Rattle.model_scanner.specs.declared.kind.BlockStyle.TheVariants.{Literal, Folded}
 use Rattle.defs_token.specs.Account as pieces
 use Rattle.proof_scanner.proofs.Cut.Nodes.{IsDeep}
 use Rattle.proof_scanner.proofs.Cut.Positions.{not_before_after, not_before_then, not_before_same, after_piece, weaker}
 use Rattle.proof_scanner.proofs.Cut.Saved.{saved_keys, saved_is}
-use Rattle.proof_scanner.proofs.Cut.Pieces.Blocks.{spaces_of, spaces_cut, spaces_fill, spaces_position, some_piece, piece_of, token_of, IsBelow, below}
-use Rattle.proof_scanner.proofs.Known.Read.{keyless, knows_saved}
+use Rattle.proof_scanner.proofs.Cut.Pieces.Blocks.{spaces_of, spaces_cut, spaces_fill, spaces_position, some_piece, token_of, IsBelow, below}
+use Rattle.proof_scanner.proofs.Known.Read.{knows_saved}
 use Rattle.proof_scanner.proofs.Known.Steps.{is_of_node}
 use Rattle.proof_scanner.proofs.Sound.Arrivals.{some_rest}
 use Rattle.proof_scanner.proofs.Sound.BlockEnds.{IsLeast, BlockAs, block_as, ends_at_margin}
@@ -35,10 +35,6 @@ no_tab_in zero t = refl
 no_tab_in (suc n) [] = grind arith
 no_tab_in (suc n) (c ∷ r) = grind (arith, no_tab_in n r)
 
--- spaces indent by no TAB
-spaces_indent : (bs : List ℕ) (awaits : Bool) (t : List ℕ) → is_indented_by_spaces block_scalar bs awaits (spaces_of t) ≡ true
-spaces_indent bs awaits t = ap not (ap (λ l. has_tab_within (least_column bs (awaits || false)) l) (last_whole (spaces_of t) (spaces_in_line t)) ∙ no_tab_in (least_column bs (awaits || false)) t)
-
 -- ---- its token
 
 -- what is said of the token of a block scalar
@@ -51,9 +47,6 @@ pub record IsBlockToken (style : BlockStyle) (text : List ℕ) (tok : Tok) : Typ
   pub awaits : (bs : List ℕ) (b : Bool) (next : List ℕ) → awaits_past false tok bs b next ≡ false
   pub shown : (s : Site) (piece next : List ℕ) → shown_position s piece tok next ≡ content_position (block_read (innermost s.blocks) piece next) s.position piece next
   pub is_same : tok ≡ token_of style text
-
-pub block_token : (style : BlockStyle) (text : List ℕ) → IsBlockToken style text (token_of style text)
-block_token a b = grind arith
 
 -- ---- the step
 
@@ -94,32 +87,14 @@ module _ (text : List ℕ) (t : ScannerState) (k : Option Key) (a : ArrivesBy te
   clean : has_no_nul r.next ≡ true
   clean = no_nul_after r.piece r.next (subst (λ l. has_no_nul l ≡ true) r.is_text a.is_clean)
 
-  blocks_are : here.blocks ≡ columns w.indent w.indents
-  blocks_are = a.blocks_are ∙ closed.same_columns
-
   least : IsLeast w.indent here.blocks
-  least = subst (λ bs. IsLeast w.indent bs) (sym blocks_are) closed.is_least
-
-  read_here : block_read (innermost here.blocks) r.piece r.next ≡ Some r.scalar
-  read_here = ap (λ c. block_read c r.piece r.next) (sym least.0) ∙ r.is_read
-
-  shown_is : shown_position here r.piece tok r.next ≡ block_position r.scalar.column p r.piece r.next
-  shown_is = n.shown here r.piece r.next ∙ ap (λ o. content_position o p r.piece r.next) read_here
+  least = subst (λ bs. IsLeast w.indent bs) (sym (a.blocks_are ∙ closed.same_columns)) closed.is_least
 
   abbrev seen_here : pieces.Account
   seen_here = seen (with_entries a.site a.line []) here a.separation
 
-  column_is : pieces.collection_column seen_here ≡ collection_of w.indent
-  column_is = same_innermost here.blocks ∙ sym least.0
-
-  seen_read : block_read (pieces.collection_column seen_here) r.piece r.next ≡ Some (record { style = style; column = r.scalar.column; text = r.scalar.text })
-  seen_read = ap (λ c. block_read c r.piece r.next) column_is ∙ (r.is_read ∙ ap (λ z. Some (record { style = z; column = r.scalar.column; text = r.scalar.text })) r.style_is)
-
   is_piece : IsPiece seen_here r.piece r.next None (shown_position here r.piece tok r.next) tok
-  is_piece =
-      subst (λ q. IsPiece seen_here r.piece r.next None q tok) (sym shown_is)
-      (subst (λ y. IsPiece seen_here r.piece r.next None (block_position r.scalar.column p r.piece r.next) y) (sym n.is_same)
-      (piece_of seen_here style r.piece r.next r.scalar.text (block_position r.scalar.column p r.piece r.next) None (refl, (r.scalar.column, seen_read, refl))))
+  is_piece = grind (arith, nat_tests, eqb-true, (n.shown here r.piece r.next ∙ ap (λ o. content_position o p r.piece r.next) (ap (λ c. block_read c r.piece r.next) (sym least.0) ∙ r.is_read)), (ap (λ c. block_read c r.piece r.next) (same_innermost here.blocks ∙ sym least.0) ∙ (r.is_read ∙ ap (λ z. Some (record { style = z; column = r.scalar.column; text = r.scalar.text })) r.style_is)))
 
   stands : may_stand false a.site here a.separation r.piece tok r.next ≡ true
   stands = rw (a.is_indented some, n.lines (least_for tok here) r.piece, n.precedes here.blocks r.piece r.next, r.may_end here.blocks least) refl
@@ -130,40 +105,18 @@ module _ (text : List ℕ) (t : ScannerState) (k : Option Key) (a : ArrivesBy te
     where
       by : (piece : List ℕ) → block_read (collection_of w.indent) piece r.next ≡ Some r.scalar → is_empty piece ≡ false → IsBelow p (further_position p piece r.next) rest
       by [] e h = absurd (cc h)
-      by (c ∷ piece) e h = below seen_here w.indent refl column_is c piece r.next r.scalar clean e
+      by (c ∷ piece) e h = below seen_here w.indent refl (same_innermost here.blocks ∙ sym least.0) c piece r.next r.scalar clean e
 
   dead : (y : Key) → NotBefore y.position p → IsLive y end rest → ⊥
-  dead y h l = by is_below
-    where
-      by : IsBelow p end rest → ⊥
-      by (inl e) = cc (ap is_empty e, l.1)
-      by (inr e) = let up : nat_lt p.line end.line ≡ true = e in let first : y.position.line ≤ p.line = h.0 in let last : end.line ≤ y.position.line = l.0 in grind (arith, nat_tests, up, first, last)
+  dead y h l = grind (arith, nat_tests, eqb-true, is_below)
 
   place : end ≡ position_after (position_after p r.piece r.next) gap rest
   place = spaces_position (position_after p r.piece r.next) r.next
-
-  later : NotBefore p end
-  later = subst (λ q. NotBefore p q) (sym place)
-      (not_before_then p (position_after p r.piece r.next) (position_after (position_after p r.piece r.next) gap rest) (not_before_after p r.piece r.next) (not_before_after (position_after p r.piece r.next) gap rest))
 
   -- ---- rows
 
   same_site : site_at false a.site a.separation r.piece tok r.next ≡ here
   same_site = ap (λ q. site_in false (act_of tok) q a.site) (sym (a.position_is ∙ ap (λ l. position_after a.site.position a.separation l) r.is_text)) ∙ ap (λ b. site_in false b p a.site) n.act
-
-  is_filled : is_separation false a.separation (r.piece ++ r.next) ≡ true
-  is_filled = subst (λ l. is_separation false a.separation l ≡ true) r.is_text a.is_filled
-
-  before_at : (strict : Bool) → MayChoose strict false k t.held.position t.rest → SoFar strict text (a.separation ++ (r.piece ++ r.next)) (with_entries a.site a.line []) (λ ws last. a.tokens)
-  before_at strict may = subst (λ l. SoFar strict text (a.separation ++ l) (with_entries a.site a.line []) (λ ws last. a.tokens)) r.is_text
-      (none_completes strict text (a.separation ++ t.rest) (with_entries a.site a.line []) (k ∷ []) a.tokens a.no_key refl (a.completes strict false [] may))
-
-  tokens_are : a.tokens ++ tokens_then a.site here r.piece tok r.next a.line_here ≡ t.held.tokens ++ own ∷ []
-  tokens_are =
-      ap (λ b. a.tokens ++ ((ends_at p a.site.blocks here.blocks ++ begun_outside (is_deeper p.col here.blocks) p p b false (Some a.line_here)) ++ (put (shown_position here r.piece tok r.next) tok ∷ []))) n.act ∙
-      (ap (λ ts. a.tokens ++ (ts ++ (put (shown_position here r.piece tok r.next) tok ∷ []))) (append-nil (ends_at p a.site.blocks here.blocks)) ∙
-      (ap (λ q. a.tokens ++ (ends_at p a.site.blocks here.blocks ++ (put q tok ∷ []))) shown_is ∙
-      (sym (append_assoc a.tokens (ends_at p a.site.blocks here.blocks) (own ∷ [])) ∙ ap (λ ts. ts ++ own ∷ []) (sym a.tokens_are))))
 
   abbrev site_then : Site
   site_then = site_past false here r.piece tok r.next here.blocks
@@ -178,11 +131,11 @@ module _ (text : List ℕ) (t : ScannerState) (k : Option Key) (a : ArrivesBy te
       let after : Outside = record { line = free; blocks = here.blocks } in
       let all : SoFar strict text r.next (out.outer_then text a.site a.separation r.piece r.next tok here same_site after) (λ ws last. a.tokens ++ tokens_then a.site here r.piece tok r.next a.line_here) =
       out.outer_completes text a.site a.separation r.piece r.next tok here same_site strict false a.line a.line_here after (λ ws last. a.tokens) (λ ws last. a.tokens ++ tokens_then a.site here r.piece tok r.next a.line_here)
-      (assumption (is_filled, is_solid, is_piece, stands, a.is_line, after_by (strict && is_in_column p.col here.blocks) p here.blocks (act_of tok) a.line_here n.act line, no_waiting (has_break r.piece) false refl))
-      (λ ws last h. out.outer_tokens text a.site a.separation r.piece r.next tok here same_site a.line a.line_here a.is_line a.tokens ws last h) (before_at strict may) in
+      (assumption ((subst (λ l. is_separation false a.separation l ≡ true) r.is_text a.is_filled), is_solid, is_piece, stands, a.is_line, after_by (strict && is_in_column p.col here.blocks) p here.blocks (act_of tok) a.line_here n.act line, no_waiting (has_break r.piece) false refl))
+      (λ ws last h. out.outer_tokens text a.site a.separation r.piece r.next tok here same_site a.line a.line_here a.is_line a.tokens ws last h) (subst (λ l. SoFar strict text (a.separation ++ l) (with_entries a.site a.line []) (λ ws last. a.tokens)) r.is_text (none_completes strict text (a.separation ++ t.rest) (with_entries a.site a.line []) (k ∷ []) a.tokens a.no_key refl (a.completes strict false [] may))) in
       subst (λ l. SoFar strict text l (with_entries site_then free []) (λ ws last. t.held.tokens ++ own ∷ [])) (spaces_cut r.next)
       (subst (λ es. SoFar strict text r.next (with_entries site_then free es) (λ ws last. t.held.tokens ++ own ∷ [])) n.begun
-      (subst (λ ts. SoFar strict text r.next (with_entries site_then free (begun_by tok)) (λ ws last. ts)) tokens_are all))
+      (subst (λ ts. SoFar strict text r.next (with_entries site_then free (begun_by tok)) (λ ws last. ts)) (grind (arith, nat_tests, eqb-true, append-nil, (n.shown here r.piece r.next ∙ ap (λ o. content_position o p r.piece r.next) (ap (λ c. block_read c r.piece r.next) (sym least.0) ∙ r.is_read)), append_assoc)) all))
 
   -- what may begin at it
   line_by_allowed : (strict b : Bool) (y : Option Key) → t.held.key_allowed ≡ b → k ≡ y → MayChoose strict false (saved b (new_key t) y) end rest → LineHere strict × MayChoose strict false k t.held.position t.rest
@@ -194,20 +147,12 @@ module _ (text : List ℕ) (t : ScannerState) (k : Option Key) (a : ArrivesBy te
   abbrev Then : Bool → Option Key → Bool → List Bool → Type 0
   Then strict y c cs = SoFar strict text (gap ++ rest) (chosen c cs (y ∷ []) (with_entries site_then free [])) (tokens_up_to (chosen c cs (y ∷ []) (with_entries site_then free [])) (y ∷ []) (t.held.tokens ++ own ∷ []))
 
-  is_open : IsOpenOutside key_now (position_after p r.piece r.next) end rest here.blocks
-  is_open = open_node text t k a within deep some end rest later (position_after p r.piece r.next) (after_piece p r.piece r.next is_solid)
-
   -- the saved or open key is not after the position
   before_it : (y : Key) → key_now ≡ Some y → NotBefore y.position p
-  before_it y e = by t.held.key_allowed k refl e
-    where
-      by : (b : Bool) (o : Option Key) → k ≡ o → saved b (new_key t) o ≡ Some y → NotBefore y.position p
-      by b o i e = grind (arith, not_before_same, not_before_then, weaker, not_before_after)
+  before_it y e = grind (arith, nat_tests, eqb-true, not_before_same, not_before_then, weaker, not_before_after)
 
   then_rows : (strict c : Bool) (cs : List Bool) (y : Option Key) → key_now ≡ y → MayChoose strict c y end rest → Then strict y c cs
-  then_rows strict c cs None e may =
-      let q = line_by_allowed strict t.held.key_allowed k refl refl (subst (λ o. MayChoose strict false o end rest) (sym e) tt) in
-      rows strict q.0 q.1
+  then_rows strict c cs None e may = grind (arith, nat_tests, eqb-true, line_by_allowed, rows)
   then_rows true true cs (Some y) e may = absurd (dead y (before_it y e) may)
   then_rows false true cs (Some y) e may = absurd may
   then_rows true false cs (Some y) e may =
@@ -222,28 +167,15 @@ module _ (text : List ℕ) (t : ScannerState) (k : Option Key) (a : ArrivesBy te
   taken_by (Some y) e = λ l. absurd (dead y (before_it y e) l)
 
   read_on : (b : Previous) → b ≡ block_scalar → IsReadOn b (position_after p r.piece r.next) gap rest
-  read_on b e = subst (λ z. IsReadOn z (position_after p r.piece r.next) gap rest) (sym e) (λ h. ends_at_margin (collection_of w.indent) r.piece r.next r.scalar p r.is_read (not_end r.next clean h))
-    where
-      not_end : (l : List ℕ) → has_no_nul l ≡ true → is_empty (without_spaces l) ≡ false → is_at_end l ≡ false
-      not_end [] m h = absurd (cc h)
-      not_end (c ∷ l) m h = by (is_nul c) m
-        where
-          by : (z : Bool) → (not z && has_no_nul l) ≡ true → z ≡ false
-          by true m = absurd (cc m)
-          by false m = refl
-
-  is_written : IsWritten (with_entries a.site a.line []) (keyless a.separation r.piece tok) r.next
-  is_written = (
-    is_filled,
-    (ap not is_solid, subst (λ y. IsPiece (seen (with_entries a.site a.line []) y a.separation) r.piece r.next None (shown_position y r.piece tok r.next) tok) (sym same_site) is_piece),
-  )
+  read_on b e = grind (arith, ends_at_margin, clean)
 
   scalar_reads : Reads t after_it site_then r.piece r.next gap
   scalar_reads =
       let far = adjacent_kept t after_it (before_by (previous_by tok)) r.piece r.next gap is_solid place a.was_adjacent refl (ap before_by n.before) in
       let no_tabs : HasNoTabs site_then gap rest =
-      inr (subst (λ b. is_indented_by_spaces b here.blocks (awaits_past false tok here.blocks here.awaits r.next) gap ≡ true) (sym n.before) (spaces_indent here.blocks (awaits_past false tok here.blocks here.awaits r.next) r.next)) in
-      assumption (is_solid, r, spaces_cut r.next, spaces_fill r.next rest, place, blocks_are, n.awaits here.blocks here.awaits r.next ∙ sym closed.none_open, no_tabs, sym (ap (λ z. begins_line z gap) n.before), read_on (previous_by tok) n.before, far)
+      inr (subst (λ b. is_indented_by_spaces b here.blocks (awaits_past false tok here.blocks here.awaits r.next) gap ≡ true) (sym n.before) (ap not (ap (λ l. has_tab_within (least_column here.blocks ((awaits_past false tok here.blocks here.awaits r.next) || false)) l)
+      (last_whole (spaces_of r.next) (spaces_in_line r.next)) ∙ no_tab_in (least_column here.blocks ((awaits_past false tok here.blocks here.awaits r.next) || false)) r.next))) in
+      assumption (is_solid, r, spaces_cut r.next, spaces_fill r.next rest, place, (a.blocks_are ∙ closed.same_columns), n.awaits here.blocks here.awaits r.next ∙ sym closed.none_open, no_tabs, sym (ap (λ z. begins_line z gap) n.before), read_on (previous_by tok) n.before, far)
 
   pub scalar_stands : KnowsKey text (a.separation ++ t.rest) t.held.position k → Stands text after_it
   scalar_stands known = stands_so text t after_it r.piece r.next gap [] (key_now ∷ []) (with_entries site_then free []) a.is_clean a.started a.going scalar_reads (record {
@@ -252,11 +184,11 @@ module _ (text : List ℕ) (t : ScannerState) (k : Option Key) (a : ArrivesBy te
     one_each = refl;
     are_entries = tt;
     line_is = (inl refl, refl, taken_by key_now refl);
-    is_open = is_open;
+    is_open = open_node text t k a within deep some end rest (grind (arith, nat_tests, eqb-true, place, not_before_then, not_before_after)) (position_after p r.piece r.next) (after_piece p r.piece r.next is_solid);
     no_key = refl;
     are_numbered = numbered_past text t k a within deep own t.held.key_allowed;
     carries = λ cs x key m inside some. absurd (cc inside);
-    knows = knows_saved text t r.piece r.next tok r.is_text end gap rest place (spaces_cut r.next) k a is_written within deep (ap is_of_node n.act) known;
+    knows = knows_saved text t r.piece r.next tok r.is_text end gap rest place (spaces_cut r.next) k a (grind (arith, nat_tests, eqb-true, (subst (λ l. is_separation false a.separation l ≡ true) r.is_text a.is_filled), is_solid, same_site, is_piece)) within deep (ap is_of_node n.act) known;
     completes = λ strict c cs may. then_rows strict c cs key_now refl may;
   })
 
@@ -281,9 +213,6 @@ read_state t w style x = record {
 abbrev pub levels_then : ScannerState → Levels
 levels_then t = without_open t.held.indent t.held.indents t.held.tokens
 
-pub closed_then : (text : List ℕ) (t : ScannerState) → Arrives text t → AreClosed t.held.indent t.held.indents t.held.tokens (levels_then t)
-closed_then text t a = without_is t.held.indent t.held.indents t.held.tokens a.are_levels
-
 -- What stands after a block scalar that was read, with its account; the spaces after it are the separation.
 pub block_stands : (text : List ℕ) (style : BlockStyle) (t : ScannerState) → IsDeep t.held → (o : ArrivesOutside text t) → (w : Levels) → AreClosed t.held.indent t.held.indents t.held.tokens w → (x : Read Block) → (r : BlockAs style w.indent t.held.position t.rest x) →
     Stands text (read_state t w style x)
@@ -291,14 +220,9 @@ block_stands text style t deep o w closed x r =
     let tok : Tok = token_of style r.scalar.text in
     let y : Read Block = read_block t.held.position r.scalar r.piece r.next in
     let stands : Stands text (record { rest = y.rest; held = record t.held { position = y.position; tokens = t.held.tokens ++ token y.value.position tok ∷ []; keys = saved_keys t.held; indents = w.indents; indent = w.indent; key_allowed = true; leading = true } }) =
-    scalar_stands text t o.key o.here o.flow_is o.keys_are deep w closed style x r tok (block_token style r.scalar.text) o.knows in
+    scalar_stands text t o.key o.here o.flow_is o.keys_are deep w closed style x r tok (grind arith) o.knows in
     subst (λ z. Stands text (read_state t w style z)) (sym r.is)
     (subst (λ ts. Stands text (record { rest = y.rest; held = record t.held { position = y.position; tokens = ts ++ token y.value.position tok ∷ []; keys = saved_keys t.held; indents = w.indents; indent = w.indent; key_allowed = true; leading = true } })) (sym closed.same_tokens) stands)
-
-read_as : (text : List ℕ) (style : BlockStyle) (t : ScannerState) (more : List ℕ) → t.rest ≡ indicator_of style ∷ more → ArrivesOutside text t → (indent : ℕ) (x : Read Block) → block (is_literal_style style) indent t.rest t.held.position ≡ Ok x → BlockAs style indent t.held.position t.rest x
-read_as text style t more e o indent x i =
-    let clean : has_no_nul more ≡ true = no_nul_after (indicator_of style ∷ []) more (subst (λ l. has_no_nul l ≡ true) e o.here.is_clean) in
-    subst (λ l. BlockAs style indent t.held.position l x) (sym e) (block_as style indent more t.held.position x clean (ap (λ l. block (is_literal_style style) indent l t.held.position) (sym e) ∙ i))
 
 -- A block scalar is read as in the row.
 pub block_keeps : (text : List ℕ) (style : kind.BlockStyle) (t : ScannerState) (more : List ℕ) → t.rest ≡ (if is_literal style then 124 else 62) ∷ more → is_empty t.held.flow ≡ true → IsDeep t.held → Arrives text t → Holds (Stands text) (fetch_block_scalar style t)
@@ -314,5 +238,5 @@ block_keeps text style t more e out deep arrives =
     by : (style : kind.BlockStyle) → t.rest ≡ (if is_literal style then 124 else 62) ∷ more → (x : Read Block) → block (is_literal style) w.indent t.rest t.held.position ≡ Ok x → ArrivesOutside text t ⊎ ArrivesInside text t →
         Stands text (record { rest = x.rest; held = record t.held { position = x.position; tokens = w.tokens ++ token x.value.position (Tok.scalar (block_style style) x.value.text) ∷ []; keys = saved_keys t.held; indents = w.indents; indent = w.indent; key_allowed = true; leading = true } })
     by style e x i (inr inside) = absurd (cc (out, ap is_empty inside.flow_is))
-    by Literal e x i (inl o) = block_stands text literal t deep o w (closed_then text t arrives) x (read_as text literal t more e o w.indent x i)
-    by Folded e x i (inl o) = block_stands text folded t deep o w (closed_then text t arrives) x (read_as text folded t more e o w.indent x i)
+    by Literal e x i (inl o) = block_stands text literal t deep o w (without_is t.held.indent t.held.indents t.held.tokens arrives.are_levels) x (grind (arith, nat_tests, eqb-true, clean, no_nul_after, block_as))
+    by Folded e x i (inl o) = block_stands text folded t deep o w (without_is t.held.indent t.held.indents t.held.tokens arrives.are_levels) x (grind (arith, nat_tests, eqb-true, clean, no_nul_after, block_as))

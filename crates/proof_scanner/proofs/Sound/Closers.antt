@@ -1,6 +1,5 @@
 -- Commas and closing brackets: what holds where they begin holds between two fetches after them. Outside flow they close nothing.
-use Rattle.proof_scanner.proofs.Common.{Act, Bool, IsAdjacent, IsLine, IsPiece, IsReadOn, Line, List, None, Outside, Position, Previous, ScannerState, Site, Some, Stands, Tok, Token, [], act_of, another, ap, arith, awaits_past, before_past, begins_free_line, begins_line, begins_with, begun_by, begun_outside, blanks_and_comment, ends_at, eqb-true, false, flow_collection, free, further_lines_stand, gives_closing, gives_comma, inl, inr, is_deeper, is_empty, is_in_column, is_renewed, is_waiting, least_column, least_for, line_past, may_precede, nat_tests, not, other, past, past_blanks_and_comment, past_line_rest, previous_by, put, refl, seen, shown_position, site_here, site_in, subst, sym, taken, true, with_top, ℕ, ◌++◌, ◌∙◌, ◌∷◌, ◌≡◌, ◌≤◌, ◌⊎◌}
-use Rattle.proof_scanner.proofs.Sound.OutOfFlow.{tokens_then}
+use Rattle.proof_scanner.proofs.Common.{Act, Bool, IsLine, IsPiece, Line, List, None, Previous, ScannerState, Site, Some, Stands, Tok, [], act_of, another, ap, arith, awaits_past, begins_free_line, begins_with, begun_by, begun_outside, blanks_and_comment, ends_at, eqb-true, false, flow_collection, free, further_lines_stand, gives_closing, gives_comma, is_deeper, is_empty, is_in_column, least_column, least_for, line_past, may_precede, nat_tests, not, other, past, past_blanks_and_comment, past_line_rest, previous_by, put, refl, seen, shown_position, site_here, site_in, subst, sym, taken, true, with_top, ℕ, ◌++◌, ◌∙◌, ◌∷◌, ◌≡◌, ◌⊎◌}
 use Rattle.proof_scanner.proofs.Cut.FlowEnds.{IsEndOf, ends_sequence, ends_mapping, ends_by_comma}
 use Rattle.proof_scanner.proofs.Known.Steps.{begins_key}
 use Rattle.proof_scanner.proofs.Sound.Blanks.{line_rest_in_line, line_rest_cut, line_rest_fills}
@@ -42,12 +41,7 @@ pub closing_brace : IsCloser true Tok.flow_mapping_end 125
 closing_brace = record { act = refl; begun = refl; is_end = ends_mapping; shown = λ s p n. refl; previous = refl; least = λ s. refl; lines = λ c p. refl; precedes = λ f bs p n. refl; awaits = awaits_kept _ (λ b. refl) (λ bs b n. refl) }
 
 pub is_previous : {before : Previous} (closes : Bool) → before ≡ previous_of closes → (before ≡ another) ⊎ (before ≡ flow_collection)
-is_previous true e = inr e
-is_previous false e = inl e
-
--- the site is the same for all of them
-pub site_alike : (closes fl : Bool) (p : Position) (s : Site) → site_in fl (act_by closes) p s ≡ site_here fl p s
-site_alike a b p s = grind (arith, nat_tests, eqb-true)
+is_previous a e = grind (arith, nat_tests, eqb-true)
 
 -- ---- outside flow
 
@@ -63,56 +57,25 @@ stray_past closes t tok more = record {
   held = record t.held { position = past_line_rest (past t.held.position) more; leading = false; tokens = t.held.tokens ++ (put t.held.position tok ∷ []); keys = with_top None t.held.keys; flow = []; key_allowed = not closes };
 }
 
-stray_line : (closes must : Bool) (here : Position) (bs : List ℕ) (l : Line) → (l ≡ free) ⊎ (l ≡ taken) → line_past must here bs (act_by closes) false l ≡ Some (record { line = line_then closes; blocks = bs })
-stray_line a must b bs l d = grind (arith, nat_tests, eqb-true)
-
-no_node : (closes : Bool) → begins_key (act_by closes) ≡ false
-no_node closes = grind arith
-
-none_begun : (closes deeper : Bool) (here colon : Position) (l : Line) → begun_outside deeper here colon (act_by closes) false (Some l) ≡ []
-none_begun closes deeper here colon l = grind arith
-
 pub stray_at : (text more : List ℕ) (closes : Bool) (tok : Tok) (c : ℕ) → IsCloser closes tok c → (t : ScannerState) (a : ArrivesBy text t [] (None ∷ []) []) → with_top None t.held.keys ≡ None ∷ [] → t.rest ≡ c ∷ more → begins_with 35 more ≡ false →
     Stands text (stray_past closes t tok more)
 stray_at text more closes tok c k t a keys e hash =
-    read_outside text t (stray_past closes t tok more) a (c ∷ []) more (blanks_and_comment more) tok after at (ap (λ x. site_in false x t.held.position a.site) k.act ∙ site_alike closes false t.held.position a.site)
+    read_outside text t (stray_past closes t tok more) a (c ∷ []) more (blanks_and_comment more) tok (record { line = line_then closes; blocks = at.blocks }) at (ap (λ x. site_in false x t.held.position a.site) k.act ∙ (grind (arith, nat_tests, eqb-true)))
     (reads_in_line t (stray_past closes t tok more) _ (c ∷ []) more (blanks_and_comment more) refl e (line_rest_cut more) (line_rest_fills more) (line_rest_in_line more) (indicator_end t.held.position c more k.is_end.in_line) refl (is_previous closes k.previous)
-    a.blocks_are (k.awaits false at.blocks at.awaits more ∙ a.awaits_is) a.are_levels (λ some. absurd (cc some)) far.1 (refl, refl))
-    (record { line_is = allowed_by closes (begins_free_line (previous_by tok) (blanks_and_comment more)) quiet.1; no_key = known closes; flow_is = refl; keys_are = keys }) (record {
+    a.blocks_are (k.awaits false at.blocks at.awaits more ∙ a.awaits_is) a.are_levels (λ some. absurd (cc some)) (adjacent_kept t (stray_past closes t tok more) other (c ∷ []) more (blanks_and_comment more) refl (indicator_end t.held.position c more k.is_end.in_line) a.was_adjacent refl refl).1 (refl, refl))
+    (record { line_is = allowed_by closes (begins_free_line (previous_by tok) (blanks_and_comment more)) (quiet_before (previous_by tok) t.held.position (blanks_and_comment more) [] (is_previous closes k.previous) (line_rest_in_line more)).1; no_key = grind (arith, nat_tests, eqb-true); flow_is = refl; keys_are = keys }) (record {
       is_piece = subst (λ p. IsPiece (seen (with_entries a.site a.line []) at a.separation) (c ∷ []) more None p tok) (sym (k.shown at (c ∷ []) more)) (k.is_end.piece (seen (with_entries a.site a.line []) at a.separation) more None refl);
       stands = rw (a.is_indented (ap is_empty e), k.lines (least_for tok at) (c ∷ []), k.precedes false at.blocks (c ∷ []) more, hash) refl;
-      after_is = ap (λ x. line_past (is_in_column at.position.col at.blocks) at.position at.blocks x false a.line_here) k.act ∙ stray_line closes (is_in_column at.position.col at.blocks) at.position at.blocks a.line_here a.line_is.0;
+      after_is = ap (λ x. line_past (is_in_column at.position.col at.blocks) at.position at.blocks x false a.line_here) k.act ∙ (grind (arith, nat_tests, eqb-true));
       begun = k.begun;
-      begins_none = ap begins_key k.act ∙ no_node closes;
-      tokens_are = tokens;
+      begins_none = ap begins_key k.act ∙ (grind arith);
+      tokens_are = started_tokens false t.held.tokens a.tokens (ends_at t.held.position a.site.blocks at.blocks) t.held.position tok (put t.held.position tok) a.tokens_are ∙
+          (ap (λ x. a.tokens ++ ((ends_at t.held.position a.site.blocks at.blocks ++ x) ++ ((put t.held.position tok) ∷ []))) (sym (ap (λ x. begun_outside (is_deeper at.position.col at.blocks) at.position at.position x false (Some a.line_here)) k.act ∙ (grind arith))) ∙ ap
+          (λ p. a.tokens ++ ((ends_at t.held.position a.site.blocks at.blocks ++ begun_outside (is_deeper at.position.col at.blocks) at.position at.position (act_of tok) false (Some a.line_here)) ++ (put p tok ∷ []))) (sym (k.shown at (c ∷ []) more)));
     })
   where
     at : Site
     at = site_here false t.held.position a.site
 
-    after : Outside
-    after = record { line = line_then closes; blocks = at.blocks }
-
-    quiet : (begins_line (previous_by tok) (blanks_and_comment more) ≡ false) × (begins_free_line (previous_by tok) (blanks_and_comment more) ≡ false) ×
-        (is_renewed (previous_by tok) (blanks_and_comment more) ≡ false) × IsReadOn (previous_by tok) t.held.position (blanks_and_comment more) []
-    quiet = quiet_before (previous_by tok) t.held.position (blanks_and_comment more) [] (is_previous closes k.previous) (line_rest_in_line more)
-
-    far : IsAdjacent (before_past other (blanks_and_comment more)) (past_line_rest (past t.held.position) more) t.held.adjacent_value_at (past_blanks_and_comment more) × (t.held.adjacent_value_at ≤ (past_line_rest (past t.held.position) more).index)
-    far = adjacent_kept t (stray_past closes t tok more) other (c ∷ []) more (blanks_and_comment more) refl (indicator_end t.held.position c more k.is_end.in_line) a.was_adjacent refl refl
-
-    known : (b : Bool) → is_waiting (line_then b) ≡ false
-    known true = refl
-    known false = refl
-
     allowed_by : (b broken : Bool) → broken ≡ false → IsLine false (not b) broken (past_line_rest (past t.held.position) more) (past_blanks_and_comment more) None (line_then b)
     allowed_by b broken h = grind arith
-
-    own : Token
-    own = put t.held.position tok
-
-    tokens : t.held.tokens ++ (own ∷ []) ≡ a.tokens ++ tokens_then a.site at (c ∷ []) tok more a.line_here
-    tokens =
-        started_tokens false t.held.tokens a.tokens (ends_at t.held.position a.site.blocks at.blocks) t.held.position tok own a.tokens_are ∙
-        (ap (λ x. a.tokens ++ ((ends_at t.held.position a.site.blocks at.blocks ++ x) ++ (own ∷ [])))
-        (sym (ap (λ x. begun_outside (is_deeper at.position.col at.blocks) at.position at.position x false (Some a.line_here)) k.act ∙ none_begun closes (is_deeper at.position.col at.blocks) at.position at.position a.line_here)) ∙
-        ap (λ p. a.tokens ++ ((ends_at t.held.position a.site.blocks at.blocks ++ begun_outside (is_deeper at.position.col at.blocks) at.position at.position (act_of tok) false (Some a.line_here)) ++ (put p tok ∷ []))) (sym (k.shown at (c ∷ []) more)))

@@ -1,5 +1,5 @@
 -- Commas and closing brackets in flow: the entry ends, and with it a single pair.
-use Rattle.proof_scanner.proofs.Common.{AreAround, AreEntries, AreNumbered, Bool, Entry, FlowLevel, IsAdjacent, IsEntryOf, IsLine, IsPairOf, IsPiece, Key, Line, List, None, Option, Pair, Position, ScannerState, Site, Some, Stands, Step, Tok, Token, Yes, [], act_of, ap, append_assoc, arith, before_by, before_past, begins_free_line, begins_with, begun_by, blanks_and_comment, colon_of, ends_spaces, entries_by, entries_past, false, first_entry, gives_closing, gives_comma, has_no_break, has_no_nul, in_line, is_blank, is_empty, is_keyed, is_renewed, is_separation, least_for, length, no_nul_after, not, other, outside_key, pair_end, past, past_blanks_and_comment, past_line_rest, pop, previous_by, put, refl, seen, shown_position, site_here, subst, suc, sym, taken, true, with_keys, ℕ, ◌&&◌, ◌++◌, ◌∙◌, ◌∷◌, ◌≡◌, ◌≤◌}
+use Rattle.proof_scanner.proofs.Common.{AreAround, AreEntries, AreNumbered, Bool, Entry, FlowLevel, IsAdjacent, IsEntryOf, IsLine, IsPiece, Key, Line, List, None, Option, Position, ScannerState, Site, Stands, Step, Tok, Token, Yes, [], act_of, ap, append_assoc, arith, before_by, before_past, begins_free_line, begins_with, begun_by, blanks_and_comment, ends_spaces, entries_by, false, first_entry, has_no_break, has_no_nul, is_blank, is_empty, is_renewed, is_separation, least_for, length, no_nul_after, not, other, outside_key, pair_end, past, past_blanks_and_comment, past_line_rest, pop, previous_by, put, refl, seen, site_here, subst, suc, sym, taken, true, with_keys, ℕ, ◌&&◌, ◌++◌, ◌∙◌, ◌∷◌, ◌≡◌, eqb-true, nat_tests}
 use Rattle.proof_scanner.proofs.Cut.FlowEnds.{closed_tokens, entered, adjacent_collection}
 use Rattle.proof_scanner.proofs.Cut.Nodes.{IsDeep}
 use Rattle.proof_scanner.proofs.Known.Read.{keyless}
@@ -8,10 +8,10 @@ use Rattle.proof_scanner.proofs.Sound.Blanks.{line_rest_cut, line_rest_fills, is
 use Rattle.proof_scanner.proofs.Sound.Closers.{previous_of, IsCloser, act_by, is_previous}
 use Rattle.proof_scanner.proofs.Sound.InFlow as flow
 use Rattle.proof_scanner.proofs.Sound.Indicated.{indicator_end, no_break_alike}
-use Rattle.proof_scanner.proofs.Sound.NodeTokens.{not_keyed, had_as_it_was, past_step, keys_along}
+use Rattle.proof_scanner.proofs.Sound.NodeTokens.{had_as_it_was, past_step, keys_along}
 use Rattle.proof_scanner.proofs.Sound.Standing.{deep_for}
 use Rattle.proof_scanner.proofs.Sound.Sides.{with_entries, ArrivesBy, ArrivesInside}
-use Rattle.proof_scanner.proofs.Sound.EntryPieces.{low_enough, numbered_then, keyless_tokens, tokens_inside}
+use Rattle.proof_scanner.proofs.Sound.EntryPieces.{low_enough, numbered_then, keyless_tokens}
 use Rattle.proof_scanner.proofs.Sound.Reads.{adjacent_kept, quiet_before, reads_in_line}
 
 -- ---- what the model leaves
@@ -42,34 +42,15 @@ abbrev pub choices_by : (closes : Bool) → List Bool → List Bool
 choices_by true cs = cs
 choices_by false cs = pop cs
 
--- an entry whose key does not wait ends
-ended : (closes : Bool) (p : Position) (again : Bool) (cs : List Bool) (ks : List (Option Key)) (e : Entry) (es : List Entry) → is_keyed e.had ≡ false →
-    entries_past p again (act_by closes) [] false e (entries_by (choices_by closes cs) ks es) ≡ Some (entries_by cs (keys_by closes ks) (entries_after closes e es))
-ended closes p again cs ks e es h = grind arith
-
 -- ---- the tokens of keys around it
-
--- no comma is a key's colon
-comma_past : (d : ℕ) (p : Position) (w : Step) (ws : List Step) (last : List ℕ) → act_of w.shown ≡ gives_comma → begun_by w.shown ≡ [] → colon_of d p (w ∷ ws) last ≡ colon_of d (past_step p w ws last) ws last
-comma_past d p w ws last e f = rw (e, f) refl
-
--- after a closing bracket one collection less is open in a key
-closing_past : (d : ℕ) (p : Position) (w : Step) (ws : List Step) (last : List ℕ) → act_of w.shown ≡ gives_closing → colon_of (suc d) p (w ∷ ws) last ≡ colon_of d (past_step p w ws last) ws last
-closing_past d p w ws last e = rw e refl
 
 keys_around : (closes : Bool) (p : Position) (w : Step) (ws : List Step) (last : List ℕ) → act_of w.shown ≡ act_by closes → begun_by w.shown ≡ [] → (bs : List ℕ) (l : Line) (cs : List Bool) (e : Entry) (es : List Entry) (ks : List (Option Key)) (ts : List Token) →
     with_keys 1 p (w ∷ ws) last bs l (entries_by (choices_by closes cs) ks es) ks ts ≡
     with_keys 0 (past_step p w ws last) ws last bs l (entries_by cs (keys_by closes ks) (entries_after closes e es)) (keys_by closes ks) ts
 keys_around true p w ws last h f bs l cs e es ks ts =
-    keys_along (λ n. suc n) (λ n. n) (λ n. refl) (λ n. refl) 0 p (past_step p w ws last) w ws last (λ n. closing_past n p w ws last h) bs l (entries_by cs ks es) ks ts
+    keys_along (λ n. suc n) (λ n. n) (λ n. refl) (λ n. refl) 0 p (past_step p w ws last) w ws last (λ n. (rw h refl)) bs l (entries_by cs ks es) ks ts
 keys_around false p w ws last h f bs l cs e es ks ts =
-    keys_along (λ n. n) (λ n. n) (λ n. refl) (λ n. refl) 1 p (past_step p w ws last) w ws last (λ n. comma_past n p w ws last h f) bs l (entries_by (pop cs) ks es) ks ts
-
--- the tokens of a closing bracket or a comma
-end_tokens : (closes : Bool) (tok : Tok) (x : Site) (piece next : List ℕ) (e : Entry) → act_of tok ≡ act_by closes → ((s : Site) (piece next : List ℕ) → shown_position s piece tok next ≡ s.position) →
-    tokens_inside x piece tok next e ≡ pair_end x.position e.pair ++ (put x.position tok ∷ [])
-end_tokens true tok x piece next e act shown = rw (act, shown x piece next) refl
-end_tokens false tok x piece next e act shown = rw (act, shown x piece next) refl
+    keys_along (λ n. n) (λ n. n) (λ n. refl) (λ n. refl) 1 p (past_step p w ws last) w ws last (λ n. (rw (h, f) refl)) bs l (entries_by (pop cs) ks es) ks ts
 
 -- the scanner after it
 abbrev pub closed_past : (closes : Bool) → ScannerState → Tok → (more : List ℕ) → FlowLevel → List FlowLevel → List (Option Key) → ScannerState
@@ -86,10 +67,6 @@ closed_past closes t tok more f fs ks = record {
   };
 }
 
--- the single pair of an entry ends with the entry
-closed_by_pair : (f : FlowLevel) (fs : List FlowLevel) (x : Pair) (p : Position) (ts : List Token) (own : Token) → IsPairOf f x → closed_tokens (f ∷ fs) p ts ++ (own ∷ []) ≡ ts ++ (pair_end p x ++ (own ∷ []))
-closed_by_pair f fs x p ts own h = grind (arith, append_assoc)
-
 clear_ends : (a : List ℕ) → is_clear a ≡ true → ends_spaces Yes a ≡ true
 unfolding is_blank
 clear_ends b h = grind arith
@@ -98,11 +75,8 @@ entries_then : (closes : Bool) (again : Bool) (f : FlowLevel) (fs : List FlowLev
     AreEntries (not closes) again (levels_then closes f fs) (keys_by closes ks) (entries_after closes e es)
 entries_then a again f fs k ks e es i h b = grind arith
 
-many_entered : (f : FlowLevel) (fs : List FlowLevel) → length (entered (f ∷ fs)) ≡ suc (length fs)
-many_entered a fs = grind arith
-
 many_then : (closes : Bool) (f : FlowLevel) (fs : List FlowLevel) (ks : List (Option Key)) → length ks ≡ suc (length fs) → length (keys_by closes ks) ≡ suc (length (levels_then closes f fs))
-many_then a f fs ks h = grind (arith, many_entered)
+many_then a f fs ks h = grind (arith)
 
 same_key : (closes : Bool) (e : Entry) (es : List Entry) (ks : List (Option Key)) → outside_key (entries_after closes e es) (keys_by closes ks) ≡ outside_key es ks
 same_key a e es ks = grind arith
@@ -111,15 +85,10 @@ same_key a e es ks = grind arith
 line_after : (closes : Bool) (f : FlowLevel) (fs : List FlowLevel) (broken : Bool) (p : Position) (rest : List ℕ) (k : Option Key) (l : Line) → broken ≡ false → l ≡ taken → IsLine (not (is_empty (levels_then closes f fs))) (not closes) broken p rest k l
 line_after a f fs broken p rest k l b h = grind arith
 
-adjacent_least : (closes : Bool) (fs : List FlowLevel) (old new : ℕ) → old ≤ new → adjacent_then closes fs old new ≤ new
-adjacent_least a fs old new h = grind arith
-
 -- where a colon may stand after it in flow
 adjacent_after : (closes : Bool) (f : FlowLevel) (fs : List FlowLevel) (old : ℕ) (p : Position) (gap rest : List ℕ) → IsAdjacent (before_past other gap) p old rest → is_separation false gap rest ≡ true → has_no_break gap ≡ true → ends_spaces Yes rest ≡ true → has_no_nul rest ≡ true →
     is_empty (levels_then closes f fs) ≡ false → IsAdjacent (before_past (before_by (previous_of closes)) gap) p (adjacent_then closes fs old p.index) rest
-adjacent_after true f [] old p gap rest far fills in_line ends clean some = absurd (cc some)
-adjacent_after true f (g ∷ fs) old p gap rest far fills in_line ends clean some = adjacent_collection p gap rest fills (no_break_alike gap in_line) ends clean
-adjacent_after false f fs old p gap rest far fills in_line ends clean some = far
+adjacent_after a f fs old p gap rest far fills b ends clean some = grind (arith, nat_tests, eqb-true, adjacent_collection, no_break_alike)
 
 -- ---- the step
 
@@ -144,7 +113,7 @@ module _ (text more : List ℕ) (closes : Bool) (tok : Tok) (c : ℕ) (i : IsClo
   own_tokens = pair_end t.held.position e.pair ++ (put t.held.position tok ∷ [])
 
   tokens_are : a.tokens ++ own_tokens ≡ past_it.held.tokens
-  tokens_are = ap (λ ts. ts ++ own_tokens) (sym (tokens_before text t f fs k ks e es a)) ∙ sym (closed_by_pair f fs e.pair t.held.position t.held.tokens (put t.held.position tok) a.are_entries.0.pair_is)
+  tokens_are = ap (λ ts. ts ++ own_tokens) (sym (tokens_before text t f fs k ks e es a)) ∙ sym (grind (arith, append_assoc))
 
   numbered : (b : Bool) → AreNumbered (length past_it.held.tokens) (keys_by b ks)
   numbered b = grind (arith, numbered_then a.tokens past_it.held.tokens k ks own_tokens (sym tokens_are) a.are_numbered)
@@ -157,7 +126,7 @@ module _ (text more : List ℕ) (closes : Bool) (tok : Tok) (c : ℕ) (i : IsClo
       flow.steps_in_flow text t past_it f fs k ks e es a (c ∷ []) more tok (keys_by closes ks) (entries_after closes e es) (levels_then closes f fs) gap
       (reads_in_line t past_it _ (c ∷ []) more gap refl cut (line_rest_cut more) (line_rest_fills more) (line_rest_in_line more) (indicator_end t.held.position c more i.is_end.in_line) refl (is_previous closes i.previous) a.blocks_are
       (i.awaits true x.blocks x.awaits more ∙ a.awaits_is) a.are_levels (λ some. subst (λ b. IsAdjacent (before_past (before_by b) gap) end (adjacent_then closes fs t.held.adjacent_value_at end.index) left) (sym i.previous)
-      (adjacent_after closes f fs t.held.adjacent_value_at end gap left far.0 (line_rest_fills more) (line_rest_in_line more) (clear_ends left (past_rest_is_clear more)) clean some)) (adjacent_least closes fs t.held.adjacent_value_at end.index far.1) (refl, refl)) (
+      (adjacent_after closes f fs t.held.adjacent_value_at end gap left far.0 (line_rest_fills more) (line_rest_in_line more) (clear_ends left (past_rest_is_clear more)) (no_nul_after gap left (subst (λ r. has_no_nul r ≡ true) (line_rest_cut more) (no_nul_after (c ∷ []) more (subst (λ r. has_no_nul r ≡ true) cut a.is_clean)))) some)) (grind arith) (refl, refl)) (
       assumption (
         many_then closes f fs ks (cc a.one_each),
         same_key closes e es ks,
@@ -171,16 +140,13 @@ module _ (text more : List ℕ) (closes : Bool) (tok : Tok) (c : ℕ) (i : IsClo
         choice = λ cs. false;
         outer = choices_by closes;
         bit = λ cs. false;
-        entry_past = λ cs. rw (i.act, i.begun, had_as_it_was k e.had) (ended closes t.held.position (is_renewed a.site.before a.separation) cs ks e es (not_keyed t.held.key_allowed (is_renewed a.site.before a.separation) k e.had a.are_entries.1));
+        entry_past = λ cs. rw (i.act, i.begun, had_as_it_was k e.had) (grind arith);
         tokens_are = λ cs l ws last h.
             let w : Step = keyless a.separation (c ∷ []) tok in
             keyless_tokens text t f fs k ks e es a (c ∷ []) more tok cut l (entries_by (choices_by closes cs) ks es) ws last h ∙
-            (ap (λ ts. with_keys 1 a.site.position (w ∷ ws) last a.site.blocks l (entries_by (choices_by closes cs) ks es) ks ts) (ap (λ ts. a.tokens ++ ts) (end_tokens closes tok x (c ∷ []) more e i.act i.shown) ∙ tokens_are) ∙
+            (ap (λ ts. with_keys 1 a.site.position (w ∷ ws) last a.site.blocks l (entries_by (choices_by closes cs) ks es) ks ts) (ap (λ ts. a.tokens ++ ts) (grind (arith, nat_tests, eqb-true)) ∙ tokens_are) ∙
             keys_around closes a.site.position w ws last i.act i.begun a.site.blocks l cs e es ks past_it.held.tokens);
       })
-    where
-      clean : has_no_nul left ≡ true
-      clean = no_nul_after gap left (subst (λ r. has_no_nul r ≡ true) (line_rest_cut more) (no_nul_after (c ∷ []) more (subst (λ r. has_no_nul r ≡ true) cut a.is_clean)))
 
 pub closed_inside : (text more : List ℕ) (closes : Bool) (tok : Tok) (c : ℕ) → IsCloser closes tok c → (t : ScannerState) (i : ArrivesInside text t) → t.rest ≡ c ∷ more → begins_with 35 more ≡ false → IsDeep t.held →
     Stands text (closed_past closes t tok more i.level i.levels i.keys)

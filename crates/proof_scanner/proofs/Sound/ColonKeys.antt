@@ -1,12 +1,11 @@
 -- A colon that ends the key that is open: what holds where it begins holds between two fetches after it.
-use Rattle.proof_scanner.proofs.Common.{At, Bool, Completes, Entry, FlowLevel, Held, Holds, IsLive, IsNotRight, IsOpenHere, Key, Keyed, Line, List, Mapping, None, NotBefore, Ok, Option, Outside, Position, ScannerState, Site, Some, Stands, Step, Tok, Token, [], ap, append-nil, arith, before_by, before_past, begin_pair, begins_free_line, begun_outside, chained, checked, colon_may_precede, columns, ends_at, entries_by, entries_past, entry_by, false, gives_colon, has_break, if◌then◌else◌, in_flow, innermost, inr, insert, insert_key, inside, is_adjacent, is_break, is_deeper, is_empty, is_near, is_renewed, is_separation, is_value_indicator, length, length-append, line_past_separation, nat_lt, nat_tests, not, not_ended, on_held, opened, opens_pair, pair_position, past, placed, pop, position_after, push, put, put_key, refl, roll_indent, roll_one_col_indent, site_at, site_here, spelled, subst, suc, sym, taken, takes_pair, token, tokens_at, tokens_of_step, tokens_up_to, tried, true, waits, went, with_keys, with_top, ℕ, ◌++◌, ◌==◌, ◌||◌, ◌∙◌, ◌∷◌, ◌≡◌, ◌≤◌}
-use Rattle.yaml_tokens.specs.declared.problem.Problem.TheVariants as problem
-use Rattle.model_scanner.specs.declared.level.FlowLevel.TheVariants.{Entry as InEntry, Pair as InPair}
+use Rattle.proof_scanner.proofs.Common.{Bool, Completes, Entry, FlowLevel, Held, Holds, IsLive, IsNotRight, Key, Line, List, None, NotBefore, Ok, Option, Outside, Position, ScannerState, Site, Some, Stands, Step, Tok, Token, [], ap, append-nil, arith, before_by, before_past, begin_pair, begins_free_line, chained, checked, colon_may_precede, columns, ends_at, entries_by, entry_by, false, if◌then◌else◌, in_flow, innermost, inr, insert, insert_key, inside, is_adjacent, is_break, is_deeper, is_empty, is_near, is_value_indicator, length, length-append, nat_tests, not, not_ended, on_held, opened, opens_pair, pair_position, past, placed, pop, position_after, push, put, put_key, refl, roll_indent, roll_one_col_indent, site_at, site_here, spelled, subst, suc, sym, taken, takes_pair, token, tokens_at, tokens_of_step, tokens_up_to, tried, true, waits, went, with_keys, with_top, ℕ, ◌++◌, ◌==◌, ◌||◌, ◌∙◌, ◌∷◌, ◌≡◌, ◌≤◌, eqb-true}
+use Rattle.model_scanner.specs.declared.level.FlowLevel.TheVariants.{Pair as InPair}
 use Rattle.proof_scanner.proofs.Cut.Nodes.{IsDeep}
 use Rattle.proof_scanner.proofs.Cut.Positions.{not_before_after, not_before_then, weaker}
 use Rattle.proof_scanner.proofs.Sound.Arrivals.{all_go_on, numbered_more, numbered_around}
 use Rattle.proof_scanner.proofs.Sound.ColonSpaces.{colon_gap, past_gap, gap_is}
-use Rattle.proof_scanner.proofs.Sound.Colons.{at_value, value_by, colon_end, valued_entry, single_is, one_line_colon, colon_reads, valued_is}
+use Rattle.proof_scanner.proofs.Sound.Colons.{at_value, value_by, colon_end, valued_entry, single_is, one_line_colon, colon_reads}
 use Rattle.proof_scanner.proofs.Sound.Around.{tokens_before, line_taken}
 use Rattle.proof_scanner.proofs.Sound.EntryPieces.{low_enough}
 use Rattle.proof_scanner.proofs.Sound.Inserts.{among, first_among, key_longer, fewer, keys_first}
@@ -17,58 +16,30 @@ use Rattle.proof_scanner.proofs.Sound.Completed.{goes_of}
 use Rattle.proof_scanner.proofs.Sound.InFlow as flow
 use Rattle.proof_scanner.proofs.Sound.Questions.{pair_level}
 use Rattle.proof_scanner.proofs.Sound.OutsidePieces.{ends_outside}
-use Rattle.proof_scanner.proofs.Sound.Rolled.{RollsTo, rolls_to, OpensOne, opens_one, opens_none, opened_some, some_levels}
+use Rattle.proof_scanner.proofs.Sound.Rolled.{RollsTo, rolls_to, OpensOne, opens_one, opens_none, some_levels}
 use Rattle.proof_scanner.proofs.Sound.Sides.{with_entries, ArrivesBy}
 use Rattle.proof_scanner.proofs.Known.Read.{keyless}
 use Rattle.proof_scanner.proofs.Sound.NodeTokens.{past_step, keys_along}
 
 -- ---- outside flow
 
--- where all collections go on, none ends
-none_ends : (p : Position) (bs : List ℕ) → ends_at p bs bs ≡ []
-none_ends p bs = grind arith
-
 -- the key, and the start of its mapping where that begins, before the tokens of its number
 abbrev pub with_key : (begins : Bool) → (start : Token) → Key → List Token → List Token
 with_key begins start k ts = (if begins then placed (Some k.number) start (insert ts k.number (token k.position Tok.key)) else insert ts k.number (token k.position Tok.key))
 
-key_put : (begins : Bool) (start : Token) (k : Key) (ts : List Token) → with_key begins start k ts ≡ put_key begins start k.number k.position ts
-key_put a b k ts = grind arith
-
 module _ (text more : List ℕ) (t : ScannerState) (k : Key) (a : ArrivesBy text t [] (Some k ∷ []) []) (e : t.rest ≡ 58 ∷ more) (apart : colon_may_precede more ≡ true) (ind : is_value_indicator false (is_adjacent (before_past (before_by a.site.before) a.separation)) more ≡ true) where
-  abbrev p : Position
-  p = t.held.position
-
   abbrev x : Site
   x = site_here false t.held.position a.site
 
-  place : t.held.position ≡ position_after a.site.position a.separation (58 ∷ more)
-  place = a.position_is ∙ ap (λ y. position_after a.site.position a.separation y) e
-
   same_site : site_at false a.site a.separation (58 ∷ []) Tok.value more ≡ x
-  same_site = ap (λ q. site_here false q a.site) (sym place)
-
-  some : is_empty t.rest ≡ false
-  some = ap is_empty e
+  same_site = ap (λ q. site_here false q a.site) (sym (a.position_is ∙ ap (λ y. position_after a.site.position a.separation y) e))
 
   live : IsLive k t.held.position t.rest
-  live = ((a.is_near refl).0, some)
-
-  key_before : NotBefore k.position t.held.position
-  key_before = not_before_then k.position a.site.position t.held.position (weaker k.position a.site.position a.is_open.0) (subst (λ x. NotBefore a.site.position x) (sym a.position_is) (not_before_after a.site.position a.separation t.rest))
-
-  open_here : IsOpenHere k t.held.position a.site.blocks
-  open_here = a.is_open.1 live
+  live = ((a.is_near refl).0, (ap is_empty e))
 
   -- no collection ends here
   same_blocks : not_ended t.held.position.col a.site.blocks ≡ a.site.blocks
-  same_blocks = all_go_on t.held.position.col k.position.col a.site.blocks open_here.column_is (key_before.1 live.0)
-
-  same_columns : a.site.blocks ≡ columns t.held.indent t.held.indents
-  same_columns = sym same_blocks ∙ a.blocks_are
-
-  same_tokens : t.held.tokens ≡ a.tokens
-  same_tokens = a.tokens_are ∙ (ap (λ bs. a.tokens ++ ends_at t.held.position a.site.blocks bs) same_blocks ∙ (ap (λ x. a.tokens ++ x) (none_ends t.held.position a.site.blocks) ∙ append-nil a.tokens))
+  same_blocks = all_go_on t.held.position.col k.position.col a.site.blocks (a.is_open.1 live).column_is ((not_before_then k.position a.site.position t.held.position (weaker k.position a.site.position a.is_open.0) (subst (λ x. NotBefore a.site.position x) (sym a.position_is) (not_before_after a.site.position a.separation t.rest))).1 live.0)
 
   -- no line begins before the colon, and it is near
   quiet : (begins_free_line a.site.before a.separation ≡ false) × (is_near k.position t.held.position ≡ true)
@@ -82,13 +53,13 @@ module _ (text more : List ℕ) (t : ScannerState) (k : Key) (a : ArrivesBy text
   now = with_key (is_deeper k.position.col (columns t.held.indent t.held.indents)) (token t.held.position Tok.block_mapping_start) k t.held.tokens
 
   pub rolled : RollsTo k.position.col (Some k.number) (token t.held.position Tok.block_mapping_start) held_key (roll_indent k.position.col (Some k.number) Tok.block_mapping_start t.held.position held_key)
-  rolled = rolls_to k.position.col (Some k.number) Tok.block_mapping_start t.held.position held_key refl a.are_levels (subst (λ bs. IsNotRight (innermost bs) k.position.col) same_columns open_here.column_is)
+  rolled = rolls_to k.position.col (Some k.number) Tok.block_mapping_start t.held.position held_key refl a.are_levels (subst (λ bs. IsNotRight (innermost bs) k.position.col) (sym same_blocks ∙ a.blocks_are) (a.is_open.1 live).column_is)
 
   abbrev pub held_rolled : Held
   held_rolled = record held_key { indents = rolled.indents; indent = rolled.indent; tokens = now }
 
   pub awaiting : OpensOne held_rolled (roll_one_col_indent held_rolled)
-  awaiting = opens_one held_rolled refl rolled.are_levels (some_levels rolled.indent rolled.indents (ap is_empty rolled.columns_are ∙ opened_some k.position.col (columns t.held.indent t.held.indents)))
+  awaiting = opens_one held_rolled refl rolled.are_levels (some_levels rolled.indent rolled.indents (ap is_empty rolled.columns_are ∙ (grind arith)))
 
   abbrev pub after : ScannerState
   after = colon_end t more awaiting.indents awaiting.indent now false [] (None ∷ [])
@@ -98,47 +69,24 @@ module _ (text more : List ℕ) (t : ScannerState) (k : Key) (a : ArrivesBy text
   row_tokens q = put_key (is_deeper k.position.col a.site.blocks) (put q Tok.block_mapping_start) k.number k.position a.tokens ++ ((ends_at q a.site.blocks (not_ended q.col a.site.blocks) ++ []) ++ (put q Tok.value ∷ []))
 
   tokens_alike : after.held.tokens ≡ row_tokens t.held.position
-  tokens_alike =
-      let value : Token = put t.held.position Tok.value in
-      let start : Token = put t.held.position Tok.block_mapping_start in
-      ap (λ x. x ++ (value ∷ [])) (key_put (is_deeper k.position.col (columns t.held.indent t.held.indents)) start k t.held.tokens ∙
-      (ap (λ bs. put_key (is_deeper k.position.col bs) start k.number k.position t.held.tokens) (sym same_columns) ∙ ap (λ ts. put_key (is_deeper k.position.col a.site.blocks) start k.number k.position ts) same_tokens)) ∙
-      ap (λ x. put_key (is_deeper k.position.col a.site.blocks) start k.number k.position a.tokens ++ ((x ++ []) ++ (value ∷ []))) (sym (ap (λ bs. ends_at t.held.position a.site.blocks bs) same_blocks ∙ none_ends t.held.position a.site.blocks))
+  tokens_alike = grind (arith, nat_tests, eqb-true, (sym same_blocks ∙ a.blocks_are), (a.tokens_are ∙ (ap (λ bs. a.tokens ++ ends_at t.held.position a.site.blocks bs) same_blocks ∙ (ap (λ x. a.tokens ++ x) (grind arith) ∙ append-nil a.tokens))), same_blocks)
 
   abbrev outside_after : Outside
   outside_after = record { line = taken; blocks = opened k.position.col x.blocks }
 
-  goes : out.Goes text a.site a.separation (58 ∷ []) more Tok.value x same_site true false (waits k.position) (waits k.position) outside_after
-  goes = record {
-    is_filled = subst (λ y. is_separation false a.separation y ≡ true) e a.is_filled;
-    is_solid = refl;
-    is_piece = (refl, ind);
-    stands = rw (a.is_indented some, apart) refl;
-    line_is = rw quiet.0 refl;
-    after_is = rw quiet.1 refl;
-    in_line = no_waiting (has_break (58 ∷ [])) false refl;
-    idle = λ _. refl;
-  }
-
   -- the key goes in before the tokens of its number
   keyed_tokens : (ws : List Step) (last : List ℕ) → spelled ws last ≡ more →
       (let w : Step = keyless a.separation (58 ∷ []) Tok.value in tokens_up_to (Outer a.site (waits k.position)) (Some k ∷ []) a.tokens (w ∷ ws) last ++ tokens_of_step (Outer a.site (waits k.position)) w ws last ≡ after.held.tokens)
-  keyed_tokens ws last h =
-      let q : List ℕ → Position = λ r. position_after a.site.position a.separation (58 ∷ r) in
-      let r : List ℕ = spelled ws last in
-      let bs : List ℕ = not_ended (q r).col a.site.blocks in
-      ap (λ b. put_key (is_deeper k.position.col a.site.blocks) (put (q r) Tok.block_mapping_start) k.number k.position a.tokens ++
-      ((ends_at (q r) a.site.blocks bs ++ begun_outside (is_deeper (q r).col bs) (q r) (q r) gives_colon false (line_past_separation false b (waits k.position))) ++ (put (q r) Tok.value ∷ []))) quiet.0 ∙
-      (ap (λ y. row_tokens (q y)) h ∙ (ap row_tokens (sym place) ∙ sym tokens_alike))
+  keyed_tokens ws last h = grind (arith, nat_tests, eqb-true, quiet, (a.position_is ∙ ap (λ y. position_after a.site.position a.separation y) e), tokens_alike)
 
   pub keyed_stands : Stands text after
   keyed_stands =
       ends_outside text t after (Some k) a (58 ∷ []) more (colon_gap more) Tok.value outside_after x refl
       (colon_reads t more awaiting.indents awaiting.indent now false [] (None ∷ []) _ e refl refl (ap (opened k.position.col) a.blocks_are ∙ sym (awaiting.columns_are ∙ rolled.columns_are)) (sym awaiting.awaits) awaiting.are_levels a.was_adjacent)
       (record { line_is = (inr refl, sym (ap not (gap_is more).2), tt); no_key = refl; flow_is = refl; keys_are = refl })
-      (out.is_written text a.site a.separation (58 ∷ []) more Tok.value x same_site true false (waits k.position) (waits k.position) outside_after goes) refl
+      (out.is_written text a.site a.separation (58 ∷ []) more Tok.value x same_site true false (waits k.position) (waits k.position) outside_after (grind (arith, nat_tests, eqb-true, (ap is_empty e), quiet, no_waiting))) refl
       (λ strict. goes_of strict text more (out.outer_then text a.site a.separation (58 ∷ []) more Tok.value x same_site outside_after) after.held.tokens refl refl
-      (out.outer_completes text a.site a.separation (58 ∷ []) more Tok.value x same_site true false (waits k.position) (waits k.position) outside_after (tokens_up_to (Outer a.site (waits k.position)) (Some k ∷ []) a.tokens) (λ ws last. after.held.tokens) goes keyed_tokens
+      (out.outer_completes text a.site a.separation (58 ∷ []) more Tok.value x same_site true false (waits k.position) (waits k.position) outside_after (tokens_up_to (Outer a.site (waits k.position)) (Some k ∷ []) a.tokens) (λ ws last. after.held.tokens) (grind (arith, nat_tests, eqb-true, (ap is_empty e), quiet, no_waiting)) keyed_tokens
       (subst (λ y. Completes text (a.separation ++ y) (Outer a.site (waits k.position)) (tokens_up_to (Outer a.site (waits k.position)) (Some k ∷ []) a.tokens)) e (a.completes true true [] live))))
 
   pub keyed_is : value_by more t [] (Some k ∷ []) ≡ Ok after
@@ -159,9 +107,6 @@ module _ (text more : List ℕ) (t : ScannerState) (f : FlowLevel) (fs : List Fl
   abbrev pub held_pair : FlowLevel → Held
   held_pair g = record t.held { flow = pair_level InPair g ∷ fs; keys = None ∷ ks; position = pair_position (past t.held.position) more; leading = false; key_allowed = false; tokens = in_pair (opens_pair (g ∷ fs)) }
 
-  same_line : (m n : ℕ) → m ≤ n → nat_lt m n ≡ false → (m == n) ≡ true
-  same_line m n h g = grind (arith, nat_tests)
-
   closed : (h : Held) → in_flow h ≡ true → record (roll_one_col_indent h) { keys = with_top None (roll_one_col_indent h).keys; key_allowed = false } ≡ record h { keys = with_top None h.keys; key_allowed = false }
   closed h inside = ap {A = Held} {B = Held} (λ v. record v { keys = with_top None v.keys; key_allowed = false }) (opens_none h inside)
 
@@ -169,29 +114,10 @@ module _ (text more : List ℕ) (t : ScannerState) (f : FlowLevel) (fs : List Fl
   pair_begun : (g : FlowLevel) → k.position.line ≤ t.held.position.line →
       Holds (λ y. (y ≡ held_pair g) × ((not (opens_pair (g ∷ fs)) || (k.position.line == t.held.position.line)) ≡ true)) (insert_key k t.held.position (opens_pair (g ∷ fs)) (at_value more t (g ∷ fs) (Some k ∷ ks)))
   unfolding insert_key begin_pair roll_indent
-  pair_begun InEntry h =
-      chained {P = λ u. (u ≡ inner) × ((k.position.line == t.held.position.line) ≡ true)} (checked (nat_lt k.position.line t.held.position.line) (At problem.ColonMisplaced t.held.position) (λ i. went (refl, same_line k.position.line t.held.position.line h i))) (λ u i.
-      subst (λ y. Holds (λ z. (z ≡ held_pair InEntry) × ((not (opens_pair (InEntry ∷ fs)) || (k.position.line == t.held.position.line)) ≡ true)) (let v = roll_one_col_indent (roll_indent k.position.col (Some k.number) Tok.block_mapping_start t.held.position y) in Ok (record v { keys = with_top None v.keys; key_allowed = false }))) (sym i.0)
-      (went (closed inner refl, i.1)))
-    where
-      inner : Held
-      inner = record (at_value more t (InEntry ∷ fs) (Some k ∷ ks)) { tokens = in_pair true }
-  pair_begun Mapping h = went (closed (record (at_value more t (Mapping ∷ fs) (Some k ∷ ks)) { tokens = in_pair false }) refl, refl)
-  pair_begun Keyed h = went (closed (record (at_value more t (Keyed ∷ fs) (Some k ∷ ks)) { tokens = in_pair false }) refl, refl)
-  pair_begun InPair h = went (closed (record (at_value more t (InPair ∷ fs) (Some k ∷ ks)) { tokens = in_pair false }) refl, refl)
+  pair_begun a h = grind (arith, nat_tests, eqb-true, chained, checked, went, closed)
 
   abbrev pub inner_after : ScannerState
   inner_after = colon_end t more t.held.indents t.held.indent (in_pair (opens_pair (f ∷ fs))) false (pair_level InPair f ∷ fs) (None ∷ ks)
-
-  inner_place : t.held.position ≡ position_after a.site.position a.separation (58 ∷ more)
-  inner_place = a.position_is ∙ ap (λ y. position_after a.site.position a.separation y) e
-
-  single_here : takes_pair x.kind x.pair ≡ opens_pair (f ∷ fs)
-  single_here = single_is f fs (Some k) x a.are_entries.0
-
-  -- the entry's key ends, and no single pair's key on an earlier line
-  key_ends : (again : Bool) (xs : List Entry) → (not (opens_pair (f ∷ fs)) || (k.position.line == t.held.position.line)) ≡ true → entries_past t.held.position again gives_colon [] false (entry_by true (Some k) x) xs ≡ Some (valued_entry x ∷ xs)
-  key_ends again xs its_line = grind (arith, single_here)
 
   -- the tokens of the row, at a colon's end
   abbrev key_in : Bool → Position → (next : List ℕ) → List Token → List Token
@@ -203,8 +129,8 @@ module _ (text more : List ℕ) (t : ScannerState) (f : FlowLevel) (fs : List Fl
   inner_alike : key_in (takes_pair x.kind x.pair) (position_after (position_after a.site.position a.separation (58 ∷ more)) (58 ∷ []) more) more a.tokens ++ (put (position_after a.site.position a.separation (58 ∷ more)) Tok.value ∷ []) ≡ inner_after.held.tokens
   unfolding is_break
   inner_alike =
-      ap (λ q. key_in (takes_pair x.kind x.pair) (position_after q (58 ∷ []) more) more a.tokens ++ (put q Tok.value ∷ [])) (sym inner_place) ∙
-      (ap (λ b. key_in b (position_after t.held.position (58 ∷ []) more) more a.tokens ++ own) single_here ∙ ap (λ q. key_in (opens_pair (f ∷ fs)) q more a.tokens ++ own) (past_one t.held.position 58 more refl) ∙
+      ap (λ q. key_in (takes_pair x.kind x.pair) (position_after q (58 ∷ []) more) more a.tokens ++ (put q Tok.value ∷ [])) (sym (a.position_is ∙ ap (λ y. position_after a.site.position a.separation y) e)) ∙
+      (ap (λ b. key_in b (position_after t.held.position (58 ∷ []) more) more a.tokens ++ own) (single_is f fs (Some k) x a.are_entries.0) ∙ ap (λ q. key_in (opens_pair (f ∷ fs)) q more a.tokens ++ own) (past_one t.held.position 58 more refl) ∙
       ap (λ ts. key_in (opens_pair (f ∷ fs)) (past t.held.position) more ts ++ own) (sym (tokens_before text t f fs (Some k) ks x es a)))
 
   inner_tokens : (cs : List Bool) (l : Line) (ws : List Step) (last : List ℕ) → spelled ws last ≡ more →
@@ -222,15 +148,6 @@ module _ (text more : List ℕ) (t : ScannerState) (f : FlowLevel) (fs : List Fl
       (keys_along (λ m. suc m) (λ m. suc m) (λ m. refl) (λ m. refl) 0 a.site.position (past_step a.site.position w ws last) w ws last (λ m. refl) a.site.blocks l ys ks (put_in ++ shown) ∙
       ap (λ ts. with_keys 1 (past_step a.site.position w ws last) ws last a.site.blocks l ys ks ts) (ap (λ r. first r ++ (put (position_after a.site.position a.separation (58 ∷ r)) Tok.value ∷ [])) h ∙ inner_alike))
 
-  inner_many : length a.tokens ≤ length inner_after.held.tokens
-  inner_many =
-      let begins : Bool = opens_pair (f ∷ fs) in
-      let start : Token = put (pair_position (past t.held.position) more) Tok.flow_mapping_start in
-      let l = key_longer begins start k.number k.position t.held.tokens in
-      let same = ap length (tokens_before text t f fs (Some k) ks x es a) in
-      let all = length-append (in_pair begins) (put t.held.position Tok.value ∷ []) in
-      omega (arith, l, same, all)
-
   pub inner_stands : (not (opens_pair (f ∷ fs)) || (k.position.line == t.held.position.line)) ≡ true → Stands text inner_after
   inner_stands its_line =
       flow.steps_in_flow text t inner_after f fs (Some k) ks x es a (58 ∷ []) more Tok.value (None ∷ ks) (valued_entry x ∷ es) (pair_level InPair f ∷ fs) (colon_gap more)
@@ -239,9 +156,9 @@ module _ (text more : List ℕ) (t : ScannerState) (f : FlowLevel) (fs : List Fl
         keys_are = refl;
         one_each = a.one_each;
         same_key = refl;
-        are_entries = (valued_is f (Some k) x a.are_entries.0, (inr refl, refl), a.are_entries.2);
+        are_entries = ((grind arith), (inr refl, refl), a.are_entries.2);
         line_is = line_taken text t f fs (Some k) ks x es a;
-        are_numbered = (tt, numbered_more (length a.tokens) (length inner_after.held.tokens) ks inner_many (numbered_around (length a.tokens) (Some k) ks a.are_numbered));
+        are_numbered = (tt, numbered_more (length a.tokens) (length inner_after.held.tokens) ks (grind (arith, nat_tests, eqb-true, key_longer, tokens_before, length-append)) (numbered_around (length a.tokens) (Some k) ks a.are_numbered));
         in_line = λ _ _. one_line_colon;
       }) (record {
         is_piece = (refl, ind);
@@ -249,7 +166,7 @@ module _ (text more : List ℕ) (t : ScannerState) (f : FlowLevel) (fs : List Fl
         choice = λ cs. true;
         outer = pop;
         bit = λ cs. false;
-        entry_past = λ cs. key_ends (is_renewed a.site.before a.separation) (entries_by (pop cs) ks es) its_line;
+        entry_past = λ cs. (grind (arith, (single_is f fs (Some k) x a.are_entries.0)));
         tokens_are = inner_tokens;
       })
 

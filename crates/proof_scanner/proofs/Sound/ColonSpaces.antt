@@ -1,5 +1,5 @@
 -- What the model reads after a colon: where a TAB stands next, the blanks and a comment; else nothing.
-use Rattle.proof_scanner.proofs.Common.{arith, At, Bool, Held, Holds, List, Ok, Position, ScannerState, Yes, [], after, ap, begins_with, begins_with_alpha, blanks_and_comment, check_after_tab, check_value_space, checked, colon_may_precede, eqb-true, false, has_no_break, if◌then◌else◌, is_blank, is_break, is_on_line, is_one_of, is_separation, leading, lexed, not, or_parts, pair_position, past, past_blanks_and_comment, past_comment, past_line_rest, peek, position_after, refl, same_alpha, space, subst, sym, tab, true, went, ℕ, ◌&&◌, ◌++◌, ◌==◌, ◌||◌, ◌∙◌, ◌∷◌, ◌≡◌}
+use Rattle.proof_scanner.proofs.Common.{arith, At, Bool, Held, Holds, List, Ok, Position, ScannerState, Yes, [], after, begins_with, begins_with_alpha, blanks_and_comment, check_after_tab, check_value_space, checked, colon_may_precede, eqb-true, false, has_no_break, if◌then◌else◌, is_blank, is_break, is_one_of, is_separation, leading, lexed, not, or_parts, pair_position, past, past_blanks_and_comment, past_comment, past_line_rest, peek, position_after, refl, same_alpha, space, subst, sym, tab, true, went, ℕ, ◌&&◌, ◌++◌, ◌==◌, ◌||◌, ◌∙◌, ◌∷◌, ◌≡◌, nat_tests}
 use Rattle.yaml_chars.specs.Class.{is_alpha}
 use Rattle.defs_text.specs.Classes as classes
 use Rattle.yaml_tokens.specs.declared.problem.Problem.TheVariants as problem
@@ -21,26 +21,14 @@ gap_is more = grind (arith, line_rest_cut, line_rest_fills, line_rest_in_line)
 -- where the start of a single pair stands, the gap ends
 pub gap_end : (p : Position) (more : List ℕ) → pair_position (past p) more ≡ position_after (position_after p (58 ∷ []) more) (colon_gap more) (past_gap more)
 unfolding is_break
-gap_end p more = ap (λ q. pair_position q more) (sym (past_one p 58 more refl)) ∙ by (begins_with tab more)
-  where
-    q : Position
-    q = position_after p (58 ∷ []) more
-
-    by : (b : Bool) → (if b then past_line_rest q more else q) ≡ position_after q (if b then blanks_and_comment more else []) (if b then past_blanks_and_comment more else more)
-    by true = same_in_line q (blanks_and_comment more) [] (past_blanks_and_comment more) (line_rest_in_line more)
-    by false = refl
+gap_end p more = grind (arith, nat_tests, eqb-true, past_one, same_in_line, line_rest_in_line)
 
 -- ---- what the model checks
 
 -- a letter after the blanks stands after the comment too, since there is none
 no_letter : (b : List ℕ) → ((peek (past_comment b) == 45) || is_alpha (peek (past_comment b))) ≡ false → begins_with_alpha b ≡ false
 unfolding classes.is_alpha classes.is_decimal_digit classes.is_letter
-no_letter [] h = refl
-no_letter (c ∷ r) h = by (c == 35) refl h
-  where
-    by : (x : Bool) → (c == 35) ≡ x → ((peek (if x then after is_on_line (c ∷ r) else c ∷ r) == 45) || is_alpha (peek (if x then after is_on_line (c ∷ r) else c ∷ r))) ≡ false → classes.is_alpha c ≡ false
-    by true e h = let same : c ≡ 35 = eqb-true c 35 e in rw same refl
-    by false e h = same_alpha c ∙ (or_parts (c == 45) (is_alpha c) h).1
+no_letter a h = grind (arith, nat_tests, eqb-true, same_alpha, or_parts)
 
 -- the state after a colon and what is read after it
 abbrev pub past_colon : (more : List ℕ) → Held → ScannerState
@@ -57,8 +45,7 @@ colon_spaced more h = by (begins_with tab more) refl
     Ends b u = (u ≡ record { rest = (if b then past_blanks_and_comment more else more); held = record h { position = (if b then past_line_rest h.position more else h.position) } }) × (not (b && not (is_one_of (leading is_blank more) 32) && begins_with_alpha (after is_blank more)) ≡ true)
 
     letter : (x y z : Bool) → (x && y) ≡ false → (y ≡ false → z ≡ false) → not (true && x && z) ≡ true
-    letter true y z e f = ap not (f e)
-    letter false y z e f = refl
+    letter a y z e f = grind (arith, nat_tests, eqb-true)
 
     by : (b : Bool) → begins_with tab more ≡ b → Holds (λ u. (u ≡ past_colon more h) × (colon_may_precede more ≡ true)) (if peek more == 9 then lexed (space Yes more h.position) h check_after_tab else Ok t)
     by true e =

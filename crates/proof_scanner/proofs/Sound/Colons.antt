@@ -1,18 +1,17 @@
 -- A colon that ends no key: what holds where it begins holds between two fetches after it.
-use Rattle.proof_scanner.proofs.Common.{AreLevels, At, Bool, Entry, Fault, FlowLevel, Had, Held, Holds, Indent, IsEntryOf, Key, List, None, Ok, Option, Pair, Position, Result, ScannerState, Site, Some, Stands, Tok, Token, [], allow_key, another, ap, append_assoc, arith, before_by, before_past, begin_keyless_mapping, begin_keyless_value, begun_inside, begun_outside, chained, checked, colon_may_precede, columns, ends_at, entries_past, false, free, fresh, gives_colon, has_break, has_open_level, if◌then◌else◌, in_flow, inl, inr, is_adjacent, is_break, is_deeper, is_empty, is_in_column, is_renewed, is_value, is_value_indicator, line_past, not, not-false, not_ended, on_held, opened, opens_pair, pair_past, pair_position, paired, past, placed, position_after, push, put, refl, roll_indent, roll_one_col_indent, settled, start_if, subst, sym, takes_pair, token, top_key, tried, true, went, with_held, ℕ, ◌++◌, ◌>>=◌, ◌∙◌, ◌∷◌, ◌≡◌, ◌≤◌, ◌⊎◌}
+use Rattle.proof_scanner.proofs.Common.{AreLevels, At, Bool, Entry, Fault, FlowLevel, Held, Holds, Indent, IsEntryOf, Key, List, None, Ok, Option, Result, ScannerState, Site, Some, Stands, Tok, Token, [], allow_key, another, ap, append_assoc, arith, before_by, before_past, begin_keyless_mapping, begin_keyless_value, begun_outside, chained, checked, colon_may_precede, columns, ends_at, false, gives_colon, has_break, has_open_level, if◌then◌else◌, in_flow, inl, inr, is_adjacent, is_break, is_deeper, is_empty, is_in_column, is_value, is_value_indicator, line_past, not, not-false, not_ended, on_held, opened, opens_pair, pair_past, pair_position, paired, past, placed, position_after, push, put, refl, roll_indent, roll_one_col_indent, settled, start_if, subst, sym, takes_pair, token, top_key, tried, true, went, with_held, ℕ, ◌++◌, ◌>>=◌, ◌∙◌, ◌∷◌, ◌≡◌, ◌≤◌, eqb-true, nat_tests}
 use Rattle.yaml_tokens.specs.declared.problem.Problem.TheVariants as problem
 use Rattle.model_scanner.specs.declared.level.FlowLevel.TheVariants.{Pair as InPair}
 use Rattle.model_scanner.specs.Block.{value_of}
 use Rattle.proof_scanner.proofs.Cut.Dispatch.{value_is}
 use Rattle.proof_scanner.proofs.Cut.Nodes.{IsDeep}
 use Rattle.proof_scanner.proofs.Sound.Arrivals.{first_not_right}
-use Rattle.proof_scanner.proofs.Sound.Around.{tokens_before}
 use Rattle.proof_scanner.proofs.Sound.ColonSpaces.{colon_gap, past_gap, gap_is, gap_end}
 use Rattle.proof_scanner.proofs.Sound.EntryPieces.{low_enough, goes_inside}
 use Rattle.proof_scanner.proofs.Sound.Indicated.{past_one}
 use Rattle.proof_scanner.proofs.Sound.OutsidePieces.{read_outside, line_free, started_tokens, begun_after, with_start}
 use Rattle.proof_scanner.proofs.Sound.Questions.{pair_level}
-use Rattle.proof_scanner.proofs.Sound.Rolled.{RollsTo, rolls_to, OpensOne, opens_one, opens_none, opened_some, some_levels}
+use Rattle.proof_scanner.proofs.Sound.Rolled.{RollsTo, rolls_to, OpensOne, opens_one, opens_none, some_levels}
 use Rattle.proof_scanner.proofs.Sound.Sides.{ArrivesBy}
 use Rattle.proof_scanner.proofs.Sound.Reads.{Reads, reads_before_none}
 
@@ -21,10 +20,7 @@ use Rattle.proof_scanner.proofs.Sound.Reads.{Reads, reads_before_none}
 -- the model and the definition say alike
 pub value_here : (text more : List ℕ) (t : ScannerState) (fs : List FlowLevel) (ks : List (Option Key)) (es : List Entry) (a : ArrivesBy text t fs ks es) → t.held.flow ≡ fs → t.rest ≡ 58 ∷ more → is_value t ≡ true →
     is_value_indicator (not (is_empty fs)) (is_adjacent (before_past (before_by a.site.before) a.separation)) more ≡ true
-value_here text more t fs ks es a flow e h =
-    let adjacent : Bool = is_adjacent (before_past (before_by a.site.before) a.separation) in
-    subst (λ x. is_value_indicator (not (is_empty x)) adjacent more ≡ true) flow
-    (sym (value_is t adjacent more e (λ o. sym (a.is_adjacent_here (subst (λ x. is_empty x ≡ false) flow o) (ap is_empty e)))) ∙ h)
+value_here text more t fs ks es a flow e h = grind (arith, nat_tests, eqb-true, value_is)
 
 -- ---- what the model does after the colon and what is read there
 
@@ -59,19 +55,16 @@ keyless_stands text more t a e allowed apart ind i ds columns_are levels awaits 
     (record { line_is = (inl refl, refl, tt); no_key = refl; flow_is = refl; keys_are = refl }) (record {
       is_piece = (refl, ind);
       stands = rw (a.is_indented (ap is_empty e), apart) refl;
-      after_is = ap (λ l. line_past (is_in_column t.held.position.col bs) t.held.position bs gives_colon false l) here_free;
+      after_is = ap (λ l. line_past (is_in_column t.held.position.col bs) t.held.position bs gives_colon false l) (line_free t.held.key_allowed t.rest a.line_here allowed a.line_is);
       begun = refl;
       begins_none = refl;
       tokens_are = ap (λ cs. (if is_deeper t.held.position.col cs then placed None (token t.held.position Tok.block_mapping_start) t.held.tokens else t.held.tokens) ++ put t.held.position Tok.value ∷ []) (sym a.blocks_are) ∙
           (started_tokens (is_deeper t.held.position.col bs) t.held.tokens a.tokens (ends_at t.held.position a.site.blocks bs) t.held.position Tok.block_mapping_start (put t.held.position Tok.value) a.tokens_are ∙
-          ap (λ l. a.tokens ++ ((ends_at t.held.position a.site.blocks bs ++ begun_outside (is_deeper t.held.position.col bs) t.held.position t.held.position gives_colon false (Some l)) ++ (put t.held.position Tok.value ∷ []))) (sym here_free));
+          ap (λ l. a.tokens ++ ((ends_at t.held.position a.site.blocks bs ++ begun_outside (is_deeper t.held.position.col bs) t.held.position t.held.position gives_colon false (Some l)) ++ (put t.held.position Tok.value ∷ []))) (sym (line_free t.held.key_allowed t.rest a.line_here allowed a.line_is)));
     })
   where
     bs : List ℕ
     bs = not_ended t.held.position.col a.site.blocks
-
-    here_free : a.line_here ≡ free
-    here_free = line_free t.held.key_allowed t.rest a.line_here allowed a.line_is
 
 -- The levels after it: that of a mapping, if one begins, and one that no collection opens.
 pub record KeylessLevels (more : List ℕ) (t : ScannerState) : Type 0 where
@@ -85,32 +78,23 @@ keyless_levels more t levels deep =
     rolls_to t.held.position.col None Tok.block_mapping_start t.held.position h refl levels (first_not_right t.held.position.col t.held.indent t.held.indents levels deep) in
     record {
       mapping = r;
-      level = opens_one (record h { indents = r.indents; indent = r.indent; tokens = with_start Tok.block_mapping_start t }) refl r.are_levels (some_levels r.indent r.indents (ap is_empty r.columns_are ∙ opened_some t.held.position.col (columns t.held.indent t.held.indents)));
+      level = opens_one (record h { indents = r.indents; indent = r.indent; tokens = with_start Tok.block_mapping_start t }) refl r.are_levels (some_levels r.indent r.indents (ap is_empty r.columns_are ∙ (grind arith)));
     }
 
 pub keyless_outside : (text more : List ℕ) (t : ScannerState) (a : ArrivesBy text t [] (None ∷ []) []) → t.rest ≡ 58 ∷ more → colon_may_precede more ≡ true → is_value_indicator false (is_adjacent (before_past (before_by a.site.before) a.separation)) more ≡ true → IsDeep t.held →
     Holds (Stands text) (value_by more t [] (None ∷ []))
 unfolding begin_keyless_value begin_keyless_mapping
 keyless_outside text more t a e apart ind deep =
-    chained {P = λ w. (w ≡ record { rest = past_gap more; held = last }) × (t.held.key_allowed ≡ true)} (tried (record { rest = past_gap more; held = h }) _ begun (λ s d. (ap (λ y. record { rest = past_gap more; held = y }) d.0, d.1))) (λ w d.
+    chained {P = λ w. (w ≡ record { rest = past_gap more; held = (record rolled { indents = k.level.indents; indent = k.level.indent; key_allowed = true }) }) × (t.held.key_allowed ≡ true)}
+    (tried (record { rest = past_gap more; held = (at_value more t [] (None ∷ [])) }) _ (chained {P = λ u. (u ≡ rolled) × (t.held.key_allowed ≡ true)} (checked (not t.held.key_allowed) (At problem.ValueNotAllowed t.held.position) (λ f. went (k.mapping.is_held, not-false t.held.key_allowed f)))
+    (λ u d. subst (λ y. Holds (λ z. (z ≡ (record rolled { indents = k.level.indents; indent = k.level.indent; key_allowed = true })) × (t.held.key_allowed ≡ true)) (let v = roll_one_col_indent y in Ok (allow_key (not (in_flow v)) v))) (sym d.0) (went (ap (λ v. allow_key (not (in_flow v)) v) k.level.is_held, d.1)))) (λ s d. (ap (λ y. record { rest = past_gap more; held = y }) d.0, d.1))) (λ w d.
     went (subst (λ z. Stands text (on_held (push t.held.position Tok.value) z)) (sym d.0) (keyless_stands text more t a e d.1 apart ind k.level.indent k.level.indents (k.level.columns_are ∙ k.mapping.columns_are) k.level.are_levels k.level.awaits)))
   where
-    h : Held
-    h = at_value more t [] (None ∷ [])
-
     k : KeylessLevels more t
     k = keyless_levels more t a.are_levels deep
 
     rolled : Held
-    rolled = record h { indents = k.mapping.indents; indent = k.mapping.indent; tokens = with_start Tok.block_mapping_start t }
-
-    last : Held
-    last = record rolled { indents = k.level.indents; indent = k.level.indent; key_allowed = true }
-
-    begun : Holds (λ y. (y ≡ last) × (t.held.key_allowed ≡ true)) (begin_keyless_value t.held.position false h)
-    begun =
-        chained {P = λ u. (u ≡ rolled) × (t.held.key_allowed ≡ true)} (checked (not t.held.key_allowed) (At problem.ValueNotAllowed t.held.position) (λ f. went (k.mapping.is_held, not-false t.held.key_allowed f))) (λ u d.
-        subst (λ y. Holds (λ z. (z ≡ last) × (t.held.key_allowed ≡ true)) (let v = roll_one_col_indent y in Ok (allow_key (not (in_flow v)) v))) (sym d.0) (went (ap (λ v. allow_key (not (in_flow v)) v) k.level.is_held, d.1)))
+    rolled = record (at_value more t [] (None ∷ [])) { indents = k.mapping.indents; indent = k.mapping.indent; tokens = with_start Tok.block_mapping_start t }
 
 -- ---- in flow
 
@@ -122,17 +106,6 @@ valued_entry e = record { kind = e.kind; pair = pair_past (takes_pair e.kind e.p
 pub single_is : (f : FlowLevel) (fs : List FlowLevel) (k : Option Key) (e : Entry) → IsEntryOf f k e → takes_pair e.kind e.pair ≡ opens_pair (f ∷ fs)
 single_is f fs k e h = grind arith
 
-pub valued_is : (f : FlowLevel) (k : Option Key) (e : Entry) → IsEntryOf f k e → IsEntryOf (pair_level InPair f) None (valued_entry e)
-valued_is f k e h = grind arith
-
--- the entry is settled
-values : (here : Position) (again : Bool) (e : Entry) (xs : List Entry) → (e.had ≡ fresh) ⊎ (e.had ≡ settled) → entries_past here again gives_colon [] false e xs ≡ Some (valued_entry e ∷ xs)
-values here again e xs h = grind arith
-
--- the start of a single pair, if one begins
-pair_begun : (single : Bool) (pair : Pair) (here own : Position) (x : Had) → (x ≡ fresh) ⊎ (x ≡ settled) → begun_inside single pair here own own gives_colon false x ≡ start_if single own Tok.flow_mapping_start
-pair_begun a pair b own x d = grind arith
-
 pub one_line_colon : has_break (58 ∷ []) ≡ false
 unfolding is_break
 one_line_colon = refl
@@ -141,64 +114,33 @@ one_line_colon = refl
 abbrev pub with_pair : (single : Bool) → (more : List ℕ) → ScannerState → List Token
 with_pair single more t = (if single then t.held.tokens ++ token (pair_position (past t.held.position) more) Tok.flow_mapping_start ∷ [] else t.held.tokens)
 
-pair_tokens : (single : Bool) (ts before : List Token) (q : Position) (own : Token) → ts ≡ before →
-    (if single then ts ++ token q Tok.flow_mapping_start ∷ [] else ts) ++ own ∷ [] ≡ before ++ (start_if single q Tok.flow_mapping_start ++ (own ∷ []))
-pair_tokens single ts before q own e = grind (arith, append_assoc)
-
 -- what stands after it, with its account
 pub keyless_within : (text more : List ℕ) (t : ScannerState) (f : FlowLevel) (fs : List FlowLevel) (ks : List (Option Key)) (e : Entry) (es : List Entry) (a : ArrivesBy text t (f ∷ fs) (None ∷ ks) (e ∷ es)) → t.rest ≡ 58 ∷ more → colon_may_precede more ≡ true →
     is_value_indicator true (is_adjacent (before_past (before_by a.site.before) a.separation)) more ≡ true → IsDeep t.held →
     Stands text (colon_end t more t.held.indents t.held.indent (with_pair (opens_pair (f ∷ fs)) more t) false (pair_level InPair f ∷ fs) (None ∷ ks))
 unfolding is_break
 keyless_within text more t f fs ks e es a cut apart ind deep =
-    goes_inside text t (colon_end t more t.held.indents t.held.indent (with_pair single more t) false (pair_level InPair f ∷ fs) (None ∷ ks)) f (pair_level InPair f) fs None ks e (valued_entry e) es a (58 ∷ []) more Tok.value (colon_gap more)
-    (colon_reads t more t.held.indents t.held.indent (with_pair single more t) false (pair_level InPair f ∷ fs) (None ∷ ks) _ cut refl refl a.blocks_are a.awaits_is a.are_levels a.was_adjacent)
+    goes_inside text t (colon_end t more t.held.indents t.held.indent (with_pair (opens_pair (f ∷ fs)) more t) false (pair_level InPair f ∷ fs) (None ∷ ks)) f (pair_level InPair f) fs None ks e (valued_entry e) es a (58 ∷ []) more Tok.value (colon_gap more)
+    (colon_reads t more t.held.indents t.held.indent (with_pair (opens_pair (f ∷ fs)) more t) false (pair_level InPair f ∷ fs) (None ∷ ks) _ cut refl refl a.blocks_are a.awaits_is a.are_levels a.was_adjacent)
     (record {
       flow_is = refl;
       keys_are = refl;
-      entry_is = valued_is f None e a.are_entries.0;
+      entry_is = grind arith;
       has_had = (inr refl, refl);
       in_line = one_line_colon;
       begun = refl;
       is_piece = (refl, ind);
       stands = rw (a.is_indented (ap is_empty cut), low_enough text t f fs (None ∷ ks) (e ∷ es) a deep, apart) refl;
-      entry_past = λ xs. values t.held.position (is_renewed a.site.before a.separation) e xs had;
+      entry_past = λ xs. (grind arith);
       colons = λ n p ws last. refl;
-      tokens_are = tokens;
+      tokens_are = (grind (arith, append_assoc)) ∙ (ap (λ q. a.tokens ++ (start_if (opens_pair (f ∷ fs)) (pair_position q more) Tok.flow_mapping_start ++ (put t.held.position Tok.value ∷ []))) (sym (past_one t.held.position 58 more refl)) ∙
+          (ap (λ b. a.tokens ++ (start_if b (pair_position (position_after t.held.position (58 ∷ []) more) more) Tok.flow_mapping_start ++ (put t.held.position Tok.value ∷ []))) (sym (single_is f fs None e a.are_entries.0)) ∙ ap (λ x. a.tokens ++ (x ++ (put t.held.position Tok.value ∷ []))) (sym (grind arith))));
     })
-  where
-    single : Bool
-    single = opens_pair (f ∷ fs)
-
-    had : (e.had ≡ fresh) ⊎ (e.had ≡ settled)
-    had = a.are_entries.1.0
-
-    place : Position → Position
-    place q = pair_position q more
-
-    own : List Token
-    own = begun_inside (takes_pair e.kind e.pair) e.pair t.held.position (place (position_after t.held.position (58 ∷ []) more)) (place (position_after t.held.position (58 ∷ []) more)) gives_colon false e.had ++ (put t.held.position Tok.value ∷ [])
-
-    tokens : with_pair single more t ++ token t.held.position Tok.value ∷ [] ≡ a.tokens ++ own
-    tokens =
-        pair_tokens single t.held.tokens a.tokens (place (past t.held.position)) (put t.held.position Tok.value) (tokens_before text t f fs None ks e es a) ∙
-        (ap (λ q. a.tokens ++ (start_if single (place q) Tok.flow_mapping_start ++ (put t.held.position Tok.value ∷ []))) (sym (past_one t.held.position 58 more refl)) ∙
-        (ap (λ b. a.tokens ++ (start_if b (place (position_after t.held.position (58 ∷ []) more)) Tok.flow_mapping_start ++ (put t.held.position Tok.value ∷ []))) (sym (single_is f fs None e a.are_entries.0)) ∙
-        ap (λ x. a.tokens ++ (x ++ (put t.held.position Tok.value ∷ []))) (sym (pair_begun (takes_pair e.kind e.pair) e.pair t.held.position (place (position_after t.held.position (58 ∷ []) more)) e.had had))))
 
 pub keyless_inside : (text more : List ℕ) (t : ScannerState) (f : FlowLevel) (fs : List FlowLevel) (ks : List (Option Key)) (e : Entry) (es : List Entry) (a : ArrivesBy text t (f ∷ fs) (None ∷ ks) (e ∷ es)) → t.rest ≡ 58 ∷ more → colon_may_precede more ≡ true →
     is_value_indicator true (is_adjacent (before_past (before_by a.site.before) a.separation)) more ≡ true → IsDeep t.held → Holds (Stands text) (value_by more t (f ∷ fs) (None ∷ ks))
 unfolding begin_keyless_value begin_keyless_mapping
 keyless_inside text more t f fs ks e es a cut apart ind deep =
-    chained {P = λ w. w ≡ record { rest = past_gap more; held = last }} (tried (record { rest = past_gap more; held = at_value more t (f ∷ fs) (None ∷ ks) }) _ (begun f) (λ s d. ap (λ y. record { rest = past_gap more; held = y }) d)) (λ w d.
+    chained {P = λ w. w ≡ record { rest = past_gap more; held = (record t.held { flow = pair_level InPair f ∷ fs; keys = None ∷ ks; position = pair_position (past t.held.position) more; leading = false; key_allowed = false; tokens = with_pair (opens_pair (f ∷ fs)) more t }) }}
+    (tried (record { rest = past_gap more; held = at_value more t (f ∷ fs) (None ∷ ks) }) _ (grind (arith, went, opens_none)) (λ s d. ap (λ y. record { rest = past_gap more; held = y }) d)) (λ w d.
     went (subst (λ z. Stands text (on_held (push t.held.position Tok.value) z)) (sym d) (keyless_within text more t f fs ks e es a cut apart ind deep)))
-  where
-    single : Bool
-    single = opens_pair (f ∷ fs)
-
-    last : Held
-    last = record t.held { flow = pair_level InPair f ∷ fs; keys = None ∷ ks; position = pair_position (past t.held.position) more; leading = false; key_allowed = false; tokens = with_pair single more t }
-
-    begun : (f : FlowLevel) → Holds (λ y. y ≡ record t.held { flow = pair_level InPair f ∷ fs; keys = None ∷ ks; position = pair_position (past t.held.position) more; leading = false; key_allowed = false; tokens = with_pair (opens_pair (f ∷ fs)) more t })
-        (begin_keyless_value t.held.position (opens_pair (f ∷ fs)) (at_value more t (f ∷ fs) (None ∷ ks)))
-    begun a = grind (arith, went, opens_none)

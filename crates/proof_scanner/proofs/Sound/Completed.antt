@@ -1,5 +1,5 @@
 -- Rows that are begun and completed: where a text begins, over a step, and where it ends.
-use Rattle.proof_scanner.proofs.Common.{Account, Begins, BeginsButForKey, Bool, Completes, IsCutUpTo, IsRead, IsRowFrom, IsWritten, Key, Leads, Line, List, MayChoose, None, Option, Position, SoFar, Some, Step, Token, [], account_past, ap, append-nil, append_assoc, arith, beginnings_are_cuts, cut_past, eqb-true, false, first_account, first_position, is_separation, is_waiting, line_by, line_past_separation, may_end, nat_tests, position_after, put, refl, spelled, stream_start, subst, sym, taken, tokens_at_end, tokens_from, tokens_of_step, true, up_to_nul, ℕ, ◌&&◌, ◌++◌, ◌∙◌, ◌∷◌, ◌≡◌}
+use Rattle.proof_scanner.proofs.Common.{Account, Begins, BeginsButForKey, Bool, Completes, IsRead, IsRowFrom, IsWritten, Key, Leads, List, MayChoose, None, Option, Position, SoFar, Some, Step, Token, [], account_past, ap, append-nil, append_assoc, arith, beginnings_are_cuts, cut_past, eqb-true, false, first_account, first_position, is_separation, is_waiting, may_end, nat_tests, position_after, put, refl, spelled, stream_start, subst, sym, taken, tokens_at_end, tokens_from, tokens_of_step, true, up_to_nul, ℕ, ◌++◌, ◌∙◌, ◌∷◌, ◌≡◌}
 
 -- ---- beginnings of rows
 
@@ -12,11 +12,8 @@ spelled_past (v ∷ ws) w next = ap (λ x. v.separation ++ (v.piece ++ x)) (spel
 
 leads_past : (o : Option Account) (ws : List Step) (w : Step) (next : List ℕ) (a b : Account) → Leads o ws (w.separation ++ (w.piece ++ next)) a → IsWritten a w next → account_past a w next ≡ Some b → Leads o (ws ++ w ∷ []) next b
 leads_past None ws w next a b h written stands = absurd h
-leads_past (Some x) [] w next a b h written stands =
-    subst (λ y. IsWritten y w next × Leads (account_past y w next) [] next b) (sym h) (written, subst (λ o. Leads o [] next b) (sym stands) refl)
-leads_past (Some x) (v ∷ ws) w next a b h written stands =
-    subst (λ r. IsWritten x v r × Leads (account_past x v r) (ws ++ w ∷ []) next b) (sym (spelled_past ws w next))
-    (h.0, leads_past (account_past x v (spelled ws (w.separation ++ (w.piece ++ next)))) ws w next a b h.1 written stands)
+leads_past (Some x) [] w next a b h written stands = grind (arith, nat_tests, eqb-true)
+leads_past (Some x) (v ∷ ws) w next a b h written stands = grind (arith, nat_tests, eqb-true, spelled_past, leads_past (account_past x v (spelled ws (w.separation ++ (w.piece ++ next)))) ws w next a b h.1 written stands)
 
 -- over a step that may stand
 pub begins_past : (text after : List ℕ) (a b : Account) (w : Step) (next : List ℕ) → after ≡ w.separation ++ (w.piece ++ next) → IsWritten a w next → account_past a w next ≡ Some b → Begins text after a → Begins text next b
@@ -37,13 +34,6 @@ but_for_key_past text after begin a b w next cut written stands g = record {
   must_be = g.must_be;
   leads = leads_past (Some (record g.account { line = taken })) g.steps w next a b (subst (λ x. Leads (Some (record g.account { line = taken })) g.steps x a) cut g.leads) written stands;
 }
-
--- in flow, where no key is chosen outside it, breaks do not matter
-pub none_broken : (b : Bool) (k : Option Key) (l : Line) → l ≡ taken → line_past_separation true b (line_by false k l) ≡ Some (line_by false k l)
-none_broken b k l e = grind arith
-
-pub none_waits : (b : Bool) (k : Option Key) (l : Line) → l ≡ taken → (b && is_waiting (line_by false k l)) ≡ false
-none_waits a k l e = grind (arith, nat_tests, eqb-true)
 
 -- an open key that need not be one may be none
 pub may_be_no_key : (strict : Bool) (k : Option Key) (p : Position) (rest : List ℕ) → MayChoose true false k p rest → MayChoose strict false k p rest
@@ -80,11 +70,7 @@ pub goes_past : (strict : Bool) (text after : List ℕ) (a b : Account) (before 
     ((ws : List Step) (last : List ℕ) → spelled ws last ≡ next → before (w ∷ ws) last ++ tokens_of_step a w ws last ≡ past ws last) →
     SoFar strict text after a before → SoFar strict text next b past
 goes_past true text after a b before past w next cut written stands idle tokens h = completed_past text after a b before past w next cut written stands tokens h
-goes_past false text after a b before past w next cut written stands idle tokens h = (
-  idle refl h.0,
-  λ ws last e. subst (λ ts. IsCutUpTo text next b ts) (tokens ws last e)
-      (cut_past text after a b (before (w ∷ ws) last) w ws last next cut e written stands h.0 (idle refl h.0) (h.1 (w ∷ ws) last (ap (λ x. w.separation ++ (w.piece ++ x)) e ∙ sym cut))),
-)
+goes_past false text after a b before past w next cut written stands idle tokens h = grind (arith, nat_tests, eqb-true, cut_past)
 
 -- where no key waits, the tokens of a row so far are a cut
 pub goes_of : (strict : Bool) (text after : List ℕ) (a : Account) (ts : List Token) → may_end a ≡ true → is_waiting a.line ≡ false → Completes text after a (λ ws last. ts) → SoFar strict text after a (λ ws last. ts)

@@ -1,5 +1,5 @@
 -- The tokens so far are a cut of the text up to the last piece, and the position is that after the text that was passed.
-use Rattle.proof_scanner.proofs.Common.{Account, Arrives, IsCutUpTo, IsPositionIn, Key, List, MayChoose, None, Option, Position, ScannerState, Some, Stands, Token, [], ap, append-nil, append_assoc, false, first_position, is_renewed, outside_key, position_after, position_append, refl, sym, up_to_nul, ℕ, ◌++◌, ◌∙◌, ◌≡◌}
+use Rattle.proof_scanner.proofs.Common.{Account, Arrives, IsCutUpTo, IsPositionIn, Key, List, MayChoose, Option, Position, ScannerState, Stands, Token, [], ap, append_assoc, false, first_position, is_renewed, outside_key, position_after, position_append, refl, sym, up_to_nul, ℕ, ◌++◌, ◌∙◌, ◌≡◌, nat_tests, eqb-true, arith}
 use Rattle.defs_token.specs.Account.{first_account}
 use Rattle.defs_token.specs.Cut.{spelled}
 use Rattle.proof_scanner.proofs.Cut.RowPositions.{row_position, spelled_before}
@@ -7,8 +7,7 @@ use Rattle.proof_scanner.proofs.Sound.Stales.{none_completes}
 use Rattle.proof_scanner.proofs.Sound.StreamEnds.{entries_no_key}
 
 no_choice : (k : Option Key) (p : Position) (rest : List ℕ) → MayChoose false false k p rest
-no_choice None p rest = tt
-no_choice (Some k) p rest = tt
+no_choice a p rest = grind (arith, nat_tests, eqb-true)
 
 -- between two fetches
 pub stands_cut : (text : List ℕ) (t : ScannerState) → (s : Stands text t) → IsCutUpTo text (s.separation ++ t.rest) s.base t.held.tokens
@@ -29,7 +28,3 @@ cut_position text separation rest a ts p whole e c = record {
   is_text = sym whole ∙ sym c.is_text ∙ spelled_before c.row (separation ++ rest) ∙ sym (append_assoc (spelled c.row []) separation rest);
   is_position = e ∙ ap (λ q. position_after q separation rest) (sym (ap (λ b. b.position) c.is_row.past) ∙ row_position first_account c.row (separation ++ rest)) ∙ sym (position_append first_position (spelled c.row []) separation rest);
 }
-
--- at the text's end the position is that after the whole text
-pub end_position : (text : List ℕ) (p : Position) → IsPositionIn text [] p → p ≡ position_after first_position text []
-end_position text p i = i.is_position ∙ ap (λ b. position_after first_position b []) (sym (append-nil i.before) ∙ sym i.is_text)

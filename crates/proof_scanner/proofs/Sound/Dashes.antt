@@ -1,5 +1,5 @@
 -- The function of the model that reads a dash: what holds where it begins holds between two fetches after it.
-use Rattle.proof_scanner.proofs.Common.{AreLevels, Arrives, At, Bool, Fault, Held, Holds, Indent, List, No, None, Ok, Position, Result, ScannerState, Stands, Tok, Token, Yes, [], after, allow_key, ap, begins_entry, blanks_and_comment, chained, check_block_entry, check_dash, checked, columns, dash_may_precede, ends_at, eqb-true, false, fetch_block_entry, gap, gives_dash, has_open_level, if◌then◌else◌, in_flow, inl, inr, is_at_break_or_flow, is_at_gap, is_blank, is_blank_or_breakz, is_break, is_deeper, is_empty, is_in_column, is_on_line, is_one_of, leading, lexed, line_past, not, not-false, not_ended, on_held, opened, past, past_blanks_and_comment, past_comment, past_line_rest, peek, placed, position_after, push, put, refl, remove_implicit_key, roll_entry, roll_indent, roll_one_col_indent, same_break, skip_indicator, skip_spaces, slice_index, space, start_if, subst, sym, token, top_needs_block_end, tried, true, try_held, went, with_top, ℕ, ◌&&◌, ◌++◌, ◌==◌, ◌>>=◌, ◌||◌, ◌∙◌, ◌∷◌, ◌≡◌, ◌⊎◌}
+use Rattle.proof_scanner.proofs.Common.{AreLevels, Arrives, At, Fault, Held, Holds, Indent, List, No, None, Ok, Position, Result, ScannerState, Stands, Tok, Token, Yes, [], allow_key, ap, blanks_and_comment, chained, check_block_entry, check_dash, checked, columns, dash_may_precede, ends_at, eqb-true, false, fetch_block_entry, gap, gives_dash, has_open_level, if◌then◌else◌, in_flow, inl, is_at_break_or_flow, is_at_gap, is_blank, is_break, is_deeper, is_empty, is_in_column, leading, lexed, line_past, not, not-false, not_ended, on_held, opened, past, past_blanks_and_comment, past_line_rest, peek, placed, position_after, push, put, refl, remove_implicit_key, roll_entry, roll_indent, same_break, skip_indicator, skip_spaces, space, start_if, subst, sym, token, top_needs_block_end, tried, true, try_held, went, with_top, ℕ, ◌++◌, ◌>>=◌, ◌||◌, ◌∙◌, ◌∷◌, ◌≡◌, ◌⊎◌, arith, nat_tests}
 use Rattle.yaml_chars.specs.Class.{is_break as is_break_here, is_flow as is_flow_here}
 use Rattle.yaml_tokens.specs.declared.problem.Problem.TheVariants as problem
 use Rattle.model_scanner.specs.State.{after as after_first}
@@ -10,8 +10,8 @@ use Rattle.proof_scanner.proofs.Cut.Blocks.{entry_from, key_removed}
 use Rattle.proof_scanner.proofs.Sound.Arrivals.{first_not_right}
 use Rattle.proof_scanner.proofs.Sound.Blanks.{line_rest_cut, line_rest_fills, line_rest_in_line, past_rest_is_clear, found_in, past_rest, rest_read, none_skipped}
 use Rattle.proof_scanner.proofs.Sound.Indicated.{past_one, indicator_end}
-use Rattle.proof_scanner.proofs.Sound.OutsidePieces.{read_outside, line_free, none_open, started_tokens, begun_after, with_start}
-use Rattle.proof_scanner.proofs.Sound.Rolled.{RollsTo, rolls_to, OpensOne, opens_one, top_closed}
+use Rattle.proof_scanner.proofs.Sound.OutsidePieces.{read_outside, line_free, started_tokens, begun_after, with_start}
+use Rattle.proof_scanner.proofs.Sound.Rolled.{RollsTo, rolls_to, opens_one, top_closed}
 use Rattle.proof_scanner.proofs.Sound.Sides.{ArrivesBy, ArrivesOutside, ArrivesInside, arrives_side}
 use Rattle.proof_scanner.proofs.Sound.Reads.{reads_before_none}
 
@@ -25,28 +25,12 @@ entry_checked s = checked (in_flow s) (At problem.BlockEntryInFlow s.position) (
 -- no dash stands after a TAB
 dash_checked : (more : List ℕ) (t : ScannerState) → t.rest ≡ past_blanks_and_comment more → Holds (λ u. (u ≡ t) × (dash_may_precede more ≡ true)) (check_dash (found_in (leading is_blank more)) t)
 unfolding check_dash
-dash_checked more t e =
-    checked _ (At problem.TabAfterDash t.held.position) (λ h. went (
-      refl,
-      of (is_one_of (leading is_blank more) 9) (after is_blank more)
-          (subst (λ r. (is_one_of (leading is_blank more) 9 && (slice_index r 0 == 45) && is_blank_or_breakz (slice_index r 1)) ≡ false) e h),
-    ))
-  where
-    of : (tabs : Bool) (b : List ℕ) → (tabs && (slice_index (past_comment b) 0 == 45) && is_blank_or_breakz (slice_index (past_comment b) 1)) ≡ false → not (tabs && begins_entry b) ≡ true
-    of false b h = refl
-    of true [] h = refl
-    of true (c ∷ r) h = on (c == 35) (c == 45) refl refl h
-      where
-        on : (x y : Bool) → (c == 35) ≡ x → (c == 45) ≡ y → ((slice_index (if x then after is_on_line (c ∷ r) else c ∷ r) 0 == 45) && is_blank_or_breakz (slice_index (if x then after is_on_line (c ∷ r) else c ∷ r) 1)) ≡ false → not ((c == 45) && is_at_gap r) ≡ true
-        on x false e f h = rw f refl
-        on true true e f h = let same : c ≡ 35 = eqb-true c 35 e in absurd (cc (rw same at f))
-        on false true e f h = let none : is_at_gap r ≡ false = sym (gap_here r) ∙ (rw f at h) in rw (f, none) refl
+dash_checked more t e = grind (arith, nat_tests, checked, went, eqb-true, gap_here)
 
 -- a flow indicator or a break after the blanks and the comment
 pub flow_or_break : (r : List ℕ) → (is_break_here (peek r) || is_flow_here (peek r)) ≡ is_at_break_or_flow r
 unfolding is_break_here is_flow_here
-flow_or_break [] = refl
-flow_or_break (c ∷ r) = ap (λ b. b || is_flow_here c) (sym (same_break c)) ∙ ap (λ b. is_break c || b) (sym (same_flow c))
+flow_or_break a = grind (arith, nat_tests, eqb-true, same_break, same_flow)
 
 -- ---- the levels of indentation after it
 
@@ -61,16 +45,7 @@ pub record Entered (w u : ScannerState) : Type 0 where
 
 pub entered : (w : ScannerState) → in_flow w.held ≡ false → AreLevels w.held.indent w.held.indents → top_needs_block_end w.held.indents ≡ true → Entered w (roll_entry w)
 unfolding roll_entry
-entered w out levels top = by (is_break_here (peek w.rest) || is_flow_here (peek w.rest)) (sym (flow_or_break w.rest))
-  where
-    closed : (is_empty w.held.indents ≡ false) × (has_open_level w.held.indents ≡ false)
-    closed = top_closed w.held.indents top
-
-    by : (b : Bool) → is_at_break_or_flow w.rest ≡ b → Entered w (if b then on_held roll_one_col_indent w else w)
-    by true e =
-        let o : OpensOne w.held (roll_one_col_indent w.held) = opens_one w.held out levels closed.0 in
-        record { indents = o.indents; indent = o.indent; is = ap (λ h. record w { held = h }) o.is_held; columns_are = o.columns_are; are_levels = o.are_levels; awaits = o.awaits ∙ sym e }
-    by false e = record { indents = w.held.indents; indent = w.held.indent; is = refl; columns_are = refl; are_levels = levels; awaits = closed.1 ∙ sym e }
+entered w out levels top = grind (arith, nat_tests, eqb-true, flow_or_break, opens_one, top_closed)
 
 -- ---- the step
 
@@ -110,7 +85,9 @@ dash_stands text more t a flow keys e gap allowed apart i ds columns_are levels 
       after_is = ap (λ l. line_past (is_in_column t.held.position.col bs) t.held.position bs gives_dash false l) (line_free t.held.key_allowed t.rest a.line_here allowed a.line_is);
       begun = refl;
       begins_none = refl;
-      tokens_are = tokens;
+      tokens_are = ap (λ cs. (if is_deeper t.held.position.col cs then placed None (token t.held.position Tok.block_sequence_start) t.held.tokens else t.held.tokens) ++ own (past t.held.position) ∷ []) (sym a.blocks_are) ∙
+          (started_tokens (is_deeper t.held.position.col bs) t.held.tokens a.tokens (ends_at t.held.position a.site.blocks bs) t.held.position Tok.block_sequence_start (own (past t.held.position)) a.tokens_are ∙ ap (λ q. a.tokens ++ ((ends_at t.held.position a.site.blocks bs ++ start_if (is_deeper t.held.position.col bs) t.held.position Tok.block_sequence_start) ++ (own q ∷ [])))
+          (sym (past_dash t.held.position more)));
     })
   where
     bs : List ℕ
@@ -118,12 +95,6 @@ dash_stands text more t a flow keys e gap allowed apart i ds columns_are levels 
 
     own : Position → Token
     own q = put (past_line_rest q more) Tok.block_entry
-
-    tokens : with_start Tok.block_sequence_start t ++ own (past t.held.position) ∷ [] ≡ a.tokens ++ ((ends_at t.held.position a.site.blocks bs ++ start_if (is_deeper t.held.position.col bs) t.held.position Tok.block_sequence_start) ++ (own (position_after t.held.position (45 ∷ []) more) ∷ []))
-    tokens =
-        ap (λ cs. (if is_deeper t.held.position.col cs then placed None (token t.held.position Tok.block_sequence_start) t.held.tokens else t.held.tokens) ++ own (past t.held.position) ∷ []) (sym a.blocks_are) ∙
-        (started_tokens (is_deeper t.held.position.col bs) t.held.tokens a.tokens (ends_at t.held.position a.site.blocks bs) t.held.position Tok.block_sequence_start (own (past t.held.position)) a.tokens_are ∙
-        ap (λ q. a.tokens ++ ((ends_at t.held.position a.site.blocks bs ++ start_if (is_deeper t.held.position.col bs) t.held.position Tok.block_sequence_start) ++ (own q ∷ []))) (sym (past_dash t.held.position more)))
 
 -- ---- the function
 
@@ -138,7 +109,7 @@ entry_on v = lexed (space Yes v.rest v.held.position) v.held check_dash >>= λ w
 dash_outside : (text more : List ℕ) (t : ScannerState) (a : ArrivesBy text t [] (None ∷ []) []) → t.held.flow ≡ [] → t.held.keys ≡ None ∷ [] → t.rest ≡ 45 ∷ more → is_at_gap more ≡ true → t.held.key_allowed ≡ true → IsDeep t.held →
     Holds (Stands text) (entry_from t t)
 dash_outside text more t a flow keys e gap allowed deep =
-    subst (λ v. Holds (Stands text) (entry_on v)) (sym is_v)
+    subst (λ v. Holds (Stands text) (entry_on v)) (sym (ap (λ x. record { rest = after_first x; held = roll_indent t.held.position.col None Tok.block_sequence_start t.held.position h }) e ∙ ap (λ x. record { rest = more; held = x }) r.is_held))
     (chained {P = λ w. (w ≡ past_rest v) × (dash_may_precede more ≡ true)} (rest_read v check_dash _ (λ h. dash_checked more (past_rest v) refl)) (λ w d.
     subst (λ x. Holds (Stands text) (skip_spaces No x >>= entry_then)) (sym d.0)
     (subst (λ r. Holds (Stands text) (r >>= entry_then)) (sym (none_skipped (past_rest v) (past_rest_is_clear more))) (last d.1))))
@@ -146,22 +117,16 @@ dash_outside text more t a flow keys e gap allowed deep =
     h : Held
     h = (skip_indicator t).held
 
-    out : in_flow t.held ≡ false
-    out = ap (λ fs. not (is_empty fs)) flow
-
     r : RollsTo t.held.position.col None (token t.held.position Tok.block_sequence_start) h (roll_indent t.held.position.col None Tok.block_sequence_start t.held.position h)
-    r = rolls_to t.held.position.col None Tok.block_sequence_start t.held.position h out a.are_levels (first_not_right t.held.position.col t.held.indent t.held.indents a.are_levels deep)
+    r = rolls_to t.held.position.col None Tok.block_sequence_start t.held.position h (ap (λ fs. not (is_empty fs)) flow) a.are_levels (first_not_right t.held.position.col t.held.indent t.held.indents a.are_levels deep)
 
     v : ScannerState
     v = record { rest = more; held = record h { indents = r.indents; indent = r.indent; tokens = with_start Tok.block_sequence_start t } }
 
-    is_v : on_held (roll_indent t.held.position.col None Tok.block_sequence_start t.held.position) (skip_indicator t) ≡ v
-    is_v = ap (λ x. record { rest = after_first x; held = roll_indent t.held.position.col None Tok.block_sequence_start t.held.position h }) e ∙ ap (λ x. record { rest = more; held = x }) r.is_held
-
     last : dash_may_precede more ≡ true → Holds (Stands text) (entry_then (past_rest v))
     last apart =
         let w : ScannerState = past_rest v in
-        let n : Entered w (roll_entry w) = entered w out r.are_levels (r.is_top deep) in
+        let n : Entered w (roll_entry w) = entered w (ap (λ fs. not (is_empty fs)) flow) r.are_levels (r.is_top deep) in
         chained {P = λ y. y ≡ record (roll_entry w) { held = record (roll_entry w).held { keys = with_top None (roll_entry w).held.keys } }}
         (tried (roll_entry w) (remove_implicit_key (roll_entry w).held) (key_removed (roll_entry w).held) (λ s d. ap (λ z. record (roll_entry w) { held = z }) d)) (λ y d.
         went (subst (λ z. Stands text (on_held (λ s. push s.position Tok.block_entry (allow_key true s)) z)) (sym d)
@@ -176,7 +141,4 @@ dash_keeps text more t a e gap deep =
     (λ u d. subst (λ y. Holds (Stands text) (entry_from t y)) (sym d.0) (by (arrives_side text t a) d.1 d.2))
   where
     by : ArrivesOutside text t ⊎ ArrivesInside text t → in_flow t.held ≡ false → t.held.key_allowed ≡ true → Holds (Stands text) (entry_from t t)
-    by (inl o) out allowed =
-        let none : o.key ≡ None = none_open t.held.key_allowed t.rest o.key o.here.line_here allowed (ap is_empty e) o.here.line_is in
-        dash_outside text more t (subst (λ k. ArrivesBy text t [] (k ∷ []) []) none o.here) o.flow_is (o.keys_are ∙ ap (λ k. k ∷ []) none) e gap allowed deep
-    by (inr i) out allowed = absurd (cc (out, ap (λ fs. not (is_empty fs)) i.flow_is))
+    by a out allowed = grind (arith, nat_tests, eqb-true, dash_outside)

@@ -1,5 +1,5 @@
 -- Document markers and directives: what holds where they begin holds between two fetches after them.
-use Rattle.proof_scanner.proofs.Common.{AreLevels, Arrives, At, Bool, Entry, Err, FlowKind, FlowLevel, Had, HasNoTabs, Held, Holds, IsLeading, IsPiece, IsReadOn, Key, Levels, Line, List, None, Ok, Option, Pair, Position, ScannerState, Site, Some, Stands, Step, Tok, Token, [], act_of, ap, append-nil, append_assoc, arith, awaits_past, before_by, begin_line, begins_free_line, begins_line, begun_by, begun_inside, begun_outside, block_end, closed_key, colon_of, columns, ends_at, entries_past, false, free, further_lines_stand, gives_marker, has_break, has_open_level, if◌then◌else◌, in_flow, inl, inr, is_closed, is_deeper, is_empty, is_in_column, is_indented_by_spaces, is_keyed, is_renewed, is_required, is_separation, least_for, length, may_precede, not, not_ended, other, pair_position, position_after, previous_by, put, refl, refused, remove_implicit_key, replicate, replicate-append-replicate, seen, settled, shown_position, site_in, subst, suc, sym, taken, takes_pair, top_key, true, unroll_indent, went, with_top, ℕ, ◌++◌, ◌+◌, ◌-◌, ◌∙◌, ◌∷◌, ◌≡◌, ◌≤◌, ◌⊎◌}
+use Rattle.proof_scanner.proofs.Common.{AreLevels, Arrives, At, Bool, Entry, Err, FlowLevel, HasNoTabs, Held, Holds, IsLeading, IsPiece, IsReadOn, Key, Levels, List, None, Ok, Option, Position, ScannerState, Site, Stands, Tok, Token, [], act_of, ap, append-nil, append_assoc, arith, awaits_past, before_by, begin_line, begins_free_line, begins_line, begun_by, begun_inside, closed_key, columns, entries_past, false, further_lines_stand, gives_marker, has_break, has_open_level, if◌then◌else◌, in_flow, inl, inr, is_closed, is_empty, is_in_column, is_indented_by_spaces, is_renewed, is_required, is_separation, least_for, length, may_precede, not, other, pair_position, position_after, previous_by, put, refl, refused, remove_implicit_key, replicate-append-replicate, seen, settled, shown_position, site_in, subst, sym, taken, takes_pair, top_key, true, unroll_indent, went, with_top, ℕ, ◌++◌, ◌∙◌, ◌∷◌, ◌≡◌, ◌≤◌, ◌⊎◌, eqb-true, nat_tests}
 use Rattle.proof_scanner.proofs.Sound.OutOfFlow.{tokens_then}
 use Rattle.yaml_tokens.specs.declared.problem.Problem.TheVariants as problem
 use Rattle.defs_token.specs.Account.{Account as PieceAccount}
@@ -7,10 +7,8 @@ use Rattle.defs_token.specs.Key.{line_past as line_of_piece}
 use Rattle.proof_scanner.proofs.Known.Steps.{begins_key}
 use Rattle.proof_scanner.proofs.Sound.Around.{tokens_before}
 use Rattle.proof_scanner.proofs.Sound.Arrivals.{some_rest}
-use Rattle.proof_scanner.proofs.Sound.EntryPieces.{tokens_inside, goes_inside}
-use Rattle.proof_scanner.proofs.Sound.FlowMarks.{may_be_none}
+use Rattle.proof_scanner.proofs.Sound.EntryPieces.{goes_inside}
 use Rattle.proof_scanner.proofs.Sound.Gone.{key_gone}
-use Rattle.proof_scanner.proofs.Sound.NodeTokens.{past_step, not_keyed}
 use Rattle.proof_scanner.proofs.Sound.OutsidePieces.{read_outside}
 use Rattle.proof_scanner.proofs.Sound.Sides.{with_entries, ArrivesBy, ArrivesOutside, ArrivesInside, arrives_side}
 use Rattle.proof_scanner.proofs.Sound.StreamEnds.{ends_of, all_levels, shorter}
@@ -78,10 +76,7 @@ begun_from u = record u { keys = with_top None u.keys; key_allowed = false }
 
 pub line_begun : (s u : Held) → unroll_indent 0 s ≡ u → Holds (λ v. (is_required (top_key u.keys) ≡ false) × (v ≡ begun_from u)) (begin_line s)
 unfolding begin_line remove_implicit_key
-line_begun s u e = subst (λ (h : Held). Holds (λ v. (is_required (top_key u.keys) ≡ false) × (v ≡ begun_from u)) (closed_key (if is_required (top_key h.keys) then Err (At problem.KeyExpected h.position) else Ok (record h { keys = with_top None h.keys })))) (sym e) (by (is_required (top_key u.keys)) refl)
-  where
-    by : (b : Bool) → is_required (top_key u.keys) ≡ b → Holds (λ v. (is_required (top_key u.keys) ≡ false) × (v ≡ begun_from u)) (closed_key (if b then Err (At problem.KeyExpected u.position) else Ok (record u { keys = with_top None u.keys })))
-    by a i = grind (arith, refused, went)
+line_begun s u e = subst (λ (h : Held). Holds (λ v. (is_required (top_key u.keys) ≡ false) × (v ≡ begun_from u)) (closed_key (if is_required (top_key h.keys) then Err (At problem.KeyExpected h.position) else Ok (record h { keys = with_top None h.keys })))) (sym e) (grind (arith, refused, went))
 
 -- all levels have ended
 abbrev pub all_ended : Held → Held
@@ -93,23 +88,13 @@ unrolled_outside s e a = rw e (ap (λ (u : Levels). record s { indent = u.indent
 
 -- ---- outside flow
 
--- the ends of the collections that a piece would end anyway, and of the others
-both_ends : (p : Position) (bs : List ℕ) → ends_at p bs (not_ended p.col bs) ++ ends_of (length (not_ended p.col bs)) p ≡ ends_at p bs []
-both_ends p bs =
-    let fewer = shorter p.col bs in
-    let all : length bs - length (not_ended p.col bs) + length (not_ended p.col bs) ≡ length bs - 0 = omega (arith, fewer) in
-    replicate-append-replicate (length bs - length (not_ended p.col bs)) (length (not_ended p.col bs)) (put p block_end) ∙ ap (λ n. replicate n (put p block_end)) all
-
-marker_line : (must : Bool) (here : Position) (bs : List ℕ) (l : Line) → (l ≡ free) ⊎ (l ≡ taken) → line_of_piece must here bs gives_marker false l ≡ Some (record { line = taken; blocks = bs })
-marker_line must a bs l b = grind arith
-
 line_stands : (text : List ℕ) (t : ScannerState) (d : Read) (a : ArrivesBy text t [] (None ∷ []) []) → IsRead t d → t.held.flow ≡ [] → with_top None t.held.keys ≡ None ∷ [] → Stands text (line_past t (begun_from (all_ended t.held)) d)
 line_stands text t d a r flow keys =
     read_outside text t (line_past t (begun_from (all_ended t.held)) d) a d.piece (next_of d) d.gap d.tok (record { line = taken; blocks = [] }) x (ap (λ k. site_in false k t.held.position a.site) r.token.act)
     (line_reads t d (begun_from (all_ended t.held)) _ r refl refl refl (r.token.awaits_outside x.blocks x.awaits (next_of d)) refl a.was_adjacent (refl, refl, refl)) (record { line_is = (inr refl, sym r.not_free, tt); no_key = refl; flow_is = flow; keys_are = keys }) (record {
       is_piece = subst (λ p. IsPiece (seen (with_entries a.site a.line []) x a.separation) d.piece (next_of d) None p d.tok) (sym (r.token.shown x d.piece (next_of d))) (r.is_piece (seen (with_entries a.site a.line []) x a.separation) r.at_margin refl);
       stands = rw (a.is_indented (some_rest t.rest d.piece (next_of d) r.cut r.is_solid), r.token.lines (least_for d.tok x) d.piece, r.precedes false x.blocks) refl;
-      after_is = ap (λ k. line_of_piece (is_in_column x.position.col x.blocks) x.position x.blocks k false a.line_here) r.token.act ∙ marker_line (is_in_column x.position.col x.blocks) x.position x.blocks a.line_here a.line_is.0;
+      after_is = ap (λ k. line_of_piece (is_in_column x.position.col x.blocks) x.position x.blocks k false a.line_here) r.token.act ∙ (grind arith);
       begun = r.token.begun;
       begins_none = ap begins_key r.token.act;
       tokens_are = tokens;
@@ -125,27 +110,9 @@ line_stands text t d a r flow keys =
     own = put t.held.position d.tok
 
     tokens : (t.held.tokens ++ ends_of (length (columns t.held.indent t.held.indents)) t.held.position) ++ (own ∷ []) ≡ a.tokens ++ tokens_then a.site x d.piece d.tok (next_of d) a.line_here
-    tokens =
-        let here : List ℕ = not_ended t.held.position.col bs in
-        let ends : List Token = ends_at t.held.position bs here in
-        let first : t.held.tokens ++ ends_of (length (columns t.held.indent t.held.indents)) t.held.position ≡ a.tokens ++ ends_at t.held.position bs [] =
-        ap (λ cs. t.held.tokens ++ ends_of (length cs) t.held.position) (sym a.blocks_are) ∙ (ap (λ ts. ts ++ ends_of (length here) t.held.position) a.tokens_are ∙
-        (append_assoc a.tokens ends (ends_of (length here) t.held.position) ∙ ap (λ ts. a.tokens ++ ts) (both_ends t.held.position bs))) in
-        let begun : begun_outside (is_deeper x.position.col x.blocks) x.position x.position (act_of d.tok) false (Some a.line_here) ≡ [] = ap (λ k. begun_outside (is_deeper x.position.col x.blocks) x.position x.position k false (Some a.line_here)) r.token.act in
-        ap (λ ts. ts ++ (own ∷ [])) first ∙ (append_assoc a.tokens (ends_at t.held.position bs []) (own ∷ []) ∙
-        ap (λ ts. a.tokens ++ ts) (ap (λ ts. ts ++ (own ∷ [])) (sym (append-nil (ends_at t.held.position bs []))) ∙
-        (ap (λ ts. (ends_at t.held.position bs [] ++ ts) ++ (own ∷ [])) (sym begun) ∙
-        ap (λ p. (ends_at t.held.position bs [] ++ begun_outside (is_deeper x.position.col x.blocks) x.position x.position (act_of d.tok) false (Some a.line_here)) ++ (put p d.tok ∷ [])) (sym (r.token.shown x d.piece (next_of d))))))
+    tokens = grind (arith, nat_tests, bs, append_assoc, eqb-true, shorter, replicate-append-replicate, x, own, append-nil)
 
 -- ---- in flow
-
-had_settled : (again : Bool) (h : Had) → is_keyed h ≡ false → (kind : FlowKind) (pair : Pair) (here : Position) (xs : List Entry) →
-    entries_past here again gives_marker [] false (record { kind = kind; pair = pair; had = h }) xs ≡ Some (record { kind = kind; pair = pair; had = settled } ∷ xs)
-had_settled again h k kind pair here xs = grind arith
-
--- no key's colon
-marker_past : (n : ℕ) (p : Position) (w : Step) (ws : List Step) (last : List ℕ) → act_of w.shown ≡ gives_marker → begun_by w.shown ≡ [] → colon_of n p (w ∷ ws) last ≡ colon_of n (past_step p w ws last) ws last
-marker_past n p w ws last e f = rw (e, f) refl
 
 -- no key of the entry waits after it, and none may begin
 abbrev pub entry_settled : Entry → Entry
@@ -165,34 +132,16 @@ line_goes text t d f fs k ks e es a r flow keys =
       is_piece = subst (λ p. IsPiece (seen (with_entries a.site a.line (e ∷ es)) x a.separation) d.piece (next_of d) None p d.tok) (sym (r.token.shown x d.piece (next_of d))) (r.is_piece (seen (with_entries a.site a.line (e ∷ es)) x a.separation) r.at_margin refl);
       stands = rw (a.is_indented (some_rest t.rest d.piece (next_of d) r.cut r.is_solid), r.token.act, r.token.lines (least_for d.tok x) d.piece, r.precedes true x.blocks) refl;
       entry_past = λ xs. ap (λ y. entries_past x.position (is_renewed a.site.before a.separation) y [] false e xs) r.token.act ∙
-          had_settled (is_renewed a.site.before a.separation) e.had (not_keyed t.held.key_allowed (is_renewed a.site.before a.separation) k e.had a.are_entries.1) e.kind e.pair x.position xs;
-      colons = λ n p ws last. marker_past (suc n) p (record { separation = a.separation; piece = d.piece; shown = d.tok; key = false }) ws last r.token.act r.token.begun;
-      tokens_are = tokens;
+          (grind arith);
+      colons = λ n p ws last. (rw (r.token.act, r.token.begun) refl);
+      tokens_are = let pair : Position = pair_position (position_after x.position d.piece (next_of d)) (next_of d) in ap (λ ts. ts ++ ((put t.held.position d.tok) ∷ [])) (tokens_before text t f fs k ks e es a) ∙
+          (ap (λ b. a.tokens ++ (b ++ ((put t.held.position d.tok) ∷ []))) (sym (ap (λ y. begun_inside (takes_pair e.kind e.pair) e.pair x.position pair pair y false e.had) r.token.act)) ∙ ap (λ p. a.tokens ++ (begun_inside (takes_pair e.kind e.pair) e.pair x.position pair pair (act_of d.tok) false e.had ++ (put p d.tok ∷ []))) (sym (r.token.shown x d.piece (next_of d))));
     })
   where
     x : Site
     x = site_in true gives_marker t.held.position a.site
 
-    own : Token
-    own = put t.held.position d.tok
-
-    tokens : t.held.tokens ++ (own ∷ []) ≡ a.tokens ++ tokens_inside x d.piece d.tok (next_of d) e
-    tokens =
-        let pair : Position = pair_position (position_after x.position d.piece (next_of d)) (next_of d) in
-        ap (λ ts. ts ++ (own ∷ [])) (tokens_before text t f fs k ks e es a) ∙
-        (ap (λ b. a.tokens ++ (b ++ (own ∷ []))) (sym (ap (λ y. begun_inside (takes_pair e.kind e.pair) e.pair x.position pair pair y false e.had) r.token.act)) ∙
-        ap (λ p. a.tokens ++ (begun_inside (takes_pair e.kind e.pair) e.pair x.position pair pair (act_of d.tok) false e.had ++ (put p d.tok ∷ []))) (sym (r.token.shown x d.piece (next_of d))))
-
 -- ---- both
-
--- outside flow, if no key must be one
-pub outside_at : (text : List ℕ) (t : ScannerState) (o : ArrivesOutside text t) → is_empty t.rest ≡ false → is_required (top_key t.held.keys) ≡ false → (d : Read) → IsRead t d →
-    Stands text (line_past t (begun_from (all_ended t.held)) d)
-outside_at text t o some none d r = line_stands text t d (key_gone text t o.key o.here some (may_be_none o.key [] t.held.keys t.held.position t.rest o.keys_are none)) r o.flow_is (ap (with_top None) o.keys_are)
-
--- in flow
-pub inside_at : (text : List ℕ) (t : ScannerState) (i : ArrivesInside text t) (d : Read) → IsRead t d → Stands text (line_past t (begun_from t.held) d)
-inside_at text t i d r = line_goes text t d i.level i.levels i.key i.keys i.entry i.entries i.here r i.flow_is (ap (with_top None) i.keys_are)
 
 -- What begins such a line, and what holds after it.
 pub record Begins (text : List ℕ) (t : ScannerState) : Type 0 where
@@ -209,11 +158,11 @@ begins text t some a = by (arrives_side text t a)
       held = all_ended t.held;
       rolled = unrolled_outside t.held (ap (λ fs. not (is_empty fs)) o.flow_is) o.here.are_levels;
       same_position = refl;
-      stands = λ d r none. outside_at text t o some none d r;
+      stands = λ d r none. (line_stands text t d (key_gone text t o.key o.here some (grind (arith, nat_tests, eqb-true))) r o.flow_is (ap (with_top None) o.keys_are));
     }
     by (inr i) = record {
       held = t.held;
       rolled = unrolled_in_flow 0 t.held (ap is_empty i.flow_is);
       same_position = refl;
-      stands = λ d r none. inside_at text t i d r;
+      stands = λ d r none. (line_goes text t d i.level i.levels i.key i.keys i.entry i.entries i.here r i.flow_is (ap (with_top None) i.keys_are));
     }

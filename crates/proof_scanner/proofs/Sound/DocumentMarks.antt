@@ -1,11 +1,11 @@
 -- The functions of the model that read document markers and directives keep what holds where they begin.
-use Rattle.proof_scanner.proofs.Common.{Arrives, Bool, Directive, HasFirst, Held, Holds, IsDirectiveRead, IsPiece, IsReadOn, List, None, Ok, Position, ScannerState, Some, Stands, Tok, [], and_false, and_parts, another, ap, arith, begin_line, begins_free_line, begins_line, begins_with, blanks_and_comment, chained, check_document_end, directive_of, directives_end, either, eqb-true, false, fetch_directive, fetch_document_end, fetch_document_marker, first_break, gap, has_break, has_no_break, has_no_nul, has_tab_within, if◌then◌else◌, is_at_gap, is_before_line_feed, is_break, is_breakz, is_empty, is_indented_by_spaces, is_renewed, is_required, last_line, least_column, line_is_done, may_precede, nat_tests, no_nul_after, not, on_held, or_true, past, past_blanks_and_comment, past_line_rest, peek, position_after, position_append, previous_by, push, read, read_as, refl, refused, skip_indicator, split, split_by, subst, suc, sym, take, token_of, top_key, tried, true, went, whole_directive, zero, ℕ, ◌++◌, ◌==◌, ◌||◌, ◌∙◌, ◌∷◌, ◌≡◌}
+use Rattle.proof_scanner.proofs.Common.{Arrives, Directive, Held, Holds, IsDirectiveRead, List, Ok, Position, ScannerState, Some, Stands, Tok, [], and_false, and_parts, ap, arith, begin_line, begins_free_line, begins_with, blanks_and_comment, chained, check_document_end, directive_of, directives_end, either, eqb-true, false, fetch_directive, fetch_document_end, fetch_document_marker, first_break, gap, has_break, has_no_break, has_no_nul, is_at_gap, is_break, is_breakz, is_empty, is_required, last_line, line_is_done, nat_tests, no_nul_after, on_held, or_true, past, past_blanks_and_comment, past_line_rest, peek, position_after, position_append, push, read, read_as, refl, refused, skip_indicator, subst, sym, token_of, top_key, tried, true, went, whole_directive, ℕ, ◌++◌, ◌∙◌, ◌∷◌, ◌≡◌}
 use Rattle.defs_token.specs.Step.{directive as after_directive}
 use Rattle.model_scanner.specs.Machine as machine
 use Rattle.model_scanner.specs.Directive.{directive}
 use Rattle.proof_lexers.specs.DirectiveEnds.{ends_line, next_line}
 use Rattle.proof_scanner.proofs.Cut.Documents.{three_past}
-use Rattle.proof_scanner.proofs.Cut.Pieces.Directives.{break_cut, break_is_separation, line_end_there, piece_of, percent_in_line}
+use Rattle.proof_scanner.proofs.Cut.Pieces.Directives.{break_cut, break_is_separation, piece_of, percent_in_line}
 use Rattle.proof_scanner.proofs.Sound.Blanks.{same_in_line, line_rest_in_line, line_rest_cut, line_rest_fills, past_rest, rest_skipped}
 use Rattle.proof_scanner.proofs.Sound.DocumentLines as lines
 use Rattle.proof_scanner.proofs.Sound.DocumentLines.{IsDocumentToken, IsRead, begun_from, line_begun, Begins, begins}
@@ -44,17 +44,7 @@ end_read more p = record { tok = Tok.document_end; piece = 46 ∷ 46 ∷ 46 ∷ 
 
 pub end_is_read : (t : ScannerState) (more : List ℕ) (p : Position) → p ≡ t.held.position → t.rest ≡ 46 ∷ 46 ∷ 46 ∷ more → is_at_gap more ≡ true → t.held.position.col ≡ 0 → line_is_done (blanks_and_comment more ++ past_blanks_and_comment more) ≡ true → IsRead t (end_read more p)
 unfolding is_break
-end_is_read t more p same e gap col done =
-    let g : List ℕ = blanks_and_comment more in
-    let r : List ℕ = past_blanks_and_comment more in
-    let quiet : has_break g ≡ false = ap not (line_rest_in_line more) in
-    let place : past_line_rest (past (past (past p))) more ≡ position_after (position_after t.held.position (46 ∷ 46 ∷ 46 ∷ []) (g ++ r)) g r =
-    ap (λ q. past_line_rest (past (past (past q))) more) same ∙ (ap (λ q. position_after q g []) (three_past t.held.position 46 (g ++ r) refl) ∙ same_in_line (position_after t.held.position (46 ∷ 46 ∷ 46 ∷ []) (g ++ r)) g [] r (line_rest_in_line more)) in
-    let no_tabs : (bs : List ℕ) (b : Bool) → is_indented_by_spaces another bs b g ≡ true = λ bs b. none_indents another bs b g quiet in
-    assumption (end_token, e ∙ ap (λ l. 46 ∷ 46 ∷ 46 ∷ l) (line_rest_cut more), line_rest_fills more, place, subst (λ l. is_at_gap l ≡ true) (line_rest_cut more) gap, no_tabs, sym quiet)
-
-done_there : (more : List ℕ) → has_no_nul more ≡ true → begins_with 35 more ≡ false → is_breakz (peek (past_blanks_and_comment more)) ≡ true → line_is_done (blanks_and_comment more ++ past_blanks_and_comment more) ≡ true
-done_there more clean hash ends = grind (arith, nat_tests, blanks_and_comment, is_done, line_rest_fills, no_break_alike, line_rest_in_line, at_end_of, no_nul_after, line_rest_cut, begins_with, eqb-true)
+end_is_read t more p same e a col done = grind (arith, nat_tests, eqb-true, line_rest_in_line, three_past, same_in_line, none_indents, end_token, line_rest_cut, line_rest_fills)
 
 -- the state after the marker
 abbrev pub marked : ScannerState → Held → (rest : List ℕ) → ScannerState
@@ -73,7 +63,7 @@ document_end_keeps text more t a e gap col =
     let is : v ≡ past_rest (marked t b.held (46 ∷ 46 ∷ 46 ∷ more)) = s.0 ∙ ap past_rest d.1 in
     let ends : is_breakz (peek (past_blanks_and_comment more)) ≡ true = ap (λ y. is_breakz (peek y.rest)) (sym is) ∙ yes in
     let hash : begins_with 35 more ≡ false = ap (λ y. begins_with 35 y.rest) (sym d.1) ∙ s.1 in
-    subst (Stands text) (sym is) (b.stands (end_read more b.held.position) (end_is_read t more b.held.position b.same_position e gap col (done_there more clean hash ends)) d.0)
+    subst (Stands text) (sym is) (b.stands (end_read more b.held.position) (end_is_read t more b.held.position b.same_position e gap col (grind (arith, nat_tests, blanks_and_comment, is_done, line_rest_fills, no_break_alike, line_rest_in_line, at_end_of, no_nul_after, line_rest_cut, begins_with, eqb-true))) d.0)
     )) (λ no. refused)))
 
 -- ---- directives
@@ -82,68 +72,16 @@ two_break : last_line (13 ∷ 10 ∷ []) ≡ []
 unfolding is_break
 two_break = refl
 
--- after the break after a directive the line is empty
-last_of_break : (next : List ℕ) → ends_line next ≡ true → last_line (first_break next) ≡ []
-last_of_break [] h = refl
-last_of_break (c ∷ r) h = by (is_before_line_feed c r) r refl
-  where
-    one : last_line (c ∷ []) ≡ []
-    one = ap (λ b. (split_by b false c (split [])).last) h
-
-    by : (b : Bool) (r : List ℕ) → is_before_line_feed c r ≡ b → last_line (if b then c ∷ take 1 r else c ∷ []) ≡ []
-    by false r e = one
-    by true [] e = one
-    by true (d ∷ r) e =
-        let q = and_parts (c == 13) (d == 10) e in
-        let cr : c ≡ 13 = eqb-true c 13 q.0 in
-        let feed : d ≡ 10 = eqb-true d 10 q.1 in
-        rw (cr, feed) two_break
-
-no_tab_there : (n : ℕ) → has_tab_within n [] ≡ false
-no_tab_there zero = refl
-no_tab_there (suc n) = refl
-
-break_has : (next : List ℕ) → ends_line next ≡ true → is_empty (next_line next) ≡ false → true ≡ has_break (first_break next)
-break_has a h b = grind (arith, nat_tests, has_break, eqb-true)
-
 -- its own break does not let a key begin
 no_second : (next : List ℕ) → begins_free_line after_directive (first_break next) ≡ false
 unfolding is_break
 no_second a = grind (arith, nat_tests, has_break, eqb-true)
 
-first_whole : (next : List ℕ) → is_empty (next_line next) ≡ false → HasFirst (first_break next) (next_line next)
-first_whole a b = grind (arith, nat_tests, eqb-true)
-
-directive_token : (d : Directive) → IsDocumentToken (token_of d)
-directive_token d = grind (arith, and_false)
-
-directive_before : (d : Directive) → previous_by (token_of d) ≡ after_directive
-directive_before a = grind (arith, nat_tests, eqb-true)
-
-directive_precedes : (d : Directive) (fl : Bool) (bs piece next : List ℕ) → may_precede fl bs (token_of d) piece next ≡ true
-directive_precedes a fl bs piece b = grind (arith, nat_tests, eqb-true)
-
 abbrev pub directive_read : (line next : List ℕ) → Directive → Position → lines.Read
 directive_read line next d p = record { tok = token_of d; piece = 37 ∷ line; gap = first_break next; rest = next_line next; end = position_after p ((37 ∷ line) ++ first_break next) (next_line next); leading = true }
 
 pub directive_is_read : (t : ScannerState) (line next : List ℕ) (d : Directive) → t.rest ≡ 37 ∷ (line ++ next) → has_no_break line ≡ true → ends_line next ≡ true → directive_of (37 ∷ line) ≡ Some d → t.held.position.col ≡ 0 → IsRead t (directive_read line next d t.held.position)
-directive_is_read t line next d e no_break ends is col = record {
-  token = directive_token d;
-  at_margin = col;
-  cut = e ∙ ap (λ l. (37 ∷ line) ++ l) (break_cut next);
-  is_solid = refl;
-  in_line = ap not (percent_in_line line no_break);
-  is_filled = break_is_separation next ends;
-  end_is = position_append t.held.position (37 ∷ line) (first_break next) (next_line next);
-  is_piece = λ a column closed. subst (λ l. IsPiece a (37 ∷ line) l None a.position (token_of d)) (break_cut next) (piece_of a (37 ∷ line) next d None (is, percent_in_line line no_break, column, line_end_there next ends, closed));
-  precedes = λ fl bs. directive_precedes d fl bs (37 ∷ line) (first_break next ++ next_line next);
-  no_tabs = λ bs b. subst (λ x. is_indented_by_spaces x bs b (first_break next) ≡ true) (sym (directive_before d))
-      (ap (λ l. not (has_break (first_break next)) || not (has_tab_within (least_column bs (b || false)) l)) (last_of_break next ends) ∙ (ap (λ x. not (has_break (first_break next)) || not x) (no_tab_there (least_column bs (b || false))) ∙ or_true (not (has_break (first_break next)))));
-  leads = λ some. subst (λ x. true ≡ begins_line x (first_break next)) (sym (directive_before d)) (break_has next ends some);
-  read_on = λ q. subst (λ x. IsReadOn x q (first_break next) (next_line next)) (sym (directive_before d)) (λ some. first_whole next some);
-  not_free = subst (λ x. begins_free_line x (first_break next) ≡ false) (sym (directive_before d)) (no_second next);
-  not_renewed = subst (λ x. is_renewed x (first_break next) ≡ false) (sym (directive_before d)) refl;
-}
+directive_is_read t line next d e no_break ends is col = grind (arith, nat_tests, eqb-true, and_false, break_cut, percent_in_line, break_is_separation, position_append, piece_of, and_parts, two_break, or_true, has_break, no_second)
 
 -- the scanner after a directive
 abbrev pub after_it : ScannerState → machine.Read Tok → Held → ScannerState

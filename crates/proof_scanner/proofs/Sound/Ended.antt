@@ -1,5 +1,5 @@
 -- The block collections that end where a piece begins: the levels that go on are those of the row, and each end has its token.
-use Rattle.proof_scanner.proofs.Common.{AreCollections, AreLevels, Bool, Indent, IsTopLevel, Levels, List, Position, Token, [], ap, append-nil, append_assoc, arith, block_end, columns, end_level, ends_at, false, has_open_level, if◌then◌else◌, is_deeper, is_empty, length, nat_lt, nat_tests, not, not_ended, put, refl, replicate, subst, suc, sym, true, unrolled, ℕ, ◌&&◌, ◌++◌, ◌+◌, ◌-◌, ◌∙◌, ◌∷◌, ◌≡◌}
+use Rattle.proof_scanner.proofs.Common.{AreCollections, AreLevels, Bool, Indent, IsTopLevel, Levels, List, Position, Token, [], ap, append-nil, append_assoc, arith, block_end, columns, end_level, ends_at, false, has_open_level, if◌then◌else◌, is_deeper, is_empty, length, nat_lt, nat_tests, not, not_ended, put, refl, replicate, subst, suc, sym, true, unrolled, ℕ, ◌&&◌, ◌++◌, ◌+◌, ◌-◌, ◌∙◌, ◌∷◌, ◌≡◌, eqb-true}
 use Rattle.proof_scanner.proofs.Sound.StreamEnds.{shorter}
 
 -- what goes on, of levels whose columns are these, and the tokens with the ends
@@ -23,10 +23,7 @@ deeper_now col i a e = grind arith
 
 -- one end more
 one_end : (p : Position) (n : ℕ) (cs : List ℕ) (ts us : List Token) → us ≡ (ts ++ put p block_end ∷ []) ++ ends_at p cs (not_ended p.col cs) → us ≡ ts ++ ends_at p (n ∷ cs) (not_ended p.col cs)
-one_end p n cs ts us e =
-    let s = shorter p.col cs in
-    let many : suc (length cs) - length (not_ended p.col cs) ≡ suc (length cs - length (not_ended p.col cs)) = omega (arith, s) in
-    e ∙ append_assoc ts (put p block_end ∷ []) (ends_at p cs (not_ended p.col cs)) ∙ ap (λ m. ts ++ replicate m (put p block_end)) (sym many)
+one_end p n cs ts us e = grind (arith, nat_tests, eqb-true, shorter, append_assoc)
 
 collections_end : (p : Position) (i : ℕ) (ds : List Indent) (ts : List Token) → AreCollections i ds → EndedAlone p (columns i ds) ts (unrolled (p.col + 1) p i ds ts)
 unfolding unrolled
@@ -47,14 +44,7 @@ collections_end p i (d ∷ ds) ts a =
           are = h.are;
           tokens_are = one_end p (i - 1) cs ts (unrolled (p.col + 1) p d.indent ds (ts ++ put p block_end ∷ [])).tokens h.tokens_are ∙ ap (λ x. ts ++ ends_at p ((i - 1) ∷ cs) x) (sym ends);
         }
-    by false e h =
-        let stays : not_ended p.col ((i - 1) ∷ cs) ≡ (i - 1) ∷ cs = ap (λ b. if b then not_ended p.col cs else (i - 1) ∷ cs) (deeper_now p.col i false e) in
-        let own : columns i (d ∷ ds) ≡ (i - 1) ∷ cs = ap (λ b. if b then (i - 1) ∷ cs else cs) a.0 in
-        record {
-          columns_are = stays ∙ sym own;
-          are = a;
-          tokens_are = no_ends p ((i - 1) ∷ cs) ts ∙ ap (λ x. ts ++ ends_at p ((i - 1) ∷ cs) x) (sym stays);
-        }
+    by false e h = grind (arith, nat_tests, eqb-true, cs, deeper_now, no_ends)
 
 alone : (p : Position) (cols : List ℕ) (awaits : Bool) (ts : List Token) (u : Levels) → (awaits && is_deeper p.col cols) ≡ false → EndedAlone p cols ts u → Ended p cols awaits ts u
 alone p cols awaits ts u e h = grind arith
@@ -77,24 +67,10 @@ levels_end p i (d ∷ ds) ts a = by d.needs_block_end refl a.0
         (if nat_lt (p.col + 1) i then unrolled (p.col + 1) p d.indent ds (end_level b p ts) else record { indent = i; indents = d ∷ ds; tokens = ts })) (sym e)
         (two z.0 z.1 z.2 z.3 (nat_lt (p.col + 1) i) refl)
       where
-        is_right : (n : ℕ) → d.indent ≡ suc n → (b : Bool) → nat_lt (p.col + 1) i ≡ b → nat_lt n p.col ≡ not b
-        is_right n k true f = let g : i ≡ d.indent + 1 = h.0 in grind (arith, nat_tests, f, g, k)
-        is_right n k false f = let g : i ≡ d.indent + 1 = h.0 in grind (arith, nat_tests, f, g, k)
-
         not_left : (n : ℕ) → d.indent ≡ suc n → nat_lt (p.col + 1) i ≡ false → nat_lt p.col n ≡ false
         not_left n k f = let g : i ≡ d.indent + 1 = h.0 in grind (arith, nat_tests, f, g, k)
 
-        own : columns i (d ∷ ds) ≡ columns d.indent ds
-        own = ap (λ b. if b then (i - 1) ∷ columns d.indent ds else columns d.indent ds) e
-
         two : (n : ℕ) (ns : List ℕ) → columns d.indent ds ≡ n ∷ ns → d.indent ≡ suc n → (b : Bool) → nat_lt (p.col + 1) i ≡ b →
             Ended p (columns d.indent ds) true ts (if b then unrolled (p.col + 1) p d.indent ds ts else record { indent = i; indents = d ∷ ds; tokens = ts })
-        two n ns c k true f = alone p (columns d.indent ds) true ts (unrolled (p.col + 1) p d.indent ds ts) (ap (λ x. is_deeper p.col x) c ∙ is_right n k true f) (collections_end p d.indent ds ts a.1)
-        two n ns c k false f =
-            let stays : not_ended p.col (columns d.indent ds) ≡ columns d.indent ds = ap (not_ended p.col) c ∙ (ap (λ b. if b then not_ended p.col ns else n ∷ ns) (not_left n k f) ∙ sym c) in
-            record {
-              columns_are = stays ∙ sym own;
-              open_is = ap (λ x. is_deeper p.col x) c ∙ (is_right n k false f ∙ ap not (sym e));
-              are_levels = a;
-              tokens_are = no_ends p (columns d.indent ds) ts ∙ ap (λ x. ts ++ ends_at p (columns d.indent ds) x) (sym stays);
-            }
+        two n ns c k true f = alone p (columns d.indent ds) true ts (unrolled (p.col + 1) p d.indent ds ts) (ap (λ x. is_deeper p.col x) c ∙ (grind (arith, nat_tests, eqb-true))) (collections_end p d.indent ds ts a.1)
+        two n ns c k false f = grind (arith, nat_tests, not_left, eqb-true, no_ends)

@@ -1,18 +1,18 @@
 -- A piece in flow with which its entry goes on, and before and after which no key of the entry waits: `?`, a colon without a key, and a line for the document. What holds where it begins holds between two fetches after it.
-use Rattle.proof_scanner.proofs.Sound.NodeTokens.{past_step, keys_along, not_keyed, had_as_it_was, no_had}
+use Rattle.proof_scanner.proofs.Sound.NodeTokens.{past_step, keys_along, had_as_it_was}
 use Rattle.proof_scanner.proofs.Sound.InFlow as flow
-use Rattle.proof_scanner.proofs.Common.{Act, AreNumbered, Bool, Colon, Entry, FlowLevel, Had, HasHadHere, IsEntryOf, IsPiece, Key, Line, List, None, Option, Pair, Position, ScannerState, Site, Some, Stands, Step, Tok, Token, [], act_of, ap, arith, begun_by, begun_inside, colon_of, columns, entries_by, entries_past, entry_by, false, had_by, has_break, is_renewed, key_end, least_column, length, length-append, may_stand, nat_le, pair_position, pop, position_after, previous_by, put, refl, seen, shown_position, site_here, spelled, suc, sym, takes_pair, tokens_at, tokens_up_to, true, with_had, with_keys, ℕ, ◌++◌, ◌∙◌, ◌∷◌, ◌≡◌}
+use Rattle.proof_scanner.proofs.Common.{Act, AreNumbered, Bool, Colon, Entry, FlowLevel, Had, HasHadHere, IsEntryOf, IsPiece, Key, Line, List, None, Option, Pair, Position, ScannerState, Site, Some, Stands, Step, Tok, Token, [], act_of, ap, arith, begun_by, begun_inside, colon_of, columns, entries_by, entries_past, entry_by, false, had_by, has_break, is_renewed, key_end, least_column, length, length-append, may_stand, nat_le, pair_position, pop, position_after, previous_by, put, refl, seen, shown_position, site_here, spelled, suc, sym, takes_pair, tokens_at, tokens_up_to, true, with_had, with_keys, ℕ, ◌++◌, ◌∙◌, ◌∷◌, ◌≡◌, eqb-true, nat_tests}
 use Rattle.proof_scanner.proofs.Cut.Nodes.{IsDeep}
 use Rattle.proof_scanner.proofs.Known.Read.{keyless}
 use Rattle.proof_scanner.proofs.Sound.Around.{line_taken}
-use Rattle.proof_scanner.proofs.Sound.Arrivals.{deep_enough, numbered_around, numbered_more}
+use Rattle.proof_scanner.proofs.Sound.Arrivals.{numbered_around, numbered_more}
 use Rattle.proof_scanner.proofs.Sound.Reads.{Reads}
 use Rattle.proof_scanner.proofs.Sound.Sides.{with_entries, ArrivesBy}
 use Rattle.proof_scanner.proofs.Sound.Inserts.{among, first_among, keys_first}
 
 -- where a piece begins deep enough, the least column is not right of it
 pub low_enough : (text : List ℕ) (t : ScannerState) (f : FlowLevel) (fs : List FlowLevel) (ks : List (Option Key)) (es : List Entry) (a : ArrivesBy text t (f ∷ fs) ks es) → IsDeep t.held → nat_le (least_column a.site.blocks a.site.awaits) t.held.position.col ≡ true
-low_enough text t f fs ks es a deep = grind (arith, columns, deep_enough)
+low_enough text t f fs ks es a deep = grind (arith, columns)
 
 -- the tokens of the step: the start of a single pair, and the token that the piece shows
 abbrev pub tokens_inside : Site → (piece : List ℕ) → Tok → (next : List ℕ) → Entry → List Token
@@ -26,10 +26,7 @@ begun_alike a pair b p q own d h = cc
 
 -- what an entry and the open keys around it ask of the tokens
 pub numbered_then : (before after : List Token) (k : Option Key) (ks : List (Option Key)) (own : List Token) → after ≡ before ++ own → AreNumbered (length before) (k ∷ ks) → AreNumbered (length after) ks
-numbered_then before after k ks own e h =
-    let more = length-append before own in
-    let same = ap length e in
-    numbered_more (length before) (length after) ks (omega (arith, more, same)) (numbered_around (length before) k ks h)
+numbered_then before after k ks own e h = grind (arith, nat_tests, eqb-true, length-append, numbered_more, numbered_around)
 
 -- the tokens of such a step, before a key around the entry has its colon
 module _ (text : List ℕ) (t : ScannerState) (f : FlowLevel) (fs : List FlowLevel) (k : Option Key) (ks : List (Option Key)) (e : Entry) (es : List Entry) (a : ArrivesBy text t (f ∷ fs) (k ∷ ks) (e ∷ es)) (piece next : List ℕ) (tok : Tok) (cut : t.rest ≡ piece ++ next) where
@@ -49,7 +46,7 @@ module _ (text : List ℕ) (t : ScannerState) (f : FlowLevel) (fs : List FlowLev
       let there : Position = pair_position past (spelled ws last) in
       let at_end : Colon = key_end tok past ws last in
       let first : with_had (colon_of 0 p (w ∷ ws) last) single (had_by false k e.had) k a.tokens ≡ a.tokens =
-      rw (had_as_it_was k e.had) (no_had (colon_of 0 p (w ∷ ws) last) single e.had k a.tokens (not_keyed t.held.key_allowed (is_renewed a.site.before a.separation) k e.had a.are_entries.1)) in
+      rw (had_as_it_was k e.had) (grind arith) in
       let second : tokens_at a.site x w ws last l (entry_by false k e ∷ xs) ≡ own =
       ap (λ y. y ++ (put (shown_position x piece tok (spelled ws last)) tok ∷ []))
       (begun_alike single e.pair x.position (pair_position at_end.past at_end.next) there there (act_of tok) (had_by false k e.had) ∙ ap (λ y. begun_inside single e.pair x.position there there (act_of tok) false y) (had_as_it_was k e.had)) ∙

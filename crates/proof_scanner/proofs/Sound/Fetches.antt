@@ -1,11 +1,10 @@
 -- Each fetch what holds between two fetches, or ends the stream with a row of the text, if the function of each token it.
-use Rattle.proof_scanner.proofs.Common.{Arrives, Fares, FetchKeeps, Holds, IsAtEnd, IsPositionIn, IsRead, List, ScannerState, Stands, [], ap, before_by, before_past, chained, either, false, fetch, fetch_content, fetch_here, fetch_next, fetch_token, first_position, has_no_nul, held_of, inl, inr, is_adjacent, is_document_marker, is_empty, next_line, peek, position_after, refused, stale, subst, sym, true, try_held, weakened, ℕ, ◌&&◌, ◌==◌, ◌>>=◌, ◌∙◌, ◌≡◌, ◌⊎◌}
+use Rattle.proof_scanner.proofs.Common.{Arrives, Fares, FetchKeeps, Holds, IsAtEnd, IsPositionIn, IsRead, List, ScannerState, Stands, [], ap, before_by, before_past, chained, either, false, fetch, fetch_content, fetch_here, fetch_next, first_position, has_no_nul, held_of, inl, inr, is_adjacent, is_empty, next_line, peek, position_after, refused, stale, subst, sym, true, try_held, weakened, ℕ, ◌==◌, ◌>>=◌, ◌∙◌, ◌≡◌, ◌⊎◌, append-nil}
 use Rattle.model_scanner.specs.State.{after}
-use Rattle.proof_scanner.proofs.Cut.Nodes.{IsDeep}
 use Rattle.proof_scanner.proofs.Cut.Dispatch.{token_holds, content_holds}
 use Rattle.proof_scanner.proofs.Cut.Fetched.{no_end, goes_on_here}
 use Rattle.proof_scanner.proofs.Cut.Documents.{whole_text}
-use Rattle.proof_scanner.proofs.Sound.CutsSoFar.{arrives_cut, cut_position, end_position}
+use Rattle.proof_scanner.proofs.Sound.CutsSoFar.{arrives_cut, cut_position}
 use Rattle.proof_scanner.proofs.Sound.Stales.{fares_stale}
 use Rattle.proof_scanner.proofs.Sound.StreamEnds.{stream_ended}
 use Rattle.proof_scanner.proofs.Sound.Arriving.{arrived}
@@ -22,13 +21,6 @@ use Rattle.proof_scanner.proofs.Sound.Questions.{key_keeps}
 use Rattle.proof_scanner.proofs.Sound.QuotedKeeps.{quoted_keeps}
 use Rattle.proof_scanner.proofs.Sound.Values.{value_keeps}
 
--- ---- a token
-
-token_kept : (text : List ℕ) (t : ScannerState) → Arrives text t → is_empty t.rest ≡ false → IsDeep t.held → ((t.held.position.col == 0) && is_document_marker t.rest) ≡ false → Holds (Stands text) (fetch_token t)
-token_kept text t a some deep marker =
-    token_holds (Holds (Stands text)) t (is_adjacent (before_past (before_by a.base.site.before) a.separation)) a.is_clean a.is_solid (λ inside. sym (a.is_adjacent_here inside some)) marker
-    (search (anchor_keeps, tag_keeps, plain_keeps, quoted_keeps, block_keeps, dash_keeps, key_keeps, value_keeps, opening_keeps, opening_bracket, opening_brace, closing_keeps, closing_bracket, closing_brace, comma_keeps, refused)) some
-
 -- ---- markers, and the text's end
 
 pub content_kept : (text : List ℕ) (t : ScannerState) → Arrives text t → is_empty t.rest ≡ false → Holds (Stands text) (fetch_content t)
@@ -38,7 +30,8 @@ content_kept text t a some =
       document_start = λ more. document_start_keeps text more t a;
       document_end = λ more. document_end_keeps text more t a;
       shallow = λ n low. refused;
-      token = λ n deep. token_kept text t a some deep n.0;
+      token = λ n deep. (token_holds (Holds (Stands text)) t (is_adjacent (before_past (before_by a.base.site.before) a.separation)) a.is_clean a.is_solid (λ inside. sym (a.is_adjacent_here inside some)) n.0
+          (search (anchor_keeps, tag_keeps, plain_keeps, quoted_keeps, block_keeps, dash_keeps, key_keeps, value_keeps, opening_keeps, opening_bracket, opening_brace, closing_keeps, closing_bracket, closing_brace, comma_keeps, refused)) some);
     })
 
 -- after a token, or after the stream's end
@@ -48,10 +41,17 @@ Kept text t = Stands text t ⊎ ((t.held.ended ≡ true) × IsRead text t.held.t
 here_kept : (text : List ℕ) → has_no_nul text ≡ true → (t : ScannerState) → Arrives text t → Holds (Kept text) (fetch_here t)
 unfolding fetch_here
 here_kept text nul t a =
-    either (peek t.rest == 0) (λ e. let none : t.rest ≡ [] = no_end t.rest a.is_clean e in weakened (λ u x. inr (x.0, x.1, record { began = x.2 ∙ a.started; position = x.3 ∙ ap next_line (at_end none) })) (stream_ended text t a none)) (λ e. weakened (λ u x. inl x) (content_kept text t a (goes_on_here t.rest e)))
-  where
-    at_end : t.rest ≡ [] → t.held.position ≡ position_after first_position text []
-    at_end none = end_position text t.held.position (subst (λ r. IsPositionIn text r t.held.position) none (cut_position text a.separation t.rest a.base a.tokens t.held.position (whole_text text nul) a.position_is (arrives_cut text t a)))
+    either (peek t.rest == 0) (λ e. let none : t.rest ≡ [] = no_end t.rest a.is_clean e in weakened (λ u x. inr (
+      x.0,
+      x.1,
+      record {
+        began = x.2 ∙ a.started;
+        position = x.3 ∙ ap next_line
+            (((subst (λ r. IsPositionIn text r t.held.position) none (cut_position text a.separation t.rest a.base a.tokens t.held.position (whole_text text nul) a.position_is (arrives_cut text t a))).is_position ∙ ap (λ b. position_after first_position b [])
+            (sym (append-nil (subst (λ r. IsPositionIn text r t.held.position) none (cut_position text a.separation t.rest a.base a.tokens t.held.position (whole_text text nul) a.position_is (arrives_cut text t a))).before) ∙ sym
+            (subst (λ r. IsPositionIn text r t.held.position) none (cut_position text a.separation t.rest a.base a.tokens t.held.position (whole_text text nul) a.position_is (arrives_cut text t a))).is_text)));
+      },
+    )) (stream_ended text t a none)) (λ e. weakened (λ u x. inl x) (content_kept text t a (goes_on_here t.rest e)))
 
 next_kept : (text : List ℕ) → has_no_nul text ≡ true → (t : ScannerState) → Stands text t → Holds (Fares text) (fetch_next t)
 unfolding fetch_next

@@ -1,11 +1,13 @@
 -- The first of a text's tokens are a cut of a beginning of it.
-use Rattle.proof_scanner.proofs.Common.{Fares, IsCut, IsCutOfBeginning, IsCutUpTo, IsPiece, IsRow, List, None, Option, Position, Reaches, ScannerState, Some, Tok, Token, Written, [], ap, arith, begins, end_token, eqb-true, first_position, first_token, has_no_nul, inl, inr, nat_tests, over, refl, rows_are_cuts, spelled_append, start, start_token, stream_end, subst, sym, tokens_of, true, up_to_nul, ℕ, ◌++◌, ◌∙◌, ◌∷◌, ◌≡◌, ◌⊎◌}
+use Rattle.proof_scanner.proofs.Common.{Fares, IsCut, IsCutOfBeginning, IsCutUpTo, IsRow, List, None, Option, Position, Reaches, ScannerState, Some, Tok, Token, Written, [], ap, arith, begins, end_token, eqb-true, first_position, has_no_nul, inl, inr, nat_tests, over, refl, rows_are_cuts, spelled_append, start, start_token, stream_end, subst, sym, tokens_of, true, up_to_nul, ℕ, ◌++◌, ◌∙◌, ◌∷◌, ◌≡◌, ◌⊎◌}
 use Rattle.defs_token.specs.Account.{Account, first_account}
 use Rattle.defs_token.specs.Cut.{IsWritten, spelled, account_past}
 use Rattle.proof_scanner.specs.Laws.{TokensAreACut}
 use Rattle.proof_scanner.specs.StandsInRow.{goes}
 use Rattle.proof_scanner.proofs.Sound.CutsSoFar.{stands_cut}
-use Rattle.proof_scanner.proofs.Sound.Sound.{fares_there, tokens_are_of_a_row}
+use Rattle.proof_scanner.proofs.Sound.Sound.{tokens_are_of_a_row}
+use Rattle.proof_scanner.proofs.Sound.Fetches.{fetch_keeps}
+use Rattle.proof_scanner.proofs.Sound.Runs.{reached}
 
 -- the first of a list, or else another
 abbrev first_or : Token → List Token → Token
@@ -16,14 +18,10 @@ abbrev rest_of : List Token → List Token
 rest_of [] = []
 rest_of (x ∷ xs) = xs
 
--- which token follows may be forgotten
-piece_forgotten : (a : Account) (p n : List ℕ) (o : Option Tok) (at : Position) (t : Tok) → IsPiece a p n o at t → IsPiece a p n None at t
-piece_forgotten a p n o b d q = grind (arith, nat_tests, eqb-true)
-
 -- a row up to one of its tokens
 row_first : (a : Account) (ws vs : List Written) (f : List ℕ) (last : Option Tok) → IsRow a (ws ++ vs) f last → IsRow a ws (spelled vs f) None
 row_first a [] vs f last r = tt
-row_first a (w ∷ []) vs f last r = ((r.0.0, piece_forgotten _ w.piece (spelled vs f) (first_token vs last) (w.token.position) (w.token.tok) r.0.1), tt)
+row_first a (w ∷ []) vs f last r = ((r.0.0, grind (arith, nat_tests, eqb-true)), tt)
 row_first a (w ∷ v ∷ ws) vs f last r =
     let same : spelled ((v ∷ ws) ++ vs) f ≡ spelled (v ∷ ws) (spelled vs f) = spelled_append (v ∷ ws) vs f in
     subst (λ t. IsWritten a w t (Some v.token.tok) × IsRow (account_past a w t) (v ∷ ws) (spelled vs f) None) same
@@ -71,33 +69,29 @@ before_last x [] (t ∷ []) more e = all (ap (λ y. y ∷ []) (sym (ap (first_or
 before_last x [] (t ∷ u ∷ given) more e = absurd (cc e)
 before_last x (y ∷ xs) (t ∷ given) more e = by (before_last x xs given more (ap rest_of e))
   where
-    same : y ≡ t
-    same = ap (first_or t) e
-
     by : Before x xs given more → Before x (y ∷ xs) (t ∷ given) more
-    by (all f) = all (ap (λ z. z ∷ given) (sym same) ∙ ap (λ ts. y ∷ ts) f)
-    by (some others f) = some others (ap (λ z. z ∷ xs) same ∙ ap (λ ts. t ∷ ts) f)
+    by (all f) = all (ap (λ z. z ∷ given) (sym (ap (first_or t) e)) ∙ ap (λ ts. y ∷ ts) f)
+    by (some others f) = some others (ap (λ z. z ∷ xs) (ap (first_or t) e) ∙ ap (λ ts. t ∷ ts) f)
 
 -- Of a run, the first tokens are a cut of the whole text, up to the stream's end, or of a beginning of it.
 pub first_tokens_are_cut : (text : List ℕ) (given more : List Token) (t : ScannerState) → has_no_nul text ≡ true → Reaches (start text) t → t.held.tokens ≡ given ++ more → IsCut given text ⊎ IsCutOfBeginning given text
-first_tokens_are_cut text given more t nul run e = by (fares_there text nul t run)
+first_tokens_are_cut text given more t nul run e = by (reached fetch_keeps text nul (start text) t run (begins refl))
   where
     nothing : (given : List Token) → [] ≡ given ++ more → IsCutOfBeginning given text
     nothing [] f = inl refl
     nothing (x ∷ given) f = absurd (cc f)
-
-    whole : IsCut t.held.tokens text → IsCut given text ⊎ IsCutOfBeginning given text
-    whole c = elim (before_last (end_token c.end) (start_token c.begin ∷ tokens_of c.row) given more (sym c.are_tokens ∙ e)) [
-      | all k ↦ inl (subst (λ ts. IsCut ts text) (c.are_tokens ∙ sym k) c)
-      | some others k ↦ inr (begun_by text c.begin c.row c.separation (Some stream_end) given others c.is_text c.is_row k)
-    ]
 
     by : Fares text t → IsCut given text ⊎ IsCutOfBeginning given text
     by (begins f) = inr (nothing given (sym (ap (λ y. y.held.tokens) f) ∙ e))
     by (goes s) =
         let c : IsCutUpTo text (s.separation ++ t.rest) s.base t.held.tokens = stands_cut text t s in
         inr (begun_by text first_position c.row (s.separation ++ t.rest) None given more c.is_text (c.is_row.is_row None) (sym c.are_tokens ∙ e))
-    by (over f r n) = whole (rows_are_cuts text t.held.tokens r)
+    by (over f r n) = elim (before_last (end_token (rows_are_cuts text t.held.tokens r).end) (start_token (rows_are_cuts text t.held.tokens r).begin ∷ tokens_of (rows_are_cuts text t.held.tokens r).row) given more (sym (rows_are_cuts text t.held.tokens r).are_tokens ∙ e)) [
+      | all k ↦ inl
+          (subst (λ ts. IsCut ts text) ((rows_are_cuts text t.held.tokens r).are_tokens ∙ sym k) (rows_are_cuts text t.held.tokens r))
+      | some others k ↦ inr
+          (begun_by text (rows_are_cuts text t.held.tokens r).begin (rows_are_cuts text t.held.tokens r).row (rows_are_cuts text t.held.tokens r).separation (Some stream_end) given others (rows_are_cuts text t.held.tokens r).is_text (rows_are_cuts text t.held.tokens r).is_row k)
+    ]
 
 -- The tokens that the model gives a text are a cut of it.
 pub tokens_are_cut : TokensAreACut

@@ -1,11 +1,10 @@
 -- The functions of the model that read commas and closing brackets keep what holds where they begin.
-use Rattle.proof_scanner.proofs.Common.{arith, Arrives, At, Bool, Collection, Err, FlowLevel, Held, Holds, Key, List, MayChoose, None, Ok, Option, Position, ScannerState, Some, Stands, Tok, [], adjacent_in_flow, ap, begins_with, chained, end_entry, end_flow, ended_flow, false, fetch_flow_collection_end, fetch_flow_entry, flow_end, if◌then◌else◌, inl, inr, is_empty, is_required, next_entry, on_held, pop, push, refl, refused, remove_implicit_key, subst, sym, top_key, tried, true, went, with_top, ℕ, ◌∙◌, ◌∷◌, ◌≡◌, ◌⊎◌}
-use Rattle.yaml_tokens.specs.declared.problem.Problem.TheVariants as problem
+use Rattle.proof_scanner.proofs.Common.{arith, Arrives, Collection, FlowLevel, Held, Holds, Key, List, None, Option, ScannerState, Stands, Tok, adjacent_in_flow, ap, begins_with, chained, end_entry, end_flow, false, fetch_flow_collection_end, fetch_flow_entry, flow_end, inl, inr, is_empty, is_required, on_held, pop, push, refused, remove_implicit_key, subst, sym, top_key, tried, true, went, with_top, ℕ, ◌∙◌, ◌∷◌, ◌≡◌, ◌⊎◌, eqb-true, nat_tests}
 use Rattle.model_scanner.specs.State.{after}
 use Rattle.proof_scanner.proofs.Cut.FlowEnds.{higher_keys, ended_now, entry_now, ended_is, entry_is}
 use Rattle.proof_scanner.proofs.Cut.Nodes.{IsDeep}
-use Rattle.proof_scanner.proofs.Sound.Closers.{IsCloser, comma, stray_past, stray_at}
-use Rattle.proof_scanner.proofs.Sound.ClosersInside.{adjacent_then, closed_inside}
+use Rattle.proof_scanner.proofs.Sound.Closers.{IsCloser, comma, stray_at}
+use Rattle.proof_scanner.proofs.Sound.ClosersInside.{closed_inside}
 use Rattle.proof_scanner.proofs.Sound.Gone.{key_gone}
 use Rattle.proof_scanner.proofs.Sound.Indicated.{past_it, indicator_passed}
 use Rattle.proof_scanner.proofs.Sound.Sides.{ArrivesOutside, ArrivesInside, arrives_side}
@@ -15,30 +14,11 @@ use Rattle.proof_scanner.proofs.Sound.Sides.{ArrivesOutside, ArrivesInside, arri
 -- the innermost key need not be one
 pub flow_over : (s : Held) → Holds (λ u. (is_required (top_key s.keys) ≡ false) × (u ≡ ended_now s.flow s)) (end_flow s)
 unfolding end_flow remove_implicit_key
-flow_over s = by (is_required (top_key s.keys)) refl
-  where
-    by : (b : Bool) → is_required (top_key s.keys) ≡ b → Holds (λ u. (is_required (top_key s.keys) ≡ false) × (u ≡ ended_now s.flow s)) (ended_flow (if b then Err (At problem.KeyExpected s.position) else Ok (record s { keys = with_top None s.keys })))
-    by b e = grind (arith, refused, went, ended_is s s.flow)
+flow_over s = grind (arith, refused, went, ended_is s s.flow)
 
 pub entry_over : (s : Held) → Holds (λ u. (is_required (top_key s.keys) ≡ false) × (u ≡ entry_now s.flow s)) (end_entry s)
 unfolding end_entry remove_implicit_key
-entry_over s = by (is_required (top_key s.keys)) refl
-  where
-    by : (b : Bool) → is_required (top_key s.keys) ≡ b → Holds (λ u. (is_required (top_key s.keys) ≡ false) × (u ≡ entry_now s.flow s)) (next_entry (if b then Err (At problem.KeyExpected s.position) else Ok (record s { keys = with_top None s.keys })))
-    by b e = grind (arith, refused, went, entry_is s s.flow)
-
--- so outside flow it may be none
-pub may_be_none : (k : Option Key) (ks : List (Option Key)) (keys : List (Option Key)) (p : Position) (rest : List ℕ) → keys ≡ k ∷ ks → is_required (top_key keys) ≡ false → MayChoose true false k p rest
-may_be_none None ks keys p rest e h = tt
-may_be_none (Some x) ks keys p rest e h = sym (ap (λ l. is_required (top_key l)) e) ∙ h
-
--- ---- what stands after either, with its account
-
--- outside flow
-pub stray_outside : (text more : List ℕ) (closes : Bool) (tok : Tok) (c : ℕ) → IsCloser closes tok c → (t : ScannerState) (o : ArrivesOutside text t) → t.rest ≡ c ∷ more → begins_with 35 more ≡ false → is_required (top_key t.held.keys) ≡ false →
-    Stands text (stray_past closes t tok more)
-stray_outside text more closes tok c k t o e hash free =
-    stray_at text more closes tok c k t (key_gone text t o.key o.here (ap is_empty e) (may_be_none o.key [] t.held.keys t.held.position t.rest o.keys_are free)) (ap (with_top None) o.keys_are) e hash
+entry_over s = grind (arith, refused, went, entry_is s s.flow)
 
 -- ---- a comma
 
@@ -49,7 +29,7 @@ comma_stands : (text more : List ℕ) (t : ScannerState) → t.rest ≡ 44 ∷ m
 comma_stands text more t e hash deep a free = by (arrives_side text t a)
   where
     by : ArrivesOutside text t ⊎ ArrivesInside text t → Stands text (after_comma t.held.flow (with_top None t.held.keys) t more)
-    by (inl o) = subst (λ fs. Stands text (after_comma fs (with_top None t.held.keys) t more)) (sym o.flow_is) (stray_outside text more false Tok.flow_entry 44 comma t o e hash free)
+    by (inl o) = subst (λ fs. Stands text (after_comma fs (with_top None t.held.keys) t more)) (sym o.flow_is) (stray_at text more false Tok.flow_entry 44 comma t (key_gone text t o.key o.here (ap is_empty e) (grind (arith, nat_tests, eqb-true))) (ap (with_top None) o.keys_are) e hash)
     by (inr i) =
         subst (λ fs. Stands text (after_comma fs (with_top None t.held.keys) t more)) (sym i.flow_is)
         (subst (λ ks. Stands text (after_comma (i.level ∷ i.levels) ks t more)) (sym (ap (with_top None) i.keys_are)) (closed_inside text more false Tok.flow_entry 44 comma t i e hash deep))
@@ -64,11 +44,6 @@ comma_keeps text more t e deep a =
 
 -- ---- a closing bracket
 
-pub adjacent_is : (s : Held) (fs : List FlowLevel) → adjacent_in_flow (record s { flow = fs }) ≡ record s { flow = fs; adjacent_value_at = adjacent_then true fs s.adjacent_value_at s.position.index }
-unfolding adjacent_in_flow
-adjacent_is s [] = refl
-adjacent_is s (f ∷ fs) = refl
-
 abbrev pub after_closing : Tok → List FlowLevel → List (Option Key) → ScannerState → (more : List ℕ) → ScannerState
 after_closing tok fs ks t more = on_held (λ s. push t.held.position tok (adjacent_in_flow s)) (past_it (record t { held = record (ended_now fs t.held) { keys = ks } }) more)
 
@@ -78,12 +53,12 @@ unfolding adjacent_in_flow
 closing_stands text more tok c k t e hash deep a free = by (arrives_side text t a)
   where
     by : ArrivesOutside text t ⊎ ArrivesInside text t → Stands text (after_closing tok t.held.flow (higher_keys t.held.flow t.held.keys) t more)
-    by (inl o) = subst (λ fs. Stands text (after_closing tok fs (higher_keys fs t.held.keys) t more)) (sym o.flow_is) (stray_outside text more true tok c k t o e hash free)
+    by (inl o) = subst (λ fs. Stands text (after_closing tok fs (higher_keys fs t.held.keys) t more)) (sym o.flow_is) (stray_at text more true tok c k t (key_gone text t o.key o.here (ap is_empty e) (grind (arith, nat_tests, eqb-true))) (ap (with_top None) o.keys_are) e hash)
     by (inr i) =
         let now : ScannerState = past_it (record t { held = record (ended_now (i.level ∷ i.levels) t.held) { keys = i.keys } }) more in
         subst (λ fs. Stands text (after_closing tok fs (higher_keys fs t.held.keys) t more)) (sym i.flow_is)
         (subst (λ ks. Stands text (after_closing tok (i.level ∷ i.levels) (pop (with_top None ks)) t more)) (sym i.keys_are)
-        (subst (λ h. Stands text (record now { held = push t.held.position tok h })) (sym (adjacent_is now.held i.levels)) (closed_inside text more true tok c k t i e hash deep)))
+        (subst (λ h. Stands text (record now { held = push t.held.position tok h })) (sym (grind (arith, nat_tests, eqb-true))) (closed_inside text more true tok c k t i e hash deep)))
 
 -- `]` or `}`
 pub closing_keeps : (text more : List ℕ) (kind : Collection) (c : ℕ) → IsCloser true (flow_end kind) c → (t : ScannerState) → t.rest ≡ c ∷ more → IsDeep t.held → Arrives text t → Holds (Stands text) (fetch_flow_collection_end kind t)

@@ -1,6 +1,5 @@
 -- The function of the model that reads an opening bracket keeps what holds where it begins.
-use Rattle.proof_scanner.proofs.Common.{Arrives, At, Bool, Collection, Err, FlowLevel, Held, Holds, Indent, List, None, Ok, ScannerState, Some, Stands, ap, begin_flow, chained, deepened_flow, false, fetch_flow_collection_start, flow_level, flow_start, if◌then◌else◌, increase_flow_level, length, nat_le, on_held, push, refl, refused, roll_one_col_indent, subst, sym, tried, true, went, ℕ, ◌∙◌, ◌∷◌, ◌≡◌}
-use Rattle.yaml_tokens.specs.declared.problem.Problem.TheVariants as problem
+use Rattle.proof_scanner.proofs.Common.{Arrives, Collection, FlowLevel, Held, Holds, Indent, List, None, ScannerState, Some, Stands, ap, begin_flow, chained, false, fetch_flow_collection_start, flow_level, flow_start, increase_flow_level, length, nat_le, on_held, push, refused, roll_one_col_indent, subst, sym, tried, true, went, ℕ, ◌∙◌, ◌∷◌, ◌≡◌, nat_tests, eqb-true, arith}
 use Rattle.model_scanner.specs.State.{after}
 use Rattle.proof_scanner.proofs.Cut.Nodes.{IsDeep}
 use Rattle.proof_scanner.proofs.Cut.Saved.{saved_keys, saved_is}
@@ -14,14 +13,7 @@ begun_now lv s ds i = record s { keys = None ∷ saved_keys s; flow = lv ∷ s.f
 
 flow_begun : (kind : Collection) (s : Held) (ds : List Indent) (i : ℕ) → roll_one_col_indent (with_key s) ≡ record (with_key s) { indents = ds; indent = i } → Holds (λ u. (nat_le 255 (length s.flow) ≡ false) × (u ≡ begun_now (flow_level kind) s ds i)) (begin_flow kind s)
 unfolding begin_flow increase_flow_level
-flow_begun kind s ds i rolled =
-    subst (λ h. Holds (λ u. (nat_le 255 (length s.flow) ≡ false) × (u ≡ begun_now (flow_level kind) s ds i)) (deepened_flow (if nat_le 255 (length h.flow) then Err (At problem.FlowTooDeep h.position) else Ok (record h { keys = None ∷ h.keys; flow = flow_level kind ∷ h.flow }))))
-    (sym (ap roll_one_col_indent (saved_is s) ∙ rolled)) (by (nat_le 255 (length s.flow)) refl)
-  where
-    by : (b : Bool) → nat_le 255 (length s.flow) ≡ b →
-        Holds (λ u. (nat_le 255 (length s.flow) ≡ false) × (u ≡ begun_now (flow_level kind) s ds i)) (deepened_flow (if b then Err (At problem.FlowTooDeep s.position) else Ok (record s { keys = None ∷ saved_keys s; flow = flow_level kind ∷ s.flow; indents = ds; indent = i })))
-    by true e = refused
-    by false e = went (e, refl)
+flow_begun kind s ds i rolled = grind (arith, nat_tests, eqb-true, saved_is, refused, went)
 
 -- `[` or `{`
 pub opening_keeps : (text more : List ℕ) (kind : Collection) (c : ℕ) → IsOpener (flow_level kind) (flow_start kind) c → (t : ScannerState) → t.rest ≡ c ∷ more → IsDeep t.held → Arrives text t → Holds (Stands text) (fetch_flow_collection_start kind t)

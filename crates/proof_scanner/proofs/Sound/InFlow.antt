@@ -1,10 +1,10 @@
 -- A piece in flow was read: if the definition and the scanner agree on its entries and tokens, what holds where it begins holds between two fetches after it.
-use Rattle.proof_scanner.proofs.Common.{Account, AreEntries, AreNumbered, BeginsButForKey, Bool, Entry, FlowLevel, IsLine, IsOpenOutside, IsPiece, IsWritten, Key, KnowsKey, Line, List, MayChoose, None, NotBefore, Option, Position, ScannerState, Site, SoFar, Some, Stands, Step, Tok, account_past, act_of, ap, begins_free_line, begun_by, chosen, entries_by, entries_past, entry_by, false, has_break, is_empty, is_renewed, is_separation, is_waiting, length, line_by, line_past_separation, may_stand, not, outside_key, position_after, previous_by, refl, seen, shown_position, site_here, site_past, spelled, subst, suc, sym, taken, tokens_at, tokens_of_step, tokens_up_to, true, with_keys, ℕ, ◌&&◌, ◌++◌, ◌∙◌, ◌∷◌, ◌≡◌, ◌≤◌}
+use Rattle.proof_scanner.proofs.Common.{Account, AreEntries, AreNumbered, BeginsButForKey, Bool, Entry, FlowLevel, IsLine, IsOpenOutside, IsPiece, Key, KnowsKey, Line, List, MayChoose, None, NotBefore, Option, Position, ScannerState, Site, SoFar, Some, Stands, Step, Tok, account_past, act_of, ap, begins_free_line, begun_by, chosen, entries_by, entries_past, entry_by, false, has_break, is_empty, is_renewed, is_separation, is_waiting, length, line_by, line_past_separation, may_stand, not, outside_key, position_after, previous_by, refl, seen, shown_position, site_here, site_past, spelled, subst, suc, sym, tokens_at, tokens_of_step, tokens_up_to, true, with_keys, ℕ, ◌&&◌, ◌++◌, ◌∙◌, ◌∷◌, ◌≡◌, ◌≤◌, arith, nat_tests, eqb-true}
 use Rattle.proof_scanner.proofs.Cut.Positions.{not_before_then, not_before_after}
 use Rattle.proof_scanner.proofs.Known.Read.{knows_inside}
-use Rattle.proof_scanner.proofs.Sound.Around.{line_taken, unbroken_around, one_around, may_around, open_around}
-use Rattle.proof_scanner.proofs.Sound.Arrivals.{some_rest, completes_at, carried_at, unbroken}
-use Rattle.proof_scanner.proofs.Sound.Completed.{but_for_key_past, goes_past, none_broken, none_waits}
+use Rattle.proof_scanner.proofs.Sound.Around.{unbroken_around, one_around, may_around, open_around}
+use Rattle.proof_scanner.proofs.Sound.Arrivals.{some_rest, completes_at, unbroken}
+use Rattle.proof_scanner.proofs.Sound.Completed.{but_for_key_past, goes_past}
 use Rattle.proof_scanner.proofs.Sound.Reads.{Reads, stands_so}
 use Rattle.proof_scanner.proofs.Sound.Sides.{with_entries, ArrivesBy}
 use Rattle.proof_scanner.proofs.Sound.NodeTokens.{past_step, same_levels}
@@ -64,16 +64,16 @@ module _ (text : List ℕ) (t u : ScannerState) (f : FlowLevel) (fs : List FlowL
     are_numbered = g.are_numbered;
     carries = λ cs key own must inside more. subst (λ l. BeginsButForKey text l key.position (chosen false cs ls (account_then t.held.position))) r.is_rest
         (subst (λ p. BeginsButForKey text next key.position (chosen false cs ls (account_then p))) (sym place)
-        (but_for_key_past text (a.separation ++ (piece ++ next)) key.position (before false cs) (chosen false cs ls (account_then piece_here)) (flow_step (n.bit cs)) next refl (written false cs)
-        (account false cs (none_broken (begins_free_line a.site.before a.separation) (outside_key es ks) a.line taken_line) (none_waits (has_break piece) (outside_key es ks) a.line taken_line))
-        (carried_at text t (f ∷ fs) (k ∷ ks) (e ∷ es) a (piece ++ next) r.cut key (sym g.same_key ∙ own) must refl some (n.choice cs ∷ n.outer cs))));
-    knows = subst (λ y. KnowsKey text (gap ++ u.rest) u.held.position y) (sym g.same_key) (knows_inside text t piece next tok r.cut u.held.position gap u.rest r.position_is r.is_rest f fs k ks e es a (is_filled, (ap not r.is_solid, n.is_piece)));
+        (but_for_key_past text (a.separation ++ (piece ++ next)) key.position (before false cs) (chosen false cs ls (account_then piece_here)) (flow_step (n.bit cs)) next refl (grind (arith, nat_tests, eqb-true, same_levels))
+        (account false cs (grind arith) (grind (arith, nat_tests, eqb-true)))
+        (subst (λ x. BeginsButForKey text (a.separation ++ x) key.position (chosen false (n.choice cs ∷ n.outer cs) (k ∷ ks) (with_entries a.site a.line (e ∷ es)))) r.cut (a.carries (n.choice cs ∷ n.outer cs) key (sym g.same_key ∙ own) must refl some))));
+    knows = subst (λ y. KnowsKey text (gap ++ u.rest) u.held.position y) (sym g.same_key) (knows_inside text t piece next tok r.cut u.held.position gap u.rest r.position_is r.is_rest f fs k ks e es a ((subst (λ l. is_separation false a.separation l ≡ true) r.cut a.is_filled), (ap not r.is_solid, n.is_piece)));
     completes = λ strict c cs may.
         let was : MayChoose strict c (outside_key es ks) u.held.position u.rest = subst (λ y. MayChoose strict c y u.held.position u.rest) g.same_key may in
         subst (λ l. SoFar strict text l (chosen c cs ls (account_then t.held.position)) (tokens_up_to (chosen c cs ls (account_then t.held.position)) ls u.held.tokens)) r.is_rest
         (subst (λ p. SoFar strict text next (chosen c cs ls (account_then p)) (tokens_up_to (chosen c cs ls (account_then p)) ls u.held.tokens)) (sym place)
         (goes_past strict text (a.separation ++ (piece ++ next)) (before c cs) (chosen c cs ls (account_then piece_here)) (tokens_up_to (before c cs) (k ∷ ks) a.tokens) (tokens_up_to (chosen c cs ls (account_then piece_here)) ls u.held.tokens)
-        (flow_step (n.bit cs)) next refl (written c cs)
+        (flow_step (n.bit cs)) next refl (grind (arith, nat_tests, eqb-true, same_levels))
         (account c cs (unbroken_around text t f fs k ks e es a some u.held.position u.rest later strict c was) (one_around text t f fs k ks e es a some u.held.position u.rest later piece g.in_line strict c was))
         (λ _ i. ap (λ y. is_waiting (line_by c y a.line)) g.same_key ∙ i) (tokens c cs)
         (completes_at text t (f ∷ fs) (k ∷ ks) (e ∷ es) a (piece ++ next) piece_here r.cut place strict c (n.choice cs ∷ n.outer cs)
@@ -84,27 +84,10 @@ module _ (text : List ℕ) (t u : ScannerState) (f : FlowLevel) (fs : List FlowL
       some = some_rest t.rest piece next r.cut r.is_solid
 
       later : NotBefore t.held.position u.held.position
-      later = subst (λ p. NotBefore t.held.position p) (sym r.position_is)
-          (not_before_then t.held.position (flow_past t.held.position).position (position_after (flow_past t.held.position).position gap u.rest) (not_before_after t.held.position piece next) (not_before_after (flow_past t.held.position).position gap u.rest))
-
-      taken_line : a.line ≡ taken
-      taken_line = line_taken text t f fs k ks e es a
-
-      is_filled : is_separation false a.separation (piece ++ next) ≡ true
-      is_filled = subst (λ l. is_separation false a.separation l ≡ true) r.cut a.is_filled
+      later = grind (arith, nat_tests, eqb-true, not_before_then, not_before_after)
 
       before : Bool → List Bool → Account
       before c cs = chosen c (n.choice cs ∷ n.outer cs) (k ∷ ks) (with_entries a.site a.line (e ∷ es))
-
-      written : (c : Bool) (cs : List Bool) → IsWritten (before c cs) (flow_step (n.bit cs)) next
-      written c cs = (
-        is_filled,
-        (
-          ap not r.is_solid,
-          subst (λ levels. IsPiece (let s = seen (with_entries a.site a.line (e ∷ es)) (flow_at piece_here) a.separation in record s { levels = levels }) piece next None (shown_position (flow_at piece_here) piece tok next) tok)
-              (sym (same_levels (n.choice cs ∷ n.outer cs) (k ∷ ks) (e ∷ es))) n.is_piece,
-        ),
-      )
 
       account : (c : Bool) (cs : List Bool) → line_past_separation true (begins_free_line a.site.before a.separation) (line_by c (outside_key es ks) a.line) ≡ Some (line_by c (outside_key es ks) a.line) → (has_break piece && is_waiting (line_by c (outside_key es ks) a.line)) ≡ false →
           account_past (before c cs) (flow_step (n.bit cs)) next ≡ Some (chosen c cs ls (account_then piece_here))
@@ -112,13 +95,8 @@ module _ (text : List ℕ) (t u : ScannerState) (f : FlowLevel) (fs : List FlowL
 
       tokens : (c : Bool) (cs : List Bool) (ws : List Step) (last : List ℕ) → spelled ws last ≡ next →
           tokens_up_to (before c cs) (k ∷ ks) a.tokens (flow_step (n.bit cs) ∷ ws) last ++ tokens_of_step (before c cs) (flow_step (n.bit cs)) ws last ≡ tokens_up_to (chosen c cs ls (account_then piece_here)) ls u.held.tokens ws last
-      tokens c cs ws last h =
-          let l : Line = line_by c (outside_key es ks) a.line in
-          n.tokens_are cs l ws last h ∙ (ap (λ y. with_keys 0 (position_after (position_after a.site.position a.separation (piece ++ y)) piece y) ws last a.site.blocks l (entries_by cs ls es2) ls u.held.tokens) h ∙
-          ap (λ y. tokens_up_to (with_entries (flow_past piece_here) (line_by c y a.line) (entries_by cs ls es2)) ls u.held.tokens ws last) (sym g.same_key))
+      tokens c cs ws last h = grind (arith, nat_tests, eqb-true)
 
   -- What holds where the piece begins holds between two fetches after it.
   pub steps_in_flow : (gs : List FlowLevel) (gap : List ℕ) → Reads t u (flow_past t.held.position) piece next gap → Enters gs gap → Steps t.held.position → Stands text u
-  steps_in_flow gs gap r g n =
-      let place : t.held.position ≡ piece_here = a.position_is ∙ ap (λ l. position_after a.site.position a.separation l) r.cut in
-      steps_there gs gap r g (subst Steps place n) place
+  steps_in_flow gs gap r g n = grind (arith, nat_tests, eqb-true, steps_there)

@@ -1,5 +1,5 @@
 -- An indicator of one character, and the blanks and the comment after it.
-use Rattle.proof_scanner.proofs.Common.{Bool, Holds, List, Position, Previous, ScannerState, [], ap, arith, begins_line, begins_with, blanks_and_comment, false, follows_plain, has_no_break, has_tab_within, is_break, is_indented_by_spaces, last_line, least_column, not, pass_indicator, past, past_blanks_and_comment, past_line_rest, position_after, refl, skip_indicator, subst, sym, true, ℕ, ◌||◌, ◌∙◌, ◌∷◌, ◌≡◌}
+use Rattle.proof_scanner.proofs.Common.{Bool, Holds, List, Position, Previous, ScannerState, [], ap, arith, begins_line, begins_with, blanks_and_comment, false, follows_plain, has_no_break, has_tab_within, is_break, is_indented_by_spaces, last_line, least_column, not, pass_indicator, past, past_blanks_and_comment, past_line_rest, position_after, refl, skip_indicator, subst, true, ℕ, ◌||◌, ◌∷◌, ◌≡◌, eqb-true, nat_tests}
 use Rattle.model_scanner.specs.State.{after}
 use Rattle.proof_lexers.specs.PlainEnds as plains
 use Rattle.proof_scanner.proofs.Sound.Blanks.{same_in_line, line_rest_in_line, rest_skipped}
@@ -20,9 +20,7 @@ past_one p c next e = past_indicator p c next e
 
 -- the position after all of it
 pub indicator_end : (p : Position) (c : ℕ) (more : List ℕ) → is_break c ≡ false → past_line_rest (past p) more ≡ position_after (position_after p (c ∷ []) more) (blanks_and_comment more) (past_blanks_and_comment more)
-indicator_end p c more e =
-    ap (λ q. position_after q (blanks_and_comment more) []) (sym (past_one p c more e)) ∙
-    same_in_line (position_after p (c ∷ []) more) (blanks_and_comment more) [] (past_blanks_and_comment more) (line_rest_in_line more)
+indicator_end p c more e = grind (arith, nat_tests, eqb-true, past_one, same_in_line, line_rest_in_line)
 
 -- no TAB indents a line, where no line begins
 pub none_indents : (before : Previous) (bs : List ℕ) (awaits : Bool) (f : List ℕ) → begins_line before f ≡ false → is_indented_by_spaces before bs awaits f ≡ true

@@ -1,19 +1,16 @@
 -- Tokens that go in before others, and tokens after all of them.
 use Rattle.std.proofs.lemmas.List.Edits.{insert-append_left}
-use Rattle.proof_scanner.proofs.Common.{AreNumbered, Bool, Colon, Entry, Had, Key, Line, List, None, Option, Position, Some, Step, Token, [], ap, arith, colon_of, insert, key, length, put, put_if, put_key, refl, suc, takes_pair, with_had, with_keys, with_line, zero, ℕ, ◌++◌, ◌∙◌, ◌∷◌, ◌≡◌, ◌≤◌}
+use Rattle.proof_scanner.proofs.Common.{AreNumbered, Bool, Colon, Entry, Had, Key, Line, List, None, Option, Position, Some, Step, Token, [], ap, arith, insert, key, length, put, put_if, put_key, refl, suc, with_had, with_keys, with_line, zero, ℕ, ◌++◌, ◌∙◌, ◌∷◌, ◌≡◌, ◌≤◌, eqb-true, nat_tests}
 
 longer : (ts : List Token) (n : ℕ) (t : Token) → length (insert ts n t) ≡ suc (length ts)
 longer ts zero t = refl
 longer [] (suc n) t = refl
 longer (x ∷ ts) (suc n) t = ap suc (longer ts n t)
 
-if_first : (b : Bool) (ts us : List Token) (n : ℕ) (t : Token) → n ≤ length ts → put_if b n t (ts ++ us) ≡ put_if b n t ts ++ us
-if_first a ts us n t h = grind (arith, insert-append_left)
-
 key_first : (b : Bool) (start : Token) (n : ℕ) (here : Position) (ts us : List Token) → n ≤ length ts → put_key b start n here (ts ++ us) ≡ put_key b start n here ts ++ us
 key_first b start n here ts us h =
     let l = longer ts n (put here key) in
-    ap (λ x. put_if b n start x) (insert-append_left ts us n (put here key) h) ∙ if_first b (insert ts n (put here key)) us n start (omega (arith, h, l))
+    ap (λ x. put_if b n start x) (insert-append_left ts us n (put here key) h) ∙ (grind (arith, insert-append_left))
 
 if_longer : (b : Bool) (ts : List Token) (n : ℕ) (t : Token) → length ts ≤ length (put_if b n t ts)
 if_longer a ts n t = grind (arith, longer)
@@ -53,10 +50,5 @@ first_among many a ks b = grind arith
 pub keys_first : (d : ℕ) (p : Position) (ws : List Step) (last : List ℕ) (bs : List ℕ) (l : Line) (es : List Entry) (ks : List (Option Key)) (ts us : List Token) → AreAmong (length ts) ks →
     with_keys d p ws last bs l es ks (ts ++ us) ≡ with_keys d p ws last bs l es ks ts ++ us
 keys_first d p ws last bs l es [] ts us a = refl
-keys_first d p ws last bs l [] (k ∷ ks) ts us a = line_first (colon_of d p ws last) bs l k ts us (first_among (length ts) k ks a).0
-keys_first d p ws last bs l (e ∷ es) (k ∷ ks) ts us a =
-    let q = first_among (length ts) k ks a in
-    let c : Colon = colon_of d p ws last in
-    let more : List Token = with_had c (takes_pair e.kind e.pair) e.had k ts in
-    ap (λ x. with_keys (suc d) p ws last bs l es ks x) (had_first c (takes_pair e.kind e.pair) e.had k ts us q.0) ∙
-    keys_first (suc d) p ws last bs l es ks more us (fewer (length ts) (length more) ks (had_longer c (takes_pair e.kind e.pair) e.had k ts) q.1)
+keys_first d p ws last bs l [] (k ∷ ks) ts us a = grind (arith, nat_tests, eqb-true, line_first, first_among)
+keys_first d p ws last bs l (e ∷ es) (k ∷ ks) ts us a = grind (arith, nat_tests, eqb-true, first_among, had_first, fewer, had_longer, keys_first (suc d) p ws last bs l es ks)

@@ -1,5 +1,5 @@
 -- The key that may begin with a node, among the open keys.
-use Rattle.proof_scanner.proofs.Common.{AreNumbered, Bool, Entry, FlowLevel, IsEntryOf, IsFreeKey, Key, List, Option, ScannerState, Token, [], arith, false, length, length-append, must_be_key, refl, suc, ◌++◌, ◌∷◌, ◌≡◌}
+use Rattle.proof_scanner.proofs.Common.{AreNumbered, Bool, Entry, FlowLevel, IsEntryOf, Key, List, Option, ScannerState, Token, [], arith, false, length, length-append, must_be_key, refl, suc, ◌++◌, ◌∷◌, ◌≡◌, eqb-true, nat_tests}
 use Rattle.proof_scanner.proofs.Cut.Saved.{saved_keys}
 use Rattle.proof_scanner.proofs.Sound.Arrivals.{numbered_more, numbered_around}
 use Rattle.proof_scanner.proofs.Sound.NodeSteps.{saved, entry_past_node}
@@ -28,7 +28,4 @@ not_required t f fs within = rw within refl
 
 -- the entry after a node is of the same flow level
 pub entry_kept : (t : ScannerState) (f : FlowLevel) (fs : List FlowLevel) (k : Option Key) (e : Entry) → t.held.flow ≡ f ∷ fs → (b : Bool) → IsEntryOf f k e → IsEntryOf f (saved b (new_key t) k) (entry_past_node b e)
-entry_kept t f fs k e within b h = record { kind_is = h.kind_is; pair_is = h.pair_is; key_is = by b h.key_is }
-  where
-    by : (b : Bool) → IsFreeKey k → IsFreeKey (saved b (new_key t) k)
-    by a i = grind (arith, not_required, t, within)
+entry_kept t f fs k e within b h = grind (arith, nat_tests, eqb-true, not_required)

@@ -1,5 +1,5 @@
 -- The last line of a text as the text grows, and the column after it.
-use Rattle.proof_scanner.proofs.Common.{Bool, List, Position, [], and_parts, ap, arith, eqb-true, false, has_break, has_no_break, has_tab_within, if◌then◌else◌, inl, inr, is_at_line_end, is_before_line_feed, is_blank, is_break, is_empty, is_one_of, is_separation, last_line, length, nat_tests, not, not-true, or-true, position_after, position_past, put_first, refl, split, split_by, suc, sym, take, take-append-le, true, zero, ℕ, ◌&&◌, ◌++◌, ◌+◌, ◌==◌, ◌||◌, ◌∙◌, ◌∷◌, ◌≡◌, ◌≤◌, ◌⊎◌}
+use Rattle.proof_scanner.proofs.Common.{Bool, List, Position, [], and_parts, ap, arith, eqb-true, false, has_break, has_no_break, has_tab_within, if◌then◌else◌, inl, inr, is_at_line_end, is_before_line_feed, is_break, is_empty, is_one_of, is_separation, last_line, length, nat_tests, not, not-true, or-true, position_after, position_past, put_first, refl, split, split_by, suc, take, take-append-le, true, zero, ℕ, ◌&&◌, ◌++◌, ◌+◌, ◌==◌, ◌||◌, ◌∙◌, ◌∷◌, ◌≡◌, ◌≤◌, ◌⊎◌}
 
 -- ---- breaks in a text and one character more
 
@@ -22,39 +22,21 @@ complete_is (c ∷ r) = by (is_break c) (is_before_line_feed c r) refl (complete
     kept a last = grind arith
 
     by : (x y : Bool) → is_before_line_feed c r ≡ y → is_empty (split r).complete ≡ has_no_break r → is_empty (split_by x y c (split r)).complete ≡ (not x && has_no_break r)
-    by true a e h = grind (arith, not-true, feed_breaks)
-    by false y e h = kept (split r).complete (split r).last ∙ h
+    by b a e h = grind (arith, nat_tests, eqb-true, not-true, feed_breaks, kept)
 
 -- one character more at its start
 pub last_first : (c : ℕ) (r : List ℕ) → last_line (c ∷ r) ≡ (if is_break c || has_break r then last_line r else c ∷ last_line r)
-last_first c r = by (is_break c) (is_before_line_feed c r) ∙ ap (λ b. if is_break c || not b then last_line r else c ∷ last_line r) (complete_is r)
-  where
-    kept : (complete : List (List ℕ)) (last : List ℕ) → (put_first c complete last).last ≡ (if not (is_empty complete) then last else c ∷ last)
-    kept a last = grind arith
-
-    by : (x y : Bool) → (split_by x y c (split r)).last ≡ (if x || not (is_empty (split r).complete) then last_line r else c ∷ last_line r)
-    by true a = grind arith
-    by false y = kept (split r).complete (split r).last
+last_first c r = (grind (arith, nat_tests, eqb-true)) ∙ ap (λ b. if is_break c || not b then last_line r else c ∷ last_line r) (complete_is r)
 
 -- one character more at its end
 pub last_more : (g : List ℕ) (c : ℕ) → last_line (g ++ c ∷ []) ≡ (if is_break c then [] else last_line g ++ c ∷ [])
 last_more [] c = grind arith
-last_more (d ∷ g) c =
-    last_first d (g ++ c ∷ []) ∙ ap (λ b. if is_break d || b then last_line (g ++ c ∷ []) else d ∷ last_line (g ++ c ∷ [])) (break_append g (c ∷ [])) ∙
-    ap (λ l. if is_break d || (has_break g || has_break (c ∷ [])) then l else d ∷ l) (last_more g c) ∙
-    by (is_break c) (is_break d) (has_break g) ∙ ap (λ l. if is_break c then [] else l ++ c ∷ []) (sym (last_first d g))
-  where
-    by : (x y z : Bool) → (if y || (z || not (not x && true)) then (if x then [] else last_line g ++ c ∷ []) else d ∷ (if x then [] else last_line g ++ c ∷ [])) ≡
-        (if x then [] else (if y || z then last_line g else d ∷ last_line g) ++ c ∷ [])
-    by a b z = grind arith
+last_more (d ∷ g) c = grind (arith, nat_tests, eqb-true, last_first, break_append, last_more g c)
 
 -- a text of one line is its last line
 pub last_whole : (g : List ℕ) → has_break g ≡ false → last_line g ≡ g
 last_whole [] h = refl
-last_whole (c ∷ g) h = last_first c g ∙ by (is_break c) (has_no_break g) refl h (λ k. last_whole g k)
-  where
-    by : (x y : Bool) → has_no_break g ≡ y → not (not x && y) ≡ false → (has_break g ≡ false → last_line g ≡ g) → (if x || not y then last_line g else c ∷ last_line g) ≡ c ∷ g
-    by a y e h k = grind arith
+last_whole (c ∷ g) h = grind (arith, nat_tests, eqb-true, last_first, last_whole g)
 
 -- ---- the column after it
 
@@ -70,22 +52,7 @@ feed_at d k = rw k refl
 -- the column after a text, which is not in the middle of CR LF
 pub column_after : (p : Position) (g a : List ℕ) → at_break a ≡ false → (position_after p g a).col ≡ (if has_break g then length (last_line g) else p.col + length g)
 column_after p [] a h = omega arith
-column_after p (c ∷ g) a h =
-    column_after (position_past p c (g ++ a)) g a h ∙ by (is_break c) (is_before_line_feed c (g ++ a)) (has_no_break g) refl refl refl ∙
-    ap (λ l. if has_break (c ∷ g) then length l else p.col + suc (length g)) (sym (last_first c g))
-  where
-    cut : (g : List ℕ) → is_before_line_feed c (g ++ a) ≡ true → has_no_break g ≡ true → ⊥
-    cut [] e k = first a e h
-      where
-        first : (a : List ℕ) → is_before_line_feed c a ≡ true → at_break a ≡ false → ⊥
-        first [] e h = cc e
-        first (d ∷ r) e h = cc (h, feed_at d (and_parts (c == 13) (d == 10) e).1)
-    cut (d ∷ g) e k = cc (feed_at d (and_parts (c == 13) (d == 10) e).1, (and_parts (not (is_break d)) (has_no_break g) k).0)
-
-    by : (x y z : Bool) → is_break c ≡ x → is_before_line_feed c (g ++ a) ≡ y → has_no_break g ≡ z →
-        (if not z then length (last_line g) else (let q : Position = (if x && not y then record { index = suc p.index; line = suc p.line; col = 0 } else record { index = suc p.index; line = p.line; col = suc p.col }) in q.col) + length g) ≡
-        (if not (not x && z) then length (if x || not z then last_line g else c ∷ last_line g) else p.col + suc (length g))
-    by b y d e f k = grind (arith, cut, last_whole)
+column_after p (c ∷ g) a h = grind (arith, nat_tests, eqb-true, last_first, feed_at, and_parts, last_whole, column_after (position_past p c (g ++ a)) g a h)
 
 -- ---- no `#` in it, outside comments
 
@@ -94,27 +61,14 @@ in_no_comment d l e f = rw (e, f) refl
 
 -- where a separation ends within a line, and not in a comment, its last line has no `#`
 pub no_comment_in_last : (g rest : List ℕ) → is_separation false g rest ≡ true → is_at_line_end rest ≡ false → is_one_of (last_line g) 35 ≡ false
-no_comment_in_last g rest h ends = outside g h
+no_comment_in_last g rest h ends = (both g).0 h
   where
     Both : List ℕ → Type 0
     Both g = (is_separation false g rest ≡ true → is_one_of (last_line g) 35 ≡ false) × (is_separation true g rest ≡ true → (has_break g ≡ true) × (is_one_of (last_line g) 35 ≡ false))
 
     both : (g : List ℕ) → Both g
-    both [] = (λ h. refl, λ h. absurd (cc (h, ends)))
-    both (c ∷ g) = (λ h. first (is_blank c || is_break c || (c == 35)) (c == 35) refl h (both g), λ h. second (is_break c) refl h (both g))
-      where
-        swapped : (c == 35) ≡ false → (35 == c) ≡ false
-        swapped e = grind (arith, e)
-
-        first : (x y : Bool) → (c == 35) ≡ y → (x && is_separation y g rest) ≡ true → Both g → is_one_of (last_line (c ∷ g)) 35 ≡ false
-        first a y e h b = grind (arith, nat_tests, last_first, or-true, has_break, in_no_comment, swapped, eqb-true)
-
-        second : (x : Bool) → is_break c ≡ x → is_separation (not x) g rest ≡ true → Both g → (has_break (c ∷ g) ≡ true) × (is_one_of (last_line (c ∷ g)) 35 ≡ false)
-        second true e h b = (rw e refl, rw (last_first c g, e) (b.0 h))
-        second false e h b = (rw e (b.1 h).0, rw (last_first c g, e, (b.1 h).0) (b.1 h).1)
-
-    outside : (g : List ℕ) → is_separation false g rest ≡ true → is_one_of (last_line g) 35 ≡ false
-    outside g h = (both g).0 h
+    both [] = grind (arith, nat_tests, eqb-true)
+    both (c ∷ g) = grind (arith, nat_tests, Both, last_first, or-true, in_no_comment, eqb-true, both g)
 
 -- ---- TABs in its first columns
 
@@ -128,6 +82,5 @@ tab_within_more n l c (inl other) h = go n l h
     go (suc n) [] h = rw other (none n)
       where
         none : (n : ℕ) → is_one_of (take n []) 9 ≡ false
-        none zero = refl
-        none (suc n) = refl
+        none a = grind (arith, nat_tests, eqb-true)
     go (suc n) (x ∷ l) h = grind (arith, go n l)

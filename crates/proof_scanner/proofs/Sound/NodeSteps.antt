@@ -1,5 +1,5 @@
 -- A part of a node: from each choice after it there is a choice before it, and a bit for its step.
-use Rattle.proof_scanner.proofs.Common.{Bool, Entry, Had, HasHadHere, Key, Line, List, None, Option, Position, Some, arith, entries_past, entry_by, eqb-true, false, filled, fresh, gives_node, had_by, is_waiting, line_by, line_past_separation, nat_tests, settled, true, ◌++◌, ◌∷◌, ◌≡◌, ◌⊎◌}
+use Rattle.proof_scanner.proofs.Common.{Bool, Entry, Had, HasHadHere, Key, List, Option, Position, Some, arith, entries_past, entry_by, eqb-true, false, filled, gives_node, nat_tests, true, ◌++◌, ◌∷◌, ◌≡◌}
 
 -- the open key after a node's start: the new one, where one may begin
 abbrev pub saved : (allowed : Bool) → (new : Key) → Option Key → Option Key
@@ -25,41 +25,7 @@ had_past_node false h = h
 abbrev pub entry_past_node : (allowed : Bool) → Entry → Entry
 entry_past_node allowed e = record { kind = e.kind; pair = e.pair; had = had_past_node allowed e.had }
 
-abbrev is_some : Option Key → Bool
-is_some None = false
-is_some (Some k) = true
-
-abbrev Own : Entry → Had → Entry
-Own e d = record { kind = e.kind; pair = e.pair; had = d }
-
-abbrev IsStepped : (begun es : List Entry) → Entry → Position → Key → (again allowed c : Bool) → Option Key → Had → Type 0
-IsStepped begun es e here new again allowed c k d =
-    entries_past here again gives_node begun (bit_of allowed c) (Own e (had_by (choice_before allowed c) k d)) es ≡ Some (begun ++ (Own e (had_by c (saved allowed new k) (had_past_node allowed d)) ∷ es))
-
--- what an entry has had where a node begins
-had_there : (allowed again : Bool) (k : Option Key) (d : Had) → HasHadHere allowed again k d → ((is_some k ≡ true) × (d ≡ filled) × (allowed ≡ again)) ⊎ (((k ≡ None) × (d ≡ fresh) × (allowed ≡ true)) ⊎ ((k ≡ None) × (d ≡ settled) × (allowed ≡ again)))
-had_there allowed again k d h = grind arith
-
-module _ (begun es : List Entry) (e : Entry) (here : Position) (new : Key) (place : new.position ≡ here) (again c : Bool) where
-  filled_goes : (k : Option Key) → is_some k ≡ true → IsStepped begun es e here new again again c k filled
-  filled_goes k h = grind (arith, place)
-
-  fresh_goes : IsStepped begun es e here new again true c None fresh
-  fresh_goes = grind (arith, place)
-
-  settled_goes : IsStepped begun es e here new again again c None settled
-  settled_goes = grind (arith, place)
-
 -- in flow; the node may be a collection, which begins with an entry of its own
 pub node_in_entry : (again allowed c : Bool) (k : Option Key) (new : Key) (e : Entry) (here : Position) (begun es : List Entry) → HasHadHere allowed again k e.had → new.position ≡ here →
     entries_past here again gives_node begun (bit_of allowed c) (entry_by (choice_before allowed c) k e) es ≡ Some (begun ++ (entry_by c (saved allowed new k) (entry_past_node allowed e) ∷ es))
-node_in_entry again allowed c k new e here begun es h q = by (had_there allowed again k e.had h)
-  where
-    by : ((is_some k ≡ true) × (e.had ≡ filled) × (allowed ≡ again)) ⊎ (((k ≡ None) × (e.had ≡ fresh) × (allowed ≡ true)) ⊎ ((k ≡ None) × (e.had ≡ settled) × (allowed ≡ again))) → IsStepped begun es e here new again allowed c k e.had
-    by a = grind (arith, begun, here, new, q, again)
-
--- ---- on one line
-
--- a waiting key and a separation without a break, or no waiting key
-pub separated : (fl broken c : Bool) (k : Option Key) (l m : Line) → (c ≡ true → broken ≡ false) → line_past_separation fl broken l ≡ Some m → is_waiting l ≡ false → line_past_separation fl broken (line_by c k l) ≡ Some (line_by c k m)
-separated fl broken c a l m h e n = grind (arith, nat_tests, eqb-true)
+node_in_entry again allowed c k new e here begun es h q = grind (arith, nat_tests, eqb-true)

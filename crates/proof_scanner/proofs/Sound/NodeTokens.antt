@@ -1,18 +1,11 @@
 -- The tokens of a part of a node: with its key put in, or without.
-use Rattle.proof_scanner.proofs.Common.{Bool, Colon, Entry, FlowLevel, Had, HasHadHere, Key, Line, List, None, Option, Pair, Position, Site, Some, Step, Tok, Token, [], act_of, ap, append_assoc, arith, begins_free_line, begun_by, begun_inside, begun_outside, block_mapping_start, colon_of, depth_past, ends_at, entries_by, false, flow_mapping_start, gives_node, had_by, insert, is_deeper, is_keyed, key, key_tokens, length, level_of, line_past_separation, map, pair_position, pop, position_after, put, put_key, refl, shown_position, spelled, suc, sym, takes_pair, tokens_at, true, with_had, with_keys, with_line, ℕ, ◌++◌, ◌∙◌, ◌∷◌, ◌≡◌}
+use Rattle.proof_scanner.proofs.Common.{Bool, Colon, Entry, FlowLevel, Had, Key, Line, List, Option, Position, Site, Step, Tok, Token, [], act_of, ap, arith, begun_by, colon_of, entries_by, false, flow_mapping_start, gives_node, had_by, insert, key_tokens, length, level_of, map, pair_position, pop, position_after, put, put_key, refl, spelled, suc, true, with_keys, with_line, ℕ, ◌++◌, ◌∷◌, ◌≡◌, eqb-true, nat_tests}
 use Rattle.proof_scanner.proofs.Sound.Begun.{with_begun, depth_begun, depth_rises}
 
 -- ---- an entry in which no key waits
 
-pub not_keyed : (allowed again : Bool) (k : Option Key) (h : Had) → HasHadHere allowed again k h → is_keyed h ≡ false
-not_keyed allowed again k h p = grind arith
-
-pub no_had : (c : Colon) (single : Bool) (h : Had) (k : Option Key) (ts : List Token) → is_keyed h ≡ false → with_had c single h k ts ≡ ts
-no_had c single h k ts e = grind arith
-
 pub had_as_it_was : (k : Option Key) (h : Had) → had_by false k h ≡ h
-had_as_it_was None h = refl
-had_as_it_was (Some k) h = refl
+had_as_it_was a h = grind (arith, nat_tests, eqb-true)
 
 -- what waits in entries is not seen
 pub same_levels : (cs : List Bool) (ks : List (Option Key)) (es : List Entry) → map level_of (entries_by cs ks es) ≡ map level_of es
@@ -25,28 +18,18 @@ same_levels cs ks (e ∷ es) = ap (λ x. level_of e ∷ x) (same_levels (pop cs)
 abbrev pub past_step : Position → Step → List Step → (last : List ℕ) → Position
 past_step p w ws last = position_after (position_after p w.separation (w.piece ++ spelled ws last)) w.piece (spelled ws last)
 
--- a part of a node is no colon of a key; a collection that it begins is open inside the key
-pub colon_past : (kind : Option FlowLevel) (d : ℕ) (p : Position) (w : Step) (ws : List Step) (last : List ℕ) → act_of w.shown ≡ gives_node → begun_by w.shown ≡ with_begun kind [] →
-    colon_of d p (w ∷ ws) last ≡ colon_of (depth_begun kind d) (past_step p w ws last) ws last
-colon_past kind d p w ws last e f = rw (e, f) refl
-
 -- Keys that wait have the colons that they have after a step, if each colon is the same from there on. Before it and after it so many more flow collections may be open inside each key.
 pub keys_along : (from to : ℕ → ℕ) → ((n : ℕ) → from (suc n) ≡ suc (from n)) → ((n : ℕ) → to (suc n) ≡ suc (to n)) → (d : ℕ) (p q : Position) (w : Step) (ws : List Step) (last : List ℕ) →
     ((n : ℕ) → colon_of (from n) p (w ∷ ws) last ≡ colon_of (to n) q ws last) → (bs : List ℕ) (l : Line) (es : List Entry) (ks : List (Option Key)) (ts : List Token) →
     with_keys (from d) p (w ∷ ws) last bs l es ks ts ≡ with_keys (to d) q ws last bs l es ks ts
 keys_along from to up rise d p q w ws last h bs l es [] ts = refl
 keys_along from to up rise d p q w ws last h bs l [] (k ∷ ks) ts = ap (λ c. with_line c bs l k ts) (h d)
-keys_along from to up rise d p q w ws last h bs l (x ∷ es) (k ∷ ks) ts =
-    let before : List Token = with_had (colon_of (from d) p (w ∷ ws) last) (takes_pair x.kind x.pair) x.had k ts in
-    ap (λ n. with_keys n p (w ∷ ws) last bs l es ks before) (sym (up d)) ∙
-    (keys_along from to up rise (suc d) p q w ws last h bs l es ks before ∙
-    (ap (λ n. with_keys n q ws last bs l es ks before) (rise d) ∙
-    ap (λ c. with_keys (suc (to d)) q ws last bs l es ks (with_had c (takes_pair x.kind x.pair) x.had k ts)) (h d)))
+keys_along from to up rise d p q w ws last h bs l (x ∷ es) (k ∷ ks) ts = grind (arith, nat_tests, eqb-true, keys_along from to up rise (suc d) p q w ws last h bs l es ks)
 
 -- so it is after a part of a node
 pub keys_past : (kind : Option FlowLevel) (d : ℕ) (p : Position) (w : Step) (ws : List Step) (last : List ℕ) → act_of w.shown ≡ gives_node → begun_by w.shown ≡ with_begun kind [] →
     (bs : List ℕ) (l : Line) (es : List Entry) (ks : List (Option Key)) (ts : List Token) → with_keys d p (w ∷ ws) last bs l es ks ts ≡ with_keys (depth_begun kind d) (past_step p w ws last) ws last bs l es ks ts
-keys_past kind d p w ws last e f bs l es ks ts = keys_along (λ n. n) (depth_begun kind) (λ n. refl) (depth_rises kind) d p (past_step p w ws last) w ws last (λ n. colon_past kind n p w ws last e f) bs l es ks ts
+keys_past kind d p w ws last e f bs l es ks ts = keys_along (λ n. n) (depth_begun kind) (λ n. refl) (depth_rises kind) d p (past_step p w ws last) w ws last (λ n. (rw (e, f) refl)) bs l es ks ts
 
 -- ---- a key that begins with the last token
 
@@ -56,58 +39,11 @@ insert_between (x ∷ ts) us t = ap (λ l. x ∷ l) (insert_between ts us t)
 
 -- a key goes in before the tokens of its node
 pub key_between : (begins : Bool) (p : Position) (start : Tok) (here : Position) (ts us : List Token) → put_key begins (put p start) (length ts) here (ts ++ us) ≡ ts ++ (key_tokens begins p start here ++ us)
-key_between true p start here ts us = ap (λ l. insert l (length ts) (put p start)) (insert_between ts us (put here key)) ∙ insert_between ts (put here key ∷ us) (put p start)
-key_between false p start here ts us = insert_between ts us (put here key)
+key_between a p start here ts us = grind (arith, nat_tests, eqb-true, insert_between)
 
 -- ---- the tokens of the step
-
--- the key of a step outside flow, if one begins with it
-abbrev pub key_outside : (bit : Bool) → Site → Colon → List Token
-key_outside true at c = key_tokens (is_deeper at.position.col at.blocks) c.here block_mapping_start at.position
-key_outside false at c = []
 
 -- the key of a step in flow, if one begins with it
 abbrev pub key_inside : (bit single : Bool) → Site → Colon → List Token
 key_inside true single at c = key_tokens single (pair_position c.past c.next) flow_mapping_start at.position
 key_inside false single at c = []
-
--- the position after a piece at a site
-abbrev pub past_piece : Site → Step → List Step → (last : List ℕ) → Position
-past_piece at w ws last = position_after at.position w.piece (spelled ws last)
-
--- the token that the piece shows
-abbrev pub shown_token : Site → Step → List Step → (last : List ℕ) → Token
-shown_token at w ws last = put (shown_position at w.piece w.shown (spelled ws last)) w.shown
-
-begun_out : (deeper : Bool) (here colon : Position) (bit : Bool) (l : Option Line) (at : Site) (c : Colon) → deeper ≡ is_deeper at.position.col at.blocks → here ≡ at.position → colon ≡ c.here →
-    begun_outside deeper here colon gives_node bit l ≡ key_outside bit at c
-begun_out deeper here colon true l at c d h e = rw (d, h, e) refl
-begun_out deeper here colon false l at c d h e = refl
-
--- outside flow
-pub tokens_outside : (s at : Site) (w : Step) (ws : List Step) (last : List ℕ) (l : Line) (begins : List Entry) → act_of w.shown ≡ gives_node → begun_by w.shown ≡ begins →
-    tokens_at s at w ws last l [] ≡ ends_at at.position s.blocks at.blocks ++ (key_outside w.key at (colon_of (depth_past gives_node begins 0) (past_piece at w ws last) ws last) ++ (shown_token at w ws last ∷ []))
-tokens_outside s at w ws last l begins e f =
-    let x : Option Line = line_past_separation false (begins_free_line s.before w.separation) l in
-    let c : Colon = colon_of (depth_past gives_node begins 0) (past_piece at w ws last) ws last in
-    let ends : List Token = ends_at at.position s.blocks at.blocks in
-    let shown : List Token = shown_token at w ws last ∷ [] in
-    let begun : List Token = begun_outside (is_deeper at.position.col at.blocks) at.position c.here gives_node w.key x in
-    let computed : tokens_at s at w ws last l [] ≡ (ends ++ begun) ++ shown = rw (e, f) refl in
-    computed ∙ (ap (λ y. (ends ++ y) ++ shown) (begun_out (is_deeper at.position.col at.blocks) at.position c.here w.key x at c refl refl refl) ∙ append_assoc ends (key_outside w.key at c) shown)
-
-begun_in : (single : Bool) (pair : Pair) (here colon own : Position) (bit : Bool) (h : Had) (at : Site) (c : Colon) → here ≡ at.position → colon ≡ pair_position c.past c.next →
-    begun_inside single pair here colon own gives_node bit h ≡ key_inside bit single at c
-begun_in single pair here colon own true h at c p e = rw (p, e) refl
-begun_in single pair here colon own false h at c p e = refl
-
--- in flow
-pub tokens_inside : (s at : Site) (w : Step) (ws : List Step) (last : List ℕ) (l : Line) (n : Entry) (es begins : List Entry) → act_of w.shown ≡ gives_node → begun_by w.shown ≡ begins →
-    tokens_at s at w ws last l (n ∷ es) ≡ key_inside w.key (takes_pair n.kind n.pair) at (colon_of (depth_past gives_node begins 0) (past_piece at w ws last) ws last) ++ (shown_token at w ws last ∷ [])
-tokens_inside s at w ws last l n es begins e f =
-    let c : Colon = colon_of (depth_past gives_node begins 0) (past_piece at w ws last) ws last in
-    let single : Bool = takes_pair n.kind n.pair in
-    let shown : List Token = shown_token at w ws last ∷ [] in
-    let begun : List Token = begun_inside single n.pair at.position (pair_position c.past c.next) (pair_position (past_piece at w ws last) (spelled ws last)) gives_node w.key n.had in
-    let computed : tokens_at s at w ws last l (n ∷ es) ≡ begun ++ shown = rw (e, f) refl in
-    computed ∙ ap (λ y. y ++ shown) (begun_in single n.pair at.position (pair_position c.past c.next) (pair_position (past_piece at w ws last) (spelled ws last)) w.key n.had at c refl refl)

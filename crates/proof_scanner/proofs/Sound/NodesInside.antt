@@ -1,15 +1,10 @@
 -- A part of a node in flow, be it an opening bracket or no collection: its tokens, and where a key that begins with it goes in.
-use Rattle.proof_scanner.proofs.Common.{arith, Bool, Colon, Entry, FlowLevel, Had, Key, Line, List, Option, Position, Site, Step, Tok, Token, [], act_of, ap, begun_by, colon_of, entry_by, false, gives_node, had_by, is_keyed, length, position_after, put, shown_position, site_here, spelled, suc, sym, takes_pair, tokens_at, tokens_up_to, true, with_had, with_keys, ℕ, ◌++◌, ◌∙◌, ◌∷◌, ◌≡◌}
+use Rattle.proof_scanner.proofs.Common.{arith, Bool, Colon, Entry, FlowLevel, Key, Line, List, Option, Position, Site, Step, Tok, Token, [], act_of, ap, begun_by, colon_of, entry_by, false, gives_node, is_keyed, length, position_after, put, shown_position, site_here, spelled, suc, sym, takes_pair, tokens_at, tokens_up_to, true, with_had, with_keys, ℕ, ◌++◌, ◌∙◌, ◌∷◌, ◌≡◌, nat_tests, eqb-true}
 use Rattle.proof_scanner.proofs.Sound.Begun.{with_begun, with_no_key, depth_begun, keys_around_begun}
 use Rattle.proof_scanner.proofs.Sound.Inserts.{AreAmong, fewer, had_first, had_longer, keys_first, first_among}
-use Rattle.proof_scanner.proofs.Sound.NodeSteps.{saved, choice_before, bit_of, had_past_node, entry_past_node}
-use Rattle.proof_scanner.proofs.Sound.NodeTokens.{past_step, keys_past, key_between, key_inside, tokens_inside, no_had, had_as_it_was}
+use Rattle.proof_scanner.proofs.Sound.NodeSteps.{saved, choice_before, bit_of, entry_past_node}
+use Rattle.proof_scanner.proofs.Sound.NodeTokens.{past_step, keys_past, key_between, key_inside, had_as_it_was}
 use Rattle.proof_scanner.proofs.Sound.Sides.{with_entries}
-
--- In the entry itself, by the choice: a key that begins here goes in before its token, and one that waits where it did.
-pub by_choice : (allowed ch : Bool) (k : Option Key) (new : Key) (h : Had) (c : Colon) (single : Bool) (s : Site) (ts : List Token) (own : Token) → is_keyed h ≡ false → new.position ≡ s.position → new.number ≡ length ts → AreAmong (length ts) (k ∷ []) →
-    with_had c single (had_by (choice_before allowed ch) k h) k ts ++ (key_inside (bit_of allowed ch) single s c ++ (own ∷ [])) ≡ with_had c single (had_by ch (saved allowed new k) (had_past_node allowed h)) (saved allowed new k) (ts ++ (own ∷ []))
-by_choice allowed ch k new h c single s ts own idle q i a = grind (arith, key_between, had_first, no_had, had_as_it_was)
 
 -- The tokens after it are those before, and its own.
 pub node_tokens : (level : Option FlowLevel) (s : Site) (separation piece : List ℕ) (tok : Tok) (allowed c : Bool) (k : Option Key) (new : Key) (e : Entry) (es : List Entry) (ks : List (Option Key)) (ts : List Token) (l : Line) (ws : List Step) (last : List ℕ) →
@@ -34,7 +29,7 @@ node_tokens level s separation piece tok allowed c k new e es ks ts l ws last ac
     let first : tokens_up_to (with_entries s l (x ∷ es)) (k ∷ ks) ts (w ∷ ws) last ≡ with_keys (suc depth) p ws last s.blocks l es ks inner = keys_past level 0 s.position w ws last act begins s.blocks l (x ∷ es) (k ∷ ks) ts in
     let parts : AreAmong (length ts) (k ∷ []) × AreAmong (length ts) ks = first_among (length ts) k ks are_among in
     ap (λ y. y ++ tokens_at s at w ws last l (x ∷ es)) first ∙
-    (ap (λ y. with_keys (suc depth) p ws last s.blocks l es ks inner ++ y) (tokens_inside s at w ws last l x es (with_begun level []) act begins) ∙
+    (ap (λ y. with_keys (suc depth) p ws last s.blocks l es ks inner ++ y) (grind (arith, nat_tests, eqb-true)) ∙
     (sym (keys_first (suc depth) p ws last s.blocks l es ks inner step (fewer (length ts) (length inner) ks (had_longer colon single x.had k ts) parts.1)) ∙
-    (ap (λ y. with_keys (suc depth) p ws last s.blocks l es ks y) (by_choice allowed c k new e.had colon single at ts own idle place number parts.0) ∙
+    (ap (λ y. with_keys (suc depth) p ws last s.blocks l es ks y) (grind (arith, key_between, had_first, had_as_it_was)) ∙
     sym (keys_around_begun level p ws last s.blocks l (entry_by c (saved allowed new k) (entry_past_node allowed e) ∷ es) (saved allowed new k ∷ ks) (ts ++ (own ∷ []))))))

@@ -1,9 +1,9 @@
 -- A part of a node outside flow, be it an opening bracket or no collection: what may begin after it, and its tokens, where a key that begins with it goes in.
-use Rattle.proof_scanner.proofs.Common.{Account, Bool, Colon, FlowLevel, IsLineHere, IsLive, Key, Line, List, MayChoose, None, Option, Position, Site, Some, Step, Tok, Token, [], act_of, ap, append_assoc, arith, begun_by, colon_of, ends_at, eqb-true, false, free, gives_node, inl, inr, is_waiting, length, line_by, line_is, line_past, nat_tests, position_after, put, shown_position, site_here, site_in, spelled, sym, taken, tokens_at, tokens_of_step, tokens_up_to, true, with_keys, with_line, ℕ, ◌&&◌, ◌++◌, ◌∙◌, ◌∷◌, ◌≡◌, ◌⊎◌}
-use Rattle.proof_scanner.proofs.Sound.Begun.{with_begun, with_no_key, depth_begun, keys_around_begun}
-use Rattle.proof_scanner.proofs.Sound.Inserts.{AreAmong, line_first, among}
+use Rattle.proof_scanner.proofs.Common.{Account, Bool, FlowLevel, IsLineHere, IsLive, Key, Line, List, MayChoose, None, Option, Position, Site, Some, Step, Tok, Token, [], act_of, append_assoc, arith, begun_by, ends_at, eqb-true, false, gives_node, is_waiting, length, line_by, line_past, nat_tests, position_after, put, shown_position, site_here, spelled, taken, tokens_of_step, tokens_up_to, with_keys, ℕ, ◌&&◌, ◌++◌, ◌∷◌, ◌≡◌}
+use Rattle.proof_scanner.proofs.Sound.Begun.{with_begun, with_no_key, keys_around_begun}
+use Rattle.proof_scanner.proofs.Sound.Inserts.{AreAmong, line_first}
 use Rattle.proof_scanner.proofs.Sound.NodeSteps.{saved, choice_before, bit_of}
-use Rattle.proof_scanner.proofs.Sound.NodeTokens.{past_step, keys_past, key_between, key_outside, tokens_outside}
+use Rattle.proof_scanner.proofs.Sound.NodeTokens.{past_step, keys_past, key_between}
 use Rattle.proof_scanner.proofs.Sound.OutOfFlow.{Outer}
 
 -- no block collection ends where a key may still come to its colon
@@ -13,41 +13,12 @@ AreSame (Some k) p rest bs cs = IsLive k p rest → bs ≡ cs
 
 -- ---- what may begin after it
 
--- where no key waits
-pub idle_by : (c : Bool) (k : Option Key) (l : Line) (p : Position) (rest : List ℕ) → is_waiting l ≡ false → MayChoose false c k p rest → is_waiting (line_by c k l) ≡ false
-idle_by c a l p rest h may = grind (arith, nat_tests, eqb-true)
-
--- a key may begin there, and none is open; or the line is taken
-line_there : (allowed : Bool) (k : Option Key) (l : Line) → IsLineHere false allowed (0 ∷ []) k l → ((allowed ≡ true) × (k ≡ None) × (l ≡ free)) ⊎ ((allowed ≡ false) × (l ≡ taken))
-line_there allowed k l h = grind arith
-
-key_there : (strict must c : Bool) (new : Key) (here p : Position) (bs rest : List ℕ) → new.position ≡ here → new.required ≡ must → MayChoose strict c (Some new) p rest →
-    line_past (strict && must) here bs gives_node c free ≡ Some (record { line = line_by c (Some new) taken; blocks = bs })
-key_there strict must c new here p bs rest e q may = grind arith
-
-taken_there : (must c : Bool) (k : Option Key) (here : Position) (bs : List ℕ) → line_past must here bs gives_node false (line_by c k taken) ≡ Some (record { line = line_by c k taken; blocks = bs })
-taken_there must c k here bs = grind arith
-
 -- of a row, and of a cut
 pub line_after_node : (strict must allowed c : Bool) (k : Option Key) (new : Key) (l : Line) (here p : Position) (bs rest : List ℕ) → IsLineHere false allowed (0 ∷ []) k l → new.position ≡ here → new.required ≡ must → MayChoose strict c (saved allowed new k) p rest →
     line_past (strict && must) here bs gives_node (bit_of allowed c) (line_by (choice_before allowed c) k l) ≡ Some (record { line = line_by c (saved allowed new k) taken; blocks = bs })
-line_after_node strict must allowed c k new l here p bs rest h e q may = by (line_there allowed k l h)
-  where
-    by : ((allowed ≡ true) × (k ≡ None) × (l ≡ free)) ⊎ ((allowed ≡ false) × (l ≡ taken)) →
-        line_past (strict && must) here bs gives_node (bit_of allowed c) (line_by (choice_before allowed c) k l) ≡ Some (record { line = line_by c (saved allowed new k) taken; blocks = bs })
-    by (inl x) = rw (x.0, x.1, x.2) (key_there strict must c new here p bs rest e q (rw x.0 at may))
-    by (inr x) = rw (x.0, x.1) (taken_there (strict && must) c k here bs)
+line_after_node strict must allowed c k new l here p bs rest h e q may = grind (arith, nat_tests, eqb-true)
 
 -- ---- the tokens after it
-
-pub no_line : (c : Colon) (bs : List ℕ) (l : Line) (k : Option Key) (ts : List Token) → is_waiting l ≡ false → with_line c bs l k ts ≡ ts
-no_line c bs l a ts h = grind (arith, nat_tests, eqb-true)
-
--- By the choice: a key that begins here goes in before its token, and one that waits where it did.
-pub by_choice : (strict allowed ch : Bool) (k : Option Key) (new : Key) (l m : Line) (c : Colon) (s : Site) (bs : List ℕ) (p : Position) (rest : List ℕ) (ts ends : List Token) (own : Token) →
-    IsLineHere false allowed (0 ∷ []) k m → MayChoose strict ch (saved allowed new k) p rest → is_waiting l ≡ false → new.position ≡ s.position → new.number ≡ length (ts ++ ends) → AreAmong (length ts) (k ∷ []) → AreSame k p rest bs s.blocks →
-    with_line c bs (line_by (choice_before allowed ch) k l) k ts ++ (ends ++ (key_outside (bit_of allowed ch) s c ++ (own ∷ []))) ≡ with_line c s.blocks (line_by ch (saved allowed new k) taken) (saved allowed new k) ((ts ++ ends) ++ (own ∷ []))
-by_choice strict allowed ch k new l m c s bs p rest ts ends own h may idle q i a same = grind (arith, append_assoc, key_between, no_line, line_first)
 
 -- The tokens after it are those before, with the ends that stand here, and its own.
 pub node_tokens : (level : Option FlowLevel) (s : Site) (separation piece : List ℕ) (tok : Tok) (strict allowed c : Bool) (k : Option Key) (new : Key) (l m : Line) (p : Position) (rest : List ℕ) (ts : List Token) (ws : List Step) (last : List ℕ) →
@@ -58,16 +29,4 @@ pub node_tokens : (level : Option FlowLevel) (s : Site) (separation piece : List
     let before : Account = Outer s (line_by (choice_before allowed c) k l) in
     new.position ≡ b.position → new.number ≡ length (ts ++ ends_at b.position s.blocks b.blocks) → AreSame k p rest s.blocks b.blocks → tokens_up_to before (k ∷ []) ts (w ∷ ws) last ++ tokens_of_step before w ws last ≡
     with_keys 0 (past_step s.position w ws last) ws last b.blocks (line_by c (saved allowed new k) taken) (with_begun level []) (with_no_key level (saved allowed new k ∷ [])) ((ts ++ ends_at b.position s.blocks b.blocks) ++ (put (shown_position b piece tok (spelled ws last)) tok ∷ [])))
-node_tokens level s separation piece tok strict allowed c k new l m p rest ts ws last act begins line_is may idle among place number same =
-    let b : Site = site_here false (position_after s.position separation (piece ++ spelled ws last)) s in
-    let w : Step = record { separation = separation; piece = piece; shown = tok; key = bit_of allowed c } in
-    let x : Line = line_by (choice_before allowed c) k l in
-    let q : Position = past_step s.position w ws last in
-    let colon : Colon = colon_of (depth_begun level 0) q ws last in
-    let ends : List Token = ends_at b.position s.blocks b.blocks in
-    let own : Token = put (shown_position b piece tok (spelled ws last)) tok in
-    let second : tokens_of_step (Outer s x) w ws last ≡ ends ++ (key_outside w.key b colon ++ (own ∷ [])) = ap (λ y. tokens_at s (site_in false y b.position s) w ws last x []) act ∙ tokens_outside s b w ws last x (with_begun level []) act begins in
-    ap (λ y. y ++ tokens_of_step (Outer s x) w ws last) (keys_past level 0 s.position w ws last act begins s.blocks x [] (k ∷ []) ts) ∙
-    (ap (λ y. with_line colon s.blocks x k ts ++ y) second ∙
-    (by_choice strict allowed c k new l m colon b s.blocks p rest ts ends own line_is may idle place number among same ∙
-    sym (keys_around_begun level q ws last b.blocks (line_by c (saved allowed new k) taken) [] (saved allowed new k ∷ []) ((ts ++ ends) ++ (own ∷ [])))))
+node_tokens level s separation piece tok strict allowed c k new l m p rest ts ws last act begins a may idle b place number same = grind (arith, nat_tests, eqb-true, append_assoc, keys_past, key_between, line_first, keys_around_begun, taken)

@@ -1,5 +1,5 @@
 -- Opening brackets: what holds where they begin holds between two fetches after them.
-use Rattle.proof_scanner.proofs.Common.{AreEntries, AreLevels, Bool, Entry, FlowLevel, Held, Indent, IsPairOf, Key, List, Mapping, None, Option, ScannerState, Site, Some, Tok, [], act_of, another, ap, arith, awaits_past, begins_free_line, begins_with, begun_by, blanks_and_comment, columns, eqb-true, false, first_entry, further_lines_stand, gives_node, has_open_level, if◌then◌else◌, in_block, in_flow, is_empty, is_renewed, least_column, least_for, length, level_of, map, may_precede, nat_le, nat_lt, nat_tests, no_pair, not, past, past_blanks_and_comment, past_line_rest, position_after, position_in_line, previous_by, refl, roll_one_col_indent, seen, shown_position, sym, true, ℕ, ◌&&◌, ◌∙◌, ◌∷◌, ◌≡◌}
+use Rattle.proof_scanner.proofs.Common.{AreLevels, Bool, Entry, FlowLevel, Held, Indent, IsPairOf, Key, List, Mapping, None, Option, ScannerState, Site, Some, Tok, [], act_of, another, ap, arith, awaits_past, begins_free_line, begins_with, begun_by, blanks_and_comment, columns, eqb-true, false, first_entry, further_lines_stand, gives_node, has_open_level, if◌then◌else◌, in_block, in_flow, is_empty, least_column, least_for, length, level_of, map, may_precede, nat_le, nat_lt, nat_tests, no_pair, not, past, past_blanks_and_comment, past_line_rest, position_after, position_in_line, previous_by, refl, roll_one_col_indent, seen, shown_position, sym, true, ℕ, ◌&&◌, ◌∙◌, ◌∷◌, ◌≡◌}
 use Rattle.model_scanner.specs.declared.level.FlowLevel.TheVariants.{Entry as InEntry}
 use Rattle.proof_scanner.proofs.Cut.Flows.{IsOpeningOf, opening_sequence, opening_mapping}
 use Rattle.proof_scanner.proofs.Cut.Nodes.{IsDeep}
@@ -11,7 +11,7 @@ use Rattle.proof_scanner.proofs.Sound.Standing.{deep_for}
 use Rattle.proof_scanner.proofs.Sound.Sides.{with_entries, ArrivesBy}
 use Rattle.std.proofs.lemmas.List.{length-map}
 use Rattle.proof_scanner.proofs.Cut.Saved.{saved_keys}
-use Rattle.proof_scanner.proofs.Sound.ReadNodes.{Read, next_of, site_then, IsRead, state_after, site_of, deep_there}
+use Rattle.proof_scanner.proofs.Sound.ReadNodes.{Read, next_of, site_then, IsRead, state_after, site_of}
 use Rattle.proof_scanner.proofs.Sound.Reads.{reads_before_none}
 
 -- What is said of an opening bracket.
@@ -66,16 +66,8 @@ opener_read t tok c more ds i = record {
   adjacent = t.held.adjacent_value_at;
 }
 
--- as many entries are open as flow levels
-many_entries : (allowed again : Bool) (fs : List FlowLevel) (ks : List (Option Key)) (es : List Entry) → AreEntries allowed again fs ks es → length fs ≡ length es
-many_entries allowed again a ks es h = grind (arith, nat_tests, many_around, eqb-true)
-
 less : (m n : ℕ) → m ≡ n → nat_le 255 m ≡ false → nat_lt n 255 ≡ true
 less m n same h = grind (arith, nat_tests)
-
-awaits_then : (tok : Tok) (lv : FlowLevel) (c : ℕ) (o : IsOpener lv tok c) (fl : Bool) (bs : List ℕ) (b : Bool) (next : List ℕ) → awaits_past fl tok bs b next ≡ (if fl then b else not (is_empty bs))
-awaits_then tok lv c o true bs b next = o.awaits_inside bs b next
-awaits_then tok lv c o false bs b next = o.awaits_outside bs b next
 
 -- with the key that may begin here
 abbrev pub with_key : Held → Held
@@ -92,15 +84,15 @@ opener_is_read text more lv tok c o t u r e deep hash few fs ks es flow a =
     record {
       reads = reads_before_none t (state_after t (Some lv) d) (site_then t fs a.site d) (c ∷ []) (next_of d) d.gap refl (e ∙ ap (λ l. c ∷ l) cut) refl (line_rest_fills more) (line_rest_in_line more) refl
           (indicator_end t.held.position c more o.is_opening.in_line ∙ ap (λ l. position_after (position_after t.held.position (c ∷ []) l) d.gap d.rest) cut) refl o.previous (a.blocks_are ∙ sym r.columns_are)
-          (awaits_then tok lv c o fl x.blocks x.awaits (next_of d) ∙ (ap (λ b. if fl then b else not (is_empty x.blocks)) a.awaits_is ∙ (ap (λ bs. if fl then has_open_level t.held.indents else not (is_empty bs)) a.blocks_are ∙
+          ((grind (arith, nat_tests, eqb-true)) ∙ (ap (λ b. if fl then b else not (is_empty x.blocks)) a.awaits_is ∙ (ap (λ bs. if fl then has_open_level t.held.indents else not (is_empty bs)) a.blocks_are ∙
           (ap (λ f. if not (is_empty f) then has_open_level t.held.indents else not (is_empty (columns t.held.indent t.held.indents))) (sym flow) ∙ sym r.awaits)))) r.are_levels a.was_adjacent (refl, refl, refl);
       act = o.act;
       begun = o.begun;
       is_begun = (o.no_pair_yet, omega (arith, stays));
       shown = λ y. o.shown y (c ∷ []) (next_of d);
       is_piece = o.is_opening.piece (seen (with_entries a.site a.line es) x a.separation) (next_of d) None
-          (less (length fs) (length (map level_of es)) (many_entries t.held.key_allowed (is_renewed a.site.before a.separation) fs ks es a.are_entries ∙ sym (length-map es level_of)) (ap (λ f. nat_le 255 (length f)) (sym flow) ∙ few));
-      is_deep = deep_for fl tok x (o.least x) (deep_there text t fs ks es a deep);
+          (less (length fs) (length (map level_of es)) ((grind (arith, nat_tests, many_around, eqb-true)) ∙ sym (length-map es level_of)) (ap (λ f. nat_le 255 (length f)) (sym flow) ∙ few));
+      is_deep = deep_for fl tok x (o.least x) (rw (a.blocks_are, a.awaits_is) (grind arith));
       lines_stand = o.lines (least_for tok x) (c ∷ []);
       precedes = o.precedes fl x.blocks (c ∷ []) (next_of d) ∙ ap (λ l. not (begins_with 35 l)) (sym cut) ∙ ap not hash;
       allowed_is = refl;

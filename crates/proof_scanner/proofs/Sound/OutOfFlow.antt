@@ -1,5 +1,5 @@
 -- A step outside flow: if the definition and the scanner agree on what may begin after it and on its tokens, whatever completes the row after it completes it from before.
-use Rattle.proof_scanner.proofs.Common.{Account, Act, Bool, IsCutUpTo, IsPiece, IsWritten, Line, List, None, Outside, Position, Site, SoFar, Some, Step, Tok, Token, [], account_past, act_of, ap, arith, begins_free_line, begun_by, begun_outside, cut_past_no_key, ends_at, eqb-true, false, has_break, is_deeper, is_empty, is_in_column, is_separation, is_waiting, key_end, line_past, line_past_separation, may_stand, nat_tests, not, past_by, past_outside, past_site, position_after, put, refl, seen, shown_position, site_at, site_past, spelled, subst, sym, tokens_of_step, true, ℕ, ◌&&◌, ◌++◌, ◌∙◌, ◌∷◌, ◌≡◌}
+use Rattle.proof_scanner.proofs.Common.{Account, Bool, IsCutUpTo, IsPiece, IsWritten, Line, List, None, Outside, Site, SoFar, Some, Step, Tok, Token, [], act_of, ap, arith, begins_free_line, begun_by, begun_outside, cut_past_no_key, ends_at, eqb-true, false, has_break, is_deeper, is_empty, is_in_column, is_separation, is_waiting, line_past, line_past_separation, may_stand, nat_tests, not, past_by, past_outside, past_site, put, refl, seen, shown_position, site_at, site_past, spelled, subst, sym, tokens_of_step, true, ℕ, ◌&&◌, ◌++◌, ◌∙◌, ◌∷◌, ◌≡◌}
 use Rattle.proof_scanner.proofs.Sound.Completed.{completed_past}
 
 -- an account outside flow
@@ -7,17 +7,12 @@ abbrev pub Outer : Site → Line → Account
 Outer s l = record { site = s; line = l; entries = [] }
 
 pub no_waiting : (b w : Bool) → w ≡ false → (b && w) ≡ false
-no_waiting true w h = h
-no_waiting false w h = refl
+no_waiting a w h = grind (arith, nat_tests, eqb-true)
 
 -- the tokens of a step without a key: ends of block collections, the start of one, and the token that the piece shows
 abbrev pub tokens_then : Site → Site → (piece : List ℕ) → Tok → (next : List ℕ) → Line → List Token
 tokens_then s x piece tok next l =
     (ends_at x.position s.blocks x.blocks ++ begun_outside (is_deeper x.position.col x.blocks) x.position x.position (act_of tok) false (Some l)) ++ (put (shown_position x piece tok next) tok ∷ [])
-
--- where no key begins, it does not matter where a colon stands
-begun_alike : (deeper : Bool) (here p q : Position) (k : Act) (l : Line) → begun_outside deeper here p k false (Some l) ≡ begun_outside deeper here q k false (Some l)
-begun_alike deeper a p q b l = grind (arith, nat_tests, eqb-true)
 
 -- a piece after a separation, and the site at the piece, under another name
 module _ (text : List ℕ) (s : Site) (separation piece next : List ℕ) (tok : Tok) (x : Site) (same : site_at false s separation piece tok next ≡ x) where
@@ -45,27 +40,16 @@ module _ (text : List ℕ) (s : Site) (separation piece next : List ℕ) (tok : 
       ((ws : List Step) (last : List ℕ) → spelled ws last ≡ next → before (outer_step bit ∷ ws) last ++ tokens_of_step (Outer s l) (outer_step bit) ws last ≡ past ws last) →
       SoFar strict text (separation ++ (piece ++ next)) (Outer s l) before → SoFar strict text next (outer_then after) past
   outer_completes true bit l m after before past n tokens h =
-      completed_past text (separation ++ (piece ++ next)) (Outer s l) (outer_then after) before past (outer_step bit) next refl (is_written true bit l m after n) account tokens h
-    where
-      account : account_past (Outer s l) (outer_step bit) next ≡ Some (outer_then after)
-      account = ap (λ y. past_site false s y (outer_step bit) next l []) same ∙ rw (n.stands, n.line_is, n.after_is, n.in_line) refl
+      completed_past text (separation ++ (piece ++ next)) (Outer s l) (outer_then after) before past (outer_step bit) next refl (is_written true bit l m after n) (ap (λ y. past_site false s y (outer_step bit) next l []) same ∙ rw (n.stands, n.line_is, n.after_is, n.in_line) refl) tokens h
   outer_completes false bit l m after before past n tokens h = (
     n.idle refl,
     λ ws last e. subst (λ ts. IsCutUpTo text next (outer_then after) ts) (tokens ws last e)
-        (cut_past_no_key false text (separation ++ (piece ++ next)) (Outer s l) (outer_then after) (before (outer_step bit ∷ ws) last) (outer_step bit) ws last next refl e refl (is_written false bit l m after n) relaxed h.0 (n.idle refl)
+        (cut_past_no_key false text (separation ++ (piece ++ next)) (Outer s l) (outer_then after) (before (outer_step bit ∷ ws) last) (outer_step bit) ws last next refl e refl (is_written false bit l m after n)
+        (ap (λ y. past_by false y piece tok next bit (line_past_separation false (begins_free_line s.before separation) l)) same ∙ (ap (λ o. past_by false x piece tok next bit o) n.line_is ∙ ap (λ o. past_outside x piece tok next o) n.after_is)) h.0 (n.idle refl)
         (h.1 (outer_step bit ∷ ws) last (ap (λ y. separation ++ (piece ++ y)) e))),
   )
-    where
-      relaxed : past_by false (site_at false s separation piece tok next) piece tok next bit (line_past_separation false (begins_free_line s.before separation) l) ≡ Some (outer_then after)
-      relaxed = ap (λ y. past_by false y piece tok next bit (line_past_separation false (begins_free_line s.before separation) l)) same ∙ (ap (λ o. past_by false x piece tok next bit o) n.line_is ∙ ap (λ o. past_outside x piece tok next o) n.after_is)
 
   -- the tokens after a step without a key
   pub outer_tokens : (l m : Line) → line_past_separation false (begins_free_line s.before separation) l ≡ Some m → (ts : List Token) (ws : List Step) (last : List ℕ) → spelled ws last ≡ next →
       ts ++ tokens_of_step (Outer s l) (outer_step false) ws last ≡ ts ++ tokens_then s x piece tok next m
-  outer_tokens l m line_is ts ws last h =
-      let y : Site = site_at false s separation piece tok (spelled ws last) in
-      let deeper : Bool = is_deeper y.position.col y.blocks in
-      let colon : Position = (key_end tok (position_after y.position piece (spelled ws last)) ws last).here in
-      ap (λ o. ts ++ ((ends_at y.position s.blocks y.blocks ++ begun_outside deeper y.position colon (act_of tok) false o) ++ (put (shown_position y piece tok (spelled ws last)) tok ∷ []))) line_is ∙
-      (ap (λ b. ts ++ ((ends_at y.position s.blocks y.blocks ++ b) ++ (put (shown_position y piece tok (spelled ws last)) tok ∷ []))) (begun_alike deeper y.position colon y.position (act_of tok) m) ∙
-      (ap (λ r. ts ++ tokens_then s (site_at false s separation piece tok r) piece tok r m) h ∙ ap (λ z. ts ++ tokens_then s z piece tok next m) same))
+  outer_tokens l m line_is ts ws last h = grind (arith, nat_tests, eqb-true)

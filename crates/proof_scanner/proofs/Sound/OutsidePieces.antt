@@ -1,6 +1,6 @@
 -- A piece outside flow before and after which no key waits: what holds where it begins holds between two fetches after it.
 use Rattle.std.proofs.lemmas.List.{append-nil}
-use Rattle.proof_scanner.proofs.Common.{Account, Bool, Completes, IsCarriedOn, IsLine, IsLineHere, IsPiece, IsWritten, Key, Line, List, MayChoose, None, Option, Outside, Position, ScannerState, Site, SoFar, Some, Stands, Tok, Token, [], act_of, ap, append_assoc, arith, begins_free_line, begun_by, columns, false, free, has_break, if◌then◌else◌, is_deeper, is_empty, is_in_column, is_separation, is_waiting, line_past, may_stand, not_ended, opened, placed, position_after, previous_by, refl, seen, shown_position, site_at, site_in, site_past, start_if, subst, sym, token, true, ℕ, ◌++◌, ◌∙◌, ◌∷◌, ◌≡◌}
+use Rattle.proof_scanner.proofs.Common.{Account, Bool, Completes, IsCarriedOn, IsLine, IsLineHere, IsPiece, IsWritten, Key, Line, List, MayChoose, None, Option, Outside, Position, ScannerState, Site, SoFar, Some, Stands, Tok, Token, [], act_of, ap, append_assoc, arith, begins_free_line, begun_by, columns, false, free, has_break, if◌then◌else◌, is_deeper, is_in_column, is_separation, is_waiting, line_past, may_stand, not_ended, opened, placed, position_after, previous_by, refl, seen, shown_position, site_at, site_in, site_past, start_if, subst, sym, token, true, ℕ, ◌++◌, ◌∙◌, ◌∷◌, ◌≡◌, eqb-true, nat_tests}
 use Rattle.proof_scanner.proofs.Known.Read.{keyless, knows_none}
 use Rattle.proof_scanner.proofs.Known.Steps.{begins_key}
 use Rattle.proof_scanner.proofs.Sound.Sides.{with_entries, ArrivesBy}
@@ -52,19 +52,16 @@ pub record ReadOutside (text : List ℕ) (t u : ScannerState) (a : ArrivesBy tex
 pub read_outside : (text : List ℕ) (t u : ScannerState) (a : ArrivesBy text t [] (None ∷ []) []) (piece next gap : List ℕ) (tok : Tok) (after : Outside) (x : Site) → site_in false (act_of tok) t.held.position a.site ≡ x →
     Reads t u (site_then x piece tok next after) piece next gap → EndsOutside u tok after.line gap → ReadOutside text t u a piece next tok after x → Stands text u
 read_outside text t u a piece next gap tok after x same r m n =
-    ends_outside text t u None a piece next gap tok after x (ap (λ y. y.position) same) r m (out.is_written text a.site a.separation piece next tok x here true false a.line a.line_here after goes) n.begins_none
+    ends_outside text t u None a piece next gap tok after x (ap (λ y. y.position) same) r m (out.is_written text a.site a.separation piece next tok x here true false a.line a.line_here after (assumption (ap (λ l. is_separation false a.separation l) (sym r.cut) ∙ a.is_filled, r, n, a, no_waiting (has_break piece) (is_waiting after.line) m.no_key, m))) n.begins_none
     (λ strict. goes_of strict text next (with_entries (site_then x piece tok next after) after.line []) u.held.tokens (rw m.no_key refl) m.no_key
     (subst (λ ts. Completes text next (with_entries (site_then x piece tok next after) after.line []) (λ ws last. ts)) (sym n.tokens_are)
     (subst (λ es. Completes text next (with_entries (site_then x piece tok next after) after.line es) (λ ws last. a.tokens ++ tokens_then a.site x piece tok next a.line_here)) n.begun
-    (out.outer_completes text a.site a.separation piece next tok x here true false a.line a.line_here after (λ ws last. a.tokens) (λ ws last. a.tokens ++ tokens_then a.site x piece tok next a.line_here) goes
+    (out.outer_completes text a.site a.separation piece next tok x here true false a.line a.line_here after (λ ws last. a.tokens) (λ ws last. a.tokens ++ tokens_then a.site x piece tok next a.line_here) (assumption (ap (λ l. is_separation false a.separation l) (sym r.cut) ∙ a.is_filled, r, n, a, no_waiting (has_break piece) (is_waiting after.line) m.no_key, m))
     (λ ws last h. out.outer_tokens text a.site a.separation piece next tok x here a.line a.line_here a.is_line a.tokens ws last h)
     (subst (λ l. Completes text (a.separation ++ l) (with_entries a.site a.line []) (λ ws last. a.tokens)) r.cut (a.completes true false [] tt))))))
   where
     here : site_at false a.site a.separation piece tok next ≡ x
     here = ap (λ p. site_in false (act_of tok) p a.site) (sym (a.position_is ∙ ap (λ l. position_after a.site.position a.separation l) r.cut)) ∙ same
-
-    goes : out.Goes text a.site a.separation piece next tok x here true false a.line a.line_here after
-    goes = assumption (ap (λ l. is_separation false a.separation l) (sym r.cut) ∙ a.is_filled, r, n, a, no_waiting (has_break piece) (is_waiting after.line) m.no_key, m)
 
 -- ---- parts of it
 
@@ -72,16 +69,7 @@ read_outside text t u a piece next gap tok after x same r m n =
 pub line_free : (allowed : Bool) (rest : List ℕ) (l : Line) → allowed ≡ true → IsLineHere false allowed rest None l → l ≡ free
 line_free allowed rest l e h = grind arith
 
--- Where a key may begin, none is open.
-pub none_open : (allowed : Bool) (rest : List ℕ) (k : Option Key) (l : Line) → allowed ≡ true → is_empty rest ≡ false → IsLineHere false allowed rest k l → k ≡ None
-none_open allowed rest a l e b h = grind arith
-
 -- the tokens of a piece with which a block collection may begin
 pub started_tokens : (begins : Bool) (ts before ends : List Token) (p : Position) (start : Tok) (own : Token) → ts ≡ before ++ ends →
     (if begins then placed None (token p start) ts else ts) ++ own ∷ [] ≡ before ++ ((ends ++ start_if begins p start) ++ (own ∷ []))
-started_tokens begins ts before ends p start own e =
-    ap (λ x. x ++ own ∷ []) (by begins ∙ (ap (λ x. x ++ start_if begins p start) e ∙ append_assoc before ends (start_if begins p start))) ∙ append_assoc before (ends ++ start_if begins p start) (own ∷ [])
-  where
-    by : (b : Bool) → (if b then placed None (token p start) ts else ts) ≡ ts ++ start_if b p start
-    by true = refl
-    by false = sym (append-nil ts)
+started_tokens begins ts before ends p start own e = grind (arith, nat_tests, eqb-true, append_assoc, append-nil)

@@ -1,5 +1,5 @@
 -- A part of a node outside flow, and the open key: the one that was open, or the one that may begin with the node.
-use Rattle.proof_scanner.proofs.Common.{After, AreNumbered, Bool, IsLineHere, IsLive, IsOpenHere, IsOpenOutside, IsTakenBy, Key, List, MayChoose, NotBefore, Option, Position, ScannerState, Site, Some, Token, [], after, ap, arith, begins_free_line, false, has_break, is_empty, is_in_column, is_waiting, length, length-append, line_by, line_past_separation, must_be_key, not, refl, site_here, subst, sym, taken, ℕ, ◌&&◌, ◌++◌, ◌∙◌, ◌∷◌, ◌≡◌, ◌≤◌}
+use Rattle.proof_scanner.proofs.Common.{After, AreNumbered, Bool, IsLineHere, IsLive, IsOpenHere, IsOpenOutside, IsTakenBy, Key, List, MayChoose, NotBefore, Option, Position, ScannerState, Site, Some, Token, [], after, ap, arith, begins_free_line, false, has_break, is_empty, is_in_column, is_waiting, length, length-append, line_by, line_past_separation, must_be_key, not, site_here, subst, sym, taken, ℕ, ◌&&◌, ◌++◌, ◌∙◌, ◌∷◌, ◌≡◌, ◌≤◌, eqb-true, nat_tests}
 use Rattle.proof_scanner.proofs.Cut.Positions.{not_before_after, not_before_then, not_before_same, after_then, weaker}
 use Rattle.proof_scanner.proofs.Cut.Nodes.{IsDeep}
 use Rattle.proof_scanner.proofs.Sound.NodeSteps.{saved, choice_before}
@@ -7,23 +7,17 @@ use Rattle.proof_scanner.proofs.Sound.NodesOutside.{AreSame}
 use Rattle.proof_scanner.proofs.Sound.OutOfFlow.{no_waiting}
 use Rattle.proof_scanner.proofs.Sound.KeyStarts.{new_key, one_more}
 use Rattle.proof_scanner.proofs.Sound.Sides.{ArrivesBy}
-use Rattle.proof_scanner.proofs.Sound.Arrivals.{live_before, all_go_on, first_not_right, must_be, numbered_more}
+use Rattle.proof_scanner.proofs.Sound.Arrivals.{all_go_on, first_not_right, must_be, numbered_more}
 
 module _ (text : List ℕ) (t : ScannerState) (k : Option Key) (a : ArrivesBy text t [] (k ∷ []) []) (out : t.held.flow ≡ []) (deep : IsDeep t.held) where
   abbrev here : Site
   here = site_here false t.held.position a.site
 
-  last_before : NotBefore a.site.position t.held.position
-  last_before = subst (λ x. NotBefore a.site.position x) (sym a.position_is) (not_before_after a.site.position a.separation t.rest)
-
   open_of : (x : Key) → k ≡ Some x → After x.position a.site.position × (IsLive x t.held.position t.rest → IsOpenHere x t.held.position a.site.blocks)
   open_of x e = subst (λ y. IsOpenOutside y a.site.position t.held.position t.rest a.site.blocks) e a.is_open
 
   open_before : (x : Key) → k ≡ Some x → NotBefore x.position t.held.position
-  open_before x e = not_before_then x.position a.site.position t.held.position (weaker x.position a.site.position (open_of x e).0) last_before
-
-  saved_before : (b : Bool) (x : Key) → saved b (new_key t) k ≡ Some x → NotBefore x.position t.held.position
-  saved_before b x e = grind (arith, not_before_same, open_before)
+  open_before x e = not_before_then x.position a.site.position t.held.position (weaker x.position a.site.position (open_of x e).0) (subst (λ x. NotBefore a.site.position x) (sym a.position_is) (not_before_after a.site.position a.separation t.rest))
 
   -- a key must begin here just in the column of the innermost collection
   pub must_be_here : must_be_key t.held ≡ is_in_column t.held.position.col here.blocks
@@ -35,16 +29,7 @@ module _ (text : List ℕ) (t : ScannerState) (k : Option Key) (a : ArrivesBy te
   -- to a later position, where other text is left
   module _ (some : is_empty t.rest ≡ false) (end : Position) (rest : List ℕ) (later : NotBefore t.held.position end) where
     live_now : (x : Key) → IsLive x end rest → IsLive x t.held.position t.rest
-    live_now x l = live_before x t.held.position end t.rest rest later some l
-
-    -- no collection ends on a live key's line
-    none_ends : (x : Key) → k ≡ Some x → IsLive x end rest → here.blocks ≡ a.site.blocks
-    none_ends x e l =
-        let live : IsLive x t.held.position t.rest = live_now x l in
-        all_go_on t.held.position.col x.position.col a.site.blocks ((open_of x e).1 live).column_is ((open_before x e).1 live.0)
-
-    none_broken : (x : Key) → k ≡ Some x → IsLive x end rest → begins_free_line a.site.before a.separation ≡ false
-    none_broken x e l = grind arith
+    live_now x l = (omega (arith, later.0, l.0), some)
 
     pub unbroken_node : (strict c : Bool) → MayChoose strict c (saved t.held.key_allowed (new_key t) k) end rest →
         line_past_separation false (begins_free_line a.site.before a.separation) (line_by (choice_before t.held.key_allowed c) k a.line) ≡ Some (line_by (choice_before t.held.key_allowed c) k a.line_here)
@@ -52,17 +37,11 @@ module _ (text : List ℕ) (t : ScannerState) (k : Option Key) (a : ArrivesBy te
 
     pub one_node : (piece : List ℕ) → (is_empty rest ≡ false → end.line ≤ t.held.position.line → has_break piece ≡ false) → (strict c : Bool) → MayChoose strict c (saved t.held.key_allowed (new_key t) k) end rest →
         (has_break piece && is_waiting (line_by c (saved t.held.key_allowed (new_key t) k) taken)) ≡ false
-    one_node piece one strict c may = by strict c (saved t.held.key_allowed (new_key t) k) (saved_before t.held.key_allowed) may
-      where
-        by : (strict c : Bool) (y : Option Key) → ((x : Key) → y ≡ Some x → NotBefore x.position t.held.position) → MayChoose strict c y end rest → (has_break piece && is_waiting (line_by c y taken)) ≡ false
-        by strict c a h may = grind (arith, no_waiting, has_break, one)
+    one_node piece one strict c may = grind (arith, nat_tests, eqb-true, not_before_same, open_before, no_waiting)
 
     -- after it a live key has taken the line, if no key may begin there
     pub taken_node : (allowed : Bool) → (is_empty rest ≡ false → end.line ≤ t.held.position.line → allowed ≡ false) → IsTakenBy allowed end rest (saved t.held.key_allowed (new_key t) k) taken
-    taken_node allowed none = by (saved t.held.key_allowed (new_key t) k) (saved_before t.held.key_allowed)
-      where
-        by : (y : Option Key) → ((x : Key) → y ≡ Some x → NotBefore x.position t.held.position) → IsTakenBy allowed end rest y taken
-        by a h = grind (arith, none)
+    taken_node allowed none = grind (arith, nat_tests, eqb-true, not_before_same, open_before)
 
     pub may_node : (strict c : Bool) → MayChoose strict c (saved t.held.key_allowed (new_key t) k) end rest → MayChoose strict (choice_before t.held.key_allowed c) k t.held.position t.rest
     may_node strict c may = grind arith
@@ -71,13 +50,7 @@ module _ (text : List ℕ) (t : ScannerState) (k : Option Key) (a : ArrivesBy te
     line_node = grind arith
 
     pub same_node : AreSame k end rest a.site.blocks here.blocks
-    same_node = by k refl
-      where
-        by : (y : Option Key) → k ≡ y → AreSame y end rest a.site.blocks here.blocks
-        by a e = grind (arith, none_ends)
+    same_node = grind (arith, nat_tests, eqb-true, live_now, all_go_on, open_of, open_before)
 
     pub open_node : (q : Position) → After t.held.position q → IsOpenOutside (saved t.held.key_allowed (new_key t) k) q end rest here.blocks
-    open_node q after = by t.held.key_allowed (saved t.held.key_allowed (new_key t) k) refl
-      where
-        by : (b : Bool) (y : Option Key) → saved b (new_key t) k ≡ y → IsOpenOutside y q end rest here.blocks
-        by b y e = grind (arith, after, after_then, not_before_then, last_before, open_of, none_ends, live_now, weaker, first_not_right, must_be_here)
+    open_node q after = grind (arith, after, after_then, not_before_then, (subst (λ x. NotBefore a.site.position x) (sym a.position_is) (not_before_after a.site.position a.separation t.rest)), open_of, nat_tests, eqb-true, all_go_on, open_before, live_now, weaker, first_not_right, must_be_here)

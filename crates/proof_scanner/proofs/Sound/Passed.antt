@@ -1,9 +1,8 @@
 -- What holds between two fetches still holds at the next token, or at the text's end, with the separation up to there.
-use Rattle.proof_scanner.proofs.Common.{AreLevels, Bool, HasFirst, HasPassed, Held, Holds, Indent, IsLive, IsReadOn, Key, List, MayChoose, None, Ok, Option, Position, Previous, ScannerState, Some, [], another, ap, append-nil, arith, begins_free_line, begins_separation, begins_white, between, block_scalar, columns, directive, drop, eqb-true, false, has_break, has_open_level, if◌then◌else◌, is_before_line_feed, is_blank, is_break, is_empty, is_no_comment, is_renewed, is_separation, is_white, leading, least_column, nat_tests, not, or-false, plain_scalar, position_after, refl, same_blank, same_break, separations_are_passed, skip, skip_to_next_token, suc, sym, true, without_break, ℕ, ◌++◌, ◌==◌, ◌||◌, ◌∙◌, ◌∷◌, ◌≡◌}
+use Rattle.proof_scanner.proofs.Common.{AreLevels, Bool, HasPassed, Held, Holds, Indent, IsLive, IsReadOn, Key, List, MayChoose, None, Ok, Option, Position, Previous, ScannerState, Some, [], another, ap, append-nil, arith, begins_free_line, begins_separation, between, columns, eqb-true, false, has_break, has_open_level, is_blank, is_empty, is_no_comment, is_renewed, is_separation, is_white, leading, least_column, nat_tests, or-false, plain_scalar, position_after, refl, same_blank, same_break, separations_are_passed, skip, skip_to_next_token, suc, true, ℕ, ◌++◌, ◌==◌, ◌||◌, ◌∙◌, ◌∷◌, ◌≡◌}
 use Rattle.proof_lexers.specs.PlainEnds as plain_ends
 use Rattle.proof_scanner.proofs.Cut.Passes.{read_holds}
 use Rattle.proof_scanner.proofs.Cut.Positions.{not_before_after}
-use Rattle.proof_scanner.proofs.Sound.Arrivals.{live_before}
 use Rattle.proof_scanner.proofs.Sound.LastLines.{break_append}
 use Rattle.proof_scanner.proofs.Sound.Skips.{IsLeast}
 
@@ -16,11 +15,7 @@ no_tab c a e f = grind arith
 -- where no separation begins, nothing is skipped
 pub skip_stays : (a : List ℕ) (s : Held) → begins_separation a ≡ false → skip between a s ≡ Ok (record { rest = a; held = s })
 unfolding skip
-skip_stays [] s h = refl
-skip_stays (c ∷ a) s h = by (is_blank c) (is_break c) (c == 35) refl refl refl h
-  where
-    by : (x y z : Bool) → is_blank c ≡ x → is_break c ≡ y → (c == 35) ≡ z → ((x || y) || z) ≡ false → skip between (c ∷ a) s ≡ Ok (record { rest = c ∷ a; held = s })
-    by b y z e f g h = grind (arith, nat_tests, same_break, same_blank, no_tab, eqb-true)
+skip_stays b s h = grind (arith, nat_tests, same_break, same_blank, no_tab, eqb-true)
 
 -- ---- what was passed
 
@@ -39,7 +34,7 @@ goes_on (c ∷ g) rest rest2 e h = ap is_empty e
 
 -- a key that may be one after a separation may be one before it
 pub live_before_it : (k : Key) (p : Position) (g rest rest2 : List ℕ) → rest ≡ g ++ rest2 → IsLive k (position_after p g rest2) rest2 → IsLive k p rest
-live_before_it k p g rest rest2 e l = live_before k p (position_after p g rest2) rest rest2 (not_before_after p g rest2) (goes_on g rest rest2 e l.1) l
+live_before_it k p g rest rest2 e l = (omega (arith, (not_before_after p g rest2).0, l.0), (goes_on g rest rest2 e l.1))
 
 pub may_before : (strict c : Bool) (k : Option Key) (p : Position) (g rest rest2 : List ℕ) → rest ≡ g ++ rest2 → MayChoose strict c k (position_after p g rest2) rest2 → MayChoose strict c k p rest
 may_before strict c None p g rest rest2 e m = tt
@@ -64,54 +59,18 @@ leading_stop (d ∷ g) p c h = grind (arith, leading_stop g p c h)
 -- whether a key may begin again in an entry is known before all of the separation is passed
 pub renewed_alike : (b : Previous) (q : Position) (f g rest rest2 : List ℕ) → rest ≡ g ++ rest2 → is_separation false g rest2 ≡ true → IsReadOn b q f rest → is_renewed b (f ++ g) ≡ is_renewed b f
 renewed_alike plain_scalar q f [] rest rest2 cut fills r = ap (λ x. has_break (leading is_no_comment x)) (append-nil f)
-renewed_alike plain_scalar q f (c ∷ p) rest rest2 cut fills r =
-    let white : is_white c ≡ false = rw cut at r in
-    ap has_break (leading_stop f p c (ap not (first_comment c p rest2 white fills)))
+renewed_alike plain_scalar q f (c ∷ p) rest rest2 cut fills r = grind (arith, nat_tests, eqb-true, leading_stop, first_comment)
 renewed_alike _ q f g rest rest2 cut fills r = refl
 
 -- a key may begin on a line after what was passed, or what was passed before
 pub free_line_append : (b : Previous) (q : Position) (f g rest rest2 : List ℕ) → rest ≡ g ++ rest2 → IsReadOn b q f rest → begins_free_line b (f ++ g) ≡ (begins_free_line b f || has_break g)
-free_line_append directive q f [] rest rest2 cut r = ap (λ x. has_break (without_break x)) (append-nil f) ∙ sym (or-false (has_break (without_break f)))
-free_line_append directive q f (c ∷ p) rest rest2 cut r = by f (r (ap is_empty cut))
-  where
-    by : (f : List ℕ) → HasFirst f rest → has_break (without_break (f ++ c ∷ p)) ≡ (has_break (without_break f) || has_break (c ∷ p))
-    by [] h = absurd h
-    by (d ∷ []) h =
-        let none : is_before_line_feed d (c ∷ p) ≡ false = rw cut at h in
-        ap (λ b. has_break (if b then drop 1 (c ∷ p) else c ∷ p)) none
-    by (d ∷ x ∷ f) h = two (is_before_line_feed d (x ∷ f))
-      where
-        two : (b : Bool) → has_break (if b then f ++ c ∷ p else x ∷ (f ++ c ∷ p)) ≡ (has_break (if b then f else x ∷ f) || has_break (c ∷ p))
-        two true = break_append f (c ∷ p)
-        two false = break_append (x ∷ f) (c ∷ p)
-free_line_append _ q f g rest rest2 cut r = break_append f g
+free_line_append a q f g rest rest2 cut r = grind (arith, nat_tests, eqb-true, append-nil, or-false, break_append)
 
 -- what was read on over stays so
 pub read_on_append : (b : Previous) (q : Position) (f g rest rest2 : List ℕ) → rest ≡ g ++ rest2 → begins_separation rest2 ≡ false → IsReadOn b q f rest → IsReadOn b q (f ++ g) rest2
-read_on_append plain_scalar q f g rest rest2 cut solid r = white rest2 solid
-  where
-    white : (a : List ℕ) → begins_separation a ≡ false → begins_white a ≡ false
-    white [] h = refl
-    white (c ∷ a) h = by (is_white c) h
-      where
-        by : (x : Bool) → (x || (c == 35)) ≡ false → x ≡ false
-        by true h = absurd (cc h)
-        by false h = refl
-read_on_append block_scalar q f g rest rest2 cut solid r = λ some. r (goes_on g rest rest2 cut some)
-read_on_append directive q f g rest rest2 cut solid r = λ some. by f (r (goes_on g rest rest2 cut some))
-  where
-    alone : (d : ℕ) (g : List ℕ) → is_before_line_feed d (g ++ rest2) ≡ false → is_before_line_feed d (g ++ rest2) ≡ is_before_line_feed d g
-    alone d [] h = h
-    alone d (x ∷ g) h = refl
-
-    by : (f : List ℕ) → HasFirst f rest → HasFirst (f ++ g) rest2
-    by a h = grind arith
-read_on_append _ q f g rest rest2 cut solid r = tt
+read_on_append a q f g rest rest2 cut solid r = grind (arith, nat_tests, eqb-true, goes_on)
 
 -- ---- the least column
-
-pub some_columns : (i : ℕ) (ds : List Indent) → AreLevels i ds → is_empty ds ≡ false → is_empty (columns i ds) ≡ false
-some_columns i a b e = grind arith
 
 pub least_of_levels : (i : ℕ) (ds : List Indent) → AreLevels i ds → is_empty ds ≡ false → i ≡ suc (least_column (columns i ds) (has_open_level ds))
 least_of_levels i a b e = grind arith

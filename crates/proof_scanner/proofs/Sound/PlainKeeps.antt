@@ -1,5 +1,5 @@
 -- Plain scalars: what holds between two fetches holds after them.
-use Rattle.proof_scanner.proofs.Common.{Arrives, Bool, Context, Entry, FlowLevel, HasNoTabs, Held, Holds, IsPiece, IsPlainRead, Key, Levels, List, None, Ok, Option, Plain, Position, ScannerState, Site, Some, Stands, Style, Tok, [], after_plain, allow_key, and_parts, ap, arith, awaits_past, before_by, before_past, begins_plain, begins_separation, begins_solid, begins_white, collection_column, collection_of, columns, comes_plain, context, ends_with_content, eqb-true, false, fetch_plain_scalar, goes_on, has_break, has_dash_before_flow, has_no_nul, has_open_level, has_tab_within, in_flow, innermost, innermost_column, inr, is_adjacent, is_at_comment_or_end, is_blank, is_break, is_deep_enough, is_empty, is_gap, is_indented, is_indented_by_spaces, is_no_comment, is_one_of, is_renewed, is_white, is_whole_plain, last_line, leading, least_column, lexed, map, nat_le, nat_tests, not, on_held, other, plain_lines_fit, plain_scalar, plain_value, position_after, position_append, push, read, read_as, refl, scans_end, seen, stops, subst, sym, true, unroll_non_block_indents, went, whole_plain, without_open, ℕ, ◌&&◌, ◌++◌, ◌==◌, ◌||◌, ◌∙◌, ◌∷◌, ◌≡◌, ◌≤◌, ◌⊎◌}
+use Rattle.proof_scanner.proofs.Common.{Arrives, Bool, Context, Entry, FlowLevel, HasNoTabs, Held, Holds, IsPiece, IsPlainRead, Key, Levels, List, None, Ok, Option, Plain, Position, ScannerState, Site, Some, Stands, Style, Tok, [], after_plain, allow_key, and_parts, ap, arith, awaits_past, before_by, before_past, begins_plain, begins_separation, begins_solid, begins_white, collection_column, collection_of, comes_plain, context, ends_with_content, eqb-true, false, fetch_plain_scalar, has_break, has_dash_before_flow, has_no_nul, has_open_level, in_flow, innermost, innermost_column, is_adjacent, is_blank, is_break, is_deep_enough, is_empty, is_gap, is_indented, is_no_comment, is_one_of, is_renewed, is_white, is_whole_plain, leading, least_column, lexed, map, nat_tests, not, on_held, other, plain_lines_fit, plain_scalar, plain_value, position_after, position_append, push, read, read_as, refl, scans_end, seen, subst, sym, true, unroll_non_block_indents, went, whole_plain, without_open, ℕ, ◌&&◌, ◌++◌, ◌==◌, ◌∙◌, ◌∷◌, ◌≡◌, ◌≤◌}
 use Rattle.defs_token.specs.Account.{Account as PieceAccount, is_in_flow}
 use Rattle.model_scanner.specs.Machine as machine
 use Rattle.model_scanner.specs.Plain.{plain}
@@ -10,7 +10,7 @@ use Rattle.proof_scanner.proofs.Cut.Positions.{not_before_after}
 use Rattle.proof_scanner.proofs.Cut.Saved.{saved_keys, saved_is}
 use Rattle.proof_scanner.proofs.Cut.Nodes.{IsDeep, less_or}
 use Rattle.proof_scanner.proofs.Sound.Sides.{with_entries, ArrivesBy}
-use Rattle.proof_scanner.proofs.Sound.StreamEnds.{same_flow, same_levels}
+use Rattle.proof_scanner.proofs.Sound.StreamEnds.{same_flow}
 use Rattle.proof_scanner.proofs.Sound.Passed.{same_has_break}
 use Rattle.proof_scanner.proofs.Sound.QuotedEnds.{ends_in_line, on_one_line}
 use Rattle.proof_scanner.proofs.Sound.PlainLines.{PlainFits, plain_fits}
@@ -57,53 +57,22 @@ content_last : (c : ℕ) (r : List ℕ) → ends_with_content c r ≡ true → e
 content_last c [] h = (and_parts (not (is_blank c)) (not (is_break c)) h).1
 content_last c (d ∷ r) h = content_last d r h
 
-whole_ends : (fl : Bool) (collection : Option ℕ) (piece next : List ℕ) → is_whole_plain fl collection piece next ≡ true → ends_in_line piece ≡ true
-whole_ends fl collection [] next h = absurd (cc h)
-whole_ends fl collection (c ∷ r) next h =
-    content_last c r (and_parts (goes_on fl collection _ r next) (ends_with_content c r) (and_parts (goes_on fl collection _ r next && ends_with_content c r) (stops fl collection _ next) h).0).1
-
 whole_solid : (fl : Bool) (collection : Option ℕ) (piece next : List ℕ) → is_whole_plain fl collection piece next ≡ true → is_empty piece ≡ false
 whole_solid fl a b d h = grind arith
 
 -- a gap has no comment
 pub no_comment : (g : List ℕ) → is_gap g ≡ true → (is_one_of g 35 ≡ false) × (leading is_no_comment g ≡ g)
 no_comment [] h = (refl, refl)
-no_comment (c ∷ g) h =
-    let q = and_parts (is_white c) (is_gap g) h in
-    let none : (c == 35) ≡ false = white_is_no_hash c q.0 in
-    let swapped : (35 == c) ≡ false = flip none in
-    let others = no_comment g q.1 in
-    (rw swapped others.0, rw none (ap (λ l. c ∷ l) others.1))
-  where
-    flip : (c == 35) ≡ false → (35 == c) ≡ false
-    flip e = grind (arith, e)
+no_comment (c ∷ g) h = grind (arith, nat_tests, eqb-true, and_parts, white_is_no_hash, no_comment g)
 
 -- a gap that stays on its line has no break
 gap_in_line : (q : Position) (g rest : List ℕ) → is_empty rest ≡ false → begins_white rest ≡ false → (position_after q g rest).line ≤ q.line → has_break g ≡ false
 unfolding is_break
-gap_in_line q g [] some ends h = absurd (cc some)
-gap_in_line q g (c ∷ r) some ends h = ap not (no_break_on_line q g c r no_feed h)
-  where
-    white_feed : (x y : Bool) → y ≡ true → (x || y) ≡ false → ⊥
-    white_feed true y e h = cc h
-    white_feed false y e h = cc (e, h)
-
-    feed : (c == 10) ≡ true → is_break c ≡ true
-    feed e = rw (eqb-true c 10 e) refl
-
-    no_feed : (c == 10) ≡ false
-    no_feed = by (c == 10) refl
-      where
-        by : (b : Bool) → (c == 10) ≡ b → b ≡ false
-        by true e = absurd (white_feed (is_blank c) (is_break c) (feed e) ends)
-        by false e = refl
+gap_in_line q g a some ends h = grind (arith, nat_tests, no_break_on_line, eqb-true)
 
 -- what begins no separation begins with content
 pub solid_text : (text : List ℕ) → is_empty text ≡ false → begins_separation text ≡ false → begins_solid text ≡ true
 solid_text a b h = grind (arith, is_white)
-
-some_plain : (fl x : Bool) (column : ℕ) (text : List ℕ) → comes_plain fl x column text ≡ true → is_empty text ≡ false
-some_plain fl x column a h = grind arith
 
 pub same_innermost : (bs : List ℕ) → innermost_column (map (λ n. Some n) bs) ≡ innermost bs
 same_innermost a = grind arith
@@ -121,15 +90,9 @@ module _ (text : List ℕ) (t : ScannerState) (a : Arrives text t) (deep : IsDee
   abbrev pub ctx : Context
   ctx = record { flow = in_flow t.held; indent = gone.indent }
 
-  indented : is_indented ctx t.held.position ≡ true
-  indented = less_or (in_flow t.held) gone.indent t.held.position.col (omega (arith, deep, closed.not_deeper))
-
-  pub some_here : is_empty t.rest ≡ false
-  some_here = some_plain (in_flow t.held) (t.held.position.index == t.held.adjacent_value_at) t.held.position.col t.rest comes
-
   module _ (x : machine.Read Plain) (scanned : plain ctx t.rest t.held.position ≡ Ok x) where
     pub q : PlainAs ctx t.held.position t.rest x
-    q = plain_as ctx t.held.position t.rest x a.is_clean (solid_text t.rest some_here a.is_solid) indented scanned
+    q = plain_as ctx t.held.position t.rest x a.is_clean (solid_text t.rest (grind arith) a.is_solid) (less_or (in_flow t.held) gone.indent t.held.position.col (omega (arith, deep, closed.not_deeper))) scanned
 
     abbrev tok : Tok
     tok = Tok.scalar Style.plain x.value.text
@@ -149,18 +112,10 @@ module _ (text : List ℕ) (t : ScannerState) (a : Arrives text t) (deep : IsDee
     }
 
     in_line : ends_in_line q.piece ≡ true
-    in_line = whole_ends ctx.flow (collection_of ctx.indent) q.piece (q.gap ++ x.rest) q.whole
-
-    solid : is_empty q.piece ≡ false
-    solid = whole_solid ctx.flow (collection_of ctx.indent) q.piece (q.gap ++ x.rest) q.whole
+    in_line = grind (arith, nat_tests, eqb-true, content_last, and_parts)
 
     one_line_of : is_empty x.rest ≡ false → x.position.line ≤ t.held.position.line → (has_break q.piece ≡ false) × (has_break q.gap ≡ false)
-    one_line_of some h =
-        let past : Position = position_after t.held.position q.piece (q.gap ++ x.rest) in
-        let up : past.line ≤ (position_after past q.gap x.rest).line = (not_before_after past q.gap x.rest).0 in
-        let first : t.held.position.line ≤ past.line = (not_before_after t.held.position q.piece (q.gap ++ x.rest)).0 in
-        let same : x.position.line ≡ (position_after past q.gap x.rest).line = ap (λ p. p.line) q.end_is in
-        (on_one_line t.held.position q.piece (q.gap ++ x.rest) in_line (omega (arith, h, up, same)), gap_in_line past q.gap x.rest some q.ends (omega (arith, h, first, same)))
+    one_line_of some h = grind (arith, nat_tests, eqb-true, q, not_before_after, on_one_line, in_line, gap_in_line)
 
     allowed_by : (fl : Bool) → x.value.leading ≡ allowed_past None fl plain_scalar q.gap
     allowed_by true = q.leads ∙ ap has_break (sym (no_comment q.gap q.white).1)
@@ -176,73 +131,40 @@ module _ (text : List ℕ) (t : ScannerState) (a : Arrives text t) (deep : IsDee
       abbrev fl : Bool
       fl = not (is_empty fs)
 
-      flow_is : in_flow t.held ≡ fl
-      flow_is = ap (λ f. not (is_empty f)) flow
-
       -- the account with which the piece is looked at
       abbrev own : PieceAccount
       own = seen (with_entries r.site r.line es) at r.separation
 
       own_flow : is_in_flow own ≡ in_flow t.held
-      own_flow = ap not (same_levels es ∙ sym (same_flow t.held.key_allowed (is_renewed r.site.before r.separation) fs ks es r.are_entries)) ∙ sym flow_is
-
-      blocks_then : at.blocks ≡ columns gone.indent gone.indents
-      blocks_then = r.blocks_are ∙ closed.same_columns
-
-      own_column : collection_column own ≡ collection_of gone.indent
-      own_column = same_innermost at.blocks ∙ (ap innermost blocks_then ∙ sym closed.is_least.0)
+      own_flow = ap not ((grind arith) ∙ sym (same_flow t.held.key_allowed (is_renewed r.site.before r.separation) fs ks es r.are_entries)) ∙ sym (ap (λ f. not (is_empty f)) flow)
 
       least_here : least_column at.blocks true ≡ gone.indent
-      least_here = ap (λ bs. least_column bs true) blocks_then ∙ closed.is_least.1
-
-      comes_here : comes_plain (in_flow t.held) (is_adjacent own.before) t.held.position.col t.rest ≡ true
-      comes_here = grind arith
-
-      begins : begins_plain (is_in_flow own) (is_adjacent own.before) own.position.col (q.piece ++ next_of d) ≡ true
-      begins = ap (begins_plain (is_in_flow own) (is_adjacent own.before) own.position.col) (sym q.cut) ∙ (ap (λ f. begins_plain f (is_adjacent own.before) own.position.col t.rest) own_flow ∙ begins_as_read ctx (is_adjacent own.before) t.rest t.held.position x comes_here scanned)
+      least_here = ap (λ bs. least_column bs true) (r.blocks_are ∙ closed.same_columns) ∙ closed.is_least.1
 
       piece_is : IsPiece own q.piece (next_of d) None t.held.position tok
-      piece_is = ((begins, ap (λ f. is_whole_plain f (collection_column own) q.piece (next_of d)) own_flow ∙ (ap (λ c. is_whole_plain (in_flow t.held) c q.piece (next_of d)) own_column ∙ q.whole), q.value_is), refl)
+      piece_is = (
+        (
+          (ap (begins_plain (is_in_flow own) (is_adjacent own.before) own.position.col) (sym q.cut) ∙ (ap (λ f. begins_plain f (is_adjacent own.before) own.position.col t.rest) own_flow ∙ begins_as_read ctx (is_adjacent own.before) t.rest t.held.position x (grind arith) scanned)),
+          ap
+              (λ f. is_whole_plain f (collection_column own) q.piece (next_of d)) own_flow ∙ (ap (λ c. is_whole_plain (in_flow t.held) c q.piece (next_of d)) (same_innermost at.blocks ∙ (ap innermost (r.blocks_are ∙ closed.same_columns) ∙ sym closed.is_least.0)) ∙ q.whole),
+          q.value_is,
+        ),
+        refl,
+      )
 
       deep_by : (f : Bool) → f ≡ in_flow t.held → is_deep_enough f tok at ≡ true
-      deep_by false h = refl
-      deep_by true h = let k : gone.indent ≤ t.held.position.col = q.fits.deep (sym h) in less (least_column at.blocks true) t.held.position.col (omega (arith, k, least_here))
-        where
-          less : (m n : ℕ) → m ≤ n → nat_le m n ≡ true
-          less m n h = grind (arith, nat_tests)
-
-      dash_by : (f : Bool) → f ≡ in_flow t.held → not (f && has_dash_before_flow q.piece (next_of d)) ≡ true
-      dash_by f h = ap not (ap (λ y. y && has_dash_before_flow q.piece (next_of d)) h ∙ q.fits.dash)
-
-      spaced : (has_break q.gap ≡ true → has_tab_within gone.indent (last_line q.gap) ≡ false) → (aw : Bool) → aw ≡ false → is_indented_by_spaces plain_scalar at.blocks aw q.gap ≡ true
-      spaced h aw e = by (has_break q.gap) refl
-        where
-          value : (aw || not (is_one_of q.gap 35)) ≡ true
-          value = rw (e, (no_comment q.gap q.white).0) refl
-
-          by : (y : Bool) → has_break q.gap ≡ y → (not y || not (has_tab_within (least_column at.blocks (aw || not (is_one_of q.gap 35))) (last_line q.gap))) ≡ true
-          by a f = grind (arith, value, least_here, h)
+      deep_by a h = grind (arith, nat_tests, eqb-true, q, least_here)
 
       no_tabs : HasNoTabs (site_then t fs r.site d) q.gap x.rest
-      no_tabs = by (has_break q.gap) refl
-        where
-          awaits_then : awaits_past fl tok at.blocks at.awaits (next_of d) ≡ false
-          awaits_then = none_awaits fl at.blocks at.awaits (next_of d)
-
-          of : has_break q.gap ≡ true → (is_at_comment_or_end x.rest ≡ true) ⊎ (has_tab_within gone.indent (last_line q.gap) ≡ false) → HasNoTabs (site_then t fs r.site d) q.gap x.rest
-          of e a = grind (arith, spaced, next_of, awaits_then)
-
-          by : (y : Bool) → has_break q.gap ≡ y → HasNoTabs (site_then t fs r.site d) q.gap x.rest
-          by true e = of e (q.fits.clear q.white e)
-          by false e = inr (spaced (λ h. absurd (cc (e, h))) (awaits_past fl tok at.blocks at.awaits (next_of d)) awaits_then)
+      no_tabs = grind (arith, nat_tests, eqb-true, q, none_awaits, no_comment, least_here)
 
       pub is_read : IsRead t None fs r.site r.line es r.separation d
       is_read =
-          let far = adjacent_kept t (state_after t None d) other q.piece (next_of d) q.gap solid q.end_is a.was_adjacent refl refl in
+          let far = adjacent_kept t (state_after t None d) other q.piece (next_of d) q.gap (whole_solid ctx.flow (collection_of ctx.indent) q.piece (q.gap ++ x.rest) q.whole) q.end_is a.was_adjacent refl refl in
           let filled = gap_is_separation q.gap x.rest q.white in
           let awaits_then : awaits_past fl tok at.blocks at.awaits (next_of d) ≡ has_open_level gone.indents = none_awaits fl at.blocks at.awaits (next_of d) ∙ sym closed.none_open in
           let further : plain_lines_fit (least_column at.blocks true) q.piece ≡ true = ap (λ n. plain_lines_fit n q.piece) least_here ∙ q.fits.lines in
-          assumption (q, closed, solid, far, filled, blocks_then, awaits_then, no_tabs, piece_is, deep_by fl (sym flow_is), further, dash_by fl (sym flow_is), allowed_by fl, one_line_of)
+          assumption (q, closed, (whole_solid ctx.flow (collection_of ctx.indent) q.piece (q.gap ++ x.rest) q.whole), far, filled, (r.blocks_are ∙ closed.same_columns), awaits_then, no_tabs, piece_is, deep_by fl (sym (ap (λ f. not (is_empty f)) flow)), further, (ap not (ap (λ y. y && has_dash_before_flow q.piece (next_of d)) (sym (ap (λ f. not (is_empty f)) flow)) ∙ q.fits.dash)), allowed_by fl, one_line_of)
 
     abbrev pub scalar_held : Held
     scalar_held = record t.held {
@@ -267,11 +189,6 @@ plain_keeps_by text t deep comes a =
     (λ r u. Ok (on_held (λ v. push t.held.position (Tok.scalar Style.plain r.text) (after_plain r.leading v)) u)))) (sym (saved_is t.held))
     (read (unroll_non_block_indents (allow_key false (record t.held { keys = saved_keys t.held }))) (plain (ctx text t a deep comes) t.rest t.held.position) _ (λ x k. went (stands text t a deep comes x k)))
 
--- where a plain scalar is looked for by the account, the scanner looks for it too
-pub comes_as_held : (text : List ℕ) (t : ScannerState) (a : Arrives text t) → comes_plain (in_flow t.held) (is_adjacent (before_past (before_by a.base.site.before) a.separation)) t.held.position.col t.rest ≡ true →
-    comes_plain (in_flow t.held) (t.held.position.index == t.held.adjacent_value_at) t.held.position.col t.rest ≡ true
-comes_as_held text t a comes = grind arith
-
 -- the same, as the dispatch knows it
 pub plain_keeps : (text : List ℕ) (t : ScannerState) (a : Arrives text t) → IsDeep t.held → comes_plain (in_flow t.held) (is_adjacent (before_past (before_by a.base.site.before) a.separation)) t.held.position.col t.rest ≡ true → Holds (Stands text) (fetch_plain_scalar t)
-plain_keeps text t a deep comes = plain_keeps_by text t deep (comes_as_held text t a comes) a
+plain_keeps text t a deep comes = plain_keeps_by text t deep (grind arith) a

@@ -1,10 +1,9 @@
 -- The scan of a plain scalar refuses TABs that indent its further lines, and in flow a dash before a flow indicator.
-use Rattle.proof_scanner.proofs.Common.{At, Bool, Context, Err, Fault, Folded, List, Ok, Plain, PlainState, Position, Read, Result, Stop, Turn, [], after_first, and_false, and_parts, and_then, ap, append_assoc, append_cancel_right, arith, at_break, at_char, at_dash, at_gap, at_marker, begins_flow, begins_solid, can_be_plain, ended, eqb-true, fail, false, first, has_break, has_dash_before_flow, has_no_break, has_tab_within, if◌then◌else◌, inl, inr, is_at_comment_or_end, is_before_line_feed, is_blanks, is_cr_lf, is_gap, is_one_of, is_white, joined, last_line, leading, lines_have_no_tab, nat_lt, nat_tests, not, not-true, nothing, on, or_true, past, past_break, plain_from, plain_lines_fit, put_first, refl, run, same_blank, same_break, slice_index, split, split_by, starts, stop, subst, suc, sym, tabs, true, turn, turn_in, turned, with_blank, with_break, ℕ, ◌&&◌, ◌++◌, ◌+◌, ◌-◌, ◌==◌, ◌||◌, ◌∙◌, ◌∷◌, ◌≡◌, ◌≤◌, ◌⊎◌}
+use Rattle.proof_scanner.proofs.Common.{Bool, Context, Err, Fault, List, Ok, Plain, PlainState, Position, Read, Result, Stop, Turn, [], after_first, and_false, and_parts, and_then, ap, append_assoc, append_cancel_right, arith, at_break, at_char, at_dash, at_gap, begins_flow, begins_solid, ended, eqb-true, fail, false, first, has_break, has_dash_before_flow, has_tab_within, if◌then◌else◌, inl, inr, is_at_comment_or_end, is_before_line_feed, is_blanks, is_cr_lf, is_gap, joined, last_line, leading, lines_have_no_tab, nat_lt, nat_tests, not, not-true, nothing, on, or_true, plain_from, plain_lines_fit, put_first, refl, run, same_blank, same_break, split, split_by, starts, stop, subst, suc, sym, tabs, true, turn, turn_in, turned, ℕ, ◌&&◌, ◌++◌, ◌-◌, ◌==◌, ◌||◌, ◌∙◌, ◌∷◌, ◌≡◌, ◌≤◌, ◌⊎◌}
 use Rattle.defs_text.specs.Classes as classes
 use Rattle.yaml_chars.specs.Class.{is_break, is_blank}
 use Rattle.yaml_chars.specs.Class as model_classes
-use Rattle.yaml_tokens.specs.declared.problem.Problem.TheVariants as problem
-use Rattle.model_scanner.specs.Plain.{Mode, inside, between, is_shallow, goes_on, begun, plain}
+use Rattle.model_scanner.specs.Plain.{Mode, inside, between, goes_on, begun, plain}
 use Rattle.proof_scanner.proofs.Sound.LastLines.{last_first, last_whole}
 use Rattle.proof_scanner.proofs.Sound.TabsWithin.{take_none, none_before, blank_more}
 use Rattle.proof_scanner.proofs.Cut.Pieces.Plains.{same_flow_start}
@@ -76,15 +75,9 @@ IsCalm tabs l = Unit {0}
 abbrev pub IsAt : PlainState → Spot → (rest : List ℕ) → Type 0
 IsAt t x a = (spot_of t.mode t.folded.leading t.position.col ≡ x) ⊎ ((x ≡ at 0) × (begins_break a ≡ true))
 
-same_leading : (c : ℕ) (t : Folded) → (with_blank c t).leading ≡ t.leading
-same_leading c t = grind arith
-
 pub white_is_no_dash : (flow apart next : Bool) (c : ℕ) → (is_break c || is_blank c) ≡ true → (flow && apart && (c == 45) && next) ≡ false
 unfolding is_break is_blank
 white_is_no_dash flow apart next c h = grind arith
-
-pub not_apart : (flow dash next : Bool) → (flow && false && dash && next) ≡ false
-not_apart a b d = grind arith
 
 solid_is_no_tab : (c : ℕ) → is_blank c ≡ false → (c == 9) ≡ false
 unfolding is_blank
@@ -102,72 +95,16 @@ module _ (ctx : Context) (start : Position) (c : ℕ) (a : List ℕ) where
     goes : (t : PlainState) → IsCalm t.mode t.folded.leading → may_go (spot_of m s.folded.leading s.position.col) c ≡ true → IsAt t (past_spot ctx.indent (spot_of m s.folded.leading s.position.col) c) a →
         (ctx.flow && is_apart m && (c == 45) && begins_flow a) ≡ false → is_apart t.mode ≡ (is_break c || is_blank c) → Goes m s (on t)
 
-  white_goes : (x : Spot) → (is_break c || is_blank c) ≡ true → may_go x c ≡ true
-  white_goes a h = grind arith
-
   break_goes : (m : Mode) (s : PlainState) → is_break c ≡ true → Goes m s (on (at_break c a s))
-  break_goes m s e = by (is_cr_lf c a) refl
-    where
-      x : Spot
-      x = spot_of m s.folded.leading s.position.col
-
-      white : (is_break c || is_blank c) ≡ true
-      white = rw e refl
-
-      margin : past_spot ctx.indent x c ≡ at 0
-      margin = rw e refl
-
-      by : (feeds : Bool) → is_cr_lf c a ≡ feeds → Goes m s (on (if feeds then record { mode = between; position = past s.position; folded = s.folded } else record { mode = between; position = past_break s.position; folded = with_break s.folded }))
-      by b f = grind (arith, goes, white_goes, x, white, margin, feed_breaks, white_is_no_dash, is_apart, between, break_leads)
+  break_goes m s e = grind (arith, nat_tests, eqb-true, goes, feed_breaks, white_is_no_dash, between, break_leads)
 
   module _ (breaks : is_break c ≡ false) where
-    -- a blank that is no TAB in the indentation
-    gap_goes : (m : Mode) (s : PlainState) → is_blank c ≡ true → (s.folded.leading && (c == 9) && nat_lt s.position.col ctx.indent) ≡ false →
-        may_go (spot_of m s.folded.leading s.position.col) c ≡ true → spot_of between s.folded.leading (s.position.col + 1) ≡ past_spot ctx.indent (spot_of m s.folded.leading s.position.col) c → Goes m s (on (at_gap ctx c a s))
-    gap_goes m s f h go x =
-        let white : (is_break c || is_blank c) ≡ true = rw (breaks, f) refl in
-        let is : at_gap ctx c a s ≡ record { mode = between; position = past s.position; folded = with_blank c s.folded } = rw (breaks, h) refl in
-        subst (λ t. Goes m s (on t)) (sym is)
-        (goes (record { mode = between; position = past s.position; folded = with_blank c s.folded }) tt go (inl (ap (λ l. spot_of between l (s.position.col + 1)) (same_leading c s.folded) ∙ x))
-        (white_is_no_dash ctx.flow (is_apart m) (begins_flow a) c white) (sym white))
-
     -- after content
     blank_inside : (s : PlainState) → is_blank c ≡ true → s.folded.leading ≡ false → Goes inside s (on (at_gap ctx c a s))
-    blank_inside s f l =
-        gap_goes inside s f (ap (λ x. x && (c == 9) && nat_lt s.position.col ctx.indent) l) refl (ap (λ x. spot_of between x (s.position.col + 1)) l ∙ rw breaks refl)
-
-    -- a TAB in the indentation
-    tab_goes : (s : PlainState) → is_blank c ≡ true → s.folded.leading ≡ true → ((c == 9) && nat_lt s.position.col ctx.indent) ≡ true → Goes between s (on (at_gap ctx c a s))
-    tab_goes s f l h =
-        let white : (is_break c || is_blank c) ≡ true = rw (breaks, f) refl in
-        let tab : (s.folded.leading && (c == 9) && nat_lt s.position.col ctx.indent) ≡ true = ap (λ x. x && (c == 9) && nat_lt s.position.col ctx.indent) l ∙ h in
-        let is : at_gap ctx c a s ≡ record { mode = tabs; position = past s.position; folded = s.folded } = rw (breaks, tab) refl in
-        let here : spot_of between s.folded.leading s.position.col ≡ at s.position.col = ap (λ x. spot_of between x s.position.col) l in
-        subst (λ t. Goes between s (on t)) (sym is)
-        (goes (record { mode = tabs; position = past s.position; folded = s.folded }) tt (subst (λ x. may_go x c ≡ true) (sym here) refl) (inl (sym (ap (λ x. past_spot ctx.indent x c) here ∙ rw (breaks, h) refl)))
-        (white_is_no_dash ctx.flow true (begins_flow a) c white) (sym white))
+    blank_inside s f l = grind (arith, nat_tests, eqb-true, between, on, goes, white_is_no_dash)
 
     blank_between : (s : PlainState) → is_blank c ≡ true → Goes between s (on (at_gap ctx c a s))
-    blank_between s f = by s.folded.leading refl ((c == 9) && nat_lt s.position.col ctx.indent) refl
-      where
-        k : ℕ
-        k = s.position.col
-
-        more : k + 1 ≡ suc k
-        more = omega arith
-
-        go : (l : Bool) → may_go (spot_of between l k) c ≡ true
-        go a = grind arith
-
-        on_line : ((c == 9) && nat_lt k ctx.indent) ≡ false → at (k + 1) ≡ past_spot ctx.indent (at k) c
-        on_line g = ap (λ n. at n) more ∙ rw (breaks, g, f) refl
-
-        by : (l : Bool) → s.folded.leading ≡ l → (t : Bool) → ((c == 9) && nat_lt k ctx.indent) ≡ t → Goes between s (on (at_gap ctx c a s))
-        by false e t g =
-            gap_goes between s f (ap (λ x. x && (c == 9) && nat_lt k ctx.indent) e) (go s.folded.leading) (ap (λ x. spot_of between x (k + 1)) e ∙ (rw breaks refl ∙ ap (λ x. past_spot ctx.indent (spot_of between x k) c) (sym e)))
-        by true e true g = tab_goes s f e g
-        by true e false g =
-            gap_goes between s f (ap (λ x. x && (c == 9) && nat_lt k ctx.indent) e ∙ g) (go s.folded.leading) (ap (λ x. spot_of between x (k + 1)) e ∙ (on_line g ∙ ap (λ x. past_spot ctx.indent (spot_of between x k) c) (sym e)))
+    blank_between s f = grind (arith, nat_tests, eqb-true, between, on, goes, white_is_no_dash, tabs)
 
     module _ (solid : is_blank c ≡ false) where
       no_spot : (x : Spot) → may_go x c ≡ true → past_spot ctx.indent x c ≡ in_text
@@ -175,27 +112,17 @@ module _ (ctx : Context) (start : Position) (c : ℕ) (a : List ℕ) where
 
       -- one more character of a line
       char_inside : (s : PlainState) → s.folded.leading ≡ false → Goes inside s (on (at_char c s.position s.folded))
-      char_inside s l = goes _ l refl (inl (sym (no_spot in_text refl))) (not_apart ctx.flow (c == 45) (begins_flow a)) (rw (breaks, solid) refl)
+      char_inside s l = goes _ l refl (inl (sym (no_spot in_text refl))) (grind arith) (rw (breaks, solid) refl)
 
       -- the first one after a gap
       char_between : (s : PlainState) → (ctx.flow && true && (c == 45) && begins_flow a) ≡ false → Goes between s (on (at_char c s.position (joined s.folded)))
-      char_between s d = goes _ refl (free s.folded.leading) (inl (sym (no_spot (spot_of between s.folded.leading s.position.col) (free s.folded.leading)))) d (rw (breaks, solid) refl)
-        where
-          free : (l : Bool) → may_go (spot_of between l s.position.col) c ≡ true
-          free a = grind arith
+      char_between s d = goes _ refl (grind arith) (inl (sym (no_spot (spot_of between s.folded.leading s.position.col) (grind arith)))) d (rw (breaks, solid) refl)
 
   -- ---- a turn
 
   white_turn : (m : Mode) (s : PlainState) (u : Turn PlainState Fault) → (is_break c ≡ false → is_blank c ≡ true → Goes m s (on (at_gap ctx c a s))) → (is_break c ≡ false → is_blank c ≡ false → Goes m s u) →
       Goes m s (if is_break c || is_blank c then on (at_gap ctx c a s) else u)
-  white_turn m s u blank other = by (is_break c) (is_blank c) refl refl
-    where
-      by : (x y : Bool) → is_break c ≡ x → is_blank c ≡ y → Goes m s (if x || y then on (at_gap ctx c a s) else u)
-      by true y e f = let is : at_gap ctx c a s ≡ at_break c a s = rw e refl in subst (λ t. Goes m s (on t)) (sym is) (break_goes m s e)
-      by false b e f = grind (arith, blank, other)
-
-  stays_between : (s : PlainState) → Goes between s (stop s)
-  stays_between s = grind (arith, stays, between)
+  white_turn m s u blank other = grind (arith, nat_tests, eqb-true, break_goes)
 
   -- the dash that is looked for before a scalar goes on
   pub dash_is : (ctx.flow && true && (c == 45) && begins_flow a) ≡ at_dash ctx.flow (c ∷ a)
@@ -205,49 +132,18 @@ module _ (ctx : Context) (start : Position) (c : ℕ) (a : List ℕ) where
   -- a scalar that goes on has no dash before a flow indicator
   no_dash : (p : Position) → goes_on ctx (c ∷ a) p ≡ Ok true → (ctx.flow && true && (c == 45) && begins_flow a) ≡ false
   unfolding goes_on
-  no_dash p h = by (is_shallow ctx p.col) ((c == 35) || at_marker p.col (c ∷ a)) (at_dash ctx.flow (c ∷ a)) refl refl refl
-    where
-      by : (x y z : Bool) → is_shallow ctx p.col ≡ x → ((c == 35) || at_marker p.col (c ∷ a)) ≡ y → at_dash ctx.flow (c ∷ a) ≡ z → (ctx.flow && true && (c == 45) && begins_flow a) ≡ false
-      by b y z e f g = grind (arith, at, h, dash_is)
+  no_dash p h = grind (arith, nat_tests, eqb-true, dash_is)
 
   -- and one that is refused there has
   has_dash : (p : Position) (f : Fault) → goes_on ctx (c ∷ a) p ≡ Err f → (ctx.flow && true && (c == 45) && begins_flow a) ≡ true
   unfolding goes_on
-  has_dash p f h = by (is_shallow ctx p.col) ((c == 35) || at_marker p.col (c ∷ a)) (at_dash ctx.flow (c ∷ a)) refl refl refl
-    where
-      by : (x y z : Bool) → is_shallow ctx p.col ≡ x → ((c == 35) || at_marker p.col (c ∷ a)) ≡ y → at_dash ctx.flow (c ∷ a) ≡ z → (ctx.flow && true && (c == 45) && begins_flow a) ≡ true
-      by b y z e i g = grind (arith, at, h, dash_is)
+  has_dash p f h = grind (arith, nat_tests, eqb-true, dash_is)
 
   begun_goes : (s : PlainState) (x : Result Bool Fault) → goes_on ctx (c ∷ a) s.position ≡ x → is_break c ≡ false → is_blank c ≡ false → Goes between s (begun x c s)
-  begun_goes s (Ok true) h e f = char_between e f s (no_dash s.position h)
-  begun_goes s (Ok false) h e f = stays_between s
-  begun_goes s (Err g) h e f = fails g (inr (has_dash s.position g h))
-
-  -- after a TAB in the indentation
-  tabs_goes : (s : PlainState) → Goes tabs s (turn_in ctx start tabs s c a)
-  tabs_goes s = by (is_break c) (c == 35) (is_blank c) refl refl refl
-    where
-      by : (x y z : Bool) → is_break c ≡ x → (c == 35) ≡ y → is_blank c ≡ z → Goes tabs s (if x then on (at_break c a s) else (if y then stop s else (if z then on (record { mode = tabs; position = past s.position; folded = s.folded }) else fail (At problem.PlainTab start))))
-      by true y z e f g = break_goes tabs s e
-      by false true z e f g = stays (hash (classes.is_break c)) s
-        where
-          hash : (b : Bool) → (b || ((c == 35) || false)) ≡ true
-          hash true = refl
-          hash false = rw f refl
-      by false false true e f g =
-          let white : (is_break c || is_blank c) ≡ true = rw (e, g) refl in
-          goes (record { mode = tabs; position = past s.position; folded = s.folded }) tt white (inl (rw e refl)) (white_is_no_dash ctx.flow true (begins_flow a) c white) (sym white)
-      by false false false e f g = fails _ (inl (rw (e, g) refl))
+  begun_goes s a h e f = grind (arith, nat_tests, eqb-true, char_between, no_dash, stays, between, fails, has_dash)
 
   pub turn_goes : (m : Mode) (s : PlainState) → IsCalm m s.folded.leading → Goes m s (turn_in ctx start m s c a)
-  turn_goes first s l = absurd l
-  turn_goes inside s l = white_turn inside s (if can_be_plain ctx.flow c (slice_index a 0) then on (at_char c s.position s.folded) else stop s) (λ e f. blank_inside e s f l) (λ e f. by (can_be_plain ctx.flow c (slice_index a 0)) e f)
-    where
-      by : (b : Bool) → is_break c ≡ false → is_blank c ≡ false → Goes inside s (if b then on (at_char c s.position s.folded) else stop s)
-      by true e f = char_inside e f s l
-      by false e f = stays refl s
-  turn_goes between s l = white_turn between s (begun (goes_on ctx (c ∷ a) s.position) c s) (λ e f. blank_between e s f) (λ e f. begun_goes s (goes_on ctx (c ∷ a) s.position) refl e f)
-  turn_goes tabs s l = tabs_goes s
+  turn_goes a s l = grind (arith, nat_tests, eqb-true, white_turn, on, stop, blank_inside, char_inside, stays, blank_between, begun_goes, tabs, fail, break_goes, goes, white_is_no_dash, fails)
 
 -- ---- a run
 
@@ -262,15 +158,7 @@ record Passed (column : ℕ) (flow : Bool) (x : Spot) (apart : Bool) (text rest 
 relocated : (column : ℕ) (t : PlainState) (y : Spot) (a passed rest : List ℕ) → IsAt t y a → a ≡ passed ++ rest → tabs_fit column (spot_of t.mode t.folded.leading t.position.col) passed rest ≡ true → tabs_fit column y passed rest ≡ true
 relocated column t y a passed rest (inl e) cut h = subst (λ z. tabs_fit column z passed rest ≡ true) e h
 relocated column t y a [] rest (inr b) cut h = subst (λ z. may_stop z rest ≡ true) (sym b.0) refl
-relocated column t y a (d ∷ p) rest (inr b) cut h =
-    let breaks : is_break d ≡ true = subst (λ z. begins_break z ≡ true) cut b.1 in
-    let x : Spot = spot_of t.mode t.folded.leading t.position.col in
-    let later : tabs_fit column (past_spot column x d) p rest ≡ true = (and_parts (may_go x d) (tabs_fit column (past_spot column x d) p rest) h).1 in
-    let at_line : tabs_fit column (at 0) p rest ≡ true = subst (λ z. tabs_fit column z p rest ≡ true) (margin x breaks) later in
-    subst (λ z. tabs_fit column z (d ∷ p) rest ≡ true) (sym b.0) (subst (λ z. tabs_fit column z p rest ≡ true) (sym (margin (at 0) breaks)) at_line)
-  where
-    margin : (z : Spot) → is_break d ≡ true → past_spot column z d ≡ at 0
-    margin z e = rw e refl
+relocated column t y a (d ∷ p) rest (inr b) cut h = grind (arith, nat_tests, eqb-true, and_parts)
 
 module _ (ctx : Context) (start : Position) where
   abbrev spot : PlainState → Spot
@@ -278,9 +166,6 @@ module _ (ctx : Context) (start : Position) where
 
   abbrev PassedFrom : PlainState → (text rest : List ℕ) → Type 0
   PassedFrom s a rest = Passed ctx.indent ctx.flow (spot s) (is_apart s.mode) a rest
-
-  stop_here : (x : Spot) → may_stop x [] ≡ true
-  stop_here a = grind arith
 
   one_more : (c : ℕ) (a rest : List ℕ) (x : Spot) (apart : Bool) (t : PlainState) → may_go x c ≡ true → IsAt t (past_spot ctx.indent x c) a → (ctx.flow && apart && (c == 45) && begins_flow a) ≡ false → is_apart t.mode ≡ (is_break c || is_blank c) →
       PassedFrom t a rest → Passed ctx.indent ctx.flow x apart (c ∷ a) rest
@@ -294,7 +179,7 @@ module _ (ctx : Context) (start : Position) where
   }
 
   went : (a : List ℕ) (s : PlainState) → IsCalm s.mode s.folded.leading → (t : Stop PlainState) → run (turn ctx start) a s ≡ Ok t → PassedFrom s a t.rest
-  went [] s l t e = let same : record { rest = []; state = s } ≡ t = cc in rw (← same) (record { passed = []; cut = refl; tabs_are = stop_here (spot s); dashes_are = refl })
+  went [] s l t e = let same : record { rest = []; state = s } ≡ t = cc in rw (← same) (record { passed = []; cut = refl; tabs_are = grind arith; dashes_are = refl })
   went (c ∷ a) s l t e = by (λ u m k. went a u m t k) (turn ctx start s c a) (turn_goes ctx start c a s.mode s l) e
     where
       by : ((u : PlainState) → IsCalm u.mode u.folded.leading → run (turn ctx start) a u ≡ Ok t → PassedFrom u a t.rest) → (u : Turn PlainState Fault) → Goes ctx start c a s.mode s u →
@@ -325,9 +210,6 @@ lines_are column tabbed t = is_blanks (first_line t) && plain_lines_fit column t
 pub all_lines : (column : ℕ) (ls : List (List ℕ)) (last : List ℕ) → lines_have_no_tab column (ls ++ (last ∷ [])) ≡ (line_is 0 column (first_of ls last) && lines_have_no_tab column (after_first ls last))
 all_lines column a last = grind (arith, none_before)
 
-put_first_line : (c : ℕ) (ls : List (List ℕ)) (last : List ℕ) → first_of (put_first c ls last).complete (put_first c ls last).last ≡ c ∷ first_of ls last
-put_first_line c a last = grind arith
-
 put_first_others : (c : ℕ) (ls : List (List ℕ)) (last : List ℕ) → after_first (put_first c ls last).complete (put_first c ls last).last ≡ after_first ls last
 put_first_others c a last = grind arith
 
@@ -337,36 +219,19 @@ unfolding classes.is_break
 feed_line a = grind arith
 
 pub feed_first : (c : ℕ) (r : List ℕ) → is_before_line_feed c r ≡ true → first_line r ≡ []
-feed_first c [] h = absurd (cc h)
-feed_first c (d ∷ r) h =
-    let same : d ≡ 10 = eqb-true d 10 (and_parts (c == 13) (d == 10) h).1 in
-    ap (λ x. first_line (x ∷ r)) same ∙ ap (λ s. first_of s.complete s.last) (feed_line r)
+feed_first c a h = grind (arith, nat_tests, eqb-true, and_parts, feed_line)
 
 module _ (column : ℕ) (c : ℕ) (r : List ℕ) where
   -- with a break before it
   broken_lines : classes.is_break c ≡ true → (x : Spot) → lines_are column (at 0) r ≡ true → lines_are column x (c ∷ r) ≡ true
-  broken_lines e x h = by (is_before_line_feed c r) refl
-    where
-      q : (line_is 0 column (first_line r) ≡ true) × (plain_lines_fit column r ≡ true)
-      q = and_parts (line_is 0 column (first_line r)) (plain_lines_fit column r) h
-
-      spots : (x : Spot) → first_line (c ∷ r) ≡ [] → plain_lines_fit column (c ∷ r) ≡ true → lines_are column x (c ∷ r) ≡ true
-      spots a f g = grind arith
-
-      by : (f : Bool) → is_before_line_feed c r ≡ f → lines_are column x (c ∷ r) ≡ true
-      by true f =
-          let is : split (c ∷ r) ≡ split r = rw (e, f) refl in
-          spots x (ap (λ s. first_of s.complete s.last) is ∙ feed_first c r f) (ap (λ s. lines_have_no_tab column (after_first s.complete s.last)) is ∙ q.1)
-      by false f =
-          let is : split (c ∷ r) ≡ record { complete = [] ∷ (split r).complete; last = (split r).last } = rw (e, f) refl in
-          spots x (ap (λ s. first_of s.complete s.last) is) (ap (λ s. lines_have_no_tab column (after_first s.complete s.last)) is ∙ (all_lines column (split r).complete (split r).last ∙ h))
+  broken_lines e x h = grind (arith, nat_tests, eqb-true, and_parts, feed_first, all_lines)
 
   module _ (no_break : classes.is_break c ≡ false) where
     split_is : split (c ∷ r) ≡ put_first c (split r).complete (split r).last
     split_is = rw no_break refl
 
     pub first_is : first_line (c ∷ r) ≡ c ∷ first_line r
-    first_is = ap (λ s. first_of s.complete s.last) split_is ∙ put_first_line c (split r).complete (split r).last
+    first_is = ap (λ s. first_of s.complete s.last) split_is ∙ (grind arith)
 
     pub others_are : plain_lines_fit column (c ∷ r) ≡ plain_lines_fit column r
     others_are = ap (λ s. lines_have_no_tab column (after_first s.complete s.last)) split_is ∙ ap (λ ls. lines_have_no_tab column ls) (put_first_others c (split r).complete (split r).last)
@@ -383,39 +248,7 @@ module _ (column : ℕ) (c : ℕ) (r : List ℕ) where
 lines_fit : (column : ℕ) (x : Spot) (t g rest : List ℕ) → tabs_fit column x (t ++ g) rest ≡ true → lines_are column x t ≡ true
 unfolding classes.is_blank
 lines_fit column a [] g rest h = grind arith
-lines_fit column x (c ∷ r) g rest h =
-    let q = and_parts (may_go x c) (tabs_fit column (past_spot column x c) (r ++ g) rest) h in
-    by x (is_break c) refl q.0 (lines_fit column (past_spot column x c) r g rest q.1)
-  where
-    further : (y : Spot) → lines_are column y r ≡ true → plain_lines_fit column r ≡ true
-    further a h = grind (arith, line_is, column, first_line)
-
-    on_line : (k : ℕ) → is_break c ≡ false → (tab blank : Bool) → ((c == 9) && nat_lt k column) ≡ tab → is_blank c ≡ blank → lines_are column (if tab then tabbed else (if blank then at (suc k) else in_text)) r ≡ true → lines_are column (at k) (c ∷ r) ≡ true
-    on_line k e true blank f g h =
-        let no_break : classes.is_break c ≡ false = same_break c ∙ e in
-        let q = and_parts (is_blanks (first_line r)) (plain_lines_fit column r) h in
-        let tab : classes.is_blank c ≡ true = tab_blank (eqb-true c 9 (and_parts (c == 9) (nat_lt k column) f).0) in
-        rw (first_is column c r no_break, others_are column c r no_break, tab, q.0) q.1
-      where
-        tab_blank : c ≡ 9 → classes.is_blank c ≡ true
-        tab_blank same = rw same refl
-    on_line k e false true f g h =
-        let no_break : classes.is_break c ≡ false = same_break c ∙ e in
-        let q = and_parts (line_is (suc k) column (first_line r)) (plain_lines_fit column r) h in
-        rw (first_is column c r no_break, others_are column c r no_break, blank_line column c r no_break k (same_blank c ∙ g) f (first_line r) q.0) q.1
-    on_line k e false false f g h =
-        let no_break : classes.is_break c ≡ false = same_break c ∙ e in
-        rw (first_is column c r no_break, others_are column c r no_break, content_line column c r no_break k (same_blank c ∙ g) (first_line r)) h
-
-    by : (x : Spot) → (b : Bool) → is_break c ≡ b → may_go x c ≡ true → lines_are column (if b then at 0 else spot_past column x c) r ≡ true → lines_are column x (c ∷ r) ≡ true
-    by x true e go h = broken_lines column c r (same_break c ∙ e) x h
-    by in_text false e go h = others_are column c r (same_break c ∙ e) ∙ h
-    by (at k) false e go h = on_line k e ((c == 9) && nat_lt k column) (is_blank c) refl refl h
-    by tabbed false e go h =
-        let no_break : classes.is_break c ≡ false = same_break c ∙ e in
-        let q = and_parts (is_blanks (first_line r)) (plain_lines_fit column r) h in
-        let blank : classes.is_blank c ≡ true = same_blank c ∙ rw e at go in
-        rw (first_is column c r no_break, others_are column c r no_break, blank, q.0) q.1
+lines_fit column x (c ∷ r) g rest h = grind (arith, nat_tests, and_parts, same_break, eqb-true, first_is, others_are, blank_line, same_blank, content_line, broken_lines, lines_fit column (past_spot column x c) r g rest)
 
 -- ---- the gap
 
@@ -430,73 +263,23 @@ IsClear column bs rest = (is_at_comment_or_end rest ≡ true) ⊎ (has_tab_withi
 
 tabbed_gap : (column : ℕ) (g rest : List ℕ) → has_break g ≡ false → tabs_fit column tabbed g rest ≡ true → is_at_comment_or_end rest ≡ true
 tabbed_gap column [] rest n h = h
-tabbed_gap column (c ∷ g) rest n h = by (is_break c) refl n (and_parts (is_break c || is_blank c) (tabs_fit column (past_spot column tabbed c) g rest) h).1 (λ k i. tabbed_gap column g rest k i)
-  where
-    by : (b : Bool) → is_break c ≡ b → has_break (c ∷ g) ≡ false → tabs_fit column (if b then at 0 else tabbed) g rest ≡ true → (has_break g ≡ false → tabs_fit column tabbed g rest ≡ true → is_at_comment_or_end rest ≡ true) → is_at_comment_or_end rest ≡ true
-    by a e n h d = grind (arith, same_break, at)
+tabbed_gap column (c ∷ g) rest n h = grind (arith, nat_tests, eqb-true, and_parts, same_break, tabbed_gap column g rest)
 
 blanks_gap : (column k : ℕ) (g rest : List ℕ) → has_break g ≡ false → is_gap g ≡ true → tabs_fit column (at k) g rest ≡ true → IsClear (column - k) g rest
-blanks_gap column k [] rest n w h = inr (ap (λ l. is_one_of l 9) (take_none (column - k)))
-blanks_gap column k (c ∷ g) rest n w h =
-    by (is_break c) (is_blank c) ((c == 9) && nat_lt k column) refl refl refl (and_parts (is_white c) (is_gap g) w).0 (λ x i. tabbed_gap column g rest (rest_of x) i) (λ x i. blanks_gap column (suc k) g rest (rest_of x) (and_parts (is_white c) (is_gap g) w).1 i)
-  where
-    rest_of : is_break c ≡ false → has_break g ≡ false
-    rest_of e = rw (same_break c, e) at n
-
-    by : (b l t : Bool) → is_break c ≡ b → is_blank c ≡ l → ((c == 9) && nat_lt k column) ≡ t → is_white c ≡ true → (is_break c ≡ false → tabs_fit column tabbed g rest ≡ true → is_at_comment_or_end rest ≡ true) →
-        (is_break c ≡ false → tabs_fit column (at (suc k)) g rest ≡ true → IsClear (column - suc k) g rest) → IsClear (column - k) (c ∷ g) rest
-    by true l t e f i w tab more = absurd (cc (rw (same_break c, e) at n))
-    by false false t e f i w tab more = absurd (cc (rw (same_break c, same_blank c, e, f) at w))
-    by false true true e f i w tab more = inl (tab e (rw (e, i) at h))
-    by false true false e f i w tab more = clear (more e (rw (e, i, f) at h))
-      where
-        clear : IsClear (column - suc k) g rest → IsClear (column - k) (c ∷ g) rest
-        clear (inl x) = inl x
-        clear (inr x) = inr (blank_more k column c g i x)
+blanks_gap column k [] rest n w h = grind (arith, nat_tests, eqb-true, take_none)
+blanks_gap column k (c ∷ g) rest n w h = grind (arith, nat_tests, eqb-true, and_parts, tabbed_gap, same_break, same_blank, blank_more, blanks_gap column (suc k) g rest)
 
 broken_gap : (column : ℕ) (x : Spot) (g rest : List ℕ) → is_gap g ≡ true → has_break g ≡ true → tabs_fit column x g rest ≡ true → IsClear column (last_line g) rest
 broken_gap column x [] rest w b h = absurd (cc b)
-broken_gap column x (c ∷ g) rest w b h = by (has_break g) refl (λ k. broken_gap column (past_spot column x c) g rest white k later)
-  where
-    white : is_gap g ≡ true
-    white = (and_parts (is_white c) (is_gap g) w).1
-
-    later : tabs_fit column (past_spot column x c) g rest ≡ true
-    later = (and_parts (may_go x c) (tabs_fit column (past_spot column x c) g rest) h).1
-
-    breaks : has_break g ≡ false → is_break c ≡ true
-    breaks k = here (classes.is_break c) (has_no_break g) refl b k
-      where
-        here : (x y : Bool) → classes.is_break c ≡ x → not (not x && y) ≡ true → not y ≡ false → is_break c ≡ true
-        here a y e b k = grind (arith, same_break)
-
-    by : (y : Bool) → has_break g ≡ y → (has_break g ≡ true → IsClear column (last_line g) rest) → IsClear column (last_line (c ∷ g)) rest
-    by true e others =
-        let same : last_line (c ∷ g) ≡ last_line g = last_first c g ∙ rw (e, or_true (classes.is_break c)) refl in
-        subst (λ l. IsClear column l rest) (sym same) (others e)
-    by false e others =
-        let now : is_break c ≡ true = breaks e in
-        let same : last_line (c ∷ g) ≡ g = last_first c g ∙ (rw (same_break c, now) refl ∙ last_whole g e) in
-        subst (λ l. IsClear column l rest) (sym same) (subst (λ n. IsClear n g rest) (none_before column) (blanks_gap column 0 g rest e white (rw now at later)))
+broken_gap column x (c ∷ g) rest w b h = grind (arith, nat_tests, eqb-true, and_parts, same_break, last_first, or_true, last_whole, none_before, blanks_gap, broken_gap column (past_spot column x c) g rest)
 
 -- ---- the dash
 
 no_last_dash : (flow apart : Bool) (t g rest : List ℕ) → dashes_fit flow apart (t ++ g) rest ≡ true → (flow && has_dash_before_flow t (g ++ rest)) ≡ false
 no_last_dash flow apart [] g rest h = and_false flow
 no_last_dash flow apart (c ∷ []) g rest h = and_false flow
-no_last_dash flow apart (c ∷ d ∷ []) g rest h = rw (same_break c, same_blank c) (by flow (is_break c) (is_blank c) (d == 45) (begins_flow (g ++ rest)) (not-true _ dash))
-  where
-    more : dashes_fit flow (is_break c || is_blank c) (d ∷ g) rest ≡ true
-    more = (and_parts (not (flow && apart && (c == 45) && begins_flow (d ∷ (g ++ rest)))) (dashes_fit flow (is_break c || is_blank c) (d ∷ g) rest) h).1
-
-    dash : not (flow && (is_break c || is_blank c) && (d == 45) && begins_flow (g ++ rest)) ≡ true
-    dash = (and_parts (not (flow && (is_break c || is_blank c) && (d == 45) && begins_flow (g ++ rest))) (dashes_fit flow (is_break d || is_blank d) g rest) more).0
-
-    by : (f b l n w : Bool) → (f && (b || l) && n && w) ≡ false → (f && (((l || b) && n) && w)) ≡ false
-    by a b l n w h = grind arith
-no_last_dash flow apart (c ∷ d ∷ e ∷ r) g rest h =
-    no_last_dash flow (is_break c || is_blank c) (d ∷ e ∷ r) g rest
-    (and_parts (not (flow && apart && (c == 45) && begins_flow (d ∷ e ∷ (r ++ g) ++ rest))) (dashes_fit flow (is_break c || is_blank c) (d ∷ e ∷ (r ++ g)) rest) h).1
+no_last_dash flow apart (c ∷ d ∷ []) g rest h = grind (arith, nat_tests, eqb-true, same_break, same_blank, not-true, and_parts)
+no_last_dash flow apart (c ∷ d ∷ e ∷ r) g rest h = grind (arith, nat_tests, eqb-true, and_parts, no_last_dash flow (is_break c || is_blank c) (d ∷ e ∷ r) g rest)
 
 -- ---- the whole scan
 
@@ -524,28 +307,18 @@ of_passed ctx p text piece gap rest cut deep w =
       clear = λ white breaks. broken_gap ctx.indent after.0 gap rest white breaks after.1;
     }
 
--- from the first character on
-run_passed : (ctx : Context) (p : Position) (c : ℕ) (a : List ℕ) (t : Stop PlainState) → is_break c ≡ false → is_blank c ≡ false → run (turn ctx p) (c ∷ a) (record { mode = first; position = p; folded = nothing }) ≡ Ok t →
-    Passed ctx.indent ctx.flow in_text false (c ∷ a) t.rest
-run_passed ctx p c a t breaks solid h =
-    let s : PlainState = at_char c p (joined nothing) in
-    one_more ctx p c a t.rest in_text false s refl (inl (sym (no_spot ctx p c a breaks solid in_text refl))) (not_apart ctx.flow (c == 45) (begins_flow a)) (rw (breaks, solid) refl) (went ctx p a s refl t h)
-
 pub plain_fits : (ctx : Context) (p : Position) (text piece gap : List ℕ) (r : Read Plain) → begins_solid text ≡ true → text ≡ piece ++ (gap ++ r.rest) → plain ctx text p ≡ Ok r → PlainFits ctx p piece gap r.rest
 unfolding plain
 plain_fits ctx p [] piece gap r begins cut e = absurd (cc begins)
 plain_fits ctx p (c ∷ a) piece gap r begins cut e = by (starts ctx (c ∷ a) p) refl e
   where
-    solids : (b l : Bool) → classes.is_break c ≡ b → classes.is_blank c ≡ l → not (l || b) ≡ true → (is_break c ≡ false) × (is_blank c ≡ false)
-    solids b a f g h = grind (arith, nat_tests, same_break, same_blank, eqb-true)
-
     solid : (is_break c ≡ false) × (is_blank c ≡ false)
-    solid = solids (classes.is_break c) (classes.is_blank c) refl refl begins
+    solid = grind (arith, nat_tests, same_break, same_blank, eqb-true)
 
     ran : (x : Result (Stop PlainState) Fault) → run (turn ctx p) (c ∷ a) (record { mode = first; position = p; folded = nothing }) ≡ x → ended x ≡ Ok r → Passed ctx.indent ctx.flow in_text false (c ∷ a) r.rest
     ran (Ok t) f h =
         let same : record { rest = t.rest; position = t.state.position; value = record { text = t.state.folded.text; leading = t.state.folded.leading } } ≡ r = cc in
-        subst (λ (q : Read Plain). Passed ctx.indent ctx.flow in_text false (c ∷ a) q.rest) same (run_passed ctx p c a t solid.0 solid.1 f)
+        subst (λ (q : Read Plain). Passed ctx.indent ctx.flow in_text false (c ∷ a) q.rest) same (let s : PlainState = at_char c p (joined nothing) in one_more ctx p c a t.rest in_text false s refl (inl (sym (no_spot ctx p c a solid.0 solid.1 in_text refl))) (grind arith) (rw (solid.0, solid.1) refl) (went ctx p a s refl t f))
     ran (Err g) f h = absurd (cc h)
 
     by : (x : Result (Unit {0}) Fault) → starts ctx (c ∷ a) p ≡ x → and_then x (λ _. plain_from ctx p (c ∷ a) (record { mode = first; position = p; folded = nothing })) ≡ Ok r → PlainFits ctx p piece gap r.rest

@@ -3,10 +3,10 @@ use Rattle.proof_scanner.proofs.Common.{Arrives, Bool, Entry, FlowLevel, Holds, 
 use Rattle.model_scanner.specs.Tag as tags
 use Rattle.proof_scanner.proofs.Cut.Nodes.{IsDeep}
 use Rattle.proof_scanner.proofs.Cut.Saved.{saved_is}
-use Rattle.proof_scanner.proofs.Sound.StreamEnds.{same_flow, same_levels}
+use Rattle.proof_scanner.proofs.Sound.StreamEnds.{same_flow}
 use Rattle.proof_scanner.proofs.Sound.Standing.{deep_for, awaits_kept}
 use Rattle.proof_scanner.proofs.Sound.Sides.{with_entries, ArrivesBy}
-use Rattle.proof_scanner.proofs.Sound.ReadNodes.{Read, site_of, allowed_past, IsRead, site_then, node_read, state_after, deep_there}
+use Rattle.proof_scanner.proofs.Sound.ReadNodes.{Read, site_of, allowed_past, IsRead, site_then, node_read, state_after}
 use Rattle.proof_scanner.proofs.Cut.Pieces.Names.{IsProperty, name_property}
 use Rattle.proof_scanner.proofs.Cut.Pieces.Tags.{tag_property}
 use Rattle.proof_scanner.proofs.Sound.Reads.{reads_before_none}
@@ -24,12 +24,6 @@ pub record IsPropertyToken (tok : Tok) : Type 0 where
   pub precedes : (fl : Bool) (bs piece next : List ℕ) → may_precede fl bs tok piece next ≡ true
   pub awaits : (fl : Bool) (bs : List ℕ) (b : Bool) (next : List ℕ) → awaits_past fl tok bs b next ≡ b
 
-pub tag_token : (handle suffix : List ℕ) → IsPropertyToken (Tok.tag handle suffix)
-tag_token handle suffix = record { act = refl; begun = refl; shown = λ s piece next. refl; before = refl; least = λ s. refl; lines = λ c p. refl; precedes = λ f bs p n. refl; awaits = awaits_kept _ (λ b. refl) (λ bs b n. refl) }
-
-pub name_token : (kind : NameKind) (name : List ℕ) → IsPropertyToken (anchor_token kind name)
-name_token a name = grind arith
-
 -- ---- the step
 
 -- what was read, for the general step
@@ -42,14 +36,11 @@ property_is_read text t tok rest end r k deep fs ks es flow a =
     let x : Site = site_of t fs a.site in
     let reads = reads_before_none t (state_after t None (property_read t tok rest end r)) (site_then t fs a.site (property_read t tok rest end r)) (r.first ∷ r.more) rest [] refl r.cut refl refl refl refl r.end_is refl k.before
     a.blocks_are (k.awaits (not (is_empty fs)) x.blocks x.awaits rest ∙ a.awaits_is) a.are_levels a.was_adjacent (refl, refl, refl) in
-    let piece_is = r.is_piece (seen (with_entries a.site a.line es) x a.separation) None refl (ap not (same_levels es ∙ sym (same_flow t.held.key_allowed (is_renewed a.site.before a.separation) fs ks es a.are_entries) ∙ sym (ap is_empty flow))) in
-    let allowed : false ≡ allowed_past None (not (is_empty fs)) (previous_by tok) [] = subst (λ b. false ≡ allowed_past None (not (is_empty fs)) b []) (sym k.before) (none (not (is_empty fs))) in
+    let piece_is = r.is_piece (seen (with_entries a.site a.line es) x a.separation) None refl (ap not ((grind arith) ∙ sym (same_flow t.held.key_allowed (is_renewed a.site.before a.separation) fs ks es a.are_entries) ∙ sym (ap is_empty flow))) in
+    let allowed : false ≡ allowed_past None (not (is_empty fs)) (previous_by tok) [] = subst (λ b. false ≡ allowed_past None (not (is_empty fs)) b []) (sym k.before) (grind arith) in
     let quiet : begins_free_line (previous_by tok) [] ≡ false = subst (λ b. begins_free_line b [] ≡ false) (sym k.before) refl in
     let shown : (y : Site) → shown_position y (r.first ∷ r.more) tok rest ≡ y.position = λ y. k.shown y (r.first ∷ r.more) rest in
-    assumption (reads, k.act, k.begun, shown, piece_is, deep_for (not (is_empty fs)) tok x (k.least x) (deep_there text t fs ks es a deep), k.lines (least_for tok x) (r.first ∷ r.more), k.precedes (not (is_empty fs)) x.blocks (r.first ∷ r.more) rest, allowed, ap not r.in_line, quiet)
-  where
-    none : (fl : Bool) → false ≡ allowed_past None fl another []
-    none a = grind arith
+    assumption (reads, k.act, k.begun, shown, piece_is, deep_for (not (is_empty fs)) tok x (k.least x) (rw (a.blocks_are, a.awaits_is) (grind arith)), k.lines (least_for tok x) (r.first ∷ r.more), k.precedes (not (is_empty fs)) x.blocks (r.first ∷ r.more) rest, allowed, ap not r.in_line, quiet)
 
 -- After a property or an alias what holds between fetches holds.
 property_stands : (text : List ℕ) (t : ScannerState) (tok : Tok) (rest : List ℕ) (end : Position) → IsProperty (in_flow t.held) tok t.held.position t.rest rest end → IsPropertyToken tok → IsDeep t.held → Arrives text t →
@@ -63,10 +54,10 @@ property_stands text t tok rest end r k deep a =
 -- `*name` or `&name`
 pub anchor_keeps : (text : List ℕ) (kind : NameKind) (t : ScannerState) (more : List ℕ) → t.rest ≡ mark_of kind ∷ more → IsDeep t.held → Arrives text t → Holds (Stands text) (fetch_anchor kind t)
 unfolding fetch_anchor
-anchor_keeps text kind t more e deep a = read (node_start t.held) (anchor_name t.rest t.held.position) _ (λ x k. went (property_stands text t (anchor_token kind x.value) x.rest x.position (name_property (in_flow t.held) kind t.held.position t.rest more e x k) (name_token kind x.value) deep a))
+anchor_keeps text kind t more e deep a = read (node_start t.held) (anchor_name t.rest t.held.position) _ (λ x k. went (property_stands text t (anchor_token kind x.value) x.rest x.position (name_property (in_flow t.held) kind t.held.position t.rest more e x k) (grind arith) deep a))
 
 -- `!`
 pub tag_keeps : (text : List ℕ) (t : ScannerState) (more : List ℕ) → t.rest ≡ 33 ∷ more → IsDeep t.held → Arrives text t → Holds (Stands text) (fetch_tag t)
 unfolding fetch_tag
 tag_keeps text t more e deep a = read (node_start t.held) (tags.tag (in_flow t.held) t.rest t.held.position) _ (λ x k.
-    went (property_stands text t (Tok.tag x.value.handle x.value.suffix) x.rest x.position (tag_property (in_flow t.held) t.held.position t.rest more e x k) (tag_token x.value.handle x.value.suffix) deep a))
+    went (property_stands text t (Tok.tag x.value.handle x.value.suffix) x.rest x.position (tag_property (in_flow t.held) t.held.position t.rest more e x k) (record { act = refl; begun = refl; shown = λ s piece next. refl; before = refl; least = λ s. refl; lines = λ c p. refl; precedes = λ f bs p n. refl; awaits = awaits_kept _ (λ b. refl) (λ bs b n. refl) }) deep a))

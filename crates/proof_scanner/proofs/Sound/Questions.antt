@@ -1,5 +1,5 @@
 -- The function of the model that reads a `?`: what holds where it begins holds between two fetches after it.
-use Rattle.proof_scanner.proofs.Common.{IsLeading, AreLevels, Arrives, At, Bool, Entry, Fault, FlowLevel, HasNoTabs, Held, Holds, Indent, IsEntryOf, IsReadOn, Key, Keyed, List, None, Ok, Option, Position, Result, ScannerState, Site, Some, Stands, Tok, Token, [], allow_key, another, ap, arith, before_by, begin_key, begins_line, begins_with_space_or_break, both_hold, chained, check_key_space, checked, columns, either, ends_at, entries_past, false, fetch_key, gap, gives_question, has_break, has_open_level, has_tab_before_piece, has_tab_within, if◌then◌else◌, in_flow, inl, inr, is_at_gap, is_break, is_deeper, is_empty, is_in_column, is_keyed, is_one_of, is_renewed, is_separation, keyed, last_line, line_past, not, not-false, not_ended, on_held, opened, or_parts, or_true, pair_past, past, peek, placed, position_after, push, put, refl, remove_implicit_key, roll_indent, settled, skip_indicator, skip_yaml_whitespace, subst, suc, sym, take, takes_pair, token, tried, true, went, with_top, zero, ℕ, ◌&&◌, ◌++◌, ◌==◌, ◌>>=◌, ◌||◌, ◌∙◌, ◌∷◌, ◌≡◌, ◌≤◌, ◌⊎◌}
+use Rattle.proof_scanner.proofs.Common.{IsLeading, AreLevels, Arrives, At, Entry, Fault, FlowLevel, HasNoTabs, Held, Holds, Indent, IsReadOn, Key, Keyed, List, None, Ok, Option, Position, Result, ScannerState, Site, Stands, Tok, Token, [], allow_key, another, ap, arith, before_by, begin_key, begins_line, begins_with_space_or_break, both_hold, chained, check_key_space, checked, columns, either, ends_at, false, fetch_key, gap, gives_question, has_break, has_open_level, has_tab_before_piece, if◌then◌else◌, in_flow, inl, inr, is_at_gap, is_break, is_deeper, is_empty, is_in_column, is_one_of, is_separation, keyed, line_past, not, not-false, not_ended, on_held, opened, or_parts, or_true, pair_past, past, peek, placed, position_after, push, put, refl, remove_implicit_key, roll_indent, settled, skip_indicator, skip_yaml_whitespace, subst, suc, sym, take, takes_pair, token, tried, true, went, with_top, zero, ℕ, ◌&&◌, ◌++◌, ◌==◌, ◌>>=◌, ◌||◌, ◌∙◌, ◌∷◌, ◌≡◌, ◌≤◌, ◌⊎◌, eqb-true, nat_tests}
 use Rattle.yaml_tokens.specs.declared.problem.Problem.TheVariants as problem
 use Rattle.model_scanner.specs.declared.level.FlowLevel.TheVariants.{Entry as InEntry}
 use Rattle.model_scanner.specs.State.{after}
@@ -10,8 +10,7 @@ use Rattle.proof_scanner.proofs.Sound.Arrivals.{first_not_right}
 use Rattle.proof_scanner.proofs.Sound.Around.{tokens_before}
 use Rattle.proof_scanner.proofs.Sound.EntryPieces.{low_enough, goes_inside}
 use Rattle.proof_scanner.proofs.Sound.Indicated.{past_one}
-use Rattle.proof_scanner.proofs.Sound.NodeTokens.{not_keyed}
-use Rattle.proof_scanner.proofs.Sound.OutsidePieces.{read_outside, line_free, none_open, started_tokens, begun_after, with_start}
+use Rattle.proof_scanner.proofs.Sound.OutsidePieces.{read_outside, line_free, started_tokens, begun_after, with_start}
 use Rattle.proof_scanner.proofs.Sound.Rolled.{RollsTo, rolls_to, top_closed}
 use Rattle.proof_scanner.proofs.Sound.Sides.{ArrivesBy, ArrivesOutside, ArrivesInside, arrives_side}
 use Rattle.proof_scanner.proofs.Sound.WhiteSpaces.{white_of, past_white, white_cut, no_tab_before, no_tab_in_last, past_white_space, white_exactly, white_first}
@@ -24,16 +23,6 @@ no_tab_taken : (n : ℕ) (l : List ℕ) → is_one_of l 9 ≡ false → is_one_o
 no_tab_taken zero l h = refl
 no_tab_taken (suc n) [] h = refl
 no_tab_taken (suc n) (c ∷ l) h = let q = or_parts (9 == c) (is_one_of l 9) h in rw (q.0, no_tab_taken n l q.1) refl
-
--- no TAB indents what comes next
-pub white_indents : (s : Site) (more : List ℕ) → s.before ≡ another → HasNoTabs s (white_of false more) (past_white false more)
-white_indents s more before = by (no_tab_in_last false more)
-  where
-    all : (b : Bool) (n : ℕ) → is_one_of (last_line (white_of false more)) 9 ≡ false → (not b || not (has_tab_within n (last_line (white_of false more)))) ≡ true
-    all a n h = grind (arith, no_tab_taken, white_of, more)
-
-    by : (past_white false more ≡ []) ⊎ (is_one_of (last_line (white_of false more)) 9 ≡ false) → HasNoTabs s (white_of false more) (past_white false more)
-    by a = grind (arith, all)
 
 -- no TAB stands there
 space_checked : (more : List ℕ) (t : ScannerState) → t.rest ≡ past_white false more → Holds (λ u. (u ≡ t) × (has_tab_before_piece false more ≡ false)) (check_key_space t)
@@ -72,7 +61,7 @@ question_reads t u more y cut rest fills place leads here before columns_are awa
     let far = adjacent_kept t u (before_by y.before) (63 ∷ []) more (white_of false more) refl stop was same.0 (ap before_by before) in
     let cut_then : more ≡ white_of false more ++ u.rest = white_cut false more ∙ ap (λ l. white_of false more ++ l) (sym rest) in
     let filled : is_separation false (white_of false more) u.rest ≡ true = rw rest fills in
-    let no_tabs : HasNoTabs y (white_of false more) u.rest = subst (λ l. HasNoTabs y (white_of false more) l) (sym rest) (white_indents y more before) in
+    let no_tabs : HasNoTabs y (white_of false more) u.rest = subst (λ l. HasNoTabs y (white_of false more) l) (sym rest) (grind (arith, nat_tests, eqb-true, no_tab_in_last, no_tab_taken)) in
     let leads_then : IsLeading u.held.leading y (white_of false more) u.rest = λ _ _ _. leads ∙ ap (λ b. begins_line b (white_of false more)) (sym before) in
     let read_on : IsReadOn y.before y.position (white_of false more) u.rest = subst (λ b. IsReadOn b y.position (white_of false more) u.rest) (sym before) tt in
     assumption (cut_then, filled, no_tabs, leads_then, read_on, stop ∙ ap (λ q. position_after q (white_of false more) u.rest) (sym here), far)
@@ -82,8 +71,8 @@ pub question_stands : (text more : List ℕ) (t : ScannerState) (a : ArrivesBy t
     (i : ℕ) (ds : List Indent) → columns i ds ≡ opened t.held.position.col (columns t.held.indent t.held.indents) → AreLevels i ds → has_open_level ds ≡ false →
     Stands text (question_end t more ds i (with_start Tok.block_mapping_start t))
 question_stands text more t a flow keys e allowed begins apart fills i ds columns_are levels awaits =
-    read_outside text t u a (63 ∷ []) more (white_of false more) Tok.key (begun_after t.held.position a.site.blocks) _ refl
-    (question_reads t u more _ e refl fills refl refl refl refl (ap (opened t.held.position.col) a.blocks_are ∙ sym columns_are) (sym awaits) levels a.was_adjacent (refl, refl, refl)) (record {
+    read_outside text t (question_end t more ds i (with_start Tok.block_mapping_start t)) a (63 ∷ []) more (white_of false more) Tok.key (begun_after t.held.position a.site.blocks) _ refl
+    (question_reads t (question_end t more ds i (with_start Tok.block_mapping_start t)) more _ e refl fills refl refl refl refl (ap (opened t.held.position.col) a.blocks_are ∙ sym columns_are) (sym awaits) levels a.was_adjacent (refl, refl, refl)) (record {
       line_is = (inl refl, ap (λ fs. (not (not (is_empty fs)) && ends.has_break (white_of false more)) || not (not (is_empty fs))) flow ∙ or_true (ends.has_break (white_of false more)), tt);
       no_key = refl;
       flow_is = flow;
@@ -98,9 +87,6 @@ question_stands text more t a flow keys e allowed begins apart fills i ds column
           started_tokens (is_deeper t.held.position.col bs) t.held.tokens a.tokens (ends_at t.held.position a.site.blocks bs) t.held.position Tok.block_mapping_start (put t.held.position Tok.key) a.tokens_are;
     })
   where
-    u : ScannerState
-    u = question_end t more ds i (with_start Tok.block_mapping_start t)
-
     bs : List ℕ
     bs = not_ended t.held.position.col a.site.blocks
 
@@ -128,32 +114,29 @@ question_read : (text more : List ℕ) (p : Position) (h : Held) → is_at_gap m
     Holds (Stands text) (skip_yaml_whitespace (record { rest = more; held = h }) >>= λ w. check_key_space w >>= λ x. Ok (on_held (push p Tok.key) x))
 unfolding skip_yaml_whitespace
 question_read text more p h gap f =
-    chained {P = λ w. ((w ≡ past_white_space t) × (is_separation false (white_of false more) (past_white false more) ≡ true)) × (begins_with_space_or_break more ≡ true)} (both_hold (white_exactly t) (white_first more h gap)) (λ w d.
+    chained {P = λ w. ((w ≡ past_white_space (record { rest = more; held = h })) × (is_separation false (white_of false more) (past_white false more) ≡ true)) × (begins_with_space_or_break more ≡ true)} (both_hold (white_exactly (record { rest = more; held = h })) (white_first more h gap)) (λ w d.
     subst (λ y. Holds (Stands text) (check_key_space y >>= λ x. Ok (on_held (push p Tok.key) x))) (sym d.0.0)
-    (chained (space_checked more (past_white_space t) refl) (λ x b. went (subst (λ y. Stands text (on_held (push p Tok.key) y)) (sym b.0) (f d.1 b.1 d.0.1)))))
-  where
-    t : ScannerState
-    t = record { rest = more; held = h }
+    (chained (space_checked more (past_white_space (record { rest = more; held = h })) refl) (λ x b. went (subst (λ y. Stands text (on_held (push p Tok.key) y)) (sym b.0) (f d.1 b.1 d.0.1)))))
 
 question_outside : (text more : List ℕ) (t : ScannerState) (a : ArrivesBy text t [] (None ∷ []) []) → t.held.flow ≡ [] → t.held.keys ≡ None ∷ [] → t.rest ≡ 63 ∷ more → is_at_gap more ≡ true → t.held.key_allowed ≡ true → IsDeep t.held →
     Holds (Stands text) (key_from t (record t { held = record (roll_indent t.held.position.col None Tok.block_mapping_start t.held.position t.held) { keys = with_top None (roll_indent t.held.position.col None Tok.block_mapping_start t.held.position t.held).keys } }))
 question_outside text more t a flow keys e gap allowed deep =
     subst (λ r. Holds (Stands text) (from r (roll_indent t.held.position.col None Tok.block_mapping_start t.held.position t.held))) (sym e)
     (subst (λ h. Holds (Stands text) (from (63 ∷ more) h)) (sym r.is_held)
-    (question_read text more t.held.position (now (record t.held { indents = r.indents; indent = r.indent; tokens = with_start Tok.block_mapping_start t })) gap (λ begins apart fills.
+    (question_read text more t.held.position (record (record t.held { indents = r.indents; indent = r.indent; tokens = with_start Tok.block_mapping_start t }) {
+      keys = with_top None (record t.held { indents = r.indents; indent = r.indent; tokens = with_start Tok.block_mapping_start t }).keys;
+      key_allowed = not
+          (in_flow (record t.held { indents = r.indents; indent = r.indent; tokens = with_start Tok.block_mapping_start t }));
+      position = past (record t.held { indents = r.indents; indent = r.indent; tokens = with_start Tok.block_mapping_start t }).position;
+      leading = false;
+    }) gap (λ begins apart fills.
     (question_stands text more t a flow keys e allowed begins apart fills r.indent r.indents r.columns_are r.are_levels (top_closed r.indents (r.is_top deep)).1))))
   where
-    out : in_flow t.held ≡ false
-    out = ap (λ fs. not (is_empty fs)) flow
-
     r : RollsTo t.held.position.col None (token t.held.position Tok.block_mapping_start) t.held (roll_indent t.held.position.col None Tok.block_mapping_start t.held.position t.held)
-    r = rolls_to t.held.position.col None Tok.block_mapping_start t.held.position t.held out a.are_levels (first_not_right t.held.position.col t.held.indent t.held.indents a.are_levels deep)
-
-    now : Held → Held
-    now h = record h { keys = with_top None h.keys; key_allowed = not (in_flow h); position = past h.position; leading = false }
+    r = rolls_to t.held.position.col None Tok.block_mapping_start t.held.position t.held (ap (λ fs. not (is_empty fs)) flow) a.are_levels (first_not_right t.held.position.col t.held.indent t.held.indents a.are_levels deep)
 
     from : List ℕ → Held → Result ScannerState Fault
-    from l h = skip_yaml_whitespace (record { rest = after l; held = now h }) >>= λ w. check_key_space w >>= λ x. Ok (on_held (push t.held.position Tok.key) x)
+    from l h = skip_yaml_whitespace (record { rest = after l; held = (record h { keys = with_top None h.keys; key_allowed = not (in_flow h); position = past h.position; leading = false }) }) >>= λ w. check_key_space w >>= λ x. Ok (on_held (push t.held.position Tok.key) x)
 
 -- ---- in flow
 
@@ -162,19 +145,9 @@ abbrev pub pair_level : (pair : FlowLevel) → FlowLevel → FlowLevel
 pair_level p InEntry = p
 pair_level p f = f
 
-pub asked_levels : (f : FlowLevel) (fs : List FlowLevel) → keyed (f ∷ fs) ≡ pair_level Keyed f ∷ fs
-asked_levels a fs = grind arith
-
 -- the entry after it
 abbrev pub asked_entry : Entry → Entry
 asked_entry e = record { kind = e.kind; pair = pair_past (takes_pair e.kind e.pair) gives_question e.pair; had = settled }
-
-asked_is : (f : FlowLevel) (k : Option Key) (e : Entry) → IsEntryOf f k e → IsEntryOf (pair_level Keyed f) None (asked_entry e)
-asked_is f k e h = grind arith
-
--- the entry is settled, whatever it has had
-pub settles : (here : Position) (again : Bool) (e : Entry) (xs : List Entry) → is_keyed e.had ≡ false → entries_past here again gives_question [] false e xs ≡ Some (asked_entry e ∷ xs)
-settles here again e xs h = grind arith
 
 -- what the scanner holds after it
 abbrev pub question_within : ScannerState → (more : List ℕ) → ScannerState
@@ -202,19 +175,19 @@ question_inside text more t f fs k ks e es a flow keys cut deep begins apart fil
     (question_reads t (question_within t more) more _ cut refl fills refl refl refl refl a.blocks_are a.awaits_is a.are_levels a.was_adjacent (refl, refl, refl)) (record {
       flow_is = levels;
       keys_are = ap (with_top None) keys;
-      entry_is = asked_is f k e a.are_entries.0;
+      entry_is = grind arith;
       has_had = (inr refl, ap (λ ls. (not (not (is_empty ls)) && ends.has_break (white_of false more)) || not (not (is_empty ls))) levels);
       in_line = one_line 63 refl;
       begun = refl;
       is_piece = inl (refl, begins);
       stands = rw (a.is_indented (ap is_empty cut), low_enough text t f fs (k ∷ ks) (e ∷ es) a deep, apart) refl;
-      entry_past = λ xs. settles t.held.position (is_renewed a.site.before a.separation) e xs (not_keyed t.held.key_allowed (is_renewed a.site.before a.separation) k e.had a.are_entries.1);
+      entry_past = λ xs. (grind arith);
       colons = λ n p ws last. refl;
       tokens_are = ap (λ ts. ts ++ token t.held.position Tok.key ∷ []) (tokens_before text t f fs k ks e es a);
     })
   where
     levels : keyed t.held.flow ≡ pair_level Keyed f ∷ fs
-    levels = ap keyed flow ∙ asked_levels f fs
+    levels = ap keyed flow ∙ (grind arith)
 
 -- ---- both
 
@@ -227,19 +200,13 @@ key_keeps text more t a e gap deep =
     subst (λ y. Holds (Stands text) (key_from t y)) (sym (i ∙ ap {A = ScannerState} {B = ScannerState} (λ z. record z { held = record u.held { keys = with_top None u.held.keys } }) d.0)) (by (arrives_side text t a) u.held d.1)))
   where
     by : ArrivesOutside text t ⊎ ArrivesInside text t → (u : Held) → Begins t.held u → Holds (Stands text) (key_from t (record t { held = record u { keys = with_top None u.keys } }))
-    by (inl o) u (outside out allowed d) =
-        let none : o.key ≡ None = none_open t.held.key_allowed t.rest o.key o.here.line_here allowed (ap is_empty e) o.here.line_is in
-        subst (λ h. Holds (Stands text) (key_from t (record t { held = record h { keys = with_top None h.keys } }))) (sym d)
-        (question_outside text more t (subst (λ k. ArrivesBy text t [] (k ∷ []) []) none o.here) o.flow_is (o.keys_are ∙ ap (λ k. k ∷ []) none) e gap allowed deep)
+    by (inl o) u (outside out allowed d) = grind (arith, nat_tests, eqb-true, question_outside)
     by (inl o) u (inside in_it d) = absurd (cc (in_it, ap (λ fs. not (is_empty fs)) o.flow_is))
     by (inr i) u (outside out allowed d) = absurd (cc (out, ap (λ fs. not (is_empty fs)) i.flow_is))
     by (inr i) u (inside in_it d) =
         subst (λ h. Holds (Stands text) (key_from t (record t { held = record h { keys = with_top None h.keys } }))) (sym d)
-        (subst (λ l. Holds (Stands text) (from l)) (sym e)
+        (subst (λ l. Holds (Stands text) (skip_yaml_whitespace (record { rest = after l; held = now }) >>= λ w. check_key_space w >>= λ x. Ok (on_held (push t.held.position Tok.key) x))) (sym e)
         (question_read text more t.held.position now gap (λ begins apart fills. question_inside text more t i.level i.levels i.key i.keys i.entry i.entries i.here i.flow_is i.keys_are e deep begins apart fills)))
       where
         now : Held
         now = record t.held { flow = keyed t.held.flow; keys = with_top None t.held.keys; key_allowed = not (not (is_empty (keyed t.held.flow))); position = past t.held.position; leading = false }
-
-        from : List ℕ → Result ScannerState Fault
-        from l = skip_yaml_whitespace (record { rest = after l; held = now }) >>= λ w. check_key_space w >>= λ x. Ok (on_held (push t.held.position Tok.key) x)

@@ -1,5 +1,5 @@
 -- The elements of a quoted body by their characters, and the lines that are left of one from a column on.
-use Rattle.proof_scanner.proofs.Common.{sym, ◌∙◌, Bool, Element, Lines, List, None, Option, Some, Spelled, [], ap, arith, begins_with, blank, blanks_before, break_further, content, double_quoted_element, double_quoted_value, element_of, elements, eqb-true, escape, escape_by, escaped_break, escapes, false, folded_elements, has_more, has_tab_within, hexadecimal, if◌then◌else◌, is_character_code, is_empty, length, line, line_break, lines_fit, lookup, nat_le, nat_lt, not, numbered, numeric_escape, numeric_escapes, plain_element, quote_of, refl, same_blank, same_break, single_quoted_element, single_quoted_value, suc, take, true, value_of, without_last, ℕ, ◌&&◌, ◌++◌, ◌+◌, ◌-◌, ◌==◌, ◌||◌, ◌∷◌, ◌≡◌}
+use Rattle.proof_scanner.proofs.Common.{sym, ◌∙◌, Bool, Element, Lines, List, None, Option, Some, Spelled, [], ap, arith, begins_with, blank, blanks_before, break_further, content, double_quoted_element, double_quoted_value, element_of, elements, eqb-true, escape, escape_by, escaped_break, escapes, false, folded_elements, has_more, has_tab_within, if◌then◌else◌, is_empty, length, line, line_break, lines_fit, lookup, nat_le, nat_lt, not, numeric_escape, numeric_escapes, plain_element, quote_of, refl, same_blank, same_break, single_quoted_element, single_quoted_value, suc, take, true, value_of, without_last, ℕ, ◌&&◌, ◌++◌, ◌+◌, ◌-◌, ◌==◌, ◌||◌, ◌∷◌, ◌≡◌, nat_tests}
 use Rattle.defs_text.specs.Classes as classes
 use Rattle.defs_text.specs.FlowScalar.{last_line}
 use Rattle.yaml_chars.specs.Class.{is_break, is_blank}
@@ -25,14 +25,11 @@ KindOf single c b (Some s) = Kind single c b s
 
 -- either way of a choice
 kind_if : (single : Bool) (c : ℕ) (b : List ℕ) (x : Bool) (o p : Option Spelled) → (x ≡ true → KindOf single c b o) → (x ≡ false → KindOf single c b p) → KindOf single c b (if x then o else p)
-kind_if single c b true o p f g = f refl
-kind_if single c b false o p f g = g refl
+kind_if single c b a o p f g = grind (arith, nat_tests, eqb-true)
 
 plain_kind : (single : Bool) (c : ℕ) (b : List ℕ) → KindOf single c b (plain_element c b)
 unfolding plain_element
-plain_kind single c b = kind_if single c b (classes.is_break c) _ _ (λ e. has_line (sym (same_break c) ∙ e)) (λ e.
-    let broken : is_break c ≡ false = sym (same_break c) ∙ e in
-    kind_if single c b (classes.is_blank c) _ _ (λ f. has_blank broken (sym (same_blank c) ∙ f)) (λ f. has_content c 0 (rw (broken, sym (same_blank c) ∙ f) refl)))
+plain_kind single c b = grind (arith, nat_tests, eqb-true, kind_if, has_line, same_break, has_blank, same_blank, has_content)
 
 pub quote_white : (single : Bool) → is_white (quote_of single) ≡ false
 unfolding is_break is_blank
@@ -48,18 +45,12 @@ single_kind c b = kind_if true c b (classes.is_nul c) _ _ (λ e. tt) (λ e. kind
     kind_if true c b (begins_with 39 b) _ _ (λ g. has_content 39 1 (let same : c ≡ 39 = eqb-true c 39 f in rw same (quote_white true))) (λ g. tt)) (λ f. plain_kind true c b))
 
 module _ (c : ℕ) (b : List ℕ) (solid : is_white c ≡ false) where
-  numbered_kind : (n : ℕ) (o : Option ℕ) → KindOf false c b (numbered n o)
-  numbered_kind n None = tt
-  numbered_kind n (Some code) = kind_if false c b (is_character_code code) _ _ (λ e. has_content code (suc n) solid) (λ e. tt)
-
   numeric_kind : (n : ℕ) (r : List ℕ) → KindOf false c b (numeric_escape n r)
   unfolding numeric_escape
-  numeric_kind n r = kind_if false c b (length (take n r) == n) _ _ (λ e. numbered_kind n (hexadecimal 0 (take n r))) (λ e. tt)
+  numeric_kind n r = kind_if false c b (length (take n r) == n) _ _ (λ e. (grind (arith, nat_tests, eqb-true, kind_if, has_content))) (λ e. tt)
 
   escape_kind_by : (o n : Option ℕ) (r : List ℕ) → KindOf false c b (escape_by o n r)
-  escape_kind_by (Some code) n r = has_content code 1 solid
-  escape_kind_by None (Some n) r = numeric_kind n r
-  escape_kind_by None None r = tt
+  escape_kind_by a n r = grind (arith, nat_tests, eqb-true, has_content, numeric_kind)
 
 escape_kind : (b : List ℕ) → KindOf false 92 b (escape b)
 unfolding escape
@@ -72,8 +63,7 @@ double_kind c b = kind_if false c b (classes.is_nul c) _ _ (λ e. tt) (λ e. kin
     kind_if false c b (c == 92) _ _ (λ g. let same : c ≡ 92 = eqb-true c 92 g in rw same (escape_kind b)) (λ g. plain_kind false c b)))
 
 pub kind : (single : Bool) (c : ℕ) (b : List ℕ) → KindOf single c b (element_of single c b)
-kind true c b = single_kind c b
-kind false c b = double_kind c b
+kind a c b = grind (arith, nat_tests, eqb-true, single_kind, double_kind)
 
 -- ---- a line from a column on
 
@@ -104,14 +94,8 @@ body_between q (c ∷ d ∷ body) = ap (λ l. c ∷ l) (body_between q (d ∷ bo
 -- a body with a value has elements
 pub has_elements : (single : Bool) (body value : List ℕ) → value_of single body ≡ Some value → (es : List Element) × (elements (element_of single) 0 body ≡ Some es)
 unfolding single_quoted_value double_quoted_value
-has_elements single body value h = by (elements (element_of single) 0 body) refl (some single h)
+has_elements single body value h = by (elements (element_of single) 0 body) refl (grind (arith, body, elements))
   where
-    some_by : (marked : Bool) (o : Option (List Element)) → (if marked then None else folded_elements o) ≡ Some value → folded_elements o ≡ Some value
-    some_by a o h = grind arith
-
-    some : (single : Bool) → value_of single body ≡ Some value → folded_elements (elements (element_of single) 0 body) ≡ Some value
-    some a h = grind (arith, some_by, body, elements)
-
     by : (o : Option (List Element)) → elements (element_of single) 0 body ≡ o → folded_elements o ≡ Some value → (es : List Element) × (o ≡ Some es)
     by a e h = grind arith
 

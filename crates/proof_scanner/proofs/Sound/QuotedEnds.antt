@@ -1,5 +1,5 @@
 -- What the scanner checks after a quoted scalar: the line holds no more, or goes on as it may.
-use Rattle.proof_scanner.proofs.Common.{Bool, Err, Fault, Holds, List, No, Ok, Position, Result, ScannerState, SkipTabs, Yes, [], after, and_parts, ap, append_assoc, arith, begins_with, both_hold, chained, check_after_quoted, either, eqb-true, false, goes_on_quoted, has_break, has_no_break, has_no_nul, if◌then◌else◌, in_flow, is_at_line_end, is_blank, is_blanks, is_blanks_and_comment, is_break, is_breakz, is_nul, is_on_line, is_rest_of_line, is_separation, leading, lexed, line_is_done, may_follow_quoted, no_nul_after, not, or_right, peek, position_after, position_past, quoted_may_end, refl, refused, skip_spaces, space, subst, suc, sym, true, went, ℕ, ◌&&◌, ◌++◌, ◌<◌, ◌==◌, ◌||◌, ◌∙◌, ◌∷◌, ◌≡◌, ◌≤◌}
+use Rattle.proof_scanner.proofs.Common.{Bool, Err, Fault, Holds, List, Ok, Position, Result, ScannerState, SkipTabs, Yes, [], after, and_parts, ap, append_assoc, arith, begins_with, both_hold, chained, check_after_quoted, either, eqb-true, false, goes_on_quoted, has_break, has_no_nul, in_flow, is_at_line_end, is_blank, is_blanks, is_blanks_and_comment, is_break, is_breakz, is_nul, is_on_line, is_separation, leading, line_is_done, may_follow_quoted, no_nul_after, not, or_right, peek, position_after, position_past, quoted_may_end, refl, refused, skip_spaces, space, subst, sym, true, went, ℕ, ◌&&◌, ◌++◌, ◌<◌, ◌==◌, ◌||◌, ◌∙◌, ◌∷◌, ◌≡◌, ◌≤◌, nat_tests}
 use Rattle.yaml_chars.specs.Class as model_classes
 use Rattle.proof_lexers.specs.PlainEnds as plains
 use Rattle.proof_scanner.proofs.Cut.Passes.{Spaced, spaces_skipped}
@@ -18,21 +18,7 @@ pub broken_later : (p : Position) (a next : List ℕ) → ends_in_line a ≡ tru
 unfolding is_break
 broken_later p [] next e h = absurd (cc h)
 broken_later p (c ∷ []) next e h = grind arith
-broken_later p (c ∷ d ∷ a) next e h =
-    by (is_break c) ((c == 13) && (d == 10)) refl refl h (λ k. omega (arith, broken_later (position_past p c (d ∷ (a ++ next))) (d ∷ a) next e k, (not_before_after p (c ∷ []) (d ∷ (a ++ next))).0))
-  where
-    q : Position
-    q = position_past p c (d ∷ (a ++ next))
-
-    feed_breaks : ((c == 13) && (d == 10)) ≡ true → has_break (d ∷ a) ≡ true
-    feed_breaks f = let two : d ≡ 10 = eqb-true d 10 (and_parts (c == 13) (d == 10) f).1 in rw two refl
-
-    by : (b f : Bool) → is_break c ≡ b → ((c == 13) && (d == 10)) ≡ f → not (not b && has_no_break (d ∷ a)) ≡ true → (has_break (d ∷ a) ≡ true → p.line < (position_after q (d ∷ a) next).line) → p.line < (position_after q (d ∷ a) next).line
-    by true true g f h later = later (feed_breaks f)
-    by true false g f h later =
-        let next_line : q.line ≡ suc p.line = rw (g, f) refl in
-        omega (arith, next_line, (not_before_after q (d ∷ a) next).0)
-    by false f g i h later = later h
+broken_later p (c ∷ d ∷ a) next e h = grind (arith, nat_tests, not_before_after, eqb-true, and_parts, broken_later (position_past p c (d ∷ (a ++ next))) (d ∷ a) next e)
 
 -- on the same line there is no break
 pub on_one_line : (p : Position) (a next : List ℕ) → ends_in_line a ≡ true → (position_after p a next).line ≤ p.line → has_break a ≡ false
@@ -53,10 +39,7 @@ blanks_and_comment (c ∷ s) next f h = grind (arith, blanks_and_comment s next)
 -- before what does not end the line it is blanks alone
 pub blanks_alone : (in_comment : Bool) (s next : List ℕ) → is_separation in_comment s next ≡ true → plains.has_break s ≡ false → is_at_line_end next ≡ false → (in_comment ≡ false) × (is_blanks s ≡ true)
 blanks_alone a [] next f h e = grind arith
-blanks_alone true (c ∷ s) next f h e = by (is_break c) f h (λ g i. blanks_alone true s next g i e)
-  where
-    by : (k : Bool) → is_separation (not k) s next ≡ true → (k || plains.has_break s) ≡ false → (is_separation true s next ≡ true → plains.has_break s ≡ false → (true ≡ false) × (is_blanks s ≡ true)) → (true ≡ false) × (is_blanks (c ∷ s) ≡ true)
-    by a f h b = grind arith
+blanks_alone true (c ∷ s) next f h e = grind (arith, nat_tests, eqb-true, blanks_alone true s next)
 blanks_alone false (c ∷ s) next f h e = (refl, by (is_blank c) (is_break c) (c == 35) f h (λ n g i. blanks_alone n s next g i e))
   where
     by : (b k n : Bool) → ((b || k || n) && is_separation n s next) ≡ true → (k || plains.has_break s) ≡ false → ((n : Bool) → is_separation n s next ≡ true → plains.has_break s ≡ false → (n ≡ false) × (is_blanks s ≡ true)) → (b && is_blanks s) ≡ true
@@ -65,10 +48,7 @@ blanks_alone false (c ∷ s) next f h e = (refl, by (is_blank c) (is_break c) (c
 -- up to the line's end
 pub leading_line : (s next : List ℕ) → plains.has_break s ≡ false → is_at_line_end next ≡ true → has_no_nul next ≡ true → leading is_on_line (s ++ next) ≡ s
 leading_line [] a h e n = grind arith
-leading_line (c ∷ s) next h e n = by (is_break c) h (λ k. leading_line s next k e n)
-  where
-    by : (k : Bool) → (k || plains.has_break s) ≡ false → (plains.has_break s ≡ false → leading is_on_line (s ++ next) ≡ s) → (if not k then c ∷ leading is_on_line (s ++ next) else []) ≡ c ∷ s
-    by a h b = grind arith
+leading_line (c ∷ s) next h e n = grind (arith, nat_tests, eqb-true, leading_line s next)
 
 -- past blanks
 pub after_blanks : (s next : List ℕ) → is_blanks s ≡ true → after is_blank (s ++ next) ≡ after is_blank next
@@ -77,11 +57,7 @@ after_blanks (c ∷ s) next h = grind (arith, after_blanks s next)
 
 -- a line with nothing but blanks and a comment, which no comment begins
 pub is_done : (s next : List ℕ) → is_separation false s next ≡ true → plains.has_break s ≡ false → is_at_line_end next ≡ true → has_no_nul next ≡ true → begins_with 35 (s ++ next) ≡ false → line_is_done (s ++ next) ≡ true
-is_done s next f h e n g = ap is_rest_of_line (leading_line s next h e n) ∙ rest s f h g
-  where
-    rest : (s : List ℕ) → is_separation false s next ≡ true → plains.has_break s ≡ false → begins_with 35 (s ++ next) ≡ false → is_rest_of_line s ≡ true
-    rest [] f h g = refl
-    rest (c ∷ s) f h g = let all : is_blanks_and_comment (c ∷ s) ≡ true = blanks_and_comment (c ∷ s) next f h in rw g (rw g at all)
+is_done s next f h e n g = grind (arith, nat_tests, eqb-true, leading_line, blanks_and_comment)
 
 -- ---- what is skipped
 
@@ -92,19 +68,7 @@ always (Err e) f = refused
 -- no comment stands directly where blanks are skipped
 pub unglued : (tabs : SkipTabs) (t : ScannerState) → Holds (λ u. begins_with 35 t.rest ≡ false) (skip_spaces tabs t)
 unfolding skip_spaces space
-unglued tabs t = by t.rest
-  where
-    by : (a : List ℕ) → Holds (λ u. begins_with 35 a ≡ false) (lexed (space tabs a t.held.position) t.held (λ w u. Ok u))
-    by [] = always (lexed (space tabs [] t.held.position) t.held (λ w u. Ok u)) (λ u. refl)
-    by (c ∷ a) = by_hash (c == 35) refl
-      where
-        by_tabs : (tabs : SkipTabs) → c ≡ 35 → Holds (λ u. begins_with 35 (c ∷ a) ≡ false) (lexed (space tabs (c ∷ a) t.held.position) t.held (λ w u. Ok u))
-        by_tabs Yes e = rw e refused
-        by_tabs No e = rw e refused
-
-        by_hash : (b : Bool) → (c == 35) ≡ b → Holds (λ u. begins_with 35 (c ∷ a) ≡ false) (lexed (space tabs (c ∷ a) t.held.position) t.held (λ w u. Ok u))
-        by_hash true e = by_tabs tabs (eqb-true c 35 e)
-        by_hash false e = always (lexed (space tabs (c ∷ a) t.held.position) t.held (λ w u. Ok u)) (λ u. e)
+unglued tabs t = grind (arith, nat_tests, always, eqb-true, refused)
 
 -- ---- after a quoted scalar
 
@@ -125,24 +89,14 @@ comes_by a piece b d c r e h g = grind arith
 may_end_by : (flow : Bool) (p : Position) (piece s rest : List ℕ) (here : Position) → ends_in_line piece ≡ true → has_no_nul rest ≡ true → is_separation false s rest ≡ true → plains.has_break s ≡ false → begins_with 35 (s ++ rest) ≡ false →
     here ≡ position_after (position_after p piece (s ++ rest)) s rest → may_follow_quoted flow (p.line == here.line) (peek rest) ≡ true → quoted_may_end flow piece (s ++ rest) ≡ true
 unfolding model_classes.is_break
-may_end_by flow p piece s rest here in_line none f h no_hash is follows = by (is_breakz (peek rest)) refl
+may_end_by flow p piece s rest here in_line none f h no_hash is follows = grind (arith, nat_tests, eqb-true, is_done, at_end_of, blanks_alone, not_at_end, or_right, after_blanks, some)
   where
     same : (p.line == here.line) ≡ true → has_break piece ≡ false
-    same e =
-        let q : Position = position_after p piece (s ++ rest) in
-        let stays : here.line ≡ q.line = ap (λ x. x.line) is ∙ same_line q s rest h in
-        let equal : p.line ≡ here.line = eqb-true p.line here.line e in
-        on_one_line p piece (s ++ rest) in_line (omega (arith, stays, equal))
+    same e = grind (arith, nat_tests, same_line, eqb-true, on_one_line)
 
     some : (r : List ℕ) → is_breakz (peek r) ≡ false → may_follow_quoted flow (p.line == here.line) (peek r) ≡ true → goes_on_quoted flow piece (after is_blank r) ≡ true
     some [] e k = absurd (cc e)
     some (c ∷ r) e k = let q = comes_by flow piece p.line here.line c r same k e in rw q.1 q.0
-
-    by : (b : Bool) → is_breakz (peek rest) ≡ b → quoted_may_end flow piece (s ++ rest) ≡ true
-    by true e = rw (is_done s rest f h (at_end_of rest e) none no_hash) refl
-    by false e =
-        let blanks : is_blanks s ≡ true = (blanks_alone false s rest f h (not_at_end rest e)).1 in
-        or_right (line_is_done (s ++ rest)) (goes_on_quoted flow piece (after is_blank (s ++ rest))) (ap (λ x. goes_on_quoted flow piece x) (after_blanks s rest blanks) ∙ some rest e follows)
 
 -- blanks and a comment were skipped after a piece, and what stands there may follow a quoted scalar
 pub record Checked (piece : List ℕ) (t u : ScannerState) : Type 0 where

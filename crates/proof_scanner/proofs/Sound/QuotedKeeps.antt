@@ -1,5 +1,5 @@
 -- Quoted scalars: what holds between two fetches holds after them.
-use Rattle.proof_scanner.proofs.Common.{list_all, is_some, AreLevels, Arrives, Bool, Context, Entry, Fault, FlowLevel, HasNoTabs, Held, Holds, Indent, IsAdjacent, IsPiece, IsQuotedRead, IsReadOn, Key, List, None, Ok, Option, Position, Quotes, Result, ScannerState, Site, Some, Stands, Tok, [], act_of, adjacent_here, after_separation, allow_key, and_parts, ap, append_assoc, append_cancel_right, are_single, arith, awaits_past, before_by, before_past, begins_free_line, begins_line, begins_with, begun_by, between, both_hold, chained, check_after_quoted, columns, context, element_of, ends_before, false, fetch_flow_scalar, further_lines_stand, gives_node, go_on, has_break, has_no_nul, has_open_level, has_tab_within, in_flow, inl, inr, is_at_comment_or_end, is_break, is_empty, is_indented_by_spaces, is_nul, is_separation, last_line, least_column, least_for, lexed, may_precede, nat_le, no_nul_after, not, not-true, on_held, position_after, position_append, previous_by, push, quote_of, quoted, quoted_lines_fit, quoted_may_end, quoted_scalar, quoted_style, read, read_as, refl, seen, shown_position, skip_to_next_token, subst, sym, true, unled, value_of, weakened, went, ℕ, ◌&&◌, ◌++◌, ◌-◌, ◌>>=◌, ◌||◌, ◌∙◌, ◌∷◌, ◌≡◌, ◌≤◌}
+use Rattle.proof_scanner.proofs.Common.{list_all, is_some, Arrives, Bool, Context, Entry, Fault, FlowLevel, HasNoTabs, Held, Holds, IsPiece, IsQuotedRead, Key, List, None, Ok, Option, Position, Quotes, Result, ScannerState, Site, Some, Stands, Tok, [], act_of, adjacent_here, allow_key, and_parts, ap, append_assoc, append_cancel_right, are_single, arith, awaits_past, begins_with, begun_by, between, both_hold, chained, check_after_quoted, columns, context, element_of, ends_before, false, fetch_flow_scalar, further_lines_stand, gives_node, go_on, has_break, has_no_nul, has_open_level, in_flow, inr, is_break, is_empty, is_nul, is_separation, least_column, least_for, lexed, may_precede, no_nul_after, not, not-true, on_held, position_after, position_append, previous_by, push, quote_of, quoted, quoted_lines_fit, quoted_may_end, quoted_scalar, quoted_style, read, read_as, refl, shown_position, skip_to_next_token, subst, sym, true, unled, value_of, weakened, went, ℕ, ◌&&◌, ◌++◌, ◌-◌, ◌>>=◌, ◌||◌, ◌∙◌, ◌∷◌, ◌≡◌, ◌≤◌, eqb-true, nat_tests}
 use Rattle.defs_token.specs.Account.{Account as PieceAccount}
 use Rattle.model_scanner.specs.Machine as machine
 use Rattle.proof_lexers.specs.PlainEnds as plains
@@ -12,15 +12,15 @@ use Rattle.proof_scanner.proofs.Cut.Scalars.{adjacent_quoted}
 use Rattle.proof_scanner.proofs.Cut.Nodes.{IsDeep}
 use Rattle.proof_lexers.proofs.Bridges.{or_false}
 use Rattle.proof_scanner.proofs.Sound.Standing.{deep_for}
-use Rattle.proof_scanner.proofs.Sound.Sides.{with_entries, ArrivesBy}
-use Rattle.proof_scanner.proofs.Sound.Arrivals.{unbroken, deep_enough}
+use Rattle.proof_scanner.proofs.Sound.Sides.{ArrivesBy}
+use Rattle.proof_scanner.proofs.Sound.Arrivals.{unbroken}
 use Rattle.proof_scanner.proofs.Sound.LastLines.{break_append}
 use Rattle.proof_scanner.proofs.Sound.Skips.{IsAt, IsLeast, Cleared, skip_clears}
 use Rattle.proof_scanner.proofs.Sound.Passed.{Exact, exact, same_has_break, least_is}
 use Rattle.proof_scanner.proofs.Sound.QuotedEnds.{ends_in_line, on_one_line, Checked, quoted_checked}
 use Rattle.proof_scanner.proofs.Sound.QuotedBreaks.{same_limit}
 use Rattle.proof_scanner.proofs.Refusals.QuotedLines.{body_read}
-use Rattle.proof_scanner.proofs.Sound.ReadNodes.{Read, next_of, state_after, site_of, site_then, allowed_past, IsRead, node_read}
+use Rattle.proof_scanner.proofs.Sound.ReadNodes.{Read, next_of, state_after, site_of, site_then, IsRead, node_read}
 use Rattle.proof_scanner.proofs.Sound.Rolled.{some_levels}
 
 -- What a function has read of a node where a piece begins, and what it leaves.
@@ -43,15 +43,12 @@ pub record QuotedAs (single : Bool) (ctx : Context) (p : Position) (text : List 
   pub end_is : x.position ≡ position_after p (piece_of single body) x.rest
   pub fits : quoted_lines_fit (ctx.indent - 1) (element_of single) (piece_of single body) ≡ true
 
-whole : (q : ℕ) (body rest : List ℕ) → q ∷ (body ++ q ∷ rest) ≡ (q ∷ (body ++ q ∷ [])) ++ rest
-whole q body rest = ap (λ l. q ∷ l) (sym (append_assoc body (q ∷ []) rest))
-
 pub quoted_as : (quotes : Quotes) (ctx : Context) (p : Position) (more : List ℕ) (x : machine.Read (List ℕ)) → has_no_nul more ≡ true → quoted (are_single quotes) ctx (quote_of (are_single quotes) ∷ more) p ≡ Ok x → QuotedAs (are_single quotes) ctx p (quote_of (are_single quotes) ∷ more) x
 quoted_as quotes ctx p more x none e =
     let q : IsQuotedRead (are_single quotes) more x = read_as e (scans_end (are_single quotes) ctx more p (some_chars more none)) in
     let there = body_read (are_single quotes) ctx p (ctx.indent - 1) (λ k. same_limit k ctx.indent) q.body x (subst (λ l. list_all is_some l ≡ true) q.is_text (some_chars more none))
     (ap (λ l. quoted (are_single quotes) ctx (quote_of (are_single quotes) ∷ l) p) (sym q.is_text) ∙ e) in
-    let all : quote_of (are_single quotes) ∷ more ≡ piece_of (are_single quotes) q.body ++ x.rest = ap (λ l. quote_of (are_single quotes) ∷ l) q.is_text ∙ whole (quote_of (are_single quotes)) q.body x.rest in
+    let all : quote_of (are_single quotes) ∷ more ≡ piece_of (are_single quotes) q.body ++ x.rest = ap (λ l. quote_of (are_single quotes) ∷ l) q.is_text ∙ (ap (λ l. (quote_of (are_single quotes)) ∷ l) (sym (append_assoc q.body ((quote_of (are_single quotes)) ∷ []) x.rest))) in
     record {
       body = q.body;
       value_is = q.is_value;
@@ -64,11 +61,8 @@ quoted_as quotes ctx p more x none e =
 -- a quote is no break
 pub in_line : (single : Bool) (body : List ℕ) → ends_in_line (piece_of single body) ≡ true
 unfolding is_break
-in_line single body = last (quote_of single) (quote_of single) body (no_break single)
+in_line single body = last (quote_of single) (quote_of single) body (grind arith)
   where
-    no_break : (b : Bool) → not (is_break (quote_of b)) ≡ true
-    no_break a = grind arith
-
     last : (c q : ℕ) (r : List ℕ) → not (is_break q) ≡ true → ends_in_line (c ∷ (r ++ q ∷ [])) ≡ true
     last c q [] h = h
     last c q (d ∷ r) h = last d q r h
@@ -86,26 +80,8 @@ pub record IsQuotedToken (single : Bool) (tok : Tok) : Type 0 where
   pub precedes : (fl : Bool) (bs piece next : List ℕ) → may_precede fl bs tok piece next ≡ quoted_may_end fl piece next
   pub awaits : (fl : Bool) (bs : List ℕ) (b : Bool) (next : List ℕ) → awaits_past fl tok bs b next ≡ b
 
-pub quoted_token : (quotes : Quotes) (text : List ℕ) → IsQuotedToken (are_single quotes) (Tok.scalar (quoted_style quotes) text)
-quoted_token a b = grind arith
-
 piece_is : (a : PieceAccount) (quotes : Quotes) (body next value : List ℕ) → value_of (are_single quotes) body ≡ Some value → ends_before (are_single quotes) next ≡ true → IsPiece a (piece_of (are_single quotes) body) next None a.position (Tok.scalar (quoted_style quotes) value)
 piece_is a b d e g is i = grind (arith, not-true, begins_with)
-
--- ---- levels of indentation
-
--- the least column is one less than the indentation
-pub least_is_less : (i : ℕ) (ds : List Indent) → AreLevels i ds → least_column (columns i ds) (has_open_level ds) ≡ i - 1
-least_is_less i a b = grind arith
-
--- ---- TABs after it
-
-pub empty_end : (r : List ℕ) → is_empty r ≡ true → is_at_comment_or_end r ≡ true
-empty_end a h = grind arith
-
--- no TAB indents what comes next, by what is known of the line
-spaced_by : (least : ℕ) (bs : List ℕ) (aw : Bool) (gap : List ℕ) → least_column bs aw ≡ least → (begins_line quoted_scalar gap ≡ true → has_tab_within least (last_line gap) ≡ false) → is_indented_by_spaces quoted_scalar bs aw gap ≡ true
-spaced_by least bs aw gap e h = grind (arith, or_false)
 
 -- ---- the step
 
@@ -127,7 +103,7 @@ module _ (text : List ℕ) (quotes : Quotes) (t : ScannerState) (a : Arrives tex
   least = least_column (columns t.held.indent t.held.indents) (has_open_level t.held.indents)
 
   k : IsQuotedToken (are_single quotes) tok
-  k = quoted_token quotes x.value
+  k = grind arith
 
   pub rest_is_clean : has_no_nul x.rest ≡ true
   rest_is_clean = no_nul_after piece x.rest (subst (λ r. has_no_nul r ≡ true) q.cut a.is_clean)
@@ -139,18 +115,10 @@ module _ (text : List ℕ) (quotes : Quotes) (t : ScannerState) (a : Arrives tex
     no_break : has_break spaces ≡ false
     no_break = sym (same_has_break spaces) ∙ c.spaces.no_break
 
-    none : has_break spaces ≡ true → ⊥
-    none h = cc (h, no_break)
-
-    pub start_at : IsAt quoted_scalar least spaces v.held
-    start_at = record { leading_is = λ i. ap (λ h. h.leading) c.spaces.is_held ∙ sym no_break; col_is = λ b. absurd (none b); spaced = λ b. absurd (none b) }
-
-    pub start_least : IsLeast quoted_scalar least v.held
-    start_least = subst (λ h. IsLeast quoted_scalar least h) (sym c.spaces.is_held) (least_is (columns t.held.indent t.held.indents) (has_open_level t.held.indents) now refl refl a.are_levels)
-
     skipped : Holds (Cleared quoted_scalar least spaces v.rest) (skip_to_next_token v)
     unfolding skip_to_next_token
-    skipped = skip_clears quoted_scalar least v.rest between spaces v.held start_least (inr start_at)
+    skipped = skip_clears quoted_scalar least v.rest between spaces v.held (subst (λ h. IsLeast quoted_scalar least h) (sym c.spaces.is_held) (least_is (columns t.held.indent t.held.indents) (has_open_level t.held.indents) now refl refl a.are_levels))
+        (inr (record { leading_is = λ i. ap (λ h. h.leading) c.spaces.is_held ∙ sym no_break; col_is = λ b. absurd (cc (b, no_break)); spaced = λ b. absurd (cc (b, no_break)) }))
 
     module _ (w : ScannerState) (b : Exact v w) (z : Cleared quoted_scalar least spaces v.rest w) where
       abbrev gap : List ℕ
@@ -162,27 +130,14 @@ module _ (text : List ℕ) (quotes : Quotes) (t : ScannerState) (a : Arrives tex
       abbrev allowed_then : Bool
       allowed_then = (not (in_flow t.held) && plains.has_break b.separation) || false
 
-      cut : x.rest ≡ gap ++ w.rest
-      cut = c.spaces.is_rest ∙ (sym (append_assoc c.spaces.blanks c.spaces.comment v.rest) ∙ (ap (λ r. spaces ++ r) b.cut ∙ sym (append_assoc spaces b.separation w.rest)))
-
       held_is : w.held ≡ record closed.held { position = end; leading = b.is_leading; key_allowed = allowed_then }
-      held_is =
-          ap (λ s. s.held) b.is_state ∙
-          (ap (λ h. (after_separation h b.is_leading b.separation w.rest).held) c.spaces.is_held ∙
-          ap (λ p. record closed.held { position = p; leading = b.is_leading; key_allowed = allowed_then })
-          (ap (λ r. position_after (position_after x.position spaces r) b.separation w.rest) b.cut ∙ sym (position_append x.position spaces b.separation w.rest)))
-
-      is_filled : is_separation false gap w.rest ≡ true
-      is_filled = separation_append false spaces b.separation w.rest (subst (λ r. is_separation false spaces r ≡ true) b.cut c.spaces.is_filled) b.is_filled
+      held_is = grind (arith, nat_tests, eqb-true, position_append)
 
       at_token : is_empty w.rest ≡ false → IsAt quoted_scalar least gap w.held
       at_token some = subst (λ g. IsAt quoted_scalar least (spaces ++ g) w.held) (append_cancel_right z.passed b.separation w.rest (sym z.cut ∙ b.cut)) (z.clear some)
 
-      broken : has_break gap ≡ plains.has_break b.separation
-      broken = break_append spaces b.separation ∙ (ap (λ y. y || has_break b.separation) no_break ∙ sym (same_has_break b.separation))
-
       end_is : end ≡ position_after (position_after t.held.position piece (gap ++ w.rest)) gap w.rest
-      end_is = ap (λ p. position_after p gap w.rest) (q.end_is ∙ ap (λ r. position_after t.held.position piece r) cut)
+      end_is = ap (λ p. position_after p gap w.rest) (q.end_is ∙ ap (λ r. position_after t.held.position piece r) (c.spaces.is_rest ∙ (sym (append_assoc c.spaces.blanks c.spaces.comment v.rest) ∙ (ap (λ r. spaces ++ r) b.cut ∙ sym (append_assoc spaces b.separation w.rest)))))
 
       abbrev d : Read
       d = record {
@@ -197,9 +152,6 @@ module _ (text : List ℕ) (quotes : Quotes) (t : ScannerState) (a : Arrives tex
         allowed = allowed_then;
         adjacent = end.index;
       }
-
-      allowed_by : (fl : Bool) → ((not fl && plains.has_break b.separation) || false) ≡ allowed_past None fl quoted_scalar gap
-      allowed_by a = grind (arith, or_false, broken)
 
       leads : is_empty t.held.indents ≡ false → is_empty w.rest ≡ false → b.is_leading ≡ has_break gap
       leads i some = sym (ap (λ h. h.leading) held_is) ∙ (at_token some).leading_is (ap (λ h. is_empty h.indents) held_is ∙ i)
@@ -219,53 +171,31 @@ module _ (text : List ℕ) (quotes : Quotes) (t : ScannerState) (a : Arrives tex
         abbrev fl : Bool
         fl = not (is_empty fs)
 
-        flow_is : in_flow t.held ≡ fl
-        flow_is = ap (λ f. not (is_empty f)) flow
-
-        least_here : least_column at.blocks at.awaits ≡ least
-        least_here = ap (λ bs. least_column bs at.awaits) r.blocks_are ∙ ap (λ y. least_column (columns t.held.indent t.held.indents) y) r.awaits_is
-
-        awaits_then : awaits_past fl tok at.blocks at.awaits (next_of d) ≡ at.awaits
-        awaits_then = k.awaits fl at.blocks at.awaits (next_of d)
-
         no_tabs : HasNoTabs (site_then t fs r.site d) gap w.rest
-        no_tabs = by (is_empty w.rest) refl
-          where
-            by : (y : Bool) → is_empty w.rest ≡ y → HasNoTabs (site_then t fs r.site d) gap w.rest
-            by true e = inl (empty_end w.rest e)
-            by false e =
-                inr (subst (λ y. is_indented_by_spaces y at.blocks (awaits_past fl tok at.blocks at.awaits (next_of d)) gap ≡ true) (sym k.before)
-                (spaced_by least at.blocks (awaits_past fl tok at.blocks at.awaits (next_of d)) gap (ap (λ y. least_column at.blocks y) awaits_then ∙ least_here) (at_token e).spaced))
+        no_tabs = grind (arith, nat_tests, eqb-true, k, or_false, (k.awaits fl at.blocks at.awaits (next_of d)), (ap (λ bs. least_column bs at.awaits) r.blocks_are ∙ ap (λ y. least_column (columns t.held.indent t.held.indents) y) r.awaits_is), at_token)
 
         is_read : IsRead t None fs r.site r.line es r.separation d
-        is_read = record {
-          reads = record {
-            is_solid = refl;
-            cut = q.cut ∙ ap (λ y. piece ++ y) cut;
-            is_rest = refl;
-            is_filled = is_filled;
-            position_is = end_is;
-            blocks_are = r.blocks_are;
-            awaits_is = awaits_then ∙ r.awaits_is;
-            are_levels = a.are_levels;
-            has_no_tabs = no_tabs;
-            is_leading = λ some more hash. subst (λ y. b.is_leading ≡ begins_line y gap) (sym k.before) (leads (some_levels t.held.indent t.held.indents (ap is_empty (sym r.blocks_are) ∙ some)) more);
-            read_on = subst (λ y. IsReadOn y (site_then t fs r.site d).position gap w.rest) (sym k.before) tt;
-            was_adjacent = λ inside. subst (λ y. IsAdjacent (before_past (before_by y) gap) end end.index w.rest) (sym k.before) (adjacent_quoted end w.rest gap b.solid);
-            adjacent_before = omega arith;
-            unchanged = (refl, refl);
-          };
-          act = k.act;
-          begun = k.begun;
-          is_begun = tt;
-          shown = λ s. k.shown s piece (next_of d);
-          is_piece = piece_is (seen (with_entries r.site r.line es) at r.separation) quotes q.body (next_of d) x.value q.value_is (subst (λ y. ends_before (are_single quotes) y ≡ true) cut q.ends);
-          is_deep = deep_for fl tok at (k.least at) (ap (λ y. nat_le y t.held.position.col) least_here ∙ deep_enough t.held.position.col t.held.indent t.held.indents a.are_levels deep);
-          lines_stand = k.lines (least_for tok at) piece ∙ (ap (λ y. quoted_lines_fit y (element_of (are_single quotes)) piece) (k.least at ∙ (least_here ∙ least_is_less t.held.indent t.held.indents a.are_levels)) ∙ q.fits);
-          precedes = k.precedes fl at.blocks piece (next_of d) ∙ (ap (λ y. quoted_may_end y piece (next_of d)) (sym flow_is) ∙ (ap (λ y. quoted_may_end (in_flow t.held) piece y) (sym cut) ∙ c.may_end));
-          allowed_is = ap (λ f. (not f && plains.has_break b.separation) || false) flow_is ∙ (allowed_by fl ∙ ap (λ y. allowed_past None fl y gap) (sym k.before));
-          one_line = λ some h. ((one_line_of some h).0, subst (λ y. begins_free_line y gap ≡ false) (sym k.before) (one_line_of some h).1);
-        }
+        is_read = grind (
+          arith,
+          nat_tests,
+          eqb-true,
+          (c.spaces.is_rest ∙ (sym (append_assoc c.spaces.blanks c.spaces.comment v.rest) ∙ (ap (λ r. spaces ++ r) b.cut ∙ sym (append_assoc spaces b.separation w.rest)))),
+          (separation_append false spaces b.separation w.rest (subst (λ r. is_separation false spaces r ≡ true) b.cut c.spaces.is_filled) b.is_filled),
+          end_is,
+          (k.awaits fl at.blocks at.awaits (next_of d)),
+          no_tabs,
+          k,
+          leads,
+          some_levels,
+          adjacent_quoted,
+          piece_is,
+          deep_for,
+          (ap (λ bs. least_column bs at.awaits) r.blocks_are ∙ ap (λ y. least_column (columns t.held.indent t.held.indents) y) r.awaits_is),
+          (ap (λ f. not (is_empty f)) flow),
+          or_false,
+          (break_append spaces b.separation ∙ (ap (λ y. y || has_break b.separation) no_break ∙ sym (same_has_break b.separation))),
+          one_line_of,
+        )
 
       node : ReadNode text t (on_held (λ s. push t.held.position tok (adjacent_here s)) w)
       node = record {
@@ -286,19 +216,12 @@ pub quoted_node : (text : List ℕ) (quotes : Quotes) (t : ScannerState) (more :
 unfolding fetch_flow_scalar
 quoted_node text quotes t more e deep a =
     subst (λ h. Holds (ReadNode text t) (lexed (quoted (are_single quotes) (context (allow_key false h)) t.rest t.held.position) (allow_key false h) (after_body quotes t))) (sym (saved_is t.held))
-    (read (allow_key false (record t.held { keys = saved_keys t.held })) (quoted (are_single quotes) (context t.held) t.rest t.held.position) (after_body quotes t) (λ x i. by x (read_as x i)))
+    (read (allow_key false (record t.held { keys = saved_keys t.held })) (quoted (are_single quotes) (context t.held) t.rest t.held.position) (after_body quotes t)
+    (λ x i. (chained (quoted_checked t.held.position (piece_of (are_single quotes) (read_as x i).body) (closed text quotes t a deep x (read_as x i)) (in_line (are_single quotes) (read_as x i).body) (rest_is_clean text quotes t a deep x (read_as x i)) (read_as x i).end_is)
+    (λ v c. chained (both_hold (exact v) (skipped text quotes t a deep x (read_as x i) v c)) (λ w z. went (node text quotes t a deep x (read_as x i) v c w z.0 z.1))))))
   where
-    more_clean : has_no_nul more ≡ true
-    more_clean = (and_parts (not (is_nul (quote_of (are_single quotes)))) (has_no_nul more) (subst (λ r. has_no_nul r ≡ true) e a.is_clean)).1
-
     read_as : (x : machine.Read (List ℕ)) → quoted (are_single quotes) (context t.held) t.rest t.held.position ≡ Ok x → QuotedAs (are_single quotes) (context t.held) t.held.position t.rest x
-    read_as x i = subst (λ r. QuotedAs (are_single quotes) (context t.held) t.held.position r x) (sym e) (quoted_as quotes (context t.held) t.held.position more x more_clean (subst (λ r. quoted (are_single quotes) (context t.held) r t.held.position ≡ Ok x) e i))
-
-    by : (x : machine.Read (List ℕ)) → QuotedAs (are_single quotes) (context t.held) t.held.position t.rest x → Holds (ReadNode text t) (after_body quotes t x.value (go_on x (allow_key false (record t.held { keys = saved_keys t.held }))))
-    by x q =
-        chained (quoted_checked t.held.position (piece_of (are_single quotes) q.body) (closed text quotes t a deep x q) (in_line (are_single quotes) q.body) (rest_is_clean text quotes t a deep x q) q.end_is) (λ v c.
-        chained (both_hold (exact v) (skipped text quotes t a deep x q v c)) (λ w z.
-        went (node text quotes t a deep x q v c w z.0 z.1)))
+    read_as x i = subst (λ r. QuotedAs (are_single quotes) (context t.held) t.held.position r x) (sym e) (quoted_as quotes (context t.held) t.held.position more x ((and_parts (not (is_nul (quote_of (are_single quotes)))) (has_no_nul more) (subst (λ r. has_no_nul r ≡ true) e a.is_clean)).1) (subst (λ r. quoted (are_single quotes) (context t.held) r t.held.position ≡ Ok x) e i))
 
 pub quoted_keeps : (text : List ℕ) (quotes : Quotes) (t : ScannerState) (more : List ℕ) → t.rest ≡ quote_of (are_single quotes) ∷ more → IsDeep t.held → Arrives text t → Holds (Stands text) (fetch_flow_scalar quotes t)
 quoted_keeps text quotes t more e deep a = weakened (λ u n. subst (λ y. Stands text y) (sym n.is) (node_read text t None n.read deep a n.known)) (quoted_node text quotes t more e deep a)

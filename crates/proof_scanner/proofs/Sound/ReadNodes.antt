@@ -1,23 +1,23 @@
 -- A part of a node was read where a piece begins, be it an opening bracket or no collection: what holds between two fetches holds after it.
-use Rattle.proof_scanner.proofs.Common.{Account, AreEntries, Arrives, Bool, Entry, FlowLevel, Had, HasHad, HasHadHere, Indent, IsCarriedOn, IsLine, IsLive, IsNear, IsOpenOutside, IsPairOf, IsPiece, Key, KnowsKey, Line, List, MayChoose, None, NotBefore, Option, Outside, Position, Previous, ScannerState, Site, SoFar, Some, Stands, Step, Tok, Token, [], act_of, ap, arith, begins_free_line, begun_by, chosen, ends_at, entries_by, entry_by, false, first_choice, first_entry, further_lines_stand, gives_node, has_break, inl, inr, is_deep_enough, is_empty, is_in_column, is_renewed, is_separation, least_column, least_for, length, line_by, line_past, may_precede, may_stand, nat_le, no_pair, not, outside_key, pop, position_after, previous_by, put, refl, seen, shown_position, site_at, site_here, site_in, site_past, spelled, subst, sym, taken, tokens_of_step, tokens_up_to, true, with_keys, ℕ, ◌&&◌, ◌++◌, ◌∙◌, ◌∷◌, ◌≡◌, ◌≤◌, ◌⊎◌}
+use Rattle.proof_scanner.proofs.Common.{Account, AreEntries, Arrives, Bool, Entry, FlowLevel, Indent, IsCarriedOn, IsLine, IsNear, IsOpenOutside, IsPairOf, IsPiece, Key, KnowsKey, Line, List, MayChoose, None, NotBefore, Option, Outside, Position, Previous, ScannerState, Site, SoFar, Some, Stands, Step, Tok, Token, [], act_of, ap, arith, begins_free_line, begun_by, chosen, ends_at, entries_by, entry_by, false, first_choice, first_entry, further_lines_stand, gives_node, has_break, inl, inr, is_deep_enough, is_empty, is_in_column, is_renewed, is_separation, least_for, length, line_by, line_past, may_precede, may_stand, no_pair, not, outside_key, pop, position_after, previous_by, put, refl, seen, shown_position, site_at, site_here, site_in, site_past, spelled, subst, sym, taken, tokens_of_step, tokens_up_to, true, with_keys, ℕ, ◌&&◌, ◌++◌, ◌∙◌, ◌∷◌, ◌≡◌, ◌≤◌, ◌⊎◌, eqb-true, nat_tests}
 use Rattle.proof_scanner.proofs.Cut.Saved.{saved_keys}
 use Rattle.proof_scanner.proofs.Cut.Nodes.{IsDeep}
 use Rattle.proof_scanner.proofs.Known.Read.{knows_saved}
 use Rattle.proof_scanner.proofs.Known.Steps.{is_of_node}
 use Rattle.proof_scanner.proofs.Sound.Inserts.{among}
-use Rattle.proof_scanner.proofs.Sound.NodeSteps.{saved, choice_before, had_past_node, entry_past_node, bit_of, node_in_entry}
-use Rattle.proof_scanner.proofs.Sound.NodesOutside.{AreSame, idle_by, line_after_node, node_tokens as node_outer_tokens}
+use Rattle.proof_scanner.proofs.Sound.NodeSteps.{saved, choice_before, entry_past_node, bit_of, node_in_entry}
+use Rattle.proof_scanner.proofs.Sound.NodesOutside.{AreSame, line_after_node, node_tokens as node_outer_tokens}
 use Rattle.proof_scanner.proofs.Sound.OutOfFlow as out
 use Rattle.proof_scanner.proofs.Sound.OutOfFlow.{Outer}
 use Rattle.proof_scanner.proofs.Sound.Around.{line_taken, tokens_before}
 use Rattle.proof_scanner.proofs.Sound.KeyStarts.{new_key, keys_saved, numbered_inside, entry_kept}
 use Rattle.proof_scanner.proofs.Sound.Outsides.{must_be_here, numbered_past, unbroken_node, one_node, taken_node, may_node, line_node, same_node, open_node}
 use Rattle.proof_scanner.proofs.Sound.Sides.{with_entries, ArrivesBy, ArrivesOutside, ArrivesInside, arrives_side}
-use Rattle.proof_scanner.proofs.Sound.Arrivals.{some_rest, completes_at, deep_enough}
+use Rattle.proof_scanner.proofs.Sound.Arrivals.{some_rest, completes_at}
 use Rattle.proof_scanner.proofs.Sound.InFlow as flow
 use Rattle.proof_scanner.proofs.Cut.Positions.{not_before_then, not_before_after, after_piece}
-use Rattle.proof_scanner.proofs.Sound.Begun.{with_begun, with_no_key, choices_around, begun_before, begun_chosen, begun_alone, levels_by, begun_around, begun_each, begun_numbered}
-use Rattle.proof_scanner.proofs.Sound.NodeTokens.{not_keyed, past_step}
+use Rattle.proof_scanner.proofs.Sound.Begun.{with_begun, with_no_key, choices_around, levels_by, begun_numbered}
+use Rattle.proof_scanner.proofs.Sound.NodeTokens.{past_step}
 use Rattle.proof_scanner.proofs.Sound.NodesInside.{node_tokens}
 use Rattle.proof_scanner.proofs.Sound.Reads.{Reads, stands_so}
 use Rattle.proof_scanner.specs.StandsInRow.{kind_of}
@@ -89,10 +89,6 @@ pub record IsRead (t : ScannerState) (level : Option FlowLevel) (fs : List FlowL
   pub allowed_is : d.allowed ≡ allowed_past level (not (is_empty fs)) (previous_by d.tok) d.gap
   pub one_line : is_empty d.rest ≡ false → d.end.line ≤ t.held.position.line → (has_break d.piece ≡ false) × (begins_free_line (previous_by d.tok) d.gap ≡ false)
 
--- a piece that is deep enough is in the least column or deeper
-pub deep_there : (text : List ℕ) (t : ScannerState) (fs : List FlowLevel) (ks : List (Option Key)) (es : List Entry) (a : ArrivesBy text t fs ks es) → IsDeep t.held → nat_le (least_column (site_of t fs a.site).blocks (site_of t fs a.site).awaits) t.held.position.col ≡ true
-deep_there text t fs ks es a deep = rw (a.blocks_are, a.awaits_is) (deep_enough t.held.position.col t.held.indent t.held.indents a.are_levels deep)
-
 module _ (text : List ℕ) (t : ScannerState) (level : Option FlowLevel) (fs : List FlowLevel) (ks : List (Option Key)) (es : List Entry) (a : ArrivesBy text t fs ks es) (d : Read) (r : IsRead t level fs a.site a.line es a.separation d) where
   -- the position here, from the last piece
   here_is : t.held.position ≡ position_after a.site.position a.separation (d.piece ++ next_of d)
@@ -102,9 +98,7 @@ module _ (text : List ℕ) (t : ScannerState) (level : Option FlowLevel) (fs : L
   some_here = some_rest t.rest d.piece (next_of d) r.reads.cut r.reads.is_solid
 
   before_end : NotBefore t.held.position d.end
-  before_end = subst (λ x. NotBefore t.held.position x) (sym r.reads.position_is)
-      (not_before_then t.held.position (position_after t.held.position d.piece (next_of d)) (position_after (position_after t.held.position d.piece (next_of d)) d.gap d.rest)
-      (not_before_after t.held.position d.piece (next_of d)) (not_before_after (position_after t.held.position d.piece (next_of d)) d.gap d.rest))
+  before_end = grind (arith, nat_tests, eqb-true, not_before_then, not_before_after)
 
   stands_here : may_stand (not (is_empty fs)) a.site (site_of t fs a.site) a.separation d.piece d.tok (next_of d) ≡ true
   stands_here = rw (a.is_indented some_here, r.is_deep, r.lines_stand, r.precedes) refl
@@ -145,12 +139,6 @@ module _ (text : List ℕ) (t : ScannerState) (level : Option FlowLevel) (k : Op
   same_site : site_at false a.site a.separation d.piece d.tok (next_of d) ≡ x
   same_site = ap (λ y. site_in false y (position_after a.site.position a.separation (d.piece ++ next_of d)) a.site) r.act ∙ ap (λ p. site_here false p a.site) (sym place)
 
-  piece_is : IsPiece (seen (with_entries a.site a.line []) x a.separation) d.piece (next_of d) None (shown_position x d.piece d.tok (next_of d)) d.tok
-  piece_is = subst (λ p. IsPiece (seen (with_entries a.site a.line []) x a.separation) d.piece (next_of d) None p d.tok) (sym (r.shown x)) r.is_piece
-
-  is_filled : is_separation false a.separation (d.piece ++ next_of d) ≡ true
-  is_filled = subst (λ y. is_separation false a.separation y ≡ true) r.reads.cut a.is_filled
-
   -- what may begin at it and after it, by a choice after it
   abbrev line_of : Bool → Line → Line
   line_of c l = line_by (choice_before t.held.key_allowed c) k l
@@ -160,15 +148,15 @@ module _ (text : List ℕ) (t : ScannerState) (level : Option FlowLevel) (k : Op
 
   goes : (strict c : Bool) → MayChoose strict c key_then d.end d.rest → out.Goes text a.site a.separation d.piece (next_of d) d.tok x same_site strict (bit_of t.held.key_allowed c) (line_of c a.line) (line_of c a.line_here) (after_by c)
   goes strict c may = record {
-    is_filled = is_filled;
+    is_filled = subst (λ y. is_separation false a.separation y ≡ true) r.reads.cut a.is_filled;
     is_solid = r.reads.is_solid;
-    is_piece = piece_is;
+    is_piece = subst (λ p. IsPiece (seen (with_entries a.site a.line []) x a.separation) d.piece (next_of d) None p d.tok) (sym (r.shown x)) r.is_piece;
     stands = stands_here text t level [] (k ∷ []) [] a d r;
     line_is = unbroken_node text t k a within deep some d.end d.rest later strict c may;
     after_is = ap (λ y. line_past (strict && is_in_column x.position.col x.blocks) x.position x.blocks y (bit_of t.held.key_allowed c) (line_of c a.line_here)) r.act ∙
         line_after_node strict (is_in_column x.position.col x.blocks) t.held.key_allowed c k (new_key t) a.line_here t.held.position d.end x.blocks d.rest (line_node text t k a within deep some d.end d.rest later) refl (must_be_here text t k a within deep) may;
     in_line = one_node text t k a within deep some d.end d.rest later d.piece (λ x y. (r.one_line x y).0) strict c may;
-    idle = λ s. idle_by c key_then taken d.end d.rest refl (subst (λ b. MayChoose b c key_then d.end d.rest) s may);
+    idle = λ s. (grind (arith, nat_tests, eqb-true));
   }
 
   tokens_past : (strict c : Bool) → MayChoose strict c key_then d.end d.rest → (ws : List Step) (last : List ℕ) → spelled ws last ≡ next_of d →
@@ -192,16 +180,13 @@ module _ (text : List ℕ) (t : ScannerState) (level : Option FlowLevel) (k : Op
   rows : (strict c : Bool) (cs : List Bool) → MayChoose strict c key_then d.end d.rest → SoFar strict text (next_of d) (chosen c cs keys_then base_then) (tokens_up_to (chosen c cs keys_then base_then) keys_then (t.held.tokens ++ (own ∷ [])))
   rows strict c cs may =
       subst (λ b. SoFar strict text (next_of d) b (tokens_up_to b keys_then (t.held.tokens ++ (own ∷ []))))
-      (ap (λ es. record { site = site_then t [] a.site d; line = line_by c key_then taken; entries = es }) (r.begun ∙ begun_alone level cs (key_then ∷ [])) ∙
-      ap (λ y. record { site = site_then t [] a.site d; line = line_by c y taken; entries = entries_by cs keys_then (with_begun level []) }) (sym (begun_around level [] (key_then ∷ []))))
+      (ap (λ es. record { site = site_then t [] a.site d; line = line_by c key_then taken; entries = es }) (r.begun ∙ (grind arith)) ∙
+      ap (λ y. record { site = site_then t [] a.site d; line = line_by c y taken; entries = entries_by cs keys_then (with_begun level []) }) (sym (grind arith)))
       (out.outer_completes text a.site a.separation d.piece (next_of d) d.tok x same_site strict (bit_of t.held.key_allowed c) (line_of c a.line) (line_of c a.line_here) (after_by c) (tokens_up_to (Outer a.site (line_of c a.line)) (k ∷ []) a.tokens)
       (λ ws last. with_keys 0 (site_then t [] a.site d).position ws last x.blocks (line_by c key_then taken) (begun_by d.tok) keys_then (t.held.tokens ++ (own ∷ []))) (goes strict c may) (tokens_past strict c may)
       (completes_at text t [] (k ∷ []) [] a (d.piece ++ next_of d) (position_after a.site.position a.separation (d.piece ++ next_of d)) r.reads.cut place strict (choice_before t.held.key_allowed c) []
       (subst (λ p. MayChoose strict (choice_before t.held.key_allowed c) k p (d.piece ++ next_of d)) place
       (subst (λ y. MayChoose strict (choice_before t.held.key_allowed c) k t.held.position y) r.reads.cut (may_node text t k a within deep some d.end d.rest later strict c may)))))
-
-  is_open_then : IsOpenOutside key_then (site_then t [] a.site d).position d.end d.rest (site_of t [] a.site).blocks
-  is_open_then = open_node text t k a within deep some d.end d.rest later (site_then t [] a.site d).position (after_piece t.held.position d.piece (next_of d) r.reads.is_solid)
 
   -- where a flow level begins, a key that must be one is on this line
   carried : (lv : Option FlowLevel) → IsBegun lv t d → ((strict c : Bool) (cs : List Bool) → MayChoose strict c key_then d.end d.rest →
@@ -212,10 +197,10 @@ module _ (text : List ℕ) (t : ScannerState) (level : Option FlowLevel) (k : Op
   carried (Some lv) i all cs x is must inner goes = record {
     account = chosen true cs (None ∷ key_then ∷ []) (with_entries (site_then t [] a.site d) taken (first_entry (kind_of lv) ∷ []));
     steps = [];
-    begins = (all true true cs (subst (λ o. MayChoose true true o d.end d.rest) (sym is) is_live)).0;
+    begins = (all true true cs (subst (λ o. MayChoose true true o d.end d.rest) (sym is) (let own_line = key_line t.held.key_allowed is in let stays = i.1 in (omega (arith, stays, own_line), goes)))).0;
     is_inside = refl;
     line_is = ap (λ o. line_by true o taken) is;
-    must_be = sym ((subst (λ o. IsOpenOutside o (site_then t [] a.site d).position d.end d.rest (site_of t [] a.site).blocks) is is_open_then).1 is_live).must_be ∙ must;
+    must_be = sym ((subst (λ o. IsOpenOutside o (site_then t [] a.site d).position d.end d.rest (site_of t [] a.site).blocks) is (open_node text t k a within deep some d.end d.rest later (site_then t [] a.site d).position (after_piece t.held.position d.piece (next_of d) r.reads.is_solid))).1 (let own_line = key_line t.held.key_allowed is in let stays = i.1 in (omega (arith, stays, own_line), goes))).must_be ∙ must;
     leads = ap (λ l. with_entries (site_then t [] a.site d) l (entries_by cs (None ∷ key_then ∷ []) (first_entry (kind_of lv) ∷ []))) (sym (ap (λ o. line_by false o taken) is));
   }
     where
@@ -223,28 +208,28 @@ module _ (text : List ℕ) (t : ScannerState) (level : Option FlowLevel) (k : Op
       key_line true e = let same : new_key t ≡ x = cc e in subst (λ z. t.held.position.line ≤ z.position.line) same (omega arith)
       key_line false e = (subst (λ o. IsNear o t.held.position) e (a.is_near refl)).0
 
-      is_live : IsLive x d.end d.rest
-      is_live = let own_line = key_line t.held.key_allowed is in let stays = i.1 in (omega (arith, stays, own_line), goes)
-
-  line_then : (lv : Option FlowLevel) → d.allowed ≡ allowed_past lv false (previous_by d.tok) d.gap → IsLine (not (is_empty (levels_by lv []))) d.allowed (begins_free_line (previous_by d.tok) d.gap) d.end d.rest key_then taken
-  line_then lv e = grind (arith, taken_node text t k a within deep some d.end d.rest later d.allowed, r.one_line)
-
   node_outside : t.held.keys ≡ k ∷ [] → KnowsKey text (a.separation ++ t.rest) t.held.position k → Stands text (state_after t level d)
   node_outside keys known =
-      let same : outside_key (with_begun level []) keys_then ≡ key_then = begun_around level [] (key_then ∷ []) in
+      let same : outside_key (with_begun level []) keys_then ≡ key_then = (grind arith) in
       stands_so text t (state_after t level d) d.piece (next_of d) d.gap (levels_by level []) keys_then base_then a.is_clean a.started a.going r.reads (record {
         flow_is = ap (levels_by level) within;
         keys_are = ap (with_no_key level) (keys_saved t k [] keys);
-        one_each = begun_each level [] (key_then ∷ []) refl;
+        one_each = grind arith;
         are_entries = entries_outside level t d (previous_by d.tok) false r.is_begun r.allowed_is (is_renewed (previous_by d.tok) d.gap) (key_then ∷ []);
-        line_is = subst (λ y. IsLine (not (is_empty (levels_by level []))) d.allowed (begins_free_line (previous_by d.tok) d.gap) d.end d.rest y taken) (sym same) (line_then level r.allowed_is);
-        is_open = subst (λ y. IsOpenOutside y (site_then t [] a.site d).position d.end d.rest (site_of t [] a.site).blocks) (sym same) is_open_then;
+        line_is = subst (λ y. IsLine (not (is_empty (levels_by level []))) d.allowed (begins_free_line (previous_by d.tok) d.gap) d.end d.rest y taken) (sym same) (grind (arith, taken_node text t k a within deep some d.end d.rest later d.allowed, r.one_line));
+        is_open = subst (λ y. IsOpenOutside y (site_then t [] a.site d).position d.end d.rest (site_of t [] a.site).blocks) (sym same) (open_node text t k a within deep some d.end d.rest later (site_then t [] a.site d).position (after_piece t.held.position d.piece (next_of d) r.reads.is_solid));
         no_key = refl;
         are_numbered = begun_numbered level (length (t.held.tokens ++ (own ∷ []))) (key_then ∷ []) (numbered_past text t k a within deep own t.held.key_allowed);
         carries = carried level r.is_begun rows;
         knows = subst (λ y. KnowsKey text (next_of d) d.end y) (sym same)
-            (knows_saved text t d.piece (next_of d) d.tok r.reads.cut d.end d.gap d.rest r.reads.position_is refl k a
-            (is_filled, (ap not r.reads.is_solid, subst (λ y. IsPiece (seen (with_entries a.site a.line []) y a.separation) d.piece (next_of d) None (shown_position y d.piece d.tok (next_of d)) d.tok) (sym same_site) piece_is)) within deep (ap is_of_node r.act) known);
+            (knows_saved text t d.piece (next_of d) d.tok r.reads.cut d.end d.gap d.rest r.reads.position_is refl k a (
+              (subst (λ y. is_separation false a.separation y ≡ true) r.reads.cut a.is_filled),
+              (
+                ap not r.reads.is_solid,
+                subst (λ y. IsPiece (seen (with_entries a.site a.line []) y a.separation) d.piece (next_of d) None (shown_position y d.piece d.tok (next_of d)) d.tok) (sym same_site)
+                    (subst (λ p. IsPiece (seen (with_entries a.site a.line []) x a.separation) d.piece (next_of d) None p d.tok) (sym (r.shown x)) r.is_piece),
+              ),
+            ) within deep (ap is_of_node r.act) known);
         completes = λ strict c cs may. rows strict c cs (subst (λ y. MayChoose strict c y d.end d.rest) same may);
       })
 
@@ -258,20 +243,10 @@ module _ (text : List ℕ) (t : ScannerState) (level : Option FlowLevel) (f : Fl
   abbrev shown_token : Token
   shown_token = put t.held.position d.tok
 
-  -- what the entry has had
-  had_past : (b : Bool) (y : Option Key) (h : Had) → HasHadHere b (is_renewed a.site.before a.separation) y h → HasHad (saved b (new_key t) y) (had_past_node b h)
-  had_past b y h p = grind arith
-
-  had_then : (b : Bool) (y : Option Key) (h : Had) → HasHadHere b (is_renewed a.site.before a.separation) y h → d.allowed ≡ is_renewed (previous_by d.tok) d.gap → HasHadHere d.allowed (is_renewed (previous_by d.tok) d.gap) (saved b (new_key t) y) (had_past_node b h)
-  had_then b y h p i = grind arith
-
   entries_then : (lv : Option FlowLevel) → IsBegun lv t d → d.allowed ≡ allowed_past lv true (previous_by d.tok) d.gap →
       AreEntries d.allowed (is_renewed (previous_by d.tok) d.gap) (levels_by lv (f ∷ fs)) (with_no_key lv (key_past ∷ ks)) (with_begun lv (entry_past_node t.held.key_allowed e ∷ es))
-  entries_then None i h = (entry_kept t f fs k e within t.held.key_allowed a.are_entries.0, had_then t.held.key_allowed k e.had a.are_entries.1 h, a.are_entries.2)
-  entries_then (Some lv) i h = (record { kind_is = refl; pair_is = i.0; key_is = tt }, (inl refl, h), (entry_kept t f fs k e within t.held.key_allowed a.are_entries.0, had_past t.held.key_allowed k e.had a.are_entries.1, a.are_entries.2))
-
-  line_within : (lv : Option FlowLevel) (y : Option Key) → IsLine (not (is_empty (levels_by lv (f ∷ fs)))) d.allowed (begins_free_line (previous_by d.tok) d.gap) d.end d.rest y a.line
-  line_within lv y = grind (arith, line_taken text t f fs k ks e es a)
+  entries_then None i h = (entry_kept t f fs k e within t.held.key_allowed a.are_entries.0, grind arith, a.are_entries.2)
+  entries_then (Some lv) i h = (record { kind_is = refl; pair_is = i.0; key_is = tt }, (inl refl, h), (entry_kept t f fs k e within t.held.key_allowed a.are_entries.0, grind arith, a.are_entries.2))
 
   node_inside : t.held.keys ≡ k ∷ ks → Stands text (state_after t level d)
   node_inside keys =
@@ -280,10 +255,10 @@ module _ (text : List ℕ) (t : ScannerState) (level : Option FlowLevel) (f : Fl
       flow.steps_in_flow text t (state_after t level d) f fs k ks e es a d.piece (next_of d) d.tok (with_no_key level (key_past ∷ ks)) (with_begun level (n ∷ es)) (levels_by level (f ∷ fs)) d.gap r.reads (record {
         flow_is = ap (levels_by level) within;
         keys_are = ap (with_no_key level) (keys_saved t k ks keys);
-        one_each = begun_each level (f ∷ fs) (key_past ∷ ks) a.one_each;
-        same_key = begun_around level (n ∷ es) (key_past ∷ ks);
+        one_each = grind arith;
+        same_key = grind arith;
         are_entries = entries_then level r.is_begun r.allowed_is;
-        line_is = line_within level (outside_key (with_begun level (n ∷ es)) (with_no_key level (key_past ∷ ks)));
+        line_is = grind (arith, line_taken text t f fs k ks e es a);
         are_numbered = begun_numbered level (length (t.held.tokens ++ (shown_token ∷ []))) (key_past ∷ ks) (numbered_inside t a.tokens k ks shown_token (tokens_before text t f fs k ks e es a) a.are_numbered t.held.key_allowed);
         in_line = λ x y. (r.one_line x y).0;
       }) (record {
@@ -293,7 +268,7 @@ module _ (text : List ℕ) (t : ScannerState) (level : Option FlowLevel) (f : Fl
         outer = λ cs. pop (choices_around level cs);
         bit = λ cs. bit_of t.held.key_allowed (first_choice (choices_around level cs));
         entry_past = λ cs. rw (r.act, r.begun) (node_in_entry (is_renewed a.site.before a.separation) t.held.key_allowed (first_choice (choices_around level cs)) k (new_key t) e t.held.position (with_begun level []) (entries_by (pop (choices_around level cs)) ks es) a.are_entries.1 refl ∙
-            ap (λ xs. Some xs) (begun_before level (entry_by (first_choice (choices_around level cs)) key_past n ∷ entries_by (pop (choices_around level cs)) ks es) ∙ begun_chosen level cs key_past ks n es));
+            ap (λ xs. Some xs) (grind arith));
         tokens_are = λ cs l ws last h.
             let c : Bool = first_choice (choices_around level cs) in
             let xs : List Entry = entries_by (pop (choices_around level cs)) ks es in
@@ -301,10 +276,10 @@ module _ (text : List ℕ) (t : ScannerState) (level : Option FlowLevel) (f : Fl
             let w : Step = record { separation = a.separation; piece = d.piece; shown = d.tok; key = bit_of t.held.key_allowed c } in
             let own : a.tokens ++ (put (shown_position (at (spelled ws last)) d.piece d.tok (spelled ws last)) d.tok ∷ []) ≡ t.held.tokens ++ (shown_token ∷ []) =
             ap (λ y. a.tokens ++ (put (shown_position (at y) d.piece d.tok y) d.tok ∷ [])) h ∙ (ap (λ p. a.tokens ++ (put p d.tok ∷ [])) (r.shown (at (next_of d)) ∙ sym place) ∙ ap (λ ts. ts ++ (shown_token ∷ [])) (sym (tokens_before text t f fs k ks e es a))) in
-            node_tokens level a.site a.separation d.piece d.tok t.held.key_allowed c k (new_key t) e xs ks a.tokens l ws last r.act r.begun (not_keyed t.held.key_allowed (is_renewed a.site.before a.separation) k e.had a.are_entries.1)
+            node_tokens level a.site a.separation d.piece d.tok t.held.key_allowed c k (new_key t) e xs ks a.tokens l ws last r.act r.begun (grind arith)
             (ap length (tokens_before text t f fs k ks e es a)) (among (length a.tokens) (k ∷ ks) a.are_numbered) (place ∙ ap (λ y. position_after a.site.position a.separation (d.piece ++ y)) (sym h)) ∙
             (ap (λ ts. with_keys 0 (past_step a.site.position w ws last) ws last a.site.blocks l (with_begun level (entry_by c key_past n ∷ xs)) (with_no_key level (key_past ∷ ks)) ts) own ∙
-            ap (λ ys. with_keys 0 (past_step a.site.position w ws last) ws last a.site.blocks l ys (with_no_key level (key_past ∷ ks)) (t.held.tokens ++ (shown_token ∷ []))) (begun_chosen level cs key_past ks n es));
+            ap (λ ys. with_keys 0 (past_step a.site.position w ws last) ws last a.site.blocks l ys (with_no_key level (key_past ∷ ks)) (t.held.tokens ++ (shown_token ∷ []))) (grind arith));
       })
 
 -- ---- both

@@ -1,5 +1,5 @@
 -- What was read from one state to another: a piece at a site, and a separation after it; and what the scanner holds then that no key decides.
-use Rattle.proof_scanner.proofs.Common.{Account, AreEntries, AreLevels, AreNumbered, Before, Bool, FlowLevel, HasNoTabs, IsAdjacent, IsCarriedOn, IsLeading, IsLine, IsOpenOutside, IsReadOn, Key, KnowsKey, List, MayChoose, Option, Position, Previous, ScannerState, Site, SoFar, Stands, another, ap, arith, before_by, before_past, begins_free_line, begins_line, chosen, columns, false, flow_collection, has_no_break, has_no_nul, has_open_level, in_line, inl, inr, is_empty, is_renewed, is_separation, is_waiting, length, no_nul_after, not, other, outside_key, past_is, position_after, refl, subst, suc, sym, tokens_up_to, true, ℕ, ◌++◌, ◌∙◌, ◌≡◌, ◌≤◌, ◌⊎◌}
+use Rattle.proof_scanner.proofs.Common.{Account, AreEntries, AreLevels, AreNumbered, Before, Bool, FlowLevel, HasNoTabs, IsAdjacent, IsCarriedOn, IsLeading, IsLine, IsOpenOutside, IsReadOn, Key, KnowsKey, List, MayChoose, Option, Position, Previous, ScannerState, Site, SoFar, Stands, another, arith, before_by, before_past, begins_free_line, begins_line, chosen, columns, false, flow_collection, has_no_break, has_no_nul, has_open_level, is_empty, is_renewed, is_separation, is_waiting, length, no_nul_after, not, other, outside_key, position_after, suc, tokens_up_to, true, ℕ, ◌++◌, ◌≡◌, ◌≤◌, ◌⊎◌, eqb-true, nat_tests}
 use Rattle.proof_scanner.proofs.Sound.Sides.{stands_by}
 use Rattle.proof_scanner.proofs.Cut.Nodes.{adjacent_other}
 use Rattle.proof_scanner.proofs.Cut.Positions.{index_after}
@@ -39,44 +39,29 @@ pub record StandsThen (text : List ℕ) (u : ScannerState) (gs : List FlowLevel)
 
 pub stands_so : (text : List ℕ) (t u : ScannerState) (piece next gap : List ℕ) (gs : List FlowLevel) (ls : List (Option Key)) (base : Account) → has_no_nul t.rest ≡ true → t.held.started ≡ true → t.held.ended ≡ false →
     Reads t u base.site piece next gap → StandsThen text u gs ls base gap → Stands text u
-stands_so text t u piece next gap gs ls base clean started going r g =
-    let clean_now : has_no_nul u.rest ≡ true = no_nul_after gap u.rest (subst (λ l. has_no_nul l ≡ true) r.is_rest (no_nul_after piece next (subst (λ l. has_no_nul l ≡ true) r.cut clean))) in
-    let adjacent : is_empty gs ≡ false → IsAdjacent (before_past (before_by base.site.before) gap) u.held.position u.held.adjacent_value_at u.rest = λ some. r.was_adjacent (ap is_empty g.flow_is ∙ some) in
-    stands_by text u gs ls base g.flow_is g.keys_are (search (r.is_filled, r, g, clean_now, adjacent, r.unchanged.0 ∙ started, r.unchanged.1 ∙ going))
+stands_so text t u piece next gap gs ls base clean started going r g = grind (arith, nat_tests, eqb-true, no_nul_after, stands_by)
 
 -- ---- what is the same for many pieces
 
 -- The model's place for a colon stays behind the piece, and so no colon stands next to it, unless a quoted scalar or a collection was read.
 pub adjacent_kept : (t u : ScannerState) (before : Before) (piece next gap : List ℕ) → is_empty piece ≡ false → u.held.position ≡ position_after (position_after t.held.position piece next) gap u.rest → t.held.adjacent_value_at ≤ t.held.position.index →
     u.held.adjacent_value_at ≡ t.held.adjacent_value_at → before ≡ other → IsAdjacent (before_past before gap) u.held.position u.held.adjacent_value_at u.rest × (u.held.adjacent_value_at ≤ u.held.position.index)
-adjacent_kept t u before piece next gap solid place was same plain_end =
-    let i = index_after (position_after t.held.position piece next) gap u.rest in
-    let j = index_after t.held.position piece next in
-    let there : u.held.position.index ≡ (position_after (position_after t.held.position piece next) gap u.rest).index = ap (λ p. p.index) place in
-    let long = not_none piece solid in
-    (subst (λ b. IsAdjacent (before_past b gap) u.held.position u.held.adjacent_value_at u.rest) (sym plain_end) (adjacent_other u.held.position u.held.adjacent_value_at u.rest (omega (arith, i, j, there, long, was, same))), omega (arith, i, j, there, was, same))
+adjacent_kept t u before piece next gap solid place was same plain_end = grind (arith, nat_tests, eqb-true, index_after, not_none, adjacent_other)
 
 -- after an indicator or a bracket, and a separation on its line
 pub quiet_before : (before : Previous) (q : Position) (gap rest : List ℕ) → (before ≡ another) ⊎ (before ≡ flow_collection) → has_no_break gap ≡ true →
     (begins_line before gap ≡ false) × (begins_free_line before gap ≡ false) × (is_renewed before gap ≡ false) × IsReadOn before q gap rest
-quiet_before before q gap rest (inl e) h = rw e (ap not h, ap not h, refl, tt)
-quiet_before before q gap rest (inr e) h = rw e (ap not h, ap not h, refl, tt)
+quiet_before before q gap rest a h = grind (arith, nat_tests, eqb-true)
 
 -- The separation is on the piece's line.
 pub reads_in_line : (t u : ScannerState) (y : Site) (piece next gap : List ℕ) → is_empty piece ≡ false → t.rest ≡ piece ++ next → next ≡ gap ++ u.rest → is_separation false gap u.rest ≡ true → has_no_break gap ≡ true → u.held.position ≡ position_after y.position gap u.rest →
     u.held.leading ≡ false → (y.before ≡ another) ⊎ (y.before ≡ flow_collection) → y.blocks ≡ columns u.held.indent u.held.indents → y.awaits ≡ has_open_level u.held.indents → AreLevels u.held.indent u.held.indents →
     (is_empty u.held.flow ≡ false → IsAdjacent (before_past (before_by y.before) gap) u.held.position u.held.adjacent_value_at u.rest) → u.held.adjacent_value_at ≤ u.held.position.index → (u.held.started ≡ t.held.started) × (u.held.ended ≡ t.held.ended) → Reads t u y piece next gap
-reads_in_line t u y piece next gap solid cut is_rest fills in_line place leads before columns_are awaits levels adjacent less same =
-    let q = quiet_before y.before y.position gap u.rest before in_line in
-    let no_tabs : HasNoTabs y gap u.rest = inr (none_indents y.before y.blocks y.awaits gap q.0) in
-    let leads_then : IsLeading u.held.leading y gap u.rest = λ _ _ _. leads ∙ sym q.0 in
-    assumption (no_tabs, leads_then, q.3, adjacent)
+reads_in_line t u y piece next gap solid cut is_rest fills a place leads before columns_are awaits levels adjacent less same = grind (arith, nat_tests, eqb-true, quiet_before, none_indents)
 
 -- the same, where no colon may stand next to the piece
 pub reads_before_none : (t u : ScannerState) (y : Site) (piece next gap : List ℕ) → is_empty piece ≡ false → t.rest ≡ piece ++ next → next ≡ gap ++ u.rest → is_separation false gap u.rest ≡ true → has_no_break gap ≡ true →
     y.position ≡ position_after t.held.position piece next → u.held.position ≡ position_after (position_after t.held.position piece next) gap u.rest →
     u.held.leading ≡ false → y.before ≡ another → y.blocks ≡ columns u.held.indent u.held.indents → y.awaits ≡ has_open_level u.held.indents → AreLevels u.held.indent u.held.indents → t.held.adjacent_value_at ≤ t.held.position.index →
     (u.held.adjacent_value_at ≡ t.held.adjacent_value_at) × (u.held.started ≡ t.held.started) × (u.held.ended ≡ t.held.ended) → Reads t u y piece next gap
-reads_before_none t u y piece next gap solid cut is_rest fills in_line past_is place leads before columns_are awaits levels was same =
-    let a = adjacent_kept t u (before_by y.before) piece next gap solid place was same.0 (ap before_by before) in
-    reads_in_line t u y piece next gap solid cut is_rest fills in_line (place ∙ ap (λ p. position_after p gap u.rest) (sym past_is)) leads (inl before) columns_are awaits levels (λ _. a.0) a.1 (same.1, same.2)
+reads_before_none t u y piece next gap solid cut is_rest fills a b place leads before columns_are awaits levels was same = grind (arith, nat_tests, eqb-true, adjacent_kept, reads_in_line)

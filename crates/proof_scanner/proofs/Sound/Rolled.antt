@@ -1,22 +1,10 @@
 -- Where a block collection begins, and where the value of an entry is awaited: the levels of indentation, and the columns of the block collections.
-use Rattle.proof_scanner.proofs.Common.{AreCollections, AreLevels, Bool, Held, Indent, IsNotRight, IsTopLevel, List, Option, Position, Tok, Token, [], ap, arith, columns, deepen, drop_open, drop_open_level, false, has_open_level, if◌then◌else◌, in_block, in_flow, innermost, is_deeper, is_empty, level, nat_le, nat_lt, nat_tests, opened, placed, refl, roll_indent, roll_one_col_indent, subst, sym, token, top_needs_block_end, true, ℕ, ◌+◌, ◌-◌, ◌<◌, ◌∙◌, ◌∷◌, ◌≡◌, ◌≤◌}
-
--- collections alone are levels
-pub levels_of_collections : (i : ℕ) (ds : List Indent) → AreCollections i ds → AreLevels i ds
-levels_of_collections i a b = grind arith
+use Rattle.proof_scanner.proofs.Common.{AreCollections, AreLevels, Bool, Held, Indent, IsNotRight, IsTopLevel, List, Option, Position, Tok, Token, [], ap, arith, columns, deepen, drop_open, drop_open_level, false, has_open_level, if◌then◌else◌, in_block, in_flow, innermost, is_deeper, is_empty, level, nat_le, nat_lt, nat_tests, opened, placed, refl, roll_indent, roll_one_col_indent, subst, sym, token, top_needs_block_end, true, ℕ, ◌+◌, ◌-◌, ◌<◌, ◌∙◌, ◌∷◌, ◌≡◌, ◌≤◌, eqb-true}
 
 -- a column is deeper than the innermost collection just where it is deeper than its level
 pub deeper_is : (col i : ℕ) (ds : List Indent) → AreCollections i ds → is_deeper col (columns i ds) ≡ nat_lt i (col + 1)
-deeper_is col i [] a = rw a (sym (positive (col + 1) (omega arith)))
-  where
-    positive : (n : ℕ) → 0 < n → nat_lt 0 n ≡ true
-    positive n h = grind (arith, nat_tests)
-deeper_is col i (d ∷ ds) a = rw a.0 (same (nat_lt (i - 1) col) (nat_lt i (col + 1)) refl refl)
-  where
-    same : (b c : Bool) → nat_lt (i - 1) col ≡ b → nat_lt i (col + 1) ≡ c → b ≡ c
-    same true true e f = refl
-    same a false e f = grind arith
-    same false true e f = let h = a.1 in absurd (grind (arith, nat_tests, h))
+deeper_is col i [] a = rw a (sym (grind (arith, nat_tests)))
+deeper_is col i (d ∷ ds) a = grind (arith, nat_tests, eqb-true)
 
 -- A collection begins at a column where that is deeper than the innermost one, and its start is put among the tokens; else that one goes on.
 pub record RollsTo (col : ℕ) (number : Option ℕ) (t : Token) (s u : Held) : Type 0 where
@@ -34,12 +22,6 @@ deepened col number t s a low = by (nat_lt s.indent (col + 1)) refl
     bs : List ℕ
     bs = columns s.indent s.indents
 
-    one_less : (col + 1) - 1 ≡ col
-    one_less = omega arith
-
-    some : (ds : List Indent) → AreCollections s.indent ds → nat_lt s.indent (col + 1) ≡ false → top_needs_block_end ds ≡ true
-    some a h e = grind arith
-
     by : (b : Bool) → nat_lt s.indent (col + 1) ≡ b → RollsTo col number t s (if b then record s { indents = level s.indent true ∷ s.indents; indent = col + 1; tokens = placed number t s.tokens } else s)
     by true e =
         let deeper : true ≡ is_deeper col bs = sym (deeper_is col s.indent s.indents a ∙ e) in
@@ -47,7 +29,7 @@ deepened col number t s a low = by (nat_lt s.indent (col + 1)) refl
           indents = level s.indent true ∷ s.indents;
           indent = col + 1;
           is_held = ap (λ b. record s { indents = level s.indent true ∷ s.indents; indent = col + 1; tokens = (if b then placed number t s.tokens else s.tokens) }) deeper;
-          columns_are = ap (λ n. n ∷ bs) one_less ∙ ap (λ b. if b then col ∷ bs else bs) deeper;
+          columns_are = ap (λ n. n ∷ bs) (omega arith) ∙ ap (λ b. if b then col ∷ bs else bs) deeper;
           are_levels = (grind (arith, nat_tests, e), a);
           is_top = λ h. refl;
         }
@@ -58,8 +40,8 @@ deepened col number t s a low = by (nat_lt s.indent (col + 1)) refl
           indent = s.indent;
           is_held = ap (λ b. record s { tokens = (if b then placed number t s.tokens else s.tokens) }) deeper;
           columns_are = ap (λ b. if b then col ∷ bs else bs) deeper;
-          are_levels = levels_of_collections s.indent s.indents a;
-          is_top = λ h. some s.indents a e;
+          are_levels = grind arith;
+          is_top = λ h. (grind arith);
         }
 
 -- an open level is one column deeper than a collection whose column is that of the piece
@@ -78,21 +60,8 @@ open_goes_on col number t s d ds e no_end l right high = rw stays (record {
     stays : nat_lt s.indent (col + 1) ≡ false
     stays = grind (arith, nat_tests, high)
 
-    same_columns : columns s.indent s.indents ≡ columns d.indent ds
-    same_columns = ap (columns s.indent) e ∙ ap (λ b. if b then (s.indent - 1) ∷ columns d.indent ds else columns d.indent ds) no_end
-
-    top : IsTopLevel false s.indent d.indent ds
-    top = subst (λ b. IsTopLevel b s.indent d.indent ds) no_end l.0
-
-    here : (es : List Indent) → is_empty es ≡ false → AreCollections d.indent es → IsNotRight (innermost (columns d.indent es)) col → d.indent ≤ col + 1
-    here [] n a r = absurd (cc n)
-    here (x ∷ es) n a r = let first : d.indent - 1 ≤ col = subst (λ b. IsNotRight (innermost (if b then (d.indent - 1) ∷ columns x.indent es else columns x.indent es)) col) a.0 r in omega (arith, first)
-
-    level_is : nat_lt d.indent (col + 1) ≡ false
-    level_is = let h = top.0 in grind (arith, nat_tests, h, high)
-
     not_deeper : false ≡ is_deeper col (columns s.indent s.indents)
-    not_deeper = sym (ap (is_deeper col) same_columns ∙ (deeper_is col d.indent ds l.1 ∙ level_is))
+    not_deeper = sym (ap (is_deeper col) (ap (columns s.indent) e ∙ ap (λ b. if b then (s.indent - 1) ∷ columns d.indent ds else columns d.indent ds) no_end) ∙ (deeper_is col d.indent ds l.1 ∙ (let h = (subst (λ b. IsTopLevel b s.indent d.indent ds) no_end l.0).0 in grind (arith, nat_tests, h, high))))
 
 -- ---- a collection begins
 
@@ -110,24 +79,15 @@ rolls_to col number tok p s out levels right = rw out (on (nat_le s.indent (col 
     t = token p tok
 
     low : (d : Indent) (ds : List Indent) (b : Bool) → s.indents ≡ d ∷ ds → d.needs_block_end ≡ b → AreLevels s.indent (d ∷ ds) → s.indent ≤ col + 1 → RollsTo col number t s (deepen col number t (if b then s else record s { indent = d.indent; indents = ds }))
-    low d ds true e f l h =
-        let first : IsTopLevel true s.indent d.indent ds = subst (λ b. IsTopLevel b s.indent d.indent ds) f l.0 in
-        deepened col number t s (subst (λ x. AreCollections s.indent x) (sym e) (f, first, l.1)) h
+    low d ds true e f l h = grind (arith, nat_tests, eqb-true, deepened, t)
     low d ds false e f l h =
         let first : IsTopLevel false s.indent d.indent ds = subst (λ b. IsTopLevel b s.indent d.indent ds) f l.0 in
         let more : s.indent ≡ d.indent + 1 = first.0 in
         rolls_past col number t s d.indent ds _ (sym (ap (columns s.indent) e ∙ ap (λ b. if b then (s.indent - 1) ∷ columns d.indent ds else columns d.indent ds) f)) more
         (deepened col number t (record s { indent = d.indent; indents = ds }) l.1 (omega (arith, h, more)))
 
-    high : (d : Indent) (ds : List Indent) (b : Bool) → s.indents ≡ d ∷ ds → d.needs_block_end ≡ b → AreLevels s.indent (d ∷ ds) → IsNotRight (innermost (columns s.indent (d ∷ ds))) col → col + 1 < s.indent → RollsTo col number t s (deepen col number t s)
-    high d ds true e f l r h = let first : s.indent - 1 ≤ col = subst (λ b. IsNotRight (innermost (if b then (s.indent - 1) ∷ columns d.indent ds else columns d.indent ds)) col) f r in absurd (omega (arith, first, h))
-    high d ds false e f l r h = open_goes_on col number t s d ds e f l (subst (λ b. IsNotRight (innermost (if b then (s.indent - 1) ∷ columns d.indent ds else columns d.indent ds)) col) f r) h
-
     on : (b : Bool) → nat_le s.indent (col + 1) ≡ b → (ds : List Indent) → s.indents ≡ ds → AreLevels s.indent ds → IsNotRight (innermost (columns s.indent ds)) col → RollsTo col number t s (deepen col number t (if b then drop_open s ds else s))
-    on true e [] f l r = deepened col number t s (subst (λ x. AreCollections s.indent x) (sym f) l) (grind (arith, nat_tests, e))
-    on true e (d ∷ ds) f l r = low d ds d.needs_block_end f refl l (grind (arith, nat_tests, e))
-    on false e [] f l r = let none : s.indent ≡ 0 = l in absurd (grind (arith, nat_tests, e, none))
-    on false e (d ∷ ds) f l r = high d ds d.needs_block_end f refl l r (grind (arith, nat_tests, e))
+    on a e b f l r = grind (arith, nat_tests, deepened, t, low, eqb-true, open_goes_on)
 
 -- ---- the value of an entry is awaited
 
@@ -153,10 +113,6 @@ opens_none s inside = rw inside refl
 -- where a collection is innermost, no value is awaited
 pub top_closed : (ds : List Indent) → top_needs_block_end ds ≡ true → (is_empty ds ≡ false) × (has_open_level ds ≡ false)
 top_closed a h = grind arith
-
--- where a collection begins or goes on, there is one
-pub opened_some : (col : ℕ) (bs : List ℕ) → is_empty (opened col bs) ≡ false
-opened_some col a = grind arith
 
 -- and so a level
 pub some_levels : (i : ℕ) (ds : List Indent) → is_empty (columns i ds) ≡ false → is_empty ds ≡ false

@@ -1,6 +1,6 @@
 -- What the model skips between tokens leaves no TAB in the indentation of the next one.
 use Rattle.std.proofs.lemmas.List.{length-append}
-use Rattle.proof_scanner.proofs.Common.{At, Bool, Err, Fault, Gap, Held, Holds, List, Ok, Previous, Result, ScannerState, [], and_parts, ap, append-nil, append_assoc, arith, begins_line, between, comment, eqb-true, false, has_break, has_tab_within, if◌then◌else◌, inl, inr, is_at_comment_or_end, is_before_indent, is_cr_lf, is_empty, last_line, length, moved, nat_lt, nat_tests, no_hash, not, or-false, or-true, past_line, refl, refused, same_break, skip, subst, suc, sym, tab_line, true, weakened, went, zero, ℕ, ◌&&◌, ◌++◌, ◌+◌, ◌==◌, ◌||◌, ◌∙◌, ◌∷◌, ◌≡◌, ◌≤◌, ◌⊎◌}
+use Rattle.proof_scanner.proofs.Common.{At, Bool, Err, Fault, Gap, Held, Holds, List, Ok, Previous, Result, ScannerState, [], and_parts, ap, append-nil, append_assoc, arith, begins_line, between, comment, eqb-true, false, has_tab_within, if◌then◌else◌, inl, inr, is_at_comment_or_end, is_before_indent, is_cr_lf, is_empty, last_line, length, moved, nat_tests, no_hash, or-false, or-true, past_line, refl, refused, same_break, skip, subst, suc, sym, tab_line, true, weakened, went, ℕ, ◌&&◌, ◌++◌, ◌==◌, ◌||◌, ◌∙◌, ◌∷◌, ◌≡◌, ◌⊎◌}
 use Rattle.yaml_chars.specs.Class.{is_break, is_blank}
 use Rattle.yaml_tokens.specs.declared.problem.Problem.TheVariants as problem
 use Rattle.defs_text.specs.Classes as classes
@@ -8,16 +8,7 @@ use Rattle.proof_scanner.proofs.Sound.LastLines.{break_append, last_more, tab_wi
 
 -- a break more begins a line, and nothing else does
 pub line_more : (before : Previous) (g : List ℕ) (c : ℕ) → begins_line before (g ++ c ∷ []) ≡ (begins_line before g || classes.is_break c)
-line_more before g c = by before
-  where
-    same : (x y : Bool) → (x || not (not y && true)) ≡ (x || y)
-    same a y = grind arith
-
-    broken : has_break (g ++ c ∷ []) ≡ (has_break g || classes.is_break c)
-    broken = break_append g (c ∷ []) ∙ same (has_break g) (classes.is_break c)
-
-    by : (before : Previous) → begins_line before (g ++ c ∷ []) ≡ (begins_line before g || classes.is_break c)
-    by a = grind (arith, broken)
+line_more before g c = grind (arith, nat_tests, eqb-true, break_append)
 
 module _ (before : Previous) (least : ℕ) where
   -- no TAB stands before the least column, if the line begins here
@@ -53,19 +44,7 @@ module _ (before : Previous) (least : ℕ) where
   -- ---- a break
 
   pub at_line : (g : List ℕ) (c : ℕ) (s : Held) → is_break c ≡ true → IsAt (g ++ c ∷ []) (past_line s)
-  at_line g c s e =
-      let breaks : classes.is_break c ≡ true = same_break c ∙ e in
-      let last : last_line (g ++ c ∷ []) ≡ [] = last_more g c ∙ ap (λ b. if b then [] else last_line g ++ c ∷ []) breaks in
-      let begins : begins_line before (g ++ c ∷ []) ≡ true = line_more before g c ∙ (ap (λ b. begins_line before g || b) breaks ∙ or-true (begins_line before g)) in
-      record {
-        leading_is = λ _. sym begins;
-        col_is = λ _. ap length (sym last);
-        spaced = λ _. ap (λ l. has_tab_within least l) last ∙ none least;
-      }
-    where
-      none : (n : ℕ) → has_tab_within n [] ≡ false
-      none zero = refl
-      none (suc n) = refl
+  at_line g c s e = grind (arith, nat_tests, eqb-true, same_break, last_more, line_more, or-true)
 
   pub feed_next : (c : ℕ) (a : List ℕ) → is_cr_lf c a ≡ true → is_at_comment_or_end a ≡ true
   unfolding classes.is_break
@@ -76,39 +55,7 @@ module _ (before : Previous) (least : ℕ) where
   -- a blank that is no TAB in the indentation
   pub at_blank : (g : List ℕ) (c : ℕ) (s : Held) → classes.is_break c ≡ false → ((c == 9) && is_before_indent s) ≡ false → IsLeast s → IsAt g s → IsAt (g ++ c ∷ []) (moved s)
   unfolding is_before_indent
-  at_blank g c s e f l h =
-      let same : begins_line before (g ++ c ∷ []) ≡ begins_line before g = line_more before g c ∙ (ap (λ b. begins_line before g || b) e ∙ or-false (begins_line before g)) in
-      let last : last_line (g ++ c ∷ []) ≡ last_line g ++ c ∷ [] = last_more g c ∙ ap (λ b. if b then [] else last_line g ++ c ∷ []) e in
-      record {
-        leading_is = λ i. h.leading_is i ∙ sym same;
-        col_is = λ b. let k : s.position.col ≡ length (last_line g) = h.col_is (sym same ∙ b) in ap (λ n. n + 1) k ∙ (sym (length-append (last_line g) (c ∷ [])) ∙ ap length (sym last));
-        spaced = λ b.
-            let now : begins_line before g ≡ true = sym same ∙ b in
-            ap (λ x. has_tab_within least x) last ∙ tab_within_more least (last_line g) c (kind now) (h.spaced now);
-      }
-    where
-      other : (c == 9) ≡ false → (9 == c) ≡ false
-      other k = grind (arith, k)
-
-      kind : begins_line before g ≡ true → ((9 == c) ≡ false) ⊎ (least ≤ length (last_line g))
-      kind now = by (c == 9) refl f
-        where
-          deep : is_empty s.indents ≡ true → least ≤ length (last_line g)
-          deep i = let z : least ≡ 0 = l.0 i in omega (arith, z)
-
-          level : is_empty s.indents ≡ false → nat_lt (s.position.col + 1) s.indent ≡ false → least ≤ length (last_line g)
-          level i k =
-              let d : s.indent ≤ s.position.col + 1 = grind (arith, nat_tests, k) in
-              let p : s.position.col ≡ length (last_line g) = h.col_is now in
-              let n : s.indent ≡ suc least = l.1 i in
-              omega (arith, d, p, n)
-
-          within : (i x : Bool) → is_empty s.indents ≡ i → nat_lt (s.position.col + 1) s.indent ≡ x → (not i && s.leading && x) ≡ false → least ≤ length (last_line g)
-          within a x i k q = grind (arith, nat_tests, deep, now, level, eqb-true)
-
-          by : (t : Bool) → (c == 9) ≡ t → (t && (not (is_empty s.indents) && s.leading && nat_lt (s.position.col + 1) s.indent)) ≡ false → ((9 == c) ≡ false) ⊎ (least ≤ length (last_line g))
-          by false t q = inl (other t)
-          by true t q = inr (within (is_empty s.indents) (nat_lt (s.position.col + 1) s.indent) refl refl q)
+  at_blank g c s e f l h = grind (arith, nat_tests, line_more, or-false, last_more, length-append, tab_within_more, eqb-true)
 
   -- ---- each character
 
@@ -147,9 +94,6 @@ module _ (before : Previous) (least : ℕ) where
             from (inl x) = absurd (cc (x, no_end c a e f))
             from (inr x) = x
 
-        no_tab : (c == 9) ≡ true → (c == 35) ≡ false
-        no_tab h = let i : c ≡ 9 = eqb-true c 9 h in rw i refl
-
         later : (b : Bool) → is_blank c ≡ b → ((c == 9) && is_before_indent s) ≡ false → Q g (c ∷ a) s (if b then skip between a (moved s) else (if c == 35 then skip comment a (record (moved s) { leading = false }) else Ok (record { rest = c ∷ a; held = s })))
         later true b f = w.further g a c s (moved s) _ (omega arith) (ih between (g ++ c ∷ []) (moved s) l (inr (at_blank g c s (same_break c ∙ e) f l (at (no_hash c b)))))
         later false b f = last (c == 35) refl
@@ -162,7 +106,7 @@ module _ (before : Previous) (least : ℕ) where
             (if t then skip tab_line a (moved s) else (if is_blank c then skip between a (moved s) else (if c == 35 then skip comment a (record (moved s) { leading = false }) else Ok (record { rest = c ∷ a; held = s }))))
         by true t =
             let q = and_parts (c == 9) (is_before_indent s) t in
-            w.further g a c s (moved s) _ (omega arith) (ih tab_line (g ++ c ∷ []) (moved s) l (w.tab g c s e t l (at (no_tab q.0))))
+            w.further g a c s (moved s) _ (omega arith) (ih tab_line (g ++ c ∷ []) (moved s) l (w.tab g c s e t l (at (let i : c ≡ 9 = eqb-true c 9 q.0 in rw i refl))))
         by false t = later (is_blank c) refl t
 
     comment_by : (g a : List ℕ) (c : ℕ) (s : Held) → is_break c ≡ false → IsLeast s → Tells a → Q g (c ∷ a) s (skip comment (c ∷ a) s)
@@ -179,23 +123,17 @@ module _ (before : Previous) (least : ℕ) where
         by false false = w.fails g a c s h
 
     one_by : (m : Gap) (g a : List ℕ) (c : ℕ) (s : Held) (b : Bool) → is_break c ≡ b → IsLeast s → IsPassed Tabbed m g s (c ∷ a) → Tells a → Q g (c ∷ a) s (skip m (c ∷ a) s)
-    one_by m g a c s true e l h ih = broken m g a c s e l ih
-    one_by between g a c s false e l h ih = between_by g a c s e l h ih
-    one_by comment g a c s false e l h ih = comment_by g a c s e l ih
-    one_by tab_line g a c s false e l h ih = tab_by g a c s e l h ih
+    one_by m g a c s b e l h ih = grind (arith, nat_tests, eqb-true, broken, between_by, comment_by, tab_by)
 
     pub skip_tells : (a : List ℕ) → Tells a
     unfolding skip
     skip_tells [] m g s l h = w.ended g s
     skip_tells (c ∷ a) m g s l h = one_by m g a c s (is_break c) refl l h (skip_tells a)
 
-  one_more : (g a : List ℕ) (c : ℕ) (r : Result ScannerState Fault) → Holds (Cleared (g ++ c ∷ []) a) r → Holds (Cleared g (c ∷ a)) r
-  one_more g a c r h = weakened (λ u x. record { passed = c ∷ x.passed; cut = ap (λ y. c ∷ y) x.cut; clear = λ e. subst (λ y. IsAt y u.held) (append_assoc g (c ∷ []) x.passed) (x.clear e) }) h
-
   pub skip_clears : (a : List ℕ) (m : Gap) (g : List ℕ) (s : Held) → IsLeast s → IsIn m g s a → Holds (Cleared g a) (skip m a s)
   skip_clears = skip_tells (λ g a s r. Holds (Cleared g a) r) (λ _. Unit {0}) (record {
     ended = λ g s. went (record { passed = []; cut = refl; clear = λ e. absurd (cc e) });
-    further = λ g a c s u r next h. one_more g a c r h;
+    further = λ g a c s u r next h. (weakened (λ u x. record { passed = c ∷ x.passed; cut = ap (λ y. c ∷ y) x.cut; clear = λ e. subst (λ y. IsAt y u.held) (append_assoc g (c ∷ []) x.passed) (x.clear e) }) h);
     arrives = λ g a c s at. went (record { passed = []; cut = refl; clear = λ _. subst (λ y. IsAt y s) (sym (append-nil g)) at });
     tab = λ g c s e f l h. tt;
     blank = λ g c e h. tt;

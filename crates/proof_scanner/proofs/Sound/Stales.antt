@@ -1,7 +1,5 @@
 -- Keys that are too far back are dropped: what holds between two fetches still holds, without them.
-use Rattle.proof_scanner.proofs.Common.{Account, AreEntries, At, Bool, Entry, Err, Fares, Fault, FlowLevel, Held, Holds, IsAtEnd, IsCarriedOn, IsCutUpTo, IsLine, IsNear, IsOpenOutside, IsRead, Key, KnowsKey, List, MayChoose, None, Ok, Option, Position, Result, ScannerState, SoFar, Some, Stands, Step, Token, [], ap, arith, begins_free_line, chosen, drop_stale, either, false, have_no_key, if◌then◌else◌, in_flow, inl, inr, is_empty, is_far, is_overdue, is_renewed, is_waiting, length, list_any, map, not, not-false, outside_key, over, refl, refused, stale, still, subst, suc, sym, tokens_from, tokens_up_to, tried, true, try_held, went, ℕ, ◌&&◌, ◌++◌, ◌+◌, ◌||◌, ◌∙◌, ◌∷◌, ◌≡◌, ◌≤◌, ◌⊎◌}
-use Rattle.yaml_tokens.specs.declared.problem.Problem.TheVariants as problem
-use Rattle.model_scanner.specs.Keys.{with_keys}
+use Rattle.proof_scanner.proofs.Common.{Account, AreEntries, Bool, Entry, Fares, FlowLevel, Held, Holds, IsAtEnd, IsCarriedOn, IsCutUpTo, IsLine, IsNear, IsOpenOutside, IsRead, Key, KnowsKey, List, MayChoose, None, Option, Position, ScannerState, SoFar, Some, Stands, Step, Token, [], ap, arith, begins_free_line, chosen, drop_stale, either, false, have_no_key, in_flow, inl, inr, is_empty, is_far, is_renewed, is_waiting, length, not, not-false, outside_key, over, refl, refused, stale, subst, suc, sym, tokens_from, tokens_up_to, tried, true, try_held, went, ℕ, ◌++◌, ◌+◌, ◌∙◌, ◌∷◌, ◌≡◌, ◌≤◌, ◌⊎◌, eqb-true, nat_tests}
 use Rattle.proof_scanner.proofs.Known.Steps.{known_far}
 use Rattle.proof_scanner.specs.StandsInRow.{goes}
 use Rattle.proof_scanner.proofs.Sound.Completed.{may_be_no_key}
@@ -29,9 +27,7 @@ one_key (k ∷ x ∷ ks) (f ∷ fs) n o = absurd (cc o)
 -- where no open key is one, the tokens are those that the scanner holds
 pub none_completes : (strict : Bool) (text after : List ℕ) (a : Account) (ks : List (Option Key)) (ts : List Token) → is_waiting a.line ≡ false → have_no_key a.entries ≡ true →
     SoFar strict text after (chosen false [] ks a) (tokens_up_to (chosen false [] ks a) ks ts) → SoFar strict text after a (λ ws last. ts)
-none_completes strict text after a ks ts no_key none h =
-    completes_alike strict text after a (tokens_up_to a ks ts) (λ ws last. ts) (λ ws last. none_put 0 a.site.position ws last a.site.blocks a.line a.entries ks ts no_key none)
-    (subst (λ x. SoFar strict text after x (tokens_up_to x ks ts)) (none_chosen ks a) h)
+none_completes strict text after a ks ts no_key none h = grind (arith, nat_tests, eqb-true, completes_alike, none_put, none_chosen)
 
 -- The open key outside flow is dropped, if it need not be one.
 pub key_dropped : (text : List ℕ) (u : ScannerState) → (s : Stands text u) → is_empty u.held.flow ≡ true → (k : Key) → u.held.keys ≡ Some k ∷ [] → is_far k.position u.held.position ≡ true → k.required ≡ false → Stands text (record u { held = record u.held { keys = None ∷ [] } })
@@ -46,18 +42,12 @@ key_dropped text u s out k only far free = dropped
     none : s.base.entries ≡ []
     none = no_entries u.held.key_allowed (is_renewed s.base.site.before s.separation) u.held.flow u.held.keys s.base.entries out s.are_entries
 
-    line : (fl : Bool) (k : Option Key) → IsLine fl u.held.key_allowed (begins_free_line s.base.site.before s.separation) u.held.position u.rest k s.base.line → IsLine fl u.held.key_allowed (begins_free_line s.base.site.before s.separation) u.held.position u.rest None s.base.line
-    line a k h = grind arith
-
     may : MayChoose true false (outside_key s.base.entries u.held.keys) u.held.position u.rest
     may = subst (λ es. MayChoose true false (outside_key es u.held.keys) u.held.position u.rest) (sym none) (subst (λ ks. MayChoose true false (outside_key [] ks) u.held.position u.rest) (sym only) free)
 
-    base : (strict : Bool) → SoFar strict text After (record s.base { entries = [] }) (λ ws last. u.held.tokens)
-    base strict = subst (λ es. SoFar strict text After (record s.base { entries = es }) (λ ws last. u.held.tokens)) none
-        (none_completes strict text After s.base u.held.keys u.held.tokens s.no_key (entries_no_key u.held.key_allowed (is_renewed s.base.site.before s.separation) u.held.flow u.held.keys s.base.entries s.are_entries) (s.completes strict false [] (may_be_no_key strict (outside_key s.base.entries u.held.keys) u.held.position u.rest may)))
-
     own : (strict c : Bool) (cs : List Bool) → Of strict c cs (record s.base { entries = [] })
-    own strict c cs = base strict
+    own strict c cs = subst (λ es. SoFar strict text After (record s.base { entries = es }) (λ ws last. u.held.tokens)) none (none_completes strict text After s.base u.held.keys u.held.tokens s.no_key (entries_no_key u.held.key_allowed (is_renewed s.base.site.before s.separation) u.held.flow u.held.keys s.base.entries s.are_entries)
+        (s.completes strict false [] (may_be_no_key strict (outside_key s.base.entries u.held.keys) u.held.position u.rest may)))
 
     dropped : Stands text (record u { held = record u.held { keys = None ∷ [] } })
     dropped = stands_by text _ u.held.flow (None ∷ []) s.base refl refl (
@@ -70,7 +60,7 @@ key_dropped text u s out k only far free = dropped
           entries_outside u.held.key_allowed (is_renewed s.base.site.before s.separation) u.held.flow (None ∷ []) s.base.entries out none,
           carries,
           completes,
-          subst (λ es. IsLine (not (is_empty u.held.flow)) u.held.key_allowed (begins_free_line s.base.site.before s.separation) u.held.position u.rest (outside_key es (None ∷ [])) s.base.line) (sym none) (line (not (is_empty u.held.flow)) (outside_key s.base.entries u.held.keys) s.line_is),
+          subst (λ es. IsLine (not (is_empty u.held.flow)) u.held.key_allowed (begins_free_line s.base.site.before s.separation) u.held.position u.rest (outside_key es (None ∷ [])) s.base.line) (sym none) (grind arith),
           subst (λ es. IsOpenOutside (outside_key es (None ∷ [])) s.base.site.position u.held.position u.rest s.base.site.blocks) (sym none) tt,
           subst (λ es. KnowsKey text After u.held.position (outside_key es (None ∷ []))) (sym none)
               (known_far text After u.held.position k far (subst (λ ks. KnowsKey text After u.held.position (outside_key [] ks)) only (subst (λ es. KnowsKey text After u.held.position (outside_key es u.held.keys)) none s.knows))),
@@ -88,50 +78,14 @@ not_far : (k p : Position) → is_far k p ≡ false → (p.line ≤ k.line) × (
 unfolding is_far
 not_far k p h = grind arith
 
-outside_now : (text : List ℕ) (u : ScannerState) (s : Stands text u) → is_empty u.held.flow ≡ true → (k : Option Key) → u.held.keys ≡ k ∷ [] → list_any (is_overdue u.held.position) (k ∷ []) ≡ false →
-    Nearer text u (record u.held { keys = map (still u.held.position) (k ∷ []) })
-outside_now text u s out None only h = record {
-  stands = subst (λ ks. Stands text (record u { held = record u.held { keys = ks } })) only s;
-  same = refl;
-  near = λ _. (None, refl, tt);
-}
-outside_now text u s out (Some k) only h = by (is_far k.position u.held.position) refl (first (is_far k.position u.held.position && k.required) h)
-  where
-    first : (b : Bool) → (b || false) ≡ false → b ≡ false
-    first true e = absurd (cc e)
-    first false e = refl
-
-    by : (b : Bool) → is_far k.position u.held.position ≡ b → (b && k.required) ≡ false → Nearer text u (record u.held { keys = (if b then None else Some k) ∷ [] })
-    by true e f = record {
-      stands = key_dropped text u s out k only e f;
-      same = refl;
-      near = λ _. (None, refl, tt);
-    }
-    by false e f = record {
-      stands = subst (λ ks. Stands text (record u { held = record u.held { keys = ks } })) only s;
-      same = refl;
-      near = λ _. (Some k, refl, not_far k.position u.held.position e);
-    }
-
 pub stale_stands : (text : List ℕ) (u : ScannerState) → Stands text u → Holds (Nearer text u) (stale u.held)
 unfolding stale drop_stale
-stale_stands text u s =
-    either (in_flow u.held) (λ e. went (record { stands = s; same = refl; near = λ o. absurd (cc (e, ap not o)) })) (λ e.
-    let out : is_empty u.held.flow ≡ true = not-false (is_empty u.held.flow) e in
-    let k : (k : Option Key) × (u.held.keys ≡ k ∷ []) = one_key u.held.keys u.held.flow s.one_each out in
-    subst (λ ks. Holds (Nearer text u) (with_keys u.held (if list_any (is_overdue u.held.position) ks then Err (At problem.KeyWithoutColon u.held.position) else Ok (map (still u.held.position) ks)))) (sym k.1)
-    (by (list_any (is_overdue u.held.position) (k.0 ∷ [])) (outside_now text u s out k.0 k.1)))
-  where
-    by : {ks : List (Option Key)} (b : Bool) → (b ≡ false → Nearer text u (record u.held { keys = ks })) → Holds (Nearer text u) (with_keys u.held (if b then Err (At problem.KeyWithoutColon u.held.position) else Ok ks))
-    by a f = grind (arith, refused, went)
+stale_stands text u s = grind (arith, nat_tests, eqb-true, either, went, not-false, one_key, key_dropped, not_far, refused)
 
 -- The stale keys of a fetch are dropped.
 pub keys_only : (s : Held) → Holds (λ h. h ≡ record s { keys = h.keys }) (stale s)
 unfolding stale
-keys_only s = either (in_flow s) (λ _. went refl) (λ _. by (drop_stale s.position s.keys))
-  where
-    by : (r : Result (List (Option Key)) Fault) → Holds (λ h. h ≡ record s { keys = h.keys }) (with_keys s r)
-    by a = grind (arith, went, refused)
+keys_only s = either (in_flow s) (λ _. went refl) (λ _. (grind (arith, went, refused)))
 
 -- What holds after a token, or after the end, holds after stale keys are dropped.
 pub fares_stale : (text : List ℕ) (t : ScannerState) → Stands text t ⊎ ((t.held.ended ≡ true) × IsRead text t.held.tokens × IsAtEnd text t.held) → Holds (Fares text) (try_held stale t)

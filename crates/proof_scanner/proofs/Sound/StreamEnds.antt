@@ -1,11 +1,9 @@
 -- Where a text ends: no open key is one, and the stream's end and those of the block collections stand where the row has them.
 use Rattle.yaml_tokens.specs.declared.problem.Problem.TheVariants as problem
 use Rattle.std.proofs.lemmas.List.{append-nil}
-use Rattle.proof_scanner.proofs.Common.{Account, AreAround, AreCollections, AreEntries, AreLevels, Arrives, At, Bool, Completes, Entry, FlowLevel, Had, HasHad, Held, Holds, Indent, IsRead, IsTopLevel, Key, Levels, Line, List, MayChoose, Option, Position, ScannerState, Site, Step, Token, [], ap, append_assoc, arith, block_end, blocks, checked, chosen, cleared, colon_of, columns, ended_at, ends_at, ends_here, ends_with_stream, entries_by, entry_by, false, fetch_stream_end, has_required, have_no_key, if◌then◌else◌, in_flow, is_empty, is_keyed, is_renewed, is_required, is_separation, is_waiting, length, level_of, line_by, map, may_end, nat_lt, nat_tests, next_line, not, not-true, not_ended, outside_key, pop, position_after, put, refl, replicate, site_here, stream_end, stream_position, subst, suc, sym, takes_pair, tokens_at_end, tokens_up_to, top_key, tried, true, unroll_indent, unrolled, went, with_keys, ℕ, ◌&&◌, ◌++◌, ◌-◌, ◌<◌, ◌||◌, ◌∙◌, ◌∷◌, ◌≡◌, ◌≤◌}
+use Rattle.proof_scanner.proofs.Common.{Account, AreAround, AreCollections, AreEntries, AreLevels, Arrives, At, Bool, Completes, Entry, FlowLevel, Had, HasHad, Held, Holds, Indent, IsRead, IsTopLevel, Key, Levels, Line, List, MayChoose, Option, Position, ScannerState, Site, Step, Token, [], ap, append_assoc, arith, block_end, blocks, checked, chosen, cleared, columns, ended_at, ends_at, ends_here, ends_with_stream, entries_by, false, fetch_stream_end, has_required, have_no_key, if◌then◌else◌, in_flow, is_empty, is_keyed, is_renewed, is_separation, is_waiting, length, may_end, nat_lt, nat_tests, next_line, not, not-true, not_ended, outside_key, pop, position_after, put, refl, replicate, site_here, stream_position, subst, suc, sym, tokens_at_end, tokens_up_to, tried, true, unroll_indent, unrolled, went, with_keys, ℕ, ◌++◌, ◌-◌, ◌<◌, ◌∙◌, ◌∷◌, ◌≡◌, ◌≤◌, eqb-true}
 use Rattle.proof_scanner.proofs.Cut.Documents.{unroll_keeps}
 use Rattle.proof_scanner.proofs.Sound.Completed.{completed_at_end}
-use Rattle.proof_scanner.proofs.Sound.NodeTokens.{no_had, not_keyed}
-use Rattle.proof_scanner.proofs.Sound.NodesOutside.{no_line}
 use Rattle.proof_scanner.proofs.Cut.Unrolls.{unrolled_in_flow}
 
 -- ---- no key waits
@@ -21,34 +19,21 @@ around_no_key (f ∷ fs) [] es a = absurd a
 around_no_key (f ∷ fs) (k ∷ ks) [] a = absurd a
 
 pub entries_no_key : (allowed again : Bool) (fs : List FlowLevel) (ks : List (Option Key)) (es : List Entry) → AreEntries allowed again fs ks es → have_no_key es ≡ true
-entries_no_key allowed again a ks es b = grind (arith, not_keyed, around_no_key)
-
-same_entry : (k : Option Key) (e : Entry) → entry_by false k e ≡ e
-same_entry a e = grind arith
+entries_no_key allowed again a ks es b = grind (arith, around_no_key)
 
 none_inside : (ks : List (Option Key)) (es : List Entry) → entries_by [] ks es ≡ es
 none_inside ks [] = refl
-none_inside ks (e ∷ es) = ap (λ x. x ∷ entries_by [] (pop ks) es) (same_entry (top_key ks) e) ∙ ap (λ xs. e ∷ xs) (none_inside (pop ks) es)
-
-none_outside : (k : Option Key) (l : Line) → line_by false k l ≡ l
-none_outside a l = grind arith
+none_inside ks (e ∷ es) = ap (λ x. x ∷ entries_by [] (pop ks) es) (grind arith) ∙ ap (λ xs. e ∷ xs) (none_inside (pop ks) es)
 
 -- with no choice for a key, the account is the one in which no open key is one
 pub none_chosen : (ks : List (Option Key)) (a : Account) → chosen false [] ks a ≡ a
-none_chosen ks a =
-    ap (λ l. record { site = a.site; line = l; entries = entries_by [] ks a.entries }) (none_outside (outside_key a.entries ks) a.line) ∙
-    ap (λ es. record { site = a.site; line = a.line; entries = es }) (none_inside ks a.entries)
-
-not_both : (b c : Bool) → (not b && c) ≡ true → (b ≡ false) × (c ≡ true)
-not_both a c h = grind arith
+none_chosen ks a = grind (arith, nat_tests, eqb-true, none_inside)
 
 -- where no key waits, the tokens are those that the scanner holds
 pub none_put : (d : ℕ) (p : Position) (ws : List Step) (last bs : List ℕ) (l : Line) (es : List Entry) (ks : List (Option Key)) (ts : List Token) → is_waiting l ≡ false → have_no_key es ≡ true → with_keys d p ws last bs l es ks ts ≡ ts
 none_put d p ws last bs l es [] ts h n = refl
-none_put d p ws last bs l [] (k ∷ ks) ts h n = no_line (colon_of d p ws last) bs l k ts h
-none_put d p ws last bs l (e ∷ es) (k ∷ ks) ts h n =
-    let q = not_both (is_keyed e.had) (have_no_key es) n in
-    ap (λ x. with_keys (suc d) p ws last bs l es ks x) (no_had (colon_of d p ws last) (takes_pair e.kind e.pair) e.had k ts q.0) ∙ none_put (suc d) p ws last bs l es ks ts h q.1
+none_put d p ws last bs l [] (k ∷ ks) ts h n = grind (arith, nat_tests, eqb-true)
+none_put d p ws last bs l (e ∷ es) (k ∷ ks) ts h n = grind (arith, nat_tests, eqb-true, none_put (suc d) p ws last bs l es ks ts h)
 
 -- ---- positions
 
@@ -61,9 +46,6 @@ same_line_start p = grind arith
 abbrev pub ends_of : ℕ → Position → List Token
 ends_of n p = replicate n (put p block_end)
 
-more_ends : (n : ℕ) (p : Position) (ts : List Token) → (ts ++ put p block_end ∷ []) ++ ends_of n p ≡ ts ++ ends_of (suc n) p
-more_ends n p ts = append_assoc ts (put p block_end ∷ []) (ends_of n p)
-
 pub positive : (n i : ℕ) → n < i → nat_lt 0 i ≡ true
 positive n i h = grind (arith, nat_tests)
 
@@ -72,7 +54,7 @@ abbrev pub none_left : Position → ℕ → List Indent → List Token → Level
 none_left p i ds ts = record { indent = 0; indents = []; tokens = ts ++ ends_of (length (columns i ds)) p }
 
 ended_more : (p : Position) (i : ℕ) (ds : List Indent) (ts : List Token) → none_left p i ds (ts ++ put p block_end ∷ []) ≡ record { indent = 0; indents = []; tokens = ts ++ ends_of (suc (length (columns i ds))) p }
-ended_more p i ds ts = ap (λ (x : List Token). record { indent = 0; indents = []; tokens = x }) (more_ends (length (columns i ds)) p ts)
+ended_more p i ds ts = ap (λ (x : List Token). record { indent = 0; indents = []; tokens = x }) (append_assoc ts (put p block_end ∷ []) (ends_of (length (columns i ds)) p))
 
 all_collections : (p : Position) (i : ℕ) (ds : List Indent) (ts : List Token) → AreCollections i ds → unrolled 0 p i ds ts ≡ none_left p i ds ts
 unfolding unrolled
@@ -82,12 +64,7 @@ all_collections p i (d ∷ ds) ts a = rw (positive d.indent i a.1, a.0) (all_col
 -- all levels end at the stream's end, each collection with its token
 pub all_levels : (p : Position) (i : ℕ) (ds : List Indent) (ts : List Token) → AreLevels i ds → unrolled 0 p i ds ts ≡ none_left p i ds ts
 unfolding unrolled
-all_levels p i [] ts a = all_collections p i [] ts a
-all_levels p i (d ∷ ds) ts a = by d.needs_block_end a.0
-  where
-    by : (b : Bool) → IsTopLevel b i d.indent ds → unrolled 0 p i (record { indent = d.indent; needs_block_end = b } ∷ ds) ts ≡ none_left p i (record { indent = d.indent; needs_block_end = b } ∷ ds) ts
-    by true h = rw (positive d.indent i h) (all_collections p d.indent ds (ts ++ put p block_end ∷ []) a.1 ∙ ended_more p d.indent ds ts)
-    by false h = rw (positive d.indent i (omega (arith, h.0))) (all_collections p d.indent ds ts a.1)
+all_levels p i b ts a = grind (arith, nat_tests, eqb-true, all_collections, positive, ended_more)
 
 -- whether no collection is deeper than a column
 abbrev pub NoneDeeper : (column : ℕ) → List ℕ → Type 0
@@ -141,13 +118,7 @@ ends_split end (n ∷ ns) h = by (nat_lt end.col n) refl (λ k. ends_split end n
     by : (b : Bool) → nat_lt end.col n ≡ b →
         (NoneDeeper end.col (not_ended end.col ns) → ends_with_stream end ns ≡ ends_at end ns (not_ended end.col ns) ++ ends_of (length (not_ended end.col ns)) (stream_position end)) → NoneDeeper end.col (if b then not_ended end.col ns else n ∷ ns) →
         put (if b then end else stream_position end) block_end ∷ ends_with_stream end ns ≡ ends_at end (n ∷ ns) (if b then not_ended end.col ns else n ∷ ns) ++ ends_of (length (if b then not_ended end.col ns else n ∷ ns)) (stream_position end)
-    by true e later k =
-        let s = shorter end.col ns in
-        let many : suc (length ns) - length (not_ended end.col ns) ≡ suc (length ns - length (not_ended end.col ns)) = omega (arith, s) in
-        ap (λ l. put end block_end ∷ l) (later k) ∙ ap (λ m. replicate m (put end block_end) ++ ends_of (length (not_ended end.col ns)) (stream_position end)) (sym many)
-    by false e later k =
-        let none : suc (length ns) - suc (length ns) ≡ 0 = omega arith in
-        ap (λ l. put (stream_position end) block_end ∷ l) (none_ends end ns k.1) ∙ ap (λ m. replicate m (put end block_end) ++ ends_of (suc (length ns)) (stream_position end)) (sym none)
+    by a e later k = grind (arith, nat_tests, eqb-true, shorter, none_ends)
 
 -- the same by the levels of indentation that the scanner holds
 pub ends_by_levels : (end : Position) (bs : List ℕ) (i : ℕ) (ds : List Indent) → AreLevels i ds → not_ended end.col bs ≡ columns i ds → ends_with_stream end bs ≡ ends_at end bs (not_ended end.col bs) ++ ends_of (length (columns i ds)) (stream_position end)
@@ -161,11 +132,8 @@ ends_by_levels end bs i ds a e =
 -- a key outside flow need not be one, if none must be
 outside_free : (es : List Entry) (ks : List (Option Key)) (p : Position) (rest : List ℕ) → has_required ks ≡ false → MayChoose true false (outside_key es ks) p rest
 outside_free [] ks p rest h = grind arith
-outside_free (e ∷ es) [] p rest h = outside_free es [] p rest h
-outside_free (e ∷ es) (k ∷ ks) p rest h = outside_free es ks p rest (by (is_required k) h)
-  where
-    by : (b : Bool) → (b || has_required ks) ≡ false → has_required ks ≡ false
-    by a e = grind arith
+outside_free (e ∷ es) [] p rest h = grind (arith, nat_tests, eqb-true, outside_free es [] p rest h)
+outside_free (e ∷ es) (k ∷ ks) p rest h = grind (arith, nat_tests, eqb-true, outside_free es ks p rest)
 
 -- the text is read as the tokens before the separation and those at its end
 at_end : (text : List ℕ) (t : ScannerState) (a : Arrives text t) → t.rest ≡ [] → has_required t.held.keys ≡ false → IsRead text (a.tokens ++ tokens_at_end t.held.position a.base.site.blocks a.base.entries)
@@ -193,42 +161,15 @@ unrolled_outside s e a = rw e (ap (λ u. u.tokens) (all_levels s.position s.inde
 abbrev at_stream_end : Held → Held
 at_stream_end h = record h { position = next_line h.position; keys = cleared h.keys }
 
--- an account has a level for each entry
-pub same_levels : (es : List Entry) → is_empty (map level_of es) ≡ is_empty es
-same_levels a = grind arith
-
 pub same_flow : (allowed again : Bool) (fs : List FlowLevel) (ks : List (Option Key)) (es : List Entry) → AreEntries allowed again fs ks es → is_empty fs ≡ is_empty es
 same_flow allowed again a ks es b = grind arith
 
--- Its tokens with the stream's end are those of the row.
-outside_flow : (h : Held) (ts : List Token) (bs : List ℕ) → in_flow h ≡ false → AreLevels h.indent h.indents → h.tokens ≡ ts ++ ends_at h.position bs (not_ended h.position.col bs) → not_ended h.position.col bs ≡ columns h.indent h.indents →
-    (ended_at (unroll_indent 0 (at_stream_end h))).tokens ≡ ts ++ tokens_at_end h.position bs []
-outside_flow h ts bs out levels tokens blocks =
-    let s : Held = at_stream_end h in
-    let u = unrolled_outside s out levels in
-    let p : Position = next_line h.position in
-    let q : Position = stream_position h.position in
-    let here : List Token = ends_at h.position bs (not_ended h.position.col bs) in
-    let more : List Token = ends_of (length (columns h.indent h.indents)) q in
-    let ended : List Token = put q stream_end ∷ [] in
-    let all : List Token → Position → List Token = λ x y. x ++ put y stream_end ∷ [] in
-    ap (λ x. all x (unroll_indent 0 s).position) u.0 ∙
-    (ap (λ y. all (h.tokens ++ ends_of (length (columns h.indent h.indents)) p) y) u.1 ∙
-    (ap (λ y. all (h.tokens ++ ends_of (length (columns h.indent h.indents)) y) y) (same_line_start h.position) ∙
-    (ap (λ x. all (x ++ more) q) tokens ∙
-    (ap (λ x. x ++ ended) (append_assoc ts here more) ∙
-    (append_assoc ts (here ++ more) ended ∙
-    ap (λ x. ts ++ (x ++ ended)) (sym (ends_by_levels h.position bs h.indent h.indents levels blocks)))))))
-
 in_flow_too : (h : Held) (ts : List Token) (bs : List ℕ) (e : Entry) (es : List Entry) → in_flow h ≡ true → h.tokens ≡ ts → (ended_at (unroll_indent 0 (at_stream_end h))).tokens ≡ ts ++ tokens_at_end h.position bs (e ∷ es)
-in_flow_too h ts bs e es within tokens =
-    let s : Held = at_stream_end h in
-    ap (λ x. x.tokens ++ put x.position stream_end ∷ []) (unrolled_in_flow 0 s (not-true (is_empty s.flow) within)) ∙
-    (ap (λ y. h.tokens ++ put y stream_end ∷ []) (same_line_start h.position) ∙ ap (λ x. x ++ put (stream_position h.position) stream_end ∷ []) tokens)
+in_flow_too h ts bs e es within tokens = grind (arith, nat_tests, eqb-true, unrolled_in_flow, not-true, same_line_start)
 
 last_tokens : (h : Held) (ts : List Token) (x : Site) (es : List Entry) → is_empty h.flow ≡ is_empty es → AreLevels h.indent h.indents → h.tokens ≡ ts ++ ends_here (not (is_empty h.flow)) h.position x.blocks →
     (site_here (not (is_empty h.flow)) h.position x).blocks ≡ columns h.indent h.indents → (ended_at (unroll_indent 0 (at_stream_end h))).tokens ≡ ts ++ tokens_at_end h.position x.blocks es
-last_tokens h ts x [] e levels tokens blocks = grind (arith, outside_flow, ends_here, columns)
+last_tokens h ts x [] e levels tokens blocks = grind (arith, nat_tests, eqb-true, unrolled_outside, same_line_start, append_assoc, ends_by_levels, ends_here, columns)
 last_tokens h ts x (y ∷ es) e levels tokens blocks =
     in_flow_too h ts x.blocks y es (ap not e) (subst (λ b. h.tokens ≡ ts ++ ends_here (not b) h.position x.blocks) e tokens ∙ append-nil ts)
 

@@ -1,9 +1,8 @@
 -- TABs among the blanks of a line, left of a column.
-use Rattle.proof_scanner.proofs.Common.{List, [], arith, false, has_tab_within, nat_lt, refl, suc, take, zero, ℕ, ◌&&◌, ◌-◌, ◌==◌, ◌∷◌, ◌≡◌}
+use Rattle.proof_scanner.proofs.Common.{List, [], arith, false, has_tab_within, nat_lt, suc, take, ℕ, ◌&&◌, ◌-◌, ◌==◌, ◌∷◌, ◌≡◌, eqb-true, nat_tests}
 
 pub take_none : (n : ℕ) → ◌≡◌ {A = List ℕ} (take n []) []
-take_none zero = refl
-take_none (suc n) = refl
+take_none a = grind (arith, nat_tests, eqb-true)
 
 pub none_before : (column : ℕ) → column - 0 ≡ column
 none_before column = omega arith

@@ -1,5 +1,5 @@
 -- The way to the next token, or to the text's end, keeps what holds between two fetches, with the separation up to there.
-use Rattle.proof_scanner.proofs.Common.{AreEntries, BeginsButForKey, Bool, Entry, FlowLevel, HasNoTabs, Holds, IsAdjacent, IsLine, IsLive, IsOpenHere, IsOpenOutside, IsReadOn, IsTakenBy, Key, KnowsKey, Line, List, None, Ok, Option, Position, Previous, ScannerState, SoFar, Some, Stands, [], after_separation, ap, append_assoc, append_cancel_right, arith, before_by, before_past, begins_free_line, begins_line, begins_separation, begins_white, between, block_scalar, both_hold, chosen, eqb-true, false, follows_plain, has_break, has_no_nul, has_tab_within, if◌then◌else◌, in_flow, inl, inr, is_at_comment_or_end, is_at_line_end, is_empty, is_free, is_indented_by_spaces, is_one_of, is_renewed, is_separation, is_white, last_line, least_column, length, nat_tests, not, or-false, or-true, outside_key, plain_scalar, position_after, position_append, refl, skip_to_next_token, subst, sym, tokens_up_to, true, weakened, went, ℕ, ◌&&◌, ◌++◌, ◌+◌, ◌==◌, ◌||◌, ◌∙◌, ◌∷◌, ◌≡◌, ◌≤◌}
+use Rattle.proof_scanner.proofs.Common.{AreEntries, BeginsButForKey, Bool, HasNoTabs, Holds, IsAdjacent, IsLine, IsLive, IsOpenHere, IsOpenOutside, IsReadOn, IsTakenBy, Key, KnowsKey, Line, List, None, Ok, Option, Position, Previous, ScannerState, SoFar, Some, Stands, [], after_separation, ap, append_assoc, append_cancel_right, arith, before_by, before_past, begins_free_line, begins_separation, between, both_hold, chosen, eqb-true, false, follows_plain, has_no_nul, in_flow, inl, inr, is_at_comment_or_end, is_empty, is_indented_by_spaces, is_one_of, is_separation, least_column, nat_tests, not, or-false, or-true, outside_key, plain_scalar, position_after, position_append, refl, skip_to_next_token, subst, sym, tokens_up_to, true, weakened, went, ℕ, ◌&&◌, ◌++◌, ◌==◌, ◌||◌, ◌∙◌, ◌∷◌, ◌≡◌, ◌≤◌}
 use Rattle.proof_lexers.specs.PlainEnds as plain_ends
 use Rattle.proof_lexers.proofs.Separation.EachSeparation.{no_nul_after}
 use Rattle.proof_scanner.proofs.Cut.Positions.{not_before_after, index_after}
@@ -8,55 +8,18 @@ use Rattle.proof_scanner.proofs.Cut.Heres.{before_both}
 use Rattle.proof_scanner.proofs.Cut.Stoods.{adjacent_filled}
 use Rattle.proof_scanner.proofs.Known.Steps.{known_past}
 use Rattle.proof_scanner.proofs.Sound.Arrivals.{unbroken}
-use Rattle.proof_scanner.proofs.Sound.LastLines.{last_whole, at_break, column_after, no_comment_in_last}
+use Rattle.proof_scanner.proofs.Sound.LastLines.{last_whole, column_after, no_comment_in_last}
 use Rattle.proof_scanner.proofs.Sound.Skips.{Spaced, IsAt, IsIn, Cleared, skip_clears}
-use Rattle.proof_scanner.proofs.Sound.Passed.{skip_stays, Exact, exact, live_before_it, may_before, same_has_break, first_comment, renewed_alike, free_line_append, read_on_append, some_columns, least_is, goes_on}
-use Rattle.proof_scanner.proofs.Sound.QuotedKeeps.{empty_end}
+use Rattle.proof_scanner.proofs.Sound.Passed.{skip_stays, Exact, exact, live_before_it, may_before, same_has_break, first_comment, renewed_alike, free_line_append, read_on_append, least_is, goes_on}
 use Rattle.proof_scanner.proofs.Sound.Sides.{stands_by}
 
 -- ---- where the way begins
 
--- where a line begins, the column is the length of the last line so far
-col_here : (b : Previous) (q : Position) (g a : List ℕ) → at_break a ≡ false → is_empty a ≡ false → IsReadOn b q g a → begins_line b g ≡ true → (position_after q g a).col ≡ length (last_line g)
-col_here block_scalar q g a e some r h = column_after q g a e ∙ by (has_break g) refl
-  where
-    by : (x : Bool) → has_break g ≡ x → (if x then length (last_line g) else q.col + length g) ≡ length (last_line g)
-    by true k = refl
-    by false k = let z : q.col ≡ 0 = r some in let w : length (last_line g) ≡ length g = ap length (last_whole g k) in omega (arith, z, w)
-col_here _ q g a e some r h = column_after q g a e ∙ ap (λ x. if x then length (last_line g) else q.col + length g) h
-
-spaced_by : (b f : Bool) (n m : ℕ) (l : List ℕ) → b ≡ true → (not b || not (has_tab_within n l)) ≡ true → n ≡ m → has_tab_within m l ≡ false
-spaced_by b f n m l e h k = grind arith
-
--- a plain scalar's gap is followed by a comment, or by no separation
-after_plain : (a : List ℕ) → begins_white a ≡ false → begins_separation a ≡ true → is_at_comment_or_end a ≡ true
-after_plain b w h = grind arith
-
 spaced_here : (b : Previous) (bs : List ℕ) (aw : Bool) (q : Position) (g a : List ℕ) → is_indented_by_spaces b bs aw g ≡ true → begins_separation a ≡ true → is_at_comment_or_end a ≡ false → IsReadOn b q g a → Spaced b (least_column bs aw) g
-spaced_here d bs aw q g a h s n r = grind (arith, after_plain, spaced_by, or-false)
-
--- in the midst of a line
-in_midst : (a : List ℕ) → has_no_nul a ≡ true → is_at_comment_or_end a ≡ false → (at_break a ≡ false) × (is_empty a ≡ false) × (is_at_line_end a ≡ false)
-in_midst b n h = grind arith
-
--- What is known of the line where the way begins.
-at_start : (text : List ℕ) (t : ScannerState) (s : Stands text t) → begins_separation t.rest ≡ true → is_at_comment_or_end t.rest ≡ false → is_indented_by_spaces s.base.site.before s.base.site.blocks s.base.site.awaits s.separation ≡ true →
-    IsAt s.base.site.before (least_column s.base.site.blocks s.base.site.awaits) s.separation t.held
-at_start text t s begins midst indented =
-    let m = in_midst t.rest s.is_clean midst in
-    record {
-      leading_is = λ i. s.is_leading (ap is_empty s.blocks_are ∙ some_columns t.held.indent t.held.indents s.are_levels i) m.1 (no_comment_in_last s.separation t.rest s.is_filled m.2);
-      col_is = λ b. ap (λ p. p.col) s.position_is ∙ col_here s.base.site.before s.base.site.position s.separation t.rest m.0 m.1 s.read_on b;
-      spaced = spaced_here s.base.site.before s.base.site.blocks s.base.site.awaits s.base.site.position s.separation t.rest indented begins midst s.read_on;
-    }
+spaced_here d bs aw q g a h s n r = grind (arith, or-false)
 
 pub is_in : (text : List ℕ) (t : ScannerState) (s : Stands text t) → begins_separation t.rest ≡ true → IsIn s.base.site.before (least_column s.base.site.blocks s.base.site.awaits) between s.separation t.held t.rest
-is_in text t s begins = by (is_at_comment_or_end t.rest) refl s.has_no_tabs
-  where
-    by : (x : Bool) → is_at_comment_or_end t.rest ≡ x → HasNoTabs s.base.site s.separation t.rest → IsIn s.base.site.before (least_column s.base.site.blocks s.base.site.awaits) between s.separation t.held t.rest
-    by true e h = inl e
-    by false e (inl h) = absurd (cc (e, h))
-    by false e (inr h) = inr (at_start text t s begins e h)
+is_in text t s begins = grind (arith, nat_tests, eqb-true, no_comment_in_last, column_after, last_whole, spaced_here)
 
 -- ---- where it ends
 
@@ -67,9 +30,7 @@ among (d ∷ f) p c h = rw (among f p c h) (or-true (35 == d))
 -- where a separation was passed, it is none that follows a plain scalar without a comment
 no_plain : (b : Previous) (q : Position) (f g rest rest2 : List ℕ) → rest ≡ g ++ rest2 → IsReadOn b q f rest → begins_separation rest ≡ true → begins_separation rest2 ≡ false → is_separation false g rest2 ≡ true → follows_plain b (f ++ g) ≡ false
 no_plain plain_scalar q f [] rest rest2 cut r begins solid fills = absurd (cc (begins, solid, cut))
-no_plain plain_scalar q f (c ∷ p) rest rest2 cut r begins solid fills =
-    let white : is_white c ≡ false = rw cut at r in
-    ap not (among f p c (first_comment c p rest2 white fills))
+no_plain plain_scalar q f (c ∷ p) rest rest2 cut r begins solid fills = grind (arith, nat_tests, eqb-true, among, first_comment)
 no_plain _ q f g rest rest2 cut r begins solid fills = refl
 
 indented_after : (b : Previous) (bs : List ℕ) (aw : Bool) (g : List ℕ) → follows_plain b g ≡ false → Spaced b (least_column bs aw) g → is_indented_by_spaces b bs aw g ≡ true
@@ -79,11 +40,8 @@ indented_after b bs aw g f h = grind arith
 line_after : (fl allowed broken breaks : Bool) (k : Option Key) (p p2 : Position) (rest rest2 : List ℕ) (l : Line) → ((x : Key) → IsLive x p2 rest2 → IsLive x p rest) → ((x : Key) → k ≡ Some x → IsLive x p2 rest2 → breaks ≡ false) →
     IsLine fl allowed broken p rest k l → IsLine fl ((not fl && breaks) || allowed) (broken || breaks) p2 rest2 k l
 line_after true allowed broken breaks k p p2 rest rest2 l before none h = h
-line_after false allowed broken breaks k p p2 rest rest2 l before none h = (h.0, ap (λ x. breaks || x) h.1 ∙ by breaks (is_free l) broken, taken k none h.2)
+line_after false allowed broken breaks k p p2 rest rest2 l before none h = (h.0, ap (λ x. breaks || x) h.1 ∙ (grind (arith, nat_tests, eqb-true)), taken k none h.2)
   where
-    by : (x y z : Bool) → (x || (y || z)) ≡ (y || (z || x))
-    by a b z = grind (arith, nat_tests, eqb-true)
-
     taken : (k : Option Key) → ((x : Key) → k ≡ Some x → IsLive x p2 rest2 → breaks ≡ false) → IsTakenBy allowed p rest k l → IsTakenBy (breaks || allowed) p2 rest2 k l
     taken None none h = tt
     taken (Some x) none h = λ live. let d = h (before x live) in (d.0, ap (λ y. y || allowed) (none x refl live) ∙ d.1)
@@ -92,19 +50,9 @@ open_after : (k : Option Key) (q p p2 : Position) (rest rest2 bs : List ℕ) →
 open_after None q p p2 rest rest2 bs before h = tt
 open_after (Some k) q p p2 rest rest2 bs before h = (h.0, λ live. let o : IsOpenHere k p bs = h.1 (before k live) in record { column_is = o.column_is; must_be = o.must_be })
 
-entries_after : (allowed again breaks : Bool) (fs : List FlowLevel) (ks : List (Option Key)) (es : List Entry) → AreEntries allowed again fs ks es → AreEntries ((not (not (is_empty fs)) && breaks) || allowed) again fs ks es
-entries_after allowed again a b ks es h = grind arith
-
--- the line of an open key is that of the last piece's end, or before
-key_line : (k : Option Key) (q p : Position) (rest bs : List ℕ) (x : Key) → IsOpenOutside k q p rest bs → k ≡ Some x → x.position.line ≤ q.line
-key_line a q p rest bs x h e = grind arith
-
 module _ (text : List ℕ) (t u : ScannerState) (s : Stands text t) (begins : begins_separation t.rest ≡ true) (e : Exact t u) (c : Cleared s.base.site.before (least_column s.base.site.blocks s.base.site.awaits) s.separation t.rest u) where
-  same_passed : c.passed ≡ e.separation
-  same_passed = append_cancel_right c.passed e.separation u.rest (sym c.cut ∙ e.cut)
-
   at : is_empty u.rest ≡ false → IsAt s.base.site.before (least_column s.base.site.blocks s.base.site.awaits) (s.separation ++ e.separation) u.held
-  at some = subst (λ g. IsAt s.base.site.before (least_column s.base.site.blocks s.base.site.awaits) (s.separation ++ g) u.held) same_passed (c.clear some)
+  at some = subst (λ g. IsAt s.base.site.before (least_column s.base.site.blocks s.base.site.awaits) (s.separation ++ g) u.held) (append_cancel_right c.passed e.separation u.rest (sym c.cut ∙ e.cut)) (c.clear some)
 
   abbrev Now : ScannerState
   Now = after_separation t.held e.is_leading e.separation u.rest
@@ -113,7 +61,7 @@ module _ (text : List ℕ) (t u : ScannerState) (s : Stands text t) (begins : be
   tabs = by (is_empty u.rest) refl
     where
       by : (x : Bool) → is_empty u.rest ≡ x → HasNoTabs s.base.site (s.separation ++ e.separation) u.rest
-      by true h = inl (empty_end u.rest h)
+      by true h = inl (grind arith)
       by false h = inr (indented_after s.base.site.before s.base.site.blocks s.base.site.awaits (s.separation ++ e.separation)
           (no_plain s.base.site.before s.base.site.position s.separation e.separation t.rest u.rest e.cut s.read_on begins e.solid e.is_filled) (at h).spaced)
 
@@ -123,13 +71,7 @@ module _ (text : List ℕ) (t u : ScannerState) (s : Stands text t) (begins : be
 
   -- and then no break was passed
   none_broken : (x : Key) → outside_key s.base.entries t.held.keys ≡ Some x → IsLive x (position_after t.held.position e.separation u.rest) u.rest → plain_ends.has_break e.separation ≡ false
-  none_broken x k l =
-      let first : x.position.line ≤ s.base.site.position.line = key_line (outside_key s.base.entries t.held.keys) s.base.site.position t.held.position t.rest s.base.site.blocks x s.is_open k in
-      let later : s.base.site.position.line ≤ t.held.position.line = subst (λ p. s.base.site.position.line ≤ p.line) (sym s.position_is) (not_before_after s.base.site.position s.separation t.rest).0 in
-      same_has_break e.separation ∙ unbroken t.held.position e.separation u.rest l.1 e.solid (omega (arith, first, later, l.0))
-
-  levels : is_empty s.base.site.blocks ≡ false → is_empty u.held.indents ≡ false
-  levels h = grind arith
+  none_broken x k l = grind (arith, nat_tests, eqb-true, not_before_after, same_has_break, unbroken)
 
   now : Stands text Now
   now = stands_by text Now t.held.flow t.held.keys s.base refl refl (record {
@@ -141,12 +83,12 @@ module _ (text : List ℕ) (t u : ScannerState) (s : Stands text t) (begins : be
     awaits_is = s.awaits_is;
     are_levels = s.are_levels;
     has_no_tabs = tabs;
-    is_leading = λ blocks some comment. sym (ap (λ y. y.held.leading) e.is_state) ∙ (at some).leading_is (levels blocks);
+    is_leading = λ blocks some comment. sym (ap (λ y. y.held.leading) e.is_state) ∙ (at some).leading_is (grind arith);
     read_on = read_on_append s.base.site.before s.base.site.position s.separation e.separation t.rest u.rest e.cut e.solid s.read_on;
     one_each = s.one_each;
     are_entries = subst (λ b. AreEntries ((not (in_flow t.held) && plain_ends.has_break e.separation) || t.held.key_allowed) b t.held.flow t.held.keys s.base.entries)
         (sym (renewed_alike s.base.site.before s.base.site.position s.separation e.separation t.rest u.rest e.cut e.is_filled s.read_on))
-        (entries_after t.held.key_allowed (is_renewed s.base.site.before s.separation) (plain_ends.has_break e.separation) t.held.flow t.held.keys s.base.entries s.are_entries);
+        (grind arith);
     line_is = subst (λ b. IsLine (in_flow t.held) ((not (in_flow t.held) && plain_ends.has_break e.separation) || t.held.key_allowed) b (position_after t.held.position e.separation u.rest) u.rest (outside_key s.base.entries t.held.keys) s.base.line)
         (ap (λ b. begins_free_line s.base.site.before s.separation || b) (same_has_break e.separation) ∙ sym (free_line_append s.base.site.before s.base.site.position s.separation e.separation t.rest u.rest e.cut s.read_on))
         (line_after (in_flow t.held) t.held.key_allowed (begins_free_line s.base.site.before s.separation) (plain_ends.has_break e.separation) (outside_key s.base.entries t.held.keys) t.held.position (position_after t.held.position e.separation u.rest) t.rest u.rest s.base.line live none_broken s.line_is);

@@ -1,5 +1,5 @@
 -- The function of the model that reads a colon: what holds where it begins holds between two fetches after it.
-use Rattle.proof_scanner.proofs.Common.{Arrives, Entry, Fault, FlowLevel, Held, Holds, Key, List, None, Ok, Option, Result, ScannerState, Some, Stands, Tok, [], ap, chained, check_value_space, colon_may_precede, false, fetch_value, inl, inr, is_empty, is_value, on_held, opens_pair, paired, past, push, subst, sym, top_key, true, try_held, ℕ, ◌>>=◌, ◌∷◌, ◌≡◌, ◌⊎◌}
+use Rattle.proof_scanner.proofs.Common.{Arrives, Entry, Fault, FlowLevel, Held, Holds, Key, List, None, Ok, Option, Result, ScannerState, Some, Stands, Tok, [], ap, chained, check_value_space, colon_may_precede, false, fetch_value, inl, inr, is_empty, is_value, on_held, opens_pair, paired, past, push, subst, sym, top_key, true, try_held, ℕ, ◌>>=◌, ◌∷◌, ◌≡◌, ◌⊎◌, nat_tests, eqb-true, arith}
 use Rattle.model_scanner.specs.State.{after}
 use Rattle.model_scanner.specs.Block.{value_of}
 use Rattle.proof_scanner.proofs.Cut.Nodes.{IsDeep}
@@ -32,9 +32,7 @@ value_keeps text more t a e ind deep =
     inner f fs (Some k) ks y es flow x apart = keyed_inside text more t f fs k ks y es x e apart (value_here text more t (f ∷ fs) (Some k ∷ ks) (y ∷ es) x flow e ind) deep (key_before text t f fs k ks y es x (ap is_empty e))
 
     by : ArrivesOutside text t ⊎ ArrivesInside text t → colon_may_precede more ≡ true → Holds (Stands text) (value_on (past_colon more h))
-    by (inl o) apart =
-        subst (λ fs. Holds (Stands text) (value_by more t fs t.held.keys)) (sym o.flow_is)
-        (subst (λ ks. Holds (Stands text) (value_by more t [] ks)) (sym o.keys_are) (outer o.key o.flow_is o.here apart))
+    by (inl o) apart = grind (arith, nat_tests, eqb-true, outer)
     by (inr i) apart =
         subst (λ fs. Holds (Stands text) (value_by more t fs t.held.keys)) (sym i.flow_is)
         (subst (λ ks. Holds (Stands text) (value_by more t (i.level ∷ i.levels) ks)) (sym i.keys_are)

@@ -1,5 +1,5 @@
 -- Spaces, breaks and comments after a `?`: what the model reads there is all of them, and no TAB is among them but in comments.
-use Rattle.proof_scanner.proofs.Common.{At, Bool, Err, Fault, HasPassed, Held, Holds, List, Ok, Result, ScannerState, [], after_separation, and_false, and_parts, ap, append_cancel_right, arith, begins_white_space, begins_with, begins_with_space_or_break, both_hold, eqb-true, false, has_break, has_no_break, has_tab_before_piece, if◌then◌else◌, inl, inr, is_at_gap, is_blank, is_blank_or_end, is_break, is_cr_lf, is_nul, is_one_of, is_separation, last_line, moved, nat_tests, no_break_hash, not, or_false, or_true, past_line, refl, refused, same_break, skip_yaml_whitespace, slice_index, subst, sym, true, weakened, went, white, white_end, ℕ, ◌&&◌, ◌++◌, ◌==◌, ◌||◌, ◌∙◌, ◌∷◌, ◌≡◌, ◌⊎◌}
+use Rattle.proof_scanner.proofs.Common.{At, Bool, Err, Fault, HasPassed, Held, Holds, List, Ok, Result, ScannerState, [], after_separation, and_false, and_parts, ap, append_cancel_right, arith, begins_white_space, begins_with, begins_with_space_or_break, both_hold, eqb-true, false, has_break, has_no_break, has_tab_before_piece, if◌then◌else◌, inr, is_at_gap, is_blank, is_blank_or_end, is_break, is_nul, is_one_of, is_separation, last_line, moved, nat_tests, no_break_hash, not, or_true, refl, refused, same_break, skip_yaml_whitespace, slice_index, subst, sym, true, weakened, went, white, white_end, ℕ, ◌&&◌, ◌++◌, ◌==◌, ◌||◌, ◌∙◌, ◌∷◌, ◌≡◌, ◌⊎◌}
 use Rattle.yaml_chars.specs.Class as class
 use Rattle.model_scanner.specs.Space.{at_break}
 use Rattle.proof_scanner.proofs.Cut.Passes.{white_passed}
@@ -24,12 +24,8 @@ past_white false (c ∷ r) = (if goes_over c then past_white (c == 35) r else c 
 
 pub white_cut : (in_comment : Bool) (a : List ℕ) → a ≡ white_of in_comment a ++ past_white in_comment a
 white_cut b [] = refl
-white_cut true (c ∷ r) = ap (λ x. c ∷ x) (white_cut (not (is_break c)) r)
-white_cut false (c ∷ r) = by (goes_over c) (white_cut (c == 35) r)
-  where
-    by : (b : Bool) → r ≡ white_of (c == 35) r ++ past_white (c == 35) r → c ∷ r ≡ (if b then c ∷ white_of (c == 35) r else []) ++ (if b then past_white (c == 35) r else c ∷ r)
-    by true e = ap (λ x. c ∷ x) e
-    by false e = refl
+white_cut true (c ∷ r) = grind (arith, nat_tests, eqb-true, white_cut (not (is_break c)) r)
+white_cut false (c ∷ r) = grind (arith, nat_tests, eqb-true, white_cut (c == 35) r)
 
 goes_over_none : (c : ℕ) → c ≡ 9 → goes_over c ≡ false
 unfolding is_break
@@ -55,29 +51,8 @@ none_first c s e h = grind (arith, nat_tests, last_first, has_break, eqb-true)
 pub no_tab_in_last : (in_comment : Bool) (a : List ℕ) → (past_white in_comment a ≡ []) ⊎ (is_one_of (last_line (white_of in_comment a)) 9 ≡ false)
 unfolding is_break
 no_tab_in_last b [] = inr refl
-no_tab_in_last true (c ∷ r) = by (is_break c) refl (no_tab_in_last (not (is_break c)) r)
-  where
-    Fits : Bool → Type 0
-    Fits b = (past_white (not b) r ≡ []) ⊎ (is_one_of (last_line (white_of (not b) r)) 9 ≡ false)
-
-    commented : (x : Bool) → has_no_break (white_of true r) ≡ x → Fits false → (past_white true r ≡ []) ⊎ (is_one_of (if not x then last_line (white_of true r) else c ∷ last_line (white_of true r)) 9 ≡ false)
-    commented true e h = inl (in_comment_ends r e)
-    commented false e h = h
-
-    by : (b : Bool) → is_break c ≡ b → Fits b → (past_white (not b) r ≡ []) ⊎ (is_one_of (last_line (c ∷ white_of (not b) r)) 9 ≡ false)
-    by a e h = grind (arith, nat_tests, last_first, white_of, has_break, commented, eqb-true)
-no_tab_in_last false (c ∷ r) = by (goes_over c) refl (no_tab_in_last (c == 35) r)
-  where
-    no_tab : (d : ℕ) → goes_over d ≡ true → (9 == d) ≡ false
-    no_tab d h = of (9 == d) refl
-      where
-        of : (b : Bool) → (9 == d) ≡ b → b ≡ false
-        of true e = let same : 9 ≡ d = eqb-true 9 d e in absurd (cc (subst (λ x. goes_over x ≡ true) (sym same) h))
-        of false e = refl
-
-    by : (b : Bool) → goes_over c ≡ b → (past_white (c == 35) r ≡ []) ⊎ (is_one_of (last_line (white_of (c == 35) r)) 9 ≡ false) →
-        ((if b then past_white (c == 35) r else c ∷ r) ≡ []) ⊎ (is_one_of (last_line (if b then c ∷ white_of (c == 35) r else [])) 9 ≡ false)
-    by a e h = grind (arith, nat_tests, none_first, white_of, no_tab, eqb-true)
+no_tab_in_last true (c ∷ r) = grind (arith, in_comment_ends, last_first, eqb-true, no_tab_in_last (not (is_break c)) r)
+no_tab_in_last false (c ∷ r) = grind (arith, eqb-true, none_first, no_tab_in_last (c == 35) r)
 
 -- ---- what the model reads
 
@@ -88,71 +63,26 @@ IsPastWhite b leading a u = (u.rest ≡ past_white b a) × (u.held.leading ≡ (
 -- a line begins after a break, and after the line feed of CR LF
 feed_after : (c : ℕ) (a : List ℕ) (s : Held) → is_break c ≡ true → ((at_break c a s).leading || has_break (white_of false a)) ≡ true
 unfolding is_break
-feed_after c a s e = by (is_cr_lf c a) refl
+feed_after c a s e = grind (arith, nat_tests, eqb-true, feed, and_parts, or_true)
   where
     feed : (r : List ℕ) → (slice_index r 0 == 10) ≡ true → has_break (white_of false r) ≡ true
     feed [] h = absurd (cc h)
     feed (d ∷ r) h = let same : d ≡ 10 = eqb-true d 10 h in rw same refl
 
-    leads : Held → Bool
-    leads h = h.leading
-
-    by : (b : Bool) → is_cr_lf c a ≡ b → (leads (if b then moved s else past_line s) || has_break (white_of false a)) ≡ true
-    by true f = ap (λ b. s.leading || b) (feed a (and_parts (c == 13) (slice_index a 0 == 10) f).1) ∙ or_true s.leading
-    by false f = refl
-
 white_read : (in_comment found : Bool) (a : List ℕ) (s : Held) → Holds (IsPastWhite in_comment s.leading a) (white in_comment found a s)
 unfolding white is_break
-white_read b found [] s = ended found []
-  where
-    ended : (f : Bool) (r : List ℕ) → Holds (λ u. (u.rest ≡ r) × (u.held.leading ≡ (s.leading || false))) (white_end f r s)
-    ended true r = went (refl, sym (or_false s.leading))
-    ended false r = refused
+white_read b found [] s = grind (arith, nat_tests, eqb-true, went, refused)
 white_read i found (c ∷ a) s = of i (class.is_break c) (c == 32) (c == 35) refl refl refl (λ i f u. white_read i f a u)
   where
-    Reads : Bool → Type 0
-    Reads i = (f : Bool) (u : Held) → Holds (IsPastWhite i u.leading a) (white i f a u)
-
-    ended : (f : Bool) → Holds (λ u. (u.rest ≡ c ∷ a) × (u.held.leading ≡ (s.leading || false))) (white_end f (c ∷ a) s)
-    ended true = went (refl, sym (or_false s.leading))
-    ended false = refused
-
     more : (i : Bool) (u : ScannerState) → is_break c ≡ false → IsPastWhite i s.leading a u → (u.rest ≡ past_white i a) × (u.held.leading ≡ (s.leading || has_break (c ∷ white_of i a)))
     more i u e h = (h.0, h.1 ∙ ap (λ b. s.leading || not (not b && has_no_break (white_of i a))) (sym e))
-
-    line : (u : ScannerState) → is_break c ≡ true → IsPastWhite false (at_break c a s).leading a u → (u.rest ≡ past_white false a) × (u.held.leading ≡ (s.leading || has_break (c ∷ white_of false a)))
-    line u e h = (h.0, h.1 ∙ feed_after c a s e ∙ (sym (or_true s.leading) ∙ ap (λ b. s.leading || not (not b && has_no_break (white_of false a))) (sym e)))
-
-    space_no_hash : (c == 32) ≡ true → (c == 35) ≡ false
-    space_no_hash f = let same : c ≡ 32 = eqb-true c 32 f in rw same refl
-
-    over : (u : ScannerState) (z : Bool) → goes_over c ≡ true → (c == 35) ≡ z → (u.rest ≡ past_white z a) × (u.held.leading ≡ (s.leading || has_break (c ∷ white_of z a))) → IsPastWhite false s.leading (c ∷ a) u
-    over u z e f h =
-        subst (λ g. (u.rest ≡ (if g then past_white (c == 35) a else c ∷ a)) × (u.held.leading ≡ (s.leading || has_break (if g then c ∷ white_of (c == 35) a else [])))) (sym e)
-        (subst (λ x. (u.rest ≡ past_white x a) × (u.held.leading ≡ (s.leading || has_break (c ∷ white_of x a)))) (sym f) h)
-
-    under : (u : ScannerState) (x : Bool) → is_break c ≡ x → (u.rest ≡ past_white (not x) a) × (u.held.leading ≡ (s.leading || has_break (c ∷ white_of (not x) a))) → IsPastWhite true s.leading (c ∷ a) u
-    under u x e h = subst (λ y. (u.rest ≡ past_white (not y) a) × (u.held.leading ≡ (s.leading || has_break (c ∷ white_of (not y) a)))) (sym e) h
 
     stay : (u : ScannerState) → goes_over c ≡ false → (u.rest ≡ c ∷ a) × (u.held.leading ≡ (s.leading || false)) → IsPastWhite false s.leading (c ∷ a) u
     stay u e h = subst (λ g. (u.rest ≡ (if g then past_white (c == 35) a else c ∷ a)) × (u.held.leading ≡ (s.leading || has_break (if g then c ∷ white_of (c == 35) a else [])))) (sym e) h
 
-    of : (i x y z : Bool) → class.is_break c ≡ x → (c == 32) ≡ y → (c == 35) ≡ z → ((j : Bool) → Reads j) →
+    of : (i x y z : Bool) → class.is_break c ≡ x → (c == 32) ≡ y → (c == 35) ≡ z → ((j : Bool) → ((f : Bool) (u : Held) → Holds (IsPastWhite j u.leading a) (white j f a u))) →
         Holds (IsPastWhite i s.leading (c ∷ a)) (if x then white false true a (at_break c a s) else (if i then white true found a (moved s) else (if y then white false true a (moved s) else (if z then white true found a (moved s) else white_end found (c ∷ a) s))))
-    of true true y z e f g h = let br : is_break c ≡ true = same_break c ∙ e in weakened (λ u k. under u true br (line u br k)) (h false true (at_break c a s))
-    of true false y z e f g h = let br : is_break c ≡ false = same_break c ∙ e in weakened (λ u k. under u false br (more true u br k)) (h true found (moved s))
-    of false true y z e f g h =
-        let br : is_break c ≡ true = same_break c ∙ e in
-        weakened (λ u k. over u false (ap (λ b. ((c == 32) || b) || (c == 35)) br ∙ ap (λ b. b || (c == 35)) (or_true (c == 32))) (no_break_hash c e) (line u br k)) (h false true (at_break c a s))
-    of false false true z e f g h =
-        let br : is_break c ≡ false = same_break c ∙ e in
-        weakened (λ u k. over u false (ap (λ b. (b || is_break c) || (c == 35)) f) (space_no_hash f) (more false u br k)) (h false true (moved s))
-    of false false false true e f g h =
-        let br : is_break c ≡ false = same_break c ∙ e in
-        weakened (λ u k. over u true (ap (λ b. ((c == 32) || is_break c) || b) g ∙ or_true ((c == 32) || is_break c)) g (more true u br k)) (h true found (moved s))
-    of false false false false e f g h =
-        let br : is_break c ≡ false = same_break c ∙ e in
-        weakened (λ u k. stay u (ap (λ b. (b || is_break c) || (c == 35)) f ∙ (ap (λ b. b || (c == 35)) br ∙ g)) k) (ended found)
+    of a b y z e f g h = grind (arith, nat_tests, same_break, weakened, feed_after, or_true, more, no_break_hash, eqb-true, stay, went, refused)
 
 -- The state after spaces, breaks and comments.
 abbrev pub past_white_space : ScannerState → ScannerState
@@ -179,11 +109,8 @@ white_exactly t = weakened exactly (both_hold (white_passed t) (white_read false
 pub no_tab_in : (in_comment : Bool) (a : List ℕ) → has_tab_before_piece in_comment (white_of in_comment a) ≡ false
 unfolding is_break
 no_tab_in b [] = refl
-no_tab_in true (c ∷ r) = no_tab_in (not (is_break c)) r
-no_tab_in false (c ∷ r) = by (goes_over c) (c == 9) refl refl (no_tab_in (c == 35) r)
-  where
-    by : (b x : Bool) → goes_over c ≡ b → (c == 9) ≡ x → has_tab_before_piece (c == 35) (white_of (c == 35) r) ≡ false → has_tab_before_piece false (if b then c ∷ white_of (c == 35) r else []) ≡ false
-    by a x e f h = grind (arith, nat_tests, goes_over_none, and_false, goes_over, eqb-true)
+no_tab_in true (c ∷ r) = grind (arith, nat_tests, eqb-true, no_tab_in (not (is_break c)) r)
+no_tab_in false (c ∷ r) = grind (arith, nat_tests, goes_over_none, and_false, eqb-true, no_tab_in (c == 35) r)
 
 -- Neither a space nor a break stands there, and that is refused.
 pub record IsMissed (more : List ℕ) (s : Held) : Type 0 where
@@ -194,16 +121,7 @@ pub record IsMissed (more : List ℕ) (s : Held) : Type 0 where
 -- one of them stands after a `?` that is at a gap, or it is refused
 pub white_or_missed : (more : List ℕ) (s : Held) → is_at_gap more ≡ true → (begins_with_space_or_break more ≡ true) ⊎ IsMissed more s
 unfolding white is_blank_or_end is_blank is_break is_nul
-white_or_missed [] s gap = inr (record { is_refused = refl; no_space = refl; ends = refl })
-white_or_missed (c ∷ a) s gap = by (class.is_break c) (c == 32) (c == 35) refl refl refl
-  where
-    hash : (d : ℕ) → (d == 35) ≡ true → is_at_gap (d ∷ a) ≡ true → ⊥
-    hash d e h = let same : d ≡ 35 = eqb-true d 35 e in absurd (cc (subst (λ x. is_at_gap (x ∷ a) ≡ true) same h))
-
-    by : (x y z : Bool) → class.is_break c ≡ x → (c == 32) ≡ y → (c == 35) ≡ z → (begins_with_space_or_break (c ∷ a) ≡ true) ⊎ IsMissed (c ∷ a) s
-    by true y z e f g = inl (ap (λ b. (c == 32) || b) (same_break c ∙ e) ∙ or_true (c == 32))
-    by false true z e f g = inl (ap (λ b. b || is_break c) f)
-    by false false b e f g = grind arith
+white_or_missed b s gap = grind (arith, nat_tests, eqb-true, same_break, or_true)
 
 -- what stands after a `?`, where it is at a gap, is a space or a break
 pub white_first : (more : List ℕ) (s : Held) → is_at_gap more ≡ true → Holds (λ u. begins_with_space_or_break more ≡ true) (white false false more s)
@@ -214,5 +132,4 @@ white_first more s gap = by (white_or_missed more s gap)
     anyway (Err f) h = refused
 
     by : (begins_with_space_or_break more ≡ true) ⊎ IsMissed more s → Holds (λ u. begins_with_space_or_break more ≡ true) (white false false more s)
-    by (inl begins) = anyway (white false false more s) begins
-    by (inr m) = subst (λ r. Holds (λ u. begins_with_space_or_break more ≡ true) r) (sym m.is_refused) refused
+    by a = grind (arith, nat_tests, eqb-true, anyway, refused)

@@ -1,5 +1,5 @@
 -- The faults of directives and tags are none of those that are told apart by themselves.
-use Rattle.proof_scanner.proofs.Common.{At, Bool, false, Fault, is_shown, List, Position, Problem, problem_of, true, UriFault, ℕ, ◌≡◌, arith, nat_tests, eqb-true}
+use Rattle.proof_scanner.proofs.Common.{At, Bool, false, Fault, is_shown, List, Position, Problem, true, ℕ, ◌≡◌, arith, nat_tests, eqb-true}
 use Rattle.yaml_tokens.specs.declared.problem.Problem.TheVariants as problem
 use Rattle.proof_lexers.specs.DirectiveEnds as directives
 use Rattle.proof_lexers.specs.TagEnds as tag_ends
@@ -13,17 +13,8 @@ is_margin_fault _ = false
 abbrev pub IsNeither : Fault → Type 0
 IsNeither f = (is_shown f ≡ false) × (is_margin_fault f ≡ false)
 
-octets_neither : (f : UriFault) (p : Position) → IsNeither (At (problem_of f) p)
-octets_neither f p = grind arith
-
-version_neither : (t : List ℕ) (why : Problem) (p : Position) → directives.IsNoVersion t why → IsNeither (At why p)
-version_neither t why p n = grind (arith, nat_tests, eqb-true)
-
-declaration_neither : (t : List ℕ) (why : Problem) (p : Position) → directives.IsNoDeclaration t why → IsNeither (At why p)
-declaration_neither t why p n = grind (arith, nat_tests, eqb-true)
-
 pub line_neither : (start : Position) (line : List ℕ) (f : Fault) → directives.IsDirectiveRefusal start line f → IsNeither f
-line_neither a b f n = grind (arith, version_neither, declaration_neither)
+line_neither a b f n = grind (arith, nat_tests, eqb-true)
 
 pub tag_neither : (flow : Bool) (t : List ℕ) (why : Problem) (p : Position) → tag_ends.IsTagRefusal flow t why → IsNeither (At why p)
-tag_neither flow t why p n = grind (arith, octets_neither)
+tag_neither flow t why p n = grind (arith)

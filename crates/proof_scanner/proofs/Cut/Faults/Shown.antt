@@ -1,11 +1,10 @@
 -- What is wrong where a piece begins stands in the text, if it is a fault that stands there by itself.
-use Rattle.proof_scanner.proofs.Common.{[], account_past_separation, ap, arith, Arrives, At, before_by, before_past, Bool, chosen, Entry, entries_by, Fails, false, is_empty, is_in_flow, is_shown, IsCutUpTo, IsSpot, IsThere, Key, length, List, nat_tests, NoPiece, None, not, Option, Problem, refl, ScannerState, subst, suc, sym, true, ℕ, ◌++◌, ◌==◌, ◌||◌, ◌∙◌, ◌∷◌, ◌≡◌, ◌⊎◌, Position, IsQuotedFault, BlockStyle, eqb-true}
+use Rattle.proof_scanner.proofs.Common.{[], account_past_separation, ap, arith, Arrives, At, before_by, before_past, Bool, chosen, Entry, entries_by, Fails, false, is_empty, is_in_flow, is_shown, IsCutUpTo, IsSpot, IsThere, Key, length, List, nat_tests, None, not, Option, Problem, refl, ScannerState, subst, suc, sym, true, ℕ, ◌++◌, ◌∙◌, ◌∷◌, ◌≡◌, Position, eqb-true}
 use Rattle.defs_token.specs.Account.{Account}
 use Rattle.proof_row.proofs.CutPieces.{account_by}
 use Rattle.proof_row.proofs.CutSteps.{somes, with_key, levels_in}
 use Rattle.proof_scanner.specs.NoPiece as none
 use Rattle.proof_scanner.specs.Failing as failing
-use Rattle.proof_scanner.specs.QuotedLines as lines
 use Rattle.proof_scanner.specs.Faults.{bad_escape, open_quote, marked_quote, too_deep, entry_in_flow, dash_in_flow}
 use Rattle.proof_scanner.proofs.Sound.CutsSoFar.{arrives_cut}
 use Rattle.proof_scanner.proofs.Cut.Faults.Reasons.{line_neither, tag_neither}
@@ -17,9 +16,6 @@ many_levels cs ks (e ∷ es) = ap suc (many_levels _ _ es)
 flows : (cs : List Bool) (ks : List (Option Key)) (es : List Entry) → is_in_flow (entries_by cs ks es) ≡ true → not (is_empty (levels_in es)) ≡ true
 flows cs ks [] h = absurd (cc h)
 flows cs ks (e ∷ es) h = refl
-
-opens : (c : ℕ) → (c ≡ 91) ⊎ (c ≡ 123) → ((c == 91) || (c == 123)) ≡ true
-opens c a = grind arith
 
 module _ (text : List ℕ) (t : ScannerState) (a : Arrives text t) where
   -- the account where a piece begins
@@ -47,34 +43,19 @@ module _ (text : List ℕ) (t : ScannerState) (a : Arrives text t) where
   quoted_stands true more why e (none.by_escape body rest _ double cut has bad) = absurd (cc double)
   quoted_stands false more why e (none.by_escape body rest _ double cut has bad) = bad_escape now body rest why (spot _ (e ∙ ap (λ r. 34 ∷ r) cut)) has bad
 
-  header_hidden : (style : BlockStyle) (line : List ℕ) (why : Problem) (at : Position) → none.IsNoHeader style t.held.position line why at → is_shown (At why at) ≡ true → ⊥
-  header_hidden style a why b n h = grind (arith, nat_tests, eqb-true)
-
-  piece_stands : (fl : Bool) (why : Problem) (at : Position) → NoPiece fl t.held.position t.rest why at → is_shown (At why at) ≡ true → IsThere text (At why at)
-  piece_stands fl why a n h = grind (arith, quoted_stands, tag_neither, line_neither, header_hidden)
-
   module _ (c : Bool) (cs : List Bool) where
     plain_stands : (why : Problem) (at : Position)
         → none.IsPlainFault (is_in_flow (entries_by cs t.held.keys a.base.entries)) (failing.site_at_place (chosen c cs t.held.keys a.base) t.held.position).blocks t.held.position t.rest why at → is_shown (At why at) ≡ true → IsThere text (At why at)
     plain_stands why at (none.by_dash before rest flow cut begins over apart) h = dash_in_flow now before rest (spot _ cut) begins (flows cs t.held.keys a.base.entries flow) apart
     plain_stands why at n h = absurd (cc h)
 
-    followed_hidden : (fl : Bool) (why : Problem) (at : Position) → none.IsFollowed fl t.held.position t.rest why at → is_shown (At why at) ≡ true → ⊥
-    followed_hidden fl why a n h = grind (arith, nat_tests, eqb-true)
-
-    lines_hidden : (single : Bool) (least : ℕ) (why : Problem) (at : Position) → lines.IsQuotedFault single least t.held.position t.rest why at → is_shown (At why at) ≡ true → ⊥
-    lines_hidden a least why b n h = grind (arith, nat_tests, eqb-true)
-
-    block_hidden : (bs : List ℕ) (why : Problem) (at : Position) → none.IsBlockFault bs t.held.position t.rest why at → is_shown (At why at) ≡ true → ⊥
-    block_hidden bs why a n h = grind (arith, nat_tests, eqb-true)
-
     may_not_stands : (why : Problem) (at : Position) → failing.MayNotStand (chosen c cs t.held.keys a.base) a.separation t.held.position t.rest why at → is_shown (At why at) ≡ true → IsThere text (At why at)
     may_not_stands why at (failing.too_deep bracket more e is many) h =
         let same = many_levels cs t.held.keys a.base.entries in
-        too_deep now bracket more (spot _ e) (opens bracket is) (grind (arith, nat_tests, many, same))
+        too_deep now bracket more (spot _ e) (grind arith) (grind (arith, nat_tests, many, same))
     may_not_stands why at (failing.dash_in_flow more e gap inside) h = entry_in_flow now more (spot _ e) gap (flows cs t.held.keys a.base.entries inside)
     may_not_stands why at n h = absurd (cc h)
 
     -- what fails by a choice of keys
     pub stands : (why : Problem) (at : Position) → Fails (chosen c cs t.held.keys a.base) a.separation t.held.position t.rest why at → is_shown (At why at) ≡ true → IsThere text (At why at)
-    stands why a b h = grind (arith, piece_stands, plain_stands, lines_hidden, block_hidden, followed_hidden, may_not_stands)
+    stands why a b h = grind (arith, quoted_stands, tag_neither, line_neither, plain_stands, nat_tests, eqb-true, may_not_stands)

@@ -1,5 +1,5 @@
 -- What the scan of a block scalar reads is its piece.
-use Rattle.proof_scanner.proofs.Common.{[], and_false, ap, arith, begins_with, Block, block, block_position, block_read, BlockIsRead, BlockRead, BlockStyle, body, Bool, collection_column, collection_of, false, folded, further_position, further_text, has_no_nul, Header, if◌then◌else◌, indicator_of, inl, inr, is_at_end, is_before_line_feed, is_blank, is_empty, is_literal_style, is_nul, is_past, is_separation, IsBlockRead, IsBlockScalar, IsPiece, List, literal, nat_lt, nat_tests, Ok, Option, past_spaces, Position, position_after, position_past, Read, read_as, read_body, read_lines, ReadAs, refl, scalar, Some, split, Style, subst, Tok, true, whole_block, without_spaces, ℕ, ◌++◌, ◌<◌, ◌==◌, ◌∙◌, ◌∷◌, ◌≡◌, ◌≤◌, ◌⊎◌}
+use Rattle.proof_scanner.proofs.Common.{[], and_false, ap, arith, begins_with, Block, block, block_position, block_read, BlockIsRead, BlockRead, BlockStyle, Bool, collection_column, collection_of, false, folded, further_position, has_no_nul, if◌then◌else◌, indicator_of, inl, inr, is_at_end, is_blank, is_empty, is_literal_style, is_nul, is_past, is_separation, IsBlockRead, IsPiece, List, literal, nat_lt, nat_tests, Ok, Option, past_spaces, Position, position_after, position_past, Read, read_as, ReadAs, refl, scalar, Some, split, Style, subst, Tok, true, whole_block, without_spaces, ℕ, ◌++◌, ◌<◌, ◌==◌, ◌∙◌, ◌∷◌, ◌≡◌, ◌⊎◌}
 use Rattle.model_scanner.specs.declared.kind.BlockStyle.TheVariants.{Literal, Folded}
 use Rattle.defs_text.specs.Classes.{space}
 use Rattle.defs_token.specs.Account.{Account, is_in_flow}
@@ -33,16 +33,10 @@ spaces_position p (c ∷ r) = grind (arith, space, spaces_cut, spaces_position (
 
 -- ---- lines
 
-step_up : (p : Position) (c : ℕ) (r : List ℕ) → p.line ≤ (position_past p c r).line
-step_up p c r = grind arith
-
-no_feed : (c : ℕ) (r : List ℕ) → begins_with 10 r ≡ false → is_before_line_feed c r ≡ false
-no_feed c a h = grind (arith, and_false)
-
 -- a text with a whole line ends on a later one
 lines_up : (p : Position) (t next : List ℕ) → is_empty (split t).complete ≡ false → begins_with 10 next ≡ false → p.line < (position_after p t next).line
 lines_up p [] next h f = cc
-lines_up p (c ∷ t) next h f = grind (arith, step_up, line_ended, line_grows, no_feed, lines_up (position_past p c (t ++ next)) t next)
+lines_up p (c ∷ t) next h f = grind (arith, line_ended, line_grows, and_false, lines_up (position_past p c (t ++ next)) t next)
 
 -- ---- what a piece shows
 
@@ -53,15 +47,8 @@ some_piece a d e b h = grind arith
 past_text : (column : ℕ) (next : List ℕ) → is_at_end next ≡ false → is_past column next ≡ true → begins_with 10 next ≡ false
 past_text column next e h = further_is_no_break column next (rw e at h)
 
-body_past : (collection : Option ℕ) (h : Option Header) (ls : List (List ℕ)) (next : List ℕ) (b : BlockRead) → is_at_end next ≡ false → read_body h collection (body ls further_text) next ≡ Some b → begins_with 10 next ≡ false
-body_past collection h ls next b e k = grind (arith, past_text)
-
--- before further text a piece has a whole line
-whole_line : (collection : Option ℕ) (ls : List (List ℕ)) (last next : List ℕ) (b : BlockRead) → is_at_end next ≡ false → read_lines collection ls last next false ≡ Some b → (is_empty ls ≡ false) × (begins_with 10 next ≡ false)
-whole_line a d last e b g h = grind (arith, body_past)
-
 pub piece_has_line : (collection : Option ℕ) (piece next : List ℕ) (b : BlockRead) → is_at_end next ≡ false → block_read collection piece next ≡ Some b → (is_empty (split piece).complete ≡ false) × (begins_with 10 next ≡ false)
-piece_has_line collection piece next b e h = whole_line collection (split piece).complete (split piece).last next b e (rw e at h)
+piece_has_line collection piece next b e h = grind (arith, past_text)
 
 -- ---- the piece
 
@@ -69,9 +56,6 @@ piece_has_line collection piece next b e h = whole_line collection (split piece)
 abbrev pub token_of : BlockStyle → List ℕ → Tok
 token_of literal text = scalar Style.literal text
 token_of folded text = scalar Style.folded text
-
-pub piece_of : (a : Account) (style : BlockStyle) (piece next text : List ℕ) (p : Position) (following : Option Tok) → IsBlockScalar a piece next style text p → IsPiece a piece next following p (token_of style text)
-piece_of a b piece d e p following h = grind arith
 
 -- the scan ended on a later line, or at the text's end
 abbrev pub IsBelow : (start end : Position) → (rest : List ℕ) → Type 0
@@ -104,14 +88,11 @@ module _ (a : Account) (indent : ℕ) (outside : is_in_flow a ≡ false) (column
       is_text = cut ∙ ap (λ l. (c ∷ piece) ++ l) (spaces_cut next);
       is_filled = spaces_fill next (without_spaces next);
       is_piece = λ following. subst (λ l. IsPiece a (c ∷ piece) l following (block_position b.column a.position (c ∷ piece) next) (token_of style b.text)) (spaces_cut next)
-          (piece_of a style (c ∷ piece) next b.text (block_position b.column a.position (c ∷ piece) next) following (outside, (b.column, read_is, refl)));
+          (grind arith);
       is_end = spaces_position (position_after a.position (c ∷ piece) next) next ∙ ap (λ l. position_after (position_after a.position (c ∷ piece) l) (spaces_of next) (without_spaces next)) (spaces_cut next);
     },
     below c piece next b nul is,
   )
-    where
-      read_is : block_read (collection_column a) (c ∷ piece) next ≡ Some (record { style = style; column = b.column; text = b.text })
-      read_is = rw column (is ∙ ap (λ z. Some (record { style = z; column = b.column; text = b.text })) looks)
 
   by_style : (style : BlockStyle) (more : List ℕ) (r : Read Block) → has_no_nul (indicator_of style ∷ more) ≡ true → has_no_nul more ≡ true → block (is_literal_style style) indent (indicator_of style ∷ more) a.position ≡ Ok r
       → ReadAs a (indicator_of style ∷ more) (token_of style r.value.text) r.value.position r.rest r.position × IsBelow a.position r.position r.rest

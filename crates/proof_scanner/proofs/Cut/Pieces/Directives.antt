@@ -1,5 +1,5 @@
 -- What the scan of a directive reads is its piece.
-use Rattle.proof_scanner.proofs.Common.{[], ap, Bool, Directive, DirectiveIsRead, directives_end, drop, false, first_break, has_no_break, if◌then◌else◌, is_at_line_end, is_before_line_feed, is_blank, is_break, is_directive_token, is_separation, IsDirective, IsDirectiveRead, IsPiece, List, Option, position_append, Read, read_as, ReadAs, refl, subst, take, Tok, token_of, true, whole_directive, ℕ, ◌++◌, ◌∙◌, ◌∷◌, ◌≡◌, arith, nat_tests}
+use Rattle.proof_scanner.proofs.Common.{[], ap, Bool, Directive, DirectiveIsRead, directives_end, drop, false, first_break, has_no_break, if◌then◌else◌, is_before_line_feed, is_blank, is_break, is_directive_token, is_separation, IsDirective, IsDirectiveRead, IsPiece, List, Option, position_append, Read, read_as, ReadAs, refl, subst, take, Tok, token_of, true, whole_directive, ℕ, ◌++◌, ◌∙◌, ◌∷◌, ◌≡◌, arith, nat_tests}
 use Rattle.defs_token.specs.Account.{Account}
 use Rattle.proof_lexers.specs.DirectiveEnds.{ends_line, next_line}
 
@@ -24,16 +24,10 @@ break_is_separation (c ∷ r) h = by (is_before_line_feed c r) refl
     by true e = break_fills c (take 1 r) (drop 1 r) h (feed_fills c r (drop 1 r) e)
     by false e = break_fills c [] r h refl
 
-pub line_end_there : (next : List ℕ) → ends_line next ≡ true → is_at_line_end next ≡ true
-line_end_there next h = grind arith
-
 -- ---- the piece
 
 pub piece_of : (a : Account) (piece next : List ℕ) (d : Directive) (following : Option Tok) → IsDirective a piece next d → IsPiece a piece next following a.position (token_of d)
 piece_of a piece b e following h = grind arith
-
-pub token_is : (d : Directive) → is_directive_token (token_of d) ≡ true
-token_is d = grind arith
 
 pub percent_in_line : (l : List ℕ) → has_no_break l ≡ true → has_no_break (37 ∷ l) ≡ true
 unfolding is_break
@@ -52,8 +46,8 @@ directive_is_read a more r nul column closed e = by r (read_as e (directives_end
         is_text = ap (λ l. 37 ∷ l) (cut ∙ ap (λ l. line ++ l) (break_cut next));
         is_filled = break_is_separation next ends;
         is_piece = λ following. subst (λ l. IsPiece a (37 ∷ line) l following a.position (token_of d)) (break_cut next)
-            (piece_of a (37 ∷ line) next d following (is, percent_in_line line no_break, column, line_end_there next ends, closed));
+            (piece_of a (37 ∷ line) next d following (is, percent_in_line line no_break, column, grind arith, closed));
         is_end = position_append a.position (37 ∷ line) (first_break next) (next_line next);
       },
-      token_is d,
+      (grind arith),
     )

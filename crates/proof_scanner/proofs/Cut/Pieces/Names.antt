@@ -1,5 +1,5 @@
 -- What the scan of an anchor's or an alias's name reads is its piece.
-use Rattle.proof_scanner.proofs.Common.{[], all_of, anchor_name, anchor_token, and_parts, ap, arith, Bool, false, further, goes_on_with_name, has_no_break, is_anchor_name, is_blank_or_end, is_break, is_name, IsNameRead, IsPiece, length, List, mark_of, named, NameIsRead, NameKind, names_end, Ok, Option, Position, position_after, position_in_line, Read, read_as, ReadAs, refl, suc, sym, Tok, true, ℕ, ◌++◌, ◌+◌, ◌∙◌, ◌∷◌, ◌≡◌}
+use Rattle.proof_scanner.proofs.Common.{[], all_of, anchor_name, anchor_token, and_parts, ap, arith, Bool, false, further, has_no_break, is_anchor_name, is_blank_or_end, is_break, is_name, IsNameRead, IsPiece, List, mark_of, named, NameIsRead, NameKind, names_end, Ok, Option, Position, position_after, position_in_line, Read, read_as, ReadAs, refl, sym, Tok, true, ℕ, ◌++◌, ◌∙◌, ◌∷◌, ◌≡◌}
 use Rattle.defs_token.specs.Account.{Account, is_in_flow}
 
 -- ---- no break stands among the characters of a class that has none
@@ -34,15 +34,9 @@ pub record IsProperty (fl : Bool) (tok : Tok) (p : Position) (text rest : List �
 pub property_read_as : (a : Account) (fl : Bool) (tok : Tok) (text rest : List ℕ) (end : Position) → is_in_flow a ≡ fl → IsProperty fl tok a.position text rest end → ReadAs a text tok a.position rest end
 property_read_as a fl tok text rest end flow r = record { first = r.first; more = r.more; separation = []; is_text = r.cut; is_filled = refl; is_piece = λ following. r.is_piece a following refl flow; is_end = r.end_is }
 
-one_first : (name : List ℕ) → 1 + length name ≡ suc (length name)
-one_first name = omega arith
-
 pub name_property : (fl : Bool) (kind : NameKind) (p : Position) (text more : List ℕ) → text ≡ mark_of kind ∷ more → (x : Read (List ℕ)) → anchor_name text p ≡ Ok x → IsProperty fl (anchor_token kind x.value) p text x.rest x.position
 name_property fl kind p text more e x k = by x (read_as (ap (λ r. anchor_name r p) (sym e) ∙ k) (names_end (mark_of kind) more p))
   where
-    piece_of : (kind : NameKind) (name rest : List ℕ) → is_name name ≡ true → goes_on_with_name rest ≡ false → (a : Account) (following : Option Tok) → a.position ≡ p → IsPiece a (mark_of kind ∷ name) rest following p (anchor_token kind name)
-    piece_of b name rest is d a following q = grind arith
-
     by : (y : Read (List ℕ)) → IsNameRead p more y → IsProperty fl (anchor_token kind y.value) p text y.rest y.position
     by y (named name rest cut is ends) =
         let line : has_no_break (mark_of kind ∷ name) ≡ true = rw (mark_in_line kind) (name_in_line name is) in
@@ -51,8 +45,8 @@ name_property fl kind p text more e x k = by x (read_as (ap (λ r. anchor_name r
           more = name;
           cut = e ∙ ap (λ l. mark_of kind ∷ l) cut;
           in_line = line;
-          end_is = ap (λ n. further n p) (one_first name) ∙ position_in_line p (mark_of kind ∷ name) rest line;
-          is_piece = λ a following q flow. piece_of kind name rest is ends a following q;
+          end_is = ap (λ n. further n p) (omega arith) ∙ position_in_line p (mark_of kind ∷ name) rest line;
+          is_piece = λ a following q flow. (grind arith);
         }
 
 -- a name that was read is, with its indicator, the piece of its token

@@ -1,5 +1,5 @@
 -- What the scan of a plain scalar reads is its piece.
-use Rattle.proof_scanner.proofs.Common.{[], and_parts, ap, at_dash, begins_flow, begins_plain, begins_solid, Bool, collection_column, collection_of, comes_plain, Context, false, is_adjacent, is_blank, is_blank_or_end, is_break, is_document_marker, is_separation, is_white, is_whole_plain, IsPlainRead, List, may_begin, not, Ok, Plain, plain, plain_value, PlainIsRead, Position, position_after, position_append, Read, read_as, ReadAs, refl, scalar, scans_end, slice_index, Some, starts, sym, true, whole_plain, ℕ, ◌&&◌, ◌++◌, ◌==◌, ◌∙◌, ◌∷◌, ◌≡◌, arith, nat_tests, eqb-true}
+use Rattle.proof_scanner.proofs.Common.{and_parts, at_dash, begins_flow, begins_plain, Bool, collection_column, collection_of, comes_plain, Context, false, is_adjacent, is_blank, is_blank_or_end, is_break, is_separation, is_white, is_whole_plain, IsPlainRead, List, may_begin, not, Ok, Plain, plain, plain_value, PlainIsRead, Position, position_after, position_append, Read, read_as, ReadAs, scalar, scans_end, slice_index, Some, starts, true, ℕ, ◌++◌, ◌≡◌, arith, nat_tests, eqb-true}
 use Rattle.yaml_chars.specs.Class as model_classes
 use Rattle.defs_token.specs.Account.{Account, is_in_flow}
 use Rattle.model_scanner.specs.Plain as models
@@ -15,10 +15,6 @@ IsSolid c = not (is_white c) ≡ true
 solid_start : (fl adjacent : Bool) (c : ℕ) (r : List ℕ) → may_begin fl adjacent c r ≡ true → IsSolid c
 unfolding is_blank is_break is_blank_or_end
 solid_start fl adjacent c r h = grind (arith, nat_tests)
-
-begins_solid_with : (fl adjacent : Bool) (col : ℕ) (t : List ℕ) → begins_plain fl adjacent col t ≡ true → begins_solid t ≡ true
-begins_solid_with fl adjacent col [] h = cc
-begins_solid_with fl adjacent col (c ∷ r) h = solid_start fl adjacent c r (and_parts (may_begin fl adjacent c r) (not ((col == 0) && is_document_marker (c ∷ r))) h).0
 
 -- ---- in flow a dash before a flow indicator is refused
 
@@ -41,27 +37,13 @@ module _ (a : Account) (ctx : Context) (text : List ℕ) (flows : is_in_flow a �
     (begins : begins_plain (is_in_flow a) (is_adjacent a.before) a.position.col text ≡ true) where
   found : (piece gap rest value : List ℕ) → text ≡ piece ++ (gap ++ rest) → is_whole_plain (is_in_flow a) (collection_column a) piece (gap ++ rest) ≡ true → is_separation false gap rest ≡ true
       → plain_value piece ≡ Some value → ReadAs a text (scalar plain value) a.position rest (position_after a.position (piece ++ gap) rest)
-  found [] gap rest value cut whole filled is = absurd (cc whole)
-  found (c ∷ piece) gap rest value cut whole filled is = record {
-    first = c;
-    more = piece;
-    separation = gap;
-    is_text = cut;
-    is_piece = λ following. ((begins_text cut, whole, is), refl);
-    is_filled = filled;
-    is_end = position_append a.position (c ∷ piece) gap rest;
-  }
-    where
-      begins_text : {t : List ℕ} → text ≡ t → begins_plain (is_in_flow a) (is_adjacent a.before) a.position.col t ≡ true
-      begins_text e = sym (ap (begins_plain (is_in_flow a) (is_adjacent a.before) a.position.col) e) ∙ begins
+  found a gap rest value cut whole filled is = grind (arith, nat_tests, eqb-true, position_append)
 
   by : (x : Read Plain) → IsPlainRead ctx a.position text x → ReadAs a text (scalar plain x.value.text) a.position x.rest x.position
-  by x (whole_plain piece gap rest value cut whole white ends is) =
-      let here : is_whole_plain (is_in_flow a) (collection_column a) piece (gap ++ rest) ≡ true = rw (flows, column) whole in
-      found piece gap rest value cut here (gap_is_separation gap rest white) is
+  by x a = grind (arith, nat_tests, eqb-true, found, gap_is_separation)
 
 -- a plain scalar that was read is the piece of its token, and after it blanks and breaks were passed
 pub plain_is_read : PlainIsRead
 plain_is_read a ctx text r nul flows column comes indented is =
     let begins : begins_plain (is_in_flow a) (is_adjacent a.before) a.position.col text ≡ true = rw flows (begins_as_read ctx (is_adjacent a.before) text a.position r comes is) in
-    by a ctx text flows column begins r (read_as is (scans_end ctx text a.position nul (begins_solid_with (is_in_flow a) (is_adjacent a.before) a.position.col text begins) indented))
+    by a ctx text flows column begins r (read_as is (scans_end ctx text a.position nul (grind (arith, nat_tests, eqb-true, solid_start, and_parts)) indented))

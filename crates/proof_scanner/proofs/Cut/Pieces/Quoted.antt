@@ -1,5 +1,5 @@
 -- What the scan of a quoted scalar reads is its piece.
-use Rattle.proof_scanner.proofs.Common.{◌-◌, subst, [], and_parts, ap, append_assoc, are_single, begins_with, Bool, ends_before, false, has_no_nul, is_some, IsPiece, IsQuotedRead, List, list_all, not, Option, Position, position_after, quote_of, quoted, quoted_style, QuotedIsRead, Quotes, read_as, ReadAs, refl, scalar, Some, sym, Tok, true, value_of, ℕ, ◌&&◌, ◌++◌, ◌==◌, ◌∙◌, ◌∷◌, ◌≡◌, arith, nat_tests, eqb-true}
+use Rattle.proof_scanner.proofs.Common.{◌-◌, subst, [], and_parts, ap, append_assoc, are_single, begins_with, Bool, ends_before, has_no_nul, is_some, IsPiece, IsQuotedRead, List, list_all, not, Option, Position, position_after, quote_of, quoted, quoted_style, QuotedIsRead, Quotes, read_as, ReadAs, refl, scalar, Some, sym, Tok, true, value_of, ℕ, ◌++◌, ◌==◌, ◌∙◌, ◌∷◌, ◌≡◌, arith, nat_tests, eqb-true}
 use Rattle.defs_text.specs.Classes as classes
 use Rattle.defs_token.specs.Account.{Account}
 use Rattle.proof_lexers.proofs.Quoted.ScanEnds.{scans_end}
@@ -13,15 +13,12 @@ unfolding classes.is_nul
 some_chars [] h = refl
 some_chars (c ∷ r) h = let q = and_parts (not (c == 0)) (has_no_nul r) h in rw q.0 (some_chars r q.1)
 
-no_quote : (b : Bool) → not (true && b) ≡ true → b ≡ false
-no_quote b h = grind arith
-
 module _ (a : Account) (more body rest value : List ℕ) where
   abbrev piece : (single : Bool) → List ℕ
   piece single = quote_of single ∷ (body ++ quote_of single ∷ [])
 
   is_of_token : (quotes : Quotes) → value_of (are_single quotes) body ≡ Some value → ends_before (are_single quotes) rest ≡ true → (following : Option Tok) → IsPiece a (piece (are_single quotes)) rest following a.position (scalar (quoted_style quotes) value)
-  is_of_token b is d following = grind (arith, nat_tests, body, no_quote, begins_with, rest, eqb-true)
+  is_of_token b is d following = grind (arith, nat_tests, body, begins_with, rest, eqb-true)
 
   found : (quotes : Quotes) (position : Position) → more ≡ body ++ quote_of (are_single quotes) ∷ rest → value_of (are_single quotes) body ≡ Some value → ends_before (are_single quotes) rest ≡ true → position ≡ position_after a.position (piece (are_single quotes)) rest
       → ReadAs a (quote_of (are_single quotes) ∷ more) (scalar (quoted_style quotes) value) a.position rest position
