@@ -1,5 +1,5 @@
 -- A block scalar has one fault that comes first.
-use Rattle.proof_scanner.proofs.Common.{[], after_digit, after_sign, after_style, ap, append_cancel_right, begins_with, block_first, blocks, BlockStyle, Bool, Chomping, digit_of, false, first_line, has_header, has_no_nul, has_zero, Header, header_first, header_of, if◌then◌else◌, indicator_of, innermost, is_at_end, is_between, is_blanks_and_comment, is_in_line, is_rest_of_line, is_sign, IsBlockFault, IsNoHeader, line_is, line_more, List, no_nul_after, None, Option, past_indicators, past_spaces, Position, position_after, Problem, refl, sign_of, Some, split, style_inner, style_same, subst, sym, tab, true, up_to_break, ℕ, ◌++◌, ◌∙◌, ◌∷◌, ◌≡◌, arith, nat_tests}
+use Rattle.proof_scanner.proofs.Common.{[], after_digit, after_sign, after_style, ap, append_cancel_right, begins_with, block_first, blocks, BlockStyle, Bool, Chomping, digit_of, false, first_line, has_header, has_no_nul, has_zero, Header, header_first, header_of, if◌then◌else◌, indicator_of, innermost, is_at_end, is_between, is_blanks_and_comment, is_in_line, is_rest_of_line, is_sign, IsBlockFault, IsNoHeader, line_is, line_more, List, no_nul_after, None, Option, past_indicators, past_spaces, Position, position_after, Problem, refl, sign_of, Some, split, style_inner, style_same, subst, sym, tab, true, up_to_break, ℕ, ◌++◌, ◌∙◌, ◌∷◌, ◌≡◌, arith, nat_tests, eqb-true}
 use Rattle.proof_lexers.specs.HeaderEnds as headers
 use Rattle.proof_lexers.specs.HeaderEnds.{past_one}
 use Rattle.proof_scanner.specs.NoPiece as none

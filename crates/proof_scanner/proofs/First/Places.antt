@@ -1,5 +1,5 @@
 -- Two places of a text where something fails first: they are one place, or one fails by a TAB that the other has told.
-use Rattle.proof_scanner.proofs.Common.{[], Account, account_past, act_of, ap, begins_separation, Bool, clean_up_to_end, comes_first, Fails, FailsFirst, false, follows_plain, gives_node, has_no_nul, is_empty, is_free_of_tabs, is_indented_by_spaces, is_separation, IsLike, IsQuoted, List, no_nul_after, None, not, Option, Position, position_after, Problem, refl, separations, Site, Some, spelled, Step, subst, sym, true, up_to_nul, ℕ, ◌++◌, ◌∙◌, ◌∷◌, ◌≡◌}
+use Rattle.proof_scanner.proofs.Common.{[], Account, account_past, act_of, ap, begins_separation, Bool, clean_up_to_end, comes_first, Fails, FailsFirst, false, follows_plain, gives_node, has_no_nul, is_empty, is_free_of_tabs, is_indented_by_spaces, is_separation, IsLike, IsQuoted, List, no_nul_after, None, not, Option, Position, position_after, Problem, refl, separations, Site, Some, spelled, Step, subst, sym, true, up_to_nul, ℕ, ◌++◌, ◌∙◌, ◌∷◌, ◌≡◌, arith, eqb-true, nat_tests}
 use Rattle.defs_token.specs.Piece.{Holds}
 use Rattle.proof_scanner.proofs.Known.Places.{ends_before, step_here}
 use Rattle.yaml_tokens.specs.declared.problem.Problem.TheVariants as problem
@@ -31,13 +31,10 @@ clean_place {text = text} {after = after} w = clean_after w.steps after (clean_w
 
 -- one place of a text has one separation and one rest
 pub one_cut : (a b : Account) (s1 r1 s2 r2 : List ℕ) (h1 h2 : Position) → Stands a s1 r1 h1 → Stands b s2 r2 h2 → IsLike a b → Holds (has_no_nul (s1 ++ r1)) → s1 ++ r1 ≡ s2 ++ r2 → (s1 ≡ s2) × (r1 ≡ r2) × (h1 ≡ h2)
-one_cut a b s1 r1 s2 r2 h1 h2 p q i c e =
-    let ends = separations s1 s2 r1 r2 (p.is_filled, ends_before r1 p.is_solid (no_nul_after s1 r1 c)) (q.is_filled, ends_before r2 q.is_solid (no_nul_after s2 r2 (subst (λ z. Holds (has_no_nul z)) e c))) e in
-    (ends.0, ends.1, p.is_here ∙ (ap (λ (x : Site). position_after x.position s1 r1) i.0 ∙ (ap (λ f. position_after b.site.position f r1) ends.0 ∙ (ap (λ r. position_after b.site.position s2 r) ends.1 ∙ sym q.is_here))))
+one_cut a b s1 r1 s2 r2 h1 h2 p q i c e = grind (arith, nat_tests, eqb-true, separations, ends_before, no_nul_after)
 
 pub gives_up_site : (a x : Account) → GivesUp a x → a.site ≡ x.site
-gives_up_site a x (stays e) = ap (λ (z : Account). z.site) e
-gives_up_site a x (given_up begin waiting must e) = ap (λ (z : Account). z.site) e
+gives_up_site a x b = grind (arith, nat_tests, eqb-true)
 
 module _ (J : Account → Account → Type 0) (R : Account → Account → List ℕ → Type 0) (a b : Account) (s1 r1 s2 r2 : List ℕ) (h1 : Position) (p : Stands a s1 r1 h1) (g : GoesOn J R a b (s1 ++ r1) (s2 ++ r2)) (clean : Holds (has_no_nul (s1 ++ r1))) where
   abbrev pub next : List ℕ

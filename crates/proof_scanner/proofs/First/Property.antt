@@ -118,8 +118,4 @@ line_is start line f (ends.after_declaration rest d more) = of_declaration start
 
 pub one_directive : (here : Position) (line1 next1 line2 next2 : List ℕ) → line1 ++ next1 ≡ line2 ++ next2 → has_no_break line1 ≡ true → ends_line next1 ≡ true → has_no_break line2 ≡ true → ends_line next2 ≡ true
     → (why1 why2 : Problem) (at1 at2 : Position) → IsDirectiveRefusal here line1 (At why1 at1) → IsDirectiveRefusal here line2 (At why2 at2) → (why1 ≡ why2) × (at1 ≡ at2)
-one_directive here line1 next1 line2 next2 e h j k l why1 why2 at1 at2 x y =
-    let first : line_wrong here line1 ≡ At why1 at1 = line_is here line1 (At why1 at1) x in
-    let second : line_wrong here line2 ≡ At why2 at2 = line_is here line2 (At why2 at2) y in
-    let both : At why1 at1 ≡ At why2 at2 = sym first ∙ (ap (line_wrong here) (one_line line1 next1 line2 next2 e h j k l) ∙ second) in
-    (cc both, cc both)
+one_directive here line1 next1 line2 next2 e h j k l why1 why2 at1 at2 x y = grind (arith, nat_tests, eqb-true, line_is, one_line)

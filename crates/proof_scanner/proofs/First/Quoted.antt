@@ -37,8 +37,7 @@ begins_quoted false rest piece next e is = ((is.1.0 ++ 34 ∷ []) ++ next, e ∙
 
 -- a text begins with one quoted scalar
 one_end : (single : Bool) (p q x y : List ℕ) → IsQuoted single p x → IsQuoted single q y → p ++ x ≡ q ++ y → (p ≡ q) × (x ≡ y)
-one_end true p q x y h k e = singles p q x y h k e
-one_end false p q x y h k e = doubles p q x y h k e
+one_end a p q x y h k e = grind (arith, nat_tests, eqb-true, singles, doubles)
 
 solid_no_feed : (r : List ℕ) → begins_solid r ≡ true → begins_with 10 r ≡ false
 unfolding classes.is_break classes.is_blank

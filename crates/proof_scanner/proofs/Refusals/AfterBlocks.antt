@@ -18,17 +18,11 @@ passed column (c ∷ w) y p inner low h = grind (arith, passed column w y (past 
 none_is_empty : (column : ℕ) (ls : List Line) (p : Position) → AreLines ls [] → p.col ≡ 0 → first_content column false p (spell ls []) ≡ None → are_empty column (texts ls) ≡ true
 unfolding is_empty_line
 none_is_empty column [] p a z h = refl
-none_is_empty column (l ∷ ls) p a z h =
-    let r : Passed column l.text (put l.by (spell ls [])) p = passed column l.text (put l.by (spell ls [])) p a.0 (omega (arith, z)) h in
-    let short : nat_le (length l.text) column ≡ true = (let s = r.is_short in grind (arith, nat_tests, s, z)) in
-    let later : first_content column false (after_line l p) (spell ls []) ≡ None = sym (first_empty column l (spell ls []) p r.are_spaces r.is_short a.1) ∙ h in
-    rw (r.are_spaces, short, none_is_empty column ls (after_line l p) a.2 refl later) refl
+none_is_empty column (l ∷ ls) p a z h = grind (arith, nat_tests, eqb-true, passed, first_empty, none_is_empty column ls (after_line l p) a.2 refl)
 
 -- a scalar in which no content begins has empty lines alone
 no_content : (column : ℕ) (piece next : List ℕ) (p : Position) (w : Written piece next) → first_content column true p piece ≡ None → are_empty column (texts w.lines) ≡ true
-no_content column piece next p w h =
-    none_is_empty column w.lines (after_break w.header.by (along w.header.text p)) w.are.2 refl
-    (sym (first_header column w.header.text w.header.by (spell w.lines []) p w.are.0 w.are.1) ∙ (ap (λ x. first_content column true p x) (sym w.is) ∙ h))
+no_content column piece next p w h = grind (arith, nat_tests, eqb-true, none_is_empty, first_header)
 
 -- ---- what stands after it
 

@@ -65,31 +65,7 @@ follows_by a piece same c r b h = grind arith
 -- what stands after the blanks and a comment may follow
 follows : (flow : Bool) (piece s rest : List ℕ) (same : Bool) → (has_break piece ≡ false → same ≡ true) → is_separation false s rest ≡ true → plains.has_break s ≡ false → ends_spaces Yes rest ≡ true → quoted_may_end flow piece (s ++ rest) ≡ true → may_follow_quoted flow same (peek rest) ≡ true
 unfolding may_follow_quoted is_blank is_break model_classes.is_break
-follows flow piece s rest same stays f h e may = by (is_breakz (peek rest)) refl
-  where
-    goes_on : (d : ℕ) (r : List ℕ) → rest ≡ d ∷ r → is_breakz d ≡ false → may_follow_quoted flow same d ≡ true
-    goes_on d r i g =
-        let blanks : is_blanks s ≡ true = (blanks_alone false s rest f h (not_at_end rest (ap (λ l. is_breakz (peek l)) i ∙ g))).1 in
-        let ends : ends_spaces Yes (d ∷ r) ≡ true = ap (λ l. ends_spaces Yes l) (sym i) ∙ e in
-        let k : ((d == 32) ≡ false) × ((d == 9) ≡ false) × ((d == 35) ≡ false) = none (d == 32) (d == 9) (d == 35) ends in
-        let solid : is_blank d ≡ false = rw (k.0, k.1) refl in
-        let unbroken : is_break d ≡ false = grind (arith, nat_tests, g) in
-        let may2 : (line_is_done (s ++ d ∷ r) || goes_on_quoted flow piece (after is_blank (s ++ d ∷ r))) ≡ true = ap (λ l. quoted_may_end flow piece (s ++ l)) (sym i) ∙ may in
-        let on : goes_on_quoted flow piece (after is_blank (s ++ d ∷ r)) ≡ true = second _ _ (not_done s d r blanks unbroken solid k.2) may2 in
-        let at : after is_blank (s ++ d ∷ r) ≡ d ∷ r = after_blanks s (d ∷ r) blanks ∙ rw solid refl in
-        follows_by flow piece same d r stays (ap (λ l. goes_on_quoted flow piece l) (sym at) ∙ on)
-      where
-        none : (x y z : Bool) → not (x || (y && true) || z) ≡ true → (x ≡ false) × (y ≡ false) × (z ≡ false)
-        none x y z h = grind arith
-
-        second : (x y : Bool) → x ≡ false → (x || y) ≡ true → y ≡ true
-        second x y e h = grind arith
-
-    some : (l : List ℕ) → rest ≡ l → is_breakz (peek l) ≡ false → may_follow_quoted flow same (peek l) ≡ true
-    some a i g = grind (arith, nat_tests, goes_on, eqb-true)
-
-    by : (b : Bool) → is_breakz (peek rest) ≡ b → may_follow_quoted flow same (peek rest) ≡ true
-    by a g = grind (arith, or_left, rest, some)
+follows flow piece s rest same stays f h e may = grind (arith, nat_tests, blanks_alone, not_at_end, not_done, after_blanks, follows_by, eqb-true, or_left)
 
 -- ---- the check
 

@@ -1,5 +1,5 @@
 -- The text at a piece says what piece it is; one that stands for the document begins in column 0.
-use Rattle.proof_scanner.proofs.Common.{[], act_of, ap, are_marks, Bool, context_of, dash_marks, Directive, directive_begins, directive_of, document_end, document_start, dot_marks, inl, inr, is_adjacent, is_at_gap, is_document_marker, is_marker, IsPiece, IsTagLine, Kind, kind_at, List, None, Option, or_true, peek, piece_of, Position, scalar, Some, Style, subst, sym, tag_directive, texts_begin, Tok, true, version_directive, Whole, ℕ, ◌++◌, ◌==◌, ◌||◌, ◌∙◌, ◌∷◌, ◌≡◌, ◌≢◌, arith}
+use Rattle.proof_scanner.proofs.Common.{[], act_of, ap, are_marks, Bool, context_of, dash_marks, Directive, directive_begins, directive_of, document_end, document_start, dot_marks, inl, inr, is_adjacent, is_at_gap, is_document_marker, is_marker, IsPiece, IsTagLine, Kind, kind_at, List, None, Option, or_true, peek, piece_of, Position, scalar, Some, Style, subst, sym, tag_directive, texts_begin, Tok, true, version_directive, Whole, ℕ, ◌++◌, ◌==◌, ◌||◌, ◌∙◌, ◌∷◌, ◌≡◌, ◌≢◌, arith, eqb-true, nat_tests}
 use Rattle.defs_token.specs.Account.{Account as PieceAccount, is_in_flow, Account}
 use Rattle.proof_row.specs.Ends.{kind_of}
 
@@ -18,19 +18,7 @@ marker_line : (c : ℕ) (x : List ℕ) → are_marks c c c ≡ true → is_at_ga
 marker_line c x m g = grind (arith, or_true)
 
 pub marker_begins : (a : Account) (p x : List ℕ) (f : Option Tok) (m : Position) (t : Tok) → IsPiece a p x f m t → is_marker (act_of t) ≡ true → BeginsLine a.position.col (p ++ x)
-marker_begins a p x f m (version_directive major minor) h k = record { column = h.0.2; text_is = directive_line p x _ h.0.0 }
-marker_begins a p x f m (tag_directive handle prefix) h k = by h.0
-  where
-    by : IsTagLine a p x handle prefix → BeginsLine a.position.col (p ++ x)
-    by (inl d) = record { column = d.2; text_is = directive_line p x _ d.0 }
-    by (inr d) = record { column = d.2.2; text_is = directive_line p x _ d.2.0 }
-marker_begins a p x f m document_start h k = record { column = h.0.1; text_is = ap (λ z. begins_document (z ++ x)) h.0.0 ∙ marker_line 45 x dash_marks h.0.2 }
-marker_begins a p x f m document_end h k = record { column = h.0.1; text_is = ap (λ z. begins_document (z ++ x)) h.0.0 ∙ marker_line 46 x dot_marks h.0.2 }
-marker_begins a p x f m (scalar style text) h k = absurd (none style k)
-  where
-    none : (s : Style) → is_marker (act_of (scalar s text)) ≡ true → ⊥
-    none a e = grind arith
-marker_begins a p x f m t h k = absurd (cc k)
+marker_begins a p x f m t h k = grind (arith, nat_tests, eqb-true, directive_line, marker_line, dash_marks, dot_marks)
 
 -- The text at a piece says what piece it is.
 -- The kind of a piece's token is that of the text there.

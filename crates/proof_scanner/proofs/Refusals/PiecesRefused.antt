@@ -33,16 +33,7 @@ may_go a separation piece t next = may_precede (is_in_flow a.entries) (site_at (
 -- a colon may not stand before TABs alone and a letter
 pub no_colon_before : (more passed content : List ℕ) → begins_with 9 more ≡ true → GoesOn more passed content → has 32 passed ≡ false → begins_with_alpha content ≡ true → colon_may_precede more ≡ false
 unfolding is_blank is_break is_nul is_alpha is_decimal_digit is_letter
-no_colon_before more passed [] tab_there on lacks letter = absurd (cc letter)
-no_colon_before more passed (d ∷ r) tab_there on lacks letter =
-    let goes_on : is_at_line_end (d ∷ r) ≡ false = grind (arith, nat_tests, letter) in
-    let none : is_blank d ≡ false = grind (arith, nat_tests, letter) in
-    let blanks = (blanks_alone false passed (d ∷ r) on.is_filled on.is_on_line goes_on).1 in
-    let left : after is_blank (passed ++ d ∷ r) ≡ d ∷ r = after_blanks passed (d ∷ r) blanks ∙ rw none refl in
-    ap (λ y. not (y && not (is_one_of (leading is_blank more) 32) && begins_with_alpha (after is_blank more))) tab_there ∙
-    (ap (λ m. not (not (is_one_of (leading is_blank m) 32) && begins_with_alpha (after is_blank m))) on.is_text ∙
-    (ap (λ l. not (not (is_one_of l 32) && begins_with_alpha (after is_blank (passed ++ d ∷ r)))) (leading_blanks passed d r blanks none) ∙
-    (ap (λ x. not (not (is_one_of passed 32) && begins_with_alpha x)) left ∙ ap (λ y. not (not y && begins_with_alpha (d ∷ r))) (among 32 passed ∙ lacks) ∙ ap not letter)))
+no_colon_before more passed a tab_there on lacks letter = grind (arith, nat_tests, eqb-true, blanks_alone, after_blanks, leading_blanks, among)
 
 pub tab_gap : (more : List ℕ) → begins_with 9 more ≡ true → is_at_gap more ≡ true
 unfolding is_blank_or_end is_blank is_break is_nul

@@ -1,5 +1,5 @@
 -- A TAB that indents a further line of a plain scalar, or the line after it.
-use Rattle.proof_scanner.proofs.Common.{[], refl, zero, after_blank, and_parts, ap, arith, Bool, false, true, List, ℕ, ◌∷◌, ◌&&◌, ◌-◌, ◌∙◌, if◌then◌else◌, ◌++◌, ◌+◌, ◌<◌, ◌≡◌, suc, plain_lines_fit, stand_after, Option, is_gap, length, is_blanks, has_break, nat_lt, is_before_line_feed, split, lines_have_no_tab, after_first, sym, nat_tests, begins_token, further_on, has_tab_within, last_line, ◌||◌, not, or-true, leading, begins_separation, is_empty}
+use Rattle.proof_scanner.proofs.Common.{[], refl, zero, after_blank, and_parts, ap, arith, Bool, false, true, List, ℕ, ◌∷◌, ◌&&◌, ◌-◌, ◌∙◌, if◌then◌else◌, ◌++◌, ◌+◌, ◌<◌, ◌≡◌, suc, plain_lines_fit, stand_after, Option, is_gap, length, is_blanks, has_break, nat_lt, is_before_line_feed, split, lines_have_no_tab, after_first, sym, nat_tests, begins_token, further_on, has_tab_within, last_line, ◌||◌, not, or-true, leading, begins_separation, is_empty, eqb-true}
 use Rattle.defs_text.specs.Classes.{is_break, is_blank}
 use Rattle.defs_token.specs.Plain.{inside, past, Stand, ends_with_content, on_line, goes_on, stops, past_blank}
 use Rattle.proof_row.proofs.Runs.{joined, neither}
@@ -25,10 +25,7 @@ tab_less k column c l h = by (column - k) refl h
     by (suc n) e f = let less : column - suc k ≡ n = omega (arith, e) in rw less (neither _ _ f).1
 
 line_less : (k column c : ℕ) (l : List ℕ) → is_blank c ≡ true → line_is k column (c ∷ l) ≡ true → line_is (suc k) column l ≡ true
-line_less k column c l b h = by (is_blanks l) refl (rw b at h)
-  where
-    by : (x : Bool) → is_blanks l ≡ x → (is_blanks l || not (has_tab_within (column - k) (c ∷ leading is_blank l))) ≡ true → line_is (suc k) column l ≡ true
-    by x e f = grind (arith, tab_less)
+line_less k column c l b h = grind (arith, nat_tests, eqb-true, tab_less)
 
 module _ (column : ℕ) (c : ℕ) (r : List ℕ) where
   -- after a break
@@ -77,11 +74,7 @@ blank_in_line c h = grind (arith, h)
 pub blanks_end : (d : ℕ) (z blanks more next : List ℕ) → is_blank d ≡ true → ends_with_content d z ≡ true → is_blanks (first_line z) ≡ true → blanks ++ more ≡ z ++ next → is_blanks blanks ≡ true → begins_token more ≡ true → ⊥
 blanks_end d [] blanks more next b ends line e are token = grind arith
 blanks_end d (c ∷ z) [] a next b ends line e are token = grind arith
-blanks_end d (c ∷ z) (k ∷ blanks) more next b ends line e are token =
-    let same : k ≡ c = cc e in
-    let q = and_parts (is_blank k) (is_blanks blanks) are in
-    let blank : is_blank c ≡ true = ap is_blank (sym same) ∙ q.0 in
-    blanks_end c z blanks more next blank ends (and_parts (is_blank c) (is_blanks (first_line z)) (ap is_blanks (sym (first_is 0 c z (blank_in_line c blank))) ∙ line)).1 (cc e) q.1 token
+blanks_end d (c ∷ z) (k ∷ blanks) more next b ends line e are token = grind (arith, nat_tests, eqb-true, and_parts, first_is, blank_in_line, blanks_end c z blanks more next)
 
 -- the end of a text is that of what it ends with
 pub ends_later : (before : List ℕ) (c : ℕ) (r : List ℕ) (d : ℕ) (z : List ℕ) → c ∷ r ≡ before ++ d ∷ z → ends_with_content c r ≡ true → ends_with_content d z ≡ true
@@ -142,18 +135,7 @@ blanks_break blanks h = by blanks h
 
 tab_in_last : (n k : ℕ) (s : Stand) (q blanks : List ℕ) → is_gap q ≡ true → is_blanks blanks ≡ true → k < n → has_break q ≡ true → stand_after s q ≡ on_line k → has_tab_within n (last_line (q ++ 9 ∷ blanks)) ≡ true
 tab_in_last n k s [] blanks g b low br e = absurd (cc br)
-tab_in_last n k s (c ∷ q) blanks g b low br e = ap (has_tab_within n) (last_first c (q ++ 9 ∷ blanks)) ∙ by (has_break q) refl (λ f. tab_in_last n k (past s c) q blanks gap b low f e)
-  where
-    gap : is_gap q ≡ true
-    gap = (and_parts (is_blank c || is_break c) (is_gap q) g).1
-
-    by : (x : Bool) → has_break q ≡ x → (has_break q ≡ true → has_tab_within n (last_line (q ++ 9 ∷ blanks)) ≡ true) → has_tab_within n (if is_break c || has_break (q ++ 9 ∷ blanks) then last_line (q ++ 9 ∷ blanks) else c ∷ last_line (q ++ 9 ∷ blanks)) ≡ true
-    by true f later = rw (break_append q (9 ∷ blanks), f, or-true (is_break c)) (later f)
-    by false f later =
-        let now : is_break c ≡ true = grind (arith, f, br) in
-        let whole : last_line (q ++ 9 ∷ blanks) ≡ q ++ 9 ∷ blanks = last_whole (q ++ 9 ∷ blanks) (break_append q (9 ∷ blanks) ∙ rw (f, blanks_break blanks b) refl) in
-        let many : 0 + length q ≡ k = column_is 0 k q gap f (rw now at e) in
-        rw (now, whole) (tab_among n q blanks (omega (arith, many)))
+tab_in_last n k s (c ∷ q) blanks g b low br e = grind (arith, nat_tests, eqb-true, last_first, and_parts, break_append, or-true, last_whole, blanks_break, column_is, tab_among, tab_in_last n k (past s c) q blanks)
 
 -- A TAB in the gap after a scalar indents the line after it.
 pub gap_tab : (n k : ℕ) (q blanks : List ℕ) → is_gap q ≡ true → is_blanks blanks ≡ true → nat_lt k n ≡ true → stand_after inside q ≡ on_line k → (has_break (q ++ 9 ∷ blanks) ≡ true) × (has_tab_within n (last_line (q ++ 9 ∷ blanks)) ≡ true)

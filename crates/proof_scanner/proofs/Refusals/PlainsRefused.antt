@@ -1,5 +1,5 @@
 -- Where a plain scalar begins and is none, no row of the text goes on.
-use Rattle.proof_scanner.proofs.Common.{[], splits, More, append-nil, stand_after, is_gap, ◌⊎◌, inl, inr, Account, act_of, after_blank, and_parts, ap, append_assoc, are_marks, arith, before_by, before_past, begins_flow, begins_plain, begins_token, Bool, comes_plain, context_of, dashes, ends_plain, ends_separation, ends_with_content, ends_with_dash, false, flow_solid, goes_on, goes_over, has_dash_before_flow, inl, innermost, inr, is_adjacent, is_apart, is_at_gap, is_blank_or_end, is_blanks, is_deep_enough, is_document_marker, is_flow, is_in_flow, is_indented_by_spaces, is_nul, is_whole_plain, Kind, least_column, List, may_begin, may_precede, nat_le, nat_lt, not, on_line, Option, or_true, plain_lines_fit, Position, previous_by, refl, same_flow, scalar, Site, site_at_place, site_past, Stand, stand_after, stops, subst, sym, true, Whole, ℕ, ◌&&◌, ◌++◌, ◌==◌, ◌||◌, ◌∙◌, ◌∷◌, ◌≡◌}
+use Rattle.proof_scanner.proofs.Common.{[], splits, More, append-nil, stand_after, is_gap, ◌⊎◌, inl, inr, Account, act_of, after_blank, and_parts, ap, append_assoc, are_marks, arith, before_by, before_past, begins_flow, begins_plain, begins_token, Bool, comes_plain, context_of, dashes, ends_plain, ends_separation, ends_with_content, ends_with_dash, false, flow_solid, goes_on, goes_over, has_dash_before_flow, inl, innermost, inr, is_adjacent, is_apart, is_at_gap, is_blank_or_end, is_blanks, is_deep_enough, is_document_marker, is_flow, is_in_flow, is_indented_by_spaces, is_nul, is_whole_plain, Kind, least_column, List, may_begin, may_precede, nat_le, nat_lt, not, on_line, Option, or_true, plain_lines_fit, Position, previous_by, refl, same_flow, scalar, Site, site_at_place, site_past, Stand, stand_after, stops, subst, sym, true, Whole, ℕ, ◌&&◌, ◌++◌, ◌==◌, ◌||◌, ◌∙◌, ◌∷◌, ◌≡◌, eqb-true, nat_tests}
 use Rattle.defs_text.specs.Classes as classes
 use Rattle.defs_token.specs.Account as pieces
 use Rattle.defs_token.specs.Plain.{inside, past}
@@ -21,9 +21,7 @@ use Rattle.proof_scanner.proofs.Sound.PlainKeeps.{same_innermost}
 -- what goes on over a text and another one goes on over both
 goes_both : (fl : Bool) (coll : Option ℕ) (s : Stand) (p q next : List ℕ) → goes_on fl coll s p (q ++ next) ≡ true → goes_on fl coll (stand_after s p) q next ≡ true → goes_on fl coll s (p ++ q) next ≡ true
 goes_both fl coll s [] q next h k = k
-goes_both fl coll s (c ∷ p) q next h k =
-    let parts = and_parts (classes.is_blank c || classes.is_break c || not (ends_plain fl coll s (c ∷ (p ++ (q ++ next))))) (goes_on fl coll (past s c) p (q ++ next)) h in
-    rw (append_assoc p q next, parts.0) (goes_both fl coll (past s c) p q next parts.1 k)
+goes_both fl coll s (c ∷ p) q next h k = grind (arith, nat_tests, eqb-true, and_parts, append_assoc, goes_both fl coll (past s c) p q next)
 
 dash_goes : (coll : Option ℕ) (s : Stand) (next : List ℕ) → begins_flow next ≡ true → goes_on true coll s (45 ∷ []) next ≡ true
 unfolding classes.is_blank classes.is_break classes.is_nul is_flow are_marks

@@ -52,8 +52,7 @@ unfolding double_quoted_element
 double_in_line c b = grind (arith, escape_in_line, plain_in_line)
 
 in_line_of : (single : Bool) (c : ℕ) (b : List ℕ) → InLineOf c b (element_of single c b)
-in_line_of true c b = single_in_line c b
-in_line_of false c b = double_in_line c b
+in_line_of a c b = grind (arith, nat_tests, eqb-true, single_in_line, double_in_line)
 
 along_is : (w next : List ℕ) (p : Position) → is_in_line w ≡ true → position_after p w next ≡ along w p
 along_is w next p h = ap (λ l. position_after p l next) (sym (append-nil w)) ∙ after_chars w [] next p h

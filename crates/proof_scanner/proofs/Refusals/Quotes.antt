@@ -1,5 +1,5 @@
 -- Faults of quoted scalars: a further line is not indented, or what stands after the scalar may not follow it.
-use Rattle.proof_scanner.proofs.Common.{[], ap, append-nil, append_assoc, are_indented, AreNotIndented, arith, Arrives, At, begins_separation, begins_with, bodies_are_read, Bool, check_after_quoted, closed_first, content, Context, Element, element_of, elements, ends_before, ends_spaces, Err, false, Fault, go_on, has_marker, has_no_nul, held_of, if◌then◌else◌, in_flow, is_breakz, is_document_marker, is_empty, IsBadEscape, IsQuoted, IsQuotedFault, least_here, lines_first, List, marked_from, may_follow_quoted, nat_lt, no_quoted, node_start, not, not-true, off_margin, Ok, on_held, past, past_elements, peek, Position, position_after, Problem, quote_of, quoted, quoted_lines_fit, quoted_may_end, Read, refl, Result, ScannerState, skip_spaces, Some, subst, sym, tab, true, unled, value_of, within, Yes, ℕ, ◌&&◌, ◌++◌, ◌+◌, ◌-◌, ◌==◌, ◌||◌, ◌∙◌, ◌∷◌, ◌≡◌, further_lines_fit, lines_of}
+use Rattle.proof_scanner.proofs.Common.{[], ap, append-nil, append_assoc, are_indented, AreNotIndented, arith, Arrives, At, begins_separation, begins_with, bodies_are_read, Bool, check_after_quoted, closed_first, content, Context, Element, element_of, elements, ends_before, ends_spaces, Err, false, Fault, go_on, has_marker, has_no_nul, held_of, if◌then◌else◌, in_flow, is_breakz, is_document_marker, is_empty, IsBadEscape, IsQuoted, IsQuotedFault, least_here, lines_first, List, marked_from, may_follow_quoted, nat_lt, no_quoted, node_start, not, not-true, off_margin, Ok, on_held, past, past_elements, peek, Position, position_after, Problem, quote_of, quoted, quoted_lines_fit, quoted_may_end, Read, refl, Result, ScannerState, skip_spaces, Some, subst, sym, tab, true, unled, value_of, within, Yes, ℕ, ◌&&◌, ◌++◌, ◌+◌, ◌-◌, ◌==◌, ◌||◌, ◌∙◌, ◌∷◌, ◌≡◌, further_lines_fit, lines_of, eqb-true, nat_tests}
 use Rattle.yaml_tokens.specs.declared.problem.Problem.TheVariants as problem
 use Rattle.proof_lexers.specs.QuotedEnds as bad
 use Rattle.proof_lexers.specs.QuotedScan as scans
@@ -46,14 +46,7 @@ record Bodied (single : Bool) (more piece next : List ℕ) : Type 0 where
   ends : ends_before single next ≡ true
 
 bodied : (single : Bool) (more piece next : List ℕ) → none.quote_of single ∷ more ≡ piece ++ next → IsQuoted single piece next → Bodied single more piece next
-bodied true more piece next cut is =
-    let all : 39 ∷ more ≡ 39 ∷ ((is.1.0 ++ 39 ∷ []) ++ next) = cut ∙ ap (λ p. p ++ next) is.1.1 in
-    let left : more ≡ (is.1.0 ++ 39 ∷ []) ++ next = cc all in
-    record { body = is.1.0; value = is.0; piece_is = is.1.1; is_text = left ∙ append_assoc is.1.0 (39 ∷ []) next; value_is = is.1.2; ends = ap (λ b. not b) is.1.3 }
-bodied false more piece next cut is =
-    let all : 34 ∷ more ≡ 34 ∷ ((is.1.0 ++ 34 ∷ []) ++ next) = cut ∙ ap (λ p. p ++ next) is.1.1 in
-    let left : more ≡ (is.1.0 ++ 34 ∷ []) ++ next = cc all in
-    record { body = is.1.0; value = is.0; piece_is = is.1.1; is_text = left ∙ append_assoc is.1.0 (34 ∷ []) next; value_is = is.1.2; ends = refl }
+bodied a more piece next cut is = grind (arith, nat_tests, eqb-true, append_assoc)
 
 same_quote : (single : Bool) → quote_of single ≡ none.quote_of single
 same_quote a = grind arith
@@ -129,8 +122,7 @@ module _ (text : List ℕ) (t : ScannerState) (a : Arrives text t) (some : is_em
 -- ---- a text that is refused
 
 not_of_lines : (text : List ℕ) (why : Problem) (p : Position) → IsBadEscape text why → is_of_lines (At why p) ≡ false
-not_of_lines text why p bad.ends = refl
-not_of_lines text why p n = refl
+not_of_lines text why p n = grind (arith, nat_tests, eqb-true)
 
 module _ (text : List ℕ) (t : ScannerState) (a : Arrives text t) (some : is_empty t.rest ≡ false) (lies : LiesDeep t) where
   abbrev here : Position

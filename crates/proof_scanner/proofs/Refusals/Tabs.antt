@@ -1,5 +1,5 @@
 -- A TAB that indents a line: where the way to the next token is refused, the line of what comes next is not indented by spaces.
-use Rattle.proof_scanner.proofs.Common.{[], ap, append-nil, append_assoc, arith, At, begins_line, begins_separation, begins_token, between, Bool, Err, false, Fault, fills_blank, follows_plain, Gap, has_tab_within, Held, is_before_indent, is_blanks, is_empty, is_indented_by_spaces, is_separation, IsTabRefusal, last_line, least_column, length, List, nat_tests, not, not-true, Position, position_after, Previous, refl, Result, same_blank, same_break, ScannerState, separations_are_passed, skip, skip_to_next_token, subst, suc, sym, true, zero, ℕ, ◌&&◌, ◌++◌, ◌+◌, ◌<◌, ◌==◌, ◌||◌, ◌∙◌, ◌∷◌, ◌≡◌, ◌≤◌}
+use Rattle.proof_scanner.proofs.Common.{[], ap, append-nil, append_assoc, arith, At, begins_line, begins_separation, begins_token, between, Bool, Err, false, Fault, fills_blank, follows_plain, Gap, has_tab_within, Held, is_before_indent, is_blanks, is_empty, is_indented_by_spaces, is_separation, IsTabRefusal, last_line, least_column, length, List, nat_tests, not, not-true, Position, position_after, Previous, refl, Result, same_blank, same_break, ScannerState, separations_are_passed, skip, skip_to_next_token, subst, suc, sym, true, zero, ℕ, ◌&&◌, ◌++◌, ◌+◌, ◌<◌, ◌==◌, ◌||◌, ◌∙◌, ◌∷◌, ◌≡◌, ◌≤◌, eqb-true}
 use Rattle.yaml_chars.specs.Class.{is_break}
 use Rattle.yaml_tokens.specs.declared.problem.Problem.TheVariants as problem
 use Rattle.defs_text.specs.Classes as classes

@@ -1,5 +1,5 @@
 -- A key that waits outside flow is near as long as a row goes on: its colon is still to come, on its line, at most 1024 characters after its start.
-use Rattle.proof_scanner.proofs.Common.{[], Account, account_past, Act, act_of, and_parts, ap, arith, begins_free_line, Bool, ends_separation, false, inl, inr, is_blank, is_break, is_in_column, is_separation, IsRowFrom, line_past, List, longer, may_end, None, not, Option, Outside, Position, position_after, refl, same_head, Site, site_at, Some, spelled, Step, subst, sym, true, waits, ℕ, ◌++◌, ◌+◌, ◌==◌, ◌||◌, ◌∙◌, ◌∷◌, ◌≡◌, ◌≤◌, ◌⊎◌}
+use Rattle.proof_scanner.proofs.Common.{[], Account, account_past, Act, act_of, and_parts, ap, arith, begins_free_line, Bool, ends_separation, false, inl, inr, is_blank, is_break, is_in_column, is_separation, IsRowFrom, line_past, List, longer, may_end, None, not, Option, Outside, Position, position_after, refl, same_head, Site, site_at, Some, spelled, Step, subst, sym, true, waits, ℕ, ◌++◌, ◌+◌, ◌==◌, ◌||◌, ◌∙◌, ◌∷◌, ◌≡◌, ◌≤◌, ◌⊎◌, eqb-true, nat_tests}
 use Rattle.proof_row.proofs.Separations.{over}
 use Rattle.proof_scanner.proofs.Cut.Positions.{index_after}
 use Rattle.proof_scanner.proofs.Known.Made.{still_there, Made, outside, inside, made}
@@ -68,15 +68,7 @@ pub record BeginsWith (whole part next rest : List ℕ) : Type 0 where
 
 -- A separation before a piece begins with each separation of the same text.
 pub begins_with_part : (in_comment : Bool) (whole part next rest : List ℕ) → is_separation in_comment whole next ≡ true → is_separation in_comment part rest ≡ true → ends_separation next ≡ true → whole ++ next ≡ part ++ rest → BeginsWith whole part next rest
-begins_with_part b whole [] next rest h k f e = record { more = whole; whole_is = refl; rest_is = sym e }
+begins_with_part b whole [] next rest h k f e = grind (arith, nat_tests, eqb-true)
 begins_with_part b [] (d ∷ part) next rest h k f e = grind (arith, over)
-begins_with_part false (c ∷ whole) (d ∷ part) next rest h k f e =
-    let heads : (c ≡ d) × (whole ++ next ≡ part ++ rest) = same_head c d (whole ++ next) (part ++ rest) e in
-    let first : is_separation (c == 35) whole next ≡ true = (and_parts (is_blank c || is_break c || (c == 35)) (is_separation (c == 35) whole next) h).1 in
-    let second : is_separation (d == 35) part rest ≡ true = (and_parts (is_blank d || is_break d || (d == 35)) (is_separation (d == 35) part rest) k).1 in
-    let r : BeginsWith whole part next rest = begins_with_part (c == 35) whole part next rest first (subst (λ z. is_separation (z == 35) part rest ≡ true) (sym heads.0) second) f heads.1 in
-    record { more = r.more; whole_is = longer c d whole (part ++ r.more) heads.0 r.whole_is; rest_is = r.rest_is }
-begins_with_part true (c ∷ whole) (d ∷ part) next rest h k f e =
-    let heads : (c ≡ d) × (whole ++ next ≡ part ++ rest) = same_head c d (whole ++ next) (part ++ rest) e in
-    let r : BeginsWith whole part next rest = begins_with_part (not (is_break c)) whole part next rest h (subst (λ z. is_separation (not (is_break z)) part rest ≡ true) (sym heads.0) k) f heads.1 in
-    record { more = r.more; whole_is = longer c d whole (part ++ r.more) heads.0 r.whole_is; rest_is = r.rest_is }
+begins_with_part false (c ∷ whole) (d ∷ part) next rest h k f e = grind (arith, nat_tests, eqb-true, same_head, and_parts, longer, begins_with_part (c == 35) whole part next rest)
+begins_with_part true (c ∷ whole) (d ∷ part) next rest h k f e = grind (arith, nat_tests, eqb-true, same_head, longer, begins_with_part (not (is_break c)) whole part next rest h)
