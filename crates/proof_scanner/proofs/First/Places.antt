@@ -92,9 +92,7 @@ module _ (J : Account → Account → Type 0) (same : (x y : Account) → J x y 
   later_clean = clean_after (g.step ∷ g.steps) (s2 ++ r2) (subst (λ z. Holds (has_no_nul z)) (sym g.spells) clean)
 
   pub clear : (g.steps ≡ [] → is_free_of_tabs b s2 ≡ true) → IsClearAfter step
-  clear free gap content cut fills solid some =
-      clear_way J same g.past b g.steps s2 r2 gap content g.leads q.is_filled q.is_solid free cut fills solid
-      (no_nul_after gap content (subst (λ z. Holds (has_no_nul z)) cut (no_nul_after g.step.piece step.next (no_nul_after g.step.separation (g.step.piece ++ step.next) (subst (λ z. Holds (has_no_nul z)) (sym g.spells) clean))))) (no_nul_after s2 r2 later_clean)
+  clear free gap content cut fills solid some = grind (arith, nat_tests, eqb-true, clear_way, no_nul_after, later_clean)
 
   -- what comes at once after the step, with a TAB in its indentation
   module _ (last : g.steps ≡ []) (tab : is_free_of_tabs b s2 ≡ false) (no_plain : follows_plain b.site.before s2 ≡ false) where
@@ -105,14 +103,10 @@ module _ (J : Account → Account → Type 0) (same : (x y : Account) → J x y 
     site_is = same g.past b (subst (λ ws. LeadsBy J (Some g.past) ws (s2 ++ r2) b) last g.leads)
 
     one_gap : (gap content : List ℕ) → step.next ≡ gap ++ content → is_separation false gap content ≡ true → begins_separation content ≡ false → (gap ≡ s2) × (content ≡ r2)
-    one_gap gap content cut fills solid =
-        let whole : gap ++ content ≡ s2 ++ r2 = sym cut ∙ cut_there in
-        separations gap s2 content r2 (fills, ends_before content solid (no_nul_after gap content (subst (λ z. Holds (has_no_nul z)) (sym whole) later_clean))) (q.is_filled, ends_before r2 q.is_solid (no_nul_after s2 r2 later_clean)) whole
+    one_gap gap content cut fills solid = grind (arith, nat_tests, eqb-true, cut_there, separations, ends_before, no_nul_after, later_clean)
 
     clear_gap : IsClearGapAfter step
-    clear_gap before_is gap content cut white solid some =
-        let gap_is = (one_gap gap content cut (gap_is_separation gap content white) solid).0 in
-        absurd (cc (no_plain, ap (λ f. follows_plain b.site.before f) (sym gap_is), ap (λ (x : Site). follows_plain x.before gap) (sym site_is), ap (λ x. follows_plain x gap) before_is, ap not (no_comment gap white).0))
+    clear_gap before_is gap content cut white solid some = grind (arith, nat_tests, eqb-true, one_gap, gap_is_separation, site_is, no_comment)
 
     at_quoted : (single : Bool) (piece gap content : List ℕ) → r1 ≡ piece ++ (gap ++ content) → IsQuoted single piece (gap ++ content) → is_separation false gap content ≡ true → begins_separation content ≡ false
         → position_after (position_after h1 piece (gap ++ content)) gap content ≡ h2

@@ -1,5 +1,5 @@
 -- A text is stuck at one place, with one kind.
-use Rattle.proof_scanner.proofs.Common.{Account, account_past, ap, Begins, Bool, colon_may_precede, fails, FailsFirst, false, first_account, free, has_no_nul, HasNoKey, inl, inr, is_in_flow, is_taken, is_value_here, IsLike, IsLookedAt, IsPlace, IsStuck, IsWritten, key_waits, LikeLine, Line, List, no_key, no_nul_after, Position, Problem, refl, Some, spelled, Step, subst, sym, taken, true, up_to_nul, waits, ℕ, ◌++◌, ◌∙◌, ◌∷◌, ◌≡◌, ◌⊎◌}
+use Rattle.proof_scanner.proofs.Common.{Account, account_past, ap, Begins, Bool, colon_may_precede, fails, FailsFirst, false, first_account, free, has_no_nul, HasNoKey, inl, inr, is_in_flow, is_taken, is_value_here, IsLike, IsLookedAt, IsPlace, IsStuck, IsWritten, key_waits, LikeLine, Line, List, no_key, no_nul_after, Position, Problem, refl, Some, spelled, Step, subst, sym, taken, true, up_to_nul, waits, ℕ, ◌++◌, ◌∙◌, ◌∷◌, ◌≡◌, ◌⊎◌, arith, eqb-true, nat_tests}
 use Rattle.defs_text.specs.Classes as classes
 use Rattle.defs_token.specs.Piece.{Holds}
 use Rattle.yaml_tokens.specs.declared.problem.Problem.TheVariants as problem
@@ -95,14 +95,7 @@ keeps_apart text = record {
 }
   where
     given : (x y z : Account) (after : List ℕ) → IsLike x y → GivesUp x z → BeginsOrApart text x y after → BeginsOrApart text z y after
-    given x y z after i (stays e) r = subst (λ u. BeginsOrApart text u y after) e r
-    given x y z after i (given_up begin waiting must e) (inl r) = by y.line refl (subst (λ l. LikeLine l y.line) waiting i.1)
-      where
-        by : (l : Line) → y.line ≡ l → LikeLine (waits begin) l → BeginsOrApart text z y after
-        by free j like = absurd like
-        by taken j like = absurd (not_below begin.col x.site.blocks must (r.0.below begin waiting j))
-        by (waits q) j like = inr (q, record { none = ap (λ (u : Account). u.line) (sym e); one = j; on = r.0.on q j })
-    given x y z after i (given_up begin waiting must e) (inr r) = absurd (cc (r.1.none, waiting))
+    given x y z after i a r = grind (arith, nat_tests, eqb-true, not_below)
 
     on : (x y a b : Account) (v : Step) (c : Bool) (next : List ℕ) → IsLike x y → BeginsOrApart text x y (v.separation ++ (v.piece ++ next)) → IsWritten x v next → IsWritten y (With v c) next → account_past x v next ≡ Some a → account_past y (With v c) next ≡ Some b → BeginsOrApart text a b next
     on x y a b v c next i (inl r) k l e f = inl (together_keeps x y a b v c next i r.0 l e f, begins_past text _ x a v next refl k e r.1)

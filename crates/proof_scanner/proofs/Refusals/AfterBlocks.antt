@@ -81,18 +81,8 @@ module _ (indent : ℕ) (p : Position) (b : BlockRead) (piece next bs : List ℕ
         by false a i j h = grind arith
 
     before_text : Clear
-    before_text = record {
-      untabbed = ap (λ x. is_single x && begins_with tab next) (lines_written piece next w) ∙ single_by w.header.text (texts w.lines) (begins_with tab next) both.0;
-      deep =
-          ap (λ x. ((not x && is_none (first_content b.column true p piece)) && nat_le indent (further_position p piece next).col) && nat_lt (further_position p piece next).col b.column) further ∙
-          (ap (λ k. (is_none (first_content b.column true p piece) && nat_le indent k) && nat_lt k b.column) column_is ∙
-          deep_by (is_none (first_content b.column true p piece)) (nat_le indent (leading_spaces next)) (nat_lt (leading_spaces next) b.column) (leading_spaces next) refl refl refl both.1);
-    }
+    before_text = grind (arith, nat_tests, eqb-true, lines_written, w, single_by, both, column_is, deep_by)
 
   -- What stands after a block scalar that may end is not refused.
   pub block_is_clear : has_no_nul next ≡ true → block_may_end bs piece next ≡ true → Clear
-  block_is_clear clean may = by (is_at_end next) refl may
-    where
-      by : (x : Bool) → is_at_end next ≡ x → (x || read_may_end bs (block_read (innermost bs) piece next) piece next) ≡ true → Clear
-      by true e h = at_end (end_no_text next clean e)
-      by false e h = before_text e h
+  block_is_clear clean may = grind (arith, nat_tests, eqb-true, at_end, end_no_text, before_text)

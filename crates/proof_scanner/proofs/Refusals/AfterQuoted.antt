@@ -80,20 +80,4 @@ check_passes p piece t is may =
     checked u = (if may_follow_quoted (in_flow u.held) (p.line == u.held.position.line) (peek u.rest) then Ok u else Err (At problem.ContentAfterQuoted u.held.position))
 
     by : (u : ScannerState) → Spaced Yes t u → Left (λ z. Unit {0}) (checked u)
-    by u s =
-        let g : List ℕ = s.blanks ++ s.comment in
-        let cut : t.rest ≡ g ++ u.rest = s.is_rest ∙ sym (append_assoc s.blanks s.comment u.rest) in
-        let end : Position = position_after p piece (g ++ u.rest) in
-        let here : u.held.position ≡ position_after end g u.rest = ap (λ h. h.position) s.is_held ∙ ap (λ q. position_after q g u.rest) (is ∙ ap (λ r. position_after p piece r) cut) in
-        let stays : has_break piece ≡ false → (p.line == u.held.position.line) ≡ true =
-        λ f.
-        let first : end.line ≡ p.line = same_line p piece (g ++ u.rest) (same_has_break piece ∙ f) in
-        let second : u.held.position.line ≡ end.line = ap (λ q. q.line) here ∙ same_line end g u.rest s.no_break in
-        equal p.line u.held.position.line (sym (second ∙ first)) in
-        let same_flow : in_flow t.held ≡ in_flow u.held = sym (ap in_flow s.is_held) in
-        let yes : may_follow_quoted (in_flow u.held) (p.line == u.held.position.line) (peek u.rest) ≡ true =
-        follows (in_flow u.held) piece g u.rest (p.line == u.held.position.line) stays s.is_filled s.no_break s.ends (subst (λ fl. quoted_may_end fl piece (g ++ u.rest) ≡ true) same_flow (subst (λ r. quoted_may_end (in_flow t.held) piece r ≡ true) cut may)) in
-        rw yes (record { value = u; is = refl; holds = tt })
-      where
-        equal : (m n : ℕ) → m ≡ n → (m == n) ≡ true
-        equal m n e = grind (arith, nat_tests, e)
+    by u s = grind (arith, nat_tests, eqb-true, append_assoc, same_line, same_has_break, follows)

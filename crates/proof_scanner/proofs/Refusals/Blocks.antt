@@ -143,9 +143,7 @@ module _ (text : List ℕ) (t : ScannerState) (a : Arrives text t) (some : is_em
 
   least : (s : Held) → s ≡ record t.held { keys = saved_keys t.held } → IsLeast (unroll_non_block_indents (allow_key true s)).indent collections
   unfolding unroll_non_block_indents
-  least s e =
-      subst (λ h. IsLeast (unroll_non_block_indents (allow_key true h)).indent collections) (sym e)
-      (closed.is_least.0 ∙ ap innermost (sym closed.same_columns), ap (λ bs. least_column bs true) closed.same_columns ∙ closed.is_least.1)
+  least s e = grind (arith, nat_tests, eqb-true, closed)
 
   -- the block scalar that begins here may not stand
   block_stuck : (why : Problem) (at : Position) → FirstFault collections t.held.position t.rest why at → IsWhy text why at

@@ -147,9 +147,7 @@ module _ (text : List ℕ) (t : ScannerState) (a : Arrives text t) (some : is_em
 
   -- a colon that the scanner takes as a value's is an indicator
   value_here : (more : List ℕ) → t.rest ≡ 58 ∷ more → is_value t ≡ true → (c : Bool) (cs : List Bool) → is_value_here (chosen c cs t.held.keys a.base) a.separation more ≡ true
-  value_here more e i c cs =
-      ap (λ b. is_value_indicator b (is_adjacent (before_past (before_by a.base.site.before) a.separation)) more) (in_flow_is text t a some c cs) ∙
-      (sym (value_is t (is_adjacent (before_past (before_by a.base.site.before) a.separation)) more e (λ inside. sym (a.is_adjacent_here inside some))) ∙ i)
+  value_here more e i c cs = grind (arith, nat_tests, eqb-true, in_flow_is, value_is)
 
   -- ---- `-`, `?` and `:`
 

@@ -1,5 +1,5 @@
 -- A key that must be one waits in each row of the text; and while it waits no line ends. So no row goes on where a beginning has only gone on over a line's end by making no key of it.
-use Rattle.proof_scanner.proofs.Common.{[], Account, account_past, Act, act_of, ap, arith, begins_free_line, begins_separation, BeginsButForKey, blocks_at, Bool, Entry, fails, false, first_account, free, gives_node, has_break, HasRow, if◌then◌else◌, inl, inr, is_empty, is_in_column, is_in_flow, is_marker, is_separation, is_waiting, IsRowFrom, IsWritten, key_waits, length, LikeEntries, LikeLine, Line, line_past, line_past_separation, List, no_key, no_nul_after, None, not, not-true, not_ended, opened, Outside, Position, position_after, position_in_line, previous_by, refl, Row, same_flow, Site, site_at, Some, spelled, Step, subst, sym, taken, TextsWithARowAreNotStuck, Tok, true, waits, ℕ, ◌&&◌, ◌++◌, ◌+◌, ◌<◌, ◌∙◌, ◌∷◌, ◌≡◌, ◌≤◌, ◌⊎◌}
+use Rattle.proof_scanner.proofs.Common.{[], Account, account_past, Act, act_of, ap, arith, begins_free_line, begins_separation, BeginsButForKey, blocks_at, Bool, Entry, fails, false, first_account, free, gives_node, has_break, HasRow, if◌then◌else◌, inl, inr, is_empty, is_in_column, is_in_flow, is_marker, is_separation, is_waiting, IsRowFrom, IsWritten, key_waits, length, LikeEntries, LikeLine, Line, line_past, line_past_separation, List, no_key, no_nul_after, None, not, not-true, not_ended, opened, Outside, Position, position_after, position_in_line, previous_by, refl, Row, same_flow, Site, site_at, Some, spelled, Step, subst, sym, taken, TextsWithARowAreNotStuck, Tok, true, waits, ℕ, ◌&&◌, ◌++◌, ◌+◌, ◌<◌, ◌∙◌, ◌∷◌, ◌≡◌, ◌≤◌, ◌⊎◌, eqb-true, nat_tests}
 use Rattle.proof_scanner.proofs.Sound.Sides.{with_entries}
 use Rattle.proof_scanner.proofs.Refusals.KindsOfPieces.{marker_begins}
 use Rattle.proof_scanner.proofs.Known.Made.{same_of, waited, still_there, like_past, Waits, begun, kept, waits_past, Made, outside, inside, made}
@@ -156,8 +156,7 @@ falls_after : (s : Site) (l : Line) (es : List Entry) (w : Step) (next : List �
 falls_after s l es w next b f e = by (made s l es w next b e)
   where
     by : Made s l es w next b → Falls b.site.blocks
-    by (outside m o none sep past line site one) = subst (λ (x : Site). Falls x.blocks) (sym site) (falls_past _ _ _ (act_of w.shown) w.key m o past (falls_at false (act_of w.shown) (position_after s.position w.separation (w.piece ++ next)).col s.blocks f))
-    by (inside some sep site one) = subst (λ (x : Site). Falls x.blocks) (sym site) f
+    by a = grind (arith, nat_tests, eqb-true, falls_past, falls_at)
 
 below_after : (s : Site) (l m : Line) (ds es : List Entry) (w : Step) (c : Bool) (next : List ℕ) (a b : Account) → LikeLine l m → LikeEntries ds es → Falls s.blocks → ((q : Position) → l ≡ waits q → m ≡ taken → AllBelow q.col s.blocks)
     → account_past (with_entries s l ds) w next ≡ Some a → account_past (with_entries s m es) (With w c) next ≡ Some b → (q : Position) → a.line ≡ waits q → b.line ≡ taken → AllBelow q.col a.site.blocks
@@ -221,9 +220,7 @@ apart_after s ds es w c next a b q j e1 e2 = by (made s taken ds w next a e1) (m
 
     both : (n o : Line) (u v : Outside) → n ≡ taken → o ≡ waits q → line_past (is_in_column at.position.col at.blocks) at.position at.blocks (act_of w.shown) w.key n ≡ Some u
         → line_past (is_in_column at.position.col at.blocks) at.position at.blocks (act_of w.shown) c o ≡ Some v → (u.line ≡ taken) × (v.line ≡ waits q)
-    both n o u v nt ow p1 p2 = still (is_in_column at.position.col at.blocks) at.position at.blocks (act_of w.shown) w.key c q u v
-        (subst (λ x. line_past (is_in_column at.position.col at.blocks) at.position at.blocks (act_of w.shown) w.key x ≡ Some u) nt p1)
-        (subst (λ x. line_past (is_in_column at.position.col at.blocks) at.position at.blocks (act_of w.shown) c x ≡ Some v) ow p2)
+    both n o u v nt ow p1 p2 = grind (arith, nat_tests, eqb-true, still)
 
     by : Made s taken ds w next a → Made s (waits q) es (With w c) next b → (a.line ≡ taken) × (b.line ≡ waits q)
     by (outside n u n1 sep1 past1 line1 site1 one1) (outside o v n2 sep2 past2 line2 site2 one2) =

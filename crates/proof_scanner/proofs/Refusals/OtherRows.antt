@@ -1,5 +1,5 @@
 -- A row of a text goes through each place that a beginning of a row leads to, at an account that is like the beginning's; and its next piece stands there.
-use Rattle.proof_scanner.proofs.Common.{[], Account, account_past, ap, append-nil, Begins, begins_free_line, begins_separation, Bool, false, first_account, further_lines_stand, has_no_nul, HasRow, if◌then◌else◌, is_deep_enough, is_empty, is_gap, is_in_flow, is_indented_by_spaces, is_renewed, is_separation, IsLike, IsPlace, IsRowFrom, IsWritten, least_for, line_past_separation, List, may_precede, no_nul_after, None, on_one_line, Option, past_piece, plain_scalar, Position, position_after, refl, Row, separations, Some, spelled, Step, subst, sym, true, up_to_nul, ℕ, ◌&&◌, ◌++◌, ◌∙◌, ◌∷◌, ◌≡◌}
+use Rattle.proof_scanner.proofs.Common.{[], Account, account_past, ap, append-nil, Begins, begins_free_line, begins_separation, Bool, false, first_account, further_lines_stand, has_no_nul, HasRow, if◌then◌else◌, is_deep_enough, is_empty, is_gap, is_in_flow, is_indented_by_spaces, is_renewed, is_separation, IsLike, IsPlace, IsRowFrom, IsWritten, least_for, line_past_separation, List, may_precede, no_nul_after, None, on_one_line, Option, past_piece, plain_scalar, Position, position_after, refl, Row, separations, Some, spelled, Step, subst, sym, true, up_to_nul, ℕ, ◌&&◌, ◌++◌, ◌∙◌, ◌∷◌, ◌≡◌, arith, eqb-true, nat_tests}
 use Rattle.proof_row.proofs.Written.{At}
 use Rattle.proof_scanner.proofs.Known.Ways.{With, KeepsOn, Same, strict_way}
 use Rattle.proof_scanner.proofs.Sound.Completed.{begins_at_start, begins_past}
@@ -67,8 +67,7 @@ no_tab_before b v after c e = by (is_indented_by_spaces b.site.before b.site.blo
 
     by : (t : Bool) → is_indented_by_spaces b.site.before b.site.blocks b.site.awaits v.separation ≡ t
         → (if t && is_deep_enough (is_in_flow b.entries) v.shown (At b v after) && further_lines_stand (least_for v.shown (At b v after)) v.shown v.piece && may_precede (is_in_flow b.entries) (At b v after).blocks v.shown v.piece after then x else None) ≡ Some c → is_indented_by_spaces b.site.before b.site.blocks b.site.awaits v.separation ≡ true
-    by true i f = i
-    by false i f = absurd (cc f)
+    by a i f = grind (arith, nat_tests, eqb-true)
 
 -- No TAB indents what comes after a step where steps lead on to the text's end.
 clear_on : (b : Account) (ws : List Step) (last gap content : List ℕ) → IsRowFrom (Some b) ws last → spelled ws last ≡ gap ++ content → is_separation false gap content ≡ true → begins_separation content ≡ false → is_empty content ≡ false → has_no_nul content ≡ true

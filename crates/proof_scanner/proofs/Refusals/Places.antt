@@ -112,13 +112,7 @@ module _ (text : List ℕ) (t : ScannerState) (a : Arrives text t) (some : is_em
 module _ (text : List ℕ) (t : ScannerState) (a : Arrives text t) (some : is_empty t.rest ≡ false) (deep : LiesDeep t) where
   -- a piece is looked at here, whatever is chosen
   pub looked_at : (c : Bool) (cs : List Bool) → IsLookedAt (account_by text t a some c cs) a.separation t.held.position t.rest
-  looked_at c cs = record { has_no_tab = a.is_indented some; is_deep = by (begins_document_at t.held.position t.rest) refl }
-    where
-      low : IsDeep t.held → nat_le (least_here (account_by text t a some c cs) t.held.position) t.held.position.col ≡ true
-      low d = let l = least_by text t a some c cs in grind (arith, nat_tests, l, d)
-
-      by : (b : Bool) → begins_document_at t.held.position t.rest ≡ b → (not (is_in_flow (account_by text t a some c cs).entries) || b || nat_le (least_here (account_by text t a some c cs) t.held.position) t.held.position.col) ≡ true
-      by d e = grind (arith, nat_tests, or_left, text, t, some, least_here, or_right, low, deep, eqb-true)
+  looked_at c cs = grind (arith, nat_tests, least_by, or_left, or_right, eqb-true)
 
   -- where no piece begins the text is stuck
   pub none_begins : (why : Problem) (at : Position) (n : NoPiece (in_flow t.held) t.held.position t.rest why at) → no_piece_first (in_flow t.held) (t.held.indent - 1) t.held.position t.rest why at n → IsWhy text why at

@@ -30,26 +30,10 @@ line_less k column c l b h = grind (arith, nat_tests, eqb-true, tab_less)
 module _ (column : ℕ) (c : ℕ) (r : List ℕ) where
   -- after a break
   line_fits : is_break c ≡ true → plain_lines_fit column (c ∷ r) ≡ true → lines_from column (on_line 0) r ≡ true
-  line_fits e h = by (is_before_line_feed c r) refl
-    where
-      by : (f : Bool) → is_before_line_feed c r ≡ f → lines_from column (on_line 0) r ≡ true
-      by true f =
-          let is : split (c ∷ r) ≡ split r = rw (e, f) refl in
-          rw (feed_first c r f) (ap (λ s. lines_have_no_tab column (after_first s.complete s.last)) (sym is) ∙ h)
-      by false f =
-          let is : split (c ∷ r) ≡ record { complete = [] ∷ (split r).complete; last = (split r).last } = rw (e, f) refl in
-          sym (all_lines column (split r).complete (split r).last) ∙ (ap (λ s. lines_have_no_tab column (after_first s.complete s.last)) (sym is) ∙ h)
+  line_fits e h = grind (arith, nat_tests, eqb-true, feed_first, all_lines)
 
   line_goes : (s : Stand) → lines_from column s (c ∷ r) ≡ true → lines_from column (past s c) r ≡ true
-  line_goes s h = by (is_break c) (is_blank c) refl refl s h
-    where
-      by : (b k : Bool) → is_break c ≡ b → is_blank c ≡ k → (s : Stand) → lines_from column s (c ∷ r) ≡ true → lines_from column (if b then on_line 0 else (if k then past_blank s else inside)) r ≡ true
-      by true k e f s h = line_fits e (further_fit column s (c ∷ r) h)
-      by false false e f s h = sym (others_are column c r e) ∙ further_fit column s (c ∷ r) h
-      by false true e f (on_line k) h =
-          let q = and_parts (line_is k column (first_line (c ∷ r))) (plain_lines_fit column (c ∷ r)) h in
-          joined (line_is (suc k) column (first_line r)) (plain_lines_fit column r) (line_less k column c (first_line r) f (ap (line_is k column) (sym (first_is column c r e)) ∙ q.0)) (sym (others_are column c r e) ∙ q.1)
-      by false true e f s h = sym (others_are column c r e) ∙ further_fit column s (c ∷ r) h
+  line_goes s h = grind (arith, nat_tests, eqb-true, line_fits, further_fit, others_are, and_parts, joined, line_less, first_is)
 
 lines_go : (column : ℕ) (s : Stand) (before t : List ℕ) → lines_from column s (before ++ t) ≡ true → lines_from column (stand_after s before) t ≡ true
 lines_go column s [] t h = h

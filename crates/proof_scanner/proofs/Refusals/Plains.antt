@@ -1,5 +1,5 @@
 -- Faults of plain scalars.
-use Rattle.proof_scanner.proofs.Common.{[], after_plain, allow_key, ap, arith, Arrives, before_by, before_past, begins_left, Bool, collection_of, columns, comes_plain, Context, context, false, Fault, fetch_plain_scalar, goes_on, goes_over, HasNoPlainFault, HasTab, in_flow, innermost, is_adjacent, is_empty, is_in_flow, IsPlainFault, IsPlainRefusal, least_column, lexed, List, nat_le, nat_lt, nat_tests, no_plain, Ok, on_held, Option, plain_first, Position, position_after, Problem, push, refl, refused_as, ScannerState, scans_end, site_at_place, Style, subst, sym, Tok, true, unroll_non_block_indents, without_open, ℕ, ◌++◌, ◌∙◌, ◌∷◌, ◌≡◌}
+use Rattle.proof_scanner.proofs.Common.{[], after_plain, allow_key, ap, arith, Arrives, before_by, before_past, begins_left, Bool, collection_of, columns, comes_plain, Context, context, false, Fault, fetch_plain_scalar, goes_on, goes_over, HasNoPlainFault, HasTab, in_flow, innermost, is_adjacent, is_empty, is_in_flow, IsPlainFault, IsPlainRefusal, least_column, lexed, List, nat_le, nat_lt, nat_tests, no_plain, Ok, on_held, Option, plain_first, Position, position_after, Problem, push, refl, refused_as, ScannerState, scans_end, site_at_place, Style, subst, sym, Tok, true, unroll_non_block_indents, without_open, ℕ, ◌++◌, ◌∙◌, ◌∷◌, ◌≡◌, eqb-true}
 use Rattle.defs_token.specs.Plain.{inside}
 use Rattle.yaml_tokens.specs.declared.problem.Problem.TheVariants as problem
 use Rattle.model_scanner.specs.Plain.{plain}
@@ -59,8 +59,7 @@ module _ (text : List ℕ) (t : ScannerState) (a : Arrives text t) (some : is_em
 
   -- no TAB that is wrong begins a line of it
   no_tab : (HasTab ctx t.rest → ⊥) → HasNoPlainFault ctx.flow blocks t.held.position t.rest problem.PlainTab
-  no_tab free place (none.by_tab before blanks rest column cut over stands left are solid) =
-      free (record { before = before; blanks = blanks; rest = rest; column = column; is_text = cut; is_over = over_alike ctx (innermost blocks) before (9 ∷ (blanks ++ rest)) collection_is ∙ over; is_at = stands; is_left = ap (nat_lt column) (sym least_is) ∙ left; are_blanks = are; is_token = solid })
+  no_tab free place a = grind (arith, nat_tests, eqb-true, over_alike, collection_is, least_is)
 
   refused : (f : Fault) → IsPlainRefusal ctx t.held.position t.rest f → Said text f
   refused f (plains.by_column flow left) =

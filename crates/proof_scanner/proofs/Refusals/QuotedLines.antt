@@ -201,11 +201,7 @@ module _ (single : Bool) (ctx : Context) (start : Position) (least : ℕ) (limit
 
   break_goes : (c : ℕ) (b : List ℕ) (p : Position) (t : Folded) → is_break c ≡ true → scan single ctx start (c ∷ b) gap p t ≡ scan single ctx start (drop (break_further c b) b) gap (position_after p (c ∷ take (break_further c b) b) (drop (break_further c b) b)) (with_break t)
   unfolding is_break is_blank
-  break_goes c [] p t e = grind (arith, past_line, and_false)
-  break_goes c (d ∷ b) p t e = elim (cases_Bool ((c == 13) && (d == 10))) [
-    | inl f ↦ let q = and_parts (c == 13) (d == 10) f in rw (eqb-true c 13 q.0, eqb-true d 10 q.1) (ap (λ x. scan single ctx start b gap x (with_break t)) (sym (past_two p b)))
-    | inr f ↦ rw (e, f) (ap (λ x. scan single ctx start (d ∷ b) gap x (with_break t)) (sym (past_line p c (d ∷ b) e f)))
-  ]
+  break_goes c a p t e = grind (arith, nat_tests, past_line, and_false, and_parts, eqb-true, past_two)
 
   line_ends : (c : ℕ) (b : List ℕ) → element_of single c b ≡ Some (spelled line_break (break_further c b)) → is_break c ≡ true → (s : LineStand) (p : Position) (t : Folded) → Later (drop (break_further c b) b) → Ends s p (c ∷ b) (scan single ctx start (c ∷ b) gap p t)
   unfolding is_break is_blank

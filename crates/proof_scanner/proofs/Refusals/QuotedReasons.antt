@@ -1,5 +1,5 @@
 -- Why the text after an opening quote is refused, told of the text from an element on.
-use Rattle.proof_scanner.proofs.Common.{past, [], after_own, and_false, ap, append_assoc, are_indented, arith, at_start, begins_further, begins_solid, begins_with, begun_with, blank, Bool, content, drop, Element, element_of, elements, escaped_break, false, further_lines_fit, has_more, is_document_marker, IsBadEscape, line_break, Lines, lines_fit, lines_of, LineStand, List, Local, local, LocalOf, marked_from, nat_lt, nat_tests, not, past_element, past_elements, past_escaped, past_is, Position, position_after, position_append, Problem, refl, replicate, Some, Spelled, subst, suc, sym, take, take-append-drop, true, within, zero, ℕ, ◌&&◌, ◌++◌, ◌+◌, ◌==◌, ◌∙◌, ◌∷◌, ◌≡◌}
+use Rattle.proof_scanner.proofs.Common.{past, [], after_own, and_false, ap, append_assoc, are_indented, arith, at_start, begins_further, begins_solid, begins_with, begun_with, blank, Bool, content, drop, Element, element_of, elements, escaped_break, false, further_lines_fit, has_more, is_document_marker, IsBadEscape, line_break, Lines, lines_fit, lines_of, LineStand, List, Local, local, LocalOf, marked_from, nat_lt, nat_tests, not, past_element, past_elements, past_escaped, past_is, Position, position_after, position_append, Problem, refl, replicate, Some, Spelled, subst, suc, sym, take, take-append-drop, true, within, zero, ℕ, ◌&&◌, ◌++◌, ◌+◌, ◌==◌, ◌∙◌, ◌∷◌, ◌≡◌, eqb-true}
 use Rattle.yaml_tokens.specs.declared.problem.Problem.TheVariants as problem
 use Rattle.proof_scanner.proofs.Sound.QuotedBreaks.{Kind, has_content, has_blank, has_line, has_escaped, fits_from, lines_from, lines_here, empty_here}
 use Rattle.proof_scanner.specs.NoPiece.{quote_of}
@@ -138,9 +138,7 @@ module _ (single : Bool) (least : ℕ) (start : Position) where
     cut body rest h = ap (λ x. c ∷ x) (sym (take-append-drop e.further b) ∙ ap (λ x. take e.further b ++ x) h ∙ sym (append_assoc (take e.further b) body rest))
 
     more : (body rest : List ℕ) (es : List Element) → drop e.further b ≡ body ++ rest → elements (element_of single) 0 body ≡ Some es → elements (element_of single) 0 (before body) ≡ Some (e.element ∷ es)
-    more body rest es h i =
-        let taken : elements (element_of single) e.further (take e.further b ++ body) ≡ elements (element_of single) 0 body = ap (λ n. elements (element_of single) n (take e.further b ++ body)) (sym own.fits) ∙ after_own (element_of single) (take e.further b) body in
-        rw (own.same body rest h, taken, i) refl
+    more body rest es h i = grind (arith, nat_tests, eqb-true, own, after_own)
 
     pub place : (p : Position) (body rest : List ℕ) → drop e.further b ≡ body ++ rest → position_after p (before body) rest ≡ position_after (past_it p) body rest
     place p body rest h = position_append p (c ∷ take e.further b) body rest ∙ ap (λ x. position_after (position_after p (c ∷ take e.further b) x) body rest) (sym h)

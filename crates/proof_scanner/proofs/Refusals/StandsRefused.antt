@@ -77,19 +77,11 @@ module _ (a : Account) (separation rest : List ℕ) (here : Position) (s : StepA
 
   -- a node's piece does not lie deep enough
   pub no_depth : (t : Tok) → s.step.shown ≡ t → act_of t ≡ gives_node → is_deep_enough (is_in_flow a.entries) t (site_at_place a here) ≡ false → ⊥
-  no_depth t is node e =
-      let site : there ≡ site_at_place a here = node_site (ap act_of is ∙ node) in
-      let fails : is_deep_enough (is_in_flow s.account.entries) s.step.shown there ≡ false =
-      ap (λ b. is_deep_enough b s.step.shown there) (sym (same_flow a.entries s.account.entries s.is_like.2)) ∙ (ap (λ u. is_deep_enough (is_in_flow a.entries) u there) is ∙ (ap (λ x. is_deep_enough (is_in_flow a.entries) t x) site ∙ e)) in
-      stands_not (second_fails (is_indented_by_spaces s.account.site.before s.account.site.blocks s.account.site.awaits s.step.separation) _ _ _ fails)
+  no_depth t is node e = grind (arith, nat_tests, eqb-true, node_site, same_flow, stands_not, second_fails)
 
   -- the further lines of a scalar are not indented
   pub no_lines : (t : Tok) → s.step.shown ≡ t → act_of t ≡ gives_node → further_lines_stand (least_for t (site_at_place a here)) t s.step.piece ≡ false → ⊥
-  no_lines t is node e =
-      let site : there ≡ site_at_place a here = node_site (ap act_of is ∙ node) in
-      let fails : further_lines_stand (least_for s.step.shown there) s.step.shown s.step.piece ≡ false =
-      ap (λ u. further_lines_stand (least_for u there) u s.step.piece) is ∙ (ap (λ x. further_lines_stand (least_for t x) t s.step.piece) site ∙ e) in
-      stands_not (third_fails (is_indented_by_spaces s.account.site.before s.account.site.blocks s.account.site.awaits s.step.separation) (is_deep_enough (is_in_flow s.account.entries) s.step.shown there) _ _ fails)
+  no_lines t is node e = grind (arith, nat_tests, eqb-true, node_site, stands_not, third_fails)
 
   -- the row's piece may not stand before what follows it
   pub no_end : may_precede (is_in_flow s.account.entries) there.blocks s.step.shown s.step.piece next ≡ false → ⊥
@@ -138,15 +130,10 @@ module _ (a : Account) (separation rest : List ℕ) (here : Position) (s : StepA
   after_one c more e p = rest_of a separation rest here s c [] more p e
 
   pub no_space_after : (more passed content : List ℕ) → rest ≡ 63 ∷ more → is_at_gap more ≡ true → GoesOn more passed content → begins_with 32 more ≡ false → begins_white_space content ≡ false → ⊥
-  no_space_after more passed content e gap on none ends =
-      let w : Here question = question_here more e gap in
-      cc (no_space_gap passed content on.is_on_line (ap (begins_with 32) (sym on.is_text) ∙ none) ends, ap begins_with_space_or_break on.is_text, ap begins_with_space_or_break (after_one 63 more e w.0), w.1)
+  no_space_after more passed content e gap on none ends = grind (arith, nat_tests, eqb-true, question_here, no_space_gap, after_one)
 
   pub no_tab_after : (more passed content : List ℕ) → rest ≡ 63 ∷ more → is_at_gap more ≡ true → more ≡ passed ++ 9 ∷ content → is_separation false passed (9 ∷ content) ≡ true → ⊥
-  no_tab_after more passed content e gap cut fills =
-      let w : Here question = question_here more e gap in
-      no_end (ap (λ t. may_precede (is_in_flow s.account.entries) there.blocks t s.step.piece next) w.2 ∙
-      ap (λ r. not (has_tab_before_piece false r)) (after_one 63 more e w.0 ∙ cut) ∙ ap not (tabbed false passed content fills))
+  no_tab_after more passed content e gap cut fills = grind (arith, nat_tests, eqb-true, question_here, no_end, after_one, tabbed)
 
   -- ---- colons
 

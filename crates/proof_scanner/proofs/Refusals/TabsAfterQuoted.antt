@@ -1,5 +1,5 @@
 -- A TAB after a quoted scalar, on a later line, which would indent the next piece.
-use Rattle.proof_scanner.proofs.Common.{[], ap, append_assoc, Arrives, begins_with, between, Bool, check_after_quoted, closed_first, columns, Context, false, Fault, has_break, has_no_nul, has_open_level, held_of, in_flow, inr, is_empty, is_indented_by_spaces, is_separation, IsQuoted, least_column, List, may_not_stand, no_nul_after, Ok, Position, position_after, position_append, quoted_scalar, Read, refl, Result, ScannerState, site_at_place, skip_to_next_token, subst, sym, true, ℕ, ◌++◌, ◌∙◌, ◌≡◌}
+use Rattle.proof_scanner.proofs.Common.{[], ap, append_assoc, Arrives, begins_with, between, Bool, check_after_quoted, closed_first, columns, Context, false, Fault, has_break, has_no_nul, has_open_level, held_of, in_flow, inr, is_empty, is_indented_by_spaces, is_separation, IsQuoted, least_column, List, may_not_stand, no_nul_after, Ok, Position, position_after, position_append, quoted_scalar, Read, refl, Result, ScannerState, site_at_place, skip_to_next_token, subst, sym, true, ℕ, ◌++◌, ◌∙◌, ◌≡◌, arith, eqb-true, nat_tests}
 use Rattle.yaml_tokens.specs.declared.problem.Problem.TheVariants as problem
 use Rattle.proof_scanner.proofs.Cut.Pieces.Separations.{separation_append}
 use Rattle.proof_scanner.proofs.Cut.Saved.{saved_is}
@@ -35,11 +35,7 @@ module _ (text : List ℕ) (t : ScannerState) (a : Arrives text t) (some : is_em
     no_break = sym (same_has_break spaces) ∙ c.spaces.no_break
 
     start_least : IsLeast quoted_scalar (least_column blocks awaits) v.held
-    start_least =
-        let l = least_is blocks awaits t.held refl refl a.are_levels in
-        let levels : v.held.indents ≡ t.held.indents = ap (λ h. h.indents) c.spaces.is_held ∙ ap (λ h. h.indents) (saved_is t.held) in
-        let level : v.held.indent ≡ t.held.indent = ap (λ h. h.indent) c.spaces.is_held ∙ ap (λ h. h.indent) (saved_is t.held) in
-        (λ e. l.0 (ap is_empty (sym levels) ∙ e), λ e. level ∙ l.1 (ap is_empty (sym levels) ∙ e))
+    start_least = grind (arith, nat_tests, eqb-true, least_is, saved_is)
 
     start_in : IsIn quoted_scalar (least_column blocks awaits) between spaces v.held v.rest
     start_in = inr (record { leading_is = λ i. ap (λ h. h.leading) c.spaces.is_held ∙ sym no_break; col_is = λ b. absurd (cc (b, no_break)); spaced = λ b. absurd (cc (b, no_break)) })

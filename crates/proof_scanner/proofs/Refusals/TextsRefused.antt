@@ -180,16 +180,7 @@ module _ (collection : Option ℕ) (header more : List ℕ) where
 
   -- It may not end there.
   tab_follows : (own piece next : List ℕ) (bs : List ℕ) (r : BlockRead) → piece ++ next ≡ own ++ 9 ∷ more → split own ≡ of_lines (header ∷ []) [] → has_no_nul next ≡ true → block_read collection piece next ≡ Some r → block_may_end bs piece next ≡ false
-  tab_follows own piece next bs r cut one clean is = own_end piece next alone.0 alone.1
-    where
-      alone : (piece ≡ own) × (next ≡ 9 ∷ more)
-      alone = header_alone own piece next r cut one clean is
-
-      tabbed_end : (o : Option BlockRead) → read_may_end bs o own (9 ∷ more) ≡ false
-      tabbed_end a = grind (arith, nat_tests, more, one, eqb-true)
-
-      own_end : (p n : List ℕ) → p ≡ own → n ≡ 9 ∷ more → block_may_end bs p n ≡ false
-      own_end p n e f = ap (λ x. block_may_end bs x n) e ∙ (ap (block_may_end bs own) f ∙ (ap (λ b. b || read_may_end bs (block_read (innermost bs) own (9 ∷ more)) own (9 ∷ more)) tab_is_text ∙ tabbed_end (block_read (innermost bs) own (9 ∷ more))))
+  tab_follows own piece next bs r cut one clean is = grind (arith, nat_tests, header_alone, eqb-true, tab_is_text)
 
 unbroken : (style : BlockStyle) → is_break (indicator_of style) ≡ false
 unfolding is_break
