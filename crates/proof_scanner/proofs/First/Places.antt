@@ -68,13 +68,10 @@ clear_way J same o b [] s2 r2 gap content row filled solid free e fills begins c
     ap (λ f. is_indented_by_spaces o.site.before o.site.blocks o.site.awaits f) (sym ends.0) ∙ (ap (λ (x : Site). is_indented_by_spaces x.before x.blocks x.awaits s2) (same o b row) ∙ free refl)
 clear_way J same o b (v ∷ vs) s2 r2 gap content row filled solid free e fills begins clean clean2 = by (account_past row.0 v (spelled vs (s2 ++ r2))) refl row.3
   where
-    there_is : (v.separation ≡ gap) × (v.piece ++ spelled vs (s2 ++ r2) ≡ content)
-    there_is = step_here row.0 v (spelled vs (s2 ++ r2)) gap content row.2 e fills begins clean
-
     by : (z : Option Account) → account_past row.0 v (spelled vs (s2 ++ r2)) ≡ z → LeadsBy J z vs (s2 ++ r2) b → is_indented_by_spaces o.site.before o.site.blocks o.site.awaits gap ≡ true
     by None i k = absurd k
     by (Some c) i k =
-        ap (λ (x : Site). is_indented_by_spaces x.before x.blocks x.awaits gap) (same o row.0 row.1) ∙ subst (λ f. is_indented_by_spaces row.0.site.before row.0.site.blocks row.0.site.awaits f ≡ true) there_is.0 (no_tab_before row.0 v (spelled vs (s2 ++ r2)) c i)
+        ap (λ (x : Site). is_indented_by_spaces x.before x.blocks x.awaits gap) (same o row.0 row.1) ∙ subst (λ f. is_indented_by_spaces row.0.site.before row.0.site.blocks row.0.site.awaits f ≡ true) (step_here row.0 v (spelled vs (s2 ++ r2)) gap content row.2 e fills begins clean).0 (no_tab_before row.0 v (spelled vs (s2 ++ r2)) c i)
 
 -- a reason that comes first where a TAB indents what comes is just this
 pub tab_alone : (b : Account) (separation : List ℕ) (here : Position) (rest : List ℕ) (why : Problem) (at : Position) (f : Fails b separation here rest why at) → comes_first b separation here rest why at f → is_free_of_tabs b separation ≡ false
@@ -96,14 +93,11 @@ module _ (J : Account → Account → Type 0) (same : (x y : Account) → J x y 
 
   -- what comes at once after the step, with a TAB in its indentation
   module _ (last : g.steps ≡ []) (tab : is_free_of_tabs b s2 ≡ false) (no_plain : follows_plain b.site.before s2 ≡ false) where
-    cut_there : step.next ≡ s2 ++ r2
-    cut_there = ap (λ ws. spelled ws (s2 ++ r2)) last
-
     site_is : g.past.site ≡ b.site
     site_is = same g.past b (subst (λ ws. LeadsBy J (Some g.past) ws (s2 ++ r2) b) last g.leads)
 
     one_gap : (gap content : List ℕ) → step.next ≡ gap ++ content → is_separation false gap content ≡ true → begins_separation content ≡ false → (gap ≡ s2) × (content ≡ r2)
-    one_gap gap content cut fills solid = grind (arith, nat_tests, eqb-true, cut_there, separations, ends_before, no_nul_after, later_clean)
+    one_gap gap content cut fills solid = grind (arith, nat_tests, eqb-true, (ap (λ ws. spelled ws (s2 ++ r2)) last), separations, ends_before, no_nul_after, later_clean)
 
     clear_gap : IsClearGapAfter step
     clear_gap before_is gap content cut white solid some = grind (arith, nat_tests, eqb-true, one_gap, gap_is_separation, site_is, no_comment)

@@ -35,13 +35,10 @@ long a more e = grind arith
 number_right : (w : List ℕ) (more : Option Problem) (v : ℕ) → number_of w ≡ Some v → number_wrong w more ≡ more
 number_right a more v e = grind (arith, nat_tests, eqb-true)
 
-pointless : (r : List ℕ) → begins_with 46 r ≡ false → point_wrong r ≡ Some problem.VersionDot
-pointless a e = grind arith
-
 version_is : (text : List ℕ) (why : Problem) → IsNoVersion text why → version_wrong text ≡ Some why
 version_is text why (ends.no_major e) = rw e refl
 version_is text why (ends.long_major e) = long (leading is_decimal_digit text) _ e
-version_is text why (ends.no_point major is e) = number_right (leading is_decimal_digit text) _ major is ∙ pointless (after is_decimal_digit text) e
+version_is text why (ends.no_point major is e) = number_right (leading is_decimal_digit text) _ major is ∙ (grind arith)
 version_is text why (ends.no_minor major r is cut e) = number_right (leading is_decimal_digit text) _ major is ∙ rw (cut, e) refl
 version_is text why (ends.long_minor major r is cut e) = number_right (leading is_decimal_digit text) _ major is ∙ rw cut (long (leading is_decimal_digit r) None e)
 

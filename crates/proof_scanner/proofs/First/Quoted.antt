@@ -27,9 +27,6 @@ pub data QuotedReason (in_flow : Bool) (least : ℕ) (blocks : List ℕ) (awaits
 
 -- ---- the quote
 
-same_single : (x y : Bool) (a b : List ℕ) → quote_of x ∷ a ≡ quote_of y ∷ b → x ≡ y
-same_single x y a b e = grind arith
-
 -- a quoted scalar begins with its quote
 begins_quoted : (single : Bool) (rest piece next : List ℕ) → rest ≡ piece ++ next → IsQuoted single piece next → (more : List ℕ) × (rest ≡ quote_of single ∷ more)
 begins_quoted true rest piece next e is = ((is.1.0 ++ 39 ∷ []) ++ next, e ∙ ap (λ p. p ++ next) is.1.1)
@@ -156,6 +153,6 @@ module _ (in_flow : Bool) (least : ℕ) (blocks : List ℕ) (awaits : Bool) (her
       by : Read why1 at1 → Read why2 at2 → (why1 ≡ why2) × (at1 ≡ at2)
       by x y =
           let both : quote_of y.single ∷ y.more ≡ quote_of x.single ∷ x.more = sym y.whole ∙ x.whole in
-          let single : y.single ≡ x.single = same_single y.single x.single y.more x.more both in
+          let single : y.single ≡ x.single = (grind arith) in
           let more : y.more ≡ x.more = cc both in
           one_sorted x.single x.more clean why1 why2 at1 at2 x.sorted (subst (λ m. Sorted x.single m why2 at2) more (subst (λ b. Sorted b y.more why2 at2) single y.sorted))

@@ -67,9 +67,6 @@ pub data Reason (s : Setting) (here : Position) (rest : List ℕ) : Problem → 
 
 -- ---- kinds by the first characters
 
-plain_kind : (s : Setting) (column : ℕ) (rest : List ℕ) → comes_plain s.in_flow s.adjacent column rest ≡ true → kind_here s column rest ≡ plain_scalar
-plain_kind s column a h = grind arith
-
 quoted_kind : (s : Setting) (column : ℕ) (single : Bool) (more : List ℕ) → kind_here s column (quote_of single ∷ more) ≡ (if single then in_single_quotes else in_double_quotes)
 unfolding is_blank_or_end is_blank is_break is_nul is_flow
 quoted_kind s column a more = grind arith
@@ -90,9 +87,6 @@ colon_kind s column more is = rw is refl
 dots_kind : (s : Setting) (column : ℕ) (more : List ℕ) → column ≡ 0 → is_at_gap more ≡ true → kind_here s column (46 ∷ 46 ∷ 46 ∷ more) ≡ dots
 unfolding is_blank_or_end is_blank is_break is_nul is_flow are_marks
 dots_kind s column more zero gap = rw (zero, gap) refl
-
-no_white : (more : List ℕ) → begins_with 32 more ≡ false → begins_white_space more ≡ false → begins_with_space_or_break more ≡ false
-no_white a e f = grind arith
 
 -- ---- each reason has its kind
 
@@ -151,7 +145,7 @@ module _ (s : Setting) (here : Position) (rest : List ℕ) where
   followed_reason why at (none.after_end more passed content col e gap on ends solid) f = (dots, ap (λ r. kind_here s here.col r) e ∙ dots_kind s here.col more col gap, indicators.after_end more passed content e on solid)
   followed_reason why at (none.tab_after_dash more passed content out e gap on tab_there begins) f = (dash, ap (λ r. kind_here s here.col r) e ∙ dash_kind s here.col more gap, indicators.tab_after_dash more passed content out f e on begins)
   followed_reason why at (none.no_space more [] content e gap on begins ends) f =
-      (question, ap (λ r. kind_here s here.col r) e ∙ question_kind s here.col more gap, indicators.no_space more f.0 e (no_white more begins (ap begins_white_space on.is_text ∙ ends)))
+      (question, ap (λ r. kind_here s here.col r) e ∙ question_kind s here.col more gap, indicators.no_space more f.0 e (grind arith))
   followed_reason why at (none.no_space more (c ∷ passed) content e gap on begins ends) f = absurd (cc f.1)
   followed_reason why at (none.tab_after_question more passed content e gap cut fills) f = (question, ap (λ r. kind_here s here.col r) e ∙ question_kind s here.col more gap, indicators.tab_after_question more passed content f.0 e f.1 f.2 cut fills)
   followed_reason why at (none.tab_after_colon more passed content e tab_there on lacks letter) f =
@@ -168,11 +162,8 @@ module _ (a : Account) (separation : List ℕ) (here : Position) (rest : List �
 
   stands_reason : (why : Problem) (at : Position) (n : MayNotStand a separation here rest why at) → stands_first a separation here rest why at n → Reason own here rest why at
   stands_reason why at (failing.shallow inside line left) f = grind (arith, shallow, here, rest, least_here)
-  stands_reason why at (failing.too_deep bracket more e is many) f = seen_reason problem.FlowTooDeep here f (bracket_reason own here rest bracket more problem.FlowTooDeep here e (opens_flow bracket is).1 (indicators.too_deep bracket more e (ap (λ b. b && is_full a) (opens_flow bracket is).0 ∙ full)))
+  stands_reason why at (failing.too_deep bracket more e is many) f = seen_reason problem.FlowTooDeep here f (bracket_reason own here rest bracket more problem.FlowTooDeep here e (opens_flow bracket is).1 (indicators.too_deep bracket more e (ap (λ b. b && is_full a) (opens_flow bracket is).0 ∙ (grind (arith, nat_tests, many)))))
     where
-      full : is_full a ≡ true
-      full = grind (arith, nat_tests, many)
-
       opens_flow : (c : ℕ) → (c ≡ 91) ⊎ (c ≡ 123) → (opens c ≡ true) × (is_flow_indicator c ≡ true)
       opens_flow c a = grind (arith, nat_tests, eqb-true)
   stands_reason why at (failing.dash_in_flow more e gap inside) f = seen_reason problem.BlockEntryInFlow here f (dash, ap (λ r. kind_here own here.col r) e ∙ dash_kind own here.col more gap, indicators.dash_in_flow inside)
@@ -190,7 +181,7 @@ module _ (a : Account) (separation : List ℕ) (here : Position) (rest : List �
     where
       by : (f : Fails a separation here rest why at) → comes_first a separation here rest why at f → Reason own here rest why at
       by (failing.no_piece n) f = seen_reason why at f.0 (none_reason own here rest why at n f.1)
-      by (failing.no_plain comes n) f = seen_reason why at f.0 (plain_scalar, plain_kind own here.col rest comes, (n, f.1))
+      by (failing.no_plain comes n) f = seen_reason why at f.0 (plain_scalar, (grind arith), (n, f.1))
       by (failing.no_quoted single lacks n) f = seen_reason why at f.0 (lines_reason own here rest single why at lacks n f.1)
       by (failing.no_block out n) f = seen_reason why at f.0 (block_scalar, block_at own here rest out why at n, fails why at n f.1)
       by (failing.followed n) f = seen_reason why at f.0 (followed_reason own here rest why at n f.1)

@@ -35,9 +35,5 @@ kind_here s column (c ∷ r) = (if comes_plain s.in_flow s.adjacent column (c �
 
 -- ---- like accounts
 
--- a line that is taken is so at like accounts, and one that is not is not
-same_taken : (broken : Bool) (l m : Line) → LikeLine l m → is_taken_line (line_past_separation false broken l) ≡ is_taken_line (line_past_separation false broken m)
-same_taken b l m i = grind arith
-
 pub same_setting : (a b : Account) (separation : List ℕ) (here : Position) → IsLike a b → setting_of a separation here ≡ setting_of b separation here
-same_setting a b separation here like = grind (arith, nat_tests, eqb-true, same_flow, same_taken, many_alike)
+same_setting a b separation here like = grind (arith, nat_tests, eqb-true, same_flow, many_alike)

@@ -20,10 +20,6 @@ unfolding is_empty_line
 none_is_empty column [] p a z h = refl
 none_is_empty column (l ∷ ls) p a z h = grind (arith, nat_tests, eqb-true, passed, first_empty, none_is_empty column ls (after_line l p) a.2 refl)
 
--- a scalar in which no content begins has empty lines alone
-no_content : (column : ℕ) (piece next : List ℕ) (p : Position) (w : Written piece next) → first_content column true p piece ≡ None → are_empty column (texts w.lines) ≡ true
-no_content column piece next p w h = grind (arith, nat_tests, eqb-true, none_is_empty, first_header)
-
 -- ---- what stands after it
 
 -- the lines of a scalar that was written so, and what is asked of them
@@ -42,10 +38,6 @@ pub record IsClear (indent : ℕ) (p : Position) (b : BlockRead) (piece next : L
 module _ (indent : ℕ) (p : Position) (b : BlockRead) (piece next bs : List ℕ) (least : IsLeast indent bs) (is : block_read (collection_of indent) piece next ≡ Some b) where
   abbrev Clear : Type 0
   Clear = IsClear indent p b piece next
-
-  -- at the text's end
-  at_end : next ≡ [] → Clear
-  at_end e = grind arith
 
   -- before further text
   module _ (further : is_at_end next ≡ false) (may : read_may_end bs (block_read (innermost bs) piece next) piece next ≡ true) where
@@ -74,7 +66,7 @@ module _ (indent : ℕ) (p : Position) (b : BlockRead) (piece next bs : List ℕ
         none_of a i = grind (arith, nat_tests, eqb-true)
 
         empty : are_empty b.column (texts w.lines) ≡ true
-        empty = no_content b.column piece next p w (none_of (first_content b.column true p piece) e)
+        empty = grind (arith, nat_tests, eqb-true, none_is_empty, first_header)
 
         by : (x y : Bool) → nat_lt k (least_column bs true) ≡ x → nat_le b.column k ≡ y → (x || y) ≡ true → ⊥
         by true y i j h = let same = least.1 in grind (arith, nat_tests, i, same, f)
@@ -85,4 +77,4 @@ module _ (indent : ℕ) (p : Position) (b : BlockRead) (piece next bs : List ℕ
 
   -- What stands after a block scalar that may end is not refused.
   pub block_is_clear : has_no_nul next ≡ true → block_may_end bs piece next ≡ true → Clear
-  block_is_clear clean may = grind (arith, nat_tests, eqb-true, at_end, end_no_text, before_text)
+  block_is_clear clean may = grind (arith, nat_tests, eqb-true, end_no_text, before_text)

@@ -27,11 +27,8 @@ skipped : (t : ScannerState) → begins_with 35 t.rest ≡ false → Left (Space
 unfolding skip_spaces
 skipped t none = by (space Yes t.rest t.held.position) refl (spaces_are_passed Yes t.rest t.held.position)
   where
-    passes : (y : Read Whitespace) → space Yes t.rest t.held.position ≡ Ok y → (u : ScannerState) → skip_spaces Yes t ≡ Ok u → Left (Spaced Yes t) (lexed (space Yes t.rest t.held.position) t.held (λ w u. Ok u))
-    passes y i u j = record { value = u; is = j; holds = held_of u (spaces_skipped Yes t) j }
-
     by : (x : Result (Read Whitespace) Fault) → space Yes t.rest t.held.position ≡ x → EndsAs (HasSpaces Yes t.held.position t.rest) (IsGlued t.held.position t.rest) x → Left (Spaced Yes t) (lexed (space Yes t.rest t.held.position) t.held (λ w u. Ok u))
-    by x i (ends.reads y passed e) = passes y (i ∙ e) _ (ap (λ z. lexed z t.held (λ w u. Ok u)) (i ∙ e))
+    by x i (ends.reads y passed e) = record { value = _; is = (ap (λ z. lexed z t.held (λ w u. Ok u)) (i ∙ e)); holds = held_of _ (spaces_skipped Yes t) (ap (λ z. lexed z t.held (λ w u. Ok u)) (i ∙ e)) }
     by x i (ends.refuses f (glued begins) e) = absurd (cc (begins, none))
 
 -- ---- what stands there
@@ -39,7 +36,7 @@ skipped t none = by (space Yes t.rest t.held.position) refl (spaces_are_passed Y
 -- a line on which something other than a comment stands after blanks holds more
 pub not_done : (s : List ℕ) (d : ℕ) (r : List ℕ) → is_blanks s ≡ true → is_break d ≡ false → is_blank d ≡ false → (d == 35) ≡ false → line_is_done (s ++ d ∷ r) ≡ false
 unfolding is_blank is_break
-not_done s d r b e f g = ap is_rest_of_line (on_line s b) ∙ done s b
+not_done s d r b e f g = ap is_rest_of_line (on_line s b) ∙ (grind (arith, nat_tests, comment, eqb-true))
   where
     tail : List ℕ
     tail = d ∷ leading is_on_line r
@@ -54,9 +51,6 @@ not_done s d r b e f g = ap is_rest_of_line (on_line s b) ∙ done s b
     comment : (s : List ℕ) → is_blanks s ≡ true → is_blanks_and_comment (s ++ tail) ≡ false
     comment [] b = rw (g, f) refl
     comment (c ∷ s) b = grind (arith, nat_tests, comment s)
-
-    done : (s : List ℕ) → is_blanks s ≡ true → is_rest_of_line (s ++ tail) ≡ false
-    done a b = grind (arith, nat_tests, comment, eqb-true)
 
 follows_by : (flow : Bool) (piece : List ℕ) (same : Bool) (c : ℕ) (r : List ℕ) → (has_break piece ≡ false → same ≡ true) → goes_on_quoted flow piece (c ∷ r) ≡ true → may_follow_quoted flow same c ≡ true
 unfolding may_follow_quoted
@@ -74,10 +68,7 @@ pub check_passes : (p : Position) (piece : List ℕ) (t : ScannerState) → t.he
 unfolding check_after_quoted
 check_passes p piece t is may =
     let u : Left (Spaced Yes t) (skip_spaces Yes t) = skipped t (unglued (in_flow t.held) piece t.rest may) in
-    subst (λ y. Left (λ z. Unit {0}) (y >>= checked)) (sym u.is) (by u.value u.holds)
+    subst (λ y. Left (λ z. Unit {0}) (y >>= checked)) (sym u.is) (grind (arith, nat_tests, eqb-true, append_assoc, same_line, same_has_break, follows))
   where
     checked : ScannerState → Result ScannerState Fault
     checked u = (if may_follow_quoted (in_flow u.held) (p.line == u.held.position.line) (peek u.rest) then Ok u else Err (At problem.ContentAfterQuoted u.held.position))
-
-    by : (u : ScannerState) → Spaced Yes t u → Left (λ z. Unit {0}) (checked u)
-    by u s = grind (arith, nat_tests, eqb-true, append_assoc, same_line, same_has_break, follows)

@@ -25,13 +25,6 @@ inner_first : (a b : List ℕ) → is_in_line (a ++ b) ≡ true → is_in_line a
 inner_first [] b h = refl
 inner_first (c ∷ a) b h = let parts = and_parts (not (is_break c)) (is_in_line (a ++ b)) h in rw parts.0 (inner_first a b parts.1)
 
--- the position after characters of a line
-along_text : (style : BlockStyle) (before rest : List ℕ) (p : Position) → is_in_line before ≡ true → headers.along before (past p) ≡ position_after p (indicator_of style ∷ before) rest
-along_text style before rest p inner = sym (after_chars (indicator_of style ∷ before) [] rest p (style_inner style before inner)) ∙ ap (λ w. position_after p w rest) (append-nil (indicator_of style ∷ before))
-
-tab_first : (r : List ℕ) → begins_with tab r ≡ true → (m : List ℕ) × (r ≡ tab ∷ m)
-tab_first a h = grind arith
-
 -- a break, and a TAB after it
 record TabAfter (after : List ℕ) : Type 0 where
   by : Break
@@ -42,9 +35,6 @@ tab_after : (after : List ℕ) (p : Position) → headers.ends_line after ≡ tr
 unfolding is_break
 tab_after a p e h = grind arith
 
-fits_alone : (k : Break) → Fits k []
-fits_alone a = grind arith
-
 -- a fault that comes first
 abbrev FirstFault : (collection : List ℕ) (here : Position) (text : List ℕ) (why : Problem) (at : Position) → Type 0
 FirstFault collection here text why at = (x : IsBlockFault collection here text why at) × block_first collection here text why at x
@@ -54,14 +44,14 @@ FirstFault collection here text why at = (x : IsBlockFault collection here text 
 tab_fault : (collection : List ℕ) (here : Position) (text header next : List ℕ) (k : Break) (h : defs.Header) → text ≡ header ++ put k (tab ∷ next) → is_in_line header ≡ true → header_of header ≡ Some h → FirstFault collection here text problem.BlockScalarTab here
 tab_fault collection here text header next k h e inner is =
     let ls : List Line = record { text = header; by = k } ∷ [] in
-    (none.by_tab (spell ls []) header next h (e ∙ sym (spell_more ls [] (tab ∷ next))) (split_spell ls [] (inner, fits_alone k, tt) refl) is, tt)
+    (none.by_tab (spell ls []) header next h (e ∙ sym (spell_more ls [] (tab ∷ next))) (split_spell ls [] (inner, (grind arith), tt) refl) is, tt)
 
 -- the same by the piece that is the header
 piece_tab_fault : (collection : List ℕ) (o : Option ℕ) (here : Position) (text piece next : List ℕ) (b : BlockRead) → text ≡ piece ++ next → block_read o piece next ≡ Some b → is_tabbed piece next ≡ true → FirstFault collection here text problem.BlockScalarTab here
 unfolding is_nul
 piece_tab_fault collection o here text piece next b e is tabbed =
     let q = and_parts (scan.is_single (split piece).complete) (begins_with tab next) tabbed in
-    by (tab_first next q.1) q.0
+    by (grind arith) q.0
   where
     by : (m : List ℕ) × (next ≡ tab ∷ m) → scan.is_single (split piece).complete ≡ true → FirstFault collection here text problem.BlockScalarTab here
     by m single = from w.header w.lines w.is w.are
@@ -80,11 +70,8 @@ piece_tab_fault collection o here text piece next b e is tabbed =
             lines_are : split piece ≡ record { complete = l.text ∷ []; last = [] }
             lines_are = ap split is_piece ∙ split_spell (l ∷ []) [] are refl
 
-            read_is : read_body (header_of l.text) o (body [] further_text) next ≡ Some b
-            read_is = ap (λ x. read_lines o (l.text ∷ []) [] next x) (sym further) ∙ (ap (λ s. read_lines o s.complete s.last next (is_at_end next)) (sym lines_are) ∙ is)
-
             alone : (y : Option defs.Header) → header_of l.text ≡ y → FirstFault collection here text problem.BlockScalarTab here
-            alone None i = absurd (cc (read_is, ap (λ y. read_body y o (body [] further_text) next) i))
+            alone None i = absurd (cc ((ap (λ x. read_lines o (l.text ∷ []) [] next x) (sym further) ∙ (ap (λ s. read_lines o s.complete s.last next (is_at_end next)) (sym lines_are) ∙ is)), ap (λ y. read_body y o (body [] further_text) next) i))
             alone (Some h) i = (none.by_tab piece l.text m.0 h (e ∙ ap (λ r. piece ++ r) m.1) lines_are i, tt)
 
 -- ---- what stands after a scalar without content
@@ -99,16 +86,13 @@ column_fault indent bs here text piece next b least e clean is untabbed low = by
 
     by : (x : Bool) → is_at_end next ≡ x → (x || read_may_end bs (block_read (innermost bs) piece next) piece next) ≡ false → FirstFault bs here text problem.BlockScalarIndentation (scan.further_position here piece next)
     by true further k = absurd (cc k)
-    by false further k = parts (not (is_empty (texts w.lines) && begins_with tab next)) (are_empty b.column (texts w.lines)) (nat_lt (leading_spaces next) (least_column bs true)) (nat_le b.column (leading_spaces next)) refl refl refl refl asked
+    by false further k = parts (not (is_empty (texts w.lines) && begins_with tab next)) (are_empty b.column (texts w.lines)) (nat_lt (leading_spaces next) (least_column bs true)) (nat_le b.column (leading_spaces next)) refl refl refl refl (lines_asked indent b piece next bs least is w ∙ k)
       where
         w : Written piece next
         w = written (collection_of indent) piece next b is further
 
         read_here : block_read (innermost bs) piece next ≡ Some b
         read_here = ap (λ c. block_read c piece next) (sym least.0) ∙ is
-
-        asked : lines_may_end bs b.column (w.header.text ∷ texts w.lines) next ≡ false
-        asked = lines_asked indent b piece next bs least is w ∙ k
 
         untabbed_by : (h : List ℕ) (ls : List (List ℕ)) (t : Bool) → (scan.is_single (h ∷ ls) && t) ≡ false → not (is_empty ls && t) ≡ true
         untabbed_by h ls t i = grind arith
@@ -137,13 +121,9 @@ module _ (text : List ℕ) (t : ScannerState) (a : Arrives text t) (some : is_em
   abbrev collections : List ℕ
   collections = columns t.held.indent t.held.indents
 
-  -- the levels without those that open no collection
-  closed : AreClosed t.held.indent t.held.indents t.held.tokens (without_open t.held.indent t.held.indents t.held.tokens)
-  closed = without_is t.held.indent t.held.indents t.held.tokens a.are_levels
-
   least : (s : Held) → s ≡ record t.held { keys = saved_keys t.held } → IsLeast (unroll_non_block_indents (allow_key true s)).indent collections
   unfolding unroll_non_block_indents
-  least s e = grind (arith, nat_tests, eqb-true, closed)
+  least s e = grind (arith, nat_tests, eqb-true, (without_is t.held.indent t.held.indents t.held.tokens a.are_levels))
 
   -- the block scalar that begins here may not stand
   block_stuck : (why : Problem) (at : Position) → FirstFault collections t.held.position t.rest why at → IsWhy text why at
@@ -161,7 +141,7 @@ module _ (text : List ℕ) (t : ScannerState) (a : Arrives text t) (some : is_em
   header_told style line after e inline ends g (headers.zero_digit lacks zero) =
       λ _. none_here text t a some lies problem.BlockScalarZero (none.headless style line after problem.BlockScalarZero t.held.position (ap not out) e inline ends lacks (none.by_zero zero)) tt
   header_told style line after e inline ends g (headers.comment h before more lacks is cut) =
-      let place : headers.along before (past t.held.position) ≡ position_after t.held.position (indicator_of style ∷ before) (35 ∷ more) = along_text style before (35 ∷ more) t.held.position (inner_first before (35 ∷ more) (ap is_in_line (sym cut) ∙ inline)) in
+      let place : headers.along before (past t.held.position) ≡ position_after t.held.position (indicator_of style ∷ before) (35 ∷ more) = (sym (after_chars (indicator_of style ∷ before) [] (35 ∷ more) t.held.position (style_inner style before (inner_first before (35 ∷ more) (ap is_in_line (sym cut) ∙ inline)))) ∙ ap (λ w. position_after t.held.position w (35 ∷ more)) (append-nil (indicator_of style ∷ before))) in
       subst (λ p. Said text (At problem.CommentNotSeparated p)) (sym place)
       (λ _. none_begins text t a some lies problem.CommentNotSeparated _
       (none.headless style line after problem.CommentNotSeparated _ (ap not out) e inline ends lacks (none.by_comment h before more is cut)) tt)
@@ -170,11 +150,8 @@ module _ (text : List ℕ) (t : ScannerState) (a : Arrives text t) (some : is_em
 
   block_refused : (style : BlockStyle) (indent : ℕ) (more : List ℕ) → t.rest ≡ indicator_of style ∷ more → IsLeast indent collections → (f : Fault) → block (is_literal_style style) indent t.rest t.held.position ≡ Err f → Said text f
   block_refused style indent more e deep f k =
-      by f (refused_as (ap (λ r. block (is_literal_style style) indent r t.held.position) (sym e) ∙ k) (blocks.scans_end style indent more t.held.position (some_chars more clean)))
+      by f (refused_as (ap (λ r. block (is_literal_style style) indent r t.held.position) (sym e) ∙ k) (blocks.scans_end style indent more t.held.position (some_chars more ((and_parts (not (is_nul (indicator_of style))) (has_no_nul more) (subst (λ r. has_no_nul r ≡ true) e a.is_clean)).1))))
     where
-      clean : has_no_nul more ≡ true
-      clean = (and_parts (not (is_nul (indicator_of style))) (has_no_nul more) (subst (λ r. has_no_nul r ≡ true) e a.is_clean)).1
-
       by : (g : Fault) → block_ends.IsBlockRefusal style indent t.held.position more g → Said text g
       by g (block_ends.bad_header line after cut inline ends why) = header_told style line after (e ∙ ap (λ r. indicator_of style ∷ r) cut) inline ends g why
       by g (block_ends.after_piece piece next b it (scan.shallow free low)) =

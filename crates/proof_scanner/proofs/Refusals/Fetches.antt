@@ -37,7 +37,7 @@ module _ (text : List ℕ) (t : ScannerState) (a : Arrives text t) (some : is_em
         close_bracket = λ more e. closing_told text t a some lies Sequence 93 more e (inl refl);
         close_brace = λ more e. closing_told text t a some lies Mapping 125 more e (inr refl);
         comma = λ more e. comma_told text t a some lies more e;
-        percent = λ more e. fault {f = At problem.UnexpectedPercent t.held.position} (λ _. none_here text t a some lies problem.UnexpectedPercent (none.percent more e (no_column more e)) tt);
+        percent = λ more e. fault {f = At problem.UnexpectedPercent t.held.position} (λ _. none_here text t a some lies problem.UnexpectedPercent (none.percent more e (grind (arith, percent, eqb-true))) tt);
         at_sign = λ more e. fault {f = At problem.UnexpectedAt t.held.position} (λ _. none_here text t a some lies problem.UnexpectedAt (none.at_sign more e) tt);
         backtick = λ more e. fault {f = At problem.UnexpectedBacktick t.held.position} (λ _. none_here text t a some lies problem.UnexpectedBacktick (none.backtick more e) tt);
       }) some
@@ -45,16 +45,10 @@ module _ (text : List ℕ) (t : ScannerState) (a : Arrives text t) (some : is_em
       lies : LiesDeep t
       lies _ = deep
 
-      no_column : (more : List ℕ) → t.rest ≡ 37 ∷ more → (t.held.position.col == 0) ≡ false
-      no_column more e = grind (arith, percent, eqb-true)
-
   -- ---- columns
 
   least_here : (i : ℕ) (ds : List Indent) → AreLevels i ds → nat_lt (t.held.position.col + 1) i ≡ true → nat_le (least_column (columns i ds) (has_open_level ds)) t.held.position.col ≡ false
   least_here i a l b = grind (arith, least_of_levels)
-
-  no_line : ((t.held.position.col == 0) && is_document_marker t.rest) ≡ false → (t.held.position.col ≡ 0 → (peek t.rest == 37) ≡ false) → begins_document_at t.held.position t.rest ≡ false
-  no_line none percent = grind arith
 
   shallow : begins_document_at t.held.position t.rest ≡ false → nat_lt (t.held.position.col + 1) t.held.indent ≡ true → IsWhy text problem.InvalidIndentation t.held.position
   shallow none low = by (is_empty t.held.flow) refl
@@ -84,7 +78,7 @@ module _ (text : List ℕ) (t : ScannerState) (a : Arrives text t) (some : is_em
         directive = λ e col. directive_told text t a some (document_line col (ap (λ r. begins_with 37 r || is_document_marker r) e)) (after t.rest) e col;
         document_start = λ more e gap col. marker_told text t a some (document_line col (ap (λ r. begins_with 37 r || is_document_marker r) e ∙ rw gap refl)) Tok.document_start col;
         document_end = λ more e gap col. document_end_told text t a some (document_line col (ap (λ r. begins_with 37 r || is_document_marker r) e ∙ rw gap refl)) more e gap col;
-        shallow = λ n low. fault {f = At problem.InvalidIndentation t.held.position} (λ _. shallow (no_line n.0 n.1) low);
+        shallow = λ n low. fault {f = At problem.InvalidIndentation t.held.position} (λ _. shallow (grind arith) low);
         token = λ n deep. token_told deep n.0 n.1;
       })
     where

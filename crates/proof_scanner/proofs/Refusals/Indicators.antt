@@ -83,12 +83,9 @@ module _ (text : List ℕ) (t : ScannerState) (a : Arrives text t) (some : is_em
       → (x : IsFollowed (in_flow t.held) t.held.position t.rest why (position_after p passed content)) → HasFirst why (position_after p passed content) x → Said text (At why q)
   followed_at why q p passed content e x first = λ _. subst (λ z. IsWhy text why z) (sym e) (followed_stuck text t a some lies why (position_after p passed content) x first)
 
-  three_past : (p : Position) → past (past (past p)) ≡ further 3 p
-  three_past p = grind arith
-
   marked_state : (tok : Tok) (c : ℕ) (more : List ℕ) → t.rest ≡ c ∷ c ∷ c ∷ more → Holds (λ u. (u.rest ≡ more) × (u.held.position ≡ further 3 t.held.position)) (fetch_document_marker tok t)
   unfolding fetch_document_marker
-  marked_state tok c more e = holds.chained (line_stays t) (λ u s. holds.went (ap (λ r. after (after (after r))) (s.0 ∙ e), ap (λ p. past (past (past p))) s.1 ∙ three_past t.held.position))
+  marked_state tok c more e = holds.chained (line_stays t) (λ u s. holds.went (ap (λ r. after (after (after r))) (s.0 ∙ e), ap (λ p. past (past (past p))) s.1 ∙ (grind arith)))
 
   end_checked : (u v : ScannerState) (more : List ℕ) → t.rest ≡ 46 ∷ 46 ∷ 46 ∷ more → is_at_gap more ≡ true → t.held.position.col ≡ 0 → (u.rest ≡ more) × (u.held.position ≡ further 3 t.held.position) → Spaced Yes u v → Faults (Said text) (check_document_end v)
   unfolding check_document_end
@@ -345,9 +342,6 @@ module _ (text : List ℕ) (t : ScannerState) (a : Arrives text t) (some : is_em
       in_turn (mapping_told more e apart i top (begin_keyless_pair (opens_pair t.held.flow) s) (k.0 ∙ flow) (k.1 ∙ allowed)) (λ u j. goes)
   value_told more e apart i (Some k) top s flow allowed = in_turn (pair_told more e apart i k top (opens_pair t.held.flow) refl _) (λ u i. goes)
 
-  paired_flow : (fs : List FlowLevel) → is_empty (paired fs) ≡ is_empty fs
-  paired_flow a = grind arith
-
   tab_checked : (more : List ℕ) → t.rest ≡ 58 ∷ more → begins_with 9 more ≡ true → (h : Held) → h.position ≡ past t.held.position → (x : Read Whitespace) → space Yes more h.position ≡ Ok x → Faults (Said text) (check_after_tab x.value (go_on x h))
   unfolding check_after_tab is_alpha is_alphanumeric
   tab_checked more e tab h place x k = by (let exact = spaced_parted more h.position (no_hash more tab) in cc (exact, k))
@@ -392,18 +386,14 @@ module _ (text : List ℕ) (t : ScannerState) (a : Arrives text t) (some : is_em
       holds.either (peek u.rest == 9) (λ _. holds.read u.held (space Yes u.rest u.held.position) check_after_tab (λ x k.
       holds.checked (not x.value.has_valid_yaml_ws && ((peek x.rest == 45) || is_alpha (peek x.rest))) (At problem.TabAfterColon x.position) (λ _. holds.went refl))) (λ _. holds.went refl)
 
-  -- the TABs after the colon are looked at first
-  spaced_apart : (more : List ℕ) (u : ScannerState) → u.rest ≡ more → Holds (λ v. colon_may_precede more ≡ true) (check_value_space u)
-  spaced_apart more u left = holds.weakened (λ v k. ap colon_may_precede (sym left) ∙ k.1) (colon_spaced u.rest u.held)
-
   pub colon_told : (more : List ℕ) → t.rest ≡ 58 ∷ more → is_value t ≡ true → Faults (Said text) (fetch_value t)
   unfolding fetch_value
   colon_told more e is =
       let first : ScannerState = skip_indicator (on_held (λ s. record s { flow = paired s.flow }) t) in
       in_turn (value_checked more e first (ap after e) refl) (λ u k.
       let h = held_of u (value_held first) k in
-      let apart = held_of u (spaced_apart more first (ap after e)) k in
-      in_turn (tried u (value_told_by more e apart u (ap (λ s. s.keys) h) (ap (λ s. not (is_empty s.flow)) h ∙ ap not (paired_flow t.held.flow)) (ap (λ s. s.key_allowed) h))) (λ v i. goes))
+      let apart = held_of u (holds.weakened (λ v k. ap colon_may_precede (sym (ap after e)) ∙ k.1) (colon_spaced first.rest first.held)) k in
+      in_turn (tried u (value_told_by more e apart u (ap (λ s. s.keys) h) (ap (λ s. not (is_empty s.flow)) h ∙ ap not (grind arith)) (ap (λ s. s.key_allowed) h))) (λ v i. goes))
     where
       value_told_by : (more : List ℕ) → t.rest ≡ 58 ∷ more → colon_may_precede more ≡ true → (u : ScannerState) → u.held.keys ≡ t.held.keys → in_flow u.held ≡ in_flow t.held → u.held.key_allowed ≡ t.held.key_allowed → Faults (Said text) (value_of (top_key u.held.keys) t.held.position (opens_pair t.held.flow) u.held)
       value_told_by more e apart u keys flow allowed = value_told more e apart is (top_key u.held.keys) (sym (ap top_key keys)) u.held flow allowed
@@ -434,11 +424,8 @@ module _ (text : List ℕ) (t : ScannerState) (a : Arrives text t) (some : is_em
   begun_here kind =
       subst (λ s. Holds (λ v. (v.position ≡ t.held.position) × (nat_le 255 (length t.held.flow) ≡ false)) (deepened_flow (if nat_le 255 (length s.flow) then Err (At problem.FlowTooDeep s.position) else Ok (record s { keys = None ∷ s.keys; flow = flow_level kind ∷ s.flow }))))
       (sym (ap roll_one_col_indent (saved_is t.held) ∙ rolled_one_is (record t.held { keys = saved_keys t.held })))
-      (by (nat_le 255 (length t.held.flow)) rolled refl refl)
+      (by (nat_le 255 (length t.held.flow)) (record t.held { keys = saved_keys t.held; indents = one_indents (record t.held { keys = saved_keys t.held }); indent = one_indent (record t.held { keys = saved_keys t.held }) }) refl refl)
     where
-      rolled : Held
-      rolled = record t.held { keys = saved_keys t.held; indents = one_indents (record t.held { keys = saved_keys t.held }); indent = one_indent (record t.held { keys = saved_keys t.held }) }
-
       by : (b : Bool) (s : Held) → nat_le 255 (length t.held.flow) ≡ b → s.position ≡ t.held.position → Holds (λ v. (v.position ≡ t.held.position) × (nat_le 255 (length t.held.flow) ≡ false)) (deepened_flow (if b then Err (At problem.FlowTooDeep s.position) else Ok (record s { keys = None ∷ s.keys; flow = flow_level kind ∷ s.flow })))
       by true s many e = holds.refused
       by false s many e = holds.went (e, many)
@@ -458,28 +445,19 @@ module _ (text : List ℕ) (t : ScannerState) (a : Arrives text t) (some : is_em
 
   pub opening_told : (kind : Collection) (bracket : ℕ) (more : List ℕ) → t.rest ≡ bracket ∷ more → (bracket ≡ 91) ⊎ (bracket ≡ 123) → Faults (Said text) (fetch_flow_collection_start kind t)
   unfolding fetch_flow_collection_start
-  opening_told kind bracket more e is = in_turn (tried t (flow_begun kind bracket more e is)) (λ u i. in_turn (indicator_passed bracket more e (by bracket is) (ap (λ b. opens bracket && b) (room u i) ∙ and_false (opens bracket)) u (is_here (begin_flow kind) u (holds.weakened (λ s k. k.0) (begun_here kind)) i)) (λ v j. goes))
+  opening_told kind bracket more e is = in_turn (tried t (flow_begun kind bracket more e is)) (λ u i. in_turn (indicator_passed bracket more e (by bracket is) (ap (λ b. opens bracket && b) (held_of {P = λ v. nat_le 255 (length t.held.flow) ≡ false} u (holds.tried t (begin_flow kind t.held) (begun_here kind) (λ s k. k.1)) i) ∙ and_false (opens bracket)) u (is_here (begin_flow kind) u (holds.weakened (λ s k. k.0) (begun_here kind)) i)) (λ v j. goes))
     where
-      room : (u : ScannerState) → try_held (begin_flow kind) t ≡ Ok u → nat_le 255 (length t.held.flow) ≡ false
-      room u i = held_of {P = λ v. nat_le 255 (length t.held.flow) ≡ false} u (holds.tried t (begin_flow kind t.held) (begun_here kind) (λ s k. k.1)) i
-
       by : (c : ℕ) → (c ≡ 91) ⊎ (c ≡ 123) → none.is_flow_indicator c ≡ true
       by c a = grind arith
-
-  ended_here : Holds (λ s. s.position ≡ t.held.position) (end_flow t.held)
-  ended_here = holds.weakened (λ s k. ap (λ h. h.position) k.1) (flow_over t.held)
 
   pub closing_told : (kind : Collection) (c : ℕ) (more : List ℕ) → t.rest ≡ c ∷ more → (c ≡ 93) ⊎ (c ≡ 125) → Faults (Said text) (fetch_flow_collection_end kind t)
   unfolding fetch_flow_collection_end end_flow
   closing_told kind c more e is =
-      in_turn (tried t (kept ended_flow (λ e. refl) (λ x. goes) (remove_told text t.held (closing_rowless text t a some c more e (inr is))))) (λ u i. in_turn (indicator_passed c more e (closes c is).0 (ap (λ b. b && nat_le 255 (length t.held.flow)) (closes c is).1) u (is_here end_flow u ended_here i)) (λ v j. goes))
+      in_turn (tried t (kept ended_flow (λ e. refl) (λ x. goes) (remove_told text t.held (closing_rowless text t a some c more e (inr is))))) (λ u i. in_turn (indicator_passed c more e (closes c is).0 (ap (λ b. b && nat_le 255 (length t.held.flow)) (closes c is).1) u (is_here end_flow u (holds.weakened (λ s k. ap (λ h. h.position) k.1) (flow_over t.held)) i)) (λ v j. goes))
     where
       closes : (c : ℕ) → (c ≡ 93) ⊎ (c ≡ 125) → (none.is_flow_indicator c ≡ true) × (opens c ≡ false)
       closes c a = grind arith
 
-  next_here : Holds (λ s. s.position ≡ t.held.position) (end_entry t.held)
-  next_here = holds.weakened (λ s k. ap (λ h. h.position) k.1) (entry_over t.held)
-
   pub comma_told : (more : List ℕ) → t.rest ≡ 44 ∷ more → Faults (Said text) (fetch_flow_entry t)
   unfolding fetch_flow_entry end_entry
-  comma_told more e = in_turn (tried t (kept next_entry (λ e. refl) (λ x. goes) (remove_told text t.held (closing_rowless text t a some 44 more e (inl refl))))) (λ u i. in_turn (indicator_passed 44 more e refl refl u (is_here end_entry u next_here i)) (λ v j. goes))
+  comma_told more e = in_turn (tried t (kept next_entry (λ e. refl) (λ x. goes) (remove_told text t.held (closing_rowless text t a some 44 more e (inl refl))))) (λ u i. in_turn (indicator_passed 44 more e refl refl u (is_here end_entry u (holds.weakened (λ s k. ap (λ h. h.position) k.1) (entry_over t.held)) i)) (λ v j. goes))

@@ -14,17 +14,9 @@ pub record BeginsLine (col : ℕ) (text : List ℕ) : Type 0 where
 directive_line : (p x : List ℕ) (d : Directive) → directive_of p ≡ Some d → begins_document (p ++ x) ≡ true
 directive_line p x d e = let b = directive_begins p d e in ap (λ z. begins_document (z ++ x)) b.1
 
-marker_line : (c : ℕ) (x : List ℕ) → are_marks c c c ≡ true → is_at_gap x ≡ true → begins_document (c ∷ c ∷ c ∷ x) ≡ true
-marker_line c x m g = grind (arith, or_true)
-
 pub marker_begins : (a : Account) (p x : List ℕ) (f : Option Tok) (m : Position) (t : Tok) → IsPiece a p x f m t → is_marker (act_of t) ≡ true → BeginsLine a.position.col (p ++ x)
-marker_begins a p x f m t h k = grind (arith, nat_tests, eqb-true, directive_line, marker_line, dash_marks, dot_marks)
-
--- The text at a piece says what piece it is.
--- The kind of a piece's token is that of the text there.
-pub kind_of_token : (k : Kind) (a : PieceAccount) (piece next text : List ℕ) (p : Position) (t : Tok) → piece ≢ [] → IsPiece a piece next None p t → piece ++ next ≡ text → kind_at (is_in_flow a) (is_adjacent a.before) a.position.col text ≡ k → kind_of t ≡ k
-kind_of_token k a piece next text p t some h e there = sym (texts_begin a piece next None p t some h) ∙ (ap (λ r. kind_at (is_in_flow a) (is_adjacent a.before) a.position.col r) e ∙ there)
+marker_begins a p x f m t h k = grind (arith, nat_tests, eqb-true, directive_line, or_true, dash_marks, dot_marks)
 
 -- So is that of the piece.
 pub kind_is : (k : Kind) (a : PieceAccount) (piece next text : List ℕ) (p : Position) (t : Tok) → piece ≢ [] → IsPiece a piece next None p t → piece ++ next ≡ text → kind_at (is_in_flow a) (is_adjacent a.before) a.position.col text ≡ k → Whole k (context_of a) piece next t
-kind_is k a piece next text p t some h e there = subst (λ y. Whole y (context_of a) piece next t) (kind_of_token k a piece next text p t some h e there) (piece_of a piece next None p t some h)
+kind_is k a piece next text p t some h e there = subst (λ y. Whole y (context_of a) piece next t) (sym (texts_begin a piece next None p t some h) ∙ (ap (λ r. kind_at (is_in_flow a) (is_adjacent a.before) a.position.col r) e ∙ there)) (piece_of a piece next None p t some h)

@@ -8,10 +8,6 @@ first_stays : (col : ℕ) (bs : List ℕ) → IsNotRight (innermost (not_ended c
 first_stays col [] = tt
 first_stays col (n ∷ ns) = grind (arith, first_stays col ns)
 
--- if the innermost one is left of the column, they all go on
-left_stays : (col : ℕ) (bs : List ℕ) → is_deeper col bs ≡ true → not_ended col bs ≡ bs
-left_stays col a h = grind arith
-
 pub levels_end : (col : ℕ) (bs : List ℕ) (awaits : Bool) (i : ℕ) (ds : List Indent) → AreLevels i ds → not_ended col bs ≡ columns i ds → (awaits && is_deeper col bs) ≡ has_open_level ds → i ≤ col + 1
 levels_end col bs aw i [] a e o = omega (arith, a)
 levels_end col bs aw i (d ∷ ds) a e o = by d.needs_block_end a.0 e o
@@ -26,5 +22,5 @@ levels_end col bs aw i (d ∷ ds) a e o = by d.needs_block_end a.0 e o
         omega (arith, first)
     by false t f o =
         let deeper : is_deeper col bs ≡ true = (and_parts aw (is_deeper col bs) o).1 in
-        let outer : d.indent ≤ col = left ds d.indent a.1 t.1 (sym (left_stays col bs deeper) ∙ f) deeper in
+        let outer : d.indent ≤ col = left ds d.indent a.1 t.1 (sym (grind arith) ∙ f) deeper in
         omega (arith, t.0, outer)

@@ -8,11 +8,8 @@ use Rattle.yaml_tokens.specs.declared.problem.Problem.TheVariants as problem
 quoted_never : (single : Bool) (more : List ℕ) → none.IsNotQuoted single more problem.AnchorIndentation → ⊥
 quoted_never single more (none.by_escape body after _ double cut has bad) = elim bad [ ]
 
-none_never : (fl : Bool) (here : Position) (rest : List ℕ) (at : Position) → NoPiece fl here rest problem.AnchorIndentation at → ⊥
-none_never fl here rest at a = grind (arith, nat_tests, eqb-true, tag_neither, quoted_never, line_neither)
-
 fails_never : (a : Account) (separation rest : List ℕ) (here at : Position) → Fails a separation here rest problem.AnchorIndentation at → ⊥
-fails_never a separation rest here at b = grind (arith, nat_tests, eqb-true, none_never)
+fails_never a separation rest here at b = grind (arith, nat_tests, eqb-true, tag_neither, quoted_never, line_neither)
 
 pub stuck_never : (text : List ℕ) (at : Position) → IsStuck text problem.AnchorIndentation at → ⊥
 stuck_never text at (fails a separation rest _ here _ place some solid f) = fails_never a separation rest here at f.fails

@@ -62,11 +62,8 @@ pub record RowAt (text : List ℕ) (a : Account) (separation rest : List ℕ) (h
 pub no_tab_before : (b : Account) (v : Step) (after : List ℕ) (c : Account) → account_past b v after ≡ Some c → is_indented_by_spaces b.site.before b.site.blocks b.site.awaits v.separation ≡ true
 no_tab_before b v after c e = by (is_indented_by_spaces b.site.before b.site.blocks b.site.awaits v.separation) refl e
   where
-    x : Option Account
-    x = on_one_line v.piece (past_piece (At b v after) v.piece v.shown after (is_renewed b.site.before v.separation) v.key (line_past_separation (is_in_flow b.entries) (begins_free_line b.site.before v.separation) b.line) b.entries)
-
     by : (t : Bool) → is_indented_by_spaces b.site.before b.site.blocks b.site.awaits v.separation ≡ t
-        → (if t && is_deep_enough (is_in_flow b.entries) v.shown (At b v after) && further_lines_stand (least_for v.shown (At b v after)) v.shown v.piece && may_precede (is_in_flow b.entries) (At b v after).blocks v.shown v.piece after then x else None) ≡ Some c → is_indented_by_spaces b.site.before b.site.blocks b.site.awaits v.separation ≡ true
+        → (if t && is_deep_enough (is_in_flow b.entries) v.shown (At b v after) && further_lines_stand (least_for v.shown (At b v after)) v.shown v.piece && may_precede (is_in_flow b.entries) (At b v after).blocks v.shown v.piece after then (on_one_line v.piece (past_piece (At b v after) v.piece v.shown after (is_renewed b.site.before v.separation) v.key (line_past_separation (is_in_flow b.entries) (begins_free_line b.site.before v.separation) b.line) b.entries)) else None) ≡ Some c → is_indented_by_spaces b.site.before b.site.blocks b.site.awaits v.separation ≡ true
     by a i f = grind (arith, nat_tests, eqb-true)
 
 -- No TAB indents what comes after a step where steps lead on to the text's end.
@@ -75,12 +72,9 @@ clear_on : (b : Account) (ws : List Step) (last gap content : List ℕ) → IsRo
 clear_on b [] last gap content row e fills solid some clean = absurd (cc (some, ap is_empty (separations last gap [] content (row.0, refl) (fills, ends_before content solid clean) (append-nil last ∙ e)).1))
 clear_on b (v ∷ vs) last gap content row e fills solid some clean = by (account_past b v (spelled vs last)) refl row.1
   where
-    there_is : (v.separation ≡ gap) × (v.piece ++ spelled vs last ≡ content)
-    there_is = step_here b v (spelled vs last) gap content row.0 e fills solid clean
-
     by : (o : Option Account) → account_past b v (spelled vs last) ≡ o → IsRowFrom o vs last → is_indented_by_spaces b.site.before b.site.blocks b.site.awaits gap ≡ true
     by None i k = absurd k
-    by (Some c) i k = subst (λ f. is_indented_by_spaces b.site.before b.site.blocks b.site.awaits f ≡ true) there_is.0 (no_tab_before b v (spelled vs last) c i)
+    by (Some c) i k = subst (λ f. is_indented_by_spaces b.site.before b.site.blocks b.site.awaits f ≡ true) (step_here b v (spelled vs last) gap content row.0 e fills solid clean).0 (no_tab_before b v (spelled vs last) c i)
 
 pub row_at : (text separation rest : List ℕ) (a : Account) (here : Position) (r : Row) → IsPlace text a separation rest here → begins_separation rest ≡ false → is_empty rest ≡ false → HasRow text r → RowAt text a separation rest here
 row_at text separation rest a here r p solid some h = by g.steps g.is_row g.spells

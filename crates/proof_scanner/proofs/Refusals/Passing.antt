@@ -21,17 +21,11 @@ HasNear s = is_empty s.flow ≡ true → (k : Key) → top_key s.keys ≡ Some k
 
 stale_near : (s : Held) → Holds HasNear (stale s)
 unfolding stale drop_stale
-stale_near s = either (in_flow s) (λ i. went (λ o. absurd (cc (o, ap not o, i)))) (λ _. by (list_any (is_overdue s.position) s.keys))
+stale_near s = either (in_flow s) (λ i. went (λ o. absurd (cc (o, ap not o, i)))) (λ _. (grind (arith, refused, went, first)))
   where
-    kept : (o : Option Key) (k : Key) → still s.position o ≡ Some k → is_far k.position s.position ≡ false
-    kept o k e = grind arith
-
     first : (ks : List (Option Key)) (k : Key) → top_key (map (still s.position) ks) ≡ Some k → is_far k.position s.position ≡ false
     first [] k e = absurd (cc e)
-    first (o ∷ ks) k e = kept o k e
-
-    by : (b : Bool) → Holds HasNear (with_keys s (if b then Err (At problem.KeyWithoutColon s.position) else Ok (map (still s.position) s.keys)))
-    by a = grind (arith, refused, went, first)
+    first (o ∷ ks) k e = grind arith
 
 pub anything : {A : Type 0} (r : Result A Fault) → Holds (λ x. Unit {0}) r
 anything (Ok x) = went tt
@@ -47,10 +41,6 @@ unfolding fetch
 fetch_near t started = either t.held.started (λ _. next_near t) (λ n. absurd (cc (n, started)))
 
 -- ---- TABs
-
--- content begins no comment, and does not end a line
-at_content : (r : List ℕ) → is_empty r ≡ false → begins_separation r ≡ false → is_at_comment_or_end r ≡ true → ⊥
-at_content a b d h = grind arith
 
 -- no key waits behind where it is near
 far_behind : (k p : Position) → is_far k p ≡ false → k.line < p.line → ⊥
@@ -83,7 +73,7 @@ module _ (text : List ℕ) (t : ScannerState) (s : Stands text t) (near : HasNea
           comment [] e fills white tab = absurd (none_there s.has_no_tabs)
             where
               none_there : HasNoTabs s.base.site s.separation t.rest → ⊥
-              none_there (inl h) = at_content d.rest d.goes_on d.is_solid (subst (λ r. is_at_comment_or_end r ≡ true) e h)
+              none_there (inl h) = grind arith
               none_there (inr h) = cc (h, ap (λ f. is_indented_by_spaces s.base.site.before s.base.site.blocks s.base.site.awaits f) (append-nil s.separation), tab)
           comment (c ∷ p) e fills white tab = by_first (is_blank c) (is_break c) (c == 35) refl (and_parts (is_blank c || is_break c || (c == 35)) (is_separation (c == 35) p d.rest) fills).0 (subst (λ r. begins_white r ≡ false) e white)
             where

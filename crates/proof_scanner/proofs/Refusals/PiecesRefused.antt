@@ -47,22 +47,16 @@ module _ (a : Account) (separation rest : List ℕ) (here : Position) (s : StepA
   abbrev pub own : (piece : List ℕ) → Tok → Step
   own piece t = record { separation = separation; piece = piece; shown = t; key = false }
 
-  is_filled : is_separation false separation rest ≡ true
-  is_filled = ap (λ f. is_separation false f rest) (sym s.separation_is) ∙ (ap (λ r. is_separation false s.step.separation r) (sym s.text_is) ∙ s.is_written.0)
-
-  same_go : (piece more : List ℕ) (t : Tok) → (piece ≡ s.step.piece) × (t ≡ s.step.shown) × (more ≡ next) → may_go a separation piece t more ≡ may_go s.account s.step.separation s.step.piece s.step.shown next
-  same_go piece more t is = grind (arith, separation, same_flow)
-
   -- the row's piece is the one of this token that begins here
   pub same_step : (piece more : List ℕ) (t : Tok) → rest ≡ piece ++ more → not (is_empty piece) ≡ true → IsPiece (seen a (At a (own piece t) more) separation) piece more None (shown_position (At a (own piece t) more) piece t more) t
       → (piece ≡ s.step.piece) × (t ≡ s.step.shown) × (more ≡ next)
   same_step piece more t e some is =
-      let written : IsWritten a (own piece t) more = (ap (λ r. is_separation false separation r) (sym e) ∙ is_filled, (some, is)) in
+      let written : IsWritten a (own piece t) more = (ap (λ r. is_separation false separation r) (sym e) ∙ (ap (λ f. is_separation false f rest) (sym s.separation_is) ∙ (ap (λ r. is_separation false s.step.separation r) (sym s.text_is) ∙ s.is_written.0)), (some, is)) in
       same_piece a s.account (own piece t) s.step more next s.is_like written s.is_written (sym s.separation_is) (sym e ∙ sym s.text_is) (ap has_no_nul (sym e) ∙ s.is_clean)
 
   -- The piece that begins here, of this token, may not stand before what follows it.
   pub no_step : (piece more : List ℕ) (t : Tok) → rest ≡ piece ++ more → not (is_empty piece) ≡ true → IsPiece (seen a (At a (own piece t) more) separation) piece more None (shown_position (At a (own piece t) more) piece t more) t → may_go a separation piece t more ≡ false → ⊥
-  no_step piece more t e some is no_more = grind (arith, nat_tests, eqb-true, same_step, same_go, and_last)
+  no_step piece more t e some is no_more = grind (arith, nat_tests, eqb-true, same_step, separation, same_flow, and_last)
 
   flow_seen : (es : List Entry) → is_in_flow es ≡ false → not (is_empty (map level_of es)) ≡ false
   flow_seen a h = grind arith
@@ -73,17 +67,11 @@ module _ (a : Account) (separation rest : List ℕ) (here : Position) (s : StepA
   abbrev there : Site
   there = At s.account s.step next
 
-  both_true : (x y : Bool) → x ≡ true → y ≡ true → (x && y) ≡ false → ⊥
-  both_true a y e f h = grind arith
-
   no_line : begins_document_at here rest ≡ false → is_marker (act_of s.step.shown) ≡ false
-  no_line none = grind (arith, nat_tests, eqb-true, marker_begins, both_true)
-
-  least_more : (bs : List ℕ) (awaits : Bool) → least_column bs awaits ≤ least_column bs true
-  least_more a b = grind arith
+  no_line none = grind (arith, nat_tests, eqb-true, marker_begins)
 
   least_at_most : (t : Tok) (x : Site) → least_column x.blocks x.awaits ≤ least_for t x
-  least_at_most t x = grind (arith, least_more)
+  least_at_most t x = grind (arith)
 
   too_shallow : (t : Tok) (x : Site) → is_marker (act_of t) ≡ false → nat_le (least_column x.blocks x.awaits) x.position.col ≡ false → (is_marker (act_of t) || nat_le (least_for t x) x.position.col) ≡ false
   too_shallow t x e f = ap (λ b. b || nat_le (least_for t x) x.position.col) e ∙ (let up = least_at_most t x in grind (arith, nat_tests, up, f))
@@ -108,16 +96,13 @@ module _ (a : Account) (separation rest : List ℕ) (here : Position) (s : StepA
 
   -- ---- the end of a document
 
-  closed : (es : List Entry) (column : ℕ) (bs : List ℕ) → (if not (is_empty (map level_of es)) then true else not (not (is_empty (map (λ n. Some n) (blocks_at (is_in_flow es) gives_marker column bs))))) ≡ true
-  closed a column bs = grind arith
-
   holds_more : (more passed content : List ℕ) → GoesOn more passed content → is_at_line_end content ≡ false → begins_separation content ≡ false → line_is_done more ≡ false
   holds_more more passed a on ends solid = grind (arith, nat_tests, eqb-true, neither, not_done, blanks_alone)
 
   pub no_document_end : (more passed content : List ℕ) → here.col ≡ 0 → rest ≡ 46 ∷ 46 ∷ 46 ∷ more → is_at_gap more ≡ true → GoesOn more passed content → is_at_line_end content ≡ false → begins_separation content ≡ false → ⊥
   no_document_end more passed content col e gap on ends solid =
       let place : position_after a.site.position separation (46 ∷ 46 ∷ 46 ∷ more) ≡ here = ap (λ r. position_after a.site.position separation r) (sym e) ∙ sym s.here_is in
-      no_step (46 ∷ 46 ∷ 46 ∷ []) more document_end e refl ((refl, ap (λ (p : Position). p.col) place ∙ col, gap, closed a.entries (position_after a.site.position separation (46 ∷ 46 ∷ 46 ∷ more)).col a.site.blocks), refl) (holds_more more passed content on ends solid)
+      no_step (46 ∷ 46 ∷ 46 ∷ []) more document_end e refl ((refl, ap (λ (p : Position). p.col) place ∙ col, gap, (grind arith)), refl) (holds_more more passed content on ends solid)
 
   -- ---- quoted scalars
 

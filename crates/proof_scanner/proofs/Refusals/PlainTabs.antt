@@ -13,9 +13,6 @@ abbrev lines_from : (column : ℕ) → Stand → List ℕ → Bool
 lines_from column (on_line k) t = line_is k column (first_line t) && plain_lines_fit column t
 lines_from column s t = plain_lines_fit column t
 
-further_fit : (column : ℕ) (s : Stand) (t : List ℕ) → lines_from column s t ≡ true → plain_lines_fit column t ≡ true
-further_fit column a t h = grind (arith, line_is, first_line)
-
 -- without its first blank a line is indented too
 tab_less : (k column c : ℕ) (l : List ℕ) → has_tab_within (column - k) (c ∷ l) ≡ false → has_tab_within (column - suc k) l ≡ false
 tab_less k column c l h = by (column - k) refl h
@@ -33,7 +30,7 @@ module _ (column : ℕ) (c : ℕ) (r : List ℕ) where
   line_fits e h = grind (arith, nat_tests, eqb-true, feed_first, all_lines)
 
   line_goes : (s : Stand) → lines_from column s (c ∷ r) ≡ true → lines_from column (past s c) r ≡ true
-  line_goes s h = grind (arith, nat_tests, eqb-true, line_fits, further_fit, others_are, and_parts, joined, line_less, first_is)
+  line_goes s h = grind (arith, nat_tests, eqb-true, line_fits, line_is, first_line, others_are, and_parts, joined, line_less, first_is)
 
 lines_go : (column : ℕ) (s : Stand) (before t : List ℕ) → lines_from column s (before ++ t) ≡ true → lines_from column (stand_after s before) t ≡ true
 lines_go column s [] t h = h

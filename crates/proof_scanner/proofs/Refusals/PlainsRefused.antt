@@ -142,10 +142,6 @@ module _ (a : Account) (separation rest : List ℕ) (here : Position) (s : StepA
       before_is : s.past.site.before ≡ steps.plain_scalar
       before_is = ap (λ (x : Site). x.before) past_is ∙ ap previous_by plain_here.2
 
-      -- the TAB stands in the scalar
-      in_piece : (z : List ℕ) → s.step.piece ≡ before ++ 9 ∷ z → ends_with_content 9 z ≡ true → blanks ++ more ≡ z ++ next → ⊥
-      in_piece z e ends others = blanks_end 9 z blanks more next tab_blank ends (tab_line least column before z stands low (ap (plain_lines_fit least) (sym e) ∙ lines)) others are token
-
       -- or in the gap after it
       in_gap : (q : List ℕ) → next ≡ q ++ 9 ∷ (blanks ++ more) → stand_after inside q ≡ on_line column → goes_on fl coll inside q (9 ∷ (blanks ++ more)) ≡ true → stops fl coll inside next ≡ true → ⊥
       in_gap q e stand goes ends =
@@ -185,4 +181,4 @@ module _ (a : Account) (separation rest : List ℕ) (here : Position) (s : StepA
               tail (x ∷ z) longer rest =
                   let first : x ≡ 9 = cc rest in
                   let cut : s.step.piece ≡ before ++ 9 ∷ z = longer ∙ ap (λ y. before ++ y ∷ z) first in
-                  in_piece z cut (ends_later before d r 9 z (sym e ∙ cut) content) (cc rest)
+                  (blanks_end 9 z blanks more next tab_blank (ends_later before d r 9 z (sym e ∙ cut) content) (tab_line least column before z stands low (ap (plain_lines_fit least) (sym cut) ∙ lines)) (cc rest) are token)

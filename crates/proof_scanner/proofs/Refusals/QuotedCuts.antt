@@ -71,11 +71,8 @@ along_body single least r no_feed zero (c ∷ b) es s p fs l h = on (begins sing
         q : Position
         q = after_it single c (b ++ r) e is p
 
-        whole : take e.further (b ++ r) ++ drop e.further b ≡ b
-        whole = ap (λ x. x ++ drop e.further b) (take-append-le e.further b r fits) ∙ take-append-drop e.further b
-
         at : position_after p (c ∷ b) r ≡ position_after q (drop e.further b) r
-        at = ap (λ x. position_after p (c ∷ x) r) (sym whole) ∙ place single least p c (b ++ r) e is p (drop e.further b) r (drop-append-le e.further b r fits)
+        at = ap (λ x. position_after p (c ∷ x) r) (sym (ap (λ x. x ++ drop e.further b) (take-append-le e.further b r fits) ∙ take-append-drop e.further b)) ∙ place single least p c (b ++ r) e is p (drop e.further b) r (drop-append-le e.further b r fits)
 
         all : (stands least s p.col e.element && all_stand least (past_element s e.element) (column_past p.col e.element) (f.others ++ fs)) ≡
             ((stands least s p.col e.element && all_stand least (past_element s e.element) (column_past p.col e.element) f.others) && all_stand least (past_elements (past_element s e.element) f.others) (position_after p (c ∷ b) r).col fs)
@@ -124,9 +121,6 @@ none_here single r why e b = grind (arith, bad_none)
 
 -- ---- quotes
 
-quote_is_solid : (single : Bool) (next : List ℕ) → begins_with 10 (quote_of single ∷ next) ≡ false
-quote_is_solid a next = grind arith
-
 -- where a scalar ends, no element begins with the quote
 quote_ends : (single : Bool) (next : List ℕ) (c : ℕ) (b : List ℕ) (e : Spelled) → ends_before single next ≡ true → quote_of single ∷ next ≡ c ∷ b → element_of single c b ≡ Some e → ⊥
 unfolding single_quoted_element double_quoted_element classes.is_nul
@@ -142,9 +136,6 @@ record Ahead (single : Bool) (least : ℕ) (s : LineStand) (p : Position) (text 
   is_text : text ≡ c ∷ b
   is : element_of single c b ≡ Some e
   fit : stands least s p.col e.element ≡ true
-
-further_open : (s : LineStand) (closes : Bool) → begins_further s closes ≡ true → begins_further s false ≡ true
-further_open a closes h = grind arith
 
 not_solid : (c : ℕ) (b : List ℕ) → is_white c ≡ true → begins_solid (c ∷ b) ≡ true → ⊥
 not_solid c b h e = grind (arith, same_break, same_blank)
@@ -169,7 +160,7 @@ module _ (single : Bool) (least : ℕ) (start : Position) where
   goes_on s p text last why at (by_column solid further low) x = by x.e x.fit (kind_of single x.c x.b x.e x.is)
     where
       open_here : begins_further s false ≡ true
-      open_here = further_open s (begins_with (quote_of single) text) further
+      open_here = grind arith
 
       solid_too : begins_solid (x.c ∷ x.b) ≡ true
       solid_too = ap begins_solid (sym x.is_text) ∙ solid
@@ -269,9 +260,6 @@ module _ (single : Bool) (least : ℕ) (start : Position) where
     marks_longer [] m t h = absurd (cc h)
     marks_longer (c ∷ a) m t h = grind (arith, append_assoc, marks_longer a m t)
 
-    marked_longer : (col : ℕ) (a m t : List ℕ) → marked_from col a (m ++ t) ≡ true → marked_from col (a ++ m) t ≡ true
-    marked_longer col a m t h = grind (arith, append_assoc, marks_longer)
-
     -- a marker, and before any something else that is wrong
     not_both : (last : List Element) (why : Problem) (at : Position) (x : Cut single least start [] s p text) → marked_from p.col x.body x.rest ≡ true → (y : Cut single least start last s p text) → marked_from p.col y.body y.rest ≡ false
         → Place single least start (stand_of y) (end_of y) y.rest last why at → ⊥
@@ -279,7 +267,7 @@ module _ (single : Bool) (least : ℕ) (start : Position) where
       where
         within_longer : (m : List ℕ) → y.body ≡ x.body ++ m → x.rest ≡ m ++ y.rest → ⊥
         within_longer m longer rest =
-            let there : marked_from p.col (x.body ++ m) y.rest ≡ true = marked_longer p.col x.body m y.rest (ap (λ r. marked_from p.col x.body r) (sym rest) ∙ marks) in
+            let there : marked_from p.col (x.body ++ m) y.rest ≡ true = (grind (arith, append_assoc, marks_longer)) in
             cc (there, ap (λ b. marked_from p.col b y.rest) longer, none)
 
         shorter : (m : List ℕ) → x.body ≡ y.body ++ m → y.rest ≡ m ++ x.rest → ⊥
@@ -325,7 +313,7 @@ module _ (single : Bool) (least : ℕ) (start : Position) where
     not_closed body next es is_text ends are fits last why at x wrong = by (splits x.body body x.rest (quote_of single ∷ next) (sym x.is_text ∙ is_text))
       where
         y : Cut single least start (before_quote (past_elements s es)) s p text
-        y = record { body = body; rest = quote_of single ∷ next; es = es; is_text = is_text; are = are; no_feed = quote_is_solid single next; fits = fits }
+        y = record { body = body; rest = quote_of single ∷ next; es = es; is_text = is_text; are = are; no_feed = (grind arith); fits = fits }
 
         together : y.body ≡ x.body → y.rest ≡ x.rest → ⊥
         together same rest = at_quote (stand_of y) (end_of y) next last why at (last_stands (before_quote (past_elements s es)) y) (moved y x last why at (sym same) (sym rest) wrong)

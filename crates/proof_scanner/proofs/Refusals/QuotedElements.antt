@@ -51,12 +51,6 @@ double_in_line : (c : ℕ) (b : List ℕ) → InLineOf c b (double_quoted_elemen
 unfolding double_quoted_element
 double_in_line c b = grind (arith, escape_in_line, plain_in_line)
 
-in_line_of : (single : Bool) (c : ℕ) (b : List ℕ) → InLineOf c b (element_of single c b)
-in_line_of a c b = grind (arith, nat_tests, eqb-true, single_in_line, double_in_line)
-
-along_is : (w next : List ℕ) (p : Position) → is_in_line w ≡ true → position_after p w next ≡ along w p
-along_is w next p h = ap (λ l. position_after p l next) (sym (append-nil w)) ∙ after_chars w [] next p h
-
 -- in double quotes no element begins with the quote
 pub no_quote : (c : ℕ) (b : List ℕ) (s : Spelled) → double_quoted_element c b ≡ Some s → (c == 34) ≡ false
 unfolding double_quoted_element
@@ -117,10 +111,10 @@ module _ (single : Bool) (c : ℕ) (b : List ℕ) (e : Spelled) (is : element_of
 
 -- content ends in its line
 pub content_in_line : (single : Bool) (c : ℕ) (b : List ℕ) (code k : ℕ) → element_of single c b ≡ Some (spelled (content code) k) → is_in_line (c ∷ take k b) ≡ true
-content_in_line single c b code k is = subst (λ o. InLineOf c b o) is (in_line_of single c b)
+content_in_line single c b code k is = subst (λ o. InLineOf c b o) is (grind (arith, nat_tests, eqb-true, single_in_line, double_in_line))
 
 pub content_after : (single : Bool) (c : ℕ) (b : List ℕ) (code k : ℕ) → (is : element_of single c b ≡ Some (spelled (content code) k)) → (p : Position) → after_it single c b (spelled (content code) k) is p ≡ along (c ∷ take k b) p
-content_after single c b code k is p = along_is (c ∷ take k b) (drop k b) p (content_in_line single c b code k is)
+content_after single c b code k is p = ap (λ l. position_after p l (drop k b)) (sym (append-nil (c ∷ take k b))) ∙ after_chars (c ∷ take k b) [] (drop k b) p (content_in_line single c b code k is)
 
 off_margin : (n m : ℕ) → n + 1 ≤ m → (m == 0) ≡ false
 off_margin n m h = grind (arith, nat_tests, h)

@@ -164,16 +164,10 @@ module _ (single : Bool) (ctx : Context) (start : Position) (least : ℕ) (limit
       none : ((p.col == 0) && is_document_marker (c ∷ b)) ≡ false
       none = white_stands single ctx start c b p.col (rw (f, g) refl)
 
-      is_past : after_it single c b (spelled (blank c) 0) is p ≡ past p
-      is_past = past_is p c b f
-
-      goes : (t.leading && (c == 9) && nat_lt (p.col + 1) ctx.indent) ≡ false → here ≡ scan single ctx start b gap (past p) (after_element (blank c) t)
-      goes h = rw (f, g, h) refl
-
       on : (s : LineStand) → stands least s p.col (blank c) ≡ true → (t.leading && (c == 9) && nat_lt (p.col + 1) ctx.indent) ≡ false → Stood (past p) (after_element (blank c) t) (past_element s (blank c)) gap → Ends s p (c ∷ b) here
       on s fit h next =
-          ends_grown c b (spelled (blank c) 0) is s p here _ (goes h) fit none
-          (subst (λ q. Ends (past_element s (blank c)) q b (scan single ctx start b gap (past p) (after_element (blank c) t))) (sym is_past) (later (past_element s (blank c)) (past p) gap (after_element (blank c) t) next))
+          ends_grown c b (spelled (blank c) 0) is s p here _ (rw (f, g, h) refl) fit none
+          (subst (λ q. Ends (past_element s (blank c)) q b (scan single ctx start b gap (past p) (after_element (blank c) t))) (sym (past_is p c b f)) (later (past_element s (blank c)) (past p) gap (after_element (blank c) t) next))
 
       still : t.leading ≡ true → (after_element (blank c) t).leading ≡ true
       still e = rw e refl
@@ -219,9 +213,6 @@ module _ (single : Bool) (ctx : Context) (start : Position) (least : ℕ) (limit
 
   -- ---- where no element stands
 
-  quote_stands : (s : LineStand) (k : ℕ) → nat_lt k least ≡ false → all_stand least s k (before_quote s) ≡ true
-  quote_stands a k deep = grind (arith, and_false)
-
   closed_ends : (r : List ℕ) → ends_before single r ≡ true → Later (model.quote_of single ∷ r)
   closed_ends r ended s p m t stood = by s m stood
     where
@@ -230,7 +221,7 @@ module _ (single : Bool) (ctx : Context) (start : Position) (least : ℕ) (limit
 
       in_its_line : (s : LineStand) → Started s p (model.quote_of single ∷ r) t → Ends s p (model.quote_of single ∷ r) (scan single ctx start (model.quote_of single ∷ r) gap p t)
       in_its_line s (stops x) = x
-      in_its_line s (begins_or_goes none deep i) = reads _ (closed s (quote_stands s p.col deep)) (i ∙ closes single ctx start r p (joined t) ended)
+      in_its_line s (begins_or_goes none deep i) = reads _ (closed s (grind (arith, and_false))) (i ∙ closes single ctx start r p (joined t) ended)
 
       by : (s : LineStand) (m : Mode) → Stood p t s m → Ends s p (model.quote_of single ∷ r) (scan single ctx start (model.quote_of single ∷ r) m p t)
       by s m (in_line deep) = in_its_line within (started (model.quote_of single) r within gap p t (quote_white single) (in_line deep) (λ e. absurd (cc e)))
@@ -240,14 +231,11 @@ module _ (single : Bool) (ctx : Context) (start : Position) (least : ℕ) (limit
   bad_ends : single ≡ false → (r : List ℕ) → escape r ≡ None → Later (92 ∷ r)
   bad_ends double r bad s p m t stood = by s m stood (started 92 r s m p t slash_white stood (λ _. slash_no_quote single))
     where
-      fails : (x : Bool) → x ≡ false → (z : Problem) → scan false ctx start (92 ∷ r) inside p (joined t) ≡ Err (At z start) → scan x ctx start (92 ∷ r) inside p (joined t) ≡ Err (At z start)
-      fails a e z h = grind arith
-
       in_gap_ends : (s : LineStand) → Started s p (92 ∷ r) t → Ends s p (92 ∷ r) (scan single ctx start (92 ∷ r) gap p t)
       in_gap_ends s (stops x) = x
       in_gap_ends s (begins_or_goes none deep i) =
           let z = escape_fails ctx start r p (joined t) bad in
-          refused z.why start (wrong_here (content 92 ∷ []) z.why start s p (92 ∷ r) refl (rw (deep, and_false (begins_further s false)) refl) none (by_escape r z.why double refl z.bad)) (i ∙ fails single double z.why z.is)
+          refused z.why start (wrong_here (content 92 ∷ []) z.why start s p (92 ∷ r) refl (rw (deep, and_false (begins_further s false)) refl) none (by_escape r z.why double refl z.bad)) (i ∙ (grind arith))
 
       by : (s : LineStand) (m : Mode) → Stood p t s m → Started s p (92 ∷ r) t → Ends s p (92 ∷ r) (scan single ctx start (92 ∷ r) m p t)
       by s m (in_line deep) x = in_gap_ends within x

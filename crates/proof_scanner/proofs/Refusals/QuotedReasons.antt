@@ -43,9 +43,6 @@ deep_is k least = grind arith
 blank_is : (k least c : ℕ) (holds : Bool) (bs : List ℕ) → fits_from k least holds (c ∷ bs) ≡ (not ((c == 9) && nat_lt k least) && fits_from (suc k) least holds bs)
 blank_is k least c holds bs = grind arith
 
-content_is : (k least code : ℕ) (e : Bool) (ls : Lines) → lines_from k least e (begun_with (content code) ls) ≡ (not (nat_lt k least) && further_lines_fit least ls)
-content_is k least code e a = grind (arith, and_false, deep_is, and_true, lines_fit)
-
 blanks_are : (k least c : ℕ) (e : Bool) (ls : Lines) → lines_from k least e (begun_with (blank c) ls) ≡ (not ((c == 9) && nat_lt k least) && lines_from (suc k) least false ls)
 blanks_are k least c e a = grind (arith, and_false, blank_is, lines_fit, has_more, and_assoc)
 
@@ -53,7 +50,7 @@ further_begun : (least : ℕ) (e : Element) (ls : Lines) → further_lines_fit l
 further_begun least e a = grind arith
 
 fits_past : (least : ℕ) (s : LineStand) (k : ℕ) (e : Element) (fs : List Element) → fits_at least s k (e ∷ fs) ≡ (stands least s k e && fits_at least (past_element s e) (column_past k e) fs)
-fits_past least a k b fs = grind (arith, further_begun, lines_here, content_is, blanks_are, lines_fit, empty_here, deep_is)
+fits_past least a k b fs = grind (arith, further_begun, lines_here, and_false, and_true, blanks_are, lines_fit, empty_here, deep_is)
 
 -- an indented line fits
 spaces_fit : (n k least : ℕ) → least ≡ k + n → fits_at least at_start k (replicate n (blank 32)) ≡ true
@@ -125,9 +122,6 @@ module _ (single : Bool) (least : ℕ) (start : Position) where
   -- ---- an element before
 
   module _ (c : ℕ) (b : List ℕ) (e : Spelled) (is : element_of single c b ≡ Some e) where
-    own : Local (element_of single c) b e
-    own = subst (λ o. LocalOf (element_of single c) b o) is (local single c b)
-
     abbrev pub past_it : Position → Position
     past_it p = after_it single c b e is p
 
@@ -138,7 +132,7 @@ module _ (single : Bool) (least : ℕ) (start : Position) where
     cut body rest h = ap (λ x. c ∷ x) (sym (take-append-drop e.further b) ∙ ap (λ x. take e.further b ++ x) h ∙ sym (append_assoc (take e.further b) body rest))
 
     more : (body rest : List ℕ) (es : List Element) → drop e.further b ≡ body ++ rest → elements (element_of single) 0 body ≡ Some es → elements (element_of single) 0 (before body) ≡ Some (e.element ∷ es)
-    more body rest es h i = grind (arith, nat_tests, eqb-true, own, after_own)
+    more body rest es h i = grind (arith, nat_tests, eqb-true, (subst (λ o. LocalOf (element_of single c) b o) is (local single c b)), after_own)
 
     pub place : (p : Position) (body rest : List ℕ) → drop e.further b ≡ body ++ rest → position_after p (before body) rest ≡ position_after (past_it p) body rest
     place p body rest h = position_append p (c ∷ take e.further b) body rest ∙ ap (λ x. position_after (position_after p (c ∷ take e.further b) x) body rest) (sym h)

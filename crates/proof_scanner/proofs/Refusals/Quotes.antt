@@ -48,12 +48,9 @@ record Bodied (single : Bool) (more piece next : List ℕ) : Type 0 where
 bodied : (single : Bool) (more piece next : List ℕ) → none.quote_of single ∷ more ≡ piece ++ next → IsQuoted single piece next → Bodied single more piece next
 bodied a more piece next cut is = grind (arith, nat_tests, eqb-true, append_assoc)
 
-same_quote : (single : Bool) → quote_of single ≡ none.quote_of single
-same_quote a = grind arith
-
 -- A text that the scan refuses, and not for its lines, begins with no quoted scalar.
 pub none_quoted : (single : Bool) (ctx : Context) (more : List ℕ) (p : Position) (f : Fault) → quoted single ctx (none.quote_of single ∷ more) p ≡ Err f → is_of_lines f ≡ false → none.HasNoQuoted single (none.quote_of single ∷ more)
-none_quoted single ctx more p f fails unlike piece next cut is = by b (quoted single ctx (quote_of single ∷ (b.body ++ quote_of single ∷ next)) p) (ap (λ q. quoted single ctx (q ∷ (b.body ++ q ∷ next)) p) (same_quote single) ∙ (ap (λ r. quoted single ctx (none.quote_of single ∷ r) p) (sym b.is_text) ∙ fails)) (bodies_are_read single ctx b.body next b.value p b.value_is b.ends)
+none_quoted single ctx more p f fails unlike piece next cut is = by b (quoted single ctx (quote_of single ∷ (b.body ++ quote_of single ∷ next)) p) (ap (λ q. quoted single ctx (q ∷ (b.body ++ q ∷ next)) p) (grind arith) ∙ (ap (λ r. quoted single ctx (none.quote_of single ∷ r) p) (sym b.is_text) ∙ fails)) (bodies_are_read single ctx b.body next b.value p b.value_is b.ends)
   where
     b : Bodied single more piece next
     b = bodied single more piece next cut is
@@ -70,9 +67,6 @@ module _ (text : List ℕ) (t : ScannerState) (a : Arrives text t) (some : is_em
 
   abbrev pub piece : List ℕ
   piece = piece_of single q.body
-
-  flow_is : in_flow closed.held ≡ in_flow t.held
-  flow_is = ap in_flow (saved_is t.held)
 
   pub is : IsQuoted single piece x.rest
   is = is_quoted single q.body x.rest x.value q.value_is q.ends
@@ -97,7 +91,7 @@ module _ (text : List ℕ) (t : ScannerState) (a : Arrives text t) (some : is_em
     where
       by : (b : Bool) → quoted_may_end (in_flow t.held) piece x.rest ≡ b → b ≡ false
       by false i = refl
-      by true i = absurd (cc ((check_passes t.held.position piece closed q.end_is (ap (λ b. quoted_may_end b piece x.rest) flow_is ∙ i)).is, refuses v e n))
+      by true i = absurd (cc ((check_passes t.held.position piece closed q.end_is (ap (λ b. quoted_may_end b piece x.rest) (ap in_flow (saved_is t.held)) ∙ i)).is, refuses v e n))
 
   -- other text on its line
   followed_by : (v : ScannerState) → skip_spaces Yes closed ≡ Ok v → Spaced Yes closed v → may_follow_quoted (in_flow v.held) (t.held.position.line == v.held.position.line) (peek v.rest) ≡ false → Said text (At problem.ContentAfterQuoted v.held.position)

@@ -98,11 +98,8 @@ record Known (text : List ℕ) (t : ScannerState) : Type 0 where
   near : HasNear t.held
 
 known_next : (text : List ℕ) → has_no_nul text ≡ true → (t u : ScannerState) → t.held.ended ≡ false → fetch t ≡ Ok u → Known text t → Known text u
-known_next text nul t u going e k = record { fares = next; near = near_by k.fares }
+known_next text nul t u going e k = record { fares = (reached fetch_keeps text nul t u (there going e here) k.fares); near = near_by k.fares }
   where
-    next : Fares text u
-    next = reached fetch_keeps text nul t u (there going e here) k.fares
-
     near_by : Fares text t → HasNear u.held
     near_by (begins b) =
         let same : Ok (fetch_stream_start (start text)) ≡ Ok u = sym (first_fetch text) ∙ (ap fetch (sym b) ∙ e) in
@@ -115,15 +112,12 @@ known_on : (text : List ℕ) → has_no_nul text ≡ true → (t u : ScannerStat
 known_on text nul t u here k = k
 known_on text nul t u (there {u = v} going e run) k = known_on text nul v u run (known_next text nul t v going e k)
 
-first_known : (text : List ℕ) → Known text (start text)
-first_known text = record { fares = begins refl; near = λ o k e. absurd (cc e) }
-
 -- What a refusal says of the text.
 pub refusal_said : (text : List ℕ) (f : Fault) → has_no_nul text ≡ true → IsRefused text f → Said text f
 refusal_said text f nul r = by k.fares
   where
     k : Known text r.last
-    k = known_on text nul (start text) r.last r.run (first_known text)
+    k = known_on text nul (start text) r.last r.run (record { fares = begins refl; near = λ o k e. absurd (cc e) })
 
     by : Fares text r.last → Said text f
     by (begins b) = absurd (cc (sym (first_fetch text) ∙ (ap fetch (sym b) ∙ r.refused)))

@@ -102,10 +102,6 @@ module _ (text : List ℕ) (t : ScannerState) (a : Arrives text t) (some : is_em
       went (subst (λ r. length x.rest < length r) (sym e) (read_shorter _ _ _ _ _ _
       (pieces_are_read.block (asked t.held.position false (collection_of saved.indent) other) style saved.indent more x (clean_more _ more e) refl (asked_column t.held.position false (collection_of saved.indent) other) (ap (λ r. block (is_literal style) saved.indent r t.held.position) (sym e) ∙ k)).0)))
 
-  -- the levels without those that open no collection
-  closed : AreClosed t.held.indent t.held.indents t.held.tokens (without_open t.held.indent t.held.indents t.held.tokens)
-  closed = without_is t.held.indent t.held.indents t.held.tokens a.are_levels
-
   abbrev ctx : Context
   ctx = record { flow = in_flow t.held; indent = (without_open t.held.indent t.held.indents t.held.tokens).indent }
 
@@ -120,7 +116,7 @@ module _ (text : List ℕ) (t : ScannerState) (a : Arrives text t) (some : is_em
       (read (unroll_non_block_indents (allow_key false (record t.held { keys = saved_keys t.held }))) (plain ctx t.rest t.held.position) _ (λ x k.
       let b : Account = asked t.held.position (in_flow t.held) (collection_of ctx.indent) before_here in
       went (read_shorter b t.rest _ _ _ _ (pieces_are_read.plain b ctx t.rest x a.is_clean (asked_flow t.held.position (in_flow t.held) (collection_of ctx.indent) before_here) (asked_column t.held.position (in_flow t.held) (collection_of ctx.indent) before_here)
-      comes (less_or (in_flow t.held) ctx.indent t.held.position.col (omega (arith, deep, closed.not_deeper))) k))))
+      comes (less_or (in_flow t.held) ctx.indent t.held.position.col (omega (arith, deep, (without_is t.held.indent t.held.indents t.held.tokens a.are_levels).not_deeper))) k))))
 
   -- ---- indicators
 

@@ -28,9 +28,6 @@ none_begins x piece t a again b d is h = grind arith
 none_ends : (x : Site) (piece : List ℕ) (t : Tok) (next : List ℕ) (again is_key : Bool) (o : Option Line) → act_of t ≡ gives_colon → is_taken_line o ≡ true → ((q : Position) → o ≡ Some (waits q) → is_near q x.position ≡ true → ⊥) → past_piece x piece t next again is_key o [] ≡ None
 none_ends x piece t a again b d is h e = grind arith
 
-none_out : (es : List Entry) → is_in_flow es ≡ false → es ≡ []
-none_out a h = grind arith
-
 gone : (b : Bool) (piece : List ℕ) (x : Option Account) (y : Account) → x ≡ None → (if b then on_one_line piece x else None) ≡ Some y → ⊥
 gone a piece x y e k = grind arith
 
@@ -95,7 +92,7 @@ module _ (a : Account) (separation rest : List ℕ) (here : Position) (s : StepA
   -- ---- entries, `?`
 
   no_entries : is_in_flow a.entries ≡ false → s.account.entries ≡ []
-  no_entries out = none_out s.account.entries (sym (same_flow a.entries s.account.entries s.is_like.2) ∙ out)
+  no_entries out = grind arith
 
   taken_there : is_taken a separation ≡ true → is_taken_line (line_past_separation false (begins_free_line s.account.site.before s.step.separation) s.account.line) ≡ true
   taken_there h = grind arith
@@ -137,11 +134,8 @@ module _ (a : Account) (separation rest : List ℕ) (here : Position) (s : StepA
 
   -- ---- colons
 
-  levels_flow : (es : List Entry) → not (is_empty (map level_of es)) ≡ is_in_flow es
-  levels_flow a = grind arith
-
   pub flow_is : pieces.is_in_flow (acct a separation rest here s) ≡ is_in_flow a.entries
-  flow_is = levels_flow s.account.entries ∙ sym (same_flow a.entries s.account.entries s.is_like.2)
+  flow_is = (grind arith) ∙ sym (same_flow a.entries s.account.entries s.is_like.2)
 
   pub adjacent_is : is_adjacent (acct a separation rest here s).before ≡ is_adjacent (before_past (before_by a.site.before) separation)
   adjacent_is = ap (λ f. is_adjacent (before_past (before_by s.account.site.before) f)) s.separation_is ∙ ap (λ (x : Site). is_adjacent (before_past (before_by x.before) separation)) (sym s.is_like.0)
@@ -171,9 +165,6 @@ module _ (a : Account) (separation rest : List ℕ) (here : Position) (s : StepA
   pub no_late_colon : (more : List ℕ) (begin : Position) (e : Entry) (es : List Entry) → rest ≡ 58 ∷ more → is_value_here a separation more ≡ true → a.entries ≡ e ∷ es → takes_pair e.kind e.pair ≡ true → e.had ≡ entry.waits begin → begin.line < here.line → ⊥
   no_late_colon more begin e es cut is are takes had late = by s.account.entries refl (subst (λ ds. LikeEntries ds s.account.entries) are s.is_like.2)
     where
-      w : Here colon
-      w = colon_here more cut is
-
       late_there : begin.line < there.position.line
       late_there = subst (λ (p : Position). begin.line < p.line) (sym s.position_is) late
 
@@ -198,7 +189,7 @@ module _ (a : Account) (separation rest : List ℕ) (here : Position) (s : StepA
           none_past : (o : Option Line) → past_piece there s.step.piece s.step.shown next (is_renewed s.account.site.before s.step.separation) s.step.key o (d ∷ ds) ≡ None
           none_past None = refl
           none_past (Some l) =
-              ap (λ t. past_inside there s.step.piece s.step.shown next l (entries_past there.position (is_renewed s.account.site.before s.step.separation) (act_of t) (entry.begun_by t) s.step.key d ds)) w.2 ∙
+              ap (λ t. past_inside there s.step.piece s.step.shown next l (entries_past there.position (is_renewed s.account.site.before s.step.separation) (act_of t) (entry.begun_by t) s.step.key d ds)) (colon_here more cut is).2 ∙
               ap (λ h. past_inside there s.step.piece s.step.shown next l (entry.with_had d.kind (entry.pair_past (takes_pair d.kind d.pair) gives_colon d.pair) [] ds h)) no_had
 
   -- ---- comments right after a piece
@@ -234,9 +225,6 @@ module _ (a : Account) (separation rest : List ℕ) (here : Position) (s : StepA
 
   -- ---- TABs after a quoted scalar
 
-  awaits_stay : (fl single : Bool) (value : List ℕ) (bs : List ℕ) (w : Bool) (more : List ℕ) → awaits_past fl (quoted_token single value) bs w more ≡ w
-  awaits_stay a b d bs w more = grind arith
-
   abbrev pub quoted_value : (single : Bool) (piece more : List ℕ) → IsQuoted single piece more → List ℕ
   quoted_value true piece more is = is.0
   quoted_value false piece more is = is.0
@@ -261,18 +249,15 @@ module _ (a : Account) (separation rest : List ℕ) (here : Position) (s : StepA
       site_is : s.past.site ≡ site_past (is_in_flow s.account.entries) there s.step.piece s.step.shown next there.blocks
       site_is = node_site_past s.account s.step next s.past act s.is_past
 
-      before_is : s.past.site.before ≡ quoted_scalar
-      before_is = ap (λ (x : Site). x.before) site_is ∙ (ap previous_by (sym same.1) ∙ (node_token single (quoted_value single piece (gap ++ content) is)).1)
-
       blocks_are : s.past.site.blocks ≡ (site_at_place a here).blocks
       blocks_are = ap (λ (x : Site). x.blocks) site_is ∙ ap (λ (x : Site). x.blocks) (node_site act)
 
       awaits_is : s.past.site.awaits ≡ (site_at_place a here).awaits
       awaits_is =
           ap (λ (x : Site). x.awaits) site_is ∙ (ap (λ t. awaits_past (is_in_flow s.account.entries) t there.blocks there.awaits next) (sym same.1) ∙
-          (awaits_stay (is_in_flow s.account.entries) single (quoted_value single piece (gap ++ content) is) there.blocks there.awaits next ∙ ap (λ (x : Site). x.awaits) (node_site act)))
+          ((grind arith) ∙ ap (λ (x : Site). x.awaits) (node_site act)))
 
       tabbed_then : is_indented_by_spaces s.past.site.before s.past.site.blocks s.past.site.awaits gap ≡ false
       tabbed_then =
-          ap (λ b. is_indented_by_spaces b s.past.site.blocks s.past.site.awaits gap) before_is ∙ (ap (λ bs. is_indented_by_spaces quoted_scalar bs s.past.site.awaits gap) blocks_are ∙
+          ap (λ b. is_indented_by_spaces b s.past.site.blocks s.past.site.awaits gap) (ap (λ (x : Site). x.before) site_is ∙ (ap previous_by (sym same.1) ∙ (node_token single (quoted_value single piece (gap ++ content) is)).1)) ∙ (ap (λ bs. is_indented_by_spaces quoted_scalar bs s.past.site.awaits gap) blocks_are ∙
           (ap (λ w. is_indented_by_spaces quoted_scalar (site_at_place a here).blocks w gap) awaits_is ∙ tabbed_there))

@@ -100,16 +100,9 @@ blanks_fill : (bs rest : List ℕ) → is_blanks bs ≡ true → is_separation f
 blanks_fill [] rest h = refl
 blanks_fill (c ∷ bs) rest h = grind (arith, fills_blank, same_blank, blanks_fill bs rest)
 
-token_solid : (rest : List ℕ) → begins_token rest ≡ true → begins_separation rest ≡ false
-token_solid a h = grind (arith, not-true)
-
--- the least column is not less where a value may be awaited
-least_less : (bs : List ℕ) (a b : Bool) → least_column bs a ≤ least_column bs (a || b)
-least_less d a b = grind arith
-
 tabbed_is : (before : Previous) (bs : List ℕ) (awaits : Bool) (g : List ℕ) → begins_line before g ≡ true → has_tab_within (least_column bs awaits) (last_line g) ≡ true → is_indented_by_spaces before bs awaits g ≡ false
 tabbed_is before bs awaits g b h =
-    let more : has_tab_within (least_column bs (awaits || follows_plain before g)) (last_line g ++ []) ≡ true = within_more (least_column bs awaits) (least_column bs (awaits || follows_plain before g)) (last_line g) [] (least_less bs awaits (follows_plain before g)) h in
+    let more : has_tab_within (least_column bs (awaits || follows_plain before g)) (last_line g ++ []) ≡ true = within_more (least_column bs awaits) (least_column bs (awaits || follows_plain before g)) (last_line g) [] (grind arith) h in
     ap (λ x. not x || not (has_tab_within (least_column bs (awaits || follows_plain before g)) (last_line g))) b ∙ ap (λ x. not (has_tab_within (least_column bs (awaits || follows_plain before g)) x)) (sym (append-nil (last_line g))) ∙ ap not more
 
 -- Where the way to the next token is refused, after a separation that was read so.
@@ -123,12 +116,6 @@ skip_refused before bs awaits separation t l known = by (begins_separation t.res
 
     Own : Fault → Type 0
     Own f = TabStands bs awaits before separation t.rest t.held.position f
-
-    some_text : (a : List ℕ) → begins_separation a ≡ true → is_empty a ≡ false
-    some_text b h = grind arith
-
-    token_is_text : (a : List ℕ) → begins_token a ≡ true → is_empty a ≡ false
-    token_is_text b h = grind arith
 
     told : begins_separation t.rest ≡ true → (x : Result ScannerState Fault) → EndsAs (Exact t) (IsTabRefusal t.held t.rest) x → Faults (TabbedAt before least separation t.rest t.held) x → Faults Own x
     told begins x p goes = goes
@@ -145,11 +132,11 @@ skip_refused before bs awaits separation t l known = by (begins_separation t.res
         fault (record {
           passed = first ++ 9 ∷ blanks;
           rest = rest;
-          is_some = some_text t.rest begins;
+          is_some = grind arith;
           cut = whole;
           is_filled = separation_append false first (9 ∷ blanks) rest fills (blanks_fill (9 ∷ blanks) rest are);
-          goes_on = token_is_text rest token;
-          is_solid = token_solid rest token;
+          goes_on = grind arith;
+          is_solid = grind (arith, not-true);
           is_fault = fault_of e;
           is_indented_by_tab = tabbed_is before bs awaits (separation ++ (first ++ 9 ∷ blanks))
               (subst (λ y. begins_line before (separation ++ y) ≡ true) passed_is d.tabbed.0) (subst (λ y. has_tab_within least (last_line (separation ++ y)) ≡ true) passed_is d.tabbed.1);

@@ -100,10 +100,6 @@ piece_line collection piece next r clean is = grind (arith, end_no_text, append-
 ended_body : (collection : Option ℕ) (h : Option Header) (b : Body) (next : List ℕ) (r : BlockRead) → read_body h collection b next ≡ Some r → (column : ℕ) × (is_past column next ≡ true)
 ended_body collection h b next r e = grind arith
 
--- its first line does not begin with a TAB
-untabbed_body : (collection : Option ℕ) (h : Option Header) (ls : List (List ℕ)) (ending : Ending) (next : List ℕ) (r : BlockRead) → read_body h collection (body ls ending) next ≡ Some r → starts_with_tab (all_lines ls ending) ≡ true → ⊥
-untabbed_body collection h ls ending next r e tabs = grind arith
-
 tab_is_text : is_at_end (9 ∷ []) ≡ false
 unfolding is_nul
 tab_is_text = refl
@@ -121,7 +117,7 @@ module _ (collection : Option ℕ) (header more : List ℕ) where
       by ((split q).complete) ((split q).last) (is_at_end next) (ap (λ z. read_lines collection z.complete z.last next (is_at_end next)) (sym lines) ∙ is)
     where
       by : (complete : List (List ℕ)) (last : List ℕ) (ended : Bool) → read_lines collection (header ∷ (put_first 9 complete last).complete) ((put_first 9 complete last).last) next ended ≡ Some r → ⊥
-      by complete last ended e = grind (arith, untabbed_body)
+      by complete last ended e = grind (arith)
 
   -- a piece that ends before the header's break does
   shorter : (own : List ℕ) (d : ℕ) (q next : List ℕ) (r : BlockRead) → split (own ++ d ∷ q) ≡ of_lines (header ∷ []) [] → has_no_nul (d ∷ next) ≡ true → block_read collection own (d ∷ next) ≡ Some r → ⊥
