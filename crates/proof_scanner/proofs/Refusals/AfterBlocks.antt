@@ -57,20 +57,7 @@ module _ (indent : ℕ) (p : Position) (b : BlockRead) (piece next bs : List ℕ
         omega (arith, margin, spaces)
 
     deep_by : (none low left : Bool) (k : ℕ) → is_none (first_content b.column true p piece) ≡ none → nat_le indent k ≡ low → nat_lt k b.column ≡ left → (not (are_empty b.column (texts w.lines)) || nat_lt k (least_column bs true) || nat_le b.column k) ≡ true → ((none && low) && left) ≡ false
-    deep_by false low left k e f g h = refl
-    deep_by true false left k e f g h = refl
-    deep_by true true false k e f g h = refl
-    deep_by true true true k e f g h = absurd (by (nat_lt k (least_column bs true)) (nat_le b.column k) refl refl (ap (λ x. not x || nat_lt k (least_column bs true) || nat_le b.column k) (sym empty) ∙ h))
-      where
-        none_of : (o : Option Position) → is_none o ≡ true → o ≡ None
-        none_of a i = grind (arith, nat_tests, eqb-true)
-
-        empty : are_empty b.column (texts w.lines) ≡ true
-        empty = grind (arith, nat_tests, eqb-true, none_is_empty, first_header)
-
-        by : (x y : Bool) → nat_lt k (least_column bs true) ≡ x → nat_le b.column k ≡ y → (x || y) ≡ true → ⊥
-        by true y i j h = let same = least.1 in grind (arith, nat_tests, i, same, f)
-        by false a i j h = grind arith
+    deep_by a low left k e f g h = grind (arith, nat_tests, eqb-true, w, none_is_empty, first_header)
 
     before_text : Clear
     before_text = grind (arith, nat_tests, eqb-true, lines_written, w, single_by, both, column_is, deep_by)

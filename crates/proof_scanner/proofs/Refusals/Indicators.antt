@@ -337,10 +337,7 @@ module _ (text : List ℕ) (t : ScannerState) (a : Arrives text t) (some : is_em
 
   value_told : (more : List ℕ) → t.rest ≡ 58 ∷ more → colon_may_precede more ≡ true → is_value t ≡ true → (o : Option Key) → top_key t.held.keys ≡ o → (s : Held) → in_flow s ≡ in_flow t.held → s.key_allowed ≡ t.held.key_allowed → Faults (Said text) (value_of o t.held.position (opens_pair t.held.flow) s)
   unfolding insert_key begin_keyless_value
-  value_told more e apart i None top s flow allowed =
-      let k = keyless_alike (opens_pair t.held.flow) s in
-      in_turn (mapping_told more e apart i top (begin_keyless_pair (opens_pair t.held.flow) s) (k.0 ∙ flow) (k.1 ∙ allowed)) (λ u j. goes)
-  value_told more e apart i (Some k) top s flow allowed = in_turn (pair_told more e apart i k top (opens_pair t.held.flow) refl _) (λ u i. goes)
+  value_told more e apart i a top s flow allowed = grind (arith, nat_tests, eqb-true, keyless_alike, opens_pair, in_turn, mapping_told, goes, pair_told)
 
   tab_checked : (more : List ℕ) → t.rest ≡ 58 ∷ more → begins_with 9 more ≡ true → (h : Held) → h.position ≡ past t.held.position → (x : Read Whitespace) → space Yes more h.position ≡ Ok x → Faults (Said text) (check_after_tab x.value (go_on x h))
   unfolding check_after_tab is_alpha is_alphanumeric
@@ -421,14 +418,7 @@ module _ (text : List ℕ) (t : ScannerState) (a : Arrives text t) (some : is_em
 
   begun_here : (kind : Collection) → Holds (λ s. (s.position ≡ t.held.position) × (nat_le 255 (length t.held.flow) ≡ false)) (begin_flow kind t.held)
   unfolding begin_flow increase_flow_level
-  begun_here kind =
-      subst (λ s. Holds (λ v. (v.position ≡ t.held.position) × (nat_le 255 (length t.held.flow) ≡ false)) (deepened_flow (if nat_le 255 (length s.flow) then Err (At problem.FlowTooDeep s.position) else Ok (record s { keys = None ∷ s.keys; flow = flow_level kind ∷ s.flow }))))
-      (sym (ap roll_one_col_indent (saved_is t.held) ∙ rolled_one_is (record t.held { keys = saved_keys t.held })))
-      (by (nat_le 255 (length t.held.flow)) (record t.held { keys = saved_keys t.held; indents = one_indents (record t.held { keys = saved_keys t.held }); indent = one_indent (record t.held { keys = saved_keys t.held }) }) refl refl)
-    where
-      by : (b : Bool) (s : Held) → nat_le 255 (length t.held.flow) ≡ b → s.position ≡ t.held.position → Holds (λ v. (v.position ≡ t.held.position) × (nat_le 255 (length t.held.flow) ≡ false)) (deepened_flow (if b then Err (At problem.FlowTooDeep s.position) else Ok (record s { keys = None ∷ s.keys; flow = flow_level kind ∷ s.flow })))
-      by true s many e = holds.refused
-      by false s many e = holds.went (e, many)
+  begun_here kind = grind (arith, nat_tests, eqb-true, saved_is, rolled_one_is, holds.refused, holds.went)
 
   is_here : (f : Held → Result Held Fault) (u : ScannerState) → Holds (λ s. s.position ≡ t.held.position) (f t.held) → try_held f t ≡ Ok u → IsHere u
   is_here f u h i = held_of {P = IsHere} u (holds.tried t (f t.held) h (λ s k. (refl, k))) i

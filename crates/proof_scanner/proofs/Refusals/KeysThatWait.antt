@@ -68,11 +68,7 @@ stays p text next h = let same = sym (position_in_line p text next (unbroken tex
 
 -- after a piece on the line of a key that waits
 line_after : (q here : Position) (piece : List ℕ) (t : Tok) (next : List ℕ) (s : Site) → s.position ≡ position_after here piece next → s.before ≡ previous_by t → here.line ≡ q.line → not (is_empty piece) ≡ true → has_break piece ≡ false → is_marker (act_of t) ≡ false → OnLine q s
-line_after q here piece t next s p b l some none m = let on = stays here piece next none in let many = not_none piece (not-true (is_empty piece) some) in let col : s.position.col ≡ here.col + length piece = ap (λ (x : Position). x.col) p ∙ on.1 in record {
-  unmarked = λ f. ap (λ x. begins_free_line x f) b ∙ (grind arith);
-  line_is = ap (λ (x : Position). x.line) p ∙ (on.0 ∙ l);
-  further = omega (arith, col, many);
-}
+line_after q here piece t next s p b l some none m = grind (arith, nat_tests, eqb-true, stays, not_none, not-true)
 
 not_broken : (p : List ℕ) (l : Line) (q : Position) → l ≡ waits q → (has_break p && is_waiting l) ≡ false → has_break p ≡ false
 not_broken p l q w h = grind arith

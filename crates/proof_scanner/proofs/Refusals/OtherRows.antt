@@ -12,13 +12,7 @@ abbrev pub Keeps : (P : Account → Account → List ℕ → Type 0) → Type 0
 Keeps P = (x y a b : Account) (v : Step) (c : Bool) (next : List ℕ) → IsLike x y → P x y (v.separation ++ (v.piece ++ next)) → IsWritten y (With v c) next → account_past x v next ≡ Some a → account_past y (With v c) next ≡ Some b → P a b next
 
 pub keeps_on : (P : Account → Account → List ℕ → Type 0) → Keeps P → KeepsOn Same Same P
-keeps_on P keeps = record {
-  first_like = λ x y z e i. subst (λ u. IsLike u y) e i;
-  second_like = λ x y z e i. subst (λ u. IsLike x u) e i;
-  first = λ x y z after i e r. subst (λ u. P u y after) e r;
-  second = λ x y z after i e r. subst (λ u. P x u after) e r;
-  both = λ x y a b v c next i r k l e f. keeps x y a b v c next i r l e f;
-}
+keeps_on a keeps = grind (arith, nat_tests, eqb-true)
 
 -- the row of a text goes through each beginning
 pub row_begins : (P : Account → Account → List ℕ → Type 0) → Keeps P → (text after : List ℕ) (a : Account) (r : Row) → P first_account first_account (up_to_nul text) → Begins text after a → HasRow text r → Walked P a after

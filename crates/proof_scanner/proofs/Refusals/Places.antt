@@ -46,11 +46,7 @@ Said text (At why at) = Asked text why → IsWhy text why at
 
 -- a check whose fault is of a kind that is not told: where it fails the text has no row
 pub rowless_told : (text : List ℕ) {A : Type 0} (b : Bool) (why : Problem) (p : Position) (x : A) → is_told why ≡ false → (b ≡ true → IsRowless text) → Faults (Said text) (if b then Err (At why p) else Ok x)
-rowless_told text true why p x e rowless = fault {f = At why p} (λ asked. absurd (by asked))
-  where
-    by : Asked text why → ⊥
-    by a = grind (arith, nat_tests, eqb-true)
-rowless_told text false why p x e rowless = goes
+rowless_told text a why p x e rowless = grind (arith, nat_tests, fault, eqb-true, goes)
 
 -- as many flow levels as entries
 pub many_levels : (allowed again : Bool) (fs : List FlowLevel) (ks : List (Option Key)) (es : List Entry) → AreEntries allowed again fs ks es → length fs ≡ length es

@@ -1,5 +1,5 @@
 -- What is so after a block collection has begun or ended, and after a key is no longer open.
-use Rattle.proof_scanner.proofs.Common.{At, checked, deepen, drop_open, drop_open_level, Held, Holds, Indent, is_required, List, None, Option, Position, refl, remove_implicit_key, roll_entry, roll_indent, ScannerState, Tok, top_key, unroll_indent, went, with_top, ℕ, ◌≡◌, arith}
+use Rattle.proof_scanner.proofs.Common.{At, checked, deepen, drop_open, drop_open_level, Held, Holds, Indent, is_required, List, None, Option, Position, refl, remove_implicit_key, roll_entry, roll_indent, ScannerState, Tok, top_key, unroll_indent, went, with_top, ℕ, ◌≡◌, arith, nat_tests, eqb-true}
 use Rattle.yaml_tokens.specs.declared.problem.Problem.TheVariants as problem
 use Rattle.proof_scanner.proofs.Cut.Levels.{rolled_one_is}
 
