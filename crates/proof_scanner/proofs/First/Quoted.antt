@@ -1,5 +1,5 @@
 -- Of two reasons why a quoted scalar is refused at a place that both come first, kind and position are the same.
-use Rattle.proof_scanner.proofs.Common.{[], ap, append-nil, are_indented, AreNotIndented, begins_separation, begins_solid, begins_with, Bool, closed_first, content, Element, false, GoesOn, has_break, has_marker, has_no_nul, HasNoQuoted, is_empty, is_indented_by_spaces, is_separation, IsNotQuoted, IsQuoted, IsQuotedFault, lines_first, List, marked_from, nat_lt, no_nul_after, off_margin, past, Position, position_after, Problem, quoted_first, quoted_may_end, quoted_scalar, refl, separations, subst, sym, tab, true, within, ℕ, ◌++◌, ◌∙◌, ◌∷◌, ◌≡◌, arith, nat_tests, eqb-true}
+use Rattle.proof_scanner.proofs.Common.{[], ap, append-nil, are_indented, AreNotIndented, begins_separation, begins_solid, begins_with, Bool, closed_first, content, Element, false, GoesOn, has_break, has_marker, has_no_nul, HasNoQuoted, is_empty, is_indented_by_spaces, is_separation, IsNotQuoted, IsQuoted, IsQuotedFault, lines_first, List, marked_from, nat_lt, no_nul_after, off_margin, past, Position, position_after, Problem, quoted_first, quoted_may_end, quoted_scalar, refl, separations, subst, sym, tab, true, within, ℕ, ◌++◌, ◌∙◌, ◌∷◌, ◌≡◌, arith, nat_tests, eqb-true, elements, element_of, LineStand, past_elements, Some}
 use Rattle.defs_text.specs.Classes as classes
 use Rattle.yaml_tokens.specs.declared.problem.Problem.TheVariants as problem
 use Rattle.proof_row.proofs.Quotes.{singles, doubles}
@@ -8,9 +8,9 @@ use Rattle.proof_scanner.specs.NoPiece.{quote_of}
 use Rattle.proof_scanner.specs.QuotedLines as lines
 use Rattle.proof_scanner.proofs.Known.Places.{ends_before}
 use Rattle.proof_scanner.proofs.Sound.Passed.{same_has_break}
-use Rattle.proof_scanner.proofs.Refusals.QuotedCuts.{one_reason}
+use Rattle.proof_scanner.proofs.Refusals.QuotedCuts.{one_reason, walk_of}
 use Rattle.proof_scanner.proofs.Refusals.QuotedElements.{after_quote_at}
-use Rattle.proof_scanner.proofs.Refusals.QuotedReasons.{all_stand, indented_are, by_end, by_escape, by_column, by_tab, Reason, marked, other}
+use Rattle.proof_scanner.proofs.Refusals.QuotedReasons.{all_stand, indented_are, is_marked, by_end, by_escape, by_column, by_tab, by_marker, placed, Place, Wrong, Reason}
 use Rattle.proof_row.proofs.Columns.{further_is_no_break}
 
 -- A reason why a quoted scalar is refused that begins with a text at a position, or what follows it; and what is so before.
@@ -83,29 +83,29 @@ module _ (in_flow : Bool) (least : ℕ) (blocks : List ℕ) (awaits : Bool) (her
     indented : (es : List Element) → are_indented least es ≡ true → all_stand least within (past here).col (es ++ []) ≡ true
     indented es h = ap (all_stand least within (past here).col) (append-nil es) ∙ (sym (indented_are least (past here).col es) ∙ h)
 
-    unmarked : (body r : List ℕ) (b : Bool) → has_marker body r ≡ b → marked_from (past here).col body r ≡ b
-    unmarked body r b h = rw (off_margin here.col 0) h
+    -- a body without a wrong line is walked along to what is wrong after it
+    walked : (why : Problem) (at : Position) (k : Bool) (last es : List Element) (body r : List ℕ) → more ≡ body ++ r → begins_with 10 r ≡ false → elements (element_of single) 0 body ≡ Some es → all_stand least within (past here).col (es ++ last) ≡ true → has_marker body r ≡ k
+        → ((t : LineStand) (q : Position) (x : List ℕ) → is_marked q x ≡ true → k ≡ true → Wrong single least here t q x why at)
+        → (all_stand least (past_elements within es) (position_after (past here) body r).col last ≡ true → k ≡ false → Place single least here (past_elements within es) (position_after (past here) body r) r why at) → Reason single least here within (past here) more why at
+    walked why at k last es body r cut no_feed are fit marks marker end =
+        subst (λ x. Reason single least here within (past here) x why at) (sym cut)
+        (walk_of single least here (λ t q x. Wrong single least here t q x why at) last k r no_feed marker 0 body es within (past here) (omega arith) are fit (rw (off_margin here.col 0) marks) (λ f free n. placed why at free (end f n)))
 
     by_text : (why : Problem) (n : IsNotQuoted single more why) → quoted_first single least more why n → Reason single least here within (past here) more why here
-    by_text why (none.by_marker body r e has marks) first =
-        marked (record { body = body; rest = r; es = has.0; is_text = e; are = has.1; no_feed = further_is_no_break 0 r first.0; fits = indented has.0 first.1 }) first.0 (unmarked body r true marks)
-    by_text why (none.by_end has) first =
-        other [] problem.QuotedEnd here (record { body = more; rest = []; es = has.0; is_text = sym (append-nil more); are = has.1; no_feed = refl; fits = indented has.0 first.1 }) (unmarked more [] false first.0) (by_end refl)
+    by_text why (none.by_marker body r e has marks) first = walked why here true [] has.0 body r e (further_is_no_break 0 r first.0) has.1 (indented has.0 first.1) marks (λ t q x h _. by_marker h) (λ f n. absurd (cc n))
+    by_text why (none.by_end has) first = walked why here false [] has.0 more [] (sym (append-nil more)) refl has.1 (indented has.0 first.1) first.0 (λ t q x h n. absurd (cc n)) (λ f n. by_end refl)
     by_text why (none.by_escape body r _ double e has bad) first =
-        other (content 92 ∷ []) why here
-        (record { body = body; rest = 92 ∷ r; es = has.0; is_text = e; are = has.1; no_feed = refl; fits = sym (indented_are least (past here).col (has.0 ++ content 92 ∷ [])) ∙ first.1 }) (unmarked body (92 ∷ r) false first.0) (by_escape r why double refl bad)
+        walked why here false (content 92 ∷ []) has.0 body (92 ∷ r) e refl has.1 (sym (indented_are least (past here).col (has.0 ++ content 92 ∷ [])) ∙ first.1) first.0 (λ t q x h n. absurd (cc n)) (λ f n. by_escape r why double refl bad f)
 
     by_lines : rest ≡ quote_of single ∷ more → (why : Problem) (at : Position) (n : IsQuotedFault single least here rest why at) → lines_first single least here rest why at n → Reason single least here within (past here) more why at
     by_lines whole why at (lines.by_column body r es e are solid further low) first =
         let all : quote_of single ∷ more ≡ quote_of single ∷ (body ++ r) = sym whole ∙ e in
-        other [] problem.QuotedIndentation here (record { body = body; rest = r; es = es; is_text = cc all; are = are; no_feed = solid_no_feed r solid; fits = indented es first.1 }) (unmarked body r false first.0)
-        (by_column solid further (ap (λ (q : Position). nat_lt q.col least) (sym (after_quote_at single here body r)) ∙ low))
+        walked why at false [] es body r (cc all) (solid_no_feed r solid) are (indented es first.1) first.0 (λ t q x h n. absurd (cc n)) (λ f n. by_column solid further (ap (λ (q : Position). nat_lt q.col least) (sym (after_quote_at single here body r)) ∙ low))
     by_lines whole why at (lines.by_tab body r es e are further low) first =
         let all : quote_of single ∷ more ≡ quote_of single ∷ (body ++ tab ∷ r) = sym whole ∙ e in
         let there = after_quote_at single here body (tab ∷ r) in
         subst (λ q. Reason single least here within (past here) more problem.TabAsIndentation q) (sym there)
-        (other [] problem.TabAsIndentation (position_after (past here) body (tab ∷ r)) (record { body = body; rest = tab ∷ r; es = es; is_text = cc all; are = are; no_feed = refl; fits = indented es first.1 }) (unmarked body (tab ∷ r) false first.0)
-        (by_tab r refl further (ap (λ (q : Position). nat_lt q.col least) (sym there) ∙ low)))
+        (walked problem.TabAsIndentation _ false [] es body (tab ∷ r) (cc all) refl are (indented es first.1) first.0 (λ t q x h n. absurd (cc n)) (λ f n. by_tab r refl further (ap (λ (q : Position). nat_lt q.col least) (sym there) ∙ low)))
 
     one_sorted : has_no_nul rest ≡ true → (why1 why2 : Problem) (at1 at2 : Position) → Sorted single more why1 at1 → Sorted single more why2 at2 → (why1 ≡ why2) × (at1 ≡ at2)
     one_sorted clean why1 why2 at1 at2 (fails _ _ r open_text) (fails _ _ s open_text2) = one_reason single least here within (past here) more why1 why2 at1 at2 r s

@@ -1,5 +1,5 @@
 -- The scan of a quoted scalar reads one, or refuses the text for what is wrong with it first.
-use Rattle.proof_scanner.proofs.Common.{position_append, [], cases_Bool, inl, inr, after_element, after_escaped, after_gap, after_quote, along, along_more, and_false, and_parts, ap, append-nil, arith, At, at_start, begins_further, begins_marked, begins_with, Begun, begun, blank, Bool, break_further, content, Context, drop, Element, element_of, ends_before, eqb-true, Err, escape, escaped_break, false, Fault, first_is_gap, first_fails, Folded, gap, in_gap, inside, is_document_marker, is_marked, is_some, append_cancel_right, ◌++◌, quoted_lines_fit, joined, line_break, LineStand, List, list_all, marked, Mode, nat_lt, nat_tests, None, not, not-true, nothing, off_margin, Ok, Option, OutOfMemory, past, past_element, past_escaped, past_is, Position, position_after, position_past, Problem, quoted, Read, refl, Result, scan, shallow, Some, Spelled, step, StepOf, steps, subst, suc, sym, take, true, white_stands, with_break, with_escaped_break, within, zero, ℕ, ◌&&◌, ◌+◌, ◌==◌, ◌∙◌, ◌∷◌, ◌≡◌, ◌≤◌}
+use Rattle.proof_scanner.proofs.Common.{position_append, [], cases_Bool, inl, inr, after_element, after_escaped, after_gap, after_quote, along, along_more, and_false, and_parts, ap, append-nil, arith, At, at_start, begins_further, begins_marked, begins_with, Begun, begun, blank, Bool, break_further, content, Context, drop, Element, element_of, ends_before, eqb-true, Err, escape, escaped_break, false, Fault, first_is_gap, first_fails, Folded, gap, in_gap, inside, is_document_marker, is_marked, is_some, append_cancel_right, ◌++◌, quoted_lines_fit, joined, line_break, LineStand, List, list_all, marked, Mode, nat_lt, nat_tests, None, not, not-true, nothing, off_margin, Ok, Option, OutOfMemory, past, past_element, past_escaped, past_is, Position, position_after, position_past, Problem, quoted, Read, refl, Result, scan, shallow, Some, Spelled, step, StepOf, steps, subst, suc, sym, take, true, white_stands, with_break, with_escaped_break, within, zero, ℕ, ◌&&◌, ◌+◌, ◌==◌, ◌∙◌, ◌∷◌, ◌≡◌, ◌≤◌, past_elements}
 use Rattle.yaml_chars.specs.Class.{is_break, is_blank}
 use Rattle.yaml_tokens.specs.declared.problem.Problem.TheVariants as problem
 use Rattle.model_scanner.specs.Quoted.{after}
@@ -10,8 +10,7 @@ use Rattle.proof_lexers.proofs.Quoted.Turns.{spelled, begins, Step, is_shallow}
 use Rattle.proof_scanner.proofs.Sound.QuotedBreaks.{Kind, has_content, has_blank, has_line, has_escaped, is_white, quote_white, slash_white, body_between}
 use Rattle.proof_scanner.specs.NoPiece.{quote_of}
 use Rattle.proof_scanner.proofs.Refusals.QuotedElements.{quote_no_break, after_quote_at, no_quote, solid_here, past_line, past_two, after_it, kind_of, content_after}
-use Rattle.proof_scanner.proofs.Refusals.QuotedReasons as reasons
-use Rattle.proof_scanner.proofs.Refusals.QuotedReasons.{stands, Place, by_end, by_escape, by_column, by_tab, Reason, other, grown, Closed, closed_grown, all_stand, before_quote, lines_close}
+use Rattle.proof_scanner.proofs.Refusals.QuotedReasons.{stands, by_end, by_escape, by_column, by_tab, by_marker, placed, arrived, stepped, Reason, Closed, parted, all_stand, before_quote, lines_close}
 use Rattle.model_scanner.proofs.PlainLemmas.{break_leads}
 use Rattle.proof_row.proofs.Columns.{further_is_no_break}
 
@@ -74,17 +73,6 @@ module _ (single : Bool) (ctx : Context) (start : Position) (least : ℕ) (limit
   abbrev Later : List ℕ → Type 0
   Later text = (s : LineStand) (p : Position) (m : Mode) (t : Folded) → Stood p t s m → Ends s p text (scan single ctx start text m p t)
 
-  -- ---- reasons at a place
-
-  wrong_here : (last : List Element) (why : Problem) (at : Position) (s : LineStand) (p : Position) (text : List ℕ) → begins_with 10 text ≡ false → all_stand least s p.col last ≡ true → ((p.col == 0) && is_document_marker text) ≡ false
-      → Place single least start s p text last why at → Why s p text why at
-  wrong_here last why at s p text no_feed fit none h = other last why at (record { body = []; rest = text; es = []; is_text = refl; are = refl; no_feed = no_feed; fits = fit }) (rw none refl) h
-
-  marked_here : (s : LineStand) (p : Position) (text : List ℕ) → ((p.col == 0) && is_document_marker text) ≡ true → Why s p text problem.QuotedDocumentMarker start
-  marked_here s p text h =
-      let marker : is_document_marker text ≡ true = (and_parts (p.col == 0) (is_document_marker text) h).1 in
-      reasons.marked (record { body = []; rest = text; es = []; is_text = refl; are = refl; no_feed = further_is_no_break 0 text marker; fits = refl }) marker (rw h refl)
-
   -- ---- a line begins or goes on
 
   -- what is neither blank nor break begins a line or goes on in one
@@ -99,12 +87,12 @@ module _ (single : Bool) (ctx : Context) (start : Position) (least : ℕ) (limit
       further s m a unlike b = grind arith
 
       by : (marker : Bool) → ((p.col == 0) && is_document_marker (c ∷ b)) ≡ marker → Begun single ctx start (c ∷ b) p t → Started s p (c ∷ b) t
-      by true h z = stops (refused problem.QuotedDocumentMarker start (marked_here s p (c ∷ b) h) (begins_marked single ctx start c b p t solid h))
+      by true h z = stops (refused problem.QuotedDocumentMarker start (arrived (by_marker h)) (begins_marked single ctx start c b p t solid h))
       by false h (begun none deep i) = begins_or_goes none (sym (limit p.col) ∙ deep) i
       by false h (marked g i) = absurd (cc (g, h))
       by false h (shallow g i) =
           let low : nat_lt p.col least ≡ true = sym (limit p.col) ∙ g in
-          stops (refused problem.QuotedIndentation start (wrong_here [] problem.QuotedIndentation start s p (c ∷ b) (solid_no_feed c solid) refl h (by_column (solid_here c b solid) (further s m stood unlike low) low)) i)
+          stops (refused problem.QuotedIndentation start (arrived (placed _ _ h (by_column (solid_here c b solid) (further s m stood unlike low) low))) i)
 
   -- ---- an element more
 
@@ -112,8 +100,8 @@ module _ (single : Bool) (ctx : Context) (start : Position) (least : ℕ) (limit
     -- how the text after the element ends, the text before it does
     ends_grown : (x y : Result (Read (List ℕ)) Fault) → x ≡ y → stands least s p.col e.element ≡ true → ((p.col == 0) && is_document_marker (c ∷ b)) ≡ false
         → Ends (past_element s e.element) (after_it single c b e is p) (drop e.further b) y → Ends s p (c ∷ b) x
-    ends_grown x y i fit none (refused why at h j) = refused why at (grown single least start c b e is s p fit none why at h) (i ∙ j)
-    ends_grown x y i fit none (reads z w j) = reads z (closed_grown single least start c b e is s p fit none z.rest z.position w) (i ∙ j)
+    ends_grown x y i fit none (refused why at h j) = refused why at (stepped c b e is fit none h) (i ∙ j)
+    ends_grown x y i fit none (reads z w j) = reads z (stepped c b e is fit none w) (i ∙ j)
 
     not_quote : single ≡ false → (c == quote_of single) ≡ false
     not_quote double = by single double is
@@ -181,7 +169,7 @@ module _ (single : Bool) (ctx : Context) (start : Position) (least : ℕ) (limit
           let fails : here ≡ Err (At problem.TabAsIndentation p) = rw (f, g, h) refl in
           let parts = and_parts (t.leading && (c == 9)) (nat_lt (p.col + 1) ctx.indent) h in
           let is_tab : c ≡ 9 = eqb-true c 9 (and_parts t.leading (c == 9) parts.0).1 in
-          refused problem.TabAsIndentation p (wrong_here [] problem.TabAsIndentation p s p (c ∷ b) (ap (λ x. x == 10) is_tab) refl none (by_tab b (ap (λ x. x ∷ b) is_tab) further (sym (limit p.col) ∙ parts.1))) fails
+          refused problem.TabAsIndentation p (arrived (placed _ _ none (by_tab b (ap (λ x. x ∷ b) is_tab) further (sym (limit p.col) ∙ parts.1)))) fails
 
       by : (s : LineStand) (m : Mode) → Stood p t s m → (tab : Bool) → (t.leading && (c == 9) && nat_lt (p.col + 1) ctx.indent) ≡ tab → Ends s p (c ∷ b) here
       by s m (in_line deep) true h = absurd (cc ((and_parts (t.leading && (c == 9)) (nat_lt (p.col + 1) ctx.indent) h).1, limit p.col, deep))
@@ -217,7 +205,7 @@ module _ (single : Bool) (ctx : Context) (start : Position) (least : ℕ) (limit
   closed_ends r ended s p m t stood = by s m stood
     where
       closed : (s : LineStand) → all_stand least s p.col (before_quote s) ≡ true → Closed single least start s p (model.quote_of single ∷ r) r (past p)
-      closed s fit = record { body = []; es = []; is_text = ap (λ q. q ∷ r) (same_quote single); are = refl; fits = fit; end_is = refl }
+      closed s fit = arrived (record { is_quote = ap (λ q. q ∷ r) (same_quote single); fit = fit; end_is = refl })
 
       in_its_line : (s : LineStand) → Started s p (model.quote_of single ∷ r) t → Ends s p (model.quote_of single ∷ r) (scan single ctx start (model.quote_of single ∷ r) gap p t)
       in_its_line s (stops x) = x
@@ -235,7 +223,7 @@ module _ (single : Bool) (ctx : Context) (start : Position) (least : ℕ) (limit
       in_gap_ends s (stops x) = x
       in_gap_ends s (begins_or_goes none deep i) =
           let z = escape_fails ctx start r p (joined t) bad in
-          refused z.why start (wrong_here (content 92 ∷ []) z.why start s p (92 ∷ r) refl (rw (deep, and_false (begins_further s false)) refl) none (by_escape r z.why double refl z.bad)) (i ∙ (grind arith))
+          refused z.why start (arrived (placed _ _ none (by_escape r z.why double refl z.bad (rw (deep, and_false (begins_further s false)) refl)))) (i ∙ (grind arith))
 
       by : (s : LineStand) (m : Mode) → Stood p t s m → Started s p (92 ∷ r) t → Ends s p (92 ∷ r) (scan single ctx start (92 ∷ r) m p t)
       by s m (in_line deep) x = in_gap_ends within x
@@ -246,7 +234,7 @@ module _ (single : Bool) (ctx : Context) (start : Position) (least : ℕ) (limit
   unclosed_ends s p m t stood = by s m stood
     where
       ends_here : (s : LineStand) (x : Result (Read (List ℕ)) Fault) → x ≡ Err (At problem.QuotedEnd start) → Ends s p [] x
-      ends_here s x e = refused problem.QuotedEnd start (wrong_here [] problem.QuotedEnd start s p [] refl refl (and_false (p.col == 0)) (by_end refl)) e
+      ends_here s x e = refused problem.QuotedEnd start (arrived (placed _ _ (and_false (p.col == 0)) (by_end refl))) e
 
       by : (s : LineStand) (m : Mode) → Stood p t s m → Ends s p [] (scan single ctx start [] m p t)
       by s m (in_line deep) = ends_here within _ refl
@@ -317,10 +305,11 @@ module _ (single : Bool) (ctx : Context) (start : Position) (least : ℕ) (limit
       by (refused why at h i) = absurd (cc (i, e))
       by (reads y w i) =
           let read : y ≡ x = cc (i, e) in
-          let same : body ≡ w.body = append_cancel_right body w.body (quote_of single ∷ x.rest) (w.is_text ∙ ap (λ (z : Read (List ℕ)). w.body ++ quote_of single ∷ z.rest) read) in
+          let v = parted single least start _ within (past start) (body ++ quote_of single ∷ x.rest) w in
+          let same : body ≡ v.body = append_cancel_right body v.body (quote_of single ∷ x.rest) (v.is_text ∙ ap (λ r. v.body ++ r) (v.holds.is_quote ∙ ap (λ (z : Read (List ℕ)). quote_of single ∷ z.rest) read)) in
           record {
-            lines = rw (body_between (quote_of single) body, same, w.are) (lines_close least (start.col + 1) w.es ∙ w.fits);
-            end_is = position_of x.position (cc (w.end_is, read, same));
+            lines = rw (body_between (quote_of single) body, same, v.are) (lines_close least (start.col + 1) v.es ∙ v.fits (before_quote (past_elements within v.es)) v.holds.fit);
+            end_is = position_of x.position (cc (v.holds.end_is, read, same, v.holds.is_quote));
           }
 
   pub body_read : (body : List ℕ) (x : Read (List ℕ)) → list_all is_some (body ++ model.quote_of single ∷ x.rest) ≡ true → quoted single ctx (model.quote_of single ∷ (body ++ model.quote_of single ∷ x.rest)) start ≡ Ok x → IsBody (model.quote_of single) body x

@@ -1,5 +1,5 @@
 -- Faults of quoted scalars: a further line is not indented, or what stands after the scalar may not follow it.
-use Rattle.proof_scanner.proofs.Common.{[], ap, append-nil, append_assoc, are_indented, AreNotIndented, arith, Arrives, At, begins_separation, begins_with, bodies_are_read, Bool, check_after_quoted, closed_first, content, Context, Element, element_of, elements, ends_before, ends_spaces, Err, false, Fault, go_on, has_marker, has_no_nul, held_of, if◌then◌else◌, in_flow, is_breakz, is_document_marker, is_empty, IsBadEscape, IsQuoted, IsQuotedFault, least_here, lines_first, List, marked_from, may_follow_quoted, nat_lt, no_quoted, node_start, not, not-true, off_margin, Ok, on_held, past, past_elements, peek, Position, position_after, Problem, quote_of, quoted, quoted_lines_fit, quoted_may_end, Read, refl, Result, ScannerState, skip_spaces, Some, subst, sym, tab, true, unled, value_of, within, Yes, ℕ, ◌&&◌, ◌++◌, ◌+◌, ◌-◌, ◌==◌, ◌||◌, ◌∙◌, ◌∷◌, ◌≡◌, further_lines_fit, lines_of, eqb-true, nat_tests}
+use Rattle.proof_scanner.proofs.Common.{[], ap, append-nil, append_assoc, are_indented, AreNotIndented, arith, Arrives, At, begins_separation, begins_with, bodies_are_read, Bool, check_after_quoted, closed_first, content, Context, Element, element_of, elements, ends_before, ends_spaces, Err, false, Fault, go_on, has_marker, has_no_nul, held_of, if◌then◌else◌, in_flow, is_breakz, is_document_marker, is_empty, IsBadEscape, IsQuoted, IsQuotedFault, least_here, lines_first, List, marked_from, may_follow_quoted, nat_lt, no_quoted, node_start, not, not-true, off_margin, Ok, on_held, past, past_elements, peek, Position, position_after, Problem, quote_of, quoted, quoted_lines_fit, quoted_may_end, Read, refl, Result, ScannerState, skip_spaces, Some, subst, sym, tab, true, unled, value_of, within, Yes, ℕ, ◌&&◌, ◌++◌, ◌+◌, ◌-◌, ◌==◌, ◌||◌, ◌∙◌, ◌∷◌, ◌≡◌, further_lines_fit, lines_of, eqb-true, nat_tests, and_parts}
 use Rattle.yaml_tokens.specs.declared.problem.Problem.TheVariants as problem
 use Rattle.proof_lexers.specs.QuotedEnds as bad
 use Rattle.proof_lexers.specs.QuotedScan as scans
@@ -16,7 +16,7 @@ use Rattle.proof_scanner.specs.NoPiece as none
 use Rattle.proof_scanner.specs.QuotedLines as lines
 use Rattle.proof_scanner.proofs.Refusals.QuotedElements.{after_quote_at}
 use Rattle.proof_scanner.proofs.Refusals.QuotedLines.{is_of_lines, Ends, refused, reads, quoted_ends}
-use Rattle.proof_scanner.proofs.Refusals.QuotedReasons.{all_stand, indented_are, Cut, Place, by_end, by_escape, by_column, by_tab, Reason, marked, other, lines_close}
+use Rattle.proof_scanner.proofs.Refusals.QuotedReasons.{all_stand, indented_are, is_marked, by_end, by_escape, by_column, by_tab, by_marker, placed, Wrong, Reason, Parted, parted, lines_close}
 use Rattle.proof_scanner.proofs.Refusals.Faults.{Faults, fault, goes, in_turn}
 use Rattle.proof_scanner.proofs.Refusals.Spaces.{spaces_told, solid_past}
 use Rattle.proof_scanner.proofs.Refusals.Places.{Said, IsWhy, LiesDeep, account_by, stuck, least_by, looked_at, none_here, followed_stuck}
@@ -141,9 +141,9 @@ module _ (text : List ℕ) (t : ScannerState) (a : Arrives text t) (some : is_em
       none_there : is_of_lines f ≡ false → none.HasNoQuoted single t.rest
       none_there told = subst (λ r. none.HasNoQuoted single r) (sym e) (none_quoted single ctx more here f fails told)
 
-      none_fits : (last : List Element) (why : Problem) (at : Position) (x : Cut single least here last within (past here) more)
-          → Place single least here (past_elements within x.es) (position_after (past here) x.body x.rest) x.rest last why at → AreNotIndented single least t.rest
-      none_fits last why at x wrong piece next cut is = on (quoted_lines_fit least (element_of single) piece) refl
+      -- nor one whose lines are indented
+      none_fits : (why : Problem) (at : Position) → (why ≡ problem.QuotedDocumentMarker → ⊥) → Reason single least here within (past here) more why at → AreNotIndented single least t.rest
+      none_fits why at unlike x piece next cut is = on (quoted_lines_fit least (element_of single) piece) refl
         where
           b : Bodied single more piece next
           b = bodied single more piece next (sym e ∙ cut) is
@@ -154,46 +154,45 @@ module _ (text : List ℕ) (t : ScannerState) (a : Arrives text t) (some : is_em
               let es = has_elements single b.body b.value b.value_is in
               let whole : quoted_lines_fit least (element_of single) (none.quote_of single ∷ (b.body ++ none.quote_of single ∷ [])) ≡ true = ap (quoted_lines_fit least (element_of single)) (sym b.piece_is) ∙ i in
               let fit : further_lines_fit least (lines_of es.0) ≡ true = rw (body_between (none.quote_of single) b.body, es.1) at whole in
-              absurd (not_closed single least here within (past here) more b.body next es.0 b.is_text b.ends es.1 (sym (lines_close least (past here).col es.0) ∙ fit) last why at x wrong)
-
-      indented : (es : List Element) → all_stand least within (past here).col (es ++ []) ≡ true → are_indented least es ≡ true
-      indented es h = indented_are least (past here).col es ∙ (ap (all_stand least within (past here).col) (sym (append-nil es)) ∙ h)
+              absurd (not_closed single least here within (past here) b.body next es.0 b.ends es.1 (sym (lines_close least (past here).col es.0) ∙ fit) why at unlike (subst (λ r. Reason single least here within (past here) r why at) b.is_text x))
 
       -- what is wrong with the text after the quote is what the whole text is stuck by
       told_by : (why : Problem) (at : Position) → At why at ≡ f → Reason single least here within (past here) more why at → IsWhy text why at
-      told_by why at is (marked x marker m) =
-          none_here text t a some lies problem.QuotedDocumentMarker
-          (none.unquoted single more problem.QuotedDocumentMarker e (none_there (ap is_of_lines (sym is))) (none.by_marker x.body x.rest x.is_text (x.es, x.are) (marks_in (has_marker x.body x.rest) m)))
-          (marker, indented x.es x.fits)
+      told_by why at is w = by why at is w (parted single least here _ within (past here) more w)
         where
-          marks_in : (b : Bool) → (((here.col + 1) == 0) && is_document_marker (x.body ++ x.rest) || b) ≡ true → b ≡ true
-          marks_in b h = rw (off_margin here.col 0) at h
-      told_by why at is (other last _ _ x m wrong) = by last why at is x m wrong
-        where
-          unmarked : (body rest : List ℕ) → marked_from (past here).col body rest ≡ false → has_marker body rest ≡ false
-          unmarked body rest h = rw (off_margin here.col 0) at h
+          by : (why : Problem) (at : Position) → At why at ≡ f → Reason single least here within (past here) more why at → Parted single least here (λ t q x. Wrong single least here t q x why at) within (past here) more → IsWhy text why at
+          by why at is w x = of why at is w x.holds
+            where
+              indented : are_indented least x.es ≡ true
+              indented = indented_are least (past here).col x.es ∙ (ap (all_stand least within (past here).col) (sym (append-nil x.es)) ∙ x.fits [] refl)
 
-          by : (last : List Element) (why : Problem) (at : Position) → At why at ≡ f → (x : Cut single least here last within (past here) more) → marked_from (past here).col x.body x.rest ≡ false
-              → Place single least here (past_elements within x.es) (position_after (past here) x.body x.rest) x.rest last why at → IsWhy text why at
-          by last why at is x m (by_end ends) =
-              let all : more ≡ x.body = x.is_text ∙ (ap (λ r. x.body ++ r) ends ∙ append-nil x.body) in
-              none_here text t a some lies problem.QuotedEnd
-              (none.unquoted single more problem.QuotedEnd e (none_there (ap is_of_lines (sym is))) (none.by_end (x.es, subst (λ b. elements (element_of single) 0 b ≡ Some x.es) (sym all) x.are)))
-              (ap (λ b. has_marker b []) all ∙ (ap (λ r. has_marker x.body r) (sym ends) ∙ unmarked x.body x.rest m), indented x.es x.fits)
-          by last why at is x m (by_escape next _ double cut bad) =
-              none_here text t a some lies why
-              (none.unquoted single more why e (none_there (ap is_of_lines (sym is) ∙ not_of_lines next why here bad)) (none.by_escape x.body next why double (x.is_text ∙ ap (λ r. x.body ++ r) cut) (x.es, x.are) bad))
-              (ap (λ r. has_marker x.body r) (sym cut) ∙ unmarked x.body x.rest m, indented_are least (past here).col (x.es ++ content 92 ∷ []) ∙ x.fits)
-          by last why at is x m (by_column solid further low) =
-              lines_stuck single problem.QuotedIndentation here (none_fits last why at x (by_column solid further low))
-              (lines.by_column x.body x.rest x.es (e ∙ ap (λ r. none.quote_of single ∷ r) x.is_text) x.are solid further (ap (λ (q : Position). nat_lt q.col least) (after_quote_at single here x.body x.rest) ∙ low))
-              (unmarked x.body x.rest m, indented x.es x.fits)
-          by last why at is x m (by_tab next cut further low) =
-              let same_place : position_after (past here) x.body x.rest ≡ position_after here (none.quote_of single ∷ x.body) (tab ∷ next) = sym (after_quote_at single here x.body x.rest) ∙ ap (λ r. position_after here (none.quote_of single ∷ x.body) r) cut in
-              subst (λ z. IsWhy text problem.TabAsIndentation z) (sym same_place)
-              (lines_stuck single problem.TabAsIndentation (position_after here (none.quote_of single ∷ x.body) (tab ∷ next)) (none_fits last why at x (by_tab next cut further low))
-              (lines.by_tab x.body next x.es (e ∙ ap (λ r. none.quote_of single ∷ r) (x.is_text ∙ ap (λ r. x.body ++ r) cut)) x.are further (ap (λ (q : Position). nat_lt q.col least) (sym same_place) ∙ low))
-              (ap (λ r. has_marker x.body r) (sym cut) ∙ unmarked x.body x.rest m, indented x.es x.fits))
+              marks : (b : Bool) → is_marked (position_after (past here) x.body x.rest) x.rest ≡ b → has_marker x.body x.rest ≡ b
+              marks b h = rw (off_margin here.col 0) at (x.marks ∙ h)
+
+              of : (why : Problem) (at : Position) → At why at ≡ f → Reason single least here within (past here) more why at → Wrong single least here (past_elements within x.es) (position_after (past here) x.body x.rest) x.rest why at → IsWhy text why at
+              of why at is w (by_marker h) =
+                  none_here text t a some lies problem.QuotedDocumentMarker
+                  (none.unquoted single more problem.QuotedDocumentMarker e (none_there (ap is_of_lines (sym is))) (none.by_marker x.body x.rest x.is_text (x.es, x.are) (marks true h)))
+                  ((and_parts ((position_after (past here) x.body x.rest).col == 0) (is_document_marker x.rest) h).1, indented)
+              of why at is w (placed _ _ free (by_end ends)) =
+                  let all : more ≡ x.body = x.is_text ∙ (ap (λ r. x.body ++ r) ends ∙ append-nil x.body) in
+                  none_here text t a some lies problem.QuotedEnd
+                  (none.unquoted single more problem.QuotedEnd e (none_there (ap is_of_lines (sym is))) (none.by_end (x.es, subst (λ b. elements (element_of single) 0 b ≡ Some x.es) (sym all) x.are)))
+                  (ap (λ b. has_marker b []) all ∙ (ap (λ r. has_marker x.body r) (sym ends) ∙ marks false free), indented)
+              of why at is w (placed _ _ free (by_escape next _ double cut bad may)) =
+                  none_here text t a some lies why
+                  (none.unquoted single more why e (none_there (ap is_of_lines (sym is) ∙ not_of_lines next why here bad)) (none.by_escape x.body next why double (x.is_text ∙ ap (λ r. x.body ++ r) cut) (x.es, x.are) bad))
+                  (ap (λ r. has_marker x.body r) (sym cut) ∙ marks false free, indented_are least (past here).col (x.es ++ content 92 ∷ []) ∙ x.fits (content 92 ∷ []) may)
+              of why at is w (placed _ _ free (by_column solid further low)) =
+                  lines_stuck single problem.QuotedIndentation here (none_fits why at (λ k. absurd (cc k)) w)
+                  (lines.by_column x.body x.rest x.es (e ∙ ap (λ r. none.quote_of single ∷ r) x.is_text) x.are solid further (ap (λ (q : Position). nat_lt q.col least) (after_quote_at single here x.body x.rest) ∙ low))
+                  (marks false free, indented)
+              of why at is w (placed _ _ free (by_tab next cut further low)) =
+                  let same_place : position_after (past here) x.body x.rest ≡ position_after here (none.quote_of single ∷ x.body) (tab ∷ next) = sym (after_quote_at single here x.body x.rest) ∙ ap (λ r. position_after here (none.quote_of single ∷ x.body) r) cut in
+                  subst (λ z. IsWhy text problem.TabAsIndentation z) (sym same_place)
+                  (lines_stuck single problem.TabAsIndentation (position_after here (none.quote_of single ∷ x.body) (tab ∷ next)) (none_fits why at (λ k. absurd (cc k)) w)
+                  (lines.by_tab x.body next x.es (e ∙ ap (λ r. none.quote_of single ∷ r) (x.is_text ∙ ap (λ r. x.body ++ r) cut)) x.are further (ap (λ (q : Position). nat_lt q.col least) (sym same_place) ∙ low))
+                  (ap (λ r. has_marker x.body r) (sym cut) ∙ marks false free, indented))
 
     pub refused_told : has_no_nul more ≡ true → (f : Fault) → quoted single ctx (none.quote_of single ∷ more) here ≡ Err f → Said text f
     refused_told clean f fails = by (quoted_ends single ctx here least limit (omega (arith, deep, same)) more (some_chars more clean))
