@@ -47,9 +47,6 @@ module _ (indent : ℕ) (p : Position) (b : BlockRead) (piece next bs : List ℕ
     both : (not (is_empty (texts w.lines) && begins_with tab next) ≡ true) × ((not (are_empty b.column (texts w.lines)) || nat_lt (leading_spaces next) (least_column bs true) || nat_le b.column (leading_spaces next)) ≡ true)
     both = and_parts _ _ (lines_asked indent b piece next bs least is w ∙ may)
 
-    single_by : (h : List ℕ) (ls : List (List ℕ)) (t : Bool) → not (is_empty ls && t) ≡ true → (is_single (h ∷ ls) && t) ≡ false
-    single_by h a t e = grind arith
-
     column_is : (further_position p piece next).col ≡ leading_spaces next
     column_is =
         let margin = ends_at_margin (collection_of indent) piece next b p is further in
@@ -60,7 +57,7 @@ module _ (indent : ℕ) (p : Position) (b : BlockRead) (piece next bs : List ℕ
     deep_by a low left k e f g h = grind (arith, nat_tests, eqb-true, w, none_is_empty, first_header)
 
     before_text : Clear
-    before_text = grind (arith, nat_tests, eqb-true, lines_written, w, single_by, both, column_is, deep_by)
+    before_text = grind (arith, nat_tests, eqb-true, lines_written, w, both, column_is, deep_by)
 
   -- What stands after a block scalar that may end is not refused.
   pub block_is_clear : has_no_nul next ≡ true → block_may_end bs piece next ≡ true → Clear

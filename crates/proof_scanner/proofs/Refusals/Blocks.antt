@@ -97,9 +97,6 @@ column_fault indent bs here text piece next b least e clean is untabbed low = by
         untabbed_by : (h : List ℕ) (ls : List (List ℕ)) (t : Bool) → (scan.is_single (h ∷ ls) && t) ≡ false → not (is_empty ls && t) ≡ true
         untabbed_by h ls t i = grind arith
 
-        no_tab : not (is_empty (texts w.lines) && begins_with tab next) ≡ true
-        no_tab = untabbed_by w.header.text (texts w.lines) (begins_with tab next) (ap (λ x. scan.is_single x && begins_with tab next) (sym (lines_written piece next w)) ∙ untabbed)
-
         -- no TAB stands after the header
         no_tab_fault : (place : Position) → IsBlockFault bs here text problem.BlockScalarTab place → ⊥
         no_tab_fault place (none.by_tab own header more h cut one has) =
@@ -109,7 +106,7 @@ column_fault indent bs here text piece next b least e clean is untabbed low = by
 
         parts : (t y l d : Bool) → not (is_empty (texts w.lines) && begins_with tab next) ≡ t → are_empty b.column (texts w.lines) ≡ y → nat_lt (leading_spaces next) (least_column bs true) ≡ l → nat_le b.column (leading_spaces next) ≡ d → (t && (not y || l || d)) ≡ false
             → FirstFault bs here text problem.BlockScalarIndentation (scan.further_position here piece next)
-        parts false y l d f g i j k = absurd (cc (f, no_tab))
+        parts false y l d f g i j k = absurd (cc (f, (untabbed_by w.header.text (texts w.lines) (begins_with tab next) (ap (λ x. scan.is_single x && begins_with tab next) (sym (lines_written piece next w)) ∙ untabbed))))
         parts true false l d f g i j k = absurd (cc k)
         parts true true true d f g i j k = absurd (cc k)
         parts true true false true f g i j k = absurd (cc k)

@@ -12,15 +12,11 @@ pub levels_end : (col : ℕ) (bs : List ℕ) (awaits : Bool) (i : ℕ) (ds : Lis
 levels_end col bs aw i [] a e o = omega (arith, a)
 levels_end col bs aw i (d ∷ ds) a e o = by d.needs_block_end a.0 e o
   where
-    -- a level that opens no collection is right of the collection around it, which is left of the piece
-    left : (ds : List Indent) (j : ℕ) → AreCollections j ds → is_empty ds ≡ false → bs ≡ columns j ds → is_deeper col bs ≡ true → j ≤ col
-    left a j c b f h = grind (arith, nat_tests, eqb-true)
-
     by : (b : Bool) → IsTopLevel b i d.indent ds → not_ended col bs ≡ (if b then (i - 1) ∷ columns d.indent ds else columns d.indent ds) → (aw && is_deeper col bs) ≡ not b → i ≤ col + 1
     by true t f o =
         let first : i - 1 ≤ col = subst (λ x. IsNotRight (innermost x) col) f (first_stays col bs) in
         omega (arith, first)
     by false t f o =
         let deeper : is_deeper col bs ≡ true = (and_parts aw (is_deeper col bs) o).1 in
-        let outer : d.indent ≤ col = left ds d.indent a.1 t.1 (sym (grind arith) ∙ f) deeper in
+        let outer : d.indent ≤ col = (grind (arith, nat_tests, eqb-true)) in
         omega (arith, t.0, outer)

@@ -79,14 +79,11 @@ module _ (a : Account) (separation rest : List ℕ) (here : Position) (s : StepA
   unfolding is_blank_or_end is_blank is_break is_nul is_flow
   dash_kind fl adjacent column more gap = rw gap refl
 
-  many_some : (es : List Entry) → not (is_empty es) ≡ true → length es ≡ 0 → ⊥
-  many_some a h n = grind arith
-
   pub no_dash : (more : List ℕ) → rest ≡ 45 ∷ more → is_at_gap more ≡ true → is_in_flow a.entries ≡ true → ⊥
   no_dash more e gap inside =
       let own : Whole dash (context_of acct) s.step.piece next s.step.shown = subst (λ k. Whole k (context_of acct) s.step.piece next s.step.shown) (dash_kind (pieces.is_in_flow acct) (is_adjacent acct.before) acct.position.col more gap) (whole_by 45 more e) in
       let piece : IsPiece acct s.step.piece next None spot block_entry = subst (λ t. IsPiece acct s.step.piece next None spot t) own.2 is_piece in
-      many_some a.entries inside (sym levels_are ∙ (grind arith))
+      (grind arith)
 
   pub no_room : 255 ≤ length a.entries → nat_lt (length acct.levels) 255 ≡ true → ⊥
   no_room many room = grind (arith, nat_tests, many, room, levels_are)

@@ -96,13 +96,10 @@ module _ (a : Account) (separation rest : List ℕ) (here : Position) (s : StepA
 
   -- ---- the end of a document
 
-  holds_more : (more passed content : List ℕ) → GoesOn more passed content → is_at_line_end content ≡ false → begins_separation content ≡ false → line_is_done more ≡ false
-  holds_more more passed a on ends solid = grind (arith, nat_tests, eqb-true, neither, not_done, blanks_alone)
-
   pub no_document_end : (more passed content : List ℕ) → here.col ≡ 0 → rest ≡ 46 ∷ 46 ∷ 46 ∷ more → is_at_gap more ≡ true → GoesOn more passed content → is_at_line_end content ≡ false → begins_separation content ≡ false → ⊥
   no_document_end more passed content col e gap on ends solid =
       let place : position_after a.site.position separation (46 ∷ 46 ∷ 46 ∷ more) ≡ here = ap (λ r. position_after a.site.position separation r) (sym e) ∙ sym s.here_is in
-      no_step (46 ∷ 46 ∷ 46 ∷ []) more document_end e refl ((refl, ap (λ (p : Position). p.col) place ∙ col, gap, (grind arith)), refl) (holds_more more passed content on ends solid)
+      no_step (46 ∷ 46 ∷ 46 ∷ []) more document_end e refl ((refl, ap (λ (p : Position). p.col) place ∙ col, gap, (grind arith)), refl) (grind (arith, nat_tests, eqb-true, neither, not_done, blanks_alone))
 
   -- ---- quoted scalars
 

@@ -103,11 +103,8 @@ module _ (a : Account) (separation rest : List ℕ) (here : Position) (s : StepA
       coll : Option ℕ
       coll = innermost (site_at_place a here).blocks
 
-      goes : goes_on true coll inside p (45 ∷ more) ≡ true
-      goes = ap (λ b. goes_on b coll inside p (45 ∷ more)) (sym flow) ∙ over
-
       own : is_whole_plain true coll (c ∷ (p ++ 45 ∷ [])) more ≡ true
-      own = rw (goes_both true coll inside p (45 ∷ []) more goes (dash_goes coll (stand_after inside p) more begins), content_end c p, flow_stops coll inside more begins) refl
+      own = rw (goes_both true coll inside p (45 ∷ []) more (ap (λ b. goes_on b coll inside p (45 ∷ more)) (sym flow) ∙ over) (dash_goes coll (stand_after inside p) more begins), content_end c p, flow_stops coll inside more begins) refl
 
       same : (s.step.piece ≡ c ∷ (p ++ 45 ∷ [])) × (next ≡ more)
       same = plains true coll s.step.piece (c ∷ (p ++ 45 ∷ [])) next more (ap (λ b. is_whole_plain b coll s.step.piece next) (sym flow) ∙ whole) own (s.text_is ∙ (cut ∙ ap (λ r. c ∷ r) (sym (append_assoc p (45 ∷ []) more))))

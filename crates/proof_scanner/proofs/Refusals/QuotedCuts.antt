@@ -19,9 +19,6 @@ record Begins (single : Bool) (c : ℕ) (b : List ℕ) (es : List Element) : Typ
   are : elements (element_of single) first.further b ≡ Some others
   all : es ≡ first.element ∷ others
 
-begins : (single : Bool) (c : ℕ) (b : List ℕ) (es : List Element) → elements (element_of single) 0 (c ∷ b) ≡ Some es → Begins single c b es
-begins single c b es h = grind arith
-
 own : (single : Bool) (c : ℕ) (b : List ℕ) (s : Spelled) → element_of single c b ≡ Some s → Local (element_of single c) b s
 own single c b s is = subst (λ o. LocalOf (element_of single c) b o) is (local single c b)
 
@@ -44,7 +41,7 @@ walk_of single least start G last k r no_feed marker zero [] es s p l h fit m en
           arrived (subst (λ x. (all_stand least (past_elements s x) p.col last ≡ true → is_marked p r ≡ false → k ≡ false → G (past_elements s x) p r) → all_stand least s p.col (x ++ last) ≡ true → G s p r) none (λ f x. f x g (sym own ∙ g)) end fit)
     ]
 walk_of single least start G last k r no_feed marker zero (c ∷ b) es s p l h fit m end =
-    let f : Begins single c b es = begins single c b es h in
+    let f : Begins single c b es = (grind arith) in
     let e : Spelled = f.first in
     let fits : e.further ≤ length b = enough single c b e f.is in
     let is : element_of single c (b ++ r) ≡ Some e = (own single c b e f.is).onward r no_feed in
@@ -193,7 +190,6 @@ module _ (single : Bool) (least : ℕ) (start : Position) where
   verdict_is s p text why at (by_column solid further low) = rw (solid, further, low) refl
   verdict_is s p text why at (by_tab next cut further low) = rw cut refl
 
-
   -- What is wrong first with a text is one thing at one position.
   pub one_reason : (s : LineStand) (p : Position) (text : List ℕ) (why1 why2 : Problem) (at1 at2 : Position) → Reason single least start s p text why1 at1 → Reason single least start s p text why2 at2 → (why1 ≡ why2) × (at1 ≡ at2)
   one_reason s p text why1 why2 at1 at2 x y = let m = meet _ _ (wrong_final why1 at1) (wrong_final why2 at2) s p text x y in by why1 why2 at1 at2 m.first m.second
@@ -207,7 +203,7 @@ module _ (single : Bool) (least : ℕ) (start : Position) where
   -- Nothing but a marker is wrong where a body stands whose lines are indented, and its closing quote.
   pub not_closed : (s : LineStand) (p : Position) (body next : List ℕ) (es : List Element) → ends_before single next ≡ true → elements (element_of single) 0 body ≡ Some es → all_stand least s p.col (es ++ before_quote (past_elements s es)) ≡ true
       → (why : Problem) (at : Position) → (why ≡ problem.QuotedDocumentMarker → ⊥) → Reason single least start s p (body ++ quote_of single ∷ next) why at → ⊥
-  not_closed s p body next es ends are fits why at unlike x = let m = meet _ _ (wrong_final why at) ends_final s p (body ++ quote_of single ∷ next) x walked in by why at unlike m.first m.second
+  not_closed s p body next es ends are fits why at unlike x = let m = meet _ _ (wrong_final why at) ends_final s p (body ++ quote_of single ∷ next) x (walk_of single least start Ends (before_quote (past_elements s es)) (marked_from p.col body (quote_of single ∷ next)) (quote_of single ∷ next) (grind arith) (λ t q y h i. inl h) 0 body es s p (omega arith) are fits refl (λ fit free k. inr (refl, fit))) in by why at unlike m.first m.second
     where
       -- a marker, or the closing quote
       Ends : LineStand → Position → List ℕ → Type 0
@@ -216,9 +212,6 @@ module _ (single : Bool) (least : ℕ) (start : Position) where
       ends_final : IsFinal Ends
       ends_final t q c b e is fit none (inl h) = cc (h, none)
       ends_final t q c b e is fit none (inr h) = quote_ends single next c b e ends (sym h.0) is
-
-      walked : Walk single least start Ends s p (body ++ quote_of single ∷ next)
-      walked = walk_of single least start Ends (before_quote (past_elements s es)) (marked_from p.col body (quote_of single ∷ next)) (quote_of single ∷ next) (grind arith) (λ t q y h i. inl h) 0 body es s p (omega arith) are fits refl (λ fit free k. inr (refl, fit))
 
       at_quote : (t : LineStand) (q : Position) (why : Problem) (at : Position) → all_stand least t q.col (before_quote t) ≡ true → Place single least start t q (quote_of single ∷ next) why at → ⊥
       at_quote t q why at fit h = grind arith

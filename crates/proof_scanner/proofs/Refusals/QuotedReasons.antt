@@ -34,9 +34,6 @@ fits_at least past_escaped k es = lines_from k least true (lines_of es)
 and_true : (b : Bool) → b ≡ (b && true)
 and_true a = grind arith
 
-pub and_assoc : (x y z : Bool) → ((x && y) && z) ≡ (x && (y && z))
-and_assoc a y z = grind arith
-
 deep_is : (k least : ℕ) → fits_from k least true [] ≡ not (nat_lt k least)
 deep_is k least = grind arith
 
@@ -44,13 +41,10 @@ blank_is : (k least c : ℕ) (holds : Bool) (bs : List ℕ) → fits_from k leas
 blank_is k least c holds bs = grind arith
 
 blanks_are : (k least c : ℕ) (e : Bool) (ls : Lines) → lines_from k least e (begun_with (blank c) ls) ≡ (not ((c == 9) && nat_lt k least) && lines_from (suc k) least false ls)
-blanks_are k least c e a = grind (arith, and_false, blank_is, lines_fit, has_more, and_assoc)
-
-further_begun : (least : ℕ) (e : Element) (ls : Lines) → further_lines_fit least (begun_with e ls) ≡ further_lines_fit least ls
-further_begun least e a = grind arith
+blanks_are k least c e a = grind (arith, and_false, blank_is, lines_fit, has_more)
 
 fits_past : (least : ℕ) (s : LineStand) (k : ℕ) (e : Element) (fs : List Element) → fits_at least s k (e ∷ fs) ≡ (stands least s k e && fits_at least (past_element s e) (column_past k e) fs)
-fits_past least a k b fs = grind (arith, further_begun, lines_here, and_false, and_true, blanks_are, lines_fit, empty_here, deep_is)
+fits_past least a k b fs = grind (arith, lines_here, and_false, and_true, blanks_are, lines_fit, empty_here, deep_is)
 
 -- an indented line fits
 spaces_fit : (n k least : ℕ) → least ≡ k + n → fits_at least at_start k (replicate n (blank 32)) ≡ true

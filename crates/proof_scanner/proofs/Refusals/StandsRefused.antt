@@ -165,9 +165,6 @@ module _ (a : Account) (separation rest : List ℕ) (here : Position) (s : StepA
   pub no_late_colon : (more : List ℕ) (begin : Position) (e : Entry) (es : List Entry) → rest ≡ 58 ∷ more → is_value_here a separation more ≡ true → a.entries ≡ e ∷ es → takes_pair e.kind e.pair ≡ true → e.had ≡ entry.waits begin → begin.line < here.line → ⊥
   no_late_colon more begin e es cut is are takes had late = by s.account.entries refl (subst (λ ds. LikeEntries ds s.account.entries) are s.is_like.2)
     where
-      late_there : begin.line < there.position.line
-      late_there = subst (λ (p : Position). begin.line < p.line) (sym s.position_is) late
-
       flowing : (fs : List Entry) → s.account.entries ≡ fs → may_stand (is_in_flow fs) s.account.site (At s.account s.step next) s.step.separation s.step.piece s.step.shown next ≡ may_stand (is_in_flow s.account.entries) s.account.site there s.step.separation s.step.piece s.step.shown next
       flowing fs i = ap (λ z. may_stand (is_in_flow z) s.account.site there s.step.separation s.step.piece s.step.shown next) (sym i)
 
@@ -184,7 +181,7 @@ module _ (a : Account) (separation rest : List ℕ) (here : Position) (s : StepA
           no_had : entry.had_after there.position (takes_pair d.kind d.pair) gives_colon s.step.key (entry.renewed (is_renewed s.account.site.before s.step.separation) gives_colon d.had) ≡ None
           no_had =
               ap (λ b. entry.had_after there.position b gives_colon s.step.key (entry.renewed (is_renewed s.account.site.before s.step.separation) gives_colon d.had)) single ∙
-              none_had there.position begin (is_renewed s.account.site.before s.step.separation) s.step.key d.had (subst (λ h. LikeHad h d.had) had like.0.2) late_there
+              none_had there.position begin (is_renewed s.account.site.before s.step.separation) s.step.key d.had (subst (λ h. LikeHad h d.had) had like.0.2) (subst (λ (p : Position). begin.line < p.line) (sym s.position_is) late)
 
           none_past : (o : Option Line) → past_piece there s.step.piece s.step.shown next (is_renewed s.account.site.before s.step.separation) s.step.key o (d ∷ ds) ≡ None
           none_past None = refl
@@ -249,9 +246,6 @@ module _ (a : Account) (separation rest : List ℕ) (here : Position) (s : StepA
       site_is : s.past.site ≡ site_past (is_in_flow s.account.entries) there s.step.piece s.step.shown next there.blocks
       site_is = node_site_past s.account s.step next s.past act s.is_past
 
-      blocks_are : s.past.site.blocks ≡ (site_at_place a here).blocks
-      blocks_are = ap (λ (x : Site). x.blocks) site_is ∙ ap (λ (x : Site). x.blocks) (node_site act)
-
       awaits_is : s.past.site.awaits ≡ (site_at_place a here).awaits
       awaits_is =
           ap (λ (x : Site). x.awaits) site_is ∙ (ap (λ t. awaits_past (is_in_flow s.account.entries) t there.blocks there.awaits next) (sym same.1) ∙
@@ -259,5 +253,5 @@ module _ (a : Account) (separation rest : List ℕ) (here : Position) (s : StepA
 
       tabbed_then : is_indented_by_spaces s.past.site.before s.past.site.blocks s.past.site.awaits gap ≡ false
       tabbed_then =
-          ap (λ b. is_indented_by_spaces b s.past.site.blocks s.past.site.awaits gap) (ap (λ (x : Site). x.before) site_is ∙ (ap previous_by (sym same.1) ∙ (node_token single (quoted_value single piece (gap ++ content) is)).1)) ∙ (ap (λ bs. is_indented_by_spaces quoted_scalar bs s.past.site.awaits gap) blocks_are ∙
+          ap (λ b. is_indented_by_spaces b s.past.site.blocks s.past.site.awaits gap) (ap (λ (x : Site). x.before) site_is ∙ (ap previous_by (sym same.1) ∙ (node_token single (quoted_value single piece (gap ++ content) is)).1)) ∙ (ap (λ bs. is_indented_by_spaces quoted_scalar bs s.past.site.awaits gap) (ap (λ (x : Site). x.blocks) site_is ∙ ap (λ (x : Site). x.blocks) (node_site act)) ∙
           (ap (λ w. is_indented_by_spaces quoted_scalar (site_at_place a here).blocks w gap) awaits_is ∙ tabbed_there))

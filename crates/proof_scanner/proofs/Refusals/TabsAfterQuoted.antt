@@ -34,15 +34,12 @@ module _ (text : List ℕ) (t : ScannerState) (a : Arrives text t) (some : is_em
     no_break : has_break spaces ≡ false
     no_break = sym (same_has_break spaces) ∙ c.spaces.no_break
 
-    start_in : IsIn quoted_scalar (least_column blocks awaits) between spaces v.held v.rest
-    start_in = inr (record { leading_is = λ i. ap (λ h. h.leading) c.spaces.is_held ∙ sym no_break; col_is = λ b. absurd (cc (b, no_break)); spaced = λ b. absurd (cc (b, no_break)) })
-
     tab_stuck : {f : Fault} → TabStands blocks awaits quoted_scalar spaces v.rest v.held.position f → Said text f
     tab_stuck d =
         subst (λ g. Said text g) (sym d.is_fault) (λ _. subst (λ p. IsWhy text problem.TabInBlockIndentation p) (sym place)
         (stuck text t a some [] problem.TabInBlockIndentation (position_after end gap d.rest) (λ k may.
         record {
-          fails = may_not_stand (defs.tab_after_quoted single scalar gap d.rest (q.cut ∙ ap (λ r. scalar ++ r) cut) (subst (λ r. defs_quoted r) cut (is text t a some lies single ctx x q same)) is_filled d.goes_on d.is_solid
+          fails = may_not_stand (defs.tab_after_quoted single scalar gap d.rest (q.cut ∙ ap (λ r. scalar ++ r) cut) (subst (λ r. (IsQuoted single scalar r)) cut (is text t a some lies single ctx x q same)) is_filled d.goes_on d.is_solid
               (ap (λ bs. is_indented_by_spaces quoted_scalar bs (site_at_place (account_by text t a some k []) t.held.position).awaits gap) (blocks_by text t a some k []) ∙
               (ap (λ w. is_indented_by_spaces quoted_scalar blocks w gap) (awaits_by text t a some k []) ∙ d.is_indented_by_tab)));
           is_first = (looked_at text t a some lies k [], subst (λ n. closed_first single n scalar) (sym (least_by text t a some k [])) (fits text t a some lies single ctx x q same), subst (λ r. begins_with 35 r ≡ false) cut (unglued (in_flow own.held) scalar x.rest c.may_end));
@@ -53,9 +50,6 @@ module _ (text : List ℕ) (t : ScannerState) (a : Arrives text t) (some : is_em
 
         cut : x.rest ≡ gap ++ d.rest
         cut = c.spaces.is_rest ∙ (sym (append_assoc c.spaces.blanks c.spaces.comment v.rest) ∙ (ap (λ r. spaces ++ r) d.cut ∙ sym (append_assoc spaces d.passed d.rest)))
-
-        defs_quoted : List ℕ → Type 0
-        defs_quoted r = IsQuoted single scalar r
 
         is_filled : is_separation false gap d.rest ≡ true
         is_filled = separation_append false spaces d.passed d.rest (subst (λ r. is_separation false spaces r ≡ true) d.cut c.spaces.is_filled) d.is_filled
@@ -69,7 +63,7 @@ module _ (text : List ℕ) (t : ScannerState) (a : Arrives text t) (some : is_em
             (sym (position_append x.position spaces d.passed d.rest) ∙ ap (λ p. position_after p gap d.rest) (q.end_is ∙ ap (λ r. position_after t.held.position scalar r) cut))
 
     told : Faults (Said text) (skip_to_next_token v)
-    told = by (skip_refused quoted_scalar blocks awaits spaces v (grind (arith, nat_tests, eqb-true, least_is, saved_is)) (λ _. start_in))
+    told = by (skip_refused quoted_scalar blocks awaits spaces v (grind (arith, nat_tests, eqb-true, least_is, saved_is)) (λ _. (inr (record { leading_is = λ i. ap (λ h. h.leading) c.spaces.is_held ∙ sym no_break; col_is = λ b. absurd (cc (b, no_break)); spaced = λ b. absurd (cc (b, no_break)) }))))
       where
         by : {r : Result ScannerState Fault} → Faults (TabStands blocks awaits quoted_scalar spaces v.rest v.held.position) r → Faults (Said text) r
         by (fault d) = fault (tab_stuck d)

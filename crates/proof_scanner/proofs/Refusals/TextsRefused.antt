@@ -221,14 +221,11 @@ module _ (a : Account) (separation rest : List ℕ) (here : Position) (s : StepA
       let first = directive_begins s.step.piece w.0 w.1 in
       let left : first.0 ++ next ≡ line ++ after = rest_of a separation rest here s 37 first.0 (line ++ after) first.1 e in
       let clean : has_no_nul (first.0 ++ next) ≡ true = ap has_no_nul left ∙ no_nul_more (line ++ after) (sym (ap has_no_nul e) ∙ s.is_clean) in
-      let same : first.0 ≡ line = one_line first.0 next line after left (inner first.0 (sym (ap has_no_break first.1) ∙ w.2)) (clean_end next w.3 (no_nul_after first.0 next clean)) one ends in
+      let same : first.0 ≡ line = one_line first.0 next line after left ((and_parts (not (is_break 37)) (has_no_break first.0) (sym (ap has_no_break first.1) ∙ w.2)).1) (clean_end next w.3 (no_nul_after first.0 next clean)) one ends in
       cc (none, ap (λ r. directive_of (37 ∷ r)) (sym same), ap directive_of (sym first.1), w.1)
     where
       no_nul_more : (r : List ℕ) → has_no_nul (37 ∷ r) ≡ true → has_no_nul r ≡ true
       no_nul_more r h = (and_parts (not (is_nul 37)) (has_no_nul r) h).1
-
-      inner : (r : List ℕ) → has_no_break (37 ∷ r) ≡ true → has_no_break r ≡ true
-      inner r h = (and_parts (not (is_break 37)) (has_no_break r) h).1
 
   block_here : (style : BlockStyle) (more : List ℕ) → is_in_flow a.entries ≡ false → rest ≡ indicator_of style ∷ more → Here block_scalar
   unfolding is_blank_or_end is_blank is_break is_nul is_flow
