@@ -6,7 +6,7 @@ use Rattle.yaml_tokens.specs.declared.problem.Problem.TheVariants as problem
 use Rattle.proof_scanner.specs.Failing as failing
 use Rattle.proof_scanner.proofs.Refusals.StandsRefused.{node_site_past}
 use Rattle.proof_scanner.proofs.Cut.Pieces.Separations.{gap_is_separation}
-use Rattle.proof_scanner.proofs.Refusals.OtherRows.{StepAt, IsClearAfter, IsClearGapAfter, no_tab_before}
+use Rattle.proof_scanner.proofs.Refusals.OtherRows.{StepAt, IsClearAfter, IsClearGapAfter, no_tab_before, step_from}
 use Rattle.proof_scanner.proofs.Refusals.PlainsRefused.{no_tab}
 use Rattle.proof_scanner.proofs.Refusals.StandsRefused.{node_token, quoted_value, same_quoted_value}
 use Rattle.proof_scanner.proofs.Sound.PlainKeeps.{no_comment}
@@ -40,25 +40,9 @@ module _ (J : Account → Account → Type 0) (R : Account → Account → List 
   abbrev pub next : List ℕ
   next = spelled g.steps (s2 ++ r2)
 
-  pub at : (g.step.separation ≡ s1) × (g.step.piece ++ next ≡ r1)
-  at = step_here g.account g.step next s1 r1 g.is_written g.spells p.is_filled p.is_solid (no_nul_after s1 r1 clean)
-
   -- the step by which a way goes on from a place
   abbrev pub step_of : StepAt a s1 r1 h1
-  step_of = record {
-    account = g.account;
-    is_like = g.is_like;
-    step = g.step;
-    next = next;
-    past = g.past;
-    is_written = g.is_written;
-    is_past = g.is_past;
-    separation_is = at.0;
-    text_is = at.1;
-    is_clean = no_nul_after s1 r1 clean;
-    here_is = p.is_here;
-    position_is = ap (λ s. position_after s.position g.step.separation (g.step.piece ++ next)) (sym g.is_like.0) ∙ (ap (λ f. position_after a.site.position f (g.step.piece ++ next)) at.0 ∙ (ap (λ z. position_after a.site.position s1 z) at.1 ∙ sym p.is_here));
-  }
+  step_of = step_from a g.account g.past s1 r1 next h1 g.step g.is_like g.is_written g.is_past g.spells p.is_filled p.is_solid (no_nul_after s1 r1 clean) p.is_here
 
 -- No TAB indents what comes after a step, where a way leads on to a place where none does.
 clear_way : (J : Account → Account → Type 0) → ((x y : Account) → J x y → x.site ≡ y.site) → (o b : Account) (vs : List Step) (s2 r2 gap content : List ℕ) → LeadsBy J (Some o) vs (s2 ++ r2) b → is_separation false s2 r2 ≡ true → begins_separation r2 ≡ false → (vs ≡ [] → is_indented_by_spaces b.site.before b.site.blocks b.site.awaits s2 ≡ true)

@@ -125,12 +125,7 @@ module _ (s : Setting) (here : Position) (rest : List ℕ) where
   lines_reason single why at lacks (quoted_lines.by_tab body more es cut has begins low) f = quoted_reason single (body ++ tab ∷ more) why at cut (quoted.no_quoted single why at lacks (quoted_lines.by_tab body more es cut has begins low) f)
 
   block_begins_here : s.in_flow ≡ false → (piece next : List ℕ) → rest ≡ piece ++ next → begins_block piece ≡ true → kind_here s here.col rest ≡ block_scalar
-  block_begins_here out [] next e h = absurd (cc h)
-  block_begins_here out (c ∷ p) next e h = ap (λ r. kind_here s here.col r) e ∙ by (c == 124) (c == 62) refl refl h
-    where
-      by : (x y : Bool) → (c == 124) ≡ x → (c == 62) ≡ y → (x || y) ≡ true → kind_here s here.col (c ∷ (p ++ next)) ≡ block_scalar
-      by true y i j h = ap (λ d. kind_here s here.col (d ∷ (p ++ next))) (eqb-true c 124 i) ∙ block_kind s here.col literal (p ++ next) out
-      by false a i j h = grind (arith, p, next, eqb-true, block_kind, folded, out)
+  block_begins_here out a next e h = grind (arith, block_scalar, eqb-true, block_kind, literal, folded)
 
   block_at : s.in_flow ≡ false → (why : Problem) (at : Position) → IsBlockFault s.blocks here rest why at → kind_here s here.col rest ≡ block_scalar
   block_at out why at (none.by_tab piece header more h cut one is) =

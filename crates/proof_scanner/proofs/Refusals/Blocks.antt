@@ -17,7 +17,7 @@ use Rattle.proof_scanner.proofs.Refusals.AfterBlocks.{block_is_clear, lines_aske
 use Rattle.proof_scanner.specs.NoPiece as none
 use Rattle.proof_scanner.proofs.Refusals.Faults.{Faults, goes, read}
 use Rattle.proof_scanner.proofs.Refusals.TextsRefused.{header_alone}
-use Rattle.proof_scanner.proofs.Refusals.Places.{Said, IsWhy, LiesDeep, account_by, stuck, in_flow_is, blocks_by, looked_at, none_begins, none_here}
+use Rattle.proof_scanner.proofs.Refusals.Places.{Said, IsWhy, LiesDeep, account_by, stuck, in_flow_is, blocks_by, looked_at, none_begins, none_here, stuck_by}
 
 -- ---- texts
 
@@ -76,6 +76,12 @@ piece_tab_fault collection o here text piece next b e is tabbed =
 
 -- ---- what stands after a scalar without content
 
+untabbed_by : (h : List ℕ) (ls : List (List ℕ)) (t : Bool) → (scan.is_single (h ∷ ls) && t) ≡ false → not (is_empty ls && t) ≡ true
+untabbed_by h ls t i = grind arith
+
+rest_fails : (t y l d : Bool) → t ≡ true → (t && (not y || l || d)) ≡ false → (y ≡ true) × (l ≡ false) × (d ≡ false)
+rest_fails t y l d e k = grind arith
+
 column_fault : (indent : ℕ) (bs : List ℕ) (here : Position) (text piece next : List ℕ) (b : BlockRead) → IsLeast indent bs → text ≡ piece ++ next → has_no_nul next ≡ true → block_read (collection_of indent) piece next ≡ Some b → is_tabbed piece next ≡ false → is_shallow indent here b piece next ≡ true
     → FirstFault bs here text problem.BlockScalarIndentation (scan.further_position here piece next)
 column_fault indent bs here text piece next b least e clean is untabbed low = by (is_at_end next) refl (refused (block_may_end bs piece next) refl)
@@ -86,7 +92,9 @@ column_fault indent bs here text piece next b least e clean is untabbed low = by
 
     by : (x : Bool) → is_at_end next ≡ x → (x || read_may_end bs (block_read (innermost bs) piece next) piece next) ≡ false → FirstFault bs here text problem.BlockScalarIndentation (scan.further_position here piece next)
     by true further k = absurd (cc k)
-    by false further k = parts (not (is_empty (texts w.lines) && begins_with tab next)) (are_empty b.column (texts w.lines)) (nat_lt (leading_spaces next) (least_column bs true)) (nat_le b.column (leading_spaces next)) refl refl refl refl (lines_asked indent b piece next bs least is w ∙ k)
+    by false further k =
+        let q = rest_fails (not (is_empty (texts w.lines) && begins_with tab next)) (are_empty b.column (texts w.lines)) (nat_lt (leading_spaces next) (least_column bs true)) (nat_le b.column (leading_spaces next)) no_tab (lines_asked indent b piece next bs least is w ∙ k) in
+        (none.by_column piece w.header.text next (texts w.lines) b e read_here further (lines_written piece next w) q.0 (grind (arith, nat_tests, q)) (grind (arith, nat_tests, q)), no_tab_fault)
       where
         w : Written piece next
         w = written (collection_of indent) piece next b is further
@@ -94,8 +102,8 @@ column_fault indent bs here text piece next b least e clean is untabbed low = by
         read_here : block_read (innermost bs) piece next ≡ Some b
         read_here = ap (λ c. block_read c piece next) (sym least.0) ∙ is
 
-        untabbed_by : (h : List ℕ) (ls : List (List ℕ)) (t : Bool) → (scan.is_single (h ∷ ls) && t) ≡ false → not (is_empty ls && t) ≡ true
-        untabbed_by h ls t i = grind arith
+        no_tab : not (is_empty (texts w.lines) && begins_with tab next) ≡ true
+        no_tab = untabbed_by w.header.text (texts w.lines) (begins_with tab next) (ap (λ x. scan.is_single x && begins_with tab next) (sym (lines_written piece next w)) ∙ untabbed)
 
         -- no TAB stands after the header
         no_tab_fault : (place : Position) → IsBlockFault bs here text problem.BlockScalarTab place → ⊥
@@ -103,14 +111,6 @@ column_fault indent bs here text piece next b least e clean is untabbed low = by
             let alone = header_alone (innermost bs) header more own piece next b (sym e ∙ cut) one clean read_here in
             let tabbed : is_tabbed piece next ≡ true = rw (alone.0, alone.1, one) refl in
             cc (tabbed, untabbed)
-
-        parts : (t y l d : Bool) → not (is_empty (texts w.lines) && begins_with tab next) ≡ t → are_empty b.column (texts w.lines) ≡ y → nat_lt (leading_spaces next) (least_column bs true) ≡ l → nat_le b.column (leading_spaces next) ≡ d → (t && (not y || l || d)) ≡ false
-            → FirstFault bs here text problem.BlockScalarIndentation (scan.further_position here piece next)
-        parts false y l d f g i j k = absurd (cc (f, (untabbed_by w.header.text (texts w.lines) (begins_with tab next) (ap (λ x. scan.is_single x && begins_with tab next) (sym (lines_written piece next w)) ∙ untabbed))))
-        parts true false l d f g i j k = absurd (cc k)
-        parts true true true d f g i j k = absurd (cc k)
-        parts true true false true f g i j k = absurd (cc k)
-        parts true true false false f g i j k = (none.by_column piece w.header.text next (texts w.lines) b e read_here further (lines_written piece next w) g (grind (arith, nat_tests, i)) (grind (arith, nat_tests, j)), no_tab_fault)
 
 -- ---- the scan
 
@@ -125,9 +125,8 @@ module _ (text : List ℕ) (t : ScannerState) (a : Arrives text t) (some : is_em
   -- the block scalar that begins here may not stand
   block_stuck : (why : Problem) (at : Position) → FirstFault collections t.held.position t.rest why at → IsWhy text why at
   block_stuck why at x =
-      stuck text t a some [] why at (λ c may.
-      let moved : FirstFault (site_at_place (account_by text t a some c []) t.held.position).blocks t.held.position t.rest why at = subst (λ bs. FirstFault bs t.held.position t.rest why at) (sym (blocks_by text t a some c [])) x in
-      record { fails = no_block (in_flow_is text t a some c [] ∙ ap not out) moved.0; is_first = (looked_at text t a some lies c [], moved.1) })
+      stuck_by text t a some why at (λ b bs k. (l : b ≡ false) × (y : IsBlockFault bs t.held.position t.rest why at) × block_first bs t.held.position t.rest why at y) (ap not out, x.0, x.1)
+      (λ c may m. record { fails = no_block m.0 m.1; is_first = (looked_at text t a some lies c [], m.2) })
 
   -- `|` or `>`
   header_told : (style : BlockStyle) (line after : List ℕ) → t.rest ≡ indicator_of style ∷ (line ++ after) → is_in_line line ≡ true → headers.ends_line after ≡ true → (g : Fault) → headers.IsHeaderRefusal t.held.position style line after g → Said text g

@@ -33,3 +33,7 @@ checked false f p h = h refl
 
 pub either : {F : Fault → Type 0} {A : Type 0} {r q : Result A Fault} (b : Bool) → (b ≡ true → Faults F r) → (b ≡ false → Faults F q) → Faults F (if b then r else q)
 either a h g = grind (arith, nat_tests, eqb-true)
+
+pub mapped : {F G : Fault → Type 0} {A : Type 0} {r : Result A Fault} → ((f : Fault) → F f → G f) → Faults F r → Faults G r
+mapped h (fault p) = fault (h _ p)
+mapped h goes = goes

@@ -10,7 +10,7 @@ use Rattle.proof_scanner.proofs.Sound.Passed.{least_of_levels}
 use Rattle.proof_scanner.proofs.Refusals.Levels.{levels_end}
 use Rattle.proof_scanner.specs.Failing as defs
 use Rattle.proof_scanner.proofs.Refusals.Faults.{Faults, fault, tried, either}
-use Rattle.proof_scanner.proofs.Refusals.Places.{IsRowless, Said, IsWhy, LiesDeep, account_by, rowless_told, stuck, in_flow_is, none_here}
+use Rattle.proof_scanner.proofs.Refusals.Places.{IsRowless, Said, IsWhy, LiesDeep, account_by, rowless_told, stuck, in_flow_is, none_here, stuck_by}
 use Rattle.proof_scanner.proofs.Refusals.Nodes.{name_told, tag_told, quoted_told}
 use Rattle.proof_scanner.proofs.Refusals.Blocks.{block_told}
 use Rattle.proof_scanner.proofs.Refusals.Plains.{plain_told}
@@ -47,9 +47,6 @@ module _ (text : List ℕ) (t : ScannerState) (a : Arrives text t) (some : is_em
 
   -- ---- columns
 
-  least_here : (i : ℕ) (ds : List Indent) → AreLevels i ds → nat_lt (t.held.position.col + 1) i ≡ true → nat_le (least_column (columns i ds) (has_open_level ds)) t.held.position.col ≡ false
-  least_here i a l b = grind (arith, least_of_levels)
-
   shallow : begins_document_at t.held.position t.rest ≡ false → nat_lt (t.held.position.col + 1) t.held.indent ≡ true → IsWhy text problem.InvalidIndentation t.held.position
   shallow none low = by (is_empty t.held.flow) refl
     where
@@ -60,16 +57,8 @@ module _ (text : List ℕ) (t : ScannerState) (a : Arrives text t) (some : is_em
           (subst (λ b. (site_here (not b) t.held.position a.base.site).awaits ≡ has_open_level t.held.indents) e a.awaits_is) in
           absurd (grind (arith, nat_tests, deep, low))
       by false e =
-          stuck text t a some [] problem.InvalidIndentation t.held.position (λ c may.
-          let flow_is = in_flow_is text t a some c [] in
-          let blocks_are : (site_at_place (account_by text t a some c []) t.held.position).blocks ≡ columns t.held.indent t.held.indents = ap (λ b. (site_in b gives_node t.held.position a.base.site).blocks) flow_is ∙ a.blocks_are in
-          let awaits_is : (site_at_place (account_by text t a some c []) t.held.position).awaits ≡ has_open_level t.held.indents = ap (λ b. (site_in b gives_node t.held.position a.base.site).awaits) flow_is ∙ a.awaits_is in
-          record {
-            is_first = a.is_indented some;
-            fails = may_not_stand (defs.shallow (flow_is ∙ ap not e) none
-                (ap (λ bs. nat_le (least_column bs (site_at_place (account_by text t a some c []) t.held.position).awaits) t.held.position.col) blocks_are ∙
-                (ap (λ w. nat_le (least_column (columns t.held.indent t.held.indents) w) t.held.position.col) awaits_is ∙ least_here t.held.indent t.held.indents a.are_levels low)));
-          })
+          stuck_by text t a some problem.InvalidIndentation t.held.position (λ b bs k. (b ≡ true) × (nat_le k t.held.position.col ≡ false)) (ap not e, grind (arith, nat_tests, low))
+          (λ c may m. record { is_first = a.is_indented some; fails = may_not_stand (defs.shallow m.0 none m.1) })
 
   content_told : Faults (Said text) (fetch_content t)
   unfolding are_marks

@@ -89,17 +89,11 @@ module _ (text : List ℕ) (t : ScannerState) (a : Arrives text t) (some : is_em
 
   end_checked : (u v : ScannerState) (more : List ℕ) → t.rest ≡ 46 ∷ 46 ∷ 46 ∷ more → is_at_gap more ≡ true → t.held.position.col ≡ 0 → (u.rest ≡ more) × (u.held.position ≡ further 3 t.held.position) → Spaced Yes u v → Faults (Said text) (check_document_end v)
   unfolding check_document_end
-  end_checked u v more e gap col m s = by (is_breakz (peek v.rest)) refl
-    where
-      passed : List ℕ
-      passed = s.blanks ++ s.comment
-
-      by : (b : Bool) → is_breakz (peek v.rest) ≡ b → Faults (Said text) (if b then Ok v else Err (At problem.ContentAfterDocumentEnd v.held.position))
-      by true i = goes
-      by false i =
-          fault {f = At problem.ContentAfterDocumentEnd v.held.position} (followed_at problem.ContentAfterDocumentEnd v.held.position (further 3 t.held.position) (s.blanks ++ s.comment) v.rest
-          (ap (λ h. h.position) s.is_held ∙ ap (λ q. position_after q (s.blanks ++ s.comment) v.rest) m.1)
-          (none.after_end more (s.blanks ++ s.comment) v.rest col e gap (record { is_text = sym m.0 ∙ (s.is_rest ∙ sym (append_assoc s.blanks s.comment v.rest)); is_filled = s.is_filled; is_on_line = s.no_break }) (not_at_end v.rest i) (solid_past v.rest s.ends i)) (λ c may. tt))
+  end_checked u v more e gap col m s =
+      either (is_breakz (peek v.rest)) (λ _. goes) (λ i.
+      fault {f = At problem.ContentAfterDocumentEnd v.held.position} (followed_at problem.ContentAfterDocumentEnd v.held.position (further 3 t.held.position) (s.blanks ++ s.comment) v.rest
+      (ap (λ h. h.position) s.is_held ∙ ap (λ q. position_after q (s.blanks ++ s.comment) v.rest) m.1)
+      (none.after_end more (s.blanks ++ s.comment) v.rest col e gap (record { is_text = sym m.0 ∙ (s.is_rest ∙ sym (append_assoc s.blanks s.comment v.rest)); is_filled = s.is_filled; is_on_line = s.no_break }) (not_at_end v.rest i) (solid_past v.rest s.ends i)) (λ c may. tt)))
 
   pub document_end_told : (more : List ℕ) → t.rest ≡ 46 ∷ 46 ∷ 46 ∷ more → is_at_gap more ≡ true → t.held.position.col ≡ 0 → Faults (Said text) (fetch_document_end t)
   unfolding fetch_document_end
@@ -241,40 +235,23 @@ module _ (text : List ℕ) (t : ScannerState) (a : Arrives text t) (some : is_em
           (followed_at problem.WhitespaceExpected u.held.position (further 1 t.held.position) [] more place
           (none.no_space more [] more e gap (record { is_text = refl; is_filled = refl; is_on_line = refl }) m.no_space m.ends) (λ c may. (asks asked c may, refl))))
 
+  tab_first : (r : List ℕ) → (peek r == 9) ≡ true → r ≡ 9 ∷ after r
+  tab_first r h = grind arith
+
   space_checked : (in_flow t.held || t.held.key_allowed) ≡ true → (more : List ℕ) → t.rest ≡ 63 ∷ more → is_at_gap more ≡ true → (u w : ScannerState) → u.rest ≡ more → u.held.position ≡ past t.held.position → skip_yaml_whitespace u ≡ Ok w → Faults (Said text) (check_key_space w)
   unfolding skip_yaml_whitespace check_key_space
-  space_checked asked more e gap u w left place k = by exact.0
-    where
-      exact : (w ≡ past_white_space u) × (is_separation false (white_of false u.rest) (past_white false u.rest) ≡ true)
-      exact = held_of w (white_exactly u) k
-
-      begins : begins_with_space_or_break more ≡ true
-      begins = held_of w (white_first more u.held gap) (ap (λ r. white false false r u.held) (sym left) ∙ k)
-
-      separation : List ℕ
-      separation = white_of false u.rest
-
-      rest : List ℕ
-      rest = past_white false u.rest
-
-      tab_first : (r : List ℕ) → (peek r == 9) ≡ true → r ≡ 9 ∷ after r
-      tab_first r h = grind arith
-
-      checked_by : (b : Bool) (q : Position) (v : ScannerState) → (b ≡ true → Said text (At problem.TabAfterKey q)) → Faults (Said text) (if b then Err (At problem.TabAfterKey q) else Ok v)
-      checked_by a q v why = grind (arith, fault, goes)
-
-      reason : (peek rest == 9) ≡ true → Said text (At problem.TabAfterKey (position_after u.held.position separation rest))
-      reason tab =
-          let first = tab_first rest tab in
-          followed_at problem.TabAfterKey (position_after u.held.position separation rest) (further 1 t.held.position) separation (9 ∷ after rest)
-          (ap (λ q. position_after q separation rest) place ∙ ap (λ r. position_after (further 1 t.held.position) separation r) first)
-          (none.tab_after_question more separation (after rest) e gap (sym left ∙ (white_cut false u.rest ∙ ap (λ r. separation ++ r) first)) (subst (λ r. is_separation false separation r ≡ true) first exact.1))
-          (λ c may. (asks asked c may, begins, no_tab_in false u.rest))
-
-      by : w ≡ past_white_space u → Faults (Said text) (if peek w.rest == 9 then Err (At problem.TabAfterKey w.held.position) else Ok w)
-      by same =
-          subst (λ (z : ScannerState). Faults (Said text) (if peek z.rest == 9 then Err (At problem.TabAfterKey z.held.position) else Ok z)) (sym same)
-          (checked (peek rest == 9) (At problem.TabAfterKey (position_after u.held.position separation rest)) reason (λ _. goes))
+  space_checked asked more e gap u w left place k =
+      let exact : (w ≡ past_white_space u) × (is_separation false (white_of false u.rest) (past_white false u.rest) ≡ true) = held_of w (white_exactly u) k in
+      let begins : begins_with_space_or_break more ≡ true = held_of w (white_first more u.held gap) (ap (λ r. white false false r u.held) (sym left) ∙ k) in
+      let separation : List ℕ = white_of false u.rest in
+      let rest : List ℕ = past_white false u.rest in
+      subst (λ (z : ScannerState). Faults (Said text) (if peek z.rest == 9 then Err (At problem.TabAfterKey z.held.position) else Ok z)) (sym exact.0)
+      (checked (peek rest == 9) (At problem.TabAfterKey (position_after u.held.position separation rest)) (λ tab.
+      let first : rest ≡ 9 ∷ after rest = tab_first rest tab in
+      followed_at problem.TabAfterKey (position_after u.held.position separation rest) (further 1 t.held.position) separation (9 ∷ after rest)
+      (ap (λ q. position_after q separation rest) place ∙ ap (λ r. position_after (further 1 t.held.position) separation r) first)
+      (none.tab_after_question more separation (after rest) e gap (sym left ∙ (white_cut false u.rest ∙ ap (λ r. separation ++ r) first)) (subst (λ r. is_separation false separation r ≡ true) first exact.1))
+      (λ c may. (asks asked c may, begins, no_tab_in false u.rest))) (λ _. goes))
 
   pub question_told : (more : List ℕ) → t.rest ≡ 63 ∷ more → is_at_gap more ≡ true → Faults (Said text) (fetch_key t)
   unfolding fetch_key
@@ -341,31 +318,20 @@ module _ (text : List ℕ) (t : ScannerState) (a : Arrives text t) (some : is_em
 
   tab_checked : (more : List ℕ) → t.rest ≡ 58 ∷ more → begins_with 9 more ≡ true → (h : Held) → h.position ≡ past t.held.position → (x : Read Whitespace) → space Yes more h.position ≡ Ok x → Faults (Said text) (check_after_tab x.value (go_on x h))
   unfolding check_after_tab is_alpha is_alphanumeric
-  tab_checked more e tab h place x k = by (let exact = spaced_parted more h.position (no_hash more tab) in cc (exact, k))
-    where
-      no_hash : (l : List ℕ) → begins_with 9 l ≡ true → begins_with 35 l ≡ false
-      no_hash l h = grind arith
-
-      letter : (r : List ℕ) → ((peek r == 45) || is_alpha (peek r)) ≡ true → begins_with_alpha r ≡ true
-      letter r h = grind (arith, same_alpha)
-
-      found : (is_one_of (leading is_blank more) 32) ≡ false → begins_with_alpha (past_blanks_and_comment more) ≡ true → Said text (At problem.TabAfterColon (past_line_rest h.position more))
-      found lacks alpha =
-          followed_at problem.TabAfterColon _ (further 1 t.held.position) (blanks_and_comment more) (past_blanks_and_comment more)
-          (same_in_line h.position (blanks_and_comment more) [] (past_blanks_and_comment more) (line_rest_in_line more) ∙ ap (λ q. position_after q (blanks_and_comment more) (past_blanks_and_comment more)) place)
-          (none.tab_after_colon more (blanks_and_comment more) (past_blanks_and_comment more) e tab
-          (record { is_text = line_rest_cut more; is_filled = line_rest_fills more; is_on_line = same_has_break (blanks_and_comment more) ∙ ap not (line_rest_in_line more) })
-          (no_space (leading is_blank more) (tags.after is_blank more) lacks alpha) alpha) (λ c may. tt)
-
-      exactly : Read Whitespace
-      exactly = record { rest = past_blanks_and_comment more; position = past_line_rest h.position more; value = found_in (leading is_blank more) }
-
-      by : exactly ≡ x → Faults (Said text) (if not x.value.has_valid_yaml_ws && ((peek x.rest == 45) || is_alpha (peek x.rest)) then Err (At problem.TabAfterColon x.position) else Ok (go_on x h))
-      by same =
-          subst (λ (z : Read Whitespace). Faults (Said text) (if not z.value.has_valid_yaml_ws && ((peek z.rest == 45) || is_alpha (peek z.rest)) then Err (At problem.TabAfterColon z.position) else Ok (go_on z h))) same
-          (checked (not (is_one_of (leading is_blank more) 32) && ((peek (past_blanks_and_comment more) == 45) || is_alpha (peek (past_blanks_and_comment more)))) (At problem.TabAfterColon (past_line_rest h.position more)) (λ all.
-          let first = and_parts (not (is_one_of (leading is_blank more) 32)) ((peek (past_blanks_and_comment more) == 45) || is_alpha (peek (past_blanks_and_comment more))) all in
-          found (not-true (is_one_of (leading is_blank more) 32) first.0) (letter (past_blanks_and_comment more) first.1)) (λ _. goes))
+  tab_checked more e tab h place x k =
+      let exact = spaced_parted more h.position (grind arith) in
+      let exactly : Read Whitespace = record { rest = past_blanks_and_comment more; position = past_line_rest h.position more; value = found_in (leading is_blank more) } in
+      let same : exactly ≡ x = cc (exact, k) in
+      let letter : (r : List ℕ) → ((peek r == 45) || is_alpha (peek r)) ≡ true → begins_with_alpha r ≡ true = λ r f. grind (arith, same_alpha) in
+      subst (λ (z : Read Whitespace). Faults (Said text) (if not z.value.has_valid_yaml_ws && ((peek z.rest == 45) || is_alpha (peek z.rest)) then Err (At problem.TabAfterColon z.position) else Ok (go_on z h))) same
+      (checked (not (is_one_of (leading is_blank more) 32) && ((peek (past_blanks_and_comment more) == 45) || is_alpha (peek (past_blanks_and_comment more)))) (At problem.TabAfterColon (past_line_rest h.position more)) (λ all.
+      let first = and_parts (not (is_one_of (leading is_blank more) 32)) ((peek (past_blanks_and_comment more) == 45) || is_alpha (peek (past_blanks_and_comment more))) all in
+      let alpha : begins_with_alpha (past_blanks_and_comment more) ≡ true = letter (past_blanks_and_comment more) first.1 in
+      followed_at problem.TabAfterColon _ (further 1 t.held.position) (blanks_and_comment more) (past_blanks_and_comment more)
+      (same_in_line h.position (blanks_and_comment more) [] (past_blanks_and_comment more) (line_rest_in_line more) ∙ ap (λ q. position_after q (blanks_and_comment more) (past_blanks_and_comment more)) place)
+      (none.tab_after_colon more (blanks_and_comment more) (past_blanks_and_comment more) e tab
+      (record { is_text = line_rest_cut more; is_filled = line_rest_fills more; is_on_line = same_has_break (blanks_and_comment more) ∙ ap not (line_rest_in_line more) })
+      (no_space (leading is_blank more) (tags.after is_blank more) (not-true (is_one_of (leading is_blank more) 32) first.0) alpha) alpha) (λ c may. tt)) (λ _. goes))
 
   value_checked : (more : List ℕ) → t.rest ≡ 58 ∷ more → (u : ScannerState) → u.rest ≡ more → u.held.position ≡ past t.held.position → Faults (Said text) (check_value_space u)
   unfolding check_value_space

@@ -70,6 +70,26 @@ clear_on b (v ∷ vs) last gap content row e fills solid some clean = by (accoun
     by None i k = absurd k
     by (Some c) i k = subst (λ f. is_indented_by_spaces b.site.before b.site.blocks b.site.awaits f ≡ true) (step_here b v (spelled vs last) gap content row.0 e fills solid clean).0 (no_tab_before b v (spelled vs last) c i)
 
+-- The step of a row, or of a way, that goes on from a place.
+abbrev pub step_from : (a b c : Account) (separation rest next : List ℕ) (here : Position) (w : Step) → IsLike a b → IsWritten b w next → account_past b w next ≡ Some c → w.separation ++ (w.piece ++ next) ≡ separation ++ rest → is_separation false separation rest ≡ true → begins_separation rest ≡ false → has_no_nul rest ≡ true → here ≡ position_after a.site.position separation rest
+    → StepAt a separation rest here
+step_from a b c separation rest next here w like written past e filled solid clean here_is =
+    let at : (w.separation ≡ separation) × (w.piece ++ next ≡ rest) = step_here b w next separation rest written e filled solid clean in
+    record {
+      account = b;
+      is_like = like;
+      step = w;
+      next = next;
+      past = c;
+      is_written = written;
+      is_past = past;
+      separation_is = at.0;
+      text_is = at.1;
+      is_clean = clean;
+      here_is = here_is;
+      position_is = ap (λ s. position_after s.position w.separation (w.piece ++ next)) (sym like.0) ∙ (ap (λ f. position_after a.site.position f (w.piece ++ next)) at.0 ∙ (ap (λ z. position_after a.site.position separation z) at.1 ∙ sym here_is));
+    }
+
 pub row_at : (text separation rest : List ℕ) (a : Account) (here : Position) (r : Row) → IsPlace text a separation rest here → begins_separation rest ≡ false → is_empty rest ≡ false → HasRow text r → RowAt text a separation rest here
 row_at text separation rest a here r p solid some h = by g.steps g.is_row g.spells
   where
@@ -92,18 +112,5 @@ row_at text separation rest a here r p solid some h = by g.steps g.is_row g.spel
           begins = g.holds;
           is_clear = λ gap content cut fills solid_there some_there.
               clear_on b ws g.last gap content k cut fills solid_there some_there (no_nul_after gap content (subst (λ n. has_no_nul n ≡ true) cut (no_nul_after w.piece (spelled ws g.last) (subst (λ n. has_no_nul n ≡ true) (sym at.1) clean))));
-          step_at = record {
-            account = g.account;
-            is_like = g.is_like;
-            step = w;
-            next = spelled ws g.last;
-            past = b;
-            is_written = row.0;
-            is_past = i;
-            separation_is = at.0;
-            text_is = at.1;
-            is_clean = clean;
-            here_is = p.is_here;
-            position_is = ap (λ s. position_after s.position w.separation (w.piece ++ spelled ws g.last)) (sym g.is_like.0) ∙ (ap (λ f. position_after a.site.position f (w.piece ++ spelled ws g.last)) at.0 ∙ (ap (λ z. position_after a.site.position separation z) at.1 ∙ sym p.is_here));
-          };
+          step_at = step_from a g.account b separation rest (spelled ws g.last) here w g.is_like row.0 i e p.is_filled solid clean p.is_here;
         }

@@ -9,7 +9,7 @@ use Rattle.proof_scanner.proofs.Sound.Stales.{no_entries}
 use Rattle.proof_scanner.proofs.Sound.ToToken.{is_in}
 use Rattle.proof_scanner.specs.Failing as defs
 use Rattle.proof_scanner.proofs.Sound.StreamEnds.{same_flow}
-use Rattle.proof_scanner.proofs.Refusals.Faults.{Faults, fault, goes}
+use Rattle.proof_scanner.proofs.Refusals.Faults.{Faults, fault, goes, mapped}
 use Rattle.proof_scanner.proofs.Refusals.Places.{entries_alike, Said, IsWhy, Where, placed, behind, where_is}
 use Rattle.proof_scanner.proofs.Refusals.Tabs.{TabStands, skip_refused}
 
@@ -110,8 +110,4 @@ module _ (text : List ℕ) (t : ScannerState) (s : Stands text t) (near : HasNea
 
   pub passing_told : Faults (Said text) (skip_to_next_token t)
   passing_told =
-      by (skip_refused s.base.site.before s.base.site.blocks s.base.site.awaits s.separation t (least_is s.base.site.blocks s.base.site.awaits t.held s.blocks_are s.awaits_is s.are_levels) (λ h. is_in text t s h))
-    where
-      by : {r : Result ScannerState Fault} → Faults (TabStands s.base.site.blocks s.base.site.awaits s.base.site.before s.separation t.rest t.held.position) r → Faults (Said text) r
-      by (fault d) = fault (tab_stuck d)
-      by goes = goes
+      mapped (λ f d. tab_stuck d) (skip_refused s.base.site.before s.base.site.blocks s.base.site.awaits s.separation t (least_is s.base.site.blocks s.base.site.awaits t.held s.blocks_are s.awaits_is s.are_levels) (λ h. is_in text t s h))

@@ -105,6 +105,15 @@ module _ (text : List ℕ) (t : ScannerState) (a : Arrives text t) (some : is_em
   pub least_by : (c : Bool) (cs : List Bool) → least_here (account_by text t a some c cs) t.held.position ≡ t.held.indent - 1
   least_by c cs = grind arith
 
+  -- What fails by what is so of the place in the scanner's words is what the text is stuck by.
+  pub stuck_by : (why : Problem) (at : Position) (F : Bool → List ℕ → ℕ → Type 0) → F (in_flow t.held) (columns t.held.indent t.held.indents) (t.held.indent - 1)
+      → ((c : Bool) → IsAllowed text t a some c → F (is_in_flow (account_by text t a some c []).entries) (site_at_place (account_by text t a some c []) t.held.position).blocks (least_here (account_by text t a some c []) t.held.position)
+      → FailsFirst (account_by text t a some c []) a.separation t.held.position t.rest why at) → IsWhy text why at
+  stuck_by why at F x first =
+      stuck text t a some [] why at (λ c may.
+      first c may (subst (λ b. F b (site_at_place (account_by text t a some c []) t.held.position).blocks (least_here (account_by text t a some c []) t.held.position)) (sym (in_flow_is text t a some c []))
+      (subst (λ bs. F (in_flow t.held) bs (least_here (account_by text t a some c []) t.held.position)) (sym (blocks_by c [])) (subst (λ k. F (in_flow t.held) (columns t.held.indent t.held.indents) k) (sym (least_by c [])) x))))
+
 module _ (text : List ℕ) (t : ScannerState) (a : Arrives text t) (some : is_empty t.rest ≡ false) (deep : LiesDeep t) where
   -- a piece is looked at here, whatever is chosen
   pub looked_at : (c : Bool) (cs : List Bool) → IsLookedAt (account_by text t a some c cs) a.separation t.held.position t.rest
@@ -112,12 +121,7 @@ module _ (text : List ℕ) (t : ScannerState) (a : Arrives text t) (some : is_em
 
   -- where no piece begins the text is stuck
   pub none_begins : (why : Problem) (at : Position) (n : NoPiece (in_flow t.held) t.held.position t.rest why at) → no_piece_first (in_flow t.held) (t.held.indent - 1) t.held.position t.rest why at n → IsWhy text why at
-  none_begins why at n first =
-      stuck text t a some [] why at (λ c may.
-      let P : Bool → ℕ → Type 0 = λ b k. (x : NoPiece b t.held.position t.rest why at) × no_piece_first b k t.held.position t.rest why at x in
-      let moved : P (is_in_flow (account_by text t a some c []).entries) (least_here (account_by text t a some c []) t.held.position) =
-      subst (λ k. P (is_in_flow (account_by text t a some c []).entries) k) (sym (least_by text t a some c [])) (subst (λ b. P b (t.held.indent - 1)) (sym (in_flow_is text t a some c [])) (n, first)) in
-      record { fails = no_piece moved.0; is_first = (looked_at c [], moved.1) })
+  none_begins why at n first = stuck_by text t a some why at (λ b bs k. (x : NoPiece b t.held.position t.rest why at) × no_piece_first b k t.held.position t.rest why at x) (n, first) (λ c may m. record { fails = no_piece m.0; is_first = (looked_at c [], m.1) })
 
   pub none_here : (why : Problem) (n : NoPiece (in_flow t.held) t.held.position t.rest why t.held.position) → no_piece_first (in_flow t.held) (t.held.indent - 1) t.held.position t.rest why t.held.position n → IsWhy text why t.held.position
   none_here why n first = none_begins why t.held.position n first
@@ -126,8 +130,5 @@ module _ (text : List ℕ) (t : ScannerState) (a : Arrives text t) (some : is_em
   pub followed_stuck : (why : Problem) (at : Position) (x : IsFollowed (in_flow t.held) t.held.position t.rest why at)
       → ((c : Bool) → IsAllowed text t a some c → followed_first (in_flow t.held) (t.held.indent - 1) (is_taken (account_by text t a some c []) a.separation) (is_full (account_by text t a some c [])) t.held.position t.rest why at x) → IsWhy text why at
   followed_stuck why at x first =
-      stuck text t a some [] why at (λ c may.
-      let b : Account = account_by text t a some c [] in
-      let P : Bool → ℕ → Type 0 = λ f k. (y : IsFollowed f t.held.position t.rest why at) × followed_first f k (is_taken b a.separation) (is_full b) t.held.position t.rest why at y in
-      let moved : P (is_in_flow b.entries) (least_here b t.held.position) = subst (λ k. P (is_in_flow b.entries) k) (sym (least_by text t a some c [])) (subst (λ f. P f (t.held.indent - 1)) (sym (in_flow_is text t a some c [])) (x, first c may)) in
-      record { fails = followed moved.0; is_first = (looked_at c [], moved.1) })
+      stuck_by text t a some why at (λ b bs k. (y : IsFollowed b t.held.position t.rest why at) × ((c : Bool) → IsAllowed text t a some c → followed_first b k (is_taken (account_by text t a some c []) a.separation) (is_full (account_by text t a some c [])) t.held.position t.rest why at y)) (x, first)
+      (λ c may m. record { fails = followed m.0; is_first = (looked_at c [], m.1 c may) })

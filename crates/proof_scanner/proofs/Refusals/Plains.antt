@@ -9,7 +9,7 @@ use Rattle.proof_scanner.proofs.Cut.Saved.{saved_keys, saved_is}
 use Rattle.proof_scanner.proofs.Sound.WithoutOpen.{AreClosed, without_is}
 use Rattle.proof_scanner.specs.NoPiece as none
 use Rattle.proof_scanner.proofs.Refusals.Faults.{Faults, goes, read}
-use Rattle.proof_scanner.proofs.Refusals.Places.{Said, IsWhy, LiesDeep, account_by, stuck, in_flow_is, blocks_by, looked_at}
+use Rattle.proof_scanner.proofs.Refusals.Places.{Said, IsWhy, LiesDeep, account_by, stuck, in_flow_is, blocks_by, looked_at, stuck_by}
 use Rattle.proof_scanner.proofs.Sound.PlainKeeps.{solid_text}
 
 -- ---- texts
@@ -40,22 +40,12 @@ module _ (text : List ℕ) (t : ScannerState) (a : Arrives text t) (some : is_em
   -- the plain scalar that begins here is none
   plain_stuck : (why : Problem) (at : Position) (x : IsPlainFault (in_flow t.held) blocks t.held.position t.rest why at) → plain_first (in_flow t.held) blocks t.held.position t.rest why at x → IsWhy text why at
   plain_stuck why at x first =
-      stuck text t a some [] why at (λ c may.
-      let P : Bool → List ℕ → Type 0 = λ b bs. (y : IsPlainFault b bs t.held.position t.rest why at) × plain_first b bs t.held.position t.rest why at y in
-      let flow_is = in_flow_is text t a some c [] in
-      let moved : P (is_in_flow (account_by text t a some c []).entries) (site_at_place (account_by text t a some c []) t.held.position).blocks =
-      subst (λ bs. P (is_in_flow (account_by text t a some c []).entries) bs) (sym (blocks_by text t a some c [])) (subst (λ b. P b blocks) (sym flow_is) (x, first)) in
-      record {
-        fails = no_plain (subst (λ b. comes_plain b (is_adjacent (before_past (before_by a.base.site.before) a.separation)) t.held.position.col t.rest ≡ true) (sym flow_is) comes) moved.0;
-        is_first = (looked_at text t a some lies c [], moved.1);
-      })
+      stuck_by text t a some why at (λ b bs k. (l : comes_plain b (is_adjacent (before_past (before_by a.base.site.before) a.separation)) t.held.position.col t.rest ≡ true) × (y : IsPlainFault b bs t.held.position t.rest why at) × plain_first b bs t.held.position t.rest why at y) (comes, x, first)
+      (λ c may m. record { fails = no_plain m.0 m.1; is_first = (looked_at text t a some lies c [], m.2) })
 
   -- the scalar does not begin left of its column
   no_column : begins_left ctx t.held.position ≡ false → HasNoPlainFault ctx.flow blocks t.held.position t.rest problem.FlowIndentation
-  no_column deep place (none.by_column flow left) =
-      let low : nat_lt t.held.position.col ctx.indent ≡ true = grind (arith, nat_tests, least_is, left) in
-      let left_too : begins_left ctx t.held.position ≡ true = rw (flow, low) refl in
-      cc (deep, left_too)
+  no_column deep place a = grind (arith, least_is)
 
   -- no TAB that is wrong begins a line of it
   no_tab : (HasTab ctx t.rest → ⊥) → HasNoPlainFault ctx.flow blocks t.held.position t.rest problem.PlainTab

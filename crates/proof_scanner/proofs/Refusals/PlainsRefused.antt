@@ -75,10 +75,7 @@ module _ (a : Account) (separation rest : List ℕ) (here : Position) (s : StepA
 
   -- its piece is whole
   whole : is_whole_plain (is_in_flow a.entries) (innermost (site_at_place a here).blocks) s.step.piece next ≡ true
-  whole =
-      ap (λ b. is_whole_plain b (innermost (site_at_place a here).blocks) s.step.piece next) (sym (flow_is a separation rest here s)) ∙
-      (ap (λ (x : Site). is_whole_plain (pieces.is_in_flow seen_here) (innermost x.blocks) s.step.piece next) (sym site_is) ∙
-      (ap (λ o. is_whole_plain (pieces.is_in_flow seen_here) o s.step.piece next) (sym (same_innermost (At s.account s.step next).blocks)) ∙ plain_here.1.1))
+  whole = grind (arith, flow_is, site_is, same_innermost, plain_here)
 
   -- a dash before a flow indicator
   pub no_dash : (before more : List ℕ) → is_in_flow a.entries ≡ true → rest ≡ before ++ 45 ∷ more → begins_flow more ≡ true → goes_over (is_in_flow a.entries) (innermost (site_at_place a here).blocks) before (45 ∷ more) ≡ true → is_apart (stand_after after_blank before) ≡ true → ⊥

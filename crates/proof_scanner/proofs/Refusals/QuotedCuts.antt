@@ -156,8 +156,7 @@ module _ (single : Bool) (least : ℕ) (start : Position) where
       by e fit (has_escaped d a double same_c same_b f) = let bad : ◌≡◌ {A = ℕ} 9 92 = sym first ∙ same_c in absurd (cc bad)
 
   wrong_final : (why : Problem) (at : Position) → IsFinal (λ s p text. Wrong single least start s p text why at)
-  wrong_final why at s p c b e is fit none (by_marker h) = cc (h, none)
-  wrong_final why at s p c b e is fit none (placed _ _ free x) = place_final why at s p c b e is fit none x
+  wrong_final why at s p c b e is fit none a = grind (arith, place_final)
 
   -- Two walks along a text end at one place, if they end where no element goes on.
   record Meet (E F : LineStand → Position → List ℕ → Type 0) : Type 0 where

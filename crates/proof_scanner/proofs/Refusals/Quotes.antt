@@ -17,9 +17,9 @@ use Rattle.proof_scanner.specs.QuotedLines as lines
 use Rattle.proof_scanner.proofs.Refusals.QuotedElements.{after_quote_at}
 use Rattle.proof_scanner.proofs.Refusals.QuotedLines.{is_of_lines, Ends, refused, reads, quoted_ends}
 use Rattle.proof_scanner.proofs.Refusals.QuotedReasons.{all_stand, indented_are, is_marked, by_end, by_escape, by_column, by_tab, by_marker, placed, Wrong, Reason, Parted, parted, lines_close}
-use Rattle.proof_scanner.proofs.Refusals.Faults.{Faults, fault, goes, in_turn}
+use Rattle.proof_scanner.proofs.Refusals.Faults.{Faults, fault, goes, in_turn, either}
 use Rattle.proof_scanner.proofs.Refusals.Spaces.{spaces_told, solid_past}
-use Rattle.proof_scanner.proofs.Refusals.Places.{Said, IsWhy, LiesDeep, account_by, stuck, least_by, looked_at, none_here, followed_stuck}
+use Rattle.proof_scanner.proofs.Refusals.Places.{Said, IsWhy, LiesDeep, account_by, stuck, least_by, looked_at, none_here, followed_stuck, stuck_by}
 use Rattle.proof_row.proofs.Runs.{neither}
 
 -- ---- texts
@@ -106,12 +106,9 @@ module _ (text : List ℕ) (t : ScannerState) (a : Arrives text t) (some : is_em
 
   pub after_told : Faults (Said text) (check_after_quoted t.held.position.line closed)
   unfolding check_after_quoted
-  after_told = in_turn (spaces_told text Yes closed glued) (λ v e. by v e (held_of v (spaces_skipped Yes closed) e) (may_follow_quoted (in_flow v.held) (t.held.position.line == v.held.position.line) (peek v.rest)) refl)
-    where
-      by : (v : ScannerState) → skip_spaces Yes closed ≡ Ok v → Spaced Yes closed v → (b : Bool) → may_follow_quoted (in_flow v.held) (t.held.position.line == v.held.position.line) (peek v.rest) ≡ b
-          → Faults (Said text) (if b then Ok v else Err (At problem.ContentAfterQuoted v.held.position))
-      by v e s true n = goes
-      by v e s false n = fault {f = At problem.ContentAfterQuoted v.held.position} (followed_by v e s n)
+  after_told =
+      in_turn (spaces_told text Yes closed glued) (λ v e.
+      either (may_follow_quoted (in_flow v.held) (t.held.position.line == v.held.position.line) (peek v.rest)) (λ _. goes) (λ n. fault {f = At problem.ContentAfterQuoted v.held.position} (followed_by v e (held_of v (spaces_skipped Yes closed) e) n)))
 
 -- ---- a text that is refused
 
@@ -128,10 +125,8 @@ module _ (text : List ℕ) (t : ScannerState) (a : Arrives text t) (some : is_em
   -- the quoted scalar that begins here is none
   lines_stuck : (single : Bool) (why : Problem) (at : Position) → AreNotIndented single least t.rest → (x : IsQuotedFault single least here t.rest why at) → lines_first single least here t.rest why at x → IsWhy text why at
   lines_stuck single why at none_fits x first =
-      stuck text t a some [] why at (λ c may.
-      let P : ℕ → Type 0 = λ n. (y : IsQuotedFault single n here t.rest why at) × lines_first single n here t.rest why at y in
-      let moved : P (least_here (account_by text t a some c []) here) = subst P (sym (least_by text t a some c [])) (x, first) in
-      record { fails = no_quoted single (subst (λ n. AreNotIndented single n t.rest) (sym (least_by text t a some c [])) none_fits) moved.0; is_first = (looked_at text t a some lies c [], moved.1) })
+      stuck_by text t a some why at (λ b bs k. (l : AreNotIndented single k t.rest) × (y : IsQuotedFault single k here t.rest why at) × lines_first single k here t.rest why at y) (none_fits, x, first)
+      (λ c may m. record { fails = no_quoted single m.0 m.1; is_first = (looked_at text t a some lies c [], m.2) })
 
   module _ (deep : IsDeep t.held) (single : Bool) (ctx : Context) (same : ctx.indent ≡ t.held.indent) (more : List ℕ) (e : t.rest ≡ none.quote_of single ∷ more) where
     limit : (k : ℕ) → nat_lt (k + 1) ctx.indent ≡ nat_lt k least

@@ -77,10 +77,7 @@ module _ (text : List ℕ) (t : ScannerState) (a : Arrives text t) (some : is_em
 
   after_quoted : (line : ℕ) (u : ScannerState) → Holds (λ v. length v.rest ≤ length u.rest) (check_after_quoted line u)
   unfolding check_after_quoted
-  after_quoted line u = chained (spaces_skipped Yes u) (λ v s. by v (may_follow_quoted (in_flow v.held) (line == v.held.position.line) (peek v.rest)) (spaced_no_longer Yes u v s))
-    where
-      by : (v : ScannerState) (b : Bool) → length v.rest ≤ length u.rest → Holds (λ w. length w.rest ≤ length u.rest) (if b then Ok v else Err (At problem.ContentAfterQuoted v.held.position))
-      by v a n = grind (arith, went, refused)
+  after_quoted line u = chained (spaces_skipped Yes u) (λ v s. either (may_follow_quoted (in_flow v.held) (line == v.held.position.line) (peek v.rest)) (λ _. went (spaced_no_longer Yes u v s)) (λ _. refused))
 
   quoted_shortens : (quotes : Quotes) (more : List ℕ) → t.rest ≡ quote_of (are_single quotes) ∷ more → Holds Shorter (fetch_flow_scalar quotes t)
   unfolding fetch_flow_scalar

@@ -9,7 +9,7 @@ use Rattle.proof_scanner.proofs.Sound.QuotedKeeps.{QuotedAs, in_line}
 use Rattle.proof_scanner.proofs.Sound.Skips.{IsLeast, IsIn}
 use Rattle.proof_scanner.specs.Failing as defs
 use Rattle.proof_scanner.proofs.Refusals.AfterQuoted.{unglued}
-use Rattle.proof_scanner.proofs.Refusals.Faults.{Faults, fault, goes}
+use Rattle.proof_scanner.proofs.Refusals.Faults.{Faults, fault, goes, mapped}
 use Rattle.proof_scanner.proofs.Refusals.Places.{Said, IsWhy, LiesDeep, account_by, stuck, blocks_by, awaits_by, least_by, looked_at}
 use Rattle.proof_scanner.proofs.Refusals.Quotes.{closed, piece, is, fits}
 use Rattle.proof_scanner.proofs.Refusals.Tabs.{TabStands, skip_refused}
@@ -63,11 +63,7 @@ module _ (text : List ℕ) (t : ScannerState) (a : Arrives text t) (some : is_em
             (sym (position_append x.position spaces d.passed d.rest) ∙ ap (λ p. position_after p gap d.rest) (q.end_is ∙ ap (λ r. position_after t.held.position scalar r) cut))
 
     told : Faults (Said text) (skip_to_next_token v)
-    told = by (skip_refused quoted_scalar blocks awaits spaces v (grind (arith, nat_tests, eqb-true, least_is, saved_is)) (λ _. (inr (record { leading_is = λ i. ap (λ h. h.leading) c.spaces.is_held ∙ sym no_break; col_is = λ b. absurd (cc (b, no_break)); spaced = λ b. absurd (cc (b, no_break)) }))))
-      where
-        by : {r : Result ScannerState Fault} → Faults (TabStands blocks awaits quoted_scalar spaces v.rest v.held.position) r → Faults (Said text) r
-        by (fault d) = fault (tab_stuck d)
-        by goes = goes
+    told = mapped (λ f d. tab_stuck d) (skip_refused quoted_scalar blocks awaits spaces v (grind (arith, nat_tests, eqb-true, least_is, saved_is)) (λ _. (inr (record { leading_is = λ i. ap (λ h. h.leading) c.spaces.is_held ∙ sym no_break; col_is = λ b. absurd (cc (b, no_break)); spaced = λ b. absurd (cc (b, no_break)) }))))
 
   -- what stands on the way to the next token after a quoted scalar
   pub tab_told : (v : ScannerState) → check_after_quoted t.held.position.line own ≡ Ok v → Faults (Said text) (skip_to_next_token v)
