@@ -148,11 +148,10 @@ module _ (in_flow : Bool) (least : ℕ) (blocks : List ℕ) (awaits : Bool) (her
 
   -- What is wrong first with a quoted scalar is one thing at one position.
   pub one_quoted : has_no_nul rest ≡ true → (why1 why2 : Problem) (at1 at2 : Position) → QuotedReason in_flow least blocks awaits here rest why1 at1 → QuotedReason in_flow least blocks awaits here rest why2 at2 → (why1 ≡ why2) × (at1 ≡ at2)
-  one_quoted clean why1 why2 at1 at2 r s = by (read why1 at1 r) (read why2 at2 s)
-    where
-      by : Read why1 at1 → Read why2 at2 → (why1 ≡ why2) × (at1 ≡ at2)
-      by x y =
+  one_quoted clean why1 why2 at1 at2 r s =
+      let by : Read why1 at1 → Read why2 at2 → (why1 ≡ why2) × (at1 ≡ at2) = λ x y. 
           let both : quote_of y.single ∷ y.more ≡ quote_of x.single ∷ x.more = sym y.whole ∙ x.whole in
           let single : y.single ≡ x.single = (grind arith) in
           let more : y.more ≡ x.more = cc both in
-          one_sorted x.single x.more clean why1 why2 at1 at2 x.sorted (subst (λ m. Sorted x.single m why2 at2) more (subst (λ b. Sorted b y.more why2 at2) single y.sorted))
+          one_sorted x.single x.more clean why1 why2 at1 at2 x.sorted (subst (λ m. Sorted x.single m why2 at2) more (subst (λ b. Sorted b y.more why2 at2) single y.sorted)) in
+      by (read why1 at1 r) (read why2 at2 s)

@@ -157,10 +157,9 @@ module _ (a : Account) (separation : List ℕ) (here : Position) (rest : List �
 
   stands_reason : (why : Problem) (at : Position) (n : MayNotStand a separation here rest why at) → stands_first a separation here rest why at n → Reason own here rest why at
   stands_reason why at (failing.shallow inside line left) f = grind (arith, shallow, here, rest, least_here)
-  stands_reason why at (failing.too_deep bracket more e is many) f = seen_reason problem.FlowTooDeep here f (bracket_reason own here rest bracket more problem.FlowTooDeep here e (opens_flow bracket is).1 (indicators.too_deep bracket more e (ap (λ b. b && is_full a) (opens_flow bracket is).0 ∙ (grind (arith, nat_tests, many)))))
-    where
-      opens_flow : (c : ℕ) → (c ≡ 91) ⊎ (c ≡ 123) → (opens c ≡ true) × (is_flow_indicator c ≡ true)
-      opens_flow c a = grind (arith, nat_tests, eqb-true)
+  stands_reason why at (failing.too_deep bracket more e is many) f =
+      let opens_flow : (c : ℕ) → (c ≡ 91) ⊎ (c ≡ 123) → (opens c ≡ true) × (is_flow_indicator c ≡ true) = λ c a. grind (arith, nat_tests, eqb-true) in
+      seen_reason problem.FlowTooDeep here f (bracket_reason own here rest bracket more problem.FlowTooDeep here e (opens_flow bracket is).1 (indicators.too_deep bracket more e (ap (λ b. b && is_full a) (opens_flow bracket is).0 ∙ (grind (arith, nat_tests, many)))))
   stands_reason why at (failing.dash_in_flow more e gap inside) f = seen_reason problem.BlockEntryInFlow here f (dash, ap (λ r. kind_here own here.col r) e ∙ dash_kind own here.col more gap, indicators.dash_in_flow inside)
   stands_reason why at (failing.dash_not_free more e gap out line) f = seen_reason problem.BlockEntryNotAllowed here f (dash, ap (λ r. kind_here own here.col r) e ∙ dash_kind own here.col more gap, indicators.dash_not_free out line)
   stands_reason why at (failing.key_on_earlier_line more begin x xs e is are takes had late) f =
@@ -188,6 +187,7 @@ module _ (a : Account) (separation : List ℕ) (here : Position) (rest : List �
 pub colon_alone : (a b : Account) → IsLike a b → (separation more : List ℕ) (here : Position) → is_value_here a separation more ≡ true → is_in_flow a.entries ≡ false → IsLookedAt a separation here (58 ∷ more) → colon_may_precede more ≡ true →
     (why : Problem) (at : Position) → FailsFirst b separation here (58 ∷ more) why at → ⊥
 colon_alone a b like separation more here is out seen apart why at x =
+    let by : (why : Problem) (at : Position) → Reason own here (58 ∷ more) why at → ⊥ = λ why a b. grind (arith, none_here, own, here, more, colon_kind, is) in
     by why at (subst (λ s. Reason s here (58 ∷ more) why at) (sym (same_setting a b separation here like)) (reason_of b separation here (58 ∷ more) why at x))
   where
     own : Setting
@@ -199,9 +199,6 @@ colon_alone a b like separation more here is out seen apart why at x =
     none_here : (why : Problem) (at : Position) → ColonReason own here (58 ∷ more) why at → ⊥
     none_here why at (indicators.key_on_earlier_line n inside e before) = cc (out, inside)
     none_here why at (indicators.tab_after_colon n passed content e tabs on letter) = cc (apart, tabs, ap colon_may_precede (at_colon n e))
-
-    by : (why : Problem) (at : Position) → Reason own here (58 ∷ more) why at → ⊥
-    by why a b = grind (arith, none_here, own, here, more, colon_kind, is)
 
 -- ---- one reason
 

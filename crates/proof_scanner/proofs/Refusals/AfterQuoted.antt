@@ -67,8 +67,6 @@ follows flow piece s rest same stays f h e may = grind (arith, nat_tests, blanks
 pub check_passes : (p : Position) (piece : List ℕ) (t : ScannerState) → t.held.position ≡ position_after p piece t.rest → quoted_may_end (in_flow t.held) piece t.rest ≡ true → Left (λ u. Unit {0}) (check_after_quoted p.line t)
 unfolding check_after_quoted
 check_passes p piece t is may =
+    let checked : ScannerState → Result ScannerState Fault = λ u. (if may_follow_quoted (in_flow u.held) (p.line == u.held.position.line) (peek u.rest) then Ok u else Err (At problem.ContentAfterQuoted u.held.position)) in
     let u : Left (Spaced Yes t) (skip_spaces Yes t) = skipped t (unglued (in_flow t.held) piece t.rest may) in
     subst (λ y. Left (λ z. Unit {0}) (y >>= checked)) (sym u.is) (grind (arith, nat_tests, eqb-true, append_assoc, same_line, same_has_break, follows))
-  where
-    checked : ScannerState → Result ScannerState Fault
-    checked u = (if may_follow_quoted (in_flow u.held) (p.line == u.held.position.line) (peek u.rest) then Ok u else Err (At problem.ContentAfterQuoted u.held.position))

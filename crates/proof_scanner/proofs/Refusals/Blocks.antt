@@ -54,13 +54,12 @@ piece_tab_fault collection o here text piece next b e is tabbed =
     by (grind arith) q.0
   where
     by : (m : List ℕ) × (next ≡ tab ∷ m) → scan.is_single (split piece).complete ≡ true → FirstFault collection here text problem.BlockScalarTab here
-    by m single = from w.header w.lines w.is w.are
+    by m single =
+        let w : Written piece next = written o piece next b is further in
+        from w.header w.lines w.is w.are
       where
         further : is_at_end next ≡ false
         further = ap is_at_end m.1
-
-        w : Written piece next
-        w = written o piece next b is further
 
         from : (l : Line) (ls : List Line) → piece ≡ spell (l ∷ ls) [] → AreLines (l ∷ ls) [] → FirstFault collection here text problem.BlockScalarTab here
         from l (x ∷ ls) is_piece are =
@@ -93,17 +92,13 @@ column_fault indent bs here text piece next b least e clean is untabbed low = by
     by : (x : Bool) → is_at_end next ≡ x → (x || read_may_end bs (block_read (innermost bs) piece next) piece next) ≡ false → FirstFault bs here text problem.BlockScalarIndentation (scan.further_position here piece next)
     by true further k = absurd (cc k)
     by false further k =
+        let w : Written piece next = written (collection_of indent) piece next b is further in
+        let no_tab : not (is_empty (texts w.lines) && begins_with tab next) ≡ true = untabbed_by w.header.text (texts w.lines) (begins_with tab next) (ap (λ x. scan.is_single x && begins_with tab next) (sym (lines_written piece next w)) ∙ untabbed) in
         let q = rest_fails (not (is_empty (texts w.lines) && begins_with tab next)) (are_empty b.column (texts w.lines)) (nat_lt (leading_spaces next) (least_column bs true)) (nat_le b.column (leading_spaces next)) no_tab (lines_asked indent b piece next bs least is w ∙ k) in
         (none.by_column piece w.header.text next (texts w.lines) b e read_here further (lines_written piece next w) q.0 (grind (arith, nat_tests, q)) (grind (arith, nat_tests, q)), no_tab_fault)
       where
-        w : Written piece next
-        w = written (collection_of indent) piece next b is further
-
         read_here : block_read (innermost bs) piece next ≡ Some b
         read_here = ap (λ c. block_read c piece next) (sym least.0) ∙ is
-
-        no_tab : not (is_empty (texts w.lines) && begins_with tab next) ≡ true
-        no_tab = untabbed_by w.header.text (texts w.lines) (begins_with tab next) (ap (λ x. scan.is_single x && begins_with tab next) (sym (lines_written piece next w)) ∙ untabbed)
 
         -- no TAB stands after the header
         no_tab_fault : (place : Position) → IsBlockFault bs here text problem.BlockScalarTab place → ⊥

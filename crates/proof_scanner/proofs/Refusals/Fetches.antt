@@ -23,6 +23,7 @@ module _ (text : List ℕ) (t : ScannerState) (a : Arrives text t) (some : is_em
 
   token_told : IsDeep t.held → ((t.held.position.col == 0) && is_document_marker t.rest) ≡ false → (t.held.position.col ≡ 0 → (peek t.rest == 37) ≡ false) → Faults (Said text) (fetch_token t)
   token_told deep marker percent =
+      let lies : LiesDeep t = λ _. deep in
       token_holds (Faults (Said text)) t (is_adjacent (before_past (before_by a.base.site.before) a.separation)) a.is_clean a.is_solid (λ inside. sym (a.is_adjacent_here inside some)) marker (record {
         anchor = λ kind more e. name_told text t a some lies kind more e;
         tag = λ more e. tag_told text t a some lies more e;
@@ -41,9 +42,6 @@ module _ (text : List ℕ) (t : ScannerState) (a : Arrives text t) (some : is_em
         at_sign = λ more e. fault {f = At problem.UnexpectedAt t.held.position} (λ _. none_here text t a some lies problem.UnexpectedAt (none.at_sign more e) tt);
         backtick = λ more e. fault {f = At problem.UnexpectedBacktick t.held.position} (λ _. none_here text t a some lies problem.UnexpectedBacktick (none.backtick more e) tt);
       }) some
-    where
-      lies : LiesDeep t
-      lies _ = deep
 
   -- ---- columns
 
@@ -63,6 +61,7 @@ module _ (text : List ℕ) (t : ScannerState) (a : Arrives text t) (some : is_em
   content_told : Faults (Said text) (fetch_content t)
   unfolding are_marks
   content_told =
+      let document_line : t.held.position.col ≡ 0 → (begins_with 37 t.rest || is_document_marker t.rest) ≡ true → LiesDeep t = λ col begins none. grind arith in
       content_holds (Faults (Said text)) t some (record {
         directive = λ e col. directive_told text t a some (document_line col (ap (λ r. begins_with 37 r || is_document_marker r) e)) (after t.rest) e col;
         document_start = λ more e gap col. marker_told text t a some (document_line col (ap (λ r. begins_with 37 r || is_document_marker r) e ∙ rw gap refl)) Tok.document_start col;
@@ -70,10 +69,6 @@ module _ (text : List ℕ) (t : ScannerState) (a : Arrives text t) (some : is_em
         shallow = λ n low. fault {f = At problem.InvalidIndentation t.held.position} (λ _. shallow (grind arith) low);
         token = λ n deep. token_told deep n.0 n.1;
       })
-    where
-      -- a line for the document may lie in any column
-      document_line : t.held.position.col ≡ 0 → (begins_with 37 t.rest || is_document_marker t.rest) ≡ true → LiesDeep t
-      document_line col begins none = grind arith
 
 -- ---- the text's end
 

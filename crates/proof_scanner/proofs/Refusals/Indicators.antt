@@ -114,20 +114,15 @@ module _ (text : List ℕ) (t : ScannerState) (a : Arrives text t) (some : is_em
 
   line_taken : (c : Bool) (cs : List Bool) → IsAllowed text t a some c → is_empty t.held.flow ≡ true → t.held.key_allowed ≡ false → is_taken (chosen c cs t.held.keys a.base) a.separation ≡ true
   line_taken c cs may out none =
+      let on_its_line : (k : Key) → k.position.line ≤ a.base.site.position.line → t.held.position.line ≤ k.position.line → broken ≡ false = λ k before here. 
+          let line = ap (λ p. p.line) a.position_is in
+          arrivals.not_free a.base.site.before a.separation (arrivals.unbroken a.base.site.position a.separation t.rest some a.is_solid (omega (arith, before, here, line))) in
+      let by : (k : Option Key) (c : Bool) → MayChoose true c k t.held.position t.rest → IsLineHere false t.held.key_allowed t.rest k a.line_here → IsOpenOutside k a.base.site.position t.held.position t.rest a.base.site.blocks → is_taken_line (line_past_separation false broken (line_by c k a.base.line)) ≡ true = λ a c may h b. grind (arith, outer_line, out, taken_by, none, waits, on_its_line, some) in
       by (outside_key a.base.entries t.held.keys) c (may out) (subst (λ b. IsLineHere (not b) t.held.key_allowed t.rest (outside_key a.base.entries t.held.keys) a.line_here) out a.line_is) a.is_open
     where
       taken_by : (l : Line) → (l ≡ free) ⊎ (l ≡ taken) → is_free l ≡ false → is_taken_line (Some l) ≡ true
       taken_by l (inl e) h = absurd (cc (h, ap is_free e))
       taken_by l (inr e) h = ap (λ x. is_taken_line (Some x)) e
-
-      on_its_line : (k : Key) → k.position.line ≤ a.base.site.position.line → t.held.position.line ≤ k.position.line → broken ≡ false
-      on_its_line k before here =
-          let line = ap (λ p. p.line) a.position_is in
-          arrivals.not_free a.base.site.before a.separation (arrivals.unbroken a.base.site.position a.separation t.rest some a.is_solid (omega (arith, before, here, line)))
-
-      by : (k : Option Key) (c : Bool) → MayChoose true c k t.held.position t.rest → IsLineHere false t.held.key_allowed t.rest k a.line_here → IsOpenOutside k a.base.site.position t.held.position t.rest a.base.site.blocks
-          → is_taken_line (line_past_separation false broken (line_by c k a.base.line)) ≡ true
-      by a c may h b = grind (arith, outer_line, out, taken_by, none, waits, on_its_line, some)
 
   line_not_taken : (c : Bool) (cs : List Bool) → IsAllowed text t a some c → is_empty t.held.flow ≡ true → t.held.key_allowed ≡ true → is_taken (chosen c cs t.held.keys a.base) a.separation ≡ false
   line_not_taken c cs may out allowed = grind arith
@@ -336,11 +331,9 @@ module _ (text : List ℕ) (t : ScannerState) (a : Arrives text t) (some : is_em
   value_checked : (more : List ℕ) → t.rest ≡ 58 ∷ more → (u : ScannerState) → u.rest ≡ more → u.held.position ≡ past t.held.position → Faults (Said text) (check_value_space u)
   unfolding check_value_space
   value_checked more e u left place =
+      let not_both : (r : List ℕ) → (peek r == 9) ≡ true → begins_with 35 r ≡ true → ⊥ = λ r h i. grind arith in
       either (peek u.rest == 9) (λ tab. read u.held (space Yes u.rest u.held.position) check_after_tab (λ f k. space_told text Yes u.rest u.held.position (λ h. absurd (not_both u.rest tab h)) f k)
       (λ x k. tab_checked more e (sym (begins_here 9 more refl) ∙ (ap (λ r. peek r == 9) (sym left) ∙ tab)) u.held place x (ap (λ r. space Yes r u.held.position) (sym left) ∙ k))) (λ _. goes)
-    where
-      not_both : (r : List ℕ) → (peek r == 9) ≡ true → begins_with 35 r ≡ true → ⊥
-      not_both r h i = grind arith
 
   -- only the position is another
   value_held : (u : ScannerState) → Holds (λ w. w.held ≡ record u.held { position = w.held.position }) (check_value_space u)
@@ -352,14 +345,12 @@ module _ (text : List ℕ) (t : ScannerState) (a : Arrives text t) (some : is_em
   pub colon_told : (more : List ℕ) → t.rest ≡ 58 ∷ more → is_value t ≡ true → Faults (Said text) (fetch_value t)
   unfolding fetch_value
   colon_told more e is =
+      let value_told_by : (more : List ℕ) → t.rest ≡ 58 ∷ more → colon_may_precede more ≡ true → (u : ScannerState) → u.held.keys ≡ t.held.keys → in_flow u.held ≡ in_flow t.held → u.held.key_allowed ≡ t.held.key_allowed → Faults (Said text) (value_of (top_key u.held.keys) t.held.position (opens_pair t.held.flow) u.held) = λ more e apart u keys flow allowed. value_told more e apart is (top_key u.held.keys) (sym (ap top_key keys)) u.held flow allowed in
       let first : ScannerState = skip_indicator (on_held (λ s. record s { flow = paired s.flow }) t) in
       in_turn (value_checked more e first (ap after e) refl) (λ u k.
       let h = held_of u (value_held first) k in
       let apart = held_of u (holds.weakened (λ v k. ap colon_may_precede (sym (ap after e)) ∙ k.1) (colon_spaced first.rest first.held)) k in
       in_turn (tried u (value_told_by more e apart u (ap (λ s. s.keys) h) (ap (λ s. not (is_empty s.flow)) h ∙ ap not (grind arith)) (ap (λ s. s.key_allowed) h))) (λ v i. goes))
-    where
-      value_told_by : (more : List ℕ) → t.rest ≡ 58 ∷ more → colon_may_precede more ≡ true → (u : ScannerState) → u.held.keys ≡ t.held.keys → in_flow u.held ≡ in_flow t.held → u.held.key_allowed ≡ t.held.key_allowed → Faults (Said text) (value_of (top_key u.held.keys) t.held.position (opens_pair t.held.flow) u.held)
-      value_told_by more e apart u keys flow allowed = value_told more e apart is (top_key u.held.keys) (sym (ap top_key keys)) u.held flow allowed
 
   -- ---- brackets and commas
 
@@ -401,18 +392,15 @@ module _ (text : List ℕ) (t : ScannerState) (a : Arrives text t) (some : is_em
 
   pub opening_told : (kind : Collection) (bracket : ℕ) (more : List ℕ) → t.rest ≡ bracket ∷ more → (bracket ≡ 91) ⊎ (bracket ≡ 123) → Faults (Said text) (fetch_flow_collection_start kind t)
   unfolding fetch_flow_collection_start
-  opening_told kind bracket more e is = in_turn (tried t (flow_begun kind bracket more e is)) (λ u i. in_turn (indicator_passed bracket more e (by bracket is) (ap (λ b. opens bracket && b) (held_of {P = λ v. nat_le 255 (length t.held.flow) ≡ false} u (holds.tried t (begin_flow kind t.held) (begun_here kind) (λ s k. k.1)) i) ∙ and_false (opens bracket)) u (is_here (begin_flow kind) u (holds.weakened (λ s k. k.0) (begun_here kind)) i)) (λ v j. goes))
-    where
-      by : (c : ℕ) → (c ≡ 91) ⊎ (c ≡ 123) → none.is_flow_indicator c ≡ true
-      by c a = grind arith
+  opening_told kind bracket more e is =
+      let by : (c : ℕ) → (c ≡ 91) ⊎ (c ≡ 123) → none.is_flow_indicator c ≡ true = λ c a. grind arith in
+      in_turn (tried t (flow_begun kind bracket more e is)) (λ u i. in_turn (indicator_passed bracket more e (by bracket is) (ap (λ b. opens bracket && b) (held_of {P = λ v. nat_le 255 (length t.held.flow) ≡ false} u (holds.tried t (begin_flow kind t.held) (begun_here kind) (λ s k. k.1)) i) ∙ and_false (opens bracket)) u (is_here (begin_flow kind) u (holds.weakened (λ s k. k.0) (begun_here kind)) i)) (λ v j. goes))
 
   pub closing_told : (kind : Collection) (c : ℕ) (more : List ℕ) → t.rest ≡ c ∷ more → (c ≡ 93) ⊎ (c ≡ 125) → Faults (Said text) (fetch_flow_collection_end kind t)
   unfolding fetch_flow_collection_end end_flow
   closing_told kind c more e is =
+      let closes : (c : ℕ) → (c ≡ 93) ⊎ (c ≡ 125) → (none.is_flow_indicator c ≡ true) × (opens c ≡ false) = λ c a. grind arith in
       in_turn (tried t (kept ended_flow (λ e. refl) (λ x. goes) (remove_told text t.held (closing_rowless text t a some c more e (inr is))))) (λ u i. in_turn (indicator_passed c more e (closes c is).0 (ap (λ b. b && nat_le 255 (length t.held.flow)) (closes c is).1) u (is_here end_flow u (holds.weakened (λ s k. ap (λ h. h.position) k.1) (flow_over t.held)) i)) (λ v j. goes))
-    where
-      closes : (c : ℕ) → (c ≡ 93) ⊎ (c ≡ 125) → (none.is_flow_indicator c ≡ true) × (opens c ≡ false)
-      closes c a = grind arith
 
   pub comma_told : (more : List ℕ) → t.rest ≡ 44 ∷ more → Faults (Said text) (fetch_flow_entry t)
   unfolding fetch_flow_entry end_entry

@@ -132,10 +132,9 @@ was_taken_inside a l m e t = grind (arith, same_of)
 
 -- the columns after a step
 falls_after : (s : Site) (l : Line) (es : List Entry) (w : Step) (next : List ℕ) (b : Account) → Falls s.blocks → account_past (with_entries s l es) w next ≡ Some b → Falls b.site.blocks
-falls_after s l es w next b f e = by (made s l es w next b e)
-  where
-    by : Made s l es w next b → Falls b.site.blocks
-    by a = grind (arith, nat_tests, eqb-true, falls_past, falls_at)
+falls_after s l es w next b f e =
+    let by : Made s l es w next b → Falls b.site.blocks = λ a. grind (arith, nat_tests, eqb-true, falls_past, falls_at) in
+    by (made s l es w next b e)
 
 below_after : (s : Site) (l m : Line) (ds es : List Entry) (w : Step) (c : Bool) (next : List ℕ) (a b : Account) → LikeLine l m → LikeEntries ds es → Falls s.blocks → ((q : Position) → l ≡ waits q → m ≡ taken → AllBelow q.col s.blocks)
     → account_past (with_entries s l ds) w next ≡ Some a → account_past (with_entries s m es) (With w c) next ≡ Some b → (q : Position) → a.line ≡ waits q → b.line ≡ taken → AllBelow q.col a.site.blocks
@@ -218,13 +217,11 @@ together_keeps x y a b v c next i p k e f = record {
 
 pub apart_keeps : (q : Position) → Keeps (λ x y _. Apart q x y)
 apart_keeps q x y a b v c next i p k e f =
+    let own : Waiting y.line y.site = λ z e. subst (λ u. OnLine u y.site) (cc (sym p.one ∙ e)) p.on in
     let lines : (a.line ≡ taken) × (b.line ≡ waits q) = apart_after x.site x.entries y.entries v c next a b q i.2
     (subst (λ l. account_past (with_entries x.site l x.entries) v next ≡ Some a) p.none e)
     (subst (λ l. account_past (with_entries x.site l y.entries) (With v c) next ≡ Some b) p.one (subst (λ s. account_past (with_entries s y.line y.entries) (With v c) next ≡ Some b) (sym i.0) f)) in
     record { none = lines.0; one = lines.1; on = waiting_past y.site y.line y.entries (With v c) next b own k f q lines.1 }
-  where
-    own : Waiting y.line y.site
-    own z e = subst (λ u. OnLine u y.site) (cc (sym p.one ∙ e)) p.on
 
 pub first_together : Together first_account first_account
 first_together = record { falls = tt; below = λ q h t. absurd (cc h); on = λ q h. absurd (cc h) }

@@ -54,11 +54,9 @@ pub record RowAt (text : List ℕ) (a : Account) (separation rest : List ℕ) (h
 
 -- a step that may stand has no TAB before it
 pub no_tab_before : (b : Account) (v : Step) (after : List ℕ) (c : Account) → account_past b v after ≡ Some c → is_indented_by_spaces b.site.before b.site.blocks b.site.awaits v.separation ≡ true
-no_tab_before b v after c e = by (is_indented_by_spaces b.site.before b.site.blocks b.site.awaits v.separation) refl e
-  where
-    by : (t : Bool) → is_indented_by_spaces b.site.before b.site.blocks b.site.awaits v.separation ≡ t
-        → (if t && is_deep_enough (is_in_flow b.entries) v.shown (At b v after) && further_lines_stand (least_for v.shown (At b v after)) v.shown v.piece && may_precede (is_in_flow b.entries) (At b v after).blocks v.shown v.piece after then (on_one_line v.piece (past_piece (At b v after) v.piece v.shown after (is_renewed b.site.before v.separation) v.key (line_past_separation (is_in_flow b.entries) (begins_free_line b.site.before v.separation) b.line) b.entries)) else None) ≡ Some c → is_indented_by_spaces b.site.before b.site.blocks b.site.awaits v.separation ≡ true
-    by a i f = grind (arith, nat_tests, eqb-true)
+no_tab_before b v after c e =
+    let by : (t : Bool) → is_indented_by_spaces b.site.before b.site.blocks b.site.awaits v.separation ≡ t → (if t && is_deep_enough (is_in_flow b.entries) v.shown (At b v after) && further_lines_stand (least_for v.shown (At b v after)) v.shown v.piece && may_precede (is_in_flow b.entries) (At b v after).blocks v.shown v.piece after then (on_one_line v.piece (past_piece (At b v after) v.piece v.shown after (is_renewed b.site.before v.separation) v.key (line_past_separation (is_in_flow b.entries) (begins_free_line b.site.before v.separation) b.line) b.entries)) else None) ≡ Some c → is_indented_by_spaces b.site.before b.site.blocks b.site.awaits v.separation ≡ true = λ a i f. grind (arith, nat_tests, eqb-true) in
+    by (is_indented_by_spaces b.site.before b.site.blocks b.site.awaits v.separation) refl e
 
 -- No TAB indents what comes after a step where steps lead on to the text's end.
 clear_on : (b : Account) (ws : List Step) (last gap content : List ℕ) → IsRowFrom (Some b) ws last → spelled ws last ≡ gap ++ content → is_separation false gap content ≡ true → begins_separation content ≡ false → is_empty content ≡ false → has_no_nul content ≡ true

@@ -63,7 +63,9 @@ module _ (text : List ℕ) (t : ScannerState) (s : Stands text t) (near : HasNea
 
       -- after a plain scalar all blanks and breaks were passed, so a comment stands here
       no_plain : follows_plain s.base.site.before (s.separation ++ d.passed) ≡ false
-      no_plain = by s.base.site.before refl s.read_on
+      no_plain =
+          let by : (b : Previous) → s.base.site.before ≡ b → IsReadOn b s.base.site.position s.separation t.rest → follows_plain b (s.separation ++ d.passed) ≡ false = λ b i white. grind (arith, nat_tests, comment, eqb-true) in
+          by s.base.site.before refl s.read_on
         where
           hash : (f p : List ℕ) → is_one_of (f ++ 35 ∷ p) 35 ≡ true
           hash [] p = refl
@@ -79,9 +81,6 @@ module _ (text : List ℕ) (t : ScannerState) (s : Stands text t) (near : HasNea
             where
               by_first : (blank break mark : Bool) → (c == 35) ≡ mark → (blank || break || mark) ≡ true → (blank || break) ≡ false → is_one_of (s.separation ++ c ∷ p) 35 ≡ true
               by_first blank break mark i h k = grind (arith, hash, eqb-true)
-
-          by : (b : Previous) → s.base.site.before ≡ b → IsReadOn b s.base.site.position s.separation t.rest → follows_plain b (s.separation ++ d.passed) ≡ false
-          by b i white = grind (arith, nat_tests, comment, eqb-true)
 
       place : (c : Bool) → MayChoose true c (outside_key s.base.entries t.held.keys) t.held.position t.rest → IsPlace text (chosen c [] t.held.keys s.base) (s.separation ++ d.passed) d.rest here
       place c may = record {

@@ -51,14 +51,12 @@ module _ (a : Account) (separation rest : List ℕ) (here : Position) (s : StepA
   pub no_percent : (more : List ℕ) → rest ≡ 37 ∷ more → (here.col == 0) ≡ false → ⊥
   unfolding is_blank_or_end is_blank is_break is_nul is_flow
   no_percent more e other =
+      let is_line : (d : Directive) → is_marker (act_of (directive_token d)) ≡ true = λ a. grind arith in
       let line : Whole directive_line (context_of acct) s.step.piece next s.step.shown = whole_by 37 more e in
       let marker : is_marker (act_of s.step.shown) ≡ true = ap (λ t. is_marker (act_of t)) line.4 ∙ is_line line.0 in
       let begins = marker_begins acct s.step.piece next None spot s.step.shown is_piece marker in
       let zero : here.col ≡ 0 = ap (λ p. p.col) (sym s.position_is) ∙ begins.column in
       cc (other, ap (λ n. n == 0) zero)
-    where
-      is_line : (d : Directive) → is_marker (act_of (directive_token d)) ≡ true
-      is_line a = grind arith
 
   name_goes_on : (name more : List ℕ) → is_name name ≡ true → name ++ next ≡ more → goes_on_with_name more ≡ true
   name_goes_on a more h e = grind (arith, all_of)
@@ -95,8 +93,6 @@ module _ (a : Account) (separation rest : List ℕ) (here : Position) (s : StepA
       let piece : IsPiece acct s.step.piece next None spot flow_sequence_start = subst (λ t. IsPiece acct s.step.piece next None spot t) own.1 is_piece in
       no_room many piece.0.1
   no_bracket c more e (inr is) many =
+      let by : IsPiece acct s.step.piece next None spot flow_mapping_start → ⊥ = λ a. grind (arith, nat_tests, no_room, many, not_empty, eqb-true) in
       let own : Whole mapping_opening (context_of acct) s.step.piece next s.step.shown = whole_by 123 more (e ∙ ap (λ x. x ∷ more) is) in
       by (subst (λ t. IsPiece acct s.step.piece next None spot t) own.1 is_piece)
-    where
-      by : IsPiece acct s.step.piece next None spot flow_mapping_start → ⊥
-      by a = grind (arith, nat_tests, no_room, many, not_empty, eqb-true)

@@ -40,10 +40,6 @@ ends_dashed s c [] h = grind arith
 ends_dashed s c (d ∷ []) h = ends_dashed (past s c) d [] h
 ends_dashed s c (d ∷ e ∷ p) h = ends_dashed (past s c) d (e ∷ p) h
 
-ends_solid : (d : ℕ) (r : List ℕ) → ends_separation (d ∷ r) ≡ true → (classes.is_blank d ≡ false) × (classes.is_break d ≡ false)
-unfolding is_blank_or_end
-ends_solid d r h = grind arith
-
 module _ (a : Account) (separation rest : List ℕ) (here : Position) (s : StepAt a separation rest here) (comes_here : comes_plain (is_in_flow a.entries) (is_adjacent (before_past (before_by a.site.before) separation)) here.col rest ≡ true) where
   abbrev next : List ℕ
   next = s.next
@@ -79,13 +75,12 @@ module _ (a : Account) (separation rest : List ℕ) (here : Position) (s : StepA
 
   -- a dash before a flow indicator
   pub no_dash : (before more : List ℕ) → is_in_flow a.entries ≡ true → rest ≡ before ++ 45 ∷ more → begins_flow more ≡ true → goes_over (is_in_flow a.entries) (innermost (site_at_place a here).blocks) before (45 ∷ more) ≡ true → is_apart (stand_after after_blank before) ≡ true → ⊥
-  no_dash [] more flow cut begins over apart = cc (may, none)
-    where
-      may : may_begin true (is_adjacent seen_here.before) 45 more ≡ true
-      may =
+  no_dash [] more flow cut begins over apart =
+      let may : may_begin true (is_adjacent seen_here.before) 45 more ≡ true =
           let all : begins_plain (pieces.is_in_flow seen_here) (is_adjacent seen_here.before) seen_here.position.col (45 ∷ more) ≡ true = ap (begins_plain (pieces.is_in_flow seen_here) (is_adjacent seen_here.before) seen_here.position.col) (sym (s.text_is ∙ cut)) ∙ plain_here.1.0 in
-          ap (λ b. may_begin b (is_adjacent seen_here.before) 45 more) (sym (flow_is a separation rest here s ∙ flow)) ∙ (and_parts (may_begin (pieces.is_in_flow seen_here) (is_adjacent seen_here.before) 45 more) (not ((seen_here.position.col == 0) && is_document_marker (45 ∷ more))) all).0
-
+          ap (λ b. may_begin b (is_adjacent seen_here.before) 45 more) (sym (flow_is a separation rest here s ∙ flow)) ∙ (and_parts (may_begin (pieces.is_in_flow seen_here) (is_adjacent seen_here.before) 45 more) (not ((seen_here.position.col == 0) && is_document_marker (45 ∷ more))) all).0 in
+      cc (may, none)
+    where
       none : may_begin true (is_adjacent seen_here.before) 45 more ≡ false
       none = rw begins (by (is_at_gap more))
         where
@@ -93,21 +88,13 @@ module _ (a : Account) (separation rest : List ℕ) (here : Position) (s : StepA
           by true = refl
           by false = refl
   no_dash (c ∷ p) more flow cut begins over apart =
+      let coll : Option ℕ = innermost (site_at_place a here).blocks in
+      let own : is_whole_plain true coll (c ∷ (p ++ 45 ∷ [])) more ≡ true = rw (goes_both true coll inside p (45 ∷ []) more (ap (λ b. goes_on b coll inside p (45 ∷ more)) (sym flow) ∙ over) (dash_goes coll (stand_after inside p) more begins), content_end c p, flow_stops coll inside more begins) refl in
+      let same : (s.step.piece ≡ c ∷ (p ++ 45 ∷ [])) × (next ≡ more) = plains true coll s.step.piece (c ∷ (p ++ 45 ∷ [])) next more (ap (λ b. is_whole_plain b coll s.step.piece next) (sym flow) ∙ whole) own (s.text_is ∙ (cut ∙ ap (λ r. c ∷ r) (sym (append_assoc p (45 ∷ []) more)))) in
+      let dashed_there : has_dash_before_flow s.step.piece next ≡ true = ap (λ x. has_dash_before_flow x next) same.0 ∙ (ap (λ r. has_dash_before_flow (c ∷ (p ++ 45 ∷ [])) r) same.1 ∙ rw (ends_dashed after_blank c p apart, begins) refl) in
       no_end a separation rest here s
       (ap (λ t. may_precede (is_in_flow s.account.entries) (At s.account s.step next).blocks t s.step.piece next) plain_here.2 ∙
       (ap (λ b. not (b && has_dash_before_flow s.step.piece next)) (sym (same_flow a.entries s.account.entries s.is_like.2) ∙ flow) ∙ ap not dashed_there))
-    where
-      coll : Option ℕ
-      coll = innermost (site_at_place a here).blocks
-
-      own : is_whole_plain true coll (c ∷ (p ++ 45 ∷ [])) more ≡ true
-      own = rw (goes_both true coll inside p (45 ∷ []) more (ap (λ b. goes_on b coll inside p (45 ∷ more)) (sym flow) ∙ over) (dash_goes coll (stand_after inside p) more begins), content_end c p, flow_stops coll inside more begins) refl
-
-      same : (s.step.piece ≡ c ∷ (p ++ 45 ∷ [])) × (next ≡ more)
-      same = plains true coll s.step.piece (c ∷ (p ++ 45 ∷ [])) next more (ap (λ b. is_whole_plain b coll s.step.piece next) (sym flow) ∙ whole) own (s.text_is ∙ (cut ∙ ap (λ r. c ∷ r) (sym (append_assoc p (45 ∷ []) more))))
-
-      dashed_there : has_dash_before_flow s.step.piece next ≡ true
-      dashed_there = ap (λ x. has_dash_before_flow x next) same.0 ∙ (ap (λ r. has_dash_before_flow (c ∷ (p ++ 45 ∷ [])) r) same.1 ∙ rw (ends_dashed after_blank c p apart, begins) refl)
 
   -- a TAB that indents a line of it, or the one after it
   pub no_tab : (before blanks more : List ℕ) (column : ℕ) → rest ≡ before ++ 9 ∷ (blanks ++ more) → goes_over (is_in_flow a.entries) (innermost (site_at_place a here).blocks) before (9 ∷ (blanks ++ more)) ≡ true → stand_after after_blank before ≡ on_line column

@@ -23,11 +23,6 @@ is_of_lines (At _ p) = false
 
 -- ---- texts
 
--- nor does what is neither blank nor break
-solid_no_feed : (c : ℕ) → is_white c ≡ false → (c == 10) ≡ false
-unfolding is_break is_blank
-solid_no_feed c h = grind arith
-
 closes : (single : Bool) (ctx : Context) (start : Position) (r : List ℕ) (p : Position) (u : Folded) → ends_before single r ≡ true → scan single ctx start (quote_of single ∷ r) inside p u ≡ Ok (record { rest = r; position = past p; value = u.text })
 unfolding is_break is_blank
 closes a ctx b r p u e = grind arith
@@ -251,13 +246,12 @@ module _ (single : Bool) (ctx : Context) (start : Position) (least : ℕ) (limit
   by_kind c b e is (has_content code k solid) s p m t stood later = content_ends c b code k is solid s p m t stood later
   by_kind c b e is (has_blank f g) s p m t stood later = blank_ends c b is f g s p m t stood later
   by_kind c b e is (has_line f) s p m t stood later = line_ends c b is f s p t later
-  by_kind c b e is (has_escaped d a double same_c same_b f) s p m t stood later = slashed c b same_c same_b is later
-    where
-      slashed : (c : ℕ) (b : List ℕ) → c ≡ 92 → b ≡ d ∷ a → element_of single c b ≡ Some (spelled escaped_break (suc (break_further d a))) → Later (drop (suc (break_further d a)) b) → Ends s p (c ∷ b) (scan single ctx start (c ∷ b) gap p t)
-      slashed c b same_c same_b is later =
+  by_kind c b e is (has_escaped d a double same_c same_b f) s p m t stood later =
+      let slashed : (c : ℕ) (b : List ℕ) → c ≡ 92 → b ≡ d ∷ a → element_of single c b ≡ Some (spelled escaped_break (suc (break_further d a))) → Later (drop (suc (break_further d a)) b) → Ends s p (c ∷ b) (scan single ctx start (c ∷ b) gap p t) = λ c b same_c same_b is later. 
           let there : element_of single 92 (d ∷ a) ≡ Some (spelled escaped_break (suc (break_further d a))) = ap (λ x. element_of single x (d ∷ a)) (sym same_c) ∙ (ap (λ y. element_of single c y) (sym same_b) ∙ is) in
           subst (λ x. Ends s p (x ∷ b) (scan single ctx start (x ∷ b) gap p t)) (sym same_c)
-          (subst (λ y. Ends s p (92 ∷ y) (scan single ctx start (92 ∷ y) gap p t)) (sym same_b) (escaped_ends d a double there f s p m t stood (subst (λ y. Later (drop (suc (break_further d a)) y)) same_b later)))
+          (subst (λ y. Ends s p (92 ∷ y) (scan single ctx start (92 ∷ y) gap p t)) (sym same_b) (escaped_ends d a double there f s p m t stood (subst (λ y. Later (drop (suc (break_further d a)) y)) same_b later))) in
+      slashed c b same_c same_b is later
 
   -- an element begins after an escaped break as in a gap
   from_gap : (c : ℕ) (b : List ℕ) (e : Spelled) → element_of single c b ≡ Some e → (s : LineStand) (m : Mode) (p : Position) (t : Folded) → Stood p t s m → scan single ctx start (c ∷ b) m p t ≡ scan single ctx start (c ∷ b) gap p t

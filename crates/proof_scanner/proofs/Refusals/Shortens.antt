@@ -146,14 +146,12 @@ module _ (text : List ℕ) (t : ScannerState) (a : Arrives text t) (some : is_em
   dash_shortens : Holds Shorter (fetch_block_entry t)
   unfolding fetch_block_entry check_dash
   dash_shortens =
+      let tried_on : (x : ScannerState) → length (roll_entry x).rest < length t.rest → Holds Shorter (try_held remove_implicit_key (roll_entry x) >>= λ y. Ok (on_held (λ s. push s.position Tok.block_entry (allow_key true s)) y)) = λ x n. chained {P = Shorter} (tried {P = λ s. Unit {0}} (roll_entry x) (remove_implicit_key (roll_entry x).held) (anything (remove_implicit_key (roll_entry x).held)) (λ s k. n)) (λ y m. went m) in
       chained (stays check_block_entry) (λ u e.
       let v : ScannerState = on_held (roll_indent t.held.position.col None Tok.block_sequence_start t.held.position) (skip_indicator u) in
       chained {P = λ w. length w.rest < length t.rest} (spaced Yes v check_dash (λ w. length w.rest < length t.rest) (λ x w s. let n = one_read u e in let m = spaced_no_longer Yes v w s in passes _ _ (went (omega (arith, n, m))))) (λ w n.
       chained (spaces_skipped No w) (λ x s.
       tried_on x (let m = spaced_no_longer No w x s in subst (λ r. length r < length t.rest) (sym (rolled_rest x)) (omega (arith, n, m))))))
-    where
-      tried_on : (x : ScannerState) → length (roll_entry x).rest < length t.rest → Holds Shorter (try_held remove_implicit_key (roll_entry x) >>= λ y. Ok (on_held (λ s. push s.position Tok.block_entry (allow_key true s)) y))
-      tried_on x n = chained {P = Shorter} (tried {P = λ s. Unit {0}} (roll_entry x) (remove_implicit_key (roll_entry x).held) (anything (remove_implicit_key (roll_entry x).held)) (λ s k. n)) (λ y m. went m)
 
   key_spaced : (w : ScannerState) → length w.rest < length t.rest → Holds Shorter (check_key_space w)
   unfolding check_key_space
@@ -255,10 +253,8 @@ ReadsOn t u = (u.held.ended ≡ true) ⊎ (length u.rest < length t.rest)
 here_shortens : (text : List ℕ) (t : ScannerState) → Arrives text t → Holds (ReadsOn t) (fetch_here t)
 unfolding fetch_here fetch_stream_end
 here_shortens text t a =
+    let over : (s : Held) → Holds (λ h. h.ended ≡ true) (end_stream s) = λ s. checked (has_required s.keys) (At problem.KeyExpected s.position) (λ _. went refl) in
     either (peek t.rest == 0) (λ _. tried t (end_stream (record t.held { position = next_line t.held.position })) (over (record t.held { position = next_line t.held.position })) (λ s k. inl k)) (λ e. weakened (λ u n. inr n) (content_shortens text t a (goes_on_here t.rest e)))
-  where
-    over : (s : Held) → Holds (λ h. h.ended ≡ true) (end_stream s)
-    over s = checked (has_required s.keys) (At problem.KeyExpected s.position) (λ _. went refl)
 
 -- ---- a fetch
 
@@ -269,14 +265,12 @@ stale_arrives text u s solid = tried u (stale u.held) (stale_stands text u s) (�
 next_reads_on : (text : List ℕ) (t : ScannerState) → Stands text t → Holds (ReadsOn t) (fetch_next t)
 unfolding fetch_next
 next_reads_on text t s =
+    let by : (u v w : ScannerState) (h : Held) → ReadsOn v w → h.ended ≡ w.held.ended → length v.rest ≡ length u.rest → length u.rest ≤ length t.rest → ReadsOn t (record w { held = h }) = λ u v w h a same e m. grind arith in
     chained (both_hold (passed_stands text t s) (exact t)) (λ u p.
     chained {P = λ v. Arrives text (on_held (λ h. unroll_indent (h.position.col + 1) h) v) × (v.rest ≡ u.rest)}
     (both_hold (stale_arrives text u p.0.0 p.0.1) (tried {P = λ h. Unit {0}} u (stale u.held) (anything (stale u.held)) (λ h k. refl))) (λ v a.
     chained (here_shortens text (on_held (λ h. unroll_indent (h.position.col + 1) h) v) a.0) (λ w n.
     tried w (stale w.held) (keys_only w.held) (λ h k. by u v w h n (ap (λ x. x.ended) k) (ap length a.1) (cut_no_longer p.1.separation t.rest u.rest p.1.cut)))))
-  where
-    by : (u v w : ScannerState) (h : Held) → ReadsOn v w → h.ended ≡ w.held.ended → length v.rest ≡ length u.rest → length u.rest ≤ length t.rest → ReadsOn t (record w { held = h })
-    by u v w h a same e m = grind arith
 
 pub fetch_reads_on : (text : List ℕ) (t : ScannerState) → Stands text t → Holds (ReadsOn t) (fetch t)
 unfolding fetch

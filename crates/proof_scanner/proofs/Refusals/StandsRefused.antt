@@ -114,10 +114,9 @@ module _ (a : Account) (separation rest : List ℕ) (here : Position) (s : StepA
 
   question_here : (more : List ℕ) → rest ≡ 63 ∷ more → is_at_gap more ≡ true → Here question
   unfolding is_blank_or_end is_blank is_break is_nul is_flow
-  question_here more e gap = subst Here (question_kind (pieces.is_in_flow (acct a separation rest here s)) (is_adjacent (acct a separation rest here s).before) (acct a separation rest here s).position.col) (whole_by a separation rest here s 63 more e)
-    where
-      question_kind : (fl adjacent : Bool) (column : ℕ) → kind_at fl adjacent column (63 ∷ more) ≡ question
-      question_kind fl adjacent column = rw gap refl
+  question_here more e gap =
+      let question_kind : (fl adjacent : Bool) (column : ℕ) → kind_at fl adjacent column (63 ∷ more) ≡ question = λ fl adjacent column. rw gap refl in
+      subst Here (question_kind (pieces.is_in_flow (acct a separation rest here s)) (is_adjacent (acct a separation rest here s).before) (acct a separation rest here s).position.col) (whole_by a separation rest here s 63 more e)
 
   pub no_question_here : (more : List ℕ) → rest ≡ 63 ∷ more → is_at_gap more ≡ true → is_in_flow a.entries ≡ false → is_taken a separation ≡ true → ⊥
   no_question_here more e gap out line = none_on_line out line (inr (ap act_of (question_here more e gap).2))
@@ -142,10 +141,9 @@ module _ (a : Account) (separation rest : List ℕ) (here : Position) (s : StepA
 
   colon_here : (more : List ℕ) → rest ≡ 58 ∷ more → is_value_here a separation more ≡ true → Here colon
   unfolding is_blank_or_end is_blank is_break is_nul is_flow
-  colon_here more e is = subst Here (colon_kind (pieces.is_in_flow (acct a separation rest here s)) (is_adjacent (acct a separation rest here s).before) (acct a separation rest here s).position.col (ap (λ b. is_value_indicator b (is_adjacent (acct a separation rest here s).before) more) flow_is ∙ (ap (λ b. is_value_indicator (is_in_flow a.entries) b more) adjacent_is ∙ is))) (whole_by a separation rest here s 58 more e)
-    where
-      colon_kind : (fl adjacent : Bool) (column : ℕ) → is_value_indicator fl adjacent more ≡ true → kind_at fl adjacent column (58 ∷ more) ≡ colon
-      colon_kind fl adjacent column h = rw h refl
+  colon_here more e is =
+      let colon_kind : (fl adjacent : Bool) (column : ℕ) → is_value_indicator fl adjacent more ≡ true → kind_at fl adjacent column (58 ∷ more) ≡ colon = λ fl adjacent column h. rw h refl in
+      subst Here (colon_kind (pieces.is_in_flow (acct a separation rest here s)) (is_adjacent (acct a separation rest here s).before) (acct a separation rest here s).position.col (ap (λ b. is_value_indicator b (is_adjacent (acct a separation rest here s).before) more) flow_is ∙ (ap (λ b. is_value_indicator (is_in_flow a.entries) b more) adjacent_is ∙ is))) (whole_by a separation rest here s 58 more e)
 
   -- no colon stands on a line that is taken, where no key waits for it
   pub no_colon_here : (more : List ℕ) → rest ≡ 58 ∷ more → is_value_here a separation more ≡ true → is_in_flow a.entries ≡ false → is_taken a separation ≡ true
@@ -163,11 +161,10 @@ module _ (a : Account) (separation rest : List ℕ) (here : Position) (s : StepA
   spaces_indent = grind (arith, no_tabbed_line)
 
   pub no_late_colon : (more : List ℕ) (begin : Position) (e : Entry) (es : List Entry) → rest ≡ 58 ∷ more → is_value_here a separation more ≡ true → a.entries ≡ e ∷ es → takes_pair e.kind e.pair ≡ true → e.had ≡ entry.waits begin → begin.line < here.line → ⊥
-  no_late_colon more begin e es cut is are takes had late = by s.account.entries refl (subst (λ ds. LikeEntries ds s.account.entries) are s.is_like.2)
+  no_late_colon more begin e es cut is are takes had late =
+      let flowing : (fs : List Entry) → s.account.entries ≡ fs → may_stand (is_in_flow fs) s.account.site (At s.account s.step next) s.step.separation s.step.piece s.step.shown next ≡ may_stand (is_in_flow s.account.entries) s.account.site there s.step.separation s.step.piece s.step.shown next = λ fs i. ap (λ z. may_stand (is_in_flow z) s.account.site there s.step.separation s.step.piece s.step.shown next) (sym i) in
+      by s.account.entries refl (subst (λ ds. LikeEntries ds s.account.entries) are s.is_like.2)
     where
-      flowing : (fs : List Entry) → s.account.entries ≡ fs → may_stand (is_in_flow fs) s.account.site (At s.account s.step next) s.step.separation s.step.piece s.step.shown next ≡ may_stand (is_in_flow s.account.entries) s.account.site there s.step.separation s.step.piece s.step.shown next
-      flowing fs i = ap (λ z. may_stand (is_in_flow z) s.account.site there s.step.separation s.step.piece s.step.shown next) (sym i)
-
       by : (fs : List Entry) → s.account.entries ≡ fs → LikeEntries (e ∷ es) fs → ⊥
       by [] i like = like
       by (d ∷ ds) i like =
@@ -235,23 +232,14 @@ module _ (a : Account) (separation rest : List ℕ) (here : Position) (s : StepA
 
   pub no_tab_after_quoted : (single : Bool) (piece gap content : List ℕ) → rest ≡ piece ++ (gap ++ content) → IsQuoted single piece (gap ++ content) → is_separation false gap content ≡ true → is_empty content ≡ false → begins_separation content ≡ false
       → is_indented_by_spaces quoted_scalar (site_at_place a here).blocks (site_at_place a here).awaits gap ≡ false → IsClearAfter s → ⊥
-  no_tab_after_quoted single piece gap content e is fills some solid tabbed_there clear = cc (clear gap content (sym same.2) fills solid some, tabbed_then)
-    where
-      same : (piece ≡ s.step.piece) × (quoted_token single (quoted_value single piece (gap ++ content) is) ≡ s.step.shown) × (gap ++ content ≡ next)
-      same = same_quoted_value single piece (gap ++ content) e is
-
-      act : act_of s.step.shown ≡ gives_node
-      act = ap act_of (sym same.1) ∙ (node_token single (quoted_value single piece (gap ++ content) is)).0
-
-      site_is : s.past.site ≡ site_past (is_in_flow s.account.entries) there s.step.piece s.step.shown next there.blocks
-      site_is = node_site_past s.account s.step next s.past act s.is_past
-
-      awaits_is : s.past.site.awaits ≡ (site_at_place a here).awaits
-      awaits_is =
+  no_tab_after_quoted single piece gap content e is fills some solid tabbed_there clear =
+      let same : (piece ≡ s.step.piece) × (quoted_token single (quoted_value single piece (gap ++ content) is) ≡ s.step.shown) × (gap ++ content ≡ next) = same_quoted_value single piece (gap ++ content) e is in
+      let act : act_of s.step.shown ≡ gives_node = ap act_of (sym same.1) ∙ (node_token single (quoted_value single piece (gap ++ content) is)).0 in
+      let site_is : s.past.site ≡ site_past (is_in_flow s.account.entries) there s.step.piece s.step.shown next there.blocks = node_site_past s.account s.step next s.past act s.is_past in
+      let awaits_is : s.past.site.awaits ≡ (site_at_place a here).awaits =
           ap (λ (x : Site). x.awaits) site_is ∙ (ap (λ t. awaits_past (is_in_flow s.account.entries) t there.blocks there.awaits next) (sym same.1) ∙
-          ((grind arith) ∙ ap (λ (x : Site). x.awaits) (node_site act)))
-
-      tabbed_then : is_indented_by_spaces s.past.site.before s.past.site.blocks s.past.site.awaits gap ≡ false
-      tabbed_then =
+          ((grind arith) ∙ ap (λ (x : Site). x.awaits) (node_site act))) in
+      let tabbed_then : is_indented_by_spaces s.past.site.before s.past.site.blocks s.past.site.awaits gap ≡ false =
           ap (λ b. is_indented_by_spaces b s.past.site.blocks s.past.site.awaits gap) (ap (λ (x : Site). x.before) site_is ∙ (ap previous_by (sym same.1) ∙ (node_token single (quoted_value single piece (gap ++ content) is)).1)) ∙ (ap (λ bs. is_indented_by_spaces quoted_scalar bs s.past.site.awaits gap) (ap (λ (x : Site). x.blocks) site_is ∙ ap (λ (x : Site). x.blocks) (node_site act)) ∙
-          (ap (λ w. is_indented_by_spaces quoted_scalar (site_at_place a here).blocks w gap) awaits_is ∙ tabbed_there))
+          (ap (λ w. is_indented_by_spaces quoted_scalar (site_at_place a here).blocks w gap) awaits_is ∙ tabbed_there)) in
+      cc (clear gap content (sym same.2) fills solid some, tabbed_then)

@@ -36,6 +36,13 @@ module _ (text : List ℕ) (t : ScannerState) (a : Arrives text t) (some : is_em
 
     tab_stuck : {f : Fault} → TabStands blocks awaits quoted_scalar spaces v.rest v.held.position f → Said text f
     tab_stuck d =
+        let gap : List ℕ = spaces ++ d.passed in
+        let cut : x.rest ≡ gap ++ d.rest = c.spaces.is_rest ∙ (sym (append_assoc c.spaces.blanks c.spaces.comment v.rest) ∙ (ap (λ r. spaces ++ r) d.cut ∙ sym (append_assoc spaces d.passed d.rest))) in
+        let is_filled : is_separation false gap d.rest ≡ true = separation_append false spaces d.passed d.rest (subst (λ r. is_separation false spaces r ≡ true) d.cut c.spaces.is_filled) d.is_filled in
+        let end : Position = position_after t.held.position scalar (gap ++ d.rest) in
+        let place : position_after v.held.position d.passed d.rest ≡ position_after end gap d.rest =
+            ap (λ p. position_after p d.passed d.rest) (ap (λ h. h.position) c.spaces.is_held ∙ ap (λ r. position_after x.position spaces r) d.cut) ∙
+            (sym (position_append x.position spaces d.passed d.rest) ∙ ap (λ p. position_after p gap d.rest) (q.end_is ∙ ap (λ r. position_after t.held.position scalar r) cut)) in
         subst (λ g. Said text g) (sym d.is_fault) (λ _. subst (λ p. IsWhy text problem.TabInBlockIndentation p) (sym place)
         (stuck text t a some [] problem.TabInBlockIndentation (position_after end gap d.rest) (λ k may.
         record {
@@ -44,30 +51,12 @@ module _ (text : List ℕ) (t : ScannerState) (a : Arrives text t) (some : is_em
               (ap (λ w. is_indented_by_spaces quoted_scalar blocks w gap) (awaits_by text t a some k []) ∙ d.is_indented_by_tab)));
           is_first = (looked_at text t a some lies k [], subst (λ n. closed_first single n scalar) (sym (least_by text t a some k [])) (fits text t a some lies single ctx x q same), subst (λ r. begins_with 35 r ≡ false) cut (unglued (in_flow own.held) scalar x.rest c.may_end));
         })))
-      where
-        gap : List ℕ
-        gap = spaces ++ d.passed
-
-        cut : x.rest ≡ gap ++ d.rest
-        cut = c.spaces.is_rest ∙ (sym (append_assoc c.spaces.blanks c.spaces.comment v.rest) ∙ (ap (λ r. spaces ++ r) d.cut ∙ sym (append_assoc spaces d.passed d.rest)))
-
-        is_filled : is_separation false gap d.rest ≡ true
-        is_filled = separation_append false spaces d.passed d.rest (subst (λ r. is_separation false spaces r ≡ true) d.cut c.spaces.is_filled) d.is_filled
-
-        end : Position
-        end = position_after t.held.position scalar (gap ++ d.rest)
-
-        place : position_after v.held.position d.passed d.rest ≡ position_after end gap d.rest
-        place =
-            ap (λ p. position_after p d.passed d.rest) (ap (λ h. h.position) c.spaces.is_held ∙ ap (λ r. position_after x.position spaces r) d.cut) ∙
-            (sym (position_append x.position spaces d.passed d.rest) ∙ ap (λ p. position_after p gap d.rest) (q.end_is ∙ ap (λ r. position_after t.held.position scalar r) cut))
 
     told : Faults (Said text) (skip_to_next_token v)
     told = mapped (λ f d. tab_stuck d) (skip_refused quoted_scalar blocks awaits spaces v (grind (arith, nat_tests, eqb-true, least_is, saved_is)) (λ _. (inr (record { leading_is = λ i. ap (λ h. h.leading) c.spaces.is_held ∙ sym no_break; col_is = λ b. absurd (cc (b, no_break)); spaced = λ b. absurd (cc (b, no_break)) }))))
 
   -- what stands on the way to the next token after a quoted scalar
   pub tab_told : (v : ScannerState) → check_after_quoted t.held.position.line own ≡ Ok v → Faults (Said text) (skip_to_next_token v)
-  tab_told v e = told v (held_of v (quoted_checked t.held.position scalar own (in_line single q.body) clean q.end_is) e)
-    where
-      clean : has_no_nul x.rest ≡ true
-      clean = no_nul_after scalar x.rest (subst (λ r. has_no_nul r ≡ true) q.cut a.is_clean)
+  tab_told v e =
+      let clean : has_no_nul x.rest ≡ true = no_nul_after scalar x.rest (subst (λ r. has_no_nul r ≡ true) q.cut a.is_clean) in
+      told v (held_of v (quoted_checked t.held.position scalar own (in_line single q.body) clean q.end_is) e)

@@ -60,11 +60,9 @@ refusal_fails flow text why p (suffix_goes_on name rest suffix cut all some e go
 refusal_fails flow text why p (local_octets f no_verbatim none e) =
     rw (plainly text no_verbatim, word text (past p) [], unmarked (after is_alpha text) none, (uris_are_read p (after is_alpha text) (further (length (leading is_alpha text)) (past p)) (leading is_alpha text)).1, e) refl
 refusal_fails flow text why p (local_goes_on suffix no_verbatim none e goes) =
+    let by : (b : Bool) → is_empty (leading is_alpha text ++ suffix) ≡ b → tag_end flow p (tags.local (record { rest = after is_tag (after is_alpha text); position = further (length (leading is_tag (after is_alpha text))) (further (length (leading is_alpha text)) (past p)); value = leading is_alpha text ++ suffix })) ≡ Err (At problem.TagEnd p) = λ a i. grind (arith, nat_tests, same_end, flow, after, text, goes, eqb-true) in
     rw (plainly text no_verbatim, word text (past p) [], unmarked (after is_alpha text) none, (uris_are_read p (after is_alpha text) (further (length (leading is_alpha text)) (past p)) (leading is_alpha text)).1, e)
     (by (is_empty (leading is_alpha text ++ suffix)) refl)
-  where
-    by : (b : Bool) → is_empty (leading is_alpha text ++ suffix) ≡ b → tag_end flow p (tags.local (record { rest = after is_tag (after is_alpha text); position = further (length (leading is_tag (after is_alpha text))) (further (length (leading is_alpha text)) (past p)); value = leading is_alpha text ++ suffix })) ≡ Err (At problem.TagEnd p)
-    by a i = grind (arith, nat_tests, same_end, flow, after, text, goes, eqb-true)
 
 -- ---- lines
 
@@ -113,11 +111,9 @@ module _ (collection : Option ℕ) (header more : List ℕ) where
   longer : (own q next : List ℕ) (r : BlockRead) → split own ≡ of_lines (header ∷ []) [] → block_read collection (own ++ 9 ∷ q) next ≡ Some r → ⊥
   unfolding is_break
   longer own q next r one is =
+      let by : (complete : List (List ℕ)) (last : List ℕ) (ended : Bool) → read_lines collection (header ∷ (put_first 9 complete last).complete) ((put_first 9 complete last).last) next ended ≡ Some r → ⊥ = λ complete last ended e. grind (arith) in
       let lines : split (own ++ 9 ∷ q) ≡ lines_after (header ∷ []) (split (9 ∷ q)) = split_append own (9 ∷ q) (header ∷ []) one refl in
       by ((split q).complete) ((split q).last) (is_at_end next) (ap (λ z. read_lines collection z.complete z.last next (is_at_end next)) (sym lines) ∙ is)
-    where
-      by : (complete : List (List ℕ)) (last : List ℕ) (ended : Bool) → read_lines collection (header ∷ (put_first 9 complete last).complete) ((put_first 9 complete last).last) next ended ≡ Some r → ⊥
-      by complete last ended e = grind (arith)
 
   -- a piece that ends before the header's break does
   shorter : (own : List ℕ) (d : ℕ) (q next : List ℕ) (r : BlockRead) → split (own ++ d ∷ q) ≡ of_lines (header ∷ []) [] → has_no_nul (d ∷ next) ≡ true → block_read collection own (d ∷ next) ≡ Some r → ⊥
@@ -217,22 +213,19 @@ module _ (a : Account) (separation rest : List ℕ) (here : Position) (s : StepA
   pub no_directive : (line after : List ℕ) → rest ≡ 37 ∷ (line ++ after) → has_no_break line ≡ true → directives.ends_line after ≡ true → directive_of (37 ∷ line) ≡ None → ⊥
   unfolding is_blank_or_end is_blank is_break is_nul is_flow
   no_directive line after e one ends none =
+      let no_nul_more : (r : List ℕ) → has_no_nul (37 ∷ r) ≡ true → has_no_nul r ≡ true = λ r h. (and_parts (not (is_nul 37)) (has_no_nul r) h).1 in
       let w : Here directive_line = whole_by a separation rest here s 37 (line ++ after) e in
       let first = directive_begins s.step.piece w.0 w.1 in
       let left : first.0 ++ next ≡ line ++ after = rest_of a separation rest here s 37 first.0 (line ++ after) first.1 e in
       let clean : has_no_nul (first.0 ++ next) ≡ true = ap has_no_nul left ∙ no_nul_more (line ++ after) (sym (ap has_no_nul e) ∙ s.is_clean) in
       let same : first.0 ≡ line = one_line first.0 next line after left ((and_parts (not (is_break 37)) (has_no_break first.0) (sym (ap has_no_break first.1) ∙ w.2)).1) (clean_end next w.3 (no_nul_after first.0 next clean)) one ends in
       cc (none, ap (λ r. directive_of (37 ∷ r)) (sym same), ap directive_of (sym first.1), w.1)
-    where
-      no_nul_more : (r : List ℕ) → has_no_nul (37 ∷ r) ≡ true → has_no_nul r ≡ true
-      no_nul_more r h = (and_parts (not (is_nul 37)) (has_no_nul r) h).1
 
   block_here : (style : BlockStyle) (more : List ℕ) → is_in_flow a.entries ≡ false → rest ≡ indicator_of style ∷ more → Here block_scalar
   unfolding is_blank_or_end is_blank is_break is_nul is_flow
-  block_here style more out e = subst Here (block_kind style (pieces.is_in_flow (acct a separation rest here s)) (is_adjacent (acct a separation rest here s).before) (acct a separation rest here s).position.col (flow_is a separation rest here s ∙ out)) (whole_by a separation rest here s (indicator_of style) more e)
-    where
-      block_kind : (style : BlockStyle) (fl adjacent : Bool) (column : ℕ) → fl ≡ false → kind_at fl adjacent column (indicator_of style ∷ more) ≡ block_scalar
-      block_kind a fl adjacent column h = grind (arith, nat_tests, eqb-true)
+  block_here style more out e =
+      let block_kind : (style : BlockStyle) (fl adjacent : Bool) (column : ℕ) → fl ≡ false → kind_at fl adjacent column (indicator_of style ∷ more) ≡ block_scalar = λ a fl adjacent column h. grind (arith, nat_tests, eqb-true) in
+      subst Here (block_kind style (pieces.is_in_flow (acct a separation rest here s)) (is_adjacent (acct a separation rest here s).before) (acct a separation rest here s).position.col (flow_is a separation rest here s ∙ out)) (whole_by a separation rest here s (indicator_of style) more e)
 
   pub no_block_header : (style : BlockStyle) (line after : List ℕ) → is_in_flow a.entries ≡ false → rest ≡ indicator_of style ∷ (line ++ after) → is_in_line line ≡ true → ends_line after ≡ true → header_of (indicator_of style ∷ line) ≡ None → ⊥
   no_block_header style line after out e inner ends none =
@@ -245,14 +238,12 @@ module _ (a : Account) (separation rest : List ℕ) (here : Position) (s : StepA
   -- a TAB begins the line after the header
   pub no_block_tab : (own header more : List ℕ) (h : Header) → is_in_flow a.entries ≡ false → rest ≡ own ++ 9 ∷ more → split own ≡ of_lines (header ∷ []) [] → header_of header ≡ Some h → ⊥
   no_block_tab own header more h out e one is =
+      let same_end_by : (style : BlockStyle) (text : List ℕ) → may_precede (is_in_flow s.account.entries) (written.At s.account s.step next).blocks (block_token style text) s.step.piece next ≡ block_may_end (written.At s.account s.step next).blocks s.step.piece next = λ a b. grind (arith, nat_tests, eqb-true) in
       let first = first_char own header h (sym (line_is own) ∙ ap (λ z. first_line z.complete z.last) one) is in
       let w : Here block_scalar = block_here first.0 (first.1 ++ 9 ∷ more) out (e ∙ ap (λ p. p ++ 9 ∷ more) first.2) in
       let clean : has_no_nul next ≡ true = no_nul_after s.step.piece next (ap has_no_nul s.text_is ∙ s.is_clean) in
       no_end_here a separation rest here s (ap (λ t. may_precede (is_in_flow s.account.entries) (written.At s.account s.step next).blocks t s.step.piece next) w.3 ∙
       (same_end_by w.0.style w.0.text ∙ tab_follows (pieces.collection_column (acct a separation rest here s)) header more own s.step.piece next (written.At s.account s.step next).blocks w.0 (s.text_is ∙ e) one clean w.1))
-    where
-      same_end_by : (style : BlockStyle) (text : List ℕ) → may_precede (is_in_flow s.account.entries) (written.At s.account s.step next).blocks (block_token style text) s.step.piece next ≡ block_may_end (written.At s.account s.step next).blocks s.step.piece next
-      same_end_by a b = grind (arith, nat_tests, eqb-true)
 
   -- ---- quoted scalars
 
