@@ -53,11 +53,8 @@ module _ (indent : ℕ) (p : Position) (b : BlockRead) (piece next bs : List ℕ
         let spaces = spaces_col (position_after p piece next) next in
         omega (arith, margin, spaces)
 
-    deep_by : (none low left : Bool) (k : ℕ) → is_none (first_content b.column true p piece) ≡ none → nat_le indent k ≡ low → nat_lt k b.column ≡ left → (not (are_empty b.column (texts w.lines)) || nat_lt k (least_column bs true) || nat_le b.column k) ≡ true → ((none && low) && left) ≡ false
-    deep_by a low left k e f g h = grind (arith, nat_tests, eqb-true, w, none_is_empty, first_header)
-
     before_text : Clear
-    before_text = grind (arith, nat_tests, eqb-true, lines_written, w, both, column_is, deep_by)
+    before_text = grind (arith, nat_tests, eqb-true, lines_written, w, both, column_is, none_is_empty, first_header)
 
   -- What stands after a block scalar that may end is not refused.
   pub block_is_clear : has_no_nul next ≡ true → block_may_end bs piece next ≡ true → Clear

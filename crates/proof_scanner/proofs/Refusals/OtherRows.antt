@@ -101,14 +101,11 @@ row_at text separation rest a here r p solid some h = by g.steps g.is_row g.spel
     by [] row e = absurd (cc (some, ap is_empty (separations g.last separation [] rest (row.0, refl) (p.is_filled, ends_before rest solid clean) (append-nil g.last ∙ e)).1))
     by (w ∷ ws) row e = to (account_past g.account w (spelled ws g.last)) refl row.1
       where
-        at : (w.separation ≡ separation) × (w.piece ++ spelled ws g.last ≡ rest)
-        at = step_here g.account w (spelled ws g.last) separation rest row.0 e p.is_filled solid clean
-
         to : (o : Option Account) → account_past g.account w (spelled ws g.last) ≡ o → IsRowFrom o ws g.last → RowAt text a separation rest here
         to None i k = absurd k
         to (Some b) i k = record {
           begins = g.holds;
           is_clear = λ gap content cut fills solid_there some_there.
-              clear_on b ws g.last gap content k cut fills solid_there some_there (no_nul_after gap content (subst (λ n. has_no_nul n ≡ true) cut (no_nul_after w.piece (spelled ws g.last) (subst (λ n. has_no_nul n ≡ true) (sym at.1) clean))));
+              clear_on b ws g.last gap content k cut fills solid_there some_there (no_nul_after gap content (subst (λ n. has_no_nul n ≡ true) cut (no_nul_after w.piece (spelled ws g.last) (subst (λ n. has_no_nul n ≡ true) (sym (step_here g.account w (spelled ws g.last) separation rest row.0 e p.is_filled solid clean).1) clean))));
           step_at = step_from a g.account b separation rest (spelled ws g.last) here w g.is_like row.0 i e p.is_filled solid clean p.is_here;
         }

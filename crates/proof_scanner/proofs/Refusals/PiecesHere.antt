@@ -37,9 +37,6 @@ module _ (a : Account) (separation rest : List ℕ) (here : Position) (s : StepA
   pub whole_by : (c : ℕ) (more : List ℕ) → rest ≡ c ∷ more → Whole (kind_at (pieces.is_in_flow acct) (is_adjacent acct.before) acct.position.col (c ∷ more)) (context_of acct) s.step.piece next s.step.shown
   whole_by c more e = kind_is (kind_at (pieces.is_in_flow acct) (is_adjacent acct.before) acct.position.col (c ∷ more)) acct s.step.piece next (c ∷ more) spot s.step.shown (not_empty s.step.piece s.is_written.1.0) is_piece (s.text_is ∙ e) refl
 
-  levels_are : length acct.levels ≡ length a.entries
-  levels_are = length-map s.account.entries level_of ∙ sym (many_alike a.entries s.account.entries s.is_like.2)
-
   pub no_at_sign : (more : List ℕ) → rest ≡ 64 ∷ more → ⊥
   unfolding is_blank_or_end is_blank is_break is_nul is_flow
   no_at_sign more e = whole_by 64 more e
@@ -84,7 +81,7 @@ module _ (a : Account) (separation rest : List ℕ) (here : Position) (s : StepA
       (grind arith)
 
   pub no_room : 255 ≤ length a.entries → nat_lt (length acct.levels) 255 ≡ true → ⊥
-  no_room many room = grind (arith, nat_tests, many, room, levels_are)
+  no_room many room = grind (arith, nat_tests, many, room, (length-map s.account.entries level_of ∙ sym (many_alike a.entries s.account.entries s.is_like.2)))
 
   pub no_bracket : (c : ℕ) (more : List ℕ) → rest ≡ c ∷ more → (c ≡ 91) ⊎ (c ≡ 123) → 255 ≤ length a.entries → ⊥
   unfolding is_blank_or_end is_blank is_break is_nul is_flow

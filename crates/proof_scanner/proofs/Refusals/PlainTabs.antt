@@ -25,12 +25,8 @@ line_less : (k column c : ℕ) (l : List ℕ) → is_blank c ≡ true → line_i
 line_less k column c l b h = grind (arith, nat_tests, eqb-true, tab_less)
 
 module _ (column : ℕ) (c : ℕ) (r : List ℕ) where
-  -- after a break
-  line_fits : is_break c ≡ true → plain_lines_fit column (c ∷ r) ≡ true → lines_from column (on_line 0) r ≡ true
-  line_fits e h = grind (arith, nat_tests, eqb-true, feed_first, all_lines)
-
   line_goes : (s : Stand) → lines_from column s (c ∷ r) ≡ true → lines_from column (past s c) r ≡ true
-  line_goes s h = grind (arith, nat_tests, eqb-true, line_fits, line_is, first_line, others_are, and_parts, joined, line_less, first_is)
+  line_goes s h = grind (arith, nat_tests, eqb-true, feed_first, all_lines, line_is, first_line, others_are, and_parts, joined, line_less, first_is)
 
 lines_go : (column : ℕ) (s : Stand) (before t : List ℕ) → lines_from column s (before ++ t) ≡ true → lines_from column (stand_after s before) t ≡ true
 lines_go column s [] t h = h
