@@ -1,5 +1,5 @@
 -- Where a plain scalar begins and is none, no row of the text goes on.
-use Rattle.proof_scanner.proofs.Common.{[], splits, More, append-nil, stand_after, is_gap, ◌⊎◌, inl, inr, Account, act_of, after_blank, and_parts, ap, append_assoc, are_marks, arith, before_by, before_past, begins_flow, begins_plain, begins_token, Bool, comes_plain, context_of, dashes, ends_plain, ends_separation, ends_with_content, ends_with_dash, false, flow_solid, goes_on, goes_over, has_dash_before_flow, inl, innermost, inr, is_adjacent, is_apart, is_at_gap, is_blank_or_end, is_blanks, is_deep_enough, is_document_marker, is_flow, is_in_flow, is_indented_by_spaces, is_nul, is_whole_plain, Kind, least_column, List, may_begin, may_precede, nat_le, nat_lt, not, on_line, Option, or_true, plain_lines_fit, Position, previous_by, refl, same_flow, scalar, Site, site_at_place, site_past, Stand, stand_after, stops, subst, sym, true, Whole, ℕ, ◌&&◌, ◌++◌, ◌==◌, ◌||◌, ◌∙◌, ◌∷◌, ◌≡◌, eqb-true, nat_tests}
+use Rattle.proof_scanner.proofs.Common.{[], splits, More, append-nil, stand_after, is_gap, ◌⊎◌, inl, inr, Account, act_of, after_blank, and_parts, ap, append_assoc, are_marks, arith, before_by, before_past, begins_flow, begins_plain, begins_token, Bool, comes_plain, context_of, dashes, ends_plain, ends_separation, ends_with_content, ends_with_dash, false, flow_solid, goes_on, goes_over, has_dash_before_flow, inl, innermost, inr, is_adjacent, is_apart, is_at_gap, is_blank_or_end, is_blanks, is_deep_enough, is_document_marker, is_flow, is_in_flow, is_indented_by_spaces, is_nul, is_whole_plain, Kind, least_column, List, may_begin, may_precede, nat_le, nat_lt, not, on_line, Option, or_true, plain_lines_fit, Position, previous_by, refl, same_flow, scalar, Site, site_at_place, site_past, Stand, stand_after, stops, subst, sym, true, Whole, ℕ, ◌&&◌, ◌++◌, ◌==◌, ◌||◌, ◌∙◌, ◌∷◌, ◌≡◌, eqb-true, nat_tests, cases_Bool, and_false}
 use Rattle.defs_text.specs.Classes as classes
 use Rattle.defs_token.specs.Account as pieces
 use Rattle.defs_token.specs.Plain.{inside, past}
@@ -82,11 +82,7 @@ module _ (a : Account) (separation rest : List ℕ) (here : Position) (s : StepA
       cc (may, none)
     where
       none : may_begin true (is_adjacent seen_here.before) 45 more ≡ false
-      none = rw begins (by (is_at_gap more))
-        where
-          by : (b : Bool) → (not b && false) ≡ false
-          by true = refl
-          by false = refl
+      none = rw begins (and_false (not (is_at_gap more)))
   no_dash (c ∷ p) more flow cut begins over apart =
       let coll : Option ℕ = innermost (site_at_place a here).blocks in
       let own : is_whole_plain true coll (c ∷ (p ++ 45 ∷ [])) more ≡ true = rw (goes_both true coll inside p (45 ∷ []) more (ap (λ b. goes_on b coll inside p (45 ∷ more)) (sym flow) ∙ over) (dash_goes coll (stand_after inside p) more begins), content_end c p, flow_stops coll inside more begins) refl in
@@ -111,11 +107,7 @@ module _ (a : Account) (separation rest : List ℕ) (here : Position) (s : StepA
       coll = innermost (site_at_place a here).blocks
 
       lines : plain_lines_fit least s.step.piece ≡ true
-      lines = on (plain_lines_fit least s.step.piece) refl
-        where
-          on : (b : Bool) → plain_lines_fit least s.step.piece ≡ b → b ≡ true
-          on true e = refl
-          on false e = absurd (no_lines a separation rest here s (scalar tokens.plain plain_here.0) plain_here.2 refl e)
+      lines = elim (cases_Bool (plain_lines_fit least s.step.piece)) [ inl e ↦ e | inr e ↦ absurd (no_lines a separation rest here s (scalar tokens.plain plain_here.0) plain_here.2 refl e) ]
 
       past_is : s.past.site ≡ site_past (is_in_flow s.account.entries) (At s.account s.step next) s.step.piece s.step.shown next (At s.account s.step next).blocks
       past_is = node_site_past s.account s.step next s.past (ap act_of plain_here.2) s.is_past

@@ -139,7 +139,7 @@ module _ (single : Bool) (ctx : Context) (start : Position) (least : ℕ) (limit
 
   -- blanks
   blank_ends : (c : ℕ) (b : List ℕ) → element_of single c b ≡ Some (spelled (blank c) 0) → is_break c ≡ false → is_blank c ≡ true → (s : LineStand) (p : Position) (m : Mode) (t : Folded) → Stood p t s m → Later b → Ends s p (c ∷ b) (scan single ctx start (c ∷ b) gap p t)
-  blank_ends c b is f g s p m t stood later = by s m stood (t.leading && (c == 9) && nat_lt (p.col + 1) ctx.indent) refl
+  blank_ends c b is f g s p m t stood later = by s m stood
     where
       here : Result (Read (List ℕ)) Fault
       here = scan single ctx start (c ∷ b) gap p t
@@ -166,13 +166,16 @@ module _ (single : Bool) (ctx : Context) (start : Position) (least : ℕ) (limit
           let is_tab : c ≡ 9 = eqb-true c 9 (and_parts t.leading (c == 9) parts.0).1 in
           refused problem.TabAsIndentation p (arrived (placed _ _ none (by_tab b (ap (λ x. x ∷ b) is_tab) further (sym (limit p.col) ∙ parts.1)))) fails
 
-      by : (s : LineStand) (m : Mode) → Stood p t s m → (tab : Bool) → (t.leading && (c == 9) && nat_lt (p.col + 1) ctx.indent) ≡ tab → Ends s p (c ∷ b) here
-      by s m (in_line deep) true h = absurd (cc ((and_parts (t.leading && (c == 9)) (nat_lt (p.col + 1) ctx.indent) h).1, limit p.col, deep))
-      by s m (in_line deep) false h = on within refl h (in_line (grind (arith, nat_tests, deep)))
-      by s m (begins_here leads) true h = tabbed at_start refl h
-      by s m (begins_here leads) false h = on at_start (no_tab leads h) h (begins_here (still leads))
-      by s m (escaped double leads) true h = tabbed past_escaped refl h
-      by s m (escaped double leads) false h = on past_escaped (no_tab leads h) h (begins_here (still leads))
+      open_line : (s : LineStand) → begins_further s false ≡ true → past_element s (blank c) ≡ at_start → t.leading ≡ true → Ends s p (c ∷ b) here
+      open_line s further next leads = elim (cases_Bool (t.leading && (c == 9) && nat_lt (p.col + 1) ctx.indent)) [
+        | inl h ↦ tabbed s further h
+        | inr h ↦ on s (ap (λ x. not (x && (c == 9) && nat_lt p.col least)) further ∙ no_tab leads h) h (subst (λ x. Stood (past p) (after_element (blank c) t) x gap) (sym next) (begins_here (still leads)))
+      ]
+
+      by : (s : LineStand) (m : Mode) → Stood p t s m → Ends s p (c ∷ b) here
+      by s m (in_line deep) = on within refl (grind (arith, nat_tests, deep, limit)) (in_line (grind (arith, nat_tests, deep)))
+      by s m (begins_here leads) = open_line at_start refl refl leads
+      by s m (escaped double leads) = open_line past_escaped refl refl leads
 
   -- ---- breaks
 

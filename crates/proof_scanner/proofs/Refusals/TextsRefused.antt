@@ -134,17 +134,12 @@ module _ (collection : Option ℕ) (header more : List ℕ) where
           no_more [] complete last e f = rw (e, f) refl
           no_more (k ∷ ls) complete last e f = absurd (cc e)
 
-      as_read : (complete : List (List ℕ)) (last : List ℕ) (ended : Bool) → (split own).complete ≡ complete → (split own).last ≡ last → is_at_end (d ∷ next) ≡ ended
-          → read_lines collection ((split own).complete) ((split own).last) (d ∷ next) (is_at_end (d ∷ next)) ≡ read_lines collection complete last (d ∷ next) ended
-      as_read complete last ended e f g =
-          ap (λ x. read_lines collection x ((split own).last) (d ∷ next) (is_at_end (d ∷ next))) e ∙ (ap (λ x. read_lines collection complete x (d ∷ next) (is_at_end (d ∷ next))) f ∙ ap (λ b. read_lines collection complete last (d ∷ next) b) g)
-
       by : (complete : List (List ℕ)) (last : List ℕ) (ended : Bool) → (split own).complete ≡ complete → (split own).last ≡ last → is_at_end (d ∷ next) ≡ ended → read_lines collection ((split own).complete) ((split own).last) (d ∷ next) (is_at_end (d ∷ next)) ≡ Some r → ⊥
       by complete last true e f g k = some g
-      by [] last false e f g k = let none : read_lines collection [] last (d ∷ next) false ≡ Some r = sym (as_read [] last false e f g) ∙ k in cc none
-      by (l ∷ ls) (c ∷ last) false e f g k = let none : read_lines collection (l ∷ ls) (c ∷ last) (d ∷ next) false ≡ Some r = sym (as_read (l ∷ ls) (c ∷ last) false e f g) ∙ k in cc none
+      by [] last false e f g k = let none : read_lines collection [] last (d ∷ next) false ≡ Some r = rw (e, f, g) at k in cc none
+      by (l ∷ ls) (c ∷ last) false e f g k = let none : read_lines collection (l ∷ ls) (c ∷ last) (d ∷ next) false ≡ Some r = rw (e, f, g) at k in cc none
       by (l ∷ ls) [] false e f g k =
-          let read : read_body (header_of l) collection (body ls further_text) (d ∷ next) ≡ Some r = sym (as_read (l ∷ ls) [] false e f g) ∙ k in
+          let read : read_body (header_of l) collection (body ls further_text) (d ∷ next) ≡ Some r = rw (e, f, g) at k in
           let past = ended_body collection (header_of l) (body ls further_text) (d ∷ next) r read in
           on (d == 10) refl past.0 past.1
         where
