@@ -72,9 +72,7 @@ one_question s here rest why1 why2 at1 at2 (no_space more i e none) (no_space mo
 one_question s here rest why1 why2 at1 at2 (no_space more i e none) (tab_after_question more2 passed2 content2 j e2 first2 none2 cut2 fills2) = absurd (cc (none, first2, ap begins_with_space_or_break (tails 63 rest more2 more e2 e)))
 one_question s here rest why1 why2 at1 at2 (tab_after_question more passed content i e first none cut fills) (question_not_free j) = absurd (cc (i, j))
 one_question s here rest why1 why2 at1 at2 (tab_after_question more passed content i e first none cut fills) (no_space more2 j e2 none2) = absurd (cc (none2, first, ap begins_with_space_or_break (tails 63 rest more2 more e2 e)))
-one_question s here rest why1 why2 at1 at2 (tab_after_question more passed content i e first none cut fills) (tab_after_question more2 passed2 content2 j e2 first2 none2 cut2 fills2) =
-    let same = first_tab false passed passed2 content content2 (sym cut ∙ (tails 63 rest more more2 e e2 ∙ cut2)) fills fills2 none none2 in
-    (refl, ap (λ z. position_after (further 1 here) z (9 ∷ content)) same.0 ∙ ap (λ z. position_after (further 1 here) passed2 (9 ∷ z)) same.1)
+one_question s here rest why1 why2 at1 at2 (tab_after_question more passed content i e first none cut fills) (tab_after_question more2 passed2 content2 j e2 first2 none2 cut2 fills2) = grind (arith, nat_tests, eqb-true, first_tab, tails)
 
 -- ---- `:`
 

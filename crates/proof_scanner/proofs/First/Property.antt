@@ -104,10 +104,7 @@ line_is start line f (ends.no_name e) = rw e refl
 line_is start line f (ends.by_name some e) = rw (some, e) refl
 line_is start line f (ends.by_version why h n) = of_version start line h ∙ rw (version_is (said line) why n) refl
 line_is start line f (ends.by_declaration why h n) = of_declaration start line h ∙ rw (declaration_is (said line) why n) refl
-line_is start line f (ends.by_comment before rest cut v) =
-    let whole : length line ≡ length before + suc (length rest) = ap length cut ∙ length-append before (35 ∷ rest) in
-    let place : length line - suc (length rest) ≡ length before = omega (arith, whole) in
-    after_it start line (35 ∷ rest) v ∙ ap (λ n. At problem.CommentNotSeparated (further (suc n) start)) place
+line_is start line f (ends.by_comment before rest cut v) = grind (arith, nat_tests, eqb-true, length-append, after_it)
 line_is start line f (ends.after_version rest v more begins) = after_it start line rest v ∙ rw begins refl
 line_is start line f (ends.after_declaration rest d more) = of_declaration start line d.is_declaration ∙ rw (declaration_right line rest d) refl
 

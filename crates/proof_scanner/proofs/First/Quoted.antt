@@ -63,13 +63,9 @@ module _ (in_flow : Bool) (least : ℕ) (blocks : List ℕ) (awaits : Bool) (her
     one_after why1 why2 at1 at2 (glued h) (tabbed p x e g m b k) = absurd (cc (h, k))
     one_after why1 why2 at1 at2 (text p x g m k) (glued h) = absurd (cc (h, k))
     one_after why1 why2 at1 at2 (text p x g m k) (text q y g2 m2 k2) = (refl, same_end p q x y (one_gap p q x y g.is_text g2.is_text g.is_filled g2.is_filled m m2))
-    one_after why1 why2 at1 at2 (text p x g m k) (tabbed q y e g2 m2 b k2) =
-        let same = one_gap p q x y g.is_text e g.is_filled g2 m m2 in
-        absurd (cc (sym (same_has_break p) ∙ g.is_on_line, ap has_break same.0, b))
+    one_after why1 why2 at1 at2 (text p x g m k) (tabbed q y e g2 m2 b k2) = grind (arith, nat_tests, eqb-true, one_gap, same_has_break)
     one_after why1 why2 at1 at2 (tabbed p x e g m b k) (glued h) = absurd (cc (h, k))
-    one_after why1 why2 at1 at2 (tabbed p x e g m b k) (text q y g2 m2 k2) =
-        let same = one_gap p q x y e g2.is_text g g2.is_filled m m2 in
-        absurd (cc (sym (same_has_break q) ∙ g2.is_on_line, ap has_break same.0, b))
+    one_after why1 why2 at1 at2 (tabbed p x e g m b k) (text q y g2 m2 k2) = grind (arith, nat_tests, eqb-true, one_gap, same_has_break)
     one_after why1 why2 at1 at2 (tabbed p x e g m b k) (tabbed q y e2 g2 m2 b2 k2) = (refl, same_end p q x y (one_gap p q x y e e2 g g2 m m2))
 
   -- ---- all
@@ -111,9 +107,7 @@ module _ (in_flow : Bool) (least : ℕ) (blocks : List ℕ) (awaits : Bool) (her
     one_sorted clean why1 why2 at1 at2 (fails _ _ r open_text) (fails _ _ s open_text2) = one_reason single least here within (past here) more why1 why2 at1 at2 r s
     one_sorted clean why1 why2 at1 at2 (fails _ _ r open_text) (closes p x _ _ e is fit a) = absurd (open_text p x e is fit)
     one_sorted clean why1 why2 at1 at2 (closes p x _ _ e is fit a) (fails _ _ r open_text) = absurd (open_text p x e is fit)
-    one_sorted clean why1 why2 at1 at2 (closes p x _ _ e is fit a) (closes q y _ _ f is2 fit2 b) =
-        let same = one_end single q p y x is2 is (sym f ∙ e) in
-        one_after p x (no_nul_after p x (ap has_no_nul (sym e) ∙ clean)) why1 why2 at1 at2 a (subst (λ z. After p z why2 at2) same.1 (subst (λ z. After z y why2 at2) same.0 b))
+    one_sorted clean why1 why2 at1 at2 (closes p x _ _ e is fit a) (closes q y _ _ f is2 fit2 b) = grind (arith, nat_tests, eqb-true, one_end, one_after, no_nul_after)
 
   record Read (why : Problem) (at : Position) : Type 0 where
     single : Bool

@@ -246,8 +246,7 @@ one_of_two s here rest why1 why2 at1 at2 clean (shallow spaced low) (shallow spa
 one_of_two s here rest why1 why2 at1 at2 clean (shallow spaced low) (looked k2 reason2 place2 spaced2 deep2 kind2 q) = absurd (cc (low, deep2))
 one_of_two s here rest why1 why2 at1 at2 clean (looked k reason place spaced deep kind r) (tab_indents tabs2) = absurd (cc (tabs2, spaced))
 one_of_two s here rest why1 why2 at1 at2 clean (looked k reason place spaced deep kind r) (shallow spaced2 low2) = absurd (cc (low2, deep))
-one_of_two s here rest why1 why2 at1 at2 clean (looked k reason place spaced deep kind r) (looked k2 reason2 place2 spaced2 deep2 kind2 q) =
-    one_in k s here rest why1 why2 at1 at2 clean r (subst (λ z. InKind z s here rest why2 at2) (sym kind2 ∙ kind) q)
+one_of_two s here rest why1 why2 at1 at2 clean (looked k reason place spaced deep kind r) (looked k2 reason2 place2 spaced2 deep2 kind2 q) = grind (arith, nat_tests, eqb-true, one_in)
 
 -- At like accounts, after the same separation, what fails first is of one kind and at one position.
 pub one_reason : (a b : Account) → IsLike a b → (separation : List ℕ) (here : Position) (rest : List ℕ) → has_no_nul rest ≡ true → (why1 why2 : Problem) (at1 at2 : Position) → FailsFirst a separation here rest why1 at1 → FailsFirst b separation here rest why2 at2 → (why1 ≡ why2) × (at1 ≡ at2)

@@ -72,15 +72,8 @@ module _ (text : List ℕ) (t : ScannerState) (s : Stands text t) (near : HasNea
           hash (c ∷ f) p = or_right (35 == c) _ (hash f p)
 
           comment : (passed : List ℕ) → t.rest ≡ passed ++ d.rest → is_separation false passed d.rest ≡ true → begins_white t.rest ≡ false → is_indented_by_spaces s.base.site.before s.base.site.blocks s.base.site.awaits (s.separation ++ passed) ≡ false → is_one_of (s.separation ++ passed) 35 ≡ true
-          comment [] e fills white tab = absurd (none_there s.has_no_tabs)
-            where
-              none_there : HasNoTabs s.base.site s.separation t.rest → ⊥
-              none_there (inl h) = grind arith
-              none_there (inr h) = cc (h, ap (λ f. is_indented_by_spaces s.base.site.before s.base.site.blocks s.base.site.awaits f) (append-nil s.separation), tab)
-          comment (c ∷ p) e fills white tab = by_first (is_blank c) (is_break c) (c == 35) refl (and_parts (is_blank c || is_break c || (c == 35)) (is_separation (c == 35) p d.rest) fills).0 (subst (λ r. begins_white r ≡ false) e white)
-            where
-              by_first : (blank break mark : Bool) → (c == 35) ≡ mark → (blank || break || mark) ≡ true → (blank || break) ≡ false → is_one_of (s.separation ++ c ∷ p) 35 ≡ true
-              by_first blank break mark i h k = grind (arith, hash, eqb-true)
+          comment [] e fills white tab = grind (arith, nat_tests, eqb-true, append-nil)
+          comment (c ∷ p) e fills white tab = grind (arith, nat_tests, and_parts, hash, eqb-true)
 
       place : (c : Bool) → MayChoose true c (outside_key s.base.entries t.held.keys) t.held.position t.rest → IsPlace text (chosen c [] t.held.keys s.base) (s.separation ++ d.passed) d.rest here
       place c may = record {

@@ -136,12 +136,7 @@ marks_after single c b e is p body rest = by e is (kind_of single c b e is)
     at_margin x col h f = f ∙ ap (λ n. marked_from n body rest) (sym h)
 
     by : (e : Spelled) → (is : element_of single c b ≡ Some e) → Kind single c b e → has_marker (c ∷ (take e.further b ++ body)) rest ≡ marked_from (after_it single c b e is p).col body rest
-    by e is (has_content code k solid) =
-        let q = content_after single c b code k is p in
-        within (c ∷ take k b) _ (content_in_line single c b code k is) (ap (λ (z : Position). z.col == 0) q ∙ off_margin p.col (along (c ∷ take k b) p).col (along_more (take k b) (past p)))
+    by e is (has_content code k solid) = grind (arith, nat_tests, eqb-true, content_after, within, content_in_line, off_margin, along_more)
     by e is (has_blank f g) = grind (arith, nat_tests, within, same_break, past_is, p, off_margin, eqb-true)
     by e is (has_line f) = at_margin _ _ (break_column c b p f) (break_marks c b body rest f)
-    by e is (has_escaped d a double same_c same_b f) =
-        at_margin _ _ (escaped_column c b d a p same_c same_b f)
-        (subst (λ x. has_marker (x ∷ (take (suc (break_further d a)) b ++ body)) rest ≡ marked_from 0 body rest) (sym same_c)
-        (subst (λ y. has_marker (92 ∷ (take (suc (break_further d a)) y ++ body)) rest ≡ marked_from 0 body rest) (sym same_b) (break_marks d a body rest f)))
+    by e is (has_escaped d a double same_c same_b f) = grind (arith, nat_tests, eqb-true, at_margin, escaped_column, break_marks)

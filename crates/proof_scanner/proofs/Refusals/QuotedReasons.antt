@@ -151,9 +151,7 @@ module _ (single : Bool) (least : ℕ) (start : Position) where
       where
         by : (e : Spelled) → (is : element_of single c b ≡ Some e) → Kind single c b e → all_stand least (past_element s e.element) (column_past p.col e.element) fs ≡ all_stand least (past_element s e.element) (after_it single c b e is p).col fs
         by e is (has_content code k solid) = within_alike least _ _ fs
-        by e is (has_blank f g) =
-            let next : suc p.col ≡ p.col + 1 = omega arith in
-            ap (λ k. all_stand least (past_element s (blank c)) k fs) (next ∙ ap (λ (q : Position). q.col) (sym (past_is p c b f)))
+        by e is (has_blank f g) = grind (arith, nat_tests, eqb-true, blank, past_is)
         by e is (has_line f) = ap (λ k. all_stand least at_start k fs) (sym (break_column c b p f))
         by e is (has_escaped d a double same_c same_b f) = ap (λ k. all_stand least past_escaped k fs) (sym (escaped_column c b d a p same_c same_b f))
 

@@ -101,10 +101,7 @@ known_next : (text : List ℕ) → has_no_nul text ≡ true → (t u : ScannerSt
 known_next text nul t u going e k = record { fares = (reached fetch_keeps text nul t u (there going e here) k.fares); near = near_by k.fares }
   where
     near_by : Fares text t → HasNear u.held
-    near_by (begins b) =
-        let same : Ok (fetch_stream_start (start text)) ≡ Ok u = sym (first_fetch text) ∙ (ap fetch (sym b) ∙ e) in
-        let state : fetch_stream_start (start text) ≡ u = cc same in
-        subst (λ x. HasNear x.held) state (near_first text)
+    near_by (begins b) = grind (arith, nat_tests, eqb-true, start, first_fetch, near_first)
     near_by (goes s) = held_of u (fetch_near t s.started) e
     near_by (over f r n) = absurd (cc (going, f))
 
