@@ -1,5 +1,5 @@
 -- A block scalar has one fault that comes first.
-use Rattle.proof_scanner.proofs.Common.{[], after_digit, after_sign, after_style, ap, append_cancel_right, begins_with, block_first, blocks, BlockStyle, Bool, Chomping, digit_of, false, first_line, has_header, has_no_nul, has_zero, Header, header_first, header_of, if◌then◌else◌, indicator_of, innermost, is_at_end, is_between, is_blanks_and_comment, is_in_line, is_rest_of_line, is_sign, IsBlockFault, IsNoHeader, line_is, line_more, List, no_nul_after, None, Option, past_indicators, past_spaces, Position, position_after, Problem, refl, sign_of, Some, split, style_inner, style_same, subst, sym, tab, true, up_to_break, ℕ, ◌++◌, ◌∙◌, ◌∷◌, ◌≡◌, arith, nat_tests, eqb-true}
+use Rattle.proof_scanner.proofs.Common.{[], after_digit, after_sign, after_style, ap, append_cancel_right, begins_with, block_first, blocks, BlockStyle, Bool, Chomping, digit_of, false, first_line, has_header, has_no_nul, has_zero, Header, header_first, header_of, if◌then◌else◌, indicator_of, innermost, is_at_end, is_between, is_blanks_and_comment, is_in_line, is_rest_of_line, is_sign, IsBlockFault, IsNoHeader, line_is, line_more, List, no_nul_after, None, Option, past_indicators, past_spaces, Position, position_after, Problem, refl, sign_of, Some, split, style_inner, style_same, subst, sym, tab, true, up_to_break, ℕ, ◌++◌, ◌∙◌, ◌∷◌, ◌≡◌, arith, nat_tests}
 use Rattle.proof_lexers.specs.HeaderEnds as headers
 use Rattle.proof_lexers.specs.HeaderEnds.{past_one}
 use Rattle.proof_scanner.specs.NoPiece as none
@@ -43,12 +43,10 @@ rest_with r t h k = grind (arith, blanks_with)
 -- a line that is no header, but one before a comment
 comment_is : (style : BlockStyle) (line before text : List ℕ) (h : Header) → header_of (indicator_of style ∷ line) ≡ None → header_of (indicator_of style ∷ before) ≡ Some h → line ≡ before ++ 35 ∷ text → past_indicators line ≡ 35 ∷ text
 comment_is style line before text h lacks is cut =
-    let rest : past_indicators line ≡ past_indicators before ++ 35 ∷ text = ap past_indicators cut ∙ (grind (arith)) in
+    let rest : past_indicators line ≡ past_indicators before ++ 35 ∷ text = ap past_indicators cut ∙ (grind arith) in
     let ends : is_rest_of_line (past_indicators before) ≡ true = sym (header_is style before) ∙ ap is_given is in
     let goes : is_rest_of_line (past_indicators before ++ 35 ∷ text) ≡ false = ap is_rest_of_line (sym rest) ∙ (sym (header_is style line) ∙ ap is_given lacks) in
     rest ∙ ap (λ r. r ++ 35 ∷ text) (rest_with (past_indicators before) text ends goes)
-
--- ---- a digit 0
 
 -- ---- one reason why a line is no header
 

@@ -1,5 +1,5 @@
 -- Two places of a text where something fails first: they are one place, or one fails by a TAB that the other has told.
-use Rattle.proof_scanner.proofs.Common.{[], Account, account_past, act_of, ap, begins_separation, Bool, clean_up_to_end, comes_first, Fails, FailsFirst, false, follows_plain, gives_node, has_no_nul, is_empty, is_free_of_tabs, is_indented_by_spaces, is_separation, IsLike, IsQuoted, List, no_nul_after, None, not, Option, Position, position_after, Problem, refl, separations, Site, Some, spelled, Step, subst, sym, true, up_to_nul, ℕ, ◌++◌, ◌∙◌, ◌∷◌, ◌≡◌, arith, eqb-true, nat_tests}
+use Rattle.proof_scanner.proofs.Common.{[], Account, account_past, act_of, ap, begins_separation, Bool, clean_up_to_end, comes_first, Fails, FailsFirst, false, follows_plain, gives_node, has_no_nul, is_empty, is_free_of_tabs, is_indented_by_spaces, is_separation, IsLike, IsQuoted, List, no_nul_after, None, Option, Position, position_after, Problem, refl, separations, Site, Some, spelled, Step, subst, sym, true, up_to_nul, ℕ, ◌++◌, ◌∙◌, ◌∷◌, ◌≡◌, arith, eqb-true, nat_tests}
 use Rattle.defs_token.specs.Piece.{Holds}
 use Rattle.proof_scanner.proofs.Known.Places.{ends_before, step_here}
 use Rattle.yaml_tokens.specs.declared.problem.Problem.TheVariants as problem
@@ -11,7 +11,7 @@ use Rattle.proof_scanner.proofs.Refusals.PlainsRefused.{no_tab}
 use Rattle.proof_scanner.proofs.Refusals.StandsRefused.{node_token, quoted_value, same_quoted_value}
 use Rattle.proof_scanner.proofs.Sound.PlainKeeps.{no_comment}
 use Rattle.proof_scanner.proofs.Refusals.NoRows.{step_refuted, no_step_stands}
-use Rattle.proof_scanner.proofs.Known.Ways.{Way, GivesUp, stays, given_up, LeadsBy, GoesOn}
+use Rattle.proof_scanner.proofs.Known.Ways.{Way, GivesUp, LeadsBy, GoesOn}
 use Rattle.proof_scanner.proofs.Known.Rows.{clean_after}
 
 -- a place that a way leads to, where content begins

@@ -1,5 +1,5 @@
 -- A text after a `!` is refused for one reason, and so is a line after a `%`: the fault is computed from the line, and each reason for it has that fault.
-use Rattle.proof_scanner.proofs.Common.{[], after, ap, arith, At, begins_handle, begins_prefix, begins_with, begins_with_mark, Bool, codes, decoded, drop, Err, false, Fault, first_position, from_prefix, further, has_no_break, HasName, if◌then◌else◌, is_alpha, is_at_gap, is_decimal_digit, is_empty, is_same, is_uri, IsDeclarationBefore, IsDirectiveRefusal, IsNoDeclaration, IsNoVersion, IsTagRefusal, IsVersionBefore, leading, length, length-append, List, nat_le, None, number_of, Ok, Option, Position, Problem, problem_of, refl, Result, said, Some, suc, sym, true, UriFault, ℕ, ◌++◌, ◌+◌, ◌-◌, ◌==◌, ◌∙◌, ◌∷◌, ◌≡◌, nat_tests, eqb-true}
+use Rattle.proof_scanner.proofs.Common.{[], after, arith, At, begins_handle, begins_prefix, begins_with, begins_with_mark, Bool, codes, decoded, drop, Err, false, Fault, first_position, from_prefix, further, has_no_break, HasName, if◌then◌else◌, is_alpha, is_at_gap, is_decimal_digit, is_empty, is_same, is_uri, IsDeclarationBefore, IsDirectiveRefusal, IsNoDeclaration, IsNoVersion, IsTagRefusal, IsVersionBefore, leading, length, length-append, List, nat_le, None, number_of, Ok, Option, Position, Problem, problem_of, refl, Result, said, Some, suc, true, UriFault, ℕ, ◌++◌, ◌+◌, ◌-◌, ◌==◌, ◌∙◌, ◌∷◌, ◌≡◌, nat_tests, eqb-true}
 use Rattle.yaml_tokens.specs.declared.problem.Problem.TheVariants as problem
 use Rattle.proof_lexers.specs.DirectiveEnds as ends
 use Rattle.proof_lexers.specs.DirectiveEnds.{ends_line}

@@ -1,5 +1,5 @@
 -- Of two reasons why a quoted scalar is refused at a place that both come first, kind and position are the same.
-use Rattle.proof_scanner.proofs.Common.{[], ap, append-nil, are_indented, AreNotIndented, begins_separation, begins_solid, begins_with, Bool, closed_first, content, Element, false, GoesOn, has_break, has_marker, has_no_nul, HasNoQuoted, is_empty, is_indented_by_spaces, is_separation, IsNotQuoted, IsQuoted, IsQuotedFault, lines_first, List, marked_from, nat_lt, no_nul_after, off_margin, past, Position, position_after, Problem, quoted_first, quoted_may_end, quoted_scalar, refl, separations, subst, sym, tab, true, within, ℕ, ◌++◌, ◌∙◌, ◌∷◌, ◌≡◌, arith, nat_tests, eqb-true, elements, element_of, LineStand, past_elements, Some}
+use Rattle.proof_scanner.proofs.Common.{[], ap, append-nil, are_indented, AreNotIndented, begins_separation, begins_solid, begins_with, Bool, closed_first, content, Element, false, GoesOn, has_break, has_marker, has_no_nul, HasNoQuoted, is_empty, is_indented_by_spaces, is_separation, IsNotQuoted, IsQuoted, IsQuotedFault, lines_first, List, nat_lt, no_nul_after, off_margin, past, Position, position_after, Problem, quoted_first, quoted_may_end, quoted_scalar, refl, separations, subst, sym, tab, true, within, ℕ, ◌++◌, ◌∙◌, ◌∷◌, ◌≡◌, arith, nat_tests, eqb-true, elements, element_of, LineStand, past_elements, Some}
 use Rattle.defs_text.specs.Classes as classes
 use Rattle.yaml_tokens.specs.declared.problem.Problem.TheVariants as problem
 use Rattle.proof_row.proofs.Quotes.{singles, doubles}
@@ -143,9 +143,9 @@ module _ (in_flow : Bool) (least : ℕ) (blocks : List ℕ) (awaits : Bool) (her
   -- What is wrong first with a quoted scalar is one thing at one position.
   pub one_quoted : has_no_nul rest ≡ true → (why1 why2 : Problem) (at1 at2 : Position) → QuotedReason in_flow least blocks awaits here rest why1 at1 → QuotedReason in_flow least blocks awaits here rest why2 at2 → (why1 ≡ why2) × (at1 ≡ at2)
   one_quoted clean why1 why2 at1 at2 r s =
-      let by : Read why1 at1 → Read why2 at2 → (why1 ≡ why2) × (at1 ≡ at2) = λ x y. 
-          let both : quote_of y.single ∷ y.more ≡ quote_of x.single ∷ x.more = sym y.whole ∙ x.whole in
-          let single : y.single ≡ x.single = (grind arith) in
-          let more : y.more ≡ x.more = cc both in
-          one_sorted x.single x.more clean why1 why2 at1 at2 x.sorted (subst (λ m. Sorted x.single m why2 at2) more (subst (λ b. Sorted b y.more why2 at2) single y.sorted)) in
+      let by : Read why1 at1 → Read why2 at2 → (why1 ≡ why2) × (at1 ≡ at2) = λ x y.
+      let both : quote_of y.single ∷ y.more ≡ quote_of x.single ∷ x.more = sym y.whole ∙ x.whole in
+      let single : y.single ≡ x.single = (grind arith) in
+      let more : y.more ≡ x.more = cc both in
+      one_sorted x.single x.more clean why1 why2 at1 at2 x.sorted (subst (λ m. Sorted x.single m why2 at2) more (subst (λ b. Sorted b y.more why2 at2) single y.sorted)) in
       by (read why1 at1 r) (read why2 at2 s)

@@ -1,5 +1,5 @@
 -- What the reasons at a place ask of an account; it is the same at accounts that are alike.
-use Rattle.proof_scanner.proofs.Common.{[], Account, before_by, before_past, begins_document_at, begins_free_line, Bool, comes_plain, false, if◌then◌else◌, is_adjacent, is_free_of_tabs, is_full, is_in_flow, is_taken, is_taken_line, IsLike, Kind, kind_by, least_column, length, LikeLine, Line, line_past_separation, List, nat_le, not, Position, refl, same_flow, site_at_place, ℕ, ◌||◌, ◌∷◌, ◌≡◌, arith, eqb-true, nat_tests}
+use Rattle.proof_scanner.proofs.Common.{[], Account, before_by, before_past, begins_document_at, Bool, comes_plain, if◌then◌else◌, is_adjacent, is_free_of_tabs, is_full, is_in_flow, is_taken, IsLike, Kind, kind_by, least_column, List, nat_le, not, Position, same_flow, site_at_place, ℕ, ◌||◌, ◌∷◌, ◌≡◌, arith, eqb-true, nat_tests}
 use Rattle.proof_row.specs.Ends.{nothing, plain_scalar}
 use Rattle.proof_scanner.proofs.Refusals.PiecesHere.{many_alike}
 

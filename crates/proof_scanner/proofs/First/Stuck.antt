@@ -1,7 +1,6 @@
 -- A text is stuck at one place, with one kind.
-use Rattle.proof_scanner.proofs.Common.{Account, account_past, ap, Begins, Bool, colon_may_precede, fails, FailsFirst, false, first_account, free, has_no_nul, HasNoKey, inl, inr, is_in_flow, is_taken, is_value_here, IsLike, IsLookedAt, IsPlace, IsStuck, IsWritten, key_waits, LikeLine, Line, List, no_key, no_nul_after, Position, Problem, refl, Some, spelled, Step, subst, sym, taken, true, up_to_nul, waits, ℕ, ◌++◌, ◌∙◌, ◌∷◌, ◌≡◌, ◌⊎◌, arith, eqb-true, nat_tests}
+use Rattle.proof_scanner.proofs.Common.{Account, account_past, ap, Begins, Bool, colon_may_precede, fails, FailsFirst, false, first_account, HasNoKey, inl, inr, is_in_flow, is_taken, is_value_here, IsLike, IsLookedAt, IsPlace, IsStuck, IsWritten, key_waits, List, no_key, no_nul_after, Position, Problem, refl, Some, spelled, Step, subst, sym, true, up_to_nul, ℕ, ◌++◌, ◌∙◌, ◌∷◌, ◌≡◌, ◌⊎◌, arith, eqb-true, nat_tests}
 use Rattle.defs_text.specs.Classes as classes
-use Rattle.defs_token.specs.Piece.{Holds}
 use Rattle.yaml_tokens.specs.declared.problem.Problem.TheVariants as problem
 use Rattle.proof_scanner.proofs.Sound.Completed.{begins_at_start, begins_past}
 use Rattle.proof_scanner.proofs.Refusals.OtherRows.{StepAt}
@@ -9,7 +8,7 @@ use Rattle.proof_scanner.proofs.Refusals.StandsRefused.{no_colon_here}
 use Rattle.proof_scanner.proofs.Refusals.NoRows.{keyless_step, no_step_stands}
 use Rattle.proof_scanner.proofs.Refusals.KeysThatWait.{Together, Apart, together_keeps, apart_keeps, first_together, not_below}
 use Rattle.proof_scanner.proofs.First.Reasons.{one_reason, colon_alone}
-use Rattle.proof_scanner.proofs.Known.Ways.{With, like_sym, GivesUp, stays, given_up, gives_up_like, Same, Way, way_of, strict_way, way_but_for_key, Meet, same_place, second_on, first_on, KeepsOn, meet}
+use Rattle.proof_scanner.proofs.Known.Ways.{With, like_sym, GivesUp, gives_up_like, Same, Way, way_of, strict_way, way_but_for_key, Meet, same_place, second_on, first_on, KeepsOn, meet}
 use Rattle.proof_scanner.proofs.First.Places.{Stands, clean_way, clean_place, one_cut, gives_up_site, step_of, clear, fails_before}
 
 -- ---- claims

@@ -1,6 +1,6 @@
 -- A block scalar that may end is not refused for what stands after it.
-use Rattle.proof_scanner.proofs.Common.{[], after_break, after_line, along, and_parts, ap, are_empty, AreLines, arith, begins_with, block_may_end, block_read, BlockRead, Bool, collection_of, false, first_content, first_empty, first_header, further_position, has_no_nul, innermost, is_at_end, is_empty, is_empty_line, is_in_line, is_none, is_shallow, is_single, is_spaces, is_tabbed, leading_spaces, least_column, length, lines_may_end, List, nat_le, nat_lt, nat_tests, None, not, Option, past, Position, position_after, read_may_end, refl, Some, spell, split, split_spell, sym, tab, texts, true, ℕ, ◌&&◌, ◌++◌, ◌+◌, ◌||◌, ◌∙◌, ◌∷◌, ◌≡◌, ◌≤◌, eqb-true}
-use Rattle.proof_lexers.proofs.Blocks.Written.{Line, put}
+use Rattle.proof_scanner.proofs.Common.{[], after_line, and_parts, ap, are_empty, AreLines, arith, begins_with, block_may_end, block_read, BlockRead, collection_of, false, first_content, first_empty, first_header, further_position, has_no_nul, innermost, is_at_end, is_empty, is_empty_line, is_in_line, is_shallow, is_spaces, is_tabbed, leading_spaces, least_column, length, lines_may_end, List, nat_le, nat_lt, nat_tests, None, not, past, Position, position_after, read_may_end, refl, Some, spell, split, split_spell, sym, tab, texts, true, ℕ, ◌&&◌, ◌++◌, ◌+◌, ◌||◌, ◌∙◌, ◌∷◌, ◌≡◌, ◌≤◌, eqb-true}
+use Rattle.proof_lexers.proofs.Blocks.Written.{Line}
 use Rattle.proof_scanner.proofs.Sound.BlockEnds.{IsLeast, Written, written, spaces_col, ends_at_margin}
 use Rattle.proof_scanner.proofs.Cut.Pieces.Blocks.{end_no_text}
 

@@ -1,7 +1,6 @@
 -- The text at a piece says what piece it is; one that stands for the document begins in column 0.
-use Rattle.proof_scanner.proofs.Common.{[], act_of, ap, are_marks, Bool, context_of, dash_marks, Directive, directive_begins, directive_of, document_end, document_start, dot_marks, inl, inr, is_adjacent, is_at_gap, is_document_marker, is_marker, IsPiece, IsTagLine, Kind, kind_at, List, None, Option, or_true, peek, piece_of, Position, scalar, Some, Style, subst, sym, tag_directive, texts_begin, Tok, true, version_directive, Whole, ℕ, ◌++◌, ◌==◌, ◌||◌, ◌∙◌, ◌∷◌, ◌≡◌, ◌≢◌, arith, eqb-true, nat_tests}
+use Rattle.proof_scanner.proofs.Common.{[], act_of, ap, Bool, context_of, dash_marks, Directive, directive_begins, directive_of, dot_marks, is_adjacent, is_document_marker, is_marker, IsPiece, Kind, kind_at, List, None, Option, or_true, peek, piece_of, Position, Some, subst, sym, texts_begin, Tok, true, Whole, ℕ, ◌++◌, ◌==◌, ◌||◌, ◌∙◌, ◌≡◌, ◌≢◌, arith, eqb-true, nat_tests}
 use Rattle.defs_token.specs.Account.{Account as PieceAccount, is_in_flow, Account}
-use Rattle.proof_row.specs.Ends.{kind_of}
 
 -- a text begins with `%`, or with a document marker
 abbrev pub begins_document : List ℕ → Bool

@@ -1,5 +1,5 @@
 -- Outside flow no level of indentation is right of a piece: those that were have ended.
-use Rattle.proof_scanner.proofs.Common.{[], and_parts, AreCollections, AreLevels, arith, Bool, columns, false, has_open_level, if◌then◌else◌, Indent, innermost, is_deeper, is_empty, IsNotRight, IsTopLevel, List, nat_tests, not, not_ended, subst, sym, true, ℕ, ◌&&◌, ◌+◌, ◌-◌, ◌∙◌, ◌∷◌, ◌≡◌, ◌≤◌, eqb-true}
+use Rattle.proof_scanner.proofs.Common.{[], and_parts, AreLevels, arith, Bool, columns, false, has_open_level, if◌then◌else◌, Indent, innermost, is_deeper, IsNotRight, IsTopLevel, List, nat_tests, not, not_ended, subst, true, ℕ, ◌&&◌, ◌+◌, ◌-◌, ◌∷◌, ◌≡◌, ◌≤◌, eqb-true}
 
 -- ---- outside flow
 

@@ -1,5 +1,5 @@
 -- Faults of names, tags and scalars: no such piece begins with the text.
-use Rattle.proof_scanner.proofs.Common.{anchor_name, and_parts, ap, are_single, Arrives, context, false, Fault, fetch_anchor, fetch_flow_scalar, fetch_tag, has_no_nul, in_flow, is_empty, is_nul, List, mark_of, NameKind, names_end, node_start, not, Ok, quoted, Quotes, Read, refused_as, ScannerState, subst, sym, tags_end, true, ℕ, ◌∙◌, ◌∷◌, ◌≡◌, arith, eqb-true, nat_tests}
+use Rattle.proof_scanner.proofs.Common.{anchor_name, and_parts, ap, are_single, Arrives, context, false, Fault, fetch_anchor, fetch_flow_scalar, fetch_tag, has_no_nul, in_flow, is_empty, is_nul, List, mark_of, NameKind, names_end, node_start, not, Ok, quoted, Quotes, Read, refused_as, ScannerState, subst, sym, tags_end, true, ℕ, ◌∙◌, ◌∷◌, ◌≡◌}
 use Rattle.yaml_tokens.specs.declared.problem.Problem.TheVariants as problem
 use Rattle.model_scanner.specs.declared.kind.NameKind.TheVariants.{Alias, Anchor}
 use Rattle.model_scanner.specs.Tag as tags
@@ -40,9 +40,9 @@ module _ (text : List ℕ) (t : ScannerState) (a : Arrives text t) (some : is_em
   quoted_told deep quotes more e =
       let same : (context (node_start t.held)).indent ≡ t.held.indent = ap (λ h. h.indent) (saved_is t.held) in
       let clean : has_no_nul more ≡ true = (and_parts (not (is_nul (none.quote_of (are_single quotes)))) (has_no_nul more) (subst (λ r. has_no_nul r ≡ true) e a.is_clean)).1 in
-      let read_as : (x : Read (List ℕ)) → quoted (are_single quotes) (context (node_start t.held)) t.rest t.held.position ≡ Ok x → QuotedAs (are_single quotes) (context (node_start t.held)) t.held.position t.rest x = λ x k. 
-          subst (λ r. QuotedAs (are_single quotes) (context (node_start t.held)) t.held.position r x) (sym e)
-          (quoted_as quotes (context (node_start t.held)) t.held.position more x clean (subst (λ r. quoted (are_single quotes) (context (node_start t.held)) r t.held.position ≡ Ok x) e k)) in
+      let read_as : (x : Read (List ℕ)) → quoted (are_single quotes) (context (node_start t.held)) t.rest t.held.position ≡ Ok x → QuotedAs (are_single quotes) (context (node_start t.held)) t.held.position t.rest x = λ x k.
+      subst (λ r. QuotedAs (are_single quotes) (context (node_start t.held)) t.held.position r x) (sym e)
+      (quoted_as quotes (context (node_start t.held)) t.held.position more x clean (subst (λ r. quoted (are_single quotes) (context (node_start t.held)) r t.held.position ≡ Ok x) e k)) in
       read (node_start t.held) (quoted (are_single quotes) (context (node_start t.held)) t.rest t.held.position) _
       (λ f k. refused_told text t a some lies deep (are_single quotes) (context (node_start t.held)) same more e clean f (ap (λ r. quoted (are_single quotes) (context (node_start t.held)) r t.held.position) (sym e) ∙ k))
       (λ x k. in_turn (after_told text t a some lies (are_single quotes) (context (node_start t.held)) x (read_as x k) same) (λ v i. in_turn (tab_told text t a some lies (are_single quotes) (context (node_start t.held)) x (read_as x k) same v i) (λ w j. goes)))

@@ -1,7 +1,6 @@
 -- No text is stuck for a property in the first column before an entry there: each reason is one of another kind of fault.
-use Rattle.proof_scanner.proofs.Common.{Account, At, Bool, Fails, fails, IsStuck, key_waits, List, may_not_stand, NoPiece, Position, ℕ, arith, eqb-true, nat_tests}
+use Rattle.proof_scanner.proofs.Common.{Account, Bool, Fails, fails, IsStuck, key_waits, List, Position, ℕ, arith, eqb-true, nat_tests}
 use Rattle.proof_scanner.proofs.Cut.Faults.Reasons.{line_neither, tag_neither}
-use Rattle.proof_scanner.specs.Failing as failing
 use Rattle.proof_scanner.specs.NoPiece as none
 use Rattle.yaml_tokens.specs.declared.problem.Problem.TheVariants as problem
 

@@ -1,7 +1,6 @@
 -- Faults on the way to the next token, from a state between two fetches.
-use Rattle.proof_scanner.proofs.Common.{[], and_parts, ap, append-nil, append_assoc, arith, At, Begins, begins_separation, begins_white, BeginsButForKey, Bool, chained, chosen, drop_stale, either, eqb-true, Err, fails, false, Fault, fetch, fetch_here, fetch_next, follows_plain, HasNoTabs, Held, Holds, if◌then◌else◌, in_flow, inl, inr, is_at_comment_or_end, is_blank, is_break, is_empty, is_far, is_indented_by_spaces, is_one_of, is_overdue, is_renewed, is_separation, IsPlace, IsReadOn, IsStuck, Key, key_waits, List, list_any, map, may_not_stand, MayChoose, not, Ok, on_held, Option, or_right, outside_key, Position, position_after, position_append, Previous, refl, refused, Result, ScannerState, skip_to_next_token, Some, stale, Stands, still, subst, sym, top_key, tried, true, unroll_indent, went, ℕ, ◌++◌, ◌+◌, ◌<◌, ◌==◌, ◌||◌, ◌∙◌, ◌∷◌, ◌≡◌, nat_tests}
+use Rattle.proof_scanner.proofs.Common.{[], and_parts, ap, append-nil, append_assoc, arith, Begins, begins_white, BeginsButForKey, Bool, chained, chosen, drop_stale, either, eqb-true, Err, fails, false, Fault, fetch, fetch_here, fetch_next, follows_plain, Held, Holds, in_flow, is_empty, is_far, is_indented_by_spaces, is_one_of, is_renewed, is_separation, IsPlace, IsReadOn, IsStuck, Key, key_waits, List, map, may_not_stand, MayChoose, not, Ok, on_held, Option, or_right, outside_key, Position, position_after, position_append, Previous, refl, refused, Result, ScannerState, skip_to_next_token, Some, stale, Stands, still, subst, sym, top_key, tried, true, unroll_indent, went, ℕ, ◌++◌, ◌+◌, ◌<◌, ◌==◌, ◌∙◌, ◌∷◌, ◌≡◌, nat_tests}
 use Rattle.yaml_tokens.specs.declared.problem.Problem.TheVariants as problem
-use Rattle.model_scanner.specs.Keys.{with_keys}
 use Rattle.proof_scanner.proofs.Cut.Pieces.Separations.{separation_append}
 use Rattle.proof_scanner.proofs.Cut.Positions.{not_before_after}
 use Rattle.proof_scanner.proofs.Sound.Passed.{least_is}
@@ -9,7 +8,7 @@ use Rattle.proof_scanner.proofs.Sound.Stales.{no_entries}
 use Rattle.proof_scanner.proofs.Sound.ToToken.{is_in}
 use Rattle.proof_scanner.specs.Failing as defs
 use Rattle.proof_scanner.proofs.Sound.StreamEnds.{same_flow}
-use Rattle.proof_scanner.proofs.Refusals.Faults.{Faults, fault, goes, mapped}
+use Rattle.proof_scanner.proofs.Refusals.Faults.{Faults, mapped}
 use Rattle.proof_scanner.proofs.Refusals.Places.{entries_alike, Said, IsWhy, Where, placed, behind, where_is}
 use Rattle.proof_scanner.proofs.Refusals.Tabs.{TabStands, skip_refused}
 

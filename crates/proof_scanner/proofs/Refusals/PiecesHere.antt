@@ -1,5 +1,5 @@
 -- What a row's piece at a place is, by the text there; and texts with which no piece begins.
-use Rattle.proof_scanner.proofs.Common.{[], Account, act_of, alias_name, all_of, ap, arith, block_entry, Bool, context_of, dash, Directive, directive_line, directive_token, Entry, false, flow_mapping_start, flow_sequence_start, goes_on_with_name, inl, inr, is_adjacent, is_at_gap, is_blank, is_blank_or_end, is_break, is_empty, is_flow, is_in_flow, is_marker, is_name, is_nul, IsPiece, kind_at, length, level_of, LikeEntries, List, mapping_opening, nat_lt, nat_tests, None, not, not_empty, Position, refl, seen, sequence_opening, shown_position, subst, suc, sym, true, Whole, ℕ, ◌++◌, ◌==◌, ◌∙◌, ◌∷◌, ◌≡◌, ◌≤◌, ◌⊎◌, eqb-true}
+use Rattle.proof_scanner.proofs.Common.{Account, act_of, alias_name, all_of, ap, arith, block_entry, Bool, context_of, dash, Directive, directive_line, directive_token, Entry, false, flow_mapping_start, flow_sequence_start, goes_on_with_name, inl, inr, is_adjacent, is_at_gap, is_blank, is_blank_or_end, is_break, is_flow, is_in_flow, is_marker, is_name, is_nul, IsPiece, kind_at, length, level_of, LikeEntries, List, mapping_opening, nat_lt, nat_tests, None, not_empty, Position, refl, seen, sequence_opening, shown_position, subst, suc, sym, true, Whole, ℕ, ◌++◌, ◌==◌, ◌∙◌, ◌∷◌, ◌≡◌, ◌≤◌, ◌⊎◌, eqb-true}
 use Rattle.defs_token.specs.Account as pieces
 use Rattle.proof_row.specs.Ends.{anchor_name}
 use Rattle.proof_row.proofs.Written as written
@@ -11,9 +11,8 @@ use Rattle.std.proofs.lemmas.List.{length-map}
 
 -- entries that are alike are as many
 pub many_alike : (ds es : List Entry) → LikeEntries ds es → length ds ≡ length es
-many_alike [] a h = grind arith
-many_alike (d ∷ ds) [] h = absurd h
 many_alike (d ∷ ds) (e ∷ es) h = ap suc (many_alike ds es h.1)
+many_alike a b h = grind arith
 
 module _ (a : Account) (separation rest : List ℕ) (here : Position) (s : StepAt a separation rest here) where
   abbrev pub next : List ℕ

@@ -1,5 +1,5 @@
 -- Where a plain scalar comes, and what stands after it.
-use Rattle.proof_scanner.proofs.Common.{[], and_parts, are_marks, Bool, comes_plain, dashes, ends_with_content, false, has_break, has_tab_within, is_at_gap, is_gap, is_indented_by_spaces, kind_at, last_line, least_column, List, not, or-true, plain_scalar, refl, Stand, stand_after, subst, sym, true, ℕ, ◌++◌, ◌∷◌, ◌≡◌, arith, nat_tests, eqb-true}
+use Rattle.proof_scanner.proofs.Common.{[], and_parts, are_marks, Bool, comes_plain, dashes, ends_with_content, false, has_break, has_tab_within, is_at_gap, is_gap, is_indented_by_spaces, kind_at, last_line, least_column, List, or-true, plain_scalar, refl, Stand, stand_after, true, ℕ, ◌++◌, ◌∷◌, ◌≡◌, arith, nat_tests, eqb-true}
 use Rattle.defs_token.specs.Plain as defs
 use Rattle.defs_token.specs.Plain.{past}
 use Rattle.proof_row.specs.Ends.{plain_scalar as plain_kind}

@@ -1,7 +1,7 @@
 -- A TAB that indents a further line of a plain scalar, or the line after it.
-use Rattle.proof_scanner.proofs.Common.{[], refl, zero, after_blank, and_parts, ap, arith, Bool, false, true, List, ℕ, ◌∷◌, ◌&&◌, ◌-◌, ◌∙◌, if◌then◌else◌, ◌++◌, ◌+◌, ◌<◌, ◌≡◌, suc, plain_lines_fit, stand_after, Option, is_gap, length, is_blanks, has_break, nat_lt, is_before_line_feed, split, lines_have_no_tab, after_first, sym, nat_tests, begins_token, further_on, has_tab_within, last_line, ◌||◌, not, or-true, leading, begins_separation, is_empty, eqb-true}
+use Rattle.proof_scanner.proofs.Common.{[], refl, zero, after_blank, and_parts, ap, arith, Bool, false, true, List, ℕ, ◌∷◌, ◌&&◌, ◌-◌, ◌∙◌, ◌++◌, ◌+◌, ◌<◌, ◌≡◌, suc, plain_lines_fit, stand_after, Option, is_gap, length, is_blanks, has_break, nat_lt, sym, nat_tests, begins_token, further_on, has_tab_within, last_line, or-true, begins_separation, is_empty, eqb-true}
 use Rattle.defs_text.specs.Classes.{is_break, is_blank}
-use Rattle.defs_token.specs.Plain.{inside, past, Stand, ends_with_content, on_line, goes_on, stops, past_blank}
+use Rattle.defs_token.specs.Plain.{inside, past, Stand, ends_with_content, on_line, goes_on, stops}
 use Rattle.proof_row.proofs.Runs.{joined, neither}
 use Rattle.proof_scanner.proofs.Sound.LastLines.{last_first, last_whole, break_append}
 use Rattle.proof_scanner.proofs.Sound.PlainLines.{first_line, line_is, all_lines, feed_first, first_is, others_are}
@@ -47,9 +47,8 @@ blank_in_line c h = grind (arith, h)
 
 -- A line of blanks alone is no line with a token after its blanks.
 pub blanks_end : (d : ℕ) (z blanks more next : List ℕ) → is_blank d ≡ true → ends_with_content d z ≡ true → is_blanks (first_line z) ≡ true → blanks ++ more ≡ z ++ next → is_blanks blanks ≡ true → begins_token more ≡ true → ⊥
-blanks_end d [] blanks more next b ends line e are token = grind arith
-blanks_end d (c ∷ z) [] a next b ends line e are token = grind arith
 blanks_end d (c ∷ z) (k ∷ blanks) more next b ends line e are token = grind (arith, nat_tests, eqb-true, and_parts, first_is, blank_in_line, blanks_end c z blanks more next)
+blanks_end d a blanks more next b ends line e are token = grind arith
 
 -- the end of a text is that of what it ends with
 pub ends_later : (before : List ℕ) (c : ℕ) (r : List ℕ) (d : ℕ) (z : List ℕ) → c ∷ r ≡ before ++ d ∷ z → ends_with_content c r ≡ true → ends_with_content d z ≡ true
@@ -96,9 +95,8 @@ column_is j k [] g n e = grind arith
 column_is j k (c ∷ q) g n e = grind (arith, column_is (suc j) k q)
 
 tab_among : (n : ℕ) (q blanks : List ℕ) → length q < n → has_tab_within n (q ++ 9 ∷ blanks) ≡ true
-tab_among zero q blanks h = absurd (omega arith)
-tab_among (suc n) [] blanks h = refl
 tab_among (suc n) (c ∷ q) blanks h = grind (arith, tab_among n q blanks)
+tab_among a q blanks h = grind arith
 
 blanks_break : (blanks : List ℕ) → is_blanks blanks ≡ true → has_break (9 ∷ blanks) ≡ false
 unfolding is_break is_blank

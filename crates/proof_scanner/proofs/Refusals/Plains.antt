@@ -1,5 +1,5 @@
 -- Faults of plain scalars.
-use Rattle.proof_scanner.proofs.Common.{[], after_plain, allow_key, ap, arith, Arrives, before_by, before_past, begins_left, Bool, collection_of, columns, comes_plain, Context, context, false, Fault, fetch_plain_scalar, goes_on, goes_over, HasNoPlainFault, HasTab, in_flow, innermost, is_adjacent, is_empty, is_in_flow, IsPlainFault, IsPlainRefusal, least_column, lexed, List, nat_le, nat_lt, nat_tests, no_plain, Ok, on_held, Option, plain_first, Position, position_after, Problem, push, refl, refused_as, ScannerState, scans_end, site_at_place, Style, subst, sym, Tok, true, unroll_non_block_indents, without_open, ℕ, ◌++◌, ◌∙◌, ◌∷◌, ◌≡◌, eqb-true}
+use Rattle.proof_scanner.proofs.Common.{[], after_plain, allow_key, ap, arith, Arrives, before_by, before_past, begins_left, collection_of, columns, comes_plain, Context, context, false, Fault, fetch_plain_scalar, goes_on, goes_over, HasNoPlainFault, HasTab, in_flow, innermost, is_adjacent, is_empty, IsPlainFault, IsPlainRefusal, least_column, lexed, List, nat_le, nat_lt, nat_tests, no_plain, Ok, on_held, Option, plain_first, Position, position_after, Problem, push, refused_as, ScannerState, scans_end, Style, subst, sym, Tok, true, unroll_non_block_indents, without_open, ℕ, ◌++◌, ◌∙◌, ◌∷◌, ◌≡◌, eqb-true}
 use Rattle.defs_token.specs.Plain.{inside}
 use Rattle.yaml_tokens.specs.declared.problem.Problem.TheVariants as problem
 use Rattle.model_scanner.specs.Plain.{plain}
@@ -9,7 +9,7 @@ use Rattle.proof_scanner.proofs.Cut.Saved.{saved_keys, saved_is}
 use Rattle.proof_scanner.proofs.Sound.WithoutOpen.{AreClosed, without_is}
 use Rattle.proof_scanner.specs.NoPiece as none
 use Rattle.proof_scanner.proofs.Refusals.Faults.{Faults, goes, read}
-use Rattle.proof_scanner.proofs.Refusals.Places.{Said, IsWhy, LiesDeep, account_by, stuck, in_flow_is, blocks_by, looked_at, stuck_by}
+use Rattle.proof_scanner.proofs.Refusals.Places.{Said, IsWhy, LiesDeep, looked_at, stuck_by}
 use Rattle.proof_scanner.proofs.Sound.PlainKeeps.{solid_text}
 
 -- ---- texts

@@ -1,5 +1,5 @@
 -- Where a plain scalar begins and is none, no row of the text goes on.
-use Rattle.proof_scanner.proofs.Common.{[], splits, More, append-nil, stand_after, is_gap, ◌⊎◌, inl, inr, Account, act_of, after_blank, and_parts, ap, append_assoc, are_marks, arith, before_by, before_past, begins_flow, begins_plain, begins_token, Bool, comes_plain, context_of, dashes, ends_plain, ends_separation, ends_with_content, ends_with_dash, false, flow_solid, goes_on, goes_over, has_dash_before_flow, inl, innermost, inr, is_adjacent, is_apart, is_at_gap, is_blank_or_end, is_blanks, is_deep_enough, is_document_marker, is_flow, is_in_flow, is_indented_by_spaces, is_nul, is_whole_plain, Kind, least_column, List, may_begin, may_precede, nat_le, nat_lt, not, on_line, Option, or_true, plain_lines_fit, Position, previous_by, refl, same_flow, scalar, Site, site_at_place, site_past, Stand, stand_after, stops, subst, sym, true, Whole, ℕ, ◌&&◌, ◌++◌, ◌==◌, ◌||◌, ◌∙◌, ◌∷◌, ◌≡◌, eqb-true, nat_tests, cases_Bool, and_false}
+use Rattle.proof_scanner.proofs.Common.{[], splits, More, append-nil, stand_after, is_gap, ◌⊎◌, inl, inr, Account, act_of, after_blank, and_parts, ap, append_assoc, are_marks, arith, before_by, before_past, begins_flow, begins_plain, begins_token, Bool, comes_plain, context_of, dashes, ends_with_content, ends_with_dash, false, flow_solid, goes_on, goes_over, has_dash_before_flow, inl, innermost, inr, is_adjacent, is_apart, is_at_gap, is_blanks, is_deep_enough, is_document_marker, is_flow, is_in_flow, is_indented_by_spaces, is_nul, is_whole_plain, Kind, least_column, List, may_begin, may_precede, nat_le, nat_lt, not, on_line, Option, or_true, plain_lines_fit, Position, previous_by, refl, same_flow, scalar, Site, site_at_place, site_past, Stand, stand_after, stops, subst, sym, true, Whole, ℕ, ◌&&◌, ◌++◌, ◌==◌, ◌∙◌, ◌∷◌, ◌≡◌, eqb-true, nat_tests, cases_Bool, and_false}
 use Rattle.defs_text.specs.Classes as classes
 use Rattle.defs_token.specs.Account as pieces
 use Rattle.defs_token.specs.Plain.{inside, past}
@@ -77,8 +77,8 @@ module _ (a : Account) (separation rest : List ℕ) (here : Position) (s : StepA
   pub no_dash : (before more : List ℕ) → is_in_flow a.entries ≡ true → rest ≡ before ++ 45 ∷ more → begins_flow more ≡ true → goes_over (is_in_flow a.entries) (innermost (site_at_place a here).blocks) before (45 ∷ more) ≡ true → is_apart (stand_after after_blank before) ≡ true → ⊥
   no_dash [] more flow cut begins over apart =
       let may : may_begin true (is_adjacent seen_here.before) 45 more ≡ true =
-          let all : begins_plain (pieces.is_in_flow seen_here) (is_adjacent seen_here.before) seen_here.position.col (45 ∷ more) ≡ true = ap (begins_plain (pieces.is_in_flow seen_here) (is_adjacent seen_here.before) seen_here.position.col) (sym (s.text_is ∙ cut)) ∙ plain_here.1.0 in
-          ap (λ b. may_begin b (is_adjacent seen_here.before) 45 more) (sym (flow_is a separation rest here s ∙ flow)) ∙ (and_parts (may_begin (pieces.is_in_flow seen_here) (is_adjacent seen_here.before) 45 more) (not ((seen_here.position.col == 0) && is_document_marker (45 ∷ more))) all).0 in
+      let all : begins_plain (pieces.is_in_flow seen_here) (is_adjacent seen_here.before) seen_here.position.col (45 ∷ more) ≡ true = ap (begins_plain (pieces.is_in_flow seen_here) (is_adjacent seen_here.before) seen_here.position.col) (sym (s.text_is ∙ cut)) ∙ plain_here.1.0 in
+      ap (λ b. may_begin b (is_adjacent seen_here.before) 45 more) (sym (flow_is a separation rest here s ∙ flow)) ∙ (and_parts (may_begin (pieces.is_in_flow seen_here) (is_adjacent seen_here.before) 45 more) (not ((seen_here.position.col == 0) && is_document_marker (45 ∷ more))) all).0 in
       cc (may, none)
     where
       none : may_begin true (is_adjacent seen_here.before) 45 more ≡ false

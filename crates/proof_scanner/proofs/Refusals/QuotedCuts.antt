@@ -1,5 +1,5 @@
 -- Of two reasons why the text after an opening quote is refused, kind and position are the same; and none is there where a quoted scalar with indented lines begins.
-use Rattle.proof_scanner.proofs.Common.{[], and_parts, ap, append-nil, append_assoc, arith, begins_further, begins_solid, begins_with, Bool, content, double_quoted_element, drop, drop-append-le, Element, element_of, elements, ends_before, eqb-true, escape, false, has_marker, inl, inr, is_document_marker, IsBadEscape, length, length-take, LineStand, List, Local, local, LocalOf, lookup, marked_from, nat_lt, nat_tests, None, not, number_at, numbered, numeric_escape, numeric_escapes, Option, or-false, past_element, past_elements, Position, position_after, Problem, refl, same_blank, same_break, single_quoted_element, Some, Spelled, subst, suc, sym, take, take-append-drop, take-append-le, true, zero, cases_Bool, ℕ, ◌&&◌, ◌++◌, ◌==◌, ◌||◌, ◌∙◌, ◌∷◌, ◌≡◌, ◌≤◌, ◌⊎◌, is_empty, if◌then◌else◌}
+use Rattle.proof_scanner.proofs.Common.{[], and_parts, ap, arith, begins_further, begins_solid, begins_with, Bool, double_quoted_element, drop, drop-append-le, Element, element_of, elements, ends_before, escape, false, has_marker, inl, inr, IsBadEscape, length, length-take, LineStand, List, Local, local, LocalOf, lookup, marked_from, nat_lt, None, not, number_at, numbered, numeric_escape, numeric_escapes, Option, or-false, past_element, past_elements, Position, position_after, Problem, refl, same_blank, same_break, single_quoted_element, Some, Spelled, subst, suc, sym, take, take-append-drop, take-append-le, true, zero, cases_Bool, ℕ, ◌&&◌, ◌++◌, ◌==◌, ◌||◌, ◌∙◌, ◌∷◌, ◌≡◌, ◌≤◌, ◌⊎◌, is_empty, if◌then◌else◌}
 use Rattle.defs_text.specs.Classes as classes
 use Rattle.yaml_chars.specs.Class.{is_break, is_blank}
 use Rattle.yaml_tokens.specs.declared.problem.Problem.TheVariants as problem
@@ -7,7 +7,7 @@ use Rattle.proof_lexers.specs.QuotedEnds as bad
 use Rattle.proof_scanner.proofs.Sound.QuotedBreaks.{Kind, has_content, has_blank, has_line, has_escaped, is_white}
 use Rattle.proof_scanner.specs.NoPiece.{quote_of}
 use Rattle.proof_scanner.proofs.Refusals.QuotedElements.{after_it, kind_of, marks_after}
-use Rattle.proof_scanner.proofs.Refusals.QuotedReasons.{stands, column_past, all_stand, is_marked, Place, by_end, by_escape, by_column, by_tab, Wrong, by_marker, placed, Closes, Walk, arrived, stepped, Reason, Closed, columns_are, place, before_quote}
+use Rattle.proof_scanner.proofs.Refusals.QuotedReasons.{stands, column_past, all_stand, is_marked, Place, by_end, by_escape, by_column, by_tab, Wrong, by_marker, placed, Walk, arrived, stepped, Reason, columns_are, place, before_quote}
 
 -- ---- along a body
 

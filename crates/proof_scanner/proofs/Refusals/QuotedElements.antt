@@ -1,5 +1,5 @@
 -- Elements of quoted scalars in their text: where each ends, and whether a document marker begins a line after it.
-use Rattle.proof_scanner.proofs.Common.{[], after_chars, along, along_more, and_false, ap, append-nil, arith, begins_solid, Bool, break_further, content, digit_value, double_quoted_element, drop, Element, element_of, escape, escape_by, false, feed_is_no_marker, has_marker, hexadecimal, in_line_position, is_cr_lf, is_in_line, line_position, List, marked_from, nat_tests, None, numeric_escape, Option, past, past_break, past_is, plain_element, Position, position_after, position_past, refl, same_blank, same_break, same_feed, single_quoted_element, Some, Spelled, subst, suc, sym, take, true, zero, ℕ, ◌*◌, ◌++◌, ◌+◌, ◌==◌, ◌∙◌, ◌∷◌, ◌≡◌, ◌≤◌, eqb-true}
+use Rattle.proof_scanner.proofs.Common.{[], after_chars, along, along_more, and_false, ap, append-nil, arith, begins_solid, Bool, break_further, content, digit_value, double_quoted_element, drop, Element, element_of, escape, escape_by, false, feed_is_no_marker, has_marker, hexadecimal, in_line_position, is_cr_lf, is_in_line, line_position, List, marked_from, nat_tests, None, numeric_escape, Option, past, past_break, past_is, plain_element, Position, position_after, position_past, refl, same_blank, same_break, same_feed, single_quoted_element, Some, Spelled, subst, suc, sym, take, true, ℕ, ◌*◌, ◌++◌, ◌+◌, ◌==◌, ◌∙◌, ◌∷◌, ◌≡◌, ◌≤◌, eqb-true}
 use Rattle.defs_text.specs.Classes as classes
 use Rattle.yaml_chars.specs.Class.{is_break}
 use Rattle.proof_lexers.proofs.Quoted.Turns.{spelled}
@@ -27,9 +27,8 @@ single_in_line c b = grind (arith, plain_in_line)
 
 digits_in_line : (n value code : ℕ) (w : List ℕ) → hexadecimal value (take n w) ≡ Some code → is_in_line (take n w) ≡ true
 unfolding classes.is_break
-digits_in_line zero value code w h = refl
-digits_in_line (suc n) value code [] h = refl
 digits_in_line (suc n) value code (c ∷ w) h = grind (arith, digits_in_line n (value * 16 + digit_value c) code w)
+digits_in_line a value code w h = grind arith
 
 module _ (d : ℕ) (b : List ℕ) (unbroken : classes.is_break d ≡ false) where
   slash_in_line : classes.is_break 92 ≡ false

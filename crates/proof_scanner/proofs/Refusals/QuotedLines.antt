@@ -1,5 +1,5 @@
 -- The scan of a quoted scalar reads one, or refuses the text for what is wrong with it first.
-use Rattle.proof_scanner.proofs.Common.{position_append, [], cases_Bool, inl, inr, after_element, after_escaped, after_gap, after_quote, along, along_more, and_false, and_parts, ap, append-nil, arith, At, at_start, begins_further, begins_marked, begins_with, Begun, begun, blank, Bool, break_further, content, Context, drop, Element, element_of, ends_before, eqb-true, Err, escape, escaped_break, false, Fault, first_is_gap, first_fails, Folded, gap, in_gap, inside, is_document_marker, is_marked, is_some, append_cancel_right, ◌++◌, quoted_lines_fit, joined, line_break, LineStand, List, list_all, marked, Mode, nat_lt, nat_tests, None, not, not-true, nothing, off_margin, Ok, Option, OutOfMemory, past, past_element, past_escaped, past_is, Position, position_after, position_past, Problem, quoted, Read, refl, Result, scan, shallow, Some, Spelled, step, StepOf, steps, subst, suc, sym, take, true, white_stands, with_break, with_escaped_break, within, zero, ℕ, ◌&&◌, ◌+◌, ◌==◌, ◌∙◌, ◌∷◌, ◌≡◌, ◌≤◌, past_elements}
+use Rattle.proof_scanner.proofs.Common.{position_append, [], cases_Bool, inl, inr, after_element, after_escaped, after_gap, after_quote, along, along_more, and_false, and_parts, ap, append-nil, arith, At, at_start, begins_further, begins_marked, Begun, begun, blank, Bool, break_further, content, Context, drop, element_of, ends_before, eqb-true, Err, escape, escaped_break, false, Fault, first_is_gap, first_fails, Folded, gap, in_gap, inside, is_document_marker, is_marked, is_some, append_cancel_right, ◌++◌, quoted_lines_fit, joined, line_break, LineStand, List, list_all, marked, Mode, nat_lt, nat_tests, None, not, not-true, nothing, off_margin, Ok, Option, OutOfMemory, past, past_element, past_escaped, past_is, Position, position_after, position_past, Problem, quoted, Read, refl, Result, scan, shallow, Some, Spelled, step, StepOf, steps, subst, suc, sym, take, true, white_stands, with_break, with_escaped_break, within, zero, ℕ, ◌&&◌, ◌+◌, ◌==◌, ◌∙◌, ◌∷◌, ◌≡◌, ◌≤◌, past_elements}
 use Rattle.yaml_chars.specs.Class.{is_break, is_blank}
 use Rattle.yaml_tokens.specs.declared.problem.Problem.TheVariants as problem
 use Rattle.model_scanner.specs.Quoted.{after}
@@ -12,7 +12,6 @@ use Rattle.proof_scanner.specs.NoPiece.{quote_of}
 use Rattle.proof_scanner.proofs.Refusals.QuotedElements.{quote_no_break, after_quote_at, no_quote, solid_here, past_line, past_two, after_it, kind_of, content_after}
 use Rattle.proof_scanner.proofs.Refusals.QuotedReasons.{stands, by_end, by_escape, by_column, by_tab, by_marker, placed, arrived, stepped, Reason, Closed, parted, all_stand, before_quote, lines_close}
 use Rattle.model_scanner.proofs.PlainLemmas.{break_leads}
-use Rattle.proof_row.proofs.Columns.{further_is_no_break}
 
 -- the faults of further lines
 abbrev pub is_of_lines : Fault → Bool
@@ -37,14 +36,13 @@ slash_no_quote a = grind arith
 escaped_goes : (single : Bool) (ctx : Context) (start : Position) → single ≡ false → (d : ℕ) (a : List ℕ) (p : Position) (u : Folded) → is_break d ≡ true
     → scan single ctx start (92 ∷ d ∷ a) inside p u ≡ scan single ctx start (drop (break_further d a) a) after (position_after p (92 ∷ d ∷ take (break_further d a) a) (drop (break_further d a) a)) (with_escaped_break u)
 unfolding is_break is_blank
-escaped_goes true ctx start double d a p u e = absurd (cc double)
-escaped_goes false ctx start double d [] p u e = grind (arith, past_line, past_is, and_false)
 escaped_goes false ctx start double d (f ∷ a) p u e = elim (cases_Bool ((d == 13) && (f == 10))) [
   | inl g ↦
       let q = and_parts (d == 13) (f == 10) g in
       rw (eqb-true d 13 q.0, eqb-true f 10 q.1) (ap (λ x. scan false ctx start a after x (with_escaped_break u)) (sym (ap (λ x. position_after x (13 ∷ 10 ∷ []) a) (past_is p 92 (13 ∷ 10 ∷ a) refl) ∙ past_two (past p) a)))
   | inr g ↦ rw (e, g) (ap (λ x. scan false ctx start (f ∷ a) after x (with_escaped_break u)) (sym (ap (λ x. position_past x d (f ∷ a)) (past_is p 92 (d ∷ f ∷ a) refl) ∙ past_line (past p) d (f ∷ a) e g)))
 ]
+escaped_goes a ctx start double d b p u e = grind (arith, past_line, past_is, and_false)
 
 module _ (single : Bool) (ctx : Context) (start : Position) (least : ℕ) (limit : (k : ℕ) → nat_lt (k + 1) ctx.indent ≡ nat_lt k least) where
   abbrev pub Why : LineStand → Position → List ℕ → Problem → Position → Type 0
@@ -250,10 +248,10 @@ module _ (single : Bool) (ctx : Context) (start : Position) (least : ℕ) (limit
   by_kind c b e is (has_blank f g) s p m t stood later = blank_ends c b is f g s p m t stood later
   by_kind c b e is (has_line f) s p m t stood later = line_ends c b is f s p t later
   by_kind c b e is (has_escaped d a double same_c same_b f) s p m t stood later =
-      let slashed : (c : ℕ) (b : List ℕ) → c ≡ 92 → b ≡ d ∷ a → element_of single c b ≡ Some (spelled escaped_break (suc (break_further d a))) → Later (drop (suc (break_further d a)) b) → Ends s p (c ∷ b) (scan single ctx start (c ∷ b) gap p t) = λ c b same_c same_b is later. 
-          let there : element_of single 92 (d ∷ a) ≡ Some (spelled escaped_break (suc (break_further d a))) = ap (λ x. element_of single x (d ∷ a)) (sym same_c) ∙ (ap (λ y. element_of single c y) (sym same_b) ∙ is) in
-          subst (λ x. Ends s p (x ∷ b) (scan single ctx start (x ∷ b) gap p t)) (sym same_c)
-          (subst (λ y. Ends s p (92 ∷ y) (scan single ctx start (92 ∷ y) gap p t)) (sym same_b) (escaped_ends d a double there f s p m t stood (subst (λ y. Later (drop (suc (break_further d a)) y)) same_b later))) in
+      let slashed : (c : ℕ) (b : List ℕ) → c ≡ 92 → b ≡ d ∷ a → element_of single c b ≡ Some (spelled escaped_break (suc (break_further d a))) → Later (drop (suc (break_further d a)) b) → Ends s p (c ∷ b) (scan single ctx start (c ∷ b) gap p t) = λ c b same_c same_b is later.
+      let there : element_of single 92 (d ∷ a) ≡ Some (spelled escaped_break (suc (break_further d a))) = ap (λ x. element_of single x (d ∷ a)) (sym same_c) ∙ (ap (λ y. element_of single c y) (sym same_b) ∙ is) in
+      subst (λ x. Ends s p (x ∷ b) (scan single ctx start (x ∷ b) gap p t)) (sym same_c)
+      (subst (λ y. Ends s p (92 ∷ y) (scan single ctx start (92 ∷ y) gap p t)) (sym same_b) (escaped_ends d a double there f s p m t stood (subst (λ y. Later (drop (suc (break_further d a)) y)) same_b later))) in
       slashed c b same_c same_b is later
 
   -- an element begins after an escaped break as in a gap

@@ -1,5 +1,5 @@
 -- Where the scanner's model refuses a text with a fault of a kind that is told, the text is stuck.
-use Rattle.proof_scanner.proofs.Common.{OutOfMemory, [], ap, Arrives, At, begins, cleared, drop_stale, false, Fares, Fault, fetch, fetch_here, fetch_next, fetch_stream_end, fetch_stream_start, has_no_nul, has_required, held_of, here, Holds, in_flow, inl, inr, is_empty, is_far, is_overdue, IsRefused, Key, List, list_any, map, next_line, not-false, Ok, on_held, Option, outside_key, over, peek, Position, Reaches, refl, RefusedTextsAreStuck, ScannerState, Some, stale, Stands, start, still, subst, sym, there, top_key, true, unroll_indent, ℕ, ◌+◌, ◌==◌, ◌∙◌, ◌∷◌, ◌≡◌, ◌⊎◌, arith, eqb-true, nat_tests}
+use Rattle.proof_scanner.proofs.Common.{OutOfMemory, [], ap, Arrives, At, begins, cleared, drop_stale, false, Fares, Fault, fetch, fetch_here, fetch_next, fetch_stream_end, fetch_stream_start, has_no_nul, has_required, held_of, here, Holds, in_flow, inl, inr, is_empty, is_far, is_overdue, IsRefused, Key, List, list_any, map, next_line, not-false, Ok, on_held, Option, outside_key, over, peek, Position, Reaches, refl, RefusedTextsAreStuck, ScannerState, Some, stale, Stands, start, still, sym, there, top_key, true, unroll_indent, ℕ, ◌+◌, ◌==◌, ◌∙◌, ◌∷◌, ◌≡◌, ◌⊎◌, arith, eqb-true, nat_tests}
 use Rattle.yaml_tokens.specs.declared.problem.Problem.TheVariants as problem
 use Rattle.model_scanner.specs.Keys.{with_keys}
 use Rattle.model_scanner.proofs.Holds as holds

@@ -1,5 +1,5 @@
 -- A key that must be one waits in each row of the text. So a text has no row where the scanner's model refuses one that comes to no colon.
-use Rattle.proof_scanner.proofs.Common.{[], Account, account_past, Act, act_of, ap, append-nil, append_assoc, append_cancel_right, AreAround, AreEntries, arith, Arrives, Begins, begins_free_line, Bool, comma, context_of, Entry, false, first_account, first_position, FlowLevel, gives_closing, gives_comma, GoesThrough, has_no_nul, has_required, HasNoKey, in_flow, inl, inr, is_blank, is_blank_or_end, is_break, is_empty, is_far, is_flow, is_in_flow, is_nul, is_required, is_separation, IsNear, IsPositionIn, IsRowFrom, Key, Leads, length, Line, line_past, List, mapping_closing, MayChoose, nat_tests, None, not, Option, Outside, outside_key, Position, position_after, position_append, refl, same_flow, ScannerState, sequence_closing, Some, spelled, Stands, Step, subst, suc, sym, top_key, true, waits, Whole, ℕ, ◌++◌, ◌||◌, ◌∙◌, ◌∷◌, ◌≡◌, ◌≤◌, ◌⊎◌, eqb-true}
+use Rattle.proof_scanner.proofs.Common.{[], Account, account_past, Act, act_of, ap, append-nil, append_assoc, append_cancel_right, AreAround, AreEntries, arith, Arrives, Begins, begins_free_line, Bool, comma, context_of, Entry, false, first_account, first_position, FlowLevel, gives_closing, gives_comma, GoesThrough, has_no_nul, has_required, HasNoKey, in_flow, inl, inr, is_blank, is_blank_or_end, is_break, is_empty, is_far, is_flow, is_in_flow, is_nul, is_required, is_separation, IsNear, IsPositionIn, IsRowFrom, Key, Leads, length, Line, line_past, List, mapping_closing, MayChoose, nat_tests, None, not, Option, Outside, outside_key, Position, position_after, position_append, refl, same_flow, ScannerState, sequence_closing, Some, spelled, Stands, Step, subst, suc, sym, top_key, true, waits, Whole, ℕ, ◌++◌, ◌||◌, ◌∙◌, ◌∷◌, ◌≡◌, ◌⊎◌}
 use Rattle.proof_scanner.proofs.Cut.Documents.{whole_text}
 use Rattle.proof_scanner.proofs.Cut.Positions.{not_before_after, index_after}
 use Rattle.proof_scanner.proofs.Sound.CutsSoFar.{stands_cut, cut_position}

@@ -1,5 +1,5 @@
 -- Sound texts where a condition was once said to fail: it does not.
-use Rattle.proof_scanner.proofs.Common.{after, codes, false, first_account, first_position, is_alpha, is_blank, is_blank_or_end, is_break, is_decimal_digit, is_flow, is_letter, is_nul, is_tag, is_uri, is_value_here, IsNoHeader, IsTagRefusal, IsVersionBefore, List, literal, Position, Problem, refl, subst, sym, tags_are_read, uri_character, ℕ, ◌∷◌, ◌≡◌, arith, eqb-true, nat_tests}
+use Rattle.proof_scanner.proofs.Common.{codes, false, first_account, first_position, is_alpha, is_blank, is_blank_or_end, is_break, is_decimal_digit, is_flow, is_letter, is_nul, is_tag, is_uri, is_value_here, IsNoHeader, IsTagRefusal, IsVersionBefore, List, literal, Position, Problem, refl, tags_are_read, uri_character, ℕ, ◌∷◌, ◌≡◌, arith, eqb-true, nat_tests}
 use Rattle.yaml_tokens.specs.declared.problem.Problem.TheVariants as problem
 use Rattle.proof_scanner.specs.NoPiece as none
 use Rattle.proof_scanner.proofs.Refusals.TextsRefused.{refusal_fails}

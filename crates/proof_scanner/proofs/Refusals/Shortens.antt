@@ -1,6 +1,6 @@
 -- Each fetch reads on: where a piece begins, less text is left after it.
 use Rattle.std.proofs.lemmas.List.{length-append}
-use Rattle.proof_scanner.proofs.Common.{[], after_plain, allow_key, anchor_name, and_parts, ap, append_assoc, are_single, arith, Arrives, At, Before, before_by, before_past, begin_flow, begin_key, begin_line, begins_separation, block, Bool, both_hold, chained, check_after_quoted, check_after_tab, check_block_entry, check_dash, check_document_end, check_key_space, check_value_space, checked, Collection, collection_column, collection_of, comes_plain, Context, context, directives_end, either, end_entry, end_flow, end_stream, Err, false, Fault, fetch, fetch_anchor, fetch_block_entry, fetch_block_scalar, fetch_content, fetch_directive, fetch_document_end, fetch_document_marker, fetch_flow_collection_end, fetch_flow_collection_start, fetch_flow_entry, fetch_flow_scalar, fetch_here, fetch_key, fetch_next, fetch_plain_scalar, fetch_stream_end, fetch_tag, fetch_token, fetch_value, go_on, has_no_nul, has_required, Held, Holds, if◌then◌else◌, in_flow, inl, inr, is_adjacent, is_document_marker, is_empty, is_literal, is_nul, length, lexed, List, mark_of, may_follow_quoted, NameKind, next_line, No, node_start, None, not, Ok, on_held, opens_pair, Option, other, paired, pass_indicator, peek, Position, push, quote_of, quoted, Quotes, Read, read, read_as, ReadAs, refl, refused, remove_implicit_key, Result, roll_entry, roll_indent, save_implicit_key, ScannerState, sequence, skip_indicator, SkipTabs, stale, Stands, Style, subst, sym, Tok, top_key, tried, true, try_held, unled, unroll_indent, unroll_non_block_indents, weakened, went, without_open, Yes, ℕ, ◌&&◌, ◌++◌, ◌+◌, ◌<◌, ◌==◌, ◌>>=◌, ◌∙◌, ◌∷◌, ◌≡◌, ◌≤◌, ◌⊎◌, eqb-true, nat_tests}
+use Rattle.proof_scanner.proofs.Common.{[], after_plain, allow_key, anchor_name, and_parts, ap, append_assoc, are_single, arith, Arrives, At, Before, before_by, before_past, begin_flow, begin_key, begin_line, begins_separation, block, Bool, both_hold, chained, check_after_quoted, check_after_tab, check_block_entry, check_dash, check_document_end, check_key_space, check_value_space, checked, Collection, collection_column, collection_of, comes_plain, Context, context, directives_end, either, end_entry, end_flow, end_stream, false, Fault, fetch, fetch_anchor, fetch_block_entry, fetch_block_scalar, fetch_content, fetch_directive, fetch_document_end, fetch_document_marker, fetch_flow_collection_end, fetch_flow_collection_start, fetch_flow_entry, fetch_flow_scalar, fetch_here, fetch_key, fetch_next, fetch_plain_scalar, fetch_stream_end, fetch_tag, fetch_token, fetch_value, go_on, has_no_nul, has_required, Held, Holds, if◌then◌else◌, in_flow, inl, inr, is_adjacent, is_document_marker, is_empty, is_literal, is_nul, length, lexed, List, mark_of, may_follow_quoted, NameKind, next_line, No, node_start, None, not, Ok, on_held, opens_pair, Option, other, paired, pass_indicator, peek, Position, push, quote_of, quoted, Quotes, Read, read, read_as, ReadAs, refl, refused, remove_implicit_key, Result, roll_entry, roll_indent, save_implicit_key, ScannerState, sequence, skip_indicator, SkipTabs, stale, Stands, Style, subst, sym, Tok, top_key, tried, true, try_held, unled, unroll_indent, unroll_non_block_indents, weakened, went, without_open, Yes, ℕ, ◌&&◌, ◌++◌, ◌+◌, ◌<◌, ◌==◌, ◌>>=◌, ◌∙◌, ◌∷◌, ◌≡◌, ◌≤◌, ◌⊎◌}
 use Rattle.defs_token.specs.Account.{Account, is_in_flow}
 use Rattle.yaml_tokens.specs.declared.problem.Problem.TheVariants as problem
 use Rattle.model_scanner.specs.Directive.{directive}
@@ -23,7 +23,7 @@ use Rattle.proof_scanner.proofs.Cut.Saved.{saved_keys, saved_is}
 use Rattle.proof_scanner.proofs.Sound.Arriving.{arrives_now, near_key}
 use Rattle.proof_scanner.proofs.Sound.Stales.{stale_stands, keys_only}
 use Rattle.proof_scanner.proofs.Sound.ToToken.{passed_stands}
-use Rattle.proof_scanner.proofs.Sound.WithoutOpen.{AreClosed, without_is}
+use Rattle.proof_scanner.proofs.Sound.WithoutOpen.{without_is}
 use Rattle.proof_scanner.proofs.Refusals.Passing.{anything}
 
 -- ---- lengths

@@ -1,5 +1,5 @@
 -- Faults of what is passed between pieces.
-use Rattle.proof_scanner.proofs.Common.{[], arith, At, begins_separation, begins_white_space, begins_with, begins_with_space_or_break, ends_spaces, Err, false, Fault, glued, HasNoWhiteSpace, HasPassed, Holds, is_at_gap, is_blank, is_blank_or_end, is_break, is_breakz, is_nul, is_separation, IsGlued, List, Ok, peek, Position, refused_as, Result, ScannerState, skip_spaces, skip_yaml_whitespace, SkipTabs, space, spaces_are_passed, true, white_space_is_passed, Yes, ℕ, ◌++◌, ◌∷◌, ◌≡◌, eqb-true, nat_tests}
+use Rattle.proof_scanner.proofs.Common.{[], arith, At, begins_separation, begins_white_space, begins_with, begins_with_space_or_break, ends_spaces, Err, false, Fault, glued, HasNoWhiteSpace, HasPassed, Holds, is_at_gap, is_blank, is_blank_or_end, is_break, is_breakz, is_nul, is_separation, IsGlued, List, Ok, peek, Position, refused_as, Result, ScannerState, skip_spaces, skip_yaml_whitespace, SkipTabs, space, spaces_are_passed, true, white_space_is_passed, Yes, ℕ, ◌++◌, ◌∷◌, ◌≡◌}
 use Rattle.yaml_tokens.specs.declared.problem.Problem.TheVariants as problem
 use Rattle.yaml_chars.specs.Class as model_classes
 use Rattle.proof_scanner.proofs.Refusals.Faults.{Faults, goes, read}

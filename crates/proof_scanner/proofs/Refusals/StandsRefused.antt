@@ -1,5 +1,5 @@
 -- Where a piece may not stand for what stands before or after it, no row of the text goes on.
-use Rattle.proof_scanner.proofs.Common.{[], Account, account_past, act_of, ap, arith, awaits_past, before_by, before_past, begins_free_line, begins_separation, begins_white_space, begins_with, begins_with_space_or_break, Bool, colon, comma, context_of, dash, double_quoted, entries_past, Entry, eqb-true, false, flow_entry, flow_mapping_end, flow_mapping_start, flow_sequence_end, flow_sequence_start, further_lines_stand, gives_colon, gives_dash, gives_node, gives_question, GoesOn, has_tab_before_piece, if◌then◌else◌, inl, inr, is_adjacent, is_at_gap, is_blank, is_blank_or_end, is_break, is_deep_enough, is_empty, is_flow, is_flow_indicator, is_in_flow, is_indented_by_spaces, is_near, is_nul, is_renewed, is_separation, is_taken, is_taken_line, is_value_here, is_value_indicator, IsQuoted, Kind, kind_at, least_for, level_of, LikeEntries, LikeHad, Line, line_past_separation, List, map, mapping_closing, mapping_opening, may_precede, may_stand, None, not, on_one_line, Option, past_inside, past_piece, Position, previous_by, question, quoted_may_end, quoted_scalar, refl, same_flow, scalar, sequence_closing, sequence_opening, single_quoted, Site, site_at_place, site_past, Some, Step, subst, sym, takes_pair, Tok, true, waits, Whole, ℕ, ◌&&◌, ◌++◌, ◌<◌, ◌==◌, ◌||◌, ◌∙◌, ◌∷◌, ◌≡◌, ◌⊎◌, nat_tests}
+use Rattle.proof_scanner.proofs.Common.{[], Account, account_past, act_of, ap, arith, awaits_past, before_by, before_past, begins_free_line, begins_separation, begins_white_space, begins_with, begins_with_space_or_break, Bool, colon, comma, context_of, dash, double_quoted, entries_past, Entry, eqb-true, false, flow_entry, flow_mapping_end, flow_mapping_start, flow_sequence_end, flow_sequence_start, further_lines_stand, gives_colon, gives_dash, gives_node, gives_question, GoesOn, has_tab_before_piece, if◌then◌else◌, inl, inr, is_adjacent, is_at_gap, is_blank, is_blank_or_end, is_break, is_deep_enough, is_empty, is_flow, is_flow_indicator, is_in_flow, is_indented_by_spaces, is_near, is_nul, is_renewed, is_separation, is_taken, is_taken_line, is_value_here, is_value_indicator, IsQuoted, Kind, kind_at, least_for, LikeEntries, LikeHad, Line, line_past_separation, List, mapping_closing, mapping_opening, may_precede, may_stand, None, not, on_one_line, Option, past_inside, past_piece, Position, previous_by, question, quoted_may_end, quoted_scalar, refl, same_flow, scalar, sequence_closing, sequence_opening, single_quoted, Site, site_at_place, site_past, Some, Step, subst, sym, takes_pair, Tok, true, waits, Whole, ℕ, ◌&&◌, ◌++◌, ◌<◌, ◌==◌, ◌||◌, ◌∙◌, ◌∷◌, ◌≡◌, ◌⊎◌, nat_tests}
 use Rattle.defs_token.specs.Account as pieces
 use Rattle.defs_token.specs.FlowEntry as entry
 use Rattle.proof_lexers.specs.PlainEnds.{has_break}
@@ -237,9 +237,9 @@ module _ (a : Account) (separation rest : List ℕ) (here : Position) (s : StepA
       let act : act_of s.step.shown ≡ gives_node = ap act_of (sym same.1) ∙ (node_token single (quoted_value single piece (gap ++ content) is)).0 in
       let site_is : s.past.site ≡ site_past (is_in_flow s.account.entries) there s.step.piece s.step.shown next there.blocks = node_site_past s.account s.step next s.past act s.is_past in
       let awaits_is : s.past.site.awaits ≡ (site_at_place a here).awaits =
-          ap (λ (x : Site). x.awaits) site_is ∙ (ap (λ t. awaits_past (is_in_flow s.account.entries) t there.blocks there.awaits next) (sym same.1) ∙
-          ((grind arith) ∙ ap (λ (x : Site). x.awaits) (node_site act))) in
+      ap (λ (x : Site). x.awaits) site_is ∙ (ap (λ t. awaits_past (is_in_flow s.account.entries) t there.blocks there.awaits next) (sym same.1) ∙
+      ((grind arith) ∙ ap (λ (x : Site). x.awaits) (node_site act))) in
       let tabbed_then : is_indented_by_spaces s.past.site.before s.past.site.blocks s.past.site.awaits gap ≡ false =
-          ap (λ b. is_indented_by_spaces b s.past.site.blocks s.past.site.awaits gap) (ap (λ (x : Site). x.before) site_is ∙ (ap previous_by (sym same.1) ∙ (node_token single (quoted_value single piece (gap ++ content) is)).1)) ∙ (ap (λ bs. is_indented_by_spaces quoted_scalar bs s.past.site.awaits gap) (ap (λ (x : Site). x.blocks) site_is ∙ ap (λ (x : Site). x.blocks) (node_site act)) ∙
-          (ap (λ w. is_indented_by_spaces quoted_scalar (site_at_place a here).blocks w gap) awaits_is ∙ tabbed_there)) in
+      ap (λ b. is_indented_by_spaces b s.past.site.blocks s.past.site.awaits gap) (ap (λ (x : Site). x.before) site_is ∙ (ap previous_by (sym same.1) ∙ (node_token single (quoted_value single piece (gap ++ content) is)).1)) ∙ (ap (λ bs. is_indented_by_spaces quoted_scalar bs s.past.site.awaits gap) (ap (λ (x : Site). x.blocks) site_is ∙ ap (λ (x : Site). x.blocks) (node_site act)) ∙
+      (ap (λ w. is_indented_by_spaces quoted_scalar (site_at_place a here).blocks w gap) awaits_is ∙ tabbed_there)) in
       cc (clear gap content (sym same.2) fills solid some, tabbed_then)

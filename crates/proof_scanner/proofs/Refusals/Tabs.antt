@@ -1,5 +1,5 @@
 -- A TAB that indents a line: where the way to the next token is refused, the line of what comes next is not indented by spaces.
-use Rattle.proof_scanner.proofs.Common.{[], ap, append-nil, append_assoc, arith, At, begins_line, begins_separation, begins_token, between, Bool, Err, false, Fault, fills_blank, follows_plain, Gap, has_tab_within, Held, is_before_indent, is_blanks, is_empty, is_indented_by_spaces, is_separation, IsTabRefusal, last_line, least_column, length, List, nat_tests, not, not-true, Position, position_after, Previous, refl, Result, same_blank, same_break, ScannerState, separations_are_passed, skip, skip_to_next_token, subst, suc, sym, true, zero, ℕ, ◌&&◌, ◌++◌, ◌+◌, ◌<◌, ◌==◌, ◌||◌, ◌∙◌, ◌∷◌, ◌≡◌, ◌≤◌, eqb-true}
+use Rattle.proof_scanner.proofs.Common.{[], ap, append-nil, append_assoc, arith, At, begins_line, begins_separation, between, Bool, Err, false, Fault, fills_blank, follows_plain, Gap, has_tab_within, Held, is_before_indent, is_blanks, is_empty, is_indented_by_spaces, is_separation, IsTabRefusal, last_line, least_column, length, List, nat_tests, not, not-true, Position, position_after, Previous, refl, Result, same_blank, same_break, ScannerState, separations_are_passed, skip, skip_to_next_token, subst, suc, sym, true, ℕ, ◌&&◌, ◌++◌, ◌+◌, ◌<◌, ◌==◌, ◌||◌, ◌∙◌, ◌∷◌, ◌≡◌, ◌≤◌}
 use Rattle.yaml_chars.specs.Class.{is_break}
 use Rattle.yaml_tokens.specs.declared.problem.Problem.TheVariants as problem
 use Rattle.defs_text.specs.Classes as classes
@@ -16,16 +16,13 @@ use Rattle.proof_scanner.proofs.Refusals.Faults.{Faults, fault, goes}
 
 -- among more columns, and in a longer line
 within_more : (n m : ℕ) (l r : List ℕ) → n ≤ m → has_tab_within n l ≡ true → has_tab_within m (l ++ r) ≡ true
-within_more zero m l r less h = absurd (cc h)
-within_more (suc n) m [] r less h = absurd (cc h)
-within_more (suc n) zero (c ∷ l) r less h = absurd (omega (arith, less))
 within_more (suc n) (suc m) (c ∷ l) r less h = grind (arith, within_more n m l r)
+within_more a m l r less h = grind arith
 
 -- at the end of a line that is shorter
 within_end : (n : ℕ) (l : List ℕ) → length l < n → has_tab_within n (l ++ 9 ∷ []) ≡ true
-within_end zero l less = absurd (omega (arith, less))
-within_end (suc n) [] less = refl
 within_end (suc n) (c ∷ l) less = grind (arith, within_end n l)
+within_end a l less = grind arith
 
 -- ---- the way to the next token
 

@@ -1,5 +1,5 @@
 -- The blanks after a colon: TABs alone, where a letter stands after blanks and a comment without a space among the blanks.
-use Rattle.proof_scanner.proofs.Common.{[], after, append-nil, arith, begins_with_alpha, comment_of, false, has, is_alpha, is_break, is_decimal_digit, is_letter, is_on_line, is_one_of, List, past_comment, refl, true, ℕ, ◌++◌, ◌∷◌, ◌≡◌, nat_tests, eqb-true}
+use Rattle.proof_scanner.proofs.Common.{[], after, append-nil, arith, begins_with_alpha, comment_of, false, has, is_alpha, is_break, is_decimal_digit, is_letter, is_on_line, is_one_of, List, past_comment, refl, true, ℕ, ◌++◌, ◌∷◌, ◌≡◌}
 use Rattle.proof_scanner.proofs.Refusals.PiecesRefused.{among}
 
 -- a line ends with no letter

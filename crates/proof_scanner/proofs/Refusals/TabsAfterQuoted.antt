@@ -1,15 +1,14 @@
 -- A TAB after a quoted scalar, on a later line, which would indent the next piece.
-use Rattle.proof_scanner.proofs.Common.{[], ap, append_assoc, Arrives, begins_with, between, Bool, check_after_quoted, closed_first, columns, Context, false, Fault, has_break, has_no_nul, has_open_level, held_of, in_flow, inr, is_empty, is_indented_by_spaces, is_separation, IsQuoted, least_column, List, may_not_stand, no_nul_after, Ok, Position, position_after, position_append, quoted_scalar, Read, refl, Result, ScannerState, site_at_place, skip_to_next_token, subst, sym, true, ℕ, ◌++◌, ◌∙◌, ◌≡◌, arith, eqb-true, nat_tests}
+use Rattle.proof_scanner.proofs.Common.{[], ap, append_assoc, Arrives, begins_with, Bool, check_after_quoted, closed_first, columns, Context, false, Fault, has_break, has_no_nul, has_open_level, held_of, in_flow, inr, is_empty, is_indented_by_spaces, is_separation, IsQuoted, List, may_not_stand, no_nul_after, Ok, Position, position_after, position_append, quoted_scalar, Read, ScannerState, site_at_place, skip_to_next_token, subst, sym, true, ℕ, ◌++◌, ◌∙◌, ◌≡◌, arith, eqb-true, nat_tests}
 use Rattle.yaml_tokens.specs.declared.problem.Problem.TheVariants as problem
 use Rattle.proof_scanner.proofs.Cut.Pieces.Separations.{separation_append}
 use Rattle.proof_scanner.proofs.Cut.Saved.{saved_is}
 use Rattle.proof_scanner.proofs.Sound.Passed.{least_is, same_has_break}
 use Rattle.proof_scanner.proofs.Sound.QuotedEnds.{Checked, quoted_checked}
 use Rattle.proof_scanner.proofs.Sound.QuotedKeeps.{QuotedAs, in_line}
-use Rattle.proof_scanner.proofs.Sound.Skips.{IsLeast, IsIn}
 use Rattle.proof_scanner.specs.Failing as defs
 use Rattle.proof_scanner.proofs.Refusals.AfterQuoted.{unglued}
-use Rattle.proof_scanner.proofs.Refusals.Faults.{Faults, fault, goes, mapped}
+use Rattle.proof_scanner.proofs.Refusals.Faults.{Faults, mapped}
 use Rattle.proof_scanner.proofs.Refusals.Places.{Said, IsWhy, LiesDeep, account_by, stuck, blocks_by, awaits_by, least_by, looked_at}
 use Rattle.proof_scanner.proofs.Refusals.Quotes.{closed, piece, is, fits}
 use Rattle.proof_scanner.proofs.Refusals.Tabs.{TabStands, skip_refused}
@@ -41,8 +40,8 @@ module _ (text : List ℕ) (t : ScannerState) (a : Arrives text t) (some : is_em
         let is_filled : is_separation false gap d.rest ≡ true = separation_append false spaces d.passed d.rest (subst (λ r. is_separation false spaces r ≡ true) d.cut c.spaces.is_filled) d.is_filled in
         let end : Position = position_after t.held.position scalar (gap ++ d.rest) in
         let place : position_after v.held.position d.passed d.rest ≡ position_after end gap d.rest =
-            ap (λ p. position_after p d.passed d.rest) (ap (λ h. h.position) c.spaces.is_held ∙ ap (λ r. position_after x.position spaces r) d.cut) ∙
-            (sym (position_append x.position spaces d.passed d.rest) ∙ ap (λ p. position_after p gap d.rest) (q.end_is ∙ ap (λ r. position_after t.held.position scalar r) cut)) in
+        ap (λ p. position_after p d.passed d.rest) (ap (λ h. h.position) c.spaces.is_held ∙ ap (λ r. position_after x.position spaces r) d.cut) ∙
+        (sym (position_append x.position spaces d.passed d.rest) ∙ ap (λ p. position_after p gap d.rest) (q.end_is ∙ ap (λ r. position_after t.held.position scalar r) cut)) in
         subst (λ g. Said text g) (sym d.is_fault) (λ _. subst (λ p. IsWhy text problem.TabInBlockIndentation p) (sym place)
         (stuck text t a some [] problem.TabInBlockIndentation (position_after end gap d.rest) (λ k may.
         record {

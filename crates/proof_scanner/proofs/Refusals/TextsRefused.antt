@@ -1,7 +1,6 @@
 -- Where a tag, a directive or a block scalar's header is none, no row of the text goes on.
-use Rattle.proof_scanner.proofs.Common.{[], Account, after, all_lines, all_of, alpha_starts, and_parts, ap, append-nil, are_marks, AreNotIndented, At, begins_flow, begins_with, begins_with_mark, block_may_end, block_read, block_token, BlockRead, BlockStyle, Body, body, Bool, context_of, decoded, decoded_some, directive_begins, directive_line, directive_of, double_quoted, Ending, eqb-true, Err, false, first_line, folded, further, further_text, has_header, has_no_break, has_no_nul, HasNoQuoted, Header, header_of, if◌then◌else◌, in_double_quotes, in_single_quotes, indicator_of, inl, innermost, inr, is_adjacent, is_alpha, is_at_end, is_at_gap, is_at_line_end, is_blank, is_blank_or_end, is_break, is_decimal_digit, is_empty, is_flow, is_further_text, is_in_flow, is_in_line, is_letter, is_nul, is_past, is_tag, is_uri, IsTagRefusal, Kind, kind_at, leading, leading_all, least_column, length, line_is, line_more, lines_after, List, literal, local_goes_on, local_octets, may_follow, may_precede, More, no_lines, no_nul_after, no_suffix, None, not, of_lines, Ok, Option, past, Position, Problem, put_first, read_body, read_lines, read_may_end, refl, same_end, scalar, single_quoted, site_at_place, slice_index, Some, split, split_append, splits, starts_with_tab, subst, suffix_goes_on, suffix_octets, sym, tag_text, tags_are_read, true, unclosed, up_to_break, verbatim_goes_on, verbatim_octets, Whole, word, written_tag, ℕ, ◌&&◌, ◌++◌, ◌==◌, ◌||◌, ◌∙◌, ◌∷◌, ◌≡◌, ◌⊎◌, arith, ends_run, runs, nat_tests}
+use Rattle.proof_scanner.proofs.Common.{[], Account, after, all_of, alpha_starts, and_parts, ap, append-nil, are_marks, AreNotIndented, At, begins_flow, begins_with, begins_with_mark, block_may_end, block_read, block_token, BlockRead, BlockStyle, Body, body, Bool, context_of, decoded, decoded_some, directive_begins, directive_line, directive_of, double_quoted, eqb-true, Err, false, first_line, folded, further, further_text, has_header, has_no_break, has_no_nul, HasNoQuoted, Header, header_of, if◌then◌else◌, in_double_quotes, in_single_quotes, indicator_of, inl, inr, is_adjacent, is_alpha, is_at_end, is_at_gap, is_at_line_end, is_blank, is_blank_or_end, is_break, is_decimal_digit, is_empty, is_flow, is_further_text, is_in_flow, is_in_line, is_letter, is_nul, is_past, is_tag, is_uri, IsTagRefusal, Kind, kind_at, leading, leading_all, least_column, length, line_is, line_more, lines_after, List, literal, local_goes_on, local_octets, may_follow, may_precede, More, no_lines, no_nul_after, no_suffix, None, not, of_lines, Ok, Option, past, Position, Problem, put_first, read_body, read_lines, refl, same_end, scalar, single_quoted, site_at_place, slice_index, Some, split, split_append, splits, subst, suffix_goes_on, suffix_octets, sym, tag_text, tags_are_read, true, unclosed, up_to_break, verbatim_goes_on, verbatim_octets, Whole, word, written_tag, ℕ, ◌&&◌, ◌++◌, ◌==◌, ◌||◌, ◌∙◌, ◌∷◌, ◌≡◌, ◌⊎◌, arith, ends_run, runs, nat_tests}
 use Rattle.defs_text.specs.BlockScalar as block
-use Rattle.defs_text.specs.BlockScalar.{unbroken as unbroken_line}
 use Rattle.defs_token.specs.Account as pieces
 use Rattle.yaml_tokens.specs.declared.problem.Problem.TheVariants as problem
 use Rattle.model_scanner.specs.Tag as tags
@@ -111,7 +110,7 @@ module _ (collection : Option ℕ) (header more : List ℕ) where
   longer : (own q next : List ℕ) (r : BlockRead) → split own ≡ of_lines (header ∷ []) [] → block_read collection (own ++ 9 ∷ q) next ≡ Some r → ⊥
   unfolding is_break
   longer own q next r one is =
-      let by : (complete : List (List ℕ)) (last : List ℕ) (ended : Bool) → read_lines collection (header ∷ (put_first 9 complete last).complete) ((put_first 9 complete last).last) next ended ≡ Some r → ⊥ = λ complete last ended e. grind (arith) in
+      let by : (complete : List (List ℕ)) (last : List ℕ) (ended : Bool) → read_lines collection (header ∷ (put_first 9 complete last).complete) ((put_first 9 complete last).last) next ended ≡ Some r → ⊥ = λ complete last ended e. grind arith in
       let lines : split (own ++ 9 ∷ q) ≡ lines_after (header ∷ []) (split (9 ∷ q)) = split_append own (9 ∷ q) (header ∷ []) one refl in
       by ((split q).complete) ((split q).last) (is_at_end next) (ap (λ z. read_lines collection z.complete z.last next (is_at_end next)) (sym lines) ∙ is)
 
@@ -135,9 +134,6 @@ module _ (collection : Option ℕ) (header more : List ℕ) where
           no_more (k ∷ ls) complete last e f = absurd (cc e)
 
       by : (complete : List (List ℕ)) (last : List ℕ) (ended : Bool) → (split own).complete ≡ complete → (split own).last ≡ last → is_at_end (d ∷ next) ≡ ended → read_lines collection ((split own).complete) ((split own).last) (d ∷ next) (is_at_end (d ∷ next)) ≡ Some r → ⊥
-      by complete last true e f g k = some g
-      by [] last false e f g k = let none : read_lines collection [] last (d ∷ next) false ≡ Some r = rw (e, f, g) at k in cc none
-      by (l ∷ ls) (c ∷ last) false e f g k = let none : read_lines collection (l ∷ ls) (c ∷ last) (d ∷ next) false ≡ Some r = rw (e, f, g) at k in cc none
       by (l ∷ ls) [] false e f g k =
           let read : read_body (header_of l) collection (body ls further_text) (d ∷ next) ≡ Some r = rw (e, f, g) at k in
           let past = ended_body collection (header_of l) (body ls further_text) (d ∷ next) r read in
@@ -146,6 +142,7 @@ module _ (collection : Option ℕ) (header more : List ℕ) where
           on : (b : Bool) → (d == 10) ≡ b → (column : ℕ) → (is_at_end (d ∷ next) || is_further_text column (d ∷ next)) ≡ true → ⊥
           on true i column p = let same : d ≡ 10 = eqb-true d 10 i in cc (p, g, ap (λ x. is_further_text column (x ∷ next)) same, not_past column next)
           on false i column p = two l ls (ap (λ x. of_lines x ((split own).last)) e ∙ ap (λ x. of_lines (l ∷ ls) x) f) i
+      by complete last a e f g k = grind (arith, some)
 
   -- A block scalar that has this header, after which a TAB begins the next line, is the header alone.
   pub header_alone : (own piece next : List ℕ) (r : BlockRead) → piece ++ next ≡ own ++ 9 ∷ more → split own ≡ of_lines (header ∷ []) [] → has_no_nul next ≡ true → block_read collection piece next ≡ Some r → (piece ≡ own) × (next ≡ 9 ∷ more)

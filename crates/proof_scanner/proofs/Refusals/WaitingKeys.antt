@@ -1,5 +1,5 @@
 -- A key that waits outside flow is near as long as a row goes on: its colon is still to come, on its line, at most 1024 characters after its start.
-use Rattle.proof_scanner.proofs.Common.{[], Account, account_past, Act, act_of, and_parts, ap, arith, begins_free_line, Bool, ends_separation, false, inl, inr, is_blank, is_break, is_in_column, is_separation, IsRowFrom, line_past, List, longer, may_end, None, not, Option, Outside, Position, position_after, refl, same_head, Site, site_at, Some, spelled, Step, subst, sym, true, waits, ℕ, ◌++◌, ◌+◌, ◌==◌, ◌||◌, ◌∙◌, ◌∷◌, ◌≡◌, ◌≤◌, ◌⊎◌, eqb-true, nat_tests}
+use Rattle.proof_scanner.proofs.Common.{[], Account, account_past, Act, act_of, and_parts, ap, arith, begins_free_line, Bool, ends_separation, false, inl, inr, is_break, is_in_column, is_separation, IsRowFrom, line_past, List, longer, may_end, None, not, Option, Outside, Position, position_after, refl, same_head, Site, site_at, Some, spelled, Step, subst, true, waits, ℕ, ◌++◌, ◌+◌, ◌==◌, ◌∙◌, ◌∷◌, ◌≡◌, ◌≤◌, ◌⊎◌, eqb-true, nat_tests}
 use Rattle.proof_row.proofs.Separations.{over}
 use Rattle.proof_scanner.proofs.Cut.Positions.{index_after}
 use Rattle.proof_scanner.proofs.Known.Made.{still_there, Made, outside, inside, made}
