@@ -1,5 +1,5 @@
 -- Two places of a text where something fails first: they are one place, or one fails by a TAB that the other has told.
-use Rattle.proof_scanner.proofs.Common.{[], Account, account_past, act_of, ap, begins_separation, Bool, clean_up_to_end, comes_first, Fails, FailsFirst, false, follows_plain, gives_node, has_no_nul, is_empty, is_free_of_tabs, is_indented_by_spaces, is_separation, IsLike, IsQuoted, List, no_nul_after, None, Option, Position, position_after, Problem, refl, separations, Site, Some, spelled, Step, subst, sym, true, up_to_nul, ℕ, ◌++◌, ◌∙◌, ◌∷◌, ◌≡◌, arith, eqb-true, nat_tests}
+use Rattle.proof_scanner.proofs.Common.{[], Account, account_past, act_of, ap, begins_separation, Bool, clean_up_to_end, comes_first, Fails, FailsFirst, false, follows_plain, gives_node, has_no_nul, is_empty, is_free_of_tabs, is_indented_by_spaces, is_separation, IsLike, IsQuoted, List, no_nul_after, None, Option, Position, position_after, Problem, refl, separations, Site, Some, spelled, Step, subst, sym, true, up_to_nul, ℕ, ◌++◌, ◌∙◌, ◌∷◌, ◌≡◌, arith, eqb-true, nat_tests, cases_Bool, inl, inr}
 use Rattle.defs_token.specs.Piece.{Holds}
 use Rattle.proof_scanner.proofs.Known.Places.{ends_before, step_here}
 use Rattle.yaml_tokens.specs.declared.problem.Problem.TheVariants as problem
@@ -99,7 +99,7 @@ module _ (J : Account → Account → Type 0) (same : (x y : Account) → J x y 
 
   -- Where a way goes on past a place, what fails there first is a TAB after a quoted scalar, which so fails at the next place.
   pub fails_before : (why1 why2 : Problem) (at1 at2 : Position) → FailsFirst a s1 h1 r1 why1 at1 → FailsFirst b s2 h2 r2 why2 at2 → (why1 ≡ why2) × (at1 ≡ at2)
-  fails_before why1 why2 at1 at2 f1 f2 = by (is_free_of_tabs b s2) refl
+  fails_before why1 why2 at1 at2 f1 f2 = elim (cases_Bool (is_free_of_tabs b s2)) [ inl free ↦ absurd (no_step_stands a s1 r1 h1 step (clear (λ _. free)) why1 at1 f1.fails) | inr tab ↦ on g.steps refl tab ]
     where
       on : (ws : List Step) → g.steps ≡ ws → is_free_of_tabs b s2 ≡ false → (why1 ≡ why2) × (at1 ≡ at2)
       on (v ∷ vs) last tab = absurd (no_step_stands a s1 r1 h1 step (clear (λ none. absurd (cc (none, last)))) why1 at1 f1.fails)
@@ -109,7 +109,3 @@ module _ (J : Account → Account → Type 0) (same : (x y : Account) → J x y 
           (λ comes before blanks more column cut over stands left are token. absurd (no_tab a s1 r1 h1 step comes before blanks more column cut over stands left are token (clear_gap last tab own.2)))
           (λ single piece gap content e is fills some solid tabbed. (refl, at_quoted last tab own.2 single piece gap content e is fills solid)) why1 at1 f1.fails in
           (first.0 ∙ sym own.0, first.1 ∙ sym own.1)
-
-      by : (t : Bool) → is_free_of_tabs b s2 ≡ t → (why1 ≡ why2) × (at1 ≡ at2)
-      by true free = absurd (no_step_stands a s1 r1 h1 step (clear (λ _. free)) why1 at1 f1.fails)
-      by false tab = on g.steps refl tab

@@ -1,5 +1,5 @@
 -- Faults of block scalars: the line is no header, or what stands after the scalar may not.
-use Rattle.proof_scanner.proofs.Common.{[], after_chars, allow_key, and_parts, ap, append-nil, are_empty, AreLines, arith, Arrives, At, begins_with, block, block_first, block_may_end, block_read, BlockRead, BlockStyle, body, Bool, Break, collection_of, columns, Err, false, Fault, fetch_block_scalar, folded, further_text, has_no_nul, header_of, Held, if◌then◌else◌, indicator_of, innermost, is_at_end, is_break, is_empty, is_in_line, is_literal, is_literal_style, is_nul, is_shallow, is_tabbed, IsBlockFault, leading_spaces, least_column, linebreak, List, literal, nat_le, nat_lt, nat_tests, no_block, no_nul_after, None, not, Option, past, Position, position_after, Problem, read_body, read_lines, read_may_end, refl, refused_as, ScannerState, Some, spell, spell_more, split, split_spell, style_inner, subst, sym, tab, texts, true, unroll_non_block_indents, ℕ, ◌&&◌, ◌++◌, ◌||◌, ◌∙◌, ◌∷◌, ◌≡◌, eqb-true}
+use Rattle.proof_scanner.proofs.Common.{[], after_chars, allow_key, and_parts, ap, append-nil, are_empty, AreLines, arith, Arrives, At, begins_with, block, block_first, block_may_end, block_read, BlockRead, BlockStyle, body, Bool, Break, collection_of, columns, Err, false, Fault, fetch_block_scalar, folded, further_text, has_no_nul, header_of, Held, if◌then◌else◌, indicator_of, innermost, is_at_end, is_break, is_empty, is_in_line, is_literal, is_literal_style, is_nul, is_shallow, is_tabbed, IsBlockFault, leading_spaces, least_column, linebreak, List, literal, nat_le, nat_lt, nat_tests, no_block, no_nul_after, None, not, Option, past, Position, position_after, Problem, read_body, read_lines, read_may_end, refl, refused_as, ScannerState, Some, spell, spell_more, split, split_spell, style_inner, subst, sym, tab, texts, true, unroll_non_block_indents, ℕ, ◌&&◌, ◌++◌, ◌||◌, ◌∙◌, ◌∷◌, ◌≡◌, eqb-true, cases_Bool, inl, inr}
 use Rattle.model_scanner.specs.declared.kind.BlockStyle as kind
 use Rattle.model_scanner.specs.declared.kind.BlockStyle.TheVariants.{Literal, Folded}
 use Rattle.defs_text.specs.BlockScalar as defs
@@ -83,12 +83,8 @@ rest_fails t y l d e k = grind arith
 
 column_fault : (indent : ℕ) (bs : List ℕ) (here : Position) (text piece next : List ℕ) (b : BlockRead) → IsLeast indent bs → text ≡ piece ++ next → has_no_nul next ≡ true → block_read (collection_of indent) piece next ≡ Some b → is_tabbed piece next ≡ false → is_shallow indent here b piece next ≡ true
     → FirstFault bs here text problem.BlockScalarIndentation (scan.further_position here piece next)
-column_fault indent bs here text piece next b least e clean is untabbed low = by (is_at_end next) refl (refused (block_may_end bs piece next) refl)
+column_fault indent bs here text piece next b least e clean is untabbed low = by (is_at_end next) refl ((elim (cases_Bool (block_may_end bs piece next)) [ inl i ↦ absurd (cc ((block_is_clear indent here b piece next bs least is clean i).deep, low)) | inr i ↦ i ]))
   where
-    refused : (x : Bool) → block_may_end bs piece next ≡ x → block_may_end bs piece next ≡ false
-    refused false i = i
-    refused true i = absurd (cc ((block_is_clear indent here b piece next bs least is clean i).deep, low))
-
     by : (x : Bool) → is_at_end next ≡ x → (x || read_may_end bs (block_read (innermost bs) piece next) piece next) ≡ false → FirstFault bs here text problem.BlockScalarIndentation (scan.further_position here piece next)
     by true further k = absurd (cc k)
     by false further k =

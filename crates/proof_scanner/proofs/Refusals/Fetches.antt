@@ -1,5 +1,5 @@
 -- The faults of a fetch: each of a kind that is told is one by which the text is stuck.
-use Rattle.proof_scanner.proofs.Common.{ap, are_marks, arith, Arrives, At, before_by, before_past, begins_document_at, begins_with, Bool, columns, eqb-true, false, fetch_content, fetch_here, fetch_stream_end, fetch_token, has_open_level, has_required, inl, inr, is_adjacent, is_document_marker, is_empty, List, may_not_stand, nat_le, nat_lt, nat_tests, next_line, not, peek, refl, ScannerState, site_here, subst, sym, Tok, true, ℕ, ◌&&◌, ◌+◌, ◌==◌, ◌||◌, ◌∙◌, ◌≡◌, ◌≤◌}
+use Rattle.proof_scanner.proofs.Common.{ap, are_marks, arith, Arrives, At, before_by, before_past, begins_document_at, begins_with, columns, eqb-true, false, fetch_content, fetch_here, fetch_stream_end, fetch_token, has_open_level, has_required, inl, inr, is_adjacent, is_document_marker, is_empty, List, may_not_stand, nat_le, nat_lt, nat_tests, next_line, not, peek, refl, ScannerState, site_here, subst, sym, Tok, true, ℕ, ◌&&◌, ◌+◌, ◌==◌, ◌||◌, ◌∙◌, ◌≡◌, ◌≤◌, cases_Bool}
 use Rattle.yaml_tokens.specs.declared.problem.Problem.TheVariants as problem
 use Rattle.model_scanner.specs.declared.kind.Collection.TheVariants.{Sequence, Mapping}
 use Rattle.model_scanner.specs.State.{after}
@@ -45,17 +45,16 @@ module _ (text : List ℕ) (t : ScannerState) (a : Arrives text t) (some : is_em
   -- ---- columns
 
   shallow : begins_document_at t.held.position t.rest ≡ false → nat_lt (t.held.position.col + 1) t.held.indent ≡ true → IsWhy text problem.InvalidIndentation t.held.position
-  shallow none low = by (is_empty t.held.flow) refl
-    where
-      by : (out : Bool) → is_empty t.held.flow ≡ out → IsWhy text problem.InvalidIndentation t.held.position
-      by true e =
-          let deep : t.held.indent ≤ t.held.position.col + 1 = levels_end t.held.position.col a.base.site.blocks a.base.site.awaits t.held.indent t.held.indents a.are_levels
-          (subst (λ b. (site_here (not b) t.held.position a.base.site).blocks ≡ columns t.held.indent t.held.indents) e a.blocks_are)
-          (subst (λ b. (site_here (not b) t.held.position a.base.site).awaits ≡ has_open_level t.held.indents) e a.awaits_is) in
-          absurd (grind (arith, nat_tests, deep, low))
-      by false e =
-          stuck_by text t a some problem.InvalidIndentation t.held.position (λ b bs k. (b ≡ true) × (nat_le k t.held.position.col ≡ false)) (ap not e, grind (arith, nat_tests, low))
-          (λ c may m. record { is_first = a.is_indented some; fails = may_not_stand (defs.shallow m.0 none m.1) })
+  shallow none low = elim (cases_Bool (is_empty t.held.flow)) [
+    | inl e ↦
+        let deep : t.held.indent ≤ t.held.position.col + 1 = levels_end t.held.position.col a.base.site.blocks a.base.site.awaits t.held.indent t.held.indents a.are_levels
+        (subst (λ b. (site_here (not b) t.held.position a.base.site).blocks ≡ columns t.held.indent t.held.indents) e a.blocks_are)
+        (subst (λ b. (site_here (not b) t.held.position a.base.site).awaits ≡ has_open_level t.held.indents) e a.awaits_is) in
+        absurd (grind (arith, nat_tests, deep, low))
+    | inr e ↦
+        stuck_by text t a some problem.InvalidIndentation t.held.position (λ b bs k. (b ≡ true) × (nat_le k t.held.position.col ≡ false)) (ap not e, grind (arith, nat_tests, low))
+        (λ c may m. record { is_first = a.is_indented some; fails = may_not_stand (defs.shallow m.0 none m.1) })
+  ]
 
   content_told : Faults (Said text) (fetch_content t)
   unfolding are_marks

@@ -1,5 +1,5 @@
 -- Faults on the way to the next token, from a state between two fetches.
-use Rattle.proof_scanner.proofs.Common.{[], and_parts, ap, append-nil, append_assoc, arith, Begins, begins_white, BeginsButForKey, Bool, chained, chosen, drop_stale, either, eqb-true, Err, fails, false, Fault, fetch, fetch_here, fetch_next, follows_plain, Held, Holds, in_flow, is_empty, is_far, is_indented_by_spaces, is_one_of, is_renewed, is_separation, IsPlace, IsReadOn, IsStuck, Key, key_waits, List, map, may_not_stand, MayChoose, not, Ok, on_held, Option, or_right, outside_key, Position, position_after, position_append, Previous, refl, refused, Result, ScannerState, skip_to_next_token, Some, stale, Stands, still, subst, sym, top_key, tried, true, unroll_indent, went, ℕ, ◌++◌, ◌+◌, ◌<◌, ◌==◌, ◌∙◌, ◌∷◌, ◌≡◌, nat_tests}
+use Rattle.proof_scanner.proofs.Common.{[], and_parts, ap, append-nil, append_assoc, arith, Begins, begins_white, BeginsButForKey, Bool, chained, chosen, drop_stale, either, eqb-true, Err, fails, false, Fault, fetch, fetch_here, fetch_next, follows_plain, Held, Holds, in_flow, is_empty, is_far, is_indented_by_spaces, is_one_of, is_renewed, is_separation, IsPlace, IsReadOn, IsStuck, Key, key_waits, List, map, may_not_stand, MayChoose, not, Ok, on_held, Option, or_right, outside_key, Position, position_after, position_append, Previous, refl, refused, Result, ScannerState, skip_to_next_token, Some, stale, Stands, still, subst, sym, top_key, tried, true, unroll_indent, went, ℕ, ◌++◌, ◌+◌, ◌<◌, ◌==◌, ◌∙◌, ◌∷◌, ◌≡◌, nat_tests, cases_Bool, inl, inr}
 use Rattle.yaml_tokens.specs.declared.problem.Problem.TheVariants as problem
 use Rattle.proof_scanner.proofs.Cut.Pieces.Separations.{separation_append}
 use Rattle.proof_scanner.proofs.Cut.Positions.{not_before_after}
@@ -86,18 +86,17 @@ module _ (text : List ℕ) (t : ScannerState) (s : Stands text t) (near : HasNea
 
       by : Where (outside_key s.base.entries t.held.keys) t.held.position t.rest → IsWhy text problem.TabInBlockIndentation here
       by (placed c may) = said (fails (chosen c [] t.held.keys s.base) (s.separation ++ d.passed) d.rest problem.TabInBlockIndentation here here (place c may) d.goes_on d.is_solid (record { fails = may_not_stand (defs.tab_indents d.is_indented_by_tab); is_first = no_plain }))
-      by (behind x e must late) = on (is_empty t.held.flow) refl
-        where
-          on : (out : Bool) → is_empty t.held.flow ≡ out → IsWhy text problem.TabInBlockIndentation here
-          on true out =
-              let none : s.base.entries ≡ [] = no_entries t.held.key_allowed (is_renewed s.base.site.before s.separation) t.held.flow t.held.keys s.base.entries out s.are_entries in
-              absurd (far_behind x.position t.held.position (near out x (ap (λ es. outside_key es t.held.keys) (sym none) ∙ e)) late)
-          on false i =
-              let later = (not_before_after t.held.position d.passed d.rest).0 in
-              let inside : is_empty s.base.entries ≡ false = sym (same_flow t.held.key_allowed (is_renewed s.base.site.before s.separation) t.held.flow t.held.keys s.base.entries s.are_entries) ∙ i in
-              said (key_waits (chosen false [] t.held.keys s.base) (s.separation ++ d.passed) d.rest problem.TabInBlockIndentation x.position here here
-              (subst (λ r. BeginsButForKey text r x.position (chosen false [] t.held.keys s.base)) (ap (λ r. s.separation ++ r) d.cut ∙ sym (append_assoc s.separation d.passed d.rest)) (s.carries [] x e must inside d.is_some))
-              (ap not (entries_alike [] t.held.keys s.base.entries ∙ inside)) filled here_is (omega (arith, later, late)) d.goes_on d.is_solid (record { fails = may_not_stand (defs.tab_indents d.is_indented_by_tab); is_first = no_plain }))
+      by (behind x e must late) = elim (cases_Bool (is_empty t.held.flow)) [
+        | inl out ↦
+            let none : s.base.entries ≡ [] = no_entries t.held.key_allowed (is_renewed s.base.site.before s.separation) t.held.flow t.held.keys s.base.entries out s.are_entries in
+            absurd (far_behind x.position t.held.position (near out x (ap (λ es. outside_key es t.held.keys) (sym none) ∙ e)) late)
+        | inr i ↦
+            let later = (not_before_after t.held.position d.passed d.rest).0 in
+            let inside : is_empty s.base.entries ≡ false = sym (same_flow t.held.key_allowed (is_renewed s.base.site.before s.separation) t.held.flow t.held.keys s.base.entries s.are_entries) ∙ i in
+            said (key_waits (chosen false [] t.held.keys s.base) (s.separation ++ d.passed) d.rest problem.TabInBlockIndentation x.position here here
+            (subst (λ r. BeginsButForKey text r x.position (chosen false [] t.held.keys s.base)) (ap (λ r. s.separation ++ r) d.cut ∙ sym (append_assoc s.separation d.passed d.rest)) (s.carries [] x e must inside d.is_some))
+            (ap not (entries_alike [] t.held.keys s.base.entries ∙ inside)) filled here_is (omega (arith, later, late)) d.goes_on d.is_solid (record { fails = may_not_stand (defs.tab_indents d.is_indented_by_tab); is_first = no_plain }))
+      ]
 
   pub passing_told : Faults (Said text) (skip_to_next_token t)
   passing_told =

@@ -1,5 +1,5 @@
 -- Where a piece begins, a row of the text may begin with all pieces before it; or a node which must be an implicit key waits there, and its line has ended.
-use Rattle.proof_scanner.proofs.Common.{[], Account, ap, AreEntries, arith, Arrives, At, begins_document_at, Bool, chosen, columns, entries_by, Entry, Err, fails, FailsFirst, false, Fault, FlowLevel, followed_first, gives_node, has_open_level, HasRow, if◌then◌else◌, in_flow, is_empty, is_full, is_in_flow, is_taken, is_told, IsFollowed, IsLookedAt, IsNear, IsPlace, IsStuck, Key, key_waits, least_here, length, List, MayChoose, nat_lt, nat_tests, no_piece, no_piece_first, None, NoPiece, not, Ok, Option, or_left, or_right, OutOfMemory, outside_key, Position, Problem, refl, Row, ScannerState, site_at_place, site_in, Some, subst, sym, true, ℕ, ◌-◌, ◌<◌, ◌∙◌, ◌≡◌, is_shown, IsThere, eqb-true}
+use Rattle.proof_scanner.proofs.Common.{[], Account, ap, AreEntries, arith, Arrives, At, begins_document_at, Bool, chosen, columns, entries_by, Entry, Err, fails, FailsFirst, false, Fault, FlowLevel, followed_first, gives_node, has_open_level, HasRow, if◌then◌else◌, in_flow, is_empty, is_full, is_in_flow, is_taken, is_told, IsFollowed, IsLookedAt, IsNear, IsPlace, IsStuck, Key, key_waits, least_here, length, List, MayChoose, nat_lt, nat_tests, no_piece, no_piece_first, None, NoPiece, not, Ok, Option, or_left, or_right, OutOfMemory, outside_key, Position, Problem, refl, Row, ScannerState, site_at_place, site_in, Some, subst, sym, true, ℕ, ◌-◌, ◌<◌, ◌∙◌, ◌≡◌, is_shown, IsThere, eqb-true, cases_Bool, inl, inr}
 use Rattle.proof_scanner.proofs.Sound.StreamEnds.{same_flow}
 use Rattle.proof_scanner.proofs.Refusals.Faults.{Faults, fault, goes}
 use Rattle.proof_scanner.proofs.Cut.Nodes.{IsDeep}
@@ -77,17 +77,16 @@ module _ (text : List ℕ) (t : ScannerState) (a : Arrives text t) (some : is_em
     where
       by : Where (outside_key a.base.entries t.held.keys) t.held.position t.rest → IsWhy text why at
       by (placed c may) = record { is_stuck = fails (account_by c cs) a.separation t.rest why t.held.position at (place c cs may) some a.is_solid (h c (λ _. may)); stands = shown.stands text t a c cs why at (h c (λ _. may)).fails }
-      by (behind x e must late) = on (is_empty t.held.flow) refl
-        where
-          on : (out : Bool) → is_empty t.held.flow ≡ out → IsWhy text why at
-          on true o = let near : IsNear (Some x) t.held.position = subst (λ k. IsNear k t.held.position) e (a.is_near o) in absurd (omega (arith, near.0, late))
-          on false i =
-              let entries : is_empty a.base.entries ≡ false = sym (same_flow t.held.key_allowed _ t.held.flow t.held.keys a.base.entries a.are_entries) ∙ i in
-              let first = h false (λ o. absurd (cc (o, i))) in
-              record {
-                is_stuck = key_waits (account_by false cs) a.separation t.rest why x.position t.held.position at (a.carries cs x e must entries some) (in_flow_is false cs ∙ ap not i) a.is_filled a.position_is late some a.is_solid first;
-                stands = shown.stands text t a false cs why at first.fails;
-              }
+      by (behind x e must late) = elim (cases_Bool (is_empty t.held.flow)) [
+        | inl o ↦ let near : IsNear (Some x) t.held.position = subst (λ k. IsNear k t.held.position) e (a.is_near o) in absurd (omega (arith, near.0, late))
+        | inr i ↦
+            let entries : is_empty a.base.entries ≡ false = sym (same_flow t.held.key_allowed _ t.held.flow t.held.keys a.base.entries a.are_entries) ∙ i in
+            let first = h false (λ o. absurd (cc (o, i))) in
+            record {
+              is_stuck = key_waits (account_by false cs) a.separation t.rest why x.position t.held.position at (a.carries cs x e must entries some) (in_flow_is false cs ∙ ap not i) a.is_filled a.position_is late some a.is_solid first;
+              stands = shown.stands text t a false cs why at first.fails;
+            }
+      ]
 
 -- what comes lies deep enough, unless it is a line for the document
 abbrev pub LiesDeep : ScannerState → Type 0

@@ -1,5 +1,5 @@
 -- A TAB that indents a line: where the way to the next token is refused, the line of what comes next is not indented by spaces.
-use Rattle.proof_scanner.proofs.Common.{[], ap, append-nil, append_assoc, arith, At, begins_line, begins_separation, between, Bool, Err, false, Fault, fills_blank, follows_plain, Gap, has_tab_within, Held, is_before_indent, is_blanks, is_empty, is_indented_by_spaces, is_separation, IsTabRefusal, last_line, least_column, length, List, nat_tests, not, not-true, Position, position_after, Previous, refl, Result, same_blank, same_break, ScannerState, separations_are_passed, skip, skip_to_next_token, subst, suc, sym, true, ℕ, ◌&&◌, ◌++◌, ◌+◌, ◌<◌, ◌==◌, ◌||◌, ◌∙◌, ◌∷◌, ◌≡◌, ◌≤◌}
+use Rattle.proof_scanner.proofs.Common.{[], ap, append-nil, append_assoc, arith, At, begins_line, begins_separation, between, Bool, Err, false, Fault, fills_blank, follows_plain, Gap, has_tab_within, Held, is_before_indent, is_blanks, is_empty, is_indented_by_spaces, is_separation, IsTabRefusal, last_line, least_column, length, List, nat_tests, not, not-true, Position, position_after, Previous, refl, Result, same_blank, same_break, ScannerState, separations_are_passed, skip, skip_to_next_token, subst, suc, sym, true, ℕ, ◌&&◌, ◌++◌, ◌+◌, ◌<◌, ◌==◌, ◌||◌, ◌∙◌, ◌∷◌, ◌≡◌, ◌≤◌, cases_Bool, inl, inr}
 use Rattle.yaml_chars.specs.Class.{is_break}
 use Rattle.yaml_tokens.specs.declared.problem.Problem.TheVariants as problem
 use Rattle.defs_text.specs.Classes as classes
@@ -106,7 +106,10 @@ tabbed_is before bs awaits g b h =
 pub skip_refused : (before : Previous) (bs : List ℕ) (awaits : Bool) (separation : List ℕ) (t : ScannerState) → IsLeast before (least_column bs awaits) t.held →
     (begins_separation t.rest ≡ true → IsIn before (least_column bs awaits) between separation t.held t.rest) → Faults (TabStands bs awaits before separation t.rest t.held.position) (skip_to_next_token t)
 unfolding skip_to_next_token classes.is_blank
-skip_refused before bs awaits separation t l known = by (begins_separation t.rest) refl
+skip_refused before bs awaits separation t l known = elim (cases_Bool (begins_separation t.rest)) [
+  | inl h ↦ told h (skip between t.rest t.held) (separations_are_passed t.held t.rest) (tabs_tell before least t.rest between separation t.held l (known h))
+  | inr h ↦ subst (λ r. Faults Own r) (sym (skip_stays t.rest t.held h)) goes
+]
   where
     least : ℕ
     least = least_column bs awaits
@@ -141,7 +144,3 @@ skip_refused before bs awaits separation t l known = by (begins_separation t.res
       where
         fault_of : {g : Fault} → ◌≡◌ {A = Result ScannerState Fault} (Err f) (Err g) → f ≡ g
         fault_of e = cc e
-
-    by : (b : Bool) → begins_separation t.rest ≡ b → Faults Own (skip between t.rest t.held)
-    by false h = subst (λ r. Faults Own r) (sym (skip_stays t.rest t.held h)) goes
-    by true h = told h (skip between t.rest t.held) (separations_are_passed t.held t.rest) (tabs_tell before least t.rest between separation t.held l (known h))
