@@ -98,7 +98,10 @@ keeps_apart text = record {
 
 module _ (text : List ℕ) where
   failing_once : (why1 why2 : Problem) (at1 at2 : Position) → FailsAt text why1 at1 → FailsAt text why2 at2 → (why1 ≡ why2) × (at1 ≡ at2)
-  failing_once why1 why2 at1 at2 f g = by (meet GivesUp GivesUp Nothing (record { first_like = λ x y z g i. gives_up_like x z y g i; second_like = gives_up_second; first = λ x y z after i g r. tt; second = λ x y z after i g r. tt; both = λ x y a b v c next i r k l e f. tt }) f.way.steps g.way.steps (f.separation ++ f.rest) (g.separation ++ g.rest) first_account first_account f.account g.account itself tt f.way.leads g.way.leads (f.way.spells ∙ sym g.way.spells) (clean_way text f.way.steps (f.separation ++ f.rest) f.way.spells))
+  failing_once why1 why2 at1 at2 f g =
+      by (meet GivesUp GivesUp Nothing (record { first_like = λ x y z g i. gives_up_like x z y g i; second_like = gives_up_second; first = λ x y z after i g r. tt; second = λ x y z after i g r. tt; both = λ x y a b v c next i r k l e f. tt })
+      f.way.steps g.way.steps (f.separation ++ f.rest) (g.separation ++ g.rest) first_account first_account f.account g.account itself tt
+      f.way.leads g.way.leads (f.way.spells ∙ sym g.way.spells) (clean_way text f.way.steps (f.separation ++ f.rest) f.way.spells))
     where
       by : Meet GivesUp GivesUp Nothing f.account g.account (f.separation ++ f.rest) (g.separation ++ g.rest) → (why1 ≡ why2) × (at1 ≡ at2)
       by (same_place like r e) =

@@ -117,7 +117,9 @@ module _ (text : List ℕ) (t : ScannerState) (a : Arrives text t) (some : is_em
       let on_its_line : (k : Key) → k.position.line ≤ a.base.site.position.line → t.held.position.line ≤ k.position.line → broken ≡ false = λ k before here.
       let line = ap (λ p. p.line) a.position_is in
       arrivals.not_free a.base.site.before a.separation (arrivals.unbroken a.base.site.position a.separation t.rest some a.is_solid (omega (arith, before, here, line))) in
-      let by : (k : Option Key) (c : Bool) → MayChoose true c k t.held.position t.rest → IsLineHere false t.held.key_allowed t.rest k a.line_here → IsOpenOutside k a.base.site.position t.held.position t.rest a.base.site.blocks → is_taken_line (line_past_separation false broken (line_by c k a.base.line)) ≡ true = λ a c may h b. grind (arith, outer_line, out, taken_by, none, waits, on_its_line, some) in
+      let by : (k : Option Key) (c : Bool) → MayChoose true c k t.held.position t.rest → IsLineHere false t.held.key_allowed t.rest k a.line_here → IsOpenOutside k a.base.site.position t.held.position t.rest a.base.site.blocks
+      → is_taken_line (line_past_separation false broken (line_by c k a.base.line)) ≡ true =
+      λ a c may h b. grind (arith, outer_line, out, taken_by, none, waits, on_its_line, some) in
       by (outside_key a.base.entries t.held.keys) c (may out) (subst (λ b. IsLineHere (not b) t.held.key_allowed t.rest (outside_key a.base.entries t.held.keys) a.line_here) out a.line_is) a.is_open
     where
       taken_by : (l : Line) → (l ≡ free) ⊎ (l ≡ taken) → is_free l ≡ false → is_taken_line (Some l) ≡ true
@@ -345,7 +347,9 @@ module _ (text : List ℕ) (t : ScannerState) (a : Arrives text t) (some : is_em
   pub colon_told : (more : List ℕ) → t.rest ≡ 58 ∷ more → is_value t ≡ true → Faults (Said text) (fetch_value t)
   unfolding fetch_value
   colon_told more e is =
-      let value_told_by : (more : List ℕ) → t.rest ≡ 58 ∷ more → colon_may_precede more ≡ true → (u : ScannerState) → u.held.keys ≡ t.held.keys → in_flow u.held ≡ in_flow t.held → u.held.key_allowed ≡ t.held.key_allowed → Faults (Said text) (value_of (top_key u.held.keys) t.held.position (opens_pair t.held.flow) u.held) = λ more e apart u keys flow allowed. value_told more e apart is (top_key u.held.keys) (sym (ap top_key keys)) u.held flow allowed in
+      let value_told_by : (more : List ℕ) → t.rest ≡ 58 ∷ more → colon_may_precede more ≡ true → (u : ScannerState) → u.held.keys ≡ t.held.keys → in_flow u.held ≡ in_flow t.held → u.held.key_allowed ≡ t.held.key_allowed
+      → Faults (Said text) (value_of (top_key u.held.keys) t.held.position (opens_pair t.held.flow) u.held) =
+      λ more e apart u keys flow allowed. value_told more e apart is (top_key u.held.keys) (sym (ap top_key keys)) u.held flow allowed in
       let first : ScannerState = skip_indicator (on_held (λ s. record s { flow = paired s.flow }) t) in
       in_turn (value_checked more e first (ap after e) refl) (λ u k.
       let h = held_of u (value_held first) k in
@@ -394,7 +398,9 @@ module _ (text : List ℕ) (t : ScannerState) (a : Arrives text t) (some : is_em
   unfolding fetch_flow_collection_start
   opening_told kind bracket more e is =
       let by : (c : ℕ) → (c ≡ 91) ⊎ (c ≡ 123) → none.is_flow_indicator c ≡ true = λ c a. grind arith in
-      in_turn (tried t (flow_begun kind bracket more e is)) (λ u i. in_turn (indicator_passed bracket more e (by bracket is) (ap (λ b. opens bracket && b) (held_of {P = λ v. nat_le 255 (length t.held.flow) ≡ false} u (holds.tried t (begin_flow kind t.held) (begun_here kind) (λ s k. k.1)) i) ∙ and_false (opens bracket)) u (is_here (begin_flow kind) u (holds.weakened (λ s k. k.0) (begun_here kind)) i)) (λ v j. goes))
+      in_turn (tried t (flow_begun kind bracket more e is)) (λ u i.
+      in_turn (indicator_passed bracket more e (by bracket is)
+      (ap (λ b. opens bracket && b) (held_of {P = λ v. nat_le 255 (length t.held.flow) ≡ false} u (holds.tried t (begin_flow kind t.held) (begun_here kind) (λ s k. k.1)) i) ∙ and_false (opens bracket)) u (is_here (begin_flow kind) u (holds.weakened (λ s k. k.0) (begun_here kind)) i)) (λ v j. goes))
 
   pub closing_told : (kind : Collection) (c : ℕ) (more : List ℕ) → t.rest ≡ c ∷ more → (c ≡ 93) ⊎ (c ≡ 125) → Faults (Said text) (fetch_flow_collection_end kind t)
   unfolding fetch_flow_collection_end end_flow

@@ -55,7 +55,9 @@ pub record RowAt (text : List ℕ) (a : Account) (separation rest : List ℕ) (h
 -- a step that may stand has no TAB before it
 pub no_tab_before : (b : Account) (v : Step) (after : List ℕ) (c : Account) → account_past b v after ≡ Some c → is_indented_by_spaces b.site.before b.site.blocks b.site.awaits v.separation ≡ true
 no_tab_before b v after c e =
-    let by : (t : Bool) → is_indented_by_spaces b.site.before b.site.blocks b.site.awaits v.separation ≡ t → (if t && is_deep_enough (is_in_flow b.entries) v.shown (At b v after) && further_lines_stand (least_for v.shown (At b v after)) v.shown v.piece && may_precede (is_in_flow b.entries) (At b v after).blocks v.shown v.piece after then (on_one_line v.piece (past_piece (At b v after) v.piece v.shown after (is_renewed b.site.before v.separation) v.key (line_past_separation (is_in_flow b.entries) (begins_free_line b.site.before v.separation) b.line) b.entries)) else None) ≡ Some c → is_indented_by_spaces b.site.before b.site.blocks b.site.awaits v.separation ≡ true = λ a i f. grind (arith, nat_tests, eqb-true) in
+    let by : (t : Bool) → is_indented_by_spaces b.site.before b.site.blocks b.site.awaits v.separation ≡ t → (if t && is_deep_enough (is_in_flow b.entries) v.shown (At b v after) && further_lines_stand (least_for v.shown (At b v after)) v.shown v.piece && may_precede (is_in_flow b.entries) (At b v after).blocks v.shown v.piece after then (on_one_line v.piece (past_piece (At b v after) v.piece v.shown after (is_renewed b.site.before v.separation) v.key (line_past_separation (is_in_flow b.entries) (begins_free_line b.site.before v.separation) b.line) b.entries)) else None) ≡ Some c
+    → is_indented_by_spaces b.site.before b.site.blocks b.site.awaits v.separation ≡ true =
+    λ a i f. grind (arith, nat_tests, eqb-true) in
     by (is_indented_by_spaces b.site.before b.site.blocks b.site.awaits v.separation) refl e
 
 -- No TAB indents what comes after a step where steps lead on to the text's end.
@@ -69,7 +71,8 @@ clear_on b (v ∷ vs) last gap content row e fills solid some clean = by (accoun
     by (Some c) i k = subst (λ f. is_indented_by_spaces b.site.before b.site.blocks b.site.awaits f ≡ true) (step_here b v (spelled vs last) gap content row.0 e fills solid clean).0 (no_tab_before b v (spelled vs last) c i)
 
 -- The step of a row, or of a way, that goes on from a place.
-abbrev pub step_from : (a b c : Account) (separation rest next : List ℕ) (here : Position) (w : Step) → IsLike a b → IsWritten b w next → account_past b w next ≡ Some c → w.separation ++ (w.piece ++ next) ≡ separation ++ rest → is_separation false separation rest ≡ true → begins_separation rest ≡ false → has_no_nul rest ≡ true → here ≡ position_after a.site.position separation rest
+abbrev pub step_from : (a b c : Account) (separation rest next : List ℕ) (here : Position) (w : Step) → IsLike a b → IsWritten b w next → account_past b w next ≡ Some c → w.separation ++ (w.piece ++ next) ≡ separation ++ rest
+    → is_separation false separation rest ≡ true → begins_separation rest ≡ false → has_no_nul rest ≡ true → here ≡ position_after a.site.position separation rest
     → StepAt a separation rest here
 step_from a b c separation rest next here w like written past e filled solid clean here_is =
     let at : (w.separation ≡ separation) × (w.piece ++ next ≡ rest) = step_here b w next separation rest written e filled solid clean in

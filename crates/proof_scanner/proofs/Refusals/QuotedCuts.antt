@@ -202,7 +202,10 @@ module _ (single : Bool) (least : ℕ) (start : Position) where
   -- Nothing but a marker is wrong where a body stands whose lines are indented, and its closing quote.
   pub not_closed : (s : LineStand) (p : Position) (body next : List ℕ) (es : List Element) → ends_before single next ≡ true → elements (element_of single) 0 body ≡ Some es → all_stand least s p.col (es ++ before_quote (past_elements s es)) ≡ true
       → (why : Problem) (at : Position) → (why ≡ problem.QuotedDocumentMarker → ⊥) → Reason single least start s p (body ++ quote_of single ∷ next) why at → ⊥
-  not_closed s p body next es ends are fits why at unlike x = let m = meet _ _ (wrong_final why at) ends_final s p (body ++ quote_of single ∷ next) x (walk_of single least start Ends (before_quote (past_elements s es)) (marked_from p.col body (quote_of single ∷ next)) (quote_of single ∷ next) (grind arith) (λ t q y h i. inl h) 0 body es s p (omega arith) are fits refl (λ fit free k. inr (refl, fit))) in by why at unlike m.first m.second
+  not_closed s p body next es ends are fits why at unlike x =
+      let m = meet _ _ (wrong_final why at) ends_final s p (body ++ quote_of single ∷ next) x
+      (walk_of single least start Ends (before_quote (past_elements s es)) (marked_from p.col body (quote_of single ∷ next)) (quote_of single ∷ next) (grind arith) (λ t q y h i. inl h) 0 body es s p (omega arith) are fits refl (λ fit free k. inr (refl, fit))) in
+      by why at unlike m.first m.second
     where
       -- a marker, or the closing quote
       Ends : LineStand → Position → List ℕ → Type 0

@@ -146,7 +146,8 @@ module _ (text : List ℕ) (t : ScannerState) (a : Arrives text t) (some : is_em
   dash_shortens : Holds Shorter (fetch_block_entry t)
   unfolding fetch_block_entry check_dash
   dash_shortens =
-      let tried_on : (x : ScannerState) → length (roll_entry x).rest < length t.rest → Holds Shorter (try_held remove_implicit_key (roll_entry x) >>= λ y. Ok (on_held (λ s. push s.position Tok.block_entry (allow_key true s)) y)) = λ x n. chained {P = Shorter} (tried {P = λ s. Unit {0}} (roll_entry x) (remove_implicit_key (roll_entry x).held) (anything (remove_implicit_key (roll_entry x).held)) (λ s k. n)) (λ y m. went m) in
+      let tried_on : (x : ScannerState) → length (roll_entry x).rest < length t.rest → Holds Shorter (try_held remove_implicit_key (roll_entry x) >>= λ y. Ok (on_held (λ s. push s.position Tok.block_entry (allow_key true s)) y)) =
+      λ x n. chained {P = Shorter} (tried {P = λ s. Unit {0}} (roll_entry x) (remove_implicit_key (roll_entry x).held) (anything (remove_implicit_key (roll_entry x).held)) (λ s k. n)) (λ y m. went m) in
       chained (stays check_block_entry) (λ u e.
       let v : ScannerState = on_held (roll_indent t.held.position.col None Tok.block_sequence_start t.held.position) (skip_indicator u) in
       chained {P = λ w. length w.rest < length t.rest} (spaced Yes v check_dash (λ w. length w.rest < length t.rest) (λ x w s. let n = one_read u e in let m = spaced_no_longer Yes v w s in passes _ _ (went (omega (arith, n, m))))) (λ w n.

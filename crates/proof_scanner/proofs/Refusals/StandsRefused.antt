@@ -143,7 +143,9 @@ module _ (a : Account) (separation rest : List ℕ) (here : Position) (s : StepA
   unfolding is_blank_or_end is_blank is_break is_nul is_flow
   colon_here more e is =
       let colon_kind : (fl adjacent : Bool) (column : ℕ) → is_value_indicator fl adjacent more ≡ true → kind_at fl adjacent column (58 ∷ more) ≡ colon = λ fl adjacent column h. rw h refl in
-      subst Here (colon_kind (pieces.is_in_flow (acct a separation rest here s)) (is_adjacent (acct a separation rest here s).before) (acct a separation rest here s).position.col (ap (λ b. is_value_indicator b (is_adjacent (acct a separation rest here s).before) more) flow_is ∙ (ap (λ b. is_value_indicator (is_in_flow a.entries) b more) adjacent_is ∙ is))) (whole_by a separation rest here s 58 more e)
+      subst Here (colon_kind (pieces.is_in_flow (acct a separation rest here s)) (is_adjacent (acct a separation rest here s).before) (acct a separation rest here s).position.col
+      (ap (λ b. is_value_indicator b (is_adjacent (acct a separation rest here s).before) more) flow_is ∙ (ap (λ b. is_value_indicator (is_in_flow a.entries) b more) adjacent_is ∙ is)))
+      (whole_by a separation rest here s 58 more e)
 
   -- no colon stands on a line that is taken, where no key waits for it
   pub no_colon_here : (more : List ℕ) → rest ≡ 58 ∷ more → is_value_here a separation more ≡ true → is_in_flow a.entries ≡ false → is_taken a separation ≡ true
@@ -162,7 +164,8 @@ module _ (a : Account) (separation rest : List ℕ) (here : Position) (s : StepA
 
   pub no_late_colon : (more : List ℕ) (begin : Position) (e : Entry) (es : List Entry) → rest ≡ 58 ∷ more → is_value_here a separation more ≡ true → a.entries ≡ e ∷ es → takes_pair e.kind e.pair ≡ true → e.had ≡ entry.waits begin → begin.line < here.line → ⊥
   no_late_colon more begin e es cut is are takes had late =
-      let flowing : (fs : List Entry) → s.account.entries ≡ fs → may_stand (is_in_flow fs) s.account.site (At s.account s.step next) s.step.separation s.step.piece s.step.shown next ≡ may_stand (is_in_flow s.account.entries) s.account.site there s.step.separation s.step.piece s.step.shown next = λ fs i. ap (λ z. may_stand (is_in_flow z) s.account.site there s.step.separation s.step.piece s.step.shown next) (sym i) in
+      let flowing : (fs : List Entry) → s.account.entries ≡ fs → may_stand (is_in_flow fs) s.account.site (At s.account s.step next) s.step.separation s.step.piece s.step.shown next ≡ may_stand (is_in_flow s.account.entries) s.account.site there s.step.separation s.step.piece s.step.shown next =
+      λ fs i. ap (λ z. may_stand (is_in_flow z) s.account.site there s.step.separation s.step.piece s.step.shown next) (sym i) in
       by s.account.entries refl (subst (λ ds. LikeEntries ds s.account.entries) are s.is_like.2)
     where
       by : (fs : List Entry) → s.account.entries ≡ fs → LikeEntries (e ∷ es) fs → ⊥
@@ -240,6 +243,7 @@ module _ (a : Account) (separation rest : List ℕ) (here : Position) (s : StepA
       ap (λ (x : Site). x.awaits) site_is ∙ (ap (λ t. awaits_past (is_in_flow s.account.entries) t there.blocks there.awaits next) (sym same.1) ∙
       ((grind arith) ∙ ap (λ (x : Site). x.awaits) (node_site act))) in
       let tabbed_then : is_indented_by_spaces s.past.site.before s.past.site.blocks s.past.site.awaits gap ≡ false =
-      ap (λ b. is_indented_by_spaces b s.past.site.blocks s.past.site.awaits gap) (ap (λ (x : Site). x.before) site_is ∙ (ap previous_by (sym same.1) ∙ (node_token single (quoted_value single piece (gap ++ content) is)).1)) ∙ (ap (λ bs. is_indented_by_spaces quoted_scalar bs s.past.site.awaits gap) (ap (λ (x : Site). x.blocks) site_is ∙ ap (λ (x : Site). x.blocks) (node_site act)) ∙
+      ap (λ b. is_indented_by_spaces b s.past.site.blocks s.past.site.awaits gap) (ap (λ (x : Site). x.before) site_is ∙ (ap previous_by (sym same.1) ∙ (node_token single (quoted_value single piece (gap ++ content) is)).1)) ∙
+      (ap (λ bs. is_indented_by_spaces quoted_scalar bs s.past.site.awaits gap) (ap (λ (x : Site). x.blocks) site_is ∙ ap (λ (x : Site). x.blocks) (node_site act)) ∙
       (ap (λ w. is_indented_by_spaces quoted_scalar (site_at_place a here).blocks w gap) awaits_is ∙ tabbed_there)) in
       cc (clear gap content (sym same.2) fills solid some, tabbed_then)

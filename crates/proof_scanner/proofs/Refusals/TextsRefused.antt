@@ -59,7 +59,9 @@ refusal_fails flow text why p (suffix_goes_on name rest suffix cut all some e go
 refusal_fails flow text why p (local_octets f no_verbatim none e) =
     rw (plainly text no_verbatim, word text (past p) [], unmarked (after is_alpha text) none, (uris_are_read p (after is_alpha text) (further (length (leading is_alpha text)) (past p)) (leading is_alpha text)).1, e) refl
 refusal_fails flow text why p (local_goes_on suffix no_verbatim none e goes) =
-    let by : (b : Bool) → is_empty (leading is_alpha text ++ suffix) ≡ b → tag_end flow p (tags.local (record { rest = after is_tag (after is_alpha text); position = further (length (leading is_tag (after is_alpha text))) (further (length (leading is_alpha text)) (past p)); value = leading is_alpha text ++ suffix })) ≡ Err (At problem.TagEnd p) = λ a i. grind (arith, nat_tests, same_end, flow, after, text, goes, eqb-true) in
+    let by : (b : Bool) → is_empty (leading is_alpha text ++ suffix) ≡ b
+    → tag_end flow p (tags.local (record { rest = after is_tag (after is_alpha text); position = further (length (leading is_tag (after is_alpha text))) (further (length (leading is_alpha text)) (past p)); value = leading is_alpha text ++ suffix })) ≡ Err (At problem.TagEnd p) =
+    λ a i. grind (arith, nat_tests, same_end, flow, after, text, goes, eqb-true) in
     rw (plainly text no_verbatim, word text (past p) [], unmarked (after is_alpha text) none, (uris_are_read p (after is_alpha text) (further (length (leading is_alpha text)) (past p)) (leading is_alpha text)).1, e)
     (by (is_empty (leading is_alpha text ++ suffix)) refl)
 
