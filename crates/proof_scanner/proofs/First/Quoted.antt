@@ -43,30 +43,27 @@ solid_no_feed r h = grind arith
 module _ (in_flow : Bool) (least : ℕ) (blocks : List ℕ) (awaits : Bool) (here : Position) (rest : List ℕ) where
   -- ---- what follows a quoted scalar
 
+  -- text on the line, or a TAB on a later one
+  abbrev gap_problem : (broken : Bool) → Problem
+  gap_problem true = problem.TabInBlockIndentation
+  gap_problem false = problem.ContentAfterQuoted
+
   data After (piece next : List ℕ) : Problem → Position → Type 0 where
     glued : begins_with 35 next ≡ true → After piece next problem.CommentNotSeparated (position_after here piece next)
-    text : (passed content : List ℕ) → GoesOn next passed content → begins_separation content ≡ false → begins_with 35 next ≡ false → After piece next problem.ContentAfterQuoted (position_after (position_after here piece next) passed content)
-    tabbed : (gap content : List ℕ) → next ≡ gap ++ content → is_separation false gap content ≡ true → begins_separation content ≡ false → has_break gap ≡ true → begins_with 35 next ≡ false
-        → After piece next problem.TabInBlockIndentation (position_after (position_after here piece next) gap content)
+    beyond : (p x : List ℕ) → next ≡ p ++ x → is_separation false p x ≡ true → begins_separation x ≡ false → begins_with 35 next ≡ false → After piece next (gap_problem (has_break p)) (position_after (position_after here piece next) p x)
 
   module _ (piece next : List ℕ) (clean : has_no_nul next ≡ true) where
     -- a separation has one end
     one_gap : (p q x y : List ℕ) → next ≡ p ++ x → next ≡ q ++ y → is_separation false p x ≡ true → is_separation false q y ≡ true → begins_separation x ≡ false → begins_separation y ≡ false → (p ≡ q) × (x ≡ y)
     one_gap p q x y e f h k m n = separations p q x y (h, ends_before x m (no_nul_after p x (ap has_no_nul (sym e) ∙ clean))) (k, ends_before y n (no_nul_after q y (ap has_no_nul (sym f) ∙ clean))) (sym e ∙ f)
 
-    same_end : (p q x y : List ℕ) → (p ≡ q) × (x ≡ y) → position_after (position_after here piece next) p x ≡ position_after (position_after here piece next) q y
-    same_end p q x y s = ap (λ l. position_after (position_after here piece next) l x) s.0 ∙ ap (λ l. position_after (position_after here piece next) q l) s.1
-
     one_after : (why1 why2 : Problem) (at1 at2 : Position) → After piece next why1 at1 → After piece next why2 at2 → (why1 ≡ why2) × (at1 ≡ at2)
     one_after why1 why2 at1 at2 (glued h) (glued k) = (refl, refl)
-    one_after why1 why2 at1 at2 (glued h) (text p x g m k) = absurd (cc (h, k))
-    one_after why1 why2 at1 at2 (glued h) (tabbed p x e g m b k) = absurd (cc (h, k))
-    one_after why1 why2 at1 at2 (text p x g m k) (glued h) = absurd (cc (h, k))
-    one_after why1 why2 at1 at2 (text p x g m k) (text q y g2 m2 k2) = (refl, same_end p q x y (one_gap p q x y g.is_text g2.is_text g.is_filled g2.is_filled m m2))
-    one_after why1 why2 at1 at2 (text p x g m k) (tabbed q y e g2 m2 b k2) = grind (arith, nat_tests, eqb-true, one_gap, same_has_break)
-    one_after why1 why2 at1 at2 (tabbed p x e g m b k) (glued h) = absurd (cc (h, k))
-    one_after why1 why2 at1 at2 (tabbed p x e g m b k) (text q y g2 m2 k2) = grind (arith, nat_tests, eqb-true, one_gap, same_has_break)
-    one_after why1 why2 at1 at2 (tabbed p x e g m b k) (tabbed q y e2 g2 m2 b2 k2) = (refl, same_end p q x y (one_gap p q x y e e2 g g2 m m2))
+    one_after why1 why2 at1 at2 (glued h) (beyond p x e g m k) = absurd (cc (h, k))
+    one_after why1 why2 at1 at2 (beyond p x e g m k) (glued h) = absurd (cc (h, k))
+    one_after why1 why2 at1 at2 (beyond p x e g m k) (beyond q y f h n l) =
+        let same = one_gap p q x y e f g h m n in
+        (ap (λ z. gap_problem (has_break z)) same.0, ap (λ z. position_after (position_after here piece next) z x) same.0 ∙ ap (λ z. position_after (position_after here piece next) q z) same.1)
 
   -- ---- all
 
@@ -137,8 +134,8 @@ module _ (in_flow : Bool) (least : ℕ) (blocks : List ℕ) (awaits : Bool) (her
       let z = begins_lines single why at n in
       record { single = single; more = z.0; whole = z.1; sorted = fails why at (by_lines single z.0 z.1 why at n first) (λ piece next f is fit. not_fit _ (lacks piece next f is) fit) }
   read why at (glued_to_quoted single piece more e is begins fit) = closed single piece more _ _ e is fit (glued begins)
-  read why at (after_quoted single piece more passed left e is ends on solid first) = closed single piece more _ _ e is first.0 (text passed left on solid first.1)
-  read why at (tab_after_quoted single piece gap left e is fills goes_on solid indents first) = closed single piece (gap ++ left) _ _ e is first.0 (tabbed gap left refl fills solid (own_line gap indents) first.1)
+  read why at (after_quoted single piece more passed left e is ends on solid first) = closed single piece more _ _ e is first.0 (subst (λ b. After piece more (gap_problem b) (position_after (position_after here piece more) passed left)) (sym (same_has_break passed) ∙ on.is_on_line) (beyond passed left on.is_text on.is_filled solid first.1))
+  read why at (tab_after_quoted single piece gap left e is fills goes_on solid indents first) = closed single piece (gap ++ left) _ _ e is first.0 (subst (λ b. After piece (gap ++ left) (gap_problem b) (position_after (position_after here piece (gap ++ left)) gap left)) (own_line gap indents) (beyond gap left refl fills solid first.1))
 
   -- What is wrong first with a quoted scalar is one thing at one position.
   pub one_quoted : has_no_nul rest ≡ true → (why1 why2 : Problem) (at1 at2 : Position) → QuotedReason in_flow least blocks awaits here rest why1 at1 → QuotedReason in_flow least blocks awaits here rest why2 at2 → (why1 ≡ why2) × (at1 ≡ at2)

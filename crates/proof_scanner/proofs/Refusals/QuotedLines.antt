@@ -212,30 +212,23 @@ module _ (single : Bool) (ctx : Context) (start : Position) (least : ℕ) (limit
       by s m (begins_here leads) = in_its_line at_start (started (model.quote_of single) r at_start gap p t (quote_white single) (begins_here leads) (λ e. absurd (cc e)))
       by s m (escaped double leads) = reads _ (closed past_escaped refl) (after_quote single ctx start (model.quote_of single) (model.quote_of single ∷ r) p t refl refl ∙ closes single ctx start r p t ended)
 
+  -- what is no closing quote is read after an escaped break as in a gap
+  from_gap : (c : ℕ) (b : List ℕ) → (single ≡ false → (c == quote_of single) ≡ false) → (s : LineStand) (m : Mode) (p : Position) (t : Folded) → Stood p t s m → scan single ctx start (c ∷ b) m p t ≡ scan single ctx start (c ∷ b) gap p t
+  from_gap c b unlike s m p t (in_line deep) = refl
+  from_gap c b unlike s m p t (begins_here leads) = refl
+  from_gap c b unlike s m p t (escaped double leads) = after_gap single ctx start c (c ∷ b) p t refl (ap (λ q. c == q) (same_quote single) ∙ unlike double)
+
   bad_ends : single ≡ false → (r : List ℕ) → escape r ≡ None → Later (92 ∷ r)
-  bad_ends double r bad s p m t stood = by s m stood (started 92 r s m p t slash_white stood (λ _. slash_no_quote single))
+  bad_ends double r bad s p m t stood = ends_on s p (92 ∷ r) _ _ (from_gap 92 r (λ _. slash_no_quote single) s m p t stood) (by (started 92 r s m p t slash_white stood (λ _. slash_no_quote single)))
     where
-      in_gap_ends : (s : LineStand) → Started s p (92 ∷ r) t → Ends s p (92 ∷ r) (scan single ctx start (92 ∷ r) gap p t)
-      in_gap_ends s (stops x) = x
-      in_gap_ends s (begins_or_goes none deep i) =
+      by : Started s p (92 ∷ r) t → Ends s p (92 ∷ r) (scan single ctx start (92 ∷ r) gap p t)
+      by (stops x) = x
+      by (begins_or_goes none deep i) =
           let z = escape_fails ctx start r p (joined t) bad in
           refused z.why start (arrived (placed _ _ none (by_escape r z.why double refl z.bad (rw (deep, and_false (begins_further s false)) refl)))) (i ∙ (grind arith))
 
-      by : (s : LineStand) (m : Mode) → Stood p t s m → Started s p (92 ∷ r) t → Ends s p (92 ∷ r) (scan single ctx start (92 ∷ r) m p t)
-      by s m (in_line deep) x = in_gap_ends within x
-      by s m (begins_here leads) x = in_gap_ends at_start x
-      by s m (escaped double leads) x = ends_on past_escaped p (92 ∷ r) _ _ (after_gap single ctx start 92 (92 ∷ r) p t refl (sym (ap (λ q. 92 == q) (same_quote single)) ∙ slash_no_quote single)) (in_gap_ends past_escaped x)
-
   unclosed_ends : Later []
-  unclosed_ends s p m t stood = by s m stood
-    where
-      ends_here : (s : LineStand) (x : Result (Read (List ℕ)) Fault) → x ≡ Err (At problem.QuotedEnd start) → Ends s p [] x
-      ends_here s x e = refused problem.QuotedEnd start (arrived (placed _ _ (and_false (p.col == 0)) (by_end refl))) e
-
-      by : (s : LineStand) (m : Mode) → Stood p t s m → Ends s p [] (scan single ctx start [] m p t)
-      by s m (in_line deep) = ends_here within _ refl
-      by s m (begins_here leads) = ends_here at_start _ refl
-      by s m (escaped double leads) = ends_here past_escaped _ refl
+  unclosed_ends s p m t stood = refused problem.QuotedEnd start (arrived (placed _ _ (and_false (p.col == 0)) (by_end refl))) (grind arith)
 
   none_ends : (c : ℕ) (b : List ℕ) → NoElement single c b → Later (c ∷ b)
   none_ends c b (closing e ended) = subst (λ x. Later (x ∷ b)) (sym e) (closed_ends b ended)
@@ -254,15 +247,9 @@ module _ (single : Bool) (ctx : Context) (start : Position) (least : ℕ) (limit
       (subst (λ y. Ends s p (92 ∷ y) (scan single ctx start (92 ∷ y) gap p t)) (sym same_b) (escaped_ends d a double there f s p m t stood (subst (λ y. Later (drop (suc (break_further d a)) y)) same_b later))) in
       slashed c b same_c same_b is later
 
-  -- an element begins after an escaped break as in a gap
-  from_gap : (c : ℕ) (b : List ℕ) (e : Spelled) → element_of single c b ≡ Some e → (s : LineStand) (m : Mode) (p : Position) (t : Folded) → Stood p t s m → scan single ctx start (c ∷ b) m p t ≡ scan single ctx start (c ∷ b) gap p t
-  from_gap c b e is s m p t (in_line deep) = refl
-  from_gap c b e is s m p t (begins_here leads) = refl
-  from_gap c b e is s m p t (escaped double leads) = after_gap single ctx start c (c ∷ b) p t refl (ap (λ q. c == q) (same_quote single) ∙ not_quote c b e is s p double)
-
   by_element : (c : ℕ) (b : List ℕ) (o : Option Spelled) → element_of single c b ≡ o → (c == 0) ≡ false → ((n : ℕ) → Later (drop n b)) → Later (c ∷ b)
   by_element c b None is some later s p m t stood = none_ends c b (no_element single c b some is) s p m t stood
-  by_element c b (Some e) is some later s p m t stood = ends_on s p (c ∷ b) _ _ (from_gap c b e is s m p t stood) (by_kind c b e is (kind_of single c b e is) s p m t stood (later e.further))
+  by_element c b (Some e) is some later s p m t stood = ends_on s p (c ∷ b) _ _ (from_gap c b (not_quote c b e is s p) s m p t stood) (by_kind c b e is (kind_of single c b e is) s p m t stood (later e.further))
 
   each_ends : (n : ℕ) (a : List ℕ) → list_all is_some a ≡ true → Later (drop n a)
   each_ends zero [] full = unclosed_ends
