@@ -6,6 +6,7 @@ use Rattle.proof_scanner.proofs.Sound.Completed.{begins_at_start, begins_past}
 use Rattle.proof_scanner.proofs.Known.Places.{ends_before, step_here}
 use Rattle.proof_scanner.proofs.Known.Rows.{Walked, row_walks}
 use Rattle.proof_scanner.proofs.Cut.Pieces.Separations.{gap_is_separation}
+use Rattle.proof_scanner.proofs.Refusals.WaitingKeys.{some_row}
 
 -- what is kept by each step of a beginning that the row makes too
 abbrev pub Keeps : (P : Account → Account → List ℕ → Type 0) → Type 0
@@ -64,11 +65,9 @@ no_tab_before b v after c e =
 clear_on : (b : Account) (ws : List Step) (last gap content : List ℕ) → IsRowFrom (Some b) ws last → spelled ws last ≡ gap ++ content → is_separation false gap content ≡ true → begins_separation content ≡ false → is_empty content ≡ false → has_no_nul content ≡ true
     → is_indented_by_spaces b.site.before b.site.blocks b.site.awaits gap ≡ true
 clear_on b [] last gap content row e fills solid some clean = absurd (cc (some, ap is_empty (separations last gap [] content (row.0, refl) (fills, ends_before content solid clean) (append-nil last ∙ e)).1))
-clear_on b (v ∷ vs) last gap content row e fills solid some clean = by (account_past b v (spelled vs last)) refl row.1
-  where
-    by : (o : Option Account) → account_past b v (spelled vs last) ≡ o → IsRowFrom o vs last → is_indented_by_spaces b.site.before b.site.blocks b.site.awaits gap ≡ true
-    by None i k = absurd k
-    by (Some c) i k = subst (λ f. is_indented_by_spaces b.site.before b.site.blocks b.site.awaits f ≡ true) (step_here b v (spelled vs last) gap content row.0 e fills solid clean).0 (no_tab_before b v (spelled vs last) c i)
+clear_on b (v ∷ vs) last gap content row e fills solid some clean =
+    let c = some_row (account_past b v (spelled vs last)) vs last row.1 in
+    subst (λ f. is_indented_by_spaces b.site.before b.site.blocks b.site.awaits f ≡ true) (step_here b v (spelled vs last) gap content row.0 e fills solid clean).0 (no_tab_before b v (spelled vs last) c.0 c.1)
 
 -- The step of a row, or of a way, that goes on from a place.
 abbrev pub step_from : (a b c : Account) (separation rest next : List ℕ) (here : Position) (w : Step) → IsLike a b → IsWritten b w next → account_past b w next ≡ Some c → w.separation ++ (w.piece ++ next) ≡ separation ++ rest
@@ -102,13 +101,11 @@ row_at text separation rest a here r p solid some h = by g.steps g.is_row g.spel
 
     by : (ws : List Step) → IsRowFrom (Some g.account) ws g.last → spelled ws g.last ≡ separation ++ rest → RowAt text a separation rest here
     by [] row e = absurd (cc (some, ap is_empty (separations g.last separation [] rest (row.0, refl) (p.is_filled, ends_before rest solid clean) (append-nil g.last ∙ e)).1))
-    by (w ∷ ws) row e = to (account_past g.account w (spelled ws g.last)) refl row.1
-      where
-        to : (o : Option Account) → account_past g.account w (spelled ws g.last) ≡ o → IsRowFrom o ws g.last → RowAt text a separation rest here
-        to None i k = absurd k
-        to (Some b) i k = record {
+    by (w ∷ ws) row e =
+        let c = some_row (account_past g.account w (spelled ws g.last)) ws g.last row.1 in
+        record {
           begins = g.holds;
           is_clear = λ gap content cut fills solid_there some_there.
-              clear_on b ws g.last gap content k cut fills solid_there some_there (no_nul_after gap content (subst (λ n. has_no_nul n ≡ true) cut (no_nul_after w.piece (spelled ws g.last) (subst (λ n. has_no_nul n ≡ true) (sym (step_here g.account w (spelled ws g.last) separation rest row.0 e p.is_filled solid clean).1) clean))));
-          step_at = step_from a g.account b separation rest (spelled ws g.last) here w g.is_like row.0 i e p.is_filled solid clean p.is_here;
+              clear_on c.0 ws g.last gap content c.2 cut fills solid_there some_there (no_nul_after gap content (subst (λ n. has_no_nul n ≡ true) cut (no_nul_after w.piece (spelled ws g.last) (subst (λ n. has_no_nul n ≡ true) (sym (step_here g.account w (spelled ws g.last) separation rest row.0 e p.is_filled solid clean).1) clean))));
+          step_at = step_from a g.account c.0 separation rest (spelled ws g.last) here w g.is_like row.0 c.1 e p.is_filled solid clean p.is_here;
         }

@@ -15,13 +15,16 @@ use Rattle.proof_scanner.proofs.Refusals.Places.{IsRowless, account_by, in_flow_
 
 -- ---- a row that goes through a place
 
+-- steps lead on from an account
+some_past : (o : Option Account) (ws : List Step) (after : List ℕ) (b : Account) → Leads o ws after b → (c : Account) × (o ≡ Some c) × Leads (Some c) ws after b
+some_past None ws after b h = absurd h
+some_past (Some c) ws after b h = (c, refl, h)
+
 leads_waiting : (ws : List Step) (after : List ℕ) (a b : Account) → Waiting a.line a.site → Leads (Some a) ws after b → Waiting b.line b.site
 leads_waiting [] after a b on e = subst (λ (x : Account). Waiting x.line x.site) e on
-leads_waiting (w ∷ ws) after a b on h = by (account_past a w (spelled ws after)) refl h.1 (λ c z. leads_waiting ws after c b z)
-  where
-    by : (o : Option Account) → account_past a w (spelled ws after) ≡ o → Leads o ws after b → ((c : Account) → Waiting c.line c.site → Leads (Some c) ws after b → Waiting b.line b.site) → Waiting b.line b.site
-    by None e k further = absurd k
-    by (Some c) e k further = further c (waiting_past a.site a.line a.entries w (spelled ws after) c on h.0 e) k
+leads_waiting (w ∷ ws) after a b on h =
+    let c = some_past (account_past a w (spelled ws after)) ws after b h.1 in
+    leads_waiting ws after c.0 b (waiting_past a.site a.line a.entries w (spelled ws after) c.0 on h.0 c.1) c.2
 
 -- each beginning of a row is on the line of its key that waits
 begins_waiting : (text after : List ℕ) (b : Account) → Begins text after b → Waiting b.line b.site
@@ -36,23 +39,17 @@ before_is (w ∷ ws) after = grind (arith, append_assoc, before_is ws after)
 
 leads_position : (ws : List Step) (after : List ℕ) (a b : Account) → Leads (Some a) ws after b → b.site.position ≡ position_after a.site.position (spelled ws []) after
 leads_position [] after a b e = ap (λ (x : Account). x.site.position) (sym e)
-leads_position (w ∷ ws) after a b h = by (account_past a w (spelled ws after)) refl h.1 (λ c. leads_position ws after c b)
+leads_position (w ∷ ws) after a b h =
+    let c = some_past (account_past a w (spelled ws after)) ws after b h.1 in
+    let rest : List ℕ = spelled ws [] in
+    let here : Position = position_after a.site.position w.separation (w.piece ++ (rest ++ after)) in
+    leads_position ws after c.0 b c.2 ∙ ap (λ p. position_after p rest after) (place c.0 (made a.site a.line a.entries w (spelled ws after) c.0 c.1)) ∙
+    ap (λ x. position_after (position_after (position_after a.site.position w.separation (w.piece ++ x)) w.piece x) rest after) (before_is ws after) ∙ sym (position_append here w.piece rest after) ∙
+    ap (λ x. position_after (position_after a.site.position w.separation x) (w.piece ++ rest) after) (sym (append_assoc w.piece rest after)) ∙ sym (position_append a.site.position w.separation (w.piece ++ rest) after)
   where
-    next : List ℕ
-    next = spelled ws after
-
-    by : (o : Option Account) → account_past a w next ≡ o → Leads o ws after b → ((c : Account) → Leads (Some c) ws after b → b.site.position ≡ position_after c.site.position (spelled ws []) after) → b.site.position ≡ position_after a.site.position (w.separation ++ (w.piece ++ spelled ws [])) after
-    by None e k further = absurd k
-    by (Some c) e k further =
-        let rest : List ℕ = spelled ws [] in
-        let here : Position = position_after a.site.position w.separation (w.piece ++ (rest ++ after)) in
-        further c k ∙ ap (λ p. position_after p rest after) (place (made a.site a.line a.entries w next c e)) ∙
-        ap (λ x. position_after (position_after (position_after a.site.position w.separation (w.piece ++ x)) w.piece x) rest after) (before_is ws after) ∙ sym (position_append here w.piece rest after) ∙
-        ap (λ x. position_after (position_after a.site.position w.separation x) (w.piece ++ rest) after) (sym (append_assoc w.piece rest after)) ∙ sym (position_append a.site.position w.separation (w.piece ++ rest) after)
-      where
-        place : Made a.site a.line a.entries w next c → c.site.position ≡ position_after (position_after a.site.position w.separation (w.piece ++ next)) w.piece next
-        place (outside m o none sep past line site one) = ap (λ x. x.position) site
-        place (inside some sep site one) = ap (λ x. x.position) site
+    place : (c : Account) → Made a.site a.line a.entries w (spelled ws after) c → c.site.position ≡ position_after (position_after a.site.position w.separation (w.piece ++ spelled ws after)) w.piece (spelled ws after)
+    place c (outside m o none sep past line site one) = ap (λ x. x.position) site
+    place c (inside some sep site one) = ap (λ x. x.position) site
 
 -- A separation after a beginning of a row ends where the scanner is, before the same text.
 same_place : (text separation rest : List ℕ) (p : Position) (b : Account) → has_no_nul text ≡ true → IsPositionIn text rest p → Begins text (separation ++ rest) b → p ≡ position_after b.site.position separation rest

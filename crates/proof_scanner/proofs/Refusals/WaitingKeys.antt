@@ -17,8 +17,13 @@ pub record GoesNear (a : Account) (w : Step) (next : List ℕ) (q : Position) : 
   pub unbroken : begins_free_line a.site.before w.separation ≡ false
   pub near : (position_after a.site.position w.separation (w.piece ++ next)).index ≤ q.index + 1024
 
+-- a row goes on from an account
+pub some_row : (o : Option Account) (ws : List Step) (last : List ℕ) → IsRowFrom o ws last → (c : Account) × (o ≡ Some c) × IsRowFrom (Some c) ws last
+some_row None ws last row = absurd row
+some_row (Some c) ws last row = (c, refl, row)
+
 near_by : (w : Step) (ws : List Step) (last : List ℕ) (a : Account) (q : Position) → a.line ≡ waits q → IsRowFrom (Some a) (w ∷ ws) last → ((b : Account) → b.line ≡ waits q → IsRowFrom (Some b) ws last → b.site.position.index ≤ q.index + 1024) → GoesNear a w (spelled ws last) q
-near_by w ws last a q e row further = by (account_past a w next) refl row.1
+near_by w ws last a q e row further = let c = some_row (account_past a w (spelled ws last)) ws last row.1 in of c.0 c.2 (made a.site a.line a.entries w (spelled ws last) c.0 c.1)
   where
     next : List ℕ
     next = spelled ws last
@@ -33,21 +38,17 @@ near_by w ws last a q e row further = by (account_past a w next) refl row.1
     earlier : (b : Account) → b.site.position ≡ position_after here w.piece next → b.site.position.index ≤ q.index + 1024 → here.index ≤ q.index + 1024
     earlier b i n = grind (arith, index_after)
 
-    by : (o : Option Account) → account_past a w next ≡ o → IsRowFrom o ws last → GoesNear a w next q
-    by None i on = absurd on
-    by (Some b) i on = of (made a.site a.line a.entries w next b i)
+    of : (b : Account) → IsRowFrom (Some b) ws last → Made a.site a.line a.entries w next b → GoesNear a w next q
+    of b on (inside some sep site one) =
+        let there = still_there true (begins_free_line a.site.before w.separation) a.line b.line q e sep in
+        record { unbroken = there.0; near = earlier b (ap (λ x. x.position) site) (further b there.1 on) }
+    of b on (outside m o none sep past line site one) =
+        let there = still_there false (begins_free_line a.site.before w.separation) a.line m q e sep in
+        record { unbroken = there.0; near = to (waits_on (is_in_column here.col at.blocks) here at.blocks (act_of w.shown) w.key q o (subst (λ l. line_past (is_in_column here.col at.blocks) here at.blocks (act_of w.shown) w.key l ≡ Some o) there.1 past)) }
       where
-        of : Made a.site a.line a.entries w next b → GoesNear a w next q
-        of (inside some sep site one) =
-            let there = still_there true (begins_free_line a.site.before w.separation) a.line b.line q e sep in
-            record { unbroken = there.0; near = earlier b (ap (λ x. x.position) site) (further b there.1 on) }
-        of (outside m o none sep past line site one) =
-            let there = still_there false (begins_free_line a.site.before w.separation) a.line m q e sep in
-            record { unbroken = there.0; near = to (waits_on (is_in_column here.col at.blocks) here at.blocks (act_of w.shown) w.key q o (subst (λ l. line_past (is_in_column here.col at.blocks) here at.blocks (act_of w.shown) w.key l ≡ Some o) there.1 past)) }
-          where
-            to : (o.line ≡ waits q) ⊎ (here.index ≤ q.index + 1024) → here.index ≤ q.index + 1024
-            to (inl still) = earlier b (ap (λ x. x.position) site) (further b (line ∙ still) on)
-            to (inr near) = near
+        to : (o.line ≡ waits q) ⊎ (here.index ≤ q.index + 1024) → here.index ≤ q.index + 1024
+        to (inl still) = earlier b (ap (λ x. x.position) site) (further b (line ∙ still) on)
+        to (inr near) = near
 
 -- where the last piece of a row ended while a key waits
 ends_near : (ws : List Step) (last : List ℕ) (a : Account) (q : Position) → a.line ≡ waits q → IsRowFrom (Some a) ws last → a.site.position.index ≤ q.index + 1024
