@@ -52,7 +52,7 @@ comment_is style line before text h lacks is cut =
 
 module _ (style : BlockStyle) (here : Position) (line : List ℕ) (lacks : header_of (indicator_of style ∷ line) ≡ None) where
   zero_no_comment : (text : List ℕ) → has_zero line ≡ true → past_indicators line ≡ 35 ∷ text → ⊥
-  zero_no_comment text zero is = let z : begins_with 48 (past_indicators line) ≡ true = (grind (arith, nat_tests)) in cc (z, ap (begins_with 48) is)
+  zero_no_comment text zero is = let z : begins_with 48 (past_indicators line) ≡ true = grind (arith, nat_tests) in cc (z, ap (begins_with 48) is)
 
   comment_no_text : (text : List ℕ) → past_indicators line ≡ 35 ∷ text → begins_with 35 (past_indicators line) ≡ false → ⊥
   comment_no_text text is other = cc (other, ap (begins_with 35) is)

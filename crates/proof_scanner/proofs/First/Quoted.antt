@@ -142,7 +142,7 @@ module _ (in_flow : Bool) (least : ℕ) (blocks : List ℕ) (awaits : Bool) (her
   one_quoted clean why1 why2 at1 at2 r s =
       let by : Read why1 at1 → Read why2 at2 → (why1 ≡ why2) × (at1 ≡ at2) = λ x y.
       let both : quote_of y.single ∷ y.more ≡ quote_of x.single ∷ x.more = sym y.whole ∙ x.whole in
-      let single : y.single ≡ x.single = (grind arith) in
+      let single : y.single ≡ x.single = grind arith in
       let more : y.more ≡ x.more = cc both in
       one_sorted x.single x.more clean why1 why2 at1 at2 x.sorted (subst (λ m. Sorted x.single m why2 at2) more (subst (λ b. Sorted b y.more why2 at2) single y.sorted)) in
       by (read why1 at1 r) (read why2 at2 s)

@@ -83,7 +83,7 @@ rest_fails t y l d e k = grind arith
 
 column_fault : (indent : ℕ) (bs : List ℕ) (here : Position) (text piece next : List ℕ) (b : BlockRead) → IsLeast indent bs → text ≡ piece ++ next → has_no_nul next ≡ true → block_read (collection_of indent) piece next ≡ Some b → is_tabbed piece next ≡ false → is_shallow indent here b piece next ≡ true
     → FirstFault bs here text problem.BlockScalarIndentation (scan.further_position here piece next)
-column_fault indent bs here text piece next b least e clean is untabbed low = by (is_at_end next) refl ((elim (cases_Bool (block_may_end bs piece next)) [ inl i ↦ absurd (cc ((block_is_clear indent here b piece next bs least is clean i).deep, low)) | inr i ↦ i ]))
+column_fault indent bs here text piece next b least e clean is untabbed low = by (is_at_end next) refl (elim (cases_Bool (block_may_end bs piece next)) [ inl i ↦ absurd (cc ((block_is_clear indent here b piece next bs least is clean i).deep, low)) | inr i ↦ i ])
   where
     by : (x : Bool) → is_at_end next ≡ x → (x || read_may_end bs (block_read (innermost bs) piece next) piece next) ≡ false → FirstFault bs here text problem.BlockScalarIndentation (scan.further_position here piece next)
     by true further k = absurd (cc k)

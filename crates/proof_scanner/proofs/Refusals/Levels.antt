@@ -18,5 +18,5 @@ levels_end col bs aw i (d ∷ ds) a e o = by d.needs_block_end a.0 e o
         omega (arith, first)
     by false t f o =
         let deeper : is_deeper col bs ≡ true = (and_parts aw (is_deeper col bs) o).1 in
-        let outer : d.indent ≤ col = (grind (arith, nat_tests, eqb-true)) in
+        let outer : d.indent ≤ col = grind (arith, nat_tests, eqb-true) in
         omega (arith, t.0, outer)

@@ -19,7 +19,7 @@ where_is (Some k) p rest some = by k.required refl (nat_lt k.position.line p.lin
     by : (r : Bool) → k.required ≡ r → (late : Bool) → nat_lt k.position.line p.line ≡ late → Where (Some k) p rest
     by false e late l = placed false e
     by true e true l = behind k refl e (grind (arith, nat_tests, l))
-    by true e false l = placed true ((grind (arith, nat_tests, l)), some)
+    by true e false l = placed true (grind (arith, nat_tests, l), some)
 
 -- a text without a row
 abbrev pub IsRowless : List ℕ → Type 0

@@ -41,7 +41,7 @@ walk_of single least start G last k r no_feed marker zero [] es s p l h fit m en
           arrived (subst (λ x. (all_stand least (past_elements s x) p.col last ≡ true → is_marked p r ≡ false → k ≡ false → G (past_elements s x) p r) → all_stand least s p.col (x ++ last) ≡ true → G s p r) none (λ f x. f x g (sym own ∙ g)) end fit)
     ]
 walk_of single least start G last k r no_feed marker zero (c ∷ b) es s p l h fit m end =
-    let f : Begins single c b es = (grind arith) in
+    let f : Begins single c b es = grind arith in
     let e : Spelled = f.first in
     let fits : e.further ≤ length b = enough single c b e f.is in
     let is : element_of single c (b ++ r) ≡ Some e = (own single c b e f.is).onward r no_feed in
