@@ -33,12 +33,6 @@ header_is style w = grind (arith, given_style)
 
 -- ---- a comment right after the indicators
 
-past_with : (class : ℕ → Bool) (r t : List ℕ) → class 35 ≡ false → past_one class (r ++ 35 ∷ t) ≡ past_one class r ++ 35 ∷ t
-past_with class r t e = grind arith
-
-indicators_with : (w t : List ℕ) → past_indicators (w ++ 35 ∷ t) ≡ past_indicators w ++ 35 ∷ t
-indicators_with w t = grind (arith, past_with)
-
 blanks_with : (r t : List ℕ) → is_blanks_and_comment r ≡ true → is_blanks_and_comment (r ++ 35 ∷ t) ≡ true
 blanks_with [] t h = refl
 blanks_with (c ∷ r) t h = grind (arith, blanks_with r t)
@@ -49,21 +43,16 @@ rest_with r t h k = grind (arith, blanks_with)
 -- a line that is no header, but one before a comment
 comment_is : (style : BlockStyle) (line before text : List ℕ) (h : Header) → header_of (indicator_of style ∷ line) ≡ None → header_of (indicator_of style ∷ before) ≡ Some h → line ≡ before ++ 35 ∷ text → past_indicators line ≡ 35 ∷ text
 comment_is style line before text h lacks is cut =
-    let rest : past_indicators line ≡ past_indicators before ++ 35 ∷ text = ap past_indicators cut ∙ indicators_with before text in
+    let rest : past_indicators line ≡ past_indicators before ++ 35 ∷ text = ap past_indicators cut ∙ (grind arith) in
     let ends : is_rest_of_line (past_indicators before) ≡ true = sym (header_is style before) ∙ ap is_given is in
     let goes : is_rest_of_line (past_indicators before ++ 35 ∷ text) ≡ false = ap is_rest_of_line (sym rest) ∙ (sym (header_is style line) ∙ ap is_given lacks) in
     rest ∙ ap (λ r. r ++ 35 ∷ text) (rest_with (past_indicators before) text ends goes)
-
--- ---- a digit 0
-
-zero_is : (line : List ℕ) → has_zero line ≡ true → begins_with 48 (past_indicators line) ≡ true
-zero_is line h = grind (arith, nat_tests)
 
 -- ---- one reason why a line is no header
 
 module _ (style : BlockStyle) (here : Position) (line : List ℕ) (lacks : header_of (indicator_of style ∷ line) ≡ None) where
   zero_no_comment : (text : List ℕ) → has_zero line ≡ true → past_indicators line ≡ 35 ∷ text → ⊥
-  zero_no_comment text zero is = let z : begins_with 48 (past_indicators line) ≡ true = zero_is line zero in cc (z, ap (begins_with 48) is)
+  zero_no_comment text zero is = let z : begins_with 48 (past_indicators line) ≡ true = grind (arith, nat_tests) in cc (z, ap (begins_with 48) is)
 
   comment_no_text : (text : List ℕ) → past_indicators line ≡ 35 ∷ text → begins_with 35 (past_indicators line) ≡ false → ⊥
   comment_no_text text is other = cc (other, ap (begins_with 35) is)

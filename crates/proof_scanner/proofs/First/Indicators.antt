@@ -16,9 +16,7 @@ tails c rest m n e f = let both : c ∷ m ≡ c ∷ n = sym e ∙ f in cc both
 
 -- blanks and a comment on one line have one end
 same_end : (start : Position) (more p q x y : List ℕ) → GoesOn more p x → GoesOn more q y → ends_separation x ≡ true → ends_separation y ≡ true → position_after start p x ≡ position_after start q y
-same_end start more p q x y g h e f =
-    let same = separations p q x y (g.is_filled, e) (h.is_filled, f) (sym g.is_text ∙ h.is_text) in
-    ap (λ z. position_after start z x) same.0 ∙ ap (λ z. position_after start q z) same.1
+same_end start more p q x y g h e f = grind (arith, nat_tests, eqb-true, separations)
 
 entry_ends : (content : List ℕ) → begins_entry content ≡ true → ends_separation content ≡ true
 unfolding is_blank_or_end is_blank is_break is_nul
@@ -59,24 +57,11 @@ pub data QuestionReason (s : Setting) (here : Position) (rest : List ℕ) : Prob
 -- the first TAB outside comments is one
 first_tab : (in_comment : Bool) (p q x y : List ℕ) → p ++ 9 ∷ x ≡ q ++ 9 ∷ y → is_separation in_comment p (9 ∷ x) ≡ true → is_separation in_comment q (9 ∷ y) ≡ true → has_tab_before_piece in_comment p ≡ false → has_tab_before_piece in_comment q ≡ false → (p ≡ q) × (x ≡ y)
 unfolding is_blank is_break is_nul
-first_tab b [] [] x y e f g h k = let same : x ≡ y = cc e in (refl, same)
+first_tab b [] [] x y e f g h k = grind (arith, nat_tests, eqb-true)
 first_tab b [] (d ∷ q) x y e f g h k = grind arith
 first_tab b (c ∷ p) [] x y e f g h k = grind arith
-first_tab true (c ∷ p) (d ∷ q) x y e f g h k =
-    let head : c ≡ d = cc e in
-    let tail : p ++ 9 ∷ x ≡ q ++ 9 ∷ y = cc e in
-    let rest = first_tab (not (is_break c)) p q x y tail f (ap (λ z. is_separation (not (is_break z)) q (9 ∷ y)) head ∙ g) h (ap (λ z. has_tab_before_piece (not (is_break z)) q) head ∙ k) in
-    (cc (head, rest.0), rest.1)
-first_tab false (c ∷ p) (d ∷ q) x y e f g h k =
-    let head : c ≡ d = cc e in
-    let tail : p ++ 9 ∷ x ≡ q ++ 9 ∷ y = cc e in
-    let left = inner c p x f h in
-    let right = inner d q y g k in
-    let rest = first_tab (c == 35) p q x y tail left.0 (ap (λ z. is_separation (z == 35) q (9 ∷ y)) head ∙ right.0) left.1 (ap (λ z. has_tab_before_piece (z == 35) q) head ∙ right.1) in
-    (cc (head, rest.0), rest.1)
-  where
-    inner : (c : ℕ) (p x : List ℕ) → is_separation false (c ∷ p) (9 ∷ x) ≡ true → has_tab_before_piece false (c ∷ p) ≡ false → (is_separation (c == 35) p (9 ∷ x) ≡ true) × (has_tab_before_piece (c == 35) p ≡ false)
-    inner c p x f h = grind arith
+first_tab true (c ∷ p) (d ∷ q) x y e f g h k = grind (arith, nat_tests, eqb-true, first_tab (not (is_break c)) p q x y)
+first_tab false (c ∷ p) (d ∷ q) x y e f g h k = grind (arith, nat_tests, eqb-true, first_tab (c == 35) p q x y)
 
 pub one_question : (s : Setting) (here : Position) (rest : List ℕ) (why1 why2 : Problem) (at1 at2 : Position) → QuestionReason s here rest why1 at1 → QuestionReason s here rest why2 at2 → AreSame why1 why2 at1 at2
 one_question s here rest why1 why2 at1 at2 (question_not_free i) (question_not_free j) = (refl, refl)
@@ -87,9 +72,7 @@ one_question s here rest why1 why2 at1 at2 (no_space more i e none) (no_space mo
 one_question s here rest why1 why2 at1 at2 (no_space more i e none) (tab_after_question more2 passed2 content2 j e2 first2 none2 cut2 fills2) = absurd (cc (none, first2, ap begins_with_space_or_break (tails 63 rest more2 more e2 e)))
 one_question s here rest why1 why2 at1 at2 (tab_after_question more passed content i e first none cut fills) (question_not_free j) = absurd (cc (i, j))
 one_question s here rest why1 why2 at1 at2 (tab_after_question more passed content i e first none cut fills) (no_space more2 j e2 none2) = absurd (cc (none2, first, ap begins_with_space_or_break (tails 63 rest more2 more e2 e)))
-one_question s here rest why1 why2 at1 at2 (tab_after_question more passed content i e first none cut fills) (tab_after_question more2 passed2 content2 j e2 first2 none2 cut2 fills2) =
-    let same = first_tab false passed passed2 content content2 (sym cut ∙ (tails 63 rest more more2 e e2 ∙ cut2)) fills fills2 none none2 in
-    (refl, ap (λ z. position_after (further 1 here) z (9 ∷ content)) same.0 ∙ ap (λ z. position_after (further 1 here) passed2 (9 ∷ z)) same.1)
+one_question s here rest why1 why2 at1 at2 (tab_after_question more passed content i e first none cut fills) (tab_after_question more2 passed2 content2 j e2 first2 none2 cut2 fills2) = grind (arith, nat_tests, eqb-true, first_tab, tails)
 
 -- ---- `:`
 

@@ -1,5 +1,5 @@
 -- A plain scalar has one fault that comes first.
-use Rattle.proof_scanner.proofs.Common.{[], ap, append_cancel_left, begins_flow, Bool, false, further_on, goes_on, goes_over, innermost, is_flow, IsPlainFault, List, no_flow, Option, plain_first, Position, position_after, Problem, refl, Stand, sym, true, ℕ, ◌++◌, ◌∙◌, ◌∷◌, ◌≡◌}
+use Rattle.proof_scanner.proofs.Common.{[], ap, append_cancel_left, begins_flow, Bool, false, further_on, goes_on, goes_over, innermost, is_flow, IsPlainFault, List, no_flow, Option, plain_first, Position, position_after, Problem, refl, Stand, sym, true, ℕ, ◌++◌, ◌∙◌, ◌∷◌, ◌≡◌, arith, eqb-true, nat_tests}
 use Rattle.defs_token.specs.Plain.{inside, past}
 use Rattle.proof_scanner.specs.NoPiece as none
 
@@ -14,13 +14,9 @@ no_later_dash collection s before rest more begins cut goes = no_flow true colle
 -- A scalar that goes on over two texts, each before a dash and a flow indicator, goes on over the same text.
 same_before : (collection : Option ℕ) (s : Stand) (a b x y : List ℕ) → a ++ 45 ∷ x ≡ b ++ 45 ∷ y → begins_flow x ≡ true → begins_flow y ≡ true → goes_on true collection s a (45 ∷ x) ≡ true → goes_on true collection s b (45 ∷ y) ≡ true → a ≡ b
 same_before collection s [] [] x y cut f g goes also = refl
-same_before collection s [] (d ∷ b) x y cut f g goes also = absurd (no_later_dash collection (past s d) b x y f (cc cut) (further_on true collection s d b (45 ∷ y) also).1)
-same_before collection s (c ∷ a) [] x y cut f g goes also = absurd (no_later_dash collection (past s c) a y x g (cc cut) (further_on true collection s c a (45 ∷ x) goes).1)
-same_before collection s (c ∷ a) (d ∷ b) x y cut f g goes also =
-    let same : d ≡ c = cc cut in
-    let on = (further_on true collection s c a (45 ∷ x) goes).1 in
-    let next = (further_on true collection s d b (45 ∷ y) also).1 in
-    rw (same, same_before collection (past s c) a b x y (cc cut) f g on (rw same at next)) refl
+same_before collection s [] (d ∷ b) x y cut f g goes also = grind (arith, nat_tests, eqb-true, no_later_dash, further_on)
+same_before collection s (c ∷ a) [] x y cut f g goes also = grind (arith, nat_tests, eqb-true, no_later_dash, further_on)
+same_before collection s (c ∷ a) (d ∷ b) x y cut f g goes also = grind (arith, nat_tests, eqb-true, further_on, same_before collection (past s c) a b x y)
 
 -- the same of a scalar's first character on
 same_start : (collection : Option ℕ) (a b x y : List ℕ) → a ++ 45 ∷ x ≡ b ++ 45 ∷ y → begins_flow x ≡ true → begins_flow y ≡ true → goes_over true collection a (45 ∷ x) ≡ true → goes_over true collection b (45 ∷ y) ≡ true → a ≡ b

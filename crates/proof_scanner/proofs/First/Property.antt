@@ -1,5 +1,5 @@
 -- A text after a `!` is refused for one reason, and so is a line after a `%`: the fault is computed from the line, and each reason for it has that fault.
-use Rattle.proof_scanner.proofs.Common.{[], after, ap, arith, At, begins_handle, begins_prefix, begins_with, begins_with_mark, Bool, codes, decoded, drop, Err, false, Fault, first_position, from_prefix, further, has_no_break, HasName, if◌then◌else◌, is_alpha, is_at_gap, is_decimal_digit, is_empty, is_same, is_uri, IsDeclarationBefore, IsDirectiveRefusal, IsNoDeclaration, IsNoVersion, IsTagRefusal, IsVersionBefore, leading, length, length-append, List, nat_le, None, number_of, Ok, Option, Position, Problem, problem_of, refl, Result, said, Some, suc, sym, true, UriFault, ℕ, ◌++◌, ◌+◌, ◌-◌, ◌==◌, ◌∙◌, ◌∷◌, ◌≡◌, nat_tests, eqb-true}
+use Rattle.proof_scanner.proofs.Common.{[], after, arith, At, begins_handle, begins_prefix, begins_with, begins_with_mark, Bool, codes, decoded, drop, Err, false, Fault, first_position, from_prefix, further, has_no_break, HasName, if◌then◌else◌, is_alpha, is_at_gap, is_decimal_digit, is_empty, is_same, is_uri, IsDeclarationBefore, IsDirectiveRefusal, IsNoDeclaration, IsNoVersion, IsTagRefusal, IsVersionBefore, leading, length, length-append, List, nat_le, None, number_of, Ok, Option, Position, Problem, problem_of, refl, Result, said, Some, suc, true, UriFault, ℕ, ◌++◌, ◌+◌, ◌-◌, ◌==◌, ◌∙◌, ◌∷◌, ◌≡◌, nat_tests, eqb-true}
 use Rattle.yaml_tokens.specs.declared.problem.Problem.TheVariants as problem
 use Rattle.proof_lexers.specs.DirectiveEnds as ends
 use Rattle.proof_lexers.specs.DirectiveEnds.{ends_line}
@@ -35,13 +35,10 @@ long a more e = grind arith
 number_right : (w : List ℕ) (more : Option Problem) (v : ℕ) → number_of w ≡ Some v → number_wrong w more ≡ more
 number_right a more v e = grind (arith, nat_tests, eqb-true)
 
-pointless : (r : List ℕ) → begins_with 46 r ≡ false → point_wrong r ≡ Some problem.VersionDot
-pointless a e = grind arith
-
 version_is : (text : List ℕ) (why : Problem) → IsNoVersion text why → version_wrong text ≡ Some why
 version_is text why (ends.no_major e) = rw e refl
 version_is text why (ends.long_major e) = long (leading is_decimal_digit text) _ e
-version_is text why (ends.no_point major is e) = number_right (leading is_decimal_digit text) _ major is ∙ pointless (after is_decimal_digit text) e
+version_is text why (ends.no_point major is e) = number_right (leading is_decimal_digit text) _ major is ∙ (grind arith)
 version_is text why (ends.no_minor major r is cut e) = number_right (leading is_decimal_digit text) _ major is ∙ rw (cut, e) refl
 version_is text why (ends.long_minor major r is cut e) = number_right (leading is_decimal_digit text) _ major is ∙ rw cut (long (leading is_decimal_digit r) None e)
 
@@ -107,10 +104,7 @@ line_is start line f (ends.no_name e) = rw e refl
 line_is start line f (ends.by_name some e) = rw (some, e) refl
 line_is start line f (ends.by_version why h n) = of_version start line h ∙ rw (version_is (said line) why n) refl
 line_is start line f (ends.by_declaration why h n) = of_declaration start line h ∙ rw (declaration_is (said line) why n) refl
-line_is start line f (ends.by_comment before rest cut v) =
-    let whole : length line ≡ length before + suc (length rest) = ap length cut ∙ length-append before (35 ∷ rest) in
-    let place : length line - suc (length rest) ≡ length before = omega (arith, whole) in
-    after_it start line (35 ∷ rest) v ∙ ap (λ n. At problem.CommentNotSeparated (further (suc n) start)) place
+line_is start line f (ends.by_comment before rest cut v) = grind (arith, nat_tests, eqb-true, length-append, after_it)
 line_is start line f (ends.after_version rest v more begins) = after_it start line rest v ∙ rw begins refl
 line_is start line f (ends.after_declaration rest d more) = of_declaration start line d.is_declaration ∙ rw (declaration_right line rest d) refl
 
@@ -118,8 +112,4 @@ line_is start line f (ends.after_declaration rest d more) = of_declaration start
 
 pub one_directive : (here : Position) (line1 next1 line2 next2 : List ℕ) → line1 ++ next1 ≡ line2 ++ next2 → has_no_break line1 ≡ true → ends_line next1 ≡ true → has_no_break line2 ≡ true → ends_line next2 ≡ true
     → (why1 why2 : Problem) (at1 at2 : Position) → IsDirectiveRefusal here line1 (At why1 at1) → IsDirectiveRefusal here line2 (At why2 at2) → (why1 ≡ why2) × (at1 ≡ at2)
-one_directive here line1 next1 line2 next2 e h j k l why1 why2 at1 at2 x y =
-    let first : line_wrong here line1 ≡ At why1 at1 = line_is here line1 (At why1 at1) x in
-    let second : line_wrong here line2 ≡ At why2 at2 = line_is here line2 (At why2 at2) y in
-    let both : At why1 at1 ≡ At why2 at2 = sym first ∙ (ap (line_wrong here) (one_line line1 next1 line2 next2 e h j k l) ∙ second) in
-    (cc both, cc both)
+one_directive here line1 next1 line2 next2 e h j k l why1 why2 at1 at2 x y = grind (arith, nat_tests, eqb-true, line_is, one_line)

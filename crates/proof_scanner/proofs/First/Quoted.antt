@@ -1,5 +1,5 @@
 -- Of two reasons why a quoted scalar is refused at a place that both come first, kind and position are the same.
-use Rattle.proof_scanner.proofs.Common.{[], ap, append-nil, are_indented, AreNotIndented, begins_separation, begins_solid, begins_with, Bool, closed_first, content, Element, false, GoesOn, has_break, has_marker, has_no_nul, HasNoQuoted, is_empty, is_indented_by_spaces, is_separation, IsNotQuoted, IsQuoted, IsQuotedFault, lines_first, List, marked_from, nat_lt, no_nul_after, off_margin, past, Position, position_after, Problem, quoted_first, quoted_may_end, quoted_scalar, refl, separations, subst, sym, tab, true, within, ℕ, ◌++◌, ◌∙◌, ◌∷◌, ◌≡◌, arith, nat_tests, eqb-true}
+use Rattle.proof_scanner.proofs.Common.{[], ap, append-nil, are_indented, AreNotIndented, begins_separation, begins_solid, begins_with, Bool, closed_first, content, Element, false, GoesOn, has_break, has_marker, has_no_nul, HasNoQuoted, is_empty, is_indented_by_spaces, is_separation, IsNotQuoted, IsQuoted, IsQuotedFault, lines_first, List, nat_lt, no_nul_after, off_margin, past, Position, position_after, Problem, quoted_first, quoted_may_end, quoted_scalar, refl, separations, subst, sym, tab, true, within, ℕ, ◌++◌, ◌∙◌, ◌∷◌, ◌≡◌, arith, nat_tests, eqb-true, elements, element_of, LineStand, past_elements, Some}
 use Rattle.defs_text.specs.Classes as classes
 use Rattle.yaml_tokens.specs.declared.problem.Problem.TheVariants as problem
 use Rattle.proof_row.proofs.Quotes.{singles, doubles}
@@ -8,9 +8,9 @@ use Rattle.proof_scanner.specs.NoPiece.{quote_of}
 use Rattle.proof_scanner.specs.QuotedLines as lines
 use Rattle.proof_scanner.proofs.Known.Places.{ends_before}
 use Rattle.proof_scanner.proofs.Sound.Passed.{same_has_break}
-use Rattle.proof_scanner.proofs.Refusals.QuotedCuts.{one_reason}
+use Rattle.proof_scanner.proofs.Refusals.QuotedCuts.{one_reason, walk_of}
 use Rattle.proof_scanner.proofs.Refusals.QuotedElements.{after_quote_at}
-use Rattle.proof_scanner.proofs.Refusals.QuotedReasons.{all_stand, indented_are, by_end, by_escape, by_column, by_tab, Reason, marked, other}
+use Rattle.proof_scanner.proofs.Refusals.QuotedReasons.{all_stand, indented_are, is_marked, by_end, by_escape, by_column, by_tab, by_marker, placed, Place, Wrong, Reason}
 use Rattle.proof_row.proofs.Columns.{further_is_no_break}
 
 -- A reason why a quoted scalar is refused that begins with a text at a position, or what follows it; and what is so before.
@@ -27,9 +27,6 @@ pub data QuotedReason (in_flow : Bool) (least : ℕ) (blocks : List ℕ) (awaits
 
 -- ---- the quote
 
-same_single : (x y : Bool) (a b : List ℕ) → quote_of x ∷ a ≡ quote_of y ∷ b → x ≡ y
-same_single x y a b e = grind arith
-
 -- a quoted scalar begins with its quote
 begins_quoted : (single : Bool) (rest piece next : List ℕ) → rest ≡ piece ++ next → IsQuoted single piece next → (more : List ℕ) × (rest ≡ quote_of single ∷ more)
 begins_quoted true rest piece next e is = ((is.1.0 ++ 39 ∷ []) ++ next, e ∙ ap (λ p. p ++ next) is.1.1)
@@ -37,8 +34,7 @@ begins_quoted false rest piece next e is = ((is.1.0 ++ 34 ∷ []) ++ next, e ∙
 
 -- a text begins with one quoted scalar
 one_end : (single : Bool) (p q x y : List ℕ) → IsQuoted single p x → IsQuoted single q y → p ++ x ≡ q ++ y → (p ≡ q) × (x ≡ y)
-one_end true p q x y h k e = singles p q x y h k e
-one_end false p q x y h k e = doubles p q x y h k e
+one_end a p q x y h k e = grind (arith, nat_tests, eqb-true, singles, doubles)
 
 solid_no_feed : (r : List ℕ) → begins_solid r ≡ true → begins_with 10 r ≡ false
 unfolding classes.is_break classes.is_blank
@@ -47,34 +43,27 @@ solid_no_feed r h = grind arith
 module _ (in_flow : Bool) (least : ℕ) (blocks : List ℕ) (awaits : Bool) (here : Position) (rest : List ℕ) where
   -- ---- what follows a quoted scalar
 
+  -- text on the line, or a TAB on a later one
+  abbrev gap_problem : (broken : Bool) → Problem
+  gap_problem true = problem.TabInBlockIndentation
+  gap_problem false = problem.ContentAfterQuoted
+
   data After (piece next : List ℕ) : Problem → Position → Type 0 where
     glued : begins_with 35 next ≡ true → After piece next problem.CommentNotSeparated (position_after here piece next)
-    text : (passed content : List ℕ) → GoesOn next passed content → begins_separation content ≡ false → begins_with 35 next ≡ false → After piece next problem.ContentAfterQuoted (position_after (position_after here piece next) passed content)
-    tabbed : (gap content : List ℕ) → next ≡ gap ++ content → is_separation false gap content ≡ true → begins_separation content ≡ false → has_break gap ≡ true → begins_with 35 next ≡ false
-        → After piece next problem.TabInBlockIndentation (position_after (position_after here piece next) gap content)
+    beyond : (p x : List ℕ) → next ≡ p ++ x → is_separation false p x ≡ true → begins_separation x ≡ false → begins_with 35 next ≡ false → After piece next (gap_problem (has_break p)) (position_after (position_after here piece next) p x)
 
   module _ (piece next : List ℕ) (clean : has_no_nul next ≡ true) where
     -- a separation has one end
     one_gap : (p q x y : List ℕ) → next ≡ p ++ x → next ≡ q ++ y → is_separation false p x ≡ true → is_separation false q y ≡ true → begins_separation x ≡ false → begins_separation y ≡ false → (p ≡ q) × (x ≡ y)
     one_gap p q x y e f h k m n = separations p q x y (h, ends_before x m (no_nul_after p x (ap has_no_nul (sym e) ∙ clean))) (k, ends_before y n (no_nul_after q y (ap has_no_nul (sym f) ∙ clean))) (sym e ∙ f)
 
-    same_end : (p q x y : List ℕ) → (p ≡ q) × (x ≡ y) → position_after (position_after here piece next) p x ≡ position_after (position_after here piece next) q y
-    same_end p q x y s = ap (λ l. position_after (position_after here piece next) l x) s.0 ∙ ap (λ l. position_after (position_after here piece next) q l) s.1
-
     one_after : (why1 why2 : Problem) (at1 at2 : Position) → After piece next why1 at1 → After piece next why2 at2 → (why1 ≡ why2) × (at1 ≡ at2)
     one_after why1 why2 at1 at2 (glued h) (glued k) = (refl, refl)
-    one_after why1 why2 at1 at2 (glued h) (text p x g m k) = absurd (cc (h, k))
-    one_after why1 why2 at1 at2 (glued h) (tabbed p x e g m b k) = absurd (cc (h, k))
-    one_after why1 why2 at1 at2 (text p x g m k) (glued h) = absurd (cc (h, k))
-    one_after why1 why2 at1 at2 (text p x g m k) (text q y g2 m2 k2) = (refl, same_end p q x y (one_gap p q x y g.is_text g2.is_text g.is_filled g2.is_filled m m2))
-    one_after why1 why2 at1 at2 (text p x g m k) (tabbed q y e g2 m2 b k2) =
-        let same = one_gap p q x y g.is_text e g.is_filled g2 m m2 in
-        absurd (cc (sym (same_has_break p) ∙ g.is_on_line, ap has_break same.0, b))
-    one_after why1 why2 at1 at2 (tabbed p x e g m b k) (glued h) = absurd (cc (h, k))
-    one_after why1 why2 at1 at2 (tabbed p x e g m b k) (text q y g2 m2 k2) =
-        let same = one_gap p q x y e g2.is_text g g2.is_filled m m2 in
-        absurd (cc (sym (same_has_break q) ∙ g2.is_on_line, ap has_break same.0, b))
-    one_after why1 why2 at1 at2 (tabbed p x e g m b k) (tabbed q y e2 g2 m2 b2 k2) = (refl, same_end p q x y (one_gap p q x y e e2 g g2 m m2))
+    one_after why1 why2 at1 at2 (glued h) (beyond p x e g m k) = absurd (cc (h, k))
+    one_after why1 why2 at1 at2 (beyond p x e g m k) (glued h) = absurd (cc (h, k))
+    one_after why1 why2 at1 at2 (beyond p x e g m k) (beyond q y f h n l) =
+        let same = one_gap p q x y e f g h m n in
+        (ap (λ z. gap_problem (has_break z)) same.0, ap (λ z. position_after (position_after here piece next) z x) same.0 ∙ ap (λ z. position_after (position_after here piece next) q z) same.1)
 
   -- ---- all
 
@@ -87,37 +76,35 @@ module _ (in_flow : Bool) (least : ℕ) (blocks : List ℕ) (awaits : Bool) (her
     indented : (es : List Element) → are_indented least es ≡ true → all_stand least within (past here).col (es ++ []) ≡ true
     indented es h = ap (all_stand least within (past here).col) (append-nil es) ∙ (sym (indented_are least (past here).col es) ∙ h)
 
-    unmarked : (body r : List ℕ) (b : Bool) → has_marker body r ≡ b → marked_from (past here).col body r ≡ b
-    unmarked body r b h = rw (off_margin here.col 0) h
+    -- a body without a wrong line is walked along to what is wrong after it
+    walked : (why : Problem) (at : Position) (k : Bool) (last es : List Element) (body r : List ℕ) → more ≡ body ++ r → begins_with 10 r ≡ false → elements (element_of single) 0 body ≡ Some es → all_stand least within (past here).col (es ++ last) ≡ true → has_marker body r ≡ k
+        → ((t : LineStand) (q : Position) (x : List ℕ) → is_marked q x ≡ true → k ≡ true → Wrong single least here t q x why at)
+        → (all_stand least (past_elements within es) (position_after (past here) body r).col last ≡ true → k ≡ false → Place single least here (past_elements within es) (position_after (past here) body r) r why at) → Reason single least here within (past here) more why at
+    walked why at k last es body r cut no_feed are fit marks marker end =
+        subst (λ x. Reason single least here within (past here) x why at) (sym cut)
+        (walk_of single least here (λ t q x. Wrong single least here t q x why at) last k r no_feed marker 0 body es within (past here) (omega arith) are fit (rw (off_margin here.col 0) marks) (λ f free n. placed why at free (end f n)))
 
     by_text : (why : Problem) (n : IsNotQuoted single more why) → quoted_first single least more why n → Reason single least here within (past here) more why here
-    by_text why (none.by_marker body r e has marks) first =
-        marked (record { body = body; rest = r; es = has.0; is_text = e; are = has.1; no_feed = further_is_no_break 0 r first.0; fits = indented has.0 first.1 }) first.0 (unmarked body r true marks)
-    by_text why (none.by_end has) first =
-        other [] problem.QuotedEnd here (record { body = more; rest = []; es = has.0; is_text = sym (append-nil more); are = has.1; no_feed = refl; fits = indented has.0 first.1 }) (unmarked more [] false first.0) (by_end refl)
+    by_text why (none.by_marker body r e has marks) first = walked why here true [] has.0 body r e (further_is_no_break 0 r first.0) has.1 (indented has.0 first.1) marks (λ t q x h _. by_marker h) (λ f n. absurd (cc n))
+    by_text why (none.by_end has) first = walked why here false [] has.0 more [] (sym (append-nil more)) refl has.1 (indented has.0 first.1) first.0 (λ t q x h n. absurd (cc n)) (λ f n. by_end refl)
     by_text why (none.by_escape body r _ double e has bad) first =
-        other (content 92 ∷ []) why here
-        (record { body = body; rest = 92 ∷ r; es = has.0; is_text = e; are = has.1; no_feed = refl; fits = sym (indented_are least (past here).col (has.0 ++ content 92 ∷ [])) ∙ first.1 }) (unmarked body (92 ∷ r) false first.0) (by_escape r why double refl bad)
+        walked why here false (content 92 ∷ []) has.0 body (92 ∷ r) e refl has.1 (sym (indented_are least (past here).col (has.0 ++ content 92 ∷ [])) ∙ first.1) first.0 (λ t q x h n. absurd (cc n)) (λ f n. by_escape r why double refl bad f)
 
     by_lines : rest ≡ quote_of single ∷ more → (why : Problem) (at : Position) (n : IsQuotedFault single least here rest why at) → lines_first single least here rest why at n → Reason single least here within (past here) more why at
     by_lines whole why at (lines.by_column body r es e are solid further low) first =
         let all : quote_of single ∷ more ≡ quote_of single ∷ (body ++ r) = sym whole ∙ e in
-        other [] problem.QuotedIndentation here (record { body = body; rest = r; es = es; is_text = cc all; are = are; no_feed = solid_no_feed r solid; fits = indented es first.1 }) (unmarked body r false first.0)
-        (by_column solid further (ap (λ (q : Position). nat_lt q.col least) (sym (after_quote_at single here body r)) ∙ low))
+        walked why at false [] es body r (cc all) (solid_no_feed r solid) are (indented es first.1) first.0 (λ t q x h n. absurd (cc n)) (λ f n. by_column solid further (ap (λ (q : Position). nat_lt q.col least) (sym (after_quote_at single here body r)) ∙ low))
     by_lines whole why at (lines.by_tab body r es e are further low) first =
         let all : quote_of single ∷ more ≡ quote_of single ∷ (body ++ tab ∷ r) = sym whole ∙ e in
         let there = after_quote_at single here body (tab ∷ r) in
         subst (λ q. Reason single least here within (past here) more problem.TabAsIndentation q) (sym there)
-        (other [] problem.TabAsIndentation (position_after (past here) body (tab ∷ r)) (record { body = body; rest = tab ∷ r; es = es; is_text = cc all; are = are; no_feed = refl; fits = indented es first.1 }) (unmarked body (tab ∷ r) false first.0)
-        (by_tab r refl further (ap (λ (q : Position). nat_lt q.col least) (sym there) ∙ low)))
+        (walked problem.TabAsIndentation _ false [] es body (tab ∷ r) (cc all) refl are (indented es first.1) first.0 (λ t q x h n. absurd (cc n)) (λ f n. by_tab r refl further (ap (λ (q : Position). nat_lt q.col least) (sym there) ∙ low)))
 
     one_sorted : has_no_nul rest ≡ true → (why1 why2 : Problem) (at1 at2 : Position) → Sorted single more why1 at1 → Sorted single more why2 at2 → (why1 ≡ why2) × (at1 ≡ at2)
     one_sorted clean why1 why2 at1 at2 (fails _ _ r open_text) (fails _ _ s open_text2) = one_reason single least here within (past here) more why1 why2 at1 at2 r s
     one_sorted clean why1 why2 at1 at2 (fails _ _ r open_text) (closes p x _ _ e is fit a) = absurd (open_text p x e is fit)
     one_sorted clean why1 why2 at1 at2 (closes p x _ _ e is fit a) (fails _ _ r open_text) = absurd (open_text p x e is fit)
-    one_sorted clean why1 why2 at1 at2 (closes p x _ _ e is fit a) (closes q y _ _ f is2 fit2 b) =
-        let same = one_end single q p y x is2 is (sym f ∙ e) in
-        one_after p x (no_nul_after p x (ap has_no_nul (sym e) ∙ clean)) why1 why2 at1 at2 a (subst (λ z. After p z why2 at2) same.1 (subst (λ z. After z y why2 at2) same.0 b))
+    one_sorted clean why1 why2 at1 at2 (closes p x _ _ e is fit a) (closes q y _ _ f is2 fit2 b) = grind (arith, nat_tests, eqb-true, one_end, one_after, no_nul_after)
 
   record Read (why : Problem) (at : Position) : Type 0 where
     single : Bool
@@ -147,16 +134,15 @@ module _ (in_flow : Bool) (least : ℕ) (blocks : List ℕ) (awaits : Bool) (her
       let z = begins_lines single why at n in
       record { single = single; more = z.0; whole = z.1; sorted = fails why at (by_lines single z.0 z.1 why at n first) (λ piece next f is fit. not_fit _ (lacks piece next f is) fit) }
   read why at (glued_to_quoted single piece more e is begins fit) = closed single piece more _ _ e is fit (glued begins)
-  read why at (after_quoted single piece more passed left e is ends on solid first) = closed single piece more _ _ e is first.0 (text passed left on solid first.1)
-  read why at (tab_after_quoted single piece gap left e is fills goes_on solid indents first) = closed single piece (gap ++ left) _ _ e is first.0 (tabbed gap left refl fills solid (own_line gap indents) first.1)
+  read why at (after_quoted single piece more passed left e is ends on solid first) = closed single piece more _ _ e is first.0 (subst (λ b. After piece more (gap_problem b) (position_after (position_after here piece more) passed left)) (sym (same_has_break passed) ∙ on.is_on_line) (beyond passed left on.is_text on.is_filled solid first.1))
+  read why at (tab_after_quoted single piece gap left e is fills goes_on solid indents first) = closed single piece (gap ++ left) _ _ e is first.0 (subst (λ b. After piece (gap ++ left) (gap_problem b) (position_after (position_after here piece (gap ++ left)) gap left)) (own_line gap indents) (beyond gap left refl fills solid first.1))
 
   -- What is wrong first with a quoted scalar is one thing at one position.
   pub one_quoted : has_no_nul rest ≡ true → (why1 why2 : Problem) (at1 at2 : Position) → QuotedReason in_flow least blocks awaits here rest why1 at1 → QuotedReason in_flow least blocks awaits here rest why2 at2 → (why1 ≡ why2) × (at1 ≡ at2)
-  one_quoted clean why1 why2 at1 at2 r s = by (read why1 at1 r) (read why2 at2 s)
-    where
-      by : Read why1 at1 → Read why2 at2 → (why1 ≡ why2) × (at1 ≡ at2)
-      by x y =
-          let both : quote_of y.single ∷ y.more ≡ quote_of x.single ∷ x.more = sym y.whole ∙ x.whole in
-          let single : y.single ≡ x.single = same_single y.single x.single y.more x.more both in
-          let more : y.more ≡ x.more = cc both in
-          one_sorted x.single x.more clean why1 why2 at1 at2 x.sorted (subst (λ m. Sorted x.single m why2 at2) more (subst (λ b. Sorted b y.more why2 at2) single y.sorted))
+  one_quoted clean why1 why2 at1 at2 r s =
+      let by : Read why1 at1 → Read why2 at2 → (why1 ≡ why2) × (at1 ≡ at2) = λ x y.
+      let both : quote_of y.single ∷ y.more ≡ quote_of x.single ∷ x.more = sym y.whole ∙ x.whole in
+      let single : y.single ≡ x.single = grind arith in
+      let more : y.more ≡ x.more = cc both in
+      one_sorted x.single x.more clean why1 why2 at1 at2 x.sorted (subst (λ m. Sorted x.single m why2 at2) more (subst (λ b. Sorted b y.more why2 at2) single y.sorted)) in
+      by (read why1 at1 r) (read why2 at2 s)

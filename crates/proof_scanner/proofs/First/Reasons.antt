@@ -1,5 +1,5 @@
 -- Of two reasons at one place that both come first, kind and position are the same.
-use Rattle.proof_scanner.proofs.Common.{[], Account, alias_name, ap, are_marks, AreNotIndented, arith, At, begins_block, begins_flow, begins_white_space, begins_with, begins_with_space_or_break, block_begins, BlockStyle, Bool, colon, colon_may_precede, comes_first, comes_plain, dash, dashes, directive_line, dots, eqb-true, Fails, FailsFirst, false, first_line, folded, followed_first, has_no_break, has_no_nul, if◌then◌else◌, in_double_quotes, in_single_quotes, indicator_of, innermost, is_at_gap, is_blank, is_blank_or_end, is_break, is_flow, is_flow_indicator, is_full, is_in_flow, is_nul, is_value_here, is_value_indicator, IsBlockFault, IsDirectiveRefusal, IsFollowed, IsLike, IsLookedAt, IsPlainFault, IsQuoted, IsQuotedFault, IsTagRefusal, Kind, least_column, least_here, line_is, lines_first, List, literal, MayNotStand, nat_tests, no_piece_first, NoPiece, opens, plain_first, Position, Problem, question, refl, stands_first, subst, sym, tab, tag_text, true, ℕ, ◌&&◌, ◌++◌, ◌==◌, ◌||◌, ◌∙◌, ◌∷◌, ◌≡◌, ◌⊎◌}
+use Rattle.proof_scanner.proofs.Common.{[], Account, alias_name, ap, are_marks, AreNotIndented, arith, At, begins_block, begins_flow, begins_with, block_begins, BlockStyle, Bool, colon, colon_may_precede, comes_first, dash, dashes, directive_line, dots, eqb-true, Fails, FailsFirst, false, first_line, folded, followed_first, has_no_break, has_no_nul, if◌then◌else◌, in_double_quotes, in_single_quotes, indicator_of, innermost, is_at_gap, is_blank, is_blank_or_end, is_break, is_flow, is_flow_indicator, is_full, is_in_flow, is_nul, is_value_here, is_value_indicator, IsBlockFault, IsDirectiveRefusal, IsFollowed, IsLike, IsLookedAt, IsPlainFault, IsQuoted, IsQuotedFault, IsTagRefusal, Kind, least_column, least_here, line_is, lines_first, List, literal, MayNotStand, nat_tests, no_piece_first, NoPiece, opens, plain_first, Position, Problem, question, refl, stands_first, subst, sym, tab, tag_text, true, ℕ, ◌&&◌, ◌++◌, ◌==◌, ◌||◌, ◌∙◌, ◌∷◌, ◌≡◌, ◌⊎◌}
 use Rattle.yaml_tokens.specs.declared.problem.Problem.TheVariants as problem
 use Rattle.proof_lexers.specs.DirectiveEnds as directives
 use Rattle.proof_row.specs.Ends.{nothing, plain_scalar, anchor_name, block_scalar}
@@ -67,9 +67,6 @@ pub data Reason (s : Setting) (here : Position) (rest : List ℕ) : Problem → 
 
 -- ---- kinds by the first characters
 
-plain_kind : (s : Setting) (column : ℕ) (rest : List ℕ) → comes_plain s.in_flow s.adjacent column rest ≡ true → kind_here s column rest ≡ plain_scalar
-plain_kind s column a h = grind arith
-
 quoted_kind : (s : Setting) (column : ℕ) (single : Bool) (more : List ℕ) → kind_here s column (quote_of single ∷ more) ≡ (if single then in_single_quotes else in_double_quotes)
 unfolding is_blank_or_end is_blank is_break is_nul is_flow
 quoted_kind s column a more = grind arith
@@ -90,9 +87,6 @@ colon_kind s column more is = rw is refl
 dots_kind : (s : Setting) (column : ℕ) (more : List ℕ) → column ≡ 0 → is_at_gap more ≡ true → kind_here s column (46 ∷ 46 ∷ 46 ∷ more) ≡ dots
 unfolding is_blank_or_end is_blank is_break is_nul is_flow are_marks
 dots_kind s column more zero gap = rw (zero, gap) refl
-
-no_white : (more : List ℕ) → begins_with 32 more ≡ false → begins_white_space more ≡ false → begins_with_space_or_break more ≡ false
-no_white a e f = grind arith
 
 -- ---- each reason has its kind
 
@@ -131,12 +125,7 @@ module _ (s : Setting) (here : Position) (rest : List ℕ) where
   lines_reason single why at lacks (quoted_lines.by_tab body more es cut has begins low) f = quoted_reason single (body ++ tab ∷ more) why at cut (quoted.no_quoted single why at lacks (quoted_lines.by_tab body more es cut has begins low) f)
 
   block_begins_here : s.in_flow ≡ false → (piece next : List ℕ) → rest ≡ piece ++ next → begins_block piece ≡ true → kind_here s here.col rest ≡ block_scalar
-  block_begins_here out [] next e h = absurd (cc h)
-  block_begins_here out (c ∷ p) next e h = ap (λ r. kind_here s here.col r) e ∙ by (c == 124) (c == 62) refl refl h
-    where
-      by : (x y : Bool) → (c == 124) ≡ x → (c == 62) ≡ y → (x || y) ≡ true → kind_here s here.col (c ∷ (p ++ next)) ≡ block_scalar
-      by true y i j h = ap (λ d. kind_here s here.col (d ∷ (p ++ next))) (eqb-true c 124 i) ∙ block_kind s here.col literal (p ++ next) out
-      by false a i j h = grind (arith, p, next, eqb-true, block_kind, folded, out)
+  block_begins_here out a next e h = grind (arith, block_scalar, eqb-true, block_kind, literal, folded)
 
   block_at : s.in_flow ≡ false → (why : Problem) (at : Position) → IsBlockFault s.blocks here rest why at → kind_here s here.col rest ≡ block_scalar
   block_at out why at (none.by_tab piece header more h cut one is) =
@@ -151,7 +140,7 @@ module _ (s : Setting) (here : Position) (rest : List ℕ) where
   followed_reason why at (none.after_end more passed content col e gap on ends solid) f = (dots, ap (λ r. kind_here s here.col r) e ∙ dots_kind s here.col more col gap, indicators.after_end more passed content e on solid)
   followed_reason why at (none.tab_after_dash more passed content out e gap on tab_there begins) f = (dash, ap (λ r. kind_here s here.col r) e ∙ dash_kind s here.col more gap, indicators.tab_after_dash more passed content out f e on begins)
   followed_reason why at (none.no_space more [] content e gap on begins ends) f =
-      (question, ap (λ r. kind_here s here.col r) e ∙ question_kind s here.col more gap, indicators.no_space more f.0 e (no_white more begins (ap begins_white_space on.is_text ∙ ends)))
+      (question, ap (λ r. kind_here s here.col r) e ∙ question_kind s here.col more gap, indicators.no_space more f.0 e (grind arith))
   followed_reason why at (none.no_space more (c ∷ passed) content e gap on begins ends) f = absurd (cc f.1)
   followed_reason why at (none.tab_after_question more passed content e gap cut fills) f = (question, ap (λ r. kind_here s here.col r) e ∙ question_kind s here.col more gap, indicators.tab_after_question more passed content f.0 e f.1 f.2 cut fills)
   followed_reason why at (none.tab_after_colon more passed content e tab_there on lacks letter) f =
@@ -168,13 +157,9 @@ module _ (a : Account) (separation : List ℕ) (here : Position) (rest : List �
 
   stands_reason : (why : Problem) (at : Position) (n : MayNotStand a separation here rest why at) → stands_first a separation here rest why at n → Reason own here rest why at
   stands_reason why at (failing.shallow inside line left) f = grind (arith, shallow, here, rest, least_here)
-  stands_reason why at (failing.too_deep bracket more e is many) f = seen_reason problem.FlowTooDeep here f (bracket_reason own here rest bracket more problem.FlowTooDeep here e (opens_flow bracket is).1 (indicators.too_deep bracket more e (ap (λ b. b && is_full a) (opens_flow bracket is).0 ∙ full)))
-    where
-      full : is_full a ≡ true
-      full = grind (arith, nat_tests, many)
-
-      opens_flow : (c : ℕ) → (c ≡ 91) ⊎ (c ≡ 123) → (opens c ≡ true) × (is_flow_indicator c ≡ true)
-      opens_flow c a = grind (arith, nat_tests, eqb-true)
+  stands_reason why at (failing.too_deep bracket more e is many) f =
+      let opens_flow : (c : ℕ) → (c ≡ 91) ⊎ (c ≡ 123) → (opens c ≡ true) × (is_flow_indicator c ≡ true) = λ c a. grind (arith, nat_tests, eqb-true) in
+      seen_reason problem.FlowTooDeep here f (bracket_reason own here rest bracket more problem.FlowTooDeep here e (opens_flow bracket is).1 (indicators.too_deep bracket more e (ap (λ b. b && is_full a) (opens_flow bracket is).0 ∙ (grind (arith, nat_tests, many)))))
   stands_reason why at (failing.dash_in_flow more e gap inside) f = seen_reason problem.BlockEntryInFlow here f (dash, ap (λ r. kind_here own here.col r) e ∙ dash_kind own here.col more gap, indicators.dash_in_flow inside)
   stands_reason why at (failing.dash_not_free more e gap out line) f = seen_reason problem.BlockEntryNotAllowed here f (dash, ap (λ r. kind_here own here.col r) e ∙ dash_kind own here.col more gap, indicators.dash_not_free out line)
   stands_reason why at (failing.key_on_earlier_line more begin x xs e is are takes had late) f =
@@ -190,7 +175,7 @@ module _ (a : Account) (separation : List ℕ) (here : Position) (rest : List �
     where
       by : (f : Fails a separation here rest why at) → comes_first a separation here rest why at f → Reason own here rest why at
       by (failing.no_piece n) f = seen_reason why at f.0 (none_reason own here rest why at n f.1)
-      by (failing.no_plain comes n) f = seen_reason why at f.0 (plain_scalar, plain_kind own here.col rest comes, (n, f.1))
+      by (failing.no_plain comes n) f = seen_reason why at f.0 (plain_scalar, (grind arith), (n, f.1))
       by (failing.no_quoted single lacks n) f = seen_reason why at f.0 (lines_reason own here rest single why at lacks n f.1)
       by (failing.no_block out n) f = seen_reason why at f.0 (block_scalar, block_at own here rest out why at n, fails why at n f.1)
       by (failing.followed n) f = seen_reason why at f.0 (followed_reason own here rest why at n f.1)
@@ -202,6 +187,7 @@ module _ (a : Account) (separation : List ℕ) (here : Position) (rest : List �
 pub colon_alone : (a b : Account) → IsLike a b → (separation more : List ℕ) (here : Position) → is_value_here a separation more ≡ true → is_in_flow a.entries ≡ false → IsLookedAt a separation here (58 ∷ more) → colon_may_precede more ≡ true →
     (why : Problem) (at : Position) → FailsFirst b separation here (58 ∷ more) why at → ⊥
 colon_alone a b like separation more here is out seen apart why at x =
+    let by : (why : Problem) (at : Position) → Reason own here (58 ∷ more) why at → ⊥ = λ why a b. grind (arith, none_here, own, here, more, colon_kind, is) in
     by why at (subst (λ s. Reason s here (58 ∷ more) why at) (sym (same_setting a b separation here like)) (reason_of b separation here (58 ∷ more) why at x))
   where
     own : Setting
@@ -213,9 +199,6 @@ colon_alone a b like separation more here is out seen apart why at x =
     none_here : (why : Problem) (at : Position) → ColonReason own here (58 ∷ more) why at → ⊥
     none_here why at (indicators.key_on_earlier_line n inside e before) = cc (out, inside)
     none_here why at (indicators.tab_after_colon n passed content e tabs on letter) = cc (apart, tabs, ap colon_may_precede (at_colon n e))
-
-    by : (why : Problem) (at : Position) → Reason own here (58 ∷ more) why at → ⊥
-    by why a b = grind (arith, none_here, own, here, more, colon_kind, is)
 
 -- ---- one reason
 
@@ -263,8 +246,7 @@ one_of_two s here rest why1 why2 at1 at2 clean (shallow spaced low) (shallow spa
 one_of_two s here rest why1 why2 at1 at2 clean (shallow spaced low) (looked k2 reason2 place2 spaced2 deep2 kind2 q) = absurd (cc (low, deep2))
 one_of_two s here rest why1 why2 at1 at2 clean (looked k reason place spaced deep kind r) (tab_indents tabs2) = absurd (cc (tabs2, spaced))
 one_of_two s here rest why1 why2 at1 at2 clean (looked k reason place spaced deep kind r) (shallow spaced2 low2) = absurd (cc (low2, deep))
-one_of_two s here rest why1 why2 at1 at2 clean (looked k reason place spaced deep kind r) (looked k2 reason2 place2 spaced2 deep2 kind2 q) =
-    one_in k s here rest why1 why2 at1 at2 clean r (subst (λ z. InKind z s here rest why2 at2) (sym kind2 ∙ kind) q)
+one_of_two s here rest why1 why2 at1 at2 clean (looked k reason place spaced deep kind r) (looked k2 reason2 place2 spaced2 deep2 kind2 q) = grind (arith, nat_tests, eqb-true, one_in)
 
 -- At like accounts, after the same separation, what fails first is of one kind and at one position.
 pub one_reason : (a b : Account) → IsLike a b → (separation : List ℕ) (here : Position) (rest : List ℕ) → has_no_nul rest ≡ true → (why1 why2 : Problem) (at1 at2 : Position) → FailsFirst a separation here rest why1 at1 → FailsFirst b separation here rest why2 at2 → (why1 ≡ why2) × (at1 ≡ at2)

@@ -1,5 +1,5 @@
 -- What the reasons at a place ask of an account; it is the same at accounts that are alike.
-use Rattle.proof_scanner.proofs.Common.{[], Account, before_by, before_past, begins_document_at, begins_free_line, Bool, comes_plain, false, if◌then◌else◌, is_adjacent, is_free_of_tabs, is_full, is_in_flow, is_taken, is_taken_line, IsLike, Kind, kind_by, least_column, length, LikeLine, Line, line_past_separation, List, nat_le, not, Position, refl, same_flow, site_at_place, ℕ, ◌||◌, ◌∷◌, ◌≡◌, arith}
+use Rattle.proof_scanner.proofs.Common.{[], Account, before_by, before_past, begins_document_at, Bool, comes_plain, if◌then◌else◌, is_adjacent, is_free_of_tabs, is_full, is_in_flow, is_taken, IsLike, Kind, kind_by, least_column, List, nat_le, not, Position, same_flow, site_at_place, ℕ, ◌||◌, ◌∷◌, ◌≡◌, arith, eqb-true, nat_tests}
 use Rattle.proof_row.specs.Ends.{nothing, plain_scalar}
 use Rattle.proof_scanner.proofs.Refusals.PiecesHere.{many_alike}
 
@@ -35,21 +35,5 @@ kind_here s column (c ∷ r) = (if comes_plain s.in_flow s.adjacent column (c �
 
 -- ---- like accounts
 
--- a line that is taken is so at like accounts, and one that is not is not
-same_taken : (broken : Bool) (l m : Line) → LikeLine l m → is_taken_line (line_past_separation false broken l) ≡ is_taken_line (line_past_separation false broken m)
-same_taken b l m i = grind arith
-
 pub same_setting : (a b : Account) (separation : List ℕ) (here : Position) → IsLike a b → setting_of a separation here ≡ setting_of b separation here
-same_setting a b separation here like = rw (flow, site, line, many) refl
-  where
-    flow : is_in_flow a.entries ≡ is_in_flow b.entries
-    flow = same_flow a.entries b.entries like.2
-
-    site : a.site ≡ b.site
-    site = like.0
-
-    line : is_taken_line (line_past_separation false (begins_free_line b.site.before separation) a.line) ≡ is_taken_line (line_past_separation false (begins_free_line b.site.before separation) b.line)
-    line = same_taken (begins_free_line b.site.before separation) a.line b.line like.1
-
-    many : length a.entries ≡ length b.entries
-    many = many_alike a.entries b.entries like.2
+same_setting a b separation here like = grind (arith, nat_tests, eqb-true, same_flow, many_alike)

@@ -1,7 +1,6 @@
 -- A text is stuck at one place, with one kind.
-use Rattle.proof_scanner.proofs.Common.{Account, account_past, ap, Begins, Bool, colon_may_precede, fails, FailsFirst, false, first_account, free, has_no_nul, HasNoKey, inl, inr, is_in_flow, is_taken, is_value_here, IsLike, IsLookedAt, IsPlace, IsStuck, IsWritten, key_waits, LikeLine, Line, List, no_key, no_nul_after, Position, Problem, refl, Some, spelled, Step, subst, sym, taken, true, up_to_nul, waits, ℕ, ◌++◌, ◌∙◌, ◌∷◌, ◌≡◌, ◌⊎◌}
+use Rattle.proof_scanner.proofs.Common.{Account, account_past, ap, Begins, Bool, colon_may_precede, fails, FailsFirst, false, first_account, HasNoKey, inl, inr, is_in_flow, is_taken, is_value_here, IsLike, IsLookedAt, IsPlace, IsStuck, IsWritten, key_waits, List, no_key, no_nul_after, Position, Problem, refl, Some, spelled, Step, subst, sym, true, up_to_nul, ℕ, ◌++◌, ◌∙◌, ◌∷◌, ◌≡◌, ◌⊎◌, arith, eqb-true, nat_tests}
 use Rattle.defs_text.specs.Classes as classes
-use Rattle.defs_token.specs.Piece.{Holds}
 use Rattle.yaml_tokens.specs.declared.problem.Problem.TheVariants as problem
 use Rattle.proof_scanner.proofs.Sound.Completed.{begins_at_start, begins_past}
 use Rattle.proof_scanner.proofs.Refusals.OtherRows.{StepAt}
@@ -9,7 +8,7 @@ use Rattle.proof_scanner.proofs.Refusals.StandsRefused.{no_colon_here}
 use Rattle.proof_scanner.proofs.Refusals.NoRows.{keyless_step, no_step_stands}
 use Rattle.proof_scanner.proofs.Refusals.KeysThatWait.{Together, Apart, together_keeps, apart_keeps, first_together, not_below}
 use Rattle.proof_scanner.proofs.First.Reasons.{one_reason, colon_alone}
-use Rattle.proof_scanner.proofs.Known.Ways.{With, like_sym, GivesUp, stays, given_up, gives_up_like, Same, Way, way_of, strict_way, way_but_for_key, Meet, same_place, second_on, first_on, KeepsOn, meet}
+use Rattle.proof_scanner.proofs.Known.Ways.{With, like_sym, GivesUp, gives_up_like, Same, Way, way_of, strict_way, way_but_for_key, Meet, same_place, second_on, first_on, KeepsOn, meet}
 use Rattle.proof_scanner.proofs.First.Places.{Stands, clean_way, clean_place, one_cut, gives_up_site, step_of, clear, fails_before}
 
 -- ---- claims
@@ -65,9 +64,6 @@ same_second x y z e i = subst (λ u. IsLike x u) e i
 abbrev Nothing : Account → Account → List ℕ → Type 0
 Nothing x y after = Unit {0}
 
-keeps_nothing : KeepsOn GivesUp GivesUp Nothing
-keeps_nothing = record { first_like = λ x y z g i. gives_up_like x z y g i; second_like = gives_up_second; first = λ x y z after i g r. tt; second = λ x y z after i g r. tt; both = λ x y a b v c next i r k l e f. tt }
-
 -- Both ways are beginnings of rows.
 abbrev BothBegin : (text : List ℕ) → Account → Account → List ℕ → Type 0
 BothBegin text x y after = Begins text after x × Begins text after y
@@ -89,21 +85,11 @@ keeps_apart : (text : List ℕ) → KeepsOn GivesUp Same (BeginsOrApart text)
 keeps_apart text = record {
   first_like = λ x y z g i. gives_up_like x z y g i;
   second_like = same_second;
-  first = λ x y z after i g r. given x y z after i g r;
+  first = λ x y z after i g r. (grind (arith, nat_tests, eqb-true, not_below));
   second = λ x y z after i e r. subst (λ u. BeginsOrApart text x u after) e r;
   both = λ x y a b v c next i r k l e f. on x y a b v c next i r k l e f;
 }
   where
-    given : (x y z : Account) (after : List ℕ) → IsLike x y → GivesUp x z → BeginsOrApart text x y after → BeginsOrApart text z y after
-    given x y z after i (stays e) r = subst (λ u. BeginsOrApart text u y after) e r
-    given x y z after i (given_up begin waiting must e) (inl r) = by y.line refl (subst (λ l. LikeLine l y.line) waiting i.1)
-      where
-        by : (l : Line) → y.line ≡ l → LikeLine (waits begin) l → BeginsOrApart text z y after
-        by free j like = absurd like
-        by taken j like = absurd (not_below begin.col x.site.blocks must (r.0.below begin waiting j))
-        by (waits q) j like = inr (q, record { none = ap (λ (u : Account). u.line) (sym e); one = j; on = r.0.on q j })
-    given x y z after i (given_up begin waiting must e) (inr r) = absurd (cc (r.1.none, waiting))
-
     on : (x y a b : Account) (v : Step) (c : Bool) (next : List ℕ) → IsLike x y → BeginsOrApart text x y (v.separation ++ (v.piece ++ next)) → IsWritten x v next → IsWritten y (With v c) next → account_past x v next ≡ Some a → account_past y (With v c) next ≡ Some b → BeginsOrApart text a b next
     on x y a b v c next i (inl r) k l e f = inl (together_keeps x y a b v c next i r.0 l e f, begins_past text _ x a v next refl k e r.1)
     on x y a b v c next i (inr r) k l e f = inr (r.0, apart_keeps r.0 x y a b v c next i r.1 l e f)
@@ -112,11 +98,11 @@ keeps_apart text = record {
 
 module _ (text : List ℕ) where
   failing_once : (why1 why2 : Problem) (at1 at2 : Position) → FailsAt text why1 at1 → FailsAt text why2 at2 → (why1 ≡ why2) × (at1 ≡ at2)
-  failing_once why1 why2 at1 at2 f g = by (meet GivesUp GivesUp Nothing keeps_nothing f.way.steps g.way.steps (f.separation ++ f.rest) (g.separation ++ g.rest) first_account first_account f.account g.account itself tt f.way.leads g.way.leads (f.way.spells ∙ sym g.way.spells) clean)
+  failing_once why1 why2 at1 at2 f g =
+      by (meet GivesUp GivesUp Nothing (record { first_like = λ x y z g i. gives_up_like x z y g i; second_like = gives_up_second; first = λ x y z after i g r. tt; second = λ x y z after i g r. tt; both = λ x y a b v c next i r k l e f. tt })
+      f.way.steps g.way.steps (f.separation ++ f.rest) (g.separation ++ g.rest) first_account first_account f.account g.account itself tt
+      f.way.leads g.way.leads (f.way.spells ∙ sym g.way.spells) (clean_way text f.way.steps (f.separation ++ f.rest) f.way.spells))
     where
-      clean : Holds (has_no_nul (spelled f.way.steps (f.separation ++ f.rest)))
-      clean = clean_way text f.way.steps (f.separation ++ f.rest) f.way.spells
-
       by : Meet GivesUp GivesUp Nothing f.account g.account (f.separation ++ f.rest) (g.separation ++ g.rest) → (why1 ≡ why2) × (at1 ≡ at2)
       by (same_place like r e) =
           let cut = one_cut f.account g.account f.separation f.rest g.separation g.rest f.here g.here f.stands g.stands like (clean_place f.way) e in
@@ -135,7 +121,7 @@ module _ (text : List ℕ) where
   begins_first steps after e = subst (λ z. Begins text z first_account) (sym e) (begins_at_start text)
 
   keyless_once : (here1 here2 : Position) → KeylessAt text here1 → KeylessAt text here2 → here1 ≡ here2
-  keyless_once here1 here2 k l = by (meet Same Same (BothBegin text) (keeps_both text) v.steps w.steps after1 after2 first_account first_account k.account l.account itself (begins_first v.steps after1 v.spells, begins_first v.steps after1 v.spells) v.leads w.leads (v.spells ∙ sym w.spells) clean)
+  keyless_once here1 here2 k l = by (meet Same Same (BothBegin text) (keeps_both text) v.steps w.steps after1 after2 first_account first_account k.account l.account itself (begins_first v.steps after1 v.spells, begins_first v.steps after1 v.spells) v.leads w.leads (v.spells ∙ sym w.spells) (clean_way text v.steps after1 v.spells))
     where
       after1 : List ℕ
       after1 = k.separation ++ 58 ∷ k.more
@@ -149,9 +135,6 @@ module _ (text : List ℕ) where
       w : Way Same text after2 l.account
       w = strict_way text after2 l.account l.place.begins
 
-      clean : Holds (has_no_nul (spelled v.steps after1))
-      clean = clean_way text v.steps after1 v.spells
-
       by : Meet Same Same (BothBegin text) k.account l.account after1 after2 → here1 ≡ here2
       by (same_place like r e) = (one_cut k.account l.account k.separation (58 ∷ k.more) l.separation (58 ∷ l.more) here1 here2 (stands_keyless here1 k) (stands_keyless here2 l) like (clean_place v) e).2
       by (second_on n) =
@@ -162,7 +145,7 @@ module _ (text : List ℕ) where
           absurd (keyless_step text l.separation l.more l.account here2 s n.holds.0 l.place.is_filled l.is_value l.is_outside l.is_line_taken l.has_none)
 
   keyless_alone : (why : Problem) (at here : Position) → FailsAt text why at → KeylessAt text here → ⊥
-  keyless_alone why at here f k = by (meet GivesUp Same (BeginsOrApart text) (keeps_apart text) f.way.steps w.steps after1 after2 first_account first_account f.account k.account itself (inl (first_together, begins_first f.way.steps after1 f.way.spells)) f.way.leads w.leads (f.way.spells ∙ sym w.spells) clean)
+  keyless_alone why at here f k = by (meet GivesUp Same (BeginsOrApart text) (keeps_apart text) f.way.steps w.steps after1 after2 first_account first_account f.account k.account itself (inl (first_together, begins_first f.way.steps after1 f.way.spells)) f.way.leads w.leads (f.way.spells ∙ sym w.spells) (clean_way text f.way.steps after1 f.way.spells))
     where
       after1 : List ℕ
       after1 = f.separation ++ f.rest
@@ -172,9 +155,6 @@ module _ (text : List ℕ) where
 
       w : Way Same text after2 k.account
       w = strict_way text after2 k.account k.place.begins
-
-      clean : Holds (has_no_nul (spelled f.way.steps after1))
-      clean = clean_way text f.way.steps after1 f.way.spells
 
       passed : (x : Account) (s : StepAt k.account k.separation (58 ∷ k.more) here) → s.account ≡ x → BeginsOrApart text x k.account after2 → ⊥
       passed x s e (inl r) = keyless_step text k.separation k.more k.account here s (subst (λ u. Begins text after2 u) (sym e) r.1) k.place.is_filled k.is_value k.is_outside k.is_line_taken k.has_none

@@ -1,6 +1,6 @@
 -- A block scalar that may end is not refused for what stands after it.
-use Rattle.proof_scanner.proofs.Common.{[], after_break, after_line, along, and_parts, ap, are_empty, AreLines, arith, begins_with, block_may_end, block_read, BlockRead, Bool, collection_of, false, first_content, first_empty, first_header, further_position, has_no_nul, innermost, is_at_end, is_empty, is_empty_line, is_in_line, is_none, is_shallow, is_single, is_spaces, is_tabbed, leading_spaces, least_column, length, lines_may_end, List, nat_le, nat_lt, nat_tests, None, not, Option, past, Position, position_after, read_may_end, refl, Some, spell, split, split_spell, sym, tab, texts, true, ℕ, ◌&&◌, ◌++◌, ◌+◌, ◌||◌, ◌∙◌, ◌∷◌, ◌≡◌, ◌≤◌, eqb-true}
-use Rattle.proof_lexers.proofs.Blocks.Written.{Line, put}
+use Rattle.proof_scanner.proofs.Common.{[], after_line, and_parts, ap, are_empty, AreLines, arith, begins_with, block_may_end, block_read, BlockRead, collection_of, false, first_content, first_empty, first_header, further_position, has_no_nul, innermost, is_at_end, is_empty, is_empty_line, is_in_line, is_shallow, is_spaces, is_tabbed, leading_spaces, least_column, length, lines_may_end, List, nat_le, nat_lt, nat_tests, None, not, past, Position, position_after, read_may_end, refl, Some, spell, split, split_spell, sym, tab, texts, true, ℕ, ◌&&◌, ◌++◌, ◌+◌, ◌||◌, ◌∙◌, ◌∷◌, ◌≡◌, ◌≤◌, eqb-true}
+use Rattle.proof_lexers.proofs.Blocks.Written.{Line}
 use Rattle.proof_scanner.proofs.Sound.BlockEnds.{IsLeast, Written, written, spaces_col, ends_at_margin}
 use Rattle.proof_scanner.proofs.Cut.Pieces.Blocks.{end_no_text}
 
@@ -18,17 +18,7 @@ passed column (c ∷ w) y p inner low h = grind (arith, passed column w y (past 
 none_is_empty : (column : ℕ) (ls : List Line) (p : Position) → AreLines ls [] → p.col ≡ 0 → first_content column false p (spell ls []) ≡ None → are_empty column (texts ls) ≡ true
 unfolding is_empty_line
 none_is_empty column [] p a z h = refl
-none_is_empty column (l ∷ ls) p a z h =
-    let r : Passed column l.text (put l.by (spell ls [])) p = passed column l.text (put l.by (spell ls [])) p a.0 (omega (arith, z)) h in
-    let short : nat_le (length l.text) column ≡ true = (let s = r.is_short in grind (arith, nat_tests, s, z)) in
-    let later : first_content column false (after_line l p) (spell ls []) ≡ None = sym (first_empty column l (spell ls []) p r.are_spaces r.is_short a.1) ∙ h in
-    rw (r.are_spaces, short, none_is_empty column ls (after_line l p) a.2 refl later) refl
-
--- a scalar in which no content begins has empty lines alone
-no_content : (column : ℕ) (piece next : List ℕ) (p : Position) (w : Written piece next) → first_content column true p piece ≡ None → are_empty column (texts w.lines) ≡ true
-no_content column piece next p w h =
-    none_is_empty column w.lines (after_break w.header.by (along w.header.text p)) w.are.2 refl
-    (sym (first_header column w.header.text w.header.by (spell w.lines []) p w.are.0 w.are.1) ∙ (ap (λ x. first_content column true p x) (sym w.is) ∙ h))
+none_is_empty column (l ∷ ls) p a z h = grind (arith, nat_tests, eqb-true, passed, first_empty, none_is_empty column ls (after_line l p) a.2 refl)
 
 -- ---- what stands after it
 
@@ -49,10 +39,6 @@ module _ (indent : ℕ) (p : Position) (b : BlockRead) (piece next bs : List ℕ
   abbrev Clear : Type 0
   Clear = IsClear indent p b piece next
 
-  -- at the text's end
-  at_end : next ≡ [] → Clear
-  at_end e = grind arith
-
   -- before further text
   module _ (further : is_at_end next ≡ false) (may : read_may_end bs (block_read (innermost bs) piece next) piece next ≡ true) where
     w : Written piece next
@@ -61,44 +47,15 @@ module _ (indent : ℕ) (p : Position) (b : BlockRead) (piece next bs : List ℕ
     both : (not (is_empty (texts w.lines) && begins_with tab next) ≡ true) × ((not (are_empty b.column (texts w.lines)) || nat_lt (leading_spaces next) (least_column bs true) || nat_le b.column (leading_spaces next)) ≡ true)
     both = and_parts _ _ (lines_asked indent b piece next bs least is w ∙ may)
 
-    single_by : (h : List ℕ) (ls : List (List ℕ)) (t : Bool) → not (is_empty ls && t) ≡ true → (is_single (h ∷ ls) && t) ≡ false
-    single_by h a t e = grind arith
-
     column_is : (further_position p piece next).col ≡ leading_spaces next
     column_is =
         let margin = ends_at_margin (collection_of indent) piece next b p is further in
         let spaces = spaces_col (position_after p piece next) next in
         omega (arith, margin, spaces)
 
-    deep_by : (none low left : Bool) (k : ℕ) → is_none (first_content b.column true p piece) ≡ none → nat_le indent k ≡ low → nat_lt k b.column ≡ left → (not (are_empty b.column (texts w.lines)) || nat_lt k (least_column bs true) || nat_le b.column k) ≡ true → ((none && low) && left) ≡ false
-    deep_by false low left k e f g h = refl
-    deep_by true false left k e f g h = refl
-    deep_by true true false k e f g h = refl
-    deep_by true true true k e f g h = absurd (by (nat_lt k (least_column bs true)) (nat_le b.column k) refl refl (ap (λ x. not x || nat_lt k (least_column bs true) || nat_le b.column k) (sym empty) ∙ h))
-      where
-        none_of : (o : Option Position) → is_none o ≡ true → o ≡ None
-        none_of a i = grind (arith, nat_tests, eqb-true)
-
-        empty : are_empty b.column (texts w.lines) ≡ true
-        empty = no_content b.column piece next p w (none_of (first_content b.column true p piece) e)
-
-        by : (x y : Bool) → nat_lt k (least_column bs true) ≡ x → nat_le b.column k ≡ y → (x || y) ≡ true → ⊥
-        by true y i j h = let same = least.1 in grind (arith, nat_tests, i, same, f)
-        by false a i j h = grind arith
-
     before_text : Clear
-    before_text = record {
-      untabbed = ap (λ x. is_single x && begins_with tab next) (lines_written piece next w) ∙ single_by w.header.text (texts w.lines) (begins_with tab next) both.0;
-      deep =
-          ap (λ x. ((not x && is_none (first_content b.column true p piece)) && nat_le indent (further_position p piece next).col) && nat_lt (further_position p piece next).col b.column) further ∙
-          (ap (λ k. (is_none (first_content b.column true p piece) && nat_le indent k) && nat_lt k b.column) column_is ∙
-          deep_by (is_none (first_content b.column true p piece)) (nat_le indent (leading_spaces next)) (nat_lt (leading_spaces next) b.column) (leading_spaces next) refl refl refl both.1);
-    }
+    before_text = grind (arith, nat_tests, eqb-true, lines_written, w, both, column_is, none_is_empty, first_header)
 
   -- What stands after a block scalar that may end is not refused.
   pub block_is_clear : has_no_nul next ≡ true → block_may_end bs piece next ≡ true → Clear
-  block_is_clear clean may = by (is_at_end next) refl may
-    where
-      by : (x : Bool) → is_at_end next ≡ x → (x || read_may_end bs (block_read (innermost bs) piece next) piece next) ≡ true → Clear
-      by true e h = at_end (end_no_text next clean e)
-      by false e h = before_text e h
+  block_is_clear clean may = grind (arith, nat_tests, eqb-true, end_no_text, before_text)

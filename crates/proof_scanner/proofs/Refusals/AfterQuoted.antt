@@ -1,5 +1,5 @@
 -- What may follow a scalar in quotes is not refused.
-use Rattle.proof_scanner.proofs.Common.{[], after, ap, append_assoc, arith, At, begins_with, Bool, check_after_quoted, ends_spaces, Err, false, Fault, glued, goes_on_quoted, has_break, HasSpaces, held_of, if◌then◌else◌, in_flow, is_blank, is_blanks, is_blanks_and_comment, is_break, is_breakz, is_on_line, is_rest_of_line, is_separation, IsGlued, leading, lexed, line_is_done, List, may_follow_quoted, nat_tests, not, Ok, or_left, peek, Position, position_after, quoted_may_end, Read, refl, Result, ScannerState, skip_spaces, space, spaces_are_passed, subst, sym, true, Whitespace, Yes, ℕ, ◌&&◌, ◌++◌, ◌==◌, ◌>>=◌, ◌||◌, ◌∙◌, ◌∷◌, ◌≡◌, eqb-true}
+use Rattle.proof_scanner.proofs.Common.{[], ap, append_assoc, arith, At, begins_with, Bool, check_after_quoted, ends_spaces, Err, false, Fault, glued, goes_on_quoted, has_break, HasSpaces, held_of, if◌then◌else◌, in_flow, is_blank, is_blanks, is_blanks_and_comment, is_break, is_on_line, is_rest_of_line, is_separation, IsGlued, leading, lexed, line_is_done, List, may_follow_quoted, nat_tests, Ok, or_left, peek, Position, position_after, quoted_may_end, Read, refl, Result, ScannerState, skip_spaces, space, spaces_are_passed, subst, sym, true, Whitespace, Yes, ℕ, ◌++◌, ◌==◌, ◌>>=◌, ◌∙◌, ◌∷◌, ◌≡◌, eqb-true}
 use Rattle.proof_lexers.specs.Ends.{EndsAs}
 use Rattle.proof_lexers.specs.Ends as ends
 use Rattle.yaml_chars.specs.Class as model_classes
@@ -27,11 +27,8 @@ skipped : (t : ScannerState) → begins_with 35 t.rest ≡ false → Left (Space
 unfolding skip_spaces
 skipped t none = by (space Yes t.rest t.held.position) refl (spaces_are_passed Yes t.rest t.held.position)
   where
-    passes : (y : Read Whitespace) → space Yes t.rest t.held.position ≡ Ok y → (u : ScannerState) → skip_spaces Yes t ≡ Ok u → Left (Spaced Yes t) (lexed (space Yes t.rest t.held.position) t.held (λ w u. Ok u))
-    passes y i u j = record { value = u; is = j; holds = held_of u (spaces_skipped Yes t) j }
-
     by : (x : Result (Read Whitespace) Fault) → space Yes t.rest t.held.position ≡ x → EndsAs (HasSpaces Yes t.held.position t.rest) (IsGlued t.held.position t.rest) x → Left (Spaced Yes t) (lexed (space Yes t.rest t.held.position) t.held (λ w u. Ok u))
-    by x i (ends.reads y passed e) = passes y (i ∙ e) _ (ap (λ z. lexed z t.held (λ w u. Ok u)) (i ∙ e))
+    by x i (ends.reads y passed e) = record { value = _; is = (ap (λ z. lexed z t.held (λ w u. Ok u)) (i ∙ e)); holds = held_of _ (spaces_skipped Yes t) (ap (λ z. lexed z t.held (λ w u. Ok u)) (i ∙ e)) }
     by x i (ends.refuses f (glued begins) e) = absurd (cc (begins, none))
 
 -- ---- what stands there
@@ -39,7 +36,7 @@ skipped t none = by (space Yes t.rest t.held.position) refl (spaces_are_passed Y
 -- a line on which something other than a comment stands after blanks holds more
 pub not_done : (s : List ℕ) (d : ℕ) (r : List ℕ) → is_blanks s ≡ true → is_break d ≡ false → is_blank d ≡ false → (d == 35) ≡ false → line_is_done (s ++ d ∷ r) ≡ false
 unfolding is_blank is_break
-not_done s d r b e f g = ap is_rest_of_line (on_line s b) ∙ done s b
+not_done s d r b e f g = ap is_rest_of_line (on_line s b) ∙ (grind (arith, nat_tests, comment, eqb-true))
   where
     tail : List ℕ
     tail = d ∷ leading is_on_line r
@@ -55,9 +52,6 @@ not_done s d r b e f g = ap is_rest_of_line (on_line s b) ∙ done s b
     comment [] b = rw (g, f) refl
     comment (c ∷ s) b = grind (arith, nat_tests, comment s)
 
-    done : (s : List ℕ) → is_blanks s ≡ true → is_rest_of_line (s ++ tail) ≡ false
-    done a b = grind (arith, nat_tests, comment, eqb-true)
-
 follows_by : (flow : Bool) (piece : List ℕ) (same : Bool) (c : ℕ) (r : List ℕ) → (has_break piece ≡ false → same ≡ true) → goes_on_quoted flow piece (c ∷ r) ≡ true → may_follow_quoted flow same c ≡ true
 unfolding may_follow_quoted
 follows_by a piece same c r b h = grind arith
@@ -65,31 +59,7 @@ follows_by a piece same c r b h = grind arith
 -- what stands after the blanks and a comment may follow
 follows : (flow : Bool) (piece s rest : List ℕ) (same : Bool) → (has_break piece ≡ false → same ≡ true) → is_separation false s rest ≡ true → plains.has_break s ≡ false → ends_spaces Yes rest ≡ true → quoted_may_end flow piece (s ++ rest) ≡ true → may_follow_quoted flow same (peek rest) ≡ true
 unfolding may_follow_quoted is_blank is_break model_classes.is_break
-follows flow piece s rest same stays f h e may = by (is_breakz (peek rest)) refl
-  where
-    goes_on : (d : ℕ) (r : List ℕ) → rest ≡ d ∷ r → is_breakz d ≡ false → may_follow_quoted flow same d ≡ true
-    goes_on d r i g =
-        let blanks : is_blanks s ≡ true = (blanks_alone false s rest f h (not_at_end rest (ap (λ l. is_breakz (peek l)) i ∙ g))).1 in
-        let ends : ends_spaces Yes (d ∷ r) ≡ true = ap (λ l. ends_spaces Yes l) (sym i) ∙ e in
-        let k : ((d == 32) ≡ false) × ((d == 9) ≡ false) × ((d == 35) ≡ false) = none (d == 32) (d == 9) (d == 35) ends in
-        let solid : is_blank d ≡ false = rw (k.0, k.1) refl in
-        let unbroken : is_break d ≡ false = grind (arith, nat_tests, g) in
-        let may2 : (line_is_done (s ++ d ∷ r) || goes_on_quoted flow piece (after is_blank (s ++ d ∷ r))) ≡ true = ap (λ l. quoted_may_end flow piece (s ++ l)) (sym i) ∙ may in
-        let on : goes_on_quoted flow piece (after is_blank (s ++ d ∷ r)) ≡ true = second _ _ (not_done s d r blanks unbroken solid k.2) may2 in
-        let at : after is_blank (s ++ d ∷ r) ≡ d ∷ r = after_blanks s (d ∷ r) blanks ∙ rw solid refl in
-        follows_by flow piece same d r stays (ap (λ l. goes_on_quoted flow piece l) (sym at) ∙ on)
-      where
-        none : (x y z : Bool) → not (x || (y && true) || z) ≡ true → (x ≡ false) × (y ≡ false) × (z ≡ false)
-        none x y z h = grind arith
-
-        second : (x y : Bool) → x ≡ false → (x || y) ≡ true → y ≡ true
-        second x y e h = grind arith
-
-    some : (l : List ℕ) → rest ≡ l → is_breakz (peek l) ≡ false → may_follow_quoted flow same (peek l) ≡ true
-    some a i g = grind (arith, nat_tests, goes_on, eqb-true)
-
-    by : (b : Bool) → is_breakz (peek rest) ≡ b → may_follow_quoted flow same (peek rest) ≡ true
-    by a g = grind (arith, or_left, rest, some)
+follows flow piece s rest same stays f h e may = grind (arith, nat_tests, blanks_alone, not_at_end, not_done, after_blanks, follows_by, eqb-true, or_left)
 
 -- ---- the check
 
@@ -97,27 +67,6 @@ follows flow piece s rest same stays f h e may = by (is_breakz (peek rest)) refl
 pub check_passes : (p : Position) (piece : List ℕ) (t : ScannerState) → t.held.position ≡ position_after p piece t.rest → quoted_may_end (in_flow t.held) piece t.rest ≡ true → Left (λ u. Unit {0}) (check_after_quoted p.line t)
 unfolding check_after_quoted
 check_passes p piece t is may =
+    let checked : ScannerState → Result ScannerState Fault = λ u. (if may_follow_quoted (in_flow u.held) (p.line == u.held.position.line) (peek u.rest) then Ok u else Err (At problem.ContentAfterQuoted u.held.position)) in
     let u : Left (Spaced Yes t) (skip_spaces Yes t) = skipped t (unglued (in_flow t.held) piece t.rest may) in
-    subst (λ y. Left (λ z. Unit {0}) (y >>= checked)) (sym u.is) (by u.value u.holds)
-  where
-    checked : ScannerState → Result ScannerState Fault
-    checked u = (if may_follow_quoted (in_flow u.held) (p.line == u.held.position.line) (peek u.rest) then Ok u else Err (At problem.ContentAfterQuoted u.held.position))
-
-    by : (u : ScannerState) → Spaced Yes t u → Left (λ z. Unit {0}) (checked u)
-    by u s =
-        let g : List ℕ = s.blanks ++ s.comment in
-        let cut : t.rest ≡ g ++ u.rest = s.is_rest ∙ sym (append_assoc s.blanks s.comment u.rest) in
-        let end : Position = position_after p piece (g ++ u.rest) in
-        let here : u.held.position ≡ position_after end g u.rest = ap (λ h. h.position) s.is_held ∙ ap (λ q. position_after q g u.rest) (is ∙ ap (λ r. position_after p piece r) cut) in
-        let stays : has_break piece ≡ false → (p.line == u.held.position.line) ≡ true =
-        λ f.
-        let first : end.line ≡ p.line = same_line p piece (g ++ u.rest) (same_has_break piece ∙ f) in
-        let second : u.held.position.line ≡ end.line = ap (λ q. q.line) here ∙ same_line end g u.rest s.no_break in
-        equal p.line u.held.position.line (sym (second ∙ first)) in
-        let same_flow : in_flow t.held ≡ in_flow u.held = sym (ap in_flow s.is_held) in
-        let yes : may_follow_quoted (in_flow u.held) (p.line == u.held.position.line) (peek u.rest) ≡ true =
-        follows (in_flow u.held) piece g u.rest (p.line == u.held.position.line) stays s.is_filled s.no_break s.ends (subst (λ fl. quoted_may_end fl piece (g ++ u.rest) ≡ true) same_flow (subst (λ r. quoted_may_end (in_flow t.held) piece r ≡ true) cut may)) in
-        rw yes (record { value = u; is = refl; holds = tt })
-      where
-        equal : (m n : ℕ) → m ≡ n → (m == n) ≡ true
-        equal m n e = grind (arith, nat_tests, e)
+    subst (λ y. Left (λ z. Unit {0}) (y >>= checked)) (sym u.is) (grind (arith, nat_tests, eqb-true, append_assoc, same_line, same_has_break, follows))

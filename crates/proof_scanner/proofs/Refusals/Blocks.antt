@@ -1,5 +1,5 @@
 -- Faults of block scalars: the line is no header, or what stands after the scalar may not.
-use Rattle.proof_scanner.proofs.Common.{[], after_chars, allow_key, and_parts, ap, append-nil, are_empty, AreLines, arith, Arrives, At, begins_with, block, block_first, block_may_end, block_read, BlockRead, BlockStyle, body, Bool, Break, collection_of, columns, Err, false, Fault, fetch_block_scalar, Fits, folded, further_text, has_no_nul, header_of, Held, if◌then◌else◌, indicator_of, innermost, is_at_end, is_break, is_empty, is_in_line, is_literal, is_literal_style, is_nul, is_shallow, is_tabbed, IsBlockFault, leading_spaces, least_column, linebreak, lines_may_end, List, literal, nat_le, nat_lt, nat_tests, no_block, no_nul_after, None, not, Option, past, Position, position_after, Problem, read_body, read_lines, read_may_end, refl, refused_as, ScannerState, site_at_place, Some, spell, spell_more, split, split_spell, style_inner, subst, sym, tab, texts, true, unroll_non_block_indents, without_open, ℕ, ◌&&◌, ◌++◌, ◌||◌, ◌∙◌, ◌∷◌, ◌≡◌}
+use Rattle.proof_scanner.proofs.Common.{[], after_chars, allow_key, and_parts, ap, append-nil, are_empty, AreLines, arith, Arrives, At, begins_with, block, block_first, block_may_end, block_read, BlockRead, BlockStyle, body, Bool, Break, collection_of, columns, Err, false, Fault, fetch_block_scalar, folded, further_text, has_no_nul, header_of, Held, if◌then◌else◌, indicator_of, innermost, is_at_end, is_break, is_empty, is_in_line, is_literal, is_literal_style, is_nul, is_shallow, is_tabbed, IsBlockFault, leading_spaces, least_column, linebreak, List, literal, nat_le, nat_lt, nat_tests, no_block, no_nul_after, None, not, Option, past, Position, position_after, Problem, read_body, read_lines, read_may_end, refl, refused_as, ScannerState, Some, spell, spell_more, split, split_spell, style_inner, subst, sym, tab, texts, true, unroll_non_block_indents, ℕ, ◌&&◌, ◌++◌, ◌||◌, ◌∙◌, ◌∷◌, ◌≡◌, eqb-true, cases_Bool, inl, inr}
 use Rattle.model_scanner.specs.declared.kind.BlockStyle as kind
 use Rattle.model_scanner.specs.declared.kind.BlockStyle.TheVariants.{Literal, Folded}
 use Rattle.defs_text.specs.BlockScalar as defs
@@ -12,25 +12,18 @@ use Rattle.proof_lexers.proofs.Blocks.Written.{Line, put}
 use Rattle.proof_scanner.proofs.Cut.Pieces.Quoted.{some_chars}
 use Rattle.proof_scanner.proofs.Cut.Saved.{saved_keys, saved_is}
 use Rattle.proof_scanner.proofs.Sound.BlockEnds.{IsLeast, Written, written}
-use Rattle.proof_scanner.proofs.Sound.WithoutOpen.{AreClosed, without_is}
+use Rattle.proof_scanner.proofs.Sound.WithoutOpen.{without_is}
 use Rattle.proof_scanner.proofs.Refusals.AfterBlocks.{block_is_clear, lines_asked, lines_written}
 use Rattle.proof_scanner.specs.NoPiece as none
 use Rattle.proof_scanner.proofs.Refusals.Faults.{Faults, goes, read}
 use Rattle.proof_scanner.proofs.Refusals.TextsRefused.{header_alone}
-use Rattle.proof_scanner.proofs.Refusals.Places.{Said, IsWhy, LiesDeep, account_by, stuck, in_flow_is, blocks_by, looked_at, none_begins, none_here}
+use Rattle.proof_scanner.proofs.Refusals.Places.{Said, IsWhy, LiesDeep, looked_at, none_begins, none_here, stuck_by}
 
 -- ---- texts
 
 inner_first : (a b : List ℕ) → is_in_line (a ++ b) ≡ true → is_in_line a ≡ true
 inner_first [] b h = refl
 inner_first (c ∷ a) b h = let parts = and_parts (not (is_break c)) (is_in_line (a ++ b)) h in rw parts.0 (inner_first a b parts.1)
-
--- the position after characters of a line
-along_text : (style : BlockStyle) (before rest : List ℕ) (p : Position) → is_in_line before ≡ true → headers.along before (past p) ≡ position_after p (indicator_of style ∷ before) rest
-along_text style before rest p inner = sym (after_chars (indicator_of style ∷ before) [] rest p (style_inner style before inner)) ∙ ap (λ w. position_after p w rest) (append-nil (indicator_of style ∷ before))
-
-tab_first : (r : List ℕ) → begins_with tab r ≡ true → (m : List ℕ) × (r ≡ tab ∷ m)
-tab_first a h = grind arith
 
 -- a break, and a TAB after it
 record TabAfter (after : List ℕ) : Type 0 where
@@ -42,9 +35,6 @@ tab_after : (after : List ℕ) (p : Position) → headers.ends_line after ≡ tr
 unfolding is_break
 tab_after a p e h = grind arith
 
-fits_alone : (k : Break) → Fits k []
-fits_alone a = grind arith
-
 -- a fault that comes first
 abbrev FirstFault : (collection : List ℕ) (here : Position) (text : List ℕ) (why : Problem) (at : Position) → Type 0
 FirstFault collection here text why at = (x : IsBlockFault collection here text why at) × block_first collection here text why at x
@@ -54,23 +44,22 @@ FirstFault collection here text why at = (x : IsBlockFault collection here text 
 tab_fault : (collection : List ℕ) (here : Position) (text header next : List ℕ) (k : Break) (h : defs.Header) → text ≡ header ++ put k (tab ∷ next) → is_in_line header ≡ true → header_of header ≡ Some h → FirstFault collection here text problem.BlockScalarTab here
 tab_fault collection here text header next k h e inner is =
     let ls : List Line = record { text = header; by = k } ∷ [] in
-    (none.by_tab (spell ls []) header next h (e ∙ sym (spell_more ls [] (tab ∷ next))) (split_spell ls [] (inner, fits_alone k, tt) refl) is, tt)
+    (none.by_tab (spell ls []) header next h (e ∙ sym (spell_more ls [] (tab ∷ next))) (split_spell ls [] (inner, (grind arith), tt) refl) is, tt)
 
 -- the same by the piece that is the header
 piece_tab_fault : (collection : List ℕ) (o : Option ℕ) (here : Position) (text piece next : List ℕ) (b : BlockRead) → text ≡ piece ++ next → block_read o piece next ≡ Some b → is_tabbed piece next ≡ true → FirstFault collection here text problem.BlockScalarTab here
 unfolding is_nul
 piece_tab_fault collection o here text piece next b e is tabbed =
     let q = and_parts (scan.is_single (split piece).complete) (begins_with tab next) tabbed in
-    by (tab_first next q.1) q.0
+    by (grind arith) q.0
   where
     by : (m : List ℕ) × (next ≡ tab ∷ m) → scan.is_single (split piece).complete ≡ true → FirstFault collection here text problem.BlockScalarTab here
-    by m single = from w.header w.lines w.is w.are
+    by m single =
+        let w : Written piece next = written o piece next b is further in
+        from w.header w.lines w.is w.are
       where
         further : is_at_end next ≡ false
         further = ap is_at_end m.1
-
-        w : Written piece next
-        w = written o piece next b is further
 
         from : (l : Line) (ls : List Line) → piece ≡ spell (l ∷ ls) [] → AreLines (l ∷ ls) [] → FirstFault collection here text problem.BlockScalarTab here
         from l (x ∷ ls) is_piece are =
@@ -80,41 +69,32 @@ piece_tab_fault collection o here text piece next b e is tabbed =
             lines_are : split piece ≡ record { complete = l.text ∷ []; last = [] }
             lines_are = ap split is_piece ∙ split_spell (l ∷ []) [] are refl
 
-            read_is : read_body (header_of l.text) o (body [] further_text) next ≡ Some b
-            read_is = ap (λ x. read_lines o (l.text ∷ []) [] next x) (sym further) ∙ (ap (λ s. read_lines o s.complete s.last next (is_at_end next)) (sym lines_are) ∙ is)
-
             alone : (y : Option defs.Header) → header_of l.text ≡ y → FirstFault collection here text problem.BlockScalarTab here
-            alone None i = absurd (cc (read_is, ap (λ y. read_body y o (body [] further_text) next) i))
+            alone None i = absurd (cc ((ap (λ x. read_lines o (l.text ∷ []) [] next x) (sym further) ∙ (ap (λ s. read_lines o s.complete s.last next (is_at_end next)) (sym lines_are) ∙ is)), ap (λ y. read_body y o (body [] further_text) next) i))
             alone (Some h) i = (none.by_tab piece l.text m.0 h (e ∙ ap (λ r. piece ++ r) m.1) lines_are i, tt)
 
 -- ---- what stands after a scalar without content
 
+untabbed_by : (h : List ℕ) (ls : List (List ℕ)) (t : Bool) → (scan.is_single (h ∷ ls) && t) ≡ false → not (is_empty ls && t) ≡ true
+untabbed_by h ls t i = grind arith
+
+rest_fails : (t y l d : Bool) → t ≡ true → (t && (not y || l || d)) ≡ false → (y ≡ true) × (l ≡ false) × (d ≡ false)
+rest_fails t y l d e k = grind arith
+
 column_fault : (indent : ℕ) (bs : List ℕ) (here : Position) (text piece next : List ℕ) (b : BlockRead) → IsLeast indent bs → text ≡ piece ++ next → has_no_nul next ≡ true → block_read (collection_of indent) piece next ≡ Some b → is_tabbed piece next ≡ false → is_shallow indent here b piece next ≡ true
     → FirstFault bs here text problem.BlockScalarIndentation (scan.further_position here piece next)
-column_fault indent bs here text piece next b least e clean is untabbed low = by (is_at_end next) refl (refused (block_may_end bs piece next) refl)
+column_fault indent bs here text piece next b least e clean is untabbed low = by (is_at_end next) refl (elim (cases_Bool (block_may_end bs piece next)) [ inl i ↦ absurd (cc ((block_is_clear indent here b piece next bs least is clean i).deep, low)) | inr i ↦ i ])
   where
-    refused : (x : Bool) → block_may_end bs piece next ≡ x → block_may_end bs piece next ≡ false
-    refused false i = i
-    refused true i = absurd (cc ((block_is_clear indent here b piece next bs least is clean i).deep, low))
-
     by : (x : Bool) → is_at_end next ≡ x → (x || read_may_end bs (block_read (innermost bs) piece next) piece next) ≡ false → FirstFault bs here text problem.BlockScalarIndentation (scan.further_position here piece next)
     by true further k = absurd (cc k)
-    by false further k = parts (not (is_empty (texts w.lines) && begins_with tab next)) (are_empty b.column (texts w.lines)) (nat_lt (leading_spaces next) (least_column bs true)) (nat_le b.column (leading_spaces next)) refl refl refl refl asked
+    by false further k =
+        let w : Written piece next = written (collection_of indent) piece next b is further in
+        let no_tab : not (is_empty (texts w.lines) && begins_with tab next) ≡ true = untabbed_by w.header.text (texts w.lines) (begins_with tab next) (ap (λ x. scan.is_single x && begins_with tab next) (sym (lines_written piece next w)) ∙ untabbed) in
+        let q = rest_fails (not (is_empty (texts w.lines) && begins_with tab next)) (are_empty b.column (texts w.lines)) (nat_lt (leading_spaces next) (least_column bs true)) (nat_le b.column (leading_spaces next)) no_tab (lines_asked indent b piece next bs least is w ∙ k) in
+        (none.by_column piece w.header.text next (texts w.lines) b e read_here further (lines_written piece next w) q.0 (grind (arith, nat_tests, q)) (grind (arith, nat_tests, q)), no_tab_fault)
       where
-        w : Written piece next
-        w = written (collection_of indent) piece next b is further
-
         read_here : block_read (innermost bs) piece next ≡ Some b
         read_here = ap (λ c. block_read c piece next) (sym least.0) ∙ is
-
-        asked : lines_may_end bs b.column (w.header.text ∷ texts w.lines) next ≡ false
-        asked = lines_asked indent b piece next bs least is w ∙ k
-
-        untabbed_by : (h : List ℕ) (ls : List (List ℕ)) (t : Bool) → (scan.is_single (h ∷ ls) && t) ≡ false → not (is_empty ls && t) ≡ true
-        untabbed_by h ls t i = grind arith
-
-        no_tab : not (is_empty (texts w.lines) && begins_with tab next) ≡ true
-        no_tab = untabbed_by w.header.text (texts w.lines) (begins_with tab next) (ap (λ x. scan.is_single x && begins_with tab next) (sym (lines_written piece next w)) ∙ untabbed)
 
         -- no TAB stands after the header
         no_tab_fault : (place : Position) → IsBlockFault bs here text problem.BlockScalarTab place → ⊥
@@ -123,36 +103,21 @@ column_fault indent bs here text piece next b least e clean is untabbed low = by
             let tabbed : is_tabbed piece next ≡ true = rw (alone.0, alone.1, one) refl in
             cc (tabbed, untabbed)
 
-        parts : (t y l d : Bool) → not (is_empty (texts w.lines) && begins_with tab next) ≡ t → are_empty b.column (texts w.lines) ≡ y → nat_lt (leading_spaces next) (least_column bs true) ≡ l → nat_le b.column (leading_spaces next) ≡ d → (t && (not y || l || d)) ≡ false
-            → FirstFault bs here text problem.BlockScalarIndentation (scan.further_position here piece next)
-        parts false y l d f g i j k = absurd (cc (f, no_tab))
-        parts true false l d f g i j k = absurd (cc k)
-        parts true true true d f g i j k = absurd (cc k)
-        parts true true false true f g i j k = absurd (cc k)
-        parts true true false false f g i j k = (none.by_column piece w.header.text next (texts w.lines) b e read_here further (lines_written piece next w) g (grind (arith, nat_tests, i)) (grind (arith, nat_tests, j)), no_tab_fault)
-
 -- ---- the scan
 
 module _ (text : List ℕ) (t : ScannerState) (a : Arrives text t) (some : is_empty t.rest ≡ false) (lies : LiesDeep t) (out : is_empty t.held.flow ≡ true) where
   abbrev collections : List ℕ
   collections = columns t.held.indent t.held.indents
 
-  -- the levels without those that open no collection
-  closed : AreClosed t.held.indent t.held.indents t.held.tokens (without_open t.held.indent t.held.indents t.held.tokens)
-  closed = without_is t.held.indent t.held.indents t.held.tokens a.are_levels
-
   least : (s : Held) → s ≡ record t.held { keys = saved_keys t.held } → IsLeast (unroll_non_block_indents (allow_key true s)).indent collections
   unfolding unroll_non_block_indents
-  least s e =
-      subst (λ h. IsLeast (unroll_non_block_indents (allow_key true h)).indent collections) (sym e)
-      (closed.is_least.0 ∙ ap innermost (sym closed.same_columns), ap (λ bs. least_column bs true) closed.same_columns ∙ closed.is_least.1)
+  least s e = grind (arith, nat_tests, eqb-true, (without_is t.held.indent t.held.indents t.held.tokens a.are_levels))
 
   -- the block scalar that begins here may not stand
   block_stuck : (why : Problem) (at : Position) → FirstFault collections t.held.position t.rest why at → IsWhy text why at
   block_stuck why at x =
-      stuck text t a some [] why at (λ c may.
-      let moved : FirstFault (site_at_place (account_by text t a some c []) t.held.position).blocks t.held.position t.rest why at = subst (λ bs. FirstFault bs t.held.position t.rest why at) (sym (blocks_by text t a some c [])) x in
-      record { fails = no_block (in_flow_is text t a some c [] ∙ ap not out) moved.0; is_first = (looked_at text t a some lies c [], moved.1) })
+      stuck_by text t a some why at (λ b bs k. (l : b ≡ false) × (y : IsBlockFault bs t.held.position t.rest why at) × block_first bs t.held.position t.rest why at y) (ap not out, x.0, x.1)
+      (λ c may m. record { fails = no_block m.0 m.1; is_first = (looked_at text t a some lies c [], m.2) })
 
   -- `|` or `>`
   header_told : (style : BlockStyle) (line after : List ℕ) → t.rest ≡ indicator_of style ∷ (line ++ after) → is_in_line line ≡ true → headers.ends_line after ≡ true → (g : Fault) → headers.IsHeaderRefusal t.held.position style line after g → Said text g
@@ -163,7 +128,8 @@ module _ (text : List ℕ) (t : ScannerState) (a : Arrives text t) (some : is_em
   header_told style line after e inline ends g (headers.zero_digit lacks zero) =
       λ _. none_here text t a some lies problem.BlockScalarZero (none.headless style line after problem.BlockScalarZero t.held.position (ap not out) e inline ends lacks (none.by_zero zero)) tt
   header_told style line after e inline ends g (headers.comment h before more lacks is cut) =
-      let place : headers.along before (past t.held.position) ≡ position_after t.held.position (indicator_of style ∷ before) (35 ∷ more) = along_text style before (35 ∷ more) t.held.position (inner_first before (35 ∷ more) (ap is_in_line (sym cut) ∙ inline)) in
+      let place : headers.along before (past t.held.position) ≡ position_after t.held.position (indicator_of style ∷ before) (35 ∷ more) =
+      (sym (after_chars (indicator_of style ∷ before) [] (35 ∷ more) t.held.position (style_inner style before (inner_first before (35 ∷ more) (ap is_in_line (sym cut) ∙ inline)))) ∙ ap (λ w. position_after t.held.position w (35 ∷ more)) (append-nil (indicator_of style ∷ before))) in
       subst (λ p. Said text (At problem.CommentNotSeparated p)) (sym place)
       (λ _. none_begins text t a some lies problem.CommentNotSeparated _
       (none.headless style line after problem.CommentNotSeparated _ (ap not out) e inline ends lacks (none.by_comment h before more is cut)) tt)
@@ -172,11 +138,8 @@ module _ (text : List ℕ) (t : ScannerState) (a : Arrives text t) (some : is_em
 
   block_refused : (style : BlockStyle) (indent : ℕ) (more : List ℕ) → t.rest ≡ indicator_of style ∷ more → IsLeast indent collections → (f : Fault) → block (is_literal_style style) indent t.rest t.held.position ≡ Err f → Said text f
   block_refused style indent more e deep f k =
-      by f (refused_as (ap (λ r. block (is_literal_style style) indent r t.held.position) (sym e) ∙ k) (blocks.scans_end style indent more t.held.position (some_chars more clean)))
+      by f (refused_as (ap (λ r. block (is_literal_style style) indent r t.held.position) (sym e) ∙ k) (blocks.scans_end style indent more t.held.position (some_chars more ((and_parts (not (is_nul (indicator_of style))) (has_no_nul more) (subst (λ r. has_no_nul r ≡ true) e a.is_clean)).1))))
     where
-      clean : has_no_nul more ≡ true
-      clean = (and_parts (not (is_nul (indicator_of style))) (has_no_nul more) (subst (λ r. has_no_nul r ≡ true) e a.is_clean)).1
-
       by : (g : Fault) → block_ends.IsBlockRefusal style indent t.held.position more g → Said text g
       by g (block_ends.bad_header line after cut inline ends why) = header_told style line after (e ∙ ap (λ r. indicator_of style ∷ r) cut) inline ends g why
       by g (block_ends.after_piece piece next b it (scan.shallow free low)) =

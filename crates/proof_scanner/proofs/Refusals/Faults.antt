@@ -1,5 +1,5 @@
 -- What holds of the fault of a step, if it has one: rules for the forms that the model's functions are made of.
-use Rattle.proof_scanner.proofs.Common.{Bool, Err, false, Fault, go_on, Held, if◌then◌else◌, lexed, Ok, Read, refl, Result, ScannerState, subst, true, with_held, ◌>>=◌, ◌≡◌, sym}
+use Rattle.proof_scanner.proofs.Common.{Bool, Err, false, Fault, go_on, Held, if◌then◌else◌, lexed, Ok, Read, refl, Result, ScannerState, subst, true, with_held, ◌>>=◌, ◌≡◌, sym, arith, eqb-true, nat_tests}
 
 -- F holds of the fault, if there is one
 pub data Faults (F : Fault → Type 0) {A : Type 0} : Result A Fault → Type 0 where
@@ -32,5 +32,8 @@ checked true f p h = fault (p refl)
 checked false f p h = h refl
 
 pub either : {F : Fault → Type 0} {A : Type 0} {r q : Result A Fault} (b : Bool) → (b ≡ true → Faults F r) → (b ≡ false → Faults F q) → Faults F (if b then r else q)
-either true h g = h refl
-either false h g = g refl
+either a h g = grind (arith, nat_tests, eqb-true)
+
+pub mapped : {F G : Fault → Type 0} {A : Type 0} {r : Result A Fault} → ((f : Fault) → F f → G f) → Faults F r → Faults G r
+mapped h (fault p) = fault (h _ p)
+mapped h goes = goes

@@ -1,16 +1,15 @@
 -- The faults of a fetch: each of a kind that is told is one by which the text is stuck.
-use Rattle.proof_scanner.proofs.Common.{[], ap, are_marks, AreLevels, arith, Arrives, At, before_by, before_past, begins_document_at, begins_with, Bool, columns, eqb-true, false, fetch_content, fetch_here, fetch_stream_end, fetch_token, gives_node, has_open_level, has_required, Indent, inl, inr, is_adjacent, is_document_marker, is_empty, least_column, List, may_not_stand, nat_le, nat_lt, nat_tests, next_line, not, peek, refl, ScannerState, site_at_place, site_here, site_in, subst, sym, Tok, true, ℕ, ◌&&◌, ◌+◌, ◌==◌, ◌||◌, ◌∙◌, ◌∷◌, ◌≡◌, ◌≤◌}
+use Rattle.proof_scanner.proofs.Common.{ap, are_marks, arith, Arrives, At, before_by, before_past, begins_document_at, begins_with, columns, eqb-true, false, fetch_content, fetch_here, fetch_stream_end, fetch_token, has_open_level, has_required, inl, inr, is_adjacent, is_document_marker, is_empty, List, may_not_stand, nat_le, nat_lt, nat_tests, next_line, not, peek, refl, ScannerState, site_here, subst, sym, Tok, true, ℕ, ◌&&◌, ◌+◌, ◌==◌, ◌||◌, ◌∙◌, ◌≡◌, ◌≤◌, cases_Bool}
 use Rattle.yaml_tokens.specs.declared.problem.Problem.TheVariants as problem
 use Rattle.model_scanner.specs.declared.kind.Collection.TheVariants.{Sequence, Mapping}
 use Rattle.model_scanner.specs.State.{after}
 use Rattle.proof_scanner.proofs.Cut.Nodes.{IsDeep}
 use Rattle.proof_scanner.proofs.Cut.Dispatch.{token_holds, content_holds}
 use Rattle.proof_scanner.proofs.Cut.Fetched.{no_end, goes_on_here}
-use Rattle.proof_scanner.proofs.Sound.Passed.{least_of_levels}
 use Rattle.proof_scanner.proofs.Refusals.Levels.{levels_end}
 use Rattle.proof_scanner.specs.Failing as defs
 use Rattle.proof_scanner.proofs.Refusals.Faults.{Faults, fault, tried, either}
-use Rattle.proof_scanner.proofs.Refusals.Places.{IsRowless, Said, IsWhy, LiesDeep, account_by, rowless_told, stuck, in_flow_is, none_here}
+use Rattle.proof_scanner.proofs.Refusals.Places.{IsRowless, Said, IsWhy, LiesDeep, rowless_told, none_here, stuck_by}
 use Rattle.proof_scanner.proofs.Refusals.Nodes.{name_told, tag_told, quoted_told}
 use Rattle.proof_scanner.proofs.Refusals.Blocks.{block_told}
 use Rattle.proof_scanner.proofs.Refusals.Plains.{plain_told}
@@ -23,6 +22,7 @@ module _ (text : List ℕ) (t : ScannerState) (a : Arrives text t) (some : is_em
 
   token_told : IsDeep t.held → ((t.held.position.col == 0) && is_document_marker t.rest) ≡ false → (t.held.position.col ≡ 0 → (peek t.rest == 37) ≡ false) → Faults (Said text) (fetch_token t)
   token_told deep marker percent =
+      let lies : LiesDeep t = λ _. deep in
       token_holds (Faults (Said text)) t (is_adjacent (before_past (before_by a.base.site.before) a.separation)) a.is_clean a.is_solid (λ inside. sym (a.is_adjacent_here inside some)) marker (record {
         anchor = λ kind more e. name_told text t a some lies kind more e;
         tag = λ more e. tag_told text t a some lies more e;
@@ -37,60 +37,36 @@ module _ (text : List ℕ) (t : ScannerState) (a : Arrives text t) (some : is_em
         close_bracket = λ more e. closing_told text t a some lies Sequence 93 more e (inl refl);
         close_brace = λ more e. closing_told text t a some lies Mapping 125 more e (inr refl);
         comma = λ more e. comma_told text t a some lies more e;
-        percent = λ more e. fault {f = At problem.UnexpectedPercent t.held.position} (λ _. none_here text t a some lies problem.UnexpectedPercent (none.percent more e (no_column more e)) tt);
+        percent = λ more e. fault {f = At problem.UnexpectedPercent t.held.position} (λ _. none_here text t a some lies problem.UnexpectedPercent (none.percent more e (grind (arith, percent, eqb-true))) tt);
         at_sign = λ more e. fault {f = At problem.UnexpectedAt t.held.position} (λ _. none_here text t a some lies problem.UnexpectedAt (none.at_sign more e) tt);
         backtick = λ more e. fault {f = At problem.UnexpectedBacktick t.held.position} (λ _. none_here text t a some lies problem.UnexpectedBacktick (none.backtick more e) tt);
       }) some
-    where
-      lies : LiesDeep t
-      lies _ = deep
-
-      no_column : (more : List ℕ) → t.rest ≡ 37 ∷ more → (t.held.position.col == 0) ≡ false
-      no_column more e = grind (arith, percent, eqb-true)
 
   -- ---- columns
 
-  least_here : (i : ℕ) (ds : List Indent) → AreLevels i ds → nat_lt (t.held.position.col + 1) i ≡ true → nat_le (least_column (columns i ds) (has_open_level ds)) t.held.position.col ≡ false
-  least_here i a l b = grind (arith, least_of_levels)
-
-  no_line : ((t.held.position.col == 0) && is_document_marker t.rest) ≡ false → (t.held.position.col ≡ 0 → (peek t.rest == 37) ≡ false) → begins_document_at t.held.position t.rest ≡ false
-  no_line none percent = grind arith
-
   shallow : begins_document_at t.held.position t.rest ≡ false → nat_lt (t.held.position.col + 1) t.held.indent ≡ true → IsWhy text problem.InvalidIndentation t.held.position
-  shallow none low = by (is_empty t.held.flow) refl
-    where
-      by : (out : Bool) → is_empty t.held.flow ≡ out → IsWhy text problem.InvalidIndentation t.held.position
-      by true e =
-          let deep : t.held.indent ≤ t.held.position.col + 1 = levels_end t.held.position.col a.base.site.blocks a.base.site.awaits t.held.indent t.held.indents a.are_levels
-          (subst (λ b. (site_here (not b) t.held.position a.base.site).blocks ≡ columns t.held.indent t.held.indents) e a.blocks_are)
-          (subst (λ b. (site_here (not b) t.held.position a.base.site).awaits ≡ has_open_level t.held.indents) e a.awaits_is) in
-          absurd (grind (arith, nat_tests, deep, low))
-      by false e =
-          stuck text t a some [] problem.InvalidIndentation t.held.position (λ c may.
-          let flow_is = in_flow_is text t a some c [] in
-          let blocks_are : (site_at_place (account_by text t a some c []) t.held.position).blocks ≡ columns t.held.indent t.held.indents = ap (λ b. (site_in b gives_node t.held.position a.base.site).blocks) flow_is ∙ a.blocks_are in
-          let awaits_is : (site_at_place (account_by text t a some c []) t.held.position).awaits ≡ has_open_level t.held.indents = ap (λ b. (site_in b gives_node t.held.position a.base.site).awaits) flow_is ∙ a.awaits_is in
-          record {
-            is_first = a.is_indented some;
-            fails = may_not_stand (defs.shallow (flow_is ∙ ap not e) none
-                (ap (λ bs. nat_le (least_column bs (site_at_place (account_by text t a some c []) t.held.position).awaits) t.held.position.col) blocks_are ∙
-                (ap (λ w. nat_le (least_column (columns t.held.indent t.held.indents) w) t.held.position.col) awaits_is ∙ least_here t.held.indent t.held.indents a.are_levels low)));
-          })
+  shallow none low = elim (cases_Bool (is_empty t.held.flow)) [
+    | inl e ↦
+        let deep : t.held.indent ≤ t.held.position.col + 1 = levels_end t.held.position.col a.base.site.blocks a.base.site.awaits t.held.indent t.held.indents a.are_levels
+        (subst (λ b. (site_here (not b) t.held.position a.base.site).blocks ≡ columns t.held.indent t.held.indents) e a.blocks_are)
+        (subst (λ b. (site_here (not b) t.held.position a.base.site).awaits ≡ has_open_level t.held.indents) e a.awaits_is) in
+        absurd (grind (arith, nat_tests, deep, low))
+    | inr e ↦
+        stuck_by text t a some problem.InvalidIndentation t.held.position (λ b bs k. (b ≡ true) × (nat_le k t.held.position.col ≡ false)) (ap not e, grind (arith, nat_tests, low))
+        (λ c may m. record { is_first = a.is_indented some; fails = may_not_stand (defs.shallow m.0 none m.1) })
+  ]
 
   content_told : Faults (Said text) (fetch_content t)
   unfolding are_marks
   content_told =
+      let document_line : t.held.position.col ≡ 0 → (begins_with 37 t.rest || is_document_marker t.rest) ≡ true → LiesDeep t = λ col begins none. grind arith in
       content_holds (Faults (Said text)) t some (record {
         directive = λ e col. directive_told text t a some (document_line col (ap (λ r. begins_with 37 r || is_document_marker r) e)) (after t.rest) e col;
         document_start = λ more e gap col. marker_told text t a some (document_line col (ap (λ r. begins_with 37 r || is_document_marker r) e ∙ rw gap refl)) Tok.document_start col;
         document_end = λ more e gap col. document_end_told text t a some (document_line col (ap (λ r. begins_with 37 r || is_document_marker r) e ∙ rw gap refl)) more e gap col;
-        shallow = λ n low. fault {f = At problem.InvalidIndentation t.held.position} (λ _. shallow (no_line n.0 n.1) low);
+        shallow = λ n low. fault {f = At problem.InvalidIndentation t.held.position} (λ _. shallow (grind arith) low);
         token = λ n deep. token_told deep n.0 n.1;
       })
-    where
-      -- a line for the document may lie in any column
-      document_line : t.held.position.col ≡ 0 → (begins_with 37 t.rest || is_document_marker t.rest) ≡ true → LiesDeep t
-      document_line col begins none = grind arith
 
 -- ---- the text's end
 

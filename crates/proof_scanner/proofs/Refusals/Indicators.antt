@@ -1,5 +1,5 @@
 -- Faults of indicators, markers and directives.
-use Rattle.proof_scanner.proofs.Common.{[], allow_key, and_false, and_parts, ap, append_assoc, AreEntries, arith, Arrives, At, before_by, before_past, begin_flow, begin_key, begin_keyless_mapping, begin_keyless_pair, begin_keyless_value, begin_line, begin_pair, begins_entry, begins_free_line, begins_with, begins_with_alpha, begins_with_space_or_break, blanks_and_comment, Bool, check_after_tab, check_block_entry, check_dash, check_document_end, check_key_space, check_value_space, chosen, closed_key, Collection, colon_may_precede, deepened_flow, directive_of, directives_end, end_entry, end_flow, ended_flow, entries_by, Entry, eqb-true, Err, false, Fault, fetch_block_entry, fetch_directive, fetch_document_end, fetch_document_marker, fetch_flow_collection_end, fetch_flow_collection_start, fetch_flow_entry, fetch_key, fetch_value, flow_level, FlowLevel, followed_first, free, further, go_on, has, has_no_break, HasNoKey, HasSpaces, Held, held_of, Holds, if◌then◌else◌, in_flow, increase_flow_level, inl, inr, insert_key, is_adjacent, is_alphanumeric, is_at_gap, is_blank, is_blank_or_breakz, is_breakz, is_empty, is_free, is_full, is_one_of, is_required, is_separation, is_taken, is_taken_line, is_value, is_value_here, is_value_indicator, IsDirectiveRefusal, IsFollowed, IsLineHere, IsLookedAt, IsOpenOutside, IsPlace, Key, leading, length, lexed, Line, line_by, line_past_separation, List, may_ask, may_not_stand, MayChoose, nat_le, nat_lt, nat_tests, next_entry, No, no_key, None, not, not-false, not-true, Ok, on_held, opens, opens_pair, Option, or_true, OutOfMemory, outside_key, paired, pass_indicator, past, past_blanks_and_comment, past_line_rest, peek, Position, position_after, Problem, Read, read_as, refl, refused_as, remove_implicit_key, Result, roll_entry, roll_indent, roll_one_col_indent, same_alpha, ScannerState, skip_indicator, skip_yaml_whitespace, slice_index, Some, space, spaces_are_passed, subst, suc, sym, taken, takes_pair, Tok, top_key, true, try_held, unroll_indent, waits, white, Whitespace, Yes, ℕ, ◌&&◌, ◌++◌, ◌-◌, ◌==◌, ◌||◌, ◌∙◌, ◌∷◌, ◌≡◌, ◌≤◌, ◌⊎◌}
+use Rattle.proof_scanner.proofs.Common.{[], allow_key, and_false, and_parts, ap, append_assoc, AreEntries, arith, Arrives, At, begin_flow, begin_key, begin_keyless_mapping, begin_keyless_pair, begin_keyless_value, begin_line, begin_pair, begins_entry, begins_free_line, begins_with, begins_with_alpha, begins_with_space_or_break, blanks_and_comment, Bool, check_after_tab, check_block_entry, check_dash, check_document_end, check_key_space, check_value_space, chosen, closed_key, Collection, colon_may_precede, deepened_flow, directive_of, directives_end, end_entry, end_flow, ended_flow, entries_by, Entry, eqb-true, Err, false, Fault, fetch_block_entry, fetch_directive, fetch_document_end, fetch_document_marker, fetch_flow_collection_end, fetch_flow_collection_start, fetch_flow_entry, fetch_key, fetch_value, flow_level, FlowLevel, followed_first, free, further, go_on, has, has_no_break, HasNoKey, HasSpaces, Held, held_of, Holds, if◌then◌else◌, in_flow, increase_flow_level, inl, inr, insert_key, is_alphanumeric, is_at_gap, is_blank, is_blank_or_breakz, is_breakz, is_empty, is_free, is_full, is_one_of, is_required, is_separation, is_taken, is_taken_line, is_value, is_value_here, IsDirectiveRefusal, IsFollowed, IsLineHere, IsLookedAt, IsOpenOutside, IsPlace, Key, leading, length, lexed, Line, line_by, line_past_separation, List, may_ask, may_not_stand, MayChoose, nat_le, nat_lt, nat_tests, next_entry, No, no_key, None, not, not-false, not-true, Ok, on_held, opens, opens_pair, Option, or_true, OutOfMemory, outside_key, paired, pass_indicator, past, past_blanks_and_comment, past_line_rest, peek, Position, position_after, Problem, Read, read_as, refl, refused_as, remove_implicit_key, Result, roll_entry, roll_indent, roll_one_col_indent, same_alpha, ScannerState, skip_indicator, skip_yaml_whitespace, slice_index, Some, space, spaces_are_passed, subst, suc, sym, taken, takes_pair, Tok, top_key, true, try_held, unroll_indent, waits, white, Whitespace, Yes, ℕ, ◌&&◌, ◌++◌, ◌-◌, ◌==◌, ◌||◌, ◌∙◌, ◌∷◌, ◌≡◌, ◌≤◌, ◌⊎◌}
 use Rattle.defs_text.specs.Tags as tags
 use Rattle.defs_token.specs.FlowEntry as entry
 use Rattle.yaml_tokens.specs.declared.problem.Problem.TheVariants as problem
@@ -15,7 +15,7 @@ use Rattle.proof_scanner.proofs.Sound.Arrivals as arrivals
 use Rattle.proof_scanner.proofs.Sound.Stales.{no_entries}
 use Rattle.proof_scanner.proofs.Sound.DocumentLines.{line_begun}
 use Rattle.proof_scanner.proofs.Cut.Dispatch.{gap_here, value_is}
-use Rattle.proof_scanner.proofs.Cut.Levels.{one_indents, one_indent, rolled_one_is}
+use Rattle.proof_scanner.proofs.Cut.Levels.{rolled_one_is}
 use Rattle.proof_scanner.proofs.Cut.Passes.{Spaced, spaced, spaces_skipped}
 use Rattle.proof_scanner.proofs.Sound.QuotedEnds.{not_at_end}
 use Rattle.proof_scanner.proofs.Sound.Blanks.{same_in_line, line_rest_in_line, line_rest_cut, line_rest_fills, found_in, spaced_parted}
@@ -83,26 +83,17 @@ module _ (text : List ℕ) (t : ScannerState) (a : Arrives text t) (some : is_em
       → (x : IsFollowed (in_flow t.held) t.held.position t.rest why (position_after p passed content)) → HasFirst why (position_after p passed content) x → Said text (At why q)
   followed_at why q p passed content e x first = λ _. subst (λ z. IsWhy text why z) (sym e) (followed_stuck text t a some lies why (position_after p passed content) x first)
 
-  three_past : (p : Position) → past (past (past p)) ≡ further 3 p
-  three_past p = grind arith
-
   marked_state : (tok : Tok) (c : ℕ) (more : List ℕ) → t.rest ≡ c ∷ c ∷ c ∷ more → Holds (λ u. (u.rest ≡ more) × (u.held.position ≡ further 3 t.held.position)) (fetch_document_marker tok t)
   unfolding fetch_document_marker
-  marked_state tok c more e = holds.chained (line_stays t) (λ u s. holds.went (ap (λ r. after (after (after r))) (s.0 ∙ e), ap (λ p. past (past (past p))) s.1 ∙ three_past t.held.position))
+  marked_state tok c more e = holds.chained (line_stays t) (λ u s. holds.went (ap (λ r. after (after (after r))) (s.0 ∙ e), ap (λ p. past (past (past p))) s.1 ∙ (grind arith)))
 
   end_checked : (u v : ScannerState) (more : List ℕ) → t.rest ≡ 46 ∷ 46 ∷ 46 ∷ more → is_at_gap more ≡ true → t.held.position.col ≡ 0 → (u.rest ≡ more) × (u.held.position ≡ further 3 t.held.position) → Spaced Yes u v → Faults (Said text) (check_document_end v)
   unfolding check_document_end
-  end_checked u v more e gap col m s = by (is_breakz (peek v.rest)) refl
-    where
-      passed : List ℕ
-      passed = s.blanks ++ s.comment
-
-      by : (b : Bool) → is_breakz (peek v.rest) ≡ b → Faults (Said text) (if b then Ok v else Err (At problem.ContentAfterDocumentEnd v.held.position))
-      by true i = goes
-      by false i =
-          fault {f = At problem.ContentAfterDocumentEnd v.held.position} (followed_at problem.ContentAfterDocumentEnd v.held.position (further 3 t.held.position) (s.blanks ++ s.comment) v.rest
-          (ap (λ h. h.position) s.is_held ∙ ap (λ q. position_after q (s.blanks ++ s.comment) v.rest) m.1)
-          (none.after_end more (s.blanks ++ s.comment) v.rest col e gap (record { is_text = sym m.0 ∙ (s.is_rest ∙ sym (append_assoc s.blanks s.comment v.rest)); is_filled = s.is_filled; is_on_line = s.no_break }) (not_at_end v.rest i) (solid_past v.rest s.ends i)) (λ c may. tt))
+  end_checked u v more e gap col m s =
+      either (is_breakz (peek v.rest)) (λ _. goes) (λ i.
+      fault {f = At problem.ContentAfterDocumentEnd v.held.position} (followed_at problem.ContentAfterDocumentEnd v.held.position (further 3 t.held.position) (s.blanks ++ s.comment) v.rest
+      (ap (λ h. h.position) s.is_held ∙ ap (λ q. position_after q (s.blanks ++ s.comment) v.rest) m.1)
+      (none.after_end more (s.blanks ++ s.comment) v.rest col e gap (record { is_text = sym m.0 ∙ (s.is_rest ∙ sym (append_assoc s.blanks s.comment v.rest)); is_filled = s.is_filled; is_on_line = s.no_break }) (not_at_end v.rest i) (solid_past v.rest s.ends i)) (λ c may. tt)))
 
   pub document_end_told : (more : List ℕ) → t.rest ≡ 46 ∷ 46 ∷ 46 ∷ more → is_at_gap more ≡ true → t.held.position.col ≡ 0 → Faults (Said text) (fetch_document_end t)
   unfolding fetch_document_end
@@ -123,20 +114,17 @@ module _ (text : List ℕ) (t : ScannerState) (a : Arrives text t) (some : is_em
 
   line_taken : (c : Bool) (cs : List Bool) → IsAllowed text t a some c → is_empty t.held.flow ≡ true → t.held.key_allowed ≡ false → is_taken (chosen c cs t.held.keys a.base) a.separation ≡ true
   line_taken c cs may out none =
+      let on_its_line : (k : Key) → k.position.line ≤ a.base.site.position.line → t.held.position.line ≤ k.position.line → broken ≡ false = λ k before here.
+      let line = ap (λ p. p.line) a.position_is in
+      arrivals.not_free a.base.site.before a.separation (arrivals.unbroken a.base.site.position a.separation t.rest some a.is_solid (omega (arith, before, here, line))) in
+      let by : (k : Option Key) (c : Bool) → MayChoose true c k t.held.position t.rest → IsLineHere false t.held.key_allowed t.rest k a.line_here → IsOpenOutside k a.base.site.position t.held.position t.rest a.base.site.blocks
+      → is_taken_line (line_past_separation false broken (line_by c k a.base.line)) ≡ true =
+      λ a c may h b. grind (arith, outer_line, out, taken_by, none, waits, on_its_line, some) in
       by (outside_key a.base.entries t.held.keys) c (may out) (subst (λ b. IsLineHere (not b) t.held.key_allowed t.rest (outside_key a.base.entries t.held.keys) a.line_here) out a.line_is) a.is_open
     where
       taken_by : (l : Line) → (l ≡ free) ⊎ (l ≡ taken) → is_free l ≡ false → is_taken_line (Some l) ≡ true
       taken_by l (inl e) h = absurd (cc (h, ap is_free e))
       taken_by l (inr e) h = ap (λ x. is_taken_line (Some x)) e
-
-      on_its_line : (k : Key) → k.position.line ≤ a.base.site.position.line → t.held.position.line ≤ k.position.line → broken ≡ false
-      on_its_line k before here =
-          let line = ap (λ p. p.line) a.position_is in
-          arrivals.not_free a.base.site.before a.separation (arrivals.unbroken a.base.site.position a.separation t.rest some a.is_solid (omega (arith, before, here, line)))
-
-      by : (k : Option Key) (c : Bool) → MayChoose true c k t.held.position t.rest → IsLineHere false t.held.key_allowed t.rest k a.line_here → IsOpenOutside k a.base.site.position t.held.position t.rest a.base.site.blocks
-          → is_taken_line (line_past_separation false broken (line_by c k a.base.line)) ≡ true
-      by a c may h b = grind (arith, outer_line, out, taken_by, none, waits, on_its_line, some)
 
   line_not_taken : (c : Bool) (cs : List Bool) → IsAllowed text t a some c → is_empty t.held.flow ≡ true → t.held.key_allowed ≡ true → is_taken (chosen c cs t.held.keys a.base) a.separation ≡ false
   line_not_taken c cs may out allowed = grind arith
@@ -147,9 +135,7 @@ module _ (text : List ℕ) (t : ScannerState) (a : Arrives text t) (some : is_em
 
   -- a colon that the scanner takes as a value's is an indicator
   value_here : (more : List ℕ) → t.rest ≡ 58 ∷ more → is_value t ≡ true → (c : Bool) (cs : List Bool) → is_value_here (chosen c cs t.held.keys a.base) a.separation more ≡ true
-  value_here more e i c cs =
-      ap (λ b. is_value_indicator b (is_adjacent (before_past (before_by a.base.site.before) a.separation)) more) (in_flow_is text t a some c cs) ∙
-      (sym (value_is t (is_adjacent (before_past (before_by a.base.site.before) a.separation)) more e (λ inside. sym (a.is_adjacent_here inside some))) ∙ i)
+  value_here more e i c cs = grind (arith, nat_tests, eqb-true, in_flow_is, value_is)
 
   -- ---- `-`, `?` and `:`
 
@@ -246,40 +232,23 @@ module _ (text : List ℕ) (t : ScannerState) (a : Arrives text t) (some : is_em
           (followed_at problem.WhitespaceExpected u.held.position (further 1 t.held.position) [] more place
           (none.no_space more [] more e gap (record { is_text = refl; is_filled = refl; is_on_line = refl }) m.no_space m.ends) (λ c may. (asks asked c may, refl))))
 
+  tab_first : (r : List ℕ) → (peek r == 9) ≡ true → r ≡ 9 ∷ after r
+  tab_first r h = grind arith
+
   space_checked : (in_flow t.held || t.held.key_allowed) ≡ true → (more : List ℕ) → t.rest ≡ 63 ∷ more → is_at_gap more ≡ true → (u w : ScannerState) → u.rest ≡ more → u.held.position ≡ past t.held.position → skip_yaml_whitespace u ≡ Ok w → Faults (Said text) (check_key_space w)
   unfolding skip_yaml_whitespace check_key_space
-  space_checked asked more e gap u w left place k = by exact.0
-    where
-      exact : (w ≡ past_white_space u) × (is_separation false (white_of false u.rest) (past_white false u.rest) ≡ true)
-      exact = held_of w (white_exactly u) k
-
-      begins : begins_with_space_or_break more ≡ true
-      begins = held_of w (white_first more u.held gap) (ap (λ r. white false false r u.held) (sym left) ∙ k)
-
-      separation : List ℕ
-      separation = white_of false u.rest
-
-      rest : List ℕ
-      rest = past_white false u.rest
-
-      tab_first : (r : List ℕ) → (peek r == 9) ≡ true → r ≡ 9 ∷ after r
-      tab_first r h = grind arith
-
-      checked_by : (b : Bool) (q : Position) (v : ScannerState) → (b ≡ true → Said text (At problem.TabAfterKey q)) → Faults (Said text) (if b then Err (At problem.TabAfterKey q) else Ok v)
-      checked_by a q v why = grind (arith, fault, goes)
-
-      reason : (peek rest == 9) ≡ true → Said text (At problem.TabAfterKey (position_after u.held.position separation rest))
-      reason tab =
-          let first = tab_first rest tab in
-          followed_at problem.TabAfterKey (position_after u.held.position separation rest) (further 1 t.held.position) separation (9 ∷ after rest)
-          (ap (λ q. position_after q separation rest) place ∙ ap (λ r. position_after (further 1 t.held.position) separation r) first)
-          (none.tab_after_question more separation (after rest) e gap (sym left ∙ (white_cut false u.rest ∙ ap (λ r. separation ++ r) first)) (subst (λ r. is_separation false separation r ≡ true) first exact.1))
-          (λ c may. (asks asked c may, begins, no_tab_in false u.rest))
-
-      by : w ≡ past_white_space u → Faults (Said text) (if peek w.rest == 9 then Err (At problem.TabAfterKey w.held.position) else Ok w)
-      by same =
-          subst (λ (z : ScannerState). Faults (Said text) (if peek z.rest == 9 then Err (At problem.TabAfterKey z.held.position) else Ok z)) (sym same)
-          (checked (peek rest == 9) (At problem.TabAfterKey (position_after u.held.position separation rest)) reason (λ _. goes))
+  space_checked asked more e gap u w left place k =
+      let exact : (w ≡ past_white_space u) × (is_separation false (white_of false u.rest) (past_white false u.rest) ≡ true) = held_of w (white_exactly u) k in
+      let begins : begins_with_space_or_break more ≡ true = held_of w (white_first more u.held gap) (ap (λ r. white false false r u.held) (sym left) ∙ k) in
+      let separation : List ℕ = white_of false u.rest in
+      let rest : List ℕ = past_white false u.rest in
+      subst (λ (z : ScannerState). Faults (Said text) (if peek z.rest == 9 then Err (At problem.TabAfterKey z.held.position) else Ok z)) (sym exact.0)
+      (checked (peek rest == 9) (At problem.TabAfterKey (position_after u.held.position separation rest)) (λ tab.
+      let first : rest ≡ 9 ∷ after rest = tab_first rest tab in
+      followed_at problem.TabAfterKey (position_after u.held.position separation rest) (further 1 t.held.position) separation (9 ∷ after rest)
+      (ap (λ q. position_after q separation rest) place ∙ ap (λ r. position_after (further 1 t.held.position) separation r) first)
+      (none.tab_after_question more separation (after rest) e gap (sym left ∙ (white_cut false u.rest ∙ ap (λ r. separation ++ r) first)) (subst (λ r. is_separation false separation r ≡ true) first exact.1))
+      (λ c may. (asks asked c may, begins, no_tab_in false u.rest))) (λ _. goes))
 
   pub question_told : (more : List ℕ) → t.rest ≡ 63 ∷ more → is_at_gap more ≡ true → Faults (Said text) (fetch_key t)
   unfolding fetch_key
@@ -342,50 +311,31 @@ module _ (text : List ℕ) (t : ScannerState) (a : Arrives text t) (some : is_em
 
   value_told : (more : List ℕ) → t.rest ≡ 58 ∷ more → colon_may_precede more ≡ true → is_value t ≡ true → (o : Option Key) → top_key t.held.keys ≡ o → (s : Held) → in_flow s ≡ in_flow t.held → s.key_allowed ≡ t.held.key_allowed → Faults (Said text) (value_of o t.held.position (opens_pair t.held.flow) s)
   unfolding insert_key begin_keyless_value
-  value_told more e apart i None top s flow allowed =
-      let k = keyless_alike (opens_pair t.held.flow) s in
-      in_turn (mapping_told more e apart i top (begin_keyless_pair (opens_pair t.held.flow) s) (k.0 ∙ flow) (k.1 ∙ allowed)) (λ u j. goes)
-  value_told more e apart i (Some k) top s flow allowed = in_turn (pair_told more e apart i k top (opens_pair t.held.flow) refl _) (λ u i. goes)
-
-  paired_flow : (fs : List FlowLevel) → is_empty (paired fs) ≡ is_empty fs
-  paired_flow a = grind arith
+  value_told more e apart i a top s flow allowed = grind (arith, nat_tests, eqb-true, keyless_alike, opens_pair, in_turn, mapping_told, goes, pair_told)
 
   tab_checked : (more : List ℕ) → t.rest ≡ 58 ∷ more → begins_with 9 more ≡ true → (h : Held) → h.position ≡ past t.held.position → (x : Read Whitespace) → space Yes more h.position ≡ Ok x → Faults (Said text) (check_after_tab x.value (go_on x h))
   unfolding check_after_tab is_alpha is_alphanumeric
-  tab_checked more e tab h place x k = by (let exact = spaced_parted more h.position (no_hash more tab) in cc (exact, k))
-    where
-      no_hash : (l : List ℕ) → begins_with 9 l ≡ true → begins_with 35 l ≡ false
-      no_hash l h = grind arith
-
-      letter : (r : List ℕ) → ((peek r == 45) || is_alpha (peek r)) ≡ true → begins_with_alpha r ≡ true
-      letter r h = grind (arith, same_alpha)
-
-      found : (is_one_of (leading is_blank more) 32) ≡ false → begins_with_alpha (past_blanks_and_comment more) ≡ true → Said text (At problem.TabAfterColon (past_line_rest h.position more))
-      found lacks alpha =
-          followed_at problem.TabAfterColon _ (further 1 t.held.position) (blanks_and_comment more) (past_blanks_and_comment more)
-          (same_in_line h.position (blanks_and_comment more) [] (past_blanks_and_comment more) (line_rest_in_line more) ∙ ap (λ q. position_after q (blanks_and_comment more) (past_blanks_and_comment more)) place)
-          (none.tab_after_colon more (blanks_and_comment more) (past_blanks_and_comment more) e tab
-          (record { is_text = line_rest_cut more; is_filled = line_rest_fills more; is_on_line = same_has_break (blanks_and_comment more) ∙ ap not (line_rest_in_line more) })
-          (no_space (leading is_blank more) (tags.after is_blank more) lacks alpha) alpha) (λ c may. tt)
-
-      exactly : Read Whitespace
-      exactly = record { rest = past_blanks_and_comment more; position = past_line_rest h.position more; value = found_in (leading is_blank more) }
-
-      by : exactly ≡ x → Faults (Said text) (if not x.value.has_valid_yaml_ws && ((peek x.rest == 45) || is_alpha (peek x.rest)) then Err (At problem.TabAfterColon x.position) else Ok (go_on x h))
-      by same =
-          subst (λ (z : Read Whitespace). Faults (Said text) (if not z.value.has_valid_yaml_ws && ((peek z.rest == 45) || is_alpha (peek z.rest)) then Err (At problem.TabAfterColon z.position) else Ok (go_on z h))) same
-          (checked (not (is_one_of (leading is_blank more) 32) && ((peek (past_blanks_and_comment more) == 45) || is_alpha (peek (past_blanks_and_comment more)))) (At problem.TabAfterColon (past_line_rest h.position more)) (λ all.
-          let first = and_parts (not (is_one_of (leading is_blank more) 32)) ((peek (past_blanks_and_comment more) == 45) || is_alpha (peek (past_blanks_and_comment more))) all in
-          found (not-true (is_one_of (leading is_blank more) 32) first.0) (letter (past_blanks_and_comment more) first.1)) (λ _. goes))
+  tab_checked more e tab h place x k =
+      let exact = spaced_parted more h.position (grind arith) in
+      let exactly : Read Whitespace = record { rest = past_blanks_and_comment more; position = past_line_rest h.position more; value = found_in (leading is_blank more) } in
+      let same : exactly ≡ x = cc (exact, k) in
+      let letter : (r : List ℕ) → ((peek r == 45) || is_alpha (peek r)) ≡ true → begins_with_alpha r ≡ true = λ r f. grind (arith, same_alpha) in
+      subst (λ (z : Read Whitespace). Faults (Said text) (if not z.value.has_valid_yaml_ws && ((peek z.rest == 45) || is_alpha (peek z.rest)) then Err (At problem.TabAfterColon z.position) else Ok (go_on z h))) same
+      (checked (not (is_one_of (leading is_blank more) 32) && ((peek (past_blanks_and_comment more) == 45) || is_alpha (peek (past_blanks_and_comment more)))) (At problem.TabAfterColon (past_line_rest h.position more)) (λ all.
+      let first = and_parts (not (is_one_of (leading is_blank more) 32)) ((peek (past_blanks_and_comment more) == 45) || is_alpha (peek (past_blanks_and_comment more))) all in
+      let alpha : begins_with_alpha (past_blanks_and_comment more) ≡ true = letter (past_blanks_and_comment more) first.1 in
+      followed_at problem.TabAfterColon _ (further 1 t.held.position) (blanks_and_comment more) (past_blanks_and_comment more)
+      (same_in_line h.position (blanks_and_comment more) [] (past_blanks_and_comment more) (line_rest_in_line more) ∙ ap (λ q. position_after q (blanks_and_comment more) (past_blanks_and_comment more)) place)
+      (none.tab_after_colon more (blanks_and_comment more) (past_blanks_and_comment more) e tab
+      (record { is_text = line_rest_cut more; is_filled = line_rest_fills more; is_on_line = same_has_break (blanks_and_comment more) ∙ ap not (line_rest_in_line more) })
+      (no_space (leading is_blank more) (tags.after is_blank more) (not-true (is_one_of (leading is_blank more) 32) first.0) alpha) alpha) (λ c may. tt)) (λ _. goes))
 
   value_checked : (more : List ℕ) → t.rest ≡ 58 ∷ more → (u : ScannerState) → u.rest ≡ more → u.held.position ≡ past t.held.position → Faults (Said text) (check_value_space u)
   unfolding check_value_space
   value_checked more e u left place =
+      let not_both : (r : List ℕ) → (peek r == 9) ≡ true → begins_with 35 r ≡ true → ⊥ = λ r h i. grind arith in
       either (peek u.rest == 9) (λ tab. read u.held (space Yes u.rest u.held.position) check_after_tab (λ f k. space_told text Yes u.rest u.held.position (λ h. absurd (not_both u.rest tab h)) f k)
       (λ x k. tab_checked more e (sym (begins_here 9 more refl) ∙ (ap (λ r. peek r == 9) (sym left) ∙ tab)) u.held place x (ap (λ r. space Yes r u.held.position) (sym left) ∙ k))) (λ _. goes)
-    where
-      not_both : (r : List ℕ) → (peek r == 9) ≡ true → begins_with 35 r ≡ true → ⊥
-      not_both r h i = grind arith
 
   -- only the position is another
   value_held : (u : ScannerState) → Holds (λ w. w.held ≡ record u.held { position = w.held.position }) (check_value_space u)
@@ -394,21 +344,17 @@ module _ (text : List ℕ) (t : ScannerState) (a : Arrives text t) (some : is_em
       holds.either (peek u.rest == 9) (λ _. holds.read u.held (space Yes u.rest u.held.position) check_after_tab (λ x k.
       holds.checked (not x.value.has_valid_yaml_ws && ((peek x.rest == 45) || is_alpha (peek x.rest))) (At problem.TabAfterColon x.position) (λ _. holds.went refl))) (λ _. holds.went refl)
 
-  -- the TABs after the colon are looked at first
-  spaced_apart : (more : List ℕ) (u : ScannerState) → u.rest ≡ more → Holds (λ v. colon_may_precede more ≡ true) (check_value_space u)
-  spaced_apart more u left = holds.weakened (λ v k. ap colon_may_precede (sym left) ∙ k.1) (colon_spaced u.rest u.held)
-
   pub colon_told : (more : List ℕ) → t.rest ≡ 58 ∷ more → is_value t ≡ true → Faults (Said text) (fetch_value t)
   unfolding fetch_value
   colon_told more e is =
+      let value_told_by : (more : List ℕ) → t.rest ≡ 58 ∷ more → colon_may_precede more ≡ true → (u : ScannerState) → u.held.keys ≡ t.held.keys → in_flow u.held ≡ in_flow t.held → u.held.key_allowed ≡ t.held.key_allowed
+      → Faults (Said text) (value_of (top_key u.held.keys) t.held.position (opens_pair t.held.flow) u.held) =
+      λ more e apart u keys flow allowed. value_told more e apart is (top_key u.held.keys) (sym (ap top_key keys)) u.held flow allowed in
       let first : ScannerState = skip_indicator (on_held (λ s. record s { flow = paired s.flow }) t) in
       in_turn (value_checked more e first (ap after e) refl) (λ u k.
       let h = held_of u (value_held first) k in
-      let apart = held_of u (spaced_apart more first (ap after e)) k in
-      in_turn (tried u (value_told_by more e apart u (ap (λ s. s.keys) h) (ap (λ s. not (is_empty s.flow)) h ∙ ap not (paired_flow t.held.flow)) (ap (λ s. s.key_allowed) h))) (λ v i. goes))
-    where
-      value_told_by : (more : List ℕ) → t.rest ≡ 58 ∷ more → colon_may_precede more ≡ true → (u : ScannerState) → u.held.keys ≡ t.held.keys → in_flow u.held ≡ in_flow t.held → u.held.key_allowed ≡ t.held.key_allowed → Faults (Said text) (value_of (top_key u.held.keys) t.held.position (opens_pair t.held.flow) u.held)
-      value_told_by more e apart u keys flow allowed = value_told more e apart is (top_key u.held.keys) (sym (ap top_key keys)) u.held flow allowed
+      let apart = held_of u (holds.weakened (λ v k. ap colon_may_precede (sym (ap after e)) ∙ k.1) (colon_spaced first.rest first.held)) k in
+      in_turn (tried u (value_told_by more e apart u (ap (λ s. s.keys) h) (ap (λ s. not (is_empty s.flow)) h ∙ ap not (grind arith)) (ap (λ s. s.key_allowed) h))) (λ v i. goes))
 
   -- ---- brackets and commas
 
@@ -433,17 +379,7 @@ module _ (text : List ℕ) (t : ScannerState) (a : Arrives text t) (some : is_em
 
   begun_here : (kind : Collection) → Holds (λ s. (s.position ≡ t.held.position) × (nat_le 255 (length t.held.flow) ≡ false)) (begin_flow kind t.held)
   unfolding begin_flow increase_flow_level
-  begun_here kind =
-      subst (λ s. Holds (λ v. (v.position ≡ t.held.position) × (nat_le 255 (length t.held.flow) ≡ false)) (deepened_flow (if nat_le 255 (length s.flow) then Err (At problem.FlowTooDeep s.position) else Ok (record s { keys = None ∷ s.keys; flow = flow_level kind ∷ s.flow }))))
-      (sym (ap roll_one_col_indent (saved_is t.held) ∙ rolled_one_is (record t.held { keys = saved_keys t.held })))
-      (by (nat_le 255 (length t.held.flow)) rolled refl refl)
-    where
-      rolled : Held
-      rolled = record t.held { keys = saved_keys t.held; indents = one_indents (record t.held { keys = saved_keys t.held }); indent = one_indent (record t.held { keys = saved_keys t.held }) }
-
-      by : (b : Bool) (s : Held) → nat_le 255 (length t.held.flow) ≡ b → s.position ≡ t.held.position → Holds (λ v. (v.position ≡ t.held.position) × (nat_le 255 (length t.held.flow) ≡ false)) (deepened_flow (if b then Err (At problem.FlowTooDeep s.position) else Ok (record s { keys = None ∷ s.keys; flow = flow_level kind ∷ s.flow })))
-      by true s many e = holds.refused
-      by false s many e = holds.went (e, many)
+  begun_here kind = grind (arith, nat_tests, eqb-true, saved_is, rolled_one_is, holds.refused, holds.went)
 
   is_here : (f : Held → Result Held Fault) (u : ScannerState) → Holds (λ s. s.position ≡ t.held.position) (f t.held) → try_held f t ≡ Ok u → IsHere u
   is_here f u h i = held_of {P = IsHere} u (holds.tried t (f t.held) h (λ s k. (refl, k))) i
@@ -460,28 +396,18 @@ module _ (text : List ℕ) (t : ScannerState) (a : Arrives text t) (some : is_em
 
   pub opening_told : (kind : Collection) (bracket : ℕ) (more : List ℕ) → t.rest ≡ bracket ∷ more → (bracket ≡ 91) ⊎ (bracket ≡ 123) → Faults (Said text) (fetch_flow_collection_start kind t)
   unfolding fetch_flow_collection_start
-  opening_told kind bracket more e is = in_turn (tried t (flow_begun kind bracket more e is)) (λ u i. in_turn (indicator_passed bracket more e (by bracket is) (ap (λ b. opens bracket && b) (room u i) ∙ and_false (opens bracket)) u (is_here (begin_flow kind) u (holds.weakened (λ s k. k.0) (begun_here kind)) i)) (λ v j. goes))
-    where
-      room : (u : ScannerState) → try_held (begin_flow kind) t ≡ Ok u → nat_le 255 (length t.held.flow) ≡ false
-      room u i = held_of {P = λ v. nat_le 255 (length t.held.flow) ≡ false} u (holds.tried t (begin_flow kind t.held) (begun_here kind) (λ s k. k.1)) i
-
-      by : (c : ℕ) → (c ≡ 91) ⊎ (c ≡ 123) → none.is_flow_indicator c ≡ true
-      by c a = grind arith
-
-  ended_here : Holds (λ s. s.position ≡ t.held.position) (end_flow t.held)
-  ended_here = holds.weakened (λ s k. ap (λ h. h.position) k.1) (flow_over t.held)
+  opening_told kind bracket more e is =
+      let by : (c : ℕ) → (c ≡ 91) ⊎ (c ≡ 123) → none.is_flow_indicator c ≡ true = λ c a. grind arith in
+      in_turn (tried t (flow_begun kind bracket more e is)) (λ u i.
+      in_turn (indicator_passed bracket more e (by bracket is)
+      (ap (λ b. opens bracket && b) (held_of {P = λ v. nat_le 255 (length t.held.flow) ≡ false} u (holds.tried t (begin_flow kind t.held) (begun_here kind) (λ s k. k.1)) i) ∙ and_false (opens bracket)) u (is_here (begin_flow kind) u (holds.weakened (λ s k. k.0) (begun_here kind)) i)) (λ v j. goes))
 
   pub closing_told : (kind : Collection) (c : ℕ) (more : List ℕ) → t.rest ≡ c ∷ more → (c ≡ 93) ⊎ (c ≡ 125) → Faults (Said text) (fetch_flow_collection_end kind t)
   unfolding fetch_flow_collection_end end_flow
   closing_told kind c more e is =
-      in_turn (tried t (kept ended_flow (λ e. refl) (λ x. goes) (remove_told text t.held (closing_rowless text t a some c more e (inr is))))) (λ u i. in_turn (indicator_passed c more e (closes c is).0 (ap (λ b. b && nat_le 255 (length t.held.flow)) (closes c is).1) u (is_here end_flow u ended_here i)) (λ v j. goes))
-    where
-      closes : (c : ℕ) → (c ≡ 93) ⊎ (c ≡ 125) → (none.is_flow_indicator c ≡ true) × (opens c ≡ false)
-      closes c a = grind arith
-
-  next_here : Holds (λ s. s.position ≡ t.held.position) (end_entry t.held)
-  next_here = holds.weakened (λ s k. ap (λ h. h.position) k.1) (entry_over t.held)
+      let closes : (c : ℕ) → (c ≡ 93) ⊎ (c ≡ 125) → (none.is_flow_indicator c ≡ true) × (opens c ≡ false) = λ c a. grind arith in
+      in_turn (tried t (kept ended_flow (λ e. refl) (λ x. goes) (remove_told text t.held (closing_rowless text t a some c more e (inr is))))) (λ u i. in_turn (indicator_passed c more e (closes c is).0 (ap (λ b. b && nat_le 255 (length t.held.flow)) (closes c is).1) u (is_here end_flow u (holds.weakened (λ s k. ap (λ h. h.position) k.1) (flow_over t.held)) i)) (λ v j. goes))
 
   pub comma_told : (more : List ℕ) → t.rest ≡ 44 ∷ more → Faults (Said text) (fetch_flow_entry t)
   unfolding fetch_flow_entry end_entry
-  comma_told more e = in_turn (tried t (kept next_entry (λ e. refl) (λ x. goes) (remove_told text t.held (closing_rowless text t a some 44 more e (inl refl))))) (λ u i. in_turn (indicator_passed 44 more e refl refl u (is_here end_entry u next_here i)) (λ v j. goes))
+  comma_told more e = in_turn (tried t (kept next_entry (λ e. refl) (λ x. goes) (remove_told text t.held (closing_rowless text t a some 44 more e (inl refl))))) (λ u i. in_turn (indicator_passed 44 more e refl refl u (is_here end_entry u (holds.weakened (λ s k. ap (λ h. h.position) k.1) (entry_over t.held)) i)) (λ v j. goes))

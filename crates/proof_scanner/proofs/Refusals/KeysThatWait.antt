@@ -1,5 +1,5 @@
 -- A key that must be one waits in each row of the text; and while it waits no line ends. So no row goes on where a beginning has only gone on over a line's end by making no key of it.
-use Rattle.proof_scanner.proofs.Common.{[], Account, account_past, Act, act_of, ap, arith, begins_free_line, begins_separation, BeginsButForKey, blocks_at, Bool, Entry, fails, false, first_account, free, gives_node, has_break, HasRow, if◌then◌else◌, inl, inr, is_empty, is_in_column, is_in_flow, is_marker, is_separation, is_waiting, IsRowFrom, IsWritten, key_waits, length, LikeEntries, LikeLine, Line, line_past, line_past_separation, List, no_key, no_nul_after, None, not, not-true, not_ended, opened, Outside, Position, position_after, position_in_line, previous_by, refl, Row, same_flow, Site, site_at, Some, spelled, Step, subst, sym, taken, TextsWithARowAreNotStuck, Tok, true, waits, ℕ, ◌&&◌, ◌++◌, ◌+◌, ◌<◌, ◌∙◌, ◌∷◌, ◌≡◌, ◌≤◌, ◌⊎◌}
+use Rattle.proof_scanner.proofs.Common.{[], Account, account_past, Act, act_of, ap, arith, begins_free_line, begins_separation, BeginsButForKey, blocks_at, Bool, Entry, fails, false, first_account, free, gives_node, has_break, HasRow, inl, inr, is_empty, is_in_column, is_in_flow, is_marker, is_separation, is_waiting, IsRowFrom, IsWritten, key_waits, length, LikeEntries, LikeLine, Line, line_past, line_past_separation, List, no_key, no_nul_after, None, not, not-true, not_ended, Outside, Position, position_after, position_in_line, previous_by, refl, Row, same_flow, Site, site_at, Some, spelled, Step, subst, sym, taken, TextsWithARowAreNotStuck, Tok, true, waits, ℕ, ◌&&◌, ◌++◌, ◌+◌, ◌<◌, ◌∙◌, ◌∷◌, ◌≡◌, ◌≤◌, ◌⊎◌, eqb-true, nat_tests}
 use Rattle.proof_scanner.proofs.Sound.Sides.{with_entries}
 use Rattle.proof_scanner.proofs.Refusals.KindsOfPieces.{marker_begins}
 use Rattle.proof_scanner.proofs.Known.Made.{same_of, waited, still_there, like_past, Waits, begun, kept, waits_past, Made, outside, inside, made}
@@ -36,9 +36,6 @@ falls_kept : (c : ℕ) (ns : List ℕ) → Falls ns → Falls (not_ended c ns)
 falls_kept c [] f = tt
 falls_kept c (n ∷ ns) f = grind (arith, not_ended, falls_kept c ns f.1)
 
-falls_opened : (c : ℕ) (ns : List ℕ) → Falls ns → Falls (opened c ns)
-falls_opened c ns f = grind (arith, more_below)
-
 -- where the innermost collection that goes on has another column, all have columns before it
 below_here : (c : ℕ) (ns : List ℕ) → Falls ns → is_in_column c (not_ended c ns) ≡ false → AllBelow c (not_ended c ns)
 below_here c [] f h = tt
@@ -50,17 +47,17 @@ not_below q a h b = grind arith
 falls_at : (fl : Bool) (k : Act) (c : ℕ) (ns : List ℕ) → Falls ns → Falls (blocks_at fl k c ns)
 falls_at fl k c ns f = grind (arith, falls_kept)
 
+-- where a node stands in no column of a collection, all that go on have columns before it
+node_below : (k : Act) (c : ℕ) (ns : List ℕ) → k ≡ gives_node → Falls ns → is_in_column c (blocks_at false k c ns) ≡ false → AllBelow c (blocks_at false k c ns)
+node_below k c ns e f h = grind (arith, below_here)
+
 below_at : (q : ℕ) (fl : Bool) (k : Act) (c : ℕ) (ns : List ℕ) → AllBelow q ns → AllBelow q (blocks_at fl k c ns)
 below_at q fl k c ns f = grind (arith, below_kept)
 
 -- ---- a piece outside flow
 
 falls_past : (must : Bool) (here : Position) (bs : List ℕ) (k : Act) (key : Bool) (l : Line) (o : Outside) → line_past must here bs k key l ≡ Some o → Falls bs → Falls o.blocks
-falls_past must here bs k key l o e f = grind (arith, falls_opened)
-
--- while a key waits a piece outside flow is a part of a node, after which it still waits, or the colon; and where none waits on a line that is taken, no colon comes
-still : (must : Bool) (here : Position) (bs : List ℕ) (k : Act) (b c : Bool) (q : Position) (o u : Outside) → line_past must here bs k b taken ≡ Some o → line_past must here bs k c (waits q) ≡ Some u → (o.line ≡ taken) × (u.line ≡ waits q)
-still must here bs k b c q o u e f = grind arith
+falls_past must here bs k key l o e f = grind (arith, more_below)
 
 -- ---- the line of a key
 
@@ -73,16 +70,9 @@ pub record OnLine (q : Position) (s : Site) : Type 0 where
 stays : (p : Position) (text next : List ℕ) → has_break text ≡ false → ((position_after p text next).line ≡ p.line) × ((position_after p text next).col ≡ p.col + length text)
 stays p text next h = let same = sym (position_in_line p text next (unbroken text h)) in (ap (λ (q : Position). q.line) same, ap (λ (q : Position). q.col) same)
 
-unmarked_by : (t : Tok) → is_marker (act_of t) ≡ false → (f : List ℕ) → begins_free_line (previous_by t) f ≡ has_break f
-unmarked_by a h f = grind arith
-
 -- after a piece on the line of a key that waits
 line_after : (q here : Position) (piece : List ℕ) (t : Tok) (next : List ℕ) (s : Site) → s.position ≡ position_after here piece next → s.before ≡ previous_by t → here.line ≡ q.line → not (is_empty piece) ≡ true → has_break piece ≡ false → is_marker (act_of t) ≡ false → OnLine q s
-line_after q here piece t next s p b l some none m = let on = stays here piece next none in let many = not_none piece (not-true (is_empty piece) some) in let col : s.position.col ≡ here.col + length piece = ap (λ (x : Position). x.col) p ∙ on.1 in record {
-  unmarked = λ f. ap (λ x. begins_free_line x f) b ∙ unmarked_by t m f;
-  line_is = ap (λ (x : Position). x.line) p ∙ (on.0 ∙ l);
-  further = omega (arith, col, many);
-}
+line_after q here piece t next s p b l some none m = grind (arith, nat_tests, eqb-true, stays, not_none, not-true)
 
 not_broken : (p : List ℕ) (l : Line) (q : Position) → l ≡ waits q → (has_break p && is_waiting l) ≡ false → has_break p ≡ false
 not_broken p l q w h = grind arith
@@ -137,27 +127,18 @@ pub record Apart (q : Position) (x y : Account) : Type 0 where
   pub one : y.line ≡ waits q
   pub on : OnLine q y.site
 
-not_free : (l m : Line) → LikeLine l m → l ≡ free → m ≡ taken → ⊥
-not_free a m i h k = grind arith
-
 -- after a node none waits on a line that is taken, where none waited or began
 taken_past : (must : Bool) (here : Position) (bs : List ℕ) (key : Bool) (l : Line) (o : Outside) → line_past must here bs gives_node key l ≡ Some o → o.line ≡ taken → ((l ≡ free) × (must ≡ false)) ⊎ (l ≡ taken)
 taken_past must a bs b d o e t = grind arith
-
--- where a line is taken after a separation in which no line ends, it was so before
-was_taken : (fl : Bool) (l m : Line) → line_past_separation fl false l ≡ Some m → m ≡ taken → l ≡ taken
-was_taken fl l m e t = same_of l m e ∙ t
 
 was_taken_inside : (broken : Bool) (l m : Line) → line_past_separation true broken l ≡ Some m → m ≡ taken → l ≡ taken
 was_taken_inside a l m e t = grind (arith, same_of)
 
 -- the columns after a step
 falls_after : (s : Site) (l : Line) (es : List Entry) (w : Step) (next : List ℕ) (b : Account) → Falls s.blocks → account_past (with_entries s l es) w next ≡ Some b → Falls b.site.blocks
-falls_after s l es w next b f e = by (made s l es w next b e)
-  where
-    by : Made s l es w next b → Falls b.site.blocks
-    by (outside m o none sep past line site one) = subst (λ (x : Site). Falls x.blocks) (sym site) (falls_past _ _ _ (act_of w.shown) w.key m o past (falls_at false (act_of w.shown) (position_after s.position w.separation (w.piece ++ next)).col s.blocks f))
-    by (inside some sep site one) = subst (λ (x : Site). Falls x.blocks) (sym site) f
+falls_after s l es w next b f e =
+    let by : Made s l es w next b → Falls b.site.blocks = λ a. grind (arith, nat_tests, eqb-true, falls_past, falls_at) in
+    by (made s l es w next b e)
 
 below_after : (s : Site) (l m : Line) (ds es : List Entry) (w : Step) (c : Bool) (next : List ℕ) (a b : Account) → LikeLine l m → LikeEntries ds es → Falls s.blocks → ((q : Position) → l ≡ waits q → m ≡ taken → AllBelow q.col s.blocks)
     → account_past (with_entries s l ds) w next ≡ Some a → account_past (with_entries s m es) (With w c) next ≡ Some b → (q : Position) → a.line ≡ waits q → b.line ≡ taken → AllBelow q.col a.site.blocks
@@ -177,25 +158,17 @@ below_after s l m ds es w c next a b i j f below e1 e2 q wt tk = by (made s l ds
     both n o u v k sep1 sep2 past tk (begun act fr h bs) = to (taken_past _ _ _ c o v (ap (λ x. line_past (is_in_column at.position.col at.blocks) at.position at.blocks x c o) (sym act) ∙ past) tk)
       where
         to : ((o ≡ free) × (is_in_column at.position.col at.blocks ≡ false)) ⊎ (o ≡ taken) → AllBelow q.col u.blocks
-        to (inl p) = subst (λ x. AllBelow q.col x) (sym bs) (subst (λ (x : Position). AllBelow x.col at.blocks) h (here_below (is_marker (act_of w.shown)) refl p.1))
-          where
-            here_below : (d : Bool) → is_marker (act_of w.shown) ≡ d → is_in_column at.position.col at.blocks ≡ false → AllBelow at.position.col at.blocks
-            here_below true z g = absurd (cc (node_no_marker (act_of w.shown) act, z))
-            here_below false z g = subst (λ d. AllBelow at.position.col (if d then [] else not_ended at.position.col s.blocks)) (sym z)
-                (below_here at.position.col s.blocks f (subst (λ d. is_in_column at.position.col (if d then [] else not_ended at.position.col s.blocks) ≡ false) z g))
-        to (inr t) = absurd (not_free n o k fr t)
+        to (inl p) = subst (λ x. AllBelow q.col x) (sym bs) (subst (λ (x : Position). AllBelow x.col at.blocks) h (node_below (act_of w.shown) at.position.col s.blocks act f p.1))
+        to (inr t) = absurd (grind arith)
     both n o u v k sep1 sep2 past tk (kept act is bs) = to (taken_past _ _ _ c o v (ap (λ x. line_past (is_in_column at.position.col at.blocks) at.position at.blocks x c o) (sym act) ∙ past) tk)
       where
         was : (l ≡ waits q) × (broken ≡ false)
         was = waited false broken l n q sep1 is
 
-        never : (x y : Line) → LikeLine x y → x ≡ waits q → y ≡ free → ⊥
-        never x y k h g = grind arith
-
         to : ((o ≡ free) × (is_in_column at.position.col at.blocks ≡ false)) ⊎ (o ≡ taken) → AllBelow q.col u.blocks
-        to (inl p) = absurd (never n o k is p.0)
+        to (inl p) = absurd (grind arith)
         to (inr t) = subst (λ x. AllBelow q.col x) (sym bs) (below_at q.col false (act_of w.shown) at.position.col s.blocks
-            (below q was.0 (was_taken false m o (subst (λ x. line_past_separation false x m ≡ Some o) was.1 sep2) t)))
+            (below q was.0 (same_of m o (subst (λ x. line_past_separation false x m ≡ Some o) was.1 sep2) ∙ t)))
 
     by : Made s l ds w next a → Made s m es (With w c) next b → AllBelow q.col a.site.blocks
     by (outside n u n1 sep1 past1 line1 site1 one1) (outside o v n2 sep2 past2 line2 site2 one2) =
@@ -221,9 +194,7 @@ apart_after s ds es w c next a b q j e1 e2 = by (made s taken ds w next a e1) (m
 
     both : (n o : Line) (u v : Outside) → n ≡ taken → o ≡ waits q → line_past (is_in_column at.position.col at.blocks) at.position at.blocks (act_of w.shown) w.key n ≡ Some u
         → line_past (is_in_column at.position.col at.blocks) at.position at.blocks (act_of w.shown) c o ≡ Some v → (u.line ≡ taken) × (v.line ≡ waits q)
-    both n o u v nt ow p1 p2 = still (is_in_column at.position.col at.blocks) at.position at.blocks (act_of w.shown) w.key c q u v
-        (subst (λ x. line_past (is_in_column at.position.col at.blocks) at.position at.blocks (act_of w.shown) w.key x ≡ Some u) nt p1)
-        (subst (λ x. line_past (is_in_column at.position.col at.blocks) at.position at.blocks (act_of w.shown) c x ≡ Some v) ow p2)
+    both n o u v nt ow p1 p2 = grind (arith, nat_tests, eqb-true)
 
     by : Made s taken ds w next a → Made s (waits q) es (With w c) next b → (a.line ≡ taken) × (b.line ≡ waits q)
     by (outside n u n1 sep1 past1 line1 site1 one1) (outside o v n2 sep2 past2 line2 site2 one2) =
@@ -245,16 +216,11 @@ together_keeps x y a b v c next i p k e f = record {
 
 pub apart_keeps : (q : Position) → Keeps (λ x y _. Apart q x y)
 apart_keeps q x y a b v c next i p k e f =
+    let own : Waiting y.line y.site = λ z e. subst (λ u. OnLine u y.site) (cc (sym p.one ∙ e)) p.on in
     let lines : (a.line ≡ taken) × (b.line ≡ waits q) = apart_after x.site x.entries y.entries v c next a b q i.2
     (subst (λ l. account_past (with_entries x.site l x.entries) v next ≡ Some a) p.none e)
     (subst (λ l. account_past (with_entries x.site l y.entries) (With v c) next ≡ Some b) p.one (subst (λ s. account_past (with_entries s y.line y.entries) (With v c) next ≡ Some b) (sym i.0) f)) in
     record { none = lines.0; one = lines.1; on = waiting_past y.site y.line y.entries (With v c) next b own k f q lines.1 }
-  where
-    place : (z : Position) → waits q ≡ waits z → q ≡ z
-    place z e = cc e
-
-    own : Waiting y.line y.site
-    own z e = subst (λ u. OnLine u y.site) (place z (sym p.one ∙ e)) p.on
 
 pub first_together : Together first_account first_account
 first_together = record { falls = tt; below = λ q h t. absurd (cc h); on = λ q h. absurd (cc h) }
@@ -274,13 +240,8 @@ key_on_its_line text separation rest begin here a r g filled here_is late some s
     like = subst (λ l. LikeLine l first.account.line) g.line_is first.is_like.1
 
     by : (l : Line) → first.account.line ≡ l → ⊥
-    by free e = subst (λ l. LikeLine (waits begin) l) e like
-    by taken e = not_below begin.col g.account.site.blocks g.must_be (first.holds.below begin g.line_is e)
     by (waits q) e = ends second.steps second.is_row second.spells
       where
-        begin_is : begin ≡ q
-        begin_is = subst (λ l. LikeLine (waits begin) l) e like
-
         none : Account
         none = record { site = g.account.site; line = taken; entries = g.account.entries }
 
@@ -297,8 +258,9 @@ key_on_its_line text separation rest begin here a r g filled here_is late some s
             let at : (w.separation ≡ separation) × (w.piece ++ spelled ws second.last ≡ rest) = step_here z w (spelled ws second.last) separation rest k.0 f filled solid (no_nul_after separation rest second.is_clean) in
             let unbroken : begins_free_line z.site.before separation ≡ false = subst (λ x. begins_free_line z.site.before x ≡ false) at.0 (goes_near w ws second.last z q second.holds.one k).unbroken in
             let line : here.line ≡ q.line = ap (λ (p : Position). p.line) here_is ∙ (ap (λ (s : Site). (position_after s.position separation rest).line) second.is_like.0 ∙ (here_on q z.site separation rest second.holds.on unbroken).0) in
-            let own : begin.line ≡ q.line = ap (λ (p : Position). p.line) begin_is in
+            let own : begin.line ≡ q.line = ap (λ (p : Position). p.line) (subst (λ l. LikeLine (waits begin) l) e like) in
             omega (arith, late, line, own)
+    by a e = grind (arith, waits, like, not_below, first)
 
 pub texts_with_a_row_are_not_stuck : TextsWithARowAreNotStuck
 texts_with_a_row_are_not_stuck text why at r row (fails a separation rest why2 here at2 place some solid f) = failing_places_have_no_row text separation rest a here at why r place solid some f.fails row

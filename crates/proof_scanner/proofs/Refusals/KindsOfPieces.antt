@@ -1,7 +1,6 @@
 -- The text at a piece says what piece it is; one that stands for the document begins in column 0.
-use Rattle.proof_scanner.proofs.Common.{[], act_of, ap, are_marks, Bool, context_of, dash_marks, Directive, directive_begins, directive_of, document_end, document_start, dot_marks, inl, inr, is_adjacent, is_at_gap, is_document_marker, is_marker, IsPiece, IsTagLine, Kind, kind_at, List, None, Option, or_true, peek, piece_of, Position, scalar, Some, Style, subst, sym, tag_directive, texts_begin, Tok, true, version_directive, Whole, ℕ, ◌++◌, ◌==◌, ◌||◌, ◌∙◌, ◌∷◌, ◌≡◌, ◌≢◌, arith}
+use Rattle.proof_scanner.proofs.Common.{[], act_of, ap, Bool, context_of, dash_marks, Directive, directive_begins, directive_of, dot_marks, is_adjacent, is_document_marker, is_marker, IsPiece, Kind, kind_at, List, None, Option, or_true, peek, piece_of, Position, Some, subst, sym, texts_begin, Tok, true, Whole, ℕ, ◌++◌, ◌==◌, ◌||◌, ◌∙◌, ◌≡◌, ◌≢◌, arith, eqb-true, nat_tests}
 use Rattle.defs_token.specs.Account.{Account as PieceAccount, is_in_flow, Account}
-use Rattle.proof_row.specs.Ends.{kind_of}
 
 -- a text begins with `%`, or with a document marker
 abbrev pub begins_document : List ℕ → Bool
@@ -14,29 +13,9 @@ pub record BeginsLine (col : ℕ) (text : List ℕ) : Type 0 where
 directive_line : (p x : List ℕ) (d : Directive) → directive_of p ≡ Some d → begins_document (p ++ x) ≡ true
 directive_line p x d e = let b = directive_begins p d e in ap (λ z. begins_document (z ++ x)) b.1
 
-marker_line : (c : ℕ) (x : List ℕ) → are_marks c c c ≡ true → is_at_gap x ≡ true → begins_document (c ∷ c ∷ c ∷ x) ≡ true
-marker_line c x m g = grind (arith, or_true)
-
 pub marker_begins : (a : Account) (p x : List ℕ) (f : Option Tok) (m : Position) (t : Tok) → IsPiece a p x f m t → is_marker (act_of t) ≡ true → BeginsLine a.position.col (p ++ x)
-marker_begins a p x f m (version_directive major minor) h k = record { column = h.0.2; text_is = directive_line p x _ h.0.0 }
-marker_begins a p x f m (tag_directive handle prefix) h k = by h.0
-  where
-    by : IsTagLine a p x handle prefix → BeginsLine a.position.col (p ++ x)
-    by (inl d) = record { column = d.2; text_is = directive_line p x _ d.0 }
-    by (inr d) = record { column = d.2.2; text_is = directive_line p x _ d.2.0 }
-marker_begins a p x f m document_start h k = record { column = h.0.1; text_is = ap (λ z. begins_document (z ++ x)) h.0.0 ∙ marker_line 45 x dash_marks h.0.2 }
-marker_begins a p x f m document_end h k = record { column = h.0.1; text_is = ap (λ z. begins_document (z ++ x)) h.0.0 ∙ marker_line 46 x dot_marks h.0.2 }
-marker_begins a p x f m (scalar style text) h k = absurd (none style k)
-  where
-    none : (s : Style) → is_marker (act_of (scalar s text)) ≡ true → ⊥
-    none a e = grind arith
-marker_begins a p x f m t h k = absurd (cc k)
-
--- The text at a piece says what piece it is.
--- The kind of a piece's token is that of the text there.
-pub kind_of_token : (k : Kind) (a : PieceAccount) (piece next text : List ℕ) (p : Position) (t : Tok) → piece ≢ [] → IsPiece a piece next None p t → piece ++ next ≡ text → kind_at (is_in_flow a) (is_adjacent a.before) a.position.col text ≡ k → kind_of t ≡ k
-kind_of_token k a piece next text p t some h e there = sym (texts_begin a piece next None p t some h) ∙ (ap (λ r. kind_at (is_in_flow a) (is_adjacent a.before) a.position.col r) e ∙ there)
+marker_begins a p x f m t h k = grind (arith, nat_tests, eqb-true, directive_line, or_true, dash_marks, dot_marks)
 
 -- So is that of the piece.
 pub kind_is : (k : Kind) (a : PieceAccount) (piece next text : List ℕ) (p : Position) (t : Tok) → piece ≢ [] → IsPiece a piece next None p t → piece ++ next ≡ text → kind_at (is_in_flow a) (is_adjacent a.before) a.position.col text ≡ k → Whole k (context_of a) piece next t
-kind_is k a piece next text p t some h e there = subst (λ y. Whole y (context_of a) piece next t) (kind_of_token k a piece next text p t some h e there) (piece_of a piece next None p t some h)
+kind_is k a piece next text p t some h e there = subst (λ y. Whole y (context_of a) piece next t) (sym (texts_begin a piece next None p t some h) ∙ (ap (λ r. kind_at (is_in_flow a) (is_adjacent a.before) a.position.col r) e ∙ there)) (piece_of a piece next None p t some h)

@@ -1,5 +1,5 @@
 -- Outside flow no level of indentation is right of a piece: those that were have ended.
-use Rattle.proof_scanner.proofs.Common.{[], and_parts, AreCollections, AreLevels, arith, Bool, columns, false, has_open_level, if◌then◌else◌, Indent, innermost, is_deeper, is_empty, IsNotRight, IsTopLevel, List, nat_tests, not, not_ended, subst, sym, true, ℕ, ◌&&◌, ◌+◌, ◌-◌, ◌∙◌, ◌∷◌, ◌≡◌, ◌≤◌, eqb-true}
+use Rattle.proof_scanner.proofs.Common.{[], and_parts, AreLevels, arith, Bool, columns, false, has_open_level, if◌then◌else◌, Indent, innermost, is_deeper, IsNotRight, IsTopLevel, List, nat_tests, not, not_ended, subst, true, ℕ, ◌&&◌, ◌+◌, ◌-◌, ◌∷◌, ◌≡◌, ◌≤◌, eqb-true}
 
 -- ---- outside flow
 
@@ -8,23 +8,15 @@ first_stays : (col : ℕ) (bs : List ℕ) → IsNotRight (innermost (not_ended c
 first_stays col [] = tt
 first_stays col (n ∷ ns) = grind (arith, first_stays col ns)
 
--- if the innermost one is left of the column, they all go on
-left_stays : (col : ℕ) (bs : List ℕ) → is_deeper col bs ≡ true → not_ended col bs ≡ bs
-left_stays col a h = grind arith
-
 pub levels_end : (col : ℕ) (bs : List ℕ) (awaits : Bool) (i : ℕ) (ds : List Indent) → AreLevels i ds → not_ended col bs ≡ columns i ds → (awaits && is_deeper col bs) ≡ has_open_level ds → i ≤ col + 1
 levels_end col bs aw i [] a e o = omega (arith, a)
 levels_end col bs aw i (d ∷ ds) a e o = by d.needs_block_end a.0 e o
   where
-    -- a level that opens no collection is right of the collection around it, which is left of the piece
-    left : (ds : List Indent) (j : ℕ) → AreCollections j ds → is_empty ds ≡ false → bs ≡ columns j ds → is_deeper col bs ≡ true → j ≤ col
-    left a j c b f h = grind (arith, nat_tests, eqb-true)
-
     by : (b : Bool) → IsTopLevel b i d.indent ds → not_ended col bs ≡ (if b then (i - 1) ∷ columns d.indent ds else columns d.indent ds) → (aw && is_deeper col bs) ≡ not b → i ≤ col + 1
     by true t f o =
         let first : i - 1 ≤ col = subst (λ x. IsNotRight (innermost x) col) f (first_stays col bs) in
         omega (arith, first)
     by false t f o =
         let deeper : is_deeper col bs ≡ true = (and_parts aw (is_deeper col bs) o).1 in
-        let outer : d.indent ≤ col = left ds d.indent a.1 t.1 (sym (left_stays col bs deeper) ∙ f) deeper in
+        let outer : d.indent ≤ col = grind (arith, nat_tests, eqb-true) in
         omega (arith, t.0, outer)

@@ -38,17 +38,11 @@ module _ (text : List ℕ) (t : ScannerState) (a : Arrives text t) (some : is_em
   pub quoted_told : IsDeep t.held → (quotes : Quotes) (more : List ℕ) → t.rest ≡ none.quote_of (are_single quotes) ∷ more → Faults (Said text) (fetch_flow_scalar quotes t)
   unfolding fetch_flow_scalar
   quoted_told deep quotes more e =
+      let same : (context (node_start t.held)).indent ≡ t.held.indent = ap (λ h. h.indent) (saved_is t.held) in
+      let clean : has_no_nul more ≡ true = (and_parts (not (is_nul (none.quote_of (are_single quotes)))) (has_no_nul more) (subst (λ r. has_no_nul r ≡ true) e a.is_clean)).1 in
+      let read_as : (x : Read (List ℕ)) → quoted (are_single quotes) (context (node_start t.held)) t.rest t.held.position ≡ Ok x → QuotedAs (are_single quotes) (context (node_start t.held)) t.held.position t.rest x = λ x k.
+      subst (λ r. QuotedAs (are_single quotes) (context (node_start t.held)) t.held.position r x) (sym e)
+      (quoted_as quotes (context (node_start t.held)) t.held.position more x clean (subst (λ r. quoted (are_single quotes) (context (node_start t.held)) r t.held.position ≡ Ok x) e k)) in
       read (node_start t.held) (quoted (are_single quotes) (context (node_start t.held)) t.rest t.held.position) _
       (λ f k. refused_told text t a some lies deep (are_single quotes) (context (node_start t.held)) same more e clean f (ap (λ r. quoted (are_single quotes) (context (node_start t.held)) r t.held.position) (sym e) ∙ k))
       (λ x k. in_turn (after_told text t a some lies (are_single quotes) (context (node_start t.held)) x (read_as x k) same) (λ v i. in_turn (tab_told text t a some lies (are_single quotes) (context (node_start t.held)) x (read_as x k) same v i) (λ w j. goes)))
-    where
-      same : (context (node_start t.held)).indent ≡ t.held.indent
-      same = ap (λ h. h.indent) (saved_is t.held)
-
-      clean : has_no_nul more ≡ true
-      clean = (and_parts (not (is_nul (none.quote_of (are_single quotes)))) (has_no_nul more) (subst (λ r. has_no_nul r ≡ true) e a.is_clean)).1
-
-      read_as : (x : Read (List ℕ)) → quoted (are_single quotes) (context (node_start t.held)) t.rest t.held.position ≡ Ok x → QuotedAs (are_single quotes) (context (node_start t.held)) t.held.position t.rest x
-      read_as x k =
-          subst (λ r. QuotedAs (are_single quotes) (context (node_start t.held)) t.held.position r x) (sym e)
-          (quoted_as quotes (context (node_start t.held)) t.held.position more x clean (subst (λ r. quoted (are_single quotes) (context (node_start t.held)) r t.held.position ≡ Ok x) e k))

@@ -1,26 +1,14 @@
 -- No text is stuck for a property in the first column before an entry there: each reason is one of another kind of fault.
-use Rattle.proof_scanner.proofs.Common.{Account, At, Bool, Fails, fails, IsStuck, key_waits, List, may_not_stand, NoPiece, Position, ℕ}
+use Rattle.proof_scanner.proofs.Common.{Account, Bool, Fails, fails, IsStuck, key_waits, List, Position, ℕ, arith, eqb-true, nat_tests}
 use Rattle.proof_scanner.proofs.Cut.Faults.Reasons.{line_neither, tag_neither}
-use Rattle.proof_scanner.specs.Failing as failing
 use Rattle.proof_scanner.specs.NoPiece as none
 use Rattle.yaml_tokens.specs.declared.problem.Problem.TheVariants as problem
 
 quoted_never : (single : Bool) (more : List ℕ) → none.IsNotQuoted single more problem.AnchorIndentation → ⊥
 quoted_never single more (none.by_escape body after _ double cut has bad) = elim bad [ ]
 
-none_never : (fl : Bool) (here : Position) (rest : List ℕ) (at : Position) → NoPiece fl here rest problem.AnchorIndentation at → ⊥
-none_never fl here rest at (none.tagless more _ e r) = cc (tag_neither fl more problem.AnchorIndentation at r).1
-none_never fl here rest at (none.unquoted single more _ e lacks n) = quoted_never single more n
-none_never fl here rest at (none.headless style line after _ _ out e one ends lacks n) = elim n [ ]
-none_never fl here rest at (none.undirected line next _ _ col e one ends lacks r) = cc (line_neither here line (At problem.AnchorIndentation at) r).1
-
 fails_never : (a : Account) (separation rest : List ℕ) (here at : Position) → Fails a separation here rest problem.AnchorIndentation at → ⊥
-fails_never a separation rest here at (failing.no_piece n) = none_never _ here rest at n
-fails_never a separation rest here at (failing.no_plain comes n) = elim n [ ]
-fails_never a separation rest here at (failing.no_quoted single lacks n) = elim n [ ]
-fails_never a separation rest here at (failing.no_block out n) = elim n [ ]
-fails_never a separation rest here at (failing.followed n) = elim n [ ]
-fails_never a separation rest here at (failing.may_not_stand n) = elim n [ ]
+fails_never a separation rest here at b = grind (arith, nat_tests, eqb-true, tag_neither, quoted_never, line_neither)
 
 pub stuck_never : (text : List ℕ) (at : Position) → IsStuck text problem.AnchorIndentation at → ⊥
 stuck_never text at (fails a separation rest _ here _ place some solid f) = fails_never a separation rest here at f.fails

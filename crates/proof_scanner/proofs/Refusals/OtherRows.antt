@@ -1,24 +1,19 @@
 -- A row of a text goes through each place that a beginning of a row leads to, at an account that is like the beginning's; and its next piece stands there.
-use Rattle.proof_scanner.proofs.Common.{[], Account, account_past, ap, append-nil, Begins, begins_free_line, begins_separation, Bool, false, first_account, further_lines_stand, has_no_nul, HasRow, if◌then◌else◌, is_deep_enough, is_empty, is_gap, is_in_flow, is_indented_by_spaces, is_renewed, is_separation, IsLike, IsPlace, IsRowFrom, IsWritten, least_for, line_past_separation, List, may_precede, no_nul_after, None, on_one_line, Option, past_piece, plain_scalar, Position, position_after, refl, Row, separations, Some, spelled, Step, subst, sym, true, up_to_nul, ℕ, ◌&&◌, ◌++◌, ◌∙◌, ◌∷◌, ◌≡◌}
+use Rattle.proof_scanner.proofs.Common.{[], Account, account_past, ap, append-nil, Begins, begins_free_line, begins_separation, Bool, false, first_account, further_lines_stand, has_no_nul, HasRow, if◌then◌else◌, is_deep_enough, is_empty, is_gap, is_in_flow, is_indented_by_spaces, is_renewed, is_separation, IsLike, IsPlace, IsRowFrom, IsWritten, least_for, line_past_separation, List, may_precede, no_nul_after, None, on_one_line, past_piece, plain_scalar, Position, position_after, refl, Row, separations, Some, spelled, Step, subst, sym, true, up_to_nul, ℕ, ◌&&◌, ◌++◌, ◌∙◌, ◌∷◌, ◌≡◌, arith, eqb-true, nat_tests}
 use Rattle.proof_row.proofs.Written.{At}
 use Rattle.proof_scanner.proofs.Known.Ways.{With, KeepsOn, Same, strict_way}
 use Rattle.proof_scanner.proofs.Sound.Completed.{begins_at_start, begins_past}
 use Rattle.proof_scanner.proofs.Known.Places.{ends_before, step_here}
 use Rattle.proof_scanner.proofs.Known.Rows.{Walked, row_walks}
 use Rattle.proof_scanner.proofs.Cut.Pieces.Separations.{gap_is_separation}
+use Rattle.proof_scanner.proofs.Refusals.WaitingKeys.{some_row}
 
 -- what is kept by each step of a beginning that the row makes too
 abbrev pub Keeps : (P : Account → Account → List ℕ → Type 0) → Type 0
 Keeps P = (x y a b : Account) (v : Step) (c : Bool) (next : List ℕ) → IsLike x y → P x y (v.separation ++ (v.piece ++ next)) → IsWritten y (With v c) next → account_past x v next ≡ Some a → account_past y (With v c) next ≡ Some b → P a b next
 
 pub keeps_on : (P : Account → Account → List ℕ → Type 0) → Keeps P → KeepsOn Same Same P
-keeps_on P keeps = record {
-  first_like = λ x y z e i. subst (λ u. IsLike u y) e i;
-  second_like = λ x y z e i. subst (λ u. IsLike x u) e i;
-  first = λ x y z after i e r. subst (λ u. P u y after) e r;
-  second = λ x y z after i e r. subst (λ u. P x u after) e r;
-  both = λ x y a b v c next i r k l e f. keeps x y a b v c next i r l e f;
-}
+keeps_on a keeps = grind (arith, nat_tests, eqb-true)
 
 -- the row of a text goes through each beginning
 pub row_begins : (P : Account → Account → List ℕ → Type 0) → Keeps P → (text after : List ℕ) (a : Account) (r : Row) → P first_account first_account (up_to_nul text) → Begins text after a → HasRow text r → Walked P a after
@@ -60,28 +55,40 @@ pub record RowAt (text : List ℕ) (a : Account) (separation rest : List ℕ) (h
 
 -- a step that may stand has no TAB before it
 pub no_tab_before : (b : Account) (v : Step) (after : List ℕ) (c : Account) → account_past b v after ≡ Some c → is_indented_by_spaces b.site.before b.site.blocks b.site.awaits v.separation ≡ true
-no_tab_before b v after c e = by (is_indented_by_spaces b.site.before b.site.blocks b.site.awaits v.separation) refl e
-  where
-    x : Option Account
-    x = on_one_line v.piece (past_piece (At b v after) v.piece v.shown after (is_renewed b.site.before v.separation) v.key (line_past_separation (is_in_flow b.entries) (begins_free_line b.site.before v.separation) b.line) b.entries)
-
-    by : (t : Bool) → is_indented_by_spaces b.site.before b.site.blocks b.site.awaits v.separation ≡ t
-        → (if t && is_deep_enough (is_in_flow b.entries) v.shown (At b v after) && further_lines_stand (least_for v.shown (At b v after)) v.shown v.piece && may_precede (is_in_flow b.entries) (At b v after).blocks v.shown v.piece after then x else None) ≡ Some c → is_indented_by_spaces b.site.before b.site.blocks b.site.awaits v.separation ≡ true
-    by true i f = i
-    by false i f = absurd (cc f)
+no_tab_before b v after c e =
+    let by : (t : Bool) → is_indented_by_spaces b.site.before b.site.blocks b.site.awaits v.separation ≡ t → (if t && is_deep_enough (is_in_flow b.entries) v.shown (At b v after) && further_lines_stand (least_for v.shown (At b v after)) v.shown v.piece && may_precede (is_in_flow b.entries) (At b v after).blocks v.shown v.piece after then (on_one_line v.piece (past_piece (At b v after) v.piece v.shown after (is_renewed b.site.before v.separation) v.key (line_past_separation (is_in_flow b.entries) (begins_free_line b.site.before v.separation) b.line) b.entries)) else None) ≡ Some c
+    → is_indented_by_spaces b.site.before b.site.blocks b.site.awaits v.separation ≡ true =
+    λ a i f. grind (arith, nat_tests, eqb-true) in
+    by (is_indented_by_spaces b.site.before b.site.blocks b.site.awaits v.separation) refl e
 
 -- No TAB indents what comes after a step where steps lead on to the text's end.
 clear_on : (b : Account) (ws : List Step) (last gap content : List ℕ) → IsRowFrom (Some b) ws last → spelled ws last ≡ gap ++ content → is_separation false gap content ≡ true → begins_separation content ≡ false → is_empty content ≡ false → has_no_nul content ≡ true
     → is_indented_by_spaces b.site.before b.site.blocks b.site.awaits gap ≡ true
 clear_on b [] last gap content row e fills solid some clean = absurd (cc (some, ap is_empty (separations last gap [] content (row.0, refl) (fills, ends_before content solid clean) (append-nil last ∙ e)).1))
-clear_on b (v ∷ vs) last gap content row e fills solid some clean = by (account_past b v (spelled vs last)) refl row.1
-  where
-    there_is : (v.separation ≡ gap) × (v.piece ++ spelled vs last ≡ content)
-    there_is = step_here b v (spelled vs last) gap content row.0 e fills solid clean
+clear_on b (v ∷ vs) last gap content row e fills solid some clean =
+    let c = some_row (account_past b v (spelled vs last)) vs last row.1 in
+    subst (λ f. is_indented_by_spaces b.site.before b.site.blocks b.site.awaits f ≡ true) (step_here b v (spelled vs last) gap content row.0 e fills solid clean).0 (no_tab_before b v (spelled vs last) c.0 c.1)
 
-    by : (o : Option Account) → account_past b v (spelled vs last) ≡ o → IsRowFrom o vs last → is_indented_by_spaces b.site.before b.site.blocks b.site.awaits gap ≡ true
-    by None i k = absurd k
-    by (Some c) i k = subst (λ f. is_indented_by_spaces b.site.before b.site.blocks b.site.awaits f ≡ true) there_is.0 (no_tab_before b v (spelled vs last) c i)
+-- The step of a row, or of a way, that goes on from a place.
+abbrev pub step_from : (a b c : Account) (separation rest next : List ℕ) (here : Position) (w : Step) → IsLike a b → IsWritten b w next → account_past b w next ≡ Some c → w.separation ++ (w.piece ++ next) ≡ separation ++ rest
+    → is_separation false separation rest ≡ true → begins_separation rest ≡ false → has_no_nul rest ≡ true → here ≡ position_after a.site.position separation rest
+    → StepAt a separation rest here
+step_from a b c separation rest next here w like written past e filled solid clean here_is =
+    let at : (w.separation ≡ separation) × (w.piece ++ next ≡ rest) = step_here b w next separation rest written e filled solid clean in
+    record {
+      account = b;
+      is_like = like;
+      step = w;
+      next = next;
+      past = c;
+      is_written = written;
+      is_past = past;
+      separation_is = at.0;
+      text_is = at.1;
+      is_clean = clean;
+      here_is = here_is;
+      position_is = ap (λ s. position_after s.position w.separation (w.piece ++ next)) (sym like.0) ∙ (ap (λ f. position_after a.site.position f (w.piece ++ next)) at.0 ∙ (ap (λ z. position_after a.site.position separation z) at.1 ∙ sym here_is));
+    }
 
 pub row_at : (text separation rest : List ℕ) (a : Account) (here : Position) (r : Row) → IsPlace text a separation rest here → begins_separation rest ≡ false → is_empty rest ≡ false → HasRow text r → RowAt text a separation rest here
 row_at text separation rest a here r p solid some h = by g.steps g.is_row g.spells
@@ -94,29 +101,11 @@ row_at text separation rest a here r p solid some h = by g.steps g.is_row g.spel
 
     by : (ws : List Step) → IsRowFrom (Some g.account) ws g.last → spelled ws g.last ≡ separation ++ rest → RowAt text a separation rest here
     by [] row e = absurd (cc (some, ap is_empty (separations g.last separation [] rest (row.0, refl) (p.is_filled, ends_before rest solid clean) (append-nil g.last ∙ e)).1))
-    by (w ∷ ws) row e = to (account_past g.account w (spelled ws g.last)) refl row.1
-      where
-        at : (w.separation ≡ separation) × (w.piece ++ spelled ws g.last ≡ rest)
-        at = step_here g.account w (spelled ws g.last) separation rest row.0 e p.is_filled solid clean
-
-        to : (o : Option Account) → account_past g.account w (spelled ws g.last) ≡ o → IsRowFrom o ws g.last → RowAt text a separation rest here
-        to None i k = absurd k
-        to (Some b) i k = record {
+    by (w ∷ ws) row e =
+        let c = some_row (account_past g.account w (spelled ws g.last)) ws g.last row.1 in
+        record {
           begins = g.holds;
           is_clear = λ gap content cut fills solid_there some_there.
-              clear_on b ws g.last gap content k cut fills solid_there some_there (no_nul_after gap content (subst (λ n. has_no_nul n ≡ true) cut (no_nul_after w.piece (spelled ws g.last) (subst (λ n. has_no_nul n ≡ true) (sym at.1) clean))));
-          step_at = record {
-            account = g.account;
-            is_like = g.is_like;
-            step = w;
-            next = spelled ws g.last;
-            past = b;
-            is_written = row.0;
-            is_past = i;
-            separation_is = at.0;
-            text_is = at.1;
-            is_clean = clean;
-            here_is = p.is_here;
-            position_is = ap (λ s. position_after s.position w.separation (w.piece ++ spelled ws g.last)) (sym g.is_like.0) ∙ (ap (λ f. position_after a.site.position f (w.piece ++ spelled ws g.last)) at.0 ∙ (ap (λ z. position_after a.site.position separation z) at.1 ∙ sym p.is_here));
-          };
+              clear_on c.0 ws g.last gap content c.2 cut fills solid_there some_there (no_nul_after gap content (subst (λ n. has_no_nul n ≡ true) cut (no_nul_after w.piece (spelled ws g.last) (subst (λ n. has_no_nul n ≡ true) (sym (step_here g.account w (spelled ws g.last) separation rest row.0 e p.is_filled solid clean).1) clean))));
+          step_at = step_from a g.account c.0 separation rest (spelled ws g.last) here w g.is_like row.0 c.1 e p.is_filled solid clean p.is_here;
         }

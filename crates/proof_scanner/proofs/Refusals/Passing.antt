@@ -1,7 +1,6 @@
 -- Faults on the way to the next token, from a state between two fetches.
-use Rattle.proof_scanner.proofs.Common.{[], and_parts, ap, append-nil, append_assoc, arith, At, Begins, begins_separation, begins_white, BeginsButForKey, Bool, chained, chosen, drop_stale, either, eqb-true, Err, fails, false, Fault, fetch, fetch_here, fetch_next, follows_plain, HasNoTabs, Held, Holds, if◌then◌else◌, in_flow, inl, inr, is_at_comment_or_end, is_blank, is_break, is_empty, is_far, is_indented_by_spaces, is_one_of, is_overdue, is_renewed, is_separation, IsPlace, IsReadOn, IsStuck, Key, key_waits, List, list_any, map, may_not_stand, MayChoose, not, Ok, on_held, Option, or_right, outside_key, Position, position_after, position_append, Previous, refl, refused, Result, ScannerState, skip_to_next_token, Some, stale, Stands, still, subst, sym, top_key, tried, true, unroll_indent, went, ℕ, ◌++◌, ◌+◌, ◌<◌, ◌==◌, ◌||◌, ◌∙◌, ◌∷◌, ◌≡◌, nat_tests}
+use Rattle.proof_scanner.proofs.Common.{[], and_parts, ap, append-nil, append_assoc, arith, Begins, begins_white, BeginsButForKey, Bool, chained, chosen, drop_stale, either, eqb-true, Err, fails, false, Fault, fetch, fetch_here, fetch_next, follows_plain, Held, Holds, in_flow, is_empty, is_far, is_indented_by_spaces, is_one_of, is_renewed, is_separation, IsPlace, IsReadOn, IsStuck, Key, key_waits, List, map, may_not_stand, MayChoose, not, Ok, on_held, Option, or_right, outside_key, Position, position_after, position_append, Previous, refl, refused, Result, ScannerState, skip_to_next_token, Some, stale, Stands, still, subst, sym, top_key, tried, true, unroll_indent, went, ℕ, ◌++◌, ◌+◌, ◌<◌, ◌==◌, ◌∙◌, ◌∷◌, ◌≡◌, nat_tests, cases_Bool, inl, inr}
 use Rattle.yaml_tokens.specs.declared.problem.Problem.TheVariants as problem
-use Rattle.model_scanner.specs.Keys.{with_keys}
 use Rattle.proof_scanner.proofs.Cut.Pieces.Separations.{separation_append}
 use Rattle.proof_scanner.proofs.Cut.Positions.{not_before_after}
 use Rattle.proof_scanner.proofs.Sound.Passed.{least_is}
@@ -9,7 +8,7 @@ use Rattle.proof_scanner.proofs.Sound.Stales.{no_entries}
 use Rattle.proof_scanner.proofs.Sound.ToToken.{is_in}
 use Rattle.proof_scanner.specs.Failing as defs
 use Rattle.proof_scanner.proofs.Sound.StreamEnds.{same_flow}
-use Rattle.proof_scanner.proofs.Refusals.Faults.{Faults, fault, goes}
+use Rattle.proof_scanner.proofs.Refusals.Faults.{Faults, mapped}
 use Rattle.proof_scanner.proofs.Refusals.Places.{entries_alike, Said, IsWhy, Where, placed, behind, where_is}
 use Rattle.proof_scanner.proofs.Refusals.Tabs.{TabStands, skip_refused}
 
@@ -21,17 +20,11 @@ HasNear s = is_empty s.flow ≡ true → (k : Key) → top_key s.keys ≡ Some k
 
 stale_near : (s : Held) → Holds HasNear (stale s)
 unfolding stale drop_stale
-stale_near s = either (in_flow s) (λ i. went (λ o. absurd (cc (o, ap not o, i)))) (λ _. by (list_any (is_overdue s.position) s.keys))
+stale_near s = either (in_flow s) (λ i. went (λ o. absurd (cc (o, ap not o, i)))) (λ _. (grind (arith, refused, went, first)))
   where
-    kept : (o : Option Key) (k : Key) → still s.position o ≡ Some k → is_far k.position s.position ≡ false
-    kept o k e = grind arith
-
     first : (ks : List (Option Key)) (k : Key) → top_key (map (still s.position) ks) ≡ Some k → is_far k.position s.position ≡ false
     first [] k e = absurd (cc e)
-    first (o ∷ ks) k e = kept o k e
-
-    by : (b : Bool) → Holds HasNear (with_keys s (if b then Err (At problem.KeyWithoutColon s.position) else Ok (map (still s.position) s.keys)))
-    by a = grind (arith, refused, went, first)
+    first (o ∷ ks) k e = grind arith
 
 pub anything : {A : Type 0} (r : Result A Fault) → Holds (λ x. Unit {0}) r
 anything (Ok x) = went tt
@@ -47,10 +40,6 @@ unfolding fetch
 fetch_near t started = either t.held.started (λ _. next_near t) (λ n. absurd (cc (n, started)))
 
 -- ---- TABs
-
--- content begins no comment, and does not end a line
-at_content : (r : List ℕ) → is_empty r ≡ false → begins_separation r ≡ false → is_at_comment_or_end r ≡ true → ⊥
-at_content a b d h = grind arith
 
 -- no key waits behind where it is near
 far_behind : (k p : Position) → is_far k p ≡ false → k.line < p.line → ⊥
@@ -73,25 +62,17 @@ module _ (text : List ℕ) (t : ScannerState) (s : Stands text t) (near : HasNea
 
       -- after a plain scalar all blanks and breaks were passed, so a comment stands here
       no_plain : follows_plain s.base.site.before (s.separation ++ d.passed) ≡ false
-      no_plain = by s.base.site.before refl s.read_on
+      no_plain =
+          let by : (b : Previous) → s.base.site.before ≡ b → IsReadOn b s.base.site.position s.separation t.rest → follows_plain b (s.separation ++ d.passed) ≡ false = λ b i white. grind (arith, nat_tests, comment, eqb-true) in
+          by s.base.site.before refl s.read_on
         where
           hash : (f p : List ℕ) → is_one_of (f ++ 35 ∷ p) 35 ≡ true
           hash [] p = refl
           hash (c ∷ f) p = or_right (35 == c) _ (hash f p)
 
           comment : (passed : List ℕ) → t.rest ≡ passed ++ d.rest → is_separation false passed d.rest ≡ true → begins_white t.rest ≡ false → is_indented_by_spaces s.base.site.before s.base.site.blocks s.base.site.awaits (s.separation ++ passed) ≡ false → is_one_of (s.separation ++ passed) 35 ≡ true
-          comment [] e fills white tab = absurd (none_there s.has_no_tabs)
-            where
-              none_there : HasNoTabs s.base.site s.separation t.rest → ⊥
-              none_there (inl h) = at_content d.rest d.goes_on d.is_solid (subst (λ r. is_at_comment_or_end r ≡ true) e h)
-              none_there (inr h) = cc (h, ap (λ f. is_indented_by_spaces s.base.site.before s.base.site.blocks s.base.site.awaits f) (append-nil s.separation), tab)
-          comment (c ∷ p) e fills white tab = by_first (is_blank c) (is_break c) (c == 35) refl (and_parts (is_blank c || is_break c || (c == 35)) (is_separation (c == 35) p d.rest) fills).0 (subst (λ r. begins_white r ≡ false) e white)
-            where
-              by_first : (blank break mark : Bool) → (c == 35) ≡ mark → (blank || break || mark) ≡ true → (blank || break) ≡ false → is_one_of (s.separation ++ c ∷ p) 35 ≡ true
-              by_first blank break mark i h k = grind (arith, hash, eqb-true)
-
-          by : (b : Previous) → s.base.site.before ≡ b → IsReadOn b s.base.site.position s.separation t.rest → follows_plain b (s.separation ++ d.passed) ≡ false
-          by b i white = grind (arith, nat_tests, comment, eqb-true)
+          comment [] e fills white tab = grind (arith, nat_tests, eqb-true, append-nil)
+          comment (c ∷ p) e fills white tab = grind (arith, nat_tests, and_parts, hash, eqb-true)
 
       place : (c : Bool) → MayChoose true c (outside_key s.base.entries t.held.keys) t.held.position t.rest → IsPlace text (chosen c [] t.held.keys s.base) (s.separation ++ d.passed) d.rest here
       place c may = record {
@@ -105,23 +86,18 @@ module _ (text : List ℕ) (t : ScannerState) (s : Stands text t) (near : HasNea
 
       by : Where (outside_key s.base.entries t.held.keys) t.held.position t.rest → IsWhy text problem.TabInBlockIndentation here
       by (placed c may) = said (fails (chosen c [] t.held.keys s.base) (s.separation ++ d.passed) d.rest problem.TabInBlockIndentation here here (place c may) d.goes_on d.is_solid (record { fails = may_not_stand (defs.tab_indents d.is_indented_by_tab); is_first = no_plain }))
-      by (behind x e must late) = on (is_empty t.held.flow) refl
-        where
-          on : (out : Bool) → is_empty t.held.flow ≡ out → IsWhy text problem.TabInBlockIndentation here
-          on true out =
-              let none : s.base.entries ≡ [] = no_entries t.held.key_allowed (is_renewed s.base.site.before s.separation) t.held.flow t.held.keys s.base.entries out s.are_entries in
-              absurd (far_behind x.position t.held.position (near out x (ap (λ es. outside_key es t.held.keys) (sym none) ∙ e)) late)
-          on false i =
-              let later = (not_before_after t.held.position d.passed d.rest).0 in
-              let inside : is_empty s.base.entries ≡ false = sym (same_flow t.held.key_allowed (is_renewed s.base.site.before s.separation) t.held.flow t.held.keys s.base.entries s.are_entries) ∙ i in
-              said (key_waits (chosen false [] t.held.keys s.base) (s.separation ++ d.passed) d.rest problem.TabInBlockIndentation x.position here here
-              (subst (λ r. BeginsButForKey text r x.position (chosen false [] t.held.keys s.base)) (ap (λ r. s.separation ++ r) d.cut ∙ sym (append_assoc s.separation d.passed d.rest)) (s.carries [] x e must inside d.is_some))
-              (ap not (entries_alike [] t.held.keys s.base.entries ∙ inside)) filled here_is (omega (arith, later, late)) d.goes_on d.is_solid (record { fails = may_not_stand (defs.tab_indents d.is_indented_by_tab); is_first = no_plain }))
+      by (behind x e must late) = elim (cases_Bool (is_empty t.held.flow)) [
+        | inl out ↦
+            let none : s.base.entries ≡ [] = no_entries t.held.key_allowed (is_renewed s.base.site.before s.separation) t.held.flow t.held.keys s.base.entries out s.are_entries in
+            absurd (far_behind x.position t.held.position (near out x (ap (λ es. outside_key es t.held.keys) (sym none) ∙ e)) late)
+        | inr i ↦
+            let later = (not_before_after t.held.position d.passed d.rest).0 in
+            let inside : is_empty s.base.entries ≡ false = sym (same_flow t.held.key_allowed (is_renewed s.base.site.before s.separation) t.held.flow t.held.keys s.base.entries s.are_entries) ∙ i in
+            said (key_waits (chosen false [] t.held.keys s.base) (s.separation ++ d.passed) d.rest problem.TabInBlockIndentation x.position here here
+            (subst (λ r. BeginsButForKey text r x.position (chosen false [] t.held.keys s.base)) (ap (λ r. s.separation ++ r) d.cut ∙ sym (append_assoc s.separation d.passed d.rest)) (s.carries [] x e must inside d.is_some))
+            (ap not (entries_alike [] t.held.keys s.base.entries ∙ inside)) filled here_is (omega (arith, later, late)) d.goes_on d.is_solid (record { fails = may_not_stand (defs.tab_indents d.is_indented_by_tab); is_first = no_plain }))
+      ]
 
   pub passing_told : Faults (Said text) (skip_to_next_token t)
   passing_told =
-      by (skip_refused s.base.site.before s.base.site.blocks s.base.site.awaits s.separation t (least_is s.base.site.blocks s.base.site.awaits t.held s.blocks_are s.awaits_is s.are_levels) (λ h. is_in text t s h))
-    where
-      by : {r : Result ScannerState Fault} → Faults (TabStands s.base.site.blocks s.base.site.awaits s.base.site.before s.separation t.rest t.held.position) r → Faults (Said text) r
-      by (fault d) = fault (tab_stuck d)
-      by goes = goes
+      mapped (λ f d. tab_stuck d) (skip_refused s.base.site.before s.base.site.blocks s.base.site.awaits s.separation t (least_is s.base.site.blocks s.base.site.awaits t.held s.blocks_are s.awaits_is s.are_levels) (λ h. is_in text t s h))

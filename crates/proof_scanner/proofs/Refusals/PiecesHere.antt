@@ -1,5 +1,5 @@
 -- What a row's piece at a place is, by the text there; and texts with which no piece begins.
-use Rattle.proof_scanner.proofs.Common.{[], Account, act_of, alias_name, all_of, ap, arith, block_entry, Bool, context_of, dash, Directive, directive_line, directive_token, Entry, false, flow_mapping_start, flow_sequence_start, goes_on_with_name, inl, inr, is_adjacent, is_at_gap, is_blank, is_blank_or_end, is_break, is_empty, is_flow, is_in_flow, is_marker, is_name, is_nul, IsPiece, kind_at, length, level_of, LikeEntries, List, mapping_opening, nat_lt, nat_tests, None, not, not_empty, Position, refl, seen, sequence_opening, shown_position, subst, suc, sym, true, Whole, ℕ, ◌++◌, ◌==◌, ◌∙◌, ◌∷◌, ◌≡◌, ◌≤◌, ◌⊎◌, eqb-true}
+use Rattle.proof_scanner.proofs.Common.{Account, act_of, alias_name, all_of, ap, arith, block_entry, Bool, context_of, dash, Directive, directive_line, directive_token, Entry, false, flow_mapping_start, flow_sequence_start, goes_on_with_name, inl, inr, is_adjacent, is_at_gap, is_blank, is_blank_or_end, is_break, is_flow, is_in_flow, is_marker, is_name, is_nul, IsPiece, kind_at, length, level_of, LikeEntries, List, mapping_opening, nat_lt, nat_tests, None, not_empty, Position, refl, seen, sequence_opening, shown_position, subst, suc, sym, true, Whole, ℕ, ◌++◌, ◌==◌, ◌∙◌, ◌∷◌, ◌≡◌, ◌≤◌, ◌⊎◌, eqb-true}
 use Rattle.defs_token.specs.Account as pieces
 use Rattle.proof_row.specs.Ends.{anchor_name}
 use Rattle.proof_row.proofs.Written as written
@@ -11,9 +11,8 @@ use Rattle.std.proofs.lemmas.List.{length-map}
 
 -- entries that are alike are as many
 pub many_alike : (ds es : List Entry) → LikeEntries ds es → length ds ≡ length es
-many_alike [] a h = grind arith
-many_alike (d ∷ ds) [] h = absurd h
 many_alike (d ∷ ds) (e ∷ es) h = ap suc (many_alike ds es h.1)
+many_alike a b h = grind arith
 
 module _ (a : Account) (separation rest : List ℕ) (here : Position) (s : StepAt a separation rest here) where
   abbrev pub next : List ℕ
@@ -37,9 +36,6 @@ module _ (a : Account) (separation rest : List ℕ) (here : Position) (s : StepA
   pub whole_by : (c : ℕ) (more : List ℕ) → rest ≡ c ∷ more → Whole (kind_at (pieces.is_in_flow acct) (is_adjacent acct.before) acct.position.col (c ∷ more)) (context_of acct) s.step.piece next s.step.shown
   whole_by c more e = kind_is (kind_at (pieces.is_in_flow acct) (is_adjacent acct.before) acct.position.col (c ∷ more)) acct s.step.piece next (c ∷ more) spot s.step.shown (not_empty s.step.piece s.is_written.1.0) is_piece (s.text_is ∙ e) refl
 
-  levels_are : length acct.levels ≡ length a.entries
-  levels_are = length-map s.account.entries level_of ∙ sym (many_alike a.entries s.account.entries s.is_like.2)
-
   pub no_at_sign : (more : List ℕ) → rest ≡ 64 ∷ more → ⊥
   unfolding is_blank_or_end is_blank is_break is_nul is_flow
   no_at_sign more e = whole_by 64 more e
@@ -51,14 +47,12 @@ module _ (a : Account) (separation rest : List ℕ) (here : Position) (s : StepA
   pub no_percent : (more : List ℕ) → rest ≡ 37 ∷ more → (here.col == 0) ≡ false → ⊥
   unfolding is_blank_or_end is_blank is_break is_nul is_flow
   no_percent more e other =
+      let is_line : (d : Directive) → is_marker (act_of (directive_token d)) ≡ true = λ a. grind arith in
       let line : Whole directive_line (context_of acct) s.step.piece next s.step.shown = whole_by 37 more e in
       let marker : is_marker (act_of s.step.shown) ≡ true = ap (λ t. is_marker (act_of t)) line.4 ∙ is_line line.0 in
       let begins = marker_begins acct s.step.piece next None spot s.step.shown is_piece marker in
       let zero : here.col ≡ 0 = ap (λ p. p.col) (sym s.position_is) ∙ begins.column in
       cc (other, ap (λ n. n == 0) zero)
-    where
-      is_line : (d : Directive) → is_marker (act_of (directive_token d)) ≡ true
-      is_line a = grind arith
 
   name_goes_on : (name more : List ℕ) → is_name name ≡ true → name ++ next ≡ more → goes_on_with_name more ≡ true
   name_goes_on a more h e = grind (arith, all_of)
@@ -79,20 +73,14 @@ module _ (a : Account) (separation rest : List ℕ) (here : Position) (s : StepA
   unfolding is_blank_or_end is_blank is_break is_nul is_flow
   dash_kind fl adjacent column more gap = rw gap refl
 
-  many_none : {A : Type 0} (xs : List A) → not (is_empty xs) ≡ false → length xs ≡ 0
-  many_none a h = grind arith
-
-  many_some : (es : List Entry) → not (is_empty es) ≡ true → length es ≡ 0 → ⊥
-  many_some a h n = grind arith
-
   pub no_dash : (more : List ℕ) → rest ≡ 45 ∷ more → is_at_gap more ≡ true → is_in_flow a.entries ≡ true → ⊥
   no_dash more e gap inside =
       let own : Whole dash (context_of acct) s.step.piece next s.step.shown = subst (λ k. Whole k (context_of acct) s.step.piece next s.step.shown) (dash_kind (pieces.is_in_flow acct) (is_adjacent acct.before) acct.position.col more gap) (whole_by 45 more e) in
       let piece : IsPiece acct s.step.piece next None spot block_entry = subst (λ t. IsPiece acct s.step.piece next None spot t) own.2 is_piece in
-      many_some a.entries inside (sym levels_are ∙ many_none acct.levels piece.2)
+      (grind arith)
 
   pub no_room : 255 ≤ length a.entries → nat_lt (length acct.levels) 255 ≡ true → ⊥
-  no_room many room = grind (arith, nat_tests, many, room, levels_are)
+  no_room many room = grind (arith, nat_tests, many, room, (length-map s.account.entries level_of ∙ sym (many_alike a.entries s.account.entries s.is_like.2)))
 
   pub no_bracket : (c : ℕ) (more : List ℕ) → rest ≡ c ∷ more → (c ≡ 91) ⊎ (c ≡ 123) → 255 ≤ length a.entries → ⊥
   unfolding is_blank_or_end is_blank is_break is_nul is_flow
@@ -101,8 +89,6 @@ module _ (a : Account) (separation rest : List ℕ) (here : Position) (s : StepA
       let piece : IsPiece acct s.step.piece next None spot flow_sequence_start = subst (λ t. IsPiece acct s.step.piece next None spot t) own.1 is_piece in
       no_room many piece.0.1
   no_bracket c more e (inr is) many =
+      let by : IsPiece acct s.step.piece next None spot flow_mapping_start → ⊥ = λ a. grind (arith, nat_tests, no_room, many, not_empty, eqb-true) in
       let own : Whole mapping_opening (context_of acct) s.step.piece next s.step.shown = whole_by 123 more (e ∙ ap (λ x. x ∷ more) is) in
       by (subst (λ t. IsPiece acct s.step.piece next None spot t) own.1 is_piece)
-    where
-      by : IsPiece acct s.step.piece next None spot flow_mapping_start → ⊥
-      by a = grind (arith, nat_tests, no_room, many, not_empty, eqb-true)

@@ -1,7 +1,7 @@
 -- Where a piece may not stand at its column, or before what follows it, no row of the text goes on.
-use Rattle.proof_scanner.proofs.Common.{[], Account, act_of, after, and_parts, ap, are_empty, arith, begins_document_at, begins_entry, begins_separation, begins_with, begins_with_alpha, block_entry, block_may_end, block_position, block_read, BlockRead, blocks_at, BlockStyle, Bool, colon_may_precede, content_position, dash_may_precede, document_end, double_quoted, Entry, eqb-true, false, folded, gives_block_scalar, gives_marker, gives_node, GoesOn, has, has_no_nul, if◌then◌else◌, innermost, innermost_column, is_alpha, is_at_end, is_at_gap, is_at_line_end, is_blank, is_blank_or_end, is_blanks, is_break, is_decimal_digit, is_deep_enough, is_document_marker, is_empty, is_in_flow, is_letter, is_marker, is_nul, is_one_of, is_separation, is_white, IsPiece, IsQuoted, IsWritten, leading, leading_spaces, least_column, least_for, level_of, line_is_done, lines_may_end, List, literal, map, may_precede, may_stand, nat_le, nat_lt, nat_tests, None, not, Option, or_left, Position, position_after, quoted_may_end, read_may_end, refl, same_flow, same_piece, scalar, seen, shown_position, single_quoted, Site, site_at, site_at_place, site_in, Some, split, Step, sym, tab, Tok, true, value, ℕ, ◌&&◌, ◌++◌, ◌==◌, ◌||◌, ◌∙◌, ◌∷◌, ◌≡◌, ◌≤◌}
+use Rattle.proof_scanner.proofs.Common.{[], Account, act_of, and_parts, ap, are_empty, arith, begins_document_at, begins_entry, begins_separation, begins_with, begins_with_alpha, block_entry, block_may_end, block_position, block_read, BlockRead, blocks_at, BlockStyle, Bool, colon_may_precede, content_position, dash_may_precede, document_end, double_quoted, Entry, eqb-true, false, folded, gives_block_scalar, GoesOn, has, has_no_nul, if◌then◌else◌, innermost, innermost_column, is_alpha, is_at_end, is_at_gap, is_at_line_end, is_blank, is_blank_or_end, is_blanks, is_break, is_decimal_digit, is_empty, is_in_flow, is_letter, is_marker, is_nul, is_one_of, is_separation, IsPiece, IsQuoted, IsWritten, leading, leading_spaces, least_column, least_for, level_of, List, literal, map, may_precede, nat_le, nat_lt, nat_tests, None, not, Option, or_left, Position, position_after, quoted_may_end, refl, same_flow, same_piece, scalar, seen, shown_position, single_quoted, Site, site_at, site_at_place, Some, split, Step, sym, Tok, true, value, ℕ, ◌&&◌, ◌++◌, ◌||◌, ◌∙◌, ◌∷◌, ◌≡◌, ◌≤◌}
 use Rattle.defs_token.specs.Token as tokens
-use Rattle.proof_scanner.proofs.Refusals.KindsOfPieces.{begins_document, marker_begins}
+use Rattle.proof_scanner.proofs.Refusals.KindsOfPieces.{marker_begins}
 use Rattle.proof_scanner.proofs.Refusals.AfterQuoted.{not_done}
 use Rattle.proof_scanner.proofs.Sound.QuotedEnds.{blanks_alone, after_blanks}
 use Rattle.proof_row.proofs.Written.{At}
@@ -33,16 +33,7 @@ may_go a separation piece t next = may_precede (is_in_flow a.entries) (site_at (
 -- a colon may not stand before TABs alone and a letter
 pub no_colon_before : (more passed content : List ℕ) → begins_with 9 more ≡ true → GoesOn more passed content → has 32 passed ≡ false → begins_with_alpha content ≡ true → colon_may_precede more ≡ false
 unfolding is_blank is_break is_nul is_alpha is_decimal_digit is_letter
-no_colon_before more passed [] tab_there on lacks letter = absurd (cc letter)
-no_colon_before more passed (d ∷ r) tab_there on lacks letter =
-    let goes_on : is_at_line_end (d ∷ r) ≡ false = grind (arith, nat_tests, letter) in
-    let none : is_blank d ≡ false = grind (arith, nat_tests, letter) in
-    let blanks = (blanks_alone false passed (d ∷ r) on.is_filled on.is_on_line goes_on).1 in
-    let left : after is_blank (passed ++ d ∷ r) ≡ d ∷ r = after_blanks passed (d ∷ r) blanks ∙ rw none refl in
-    ap (λ y. not (y && not (is_one_of (leading is_blank more) 32) && begins_with_alpha (after is_blank more))) tab_there ∙
-    (ap (λ m. not (not (is_one_of (leading is_blank m) 32) && begins_with_alpha (after is_blank m))) on.is_text ∙
-    (ap (λ l. not (not (is_one_of l 32) && begins_with_alpha (after is_blank (passed ++ d ∷ r)))) (leading_blanks passed d r blanks none) ∙
-    (ap (λ x. not (not (is_one_of passed 32) && begins_with_alpha x)) left ∙ ap (λ y. not (not y && begins_with_alpha (d ∷ r))) (among 32 passed ∙ lacks) ∙ ap not letter)))
+no_colon_before more passed a tab_there on lacks letter = grind (arith, nat_tests, eqb-true, blanks_alone, after_blanks, leading_blanks, among)
 
 pub tab_gap : (more : List ℕ) → begins_with 9 more ≡ true → is_at_gap more ≡ true
 unfolding is_blank_or_end is_blank is_break is_nul
@@ -56,25 +47,16 @@ module _ (a : Account) (separation rest : List ℕ) (here : Position) (s : StepA
   abbrev pub own : (piece : List ℕ) → Tok → Step
   own piece t = record { separation = separation; piece = piece; shown = t; key = false }
 
-  is_filled : is_separation false separation rest ≡ true
-  is_filled = ap (λ f. is_separation false f rest) (sym s.separation_is) ∙ (ap (λ r. is_separation false s.step.separation r) (sym s.text_is) ∙ s.is_written.0)
-
-  same_go : (piece more : List ℕ) (t : Tok) → (piece ≡ s.step.piece) × (t ≡ s.step.shown) × (more ≡ next) → may_go a separation piece t more ≡ may_go s.account s.step.separation s.step.piece s.step.shown next
-  same_go piece more t is = grind (arith, separation, same_flow)
-
   -- the row's piece is the one of this token that begins here
   pub same_step : (piece more : List ℕ) (t : Tok) → rest ≡ piece ++ more → not (is_empty piece) ≡ true → IsPiece (seen a (At a (own piece t) more) separation) piece more None (shown_position (At a (own piece t) more) piece t more) t
       → (piece ≡ s.step.piece) × (t ≡ s.step.shown) × (more ≡ next)
   same_step piece more t e some is =
-      let written : IsWritten a (own piece t) more = (ap (λ r. is_separation false separation r) (sym e) ∙ is_filled, (some, is)) in
+      let written : IsWritten a (own piece t) more = (ap (λ r. is_separation false separation r) (sym e) ∙ (ap (λ f. is_separation false f rest) (sym s.separation_is) ∙ (ap (λ r. is_separation false s.step.separation r) (sym s.text_is) ∙ s.is_written.0)), (some, is)) in
       same_piece a s.account (own piece t) s.step more next s.is_like written s.is_written (sym s.separation_is) (sym e ∙ sym s.text_is) (ap has_no_nul (sym e) ∙ s.is_clean)
 
   -- The piece that begins here, of this token, may not stand before what follows it.
   pub no_step : (piece more : List ℕ) (t : Tok) → rest ≡ piece ++ more → not (is_empty piece) ≡ true → IsPiece (seen a (At a (own piece t) more) separation) piece more None (shown_position (At a (own piece t) more) piece t more) t → may_go a separation piece t more ≡ false → ⊥
-  no_step piece more t e some is no_more =
-      let same = same_step piece more t e some is in
-      let stays : may_go s.account s.step.separation s.step.piece s.step.shown next ≡ false = sym (same_go piece more t same) ∙ no_more in
-      refused _ (may_stand (is_in_flow s.account.entries) s.account.site (At s.account s.step next) s.step.separation s.step.piece s.step.shown next) s.past (and_last _ _ stays) s.is_past
+  no_step piece more t e some is no_more = grind (arith, nat_tests, eqb-true, same_step, separation, same_flow, and_last)
 
   flow_seen : (es : List Entry) → is_in_flow es ≡ false → not (is_empty (map level_of es)) ≡ false
   flow_seen a h = grind arith
@@ -85,63 +67,23 @@ module _ (a : Account) (separation rest : List ℕ) (here : Position) (s : StepA
   abbrev there : Site
   there = At s.account s.step next
 
-  both_true : (x y : Bool) → x ≡ true → y ≡ true → (x && y) ≡ false → ⊥
-  both_true a y e f h = grind arith
-
   no_line : begins_document_at here rest ≡ false → is_marker (act_of s.step.shown) ≡ false
-  no_line none = by (is_marker (act_of s.step.shown)) refl
-    where
-      alike : (r : List ℕ) → begins_document r ≡ (begins_with 37 r || is_document_marker r)
-      alike a = grind arith
-
-      by : (b : Bool) → is_marker (act_of s.step.shown) ≡ b → b ≡ false
-      by b e = grind (arith, marker_begins, alike, both_true)
-
-  least_more : (bs : List ℕ) (awaits : Bool) → least_column bs awaits ≤ least_column bs true
-  least_more a b = grind arith
+  no_line none = grind (arith, nat_tests, eqb-true, marker_begins)
 
   least_at_most : (t : Tok) (x : Site) → least_column x.blocks x.awaits ≤ least_for t x
-  least_at_most t x = grind (arith, least_more)
+  least_at_most t x = grind arith
 
   too_shallow : (t : Tok) (x : Site) → is_marker (act_of t) ≡ false → nat_le (least_column x.blocks x.awaits) x.position.col ≡ false → (is_marker (act_of t) || nat_le (least_for t x) x.position.col) ≡ false
   too_shallow t x e f = ap (λ b. b || nat_le (least_for t x) x.position.col) e ∙ (let up = least_at_most t x in grind (arith, nat_tests, up, f))
 
   pub no_shallow : is_in_flow a.entries ≡ true → begins_document_at here rest ≡ false → nat_le (least_column (site_at_place a here).blocks (site_at_place a here).awaits) here.col ≡ false → ⊥
-  no_shallow inside none left = refused _ (may_stand (is_in_flow s.account.entries) s.account.site there s.step.separation s.step.piece s.step.shown next) s.past (second_fails _ _ _ _ deep) s.is_past
-    where
-      inside_there : is_in_flow s.account.entries ≡ true
-      inside_there = sym (same_flow a.entries s.account.entries s.is_like.2) ∙ inside
-
-      in_flow : Site
-      in_flow = site_at true s.account.site s.step.separation s.step.piece s.step.shown next
-
-      place : in_flow.position ≡ here
-      place = s.position_is
-
-      same_site : least_column (site_at_place a here).blocks (site_at_place a here).awaits ≡ least_column s.account.site.blocks s.account.site.awaits
-      same_site =
-          ap (λ fl. least_column (site_in fl gives_node here a.site).blocks (site_in fl gives_node here a.site).awaits) inside ∙ ap (λ x. least_column x.blocks x.awaits) s.is_like.0
-
-      low : nat_le (least_column s.account.site.blocks s.account.site.awaits) in_flow.position.col ≡ false
-      low = ap (λ (q : Position). nat_le (least_column s.account.site.blocks s.account.site.awaits) q.col) place ∙ (ap (λ n. nat_le n here.col) (sym same_site) ∙ left)
-
-      deep : is_deep_enough (is_in_flow s.account.entries) s.step.shown there ≡ false
-      deep = ap (λ fl. is_deep_enough fl s.step.shown (site_at fl s.account.site s.step.separation s.step.piece s.step.shown next)) inside_there ∙ too_shallow s.step.shown in_flow (no_line none) low
+  no_shallow inside none left = grind (arith, nat_tests, eqb-true, second_fails, same_flow, too_shallow, no_line)
 
   -- ---- a dash
 
   no_tab_before : (more passed content : List ℕ) → GoesOn more passed content → has 9 passed ≡ true → begins_entry content ≡ true → dash_may_precede more ≡ false
   unfolding is_blank is_break is_nul
-  no_tab_before more passed [] on tab_there begins = absurd (cc begins)
-  no_tab_before more passed (d ∷ r) on tab_there begins =
-      let first : d ≡ 45 = eqb-true d 45 (and_parts (d == 45) (is_at_gap r) begins).0 in
-      let goes_on : is_at_line_end (d ∷ r) ≡ false = rw first refl in
-      let none : is_blank d ≡ false = rw first refl in
-      let blanks = (blanks_alone false passed (d ∷ r) on.is_filled on.is_on_line goes_on).1 in
-      let left : after is_blank (passed ++ d ∷ r) ≡ d ∷ r = after_blanks passed (d ∷ r) blanks ∙ rw none refl in
-      ap dash_may_precede on.is_text ∙
-      (ap (λ l. not (is_one_of l tab && begins_entry (after is_blank (passed ++ d ∷ r)))) (leading_blanks passed d r blanks none) ∙
-      (ap (λ x. not (is_one_of passed tab && begins_entry x)) left ∙ rw (among 9 passed ∙ tab_there, begins) refl))
+  no_tab_before more passed a on tab_there begins = grind (arith, nat_tests, eqb-true, and_parts, blanks_alone, after_blanks, leading_blanks, among)
 
   pub no_tabbed_dash : (more passed content : List ℕ) → is_in_flow a.entries ≡ false → rest ≡ 45 ∷ more → is_at_gap more ≡ true → GoesOn more passed content → has 9 passed ≡ true → begins_entry content ≡ true → ⊥
   no_tabbed_dash more passed content out e gap on tab_there begins = no_step (45 ∷ []) more block_entry e refl (refl, gap, flow_seen a.entries out) (no_tab_before more passed content on tab_there begins)
@@ -154,20 +96,10 @@ module _ (a : Account) (separation rest : List ℕ) (here : Position) (s : StepA
 
   -- ---- the end of a document
 
-  closed : (es : List Entry) (column : ℕ) (bs : List ℕ) → (if not (is_empty (map level_of es)) then true else not (not (is_empty (map (λ n. Some n) (blocks_at (is_in_flow es) gives_marker column bs))))) ≡ true
-  closed a column bs = grind arith
-
-  holds_more : (more passed content : List ℕ) → GoesOn more passed content → is_at_line_end content ≡ false → begins_separation content ≡ false → line_is_done more ≡ false
-  holds_more more passed [] on ends solid = absurd (cc ends)
-  holds_more more passed (d ∷ r) on ends solid =
-      let white = neither (is_white d) (d == 35) solid in
-      let blank = neither (is_blank d) (is_break d) white.0 in
-      ap line_is_done on.is_text ∙ not_done passed d r (blanks_alone false passed (d ∷ r) on.is_filled on.is_on_line ends).1 blank.1 blank.0 white.1
-
   pub no_document_end : (more passed content : List ℕ) → here.col ≡ 0 → rest ≡ 46 ∷ 46 ∷ 46 ∷ more → is_at_gap more ≡ true → GoesOn more passed content → is_at_line_end content ≡ false → begins_separation content ≡ false → ⊥
   no_document_end more passed content col e gap on ends solid =
       let place : position_after a.site.position separation (46 ∷ 46 ∷ 46 ∷ more) ≡ here = ap (λ r. position_after a.site.position separation r) (sym e) ∙ sym s.here_is in
-      no_step (46 ∷ 46 ∷ 46 ∷ []) more document_end e refl ((refl, ap (λ (p : Position). p.col) place ∙ col, gap, closed a.entries (position_after a.site.position separation (46 ∷ 46 ∷ 46 ∷ more)).col a.site.blocks), refl) (holds_more more passed content on ends solid)
+      no_step (46 ∷ 46 ∷ 46 ∷ []) more document_end e refl ((refl, ap (λ (p : Position). p.col) place ∙ col, gap, (grind arith)), refl) (grind (arith, nat_tests, eqb-true, neither, not_done, blanks_alone))
 
   -- ---- quoted scalars
 
@@ -193,23 +125,13 @@ module _ (a : Account) (separation rest : List ℕ) (here : Position) (s : StepA
     going = blocks_at (is_in_flow a.entries) gives_block_scalar place.col a.site.blocks
 
     going_are : going ≡ (site_at_place a here).blocks
-    going_are =
-        ap (λ fl. blocks_at fl gives_block_scalar place.col a.site.blocks) out ∙
-        (ap (λ (q : Position). blocks_at false gives_node q.col a.site.blocks) (ap (λ r. position_after a.site.position separation r) (sym cut) ∙ sym s.here_is) ∙ ap (λ fl. blocks_at fl gives_node here.col a.site.blocks) (sym out))
+    going_are = grind (arith, nat_tests, eqb-true)
 
     read_going : block_read (innermost going) piece more ≡ Some b
     read_going = ap (λ bs. block_read (innermost bs) piece more) going_are ∙ is
 
     may_not : block_may_end going piece more ≡ false
-    may_not =
-        ap (λ x. x || read_may_end going (block_read (innermost going) piece more) piece more) further ∙
-        (ap (λ o. read_may_end going o piece more) read_going ∙
-        (ap (λ ls. lines_may_end going b.column ls more) lines_are ∙ and_last (not (is_empty lines && begins_with tab more)) _
-        (by (are_empty b.column lines) (nat_lt (leading_spaces more) (least_column going true)) (nat_le b.column (leading_spaces more)) empty
-        (ap (λ bs. nat_lt (leading_spaces more) (least_column bs true)) going_are ∙ grind (arith, nat_tests, deep)) (grind (arith, nat_tests, left)))))
-      where
-        by : (x y z : Bool) → x ≡ true → y ≡ false → z ≡ false → (not x || y || z) ≡ false
-        by x y z e f g = rw (e, f, g) refl
+    may_not = grind (arith, nat_tests, eqb-true, read_going, and_last, going_are)
 
     in_style : (style : BlockStyle) → b.style ≡ style → block_read (innermost_column (map (λ n. Some n) going)) piece more ≡ Some (record { style = style; column = b.column; text = b.text })
     in_style style e = ap (λ o. block_read o piece more) (same_innermost going) ∙ (read_going ∙ ap (λ st. Some (record { style = st; column = b.column; text = b.text })) e)

@@ -1,5 +1,5 @@
 -- Where a piece begins, a row of the text may begin with all pieces before it; or a node which must be an implicit key waits there, and its line has ended.
-use Rattle.proof_scanner.proofs.Common.{[], Account, ap, AreEntries, arith, Arrives, At, begins_document_at, Bool, chosen, columns, entries_by, Entry, Err, fails, FailsFirst, false, Fault, FlowLevel, followed_first, gives_node, has_open_level, HasRow, if◌then◌else◌, in_flow, is_empty, is_full, is_in_flow, is_taken, is_told, IsFollowed, IsLookedAt, IsNear, IsPlace, IsStuck, Key, key_waits, least_here, length, List, MayChoose, nat_le, nat_lt, nat_tests, no_piece, no_piece_first, None, NoPiece, not, Ok, Option, or_left, or_right, OutOfMemory, outside_key, Position, Problem, refl, Row, ScannerState, site_at_place, site_in, Some, subst, sym, true, ℕ, ◌-◌, ◌<◌, ◌||◌, ◌∙◌, ◌≡◌, is_shown, IsThere, eqb-true}
+use Rattle.proof_scanner.proofs.Common.{[], Account, ap, AreEntries, arith, Arrives, At, begins_document_at, Bool, chosen, columns, entries_by, Entry, Err, fails, FailsFirst, false, Fault, FlowLevel, followed_first, gives_node, has_open_level, HasRow, if◌then◌else◌, in_flow, is_empty, is_full, is_in_flow, is_taken, is_told, IsFollowed, IsLookedAt, IsNear, IsPlace, IsStuck, Key, key_waits, least_here, length, List, MayChoose, nat_lt, nat_tests, no_piece, no_piece_first, None, NoPiece, not, Ok, Option, or_left, or_right, OutOfMemory, outside_key, Position, Problem, refl, Row, ScannerState, site_at_place, site_in, Some, subst, sym, true, ℕ, ◌-◌, ◌<◌, ◌∙◌, ◌≡◌, is_shown, IsThere, eqb-true, cases_Bool, inl, inr}
 use Rattle.proof_scanner.proofs.Sound.StreamEnds.{same_flow}
 use Rattle.proof_scanner.proofs.Refusals.Faults.{Faults, fault, goes}
 use Rattle.proof_scanner.proofs.Cut.Nodes.{IsDeep}
@@ -19,7 +19,7 @@ where_is (Some k) p rest some = by k.required refl (nat_lt k.position.line p.lin
     by : (r : Bool) → k.required ≡ r → (late : Bool) → nat_lt k.position.line p.line ≡ late → Where (Some k) p rest
     by false e late l = placed false e
     by true e true l = behind k refl e (grind (arith, nat_tests, l))
-    by true e false l = placed true ((grind (arith, nat_tests, l)), some)
+    by true e false l = placed true (grind (arith, nat_tests, l), some)
 
 -- a text without a row
 abbrev pub IsRowless : List ℕ → Type 0
@@ -46,11 +46,7 @@ Said text (At why at) = Asked text why → IsWhy text why at
 
 -- a check whose fault is of a kind that is not told: where it fails the text has no row
 pub rowless_told : (text : List ℕ) {A : Type 0} (b : Bool) (why : Problem) (p : Position) (x : A) → is_told why ≡ false → (b ≡ true → IsRowless text) → Faults (Said text) (if b then Err (At why p) else Ok x)
-rowless_told text true why p x e rowless = fault {f = At why p} (λ asked. absurd (by asked))
-  where
-    by : Asked text why → ⊥
-    by a = grind (arith, nat_tests, eqb-true)
-rowless_told text false why p x e rowless = goes
+rowless_told text a why p x e rowless = grind (arith, nat_tests, fault, eqb-true, goes)
 
 -- as many flow levels as entries
 pub many_levels : (allowed again : Bool) (fs : List FlowLevel) (ks : List (Option Key)) (es : List Entry) → AreEntries allowed again fs ks es → length fs ≡ length es
@@ -81,17 +77,16 @@ module _ (text : List ℕ) (t : ScannerState) (a : Arrives text t) (some : is_em
     where
       by : Where (outside_key a.base.entries t.held.keys) t.held.position t.rest → IsWhy text why at
       by (placed c may) = record { is_stuck = fails (account_by c cs) a.separation t.rest why t.held.position at (place c cs may) some a.is_solid (h c (λ _. may)); stands = shown.stands text t a c cs why at (h c (λ _. may)).fails }
-      by (behind x e must late) = on (is_empty t.held.flow) refl
-        where
-          on : (out : Bool) → is_empty t.held.flow ≡ out → IsWhy text why at
-          on true o = let near : IsNear (Some x) t.held.position = subst (λ k. IsNear k t.held.position) e (a.is_near o) in absurd (omega (arith, near.0, late))
-          on false i =
-              let entries : is_empty a.base.entries ≡ false = sym (same_flow t.held.key_allowed _ t.held.flow t.held.keys a.base.entries a.are_entries) ∙ i in
-              let first = h false (λ o. absurd (cc (o, i))) in
-              record {
-                is_stuck = key_waits (account_by false cs) a.separation t.rest why x.position t.held.position at (a.carries cs x e must entries some) (in_flow_is false cs ∙ ap not i) a.is_filled a.position_is late some a.is_solid first;
-                stands = shown.stands text t a false cs why at first.fails;
-              }
+      by (behind x e must late) = elim (cases_Bool (is_empty t.held.flow)) [
+        | inl o ↦ let near : IsNear (Some x) t.held.position = subst (λ k. IsNear k t.held.position) e (a.is_near o) in absurd (omega (arith, near.0, late))
+        | inr i ↦
+            let entries : is_empty a.base.entries ≡ false = sym (same_flow t.held.key_allowed _ t.held.flow t.held.keys a.base.entries a.are_entries) ∙ i in
+            let first = h false (λ o. absurd (cc (o, i))) in
+            record {
+              is_stuck = key_waits (account_by false cs) a.separation t.rest why x.position t.held.position at (a.carries cs x e must entries some) (in_flow_is false cs ∙ ap not i) a.is_filled a.position_is late some a.is_solid first;
+              stands = shown.stands text t a false cs why at first.fails;
+            }
+      ]
 
 -- what comes lies deep enough, unless it is a line for the document
 abbrev pub LiesDeep : ScannerState → Type 0
@@ -109,25 +104,23 @@ module _ (text : List ℕ) (t : ScannerState) (a : Arrives text t) (some : is_em
   pub least_by : (c : Bool) (cs : List Bool) → least_here (account_by text t a some c cs) t.held.position ≡ t.held.indent - 1
   least_by c cs = grind arith
 
+  -- What fails by what is so of the place in the scanner's words is what the text is stuck by.
+  pub stuck_by : (why : Problem) (at : Position) (F : Bool → List ℕ → ℕ → Type 0) → F (in_flow t.held) (columns t.held.indent t.held.indents) (t.held.indent - 1)
+      → ((c : Bool) → IsAllowed text t a some c → F (is_in_flow (account_by text t a some c []).entries) (site_at_place (account_by text t a some c []) t.held.position).blocks (least_here (account_by text t a some c []) t.held.position)
+      → FailsFirst (account_by text t a some c []) a.separation t.held.position t.rest why at) → IsWhy text why at
+  stuck_by why at F x first =
+      stuck text t a some [] why at (λ c may.
+      first c may (subst (λ b. F b (site_at_place (account_by text t a some c []) t.held.position).blocks (least_here (account_by text t a some c []) t.held.position)) (sym (in_flow_is text t a some c []))
+      (subst (λ bs. F (in_flow t.held) bs (least_here (account_by text t a some c []) t.held.position)) (sym (blocks_by c [])) (subst (λ k. F (in_flow t.held) (columns t.held.indent t.held.indents) k) (sym (least_by c [])) x))))
+
 module _ (text : List ℕ) (t : ScannerState) (a : Arrives text t) (some : is_empty t.rest ≡ false) (deep : LiesDeep t) where
   -- a piece is looked at here, whatever is chosen
   pub looked_at : (c : Bool) (cs : List Bool) → IsLookedAt (account_by text t a some c cs) a.separation t.held.position t.rest
-  looked_at c cs = record { has_no_tab = a.is_indented some; is_deep = by (begins_document_at t.held.position t.rest) refl }
-    where
-      low : IsDeep t.held → nat_le (least_here (account_by text t a some c cs) t.held.position) t.held.position.col ≡ true
-      low d = let l = least_by text t a some c cs in grind (arith, nat_tests, l, d)
-
-      by : (b : Bool) → begins_document_at t.held.position t.rest ≡ b → (not (is_in_flow (account_by text t a some c cs).entries) || b || nat_le (least_here (account_by text t a some c cs) t.held.position) t.held.position.col) ≡ true
-      by d e = grind (arith, nat_tests, or_left, text, t, some, least_here, or_right, low, deep, eqb-true)
+  looked_at c cs = grind (arith, nat_tests, least_by, or_left, or_right, eqb-true)
 
   -- where no piece begins the text is stuck
   pub none_begins : (why : Problem) (at : Position) (n : NoPiece (in_flow t.held) t.held.position t.rest why at) → no_piece_first (in_flow t.held) (t.held.indent - 1) t.held.position t.rest why at n → IsWhy text why at
-  none_begins why at n first =
-      stuck text t a some [] why at (λ c may.
-      let P : Bool → ℕ → Type 0 = λ b k. (x : NoPiece b t.held.position t.rest why at) × no_piece_first b k t.held.position t.rest why at x in
-      let moved : P (is_in_flow (account_by text t a some c []).entries) (least_here (account_by text t a some c []) t.held.position) =
-      subst (λ k. P (is_in_flow (account_by text t a some c []).entries) k) (sym (least_by text t a some c [])) (subst (λ b. P b (t.held.indent - 1)) (sym (in_flow_is text t a some c [])) (n, first)) in
-      record { fails = no_piece moved.0; is_first = (looked_at c [], moved.1) })
+  none_begins why at n first = stuck_by text t a some why at (λ b bs k. (x : NoPiece b t.held.position t.rest why at) × no_piece_first b k t.held.position t.rest why at x) (n, first) (λ c may m. record { fails = no_piece m.0; is_first = (looked_at c [], m.1) })
 
   pub none_here : (why : Problem) (n : NoPiece (in_flow t.held) t.held.position t.rest why t.held.position) → no_piece_first (in_flow t.held) (t.held.indent - 1) t.held.position t.rest why t.held.position n → IsWhy text why t.held.position
   none_here why n first = none_begins why t.held.position n first
@@ -136,8 +129,5 @@ module _ (text : List ℕ) (t : ScannerState) (a : Arrives text t) (some : is_em
   pub followed_stuck : (why : Problem) (at : Position) (x : IsFollowed (in_flow t.held) t.held.position t.rest why at)
       → ((c : Bool) → IsAllowed text t a some c → followed_first (in_flow t.held) (t.held.indent - 1) (is_taken (account_by text t a some c []) a.separation) (is_full (account_by text t a some c [])) t.held.position t.rest why at x) → IsWhy text why at
   followed_stuck why at x first =
-      stuck text t a some [] why at (λ c may.
-      let b : Account = account_by text t a some c [] in
-      let P : Bool → ℕ → Type 0 = λ f k. (y : IsFollowed f t.held.position t.rest why at) × followed_first f k (is_taken b a.separation) (is_full b) t.held.position t.rest why at y in
-      let moved : P (is_in_flow b.entries) (least_here b t.held.position) = subst (λ k. P (is_in_flow b.entries) k) (sym (least_by text t a some c [])) (subst (λ f. P f (t.held.indent - 1)) (sym (in_flow_is text t a some c [])) (x, first c may)) in
-      record { fails = followed moved.0; is_first = (looked_at c [], moved.1) })
+      stuck_by text t a some why at (λ b bs k. (y : IsFollowed b t.held.position t.rest why at) × ((c : Bool) → IsAllowed text t a some c → followed_first b k (is_taken (account_by text t a some c []) a.separation) (is_full (account_by text t a some c [])) t.held.position t.rest why at y)) (x, first)
+      (λ c may m. record { fails = followed m.0; is_first = (looked_at c [], m.1 c may) })

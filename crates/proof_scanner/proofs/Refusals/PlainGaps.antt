@@ -1,5 +1,5 @@
 -- Where a plain scalar comes, and what stands after it.
-use Rattle.proof_scanner.proofs.Common.{[], and_parts, are_marks, Bool, comes_plain, dashes, ends_with_content, false, has_break, has_tab_within, is_at_gap, is_gap, is_indented_by_spaces, kind_at, last_line, least_column, List, not, or-true, plain_scalar, refl, Stand, stand_after, subst, sym, true, ℕ, ◌++◌, ◌∷◌, ◌≡◌, arith, nat_tests}
+use Rattle.proof_scanner.proofs.Common.{[], and_parts, are_marks, Bool, comes_plain, dashes, ends_with_content, false, has_break, has_tab_within, is_at_gap, is_gap, is_indented_by_spaces, kind_at, last_line, least_column, List, or-true, plain_scalar, refl, Stand, stand_after, true, ℕ, ◌++◌, ◌∷◌, ◌≡◌, arith, nat_tests, eqb-true}
 use Rattle.defs_token.specs.Plain as defs
 use Rattle.defs_token.specs.Plain.{past}
 use Rattle.proof_row.specs.Ends.{plain_scalar as plain_kind}
@@ -33,6 +33,4 @@ comes_by fl adjacent column text h = grind (arith, comes, dashed, nat_tests)
 -- the other thing is no document marker
 pub no_marker : (fl adjacent : Bool) (column : ℕ) (text next : List ℕ) → comes_plain fl adjacent column text ≡ true → (45 ∷ 45 ∷ 45 ∷ next) ≡ text → column ≡ 0 → is_at_gap next ≡ true → ⊥
 unfolding are_marks
-no_marker fl adjacent column text next h e m g =
-    let all : comes_plain fl adjacent 0 (45 ∷ 45 ∷ 45 ∷ next) ≡ true = subst (λ n. comes_plain fl adjacent n (45 ∷ 45 ∷ 45 ∷ next) ≡ true) m (subst (λ r. comes_plain fl adjacent column r ≡ true) (sym e) h) in
-    absurd (cc ((and_parts (not (is_at_gap (45 ∷ 45 ∷ next))) (not (is_at_gap next)) all).1, g))
+no_marker fl adjacent column text next h e m g = grind (arith, nat_tests, eqb-true, and_parts)

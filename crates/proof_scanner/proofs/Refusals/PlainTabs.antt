@@ -1,7 +1,7 @@
 -- A TAB that indents a further line of a plain scalar, or the line after it.
-use Rattle.proof_scanner.proofs.Common.{[], refl, zero, after_blank, and_parts, ap, arith, Bool, false, true, List, ℕ, ◌∷◌, ◌&&◌, ◌-◌, ◌∙◌, if◌then◌else◌, ◌++◌, ◌+◌, ◌<◌, ◌≡◌, suc, plain_lines_fit, stand_after, Option, is_gap, length, is_blanks, has_break, nat_lt, is_before_line_feed, split, lines_have_no_tab, after_first, sym, nat_tests, begins_token, further_on, has_tab_within, last_line, ◌||◌, not, or-true, leading, begins_separation, is_empty}
+use Rattle.proof_scanner.proofs.Common.{[], refl, zero, after_blank, and_parts, ap, arith, Bool, false, true, List, ℕ, ◌∷◌, ◌&&◌, ◌-◌, ◌∙◌, ◌++◌, ◌+◌, ◌<◌, ◌≡◌, suc, plain_lines_fit, stand_after, Option, is_gap, length, is_blanks, has_break, nat_lt, sym, nat_tests, begins_token, further_on, has_tab_within, last_line, or-true, begins_separation, is_empty, eqb-true}
 use Rattle.defs_text.specs.Classes.{is_break, is_blank}
-use Rattle.defs_token.specs.Plain.{inside, past, Stand, ends_with_content, on_line, goes_on, stops, past_blank}
+use Rattle.defs_token.specs.Plain.{inside, past, Stand, ends_with_content, on_line, goes_on, stops}
 use Rattle.proof_row.proofs.Runs.{joined, neither}
 use Rattle.proof_scanner.proofs.Sound.LastLines.{last_first, last_whole, break_append}
 use Rattle.proof_scanner.proofs.Sound.PlainLines.{first_line, line_is, all_lines, feed_first, first_is, others_are}
@@ -13,9 +13,6 @@ abbrev lines_from : (column : ℕ) → Stand → List ℕ → Bool
 lines_from column (on_line k) t = line_is k column (first_line t) && plain_lines_fit column t
 lines_from column s t = plain_lines_fit column t
 
-further_fit : (column : ℕ) (s : Stand) (t : List ℕ) → lines_from column s t ≡ true → plain_lines_fit column t ≡ true
-further_fit column a t h = grind (arith, line_is, first_line)
-
 -- without its first blank a line is indented too
 tab_less : (k column c : ℕ) (l : List ℕ) → has_tab_within (column - k) (c ∷ l) ≡ false → has_tab_within (column - suc k) l ≡ false
 tab_less k column c l h = by (column - k) refl h
@@ -25,34 +22,11 @@ tab_less k column c l h = by (column - k) refl h
     by (suc n) e f = let less : column - suc k ≡ n = omega (arith, e) in rw less (neither _ _ f).1
 
 line_less : (k column c : ℕ) (l : List ℕ) → is_blank c ≡ true → line_is k column (c ∷ l) ≡ true → line_is (suc k) column l ≡ true
-line_less k column c l b h = by (is_blanks l) refl (rw b at h)
-  where
-    by : (x : Bool) → is_blanks l ≡ x → (is_blanks l || not (has_tab_within (column - k) (c ∷ leading is_blank l))) ≡ true → line_is (suc k) column l ≡ true
-    by x e f = grind (arith, tab_less)
+line_less k column c l b h = grind (arith, nat_tests, eqb-true, tab_less)
 
 module _ (column : ℕ) (c : ℕ) (r : List ℕ) where
-  -- after a break
-  line_fits : is_break c ≡ true → plain_lines_fit column (c ∷ r) ≡ true → lines_from column (on_line 0) r ≡ true
-  line_fits e h = by (is_before_line_feed c r) refl
-    where
-      by : (f : Bool) → is_before_line_feed c r ≡ f → lines_from column (on_line 0) r ≡ true
-      by true f =
-          let is : split (c ∷ r) ≡ split r = rw (e, f) refl in
-          rw (feed_first c r f) (ap (λ s. lines_have_no_tab column (after_first s.complete s.last)) (sym is) ∙ h)
-      by false f =
-          let is : split (c ∷ r) ≡ record { complete = [] ∷ (split r).complete; last = (split r).last } = rw (e, f) refl in
-          sym (all_lines column (split r).complete (split r).last) ∙ (ap (λ s. lines_have_no_tab column (after_first s.complete s.last)) (sym is) ∙ h)
-
   line_goes : (s : Stand) → lines_from column s (c ∷ r) ≡ true → lines_from column (past s c) r ≡ true
-  line_goes s h = by (is_break c) (is_blank c) refl refl s h
-    where
-      by : (b k : Bool) → is_break c ≡ b → is_blank c ≡ k → (s : Stand) → lines_from column s (c ∷ r) ≡ true → lines_from column (if b then on_line 0 else (if k then past_blank s else inside)) r ≡ true
-      by true k e f s h = line_fits e (further_fit column s (c ∷ r) h)
-      by false false e f s h = sym (others_are column c r e) ∙ further_fit column s (c ∷ r) h
-      by false true e f (on_line k) h =
-          let q = and_parts (line_is k column (first_line (c ∷ r))) (plain_lines_fit column (c ∷ r)) h in
-          joined (line_is (suc k) column (first_line r)) (plain_lines_fit column r) (line_less k column c (first_line r) f (ap (line_is k column) (sym (first_is column c r e)) ∙ q.0)) (sym (others_are column c r e) ∙ q.1)
-      by false true e f s h = sym (others_are column c r e) ∙ further_fit column s (c ∷ r) h
+  line_goes s h = grind (arith, nat_tests, eqb-true, feed_first, all_lines, line_is, first_line, others_are, and_parts, joined, line_less, first_is)
 
 lines_go : (column : ℕ) (s : Stand) (before t : List ℕ) → lines_from column s (before ++ t) ≡ true → lines_from column (stand_after s before) t ≡ true
 lines_go column s [] t h = h
@@ -62,12 +36,10 @@ lines_go column s (c ∷ before) t h = lines_go column (past s c) before t (line
 pub tab_line : (column k : ℕ) (before z : List ℕ) → stand_after after_blank before ≡ on_line k → nat_lt k column ≡ true → plain_lines_fit column (before ++ 9 ∷ z) ≡ true → is_blanks (first_line z) ≡ true
 unfolding is_break is_blank
 tab_line column k before z stands low fit =
+    let by : (n : ℕ) → column - k ≡ n → line_is k column (9 ∷ first_line z) ≡ true → is_blanks (first_line z) ≡ true = λ n e h. grind (arith, nat_tests, low) in
     let h : lines_from column (on_line k) (9 ∷ z) ≡ true = ap (λ s. lines_from column s (9 ∷ z)) (sym stands) ∙ lines_go column after_blank before (9 ∷ z) fit in
     let q : line_is k column (9 ∷ first_line z) ≡ true = ap (line_is k column) (sym (first_is column 9 z refl)) ∙ (and_parts (line_is k column (first_line (9 ∷ z))) (plain_lines_fit column (9 ∷ z)) h).0 in
     by (column - k) refl q
-  where
-    by : (n : ℕ) → column - k ≡ n → line_is k column (9 ∷ first_line z) ≡ true → is_blanks (first_line z) ≡ true
-    by n e h = grind (arith, nat_tests, low)
 
 blank_in_line : (c : ℕ) → is_blank c ≡ true → is_break c ≡ false
 unfolding is_blank is_break
@@ -75,13 +47,8 @@ blank_in_line c h = grind (arith, h)
 
 -- A line of blanks alone is no line with a token after its blanks.
 pub blanks_end : (d : ℕ) (z blanks more next : List ℕ) → is_blank d ≡ true → ends_with_content d z ≡ true → is_blanks (first_line z) ≡ true → blanks ++ more ≡ z ++ next → is_blanks blanks ≡ true → begins_token more ≡ true → ⊥
-blanks_end d [] blanks more next b ends line e are token = grind arith
-blanks_end d (c ∷ z) [] a next b ends line e are token = grind arith
-blanks_end d (c ∷ z) (k ∷ blanks) more next b ends line e are token =
-    let same : k ≡ c = cc e in
-    let q = and_parts (is_blank k) (is_blanks blanks) are in
-    let blank : is_blank c ≡ true = ap is_blank (sym same) ∙ q.0 in
-    blanks_end c z blanks more next blank ends (and_parts (is_blank c) (is_blanks (first_line z)) (ap is_blanks (sym (first_is 0 c z (blank_in_line c blank))) ∙ line)).1 (cc e) q.1 token
+blanks_end d (c ∷ z) (k ∷ blanks) more next b ends line e are token = grind (arith, nat_tests, eqb-true, and_parts, first_is, blank_in_line, blanks_end c z blanks more next)
+blanks_end d a blanks more next b ends line e are token = grind arith
 
 -- the end of a text is that of what it ends with
 pub ends_later : (before : List ℕ) (c : ℕ) (r : List ℕ) (d : ℕ) (z : List ℕ) → c ∷ r ≡ before ++ d ∷ z → ends_with_content c r ≡ true → ends_with_content d z ≡ true
@@ -128,9 +95,8 @@ column_is j k [] g n e = grind arith
 column_is j k (c ∷ q) g n e = grind (arith, column_is (suc j) k q)
 
 tab_among : (n : ℕ) (q blanks : List ℕ) → length q < n → has_tab_within n (q ++ 9 ∷ blanks) ≡ true
-tab_among zero q blanks h = absurd (omega arith)
-tab_among (suc n) [] blanks h = refl
 tab_among (suc n) (c ∷ q) blanks h = grind (arith, tab_among n q blanks)
+tab_among a q blanks h = grind arith
 
 blanks_break : (blanks : List ℕ) → is_blanks blanks ≡ true → has_break (9 ∷ blanks) ≡ false
 unfolding is_break is_blank
@@ -142,18 +108,7 @@ blanks_break blanks h = by blanks h
 
 tab_in_last : (n k : ℕ) (s : Stand) (q blanks : List ℕ) → is_gap q ≡ true → is_blanks blanks ≡ true → k < n → has_break q ≡ true → stand_after s q ≡ on_line k → has_tab_within n (last_line (q ++ 9 ∷ blanks)) ≡ true
 tab_in_last n k s [] blanks g b low br e = absurd (cc br)
-tab_in_last n k s (c ∷ q) blanks g b low br e = ap (has_tab_within n) (last_first c (q ++ 9 ∷ blanks)) ∙ by (has_break q) refl (λ f. tab_in_last n k (past s c) q blanks gap b low f e)
-  where
-    gap : is_gap q ≡ true
-    gap = (and_parts (is_blank c || is_break c) (is_gap q) g).1
-
-    by : (x : Bool) → has_break q ≡ x → (has_break q ≡ true → has_tab_within n (last_line (q ++ 9 ∷ blanks)) ≡ true) → has_tab_within n (if is_break c || has_break (q ++ 9 ∷ blanks) then last_line (q ++ 9 ∷ blanks) else c ∷ last_line (q ++ 9 ∷ blanks)) ≡ true
-    by true f later = rw (break_append q (9 ∷ blanks), f, or-true (is_break c)) (later f)
-    by false f later =
-        let now : is_break c ≡ true = grind (arith, f, br) in
-        let whole : last_line (q ++ 9 ∷ blanks) ≡ q ++ 9 ∷ blanks = last_whole (q ++ 9 ∷ blanks) (break_append q (9 ∷ blanks) ∙ rw (f, blanks_break blanks b) refl) in
-        let many : 0 + length q ≡ k = column_is 0 k q gap f (rw now at e) in
-        rw (now, whole) (tab_among n q blanks (omega (arith, many)))
+tab_in_last n k s (c ∷ q) blanks g b low br e = grind (arith, nat_tests, eqb-true, last_first, and_parts, break_append, or-true, last_whole, blanks_break, column_is, tab_among, tab_in_last n k (past s c) q blanks)
 
 -- A TAB in the gap after a scalar indents the line after it.
 pub gap_tab : (n k : ℕ) (q blanks : List ℕ) → is_gap q ≡ true → is_blanks blanks ≡ true → nat_lt k n ≡ true → stand_after inside q ≡ on_line k → (has_break (q ++ 9 ∷ blanks) ≡ true) × (has_tab_within n (last_line (q ++ 9 ∷ blanks)) ≡ true)

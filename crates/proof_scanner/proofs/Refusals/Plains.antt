@@ -1,5 +1,5 @@
 -- Faults of plain scalars.
-use Rattle.proof_scanner.proofs.Common.{[], after_plain, allow_key, ap, arith, Arrives, before_by, before_past, begins_left, Bool, collection_of, columns, comes_plain, Context, context, false, Fault, fetch_plain_scalar, goes_on, goes_over, HasNoPlainFault, HasTab, in_flow, innermost, is_adjacent, is_empty, is_in_flow, IsPlainFault, IsPlainRefusal, least_column, lexed, List, nat_le, nat_lt, nat_tests, no_plain, Ok, on_held, Option, plain_first, Position, position_after, Problem, push, refl, refused_as, ScannerState, scans_end, site_at_place, Style, subst, sym, Tok, true, unroll_non_block_indents, without_open, ℕ, ◌++◌, ◌∙◌, ◌∷◌, ◌≡◌}
+use Rattle.proof_scanner.proofs.Common.{[], after_plain, allow_key, ap, arith, Arrives, before_by, before_past, begins_left, collection_of, columns, comes_plain, Context, context, false, Fault, fetch_plain_scalar, goes_on, goes_over, HasNoPlainFault, HasTab, in_flow, innermost, is_adjacent, is_empty, IsPlainFault, IsPlainRefusal, least_column, lexed, List, nat_le, nat_lt, nat_tests, no_plain, Ok, on_held, Option, plain_first, Position, position_after, Problem, push, refused_as, ScannerState, scans_end, Style, subst, sym, Tok, true, unroll_non_block_indents, without_open, ℕ, ◌++◌, ◌∙◌, ◌∷◌, ◌≡◌, eqb-true}
 use Rattle.defs_token.specs.Plain.{inside}
 use Rattle.yaml_tokens.specs.declared.problem.Problem.TheVariants as problem
 use Rattle.model_scanner.specs.Plain.{plain}
@@ -9,7 +9,7 @@ use Rattle.proof_scanner.proofs.Cut.Saved.{saved_keys, saved_is}
 use Rattle.proof_scanner.proofs.Sound.WithoutOpen.{AreClosed, without_is}
 use Rattle.proof_scanner.specs.NoPiece as none
 use Rattle.proof_scanner.proofs.Refusals.Faults.{Faults, goes, read}
-use Rattle.proof_scanner.proofs.Refusals.Places.{Said, IsWhy, LiesDeep, account_by, stuck, in_flow_is, blocks_by, looked_at}
+use Rattle.proof_scanner.proofs.Refusals.Places.{Said, IsWhy, LiesDeep, looked_at, stuck_by}
 use Rattle.proof_scanner.proofs.Sound.PlainKeeps.{solid_text}
 
 -- ---- texts
@@ -40,27 +40,16 @@ module _ (text : List ℕ) (t : ScannerState) (a : Arrives text t) (some : is_em
   -- the plain scalar that begins here is none
   plain_stuck : (why : Problem) (at : Position) (x : IsPlainFault (in_flow t.held) blocks t.held.position t.rest why at) → plain_first (in_flow t.held) blocks t.held.position t.rest why at x → IsWhy text why at
   plain_stuck why at x first =
-      stuck text t a some [] why at (λ c may.
-      let P : Bool → List ℕ → Type 0 = λ b bs. (y : IsPlainFault b bs t.held.position t.rest why at) × plain_first b bs t.held.position t.rest why at y in
-      let flow_is = in_flow_is text t a some c [] in
-      let moved : P (is_in_flow (account_by text t a some c []).entries) (site_at_place (account_by text t a some c []) t.held.position).blocks =
-      subst (λ bs. P (is_in_flow (account_by text t a some c []).entries) bs) (sym (blocks_by text t a some c [])) (subst (λ b. P b blocks) (sym flow_is) (x, first)) in
-      record {
-        fails = no_plain (subst (λ b. comes_plain b (is_adjacent (before_past (before_by a.base.site.before) a.separation)) t.held.position.col t.rest ≡ true) (sym flow_is) comes) moved.0;
-        is_first = (looked_at text t a some lies c [], moved.1);
-      })
+      stuck_by text t a some why at (λ b bs k. (l : comes_plain b (is_adjacent (before_past (before_by a.base.site.before) a.separation)) t.held.position.col t.rest ≡ true) × (y : IsPlainFault b bs t.held.position t.rest why at) × plain_first b bs t.held.position t.rest why at y) (comes, x, first)
+      (λ c may m. record { fails = no_plain m.0 m.1; is_first = (looked_at text t a some lies c [], m.2) })
 
   -- the scalar does not begin left of its column
   no_column : begins_left ctx t.held.position ≡ false → HasNoPlainFault ctx.flow blocks t.held.position t.rest problem.FlowIndentation
-  no_column deep place (none.by_column flow left) =
-      let low : nat_lt t.held.position.col ctx.indent ≡ true = grind (arith, nat_tests, least_is, left) in
-      let left_too : begins_left ctx t.held.position ≡ true = rw (flow, low) refl in
-      cc (deep, left_too)
+  no_column deep place a = grind (arith, least_is)
 
   -- no TAB that is wrong begins a line of it
   no_tab : (HasTab ctx t.rest → ⊥) → HasNoPlainFault ctx.flow blocks t.held.position t.rest problem.PlainTab
-  no_tab free place (none.by_tab before blanks rest column cut over stands left are solid) =
-      free (record { before = before; blanks = blanks; rest = rest; column = column; is_text = cut; is_over = over_alike ctx (innermost blocks) before (9 ∷ (blanks ++ rest)) collection_is ∙ over; is_at = stands; is_left = ap (nat_lt column) (sym least_is) ∙ left; are_blanks = are; is_token = solid })
+  no_tab free place a = grind (arith, nat_tests, eqb-true, over_alike, collection_is, least_is)
 
   refused : (f : Fault) → IsPlainRefusal ctx t.held.position t.rest f → Said text f
   refused f (plains.by_column flow left) =

@@ -1,5 +1,5 @@
 -- Where a plain scalar begins and is none, no row of the text goes on.
-use Rattle.proof_scanner.proofs.Common.{[], splits, More, append-nil, stand_after, is_gap, ◌⊎◌, inl, inr, Account, act_of, after_blank, and_parts, ap, append_assoc, are_marks, arith, before_by, before_past, begins_flow, begins_plain, begins_token, Bool, comes_plain, context_of, dashes, ends_plain, ends_separation, ends_with_content, ends_with_dash, false, flow_solid, goes_on, goes_over, has_dash_before_flow, inl, innermost, inr, is_adjacent, is_apart, is_at_gap, is_blank_or_end, is_blanks, is_deep_enough, is_document_marker, is_flow, is_in_flow, is_indented_by_spaces, is_nul, is_whole_plain, Kind, least_column, List, may_begin, may_precede, nat_le, nat_lt, not, on_line, Option, or_true, plain_lines_fit, Position, previous_by, refl, same_flow, scalar, Site, site_at_place, site_past, Stand, stand_after, stops, subst, sym, true, Whole, ℕ, ◌&&◌, ◌++◌, ◌==◌, ◌||◌, ◌∙◌, ◌∷◌, ◌≡◌}
+use Rattle.proof_scanner.proofs.Common.{[], splits, More, append-nil, stand_after, is_gap, ◌⊎◌, inl, inr, Account, act_of, after_blank, and_parts, ap, append_assoc, are_marks, arith, before_by, before_past, begins_flow, begins_plain, begins_token, Bool, comes_plain, context_of, dashes, ends_with_content, ends_with_dash, false, flow_solid, goes_on, goes_over, has_dash_before_flow, inl, innermost, inr, is_adjacent, is_apart, is_at_gap, is_blanks, is_deep_enough, is_document_marker, is_flow, is_in_flow, is_indented_by_spaces, is_nul, is_whole_plain, Kind, least_column, List, may_begin, may_precede, nat_le, nat_lt, not, on_line, Option, or_true, plain_lines_fit, Position, previous_by, refl, same_flow, scalar, Site, site_at_place, site_past, Stand, stand_after, stops, subst, sym, true, Whole, ℕ, ◌&&◌, ◌++◌, ◌==◌, ◌∙◌, ◌∷◌, ◌≡◌, eqb-true, nat_tests, cases_Bool, and_false}
 use Rattle.defs_text.specs.Classes as classes
 use Rattle.defs_token.specs.Account as pieces
 use Rattle.defs_token.specs.Plain.{inside, past}
@@ -21,9 +21,7 @@ use Rattle.proof_scanner.proofs.Sound.PlainKeeps.{same_innermost}
 -- what goes on over a text and another one goes on over both
 goes_both : (fl : Bool) (coll : Option ℕ) (s : Stand) (p q next : List ℕ) → goes_on fl coll s p (q ++ next) ≡ true → goes_on fl coll (stand_after s p) q next ≡ true → goes_on fl coll s (p ++ q) next ≡ true
 goes_both fl coll s [] q next h k = k
-goes_both fl coll s (c ∷ p) q next h k =
-    let parts = and_parts (classes.is_blank c || classes.is_break c || not (ends_plain fl coll s (c ∷ (p ++ (q ++ next))))) (goes_on fl coll (past s c) p (q ++ next)) h in
-    rw (append_assoc p q next, parts.0) (goes_both fl coll (past s c) p q next parts.1 k)
+goes_both fl coll s (c ∷ p) q next h k = grind (arith, nat_tests, eqb-true, and_parts, append_assoc, goes_both fl coll (past s c) p q next)
 
 dash_goes : (coll : Option ℕ) (s : Stand) (next : List ℕ) → begins_flow next ≡ true → goes_on true coll s (45 ∷ []) next ≡ true
 unfolding classes.is_blank classes.is_break classes.is_nul is_flow are_marks
@@ -41,10 +39,6 @@ ends_dashed : (s : Stand) (c : ℕ) (p : List ℕ) → is_apart (stand_after s (
 ends_dashed s c [] h = grind arith
 ends_dashed s c (d ∷ []) h = ends_dashed (past s c) d [] h
 ends_dashed s c (d ∷ e ∷ p) h = ends_dashed (past s c) d (e ∷ p) h
-
-ends_solid : (d : ℕ) (r : List ℕ) → ends_separation (d ∷ r) ≡ true → (classes.is_blank d ≡ false) × (classes.is_break d ≡ false)
-unfolding is_blank_or_end
-ends_solid d r h = grind arith
 
 module _ (a : Account) (separation rest : List ℕ) (here : Position) (s : StepAt a separation rest here) (comes_here : comes_plain (is_in_flow a.entries) (is_adjacent (before_past (before_by a.site.before) separation)) here.col rest ≡ true) where
   abbrev next : List ℕ
@@ -77,45 +71,26 @@ module _ (a : Account) (separation rest : List ℕ) (here : Position) (s : StepA
 
   -- its piece is whole
   whole : is_whole_plain (is_in_flow a.entries) (innermost (site_at_place a here).blocks) s.step.piece next ≡ true
-  whole =
-      ap (λ b. is_whole_plain b (innermost (site_at_place a here).blocks) s.step.piece next) (sym (flow_is a separation rest here s)) ∙
-      (ap (λ (x : Site). is_whole_plain (pieces.is_in_flow seen_here) (innermost x.blocks) s.step.piece next) (sym site_is) ∙
-      (ap (λ o. is_whole_plain (pieces.is_in_flow seen_here) o s.step.piece next) (sym (same_innermost (At s.account s.step next).blocks)) ∙ plain_here.1.1))
+  whole = grind (arith, flow_is, site_is, same_innermost, plain_here)
 
   -- a dash before a flow indicator
   pub no_dash : (before more : List ℕ) → is_in_flow a.entries ≡ true → rest ≡ before ++ 45 ∷ more → begins_flow more ≡ true → goes_over (is_in_flow a.entries) (innermost (site_at_place a here).blocks) before (45 ∷ more) ≡ true → is_apart (stand_after after_blank before) ≡ true → ⊥
-  no_dash [] more flow cut begins over apart = cc (may, none)
+  no_dash [] more flow cut begins over apart =
+      let may : may_begin true (is_adjacent seen_here.before) 45 more ≡ true =
+      let all : begins_plain (pieces.is_in_flow seen_here) (is_adjacent seen_here.before) seen_here.position.col (45 ∷ more) ≡ true = ap (begins_plain (pieces.is_in_flow seen_here) (is_adjacent seen_here.before) seen_here.position.col) (sym (s.text_is ∙ cut)) ∙ plain_here.1.0 in
+      ap (λ b. may_begin b (is_adjacent seen_here.before) 45 more) (sym (flow_is a separation rest here s ∙ flow)) ∙ (and_parts (may_begin (pieces.is_in_flow seen_here) (is_adjacent seen_here.before) 45 more) (not ((seen_here.position.col == 0) && is_document_marker (45 ∷ more))) all).0 in
+      cc (may, none)
     where
-      may : may_begin true (is_adjacent seen_here.before) 45 more ≡ true
-      may =
-          let all : begins_plain (pieces.is_in_flow seen_here) (is_adjacent seen_here.before) seen_here.position.col (45 ∷ more) ≡ true = ap (begins_plain (pieces.is_in_flow seen_here) (is_adjacent seen_here.before) seen_here.position.col) (sym (s.text_is ∙ cut)) ∙ plain_here.1.0 in
-          ap (λ b. may_begin b (is_adjacent seen_here.before) 45 more) (sym (flow_is a separation rest here s ∙ flow)) ∙ (and_parts (may_begin (pieces.is_in_flow seen_here) (is_adjacent seen_here.before) 45 more) (not ((seen_here.position.col == 0) && is_document_marker (45 ∷ more))) all).0
-
       none : may_begin true (is_adjacent seen_here.before) 45 more ≡ false
-      none = rw begins (by (is_at_gap more))
-        where
-          by : (b : Bool) → (not b && false) ≡ false
-          by true = refl
-          by false = refl
+      none = rw begins (and_false (not (is_at_gap more)))
   no_dash (c ∷ p) more flow cut begins over apart =
+      let coll : Option ℕ = innermost (site_at_place a here).blocks in
+      let own : is_whole_plain true coll (c ∷ (p ++ 45 ∷ [])) more ≡ true = rw (goes_both true coll inside p (45 ∷ []) more (ap (λ b. goes_on b coll inside p (45 ∷ more)) (sym flow) ∙ over) (dash_goes coll (stand_after inside p) more begins), content_end c p, flow_stops coll inside more begins) refl in
+      let same : (s.step.piece ≡ c ∷ (p ++ 45 ∷ [])) × (next ≡ more) = plains true coll s.step.piece (c ∷ (p ++ 45 ∷ [])) next more (ap (λ b. is_whole_plain b coll s.step.piece next) (sym flow) ∙ whole) own (s.text_is ∙ (cut ∙ ap (λ r. c ∷ r) (sym (append_assoc p (45 ∷ []) more)))) in
+      let dashed_there : has_dash_before_flow s.step.piece next ≡ true = ap (λ x. has_dash_before_flow x next) same.0 ∙ (ap (λ r. has_dash_before_flow (c ∷ (p ++ 45 ∷ [])) r) same.1 ∙ rw (ends_dashed after_blank c p apart, begins) refl) in
       no_end a separation rest here s
       (ap (λ t. may_precede (is_in_flow s.account.entries) (At s.account s.step next).blocks t s.step.piece next) plain_here.2 ∙
       (ap (λ b. not (b && has_dash_before_flow s.step.piece next)) (sym (same_flow a.entries s.account.entries s.is_like.2) ∙ flow) ∙ ap not dashed_there))
-    where
-      coll : Option ℕ
-      coll = innermost (site_at_place a here).blocks
-
-      goes : goes_on true coll inside p (45 ∷ more) ≡ true
-      goes = ap (λ b. goes_on b coll inside p (45 ∷ more)) (sym flow) ∙ over
-
-      own : is_whole_plain true coll (c ∷ (p ++ 45 ∷ [])) more ≡ true
-      own = rw (goes_both true coll inside p (45 ∷ []) more goes (dash_goes coll (stand_after inside p) more begins), content_end c p, flow_stops coll inside more begins) refl
-
-      same : (s.step.piece ≡ c ∷ (p ++ 45 ∷ [])) × (next ≡ more)
-      same = plains true coll s.step.piece (c ∷ (p ++ 45 ∷ [])) next more (ap (λ b. is_whole_plain b coll s.step.piece next) (sym flow) ∙ whole) own (s.text_is ∙ (cut ∙ ap (λ r. c ∷ r) (sym (append_assoc p (45 ∷ []) more))))
-
-      dashed_there : has_dash_before_flow s.step.piece next ≡ true
-      dashed_there = ap (λ x. has_dash_before_flow x next) same.0 ∙ (ap (λ r. has_dash_before_flow (c ∷ (p ++ 45 ∷ [])) r) same.1 ∙ rw (ends_dashed after_blank c p apart, begins) refl)
 
   -- a TAB that indents a line of it, or the one after it
   pub no_tab : (before blanks more : List ℕ) (column : ℕ) → rest ≡ before ++ 9 ∷ (blanks ++ more) → goes_over (is_in_flow a.entries) (innermost (site_at_place a here).blocks) before (9 ∷ (blanks ++ more)) ≡ true → stand_after after_blank before ≡ on_line column
@@ -132,21 +107,13 @@ module _ (a : Account) (separation rest : List ℕ) (here : Position) (s : StepA
       coll = innermost (site_at_place a here).blocks
 
       lines : plain_lines_fit least s.step.piece ≡ true
-      lines = on (plain_lines_fit least s.step.piece) refl
-        where
-          on : (b : Bool) → plain_lines_fit least s.step.piece ≡ b → b ≡ true
-          on true e = refl
-          on false e = absurd (no_lines a separation rest here s (scalar tokens.plain plain_here.0) plain_here.2 refl e)
+      lines = elim (cases_Bool (plain_lines_fit least s.step.piece)) [ inl e ↦ e | inr e ↦ absurd (no_lines a separation rest here s (scalar tokens.plain plain_here.0) plain_here.2 refl e) ]
 
       past_is : s.past.site ≡ site_past (is_in_flow s.account.entries) (At s.account s.step next) s.step.piece s.step.shown next (At s.account s.step next).blocks
       past_is = node_site_past s.account s.step next s.past (ap act_of plain_here.2) s.is_past
 
       before_is : s.past.site.before ≡ steps.plain_scalar
       before_is = ap (λ (x : Site). x.before) past_is ∙ ap previous_by plain_here.2
-
-      -- the TAB stands in the scalar
-      in_piece : (z : List ℕ) → s.step.piece ≡ before ++ 9 ∷ z → ends_with_content 9 z ≡ true → blanks ++ more ≡ z ++ next → ⊥
-      in_piece z e ends others = blanks_end 9 z blanks more next tab_blank ends (tab_line least column before z stands low (ap (plain_lines_fit least) (sym e) ∙ lines)) others are token
 
       -- or in the gap after it
       in_gap : (q : List ℕ) → next ≡ q ++ 9 ∷ (blanks ++ more) → stand_after inside q ≡ on_line column → goes_on fl coll inside q (9 ∷ (blanks ++ more)) ≡ true → stops fl coll inside next ≡ true → ⊥
@@ -187,4 +154,4 @@ module _ (a : Account) (separation rest : List ℕ) (here : Position) (s : StepA
               tail (x ∷ z) longer rest =
                   let first : x ≡ 9 = cc rest in
                   let cut : s.step.piece ≡ before ++ 9 ∷ z = longer ∙ ap (λ y. before ++ y ∷ z) first in
-                  in_piece z cut (ends_later before d r 9 z (sym e ∙ cut) content) (cc rest)
+                  (blanks_end 9 z blanks more next tab_blank (ends_later before d r 9 z (sym e ∙ cut) content) (tab_line least column before z stands low (ap (plain_lines_fit least) (sym cut) ∙ lines)) (cc rest) are token)

@@ -1,5 +1,5 @@
 -- Elements of quoted scalars in their text: where each ends, and whether a document marker begins a line after it.
-use Rattle.proof_scanner.proofs.Common.{[], after_chars, along, along_more, and_false, ap, append-nil, arith, begins_solid, Bool, break_further, content, digit_value, double_quoted_element, drop, Element, element_of, escape, escape_by, false, feed_is_no_marker, has_marker, hexadecimal, in_line_position, is_cr_lf, is_in_line, line_position, List, marked_from, nat_tests, None, numeric_escape, Option, past, past_break, past_is, plain_element, Position, position_after, position_past, refl, same_blank, same_break, same_feed, single_quoted_element, Some, Spelled, subst, suc, sym, take, true, zero, ℕ, ◌*◌, ◌++◌, ◌+◌, ◌==◌, ◌∙◌, ◌∷◌, ◌≡◌, ◌≤◌, eqb-true}
+use Rattle.proof_scanner.proofs.Common.{[], after_chars, along, along_more, and_false, ap, append-nil, arith, begins_solid, Bool, break_further, content, digit_value, double_quoted_element, drop, Element, element_of, escape, escape_by, false, feed_is_no_marker, has_marker, hexadecimal, in_line_position, is_cr_lf, is_in_line, line_position, List, marked_from, nat_tests, None, numeric_escape, Option, past, past_break, past_is, plain_element, Position, position_after, position_past, refl, same_blank, same_break, same_feed, single_quoted_element, Some, Spelled, subst, suc, sym, take, true, ℕ, ◌*◌, ◌++◌, ◌+◌, ◌==◌, ◌∙◌, ◌∷◌, ◌≡◌, ◌≤◌, eqb-true}
 use Rattle.defs_text.specs.Classes as classes
 use Rattle.yaml_chars.specs.Class.{is_break}
 use Rattle.proof_lexers.proofs.Quoted.Turns.{spelled}
@@ -27,9 +27,8 @@ single_in_line c b = grind (arith, plain_in_line)
 
 digits_in_line : (n value code : ℕ) (w : List ℕ) → hexadecimal value (take n w) ≡ Some code → is_in_line (take n w) ≡ true
 unfolding classes.is_break
-digits_in_line zero value code w h = refl
-digits_in_line (suc n) value code [] h = refl
 digits_in_line (suc n) value code (c ∷ w) h = grind (arith, digits_in_line n (value * 16 + digit_value c) code w)
+digits_in_line a value code w h = grind arith
 
 module _ (d : ℕ) (b : List ℕ) (unbroken : classes.is_break d ≡ false) where
   slash_in_line : classes.is_break 92 ≡ false
@@ -50,13 +49,6 @@ escape_in_line b = grind (arith, row_in_line)
 double_in_line : (c : ℕ) (b : List ℕ) → InLineOf c b (double_quoted_element c b)
 unfolding double_quoted_element
 double_in_line c b = grind (arith, escape_in_line, plain_in_line)
-
-in_line_of : (single : Bool) (c : ℕ) (b : List ℕ) → InLineOf c b (element_of single c b)
-in_line_of true c b = single_in_line c b
-in_line_of false c b = double_in_line c b
-
-along_is : (w next : List ℕ) (p : Position) → is_in_line w ≡ true → position_after p w next ≡ along w p
-along_is w next p h = ap (λ l. position_after p l next) (sym (append-nil w)) ∙ after_chars w [] next p h
 
 -- in double quotes no element begins with the quote
 pub no_quote : (c : ℕ) (b : List ℕ) (s : Spelled) → double_quoted_element c b ≡ Some s → (c == 34) ≡ false
@@ -118,10 +110,10 @@ module _ (single : Bool) (c : ℕ) (b : List ℕ) (e : Spelled) (is : element_of
 
 -- content ends in its line
 pub content_in_line : (single : Bool) (c : ℕ) (b : List ℕ) (code k : ℕ) → element_of single c b ≡ Some (spelled (content code) k) → is_in_line (c ∷ take k b) ≡ true
-content_in_line single c b code k is = subst (λ o. InLineOf c b o) is (in_line_of single c b)
+content_in_line single c b code k is = subst (λ o. InLineOf c b o) is (grind (arith, nat_tests, eqb-true, single_in_line, double_in_line))
 
 pub content_after : (single : Bool) (c : ℕ) (b : List ℕ) (code k : ℕ) → (is : element_of single c b ≡ Some (spelled (content code) k)) → (p : Position) → after_it single c b (spelled (content code) k) is p ≡ along (c ∷ take k b) p
-content_after single c b code k is p = along_is (c ∷ take k b) (drop k b) p (content_in_line single c b code k is)
+content_after single c b code k is p = ap (λ l. position_after p l (drop k b)) (sym (append-nil (c ∷ take k b))) ∙ after_chars (c ∷ take k b) [] (drop k b) p (content_in_line single c b code k is)
 
 off_margin : (n m : ℕ) → n + 1 ≤ m → (m == 0) ≡ false
 off_margin n m h = grind (arith, nat_tests, h)
@@ -143,12 +135,7 @@ marks_after single c b e is p body rest = by e is (kind_of single c b e is)
     at_margin x col h f = f ∙ ap (λ n. marked_from n body rest) (sym h)
 
     by : (e : Spelled) → (is : element_of single c b ≡ Some e) → Kind single c b e → has_marker (c ∷ (take e.further b ++ body)) rest ≡ marked_from (after_it single c b e is p).col body rest
-    by e is (has_content code k solid) =
-        let q = content_after single c b code k is p in
-        within (c ∷ take k b) _ (content_in_line single c b code k is) (ap (λ (z : Position). z.col == 0) q ∙ off_margin p.col (along (c ∷ take k b) p).col (along_more (take k b) (past p)))
+    by e is (has_content code k solid) = grind (arith, nat_tests, eqb-true, content_after, within, content_in_line, off_margin, along_more)
     by e is (has_blank f g) = grind (arith, nat_tests, within, same_break, past_is, p, off_margin, eqb-true)
     by e is (has_line f) = at_margin _ _ (break_column c b p f) (break_marks c b body rest f)
-    by e is (has_escaped d a double same_c same_b f) =
-        at_margin _ _ (escaped_column c b d a p same_c same_b f)
-        (subst (λ x. has_marker (x ∷ (take (suc (break_further d a)) b ++ body)) rest ≡ marked_from 0 body rest) (sym same_c)
-        (subst (λ y. has_marker (92 ∷ (take (suc (break_further d a)) y ++ body)) rest ≡ marked_from 0 body rest) (sym same_b) (break_marks d a body rest f)))
+    by e is (has_escaped d a double same_c same_b f) = grind (arith, nat_tests, eqb-true, at_margin, escaped_column, break_marks)

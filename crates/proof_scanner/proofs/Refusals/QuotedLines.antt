@@ -1,5 +1,5 @@
 -- The scan of a quoted scalar reads one, or refuses the text for what is wrong with it first.
-use Rattle.proof_scanner.proofs.Common.{position_append, [], cases_Bool, inl, inr, after_element, after_escaped, after_gap, after_quote, along, along_more, and_false, and_parts, ap, append-nil, arith, At, at_start, begins_further, begins_marked, begins_with, Begun, begun, blank, Bool, break_further, content, Context, drop, Element, element_of, ends_before, eqb-true, Err, escape, escaped_break, false, Fault, first_is_gap, first_fails, Folded, gap, in_gap, inside, is_document_marker, is_marked, is_some, append_cancel_right, ◌++◌, quoted_lines_fit, joined, line_break, LineStand, List, list_all, marked, Mode, nat_lt, nat_tests, None, not, not-true, nothing, off_margin, Ok, Option, OutOfMemory, past, past_element, past_escaped, past_is, Position, position_after, position_past, Problem, quoted, Read, refl, Result, scan, shallow, Some, Spelled, step, StepOf, steps, subst, suc, sym, take, true, white_stands, with_break, with_escaped_break, within, zero, ℕ, ◌&&◌, ◌+◌, ◌==◌, ◌∙◌, ◌∷◌, ◌≡◌, ◌≤◌}
+use Rattle.proof_scanner.proofs.Common.{position_append, [], cases_Bool, inl, inr, after_element, after_escaped, after_gap, after_quote, along, along_more, and_false, and_parts, ap, append-nil, arith, At, at_start, begins_further, begins_marked, Begun, begun, blank, Bool, break_further, content, Context, drop, element_of, ends_before, eqb-true, Err, escape, escaped_break, false, Fault, first_is_gap, first_fails, Folded, gap, in_gap, inside, is_document_marker, is_marked, is_some, append_cancel_right, ◌++◌, quoted_lines_fit, joined, line_break, LineStand, List, list_all, marked, Mode, nat_lt, nat_tests, None, not, not-true, nothing, off_margin, Ok, Option, OutOfMemory, past, past_element, past_escaped, past_is, Position, position_after, position_past, Problem, quoted, Read, refl, Result, scan, shallow, Some, Spelled, step, StepOf, steps, subst, suc, sym, take, true, white_stands, with_break, with_escaped_break, within, zero, ℕ, ◌&&◌, ◌+◌, ◌==◌, ◌∙◌, ◌∷◌, ◌≡◌, ◌≤◌, past_elements}
 use Rattle.yaml_chars.specs.Class.{is_break, is_blank}
 use Rattle.yaml_tokens.specs.declared.problem.Problem.TheVariants as problem
 use Rattle.model_scanner.specs.Quoted.{after}
@@ -10,10 +10,8 @@ use Rattle.proof_lexers.proofs.Quoted.Turns.{spelled, begins, Step, is_shallow}
 use Rattle.proof_scanner.proofs.Sound.QuotedBreaks.{Kind, has_content, has_blank, has_line, has_escaped, is_white, quote_white, slash_white, body_between}
 use Rattle.proof_scanner.specs.NoPiece.{quote_of}
 use Rattle.proof_scanner.proofs.Refusals.QuotedElements.{quote_no_break, after_quote_at, no_quote, solid_here, past_line, past_two, after_it, kind_of, content_after}
-use Rattle.proof_scanner.proofs.Refusals.QuotedReasons as reasons
-use Rattle.proof_scanner.proofs.Refusals.QuotedReasons.{stands, Place, by_end, by_escape, by_column, by_tab, Reason, other, grown, Closed, closed_grown, all_stand, before_quote, lines_close}
+use Rattle.proof_scanner.proofs.Refusals.QuotedReasons.{stands, by_end, by_escape, by_column, by_tab, by_marker, placed, arrived, stepped, Reason, Closed, parted, all_stand, before_quote, lines_close}
 use Rattle.model_scanner.proofs.PlainLemmas.{break_leads}
-use Rattle.proof_row.proofs.Columns.{further_is_no_break}
 
 -- the faults of further lines
 abbrev pub is_of_lines : Fault → Bool
@@ -23,11 +21,6 @@ is_of_lines (At problem.TabAsIndentation p) = true
 is_of_lines (At _ p) = false
 
 -- ---- texts
-
--- nor does what is neither blank nor break
-solid_no_feed : (c : ℕ) → is_white c ≡ false → (c == 10) ≡ false
-unfolding is_break is_blank
-solid_no_feed c h = grind arith
 
 closes : (single : Bool) (ctx : Context) (start : Position) (r : List ℕ) (p : Position) (u : Folded) → ends_before single r ≡ true → scan single ctx start (quote_of single ∷ r) inside p u ≡ Ok (record { rest = r; position = past p; value = u.text })
 unfolding is_break is_blank
@@ -43,14 +36,13 @@ slash_no_quote a = grind arith
 escaped_goes : (single : Bool) (ctx : Context) (start : Position) → single ≡ false → (d : ℕ) (a : List ℕ) (p : Position) (u : Folded) → is_break d ≡ true
     → scan single ctx start (92 ∷ d ∷ a) inside p u ≡ scan single ctx start (drop (break_further d a) a) after (position_after p (92 ∷ d ∷ take (break_further d a) a) (drop (break_further d a) a)) (with_escaped_break u)
 unfolding is_break is_blank
-escaped_goes true ctx start double d a p u e = absurd (cc double)
-escaped_goes false ctx start double d [] p u e = grind (arith, past_line, past_is, and_false)
 escaped_goes false ctx start double d (f ∷ a) p u e = elim (cases_Bool ((d == 13) && (f == 10))) [
   | inl g ↦
       let q = and_parts (d == 13) (f == 10) g in
       rw (eqb-true d 13 q.0, eqb-true f 10 q.1) (ap (λ x. scan false ctx start a after x (with_escaped_break u)) (sym (ap (λ x. position_after x (13 ∷ 10 ∷ []) a) (past_is p 92 (13 ∷ 10 ∷ a) refl) ∙ past_two (past p) a)))
   | inr g ↦ rw (e, g) (ap (λ x. scan false ctx start (f ∷ a) after x (with_escaped_break u)) (sym (ap (λ x. position_past x d (f ∷ a)) (past_is p 92 (d ∷ f ∷ a) refl) ∙ past_line (past p) d (f ∷ a) e g)))
 ]
+escaped_goes a ctx start double d b p u e = grind (arith, past_line, past_is, and_false)
 
 module _ (single : Bool) (ctx : Context) (start : Position) (least : ℕ) (limit : (k : ℕ) → nat_lt (k + 1) ctx.indent ≡ nat_lt k least) where
   abbrev pub Why : LineStand → Position → List ℕ → Problem → Position → Type 0
@@ -74,17 +66,6 @@ module _ (single : Bool) (ctx : Context) (start : Position) (least : ℕ) (limit
   abbrev Later : List ℕ → Type 0
   Later text = (s : LineStand) (p : Position) (m : Mode) (t : Folded) → Stood p t s m → Ends s p text (scan single ctx start text m p t)
 
-  -- ---- reasons at a place
-
-  wrong_here : (last : List Element) (why : Problem) (at : Position) (s : LineStand) (p : Position) (text : List ℕ) → begins_with 10 text ≡ false → all_stand least s p.col last ≡ true → ((p.col == 0) && is_document_marker text) ≡ false
-      → Place single least start s p text last why at → Why s p text why at
-  wrong_here last why at s p text no_feed fit none h = other last why at (record { body = []; rest = text; es = []; is_text = refl; are = refl; no_feed = no_feed; fits = fit }) (rw none refl) h
-
-  marked_here : (s : LineStand) (p : Position) (text : List ℕ) → ((p.col == 0) && is_document_marker text) ≡ true → Why s p text problem.QuotedDocumentMarker start
-  marked_here s p text h =
-      let marker : is_document_marker text ≡ true = (and_parts (p.col == 0) (is_document_marker text) h).1 in
-      reasons.marked (record { body = []; rest = text; es = []; is_text = refl; are = refl; no_feed = further_is_no_break 0 text marker; fits = refl }) marker (rw h refl)
-
   -- ---- a line begins or goes on
 
   -- what is neither blank nor break begins a line or goes on in one
@@ -99,12 +80,12 @@ module _ (single : Bool) (ctx : Context) (start : Position) (least : ℕ) (limit
       further s m a unlike b = grind arith
 
       by : (marker : Bool) → ((p.col == 0) && is_document_marker (c ∷ b)) ≡ marker → Begun single ctx start (c ∷ b) p t → Started s p (c ∷ b) t
-      by true h z = stops (refused problem.QuotedDocumentMarker start (marked_here s p (c ∷ b) h) (begins_marked single ctx start c b p t solid h))
+      by true h z = stops (refused problem.QuotedDocumentMarker start (arrived (by_marker h)) (begins_marked single ctx start c b p t solid h))
       by false h (begun none deep i) = begins_or_goes none (sym (limit p.col) ∙ deep) i
       by false h (marked g i) = absurd (cc (g, h))
       by false h (shallow g i) =
           let low : nat_lt p.col least ≡ true = sym (limit p.col) ∙ g in
-          stops (refused problem.QuotedIndentation start (wrong_here [] problem.QuotedIndentation start s p (c ∷ b) (solid_no_feed c solid) refl h (by_column (solid_here c b solid) (further s m stood unlike low) low)) i)
+          stops (refused problem.QuotedIndentation start (arrived (placed _ _ h (by_column (solid_here c b solid) (further s m stood unlike low) low))) i)
 
   -- ---- an element more
 
@@ -112,8 +93,8 @@ module _ (single : Bool) (ctx : Context) (start : Position) (least : ℕ) (limit
     -- how the text after the element ends, the text before it does
     ends_grown : (x y : Result (Read (List ℕ)) Fault) → x ≡ y → stands least s p.col e.element ≡ true → ((p.col == 0) && is_document_marker (c ∷ b)) ≡ false
         → Ends (past_element s e.element) (after_it single c b e is p) (drop e.further b) y → Ends s p (c ∷ b) x
-    ends_grown x y i fit none (refused why at h j) = refused why at (grown single least start c b e is s p fit none why at h) (i ∙ j)
-    ends_grown x y i fit none (reads z w j) = reads z (closed_grown single least start c b e is s p fit none z.rest z.position w) (i ∙ j)
+    ends_grown x y i fit none (refused why at h j) = refused why at (stepped c b e is fit none h) (i ∙ j)
+    ends_grown x y i fit none (reads z w j) = reads z (stepped c b e is fit none w) (i ∙ j)
 
     not_quote : single ≡ false → (c == quote_of single) ≡ false
     not_quote double = by single double is
@@ -156,7 +137,7 @@ module _ (single : Bool) (ctx : Context) (start : Position) (least : ℕ) (limit
 
   -- blanks
   blank_ends : (c : ℕ) (b : List ℕ) → element_of single c b ≡ Some (spelled (blank c) 0) → is_break c ≡ false → is_blank c ≡ true → (s : LineStand) (p : Position) (m : Mode) (t : Folded) → Stood p t s m → Later b → Ends s p (c ∷ b) (scan single ctx start (c ∷ b) gap p t)
-  blank_ends c b is f g s p m t stood later = by s m stood (t.leading && (c == 9) && nat_lt (p.col + 1) ctx.indent) refl
+  blank_ends c b is f g s p m t stood later = by s m stood
     where
       here : Result (Read (List ℕ)) Fault
       here = scan single ctx start (c ∷ b) gap p t
@@ -164,16 +145,10 @@ module _ (single : Bool) (ctx : Context) (start : Position) (least : ℕ) (limit
       none : ((p.col == 0) && is_document_marker (c ∷ b)) ≡ false
       none = white_stands single ctx start c b p.col (rw (f, g) refl)
 
-      is_past : after_it single c b (spelled (blank c) 0) is p ≡ past p
-      is_past = past_is p c b f
-
-      goes : (t.leading && (c == 9) && nat_lt (p.col + 1) ctx.indent) ≡ false → here ≡ scan single ctx start b gap (past p) (after_element (blank c) t)
-      goes h = rw (f, g, h) refl
-
       on : (s : LineStand) → stands least s p.col (blank c) ≡ true → (t.leading && (c == 9) && nat_lt (p.col + 1) ctx.indent) ≡ false → Stood (past p) (after_element (blank c) t) (past_element s (blank c)) gap → Ends s p (c ∷ b) here
       on s fit h next =
-          ends_grown c b (spelled (blank c) 0) is s p here _ (goes h) fit none
-          (subst (λ q. Ends (past_element s (blank c)) q b (scan single ctx start b gap (past p) (after_element (blank c) t))) (sym is_past) (later (past_element s (blank c)) (past p) gap (after_element (blank c) t) next))
+          ends_grown c b (spelled (blank c) 0) is s p here _ (rw (f, g, h) refl) fit none
+          (subst (λ q. Ends (past_element s (blank c)) q b (scan single ctx start b gap (past p) (after_element (blank c) t))) (sym (past_is p c b f)) (later (past_element s (blank c)) (past p) gap (after_element (blank c) t) next))
 
       still : t.leading ≡ true → (after_element (blank c) t).leading ≡ true
       still e = rw e refl
@@ -187,25 +162,24 @@ module _ (single : Bool) (ctx : Context) (start : Position) (least : ℕ) (limit
           let fails : here ≡ Err (At problem.TabAsIndentation p) = rw (f, g, h) refl in
           let parts = and_parts (t.leading && (c == 9)) (nat_lt (p.col + 1) ctx.indent) h in
           let is_tab : c ≡ 9 = eqb-true c 9 (and_parts t.leading (c == 9) parts.0).1 in
-          refused problem.TabAsIndentation p (wrong_here [] problem.TabAsIndentation p s p (c ∷ b) (ap (λ x. x == 10) is_tab) refl none (by_tab b (ap (λ x. x ∷ b) is_tab) further (sym (limit p.col) ∙ parts.1))) fails
+          refused problem.TabAsIndentation p (arrived (placed _ _ none (by_tab b (ap (λ x. x ∷ b) is_tab) further (sym (limit p.col) ∙ parts.1)))) fails
 
-      by : (s : LineStand) (m : Mode) → Stood p t s m → (tab : Bool) → (t.leading && (c == 9) && nat_lt (p.col + 1) ctx.indent) ≡ tab → Ends s p (c ∷ b) here
-      by s m (in_line deep) true h = absurd (cc ((and_parts (t.leading && (c == 9)) (nat_lt (p.col + 1) ctx.indent) h).1, limit p.col, deep))
-      by s m (in_line deep) false h = on within refl h (in_line (grind (arith, nat_tests, deep)))
-      by s m (begins_here leads) true h = tabbed at_start refl h
-      by s m (begins_here leads) false h = on at_start (no_tab leads h) h (begins_here (still leads))
-      by s m (escaped double leads) true h = tabbed past_escaped refl h
-      by s m (escaped double leads) false h = on past_escaped (no_tab leads h) h (begins_here (still leads))
+      open_line : (s : LineStand) → begins_further s false ≡ true → past_element s (blank c) ≡ at_start → t.leading ≡ true → Ends s p (c ∷ b) here
+      open_line s further next leads = elim (cases_Bool (t.leading && (c == 9) && nat_lt (p.col + 1) ctx.indent)) [
+        | inl h ↦ tabbed s further h
+        | inr h ↦ on s (ap (λ x. not (x && (c == 9) && nat_lt p.col least)) further ∙ no_tab leads h) h (subst (λ x. Stood (past p) (after_element (blank c) t) x gap) (sym next) (begins_here (still leads)))
+      ]
+
+      by : (s : LineStand) (m : Mode) → Stood p t s m → Ends s p (c ∷ b) here
+      by s m (in_line deep) = on within refl (grind (arith, nat_tests, deep, limit)) (in_line (grind (arith, nat_tests, deep)))
+      by s m (begins_here leads) = open_line at_start refl refl leads
+      by s m (escaped double leads) = open_line past_escaped refl refl leads
 
   -- ---- breaks
 
   break_goes : (c : ℕ) (b : List ℕ) (p : Position) (t : Folded) → is_break c ≡ true → scan single ctx start (c ∷ b) gap p t ≡ scan single ctx start (drop (break_further c b) b) gap (position_after p (c ∷ take (break_further c b) b) (drop (break_further c b) b)) (with_break t)
   unfolding is_break is_blank
-  break_goes c [] p t e = grind (arith, past_line, and_false)
-  break_goes c (d ∷ b) p t e = elim (cases_Bool ((c == 13) && (d == 10))) [
-    | inl f ↦ let q = and_parts (c == 13) (d == 10) f in rw (eqb-true c 13 q.0, eqb-true d 10 q.1) (ap (λ x. scan single ctx start b gap x (with_break t)) (sym (past_two p b)))
-    | inr f ↦ rw (e, f) (ap (λ x. scan single ctx start (d ∷ b) gap x (with_break t)) (sym (past_line p c (d ∷ b) e f)))
-  ]
+  break_goes c a p t e = grind (arith, nat_tests, past_line, and_false, and_parts, eqb-true, past_two)
 
   line_ends : (c : ℕ) (b : List ℕ) → element_of single c b ≡ Some (spelled line_break (break_further c b)) → is_break c ≡ true → (s : LineStand) (p : Position) (t : Folded) → Later (drop (break_further c b) b) → Ends s p (c ∷ b) (scan single ctx start (c ∷ b) gap p t)
   unfolding is_break is_blank
@@ -223,51 +197,38 @@ module _ (single : Bool) (ctx : Context) (start : Position) (least : ℕ) (limit
 
   -- ---- where no element stands
 
-  quote_stands : (s : LineStand) (k : ℕ) → nat_lt k least ≡ false → all_stand least s k (before_quote s) ≡ true
-  quote_stands a k deep = grind (arith, and_false)
-
   closed_ends : (r : List ℕ) → ends_before single r ≡ true → Later (model.quote_of single ∷ r)
   closed_ends r ended s p m t stood = by s m stood
     where
       closed : (s : LineStand) → all_stand least s p.col (before_quote s) ≡ true → Closed single least start s p (model.quote_of single ∷ r) r (past p)
-      closed s fit = record { body = []; es = []; is_text = ap (λ q. q ∷ r) (same_quote single); are = refl; fits = fit; end_is = refl }
+      closed s fit = arrived (record { is_quote = ap (λ q. q ∷ r) (same_quote single); fit = fit; end_is = refl })
 
       in_its_line : (s : LineStand) → Started s p (model.quote_of single ∷ r) t → Ends s p (model.quote_of single ∷ r) (scan single ctx start (model.quote_of single ∷ r) gap p t)
       in_its_line s (stops x) = x
-      in_its_line s (begins_or_goes none deep i) = reads _ (closed s (quote_stands s p.col deep)) (i ∙ closes single ctx start r p (joined t) ended)
+      in_its_line s (begins_or_goes none deep i) = reads _ (closed s (grind (arith, and_false))) (i ∙ closes single ctx start r p (joined t) ended)
 
       by : (s : LineStand) (m : Mode) → Stood p t s m → Ends s p (model.quote_of single ∷ r) (scan single ctx start (model.quote_of single ∷ r) m p t)
       by s m (in_line deep) = in_its_line within (started (model.quote_of single) r within gap p t (quote_white single) (in_line deep) (λ e. absurd (cc e)))
       by s m (begins_here leads) = in_its_line at_start (started (model.quote_of single) r at_start gap p t (quote_white single) (begins_here leads) (λ e. absurd (cc e)))
       by s m (escaped double leads) = reads _ (closed past_escaped refl) (after_quote single ctx start (model.quote_of single) (model.quote_of single ∷ r) p t refl refl ∙ closes single ctx start r p t ended)
 
+  -- what is no closing quote is read after an escaped break as in a gap
+  from_gap : (c : ℕ) (b : List ℕ) → (single ≡ false → (c == quote_of single) ≡ false) → (s : LineStand) (m : Mode) (p : Position) (t : Folded) → Stood p t s m → scan single ctx start (c ∷ b) m p t ≡ scan single ctx start (c ∷ b) gap p t
+  from_gap c b unlike s m p t (in_line deep) = refl
+  from_gap c b unlike s m p t (begins_here leads) = refl
+  from_gap c b unlike s m p t (escaped double leads) = after_gap single ctx start c (c ∷ b) p t refl (ap (λ q. c == q) (same_quote single) ∙ unlike double)
+
   bad_ends : single ≡ false → (r : List ℕ) → escape r ≡ None → Later (92 ∷ r)
-  bad_ends double r bad s p m t stood = by s m stood (started 92 r s m p t slash_white stood (λ _. slash_no_quote single))
+  bad_ends double r bad s p m t stood = ends_on s p (92 ∷ r) _ _ (from_gap 92 r (λ _. slash_no_quote single) s m p t stood) (by (started 92 r s m p t slash_white stood (λ _. slash_no_quote single)))
     where
-      fails : (x : Bool) → x ≡ false → (z : Problem) → scan false ctx start (92 ∷ r) inside p (joined t) ≡ Err (At z start) → scan x ctx start (92 ∷ r) inside p (joined t) ≡ Err (At z start)
-      fails a e z h = grind arith
-
-      in_gap_ends : (s : LineStand) → Started s p (92 ∷ r) t → Ends s p (92 ∷ r) (scan single ctx start (92 ∷ r) gap p t)
-      in_gap_ends s (stops x) = x
-      in_gap_ends s (begins_or_goes none deep i) =
+      by : Started s p (92 ∷ r) t → Ends s p (92 ∷ r) (scan single ctx start (92 ∷ r) gap p t)
+      by (stops x) = x
+      by (begins_or_goes none deep i) =
           let z = escape_fails ctx start r p (joined t) bad in
-          refused z.why start (wrong_here (content 92 ∷ []) z.why start s p (92 ∷ r) refl (rw (deep, and_false (begins_further s false)) refl) none (by_escape r z.why double refl z.bad)) (i ∙ fails single double z.why z.is)
-
-      by : (s : LineStand) (m : Mode) → Stood p t s m → Started s p (92 ∷ r) t → Ends s p (92 ∷ r) (scan single ctx start (92 ∷ r) m p t)
-      by s m (in_line deep) x = in_gap_ends within x
-      by s m (begins_here leads) x = in_gap_ends at_start x
-      by s m (escaped double leads) x = ends_on past_escaped p (92 ∷ r) _ _ (after_gap single ctx start 92 (92 ∷ r) p t refl (sym (ap (λ q. 92 == q) (same_quote single)) ∙ slash_no_quote single)) (in_gap_ends past_escaped x)
+          refused z.why start (arrived (placed _ _ none (by_escape r z.why double refl z.bad (rw (deep, and_false (begins_further s false)) refl)))) (i ∙ (grind arith))
 
   unclosed_ends : Later []
-  unclosed_ends s p m t stood = by s m stood
-    where
-      ends_here : (s : LineStand) (x : Result (Read (List ℕ)) Fault) → x ≡ Err (At problem.QuotedEnd start) → Ends s p [] x
-      ends_here s x e = refused problem.QuotedEnd start (wrong_here [] problem.QuotedEnd start s p [] refl refl (and_false (p.col == 0)) (by_end refl)) e
-
-      by : (s : LineStand) (m : Mode) → Stood p t s m → Ends s p [] (scan single ctx start [] m p t)
-      by s m (in_line deep) = ends_here within _ refl
-      by s m (begins_here leads) = ends_here at_start _ refl
-      by s m (escaped double leads) = ends_here past_escaped _ refl
+  unclosed_ends s p m t stood = refused problem.QuotedEnd start (arrived (placed _ _ (and_false (p.col == 0)) (by_end refl))) (grind arith)
 
   none_ends : (c : ℕ) (b : List ℕ) → NoElement single c b → Later (c ∷ b)
   none_ends c b (closing e ended) = subst (λ x. Later (x ∷ b)) (sym e) (closed_ends b ended)
@@ -279,23 +240,16 @@ module _ (single : Bool) (ctx : Context) (start : Position) (least : ℕ) (limit
   by_kind c b e is (has_content code k solid) s p m t stood later = content_ends c b code k is solid s p m t stood later
   by_kind c b e is (has_blank f g) s p m t stood later = blank_ends c b is f g s p m t stood later
   by_kind c b e is (has_line f) s p m t stood later = line_ends c b is f s p t later
-  by_kind c b e is (has_escaped d a double same_c same_b f) s p m t stood later = slashed c b same_c same_b is later
-    where
-      slashed : (c : ℕ) (b : List ℕ) → c ≡ 92 → b ≡ d ∷ a → element_of single c b ≡ Some (spelled escaped_break (suc (break_further d a))) → Later (drop (suc (break_further d a)) b) → Ends s p (c ∷ b) (scan single ctx start (c ∷ b) gap p t)
-      slashed c b same_c same_b is later =
-          let there : element_of single 92 (d ∷ a) ≡ Some (spelled escaped_break (suc (break_further d a))) = ap (λ x. element_of single x (d ∷ a)) (sym same_c) ∙ (ap (λ y. element_of single c y) (sym same_b) ∙ is) in
-          subst (λ x. Ends s p (x ∷ b) (scan single ctx start (x ∷ b) gap p t)) (sym same_c)
-          (subst (λ y. Ends s p (92 ∷ y) (scan single ctx start (92 ∷ y) gap p t)) (sym same_b) (escaped_ends d a double there f s p m t stood (subst (λ y. Later (drop (suc (break_further d a)) y)) same_b later)))
-
-  -- an element begins after an escaped break as in a gap
-  from_gap : (c : ℕ) (b : List ℕ) (e : Spelled) → element_of single c b ≡ Some e → (s : LineStand) (m : Mode) (p : Position) (t : Folded) → Stood p t s m → scan single ctx start (c ∷ b) m p t ≡ scan single ctx start (c ∷ b) gap p t
-  from_gap c b e is s m p t (in_line deep) = refl
-  from_gap c b e is s m p t (begins_here leads) = refl
-  from_gap c b e is s m p t (escaped double leads) = after_gap single ctx start c (c ∷ b) p t refl (ap (λ q. c == q) (same_quote single) ∙ not_quote c b e is s p double)
+  by_kind c b e is (has_escaped d a double same_c same_b f) s p m t stood later =
+      let slashed : (c : ℕ) (b : List ℕ) → c ≡ 92 → b ≡ d ∷ a → element_of single c b ≡ Some (spelled escaped_break (suc (break_further d a))) → Later (drop (suc (break_further d a)) b) → Ends s p (c ∷ b) (scan single ctx start (c ∷ b) gap p t) = λ c b same_c same_b is later.
+      let there : element_of single 92 (d ∷ a) ≡ Some (spelled escaped_break (suc (break_further d a))) = ap (λ x. element_of single x (d ∷ a)) (sym same_c) ∙ (ap (λ y. element_of single c y) (sym same_b) ∙ is) in
+      subst (λ x. Ends s p (x ∷ b) (scan single ctx start (x ∷ b) gap p t)) (sym same_c)
+      (subst (λ y. Ends s p (92 ∷ y) (scan single ctx start (92 ∷ y) gap p t)) (sym same_b) (escaped_ends d a double there f s p m t stood (subst (λ y. Later (drop (suc (break_further d a)) y)) same_b later))) in
+      slashed c b same_c same_b is later
 
   by_element : (c : ℕ) (b : List ℕ) (o : Option Spelled) → element_of single c b ≡ o → (c == 0) ≡ false → ((n : ℕ) → Later (drop n b)) → Later (c ∷ b)
   by_element c b None is some later s p m t stood = none_ends c b (no_element single c b some is) s p m t stood
-  by_element c b (Some e) is some later s p m t stood = ends_on s p (c ∷ b) _ _ (from_gap c b e is s m p t stood) (by_kind c b e is (kind_of single c b e is) s p m t stood (later e.further))
+  by_element c b (Some e) is some later s p m t stood = ends_on s p (c ∷ b) _ _ (from_gap c b (not_quote c b e is s p) s m p t stood) (by_kind c b e is (kind_of single c b e is) s p m t stood (later e.further))
 
   each_ends : (n : ℕ) (a : List ℕ) → list_all is_some a ≡ true → Later (drop n a)
   each_ends zero [] full = unclosed_ends
@@ -333,10 +287,11 @@ module _ (single : Bool) (ctx : Context) (start : Position) (least : ℕ) (limit
       by (refused why at h i) = absurd (cc (i, e))
       by (reads y w i) =
           let read : y ≡ x = cc (i, e) in
-          let same : body ≡ w.body = append_cancel_right body w.body (quote_of single ∷ x.rest) (w.is_text ∙ ap (λ (z : Read (List ℕ)). w.body ++ quote_of single ∷ z.rest) read) in
+          let v = parted single least start _ within (past start) (body ++ quote_of single ∷ x.rest) w in
+          let same : body ≡ v.body = append_cancel_right body v.body (quote_of single ∷ x.rest) (v.is_text ∙ ap (λ r. v.body ++ r) (v.holds.is_quote ∙ ap (λ (z : Read (List ℕ)). quote_of single ∷ z.rest) read)) in
           record {
-            lines = rw (body_between (quote_of single) body, same, w.are) (lines_close least (start.col + 1) w.es ∙ w.fits);
-            end_is = position_of x.position (cc (w.end_is, read, same));
+            lines = rw (body_between (quote_of single) body, same, v.are) (lines_close least (start.col + 1) v.es ∙ v.fits (before_quote (past_elements within v.es)) v.holds.fit);
+            end_is = position_of x.position (cc (v.holds.end_is, read, same, v.holds.is_quote));
           }
 
   pub body_read : (body : List ℕ) (x : Read (List ℕ)) → list_all is_some (body ++ model.quote_of single ∷ x.rest) ≡ true → quoted single ctx (model.quote_of single ∷ (body ++ model.quote_of single ∷ x.rest)) start ≡ Ok x → IsBody (model.quote_of single) body x

@@ -1,5 +1,5 @@
 -- Why the text after an opening quote is refused, told of the text from an element on.
-use Rattle.proof_scanner.proofs.Common.{past, [], after_own, and_false, ap, append_assoc, are_indented, arith, at_start, begins_further, begins_solid, begins_with, begun_with, blank, Bool, content, drop, Element, element_of, elements, escaped_break, false, further_lines_fit, has_more, is_document_marker, IsBadEscape, line_break, Lines, lines_fit, lines_of, LineStand, List, Local, local, LocalOf, marked_from, nat_lt, nat_tests, not, past_element, past_elements, past_escaped, past_is, Position, position_after, position_append, Problem, refl, replicate, Some, Spelled, subst, suc, sym, take, take-append-drop, true, within, zero, ℕ, ◌&&◌, ◌++◌, ◌+◌, ◌==◌, ◌∙◌, ◌∷◌, ◌≡◌}
+use Rattle.proof_scanner.proofs.Common.{past, [], after_own, and_false, ap, append_assoc, are_indented, arith, at_start, begins_further, begins_solid, begins_with, begun_with, blank, Bool, content, drop, Element, element_of, elements, escaped_break, false, further_lines_fit, has_more, is_document_marker, IsBadEscape, line_break, Lines, lines_fit, lines_of, LineStand, List, local, LocalOf, marked_from, nat_lt, nat_tests, not, past_element, past_elements, past_escaped, past_is, Position, position_after, position_append, Problem, refl, replicate, Some, Spelled, subst, suc, sym, take, take-append-drop, true, within, zero, ℕ, ◌&&◌, ◌++◌, ◌+◌, ◌==◌, ◌∙◌, ◌∷◌, ◌≡◌, eqb-true, or-false}
 use Rattle.yaml_tokens.specs.declared.problem.Problem.TheVariants as problem
 use Rattle.proof_scanner.proofs.Sound.QuotedBreaks.{Kind, has_content, has_blank, has_line, has_escaped, fits_from, lines_from, lines_here, empty_here}
 use Rattle.proof_scanner.specs.NoPiece.{quote_of}
@@ -34,26 +34,17 @@ fits_at least past_escaped k es = lines_from k least true (lines_of es)
 and_true : (b : Bool) → b ≡ (b && true)
 and_true a = grind arith
 
-pub and_assoc : (x y z : Bool) → ((x && y) && z) ≡ (x && (y && z))
-and_assoc a y z = grind arith
-
 deep_is : (k least : ℕ) → fits_from k least true [] ≡ not (nat_lt k least)
 deep_is k least = grind arith
 
 blank_is : (k least c : ℕ) (holds : Bool) (bs : List ℕ) → fits_from k least holds (c ∷ bs) ≡ (not ((c == 9) && nat_lt k least) && fits_from (suc k) least holds bs)
 blank_is k least c holds bs = grind arith
 
-content_is : (k least code : ℕ) (e : Bool) (ls : Lines) → lines_from k least e (begun_with (content code) ls) ≡ (not (nat_lt k least) && further_lines_fit least ls)
-content_is k least code e a = grind (arith, and_false, deep_is, and_true, lines_fit)
-
 blanks_are : (k least c : ℕ) (e : Bool) (ls : Lines) → lines_from k least e (begun_with (blank c) ls) ≡ (not ((c == 9) && nat_lt k least) && lines_from (suc k) least false ls)
-blanks_are k least c e a = grind (arith, and_false, blank_is, lines_fit, has_more, and_assoc)
-
-further_begun : (least : ℕ) (e : Element) (ls : Lines) → further_lines_fit least (begun_with e ls) ≡ further_lines_fit least ls
-further_begun least e a = grind arith
+blanks_are k least c e a = grind (arith, and_false, blank_is, lines_fit, has_more)
 
 fits_past : (least : ℕ) (s : LineStand) (k : ℕ) (e : Element) (fs : List Element) → fits_at least s k (e ∷ fs) ≡ (stands least s k e && fits_at least (past_element s e) (column_past k e) fs)
-fits_past least a k b fs = grind (arith, further_begun, lines_here, content_is, blanks_are, lines_fit, empty_here, deep_is)
+fits_past least a k b fs = grind (arith, lines_here, and_false, and_true, blanks_are, lines_fit, empty_here, deep_is)
 
 -- an indented line fits
 spaces_fit : (n k least : ℕ) → least ≡ k + n → fits_at least at_start k (replicate n (blank 32)) ≡ true
@@ -83,51 +74,61 @@ lines_close least k es = fits_closed least within k es
 
 -- within a line the column does not matter
 within_alike : (least k j : ℕ) (es : List Element) → all_stand least within k es ≡ all_stand least within j es
-within_alike least k j [] = refl
 within_alike least k j (content c ∷ es) = within_alike least k j es
 within_alike least k j (blank c ∷ es) = within_alike least (suc k) (suc j) es
-within_alike least k j (e ∷ es) = refl
+within_alike least k j a = grind arith
 
 -- ---- reasons
 
+-- whether a document marker begins a line at a place
+abbrev pub is_marked : Position → List ℕ → Bool
+is_marked p text = (p.col == 0) && is_document_marker text
+
 module _ (single : Bool) (least : ℕ) (start : Position) where
-  -- A text is cut after some elements, which may stand there, before others that end it.
-  pub record Cut (last : List Element) (s : LineStand) (p : Position) (text : List ℕ) : Type 0 where
+  -- What is wrong at a place, but for a document marker.
+  pub data Place (s : LineStand) (p : Position) (text : List ℕ) : Problem → Position → Type 0 where
+    by_end : text ≡ [] → Place s p text problem.QuotedEnd start
+    by_escape : (next : List ℕ) (why : Problem) → single ≡ false → text ≡ 92 ∷ next → IsBadEscape next why → all_stand least s p.col (content 92 ∷ []) ≡ true → Place s p text why start
+    by_column : begins_solid text ≡ true → begins_further s (begins_with (quote_of single) text) ≡ true → nat_lt p.col least ≡ true → Place s p text problem.QuotedIndentation start
+    by_tab : (next : List ℕ) → text ≡ 9 ∷ next → begins_further s false ≡ true → nat_lt p.col least ≡ true → Place s p text problem.TabAsIndentation p
+
+  -- the same, or a marker
+  pub data Wrong (s : LineStand) (p : Position) (text : List ℕ) : Problem → Position → Type 0 where
+    by_marker : is_marked p text ≡ true → Wrong s p text problem.QuotedDocumentMarker start
+    placed : (why : Problem) (at : Position) → is_marked p text ≡ false → Place s p text why at → Wrong s p text why at
+
+  -- The closing quote stands at a place, and may stand there; the text and the position after it.
+  pub record Closes (s : LineStand) (p : Position) (text rest : List ℕ) (end : Position) : Type 0 where
+    pub is_quote : text ≡ quote_of single ∷ rest
+    pub fit : all_stand least s p.col (before_quote s) ≡ true
+    pub end_is : end ≡ past p
+
+  -- Elements that may stand, and no marker before them, lead to a place at which this holds.
+  pub data Walk (E : LineStand → Position → List ℕ → Type 0) : LineStand → Position → List ℕ → Type 0 where
+    arrived : {s : LineStand} {p : Position} {text : List ℕ} → E s p text → Walk E s p text
+    stepped : {s : LineStand} {p : Position} (c : ℕ) (b : List ℕ) (e : Spelled) (is : element_of single c b ≡ Some e) → stands least s p.col e.element ≡ true → is_marked p (c ∷ b) ≡ false → Walk E (past_element s e.element) (after_it single c b e is p) (drop e.further b) → Walk E s p (c ∷ b)
+
+  -- what is wrong with a text first, and where a scalar ends
+  abbrev pub Reason : LineStand → Position → List ℕ → Problem → Position → Type 0
+  Reason s p text why at = Walk (λ t q x. Wrong t q x why at) s p text
+
+  abbrev pub Closed : LineStand → Position → (text rest : List ℕ) (end : Position) → Type 0
+  Closed s p text rest end = Walk (λ t q x. Closes t q x rest end) s p text
+
+  -- The same told of the text: a body before the place, its elements, and what may stand after them.
+  pub record Parted (E : LineStand → Position → List ℕ → Type 0) (s : LineStand) (p : Position) (text : List ℕ) : Type 0 where
     pub body : List ℕ
     pub rest : List ℕ
     pub es : List Element
     pub is_text : text ≡ body ++ rest
     pub are : elements (element_of single) 0 body ≡ Some es
-    pub no_feed : begins_with 10 rest ≡ false
-    pub fits : all_stand least s p.col (es ++ last) ≡ true
-
-  -- What is wrong at a place, but for a document marker; and what ends the text there, if it may stand.
-  pub data Place (s : LineStand) (p : Position) (text : List ℕ) : List Element → Problem → Position → Type 0 where
-    by_end : text ≡ [] → Place s p text [] problem.QuotedEnd start
-    by_escape : (next : List ℕ) (why : Problem) → single ≡ false → text ≡ 92 ∷ next → IsBadEscape next why → Place s p text (content 92 ∷ []) why start
-    by_column : begins_solid text ≡ true → begins_further s (begins_with (quote_of single) text) ≡ true → nat_lt p.col least ≡ true → Place s p text [] problem.QuotedIndentation start
-    by_tab : (next : List ℕ) → text ≡ 9 ∷ next → begins_further s false ≡ true → nat_lt p.col least ≡ true → Place s p text [] problem.TabAsIndentation p
-
-  -- What is wrong with a text first: a marker begins a line, or before any something else is wrong at a place.
-  pub data Reason (s : LineStand) (p : Position) (text : List ℕ) : Problem → Position → Type 0 where
-    marked : (x : Cut [] s p text) → is_document_marker x.rest ≡ true → marked_from p.col x.body x.rest ≡ true → Reason s p text problem.QuotedDocumentMarker start
-    other : (last : List Element) (why : Problem) (at : Position) (x : Cut last s p text) → marked_from p.col x.body x.rest ≡ false → Place (past_elements s x.es) (position_after p x.body x.rest) x.rest last why at → Reason s p text why at
-
-  -- A text begins with a body whose lines are indented, and its closing quote; the position after that.
-  pub record Closed (s : LineStand) (p : Position) (text rest : List ℕ) (end : Position) : Type 0 where
-    pub body : List ℕ
-    pub es : List Element
-    pub is_text : text ≡ body ++ quote_of single ∷ rest
-    pub are : elements (element_of single) 0 body ≡ Some es
-    pub fits : all_stand least s p.col (es ++ before_quote (past_elements s es)) ≡ true
-    pub end_is : end ≡ past (position_after p body (quote_of single ∷ rest))
+    pub fits : (last : List Element) → all_stand least (past_elements s es) (position_after p body rest).col last ≡ true → all_stand least s p.col (es ++ last) ≡ true
+    pub marks : marked_from p.col body rest ≡ is_marked (position_after p body rest) rest
+    pub holds : E (past_elements s es) (position_after p body rest) rest
 
   -- ---- an element before
 
   module _ (c : ℕ) (b : List ℕ) (e : Spelled) (is : element_of single c b ≡ Some e) where
-    own : Local (element_of single c) b e
-    own = subst (λ o. LocalOf (element_of single c) b o) is (local single c b)
-
     abbrev pub past_it : Position → Position
     past_it p = after_it single c b e is p
 
@@ -138,9 +139,7 @@ module _ (single : Bool) (least : ℕ) (start : Position) where
     cut body rest h = ap (λ x. c ∷ x) (sym (take-append-drop e.further b) ∙ ap (λ x. take e.further b ++ x) h ∙ sym (append_assoc (take e.further b) body rest))
 
     more : (body rest : List ℕ) (es : List Element) → drop e.further b ≡ body ++ rest → elements (element_of single) 0 body ≡ Some es → elements (element_of single) 0 (before body) ≡ Some (e.element ∷ es)
-    more body rest es h i =
-        let taken : elements (element_of single) e.further (take e.further b ++ body) ≡ elements (element_of single) 0 body = ap (λ n. elements (element_of single) n (take e.further b ++ body)) (sym own.fits) ∙ after_own (element_of single) (take e.further b) body in
-        rw (own.same body rest h, taken, i) refl
+    more body rest es h i = grind (arith, nat_tests, eqb-true, (subst (λ o. LocalOf (element_of single c) b o) is (local single c b)), after_own)
 
     pub place : (p : Position) (body rest : List ℕ) → drop e.further b ≡ body ++ rest → position_after p (before body) rest ≡ position_after (past_it p) body rest
     place p body rest h = position_append p (c ∷ take e.further b) body rest ∙ ap (λ x. position_after (position_after p (c ∷ take e.further b) x) body rest) (sym h)
@@ -151,41 +150,25 @@ module _ (single : Bool) (least : ℕ) (start : Position) where
       where
         by : (e : Spelled) → (is : element_of single c b ≡ Some e) → Kind single c b e → all_stand least (past_element s e.element) (column_past p.col e.element) fs ≡ all_stand least (past_element s e.element) (after_it single c b e is p).col fs
         by e is (has_content code k solid) = within_alike least _ _ fs
-        by e is (has_blank f g) =
-            let next : suc p.col ≡ p.col + 1 = omega arith in
-            ap (λ k. all_stand least (past_element s (blank c)) k fs) (next ∙ ap (λ (q : Position). q.col) (sym (past_is p c b f)))
+        by e is (has_blank f g) = grind (arith, nat_tests, eqb-true, blank, past_is)
         by e is (has_line f) = ap (λ k. all_stand least at_start k fs) (sym (break_column c b p f))
         by e is (has_escaped d a double same_c same_b f) = ap (λ k. all_stand least past_escaped k fs) (sym (escaped_column c b d a p same_c same_b f))
 
-    module _ (s : LineStand) (p : Position) (fit : stands least s p.col e.element ≡ true) (none : ((p.col == 0) && is_document_marker (c ∷ b)) ≡ false) where
-      cut_grown : (last : List Element) → Cut last (past_element s e.element) (past_it p) (drop e.further b) → Cut last s p (c ∷ b)
-      cut_grown last x = record {
-        body = before x.body;
+    marks_grown : (p : Position) → is_marked p (c ∷ b) ≡ false → (body rest : List ℕ) → drop e.further b ≡ body ++ rest → marked_from p.col (before body) rest ≡ marked_from (past_it p).col body rest
+    marks_grown p none body rest h = grind (arith, cut, none, marks_after)
+
+  pub parted : (E : LineStand → Position → List ℕ → Type 0) (s : LineStand) (p : Position) (text : List ℕ) → Walk E s p text → Parted E s p text
+  parted E s p text (arrived x) = record { body = []; rest = text; es = []; is_text = refl; are = refl; fits = λ last h. h; marks = or-false (is_marked p text); holds = x }
+  parted E s p text (stepped c b e is fit none w) =
+      let x : Parted E (past_element s e.element) (past_it c b e is p) (drop e.further b) = parted E _ _ _ w in
+      let end : position_after p (before c b e is x.body) x.rest ≡ position_after (past_it c b e is p) x.body x.rest = place c b e is p x.body x.rest x.is_text in
+      record {
+        body = before c b e is x.body;
         rest = x.rest;
         es = e.element ∷ x.es;
-        is_text = cut x.body x.rest x.is_text;
-        are = more x.body x.rest x.es x.is_text x.are;
-        no_feed = x.no_feed;
-        fits = rw fit (columns_are s p (x.es ++ last) ∙ x.fits);
+        is_text = cut c b e is x.body x.rest x.is_text;
+        are = more c b e is x.body x.rest x.es x.is_text x.are;
+        fits = λ last h. rw fit (columns_are c b e is s p (x.es ++ last) ∙ x.fits last (ap (λ (q : Position). all_stand least (past_elements (past_element s e.element) x.es) q.col last) (sym end) ∙ h));
+        marks = marks_grown c b e is p none x.body x.rest x.is_text ∙ (x.marks ∙ ap (λ q. is_marked q x.rest) (sym end));
+        holds = subst (λ q. E (past_elements (past_element s e.element) x.es) q x.rest) (sym end) x.holds;
       }
-
-      pub closed_grown : (rest : List ℕ) (end : Position) → Closed (past_element s e.element) (past_it p) (drop e.further b) rest end → Closed s p (c ∷ b) rest end
-      closed_grown rest end x = record {
-        body = before x.body;
-        es = e.element ∷ x.es;
-        is_text = cut x.body (quote_of single ∷ rest) x.is_text;
-        are = more x.body (quote_of single ∷ rest) x.es x.is_text x.are;
-        fits = rw fit (columns_are s p (x.es ++ before_quote (past_elements (past_element s e.element) x.es)) ∙ x.fits);
-        end_is = x.end_is ∙ ap past (sym (place p x.body (quote_of single ∷ rest) x.is_text));
-      }
-
-      marks_grown : (body rest : List ℕ) → drop e.further b ≡ body ++ rest → marked_from p.col (before body) rest ≡ marked_from (past_it p).col body rest
-      marks_grown body rest h = grind (arith, cut, none, marks_after)
-
-      -- what is wrong after an element that may stand is wrong with the text before it
-      pub grown : (why : Problem) (at : Position) → Reason (past_element s e.element) (past_it p) (drop e.further b) why at → Reason s p (c ∷ b) why at
-      unfolding cut_grown
-      grown why at (marked x m h) = marked (cut_grown [] x) m (marks_grown x.body x.rest x.is_text ∙ h)
-      grown why at (other last _ _ x m h) =
-          other last why at (cut_grown last x) (marks_grown x.body x.rest x.is_text ∙ m)
-          (subst (λ q. Place (past_elements (past_element s e.element) x.es) q x.rest last why at) (sym (place p x.body x.rest x.is_text)) h)

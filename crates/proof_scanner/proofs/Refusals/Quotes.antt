@@ -1,7 +1,6 @@
 -- Faults of quoted scalars: a further line is not indented, or what stands after the scalar may not follow it.
-use Rattle.proof_scanner.proofs.Common.{[], ap, append-nil, append_assoc, are_indented, AreNotIndented, arith, Arrives, At, begins_separation, begins_with, bodies_are_read, Bool, check_after_quoted, closed_first, content, Context, Element, element_of, elements, ends_before, ends_spaces, Err, false, Fault, go_on, has_marker, has_no_nul, held_of, if◌then◌else◌, in_flow, is_breakz, is_document_marker, is_empty, IsBadEscape, IsQuoted, IsQuotedFault, least_here, lines_first, List, marked_from, may_follow_quoted, nat_lt, no_quoted, node_start, not, not-true, off_margin, Ok, on_held, past, past_elements, peek, Position, position_after, Problem, quote_of, quoted, quoted_lines_fit, quoted_may_end, Read, refl, Result, ScannerState, skip_spaces, Some, subst, sym, tab, true, unled, value_of, within, Yes, ℕ, ◌&&◌, ◌++◌, ◌+◌, ◌-◌, ◌==◌, ◌||◌, ◌∙◌, ◌∷◌, ◌≡◌, further_lines_fit, lines_of}
+use Rattle.proof_scanner.proofs.Common.{[], ap, append-nil, append_assoc, are_indented, AreNotIndented, arith, Arrives, At, begins_separation, begins_with, bodies_are_read, Bool, check_after_quoted, closed_first, content, Context, element_of, elements, ends_before, ends_spaces, Err, false, Fault, go_on, has_marker, has_no_nul, held_of, in_flow, is_breakz, is_document_marker, is_empty, IsBadEscape, IsQuoted, IsQuotedFault, lines_first, List, may_follow_quoted, nat_lt, no_quoted, node_start, not-true, off_margin, Ok, on_held, past, past_elements, peek, Position, position_after, Problem, quote_of, quoted, quoted_lines_fit, quoted_may_end, Read, refl, Result, ScannerState, skip_spaces, Some, subst, sym, tab, true, unled, value_of, within, Yes, ℕ, ◌++◌, ◌+◌, ◌-◌, ◌==◌, ◌∙◌, ◌∷◌, ◌≡◌, further_lines_fit, lines_of, eqb-true, nat_tests, and_parts}
 use Rattle.yaml_tokens.specs.declared.problem.Problem.TheVariants as problem
-use Rattle.proof_lexers.specs.QuotedEnds as bad
 use Rattle.proof_lexers.specs.QuotedScan as scans
 use Rattle.proof_scanner.proofs.Cut.Nodes.{IsDeep}
 use Rattle.proof_scanner.proofs.Cut.Pieces.Quoted.{some_chars}
@@ -16,10 +15,10 @@ use Rattle.proof_scanner.specs.NoPiece as none
 use Rattle.proof_scanner.specs.QuotedLines as lines
 use Rattle.proof_scanner.proofs.Refusals.QuotedElements.{after_quote_at}
 use Rattle.proof_scanner.proofs.Refusals.QuotedLines.{is_of_lines, Ends, refused, reads, quoted_ends}
-use Rattle.proof_scanner.proofs.Refusals.QuotedReasons.{all_stand, indented_are, Cut, Place, by_end, by_escape, by_column, by_tab, Reason, marked, other, lines_close}
-use Rattle.proof_scanner.proofs.Refusals.Faults.{Faults, fault, goes, in_turn}
+use Rattle.proof_scanner.proofs.Refusals.QuotedReasons.{all_stand, indented_are, is_marked, by_end, by_escape, by_column, by_tab, by_marker, placed, Wrong, Reason, Parted, parted, lines_close}
+use Rattle.proof_scanner.proofs.Refusals.Faults.{Faults, fault, goes, in_turn, either}
 use Rattle.proof_scanner.proofs.Refusals.Spaces.{spaces_told, solid_past}
-use Rattle.proof_scanner.proofs.Refusals.Places.{Said, IsWhy, LiesDeep, account_by, stuck, least_by, looked_at, none_here, followed_stuck}
+use Rattle.proof_scanner.proofs.Refusals.Places.{Said, IsWhy, LiesDeep, looked_at, none_here, followed_stuck, stuck_by}
 use Rattle.proof_row.proofs.Runs.{neither}
 
 -- ---- texts
@@ -46,27 +45,14 @@ record Bodied (single : Bool) (more piece next : List ℕ) : Type 0 where
   ends : ends_before single next ≡ true
 
 bodied : (single : Bool) (more piece next : List ℕ) → none.quote_of single ∷ more ≡ piece ++ next → IsQuoted single piece next → Bodied single more piece next
-bodied true more piece next cut is =
-    let all : 39 ∷ more ≡ 39 ∷ ((is.1.0 ++ 39 ∷ []) ++ next) = cut ∙ ap (λ p. p ++ next) is.1.1 in
-    let left : more ≡ (is.1.0 ++ 39 ∷ []) ++ next = cc all in
-    record { body = is.1.0; value = is.0; piece_is = is.1.1; is_text = left ∙ append_assoc is.1.0 (39 ∷ []) next; value_is = is.1.2; ends = ap (λ b. not b) is.1.3 }
-bodied false more piece next cut is =
-    let all : 34 ∷ more ≡ 34 ∷ ((is.1.0 ++ 34 ∷ []) ++ next) = cut ∙ ap (λ p. p ++ next) is.1.1 in
-    let left : more ≡ (is.1.0 ++ 34 ∷ []) ++ next = cc all in
-    record { body = is.1.0; value = is.0; piece_is = is.1.1; is_text = left ∙ append_assoc is.1.0 (34 ∷ []) next; value_is = is.1.2; ends = refl }
-
-same_quote : (single : Bool) → quote_of single ≡ none.quote_of single
-same_quote a = grind arith
+bodied a more piece next cut is = grind (arith, nat_tests, eqb-true, append_assoc)
 
 -- A text that the scan refuses, and not for its lines, begins with no quoted scalar.
 pub none_quoted : (single : Bool) (ctx : Context) (more : List ℕ) (p : Position) (f : Fault) → quoted single ctx (none.quote_of single ∷ more) p ≡ Err f → is_of_lines f ≡ false → none.HasNoQuoted single (none.quote_of single ∷ more)
-none_quoted single ctx more p f fails unlike piece next cut is = by b (quoted single ctx (quote_of single ∷ (b.body ++ quote_of single ∷ next)) p) (ap (λ q. quoted single ctx (q ∷ (b.body ++ q ∷ next)) p) (same_quote single) ∙ (ap (λ r. quoted single ctx (none.quote_of single ∷ r) p) (sym b.is_text) ∙ fails)) (bodies_are_read single ctx b.body next b.value p b.value_is b.ends)
-  where
-    b : Bodied single more piece next
-    b = bodied single more piece next cut is
-
-    by : (b : Bodied single more piece next) (x : Result (Read (List ℕ)) Fault) → x ≡ Err f → scans.IsRead ctx p b.value next x → ⊥
-    by b x i a = grind arith
+none_quoted single ctx more p f fails unlike piece next cut is =
+    let b : Bodied single more piece next = bodied single more piece next cut is in
+    let by : (b : Bodied single more piece next) (x : Result (Read (List ℕ)) Fault) → x ≡ Err f → scans.IsRead ctx p b.value next x → ⊥ = λ b x i a. grind arith in
+    by b (quoted single ctx (quote_of single ∷ (b.body ++ quote_of single ∷ next)) p) (ap (λ q. quoted single ctx (q ∷ (b.body ++ q ∷ next)) p) (grind arith) ∙ (ap (λ r. quoted single ctx (none.quote_of single ∷ r) p) (sym b.is_text) ∙ fails)) (bodies_are_read single ctx b.body next b.value p b.value_is b.ends)
 
 -- ---- the check
 
@@ -77,9 +63,6 @@ module _ (text : List ℕ) (t : ScannerState) (a : Arrives text t) (some : is_em
 
   abbrev pub piece : List ℕ
   piece = piece_of single q.body
-
-  flow_is : in_flow closed.held ≡ in_flow t.held
-  flow_is = ap in_flow (saved_is t.held)
 
   pub is : IsQuoted single piece x.rest
   is = is_quoted single q.body x.rest x.value q.value_is q.ends
@@ -104,7 +87,7 @@ module _ (text : List ℕ) (t : ScannerState) (a : Arrives text t) (some : is_em
     where
       by : (b : Bool) → quoted_may_end (in_flow t.held) piece x.rest ≡ b → b ≡ false
       by false i = refl
-      by true i = absurd (cc ((check_passes t.held.position piece closed q.end_is (ap (λ b. quoted_may_end b piece x.rest) flow_is ∙ i)).is, refuses v e n))
+      by true i = absurd (cc ((check_passes t.held.position piece closed q.end_is (ap (λ b. quoted_may_end b piece x.rest) (ap in_flow (saved_is t.held)) ∙ i)).is, refuses v e n))
 
   -- other text on its line
   followed_by : (v : ScannerState) → skip_spaces Yes closed ≡ Ok v → Spaced Yes closed v → may_follow_quoted (in_flow v.held) (t.held.position.line == v.held.position.line) (peek v.rest) ≡ false → Said text (At problem.ContentAfterQuoted v.held.position)
@@ -119,18 +102,14 @@ module _ (text : List ℕ) (t : ScannerState) (a : Arrives text t) (some : is_em
 
   pub after_told : Faults (Said text) (check_after_quoted t.held.position.line closed)
   unfolding check_after_quoted
-  after_told = in_turn (spaces_told text Yes closed glued) (λ v e. by v e (held_of v (spaces_skipped Yes closed) e) (may_follow_quoted (in_flow v.held) (t.held.position.line == v.held.position.line) (peek v.rest)) refl)
-    where
-      by : (v : ScannerState) → skip_spaces Yes closed ≡ Ok v → Spaced Yes closed v → (b : Bool) → may_follow_quoted (in_flow v.held) (t.held.position.line == v.held.position.line) (peek v.rest) ≡ b
-          → Faults (Said text) (if b then Ok v else Err (At problem.ContentAfterQuoted v.held.position))
-      by v e s true n = goes
-      by v e s false n = fault {f = At problem.ContentAfterQuoted v.held.position} (followed_by v e s n)
+  after_told =
+      in_turn (spaces_told text Yes closed glued) (λ v e.
+      either (may_follow_quoted (in_flow v.held) (t.held.position.line == v.held.position.line) (peek v.rest)) (λ _. goes) (λ n. fault {f = At problem.ContentAfterQuoted v.held.position} (followed_by v e (held_of v (spaces_skipped Yes closed) e) n)))
 
 -- ---- a text that is refused
 
 not_of_lines : (text : List ℕ) (why : Problem) (p : Position) → IsBadEscape text why → is_of_lines (At why p) ≡ false
-not_of_lines text why p bad.ends = refl
-not_of_lines text why p n = refl
+not_of_lines text why p n = grind (arith, nat_tests, eqb-true)
 
 module _ (text : List ℕ) (t : ScannerState) (a : Arrives text t) (some : is_empty t.rest ≡ false) (lies : LiesDeep t) where
   abbrev here : Position
@@ -142,10 +121,8 @@ module _ (text : List ℕ) (t : ScannerState) (a : Arrives text t) (some : is_em
   -- the quoted scalar that begins here is none
   lines_stuck : (single : Bool) (why : Problem) (at : Position) → AreNotIndented single least t.rest → (x : IsQuotedFault single least here t.rest why at) → lines_first single least here t.rest why at x → IsWhy text why at
   lines_stuck single why at none_fits x first =
-      stuck text t a some [] why at (λ c may.
-      let P : ℕ → Type 0 = λ n. (y : IsQuotedFault single n here t.rest why at) × lines_first single n here t.rest why at y in
-      let moved : P (least_here (account_by text t a some c []) here) = subst P (sym (least_by text t a some c [])) (x, first) in
-      record { fails = no_quoted single (subst (λ n. AreNotIndented single n t.rest) (sym (least_by text t a some c [])) none_fits) moved.0; is_first = (looked_at text t a some lies c [], moved.1) })
+      stuck_by text t a some why at (λ b bs k. (l : AreNotIndented single k t.rest) × (y : IsQuotedFault single k here t.rest why at) × lines_first single k here t.rest why at y) (none_fits, x, first)
+      (λ c may m. record { fails = no_quoted single m.0 m.1; is_first = (looked_at text t a some lies c [], m.2) })
 
   module _ (deep : IsDeep t.held) (single : Bool) (ctx : Context) (same : ctx.indent ≡ t.held.indent) (more : List ℕ) (e : t.rest ≡ none.quote_of single ∷ more) where
     limit : (k : ℕ) → nat_lt (k + 1) ctx.indent ≡ nat_lt k least
@@ -155,9 +132,9 @@ module _ (text : List ℕ) (t : ScannerState) (a : Arrives text t) (some : is_em
       none_there : is_of_lines f ≡ false → none.HasNoQuoted single t.rest
       none_there told = subst (λ r. none.HasNoQuoted single r) (sym e) (none_quoted single ctx more here f fails told)
 
-      none_fits : (last : List Element) (why : Problem) (at : Position) (x : Cut single least here last within (past here) more)
-          → Place single least here (past_elements within x.es) (position_after (past here) x.body x.rest) x.rest last why at → AreNotIndented single least t.rest
-      none_fits last why at x wrong piece next cut is = on (quoted_lines_fit least (element_of single) piece) refl
+      -- nor one whose lines are indented
+      none_fits : (why : Problem) (at : Position) → (why ≡ problem.QuotedDocumentMarker → ⊥) → Reason single least here within (past here) more why at → AreNotIndented single least t.rest
+      none_fits why at unlike x piece next cut is = on (quoted_lines_fit least (element_of single) piece) refl
         where
           b : Bodied single more piece next
           b = bodied single more piece next (sym e ∙ cut) is
@@ -168,46 +145,45 @@ module _ (text : List ℕ) (t : ScannerState) (a : Arrives text t) (some : is_em
               let es = has_elements single b.body b.value b.value_is in
               let whole : quoted_lines_fit least (element_of single) (none.quote_of single ∷ (b.body ++ none.quote_of single ∷ [])) ≡ true = ap (quoted_lines_fit least (element_of single)) (sym b.piece_is) ∙ i in
               let fit : further_lines_fit least (lines_of es.0) ≡ true = rw (body_between (none.quote_of single) b.body, es.1) at whole in
-              absurd (not_closed single least here within (past here) more b.body next es.0 b.is_text b.ends es.1 (sym (lines_close least (past here).col es.0) ∙ fit) last why at x wrong)
-
-      indented : (es : List Element) → all_stand least within (past here).col (es ++ []) ≡ true → are_indented least es ≡ true
-      indented es h = indented_are least (past here).col es ∙ (ap (all_stand least within (past here).col) (sym (append-nil es)) ∙ h)
+              absurd (not_closed single least here within (past here) b.body next es.0 b.ends es.1 (sym (lines_close least (past here).col es.0) ∙ fit) why at unlike (subst (λ r. Reason single least here within (past here) r why at) b.is_text x))
 
       -- what is wrong with the text after the quote is what the whole text is stuck by
       told_by : (why : Problem) (at : Position) → At why at ≡ f → Reason single least here within (past here) more why at → IsWhy text why at
-      told_by why at is (marked x marker m) =
-          none_here text t a some lies problem.QuotedDocumentMarker
-          (none.unquoted single more problem.QuotedDocumentMarker e (none_there (ap is_of_lines (sym is))) (none.by_marker x.body x.rest x.is_text (x.es, x.are) (marks_in (has_marker x.body x.rest) m)))
-          (marker, indented x.es x.fits)
+      told_by why at is w = by why at is w (parted single least here _ within (past here) more w)
         where
-          marks_in : (b : Bool) → (((here.col + 1) == 0) && is_document_marker (x.body ++ x.rest) || b) ≡ true → b ≡ true
-          marks_in b h = rw (off_margin here.col 0) at h
-      told_by why at is (other last _ _ x m wrong) = by last why at is x m wrong
-        where
-          unmarked : (body rest : List ℕ) → marked_from (past here).col body rest ≡ false → has_marker body rest ≡ false
-          unmarked body rest h = rw (off_margin here.col 0) at h
+          by : (why : Problem) (at : Position) → At why at ≡ f → Reason single least here within (past here) more why at → Parted single least here (λ t q x. Wrong single least here t q x why at) within (past here) more → IsWhy text why at
+          by why at is w x = of why at is w x.holds
+            where
+              indented : are_indented least x.es ≡ true
+              indented = indented_are least (past here).col x.es ∙ (ap (all_stand least within (past here).col) (sym (append-nil x.es)) ∙ x.fits [] refl)
 
-          by : (last : List Element) (why : Problem) (at : Position) → At why at ≡ f → (x : Cut single least here last within (past here) more) → marked_from (past here).col x.body x.rest ≡ false
-              → Place single least here (past_elements within x.es) (position_after (past here) x.body x.rest) x.rest last why at → IsWhy text why at
-          by last why at is x m (by_end ends) =
-              let all : more ≡ x.body = x.is_text ∙ (ap (λ r. x.body ++ r) ends ∙ append-nil x.body) in
-              none_here text t a some lies problem.QuotedEnd
-              (none.unquoted single more problem.QuotedEnd e (none_there (ap is_of_lines (sym is))) (none.by_end (x.es, subst (λ b. elements (element_of single) 0 b ≡ Some x.es) (sym all) x.are)))
-              (ap (λ b. has_marker b []) all ∙ (ap (λ r. has_marker x.body r) (sym ends) ∙ unmarked x.body x.rest m), indented x.es x.fits)
-          by last why at is x m (by_escape next _ double cut bad) =
-              none_here text t a some lies why
-              (none.unquoted single more why e (none_there (ap is_of_lines (sym is) ∙ not_of_lines next why here bad)) (none.by_escape x.body next why double (x.is_text ∙ ap (λ r. x.body ++ r) cut) (x.es, x.are) bad))
-              (ap (λ r. has_marker x.body r) (sym cut) ∙ unmarked x.body x.rest m, indented_are least (past here).col (x.es ++ content 92 ∷ []) ∙ x.fits)
-          by last why at is x m (by_column solid further low) =
-              lines_stuck single problem.QuotedIndentation here (none_fits last why at x (by_column solid further low))
-              (lines.by_column x.body x.rest x.es (e ∙ ap (λ r. none.quote_of single ∷ r) x.is_text) x.are solid further (ap (λ (q : Position). nat_lt q.col least) (after_quote_at single here x.body x.rest) ∙ low))
-              (unmarked x.body x.rest m, indented x.es x.fits)
-          by last why at is x m (by_tab next cut further low) =
-              let same_place : position_after (past here) x.body x.rest ≡ position_after here (none.quote_of single ∷ x.body) (tab ∷ next) = sym (after_quote_at single here x.body x.rest) ∙ ap (λ r. position_after here (none.quote_of single ∷ x.body) r) cut in
-              subst (λ z. IsWhy text problem.TabAsIndentation z) (sym same_place)
-              (lines_stuck single problem.TabAsIndentation (position_after here (none.quote_of single ∷ x.body) (tab ∷ next)) (none_fits last why at x (by_tab next cut further low))
-              (lines.by_tab x.body next x.es (e ∙ ap (λ r. none.quote_of single ∷ r) (x.is_text ∙ ap (λ r. x.body ++ r) cut)) x.are further (ap (λ (q : Position). nat_lt q.col least) (sym same_place) ∙ low))
-              (ap (λ r. has_marker x.body r) (sym cut) ∙ unmarked x.body x.rest m, indented x.es x.fits))
+              marks : (b : Bool) → is_marked (position_after (past here) x.body x.rest) x.rest ≡ b → has_marker x.body x.rest ≡ b
+              marks b h = rw (off_margin here.col 0) at (x.marks ∙ h)
+
+              of : (why : Problem) (at : Position) → At why at ≡ f → Reason single least here within (past here) more why at → Wrong single least here (past_elements within x.es) (position_after (past here) x.body x.rest) x.rest why at → IsWhy text why at
+              of why at is w (by_marker h) =
+                  none_here text t a some lies problem.QuotedDocumentMarker
+                  (none.unquoted single more problem.QuotedDocumentMarker e (none_there (ap is_of_lines (sym is))) (none.by_marker x.body x.rest x.is_text (x.es, x.are) (marks true h)))
+                  ((and_parts ((position_after (past here) x.body x.rest).col == 0) (is_document_marker x.rest) h).1, indented)
+              of why at is w (placed _ _ free (by_end ends)) =
+                  let all : more ≡ x.body = x.is_text ∙ (ap (λ r. x.body ++ r) ends ∙ append-nil x.body) in
+                  none_here text t a some lies problem.QuotedEnd
+                  (none.unquoted single more problem.QuotedEnd e (none_there (ap is_of_lines (sym is))) (none.by_end (x.es, subst (λ b. elements (element_of single) 0 b ≡ Some x.es) (sym all) x.are)))
+                  (ap (λ b. has_marker b []) all ∙ (ap (λ r. has_marker x.body r) (sym ends) ∙ marks false free), indented)
+              of why at is w (placed _ _ free (by_escape next _ double cut bad may)) =
+                  none_here text t a some lies why
+                  (none.unquoted single more why e (none_there (ap is_of_lines (sym is) ∙ not_of_lines next why here bad)) (none.by_escape x.body next why double (x.is_text ∙ ap (λ r. x.body ++ r) cut) (x.es, x.are) bad))
+                  (ap (λ r. has_marker x.body r) (sym cut) ∙ marks false free, indented_are least (past here).col (x.es ++ content 92 ∷ []) ∙ x.fits (content 92 ∷ []) may)
+              of why at is w (placed _ _ free (by_column solid further low)) =
+                  lines_stuck single problem.QuotedIndentation here (none_fits why at (λ k. absurd (cc k)) w)
+                  (lines.by_column x.body x.rest x.es (e ∙ ap (λ r. none.quote_of single ∷ r) x.is_text) x.are solid further (ap (λ (q : Position). nat_lt q.col least) (after_quote_at single here x.body x.rest) ∙ low))
+                  (marks false free, indented)
+              of why at is w (placed _ _ free (by_tab next cut further low)) =
+                  let same_place : position_after (past here) x.body x.rest ≡ position_after here (none.quote_of single ∷ x.body) (tab ∷ next) = sym (after_quote_at single here x.body x.rest) ∙ ap (λ r. position_after here (none.quote_of single ∷ x.body) r) cut in
+                  subst (λ z. IsWhy text problem.TabAsIndentation z) (sym same_place)
+                  (lines_stuck single problem.TabAsIndentation (position_after here (none.quote_of single ∷ x.body) (tab ∷ next)) (none_fits why at (λ k. absurd (cc k)) w)
+                  (lines.by_tab x.body next x.es (e ∙ ap (λ r. none.quote_of single ∷ r) (x.is_text ∙ ap (λ r. x.body ++ r) cut)) x.are further (ap (λ (q : Position). nat_lt q.col least) (sym same_place) ∙ low))
+                  (ap (λ r. has_marker x.body r) (sym cut) ∙ marks false free, indented))
 
     pub refused_told : has_no_nul more ≡ true → (f : Fault) → quoted single ctx (none.quote_of single ∷ more) here ≡ Err f → Said text f
     refused_told clean f fails = by (quoted_ends single ctx here least limit (omega (arith, deep, same)) more (some_chars more clean))

@@ -1,5 +1,5 @@
 -- Where the scanner's model refuses a text with a fault of a kind that is told, the text is stuck.
-use Rattle.proof_scanner.proofs.Common.{OutOfMemory, [], ap, Arrives, At, begins, cleared, drop_stale, false, Fares, Fault, fetch, fetch_here, fetch_next, fetch_stream_end, fetch_stream_start, has_no_nul, has_required, held_of, here, Holds, in_flow, inl, inr, is_empty, is_far, is_overdue, IsRefused, Key, List, list_any, map, next_line, not-false, Ok, on_held, Option, outside_key, over, peek, Position, Reaches, refl, RefusedTextsAreStuck, ScannerState, Some, stale, Stands, start, still, subst, sym, there, top_key, true, unroll_indent, ℕ, ◌+◌, ◌==◌, ◌∙◌, ◌∷◌, ◌≡◌, ◌⊎◌, arith}
+use Rattle.proof_scanner.proofs.Common.{OutOfMemory, [], ap, Arrives, At, begins, cleared, drop_stale, false, Fares, Fault, fetch, fetch_here, fetch_next, fetch_stream_end, fetch_stream_start, has_no_nul, has_required, held_of, here, Holds, in_flow, inl, inr, is_empty, is_far, is_overdue, IsRefused, Key, List, list_any, map, next_line, not-false, Ok, on_held, Option, outside_key, over, peek, Position, Reaches, refl, RefusedTextsAreStuck, ScannerState, Some, stale, Stands, start, still, sym, there, top_key, true, unroll_indent, ℕ, ◌+◌, ◌==◌, ◌∙◌, ◌∷◌, ◌≡◌, ◌⊎◌, arith, eqb-true, nat_tests}
 use Rattle.yaml_tokens.specs.declared.problem.Problem.TheVariants as problem
 use Rattle.model_scanner.specs.Keys.{with_keys}
 use Rattle.model_scanner.proofs.Holds as holds
@@ -98,16 +98,10 @@ record Known (text : List ℕ) (t : ScannerState) : Type 0 where
   near : HasNear t.held
 
 known_next : (text : List ℕ) → has_no_nul text ≡ true → (t u : ScannerState) → t.held.ended ≡ false → fetch t ≡ Ok u → Known text t → Known text u
-known_next text nul t u going e k = record { fares = next; near = near_by k.fares }
+known_next text nul t u going e k = record { fares = (reached fetch_keeps text nul t u (there going e here) k.fares); near = near_by k.fares }
   where
-    next : Fares text u
-    next = reached fetch_keeps text nul t u (there going e here) k.fares
-
     near_by : Fares text t → HasNear u.held
-    near_by (begins b) =
-        let same : Ok (fetch_stream_start (start text)) ≡ Ok u = sym (first_fetch text) ∙ (ap fetch (sym b) ∙ e) in
-        let state : fetch_stream_start (start text) ≡ u = cc same in
-        subst (λ x. HasNear x.held) state (near_first text)
+    near_by (begins b) = grind (arith, nat_tests, eqb-true, start, first_fetch, near_first)
     near_by (goes s) = held_of u (fetch_near t s.started) e
     near_by (over f r n) = absurd (cc (going, f))
 
@@ -115,15 +109,12 @@ known_on : (text : List ℕ) → has_no_nul text ≡ true → (t u : ScannerStat
 known_on text nul t u here k = k
 known_on text nul t u (there {u = v} going e run) k = known_on text nul v u run (known_next text nul t v going e k)
 
-first_known : (text : List ℕ) → Known text (start text)
-first_known text = record { fares = begins refl; near = λ o k e. absurd (cc e) }
-
 -- What a refusal says of the text.
 pub refusal_said : (text : List ℕ) (f : Fault) → has_no_nul text ≡ true → IsRefused text f → Said text f
 refusal_said text f nul r = by k.fares
   where
     k : Known text r.last
-    k = known_on text nul (start text) r.last r.run (first_known text)
+    k = known_on text nul (start text) r.last r.run (record { fares = begins refl; near = λ o k e. absurd (cc e) })
 
     by : Fares text r.last → Said text f
     by (begins b) = absurd (cc (sym (first_fetch text) ∙ (ap fetch (sym b) ∙ r.refused)))

@@ -1,5 +1,5 @@
 -- A key that must be one waits in each row of the text. So a text has no row where the scanner's model refuses one that comes to no colon.
-use Rattle.proof_scanner.proofs.Common.{[], Account, account_past, Act, act_of, ap, append-nil, append_assoc, append_cancel_right, AreAround, AreEntries, arith, Arrives, Begins, begins_free_line, Bool, comma, context_of, Entry, false, first_account, first_position, FlowLevel, gives_closing, gives_comma, GoesThrough, has_no_nul, has_required, HasNoKey, in_flow, inl, inr, is_blank, is_blank_or_end, is_break, is_empty, is_far, is_flow, is_in_flow, is_nul, is_required, is_separation, IsNear, IsPositionIn, IsRowFrom, Key, Leads, length, Line, line_past, List, mapping_closing, MayChoose, nat_tests, None, not, Option, Outside, outside_key, Position, position_after, position_append, refl, same_flow, ScannerState, sequence_closing, Some, spelled, Stands, Step, subst, suc, sym, top_key, true, waits, Whole, ℕ, ◌++◌, ◌||◌, ◌∙◌, ◌∷◌, ◌≡◌, ◌≤◌, ◌⊎◌}
+use Rattle.proof_scanner.proofs.Common.{[], Account, account_past, Act, act_of, ap, append-nil, append_assoc, append_cancel_right, AreAround, AreEntries, arith, Arrives, Begins, begins_free_line, Bool, comma, context_of, Entry, false, first_account, first_position, FlowLevel, gives_closing, gives_comma, GoesThrough, has_no_nul, has_required, HasNoKey, in_flow, inl, inr, is_blank, is_blank_or_end, is_break, is_empty, is_far, is_flow, is_in_flow, is_nul, is_required, is_separation, IsNear, IsPositionIn, IsRowFrom, Key, Leads, length, Line, line_past, List, mapping_closing, MayChoose, nat_tests, None, not, Option, Outside, outside_key, Position, position_after, position_append, refl, same_flow, ScannerState, sequence_closing, Some, spelled, Stands, Step, subst, suc, sym, top_key, true, waits, Whole, ℕ, ◌++◌, ◌||◌, ◌∙◌, ◌∷◌, ◌≡◌, ◌⊎◌}
 use Rattle.proof_scanner.proofs.Cut.Documents.{whole_text}
 use Rattle.proof_scanner.proofs.Cut.Positions.{not_before_after, index_after}
 use Rattle.proof_scanner.proofs.Sound.CutsSoFar.{stands_cut, cut_position}
@@ -15,13 +15,16 @@ use Rattle.proof_scanner.proofs.Refusals.Places.{IsRowless, account_by, in_flow_
 
 -- ---- a row that goes through a place
 
+-- steps lead on from an account
+some_past : (o : Option Account) (ws : List Step) (after : List ℕ) (b : Account) → Leads o ws after b → (c : Account) × (o ≡ Some c) × Leads (Some c) ws after b
+some_past None ws after b h = absurd h
+some_past (Some c) ws after b h = (c, refl, h)
+
 leads_waiting : (ws : List Step) (after : List ℕ) (a b : Account) → Waiting a.line a.site → Leads (Some a) ws after b → Waiting b.line b.site
 leads_waiting [] after a b on e = subst (λ (x : Account). Waiting x.line x.site) e on
-leads_waiting (w ∷ ws) after a b on h = by (account_past a w (spelled ws after)) refl h.1 (λ c z. leads_waiting ws after c b z)
-  where
-    by : (o : Option Account) → account_past a w (spelled ws after) ≡ o → Leads o ws after b → ((c : Account) → Waiting c.line c.site → Leads (Some c) ws after b → Waiting b.line b.site) → Waiting b.line b.site
-    by None e k further = absurd k
-    by (Some c) e k further = further c (waiting_past a.site a.line a.entries w (spelled ws after) c on h.0 e) k
+leads_waiting (w ∷ ws) after a b on h =
+    let c = some_past (account_past a w (spelled ws after)) ws after b h.1 in
+    leads_waiting ws after c.0 b (waiting_past a.site a.line a.entries w (spelled ws after) c.0 on h.0 c.1) c.2
 
 -- each beginning of a row is on the line of its key that waits
 begins_waiting : (text after : List ℕ) (b : Account) → Begins text after b → Waiting b.line b.site
@@ -36,23 +39,17 @@ before_is (w ∷ ws) after = grind (arith, append_assoc, before_is ws after)
 
 leads_position : (ws : List Step) (after : List ℕ) (a b : Account) → Leads (Some a) ws after b → b.site.position ≡ position_after a.site.position (spelled ws []) after
 leads_position [] after a b e = ap (λ (x : Account). x.site.position) (sym e)
-leads_position (w ∷ ws) after a b h = by (account_past a w (spelled ws after)) refl h.1 (λ c. leads_position ws after c b)
+leads_position (w ∷ ws) after a b h =
+    let c = some_past (account_past a w (spelled ws after)) ws after b h.1 in
+    let rest : List ℕ = spelled ws [] in
+    let here : Position = position_after a.site.position w.separation (w.piece ++ (rest ++ after)) in
+    leads_position ws after c.0 b c.2 ∙ ap (λ p. position_after p rest after) (place c.0 (made a.site a.line a.entries w (spelled ws after) c.0 c.1)) ∙
+    ap (λ x. position_after (position_after (position_after a.site.position w.separation (w.piece ++ x)) w.piece x) rest after) (before_is ws after) ∙ sym (position_append here w.piece rest after) ∙
+    ap (λ x. position_after (position_after a.site.position w.separation x) (w.piece ++ rest) after) (sym (append_assoc w.piece rest after)) ∙ sym (position_append a.site.position w.separation (w.piece ++ rest) after)
   where
-    next : List ℕ
-    next = spelled ws after
-
-    by : (o : Option Account) → account_past a w next ≡ o → Leads o ws after b → ((c : Account) → Leads (Some c) ws after b → b.site.position ≡ position_after c.site.position (spelled ws []) after) → b.site.position ≡ position_after a.site.position (w.separation ++ (w.piece ++ spelled ws [])) after
-    by None e k further = absurd k
-    by (Some c) e k further =
-        let rest : List ℕ = spelled ws [] in
-        let here : Position = position_after a.site.position w.separation (w.piece ++ (rest ++ after)) in
-        further c k ∙ ap (λ p. position_after p rest after) (place (made a.site a.line a.entries w next c e)) ∙
-        ap (λ x. position_after (position_after (position_after a.site.position w.separation (w.piece ++ x)) w.piece x) rest after) (before_is ws after) ∙ sym (position_append here w.piece rest after) ∙
-        ap (λ x. position_after (position_after a.site.position w.separation x) (w.piece ++ rest) after) (sym (append_assoc w.piece rest after)) ∙ sym (position_append a.site.position w.separation (w.piece ++ rest) after)
-      where
-        place : Made a.site a.line a.entries w next c → c.site.position ≡ position_after (position_after a.site.position w.separation (w.piece ++ next)) w.piece next
-        place (outside m o none sep past line site one) = ap (λ x. x.position) site
-        place (inside some sep site one) = ap (λ x. x.position) site
+    place : (c : Account) → Made a.site a.line a.entries w (spelled ws after) c → c.site.position ≡ position_after (position_after a.site.position w.separation (w.piece ++ spelled ws after)) w.piece (spelled ws after)
+    place c (outside m o none sep past line site one) = ap (λ x. x.position) site
+    place c (inside some sep site one) = ap (λ x. x.position) site
 
 -- A separation after a beginning of a row ends where the scanner is, before the same text.
 same_place : (text separation rest : List ℕ) (p : Position) (b : Account) → has_no_nul text ≡ true → IsPositionIn text rest p → Begins text (separation ++ rest) b → p ≡ position_after b.site.position separation rest
@@ -138,14 +135,11 @@ module _ (a : Account) (separation rest : List ℕ) (here : Position) (s : StepA
   made_here = made s.account.site s.account.line s.account.entries s.step s.next s.past s.is_past
 
   pub not_first : Waiting s.account.line s.account.site → here.col ≡ 0 → ⊥
-  not_first on col = by (here_on q s.account.site s.step.separation (s.step.piece ++ s.next) (on q waiting) (unbroken made_here)).1
+  not_first on col = let place = ap (λ (p : Position). p.col) s.position_is in omega (arith, (here_on q s.account.site s.step.separation (s.step.piece ++ s.next) (on q waiting) (unbroken made_here)).1, place, col)
     where
       unbroken : Made s.account.site s.account.line s.account.entries s.step s.next s.past → begins_free_line s.account.site.before s.step.separation ≡ false
       unbroken (outside m o none sep past line site one) = (still_there false _ s.account.line m q waiting sep).0
       unbroken (inside some sep site one) = (still_there true _ s.account.line s.past.line q waiting sep).0
-
-      by : 1 ≤ (position_after s.account.site.position s.step.separation (s.step.piece ++ s.next)).col → ⊥
-      by far = let place = ap (λ (p : Position). p.col) s.position_is in omega (arith, far, place, col)
 
   pub not_closing : is_in_flow a.entries ≡ false → (act_of s.step.shown ≡ gives_comma) ⊎ (act_of s.step.shown ≡ gives_closing) → ⊥
   not_closing out act = by made_here

@@ -1,5 +1,5 @@
 -- What is so after a block collection has begun or ended, and after a key is no longer open.
-use Rattle.proof_scanner.proofs.Common.{At, checked, deepen, drop_open, drop_open_level, Held, Holds, Indent, is_required, List, None, Option, Position, refl, remove_implicit_key, roll_entry, roll_indent, ScannerState, Tok, top_key, unroll_indent, went, with_top, ℕ, ◌≡◌, arith}
+use Rattle.proof_scanner.proofs.Common.{At, checked, deepen, drop_open_level, Held, Holds, is_required, None, Option, Position, refl, remove_implicit_key, roll_entry, roll_indent, ScannerState, Tok, top_key, unroll_indent, went, with_top, ℕ, ◌≡◌, arith}
 use Rattle.yaml_tokens.specs.declared.problem.Problem.TheVariants as problem
 use Rattle.proof_scanner.proofs.Cut.Levels.{rolled_one_is}
 
@@ -7,12 +7,9 @@ use Rattle.proof_scanner.proofs.Cut.Levels.{rolled_one_is}
 abbrev pub Stays : Held → Held → Type 0
 Stays u s = (u.position ≡ s.position) × (u.keys ≡ s.keys)
 
-dropped_stays : (s : Held) (ds : List Indent) → Stays (drop_open s ds) s
-dropped_stays s ds = grind arith
-
 pub rolled_stays : (col : ℕ) (number : Option ℕ) (tok : Tok) (p : Position) (s : Held) → Stays (roll_indent col number tok p s) s
 unfolding roll_indent drop_open_level deepen
-rolled_stays col number tok p s = grind (arith, dropped_stays)
+rolled_stays col number tok p s = grind arith
 
 pub unrolled_stays : (limit : ℕ) (s : Held) → Stays (unroll_indent limit s) s
 unfolding unroll_indent

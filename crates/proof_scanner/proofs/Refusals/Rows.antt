@@ -1,5 +1,5 @@
 -- Sound texts where a condition was once said to fail: it does not.
-use Rattle.proof_scanner.proofs.Common.{after, codes, false, first_account, first_position, is_alpha, is_blank, is_blank_or_end, is_break, is_decimal_digit, is_flow, is_letter, is_nul, is_tag, is_uri, is_value_here, IsNoHeader, IsTagRefusal, IsVersionBefore, List, literal, Position, Problem, refl, subst, sym, tags_are_read, uri_character, ℕ, ◌∷◌, ◌≡◌}
+use Rattle.proof_scanner.proofs.Common.{codes, false, first_account, first_position, is_alpha, is_blank, is_blank_or_end, is_break, is_decimal_digit, is_flow, is_letter, is_nul, is_tag, is_uri, is_value_here, IsNoHeader, IsTagRefusal, IsVersionBefore, List, literal, Position, Problem, refl, tags_are_read, uri_character, ℕ, ◌∷◌, ◌≡◌, arith, eqb-true, nat_tests}
 use Rattle.yaml_tokens.specs.declared.problem.Problem.TheVariants as problem
 use Rattle.proof_scanner.specs.NoPiece as none
 use Rattle.proof_scanner.proofs.Refusals.TextsRefused.{refusal_fails}
@@ -28,13 +28,7 @@ colon_in_plain = refl
 -- `%YAML 1.1x#` goes on with a letter after its version, so its comment is not what refuses it
 no_comment : (rest : List ℕ) → IsVersionBefore (codes "YAML 1.1x#") (35 ∷ rest) → ⊥
 unfolding is_blank is_alpha is_decimal_digit is_letter
-no_comment rest v = by v.point v.has_point v.is_before
-  where
-    by : (point : List ℕ) → codes ".1x#" ≡ 46 ∷ point → after is_decimal_digit point ≡ 35 ∷ rest → ⊥
-    by point e f = let same : codes "1x#" ≡ point = cc e in letter (subst (λ l. after is_decimal_digit l ≡ 35 ∷ rest) (sym same) f)
-      where
-        letter : codes "x#" ≡ 35 ∷ rest → ⊥
-        letter g = cc g
+no_comment rest v = grind (arith, nat_tests, eqb-true)
 
 -- a header's other text stands after its sign and digit: `|2#` has none
 header_comment : (at : Position) → IsNoHeader literal first_position (codes "2#") problem.BlockScalarHeader at → ⊥

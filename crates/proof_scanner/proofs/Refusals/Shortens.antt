@@ -1,6 +1,6 @@
 -- Each fetch reads on: where a piece begins, less text is left after it.
 use Rattle.std.proofs.lemmas.List.{length-append}
-use Rattle.proof_scanner.proofs.Common.{[], after_plain, allow_key, anchor_name, and_parts, ap, append_assoc, are_single, arith, Arrives, At, Before, before_by, before_past, begin_flow, begin_key, begin_line, begins_separation, block, Bool, both_hold, chained, check_after_quoted, check_after_tab, check_block_entry, check_dash, check_document_end, check_key_space, check_value_space, checked, Collection, collection_column, collection_of, comes_plain, Context, context, directives_end, either, end_entry, end_flow, end_stream, Err, false, Fault, fetch, fetch_anchor, fetch_block_entry, fetch_block_scalar, fetch_content, fetch_directive, fetch_document_end, fetch_document_marker, fetch_flow_collection_end, fetch_flow_collection_start, fetch_flow_entry, fetch_flow_scalar, fetch_here, fetch_key, fetch_next, fetch_plain_scalar, fetch_stream_end, fetch_tag, fetch_token, fetch_value, go_on, has_no_nul, has_required, Held, Holds, if◌then◌else◌, in_flow, inl, inr, is_adjacent, is_document_marker, is_empty, is_literal, is_nul, length, lexed, List, mark_of, may_follow_quoted, NameKind, next_line, No, node_start, None, not, Ok, on_held, opens_pair, Option, other, paired, pass_indicator, peek, Position, push, quote_of, quoted, Quotes, Read, read, read_as, ReadAs, refl, refused, remove_implicit_key, Result, roll_entry, roll_indent, save_implicit_key, ScannerState, sequence, skip_indicator, SkipTabs, stale, Stands, Style, subst, sym, Tok, top_key, tried, true, try_held, unled, unroll_indent, unroll_non_block_indents, weakened, went, without_open, Yes, ℕ, ◌&&◌, ◌++◌, ◌+◌, ◌<◌, ◌==◌, ◌>>=◌, ◌∙◌, ◌∷◌, ◌≡◌, ◌≤◌, ◌⊎◌}
+use Rattle.proof_scanner.proofs.Common.{[], after_plain, allow_key, anchor_name, and_parts, ap, append_assoc, are_single, arith, Arrives, At, Before, before_by, before_past, begin_flow, begin_key, begin_line, begins_separation, block, Bool, both_hold, chained, check_after_quoted, check_after_tab, check_block_entry, check_dash, check_document_end, check_key_space, check_value_space, checked, Collection, collection_column, collection_of, comes_plain, Context, context, directives_end, either, end_entry, end_flow, end_stream, false, Fault, fetch, fetch_anchor, fetch_block_entry, fetch_block_scalar, fetch_content, fetch_directive, fetch_document_end, fetch_document_marker, fetch_flow_collection_end, fetch_flow_collection_start, fetch_flow_entry, fetch_flow_scalar, fetch_here, fetch_key, fetch_next, fetch_plain_scalar, fetch_stream_end, fetch_tag, fetch_token, fetch_value, go_on, has_no_nul, has_required, Held, Holds, if◌then◌else◌, in_flow, inl, inr, is_adjacent, is_document_marker, is_empty, is_literal, is_nul, length, lexed, List, mark_of, may_follow_quoted, NameKind, next_line, No, node_start, None, not, Ok, on_held, opens_pair, Option, other, paired, pass_indicator, peek, Position, push, quote_of, quoted, Quotes, Read, read, read_as, ReadAs, refl, refused, remove_implicit_key, Result, roll_entry, roll_indent, save_implicit_key, ScannerState, sequence, skip_indicator, SkipTabs, stale, Stands, Style, subst, sym, Tok, top_key, tried, true, try_held, unled, unroll_indent, unroll_non_block_indents, weakened, went, without_open, Yes, ℕ, ◌&&◌, ◌++◌, ◌+◌, ◌<◌, ◌==◌, ◌>>=◌, ◌∙◌, ◌∷◌, ◌≡◌, ◌≤◌, ◌⊎◌}
 use Rattle.defs_token.specs.Account.{Account, is_in_flow}
 use Rattle.yaml_tokens.specs.declared.problem.Problem.TheVariants as problem
 use Rattle.model_scanner.specs.Directive.{directive}
@@ -23,7 +23,7 @@ use Rattle.proof_scanner.proofs.Cut.Saved.{saved_keys, saved_is}
 use Rattle.proof_scanner.proofs.Sound.Arriving.{arrives_now, near_key}
 use Rattle.proof_scanner.proofs.Sound.Stales.{stale_stands, keys_only}
 use Rattle.proof_scanner.proofs.Sound.ToToken.{passed_stands}
-use Rattle.proof_scanner.proofs.Sound.WithoutOpen.{AreClosed, without_is}
+use Rattle.proof_scanner.proofs.Sound.WithoutOpen.{without_is}
 use Rattle.proof_scanner.proofs.Refusals.Passing.{anything}
 
 -- ---- lengths
@@ -77,10 +77,7 @@ module _ (text : List ℕ) (t : ScannerState) (a : Arrives text t) (some : is_em
 
   after_quoted : (line : ℕ) (u : ScannerState) → Holds (λ v. length v.rest ≤ length u.rest) (check_after_quoted line u)
   unfolding check_after_quoted
-  after_quoted line u = chained (spaces_skipped Yes u) (λ v s. by v (may_follow_quoted (in_flow v.held) (line == v.held.position.line) (peek v.rest)) (spaced_no_longer Yes u v s))
-    where
-      by : (v : ScannerState) (b : Bool) → length v.rest ≤ length u.rest → Holds (λ w. length w.rest ≤ length u.rest) (if b then Ok v else Err (At problem.ContentAfterQuoted v.held.position))
-      by v a n = grind (arith, went, refused)
+  after_quoted line u = chained (spaces_skipped Yes u) (λ v s. either (may_follow_quoted (in_flow v.held) (line == v.held.position.line) (peek v.rest)) (λ _. went (spaced_no_longer Yes u v s)) (λ _. refused))
 
   quoted_shortens : (quotes : Quotes) (more : List ℕ) → t.rest ≡ quote_of (are_single quotes) ∷ more → Holds Shorter (fetch_flow_scalar quotes t)
   unfolding fetch_flow_scalar
@@ -102,10 +99,6 @@ module _ (text : List ℕ) (t : ScannerState) (a : Arrives text t) (some : is_em
       went (subst (λ r. length x.rest < length r) (sym e) (read_shorter _ _ _ _ _ _
       (pieces_are_read.block (asked t.held.position false (collection_of saved.indent) other) style saved.indent more x (clean_more _ more e) refl (asked_column t.held.position false (collection_of saved.indent) other) (ap (λ r. block (is_literal style) saved.indent r t.held.position) (sym e) ∙ k)).0)))
 
-  -- the levels without those that open no collection
-  closed : AreClosed t.held.indent t.held.indents t.held.tokens (without_open t.held.indent t.held.indents t.held.tokens)
-  closed = without_is t.held.indent t.held.indents t.held.tokens a.are_levels
-
   abbrev ctx : Context
   ctx = record { flow = in_flow t.held; indent = (without_open t.held.indent t.held.indents t.held.tokens).indent }
 
@@ -120,7 +113,7 @@ module _ (text : List ℕ) (t : ScannerState) (a : Arrives text t) (some : is_em
       (read (unroll_non_block_indents (allow_key false (record t.held { keys = saved_keys t.held }))) (plain ctx t.rest t.held.position) _ (λ x k.
       let b : Account = asked t.held.position (in_flow t.held) (collection_of ctx.indent) before_here in
       went (read_shorter b t.rest _ _ _ _ (pieces_are_read.plain b ctx t.rest x a.is_clean (asked_flow t.held.position (in_flow t.held) (collection_of ctx.indent) before_here) (asked_column t.held.position (in_flow t.held) (collection_of ctx.indent) before_here)
-      comes (less_or (in_flow t.held) ctx.indent t.held.position.col (omega (arith, deep, closed.not_deeper))) k))))
+      comes (less_or (in_flow t.held) ctx.indent t.held.position.col (omega (arith, deep, (without_is t.held.indent t.held.indents t.held.tokens a.are_levels).not_deeper))) k))))
 
   -- ---- indicators
 
@@ -153,14 +146,13 @@ module _ (text : List ℕ) (t : ScannerState) (a : Arrives text t) (some : is_em
   dash_shortens : Holds Shorter (fetch_block_entry t)
   unfolding fetch_block_entry check_dash
   dash_shortens =
+      let tried_on : (x : ScannerState) → length (roll_entry x).rest < length t.rest → Holds Shorter (try_held remove_implicit_key (roll_entry x) >>= λ y. Ok (on_held (λ s. push s.position Tok.block_entry (allow_key true s)) y)) =
+      λ x n. chained {P = Shorter} (tried {P = λ s. Unit {0}} (roll_entry x) (remove_implicit_key (roll_entry x).held) (anything (remove_implicit_key (roll_entry x).held)) (λ s k. n)) (λ y m. went m) in
       chained (stays check_block_entry) (λ u e.
       let v : ScannerState = on_held (roll_indent t.held.position.col None Tok.block_sequence_start t.held.position) (skip_indicator u) in
       chained {P = λ w. length w.rest < length t.rest} (spaced Yes v check_dash (λ w. length w.rest < length t.rest) (λ x w s. let n = one_read u e in let m = spaced_no_longer Yes v w s in passes _ _ (went (omega (arith, n, m))))) (λ w n.
       chained (spaces_skipped No w) (λ x s.
       tried_on x (let m = spaced_no_longer No w x s in subst (λ r. length r < length t.rest) (sym (rolled_rest x)) (omega (arith, n, m))))))
-    where
-      tried_on : (x : ScannerState) → length (roll_entry x).rest < length t.rest → Holds Shorter (try_held remove_implicit_key (roll_entry x) >>= λ y. Ok (on_held (λ s. push s.position Tok.block_entry (allow_key true s)) y))
-      tried_on x n = chained {P = Shorter} (tried {P = λ s. Unit {0}} (roll_entry x) (remove_implicit_key (roll_entry x).held) (anything (remove_implicit_key (roll_entry x).held)) (λ s k. n)) (λ y m. went m)
 
   key_spaced : (w : ScannerState) → length w.rest < length t.rest → Holds Shorter (check_key_space w)
   unfolding check_key_space
@@ -262,10 +254,8 @@ ReadsOn t u = (u.held.ended ≡ true) ⊎ (length u.rest < length t.rest)
 here_shortens : (text : List ℕ) (t : ScannerState) → Arrives text t → Holds (ReadsOn t) (fetch_here t)
 unfolding fetch_here fetch_stream_end
 here_shortens text t a =
+    let over : (s : Held) → Holds (λ h. h.ended ≡ true) (end_stream s) = λ s. checked (has_required s.keys) (At problem.KeyExpected s.position) (λ _. went refl) in
     either (peek t.rest == 0) (λ _. tried t (end_stream (record t.held { position = next_line t.held.position })) (over (record t.held { position = next_line t.held.position })) (λ s k. inl k)) (λ e. weakened (λ u n. inr n) (content_shortens text t a (goes_on_here t.rest e)))
-  where
-    over : (s : Held) → Holds (λ h. h.ended ≡ true) (end_stream s)
-    over s = checked (has_required s.keys) (At problem.KeyExpected s.position) (λ _. went refl)
 
 -- ---- a fetch
 
@@ -276,14 +266,12 @@ stale_arrives text u s solid = tried u (stale u.held) (stale_stands text u s) (�
 next_reads_on : (text : List ℕ) (t : ScannerState) → Stands text t → Holds (ReadsOn t) (fetch_next t)
 unfolding fetch_next
 next_reads_on text t s =
+    let by : (u v w : ScannerState) (h : Held) → ReadsOn v w → h.ended ≡ w.held.ended → length v.rest ≡ length u.rest → length u.rest ≤ length t.rest → ReadsOn t (record w { held = h }) = λ u v w h a same e m. grind arith in
     chained (both_hold (passed_stands text t s) (exact t)) (λ u p.
     chained {P = λ v. Arrives text (on_held (λ h. unroll_indent (h.position.col + 1) h) v) × (v.rest ≡ u.rest)}
     (both_hold (stale_arrives text u p.0.0 p.0.1) (tried {P = λ h. Unit {0}} u (stale u.held) (anything (stale u.held)) (λ h k. refl))) (λ v a.
     chained (here_shortens text (on_held (λ h. unroll_indent (h.position.col + 1) h) v) a.0) (λ w n.
     tried w (stale w.held) (keys_only w.held) (λ h k. by u v w h n (ap (λ x. x.ended) k) (ap length a.1) (cut_no_longer p.1.separation t.rest u.rest p.1.cut)))))
-  where
-    by : (u v w : ScannerState) (h : Held) → ReadsOn v w → h.ended ≡ w.held.ended → length v.rest ≡ length u.rest → length u.rest ≤ length t.rest → ReadsOn t (record w { held = h })
-    by u v w h a same e m = grind arith
 
 pub fetch_reads_on : (text : List ℕ) (t : ScannerState) → Stands text t → Holds (ReadsOn t) (fetch t)
 unfolding fetch

@@ -36,12 +36,11 @@ solid_past a h n = grind arith
 -- a space or a break stands first, so spaces, breaks and comments are read
 pub white_goes : (t : ScannerState) → begins_with_space_or_break t.rest ≡ true → skip_yaml_whitespace t ≡ Ok (past_white_space t)
 unfolding skip_yaml_whitespace
-white_goes t h = by (skip_yaml_whitespace t) (white_space_is_passed t.held t.rest) (white_exactly t)
+white_goes t h =
+    let by : (x : Result ScannerState Fault) → EndsAs (HasPassed begins_white_space t.held t.rest) (HasNoWhiteSpace t.held t.rest) x → Holds (λ u. (u ≡ past_white_space t) × (is_separation false (white_of false t.rest) (past_white false t.rest) ≡ true)) x → x ≡ Ok (past_white_space t) = λ x a k. grind (arith, first, h) in
+    by (skip_yaml_whitespace t) (white_space_is_passed t.held t.rest) (white_exactly t)
   where
     first : (text separation rest : List ℕ) → begins_with_space_or_break text ≡ true → text ≡ separation ++ rest → begins_with 32 text ≡ false → ends.has_break separation ≡ false → begins_white_space rest ≡ false → ⊥
     first [] separation rest h e f g i = absurd (cc h)
     first (c ∷ r) [] rest h e f g i = grind arith
     first (c ∷ r) (d ∷ separation) rest h e f g i = grind arith
-
-    by : (x : Result ScannerState Fault) → EndsAs (HasPassed begins_white_space t.held t.rest) (HasNoWhiteSpace t.held t.rest) x → Holds (λ u. (u ≡ past_white_space t) × (is_separation false (white_of false t.rest) (past_white false t.rest) ≡ true)) x → x ≡ Ok (past_white_space t)
-    by x a k = grind (arith, first, h)

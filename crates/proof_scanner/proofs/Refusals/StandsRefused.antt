@@ -1,5 +1,5 @@
 -- Where a piece may not stand for what stands before or after it, no row of the text goes on.
-use Rattle.proof_scanner.proofs.Common.{[], Account, account_past, act_of, ap, arith, awaits_past, before_by, before_past, begins_free_line, begins_separation, begins_white_space, begins_with, begins_with_space_or_break, Bool, colon, comma, context_of, dash, double_quoted, entries_past, Entry, eqb-true, false, flow_entry, flow_mapping_end, flow_mapping_start, flow_sequence_end, flow_sequence_start, further_lines_stand, gives_colon, gives_dash, gives_node, gives_question, GoesOn, has_tab_before_piece, if◌then◌else◌, inl, inr, is_adjacent, is_at_gap, is_blank, is_blank_or_end, is_break, is_deep_enough, is_empty, is_flow, is_flow_indicator, is_in_flow, is_indented_by_spaces, is_near, is_nul, is_renewed, is_separation, is_taken, is_taken_line, is_value_here, is_value_indicator, IsQuoted, Kind, kind_at, least_for, level_of, LikeEntries, LikeHad, Line, line_past_separation, List, map, mapping_closing, mapping_opening, may_precede, may_stand, None, not, on_one_line, Option, past_inside, past_piece, Position, previous_by, question, quoted_may_end, quoted_scalar, refl, same_flow, scalar, sequence_closing, sequence_opening, single_quoted, Site, site_at_place, site_past, Some, Step, subst, sym, takes_pair, Tok, true, waits, Whole, ℕ, ◌&&◌, ◌++◌, ◌<◌, ◌==◌, ◌||◌, ◌∙◌, ◌∷◌, ◌≡◌, ◌⊎◌}
+use Rattle.proof_scanner.proofs.Common.{[], Account, account_past, act_of, ap, arith, awaits_past, before_by, before_past, begins_free_line, begins_separation, begins_white_space, begins_with, begins_with_space_or_break, Bool, colon, comma, context_of, dash, double_quoted, entries_past, Entry, eqb-true, false, flow_entry, flow_mapping_end, flow_mapping_start, flow_sequence_end, flow_sequence_start, further_lines_stand, gives_colon, gives_dash, gives_node, gives_question, GoesOn, has_tab_before_piece, if◌then◌else◌, inl, inr, is_adjacent, is_at_gap, is_blank, is_blank_or_end, is_break, is_deep_enough, is_empty, is_flow, is_flow_indicator, is_in_flow, is_indented_by_spaces, is_near, is_nul, is_renewed, is_separation, is_taken, is_taken_line, is_value_here, is_value_indicator, IsQuoted, Kind, kind_at, least_for, LikeEntries, LikeHad, Line, line_past_separation, List, mapping_closing, mapping_opening, may_precede, may_stand, None, not, on_one_line, Option, past_inside, past_piece, Position, previous_by, question, quoted_may_end, quoted_scalar, refl, same_flow, scalar, sequence_closing, sequence_opening, single_quoted, Site, site_at_place, site_past, Some, Step, subst, sym, takes_pair, Tok, true, waits, Whole, ℕ, ◌&&◌, ◌++◌, ◌<◌, ◌==◌, ◌||◌, ◌∙◌, ◌∷◌, ◌≡◌, ◌⊎◌, nat_tests}
 use Rattle.defs_token.specs.Account as pieces
 use Rattle.defs_token.specs.FlowEntry as entry
 use Rattle.proof_lexers.specs.PlainEnds.{has_break}
@@ -27,9 +27,6 @@ none_begins x piece t a again b d is h = grind arith
 -- a colon on a line that is taken ends a key that waits, if that is near
 none_ends : (x : Site) (piece : List ℕ) (t : Tok) (next : List ℕ) (again is_key : Bool) (o : Option Line) → act_of t ≡ gives_colon → is_taken_line o ≡ true → ((q : Position) → o ≡ Some (waits q) → is_near q x.position ≡ true → ⊥) → past_piece x piece t next again is_key o [] ≡ None
 none_ends x piece t a again b d is h e = grind arith
-
-none_out : (es : List Entry) → is_in_flow es ≡ false → es ≡ []
-none_out a h = grind arith
 
 gone : (b : Bool) (piece : List ℕ) (x : Option Account) (y : Account) → x ≡ None → (if b then on_one_line piece x else None) ≡ Some y → ⊥
 gone a piece x y e k = grind arith
@@ -77,19 +74,11 @@ module _ (a : Account) (separation rest : List ℕ) (here : Position) (s : StepA
 
   -- a node's piece does not lie deep enough
   pub no_depth : (t : Tok) → s.step.shown ≡ t → act_of t ≡ gives_node → is_deep_enough (is_in_flow a.entries) t (site_at_place a here) ≡ false → ⊥
-  no_depth t is node e =
-      let site : there ≡ site_at_place a here = node_site (ap act_of is ∙ node) in
-      let fails : is_deep_enough (is_in_flow s.account.entries) s.step.shown there ≡ false =
-      ap (λ b. is_deep_enough b s.step.shown there) (sym (same_flow a.entries s.account.entries s.is_like.2)) ∙ (ap (λ u. is_deep_enough (is_in_flow a.entries) u there) is ∙ (ap (λ x. is_deep_enough (is_in_flow a.entries) t x) site ∙ e)) in
-      stands_not (second_fails (is_indented_by_spaces s.account.site.before s.account.site.blocks s.account.site.awaits s.step.separation) _ _ _ fails)
+  no_depth t is node e = grind (arith, nat_tests, eqb-true, node_site, same_flow, stands_not, second_fails)
 
   -- the further lines of a scalar are not indented
   pub no_lines : (t : Tok) → s.step.shown ≡ t → act_of t ≡ gives_node → further_lines_stand (least_for t (site_at_place a here)) t s.step.piece ≡ false → ⊥
-  no_lines t is node e =
-      let site : there ≡ site_at_place a here = node_site (ap act_of is ∙ node) in
-      let fails : further_lines_stand (least_for s.step.shown there) s.step.shown s.step.piece ≡ false =
-      ap (λ u. further_lines_stand (least_for u there) u s.step.piece) is ∙ (ap (λ x. further_lines_stand (least_for t x) t s.step.piece) site ∙ e) in
-      stands_not (third_fails (is_indented_by_spaces s.account.site.before s.account.site.blocks s.account.site.awaits s.step.separation) (is_deep_enough (is_in_flow s.account.entries) s.step.shown there) _ _ fails)
+  no_lines t is node e = grind (arith, nat_tests, eqb-true, node_site, stands_not, third_fails)
 
   -- the row's piece may not stand before what follows it
   pub no_end : may_precede (is_in_flow s.account.entries) there.blocks s.step.shown s.step.piece next ≡ false → ⊥
@@ -103,7 +92,7 @@ module _ (a : Account) (separation rest : List ℕ) (here : Position) (s : StepA
   -- ---- entries, `?`
 
   no_entries : is_in_flow a.entries ≡ false → s.account.entries ≡ []
-  no_entries out = none_out s.account.entries (sym (same_flow a.entries s.account.entries s.is_like.2) ∙ out)
+  no_entries out = grind arith
 
   taken_there : is_taken a separation ≡ true → is_taken_line (line_past_separation false (begins_free_line s.account.site.before s.step.separation) s.account.line) ≡ true
   taken_there h = grind arith
@@ -125,10 +114,9 @@ module _ (a : Account) (separation rest : List ℕ) (here : Position) (s : StepA
 
   question_here : (more : List ℕ) → rest ≡ 63 ∷ more → is_at_gap more ≡ true → Here question
   unfolding is_blank_or_end is_blank is_break is_nul is_flow
-  question_here more e gap = subst Here (question_kind (pieces.is_in_flow (acct a separation rest here s)) (is_adjacent (acct a separation rest here s).before) (acct a separation rest here s).position.col) (whole_by a separation rest here s 63 more e)
-    where
-      question_kind : (fl adjacent : Bool) (column : ℕ) → kind_at fl adjacent column (63 ∷ more) ≡ question
-      question_kind fl adjacent column = rw gap refl
+  question_here more e gap =
+      let question_kind : (fl adjacent : Bool) (column : ℕ) → kind_at fl adjacent column (63 ∷ more) ≡ question = λ fl adjacent column. rw gap refl in
+      subst Here (question_kind (pieces.is_in_flow (acct a separation rest here s)) (is_adjacent (acct a separation rest here s).before) (acct a separation rest here s).position.col) (whole_by a separation rest here s 63 more e)
 
   pub no_question_here : (more : List ℕ) → rest ≡ 63 ∷ more → is_at_gap more ≡ true → is_in_flow a.entries ≡ false → is_taken a separation ≡ true → ⊥
   no_question_here more e gap out line = none_on_line out line (inr (ap act_of (question_here more e gap).2))
@@ -138,33 +126,26 @@ module _ (a : Account) (separation rest : List ℕ) (here : Position) (s : StepA
   after_one c more e p = rest_of a separation rest here s c [] more p e
 
   pub no_space_after : (more passed content : List ℕ) → rest ≡ 63 ∷ more → is_at_gap more ≡ true → GoesOn more passed content → begins_with 32 more ≡ false → begins_white_space content ≡ false → ⊥
-  no_space_after more passed content e gap on none ends =
-      let w : Here question = question_here more e gap in
-      cc (no_space_gap passed content on.is_on_line (ap (begins_with 32) (sym on.is_text) ∙ none) ends, ap begins_with_space_or_break on.is_text, ap begins_with_space_or_break (after_one 63 more e w.0), w.1)
+  no_space_after more passed content e gap on none ends = grind (arith, nat_tests, eqb-true, question_here, no_space_gap, after_one)
 
   pub no_tab_after : (more passed content : List ℕ) → rest ≡ 63 ∷ more → is_at_gap more ≡ true → more ≡ passed ++ 9 ∷ content → is_separation false passed (9 ∷ content) ≡ true → ⊥
-  no_tab_after more passed content e gap cut fills =
-      let w : Here question = question_here more e gap in
-      no_end (ap (λ t. may_precede (is_in_flow s.account.entries) there.blocks t s.step.piece next) w.2 ∙
-      ap (λ r. not (has_tab_before_piece false r)) (after_one 63 more e w.0 ∙ cut) ∙ ap not (tabbed false passed content fills))
+  no_tab_after more passed content e gap cut fills = grind (arith, nat_tests, eqb-true, question_here, no_end, after_one, tabbed)
 
   -- ---- colons
 
-  levels_flow : (es : List Entry) → not (is_empty (map level_of es)) ≡ is_in_flow es
-  levels_flow a = grind arith
-
   pub flow_is : pieces.is_in_flow (acct a separation rest here s) ≡ is_in_flow a.entries
-  flow_is = levels_flow s.account.entries ∙ sym (same_flow a.entries s.account.entries s.is_like.2)
+  flow_is = (grind arith) ∙ sym (same_flow a.entries s.account.entries s.is_like.2)
 
   pub adjacent_is : is_adjacent (acct a separation rest here s).before ≡ is_adjacent (before_past (before_by a.site.before) separation)
   adjacent_is = ap (λ f. is_adjacent (before_past (before_by s.account.site.before) f)) s.separation_is ∙ ap (λ (x : Site). is_adjacent (before_past (before_by x.before) separation)) (sym s.is_like.0)
 
   colon_here : (more : List ℕ) → rest ≡ 58 ∷ more → is_value_here a separation more ≡ true → Here colon
   unfolding is_blank_or_end is_blank is_break is_nul is_flow
-  colon_here more e is = subst Here (colon_kind (pieces.is_in_flow (acct a separation rest here s)) (is_adjacent (acct a separation rest here s).before) (acct a separation rest here s).position.col (ap (λ b. is_value_indicator b (is_adjacent (acct a separation rest here s).before) more) flow_is ∙ (ap (λ b. is_value_indicator (is_in_flow a.entries) b more) adjacent_is ∙ is))) (whole_by a separation rest here s 58 more e)
-    where
-      colon_kind : (fl adjacent : Bool) (column : ℕ) → is_value_indicator fl adjacent more ≡ true → kind_at fl adjacent column (58 ∷ more) ≡ colon
-      colon_kind fl adjacent column h = rw h refl
+  colon_here more e is =
+      let colon_kind : (fl adjacent : Bool) (column : ℕ) → is_value_indicator fl adjacent more ≡ true → kind_at fl adjacent column (58 ∷ more) ≡ colon = λ fl adjacent column h. rw h refl in
+      subst Here (colon_kind (pieces.is_in_flow (acct a separation rest here s)) (is_adjacent (acct a separation rest here s).before) (acct a separation rest here s).position.col
+      (ap (λ b. is_value_indicator b (is_adjacent (acct a separation rest here s).before) more) flow_is ∙ (ap (λ b. is_value_indicator (is_in_flow a.entries) b more) adjacent_is ∙ is)))
+      (whole_by a separation rest here s 58 more e)
 
   -- no colon stands on a line that is taken, where no key waits for it
   pub no_colon_here : (more : List ℕ) → rest ≡ 58 ∷ more → is_value_here a separation more ≡ true → is_in_flow a.entries ≡ false → is_taken a separation ≡ true
@@ -182,17 +163,11 @@ module _ (a : Account) (separation rest : List ℕ) (here : Position) (s : StepA
   spaces_indent = grind (arith, no_tabbed_line)
 
   pub no_late_colon : (more : List ℕ) (begin : Position) (e : Entry) (es : List Entry) → rest ≡ 58 ∷ more → is_value_here a separation more ≡ true → a.entries ≡ e ∷ es → takes_pair e.kind e.pair ≡ true → e.had ≡ entry.waits begin → begin.line < here.line → ⊥
-  no_late_colon more begin e es cut is are takes had late = by s.account.entries refl (subst (λ ds. LikeEntries ds s.account.entries) are s.is_like.2)
+  no_late_colon more begin e es cut is are takes had late =
+      let flowing : (fs : List Entry) → s.account.entries ≡ fs → may_stand (is_in_flow fs) s.account.site (At s.account s.step next) s.step.separation s.step.piece s.step.shown next ≡ may_stand (is_in_flow s.account.entries) s.account.site there s.step.separation s.step.piece s.step.shown next =
+      λ fs i. ap (λ z. may_stand (is_in_flow z) s.account.site there s.step.separation s.step.piece s.step.shown next) (sym i) in
+      by s.account.entries refl (subst (λ ds. LikeEntries ds s.account.entries) are s.is_like.2)
     where
-      w : Here colon
-      w = colon_here more cut is
-
-      late_there : begin.line < there.position.line
-      late_there = subst (λ (p : Position). begin.line < p.line) (sym s.position_is) late
-
-      flowing : (fs : List Entry) → s.account.entries ≡ fs → may_stand (is_in_flow fs) s.account.site (At s.account s.step next) s.step.separation s.step.piece s.step.shown next ≡ may_stand (is_in_flow s.account.entries) s.account.site there s.step.separation s.step.piece s.step.shown next
-      flowing fs i = ap (λ z. may_stand (is_in_flow z) s.account.site there s.step.separation s.step.piece s.step.shown next) (sym i)
-
       by : (fs : List Entry) → s.account.entries ≡ fs → LikeEntries (e ∷ es) fs → ⊥
       by [] i like = like
       by (d ∷ ds) i like =
@@ -206,12 +181,12 @@ module _ (a : Account) (separation rest : List ℕ) (here : Position) (s : StepA
           no_had : entry.had_after there.position (takes_pair d.kind d.pair) gives_colon s.step.key (entry.renewed (is_renewed s.account.site.before s.step.separation) gives_colon d.had) ≡ None
           no_had =
               ap (λ b. entry.had_after there.position b gives_colon s.step.key (entry.renewed (is_renewed s.account.site.before s.step.separation) gives_colon d.had)) single ∙
-              none_had there.position begin (is_renewed s.account.site.before s.step.separation) s.step.key d.had (subst (λ h. LikeHad h d.had) had like.0.2) late_there
+              none_had there.position begin (is_renewed s.account.site.before s.step.separation) s.step.key d.had (subst (λ h. LikeHad h d.had) had like.0.2) (subst (λ (p : Position). begin.line < p.line) (sym s.position_is) late)
 
           none_past : (o : Option Line) → past_piece there s.step.piece s.step.shown next (is_renewed s.account.site.before s.step.separation) s.step.key o (d ∷ ds) ≡ None
           none_past None = refl
           none_past (Some l) =
-              ap (λ t. past_inside there s.step.piece s.step.shown next l (entries_past there.position (is_renewed s.account.site.before s.step.separation) (act_of t) (entry.begun_by t) s.step.key d ds)) w.2 ∙
+              ap (λ t. past_inside there s.step.piece s.step.shown next l (entries_past there.position (is_renewed s.account.site.before s.step.separation) (act_of t) (entry.begun_by t) s.step.key d ds)) (colon_here more cut is).2 ∙
               ap (λ h. past_inside there s.step.piece s.step.shown next l (entry.with_had d.kind (entry.pair_past (takes_pair d.kind d.pair) gives_colon d.pair) [] ds h)) no_had
 
   -- ---- comments right after a piece
@@ -247,9 +222,6 @@ module _ (a : Account) (separation rest : List ℕ) (here : Position) (s : StepA
 
   -- ---- TABs after a quoted scalar
 
-  awaits_stay : (fl single : Bool) (value : List ℕ) (bs : List ℕ) (w : Bool) (more : List ℕ) → awaits_past fl (quoted_token single value) bs w more ≡ w
-  awaits_stay a b d bs w more = grind arith
-
   abbrev pub quoted_value : (single : Bool) (piece more : List ℕ) → IsQuoted single piece more → List ℕ
   quoted_value true piece more is = is.0
   quoted_value false piece more is = is.0
@@ -263,29 +235,15 @@ module _ (a : Account) (separation rest : List ℕ) (here : Position) (s : StepA
 
   pub no_tab_after_quoted : (single : Bool) (piece gap content : List ℕ) → rest ≡ piece ++ (gap ++ content) → IsQuoted single piece (gap ++ content) → is_separation false gap content ≡ true → is_empty content ≡ false → begins_separation content ≡ false
       → is_indented_by_spaces quoted_scalar (site_at_place a here).blocks (site_at_place a here).awaits gap ≡ false → IsClearAfter s → ⊥
-  no_tab_after_quoted single piece gap content e is fills some solid tabbed_there clear = cc (clear gap content (sym same.2) fills solid some, tabbed_then)
-    where
-      same : (piece ≡ s.step.piece) × (quoted_token single (quoted_value single piece (gap ++ content) is) ≡ s.step.shown) × (gap ++ content ≡ next)
-      same = same_quoted_value single piece (gap ++ content) e is
-
-      act : act_of s.step.shown ≡ gives_node
-      act = ap act_of (sym same.1) ∙ (node_token single (quoted_value single piece (gap ++ content) is)).0
-
-      site_is : s.past.site ≡ site_past (is_in_flow s.account.entries) there s.step.piece s.step.shown next there.blocks
-      site_is = node_site_past s.account s.step next s.past act s.is_past
-
-      before_is : s.past.site.before ≡ quoted_scalar
-      before_is = ap (λ (x : Site). x.before) site_is ∙ (ap previous_by (sym same.1) ∙ (node_token single (quoted_value single piece (gap ++ content) is)).1)
-
-      blocks_are : s.past.site.blocks ≡ (site_at_place a here).blocks
-      blocks_are = ap (λ (x : Site). x.blocks) site_is ∙ ap (λ (x : Site). x.blocks) (node_site act)
-
-      awaits_is : s.past.site.awaits ≡ (site_at_place a here).awaits
-      awaits_is =
-          ap (λ (x : Site). x.awaits) site_is ∙ (ap (λ t. awaits_past (is_in_flow s.account.entries) t there.blocks there.awaits next) (sym same.1) ∙
-          (awaits_stay (is_in_flow s.account.entries) single (quoted_value single piece (gap ++ content) is) there.blocks there.awaits next ∙ ap (λ (x : Site). x.awaits) (node_site act)))
-
-      tabbed_then : is_indented_by_spaces s.past.site.before s.past.site.blocks s.past.site.awaits gap ≡ false
-      tabbed_then =
-          ap (λ b. is_indented_by_spaces b s.past.site.blocks s.past.site.awaits gap) before_is ∙ (ap (λ bs. is_indented_by_spaces quoted_scalar bs s.past.site.awaits gap) blocks_are ∙
-          (ap (λ w. is_indented_by_spaces quoted_scalar (site_at_place a here).blocks w gap) awaits_is ∙ tabbed_there))
+  no_tab_after_quoted single piece gap content e is fills some solid tabbed_there clear =
+      let same : (piece ≡ s.step.piece) × (quoted_token single (quoted_value single piece (gap ++ content) is) ≡ s.step.shown) × (gap ++ content ≡ next) = same_quoted_value single piece (gap ++ content) e is in
+      let act : act_of s.step.shown ≡ gives_node = ap act_of (sym same.1) ∙ (node_token single (quoted_value single piece (gap ++ content) is)).0 in
+      let site_is : s.past.site ≡ site_past (is_in_flow s.account.entries) there s.step.piece s.step.shown next there.blocks = node_site_past s.account s.step next s.past act s.is_past in
+      let awaits_is : s.past.site.awaits ≡ (site_at_place a here).awaits =
+      ap (λ (x : Site). x.awaits) site_is ∙ (ap (λ t. awaits_past (is_in_flow s.account.entries) t there.blocks there.awaits next) (sym same.1) ∙
+      ((grind arith) ∙ ap (λ (x : Site). x.awaits) (node_site act))) in
+      let tabbed_then : is_indented_by_spaces s.past.site.before s.past.site.blocks s.past.site.awaits gap ≡ false =
+      ap (λ b. is_indented_by_spaces b s.past.site.blocks s.past.site.awaits gap) (ap (λ (x : Site). x.before) site_is ∙ (ap previous_by (sym same.1) ∙ (node_token single (quoted_value single piece (gap ++ content) is)).1)) ∙
+      (ap (λ bs. is_indented_by_spaces quoted_scalar bs s.past.site.awaits gap) (ap (λ (x : Site). x.blocks) site_is ∙ ap (λ (x : Site). x.blocks) (node_site act)) ∙
+      (ap (λ w. is_indented_by_spaces quoted_scalar (site_at_place a here).blocks w gap) awaits_is ∙ tabbed_there)) in
+      cc (clear gap content (sym same.2) fills solid some, tabbed_then)

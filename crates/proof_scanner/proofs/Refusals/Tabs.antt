@@ -1,5 +1,5 @@
 -- A TAB that indents a line: where the way to the next token is refused, the line of what comes next is not indented by spaces.
-use Rattle.proof_scanner.proofs.Common.{[], ap, append-nil, append_assoc, arith, At, begins_line, begins_separation, begins_token, between, Bool, Err, false, Fault, fills_blank, follows_plain, Gap, has_tab_within, Held, is_before_indent, is_blanks, is_empty, is_indented_by_spaces, is_separation, IsTabRefusal, last_line, least_column, length, List, nat_tests, not, not-true, Position, position_after, Previous, refl, Result, same_blank, same_break, ScannerState, separations_are_passed, skip, skip_to_next_token, subst, suc, sym, true, zero, ℕ, ◌&&◌, ◌++◌, ◌+◌, ◌<◌, ◌==◌, ◌||◌, ◌∙◌, ◌∷◌, ◌≡◌, ◌≤◌}
+use Rattle.proof_scanner.proofs.Common.{[], ap, append-nil, append_assoc, arith, At, begins_line, begins_separation, between, Bool, Err, false, Fault, fills_blank, follows_plain, Gap, has_tab_within, Held, is_before_indent, is_blanks, is_empty, is_indented_by_spaces, is_separation, IsTabRefusal, last_line, least_column, length, List, nat_tests, not, not-true, Position, position_after, Previous, refl, Result, same_blank, same_break, ScannerState, separations_are_passed, skip, skip_to_next_token, subst, suc, sym, true, ℕ, ◌&&◌, ◌++◌, ◌+◌, ◌<◌, ◌==◌, ◌||◌, ◌∙◌, ◌∷◌, ◌≡◌, ◌≤◌, cases_Bool, inl, inr}
 use Rattle.yaml_chars.specs.Class.{is_break}
 use Rattle.yaml_tokens.specs.declared.problem.Problem.TheVariants as problem
 use Rattle.defs_text.specs.Classes as classes
@@ -16,16 +16,13 @@ use Rattle.proof_scanner.proofs.Refusals.Faults.{Faults, fault, goes}
 
 -- among more columns, and in a longer line
 within_more : (n m : ℕ) (l r : List ℕ) → n ≤ m → has_tab_within n l ≡ true → has_tab_within m (l ++ r) ≡ true
-within_more zero m l r less h = absurd (cc h)
-within_more (suc n) m [] r less h = absurd (cc h)
-within_more (suc n) zero (c ∷ l) r less h = absurd (omega (arith, less))
 within_more (suc n) (suc m) (c ∷ l) r less h = grind (arith, within_more n m l r)
+within_more a m l r less h = grind arith
 
 -- at the end of a line that is shorter
 within_end : (n : ℕ) (l : List ℕ) → length l < n → has_tab_within n (l ++ 9 ∷ []) ≡ true
-within_end zero l less = absurd (omega (arith, less))
-within_end (suc n) [] less = refl
 within_end (suc n) (c ∷ l) less = grind (arith, within_end n l)
+within_end a l less = grind arith
 
 -- ---- the way to the next token
 
@@ -100,35 +97,25 @@ blanks_fill : (bs rest : List ℕ) → is_blanks bs ≡ true → is_separation f
 blanks_fill [] rest h = refl
 blanks_fill (c ∷ bs) rest h = grind (arith, fills_blank, same_blank, blanks_fill bs rest)
 
-token_solid : (rest : List ℕ) → begins_token rest ≡ true → begins_separation rest ≡ false
-token_solid a h = grind (arith, not-true)
-
--- the least column is not less where a value may be awaited
-least_less : (bs : List ℕ) (a b : Bool) → least_column bs a ≤ least_column bs (a || b)
-least_less d a b = grind arith
-
 tabbed_is : (before : Previous) (bs : List ℕ) (awaits : Bool) (g : List ℕ) → begins_line before g ≡ true → has_tab_within (least_column bs awaits) (last_line g) ≡ true → is_indented_by_spaces before bs awaits g ≡ false
 tabbed_is before bs awaits g b h =
-    let more : has_tab_within (least_column bs (awaits || follows_plain before g)) (last_line g ++ []) ≡ true = within_more (least_column bs awaits) (least_column bs (awaits || follows_plain before g)) (last_line g) [] (least_less bs awaits (follows_plain before g)) h in
+    let more : has_tab_within (least_column bs (awaits || follows_plain before g)) (last_line g ++ []) ≡ true = within_more (least_column bs awaits) (least_column bs (awaits || follows_plain before g)) (last_line g) [] (grind arith) h in
     ap (λ x. not x || not (has_tab_within (least_column bs (awaits || follows_plain before g)) (last_line g))) b ∙ ap (λ x. not (has_tab_within (least_column bs (awaits || follows_plain before g)) x)) (sym (append-nil (last_line g))) ∙ ap not more
 
 -- Where the way to the next token is refused, after a separation that was read so.
 pub skip_refused : (before : Previous) (bs : List ℕ) (awaits : Bool) (separation : List ℕ) (t : ScannerState) → IsLeast before (least_column bs awaits) t.held →
     (begins_separation t.rest ≡ true → IsIn before (least_column bs awaits) between separation t.held t.rest) → Faults (TabStands bs awaits before separation t.rest t.held.position) (skip_to_next_token t)
 unfolding skip_to_next_token classes.is_blank
-skip_refused before bs awaits separation t l known = by (begins_separation t.rest) refl
+skip_refused before bs awaits separation t l known = elim (cases_Bool (begins_separation t.rest)) [
+  | inl h ↦ told h (skip between t.rest t.held) (separations_are_passed t.held t.rest) (tabs_tell before least t.rest between separation t.held l (known h))
+  | inr h ↦ subst (λ r. Faults Own r) (sym (skip_stays t.rest t.held h)) goes
+]
   where
     least : ℕ
     least = least_column bs awaits
 
     Own : Fault → Type 0
     Own f = TabStands bs awaits before separation t.rest t.held.position f
-
-    some_text : (a : List ℕ) → begins_separation a ≡ true → is_empty a ≡ false
-    some_text b h = grind arith
-
-    token_is_text : (a : List ℕ) → begins_token a ≡ true → is_empty a ≡ false
-    token_is_text b h = grind arith
 
     told : begins_separation t.rest ≡ true → (x : Result ScannerState Fault) → EndsAs (Exact t) (IsTabRefusal t.held t.rest) x → Faults (TabbedAt before least separation t.rest t.held) x → Faults Own x
     told begins x p goes = goes
@@ -145,11 +132,11 @@ skip_refused before bs awaits separation t l known = by (begins_separation t.res
         fault (record {
           passed = first ++ 9 ∷ blanks;
           rest = rest;
-          is_some = some_text t.rest begins;
+          is_some = grind arith;
           cut = whole;
           is_filled = separation_append false first (9 ∷ blanks) rest fills (blanks_fill (9 ∷ blanks) rest are);
-          goes_on = token_is_text rest token;
-          is_solid = token_solid rest token;
+          goes_on = grind arith;
+          is_solid = grind (arith, not-true);
           is_fault = fault_of e;
           is_indented_by_tab = tabbed_is before bs awaits (separation ++ (first ++ 9 ∷ blanks))
               (subst (λ y. begins_line before (separation ++ y) ≡ true) passed_is d.tabbed.0) (subst (λ y. has_tab_within least (last_line (separation ++ y)) ≡ true) passed_is d.tabbed.1);
@@ -157,7 +144,3 @@ skip_refused before bs awaits separation t l known = by (begins_separation t.res
       where
         fault_of : {g : Fault} → ◌≡◌ {A = Result ScannerState Fault} (Err f) (Err g) → f ≡ g
         fault_of e = cc e
-
-    by : (b : Bool) → begins_separation t.rest ≡ b → Faults Own (skip between t.rest t.held)
-    by false h = subst (λ r. Faults Own r) (sym (skip_stays t.rest t.held h)) goes
-    by true h = told h (skip between t.rest t.held) (separations_are_passed t.held t.rest) (tabs_tell before least t.rest between separation t.held l (known h))

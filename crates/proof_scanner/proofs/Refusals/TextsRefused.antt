@@ -1,7 +1,6 @@
 -- Where a tag, a directive or a block scalar's header is none, no row of the text goes on.
-use Rattle.proof_scanner.proofs.Common.{[], Account, after, all_lines, all_of, alpha_starts, and_parts, ap, append-nil, are_marks, AreNotIndented, At, begins_flow, begins_with, begins_with_mark, block_may_end, block_read, block_token, BlockRead, BlockStyle, Body, body, Bool, context_of, decoded, decoded_some, directive_begins, directive_line, directive_of, double_quoted, Ending, eqb-true, Err, false, first_line, folded, further, further_text, has_header, has_no_break, has_no_nul, HasNoQuoted, Header, header_of, if◌then◌else◌, in_double_quotes, in_single_quotes, indicator_of, inl, innermost, inr, is_adjacent, is_alpha, is_at_end, is_at_gap, is_at_line_end, is_blank, is_blank_or_end, is_break, is_decimal_digit, is_empty, is_flow, is_further_text, is_in_flow, is_in_line, is_letter, is_nul, is_past, is_tag, is_uri, IsTagRefusal, Kind, kind_at, leading, leading_all, least_column, length, line_is, line_more, lines_after, List, literal, local_goes_on, local_octets, may_follow, may_precede, More, no_lines, no_nul_after, no_suffix, None, not, of_lines, Ok, Option, past, Position, Problem, put_first, read_body, read_lines, read_may_end, refl, same_end, scalar, single_quoted, site_at_place, slice_index, Some, split, split_append, splits, starts_with_tab, subst, suffix_goes_on, suffix_octets, sym, tag_text, tags_are_read, true, unclosed, up_to_break, verbatim_goes_on, verbatim_octets, Whole, word, written_tag, ℕ, ◌&&◌, ◌++◌, ◌==◌, ◌||◌, ◌∙◌, ◌∷◌, ◌≡◌, ◌⊎◌, arith, ends_run, runs, nat_tests}
+use Rattle.proof_scanner.proofs.Common.{[], Account, after, all_of, alpha_starts, and_parts, ap, append-nil, are_marks, AreNotIndented, At, begins_flow, begins_with, begins_with_mark, block_may_end, block_read, block_token, BlockRead, BlockStyle, Body, body, Bool, context_of, decoded, decoded_some, directive_begins, directive_line, directive_of, double_quoted, eqb-true, Err, false, first_line, folded, further, further_text, has_header, has_no_break, has_no_nul, HasNoQuoted, Header, header_of, if◌then◌else◌, in_double_quotes, in_single_quotes, indicator_of, inl, inr, is_adjacent, is_alpha, is_at_end, is_at_gap, is_at_line_end, is_blank, is_blank_or_end, is_break, is_decimal_digit, is_empty, is_flow, is_further_text, is_in_flow, is_in_line, is_letter, is_nul, is_past, is_tag, is_uri, IsTagRefusal, Kind, kind_at, leading, leading_all, least_column, length, line_is, line_more, lines_after, List, literal, local_goes_on, local_octets, may_follow, may_precede, More, no_lines, no_nul_after, no_suffix, None, not, of_lines, Ok, Option, past, Position, Problem, put_first, read_body, read_lines, refl, same_end, scalar, single_quoted, site_at_place, slice_index, Some, split, split_append, splits, subst, suffix_goes_on, suffix_octets, sym, tag_text, tags_are_read, true, unclosed, up_to_break, verbatim_goes_on, verbatim_octets, Whole, word, written_tag, ℕ, ◌&&◌, ◌++◌, ◌==◌, ◌||◌, ◌∙◌, ◌∷◌, ◌≡◌, ◌⊎◌, arith, ends_run, runs, nat_tests}
 use Rattle.defs_text.specs.BlockScalar as block
-use Rattle.defs_text.specs.BlockScalar.{unbroken as unbroken_line}
 use Rattle.defs_token.specs.Account as pieces
 use Rattle.yaml_tokens.specs.declared.problem.Problem.TheVariants as problem
 use Rattle.model_scanner.specs.Tag as tags
@@ -60,11 +59,11 @@ refusal_fails flow text why p (suffix_goes_on name rest suffix cut all some e go
 refusal_fails flow text why p (local_octets f no_verbatim none e) =
     rw (plainly text no_verbatim, word text (past p) [], unmarked (after is_alpha text) none, (uris_are_read p (after is_alpha text) (further (length (leading is_alpha text)) (past p)) (leading is_alpha text)).1, e) refl
 refusal_fails flow text why p (local_goes_on suffix no_verbatim none e goes) =
+    let by : (b : Bool) → is_empty (leading is_alpha text ++ suffix) ≡ b
+    → tag_end flow p (tags.local (record { rest = after is_tag (after is_alpha text); position = further (length (leading is_tag (after is_alpha text))) (further (length (leading is_alpha text)) (past p)); value = leading is_alpha text ++ suffix })) ≡ Err (At problem.TagEnd p) =
+    λ a i. grind (arith, nat_tests, same_end, flow, after, text, goes, eqb-true) in
     rw (plainly text no_verbatim, word text (past p) [], unmarked (after is_alpha text) none, (uris_are_read p (after is_alpha text) (further (length (leading is_alpha text)) (past p)) (leading is_alpha text)).1, e)
     (by (is_empty (leading is_alpha text ++ suffix)) refl)
-  where
-    by : (b : Bool) → is_empty (leading is_alpha text ++ suffix) ≡ b → tag_end flow p (tags.local (record { rest = after is_tag (after is_alpha text); position = further (length (leading is_tag (after is_alpha text))) (further (length (leading is_alpha text)) (past p)); value = leading is_alpha text ++ suffix })) ≡ Err (At problem.TagEnd p)
-    by a i = grind (arith, nat_tests, same_end, flow, after, text, goes, eqb-true)
 
 -- ---- lines
 
@@ -100,10 +99,6 @@ piece_line collection piece next r clean is = grind (arith, end_no_text, append-
 ended_body : (collection : Option ℕ) (h : Option Header) (b : Body) (next : List ℕ) (r : BlockRead) → read_body h collection b next ≡ Some r → (column : ℕ) × (is_past column next ≡ true)
 ended_body collection h b next r e = grind arith
 
--- its first line does not begin with a TAB
-untabbed_body : (collection : Option ℕ) (h : Option Header) (ls : List (List ℕ)) (ending : Ending) (next : List ℕ) (r : BlockRead) → read_body h collection (body ls ending) next ≡ Some r → starts_with_tab (all_lines ls ending) ≡ true → ⊥
-untabbed_body collection h ls ending next r e tabs = grind arith
-
 tab_is_text : is_at_end (9 ∷ []) ≡ false
 unfolding is_nul
 tab_is_text = refl
@@ -117,11 +112,9 @@ module _ (collection : Option ℕ) (header more : List ℕ) where
   longer : (own q next : List ℕ) (r : BlockRead) → split own ≡ of_lines (header ∷ []) [] → block_read collection (own ++ 9 ∷ q) next ≡ Some r → ⊥
   unfolding is_break
   longer own q next r one is =
+      let by : (complete : List (List ℕ)) (last : List ℕ) (ended : Bool) → read_lines collection (header ∷ (put_first 9 complete last).complete) ((put_first 9 complete last).last) next ended ≡ Some r → ⊥ = λ complete last ended e. grind arith in
       let lines : split (own ++ 9 ∷ q) ≡ lines_after (header ∷ []) (split (9 ∷ q)) = split_append own (9 ∷ q) (header ∷ []) one refl in
       by ((split q).complete) ((split q).last) (is_at_end next) (ap (λ z. read_lines collection z.complete z.last next (is_at_end next)) (sym lines) ∙ is)
-    where
-      by : (complete : List (List ℕ)) (last : List ℕ) (ended : Bool) → read_lines collection (header ∷ (put_first 9 complete last).complete) ((put_first 9 complete last).last) next ended ≡ Some r → ⊥
-      by complete last ended e = grind (arith, untabbed_body)
 
   -- a piece that ends before the header's break does
   shorter : (own : List ℕ) (d : ℕ) (q next : List ℕ) (r : BlockRead) → split (own ++ d ∷ q) ≡ of_lines (header ∷ []) [] → has_no_nul (d ∷ next) ≡ true → block_read collection own (d ∷ next) ≡ Some r → ⊥
@@ -142,23 +135,16 @@ module _ (collection : Option ℕ) (header more : List ℕ) where
           no_more [] complete last e f = rw (e, f) refl
           no_more (k ∷ ls) complete last e f = absurd (cc e)
 
-      as_read : (complete : List (List ℕ)) (last : List ℕ) (ended : Bool) → (split own).complete ≡ complete → (split own).last ≡ last → is_at_end (d ∷ next) ≡ ended
-          → read_lines collection ((split own).complete) ((split own).last) (d ∷ next) (is_at_end (d ∷ next)) ≡ read_lines collection complete last (d ∷ next) ended
-      as_read complete last ended e f g =
-          ap (λ x. read_lines collection x ((split own).last) (d ∷ next) (is_at_end (d ∷ next))) e ∙ (ap (λ x. read_lines collection complete x (d ∷ next) (is_at_end (d ∷ next))) f ∙ ap (λ b. read_lines collection complete last (d ∷ next) b) g)
-
       by : (complete : List (List ℕ)) (last : List ℕ) (ended : Bool) → (split own).complete ≡ complete → (split own).last ≡ last → is_at_end (d ∷ next) ≡ ended → read_lines collection ((split own).complete) ((split own).last) (d ∷ next) (is_at_end (d ∷ next)) ≡ Some r → ⊥
-      by complete last true e f g k = some g
-      by [] last false e f g k = let none : read_lines collection [] last (d ∷ next) false ≡ Some r = sym (as_read [] last false e f g) ∙ k in cc none
-      by (l ∷ ls) (c ∷ last) false e f g k = let none : read_lines collection (l ∷ ls) (c ∷ last) (d ∷ next) false ≡ Some r = sym (as_read (l ∷ ls) (c ∷ last) false e f g) ∙ k in cc none
       by (l ∷ ls) [] false e f g k =
-          let read : read_body (header_of l) collection (body ls further_text) (d ∷ next) ≡ Some r = sym (as_read (l ∷ ls) [] false e f g) ∙ k in
+          let read : read_body (header_of l) collection (body ls further_text) (d ∷ next) ≡ Some r = rw (e, f, g) at k in
           let past = ended_body collection (header_of l) (body ls further_text) (d ∷ next) r read in
           on (d == 10) refl past.0 past.1
         where
           on : (b : Bool) → (d == 10) ≡ b → (column : ℕ) → (is_at_end (d ∷ next) || is_further_text column (d ∷ next)) ≡ true → ⊥
           on true i column p = let same : d ≡ 10 = eqb-true d 10 i in cc (p, g, ap (λ x. is_further_text column (x ∷ next)) same, not_past column next)
           on false i column p = two l ls (ap (λ x. of_lines x ((split own).last)) e ∙ ap (λ x. of_lines (l ∷ ls) x) f) i
+      by complete last a e f g k = grind (arith, some)
 
   -- A block scalar that has this header, after which a TAB begins the next line, is the header alone.
   pub header_alone : (own piece next : List ℕ) (r : BlockRead) → piece ++ next ≡ own ++ 9 ∷ more → split own ≡ of_lines (header ∷ []) [] → has_no_nul next ≡ true → block_read collection piece next ≡ Some r → (piece ≡ own) × (next ≡ 9 ∷ more)
@@ -180,16 +166,7 @@ module _ (collection : Option ℕ) (header more : List ℕ) where
 
   -- It may not end there.
   tab_follows : (own piece next : List ℕ) (bs : List ℕ) (r : BlockRead) → piece ++ next ≡ own ++ 9 ∷ more → split own ≡ of_lines (header ∷ []) [] → has_no_nul next ≡ true → block_read collection piece next ≡ Some r → block_may_end bs piece next ≡ false
-  tab_follows own piece next bs r cut one clean is = own_end piece next alone.0 alone.1
-    where
-      alone : (piece ≡ own) × (next ≡ 9 ∷ more)
-      alone = header_alone own piece next r cut one clean is
-
-      tabbed_end : (o : Option BlockRead) → read_may_end bs o own (9 ∷ more) ≡ false
-      tabbed_end a = grind (arith, nat_tests, more, one, eqb-true)
-
-      own_end : (p n : List ℕ) → p ≡ own → n ≡ 9 ∷ more → block_may_end bs p n ≡ false
-      own_end p n e f = ap (λ x. block_may_end bs x n) e ∙ (ap (block_may_end bs own) f ∙ (ap (λ b. b || read_may_end bs (block_read (innermost bs) own (9 ∷ more)) own (9 ∷ more)) tab_is_text ∙ tabbed_end (block_read (innermost bs) own (9 ∷ more))))
+  tab_follows own piece next bs r cut one clean is = grind (arith, nat_tests, header_alone, eqb-true, tab_is_text)
 
 unbroken : (style : BlockStyle) → is_break (indicator_of style) ≡ false
 unfolding is_break
@@ -230,25 +207,19 @@ module _ (a : Account) (separation rest : List ℕ) (here : Position) (s : StepA
   pub no_directive : (line after : List ℕ) → rest ≡ 37 ∷ (line ++ after) → has_no_break line ≡ true → directives.ends_line after ≡ true → directive_of (37 ∷ line) ≡ None → ⊥
   unfolding is_blank_or_end is_blank is_break is_nul is_flow
   no_directive line after e one ends none =
+      let no_nul_more : (r : List ℕ) → has_no_nul (37 ∷ r) ≡ true → has_no_nul r ≡ true = λ r h. (and_parts (not (is_nul 37)) (has_no_nul r) h).1 in
       let w : Here directive_line = whole_by a separation rest here s 37 (line ++ after) e in
       let first = directive_begins s.step.piece w.0 w.1 in
       let left : first.0 ++ next ≡ line ++ after = rest_of a separation rest here s 37 first.0 (line ++ after) first.1 e in
       let clean : has_no_nul (first.0 ++ next) ≡ true = ap has_no_nul left ∙ no_nul_more (line ++ after) (sym (ap has_no_nul e) ∙ s.is_clean) in
-      let same : first.0 ≡ line = one_line first.0 next line after left (inner first.0 (sym (ap has_no_break first.1) ∙ w.2)) (clean_end next w.3 (no_nul_after first.0 next clean)) one ends in
+      let same : first.0 ≡ line = one_line first.0 next line after left ((and_parts (not (is_break 37)) (has_no_break first.0) (sym (ap has_no_break first.1) ∙ w.2)).1) (clean_end next w.3 (no_nul_after first.0 next clean)) one ends in
       cc (none, ap (λ r. directive_of (37 ∷ r)) (sym same), ap directive_of (sym first.1), w.1)
-    where
-      no_nul_more : (r : List ℕ) → has_no_nul (37 ∷ r) ≡ true → has_no_nul r ≡ true
-      no_nul_more r h = (and_parts (not (is_nul 37)) (has_no_nul r) h).1
-
-      inner : (r : List ℕ) → has_no_break (37 ∷ r) ≡ true → has_no_break r ≡ true
-      inner r h = (and_parts (not (is_break 37)) (has_no_break r) h).1
 
   block_here : (style : BlockStyle) (more : List ℕ) → is_in_flow a.entries ≡ false → rest ≡ indicator_of style ∷ more → Here block_scalar
   unfolding is_blank_or_end is_blank is_break is_nul is_flow
-  block_here style more out e = subst Here (block_kind style (pieces.is_in_flow (acct a separation rest here s)) (is_adjacent (acct a separation rest here s).before) (acct a separation rest here s).position.col (flow_is a separation rest here s ∙ out)) (whole_by a separation rest here s (indicator_of style) more e)
-    where
-      block_kind : (style : BlockStyle) (fl adjacent : Bool) (column : ℕ) → fl ≡ false → kind_at fl adjacent column (indicator_of style ∷ more) ≡ block_scalar
-      block_kind a fl adjacent column h = grind (arith, nat_tests, eqb-true)
+  block_here style more out e =
+      let block_kind : (style : BlockStyle) (fl adjacent : Bool) (column : ℕ) → fl ≡ false → kind_at fl adjacent column (indicator_of style ∷ more) ≡ block_scalar = λ a fl adjacent column h. grind (arith, nat_tests, eqb-true) in
+      subst Here (block_kind style (pieces.is_in_flow (acct a separation rest here s)) (is_adjacent (acct a separation rest here s).before) (acct a separation rest here s).position.col (flow_is a separation rest here s ∙ out)) (whole_by a separation rest here s (indicator_of style) more e)
 
   pub no_block_header : (style : BlockStyle) (line after : List ℕ) → is_in_flow a.entries ≡ false → rest ≡ indicator_of style ∷ (line ++ after) → is_in_line line ≡ true → ends_line after ≡ true → header_of (indicator_of style ∷ line) ≡ None → ⊥
   no_block_header style line after out e inner ends none =
@@ -261,14 +232,12 @@ module _ (a : Account) (separation rest : List ℕ) (here : Position) (s : StepA
   -- a TAB begins the line after the header
   pub no_block_tab : (own header more : List ℕ) (h : Header) → is_in_flow a.entries ≡ false → rest ≡ own ++ 9 ∷ more → split own ≡ of_lines (header ∷ []) [] → header_of header ≡ Some h → ⊥
   no_block_tab own header more h out e one is =
+      let same_end_by : (style : BlockStyle) (text : List ℕ) → may_precede (is_in_flow s.account.entries) (written.At s.account s.step next).blocks (block_token style text) s.step.piece next ≡ block_may_end (written.At s.account s.step next).blocks s.step.piece next = λ a b. grind (arith, nat_tests, eqb-true) in
       let first = first_char own header h (sym (line_is own) ∙ ap (λ z. first_line z.complete z.last) one) is in
       let w : Here block_scalar = block_here first.0 (first.1 ++ 9 ∷ more) out (e ∙ ap (λ p. p ++ 9 ∷ more) first.2) in
       let clean : has_no_nul next ≡ true = no_nul_after s.step.piece next (ap has_no_nul s.text_is ∙ s.is_clean) in
       no_end_here a separation rest here s (ap (λ t. may_precede (is_in_flow s.account.entries) (written.At s.account s.step next).blocks t s.step.piece next) w.3 ∙
       (same_end_by w.0.style w.0.text ∙ tab_follows (pieces.collection_column (acct a separation rest here s)) header more own s.step.piece next (written.At s.account s.step next).blocks w.0 (s.text_is ∙ e) one clean w.1))
-    where
-      same_end_by : (style : BlockStyle) (text : List ℕ) → may_precede (is_in_flow s.account.entries) (written.At s.account s.step next).blocks (block_token style text) s.step.piece next ≡ block_may_end (written.At s.account s.step next).blocks s.step.piece next
-      same_end_by a b = grind (arith, nat_tests, eqb-true)
 
   -- ---- quoted scalars
 

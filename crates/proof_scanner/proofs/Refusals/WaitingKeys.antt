@@ -1,5 +1,5 @@
 -- A key that waits outside flow is near as long as a row goes on: its colon is still to come, on its line, at most 1024 characters after its start.
-use Rattle.proof_scanner.proofs.Common.{[], Account, account_past, Act, act_of, and_parts, ap, arith, begins_free_line, Bool, ends_separation, false, inl, inr, is_blank, is_break, is_in_column, is_separation, IsRowFrom, line_past, List, longer, may_end, None, not, Option, Outside, Position, position_after, refl, same_head, Site, site_at, Some, spelled, Step, subst, sym, true, waits, ℕ, ◌++◌, ◌+◌, ◌==◌, ◌||◌, ◌∙◌, ◌∷◌, ◌≡◌, ◌≤◌, ◌⊎◌}
+use Rattle.proof_scanner.proofs.Common.{[], Account, account_past, Act, act_of, and_parts, ap, arith, begins_free_line, Bool, ends_separation, false, inl, inr, is_break, is_in_column, is_separation, IsRowFrom, line_past, List, longer, may_end, None, not, Option, Outside, Position, position_after, refl, same_head, Site, site_at, Some, spelled, Step, subst, true, waits, ℕ, ◌++◌, ◌+◌, ◌==◌, ◌∙◌, ◌∷◌, ◌≡◌, ◌≤◌, ◌⊎◌, eqb-true, nat_tests}
 use Rattle.proof_row.proofs.Separations.{over}
 use Rattle.proof_scanner.proofs.Cut.Positions.{index_after}
 use Rattle.proof_scanner.proofs.Known.Made.{still_there, Made, outside, inside, made}
@@ -17,8 +17,13 @@ pub record GoesNear (a : Account) (w : Step) (next : List ℕ) (q : Position) : 
   pub unbroken : begins_free_line a.site.before w.separation ≡ false
   pub near : (position_after a.site.position w.separation (w.piece ++ next)).index ≤ q.index + 1024
 
+-- a row goes on from an account
+pub some_row : (o : Option Account) (ws : List Step) (last : List ℕ) → IsRowFrom o ws last → (c : Account) × (o ≡ Some c) × IsRowFrom (Some c) ws last
+some_row None ws last row = absurd row
+some_row (Some c) ws last row = (c, refl, row)
+
 near_by : (w : Step) (ws : List Step) (last : List ℕ) (a : Account) (q : Position) → a.line ≡ waits q → IsRowFrom (Some a) (w ∷ ws) last → ((b : Account) → b.line ≡ waits q → IsRowFrom (Some b) ws last → b.site.position.index ≤ q.index + 1024) → GoesNear a w (spelled ws last) q
-near_by w ws last a q e row further = by (account_past a w next) refl row.1
+near_by w ws last a q e row further = let c = some_row (account_past a w (spelled ws last)) ws last row.1 in of c.0 c.2 (made a.site a.line a.entries w (spelled ws last) c.0 c.1)
   where
     next : List ℕ
     next = spelled ws last
@@ -33,21 +38,17 @@ near_by w ws last a q e row further = by (account_past a w next) refl row.1
     earlier : (b : Account) → b.site.position ≡ position_after here w.piece next → b.site.position.index ≤ q.index + 1024 → here.index ≤ q.index + 1024
     earlier b i n = grind (arith, index_after)
 
-    by : (o : Option Account) → account_past a w next ≡ o → IsRowFrom o ws last → GoesNear a w next q
-    by None i on = absurd on
-    by (Some b) i on = of (made a.site a.line a.entries w next b i)
+    of : (b : Account) → IsRowFrom (Some b) ws last → Made a.site a.line a.entries w next b → GoesNear a w next q
+    of b on (inside some sep site one) =
+        let there = still_there true (begins_free_line a.site.before w.separation) a.line b.line q e sep in
+        record { unbroken = there.0; near = earlier b (ap (λ x. x.position) site) (further b there.1 on) }
+    of b on (outside m o none sep past line site one) =
+        let there = still_there false (begins_free_line a.site.before w.separation) a.line m q e sep in
+        record { unbroken = there.0; near = to (waits_on (is_in_column here.col at.blocks) here at.blocks (act_of w.shown) w.key q o (subst (λ l. line_past (is_in_column here.col at.blocks) here at.blocks (act_of w.shown) w.key l ≡ Some o) there.1 past)) }
       where
-        of : Made a.site a.line a.entries w next b → GoesNear a w next q
-        of (inside some sep site one) =
-            let there = still_there true (begins_free_line a.site.before w.separation) a.line b.line q e sep in
-            record { unbroken = there.0; near = earlier b (ap (λ x. x.position) site) (further b there.1 on) }
-        of (outside m o none sep past line site one) =
-            let there = still_there false (begins_free_line a.site.before w.separation) a.line m q e sep in
-            record { unbroken = there.0; near = to (waits_on (is_in_column here.col at.blocks) here at.blocks (act_of w.shown) w.key q o (subst (λ l. line_past (is_in_column here.col at.blocks) here at.blocks (act_of w.shown) w.key l ≡ Some o) there.1 past)) }
-          where
-            to : (o.line ≡ waits q) ⊎ (here.index ≤ q.index + 1024) → here.index ≤ q.index + 1024
-            to (inl still) = earlier b (ap (λ x. x.position) site) (further b (line ∙ still) on)
-            to (inr near) = near
+        to : (o.line ≡ waits q) ⊎ (here.index ≤ q.index + 1024) → here.index ≤ q.index + 1024
+        to (inl still) = earlier b (ap (λ x. x.position) site) (further b (line ∙ still) on)
+        to (inr near) = near
 
 -- where the last piece of a row ended while a key waits
 ends_near : (ws : List Step) (last : List ℕ) (a : Account) (q : Position) → a.line ≡ waits q → IsRowFrom (Some a) ws last → a.site.position.index ≤ q.index + 1024
@@ -68,15 +69,7 @@ pub record BeginsWith (whole part next rest : List ℕ) : Type 0 where
 
 -- A separation before a piece begins with each separation of the same text.
 pub begins_with_part : (in_comment : Bool) (whole part next rest : List ℕ) → is_separation in_comment whole next ≡ true → is_separation in_comment part rest ≡ true → ends_separation next ≡ true → whole ++ next ≡ part ++ rest → BeginsWith whole part next rest
-begins_with_part b whole [] next rest h k f e = record { more = whole; whole_is = refl; rest_is = sym e }
+begins_with_part b whole [] next rest h k f e = grind (arith, nat_tests, eqb-true)
 begins_with_part b [] (d ∷ part) next rest h k f e = grind (arith, over)
-begins_with_part false (c ∷ whole) (d ∷ part) next rest h k f e =
-    let heads : (c ≡ d) × (whole ++ next ≡ part ++ rest) = same_head c d (whole ++ next) (part ++ rest) e in
-    let first : is_separation (c == 35) whole next ≡ true = (and_parts (is_blank c || is_break c || (c == 35)) (is_separation (c == 35) whole next) h).1 in
-    let second : is_separation (d == 35) part rest ≡ true = (and_parts (is_blank d || is_break d || (d == 35)) (is_separation (d == 35) part rest) k).1 in
-    let r : BeginsWith whole part next rest = begins_with_part (c == 35) whole part next rest first (subst (λ z. is_separation (z == 35) part rest ≡ true) (sym heads.0) second) f heads.1 in
-    record { more = r.more; whole_is = longer c d whole (part ++ r.more) heads.0 r.whole_is; rest_is = r.rest_is }
-begins_with_part true (c ∷ whole) (d ∷ part) next rest h k f e =
-    let heads : (c ≡ d) × (whole ++ next ≡ part ++ rest) = same_head c d (whole ++ next) (part ++ rest) e in
-    let r : BeginsWith whole part next rest = begins_with_part (not (is_break c)) whole part next rest h (subst (λ z. is_separation (not (is_break z)) part rest ≡ true) (sym heads.0) k) f heads.1 in
-    record { more = r.more; whole_is = longer c d whole (part ++ r.more) heads.0 r.whole_is; rest_is = r.rest_is }
+begins_with_part false (c ∷ whole) (d ∷ part) next rest h k f e = grind (arith, nat_tests, eqb-true, same_head, and_parts, longer, begins_with_part (c == 35) whole part next rest)
+begins_with_part true (c ∷ whole) (d ∷ part) next rest h k f e = grind (arith, nat_tests, eqb-true, same_head, longer, begins_with_part (not (is_break c)) whole part next rest h)
