@@ -1,5 +1,5 @@
 -- The turns in block collections.
-use Rattle.model_parser.proofs.Common.{alike, ap, both_ways, ends_entry, ends_indentless_entry, ends_part, false, Goal, inl, is_in_mapping, is_over_document, is_past_directives, kind_of, Leaves, List, may_begin, None, nothing_written, Raw, refl, Refuses, Some, State, Takes, Tok, true, ◌∷◌, ◌≡◌, ◌≢◌, Kind, context_at, ◌∙◌, place_of}
+use Rattle.model_parser.proofs.Common.{arith, alike, ap, both_ways, ends_entry, ends_indentless_entry, ends_part, false, Goal, inl, is_in_mapping, is_over_document, is_past_directives, kind_of, Leaves, List, may_begin, None, nothing_written, Raw, refl, Refuses, Some, State, Takes, Tok, true, ◌∷◌, ◌≡◌, ◌≢◌, Kind, context_at, ◌∙◌, place_of}
 use Rattle.model_parser.proofs.StepRows.{by_row, takes_so, Leads, leaves_so, refuses_so}
 use Rattle.model_parser.proofs.Settling.{under_goes, under_other, under_past, under_any, mapping_no_document, mapping_under, under_reads, MayRead, empties, reads_node, closes, closes_so}
 use Rattle.model_parser.specs.declared.kind.Kind.TheVariants as kind
@@ -15,9 +15,7 @@ pub entries_dash : (ss : List State) → Takes Goal.entries ss Tok.block_entry N
 entries_dash ss = takes_so (λ n f. (n, f)) (λ f. (refl, (λ k. refl), by_row _ refl refl)) refl (λ f. refl) (λ f. refl)
 
 pub entries_refuses : (ss : List State) (t : Tok) → kind_of t ≢ kind.BlockEnd → kind_of t ≢ kind.BlockEntry → Refuses Goal.entries ss t
-entries_refuses ss Tok.block_end a b = absurd (a refl)
-entries_refuses ss Tok.block_entry a b = absurd (b refl)
-entries_refuses ss t a b = refuses_so Goal.entries ss t 9 (λ f. refl)
+entries_refuses ss t a b = refuses_so Goal.entries ss t 9 (λ f. grind arith)
 
 entry_over : (ss : List State) → MayRead Goal.entry ss (state.BlockSequenceEntry ∷ ss)
 entry_over ss = record { nested = λ n f. (f, n); under = λ f. refl; work = refl; any = λ k. refl; opened = refl }
@@ -34,16 +32,10 @@ pub indentless_entries_dash : (ss : List State) → Takes Goal.indentless_entrie
 indentless_entries_dash ss = takes_so (λ n f. (n, f)) (λ f. (refl, (λ k. refl), by_row _ refl refl)) refl (λ f. refl) (λ f. refl)
 
 indentless_leads : (ss : List State) (t : Tok) → is_in_mapping ss ≡ true → kind_of t ≢ kind.BlockEntry → Leads 2 Goal.indentless_entries ss (Some Raw.indentless_sequence_end) Goal.done ss t
-indentless_leads (state.BlockMappingKey ∷ ss) Tok.block_entry f a = absurd (a refl)
-indentless_leads (state.BlockMappingKey ∷ ss) t f a = refl
-indentless_leads (state.BlockMappingValue ∷ ss) Tok.block_entry f a = absurd (a refl)
-indentless_leads (state.BlockMappingValue ∷ ss) t f a = refl
-indentless_leads ss t f a = cc
+indentless_leads ss t f a = grind arith
 
 no_dash : (ss : List State) (t : Tok) → is_in_mapping ss ≡ true → closes ss (kind_of t) ≡ true → kind_of t ≢ kind.BlockEntry
-no_dash (state.BlockMappingKey ∷ ss) t f c e = let no : ends_part (kind_of t) ≡ false = ap ends_part e in cc
-no_dash (state.BlockMappingValue ∷ ss) t f c e = let no : ends_part (kind_of t) ≡ false = ap ends_part e in cc
-no_dash ss t f c e = cc f
+no_dash ss t f c e = grind arith
 
 pub indentless_entries_end : (ss : List State) (t : Tok) → kind_of t ≢ kind.BlockEntry → Leaves Goal.indentless_entries ss (Some t) (Some Raw.indentless_sequence_end) Goal.done ss
 indentless_entries_end ss t a = leaves_so 2 (λ n f. (n, under_goes ss (mapping_under ss f))) (λ f. under_reads ss (mapping_under ss f)) (λ f u r m. indentless_leads ss u f (no_dash ss u f (closes_so ss u (mapping_under ss f) (r 9)))) (λ f r m. indentless_leads ss t f a) refl
@@ -63,12 +55,8 @@ indentless_entry_node ss t a = reads_node (indentless_over ss) t context.Block (
 pub pairs_value : (ss : List State) → Takes Goal.pairs ss Tok.value (Some nothing_written) Goal.done (state.BlockMappingPart ∷ state.BlockMappingKey ∷ ss)
 pairs_value ss = takes_so (λ n f. ((refl, (f, n)), tt)) (λ f. (refl, (λ k. refl), by_row _ refl refl)) refl (λ f. refl) (λ f. refl)
 
-no_value : (ss : List State) (t : Tok) → kind_of t ≢ kind.Value → may_begin Goal.key_pairs ss (kind_of t) ≡ true
-no_value ss Tok.value a = absurd (a refl)
-no_value ss t a = refl
-
 pub pairs_key : (ss : List State) (t : Tok) → kind_of t ≢ kind.Value → Leaves Goal.pairs ss (Some t) None Goal.key_pairs ss
-pairs_key ss t a = leaves_so 0 (λ n f. (n, f)) (λ f. refl) (λ f u r m. cc m) (λ f r m. cc (no_value ss t a)) refl (λ f. alike refl refl) (λ f h. inl h)
+pairs_key ss t a = leaves_so 0 (λ n f. (n, f)) (λ f. refl) (λ f u r m. cc m) (λ f r m. grind arith) refl (λ f. alike refl refl) (λ f h. inl h)
 
 pub key_pairs_end : (ss : List State) → Takes Goal.key_pairs ss Tok.block_end (Some Raw.mapping_end) Goal.done ss
 key_pairs_end ss = takes_so (λ n f. (n, under_goes ss f)) (λ f. (refl, under_any ss f, by_row _ refl refl)) refl (under_other ss) (under_past ss)
@@ -77,35 +65,26 @@ pub key_pairs_key : (ss : List State) → Takes Goal.key_pairs ss Tok.key None G
 key_pairs_key ss = takes_so (λ n f. ((f, n), refl)) (λ f. (refl, (λ k. refl), by_row _ refl refl)) refl (λ f. refl) (λ f. refl)
 
 pub key_pairs_refuses : (ss : List State) (t : Tok) → kind_of t ≢ kind.BlockEnd → kind_of t ≢ kind.Key → Refuses Goal.key_pairs ss t
-key_pairs_refuses ss Tok.block_end a b = absurd (a refl)
-key_pairs_refuses ss Tok.key a b = absurd (b refl)
 key_pairs_refuses ss Tok.value a b = λ n f ts es x. cc x.1
-key_pairs_refuses ss t a b = refuses_so Goal.key_pairs ss t 9 (λ f. refl)
+key_pairs_refuses ss t a b = refuses_so Goal.key_pairs ss t 9 (λ f. grind arith)
 
 pub after_key_value : (ss : List State) → Takes Goal.after_key ss Tok.value None Goal.part (state.BlockMappingKey ∷ ss)
 after_key_value ss = takes_so (λ n f. ((f, n), refl)) (λ f. (refl, (λ k. refl), by_row _ refl refl)) refl (λ f. refl) (λ f. refl)
 
-value_leads : (ss : List State) (u : Tok) → may_begin Goal.key_pairs ss (kind_of u) ≡ true → Leads 2 Goal.after_key ss (Some nothing_written) Goal.done (state.BlockMappingNextKey ∷ ss) u
-value_leads ss Tok.value m = cc
-value_leads ss u m = refl
-
 pub after_key_empty : (ss : List State) (t : Tok) → kind_of t ≢ kind.Value → Leaves Goal.after_key ss (Some t) (Some nothing_written) Goal.done (state.BlockMappingNextKey ∷ ss)
-after_key_empty ss t a = leaves_so 2 (λ n f. ((f, n), tt)) (λ f. refl) (λ f u r m. value_leads ss u m) (λ f r m. value_leads ss t (no_value ss t a)) refl (λ f. alike refl refl) (λ f h. inl h)
+after_key_empty ss t a = leaves_so 2 (λ n f. ((f, n), tt)) (λ f. refl) (λ f u r m. grind arith) (λ f r m. grind arith) refl (λ f. alike refl refl) (λ f h. inl h)
 
 part_over : (ss : List State) → MayRead Goal.part ss ss
 part_over ss = record { nested = λ n f. n; under = λ f. mapping_under ss f; work = refl; any = λ k. refl; opened = refl }
 
 closes_part : (ss : List State) (k : Kind) → is_in_mapping ss ≡ true → closes ss k ≡ ends_part k
-closes_part (state.BlockMappingKey ∷ ss) k f = refl
-closes_part (state.BlockMappingValue ∷ ss) k f = refl
-closes_part ss k f = cc
+closes_part ss k f = grind arith
 
 pub part_empty : (ss : List State) (t : Tok) → ends_part (kind_of t) ≡ true → Leaves Goal.part ss (Some t) (Some nothing_written) Goal.done ss
 part_empty ss t a = empties (part_over ss) t (λ f. closes_part ss (kind_of t) f ∙ a)
 
 in_part : (ss : List State) → is_in_mapping ss ≡ true → context_at (place_of ss) ≡ context.Part
-in_part (state.BlockMappingKey ∷ ss) f = refl
-in_part ss f = cc
+in_part ss f = grind arith
 
 pub part_has_node : (ss : List State) (t : Tok) → ends_part (kind_of t) ≡ false → Leaves Goal.part ss (Some t) None (Goal.node context.Part) ss
 part_has_node ss t a = reads_node (part_over ss) t context.Part (in_part ss) (λ f. closes_part ss (kind_of t) f ∙ a) (λ f. alike refl refl) (λ f h. absurd (both_ways (is_over_document ss) (mapping_no_document ss f) h))

@@ -10,7 +10,7 @@ open_more : (cs : List Collection) (ts : List Tok) (t : Tok) → open_after cs (
 open_more cs [] t = refl
 open_more cs (u ∷ ts) t = open_more (open_past u cs) ts t
 
-next_more : (n : Next) (ts : List Tok) (t : Tok) → next_after n (ts ++ t ∷ []) ≡ next_past t
+pub next_more : (n : Next) (ts : List Tok) (t : Tok) → next_after n (ts ++ t ∷ []) ≡ next_past t
 next_more n [] t = refl
 next_more n (u ∷ ts) t = next_more (next_past u) ts t
 

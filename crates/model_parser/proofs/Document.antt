@@ -1,5 +1,5 @@
 -- The turns between documents.
-use Rattle.model_parser.proofs.Common.{[], alike, alike_after, ap, Awaits, AwaitsAt, begins_node, Directive, directive_token, ends_content, ends_document, Extent, false, Goal, inl, inr, is_directive, IsNext, IsThere, kind_of, Leaves, List, None, nothing_written, Option, placed, Places, Position, Raw, refl, Refuses, row_of, Some, State, Takes, Then, Tok, Token, true, without_node, work_of, works, ◌++◌, ◌∙◌, ◌∷◌, ◌≡◌, ◌≢◌, before_directive}
+use Rattle.model_parser.proofs.Common.{arith, [], alike, alike_after, ap, Awaits, AwaitsAt, begins_node, Directive, directive_token, ends_content, ends_document, Extent, false, Goal, inl, inr, is_directive, IsNext, IsThere, kind_of, Leaves, List, None, nothing_written, Option, placed, Places, Position, Raw, refl, Refuses, row_of, Some, State, Takes, Then, Tok, Token, true, without_node, work_of, works, ◌++◌, ◌∙◌, ◌∷◌, ◌≡◌, ◌≢◌, before_directive}
 use Rattle.model_parser.proofs.StepRows.{by_row, takes_so, Stays, by_steps, alike_reads, after_steps, refuses, not_refused, reads_first, placed_alike, needs_tokens, Leads, leaves_so, refuses_so}
 use Rattle.model_parser.proofs.Settling.{no_directive, explicit_goes, directive_goes, comes_so, MayRead, empties_as, reads_node, empties}
 use Rattle.defs_event.specs.Table as part
@@ -13,35 +13,18 @@ pub start_takes : (ss : List State) → Takes Goal.start ss Tok.stream_start (So
 start_takes ss = takes_so (λ n f. ((f, n), tt)) (λ f. (refl, (λ k. refl), by_row _ refl refl)) refl (λ f. refl) (λ f. refl)
 
 pub start_refuses : (ss : List State) (t : Tok) → kind_of t ≢ kind.StreamStart → Refuses Goal.start ss t
-start_refuses ss Tok.stream_start a = absurd (a refl)
-start_refuses ss t a = refuses_so Goal.start ss t 9 (λ f. refl)
+start_refuses ss t a = refuses_so Goal.start ss t 9 (λ f. grind arith)
 
 -- ---- where a document may do without `---`
 
 pub documents_marker : (ss : List State) → Takes Goal.documents ss Tok.document_end None Goal.documents ss
 documents_marker ss = takes_so (λ n f. (n, f)) (λ f. (refl, (λ k. refl), by_row _ refl refl)) refl (λ f. refl) (λ f. refl)
 
-explicit_from : (ss : List State) (u : Tok) → refuses 9 u (work_of Goal.explicit ss) ≡ false → Leads 1 Goal.documents ss None Goal.explicit ss u
-explicit_from ss Tok.stream_end r = refl
-explicit_from ss u r = cc
-
-explicit_on : (ss : List State) (t : Tok) → ends_document (kind_of t) ≡ true → kind_of t ≢ kind.DocumentEnd → Leads 1 Goal.documents ss None Goal.explicit ss t
-explicit_on ss Tok.document_end e a = absurd (a refl)
-explicit_on ss t e a = cc
-
 pub documents_explicit : (ss : List State) (t : Tok) → ends_document (kind_of t) ≡ true → kind_of t ≢ kind.DocumentEnd → begins_node context.Block (kind_of t) ≡ false → Leaves Goal.documents ss (Some t) None Goal.explicit ss
-documents_explicit ss t e a b = leaves_so 1 (λ n f. (n, f)) (λ f. refl) (λ f u r m. explicit_from ss u (r 9)) (λ f r m. explicit_on ss t e a) refl (λ f. without_node refl (comes_so Goal.documents ss t (explicit_goes ss t e))) (λ f h. inr (no_directive (kind_of t) e))
-
-bare_from : (ss : List State) (u : Tok) → begins_node context.Block (kind_of u) ≡ true → Leads 2 Goal.documents ss (Some (Raw.document_start [])) Goal.done (state.BlockNode ∷ state.DocumentEnd ∷ ss) u
-bare_from ss Tok.flow_sequence_start m = refl
-bare_from ss u m = cc
-
-bare_on : (ss : List State) (t : Tok) → ends_document (kind_of t) ≡ false → is_directive (kind_of t) ≡ false → refuses 9 t (work_of Goal.documents ss) ≡ false → Leads 2 Goal.documents ss (Some (Raw.document_start [])) Goal.done (state.BlockNode ∷ state.DocumentEnd ∷ ss) t
-bare_on ss Tok.flow_sequence_start e a r = refl
-bare_on ss t e a r = cc
+documents_explicit ss t e a b = leaves_so 1 (λ n f. (n, f)) (λ f. refl) (λ f u r m. let h = r 9 in grind arith) (λ f r m. grind arith) refl (λ f. without_node refl (comes_so Goal.documents ss t (explicit_goes ss t e))) (λ f h. inr (no_directive (kind_of t) e))
 
 pub documents_bare : (ss : List State) (t : Tok) → ends_document (kind_of t) ≡ false → is_directive (kind_of t) ≡ false → Leaves Goal.documents ss (Some t) (Some (Raw.document_start [])) Goal.done (state.BlockNode ∷ state.DocumentEnd ∷ ss)
-documents_bare ss t e a = leaves_so 2 (λ n f. (((refl, refl), (f, n)), tt)) (λ f. refl) (λ f u r m. bare_from ss u m) (λ f r m. bare_on ss t e a (r 9)) refl (λ f. alike refl refl) (λ f h. inr a)
+documents_bare ss t e a = leaves_so 2 (λ n f. (((refl, refl), (f, n)), tt)) (λ f. refl) (λ f u r m. grind arith) (λ f r m. let h = r 9 in grind arith) refl (λ f. alike refl refl) (λ f h. inr a)
 
 -- ---- directives
 
@@ -87,8 +70,7 @@ documents_directives ss t e b = record {
     come (u ∷ us) es a = ((both_read ss u (not_refused 9 u (work_of (Goal.directed []) ss) us es a.0)).0 us es a.0, refl)
 
     admitted : (u : Tok) → is_directive (kind_of u) ≡ true → refuses 9 u (work_of (Goal.directed []) ss) ≡ false
-    admitted (Tok.version_directive m n) h = refl
-    admitted u h = cc
+    admitted u h = grind arith
 
     go : (ts : List Tok) (es : List Raw) → IsNext (Some t) ts → Awaits Goal.documents ss ts es → Then None (Goal.directed []) ss ts es
     go [] es k a = absurd k
@@ -102,10 +84,7 @@ pub directed_start : (ss : List State) (read : List Directive) → Takes (Goal.d
 directed_start ss read = takes_so (λ n f. ((f, n), tt)) (λ f. (refl, (λ k. refl), by_row _ refl refl)) refl (λ f. refl) (λ f. refl)
 
 pub directed_refuses : (ss : List State) (read : List Directive) (t : Tok) → kind_of t ≢ kind.VersionDirective → kind_of t ≢ kind.TagDirective → kind_of t ≢ kind.DocumentStart → Refuses (Goal.directed read) ss t
-directed_refuses ss read (Tok.version_directive m n) a b c = absurd (a refl)
-directed_refuses ss read (Tok.tag_directive m n) a b c = absurd (b refl)
-directed_refuses ss read Tok.document_start a b c = absurd (c refl)
-directed_refuses ss read t a b c = refuses_so (Goal.directed read) ss t 9 (λ f. refl)
+directed_refuses ss read t a b c = refuses_so (Goal.directed read) ss t 9 (λ f. grind arith)
 
 -- ---- the stream's end, or a document that begins with `---`
 
@@ -116,9 +95,7 @@ pub explicit_start : (ss : List State) → Takes Goal.explicit ss Tok.document_s
 explicit_start ss = takes_so (λ n f. ((f, n), tt)) (λ f. (refl, (λ k. refl), by_row _ refl refl)) refl (λ f. refl) (λ f. refl)
 
 pub explicit_refuses : (ss : List State) (t : Tok) → kind_of t ≢ kind.StreamEnd → kind_of t ≢ kind.DocumentStart → Refuses Goal.explicit ss t
-explicit_refuses ss Tok.stream_end a b = absurd (a refl)
-explicit_refuses ss Tok.document_start a b = absurd (b refl)
-explicit_refuses ss t a b = refuses_so Goal.explicit ss t 9 (λ f. refl)
+explicit_refuses ss t a b = refuses_so Goal.explicit ss t 9 (λ f. grind arith)
 
 -- ---- after `---`
 
@@ -139,20 +116,8 @@ content_node ss t a b = reads_node (content_over ss) t context.Block (λ f. refl
 pub after_marked : (ss : List State) → Takes Goal.after ss Tok.document_end (Some Raw.document_end) Goal.done (state.ImplicitDocumentStart ∷ ss)
 after_marked ss = takes_so (λ n f. ((f, n), tt)) (λ f. (refl, (λ k. refl), by_row _ refl refl)) refl (λ f. refl) (λ f. refl)
 
-after_leads : (ss : List State) (t : Tok) → kind_of t ≢ kind.DocumentEnd → Leads 2 Goal.after ss (Some Raw.document_end) Goal.done (state.DocumentStart ∷ ss) t
-after_leads ss Tok.document_end a = absurd (a refl)
-after_leads ss t a = refl
-
-no_marker : (ss : List State) (t : Tok) → refuses 9 t (work_of Goal.explicit ss) ≡ false → kind_of t ≢ kind.DocumentEnd
-no_marker ss Tok.document_end r e = cc
-no_marker ss t r e = cc
-
 pub after_unmarked : (ss : List State) (t : Tok) → kind_of t ≢ kind.DocumentEnd → is_directive (kind_of t) ≡ false → Leaves Goal.after ss (Some t) (Some Raw.document_end) Goal.done (state.DocumentStart ∷ ss)
-after_unmarked ss t a b = leaves_so 2 (λ n f. ((f, n), tt)) (λ f. refl) (λ f u r m. after_leads ss u (no_marker ss u (r 9))) (λ f r m. after_leads ss t a) refl (λ f. alike_after refl b) (λ f h. inr b)
+after_unmarked ss t a b = leaves_so 2 (λ n f. ((f, n), tt)) (λ f. refl) (λ f u r m. let h = r 9 in grind arith) (λ f r m. grind arith) refl (λ f. alike_after refl b) (λ f h. inr b)
 
 pub after_refuses : (ss : List State) (t : Tok) → ends_document (kind_of t) ≡ false → Refuses Goal.after ss t
-after_refuses ss t a = refuses_so Goal.after ss t 9 (λ f. by t a)
-  where
-    by : (t : Tok) → ends_document (kind_of t) ≡ false → refuses 9 t (work_of Goal.after ss) ≡ true
-    by Tok.stream_end a = cc
-    by t a = cc
+after_refuses ss t a = refuses_so Goal.after ss t 9 (λ f. grind arith)

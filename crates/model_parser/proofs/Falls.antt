@@ -1,45 +1,39 @@
 -- Each row of the grammar that leaves its token weighs less than its goal, and each goal can be read to an end.
-use Rattle.model_parser.proofs.Common.{explicit_document, [], before, after_anchor, after_tag, block_mapping_entries, block_mapping_value, block_sequence_entries, Bool, by_leaving, by_taking, Case, cases, content, Derives, directives, document_end, documents, false, flow_mapping_comma, flow_mapping_entries, flow_mapping_value, flow_mapping_valued, flow_sequence_comma, flow_sequence_entries, flow_value, grammar, Held, if◌then◌else◌, in_pair, indentless_sequence_entries, key, leaves, List, ltb-true, nat_lt, no_flow_mapping_value, node, nothing_left, nothing_written, on, otherwise, Part, parts_weight, Place, Raw, reading, refl, Row, row_of, says, Some, stream, Style, subst, takes, Tok, true, value, weight, ℕ, ◌&&◌, ◌<◌, ◌∷◌, ◌≡◌}
+use Rattle.model_parser.proofs.Common.{explicit_document, [], and_parts, ap, before, after_anchor, after_tag, block_mapping_entries, block_mapping_value, block_sequence_entries, Bool, by_leaving, by_taking, Case, cases, content, Derives, directives, document_end, documents, false, flow_mapping_comma, flow_mapping_entries, flow_mapping_value, flow_mapping_valued, flow_sequence_comma, flow_sequence_entries, flow_value, grammar, Held, if◌then◌else◌, in_pair, indentless_sequence_entries, key, leaves, List, ltb-true, nat_lt, no_flow_mapping_value, node, nothing_left, nothing_written, on, otherwise, Part, parts_weight, Place, Raw, reading, refl, Row, row_of, says, Some, stream, Style, sym, takes, Tok, true, value, weight, ℕ, ◌&&◌, ◌<◌, ◌∙◌, ◌∷◌, ◌≡◌}
 use Rattle.defs_event.specs.Grammar.{Goal, Side, then_in_pair}
 use Rattle.model_parser.proofs.Steps.{Falls}
 use Rattle.model_parser.proofs.Completions.{Completes}
 
 -- ---- rows fall
 
+-- whether each row of some cases passes a test
+abbrev pub cases_pass : {G T E : Type 0} → (Row G E → Bool) → List (Case G T E) → Bool
+cases_pass f [] = true
+cases_pass f (on test r ∷ cs) = f r && cases_pass f cs
+cases_pass f (otherwise r ∷ cs) = f r
+
+pub row_passes : {G T E : Type 0} (f : Row G E → Bool) (cs : List (Case G T E)) (t : T) (r : Row G E) → cases_pass f cs ≡ true → row_of cs t ≡ Some r → f r ≡ true
+row_passes f [] t r h e = absurd (cc e)
+row_passes f (on test q ∷ cs) t r h e =
+    let k = and_parts (f q) (cases_pass f cs) h in
+    by (test t) k.0 (row_passes f cs t r k.1) e
+  where
+    by : (b : Bool) → f q ≡ true → (row_of cs t ≡ Some r → f r ≡ true) → (if b then Some q else row_of cs t) ≡ Some r → f r ≡ true
+    by true k i e = let same : q ≡ r = cc e in ap f (sym same) ∙ k
+    by false k i e = i e
+row_passes f (otherwise q ∷ cs) t r h e = let same : q ≡ r = cc e in ap f (sym same) ∙ h
+
 abbrev row_falls : {G E : Type 0} → (G → ℕ) → ℕ → Row G E → Bool
 row_falls m n (takes ps) = true
 row_falls m n (leaves ps) = nat_lt (parts_weight m ps) n
 
-abbrev cases_fall : {G T E : Type 0} → (G → ℕ) → ℕ → List (Case G T E) → Bool
-cases_fall m n [] = true
-cases_fall m n (on test r ∷ cs) = row_falls m n r && cases_fall m n cs
-cases_fall m n (otherwise r ∷ cs) = row_falls m n r
-
-both : (x y : Bool) → (x && y) ≡ true → (x ≡ true) × (y ≡ true)
-both true y h = (refl, h)
-both false y h = absurd (cc h)
-
-row_fall : {G E : Type 0} (m : G → ℕ) (n : ℕ) (r : Row G E) (ps : List (Part G E)) → row_falls m n r ≡ true → r ≡ leaves ps → parts_weight m ps < n
-row_fall m n r ps h e = ltb-true (parts_weight m ps) n (subst (λ r. row_falls m n r ≡ true) e h)
-
-falls_here : {G T E : Type 0} (m : G → ℕ) (n : ℕ) (cs : List (Case G T E)) (t : T) (ps : List (Part G E)) → cases_fall m n cs ≡ true → row_of cs t ≡ Some (leaves ps) → parts_weight m ps < n
-falls_here m n [] t ps h e = absurd (cc e)
-falls_here m n (on test r ∷ cs) t ps h e =
-    let k = both (row_falls m n r) (cases_fall m n cs) h in
-    by (test t) k.0 (λ f. falls_here m n cs t ps k.1 f) e
-  where
-    by : (b : Bool) → row_falls m n r ≡ true → (row_of cs t ≡ Some (leaves ps) → parts_weight m ps < n) → (if b then Some r else row_of cs t) ≡ Some (leaves ps) → parts_weight m ps < n
-    by true k i f = row_fall m n r ps k (cc f)
-    by false k i f = i f
-falls_here m n (otherwise r ∷ cs) t ps h e = row_fall m n r ps h (cc e)
-
-goal_falls : (g : Goal) → cases_fall weight (weight g) (cases g) ≡ true
+goal_falls : (g : Goal) → cases_pass (row_falls weight (weight g)) (cases g) ≡ true
 goal_falls (content (in_pair key)) = refl
 goal_falls (indentless_sequence_entries key) = refl
 goal_falls _ = refl
 
 pub grammar_falls : Falls grammar weight
-grammar_falls g t ps h = falls_here weight (weight g) (cases g) t ps (goal_falls g) h
+grammar_falls g t ps h = ltb-true (parts_weight weight ps) (weight g) (row_passes (row_falls weight (weight g)) (cases g) t (leaves ps) (goal_falls g) h)
 
 -- ---- goals complete: each is read to its end by some tokens, which say these events
 

@@ -1,5 +1,5 @@
 -- Tokens and their kinds.
-use Rattle.model_parser.proofs.Common.{ap, Bool, ends_document, ends_flow_key, ends_flow_pair, ends_item, ends_item_key, ends_part, false, HasNoText, Kind, kind_of, or_value, refl, subst, sym, Tok, tok_of_kind, ◌∙◌, ◌≡◌, ◌≢◌, ends_entry, ends_indentless_entry, true}
+use Rattle.model_parser.proofs.Common.{ap, arith, Bool, ends_document, ends_flow_key, ends_flow_pair, ends_item, ends_item_key, ends_part, false, HasNoText, Kind, kind_of, or_value, refl, subst, sym, Tok, tok_of_kind, ◌∙◌, ◌≡◌, ◌≢◌, ends_entry, ends_indentless_entry, true}
 use Rattle.model_parser.specs.declared.kind.Kind.TheVariants as kind
 
 -- a token without texts is known by its kind
@@ -13,46 +13,29 @@ tok_is {t} {k} h e = sym (plain_tok t (subst HasNoText (sym h) e)) ∙ ap tok_of
 -- ---- a kind that is none of several
 
 pub not_document : (k : Kind) → k ≢ kind.DocumentStart → k ≢ kind.DocumentEnd → k ≢ kind.StreamEnd → ends_document k ≡ false
-not_document kind.DocumentStart a b c = absurd (a refl)
-not_document kind.DocumentEnd a b c = absurd (b refl)
-not_document kind.StreamEnd a b c = absurd (c refl)
-not_document _ a b c = refl
+not_document k a b c = grind arith
 
 pub not_part : (k : Kind) → k ≢ kind.Key → k ≢ kind.Value → k ≢ kind.BlockEnd → ends_part k ≡ false
-not_part kind.Key a b c = absurd (a refl)
-not_part kind.Value a b c = absurd (b refl)
-not_part kind.BlockEnd a b c = absurd (c refl)
-not_part _ a b c = refl
+not_part k a b c = grind arith
 
 pub not_item : (k : Kind) → k ≢ kind.FlowEntry → k ≢ kind.FlowSequenceEnd → ends_item k ≡ false
-not_item kind.FlowEntry a b = absurd (a refl)
-not_item kind.FlowSequenceEnd a b = absurd (b refl)
-not_item _ a b = refl
+not_item k a b = grind arith
 
 pub not_entry : (k : Kind) → k ≢ kind.BlockEntry → k ≢ kind.BlockEnd → ends_entry k ≡ false
-not_entry kind.BlockEntry a b = absurd (a refl)
-not_entry kind.BlockEnd a b = absurd (b refl)
-not_entry _ a b = refl
+not_entry k a b = grind arith
 
 pub not_indentless : (k : Kind) → k ≢ kind.BlockEntry → ends_part k ≡ false → ends_indentless_entry k ≡ false
-not_indentless kind.BlockEntry a h = absurd (a refl)
-not_indentless k a h = h
+not_indentless k a h = grind arith
 
 -- one that is one of several is no other
 pub not_by : {k x : Kind} (ends : Kind → Bool) → ends k ≡ true → ends x ≡ false → k ≢ x
 not_by ends h none e = let clash : true ≡ false = sym h ∙ ap ends e ∙ none in cc
 
 pub not_flow_pair : (k : Kind) → k ≢ kind.FlowEntry → k ≢ kind.FlowMappingEnd → ends_flow_pair k ≡ false
-not_flow_pair kind.FlowEntry a b = absurd (a refl)
-not_flow_pair kind.FlowMappingEnd a b = absurd (b refl)
-not_flow_pair _ a b = refl
-
-not_or_value : (ends : Kind → Bool) (k : Kind) → k ≢ kind.Value → ends k ≡ false → or_value ends k ≡ false
-not_or_value ends kind.Value a h = absurd (a refl)
-not_or_value ends k a h = h
+not_flow_pair k a b = grind arith
 
 pub not_item_key : (k : Kind) → k ≢ kind.Value → k ≢ kind.FlowEntry → k ≢ kind.FlowSequenceEnd → ends_item_key k ≡ false
-not_item_key k a b c = not_or_value ends_item k a (not_item k b c)
+not_item_key k a b c = grind arith
 
 pub not_flow_key : (k : Kind) → k ≢ kind.Value → k ≢ kind.FlowEntry → k ≢ kind.FlowMappingEnd → ends_flow_key k ≡ false
-not_flow_key k a b c = not_or_value ends_flow_pair k a (not_flow_pair k b c)
+not_flow_key k a b c = grind arith

@@ -1,5 +1,5 @@
 -- The turns in flow collections.
-use Rattle.model_parser.proofs.Common.{alike, ends_flow_key, ends_flow_pair, ends_item, ends_item_key, false, Goal, inl, kind_of, Leaves, List, may_begin, None, nothing_written, Option, Raw, refl, Refuses, Some, State, Takes, Tok, true, without_node, work_of, ◌∷◌, ◌≡◌, ◌≢◌}
+use Rattle.model_parser.proofs.Common.{alike, arith, ends_flow_key, ends_flow_pair, ends_item, ends_item_key, false, Goal, inl, kind_of, Leaves, List, may_begin, None, nothing_written, Option, Raw, refl, Refuses, Some, State, Takes, Tok, true, without_node, work_of, ◌∷◌, ◌≡◌, ◌≢◌}
 use Rattle.model_parser.proofs.StepRows.{by_row, takes_so, refuses, Leads, leaves_so, says_so, refuses_so}
 use Rattle.model_parser.proofs.First.{not_by}
 use Rattle.model_parser.proofs.Settling.{under_goes, under_other, under_past, under_any, flow_valued_goes, comes_so, MayRead, empties, reads_node, closes_so}
@@ -14,12 +14,8 @@ use Rattle.defs_event.specs.Grammar as table
 pub items_end : (ss : List State) → Takes Goal.items ss Tok.flow_sequence_end (Some Raw.flow_sequence_end) Goal.done ss
 items_end ss = takes_so (λ n f. (n, under_goes ss f)) (λ f. (refl, under_any ss f, by_row _ refl refl)) refl (under_other ss) (under_past ss)
 
-no_sequence_end : (ss : List State) (t : Tok) → kind_of t ≢ kind.FlowSequenceEnd → may_begin Goal.item ss (kind_of t) ≡ true
-no_sequence_end ss Tok.flow_sequence_end a = absurd (a refl)
-no_sequence_end ss t a = refl
-
 pub items_item : (ss : List State) (t : Tok) → kind_of t ≢ kind.FlowSequenceEnd → Leaves Goal.items ss (Some t) None Goal.item ss
-items_item ss t a = leaves_so 0 (λ n f. (n, f)) (λ f. refl) (λ f u r m. cc m) (λ f r m. cc (no_sequence_end ss t a)) refl (λ f. alike refl refl) (λ f h. inl h)
+items_item ss t a = leaves_so 0 (λ n f. (n, f)) (λ f. refl) (λ f u r m. cc m) (λ f r m. grind arith) refl (λ f. alike refl refl) (λ f h. inl h)
 
 pub more_items_end : (ss : List State) → Takes Goal.more_items ss Tok.flow_sequence_end (Some Raw.flow_sequence_end) Goal.done ss
 more_items_end ss = takes_so (λ n f. (n, under_goes ss f)) (λ f. (refl, under_any ss f, by_row _ refl refl)) refl (under_other ss) (under_past ss)
@@ -28,29 +24,19 @@ pub more_items_comma : (ss : List State) → Takes Goal.more_items ss Tok.flow_e
 more_items_comma ss = takes_so (λ n f. (n, f)) (λ f. (refl, (λ k. refl), by_row _ refl refl)) refl (λ f. refl) (λ f. refl)
 
 pub more_items_refuses : (ss : List State) (t : Tok) → kind_of t ≢ kind.FlowSequenceEnd → kind_of t ≢ kind.FlowEntry → Refuses Goal.more_items ss t
-more_items_refuses ss Tok.flow_sequence_end a b = absurd (a refl)
-more_items_refuses ss Tok.flow_entry a b = absurd (b refl)
-more_items_refuses ss t a b = refuses_so Goal.more_items ss t 9 (λ f. refl)
+more_items_refuses ss t a b = refuses_so Goal.more_items ss t 9 (λ f. grind arith)
 
 pub comma_items_end : (ss : List State) → Takes Goal.comma_items ss Tok.flow_sequence_end (Some Raw.flow_sequence_end) Goal.done ss
 comma_items_end ss = takes_so (λ n f. (n, under_goes ss f)) (λ f. (refl, under_any ss f, by_row _ refl refl)) refl (under_other ss) (under_past ss)
 
 pub comma_items_item : (ss : List State) (t : Tok) → kind_of t ≢ kind.FlowSequenceEnd → Leaves Goal.comma_items ss (Some t) None Goal.item ss
-comma_items_item ss t a = leaves_so 0 (λ n f. (n, f)) (λ f. refl) (λ f u r m. cc m) (λ f r m. cc (no_sequence_end ss t a)) refl (λ f. alike refl refl) (λ f h. inl h)
+comma_items_item ss t a = leaves_so 0 (λ n f. (n, f)) (λ f. refl) (λ f u r m. cc m) (λ f r m. grind arith) refl (λ f. alike refl refl) (λ f h. inl h)
 
 pub item_key : (ss : List State) → Takes Goal.item ss Tok.key (Some Raw.pair_start) Goal.done (state.FlowSequenceEntryMappingKey ∷ ss)
 item_key ss = takes_so (λ n f. ((f, n), tt)) (λ f. (refl, (λ k. refl), by_row _ refl refl)) refl (λ f. refl) (λ f. refl)
 
-item_from : (ss : List State) (u : Tok) → may_begin (Goal.node context.Flow) (state.FlowSequenceEntry ∷ ss) (kind_of u) ≡ true → Leads 1 Goal.item ss None (Goal.node context.Flow) (state.FlowSequenceEntry ∷ ss) u
-item_from ss Tok.flow_sequence_start m = refl
-item_from ss u m = cc
-
-item_on : (ss : List State) (t : Tok) → kind_of t ≢ kind.Key → may_begin Goal.item ss (kind_of t) ≡ true → refuses 9 t (work_of Goal.item ss) ≡ false → Leads 1 Goal.item ss None (Goal.node context.Flow) (state.FlowSequenceEntry ∷ ss) t
-item_on ss Tok.key a m r = absurd (a refl)
-item_on ss t a m r = cc
-
 pub item_node : (ss : List State) (t : Tok) → kind_of t ≢ kind.Key → Leaves Goal.item ss (Some t) None (Goal.node context.Flow) (state.FlowSequenceEntry ∷ ss)
-item_node ss t a = leaves_so 1 (λ n f. ((f, n), (refl, refl))) (λ f. refl) (λ f u r m. item_from ss u m) (λ f r m. item_on ss t a m (r 9)) refl (λ f. alike refl refl) (λ f h. inl h)
+item_node ss t a = leaves_so 1 (λ n f. ((f, n), (refl, refl))) (λ f. refl) (λ f u r m. grind arith) (λ f r m. let h = r 9 in grind arith) refl (λ f. alike refl refl) (λ f h. inl h)
 
 -- ---- a pair that is an item
 
@@ -66,12 +52,8 @@ pair_key_node ss t a = reads_node (pair_key_over ss) t context.Flow (λ f. refl)
 pub pair_value_value : (ss : List State) → Takes Goal.pair_value ss Tok.value None Goal.pair_valued ss
 pair_value_value ss = takes_so (λ n f. (n, f)) (λ f. (refl, (λ k. refl), by_row _ refl refl)) refl (λ f. refl) (λ f. refl)
 
-pair_value_leads : (ss : List State) (t : Tok) → kind_of t ≢ kind.Value → Leads 2 Goal.pair_value ss (Some nothing_written) Goal.done (state.FlowSequenceEntryMappingEnd ∷ ss) t
-pair_value_leads ss Tok.value a = absurd (a refl)
-pair_value_leads ss t a = refl
-
 pub pair_value_empty : (ss : List State) (t : Tok) → kind_of t ≢ kind.Value → Leaves Goal.pair_value ss (Some t) (Some nothing_written) Goal.done (state.FlowSequenceEntryMappingEnd ∷ ss)
-pair_value_empty ss t a = leaves_so 2 (λ n f. ((f, n), tt)) (λ f. refl) (λ f u r m. pair_value_leads ss u (not_by ends_item (closes_so (state.FlowSequenceEntryMappingEnd ∷ ss) u refl (r 9)) refl)) (λ f r m. pair_value_leads ss t a) refl (λ f. alike refl refl) (λ f h. inl h)
+pair_value_empty ss t a = leaves_so 2 (λ n f. ((f, n), tt)) (λ f. refl) (λ f u r m. let h = r 9 in grind arith) (λ f r m. grind arith) refl (λ f. alike refl refl) (λ f h. inl h)
 
 pair_valued_over : (ss : List State) → MayRead Goal.pair_valued ss (state.FlowSequenceEntryMappingEnd ∷ ss)
 pair_valued_over ss = record { nested = λ n f. (f, n); under = λ f. refl; work = refl; any = λ k. refl; opened = refl }
@@ -90,12 +72,8 @@ pair_ends ss p = says_so (λ n f. ((f, n), tt)) refl (λ k. refl) (λ k. refl) r
 pub flow_pairs_end : (ss : List State) → Takes Goal.flow_pairs ss Tok.flow_mapping_end (Some Raw.flow_mapping_end) Goal.done ss
 flow_pairs_end ss = takes_so (λ n f. (n, under_goes ss f)) (λ f. (refl, under_any ss f, by_row _ refl refl)) refl (under_other ss) (under_past ss)
 
-no_mapping_end : (s : table.Start) (ss : List State) (t : Tok) → kind_of t ≢ kind.FlowMappingEnd → may_begin (Goal.flow_pair s) ss (kind_of t) ≡ true
-no_mapping_end s ss Tok.flow_mapping_end a = absurd (a refl)
-no_mapping_end s ss t a = refl
-
 pub flow_pairs_pair : (ss : List State) (t : Tok) → kind_of t ≢ kind.FlowMappingEnd → Leaves Goal.flow_pairs ss (Some t) None (Goal.flow_pair table.after_brace) ss
-flow_pairs_pair ss t a = leaves_so 0 (λ n f. (n, f)) (λ f. refl) (λ f u r m. cc m) (λ f r m. cc (no_mapping_end table.after_brace ss t a)) refl (λ f. alike refl refl) (λ f h. inl h)
+flow_pairs_pair ss t a = leaves_so 0 (λ n f. (n, f)) (λ f. refl) (λ f u r m. cc m) (λ f r m. grind arith) refl (λ f. alike refl refl) (λ f h. inl h)
 
 pub more_flow_end : (ss : List State) → Takes Goal.more_flow_pairs ss Tok.flow_mapping_end (Some Raw.flow_mapping_end) Goal.done ss
 more_flow_end ss = takes_so (λ n f. (n, under_goes ss f)) (λ f. (refl, under_any ss f, by_row _ refl refl)) refl (under_other ss) (under_past ss)
@@ -104,15 +82,13 @@ pub more_flow_comma : (ss : List State) → Takes Goal.more_flow_pairs ss Tok.fl
 more_flow_comma ss = takes_so (λ n f. (n, f)) (λ f. (refl, (λ k. refl), by_row _ refl refl)) refl (λ f. refl) (λ f. refl)
 
 pub more_flow_refuses : (ss : List State) (t : Tok) → kind_of t ≢ kind.FlowMappingEnd → kind_of t ≢ kind.FlowEntry → Refuses Goal.more_flow_pairs ss t
-more_flow_refuses ss Tok.flow_mapping_end a b = absurd (a refl)
-more_flow_refuses ss Tok.flow_entry a b = absurd (b refl)
-more_flow_refuses ss t a b = refuses_so Goal.more_flow_pairs ss t 9 (λ f. refl)
+more_flow_refuses ss t a b = refuses_so Goal.more_flow_pairs ss t 9 (λ f. grind arith)
 
 pub comma_flow_end : (ss : List State) → Takes Goal.comma_flow_pairs ss Tok.flow_mapping_end (Some Raw.flow_mapping_end_at_comma) Goal.done ss
 comma_flow_end ss = takes_so (λ n f. (n, under_goes ss f)) (λ f. (refl, under_any ss f, by_row _ refl refl)) refl (under_other ss) (under_past ss)
 
 pub comma_flow_has_pair : (ss : List State) (t : Tok) → kind_of t ≢ kind.FlowMappingEnd → Leaves Goal.comma_flow_pairs ss (Some t) None (Goal.flow_pair table.after_comma) ss
-comma_flow_has_pair ss t a = leaves_so 0 (λ n f. (n, f)) (λ f. refl) (λ f u r m. cc m) (λ f r m. cc (no_mapping_end table.after_comma ss t a)) refl (λ f. alike refl refl) (λ f h. inl h)
+comma_flow_has_pair ss t a = leaves_so 0 (λ n f. (n, f)) (λ f. refl) (λ f u r m. cc m) (λ f r m. grind arith) refl (λ f. alike refl refl) (λ f h. inl h)
 
 pub flow_pair_key : (s : table.Start) (ss : List State) → Takes (Goal.flow_pair s) ss Tok.key None Goal.flow_key ss
 flow_pair_key s ss = takes_so (λ n f. (n, f)) (λ f. (refl, (λ k. refl), by_row _ refl refl)) refl (λ f. refl) (λ f. refl)
@@ -120,18 +96,8 @@ flow_pair_key s ss = takes_so (λ n f. (n, f)) (λ f. (refl, (λ k. refl), by_ro
 pub flow_pair_value : (s : table.Start) (ss : List State) (colon : chars.Position) → Takes (Goal.flow_pair s) ss Tok.value (Some nothing_written) Goal.done (state.FlowMappingPart colon ∷ ss)
 flow_pair_value s ss colon = takes_so (λ n f. ((f, n), tt)) (λ f. (refl, (λ k. refl), by_row _ refl refl)) refl (λ f. refl) (λ f. refl)
 
-pair_from : (s : table.Start) (ss : List State) (u : Tok) → may_begin (Goal.node context.Flow) (state.FlowMappingEmptyValue ∷ ss) (kind_of u) ≡ true → Leads 1 (Goal.flow_pair s) ss None (Goal.node context.Flow) (state.FlowMappingEmptyValue ∷ ss) u
-pair_from s ss Tok.flow_sequence_start m = refl
-pair_from s ss u m = cc
-
-pair_on : (s : table.Start) (ss : List State) (t : Tok) → kind_of t ≢ kind.Key → kind_of t ≢ kind.Value → may_begin (Goal.flow_pair s) ss (kind_of t) ≡ true → refuses 9 t (work_of (Goal.flow_pair s) ss) ≡ false
-    → Leads 1 (Goal.flow_pair s) ss None (Goal.node context.Flow) (state.FlowMappingEmptyValue ∷ ss) t
-pair_on s ss Tok.key a b m r = absurd (a refl)
-pair_on s ss Tok.value a b m r = absurd (b refl)
-pair_on s ss t a b m r = cc
-
 pub flow_pair_node : (s : table.Start) (ss : List State) (t : Tok) → kind_of t ≢ kind.Key → kind_of t ≢ kind.Value → Leaves (Goal.flow_pair s) ss (Some t) None (Goal.node context.Flow) (state.FlowMappingEmptyValue ∷ ss)
-flow_pair_node s ss t a b = leaves_so 1 (λ n f. ((f, n), (refl, refl))) (λ f. refl) (λ f u r m. pair_from s ss u m) (λ f r m. pair_on s ss t a b m (r 9)) refl (λ f. alike refl refl) (λ f h. inl h)
+flow_pair_node s ss t a b = leaves_so 1 (λ n f. ((f, n), (refl, refl))) (λ f. refl) (λ f u r m. grind arith) (λ f r m. let h = r 9 in grind arith) refl (λ f. alike refl refl) (λ f h. inl h)
 
 flow_key_over : (ss : List State) → MayRead Goal.flow_key ss (state.FlowMappingValue ∷ ss)
 flow_key_over ss = record { nested = λ n f. (f, n); under = λ f. refl; work = refl; any = λ k. refl; opened = refl }
@@ -145,30 +111,14 @@ flow_key_node ss t a = reads_node (flow_key_over ss) t context.Flow (λ f. refl)
 pub flow_after_value : (ss : List State) (m : chars.Position) → Takes Goal.flow_after_key ss Tok.value None (Goal.flow_valued m) ss
 flow_after_value ss m = takes_so (λ n f. (n, f)) (λ f. (refl, (λ k. refl), by_row _ refl refl)) refl (λ f. refl) (λ f. refl)
 
-flow_after_leads : (ss : List State) (t : Tok) → kind_of t ≢ kind.Value → Leads 2 Goal.flow_after_key ss (Some nothing_written) Goal.done (state.FlowMappingKey ∷ ss) t
-flow_after_leads ss Tok.value a = absurd (a refl)
-flow_after_leads ss t a = refl
-
 pub flow_after_empty : (ss : List State) (t : Tok) → kind_of t ≢ kind.Value → Leaves Goal.flow_after_key ss (Some t) (Some nothing_written) Goal.done (state.FlowMappingKey ∷ ss)
-flow_after_empty ss t a = leaves_so 2 (λ n f. ((f, n), tt)) (λ f. refl) (λ f u r m. flow_after_leads ss u (not_by ends_flow_pair (closes_so (state.FlowMappingKey ∷ ss) u refl (r 9)) refl)) (λ f r m. flow_after_leads ss t a) refl (λ f. alike refl refl) (λ f h. inl h)
-
-flow_valued_leads : (m : chars.Position) (ss : List State) (t : Tok) → ends_flow_pair (kind_of t) ≡ true → Leads 2 (Goal.flow_valued m) ss (Some Raw.unwritten_value) Goal.done (state.FlowMappingKey ∷ ss) t
-flow_valued_leads m ss Tok.flow_entry a = refl
-flow_valued_leads m ss t a = cc
+flow_after_empty ss t a = leaves_so 2 (λ n f. ((f, n), tt)) (λ f. refl) (λ f u r m. let h = r 9 in grind arith) (λ f r m. grind arith) refl (λ f. alike refl refl) (λ f h. inl h)
 
 pub flow_valued_empty : (m : chars.Position) (ss : List State) (t : Tok) → ends_flow_pair (kind_of t) ≡ true → Leaves (Goal.flow_valued m) ss (Some t) (Some Raw.unwritten_value) Goal.done (state.FlowMappingKey ∷ ss)
-flow_valued_empty c ss t a = leaves_so 2 (λ n f. ((f, n), tt)) (λ f. refl) (λ f u r m. flow_valued_leads c ss u (closes_so (state.FlowMappingKey ∷ ss) u refl (r 9))) (λ f r m. flow_valued_leads c ss t a) refl (λ f. without_node refl (comes_so (Goal.flow_valued c) ss t (flow_valued_goes c ss t a))) (λ f h. inl h)
-
-flow_valued_node_from : (m : chars.Position) (ss : List State) (u : Tok) → may_begin (Goal.node context.Flow) (state.FlowMappingKey ∷ ss) (kind_of u) ≡ true → Leads 1 (Goal.flow_valued m) ss None (Goal.node context.Flow) (state.FlowMappingKey ∷ ss) u
-flow_valued_node_from m ss Tok.flow_sequence_start b = refl
-flow_valued_node_from m ss u b = cc
-
-flow_valued_node_on : (m : chars.Position) (ss : List State) (t : Tok) → ends_flow_pair (kind_of t) ≡ false → refuses 9 t (work_of (Goal.flow_valued m) ss) ≡ false → Leads 1 (Goal.flow_valued m) ss None (Goal.node context.Flow) (state.FlowMappingKey ∷ ss) t
-flow_valued_node_on m ss Tok.flow_sequence_start a r = refl
-flow_valued_node_on m ss t a r = cc
+flow_valued_empty c ss t a = leaves_so 2 (λ n f. ((f, n), tt)) (λ f. refl) (λ f u r m. let h = r 9 in grind arith) (λ f r m. grind arith) refl (λ f. without_node refl (comes_so (Goal.flow_valued c) ss t (flow_valued_goes c ss t a))) (λ f h. inl h)
 
 pub flow_valued_node : (m : chars.Position) (ss : List State) (t : Tok) → ends_flow_pair (kind_of t) ≡ false → Leaves (Goal.flow_valued m) ss (Some t) None (Goal.node context.Flow) (state.FlowMappingKey ∷ ss)
-flow_valued_node c ss t a = leaves_so 1 (λ n f. ((f, n), (refl, refl))) (λ f. refl) (λ f u r m. flow_valued_node_from c ss u m) (λ f r m. flow_valued_node_on c ss t a (r 9)) refl (λ f. alike refl refl) (λ f h. inl h)
+flow_valued_node c ss t a = leaves_so 1 (λ n f. ((f, n), (refl, refl))) (λ f. refl) (λ f u r m. grind arith) (λ f r m. let h = r 9 in grind arith) refl (λ f. alike refl refl) (λ f h. inl h)
 
 pub flow_empties : (ss : List State) (t : Tok) → Leaves Goal.flow_empty ss (Some t) (Some nothing_written) Goal.done (state.FlowMappingKey ∷ ss)
 flow_empties ss t = leaves_so 2 (λ n f. ((f, n), tt)) (λ f. refl) (λ f u r m. refl) (λ f r m. refl) refl (λ f. alike refl refl) (λ f h. inl h)

@@ -2,7 +2,6 @@ pub mod Common
 mod PositionRows
 mod RefusedRows
 mod TrackRows
-pub mod Apart
 pub mod Block
 pub mod CameBy
 pub mod Carry
@@ -15,7 +14,6 @@ pub mod Flow
 pub mod Mended
 pub mod Nodes
 pub mod OnePlacing
-pub mod Orderly
 pub mod Places
 pub mod Quiet
 pub mod Runs

@@ -1,6 +1,6 @@
 -- The turns in nodes.
 use Rattle.std.proofs.Math.Bool.{or-true}
-use Rattle.model_parser.proofs.Common.{alike, anchor_of, anchored, anchored_tagged, ap, before, begins_content, begins_node, Bool, both_ways, cases, context_at, event_of, false, Goal, goal_and, grammar, Held, in_block, in_flow, in_pair, inl, is_in_mapping, is_past_directives, is_under, Kind, kind_of, Leaves, List, may_begin, may_begin_content, narrows, NodeContext, None, not, nothing_held, Option, past, perhaps_anchor_of, perhaps_tag_of, Place, place_of, Properties, Raw, read, refl, Refuses, row_of, saying, show, Some, State, Style, subst, sym, Tag, tag_of, tag_token, tagged, tagged_anchored, Takes, takes, then_in, Tok, true, with_properties, work_of, Works, works, ℕ, ◌||◌, ◌∙◌, ◌∷◌, ◌≡◌, ◌≢◌}
+use Rattle.model_parser.proofs.Common.{arith, alike, anchor_of, anchored, anchored_tagged, ap, before, begins_content, begins_node, Bool, both_ways, cases, context_at, event_of, false, Goal, goal_and, grammar, Held, in_block, in_flow, in_pair, inl, is_in_mapping, is_past_directives, is_under, Kind, kind_of, Leaves, List, may_begin, may_begin_content, narrows, NodeContext, None, not, nothing_held, Option, past, perhaps_anchor_of, perhaps_tag_of, Place, place_of, Properties, Raw, read, refl, Refuses, row_of, saying, show, Some, State, Style, subst, sym, Tag, tag_of, tag_token, tagged, tagged_anchored, Takes, takes, then_in, Tok, true, with_properties, work_of, Works, works, ℕ, ◌||◌, ◌∙◌, ◌∷◌, ◌≡◌, ◌≢◌}
 use Rattle.model_parser.proofs.StepRows.{Reads, by_row, takes_so, refuses, Leads, leaves_so}
 use Rattle.model_parser.proofs.Settling.{no_content, content_refuses, closes_so, none_begins, empty_content, under_goes, under_other, under_past, under_any, under_reads, past_alike, next_alike, then_works}
 use Rattle.defs_event.specs.Grammar as table
@@ -15,20 +15,11 @@ shows_and : (ss : List State) (h : Held) (t : Tok) (g : table.Goal) → before g
 shows_and ss h t g = ap (λ (w : Works). saying (event_of h t) ∷ goal_and g w) (then_works ss h t)
 
 narrows_itself : (p c : NodeContext) → c ≡ p → narrows p c ≡ true
-narrows_itself p c e = subst (λ c. narrows p c ≡ true) (sym e) (by p)
-  where
-    by : (p : NodeContext) → narrows p p ≡ true
-    by context.Flow = refl
-    by context.Block = refl
-    by context.Part = refl
+narrows_itself p c e = grind arith
 
 -- After properties, anything may come that may come after the node.
 all_begin : (p c : NodeContext) (k : Kind) → c ≡ p → (begins_content p k || not (begins_content c k)) ≡ true
-all_begin p c k e = subst (λ c. (begins_content p k || not (begins_content c k)) ≡ true) (sym e) (by (begins_content p k))
-  where
-    by : (b : Bool) → (b || not b) ≡ true
-    by true = refl
-    by false = refl
+all_begin p c k e = grind arith
 
 -- ---- a node
 
@@ -41,20 +32,8 @@ node_anchor p ss a = takes_so (λ n f. (n, f)) (λ f. (refl, (λ k. refl), by_ro
 pub node_tag : (p : NodeContext) (ss : List State) (t : Tag) → Takes (Goal.node p) ss (tag_token t) None (Goal.after_tag p t) ss
 node_tag p ss t = takes_so (λ n f. (n, f)) (λ f. (refl, (λ k. refl), by_row _ refl refl)) refl (λ f. refl) (λ f. refl)
 
-node_from : (p : NodeContext) (ss : List State) (u : Tok) → begins_content p (kind_of u) ≡ true → Leads 1 (Goal.node p) ss None (Goal.after_properties p None) ss u
-node_from context.Flow ss (Tok.alias n) m = cc
-node_from context.Block ss (Tok.alias n) m = cc
-node_from context.Part ss (Tok.alias n) m = cc
-node_from p ss u m = cc
-
-node_on : (p : NodeContext) (ss : List State) (t : Tok) → kind_of t ≢ kind.Alias → kind_of t ≢ kind.Anchor → kind_of t ≢ kind.Tag → begins_node p (kind_of t) ≡ true → Leads 1 (Goal.node p) ss None (Goal.after_properties p None) ss t
-node_on p ss (Tok.alias n) a b d m = absurd (a refl)
-node_on p ss (Tok.anchor n) a b d m = absurd (b refl)
-node_on p ss (Tok.tag x y) a b d m = absurd (d refl)
-node_on p ss t a b d m = cc
-
 pub node_content : (p : NodeContext) (ss : List State) (t : Tok) → kind_of t ≢ kind.Alias → kind_of t ≢ kind.Anchor → kind_of t ≢ kind.Tag → Leaves (Goal.node p) ss (Some t) None (Goal.after_properties p None) ss
-node_content p ss t a b d = leaves_so 1 (λ n f. (n, (f.0, narrows_itself p _ f.1))) (λ f. refl) (λ f u r m. node_from p ss u m) (λ f r m. node_on p ss t a b d m) refl (λ f. alike refl refl) (λ f h. inl h)
+node_content p ss t a b d = leaves_so 1 (λ n f. (n, (f.0, narrows_itself p _ f.1))) (λ f. refl) (λ f u r m. grind arith) (λ f r m. grind arith) refl (λ f. alike refl refl) (λ f h. inl h)
 
 -- ---- after an anchor, or a tag
 
@@ -67,8 +46,7 @@ no_property k p o ss u f r e =
 
 anchor_leads : (p : NodeContext) (ss : List State) (a : List ℕ) (t : Tok) → kind_of t ≢ kind.Tag → may_begin (Goal.after_properties p (Some (anchored a))) ss (kind_of t) ≡ true
     → Leads 1 (Goal.after_anchor p a) ss None (Goal.after_properties p (Some (anchored a))) ss t
-anchor_leads p ss a (Tok.tag x y) n m = absurd (n refl)
-anchor_leads p ss a t n m = cc
+anchor_leads p ss a t n m = grind arith
 
 pub anchor_tag : (p : NodeContext) (ss : List State) (a : List ℕ) (t : Tag) → Takes (Goal.after_anchor p a) ss (tag_token t) None (Goal.after_properties p (Some (anchored_tagged a t))) ss
 anchor_tag p ss a t = takes_so (λ n f. (n, (f.0, narrows_itself p _ f.1))) (λ f. (refl, (λ k. all_begin p _ k f.1), by_row _ refl refl)) refl (λ f. refl) (λ f. refl)
@@ -79,8 +57,7 @@ anchor_alone p ss a t d = leaves_so 1 (λ n f. (n, (f.0, narrows_itself p _ f.1)
 
 tag_leads : (p : NodeContext) (ss : List State) (x : Tag) (t : Tok) → kind_of t ≢ kind.Anchor → may_begin (Goal.after_properties p (Some (tagged x))) ss (kind_of t) ≡ true
     → Leads 1 (Goal.after_tag p x) ss None (Goal.after_properties p (Some (tagged x))) ss t
-tag_leads p ss x (Tok.anchor a) n m = absurd (n refl)
-tag_leads p ss x t n m = cc
+tag_leads p ss x t n m = grind arith
 
 pub tag_anchor : (p : NodeContext) (ss : List State) (t : Tag) (a : List ℕ) → Takes (Goal.after_tag p t) ss (Tok.anchor a) None (Goal.after_properties p (Some (tagged_anchored t a))) ss
 tag_anchor p ss t a = takes_so (λ n f. (n, (f.0, narrows_itself p _ f.1))) (λ f. (refl, (λ k. all_begin p _ k f.1), by_row _ refl refl)) refl (λ f. refl) (λ f. refl)
@@ -92,12 +69,10 @@ tag_alone p ss t u d = leaves_so 1 (λ n f. (n, (f.0, narrows_itself p _ f.1))) 
 -- ---- a content
 
 own_begins : (p : NodeContext) (o : Option Properties) (c : NodeContext) (k : Kind) → begins_content p k ≡ true → may_begin_content p o c k ≡ true
-own_begins p None c k h = h
-own_begins p (Some o) c k h = ap (λ b. b || not (begins_content c k)) h
+own_begins p o c k h = grind arith
 
 in_mapping : (ss : List State) → narrows context.Part (context_at (place_of ss)) ≡ true → is_in_mapping ss ≡ true
-in_mapping (state.BlockMappingKey ∷ ss) h = refl
-in_mapping ss h = cc
+in_mapping ss h = grind arith
 
 dash_reads : (ss : List State) (o : Option Properties) → narrows context.Part (context_at (place_of ss)) ≡ true
     → Reads (work_of (Goal.after_properties context.Part o) ss) Tok.block_entry (Some (Raw.indentless_sequence_start (perhaps_anchor_of o) (perhaps_tag_of o))) (work_of Goal.done (state.IndentlessSequenceItem ∷ ss))
@@ -109,57 +84,37 @@ pub after_dash : (ss : List State) (o : Option Properties) → Takes (Goal.after
 after_dash ss o = takes_so (λ n f. ((in_mapping ss f.1, n), tt)) (λ f. (own_begins context.Part o _ kind.BlockEntry refl, (λ k. refl), dash_reads ss o f.1)) refl (λ f. refl) (λ f. refl)
 
 part_is_block : (c : NodeContext) → narrows context.Part c ≡ true → narrows context.Block c ≡ true
-part_is_block context.Part h = refl
-part_is_block c h = cc
+part_is_block c h = grind arith
 
 part_back : (o : Option Properties) (c : NodeContext) (k : Kind) → narrows context.Part c ≡ true → may_begin_content context.Block o c k ≡ true → may_begin_content context.Part o c k ≡ true
-part_back None c kind.Scalar h m = refl
-part_back None c k h m = cc
-part_back (Some o) context.Part kind.Scalar h m = refl
-part_back (Some o) c k h m = cc
+part_back o c k h m = grind arith
 
 part_on : (o : Option Properties) (c : NodeContext) (k : Kind) → narrows context.Part c ≡ true → k ≢ kind.BlockEntry → may_begin_content context.Part o c k ≡ true → may_begin_content context.Block o c k ≡ true
-part_on None c kind.BlockEntry h a m = absurd (a refl)
-part_on None c k h a m = cc
-part_on (Some o) context.Part kind.BlockEntry h a m = absurd (a refl)
-part_on (Some o) c k h a m = cc
+part_on o c k h a m = grind arith
 
 pub part_block : (ss : List State) (o : Option Properties) (t : Tok) → kind_of t ≢ kind.BlockEntry → Leaves (Goal.after_properties context.Part o) ss (Some t) None (Goal.after_properties context.Block o) ss
 part_block ss o t a = leaves_so 0 (λ n f. (n, (f.0, part_is_block _ f.1))) (λ f. refl) (λ f u r m. cc (m, part_back o (context_at (place_of ss)) (kind_of u) f.1 m)) (λ f r m. cc (m, part_on o (context_at (place_of ss)) (kind_of t) f.1 a m)) refl
     (λ f. alike (next_alike context.Part context.Block o) refl) (λ f h. inl (past_alike context.Part context.Block o ss ∙ h))
 
 block_row : (p : Place) → narrows context.Block (context_at p) ≡ true → row_of (cases (table.content p)) Tok.block_sequence_start ≡ Some (takes (show ∷ read table.block_sequence_entries ∷ then_in p))
-block_row in_block h = refl
-block_row (in_pair s) h = refl
-block_row in_flow h = cc
+block_row p h = grind arith
 
 pub after_sequence : (ss : List State) (o : Option Properties) → Takes (Goal.after_properties context.Block o) ss Tok.block_sequence_start (Some (Raw.sequence_start (perhaps_anchor_of o) (perhaps_tag_of o))) Goal.done (state.BlockSequenceEntry ∷ ss)
 after_sequence ss o = takes_so (λ n f. ((f.0, n), tt))
     (λ f. (own_begins context.Block o _ kind.BlockSequenceStart refl, (λ k. refl), by_row _ (block_row (place_of ss) f.1) (shows_and ss (with_properties o) Tok.block_sequence_start table.block_sequence_entries))) refl (λ f. refl) (λ f. refl)
 
 mapping_row : (p : Place) → narrows context.Block (context_at p) ≡ true → row_of (cases (table.content p)) Tok.block_mapping_start ≡ Some (takes (show ∷ read table.block_mapping_entries ∷ then_in p))
-mapping_row in_block h = refl
-mapping_row (in_pair s) h = refl
-mapping_row in_flow h = cc
+mapping_row p h = grind arith
 
 pub after_mapping : (ss : List State) (o : Option Properties) → Takes (Goal.after_properties context.Block o) ss Tok.block_mapping_start (Some (Raw.mapping_start (perhaps_anchor_of o) (perhaps_tag_of o))) Goal.done (state.BlockMappingKey ∷ ss)
 after_mapping ss o = takes_so (λ n f. ((f.0, n), tt))
     (λ f. (own_begins context.Block o _ kind.BlockMappingStart refl, (λ k. refl), by_row _ (mapping_row (place_of ss) f.1) (shows_and ss (with_properties o) Tok.block_mapping_start table.block_mapping_entries))) refl (λ f. refl) (λ f. refl)
 
 flow_back : (o : Option Properties) (c : NodeContext) (k : Kind) → narrows context.Block c ≡ true → may_begin_content context.Flow o c k ≡ true → may_begin_content context.Block o c k ≡ true
-flow_back None c kind.Scalar h m = refl
-flow_back None c k h m = cc
-flow_back (Some o) context.Part kind.Scalar h m = refl
-flow_back (Some o) context.Block kind.Scalar h m = refl
-flow_back (Some o) c k h m = cc
+flow_back o c k h m = grind arith
 
 flow_on : (o : Option Properties) (c : NodeContext) (k : Kind) → narrows context.Block c ≡ true → k ≢ kind.BlockSequenceStart → k ≢ kind.BlockMappingStart → may_begin_content context.Block o c k ≡ true → may_begin_content context.Flow o c k ≡ true
-flow_on o c kind.BlockSequenceStart h a b m = absurd (a refl)
-flow_on o c kind.BlockMappingStart h a b m = absurd (b refl)
-flow_on None c k h a b m = cc
-flow_on (Some o) context.Part kind.Scalar h a b m = refl
-flow_on (Some o) context.Block kind.Scalar h a b m = refl
-flow_on (Some o) c k h a b m = cc
+flow_on o c k h a b m = grind arith
 
 pub block_flow : (ss : List State) (o : Option Properties) (t : Tok) → kind_of t ≢ kind.BlockSequenceStart → kind_of t ≢ kind.BlockMappingStart → Leaves (Goal.after_properties context.Block o) ss (Some t) None (Goal.after_properties context.Flow o) ss
 block_flow ss o t a b = leaves_so 0 (λ n f. (n, (f.0, refl))) (λ f. refl) (λ f u r m. cc (m, flow_back o (context_at (place_of ss)) (kind_of u) f.1 m)) (λ f r m. cc (m, flow_on o (context_at (place_of ss)) (kind_of t) f.1 a b m)) refl
@@ -181,9 +136,7 @@ only_leads ss o t f b =
     cc (empty_content ss (with_properties (Some o)) t b, may, under_any ss f (kind_of t))
 
 no_such : (x y : Bool) → x ≡ false → (x || not y) ≡ true → y ≡ false
-no_such x false a m = refl
-no_such false true a m = cc
-no_such true true a m = cc
+no_such x y a m = grind arith
 
 pub properties_only : (ss : List State) (o : Properties) (t : Tok) → begins_content context.Flow (kind_of t) ≡ false → Leaves (Goal.after_properties context.Flow (Some o)) ss (Some t) (Some (Raw.empty_scalar (anchor_of o) (tag_of o))) Goal.done ss
 properties_only ss o t a = leaves_so 2 (λ n f. (n, under_goes ss f.0)) (λ f. under_reads ss f.0) (λ f u r m. only_leads ss o u f.0 (no_content (context_at (place_of ss)) (kind_of u) (none_begins ss u f.0 (closes_so ss u f.0 (r 9)))))

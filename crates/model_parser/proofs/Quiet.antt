@@ -1,5 +1,5 @@
 -- What a parser still has to read has no event that is due at a place: that of the end of a single pair is promised nowhere.
-use Rattle.model_parser.proofs.Common.{[], ap, before, Bool, false, Goal, grammar, Held, List, None, Option, Part, past, placed, placed_before, placed_by, Position, position_at, Raw, reading, refl, saying, State, Token, true, work_of, Works, works, ◌++◌, ◌∙◌, ◌∷◌, ◌≡◌}
+use Rattle.model_parser.proofs.Common.{arith, [], ap, before, Bool, false, Goal, grammar, Held, List, None, Option, Part, past, placed, placed_before, placed_by, Position, position_at, Raw, reading, refl, saying, State, Token, true, work_of, Works, works, ◌++◌, ◌∙◌, ◌∷◌, ◌≡◌}
 use Rattle.defs_event.specs.Grammar.{Goal as Read}
 use Rattle.model_parser.proofs.Places.{plain_work}
 use Rattle.model_parser.proofs.Completions.{before_along}
@@ -12,29 +12,17 @@ is_quiet (saying Raw.pair_end ∷ w) = is_quiet w
 is_quiet (saying e ∷ w) = false
 
 past_quiet : (ss : List State) → is_quiet (works ss) ≡ true → is_quiet (past ss (works ss)) ≡ true
-past_quiet (state.BlockMappingKey ∷ ss) q = q
-past_quiet ss q = q
+past_quiet ss q = grind arith
 
 state_quiet : (s : State) (ss : List State) → is_quiet (works ss) ≡ true → is_quiet (works (s ∷ ss)) ≡ true
-state_quiet state.BlockNode ss q = past_quiet ss q
-state_quiet state.IndentlessSequenceEntry ss q = past_quiet ss q
-state_quiet state.IndentlessSequenceItem ss q = past_quiet ss q
-state_quiet state.BlockMappingPart ss q = past_quiet ss q
-state_quiet s ss q = q
+state_quiet s ss q = let h = past_quiet ss q in grind arith
 
 works_quiet : (ss : List State) → is_quiet (works ss) ≡ true
 works_quiet [] = refl
 works_quiet (s ∷ ss) = state_quiet s ss (works_quiet ss)
 
 pub work_quiet : (g : Goal) (ss : List State) → is_quiet (work_of g ss) ≡ true
-work_quiet (Goal.node p) ss = past_quiet ss (works_quiet ss)
-work_quiet (Goal.after_anchor p a) ss = past_quiet ss (works_quiet ss)
-work_quiet (Goal.after_tag p t) ss = past_quiet ss (works_quiet ss)
-work_quiet (Goal.after_properties p o) ss = past_quiet ss (works_quiet ss)
-work_quiet Goal.indentless_entries ss = past_quiet ss (works_quiet ss)
-work_quiet Goal.indentless_entry ss = past_quiet ss (works_quiet ss)
-work_quiet Goal.part ss = past_quiet ss (works_quiet ss)
-work_quiet g ss = works_quiet ss
+work_quiet g ss = let q = works_quiet ss in let h = past_quiet ss q in grind arith
 
 -- So it is the same wherever its events would stand.
 pub quiet_placed : (k : Token) (b : Option Position) (w : Works) → is_quiet w ≡ true → placed_by (position_at k b) w ≡ placed w

@@ -1,5 +1,5 @@
 -- What may come behind a node, and what is read next.
-use Rattle.model_parser.proofs.Common.{[], and_parts, ap, before, begins_content, begins_node, Bool, both_ways, cases, context_at, empty, empty_event, ends_document, ends_entry, ends_flow_key, ends_flow_pair, ends_indentless_entry, ends_item, ends_item_key, ends_part, false, Goal, goal_and, grammar, Held, in_block, in_flow, in_pair, is_directive, is_in_mapping, is_node, is_over_document, is_past_directives, is_under, IsFor, IsGoing, IsNested, keep, Kind, kind_of, Leaves, leaves, List, may_begin, MayCome, next_at, next_in, NodeContext, None, not, nothing_held, nothing_written, open_at, Option, other_next, past, Place, place_of, Position, Properties, reading, refl, row_of, Settles, Some, State, step, sym, then_in, Tok, true, without_node, work_of, Works, works, ◌&&◌, ◌∙◌, ◌∷◌, ◌≡◌, ◌⊎◌, IsNoDirective}
+use Rattle.model_parser.proofs.Common.{arith, [], and_parts, ap, before, begins_content, begins_node, Bool, both_ways, cases, context_at, empty, empty_event, ends_document, ends_entry, ends_flow_key, ends_flow_pair, ends_indentless_entry, ends_item, ends_item_key, ends_part, false, Goal, goal_and, grammar, Held, in_block, in_flow, in_pair, is_directive, is_in_mapping, is_node, is_over_document, is_past_directives, is_under, IsFor, IsGoing, IsNested, keep, Kind, kind_of, Leaves, leaves, List, may_begin, MayCome, next_at, next_in, NodeContext, None, not, nothing_held, nothing_written, open_at, Option, other_next, past, Place, place_of, Position, Properties, reading, refl, row_of, Settles, Some, State, step, sym, then_in, Tok, true, without_node, work_of, Works, works, ◌&&◌, ◌∙◌, ◌∷◌, ◌≡◌, ◌⊎◌, IsNoDirective}
 use Rattle.model_parser.proofs.StepRows.{has_goal, is_going, Leads, leads_stay, leave_row, leaves_so, may_come, refuse_row, refuses, steps}
 use Rattle.defs_event.specs.Grammar as table
 use Rattle.model_parser.specs.declared.kind.Kind.TheVariants as kind
@@ -8,45 +8,36 @@ use Rattle.model_parser.specs.declared.state.State.TheVariants as state
 -- ---- under a node
 
 pub under_goes : (ss : List State) → is_under ss ≡ true → IsGoing ss
-under_goes [] h = cc
-under_goes (s ∷ ss) h = tt
+under_goes ss h = grind arith
 
 pub under_other : (ss : List State) → is_under ss ≡ true → other_next ≡ next_at Goal.done ss
-under_other (state.DocumentEnd ∷ ss) h = refl
-under_other ss h = cc
+under_other ss h = grind arith
 
 pub under_past : (ss : List State) → is_under ss ≡ true → is_past_directives Goal.done ss ≡ false
-under_past (state.DocumentEnd ∷ ss) h = refl
-under_past ss h = cc
+under_past ss h = grind arith
 
 pub under_any : (ss : List State) → is_under ss ≡ true → (k : Kind) → may_begin Goal.done ss k ≡ true
-under_any (state.DocumentEnd ∷ ss) h k = refl
-under_any ss h k = cc
+under_any ss h k = grind arith
 
 pub under_reads : (ss : List State) → is_under ss ≡ true → has_goal (works ss) ≡ true
-under_reads (state.DocumentEnd ∷ ss) h = refl
-under_reads ss h = cc
+under_reads ss h = grind arith
 
 -- where a mapping goes on, no document's node is read
 pub mapping_no_document : (ss : List State) → is_in_mapping ss ≡ true → is_over_document ss ≡ false
-mapping_no_document (state.BlockMappingKey ∷ ss) h = refl
-mapping_no_document ss h = cc
+mapping_no_document ss h = grind arith
 
 pub mapping_under : (ss : List State) → is_in_mapping ss ≡ true → is_under ss ≡ true
-mapping_under (state.BlockMappingKey ∷ ss) h = refl
-mapping_under ss h = cc
+mapping_under ss h = grind arith
 
 -- after a node, what goes on with these
 pub then_works : (ss : List State) (h : Held) (t : Tok) → before grammar h t (then_in (place_of ss)) (past ss (works ss)) ≡ works ss
-then_works (state.BlockMappingKey ∷ ss) h t = refl
-then_works ss h t = refl
+then_works ss h t = grind arith
 
 pub past_alike : (p q : NodeContext) (o : Option Properties) (ss : List State) → is_past_directives (Goal.after_properties p o) ss ≡ is_past_directives (Goal.after_properties q o) ss
 past_alike p q a ss = cc
 
 pub no_directive : (k : Kind) → ends_document k ≡ true → is_directive k ≡ false
-no_directive kind.DocumentStart h = refl
-no_directive k h = cc
+no_directive k h = grind arith
 
 -- what comes does not depend on the context
 pub next_alike : (p q : NodeContext) (o : Option Properties) → next_in (Goal.after_properties p o) ≡ next_in (Goal.after_properties q o)
@@ -95,21 +86,14 @@ pub none_begins : (ss : List State) (t : Tok) → is_under ss ≡ true → close
 none_begins ss t h c = ap (λ b. b && begins_node (context_at (place_of ss)) (kind_of t)) (sym c) ∙ (closed ss h t).2
 
 pub no_content : (p : NodeContext) (k : Kind) → begins_node p k ≡ false → begins_content p k ≡ false
-no_content p kind.Alias b = cc
-no_content p kind.Anchor b = cc
-no_content p kind.Tag b = cc
-no_content p k b = b
+no_content p k b = grind arith
 
 -- A token that begins no node, or no content, is left, and the node is empty.
 node_row : (p : Place) (t : Tok) → begins_node (context_at p) (kind_of t) ≡ false → row_of (cases (table.node p)) t ≡ Some (leaves (keep (table.content p) ∷ []))
-node_row p (Tok.alias n) b = cc
-node_row p t b = cc
+node_row p t b = grind arith
 
 content_row : (p : Place) (t : Tok) → begins_content (context_at p) (kind_of t) ≡ false → row_of (cases (table.content p)) t ≡ Some (leaves (empty ∷ then_in p))
-content_row in_flow Tok.block_end b = refl
-content_row in_block Tok.block_end b = refl
-content_row (in_pair s) Tok.block_end b = refl
-content_row p t b = cc
+content_row p t b = grind arith
 
 pub empty_content : (ss : List State) (h : Held) (t : Tok) → begins_content (context_at (place_of ss)) (kind_of t) ≡ false
     → steps 2 t (reading (table.content (place_of ss)) h ∷ past ss (works ss)) ≡ (empty_event h ∷ [], works ss)
@@ -197,13 +181,10 @@ comes_so g ss t h =
     (c.0, c.1, (c.2, both.1))
 
 pub flow_valued_goes : (m : Position) (ss : List State) (t : Tok) → ends_flow_pair (kind_of t) ≡ true → GoesFrom (Goal.flow_valued m) ss t
-flow_valued_goes m ss Tok.flow_entry h = refl
-flow_valued_goes m ss t h = cc
+flow_valued_goes m ss t h = grind arith
 
 pub explicit_goes : (ss : List State) (t : Tok) → ends_document (kind_of t) ≡ true → GoesFrom Goal.documents ss t
-explicit_goes ss Tok.stream_end h = refl
-explicit_goes ss t h = cc
+explicit_goes ss t h = grind arith
 
 pub directive_goes : (ss : List State) (t : Tok) → is_directive (kind_of t) ≡ true → GoesFrom Goal.documents ss t
-directive_goes ss (Tok.version_directive m n) h = refl
-directive_goes ss t h = cc
+directive_goes ss t h = grind arith

@@ -1,5 +1,5 @@
 -- What is awaited goes on to an end whose events can be named: so no fault is late.
-use Rattle.yaml_parser.proofs.Common.{arith, [], after_text_events, anchor_of, and_from, and_parts, ap, Awaits, Bool, both, Directive, end_events, end_tokens, ends_so, Ev, false, first_any, first_may, Goal, goes_so, Held, if◌then◌else◌, in_pair, IsPending, IsSome, key, List, may_begin, named, Names, names_after, None, nothing_held, number, Option, option_map, past, past_tokens, perhaps_resolved, Place, Raw, reading, refl, resolved, resolved_event, saying, grammar_completes, Some, State, Style, text, text_event, Tok, true, work_of, Works, works, ◌&&◌, ◌++◌, ◌∙◌, ◌∷◌, ◌≡◌}
+use Rattle.yaml_parser.proofs.Common.{arith, [], after_text_events, anchor_of, and_from, and_parts, ap, Awaits, Bool, both, Directive, end_events, end_tokens, ends_so, Ev, false, first_any, first_may, Goal, goes_so, Held, if◌then◌else◌, in_pair, IsPending, IsSome, List, may_begin, named, Names, names_after, None, nothing_held, number, Option, option_map, past, past_tokens, perhaps_resolved, Place, Raw, reading, refl, resolved, resolved_event, saying, grammar_completes, Some, State, Style, text, text_event, Tok, true, work_of, Works, works, ◌&&◌, ◌++◌, ◌∙◌, ◌∷◌, ◌≡◌}
 use Rattle.defs_event.specs.Properties.{tag_of}
 use Rattle.yaml_parser.proofs.DirectiveLemmas.{some_map}
 use Rattle.model_parser.specs.Rest.{place_of as where_it_stands}
@@ -44,23 +44,18 @@ abbrev pub are_free : List Raw → Bool
 are_free [] = true
 are_free (e ∷ es) = is_free e && are_free es
 
-free_resolves : (s : Names) (e : Raw) → is_free e ≡ true → (v : Ev) × (resolved_event s e ≡ Some v)
-free_resolves s (Raw.document_start (d ∷ ds)) h = cc
-free_resolves s (Raw.scalar x y a (Some t)) h = cc
-free_resolves s (Raw.empty_scalar a (Some t)) h = cc
-free_resolves s (Raw.alias n) h = cc
-free_resolves s (Raw.flow_sequence_start a t) h = cc
-free_resolves s (Raw.sequence_start a t) h = cc
-free_resolves s (Raw.indentless_sequence_start a t) h = cc
-free_resolves s (Raw.flow_mapping_start a t) h = cc
-free_resolves s (Raw.mapping_start a t) h = cc
-free_resolves s _ h = (_, refl)
+is_some_value : {A : Type 0} (o : Option A) → IsSome o → (x : A) × (o ≡ Some x)
+is_some_value None h = cc
+is_some_value (Some x) h = (x, refl)
+
+free_some : (s : Names) (e : Raw) → is_free e ≡ true → IsSome (resolved_event s e)
+free_some s e h = grind arith
 
 pub free_named : (keep : Bool) (es : List Raw) → are_free es ≡ true → AnyNameable keep es
 free_named keep [] h s = ([], refl)
 free_named keep (e ∷ es) h s =
     let p = and_parts (is_free e) (are_free es) h in
-    name_one keep s e es (free_resolves s e p.0).1 (free_named keep es p.1)
+    name_one keep s e es (is_some_value (resolved_event s e) (free_some s e p.0)).1 (free_named keep es p.1)
 
 -- Of work on a stack all holds nothing, and what is said is the end of a pair.
 abbrev is_quiet : Raw → Bool
@@ -100,15 +95,10 @@ plain_free (reading g x ∷ w) h =
     goal_free g x (end_events w) p.0 q.0 (plain_free w q.1)
 
 past_plain : (ss : List State) → is_plain (works ss) ≡ true → is_plain (past ss (works ss)) ≡ true
-past_plain (state.BlockMappingKey ∷ ss) h = h
-past_plain ss h = h
+past_plain ss h = grind arith
 
 state_plain : (s : State) (ss : List State) → is_plain (works ss) ≡ true → is_plain (works (s ∷ ss)) ≡ true
-state_plain state.BlockNode ss h = past_plain ss h
-state_plain state.IndentlessSequenceEntry ss h = past_plain ss h
-state_plain state.IndentlessSequenceItem ss h = past_plain ss h
-state_plain state.BlockMappingPart ss h = past_plain ss h
-state_plain s ss h = h
+state_plain s ss h = let q = past_plain ss h in grind arith
 
 pub works_plain : (ss : List State) → is_plain (works ss) ≡ true
 works_plain [] = refl
@@ -119,10 +109,6 @@ past_free ss = plain_free (past ss (works ss)) (past_plain ss (works_plain ss))
 
 pub works_free : (ss : List State) → are_free (end_events (works ss)) ≡ true
 works_free ss = plain_free (works ss) (works_plain ss)
-
-is_some_value : {A : Type 0} (o : Option A) → IsSome o → (x : A) × (o ≡ Some x)
-is_some_value None h = cc
-is_some_value (Some x) h = (x, refl)
 
 -- A node's text with what is held before it, and all after it.
 text_named : (ss : List State) (keep : Bool) (s : Names) (h : Held) → IsSome (perhaps_resolved s.handles h.tag)

@@ -96,8 +96,7 @@ pub none_if : {A : Type 0} (o : Option A) → is_some o ≡ false → o ≡ None
 none_if o h = grind arith
 
 of_if : {A B : Type 0} (f : A → B) (b : Bool) (x y : A) → f (if b then x else y) ≡ (if b then f x else f y)
-of_if f true x y = refl
-of_if f false x y = refl
+of_if f b x y = grind arith
 
 -- Every declaration is numbered, also after one more.
 numbered_by : (b : Bool) (d : Declaration) (o : Option Declaration) (n : ℕ) → d.number ≡ n + 1 → IfSome o (λ e. e.number ≤ n) → IfSome (if b then Some d else o) (λ e. e.number ≤ n + 1)

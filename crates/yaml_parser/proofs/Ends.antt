@@ -1,12 +1,11 @@
 -- The shortest way to the end from each position: so no fault is late.
-use Rattle.yaml_parser.proofs.Common.{[], all_shown, ap, append_assoc, as_tokens, At, at_directive, BeginAt, Bool, both_some, both_ways, Derives, Ev, events_of, false, Faulted, first_may, fits, Goal, goal_of, GoesOn, grammar, has_goal, IfSome, inl, is_after, is_of_names, is_over, IsCause, IsDerived, IsFor, IsOfKind, IsPending, IsSettled, Kind, kind_of, last_position, List, map-append, named, Names, names_after, names_by, needs_tokens, next_after, next_at, no_names, None, nowhere, Option, option_map, other_next, peeked_tok, plain_placed, Position, Problem, problem_of, Raw, raws_of, Reader, refl, Refuses, resolved_event, scanned, shown, shown_list, Some, StandsApart, StandsBefore, State, stood, StreamPlaces, StreamSays, subst, sym, taken_toks, to_end, Tok, tok_of, Token, token_at, toks, top, true, with_positions, work_of, ◌++◌, ◌∙◌, ◌∷◌, ◌≡◌}
+use Rattle.yaml_parser.proofs.Common.{[], all_shown, ap, append_assoc, as_tokens, At, at_directive, BeginAt, Bool, both_some, both_ways, Derives, Ev, events_of, false, Faulted, first_may, fits, Goal, goal_of, GoesOn, grammar, has_goal, IfSome, inl, is_after, is_of_names, is_over, IsCause, IsDerived, IsFor, IsOfKind, IsPending, IsSettled, Kind, kind_of, last_position, List, map-append, named, Names, names_after, names_by, needs_tokens, next_after, next_at, no_names, None, nowhere, Option, option_map, other_next, peeked_tok, plain_placed, Position, Problem, problem_of, Raw, raws_of, Reader, refl, Refuses, resolved_event, scanned, shown, shown_list, Some, StandsApart, StandsBefore, State, stood, StreamPlaces, StreamSays, subst, sym, taken_toks, to_end, Tok, tok_of, Token, token_at, toks, top, true, with_positions, work_of, ◌++◌, ◌∙◌, ◌∷◌, ◌≡◌, arith}
 use Rattle.model_parser.specs.Rest.{placed}
 use Rattle.yaml_parser.proofs.Completed.{completed}
 use Rattle.model_parser.specs.Stands.{IsNext as Begins1, goes_on}
 use Rattle.yaml_parser.proofs.Steps.{map_snoc, looked, if_some_at}
 use Rattle.yaml_parser.proofs.Positions.{stood_over}
 use Rattle.yaml_parser.proofs.Since.{since_append}
-use Rattle.model_parser.specs.declared.state.State.TheVariants as state
 use Rattle.defs_token.specs.Token as defs
 use Rattle.yaml_parser.specs.declared.tokens.Stop.TheVariants as stop
 use Rattle.yaml_tokens.specs.declared.problem.Fault.TheVariants as fault
@@ -14,8 +13,7 @@ use Rattle.yaml_tokens.specs.declared.problem.Fault.TheVariants as fault
 -- ---- what comes of the tokens
 
 pub state_pending : (s : State) (names : Names) → IsPending names (goal_of s)
-state_pending state.StreamStart n = tt
-state_pending _ n = tt
+state_pending s n = grind arith
 
 -- events that were not given, at positions
 abbrev at_places : List Ev → List (Raw × Position) → List (Ev × Position)
@@ -46,8 +44,7 @@ toks_at m (t ∷ ts) = ap (λ us. t ∷ us) (toks_at m ts)
 
 -- something is still to be read where a token was looked at
 state_reads : (s : State) (ss : List State) → has_goal (work_of Goal.done (s ∷ ss)) ≡ true
-state_reads state.StreamStart ss = refl
-state_reads _ ss = refl
+state_reads s ss = grind arith
 
 reads_on : (g : Goal) (ss : List State) → is_over g ≡ false → IsFor g ss → has_goal (work_of g ss) ≡ true
 reads_on Goal.done [] o f = absurd f

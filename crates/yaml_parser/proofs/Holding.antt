@@ -21,8 +21,7 @@ state_going : (s : State) → is_over (goal_of s) ≡ false
 state_going s = grind arith
 
 state_seen : (s : State) (keep : Bool) (names : Names) → names_at keep (goal_of s) names ≡ names
-state_seen state.StreamStart keep names = refl
-state_seen _ keep names = refl
+state_seen s keep names = grind arith
 
 popped : {T : Type 0} (p : Reader T) (s : State) (ss : List State) {names : Names} {given : List (Ev × Position)} → p.stack ≡ s ∷ ss → At Goal.done p names given → At (goal_of s) (record p { stack = ss }) names given
 popped {T} p s ss {names} {given} h a = record {
@@ -202,8 +201,7 @@ abbrev pub seen_of : {T : Type 0} → Reader T → Parsed → Parsed
 seen_of p v = record v { scanner = scanned p.tokens.scanner; keep_tags = p.names.keeping.tags; steady = p.names.keeping.steady; settings = p.names.keeping.settings.items }
 
 listed_shown : (o : Option Token) → listed (option_map shown o) ≡ shown_list o
-listed_shown None = refl
-listed_shown (Some t) = refl
+listed_shown o = grind arith
 
 -- the tokens handed out: those that were taken, and one that was looked at
 handed_all : {T : Type 0} {p : Reader T} {g : Goal} {names : Names} {es : List (Ev × Position)} → At g p names es → (scanned p.tokens.scanner).given ≡ all_shown p.tokens.taken.items ++ listed (option_map shown p.tokens.peeked)

@@ -41,8 +41,7 @@ unfolding string_chars
 nonempty_chars s h e = let f : true ≡ false = sym (ap is_empty e) ∙ is_nil_chars s ∙ h in cc
 
 pub resolved_empty : (handles : List (List ℕ × List ℕ)) (h x : List ℕ) → h ≡ [] → resolved handles (record { handle = h; suffix = x }) ≡ Some (record { handle = h; suffix = x })
-resolved_empty handles [] x e = refl
-resolved_empty handles (c ∷ cs) x e = cc
+resolved_empty handles h x e = grind arith
 
 pub resolved_nonempty : (handles : List (List ℕ × List ℕ)) (h x : List ℕ) (o : Option (List ℕ)) → h ≢ [] → under_name h handles ≡ o → resolved handles (record { handle = h; suffix = x }) ≡ option_map (λ p. record { handle = p; suffix = x }) (prefix_or_undeclared o h)
 resolved_nonempty handles [] x o a e = absurd (a refl)

@@ -1,11 +1,10 @@
 -- The arms of the productions of nodes.
-use Rattle.yaml_parser.proofs.Common.{arith, [], after_text, all_shown, answered, Answers, ap, append_assoc, At, Awaits, BeginAt, Bool, both, both_ways, cases, Derives, empty, empty_event, end_events, end_tokens, EndsInAnchor, Err, Ev, event_of, event_then, events_of, EventSlot, false, Faulted, fits, Goal, goal_after_event, goes_so, grammar, Has, HasNoText, HasUndeclaredHandle, HasUnknownAnchor, Held, IfSome, inl, inr, is_end, is_of_names, is_some, IsCause, IsDerived, IsNamed, IsOfKind, IsPending, IsSome, kept_tag, Kind, kind_of, last_position, Leaves, List, name_of, named, named_by, Names, names_after, names_by, needs_tokens, no_names, None, number, Ok, OnErr, OnOk, Option, option_map, OutOfMemory, past, peeked_tok, perhaps_anchor_of, perhaps_resolved, Place, placed, Position, Problem, Raw, Reader, reading, refl, Registers, resolved, resolved_event, Resolves, Result, Row, left_by, row_of, taken_by, said_by, scanned, show, shown, shown_list, Skips, SkipsOne, Some, StandsAt, State, Stop, StreamSays, Style, subst, sym, taken_toks, Takes, takes, text, Tok, tok_is, tok_of, tok_of_kind, Token, Tokens, toks, true, UndeclaredHandle, under_name, UnknownAnchor, with_anchor, Works, works, ℕ, ◌++◌, ◌∙◌, ◌∷◌, ◌≡◌, ◌≢◌, ◌⊎◌}
+use Rattle.yaml_parser.proofs.Common.{arith, [], all_shown, answered, Answers, ap, append_assoc, At, Awaits, BeginAt, Bool, both, both_ways, cases, Derives, empty, empty_event, EndsInAnchor, Err, Ev, event_of, event_then, events_of, EventSlot, false, Faulted, fits, Goal, goal_after_event, grammar, Has, HasNoText, HasUndeclaredHandle, HasUnknownAnchor, Held, IfSome, inl, inr, is_end, is_of_names, is_some, IsCause, IsDerived, IsNamed, IsOfKind, IsPending, IsSome, kept_tag, Kind, kind_of, last_position, Leaves, List, name_of, named, named_by, Names, names_after, names_by, needs_tokens, no_names, None, number, Ok, OnErr, OnOk, Option, option_map, OutOfMemory, peeked_tok, perhaps_anchor_of, perhaps_resolved, Place, placed, Position, Problem, Raw, Reader, reading, refl, Registers, resolved, resolved_event, Resolves, Result, Row, left_by, row_of, taken_by, said_by, scanned, show, shown, shown_list, Skips, SkipsOne, Some, StandsAt, State, Stop, StreamSays, Style, subst, sym, taken_toks, Takes, takes, Tok, tok_is, tok_of, tok_of_kind, Token, Tokens, toks, true, UndeclaredHandle, under_name, UnknownAnchor, with_anchor, Works, ℕ, ◌++◌, ◌∙◌, ◌∷◌, ◌≡◌, ◌≢◌, ◌⊎◌, next_after, node_next, other_next}
 use Rattle.defs_event.specs.Properties.{perhaps_tag_of}
 use Rattle.defs_event.specs.Names.{prefix_of}
-use Rattle.model_parser.specs.Rest.{place_of as where_it_stands}
 use Rattle.defs_event.specs.Table.{leaves}
 use Rattle.model_parser.specs.Stands.{IsNext as Starts}
-use Rattle.model_parser.proofs.Apart.{no_two_anchors}
+use Rattle.model_parser.proofs.Carry.{next_more}
 use Rattle.yaml_parser.specs.declared.node.Properties.{Properties}
 use Rattle.model_parser.proofs.OnePlacing.{some_is}
 use Rattle.yaml_parser.proofs.Steps.{looked, took, left, Named, breaks, map_snoc, if_some_at}
@@ -13,7 +12,7 @@ use Rattle.yaml_parser.proofs.Arms.{StandsHere, HasNoColon, here_at, under_no_co
 use Rattle.yaml_parser.proofs.Ends.{at_derived, StandsBeside, at_peeked}
 use Rattle.yaml_parser.proofs.Completed.{completed}
 use Rattle.yaml_parser.proofs.Since.{since_stops}
-use Rattle.yaml_parser.proofs.Ways.{apart_as, node_apart, node_ways, anchored_ways}
+use Rattle.yaml_parser.proofs.Ways.{apart_as, node_apart, node_ways, anchored_ways, node_comes}
 use Rattle.defs_token.specs.Token as defs
 use Rattle.yaml_tokens.specs.declared.problem.Fault.TheVariants as fault
 use Rattle.defs_event.specs.Event as event
@@ -283,17 +282,15 @@ anchor_named : (t : Tok) → kind_of t ≡ kind.Anchor → (n : List ℕ) × (t 
 anchor_named (Tok.anchor n) h = (n, refl)
 anchor_named _ h = cc
 
--- Where a node is to be read, no anchor was taken last.
+-- Where a node is to be read, no anchor was taken last: after one none begins.
 no_anchor_before : {T : Type 0} {p : Reader T} {m : Position} (w : positions.NodeContext) {names : Names} {given : List (Ev × Position)}
     → At (Goal.node w) p names given → EndsInAnchor (all_shown p.tokens.taken.items) m → ⊥
 no_anchor_before {T} {p} {m} w a e =
-    let d = a.stands.sound _ _ (goes_so (Goal.node w) p.stack (Tok.anchor []) [] refl refl) in
     let n = anchor_named e.anchor.tok e.is in
     let taken : taken_toks p.tokens ≡ toks e.before ++ Tok.anchor n.0 ∷ [] =
     ap toks e.whole ∙ map_snoc (λ (x : defs.Token). x.tok) e.before e.anchor ∙ ap (λ u. toks e.before ++ u ∷ []) n.1 in
-    let rest = text ∷ (after_text (where_it_stands p.stack) ++ end_tokens (past p.stack (works p.stack))) in
-    let says = end_events (reading (table.after_anchor (where_it_stands p.stack)) (record { anchor = Some []; tag = None; directives = [] }) ∷ past p.stack (works p.stack)) in
-    no_two_anchors (toks e.before) n.0 [] rest (a.raw ++ says) (subst (λ us. StreamSays us (a.raw ++ says)) (ap (λ xs. xs ++ Tok.anchor [] ∷ rest) taken ∙ append_assoc (toks e.before) (Tok.anchor n.0 ∷ []) (Tok.anchor [] ∷ rest)) d)
+    let no : other_next ≡ node_next = sym (next_more other_next (toks e.before) (Tok.anchor n.0)) ∙ ap (next_after other_next) (sym taken) ∙ node_comes a in
+    cc
 
 no_prefix : (x : event.Tag) (o : Option (List ℕ)) → option_map {U = event.Tag} (λ prefix. record { handle = prefix; suffix = x.suffix }) o ≡ None → o ≡ None
 no_prefix x o h = grind arith

@@ -1,5 +1,5 @@
 -- The tokens say which problem a refused token has.
-use Rattle.yaml_parser.proofs.Common.{[], ap, block_mapping, block_sequence, Collection, Directive, directive_next, Ev, false, flow_mapping, flow_sequence, Goal, goes_so, if◌then◌else◌, is_after, is_directive, is_in_mapping, is_over_document, is_under, IsBottom, IsNested, IsNoDirective, Kind, kind_of, List, Names, Next, next_after, next_at, none_by, node_next, None, open_after, open_at, open_under, Option, other_next, Position, Problem, problem_at, problem_for, problem_in, problem_of, Raw, Reader, refl, Some, State, StreamSays, subst, sym, taken_toks, Tok, top, true, ◌++◌, ◌∙◌, ◌∷◌, ◌≡◌, ◌≢◌}
+use Rattle.yaml_parser.proofs.Common.{[], ap, Collection, Directive, directive_next, Ev, false, Goal, goes_so, if◌then◌else◌, is_after, is_directive, is_in_mapping, is_over_document, is_under, IsBottom, IsNested, IsNoDirective, Kind, kind_of, List, Names, Next, next_after, next_at, none_by, node_next, None, open_after, open_at, open_under, Option, other_next, Position, Problem, problem_at, problem_for, problem_in, problem_of, Raw, Reader, refl, Some, State, StreamSays, subst, sym, taken_toks, Tok, top, true, ◌++◌, ◌∙◌, ◌∷◌, ◌≡◌, ◌≢◌, arith}
 use Rattle.yaml_parser.proofs.Ends.{Says}
 use Rattle.yaml_parser.proofs.Nesting.{nothing_taken}
 use Rattle.yaml_tokens.specs.declared.problem.Problem.TheVariants as problem
@@ -28,10 +28,7 @@ says_inside {T} {k} {g} {p} c inside a known t look kind =
     by_tokens (problem_in (c ∷ [])) (taken_toks p.tokens) t (known i.0 ∙ i.1) opens (λ e. let no : [] ≡ c ∷ open_under p.stack = open_is_none opens e in cc) (any c (open_under p.stack))
   where
     any : (x : Collection) (cs : List Collection) → problem_in (x ∷ []) ≡ problem_in (x ∷ cs)
-    any block_sequence cs = refl
-    any block_mapping cs = refl
-    any flow_sequence cs = refl
-    any flow_mapping cs = refl
+    any x cs = grind arith
 
 -- ---- where nothing is open
 
@@ -73,9 +70,7 @@ says_after {T} {k} {p} is a known t look kind =
 -- ---- where a node is read
 
 mapping_opens : (ss : List State) → is_in_mapping ss ≡ true → open_under ss ≢ []
-mapping_opens (state.BlockMappingKey ∷ ss) h e = cc
-mapping_opens (state.BlockMappingValue ∷ ss) h e = cc
-mapping_opens _ h e = cc
+mapping_opens ss h e = grind arith
 
 -- Where nothing is open, it is a document's.
 over_document : (ss : List State) → IsNested ss → is_under ss ≡ true → open_under ss ≡ [] → is_over_document ss ≡ true

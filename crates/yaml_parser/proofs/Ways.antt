@@ -114,7 +114,7 @@ goes_apart {T} {g} {p} w right a known =
     apart_as (ap (λ n. two_that_come n (open_after [] (taken_toks p.tokens))) (known r.0) ∙ ap (two_that_come (next_at g p.stack)) a.stands.opened ∙ r.1) w a
 
 -- Where a node is read, the tokens leave one to come.
-node_comes : {T : Type 0} {w : NodeContext} {p : Reader T} {names : Names} {given : List (Ev × Position)} → At (Goal.node w) p names given → next_after other_next (taken_toks p.tokens) ≡ node_next
+pub node_comes : {T : Type 0} {w : NodeContext} {p : Reader T} {names : Names} {given : List (Ev × Position)} → At (Goal.node w) p names given → next_after other_next (taken_toks p.tokens) ≡ node_next
 node_comes {T} {w} {p} a = by a.stands.settled
   where
     by : IsSettled (Goal.node w) p.stack (taken_toks p.tokens) (peeked_tok p.tokens) → next_after other_next (taken_toks p.tokens) ≡ node_next
