@@ -5,7 +5,7 @@
 use std::process::ExitCode;
 use std::{env, fs, io};
 use yaml_excerpt::Excerpt;
-use yaml_marked::{Marked, load_marked};
+use yaml_loader::marked::{Marked, load_marked};
 use yaml_rust2::scanner::Marker;
 
 #[derive(Drop)]

@@ -9,7 +9,7 @@ ghost use Rattle.yaml_rust2.specs.View.{view};
 use std::alloc::{AllocError, Global};
 use std::{env, fs, io};
 use thiserror::Error;
-use yaml_limits::{Limits, load_with_limits};
+use yaml_loader::limits::{Limits, load_with_limits};
 use yaml_paths::{FromYaml, ReadError, Step, read_optional, read_or};
 use yaml_rust2::Yaml;
 

@@ -1,2 +1,5 @@
 mod InsertedLemmas
+pub mod MergeKey
+pub mod MergeWritable
+pub mod PutLemmas
 mod WritableLemmas

@@ -1,6 +1,12 @@
 //! One tree laid over another, as settings are laid over their defaults.
 #![tactic(auto)]
 
+mod carry_out;
+mod error;
+mod find;
+pub mod laws;
+pub mod merge_keys;
+
 ghost use Rattle.std.specs.Prelude.{◌≡◌, [], true, IfOk, OnOk, OnErr};
 ghost use Rattle.defs_tree.specs.Overlay.{overlay, pairs_under, new_pairs};
 ghost use Rattle.defs_tree.specs.Pairs.{insert, AreDistinct};

@@ -1,6 +1,6 @@
 -- Layouts mean their trees.
 use Rattle.proof_loads.proofs.Common.{[], layout_tokens, LayoutsMeanTheirTrees, spell, tokens_read_as_their_trees, trees_of}
-use Rattle.proof_layout_tokens.proofs.Layouts.Texts.{layouts_have_their_tokens}
+use Rattle.proof_loads.proofs.LayoutTokens.Texts.{layouts_have_their_tokens}
 use Rattle.proof_loads.proofs.LayoutNul.{layouts_have_no_nul}
 use Rattle.proof_loads.proofs.RowTexts.{means}
 

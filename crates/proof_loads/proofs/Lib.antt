@@ -1,26 +1,40 @@
+mod AnchorRows
 pub mod Answers
+mod BlockLines
+mod BlockTexts
+mod Common
 pub mod CutTexts
 pub mod DocumentTrees
+pub mod Documents
 pub mod Dumps
 pub mod FirstTokens
 pub mod InTurn
 pub mod InsideNode
 pub mod JsonNul
+pub mod JsonTokens
 pub mod LayoutNul
 pub mod LayoutTexts
+pub mod LayoutTokens
+mod LiteralTexts
 pub mod Loads
 mod MeaningRows
+pub mod Nul
 pub mod OneFault
 pub mod OneList
 pub mod OneListBefore
 pub mod OneReading
+mod PlainTexts
 pub mod Pulled
 pub mod QuotedTexts
+pub mod QuotedTokens
 pub mod RowTexts
+pub mod Rows
 pub mod Runs
 pub mod Settled
 pub mod Spelled
 pub mod Steady
 pub mod StreamEnds
+mod TextTokens
 pub mod Texts
-mod Common
+mod TokensCommon
+pub mod TokensInTurn

@@ -2,7 +2,7 @@
 use Rattle.proof_loads.proofs.Common.{[], IsWithoutNul, List, refl, subst, Tok, Tree, ℕ, ◌∷◌}
 use Rattle.defs_layout.specs.QuotedText.{QuotedText, HasQuotedTokens, style_of}
 use Rattle.proof_layouts.proofs.Quoted.{quoted_read_as_their_string}
-use Rattle.proof_layout_tokens.proofs.Quoted.Tokens.{quoted_text_has_no_nul, quoted_texts_have_their_tokens}
+use Rattle.proof_loads.proofs.QuotedTokens.Tokens.{quoted_text_has_no_nul, quoted_texts_have_their_tokens}
 use Rattle.proof_loads.specs.QuotedTexts.{QuotedTextsMeanTheirString, QuotedTextsAreWithoutNul}
 use Rattle.proof_loads.proofs.RowTexts.{means}
 

@@ -3,7 +3,7 @@ use Rattle.yaml_chars.proofs.SpelledLemmas.{Begins-spelled, Chars-spelled}
 use Rattle.std.specs.Str.{chars}
 use Rattle.std.specs.Str.Iter.{chars_steps}
 use Rattle.proof_loads.proofs.Common.{[], CharactersAreTheText, clean_up_to_end, has_no_nul, JsonTextsMeanTheirTree, MayBe, Option, spell_text, StringsAreTheText, TextsWithAFaultHaveNoRow, tree_of, true, ℕ, ◌∷◌, ◌≡◌}
-use Rattle.proof_layout_tokens.proofs.Json.Texts.{json_text_has_its_tokens}
+use Rattle.proof_loads.proofs.JsonTokens.Texts.{json_text_has_its_tokens}
 use Rattle.defs_layout.specs.JsonTokens.{json_text_tokens}
 use Rattle.proof_layouts.proofs.Json.Reading as json
 use Rattle.proof_loads.proofs.JsonNul.{json_texts_have_no_nul}

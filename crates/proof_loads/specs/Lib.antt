@@ -10,3 +10,4 @@ pub mod QuotedTexts
 pub mod Rows
 pub mod Spelled
 pub mod TextEvents
+pub mod TokenLaws

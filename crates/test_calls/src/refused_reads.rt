@@ -5,8 +5,8 @@ use std::io::{ErrorKind, Read};
 use std::process::Abort;
 use std::test::Fail;
 use test_rows::Report;
-use yaml_decoder::{LoadError, YamlDecoder};
 use yaml_encoding::YAMLDecodingTrap;
+use yaml_loader::decoder::{LoadError, YamlDecoder};
 
 /// Gives its bytes one by one, and then fails.
 #[derive(Drop)]

@@ -1,8 +1,8 @@
 -- What is said of the port of a text's first document.
 use Rattle.std.proofs.Common.{◌≡◌, ℕ, ℤ, List, false, Some, None, Result, Ok, Err, ap, sym, ◌∙◌}
 use Rattle.std.specs.Prelude.{codes, option_and_then, slice_get}
-use Rattle.yaml_marked.specs.Loading.{AreMarksOf}
-use Rattle.yaml_marked.specs.Marks.{Marks, node_at_text}
+use Rattle.yaml_loader.specs.MarkedLoading.{AreMarksOf}
+use Rattle.yaml_loader.specs.Marks.{Marks, node_at_text}
 use Rattle.yaml_rust2.specs.Meaning.{Means}
 use Rattle.yaml_rust2.specs.Tree.{Tree}
 use Rattle.uses.specs.Ports.{JudgesNode, JudgesText, first_port}

@@ -2,8 +2,8 @@
 use Rattle.std.specs.Prelude.{◌≡◌, ◌+◌, ◌&&◌, ℕ, ℤ, pos, int_le, List, false, Option, Some, None, option_and_then, if◌then◌else◌, slice_get, Result, Ok, Err, codes}
 use Rattle.uses.specs.declared.validator.Invalid.{Invalid}
 use Rattle.uses.specs.declared.validator.Invalid.TheVariants as invalid
-use Rattle.yaml_marked.specs.Loading.{AreMarksOf}
-use Rattle.yaml_marked.specs.Marks.{Marks, node_at_text, own_position}
+use Rattle.yaml_loader.specs.MarkedLoading.{AreMarksOf}
+use Rattle.yaml_loader.specs.Marks.{Marks, node_at_text, own_position}
 use Rattle.yaml_rust2.specs.Node.{integer_of}
 use Rattle.yaml_rust2.specs.Meaning.{Means}
 use Rattle.yaml_rust2.specs.Tree.{Tree}

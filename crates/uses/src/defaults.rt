@@ -2,14 +2,14 @@
 
 ghost use Rattle.std.specs.Prelude.{IfOk};
 ghost use Rattle.uses.specs.Servers.{IsServerOf};
-ghost use Rattle.yaml_marked.specs.Node.{tree_of};
+ghost use Rattle.yaml_loader.specs.MarkedNode.{tree_of};
 ghost use Rattle.yaml_paths.specs.Optional.{IsReadOr};
 ghost use Rattle.yaml_paths.specs.Path.{steps_of};
 
 use std::alloc::{AllocError, Global};
 use thiserror::Error;
 use yaml_excerpt::Excerpt;
-use yaml_marked::{Marked, load_marked};
+use yaml_loader::marked::{Marked, load_marked};
 use yaml_paths::{FromYaml, ReadError, Step, marked};
 use yaml_rust2::ScanError;
 

@@ -2,7 +2,7 @@ use std::alloc::Global;
 use std::process::Abort;
 use std::test::Fail;
 use test_rows::Report;
-use yaml_marked::{Marked, MarkedDocuments, load_marked};
+use yaml_loader::marked::{Marked, MarkedDocuments, load_marked};
 use yaml_rust2::scanner::Marker;
 
 // A step to a part of a node.

@@ -2,7 +2,7 @@
 
 ghost use Rattle.std.specs.Prelude.{◌≡◌, Some, IfOk, IfErr, chars};
 ghost use Rattle.uses.specs.Servers.{port_path};
-ghost use Rattle.yaml_merge.specs.Merge.{merged};
+ghost use Rattle.overlay.specs.Merge.{merged};
 ghost use Rattle.yaml_paths.specs.Explained.{Explains};
 ghost use Rattle.yaml_paths.specs.Path.{node_at};
 ghost use Rattle.yaml_paths.specs.declared.kind.Kind.TheVariants as kind;
@@ -10,9 +10,9 @@ ghost use Rattle.yaml_rust2.specs.Basic.{IsBasicLayout};
 ghost use Rattle.yaml_rust2.specs.Tree.{Tree, integer};
 ghost use Rattle.yaml_rust2.specs.View.{view};
 
+use overlay::merge_keys::{MergeError, merge};
 use std::alloc::Global;
 use thiserror::Error;
-use yaml_merge::{MergeError, merge};
 use yaml_paths::{ReadError, Step, read};
 use yaml_rust2::{ScanError, Yaml, YamlLoader};
 

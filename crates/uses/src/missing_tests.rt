@@ -3,7 +3,7 @@ use std::alloc::Global;
 use std::process::Abort;
 use std::test::Fail;
 use test_rows::Report;
-use yaml_marked::load_marked;
+use yaml_loader::marked::load_marked;
 use yaml_paths::{Step, marked, read, read_optional, read_or};
 use yaml_rust2::{Yaml, YamlLoader};
 

@@ -1,13 +1,13 @@
 //! A log of many documents, which are read one by one, so that it takes the memory of one.
 ghost use Rattle.std.specs.Prelude.{◌≡◌, false, chars, IfErr, IfOk, List};
 ghost use Rattle.uses.specs.Tables.{has_other};
-ghost use Rattle.yaml_documents.specs.First.{IsStopped};
+ghost use Rattle.yaml_loader.specs.FirstDocuments.{IsStopped};
 ghost use Rattle.yaml_rust2.specs.Text.{up_to_nul};
 ghost use Rattle.yaml_rust2.specs.Meaning.{Means};
 ghost use Rattle.yaml_rust2.specs.Tree.{Tree};
 
 use std::alloc::Global;
-use yaml_documents::Documents;
+use yaml_loader::documents::Documents;
 use yaml_rust2::ScanError;
 
 #[cfg(test)]

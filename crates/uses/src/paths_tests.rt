@@ -3,7 +3,7 @@ use std::alloc::Global;
 use std::process::Abort;
 use std::test::Fail;
 use test_rows::Report;
-use yaml_marked::{Marked, load_marked};
+use yaml_loader::marked::{Marked, load_marked};
 use yaml_paths::{Step, at, marked, read, read_list};
 use yaml_rust2::{Yaml, YamlLoader};
 

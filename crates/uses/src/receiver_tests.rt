@@ -1,7 +1,7 @@
 use super::anchors::anchor_numbers;
 use super::strangers::load_from_stranger;
 use std::test::Fail;
-use yaml_limits::LimitsError;
+use yaml_loader::limits::LimitsError;
 
 const TEXT: &str = "- &a [x, &b y]\n- *a\n- &a z\n- *a\n";
 

@@ -1,13 +1,13 @@
 //! A text that a stranger wrote. Each alias is a copy of a node, so a short text can ask for much memory; and a text may nest
 //! so deep that a comparison of its trees runs out of stack.
 ghost use Rattle.std.specs.Prelude.{false, IfOk, chars};
-ghost use Rattle.yaml_limits.specs.Sizes.{AreNoDeeper};
+ghost use Rattle.yaml_loader.specs.Sizes.{AreNoDeeper};
 ghost use Rattle.yaml_rust2.specs.Text.{up_to_nul};
 ghost use Rattle.yaml_rust2.specs.Meaning.{Means};
 ghost use Rattle.yaml_rust2.specs.View.{items_view};
 
 use std::alloc::Global;
-use yaml_limits::{Limits, LimitsError, load_with_limits};
+use yaml_loader::limits::{Limits, LimitsError, load_with_limits};
 use yaml_rust2::Yaml;
 
 #[cfg(test)]

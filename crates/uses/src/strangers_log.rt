@@ -1,13 +1,13 @@
 //! A log that a stranger wrote: its documents are read one by one, each within limits.
 ghost use Rattle.std.specs.Prelude.{◌≡◌, false, chars, IfErr, IfOk, List};
 ghost use Rattle.uses.specs.Tables.{has_other};
-ghost use Rattle.yaml_limits.specs.OneByOne.{IsStoppedWithin};
+ghost use Rattle.yaml_loader.specs.LimitedOneByOne.{IsStoppedWithin};
 ghost use Rattle.yaml_rust2.specs.Text.{up_to_nul};
 ghost use Rattle.yaml_rust2.specs.Meaning.{Means};
 ghost use Rattle.yaml_rust2.specs.Tree.{Tree};
 
 use std::alloc::Global;
-use yaml_limits::{LimitedDocuments, Limits, LimitsError};
+use yaml_loader::limits::{LimitedDocuments, Limits, LimitsError};
 
 #[cfg(test)]
 mod tests;

@@ -1,14 +1,14 @@
 //! Settings that a stranger wrote, with their positions: loaded once, within limits.
 ghost use Rattle.std.specs.Prelude.{false, IfOk, chars};
-ghost use Rattle.yaml_limits.specs.Sizes.{AreNoDeeper};
-ghost use Rattle.yaml_marked.specs.Documents.{trees_of, marks_of_all};
-ghost use Rattle.yaml_marked.specs.Loading.{AreMarksOf};
+ghost use Rattle.yaml_loader.specs.Sizes.{AreNoDeeper};
+ghost use Rattle.yaml_loader.specs.MarkedDocuments.{trees_of, marks_of_all};
+ghost use Rattle.yaml_loader.specs.MarkedLoading.{AreMarksOf};
 ghost use Rattle.yaml_rust2.specs.Text.{up_to_nul};
 ghost use Rattle.yaml_rust2.specs.Meaning.{Means};
 
 use std::alloc::Global;
-use yaml_limits::{Limits, LimitsError, load_marked_with_limits};
-use yaml_marked::MarkedDocuments;
+use yaml_loader::limits::{Limits, LimitsError, load_marked_with_limits};
+use yaml_loader::marked::MarkedDocuments;
 
 #[cfg(test)]
 mod tests;

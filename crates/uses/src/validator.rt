@@ -2,12 +2,12 @@
 
 ghost use Rattle.std.specs.Prelude.{◌≡◌, chars};
 ghost use Rattle.uses.specs.Ports.{Judges, JudgesText, number_of_port};
-ghost use Rattle.yaml_marked.specs.Node.{tree_of, marks_of};
+ghost use Rattle.yaml_loader.specs.MarkedNode.{tree_of, marks_of};
 ghost use Rattle.yaml_rust2.specs.Text.{up_to_nul};
 
 use std::alloc::Global;
 use thiserror::Error;
-use yaml_marked::{Marked, load_marked};
+use yaml_loader::marked::{Marked, load_marked};
 use yaml_rust2::ScanError;
 
 #[cfg(test)]

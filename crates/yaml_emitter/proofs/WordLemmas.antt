@@ -2,9 +2,9 @@
 use Rattle.yaml_emitter.proofs.Common.{[], and_from, and_parts, ap, arith, begins_plainly, begins_with, bit_or, Bool, bytes_eq, bytes_eq-Decides, chars, chars-nil, chars_past_char, codes, cond, each_upto, encode_ascii, encode_utf8_all, encodes-chars, ends_with, false, float_names, get_or, has_indicator_first, has_outer_space, if◌then◌else◌, is_empty, is_float_word, is_in, is_name, is_plain_letter, is_plain_small, is_quoted, is_sign, is_string, is_unfit, is_unfit_for_plain, is_word, IsUtf8, length, List, list_all, list_any, map, nat_eq, nat_lt, nat_tests, not, refl, reserved_words, same, same_is, subst, suc, sym, T, take, to_ascii_lowercase, true, typing, ℕ, ◌&&◌, ◌++◌, ◌+◌, ◌<◌, ◌==◌, ◌||◌, ◌∙◌, ◌∷◌, ◌≡◌, ◌≤◌}
 use Rattle.defs_tree.specs.Grammar.{is_among, followed_by}
 use Rattle.defs_tree.proofs.GrammarLaws.{after_one, Rejects, optional_one-after, followed_by-empty}
-use Rattle.yaml_typing.proofs.FirstByte.{typing_itself}
-use Rattle.yaml_typing.specs.Values.{begins_value}
-use Rattle.yaml_typing.proofs.WideTexts.{low, Wide, low_bytes}
+use Rattle.yaml_tree.proofs.FirstByte.{typing_itself}
+use Rattle.yaml_tree.specs.Values.{begins_value}
+use Rattle.yaml_tree.proofs.WideTexts.{low, Wide, low_bytes}
 use Rattle.yaml_emitter.proofs.TextLemmas.{low_chars}
 
 -- ---- names of numbers

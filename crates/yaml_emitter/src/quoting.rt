@@ -112,7 +112,7 @@ fn has_unfit_byte(bytes: &[u8]) -> bool
 fn stands_for_word(text: &str) -> bool
     ensures { result ≡ is_word (chars text.now) }
 {
-    is_name(text.as_bytes()) || !yaml_typing::is_string(text)
+    is_name(text.as_bytes()) || !yaml_tree::is_string(text)
 }
 
 // The names are all ASCII.

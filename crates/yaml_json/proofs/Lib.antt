@@ -1,14 +1,25 @@
+pub mod Collections
+mod Common
 pub mod DigitLemmas
 pub mod FindLemmas
+pub mod Gaps
 pub mod GivenLemmas
 pub mod LeftLemmas
 pub mod LevelLemmas
+pub mod Longer
 pub mod NestLemmas
 pub mod NumberLemmas
 pub mod OpenLevels
 pub mod PartLemmas
+pub mod Places
+mod ReadCommon
+pub mod ReadNumberLemmas
+pub mod Results
 pub mod RowLemmas
 pub mod SearchLemmas
 pub mod ShallowLemmas
+pub mod StringLemmas
+pub mod TextLemmas
 pub mod ValueLemmas
-mod Common
+pub mod Whole
+pub mod Words

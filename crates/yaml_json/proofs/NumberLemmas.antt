@@ -6,7 +6,7 @@ use Rattle.defs_tree.specs.Grammar.{one, at_least_one, optional, in_order}
 use Rattle.defs_tree.specs.Typing.{signed_decimal}
 use Rattle.defs_tree.proofs.GrammarLaws.{IsWithin, IsWithin-followed_by, IsWithin-empty, IsWithin-one, IsWithin-at_least_one, IsWithin-optional, list_all-more}
 use Rattle.defs_layout.specs.JsonNumber.{is_whole, are_digits}
-use Rattle.yaml_typing.proofs.WideTexts.{low_at}
+use Rattle.yaml_tree.proofs.WideTexts.{low_at}
 
 abbrev is_low : ℕ → Bool
 is_low c = nat_lt c 128

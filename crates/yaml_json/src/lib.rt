@@ -16,15 +16,29 @@
 //! ```
 #![tactic(auto)]
 
+pub mod at_once;
+mod behind;
+mod cursor;
 mod deep;
+mod digits;
 mod error;
 mod find;
 mod integer;
 pub mod laws;
 mod level;
+mod levels;
+mod likely;
 mod nest;
 mod number;
+mod open;
+mod place;
+mod reader;
+mod run;
+mod scalar;
 mod shallow;
+mod stop;
+mod string;
+mod text;
 mod value;
 mod white;
 

@@ -3,7 +3,7 @@ ghost use Rattle.std.specs.Prelude.{◌≡◌, chars};
 ghost use Rattle.defs_layout.specs.JsonReal.{is_json_real};
 ghost use Rattle.defs_layout.proofs.Reading.{reads_number, reads_unsigned, reads_end};
 
-use yaml_typing::decimal::{after_digits, begins_with_digit, is_exponent};
+use yaml_tree::decimal::{after_digits, begins_with_digit, is_exponent};
 
 /// Whether the text is a number of JSON that is read back as a real: no integer of 64 bits.
 pub(crate) fn is_json_real(text: &str) -> bool

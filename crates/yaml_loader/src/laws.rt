@@ -1,7 +1,9 @@
-//! Laws of the definitions, each the contract of an empty function.
+//! Laws of loads, of documents that are read one by one, and of the positions of nodes: functions whose clause is a theorem. A proof calls a
+//! law to learn its theorem.
 
 ghost use Rattle.yaml_loader.specs.Agreement.{OneAnswer, OneListOfDocuments, OneListOfPulledEvents, OneListOfPushedEvents};
 ghost use Rattle.yaml_loader.specs.Laws.{AlikeLoadersShowTheSame, AlikeLoadersGoOnAlike, EventsAreReadAsDefined, TakenTextsAreLoaded, TakenEventsAreRead, RefusedTextsWantMemory};
+ghost use Rattle.yaml_loader.specs.DocumentLaws.{GivenDocumentsAreTheFirst, TextsThatLoadAreNotStopped};
 
 use yaml_parser::MarkedEventReceiver;
 
@@ -63,3 +65,15 @@ pub fn one_list_of_pulled_events()
 pub fn one_list_of_pushed_events<R: MarkedEventReceiver, S: MarkedEventReceiver>()
     ensures { OneListOfPushedEvents R.takes S.takes }
 {}
+
+/// The documents that were given of a text are the first of those that a load of the text gives, if it gives any.
+pub fn given_documents_are_the_first()
+    ensures { GivenDocumentsAreTheFirst }
+{}
+
+/// If a load of the text gives documents, the only fault is refused memory.
+pub fn texts_that_load_are_not_stopped()
+    ensures { TextsThatLoadAreNotStopped }
+{}
+
+pub use defs_event::laws::marks_fit_their_trees;

@@ -17,7 +17,7 @@ use crate::loader::YamlLoader;
 use defs_event::laws::loaded_trees_have_no_alias;
 use std::alloc::Global;
 use yaml_chars::{Characters, TextInMemory};
-use yaml_json_reader::{position_behind, read_json};
+use yaml_json::at_once::{position_behind, read_json};
 use yaml_parser::Parser;
 use yaml_tokens::ScanError;
 use yaml_tree::Yaml;

@@ -8,8 +8,7 @@ ghost use Rattle.yaml_parser.specs.Shown.{tag_of, perhaps_tag_of};
 
 use yaml_parser::Tag;
 use yaml_tokens::TScalarStyle;
-use yaml_tree::Yaml;
-use yaml_typing::is_real;
+use yaml_tree::{Yaml, is_real};
 
 // The tags of the core schema begin so (YAML 1.2, section 10.3).
 const CORE_PREFIX: &str = "tag:yaml.org,2002:";

@@ -1,6 +1,6 @@
 //! The same for nodes with positions.
 ghost use Rattle.std.specs.Prelude.{◌≡◌, Some, IfOk, IfErr, map, option_map};
-ghost use Rattle.yaml_marked.specs.Node.{tree_of, node_of};
+ghost use Rattle.yaml_loader.specs.MarkedNode.{tree_of, node_of};
 ghost use Rattle.yaml_paths.specs.Explained.{Explains, ExplainsList, ExplainsOther};
 ghost use Rattle.yaml_paths.specs.Marked.{marked_step_from, marked_at, deepest, position_of, IsAt};
 ghost use Rattle.yaml_paths.specs.Optional.{IsRead, IsReadOr};
@@ -13,7 +13,7 @@ use crate::plain;
 use crate::step::Step;
 use std::alloc::Global;
 use yaml_chars::Marker;
-use yaml_marked::Marked;
+use yaml_loader::marked::Marked;
 
 /// The node at the end of a path, or `None` if a step leads to no node.
 pub fn at<'a>(node: Marked<'a>, path: &[Step<'_>]) -> Option<Marked<'a>>

@@ -3,6 +3,7 @@
 #![tactic(auto)]
 
 mod bounds;
+mod events;
 mod failure;
 mod file_program;
 mod files;
@@ -11,6 +12,7 @@ mod program;
 mod words;
 
 pub use bounds::{Bounds, MAX_LEVELS, MAX_SIZE, NO_LIMITS};
+pub use events::write_event;
 pub use failure::{Failure, Refusal, Tell};
 pub use file_program::FileProgram;
 pub use files::{read, without_byte_order_mark};

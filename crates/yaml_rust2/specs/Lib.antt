@@ -49,7 +49,7 @@ pub use Rattle.yaml_tokens.specs.ErrorReport
 pub use Rattle.yaml_tokens.specs.FaultLaws
 pub use Rattle.yaml_tokens.specs.Problem
 pub use Rattle.yaml_tokens.specs.Shown as TokensShown
-pub use Rattle.yaml_hash_index.specs.Counts
+pub use Rattle.yaml_tree.specs.Counts
 pub use Rattle.yaml_tree.specs.Feed
 pub use Rattle.yaml_tree.specs.Items
 pub use Rattle.yaml_tree.specs.Node
@@ -104,4 +104,4 @@ pub use Rattle.yaml_loader.specs.Unread
 pub use Rattle.yaml_encoding.specs.Decoding
 pub use Rattle.yaml_encoding.specs.Outcomes
 pub use Rattle.yaml_encoding.specs.Steps
-pub use Rattle.yaml_decoder.specs.Read
+pub use Rattle.yaml_loader.specs.Read

@@ -18,11 +18,11 @@ pub use Rattle.defs_tree.proofs.Places.{absent, AreDistinct-with_value_at, place
 pub use Rattle.defs_tree.specs.Order.{items_cmp, pairs_cmp, tree_cmp, tree_eq}
 pub use Rattle.defs_tree.specs.Pairs.{AreDistinct, Lacks, last_of, lookup, place_of, value_at, with_value, with_value_at, without}
 pub use Rattle.defs_tree.specs.Tree.{array, hash, integer, item, Items, items_of, list_of, no_items, no_pairs, pair, pair_list_of, pairs_of, real, string, Tree}
-pub use Rattle.yaml_hash_index.proofs.Joining.{number_got, rank_inside, rank_within}
-pub use Rattle.yaml_hash_index.specs.Blocks.{IsNarrowed, joined, rank_of}
-pub use Rattle.yaml_hash_index.specs.Edges.{AreRising, digest_at, place_at}
-pub use Rattle.yaml_hash_index.specs.Moves.{closed_up, entry_closed_up, entry_moved_up, moved_up}
-pub use Rattle.yaml_hash_index.specs.declared.entry.Entry.{Entry}
+pub use Rattle.yaml_tree.proofs.Joining.{number_got, rank_inside, rank_within}
+pub use Rattle.yaml_tree.specs.Blocks.{IsNarrowed, joined, rank_of}
+pub use Rattle.yaml_tree.specs.Edges.{AreRising, digest_at, place_at}
+pub use Rattle.yaml_tree.specs.Moves.{closed_up, entry_closed_up, entry_moved_up, moved_up}
+pub use Rattle.yaml_tree.specs.declared.entry.Entry.{Entry}
 pub use Rattle.yaml_tree.specs.Copying.{IsFilled, Leads, left, lefts, source_tree}
 pub use Rattle.yaml_tree.specs.Digests.{AreDigests, digest, first_by, HaveRising, IsWindow, with_digits}
 unfoldable pub use Rattle.yaml_tree.specs.Digests.{text_digest}

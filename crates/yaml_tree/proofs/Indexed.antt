@@ -1,6 +1,6 @@
 -- Places and digests of a hash, as blocks or few keep them.
 use Rattle.yaml_tree.proofs.Common.{[], ap, arith, closed_up, digest_at, digest_of_entry, digests, Entry, entry_closed_up, entry_moved_up, Few, get_or, HasPlace, HasSpot, insert, joined, Kept, length, length-map, List, Many, map, moved_up, place_at, place_of_entry, places, rank_at, rank_inside, rank_within, refl, remove, suc, zero, ℕ, ◌+◌, ◌<◌, ◌∷◌, ◌≡◌, ◌≤◌}
-use Rattle.yaml_hash_index.specs.declared.entry.Spot.{Spot}
+use Rattle.yaml_tree.specs.declared.entry.Spot.{Spot}
 
 pub digest_mapped : (es : List Entry) (i : ℕ) → get_or (map digest_of_entry es) i 0 ≡ digest_at es i
 digest_mapped [] i = refl

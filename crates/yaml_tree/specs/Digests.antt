@@ -1,8 +1,8 @@
 -- A number of each key, by which most keys are told apart without a look at them.
 use Rattle.std.specs.Prelude.{◌≡◌, ℕ, suc, pos, negsuc, ◌+◌, ◌-◌, ◌*◌, ◌%◌, ◌^◌, ◌<◌, min, List, [], ◌∷◌, length, get_or}
 use Rattle.std.specs.Str.{encode_utf8_all}
-use Rattle.yaml_hash_index.specs.Blocks.{joined, IsNarrowed}
-use Rattle.yaml_hash_index.specs.Edges.{AreRising}
+use Rattle.yaml_tree.specs.Blocks.{joined, IsNarrowed}
+use Rattle.yaml_tree.specs.Edges.{AreRising}
 use Rattle.defs_tree.specs.Tree.{Tree, real, integer, string, boolean, array, hash, alias, null, bad_value}
 use Rattle.yaml_tree.specs.Ranked.{key_of_rank}
 use Rattle.yaml_tree.specs.declared.ranks.Kept.{Kept}

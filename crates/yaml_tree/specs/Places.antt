@@ -1,8 +1,8 @@
 -- The places that a hash keeps by rank.
 use Rattle.std.specs.Prelude.{ℕ, ◌<◌, ◌≤◌, List, [], map, length}
-use Rattle.yaml_hash_index.specs.Blocks.{joined, rank_of, IsSpot, IsTaken}
-use Rattle.yaml_hash_index.specs.declared.entry.Entry.{Entry}
-use Rattle.yaml_hash_index.specs.declared.entry.Spot.{Spot}
+use Rattle.yaml_tree.specs.Blocks.{joined, rank_of, IsSpot, IsTaken}
+use Rattle.yaml_tree.specs.declared.entry.Entry.{Entry}
+use Rattle.yaml_tree.specs.declared.entry.Spot.{Spot}
 use Rattle.defs_tree.specs.Tree.{Tree}
 use Rattle.yaml_tree.specs.Flat.{paired}
 use Rattle.yaml_tree.specs.Digests.{AreDigests, first_by}

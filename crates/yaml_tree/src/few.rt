@@ -1,10 +1,10 @@
 //! Places by rank for a short hash, with no memory of their own.
 ghost use Rattle.std.specs.Prelude.{◌≡◌, ◌<◌, ◌≤◌, ◌+◌, [], length, map, get_or};
 ghost use Rattle.std.specs.List.{insert, remove};
-ghost use Rattle.yaml_hash_index.specs.Moves.{closed_up, moved_up};
+ghost use Rattle.yaml_tree.specs.Moves.{closed_up, moved_up};
 
+use crate::moves::{closed_up, moved_up};
 use std::marker::Model;
-use yaml_hash_index::moves::{closed_up, moved_up};
 
 /// How many places there is room for.
 pub(crate) const ROOM: usize = 14;

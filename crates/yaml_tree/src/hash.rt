@@ -3,7 +3,7 @@ ghost use Rattle.std.specs.Prelude.{◌≡◌, ◌+◌, ◌*◌, ◌<◌, ◌↔
 ghost use Rattle.defs_tree.specs.Digits.{binary_digits};
 ghost use Rattle.defs_tree.specs.Tree.{string};
 ghost use Rattle.defs_tree.specs.Pairs.{insert, last_of, lookup, without, has_key, place_of, value_at, with_value_at, with_value, AreDistinct};
-ghost use Rattle.yaml_hash_index.specs.Counts.{RisesWithin};
+ghost use Rattle.yaml_tree.specs.Counts.{RisesWithin};
 ghost use Rattle.yaml_tree.specs.Probes.{probed};
 ghost use Rattle.yaml_tree.specs.View.{view, items_view};
 ghost use Rattle.yaml_tree.specs.Flat.{flat};

@@ -2,13 +2,18 @@
 #![tactic(auto)]
 
 pub mod array;
+mod block;
+pub mod blocks;
 mod compare;
 mod content;
 mod copy;
+pub mod count;
 mod debug;
+pub mod decimal;
 mod digest;
 mod discard;
 pub mod entries;
+pub mod entry;
 mod feed;
 mod few;
 pub mod hash;
@@ -17,17 +22,24 @@ pub mod laws;
 mod levels;
 mod lines;
 mod lookup;
+pub mod moves;
 mod place;
+mod plain;
 mod ranks;
 mod row;
 mod search;
+mod starts;
 mod steps;
 mod typing;
 pub mod yaml;
 
 pub use array::Array;
+pub use blocks::Blocks;
+pub use count::Count;
+pub use entry::{Entry, Spot};
 pub use hash::Hash;
 pub use items::YamlIter;
 pub use levels::Levels;
+pub use plain::{Meaning, is_real, is_string, stands_for};
 pub use steps::Steps;
 pub use yaml::Yaml;

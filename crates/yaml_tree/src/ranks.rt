@@ -2,10 +2,10 @@
 //! digests first.
 ghost use Rattle.std.specs.Prelude.{◌≡◌, ◌<◌, ◌≤◌, ◌+◌, ◌*◌, ◌^◌, ◌++◌, ◌∷◌, [], ℕ, List, None, length, map, get_or, IfOk, OnOk, OnErr};
 ghost use Rattle.std.specs.List.{remove};
-ghost use Rattle.yaml_hash_index.specs.Blocks.{joined, rank_of, IsSpot};
-ghost use Rattle.yaml_hash_index.specs.Counts.{RisesWithin};
-ghost use Rattle.yaml_hash_index.specs.Edges.{digest_at, AreRising};
-ghost use Rattle.yaml_hash_index.specs.Moves.{closed_up, moved_up};
+ghost use Rattle.yaml_tree.specs.Blocks.{joined, rank_of, IsSpot};
+ghost use Rattle.yaml_tree.specs.Counts.{RisesWithin};
+ghost use Rattle.yaml_tree.specs.Edges.{digest_at, AreRising};
+ghost use Rattle.yaml_tree.specs.Moves.{closed_up, moved_up};
 ghost use Rattle.defs_tree.specs.Digits.{binary_digits};
 ghost use Rattle.defs_tree.specs.Pairs.{place_of};
 ghost use Rattle.defs_tree.specs.Tree.{Tree};
@@ -20,8 +20,8 @@ use crate::few::{Few, ROOM};
 use crate::search::{Gap, Probe, search};
 use crate::steps::Steps;
 use crate::yaml::Yaml;
+use crate::{Blocks, Count, Entry, Spot};
 use std::alloc::{AllocError, Global};
-use yaml_hash_index::{Blocks, Count, Entry, Spot};
 
 // Those of a short hash take no memory of their own.
 #[derive(Drop)]

@@ -2,19 +2,19 @@
 ghost use Rattle.std.specs.Prelude.{◌≡◌, ◌+◌, ◌*◌, ◌^◌, ◌<◌, ◌≤◌, length, IfOk, IfErr};
 ghost use Rattle.defs_tree.specs.Digits.{binary_digits};
 ghost use Rattle.defs_tree.specs.Order.{tree_cmp};
-ghost use Rattle.yaml_hash_index.specs.Counts.{RisesWithin};
+ghost use Rattle.yaml_tree.specs.Counts.{RisesWithin};
 ghost use Rattle.yaml_tree.specs.Probes.{probed};
 ghost use Rattle.yaml_tree.specs.Digests.{digest, first_by};
 ghost use Rattle.yaml_tree.specs.Places.{places, rank_at, HasSpot, HasPlace, IsIndexed};
 ghost use Rattle.yaml_tree.specs.Ranked.{IsRank, IsRankGap};
 ghost use Rattle.yaml_tree.specs.View.{view, items_view, pairs_view};
 
+use crate::Spot;
 use crate::digest::{digest, digest_of_text};
 use crate::ranks::Ranks;
 use crate::steps::Steps;
 use crate::yaml::Yaml;
 use std::cmp::Ordering;
-use yaml_hash_index::Spot;
 
 /// The spot that a key would have, and its digest if digests are kept.
 #[derive(Clone, Copy)]

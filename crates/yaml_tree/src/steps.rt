@@ -4,10 +4,10 @@ ghost use Rattle.defs_tree.specs.Order.{tree_cmp};
 ghost use Rattle.defs_tree.specs.Tree.{string};
 ghost use Rattle.yaml_tree.specs.View.{view};
 
+use crate::Count;
 use crate::compare::{compare, compare_text};
 use crate::yaml::Yaml;
 use std::cmp::Ordering;
-use yaml_hash_index::Count;
 
 /// How many keys, and how many digests of keys, were compared. Only contracts see the counts, and they take no bytes.
 #[derive(Drop)]

@@ -6,8 +6,8 @@ ghost use Rattle.yaml_tree.specs.Node.{takes_memory};
 ghost use Rattle.yaml_tree.specs.View.{view};
 
 use crate::yaml::Yaml;
+use crate::{Meaning, stands_for};
 use std::alloc::{AllocError, Global};
-use yaml_typing::{Meaning, stands_for};
 
 impl Yaml {
     /// What the text stands for as a plain scalar, nearly as in the core schema (YAML 1.2, section 10.3.2;

@@ -2,8 +2,8 @@ use crate::job::Trap;
 use crate::trees::lines_of;
 use std::alloc::{AllocError, Global};
 use std::ops::ControlFlow;
-use yaml_decoder::{LoadError, YamlDecoder};
 use yaml_encoding::{YAMLDecodingTrap, YAMLDecodingTrapFn};
+use yaml_loader::decoder::{LoadError, YamlDecoder};
 
 /// The trees of bytes, a line each, or the line of the fault.
 pub fn decoded(alloc: Global, bytes: &[u8], trap: Trap) -> Result<String, AllocError> {

@@ -13,8 +13,8 @@ use crate::trees::{dumps, trees};
 use std::alloc::Global;
 use std::io::{BufRead, BufReader, BufWriter, Write};
 use std::{env, fs, io};
-use yaml_event_lines::write_event;
 use yaml_parser::{Event, Parser};
+use yaml_programs::write_event;
 use yaml_scanner::Scanner;
 
 fn print_tokens<W: Write>(alloc: Global, out: &mut W, text: &str) -> io::Result<()> {

@@ -11,10 +11,10 @@ use overlay::overlay;
 use std::alloc::{AllocError, Global};
 use std::hash::{DefaultHasher, Hash as _, Hasher};
 use std::{slice, str};
-use yaml_documents::Documents;
 use yaml_json::write_json;
-use yaml_limits::{Limits, LimitsError, load_with_limits};
-use yaml_marked::load_marked;
+use yaml_loader::documents::Documents;
+use yaml_loader::limits::{Limits, LimitsError, load_with_limits};
+use yaml_loader::marked::load_marked;
 use yaml_rust2::emitter::FmtWriter;
 use yaml_rust2::{Yaml, YamlEmitter, YamlLoader};
 

@@ -1,13 +1,13 @@
 //! Calls that are no loads: decoding, pairs put into a hash, and what else goes through a tree.
 
 use crate::last_document;
+use overlay::merge_keys::merge;
 use overlay::overlay;
 use std::alloc::{AllocError, Global};
 use std::fmt::Write as _;
 use std::{fmt, str};
 use yaml_encoding::{YAMLDecodingTrap, text_of};
 use yaml_json::write_json;
-use yaml_merge::merge;
 use yaml_rust2::emitter::FmtWriter;
 use yaml_rust2::laws::laid_out;
 use yaml_rust2::yaml::{Array, Hash};

@@ -4,9 +4,9 @@ use Rattle.std.specs.Prelude.{Result, Ok, Vec, String, chars}
 use Rattle.defs_text.specs.Text.{string_chars, up_to_nul}
 use Rattle.yaml_encoding.specs.Decoding.{text, strict, parts}
 use Rattle.yaml_tree.specs.declared.yaml.Yaml.{Yaml}
-use Rattle.yaml_limits.specs.Limited.{Answers}
-use Rattle.yaml_limits.specs.declared.error.LimitsError.{LimitsError}
-use Rattle.yaml_limits.specs.declared.limits.Limits.{Limits}
+use Rattle.yaml_loader.specs.Limited.{Answers}
+use Rattle.yaml_loader.specs.declared.limits_error.LimitsError.{LimitsError}
+use Rattle.yaml_loader.specs.declared.limits.Limits.{Limits}
 use Rattle.yamlcheck.specs.Checked.{limits_of, IsChecked}
 use Rattle.yamlcheck.specs.declared.run.YamlCheck.{YamlCheck}
 

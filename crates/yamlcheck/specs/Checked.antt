@@ -4,8 +4,8 @@ use Rattle.std.specs.declared.alloc.Global.{Global}
 use Rattle.defs_text.specs.Text.{string_chars, up_to_nul}
 use Rattle.yaml_encoding.specs.Decoding.{text, strict, parts}
 use Rattle.yaml_tree.specs.declared.yaml.Yaml.{Yaml}
-use Rattle.yaml_limits.specs.Limited.{Answers}
-use Rattle.yaml_limits.specs.declared.limits.Limits.{Limits}
+use Rattle.yaml_loader.specs.Limited.{Answers}
+use Rattle.yaml_loader.specs.declared.limits.Limits.{Limits}
 use Rattle.yaml_programs.specs.Bounds.{bound}
 use Rattle.yaml_programs.specs.declared.bounds.Bounds.{Bounds}
 use Rattle.yamlcheck.specs.declared.run.YamlCheck.{YamlCheck}

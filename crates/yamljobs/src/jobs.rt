@@ -13,7 +13,7 @@ use crate::random::Random;
 use crate::settings::put_settings;
 use std::alloc::{AllocError, Global};
 use std::io;
-use yaml_limits::{Limits, LimitsError, load_with_limits};
+use yaml_loader::limits::{Limits, LimitsError, load_with_limits};
 use yaml_rust2::yaml::{LoadError, YamlDecoder};
 use yaml_rust2::{ScanError, YamlLoader};
 

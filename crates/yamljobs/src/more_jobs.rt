@@ -10,9 +10,9 @@ use crate::results::{add_event, add_positions};
 use crate::settings::put_settings;
 use overlay::overlay;
 use std::alloc::{AllocError, Global};
-use yaml_documents::Documents;
 use yaml_json::{write_json, write_json_indented};
-use yaml_marked::load_marked;
+use yaml_loader::documents::Documents;
+use yaml_loader::marked::load_marked;
 use yaml_rust2::parser::{Event, Parser};
 use yaml_rust2::{Yaml, YamlEmitter, YamlLoader};
 

@@ -2,7 +2,7 @@
 
 use crate::digest::Digest;
 use std::alloc::{AllocError, Global};
-use yaml_marked::Marked;
+use yaml_loader::marked::Marked;
 use yaml_rust2::parser::{Event, Tag};
 use yaml_rust2::scanner::TScalarStyle;
 

@@ -7,9 +7,9 @@ use Rattle.defs_text.specs.Text.{up_to_nul}
 use Rattle.defs_layout.specs.HasJson.{HasJson}
 use Rattle.yaml_tree.specs.View.{view}
 use Rattle.yaml_tree.specs.declared.yaml.Yaml.{Yaml}
-use Rattle.yaml_limits.specs.Limited.{Answers}
-use Rattle.yaml_limits.specs.declared.error.LimitsError.{LimitsError}
-use Rattle.yaml_limits.specs.declared.limits.Limits.{Limits}
+use Rattle.yaml_loader.specs.Limited.{Answers}
+use Rattle.yaml_loader.specs.declared.limits_error.LimitsError.{LimitsError}
+use Rattle.yaml_loader.specs.declared.limits.Limits.{Limits}
 use Rattle.yaml_programs.specs.declared.bounds.Bounds.{Bounds}
 use Rattle.yamljson.specs.Printed.{IsText, IsLoaded, HaveJson, IsPrinted, limits_of}
 use Rattle.yamljson.specs.declared.run.YamlJson.{YamlJson}

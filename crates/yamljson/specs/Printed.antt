@@ -7,8 +7,8 @@ use Rattle.defs_layout.specs.HasJson.{HasJson}
 use Rattle.yaml_encoding.specs.Decoding.{text, strict, parts}
 use Rattle.yaml_tree.specs.View.{view}
 use Rattle.yaml_tree.specs.declared.yaml.Yaml.{Yaml}
-use Rattle.yaml_limits.specs.Limited.{Answers}
-use Rattle.yaml_limits.specs.declared.limits.Limits.{Limits}
+use Rattle.yaml_loader.specs.Limited.{Answers}
+use Rattle.yaml_loader.specs.declared.limits.Limits.{Limits}
 use Rattle.yaml_programs.specs.Bounds.{bound}
 use Rattle.yaml_programs.specs.declared.bounds.Bounds.{Bounds}
 use Rattle.yamljson.specs.declared.run.YamlJson.{YamlJson}

@@ -3,7 +3,7 @@ use std::io;
 use std::io::Write;
 use yaml_chars::Marker;
 use yaml_json::NoJson;
-use yaml_limits::LimitsError;
+use yaml_loader::limits::LimitsError;
 use yaml_programs::Tell;
 
 /// What only this program meets.

@@ -1,7 +1,7 @@
 //! Where a node stands that has no JSON text.
 use std::alloc::{AllocError, Global};
 use yaml_json::{NoJson, Reason, Step};
-use yaml_marked::{Marked, load_marked};
+use yaml_loader::marked::{Marked, load_marked};
 use yaml_tree::Yaml;
 
 /// Where a node stands, or its first key that is no string.

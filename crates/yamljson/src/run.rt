@@ -10,7 +10,7 @@ use std::alloc::Global;
 use std::io::Write;
 use yaml_encoding::{Stop, YAMLDecodingTrap, text_of};
 use yaml_json::{JsonError, NoJson, write_json, write_json_indented};
-use yaml_limits::{Limits, LimitsError, load_with_limits};
+use yaml_loader::limits::{Limits, LimitsError, load_with_limits};
 use yaml_programs::{Bounds, FileProgram, MAX_LEVELS, MAX_SIZE, NO_LIMITS, Program, ProgramOption};
 use yaml_tree::Yaml;
 

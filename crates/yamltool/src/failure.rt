@@ -1,6 +1,6 @@
 use std::io;
 use std::io::Write;
-use yaml_limits::LimitsError;
+use yaml_loader::limits::LimitsError;
 use yaml_programs::Tell;
 
 /// What only this program meets.

@@ -8,10 +8,9 @@ use std::io;
 use std::io::Write;
 use std::rt::Files;
 use yaml_emitter::YamlEmitter;
-use yaml_event_lines::write_event;
-use yaml_limits::LimitsError;
+use yaml_loader::limits::LimitsError;
 use yaml_parser::{Event, Parser};
-use yaml_programs::{Program, begin, without_byte_order_mark};
+use yaml_programs::{Program, begin, without_byte_order_mark, write_event};
 use yaml_tree::Yaml;
 
 const PROGRAM: Program = Program {

@@ -3,8 +3,8 @@ use crate::failure::{Failure, Trouble};
 use std::alloc::Global;
 use std::rt::Files;
 use yaml_encoding::{Stop, YAMLDecodingTrap, text_of};
-use yaml_limits::{Limits, LimitsError, load_with_limits};
 use yaml_loader::YamlLoader;
+use yaml_loader::limits::{Limits, LimitsError, load_with_limits};
 use yaml_programs::{read, without_byte_order_mark};
 use yaml_tree::Yaml;
 

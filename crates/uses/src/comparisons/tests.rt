@@ -5,7 +5,7 @@ use std::alloc::Global;
 use std::process::Abort;
 use std::test::Fail;
 use test_rows::Report;
-use yaml_limits::{Limits, load_with_limits};
+use yaml_loader::limits::{Limits, load_with_limits};
 use yaml_rust2::Yaml;
 use yaml_rust2::yaml::{Array, Hash, Steps};
 

@@ -1,5 +1,5 @@
 use std::test::Fail;
-use yaml_documents::Documents;
+use yaml_loader::documents::Documents;
 
 #[test]
 fn documents_come_one_by_one(rt: HostRuntime) -> Result<(), Fail> {

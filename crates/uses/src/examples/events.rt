@@ -1,5 +1,5 @@
 use std::test::Fail;
-use yaml_documents::take_document;
+use yaml_loader::documents::take_document;
 use yaml_rust2::ScanError;
 use yaml_rust2::parser::{Event, EventReceiver, Parser};
 

@@ -1,5 +1,5 @@
 use std::test::Fail;
-use yaml_limits::{
+use yaml_loader::limits::{
     LimitedDocuments, Limits, LimitsError, load_marked_with_limits, load_with_limits,
 };
 

@@ -1,5 +1,5 @@
 use std::test::Fail;
-use yaml_marked::load_marked;
+use yaml_loader::marked::load_marked;
 
 #[test]
 fn nodes_have_positions(rt: HostRuntime) -> Result<(), Fail> {

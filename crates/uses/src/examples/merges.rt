@@ -1,5 +1,5 @@
+use overlay::merge_keys::merge;
 use std::test::Fail;
-use yaml_merge::merge;
 use yaml_rust2::{Yaml, YamlLoader};
 
 #[test]

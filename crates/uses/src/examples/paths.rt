@@ -1,5 +1,5 @@
 use std::test::Fail;
-use yaml_marked::load_marked;
+use yaml_loader::marked::load_marked;
 use yaml_paths::{Step, marked, read_or};
 use yaml_rust2::YamlLoader;
 

@@ -1,9 +1,9 @@
 use super::{NoSettings, load_settings, port};
+use overlay::merge_keys::merge;
 use std::alloc::Global;
 use std::process::Abort;
 use std::test::Fail;
 use test_rows::Report;
-use yaml_merge::merge;
 use yaml_rust2::{Yaml, YamlLoader};
 
 // The one document of a text.

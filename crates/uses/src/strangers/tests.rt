@@ -3,7 +3,7 @@ use std::alloc::Global;
 use std::process::Abort;
 use std::test::Fail;
 use test_rows::Report;
-use yaml_limits::{Limits, LimitsError, load_with_limits};
+use yaml_loader::limits::{Limits, LimitsError, load_with_limits};
 
 // What a load of the text within this size comes to.
 fn outcome(alloc: Global, text: &str, size: usize) -> Result<String, Fail> {

@@ -2,7 +2,7 @@ use super::has_other_than_mappings;
 use std::alloc::Global;
 use std::test::Fail;
 use test_rows::Report;
-use yaml_limits::{LimitedDocuments, Limits, LimitsError};
+use yaml_loader::limits::{LimitedDocuments, Limits, LimitsError};
 
 #[test]
 fn other_documents_are_found_within_limits(rt: HostRuntime) -> Result<(), Fail> {

@@ -2,7 +2,7 @@ use super::load_marked_from_stranger;
 use std::alloc::Global;
 use std::test::Fail;
 use test_rows::Report;
-use yaml_limits::{Limits, load_marked_with_limits, load_with_limits};
+use yaml_loader::limits::{Limits, load_marked_with_limits, load_with_limits};
 
 #[test]
 fn settings_of_a_stranger_have_positions(rt: HostRuntime) -> Result<(), Fail> {

@@ -1,5 +1,5 @@
 use Rattle.uses.specs.Servers.{host_path, port_path}
-use Rattle.yaml_marked.specs.Node.{tree_of}
+use Rattle.yaml_loader.specs.MarkedNode.{tree_of}
 use Rattle.std.proofs.Common.{◌≡◌, ℕ, ℤ, List, inl, inr, sym, ap, subst, rules, w64}
 use Rattle.std.proofs.Math.Facts.{to_z-of_z}
 use Rattle.std.specs.Prelude.{String, string_bytes, codes, pos}

@@ -1,5 +1,5 @@
 use Rattle.std.proofs.Common.{ap, ◌∙◌}
-use Rattle.yaml_merge.specs.Merge.{merged}
+use Rattle.overlay.specs.Merge.{merged}
 use Rattle.yaml_rust2.specs.View.{view}
 use Rattle.uses.proofs.First.{first_is}
 use Rattle.uses.proofs.merged_settings.load_settings.Goals as goal

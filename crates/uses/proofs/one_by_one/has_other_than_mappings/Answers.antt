@@ -2,8 +2,8 @@ use Rattle.std.proofs.Common.{◌≡◌, ℕ, List, false, sym, ap, ◌∙◌, s
 use Rattle.std.specs.Prelude.{Bool, Option, Some, Result, Ok, Err, IfErr}
 use Rattle.std.specs.Iterator.{AlwaysYields}
 use Rattle.std.specs.Result.{IsErrAnd}
-use Rattle.yaml_documents.specs.First.{IsStopped}
-use Rattle.yaml_documents.specs.Stream.{Stream, Gives, Says, given}
+use Rattle.yaml_loader.specs.FirstDocuments.{IsStopped}
+use Rattle.yaml_loader.specs.DocumentStream.{Stream, Gives, Says, given}
 use Rattle.yaml_rust2.specs.ErrorReport.{ErrorReport}
 use Rattle.yaml_rust2.specs.Text.{up_to_nul}
 use Rattle.yaml_rust2.specs.Tree.{Tree}

@@ -2,10 +2,10 @@ use Rattle.std.proofs.Common.{◌≡◌, ℕ, List, false, sym, ap, ◌∙◌, s
 use Rattle.std.specs.Prelude.{Bool, Option, Some, Result, Ok, Err, IfErr}
 use Rattle.std.specs.Iterator.{AlwaysYields}
 use Rattle.std.specs.Result.{IsErrAnd}
-use Rattle.yaml_documents.specs.Stream.{given}
-use Rattle.yaml_limits.specs.OneByOne.{LimitedStream, IsStoppedWithin, GivesWithin, Says}
-use Rattle.yaml_limits.specs.declared.error.LimitsError.{LimitsError}
-use Rattle.yaml_limits.specs.declared.limits.Limits.{Limits}
+use Rattle.yaml_loader.specs.DocumentStream.{given}
+use Rattle.yaml_loader.specs.LimitedOneByOne.{LimitedStream, IsStoppedWithin, GivesWithin, Says}
+use Rattle.yaml_loader.specs.declared.limits_error.LimitsError.{LimitsError}
+use Rattle.yaml_loader.specs.declared.limits.Limits.{Limits}
 use Rattle.yaml_rust2.specs.Text.{up_to_nul}
 use Rattle.yaml_rust2.specs.Tree.{Tree}
 use Rattle.yaml_rust2.specs.declared.Yaml.{Yaml}

@@ -3,7 +3,7 @@ use Rattle.std.specs.Iterator.{AlwaysYields}
 use Rattle.std.specs.Str.{chars}
 use Rattle.std.specs.Str.Iter.{chars_steps}
 use Rattle.uses.specs.Tables.{has_other}
-use Rattle.yaml_documents.specs.Stream.{given}
+use Rattle.yaml_loader.specs.DocumentStream.{given}
 use Rattle.uses.proofs.strangers_log.has_other_than_mappings.Given as goal
 
 abbrev pub invariant-documents : goal.invariant-documents

@@ -1,12 +1,12 @@
 use Rattle.std.proofs.Common.{List, false}
 use Rattle.std.specs.Prelude.{Result, Ok, Err, IfOk, chars}
-use Rattle.yaml_limits.specs.Sizes.{AreNoDeeper, AreWithin}
-use Rattle.yaml_limits.specs.declared.limits.Limits.{Limits}
+use Rattle.yaml_loader.specs.Sizes.{AreNoDeeper, AreWithin}
+use Rattle.yaml_loader.specs.declared.limits.Limits.{Limits}
 use Rattle.yaml_rust2.specs.Text.{up_to_nul}
 use Rattle.yaml_rust2.specs.Meaning.{Means}
-use Rattle.yaml_limits.specs.Marked.{without_positions}
-use Rattle.yaml_limits.specs.declared.error.LimitsError.{LimitsError}
-use Rattle.yaml_marked.specs.declared.documents.MarkedDocuments.{MarkedDocuments}
+use Rattle.yaml_loader.specs.LimitedMarked.{without_positions}
+use Rattle.yaml_loader.specs.declared.limits_error.LimitsError.{LimitsError}
+use Rattle.yaml_loader.specs.declared.marked_documents.MarkedDocuments.{MarkedDocuments}
 use Rattle.yaml_rust2.specs.View.{items_view}
 use Rattle.yaml_rust2.specs.Tree.{Tree}
 use Rattle.uses.proofs.strangers_settings.load_marked_from_stranger.Goals as goal

@@ -1,6 +1,6 @@
 use Rattle.std.proofs.Common.{rules, sym, ap, ◌∙◌, ◌+◌}
 use Rattle.std.specs.Str.{chars}
-use Rattle.yaml_marked.specs.Node.{node_of}
+use Rattle.yaml_loader.specs.MarkedNode.{node_of}
 use Rattle.uses.proofs.validator.port.Goals as goal
 
 pub returns-in_default : goal.returns-in_default

@@ -1,5 +1,5 @@
 use Rattle.std.proofs.Common.{◌≡◌, drop}
-use Rattle.yaml_marked.specs.Node.{node_of}
+use Rattle.yaml_loader.specs.MarkedNode.{node_of}
 use Rattle.yaml_paths.specs.Marked.{marked_at}
 use Rattle.yaml_paths.specs.Path.{steps_of}
 use Rattle.yaml_paths.proofs.marked.at.Given as goal

@@ -1,6 +1,6 @@
 use Rattle.yaml_tree.proofs.Common.{ap, arith, first_by, key_of_rank, length, pairs_view, places, probed, rank_at, refl, rules, sym, tree_cmp, tree_tied, ◌*◌, ◌+◌, ◌-◌, ◌/◌, ◌<◌, ◌^◌, ◌∙◌, ◌≡◌}
 use Rattle.yaml_tree.proofs.Flattened.{row_length}
-use Rattle.yaml_hash_index.proofs.Halving.{halved, digits_rise}
+use Rattle.yaml_tree.proofs.Halving.{halved, digits_rise}
 use Rattle.yaml_tree.proofs.Indexed.{next_spot, next_rank, offset_inside, place_inside}
 use Rattle.yaml_tree.proofs.Digesting.{kept_digests_rise, window_leaves, same_digest}
 use Rattle.yaml_tree.proofs.Ranking.{above_up_to, below_from_on}

@@ -1,0 +1,6 @@
+use Rattle.std.proofs.Common.{◌≡◌}
+use Rattle.defs_tree.specs.Merge.{with_new_pairs}
+use Rattle.overlay.proofs.carry_out.add_new_pairs.Given as goal
+
+abbrev pub invariant-pairs : goal.invariant-pairs
+invariant-pairs l = with_new_pairs l.pairs l.key-iterator ≡ with_new_pairs l.initial.pairs l.fn.mapping

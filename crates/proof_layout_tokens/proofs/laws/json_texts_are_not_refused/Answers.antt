@@ -1,5 +1,0 @@
-use Rattle.proof_layout_tokens.proofs.Json.Texts.{json_text_is_not_refused}
-use Rattle.proof_layout_tokens.proofs.laws.json_texts_are_not_refused.Goals as goal
-
-pub returns : goal.returns
-returns c = json_text_is_not_refused

@@ -1,5 +1,0 @@
-use Rattle.proof_layout_tokens.proofs.Common.{one_list}
-use Rattle.proof_layout_tokens.proofs.laws.texts_have_one_list_of_tokens.Goals as goal
-
-pub returns : goal.returns
-returns c = one_list

@@ -1,5 +1,0 @@
-use Rattle.proof_layout_tokens.proofs.Common.{not_refused}
-use Rattle.proof_layout_tokens.proofs.laws.texts_with_tokens_are_not_refused.Goals as goal
-
-pub returns : goal.returns
-returns c = not_refused

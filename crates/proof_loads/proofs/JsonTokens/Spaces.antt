@@ -1,0 +1,45 @@
+-- Between the parts of a JSON value on one line without TAB only spaces stand.
+use Rattle.proof_loads.proofs.TokensCommon.{arith, [], and_parts, array, Blank, element, Elements, false_word, is_on_one_line, Json, last_element, last_member, List, list_all, member, Members, null_word, object, Piece, spell, spell_elements, spell_members, spell_number, spell_pieces, spell_string, true, true_word, ℕ, ◌++◌, ◌∷◌, ◌≡◌}
+use Rattle.defs_layout.specs.JsonGap.{spell_gap}
+use Rattle.proof_loads.proofs.JsonTokens.OnOneLine.{AreSpaces}
+use Rattle.proof_loads.proofs.JsonTokens.OnOneLine.{HasSpaces, HaveSpaces, MembersHaveSpaces}
+use Rattle.proof_loads.proofs.JsonTokens.Numbers.{number_then}
+
+abbrev OnOneLine : List ℕ → Type 0
+OnOneLine a = list_all is_on_one_line a ≡ true
+
+after_one : (c : ℕ) (a : List ℕ) → OnOneLine (c ∷ a) → OnOneLine a
+after_one c a h = (and_parts (is_on_one_line c) (list_all is_on_one_line a) h).1
+
+after : (w a : List ℕ) → OnOneLine (w ++ a) → OnOneLine a
+after [] a h = h
+after (c ∷ w) a h = after w a (after_one c (w ++ a) h)
+
+gap_spaces : (g : List Blank) (r : List ℕ) → OnOneLine (spell_gap g r) → AreSpaces g × OnOneLine r
+unfolding is_on_one_line
+gap_spaces [] r h = (tt, h)
+gap_spaces (b ∷ g) r h = grind (arith, gap_spaces g r)
+
+after_pieces : (ps : List Piece) (r : List ℕ) → OnOneLine (spell_pieces ps r) → OnOneLine r
+after_pieces [] r h = h
+after_pieces (p ∷ ps) r h = after_pieces ps r (grind (arith, after_one))
+
+after_string : (ps : List Piece) (r : List ℕ) → OnOneLine (spell_string ps r) → OnOneLine r
+after_string ps r h = after_one 34 r (after_pieces ps (34 ∷ r) (after_one 34 (spell_pieces ps (34 ∷ r)) h))
+
+mutual
+  pub json_spaces : (v : Json) (r : List ℕ) → OnOneLine (spell v r) → HasSpaces v × OnOneLine r
+  json_spaces false_word r h = (tt, after (102 ∷ 97 ∷ 108 ∷ 115 ∷ 101 ∷ []) r h)
+  json_spaces null_word r h = (tt, after (110 ∷ 117 ∷ 108 ∷ 108 ∷ []) r h)
+  json_spaces true_word r h = (tt, after (116 ∷ 114 ∷ 117 ∷ 101 ∷ []) r h)
+  json_spaces (array g es) r h = grind (arith, gap_spaces, after_one, elements_spaces es)
+  json_spaces (object g ms) r h = grind (arith, gap_spaces, after_one, members_spaces ms)
+  json_spaces v r h = grind (arith, gap_spaces, after_one, after, spell_number, number_then, after_string)
+
+  elements_spaces : (es : Elements) (r : List ℕ) → OnOneLine (spell_elements es r) → HaveSpaces es × OnOneLine r
+  elements_spaces (last_element v a) r h = grind (arith, json_spaces v, gap_spaces)
+  elements_spaces (element v a b es) r h = grind (arith, json_spaces v, gap_spaces, after_one, elements_spaces es r)
+
+  members_spaces : (ms : Members) (r : List ℕ) → OnOneLine (spell_members ms r) → MembersHaveSpaces ms × OnOneLine r
+  members_spaces (last_member k g h v a) r line = grind (arith, after_string, gap_spaces, after_one, json_spaces v)
+  members_spaces (member k g h v a b ms) r line = grind (arith, after_string, gap_spaces, after_one, json_spaces v, members_spaces ms r)

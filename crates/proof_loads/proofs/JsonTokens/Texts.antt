@@ -1,0 +1,27 @@
+-- JSON texts have their tokens.
+use Rattle.proof_loads.proofs.TokensCommon.{[], append-nil, arith, false, first_account, first_position, free, IsWellFormed, json_text_tokens, json_tokens, JsonText, JsonTextsAreNotRefused, JsonTextsHaveNoOtherTokens, JsonTextsHaveTheirTokens, None, refl, spell_text, taken, Tok, up_to_nul, ◌∷◌, ◌≡◌}
+use Rattle.defs_layout.specs.JsonGap.{spell_gap}
+use Rattle.proof_loads.proofs.Nul.{whole}
+use Rattle.proof_loads.proofs.TextTokens.{no_other_tokens, none_is_refused}
+use Rattle.proof_loads.proofs.Rows.Steps.{Reads}
+use Rattle.proof_loads.proofs.Rows.Nodes.{outside}
+use Rattle.proof_loads.proofs.Rows.Gaps.{white, white_none, spelt, separates, ends, at_end}
+use Rattle.proof_loads.proofs.Rows.Json.{value_reads}
+use Rattle.proof_loads.proofs.Rows.Texts.{has_tokens, read_end}
+
+json_text_reads : (w : JsonText) → IsWellFormed w → Reads first_account (spell_text w) (json_tokens w.value (Tok.stream_end ∷ []))
+json_text_reads w is =
+    value_reads [] w.value is.value (λ e. cc) outside first_position false free w.before (spell_gap w.after []) (Tok.stream_end ∷ []) refl (omega arith) (λ e. cc) (ends false [] at_end None (λ s. refl) w.after) (omega (arith, is.depth))
+    (λ p awaits before quiet deep. rw (spelt w.after [], append-nil) (read_end p [] awaits before taken (white w.after) refl (separates w.after []) (white_none w.after)))
+
+pub json_texts_have_no_nul : (w : JsonText) → IsWellFormed w → up_to_nul (spell_text w) ≡ spell_text w
+json_texts_have_no_nul w is = whole (spell_text w) (json_text_reads w is).none
+
+pub json_text_has_its_tokens : JsonTextsHaveTheirTokens
+json_text_has_its_tokens w is = has_tokens (spell_text w) (json_tokens w.value (Tok.stream_end ∷ [])) (json_text_reads w is)
+
+pub json_text_has_no_other_tokens : JsonTextsHaveNoOtherTokens
+json_text_has_no_other_tokens w is ts z = no_other_tokens (spell_text w) (json_text_tokens w) (json_text_has_its_tokens w is) ts z
+
+pub json_text_is_not_refused : JsonTextsAreNotRefused
+json_text_is_not_refused w is f refusal = none_is_refused (spell_text w) (json_text_tokens w) (json_text_has_its_tokens w is) f refusal

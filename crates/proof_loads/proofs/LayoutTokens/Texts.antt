@@ -1,0 +1,19 @@
+-- Layouts have their tokens.
+use Rattle.proof_loads.proofs.TokensCommon.{[], documents_tokens, IsLayout, Layout, up_to_nul, ◌≡◌, layout_tokens, LayoutsAreNotRefused, LayoutsHaveNoOtherTokens, LayoutsHaveTheirTokens, marked}
+use Rattle.defs_layout.specs.Layout.{spell}
+use Rattle.proof_loads.proofs.Nul.{whole}
+use Rattle.proof_loads.proofs.TextTokens.{no_other_tokens, none_is_refused}
+use Rattle.proof_loads.proofs.Rows.Documents.{layout_reads}
+use Rattle.proof_loads.proofs.Rows.Texts.{has_tokens}
+
+pub layouts_have_no_nul : (w : Layout) → IsLayout w → up_to_nul (spell w []) ≡ spell w []
+layouts_have_no_nul w is = whole (spell w []) (layout_reads w is).none
+
+pub layouts_have_their_tokens : LayoutsHaveTheirTokens
+layouts_have_their_tokens w is = has_tokens (spell w []) (marked w.is_marked (documents_tokens w.documents)) (layout_reads w is)
+
+pub layouts_have_no_other_tokens : LayoutsHaveNoOtherTokens
+layouts_have_no_other_tokens w is ts z = no_other_tokens (spell w []) (layout_tokens w) (layouts_have_their_tokens w is) ts z
+
+pub layouts_are_not_refused : LayoutsAreNotRefused
+layouts_are_not_refused w is f refusal = none_is_refused (spell w []) (layout_tokens w) (layouts_have_their_tokens w is) f refusal

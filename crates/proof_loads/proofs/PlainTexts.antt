@@ -1,0 +1,177 @@
+-- The scalars that are spelt without quotes, as texts that a plain scalar may be.
+use Rattle.proof_loads.proofs.TokensCommon.{[], alias, AllDigits, and_false, and_from, and_parts, arith, bad_value, Bool, boolean, codes, decimal, decimal_is_IsNumeral, digit_from_value, ends_with, ends_with-one, ends_with-step, false, has_indicator_first, hash, integer, is_decimal, is_quoted, is_real_character, is_real_text, is_unfit_for_plain, IsNumeral, IsPlain, List, list_all, list_any, ltb-true, nat_eq, nat_le, nat_tests, ne_eqb, negsuc, not, null, or_parts, pos, real, real_text-characters, refl, spelling, suc, Tree, true, typing, unquoted, ℕ, ◌&&◌, ◌<◌, ◌==◌, ◌^◌, ◌||◌, ◌∷◌, ◌≡◌, ◌≤◌}
+use Rattle.defs_tree.specs.Tree.{string, array}
+use Rattle.defs_tree.specs.Quoting.{begins_with}
+use Rattle.defs_tree.proofs.DecimalReading.{is_decimal-read}
+use Rattle.defs_tree.proofs.TypingLaws.{real_text-cases}
+
+-- a character that may stand in a plain scalar of a line
+abbrev pub is_plain_char : ℕ → Bool
+is_plain_char c = not ((c == 0) || (c == 9) || (c == 10) || (c == 13) || (c == 35) || (c == 58))
+
+abbrev pub are_plain : List ℕ → Bool
+are_plain [] = true
+are_plain (c ∷ w) = is_plain_char c && are_plain w
+
+-- it doesn't end in a space; the flag says that one came last
+abbrev pub closes : Bool → List ℕ → Bool
+closes b [] = not b
+closes b (c ∷ w) = closes (c == 32) w
+
+-- a character with which a plain scalar may begin: neither white space nor an indicator, but for a dash
+abbrev pub is_first : ℕ → Bool
+is_first c =
+    is_plain_char c && not ((c == 32) || (c == 37) || (c == 63) || (c == 44) || (c == 91) || (c == 93) || (c == 123) || (c == 125) || (c == 42) || (c == 38) || (c == 33) || (c == 124) || (c == 62) || (c == 39) || (c == 34) || (c == 64) || (c == 96))
+
+-- It begins with neither two dashes nor two points, and doesn't begin with a dash or point alone.
+abbrev pub is_second : ℕ → List ℕ → Bool
+is_second c [] = not (c == 45) && not (c == 46)
+is_second c (d ∷ v) = not ((c == 45) && (d == 45)) && not ((c == 46) && (d == 46)) && not ((c == 45) && (d == 32))
+
+pub record IsPlainText (w : List ℕ) : Type 0 where
+  pub head : ℕ
+  pub tail : List ℕ
+  pub whole : w ≡ head ∷ tail
+  pub first : is_first head ≡ true
+  pub second : is_second head tail ≡ true
+  pub chars : are_plain tail ≡ true
+  pub close : closes false tail ≡ true
+
+-- ---- words
+
+-- a digit, a letter, or one of `+ - .`
+abbrev pub is_word : ℕ → Bool
+is_word c = (nat_le 48 c && nat_le c 57) || (c == 43) || (c == 45) || (c == 46) || (nat_le 65 c && nat_le c 90) || (nat_le 97 c && nat_le c 122)
+
+-- each character is one
+abbrev pub are_words : List ℕ → Bool
+are_words [] = true
+are_words (c ∷ w) = is_word c && are_words w
+
+abbrev pub begins_word : List ℕ → Bool
+begins_word [] = false
+begins_word (c ∷ w) = is_second c w
+
+-- the words of JSON and its numbers, integers and reals
+pub record IsWord (w : List ℕ) : Type 0 where
+  pub chars : are_words w ≡ true
+  pub begins : begins_word w ≡ true
+
+word_char : (c : ℕ) → is_word c ≡ true → (is_plain_char c ≡ true) × ((c == 32) ≡ false) × (is_first c ≡ true)
+word_char c h = (grind (arith, nat_tests), grind (arith, nat_tests), grind (arith, nat_tests))
+
+words_plain : (w : List ℕ) → are_words w ≡ true → (are_plain w ≡ true) × (closes false w ≡ true)
+words_plain [] h = (refl, refl)
+words_plain (c ∷ w) h =
+    let q = and_parts (is_word c) (are_words w) h in
+    let z = word_char c q.0 in
+    let r = words_plain w q.1 in
+    (and_from _ _ z.0 r.0, rw (z.1) (r.1))
+
+pub word_text : (w : List ℕ) → IsWord w → IsPlainText w
+word_text [] word = cc (word.begins)
+word_text (c ∷ w) word =
+    let q = and_parts (is_word c) (are_words w) word.chars in
+    let r = words_plain w q.1 in
+    record { head = c; tail = w; whole = refl; first = (word_char c q.0).2; second = word.begins; chars = r.0; close = r.1 }
+
+-- ---- what a plain scalar doesn't begin with
+
+pub first_space : (c : ℕ) → is_first c ≡ true → (c == 32) ≡ false
+first_space c h = grind (arith, nat_tests)
+
+-- ---- strings
+
+fit_chars : (w : List ℕ) → list_any is_unfit_for_plain w ≡ false → are_plain w ≡ true
+unfolding is_unfit_for_plain
+fit_chars [] h = refl
+fit_chars (c ∷ w) h = let q = or_parts (is_unfit_for_plain c) (list_any is_unfit_for_plain w) h in and_from _ _ (grind (arith, nat_tests)) (fit_chars w q.1)
+
+no_last_space : (c : ℕ) (w : List ℕ) → ends_with nat_eq (c ∷ w) (codes " ") ≡ false → closes (c == 32) w ≡ true
+no_last_space c [] h = let e : (32 == c) ≡ false = cc (ends_with-one 32 c, h) in grind (arith, nat_tests)
+no_last_space c (d ∷ w) h = no_last_space d w (cc (ends_with-step 32 c d w, h))
+
+first_fits : (c : ℕ) (w : List ℕ) → is_unfit_for_plain c ≡ false → has_indicator_first (c ∷ w) ≡ false → begins_with (codes " ") (c ∷ w) ≡ false → is_first c ≡ true
+unfolding is_unfit_for_plain
+first_fits c w h e f = grind (arith, nat_tests)
+
+no_dash : (c : ℕ) (w : List ℕ) → has_indicator_first (c ∷ w) ≡ false → ((c == 45) ≡ false) × ((c == 46) ≡ false)
+no_dash c w e = (grind (arith, nat_tests), grind (arith, nat_tests))
+
+string_plain : (s : List ℕ) → is_quoted s ≡ false → IsPlainText s
+string_plain [] h = let z = unquoted [] h in let e = z.nonempty in cc
+string_plain (c ∷ w) h =
+    let z = unquoted (c ∷ w) h in
+    let fit = or_parts (is_unfit_for_plain c) (list_any is_unfit_for_plain w) z.fit in
+    let outer = or_parts (begins_with (codes " ") (c ∷ w)) (ends_with nat_eq (c ∷ w) (codes " ")) z.no_outer_space in
+    let dash = no_dash c w z.no_indicator_first in
+    let first = first_fits c w fit.0 z.no_indicator_first outer.0 in
+    record {
+      head = c;
+      tail = w;
+      whole = refl;
+      first = first;
+      second = grind arith;
+      chars = fit_chars w fit.1;
+      close = rw (first_space c first) at (no_last_space c w outer.1);
+    }
+
+-- ---- integers
+
+digits_words : (ds : List ℕ) → AllDigits 10 ds → are_words ds ≡ true
+digits_words [] h = refl
+digits_words (d ∷ ds) h = let range : (48 ≤ d) × (d ≤ 57) = digit_from_value d h.0 in and_from _ _ (grind (arith, nat_tests)) (digits_words ds h.1)
+
+numeral_plain : (ds : List ℕ) → IsNumeral 10 ds → IsPlainText ds
+numeral_plain [] h = absurd (omega (arith, h.0))
+numeral_plain (d ∷ ds) h =
+    let range : (48 ≤ d) × (d ≤ 57) = digit_from_value d h.1.0 in
+    word_text (d ∷ ds) (record { chars = digits_words (d ∷ ds) h.1; begins = (grind arith) })
+
+negative_plain : (ds : List ℕ) → IsNumeral 10 ds → IsPlainText (45 ∷ ds)
+negative_plain [] h = absurd (omega (arith, h.0))
+negative_plain (d ∷ ds) h = let range : (48 ≤ d) × (d ≤ 57) = digit_from_value d h.1.0 in word_text (45 ∷ d ∷ ds) (record { chars = digits_words (d ∷ ds) h.1; begins = (rw (ne_eqb d 45 (λ e. omega arith), ne_eqb d 32 (λ e. omega arith)) refl) })
+
+-- ---- reals
+
+real_words : (w : List ℕ) → list_all is_real_character w ≡ true → are_words w ≡ true
+real_words [] h = refl
+real_words (c ∷ w) h = let q = and_parts (is_real_character c) (list_all is_real_character w) h in and_from _ _ (let e = q.0 in grind (arith, nat_tests)) (real_words w q.1)
+
+two_dashes : (w : List ℕ) → is_real_text (45 ∷ 45 ∷ w) ≡ true → ⊥
+two_dashes w h = let z = real_text-cases (45 ∷ 45 ∷ w) h in let f = is_decimal-read (45 ∷ 45 ∷ w) in grind arith
+
+two_points : (w : List ℕ) → is_real_text (46 ∷ 46 ∷ w) ≡ true → ⊥
+two_points w h = let z = real_text-cases (46 ∷ 46 ∷ w) h in let f = is_decimal-read (46 ∷ 46 ∷ w) in grind arith
+
+not_alone : (c : ℕ) (b : Bool) (x : ℕ) → (c == x) ≡ b → is_real_text (x ∷ []) ≡ false → is_real_text (c ∷ []) ≡ true → (c == x) ≡ false
+not_alone c a x e f h = grind arith
+
+not_double : (c d : ℕ) (w : List ℕ) (b : Bool) (x : ℕ) → ((c == x) && (d == x)) ≡ b → (is_real_text (x ∷ x ∷ w) ≡ true → ⊥) → is_real_text (c ∷ d ∷ w) ≡ true → ((c == x) && (d == x)) ≡ false
+not_double c d w a x e f h = grind arith
+
+real_second : (c : ℕ) (w : List ℕ) → is_real_text (c ∷ w) ≡ true → list_all is_real_character w ≡ true → is_second c w ≡ true
+unfolding typing is_decimal
+real_second c [] h e = rw (not_alone c (c == 45) 45 refl refl h, not_alone c (c == 46) 46 refl refl h) refl
+real_second c (d ∷ w) h e =
+    let q = and_parts (is_real_character d) (list_all is_real_character w) e in
+    let real_no_space : (d == 32) ≡ false = grind (arith, nat_tests) in
+    rw (not_double c d w ((c == 45) && (d == 45)) 45 refl (two_dashes w) h, not_double c d w ((c == 46) && (d == 46)) 46 refl (two_points w) h, real_no_space, and_false (c == 45)) refl
+
+-- ---- all of them
+
+pub spelt_plain : (t : Tree) → IsPlain t → IsPlainText (spelling t)
+unfolding typing is_decimal
+spelt_plain (real []) h = cc
+spelt_plain (real (c ∷ w)) h =
+    let all = real_text-characters (c ∷ w) h in
+    word_text (c ∷ w) (record { chars = real_words (c ∷ w) all; begins = real_second c w h (and_parts (is_real_character c) (list_all is_real_character w) all).1 })
+spelt_plain (integer (pos n)) h = let small : n < 2 ^ 63 = ltb-true n (2 ^ 63) h in numeral_plain (decimal n) (decimal_is_IsNumeral n (omega arith)).0
+spelt_plain (integer (negsuc n)) h = let small : n < 2 ^ 63 = ltb-true n (2 ^ 63) h in negative_plain (decimal (suc n)) (decimal_is_IsNumeral (suc n) (omega arith)).0
+spelt_plain (string s) h = rw h (string_plain s h)
+spelt_plain (boolean b) h = grind arith
+spelt_plain (array ts) h = absurd h
+spelt_plain (hash ps) h = absurd h
+spelt_plain (alias n) h = absurd h
+spelt_plain null h = record { head = 126; tail = []; whole = refl; first = refl; second = refl; chars = refl; close = refl }
+spelt_plain bad_value h = absurd h

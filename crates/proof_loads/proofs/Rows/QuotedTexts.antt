@@ -1,0 +1,64 @@
+-- A text of one quoted scalar, with line feeds alone after it, has a row.
+use Rattle.proof_loads.proofs.TokensCommon.{[], act_of, append_assoc, arith, begins_with, begun_by, blanks_before, body_value, Bool, double_quoted_element, Element, elements, false, first_account, first_position, free, further_lines_stand, gives_node, has_more, is_blank, is_break, is_empty, is_separation, IsShown, least_for, length, Lines, lines_fit, List, may_precede, nat_le, not, Option, parts, previous_by, quoted_lines_fit, quoted_may_end, Quotes, refl, replicate, single_quoted_element, Some, Spelled, style_of, suc, taken, Tok, true, zero, ℕ, ◌&&◌, ◌++◌, ◌||◌, ◌∷◌, ◌≡◌}
+use Rattle.defs_text.specs.FlowScalar as flow
+use Rattle.defs_layout.specs.QuotedText as laid
+use Rattle.proof_loads.proofs.Rows.Steps.{Reads, at, step_of, site_of, step}
+use Rattle.proof_loads.proofs.Rows.Nodes.{outside, node_step}
+use Rattle.proof_loads.proofs.Rows.OneLine.{between}
+use Rattle.proof_loads.proofs.Rows.Texts.{read_end}
+use Rattle.proof_loads.proofs.Nul.{HasNone, quoted_none}
+
+-- outside all collections no line is refused for its column
+no_column : (n : ℕ) → nat_le 0 n ≡ true
+no_column n = grind arith
+
+line_any : (b : Bool) (n : ℕ) → (not b || nat_le 0 n) ≡ true
+line_any a n = grind (arith, no_column)
+
+any_lines : (escaped : Bool) (ls : Lines) → lines_fit 0 escaped ls ≡ true
+any_lines escaped (flow.last_line l) = line_any (not (escaped && is_empty l)) (length (blanks_before l))
+any_lines escaped (flow.line l e ls) = rw (line_any (has_more l || e) (length (blanks_before l))) (any_lines e ls)
+
+fits : (at : ℕ → List ℕ → Option Spelled) (quote : ℕ) (body : List ℕ) (es : List Element) → elements at 0 body ≡ Some es → quoted_lines_fit 0 at (quote ∷ (body ++ quote ∷ [])) ≡ true
+fits at quote body es e = rw (between quote body, e) (grind (arith, any_lines))
+
+feeds_end : (n : ℕ) → is_separation false (replicate n 10) [] ≡ true
+unfolding is_blank is_break
+feeds_end zero = refl
+feeds_end (suc n) = feeds_end n
+
+feeds_none : (n : ℕ) → HasNone (replicate n 10)
+feeds_none zero = refl
+feeds_none (suc n) = feeds_none n
+
+feeds_follow : (n : ℕ) (piece : List ℕ) → quoted_may_end false piece (replicate n 10) ≡ true
+unfolding is_blank is_break
+feeds_follow zero piece = refl
+feeds_follow (suc n) piece = refl
+
+-- a scalar in quotes, by its token
+module _ (quote : ℕ) (t : Tok) (body : List ℕ) (n : ℕ) where
+  abbrev piece : List ℕ
+  piece = quote ∷ (body ++ quote ∷ [])
+
+  scalar_reads : act_of t ≡ gives_node → begun_by t ≡ [] → HasNone piece → IsShown first_account (site_of first_account (step_of [] piece t false) (replicate n 10)) (step_of [] piece t false) (replicate n 10)
+      → further_lines_stand (least_for t (site_of first_account (step_of [] piece t false) (replicate n 10))) t piece ≡ true → may_precede false [] t piece (replicate n 10) ≡ true
+      → Reads first_account (piece ++ replicate n 10) (t ∷ Tok.stream_end ∷ [])
+  scalar_reads node none clean shown further follows =
+      let first = node_step [] [] piece (replicate n 10) t node outside first_position false free refl (omega arith) (record { separates = λ r. refl; tabless = λ awaits. refl; none = refl }) clean shown further follows in
+      step (step_of [] piece t false) (replicate n 10) first (rw none (read_end _ [] _ (previous_by t) taken (replicate n 10) refl (feeds_end n) (feeds_none n)))
+
+no_quote : (n : ℕ) → begins_with 39 (replicate n 10) ≡ false
+no_quote zero = refl
+no_quote (suc n) = refl
+
+pub quoted_reads : (quotes : Quotes) (body value : List ℕ) (n : ℕ) → body_value quotes body ≡ Some value
+    → Reads first_account (laid.spell (record { quotes = quotes; body = body; breaks = n })) (Tok.scalar (style_of quotes) value ∷ Tok.stream_end ∷ [])
+quoted_reads laid.single body value n h =
+    let z = parts true body value h in
+    rw (← append_assoc (39 ∷ body) (39 ∷ []) (replicate n 10))
+    (scalar_reads 39 (Tok.scalar (style_of laid.single) value) body n refl refl (quoted_none laid.single body value h) (refl, ((body, refl, h, no_quote n), refl)) (fits single_quoted_element 39 body z.all z.are) (feeds_follow n (39 ∷ (body ++ 39 ∷ []))))
+quoted_reads laid.double body value n h =
+    let z = parts false body value h in
+    rw (← append_assoc (34 ∷ body) (34 ∷ []) (replicate n 10))
+    (scalar_reads 34 (Tok.scalar (style_of laid.double) value) body n refl refl (quoted_none laid.double body value h) (refl, ((body, refl, h), refl)) (fits double_quoted_element 34 body z.all z.are) (feeds_follow n (34 ∷ (body ++ 34 ∷ []))))

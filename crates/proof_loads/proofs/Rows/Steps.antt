@@ -1,0 +1,59 @@
+-- Rows from an account on, given from their last step to their first.
+use Rattle.proof_loads.proofs.TokensCommon.{[], Account, account_past, ap, append_assoc, begins_free_line, Bool, Colon, Entry, false, is_in_flow, is_renewed, is_separation, IsRowFrom, IsShown, line_past_separation, List, map-append, may_stand, on_one_line, Option, past_piece, Position, Previous, Site, site_at, Some, spelled, Step, subst, sym, Tok, Token, tokens_before, tokens_from, toks, true, ℕ, ◌++◌, ◌∷◌, ◌≡◌}
+use Rattle.defs_token.specs.Key.{Line}
+use Rattle.proof_loads.proofs.Nul.{HasNone, both}
+
+-- From an account on a text has a row, with these tokens.
+pub record Reads (a : Account) (text : List ℕ) (tokens : List Tok) : Type 0 where
+  pub steps : List Step
+  pub last : List ℕ
+  pub is_text : spelled steps last ≡ text
+  pub is_row : IsRowFrom (Some a) steps last
+  pub are_tokens : toks (tokens_from (Some a) steps last) ≡ tokens
+  pub none : HasNone text
+
+-- an account by its parts
+abbrev pub at : Position → (blocks : List ℕ) → (awaits : Bool) → Previous → Line → List Entry → Account
+at p bs awaits before l es = record { site = record { position = p; blocks = bs; awaits = awaits; before = before }; line = l; entries = es }
+
+abbrev pub step_of : (separation piece : List ℕ) → Tok → (key : Bool) → Step
+step_of f p t k = record { separation = f; piece = p; shown = t; key = k }
+
+-- the site of a step's piece
+abbrev pub site_of : Account → Step → (next : List ℕ) → Site
+site_of a w next = site_at (is_in_flow a.entries) a.site w.separation w.piece w.shown next
+
+-- the tokens of a step, before the one that it shows
+abbrev pub first_tokens : Account → Step → (next : List ℕ) → (past : Position) → Colon → List Token
+first_tokens a w next past colon = tokens_before a.site (site_of a w next) past colon w next a.line a.entries
+
+-- the account after a step that may stand
+abbrev pub past_step : Account → Step → (next : List ℕ) → Option Account
+past_step a w next =
+    on_one_line w.piece (past_piece (site_of a w next) w.piece w.shown next (is_renewed a.site.before w.separation) w.key
+    (line_past_separation (is_in_flow a.entries) (begins_free_line a.site.before w.separation) a.line) a.entries)
+
+-- A step from an account before a text, to another account and with these tokens before the one that it shows.
+pub record Steps (a : Account) (w : Step) (next : List ℕ) (b : Account) (first : List Tok) : Type 0 where
+  pub is_separated : is_separation false w.separation (w.piece ++ next) ≡ true
+  pub is_shown : IsShown a (site_of a w next) w next
+  pub stands : may_stand (is_in_flow a.entries) a.site (site_of a w next) w.separation w.piece w.shown next ≡ true
+  pub leads : past_step a w next ≡ Some b
+  pub begins : (past : Position) (colon : Colon) → toks (first_tokens a w next past colon) ≡ first
+  pub none : HasNone w.separation × HasNone w.piece
+
+-- a step before a text that is read from the account after it
+pub step : {a b : Account} (w : Step) (next : List ℕ) {first tokens : List Tok} → Steps a w next b first → Reads b next tokens → Reads a (w.separation ++ (w.piece ++ next)) (first ++ (w.shown ∷ tokens))
+step {a} {b} w next {first} {tokens} s z = by (subst (λ n. Steps a w n b first) (sym z.is_text) s)
+  where
+    by : Steps a w (spelled z.steps z.last) b first → Reads a (w.separation ++ (w.piece ++ next)) (first ++ (w.shown ∷ tokens))
+    by s =
+        let past : account_past a w (spelled z.steps z.last) ≡ Some b = rw s.stands s.leads in
+        record {
+          steps = w ∷ z.steps;
+          last = z.last;
+          is_text = ap (λ n. w.separation ++ (w.piece ++ n)) z.is_text;
+          is_row = ((s.is_separated, s.is_shown), subst (λ o. IsRowFrom o z.steps z.last) (sym past) z.is_row);
+          are_tokens = rw (past, map-append, map-append, s.begins, z.are_tokens) (append_assoc first (w.shown ∷ []) tokens);
+          none = both w.separation (w.piece ++ next) s.none.0 (both w.piece next s.none.1 z.none);
+        }

@@ -1,0 +1,5 @@
+use Rattle.proof_loads.proofs.TokensCommon.{one_list}
+use Rattle.proof_loads.proofs.laws.texts_have_one_list_of_tokens.Goals as goal
+
+pub returns : goal.returns
+returns c = one_list

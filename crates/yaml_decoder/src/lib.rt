@@ -1,6 +1,0 @@
-//! Bytes, loaded as trees.
-#![tactic(auto)]
-
-mod decoder;
-
-pub use decoder::{LoadError, YamlDecoder};

@@ -1,4 +1,0 @@
-pub mod First
-pub mod Laws
-pub mod Reading
-pub mod Stream

@@ -1,2 +1,0 @@
-pub mod AppendsLemmas
-mod Rows

@@ -1,4 +1,0 @@
-pub mod Halving
-pub mod Joining
-pub mod Starting
-mod Common

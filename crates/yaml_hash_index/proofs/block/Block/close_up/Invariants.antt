@@ -1,5 +1,0 @@
-use Rattle.yaml_hash_index.proofs.Common.{drop, entry_closed_up, map, take, ◌++◌, ◌≡◌}
-use Rattle.yaml_hash_index.proofs.block.Block.close_up.Given as goal
-
-abbrev pub invariant-loop-entry : goal.invariant-loop-entry
-invariant-loop-entry l = l.entry-items ≡ map (entry_closed_up l.gone) (take l.entry-index l.initial.entry-items) ++ drop l.entry-index l.initial.entry-items

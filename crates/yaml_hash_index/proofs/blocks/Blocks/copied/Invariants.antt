@@ -1,5 +1,0 @@
-use Rattle.yaml_hash_index.proofs.Common.{take, ◌≡◌}
-use Rattle.yaml_hash_index.proofs.blocks.Blocks.copied.Given as goal
-
-abbrev pub invariant-loop-block : goal.invariant-loop-block
-invariant-loop-block l = l.blocks.items ≡ take l.block-index l.block-items

@@ -1,5 +1,0 @@
-use Rattle.yaml_hash_index.proofs.Common.{drop, entry_closed_up, map, take, ◌++◌, ◌≡◌}
-use Rattle.yaml_hash_index.proofs.blocks.Blocks.remove.Given as goal
-
-abbrev pub invariant-loop-block : goal.invariant-loop-block
-invariant-loop-block l = l.block-items ≡ map (map (entry_closed_up l.gone)) (take l.block-index l.initial.block-items) ++ drop l.block-index l.initial.block-items

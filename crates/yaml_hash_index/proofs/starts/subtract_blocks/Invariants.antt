@@ -1,5 +1,0 @@
-use Rattle.yaml_hash_index.proofs.Common.{AreApart, head_length}
-use Rattle.yaml_hash_index.proofs.starts.subtract_blocks.Given as goal
-
-abbrev pub invariant-loop-i : goal.invariant-loop-i
-invariant-loop-i l = AreApart (head_length l.blocks) l.first l.i l.starts l.initial.starts

@@ -1,0 +1,11 @@
+use Rattle.yaml_json.proofs.ReadCommon.{arith, get_or, refl}
+use Rattle.yaml_json.proofs.ReadNumberLemmas.{rest_of, zero_whole, digits_whole}
+use Rattle.yaml_json.proofs.digits.after_whole.Goals as goal
+
+pub returns-in-48 : goal.returns-in-48
+returns-in-48 c = zero_whole c.args.text.now _ (rest_of c.args.text.now 48 (omega arith) (omega arith))
+
+pub returns-in-49-to-57 : goal.returns-in-49-to-57
+returns-in-49-to-57 c =
+    let t = c.args.text.now in
+    digits_whole t _ c.after_digits.result.now (get_or t 0 0) (rest_of t (get_or t 0 0) (omega arith) refl) (omega arith) (omega arith) c.after_digits.ensures

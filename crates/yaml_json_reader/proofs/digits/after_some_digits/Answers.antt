@@ -1,6 +1,0 @@
-use Rattle.yaml_json_reader.proofs.Common.{rules}
-use Rattle.yaml_json_reader.proofs.NumberLemmas.{digits_read}
-use Rattle.yaml_json_reader.proofs.digits.after_some_digits.Goals as goal
-
-pub returns : goal.returns
-returns c = digits_read c.args.text.now c.after_digits.result.now (search rules) c.after_digits.ensures

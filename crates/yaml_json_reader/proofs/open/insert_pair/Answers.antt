@@ -1,8 +1,0 @@
-use Rattle.yaml_json_reader.proofs.Common.{ap, option_map, sym, view, ◌∙◌}
-use Rattle.yaml_json_reader.proofs.Collections.{pair_added}
-use Rattle.yaml_json_reader.proofs.open.insert_pair.Goals as goal
-
-pub returns-in-Ok-None : goal.returns-in-Ok-None
-returns-in-Ok-None c =
-    let h = c.in-Ok-None.ensures {u = tt} in
-    pair_added (view c.args.key) (view c.args.value) c.args.pairs.now c.insert.new.self (sym h.old ∙ ap (option_map view) c.in-Ok-None.field-0-is) h.pairs

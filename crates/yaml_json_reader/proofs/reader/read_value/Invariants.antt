@@ -1,8 +1,0 @@
-use Rattle.yaml_json_reader.proofs.Common.{AreOpen, length}
-use Rattle.yaml_json_reader.proofs.reader.read_value.Given as goal
-
-abbrev pub invariant-values : goal.invariant-values
-invariant-values l = AreOpen l.opened.items 255 l.fn.cursor l.cursor
-
-abbrev pub decreases-values : goal.decreases-values
-decreases-values l = length l.cursor

@@ -1,4 +1,0 @@
-pub mod Numbers
-pub mod Opened
-pub mod Reads
-pub mod Runs

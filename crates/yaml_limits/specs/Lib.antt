@@ -1,9 +1,0 @@
-pub mod Counting
-pub mod Extents
-pub mod Handing
-pub mod Limited
-pub mod Made
-pub mod Marked
-pub mod One
-pub mod OneByOne
-pub mod Sizes

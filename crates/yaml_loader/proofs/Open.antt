@@ -1,0 +1,60 @@
+-- Marks in a row, and those of open collections.
+use Rattle.yaml_loader.proofs.MarkedCommon.{[], AllOpenStand, AllStand, ap, append-nil, append_assoc, arith, Begun, drop, drop-append_seam, length, length-append, List, Mark, Marks, marks, OpenMarks, Parts, parts_at, PartsStand, refl, Stands, subst, sym, take, take-append_seam, take-length, ◌++◌, ◌∙◌, ◌∷◌, ◌≡◌, ◌≤◌}
+use Rattle.yaml_loader.proofs.Growing.{grown_parts}
+
+-- one more mark in a row
+pub row_and : (table ms : List Mark) (ss : List Marks) (m : Mark) (s : Marks) → AllStand table ms ss → Stands table m s → AllStand table (ms ++ m ∷ []) (ss ++ s ∷ [])
+row_and table [] [] m s h r = (r, tt)
+row_and table [] (x ∷ ss) m s h r = absurd h
+row_and table (n ∷ ms) [] m s h r = absurd h
+row_and table (n ∷ ms) (x ∷ ss) m s h r = (h.0, row_and table ms ss m s h.1 r)
+
+-- a part of the innermost collection
+pub open_and : (table : List Mark) (b : Begun) (bs : List Begun) (waiting : List Mark) (o : OpenMarks) (os : List OpenMarks) (m : Mark) (s : Marks)
+    → AllOpenStand table (b ∷ bs) waiting (o ∷ os) → Stands table m s → AllOpenStand table (b ∷ bs) (waiting ++ m ∷ []) (record o { parts = o.parts ++ s ∷ [] } ∷ os)
+open_and table b bs waiting o os m s (outer, (r, h)) stands = (
+  outer,
+  (
+    record {
+      mine = r.mine ++ m ∷ [];
+      waits = ap (λ w. w ++ m ∷ []) r.waits ∙ append_assoc outer r.mine (m ∷ []);
+      before = r.before;
+      anchor = r.anchor;
+      start = r.start;
+      stand = row_and table r.mine o.parts m s r.stand stands;
+    },
+    h,
+  ),
+)
+
+-- a collection begins
+pub open_more : (table : List Mark) (bs : List Begun) (waiting : List Mark) (os : List OpenMarks) (b : Begun) (o : OpenMarks)
+    → AllOpenStand table bs waiting os → b.before ≡ length waiting → b.anchor ≡ o.anchor → b.start ≡ o.start → o.parts ≡ [] → AllOpenStand table (b ∷ bs) waiting (o ∷ os)
+open_more table bs waiting os b o h before anchor start none =
+    (waiting, (record { mine = []; waits = sym (append-nil waiting); before = before; anchor = anchor; start = start; stand = subst (AllStand table []) (sym none) tt }, h))
+
+-- the innermost collection, whose parts go into the table
+pub record Closed (table : List Mark) (b : Begun) (bs : List Begun) (waiting : List Mark) (o : OpenMarks) (os : List OpenMarks) : Type 0 where
+  pub within : b.before ≤ length waiting
+  pub outer : AllOpenStand table bs (take b.before waiting) os
+  pub parts : AllStand table (drop b.before waiting) o.parts
+  pub anchor : b.anchor ≡ o.anchor
+  pub start : b.start ≡ o.start
+
+pub closed : (table : List Mark) (b : Begun) (bs : List Begun) (waiting : List Mark) (o : OpenMarks) (os : List OpenMarks) → AllOpenStand table (b ∷ bs) waiting (o ∷ os) → Closed table b bs waiting o os
+closed table b bs waiting o os (outer, (r, h)) =
+    let taken : take b.before waiting ≡ outer = ap (λ n. take n waiting) r.before ∙ ap (take (length outer)) r.waits ∙ take-append_seam outer r.mine in
+    let left : drop b.before waiting ≡ r.mine = ap (λ n. drop n waiting) r.before ∙ ap (drop (length outer)) r.waits ∙ drop-append_seam outer r.mine in
+    record {
+      within = omega (arith, r.before, ap length r.waits, length-append outer r.mine);
+      outer = subst (λ w. AllOpenStand table bs w os) (sym taken) h;
+      parts = subst (λ w. AllStand table w o.parts) (sym left) r.stand;
+      anchor = r.anchor;
+      start = r.start;
+    }
+
+-- the mark of a collection whose parts come last in the table
+pub last_in_table : (table ms : List Mark) (m : Mark) (ps : Parts) → m.first ≡ length table → m.count ≡ length ms → PartsStand table ms ps → Stands (table ++ ms) m (marks m.own m.tree ps)
+last_in_table table ms m ps first count h =
+    let parts : parts_at (table ++ ms) m ≡ ms = ap (λ n. take m.count (drop n (table ++ ms))) first ∙ ap (take m.count) (drop-append_seam table ms) ∙ ap (λ n. take n ms) count ∙ take-length ms in
+    (refl, refl, omega (arith, first, count, length-append table ms), subst (λ qs. PartsStand (table ++ ms) qs ps) (sym parts) (grown_parts table ms ms ps h))

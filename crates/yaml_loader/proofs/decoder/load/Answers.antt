@@ -1,0 +1,10 @@
+use Rattle.std.proofs.Common.{subst, false}
+use Rattle.std.specs.Str.{chars}
+use Rattle.defs_text.specs.Text.{string_chars, up_to_nul}
+use Rattle.yaml_loader.specs.Unread.{IsUnread}
+use Rattle.yaml_loader.proofs.decoder.load.Goals as goal
+
+-- the fault is the load's
+pub returns : goal.returns
+unfolding string_chars
+returns c = subst (λ bytes. IsUnread false (up_to_nul (chars bytes)) c.in-Err.fault) c.as_str.ensures.value c.in-Err.ensures.reads

@@ -1,0 +1,5 @@
+use Rattle.yaml_chars.proofs.SpelledLemmas.{Chars-spelled}
+use Rattle.yaml_loader.proofs.documents.Documents+Chars.new.Goals as goal
+
+pub returns-clause-text : goal.returns-clause-text
+returns-clause-text c = Chars-spelled c.new_from_str.result.start c.args.text.now c.utf8.text c.new_from_str.ensures.source

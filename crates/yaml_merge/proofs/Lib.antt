@@ -1,3 +1,0 @@
-pub mod MergeKey
-pub mod PutLemmas
-pub mod WritableLemmas

@@ -1,0 +1,293 @@
+-- Blocks as one row: what is at a spot, and what a change of a block does to the row.
+use Rattle.yaml_tree.proofs.IndexCommon.{[], ap, append-nil, append_assoc, AreFilled, AreRising, arith, cases_lt, digest_at, drop, drop_all, Entry, get_or, get_or_default, halved, head_at, inl, inr, insert, insert-append_left, insert-append_right, insert_end, IsEdge, IsNarrowed, joined, length, length-append, length-drop, length-insert, length-map, length-set, length-take, List, map, map-append, number_at, place_at, refl, remove, remove-append_left, remove-append_right, set, start, suc, sym, take, take-append-drop, take_all, take_at, zero, ℕ, ◌++◌, ◌+◌, ◌-◌, ◌<◌, ◌∙◌, ◌∷◌, ◌≡◌, ◌≤◌, ◌⊎◌}
+
+-- ---- entries by number
+
+pub number_got : (f : Entry → ℕ) (es : List Entry) (i : ℕ) (d : Entry) → i < length es → f (get_or es i d) ≡ number_at f es i
+number_got f [] i d h = absurd (omega arith)
+number_got f (e ∷ es) zero d h = refl
+number_got f (e ∷ es) (suc i) d h = number_got f es i d (omega arith)
+
+number_left : (f : Entry → ℕ) (es fs : List Entry) (i : ℕ) → i < length es → number_at f (es ++ fs) i ≡ number_at f es i
+number_left f [] fs i h = absurd (omega arith)
+number_left f (e ∷ es) fs zero h = refl
+number_left f (e ∷ es) fs (suc i) h = number_left f es fs i (omega arith)
+
+number_right : (f : Entry → ℕ) (es fs : List Entry) (i n : ℕ) → n ≡ length es + i → number_at f (es ++ fs) n ≡ number_at f fs i
+number_right f [] fs i n h = ap (number_at f fs) (omega (arith, h))
+number_right f (e ∷ es) fs i zero h = absurd (omega arith)
+number_right f (e ∷ es) fs i (suc n) h = number_right f es fs i n (omega arith)
+
+-- ---- where a block starts
+
+pub start_all : (bs : List (List Entry)) (n : ℕ) → length bs ≤ n → start bs n ≡ length (joined bs)
+start_all [] n h = refl
+start_all (b ∷ bs) zero h = absurd (omega arith)
+start_all (b ∷ bs) (suc n) h = omega (arith, start_all bs n (omega arith), length-append b (joined bs))
+
+pub start_within : (bs : List (List Entry)) (n : ℕ) → start bs n ≤ length (joined bs)
+start_within [] n = omega arith
+start_within (b ∷ bs) zero = omega arith
+start_within (b ∷ bs) (suc n) = omega (arith, start_within bs n, length-append b (joined bs))
+
+pub start_next : (bs : List (List Entry)) (i n : ℕ) → n ≡ suc i → start bs n ≡ start bs i + length (get_or bs i [])
+start_next [] i n e = omega arith
+start_next (b ∷ bs) i zero e = absurd (omega arith)
+start_next (b ∷ bs) zero (suc n) e = omega (arith, ap (start (b ∷ bs)) e, start_first bs n (omega arith))
+  where
+    start_first : (bs : List (List Entry)) (n : ℕ) → n ≡ 0 → start bs n ≡ 0
+    start_first [] n e = refl
+    start_first (b ∷ bs) zero e = refl
+    start_first (b ∷ bs) (suc n) e = absurd (omega arith)
+start_next (b ∷ bs) (suc i) (suc n) e = omega (arith, start_next bs i n (omega arith))
+
+pub start_zero : (bs : List (List Entry)) → start bs 0 ≡ 0
+start_zero [] = refl
+start_zero (b ∷ bs) = refl
+
+pub rank_within : (bs : List (List Entry)) (i j : ℕ) → j ≤ length (get_or bs i []) → start bs i + j ≤ length (joined bs)
+rank_within bs i j h = omega (arith, start_next bs i (suc i) refl, start_within bs (suc i))
+
+pub rank_inside : (bs : List (List Entry)) (i j : ℕ) → j < length (get_or bs i []) → start bs i + j < length (joined bs)
+rank_inside bs i j h = omega (arith, start_next bs i (suc i) refl, start_within bs (suc i))
+
+-- ---- what is at a spot
+
+pub number_in : (f : Entry → ℕ) (bs : List (List Entry)) (i j : ℕ) → i < length bs → j < length (get_or bs i []) → number_at f (joined bs) (start bs i + j) ≡ number_at f (get_or bs i []) j
+number_in f [] i j h g = absurd (omega arith)
+number_in f (b ∷ bs) zero j h g = ap (number_at f (b ++ joined bs)) (omega arith) ∙ number_left f b (joined bs) j g
+number_in f (b ∷ bs) (suc i) j h g = number_right f b (joined bs) (start bs i + j) _ (omega arith) ∙ number_in f bs i j (omega arith) g
+
+pub digest_in : (bs : List (List Entry)) (i j : ℕ) → i < length bs → j < length (get_or bs i []) → digest_at (joined bs) (start bs i + j) ≡ digest_at (get_or bs i []) j
+digest_in bs i j h g = number_in (λ e. e.digest) bs i j h g
+
+pub place_in : (bs : List (List Entry)) (i j : ℕ) → i < length bs → j < length (get_or bs i []) → place_at (joined bs) (start bs i + j) ≡ place_at (get_or bs i []) j
+place_in bs i j h g = number_in (λ e. e.place) bs i j h g
+
+-- ---- a change of one block
+
+pub joined_insert : (bs : List (List Entry)) (i j : ℕ) (e : Entry) → i < length bs → j ≤ length (get_or bs i []) → joined (set bs i (insert (get_or bs i []) j e)) ≡ insert (joined bs) (start bs i + j) e
+joined_insert [] i j e h g = absurd (omega arith)
+joined_insert (b ∷ bs) zero j e h g = sym (insert-append_left b (joined bs) j e g) ∙ ap (λ n. insert (b ++ joined bs) n e) (omega arith)
+joined_insert (b ∷ bs) (suc i) j e h g =
+    ap (λ es. b ++ es) (joined_insert bs i j e (omega arith) g ∙ ap (λ n. insert (joined bs) n e) (omega arith))
+    ∙ sym (insert-append_right b (joined bs) (length b) (length b + start bs i + j) e refl (omega arith))
+
+pub joined_push : (bs : List (List Entry)) (e : Entry) (n : ℕ) → n ≡ length (joined bs) → joined (bs ++ (e ∷ []) ∷ []) ≡ insert (joined bs) n e
+joined_push bs e n h = at_end bs ∙ sym (insert_end (joined bs) e) ∙ ap (λ m. insert (joined bs) m e) (sym h)
+  where
+    at_end : (bs : List (List Entry)) → joined (bs ++ (e ∷ []) ∷ []) ≡ joined bs ++ e ∷ []
+    at_end [] = refl
+    at_end (b ∷ bs) = ap (λ es. b ++ es) (at_end bs) ∙ sym (append_assoc b (joined bs) (e ∷ []))
+
+pub joined_remove : (bs : List (List Entry)) (i j : ℕ) → i < length bs → j < length (get_or bs i []) → joined (set bs i (remove (get_or bs i []) j)) ≡ remove (joined bs) (start bs i + j)
+joined_remove [] i j h g = absurd (omega arith)
+joined_remove (b ∷ bs) zero j h g = sym (remove-append_left b (joined bs) j g) ∙ ap (remove (b ++ joined bs)) (omega arith)
+joined_remove (b ∷ bs) (suc i) j h g =
+    ap (λ es. b ++ es) (joined_remove bs i j (omega arith) g ∙ ap (remove (joined bs)) (omega arith))
+    ∙ sym (remove-append_right b (joined bs) (length b) (length b + start bs i + j) refl (omega arith))
+
+-- a block of one entry goes
+pub joined_without : (bs : List (List Entry)) (i n : ℕ) → i < length bs → length (get_or bs i []) ≡ 1 → n ≡ start bs i → joined (remove bs i) ≡ remove (joined bs) n
+joined_without [] i n h one e = absurd (omega arith)
+joined_without ([] ∷ bs) zero n h one e = absurd (omega arith)
+joined_without ((x ∷ []) ∷ bs) zero n h one e = ap (remove (x ∷ joined bs)) (sym e)
+joined_without ((x ∷ y ∷ b) ∷ bs) zero n h one e = absurd (omega arith)
+joined_without (b ∷ bs) (suc i) n h one e =
+    ap (λ es. b ++ es) (joined_without bs i (n - length b) (omega arith) one (omega (arith, e)))
+    ∙ sym (remove-append_right b (joined bs) (length b) n refl (omega (arith, e)))
+
+-- ---- a block becomes two
+
+pub joined_halved : (bs : List (List Entry)) (i n h : ℕ) → n ≡ suc i → i < length bs → joined (halved bs i n h) ≡ joined bs
+joined_halved [] i n h e g = absurd (omega arith)
+joined_halved (b ∷ bs) zero zero h e g = absurd (omega arith)
+joined_halved (b ∷ bs) zero (suc zero) h e g = sym (append_assoc (take h b) (drop h b) (joined bs)) ∙ ap (λ es. es ++ joined bs) (take-append-drop h b)
+joined_halved (b ∷ bs) zero (suc (suc n)) h e g = absurd (omega arith)
+joined_halved (b ∷ bs) (suc i) zero h e g = absurd (omega arith)
+joined_halved (b ∷ bs) (suc i) (suc n) h e g = ap (λ es. b ++ es) (joined_halved bs i n h (omega arith) (omega arith))
+
+pub start_halved : (bs : List (List Entry)) (i n h : ℕ) → n ≡ suc i → i < length bs → start (halved bs i n h) i ≡ start bs i
+start_halved [] i n h e g = absurd (omega arith)
+start_halved (b ∷ bs) i zero h e g = absurd (omega arith)
+start_halved (b ∷ bs) zero (suc n) h e g = refl
+start_halved (b ∷ bs) (suc i) (suc n) h e g = ap (λ m. length b + m) (start_halved bs i n h (omega arith) (omega arith))
+
+pub first_halved : (bs : List (List Entry)) (i n h : ℕ) → n ≡ suc i → i < length bs → get_or (halved bs i n h) i [] ≡ take h (get_or bs i [])
+first_halved [] i n h e g = absurd (omega arith)
+first_halved (b ∷ bs) i zero h e g = absurd (omega arith)
+first_halved (b ∷ bs) zero (suc n) h e g = refl
+first_halved (b ∷ bs) (suc i) (suc n) h e g = first_halved bs i n h (omega arith) (omega arith)
+
+pub second_halved : (bs : List (List Entry)) (i n h : ℕ) → n ≡ suc i → i < length bs → get_or (halved bs i n h) n [] ≡ drop h (get_or bs i [])
+second_halved [] i n h e g = absurd (omega arith)
+second_halved (b ∷ bs) i zero h e g = absurd (omega arith)
+second_halved (b ∷ bs) zero (suc zero) h e g = refl
+second_halved (b ∷ bs) zero (suc (suc n)) h e g = absurd (omega arith)
+second_halved (b ∷ bs) (suc i) (suc n) h e g = second_halved bs i n h (omega arith) (omega arith)
+
+pub length-halved : (bs : List (List Entry)) (i n h : ℕ) → n ≡ suc i → i < length bs → length (halved bs i n h) ≡ length bs + 1
+length-halved bs i n h e g = length-insert (set bs i (take h (get_or bs i []))) n (drop h (get_or bs i [])) (omega (arith, length-set bs i (take h (get_or bs i [])))) ∙ ap (λ m. m + 1) (length-set bs i (take h (get_or bs i [])))
+
+-- a spot of the old block stands in the first half or in the second
+pub record IsMoved (bs cs : List (List Entry)) (i j k l : ℕ) : Type 0 where
+  pub block : k ≤ length cs
+  pub offset : l ≤ length (get_or cs k [])
+  pub same : start cs k + l ≡ start bs i + j
+
+pub spot_first : (bs cs : List (List Entry)) (i n j h : ℕ) → n ≡ suc i → i < length bs → cs ≡ halved bs i n h → j ≤ h → h ≤ length (get_or bs i []) → IsMoved bs cs i j i j
+spot_first bs cs i n j h e g is a b = record {
+  block = omega (arith, ap length is, length-halved bs i n h e g);
+  offset = omega (arith, ap (λ xs. length (get_or xs i [])) is, ap length (first_halved bs i n h e g), length-take h (get_or bs i []));
+  same = omega (arith, ap (λ xs. start xs i) is, start_halved bs i n h e g);
+}
+
+pub spot_second : (bs cs : List (List Entry)) (i n j h : ℕ) → n ≡ suc i → i < length bs → cs ≡ halved bs i n h → h ≤ j → j ≤ length (get_or bs i []) → IsMoved bs cs i j n (j - h)
+spot_second bs cs i n j h e g is a b =
+    let next = start_next (halved bs i n h) i n e in
+    record {
+      block = omega (arith, ap length is, length-halved bs i n h e g);
+      offset = omega (arith, ap (λ xs. length (get_or xs n [])) is, ap length (second_halved bs i n h e g), length-drop h (get_or bs i []));
+      same = omega (arith, ap (λ xs. start xs n) is, next, start_halved bs i n h e g, ap length (first_halved bs i n h e g), length-take h (get_or bs i []));
+    }
+
+-- ---- every entry is changed
+
+pub joined_map : (f : Entry → Entry) (bs : List (List Entry)) → joined (map (map f) bs) ≡ map f (joined bs)
+joined_map f [] = refl
+joined_map f (b ∷ bs) = ap (λ es. map f b ++ es) (joined_map f bs) ∙ sym (map-append f b (joined bs))
+
+pub filled_map : (f : Entry → Entry) (bs : List (List Entry)) → AreFilled bs → AreFilled (map (map f) bs)
+filled_map f [] a i h = absurd (omega arith)
+filled_map f (b ∷ bs) a zero h = omega (arith, a 0 (omega arith), length-map b f)
+filled_map f (b ∷ bs) a (suc i) h = filled_map f bs (λ j g. a (suc j) (omega arith)) i (omega arith)
+
+pub start_rises : (bs : List (List Entry)) (i j : ℕ) → i ≤ j → start bs i ≤ start bs j
+start_rises [] i j h = omega arith
+start_rises (b ∷ bs) zero j h = omega arith
+start_rises (b ∷ bs) (suc i) zero h = absurd (omega arith)
+start_rises (b ∷ bs) (suc i) (suc j) h = omega (arith, start_rises bs i j (omega arith))
+
+-- ---- how many blocks there are, and how long each is
+
+pub filled_counted : (bs : List (List Entry)) → AreFilled bs → length bs ≤ length (joined bs)
+filled_counted [] a = omega arith
+filled_counted (b ∷ bs) a = omega (arith, a 0 (omega arith), filled_counted bs (λ i h. a (suc i) (omega arith)), length-append b (joined bs))
+
+-- the other blocks have at least one entry each
+pub filled_beside : (bs : List (List Entry)) (i : ℕ) → AreFilled bs → i < length bs → length bs + length (get_or bs i []) ≤ length (joined bs) + 1
+filled_beside [] i a h = absurd (omega arith)
+filled_beside (b ∷ bs) zero a h = omega (arith, filled_counted bs (λ j g. a (suc j) (omega arith)), length-append b (joined bs))
+filled_beside (b ∷ bs) (suc i) a h = omega (arith, a 0 (omega arith), filled_beside bs i (λ j g. a (suc j) (omega arith)) (omega arith), length-append b (joined bs))
+
+-- ---- where digests reach a number
+
+pub edge_first : (bs : List (List Entry)) (m k : ℕ) → AreFilled bs → IsEdge (head_at bs) (length bs) m k → k ≡ 0 → IsEdge (digest_at (joined bs)) (length (joined bs)) m (start bs 0 + 0)
+edge_first [] m k a heads e = record { counted = omega arith; below = λ i f. absurd (omega arith); from = λ h. absurd (omega arith) }
+edge_first (b ∷ bs) m k a heads e = record {
+  counted = omega arith;
+  below = λ i f. absurd (omega arith);
+  from = λ h. omega (arith, digest_in (b ∷ bs) 0 0 (omega arith) (a 0 (omega arith)), heads.from (omega arith), ap (head_at (b ∷ bs)) e);
+}
+
+pub edge_joined : (bs : List (List Entry)) (m k i j : ℕ) → AreFilled bs → IsEdge (head_at bs) (length bs) m k → k ≡ suc i
+    → IsEdge (digest_at (get_or bs i [])) (length (get_or bs i [])) m j → IsEdge (digest_at (joined bs)) (length (joined bs)) m (start bs i + j)
+edge_joined bs m k i j a heads e inside = record {
+  counted = rank_within bs i j inside.counted;
+  below = λ r f. low j inside r f;
+  from = λ h. by h (cases_lt j (length (get_or bs i [])));
+}
+  where
+    there : i < length bs
+    there = omega (arith, heads.counted)
+
+    low : (j : ℕ) → IsEdge (digest_at (get_or bs i [])) (length (get_or bs i [])) m j → (r : ℕ) → suc r ≡ start bs i + j → digest_at (joined bs) r < m
+    low zero inside r f = absurd (omega (arith, inside.from (a i there), heads.below i (sym e)))
+    low (suc j) inside r f =
+        let same : r ≡ start bs i + j = omega arith in
+        omega (arith, ap (digest_at (joined bs)) same, digest_in bs i j there (omega (arith, inside.counted)), inside.below j refl)
+
+    next : (k < length bs) ⊎ (length bs ≤ k) → length (get_or bs i []) ≤ j → start bs i + j < length (joined bs) → m ≤ digest_at (joined bs) (start bs i + j)
+    next (inl g) l h =
+        let same : start bs i + j ≡ start bs k + 0 = omega (arith, start_next bs i k e, inside.counted) in
+        omega (arith, ap (digest_at (joined bs)) same, digest_in bs k 0 g (a k g), heads.from g)
+    next (inr g) l h = absurd (omega (arith, start_next bs i k e, start_all bs k g, inside.counted))
+
+    by : start bs i + j < length (joined bs) → (j < length (get_or bs i [])) ⊎ (length (get_or bs i []) ≤ j) → m ≤ digest_at (joined bs) (start bs i + j)
+    by h (inl g) = omega (arith, digest_in bs i j there g, inside.from g)
+    by h (inr g) = next (cases_lt k (length bs)) g h
+
+pub edges_rise : (es : List Entry) (m n j k : ℕ) → AreRising es → IsEdge (digest_at es) (length es) m j → IsEdge (digest_at es) (length es) n k → m ≤ n → j ≤ k
+edges_rise es m n j k a d e h = by j d (cases_lt k j)
+  where
+    by : (j : ℕ) → IsEdge (digest_at es) (length es) m j → (k < j) ⊎ (j ≤ k) → j ≤ k
+    by j d (inr g) = g
+    by zero d (inl g) = absurd (omega arith)
+    by (suc j) d (inl g) = absurd (omega (arith, d.counted, d.below j refl, e.from (omega (arith, d.counted)), a k j (omega arith) (omega (arith, d.counted))))
+
+-- between the first entry with a digest and the first with a higher one, all have this digest
+pub edges_narrow : (es : List Entry) (m n j k count : ℕ) → AreRising es → IsEdge (digest_at es) (length es) m j → IsEdge (digest_at es) (length es) n k → n ≡ m + 1 → j + count ≡ k
+    → IsNarrowed es m j count
+edges_narrow es m n j k count a d e next c = record { within = omega (arith, e.counted); below = d.below; inside = same; above = after }
+  where
+    last : (i l : ℕ) → i ≤ l → suc l ≡ k → digest_at es i < n
+    last i l h f = omega (arith, e.below l f, a i l h (omega (arith, e.counted)))
+
+    same : (i : ℕ) → j ≤ i → i < j + count → digest_at es i ≡ m
+    same i h g = omega (arith, d.from (omega (arith, e.counted)), a j i h (omega (arith, e.counted)), last i (k - 1) (omega arith) (omega arith))
+
+    after : j + count < length es → m < digest_at es (j + count)
+    after h = omega (arith, ap (digest_at es) c, e.from (omega arith))
+
+-- no entry from the first with a digest on has it
+pub edge_past : (es : List Entry) (m j : ℕ) → IsEdge (digest_at es) (length es) m j → (j < length es → m < digest_at es j) → IsNarrowed es m j 0
+edge_past es m j d h = record {
+  within = omega (arith, d.counted);
+  below = d.below;
+  inside = λ i f g. absurd (omega arith);
+  above = λ g. omega (arith, h (omega arith), ap (digest_at es) (same j));
+}
+  where
+    same : (j : ℕ) → j + 0 ≡ j
+    same j = omega arith
+
+-- ---- reads and changes of a list of blocks
+
+pub block_read : (xs bs : List (List Entry)) (i : ℕ) (b : List Entry) → xs ≡ bs → i < length bs → b ≡ get_or xs i b → b ≡ get_or bs i []
+block_read xs bs i b v h e = e ∙ ap (λ ys. get_or ys i b) v ∙ get_or_default bs i b [] h
+
+pub set_before : (bs : List (List Entry)) (i n : ℕ) (b u : List Entry) → n ≡ suc i → i < length bs → set (insert bs n u) i b ≡ insert (set bs i b) n u
+set_before [] i n b u e h = absurd (omega arith)
+set_before (c ∷ bs) i zero b u e h = absurd (omega arith)
+set_before (c ∷ bs) zero (suc zero) b u e h = refl
+set_before (c ∷ bs) zero (suc (suc n)) b u e h = absurd (omega arith)
+set_before (c ∷ bs) (suc i) (suc n) b u e h = ap (λ xs. c ∷ xs) (set_before bs i n b u (omega arith) (omega arith))
+
+pub get_before : (bs : List (List Entry)) (i n : ℕ) (u d : List Entry) → i < n → i < length bs → get_or (insert bs n u) i d ≡ get_or bs i d
+get_before [] i n u d e h = absurd (omega arith)
+get_before (c ∷ bs) i zero u d e h = absurd (omega arith)
+get_before (c ∷ bs) zero (suc n) u d e h = refl
+get_before (c ∷ bs) (suc i) (suc n) u d e h = get_before bs i n u d (omega arith) (omega arith)
+
+-- a block's upper half is put after it, and it keeps the lower one
+pub halved_made : (xs ys : List (List Entry)) (i n h : ℕ) (upper whole lower : List Entry) → n ≡ suc i → i < length xs → ys ≡ insert xs n upper
+    → upper ≡ drop h (get_or xs i []) → whole ≡ get_or ys i whole → lower ≡ take h whole → set ys i lower ≡ halved xs i n h
+halved_made xs ys i n h upper whole lower e l put u w low =
+    ap (λ zs. set zs i lower) put
+    ∙ set_before xs i n lower upper e l
+    ∙ ap (λ b. insert (set xs i b) n upper) (low ∙ ap (take h) (block_read ys (insert xs n upper) i whole put (omega (arith, l, e, length-insert xs n upper (omega (arith, l, e)))) w ∙ get_before xs i n upper [] (omega (arith, e)) l))
+    ∙ ap (insert (set xs i (take h (get_or xs i []))) n) u
+
+-- of a loop over all blocks that has come to its end
+pub all_mapped : (f : List Entry → List Entry) (n : ℕ) (xs ys : List (List Entry)) → length xs ≤ n → ys ≡ map f (take n xs) ++ drop n xs → ys ≡ map f xs
+all_mapped f n xs ys h e = e ∙ (λ i. map f (take_all n xs h i) ++ drop_all n xs h i) ∙ append-nil (map f xs)
+
+pub lent_back : {X : Type 0} (n : ℕ) (xs ys : List X) → length xs ≡ n → take n (xs ++ drop (length xs) ys) ≡ xs
+lent_back n xs ys e = take_at xs (drop (length xs) ys) n e
+
+pub not_past : (bs : List (List Entry)) (i j : ℕ) → start bs i + j < length (joined bs) → i < length bs
+not_past bs i j h = by (cases_lt i (length bs))
+  where
+    by : (i < length bs) ⊎ (length bs ≤ i) → i < length bs
+    by (inl g) = g
+    by (inr g) = absurd (omega (arith, start_all bs i g))

@@ -1,0 +1,38 @@
+use Rattle.yaml_tree.proofs.IndexCommon.{ap, AreFilled, arith, joined, length, nat_tests, rank_of, refl, subst, ◌+◌, ◌<◌}
+use Rattle.yaml_tree.proofs.Halving.{digits_some}
+use Rattle.yaml_tree.proofs.Joining.{edges_rise, edges_narrow, edge_past, filled_counted}
+use Rattle.yaml_tree.proofs.blocks.Blocks.narrowed.Goals as goal
+
+pub returns-then-is_past-clause-narrowed : goal.returns-then-is_past-clause-narrowed
+returns-then-is_past-clause-narrowed c = edge_past (joined c.args.self.now) c.args.digest (rank_of c.args.self.now c.edge-low.result) c.edge-low.ensures.edge (c.is_past.ensures.past c.if-is_past.true)
+
+pub between-requires-clause-ordered : goal.between-requires-clause-ordered
+between-requires-clause-ordered c =
+    let bs = c.args.self.now in
+    edges_rise (joined bs) c.args.digest (c.args.digest + 1) (rank_of bs c.edge-low.result) (rank_of bs c.edge-high.result) c.requires.rising c.edge-low.ensures.edge c.edge-high.ensures.edge (omega arith)
+
+pub returns-clause-narrowed : goal.returns-clause-narrowed
+returns-clause-narrowed c =
+    let bs = c.args.self.now in
+    edges_narrow (joined bs) c.args.digest (c.args.digest + 1) (rank_of bs c.edge-low.result) (rank_of bs c.edge-high.result) c.between.result c.requires.rising c.edge-low.ensures.edge c.edge-high.ensures.edge refl c.between.ensures
+
+pub returns-then-is_past-clause-compared : goal.returns-then-is_past-clause-compared
+returns-then-is_past-clause-compared c =
+    let bs = c.args.self.now in
+    let blocks : 0 < length bs = grind (arith, nat_tests, c.is_empty.ensures, c.if-is_empty.false, ap length c.self.view_is, c.self.inside.blocks.ok.0) in
+    let some = digits_some (length (joined bs)) (omega (arith, blocks, filled_counted bs (subst AreFilled c.self.view_is c.self.invariant.filled))) in
+    (omega (arith, c.end_below.ensures.compared.0, c.edge-low.ensures.compared.0, c.is_past.ensures.compared.0), omega (arith, some, c.end_below.ensures.compared.1, c.edge-low.ensures.compared.1, c.is_past.ensures.compared.1))
+
+pub returns-then-is_last-clause-compared : goal.returns-then-is_last-clause-compared
+returns-then-is_last-clause-compared c =
+    let bs = c.args.self.now in
+    let blocks : 0 < length bs = grind (arith, nat_tests, c.is_empty.ensures, c.if-is_empty.false, ap length c.self.view_is, c.self.inside.blocks.ok.0) in
+    let some = digits_some (length (joined bs)) (omega (arith, blocks, filled_counted bs (subst AreFilled c.self.view_is c.self.invariant.filled))) in
+    (omega (arith, c.end_below.ensures.compared.0, c.edge-low.ensures.compared.0, c.is_past.ensures.compared.0, c.is_last.ensures.compared.0), omega (arith, some, c.end_below.ensures.compared.1, c.edge-low.ensures.compared.1, c.is_past.ensures.compared.1, c.is_last.ensures.compared.1))
+
+pub returns-clause-compared : goal.returns-clause-compared
+returns-clause-compared c =
+    let bs = c.args.self.now in
+    let blocks : 0 < length bs = grind (arith, nat_tests, c.is_empty.ensures, c.if-is_empty.false, ap length c.self.view_is, c.self.inside.blocks.ok.0) in
+    let some = digits_some (length (joined bs)) (omega (arith, blocks, filled_counted bs (subst AreFilled c.self.view_is c.self.invariant.filled))) in
+    (omega (arith, c.end_below.ensures.compared.0, c.edge-low.ensures.compared.0, c.is_past.ensures.compared.0, c.is_last.ensures.compared.0, c.edge-high.ensures.compared.0), omega (arith, some, c.end_below.ensures.compared.1, c.edge-low.ensures.compared.1, c.is_past.ensures.compared.1, c.is_last.ensures.compared.1, c.edge-high.ensures.compared.1))

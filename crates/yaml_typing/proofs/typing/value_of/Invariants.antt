@@ -1,5 +1,0 @@
-use Rattle.yaml_typing.proofs.Common.{digits_value, take, ◌≡◌}
-use Rattle.yaml_typing.proofs.typing.value_of.Given as goal
-
-abbrev pub invariant-loop-digit : goal.invariant-loop-digit
-invariant-loop-digit l = l.value ≡ digits_value 10 (take l.digit-index l.digits)
