@@ -18,7 +18,8 @@ import sys
 TOP = os.path.join(os.path.dirname(os.path.abspath(__file__)), "..")
 PAGE = os.path.join(TOP, "docs", "API.md")
 FACADE, MODULES = "yaml_rust2", ["yaml", "emitter", "parser", "scanner", "laws"]
-BESIDE = ["yaml_limits", "yaml_marked", "yaml_documents", "yaml_excerpt", "yaml_json", "yaml_merge", "yaml_paths", "overlay"]
+BESIDE = [("yaml_loader", "limits"), ("yaml_loader", "marked"), ("yaml_loader", "documents"), ("yaml_loader", "laws"), ("yaml_excerpt", ""), ("yaml_json", ""), ("yaml_merge", ""),
+          ("yaml_paths", ""), ("overlay", "")]
 
 INTRO = """# The public items
 
@@ -31,6 +32,10 @@ for is told in docs/PROVED.md."""
 
 ITEM = re.compile(r"^pub (?:const (?=fn))?(struct|enum|trait|type|const|fn|mod) (\w+)")
 ALIASES = {"fmt::Result": "fmt::Error"}
+
+
+def named(crate, module):
+    return crate + "::" + module if module else crate
 
 
 class Item:
@@ -178,7 +183,7 @@ class Library:
     def item(self, crate, module, path):
         """The item at a path, or the name of a crate and a module."""
         if path[0] in ("crate", "self"):
-            path = path[1:]
+            module, path = "" if path[0] == "crate" else module, path[1:]
         elif not self.is_module(crate, self.below(module, path[0])) and len(path) > 1:
             crate, module, path = path[0], "", path[1:]
         for name in path[:-1]:
@@ -270,9 +275,8 @@ class Page:
     def __init__(self):
         self.library, self.lines, self.faults = Library(), [INTRO], []
         self.aliases = dict(ALIASES)
-        for crate in [FACADE] + BESIDE:
-            modules = MODULES if crate == FACADE else [""]
-            for item in (it for module in modules for it in self.library.public(crate, module) if isinstance(it, Item)):
+        for crate, module in [(FACADE, module) for module in MODULES] + BESIDE:
+            for item in (it for it in self.library.public(crate, module) if isinstance(it, Item)):
                 if item.kind == "type" and "Result<" in item.head:
                     self.aliases[item.name] = error_type("-> " + item.head.partition("= ")[2], {})
 
@@ -339,29 +343,30 @@ class Page:
                 self.module("%s::%s::%s" % (FACADE, module, inner), low, inner)
                 self.group([it for it in self.library.public(low, inner) if it not in own])
 
-    def beside(self, crate):
-        self.module(crate, crate, "")
-        self.group([it for it in self.library.public(crate) if isinstance(it, Item)])
-        inner = [name for name, it in self.library.crate(crate).items[""].items() if it.kind == "mod"]
+    def beside(self, crate, part):
+        self.module(named(crate, part), crate, part)
+        self.group([it for it in self.library.public(crate, part) if isinstance(it, Item)])
+        inner = [] if part else [name for name, it in self.library.crate(crate).items[""].items() if it.kind == "mod"]
         for module in sorted(inner, key=lambda name: name == "laws"):
             self.module("%s::%s" % (crate, module), crate, module)
             self.group(self.library.public(crate, module))
 
     def left_out(self):
-        """Modules and names of the facade, and crates that README lists, of which nothing is told."""
+        """Modules and names of the facade, and crates and modules that README lists, of which nothing is told."""
         facade = self.library.crate(FACADE)
         told = {it.name for module in MODULES for it in self.library.public(FACADE, module) if isinstance(it, Item)}
         with open(os.path.join(TOP, "README.md")) as text:
-            listed = re.findall(r"^- `(\w+)`: ", text.read(), re.M)
+            listed = re.findall(r"^- `([\w:]+)`: ", text.read(), re.M)
         names = [it.name for it in facade.items[""].values() if it.name not in MODULES] + [it for it in facade.passed[""] if it not in told]
-        for name in names + [it for it in listed if it not in BESIDE]:
+        beside = [named(*it) for it in BESIDE]
+        for name in names + [it for it in listed if it not in beside]:
             self.faults.append("%s is public, and the page leaves it out" % name)
 
     def text(self):
         self.left_out()
         self.facade()
-        for crate in BESIDE:
-            self.beside(crate)
+        for crate, module in BESIDE:
+            self.beside(crate, module)
         return "\n".join(self.lines) + "\n"
 
 
