@@ -1,4 +1,6 @@
-//! One tree laid over another, as settings are laid over their defaults.
+//! One tree laid over another, as settings are laid over their defaults, and merge keys.
+//!
+//! [`overlay`] lays two trees over each other at all levels. [`merge_keys`] carries out the merge keys (`<<`) that stand in one tree.
 #![tactic(auto)]
 
 mod carry_out;

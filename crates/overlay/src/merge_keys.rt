@@ -13,7 +13,7 @@
 //! ```
 //!
 //! The mapping's own pairs keep their order, and the merged ones stand after them. A value replaces or stays as a whole: to lay
-//! mappings over each other at all levels there is the crate `overlay`. Keys that are mappings are not looked into.
+//! mappings over each other at all levels there is [`overlay`](crate::overlay). Keys that are mappings are not looked into.
 //!
 //! The merge key is one of YAML 1.1 (yaml.org/type/merge.html). YAML 1.2 has no such key, so a load leaves it as any other.
 

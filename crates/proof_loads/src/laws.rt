@@ -1,4 +1,4 @@
-//! Laws of loads, and of the scanner's model and whole texts, each the contract of an empty function.
+//! Laws of the tokens of whole texts, of what texts mean, and of what is read of them, each the contract of an empty function.
 
 ghost use Rattle.proof_loads.specs.Laws.{SettledTokensStay, OneFault, OneListOfEventsBefore, OneListOfPulledEventsBefore, OneListOfPushedEventsBefore, ReadTextsAreNotRefused, ReadTextsHaveNoFaultButMemory, EventsOfReadTextsAreRead, ReadTextsHaveTheirTrees, JsonTextsMeanTheirTree, JsonTextsAreWithoutNul, ReadTextsAreLoaded, JsonTextsAreLoaded, DumpsMeanTheirTree, TextsAreAnswered, ReadTextsHaveOneListOfEvents, AnswersAreSettled, CharactersAreTheText, StringsAreTheText};
 ghost use Rattle.defs_layout.specs.DumpIsInjective.{DumpIsInjective};

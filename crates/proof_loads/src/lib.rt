@@ -1,5 +1,5 @@
-//! What a load of a text returns: the promises of the scanner, the parser and the loader put together. First, the tokens of every JSON text, every
-//! layout and every text of one quoted scalar: theorems about the scanner's model.
+//! What a load of a text returns: the promises of the scanner, the parser and the loader put together. Below that, the tokens of whole
+//! texts: the scanner's model gives every JSON text, every layout and every text of one quoted scalar exactly its tokens.
 #![tactic(auto)]
 
 pub mod cuts;

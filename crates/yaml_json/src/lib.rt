@@ -1,4 +1,4 @@
-//! YAML trees as JSON (RFC 8259), compact or indented.
+//! YAML trees as JSON (RFC 8259), compact or indented, and JSON texts as trees.
 //!
 //! A tree has a JSON text if its keys are strings, its reals are numbers of JSON, and no alias and no bad value stands
 //! in it. [`write_json`] writes it without white space, [`write_json_indented`] on several lines. A load of what was
@@ -14,6 +14,8 @@
 //!     r#"{"name":"x","ports":[80,443],"ratio":2.50}"#
 //! );
 //! ```
+//!
+//! [`at_once`] goes the other way: it reads a JSON text in one pass, without tokens and events.
 #![tactic(auto)]
 
 pub mod at_once;

@@ -35,7 +35,7 @@ pub record Answers (limits : Limits) (text : List ℕ) (result : Result (Vec Yam
   pub documents : IfOk result (λ documents. AreWithin limits (items_view documents.items))
   pub fault : IfErr result (λ e. IsNotLoaded limits text e)
 
--- what a loader gives, its fault as an error of this crate
+-- what a loader gives, its fault as an error of a load within limits
 abbrev pub GivesAll : YamlLoader → Result (Vec Yaml Global) LimitsError → Type 0
 GivesAll l (Ok documents) = Gives l (Ok documents)
 GivesAll l (Err (error.Scan f)) = Gives l (Err f)

@@ -1,7 +1,7 @@
 //! The loader: the events of a YAML stream, read as trees.
 //!
-//! [`YamlLoader`] loads all documents of a text. [`documents`] gives them one by one, [`limits`] refuses what would take too much of a
-//! program, [`marked`] says where each node begins, and [`decoder`] loads bytes.
+//! [`YamlLoader`] loads all documents of a text. [`documents`] gives them one by one, [`limits`] refuses what nests too deep or makes
+//! too much, [`marked`] says where each node begins, and [`decoder`] loads bytes.
 #![tactic(auto)]
 
 mod count;

@@ -16,7 +16,7 @@ use yaml_tree::Yaml;
 ///
 /// As an iterator it gives `Ok` with each document, in order. Then it gives `None`, or first as an `Err` the text's fault or
 /// that the next document goes over the limits; after that it gives `None` forever. The documents are those of
-/// `crate::documents::Documents`.
+/// [`Documents`](crate::documents::Documents).
 ///
 /// The limits count for each document on its own, as if it stood alone: a log may have any number of documents. So of `size`
 /// only what waits in memory counts, which is one document.

@@ -15,7 +15,7 @@ use crate::marked::{MarkedDocuments, MarkedLoader};
 use std::alloc::Global;
 use yaml_chars::TextInMemory;
 
-/// Loads all documents of a text, each node with the position where it begins, as `crate::marked::load_marked` does, if they
+/// Loads all documents of a text, each node with the position where it begins, as [`load_marked`](crate::marked::load_marked) does, if they
 /// are within limits. Positions count for nothing: they take memory in proportion to the nodes.
 ///
 /// # Example
@@ -29,7 +29,7 @@ use yaml_chars::TextInMemory;
 ///
 /// # Errors
 ///
-/// Those of [`load_with_limits`](crate::load_with_limits), with the same positions.
+/// Those of [`load_with_limits`](crate::limits::load_with_limits), with the same positions.
 pub fn load_marked_with_limits(
     alloc: Global,
     text: &str,

@@ -7,7 +7,7 @@ use crate::mark::Mark;
 use crate::marked_node::Marked;
 use yaml_tree::Yaml;
 
-/// The documents of a text, with the positions of all nodes. Made by [`crate::load_marked`].
+/// The documents of a text, with the positions of all nodes. Made by [`load_marked`](crate::marked::load_marked).
 #[derive(Drop)]
 pub struct MarkedDocuments {
     pub(crate) documents: Vec<Yaml>,

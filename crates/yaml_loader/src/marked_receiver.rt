@@ -20,8 +20,8 @@ use yaml_tokens::ScanError;
 
 /// A loader that also takes the positions of nodes: it hands each event to a `YamlLoader`, which makes the trees.
 ///
-/// A receiver of your own can wrap it, as it can wrap a `YamlLoader`. [`crate::load_marked`] makes one, and so does a load
-/// within limits.
+/// A receiver of your own can wrap it, as it can wrap a `YamlLoader`. [`load_marked`](crate::marked::load_marked) makes one, and
+/// so does a load within limits.
 #[derive(Drop)]
 pub struct MarkedLoader {
     pub(crate) loader: YamlLoader,

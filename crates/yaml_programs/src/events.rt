@@ -1,4 +1,4 @@
-//! The lines of `yamltool events`.
+//! The line that `yamltool events` and `yamlbatch` print for an event.
 
 ghost use Rattle.std.specs.Prelude.{◌≡◌, Some, OnOk, chars};
 ghost use Rattle.std.specs.Io.KnownBytes.{Appends};

@@ -1,5 +1,5 @@
-//! What the command line programs share: their options, as a table declares them, their help, the bytes of their files, and how
-//! they end.
+//! What the command line programs share: their options, as a table declares them, their help, the bytes of their files, how they
+//! end, and the line that they print for an event.
 #![tactic(auto)]
 
 mod bounds;

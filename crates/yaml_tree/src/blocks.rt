@@ -1,4 +1,4 @@
-//! Entries in blocks.
+//! Places in an order of their own, in blocks, so that one more moves few of the others.
 ghost use Rattle.std.specs.Prelude.{◌≡◌, ◌<◌, ◌≤◌, ◌+◌, ◌-◌, ◌*◌, ◌^◌, ◌∷◌, [], length, map, take, drop, get_or, set, IsTrue, IsFalse, IfOk, IfSome, OnOk, OnErr};
 ghost use Rattle.std.specs.List.{insert, remove};
 ghost use Rattle.defs_tree.specs.Digits.{binary_digits};

@@ -1,4 +1,7 @@
 //! YAML trees: nodes, arrays and hashes, their order, and what a plain text stands for.
+//!
+//! [`stands_for`] tells whether a plain text is an integer, a null, a boolean, a real, or its own string (YAML 1.2, section 10.3.2), and
+//! [`decimal`] has the parts of a number that JSON writes as YAML does. [`Blocks`] is the index of a long hash.
 #![tactic(auto)]
 
 pub mod array;
