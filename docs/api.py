@@ -18,8 +18,8 @@ import sys
 TOP = os.path.join(os.path.dirname(os.path.abspath(__file__)), "..")
 PAGE = os.path.join(TOP, "docs", "API.md")
 FACADE, MODULES = "yaml_rust2", ["yaml", "emitter", "parser", "scanner", "laws"]
-BESIDE = [("yaml_loader", "limits"), ("yaml_loader", "marked"), ("yaml_loader", "documents"), ("yaml_loader", "laws"), ("yaml_excerpt", ""), ("yaml_json", ""), ("yaml_merge", ""),
-          ("yaml_paths", ""), ("overlay", "")]
+BESIDE = [("yaml_loader", "limits"), ("yaml_loader", "marked"), ("yaml_loader", "documents"), ("yaml_loader", "laws"), ("yaml_excerpt", ""),
+          ("yaml_json", ""), ("yaml_paths", ""), ("overlay", "")]
 
 INTRO = """# The public items
 

@@ -27,7 +27,6 @@ BANDS = [
 ]
 # The bands from the highest to the lowest; two of a row stand side by side.
 SHELVES = [[5], [4], [3], [2], [0, 1]]
-PROGRAMS_OWN = ("yaml_event_lines", "yaml_programs")
 
 # The way of a character, lowest first, with what each hands to the next; the numbers are those of 'How a character becomes a tree'.
 WAY = [
@@ -64,7 +63,7 @@ def kind(name):
             return i
     if name.startswith(("test_", "example")) or name == "uses":
         return 5
-    return 4 if name in PROGRAMS_OWN or name == "yamlbench" or is_program(name) else 3
+    return 4 if name in ("yaml_programs", "yamlbench") or is_program(name) else 3
 
 
 def below(name, low, seen=None):
