@@ -20,7 +20,6 @@ record OnLine (t : Tree) : Type 0 where
   spelt : (r : List ℕ) → spell_scalar scalar r ≡ spelling t ++ r
 
 plain : (t : Tree) → IsPlain t → OnLine t
-plain (Tree.string s) is = record { scalar = Scalar.plain (Tree.string s); basic = tt; valid = is; tree = refl; spelt = λ r. refl }
 plain t is = record { scalar = Scalar.plain t; basic = tt; valid = is; tree = refl; spelt = λ r. refl }
 
 -- It is plain, unless it is a string that needs double quotes.

@@ -41,22 +41,11 @@ documents_read keep_tags s read (Documents.document d g ds) are =
 -- ---- the stream
 
 -- a first document without marker: its node's first token begins it
-block_left : {keep_tags : Bool} {s : Names} {es : List Ev} (b : Block) (r : List Tok) → Says keep_tags s document_and (block_tokens b r) es
-    → Says keep_tags s (goal_and at.documents []) (block_tokens b r) es
-block_left (Block.array vs) r x = left _ refl x
-block_left (Block.hash fs) r x = left _ refl x
-
-inline_left : {keep_tags : Bool} {s : Names} {es : List Ev} (i : Inline) (r : List Tok) → Says keep_tags s document_and (inline_tokens i r) es
-    → Says keep_tags s (goal_and at.documents []) (inline_tokens i r) es
-inline_left (Inline.scalar (Scalar.plain t)) r x = left _ refl x
-inline_left (Inline.scalar _) r x = left _ refl x
-inline_left _ r x = left _ refl x
-
 root_left : {keep_tags : Bool} {s : Names} {es : List Ev} (root : Root) (r : List Tok) → Says keep_tags s document_and (root_tokens root r) es
     → Says keep_tags s (goal_and at.documents []) (root_tokens root r) es
-root_left (Root.block column b) r x = block_left b r x
-root_left (Root.inline i) r x = inline_left i r x
-root_left (Root.literal text ls) r x = left _ refl x
+root_left (Root.block column (Block.array vs)) r x = left _ refl x
+root_left (Root.inline (Inline.scalar (Scalar.plain t))) r x = left _ refl x
+root_left _ r x = left _ refl x
 
 documents_left : {keep_tags : Bool} {s : Names} {es : List Ev} (is_marked : Bool) (ds : Documents) → Says keep_tags s document_and (documents_tokens ds) es
     → Says keep_tags s (goal_and at.documents []) (marked is_marked (documents_tokens ds)) es
