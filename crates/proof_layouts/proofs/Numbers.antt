@@ -25,8 +25,7 @@ all_digits : (w : List ℕ) → are_digits w ≡ true → list_all is_ascii_digi
 all_digits a h = grind arith
 
 after_digits : (w r : List ℕ) → list_all is_ascii_digit w ≡ true → begins_in is_ascii_digit r ≡ false → after_all is_ascii_digit (w ++ r) ≡ r
-after_digits [] [] h stops = refl
-after_digits [] (c ∷ r) h stops = rw stops refl
+after_digits [] r h stops = grind arith
 after_digits (c ∷ w) r h stops = let q = and_parts (is_ascii_digit c) (list_all is_ascii_digit w) h in rw (q.0) (after_digits w r q.1 stops)
 
 whole_digits : (w : List ℕ) → is_whole w ≡ true → are_digits w ≡ true
@@ -34,44 +33,30 @@ whole_digits a h = grind (arith, and_from)
 
 -- ---- numbers are decimal
 
-signed_digits : (s : Sign) (w : List ℕ) → are_digits w ≡ true → after_one is_sign (spell_sign s (w ++ [])) ≡ w ++ []
-signed_digits a w h = grind (arith, digits_no_sign)
-
 some_digits : (w : List ℕ) → are_digits w ≡ true → at_least_one is_ascii_digit (w ++ []) ≡ true
 some_digits [] h = cc
 some_digits (c ∷ w) h = ap (at_least_one is_ascii_digit) (append-nil (c ∷ w)) ∙ h
 
 exponent_reads : (e : Exponent) → json.is_exponent e ≡ true → reads_exponent (spell_exponent e []) ≡ true
-exponent_reads a h = grind (arith, signed_digits, some_digits)
-
-exponent_stops : (e : Exponent) → begins_in is_ascii_digit (spell_exponent e []) ≡ false
-exponent_stops a = grind arith
+exponent_reads a h = grind (arith, digits_no_sign, some_digits)
 
 rest_stops : (f : Fraction) (e : Exponent) → begins_in is_ascii_digit (spell_fraction f (spell_exponent e [])) ≡ false
-rest_stops a e = grind (arith, exponent_stops)
+rest_stops f e = grind arith
 
 rest_reads : (f : Fraction) (e : Exponent) → is_fraction f ≡ true → json.is_exponent e ≡ true → reads_on true (spell_fraction f (spell_exponent e [])) ≡ true
 rest_reads no_fraction no_exponent h i = refl
 rest_reads no_fraction (exponent true s digits) h i = exponent_reads (exponent true s digits) i
 rest_reads no_fraction (exponent false s digits) h i = exponent_reads (exponent false s digits) i
-rest_reads (fraction digits) e h i = rw (after_digits digits (spell_exponent e []) (all_digits digits h) (exponent_stops e)) (exponent_reads e i)
+rest_reads (fraction digits) e h i = rw (after_digits digits (spell_exponent e []) (all_digits digits h) (rest_stops no_fraction e)) (exponent_reads e i)
 
--- the parts of a number
-record Parts (m : Bool) (w : List ℕ) (f : Fraction) (e : Exponent) : Type 0 where
-  whole : is_whole w ≡ true
-  digits : are_digits w ≡ true
-  fraction : is_fraction f ≡ true
-  exponent : json.is_exponent e ≡ true
-
-parts : (m : Bool) (w : List ℕ) (f : Fraction) (e : Exponent) → is_number (json.number m w f e) ≡ true → Parts m w f e
-parts m w f e h =
-    grind (arith, whole_digits)
+number_digits : (m : Bool) (w : List ℕ) (f : Fraction) (e : Exponent) → is_number (json.number m w f e) ≡ true → are_digits w ≡ true
+number_digits m w f e h = grind (arith, whole_digits)
 
 unsigned : (w r : List ℕ) → are_digits w ≡ true → begins_in is_ascii_digit r ≡ false → reads_on true r ≡ true → reads_unsigned (w ++ r) ≡ true
 unsigned w r h stops reads = rw (digits_first w r h, after_digits w r (all_digits w h) stops) reads
 
-decimal_number : (m : Bool) (w : List ℕ) (f : Fraction) (e : Exponent) → Parts m w f e → is_decimal (spell_number (json.number m w f e) []) ≡ true
-decimal_number a w f e p = grind (arith, is_decimal-read, unsigned, rest_stops, rest_reads, digits_no_sign)
+decimal_number : (m : Bool) (w : List ℕ) (f : Fraction) (e : Exponent) → is_number (json.number m w f e) ≡ true → is_decimal (spell_number (json.number m w f e) []) ≡ true
+decimal_number a w f e h = grind (arith, is_decimal-read, unsigned, rest_stops, rest_reads, digits_no_sign, whole_digits)
 
 -- ---- decimal texts
 
@@ -120,9 +105,8 @@ typed false (c ∷ t) are h is e =
 not_whole : (m : Bool) (w : List ℕ) (f : Fraction) (e : Exponent) → is_number (json.number m w f e) ≡ true → IsOther (spell_fraction f (spell_exponent e []))
     → typing (spell_number (json.number m w f e) []) ≡ real (spell_number (json.number m w f e) [])
 not_whole m w f e h other =
-    let p = parts m w f e h in
     let r = spell_fraction f (spell_exponent e []) in
-    typed m (w ++ r) false (digits_first w r p.digits) (decimal_number m w f e p) (no_digits w r other)
+    typed m (w ++ r) false (digits_first w r (number_digits m w f e h)) (decimal_number m w f e h) (no_digits w r other)
 
 digit_ten : (c : ℕ) → is_ascii_digit c ≡ true → is_digit 10 c ≡ true
 digit_ten c h = grind (arith, nat_tests)
@@ -133,9 +117,9 @@ are_ten (c ∷ w) h = list_all-more is_ascii_digit (is_digit 10) digit_ten (c �
 
 pub numbers_stand_for_their_trees : JsonNumbersStandForTheirTrees
 numbers_stand_for_their_trees (json.number m w no_fraction no_exponent) h =
-    let p = parts m w no_fraction no_exponent h in
-    let is = decimal_number m w no_fraction no_exponent p in
-    rw append-nil (typed m w true (rw append-nil at (digits_first w [] p.digits)) (rw append-nil at is) (are_ten w p.digits))
+    let digits = number_digits m w no_fraction no_exponent h in
+    let is = decimal_number m w no_fraction no_exponent h in
+    rw append-nil (typed m w true (rw append-nil at (digits_first w [] digits)) (rw append-nil at is) (are_ten w digits))
 numbers_stand_for_their_trees (json.number m w no_fraction (exponent true s digits)) h = not_whole m w no_fraction (exponent true s digits) h refl
 numbers_stand_for_their_trees (json.number m w no_fraction (exponent false s digits)) h = not_whole m w no_fraction (exponent false s digits) h refl
 numbers_stand_for_their_trees (json.number m w (fraction digits) e) h = not_whole m w (fraction digits) e h refl
