@@ -26,7 +26,8 @@ one_more {c = c} {rest = rest} {ls = ls} {ms = ms} x y = record {
 }
 
 -- A text has a line, so no brackets stand for its lines.
-pub some_lines : {c : ℕ} {text : List ℕ → List ℕ} {ls : List (List ℕ)} (brackets : List ℕ) → IsBox c text ls → IsBox c text (if_none brackets ls)
+pub some_lines : {c : ℕ} {text : List ℕ → List ℕ} {ls : List (List ℕ)} (brackets : List ℕ) → IsBox c text ls
+    → IsBox c text (if_none brackets ls)
 some_lines {c = c} {text = text} {ls = []} brackets x = let e : line_feed ∷ spaces c (text []) ≡ [] = x.spelt [] in cc
 some_lines {ls = l ∷ ls} brackets x = x
 
@@ -55,7 +56,8 @@ pub hung_spelt : {c : ℕ} {text : List ℕ → List ℕ} {ls : List (List ℕ)}
 hung_spelt {c = c} {text = text} {ls = []} mark x = let e : line_feed ∷ spaces (c + 2) (text []) ≡ [] = x.spelt [] in cc
 hung_spelt {c = c} {text = text} {ls = l ∷ ls} mark x = record {
   spelt = λ r.
-      let first : text r ≡ l ++ spell_box (c + 2) ls r = after_spaces (c + 2) (text r) (l ++ spell_box (c + 2) ls r) (let e = x.spelt r in cc) in
+      let first : text r ≡ l ++ spell_box (c + 2) ls r =
+      after_spaces (c + 2) (text r) (l ++ spell_box (c + 2) ls r) (let e = x.spelt r in cc) in
       ap (λ y. line_feed ∷ spaces c (mark ++ space ∷ y)) (first ∙ ap (λ y. l ++ y) (sym (indented_spelt c ls r)))
       ∙ ap (λ y. line_feed ∷ spaces c y) (sym (append_assoc mark (space ∷ l) (spell_box c (indented ls) r)));
 }
@@ -63,7 +65,9 @@ hung_spelt {c = c} {text = text} {ls = l ∷ ls} mark x = record {
 -- A text that is a box two columns to the right, on the line below a mark, is the box hung lower on the mark.
 pub hung_lower_spelt : {c : ℕ} {text : List ℕ → List ℕ} {ls : List (List ℕ)} (mark : List ℕ) → IsBox (c + 2) text ls
     → IsBox c (λ r. mark ++ line_feed ∷ spaces (c + 2) (text r)) (hung_lower mark ls)
-hung_lower_spelt {c = c} {ls = ls} mark x = record { spelt = λ r. ap (λ y. line_feed ∷ spaces c (mark ++ y)) (x.spelt r ∙ sym (indented_spelt c ls r)) }
+hung_lower_spelt {c = c} {ls = ls} mark x = record {
+  spelt = λ r. ap (λ y. line_feed ∷ spaces c (mark ++ y)) (x.spelt r ∙ sym (indented_spelt c ls r));
+}
 
 -- ---- literal blocks and whole texts
 
@@ -77,12 +81,15 @@ pub lines_at : (column : ℕ) (ls : List (List ℕ)) → LinesAt column ls
 lines_at column [] = record { lines = []; are = (refl, tt); spelt = λ r. refl }
 lines_at column ([] ∷ ls) =
     let x = lines_at column ls in
-    record { lines = Line.blank column ∷ x.lines; are = (ap (λ m. [] ∷ m) x.are.0, (omega arith, x.are.1)); spelt = λ r. rw (x.spelt r) refl }
+    record { lines = Line.blank column ∷ x.lines; are = (rw x.are.0 refl, (omega arith, x.are.1)); spelt = λ r. rw (x.spelt r) refl }
 lines_at column ((c ∷ cs) ∷ ls) =
     let x = lines_at column ls in
-    record { lines = Line.full (c ∷ cs) ∷ x.lines; are = (ap (λ m. (c ∷ cs) ∷ m) x.are.0, (λ e. cc, x.are.1)); spelt = λ r. rw (x.spelt r) refl }
+    record { lines = Line.full (c ∷ cs) ∷ x.lines; are = (rw x.are.0 refl, (λ e. cc, x.are.1)); spelt = λ r. rw (x.spelt r) refl }
 
 -- Lines joined are the first of them and the others at column 0.
-pub joined_spelt : (l : List ℕ) (ls : List (List ℕ)) → l ++ spell_box 0 ls [] ≡ joined (l ∷ ls)
-joined_spelt l [] = append-nil l
-joined_spelt l (m ∷ ls) = ap (λ x. l ++ line_feed ∷ x) (joined_spelt m ls)
+joined_lines : (l : List ℕ) (ls : List (List ℕ)) → l ++ spell_box 0 ls [] ≡ joined (l ∷ ls)
+joined_lines l [] = append-nil l
+joined_lines l (m ∷ ls) = ap (λ x. l ++ line_feed ∷ x) (joined_lines m ls)
+
+pub joined_spelt : {text : List ℕ → List ℕ} {ls : List (List ℕ)} (l : List ℕ) → IsBox 0 text ls → l ++ line_feed ∷ text [] ≡ joined (l ∷ ls)
+joined_spelt {ls = ls} l x = ap (λ y. l ++ y) (x.spelt []) ∙ joined_lines l ls

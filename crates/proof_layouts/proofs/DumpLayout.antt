@@ -49,11 +49,12 @@ pub data Node (at_root : Bool) (c : ℕ) : Tree → List (List ℕ) → Type 0 w
   inline : {t : Tree} {ls : List (List ℕ)} (i : Inline) → IsBasicInline i → IsInline i → inline_tree i ≡ t → is_block t ≡ false
       → (is_scalar t ≡ false → IsExplicitKey (Value.beside 0 i no_comment)) → IsBox c (spell_inline i) ls → Node at_root c t ls
   literal : (text : List ℕ) → may_be_literal at_root text ≡ true → Node at_root c (Tree.string text) (literal_box text)
-  block : {t : Tree} {ls : List (List ℕ)} (b : Block) → IsBasicBlock b → ((a : List Anchor) → IsBlock c a b) → block_tree b ≡ t → is_block t ≡ true
-      → IsBox c (spell_block c b) ls → Node at_root c t ls
+  block : {t : Tree} {ls : List (List ℕ)} (b : Block) → IsBasicBlock b → ((a : List Anchor) → IsBlock c a b) → block_tree b ≡ t
+      → is_block t ≡ true → IsBox c (spell_block c b) ls → Node at_root c t ls
 
 scalar_node : {at_root : Bool} {c : ℕ} {t : Tree} → is_scalar t ≡ true → is_block t ≡ false → OnLine t → Node at_root c t (spelling t ∷ [])
-scalar_node k flat x = Node.inline (Inline.scalar x.scalar) x.basic x.valid x.tree flat (λ e. cc) (record { spelt = λ r. rw (x.spelt r) refl })
+scalar_node k flat x =
+    Node.inline (Inline.scalar x.scalar) x.basic x.valid x.tree flat (λ e. cc) (record { spelt = λ r. rw (x.spelt r) refl })
 
 literal_spelt : (c : ℕ) (text : List ℕ) (x : LinesAt c (lines_of text)) → IsBox c (spell_literal c text x.lines) (literal_box text)
 literal_spelt c text x = record { spelt = λ r. rw (x.spelt r) refl }
@@ -66,9 +67,8 @@ record Placed (lower : Bool) (c : ℕ) (mark : List ℕ) (t : Tree) (ls : List (
   basic : IsBasicValue value
   valid : (a : List Anchor) → IsValue c a value
   tree : value_tree value ≡ t
-  follows_mark : MayFollowMark value
-  follows_key : lower ≡ true → MayFollowScalarKey value
-  as_key : is_scalar t ≡ false → IsExplicitKey value
+  -- after a mark, after a scalar key, and as a key
+  stands : MayFollowMark value × (lower ≡ true → MayFollowScalarKey value) × (is_scalar t ≡ false → IsExplicitKey value)
   box : IsBox c (λ r. mark ++ spell_value c value r) (placed lower mark t ls)
 
 on_mark_line : (lower : Bool) (mark : List ℕ) (t : Tree) (ls : List (List ℕ)) → is_block t ≡ false → hung mark ls ≡ placed lower mark t ls
@@ -80,9 +80,7 @@ place {c = c} {t = t} {ls = ls} lower mark (Node.inline i basic valid tree flat 
   basic = (basic, tt);
   valid = λ a. (valid, tt);
   tree = tree;
-  follows_mark = tt;
-  follows_key = λ e. tt;
-  as_key = as_key;
+  stands = (tt, λ e. tt, as_key);
   box = rw (← on_mark_line lower mark t ls flat) (hung_spelt mark box);
 }
 place {c = c} lower mark (Node.literal text may) =
@@ -92,9 +90,7 @@ place {c = c} lower mark (Node.literal text may) =
       basic = tt;
       valid = λ a. (omega arith, may, x.are);
       tree = refl;
-      follows_mark = tt;
-      follows_key = λ e. tt;
-      as_key = λ e. cc;
+      stands = (tt, λ e. tt, λ e. cc);
       box = rw (← on_mark_line lower mark (Tree.string text) (literal_box text) refl) (hung_spelt mark (literal_spelt (c + 2) text x));
     }
 place {c = c} {t = t} {ls = ls} false mark (Node.block b basic valid tree is box) =
@@ -104,9 +100,7 @@ place {c = c} {t = t} {ls = ls} false mark (Node.block b basic valid tree is box
       basic = basic;
       valid = λ a. rw d (valid a);
       tree = tree;
-      follows_mark = tt;
-      follows_key = λ e. cc;
-      as_key = λ e. tt;
+      stands = (tt, λ e. cc, λ e. tt);
       box = rw d (hung_spelt mark box);
     }
 place {c = c} true mark (Node.block b basic valid tree is box) = record {
@@ -114,9 +108,7 @@ place {c = c} true mark (Node.block b basic valid tree is box) = record {
   basic = (tt, basic);
   valid = λ a. (tt, tt, omega arith, valid a);
   tree = tree;
-  follows_mark = tt;
-  follows_key = λ e. tt;
-  as_key = λ e. tt;
+  stands = (tt, λ e. tt, λ e. tt);
   box = rw is (hung_lower_spelt mark box);
 }
 
@@ -158,9 +150,11 @@ field_of {compact = compact} {c = c} {k = k} {v = v} {ls = ls} {ms = ms} f short
         record {
           field = Field.implicit x.scalar y.value;
           basic = (x.basic, y.basic);
-          valid = λ a. ((x.valid, rw (x.spelt [], append-nil) (short_key k e short)), y.follows_key refl, y.valid a);
+          valid = λ a. ((x.valid, rw (x.spelt [], append-nil) (short_key k e short)), y.stands.1 refl, y.valid a);
           tree = rw (x.tree, y.tree) refl;
-          box = rw e (record { spelt = λ r. rw (x.spelt (58 ∷ spell_value c y.value r), ← append_assoc (spelling k) (codes ":") (spell_value c y.value r)) (y.box.spelt r) });
+          box = rw e (record {
+            spelt = λ r. rw (x.spelt (58 ∷ spell_value c y.value r), ← append_assoc (spelling k) (codes ":")) (y.box.spelt r);
+          });
         }
     by false e =
         let x = place (not compact) (codes "?") key in
@@ -168,7 +162,7 @@ field_of {compact = compact} {c = c} {k = k} {v = v} {ls = ls} {ms = ms} f short
         record {
           field = Field.explicit x.value [] y.value;
           basic = (x.basic, y.basic);
-          valid = λ a. (x.as_key e, x.valid a, tt, y.follows_mark, y.valid (anchors_after x.value a));
+          valid = λ a. (x.stands.2 e, x.valid a, tt, y.stands.0, y.valid (anchors_after x.value a));
           tree = rw (x.tree, y.tree) refl;
           box = rw e (one_more x.box y.box);
         }
@@ -183,48 +177,63 @@ pairs_again (pair k v ps) = ap (λ qs. pair k v qs) (pairs_again ps)
 
 mutual
   -- A tree's node.
-  pub node_of : (compact multiline at_root : Bool) (c : ℕ) (t : Tree) → IsDistinct t → FitsI64 t → HasText t → Node at_root c t (box compact multiline at_root t)
+  pub node_of : (compact multiline at_root : Bool) (c : ℕ) (t : Tree) → IsDistinct t → FitsI64 t → HasText t
+      → Node at_root c t (box compact multiline at_root t)
   node_of compact multiline at_root c (Tree.string s) d f h = by (multiline && may_be_literal at_root s) refl
     where
-      by : (b : Bool) → (multiline && may_be_literal at_root s) ≡ b → Node at_root c (Tree.string s) (box compact multiline at_root (Tree.string s))
+      by : (b : Bool) → (multiline && may_be_literal at_root s) ≡ b
+          → Node at_root c (Tree.string s) (box compact multiline at_root (Tree.string s))
       by true e = rw e (Node.literal s ((and_parts multiline (may_be_literal at_root s) e).1))
       by false e = rw e (scalar_node refl refl (on_line (Tree.string s) refl f h))
   node_of compact multiline at_root c (Tree.array no_items) d f h =
       Node.inline Inline.empty_array tt tt refl refl (λ e. tt) (record { spelt = λ r. refl })
   node_of compact multiline at_root c (Tree.array (item t ts)) d f h =
-      let x = entries_of compact multiline c t ts (place (not compact) (codes "-") (node_of compact multiline false (c + 2) t d.0 f.0 h.0)) d.1 f.1 h.1 in
+      let first = node_of compact multiline false (c + 2) t d.0 f.0 h.0 in
+      let x = entries_of compact multiline c t ts first d.1 f.1 h.1 in
       Node.block (Block.array x.entries) x.basic x.valid (ap Tree.array x.tree) refl (some_lines (codes "[]") x.box)
   node_of compact multiline at_root c (Tree.hash no_pairs) d f h =
       Node.inline Inline.empty_hash tt tt refl refl (λ e. tt) (record { spelt = λ r. refl })
   node_of compact multiline at_root c (Tree.hash (pair k v ps)) d f h =
-      let first = field_of f.0 h.0 h.1 (node_of compact multiline false (c + 2) k d.1.0 f.0 h.1) (node_of compact multiline false (c + 2) v d.1.1 f.1 h.2) in
-      let x = fields_of compact multiline c k v ps first d.1.2 f.2 h.3 in
-      Node.block (Block.hash x.fields) x.basic (λ a. (x.valid a, rw x.tree d.0)) (rw (x.tree, pairs_again (pair k v ps)) refl) refl (some_lines (codes "{}") x.box)
+      let key = node_of compact multiline false (c + 2) k d.1.0 f.0 h.1 in
+      let value = node_of compact multiline false (c + 2) v d.1.1 f.1 h.2 in
+      let x = fields_of compact multiline c k v ps (field_of f.0 h.0 h.1 key value) d.1.2 f.2 h.3 in
+      Node.block (Block.hash x.fields) x.basic (λ a. (x.valid a, rw x.tree d.0)) (rw (x.tree, pairs_again (pair k v ps)) refl) refl
+      (some_lines (codes "{}") x.box)
   node_of compact multiline at_root c t d f h = scalar_node refl refl (on_line t refl f h)
 
   -- The entries of an array, from the first one on.
-  entries_of : (compact multiline : Bool) (c : ℕ) (t : Tree) (ts : Items) → Placed (not compact) c (codes "-") t (box compact multiline false t)
+  entries_of : (compact multiline : Bool) (c : ℕ) (t : Tree) (ts : Items) → Node false (c + 2) t (box compact multiline false t)
       → AllDistinct ts → AllFitI64 ts → AllHaveText ts → EntriesOf compact multiline c (item t ts)
-  entries_of compact multiline c t no_items x d f h =
-      record { entries = Entries.last_entry x.value; basic = x.basic; valid = λ a. (x.follows_mark, x.valid a); tree = rw x.tree refl; box = alone x.box }
-  entries_of compact multiline c t (item u ts) x d f h =
-      let y = entries_of compact multiline c u ts (place (not compact) (codes "-") (node_of compact multiline false (c + 2) u d.0 f.0 h.0)) d.1 f.1 h.1 in
+  entries_of compact multiline c t no_items n d f h =
+      let x = place (not compact) (codes "-") n in
+      record {
+        entries = Entries.last_entry x.value;
+        basic = x.basic;
+        valid = λ a. (x.stands.0, x.valid a);
+        tree = rw x.tree refl;
+        box = alone x.box;
+      }
+  entries_of compact multiline c t (item u ts) n d f h =
+      let x = place (not compact) (codes "-") n in
+      let y = entries_of compact multiline c u ts (node_of compact multiline false (c + 2) u d.0 f.0 h.0) d.1 f.1 h.1 in
       record {
         entries = Entries.entry x.value [] y.entries;
         basic = (x.basic, y.basic);
-        valid = λ a. (x.follows_mark, x.valid a, tt, y.valid (anchors_after x.value a));
+        valid = λ a. (x.stands.0, x.valid a, tt, y.valid (anchors_after x.value a));
         tree = rw (x.tree, y.tree) refl;
         box = one_more x.box y.box;
       }
 
   -- The entries of a hash, from the first one on.
-  fields_of : (compact multiline : Bool) (c : ℕ) (k v : Tree) (ps : Pairs) → FieldOf compact c k v (box compact multiline false k) (box compact multiline false v)
+  fields_of : (compact multiline : Bool) (c : ℕ) (k v : Tree) (ps : Pairs)
+      → FieldOf compact c k v (box compact multiline false k) (box compact multiline false v)
       → AllPairsDistinct ps → AllPairsFitI64 ps → AllPairsHaveText ps → FieldsOf compact multiline c (pair k v ps)
   fields_of compact multiline c k v no_pairs x d f h =
       record { fields = Fields.last_field x.field; basic = x.basic; valid = x.valid; tree = rw x.tree refl; box = alone x.box }
   fields_of compact multiline c k v (pair l w ps) x d f h =
-      let z = field_of f.0 h.0 h.1 (node_of compact multiline false (c + 2) l d.0 f.0 h.1) (node_of compact multiline false (c + 2) w d.1 f.1 h.2) in
-      let y = fields_of compact multiline c l w ps z d.2 f.2 h.3 in
+      let key = node_of compact multiline false (c + 2) l d.0 f.0 h.1 in
+      let value = node_of compact multiline false (c + 2) w d.1 f.1 h.2 in
+      let y = fields_of compact multiline c l w ps (field_of f.0 h.0 h.1 key value) d.2 f.2 h.3 in
       record {
         fields = Fields.field x.field [] y.fields;
         basic = (x.basic, y.basic);
@@ -241,10 +250,10 @@ plainly x = record { is_marked = true; documents = last_document (record { gap =
 
 -- A tree's node at the root is a layout of the tree.
 pub as_root : {t : Tree} {ls : List (List ℕ)} → Node true 0 t ls → IsBasicLayout t (joined (codes "---" ∷ ls))
-as_root {ls = ls} (Node.inline i basic valid tree flat as_key box) =
-    (plainly (Root.inline i), (tt, valid, tt), (refl, basic), ap (λ x. codes "---" ++ x) (box.spelt []) ∙ joined_spelt (codes "---") ls, rw tree refl)
+as_root (Node.inline i basic valid tree flat as_key box) =
+    (plainly (Root.inline i), (tt, valid, tt), (refl, basic), joined_spelt (codes "---") box, rw tree refl)
 as_root (Node.literal text may) =
     let x = lines_at 0 (lines_of text) in
-    (plainly (Root.literal text x.lines), (tt, (may, x.are), tt), (refl, tt), ap (λ x. codes "---" ++ x) ((literal_spelt 0 text x).spelt []) ∙ joined_spelt (codes "---") (literal_box text), refl)
-as_root {ls = ls} (Node.block b basic valid tree is box) =
-    (plainly (Root.block 0 b), (tt, valid [], tt), (refl, basic), ap (λ x. codes "---" ++ x) (box.spelt []) ∙ joined_spelt (codes "---") ls, rw tree refl)
+    (plainly (Root.literal text x.lines), (tt, (may, x.are), tt), (refl, tt), joined_spelt (codes "---") (literal_spelt 0 text x), refl)
+as_root (Node.block b basic valid tree is box) =
+    (plainly (Root.block 0 b), (tt, valid [], tt), (refl, basic), joined_spelt (codes "---") box, rw tree refl)

@@ -22,8 +22,9 @@ same_test : (a b : List ℕ) → bytes_eq b a ≡ bytes_eq a b
 same_test a b = grind (arith, bytes_eq-Decides)
 
 -- by the first anchor, or by those after it
-found_next : (b : Bool) (name n : List ℕ) (k : ℕ) (names : List (List ℕ × ℕ)) (first rest : Option Tree) (read : Anchors) (t : Tree) → bytes_eq name n ≡ b
-    → (first ≡ Some t → aliased k read ≡ t) → (rest ≡ Some t → Found name names read t) → (if b then first else rest) ≡ Some t → Found name ((n, k) ∷ names) read t
+found_next : (b : Bool) (name n : List ℕ) (k : ℕ) (names : List (List ℕ × ℕ)) (first rest : Option Tree) (read : Anchors) (t : Tree)
+    → bytes_eq name n ≡ b → (first ≡ Some t → aliased k read ≡ t) → (rest ≡ Some t → Found name names read t)
+    → (if b then first else rest) ≡ Some t → Found name ((n, k) ∷ names) read t
 found_next true name n k names first rest read t same here there e = (k, rw same refl, here e)
 found_next false name n k names first rest read t same here there e = rw same (there e)
 
@@ -53,7 +54,8 @@ older_agree {read = read} k t (Agree.has_ended n j u less is h) low =
     Agree.has_ended n j u less (other_number j k t read (λ e. omega arith) ∙ is) (older_agree k t h (omega arith))
 
 -- one that has begun has a lower number than those that ended after it
-lower : {read : Anchors} {above : ℕ} {names : List (List ℕ × ℕ)} {a : List Anchor} {k : ℕ} {opens : List ℕ} → Agree read above a names (k ∷ opens) → k < above
+lower : {read : Anchors} {above : ℕ} {names : List (List ℕ × ℕ)} {a : List Anchor} {k : ℕ} {opens : List ℕ}
+    → Agree read above a names (k ∷ opens) → k < above
 lower (Agree.has_begun n j less h) = less
 lower (Agree.has_ended n j u less is h) = let later = lower h in omega arith
 
@@ -90,7 +92,8 @@ begun_agrees None x = x.agrees
 begun_agrees (Some name) x = Agree.has_begun name (x.names.count + 1) (omega arith) x.agrees
 
 -- the node begins
-abbrev pub begin : {opens : List ℕ} {a : List Anchor} (o : Option (List ℕ)) (x : Known opens a) → Known (opens_by o x.names opens) (begun_by o a)
+abbrev pub begin : {opens : List ℕ} {a : List Anchor} (o : Option (List ℕ)) (x : Known opens a)
+    → Known (opens_by o x.names opens) (begun_by o a)
 begin o x = record { names = with_anchor x.names o; read = x.read; agrees = begun_agrees o x }
 
 finished_next : (n : ℕ) (t : Tree) (read : Anchors) → finished (n + 1) t read ≡ (n + 1, t) ∷ read
@@ -102,5 +105,6 @@ ended_agrees None s t y = y.agrees
 ended_agrees (Some name) s t y = rw (finished_next s.count t y.read) (now_ended t y.agrees)
 
 -- the node ends, which began at the names s
-abbrev pub finish : {opens : List ℕ} {b : List Anchor} (o : Option (List ℕ)) (s : Names) (t : Tree) → Known (opens_by o s opens) b → Known opens (ended_by o t b)
+abbrev pub finish : {opens : List ℕ} {b : List Anchor} (o : Option (List ℕ)) (s : Names) (t : Tree)
+    → Known (opens_by o s opens) b → Known opens (ended_by o t b)
 finish o s t y = record { names = y.names; read = finished (number s o) t y.read; agrees = ended_agrees o s t y }

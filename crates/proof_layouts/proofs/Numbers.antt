@@ -47,7 +47,8 @@ rest_reads : (f : Fraction) (e : Exponent) → is_fraction f ≡ true → json.i
 rest_reads no_fraction no_exponent h i = refl
 rest_reads no_fraction (exponent true s digits) h i = exponent_reads (exponent true s digits) i
 rest_reads no_fraction (exponent false s digits) h i = exponent_reads (exponent false s digits) i
-rest_reads (fraction digits) e h i = rw (after_digits digits (spell_exponent e []) (all_digits digits h) (rest_stops no_fraction e)) (exponent_reads e i)
+rest_reads (fraction digits) e h i =
+    rw (after_digits digits (spell_exponent e []) (all_digits digits h) (rest_stops no_fraction e)) (exponent_reads e i)
 
 number_digits : (m : Bool) (w : List ℕ) (f : Fraction) (e : Exponent) → is_number (json.number m w f e) ≡ true → are_digits w ≡ true
 number_digits m w f e h = grind (arith, whole_digits)
@@ -55,7 +56,8 @@ number_digits m w f e h = grind (arith, whole_digits)
 unsigned : (w r : List ℕ) → are_digits w ≡ true → begins_in is_ascii_digit r ≡ false → reads_on true r ≡ true → reads_unsigned (w ++ r) ≡ true
 unsigned w r h stops reads = rw (digits_first w r h, after_digits w r (all_digits w h) stops) reads
 
-decimal_number : (m : Bool) (w : List ℕ) (f : Fraction) (e : Exponent) → is_number (json.number m w f e) ≡ true → is_decimal (spell_number (json.number m w f e) []) ≡ true
+decimal_number : (m : Bool) (w : List ℕ) (f : Fraction) (e : Exponent) → is_number (json.number m w f e) ≡ true
+    → is_decimal (spell_number (json.number m w f e) []) ≡ true
 decimal_number a w f e h = grind (arith, is_decimal-read, unsigned, rest_stops, rest_reads, digits_no_sign, whole_digits)
 
 -- ---- decimal texts
@@ -74,11 +76,12 @@ no_prefix x c (d ∷ t) h are =
 
 -- the rows of decimal integers, of special words and of reals
 last_rows : (are : Bool) (z : ℤ) (special : Bool) (text : List ℕ)
-    → unwrap_or (option_map integer (fitted are z)) (unwrap_or (where_true special (real text)) (real text)) ≡ (if are && fits_i64 z then integer z else real text)
+    → unwrap_or (option_map integer (fitted are z)) (unwrap_or (where_true special (real text)) (real text))
+    ≡ (if are && fits_i64 z then integer z else real text)
 last_rows are z special text = grind arith
 
-decimal_typed : (c : ℕ) (t : List ℕ) (are : Bool) (z : ℤ) → c < 58 → (43 == c) ≡ false → is_decimal (c ∷ t) ≡ true → signed_decimal (c ∷ t) ≡ fitted are z
-    → typing (c ∷ t) ≡ (if are && fits_i64 z then integer z else real (c ∷ t))
+decimal_typed : (c : ℕ) (t : List ℕ) (are : Bool) (z : ℤ) → c < 58 → (43 == c) ≡ false → is_decimal (c ∷ t) ≡ true
+    → signed_decimal (c ∷ t) ≡ fitted are z → typing (c ∷ t) ≡ (if are && fits_i64 z then integer z else real (c ∷ t))
 unfolding typing
 decimal_typed c t are z early no_plus is signed =
     let late : (d : ℕ) → 57 < d → (d == c) ≡ false = λ d h. ne_eqb d c (λ e. omega arith) in
@@ -92,9 +95,11 @@ decimal_typed c t are z early no_plus is signed =
     rw (hexadecimal, octal, plus, null, yes, no, signed, is) (last_rows are z (is_among special_words (c ∷ t)) (c ∷ t))
 
 -- it stands for an integer if it is all digits, and that fits
-typed : (m : Bool) (t : List ℕ) (are : Bool) → begins_in is_ascii_digit t ≡ true → is_decimal (spell_minus m t) ≡ true → at_least_one (is_digit 10) t ≡ are
+typed : (m : Bool) (t : List ℕ) (are : Bool) → begins_in is_ascii_digit t ≡ true → is_decimal (spell_minus m t) ≡ true
+    → at_least_one (is_digit 10) t ≡ are
     → typing (spell_minus m t) ≡ (if are && fits_i64 (integer_value m t) then integer (integer_value m t) else real (spell_minus m t))
-typed true t are h is e = decimal_typed 45 t are (integer_value true t) (omega arith) refl is (signed_text true t h ∙ ap (λ b. fitted b (integer_value true t)) e)
+typed true t are h is e =
+    decimal_typed 45 t are (integer_value true t) (omega arith) refl is (signed_text true t h ∙ ap (λ b. fitted b (integer_value true t)) e)
 typed false [] are h is e = cc
 typed false (c ∷ t) are h is e =
     decimal_typed c t are (integer_value false (c ∷ t)) (grind (arith, nat_tests)) (grind (arith, nat_tests)) is 

@@ -16,9 +16,11 @@ mutual
   value_reads (Json.object g ms) is anchors = rw ((members_read ms is.1 anchors).behind [] is.2) refl
   value_reads _ is anchors = refl
 
-  elements_read : (es : Elements) → AreElements es → (ts : List Tree) (anchors : Anchors) → read_items (element_nests es) ts anchors ≡ Ok (ts ++ list_of (items es), anchors)
+  elements_read : (es : Elements) → AreElements es → (ts : List Tree) (anchors : Anchors)
+      → read_items (element_nests es) ts anchors ≡ Ok (ts ++ list_of (items es), anchors)
   elements_read (Elements.last_element v a) are ts anchors = rw (value_reads v are.0 anchors) refl
-  elements_read (Elements.element v a b es) are ts anchors = rw (value_reads v are.0 anchors, elements_read es are.3 (ts ++ tree_of v ∷ []) anchors, append_assoc) refl
+  elements_read (Elements.element v a b es) are ts anchors =
+      rw (value_reads v are.0 anchors, elements_read es are.3 (ts ++ tree_of v ∷ []) anchors, append_assoc) refl
 
   members_read : (ms : Members) → AreMembers ms → (anchors : Anchors) → PairsRead (member_nests ms) (pair_list ms) anchors anchors
   members_read (Members.last_member k g h v a) are anchors = pair_read refl (value_reads v are.3 anchors) (no_pairs_read anchors)

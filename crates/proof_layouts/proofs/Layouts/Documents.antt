@@ -3,7 +3,7 @@ use Rattle.proof_layouts.proofs.Common.{[], Anchors, append_assoc, AreDocuments,
 use Rattle.defs_event.specs.Grammar as at
 use Rattle.proof_layouts.proofs.Loads.{streams_are_loaded}
 use Rattle.proof_layouts.proofs.Says.{Works, goal_and, Says, taken, left, said, stream_ends, stream_said}
-use Rattle.proof_layouts.proofs.Numbered.{Agree}
+use Rattle.proof_layouts.proofs.Numbered.{Agree, Known}
 use Rattle.proof_layouts.proofs.Layouts.Reading.{root_reads}
 
 -- ---- documents
@@ -19,9 +19,12 @@ record ReadsDocuments (keep_tags : Bool) (s : Names) (read : Anchors) (ds : Docu
   says : Says keep_tags s document_and (documents_tokens ds) (nested_documents_events nodes (Ev.stream_end ∷ []))
   reads : (held : List Tree) → read_documents nodes held read ≡ Ok (held ++ trees_of ds, last)
 
+abbrev at_start : Bool → Names → Anchors → Known [] []
+at_start keep_tags s read = record { names = at_document keep_tags s []; read = read; agrees = Agree.none }
+
 documents_read : (keep_tags : Bool) (s : Names) (read : Anchors) (ds : Documents) → AreDocuments ds → ReadsDocuments keep_tags s read ds
 documents_read keep_tags s read (Documents.last_document d after) are =
-    let x = root_reads {keep_tags = keep_tags} (record { names = at_document keep_tags s []; read = read; agrees = Agree.none }) d.root are.1 in
+    let x = root_reads {keep_tags = keep_tags} (at_start keep_tags s read) d.root are.1 in
     record {
       nodes = with_node x.node ∷ [];
       last = x.after.read;
@@ -29,7 +32,7 @@ documents_read keep_tags s read (Documents.last_document d after) are =
       reads = λ held. rw x.reads refl;
     }
 documents_read keep_tags s read (Documents.document d g ds) are =
-    let x = root_reads {keep_tags = keep_tags} (record { names = at_document keep_tags s []; read = read; agrees = Agree.none }) d.root are.1 in
+    let x = root_reads {keep_tags = keep_tags} (at_start keep_tags s read) d.root are.1 in
     let y = documents_read keep_tags x.after.names x.after.read ds are.3 in
     record {
       nodes = with_node x.node ∷ y.nodes;

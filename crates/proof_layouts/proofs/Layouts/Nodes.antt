@@ -3,38 +3,40 @@ use Rattle.proof_layouts.proofs.Common.{[], Anchor, Anchors, ap, append-nil, app
 use Rattle.defs_event.specs.Grammar as at
 use Rattle.defs_event.specs.Scalar.{scalar_tree}
 use Rattle.proof_layouts.proofs.Held.{PairsRead, no_pairs_read, pair_read, list_again}
-use Rattle.proof_layouts.proofs.Says.{Works, goal_and, Says, taken, behind, node_and, scalar}
+use Rattle.proof_layouts.proofs.Says.{Works, goal_and, Goes, taken, behind, node_and, scalar}
 use Rattle.proof_layouts.proofs.Numbered.{Known, begin, begun_by, ended_by, finish, opens_by}
 
 -- ---- x is known before it; after it are the anchors b
 
 -- a node at p, after an anchor o or without one: its tokens say the events of a nested node, which is read as the tree
-pub record ReadsNode (keep_tags : Bool) {opens : List ℕ} {a : List Anchor} (x : Known opens a) (b : List Anchor) (o : Option (List ℕ)) (p : Place) (tokens : List Tok → List Tok) (t : Tree) : Type 0 where
+pub record ReadsNode (keep_tags : Bool) {opens : List ℕ} {a : List Anchor} (x : Known opens a) (b : List Anchor) (o : Option (List ℕ))
+    (p : Place) (tokens : List Tok → List Tok) (t : Tree) : Type 0 where
   pub after : Known opens b
   pub node : Nest
-  pub says : (w : Works) (r : List Tok) (es : List Ev) → Says keep_tags after.names (behind p w) r es
-      → Says keep_tags x.names (node_and o p w) (tokens r) (nest_events node es)
+  pub says : Goes keep_tags x.names after.names (node_and o p) (behind p) tokens (λ r. r) (nest_events node)
   pub reads : read_node node x.read ≡ Ok (t, after.read)
 
 -- the items of a sequence at p, with its end
-pub record ReadsItems (keep_tags : Bool) {opens : List ℕ} {a : List Anchor} (x : Known opens a) (b : List Anchor) (p : Place) (work : Works → Works) (tokens : List Tok → List Tok) (ts : List Tree) : Type 0 where
+pub record ReadsItems (keep_tags : Bool) {opens : List ℕ} {a : List Anchor} (x : Known opens a) (b : List Anchor) (p : Place)
+    (work : Works → Works) (tokens : List Tok → List Tok) (ts : List Tree) : Type 0 where
   pub after : Known opens b
   pub nodes : Nests
-  pub says : (w : Works) (r : List Tok) (es : List Ev) → Says keep_tags after.names (behind p w) r es
-      → Says keep_tags x.names (work w) (tokens r) (nests_events nodes (Ev.sequence_end ∷ es))
+  pub says : Goes keep_tags x.names after.names work (behind p) tokens (λ r. r) (λ es. nests_events nodes (Ev.sequence_end ∷ es))
   pub reads : (held : List Tree) → read_items nodes held x.read ≡ Ok (held ++ ts, after.read)
 
 -- pairs of new keys, with the mapping's end
-pub record ReadsPairs (keep_tags : Bool) {opens : List ℕ} {a : List Anchor} (x : Known opens a) (b : List Anchor) (entries : at.Goal) (tokens : List Tok → List Tok) (ps : List (Tree × Tree)) : Type 0 where
+pub record ReadsPairs (keep_tags : Bool) {opens : List ℕ} {a : List Anchor} (x : Known opens a) (b : List Anchor) (entries : at.Goal)
+    (tokens : List Tok → List Tok) (ps : List (Tree × Tree)) : Type 0 where
   pub after : Known opens b
   pub nodes : NestPairs
-  pub says : (w : Works) (r : List Tok) (es : List Ev) → Says keep_tags after.names w r es
-      → Says keep_tags x.names (goal_and entries w) (tokens r) (nest_pairs_events nodes (Ev.mapping_end ∷ es))
+  pub says : Goes keep_tags x.names after.names (goal_and entries) (λ w. w) tokens (λ r. r)
+      (λ es. nest_pairs_events nodes (Ev.mapping_end ∷ es))
   pub reads : PairsRead nodes ps x.read after.read
 
 -- ---- nodes
 
-pub scalar_reads : {keep_tags : Bool} {opens : List ℕ} {a : List Anchor} (x : Known opens a) (o : Option (List ℕ)) (p : Place) (style : Style) (text : List ℕ) (t : Tree)
+pub scalar_reads : {keep_tags : Bool} {opens : List ℕ} {a : List Anchor} (x : Known opens a) (o : Option (List ℕ)) (p : Place)
+    (style : Style) (text : List ℕ) (t : Tree)
     → scalar_tree text style None ≡ t → ReadsNode keep_tags x (ended_by o t (begun_by o a)) o p (λ r. Tok.scalar style text ∷ r) t
 scalar_reads x o p style text t is = record {
   after = finish o x.names t (begin o x);
@@ -44,10 +46,12 @@ scalar_reads x o p style text t is = record {
 }
 
 -- a sequence, by its items and by how it begins
-pub sequence_reads : {keep_tags : Bool} {opens : List ℕ} {a b : List Anchor} {x : Known opens a} {o : Option (List ℕ)} {p : Place} {work : Works → Works}
-    {inside tokens : List Tok → List Tok} {items : Items}
-    → ((w : Works) (r : List Tok) (es : List Ev) → Says keep_tags (with_anchor x.names o) (work w) (inside r) es → Says keep_tags x.names (node_and o p w) (tokens r) (Ev.sequence_start (number x.names o) None ∷ es))
-    → ReadsItems keep_tags (begin o x) b p work inside (list_of items) → ReadsNode keep_tags x (ended_by o (Tree.array items) b) o p tokens (Tree.array items)
+pub sequence_reads : {keep_tags : Bool} {opens : List ℕ} {a b : List Anchor} {x : Known opens a} {o : Option (List ℕ)} {p : Place}
+    {work : Works → Works} {inside tokens : List Tok → List Tok} {items : Items}
+    → Goes keep_tags x.names (with_anchor x.names o) (node_and o p) work tokens inside
+        (λ es. Ev.sequence_start (number x.names o) None ∷ es)
+    → ReadsItems keep_tags (begin o x) b p work inside (list_of items)
+    → ReadsNode keep_tags x (ended_by o (Tree.array items) b) o p tokens (Tree.array items)
 sequence_reads {x = x} {o = o} {items = items} begins y = record {
   after = finish o x.names (Tree.array items) y.after;
   node = nested_sequence (number x.names o) None y.nodes;
@@ -56,9 +60,10 @@ sequence_reads {x = x} {o = o} {items = items} begins y = record {
 }
 
 -- a mapping, by its pairs and by how it begins
-pub mapping_reads : {keep_tags : Bool} {opens : List ℕ} {a b : List Anchor} {x : Known opens a} {o : Option (List ℕ)} {p : Place} {entries : at.Goal}
-    {inside tokens : List Tok → List Tok} {ps : List (Tree × Tree)}
-    → ((w : Works) (r : List Tok) (es : List Ev) → Says keep_tags (with_anchor x.names o) (goal_and entries (behind p w)) (inside r) es → Says keep_tags x.names (node_and o p w) (tokens r) (Ev.mapping_start (number x.names o) None ∷ es))
+pub mapping_reads : {keep_tags : Bool} {opens : List ℕ} {a b : List Anchor} {x : Known opens a} {o : Option (List ℕ)} {p : Place}
+    {entries : at.Goal} {inside tokens : List Tok → List Tok} {ps : List (Tree × Tree)}
+    → Goes keep_tags x.names (with_anchor x.names o) (node_and o p) (λ w. goal_and entries (behind p w)) tokens inside
+        (λ es. Ev.mapping_start (number x.names o) None ∷ es)
     → AreDistinct ps → ReadsPairs keep_tags (begin o x) b entries inside ps
     → ReadsNode keep_tags x (ended_by o (Tree.hash (pairs_of ps)) b) o p tokens (Tree.hash (pairs_of ps))
 mapping_reads {x = x} {o = o} {p = p} {ps = ps} begins distinct y = record {
@@ -70,14 +75,14 @@ mapping_reads {x = x} {o = o} {p = p} {ps = ps} begins distinct y = record {
 
 -- ---- items and pairs
 
-pub no_items : {keep_tags : Bool} {opens : List ℕ} {a : List Anchor} {x : Known opens a} {p : Place} {work : Works → Works} {last : List Tok → List Tok}
-    → ((w : Works) (r : List Tok) (es : List Ev) → Says keep_tags x.names (behind p w) r es → Says keep_tags x.names (work w) (last r) (Ev.sequence_end ∷ es))
-    → ReadsItems keep_tags x a p work last []
+pub no_items : {keep_tags : Bool} {opens : List ℕ} {a : List Anchor} {x : Known opens a} {p : Place} {work : Works → Works}
+    {last : List Tok → List Tok}
+    → Goes keep_tags x.names x.names work (behind p) last (λ r. r) (λ es. Ev.sequence_end ∷ es) → ReadsItems keep_tags x a p work last []
 no_items {x = x} ends = record { after = x; nodes = no_nests; says = ends; reads = λ held. rw append-nil refl }
 
-pub item_reads : {keep_tags : Bool} {opens : List ℕ} {a b c : List Anchor} {x : Known opens a} {p : Place} {work : Works → Works} {first others : List Tok → List Tok}
-    {t : Tree} {ts : List Tree}
-    → ((w : Works) (r : List Tok) (es : List Ev) → Says keep_tags x.names (node_and None in_block (work w)) r es → Says keep_tags x.names (work w) (Tok.block_entry ∷ r) es)
+pub item_reads : {keep_tags : Bool} {opens : List ℕ} {a b c : List Anchor} {x : Known opens a} {p : Place} {work : Works → Works}
+    {first others : List Tok → List Tok} {t : Tree} {ts : List Tree}
+    → Goes keep_tags x.names x.names work (λ w. node_and None in_block (work w)) (λ r. Tok.block_entry ∷ r) (λ r. r) (λ es. es)
     → (y : ReadsNode keep_tags x b None in_block first t) → ReadsItems keep_tags y.after c p work others ts
     → ReadsItems keep_tags x c p work (λ r. Tok.block_entry ∷ first (others r)) (t ∷ ts)
 item_reads {work = work} {others = others} {t = t} dash y z = record {
@@ -88,13 +93,13 @@ item_reads {work = work} {others = others} {t = t} dash y z = record {
 }
 
 pub no_pairs : {keep_tags : Bool} {opens : List ℕ} {a : List Anchor} {x : Known opens a} {entries : at.Goal} {last : List Tok → List Tok}
-    → ((w : Works) (r : List Tok) (es : List Ev) → Says keep_tags x.names w r es → Says keep_tags x.names (goal_and entries w) (last r) (Ev.mapping_end ∷ es))
+    → Goes keep_tags x.names x.names (goal_and entries) (λ w. w) last (λ r. r) (λ es. Ev.mapping_end ∷ es)
     → ReadsPairs keep_tags x a entries last []
 no_pairs {x = x} ends = record { after = x; nodes = no_nest_pairs; says = ends; reads = no_pairs_read x.read }
 
-pub pair_reads : {keep_tags : Bool} {opens : List ℕ} {a b c d : List Anchor} {x : Known opens a} {first second others : List Tok → List Tok} {k v : Tree}
-    {ps : List (Tree × Tree)} (y : ReadsNode keep_tags x b None (in_pair at.key) first k) (z : ReadsNode keep_tags y.after c None (in_pair at.value) second v)
-    → ReadsPairs keep_tags z.after d at.block_mapping_entries others ps
+pub pair_reads : {keep_tags : Bool} {opens : List ℕ} {a b c d : List Anchor} {x : Known opens a} {first second others : List Tok → List Tok}
+    {k v : Tree} {ps : List (Tree × Tree)} (y : ReadsNode keep_tags x b None (in_pair at.key) first k)
+    (z : ReadsNode keep_tags y.after c None (in_pair at.value) second v) → ReadsPairs keep_tags z.after d at.block_mapping_entries others ps
     → ReadsPairs keep_tags x d at.block_mapping_entries (λ r. Tok.key ∷ first (Tok.value ∷ second (others r))) ((k, v) ∷ ps)
 pair_reads {others = others} y z rest = record {
   after = rest.after;
