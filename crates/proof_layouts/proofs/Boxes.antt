@@ -1,5 +1,5 @@
 -- Texts that are boxes: lines, each after LF and the spaces of a column.
-use Rattle.proof_layouts.proofs.Common.{[], ap, append-nil, append_assoc, AreLines, arith, contents, if◌then◌else◌, joined, Line, List, refl, spell_lines, suc, sym, zero, ℕ, ◌++◌, ◌+◌, ◌∙◌, ◌∷◌, ◌≡◌}
+use Rattle.proof_layouts.proofs.Common.{[], ap, append-nil, append_assoc, AreLines, arith, contents, joined, Line, List, refl, spell_lines, suc, sym, zero, ℕ, ◌++◌, ◌+◌, ◌∙◌, ◌∷◌, ◌≡◌}
 use Rattle.defs_tree.specs.Box.{indented, hung, hung_lower, if_none}
 use Rattle.defs_layout.specs.Marks.{line_feed, space}
 use Rattle.defs_layout.specs.Gap.{spaces}

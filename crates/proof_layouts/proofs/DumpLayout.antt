@@ -2,7 +2,7 @@
 -- two columns to the right of it. Each part of it is a basic one, is valid whatever anchors stand before it, stands for its part of
 -- the tree, and is written as that part's box.
 -- YAML 1.2, chapter 8 (block styles) and section 9.1 (documents).
-use Rattle.proof_layouts.proofs.Common.{[], and_parts, Anchor, anchors_after, anchors_after_field, append-nil, append_assoc, AreBasicEntries, AreBasicFields, AreDistinct, AreEntries, AreFields, arith, ap, below, Block, block_tree, Bool, codes, Entries, false, Field, Fields, if◌then◌else◌, Inline, inline_tree, IsBasicBlock, IsBasicField, IsBasicInline, IsBasicScalar, IsBasicValue, IsBlock, IsExplicitKey, IsField, IsImplicitKey, IsInline, IsPlain, is_literal_text, is_quoted, is_root_literal, is_scalar, IsScalar, IsValue, item, Items, items, joined, last_document, Layout, length, lines_of, List, literal_header, MayFollowMark, MayFollowScalarKey, no_comment, no_items, no_pairs, not, pair, pair_list, pair_list_of, pair_of, Pairs, pairs_of, refl, Root, Scalar, scalar_tree, spell_block, spell_entries, spell_field, spell_fields, spell_inline, spell_literal, spell_scalar, spell_value, spelling, sym, Tree, true, Value, value_tree, ℕ, ◌&&◌, ◌++◌, ◌+◌, ◌∙◌, ◌∷◌, ◌≡◌, ◌≤◌}
+use Rattle.proof_layouts.proofs.Common.{[], and_parts, Anchor, anchors_after, anchors_after_field, append-nil, append_assoc, AreBasicEntries, AreBasicFields, AreEntries, AreFields, arith, ap, below, Block, block_tree, Bool, codes, Entries, false, Field, Fields, if◌then◌else◌, Inline, inline_tree, IsBasicBlock, IsBasicField, IsBasicInline, IsBasicScalar, IsBasicValue, IsBlock, IsExplicitKey, IsField, IsInline, IsPlain, is_literal_text, is_quoted, is_root_literal, is_scalar, IsScalar, IsValue, item, Items, items, joined, last_document, Layout, length, lines_of, List, MayFollowMark, MayFollowScalarKey, no_comment, no_items, no_pairs, not, pair, pair_list, pair_list_of, pair_of, Pairs, pairs_of, refl, Root, Scalar, scalar_tree, spell_block, spell_entries, spell_field, spell_fields, spell_inline, spell_literal, spell_scalar, spell_value, spelling, Tree, true, Value, value_tree, ℕ, ◌&&◌, ◌++◌, ◌+◌, ◌∷◌, ◌≡◌, ◌≤◌}
 use Rattle.defs_tree.specs.Box.{hung, is_block, placed, literal_box, pair_box, box, item_boxes, pair_boxes}
 use Rattle.defs_tree.specs.Valid.{IsDistinct, AllDistinct, AllPairsDistinct, FitsI64, AllFitI64, AllPairsFitI64}
 use Rattle.defs_tree.specs.Writable.{IsShortKey, HasText, AllHaveText, AllPairsHaveText}

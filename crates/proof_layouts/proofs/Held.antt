@@ -1,5 +1,5 @@
 -- What is read of lists of items and of pairs with distinct keys.
-use Rattle.proof_layouts.proofs.Common.{arith, [], Anchors, ap, append-nil, append_assoc, AreDistinct, Items, items_of, Lacks, List, list_of, lookup, Nest, nest_pair, NestPairs, no_nest_pairs, None, Ok, read_node, read_pairs, refl, sym, Tree, without, ◌++◌, ◌∙◌, ◌∷◌, ◌≡◌, ◌≢◌}
+use Rattle.proof_layouts.proofs.Common.{[], Anchors, ap, append-nil, append_assoc, AreDistinct, Items, items_of, Lacks, List, list_of, lookup, Nest, nest_pair, NestPairs, no_nest_pairs, None, Ok, read_node, read_pairs, refl, sym, Tree, without, ◌++◌, ◌∙◌, ◌∷◌, ◌≡◌, ◌≢◌}
 use Rattle.defs_tree.proofs.PairsLaws.{tree_eq-other}
 
 -- ---- pairs with another key

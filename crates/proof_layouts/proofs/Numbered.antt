@@ -1,7 +1,7 @@
 -- Anchors by their names, as a layout keeps them, by their numbers, as events have them, and the trees that are read under
 -- these numbers.
 use Rattle.std.proofs.lemmas.Slice.Eq.{bytes_eq-Decides}
-use Rattle.proof_layouts.proofs.Common.{[], add-one, aliased, Anchor, Anchors, ap, arith, begun, Bool, bytes_eq, ended, false, finished, if◌then◌else◌, last_tree, List, Names, nat_eq, nat_tests, ne_eqb, None, number, Option, refl, Some, Tree, true, under_name, with_anchor, with_end, ℕ, ◌+◌, ◌<◌, ◌∙◌, ◌∷◌, ◌≡◌, ◌≢◌, ◌≤◌}
+use Rattle.proof_layouts.proofs.Common.{[], add-one, aliased, Anchor, Anchors, arith, begun, Bool, bytes_eq, ended, false, finished, if◌then◌else◌, last_tree, List, Names, nat_eq, nat_tests, ne_eqb, None, number, Option, refl, Some, Tree, true, under_name, with_anchor, with_end, ℕ, ◌+◌, ◌<◌, ◌∙◌, ◌∷◌, ◌≡◌, ◌≢◌, ◌≤◌}
 
 -- The anchors and the numbered names are the same. The numbers fall, the first below `above`; those of the nodes that have begun are
 -- `opens`; and what has ended is read under its number.

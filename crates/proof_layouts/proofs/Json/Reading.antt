@@ -1,5 +1,5 @@
 -- The reading of a JSON text's document is its tree: so its tokens are read as this tree, and its events are loaded so.
-use Rattle.proof_layouts.proofs.Common.{[], Anchors, ap, append-nil, append_assoc, AreDistinct, AreElements, AreMembers, Blank, codes, element_nests, Elements, false, is_decimal, IsJson, Json, json_documents, json_text_tokens, JsonDocumentsReadAsTheirTrees, JsonEventsAreLoaded, JsonTokensReadAsTheirTree, List, list_of, member_nests, Members, nested_of, no_nest_pairs, number_tree, Ok, Piece, plain_nest, read_items, read_node, read_pairs, refl, spell_number, string_nest, Tree, tree_of, true, typing, unescaped, ℕ, ◌++◌, ◌∙◌, ◌∷◌, ◌≡◌}
+use Rattle.proof_layouts.proofs.Common.{[], Anchors, ap, append_assoc, AreElements, AreMembers, element_nests, Elements, is_decimal, IsJson, Json, json_documents, json_text_tokens, JsonDocumentsReadAsTheirTrees, JsonEventsAreLoaded, JsonTokensReadAsTheirTree, List, list_of, member_nests, Members, nested_of, Ok, read_items, read_node, refl, Tree, tree_of, typing, ◌++◌, ◌∷◌, ◌≡◌}
 use Rattle.defs_layout.specs.Json.{items, pair_list}
 use Rattle.proof_layouts.proofs.Json.Derived.{tokens_are_a_stream}
 use Rattle.proof_layouts.proofs.Loads.{streams_are_loaded}

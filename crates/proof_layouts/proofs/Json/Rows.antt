@@ -1,5 +1,5 @@
 -- JSON texts, their events and what these are read as, computed.
-use Rattle.proof_layouts.proofs.Common.{[], codes, Elements, Err, Ev, exponent, false, fraction, is_decimal, items_of, itself, Json, json_documents, JsonText, List, map, Members, nested_stream, no_exponent, no_fraction, None, Ok, pairs_of, Piece, plus, pos, reading, refl, space, spell_text, Style, Tree, true, typing, unicode, ℕ, ◌∷◌, ◌≡◌}
+use Rattle.proof_layouts.proofs.Common.{[], codes, Elements, Err, Ev, exponent, false, fraction, is_decimal, items_of, itself, Json, json_documents, JsonText, List, map, Members, nested_stream, no_exponent, no_fraction, None, Ok, pairs_of, Piece, plus, pos, reading, space, spell_text, Style, Tree, true, typing, unicode, ℕ, ◌∷◌, ◌≡◌}
 use Rattle.defs_layout.specs.JsonNumber.{number}
 
 abbrev raw : List ℕ → List Piece

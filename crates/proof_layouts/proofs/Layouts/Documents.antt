@@ -1,5 +1,5 @@
 -- A layout's stream, its documents and what they are read as.
-use Rattle.proof_layouts.proofs.Common.{[], Anchors, append_assoc, AreDocuments, at_document, Block, block_tokens, Bool, Documents, documents_tokens, Ev, false, in_block, Inline, inline_tokens, layout_tokens, LayoutEventsAreLoaded, LayoutTokensReadAsTheirTrees, List, marked, Names, nested_documents_events, NestedDocument, no_names, node, Ok, Raw, read_documents, refl, Root, root_tokens, root_tree, saying, Scalar, Tok, Tree, trees_of, true, with_node, ◌++◌, ◌∷◌, ◌≡◌}
+use Rattle.proof_layouts.proofs.Common.{[], Anchors, append_assoc, AreDocuments, at_document, Block, Bool, Documents, documents_tokens, Ev, false, in_block, Inline, layout_tokens, LayoutEventsAreLoaded, LayoutTokensReadAsTheirTrees, List, marked, Names, nested_documents_events, NestedDocument, no_names, node, Ok, Raw, read_documents, refl, Root, root_tokens, root_tree, saying, Scalar, Tok, Tree, trees_of, true, with_node, ◌++◌, ◌∷◌, ◌≡◌}
 use Rattle.defs_event.specs.Grammar as at
 use Rattle.proof_layouts.proofs.Loads.{streams_are_loaded}
 use Rattle.proof_layouts.proofs.Says.{Works, goal_and, Says, taken, left, said, stream_ends, stream_said}

@@ -1,10 +1,10 @@
 -- What the tokens of a node, of items and of pairs say and are read as, and how these are put together.
-use Rattle.proof_layouts.proofs.Common.{[], Anchor, Anchors, ap, append-nil, append_assoc, AreDistinct, Bool, Ev, finished, in_block, in_pair, Items, List, list_of, Names, Nest, nest, nest_events, nest_pair, nest_pairs_events, nested_mapping, nested_scalar, nested_sequence, NestPairs, Nests, nests_events, no_nest_pairs, no_nests, None, number, Ok, Option, pairs_of, Place, read_items, read_node, read_pairs, refl, Style, sym, Tok, Tree, with_anchor, ℕ, ◌++◌, ◌∙◌, ◌∷◌, ◌≡◌}
+use Rattle.proof_layouts.proofs.Common.{[], Anchor, ap, append-nil, append_assoc, AreDistinct, Bool, Ev, finished, in_block, in_pair, Items, List, list_of, Nest, nest, nest_events, nest_pair, nest_pairs_events, nested_mapping, nested_scalar, nested_sequence, NestPairs, Nests, nests_events, no_nest_pairs, no_nests, None, number, Ok, Option, pairs_of, Place, read_items, read_node, refl, Style, Tok, Tree, with_anchor, ℕ, ◌++◌, ◌∷◌, ◌≡◌}
 use Rattle.defs_event.specs.Grammar as at
 use Rattle.defs_event.specs.Scalar.{scalar_tree}
 use Rattle.proof_layouts.proofs.Held.{PairsRead, no_pairs_read, pair_read, list_again}
 use Rattle.proof_layouts.proofs.Says.{Works, goal_and, Goes, taken, behind, node_and, scalar}
-use Rattle.proof_layouts.proofs.Numbered.{Known, begin, begun_by, ended_by, finish, opens_by}
+use Rattle.proof_layouts.proofs.Numbered.{Known, begin, begun_by, ended_by, finish}
 
 -- ---- x is known before it; after it are the anchors b
 
@@ -49,7 +49,7 @@ scalar_reads x o p style text t is = record {
 pub sequence_reads : {keep_tags : Bool} {opens : List ℕ} {a b : List Anchor} {x : Known opens a} {o : Option (List ℕ)} {p : Place}
     {work : Works → Works} {inside tokens : List Tok → List Tok} {items : Items}
     → Goes keep_tags x.names (with_anchor x.names o) (node_and o p) work tokens inside
-        (λ es. Ev.sequence_start (number x.names o) None ∷ es)
+    (λ es. Ev.sequence_start (number x.names o) None ∷ es)
     → ReadsItems keep_tags (begin o x) b p work inside (list_of items)
     → ReadsNode keep_tags x (ended_by o (Tree.array items) b) o p tokens (Tree.array items)
 sequence_reads {x = x} {o = o} {items = items} begins y = record {
@@ -63,7 +63,7 @@ sequence_reads {x = x} {o = o} {items = items} begins y = record {
 pub mapping_reads : {keep_tags : Bool} {opens : List ℕ} {a b : List Anchor} {x : Known opens a} {o : Option (List ℕ)} {p : Place}
     {entries : at.Goal} {inside tokens : List Tok → List Tok} {ps : List (Tree × Tree)}
     → Goes keep_tags x.names (with_anchor x.names o) (node_and o p) (λ w. goal_and entries (behind p w)) tokens inside
-        (λ es. Ev.mapping_start (number x.names o) None ∷ es)
+    (λ es. Ev.mapping_start (number x.names o) None ∷ es)
     → AreDistinct ps → ReadsPairs keep_tags (begin o x) b entries inside ps
     → ReadsNode keep_tags x (ended_by o (Tree.hash (pairs_of ps)) b) o p tokens (Tree.hash (pairs_of ps))
 mapping_reads {x = x} {o = o} {p = p} {ps = ps} begins distinct y = record {

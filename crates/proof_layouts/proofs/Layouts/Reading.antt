@@ -1,12 +1,12 @@
 -- The tokens of a layout, part by part, and what they are read as.
-use Rattle.proof_layouts.proofs.Common.{arith, [], all_field_tokens, Anchor, Anchors, anchors_after, anchors_after_block, anchors_after_entries, anchors_after_field, anchors_after_fields, ap, AreEntries, AreFields, Block, block_tokens, block_tree, Bool, Entries, entry_tokens, Ev, Field, field_tokens, Fields, in_block, in_pair, Inline, inline_tokens, inline_tree, IsBlock, IsExplicitKey, IsField, IsInline, IsJson, IsPlain, IsRoot, IsScalar, IsValue, Items, items, Json, json_tokens, List, list_of, MayBeAnchored, MayFollowMark, Names, nested_alias, None, Ok, Option, pair_list, pair_of, Place, refl, Root, root_tokens, root_tree, Scalar, scalar_token, scalar_tree, Side, Some, spelling, spelling_back, Style, Tok, Tree, tree_of, Value, value_tokens, value_tree, ℕ, ◌+◌, ◌∷◌}
+use Rattle.proof_layouts.proofs.Common.{arith, [], all_field_tokens, Anchor, anchors_after, anchors_after_block, anchors_after_entries, anchors_after_field, anchors_after_fields, ap, AreEntries, AreFields, Block, block_tokens, block_tree, Bool, Entries, entry_tokens, Ev, Field, field_tokens, Fields, in_block, in_pair, Inline, inline_tokens, inline_tree, IsBlock, IsExplicitKey, IsField, IsInline, IsJson, IsPlain, IsRoot, IsScalar, IsValue, Items, items, Json, json_tokens, List, list_of, MayBeAnchored, MayFollowMark, Names, nested_alias, None, Ok, Option, pair_list, pair_of, Place, refl, Root, root_tokens, root_tree, Scalar, scalar_token, scalar_tree, Side, Some, spelling, spelling_back, Style, Tok, Tree, tree_of, Value, value_tokens, value_tree, ℕ, ◌∷◌}
 use Rattle.defs_tree.specs.Laws.{IsSpeltPlain}
 use Rattle.defs_event.specs.Grammar as at
 use Rattle.proof_layouts.specs.JsonNest as json_nest
 use Rattle.proof_layouts.proofs.Json.Derived as json
 use Rattle.proof_layouts.proofs.Json.Reading as json_reading
 use Rattle.proof_layouts.proofs.Says.{Works, goal_and, Says, Goes, taken, said, behind, node_and, outside, alias, flow_sequence, flow_mapping, block_sequence, block_mapping, indentless_sequence, entries_end}
-use Rattle.proof_layouts.proofs.Numbered.{Known, begin, begun_by, ended_by, opens_by, found}
+use Rattle.proof_layouts.proofs.Numbered.{Known, begin, begun_by, ended_by, found}
 use Rattle.proof_layouts.proofs.Layouts.Nodes.{ReadsNode, ReadsItems, ReadsPairs, scalar_reads, sequence_reads, mapping_reads, no_items, item_reads, no_pairs, pair_reads}
 
 -- ---- what stands on one line
