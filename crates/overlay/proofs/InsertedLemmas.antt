@@ -9,22 +9,25 @@ use Rattle.overlay.specs.Inserted.{inserted}
 
 without_none : (k : Tree) (ps : List (Tree × Tree)) → Lacks k ps → without k ps ≡ ps
 without_none k [] h = refl
-without_none k (p ∷ ps) h =
-    ap (λ b. cond b ps (p ∷ without k ps)) (tree_eq-other k p.0 h.0) ∙ ap (λ qs. p ∷ qs) (without_none k ps h.1)
+without_none k (p ∷ ps) h = rw (tree_eq-other k p.0 h.0) (ap (λ qs. p ∷ qs) (without_none k ps h.1))
+
+-- a new key's pair goes to the end
+pub put_new : (k v : Tree) (ps : List (Tree × Tree)) → Lacks k ps → insert k v ps ≡ ps ++ (k, v) ∷ []
+put_new k v ps h = ap (λ qs. qs ++ (k, v) ∷ []) (without_none k ps h)
 
 lacks_here : (l : Tree) (ps qs : List (Tree × Tree)) (q : Tree × Tree) → Lacks l (ps ++ q ∷ qs) → l ≡ q.0 → ⊥
 lacks_here l [] qs q h e = h.0 e
 lacks_here l (p ∷ ps) qs q h e = lacks_here l ps qs q h.1 e
 
 -- a key after others isn't among them
-key_is_new : (ps qs : List (Tree × Tree)) (q : Tree × Tree) → AreDistinct (ps ++ q ∷ qs) → Lacks q.0 ps
+pub key_is_new : (ps qs : List (Tree × Tree)) (q : Tree × Tree) → AreDistinct (ps ++ q ∷ qs) → Lacks q.0 ps
 key_is_new [] qs q h = tt
 key_is_new (p ∷ ps) qs q h = ((λ e. lacks_here p.0 ps qs q h.0 (sym e)), key_is_new ps qs q h.1)
 
 pub inserted_after : (ps qs : List (Tree × Tree)) → AreDistinct (ps ++ qs) → inserted ps qs ≡ ps ++ qs
 inserted_after ps [] h = sym (append-nil ps)
 inserted_after ps (q ∷ qs) h =
-    let e : insert q.0 q.1 ps ≡ ps ++ q ∷ [] = ap (λ rs. rs ++ q ∷ []) (without_none q.0 ps (key_is_new ps qs q h)) in
+    let e : insert q.0 q.1 ps ≡ ps ++ q ∷ [] = put_new q.0 q.1 ps (key_is_new ps qs q h) in
     let f : (ps ++ q ∷ []) ++ qs ≡ ps ++ q ∷ qs = append_assoc ps (q ∷ []) qs in
     ap (λ rs. inserted rs qs) e ∙ inserted_after (ps ++ q ∷ []) qs (subst AreDistinct (sym f) h) ∙ f
 

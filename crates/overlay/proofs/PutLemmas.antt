@@ -5,33 +5,16 @@ use Rattle.std.proofs.lemmas.Bool.{true≢false}
 use Rattle.defs_tree.specs.Tree.{Tree, item, items_of, hash, pairs_of}
 use Rattle.defs_tree.specs.Pairs.{lookup, has_key, without, insert, Lacks, AreDistinct}
 use Rattle.defs_tree.proofs.OverlayLaws.{list_of_pairs}
-use Rattle.defs_tree.proofs.PairsLaws.{tree_eq-other}
 use Rattle.defs_tree.specs.Merge.{with_new_pair, with_new_pairs, merge_key, pairs_of_mappings, brought, merged, merged_pairs, merged_values}
 use Rattle.defs_tree.proofs.Merging.{lacks_key, values_distinct}
+use Rattle.overlay.proofs.InsertedLemmas.{key_is_new, put_new}
 use Rattle.yaml_tree.specs.Depth.{pairs_depth}
 use Rattle.yaml_tree.specs.View.{view}
 use Rattle.yaml_tree.specs.declared.yaml.Yaml.{Yaml}
 use Rattle.yaml_tree.specs.declared.yaml.Yaml.TheVariants as yamls
 use Rattle.yaml_tree.specs.declared.hash.Hash.{Hash}
 
-without_none : (k : Tree) (ps : List (Tree × Tree)) → Lacks k ps → without k ps ≡ ps
-without_none k [] h = refl
-without_none k (p ∷ ps) h =
-    ap (λ b. cond b ps (p ∷ without k ps)) (tree_eq-other k p.0 h.0) ∙ ap (λ qs. p ∷ qs) (without_none k ps h.1)
-
--- a new key's pair goes to the end
-put_new : (k v : Tree) (ps : List (Tree × Tree)) → Lacks k ps → insert k v ps ≡ ps ++ (k, v) ∷ []
-put_new k v ps h = ap (λ qs. qs ++ (k, v) ∷ []) (without_none k ps h)
-
 -- ---- pairs that are known to be distinct
-
-lacks_here : (l : Tree) (ps qs : List (Tree × Tree)) (q : Tree × Tree) → Lacks l (ps ++ q ∷ qs) → l ≡ q.0 → ⊥
-lacks_here l [] qs q h e = h.0 e
-lacks_here l (p ∷ ps) qs q h e = lacks_here l ps qs q h.1 e
-
-key_is_new : (ps qs : List (Tree × Tree)) (q : Tree × Tree) → AreDistinct (ps ++ q ∷ qs) → Lacks q.0 ps
-key_is_new [] qs q h = tt
-key_is_new (p ∷ ps) qs q h = ((λ e. lacks_here p.0 ps qs q h.0 (sym e)), key_is_new ps qs q h.1)
 
 pub value_put : (k v : Tree) (ps rest all whole : List (Tree × Tree)) → AreDistinct all → rest ≡ (k, v) ∷ whole → ps ++ merged_values (pairs_of rest) ≡ merged_values (pairs_of all)
     → insert k (merged v) ps ++ merged_values (pairs_of whole) ≡ merged_values (pairs_of all)
@@ -43,12 +26,9 @@ value_put k v ps rest all whole d e h =
 
 -- ---- pairs that are put in unless their key is there
 
-no_key : (k : Tree) (ps : List (Tree × Tree)) → lookup k ps ≡ None → has_key k ps ≡ false
-no_key k ps h = ap is_some h
-
 pub pair_put : (k v : Tree) (ps rs qs : List (Tree × Tree)) → rs ≡ (k, v) ∷ qs → lookup k ps ≡ None → with_new_pairs (insert k v ps) qs ≡ with_new_pairs ps rs
 pair_put k v ps rs qs e h =
-    let n = no_key k ps h in
+    let n : has_key k ps ≡ false = ap is_some h in
     let f : insert k v ps ≡ with_new_pair ps (k, v) = put_new k v ps (lacks_key k ps n) ∙ ap (λ b. cond b ps (ps ++ (k, v) ∷ [])) (sym n) in
     ap (λ ts. with_new_pairs ts qs) f ∙ ap (with_new_pairs ps) (sym e)
 
@@ -74,14 +54,7 @@ other_left_out y ts us n e = by y n ∙ ap (λ vs. pairs_of_mappings (items_of v
   where
     by : (z : Yaml) → ((h : Hash) → z ≡ yamls.Hash h → ⊥) → pairs_of_mappings (items_of us) ≡ pairs_of_mappings (item (view z) (items_of us))
     by (yamls.Hash h) m = absurd (m h refl)
-    by (yamls.Real s) m = refl
-    by (yamls.Integer z) m = refl
-    by (yamls.String s) m = refl
-    by (yamls.Boolean b) m = refl
-    by (yamls.Array a) m = refl
-    by (yamls.Alias n) m = refl
-    by yamls.Null m = refl
-    by yamls.BadValue m = refl
+    by _ m = refl
 
 pub mapping_brings : (y : Yaml) (ps : List (Tree × Tree)) → view y ≡ hash (pairs_of ps) → brought (Some (view y)) ≡ ps
 mapping_brings y ps e = ap (λ t. brought (Some t)) e ∙ list_of_pairs ps
