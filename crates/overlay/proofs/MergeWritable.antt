@@ -31,7 +31,7 @@ mutual
   items_fit n (item t ts) low h =
       let r = merged_fits n t (omega arith, h.0) in
       let s = items_fit n ts (omega arith) h.1 in
-      (omega arith, r.1, s.1)
+      (omega arith, (r.1, s.1))
 
   values_fit : (n : ℕ) (ps : Pairs) → pair_levels ps < n → AllPairsHaveText ps → Each (IsKey n) (Fits n) (merged_values ps)
   values_fit n no_pairs low h = tt

@@ -21,16 +21,16 @@ pub value_put : (k v : Tree) (ps rest all whole : List (Tree × Tree)) → AreDi
 value_put k v ps rest all whole d e h =
     let left = merged_values (pairs_of whole) in
     let f : ps ++ (k, merged v) ∷ left ≡ merged_values (pairs_of all) = ap (λ rs. ps ++ merged_values (pairs_of rs)) (sym e) ∙ h in
-    let g : AreDistinct (ps ++ (k, merged v) ∷ left) = subst AreDistinct (sym f) (values_distinct (pairs_of all) (subst AreDistinct (sym (list_of_pairs all)) d)) in
-    ap (λ rs. rs ++ left) (put_new k (merged v) ps (key_is_new ps left (k, merged v) g)) ∙ append_assoc ps ((k, merged v) ∷ []) left ∙ f
+    let g : AreDistinct (ps ++ (k, merged v) ∷ left) = rw f (values_distinct (pairs_of all) (rw (list_of_pairs all) d)) in
+    rw (put_new k (merged v) ps (key_is_new ps left (k, merged v) g), append_assoc) f
 
 -- ---- pairs that are put in unless their key is there
 
 pub pair_put : (k v : Tree) (ps rs qs : List (Tree × Tree)) → rs ≡ (k, v) ∷ qs → lookup k ps ≡ None → with_new_pairs (insert k v ps) qs ≡ with_new_pairs ps rs
 pair_put k v ps rs qs e h =
     let n : has_key k ps ≡ false = ap is_some h in
-    let f : insert k v ps ≡ with_new_pair ps (k, v) = put_new k v ps (lacks_key k ps n) ∙ ap (λ b. cond b ps (ps ++ (k, v) ∷ [])) (sym n) in
-    ap (λ ts. with_new_pairs ts qs) f ∙ ap (with_new_pairs ps) (sym e)
+    let f : insert k v ps ≡ with_new_pair ps (k, v) = rw (put_new k v ps (lacks_key k ps n), n) refl in
+    rw (e, f) refl
 
 -- a key that was not found
 pub not_found : {A : Type 0} (o : Option A) (f : A → Tree) (q : Option Tree) (b : Bool) → option_map f o ≡ q → is_some o ≡ not b → b ≡ true → q ≡ None
@@ -45,12 +45,10 @@ new_pairs_both ps (q ∷ qs) rs = new_pairs_both (with_new_pair ps q) qs rs
 
 pub mapping_put : (ps qs : List (Tree × Tree)) (ts us : List Tree) → ts ≡ hash (pairs_of qs) ∷ us
     → with_new_pairs (with_new_pairs ps qs) (pairs_of_mappings (items_of us)) ≡ with_new_pairs ps (pairs_of_mappings (items_of ts))
-mapping_put ps qs ts us e =
-    new_pairs_both ps qs (pairs_of_mappings (items_of us)) ∙ ap (λ rs. with_new_pairs ps (rs ++ pairs_of_mappings (items_of us))) (sym (list_of_pairs qs))
-    ∙ ap (λ vs. with_new_pairs ps (pairs_of_mappings (items_of vs))) (sym e)
+mapping_put ps qs ts us e = rw (e, list_of_pairs qs) (new_pairs_both ps qs (pairs_of_mappings (items_of us)))
 
 pub other_left_out : (y : Yaml) (ts us : List Tree) → ((h : Hash) → y ≡ yamls.Hash h → ⊥) → ts ≡ view y ∷ us → pairs_of_mappings (items_of us) ≡ pairs_of_mappings (items_of ts)
-other_left_out y ts us n e = by y n ∙ ap (λ vs. pairs_of_mappings (items_of vs)) (sym e)
+other_left_out y ts us n e = rw e (by y n)
   where
     by : (z : Yaml) → ((h : Hash) → z ≡ yamls.Hash h → ⊥) → pairs_of_mappings (items_of us) ≡ pairs_of_mappings (item (view z) (items_of us))
     by (yamls.Hash h) m = absurd (m h refl)
@@ -73,4 +71,4 @@ nothing_to_do all rest k is e f =
 -- ---- depth
 
 pub no_deeper : (rs qs : List (Tree × Tree)) (p : Tree × Tree) (n : ℕ) → rs ≡ p ∷ qs → pairs_depth (pairs_of rs) ≤ n → pairs_depth (pairs_of qs) ≤ n
-no_deeper rs qs p n e h = let g : pairs_depth (pairs_of (p ∷ qs)) ≤ n = subst (λ ts. pairs_depth (pairs_of ts) ≤ n) e h in omega arith
+no_deeper rs qs p n e h = let g = rw e at h in omega arith

@@ -26,7 +26,7 @@ all_of n (p ∷ ps) some h =
     let r = all_of n ps some h.1 in
     let k = h.0.0.0 in
     let v = h.0.1.0 in
-    (omega arith, h.0.0.1, h.0.0.2, h.0.1.1, r.1)
+    (omega arith, (h.0.0.1, h.0.0.2, h.0.1.1, r.1))
 
 mutual
   laid_fits : (n : ℕ) (t u : Tree) → Fits n t → Fits n u → Fits n (overlay t u)
