@@ -65,14 +65,8 @@ decimal_number a w f e h = grind (arith, is_decimal-read, unsigned, rest_stops, 
 other_letter : (x d : ℕ) → is_real_character x ≡ false → is_real_character d ≡ true → (x == d) ≡ false
 other_letter x d h e = ne_eqb x d (λ same. true≢false (sym e ∙ ap is_real_character (sym same) ∙ h))
 
-neither : (b : Bool) (o : Option (List ℕ)) → o ≡ None → (if b then o else None) ≡ None
-neither a o h = grind arith
-
 no_prefix : (x c : ℕ) (t : List ℕ) → is_real_character x ≡ false → list_all is_real_character t ≡ true → after_prefix (48 ∷ x ∷ []) (c ∷ t) ≡ None
-no_prefix x c [] h are = neither (48 == c) (after_prefix (x ∷ []) []) refl
-no_prefix x c (d ∷ t) h are =
-    let first = (and_parts (is_real_character d) (list_all is_real_character t) are).0 in
-    neither (48 == c) (after_prefix (x ∷ []) (d ∷ t)) (rw (other_letter x d h first) refl)
+no_prefix x c t h are = grind (arith, other_letter, and_parts)
 
 -- the rows of decimal integers, of special words and of reals
 last_rows : (are : Bool) (z : ℤ) (special : Bool) (text : List ℕ)
