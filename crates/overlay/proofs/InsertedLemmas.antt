@@ -1,6 +1,6 @@
 -- Pairs of new keys, put into a hash one after the other, stand after its pairs.
-use Rattle.std.proofs.Common.{◌≡◌, List, [], ◌∷◌, ◌++◌, Bool, cond, refl, sym, ap, ◌∙◌, subst, append_assoc, append-nil}
-use Rattle.defs_tree.specs.Tree.{Tree, Pairs, pair_list_of, pairs_of, hash}
+use Rattle.std.proofs.Common.{◌≡◌, List, [], ◌∷◌, ◌++◌, refl, sym, ap, ◌∙◌, append_assoc, append-nil}
+use Rattle.defs_tree.specs.Tree.{Tree, pairs_of, hash}
 use Rattle.defs_tree.specs.Overlay.{overlay, pairs_under, new_pairs}
 use Rattle.defs_tree.specs.Pairs.{without, insert, Lacks, AreDistinct}
 use Rattle.defs_tree.proofs.OverlayLaws.{laid_distinct, list_of_pairs}

@@ -1,9 +1,9 @@
 -- Pairs that are put into a hash one after the other.
-use Rattle.std.proofs.Common.{◌≡◌, ℕ, ◌≤◌, List, [], ◌∷◌, ◌++◌, Option, Some, None, Bool, true, false, cond, not, refl, sym, ap, ◌∙◌, subst, append_assoc, arith}
+use Rattle.std.proofs.Common.{◌≡◌, ℕ, ◌≤◌, List, [], ◌∷◌, ◌++◌, Option, Some, None, Bool, true, false, not, refl, sym, ap, ◌∙◌, append_assoc, arith}
 use Rattle.std.specs.Prelude.{is_some, option_map}
 use Rattle.std.proofs.lemmas.Bool.{true≢false}
 use Rattle.defs_tree.specs.Tree.{Tree, item, items_of, hash, pairs_of}
-use Rattle.defs_tree.specs.Pairs.{lookup, has_key, without, insert, Lacks, AreDistinct}
+use Rattle.defs_tree.specs.Pairs.{lookup, has_key, without, insert, AreDistinct}
 use Rattle.defs_tree.proofs.OverlayLaws.{list_of_pairs}
 use Rattle.defs_tree.specs.Merge.{with_new_pair, with_new_pairs, merge_key, pairs_of_mappings, brought, merged, merged_pairs, merged_values}
 use Rattle.defs_tree.proofs.Merging.{lacks_key, values_distinct}

@@ -46,8 +46,7 @@ mutual
   under_fits n us no_pairs each low h = tt
   under_fits n us (pair k v ps) each low h =
       let own : Fits n v = (omega arith, h.2) in
-      let over = each_lookup (IsKey n) (Fits n) k us each in
-      (
+      let over = each_lookup (IsKey n) (Fits n) k us each in (
         ((omega arith, h.0, h.1), laid_value (Fits n) v (overlay v) (lookup k us) own (λ w g. laid_fits n v w own g) over),
         under_fits n us ps each (omega arith) h.3,
       )

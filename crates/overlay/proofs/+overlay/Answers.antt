@@ -1,4 +1,4 @@
-use Rattle.std.proofs.Common.{refl, ap, sym, subst}
+use Rattle.std.proofs.Common.{ap, sym, subst}
 use Rattle.defs_tree.specs.Writable.{IsWritable}
 use Rattle.yaml_tree.specs.View.{view}
 use Rattle.overlay.proofs.InsertedLemmas.{laid_tree}
