@@ -1,11 +1,6 @@
 -- Pairs of new keys, put into a hash one after the other, stand after its pairs.
-use Rattle.std.proofs.Common.{◌≡◌, List, [], ◌∷◌, ◌++◌, refl, sym, ap, ◌∙◌, append_assoc, append-nil}
-use Rattle.defs_tree.specs.Tree.{Tree, pairs_of, hash}
-use Rattle.defs_tree.specs.Overlay.{overlay, pairs_under, new_pairs}
-use Rattle.defs_tree.specs.Pairs.{without, insert, Lacks, AreDistinct}
-use Rattle.defs_tree.proofs.OverlayLaws.{laid_distinct, list_of_pairs}
+use Rattle.overlay.proofs.Common.{[], ap, append-nil, append_assoc, AreDistinct, hash, insert, inserted, Lacks, laid_distinct, List, list_of_pairs, new_pairs, overlay, pairs_of, pairs_under, refl, sym, Tree, without, ◌++◌, ◌∙◌, ◌∷◌, ◌≡◌}
 use Rattle.defs_tree.proofs.PairsLaws.{tree_eq-other}
-use Rattle.overlay.specs.Inserted.{inserted}
 
 without_none : (k : Tree) (ps : List (Tree × Tree)) → Lacks k ps → without k ps ≡ ps
 without_none k [] h = refl

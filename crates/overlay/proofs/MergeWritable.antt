@@ -1,11 +1,5 @@
 -- Where a tree can be written, what it is after its merges can be.
-use Rattle.std.proofs.Common.{ℕ, ◌<◌, zero, suc, arith}
-use Rattle.std.specs.Prelude.{◌^◌}
-use Rattle.defs_tree.specs.Tree.{Tree, array, hash, Items, no_items, item, Pairs, no_pairs, pair, items_of}
-use Rattle.defs_tree.specs.Writable.{item_levels, pair_levels, AllHaveText, AllPairsHaveText, IsWritable}
-use Rattle.defs_tree.proofs.OverlayLaws.{Each}
-use Rattle.defs_tree.specs.Merge.{merged, merged_items, merged_values, merged_pairs}
-use Rattle.defs_tree.proofs.Merging.{EachItem, Opens, each_merged}
+use Rattle.overlay.proofs.Common.{AllHaveText, AllPairsHaveText, arith, array, Each, each_merged, EachItem, hash, IsWritable, item, item_levels, Items, items_of, merged, merged_items, merged_pairs, merged_values, no_items, no_pairs, Opens, pair, pair_levels, Pairs, suc, Tree, zero, ℕ, ◌<◌, ◌^◌}
 use Rattle.overlay.proofs.WritableLemmas.{Fits, IsKey, each_of, all_of}
 
 each_item : (n : ℕ) (ts : Items) → item_levels ts < n → AllHaveText ts → EachItem (Fits n) ts

@@ -1,15 +1,7 @@
 -- Pairs that are put into a hash one after the other.
-use Rattle.std.proofs.Common.{◌≡◌, ℕ, ◌≤◌, List, [], ◌∷◌, ◌++◌, Option, Some, None, Bool, true, false, not, refl, sym, ap, ◌∙◌, append_assoc, arith}
-use Rattle.std.specs.Prelude.{is_some, option_map}
+use Rattle.overlay.proofs.Common.{[], ap, append_assoc, AreDistinct, arith, Bool, brought, false, has_key, hash, insert, is_some, item, items_of, lacks_key, List, list_of_pairs, lookup, merge_key, merged, merged_pairs, merged_values, None, not, Option, option_map, pairs_depth, pairs_of, pairs_of_mappings, refl, Some, sym, Tree, true, values_distinct, view, with_new_pair, with_new_pairs, without, ℕ, ◌++◌, ◌∙◌, ◌∷◌, ◌≡◌, ◌≤◌}
 use Rattle.std.proofs.lemmas.Bool.{true≢false}
-use Rattle.defs_tree.specs.Tree.{Tree, item, items_of, hash, pairs_of}
-use Rattle.defs_tree.specs.Pairs.{lookup, has_key, without, insert, AreDistinct}
-use Rattle.defs_tree.proofs.OverlayLaws.{list_of_pairs}
-use Rattle.defs_tree.specs.Merge.{with_new_pair, with_new_pairs, merge_key, pairs_of_mappings, brought, merged, merged_pairs, merged_values}
-use Rattle.defs_tree.proofs.Merging.{lacks_key, values_distinct}
 use Rattle.overlay.proofs.InsertedLemmas.{key_is_new, put_new}
-use Rattle.yaml_tree.specs.Depth.{pairs_depth}
-use Rattle.yaml_tree.specs.View.{view}
 use Rattle.yaml_tree.specs.declared.yaml.Yaml.{Yaml}
 use Rattle.yaml_tree.specs.declared.yaml.Yaml.TheVariants as yamls
 use Rattle.yaml_tree.specs.declared.hash.Hash.{Hash}

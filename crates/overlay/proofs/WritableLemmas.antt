@@ -1,11 +1,5 @@
 -- Of two trees that can be written, the overlay can be written.
-use Rattle.std.proofs.Common.{ℕ, zero, suc, ◌<◌, List, [], ◌∷◌, ◌++◌, arith}
-use Rattle.std.specs.Prelude.{◌^◌}
-use Rattle.defs_tree.specs.Tree.{Tree, hash, Pairs, no_pairs, pair, pairs_of, pair_list_of}
-use Rattle.defs_tree.specs.Pairs.{lookup}
-use Rattle.defs_tree.specs.Overlay.{overlay, pairs_under, new_pairs}
-use Rattle.defs_tree.specs.Writable.{levels, pair_levels, IsShortKey, HasText, AllPairsHaveText, IsWritable}
-use Rattle.defs_tree.proofs.OverlayLaws.{Each, each_append, each_lookup, each_new, laid_value}
+use Rattle.overlay.proofs.Common.{[], AllPairsHaveText, arith, Each, each_append, each_lookup, each_new, hash, HasText, IsShortKey, IsWritable, laid_value, levels, List, lookup, new_pairs, no_pairs, overlay, pair, pair_levels, pair_list_of, Pairs, pairs_of, pairs_under, suc, Tree, zero, ℕ, ◌++◌, ◌<◌, ◌^◌, ◌∷◌}
 
 -- a tree of fewer levels than so many, which has a text
 abbrev pub Fits : ℕ → Tree → Type 0
