@@ -18,62 +18,44 @@ record IsReadAs (w : Layout) (trees : Result (List Tree) Tree) : Type 0 where
   basic : IsBasic w
   read : reading (basic_documents w basic) ≡ trees
 
--- ---- `---`, `"k":`, `  - ~`, `  - []`
-
+-- `---`, `"k":`, `  - ~`, `  - []`
 abbrev list_below : Layout
 list_below =
     plainly (Block.hash (Fields.last_field (Field.implicit (Scalar.quoted (codes "k"))
     (below no_comment [] 2 (Block.array (Entries.entry (beside (text_of Tree.null)) [] (Entries.last_entry (beside Inline.empty_array))))))))
 
-list_below_text : spell list_below [] ≡ codes "---\n\"k\":\n  - ~\n  - []"
-unfolding written_character
-list_below_text = refl
-
-list_below_read : IsReadAs list_below (Ok (Tree.hash (pairs_of (
-    (Tree.string (codes "k"), Tree.array (items_of (Tree.null ∷ Tree.array (items_of []) ∷ []))) ∷ [])) ∷ []))
-unfolding typing is_decimal
-list_below_read = record { basic = search; read = refl }
-
-list_below_events : nested_stream (basic_documents list_below list_below_read.basic) ≡
-    Ev.stream_start ∷ Ev.document_start ∷ Ev.mapping_start 0 None ∷ Ev.scalar (codes "k") Style.double_quoted 0 None
-    ∷ Ev.sequence_start 0 None ∷ Ev.scalar (codes "~") Style.plain 0 None ∷ Ev.sequence_start 0 None ∷ Ev.sequence_end ∷ Ev.sequence_end
-    ∷ Ev.mapping_end ∷ Ev.document_end ∷ Ev.stream_end ∷ []
-list_below_events = refl
-
--- ---- `---`, `? - 12`, `: |-`, `  12`: the key's is a number, the literal block is a string
-
+-- `---`, `? - 12`, `: |-`, `  12`: the key's is a number, the literal block is a string
 abbrev key_of_lines : Layout
 key_of_lines =
     plainly (Block.hash (Fields.last_field (Field.explicit
     (Value.compact 0 (Block.array (Entries.last_entry (beside (text_of (Tree.integer (pos 12)))))))
     [] (Value.literal 0 2 (codes "12") (full (codes "12") ∷ [])))))
 
-key_of_lines_text : spell key_of_lines [] ≡ codes "---\n? - 12\n: |-\n  12"
-unfolding digits
-key_of_lines_text = refl
-
-key_of_lines_read : IsReadAs key_of_lines (Ok (Tree.hash (pairs_of (
-    (Tree.array (items_of (Tree.integer (pos 12) ∷ [])), Tree.string (codes "12")) ∷ [])) ∷ []))
-unfolding typing is_decimal digits
-key_of_lines_read = record { basic = search; read = refl }
-
--- ---- `---`, `"a": 1`, `a: 2`: the keys are one
-
+-- `---`, `"a": 1`, `a: 2`: the keys are one
 abbrev repeated : Layout
 repeated =
     plainly (Block.hash (Fields.field (Field.implicit (Scalar.quoted (codes "a")) (beside (text_of (Tree.integer (pos 1))))) []
     (Fields.last_field (Field.implicit (Scalar.plain (Tree.string (codes "a"))) (beside (text_of (Tree.integer (pos 2))))))))
 
-repeated_read : IsReadAs repeated (Err (Tree.string (codes "a")))
-unfolding typing is_decimal is_quoted is_unfit_for_plain digits
-repeated_read = record { basic = search; read = refl }
-
--- ---- `---`, `- true`, spelt as a real that is none: it is read as a boolean
-
+-- `---`, `- true`, spelt as a real that is none: it is read as a boolean
 abbrev unquoted : Layout
 unquoted =
     plainly (Block.array (Entries.last_entry (beside (text_of (Tree.real (codes "true"))))))
 
-unquoted_read : IsReadAs unquoted (Ok (Tree.array (items_of (Tree.boolean true ∷ [])) ∷ []))
-unfolding typing is_decimal
-unquoted_read = record { basic = search; read = refl }
+record Rows : Type 0 where
+  list_below_text : spell list_below [] ≡ codes "---\n\"k\":\n  - ~\n  - []"
+  list_below_read : IsReadAs list_below (Ok (Tree.hash (pairs_of (
+      (Tree.string (codes "k"), Tree.array (items_of (Tree.null ∷ Tree.array (items_of []) ∷ []))) ∷ [])) ∷ []))
+  list_below_events : nested_stream (basic_documents list_below list_below_read.basic) ≡
+      Ev.stream_start ∷ Ev.document_start ∷ Ev.mapping_start 0 None ∷ Ev.scalar (codes "k") Style.double_quoted 0 None
+      ∷ Ev.sequence_start 0 None ∷ Ev.scalar (codes "~") Style.plain 0 None ∷ Ev.sequence_start 0 None ∷ Ev.sequence_end ∷ Ev.sequence_end
+      ∷ Ev.mapping_end ∷ Ev.document_end ∷ Ev.stream_end ∷ []
+  key_of_lines_text : spell key_of_lines [] ≡ codes "---\n? - 12\n: |-\n  12"
+  key_of_lines_read : IsReadAs key_of_lines (Ok (Tree.hash (pairs_of (
+      (Tree.array (items_of (Tree.integer (pos 12) ∷ [])), Tree.string (codes "12")) ∷ [])) ∷ []))
+  repeated_read : IsReadAs repeated (Err (Tree.string (codes "a")))
+  unquoted_read : IsReadAs unquoted (Ok (Tree.array (items_of (Tree.boolean true ∷ [])) ∷ []))
+
+rows : Rows
+unfolding typing is_decimal is_quoted is_unfit_for_plain written_character digits
+rows = search
