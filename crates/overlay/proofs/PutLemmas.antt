@@ -1,6 +1,5 @@
 -- Pairs that are put into a hash one after the other.
 use Rattle.overlay.proofs.Common.{[], ap, append_assoc, AreDistinct, arith, Bool, brought, false, has_key, hash, insert, is_some, item, items_of, lacks_key, List, list_of_pairs, lookup, merge_key, merged, merged_pairs, merged_values, None, not, Option, option_map, pairs_depth, pairs_of, pairs_of_mappings, refl, Some, sym, Tree, true, values_distinct, view, with_new_pair, with_new_pairs, without, ℕ, ◌++◌, ◌∙◌, ◌∷◌, ◌≡◌, ◌≤◌}
-use Rattle.std.proofs.lemmas.Bool.{true≢false}
 use Rattle.overlay.proofs.InsertedLemmas.{key_is_new, put_new}
 use Rattle.yaml_tree.specs.declared.yaml.Yaml.{Yaml}
 use Rattle.yaml_tree.specs.declared.yaml.Yaml.TheVariants as yamls
@@ -26,8 +25,7 @@ pair_put k v ps rs qs e h =
 
 -- a key that was not found
 pub not_found : {A : Type 0} (o : Option A) (f : A → Tree) (q : Option Tree) (b : Bool) → option_map f o ≡ q → is_some o ≡ not b → b ≡ true → q ≡ None
-not_found None f q b e s t = sym e
-not_found (Some x) f q b e s t = absurd (true≢false (s ∙ ap not t))
+not_found o f q b e s t = grind arith
 
 -- ---- what a value brings
 
@@ -53,12 +51,10 @@ mapping_brings y ps e = ap (λ t. brought (Some t)) e ∙ list_of_pairs ps
 
 pub carried_out : (all rest whole : List (Tree × Tree)) (k v : Tree) → k ≡ merge_key → rest ≡ without k all → Some v ≡ lookup k all → whole ≡ with_new_pairs rest (brought (Some v))
     → whole ≡ merged_pairs all
-carried_out all rest whole k v is e f g =
-    g ∙ ap (λ ps. with_new_pairs ps (brought (Some v))) (e ∙ ap (λ l. without l all) is) ∙ ap (λ q. with_new_pairs (without merge_key all) (brought q)) (f ∙ ap (λ l. lookup l all) is)
+carried_out all rest whole k v is e f g = rw (← is, ← e, ← f) g
 
 pub nothing_to_do : (all rest : List (Tree × Tree)) (k : Tree) → k ≡ merge_key → rest ≡ without k all → None ≡ lookup k all → rest ≡ merged_pairs all
-nothing_to_do all rest k is e f =
-    e ∙ ap (λ l. without l all) is ∙ ap (λ q. with_new_pairs (without merge_key all) (brought q)) (f ∙ ap (λ l. lookup l all) is)
+nothing_to_do all rest k is e f = rw (← is, ← e, ← f) refl
 
 -- ---- depth
 
