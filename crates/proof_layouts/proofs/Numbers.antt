@@ -2,7 +2,7 @@
 use Rattle.std.specs.Char.{is_ascii_digit}
 use Rattle.std.specs.Prelude.{option_map}
 use Rattle.std.specs.List.{list_all}
-use Rattle.proof_layouts.proofs.Common.{[], after_prefix, and_from, and_parts, ap, append-nil, are_digits, arith, Bool, codes, Exponent, exponent, false, false_words, fits_i64, Fraction, fraction, if◌then◌else◌, integer, integer_value, is_decimal, is_digit, is_fraction, is_number, is_sign, is_whole, JsonNumbersStandForTheirTrees, List, nat_tests, ne_eqb, no_exponent, no_fraction, None, null_words, Option, real, refl, signed_decimal, special_words, spell_exponent, spell_fraction, spell_minus, spell_number, sym, true, true_words, true≢false, typing, unwrap_or, where_true, ℕ, ℤ, ◌++◌, ◌<◌, ◌==◌, ◌&&◌, ◌∙◌, ◌∷◌, ◌≡◌}
+use Rattle.proof_layouts.proofs.Common.{[], after_prefix, and_from, and_parts, ap, append-nil, are_digits, arith, Bool, codes, Exponent, exponent, false, false_words, fits_i64, Fraction, fraction, if◌then◌else◌, integer, integer_value, is_decimal, is_digit, is_fraction, is_number, is_sign, is_whole, JsonNumbersStandForTheirTrees, List, nat_tests, ne_eqb, no_exponent, no_fraction, None, null_words, real, refl, signed_decimal, special_words, spell_exponent, spell_fraction, spell_minus, spell_number, sym, true, true_words, true≢false, typing, unwrap_or, where_true, ℕ, ℤ, ◌++◌, ◌<◌, ◌==◌, ◌&&◌, ◌∙◌, ◌∷◌, ◌≡◌}
 use Rattle.defs_tree.specs.Grammar.{at_least_one, is_among}
 use Rattle.defs_tree.proofs.GrammarLaws.{after_all, after_one, list_all-more}
 use Rattle.defs_tree.proofs.DecimalReading.{begins_in, reads_exponent, reads_on, reads_unsigned, is_decimal-read}

@@ -1,6 +1,6 @@
 -- Basic layouts, their events and what these are read as, computed.
 use Rattle.std.specs.Fmt.{digits}
-use Rattle.proof_layouts.proofs.Common.{[], basic_documents, below, Block, codes, Entries, Err, Ev, Field, Fields, full, Inline, is_decimal, is_quoted, is_unfit_for_plain, IsBasic, items_of, last_document, Layout, List, nested_stream, no_comment, None, Ok, pairs_of, pos, reading, refl, Result, Root, Scalar, spell, Style, Tree, true, typing, Value, written_character, ◌∷◌, ◌≡◌}
+use Rattle.proof_layouts.proofs.Common.{[], basic_documents, below, Block, codes, Entries, Err, Ev, Field, Fields, full, Inline, is_decimal, is_quoted, is_unfit_for_plain, IsBasic, items_of, last_document, Layout, List, nested_stream, no_comment, None, Ok, pairs_of, pos, reading, Result, Root, Scalar, spell, Style, Tree, true, typing, Value, written_character, ◌∷◌, ◌≡◌}
 
 abbrev text_of : Tree → Inline
 text_of t = Inline.scalar (Scalar.plain t)

@@ -1,6 +1,6 @@
 -- Layouts with anchors, and their trees, computed.
 use Rattle.std.specs.Fmt.{digits}
-use Rattle.proof_layouts.proofs.Common.{[], Block, codes, Document, Documents, Entries, false, Field, Fields, Inline, IsLayout, items_of, Layout, List, no_comment, pairs_of, pos, refl, Root, Scalar, spell, Tree, trees_of, true, Value, written_character, ℕ, ◌∷◌, ◌≡◌}
+use Rattle.proof_layouts.proofs.Common.{[], Block, codes, Document, Documents, Entries, false, Field, Fields, Inline, IsLayout, items_of, Layout, List, no_comment, pairs_of, pos, Root, Scalar, spell, Tree, trees_of, true, Value, written_character, ℕ, ◌∷◌, ◌≡◌}
 
 abbrev single : List ℕ → Inline
 single text = Inline.scalar (Scalar.single_quoted text)
