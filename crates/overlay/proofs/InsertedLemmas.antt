@@ -1,32 +1,29 @@
 -- Pairs of new keys, put into a hash one after the other, stand after its pairs.
-use Rattle.std.proofs.Common.{◌≡◌, List, [], ◌∷◌, ◌++◌, Bool, cond, refl, sym, ap, ◌∙◌, subst, append_assoc, append-nil}
-use Rattle.defs_tree.specs.Tree.{Tree, Pairs, pair_list_of, pairs_of, hash}
-use Rattle.defs_tree.specs.Overlay.{overlay, pairs_under, new_pairs}
-use Rattle.defs_tree.specs.Pairs.{without, insert, Lacks, AreDistinct}
-use Rattle.defs_tree.proofs.OverlayLaws.{laid_distinct, list_of_pairs}
+use Rattle.overlay.proofs.Common.{[], ap, append-nil, append_assoc, AreDistinct, hash, insert, inserted, Lacks, laid_distinct, List, list_of_pairs, new_pairs, overlay, pairs_of, pairs_under, refl, sym, Tree, without, ◌++◌, ◌∙◌, ◌∷◌, ◌≡◌}
 use Rattle.defs_tree.proofs.PairsLaws.{tree_eq-other}
-use Rattle.overlay.specs.Inserted.{inserted}
 
 without_none : (k : Tree) (ps : List (Tree × Tree)) → Lacks k ps → without k ps ≡ ps
 without_none k [] h = refl
-without_none k (p ∷ ps) h =
-    ap (λ b. cond b ps (p ∷ without k ps)) (tree_eq-other k p.0 h.0) ∙ ap (λ qs. p ∷ qs) (without_none k ps h.1)
+without_none k (p ∷ ps) h = rw (tree_eq-other k p.0 h.0) (ap (λ qs. p ∷ qs) (without_none k ps h.1))
+
+-- a new key's pair goes to the end
+pub put_new : (k v : Tree) (ps : List (Tree × Tree)) → Lacks k ps → insert k v ps ≡ ps ++ (k, v) ∷ []
+put_new k v ps h = ap (λ qs. qs ++ (k, v) ∷ []) (without_none k ps h)
 
 lacks_here : (l : Tree) (ps qs : List (Tree × Tree)) (q : Tree × Tree) → Lacks l (ps ++ q ∷ qs) → l ≡ q.0 → ⊥
 lacks_here l [] qs q h e = h.0 e
 lacks_here l (p ∷ ps) qs q h e = lacks_here l ps qs q h.1 e
 
 -- a key after others isn't among them
-key_is_new : (ps qs : List (Tree × Tree)) (q : Tree × Tree) → AreDistinct (ps ++ q ∷ qs) → Lacks q.0 ps
+pub key_is_new : (ps qs : List (Tree × Tree)) (q : Tree × Tree) → AreDistinct (ps ++ q ∷ qs) → Lacks q.0 ps
 key_is_new [] qs q h = tt
 key_is_new (p ∷ ps) qs q h = ((λ e. lacks_here p.0 ps qs q h.0 (sym e)), key_is_new ps qs q h.1)
 
 pub inserted_after : (ps qs : List (Tree × Tree)) → AreDistinct (ps ++ qs) → inserted ps qs ≡ ps ++ qs
 inserted_after ps [] h = sym (append-nil ps)
 inserted_after ps (q ∷ qs) h =
-    let e : insert q.0 q.1 ps ≡ ps ++ q ∷ [] = ap (λ rs. rs ++ q ∷ []) (without_none q.0 ps (key_is_new ps qs q h)) in
     let f : (ps ++ q ∷ []) ++ qs ≡ ps ++ q ∷ qs = append_assoc ps (q ∷ []) qs in
-    ap (λ rs. inserted rs qs) e ∙ inserted_after (ps ++ q ∷ []) qs (subst AreDistinct (sym f) h) ∙ f
+    rw (put_new q.0 q.1 ps (key_is_new ps qs q h)) (inserted_after (ps ++ q ∷ []) qs (rw f h) ∙ f)
 
 inserted_both : (ps qs rs : List (Tree × Tree)) → inserted (inserted ps qs) rs ≡ inserted ps (qs ++ rs)
 inserted_both ps [] rs = refl
@@ -37,16 +34,10 @@ pub laid_pairs : (ps : List (Tree × Tree)) (qs : List (Tree × Tree)) → AreDi
     → inserted (inserted [] (pairs_under qs (pairs_of ps))) (new_pairs ps qs) ≡ pairs_under qs (pairs_of ps) ++ new_pairs ps qs
 laid_pairs ps qs h g =
     let under = pairs_under qs (pairs_of ps) in
-    let e = list_of_pairs ps in
-    let d : AreDistinct (under ++ new_pairs ps qs) =
-    subst (λ ts. AreDistinct (under ++ new_pairs ts qs)) e (laid_distinct (pairs_of ps) qs (subst AreDistinct (sym e) h) g) in
+    let d = rw (list_of_pairs ps) at (laid_distinct (pairs_of ps) qs (rw (list_of_pairs ps) h) g) in
     inserted_both [] under (new_pairs ps qs) ∙ inserted_after [] (under ++ new_pairs ps qs) d
 
 -- the tree of the pairs that the two loops make
 pub laid_tree : (t u : Tree) (ps qs under laid : List (Tree × Tree)) → t ≡ hash (pairs_of ps) → u ≡ hash (pairs_of qs) → AreDistinct ps → AreDistinct qs
     → under ≡ inserted [] (pairs_under qs (pairs_of ps)) → laid ≡ inserted under (new_pairs ps qs) → hash (pairs_of laid) ≡ overlay t u
-laid_tree t u ps qs under laid e f h g l m =
-    let list : List (Tree × Tree) → List (Tree × Tree) → Tree = λ ts us. hash (pairs_of (pairs_under us (pairs_of ps) ++ new_pairs ts us)) in
-    let all : laid ≡ pairs_under qs (pairs_of ps) ++ new_pairs ps qs = m ∙ ap (λ xs. inserted xs (new_pairs ps qs)) l ∙ laid_pairs ps qs h g in
-    let whole : list ps qs ≡ overlay (hash (pairs_of ps)) (hash (pairs_of qs)) = ap (λ ts. list ts qs) (sym (list_of_pairs ps)) ∙ ap (list (pair_list_of (pairs_of ps))) (sym (list_of_pairs qs)) in
-    ap (λ xs. hash (pairs_of xs)) all ∙ whole ∙ ap (λ x. overlay x (hash (pairs_of qs))) (sym e) ∙ ap (overlay t) (sym f)
+laid_tree t u ps qs under laid e f h g l m = rw (e, f, list_of_pairs ps, list_of_pairs qs, m, l, laid_pairs ps qs h g) refl

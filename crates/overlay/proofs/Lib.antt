@@ -1,3 +1,4 @@
+mod Common
 mod InsertedLemmas
 pub mod MergeKey
 pub mod MergeWritable

@@ -1,15 +1,11 @@
 -- A merge key, by its text.
-use Rattle.std.proofs.Common.{◌≡◌, sym, ap, ◌∙◌}
-use Rattle.std.specs.Prelude.{String, string_bytes, bytes_eq, codes}
+use Rattle.overlay.proofs.Common.{ap, bytes_eq, codes, merge_key, String, string, string_bytes, sym, tree_eq, ◌∙◌, ◌≡◌}
 use Rattle.std.specs.Str.{chars, encode_utf8_all}
 use Rattle.std.proofs.lemmas.Bool.Decides.{same_from_decides}
 use Rattle.std.proofs.lemmas.Slice.Eq.{bytes_eq-Decides}
 use Rattle.std.proofs.lemmas.Str.{encodes-chars, IsUtf8-string_bytes}
-use Rattle.defs_tree.specs.Merge.{merge_key}
 use Rattle.defs_text.specs.Text.{string_chars}
 use Rattle.defs_tree.proofs.OrderLaws.{tree_eq_decides}
-use Rattle.defs_tree.specs.Order.{tree_eq}
-use Rattle.defs_tree.specs.Tree.{string}
 
 -- a string that is made of the text
 pub key_made : {A : Type 0} (s : String A) → string_bytes s ≡ codes "<<" → string (string_chars s) ≡ merge_key

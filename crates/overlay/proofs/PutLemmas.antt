@@ -1,61 +1,31 @@
 -- Pairs that are put into a hash one after the other.
-use Rattle.std.proofs.Common.{◌≡◌, ℕ, ◌≤◌, List, [], ◌∷◌, ◌++◌, Option, Some, None, Bool, true, false, cond, not, refl, sym, ap, ◌∙◌, subst, append_assoc, arith}
-use Rattle.std.specs.Prelude.{is_some, option_map}
-use Rattle.std.proofs.lemmas.Bool.{true≢false}
-use Rattle.defs_tree.specs.Tree.{Tree, item, items_of, hash, pairs_of}
-use Rattle.defs_tree.specs.Pairs.{lookup, has_key, without, insert, Lacks, AreDistinct}
-use Rattle.defs_tree.proofs.OverlayLaws.{list_of_pairs}
-use Rattle.defs_tree.proofs.PairsLaws.{tree_eq-other}
-use Rattle.defs_tree.specs.Merge.{with_new_pair, with_new_pairs, merge_key, pairs_of_mappings, brought, merged, merged_pairs, merged_values}
-use Rattle.defs_tree.proofs.Merging.{lacks_key, values_distinct}
-use Rattle.yaml_tree.specs.Depth.{pairs_depth}
-use Rattle.yaml_tree.specs.View.{view}
+use Rattle.overlay.proofs.Common.{[], ap, append_assoc, AreDistinct, arith, Bool, brought, false, has_key, hash, insert, is_some, item, items_of, lacks_key, List, list_of_pairs, lookup, merge_key, merged, merged_pairs, merged_values, None, not, Option, option_map, pairs_depth, pairs_of, pairs_of_mappings, refl, Some, sym, Tree, true, values_distinct, view, with_new_pair, with_new_pairs, without, ℕ, ◌++◌, ◌∙◌, ◌∷◌, ◌≡◌, ◌≤◌}
+use Rattle.overlay.proofs.InsertedLemmas.{key_is_new, put_new}
 use Rattle.yaml_tree.specs.declared.yaml.Yaml.{Yaml}
 use Rattle.yaml_tree.specs.declared.yaml.Yaml.TheVariants as yamls
 use Rattle.yaml_tree.specs.declared.hash.Hash.{Hash}
 
-without_none : (k : Tree) (ps : List (Tree × Tree)) → Lacks k ps → without k ps ≡ ps
-without_none k [] h = refl
-without_none k (p ∷ ps) h =
-    ap (λ b. cond b ps (p ∷ without k ps)) (tree_eq-other k p.0 h.0) ∙ ap (λ qs. p ∷ qs) (without_none k ps h.1)
-
--- a new key's pair goes to the end
-put_new : (k v : Tree) (ps : List (Tree × Tree)) → Lacks k ps → insert k v ps ≡ ps ++ (k, v) ∷ []
-put_new k v ps h = ap (λ qs. qs ++ (k, v) ∷ []) (without_none k ps h)
-
 -- ---- pairs that are known to be distinct
-
-lacks_here : (l : Tree) (ps qs : List (Tree × Tree)) (q : Tree × Tree) → Lacks l (ps ++ q ∷ qs) → l ≡ q.0 → ⊥
-lacks_here l [] qs q h e = h.0 e
-lacks_here l (p ∷ ps) qs q h e = lacks_here l ps qs q h.1 e
-
-key_is_new : (ps qs : List (Tree × Tree)) (q : Tree × Tree) → AreDistinct (ps ++ q ∷ qs) → Lacks q.0 ps
-key_is_new [] qs q h = tt
-key_is_new (p ∷ ps) qs q h = ((λ e. lacks_here p.0 ps qs q h.0 (sym e)), key_is_new ps qs q h.1)
 
 pub value_put : (k v : Tree) (ps rest all whole : List (Tree × Tree)) → AreDistinct all → rest ≡ (k, v) ∷ whole → ps ++ merged_values (pairs_of rest) ≡ merged_values (pairs_of all)
     → insert k (merged v) ps ++ merged_values (pairs_of whole) ≡ merged_values (pairs_of all)
 value_put k v ps rest all whole d e h =
     let left = merged_values (pairs_of whole) in
     let f : ps ++ (k, merged v) ∷ left ≡ merged_values (pairs_of all) = ap (λ rs. ps ++ merged_values (pairs_of rs)) (sym e) ∙ h in
-    let g : AreDistinct (ps ++ (k, merged v) ∷ left) = subst AreDistinct (sym f) (values_distinct (pairs_of all) (subst AreDistinct (sym (list_of_pairs all)) d)) in
-    ap (λ rs. rs ++ left) (put_new k (merged v) ps (key_is_new ps left (k, merged v) g)) ∙ append_assoc ps ((k, merged v) ∷ []) left ∙ f
+    let g : AreDistinct (ps ++ (k, merged v) ∷ left) = rw f (values_distinct (pairs_of all) (rw (list_of_pairs all) d)) in
+    rw (put_new k (merged v) ps (key_is_new ps left (k, merged v) g), append_assoc) f
 
 -- ---- pairs that are put in unless their key is there
 
-no_key : (k : Tree) (ps : List (Tree × Tree)) → lookup k ps ≡ None → has_key k ps ≡ false
-no_key k ps h = ap is_some h
-
 pub pair_put : (k v : Tree) (ps rs qs : List (Tree × Tree)) → rs ≡ (k, v) ∷ qs → lookup k ps ≡ None → with_new_pairs (insert k v ps) qs ≡ with_new_pairs ps rs
 pair_put k v ps rs qs e h =
-    let n = no_key k ps h in
-    let f : insert k v ps ≡ with_new_pair ps (k, v) = put_new k v ps (lacks_key k ps n) ∙ ap (λ b. cond b ps (ps ++ (k, v) ∷ [])) (sym n) in
-    ap (λ ts. with_new_pairs ts qs) f ∙ ap (with_new_pairs ps) (sym e)
+    let n : has_key k ps ≡ false = ap is_some h in
+    let f : insert k v ps ≡ with_new_pair ps (k, v) = rw (put_new k v ps (lacks_key k ps n), n) refl in
+    rw (e, f) refl
 
 -- a key that was not found
 pub not_found : {A : Type 0} (o : Option A) (f : A → Tree) (q : Option Tree) (b : Bool) → option_map f o ≡ q → is_some o ≡ not b → b ≡ true → q ≡ None
-not_found None f q b e s t = sym e
-not_found (Some x) f q b e s t = absurd (true≢false (s ∙ ap not t))
+not_found o f q b e s t = grind arith
 
 -- ---- what a value brings
 
@@ -65,23 +35,14 @@ new_pairs_both ps (q ∷ qs) rs = new_pairs_both (with_new_pair ps q) qs rs
 
 pub mapping_put : (ps qs : List (Tree × Tree)) (ts us : List Tree) → ts ≡ hash (pairs_of qs) ∷ us
     → with_new_pairs (with_new_pairs ps qs) (pairs_of_mappings (items_of us)) ≡ with_new_pairs ps (pairs_of_mappings (items_of ts))
-mapping_put ps qs ts us e =
-    new_pairs_both ps qs (pairs_of_mappings (items_of us)) ∙ ap (λ rs. with_new_pairs ps (rs ++ pairs_of_mappings (items_of us))) (sym (list_of_pairs qs))
-    ∙ ap (λ vs. with_new_pairs ps (pairs_of_mappings (items_of vs))) (sym e)
+mapping_put ps qs ts us e = rw (e, list_of_pairs qs) (new_pairs_both ps qs (pairs_of_mappings (items_of us)))
 
 pub other_left_out : (y : Yaml) (ts us : List Tree) → ((h : Hash) → y ≡ yamls.Hash h → ⊥) → ts ≡ view y ∷ us → pairs_of_mappings (items_of us) ≡ pairs_of_mappings (items_of ts)
-other_left_out y ts us n e = by y n ∙ ap (λ vs. pairs_of_mappings (items_of vs)) (sym e)
+other_left_out y ts us n e = rw e (by y n)
   where
     by : (z : Yaml) → ((h : Hash) → z ≡ yamls.Hash h → ⊥) → pairs_of_mappings (items_of us) ≡ pairs_of_mappings (item (view z) (items_of us))
     by (yamls.Hash h) m = absurd (m h refl)
-    by (yamls.Real s) m = refl
-    by (yamls.Integer z) m = refl
-    by (yamls.String s) m = refl
-    by (yamls.Boolean b) m = refl
-    by (yamls.Array a) m = refl
-    by (yamls.Alias n) m = refl
-    by yamls.Null m = refl
-    by yamls.BadValue m = refl
+    by _ m = refl
 
 pub mapping_brings : (y : Yaml) (ps : List (Tree × Tree)) → view y ≡ hash (pairs_of ps) → brought (Some (view y)) ≡ ps
 mapping_brings y ps e = ap (λ t. brought (Some t)) e ∙ list_of_pairs ps
@@ -90,14 +51,12 @@ mapping_brings y ps e = ap (λ t. brought (Some t)) e ∙ list_of_pairs ps
 
 pub carried_out : (all rest whole : List (Tree × Tree)) (k v : Tree) → k ≡ merge_key → rest ≡ without k all → Some v ≡ lookup k all → whole ≡ with_new_pairs rest (brought (Some v))
     → whole ≡ merged_pairs all
-carried_out all rest whole k v is e f g =
-    g ∙ ap (λ ps. with_new_pairs ps (brought (Some v))) (e ∙ ap (λ l. without l all) is) ∙ ap (λ q. with_new_pairs (without merge_key all) (brought q)) (f ∙ ap (λ l. lookup l all) is)
+carried_out all rest whole k v is e f g = rw (← is, ← e, ← f) g
 
 pub nothing_to_do : (all rest : List (Tree × Tree)) (k : Tree) → k ≡ merge_key → rest ≡ without k all → None ≡ lookup k all → rest ≡ merged_pairs all
-nothing_to_do all rest k is e f =
-    e ∙ ap (λ l. without l all) is ∙ ap (λ q. with_new_pairs (without merge_key all) (brought q)) (f ∙ ap (λ l. lookup l all) is)
+nothing_to_do all rest k is e f = rw (← is, ← e, ← f) refl
 
 -- ---- depth
 
 pub no_deeper : (rs qs : List (Tree × Tree)) (p : Tree × Tree) (n : ℕ) → rs ≡ p ∷ qs → pairs_depth (pairs_of rs) ≤ n → pairs_depth (pairs_of qs) ≤ n
-no_deeper rs qs p n e h = let g : pairs_depth (pairs_of (p ∷ qs)) ≤ n = subst (λ ts. pairs_depth (pairs_of ts) ≤ n) e h in omega arith
+no_deeper rs qs p n e h = let g = rw e at h in omega arith

@@ -1,75 +1,50 @@
 -- Of two trees that can be written, the overlay can be written.
-use Rattle.std.proofs.Common.{◌≡◌, ℕ, zero, suc, ◌≤◌, ◌<◌, List, [], ◌∷◌, ◌++◌, arith, sym, subst}
-use Rattle.std.specs.Prelude.{max, ◌^◌}
-use Rattle.defs_tree.specs.Tree.{Tree, hash, Pairs, no_pairs, pair, pairs_of, pair_list_of}
-use Rattle.defs_tree.specs.Pairs.{lookup}
-use Rattle.defs_tree.specs.Overlay.{overlay, pairs_under, new_pairs}
-use Rattle.defs_tree.specs.Writable.{levels, pair_levels, IsShortKey, HasText, AllPairsHaveText, IsWritable}
-use Rattle.defs_tree.proofs.OverlayLaws.{Each, each_append, each_lookup, each_new, laid_value}
+use Rattle.overlay.proofs.Common.{[], AllPairsHaveText, arith, Each, each_append, each_lookup, each_new, hash, HasText, IsShortKey, IsWritable, laid_value, levels, List, lookup, new_pairs, no_pairs, overlay, pair, pair_levels, pair_list_of, Pairs, pairs_of, pairs_under, suc, Tree, zero, ℕ, ◌++◌, ◌<◌, ◌^◌, ◌∷◌}
 
--- ---- levels
+-- a tree of fewer levels than so many, which has a text
+abbrev pub Fits : ℕ → Tree → Type 0
+Fits n t = (levels t < n) × HasText t
 
--- fewer levels than so many
-abbrev IsBelow : ℕ → Tree → Type 0
-IsBelow n t = levels t < n
+-- such a key, which is short
+abbrev pub IsKey : ℕ → Tree → Type 0
+IsKey n k = (levels k < n) × IsShortKey k × HasText k
 
-below_each : (n : ℕ) (ps : Pairs) → pair_levels ps < n → Each (IsBelow n) (IsBelow n) (pair_list_of ps)
-below_each n no_pairs h = tt
-below_each n (pair k v ps) h = ((omega arith, omega arith), below_each n ps (omega arith))
+pub each_of : (n : ℕ) (ps : Pairs) → pair_levels ps < n → AllPairsHaveText ps → Each (IsKey n) (Fits n) (pair_list_of ps)
+each_of n no_pairs low h = tt
+each_of n (pair k v ps) low h = (((omega arith, h.0, h.1), (omega arith, h.2)), each_of n ps (omega arith) h.3)
 
-each_below : (n : ℕ) (ps : List (Tree × Tree)) → 0 < n → Each (IsBelow n) (IsBelow n) ps → pair_levels (pairs_of ps) < n
-each_below n [] z h = z
-each_below n (p ∷ ps) z h = let r = each_below n ps z h.1 in let k = h.0.0 in let v = h.0.1 in omega arith
-
-mutual
-  laid_below : (n : ℕ) (t u : Tree) → levels t < n → levels u < n → levels (overlay t u) < n
-  laid_below zero t u h g = absurd (omega arith)
-  laid_below (suc n) (hash ps) (hash qs) h g =
-      let us = pair_list_of qs in
-      let each = below_each n qs (omega arith) in
-      let all = each_append (IsBelow n) (IsBelow n) (pairs_under us ps) (new_pairs (pair_list_of ps) us) (under_below n us ps each (omega arith)) (each_new (IsBelow n) (IsBelow n) (pair_list_of ps) us each) in
-      let r = each_below n (pairs_under us ps ++ new_pairs (pair_list_of ps) us) (omega arith) all in
-      omega arith
-  laid_below (suc n) t u h g = g
-
-  under_below : (n : ℕ) (us : List (Tree × Tree)) (ps : Pairs) → Each (IsBelow n) (IsBelow n) us → pair_levels ps < n → Each (IsBelow n) (IsBelow n) (pairs_under us ps)
-  under_below n us no_pairs e h = tt
-  under_below n us (pair k v ps) e h = (
-    (omega arith, laid_value (IsBelow n) v (overlay v) (lookup k us) (omega arith) (λ w g. laid_below n v w (omega arith) g) (each_lookup (IsBelow n) (IsBelow n) k us e)),
-    under_below n us ps e (omega arith),
-  )
-
--- ---- texts
-
-abbrev IsKey : Tree → Type 0
-IsKey k = IsShortKey k × HasText k
-
-text_each : (ps : Pairs) → AllPairsHaveText ps → Each IsKey HasText (pair_list_of ps)
-text_each no_pairs h = tt
-text_each (pair k v ps) h = (((h.0, h.1), h.2), text_each ps h.3)
-
-each_text : (ps : List (Tree × Tree)) → Each IsKey HasText ps → AllPairsHaveText (pairs_of ps)
-each_text [] h = tt
-each_text (p ∷ ps) h = (h.0.0.0, h.0.0.1, h.0.1, each_text ps h.1)
+pub all_of : (n : ℕ) (ps : List (Tree × Tree)) → 0 < n → Each (IsKey n) (Fits n) ps
+    → (pair_levels (pairs_of ps) < n) × AllPairsHaveText (pairs_of ps)
+all_of n [] some h = (some, tt)
+all_of n (p ∷ ps) some h =
+    let r = all_of n ps some h.1 in
+    let k = h.0.0.0 in
+    let v = h.0.1.0 in
+    (omega arith, (h.0.0.1, h.0.0.2, h.0.1.1, r.1))
 
 mutual
-  laid_text : (t u : Tree) → HasText t → HasText u → HasText (overlay t u)
-  laid_text (hash ps) (hash qs) h g =
+  laid_fits : (n : ℕ) (t u : Tree) → Fits n t → Fits n u → Fits n (overlay t u)
+  laid_fits zero t u h g = absurd (omega arith)
+  laid_fits (suc n) (hash ps) (hash qs) h g =
       let us = pair_list_of qs in
-      let each = text_each qs g in
-      each_text (pairs_under us ps ++ new_pairs (pair_list_of ps) us)
-      (each_append IsKey HasText (pairs_under us ps) (new_pairs (pair_list_of ps) us) (under_text us ps each h) (each_new IsKey HasText (pair_list_of ps) us each))
-  laid_text t u h g = g
+      let each = each_of n qs (omega arith) g.1 in
+      let under = under_fits n us ps each (omega arith) h.1 in
+      let new = each_new (IsKey n) (Fits n) (pair_list_of ps) us each in
+      let all = each_append (IsKey n) (Fits n) (pairs_under us ps) (new_pairs (pair_list_of ps) us) under new in
+      let r = all_of n (pairs_under us ps ++ new_pairs (pair_list_of ps) us) (omega arith) all in
+      (omega arith, r.1)
+  laid_fits (suc n) t u h g = g
 
-  under_text : (us : List (Tree × Tree)) (ps : Pairs) → Each IsKey HasText us → AllPairsHaveText ps → Each IsKey HasText (pairs_under us ps)
-  under_text us no_pairs e h = tt
-  under_text us (pair k v ps) e h = (
-    ((h.0, h.1), laid_value HasText v (overlay v) (lookup k us) h.2 (λ w g. laid_text v w h.2 g) (each_lookup IsKey HasText k us e)),
-    under_text us ps e h.3,
-  )
+  under_fits : (n : ℕ) (us : List (Tree × Tree)) (ps : Pairs) → Each (IsKey n) (Fits n) us → pair_levels ps < n → AllPairsHaveText ps
+      → Each (IsKey n) (Fits n) (pairs_under us ps)
+  under_fits n us no_pairs each low h = tt
+  under_fits n us (pair k v ps) each low h =
+      let own : Fits n v = (omega arith, h.2) in
+      let over = each_lookup (IsKey n) (Fits n) k us each in (
+        ((omega arith, h.0, h.1), laid_value (Fits n) v (overlay v) (lookup k us) own (λ w g. laid_fits n v w own g) over),
+        under_fits n us ps each (omega arith) h.3,
+      )
 
 pub overlay_is_writable : (t u : Tree) → IsWritable t → IsWritable u → IsWritable (overlay t u)
-overlay_is_writable t u h g = record {
-  shallow = laid_below (2 ^ 62) t u h.shallow g.shallow;
-  has_text = laid_text t u h.has_text g.has_text;
-}
+overlay_is_writable t u h g =
+    let r = laid_fits (2 ^ 62) t u (h.shallow, h.has_text) (g.shallow, g.has_text) in record { shallow = r.0; has_text = r.1 }

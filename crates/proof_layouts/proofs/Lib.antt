@@ -1,8 +1,5 @@
-mod BasicDump
+mod Boxes
 mod DumpLayout
-mod Texts
-mod Trees
-mod Validity
 pub mod Basic
 pub mod Held
 pub mod Json

@@ -1,64 +1,40 @@
 -- Anchors by their names, as a layout keeps them, by their numbers, as events have them, and the trees that are read under
 -- these numbers.
 use Rattle.std.proofs.lemmas.Slice.Eq.{bytes_eq-Decides}
-use Rattle.proof_layouts.proofs.Common.{[], add-one, aliased, Anchor, Anchors, ap, arith, begun, Bool, bytes_eq, ended, false, finished, if◌then◌else◌, last_tree, List, Names, nat_eq, nat_tests, ne_eqb, None, number, Option, refl, Some, sym, Tree, true, under_name, with_anchor, with_end, ℕ, ◌++◌, ◌+◌, ◌<◌, ◌∙◌, ◌∷◌, ◌≡◌, ◌≢◌, ◌≤◌}
+use Rattle.proof_layouts.proofs.Common.{[], add-one, aliased, Anchor, Anchors, arith, begun, Bool, bytes_eq, ended, false, finished, if◌then◌else◌, last_tree, List, Names, nat_eq, nat_tests, ne_eqb, None, number, Option, refl, Some, Tree, true, under_name, with_anchor, with_end, ℕ, ◌+◌, ◌<◌, ◌∙◌, ◌∷◌, ◌≡◌, ◌≢◌, ◌≤◌}
 
--- a node with an anchor that has ended: its name, its number and its tree
-pub record Ended : Type 0 where
-  pub name : List ℕ
-  pub number : ℕ
-  pub tree : Tree
-
--- the names after some ended nodes, the last one first
-abbrev pub names_after : List Ended → List (List ℕ × ℕ) → List (List ℕ × ℕ)
-names_after [] names = names
-names_after (e ∷ es) names = (e.name, e.number) ∷ names_after es names
-
--- the layout's anchors after them
-abbrev pub ended_after : List Ended → List Anchor → List Anchor
-ended_after [] a = a
-ended_after (e ∷ es) a = ended e.name e.tree ∷ ended_after es a
-
-pub names_append : (es fs : List Ended) (names : List (List ℕ × ℕ)) → names_after (es ++ fs) names ≡ names_after es (names_after fs names)
-names_append [] fs names = refl
-names_append (e ∷ es) fs names = ap (λ ns. (e.name, e.number) ∷ ns) (names_append es fs names)
-
-pub ended_append : (es fs : List Ended) (a : List Anchor) → ended_after (es ++ fs) a ≡ ended_after es (ended_after fs a)
-ended_append [] fs a = refl
-ended_append (e ∷ es) fs a = ap (λ b. ended e.name e.tree ∷ b) (ended_append es fs a)
-
--- The anchors are the same by name; their numbers fall, the first below `above`; and what has ended is read under its number.
-abbrev pub Agree : (above : ℕ) → List (List ℕ × ℕ) → List Anchor → Anchors → Type 0
-Agree above [] [] read = Unit {0}
-Agree above (p ∷ names) (begun n ∷ a) read = (p.0 ≡ n) × (p.1 < above) × Agree p.1 names a read
-Agree above (p ∷ names) (ended n t ∷ a) read = (p.0 ≡ n) × (p.1 < above) × (aliased p.1 read ≡ t) × Agree p.1 names a read
-Agree above _ _ read = ⊥
+-- The anchors and the numbered names are the same. The numbers fall, the first below `above`; those of the nodes that have begun are
+-- `opens`; and what has ended is read under its number.
+pub data Agree (read : Anchors) : (above : ℕ) → List Anchor → List (List ℕ × ℕ) → (opens : List ℕ) → Type 0 where
+  none : {above : ℕ} → Agree read above [] [] []
+  has_begun : {above : ℕ} {a : List Anchor} {names : List (List ℕ × ℕ)} {opens : List ℕ} (name : List ℕ) (k : ℕ) → k < above
+      → Agree read k a names opens → Agree read above (begun name ∷ a) ((name, k) ∷ names) (k ∷ opens)
+  has_ended : {above : ℕ} {a : List Anchor} {names : List (List ℕ × ℕ)} {opens : List ℕ} (name : List ℕ) (k : ℕ) (t : Tree) → k < above
+      → aliased k read ≡ t → Agree read k a names opens → Agree read above (ended name t ∷ a) ((name, k) ∷ names) opens
 
 -- ---- an alias is found
 
-pub record Found (name : List ℕ) (names : List (List ℕ × ℕ)) (read : Anchors) (t : Tree) : Type 0 where
-  pub number : ℕ
-  pub is_named : under_name name names ≡ Some number
-  pub is_read : aliased number read ≡ t
+-- The number that stands for the name, and the tree that is read under it.
+abbrev pub Found : (name : List ℕ) → List (List ℕ × ℕ) → Anchors → Tree → Type 0
+Found name names read t = (k : ℕ) × (under_name name names ≡ Some k) × (aliased k read ≡ t)
 
-same_test : (a b c : List ℕ) → a ≡ b → bytes_eq c a ≡ bytes_eq b c
-same_test a b c e = grind (arith, bytes_eq-Decides)
+same_test : (a b : List ℕ) → bytes_eq b a ≡ bytes_eq a b
+same_test a b = grind (arith, bytes_eq-Decides)
 
-pub found : (above : ℕ) (name : List ℕ) (names : List (List ℕ × ℕ)) (a : List Anchor) (read : Anchors) (t : Tree) → Agree above names a read → last_tree name a ≡ Some t → Found name names read t
-found above name [] [] read t h e = cc
-found above name [] (begun n ∷ a) read t h e = absurd h
-found above name [] (ended n u ∷ a) read t h e = absurd h
-found above name (p ∷ names) [] read t h e = absurd h
-found above name (p ∷ names) (begun n ∷ a) read t h e = by (bytes_eq n name) (same_test p.0 n name h.0) e (found p.1 name names a read t h.2)
-  where
-    by : (b : Bool) → bytes_eq name p.0 ≡ b → (if b then None else last_tree name a) ≡ Some t → (last_tree name a ≡ Some t → Found name names read t) → Found name (p ∷ names) read t
-    by true same there later = cc
-    by false same there later = let f = later there in record { number = f.number; is_named = rw same f.is_named; is_read = f.is_read }
-found above name (p ∷ names) (ended n u ∷ a) read t h e = by (bytes_eq n name) (same_test p.0 n name h.0) e (found p.1 name names a read t h.3)
-  where
-    by : (b : Bool) → bytes_eq name p.0 ≡ b → (if b then Some u else last_tree name a) ≡ Some t → (last_tree name a ≡ Some t → Found name names read t) → Found name (p ∷ names) read t
-    by true same there later = record { number = p.1; is_named = rw same refl; is_read = h.2 ∙ cc }
-    by false same there later = let f = later there in record { number = f.number; is_named = rw same f.is_named; is_read = f.is_read }
+-- by the first anchor, or by those after it
+found_next : (b : Bool) (name n : List ℕ) (k : ℕ) (names : List (List ℕ × ℕ)) (first rest : Option Tree) (read : Anchors) (t : Tree)
+    → bytes_eq name n ≡ b → (first ≡ Some t → aliased k read ≡ t) → (rest ≡ Some t → Found name names read t)
+    → (if b then first else rest) ≡ Some t → Found name ((n, k) ∷ names) read t
+found_next true name n k names first rest read t same here there e = (k, rw same refl, here e)
+found_next false name n k names first rest read t same here there e = rw same (there e)
+
+pub found : {read : Anchors} {above : ℕ} {a : List Anchor} {names : List (List ℕ × ℕ)} {opens : List ℕ} (name : List ℕ) (t : Tree)
+    → Agree read above a names opens → last_tree name a ≡ Some t → Found name names read t
+found name t Agree.none e = cc
+found {read = read} name t (Agree.has_begun {a = a} {names = names} n k less h) e =
+    found_next (bytes_eq n name) name n k names None (last_tree name a) read t (same_test n name) (λ d. cc) (found name t h) e
+found {read = read} name t (Agree.has_ended {a = a} {names = names} n k u less is h) e =
+    found_next (bytes_eq n name) name n k names (Some u) (last_tree name a) read t (same_test n name) (λ d. is ∙ cc) (found name t h) e
 
 -- ---- a node ends
 
@@ -70,57 +46,31 @@ own_number : (k : ℕ) (t : Tree) (read : Anchors) → aliased k ((k, t) ∷ rea
 own_number k t read = let e : nat_eq k k ≡ true = grind (arith, nat_tests) in rw e refl
 
 -- what is read under a number above does not count
-older_agree : (above : ℕ) (names : List (List ℕ × ℕ)) (a : List Anchor) (read : Anchors) (k : ℕ) (t : Tree) → Agree above names a read → above ≤ k → Agree above names a ((k, t) ∷ read)
-older_agree above [] a read k t h low = grind arith
-older_agree above (p ∷ names) [] read k t h low = absurd h
-older_agree above (p ∷ names) (begun n ∷ a) read k t h low = let less = h.1 in (h.0, h.1, older_agree p.1 names a read k t h.2 (omega arith))
-older_agree above (p ∷ names) (ended n u ∷ a) read k t h low =
-    let less = h.1 in (h.0, h.1, other_number p.1 k t read (λ e. omega arith) ∙ h.2, older_agree p.1 names a read k t h.3 (omega arith))
+older_agree : {read : Anchors} {above : ℕ} {names : List (List ℕ × ℕ)} {a : List Anchor} {opens : List ℕ} (k : ℕ) (t : Tree)
+    → Agree read above a names opens → above ≤ k → Agree ((k, t) ∷ read) above a names opens
+older_agree k t Agree.none low = Agree.none
+older_agree k t (Agree.has_begun n j less h) low = Agree.has_begun n j less (older_agree k t h (omega arith))
+older_agree {read = read} k t (Agree.has_ended n j u less is h) low =
+    Agree.has_ended n j u less (other_number j k t read (λ e. omega arith) ∙ is) (older_agree k t h (omega arith))
 
 -- one that has begun has a lower number than those that ended after it
-lower : (es : List Ended) (above : ℕ) (name : List ℕ) (k : ℕ) (names : List (List ℕ × ℕ)) (a : List Anchor) (read : Anchors)
-    → Agree above (names_after es ((name, k) ∷ names)) (ended_after es (begun name ∷ a)) read → k < above
-lower [] above name k names a read h = h.1
-lower (e ∷ es) above name k names a read h = let less = h.1 in let later = lower es e.number name k names a read h.3 in omega arith
+lower : {read : Anchors} {above : ℕ} {names : List (List ℕ × ℕ)} {a : List Anchor} {k : ℕ} {opens : List ℕ}
+    → Agree read above a names (k ∷ opens) → k < above
+lower (Agree.has_begun n j less h) = less
+lower (Agree.has_ended n j u less is h) = let later = lower h in omega arith
 
-now_ended : (es : List Ended) (above : ℕ) (name : List ℕ) (k : ℕ) (t : Tree) (names : List (List ℕ × ℕ)) (a : List Anchor) (read : Anchors)
-    → Agree above (names_after es ((name, k) ∷ names)) (ended_after es (begun name ∷ a)) read
-    → Agree above (names_after es ((name, k) ∷ names)) (ended_after es (ended name t ∷ a)) ((k, t) ∷ read)
-now_ended [] above name k t names a read h = (h.0, h.1, own_number k t read, older_agree k names a read k t h.2 (omega arith))
-now_ended (e ∷ es) above name k t names a read h =
-    let less = lower es e.number name k names a read h.3 in
-    (h.0, h.1, other_number e.number k t read (λ same. omega arith) ∙ h.2, now_ended es e.number name k t names a read h.3)
+now_ended : {read : Anchors} {above : ℕ} {names : List (List ℕ × ℕ)} {a : List Anchor} {k : ℕ} {opens : List ℕ} (t : Tree)
+    → Agree read above a names (k ∷ opens) → Agree ((k, t) ∷ read) above (with_end t a) names opens
+now_ended {read = read} t (Agree.has_begun n j less h) = Agree.has_ended n j t less (own_number j t read) (older_agree j t h (omega arith))
+now_ended {read = read} {k = k} t (Agree.has_ended n j u less is h) =
+    let later = lower h in Agree.has_ended n j u less (other_number j k t read (λ e. omega arith) ∙ is) (now_ended t h)
 
-with_end_after : (es : List Ended) (name : List ℕ) (t : Tree) (a : List Anchor) → with_end t (ended_after es (begun name ∷ a)) ≡ ended_after es (ended name t ∷ a)
-with_end_after [] name t a = refl
-with_end_after (e ∷ es) name t a = ap (λ b. ended e.name e.tree ∷ b) (with_end_after es name t a)
+-- ---- what is known at a place of a document where the layout's anchors are a
 
--- ---- a part of a document: from the names and anchors before it to those after it
-
-abbrev pub Agrees : Names → List Anchor → Anchors → Type 0
-Agrees s a read = Agree (s.count + 1) s.anchors a read
-
-pub record After (s : Names) (a b : List Anchor) : Type 0 where
+pub record Known (opens : List ℕ) (a : List Anchor) : Type 0 where
   pub names : Names
-  pub ends : List Ended
   pub read : Anchors
-  pub names_are : names.anchors ≡ names_after ends s.anchors
-  pub anchors_are : b ≡ ended_after ends a
-  pub agrees : Agrees names b read
-
--- after nothing
-abbrev pub after_nothing : (s : Names) (a : List Anchor) (read : Anchors) → Agrees s a read → After s a a
-after_nothing s a read h = record { names = s; ends = []; read = read; names_are = refl; anchors_are = refl; agrees = h }
-
-abbrev pub after_then : (s : Names) (a b c : List Anchor) (x : After s a b) → After x.names b c → After s a c
-after_then s a b c x y = record {
-  names = y.names;
-  ends = y.ends ++ x.ends;
-  read = y.read;
-  names_are = y.names_are ∙ ap (names_after y.ends) x.names_are ∙ sym (names_append y.ends x.ends s.anchors);
-  anchors_are = y.anchors_are ∙ ap (ended_after y.ends) x.anchors_are ∙ sym (ended_append y.ends x.ends a);
-  agrees = y.agrees;
-}
+  pub agrees : Agree read (names.count + 1) a names.anchors opens
 
 -- ---- a node with an anchor, or none
 
@@ -132,36 +82,29 @@ abbrev pub ended_by : Option (List ℕ) → Tree → List Anchor → List Anchor
 ended_by None t a = a
 ended_by (Some name) t a = with_end t a
 
-pub begun_agrees : (o : Option (List ℕ)) (s : Names) (a : List Anchor) (read : Anchors) → Agrees s a read → Agrees (with_anchor s o) (begun_by o a) read
-begun_agrees b s a d h = grind arith
+abbrev pub opens_by : Option (List ℕ) → Names → List ℕ → List ℕ
+opens_by None s opens = opens
+opens_by (Some name) s opens = (s.count + 1) ∷ opens
 
-abbrev pub own : Option (List ℕ) → Names → Tree → List Ended
-own None s t = []
-own (Some name) s t = record { name = name; number = s.count + 1; tree = t } ∷ []
+pub begun_agrees : {opens : List ℕ} {a : List Anchor} (o : Option (List ℕ)) (x : Known opens a)
+    → Agree x.read ((with_anchor x.names o).count + 1) (begun_by o a) (with_anchor x.names o).anchors (opens_by o x.names opens)
+begun_agrees None x = x.agrees
+begun_agrees (Some name) x = Agree.has_begun name (x.names.count + 1) (omega arith) x.agrees
 
-pub own_names : (o : Option (List ℕ)) (s : Names) (t : Tree) → names_after (own o s t) s.anchors ≡ (with_anchor s o).anchors
-own_names a s t = grind arith
-
-pub own_ended : (o : Option (List ℕ)) (s : Names) (t : Tree) (es : List Ended) (a : List Anchor) → ended_by o t (ended_after es (begun_by o a)) ≡ ended_after es (ended_after (own o s t) a)
-own_ended b s t es a = grind (arith, with_end_after)
+-- the node begins
+abbrev pub begin : {opens : List ℕ} {a : List Anchor} (o : Option (List ℕ)) (x : Known opens a)
+    → Known (opens_by o x.names opens) (begun_by o a)
+begin o x = record { names = with_anchor x.names o; read = x.read; agrees = begun_agrees o x }
 
 finished_next : (n : ℕ) (t : Tree) (read : Anchors) → finished (n + 1) t read ≡ (n + 1, t) ∷ read
 finished_next n t read = rw add-one refl
 
-pub own_agrees : (o : Option (List ℕ)) (s : Names) (a b : List Anchor) (t : Tree) (x : After (with_anchor s o) (begun_by o a) b) → Agrees x.names (ended_by o t b) (finished (number s o) t x.read)
-own_agrees None s a b t x = x.agrees
-own_agrees (Some name) s a b t x =
-    let h = rw (x.names_are, x.anchors_are) at x.agrees in
-    rw (finished_next s.count t x.read, x.names_are, x.anchors_are, with_end_after x.ends name t a)
-    (now_ended x.ends (x.names.count + 1) name (s.count + 1) t s.anchors a x.read h)
+pub ended_agrees : {opens : List ℕ} {b : List Anchor} (o : Option (List ℕ)) (s : Names) (t : Tree) (y : Known (opens_by o s opens) b)
+    → Agree (finished (number s o) t y.read) (y.names.count + 1) (ended_by o t b) y.names.anchors opens
+ended_agrees None s t y = y.agrees
+ended_agrees (Some name) s t y = rw (finished_next s.count t y.read) (now_ended t y.agrees)
 
--- the node ends
-abbrev pub after_node : (o : Option (List ℕ)) (s : Names) (a b : List Anchor) (t : Tree) → After (with_anchor s o) (begun_by o a) b → After s a (ended_by o t b)
-after_node o s a b t x = record {
-  names = x.names;
-  ends = x.ends ++ own o s t;
-  read = finished (number s o) t x.read;
-  names_are = x.names_are ∙ ap (names_after x.ends) (sym (own_names o s t)) ∙ sym (names_append x.ends (own o s t) s.anchors);
-  anchors_are = ap (ended_by o t) x.anchors_are ∙ own_ended o s t x.ends a ∙ sym (ended_append x.ends (own o s t) a);
-  agrees = own_agrees o s a b t x;
-}
+-- the node ends, which began at the names s
+abbrev pub finish : {opens : List ℕ} {b : List Anchor} (o : Option (List ℕ)) (s : Names) (t : Tree)
+    → Known (opens_by o s opens) b → Known opens (ended_by o t b)
+finish o s t y = record { names = y.names; read = finished (number s o) t y.read; agrees = ended_agrees o s t y }

@@ -16,6 +16,12 @@ pub record Says (keep_tags : Bool) (s : Names) (w : Works) (ts : List Tok) (es :
   pub derived : Derives grammar w ts raws
   pub names : named keep_tags s raws ≡ Some es
 
+-- The work `from` before some tokens says what the work `to` after them says, and `more` events; the names s become u.
+abbrev pub Goes : (keep_tags : Bool) (s u : Names) (from to : Works → Works) (before after : List Tok → List Tok)
+    (more : List Ev → List Ev) → Type 0
+Goes keep_tags s u from to before after more =
+    (w : Works) (r : List Tok) (es : List Ev) → Says keep_tags u (to w) (after r) es → Says keep_tags s (from w) (before r) (more es)
+
 -- ---- one row, one event
 
 pub taken : {keep_tags : Bool} {s : Names} {g : Goal} {h : Held} {w : Works} {t : Tok} {ts : List Tok} {es : List Ev} (ps : List (Part Goal Raw))

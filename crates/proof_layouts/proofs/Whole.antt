@@ -1,19 +1,14 @@
 -- The text that `dump` writes for a tree is a layout of that tree.
 use Rattle.std.proofs.lemmas.List.Elements.{All-head, All-tail}
-use Rattle.proof_layouts.proofs.Common.{[], dump_text, refl, ◌∷◌}
+use Rattle.proof_layouts.proofs.Common.{[], dump_text, refl, true, ◌∷◌}
 use Rattle.defs_layout.specs.DumpIsInjective.{CanBeWritten}
 use Rattle.defs_layout.specs.DumpIsLaidOut.{DumpsAreLaidOut}
 use Rattle.defs_layout.specs.DumpsInTurn.{DumpsInTurnAreLaidOut, dump_texts}
-use Rattle.proof_layouts.proofs.BasicDump.{layout_of_basic}
-use Rattle.proof_layouts.proofs.DumpLayout.{layout_of}
-use Rattle.proof_layouts.proofs.Texts.{layout_of_spelt}
-use Rattle.proof_layouts.proofs.Trees.{layout_of_tree}
-use Rattle.proof_layouts.proofs.Validity.{layout_of_valid}
+use Rattle.proof_layouts.proofs.DumpLayout.{as_root, node_of}
 
 -- The layout that dump writes is valid, has the text of the dump, and stands for the tree.
 pub dump_is_laid_out : DumpsAreLaidOut
-dump_is_laid_out compact multiline t distinct fits writable =
-    (layout_of compact multiline t, layout_of_valid compact multiline t distinct fits writable.has_text, layout_of_basic compact multiline t, layout_of_spelt compact multiline t, layout_of_tree compact multiline t)
+dump_is_laid_out compact multiline t distinct fits writable = as_root (node_of compact multiline true 0 t distinct fits writable.has_text)
 
 -- The same of several trees, an LF after each text.
 pub dumps_are_laid_out_in_turn : DumpsInTurnAreLaidOut

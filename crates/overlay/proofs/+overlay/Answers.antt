@@ -1,6 +1,4 @@
-use Rattle.std.proofs.Common.{refl, ap, sym, subst}
-use Rattle.defs_tree.specs.Writable.{IsWritable}
-use Rattle.yaml_tree.specs.View.{view}
+use Rattle.overlay.proofs.Common.{ap, IsWritable, subst, sym, view}
 use Rattle.overlay.proofs.InsertedLemmas.{laid_tree}
 use Rattle.overlay.proofs.WritableLemmas.{overlay_is_writable}
 use Rattle.overlay.proofs.+overlay.Goals as goal

@@ -1,9 +1,4 @@
-use Rattle.std.proofs.Common.{◌+◌, ◌*◌, ◌≤◌, ◌≡◌, []}
-use Rattle.defs_tree.specs.Overlay.{pairs_under}
-use Rattle.defs_tree.specs.Tree.{pairs_of}
-use Rattle.yaml_tree.specs.Depth.{depth, pairs_depth}
-use Rattle.yaml_tree.specs.View.{view}
-use Rattle.overlay.specs.Inserted.{inserted}
+use Rattle.overlay.proofs.Common.{[], depth, inserted, pairs_depth, pairs_of, pairs_under, view, ◌*◌, ◌+◌, ◌≡◌, ◌≤◌}
 use Rattle.overlay.proofs.+overlay.Given as goal
 
 abbrev pub decreases-overlay : goal.decreases-overlay

@@ -1,6 +1,4 @@
-use Rattle.std.proofs.Common.{◌≡◌}
-use Rattle.defs_tree.specs.Overlay.{new_pairs}
-use Rattle.overlay.specs.Inserted.{inserted}
+use Rattle.overlay.proofs.Common.{inserted, new_pairs, ◌≡◌}
 use Rattle.overlay.proofs.add_new_pairs.Given as goal
 
 abbrev pub invariant-pairs : goal.invariant-pairs

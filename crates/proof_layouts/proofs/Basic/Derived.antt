@@ -5,9 +5,8 @@ use Rattle.proof_layouts.proofs.Says.{Works, goal_and, Says, taken, left, said, 
 
 scalar_said : {keep_tags : Bool} {s : Names} {w : Works} {r : List Tok} {es : List Ev} (p : Place) (x : Scalar) (h : IsBasicScalar x)
     → Says keep_tags s (behind p w) r es → Says keep_tags s (goal_and (node p) w) (scalar_token x ∷ r) (nest_events (scalar_nest x h) es)
-scalar_said p (Scalar.plain t) h d = scalar None p _ _ d
-scalar_said p (Scalar.quoted text) h d = scalar None p _ _ d
 scalar_said p (Scalar.single_quoted text) h d = absurd h
+scalar_said p _ h d = scalar None p _ _ d
 
 inline_said : {keep_tags : Bool} {s : Names} {w : Works} {r : List Tok} {es : List Ev} (p : Place) (i : Inline) (h : IsBasicInline i)
     → Says keep_tags s (behind p w) r es → Says keep_tags s (goal_and (node p) w) (inline_tokens i r) (nest_events (inline_nest i h) es)
@@ -27,11 +26,7 @@ mutual
   value_said q (Value.literal more column text ls) h d = scalar None (outside q) _ _ d
   value_said q (Value.compact more b) h d = block_said q b h d
   value_said q (Value.below after g column b) h d = block_said q b h.1 d
-  value_said q (Value.folded more column strips text ls) h d = absurd h
-  value_said q (Value.json more v) h d = absurd h
-  value_said q (Value.at_key after g vs) h d = absurd h
-  value_said q (Value.anchored more name v) h d = absurd h
-  value_said q (Value.alias more name t) h d = absurd h
+  value_said q _ h d = absurd h
 
   entries_said : {keep_tags : Bool} {s : Names} {w : Works} {r : List Tok} {es : List Ev} (vs : Entries) (h : AreBasicEntries vs) → Says keep_tags s w r es
       → Says keep_tags s (goal_and at.block_sequence_entries w) (entry_tokens vs (Tok.block_end ∷ r)) (nests_events (entry_nests vs h) (Ev.sequence_end ∷ es))

@@ -1,6 +1,6 @@
 -- Basic layouts, their events and what these are read as, computed.
 use Rattle.std.specs.Fmt.{digits}
-use Rattle.proof_layouts.proofs.Common.{[], basic_documents, below, Block, codes, Entries, Err, Ev, Field, Fields, full, Inline, is_decimal, is_quoted, is_unfit_for_plain, IsBasic, items_of, last_document, Layout, nested_stream, no_comment, None, Ok, pairs_of, pos, reading, refl, Root, Scalar, spell, Style, Tree, true, typing, Value, written_character, ◌∷◌, ◌≡◌}
+use Rattle.proof_layouts.proofs.Common.{[], basic_documents, below, Block, codes, Entries, Err, Ev, Field, Fields, full, Inline, is_decimal, is_quoted, is_unfit_for_plain, IsBasic, items_of, last_document, Layout, List, nested_stream, no_comment, None, Ok, pairs_of, pos, reading, Result, Root, Scalar, spell, Style, Tree, true, typing, Value, written_character, ◌∷◌, ◌≡◌}
 
 abbrev text_of : Tree → Inline
 text_of t = Inline.scalar (Scalar.plain t)
@@ -13,74 +13,49 @@ beside i = Value.beside 0 i no_comment
 abbrev plainly : Block → Layout
 plainly b = record { is_marked = true; documents = last_document (record { gap = []; root = Root.block 0 b }) [] }
 
--- ---- `---`, `"k":`, `  - ~`, `  - []`
+-- a basic layout, and what its document is read as
+record IsReadAs (w : Layout) (trees : Result (List Tree) Tree) : Type 0 where
+  basic : IsBasic w
+  read : reading (basic_documents w basic) ≡ trees
 
+-- `---`, `"k":`, `  - ~`, `  - []`
 abbrev list_below : Layout
 list_below =
     plainly (Block.hash (Fields.last_field (Field.implicit (Scalar.quoted (codes "k"))
     (below no_comment [] 2 (Block.array (Entries.entry (beside (text_of Tree.null)) [] (Entries.last_entry (beside Inline.empty_array))))))))
 
-list_below_basic : IsBasic list_below
-list_below_basic = search
-
-list_below_text : spell list_below [] ≡ codes "---\n\"k\":\n  - ~\n  - []"
-unfolding written_character
-list_below_text = refl
-
-list_below_events : nested_stream (basic_documents list_below list_below_basic) ≡
-    Ev.stream_start ∷ Ev.document_start ∷ Ev.mapping_start 0 None ∷ Ev.scalar (codes "k") Style.double_quoted 0 None
-    ∷ Ev.sequence_start 0 None ∷ Ev.scalar (codes "~") Style.plain 0 None ∷ Ev.sequence_start 0 None ∷ Ev.sequence_end ∷ Ev.sequence_end
-    ∷ Ev.mapping_end ∷ Ev.document_end ∷ Ev.stream_end ∷ []
-list_below_events = refl
-
-list_below_read : reading (basic_documents list_below list_below_basic) ≡ Ok (Tree.hash (pairs_of (
-    (Tree.string (codes "k"), Tree.array (items_of (Tree.null ∷ Tree.array (items_of []) ∷ []))) ∷ [])) ∷ [])
-unfolding typing is_decimal
-list_below_read = refl
-
--- ---- `---`, `? - 12`, `: |-`, `  12`: the key's is a number, the literal block is a string
-
+-- `---`, `? - 12`, `: |-`, `  12`: the key's is a number, the literal block is a string
 abbrev key_of_lines : Layout
 key_of_lines =
     plainly (Block.hash (Fields.last_field (Field.explicit
     (Value.compact 0 (Block.array (Entries.last_entry (beside (text_of (Tree.integer (pos 12)))))))
     [] (Value.literal 0 2 (codes "12") (full (codes "12") ∷ [])))))
 
-key_of_lines_basic : IsBasic key_of_lines
-key_of_lines_basic = search
-
-key_of_lines_text : spell key_of_lines [] ≡ codes "---\n? - 12\n: |-\n  12"
-unfolding digits
-key_of_lines_text = refl
-
-key_of_lines_read : reading (basic_documents key_of_lines key_of_lines_basic) ≡ Ok (Tree.hash (pairs_of (
-    (Tree.array (items_of (Tree.integer (pos 12) ∷ [])), Tree.string (codes "12")) ∷ [])) ∷ [])
-unfolding typing is_decimal digits
-key_of_lines_read = refl
-
--- ---- `---`, `"a": 1`, `a: 2`: the keys are one
-
+-- `---`, `"a": 1`, `a: 2`: the keys are one
 abbrev repeated : Layout
 repeated =
     plainly (Block.hash (Fields.field (Field.implicit (Scalar.quoted (codes "a")) (beside (text_of (Tree.integer (pos 1))))) []
     (Fields.last_field (Field.implicit (Scalar.plain (Tree.string (codes "a"))) (beside (text_of (Tree.integer (pos 2))))))))
 
-repeated_basic : IsBasic repeated
-repeated_basic = search
-
-repeated_read : reading (basic_documents repeated repeated_basic) ≡ Err (Tree.string (codes "a"))
-unfolding typing is_decimal is_quoted is_unfit_for_plain digits
-repeated_read = refl
-
--- ---- `---`, `- true`, spelt as a real that is none: it is read as a boolean
-
+-- `---`, `- true`, spelt as a real that is none: it is read as a boolean
 abbrev unquoted : Layout
 unquoted =
     plainly (Block.array (Entries.last_entry (beside (text_of (Tree.real (codes "true"))))))
 
-unquoted_basic : IsBasic unquoted
-unquoted_basic = search
+record Rows : Type 0 where
+  list_below_text : spell list_below [] ≡ codes "---\n\"k\":\n  - ~\n  - []"
+  list_below_read : IsReadAs list_below (Ok (Tree.hash (pairs_of (
+      (Tree.string (codes "k"), Tree.array (items_of (Tree.null ∷ Tree.array (items_of []) ∷ []))) ∷ [])) ∷ []))
+  list_below_events : nested_stream (basic_documents list_below list_below_read.basic) ≡
+      Ev.stream_start ∷ Ev.document_start ∷ Ev.mapping_start 0 None ∷ Ev.scalar (codes "k") Style.double_quoted 0 None
+      ∷ Ev.sequence_start 0 None ∷ Ev.scalar (codes "~") Style.plain 0 None ∷ Ev.sequence_start 0 None ∷ Ev.sequence_end ∷ Ev.sequence_end
+      ∷ Ev.mapping_end ∷ Ev.document_end ∷ Ev.stream_end ∷ []
+  key_of_lines_text : spell key_of_lines [] ≡ codes "---\n? - 12\n: |-\n  12"
+  key_of_lines_read : IsReadAs key_of_lines (Ok (Tree.hash (pairs_of (
+      (Tree.array (items_of (Tree.integer (pos 12) ∷ [])), Tree.string (codes "12")) ∷ [])) ∷ []))
+  repeated_read : IsReadAs repeated (Err (Tree.string (codes "a")))
+  unquoted_read : IsReadAs unquoted (Ok (Tree.array (items_of (Tree.boolean true ∷ [])) ∷ []))
 
-unquoted_read : reading (basic_documents unquoted unquoted_basic) ≡ Ok (Tree.array (items_of (Tree.boolean true ∷ [])) ∷ [])
-unfolding typing is_decimal
-unquoted_read = refl
+rows : Rows
+unfolding typing is_decimal is_quoted is_unfit_for_plain written_character digits
+rows = search

@@ -28,15 +28,11 @@ document_left _ r x = left _ refl x
 mutual
   pub value_said : {keep_tags : Bool} {s : Names} {w : Works} {r : List Tok} {es : List Ev} (p : Place) (v : Json) → Says keep_tags s (behind p w) r es
       → Says keep_tags s (goal_and (node p) w) (json_tokens v r) (nest_events (nested_of v) es)
-  value_said p Json.false_word x = scalar None p _ _ x
-  value_said p Json.null_word x = scalar None p _ _ x
-  value_said p Json.true_word x = scalar None p _ _ x
-  value_said p (Json.number n) x = scalar None p _ _ x
-  value_said p (Json.string ps) x = scalar None p _ _ x
   value_said p (Json.empty_array g) x = flow_sequence None p (taken _ refl (said _ refl x))
   value_said p (Json.array g vs) x = flow_sequence None p (elements_said vs x)
   value_said p (Json.empty_object g) x = flow_mapping None p (taken _ refl (said _ refl x))
   value_said p (Json.object g ms) x = flow_mapping None p (members_said ms x)
+  value_said p _ x = scalar None p _ _ x
 
   -- after `[` or a comma
   elements_said : {keep_tags : Bool} {s : Names} {w : Works} {r : List Tok} {es : List Ev} (vs : Elements) → Says keep_tags s w r es

@@ -1,8 +1,9 @@
 -- A layout's stream, its documents and what they are read as.
-use Rattle.proof_layouts.proofs.Common.{[], Anchors, append_assoc, AreDocuments, at_document, Block, block_tokens, Bool, Documents, documents_tokens, Ev, false, in_block, Inline, inline_tokens, layout_tokens, LayoutEventsAreLoaded, LayoutTokensReadAsTheirTrees, List, marked, Names, nested_documents_events, NestedDocument, no_names, node, Ok, Raw, read_documents, refl, Root, root_tokens, root_tree, saying, Scalar, Tok, Tree, trees_of, true, with_node, ◌++◌, ◌∷◌, ◌≡◌}
+use Rattle.proof_layouts.proofs.Common.{[], Anchors, append_assoc, AreDocuments, at_document, Block, Bool, Documents, documents_tokens, Ev, false, in_block, Inline, layout_tokens, LayoutEventsAreLoaded, LayoutTokensReadAsTheirTrees, List, marked, Names, nested_documents_events, NestedDocument, no_names, node, Ok, Raw, read_documents, refl, Root, root_tokens, root_tree, saying, Scalar, Tok, Tree, trees_of, true, with_node, ◌++◌, ◌∷◌, ◌≡◌}
 use Rattle.defs_event.specs.Grammar as at
 use Rattle.proof_layouts.proofs.Loads.{streams_are_loaded}
 use Rattle.proof_layouts.proofs.Says.{Works, goal_and, Says, taken, left, said, stream_ends, stream_said}
+use Rattle.proof_layouts.proofs.Numbered.{Agree, Known}
 use Rattle.proof_layouts.proofs.Layouts.Reading.{root_reads}
 
 -- ---- documents
@@ -18,9 +19,12 @@ record ReadsDocuments (keep_tags : Bool) (s : Names) (read : Anchors) (ds : Docu
   says : Says keep_tags s document_and (documents_tokens ds) (nested_documents_events nodes (Ev.stream_end ∷ []))
   reads : (held : List Tree) → read_documents nodes held read ≡ Ok (held ++ trees_of ds, last)
 
+abbrev at_start : Bool → Names → Anchors → Known [] []
+at_start keep_tags s read = record { names = at_document keep_tags s []; read = read; agrees = Agree.none }
+
 documents_read : (keep_tags : Bool) (s : Names) (read : Anchors) (ds : Documents) → AreDocuments ds → ReadsDocuments keep_tags s read ds
 documents_read keep_tags s read (Documents.last_document d after) are =
-    let x = root_reads {keep_tags = keep_tags} {s = at_document keep_tags s []} {read = read} d.root are.1 tt in
+    let x = root_reads {keep_tags = keep_tags} (at_start keep_tags s read) d.root are.1 in
     record {
       nodes = with_node x.node ∷ [];
       last = x.after.read;
@@ -28,7 +32,7 @@ documents_read keep_tags s read (Documents.last_document d after) are =
       reads = λ held. rw x.reads refl;
     }
 documents_read keep_tags s read (Documents.document d g ds) are =
-    let x = root_reads {keep_tags = keep_tags} {s = at_document keep_tags s []} {read = read} d.root are.1 tt in
+    let x = root_reads {keep_tags = keep_tags} (at_start keep_tags s read) d.root are.1 in
     let y = documents_read keep_tags x.after.names x.after.read ds are.3 in
     record {
       nodes = with_node x.node ∷ y.nodes;
@@ -40,22 +44,11 @@ documents_read keep_tags s read (Documents.document d g ds) are =
 -- ---- the stream
 
 -- a first document without marker: its node's first token begins it
-block_left : {keep_tags : Bool} {s : Names} {es : List Ev} (b : Block) (r : List Tok) → Says keep_tags s document_and (block_tokens b r) es
-    → Says keep_tags s (goal_and at.documents []) (block_tokens b r) es
-block_left (Block.array vs) r x = left _ refl x
-block_left (Block.hash fs) r x = left _ refl x
-
-inline_left : {keep_tags : Bool} {s : Names} {es : List Ev} (i : Inline) (r : List Tok) → Says keep_tags s document_and (inline_tokens i r) es
-    → Says keep_tags s (goal_and at.documents []) (inline_tokens i r) es
-inline_left (Inline.scalar (Scalar.plain t)) r x = left _ refl x
-inline_left (Inline.scalar _) r x = left _ refl x
-inline_left _ r x = left _ refl x
-
 root_left : {keep_tags : Bool} {s : Names} {es : List Ev} (root : Root) (r : List Tok) → Says keep_tags s document_and (root_tokens root r) es
     → Says keep_tags s (goal_and at.documents []) (root_tokens root r) es
-root_left (Root.block column b) r x = block_left b r x
-root_left (Root.inline i) r x = inline_left i r x
-root_left (Root.literal text ls) r x = left _ refl x
+root_left (Root.block column (Block.array vs)) r x = left _ refl x
+root_left (Root.inline (Inline.scalar (Scalar.plain t))) r x = left _ refl x
+root_left _ r x = left _ refl x
 
 documents_left : {keep_tags : Bool} {s : Names} {es : List Ev} (is_marked : Bool) (ds : Documents) → Says keep_tags s document_and (documents_tokens ds) es
     → Says keep_tags s (goal_and at.documents []) (marked is_marked (documents_tokens ds)) es

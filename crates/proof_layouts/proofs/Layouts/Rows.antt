@@ -1,6 +1,6 @@
 -- Layouts with anchors, and their trees, computed.
 use Rattle.std.specs.Fmt.{digits}
-use Rattle.proof_layouts.proofs.Common.{[], Block, codes, Document, Documents, Entries, false, Field, Fields, Inline, IsLayout, items_of, Layout, List, no_comment, pairs_of, pos, refl, Root, Scalar, spell, Tree, trees_of, true, Value, written_character, ℕ, ◌∷◌, ◌≡◌}
+use Rattle.proof_layouts.proofs.Common.{[], Block, codes, Document, Documents, Entries, false, Field, Fields, Inline, IsLayout, items_of, Layout, List, no_comment, pairs_of, pos, Root, Scalar, spell, Tree, trees_of, true, Value, written_character, ℕ, ◌∷◌, ◌≡◌}
 
 abbrev single : List ℕ → Inline
 single text = Inline.scalar (Scalar.single_quoted text)
@@ -28,15 +28,6 @@ two_documents = record {
       (Documents.last_document (document (Root.block 0 (Block.array named_entries))) []);
 }
 
-two_documents_text : spell two_documents [] ≡ codes "\"k\":\n- &n 'x'\n- *n\n---\n- &n 'x'\n- *n"
-unfolding written_character
-two_documents_text = refl
-
-two_documents_trees : trees_of two_documents.documents ≡
-    Tree.hash (pairs_of ((Tree.string (codes "k"), Tree.array (items_of (Tree.string (codes "x") ∷ Tree.string (codes "x") ∷ []))) ∷ []))
-    ∷ Tree.array (items_of (Tree.string (codes "x") ∷ Tree.string (codes "x") ∷ [])) ∷ []
-two_documents_trees = refl
-
 -- ---- `- &a 1`, `- &a 2`, `- *a`: the last node of the name counts
 
 abbrev twice_named : Layout
@@ -48,9 +39,15 @@ twice_named = record {
       (Entries.last_entry (Value.alias 0 (codes "a") (Tree.integer (pos 2))))))))) [];
 }
 
-twice_named_is : IsLayout twice_named
-unfolding digits
-twice_named_is = search
+record Rows : Type 0 where
+  two_documents_text : spell two_documents [] ≡ codes "\"k\":\n- &n 'x'\n- *n\n---\n- &n 'x'\n- *n"
+  two_documents_trees : trees_of two_documents.documents ≡
+      Tree.hash (pairs_of ((Tree.string (codes "k"), Tree.array (items_of (Tree.string (codes "x") ∷ Tree.string (codes "x") ∷ []))) ∷ []))
+      ∷ Tree.array (items_of (Tree.string (codes "x") ∷ Tree.string (codes "x") ∷ [])) ∷ []
+  twice_named_is : IsLayout twice_named
+  twice_named_trees : trees_of twice_named.documents ≡
+      Tree.array (items_of (Tree.integer (pos 1) ∷ Tree.integer (pos 2) ∷ Tree.integer (pos 2) ∷ [])) ∷ []
 
-twice_named_trees : trees_of twice_named.documents ≡ Tree.array (items_of (Tree.integer (pos 1) ∷ Tree.integer (pos 2) ∷ Tree.integer (pos 2) ∷ [])) ∷ []
-twice_named_trees = refl
+rows : Rows
+unfolding written_character digits
+rows = search

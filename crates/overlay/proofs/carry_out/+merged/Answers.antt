@@ -1,8 +1,4 @@
-use Rattle.std.proofs.Common.{◌++◌, ap, ◌∙◌}
-use Rattle.defs_tree.specs.Merge.{merged_values}
-use Rattle.defs_tree.specs.Pairs.{insert}
-use Rattle.defs_tree.specs.Tree.{pairs_of}
-use Rattle.yaml_tree.specs.View.{view}
+use Rattle.overlay.proofs.Common.{ap, insert, merged_values, pairs_of, view, ◌++◌, ◌∙◌}
 use Rattle.overlay.proofs.PutLemmas.{value_put, no_deeper}
 use Rattle.overlay.proofs.carry_out.+merged.Goals as goal
 

@@ -1,8 +1,4 @@
-use Rattle.std.proofs.Common.{◌+◌, ◌*◌, ◌≤◌, ◌≡◌, ◌++◌}
-use Rattle.defs_tree.specs.Merge.{merged_items, merged_values}
-use Rattle.defs_tree.specs.Tree.{items_of, pairs_of}
-use Rattle.yaml_tree.specs.Depth.{depth, items_depth, pairs_depth}
-use Rattle.yaml_tree.specs.View.{view}
+use Rattle.overlay.proofs.Common.{depth, items_depth, items_of, merged_items, merged_values, pairs_depth, pairs_of, view, ◌*◌, ◌++◌, ◌+◌, ◌≡◌, ◌≤◌}
 use Rattle.overlay.proofs.carry_out.+merged.Given as goal
 
 abbrev pub decreases-merged : goal.decreases-merged

@@ -1,7 +1,4 @@
-use Rattle.std.proofs.Common.{◌≡◌, sym, ap, subst}
-use Rattle.std.specs.Prelude.{OnOk}
-use Rattle.defs_tree.specs.Merge.{with_new_pairs}
-use Rattle.yaml_tree.specs.View.{view}
+use Rattle.overlay.proofs.Common.{ap, OnOk, subst, sym, view, with_new_pairs, ◌≡◌}
 use Rattle.overlay.proofs.PutLemmas.{mapping_brings}
 use Rattle.overlay.proofs.carry_out.add_brought.Goals as goal
 

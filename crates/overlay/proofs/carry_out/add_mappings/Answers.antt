@@ -1,7 +1,4 @@
-use Rattle.std.proofs.Common.{◌∷◌, ap, ◌∙◌}
-use Rattle.defs_tree.specs.Merge.{with_new_pairs, pairs_of_mappings}
-use Rattle.defs_tree.specs.Tree.{items_of}
-use Rattle.yaml_tree.specs.View.{view}
+use Rattle.overlay.proofs.Common.{ap, items_of, pairs_of_mappings, view, with_new_pairs, ◌∙◌, ◌∷◌}
 use Rattle.overlay.proofs.PutLemmas.{mapping_put, other_left_out}
 use Rattle.overlay.proofs.carry_out.add_mappings.Goals as goal
 use Rattle.overlay.proofs.carry_out.add_mappings.Goals.{in-Hash+in_ok-add_new_pairs, in_default}

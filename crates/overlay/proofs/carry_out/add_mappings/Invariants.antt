@@ -1,6 +1,4 @@
-use Rattle.std.proofs.Common.{◌≡◌}
-use Rattle.defs_tree.specs.Merge.{pairs_of_mappings, with_new_pairs}
-use Rattle.defs_tree.specs.Tree.{items_of}
+use Rattle.overlay.proofs.Common.{items_of, pairs_of_mappings, with_new_pairs, ◌≡◌}
 use Rattle.overlay.proofs.carry_out.add_mappings.Given as goal
 
 abbrev pub invariant-items : goal.invariant-items

@@ -1,5 +1,4 @@
-use Rattle.std.proofs.Common.{ap, ◌∙◌}
-use Rattle.defs_tree.specs.Merge.{with_new_pairs}
+use Rattle.overlay.proofs.Common.{ap, with_new_pairs, ◌∙◌}
 use Rattle.overlay.proofs.PutLemmas.{pair_put, not_found}
 use Rattle.overlay.proofs.carry_out.add_new_pairs.Goals as goal
 

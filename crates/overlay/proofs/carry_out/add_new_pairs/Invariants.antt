@@ -1,5 +1,4 @@
-use Rattle.std.proofs.Common.{◌≡◌}
-use Rattle.defs_tree.specs.Merge.{with_new_pairs}
+use Rattle.overlay.proofs.Common.{with_new_pairs, ◌≡◌}
 use Rattle.overlay.proofs.carry_out.add_new_pairs.Given as goal
 
 abbrev pub invariant-pairs : goal.invariant-pairs

@@ -1,4 +1,4 @@
-use Rattle.std.proofs.Common.{◌∙◌}
+use Rattle.overlay.proofs.Common.{◌∙◌}
 use Rattle.overlay.proofs.MergeKey.{key_made}
 use Rattle.overlay.proofs.PutLemmas.{carried_out, nothing_to_do}
 use Rattle.overlay.proofs.carry_out.merged_pairs.Goals as goal

@@ -1,9 +1,6 @@
-use Rattle.std.proofs.Common.{◌≡◌, ◌+◌, ◌*◌, ◌≤◌, drop, length}
+use Rattle.overlay.proofs.Common.{depth, drop, items_depth, items_of, items_view, length, pairs_depth, pairs_of, view, ◌*◌, ◌+◌, ◌≡◌, ◌≤◌}
 use Rattle.defs_tree.specs.MergeFault.{first_item_fault, first_pair_fault}
-use Rattle.defs_tree.specs.Tree.{items_of, pairs_of}
 use Rattle.overlay.specs.Found.{wanted_view}
-use Rattle.yaml_tree.specs.Depth.{depth, items_depth, pairs_depth}
-use Rattle.yaml_tree.specs.View.{view, items_view}
 use Rattle.overlay.proofs.find.+find.Given as goal
 
 abbrev pub decreases-find : goal.decreases-find

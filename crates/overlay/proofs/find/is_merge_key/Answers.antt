@@ -1,8 +1,4 @@
-use Rattle.std.proofs.Common.{sym, ap, ◌∙◌}
-use Rattle.std.specs.Prelude.{bytes_eq, codes}
-use Rattle.defs_tree.specs.Merge.{merge_key}
-use Rattle.defs_tree.specs.Order.{tree_eq}
-use Rattle.yaml_tree.specs.View.{view}
+use Rattle.overlay.proofs.Common.{ap, bytes_eq, codes, merge_key, sym, tree_eq, view, ◌∙◌}
 use Rattle.overlay.proofs.MergeKey.{is_the_key}
 use Rattle.overlay.proofs.find.is_merge_key.Goals as goal
 

@@ -1,5 +1,4 @@
-use Rattle.std.proofs.Common.{sym, subst}
-use Rattle.defs_tree.specs.Writable.{IsWritable}
+use Rattle.overlay.proofs.Common.{IsWritable, subst, sym}
 use Rattle.overlay.proofs.MergeWritable.{merged_is_writable}
 use Rattle.overlay.proofs.merge_keys.merge.Goals as goal
 
