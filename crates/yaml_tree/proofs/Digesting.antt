@@ -24,7 +24,8 @@ module _ (es : List Entry) (ps : Pairs) (digested : AreDigests (map digest_of_en
   pub digested_key : (r : ℕ) → r < length es → digest_at es r ≡ digest (key_of_rank (map place_of_entry es) ps r)
   digested_key r h = sym (digest_mapped es r) ∙ digested r (omega (arith, length-map es digest_of_entry))
 
-  pub entries_rise : ((i j : ℕ) → i < j → j < length (map place_of_entry es) → key_cmp digest (key_of_rank (map place_of_entry es) ps i) (key_of_rank (map place_of_entry es) ps j) ≡ Less) → AreRising es
+  pub entries_rise : ((i j : ℕ) → i < j → j < length (map place_of_entry es)
+      → key_cmp digest (key_of_rank (map place_of_entry es) ps i) (key_of_rank (map place_of_entry es) ps j) ≡ Less) → AreRising es
   entries_rise ascending i j h g = by (cases_lt i j)
     where
       by : (i < j) ⊎ (j ≤ i) → digest_at es i ≤ digest_at es j
@@ -32,7 +33,8 @@ module _ (es : List Entry) (ps : Pairs) (digested : AreDigests (map digest_of_en
         arith,
         digested_key i (omega arith),
         digested_key j g,
-        numbers_rise digest (key_of_rank (map place_of_entry es) ps i) (key_of_rank (map place_of_entry es) ps j) (ascending i j f (omega (arith, length-map es place_of_entry))),
+        numbers_rise digest (key_of_rank (map place_of_entry es) ps i) (key_of_rank (map place_of_entry es) ps j)
+            (ascending i j f (omega (arith, length-map es place_of_entry))),
       )
       by (inr f) = let same : i ≡ j = omega arith in omega (arith, ap (digest_at es) same)
 

@@ -1,6 +1,6 @@
 -- Nodes in a row, as the trees that clauses see.
 use Rattle.std.proofs.lemmas.List.{map-append}
-use Rattle.yaml_tree.proofs.Common.{[], ap, arith, Bool, hash, if◌then◌else◌, integer, items_of, items_view, length, length-map, List, list_of, lookup, nat_lt, nat_tests, None, Option, option_map, pair_list_of, pairs_of, pos, refl, slice_get, Tree, true, value_at_index, view, Yaml, ℕ, ◌++◌, ◌<◌, ◌^◌, ◌∙◌, ◌∷◌, ◌≡◌}
+use Rattle.yaml_tree.proofs.Common.{[], ap, arith, hash, integer, items_of, items_view, length, length-map, List, list_of, lookup, nat_tests, option_map, pair_list_of, pairs_of, pos, refl, slice_get, Tree, value_at_index, view, Yaml, ℕ, ◌++◌, ◌<◌, ◌^◌, ◌∙◌, ◌∷◌, ◌≡◌}
 
 pub length_items_view : (ys : List Yaml) → length (items_view ys) ≡ length ys
 length_items_view ys = length-map ys view
@@ -22,7 +22,4 @@ pair_list_of_pairs (p ∷ ps) = ap (λ us. p ∷ us) (pair_list_of_pairs ps)
 
 -- the value at an index of a hash
 pub at_number : (i : ℕ) (ps : List (Tree × Tree)) → i < 2 ^ 63 → value_at_index i (hash (pairs_of ps)) ≡ lookup (integer (pos i)) ps
-at_number i ps h = rw pair_list_of_pairs (chosen (nat_lt i (2 ^ 63)) (lookup (integer (pos i)) ps) (grind (arith, nat_tests)))
-  where
-    chosen : (b : Bool) (o : Option Tree) → b ≡ true → (if b then o else None) ≡ o
-    chosen a o e = grind arith
+at_number i ps h = grind (arith, nat_tests, pair_list_of_pairs ps)

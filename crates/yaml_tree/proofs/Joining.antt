@@ -1,5 +1,5 @@
 -- Blocks as one row: what is at a spot, and what a change of a block does to the row.
-use Rattle.yaml_tree.proofs.IndexCommon.{[], ap, append-nil, append_assoc, AreFilled, AreRising, arith, cases_lt, digest_at, drop, drop_all, Entry, get_or, get_or_default, halved, head_at, inl, inr, insert, insert-append_left, insert-append_right, insert_end, IsEdge, IsNarrowed, joined, length, length-append, length-drop, length-insert, length-map, length-set, length-take, List, map, map-append, number_at, place_at, refl, remove, remove-append_left, remove-append_right, set, start, suc, sym, take, take-append-drop, take_all, take_at, zero, ℕ, ◌++◌, ◌+◌, ◌-◌, ◌<◌, ◌∙◌, ◌∷◌, ◌≡◌, ◌≤◌, ◌⊎◌}
+use Rattle.yaml_tree.proofs.IndexCommon.{[], ap, append-nil, append_assoc, AreFilled, AreRising, arith, cases_lt, digest_at, drop, drop_all, Entry, get_or, get_or_default, halved, head_at, inl, inr, insert, insert-append_left, insert-append_right, insert_end, IsEdge, IsNarrowed, joined, length, length-append, length-drop, length-insert, length-map, length-set, length-take, List, map, map-append, number_at, refl, remove, remove-append_left, remove-append_right, set, start, suc, sym, take, take-append-drop, take_all, take_at, zero, ℕ, ◌++◌, ◌+◌, ◌-◌, ◌<◌, ◌∙◌, ◌∷◌, ◌≡◌, ◌≤◌, ◌⊎◌}
 
 -- ---- entries by number
 
@@ -49,21 +49,20 @@ number_in f (b ∷ bs) (suc i) j h g = number_right f b (joined bs) (start bs i 
 pub digest_in : (bs : List (List Entry)) (i j : ℕ) → i < length bs → j < length (get_or bs i []) → digest_at (joined bs) (start bs i + j) ≡ digest_at (get_or bs i []) j
 digest_in bs i j h g = number_in (λ e. e.digest) bs i j h g
 
-pub place_in : (bs : List (List Entry)) (i j : ℕ) → i < length bs → j < length (get_or bs i []) → place_at (joined bs) (start bs i + j) ≡ place_at (get_or bs i []) j
-place_in bs i j h g = number_in (λ e. e.place) bs i j h g
-
 -- what is read at a spot
 pub block_read : (xs bs : List (List Entry)) (i : ℕ) (b : List Entry) → xs ≡ bs → i < length bs → b ≡ get_or xs i b → b ≡ get_or bs i []
 block_read xs bs i b v h e = e ∙ ap (λ ys. get_or ys i b) v ∙ get_or_default bs i b [] h
 
-pub spot_digest : (xs bs : List (List Entry)) (i j d : ℕ) (b : List Entry) → xs ≡ bs → i < length bs → b ≡ get_or xs i b → j < length b → d ≡ digest_at b j
+pub spot_digest : (xs bs : List (List Entry)) (i j d : ℕ) (b : List Entry) → xs ≡ bs → i < length bs → b ≡ get_or xs i b → j < length b
+    → d ≡ digest_at b j
     → digest_at (joined bs) (start bs i + j) ≡ d
 spot_digest xs bs i j d b v h e g is =
     let read = block_read xs bs i b v h e in
     digest_in bs i j h (omega (arith, g, ap length read)) ∙ sym (is ∙ ap (λ b. digest_at b j) read)
 
 -- after the last entry of a block comes the first of the next
-pub next_digest : (xs bs : List (List Entry)) (i j d : ℕ) (b c : List Entry) → xs ≡ bs → AreFilled bs → i + 1 < length bs → b ≡ get_or xs i b → length b ≡ j
+pub next_digest : (xs bs : List (List Entry)) (i j d : ℕ) (b c : List Entry) → xs ≡ bs → AreFilled bs → i + 1 < length bs
+    → b ≡ get_or xs i b → length b ≡ j
     → c ≡ get_or xs (i + 1) c → d ≡ digest_at c 0 → digest_at (joined bs) (start bs i + j) ≡ d
 next_digest xs bs i j d b c v a h e end f is =
     let next = start_next bs i (i + 1) (omega arith) in
@@ -72,7 +71,8 @@ next_digest xs bs i j d b c v a h e end f is =
     ap (digest_at (joined bs)) (omega (arith, next, read, end)) ∙ spot_digest xs bs (i + 1) 0 d c v h f some is
 
 -- after the last block there are no entries
-pub last_block : (xs bs : List (List Entry)) (i : ℕ) (b : List Entry) → xs ≡ bs → length bs ≡ suc i → b ≡ get_or xs i b → start bs i + length b ≡ length (joined bs)
+pub last_block : (xs bs : List (List Entry)) (i : ℕ) (b : List Entry) → xs ≡ bs → length bs ≡ suc i → b ≡ get_or xs i b
+    → start bs i + length b ≡ length (joined bs)
 last_block xs bs i b v h e =
     omega (arith, ap length (block_read xs bs i b v (omega arith) e), start_next bs i (suc i) refl, start_all bs (suc i) (omega arith))
 
@@ -272,7 +272,8 @@ pub lent_back : {X : Type 0} (n : ℕ) (xs ys : List X) → length xs ≡ n → 
 lent_back n xs ys e = take_at xs (drop (length xs) ys) n e
 
 -- of a loop over all blocks that has come to its end
-pub all_lent : (f : List Entry → List Entry) (n len : ℕ) (xs ws ys : List (List Entry)) → length ys ≡ length ws → length ws ≡ len → length ws ≤ n
+pub all_lent : (f : List Entry → List Entry) (n len : ℕ) (xs ws ys : List (List Entry)) → length ys ≡ length ws → length ws ≡ len
+    → length ws ≤ n
     → ys ≡ map f (take n ws) ++ drop n ws → ws ≡ xs → take len (ys ++ drop (length ys) xs) ≡ map f xs
 all_lent f n len xs ws ys l k h e is =
     lent_back len ys xs (l ∙ k) ∙ e ∙ (λ i. map f (take_all n ws h i) ++ drop_all n ws h i) ∙ append-nil (map f ws) ∙ ap (map f) is

@@ -44,5 +44,6 @@ module _ (k v : Tree) (ys zs : List Yaml) (o n : Kept) (i : IsIndexed (items_vie
 pub indexed_value : (ys : List Yaml) (o : Kept) (j : ℕ) (w : Yaml) → IsIndexed (items_view ys) o → IsIndexed (items_view (set ys (2 * j + 1) w)) o
 indexed_value ys o j w i = record {
   hash = made_value ys (places o) j w i.hash;
-  digested = rw (seen_value ys (pairs_view ys) (places o) j w i.hash refl) (digested_value (digests o) (places o) (pairs_view ys) j (view w) i.digested);
+  digested = rw (seen_value ys (pairs_view ys) (places o) j w i.hash refl)
+      (digested_value (digests o) (places o) (pairs_view ys) j (view w) i.digested);
 }

@@ -72,8 +72,10 @@ closed_within p q n a h g = grind (arith, nat_tests)
 -- ---- ranks
 
 -- the keys of some of the ranks, in their order
-some_keys : {m : Tree → ℕ} {rs qs : List ℕ} {ps us : Pairs} (f : ℕ → ℕ) → AreRanked m rs ps → ((r s : ℕ) → r < s → f r < f s) → length qs ≡ length us
-    → ((r : ℕ) → r < length qs → (f r < length rs) × ((get_or qs r 0 < length us) × (key_of_rank qs us r ≡ key_of_rank rs ps (f r)))) → AreRanked m qs us
+some_keys : {m : Tree → ℕ} {rs qs : List ℕ} {ps us : Pairs} (f : ℕ → ℕ) → AreRanked m rs ps → ((r s : ℕ) → r < s → f r < f s)
+    → length qs ≡ length us
+    → ((r : ℕ) → r < length qs → (f r < length rs) × ((get_or qs r 0 < length us) × (key_of_rank qs us r ≡ key_of_rank rs ps (f r))))
+    → AreRanked m qs us
 some_keys {m} f a rises l each = record {
   counted = l;
   within = λ r h. (each r h).1.0;
@@ -111,7 +113,8 @@ module _ {m : Tree → ℕ} (rs : List ℕ) (ps : Pairs) (a : AreRanked m rs ps)
 moved_within : (p n q : ℕ) → p < n → q < n → moved_up p n q < n
 moved_within p n q h g = grind (arith, nat_tests)
 
-moved_one : (ps : Pairs) (k v : Tree) (p q n : ℕ) → n ≡ length ps → p < n → q < n → key_at ps p ≡ k → key_at (remove ps p ++ (k, v) ∷ []) (moved_up p n q) ≡ key_at ps q
+moved_one : (ps : Pairs) (k v : Tree) (p q n : ℕ) → n ≡ length ps → p < n → q < n → key_at ps p ≡ k
+    → key_at (remove ps p ++ (k, v) ∷ []) (moved_up p n q) ≡ key_at ps q
 moved_one ps k v p q n e h g is =
     let fewer : length (remove ps p) + 1 ≡ length ps = length-remove ps p (omega arith) in
     grind (arith, nat_tests, fewer, key_append_left, key_append_end, closed_key, closed_within)
@@ -120,7 +123,8 @@ pub moved_key : {m : Tree → ℕ} (rs : List ℕ) (ps : Pairs) (r : ℕ) (k v :
     → key_of_rank (map (moved_up (get_or rs r 0) (length rs)) rs) (remove ps (get_or rs r 0) ++ (k, v) ∷ []) s ≡ key_of_rank rs ps s
 moved_key rs ps r k v a is s within =
     ap (key_at (remove ps (get_or rs r 0) ++ (k, v) ∷ [])) (get_or-map (moved_up (get_or rs r 0) (length rs)) rs s 0 0 within)
-    ∙ moved_one ps k v (get_or rs r 0) (get_or rs s 0) (length rs) a.counted (omega (arith, a.counted, a.within r is.0)) (omega (arith, a.counted, a.within s within)) is.1
+    ∙ moved_one ps k v (get_or rs r 0) (get_or rs s 0) (length rs) a.counted (omega (arith, a.counted, a.within r is.0))
+    (omega (arith, a.counted, a.within s within)) is.1
 
 pub ranked_moved : {m : Tree → ℕ} (rs : List ℕ) (ps : Pairs) (r : ℕ) (k v : Tree) → AreRanked m rs ps → IsRank k rs ps r
     → AreRanked m (map (moved_up (get_or rs r 0) (length rs)) rs) (remove ps (get_or rs r 0) ++ (k, v) ∷ [])
@@ -132,7 +136,8 @@ ranked_moved rs ps r k v a is =
     let more = length-append (remove ps p) ((k, v) ∷ []) in
     some_keys (λ s. s) a (λ s t h. h) (omega (arith, a.counted, same, fewer, more)) (λ s h.
     let g : s < length rs = omega (arith, same) in
-    let low = moved_within p (length rs) (get_or rs s 0) (omega (arith, a.counted, a.within r is.0)) (omega (arith, a.counted, a.within s g)) in
+    let low = moved_within p (length rs) (get_or rs s 0) (omega (arith, a.counted, a.within r is.0))
+    (omega (arith, a.counted, a.within s g)) in
     (g, (omega (arith, a.counted, low, get_or-map f rs s 0 0 g, fewer, more), moved_key rs ps r k v a is s g)))
 
 -- ---- a pair goes
@@ -157,7 +162,9 @@ module _ {m : Tree → ℕ} (rs : List ℕ) (ps : Pairs) (r : ℕ) (a : AreRanke
       apart = grind (arith, nat_tests)
 
   removed_place : (s : ℕ) → s + 1 < length rs → get_or (map (closed_up (get_or rs r 0)) (remove rs r)) s 0 ≡ closed_up (get_or rs r 0) (get_or rs (skip r s) 0)
-  removed_place s g = get_or-map (closed_up (get_or rs r 0)) (remove rs r) s 0 0 (omega (arith, length-remove rs r h)) ∙ ap (closed_up (get_or rs r 0)) (skip_get rs r s h)
+  removed_place s g =
+      get_or-map (closed_up (get_or rs r 0)) (remove rs r) s 0 0 (omega (arith, length-remove rs r h))
+      ∙ ap (closed_up (get_or rs r 0)) (skip_get rs r s h)
 
   pub removed_key : (s : ℕ) → s + 1 < length rs
       → key_of_rank (map (closed_up (get_or rs r 0)) (remove rs r)) (remove ps (get_or rs r 0)) s ≡ key_of_rank rs ps (skip r s)
@@ -172,7 +179,8 @@ module _ {m : Tree → ℕ} (rs : List ℕ) (ps : Pairs) (r : ℕ) (a : AreRanke
       some_keys (skip r) a (skip_rises r) (omega (arith, same, fewer_ranks, fewer, a.counted)) (λ s g.
       let inside : s + 1 < length rs = omega (arith, same, fewer_ranks) in
       let skipped = skip_within r s (length rs) inside in
-      let low = closed_within p (get_or rs (skip r s) 0) (length (remove ps p)) (other_skipped s inside) (omega (arith, fewer, a.within r h)) (omega (arith, fewer, a.within (skip r s) skipped)) in
+      let low = closed_within p (get_or rs (skip r s) 0) (length (remove ps p)) (other_skipped s inside)
+      (omega (arith, fewer, a.within r h)) (omega (arith, fewer, a.within (skip r s) skipped)) in
       (skipped, (omega (arith, low, removed_place s inside), removed_key s inside)))
 
 -- ---- a number comes into a list
@@ -188,11 +196,13 @@ module _ (xs : List ℕ) (at x : ℕ) (h : at ≤ length xs) where
   beyond s l = ap (λ i. get_or (insert xs at x) i 0) (omega arith) ∙ get_or-insert_above xs at x 0 s l h
 
   -- what holds of each number
-  pub each_with : (P : ℕ → Type 0) → ((s : ℕ) → s < length xs → P (get_or xs s 0)) → P x → (s : ℕ) → s < length xs + 1 → P (get_or (insert xs at x) s 0)
+  pub each_with : (P : ℕ → Type 0) → ((s : ℕ) → s < length xs → P (get_or xs s 0)) → P x → (s : ℕ) → s < length xs + 1
+      → P (get_or (insert xs at x) s 0)
   each_with P old new s l = grind (arith, sides, at, x, before, h, here, zero, beyond)
 
   -- what holds of any two numbers
-  pub any_two : (R : ℕ → ℕ → Type 0) → ((s t : ℕ) → s < t → t < length xs → R (get_or xs s 0) (get_or xs t 0)) → ((s : ℕ) → s < at → R (get_or xs s 0) x)
+  pub any_two : (R : ℕ → ℕ → Type 0) → ((s t : ℕ) → s < t → t < length xs → R (get_or xs s 0) (get_or xs t 0))
+      → ((s : ℕ) → s < at → R (get_or xs s 0) x)
       → ((s : ℕ) → at ≤ s → s < length xs → R x (get_or xs s 0)) → (s t : ℕ) → s < t → t < length xs + 1 → R (get_or (insert xs at x) s 0) (get_or (insert xs at x) t 0)
   any_two R old low high s t f l = by s t f l (sides s at) (sides t at)
     where
@@ -207,7 +217,8 @@ module _ (xs : List ℕ) (at x : ℕ) (h : at ≤ length xs) where
 pub ranked_added : {m : Tree → ℕ} (rs : List ℕ) (ps : Pairs) (r : ℕ) (k v : Tree) → AreRanked m rs ps → IsRankGap m k rs ps r → AreRanked m (insert rs r (length rs)) (ps ++ (k, v) ∷ [])
 ranked_added {m} rs ps r k v a gap = record {
   counted = omega (arith, more, longer, a.counted);
-  within = λ s h. each_with rs r (length rs) gap.within (λ p. p < length qs) (λ s l. omega (arith, a.within s l, longer)) (omega (arith, a.counted, longer)) s (omega (arith, h, more));
+  within = λ s h. each_with rs r (length rs) gap.within (λ p. p < length qs) (λ s l. omega (arith, a.within s l, longer))
+      (omega (arith, a.counted, longer)) s (omega (arith, h, more));
   ascending = λ s t l h. any_two rs r (length rs) gap.within (λ p q. key_cmp m (key_at qs p) (key_at qs q) ≡ Less)
       (λ s t l h. both m (old s (omega arith)) (old t h) (a.ascending s t l h))
       (λ s l. both m (old s (omega (arith, gap.within))) new (greater_less m k (key_of_rank rs ps s) (gap.above s l)))
@@ -233,8 +244,7 @@ ranked_added {m} rs ps r k v a gap = record {
 
 pub Lacks_at : (k : Tree) (ps : Pairs) (i : ℕ) → Lacks k ps → i < length ps → k ≢ key_at ps i
 Lacks_at k [] i l h = absurd (omega arith)
-Lacks_at k (p ∷ ps) zero l h = l.0
-Lacks_at k (p ∷ ps) (suc i) l h = Lacks_at k ps i l.1 (omega arith)
+Lacks_at k (p ∷ ps) i l h = grind (arith, Lacks_at k ps)
 
 pub place_some : (k : Tree) (ps : Pairs) (i : ℕ) → AreDistinct ps → i < length ps → key_at ps i ≡ k → Some i ≡ place_of k ps
 place_some k [] i d h e = absurd (omega arith)
@@ -255,7 +265,8 @@ distinct_from xs n = IsDistinct-from_apart eqb xs (λ i j d h g. false_from_ne_t
 
 below_from : (xs : List ℕ) (n : ℕ) → ((i : ℕ) → i < length xs → get_or xs i 0 < n) → (q : ℕ) → list_any (eqb q) xs ≡ true → q < n
 below_from [] n f q e = cc
-below_from (x ∷ xs) n f q e = let here = f 0 (omega arith) in grind (arith, eqb-true, here, below_from xs n (λ i h. f (suc i) (omega arith)) q)
+below_from (x ∷ xs) n f q e =
+    let here = f 0 (omega arith) in grind (arith, eqb-true, here, below_from xs n (λ i h. f (suc i) (omega arith)) q)
 
 module _ {m : Tree → ℕ} (k : Tree) (rs : List ℕ) (ps : Pairs) (a : AreRanked m rs ps) where
   gap_apart : (r : ℕ) → IsRankGap m k rs ps r → (s : ℕ) → s < length rs → key_of_rank rs ps s ≢ k

@@ -46,7 +46,8 @@ pub remove_ranked : {m : Tree → ℕ} (k : Tree) (ys : List Yaml) (rs : List �
     → remove (pairs_view ys) (get_or rs r 0) ≡ without k (pairs_view ys)
 remove_ranked k ys rs r h at = remove_placed k (pairs_view ys) (get_or rs r 0) (ranked_place k ys (pairs_view ys) rs r (get_or rs r 0) h refl at refl)
 
-pub ranked_found : {m : Tree → ℕ} (k : Tree) (ys : List Yaml) (us : List (Tree × Tree)) (rs : List ℕ) (r p : ℕ) → IsHash m (items_view ys) rs → pairs_view ys ≡ us
+pub ranked_found : {m : Tree → ℕ} (k : Tree) (ys : List Yaml) (us : List (Tree × Tree)) (rs : List ℕ) (r p : ℕ)
+    → IsHash m (items_view ys) rs → pairs_view ys ≡ us
     → IsRank k rs (pairs_view ys) r → p ≡ get_or rs r 0 → IsFound k ys us p
 ranked_found k ys us rs r p h is at e = placed k ys us rs p h is (ranked_place k ys us rs r p h is at e)
 
@@ -54,7 +55,8 @@ pub gap_place : {m : Tree → ℕ} (k : Tree) (ys : List Yaml) (us : List (Tree 
     → IsRankGap m k rs (pairs_view ys) r → None ≡ place_of k us
 gap_place k ys us rs r h is gap = gap_none k rs (pairs_view ys) h.ranked r gap ∙ ap (place_of k) is
 
-pub gap_absent : {m : Tree → ℕ} (k : Tree) (ys : List Yaml) (us : List (Tree × Tree)) (rs : List ℕ) (r : ℕ) → IsHash m (items_view ys) rs → pairs_view ys ≡ us
+pub gap_absent : {m : Tree → ℕ} (k : Tree) (ys : List Yaml) (us : List (Tree × Tree)) (rs : List ℕ) (r : ℕ) → IsHash m (items_view ys) rs
+    → pairs_view ys ≡ us
     → IsRankGap m k rs (pairs_view ys) r → IsAbsent k us
 gap_absent k ys us rs r h is gap = absent k us (gap_place k ys us rs r h is gap)
 

@@ -92,7 +92,8 @@ starts_split : (bs : List (List Entry)) (starts : List ℕ) (first : ℕ) → le
     → ((g : ℕ) → g < length starts → g < first → get_or starts g 0 ≡ start bs (16 * g))
     → ((g : ℕ) → g < length starts → first ≤ g → get_or starts g 0 ≡ start bs (16 * g))
     → AreStarts bs starts
-starts_split bs starts first enough before after = record { enough = enough; each = λ g h. elim (cases_lt g first) [ inl k ↦ before g h k | inr k ↦ after g h k ] }
+starts_split bs starts first enough before after =
+    record { enough = enough; each = λ g h. elim (cases_lt g first) [ inl k ↦ before g h k | inr k ↦ after g h k ] }
 
 -- the last start counts all entries
 pub starts_all : (bs : List (List Entry)) (starts : List ℕ) (g : ℕ) → AreStarts bs starts → suc g ≡ length starts → get_or starts g 0 ≡ length (joined bs)

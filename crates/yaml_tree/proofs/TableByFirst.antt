@@ -35,7 +35,8 @@ same_digits [] = refl
 same_digits (c ∷ cs) = grind (arith, nat_tests, same_digits cs)
 
 -- no number after `0` and a letter, where another byte follows the digits
-no_after : (base x c : ℕ) (cs : List ℕ) → is_ascii_digit x ≡ false → begins_in (λ d. x == d) (after_all is_ascii_digit cs) ≡ false → after base (48 ∷ x ∷ []) (c ∷ cs) ≡ None
+no_after : (base x c : ℕ) (cs : List ℕ) → is_ascii_digit x ≡ false → begins_in (λ d. x == d) (after_all is_ascii_digit cs) ≡ false
+    → after base (48 ∷ x ∷ []) (c ∷ cs) ≡ None
 no_after base x c [] n h = grind arith
 no_after base x c (d ∷ ds) n h = grind (arith, nat_tests)
 
@@ -59,7 +60,8 @@ module _ (c : ℕ) (cs r : List ℕ) (digit : is_ascii_digit c ≡ true) (stays 
   by_digit : {x o s : Option ℤ} → after 16 (codes "0x") (c ∷ cs) ≡ x → after 8 (codes "0o") (c ∷ cs) ≡ o → signed_number 10 (c ∷ cs) ≡ s
       → typing (c ∷ cs) ≡ table (c ∷ cs) x o None false false false s false (reads_on true r)
   by_digit x o s =
-      by_table (c ∷ cs) x o (not_after 10 43 [] c cs (grind (arith, nat_tests))) (no_word null_words refl) (no_word true_words refl) (no_word false_words refl)
+      by_table (c ∷ cs) x o (not_after 10 43 [] c cs (grind (arith, nat_tests))) (no_word null_words refl) (no_word true_words refl)
+      (no_word false_words refl)
       s (no_word special_words refl) (rw (is_decimal-read (c ∷ cs), no_sign, digit, rest))
 
 abbrev pub begins_digit : List ℕ → Type 0
@@ -69,7 +71,8 @@ pub digits_alone : (t r : List ℕ) → begins_digit t → r ≡ after_all is_as
 digits_alone [] r h e n = absurd (grind arith)
 digits_alone (c ∷ cs) (d ∷ r) h e n = absurd (omega arith)
 digits_alone (c ∷ cs) [] h e n =
-    integer_or_real None (signed_number 10 (c ∷ cs)) false true (c ∷ cs) ∙ sym (by_digit c cs [] h e (no_letter c cs [] h e 16 120 refl refl) (no_letter c cs [] h e 8 111 refl refl) refl)
+    integer_or_real None (signed_number 10 (c ∷ cs)) false true (c ∷ cs)
+    ∙ sym (by_digit c cs [] h e (no_letter c cs [] h e 16 120 refl refl) (no_letter c cs [] h e 8 111 refl refl) refl)
 
 pub digits_x : (t r : List ℕ) → begins_digit t → r ≡ after_all is_ascii_digit t → 0 < length r → get_or r 0 0 ≡ 120
     → meant (integer_or meaning.String (after 16 (codes "0x") t)) t ≡ typing t
@@ -77,7 +80,8 @@ digits_x [] r h e n x = absurd (grind arith)
 digits_x (c ∷ cs) [] h e n x = absurd (omega arith)
 digits_x (c ∷ cs) (d ∷ r) h e n x =
     let stays = sym (ap (λ u. u ∷ r) x) ∙ e in
-    integer_or_string (after 16 (codes "0x") (c ∷ cs)) (c ∷ cs) ∙ sym (by_digit c cs (120 ∷ r) h stays refl (no_letter c cs (120 ∷ r) h stays 8 111 refl refl) (integer_alone c cs (120 ∷ r) h stays))
+    integer_or_string (after 16 (codes "0x") (c ∷ cs)) (c ∷ cs)
+    ∙ sym (by_digit c cs (120 ∷ r) h stays refl (no_letter c cs (120 ∷ r) h stays 8 111 refl refl) (integer_alone c cs (120 ∷ r) h stays))
 
 pub digits_o : (t r : List ℕ) → begins_digit t → r ≡ after_all is_ascii_digit t → 0 < length r → get_or r 0 0 ≡ 111
     → meant (integer_or meaning.String (after 8 (codes "0o") t)) t ≡ typing t
@@ -85,7 +89,8 @@ digits_o [] r h e n x = absurd (grind arith)
 digits_o (c ∷ cs) [] h e n x = absurd (omega arith)
 digits_o (c ∷ cs) (d ∷ r) h e n x =
     let stays = sym (ap (λ u. u ∷ r) x) ∙ e in
-    integer_or_string (after 8 (codes "0o") (c ∷ cs)) (c ∷ cs) ∙ sym (by_digit c cs (111 ∷ r) h stays (no_letter c cs (111 ∷ r) h stays 16 120 refl refl) refl (integer_alone c cs (111 ∷ r) h stays))
+    integer_or_string (after 8 (codes "0o") (c ∷ cs)) (c ∷ cs)
+    ∙ sym (by_digit c cs (111 ∷ r) h stays (no_letter c cs (111 ∷ r) h stays 16 120 refl refl) refl (integer_alone c cs (111 ∷ r) h stays))
 
 pub digits_other : (t r : List ℕ) → begins_digit t → r ≡ after_all is_ascii_digit t → 0 < length r → (120 == get_or r 0 0) ≡ false → (111 == get_or r 0 0) ≡ false
     → meant (string_or meaning.Real (reads_on true r)) t ≡ typing t
@@ -93,7 +98,8 @@ digits_other [] r h e n x o = absurd (grind arith)
 digits_other (c ∷ cs) [] h e n x o = absurd (omega arith)
 digits_other (c ∷ cs) (d ∷ r) h e n x o =
     integer_or_real None None false (reads_on true (d ∷ r)) (c ∷ cs)
-    ∙ sym (by_digit c cs (d ∷ r) h e (no_letter c cs (d ∷ r) h e 16 120 refl x) (no_letter c cs (d ∷ r) h e 8 111 refl o) (integer_alone c cs (d ∷ r) h e))
+    ∙ sym (by_digit c cs (d ∷ r) h e (no_letter c cs (d ∷ r) h e 16 120 refl x) (no_letter c cs (d ∷ r) h e 8 111 refl o)
+    (integer_alone c cs (d ∷ r) h e))
 
 -- nothing stands after the digits of a text of digits
 pub only_digits : (t r : List ℕ) → r ≡ after_all is_ascii_digit t → length r < 1 → all_ascii_digits t ≡ true
@@ -135,12 +141,15 @@ begins_sign t = begins_in is_sign t ≡ true
 abbrev after_sign : List ℕ → Option ℤ
 after_sign t = option_or (after 10 (codes "+") t) (signed_number 10 t)
 
-signed : (t : List ℕ) → begins_sign t → meant (integer_or (string_or meaning.Real (is_among special_words t || is_decimal t)) (after_sign t)) t ≡ typing t
+signed : (t : List ℕ) → begins_sign t
+    → meant (integer_or (string_or meaning.Real (is_among special_words t || is_decimal t)) (after_sign t)) t ≡ typing t
 signed [] h = absurd (grind arith)
 signed (c ∷ cs) h =
     let other : (48 == c) ≡ false = grind (arith, nat_tests) in
-    integer_or_real (after 10 (codes "+") (c ∷ cs)) (signed_number 10 (c ∷ cs)) (is_among special_words (c ∷ cs)) (is_decimal (c ∷ cs)) (c ∷ cs)
-    ∙ sym (by_table (c ∷ cs) (not_after 16 48 (codes "x") c cs other) (not_after 8 48 (codes "o") c cs other) refl (no_word null_words refl) (no_word true_words refl) (no_word false_words refl) refl refl refl)
+    integer_or_real (after 10 (codes "+") (c ∷ cs)) (signed_number 10 (c ∷ cs)) (is_among special_words (c ∷ cs)) (is_decimal (c ∷ cs))
+    (c ∷ cs)
+    ∙ sym (by_table (c ∷ cs) (not_after 16 48 (codes "x") c cs other) (not_after 8 48 (codes "o") c cs other) refl
+    (no_word null_words refl) (no_word true_words refl) (no_word false_words refl) refl refl refl)
   where
     no_word : (ws : List (List ℕ)) → list_all (λ w. not (begins_in is_sign w)) ws ≡ true → is_among ws (c ∷ cs) ≡ false
     no_word ws w = not_among (λ w. not (begins_in is_sign w)) ws w (c ∷ cs) (ap not h)
@@ -155,8 +164,10 @@ signed_other t h e = ap (λ o. meant (integer_or (string_or meaning.Real (is_amo
 
 pub by_point : (t : List ℕ) → 0 < length t → get_or t 0 0 ≡ 46 → meant (string_or meaning.Real (is_among special_words t || is_decimal t)) t ≡ typing t
 by_point [] n e = absurd (omega arith)
-by_point (c ∷ cs) n e = subst (λ d. meant (string_or meaning.Real (is_among special_words (d ∷ cs) || is_decimal (d ∷ cs))) (d ∷ cs) ≡ typing (d ∷ cs)) (sym e)
-    (integer_or_real None None (is_among special_words (46 ∷ cs)) (is_decimal (46 ∷ cs)) (46 ∷ cs) ∙ sym (by_table (46 ∷ cs) refl refl refl refl refl refl refl refl refl))
+by_point (c ∷ cs) n e =
+    subst (λ d. meant (string_or meaning.Real (is_among special_words (d ∷ cs) || is_decimal (d ∷ cs))) (d ∷ cs) ≡ typing (d ∷ cs)) (sym e)
+    (integer_or_real None None (is_among special_words (46 ∷ cs)) (is_decimal (46 ∷ cs)) (46 ∷ cs)
+    ∙ sym (by_table (46 ∷ cs) refl refl refl refl refl refl refl refl refl))
 
 -- ---- words
 
@@ -170,13 +181,15 @@ by_null (c ∷ cs) n e =
     word_or_string meaning.Null (is_among null_words (c ∷ cs)) (c ∷ cs)
     ∙ sym (lettered c cs {y = false} {f = false} (grind (arith, nat_tests)) refl (grind (arith, nat_tests)) (grind (arith, nat_tests)))
 
-pub by_true : (t : List ℕ) → 0 < length t → BeginsEither 84 116 t → meant (string_or (meaning.Boolean true) (is_among true_words t)) t ≡ typing t
+pub by_true : (t : List ℕ) → 0 < length t → BeginsEither 84 116 t
+    → meant (string_or (meaning.Boolean true) (is_among true_words t)) t ≡ typing t
 by_true [] n e = absurd (omega arith)
 by_true (c ∷ cs) n e =
     word_or_string (meaning.Boolean true) (is_among true_words (c ∷ cs)) (c ∷ cs)
     ∙ sym (lettered c cs {n = false} {f = false} (grind (arith, nat_tests)) (grind (arith, nat_tests)) refl (grind (arith, nat_tests)))
 
-pub by_false : (t : List ℕ) → 0 < length t → BeginsEither 70 102 t → meant (string_or (meaning.Boolean false) (is_among false_words t)) t ≡ typing t
+pub by_false : (t : List ℕ) → 0 < length t → BeginsEither 70 102 t
+    → meant (string_or (meaning.Boolean false) (is_among false_words t)) t ≡ typing t
 by_false [] n e = absurd (omega arith)
 by_false (c ∷ cs) n e =
     word_or_string (meaning.Boolean false) (is_among false_words (c ∷ cs)) (c ∷ cs)

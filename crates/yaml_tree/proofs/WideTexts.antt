@@ -45,8 +45,10 @@ module _ (base : ℕ) (h : base ≤ 36) where
 
 pub typing-wide : (t : List ℕ) → Wide t → typing t ≡ string t
 typing-wide t w =
-    by_table t (none_after 16 (omega arith) (codes "0x") t refl w) (none_after 8 (omega arith) (codes "0o") t refl w) (none_after 10 (omega arith) (codes "+") t refl w)
-    (no_word null_words refl) (no_word true_words refl) (no_word false_words refl) (no_integer 10 (omega arith) t w) (no_word special_words refl)
+    by_table t (none_after 16 (omega arith) (codes "0x") t refl w) (none_after 8 (omega arith) (codes "0o") t refl w)
+    (none_after 10 (omega arith) (codes "+") t refl w)
+    (no_word null_words refl) (no_word true_words refl) (no_word false_words refl) (no_integer 10 (omega arith) t w)
+    (no_word special_words refl)
     (not_true (is_decimal t) (λ e. w (list_all-more is_real_character (λ c. nat_lt c 128) low_real t (decimal-characters t e))))
   where
     no_word : (ws : List (List ℕ)) → list_all low ws ≡ true → is_among ws t ≡ false

@@ -11,15 +11,19 @@ loop-block-preserved c =
 pub invariant_of-self : goal.invariant_of-self
 invariant_of-self c =
     let xs = c.self.inside.blocks.items in
-    let all = all_lent (map (entry_closed_up c.place-gone.result)) c.loop-block.block-index c.self.inside.blocks.len xs c.deref_mut-block-items.result.now c.loop-block.block-items
-    c.loop-block.auto.block-items (ap length c.deref_mut-block-items.ensures.value ∙ sym c.self.inside.blocks.ok.0) c.loop-block-test.false c.loop-block.invariant c.deref_mut-block-items.ensures.value in
+    let all = all_lent (map (entry_closed_up c.place-gone.result)) c.loop-block.block-index c.self.inside.blocks.len xs
+    c.deref_mut-block-items.result.now c.loop-block.block-items
+    c.loop-block.auto.block-items (ap length c.deref_mut-block-items.ensures.value
+    ∙ sym c.self.inside.blocks.ok.0) c.loop-block-test.false c.loop-block.invariant c.deref_mut-block-items.ensures.value in
     rw all (counted_map (entry_closed_up c.place-gone.result) xs c.self.inside.starts.items c.self.invariant)
 
 pub returns : goal.returns
 returns c =
     let xs = c.self.inside.blocks.items in
-    let all = all_lent (map (entry_closed_up c.place-gone.result)) c.loop-block.block-index c.self.inside.blocks.len xs c.deref_mut-block-items.result.now c.loop-block.block-items
-    c.loop-block.auto.block-items (ap length c.deref_mut-block-items.ensures.value ∙ sym c.self.inside.blocks.ok.0) c.loop-block-test.false c.loop-block.invariant c.deref_mut-block-items.ensures.value in
+    let all = all_lent (map (entry_closed_up c.place-gone.result)) c.loop-block.block-index c.self.inside.blocks.len xs
+    c.deref_mut-block-items.result.now c.loop-block.block-items
+    c.loop-block.auto.block-items (ap length c.deref_mut-block-items.ensures.value
+    ∙ sym c.self.inside.blocks.ok.0) c.loop-block-test.false c.loop-block.invariant c.deref_mut-block-items.ensures.value in
     ap joined all
     ∙ joined_map (entry_closed_up c.place-gone.result) xs
     ∙ ap (λ xs. map (entry_closed_up c.place-gone.result) (joined xs)) c.self.view_is

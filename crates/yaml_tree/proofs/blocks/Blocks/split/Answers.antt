@@ -1,4 +1,4 @@
-use Rattle.yaml_tree.proofs.IndexCommon.{[], ap, AreApart, AreCounted, AreStarts, arith, drop, get_or, halved, head_length, insert, joined, length, refl, set, subst, sym, ◌+◌, ◌/◌, ◌<◌, ◌∙◌}
+use Rattle.yaml_tree.proofs.IndexCommon.{[], ap, AreApart, AreStarts, arith, drop, get_or, halved, head_length, insert, joined, length, refl, subst, sym, ◌+◌, ◌/◌, ◌<◌, ◌∙◌}
 use Rattle.yaml_tree.proofs.Joining.{block_read, lent_back, joined_halved, halved_made}
 use Rattle.yaml_tree.proofs.Starting.{can_subtract, counted_halved}
 use Rattle.yaml_tree.proofs.blocks.Blocks.split.Goals as goal
@@ -29,7 +29,7 @@ invariant_of-self-2 c =
     let apart = subst (λ ys. AreApart (head_length ys) (i / 16 + 1) (length c.as_mut_slice.result.now) c.subtract_blocks.new.starts c.as_mut_slice.result.now) (c.as_slice-2.ensures.value ∙ made) c.subtract_blocks.ensures in
     let counted = counted_halved xs c.as_mut_slice.result.now c.subtract_blocks.new.starts i (i + 1) h (i / 16 + 1) _ c.self.invariant.filled grown c.self.invariant.fits refl apart refl (omega arith) inside c.requires.first
     (omega (arith, c.requires.second, ap (λ ys. length (get_or ys i [])) c.self.view_is)) (omega (arith, enough, ap length (c.as_slice.ensures.value ∙ c.reserve.ensures.items), ap length c.as_mut_slice.ensures.value)) in
-    subst (AreCounted (set c.insert.new.self.items i c.truncate.new.self)) (sym kept) (subst (λ ys. AreCounted ys c.subtract_blocks.new.starts) (sym made) counted)
+    rw (kept, made) counted
 
 pub returns-clause-ok : goal.returns-clause-ok
 returns-clause-ok c =

@@ -6,7 +6,8 @@ kept_none : (rank left : ℕ) → left ≤ 0 → closed_up rank left ≡ 0
 kept_none rank left h = grind (arith, nat_tests)
 
 -- the next place that is kept stands one before
-module _ (xs : List ℕ) (rank left : ℕ) (some : 0 < left) (within : left ≤ length xs) (inside : rank < length xs) (other : left - 1 ≢ rank) where
+module _ (xs : List ℕ) (rank left : ℕ) (some : 0 < left) (within : left ≤ length xs) (inside : rank < length xs)
+    (other : left - 1 ≢ rank) where
   kept_next : closed_up rank left ≡ suc (closed_up rank (left - 1))
   kept_next = grind (arith, nat_tests)
 
@@ -24,19 +25,22 @@ loop-left-init c =
     let fewer = length-remove c.args.self.now c.args.rank c.requires in
     record {
       within = omega (arith, c.len-left.ensures.count);
-      packing = packing_none (closed_up c.at-gone.result) (remove c.args.self.now c.args.rank) (closed_up c.args.rank c.len-left.result) (grind (arith, nat_tests, fewer, c.len-left.ensures.count));
+      packing = packing_none (closed_up c.at-gone.result) (remove c.args.self.now c.args.rank) (closed_up c.args.rank c.len-left.result)
+          (grind (arith, nat_tests, fewer, c.len-left.ensures.count));
     }
 
 pub overflow_mul-rest : goal.overflow_mul-rest
 overflow_mul-rest c =
-    let small = packing_fits (closed_up c.at-gone.result) (remove c.args.self.now c.args.rank) (low_closed c.at-gone.result) (closed_up c.args.rank c.loop-left.left) c.loop-left.rest
-    (omega (arith, c.len-left.ensures.count, c.len-left.ensures.within, length-remove c.args.self.now c.args.rank c.requires)) c.loop-left.invariant.packing in
+    let fewer = length-remove c.args.self.now c.args.rank c.requires in
+    let small = packing_fits c.loop-left.invariant.packing (low_closed c.at-gone.result)
+    (omega (arith, c.len-left.ensures.count, c.len-left.ensures.within, fewer)) in
     omega arith
 
 pub overflow_add-rest : goal.overflow_add-rest
 overflow_add-rest c =
-    let small = packing_fits (closed_up c.at-gone.result) (remove c.args.self.now c.args.rank) (low_closed c.at-gone.result) (closed_up c.args.rank c.loop-left.left) c.loop-left.rest
-    (omega (arith, c.len-left.ensures.count, c.len-left.ensures.within, length-remove c.args.self.now c.args.rank c.requires)) c.loop-left.invariant.packing in
+    let fewer = length-remove c.args.self.now c.args.rank c.requires in
+    let small = packing_fits c.loop-left.invariant.packing (low_closed c.at-gone.result)
+    (omega (arith, c.len-left.ensures.count, c.len-left.ensures.within, fewer)) in
     omega (arith, c.closed_up.ensures, low_closed c.at-gone.result c.at.result c.at.ensures.low)
 
 pub loop-left-preserved-then-left-rank : goal.loop-left-preserved-then-left-rank
@@ -49,15 +53,16 @@ loop-left-preserved-then-left-rank c =
     let other = c.if-left-rank.true in
     record {
       within = omega (arith, i.within);
-      packing = packing_more (closed_up c.at-gone.result) (remove xs rank) (closed_up rank (left - 1)) (closed_up rank left) c.loop-left.rest c.at.result c.closed_up.result
+      packing = packing_more i.packing (closed_up rank (left - 1)) c.at.result c.closed_up.result
           (kept_next xs rank left some i.within c.requires other) (kept_inside xs rank left some i.within c.requires other)
-          (c.at.ensures.place ∙ kept_place xs rank left some i.within c.requires other) c.at.ensures.low c.closed_up.ensures i.packing;
+          (c.at.ensures.place ∙ kept_place xs rank left some i.within c.requires other) c.at.ensures.low c.closed_up.ensures;
     }
 
 pub loop-left-preserved : goal.loop-left-preserved
 loop-left-preserved c =
     let i = c.loop-left.invariant in
-    let same : closed_up c.args.rank c.loop-left.left ≡ closed_up c.args.rank (c.loop-left.left - 1) = grind (arith, nat_tests, c.if-left-rank.false, c.loop-left-test.true) in
+    let same : closed_up c.args.rank c.loop-left.left ≡ closed_up c.args.rank (c.loop-left.left - 1) =
+    grind (arith, nat_tests, c.if-left-rank.false, c.loop-left-test.true) in
     record {
       within = omega (arith, i.within);
       packing = subst (λ k. IsPacking (closed_up c.at-gone.result) (remove c.args.self.now c.args.rank) k c.loop-left.rest) same i.packing;
@@ -65,26 +70,30 @@ loop-left-preserved c =
 
 pub overflow_mul-result : goal.overflow_mul-result
 overflow_mul-result c =
-    let small = packing_fits (closed_up c.at-gone.result) (remove c.args.self.now c.args.rank) (low_closed c.at-gone.result) (closed_up c.args.rank c.loop-left.left) c.loop-left.rest
-    (omega (arith, c.len-left.ensures.count, c.len-left.ensures.within, length-remove c.args.self.now c.args.rank c.requires)) c.loop-left.invariant.packing in
+    let fewer = length-remove c.args.self.now c.args.rank c.requires in
+    let small = packing_fits c.loop-left.invariant.packing (low_closed c.at-gone.result)
+    (omega (arith, c.len-left.ensures.count, c.len-left.ensures.within, fewer)) in
     omega arith
 
 pub overflow_add-result : goal.overflow_add-result
 overflow_add-result c =
-    let small = packing_fits (closed_up c.at-gone.result) (remove c.args.self.now c.args.rank) (low_closed c.at-gone.result) (closed_up c.args.rank c.loop-left.left) c.loop-left.rest
-    (omega (arith, c.len-left.ensures.count, c.len-left.ensures.within, length-remove c.args.self.now c.args.rank c.requires)) c.loop-left.invariant.packing in
+    let fewer = length-remove c.args.self.now c.args.rank c.requires in
+    let small = packing_fits c.loop-left.invariant.packing (low_closed c.at-gone.result)
+    (omega (arith, c.len-left.ensures.count, c.len-left.ensures.within, fewer)) in
     omega (arith, c.len.ensures.within)
 
 pub invariant_of-result : goal.invariant_of-result
 invariant_of-result c =
     let fewer = length-remove c.args.self.now c.args.rank c.requires in
-    let all = packing_all (closed_up c.at-gone.result) (remove c.args.self.now c.args.rank) (low_closed c.at-gone.result) (closed_up c.args.rank c.loop-left.left) c.loop-left.rest (c.len.result - 1)
-    (kept_none c.args.rank c.loop-left.left c.loop-left-test.false) (omega (arith, fewer, c.len.ensures.count)) (omega (arith, c.len.ensures.within)) c.loop-left.invariant.packing in
+    let none = kept_none c.args.rank c.loop-left.left c.loop-left-test.false in
+    let all = packing_all c.loop-left.invariant.packing (low_closed c.at-gone.result) (c.len.result - 1) none
+    (omega (arith, fewer, c.len.ensures.count)) (omega (arith, c.len.ensures.within)) in
     all.0
 
 pub returns : goal.returns
 returns c =
     let fewer = length-remove c.args.self.now c.args.rank c.requires in
-    let all = packing_all (closed_up c.at-gone.result) (remove c.args.self.now c.args.rank) (low_closed c.at-gone.result) (closed_up c.args.rank c.loop-left.left) c.loop-left.rest (c.len.result - 1)
-    (kept_none c.args.rank c.loop-left.left c.loop-left-test.false) (omega (arith, fewer, c.len.ensures.count)) (omega (arith, c.len.ensures.within)) c.loop-left.invariant.packing in
+    let none = kept_none c.args.rank c.loop-left.left c.loop-left-test.false in
+    let all = packing_all c.loop-left.invariant.packing (low_closed c.at-gone.result) (c.len.result - 1) none
+    (omega (arith, fewer, c.len.ensures.count)) (omega (arith, c.len.ensures.within)) in
     all.1 ∙ ap (λ g. map (closed_up g) (remove c.args.self.now c.args.rank)) c.at-gone.ensures.place
