@@ -1,16 +1,10 @@
 -- The levels of a copy, from the outermost to the one that is filled.
-use Rattle.yaml_tree.proofs.Common.{[], ap, append_assoc, arith, array_tree, flat, hash_tree, IsFilled, items_nodes, items_of, items_view, Leads, left, lefts, List, nodes, parts, refl, source_tree, subst, sym, Tree, view, Yaml, ℕ, ◌*◌, ◌++◌, ◌+◌, ◌<◌, ◌∙◌, ◌∷◌, ◌≡◌, ◌≤◌}
+use Rattle.yaml_tree.proofs.Common.{[], ap, append_assoc, arith, IsFilled, items_nodes, items_of, items_view, Leads, left, lefts, List, nodes, parts, refl, source_tree, subst, sym, Tree, view, Yaml, ℕ, ◌*◌, ◌++◌, ◌+◌, ◌<◌, ◌∙◌, ◌∷◌, ◌≡◌, ◌≤◌}
 use Rattle.yaml_tree.specs.declared.copy.Level.{Level}
-use Rattle.yaml_tree.proofs.ItemsLemmas.{items_view_push, list_of_items, pair_list_of_pairs}
+use Rattle.yaml_tree.proofs.ItemsLemmas.{items_view_push}
 use Rattle.yaml_tree.proofs.WeightLemmas.{parts_nodes}
 
 -- ---- rows
-
-pub items_are_parts : (ts us : List Tree) → ts ≡ us → ts ≡ parts (array_tree us)
-items_are_parts ts us e = e ∙ sym (list_of_items us)
-
-pub pairs_are_parts : (ts : List Tree) (ps : List (Tree × Tree)) → ts ≡ flat ps → ts ≡ parts (hash_tree ps)
-pairs_are_parts ts ps e = e ∙ ap flat (sym (pair_list_of_pairs ps))
 
 pub parts_are_fewer : (ts : List Tree) (t : Tree) → ts ≡ parts t → items_nodes (items_of ts) < nodes t
 parts_are_fewer ts t e = omega (arith, parts_nodes t, ap (λ us. items_nodes (items_of us)) e)

@@ -1,7 +1,7 @@
 -- Digests of keys: the ranks that they leave for a key, and how they stay those of their keys as pairs come and go.
-use Rattle.yaml_tree.proofs.Common.{[], ap, AreDigests, AreRanked, AreRising, arith, cases_lt, closed_up, digest, digest_at, digest_of_entry, digests, Entry, Few, first_by, get_or, Greater, HaveRising, inl, inr, insert, IsNarrowed, IsRank, IsWindow, joined, Kept, key_at, key_cmp, key_of_rank, length, length-insert, length-map, length-remove, Less, List, Many, map, moved_up, nat_tests, place_of_entry, places, remove, sym, Tree, tree_cmp, with_value_at, ℕ, ◌++◌, ◌+◌, ◌-◌, ◌<◌, ◌∙◌, ◌∷◌, ◌≡◌, ◌≤◌, ◌⊎◌}
+use Rattle.yaml_tree.proofs.Common.{[], ap, AreDigests, AreRanked, AreRising, arith, cases_lt, closed_up, digest, digest_at, digest_of_entry, digests, Entry, Few, first_by, get_or, Greater, HaveRising, inl, inr, insert, IsNarrowed, IsWindow, joined, Kept, key_at, key_cmp, key_of_rank, length, length-insert, length-map, length-remove, Less, List, Many, map, nat_tests, place_of_entry, places, remove, sym, Tree, tree_cmp, ℕ, ◌++◌, ◌+◌, ◌-◌, ◌<◌, ◌∙◌, ◌∷◌, ◌≡◌, ◌≤◌, ◌⊎◌}
 use Rattle.yaml_tree.proofs.Indexed.{digest_mapped}
-use Rattle.yaml_tree.proofs.Ranking.{Pairs, key_append_left, key_append_end, key_with_value, above_up_to, below_from_on, skip, skip_get, skip_within, removed_key, moved_key, sides, before, here, beyond}
+use Rattle.yaml_tree.proofs.Ranking.{Pairs, key_append_left, key_append_end, above_up_to, below_from_on, skip, skip_get, skip_within, removed_key, sides, before, here, beyond}
 
 -- ---- keys by their numbers
 
@@ -87,9 +87,6 @@ window_leaves (Many b) k ps rank count a digested w = record {
 moved_digest : (s t : Tree) (m n : ℕ) → s ≡ t → m ≡ n → n ≡ digest t → m ≡ digest s
 moved_digest s t m n e f i = f ∙ i ∙ sym (ap digest e)
 
-pub digested_value : (ms rs : List ℕ) (ps : Pairs) (i : ℕ) (t : Tree) → AreDigests ms rs ps → AreDigests ms rs (with_value_at i t ps)
-digested_value ms rs ps i t digested r h = digested r h ∙ sym (ap digest (key_with_value ps i t (get_or rs r 0)))
-
 pub digests_next : (ms rs : List ℕ) (ps : Pairs) (at m x : ℕ) → length ms ≡ length rs → at ≤ length rs → AreDigests ms rs ps → m ≡ digest (key_at ps x) → AreDigests (insert ms at m) (insert rs at x) ps
 digests_next ms rs ps at m x e h digested its s g = by s (omega (arith, g, length-insert ms at m (omega (arith, h, e)))) (sides s at)
   where
@@ -115,7 +112,3 @@ digested_removed ms rs ps r l a h digested s g =
     let within : s + 1 < length rs = omega (arith, l, length-remove ms r (omega arith)) in
     moved_digest _ (key_of_rank rs ps (skip r s)) _ (get_or ms (skip r s) 0) (removed_key rs ps r a h s within) (skip_get ms r s (omega arith))
     (digested (skip r s) (omega (arith, skip_within r s (length rs) within)))
-
-pub digested_moved : {n : Tree → ℕ} (ms rs : List ℕ) (ps : Pairs) (r : ℕ) (k v : Tree) → length ms ≤ length rs → AreRanked n rs ps → IsRank k rs ps r → AreDigests ms rs ps
-    → AreDigests ms (map (moved_up (get_or rs r 0) (length rs)) rs) (remove ps (get_or rs r 0) ++ (k, v) ∷ [])
-digested_moved ms rs ps r k v l a is digested s g = digested s g ∙ sym (ap digest (moved_key rs ps r k v a is s (omega arith)))

@@ -3,7 +3,8 @@ use Rattle.yaml_tree.proofs.Common.{[], ap, append_assoc, arith, array, array_tr
 use Rattle.yaml_tree.proofs.ItemsLemmas.{items_view_push}
 use Rattle.yaml_tree.proofs.WeightLemmas.{alone, item_gone, item_descent, parts_nodes, items_with_last-of}
 
-two_items : (ys zs ws : List Yaml) (a y : Yaml) → ys ≡ zs ++ a ∷ [] → zs ≡ ws ++ y ∷ [] → items_view ys ≡ items_view ws ++ view y ∷ view a ∷ []
+pub two_items : (ys zs ws : List Yaml) (a y : Yaml) → ys ≡ zs ++ a ∷ [] → zs ≡ ws ++ y ∷ []
+    → items_view ys ≡ items_view ws ++ view y ∷ view a ∷ []
 two_items ys zs ws a y p q =
     items_view_push zs ys a p ∙ ap (λ xs. xs ++ view a ∷ []) (items_view_push ws zs y q) ∙ append_assoc (items_view ws) (view y ∷ []) (view a ∷ [])
 
@@ -29,10 +30,6 @@ descended f is js ks x r p q e =
     ap array_tree (items_view_push js ks r q ∙ ap (λ t. items_view js ++ t ∷ []) e)
     ∙ ap array (items_with_last-of f (items_view js) (view x))
     ∙ ap (λ ts. array (items_with_last f (items_of ts))) (sym (items_view_push js is x p))
-
--- a row around another item
-pub around : (ws vs ps : List Yaml) (x a : Yaml) → vs ≡ ws ++ x ∷ [] → ps ≡ vs ++ a ∷ [] → array_tree (items_view ps) ≡ array (items_of (items_view ws ++ view x ∷ view a ∷ []))
-around ws vs ps x a p q = ap array_tree (two_items ps vs ws a x q p)
 
 -- a row that is not empty stands for some parts
 pub some_parts : (ys : List Yaml) (ts : List Tree) → items_view ys ≡ ts → 0 < length ys → (items_view ys ≡ ts) × (ts ≢ [])

@@ -1,8 +1,7 @@
 -- Places and digests of a hash, as blocks or few keep them.
 use Rattle.std.proofs.Common.{take}
 use Rattle.std.proofs.lemmas.List.{drop-map, map-append, take-map}
-use Rattle.std.proofs.lemmas.Simd.{map-map}
-use Rattle.yaml_tree.proofs.Common.{[], arith, closed_up, digest_at, digest_of_entry, digests, drop, Entry, entry_closed_up, entry_moved_up, Few, get_or, HasPlace, HasSpot, insert, joined, Kept, length, length-map, List, Many, map, moved_up, place_at, place_of_entry, places, rank_at, rank_inside, refl, remove, suc, sym, ℕ, ◌+◌, ◌<◌, ◌∙◌, ◌∷◌, ◌≡◌, ◌≤◌}
+use Rattle.yaml_tree.proofs.Common.{[], arith, digest_at, digest_of_entry, digests, drop, Entry, Few, get_or, HasPlace, HasSpot, insert, joined, Kept, length, length-map, List, Many, map, place_at, place_of_entry, places, rank_at, rank_inside, refl, remove, suc, ℕ, ◌+◌, ◌<◌, ◌∷◌, ◌≡◌, ◌≤◌}
 use Rattle.yaml_tree.specs.declared.entry.Spot.{Spot}
 
 pub digest_mapped : (es : List Entry) (i : ℕ) → get_or (map digest_of_entry es) i 0 ≡ digest_at es i
@@ -24,18 +23,6 @@ map-insert f xs i x = rw (map-append f (take i xs) (x ∷ drop i xs), take-map f
 
 pub map-remove : {A B : Type 0} (f : A → B) (xs : List A) (i : ℕ) → map f (remove xs i) ≡ remove (map f xs) i
 map-remove f xs i = rw (map-append f (take i xs) (drop (suc i) xs), take-map f i xs, drop-map f (suc i) xs)
-
-pub places_closed : (gone : ℕ) (es : List Entry) → map place_of_entry (map (entry_closed_up gone) es) ≡ map (closed_up gone) (map place_of_entry es)
-places_closed gone es = map-map place_of_entry (entry_closed_up gone) es ∙ sym (map-map (closed_up gone) place_of_entry es)
-
-pub digests_closed : (gone : ℕ) (es : List Entry) → map digest_of_entry (map (entry_closed_up gone) es) ≡ map digest_of_entry es
-digests_closed gone es = map-map digest_of_entry (entry_closed_up gone) es
-
-pub places_moved : (gone n : ℕ) (es : List Entry) → map place_of_entry (map (entry_moved_up gone n) es) ≡ map (moved_up gone n) (map place_of_entry es)
-places_moved gone n es = map-map place_of_entry (entry_moved_up gone n) es ∙ sym (map-map (moved_up gone n) place_of_entry es)
-
-pub digests_moved : (gone n : ℕ) (es : List Entry) → map digest_of_entry (map (entry_moved_up gone n) es) ≡ map digest_of_entry es
-digests_moved gone n es = map-map digest_of_entry (entry_moved_up gone n) es
 
 -- ---- spots
 

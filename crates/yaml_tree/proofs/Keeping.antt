@@ -1,8 +1,9 @@
 -- A row beside its places and digests, after a change.
-use Rattle.yaml_tree.proofs.Common.{[], AreDigests, AreRanked, arith, closed_up, digest_of_entry, digests, Few, first_by, flat, get_or, hash, IsIndexed, IsRank, IsRankGap, items_view, joined, Kept, length, length-map, List, Many, map, moved_up, pairs_view, place_of_entry, places, refl, remove, set, suc, Tree, view, without, Yaml, zero, ℕ, ◌*◌, ◌++◌, ◌+◌, ◌<◌, ◌∷◌, ◌≡◌}
+use Rattle.yaml_tree.proofs.Common.{[], ap, AreDigests, AreRanked, arith, closed_up, digest, digest_of_entry, digests, Few, first_by, flat, get_or, IsIndexed, IsRank, IsRankGap, items_view, joined, Kept, length, length-map, List, Many, map, moved_up, pairs_view, place_of_entry, places, refl, remove, set, suc, sym, Tree, view, without, Yaml, zero, ℕ, ◌*◌, ◌++◌, ◌+◌, ◌<◌, ◌∙◌, ◌∷◌, ◌≡◌}
 use Rattle.defs_tree.specs.Pairs.{insert as insert_pair}
 use Rattle.yaml_tree.proofs.Indexed.{digests_counted}
-use Rattle.yaml_tree.proofs.Digesting.{digested_value, digested_removed, digested_moved}
+use Rattle.yaml_tree.proofs.Digesting.{digested_removed}
+use Rattle.yaml_tree.proofs.Ranking.{key_with_value, moved_key}
 use Rattle.yaml_tree.proofs.Rows.{gap_absent, made_without, made_moved, made_added, made_value, remove_ranked, seen_as, seen_value}
 
 no_digests : (r s : ℕ) → s < length (remove {X = ℕ} [] r) → ⊥
@@ -22,7 +23,8 @@ module _ (k v : Tree) (ys zs : List Yaml) (o n : Kept) (i : IsIndexed (items_vie
   indexed_moved at e f g order = record {
     hash = rw order (made_moved k v ys (places o) i.hash zs (places n) r at e f);
     digested = rw (seen_as zs (insert_pair k v (pairs_view ys)) e, f, g, ← remove_ranked k ys (places o) r i.hash at)
-        (digested_moved (digests o) (places o) (pairs_view ys) r k v (digests_counted o) i.hash.ranked at i.digested);
+        (λ s g. i.digested s g
+        ∙ sym (ap digest (moved_key (places o) (pairs_view ys) r k v i.hash.ranked at s (omega (arith, g, digests_counted o)))));
   }
 
   pub indexed_without : IsRank k (places o) (pairs_view ys) r → items_view zs ≡ flat (without k (pairs_view ys))
@@ -45,5 +47,5 @@ pub indexed_value : (ys : List Yaml) (o : Kept) (j : ℕ) (w : Yaml) → IsIndex
 indexed_value ys o j w i = record {
   hash = made_value ys (places o) j w i.hash;
   digested = rw (seen_value ys (pairs_view ys) (places o) j w i.hash refl)
-      (digested_value (digests o) (places o) (pairs_view ys) j (view w) i.digested);
+      (λ r h. i.digested r h ∙ sym (ap digest (key_with_value (pairs_view ys) j (view w) (get_or (places o) r 0))));
 }

@@ -39,7 +39,3 @@ sorted_next rs fs ps r at a ranked inside h low high = record {
 
     above : (s : ℕ) → at ≤ s → s < length rs → key_cmp digest (key_at ps x) (key_of_rank rs ps s) ≡ Less
     above s l g = lower_digest digest (key_at ps x) (key_of_rank rs ps s) (high s l g)
-
--- all are
-pub sorted_all : (rs fs : List ℕ) (ps : Pairs) (r : ℕ) → AreSorted rs fs ps r → length fs ≡ length ps → length fs ≤ r → r ≤ length fs → AreRanked digest rs ps
-sorted_all rs fs ps r a e g h = record { counted = omega (arith, a.counted, e, g, h); within = a.within; ascending = a.ascending }
