@@ -31,8 +31,7 @@ lefts_push (k ∷ ks) l = omega (arith, lefts_push ks l)
 module _ (l m i : Level) (ls ms : List Level) (v : Tree) (p : ms ≡ ls ++ m ∷ []) where
   pub opened_leads : (t : Tree) → Leads t ls (source_tree l.source) → source_tree m.source ≡ source_tree l.source → IsFilled m (v ∷ []) → source_tree i.source ≡ v
       → Leads t ms (source_tree i.source)
-  opened_leads t h e f g =
-      subst (λ ks. Leads t ks (source_tree i.source)) (sym p) (subst (λ u. Leads t (ls ++ m ∷ []) u) (sym g) (leads_push t v ls m (subst (λ u. Leads t ls u) (sym e) h) f))
+  opened_leads t h e f g = rw (p, g) (leads_push t v ls m (rw e h) f)
 
   pub opened_smaller : (n k : ℕ) → k ≡ n + 1 → left i < nodes v → nodes v + left m ≤ left l → 2 * (left i + lefts ms) + k < 2 * (left l + lefts ls) + n
   opened_smaller n k c h f = omega (arith, c, h, f, ap lefts p, lefts_push ls m)

@@ -83,10 +83,6 @@ window_leaves (Many b) k ps rank count a digested w = record {
 
 -- ---- pairs come, go and move
 
--- the same key at another place
-moved_digest : (s t : Tree) (m n : ℕ) → s ≡ t → m ≡ n → n ≡ digest t → m ≡ digest s
-moved_digest s t m n e f i = f ∙ i ∙ sym (ap digest e)
-
 pub digests_next : (ms rs : List ℕ) (ps : Pairs) (at m x : ℕ) → length ms ≡ length rs → at ≤ length rs → AreDigests ms rs ps → m ≡ digest (key_at ps x) → AreDigests (insert ms at m) (insert rs at x) ps
 digests_next ms rs ps at m x e h digested its s g = by s (omega (arith, g, length-insert ms at m (omega (arith, h, e)))) (sides s at)
   where
@@ -110,5 +106,5 @@ pub digested_removed : {n : Tree → ℕ} (ms rs : List ℕ) (ps : Pairs) (r : �
     → AreDigests (remove ms r) (map (closed_up (get_or rs r 0)) (remove rs r)) (remove ps (get_or rs r 0))
 digested_removed ms rs ps r l a h digested s g =
     let within : s + 1 < length rs = omega (arith, l, length-remove ms r (omega arith)) in
-    moved_digest _ (key_of_rank rs ps (skip r s)) _ (get_or ms (skip r s) 0) (removed_key rs ps r a h s within) (skip_get ms r s (omega arith))
-    (digested (skip r s) (omega (arith, skip_within r s (length rs) within)))
+    skip_get ms r s (omega arith) ∙ digested (skip r s) (omega (arith, skip_within r s (length rs) within))
+    ∙ sym (ap digest (removed_key rs ps r a h s within))

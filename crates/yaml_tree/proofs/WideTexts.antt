@@ -18,16 +18,13 @@ not_true false n = refl
 wide_tail : (c : ℕ) (cs : List ℕ) → c < 128 → Wide (c ∷ cs) → Wide cs
 wide_tail c cs h w = λ e. w (and_from (nat_lt c 128) (low cs) (grind (arith, nat_tests)) e)
 
--- a text of a class of ASCII characters alone is not wide
-not_all : (p : ℕ → Bool) → ((c : ℕ) → p c ≡ true → nat_lt c 128 ≡ true) → (t : List ℕ) → Wide t → list_all p t ≡ false
-not_all p f t w = not_true (list_all p t) (λ e. w (list_all-more p (λ c. nat_lt c 128) f t e))
-
 -- ---- numbers
 
 module _ (base : ℕ) (h : base ≤ 36) where
   no_number : (t : List ℕ) → Wide t → number base t ≡ None
   no_number [] w = refl
-  no_number (c ∷ cs) w = rw (not_all (is_digit base) low_digit (c ∷ cs) w)
+  no_number (c ∷ cs) w =
+      rw (not_true (list_all (is_digit base) (c ∷ cs)) (λ e. w (list_all-more (is_digit base) (λ d. nat_lt d 128) low_digit (c ∷ cs) e)))
     where
       low_digit : (d : ℕ) → is_digit base d ≡ true → nat_lt d 128 ≡ true
       low_digit d e = grind (arith, nat_tests)
