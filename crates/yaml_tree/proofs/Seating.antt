@@ -1,5 +1,5 @@
 -- What a row and its places are ready for.
-use Rattle.yaml_tree.proofs.Common.{[], ap, AreDigests, AreRanked, digests, first_by, flat, get_or, hash, IsIndexed, IsRank, IsRankGap, items_view, Kept, length, List, lookup, map, moved_up, None, pairs_view, places, refl, remove, Tree, view, Yaml, ℕ, ◌*◌, ◌++◌, ◌∙◌, ◌∷◌, ◌≡◌}
+use Rattle.yaml_tree.proofs.Common.{[], ap, AreDigests, AreRanked, digests, first_by, flat, get_or, IsIndexed, IsRank, IsRankGap, items_view, Kept, length, List, lookup, map, moved_up, None, pairs_view, places, refl, remove, Tree, view, Yaml, ℕ, ◌*◌, ◌++◌, ◌∙◌, ◌∷◌, ◌≡◌}
 use Rattle.defs_tree.specs.Pairs.{insert as insert_pair}
 use Rattle.yaml_tree.specs.Seats.{IsInserted, IsReady, IsReadyWithout}
 use Rattle.yaml_tree.proofs.Keeping.{indexed_moved, indexed_added}

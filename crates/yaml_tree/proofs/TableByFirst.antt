@@ -54,7 +54,8 @@ module _ (c : ℕ) (cs r : List ℕ) (digit : is_ascii_digit c ≡ true) (stays 
   no_letter base x n h = no_after base x c cs n (ap (begins_in (λ d. x == d)) rest ∙ h)
 
   -- digits alone write an integer, where 64 bits hold it
-  integer_alone : signed_number 10 (c ∷ cs) ≡ option_and_then (λ z. if fits_i64 z then Some z else None) (option_map pos (if is_empty r then Some (digits_value 10 (c ∷ cs)) else None))
+  integer_alone : signed_number 10 (c ∷ cs)
+      ≡ option_and_then (λ z. if fits_i64 z then Some z else None) (option_map pos (if is_empty r then Some (digits_value 10 (c ∷ cs)) else None))
   integer_alone = unsigned c cs no_sign ∙ rw (same_digits (c ∷ cs), ← stays)
 
   by_digit : {x o s : Option ℤ} → after 16 (codes "0x") (c ∷ cs) ≡ x → after 8 (codes "0o") (c ∷ cs) ≡ o → signed_number 10 (c ∷ cs) ≡ s

@@ -1,4 +1,4 @@
-use Rattle.yaml_tree.proofs.Common.{ap, AreDigests, AreRanked, AreRising, arith, digest, digest_at, digest_of_entry, Entry, get_or, insert, key_at, key_of_rank, length, length-map, List, map, pairs_view, place_of_entry, subst, sym, true, ℕ, ◌+◌, ◌<◌, ◌∙◌, ◌≡◌, ◌≤◌}
+use Rattle.yaml_tree.proofs.Common.{ap, AreDigests, AreRanked, AreRising, arith, digest, digest_at, digest_of_entry, Entry, get_or, insert, key_at, key_of_rank, length, length-map, List, map, pairs_view, place_of_entry, subst, sym, ℕ, ◌+◌, ◌<◌, ◌∙◌, ◌≡◌, ◌≤◌}
 use Rattle.yaml_tree.proofs.Indexed.{map-insert}
 use Rattle.yaml_tree.proofs.Ranking.{Pairs}
 use Rattle.yaml_tree.proofs.Rows.{ranked_inside, inside_row, ranked_key}

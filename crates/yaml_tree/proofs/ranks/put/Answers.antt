@@ -1,4 +1,4 @@
-use Rattle.yaml_tree.proofs.Common.{ap, arith, digest, digest_of_entry, digests_in, Entry, insert, joined, length, length-map, map, pairs_view, place_of_entry, places_in, rank_of, rank_within, view, ◌/◌, ◌∙◌, ◌≡◌}
+use Rattle.yaml_tree.proofs.Common.{ap, arith, digest_of_entry, digests_in, Entry, insert, joined, length, length-map, map, pairs_view, place_of_entry, places_in, rank_of, rank_within, view, ◌/◌, ◌∙◌, ◌≡◌}
 use Rattle.yaml_tree.proofs.Flattened.{row_length}
 use Rattle.yaml_tree.proofs.Indexed.{map-insert}
 use Rattle.yaml_tree.proofs.Digesting.{digested_added}

@@ -1,4 +1,4 @@
-use Rattle.yaml_tree.proofs.Common.{[], ap, AreDigests, AreRanked, arith, digests, first_by, insert, length, map, moved_up, OnErr, pairs_view, places, rank_at, Result, subst, Tree, view, ◌++◌, ◌/◌, ◌∙◌, ◌∷◌, ◌≡◌}
+use Rattle.yaml_tree.proofs.Common.{[], ap, AreDigests, AreRanked, arith, digests, first_by, length, map, moved_up, OnErr, pairs_view, places, rank_at, Result, subst, Tree, view, ◌++◌, ◌/◌, ◌∙◌, ◌∷◌, ◌≡◌}
 use Rattle.yaml_tree.proofs.Flattened.{row_length}
 use Rattle.yaml_tree.proofs.Seating.{is_away, is_ready, is_ready_without}
 use Rattle.yaml_tree.proofs.row.seat.Goals as goal

@@ -1,4 +1,4 @@
-use Rattle.yaml_tree.proofs.IndexCommon.{[], ap, AreFilled, arith, digest_at, get_or, joined, length, ltb-true, start, subst, suc, sym, true, ◌+◌, ◌-◌, ◌<◌, ◌∙◌, ◌≡◌}
+use Rattle.yaml_tree.proofs.IndexCommon.{[], ap, AreFilled, arith, digest_at, get_or, joined, length, ltb-true, start, subst, suc, sym, ◌+◌, ◌-◌, ◌<◌, ◌∙◌, ◌≡◌}
 use Rattle.yaml_tree.proofs.Joining.{block_read, last_block, spot_digest}
 use Rattle.yaml_tree.proofs.blocks.Blocks.end_below.Goals as goal
 

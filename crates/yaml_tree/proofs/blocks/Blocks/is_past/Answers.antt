@@ -1,4 +1,4 @@
-use Rattle.yaml_tree.proofs.IndexCommon.{ap, AreFilled, arith, false, length, ltb-false, ltb-true, subst, suc, sym, true, ◌+◌, ◌<◌, ◌∙◌, ◌≡◌, ◌≤◌}
+use Rattle.yaml_tree.proofs.IndexCommon.{ap, AreFilled, arith, length, ltb-false, ltb-true, subst, suc, sym, ◌+◌, ◌<◌, ◌∙◌, ◌≡◌, ◌≤◌}
 use Rattle.yaml_tree.proofs.Joining.{block_read, last_block, next_digest, spot_digest, start_all}
 use Rattle.yaml_tree.proofs.blocks.Blocks.is_past.Goals as goal
 

@@ -1,4 +1,4 @@
-use Rattle.yaml_tree.proofs.IndexCommon.{ap, entry_moved_up, false, joined, length, map, map_over_more, set, sym, true, ◌∙◌}
+use Rattle.yaml_tree.proofs.IndexCommon.{ap, entry_moved_up, joined, length, map, map_over_more, set, sym, ◌∙◌}
 use Rattle.yaml_tree.proofs.Joining.{all_lent, joined_map}
 use Rattle.yaml_tree.proofs.Starting.{counted_map}
 use Rattle.yaml_tree.proofs.blocks.Blocks.move_up.Goals as goal

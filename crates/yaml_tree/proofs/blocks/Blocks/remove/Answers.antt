@@ -1,4 +1,4 @@
-use Rattle.yaml_tree.proofs.IndexCommon.{ap, entry_closed_up, false, joined, length, map, map_over_more, rank_of, remove, set, sym, take, true, ◌∙◌}
+use Rattle.yaml_tree.proofs.IndexCommon.{ap, entry_closed_up, joined, length, map, map_over_more, rank_of, remove, set, sym, ◌∙◌}
 use Rattle.yaml_tree.proofs.Joining.{all_lent, joined_map}
 use Rattle.yaml_tree.proofs.Starting.{counted_map}
 use Rattle.yaml_tree.proofs.blocks.Blocks.remove.Goals as goal

@@ -1,4 +1,4 @@
-use Rattle.yaml_tree.proofs.Common.{ap, arith, false, left, map, moved_up, true, ◌-◌, ◌∙◌}
+use Rattle.yaml_tree.proofs.Common.{ap, arith, map, moved_up, ◌-◌, ◌∙◌}
 use Rattle.yaml_tree.proofs.Packing.{low_moved, packing_all, packing_fits, packing_more, packing_none}
 use Rattle.yaml_tree.proofs.few.Few.moved_to_end.Goals as goal
 

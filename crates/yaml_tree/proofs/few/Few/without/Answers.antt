@@ -1,4 +1,4 @@
-use Rattle.yaml_tree.proofs.Common.{ap, arith, closed_up, false, get_or, get_or-remove_above, get_or-remove_below, left, length, length-remove, List, map, nat_tests, remove, subst, suc, true, ℕ, ◌-◌, ◌<◌, ◌∙◌, ◌≡◌, ◌≢◌, ◌≤◌}
+use Rattle.yaml_tree.proofs.Common.{ap, arith, closed_up, get_or, get_or-remove_above, get_or-remove_below, left, length, length-remove, List, map, nat_tests, remove, subst, suc, ℕ, ◌-◌, ◌<◌, ◌∙◌, ◌≡◌, ◌≢◌, ◌≤◌}
 use Rattle.yaml_tree.proofs.Packing.{IsPacking, low_closed, packing_all, packing_fits, packing_more, packing_none}
 use Rattle.yaml_tree.proofs.few.Few.without.Goals as goal
 

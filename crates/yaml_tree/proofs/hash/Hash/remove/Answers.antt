@@ -1,4 +1,4 @@
-use Rattle.yaml_tree.proofs.Common.{digests, hash, pairs_view, places, rank_at, refl, remove, sym, view, without}
+use Rattle.yaml_tree.proofs.Common.{pairs_view, places, rank_at, refl, sym, view, without}
 use Rattle.yaml_tree.proofs.Keeping.{indexed_without}
 use Rattle.yaml_tree.proofs.Rows.{gap_absent, ranked_found, seen_as}
 use Rattle.yaml_tree.proofs.hash.Hash.remove.Goals as goal

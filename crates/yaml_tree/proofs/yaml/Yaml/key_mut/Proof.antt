@@ -42,7 +42,8 @@ key_mut_spec 𝓤 𝓛 𝓜 𝓡 wired =
     -- [the node follows the pairs; the pairs' reference; the token of κ; nothing; the text; the token of κ']
     let G₂ = triple_of 𝓛 text_mut.signature (text_mut.spec 𝓛 𝓜.mem 𝓡.returns) in
     let z₂ : G₂.Ghost = (((κ, (κ', tt)), (q, (q', tt)), tt, (x, (key, tt)), (v ∷ [], (ks, tt))), tt) in
-    use0 𝓛 (raw (fact 𝓤 (IsSome (lookup (string text) x.now)))) (fact_i 𝓤 _ (emp 𝓤) (subst IsSome (text_value text node x.now is-hash) found)) $
+    use0 𝓛 (raw (fact 𝓤 (IsSome (lookup (string text) x.now))))
+    (fact_i 𝓤 _ (emp 𝓤) (subst IsSome (text_value text node x.now is-hash) found)) $
     nothing ! $ move ! (6 ∷ 0 ∷ []) $ join ! $ move ! (3 ∷ 0 ∷ []) $ join ! $
     nothing ! $ move ! (6 ∷ 0 ∷ []) $ join ! $ move ! (4 ∷ 0 ∷ []) $ join ! $ join ! $ use2 𝓛 (raw (G₂.pre z₂)) (id⊢ 𝓤 _) $
     calls_at ! (framed 𝓤 𝓛.H 𝓜 𝓣) G₂ (text_mut-thm.met 𝓤 𝓛 𝓜 𝓡 (code.calls-yaml_tree::hash::Hash::text_mut 𝓡.env wired)) z₂ (and_then ! (get ! refl) (and_then ! (get ! refl) (no_more !))) (λ w.

@@ -72,7 +72,8 @@ place_mut_spec 𝓤 𝓛 𝓜 𝓡 wired =
     let H₂ = triple_of 𝓛 number_mut.signature (number_mut.spec 𝓛 𝓜.mem 𝓡.returns) in
     let z₂ : H₂.Ghost = (((κ, tt), (q, tt), tt, (x, (i, tt)), (v₁ ∷ [], (is, tt))), tt) in
     let fits = number_fits i node x.now is-hash found in
-    use0 𝓛 (raw (fact 𝓤 (IsSome (lookup (integer (pos i)) x.now)))) (fact_i 𝓤 _ (emp 𝓤) (subst IsSome (number_value i node x.now is-hash fits) found)) $
+    use0 𝓛 (raw (fact 𝓤 (IsSome (lookup (integer (pos i)) x.now))))
+    (fact_i 𝓤 _ (emp 𝓤) (subst IsSome (number_value i node x.now is-hash fits) found)) $
     use0 𝓛 (raw (fact 𝓤 (i < 2 ^ 63))) (fact_i 𝓤 _ (emp 𝓤) fits) $ join ! $
     nothing ! $ move ! (7 ∷ 0 ∷ []) $ join ! $ move ! (3 ∷ 0 ∷ []) $ join ! $ nothing ! $ move ! (4 ∷ 0 ∷ []) $ join ! $ join ! $ use2 𝓛 (raw (H₂.pre z₂)) (id⊢ 𝓤 _) $
     calls_at_last ! (framed 𝓤 𝓛.H 𝓜 𝓣) H₂ (number_mut-thm.met 𝓤 𝓛 𝓜 𝓡 (code.calls-yaml_tree::hash::Hash::number_mut 𝓡.env wired)) z₂ (and_then ! (get ! refl) (and_then ! (get ! refl) (no_more !))) (λ w.
