@@ -1,16 +1,10 @@
 -- The levels of a copy, from the outermost to the one that is filled.
-use Rattle.yaml_tree.proofs.Common.{[], ap, append_assoc, arith, array_tree, flat, hash_tree, IsFilled, items_nodes, items_of, items_view, Leads, left, lefts, List, nodes, parts, refl, source_tree, subst, sym, Tree, view, Yaml, ℕ, ◌*◌, ◌++◌, ◌+◌, ◌<◌, ◌∙◌, ◌∷◌, ◌≡◌, ◌≤◌}
+use Rattle.yaml_tree.proofs.Common.{[], ap, append_assoc, arith, IsFilled, items_nodes, items_of, items_view, Leads, left, lefts, List, nodes, parts, refl, source_tree, subst, sym, Tree, view, Yaml, ℕ, ◌*◌, ◌++◌, ◌+◌, ◌<◌, ◌∙◌, ◌∷◌, ◌≡◌, ◌≤◌}
 use Rattle.yaml_tree.specs.declared.copy.Level.{Level}
-use Rattle.yaml_tree.proofs.ItemsLemmas.{items_view_push, list_of_items, pair_list_of_pairs}
+use Rattle.yaml_tree.proofs.ItemsLemmas.{items_view_push}
 use Rattle.yaml_tree.proofs.WeightLemmas.{parts_nodes}
 
 -- ---- rows
-
-pub items_are_parts : (ts us : List Tree) → ts ≡ us → ts ≡ parts (array_tree us)
-items_are_parts ts us e = e ∙ sym (list_of_items us)
-
-pub pairs_are_parts : (ts : List Tree) (ps : List (Tree × Tree)) → ts ≡ flat ps → ts ≡ parts (hash_tree ps)
-pairs_are_parts ts ps e = e ∙ ap flat (sym (pair_list_of_pairs ps))
 
 pub parts_are_fewer : (ts : List Tree) (t : Tree) → ts ≡ parts t → items_nodes (items_of ts) < nodes t
 parts_are_fewer ts t e = omega (arith, parts_nodes t, ap (λ us. items_nodes (items_of us)) e)
@@ -37,8 +31,7 @@ lefts_push (k ∷ ks) l = omega (arith, lefts_push ks l)
 module _ (l m i : Level) (ls ms : List Level) (v : Tree) (p : ms ≡ ls ++ m ∷ []) where
   pub opened_leads : (t : Tree) → Leads t ls (source_tree l.source) → source_tree m.source ≡ source_tree l.source → IsFilled m (v ∷ []) → source_tree i.source ≡ v
       → Leads t ms (source_tree i.source)
-  opened_leads t h e f g =
-      subst (λ ks. Leads t ks (source_tree i.source)) (sym p) (subst (λ u. Leads t (ls ++ m ∷ []) u) (sym g) (leads_push t v ls m (subst (λ u. Leads t ls u) (sym e) h) f))
+  opened_leads t h e f g = rw (p, g) (leads_push t v ls m (rw e h) f)
 
   pub opened_smaller : (n k : ℕ) → k ≡ n + 1 → left i < nodes v → nodes v + left m ≤ left l → 2 * (left i + lefts ms) + k < 2 * (left l + lefts ls) + n
   opened_smaller n k c h f = omega (arith, c, h, f, ap lefts p, lefts_push ls m)

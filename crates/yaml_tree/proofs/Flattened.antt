@@ -1,6 +1,7 @@
 -- The keys and values of a hash in one row.
-use Rattle.yaml_tree.proofs.Common.{[], ap, arith, flat, get_or, get_or-map, items_view, key_at, length, List, paired, refl, remove, set, Some, suc, sym, Tree, value_at, view, with_value_at, Yaml, zero, ℕ, ◌*◌, ◌++◌, ◌+◌, ◌<◌, ◌∙◌, ◌∷◌, ◌≡◌}
-use Rattle.yaml_tree.proofs.ItemsLemmas.{length_items_view}
+use Rattle.yaml_tree.proofs.Common.{[], ap, arith, flat, get_or, get_or-map, items_view, key_at, length, length-map, List, map-set, paired, refl, remove, set, Some, suc, sym, Tree, value_at, view, with_value_at, Yaml, zero, ℕ, ◌*◌, ◌++◌, ◌+◌, ◌<◌, ◌∙◌, ◌∷◌, ◌≡◌}
+use Rattle.std.proofs.lemmas.List.{map-append}
+use Rattle.yaml_tree.proofs.Indexed.{map-remove}
 
 -- ---- trees in a row
 
@@ -24,20 +25,11 @@ flat-append (p ∷ ps) qs = ap (λ ts. p.0 ∷ p.1 ∷ ts) (flat-append ps qs)
 
 key_in : (ps : List (Tree × Tree)) (i n : ℕ) (d : Tree) → n ≡ 2 * i → i < length ps → get_or (flat ps) n d ≡ key_at ps i
 key_in [] i n d e h = absurd (omega arith)
-key_in (p ∷ ps) zero zero d e h = refl
-key_in (p ∷ ps) zero (suc n) d e h = absurd (omega arith)
-key_in (p ∷ ps) (suc i) zero d e h = absurd (omega arith)
-key_in (p ∷ ps) (suc i) (suc zero) d e h = absurd (omega arith)
-key_in (p ∷ ps) (suc i) (suc (suc n)) d e h = key_in ps i n d (omega arith) (omega arith)
+key_in (p ∷ ps) i n d e h = grind (arith, key_in ps)
 
 value_in : (ps : List (Tree × Tree)) (i n : ℕ) (d : Tree) → n ≡ 2 * i + 1 → i < length ps → Some (get_or (flat ps) n d) ≡ value_at i ps
 value_in [] i n d e h = absurd (omega arith)
-value_in (p ∷ ps) zero zero d e h = absurd (omega arith)
-value_in (p ∷ ps) zero (suc zero) d e h = refl
-value_in (p ∷ ps) zero (suc (suc n)) d e h = absurd (omega arith)
-value_in (p ∷ ps) (suc i) zero d e h = absurd (omega arith)
-value_in (p ∷ ps) (suc i) (suc zero) d e h = absurd (omega arith)
-value_in (p ∷ ps) (suc i) (suc (suc n)) d e h = value_in ps i n d (omega arith) (omega arith)
+value_in (p ∷ ps) i n d e h = grind (arith, value_in ps)
 
 flat-remove : (ps : List (Tree × Tree)) (i n : ℕ) → n ≡ 2 * i → i < length ps → remove (remove (flat ps) n) n ≡ flat (remove ps i)
 flat-remove [] i n e h = absurd (omega arith)
@@ -49,23 +41,13 @@ flat-remove (p ∷ ps) (suc i) (suc (suc n)) e h = ap (λ ts. p.0 ∷ p.1 ∷ ts
 
 -- ---- nodes in a row
 
-pub items_view-append : (ys zs : List Yaml) → items_view (ys ++ zs) ≡ items_view ys ++ items_view zs
-items_view-append [] zs = refl
-items_view-append (y ∷ ys) zs = ap (λ ts. view y ∷ ts) (items_view-append ys zs)
-
-items_view-remove : (ys : List Yaml) (i : ℕ) → items_view (remove ys i) ≡ remove (items_view ys) i
-items_view-remove [] zero = refl
-items_view-remove [] (suc i) = refl
-items_view-remove (y ∷ ys) zero = refl
-items_view-remove (y ∷ ys) (suc i) = ap (λ ts. view y ∷ ts) (items_view-remove ys i)
-
 at_place : (ys : List Yaml) (n : ℕ) (x : Yaml) → n < length ys → x ≡ get_or ys n x → view x ≡ get_or (items_view ys) n (view x)
 at_place ys n x h e = ap view e ∙ sym (get_or-map view ys n x (view x) h)
 
 -- a row of nodes that stands for pairs
 module _ (ys : List Yaml) (us : List (Tree × Tree)) (seen : items_view ys ≡ flat us) where
   pub row_length : length ys ≡ 2 * length us
-  row_length = omega (arith, length_items_view ys, ap length seen, length-flat us)
+  row_length = omega (arith, length-map ys view, ap length seen, length-flat us)
 
   pub key_seen : (i : ℕ) (x : Yaml) → i < length us → x ≡ get_or ys (2 * i) x → view x ≡ key_at us i
   key_seen i x h e =
@@ -76,25 +58,15 @@ module _ (ys : List Yaml) (us : List (Tree × Tree)) (seen : items_view ys ≡ f
       ap Some (at_place ys (2 * i + 1) x (omega (arith, row_length)) e ∙ ap (λ ts. get_or ts (2 * i + 1) (view x)) seen) ∙ value_in us i (2 * i + 1) (view x) refl h
 
   pub taken : (zs : List Yaml) (i : ℕ) → i < length us → zs ≡ remove (remove ys (2 * i)) (2 * i) → items_view zs ≡ flat (remove us i)
-  taken zs i h e = grind (arith, items_view-remove, seen, flat-remove)
+  taken zs i h e = rw (e, map-remove view (remove ys (2 * i)) (2 * i), map-remove view ys (2 * i), seen, flat-remove us i (2 * i) refl h)
 
   pub added : (zs : List Yaml) (k v : Yaml) → zs ≡ ys ++ k ∷ v ∷ [] → items_view zs ≡ flat (us ++ (view k, view v) ∷ [])
-  added zs k v e = grind (arith, items_view-append, seen, flat-append)
+  added zs k v e = rw (e, map-append view ys (k ∷ v ∷ []), seen, flat-append us ((view k, view v) ∷ []))
 
 -- another value in a row
 set_in : (us : List (Tree × Tree)) (i n : ℕ) (t : Tree) → n ≡ 2 * i + 1 → set (flat us) n t ≡ flat (with_value_at i t us)
 set_in [] i n t e = refl
-set_in (u ∷ us) zero zero t e = absurd (omega arith)
-set_in (u ∷ us) zero (suc zero) t e = refl
-set_in (u ∷ us) zero (suc (suc n)) t e = absurd (omega arith)
-set_in (u ∷ us) (suc i) zero t e = absurd (omega arith)
-set_in (u ∷ us) (suc i) (suc zero) t e = absurd (omega arith)
-set_in (u ∷ us) (suc i) (suc (suc n)) t e = ap (λ ts. u.0 ∷ u.1 ∷ ts) (set_in us i n t (omega arith))
-
-items_view-set : (ys : List Yaml) (n : ℕ) (w : Yaml) → items_view (set ys n w) ≡ set (items_view ys) n (view w)
-items_view-set [] n w = refl
-items_view-set (y ∷ ys) zero w = refl
-items_view-set (y ∷ ys) (suc n) w = ap (λ ts. view y ∷ ts) (items_view-set ys n w)
+set_in (u ∷ us) i n t e = grind (arith, set_in us)
 
 pub value_set : (ys : List Yaml) (us : List (Tree × Tree)) (i : ℕ) (w : Yaml) → items_view ys ≡ flat us → items_view (set ys (2 * i + 1) w) ≡ flat (with_value_at i (view w) us)
-value_set ys us i w e = items_view-set ys (2 * i + 1) w ∙ ap (λ ts. set ts (2 * i + 1) (view w)) e ∙ set_in us i (2 * i + 1) (view w) refl
+value_set ys us i w e = map-set view ys (2 * i + 1) w ∙ ap (λ ts. set ts (2 * i + 1) (view w)) e ∙ set_in us i (2 * i + 1) (view w) refl

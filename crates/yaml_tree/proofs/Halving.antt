@@ -19,11 +19,7 @@ pub digits_rise : (m n : ℕ) → m ≤ n → binary_digits m ≤ binary_digits 
 digits_rise m n h = let high : n < 2 ^ binary_digits n = (least_exponent n).0 in (least_exponent m).1 (binary_digits n) (omega arith)
 
 pub digits_some : (n : ℕ) → 0 < n → 0 < binary_digits n
-digits_some n h = from (binary_digits n) (least_exponent n)
-  where
-    from : (k : ℕ) → IsLeastExponent n k → 0 < k
-    from zero r = let low : n < 2 ^ 0 = r.0 in absurd (omega arith)
-    from (suc k) r = omega arith
+digits_some n h = grind (arith, (least_exponent n).0)
 
 -- of two numbers, the first not 0, at least one has fewer binary digits than their sum
 pub digits_shared : (a b : ℕ) → 0 < a → binary_digits a + binary_digits b + 1 ≤ 2 * binary_digits (a + b)

@@ -1,21 +1,16 @@
 -- Nodes in a row, as the trees that clauses see.
-use Rattle.yaml_tree.proofs.Common.{[], ap, arith, Bool, false, hash, if◌then◌else◌, integer, IsSome, items_of, items_view, length, List, list_of, lookup, nat_lt, nat_tests, None, Option, option_map, pair_list_of, pairs_of, pos, refl, slice_get, subst, suc, sym, Tree, true, value_at_index, view, Yaml, zero, ℕ, ◌++◌, ◌<◌, ◌^◌, ◌∙◌, ◌∷◌, ◌≡◌}
+use Rattle.std.proofs.lemmas.List.{map-append}
+use Rattle.yaml_tree.proofs.Common.{[], ap, arith, hash, integer, items_of, items_view, length, length-map, List, list_of, lookup, nat_tests, option_map, pair_list_of, pairs_of, pos, refl, slice_get, Tree, value_at_index, view, Yaml, ℕ, ◌++◌, ◌<◌, ◌^◌, ◌∙◌, ◌∷◌, ◌≡◌}
 
 pub length_items_view : (ys : List Yaml) → length (items_view ys) ≡ length ys
-length_items_view [] = refl
-length_items_view (y ∷ ys) = ap suc (length_items_view ys)
+length_items_view ys = length-map ys view
 
 pub items_view_push : (ys zs : List Yaml) (y : Yaml) → zs ≡ ys ++ y ∷ [] → items_view zs ≡ items_view ys ++ view y ∷ []
-items_view_push ys zs y e = ap items_view e ∙ appended ys
-  where
-    appended : (ys : List Yaml) → items_view (ys ++ y ∷ []) ≡ items_view ys ++ view y ∷ []
-    appended [] = refl
-    appended (x ∷ xs) = ap (λ us. view x ∷ us) (appended xs)
+items_view_push ys zs y e = ap items_view e ∙ map-append view ys (y ∷ [])
 
 pub get_items_view : (ys : List Yaml) (i : ℕ) → slice_get (items_view ys) i ≡ option_map view (slice_get ys i)
 get_items_view [] i = refl
-get_items_view (y ∷ ys) zero = refl
-get_items_view (y ∷ ys) (suc i) = get_items_view ys i
+get_items_view (y ∷ ys) i = grind (arith, get_items_view ys)
 
 pub list_of_items : (ts : List Tree) → list_of (items_of ts) ≡ ts
 list_of_items [] = refl
@@ -27,15 +22,4 @@ pair_list_of_pairs (p ∷ ps) = ap (λ us. p ∷ us) (pair_list_of_pairs ps)
 
 -- the value at an index of a hash
 pub at_number : (i : ℕ) (ps : List (Tree × Tree)) → i < 2 ^ 63 → value_at_index i (hash (pairs_of ps)) ≡ lookup (integer (pos i)) ps
-at_number i ps h = rw pair_list_of_pairs (chosen (nat_lt i (2 ^ 63)) (lookup (integer (pos i)) ps) (grind (arith, nat_tests)))
-  where
-    chosen : (b : Bool) (o : Option Tree) → b ≡ true → (if b then o else None) ≡ o
-    chosen a o e = grind arith
-
-pub within_items : (ys : List Yaml) (ts : List Tree) (i : ℕ) → items_view ys ≡ ts → IsSome (slice_get ts i) → i < length ys
-within_items ys ts i e h = counted ys i (subst (λ us. IsSome (slice_get us i)) (sym e) h)
-  where
-    counted : (ys : List Yaml) (i : ℕ) → IsSome (slice_get (items_view ys) i) → i < length ys
-    counted [] i h = cc
-    counted (y ∷ ys) zero h = omega arith
-    counted (y ∷ ys) (suc i) h = omega (arith, counted ys i h)
+at_number i ps h = grind (arith, nat_tests, pair_list_of_pairs ps)

@@ -1,49 +1,37 @@
 -- Blocks as one row: what is at a spot, and what a change of a block does to the row.
-use Rattle.yaml_tree.proofs.IndexCommon.{[], ap, append-nil, append_assoc, AreFilled, AreRising, arith, cases_lt, digest_at, drop, drop_all, Entry, get_or, get_or_default, halved, head_at, inl, inr, insert, insert-append_left, insert-append_right, insert_end, IsEdge, IsNarrowed, joined, length, length-append, length-drop, length-insert, length-map, length-set, length-take, List, map, map-append, number_at, place_at, refl, remove, remove-append_left, remove-append_right, set, start, suc, sym, take, take-append-drop, take_all, take_at, zero, ℕ, ◌++◌, ◌+◌, ◌-◌, ◌<◌, ◌∙◌, ◌∷◌, ◌≡◌, ◌≤◌, ◌⊎◌}
+use Rattle.yaml_tree.proofs.IndexCommon.{[], ap, append-nil, append_assoc, AreFilled, AreRising, arith, cases_lt, digest_at, drop, drop_all, Entry, get_or, get_or_default, halved, head_at, inl, inr, insert, insert-append_left, insert-append_right, insert_end, IsEdge, IsNarrowed, joined, length, length-append, length-drop, length-insert, length-map, length-set, length-take, List, map, map-append, number_at, refl, remove, remove-append_left, remove-append_right, set, start, suc, sym, take, take-append-drop, take_all, take_at, zero, ℕ, ◌++◌, ◌+◌, ◌-◌, ◌<◌, ◌∙◌, ◌∷◌, ◌≡◌, ◌≤◌, ◌⊎◌}
 
 -- ---- entries by number
 
 pub number_got : (f : Entry → ℕ) (es : List Entry) (i : ℕ) (d : Entry) → i < length es → f (get_or es i d) ≡ number_at f es i
 number_got f [] i d h = absurd (omega arith)
-number_got f (e ∷ es) zero d h = refl
-number_got f (e ∷ es) (suc i) d h = number_got f es i d (omega arith)
+number_got f (e ∷ es) i d h = grind (arith, number_got f es)
 
 number_left : (f : Entry → ℕ) (es fs : List Entry) (i : ℕ) → i < length es → number_at f (es ++ fs) i ≡ number_at f es i
 number_left f [] fs i h = absurd (omega arith)
-number_left f (e ∷ es) fs zero h = refl
-number_left f (e ∷ es) fs (suc i) h = number_left f es fs i (omega arith)
+number_left f (e ∷ es) fs i h = grind (arith, number_left f es fs)
 
 number_right : (f : Entry → ℕ) (es fs : List Entry) (i n : ℕ) → n ≡ length es + i → number_at f (es ++ fs) n ≡ number_at f fs i
 number_right f [] fs i n h = ap (number_at f fs) (omega (arith, h))
-number_right f (e ∷ es) fs i zero h = absurd (omega arith)
-number_right f (e ∷ es) fs i (suc n) h = number_right f es fs i n (omega arith)
+number_right f (e ∷ es) fs i n h = grind (arith, number_right f es fs)
 
 -- ---- where a block starts
 
 pub start_all : (bs : List (List Entry)) (n : ℕ) → length bs ≤ n → start bs n ≡ length (joined bs)
 start_all [] n h = refl
-start_all (b ∷ bs) zero h = absurd (omega arith)
-start_all (b ∷ bs) (suc n) h = omega (arith, start_all bs n (omega arith), length-append b (joined bs))
+start_all (b ∷ bs) n h = grind (arith, start_all bs, length-append b (joined bs))
 
 pub start_within : (bs : List (List Entry)) (n : ℕ) → start bs n ≤ length (joined bs)
 start_within [] n = omega arith
-start_within (b ∷ bs) zero = omega arith
-start_within (b ∷ bs) (suc n) = omega (arith, start_within bs n, length-append b (joined bs))
-
-pub start_next : (bs : List (List Entry)) (i n : ℕ) → n ≡ suc i → start bs n ≡ start bs i + length (get_or bs i [])
-start_next [] i n e = omega arith
-start_next (b ∷ bs) i zero e = absurd (omega arith)
-start_next (b ∷ bs) zero (suc n) e = omega (arith, ap (start (b ∷ bs)) e, start_first bs n (omega arith))
-  where
-    start_first : (bs : List (List Entry)) (n : ℕ) → n ≡ 0 → start bs n ≡ 0
-    start_first [] n e = refl
-    start_first (b ∷ bs) zero e = refl
-    start_first (b ∷ bs) (suc n) e = absurd (omega arith)
-start_next (b ∷ bs) (suc i) (suc n) e = omega (arith, start_next bs i n (omega arith))
+start_within (b ∷ bs) n = grind (arith, start_within bs, length-append b (joined bs))
 
 pub start_zero : (bs : List (List Entry)) → start bs 0 ≡ 0
 start_zero [] = refl
 start_zero (b ∷ bs) = refl
+
+pub start_next : (bs : List (List Entry)) (i n : ℕ) → n ≡ suc i → start bs n ≡ start bs i + length (get_or bs i [])
+start_next [] i n e = omega arith
+start_next (b ∷ bs) i n e = grind (arith, start_next bs, start_zero bs)
 
 pub rank_within : (bs : List (List Entry)) (i j : ℕ) → j ≤ length (get_or bs i []) → start bs i + j ≤ length (joined bs)
 rank_within bs i j h = omega (arith, start_next bs i (suc i) refl, start_within bs (suc i))
@@ -61,8 +49,32 @@ number_in f (b ∷ bs) (suc i) j h g = number_right f b (joined bs) (start bs i 
 pub digest_in : (bs : List (List Entry)) (i j : ℕ) → i < length bs → j < length (get_or bs i []) → digest_at (joined bs) (start bs i + j) ≡ digest_at (get_or bs i []) j
 digest_in bs i j h g = number_in (λ e. e.digest) bs i j h g
 
-pub place_in : (bs : List (List Entry)) (i j : ℕ) → i < length bs → j < length (get_or bs i []) → place_at (joined bs) (start bs i + j) ≡ place_at (get_or bs i []) j
-place_in bs i j h g = number_in (λ e. e.place) bs i j h g
+-- what is read at a spot
+pub block_read : (xs bs : List (List Entry)) (i : ℕ) (b : List Entry) → xs ≡ bs → i < length bs → b ≡ get_or xs i b → b ≡ get_or bs i []
+block_read xs bs i b v h e = e ∙ ap (λ ys. get_or ys i b) v ∙ get_or_default bs i b [] h
+
+pub spot_digest : (xs bs : List (List Entry)) (i j d : ℕ) (b : List Entry) → xs ≡ bs → i < length bs → b ≡ get_or xs i b → j < length b
+    → d ≡ digest_at b j
+    → digest_at (joined bs) (start bs i + j) ≡ d
+spot_digest xs bs i j d b v h e g is =
+    let read = block_read xs bs i b v h e in
+    digest_in bs i j h (omega (arith, g, ap length read)) ∙ sym (is ∙ ap (λ b. digest_at b j) read)
+
+-- after the last entry of a block comes the first of the next
+pub next_digest : (xs bs : List (List Entry)) (i j d : ℕ) (b c : List Entry) → xs ≡ bs → AreFilled bs → i + 1 < length bs
+    → b ≡ get_or xs i b → length b ≡ j
+    → c ≡ get_or xs (i + 1) c → d ≡ digest_at c 0 → digest_at (joined bs) (start bs i + j) ≡ d
+next_digest xs bs i j d b c v a h e end f is =
+    let next = start_next bs i (i + 1) (omega arith) in
+    let read = ap length (block_read xs bs i b v (omega arith) e) in
+    let some : 0 < length c = omega (arith, a (i + 1) h, ap length (block_read xs bs (i + 1) c v h f)) in
+    ap (digest_at (joined bs)) (omega (arith, next, read, end)) ∙ spot_digest xs bs (i + 1) 0 d c v h f some is
+
+-- after the last block there are no entries
+pub last_block : (xs bs : List (List Entry)) (i : ℕ) (b : List Entry) → xs ≡ bs → length bs ≡ suc i → b ≡ get_or xs i b
+    → start bs i + length b ≡ length (joined bs)
+last_block xs bs i b v h e =
+    omega (arith, ap length (block_read xs bs i b v (omega arith) e), start_next bs i (suc i) refl, start_all bs (suc i) (omega arith))
 
 -- ---- a change of one block
 
@@ -101,30 +113,24 @@ joined_without (b ∷ bs) (suc i) n h one e =
 
 pub joined_halved : (bs : List (List Entry)) (i n h : ℕ) → n ≡ suc i → i < length bs → joined (halved bs i n h) ≡ joined bs
 joined_halved [] i n h e g = absurd (omega arith)
-joined_halved (b ∷ bs) zero zero h e g = absurd (omega arith)
-joined_halved (b ∷ bs) zero (suc zero) h e g = sym (append_assoc (take h b) (drop h b) (joined bs)) ∙ ap (λ es. es ++ joined bs) (take-append-drop h b)
-joined_halved (b ∷ bs) zero (suc (suc n)) h e g = absurd (omega arith)
-joined_halved (b ∷ bs) (suc i) zero h e g = absurd (omega arith)
-joined_halved (b ∷ bs) (suc i) (suc n) h e g = ap (λ es. b ++ es) (joined_halved bs i n h (omega arith) (omega arith))
+joined_halved (b ∷ bs) i zero h e g = absurd (omega arith)
+joined_halved (b ∷ bs) zero (suc n) h e g = grind (arith, append_assoc (take h b) (drop h b) (joined bs), take-append-drop h b)
+joined_halved (b ∷ bs) (suc i) (suc n) h e g = grind (arith, joined_halved bs)
 
 pub start_halved : (bs : List (List Entry)) (i n h : ℕ) → n ≡ suc i → i < length bs → start (halved bs i n h) i ≡ start bs i
 start_halved [] i n h e g = absurd (omega arith)
 start_halved (b ∷ bs) i zero h e g = absurd (omega arith)
-start_halved (b ∷ bs) zero (suc n) h e g = refl
-start_halved (b ∷ bs) (suc i) (suc n) h e g = ap (λ m. length b + m) (start_halved bs i n h (omega arith) (omega arith))
+start_halved (b ∷ bs) i (suc n) h e g = grind (arith, start_halved bs)
 
 pub first_halved : (bs : List (List Entry)) (i n h : ℕ) → n ≡ suc i → i < length bs → get_or (halved bs i n h) i [] ≡ take h (get_or bs i [])
 first_halved [] i n h e g = absurd (omega arith)
 first_halved (b ∷ bs) i zero h e g = absurd (omega arith)
-first_halved (b ∷ bs) zero (suc n) h e g = refl
-first_halved (b ∷ bs) (suc i) (suc n) h e g = first_halved bs i n h (omega arith) (omega arith)
+first_halved (b ∷ bs) i (suc n) h e g = grind (arith, first_halved bs)
 
 pub second_halved : (bs : List (List Entry)) (i n h : ℕ) → n ≡ suc i → i < length bs → get_or (halved bs i n h) n [] ≡ drop h (get_or bs i [])
 second_halved [] i n h e g = absurd (omega arith)
 second_halved (b ∷ bs) i zero h e g = absurd (omega arith)
-second_halved (b ∷ bs) zero (suc zero) h e g = refl
-second_halved (b ∷ bs) zero (suc (suc n)) h e g = absurd (omega arith)
-second_halved (b ∷ bs) (suc i) (suc n) h e g = second_halved bs i n h (omega arith) (omega arith)
+second_halved (b ∷ bs) i (suc n) h e g = grind (arith, second_halved bs)
 
 pub length-halved : (bs : List (List Entry)) (i n h : ℕ) → n ≡ suc i → i < length bs → length (halved bs i n h) ≡ length bs + 1
 length-halved bs i n h e g = length-insert (set bs i (take h (get_or bs i []))) n (drop h (get_or bs i [])) (omega (arith, length-set bs i (take h (get_or bs i [])))) ∙ ap (λ m. m + 1) (length-set bs i (take h (get_or bs i [])))
@@ -159,14 +165,11 @@ joined_map f (b ∷ bs) = ap (λ es. map f b ++ es) (joined_map f bs) ∙ sym (m
 
 pub filled_map : (f : Entry → Entry) (bs : List (List Entry)) → AreFilled bs → AreFilled (map (map f) bs)
 filled_map f [] a i h = absurd (omega arith)
-filled_map f (b ∷ bs) a zero h = omega (arith, a 0 (omega arith), length-map b f)
-filled_map f (b ∷ bs) a (suc i) h = filled_map f bs (λ j g. a (suc j) (omega arith)) i (omega arith)
+filled_map f (b ∷ bs) a i h = grind (arith, a 0 (omega arith), length-map b f, filled_map f bs (λ j g. a (suc j) (omega arith)))
 
 pub start_rises : (bs : List (List Entry)) (i j : ℕ) → i ≤ j → start bs i ≤ start bs j
 start_rises [] i j h = omega arith
-start_rises (b ∷ bs) zero j h = omega arith
-start_rises (b ∷ bs) (suc i) zero h = absurd (omega arith)
-start_rises (b ∷ bs) (suc i) (suc j) h = omega (arith, start_rises bs i j (omega arith))
+start_rises (b ∷ bs) i j h = grind (arith, start_rises bs)
 
 -- ---- how many blocks there are, and how long each is
 
@@ -218,12 +221,8 @@ edge_joined bs m k i j a heads e inside = record {
     by h (inr g) = next (cases_lt k (length bs)) g h
 
 pub edges_rise : (es : List Entry) (m n j k : ℕ) → AreRising es → IsEdge (digest_at es) (length es) m j → IsEdge (digest_at es) (length es) n k → m ≤ n → j ≤ k
-edges_rise es m n j k a d e h = by j d (cases_lt k j)
-  where
-    by : (j : ℕ) → IsEdge (digest_at es) (length es) m j → (k < j) ⊎ (j ≤ k) → j ≤ k
-    by j d (inr g) = g
-    by zero d (inl g) = absurd (omega arith)
-    by (suc j) d (inl g) = absurd (omega (arith, d.counted, d.below j refl, e.from (omega (arith, d.counted)), a k j (omega arith) (omega (arith, d.counted))))
+edges_rise es m n zero k a d e h = omega arith
+edges_rise es m n (suc j) k a d e h = grind (arith, cases_lt k (suc j), d.below j refl, a k j)
 
 -- between the first entry with a digest and the first with a higher one, all have this digest
 pub edges_narrow : (es : List Entry) (m n j k count : ℕ) → AreRising es → IsEdge (digest_at es) (length es) m j → IsEdge (digest_at es) (length es) n k → n ≡ m + 1 → j + count ≡ k
@@ -245,29 +244,20 @@ edge_past es m j d h = record {
   within = omega (arith, d.counted);
   below = d.below;
   inside = λ i f g. absurd (omega arith);
-  above = λ g. omega (arith, h (omega arith), ap (digest_at es) (same j));
+  above = λ g. let same : j + 0 ≡ j = omega arith in omega (arith, h (omega arith), ap (digest_at es) same);
 }
-  where
-    same : (j : ℕ) → j + 0 ≡ j
-    same j = omega arith
 
--- ---- reads and changes of a list of blocks
-
-pub block_read : (xs bs : List (List Entry)) (i : ℕ) (b : List Entry) → xs ≡ bs → i < length bs → b ≡ get_or xs i b → b ≡ get_or bs i []
-block_read xs bs i b v h e = e ∙ ap (λ ys. get_or ys i b) v ∙ get_or_default bs i b [] h
+-- ---- changes of a list of blocks
 
 pub set_before : (bs : List (List Entry)) (i n : ℕ) (b u : List Entry) → n ≡ suc i → i < length bs → set (insert bs n u) i b ≡ insert (set bs i b) n u
 set_before [] i n b u e h = absurd (omega arith)
 set_before (c ∷ bs) i zero b u e h = absurd (omega arith)
-set_before (c ∷ bs) zero (suc zero) b u e h = refl
-set_before (c ∷ bs) zero (suc (suc n)) b u e h = absurd (omega arith)
-set_before (c ∷ bs) (suc i) (suc n) b u e h = ap (λ xs. c ∷ xs) (set_before bs i n b u (omega arith) (omega arith))
+set_before (c ∷ bs) i (suc n) b u e h = grind (arith, set_before bs)
 
 pub get_before : (bs : List (List Entry)) (i n : ℕ) (u d : List Entry) → i < n → i < length bs → get_or (insert bs n u) i d ≡ get_or bs i d
 get_before [] i n u d e h = absurd (omega arith)
 get_before (c ∷ bs) i zero u d e h = absurd (omega arith)
-get_before (c ∷ bs) zero (suc n) u d e h = refl
-get_before (c ∷ bs) (suc i) (suc n) u d e h = get_before bs i n u d (omega arith) (omega arith)
+get_before (c ∷ bs) i (suc n) u d e h = grind (arith, get_before bs)
 
 -- a block's upper half is put after it, and it keeps the lower one
 pub halved_made : (xs ys : List (List Entry)) (i n h : ℕ) (upper whole lower : List Entry) → n ≡ suc i → i < length xs → ys ≡ insert xs n upper
@@ -278,16 +268,15 @@ halved_made xs ys i n h upper whole lower e l put u w low =
     ∙ ap (λ b. insert (set xs i b) n upper) (low ∙ ap (take h) (block_read ys (insert xs n upper) i whole put (omega (arith, l, e, length-insert xs n upper (omega (arith, l, e)))) w ∙ get_before xs i n upper [] (omega (arith, e)) l))
     ∙ ap (insert (set xs i (take h (get_or xs i []))) n) u
 
--- of a loop over all blocks that has come to its end
-pub all_mapped : (f : List Entry → List Entry) (n : ℕ) (xs ys : List (List Entry)) → length xs ≤ n → ys ≡ map f (take n xs) ++ drop n xs → ys ≡ map f xs
-all_mapped f n xs ys h e = e ∙ (λ i. map f (take_all n xs h i) ++ drop_all n xs h i) ∙ append-nil (map f xs)
-
 pub lent_back : {X : Type 0} (n : ℕ) (xs ys : List X) → length xs ≡ n → take n (xs ++ drop (length xs) ys) ≡ xs
 lent_back n xs ys e = take_at xs (drop (length xs) ys) n e
 
+-- of a loop over all blocks that has come to its end
+pub all_lent : (f : List Entry → List Entry) (n len : ℕ) (xs ws ys : List (List Entry)) → length ys ≡ length ws → length ws ≡ len
+    → length ws ≤ n
+    → ys ≡ map f (take n ws) ++ drop n ws → ws ≡ xs → take len (ys ++ drop (length ys) xs) ≡ map f xs
+all_lent f n len xs ws ys l k h e is =
+    lent_back len ys xs (l ∙ k) ∙ e ∙ (λ i. map f (take_all n ws h i) ++ drop_all n ws h i) ∙ append-nil (map f ws) ∙ ap (map f) is
+
 pub not_past : (bs : List (List Entry)) (i j : ℕ) → start bs i + j < length (joined bs) → i < length bs
-not_past bs i j h = by (cases_lt i (length bs))
-  where
-    by : (i < length bs) ⊎ (length bs ≤ i) → i < length bs
-    by (inl g) = g
-    by (inr g) = absurd (omega (arith, start_all bs i g))
+not_past bs i j h = grind (arith, cases_lt i (length bs), start_all)

@@ -1,11 +1,6 @@
 -- A value within a node, and the array or hash that holds it.
-use Rattle.yaml_tree.proofs.Common.{[], Alias, ap, arith, Array, BadValue, Bool, Boolean, false, get_or, Hash, if◌then◌else◌, Integer, integer, is_array, is_hash, IsSome, items_view, List, lookup, map-set, nat_lt, nat_tests, None, not, Null, Option, pos, Real, refl, slice_get, slice_set, Some, string, subst, suc, sym, T, Tree, true, value_at_index, value_at_text, view, Yaml, zero, ℕ, ◌<◌, ◌^◌, ◌∙◌, ◌∷◌, ◌≡◌}
-use Rattle.yaml_tree.specs.declared.yaml.Yaml.TheVariants.{String}
+use Rattle.yaml_tree.proofs.Common.{[], ap, arith, Array, Bool, false, get_or, Hash, integer, is_array, is_hash, IsSome, items_view, List, lookup, not, pos, slice_get, Some, string, subst, suc, sym, T, Tree, true, value_at_index, value_at_text, view, Yaml, zero, ℕ, ◌<◌, ◌^◌, ◌∙◌, ◌∷◌, ◌≡◌}
 use Rattle.yaml_tree.proofs.ItemsLemmas.{list_of_items, pair_list_of_pairs, at_number}
-
--- the items, one of which was written over
-pub set_items_view : (ys : List Yaml) (i : ℕ) (y : Yaml) → items_view (slice_set ys i y) ≡ slice_set (items_view ys) i (view y)
-set_items_view ys i y = map-set view ys i y
 
 -- the item that was found at a place
 pub item_there : (ys : List Yaml) (ts : List Tree) (i : ℕ) (y : Yaml) → items_view ys ≡ ts → y ≡ get_or ys i y → IsSome (slice_get ts i) → Some (view y) ≡ slice_get ts i
@@ -24,9 +19,6 @@ text_in_hash a b h = grind arith
 pub text_value : (text : List ℕ) (y : Yaml) (ps : List (Tree × Tree)) → y ≡ Hash ps → value_at_text text (view y) ≡ lookup (string text) ps
 text_value text y ps e = ap (λ n. value_at_text text (view n)) e ∙ ap (lookup (string text)) (pair_list_of_pairs ps)
 
-pub text_found : (text : List ℕ) (y : Yaml) (ps : List (Tree × Tree)) → y ≡ Hash ps → IsSome (value_at_text text (view y)) → IsSome (lookup (string text) ps)
-text_found text y ps e = subst IsSome (text_value text y ps e)
-
 -- ---- a value at an index: the node is an array or a hash
 
 pub index_in_array : (i : ℕ) (y : Yaml) → IsSome (value_at_index i (view y)) → is_hash (view y) ≡ false → is_array (view y) ≡ true
@@ -35,17 +27,11 @@ index_in_array i a h e = grind arith
 pub item_value : (i : ℕ) (y : Yaml) (ts : List Tree) → y ≡ Array ts → value_at_index i (view y) ≡ slice_get ts i
 item_value i y ts e = ap (λ n. value_at_index i (view n)) e ∙ ap (λ us. slice_get us i) (list_of_items ts)
 
-pub item_found : (i : ℕ) (y : Yaml) (ts : List Tree) → y ≡ Array ts → IsSome (value_at_index i (view y)) → IsSome (slice_get ts i)
-item_found i y ts e = subst IsSome (item_value i y ts e)
-
 pub number_fits : (i : ℕ) (y : Yaml) (ps : List (Tree × Tree)) → y ≡ Hash ps → IsSome (value_at_index i (view y)) → i < 2 ^ 63
 number_fits i y ps e h = grind arith
 
 pub number_value : (i : ℕ) (y : Yaml) (ps : List (Tree × Tree)) → y ≡ Hash ps → i < 2 ^ 63 → value_at_index i (view y) ≡ lookup (integer (pos i)) ps
 number_value i y ps e fits = ap (λ n. value_at_index i (view n)) e ∙ at_number i ps fits
-
-pub number_found : (i : ℕ) (y : Yaml) (ps : List (Tree × Tree)) → y ≡ Hash ps → IsSome (value_at_index i (view y)) → IsSome (lookup (integer (pos i)) ps)
-number_found i y ps e h = subst IsSome (number_value i y ps e (number_fits i y ps e h)) h
 
 -- ---- a test that was made
 

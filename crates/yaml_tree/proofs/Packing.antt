@@ -1,7 +1,7 @@
 -- Places that stand in one number as its digits to base 16.
 use Rattle.std.proofs.lemmas.Nat.{shr-shr, shr_split, mod-pow-add, pow-add, pow_below, shr_le}
 use Rattle.std.proofs.Math.Nat.{mul_assoc, mul_comm}
-use Rattle.yaml_tree.proofs.Common.{[], ap, arith, closed_up, digits, drop, drop_more, get_or, insert, IsPacked, length, List, map, moved_up, nat_tests, refl, remove, subst, suc, sym, unpacked, zero, ℕ, ◌%◌, ◌*◌, ◌+◌, ◌-◌, ◌/◌, ◌<◌, ◌^◌, ◌∙◌, ◌∷◌, ◌≡◌, ◌≤◌}
+use Rattle.yaml_tree.proofs.Common.{[], ap, arith, closed_up, digits, drop, drop_all, drop_more, get_or, insert, IsPacked, length, length-drop, length-map, List, map, moved_up, nat_tests, refl, subst, suc, sym, unpacked, zero, ℕ, ◌%◌, ◌*◌, ◌+◌, ◌-◌, ◌/◌, ◌<◌, ◌^◌, ◌∙◌, ◌∷◌, ◌≡◌, ◌≤◌}
 
 pub length_digits : (n w : ℕ) → length (digits n w) ≡ n
 length_digits zero w = refl
@@ -29,15 +29,12 @@ first c q h = omega (arith, h)
 others : (c q : ℕ) → c < 16 → (c + 16 * q) / 16 ≡ q
 others c q h = omega (arith, h)
 
-low : (w : ℕ) → w % 16 < 16
-low w = omega arith
-
 pub digits_with : (n k p w : ℕ) → k ≤ n → p < 16 → digits (suc n) (with_digit k p w) ≡ insert (digits n w) k p
 digits_with n zero p w h l = ap (λ d. d ∷ digits n ((p + 16 * w) / 16)) (first p w l) ∙ ap (λ v. p ∷ digits n v) (others p w l)
 digits_with zero (suc k) p w h l = absurd (omega (arith, h))
 digits_with (suc n) (suc k) p w h l =
-    ap (λ d. d ∷ digits (suc n) ((w % 16 + 16 * rest) / 16)) (first (w % 16) rest (low w))
-    ∙ ap (λ v. w % 16 ∷ digits (suc n) v) (others (w % 16) rest (low w))
+    ap (λ d. d ∷ digits (suc n) ((w % 16 + 16 * rest) / 16)) (first (w % 16) rest (omega arith))
+    ∙ ap (λ v. w % 16 ∷ digits (suc n) v) (others (w % 16) rest (omega arith))
     ∙ ap (λ ds. w % 16 ∷ ds) (digits_with n k p (w / 16) (omega (arith, h)) l)
   where
     rest : ℕ
@@ -47,7 +44,7 @@ pub with_below : (n k p w : ℕ) → k ≤ n → p < 16 → w < 2 ^ (4 * n) → 
 with_below n zero p w h l b = omega (arith, l, b, four_more n)
 with_below zero (suc k) p w h l b = absurd (omega (arith, h))
 with_below (suc n) (suc k) p w h l b =
-    omega (arith, low w, four_more (suc n), with_below n k p (w / 16) (omega (arith, h)) l (omega (arith, b, four_more n)))
+    omega (arith, four_more (suc n), with_below n k p (w / 16) (omega (arith, h)) l (omega (arith, b, four_more n)))
 
 spread : (y k : ℕ) → y * (16 * k) ≡ 16 * (y * k)
 spread y k = sym (mul_assoc y 16 k) ∙ ap (λ z. z * k) (mul_comm y 16) ∙ mul_assoc 16 y k
@@ -138,7 +135,7 @@ is_with w r p k room h l = record {
     whole = shr_split w (4 * r + 4)
 
     total : with_digit (suc r) p w + 1 < 2 ^ 64
-    total = omega (arith, low w, near, bound)
+    total = omega (arith, near, bound)
 
     one_more : with_digit (suc r) p w + 1 ≡ suc count + 16 * rest
     one_more = omega arith
@@ -169,18 +166,6 @@ abbrev pub AreLow : List ℕ → Type 0
 AreLow [] = Unit {0}
 AreLow (p ∷ ps) = (p < 16) × AreLow ps
 
-pub low_remove : (n : ℕ) (ps : List ℕ) → AreLow ps → AreLow (remove ps n)
-low_remove zero [] h = tt
-low_remove (suc n) [] h = tt
-low_remove zero (p ∷ ps) h = h.1
-low_remove (suc n) (p ∷ ps) h = (h.0, low_remove n ps h.1)
-
-pub length_remove : (n : ℕ) (ps : List ℕ) → length (remove ps n) ≤ length ps
-length_remove zero [] = omega arith
-length_remove (suc n) [] = omega arith
-length_remove zero (p ∷ ps) = omega arith
-length_remove (suc n) (p ∷ ps) = omega (arith, length_remove n ps)
-
 pub low_map : (f : ℕ → ℕ) → ((p : ℕ) → p < 16 → f p < 16) → (ps : List ℕ) → AreLow ps → AreLow (map f ps)
 low_map f g [] h = tt
 low_map f g (p ∷ ps) h = (g p h.0, low_map f g ps h.1)
@@ -193,28 +178,58 @@ digits_packed : (ps : List ℕ) → AreLow ps → digits (length ps) (packed ps)
 digits_packed [] h = refl
 digits_packed (p ∷ ps) h = grind (arith, digits_packed ps h.1)
 
--- there is room for one more
-pub packed_fits : (ps : List ℕ) → AreLow ps → length ps ≤ 14 → packed ps < 2 ^ 57
-packed_fits ps h few = omega (arith, packed_below ps h, pow_below (4 * length ps) 57 (omega (arith, few)))
+-- the places of a list from one on, changed and packed
+pub record IsPacking (f : ℕ → ℕ) (xs : List ℕ) (k m : ℕ) : Type 0 where
+  pub low : AreLow (drop k xs)
+  pub made : m ≡ packed (map f (drop k xs))
 
-pub is_packed : (ps : List ℕ) (n : ℕ) → AreLow ps → n ≡ length ps → n ≤ 14 → IsPacked (packed ps * 16 + n)
-is_packed ps n h e few = same_packed (omega arith) (packed_of n (packed ps) few (subst (λ m. packed ps < 2 ^ (4 * m)) (sym e) (packed_below ps h)))
+pub packing_none : (f : ℕ → ℕ) (xs : List ℕ) (k : ℕ) → length xs ≤ k → IsPacking f xs k 0
+packing_none f xs k h =
+    let none = drop_all k xs h in
+    record { low = subst AreLow (sym none) tt; made = sym (ap (λ ps. packed (map f ps)) none) }
 
-pub unpacked_again : (ps : List ℕ) (n : ℕ) → AreLow ps → n ≡ length ps → n ≤ 14 → unpacked (packed ps * 16 + n) ≡ ps
-unpacked_again ps n h e few = ap (λ c. digits c ((packed ps * 16 + n) / 16)) (count ∙ e) ∙ ap (digits (length ps)) rest ∙ digits_packed ps h
-  where
-    count : (packed ps * 16 + n) % 16 ≡ n
-    count = omega (arith, few)
+module _ {f : ℕ → ℕ} {xs : List ℕ} {n m : ℕ} (i : IsPacking f xs n m) where
+  pub packing_more : (k p q : ℕ) → n ≡ suc k → k < length xs → p ≡ get_or xs k 0 → p < 16 → q ≡ f p → IsPacking f xs k (m * 16 + q)
+  packing_more k p q e h is low made =
+      let later : k + 1 ≡ n = omega arith in
+      let next : drop k xs ≡ p ∷ drop n xs = drop_more xs k 0 h ∙ (λ j. sym is j ∷ drop (later j) xs) in
+      record { low = subst AreLow (sym next) (low, i.low); made = rw (next, i.made, made) }
 
-    rest : (packed ps * 16 + n) / 16 ≡ packed ps
-    rest = omega (arith, few)
+  module _ (keeps : (p : ℕ) → p < 16 → f p < 16) where
+    -- there is room for one more
+    pub packing_fits : length xs ≤ 14 → m < 2 ^ 57
+    packing_fits few =
+        let ps = map f (drop n xs) in
+        let count : length (map f (drop n xs)) ≤ 14 = omega (arith, few, length-map (drop n xs) f, length-drop n xs) in
+        omega (arith, i.made, packed_below ps (low_map f keeps (drop n xs) i.low), pow_below (4 * length ps) 57 (omega (arith, count)))
+
+    pub packing_all : (c : ℕ) → n ≡ 0 → c ≡ length xs → c ≤ 14 → IsPacked (m * 16 + c) × (unpacked (m * 16 + c) ≡ map f xs)
+    packing_all c e all few = (
+      same_packed (omega (arith, made))
+          (packed_of c (packed ps) few (subst (λ l. packed ps < 2 ^ (4 * l)) (sym count) (packed_below ps low))),
+      ap (λ d. digits d ((m * 16 + c) / 16)) (last ∙ count) ∙ ap (digits (length ps)) (rest ∙ made) ∙ digits_packed ps low,
+    )
+      where
+        ps : List ℕ
+        ps = map f xs
+
+        low : AreLow ps
+        low = low_map f keeps xs (subst (λ j. AreLow (drop j xs)) e i.low)
+
+        made : m ≡ packed ps
+        made = i.made ∙ ap (λ j. packed (map f (drop j xs))) e
+
+        count : c ≡ length ps
+        count = all ∙ sym (length-map xs f)
+
+        last : (m * 16 + c) % 16 ≡ c
+        last = omega (arith, few)
+
+        rest : (m * 16 + c) / 16 ≡ m
+        rest = omega (arith, few)
 
 pub low_closed : (gone p : ℕ) → p < 16 → closed_up gone p < 16
 low_closed gone p h = grind (arith, nat_tests)
 
-pub low_moved : (gone count p : ℕ) → count ≤ 14 → p < 16 → moved_up gone count p < 16
-low_moved gone count p few h = grind (arith, nat_tests)
-
--- the places from the one before on
-pub from_before : (xs : List ℕ) (left : ℕ) → 0 < left → left ≤ length xs → drop (left - 1) xs ≡ get_or xs (left - 1) 0 ∷ drop left xs
-from_before xs left some h = drop_more xs (left - 1) 0 (omega arith) ∙ ap (λ n. get_or xs (left - 1) 0 ∷ drop n xs) (omega arith)
+pub low_moved : (gone count : ℕ) → count ≤ 14 → (p : ℕ) → p < 16 → moved_up gone count p < 16
+low_moved gone count few p h = grind (arith, nat_tests)

@@ -1,5 +1,5 @@
 -- Where a key's pair stands in a list of pairs, and what that says of the list.
-use Rattle.yaml_tree.proofs.Common.{[], ap, arith, Bool, cond, false, IsSome, key_at, last_of, length, List, lookup, None, Option, option_map, place_of, refl, remove, Some, suc, Tree, tree_eq, true, value_at, without, zero, ℕ, ◌∙◌, ◌∷◌, ◌≡◌}
+use Rattle.yaml_tree.proofs.Common.{[], ap, arith, IsSome, key_at, last_of, length, List, lookup, option_map, place_of, remove, Some, suc, Tree, value_at, without, zero, ℕ, ◌∙◌, ◌∷◌, ◌≡◌}
 
 -- taking out what stands at the key's place takes out the key's pair
 pub remove_placed : (k : Tree) (us : List (Tree × Tree)) (i : ℕ) → Some i ≡ place_of k us → remove us i ≡ without k us
@@ -14,12 +14,6 @@ last_pair (u ∷ w ∷ us) zero k v h d e = absurd (omega arith)
 last_pair (u ∷ w ∷ us) (suc n) k v h d e = last_pair (w ∷ us) n k v (omega arith) d e
 
 -- a key with a value has a place
-later_some : (o : Option ℕ) → IsSome o → IsSome (option_map suc o)
-later_some a s = grind arith
-
-place_here_or : (v : Tree) (o : Option Tree) (p : Option ℕ) (b : Bool) → (IsSome o → IsSome p) → IsSome (cond b (Some v) o) → IsSome (cond b (Some 0) (option_map suc p))
-place_here_or v o p a f s = grind arith
-
 pub place_somewhere : (k : Tree) (us : List (Tree × Tree)) → IsSome (lookup k us) → IsSome (place_of k us)
 place_somewhere k [] h = h
-place_somewhere k (u ∷ us) h = place_here_or u.1 (lookup k us) (place_of k us) (tree_eq k u.0) (place_somewhere k us) h
+place_somewhere k (u ∷ us) h = grind (arith, place_somewhere k us)

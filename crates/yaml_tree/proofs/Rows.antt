@@ -1,5 +1,6 @@
 -- A row of keys and values beside its ranks.
 use Rattle.yaml_tree.proofs.Common.{[], absent, ap, AreDistinct, AreDistinct-with_value_at, AreDistinct-without, AreDistinct_insert, AreRanked, arith, closed_up, flat, get_or, IsHash, IsRank, IsRankGap, items_view, key_at, key_of_rank, length, List, lookup, map, moved_up, None, pairs_view, place_in, place_of, refl, remove, set, Some, subst, sym, Tree, view, with_value_at, without, Yaml, ℕ, ◌*◌, ◌++◌, ◌+◌, ◌<◌, ◌∙◌, ◌∷◌, ◌≡◌}
+use Rattle.defs_tree.proofs.Places.{IsAbsent}
 use Rattle.defs_tree.specs.Pairs.{insert as insert_pair}
 use Rattle.yaml_tree.proofs.Flattened.{pairs_from, even_from, row_length, key_seen, value_seen, taken, added, value_set}
 use Rattle.yaml_tree.proofs.Placed.{remove_placed}
@@ -45,9 +46,19 @@ pub remove_ranked : {m : Tree → ℕ} (k : Tree) (ys : List Yaml) (rs : List �
     → remove (pairs_view ys) (get_or rs r 0) ≡ without k (pairs_view ys)
 remove_ranked k ys rs r h at = remove_placed k (pairs_view ys) (get_or rs r 0) (ranked_place k ys (pairs_view ys) rs r (get_or rs r 0) h refl at refl)
 
+pub ranked_found : {m : Tree → ℕ} (k : Tree) (ys : List Yaml) (us : List (Tree × Tree)) (rs : List ℕ) (r p : ℕ)
+    → IsHash m (items_view ys) rs → pairs_view ys ≡ us
+    → IsRank k rs (pairs_view ys) r → p ≡ get_or rs r 0 → IsFound k ys us p
+ranked_found k ys us rs r p h is at e = placed k ys us rs p h is (ranked_place k ys us rs r p h is at e)
+
 pub gap_place : {m : Tree → ℕ} (k : Tree) (ys : List Yaml) (us : List (Tree × Tree)) (rs : List ℕ) (r : ℕ) → IsHash m (items_view ys) rs → pairs_view ys ≡ us
     → IsRankGap m k rs (pairs_view ys) r → None ≡ place_of k us
 gap_place k ys us rs r h is gap = gap_none k rs (pairs_view ys) h.ranked r gap ∙ ap (place_of k) is
+
+pub gap_absent : {m : Tree → ℕ} (k : Tree) (ys : List Yaml) (us : List (Tree × Tree)) (rs : List ℕ) (r : ℕ) → IsHash m (items_view ys) rs
+    → pairs_view ys ≡ us
+    → IsRankGap m k rs (pairs_view ys) r → IsAbsent k us
+gap_absent k ys us rs r h is gap = absent k us (gap_place k ys us rs r h is gap)
 
 -- ---- what a row is after a change
 
@@ -64,35 +75,32 @@ module _ {m : Tree → ℕ} (k v : Tree) (ys : List Yaml) (rs : List ℕ) (h : I
       → qs ≡ map (closed_up (get_or rs r 0)) (remove rs r) → IsHash m (items_view zs) qs
   made_without zs qs r at e f =
       made zs qs (without k (pairs_view ys)) e (AreDistinct-without k (pairs_view ys) h.distinct)
-      (subst (λ xs. AreRanked m xs (without k (pairs_view ys))) (sym f) (subst (AreRanked m (map (closed_up (get_or rs r 0)) (remove rs r))) (remove_ranked k ys rs r h at) (ranked_removed rs (pairs_view ys) r h.ranked at.0)))
+      (rw (f, ← remove_ranked k ys rs r h at) (ranked_removed rs (pairs_view ys) r h.ranked at.0))
 
   pub made_moved : (zs : List Yaml) (qs : List ℕ) (r : ℕ) → IsRank k rs (pairs_view ys) r → items_view zs ≡ flat (insert_pair k v (pairs_view ys))
       → qs ≡ map (moved_up (get_or rs r 0) (length rs)) rs → IsHash m (items_view zs) qs
   made_moved zs qs r at e f =
       made zs qs (insert_pair k v (pairs_view ys)) e (AreDistinct_insert k v (pairs_view ys) h.distinct)
-      (subst (λ xs. AreRanked m xs (insert_pair k v (pairs_view ys))) (sym f)
-      (subst (λ us. AreRanked m (map (moved_up (get_or rs r 0) (length rs)) rs) (us ++ (k, v) ∷ [])) (remove_ranked k ys rs r h at) (ranked_moved rs (pairs_view ys) r k v h.ranked at)))
+      (rw (f, ← remove_ranked k ys rs r h at) (ranked_moved rs (pairs_view ys) r k v h.ranked at))
 
   pub made_added : {n : Tree → ℕ} (zs : List Yaml) (qs : List ℕ) (r : ℕ) → IsRankGap m k rs (pairs_view ys) r → items_view zs ≡ flat (insert_pair k v (pairs_view ys))
       → AreRanked n qs (pairs_view ys ++ (k, v) ∷ []) → IsHash n (items_view zs) qs
   made_added {n} zs qs r gap e a =
-      let away = absent k (pairs_view ys) (gap_none k rs (pairs_view ys) h.ranked r gap) in
       made zs qs (insert_pair k v (pairs_view ys)) e (AreDistinct_insert k v (pairs_view ys) h.distinct)
-      (subst (λ us. AreRanked n qs (us ++ (k, v) ∷ [])) (sym away.same) a)
+      (rw (gap_absent k ys (pairs_view ys) rs r h refl gap).same a)
 
 -- the pair is new
 pub row_added : {m : Tree → ℕ} (ys zs : List Yaml) (us : List (Tree × Tree)) (rs : List ℕ) (r : ℕ) (k v : Yaml) → IsHash m (items_view ys) rs → pairs_view ys ≡ us → IsRankGap m (view k) rs (pairs_view ys) r
     → zs ≡ ys ++ k ∷ v ∷ [] → items_view zs ≡ flat (insert_pair (view k) (view v) us)
 row_added ys zs us rs r k v h is gap e =
     added ys us (h.even ∙ ap flat is) zs k v e
-    ∙ ap (λ vs. flat (vs ++ (view k, view v) ∷ [])) (sym (absent (view k) us (gap_place (view k) ys us rs r h is gap)).same)
+    ∙ ap (λ vs. flat (vs ++ (view k, view v) ∷ [])) (sym (gap_absent (view k) ys us rs r h is gap).same)
 
 -- the pair was there
 pub row_exchanged : {m : Tree → ℕ} (ys zs : List Yaml) (us : List (Tree × Tree)) (rs : List ℕ) (r p : ℕ) (k v : Yaml) → IsHash m (items_view ys) rs → pairs_view ys ≡ us → IsRank (view k) rs (pairs_view ys) r
     → p ≡ get_or rs r 0 → zs ≡ remove (remove ys (2 * p)) (2 * p) ++ k ∷ v ∷ [] → items_view zs ≡ flat (insert_pair (view k) (view v) us)
 row_exchanged ys zs us rs r p k v h is at e f =
-    let there = placed (view k) ys us rs p h is (ranked_place (view k) ys us rs r p h is at e) in
-    added (remove (remove ys (2 * p)) (2 * p)) (without (view k) us) (there.rest _ refl) zs k v f
+    added (remove (remove ys (2 * p)) (2 * p)) (without (view k) us) ((ranked_found (view k) ys us rs r p h is at e).rest _ refl) zs k v f
 
 -- another value
 pub made_value : {m : Tree → ℕ} (ys : List Yaml) (rs : List ℕ) (i : ℕ) (w : Yaml) → IsHash m (items_view ys) rs → IsHash m (items_view (set ys (2 * i + 1) w)) rs

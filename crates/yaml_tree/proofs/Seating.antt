@@ -1,13 +1,13 @@
 -- What a row and its places are ready for.
-use Rattle.yaml_tree.proofs.Common.{[], absent, ap, AreDigests, AreRanked, digests, first_by, flat, get_or, IsIndexed, IsRank, IsRankGap, items_view, Kept, length, List, lookup, map, moved_up, None, pairs_view, places, refl, remove, Tree, view, Yaml, ℕ, ◌*◌, ◌++◌, ◌∙◌, ◌∷◌, ◌≡◌}
+use Rattle.yaml_tree.proofs.Common.{[], ap, AreDigests, AreRanked, digests, first_by, flat, get_or, IsIndexed, IsRank, IsRankGap, items_view, Kept, length, List, lookup, map, moved_up, None, pairs_view, places, refl, remove, Tree, view, Yaml, ℕ, ◌*◌, ◌++◌, ◌∙◌, ◌∷◌, ◌≡◌}
 use Rattle.defs_tree.specs.Pairs.{insert as insert_pair}
 use Rattle.yaml_tree.specs.Seats.{IsInserted, IsReady, IsReadyWithout}
 use Rattle.yaml_tree.proofs.Keeping.{indexed_moved, indexed_added}
-use Rattle.yaml_tree.proofs.Rows.{IsFound, placed, ranked_place, gap_place, row_added, row_exchanged, seen_as}
+use Rattle.yaml_tree.proofs.Rows.{IsFound, gap_absent, ranked_found, row_added, row_exchanged, seen_as}
 
 module _ (ys : List Yaml) (o n : Kept) (r : ℕ) (key : Yaml) (i : IsIndexed (items_view ys) o) where
   pub is_away : IsRankGap (first_by o) (view key) (places o) (pairs_view ys) r → lookup (view key) (pairs_view ys) ≡ None
-  is_away gap = (absent (view key) (pairs_view ys) (gap_place (view key) ys (pairs_view ys) (places o) r i.hash refl gap)).unfound
+  is_away gap = (gap_absent (view key) ys (pairs_view ys) (places o) r i.hash refl gap).unfound
 
   pub is_ready : IsRankGap (first_by o) (view key) (places o) (pairs_view ys) r
       → ((v : Tree) → AreRanked (first_by n) (places n) (pairs_view ys ++ (view key, v) ∷ []))
@@ -28,7 +28,7 @@ module _ (ys : List Yaml) (o n : Kept) (r : ℕ) (key : Yaml) (i : IsIndexed (it
   is_ready_without p rank at moved same order = record { inside = found.inside; value = found.found; inserted = with }
     where
       found : IsFound (view key) ys (pairs_view ys) p
-      found = placed (view key) ys (pairs_view ys) (places o) p i.hash refl (ranked_place (view key) ys (pairs_view ys) (places o) r p i.hash refl rank at)
+      found = ranked_found (view key) ys (pairs_view ys) (places o) r p i.hash refl rank at
 
       row : Yaml → List Yaml
       row value = remove (remove ys (2 * p)) (2 * p) ++ key ∷ value ∷ []

@@ -1,67 +1,54 @@
 -- Starts of blocks: what a change of the blocks makes of them.
-use Rattle.yaml_tree.proofs.IndexCommon.{[], ap, AreApart, AreCounted, AreFilled, AreStarts, arith, cases_lt, drop, Entry, get_or, get_or_append_left, get_or_push, get_or_read, halved, head_length, inl, inr, insert, joined, length, length-append, length-drop, length-map, length-remove, length-set, length-take, List, map, refl, remove, set, start, suc, take, take-append-drop, zero, ℕ, ◌*◌, ◌++◌, ◌+◌, ◌-◌, ◌/◌, ◌<◌, ◌^◌, ◌∙◌, ◌∷◌, ◌≡◌, ◌≤◌, ◌⊎◌}
+use Rattle.yaml_tree.proofs.IndexCommon.{[], ap, AreApart, AreCounted, AreFilled, AreStarts, arith, cases_lt, drop, Entry, get_or, get_or_append_left, get_or_push, get_or_read, halved, head_length, inl, inr, insert, insert_end, joined, length, length-append, length-drop, length-insert, length-map, length-remove, length-set, length-take, List, map, refl, remove, set, start, subst, suc, take, take-append-drop, zero, ℕ, ◌*◌, ◌++◌, ◌+◌, ◌-◌, ◌/◌, ◌<◌, ◌^◌, ◌∙◌, ◌∷◌, ◌≡◌, ◌≤◌}
+use Rattle.std.proofs.lemmas.Grind.{get_or-set_at}
+use Rattle.std.proofs.lemmas.List.{get_or-set_other}
+use Rattle.std.proofs.lemmas.List.Edits.{get_or-insert_below, get_or-insert_at, get_or-insert_above, get_or-remove_below, get_or-remove_above}
 use Rattle.yaml_tree.proofs.Joining.{start_zero, start_all, start_within, start_next, start_rises, filled_map, length-halved, joined_halved, joined_map}
 
 -- ---- before a change and after it
 
 pub start_set_before : (bs : List (List Entry)) (i n : ℕ) (b : List Entry) → n ≤ i → start (set bs i b) n ≡ start bs n
 start_set_before [] i n b h = refl
-start_set_before (c ∷ bs) i zero b h = start_zero (set (c ∷ bs) i b)
-start_set_before (c ∷ bs) zero (suc n) b h = absurd (omega arith)
-start_set_before (c ∷ bs) (suc i) (suc n) b h = ap (λ m. length c + m) (start_set_before bs i n b (omega arith))
+start_set_before (c ∷ bs) i n b h = grind (arith, start_set_before bs, start_zero)
 
 pub start_set_after : (bs : List (List Entry)) (i n : ℕ) (b : List Entry) → i < length bs → i < n → start (set bs i b) n + length (get_or bs i []) ≡ start bs n + length b
 start_set_after [] i n b h g = absurd (omega arith)
-start_set_after (c ∷ bs) i zero b h g = absurd (omega arith)
-start_set_after (c ∷ bs) zero (suc n) b h g = omega arith
-start_set_after (c ∷ bs) (suc i) (suc n) b h g = omega (arith, start_set_after bs i n b (omega arith) (omega arith))
+start_set_after (c ∷ bs) i n b h g = grind (arith, start_set_after bs)
 
 pub start_push_before : (bs : List (List Entry)) (b : List Entry) (n : ℕ) → n ≤ length bs → start (bs ++ b ∷ []) n ≡ start bs n
-start_push_before [] b zero h = refl
-start_push_before [] b (suc n) h = absurd (omega arith)
-start_push_before (c ∷ bs) b zero h = refl
-start_push_before (c ∷ bs) b (suc n) h = ap (λ m. length c + m) (start_push_before bs b n (omega arith))
+start_push_before [] b n h = grind arith
+start_push_before (c ∷ bs) b n h = grind (arith, start_push_before bs b)
 
 pub start_push_after : (bs : List (List Entry)) (b : List Entry) (n : ℕ) → length bs < n → start (bs ++ b ∷ []) n ≡ start bs n + length b
-start_push_after bs b zero h = absurd (omega arith)
-start_push_after [] b (suc n) h = omega arith
-start_push_after (c ∷ bs) b (suc n) h = omega (arith, start_push_after bs b n (omega arith))
+start_push_after [] b n h = grind arith
+start_push_after (c ∷ bs) b n h = grind (arith, start_push_after bs b)
 
 pub start_remove_before : (bs : List (List Entry)) (i n : ℕ) → n ≤ i → start (remove bs i) n ≡ start bs n
 start_remove_before [] zero n h = refl
 start_remove_before [] (suc i) n h = refl
-start_remove_before (c ∷ bs) zero zero h = start_zero bs
-start_remove_before (c ∷ bs) zero (suc n) h = absurd (omega arith)
-start_remove_before (c ∷ bs) (suc i) zero h = refl
-start_remove_before (c ∷ bs) (suc i) (suc n) h = ap (λ m. length c + m) (start_remove_before bs i n (omega arith))
+start_remove_before (c ∷ bs) zero n h = grind (arith, start_zero)
+start_remove_before (c ∷ bs) (suc i) n h = grind (arith, start_remove_before bs i)
 
 pub start_remove_after : (bs : List (List Entry)) (i n : ℕ) → i < length bs → i ≤ n → start (remove bs i) n + length (get_or bs i []) ≡ start bs (suc n)
 start_remove_after [] i n h g = absurd (omega arith)
 start_remove_after (c ∷ bs) zero n h g = omega arith
-start_remove_after (c ∷ bs) (suc i) zero h g = absurd (omega arith)
-start_remove_after (c ∷ bs) (suc i) (suc n) h g = omega (arith, start_remove_after bs i n (omega arith) (omega arith))
+start_remove_after (c ∷ bs) (suc i) n h g = grind (arith, start_remove_after bs i)
 
 pub start_halved_before : (bs : List (List Entry)) (i n h k : ℕ) → n ≡ suc i → i < length bs → k ≤ i → start (halved bs i n h) k ≡ start bs k
 start_halved_before [] i n h k e g l = absurd (omega arith)
 start_halved_before (b ∷ bs) i zero h k e g l = absurd (omega arith)
-start_halved_before (b ∷ bs) zero (suc n) h zero e g l = refl
-start_halved_before (b ∷ bs) zero (suc n) h (suc k) e g l = absurd (omega arith)
-start_halved_before (b ∷ bs) (suc i) (suc n) h zero e g l = refl
-start_halved_before (b ∷ bs) (suc i) (suc n) h (suc k) e g l = ap (λ m. length b + m) (start_halved_before bs i n h k (omega arith) (omega arith) (omega arith))
+start_halved_before (b ∷ bs) i (suc n) h k e g l = grind (arith, start_halved_before bs)
 
 -- a block that was after is one place on
 pub start_halved_after : (bs : List (List Entry)) (i n h k : ℕ) → n ≡ suc i → i < length bs → i < k → start (halved bs i n h) (suc k) ≡ start bs k
 start_halved_after [] i n h k e g l = absurd (omega arith)
 start_halved_after (b ∷ bs) i zero h k e g l = absurd (omega arith)
-start_halved_after (b ∷ bs) i (suc n) h zero e g l = absurd (omega arith)
-start_halved_after (b ∷ bs) zero (suc zero) h (suc k) e g l = omega (arith, ap length (take-append-drop h b), length-append (take h b) (drop h b))
-start_halved_after (b ∷ bs) zero (suc (suc n)) h (suc k) e g l = absurd (omega arith)
-start_halved_after (b ∷ bs) (suc i) (suc n) h (suc k) e g l = ap (λ m. length b + m) (start_halved_after bs i n h k (omega arith) (omega arith) (omega arith))
+start_halved_after (b ∷ bs) zero (suc n) h k e g l = grind (arith, ap length (take-append-drop h b), length-append (take h b) (drop h b))
+start_halved_after (b ∷ bs) (suc i) (suc n) h k e g l = grind (arith, start_halved_after bs)
 
 pub start_map : (f : Entry → Entry) (bs : List (List Entry)) (n : ℕ) → start (map (map f) bs) n ≡ start bs n
 start_map f [] n = refl
-start_map f (b ∷ bs) zero = refl
-start_map f (b ∷ bs) (suc n) = omega (arith, length-map b f, start_map f bs n)
+start_map f (b ∷ bs) n = grind (arith, length-map b f, start_map f bs)
 
 -- ---- all entries
 
@@ -81,33 +68,19 @@ all_remove bs i h =
 -- ---- no block is empty
 
 pub filled_set : (bs : List (List Entry)) (i : ℕ) (b : List Entry) → AreFilled bs → 0 < length b → AreFilled (set bs i b)
-filled_set [] i b a h j g = absurd (omega arith)
-filled_set (c ∷ bs) zero b a h zero g = h
-filled_set (c ∷ bs) zero b a h (suc j) g = a (suc j) (omega arith)
-filled_set (c ∷ bs) (suc i) b a h zero g = a 0 (omega arith)
-filled_set (c ∷ bs) (suc i) b a h (suc j) g = filled_set bs i b (λ k l. a (suc k) (omega arith)) h j (omega arith)
+filled_set bs i b a h j g = grind (arith, get_or-set_at, get_or-set_other, length-set)
 
 pub filled_insert : (bs : List (List Entry)) (i : ℕ) (b : List Entry) → AreFilled bs → 0 < length b → i ≤ length bs → AreFilled (insert bs i b)
-filled_insert [] zero b a h e zero g = h
-filled_insert [] zero b a h e (suc j) g = absurd (omega arith)
-filled_insert [] (suc i) b a h e j g = absurd (omega arith)
-filled_insert (c ∷ bs) zero b a h e zero g = h
-filled_insert (c ∷ bs) zero b a h e (suc j) g = a j (omega arith)
-filled_insert (c ∷ bs) (suc i) b a h e zero g = a 0 (omega arith)
-filled_insert (c ∷ bs) (suc i) b a h e (suc j) g = filled_insert bs i b (λ k l. a (suc k) (omega arith)) h (omega arith) j (omega arith)
+filled_insert bs i b a h e j g = grind (arith, get_or-insert_below, get_or-insert_at, above, length-insert)
+  where
+    above : (k : ℕ) → i < k → get_or (insert bs i b) k [] ≡ get_or bs (k - 1) []
+    above k f = ap (λ m. get_or (insert bs i b) m []) (omega arith) ∙ get_or-insert_above bs i b [] (k - 1) (omega arith) e
 
 pub filled_push : (bs : List (List Entry)) (b : List Entry) → AreFilled bs → 0 < length b → AreFilled (bs ++ b ∷ [])
-filled_push [] b a h zero g = h
-filled_push [] b a h (suc j) g = absurd (omega arith)
-filled_push (c ∷ bs) b a h zero g = a 0 (omega arith)
-filled_push (c ∷ bs) b a h (suc j) g = filled_push bs b (λ k l. a (suc k) (omega arith)) h j (omega arith)
+filled_push bs b a h = subst AreFilled (insert_end bs b) (filled_insert bs (length bs) b a h (omega arith))
 
-pub filled_remove : (bs : List (List Entry)) (i : ℕ) → AreFilled bs → AreFilled (remove bs i)
-filled_remove [] zero a j g = absurd (omega arith)
-filled_remove [] (suc i) a j g = absurd (omega arith)
-filled_remove (c ∷ bs) zero a j g = a (suc j) (omega arith)
-filled_remove (c ∷ bs) (suc i) a zero g = a 0 (omega arith)
-filled_remove (c ∷ bs) (suc i) a (suc j) g = filled_remove bs i (λ k l. a (suc k) (omega arith)) j (omega arith)
+pub filled_remove : (bs : List (List Entry)) (i : ℕ) → i < length bs → AreFilled bs → AreFilled (remove bs i)
+filled_remove bs i h a j g = grind (arith, get_or-remove_below, get_or-remove_above, length-remove)
 
 -- ---- the starts that are kept
 
@@ -119,11 +92,8 @@ starts_split : (bs : List (List Entry)) (starts : List ℕ) (first : ℕ) → le
     → ((g : ℕ) → g < length starts → g < first → get_or starts g 0 ≡ start bs (16 * g))
     → ((g : ℕ) → g < length starts → first ≤ g → get_or starts g 0 ≡ start bs (16 * g))
     → AreStarts bs starts
-starts_split bs starts first enough before after = record { enough = enough; each = λ g h. by g h (cases_lt g first) }
-  where
-    by : (g : ℕ) → g < length starts → (g < first) ⊎ (first ≤ g) → get_or starts g 0 ≡ start bs (16 * g)
-    by g h (inl k) = before g h k
-    by g h (inr k) = after g h k
+starts_split bs starts first enough before after =
+    record { enough = enough; each = λ g h. elim (cases_lt g first) [ inl k ↦ before g h k | inr k ↦ after g h k ] }
 
 -- the last start counts all entries
 pub starts_all : (bs : List (List Entry)) (starts : List ℕ) (g : ℕ) → AreStarts bs starts → suc g ≡ length starts → get_or starts g 0 ≡ length (joined bs)
@@ -223,7 +193,7 @@ counted_halved bs olds news i next h first n filled a r e d f s l some more enou
 pub counted_without : (bs : List (List Entry)) (olds mids news : List ℕ) (i first n m : ℕ) → AreCounted bs olds → n ≡ length olds → AreApart (head_length bs) first n olds mids → m ≡ length mids → AreApart (λ _. 1) first m news mids
     → first ≡ i / 16 + 1 → i < length bs → length (get_or bs i []) ≡ 1 → AreCounted (remove bs i) news
 counted_without bs olds mids news i first n m a e up k down f h one = record {
-  filled = filled_remove bs i a.filled;
+  filled = filled_remove bs i h a.filled;
   right = starts_split (remove bs i) news first (omega (arith, a.right.enough, up.count, down.count, length-remove bs i h)) before after;
   fits = omega (arith, all_remove bs i h, a.fits);
 }

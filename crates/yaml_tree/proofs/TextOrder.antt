@@ -1,15 +1,18 @@
 -- Texts compared by their bytes are compared by their characters.
 use Rattle.std.specs.Char.{encode_utf8}
 use Rattle.std.specs.Str.{chars}
-use Rattle.yaml_tree.proofs.Common.{[], ap, arith, Bool, encode_utf8_all, encodes-chars, Equal, false, Greater, inl, inr, IsUtf8, IsUtf8-string_bytes, Less, List, nat_cmp, nat_list_cmp_total, nat_lt, nat_tests, Ordering, ordering_reverse, ordering_then, refl, slice_cmp, String, string_bytes, string_chars, sym, true, ℕ, ◌%◌, ◌++◌, ◌+◌, ◌/◌, ◌<◌, ◌∙◌, ◌∷◌, ◌≡◌, ◌≤◌, ◌⊎◌}
+use Rattle.yaml_tree.proofs.Common.{[], ap, arith, encode_utf8_all, encodes-chars, Equal, Greater, inl, inr, IsUtf8, IsUtf8-string_bytes, Less, List, nat_cmp, nat_list_cmp_total, nat_tests, Ordering, ordering_reverse, ordering_then, refl, slice_cmp, String, string_bytes, string_chars, sym, ℕ, ◌%◌, ◌++◌, ◌+◌, ◌/◌, ◌<◌, ◌∙◌, ◌∷◌, ◌≡◌, ◌≤◌, ◌⊎◌}
 
 abbrev cmp : List ℕ → List ℕ → Ordering
 cmp = slice_cmp nat_cmp
 
-pub less : (m n : ℕ) → m < n → nat_cmp m n ≡ Less
+less : (m n : ℕ) → m < n → nat_cmp m n ≡ Less
 less m n h = grind (arith, nat_tests)
 
-pub equal : (m n : ℕ) → m ≡ n → nat_cmp m n ≡ Equal
+greater : (m n : ℕ) → n < m → nat_cmp m n ≡ Greater
+greater m n h = grind (arith, nat_tests)
+
+equal : (m n : ℕ) → m ≡ n → nat_cmp m n ≡ Equal
 equal m n h = grind (arith, nat_tests)
 
 first_less : (m n : ℕ) (xs ys : List ℕ) → m < n → cmp (m ∷ xs) (n ∷ ys) ≡ Less
@@ -17,10 +20,6 @@ first_less m n xs ys h = ap (λ o. ordering_then o (cmp xs ys)) (less m n h)
 
 first_same : (m n : ℕ) (xs ys : List ℕ) → m ≡ n → cmp xs ys ≡ Less → cmp (m ∷ xs) (n ∷ ys) ≡ Less
 first_same m n xs ys h e = ap (λ o. ordering_then o (cmp xs ys)) (equal m n h) ∙ e
-
--- one by one, or all alike: the first that differs is less
-either : (m n : ℕ) (xs ys : List ℕ) → (m < n) ⊎ ((m ≡ n) × (cmp xs ys ≡ Less)) → cmp (m ∷ xs) (n ∷ ys) ≡ Less
-either m n xs ys a = grind (arith, first_less, first_same)
 
 -- ---- the bytes of a character
 
@@ -54,16 +53,10 @@ below : (m n : ℕ) → (m < n) ⊎ (n ≤ m)
 below m n = grind arith
 
 class_of : (c : ℕ) → Class c
-class_of c = first (below c 128)
+class_of c = by (below c 128) (below c 2048) (below c 65536)
   where
-    third : 2048 ≤ c → (c < 65536) ⊎ (65536 ≤ c) → Class c
-    third b a = grind (arith, three, is_three, four, is_four)
-
-    second : 128 ≤ c → (c < 2048) ⊎ (2048 ≤ c) → Class c
-    second a b = grind (arith, two, is_two, third, below)
-
-    first : (c < 128) ⊎ (128 ≤ c) → Class c
-    first a = grind (arith, one, is_one, second, below)
+    by : (c < 128) ⊎ (128 ≤ c) → (c < 2048) ⊎ (2048 ≤ c) → (c < 65536) ⊎ (65536 ≤ c) → Class c
+    by a b d = grind (arith, one, is_one, two, is_two, three, is_three, four, is_four)
 
 -- of two numbers of which the first is no greater: it is less, or they are the same
 next_of : (m n : ℕ) → m ≤ n → (m < n) ⊎ (m ≡ n)
@@ -100,28 +93,21 @@ alike (x ∷ xs) r t = ap (λ o. ordering_then o (cmp (xs ++ r) (xs ++ t))) (equ
 
 -- the order of the next characters, and then of the rest
 encode_cmp : (c d : ℕ) (r t : List ℕ) → cmp (encode_utf8 c ++ r) (encode_utf8 d ++ t) ≡ ordering_then (nat_cmp c d) (cmp r t)
-encode_cmp c d r t = first (below c d)
+encode_cmp c d r t = by (below c d) (below d c)
   where
-    greater : (m n : ℕ) → n < m → nat_cmp m n ≡ Greater
-    greater m n h = grind (arith, nat_tests)
-
     same : c ≡ d → cmp (encode_utf8 c ++ r) (encode_utf8 d ++ t) ≡ ordering_then (nat_cmp c d) (cmp r t)
     same e = ap (λ x. cmp (encode_utf8 x ++ r) (encode_utf8 d ++ t)) e ∙ alike (encode_utf8 d) r t ∙ sym (ap (λ o. ordering_then o (cmp r t)) (equal c d e))
 
-    second : d ≤ c → (d < c) ⊎ (c ≤ d) → cmp (encode_utf8 c ++ r) (encode_utf8 d ++ t) ≡ ordering_then (nat_cmp c d) (cmp r t)
-    second a b = grind (arith, encode_greater, t, greater, same)
-
-    first : (c < d) ⊎ (d ≤ c) → cmp (encode_utf8 c ++ r) (encode_utf8 d ++ t) ≡ ordering_then (nat_cmp c d) (cmp r t)
-    first a = grind (arith, encode_less, t, less, second, below)
+    by : (c < d) ⊎ (d ≤ c) → (d < c) ⊎ (c ≤ d) → cmp (encode_utf8 c ++ r) (encode_utf8 d ++ t) ≡ ordering_then (nat_cmp c d) (cmp r t)
+    by a b = grind (arith, encode_greater, t, greater, encode_less, less, same)
 
 starts : (c : ℕ) (r : List ℕ) → (b : ℕ) × ((bs : List ℕ) × (encode_utf8 c ++ r ≡ b ∷ bs))
-starts c r = by (class_of c)
-  where
-    by : Class c → (b : ℕ) × ((bs : List ℕ) × (encode_utf8 c ++ r ≡ b ∷ bs))
-    by (one a e) = (_, (_, ap (λ xs. xs ++ r) e))
-    by (two a i e) = (_, (_, ap (λ xs. xs ++ r) e))
-    by (three a i e) = (_, (_, ap (λ xs. xs ++ r) e))
-    by (four a e) = (_, (_, ap (λ xs. xs ++ r) e))
+starts c r = elim (class_of c) [
+  | one a e ↦ (_, (_, ap (λ xs. xs ++ r) e))
+  | two a i e ↦ (_, (_, ap (λ xs. xs ++ r) e))
+  | three a i e ↦ (_, (_, ap (λ xs. xs ++ r) e))
+  | four a e ↦ (_, (_, ap (λ xs. xs ++ r) e))
+]
 
 encoded_cmp : (cs ds : List ℕ) → cmp (encode_utf8_all cs) (encode_utf8_all ds) ≡ cmp cs ds
 encoded_cmp [] [] = refl

@@ -1,7 +1,7 @@
 -- What a plain text stands for: the code's way of reading it.
 use Rattle.std.specs.Result.{result_ok}
 use Rattle.std.specs.Str.Pattern.{LacksTextAt, FindsTextPrefix, StripsPrefix}
-use Rattle.yaml_tree.proofs.TypingCommon.{[], after_prefix, ap, arith, Bool, drop, Err, false, if◌then◌else◌, is_decimal, is_decimal-read, List, nat_tests, None, Ok, ParsesSigned, reads_decimal, refl, Result, signed_number, Some, sym, true, ℕ, ℤ, ◌++◌, ◌==◌, ◌∙◌, ◌∷◌, ◌≡◌, ◌≢◌}
+use Rattle.yaml_tree.proofs.TypingCommon.{[], after_prefix, ap, arith, Bool, boolean, bytes_eq-Decides, codes, Err, false, false_words, if◌then◌else◌, integer, is_among, is_decimal, is_decimal-read, List, list_all, nat_tests, None, null, null_words, Ok, Option, option_and_then, option_map, ParsesSigned, reads_decimal, real, refl, Result, signed_number, Some, special_words, string, sym, Tree, true, true_words, typing, unwrap_or, where_true, ℕ, ℤ, ◌++◌, ◌==◌, ◌∙◌, ◌∷◌, ◌≡◌, ◌≢◌}
 use mir.Syntax.{w64}
 use Rattle.defs_tree.proofs.Parsing as parsing
 
@@ -18,25 +18,45 @@ parsed_signed {E} base t (Err e) h = sym (parsing.parsed_signed {E = E} base t (
 
 pub after_it : (p t : List ℕ) → after_prefix p (p ++ t) ≡ Some t
 after_it [] t = refl
-after_it (x ∷ p) t = ap (λ b. if b then after_prefix p (p ++ t) else None) (same x) ∙ after_it p t
-  where
-    same : (x : ℕ) → (x == x) ≡ true
-    same x = grind (arith, nat_tests)
+after_it (x ∷ p) t = grind (arith, nat_tests, after_it p t)
 
 after_none : (p t : List ℕ) → ((rest : List ℕ) → t ≢ p ++ rest) → after_prefix p t ≡ None
 after_none [] t h = absurd (h t refl)
 after_none (x ∷ p) [] h = refl
-after_none (x ∷ p) (c ∷ cs) h = by (x == c) refl (λ e. after_none p cs (λ rest f. h rest (λ i. e i ∷ f i)))
-  where
-    by : (b : Bool) → (x == c) ≡ b → (c ≡ x → after_prefix p cs ≡ None) → (if b then after_prefix p cs else None) ≡ None
-    by true e f = f (grind (arith, nat_tests))
-    by false e f = refl
+after_none (x ∷ p) (c ∷ cs) h =
+    let later : c ≡ x → after_prefix p cs ≡ None = λ e. after_none p cs (λ rest f. h rest (λ i. e i ∷ f i)) in
+    grind (arith, nat_tests, later)
 
 pub lacks_after : (p t : List ℕ) → LacksTextAt p t 0 → after_prefix p t ≡ None
-lacks_after p t h = after_none p t (λ rest e. h rest (drop_none t ∙ e))
-  where
-    drop_none : (t : List ℕ) → drop 0 t ≡ t
-    drop_none t = refl
+lacks_after p t h = after_none p t h
 
 pub strips_after : (p t x : List ℕ) → StripsPrefix (FindsTextPrefix p) t x → after_prefix p t ≡ Some x
 strips_after p t x h = ap (after_prefix p) (h.1.1 ∙ ap (λ u. p ++ u) (sym h.2)) ∙ after_it p x
+
+-- ---- the table
+
+-- a signed number after a beginning
+abbrev pub after : ℕ → List ℕ → List ℕ → Option ℤ
+after base p t = option_and_then (signed_number base) (after_prefix p t)
+
+pub not_after : (base p : ℕ) (ps : List ℕ) (c : ℕ) (cs : List ℕ) → (p == c) ≡ false → after base (p ∷ ps) (c ∷ cs) ≡ None
+not_after base p ps c cs e = ap (λ b. option_and_then (signed_number base) (if b then after_prefix ps cs else None)) e
+
+-- the table of a text, by what its rows find in order
+abbrev pub table : List ℕ → Option ℤ → Option ℤ → Option ℤ → Bool → Bool → Bool → Option ℤ → Bool → Bool → Tree
+table t hexadecimal octal plus empty positive negative signed special decimal =
+    unwrap_or (option_map integer hexadecimal) (unwrap_or (option_map integer octal) (unwrap_or (option_map integer plus)
+    (unwrap_or (where_true empty null) (unwrap_or (where_true positive (boolean true)) (unwrap_or (where_true negative (boolean false))
+    (unwrap_or (option_map integer signed) (unwrap_or (where_true special (real t)) (unwrap_or (where_true decimal (real t)) (string t)))))))))
+
+pub by_table : (t : List ℕ) {x o p s : Option ℤ} {n y f w d : Bool} → after 16 (codes "0x") t ≡ x → after 8 (codes "0o") t ≡ o
+    → after 10 (codes "+") t ≡ p
+    → is_among null_words t ≡ n → is_among true_words t ≡ y → is_among false_words t ≡ f
+    → signed_number 10 t ≡ s → is_among special_words t ≡ w → is_decimal t ≡ d → typing t ≡ table t x o p n y f s w d
+unfolding typing
+by_table t x o p n y f s w d = λ i. table t (x i) (o i) (p i) (n i) (y i) (f i) (s i) (w i) (d i)
+
+-- a text without a mark that all these words bear is none of them
+pub not_among : (p : List ℕ → Bool) (ws : List (List ℕ)) → list_all p ws ≡ true → (t : List ℕ) → p t ≡ false → is_among ws t ≡ false
+not_among p [] h t e = refl
+not_among p (w ∷ ws) h t e = let same = (bytes_eq-Decides w t).0 in grind (arith, same, not_among p ws)

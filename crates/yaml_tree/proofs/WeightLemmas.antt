@@ -73,8 +73,7 @@ flat_nodes (pair k v ps) = omega (arith, flat_nodes ps)
 
 flat_chain : (ps : Pairs) → items_chain (items_of (flat (pair_list_of ps))) ≡ pairs_chain ps
 flat_chain no_pairs = refl
-flat_chain (pair k v no_pairs) = refl
-flat_chain (pair k v (pair l w ps)) = flat_chain (pair l w ps)
+flat_chain (pair k v ps) = grind (arith, flat_chain ps)
 
 items_again : (ts : Items) → items_of (list_of ts) ≡ ts
 items_again no_items = refl

@@ -1,7 +1,7 @@
 use Rattle.std.specs.Hash as fed
 use Rattle.std.proofs.lemmas.List.Sums.{fold-append}
-use Rattle.yaml_tree.proofs.Common.{ap, arith, drop, flat, fold, length, pairs_feed, pairs_of, pairs_view, sym, tree_feed, view, ◌*◌, ◌++◌, ◌+◌, ◌∙◌}
-use Rattle.yaml_tree.proofs.Fed.{next_pair, no_pair}
+use Rattle.yaml_tree.proofs.Common.{ap, arith, drop, drop_all, flat, fold, length, pairs_feed, pairs_of, pairs_view, sym, tree_feed, view, ◌*◌, ◌++◌, ◌+◌, ◌∙◌}
+use Rattle.yaml_tree.proofs.Fed.{next_pair}
 use Rattle.yaml_tree.proofs.Flattened.{row_length}
 use Rattle.yaml_tree.proofs.feed.+feed.Goals as goal
 
@@ -20,5 +20,7 @@ feed_pairs-loop-i-preserved g t c =
 pub feed_pairs-returns : goal.feed_pairs-returns
 feed_pairs-returns g t c =
     let even = row_length c.pairs.inside.row.items c.args.pairs.now (c.pairs.invariant.hash.even ∙ ap flat c.pairs.view_is) in
-    let none = no_pair c.as_slice-row.result.now c.loop-i.i (omega (arith, c.loop-i-test.false)) (length c.args.pairs.now) (ap length c.as_slice-row.ensures.value ∙ even) in
-    c.write_u8-2.ensures ∙ ap (fold g.H.Hasher.write c.loop-i.state) (sym none) ∙ sym c.loop-i.invariant
+    let none = drop_all (2 * c.loop-i.i) c.as_slice-row.result.now
+    (omega (arith, c.loop-i-test.false, ap length c.as_slice-row.ensures.value, even)) in
+    c.write_u8-2.ensures ∙ ap (λ zs. fold g.H.Hasher.write c.loop-i.state (pairs_feed (pairs_of (pairs_view zs)))) (sym none)
+    ∙ sym c.loop-i.invariant

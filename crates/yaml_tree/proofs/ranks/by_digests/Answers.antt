@@ -1,8 +1,9 @@
-use Rattle.yaml_tree.proofs.Common.{ap, AreDigests, AreRanked, AreRising, arith, digest, digest_at, digest_of_entry, Entry, get_or, insert, joined, key_at, key_of_rank, length, length-map, List, map, pairs_view, place_of_entry, subst, sym, ℕ, ◌+◌, ◌<◌, ◌∙◌, ◌≡◌, ◌≤◌}
-use Rattle.yaml_tree.proofs.Indexed.{digest_mapped, map-insert}
+use Rattle.yaml_tree.proofs.Common.{ap, AreDigests, AreRanked, AreRising, arith, digest, digest_at, digest_of_entry, Entry, get_or, insert, key_at, key_of_rank, length, length-map, List, map, pairs_view, place_of_entry, subst, sym, ℕ, ◌+◌, ◌<◌, ◌∙◌, ◌≡◌, ◌≤◌}
+use Rattle.yaml_tree.proofs.Indexed.{map-insert}
 use Rattle.yaml_tree.proofs.Ranking.{Pairs}
 use Rattle.yaml_tree.proofs.Rows.{ranked_inside, inside_row, ranked_key}
-use Rattle.yaml_tree.proofs.Sorting.{AreSorted, sorted_next, sorted_all, digests_next, entries_sorted}
+use Rattle.yaml_tree.proofs.Digesting.{digested_key, digests_next, entries_rise}
+use Rattle.yaml_tree.proofs.Sorting.{AreSorted, sorted_next}
 use Rattle.yaml_tree.proofs.ranks.by_digests.Goals as goal
 
 pub bounds-row-place : goal.bounds-row-place
@@ -12,7 +13,9 @@ bounds-row-place c =
 
 pub end_of-offset-requires : goal.end_of-offset-requires
 end_of-offset-requires c = record {
-  rising = subst AreRising (sym c.as_slice.ensures.value) (entries_sorted c.loop-rank.entries.items c.args.few.now (pairs_view c.args.row.now) c.loop-rank.rank c.loop-rank.invariant.sorted c.loop-rank.invariant.digested);
+  rising = subst AreRising (sym c.as_slice.ensures.value)
+      (entries_rise c.loop-rank.entries.items
+      (pairs_view c.args.row.now) c.loop-rank.invariant.digested c.loop-rank.invariant.sorted.ascending);
 }
 
 -- the entries with one more
@@ -21,24 +24,17 @@ next : (es fs : List Entry) (rs : List ℕ) (ps : Pairs) (r at : ℕ) (e : Entry
     → ((i : ℕ) → at ≤ i → i < length es → e.digest < digest_at es i) → fs ≡ insert es at e
     → AreSorted (map place_of_entry fs) rs ps (r + 1) × AreDigests (map digest_of_entry fs) (map place_of_entry fs) ps
 next es fs rs ps r at e sorted digested ranked inside its number within before after same = (
-  subst (λ qs. AreSorted qs rs ps (r + 1)) (sym places)
-      (sorted_next (map place_of_entry es) rs ps r at sorted ranked inside (omega (arith, within, length-map es place_of_entry))
-      (λ s h. omega (arith, before s h, of_entry s (omega (arith, h, within)), number))
-      (λ s h g. omega (arith, after s h (omega (arith, g, length-map es place_of_entry)), of_entry s (omega (arith, g, length-map es place_of_entry)), number))),
-  subst (λ ms. AreDigests ms (map place_of_entry fs) ps) (sym digests)
-      (subst (λ qs. AreDigests (insert (map digest_of_entry es) at e.digest) qs ps) (sym (ap (map place_of_entry) same ∙ map-insert place_of_entry es at e))
-      (digests_next (map digest_of_entry es) (map place_of_entry es) ps at e.digest e.place (length-map es digest_of_entry ∙ sym (length-map es place_of_entry)) (omega (arith, within, length-map es place_of_entry)) digested
-      (number ∙ sym (ap (λ p. digest (key_at ps p)) its)))),
+  rw (same, map-insert place_of_entry es at e, its)
+      (sorted_next (map place_of_entry es) rs ps r at sorted ranked inside (omega (arith, within, count))
+      (λ s h. omega (arith, before s h, digested_key es ps digested s (omega (arith, h, within)), number))
+      (λ s h g. omega (arith, after s h (omega (arith, g, count)), digested_key es ps digested s (omega (arith, g, count)), number))),
+  rw (same, map-insert digest_of_entry es at e, map-insert place_of_entry es at e)
+      (digests_next (map digest_of_entry es) (map place_of_entry es) ps at e.digest e.place (length-map es digest_of_entry ∙ sym count)
+      (omega (arith, within, count)) digested (number ∙ sym (ap (λ p. digest (key_at ps p)) its))),
 )
   where
-    places : map place_of_entry fs ≡ insert (map place_of_entry es) at (get_or rs r 0)
-    places = ap (map place_of_entry) same ∙ map-insert place_of_entry es at e ∙ ap (insert (map place_of_entry es) at) its
-
-    digests : map digest_of_entry fs ≡ insert (map digest_of_entry es) at e.digest
-    digests = ap (map digest_of_entry) same ∙ map-insert digest_of_entry es at e
-
-    of_entry : (s : ℕ) → s < length es → digest_at es s ≡ digest (key_of_rank (map place_of_entry es) ps s)
-    of_entry s h = sym (digest_mapped es s) ∙ digested s (omega (arith, h, length-map es digest_of_entry))
+    count : length (map place_of_entry es) ≡ length es
+    count = length-map es place_of_entry
 
 pub loop-rank-preserved : goal.loop-rank-preserved
 loop-rank-preserved c =

@@ -1,4 +1,4 @@
-use Rattle.yaml_tree.proofs.Common.{ap, arith, cases_lt, digest_at, Entry, inl, inr, length, List, number_got, ℕ, ◌-◌, ◌<◌, ◌≡◌, ◌≤◌, ◌⊎◌}
+use Rattle.yaml_tree.proofs.Common.{arith, digest_at, Entry, length, List, number_got, ℕ, ◌-◌, ◌<◌, ◌≤◌}
 use Rattle.yaml_tree.proofs.ranks.end_of.Goals as goal
 
 -- what holds from one on, holds from the one before on if it holds there

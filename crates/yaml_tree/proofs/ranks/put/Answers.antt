@@ -1,4 +1,4 @@
-use Rattle.yaml_tree.proofs.Common.{[], ap, AreDigests, AreRanked, arith, digest, digest_of_entry, digests_in, Entry, insert, joined, length, length-map, map, pairs_view, place_of_entry, places_in, rank_of, rank_within, subst, sym, view, ◌++◌, ◌/◌, ◌∙◌, ◌∷◌, ◌≡◌}
+use Rattle.yaml_tree.proofs.Common.{ap, arith, digest_of_entry, digests_in, Entry, insert, joined, length, length-map, map, pairs_view, place_of_entry, places_in, rank_of, rank_within, view, ◌/◌, ◌∙◌, ◌≡◌}
 use Rattle.yaml_tree.proofs.Flattened.{row_length}
 use Rattle.yaml_tree.proofs.Indexed.{map-insert}
 use Rattle.yaml_tree.proofs.Digesting.{digested_added}
@@ -13,7 +13,7 @@ returns-clause-ranked c =
     let next : Entry = record { digest = c.args.gap.digest; place = length c.args.row.now / 2 } in
     let count : length c.args.row.now / 2 ≡ length (places_in bs) = omega (arith, row_length c.args.row.now ps c.requires.hash.even, c.requires.hash.ranked.counted) in
     let rs = ap (map place_of_entry) (c.in_ok-insert.ensures {u = tt}).ok ∙ map-insert place_of_entry (joined bs) r next ∙ ap (insert (places_in bs) r) count in
-    λ v. subst (λ qs. AreRanked digest qs (ps ++ (view c.args.key.now, v) ∷ [])) (sym rs) (ranked_added (places_in bs) ps r (view c.args.key.now) v c.requires.hash.ranked c.requires.gap)
+    λ v. rw rs (ranked_added (places_in bs) ps r (view c.args.key.now) v c.requires.hash.ranked c.requires.gap)
 
 pub returns-clause-digested : goal.returns-clause-digested
 returns-clause-digested c =
@@ -26,7 +26,7 @@ returns-clause-digested c =
     let count : length c.args.row.now / 2 ≡ length (places_in bs) = omega (arith, row_length c.args.row.now ps c.requires.hash.even, c.requires.hash.ranked.counted) in
     let counted : length (digests_in bs) ≡ length (places_in bs) = omega (arith, length-map (joined bs) digest_of_entry, length-map (joined bs) place_of_entry) in
     let within = rank_within bs c.args.gap.spot.block c.args.gap.spot.offset c.requires.spot.1 in
-    λ v. subst (λ es. AreDigests (map digest_of_entry es) (map place_of_entry es) (ps ++ (k, v) ∷ [])) (sym put)
-    (subst (λ ms. AreDigests ms (map place_of_entry (insert (joined bs) r next)) (ps ++ (k, v) ∷ [])) (sym (map-insert digest_of_entry (joined bs) r next))
-    (subst (λ rs. AreDigests (insert (digests_in bs) r c.args.gap.digest) rs (ps ++ (k, v) ∷ [])) (sym (map-insert place_of_entry (joined bs) r next ∙ ap (insert (places_in bs) r) count))
-    (digested_added (digests_in bs) (places_in bs) ps r c.args.gap.digest k v counted (omega (arith, within, length-map (joined bs) place_of_entry)) c.requires.hash.ranked.counted c.requires.hash.ranked.within c.requires.digested c.requires.digest)))
+    λ v. rw (put, map-insert digest_of_entry (joined bs) r next, map-insert place_of_entry (joined bs) r next, count)
+    (digested_added (digests_in bs) (places_in bs) ps r c.args.gap.digest k v counted
+    (omega (arith, within, length-map (joined bs) place_of_entry))
+    c.requires.hash.ranked.counted c.requires.hash.ranked.within c.requires.digested c.requires.digest)

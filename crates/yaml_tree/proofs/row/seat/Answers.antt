@@ -1,4 +1,4 @@
-use Rattle.yaml_tree.proofs.Common.{[], ap, AreDigests, AreRanked, arith, digests, Err, first_by, IsRank, IsRankGap, length, map, moved_up, Ok, OnErr, pairs_view, places, rank_at, Result, subst, Tree, view, ◌++◌, ◌/◌, ◌∙◌, ◌∷◌, ◌≡◌}
+use Rattle.yaml_tree.proofs.Common.{[], ap, AreDigests, AreRanked, arith, digests, first_by, length, map, moved_up, OnErr, pairs_view, places, rank_at, Result, subst, Tree, view, ◌++◌, ◌/◌, ◌∙◌, ◌∷◌, ◌≡◌}
 use Rattle.yaml_tree.proofs.Flattened.{row_length}
 use Rattle.yaml_tree.proofs.Seating.{is_away, is_ready, is_ready_without}
 use Rattle.yaml_tree.proofs.row.seat.Goals as goal
@@ -12,7 +12,7 @@ move_to_end-requires-clause-all c = grind (arith, row_length)
 pub returns-in-Ok-clause-ready_without : goal.returns-in-Ok-clause-ready_without
 returns-in-Ok-clause-ready_without c =
     let o = c.args.ranks.now.kept in
-    let rank = subst (λ xs. IsRank (view c.args.key.now) (places o) (pairs_view xs) (rank_at o c.in-Ok.spot)) c.as_slice.ensures.value (c.in-Ok.ensures {u = tt}).found in
+    let rank = rw c.as_slice.ensures.value at (c.in-Ok.ensures {u = tt}).found in
     let count : c.len-count.result / 2 ≡ length (places o) =
     omega (arith, c.len-count.ensures, c.args.row.now.ok.0, row_length c.args.row.now.items (pairs_view c.args.row.now.items) c.requires.indexed.hash.even, c.requires.indexed.hash.ranked.counted) in
     is_ready_without c.args.row.now.items o c.move_to_end.new.self.kept (rank_at o c.in-Ok.spot) c.args.key.now c.requires.indexed c.at-place.result rank c.at-place.ensures
@@ -21,13 +21,13 @@ returns-in-Ok-clause-ready_without c =
 pub returns-in_err-reserve-in-Err-clause-away : goal.returns-in_err-reserve-in-Err-clause-away
 returns-in_err-reserve-in-Err-clause-away c =
     let o = c.args.ranks.now.kept in
-    let gap = subst (λ xs. IsRankGap (first_by o) (view c.args.key.now) (places o) (pairs_view xs) (rank_at o c.in-Err.gap.spot)) c.as_slice.ensures.value (c.in-Err.ensures {u = tt}).missing in
+    let gap = rw c.as_slice.ensures.value at (c.in-Err.ensures {u = tt}).missing in
     always c.from_residual.result (is_away c.args.row.now.items o o (rank_at o c.in-Err.gap.spot) c.args.key.now c.requires.indexed gap)
 
 pub returns-in_err-insert-in-Err-clause-away : goal.returns-in_err-insert-in-Err-clause-away
 returns-in_err-insert-in-Err-clause-away c =
     let o = c.args.ranks.now.kept in
-    let gap = subst (λ xs. IsRankGap (first_by o) (view c.args.key.now) (places o) (pairs_view xs) (rank_at o c.in-Err.gap.spot)) c.as_slice.ensures.value (c.in-Err.ensures {u = tt}).missing in
+    let gap = rw c.as_slice.ensures.value at (c.in-Err.ensures {u = tt}).missing in
     always c.from_residual-in_err-insert-in-Err.result (is_away c.args.row.now.items o o (rank_at o c.in-Err.gap.spot) c.args.key.now c.requires.indexed gap)
 
 pub returns-clause-ready : goal.returns-clause-ready
@@ -35,7 +35,7 @@ returns-clause-ready c =
     let o = c.args.ranks.now.kept in
     let n = c.insert.new.self.kept in
     let k = view c.args.key.now in
-    let gap = subst (λ xs. IsRankGap (first_by o) k (places o) (pairs_view xs) (rank_at o c.in-Err.gap.spot)) c.as_slice.ensures.value (c.in-Err.ensures {u = tt}).missing in
+    let gap = rw c.as_slice.ensures.value at (c.in-Err.ensures {u = tt}).missing in
     let same = c.as_slice-in-Err.ensures.value ∙ c.reserve.ensures.items in
     is_ready c.args.row.now.items o n (rank_at o c.in-Err.gap.spot) c.args.key.now c.requires.indexed gap
     (subst (λ xs. (v : Tree) → AreRanked (first_by n) (places n) (pairs_view xs ++ (k, v) ∷ [])) same (c.in_ok-insert-in-Err.ensures {u = tt}).ranked)

@@ -1,4 +1,4 @@
-use Rattle.yaml_tree.proofs.IndexCommon.{[], ap, AreFilled, arith, digest_at, get_or, head_at, IsEdge, joined, length, subst, suc, ◌+◌, ◌-◌, ◌<◌, ◌∙◌, ◌≡◌, ◌≤◌}
+use Rattle.yaml_tree.proofs.IndexCommon.{[], ap, AreFilled, arith, digest_at, get_or, IsEdge, joined, length, subst, suc, ◌+◌, ◌-◌, ◌<◌, ◌∙◌, ◌≡◌, ◌≤◌}
 use Rattle.yaml_tree.proofs.Halving.{digits_rise, digits_shared}
 use Rattle.yaml_tree.proofs.Joining.{edge_first, edge_joined, block_read, filled_beside, filled_counted}
 use Rattle.yaml_tree.proofs.blocks.Blocks.edge.Goals as goal
@@ -8,7 +8,7 @@ returns-in-Some-clause-edge c =
     let bs = c.args.self.now in
     let k = c.edge_of_heads-before.result in
     let filled = subst AreFilled c.self.view_is c.self.invariant.filled in
-    let heads : IsEdge (head_at bs) (length bs) c.args.digest k = subst (λ xs. IsEdge (head_at xs) (length xs) c.args.digest k) (c.as_slice.ensures.value ∙ c.self.view_is) c.edge_of_heads-before.ensures.edge in
+    let heads = rw (c.as_slice.ensures.value, c.self.view_is) at c.edge_of_heads-before.ensures.edge in
     let h = c.in-Some.ensures in
     let next : k ≡ suc c.in-Some.block = omega (arith, h) in
     let read = block_read c.self.inside.blocks.items bs c.in-Some.block _ c.self.view_is (omega (arith, heads.counted)) c.index.ensures in
@@ -19,7 +19,7 @@ pub returns-in-Some-clause-compared : goal.returns-in-Some-clause-compared
 returns-in-Some-clause-compared c =
     let bs = c.args.self.now in
     let k = c.edge_of_heads-before.result in
-    let heads : IsEdge (head_at bs) (length bs) c.args.digest k = subst (λ xs. IsEdge (head_at xs) (length xs) c.args.digest k) (c.as_slice.ensures.value ∙ c.self.view_is) c.edge_of_heads-before.ensures.edge in
+    let heads = rw (c.as_slice.ensures.value, c.self.view_is) at c.edge_of_heads-before.ensures.edge in
     let inside : c.in-Some.block < length bs = omega (arith, c.in-Some.ensures, heads.counted) in
     let read = block_read c.self.inside.blocks.items bs c.in-Some.block _ c.self.view_is inside c.index.ensures in
     let filled = subst AreFilled c.self.view_is c.self.invariant.filled in
@@ -37,7 +37,7 @@ returns-in-None-clause-edge c =
     let bs = c.args.self.now in
     let k = c.edge_of_heads-before.result in
     let filled = subst AreFilled c.self.view_is c.self.invariant.filled in
-    let heads : IsEdge (head_at bs) (length bs) c.args.digest k = subst (λ xs. IsEdge (head_at xs) (length xs) c.args.digest k) (c.as_slice.ensures.value ∙ c.self.view_is) c.edge_of_heads-before.ensures.edge in
+    let heads = rw (c.as_slice.ensures.value, c.self.view_is) at c.edge_of_heads-before.ensures.edge in
     let h = c.in-None.ensures in
     edge_first bs c.args.digest k filled heads (omega (arith, h))
 

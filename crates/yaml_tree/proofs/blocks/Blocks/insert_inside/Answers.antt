@@ -19,8 +19,9 @@ invariant_of-self-2 c =
     let longer = ap length ((c.in_ok-insert.ensures {u = tt}).ok ∙ ap (λ b. insert b s.offset c.args.entry) read) in
     let more = length-insert (get_or xs s.block []) s.offset c.args.entry (omega (arith, c.requires.spot.1, ap (λ bs. length (get_or bs s.block [])) c.self.view_is)) in
     let kept = lent_back c.self.inside.starts.len c.raise.new.starts c.self.inside.starts.items (omega (arith, c.raise.ensures.count, c.as_mut_slice.ensures.len)) in
-    subst (AreCounted (set xs s.block c.insert.new.self)) (sym kept)
-    (counted_inserted xs c.as_mut_slice.result.now c.raise.new.starts s.block (s.block / 16 + 1) _ c.insert.new.self counted refl c.raise.ensures refl inside (omega (arith, longer, more)) (omega (arith, ap (λ ys. length (joined ys)) c.self.view_is, c.requires.fits)))
+    rw kept (counted_inserted xs c.as_mut_slice.result.now c.raise.new.starts s.block
+    (s.block / 16 + 1) _ c.insert.new.self counted refl c.raise.ensures refl inside (omega (arith, longer, more))
+    (omega (arith, ap (λ ys. length (joined ys)) c.self.view_is, c.requires.fits)))
 
 pub returns-clause-ok : goal.returns-clause-ok
 returns-clause-ok c =

@@ -1,5 +1,5 @@
-use Rattle.yaml_tree.proofs.IndexCommon.{ap, AreCounted, arith, entry_moved_up, joined, length, map, map_over_more, set, subst, sym, ◌∙◌, ◌≡◌}
-use Rattle.yaml_tree.proofs.Joining.{all_mapped, lent_back, joined_map}
+use Rattle.yaml_tree.proofs.IndexCommon.{ap, entry_moved_up, joined, length, map, map_over_more, set, sym, ◌∙◌}
+use Rattle.yaml_tree.proofs.Joining.{all_lent, joined_map}
 use Rattle.yaml_tree.proofs.Starting.{counted_map}
 use Rattle.yaml_tree.proofs.blocks.Blocks.move_up.Goals as goal
 
@@ -11,17 +11,19 @@ loop-block-preserved c =
 pub invariant_of-self : goal.invariant_of-self
 invariant_of-self c =
     let xs = c.self.inside.blocks.items in
-    let count : length c.loop-block.block-items ≡ c.self.inside.blocks.len = omega (arith, c.loop-block.auto.block-items, ap length c.deref_mut-block-items.ensures.value, c.self.inside.blocks.ok.0) in
-    let all = all_mapped (map (entry_moved_up c.args.gone c.args.count)) c.loop-block.block-index c.deref_mut-block-items.result.now c.loop-block.block-items c.loop-block-test.false c.loop-block.invariant
-    ∙ ap (map (map (entry_moved_up c.args.gone c.args.count))) c.deref_mut-block-items.ensures.value in
-    subst (λ ys. AreCounted ys c.self.inside.starts.items) (sym (lent_back c.self.inside.blocks.len c.loop-block.block-items xs count ∙ all)) (counted_map (entry_moved_up c.args.gone c.args.count) xs c.self.inside.starts.items c.self.invariant)
+    let all = all_lent (map (entry_moved_up c.args.gone c.args.count)) c.loop-block.block-index c.self.inside.blocks.len xs
+    c.deref_mut-block-items.result.now c.loop-block.block-items
+    c.loop-block.auto.block-items (ap length c.deref_mut-block-items.ensures.value
+    ∙ sym c.self.inside.blocks.ok.0) c.loop-block-test.false c.loop-block.invariant c.deref_mut-block-items.ensures.value in
+    rw all (counted_map (entry_moved_up c.args.gone c.args.count) xs c.self.inside.starts.items c.self.invariant)
 
 pub returns : goal.returns
 returns c =
     let xs = c.self.inside.blocks.items in
-    let count : length c.loop-block.block-items ≡ c.self.inside.blocks.len = omega (arith, c.loop-block.auto.block-items, ap length c.deref_mut-block-items.ensures.value, c.self.inside.blocks.ok.0) in
-    let all = all_mapped (map (entry_moved_up c.args.gone c.args.count)) c.loop-block.block-index c.deref_mut-block-items.result.now c.loop-block.block-items c.loop-block-test.false c.loop-block.invariant
-    ∙ ap (map (map (entry_moved_up c.args.gone c.args.count))) c.deref_mut-block-items.ensures.value in
-    ap joined (lent_back c.self.inside.blocks.len c.loop-block.block-items xs count ∙ all)
+    let all = all_lent (map (entry_moved_up c.args.gone c.args.count)) c.loop-block.block-index c.self.inside.blocks.len xs
+    c.deref_mut-block-items.result.now c.loop-block.block-items
+    c.loop-block.auto.block-items (ap length c.deref_mut-block-items.ensures.value
+    ∙ sym c.self.inside.blocks.ok.0) c.loop-block-test.false c.loop-block.invariant c.deref_mut-block-items.ensures.value in
+    ap joined all
     ∙ joined_map (entry_moved_up c.args.gone c.args.count) xs
     ∙ ap (λ xs. map (entry_moved_up c.args.gone c.args.count) (joined xs)) c.self.view_is

@@ -32,8 +32,9 @@ invariant_of-self c =
     let down = subst (λ ys. AreApart (λ _. 1) (i / 16 + 1) (length ys) c.lower.new.starts ys) same c.lower.ensures in
     let size : length c.lower.new.starts ≡ c.self.inside.starts.len = omega (arith, up.count, down.count, c.as_mut_slice.ensures.len) in
     let kept = lent_back c.self.inside.starts.len c.lower.new.starts _ size in
-    subst (AreCounted c.remove.new.self.items) (sym kept) (subst (λ ys. AreCounted ys c.lower.new.starts) (sym c.remove.ensures.items)
-    (counted_without xs c.as_mut_slice.result.now c.add_blocks.new.starts c.lower.new.starts i (i / 16 + 1) _ _ counted refl up refl down refl inside (omega (arith, c.requires.one, ap (λ ys. length (get_or ys i [])) c.self.view_is))))
+    subst (AreCounted c.remove.new.self.items) (sym kept) (rw c.remove.ensures.items
+    (counted_without xs c.as_mut_slice.result.now c.add_blocks.new.starts c.lower.new.starts i (i / 16 + 1) _ _
+    counted refl up refl down refl inside (omega (arith, c.requires.one, ap (λ ys. length (get_or ys i [])) c.self.view_is))))
 
 pub returns : goal.returns
 returns c =

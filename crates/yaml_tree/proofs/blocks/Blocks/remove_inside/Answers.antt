@@ -21,8 +21,9 @@ invariant_of-self c =
     let shorter = ap length (c.remove.ensures ∙ ap (λ b. remove b s.offset) read) in
     let less = length-remove (get_or xs s.block []) s.offset (omega (arith, c.requires.taken.1, size)) in
     let kept = lent_back c.self.inside.starts.len c.lower.new.starts c.self.inside.starts.items (omega (arith, c.lower.ensures.count, c.as_mut_slice.ensures.len)) in
-    subst (AreCounted (set xs s.block c.remove.new.self)) (sym kept)
-    (counted_removed xs c.as_mut_slice.result.now c.lower.new.starts s.block (s.block / 16 + 1) _ c.remove.new.self counted refl c.lower.ensures refl inside (omega (arith, shorter, less, c.requires.more, size)) (omega (arith, shorter, less)))
+    rw kept (counted_removed xs c.as_mut_slice.result.now c.lower.new.starts s.block
+    (s.block / 16 + 1) _ c.remove.new.self counted refl c.lower.ensures refl inside (omega (arith, shorter, less, c.requires.more, size))
+    (omega (arith, shorter, less)))
 
 pub returns : goal.returns
 returns c =

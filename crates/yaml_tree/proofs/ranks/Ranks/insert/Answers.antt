@@ -1,4 +1,4 @@
-use Rattle.yaml_tree.proofs.Common.{[], ap, AreRanked, Few, first_by, insert, IsRankGap, pairs_view, places, rank_at, subst, sym, view, ◌++◌, ◌∙◌, ◌∷◌}
+use Rattle.yaml_tree.proofs.Common.{ap, insert, pairs_view, places, rank_at, view, ◌∙◌}
 use Rattle.yaml_tree.proofs.Ranking.{gap_none, ranked_added}
 use Rattle.yaml_tree.proofs.ranks.Ranks.insert.Goals as goal
 
@@ -12,7 +12,7 @@ returns-in-Few-clause-ranked c =
     let at = c.args.gap.spot.offset in
     let k = view c.args.key.now in
     let ps = pairs_view c.args.row.now in
-    let ranked = subst (λ o. AreRanked (first_by o) (places o) ps) c.in-Few.is c.requires.indexed.hash.ranked in
-    let gap = subst (λ o. IsRankGap (first_by o) k (places o) ps (rank_at o c.args.gap.spot)) c.in-Few.is c.requires.gap in
+    let ranked = rw c.in-Few.is at c.requires.indexed.hash.ranked in
+    let gap = rw c.in-Few.is at c.requires.gap in
     let rs = c.insert.ensures ∙ ap (insert few at) c.len-place.ensures.count in
-    λ v. subst (λ qs. AreRanked (first_by (Few few)) qs (ps ++ (k, v) ∷ [])) (sym rs) (ranked_added few ps at k v ranked gap)
+    λ v. rw rs (ranked_added few ps at k v ranked gap)

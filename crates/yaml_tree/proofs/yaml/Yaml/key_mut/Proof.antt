@@ -1,9 +1,9 @@
 -- The node lends its pairs, and these lend the value: so the node follows the value.
-use Rattle.yaml_tree.proofs.Common.{chars, Hash, is_hash, IsSome, lookup, Some, string, Tree, true, value_at_text, view, with_text_value, with_value, Yaml}
+use Rattle.yaml_tree.proofs.Common.{chars, Hash, is_hash, IsSome, lookup, Some, string, subst, Tree, true, value_at_text, view, with_text_value, with_value, Yaml}
 use Rattle.yaml_tree.proofs.Walking.{◌≡◌, ◌∙◌, refl, sym, ap, List, [], ◌∷◌, emp, id⊢, ftrue, flft, named, fact, fact_i, tables, ‵, raw, ◌⊛◌, some, later, ◌$◌, ◌∵◌, !, qed, done, move, keep, drop, use0, use1, use2, rewrite, split, join, pick, await, suffices, frame, group, enter, addr, stop, no_more, and_then, returns, alloc_all, pass_all, free_all, look_at, get, through, sets, lands_as, no, yes, follows, follows_then, Is, shows, MutBor, MutRef, mut_vals, mut_Tells, mut_Lawful, plain, shr_slice_vals, nothing, peeks, heard, Str, StrRefOf, str-laws, calls_at, Lasts, lasts, triple_of, framed, Stays, says, stay_dropped, Goes-dropped, Goes-spent_ref, ends_at, proved}
 use Rattle.yaml_tree.specs.contracts.yaml.Yaml.{the_row as node_row}
 use Rattle.yaml_tree.specs.contracts.hash.Hash.{the_row as hash_row}
-use Rattle.yaml_tree.proofs.Lending.{text_in_hash, text_value, text_found}
+use Rattle.yaml_tree.proofs.Lending.{text_in_hash, text_value}
 use Rattle.yaml_tree.specs.contracts.yaml.Yaml.key_mut as f
 use Rattle.yaml_tree.proofs.yaml.Yaml.key_mut.Statement.{statement}
 use Rattle.yaml_tree.proofs.yaml.Yaml.key_mut.Code as code
@@ -42,7 +42,8 @@ key_mut_spec 𝓤 𝓛 𝓜 𝓡 wired =
     -- [the node follows the pairs; the pairs' reference; the token of κ; nothing; the text; the token of κ']
     let G₂ = triple_of 𝓛 text_mut.signature (text_mut.spec 𝓛 𝓜.mem 𝓡.returns) in
     let z₂ : G₂.Ghost = (((κ, (κ', tt)), (q, (q', tt)), tt, (x, (key, tt)), (v ∷ [], (ks, tt))), tt) in
-    use0 𝓛 (raw (fact 𝓤 (IsSome (lookup (string text) x.now)))) (fact_i 𝓤 _ (emp 𝓤) (text_found text node x.now is-hash found)) $
+    use0 𝓛 (raw (fact 𝓤 (IsSome (lookup (string text) x.now))))
+    (fact_i 𝓤 _ (emp 𝓤) (subst IsSome (text_value text node x.now is-hash) found)) $
     nothing ! $ move ! (6 ∷ 0 ∷ []) $ join ! $ move ! (3 ∷ 0 ∷ []) $ join ! $
     nothing ! $ move ! (6 ∷ 0 ∷ []) $ join ! $ move ! (4 ∷ 0 ∷ []) $ join ! $ join ! $ use2 𝓛 (raw (G₂.pre z₂)) (id⊢ 𝓤 _) $
     calls_at ! (framed 𝓤 𝓛.H 𝓜 𝓣) G₂ (text_mut-thm.met 𝓤 𝓛 𝓜 𝓡 (code.calls-yaml_tree::hash::Hash::text_mut 𝓡.env wired)) z₂ (and_then ! (get ! refl) (and_then ! (get ! refl) (no_more !))) (λ w.

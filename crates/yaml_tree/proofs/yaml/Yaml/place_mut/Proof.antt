@@ -1,11 +1,11 @@
 -- The node is shared for the question whether it is a hash. Then it lends its pairs or its items, and these lend the value: so the node follows the value.
-use Rattle.yaml_tree.proofs.Common.{Array, Bool, Hash, integer, is_array, is_hash, IsSome, lookup, pos, slice_get, slice_set, Some, Tree, true, value_at_index, view, with_index_value, with_value, Yaml, ◌<◌, ◌^◌}
+use Rattle.yaml_tree.proofs.Common.{Array, Bool, Hash, integer, is_array, is_hash, IsSome, lookup, pos, slice_get, slice_set, Some, subst, Tree, true, value_at_index, view, with_index_value, with_value, Yaml, ◌<◌, ◌^◌}
 use Rattle.yaml_tree.proofs.Walking.{◌≡◌, ◌∙◌, refl, sym, ap, List, [], ◌∷◌, full_share, emp, id⊢, ftrue, flft, flent, named, w64, Val, ⊑_static, fact, fact_i, tables, ‵, raw, ◌⊛◌, some, later, at_ret, ◌$◌, ◌∵◌, !, qed, done, move, keep, drop, use0, use1, use2, rewrite, split, join, fsplit3, fjoin3, feq_l, feq_i, pick, await, suffices, frame, group, enter, of_opd, addr, stop, no_more, and_then, first, branches, exec, returns, alloc_all, pass_all, free_all, look_at, get, through, sets, lands_as, lands_last, env, open_ref, close_ref, lft_new, lft_end, lent_back, bool, usize, no, yes, follows, follows_then, Is, shows, lends_shr, mem, part_at, bool_Tells, uint_vals, uint_Tells, Bor, MutBor, MutRef, ShrRef, mut_vals, mut_Tells, mut_Lawful, plain, nothing, only, peeks, heard, calls_at, calls_at_last, Lasts, lasts, triple_of, framed, Stays, walk_of, says, stay_dropped, Goes-dropped, Goes-spent_ref, ends_at, proved, after}
 use Rattle.yaml_tree.specs.contracts.yaml.Yaml.{the_row as node_row}
 use Rattle.yaml_tree.specs.contracts.array.Array.{the_row as array_row}
 use Rattle.yaml_tree.specs.contracts.hash.Hash.{the_row as hash_row}
 use Rattle.yaml_tree.proofs.yaml.Yaml.TheLaws.{the_row_laws as node_laws}
-use Rattle.yaml_tree.proofs.Lending.{index_in_array, item_value, item_found, number_fits, number_value, number_found, held, failed}
+use Rattle.yaml_tree.proofs.Lending.{index_in_array, item_value, number_fits, number_value, held, failed}
 use Rattle.yaml_tree.specs.contracts.yaml.Yaml.place_mut as f
 use Rattle.yaml_tree.proofs.yaml.Yaml.place_mut.Statement.{statement}
 use Rattle.yaml_tree.proofs.yaml.Yaml.place_mut.Code as code
@@ -72,7 +72,8 @@ place_mut_spec 𝓤 𝓛 𝓜 𝓡 wired =
     let H₂ = triple_of 𝓛 number_mut.signature (number_mut.spec 𝓛 𝓜.mem 𝓡.returns) in
     let z₂ : H₂.Ghost = (((κ, tt), (q, tt), tt, (x, (i, tt)), (v₁ ∷ [], (is, tt))), tt) in
     let fits = number_fits i node x.now is-hash found in
-    use0 𝓛 (raw (fact 𝓤 (IsSome (lookup (integer (pos i)) x.now)))) (fact_i 𝓤 _ (emp 𝓤) (number_found i node x.now is-hash found)) $
+    use0 𝓛 (raw (fact 𝓤 (IsSome (lookup (integer (pos i)) x.now))))
+    (fact_i 𝓤 _ (emp 𝓤) (subst IsSome (number_value i node x.now is-hash fits) found)) $
     use0 𝓛 (raw (fact 𝓤 (i < 2 ^ 63))) (fact_i 𝓤 _ (emp 𝓤) fits) $ join ! $
     nothing ! $ move ! (7 ∷ 0 ∷ []) $ join ! $ move ! (3 ∷ 0 ∷ []) $ join ! $ nothing ! $ move ! (4 ∷ 0 ∷ []) $ join ! $ join ! $ use2 𝓛 (raw (H₂.pre z₂)) (id⊢ 𝓤 _) $
     calls_at_last ! (framed 𝓤 𝓛.H 𝓜 𝓣) H₂ (number_mut-thm.met 𝓤 𝓛 𝓜 𝓡 (code.calls-yaml_tree::hash::Hash::number_mut 𝓡.env wired)) z₂ (and_then ! (get ! refl) (and_then ! (get ! refl) (no_more !))) (λ w.
@@ -105,7 +106,7 @@ place_mut_spec 𝓤 𝓛 𝓜 𝓡 wired =
     -- [the node follows what it holds; the reference to that; the token of κ; nothing; nothing; the index]
     let H₂ = triple_of 𝓛 item_mut.signature (item_mut.spec 𝓛 𝓜.mem 𝓡.returns) in
     let z₂ : H₂.Ghost = (((κ, tt), (q, tt), tt, (x, (i, tt)), (v₁ ∷ [], (is, tt))), tt) in
-    use0 𝓛 (raw (fact 𝓤 (IsSome (slice_get x.now i)))) (fact_i 𝓤 _ (emp 𝓤) (item_found i node x.now is-array found)) $
+    use0 𝓛 (raw (fact 𝓤 (IsSome (slice_get x.now i)))) (fact_i 𝓤 _ (emp 𝓤) (subst IsSome (item_value i node x.now is-array) found)) $
     nothing ! $ move ! (7 ∷ 0 ∷ []) $ join ! $ move ! (3 ∷ 0 ∷ []) $ join ! $ nothing ! $ move ! (4 ∷ 0 ∷ []) $ join ! $ join ! $ use2 𝓛 (raw (H₂.pre z₂)) (id⊢ 𝓤 _) $
     calls_at_last ! (framed 𝓤 𝓛.H 𝓜 𝓣) H₂ (item_mut-thm.met 𝓤 𝓛 𝓜 𝓡 (code.calls-yaml_tree::array::Array::item_mut 𝓡.env wired)) z₂ (and_then ! (get ! refl) (and_then ! (get ! refl) (no_more !))) (λ w.
     let Put : Yaml → List Tree = λ n. slice_set x.now i (view n) in
