@@ -26,6 +26,10 @@ pub record Members (X : Type 0) : Type 1 where
   pub none_fit : AreFit []
   pub more_fit : (x : X) (xs : List X) → IsFit x → AreFit xs → AreFit (x ∷ xs)
 
+-- of a list that begins with one
+pub fit_from : {X : Type 0} (m : Members X) {xs rest : List X} {x : X} → xs ≡ x ∷ rest → m.IsFit x → m.AreFit rest → m.AreFit xs
+fit_from m {rest = rest} {x} e f fs = subst m.AreFit (sym e) (m.more_fit x rest f fs)
+
 -- the members that are left decide for all
 pub record Decide {X : Type 0} (m : Members X) (all rest : List X) : Type 0 where
   pub no_deeper : m.depth rest ≤ m.depth all
@@ -36,9 +40,9 @@ module _ {X : Type 0} (m : Members X) {all : List X} where
   all_decide e = subst (λ xs. Decide m all xs) (sym e) (record { no_deeper = omega arith; fit = λ f. f })
 
   pub rest_decides : {xs rest : List X} {x : X} → Decide m all xs → xs ≡ x ∷ rest → m.IsFit x → Decide m all rest
-  rest_decides {xs} {rest} {x} d e f = record {
+  rest_decides d e f = record {
     no_deeper = omega (arith, rest_within m.deepest e, d.no_deeper);
-    fit = λ fs. d.fit (subst m.AreFit (sym e) (m.more_fit x rest f fs));
+    fit = λ fs. d.fit (fit_from m e f fs);
   }
 
   pub none_decide : {xs : List X} → Decide m all xs → xs ≡ [] → m.AreFit all

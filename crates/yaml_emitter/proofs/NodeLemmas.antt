@@ -1,5 +1,5 @@
 -- How a writer stands after a node.
-use Rattle.yaml_emitter.proofs.Common.{[], after_mark, alias, ap, append-nil, append_assoc, array, bad_value, before_block, before_entry, below, Bool, boolean, box, codes, complex_text, entries_text, false, hash, if◌then◌else◌, integer, is_block, is_scalar, item, item_boxes, item_levels, items_of, joined, levels, List, max, new_line, no_items, no_pairs, not, null, pair, pair_boxes, pair_levels, pair_text, pairs_of, real, refl, Result, scalar_box, spelling, stacked, string, subst, sym, Tree, true, true≢false, WritesUnless, ℕ, ◌&&◌, ◌++◌, ◌+◌, ◌<◌, ◌∙◌, ◌∷◌, ◌≡◌}
+use Rattle.yaml_emitter.proofs.Common.{[], after_mark, ap, append-nil, append_assoc, array, before_block, before_entry, below, Bool, box, codes, complex_text, entries_text, false, hash, if◌then◌else◌, is_block, is_scalar, item, item_boxes, item_levels, items_of, joined, levels, List, max, new_line, no_items, no_pairs, not, pair, pair_boxes, pair_levels, pair_text, pairs_of, refl, Result, scalar_box, spelling, stacked, subst, sym, Tree, true, true≢false, WritesUnless, ℕ, ◌&&◌, ◌++◌, ◌+◌, ◌<◌, ◌∙◌, ◌∷◌, ◌≡◌}
 use Rattle.defs_tree.specs.DumpText.{dump_text}
 use Rattle.yaml_emitter.proofs.EntryLemmas.{HasLines, lines, box_lines, next_item, next_pair}
 use Rattle.yaml_emitter.proofs.ListLemmas.{Entries}
@@ -8,17 +8,11 @@ use Rattle.yaml_emitter.proofs.WritingLemmas.{writes_as}
 
 -- a scalar, or the short form of an empty array or hash
 pub flat_box : (t : Tree) (c m r : Bool) → is_block t ≡ false → scalar_box m r t ≡ box c m r t
-flat_box (real s) c m r b = refl
-flat_box (integer z) c m r b = refl
-flat_box (string s) c m r b = refl
-flat_box (boolean x) c m r b = refl
 flat_box (array no_items) c m r b = refl
 flat_box (array (item t ts)) c m r b = absurd (true≢false b)
 flat_box (hash no_pairs) c m r b = refl
 flat_box (hash (pair k v ps)) c m r b = absurd (true≢false b)
-flat_box (alias n) c m r b = refl
-flat_box null c m r b = refl
-flat_box bad_value c m r b = refl
+flat_box t c m r b = refl
 
 -- an array or a hash with parts
 pub block_writes : {W E : Type 0} {gives leaves : W → List ℕ → W → Type 0} {w v : W} {r : Result (Unit {0}) E} {text : List ℕ} (c m at_root : Bool) (level : ℕ) (t s : Tree)
@@ -91,13 +85,7 @@ block_after c m lower level mark t e =
 pub root_block : (c m r : Bool) (t : Tree) → is_block t ≡ true → box c m false t ≡ box c m r t
 root_block c m r (array ts) e = refl
 root_block c m r (hash ps) e = refl
-root_block c m r (real s) e = cc
-root_block c m r (integer z) e = cc
-root_block c m r (string s) e = cc
-root_block c m r (boolean x) e = cc
-root_block c m r (alias n) e = cc
-root_block c m r null e = cc
-root_block c m r bad_value e = cc
+root_block c m r t e = cc
 
 -- the document's text, from its root's box
 pub document_text : (c m : Bool) (t : Tree) → codes "---\n" ++ stacked 0 (box c m true t) ≡ dump_text c m t
