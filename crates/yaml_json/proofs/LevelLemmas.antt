@@ -66,10 +66,6 @@ left_within {more = more} rest p q = record {
 }
 
 module _ {W : Type 0} {gives : W → List ℕ → W → Type 0} {i : Option ℕ} {w v : W} {root t : Tree} {first : Bool} {m : ℕ} {ts : List Tree} (h : Stands gives i w root v first m (t ∷ ts)) where
-  -- a call was refused in the parts
-  pub parts_stopped : {leaves : W → List ℕ → W → Type 0} {reason : Type 0} {a : W} → Stopped gives leaves ⊥ v (parts_left first i m t) a → Stopped gives leaves reason w (json_text i 0 root) a
-  parts_stopped q = left_stopped h.left (stopped_early _ (stopped_for (λ b. absurd b) q))
-
   module _ {a : W} {part u : Tree} (s : Stops gives i m v first t a part u) where
     -- what is left from the part on
     from_part : IsLeft gives w (json_text i 0 root) a (json_text i m part ++ levels_left false i m (u ∷ ts))

@@ -14,12 +14,10 @@ pub mod PartLemmas
 pub mod Places
 mod ReadCommon
 pub mod ReadNumberLemmas
-pub mod Results
 pub mod RowLemmas
 pub mod SearchLemmas
 pub mod ShallowLemmas
 pub mod StringLemmas
 pub mod TextLemmas
-pub mod ValueLemmas
 pub mod Whole
 pub mod Words

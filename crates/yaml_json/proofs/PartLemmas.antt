@@ -1,5 +1,5 @@
 -- What was written of a level's parts.
-use Rattle.yaml_json.proofs.Common.{[], ap, ArePartsGiven, arith, array, Bool, closing, Ends, Err, false, flat_text, hash, is_block, IsGiven, IsLeft, json_text, left_after, left_all, left_as, left_none, left_stopped, List, no_items, no_pairs, Ok, OnErr, Option, part_nesting, part_nodes, parts_left, refl, Result, Stopped, stopped_early, stopped_late, Stops, subst, sym, Tree, true, Wrote, ℕ, ◌∙◌, ◌≡◌, ◌≤◌}
+use Rattle.yaml_json.proofs.Common.{[], ap, ArePartsGiven, arith, array, Bool, closing, Ends, false, flat_text, hash, is_block, IsGiven, IsLeft, json_text, left_after, left_as, left_none, left_stopped, List, no_items, no_pairs, OnErr, Option, part_nesting, part_nodes, parts_left, Result, Stopped, stopped_early, stopped_late, Stops, subst, sym, Tree, true, Wrote, ℕ, ◌∙◌, ◌≡◌, ◌≤◌}
 use Rattle.yaml_json.proofs.GivenLemmas.{flat_text_is}
 use Rattle.yaml_json.proofs.LeftLemmas.{IsNext}
 
@@ -17,9 +17,6 @@ pub record Goes {W : Type 0} (gives : W → List ℕ → W → Type 0) (i : Opti
   pub fewer : part_nodes u ≤ part_nodes t
   pub given : ArePartsGiven u → ArePartsGiven t
   pub same : closing u ≡ closing t
-
-pub goes_none : {W : Type 0} (gives : W → List ℕ → W → Type 0) (i : Option ℕ) (m : ℕ) (w : W) (first : Bool) (t : Tree) → Goes gives i m w first t w first t
-goes_none gives i m w first t = record { left = left_all; no_higher = omega arith; fewer = omega arith; given = λ g. g; same = refl }
 
 module _ {W : Type 0} {gives : W → List ℕ → W → Type 0} {i : Option ℕ} {m : ℕ} {w : W} {first : Bool} {t : Tree} {v : W} {now : Bool} {u : Tree} (h : Goes gives i m w first t v now u) where
   module _ {before : List ℕ} {K : Type 0} {part x : Tree} (n : IsNext i m now u before K part x) where

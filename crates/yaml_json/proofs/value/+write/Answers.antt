@@ -1,8 +1,7 @@
 use Rattle.yaml_json.proofs.Common.{all_left, ap, arith, depth, entry_stopped, first_within, is_low, left_after, left_stopped, left_writes, none_decide, none_left, own_no_higher, refl, rest_left, stopped_early, stopped_for, stopped_here, stopped_late, sym, view, writes_as, writes_err, writes_for, writes_late, writes_ok, wrote_then, ◌∙◌}
 use Rattle.yaml_emitter.proofs.ValidLemmas.{unless_ok, in_any}
 use Rattle.yaml_json.proofs.GivenLemmas.{flat_given, flat_text_is, given_as, given_hash}
-use Rattle.yaml_json.proofs.LeftLemmas.{wide_within, part_inside, part_margin, low_brackets, put_in_brackets, item_entries, member_entries}
-use Rattle.yaml_json.proofs.ValueLemmas.{parts_as}
+use Rattle.yaml_json.proofs.LeftLemmas.{parts_as, wide_within, part_inside, part_margin, low_brackets, put_in_brackets, item_entries, member_entries}
 use Rattle.yaml_json.proofs.value.+write.Goals as goal
 
 -- ---- nests
