@@ -1,6 +1,8 @@
--- Tests that only ASCII characters pass, by bytes and by characters.
-use Rattle.yaml_emitter.proofs.Common.{[], All-from_get_or, and_from, ap, append-nil, arith, Bool, cases_order, chars, cond, encode_ascii, encode_utf8, encode_utf8_all, encodes-chars, false, get_or, inl, inr, inside_one, IsCharBoundary, IsCharBoundary-before_ascii, IsCharBoundary-end, IsUtf8, length, List, list_all, list_any, list_any-append, list_any_none, nat_lt, nat_tests, not, or-false, prefix_len, prefix_len-le-length, prefix_len_stops, refl, subst, sym, take, take_while-cons, true, ℕ, ◌&&◌, ◌<◌, ◌||◌, ◌∙◌, ◌∷◌, ◌≡◌, ◌≤◌}
+-- Tests of bytes and of characters, and sets of bytes.
+use Rattle.yaml_emitter.proofs.Common.{[], All-from_get_or, and_from, ap, append-nil, arith, Bool, cases_order, chars, cond, each_upto, encode_ascii, encode_utf8, encode_utf8_all, encodes-chars, false, get_or, has_bit, inl, inr, inside_one, is_ascii_lowercase, is_escaped, is_unfit_for_plain, IsCharBoundary, IsCharBoundary-before_ascii, IsCharBoundary-end, IsUtf8, length, List, list_all, list_any, list_any-append, list_any_none, nat_lt, nat_tests, not, or-false, prefix_len, prefix_len-le-length, prefix_len_stops, refl, same, same_is, subst, sym, take, take_while-cons, true, ℕ, ◌&&◌, ◌<◌, ◌||◌, ◌∙◌, ◌∷◌, ◌≡◌, ◌≤◌}
+use Rattle.yaml_emitter.specs.declared.runs.Bits.{Bits}
 
+-- tests that only ASCII characters pass
 module _ (p : ℕ → Bool) (low : (c : ℕ) → 128 ≤ c → p c ≡ false) where
   byte_fails : (c : ℕ) → 128 ≤ c → (k : ℕ) → k < length (encode_utf8 c) → p (get_or (encode_utf8 c) k 0) ≡ false
   byte_fails c h k lt = by (get_or (encode_utf8 c) k 0) (λ l. inside_one c [] (encode_utf8 c) k (sym (append-nil (encode_utf8 c))) lt l)
@@ -58,3 +60,18 @@ run_boundary p low bs =
       | inr (inl l) ↦ IsCharBoundary-before_ascii bs (prefix_len p bs) l (low _ (prefix_len_stops p bs 0 l))
       | inr (inr g) ↦ absurd (omega (arith, prefix_len-le-length p bs))
     ]
+
+-- ---- sets that are held as bits
+
+abbrev pub escaped_set : Bits
+escaped_set = record { low = 21474836479; high = 9223372037123211264 }
+
+pub escaped_bits : (b : ℕ) → b < 256 → (not (is_ascii_lowercase b) && has_bit escaped_set b) ≡ is_escaped b
+escaped_bits b lt = same_is _ _ (each_upto (λ x. same (not (is_ascii_lowercase x) && has_bit escaped_set x) (is_escaped x)) 256 tt b lt)
+
+abbrev pub unfit_set : Bits
+unfit_set = record { low = 288248573793920639; high = 2882303766751608832 }
+
+pub unfit_bits : (b : ℕ) → b < 256 → (not (is_ascii_lowercase b) && has_bit unfit_set b) ≡ is_unfit_for_plain b
+unfolding is_unfit_for_plain
+unfit_bits b lt = same_is _ _ (each_upto (λ x. same (not (is_ascii_lowercase x) && has_bit unfit_set x) (is_unfit_for_plain x)) 256 tt b lt)

@@ -5,7 +5,7 @@ use Rattle.yaml_emitter.specs.declared.deep.Rest.{Rest}
 use Rattle.yaml_emitter.specs.declared.node.Mark.TheVariants.{Dash}
 use Rattle.yaml_emitter.proofs.EntryLemmas.{next_item, next_pair}
 use Rattle.yaml_emitter.proofs.ListLemmas.{Entries}
-use Rattle.yaml_emitter.proofs.WritingLemmas.{left_all, left_as, left_after, left_stopped, stopped_early, stopped_for, wrote_then}
+use Rattle.yaml_emitter.proofs.WritingLemmas.{left_all, left_as, left_after, left_stopped, left_then, not_both, stopped_early, stopped_for}
 
 -- ---- texts, the first part apart
 
@@ -33,26 +33,15 @@ module _ {W : Type 0} {gives : W → List ℕ → W → Type 0} {w : W} (c m fir
 
 -- ---- how a function goes on
 
--- what is left of what was left
-pub left_then : {W : Type 0} {gives : W → List ℕ → W → Type 0} {w v u : W} {text a b : List ℕ} → IsLeft gives w text v a → IsLeft gives v a u b → IsLeft gives w text u b
-left_then {b = b} p q = record {
-  written = p.written ++ q.written;
-  wrote = wrote_then p.wrote q.wrote;
-  whole = append_assoc p.written q.written b ∙ ap (λ x. p.written ++ x) q.whole ∙ p.whole;
-}
-
 -- a stop by itself
 pub stopped_there : {W : Type 0} {gives leaves : W → List ℕ → W → Type 0} {w v : W} {text b : List ℕ} → IsLeft gives w text v b → Stopped gives leaves (Unit {0}) w text v
 stopped_there {v = v} {b = b} l = record { written = l.written; rest = b; at = v; wrote = l.wrote; whole = l.whole; end = inr (tt, refl) }
-
-not_both : (r : Result (Unit {0}) Error) → IsOk r → IsErr r → ⊥
-not_both a k e = grind arith
 
 module _ {W : Type 0} {c m : Bool} {gives leaves : W → List ℕ → W → Type 0} {w v : W} {text : List ℕ} {weight : ℕ} {fit : Type 0} {rests : List Rest} {r : Result (Unit {0}) Error} where
   -- it has written a part
   pub goes_ok : IsOk r → IsLeft gives w text v (rests_text c m rests) → rests_weight rests < weight → (AreRestsValid rests → fit)
       → GoesOn c m gives leaves w text weight fit r v rests
-  goes_ok k l h f = record { left = λ _. l; lighter = λ _. h; valid = λ _. f; err = λ e. absurd (not_both r k e) }
+  goes_ok k l h f = record { left = λ _. l; lighter = λ _. h; valid = λ _. f; err = λ e. absurd (not_both r e k) }
 
   -- all that another function writes is written
   pub goes_written : {reason : Type 0} {u : W} {a : List ℕ} → IsLeft gives w text u (a ++ rests_text c m rests) → WritesUnless reason gives leaves u r a v
@@ -67,9 +56,9 @@ module _ {W : Type 0} {c m : Bool} {gives leaves : W → List ℕ → W → Type
   -- it gave up
   pub goes_err : IsErr r → Stopped gives leaves (Unit {0}) w text v → GoesOn c m gives leaves w text weight fit r v rests
   goes_err e s = record {
-    left = λ k. absurd (not_both r k e);
-    lighter = λ k. absurd (not_both r k e);
-    valid = λ k. absurd (not_both r k e);
+    left = λ k. absurd (not_both r e k);
+    lighter = λ k. absurd (not_both r e k);
+    valid = λ k. absurd (not_both r e k);
     err = λ _. s;
   }
 

@@ -73,18 +73,13 @@ last_is bs c lt u some = by (get_or bs (length bs - 1) 0 == c) refl
     low : is_low (c ∷ []) ≡ true
     low = grind (arith, nat_tests)
 
-    is : (a : ℕ) → (a == c) ≡ true → a ≡ c
-    is a e = grind (arith, nat_tests)
-
-    is_not : (a : ℕ) → (a == c) ≡ false → a ≢ c
-    is_not a e f = grind (arith, nat_tests)
-
     by : (b : Bool) → (get_or bs (length bs - 1) 0 == c) ≡ b → b ≡ ends_with nat_eq (chars bs) (c ∷ [])
     by true e =
-        let f = is _ e in
-        ends_so (c ∷ []) bs (take (length bs - 1) bs) low (IsUtf8-take bs (length bs - 1) u (IsCharBoundary-before_ascii bs (length bs - 1) (omega arith) (omega (arith, f))))
-        (last_apart bs some ∙ ap (λ x. take (length bs - 1) bs ++ x ∷ []) f)
-    by false e = ends_otherwise (c ∷ []) bs low u (λ front f. is_not _ e (no_end bs front c f))
+        let f : get_or bs (length bs - 1) 0 ≡ c = grind (arith, nat_tests) in
+        let front = take (length bs - 1) bs in
+        ends_so (c ∷ []) bs front low (IsUtf8-take bs _ u (IsCharBoundary-before_ascii bs _ (omega arith) (omega (arith, f))))
+        (last_apart bs some ∙ ap (λ x. front ++ x ∷ []) f)
+    by false e = ends_otherwise (c ∷ []) bs low u (λ front f. let g = no_end bs front c f in grind (arith, nat_tests))
 
 pub none_last : (bs : List ℕ) (c : ℕ) → length bs < 1 → false ≡ ends_with nat_eq (chars bs) (c ∷ [])
 none_last [] c n = ap (λ x. ends_with nat_eq x (c ∷ [])) (sym chars-nil)

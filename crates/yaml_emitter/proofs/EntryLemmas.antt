@@ -44,11 +44,12 @@ pub data HasLines : List (List ℕ) → Type 0 where
 if_none_lines : (text : List ℕ) (ls : List (List ℕ)) → HasLines (if_none text ls)
 if_none_lines a b = grind (arith, lines)
 
-string_lines : (b : Bool) (l m : List ℕ) (ls : List (List ℕ)) → HasLines (if b then l ∷ ls else m ∷ [])
-string_lines a l m ls = grind (arith, lines)
+if_lines : {a b : List (List ℕ)} (x : Bool) → HasLines a → HasLines b → HasLines (if x then a else b)
+if_lines true h k = h
+if_lines false h k = k
 
 pub box_lines : (compact multiline at_root : Bool) (t : Tree) → HasLines (box compact multiline at_root t)
-box_lines c m r (string s) = string_lines _ _ _ _
+box_lines c m r (string s) = if_lines _ (lines _ _) (lines _ _)
 box_lines c m r (array ts) = if_none_lines (codes "[]") (item_boxes c m ts)
 box_lines c m r (hash ps) = if_none_lines (codes "{}") (pair_boxes c m ps)
 box_lines c m r t = lines _ _
@@ -60,11 +61,7 @@ below_stacked : (n : ℕ) {a : List (List ℕ)} → HasLines a → below n a ≡
 below_stacked n (lines l ls) = refl
 
 placed_lines : (b : Bool) (mark : List ℕ) (t : Tree) {ls : List (List ℕ)} → HasLines ls → HasLines (placed b mark t ls)
-placed_lines b mark t (lines l ls) = string_or (b && is_block t)
-  where
-    string_or : (x : Bool) → HasLines (if x then hung_lower mark (l ∷ ls) else hung mark (l ∷ ls))
-    string_or true = lines mark (indented (l ∷ ls))
-    string_or false = lines (mark ++ 32 ∷ l) (indented ls)
+placed_lines b mark t (lines l ls) = if_lines (b && is_block t) (lines mark (indented (l ∷ ls))) (lines (mark ++ 32 ∷ l) (indented ls))
 
 -- a box hung on a mark
 pub placed_at : (lower : Bool) (mark : List ℕ) (level : ℕ) (t : Tree) {ls : List (List ℕ)} → HasLines ls → stacked level (placed lower mark t ls) ≡ mark ++ after_mark lower level t ls
@@ -93,32 +90,28 @@ next_item c m first level t ts =
 
 -- a pair
 pair_lines : (c m : Bool) (k v : Tree) → HasLines (pair_box c k (box c m false k) v (box c m false v))
-pair_lines c m k v = by (is_scalar k)
+pair_lines c m k v =
+    if_lines (is_scalar k) (placed_lines true (spelling k ++ codes ":") v (box_lines c m false v))
+    (longer _ (placed_lines (not c) (codes "?") k (box_lines c m false k)))
   where
     longer : {a : List (List ℕ)} (b : List (List ℕ)) → HasLines a → HasLines (a ++ b)
     longer b (lines l ls) = lines l (ls ++ b)
 
-    by : (x : Bool) → HasLines (if x then placed true (spelling k ++ codes ":") v (box c m false v)
-        else placed (not c) (codes "?") k (box c m false k) ++ placed (not c) (codes ":") v (box c m false v))
-    by true = placed_lines true (spelling k ++ codes ":") v (box_lines c m false v)
-    by false = longer _ (placed_lines (not c) (codes "?") k (box_lines c m false k))
-
 pair_at : (c m : Bool) (level : ℕ) (k v : Tree) → stacked level (pair_box c k (box c m false k) v (box c m false v)) ≡ pair_text c m level k v
 pair_at c m level k v = by (is_scalar k)
   where
-    K : HasLines (box c m false k)
-    K = box_lines c m false k
-
-    V : HasLines (box c m false v)
-    V = box_lines c m false v
-
     by : (x : Bool) → stacked level (if x then placed true (spelling k ++ codes ":") v (box c m false v)
         else placed (not c) (codes "?") k (box c m false k) ++ placed (not c) (codes ":") v (box c m false v))
         ≡ (if x then spelling k ++ (codes ":" ++ after_mark true level v (box c m false v)) else complex_text c m level k v)
-    by true = placed_at true (spelling k ++ codes ":") level v V ∙ append_assoc (spelling k) (codes ":") (after_mark true level v (box c m false v))
+    by true =
+        placed_at true (spelling k ++ codes ":") level v (box_lines c m false v)
+        ∙ append_assoc (spelling k) (codes ":") (after_mark true level v (box c m false v))
     by false =
-        stacked_append level (placed (not c) (codes ":") v (box c m false v)) (placed_lines (not c) (codes "?") k K)
-        ∙ (λ i. placed_at (not c) (codes "?") level k K i ++ (below_stacked level (placed_lines (not c) (codes ":") v V) ∙ ap (λ t. new_line level ++ t) (placed_at (not c) (codes ":") level v V)) i)
+        let key = box_lines c m false k in
+        let value = box_lines c m false v in
+        stacked_append level (placed (not c) (codes ":") v (box c m false v)) (placed_lines (not c) (codes "?") k key)
+        ∙ (λ i. placed_at (not c) (codes "?") level k key i ++ (below_stacked level (placed_lines (not c) (codes ":") v value)
+        ∙ ap (λ t. new_line level ++ t) (placed_at (not c) (codes ":") level v value)) i)
 
 pub next_pair : (c m first : Bool) (level : ℕ) (k v : Tree) (ps : Pairs)
     → entries_text first level (pair_boxes c m (pair k v ps))

@@ -1,5 +1,5 @@
 -- The tests of literal blocks.
-use Rattle.yaml_emitter.proofs.Common.{[], and_parts, ap, append-nil, append_assoc, arith, begins_as_marker, begins_blank, begins_well, begins_with, begins_with_mark, below, Bool, bytes_eq, bytes_eq-Decides, chars, chars-append, chars-nil, chars_past_char, codes, drop, drop-append_seam, drop-cons, encode_ascii, encode_utf8, ends_with, eq-eqb, false, first_full_line_is_indented, get_or, has_clear_lines, if◌then◌else◌, is_break, is_empty, is_line_feed, is_literal_character, is_literal_text, is_low, is_root_literal, IsCharBoundary, IsCharBoundary-after_ascii, IsCharBoundary-before_ascii, IsFirstCut, IsUnbroken, IsUtf8, IsUtf8-drop, IsUtf8-from_ascii, IsUtf8-past_char, IsUtf8-take, last_line, length, length-drop, lines_of, List, list_all, list_any, nat_eq, nat_tests, ne_eqb, new_line, NonePass, not, onto_first_line, or-false, prefix_len, prefix_len_stops, refl, subst, suc, sym, take, take-append-drop, take-append_seam, take-length, true, ℕ, ◌&&◌, ◌++◌, ◌<◌, ◌==◌, ◌||◌, ◌∙◌, ◌∷◌, ◌≡◌, ◌≢◌, ◌≤◌}
+use Rattle.yaml_emitter.proofs.Common.{[], and_parts, ap, append-nil, append_assoc, arith, begins_as_marker, begins_blank, begins_well, begins_with, begins_with_mark, below, Bool, bytes_eq, bytes_eq-Decides, chars, chars-append, chars_past_char, codes, drop, drop-append_seam, drop-cons, encode_ascii, encode_utf8, ends_with, eq-eqb, false, first_full_line_is_indented, get_or, has_clear_lines, if◌then◌else◌, is_break, is_empty, is_line_feed, is_literal_character, is_literal_text, is_low, is_root_literal, IsCharBoundary, IsCharBoundary-after_ascii, IsCharBoundary-before_ascii, IsFirstCut, IsUnbroken, IsUtf8, IsUtf8-drop, IsUtf8-from_ascii, IsUtf8-past_char, IsUtf8-take, last_line, length, length-drop, lines_of, List, list_all, list_any, nat_eq, nat_tests, ne_eqb, new_line, NonePass, not, onto_first_line, or-false, prefix_len, prefix_len_stops, refl, subst, suc, sym, take, take-append-drop, take-append_seam, take-length, true, ℕ, ◌&&◌, ◌++◌, ◌<◌, ◌==◌, ◌||◌, ◌∙◌, ◌∷◌, ◌≡◌, ◌≢◌, ◌≤◌}
 use Rattle.yaml_chars.specs.Class as class
 use Rattle.yaml_emitter.proofs.ByteLemmas.{all_pass, all_tested}
 use Rattle.yaml_emitter.proofs.EndLemmas.{begins_otherwise}
@@ -32,10 +32,6 @@ well_first bs rest c u e n = ap begins_well (chars_past_char bs rest c u e) ∙ 
 
 pub well_break : (bs rest : List ℕ) (c : ℕ) → IsUtf8 bs → bs ≡ encode_utf8 c ++ rest → c ≡ 10 → begins_well (chars bs) ≡ begins_well (chars rest)
 well_break bs rest c u e n = ap begins_well (chars_past_char bs rest c u e) ∙ ap (λ b. if b then begins_well (chars rest) else not (c == 32)) (eq-eqb c 10 n)
-
-pub well_none : (bs : List ℕ) → length bs ≡ 0 → begins_well (chars bs) ≡ false
-well_none [] e = ap begins_well chars-nil
-well_none (b ∷ bs) e = absurd (omega arith)
 
 pub last_line_is : (level : ℕ) (bs : List ℕ) (r : Bool) → IsUtf8 bs → (length bs == 0) ≡ r
     → (if r then [] else new_line level ++ chars bs) ≡ last_line level (chars bs)

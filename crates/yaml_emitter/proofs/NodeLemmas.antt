@@ -1,5 +1,6 @@
 -- How a writer stands after a node.
 use Rattle.yaml_emitter.proofs.Common.{[], after_mark, ap, append-nil, append_assoc, array, before_block, before_entry, below, Bool, box, codes, complex_text, entries_text, false, hash, if◌then◌else◌, is_block, is_scalar, item, item_boxes, item_levels, items_of, joined, levels, List, max, new_line, no_items, no_pairs, not, pair, pair_boxes, pair_levels, pair_text, pairs_of, refl, Result, scalar_box, spelling, stacked, subst, sym, Tree, true, true≢false, WritesUnless, ℕ, ◌&&◌, ◌++◌, ◌+◌, ◌<◌, ◌∙◌, ◌∷◌, ◌≡◌}
+use Rattle.std.proofs.Math.Bool.{and-false, and-true}
 use Rattle.defs_tree.specs.DumpText.{dump_text}
 use Rattle.yaml_emitter.proofs.EntryLemmas.{HasLines, lines, box_lines, next_item, next_pair}
 use Rattle.yaml_emitter.proofs.ListLemmas.{Entries}
@@ -65,21 +66,15 @@ pub flat_after : (c m lower : Bool) (level : ℕ) (mark : List ℕ) (t : Tree) �
     → (mark ++ codes " ") ++ stacked (level + 1) (scalar_box m false t) ≡ mark ++ after_mark lower level t (box c m false t)
 flat_after c m lower level mark t e =
     append_assoc mark (codes " ") _
-    ∙ (λ i. mark ++ ((if sym (not_lower lower (is_block t) e) i then new_line (level + 1) else codes " ") ++ stacked (level + 1) (flat_box t c m false e i)))
-  where
-    not_lower : (a b : Bool) → b ≡ false → (a && b) ≡ false
-    not_lower true b e = e
-    not_lower false b e = refl
+    ∙ (λ i. mark ++ ((if sym (ap (λ b. lower && b) e ∙ and-false lower) i then new_line (level + 1) else codes " ")
+    ++ stacked (level + 1) (flat_box t c m false e i)))
 
 pub block_after : (c m lower : Bool) (level : ℕ) (mark : List ℕ) (t : Tree) → is_block t ≡ true
     → (mark ++ before_block lower level) ++ stacked (level + 1) (box c m false t) ≡ mark ++ after_mark lower level t (box c m false t)
 block_after c m lower level mark t e =
     append_assoc mark (before_block lower level) _
-    ∙ ap (λ b. mark ++ ((if b then new_line (level + 1) else codes " ") ++ stacked (level + 1) (box c m false t))) (sym (lower_so lower (is_block t) e))
-  where
-    lower_so : (a b : Bool) → b ≡ true → (a && b) ≡ a
-    lower_so true b e = e
-    lower_so false b e = refl
+    ∙ ap (λ b. mark ++ ((if b then new_line (level + 1) else codes " ") ++ stacked (level + 1) (box c m false t)))
+    (sym (ap (λ b. lower && b) e ∙ and-true lower))
 
 -- a block is written alike at the root
 pub root_block : (c m r : Bool) (t : Tree) → is_block t ≡ true → box c m false t ≡ box c m r t

@@ -1,5 +1,5 @@
 -- The words that are quoted.
-use Rattle.yaml_emitter.proofs.Common.{[], all_upto, ap, arith, begins_plainly, begins_with, bit_or, Bool, bytes_eq-Decides, chars, chars-nil, chars_past_char, codes, cond, each_upto, encode_ascii, encode_utf8_all, encodes-chars, ends_with, false, float_names, has_indicator_first, has_outer_space, if◌then◌else◌, is_empty, is_float_word, is_in, is_name, is_plain_letter, is_plain_small, is_quoted, is_sign, is_string, is_unfit, is_unfit_for_plain, is_word, IsUtf8, length, List, list_any, map, nat_eq, nat_lt, nat_tests, not, refl, reserved_words, same, same_is, subst, suc, sym, T, to_ascii_lowercase, true, typing, ℕ, ◌&&◌, ◌++◌, ◌+◌, ◌<◌, ◌==◌, ◌||◌, ◌∙◌, ◌∷◌, ◌≡◌, ◌≤◌}
+use Rattle.yaml_emitter.proofs.Common.{[], all_upto, ap, arith, begins_plainly, begins_with, bit_or, Bool, bytes_eq-Decides, chars, chars-nil, chars_past_char, codes, each_upto, encode_ascii, encode_utf8_all, encodes-chars, ends_with, false, float_names, has_indicator_first, has_outer_space, if◌then◌else◌, is_empty, is_float_word, is_in, is_name, is_plain_letter, is_plain_small, is_quoted, is_sign, is_string, is_unfit, is_unfit_for_plain, is_word, IsUtf8, length, List, list_any, map, nat_eq, nat_lt, nat_tests, not, refl, reserved_words, same, same_is, subst, suc, sym, T, to_ascii_lowercase, true, true≢false, typing, ℕ, ◌&&◌, ◌++◌, ◌<◌, ◌==◌, ◌||◌, ◌∙◌, ◌∷◌, ◌≡◌, ◌≤◌}
 use Rattle.defs_tree.specs.Grammar.{is_among, followed_by}
 use Rattle.defs_tree.proofs.GrammarLaws.{after_one, Rejects, optional_one-after, followed_by-empty}
 use Rattle.yaml_tree.proofs.FirstByte.{typing_itself}
@@ -10,23 +10,11 @@ use Rattle.yaml_emitter.proofs.TextLemmas.{ascii_low, low_chars}
 
 -- ---- names of numbers
 
-no_name : (c : ℕ) (cs : List ℕ) → is_sign c ≡ true → is_among float_names (c ∷ cs) ≡ false
-no_name c cs e = grind (arith, nat_tests)
-
 rejects : Rejects is_sign (λ t. followed_by (is_among float_names) is_empty t)
-rejects c cs e = followed_by-empty (is_among float_names) (c ∷ cs) ∙ no_name c cs e
-
-letter : (c : ℕ) → nat_lt c 65 ≡ false → is_sign c ≡ false
-letter c e = grind (arith, nat_tests)
-
-higher : (c : ℕ) → nat_lt c 65 ≡ false → nat_lt (c + 32) 65 ≡ false
-higher c e = grind (arith, nat_tests)
-
-lower_high : (c : ℕ) (b : Bool) → nat_lt c 65 ≡ false → nat_lt (cond b (c + 32) c) 65 ≡ false
-lower_high c a e = grind (arith, higher)
+rejects c cs e = followed_by-empty (is_among float_names) (c ∷ cs) ∙ grind (arith, nat_tests)
 
 same_sign : (c : ℕ) → is_sign (to_ascii_lowercase c) ≡ is_sign c
-same_sign c = grind (arith, letter, lower_high)
+same_sign c = grind (arith, nat_tests)
 
 lower_after : (t : List ℕ) → after_one is_sign (map to_ascii_lowercase t) ≡ map to_ascii_lowercase (after_one is_sign t)
 lower_after a = grind (arith, same_sign)
@@ -49,11 +37,8 @@ lower_low : (t : List ℕ) → low (map to_ascii_lowercase t) ≡ low t
 lower_low [] = refl
 lower_low (c ∷ cs) = (λ i. same_low c i && lower_low cs i)
 
-sign_low : (c : ℕ) → is_sign c ≡ true → nat_lt c 128 ≡ true
-sign_low c e = grind (arith, nat_tests)
-
 after_low : (t : List ℕ) → low (after_one is_sign t) ≡ low t
-after_low a = grind (arith, sign_low)
+after_low a = grind (arith, nat_tests)
 
 wide_float : (t : List ℕ) → low t ≡ false → is_float_word t ≡ false
 wide_float t w =
@@ -67,12 +52,9 @@ name_of_bytes bs u = by (low bs) refl
     wide_name : (t : List ℕ) → low t ≡ false → is_name t ≡ false
     wide_name t w = λ i. not_among low reserved_words refl t w i || wide_float t w i
 
-    both : {b : Bool} → b ≡ true → b ≡ false → ⊥
-    both e f = let x : true ≡ false = sym e ∙ f in cc
-
     by : (b : Bool) → low bs ≡ b → is_name bs ≡ is_name (chars bs)
     by true e = ap is_name (sym (low_chars bs e))
-    by false e = wide_name bs e ∙ sym (wide_name (chars bs) (not_true _ (λ h. both (ascii_low bs (low_bytes bs u h)) e)))
+    by false e = wide_name bs e ∙ sym (wide_name (chars bs) (not_true _ (λ h. true≢false (sym (ascii_low bs (low_bytes bs u h)) ∙ e))))
 
 pub word_of_bytes : (bs : List ℕ) → IsUtf8 bs → (is_name bs || not (is_string (typing (chars bs)))) ≡ is_word (chars bs)
 word_of_bytes bs u = ap (λ b. b || not (is_string (typing (chars bs)))) (name_of_bytes bs u)
@@ -90,12 +72,9 @@ pub empty_text : (bs : List ℕ) → IsUtf8 bs → (length bs == 0) ≡ is_empty
 empty_text [] u = ap is_empty (sym chars-nil)
 empty_text (b ∷ bs) u = by (chars (b ∷ bs)) refl
   where
-    some : (n : ℕ) → (suc n == 0) ≡ false
-    some n = grind (arith, nat_tests)
-
     by : (cs : List ℕ) → chars (b ∷ bs) ≡ cs → (suc (length bs) == 0) ≡ is_empty cs
     by [] e = let f : b ∷ bs ≡ [] = sym (encodes-chars (b ∷ bs) u) ∙ ap encode_utf8_all e in cc
-    by (c ∷ cs) e = some (length bs)
+    by (c ∷ cs) e = grind (arith, nat_tests)
 
 pub wide_fits : (c : ℕ) → 128 ≤ c → is_unfit_for_plain c ≡ false
 unfolding is_unfit_for_plain

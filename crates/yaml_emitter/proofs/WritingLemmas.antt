@@ -101,7 +101,7 @@ pub writes_as : {W E : Type 0} {gives leaves : W → List ℕ → W → Type 0} 
     → a ≡ b → WritesUnless reason gives leaves w r a v → WritesUnless reason gives leaves w r b v
 writes_as {gives = gives} {leaves} {reason} {w} {v} {r = r} e = subst (λ t. WritesUnless reason gives leaves w r t v) e
 
-not_both : {E : Type 0} (r : Result (Unit {0}) E) → IsErr r → IsOk r → ⊥
+pub not_both : {E : Type 0} (r : Result (Unit {0}) E) → IsErr r → IsOk r → ⊥
 not_both a e k = grind arith
 
 -- the end of a function that is stopped
@@ -125,6 +125,14 @@ left_as {gives = gives} {w} {v} {text} e = subst (λ t. IsLeft gives w text v t)
 pub left_after : {W : Type 0} {gives : W → List ℕ → W → Type 0} {w v u : W} {text a b : List ℕ}
     → IsLeft gives w text v (a ++ b) → Wrote gives v a u → IsLeft gives w text u b
 left_after {a = a} {b} p q = record { written = p.written ++ a; wrote = wrote_then p.wrote q; whole = append_assoc p.written a b ∙ p.whole }
+
+pub left_then : {W : Type 0} {gives : W → List ℕ → W → Type 0} {w v u : W} {text a b : List ℕ}
+    → IsLeft gives w text v a → IsLeft gives v a u b → IsLeft gives w text u b
+left_then {b = b} p q = record {
+  written = p.written ++ q.written;
+  wrote = wrote_then p.wrote q.wrote;
+  whole = append_assoc p.written q.written b ∙ ap (λ x. p.written ++ x) q.whole ∙ p.whole;
+}
 
 pub left_none : {W : Type 0} {gives : W → List ℕ → W → Type 0} {w v : W} {text : List ℕ} → IsLeft gives w text v [] → Wrote gives w text v
 left_none {gives = gives} {w} {v} p = subst (λ t. Wrote gives w t v) (sym (append-nil p.written) ∙ p.whole) p.wrote
