@@ -1,6 +1,6 @@
 -- What every tree of the library meets, part by part.
 use Rattle.std.specs.Str.{chars}
-use Rattle.yaml_json.proofs.Common.{[], alias, all_scalars, AllHaveJson, and_from, and_parts, are_characters, are_strings, AreGiven, AreMembers, ArePairsGiven, arith, array, bad_value, below, Bool, boolean, false, Fault, first_fault, first_item_fault, first_member_fault, first_of, flat_text, has_other_key, hash, hash_tree, HasJson, here, if◌then◌else◌, index, integer, is_block, is_character, is_json_real, is_no_number, is_string, IsFlatGiven, IsGiven, IsKey, IsKeyGiven, IsScalar, IsUtf8, item, Items, json_text, List, nat_tests, no_items, no_pairs, None, null, OnOk, Option, pair, Pairs, pairs_of, real, refl, Result, scalars-chars, Step, step_of, string, subst, sym, Tree, true, true≢false, ℕ, ◌+◌, ◌∷◌, ◌≡◌}
+use Rattle.yaml_json.proofs.Common.{[], all_scalars, AllHaveJson, and_from, and_parts, are_characters, are_strings, AreGiven, AreMembers, ArePairsGiven, arith, array, below, Bool, boolean, false, Fault, first_fault, first_item_fault, first_member_fault, first_of, flat_text, has_other_key, hash, hash_tree, HasJson, here, if◌then◌else◌, index, integer, is_block, is_character, is_json_real, is_no_number, is_string, IsFlatGiven, IsGiven, IsKey, IsKeyGiven, IsScalar, IsUtf8, item, Items, json_text, List, nat_tests, no_items, no_pairs, None, null, OnOk, Option, pair, Pairs, pairs_of, real, refl, Result, scalars-chars, Step, step_of, string, subst, sym, Tree, true, true≢false, ℕ, ◌+◌, ◌∷◌, ◌≡◌}
 use Rattle.defs_tree.specs.Pairs.{AreDistinct}
 use Rattle.yaml_emitter.proofs.ValidLemmas.{distinct_pairs}
 
@@ -62,9 +62,8 @@ mutual
   has_json (boolean b) e g = tt
   has_json (array ts) e g = items_have 0 ts e g
   has_json (hash ps) e g = let h = keys_have (are_strings ps) (first_member_fault ps) e in (g.0, members_have ps h.0 h.1 g.1)
-  has_json (alias n) e g = cc
   has_json null e g = tt
-  has_json bad_value e g = cc
+  has_json t e g = cc
 
   items_have : (n : ℕ) (ts : Items) → first_item_fault n ts ≡ None → AreGiven ts → AllHaveJson ts
   items_have n no_items e g = tt

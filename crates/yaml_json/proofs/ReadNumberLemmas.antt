@@ -1,13 +1,13 @@
 -- Digits, and the parts of a number.
 use Rattle.std.proofs.Math.Seq.{take-append_seam, drop-append_seam}
-use Rattle.std.proofs.lemmas.Str.Ascii.{IsAscii-nil, IsAscii-cons}
-use Rattle.yaml_json.proofs.ReadCommon.{[], and_from, and_parts, ap, append-nil, append_assoc, ap₂, are_digits, arith, Bool, chars, chars-nil, drop, encode_ascii, encode_utf8, Exponent, exponent, false, Fraction, fraction, get_or, IfSome, if◌then◌else◌, is_ascii, is_ascii_digit, is_exponent, is_fraction, is_number, is_whole, IsAscii, IsCharBoundary, IsCharBoundary-at_seam, IsDigits, IsExponentPart, IsFractionPart, IsMinus, IsNumber, IsNumberPart, IsSign, IsUtf8, IsUtf8-from_ascii, IsUtf8-past_char, IsValue, IsWhole, length, length-append, letter_e, List, list_all, list_all-append, list_all-more, ltb-true, minus, nat_tests, ne_eqb, no_exponent, no_fraction, no_sign, not, Number, Option, plus, refl, Sign, spell_exponent, spell_fraction, spell_minus, spell_number, spell_sign, subst, suc, sym, take, take_all, Tree, true, ℕ, ◌&&◌, ◌++◌, ◌-◌, ◌<◌, ◌==◌, ◌∙◌, ◌∷◌, ◌≡◌, ◌≤◌}
+use Rattle.yaml_json.proofs.ReadCommon.{[], and_from, and_parts, ap, append-nil, append_assoc, ap₂, are_digits, arith, Bool, chars, chars-nil, drop, encode_ascii, encode_utf8, Exponent, exponent, false, Fraction, fraction, get_or, IfSome, if◌then◌else◌, is_ascii, is_ascii_digit, is_exponent, is_fraction, is_number, is_whole, IsCharBoundary, IsCharBoundary-at_seam, IsDigits, IsExponentPart, IsFractionPart, IsMinus, IsNumber, IsNumberPart, IsSign, IsUtf8, IsUtf8-from_ascii, IsUtf8-past_char, IsValue, IsWhole, length, length-append, letter_e, List, list_all, list_all-append, list_all-more, ltb-true, minus, nat_tests, ne_eqb, no_exponent, no_fraction, no_sign, not, Number, Option, plus, refl, Sign, spell_exponent, spell_fraction, spell_minus, spell_number, spell_sign, subst, suc, sym, take, take_all, Tree, true, ℕ, ◌&&◌, ◌++◌, ◌-◌, ◌<◌, ◌==◌, ◌∙◌, ◌∷◌, ◌≡◌, ◌≤◌}
 use Rattle.defs_tree.specs.Typing.{typing}
 use Rattle.defs_tree.proofs.GrammarLaws.{after_all}
 use Rattle.defs_tree.proofs.DecimalReading.{begins_in}
 use Rattle.defs_layout.specs.JsonNumber.{number}
 use Rattle.defs_layout.specs.Json as json
 use Rattle.proof_layouts.proofs.Numbers.{numbers_stand_for_their_trees}
+use Rattle.yaml_emitter.proofs.TextLemmas.{low_at}
 use Rattle.yaml_json.proofs.TextLemmas.{first_byte}
 
 -- digits, or none
@@ -36,9 +36,6 @@ pub rest_of : (t : List ℕ) (c : ℕ) → 1 ≤ length t → get_or t 0 0 ≡ c
 rest_of [] c h e = absurd (omega arith)
 rest_of (x ∷ t) c h e = ap₂ (λ a b. a ∷ b) (sym e) (take_all (suc (length t) - 1) t (omega arith))
 
-pub zero_whole : (t rest : List ℕ) → 48 ∷ rest ≡ t → IsWhole t rest
-zero_whole t rest e = record { digits = 48 ∷ []; is = refl; spelled = e }
-
 pub digits_whole : (t r rest : List ℕ) (c : ℕ) → c ∷ r ≡ t → 49 ≤ c → c ≤ 57 → rest ≡ after_all is_ascii_digit r → IsWhole t rest
 digits_whole t r rest c e low high is =
     let d = run r in
@@ -56,17 +53,8 @@ digits_whole t r rest c e low high is =
 pub some_of : {A : Type 0} (P Q : A → Type 0) (o : Option A) → ((x : A) → P x → Q x) → IfSome o P → IfSome o Q
 some_of P Q a f h = grind arith
 
-pub fraction_from : (t r rest : List ℕ) → 46 ∷ r ≡ t → IsDigits r rest → IsFractionPart t rest
-fraction_from t r rest e d = record { part = fraction d.digits; is = d.are; spelled = ap (λ x. 46 ∷ x) d.spelled ∙ e }
-
-pub no_fraction_from : (t : List ℕ) → IsFractionPart t t
-no_fraction_from t = record { part = no_fraction; is = refl; spelled = refl }
-
 pub exponent_from : (is_capital : Bool) (t r m rest : List ℕ) → letter_e is_capital ∷ r ≡ t → IsSign r m → IsDigits m rest → IsExponentPart t rest
 exponent_from is_capital t r m rest e s d = record { part = exponent is_capital s.sign d.digits; is = d.are; spelled = ap (λ x. letter_e is_capital ∷ spell_sign s.sign x) d.spelled ∙ ap (λ x. letter_e is_capital ∷ x) s.spelled ∙ e }
-
-pub no_exponent_from : (t : List ℕ) → IsExponentPart t t
-no_exponent_from t = record { part = no_exponent; is = refl; spelled = refl }
 
 pub number_from : (t a b c rest : List ℕ) → IsMinus t a → IsWhole a b → IsFractionPart b c → IsExponentPart c rest → IsNumberPart t rest
 number_from t a b c rest m w f e = record {
@@ -165,7 +153,7 @@ number_cut bs after n u p is =
     let whole : s ++ after ≡ bs = sym (spelt.before after) ∙ p.spelled in
     let low = spelt.low in
     let f = low_front s after low (subst IsUtf8 (sym whole) u) in
-    let alone = low_front s [] low (subst IsUtf8 (sym (append-nil s)) (IsUtf8-from_ascii s (low_ascii s low))) in
+    let alone = low_front s [] low (subst IsUtf8 (sym (append-nil s)) (IsUtf8-from_ascii s (low_at s low))) in
     let n_is : n ≡ length s = omega (arith, is, ap length whole, length-append s after) in
     record {
       boundary = subst (IsCharBoundary bs) (sym n_is) (IsCharBoundary-at_seam bs s after (sym whole) f.utf8);
@@ -180,10 +168,6 @@ number_cut bs after n u p is =
             spelled = spelt.before (chars back) ∙ ap (λ x. s ++ chars x) back_is ∙ sym f.chars_are ∙ ap chars whole;
           };
     }
-  where
-    low_ascii : (s : List ℕ) → list_all is_ascii s ≡ true → IsAscii s
-    low_ascii [] h = IsAscii-nil
-    low_ascii (c ∷ s) h = let parts = and_parts (is_ascii c) (list_all is_ascii s) h in IsAscii-cons c s (ltb-true c 128 parts.0) (low_ascii s parts.1)
 
 -- ---- its tree
 

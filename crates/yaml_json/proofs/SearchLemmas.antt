@@ -1,11 +1,10 @@
 -- The search for the first node that has no JSON text.
 use Rattle.std.proofs.lemmas.List.{get_or-map}
-use Rattle.yaml_json.proofs.Common.{[], ap, ArePlain, arith, array, below, drop, false, Fault, fault_in, fault_left, first_fault, first_item_fault, first_member_fault, first_of, get_or, get_or_default, hash, here, index, is_block, IsMet, IsSoundAtRoot, item, Items, items_of, items_view, last_step, left_in, length, Level, List, max, Meets, Names, nesting, no_items, no_pairs, nodes, None, null, Option, pair, paired, Pairs, pairs_of, part_nesting, part_nodes, reason_view, refl, Some, step_in, step_of, subst, suc, sym, Tree, tree_left, true, view, Yaml, ℕ, ◌+◌, ◌-◌, ◌<◌, ◌∙◌, ◌∷◌, ◌≡◌, ◌≤◌}
+use Rattle.yaml_json.proofs.Common.{[], ap, ArePlain, arith, array, below, drop, false, Fault, fault_in, fault_left, first_fault, first_item_fault, first_member_fault, first_of, get_or, get_or_default, hash, index, is_block, IsMet, IsSoundAtRoot, item, Items, items_of, items_view, last_step, left_in, length, Level, List, max, Meets, nesting, no_items, no_pairs, nodes, None, null, Option, pair, paired, Pairs, pairs_of, part_nesting, part_nodes, refl, Some, step_in, step_of, subst, suc, sym, Tree, tree_left, true, view, Yaml, ℕ, ◌+◌, ◌-◌, ◌<◌, ◌∙◌, ◌∷◌, ◌≡◌, ◌≤◌}
 use Rattle.defs_tree.specs.Path as tree_path
 use Rattle.yaml_json.proofs.LeftLemmas.{part_wide}
 use Rattle.yaml_json.proofs.OpenLevels.{trees, reach, weight, part_count}
 use Rattle.yaml_json.proofs.RowLemmas.{item_left, member_left}
-use Rattle.yaml_json.specs.declared.error.JsonError.{JsonError}
 use Rattle.yaml_json.specs.declared.error.Reason.{Reason}
 
 -- ---- one part
@@ -79,14 +78,8 @@ module _ {t u : Tree} {p q : ℕ} (a : Passes t p u q) where
     fewer = omega (arith, a.fewer, b.fewer);
   }
 
-  no_more : fault_left q u ≡ None → part_nesting u ≡ 0 → ArePlain p t
-  no_more f d = (a.fault ∙ f, omega (arith, a.no_deeper, d))
-
-  pub no_more_items : u ≡ array no_items → ArePlain p t
-  no_more_items e = no_more (ap (fault_left q) e) (ap part_nesting e)
-
   pub no_more_members : u ≡ hash no_pairs → ArePlain p t
-  no_more_members e = no_more (ap (fault_left q) e) (ap part_nesting e)
+  no_more_members e = (a.fault ∙ ap (fault_left q) e, omega (arith, a.no_deeper, ap part_nesting e))
 
 -- a node that was met without a reason
 pub has_parts_met : (t : Tree) (o : Option Reason) → ((r : Reason) → o ≡ Some r → ⊥) → IsMet t o → IsMet t None
@@ -104,13 +97,10 @@ members_sound : (ps : Pairs) → IsSoundAtRoot (first_member_fault ps)
 members_sound no_pairs = tt
 members_sound (pair k v ps) = below_sound (step_of k) (first_fault v) (first_member_fault ps) (members_sound ps)
 
-left_sound : (t : Tree) → IsSoundAtRoot (fault_left 0 t)
+pub left_sound : (t : Tree) → IsSoundAtRoot (fault_left 0 t)
 left_sound (array ts) = items_sound 0 ts
 left_sound (hash ps) = members_sound ps
 left_sound t = tt
-
-pub root_sound : (t : Tree) → first_fault t ≡ fault_left 0 t → IsSoundAtRoot (first_fault t)
-root_sound t e = subst IsSoundAtRoot (sym e) (left_sound t)
 
 -- ---- levels
 
@@ -146,10 +136,6 @@ module _ {root : Tree} {os : List Level} {l : Level} {d k : ℕ} (h : Searches r
 
     pub smaller_in : (i : Level) → is_block met ≡ true → tree_left i ≡ met → weight (trees (i ∷ m ∷ os)) < weight (trees (l ∷ os))
     smaller_in i b g = omega (arith, p.fewer, part_count met b, ap part_nodes g)
-
-    -- it has no text
-    pub names_met : (r : Reason) (e : JsonError) → first_fault met ≡ here (reason_view r) → Names (fault_in (m ∷ os) (here (reason_view r))) e → Names (first_fault root) e
-    names_met r e f n = grind (arith, first_of, below)
 
   -- all levels are done
   pub done : os ≡ [] → ArePlain l.passed (tree_left l) → (first_fault root ≡ None) × (nesting root ≤ k + 1) × (k ≤ nesting root)

@@ -1,5 +1,5 @@
 -- Shallow trees, each node of which has a JSON text.
-use Rattle.yaml_json.proofs.Common.{and_parts, ap, are_items_shallow, are_items_whole, are_pairs_whole, are_strings, arith, array, below, Bool, false, Fault, first_fault, first_item_fault, first_member_fault, first_of, has_other_key, hash, here, if◌then◌else◌, index, is_json_real, is_no_number, is_shallow, is_some, is_string, IsOnlyItem, item, item_nesting, Items, max, member_nesting, nat_le, nat_tests, nesting, no_items, no_pairs, None, not, Option, pair, Pairs, real, refl, Some, Step, step_of, suc, sym, Tree, true, ℕ, ◌&&◌, ◌+◌, ◌-◌, ◌<◌, ◌∙◌, ◌≡◌, ◌≢◌}
+use Rattle.yaml_json.proofs.Common.{and_parts, ap, are_items_shallow, are_items_whole, are_pairs_whole, are_strings, arith, array, below, Bool, false, Fault, first_fault, first_item_fault, first_member_fault, first_of, has_other_key, hash, here, if◌then◌else◌, index, is_json_real, is_no_number, is_shallow, is_some, is_string, IsOnlyItem, item, item_nesting, Items, max, member_nesting, nat_le, nat_tests, nesting, no_items, no_pairs, None, not, Option, pair, Pairs, real, refl, Step, step_of, suc, sym, Tree, true, ℕ, ◌&&◌, ◌+◌, ◌-◌, ◌<◌, ◌∙◌, ◌≡◌, ◌≢◌}
 use Rattle.std.proofs.Math.Bool.{and-true}
 use Rattle.yaml_json.specs.Shallow.{is_whole}
 
@@ -9,15 +9,11 @@ real_same : (b : Bool) → b ≡ not (is_some (if b then None else here is_no_nu
 real_same a = grind arith
 
 item_same : (s : Step) (a b : Bool) (o q : Option Fault) → a ≡ not (is_some o) → b ≡ not (is_some q) → (a && b) ≡ not (is_some (first_of (below s o) q))
-item_same s a b None q h k = ap (λ x. x && b) h ∙ k
-item_same s a b (Some f) q h k = ap (λ x. x && b) h
+item_same s a b o q h k = grind arith
 
 pair_same : (s : Step) (k strings a b : Bool) (o q : Option Fault) → a ≡ not (is_some o) → b ≡ (strings && not (is_some q))
     → (k && (a && b)) ≡ ((k && strings) && not (is_some (first_of (below s o) q)))
-pair_same s false strings a b o q h g = refl
-pair_same s true strings a b None q h g = ap (λ x. x && b) h ∙ g
-pair_same s true true a b (Some f) q h g = ap (λ x. x && b) h
-pair_same s true false a b (Some f) q h g = ap (λ x. x && b) h
+pair_same s k strings a b o q h g = grind arith
 
 hash_same : (strings : Bool) (o : Option Fault) → (strings && not (is_some o)) ≡ not (is_some (if strings then o else here has_other_key))
 hash_same a o = grind arith

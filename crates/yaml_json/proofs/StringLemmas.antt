@@ -1,5 +1,5 @@
 -- Strings, escape by escape.
-use Rattle.yaml_json.proofs.ReadCommon.{[], and_from, ap, append-nil, append_assoc, ap₂, are_pieces, arith, chars, chars-append, encode_utf8, four_digits, is_hex_digit, is_piece, is_surrogate, IsCode, IsEscape, IsInside, IsPart, IsRun, IsScalar, IsShort, IsStringEnd, IsUtf8-string_bytes, IsValue, length, letter_of, List, nat_tests, not, quotation_mark, refl, Short, short, String, string_bytes, string_chars, subst, sym, TakesDigit, Tree, true, unicode, ℕ, ◌&&◌, ◌*◌, ◌++◌, ◌+◌, ◌<◌, ◌∙◌, ◌∷◌, ◌≡◌}
+use Rattle.yaml_json.proofs.ReadCommon.{[], and_from, ap, append-nil, append_assoc, ap₂, are_pieces, arith, chars, chars-append, encode_utf8, four_digits, is_piece, is_surrogate, IsCode, IsEscape, IsInside, IsPart, IsRun, IsScalar, IsShort, IsStringEnd, IsUtf8-string_bytes, IsValue, length, letter_of, List, nat_tests, not, quotation_mark, refl, Short, short, String, string_bytes, string_chars, subst, sym, TakesDigit, Tree, true, unicode, ℕ, ◌*◌, ◌++◌, ◌+◌, ◌<◌, ◌∙◌, ◌∷◌, ◌≡◌}
 use Rattle.defs_layout.specs.Json as json
 use Rattle.yaml_chars.proofs.TextLemmas.{string_chars_push}
 
@@ -35,8 +35,7 @@ code_read character v w x y t1 t2 t3 t4 rest a b c d scalar is =
     let code : four_digits a.digit b.digit c.digit d.digit ≡ v * 4096 + w * 256 + x * 16 + y = omega (arith, a.value_is, b.value_is, c.value_is, d.value_is) in
     let text : t1 ≡ a.digit ∷ b.digit ∷ c.digit ∷ d.digit ∷ rest = a.first ∙ ap (λ z. a.digit ∷ z) (b.first ∙ ap (λ z. b.digit ∷ z) (c.first ∙ ap (λ z. c.digit ∷ z) d.first)) in
     let piece : is_piece (unicode a.digit b.digit c.digit d.digit) ≡ true =
-    and_from (((is_hex_digit a.digit && is_hex_digit b.digit) && is_hex_digit c.digit) && is_hex_digit d.digit) (not (is_surrogate (four_digits a.digit b.digit c.digit d.digit)))
-    (and_from ((is_hex_digit a.digit && is_hex_digit b.digit) && is_hex_digit c.digit) (is_hex_digit d.digit) (and_from (is_hex_digit a.digit && is_hex_digit b.digit) (is_hex_digit c.digit) (and_from (is_hex_digit a.digit) (is_hex_digit b.digit) a.is b.is) c.is) d.is)
+    and_from _ _ (and_from _ _ (and_from _ _ (and_from _ _ a.is b.is) c.is) d.is)
     (ap (λ z. not (is_surrogate z)) code ∙ no_surrogate (v * 4096 + w * 256 + x * 16 + y) scalar) in
     record {
       goes_on = λ more end i. record {

@@ -1,5 +1,5 @@
 -- The first character of a text, and runs of characters.
-use Rattle.yaml_json.proofs.ReadCommon.{[], and_from, and_parts, ap, ap₂, are_pieces, arith, Bool, chars, chars-append, chars-nil, chars_past_char, drop, encode_ascii, encode_utf8, encode_utf8_all, encodes-chars, false, get_or, is_unescaped, IsAsciiFirst, IsCharBoundary, IsCharBoundary-after_ascii, IsFirst, IsInside, IsRun, IsUtf8, IsUtf8-past_char, IsUtf8-take, itself, length, length-append, List, list_all, nat_tests, prefix_len, refl, scalars-chars, Skips, stands, subst, suc, sym, take, take-append-drop, true, ℕ, ◌++◌, ◌<◌, ◌==◌, ◌∙◌, ◌∷◌, ◌≡◌, ◌≤◌}
+use Rattle.yaml_json.proofs.ReadCommon.{[], and_from, and_parts, ap, ap₂, are_pieces, arith, Bool, chars, chars-append, chars-nil, chars_past_char, drop, encode_ascii, encode_utf8, encode_utf8_all, encodes-chars, false, get_or, is_unescaped, IsAsciiFirst, IsCharBoundary, IsCharBoundary-after_ascii, IsFirst, IsInside, IsRun, IsUtf8, IsUtf8-past_char, IsUtf8-take, itself, length, length-append, List, list_all, nat_tests, nil_from_length, prefix_len, refl, scalars-chars, Skips, stands, subst, suc, sym, take, take-append-drop, true, ℕ, ◌++◌, ◌<◌, ◌==◌, ◌∙◌, ◌∷◌, ◌≡◌, ◌≤◌}
 use lib.Utf8.{scalar, scalars}
 use Rattle.yaml_emitter.proofs.ByteLemmas.{all_pass, all_tested, run_boundary}
 
@@ -41,14 +41,7 @@ skipped bs back u a e c rest is =
     cc
 
 pub nothing_left : (bs : List ℕ) (b : Bool) → b ≡ (length bs == 0) → b ≡ true → chars bs ≡ []
-nothing_left [] b e h = chars-nil
-nothing_left (x ∷ bs) b e h = absurd (some (length bs) (sym e ∙ h))
-  where
-    some : (n : ℕ) → (suc n == 0) ≡ true → ⊥
-    some n h = grind (arith, nat_tests)
-
-pub ascii_of : (c : ℕ) (text : List ℕ) → (0 < c → c < 128 → IsFirst c text) → 0 < c → c < 128 → IsAsciiFirst text
-ascii_of c text first some low = let f = first some low in record { first = c; rest = f.rest; ascii = low; is = f.is }
+nothing_left bs b e h = let none : length bs ≡ 0 = grind (arith, nat_tests) in ap chars (nil_from_length bs none) ∙ chars-nil
 
 pub took : (c : ℕ) (old new : List ℕ) → (0 < c → c < 128 → IsFirst c old) → 0 < c → c < 128 → Skips old new → old ≡ c ∷ new
 took c old new first some low skips = let f = first some low in f.is ∙ ap (λ x. c ∷ x) (sym (skips c f.rest f.is))
