@@ -1,11 +1,10 @@
 -- What is left to write, part by part.
 use Rattle.std.specs.declared.fmt.Error.{Error}
-use Rattle.yaml_emitter.proofs.Common.{[], ap, append_assoc, AreRestsValid, arith, before_entry, Bool, entries_text, false, GoesOn, inr, IsErr, IsLeft, IsOk, item_boxes, items_of, List, not, pair_boxes, pair_text, pairs_of, refl, rests_text, rests_weight, Result, Stopped, subst, suc, sym, Tree, value_text, WritesUnless, ℕ, ◌++◌, ◌+◌, ◌<◌, ◌∙◌, ◌∷◌, ◌≡◌, ◌≤◌}
+use Rattle.yaml_emitter.proofs.Common.{[], ap, append_assoc, AreRestsValid, arith, before_entry, Bool, entries_text, false, GoesOn, inr, IsErr, IsLeft, IsOk, item_boxes, items_of, left_after, left_all, left_as, left_stopped, left_then, List, not, not_both, pair_boxes, pair_text, pairs_of, refl, rests_text, rests_weight, Result, Stopped, stopped_early, stopped_for, subst, suc, sym, Tree, value_text, WritesUnless, ℕ, ◌++◌, ◌+◌, ◌<◌, ◌∙◌, ◌∷◌, ◌≡◌, ◌≤◌}
 use Rattle.yaml_emitter.specs.declared.deep.Rest.{Rest}
 use Rattle.yaml_emitter.specs.declared.node.Mark.TheVariants.{Dash}
 use Rattle.yaml_emitter.proofs.EntryLemmas.{next_item, next_pair}
 use Rattle.yaml_emitter.proofs.ListLemmas.{Entries}
-use Rattle.yaml_emitter.proofs.WritingLemmas.{left_all, left_as, left_after, left_stopped, left_then, not_both, stopped_early, stopped_for}
 
 -- ---- texts, the first part apart
 

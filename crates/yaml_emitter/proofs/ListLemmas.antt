@@ -1,6 +1,5 @@
 -- A list of nodes or pairs whose members are taken one by one.
-use Rattle.yaml_emitter.proofs.Common.{[], ap, arith, Bool, false, IsLeft, List, max, refl, Stopped, subst, sym, true, Wrote, ℕ, ◌++◌, ◌∙◌, ◌∷◌, ◌≡◌, ◌≤◌}
-use Rattle.yaml_emitter.proofs.WritingLemmas.{left_all, left_as, left_after, left_none, left_stopped, stopped_early}
+use Rattle.yaml_emitter.proofs.Common.{[], ap, arith, Bool, false, IsLeft, left_after, left_all, left_as, left_none, left_stopped, List, max, refl, Stopped, stopped_early, subst, sym, true, Wrote, ℕ, ◌++◌, ◌∙◌, ◌∷◌, ◌≡◌, ◌≤◌}
 
 -- ---- a measure of a list that is the greatest of its members'
 

@@ -1,11 +1,10 @@
 -- How a writer stands after a node.
-use Rattle.yaml_emitter.proofs.Common.{[], after_mark, ap, append-nil, append_assoc, array, before_block, before_entry, below, Bool, box, codes, complex_text, entries_text, false, hash, if◌then◌else◌, is_block, is_scalar, item, item_boxes, item_levels, items_of, joined, levels, List, max, new_line, no_items, no_pairs, not, pair, pair_boxes, pair_levels, pair_text, pairs_of, refl, Result, scalar_box, spelling, stacked, subst, sym, Tree, true, true≢false, WritesUnless, ℕ, ◌&&◌, ◌++◌, ◌+◌, ◌<◌, ◌∙◌, ◌∷◌, ◌≡◌}
+use Rattle.yaml_emitter.proofs.Common.{[], after_mark, ap, append-nil, append_assoc, array, before_block, before_entry, below, Bool, box, codes, complex_text, entries_text, false, hash, if◌then◌else◌, is_block, is_scalar, item, item_boxes, item_levels, items_of, joined, levels, List, max, new_line, no_items, no_pairs, not, pair, pair_boxes, pair_levels, pair_text, pairs_of, refl, Result, scalar_box, spelling, stacked, subst, sym, Tree, true, true≢false, writes_as, WritesUnless, ℕ, ◌&&◌, ◌++◌, ◌+◌, ◌<◌, ◌∙◌, ◌∷◌, ◌≡◌}
 use Rattle.std.proofs.Math.Bool.{and-false, and-true}
 use Rattle.defs_tree.specs.DumpText.{dump_text}
 use Rattle.yaml_emitter.proofs.EntryLemmas.{HasLines, lines, box_lines, next_item, next_pair}
 use Rattle.yaml_emitter.proofs.ListLemmas.{Entries}
 use Rattle.yaml_emitter.proofs.ValidLemmas.{nodes, nodes_in_pairs}
-use Rattle.yaml_emitter.proofs.WritingLemmas.{writes_as}
 
 -- a scalar, or the short form of an empty array or hash
 pub flat_box : (t : Tree) (c m r : Bool) → is_block t ≡ false → scalar_box m r t ≡ box c m r t

@@ -1,5 +1,9 @@
 -- Writes after writes.
-use Rattle.yaml_emitter.proofs.Common.{[], ap, append-nil, append_assoc, arith, concat, concat-append, FoldsTo, inl, inr, IsErr, IsLeft, IsOk, List, refl, Result, Stopped, subst, sym, WritesUnless, Wrote, ℕ, ◌++◌, ◌∙◌, ◌∷◌, ◌≡◌}
+use Rattle.std.proofs.Common.{[], ap, append-nil, append_assoc, arith, inl, inr, List, refl, subst, sym, ℕ, ◌++◌, ◌∙◌, ◌∷◌, ◌≡◌}
+use Rattle.std.proofs.lemmas.List.Folds.{concat-append}
+use Rattle.std.specs.List.{concat, FoldsTo}
+use Rattle.std.specs.Prelude.{IsErr, IsOk, Result}
+use Rattle.yaml_emitter.specs.Writing.{IsLeft, Stopped, WritesUnless, Wrote}
 
 calls_append : {W : Type 0} (gives : W → List ℕ → W → Type 0) (w : W) (xs : List (List ℕ)) (v : W) (ys : List (List ℕ)) (u : W)
     → FoldsTo gives w xs v → FoldsTo gives v ys u → FoldsTo gives w (xs ++ ys) u

@@ -1,9 +1,8 @@
-use Rattle.yaml_emitter.proofs.Common.{ap, arith, before_block, codes, mark_text, refl, rests_text, sym, view, ◌++◌}
+use Rattle.yaml_emitter.proofs.Common.{ap, arith, before_block, codes, left_after, left_all, left_as, mark_text, refl, rests_text, sym, view, ◌++◌}
 use Rattle.yaml_emitter.proofs.DeepLemmas.{goes_ok, goes_written, goes_err, goes_refused, parts_then, stopped_there}
 use Rattle.yaml_emitter.proofs.EntryLemmas.{at_least_one}
 use Rattle.yaml_emitter.proofs.NodeLemmas.{block_after, flat_after}
 use Rattle.yaml_emitter.proofs.ValidLemmas.{flat_valid}
-use Rattle.yaml_emitter.proofs.WritingLemmas.{left_all, left_as, left_after}
 use Rattle.yaml_emitter.proofs.deep.begin_value.Goals as goal
 
 pub returns-then-level-ge-DEEPEST : goal.returns-then-level-ge-DEEPEST

@@ -1,9 +1,8 @@
-use Rattle.yaml_emitter.proofs.Common.{ap, arith, items_nodes, items_of, items_view, nil_from_length, refl}
+use Rattle.yaml_emitter.proofs.Common.{ap, arith, items_nodes, items_of, items_view, left_after, nil_from_length, refl}
 use Rattle.yaml_emitter.proofs.DeepLemmas.{entries_end, item_left, goes_err, goes_late, goes_refused, stopped_there}
 use Rattle.yaml_emitter.proofs.ListLemmas.{fit_from}
 use Rattle.yaml_emitter.proofs.NodeLemmas.{item_entries}
 use Rattle.yaml_emitter.proofs.ValidLemmas.{nodes}
-use Rattle.yaml_emitter.proofs.WritingLemmas.{left_after}
 use Rattle.yaml_emitter.proofs.deep.write_item.Goals as goal
 
 pub returns-in_default : goal.returns-in_default

@@ -1,10 +1,9 @@
-use Rattle.yaml_emitter.proofs.Common.{ap, arith, nil_from_length, pairs_nodes, pairs_of, pairs_view, refl, spelling, sym, value_text, view, ◌∙◌, ◌∷◌}
+use Rattle.yaml_emitter.proofs.Common.{ap, arith, left_after, left_as, nil_from_length, pairs_nodes, pairs_of, pairs_view, refl, spelling, sym, value_text, view, ◌∙◌, ◌∷◌}
 use Rattle.yaml_emitter.proofs.DeepLemmas.{entries_end, pair_left, goes_err, goes_late, goes_refused, parts_then, stopped_there}
 use Rattle.yaml_emitter.specs.declared.node.Mark.TheVariants.{Question}
 use Rattle.yaml_emitter.proofs.ListLemmas.{fit_from}
 use Rattle.yaml_emitter.proofs.NodeLemmas.{pair_entries, scalar_pair, complex_pair}
 use Rattle.yaml_emitter.proofs.ValidLemmas.{nodes_in_pairs}
-use Rattle.yaml_emitter.proofs.WritingLemmas.{left_as, left_after}
 use Rattle.yaml_emitter.proofs.deep.write_pair.Goals as goal
 
 pub returns-in_default : goal.returns-in_default

@@ -1,6 +1,5 @@
-use Rattle.yaml_emitter.proofs.Common.{refl}
+use Rattle.yaml_emitter.proofs.Common.{left_after, left_all, left_as, left_stopped, left_writes, refl, stopped_early, stopped_late, writes_err}
 use Rattle.yaml_emitter.proofs.RunLemmas.{cut_written}
-use Rattle.yaml_emitter.proofs.WritingLemmas.{writes_err, stopped_early, stopped_late, left_all, left_as, left_after, left_stopped, left_writes}
 use Rattle.yaml_emitter.proofs.escape.write_characters.Goals as goal
 
 pub runs-init : goal.runs-init

@@ -1,6 +1,5 @@
-use Rattle.yaml_emitter.proofs.Common.{ap, is_low, refl, ◌*◌, ◌∙◌, ◌∷◌}
+use Rattle.yaml_emitter.proofs.Common.{ap, is_low, refl, stopped_as, stopped_early, writes_as, writes_err, writes_late, ◌*◌, ◌∙◌, ◌∷◌}
 use Rattle.yaml_emitter.proofs.LineLemmas.{low_blanks, twice, of_level}
-use Rattle.yaml_emitter.proofs.WritingLemmas.{writes_as, writes_late, writes_err, stopped_as, stopped_early}
 use Rattle.yaml_emitter.proofs.line.break_line.Goals as goal
 
 pub put_ascii-requires : goal.put_ascii-requires

@@ -1,6 +1,5 @@
-use Rattle.yaml_emitter.proofs.Common.{ap, arith, is_low, refl, sym, ◌∙◌}
+use Rattle.yaml_emitter.proofs.Common.{ap, arith, is_low, left_after, left_all, left_as, left_stopped, left_writes, refl, stopped_early, sym, writes_err, ◌∙◌}
 use Rattle.yaml_emitter.proofs.LineLemmas.{deep_blanks, low_blanks}
-use Rattle.yaml_emitter.proofs.WritingLemmas.{writes_err, stopped_early, left_all, left_as, left_after, left_stopped, left_writes}
 use Rattle.yaml_emitter.proofs.line.put_spaces.Goals as goal
 
 pub left-init : goal.left-init

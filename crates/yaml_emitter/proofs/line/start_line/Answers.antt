@@ -1,5 +1,4 @@
-use Rattle.yaml_emitter.proofs.Common.{ap, arith, is_low, refl, ◌∙◌}
-use Rattle.yaml_emitter.proofs.WritingLemmas.{writes_as, writes_late, writes_err, stopped_as, stopped_early}
+use Rattle.yaml_emitter.proofs.Common.{ap, arith, is_low, refl, stopped_as, stopped_early, writes_as, writes_err, writes_late, ◌∙◌}
 use Rattle.yaml_emitter.proofs.LineLemmas.{deep_line, low_blanks}
 use Rattle.yaml_emitter.proofs.line.start_line.Goals as goal
 

@@ -1,6 +1,5 @@
-use Rattle.yaml_emitter.proofs.Common.{refl}
+use Rattle.yaml_emitter.proofs.Common.{left_after, left_all, left_as, left_stopped, left_writes, refl, stopped_early, writes_err}
 use Rattle.yaml_emitter.proofs.LiteralLemmas.{first_below, line_last}
-use Rattle.yaml_emitter.proofs.WritingLemmas.{writes_err, stopped_early, left_all, left_as, left_after, left_stopped, left_writes}
 use Rattle.yaml_emitter.proofs.literal.write_lines.Goals as goal
 
 pub lines-init : goal.lines-init

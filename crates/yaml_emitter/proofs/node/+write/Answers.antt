@@ -1,9 +1,8 @@
-use Rattle.yaml_emitter.proofs.Common.{ap, arith, depth, mark_text, refl, sym, view, ◌∙◌}
+use Rattle.yaml_emitter.proofs.Common.{ap, arith, depth, mark_text, refl, stopped_early, stopped_for, stopped_late, sym, view, writes_as, writes_err, writes_for, writes_late, writes_ok, wrote_then, ◌∙◌}
 use Rattle.yaml_emitter.proofs.EntryLemmas.{items_text, pairs_text, two_levels}
 use Rattle.yaml_emitter.proofs.ListLemmas.{all_left, rest_left, entry_stopped, none_left, own_no_higher, none_decide, first_within}
 use Rattle.yaml_emitter.proofs.NodeLemmas.{flat_after, block_after, block_writes, item_entries, pair_entries, scalar_pair, complex_pair}
 use Rattle.yaml_emitter.proofs.ValidLemmas.{unless_ok, pair_valid, in_any, flat_valid, valid_as, valid_hash, nodes, nodes_in_pairs}
-use Rattle.yaml_emitter.proofs.WritingLemmas.{wrote_then, writes_late, writes_err, writes_for, writes_as, stopped_early, stopped_late, stopped_for, writes_ok}
 use Rattle.yaml_emitter.proofs.node.+write.Goals as goal
 
 pub write_value-returns-in_err-put_spaced-clause-text : goal.write_value-returns-in_err-put_spaced-clause-text

@@ -1,7 +1,6 @@
-use Rattle.yaml_emitter.proofs.Common.{arith, refl, view}
+use Rattle.yaml_emitter.proofs.Common.{arith, refl, stopped_early, stopped_for, view, writes_as, writes_err, writes_for, writes_late}
 use Rattle.yaml_emitter.proofs.NodeLemmas.{document_text}
 use Rattle.yaml_emitter.proofs.ValidLemmas.{unless_ok}
-use Rattle.yaml_emitter.proofs.WritingLemmas.{writes_late, writes_err, writes_as, writes_for, stopped_early, stopped_for}
 use Rattle.yaml_emitter.proofs.node.write_document.Goals as goal
 
 pub returns-in_err-put_ascii-clause-text : goal.returns-in_err-put_ascii-clause-text

@@ -1,7 +1,6 @@
 use Rattle.std.proofs.lemmas.Fmt.{decimal_digit}
-use Rattle.yaml_emitter.proofs.Common.{[], ap, refl, sym, ◌∙◌, ◌∷◌}
+use Rattle.yaml_emitter.proofs.Common.{[], ap, refl, stopped_as, stopped_early, sym, writes_as, writes_err, writes_late, ◌∙◌, ◌∷◌}
 use Rattle.yaml_emitter.proofs.NumberLemmas.{last_digit}
-use Rattle.yaml_emitter.proofs.WritingLemmas.{writes_late, writes_err, writes_as, stopped_as, stopped_early}
 use Rattle.yaml_emitter.proofs.number.+write_digits.Goals as goal
 
 pub returns-then-number-lt10 : goal.returns-then-number-lt10

@@ -1,6 +1,5 @@
-use Rattle.yaml_emitter.proofs.Common.{refl}
+use Rattle.yaml_emitter.proofs.Common.{refl, stopped_for, writes_err, writes_ok}
 use Rattle.yaml_emitter.proofs.ValidLemmas.{unless_ok, on_err}
-use Rattle.yaml_emitter.proofs.WritingLemmas.{writes_ok, writes_err, stopped_for}
 use Rattle.yaml_emitter.proofs.emitter.YamlEmitter.dump.Goals as goal
 
 pub returns-in_err-write_document-clause-text : goal.returns-in_err-write_document-clause-text
