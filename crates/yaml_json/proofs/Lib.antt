@@ -1,3 +1,4 @@
+pub mod Calls
 pub mod Collections
 mod Common
 pub mod DigitLemmas

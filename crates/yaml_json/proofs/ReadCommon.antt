@@ -1,4 +1,4 @@
--- The words of other crates and of specs/ that the proofs here use, passed on from one place. Declares nothing.
+-- The words of other crates and of specs/ that the proofs on reading use, and what calls give, passed on from one place. Declares nothing.
 pub use Rattle.std.proofs.Common.{[], ap, append-nil, append_assoc, ap₂, arith, Bool, drop, false, get_or, inl, inr, length, length-append, List, max, not, pred, refl, rules, subst, suc, sym, take, true, zero, ℕ, ◌&&◌, ◌*◌, ◌++◌, ◌+◌, ◌-◌, ◌<◌, ◌∙◌, ◌∷◌, ◌≡◌, ◌≤◌, ◌⊎◌}
 pub use Rattle.std.proofs.lemmas.Bool.{and_from, and_parts, cases_order, ltb-true, ne_eqb, true≢false}
 pub use Rattle.std.proofs.lemmas.Bool.Decides.{nat_tests}
@@ -19,6 +19,7 @@ unfoldable pub use Rattle.defs_text.specs.Text.{string_chars}
 pub use Rattle.defs_tree.proofs.GrammarLaws.{list_all-more}
 pub use Rattle.defs_tree.specs.Tree.{item, items_of, Tree}
 pub use Rattle.yaml_chars.proofs.MaskLemmas.{below, either, hit, masked, run_stops, run_through}
+pub use Rattle.yaml_json.proofs.Calls.{not_taken, ok_of, taken, was_ok}
 pub use Rattle.yaml_json.specs.Numbers.{IsDigits, IsExponentPart, IsFractionPart, IsMinus, IsNumberPart, IsSign, IsWhole}
 pub use Rattle.yaml_json.specs.Opened.{Adds, AreOpen, HasValue, IsIn, IsInArray, IsInMember, IsInObject, Puts, PutsItem, PutsLast, PutsMember, tree_in}
 pub use Rattle.yaml_json.specs.Reads.{AreItems, ArePairs, IsAsciiFirst, IsCode, IsEscape, IsFirst, IsGap, IsInside, IsKey, IsNumber, IsPart, IsRun, IsShort, IsStringEnd, IsValue, IsWholeValue, Skips, Takes, TakesDigit, TakesWord}

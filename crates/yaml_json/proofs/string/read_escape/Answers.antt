@@ -1,5 +1,4 @@
-use Rattle.yaml_json.proofs.ReadCommon.{sym, ◌∙◌}
-use Rattle.yaml_json.proofs.Gaps.{not_taken}
+use Rattle.yaml_json.proofs.ReadCommon.{not_taken, sym, ◌∙◌}
 use Rattle.yaml_json.proofs.TextLemmas.{took}
 use Rattle.yaml_json.proofs.StringLemmas.{short_read, short_ascii}
 use Rattle.yaml_json.proofs.string.read_escape.Goals as goal

@@ -1,5 +1,5 @@
-use Rattle.yaml_json.proofs.ReadCommon.{carriage_return, line_feed, space, subst, sym, tab, TabsBeginLines, true, ◌∙◌}
-use Rattle.yaml_json.proofs.Gaps.{blank_taken, taken, not_taken}
+use Rattle.yaml_json.proofs.ReadCommon.{carriage_return, line_feed, not_taken, space, subst, sym, tab, TabsBeginLines, taken, true, ◌∙◌}
+use Rattle.yaml_json.proofs.Gaps.{blank_taken}
 use Rattle.yaml_json.proofs.cursor.Cursor.take_blank.Goals as goal
 
 pub returns-then-take : goal.returns-then-take
