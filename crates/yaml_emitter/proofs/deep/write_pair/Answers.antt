@@ -11,9 +11,6 @@ returns-in_default g c =
     entries_end (pair_entries c.args.settings.now.compact c.args.settings.now.multiline c.args.level) c.args.is_first c.args.outer.now _ refl
     (ap pairs_view (nil_from_length _ c.in_default.ensures.cases))
 
-pub returns-in_default-split_first : goal.returns-in_default-split_first
-returns-in_default-split_first g c = grind (arith, nil_from_length)
-
 pub returns-in_err-begin_entry : goal.returns-in_err-begin_entry
 returns-in_err-begin_entry g c =
     let pairs = ap pairs_view (c.in-Some.ensures.cases.0 ∙ ap (λ ys. c.in-Some.key.now ∷ ys) c.in-Some-split_first.ensures.cases.0) in

@@ -1,9 +1,6 @@
-use Rattle.yaml_emitter.proofs.Common.{ap, arith, is_low, left_after, left_all, left_as, left_stopped, left_writes, refl, stopped_early, sym, writes_err, ◌∙◌}
+use Rattle.yaml_emitter.proofs.Common.{ap, arith, is_low, left_after, left_as, left_stopped, left_writes, refl, stopped_early, sym, writes_err, ◌∙◌}
 use Rattle.yaml_emitter.proofs.LineLemmas.{deep_blanks, low_blanks}
 use Rattle.yaml_emitter.proofs.line.put_spaces.Goals as goal
-
-pub left-init : goal.left-init
-left-init g c = left_all
 
 pub put_ascii-requires : goal.put_ascii-requires
 put_ascii-requires g c = ap is_low c.spaces.ensures ∙ low_blanks 64

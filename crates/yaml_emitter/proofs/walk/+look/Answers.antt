@@ -1,13 +1,7 @@
-use Rattle.yaml_emitter.proofs.Common.{ap, IsValid, subst, sym, view, ◌∙◌}
+use Rattle.yaml_emitter.proofs.Common.{◌∙◌}
 use Rattle.yaml_emitter.proofs.ListLemmas.{all_decide, rest_decides, none_decide}
 use Rattle.yaml_emitter.proofs.ValidLemmas.{nodes, nodes_in_pairs, valid_hash}
 use Rattle.yaml_emitter.proofs.walk.+look.Goals as goal
-
-pub look-returns-in-Array : goal.look-returns-in-Array
-look-returns-in-Array t c = subst IsValid (sym (ap view c.in-Array.is)) c.look_at_items.ensures
-
-pub look-returns-in-Hash : goal.look-returns-in-Hash
-look-returns-in-Hash t c = subst IsValid (sym (ap view c.in-Hash.is)) c.look_at_pairs.ensures
 
 pub look_at_items-items-init : goal.look_at_items-items-init
 look_at_items-items-init t c = all_decide nodes c.into_iter-item-iterator.ensures.into_iter_gives
