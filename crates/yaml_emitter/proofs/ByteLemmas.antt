@@ -48,7 +48,8 @@ pub all_pass : (p : ℕ → Bool) (bs : List ℕ) → list_all p (take (prefix_l
 all_pass p [] = refl
 all_pass p (b ∷ bs) = ap (list_all p) (take_while-cons p b bs) ∙ by (p b) refl (all_pass p bs)
   where
-    by : (x : Bool) → p b ≡ x → list_all p (take (prefix_len p bs) bs) ≡ true → list_all p (cond x (b ∷ take (prefix_len p bs) bs) []) ≡ true
+    by : (x : Bool) → p b ≡ x → list_all p (take (prefix_len p bs) bs) ≡ true
+        → list_all p (cond x (b ∷ take (prefix_len p bs) bs) []) ≡ true
     by true e h = and_from (p b) _ e h
     by false e h = refl
 

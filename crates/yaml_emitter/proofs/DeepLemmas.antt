@@ -80,7 +80,7 @@ module _ {W : Type 0} {c m : Bool} {gives leaves : W → List ℕ → W → Type
 pub entries_end : {X W : Type 0} (s : Entries X) {c m : Bool} {gives leaves : W → List ℕ → W → Type 0} {w : W} {r : Result (Unit {0}) Error}
     (first : Bool) (rs : List Rest) (n : ℕ) {us : List X} → IsOk r → us ≡ []
     → GoesOn c m gives leaves w (s.text first us ++ rests_text c m rs) (suc n + rests_weight rs)
-      (s.members.AreFit us × AreRestsValid rs) r w rs
+    (s.members.AreFit us × AreRestsValid rs) r w rs
 entries_end s {c} {m} first rs n k e =
     goes_ok k (left_as (ap (λ us. s.text first us ++ rests_text c m rs) e ∙ ap (λ x. x ++ rests_text c m rs) (s.none_text first)) left_all)
     (omega arith) (λ v. (subst s.members.AreFit (sym e) s.members.none_fit, v))

@@ -43,8 +43,15 @@ run_cut bs run back c u e f =
     record {
       stands = subst (λ x. IsRun (chars x)) (sym e) (front_run bs u);
       whole = ap chars parts ∙ chars-append run (drop n bs) run_utf8 ∙ ap (λ x. chars run ++ x) (chars_past_char (drop n bs) back c rest_utf8 f);
-      shorter = omega (arith, ap length f, length-append (encode_utf8 c) back, length-encode c, len_utf8_bounds c,
-          ap length parts, length-append run (drop n bs));
+      shorter = omega (
+        arith,
+        ap length f,
+        length-append (encode_utf8 c) back,
+        length-encode c,
+        len_utf8_bounds c,
+        ap length parts,
+        length-append run (drop n bs),
+      );
       utf8 = IsUtf8-past_char (drop n bs) back c rest_utf8 f;
     }
 

@@ -1,12 +1,9 @@
 -- Valid trees, part by part.
-use Rattle.yaml_emitter.proofs.Common.{[], ap, ArePairsValid, AreValid, arith, array, depth, Err, false, hash, hash_tree, is_block, is_scalar, IsErr, IsValid, item, items_depth, items_of, List, max, no_items, no_pairs, Ok, OnErr, OnOk, pair, pair_list_of, pairs_depth, pairs_of, refl, Result, subst, sym, Tree, true, true≢false, ◌∷◌, ◌≡◌}
+use Rattle.yaml_emitter.proofs.Common.{[], ap, ArePairsValid, AreValid, arith, array, depth, false, hash, hash_tree, is_block, is_scalar, IsValid, item, items_depth, items_of, List, max, no_items, no_pairs, OnErr, OnOk, pair, pair_list_of, pairs_depth, pairs_of, refl, Result, subst, sym, Tree, true, true≢false, ◌∷◌, ◌≡◌}
 use Rattle.defs_tree.specs.Pairs.{AreDistinct}
 use Rattle.yaml_emitter.proofs.ListLemmas.{Members}
 
 -- ---- answers
-
-pub unless_ok : {E : Type 0} (P : Type 0) (r : Result (Unit {0}) E) → IsErr r → OnOk r P
-unless_ok P a e = grind arith
 
 pub in_any : {E P : Type 0} (r : Result (Unit {0}) E) → P → OnOk r P
 in_any a p = grind arith
@@ -15,13 +12,6 @@ pub on_err : {E P : Type 0} (r : Result (Unit {0}) E) → P → OnErr r P
 on_err a p = grind arith
 
 -- ---- nodes
-
-pub valid_as : {E : Type 0} (r : Result (Unit {0}) E) (t s : Tree) → t ≡ s → OnOk r (IsValid s) → OnOk r (IsValid t)
-valid_as r t s e p = subst (λ x. OnOk r (IsValid x)) (sym e) p
-
-pub pair_valid : {E : Type 0} (r : Result (Unit {0}) E) (k v : Tree) → IsValid k → OnOk r (IsValid v) → OnOk r (IsValid k × IsValid v)
-pair_valid (Ok x) k v p q = (p, q)
-pair_valid (Err x) k v p q = tt
 
 -- an array or hash with no part, or a scalar
 pub flat_valid : (t : Tree) → is_block t ≡ false → (is_scalar t ≡ true → IsValid t) → IsValid t

@@ -1,8 +1,5 @@
 -- White space, blank by blank.
-use Rattle.yaml_json.proofs.ReadCommon.{[], ap, arith, Blank, blank_character, Bool, Err, false, IfOk, is_err, IsGap, length, List, Ok, OnOk, refl, Result, suc, sym, TabsBeginLines, Takes, true, ℕ, ◌<◌, ◌∙◌, ◌∷◌, ◌≡◌}
-
-pub no_gap : (b : Bool) (text : List ℕ) → IsGap b text text
-no_gap b text = record { gap = []; tabs = tt; spelled = refl }
+use Rattle.yaml_json.proofs.ReadCommon.{ap, arith, Blank, blank_character, Bool, IsGap, length, List, suc, sym, TabsBeginLines, ℕ, ◌<◌, ◌∙◌, ◌∷◌, ◌≡◌}
 
 nearer : (c : ℕ) (old new : List ℕ) → old ≡ c ∷ new → length new < length old
 nearer c old new e = let n : length old ≡ suc (length new) = ap length e in omega (arith, n)

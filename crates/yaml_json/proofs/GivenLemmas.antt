@@ -1,6 +1,6 @@
 -- What every tree of the library meets, part by part.
 use Rattle.std.specs.Str.{chars}
-use Rattle.yaml_json.proofs.Common.{[], all_scalars, AllHaveJson, and_from, and_parts, are_characters, are_strings, AreGiven, AreMembers, ArePairsGiven, arith, array, below, Bool, boolean, false, Fault, first_fault, first_item_fault, first_member_fault, first_of, flat_text, has_other_key, hash, hash_tree, HasJson, here, if◌then◌else◌, index, integer, is_block, is_character, is_json_real, is_no_number, is_string, IsFlatGiven, IsGiven, IsKey, IsKeyGiven, IsScalar, IsUtf8, item, Items, json_text, List, nat_tests, no_items, no_pairs, None, null, OnOk, Option, pair, Pairs, pairs_of, real, refl, Result, scalars-chars, Step, step_of, string, subst, sym, Tree, true, true≢false, ℕ, ◌+◌, ◌∷◌, ◌≡◌}
+use Rattle.yaml_json.proofs.Common.{[], all_scalars, AllHaveJson, and_from, and_parts, are_characters, are_strings, AreGiven, AreMembers, ArePairsGiven, arith, array, below, Bool, boolean, false, Fault, first_fault, first_item_fault, first_member_fault, first_of, flat_text, has_other_key, hash, hash_tree, HasJson, here, if◌then◌else◌, index, integer, is_block, is_character, is_json_real, is_no_number, is_string, IsFlatGiven, IsGiven, IsKey, IsKeyGiven, IsScalar, IsUtf8, item, Items, json_text, List, nat_tests, no_items, no_pairs, None, null, Option, pair, Pairs, pairs_of, real, refl, scalars-chars, Step, step_of, string, Tree, true, true≢false, ℕ, ◌+◌, ◌∷◌, ◌≡◌}
 use Rattle.defs_tree.specs.Pairs.{AreDistinct}
 use Rattle.yaml_emitter.proofs.ValidLemmas.{distinct_pairs}
 
@@ -32,9 +32,6 @@ flat_text_is (array (item t ts)) i m b = absurd (true≢false b)
 flat_text_is (hash no_pairs) i m b = refl
 flat_text_is (hash (pair k v ps)) i m b = absurd (true≢false b)
 flat_text_is t i m b = refl
-
-pub given_as : {E : Type 0} (r : Result (Unit {0}) E) (t s : Tree) → t ≡ s → OnOk r (IsGiven s) → OnOk r (IsGiven t)
-given_as r t s e p = subst (λ x. OnOk r (IsGiven x)) (sym e) p
 
 pub given_hash : (ps : List (Tree × Tree)) → AreDistinct ps → ArePairsGiven (pairs_of ps) → IsGiven (hash_tree ps)
 given_hash ps d v = (distinct_pairs ps d, v)

@@ -32,8 +32,14 @@ number_longer (json.number b w f e) r h =
     let p = and_parts (is_whole w && is_fraction f) (is_exponent e) h in
     let q = and_parts (is_whole w) (is_fraction f) p.0 in
     let behind = spell_fraction f (spell_exponent e r) in
-    omega (arith, some_whole w q.0, front_longer (minus_front b) (w ++ behind), length-append w behind,
-    front_longer (fraction_front f q.1) (spell_exponent e r), front_longer (exponent_front e p.1) r)
+    omega (
+      arith,
+      some_whole w q.0,
+      front_longer (minus_front b) (w ++ behind),
+      length-append w behind,
+      front_longer (fraction_front f q.1) (spell_exponent e r),
+      front_longer (exponent_front e p.1) r,
+    )
 
 pub number_nearer : (text rest : List ℕ) → IsNumberPart text rest → length rest < length text
 number_nearer text rest n = omega (arith, number_longer n.parts rest n.is, ap length n.spelled)

@@ -1,5 +1,5 @@
 -- What was written of a level's parts.
-use Rattle.yaml_json.proofs.Common.{[], ap, ArePartsGiven, arith, Bool, closing, Ends, false, flat_text, hash, is_block, IsGiven, IsLeft, json_text, left_after, left_as, left_none, left_stopped, List, no_pairs, OnErr, Option, part_nesting, part_nodes, parts_left, Result, Stopped, stopped_early, stopped_late, Stops, subst, sym, Tree, true, Wrote, ℕ, ◌∙◌, ◌≡◌, ◌≤◌}
+use Rattle.yaml_json.proofs.Common.{ap, ArePartsGiven, arith, Bool, closing, Ends, false, flat_text, hash, is_block, IsGiven, IsLeft, json_text, left_after, left_as, left_none, left_stopped, List, no_pairs, OnErr, Option, part_nesting, part_nodes, parts_left, Result, Stopped, stopped_early, stopped_late, Stops, subst, sym, Tree, true, Wrote, ℕ, ◌∙◌, ◌≡◌, ◌≤◌}
 use Rattle.yaml_json.proofs.GivenLemmas.{flat_text_is}
 use Rattle.yaml_json.proofs.LeftLemmas.{IsNext}
 
@@ -51,4 +51,5 @@ module _ {W : Type 0} {gives : W → List ℕ → W → Type 0} {i : Option ℕ}
 
   -- no part is left
   pub members_end : u ≡ hash no_pairs → Ends gives i m w first t v
-  members_end e = record { wrote = left_none (left_as (ap (parts_left now i m) e) h.left); given = h.given (subst ArePartsGiven (sym e) tt) }
+  members_end e =
+      record { wrote = left_none (left_as (ap (parts_left now i m) e) h.left); given = h.given (subst ArePartsGiven (sym e) tt) }

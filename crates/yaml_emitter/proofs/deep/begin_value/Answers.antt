@@ -12,7 +12,8 @@ pub returns-in_err-begin_block : goal.returns-in_err-begin_block
 returns-in_err-begin_block g c =
     goes_refused _ c.from_residual.ensures.0
     (left_as (parts_then (mark_text c.args.mark ++ before_block c.args.blocks_lower c.args.level) _ _
-    (block_after _ _ c.args.blocks_lower c.args.level (mark_text c.args.mark) (view c.args.node.now) (sym (c.if-has_parts.ensures {u = tt})))) left_all)
+    (block_after _ _ c.args.blocks_lower c.args.level (mark_text c.args.mark) (view c.args.node.now)
+    (sym (c.if-has_parts.ensures {u = tt})))) left_all)
     (c.in_err-begin_block.ensures.err refl)
 
 pub returns-in_err-push : goal.returns-in_err-push
@@ -20,7 +21,8 @@ returns-in_err-push g c =
     goes_err c.from_residual-in_err-push.ensures.0
     (stopped_there
     (left_after (left_as (parts_then (mark_text c.args.mark ++ before_block c.args.blocks_lower c.args.level) _ _
-    (block_after _ _ c.args.blocks_lower c.args.level (mark_text c.args.mark) (view c.args.node.now) (sym (c.if-has_parts.ensures {u = tt})))) left_all)
+    (block_after _ _ c.args.blocks_lower c.args.level (mark_text c.args.mark) (view c.args.node.now)
+    (sym (c.if-has_parts.ensures {u = tt})))) left_all)
     (c.in_ok-begin_block.ensures.ok refl)))
 
 pub returns-then-has_parts : goal.returns-then-has_parts
@@ -29,7 +31,8 @@ returns-then-has_parts g c =
     (goes_ok refl
     (left_as (ap (λ x. x ++ rests_text c.args.settings.now.compact c.args.settings.now.multiline c.args.outer.now) (c.of.ensures.text _ _))
     (left_after (left_as (parts_then (mark_text c.args.mark ++ before_block c.args.blocks_lower c.args.level) _ _
-    (block_after _ _ c.args.blocks_lower c.args.level (mark_text c.args.mark) (view c.args.node.now) (sym (c.if-has_parts.ensures {u = tt})))) left_all)
+    (block_after _ _ c.args.blocks_lower c.args.level (mark_text c.args.mark) (view c.args.node.now)
+    (sym (c.if-has_parts.ensures {u = tt})))) left_all)
     (c.in_ok-begin_block.ensures.ok refl)))
     (omega (arith, c.of.ensures.weight))
     (λ v. (c.of.ensures.valid v.0, v.1)))
@@ -38,14 +41,16 @@ pub returns-in_err-put_spaced : goal.returns-in_err-put_spaced
 returns-in_err-put_spaced g c =
     goes_refused _ c.from_residual-in_err-put_spaced.ensures.0
     (left_as (parts_then (mark_text c.args.mark ++ codes " ") _ _
-    (flat_after _ _ c.args.blocks_lower c.args.level (mark_text c.args.mark) (view c.args.node.now) (sym (c.if-has_parts.ensures {u = tt})))) left_all)
+    (flat_after _ _ c.args.blocks_lower c.args.level (mark_text c.args.mark) (view c.args.node.now)
+    (sym (c.if-has_parts.ensures {u = tt})))) left_all)
     (c.in_err-put_spaced.ensures.err refl)
 
 pub returns : goal.returns
 returns g c =
     let flat = sym (c.if-has_parts.ensures {u = tt}) in
     goes_written
-    (left_after (left_as (parts_then (mark_text c.args.mark ++ codes " ") _ _ (flat_after _ _ c.args.blocks_lower c.args.level (mark_text c.args.mark) _ flat)) left_all)
+    (left_after (left_as (parts_then (mark_text c.args.mark ++ codes " ") _ _
+    (flat_after _ _ c.args.blocks_lower c.args.level (mark_text c.args.mark) _ flat)) left_all)
     (c.in_ok-put_spaced.ensures.ok refl))
     c.write_scalar.ensures.text
     (omega (arith, (at_least_one (view c.args.node.now)).1))

@@ -7,8 +7,8 @@ use Rattle.yaml_emitter.proofs.deep.write_item.Goals as goal
 
 pub returns-in_default : goal.returns-in_default
 returns-in_default g c =
-    entries_end (item_entries c.args.settings.now.compact c.args.settings.now.multiline c.args.level) c.args.is_first c.args.outer.now _ refl
-    (ap items_view (nil_from_length _ c.in_default.ensures.cases))
+    entries_end (item_entries c.args.settings.now.compact c.args.settings.now.multiline c.args.level)
+    c.args.is_first c.args.outer.now _ refl (ap items_view (nil_from_length _ c.in_default.ensures.cases))
 
 pub returns-in_err-begin_entry : goal.returns-in_err-begin_entry
 returns-in_err-begin_entry g c =

@@ -8,8 +8,8 @@ use Rattle.yaml_emitter.proofs.deep.write_pair.Goals as goal
 
 pub returns-in_default : goal.returns-in_default
 returns-in_default g c =
-    entries_end (pair_entries c.args.settings.now.compact c.args.settings.now.multiline c.args.level) c.args.is_first c.args.outer.now _ refl
-    (ap pairs_view (nil_from_length _ c.in_default.ensures.cases))
+    entries_end (pair_entries c.args.settings.now.compact c.args.settings.now.multiline c.args.level)
+    c.args.is_first c.args.outer.now _ refl (ap pairs_view (nil_from_length _ c.in_default.ensures.cases))
 
 pub returns-in_err-begin_entry : goal.returns-in_err-begin_entry
 returns-in_err-begin_entry g c =
@@ -55,7 +55,8 @@ pub returns : goal.returns
 returns g c =
     let pairs = ap pairs_view (c.in-Some.ensures.cases.0 ∙ ap (λ ys. c.in-Some.key.now ∷ ys) c.in-Some-split_first.ensures.cases.0) in
     goes_late
-    (left_as (parts_then (value_text _ _ c.args.level Question _ _) _ _ (complex_pair _ _ c.args.level _ _ (c.if-is_scalar.ensures {u = tt})))
+    (left_as (parts_then (value_text _ _ c.args.level Question _ _) _ _
+    (complex_pair _ _ c.args.level _ _ (c.if-is_scalar.ensures {u = tt})))
     (left_after (pair_left _ _ c.args.is_first c.args.level _ pairs) (c.in_ok-begin_entry.ensures.ok refl)))
     (omega (arith, ap (λ ps. pairs_nodes (pairs_of ps)) pairs))
     (λ f. (fit_from nodes_in_pairs pairs (f.0, f.1.0) f.1.1.0, f.1.1.1))

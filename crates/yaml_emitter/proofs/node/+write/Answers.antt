@@ -130,8 +130,5 @@ write_complex_pair-returns-clause-text g t c =
 
 -- ---- valid trees
 
-pub write_items-returns-clause-valid : goal.write_items-returns-clause-valid
-write_items-returns-clause-valid g t c = none_decide nodes c.items.invariant.decide c.in-None.ensures.steps.0
-
 pub write_pairs-returns-clause-valid : goal.write_pairs-returns-clause-valid
 write_pairs-returns-clause-valid g t c = valid_hash _ c.iter-key-items.ensures.distinct (none_decide nodes_in_pairs c.pairs.invariant.decide c.in-None.ensures.steps.0)

@@ -4,7 +4,8 @@ use Rattle.yaml_emitter.proofs.NumberLemmas.{last_digit}
 use Rattle.yaml_emitter.proofs.number.+write_digits.Goals as goal
 
 pub returns-then-number-lt10 : goal.returns-then-number-lt10
-returns-then-number-lt10 g t c = writes_as (ap (λ x. x ∷ []) c.digit.ensures ∙ sym (decimal_digit c.args.number c.if-number-lt10.true)) c.put_char.ensures
+returns-then-number-lt10 g t c =
+    writes_as (ap (λ x. x ∷ []) c.digit.ensures ∙ sym (decimal_digit c.args.number c.if-number-lt10.true)) c.put_char.ensures
 
 pub returns-in_err-write_digits : goal.returns-in_err-write_digits
 returns-in_err-write_digits g t c =

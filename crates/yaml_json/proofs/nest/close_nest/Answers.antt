@@ -1,9 +1,6 @@
-use Rattle.yaml_json.proofs.Common.{ap, arith, left_after, left_all, left_as, left_none, left_stopped, nest_end, refl, stopped_early, writes_err, writes_ok, ◌≡◌}
+use Rattle.yaml_json.proofs.Common.{ap, arith, left_after, left_as, left_none, left_stopped, nest_end, refl, stopped_early, writes_err, writes_ok, ◌≡◌}
 use Rattle.yaml_json.proofs.NestLemmas.{next_end}
 use Rattle.yaml_json.proofs.nest.close_nest.Goals as goal
-
-pub left-init : goal.left-init
-left-init g c = left_all
 
 pub left-preserved : goal.left-preserved
 left-preserved g c =

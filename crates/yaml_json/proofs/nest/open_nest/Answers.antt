@@ -1,10 +1,7 @@
-use Rattle.yaml_json.proofs.Common.{append-nil, arith, left_after, left_all, left_as, left_stopped, refl, stopped_early, stopped_for, sym}
+use Rattle.yaml_json.proofs.Common.{left_after, left_stopped, refl, stopped_early, stopped_for}
 use Rattle.yaml_json.proofs.NestLemmas.{level_left, opens_more, margin_stops}
 use Rattle.yaml_json.proofs.PartLemmas.{when_err}
 use Rattle.yaml_json.proofs.nest.open_nest.Goals as goal
-
-pub levels-init : goal.levels-init
-levels-init g c = record { left = left_as (sym (append-nil _)) left_all; no_wider = λ h. h; no_deeper = omega arith; given = λ g. g }
 
 pub levels-preserved : goal.levels-preserved
 levels-preserved g c =
