@@ -1,46 +1,78 @@
--- Tests that only ASCII characters pass, by bytes and by characters.
-use Rattle.yaml_emitter.proofs.Common.{[], ap, append-nil, arith, Bool, chars, encode_ascii, encode_utf8, encode_utf8_all, encodes-chars, false, get_or, inside_one, IsUtf8, length, List, list_any, nat_lt, nat_tests, refl, suc, sym, true, ℕ, ◌++◌, ◌<◌, ◌||◌, ◌∙◌, ◌∷◌, ◌≡◌, ◌≤◌}
+-- Tests of bytes and of characters, and sets of bytes.
+use Rattle.yaml_emitter.proofs.Common.{[], All-from_get_or, and_from, ap, append-nil, arith, Bool, cases_order, chars, cond, each_upto, encode_ascii, encode_utf8, encode_utf8_all, encodes-chars, false, get_or, has_bit, inl, inr, inside_one, is_ascii_lowercase, is_escaped, is_unfit_for_plain, IsCharBoundary, IsCharBoundary-before_ascii, IsCharBoundary-end, IsUtf8, length, List, list_all, list_any, list_any-append, list_any_none, nat_lt, nat_tests, not, or-false, prefix_len, prefix_len-le-length, prefix_len_stops, refl, same, same_is, subst, sym, take, take_while-cons, true, ℕ, ◌&&◌, ◌<◌, ◌||◌, ◌∙◌, ◌∷◌, ◌≡◌, ◌≤◌}
+use Rattle.yaml_emitter.specs.declared.runs.Bits.{Bits}
 
-any_append : (p : ℕ → Bool) (xs ys : List ℕ) → list_any p (xs ++ ys) ≡ (list_any p xs || list_any p ys)
-any_append p [] ys = refl
-any_append p (x ∷ xs) ys = ap (λ b. p x || b) (any_append p xs ys) ∙ sym (grouped (p x) (list_any p xs) (list_any p ys))
-  where
-    grouped : (a b c : Bool) → ((a || b) || c) ≡ (a || (b || c))
-    grouped true b c = refl
-    grouped false b c = refl
-
-none_passes : (p : ℕ → Bool) (xs : List ℕ) → ((k : ℕ) → k < length xs → p (get_or xs k 0) ≡ false) → list_any p xs ≡ false
-none_passes p [] h = refl
-none_passes p (x ∷ xs) h = (λ i. h 0 (omega arith) i || none_passes p xs (λ k lt. h (suc k) (omega arith)) i)
-
+-- tests that only ASCII characters pass
 module _ (p : ℕ → Bool) (low : (c : ℕ) → 128 ≤ c → p c ≡ false) where
   byte_fails : (c : ℕ) → 128 ≤ c → (k : ℕ) → k < length (encode_utf8 c) → p (get_or (encode_utf8 c) k 0) ≡ false
   byte_fails c h k lt = by (get_or (encode_utf8 c) k 0) (λ l. inside_one c [] (encode_utf8 c) k (sym (append-nil (encode_utf8 c))) lt l)
     where
       by : (b : ℕ) → (b < 128 → c ≡ b) → p b ≡ false
-      by b f = cases (nat_lt b 128) refl
-        where
-          cases : (x : Bool) → nat_lt b 128 ≡ x → p b ≡ false
-          cases true e = let lt : b < 128 = grind (arith, nat_tests) in absurd (apart (f lt) lt)
-            where
-              apart : c ≡ b → b < 128 → ⊥
-              apart e l = omega arith
-          cases false e = low b (grind (arith, nat_tests))
+      by b f = low b (grind arith)
 
   one_tested : (c : ℕ) → list_any p (encode_utf8 c) ≡ p c
   one_tested c = by (nat_lt c 128) refl
     where
-      or_false : (b : Bool) → (b || false) ≡ b
-      or_false true = refl
-      or_false false = refl
-
       by : (x : Bool) → nat_lt c 128 ≡ x → list_any p (encode_utf8 c) ≡ p c
-      by true e = ap (list_any p) (encode_ascii c (grind (arith, nat_tests))) ∙ or_false (p c)
-      by false e = let h : 128 ≤ c = grind (arith, nat_tests) in none_passes p (encode_utf8 c) (byte_fails c h) ∙ sym (low c h)
+      by true e = ap (list_any p) (encode_ascii c (grind (arith, nat_tests))) ∙ or-false (p c)
+      by false e =
+          let h : 128 ≤ c = grind (arith, nat_tests) in
+          list_any_none p (encode_utf8 c) (All-from_get_or (λ b. p b ≡ false) (encode_utf8 c) 0 (byte_fails c h)) ∙ sym (low c h)
 
   encoded_tested : (cs : List ℕ) → list_any p (encode_utf8_all cs) ≡ list_any p cs
   encoded_tested [] = refl
-  encoded_tested (c ∷ cs) = any_append p (encode_utf8 c) (encode_utf8_all cs) ∙ (λ i. one_tested c i || encoded_tested cs i)
+  encoded_tested (c ∷ cs) = list_any-append p (encode_utf8 c) (encode_utf8_all cs) ∙ (λ i. one_tested c i || encoded_tested cs i)
 
   pub bytes_tested : (bs : List ℕ) → IsUtf8 bs → list_any p bs ≡ list_any p (chars bs)
   bytes_tested bs u = ap (list_any p) (sym (encodes-chars bs u)) ∙ encoded_tested (chars bs)
+
+any_is : (q : ℕ → Bool) (xs : List ℕ) → list_any (λ c. not (q c)) xs ≡ not (list_all q xs)
+any_is q [] = refl
+any_is q (x ∷ xs) = ap (λ b. not (q x) || b) (any_is q xs) ∙ either (q x) (list_all q xs)
+  where
+    either : (a b : Bool) → (not a || not b) ≡ not (a && b)
+    either a b = grind arith
+
+-- a test that all other characters pass
+pub all_tested : (q : ℕ → Bool) → ((c : ℕ) → 128 ≤ c → q c ≡ true) → (bs : List ℕ) → IsUtf8 bs
+    → list_all q bs ≡ true → list_all q (chars bs) ≡ true
+all_tested q wide bs u h =
+    by _ (sym (any_is q (chars bs)) ∙ sym (bytes_tested (λ c. not (q c)) (λ c l. ap not (wide c l)) bs u) ∙ any_is q bs ∙ ap not h)
+  where
+    by : (b : Bool) → not b ≡ false → b ≡ true
+    by b e = grind arith
+
+-- ---- the elements before the first that fails a test
+
+pub all_pass : (p : ℕ → Bool) (bs : List ℕ) → list_all p (take (prefix_len p bs) bs) ≡ true
+all_pass p [] = refl
+all_pass p (b ∷ bs) = ap (list_all p) (take_while-cons p b bs) ∙ by (p b) refl (all_pass p bs)
+  where
+    by : (x : Bool) → p b ≡ x → list_all p (take (prefix_len p bs) bs) ≡ true
+        → list_all p (cond x (b ∷ take (prefix_len p bs) bs) []) ≡ true
+    by true e h = and_from (p b) _ e h
+    by false e h = refl
+
+-- a text may be cut there, if only characters of ASCII fail
+pub run_boundary : (p : ℕ → Bool) → ((c : ℕ) → p c ≡ false → c < 128) → (bs : List ℕ) → IsCharBoundary bs (prefix_len p bs)
+run_boundary p low bs =
+    elim (cases_order (prefix_len p bs) (length bs)) [
+      | inl e ↦ subst (IsCharBoundary bs) (sym e) (IsCharBoundary-end bs)
+      | inr (inl l) ↦ IsCharBoundary-before_ascii bs (prefix_len p bs) l (low _ (prefix_len_stops p bs 0 l))
+      | inr (inr g) ↦ absurd (omega (arith, prefix_len-le-length p bs))
+    ]
+
+-- ---- sets that are held as bits
+
+abbrev pub escaped_set : Bits
+escaped_set = record { low = 21474836479; high = 9223372037123211264 }
+
+pub escaped_bits : (b : ℕ) → b < 256 → (not (is_ascii_lowercase b) && has_bit escaped_set b) ≡ is_escaped b
+escaped_bits b lt = same_is _ _ (each_upto (λ x. same (not (is_ascii_lowercase x) && has_bit escaped_set x) (is_escaped x)) 256 tt b lt)
+
+abbrev pub unfit_set : Bits
+unfit_set = record { low = 288248573793920639; high = 2882303766751608832 }
+
+pub unfit_bits : (b : ℕ) → b < 256 → (not (is_ascii_lowercase b) && has_bit unfit_set b) ≡ is_unfit_for_plain b
+unfolding is_unfit_for_plain
+unfit_bits b lt = same_is _ _ (each_upto (λ x. same (not (is_ascii_lowercase x) && has_bit unfit_set x) (is_unfit_for_plain x)) 256 tt b lt)

@@ -2,29 +2,16 @@
 use Rattle.std.specs.Str.Pattern.{HasPrefixMatch, FindsTextPrefix, HasSuffixMatch, FindsTextSuffix}
 use Rattle.std.specs.Bool.{MatchBool}
 use Rattle.std.proofs.Math.ListN.{drop_of_length-le}
-use Rattle.yaml_emitter.proofs.Common.{[], ap, arith, begins_with, Bool, bytes_eq-Decides, chars, chars-append, chars-nil, drop, drop-cons, encode_utf8_all, encodes-append, encodes-chars, encodes-IsAscii, ends_with, false, get_or, is_low, IsCharBoundary-before_ascii, IsUtf8, IsUtf8-from_ascii, IsUtf8-take, length, length-append, List, nat_eq, nat_tests, None, refl, suc, sym, take, true, zero, ℕ, ◌++◌, ◌-◌, ◌<◌, ◌==◌, ◌∙◌, ◌∷◌, ◌≡◌, ◌≢◌, ◌≤◌}
+use Rattle.yaml_emitter.proofs.Common.{[], ap, arith, begins_with, Bool, bytes_eq-Decides, chars, chars-append, chars-nil, drop, drop-append_seam, drop-cons, encode_utf8_all, encodes-append, encodes-chars, encodes-IsAscii, ends_with, false, get_or, is_low, IsCharBoundary-before_ascii, IsUtf8, IsUtf8-from_ascii, IsUtf8-take, length, length-append, List, nat_eq, nat_tests, None, refl, suc, sym, take, take-append-drop, take-append_seam, true, ℕ, ◌++◌, ◌-◌, ◌<◌, ◌==◌, ◌∙◌, ◌∷◌, ◌≡◌, ◌≢◌, ◌≤◌}
 use Rattle.yaml_emitter.proofs.TextLemmas.{low_at, low_chars}
 
 false_if : (b : Bool) → (b ≡ true → ⊥) → false ≡ b
 false_if a n = grind arith
 
-pub take_front : (w t : List ℕ) → take (length w) (w ++ t) ≡ w
-take_front [] t = refl
-take_front (c ∷ w) t = ap (λ x. c ∷ x) (take_front w t)
-
 drop_front : (x w : List ℕ) → drop (length (x ++ w) - length w) (x ++ w) ≡ w
 drop_front x w =
     let e : length (x ++ w) - length w ≡ length x = omega (arith, length-append x w) in
-    ap (λ k. drop k (x ++ w)) e ∙ by x
-  where
-    by : (x : List ℕ) → drop (length x) (x ++ w) ≡ w
-    by [] = refl
-    by (c ∷ x) = by x
-
-pub halves : (n : ℕ) (t : List ℕ) → take n t ++ drop n t ≡ t
-halves zero t = refl
-halves (suc n) [] = refl
-halves (suc n) (c ∷ t) = ap (λ x. c ∷ x) (halves n t)
+    ap (λ k. drop k (x ++ w)) e ∙ drop-append_seam x w
 
 low_encoded : (w : List ℕ) → is_low w ≡ true → encode_utf8_all w ≡ w
 low_encoded w h = encodes-IsAscii w (low_at w h)
@@ -32,14 +19,14 @@ low_encoded w h = encodes-IsAscii w (low_at w h)
 pub begins_so : (w s rest : List ℕ) → is_low w ≡ true → s ≡ w ++ rest → true ≡ begins_with w (chars s)
 begins_so w s rest h e =
     let f : chars s ≡ w ++ chars rest = ap chars e ∙ chars-append w rest (IsUtf8-from_ascii w (low_at w h)) ∙ ap (λ x. x ++ chars rest) (low_chars w h) in
-    sym ((bytes_eq-Decides w (take (length w) (chars s))).1 (sym (ap (take (length w)) f ∙ take_front w (chars rest))))
+    sym ((bytes_eq-Decides w (take (length w) (chars s))).1 (sym (ap (take (length w)) f ∙ take-append_seam w (chars rest))))
 
 pub begins_otherwise : (w s : List ℕ) → is_low w ≡ true → IsUtf8 s → ((rest : List ℕ) → s ≢ w ++ rest) → false ≡ begins_with w (chars s)
 begins_otherwise w s h u lacks = false_if (begins_with w (chars s)) (λ e.
     let same : w ≡ take (length w) (chars s) = (bytes_eq-Decides w (take (length w) (chars s))).0 e in
     let rest = drop (length w) (chars s) in
     lacks (encode_utf8_all rest)
-    (sym (encodes-chars s u) ∙ ap encode_utf8_all (sym (halves (length w) (chars s)) ∙ ap (λ x. x ++ rest) (sym same))
+    (sym (encodes-chars s u) ∙ ap encode_utf8_all (sym (take-append-drop (length w) (chars s)) ∙ ap (λ x. x ++ rest) (sym same))
     ∙ encodes-append w rest ∙ ap (λ x. x ++ encode_utf8_all rest) (low_encoded w h)))
 
 pub ends_so : (w s front : List ℕ) → is_low w ≡ true → IsUtf8 front → s ≡ front ++ w → true ≡ ends_with nat_eq (chars s) w
@@ -53,7 +40,7 @@ ends_otherwise w s h u lacks = false_if (ends_with nat_eq (chars s) w) (λ e.
     let same : w ≡ drop n (chars s) = (bytes_eq-Decides w (drop n (chars s))).0 e in
     let front = take n (chars s) in
     lacks (encode_utf8_all front)
-    (sym (encodes-chars s u) ∙ ap encode_utf8_all (sym (halves n (chars s)) ∙ ap (λ x. front ++ x) (sym same))
+    (sym (encodes-chars s u) ∙ ap encode_utf8_all (sym (take-append-drop n (chars s)) ∙ ap (λ x. front ++ x) (sym same))
     ∙ encodes-append front w ∙ ap (λ x. encode_utf8_all front ++ x) (low_encoded w h)))
 
 -- what `str::starts_with` and `str::ends_with` answer
@@ -78,7 +65,7 @@ last_apart : (bs : List ℕ) → 1 ≤ length bs → bs ≡ take (length bs - 1)
 last_apart bs some =
     let n = length bs - 1 in
     let end : length bs ≤ suc n = omega arith in
-    sym (halves n bs) ∙ ap (λ x. take n bs ++ x) (drop-cons bs n 0 (omega arith) ∙ ap (λ x. get_or bs n 0 ∷ x) (drop_of_length-le bs end))
+    sym (take-append-drop n bs) ∙ ap (λ x. take n bs ++ x) (drop-cons bs n 0 (omega arith) ∙ ap (λ x. get_or bs n 0 ∷ x) (drop_of_length-le bs end))
 
 pub last_is : (bs : List ℕ) (c : ℕ) → c < 128 → IsUtf8 bs → 1 ≤ length bs → (get_or bs (length bs - 1) 0 == c) ≡ ends_with nat_eq (chars bs) (c ∷ [])
 last_is bs c lt u some = by (get_or bs (length bs - 1) 0 == c) refl
@@ -86,18 +73,13 @@ last_is bs c lt u some = by (get_or bs (length bs - 1) 0 == c) refl
     low : is_low (c ∷ []) ≡ true
     low = grind (arith, nat_tests)
 
-    is : (a : ℕ) → (a == c) ≡ true → a ≡ c
-    is a e = grind (arith, nat_tests)
-
-    is_not : (a : ℕ) → (a == c) ≡ false → a ≢ c
-    is_not a e f = grind (arith, nat_tests)
-
     by : (b : Bool) → (get_or bs (length bs - 1) 0 == c) ≡ b → b ≡ ends_with nat_eq (chars bs) (c ∷ [])
     by true e =
-        let f = is _ e in
-        ends_so (c ∷ []) bs (take (length bs - 1) bs) low (IsUtf8-take bs (length bs - 1) u (IsCharBoundary-before_ascii bs (length bs - 1) (omega arith) (omega (arith, f))))
-        (last_apart bs some ∙ ap (λ x. take (length bs - 1) bs ++ x ∷ []) f)
-    by false e = ends_otherwise (c ∷ []) bs low u (λ front f. is_not _ e (no_end bs front c f))
+        let f : get_or bs (length bs - 1) 0 ≡ c = grind (arith, nat_tests) in
+        let front = take (length bs - 1) bs in
+        ends_so (c ∷ []) bs front low (IsUtf8-take bs _ u (IsCharBoundary-before_ascii bs _ (omega arith) (omega (arith, f))))
+        (last_apart bs some ∙ ap (λ x. front ++ x ∷ []) f)
+    by false e = ends_otherwise (c ∷ []) bs low u (λ front f. let g = no_end bs front c f in grind (arith, nat_tests))
 
 pub none_last : (bs : List ℕ) (c : ℕ) → length bs < 1 → false ≡ ends_with nat_eq (chars bs) (c ∷ [])
 none_last [] c n = ap (λ x. ends_with nat_eq x (c ∷ [])) (sym chars-nil)

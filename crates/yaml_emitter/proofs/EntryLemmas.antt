@@ -1,5 +1,5 @@
 -- The text of arrays and hashes, entry by entry.
-use Rattle.yaml_emitter.proofs.Common.{[], add-one, after_mark, alias, ap, append_assoc, arith, array, bad_value, before_entry, below, Bool, boolean, box, codes, complex_text, entries_text, false, hash, hung, hung_lower, if_none, if◌then◌else◌, indented, integer, is_block, is_scalar, IsTrue, item, item_boxes, Items, items_of, levels, List, new_line, no_items, no_pairs, not, null, pair, pair_box, pair_boxes, pair_text, Pairs, pairs_of, placed, real, refl, spaces, spelling, stacked, string, suc, sym, Tree, true, zero, ℕ, ◌&&◌, ◌++◌, ◌+◌, ◌↔◌, ◌∙◌, ◌∷◌, ◌≡◌, ◌≤◌}
+use Rattle.yaml_emitter.proofs.Common.{[], add-one, after_mark, ap, append_assoc, arith, array, before_entry, below, Bool, box, codes, complex_text, entries_text, false, hash, hung, hung_lower, if_none, if◌then◌else◌, indented, is_block, is_scalar, IsTrue, item, item_boxes, Items, items_of, levels, List, new_line, no_items, no_pairs, not, pair, pair_box, pair_boxes, pair_text, Pairs, pairs_of, placed, refl, spaces, spelling, stacked, string, suc, sym, Tree, true, zero, ℕ, ◌&&◌, ◌++◌, ◌+◌, ◌↔◌, ◌∙◌, ◌∷◌, ◌≡◌, ◌≤◌}
 use Rattle.yaml_tree.specs.Weight.{nodes}
 
 -- ---- arrays and hashes that aren't empty
@@ -44,19 +44,15 @@ pub data HasLines : List (List ℕ) → Type 0 where
 if_none_lines : (text : List ℕ) (ls : List (List ℕ)) → HasLines (if_none text ls)
 if_none_lines a b = grind (arith, lines)
 
-string_lines : (b : Bool) (l m : List ℕ) (ls : List (List ℕ)) → HasLines (if b then l ∷ ls else m ∷ [])
-string_lines a l m ls = grind (arith, lines)
+if_lines : {a b : List (List ℕ)} (x : Bool) → HasLines a → HasLines b → HasLines (if x then a else b)
+if_lines true h k = h
+if_lines false h k = k
 
 pub box_lines : (compact multiline at_root : Bool) (t : Tree) → HasLines (box compact multiline at_root t)
-box_lines c m r (string s) = string_lines _ _ _ _
+box_lines c m r (string s) = if_lines _ (lines _ _) (lines _ _)
 box_lines c m r (array ts) = if_none_lines (codes "[]") (item_boxes c m ts)
 box_lines c m r (hash ps) = if_none_lines (codes "{}") (pair_boxes c m ps)
-box_lines c m r (real s) = lines s []
-box_lines c m r (integer z) = lines (spelling (integer z)) []
-box_lines c m r (boolean b) = lines (spelling (boolean b)) []
-box_lines c m r (alias n) = lines [] []
-box_lines c m r null = lines (codes "~") []
-box_lines c m r bad_value = lines (codes "~") []
+box_lines c m r t = lines _ _
 
 stacked_append : (n : ℕ) {a : List (List ℕ)} (b : List (List ℕ)) → HasLines a → stacked n (a ++ b) ≡ stacked n a ++ below n b
 stacked_append n b (lines l ls) = ap (λ t. l ++ t) (below_append n ls b) ∙ sym (append_assoc l (below n ls) (below n b))
@@ -65,11 +61,7 @@ below_stacked : (n : ℕ) {a : List (List ℕ)} → HasLines a → below n a ≡
 below_stacked n (lines l ls) = refl
 
 placed_lines : (b : Bool) (mark : List ℕ) (t : Tree) {ls : List (List ℕ)} → HasLines ls → HasLines (placed b mark t ls)
-placed_lines b mark t (lines l ls) = string_or (b && is_block t)
-  where
-    string_or : (x : Bool) → HasLines (if x then hung_lower mark (l ∷ ls) else hung mark (l ∷ ls))
-    string_or true = lines mark (indented (l ∷ ls))
-    string_or false = lines (mark ++ 32 ∷ l) (indented ls)
+placed_lines b mark t (lines l ls) = if_lines (b && is_block t) (lines mark (indented (l ∷ ls))) (lines (mark ++ 32 ∷ l) (indented ls))
 
 -- a box hung on a mark
 pub placed_at : (lower : Bool) (mark : List ℕ) (level : ℕ) (t : Tree) {ls : List (List ℕ)} → HasLines ls → stacked level (placed lower mark t ls) ≡ mark ++ after_mark lower level t ls
@@ -81,98 +73,71 @@ placed_at lower mark level t (lines l ls) = by (lower && is_block t)
 
 -- ---- entries
 
-entries_append : (first : Bool) (level : ℕ) {a : List (List ℕ)} (b : List (List ℕ)) → HasLines a
-    → entries_text first level (a ++ b) ≡ before_entry first level ++ (stacked level a ++ below level b)
-entries_append true level b h = stacked_append level b h
-entries_append false level {a} b h =
-    below_append level a b ∙ ap (λ t. t ++ below level b) (below_stacked level h) ∙ append_assoc (new_line level) (stacked level a) (below level b)
+-- those that are left, the first one apart
+next_entry : (first : Bool) (level : ℕ) {a : List (List ℕ)} {text : List ℕ} (b : List (List ℕ)) → HasLines a → stacked level a ≡ text
+    → entries_text first level (a ++ b) ≡ before_entry first level ++ (text ++ below level b)
+next_entry true level b h e = stacked_append level b h ∙ ap (λ t. t ++ below level b) e
+next_entry false level {a} {text} b h e =
+    below_append level a b ∙ ap (λ t. t ++ below level b) (below_stacked level h ∙ ap (λ t. new_line level ++ t) e)
+    ∙ append_assoc (new_line level) text (below level b)
 
--- the items that are left, the first one apart
 pub next_item : (c m first : Bool) (level : ℕ) (t : Tree) (ts : Items)
     → entries_text first level (item_boxes c m (item t ts))
     ≡ before_entry first level ++ ((codes "-" ++ after_mark (not c) level t (box c m false t)) ++ entries_text false level (item_boxes c m ts))
 next_item c m first level t ts =
     let h = box_lines c m false t in
-    entries_append first level (item_boxes c m ts) (placed_lines (not c) (codes "-") t h)
-    ∙ ap (λ x. before_entry first level ++ (x ++ below level (item_boxes c m ts))) (placed_at (not c) (codes "-") level t h)
+    next_entry first level (item_boxes c m ts) (placed_lines (not c) (codes "-") t h) (placed_at (not c) (codes "-") level t h)
 
 -- a pair
 pair_lines : (c m : Bool) (k v : Tree) → HasLines (pair_box c k (box c m false k) v (box c m false v))
-pair_lines c m k v = by (is_scalar k)
+pair_lines c m k v =
+    if_lines (is_scalar k) (placed_lines true (spelling k ++ codes ":") v (box_lines c m false v))
+    (longer _ (placed_lines (not c) (codes "?") k (box_lines c m false k)))
   where
     longer : {a : List (List ℕ)} (b : List (List ℕ)) → HasLines a → HasLines (a ++ b)
     longer b (lines l ls) = lines l (ls ++ b)
 
-    by : (x : Bool) → HasLines (if x then placed true (spelling k ++ codes ":") v (box c m false v)
-        else placed (not c) (codes "?") k (box c m false k) ++ placed (not c) (codes ":") v (box c m false v))
-    by true = placed_lines true (spelling k ++ codes ":") v (box_lines c m false v)
-    by false = longer _ (placed_lines (not c) (codes "?") k (box_lines c m false k))
-
 pair_at : (c m : Bool) (level : ℕ) (k v : Tree) → stacked level (pair_box c k (box c m false k) v (box c m false v)) ≡ pair_text c m level k v
 pair_at c m level k v = by (is_scalar k)
   where
-    K : HasLines (box c m false k)
-    K = box_lines c m false k
-
-    V : HasLines (box c m false v)
-    V = box_lines c m false v
-
     by : (x : Bool) → stacked level (if x then placed true (spelling k ++ codes ":") v (box c m false v)
         else placed (not c) (codes "?") k (box c m false k) ++ placed (not c) (codes ":") v (box c m false v))
         ≡ (if x then spelling k ++ (codes ":" ++ after_mark true level v (box c m false v)) else complex_text c m level k v)
-    by true = placed_at true (spelling k ++ codes ":") level v V ∙ append_assoc (spelling k) (codes ":") (after_mark true level v (box c m false v))
+    by true =
+        placed_at true (spelling k ++ codes ":") level v (box_lines c m false v)
+        ∙ append_assoc (spelling k) (codes ":") (after_mark true level v (box c m false v))
     by false =
-        stacked_append level (placed (not c) (codes ":") v (box c m false v)) (placed_lines (not c) (codes "?") k K)
-        ∙ (λ i. placed_at (not c) (codes "?") level k K i ++ (below_stacked level (placed_lines (not c) (codes ":") v V) ∙ ap (λ t. new_line level ++ t) (placed_at (not c) (codes ":") level v V)) i)
+        let key = box_lines c m false k in
+        let value = box_lines c m false v in
+        stacked_append level (placed (not c) (codes ":") v (box c m false v)) (placed_lines (not c) (codes "?") k key)
+        ∙ (λ i. placed_at (not c) (codes "?") level k key i ++ (below_stacked level (placed_lines (not c) (codes ":") v value)
+        ∙ ap (λ t. new_line level ++ t) (placed_at (not c) (codes ":") level v value)) i)
 
--- the pairs that are left, the first one apart
 pub next_pair : (c m first : Bool) (level : ℕ) (k v : Tree) (ps : Pairs)
     → entries_text first level (pair_boxes c m (pair k v ps))
     ≡ before_entry first level ++ (pair_text c m level k v ++ entries_text false level (pair_boxes c m ps))
-next_pair c m first level k v ps =
-    entries_append first level (pair_boxes c m ps) (pair_lines c m k v)
-    ∙ ap (λ x. before_entry first level ++ (x ++ below level (pair_boxes c m ps))) (pair_at c m level k v)
+next_pair c m first level k v ps = next_entry first level (pair_boxes c m ps) (pair_lines c m k v) (pair_at c m level k v)
 
 -- a box that isn't the short form of an empty one
+not_empty : (level : ℕ) (short : List ℕ) {a : List (List ℕ)} (b : List (List ℕ)) → HasLines a
+    → stacked level (if_none short (a ++ b)) ≡ stacked level (a ++ b)
+not_empty level short b (lines l ls) = refl
+
 pub items_text : (c m : Bool) (level : ℕ) (ts : Items) → is_block (array ts) ≡ true → stacked level (box c m false (array ts)) ≡ entries_text true level (item_boxes c m ts)
 items_text c m level no_items h = cc
-items_text c m level (item t ts) h = by (box_lines c m false t)
-  where
-    by : HasLines (box c m false t) → stacked level (if_none (codes "[]") (item_boxes c m (item t ts))) ≡ stacked level (item_boxes c m (item t ts))
-    by g = full (placed_lines (not c) (codes "-") t g)
-      where
-        full : {a : List (List ℕ)} → HasLines a → stacked level (if_none (codes "[]") (a ++ item_boxes c m ts)) ≡ stacked level (a ++ item_boxes c m ts)
-        full (lines l ls) = refl
+items_text c m level (item t ts) h = not_empty level (codes "[]") _ (placed_lines (not c) (codes "-") t (box_lines c m false t))
 
 pub pairs_text : (c m : Bool) (level : ℕ) (ps : Pairs) → is_block (hash ps) ≡ true → stacked level (box c m false (hash ps)) ≡ entries_text true level (pair_boxes c m ps)
 pairs_text c m level no_pairs h = cc
-pairs_text c m level (pair k v ps) h = full (pair_lines c m k v)
-  where
-    full : {a : List (List ℕ)} → HasLines a → stacked level (if_none (codes "{}") (a ++ pair_boxes c m ps)) ≡ stacked level (a ++ pair_boxes c m ps)
-    full (lines l ls) = refl
+pairs_text c m level (pair k v ps) h = not_empty level (codes "{}") (pair_boxes c m ps) (pair_lines c m k v)
 
 -- ---- levels and nodes
 
 pub at_least_one : (t : Tree) → (1 ≤ levels t) × (1 ≤ nodes t)
 at_least_one (array ts) = (omega arith, omega arith)
-at_least_one (hash ps) = (omega arith, omega arith)
-at_least_one (string s) = (omega arith, omega arith)
-at_least_one (real s) = (omega arith, omega arith)
-at_least_one (integer z) = (omega arith, omega arith)
-at_least_one (boolean b) = (omega arith, omega arith)
-at_least_one (alias n) = (omega arith, omega arith)
-at_least_one null = (omega arith, omega arith)
-at_least_one bad_value = (omega arith, omega arith)
+at_least_one t = (omega arith, omega arith)
 
 pub two_levels : (t : Tree) → is_block t ≡ true → 2 ≤ levels t
 two_levels (array (item t ts)) h = omega (arith, (at_least_one t).0)
-two_levels (array no_items) h = cc
 two_levels (hash (pair k v ps)) h = omega (arith, (at_least_one k).0)
-two_levels (hash no_pairs) h = cc
-two_levels (string s) h = cc
-two_levels (real s) h = cc
-two_levels (integer z) h = cc
-two_levels (boolean b) h = cc
-two_levels (alias n) h = cc
-two_levels null h = cc
-two_levels bad_value h = cc
+two_levels t h = cc

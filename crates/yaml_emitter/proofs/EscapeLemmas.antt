@@ -1,7 +1,6 @@
 -- The cases of a character that is written.
-use Rattle.yaml_emitter.proofs.Common.{ap, List, ne_eqb, refl, Result, sym, WritesUnless, written_character, ℕ, ◌≡◌, ◌≢◌}
+use Rattle.yaml_emitter.proofs.Common.{ap, List, ne_eqb, refl, Result, sym, writes_as, WritesUnless, written_character, ℕ, ◌≡◌, ◌≢◌}
 use Rattle.yaml_emitter.specs.Escaping.{written_code}
-use Rattle.yaml_emitter.proofs.WritingLemmas.{writes_as}
 
 pub other_character : (c : ℕ) → c ≢ 34 → c ≢ 92 → c ≢ 8 → c ≢ 9 → c ≢ 10 → c ≢ 12 → c ≢ 13 → written_code c ≡ written_character c
 unfolding written_character

@@ -1,6 +1,5 @@
 pub mod EscapeLemmas
 pub mod FmtLemmas
-pub mod ByteSets
 pub mod RunLemmas
 pub mod PrintableLemmas
 pub mod TextLemmas

@@ -1,6 +1,5 @@
 -- A list of nodes or pairs whose members are taken one by one.
-use Rattle.yaml_emitter.proofs.Common.{[], ap, arith, Bool, false, IsLeft, List, max, refl, Stopped, subst, sym, true, Wrote, ℕ, ◌++◌, ◌∙◌, ◌∷◌, ◌≡◌, ◌≤◌}
-use Rattle.yaml_emitter.proofs.WritingLemmas.{left_all, left_as, left_after, left_none, left_stopped, stopped_early}
+use Rattle.yaml_emitter.proofs.Common.{[], ap, arith, Bool, false, IsLeft, left_after, left_all, left_as, left_none, left_stopped, List, max, refl, Stopped, stopped_early, subst, sym, true, Wrote, ℕ, ◌++◌, ◌∙◌, ◌∷◌, ◌≡◌, ◌≤◌}
 
 -- ---- a measure of a list that is the greatest of its members'
 
@@ -8,11 +7,9 @@ pub record IsMeasure {X : Type 0} (own : X → ℕ) (all : List X → ℕ) : Typ
   pub greatest : (x : X) (xs : List X) → all (x ∷ xs) ≡ max (own x) (all xs)
 
 -- of the first member, and of those after it
-pub own_within : {X : Type 0} {own : X → ℕ} {all : List X → ℕ} {x : X} {xs rest : List X} → IsMeasure own all → xs ≡ x ∷ rest → own x ≤ all xs
-own_within {all = all} {x} {rest = rest} m e = let g = ap all e ∙ m.greatest x rest in omega (arith, g)
-
-pub rest_within : {X : Type 0} {own : X → ℕ} {all : List X → ℕ} {x : X} {xs rest : List X} → IsMeasure own all → xs ≡ x ∷ rest → all rest ≤ all xs
-rest_within {all = all} {x} {rest = rest} m e = let g = ap all e ∙ m.greatest x rest in omega (arith, g)
+within : {X : Type 0} {own : X → ℕ} {all : List X → ℕ} {x : X} {xs rest : List X} → IsMeasure own all → xs ≡ x ∷ rest
+    → (own x ≤ all xs) × (all rest ≤ all xs)
+within {all = all} {x} {rest = rest} m e = let g = ap all e ∙ m.greatest x rest in (omega (arith, g), omega (arith, g))
 
 -- ---- members that are found fit, one by one
 
@@ -26,6 +23,10 @@ pub record Members (X : Type 0) : Type 1 where
   pub none_fit : AreFit []
   pub more_fit : (x : X) (xs : List X) → IsFit x → AreFit xs → AreFit (x ∷ xs)
 
+-- of a list that begins with one
+pub fit_from : {X : Type 0} (m : Members X) {xs rest : List X} {x : X} → xs ≡ x ∷ rest → m.IsFit x → m.AreFit rest → m.AreFit xs
+fit_from m {rest = rest} {x} e f fs = subst m.AreFit (sym e) (m.more_fit x rest f fs)
+
 -- the members that are left decide for all
 pub record Decide {X : Type 0} (m : Members X) (all rest : List X) : Type 0 where
   pub no_deeper : m.depth rest ≤ m.depth all
@@ -36,16 +37,16 @@ module _ {X : Type 0} (m : Members X) {all : List X} where
   all_decide e = subst (λ xs. Decide m all xs) (sym e) (record { no_deeper = omega arith; fit = λ f. f })
 
   pub rest_decides : {xs rest : List X} {x : X} → Decide m all xs → xs ≡ x ∷ rest → m.IsFit x → Decide m all rest
-  rest_decides {xs} {rest} {x} d e f = record {
-    no_deeper = omega (arith, rest_within m.deepest e, d.no_deeper);
-    fit = λ fs. d.fit (subst m.AreFit (sym e) (m.more_fit x rest f fs));
+  rest_decides d e f = record {
+    no_deeper = omega (arith, (within m.deepest e).1, d.no_deeper);
+    fit = λ fs. d.fit (fit_from m e f fs);
   }
 
   pub none_decide : {xs : List X} → Decide m all xs → xs ≡ [] → m.AreFit all
   none_decide d e = d.fit (subst m.AreFit (sym e) m.none_fit)
 
   pub first_within : {xs rest : List X} {x : X} → Decide m all xs → xs ≡ x ∷ rest → m.own_depth x ≤ m.depth all
-  first_within d e = omega (arith, own_within m.deepest e, d.no_deeper)
+  first_within d e = omega (arith, (within m.deepest e).0, d.no_deeper)
 
 -- ---- members that are written, one by one
 
@@ -78,7 +79,7 @@ module _ {X : Type 0} (s : Entries X) {W : Type 0} {gives : W → List ℕ → W
       → AreLeft s gives w all u false rest
   rest_left l e wrote f = record {
     left = left_after (first_apart l e) wrote;
-    no_higher = omega (arith, rest_within s.highest e, l.no_higher);
+    no_higher = omega (arith, (within s.highest e).1, l.no_higher);
     decide = rest_decides s.members l.decide e f;
   }
 
@@ -90,4 +91,4 @@ module _ {X : Type 0} (s : Entries X) {W : Type 0} {gives : W → List ℕ → W
   none_left {is_first = is_first} l e = left_none (left_as (ap (s.text is_first) e ∙ s.none_text is_first) l.left)
 
   pub own_no_higher : {v : W} {is_first : Bool} {xs rest : List X} {x : X} → AreLeft s gives w all v is_first xs → xs ≡ x ∷ rest → s.own_levels x ≤ s.levels all
-  own_no_higher l e = omega (arith, own_within s.highest e, l.no_higher)
+  own_no_higher l e = omega (arith, (within s.highest e).0, l.no_higher)

@@ -1,14 +1,10 @@
 -- The tests of literal blocks.
-use Rattle.yaml_emitter.proofs.Common.{[], ap, append-nil, append_assoc, arith, begins_as_marker, begins_blank, begins_well, begins_with, begins_with_mark, below, Bool, bytes_eq, bytes_eq-Decides, chars, chars-append, chars-nil, chars_past_char, codes, cond, drop, drop-cons, encode_ascii, encode_utf8, ends_with, eq-eqb, eqb-true, false, first_full_line_is_indented, get_or, has_clear_lines, if◌then◌else◌, is_break, is_empty, is_line_feed, is_literal_character, is_literal_text, is_low, is_root_literal, IsCharBoundary, IsCharBoundary-after_ascii, IsCharBoundary-before_ascii, IsFirstCut, IsUnbroken, IsUtf8, IsUtf8-drop, IsUtf8-from_ascii, IsUtf8-past_char, IsUtf8-take, last_line, length, length-drop, lines_of, List, list_all, list_any, nat_eq, nat_tests, ne_eqb, new_line, NonePass, not, onto_first_line, prefix_len, prefix_len_stops, refl, subst, suc, sym, take, take-length, true, ℕ, ◌&&◌, ◌++◌, ◌+◌, ◌<◌, ◌==◌, ◌||◌, ◌∙◌, ◌∷◌, ◌≡◌, ◌≢◌, ◌≤◌}
+use Rattle.yaml_emitter.proofs.Common.{[], and_parts, ap, append-nil, append_assoc, arith, begins_as_marker, begins_blank, begins_well, begins_with, begins_with_mark, below, Bool, bytes_eq, bytes_eq-Decides, chars, chars-append, chars_past_char, codes, drop, drop-append_seam, drop-cons, encode_ascii, encode_utf8, ends_with, eq-eqb, false, first_full_line_is_indented, get_or, has_clear_lines, if◌then◌else◌, is_break, is_empty, is_line_feed, is_literal_character, is_literal_text, is_low, is_root_literal, IsCharBoundary, IsCharBoundary-after_ascii, IsCharBoundary-before_ascii, IsFirstCut, IsUnbroken, IsUtf8, IsUtf8-drop, IsUtf8-from_ascii, IsUtf8-past_char, IsUtf8-take, last_line, length, length-drop, lines_of, List, list_all, list_any, nat_eq, nat_tests, ne_eqb, new_line, NonePass, not, onto_first_line, or-false, prefix_len, prefix_len_stops, refl, subst, suc, sym, take, take-append-drop, take-append_seam, take-length, true, ℕ, ◌&&◌, ◌++◌, ◌<◌, ◌==◌, ◌||◌, ◌∙◌, ◌∷◌, ◌≡◌, ◌≢◌, ◌≤◌}
 use Rattle.yaml_chars.specs.Class as class
-use Rattle.yaml_emitter.proofs.ByteLemmas.{bytes_tested}
-use Rattle.yaml_emitter.proofs.EndLemmas.{halves, take_front, begins_otherwise}
+use Rattle.yaml_emitter.proofs.ByteLemmas.{all_pass, all_tested}
+use Rattle.yaml_emitter.proofs.EndLemmas.{begins_otherwise}
 use Rattle.yaml_emitter.proofs.TextLemmas.{low_at, low_chars}
 use Rattle.yaml_emitter.proofs.WordLemmas.{empty_text}
-
-drop_front : (w t : List ℕ) → drop (length w) (w ++ t) ≡ t
-drop_front [] t = refl
-drop_front (c ∷ w) t = drop_front w t
 
 onto_first : (c : ℕ) (ls : List (List ℕ)) → first_full_line_is_indented (onto_first_line c ls) ≡ (c == 32)
 onto_first c a = grind arith
@@ -37,39 +33,23 @@ well_first bs rest c u e n = ap begins_well (chars_past_char bs rest c u e) ∙ 
 pub well_break : (bs rest : List ℕ) (c : ℕ) → IsUtf8 bs → bs ≡ encode_utf8 c ++ rest → c ≡ 10 → begins_well (chars bs) ≡ begins_well (chars rest)
 well_break bs rest c u e n = ap begins_well (chars_past_char bs rest c u e) ∙ ap (λ b. if b then begins_well (chars rest) else not (c == 32)) (eq-eqb c 10 n)
 
-pub well_none : (bs : List ℕ) → length bs ≡ 0 → begins_well (chars bs) ≡ false
-well_none [] e = ap begins_well chars-nil
-well_none (b ∷ bs) e = absurd (omega arith)
-
-pub no_last_line : (level : ℕ) (bs : List ℕ) (r : Bool) → (length bs == 0) ≡ r → r ≡ true → [] ≡ last_line level (chars bs)
-no_last_line level [] r e f = ap (last_line level) (sym chars-nil)
-no_last_line level (b ∷ bs) r e f = absurd (some (length bs) (e ∙ f))
+pub last_line_is : (level : ℕ) (bs : List ℕ) (r : Bool) → IsUtf8 bs → (length bs == 0) ≡ r
+    → (if r then [] else new_line level ++ chars bs) ≡ last_line level (chars bs)
+last_line_is level bs r u e = ap (λ b. if b then [] else new_line level ++ chars bs) (sym e ∙ empty_text bs u) ∙ by (chars bs)
   where
-    some : (n : ℕ) → (suc n == 0) ≡ true → ⊥
-    some n h = omega (arith, eqb-true (suc n) 0 h)
-
-pub some_last_line : (level : ℕ) (bs : List ℕ) (r : Bool) → IsUtf8 bs → (length bs == 0) ≡ r → r ≡ false → new_line level ++ chars bs ≡ last_line level (chars bs)
-some_last_line level bs r u e f = by (chars bs) (sym (empty_text bs u) ∙ e ∙ f)
-  where
-    by : (t : List ℕ) → is_empty t ≡ false → new_line level ++ t ≡ last_line level t
-    by [] h = cc
-    by (c ∷ t) h = refl
+    by : (t : List ℕ) → (if is_empty t then [] else new_line level ++ t) ≡ last_line level t
+    by [] = refl
+    by (c ∷ t) = refl
 
 -- ---- marks
 
 pub after_mark : (w line rest : List ℕ) → is_low w ≡ true → length w ≡ 3 → IsUtf8 rest → line ≡ w ++ rest → begins_blank (chars rest) ≡ begins_with_mark w (chars line)
 after_mark w line rest h n u e =
     let f : chars line ≡ w ++ chars rest = ap chars e ∙ chars-append w rest (IsUtf8-from_ascii w (low_at w h)) ∙ ap (λ x. x ++ chars rest) (low_chars w h) in
-    by (chars line) (chars rest) f
-  where
-    three : (w : List ℕ) → length w ≡ 3 → (t : List ℕ) → begins_blank t ≡ begins_with_mark w (w ++ t)
-    three w n t =
-        let g : take 3 (w ++ t) ≡ w = ap (λ k. take k (w ++ t)) (sym n) ∙ take_front w t in
-        let k : drop 3 (w ++ t) ≡ t = ap (λ k. drop k (w ++ t)) (sym n) ∙ drop_front w t in
-        ap (λ b. b && begins_blank t) (sym ((bytes_eq-Decides w w).1 refl)) ∙ sym (λ i. bytes_eq w (g i) && begins_blank (k i))
-
-    by : (t r : List ℕ) → t ≡ w ++ r → begins_blank r ≡ begins_with_mark w t
-    by t r f = three w n r ∙ ap (begins_with_mark w) (sym f)
+    let front : take 3 (w ++ chars rest) ≡ w = ap (λ k. take k (w ++ chars rest)) (sym n) ∙ take-append_seam w (chars rest) in
+    let back : drop 3 (w ++ chars rest) ≡ chars rest = ap (λ k. drop k (w ++ chars rest)) (sym n) ∙ drop-append_seam w (chars rest) in
+    sym (ap (begins_with_mark w) f ∙ (λ i. bytes_eq w (front i) && begins_blank (back i))
+    ∙ ap (λ b. b && begins_blank (chars rest)) ((bytes_eq-Decides w w).1 refl))
 
 pub no_mark : (w line : List ℕ) → is_low w ≡ true → length w ≡ 3 → IsUtf8 line → ((rest : List ℕ) → line ≢ w ++ rest) → false ≡ begins_with_mark w (chars line)
 no_mark w line h n u lacks =
@@ -79,15 +59,7 @@ pub marks : (line : List ℕ) → begins_as_marker line ≡ (begins_with_mark (c
 marks line = by (bytes_eq (codes "---") (take 3 line)) (bytes_eq (codes "...") (take 3 line)) (begins_blank (drop 3 line))
   where
     by : (a b c : Bool) → ((a || (b || false)) && c) ≡ ((a && c) || (b && c))
-    by true true true = refl
-    by true true false = refl
-    by true false true = refl
-    by true false false = refl
-    by false true c = sym (or_none c)
-      where
-        or_none : (c : Bool) → c ≡ c
-        or_none c = refl
-    by false false c = refl
+    by a b c = grind arith
 
 -- ---- lines
 
@@ -103,33 +75,22 @@ pub line_last : (level : ℕ) (l : List ℕ) → IsUnbroken l → below level (l
 line_last level [] n = refl
 line_last level (c ∷ l) n = ap (below level) (one_line c l n) ∙ ap (λ x. new_line level ++ x) (append-nil (c ∷ l))
 
-module _ (p : ℕ → Bool) where
-  run_clear : (xs : List ℕ) → list_any p (take (prefix_len (λ b. not (p b)) xs) xs) ≡ false
-  run_clear [] = refl
-  run_clear (x ∷ xs) = by (p x) refl (run_clear xs)
-    where
-      by : (b : Bool) → p x ≡ b → list_any p (take (prefix_len (λ b. not (p b)) xs) xs) ≡ false → list_any p (take (cond (not b) (1 + prefix_len (λ b. not (p b)) xs) 0) (x ∷ xs)) ≡ false
-      by true e h = refl
-      by false e h =
-          let n : 1 + prefix_len (λ b. not (p b)) xs ≡ suc (prefix_len (λ b. not (p b)) xs) = omega arith in
-          ap (λ k. list_any p (take k (x ∷ xs))) n ∙ ap (λ b. b || list_any p (take (prefix_len (λ b. not (p b)) xs) xs)) e ∙ h
-
-  none_pass : (xs : List ℕ) → list_any p xs ≡ false → NonePass p xs
-  none_pass [] h = tt
-  none_pass (x ∷ xs) h = let parts = neither (p x) (list_any p xs) h in (parts.0, none_pass xs parts.1)
-    where
-      neither : (a b : Bool) → (a || b) ≡ false → (a ≡ false) × (b ≡ false)
-      neither d b e = grind arith
+none_pass : (p : ℕ → Bool) (xs : List ℕ) → list_all (λ b. not (p b)) xs ≡ true → NonePass p xs
+none_pass p [] h = tt
+none_pass p (x ∷ xs) h = let parts = and_parts (not (p x)) _ h in (by (p x) parts.0, none_pass p xs parts.1)
+  where
+    by : (b : Bool) → not b ≡ true → b ≡ false
+    by b e = grind arith
 
 abbrev pub runs_on : ℕ → Bool
 runs_on b = not (is_break b)
 
-break_low : (c : ℕ) → 128 ≤ c → is_break c ≡ false
-break_low c h = grind (arith, nat_tests)
+wide_runs : (c : ℕ) → 128 ≤ c → runs_on c ≡ true
+wide_runs c h = grind (arith, nat_tests)
 
 -- the run before the first line feed
 unbroken_front : (s : List ℕ) → IsUtf8 (take (prefix_len runs_on s) s) → IsUnbroken (chars (take (prefix_len runs_on s) s))
-unbroken_front s u = none_pass is_break _ (sym (bytes_tested is_break break_low _ u) ∙ run_clear is_break s)
+unbroken_front s u = none_pass is_break _ (all_tested runs_on wide_runs _ u (all_pass runs_on s))
 
 pub unbroken : (s : List ℕ) → IsUtf8 s → prefix_len runs_on s ≡ length s → IsUnbroken (chars s)
 unbroken s u e =
@@ -165,7 +126,7 @@ module _ (s : List ℕ) (u : IsUtf8 s) (n : ℕ) (run : n ≡ prefix_len runs_on
       let front = IsUtf8-take s n u break_boundary in
       record {
         none_before = subst (λ k. IsUtf8 (take k s) → IsUnbroken (chars (take k s))) (sym run) (unbroken_front s) front;
-        whole = ap chars (sym (halves n s)) ∙ chars-append (take n s) (drop n s) front ∙ ap (λ t. chars (take n s) ++ t) (chars_past_char (drop n s) (drop 1 (drop n s)) 10 break_utf8 break_split);
+        whole = ap chars (sym (take-append-drop n s)) ∙ chars-append (take n s) (drop n s) front ∙ ap (λ t. chars (take n s) ++ t) (chars_past_char (drop n s) (drop 1 (drop n s)) 10 break_utf8 break_split);
         shorter = omega (arith, length-drop n s, length-drop 1 (drop n s));
         utf8 = IsUtf8-past_char (drop n s) (drop 1 (drop n s)) 10 break_utf8 break_split;
       }
@@ -177,13 +138,9 @@ first_line p s front back m = ap (λ t. list_any p (lines_of t)) m.whole ∙ ap 
 pub only_line : (s : List ℕ) → IsUnbroken (chars s) → list_any begins_as_marker (lines_of (chars s)) ≡ begins_as_marker (chars s)
 only_line s n = by (chars s) n
   where
-    or_false : (b : Bool) → (b || false) ≡ b
-    or_false true = refl
-    or_false false = refl
-
     by : (t : List ℕ) → IsUnbroken t → list_any begins_as_marker (lines_of t) ≡ begins_as_marker t
     by [] n = refl
-    by (c ∷ t) n = ap (list_any begins_as_marker) (one_line c t n) ∙ or_false (begins_as_marker (c ∷ t))
+    by (c ∷ t) n = ap (list_any begins_as_marker) (one_line c t n) ∙ or-false (begins_as_marker (c ∷ t))
 
 -- the lines below a level, the first one apart
 pub first_below : (level : ℕ) (s front back : List ℕ) → IsFirstCut s front back

@@ -1,24 +1,18 @@
 -- How a writer stands after a node.
-use Rattle.yaml_emitter.proofs.Common.{[], after_mark, alias, ap, append-nil, append_assoc, array, bad_value, before_block, before_entry, below, Bool, boolean, box, codes, complex_text, entries_text, false, hash, if◌then◌else◌, integer, is_block, is_scalar, item, item_boxes, item_levels, items_of, joined, levels, List, max, new_line, no_items, no_pairs, not, null, pair, pair_boxes, pair_levels, pair_text, pairs_of, real, refl, Result, scalar_box, spelling, stacked, string, subst, sym, Tree, true, true≢false, WritesUnless, ℕ, ◌&&◌, ◌++◌, ◌+◌, ◌<◌, ◌∙◌, ◌∷◌, ◌≡◌}
+use Rattle.yaml_emitter.proofs.Common.{[], after_mark, ap, append-nil, append_assoc, array, before_block, before_entry, below, Bool, box, codes, complex_text, entries_text, false, hash, if◌then◌else◌, is_block, is_scalar, item, item_boxes, item_levels, items_of, joined, levels, List, max, new_line, no_items, no_pairs, not, pair, pair_boxes, pair_levels, pair_text, pairs_of, refl, Result, scalar_box, spelling, stacked, subst, sym, Tree, true, true≢false, writes_as, WritesUnless, ℕ, ◌&&◌, ◌++◌, ◌+◌, ◌<◌, ◌∙◌, ◌∷◌, ◌≡◌}
+use Rattle.std.proofs.Math.Bool.{and-false, and-true}
 use Rattle.defs_tree.specs.DumpText.{dump_text}
 use Rattle.yaml_emitter.proofs.EntryLemmas.{HasLines, lines, box_lines, next_item, next_pair}
 use Rattle.yaml_emitter.proofs.ListLemmas.{Entries}
 use Rattle.yaml_emitter.proofs.ValidLemmas.{nodes, nodes_in_pairs}
-use Rattle.yaml_emitter.proofs.WritingLemmas.{writes_as}
 
 -- a scalar, or the short form of an empty array or hash
 pub flat_box : (t : Tree) (c m r : Bool) → is_block t ≡ false → scalar_box m r t ≡ box c m r t
-flat_box (real s) c m r b = refl
-flat_box (integer z) c m r b = refl
-flat_box (string s) c m r b = refl
-flat_box (boolean x) c m r b = refl
 flat_box (array no_items) c m r b = refl
 flat_box (array (item t ts)) c m r b = absurd (true≢false b)
 flat_box (hash no_pairs) c m r b = refl
 flat_box (hash (pair k v ps)) c m r b = absurd (true≢false b)
-flat_box (alias n) c m r b = refl
-flat_box null c m r b = refl
-flat_box bad_value c m r b = refl
+flat_box t c m r b = refl
 
 -- an array or a hash with parts
 pub block_writes : {W E : Type 0} {gives leaves : W → List ℕ → W → Type 0} {w v : W} {r : Result (Unit {0}) E} {text : List ℕ} (c m at_root : Bool) (level : ℕ) (t s : Tree)
@@ -71,33 +65,21 @@ pub flat_after : (c m lower : Bool) (level : ℕ) (mark : List ℕ) (t : Tree) �
     → (mark ++ codes " ") ++ stacked (level + 1) (scalar_box m false t) ≡ mark ++ after_mark lower level t (box c m false t)
 flat_after c m lower level mark t e =
     append_assoc mark (codes " ") _
-    ∙ (λ i. mark ++ ((if sym (not_lower lower (is_block t) e) i then new_line (level + 1) else codes " ") ++ stacked (level + 1) (flat_box t c m false e i)))
-  where
-    not_lower : (a b : Bool) → b ≡ false → (a && b) ≡ false
-    not_lower true b e = e
-    not_lower false b e = refl
+    ∙ (λ i. mark ++ ((if sym (ap (λ b. lower && b) e ∙ and-false lower) i then new_line (level + 1) else codes " ")
+    ++ stacked (level + 1) (flat_box t c m false e i)))
 
 pub block_after : (c m lower : Bool) (level : ℕ) (mark : List ℕ) (t : Tree) → is_block t ≡ true
     → (mark ++ before_block lower level) ++ stacked (level + 1) (box c m false t) ≡ mark ++ after_mark lower level t (box c m false t)
 block_after c m lower level mark t e =
     append_assoc mark (before_block lower level) _
-    ∙ ap (λ b. mark ++ ((if b then new_line (level + 1) else codes " ") ++ stacked (level + 1) (box c m false t))) (sym (lower_so lower (is_block t) e))
-  where
-    lower_so : (a b : Bool) → b ≡ true → (a && b) ≡ a
-    lower_so true b e = e
-    lower_so false b e = refl
+    ∙ ap (λ b. mark ++ ((if b then new_line (level + 1) else codes " ") ++ stacked (level + 1) (box c m false t)))
+    (sym (ap (λ b. lower && b) e ∙ and-true lower))
 
 -- a block is written alike at the root
 pub root_block : (c m r : Bool) (t : Tree) → is_block t ≡ true → box c m false t ≡ box c m r t
 root_block c m r (array ts) e = refl
 root_block c m r (hash ps) e = refl
-root_block c m r (real s) e = cc
-root_block c m r (integer z) e = cc
-root_block c m r (string s) e = cc
-root_block c m r (boolean x) e = cc
-root_block c m r (alias n) e = cc
-root_block c m r null e = cc
-root_block c m r bad_value e = cc
+root_block c m r t e = cc
 
 -- the document's text, from its root's box
 pub document_text : (c m : Bool) (t : Tree) → codes "---\n" ++ stacked 0 (box c m true t) ≡ dump_text c m t

@@ -1,16 +1,11 @@
 -- The printable characters of ASCII that a text begins with.
 use Rattle.std.specs.Borrow.{Bor}
-use Rattle.yaml_emitter.proofs.Common.{[], and_from, and_parts, ap, arith, Bool, chars, chars-append, drop, false, is_line_feed, is_literal_character, is_low, is_some, is_unprintable, IsCharBoundary, IsCharBoundary-from_take, IsFirstCut, IsUnbroken, IsUtf8, IsUtf8-from_ascii, List, list_all, list_all-append, list_any, MatchOption, nat_lt, nat_tests, None, not, Option, prefix_len, prefix_len-le-length, refl, Some, sym, take, true, ℕ, ◌&&◌, ◌++◌, ◌||◌, ◌∙◌, ◌∷◌, ◌≡◌}
-use Rattle.yaml_emitter.proofs.EndLemmas.{halves}
-use Rattle.yaml_emitter.proofs.RunLemmas.{all_pass}
+use Rattle.yaml_emitter.proofs.Common.{[], ap, arith, Bool, chars, chars-append, drop, false, is_line_feed, is_literal_character, is_low, is_some, is_unprintable, IsCharBoundary, IsCharBoundary-from_take, IsFirstCut, IsUnbroken, IsUtf8, IsUtf8-from_ascii, List, list_all, list_all-append, list_all-more, list_any, MatchOption, nat_lt, nat_tests, not, Option, prefix_len, prefix_len-le-length, refl, sym, take, take-append-drop, true, ℕ, ◌&&◌, ◌++◌, ◌||◌, ◌∙◌, ◌∷◌, ◌≡◌}
+use Rattle.yaml_emitter.proofs.ByteLemmas.{all_pass}
 use Rattle.yaml_emitter.proofs.TextLemmas.{low_at, low_chars}
 
 abbrev printable : ℕ → Bool
 printable c = not (is_unprintable c)
-
-all_so : (p q : ℕ → Bool) → ((c : ℕ) → p c ≡ true → q c ≡ true) → (t : List ℕ) → list_all p t ≡ true → list_all q t ≡ true
-all_so p q f [] h = refl
-all_so p q f (c ∷ cs) h = let parts = and_parts (p c) (list_all p cs) h in and_from (q c) (list_all q cs) (f c parts.0) (all_so p q f cs parts.1)
 
 printable_low : (c : ℕ) → printable c ≡ true → nat_lt c 128 ≡ true
 printable_low c h = grind (arith, nat_tests)
@@ -20,7 +15,7 @@ unfolding is_literal_character
 printable_fits c h = grind (arith, nat_tests)
 
 front_low : (bs : List ℕ) → is_low (take (prefix_len printable bs) bs) ≡ true
-front_low bs = all_so printable (λ c. nat_lt c 128) printable_low (take (prefix_len printable bs) bs) (all_pass printable bs)
+front_low bs = list_all-more printable (λ c. nat_lt c 128) printable_low (take (prefix_len printable bs) bs) (all_pass printable bs)
 
 front_utf8 : (bs : List ℕ) → IsUtf8 (take (prefix_len printable bs) bs)
 front_utf8 bs = IsUtf8-from_ascii _ (low_at _ (front_low bs))
@@ -33,19 +28,15 @@ pub rest_printable : (bs : List ℕ) → list_all is_literal_character (chars (d
 rest_printable bs =
     let n = prefix_len printable bs in
     let front = take n bs in
-    let split : chars bs ≡ chars front ++ chars (drop n bs) = ap chars (sym (halves n bs)) ∙ chars-append front (drop n bs) (front_utf8 bs) in
-    let passes : list_all is_literal_character (chars front) ≡ true = ap (list_all is_literal_character) (low_chars front (front_low bs)) ∙ all_so printable is_literal_character printable_fits front (all_pass printable bs) in
+    let split : chars bs ≡ chars front ++ chars (drop n bs) = ap chars (sym (take-append-drop n bs)) ∙ chars-append front (drop n bs) (front_utf8 bs) in
+    let passes : list_all is_literal_character (chars front) ≡ true = ap (list_all is_literal_character) (low_chars front (front_low bs)) ∙ list_all-more printable is_literal_character printable_fits front (all_pass printable bs) in
     sym (ap (list_all is_literal_character) split ∙ list_all-append is_literal_character (chars front) (chars (drop n bs)) ∙ ap (λ b. b && list_all is_literal_character (chars (drop n bs))) passes)
 
 -- ---- a line feed
 
 after_feed : (a b : List ℕ) → list_any is_line_feed (a ++ 10 ∷ b) ≡ true
 after_feed [] b = refl
-after_feed (c ∷ a) b = ap (λ x. is_line_feed c || x) (after_feed a b) ∙ or_true (is_line_feed c)
-  where
-    or_true : (b : Bool) → (b || true) ≡ true
-    or_true true = refl
-    or_true false = refl
+after_feed (c ∷ a) b = grind (arith, after_feed a b)
 
 no_feed : (t : List ℕ) → IsUnbroken t → list_any is_line_feed t ≡ false
 no_feed [] n = refl

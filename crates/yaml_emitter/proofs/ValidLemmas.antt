@@ -1,30 +1,17 @@
 -- Valid trees, part by part.
-use Rattle.yaml_emitter.proofs.Common.{[], alias, ap, ArePairsValid, AreValid, array, bad_value, boolean, depth, Err, false, hash, hash_tree, integer, is_block, is_scalar, IsErr, IsValid, item, items_depth, items_of, List, max, no_items, no_pairs, null, Ok, OnErr, OnOk, pair, pair_list_of, pairs_depth, pairs_of, real, refl, Result, string, subst, sym, Tree, true, true≢false, ◌∷◌, ◌≡◌}
+use Rattle.yaml_emitter.proofs.Common.{[], ap, ArePairsValid, AreValid, arith, array, depth, false, hash, hash_tree, is_block, is_scalar, IsValid, item, items_depth, items_of, List, max, no_items, no_pairs, OnErr, OnOk, pair, pair_list_of, pairs_depth, pairs_of, refl, Result, subst, sym, Tree, true, true≢false, ◌∷◌, ◌≡◌}
 use Rattle.defs_tree.specs.Pairs.{AreDistinct}
 use Rattle.yaml_emitter.proofs.ListLemmas.{Members}
 
 -- ---- answers
 
-pub unless_ok : {E : Type 0} (P : Type 0) (r : Result (Unit {0}) E) → IsErr r → OnOk r P
-unless_ok P (Ok x) e = cc
-unless_ok P (Err x) e = tt
-
 pub in_any : {E P : Type 0} (r : Result (Unit {0}) E) → P → OnOk r P
-in_any (Ok x) p = p
-in_any (Err x) p = tt
+in_any a p = grind arith
 
 pub on_err : {E P : Type 0} (r : Result (Unit {0}) E) → P → OnErr r P
-on_err (Ok x) p = tt
-on_err (Err x) p = p
+on_err a p = grind arith
 
 -- ---- nodes
-
-pub valid_as : {E : Type 0} (r : Result (Unit {0}) E) (t s : Tree) → t ≡ s → OnOk r (IsValid s) → OnOk r (IsValid t)
-valid_as r t s e p = subst (λ x. OnOk r (IsValid x)) (sym e) p
-
-pub pair_valid : {E : Type 0} (r : Result (Unit {0}) E) (k v : Tree) → IsValid k → OnOk r (IsValid v) → OnOk r (IsValid k × IsValid v)
-pair_valid (Ok x) k v p q = (p, q)
-pair_valid (Err x) k v p q = tt
 
 -- an array or hash with no part, or a scalar
 pub flat_valid : (t : Tree) → is_block t ≡ false → (is_scalar t ≡ true → IsValid t) → IsValid t
@@ -32,13 +19,7 @@ flat_valid (array no_items) b h = (tt, tt)
 flat_valid (array (item t ts)) b h = absurd (true≢false b)
 flat_valid (hash no_pairs) b h = ((tt, tt), tt)
 flat_valid (hash (pair k v ps)) b h = absurd (true≢false b)
-flat_valid (real s) b h = h refl
-flat_valid (integer z) b h = h refl
-flat_valid (string s) b h = h refl
-flat_valid (boolean x) b h = h refl
-flat_valid (alias n) b h = h refl
-flat_valid null b h = h refl
-flat_valid bad_value b h = h refl
+flat_valid t b h = h refl
 
 -- ---- arrays and hashes, part by part
 
@@ -64,9 +45,12 @@ nodes_in_pairs = record {
   more_fit = λ p ps f fs. ((f.0.0, f.1.0, fs.0), (f.0.1, f.1.1, fs.1));
 }
 
-same_pairs : (ps : List (Tree × Tree)) → pair_list_of (pairs_of ps) ≡ ps
-same_pairs [] = refl
-same_pairs (p ∷ ps) = ap (λ xs. p ∷ xs) (same_pairs ps)
+pub distinct_pairs : (ps : List (Tree × Tree)) → AreDistinct ps → AreDistinct (pair_list_of (pairs_of ps))
+distinct_pairs ps d = subst AreDistinct (sym (same ps)) d
+  where
+    same : (ps : List (Tree × Tree)) → pair_list_of (pairs_of ps) ≡ ps
+    same [] = refl
+    same (p ∷ ps) = ap (λ xs. p ∷ xs) (same ps)
 
 pub valid_hash : (ps : List (Tree × Tree)) → AreDistinct ps → ArePairsValid (pairs_of ps) → IsValid (hash_tree ps)
-valid_hash ps d v = ((subst AreDistinct (sym (same_pairs ps)) d, v.0), v.1)
+valid_hash ps d v = ((distinct_pairs ps d, v.0), v.1)

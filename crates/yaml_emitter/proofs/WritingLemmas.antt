@@ -1,9 +1,9 @@
 -- Writes after writes.
-use Rattle.yaml_emitter.proofs.Common.{[], ap, append-nil, append_assoc, concat, Err, FoldsTo, inl, inr, IsErr, IsLeft, IsOk, IsRefused, List, Ok, refl, Result, Stopped, subst, sym, WritesUnless, Wrote, ℕ, ◌++◌, ◌∙◌, ◌∷◌, ◌≡◌}
-
-concat_append : (xs ys : List (List ℕ)) → concat (xs ++ ys) ≡ concat xs ++ concat ys
-concat_append [] ys = refl
-concat_append (x ∷ xs) ys = ap (λ t. x ++ t) (concat_append xs ys) ∙ sym (append_assoc x (concat xs) (concat ys))
+use Rattle.std.proofs.Common.{[], ap, append-nil, append_assoc, arith, inl, inr, List, refl, subst, sym, ℕ, ◌++◌, ◌∙◌, ◌∷◌, ◌≡◌}
+use Rattle.std.proofs.lemmas.List.Folds.{concat-append}
+use Rattle.std.specs.List.{concat, FoldsTo}
+use Rattle.std.specs.Prelude.{IsErr, IsOk, Result}
+use Rattle.yaml_emitter.specs.Writing.{IsLeft, Stopped, WritesUnless, Wrote}
 
 calls_append : {W : Type 0} (gives : W → List ℕ → W → Type 0) (w : W) (xs : List (List ℕ)) (v : W) (ys : List (List ℕ)) (u : W)
     → FoldsTo gives w xs v → FoldsTo gives v ys u → FoldsTo gives w (xs ++ ys) u
@@ -23,7 +23,7 @@ pub wrote_then : {W : Type 0} {gives : W → List ℕ → W → Type 0} {w v u :
 wrote_then {gives = gives} {w} {v} {u} {a} {b} p q = record {
   parts = p.parts ++ q.parts;
   calls = calls_append gives w p.parts v q.parts u p.calls q.calls;
-  whole = concat_append p.parts q.parts ∙ ap (λ t. t ++ concat q.parts) p.whole ∙ ap (λ t. a ++ t) q.whole;
+  whole = concat-append p.parts q.parts ∙ ap (λ t. t ++ concat q.parts) p.whole ∙ ap (λ t. a ++ t) q.whole;
 }
 
 -- a call that is refused
@@ -37,9 +37,6 @@ stopped_one gives leaves w v a p = record {
   end = inl (record { piece = a; rest = []; refused = p; whole = append-nil a });
 }
 
-refused_more : {W : Type 0} {leaves : W → List ℕ → W → Type 0} {w v : W} {a : List ℕ} (b : List ℕ) → IsRefused leaves w a v → IsRefused leaves w (a ++ b) v
-refused_more b p = record { piece = p.piece; rest = p.rest ++ b; refused = p.refused; whole = sym (append_assoc p.piece p.rest b) ∙ ap (λ t. t ++ b) p.whole }
-
 -- a stop, where more was to be written
 pub stopped_early : {W : Type 0} {gives leaves : W → List ℕ → W → Type 0} {reason : Type 0} {w v : W} {a : List ℕ} (b : List ℕ)
     → Stopped gives leaves reason w a v → Stopped gives leaves reason w (a ++ b) v
@@ -49,7 +46,15 @@ stopped_early b p = record {
   at = p.at;
   wrote = p.wrote;
   whole = sym (append_assoc p.written p.rest b) ∙ ap (λ t. t ++ b) p.whole;
-  end = elim p.end [ inl r ↦ inl (refused_more b r) | inr e ↦ inr e ];
+  end = elim p.end [
+    | inl r ↦ inl (record {
+      piece = r.piece;
+      rest = r.rest ++ b;
+      refused = r.refused;
+      whole = sym (append_assoc r.piece r.rest b) ∙ ap (λ t. t ++ b) r.whole;
+    })
+    | inr e ↦ inr e
+  ];
 }
 
 -- a stop after what was written
@@ -100,9 +105,8 @@ pub writes_as : {W E : Type 0} {gives leaves : W → List ℕ → W → Type 0} 
     → a ≡ b → WritesUnless reason gives leaves w r a v → WritesUnless reason gives leaves w r b v
 writes_as {gives = gives} {leaves} {reason} {w} {v} {r = r} e = subst (λ t. WritesUnless reason gives leaves w r t v) e
 
-not_both : {E : Type 0} (r : Result (Unit {0}) E) → IsErr r → IsOk r → ⊥
-not_both (Ok x) e k = cc
-not_both (Err x) e k = cc
+pub not_both : {E : Type 0} (r : Result (Unit {0}) E) → IsErr r → IsOk r → ⊥
+not_both a e k = grind arith
 
 -- the end of a function that is stopped
 pub writes_err : {W E : Type 0} {gives leaves : W → List ℕ → W → Type 0} {reason : Type 0} {w v : W} {a : List ℕ} {r : Result (Unit {0}) E}
@@ -125,6 +129,14 @@ left_as {gives = gives} {w} {v} {text} e = subst (λ t. IsLeft gives w text v t)
 pub left_after : {W : Type 0} {gives : W → List ℕ → W → Type 0} {w v u : W} {text a b : List ℕ}
     → IsLeft gives w text v (a ++ b) → Wrote gives v a u → IsLeft gives w text u b
 left_after {a = a} {b} p q = record { written = p.written ++ a; wrote = wrote_then p.wrote q; whole = append_assoc p.written a b ∙ p.whole }
+
+pub left_then : {W : Type 0} {gives : W → List ℕ → W → Type 0} {w v u : W} {text a b : List ℕ}
+    → IsLeft gives w text v a → IsLeft gives v a u b → IsLeft gives w text u b
+left_then {b = b} p q = record {
+  written = p.written ++ q.written;
+  wrote = wrote_then p.wrote q.wrote;
+  whole = append_assoc p.written q.written b ∙ ap (λ x. p.written ++ x) q.whole ∙ p.whole;
+}
 
 pub left_none : {W : Type 0} {gives : W → List ℕ → W → Type 0} {w v : W} {text : List ℕ} → IsLeft gives w text v [] → Wrote gives w text v
 left_none {gives = gives} {w} {v} p = subst (λ t. Wrote gives w t v) (sym (append-nil p.written) ∙ p.whole) p.wrote

@@ -1,5 +1,5 @@
 -- How arrays and objects begin, grow and end.
-use Rattle.yaml_json.proofs.ReadCommon.{[], Adds, ap, append_assoc, ap₂, AreElements, AreItems, AreMembers, ArePairs, arith, array_tree, Bool, cond, element_levels, Elements, false, hash_tree, IsGap, IsInArray, IsInMember, IsInObject, IsJson, IsKey, IsStringEnd, IsValue, item, items, items_of, Json, levels, List, max, member_levels, Members, None, pair_list, PutsItem, PutsMember, refl, Some, spell, spell_elements, spell_gap, spell_members, spell_string, subst, suc, sym, Tree, tree_of, true, true≢false, ℕ, ◌++◌, ◌∙◌, ◌∷◌, ◌≡◌, ◌≤◌}
+use Rattle.yaml_json.proofs.ReadCommon.{[], Adds, ap, append_assoc, ap₂, AreItems, ArePairs, arith, array_tree, Bool, cond, element_levels, false, hash_tree, IsGap, IsInArray, IsInObject, IsKey, IsStringEnd, IsValue, item, items_of, levels, List, max, member_levels, None, PutsItem, PutsMember, refl, Some, spell, spell_gap, spell_string, subst, suc, sym, Tree, true, true≢false, ℕ, ◌++◌, ◌∙◌, ◌∷◌, ◌≡◌, ◌≤◌}
 use Rattle.defs_tree.specs.Order.{tree_eq}
 use Rattle.defs_tree.proofs.OrderLaws.{tree_eq_decides}
 use Rattle.defs_tree.proofs.PairsLaws.{AreDistinct-append}
@@ -42,17 +42,6 @@ array_begun n g = record {
   };
 }
 
-pub array_grown : (ts : List Tree) (t : Tree) (n : ℕ) (text at : List ℕ) {rest behind next : List ℕ} → IsInArray ts n text at → IsValue t n at rest → IsGap false rest (comma ∷ behind) → IsGap false behind next
-    → IsInArray (ts ++ t ∷ []) n text next
-array_grown ts t n text at a v g h = record {
-  ends = λ more end es.
-      subst (λ x. IsValue (array_tree x) (suc n) text end) (sym (append_assoc ts (t ∷ []) more)) (a.ends (t ∷ more) end (item_before v g h es));
-}
-
-pub array_ended : (ts : List Tree) (t : Tree) (n : ℕ) (text at : List ℕ) {rest end : List ℕ} → IsInArray ts n text at → IsValue t n at rest → IsGap false rest (right_bracket ∷ end)
-    → IsValue (array_tree (ts ++ t ∷ [])) (suc n) text end
-array_ended ts t n text at {rest} {end} a v g = a.ends (t ∷ []) end (one_item v g)
-
 pub array_empty : {n : ℕ} {inner rest : List ℕ} → 1 ≤ n → IsGap false inner (right_bracket ∷ rest) → IsValue (array_tree []) n (left_bracket ∷ inner) rest
 array_empty h g = record { value = json.empty_array g.gap; is = g.tabs; tree_is = refl; shallow = h; spelled = ap (λ x. left_bracket ∷ x) g.spelled }
 
@@ -93,19 +82,6 @@ object_begun n g = record {
   };
 }
 
-pub object_grown : (ps : List (Tree × Tree)) (k t : Tree) (n : ℕ) (text at : List ℕ) {rest behind next : List ℕ} → IsInMember ps k n text at → AreDistinct (ps ++ (k, t) ∷ []) → IsValue t n at rest → IsGap false rest (comma ∷ behind) → IsGap false behind next
-    → IsInObject (ps ++ (k, t) ∷ []) n text next
-object_grown ps k t n text at o distinct v g h = record {
-  distinct = distinct;
-  ends = λ more end ms still.
-      let e : (ps ++ (k, t) ∷ []) ++ more ≡ ps ++ (k, t) ∷ more = append_assoc ps ((k, t) ∷ []) more in
-      subst (λ x. IsValue (hash_tree x) (suc n) text end) (sym e) (o.before.ends ((k, t) ∷ more) end (pair_before o.key_is v g h ms) (subst AreDistinct e still));
-}
-
-pub object_ended : (ps : List (Tree × Tree)) (k t : Tree) (n : ℕ) (text at : List ℕ) {rest end : List ℕ} → IsInMember ps k n text at → AreDistinct (ps ++ (k, t) ∷ []) → IsValue t n at rest → IsGap false rest (right_brace ∷ end)
-    → IsValue (hash_tree (ps ++ (k, t) ∷ [])) (suc n) text end
-object_ended ps k t n text at {rest} {end} o distinct v g = o.before.ends ((k, t) ∷ []) end (one_pair o.key_is v g) distinct
-
 pub object_empty : {n : ℕ} {inner rest : List ℕ} → 1 ≤ n → IsGap false inner (right_brace ∷ rest) → IsValue (hash_tree []) n (left_brace ∷ inner) rest
 object_empty h g = record { value = json.empty_object g.gap; is = g.tabs; tree_is = refl; shallow = h; spelled = ap (λ x. left_brace ∷ x) g.spelled }
 
@@ -125,23 +101,38 @@ pair_added k v ps qs e is =
     let pairs : qs ≡ ps ++ (k, v) ∷ [] = is ∙ ap (λ x. x ++ (k, v) ∷ []) r.1 in
     record { pairs = pairs; distinct = λ d. subst AreDistinct (sym pairs) (AreDistinct-append k v ps d r.0) }
 
-pub member_put : (ps qs : List (Tree × Tree)) (k next t : Tree) (r0 r1 r2 r3 r4 : List ℕ) → Adds ps k t qs → IsGap false r0 r1 → r1 ≡ 44 ∷ r2 → IsGap false r2 r3 → IsKey next r3 r4 → PutsMember ps k t false qs next r0 r4
-member_put ps qs k next t r0 r1 r2 r3 r4 a g e h key n text at o v =
-    record {
-      at = r3;
-      before = subst (λ x. IsInObject x n text r3) (sym a.pairs) (object_grown ps k t n text at o (subst AreDistinct a.pairs (a.distinct o.before.distinct)) v (subst (IsGap false r0) e g) h);
-      key_is = key;
-    }
+pub member_put : (ps qs : List (Tree × Tree)) (k next t : Tree) (r0 r1 r2 r3 r4 : List ℕ)
+    → Adds ps k t qs → IsGap false r0 r1 → r1 ≡ 44 ∷ r2 → IsGap false r2 r3 → IsKey next r3 r4 → PutsMember ps k t false qs next r0 r4
+member_put ps qs k next t r0 r1 r2 r3 r4 a g e h key n text at o v = record {
+  at = r3;
+  before = subst (λ x. IsInObject x n text r3) (sym a.pairs) (record {
+    distinct = subst AreDistinct a.pairs (a.distinct o.before.distinct);
+    ends = λ more end ms still.
+        let same : (ps ++ (k, t) ∷ []) ++ more ≡ ps ++ (k, t) ∷ more = append_assoc ps ((k, t) ∷ []) more in
+        subst (λ x. IsValue (hash_tree x) (suc n) text end) (sym same)
+        (o.before.ends ((k, t) ∷ more) end (pair_before o.key_is v (subst (IsGap false r0) e g) h ms) (subst AreDistinct same still));
+  });
+  key_is = key;
+}
 
-pub member_last : (ps qs : List (Tree × Tree)) (k next t : Tree) (r0 r1 r2 : List ℕ) → Adds ps k t qs → IsGap false r0 r1 → r1 ≡ 125 ∷ r2 → PutsMember ps k t true qs next r0 r2
+pub member_last : (ps qs : List (Tree × Tree)) (k next t : Tree) (r0 r1 r2 : List ℕ) → Adds ps k t qs → IsGap false r0 r1 → r1 ≡ 125 ∷ r2
+    → PutsMember ps k t true qs next r0 r2
 member_last ps qs k next t r0 r1 r2 a g e n text at o v =
-    subst (λ x. IsValue (hash_tree x) (suc n) text r2) (sym a.pairs) (object_ended ps k t n text at o (subst AreDistinct a.pairs (a.distinct o.before.distinct)) v (subst (IsGap false r0) e g))
+    subst (λ x. IsValue (hash_tree x) (suc n) text r2) (sym a.pairs)
+    (o.before.ends ((k, t) ∷ []) r2 (one_pair o.key_is v (subst (IsGap false r0) e g))
+    (subst AreDistinct a.pairs (a.distinct o.before.distinct)))
 
-pub item_put : (ts us : List Tree) (t : Tree) (r0 r1 r2 r3 : List ℕ) → us ≡ ts ++ t ∷ [] → IsGap false r0 r1 → r1 ≡ 44 ∷ r2 → IsGap false r2 r3 → PutsItem ts t false us r0 r3
-item_put ts us t r0 r1 r2 r3 is g e h n text at a v = subst (λ x. IsInArray x n text r3) (sym is) (array_grown ts t n text at a v (subst (IsGap false r0) e g) h)
+pub item_put : (ts us : List Tree) (t : Tree) (r0 r1 r2 r3 : List ℕ)
+    → us ≡ ts ++ t ∷ [] → IsGap false r0 r1 → r1 ≡ 44 ∷ r2 → IsGap false r2 r3 → PutsItem ts t false us r0 r3
+item_put ts us t r0 r1 r2 r3 is g e h n text at a v = subst (λ x. IsInArray x n text r3) (sym is) (record {
+  ends = λ more end es.
+      subst (λ x. IsValue (array_tree x) (suc n) text end) (sym (append_assoc ts (t ∷ []) more))
+      (a.ends (t ∷ more) end (item_before v (subst (IsGap false r0) e g) h es));
+})
 
 pub item_last : (ts us : List Tree) (t : Tree) (r0 r1 r2 : List ℕ) → us ≡ ts ++ t ∷ [] → IsGap false r0 r1 → r1 ≡ 93 ∷ r2 → PutsItem ts t true us r0 r2
-item_last ts us t r0 r1 r2 is g e n text at a v = subst (λ x. IsValue (array_tree x) (suc n) text r2) (sym is) (array_ended ts t n text at a v (subst (IsGap false r0) e g))
+item_last ts us t r0 r1 r2 is g e n text at a v =
+    subst (λ x. IsValue (array_tree x) (suc n) text r2) (sym is) (a.ends (t ∷ []) r2 (one_item v (subst (IsGap false r0) e g)))
 
 pub key_read : (value r0 r1 r2 r3 r4 r5 : List ℕ) → r0 ≡ 34 ∷ r1 → IsStringEnd value r1 r2 → IsGap false r2 r3 → r3 ≡ 58 ∷ r4 → IsGap false r4 r5 → IsKey (Tree.string value) r0 r5
 key_read value r0 r1 r2 r3 r4 r5 e s g f h = record {

@@ -1,6 +1,6 @@
 -- The digits of a number.
 use Rattle.std.proofs.Math.Seq.{take-length}
-use Rattle.yaml_json.proofs.Common.{[], ap, append_assoc, arith, Bool, decimal, decimal_digit, decimal_step, drop, eq-zero-or-pos, eqb, eqb→eq, false, FitsSigned, get_or, inl, inr, int_le, IsAscii, IsAscii-signed, length, length-append, length-drop, List, nat_le, nat_tests, negsuc, pos, refl, signed_decimal, suc, sym, T, take, true, unsigned_abs, w64, zero, ℕ, ℤ, ◌%◌, ◌&&◌, ◌*◌, ◌++◌, ◌+◌, ◌-◌, ◌/◌, ◌<◌, ◌^◌, ◌∙◌, ◌∷◌, ◌≡◌, ◌≤◌}
+use Rattle.yaml_json.proofs.Common.{[], ap, append_assoc, arith, Bool, decimal, decimal_digit, decimal_step, drop, eq-zero-or-pos, eqb, eqb→eq, false, FitsSigned, get_or, inl, inr, int_le, IsAscii, IsAscii-signed, length, length-append, length-drop, List, nat_tests, negsuc, pos, signed_decimal, suc, sym, T, take, true, unsigned_abs, w64, zero, ℕ, ℤ, ◌%◌, ◌&&◌, ◌*◌, ◌++◌, ◌+◌, ◌-◌, ◌/◌, ◌<◌, ◌^◌, ◌∙◌, ◌∷◌, ◌≡◌, ◌≤◌}
 use lib.Ieee.Fits.{and_l, and_r}
 use Rattle.yaml_json.specs.declared.integer.TheConstants.{PAIRS}
 
@@ -8,16 +8,13 @@ abbrev are_pairs : ℕ → Bool
 are_pairs zero = true
 are_pairs (suc p) = (eqb (get_or PAIRS (2 * p) 0) (48 + p / 10) && eqb (get_or PAIRS (2 * p + 1) 0) (48 + p % 10)) && are_pairs p
 
-pairs_below : (n p : ℕ) → T (are_pairs n) → p < n → (get_or PAIRS (2 * p) 0 ≡ 48 + p / 10) × (get_or PAIRS (2 * p + 1) 0 ≡ 48 + p % 10)
+pub pairs_below : (n p : ℕ) → T (are_pairs n) → p < n → (get_or PAIRS (2 * p) 0 ≡ 48 + p / 10) × (get_or PAIRS (2 * p + 1) 0 ≡ 48 + p % 10)
 pairs_below zero p t h = absurd (omega arith)
 pairs_below (suc n) p t h =
     elim (eq-zero-or-pos (n - p)) [
       | inl z ↦ let e : p ≡ n = omega arith in let a = and_l _ (are_pairs n) t in rw e (eqb→eq _ _ (and_l _ _ a), eqb→eq _ _ (and_r _ _ a))
       | inr g ↦ pairs_below n p (and_r _ (are_pairs n) t) (omega arith)
     ]
-
-pub pair_at : (p : ℕ) → p < 100 → (get_or PAIRS (2 * p) 0 ≡ 48 + p / 10) × (get_or PAIRS (2 * p + 1) 0 ≡ 48 + p % 10)
-pair_at p h = pairs_below 100 p tt h
 
 -- the two digits of a number below 100
 abbrev pub pair : ℕ → List ℕ
@@ -41,11 +38,7 @@ longer_by_two n lo hi = ap length (two_more n lo hi) ∙ length-append _ _
 
 -- a negative number
 pub minus_first : (z : ℤ) → int_le (pos 0) z ≡ false → 45 ∷ decimal (unsigned_abs z) ≡ signed_decimal z
-minus_first (pos n) e = let k : nat_le 0 n ≡ true = grind (arith, nat_tests) in absurd (apart (nat_le 0 n) k e)
-  where
-    apart : (b : Bool) → b ≡ true → b ≡ false → ⊥
-    apart b e f = cc
-minus_first (negsuc n) e = refl
+minus_first a e = grind (arith, nat_tests)
 
 -- what stands at the end of the buffer
 pub end_text : (n : ℕ) (bs text : List ℕ) → length bs ≡ 20 → drop n bs ≡ text → take (20 - n) (drop n bs) ≡ text

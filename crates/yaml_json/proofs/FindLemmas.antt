@@ -1,11 +1,7 @@
 -- The path to a node that has no JSON text.
-use Rattle.yaml_json.proofs.Common.{[], ap, arith, Fault, fault_in, get_or, get_or-eq_default, get_or-map, Global, IsSoundAtRoot, items_view, last_step, length, Level, List, map, null, refl, reverse, reverse-append, Some, step_of, step_view, String, view, Yaml, ℕ, ◌++◌, ◌∙◌, ◌∷◌, ◌≡◌, ◌≤◌}
+use Rattle.yaml_json.proofs.Common.{[], ap, arith, Fault, fault_in, get_or, get_or-eq_default, get_or-map, Global, IsSoundAtRoot, items_view, last_step, length, Level, List, null, refl, Some, step_of, String, view, Yaml, ℕ, ◌∙◌, ◌∷◌, ◌≡◌, ◌≤◌}
 use Rattle.defs_tree.specs.Path as tree_path
-use Rattle.yaml_json.specs.declared.error.Step.{Step}
 use Rattle.yaml_tree.specs.declared.yaml.Yaml.TheVariants as yamls
-
-pub pushed : (xs ys : List Step) (s : Step) → ys ≡ xs ++ s ∷ [] → map step_view (reverse ys) ≡ step_view s ∷ map step_view (reverse xs)
-pushed xs ys s e = ap (λ zs. map step_view (reverse zs)) e ∙ ap (map step_view) (reverse-append xs (s ∷ []))
 
 -- a path with a step
 pub is_below : (ls : List Level) (f : Fault) → (f.path ≡ [] → ⊥) → IsSoundAtRoot (fault_in ls (Some f))
@@ -14,15 +10,8 @@ is_below (l ∷ ls) f h = is_below ls (record { path = last_step l ∷ f.path; r
 
 -- the step to the value of a key that is no string
 pub other_step : (y : Yaml) → ((x : String Global) → y ≡ yamls.String x → ⊥) → step_of (view y) ≡ tree_path.key []
-other_step (yamls.Real s) h = refl
-other_step (yamls.Integer z) h = refl
 other_step (yamls.String s) h = absurd (h s refl)
-other_step (yamls.Boolean b) h = refl
-other_step (yamls.Array x) h = refl
-other_step (yamls.Hash x) h = refl
-other_step (yamls.Alias n) h = refl
-other_step yamls.Null h = refl
-other_step yamls.BadValue h = refl
+other_step y h = refl
 
 -- where there is no such key
 pub no_step : (row : List Yaml) (n m : ℕ) → m ≡ n → length row ≤ m → step_of (get_or (items_view row) n null) ≡ tree_path.key []

@@ -1,7 +1,8 @@
 -- What every tree of the library meets, part by part.
 use Rattle.std.specs.Str.{chars}
-use Rattle.yaml_json.proofs.Common.{[], alias, all_scalars, AllHaveJson, and_from, and_parts, ap, are_characters, are_strings, AreGiven, AreMembers, ArePairsGiven, arith, array, bad_value, below, Bool, boolean, false, Fault, first_fault, first_item_fault, first_member_fault, first_of, flat_text, has_other_key, hash, hash_tree, HasJson, here, if◌then◌else◌, index, integer, is_block, is_character, is_json_real, is_no_number, is_string, IsFlatGiven, IsGiven, IsKey, IsKeyGiven, IsScalar, IsUtf8, item, Items, json_text, List, nat_tests, no_items, no_pairs, None, null, OnOk, Option, pair, pair_list_of, Pairs, pairs_of, real, refl, Result, scalars-chars, Some, Step, step_of, string, subst, sym, Tree, true, true≢false, ℕ, ◌+◌, ◌∷◌, ◌≡◌}
+use Rattle.yaml_json.proofs.Common.{[], all_scalars, AllHaveJson, and_from, and_parts, are_characters, are_strings, AreGiven, AreMembers, ArePairsGiven, arith, array, below, Bool, boolean, false, Fault, first_fault, first_item_fault, first_member_fault, first_of, flat_text, has_other_key, hash, hash_tree, HasJson, here, if◌then◌else◌, index, integer, is_block, is_character, is_json_real, is_no_number, is_string, IsFlatGiven, IsGiven, IsKey, IsKeyGiven, IsScalar, IsUtf8, item, Items, json_text, List, nat_tests, no_items, no_pairs, None, null, Option, pair, Pairs, pairs_of, real, refl, scalars-chars, Step, step_of, string, Tree, true, true≢false, ℕ, ◌+◌, ◌∷◌, ◌≡◌}
 use Rattle.defs_tree.specs.Pairs.{AreDistinct}
+use Rattle.yaml_emitter.proofs.ValidLemmas.{distinct_pairs}
 
 -- ---- texts
 
@@ -23,36 +24,17 @@ flat_given (array no_items) b g = tt
 flat_given (array (item t ts)) b g = absurd (true≢false b)
 flat_given (hash no_pairs) b g = (tt, tt)
 flat_given (hash (pair k v ps)) b g = absurd (true≢false b)
-flat_given (real s) b g = g
-flat_given (integer z) b g = g
-flat_given (string s) b g = g
-flat_given (boolean x) b g = g
-flat_given (alias n) b g = g
-flat_given null b g = g
-flat_given bad_value b g = g
+flat_given t b g = g
 
 pub flat_text_is : (t : Tree) (i : Option ℕ) (m : ℕ) → is_block t ≡ false → flat_text t ≡ json_text i m t
 flat_text_is (array no_items) i m b = refl
 flat_text_is (array (item t ts)) i m b = absurd (true≢false b)
 flat_text_is (hash no_pairs) i m b = refl
 flat_text_is (hash (pair k v ps)) i m b = absurd (true≢false b)
-flat_text_is (real s) i m b = refl
-flat_text_is (integer z) i m b = refl
-flat_text_is (string s) i m b = refl
-flat_text_is (boolean x) i m b = refl
-flat_text_is (alias n) i m b = refl
-flat_text_is null i m b = refl
-flat_text_is bad_value i m b = refl
-
-pub given_as : {E : Type 0} (r : Result (Unit {0}) E) (t s : Tree) → t ≡ s → OnOk r (IsGiven s) → OnOk r (IsGiven t)
-given_as r t s e p = subst (λ x. OnOk r (IsGiven x)) (sym e) p
-
-same_pairs : (ps : List (Tree × Tree)) → pair_list_of (pairs_of ps) ≡ ps
-same_pairs [] = refl
-same_pairs (p ∷ ps) = ap (λ xs. p ∷ xs) (same_pairs ps)
+flat_text_is t i m b = refl
 
 pub given_hash : (ps : List (Tree × Tree)) → AreDistinct ps → ArePairsGiven (pairs_of ps) → IsGiven (hash_tree ps)
-given_hash ps d v = (subst AreDistinct (sym (same_pairs ps)) d, v)
+given_hash ps d v = (distinct_pairs ps d, v)
 
 -- ---- with no fault
 
@@ -61,14 +43,7 @@ none_first s a q e = grind arith
 
 key_has : (k : Tree) → is_string k ≡ true → IsKeyGiven k → IsKey k
 key_has (string s) e g = g
-key_has (real s) e g = cc
-key_has (integer z) e g = cc
-key_has (boolean b) e g = cc
-key_has (array ts) e g = cc
-key_has (hash ps) e g = cc
-key_has (alias n) e g = cc
-key_has null e g = cc
-key_has bad_value e g = cc
+key_has k e g = cc
 
 real_has : (b : Bool) → (if b then None else here is_no_number) ≡ None → b ≡ true
 real_has a e = grind arith
@@ -84,9 +59,8 @@ mutual
   has_json (boolean b) e g = tt
   has_json (array ts) e g = items_have 0 ts e g
   has_json (hash ps) e g = let h = keys_have (are_strings ps) (first_member_fault ps) e in (g.0, members_have ps h.0 h.1 g.1)
-  has_json (alias n) e g = cc
   has_json null e g = tt
-  has_json bad_value e g = cc
+  has_json t e g = cc
 
   items_have : (n : ℕ) (ts : Items) → first_item_fault n ts ≡ None → AreGiven ts → AllHaveJson ts
   items_have n no_items e g = tt

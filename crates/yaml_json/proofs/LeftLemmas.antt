@@ -1,5 +1,6 @@
 -- What is left to write of arrays and objects.
-use Rattle.yaml_json.proofs.Common.{alias, ap, append_assoc, AreGiven, ArePairsGiven, ArePartsGiven, arith, array, bad_value, before_entry, Bool, boolean, closing, deeper, depth, drop, Entries, false, get_or, hash, integer, is_block, is_low, IsGiven, IsKeyGiven, IsTooWide, item, item_nesting, Items, items_depth, items_left, items_of, items_view, json_text, key_end, key_text, left_in, length, List, max, member_nesting, members_left, more_items, more_members, mul-le-mul_left, nesting, new_line, no_items, no_pairs, nodes, null, opening, Option, pair, paired, Pairs, pairs_depth, pairs_of, part_nesting, part_nodes, parts_left, real, refl, string, subst, suc, sym, Tree, true, true≢false, unwrap_or, view, Yaml, ℕ, ◌++◌, ◌+◌, ◌<◌, ◌^◌, ◌∙◌, ◌≡◌, ◌≤◌}
+use Rattle.yaml_json.proofs.ReadCommon.{Result}
+use Rattle.yaml_json.proofs.Common.{ap, append_assoc, AreGiven, ArePairsGiven, ArePartsGiven, arith, array, before_entry, Bool, closing, deeper, depth, drop, Entries, false, get_or, hash, is_block, is_low, IsGiven, IsKeyGiven, IsTooWide, item, item_nesting, Items, items_depth, items_left, items_of, items_view, json_text, key_end, key_text, left_in, length, List, max, member_nesting, members_left, more_items, more_members, mul-le-mul_left, nesting, new_line, nodes, opening, Option, pair, paired, Pairs, pairs_depth, pairs_of, part_nesting, part_nodes, parts_left, refl, subst, suc, sym, Tree, true, unwrap_or, view, WritesUnless, Yaml, ℕ, ◌++◌, ◌+◌, ◌<◌, ◌^◌, ◌∙◌, ◌≡◌, ◌≤◌}
 use Rattle.yaml_json.proofs.RowLemmas.{item_left, member_left}
 
 -- ---- how wide
@@ -17,13 +18,7 @@ wide_margin i m n w = omega arith
 pub part_wide : (t : Tree) → is_block t ≡ true → nesting t ≡ suc (part_nesting t)
 part_wide (array ts) b = refl
 part_wide (hash ps) b = refl
-part_wide (real s) b = absurd (true≢false (sym b))
-part_wide (integer z) b = absurd (true≢false (sym b))
-part_wide (string s) b = absurd (true≢false (sym b))
-part_wide (boolean x) b = absurd (true≢false (sym b))
-part_wide (alias n) b = absurd (true≢false (sym b))
-part_wide null b = absurd (true≢false (sym b))
-part_wide bad_value b = absurd (true≢false (sym b))
+part_wide t b = cc
 
 -- of a node that has parts
 pub part_inside : (i : Option ℕ) (m inner : ℕ) (t : Tree) → is_block t ≡ true → inner ≡ deeper i m → IsTooWide i inner (part_nesting t) → IsTooWide i m (nesting t)
@@ -36,14 +31,7 @@ part_margin i m t b w = subst (IsTooWide i m) (sym (part_wide t b)) (wide_margin
 
 pub low_brackets : (t : Tree) → (is_low (opening t) ≡ true) × (is_low (closing t) ≡ true)
 low_brackets (array ts) = (refl, refl)
-low_brackets (hash ps) = (refl, refl)
-low_brackets (real s) = (refl, refl)
-low_brackets (integer z) = (refl, refl)
-low_brackets (string s) = (refl, refl)
-low_brackets (boolean x) = (refl, refl)
-low_brackets (alias n) = (refl, refl)
-low_brackets null = (refl, refl)
-low_brackets bad_value = (refl, refl)
+low_brackets t = (refl, refl)
 
 -- the text between the brackets, and they
 abbrev around : Option ℕ → ℕ → Tree → ℕ → List ℕ
@@ -53,21 +41,18 @@ pub in_brackets : (i : Option ℕ) (m inner : ℕ) (t : Tree) → inner ≡ deep
     → opening t ++ (parts_left true i inner t ++ (new_line i m ++ closing t)) ≡ json_text i m t
 in_brackets i m inner (array (item t ts)) e b = ap (around i m (array (item t ts))) e ∙ simp append_assoc
 in_brackets i m inner (hash (pair k v ps)) e b = ap (around i m (hash (pair k v ps))) e ∙ simp append_assoc
-in_brackets i m inner (array no_items) e b = absurd (true≢false (sym b))
-in_brackets i m inner (hash no_pairs) e b = absurd (true≢false (sym b))
-in_brackets i m inner (real s) e b = absurd (true≢false (sym b))
-in_brackets i m inner (integer z) e b = absurd (true≢false (sym b))
-in_brackets i m inner (string s) e b = absurd (true≢false (sym b))
-in_brackets i m inner (boolean x) e b = absurd (true≢false (sym b))
-in_brackets i m inner (alias n) e b = absurd (true≢false (sym b))
-in_brackets i m inner null e b = absurd (true≢false (sym b))
-in_brackets i m inner bad_value e b = absurd (true≢false (sym b))
+in_brackets i m inner t e b = cc
 
 -- the brackets as they are written
 pub put_in_brackets : {before after : List ℕ} (i : Option ℕ) (m inner : ℕ) (t : Tree) → before ≡ opening t → after ≡ closing t → inner ≡ deeper i m → is_block t ≡ true
     → before ++ (parts_left true i inner t ++ (new_line i m ++ after)) ≡ json_text i m t
 put_in_brackets {after = after} i m inner t o c e b =
     ap (λ x. x ++ (parts_left true i inner t ++ (new_line i m ++ after))) o ∙ ap (λ x. opening t ++ (parts_left true i inner t ++ (new_line i m ++ x))) c ∙ in_brackets i m inner t e b
+
+-- the parts of the same tree
+pub parts_as : {W E : Type 0} {gives leaves : W → List ℕ → W → Type 0} {w v : W} {r : Result (Unit {0}) E} (i : Option ℕ) (m : ℕ) (t s : Tree)
+    → t ≡ s → WritesUnless (IsTooWide i m (part_nesting s)) gives leaves w r (parts_left true i m s) v → WritesUnless (IsTooWide i m (part_nesting t)) gives leaves w r (parts_left true i m t) v
+parts_as {gives = gives} {leaves} {w} {v} {r} i m t s e q = subst (λ x. WritesUnless (IsTooWide i m (part_nesting x)) gives leaves w r (parts_left true i m x) v) (sym e) q
 
 -- ---- what is left of a level, part by part
 

@@ -1,6 +1,6 @@
 -- What is left to write of levels, the innermost first.
 use Rattle.std.proofs.lemmas.List.{length-set}
-use Rattle.yaml_json.proofs.Common.{[], ap, append-nil, append_assoc, ArePartsGiven, arith, Bool, closing, deeper, Ends, false, get_or, is_block, IsGiven, IsLeft, IsTooWide, json_text, left_after, left_all, left_as, left_none, left_stopped, length, Level, List, mul-le-mul_left, nesting, new_line, opening, Option, part_nodes, parts_left, refl, set, shallower, Stopped, stopped_as, stopped_early, stopped_for, Stops, subst, suc, sym, Tree, tree_left, true, unwrap_or, Wrote, wrote_then, ℕ, ◌*◌, ◌++◌, ◌+◌, ◌-◌, ◌<◌, ◌^◌, ◌∙◌, ◌∷◌, ◌≡◌, ◌≢◌, ◌≤◌}
+use Rattle.yaml_json.proofs.Common.{[], ap, append-nil, append_assoc, ArePartsGiven, arith, Bool, closing, deeper, Ends, false, get_or, is_block, IsGiven, IsLeft, IsTooWide, json_text, left_after, left_all, left_as, left_none, left_stopped, left_then, length, Level, List, mul-le-mul_left, nesting, new_line, opening, Option, part_nodes, parts_left, refl, set, shallower, Stopped, stopped_as, stopped_early, stopped_for, Stops, subst, suc, sym, Tree, tree_left, true, unwrap_or, Wrote, ℕ, ◌*◌, ◌++◌, ◌+◌, ◌-◌, ◌<◌, ◌^◌, ◌∙◌, ◌∷◌, ◌≡◌, ◌≢◌, ◌≤◌}
 use Rattle.yaml_json.proofs.LeftLemmas.{in_brackets, part_wide}
 use Rattle.yaml_json.proofs.OpenLevels.{trees, reach, weight, part_count, waiting, one_more, one_less, so_many}
 
@@ -59,17 +59,13 @@ first_stopped {gives = gives} {leaves} {w} {v} i root t b e q =
 -- a beginning of what is left was written in part
 left_within : {W : Type 0} {gives : W → List ℕ → W → Type 0} {w v a : W} {text x more : List ℕ} (rest : List ℕ) → IsLeft gives w text v (x ++ rest) → IsLeft gives v x a more
     → IsLeft gives w text a (more ++ rest)
-left_within {more = more} rest p q = record {
-  written = p.written ++ q.written;
-  wrote = wrote_then p.wrote q.wrote;
-  whole = append_assoc p.written q.written (more ++ rest) ∙ ap (λ y. p.written ++ y) (sym (append_assoc q.written more rest) ∙ ap (λ y. y ++ rest) q.whole) ∙ p.whole;
-}
+left_within {more = more} rest p q = left_then p (record {
+  written = q.written;
+  wrote = q.wrote;
+  whole = sym (append_assoc q.written more rest) ∙ ap (λ y. y ++ rest) q.whole;
+})
 
 module _ {W : Type 0} {gives : W → List ℕ → W → Type 0} {i : Option ℕ} {w v : W} {root t : Tree} {first : Bool} {m : ℕ} {ts : List Tree} (h : Stands gives i w root v first m (t ∷ ts)) where
-  -- a call was refused in the parts
-  pub parts_stopped : {leaves : W → List ℕ → W → Type 0} {reason : Type 0} {a : W} → Stopped gives leaves ⊥ v (parts_left first i m t) a → Stopped gives leaves reason w (json_text i 0 root) a
-  parts_stopped q = left_stopped h.left (stopped_early _ (stopped_for (λ b. absurd b) q))
-
   module _ {a : W} {part u : Tree} (s : Stops gives i m v first t a part u) where
     -- what is left from the part on
     from_part : IsLeft gives w (json_text i 0 root) a (json_text i m part ++ levels_left false i m (u ∷ ts))
@@ -111,12 +107,8 @@ module _ {W : Type 0} {gives : W → List ℕ → W → Type 0} {i : Option ℕ}
 
   module _ {a : W} (s : Ends gives i m v first t a) where
     -- what is left from the level's end on
-    from_end : IsLeft gives w (json_text i 0 root) a ((new_line i (shallower i m) ++ closing t) ++ levels_left false i (shallower i m) ts)
+    pub from_end : IsLeft gives w (json_text i 0 root) a ((new_line i (shallower i m) ++ closing t) ++ levels_left false i (shallower i m) ts)
     from_end = left_after h.left s.wrote
-
-    pub end_stopped : {leaves : W → List ℕ → W → Type 0} {reason : Type 0} {b : W} → Stopped gives leaves ⊥ a (new_line i (shallower i m) ++ closing t) b
-        → Stopped gives leaves reason w (json_text i 0 root) b
-    end_stopped q = left_stopped from_end (stopped_early _ (stopped_for (λ b. absurd b) q))
 
     pub stands_out : {b : W} {outer : ℕ} → outer ≡ shallower i m → Wrote gives a (new_line i (shallower i m) ++ closing t) b → Stands gives i w root b false outer ts
     stands_out {b} {outer} c p =

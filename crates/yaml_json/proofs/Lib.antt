@@ -1,3 +1,4 @@
+pub mod Calls
 pub mod Collections
 mod Common
 pub mod DigitLemmas
@@ -14,12 +15,10 @@ pub mod PartLemmas
 pub mod Places
 mod ReadCommon
 pub mod ReadNumberLemmas
-pub mod Results
 pub mod RowLemmas
 pub mod SearchLemmas
 pub mod ShallowLemmas
 pub mod StringLemmas
 pub mod TextLemmas
-pub mod ValueLemmas
 pub mod Whole
 pub mod Words

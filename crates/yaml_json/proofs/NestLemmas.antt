@@ -1,5 +1,5 @@
 -- Arrays of one item each, one within the other.
-use Rattle.yaml_json.proofs.Common.{[], ap, append-nil, append_assoc, arith, array, codes, deeper, depth, IsGiven, IsLeft, IsOnlyItem, IsTooWide, item, json_text, left_after, left_all, left_as, left_stopped, List, nest_end, nesting, new_line, no_items, Opens, Option, refl, shallower, Stopped, stopped_early, stopped_for, stopped_here, subst, suc, sym, Tree, Wrote, zero, ℕ, ◌++◌, ◌+◌, ◌-◌, ◌<◌, ◌^◌, ◌∙◌, ◌≡◌, ◌≤◌}
+use Rattle.yaml_json.proofs.Common.{ap, append_assoc, arith, array, codes, deeper, depth, IsGiven, IsLeft, IsOnlyItem, IsTooWide, item, json_text, left_after, left_as, left_stopped, List, nest_end, nesting, new_line, no_items, Opens, Option, refl, shallower, Stopped, stopped_here, subst, suc, sym, Tree, Wrote, zero, ℕ, ◌++◌, ◌+◌, ◌-◌, ◌<◌, ◌^◌, ◌∙◌, ◌≡◌, ◌≤◌}
 use Rattle.yaml_json.proofs.LeftLemmas.{wide_inside, wide_margin}
 
 up : (i : Option ℕ) (m : ℕ) → shallower i (deeper i m) ≡ m
@@ -19,19 +19,12 @@ next_level i m inner n t s e o =
     ∙ ap (λ r. codes "[" ++ (new_line i (deeper i m) ++ (json_text i (deeper i m) t ++ r))) (sym (ends i m n))
     ∙ ap (λ k. codes "[" ++ (new_line i k ++ (json_text i k t ++ nest_end i k (suc n)))) (sym e)
 
--- no array was opened yet
-pub opens_none : {W : Type 0} (gives : W → List ℕ → W → Type 0) (i : Option ℕ) (m : ℕ) (w : W) (t : Tree) → Opens gives i m w t w 0 m t
-opens_none gives i m w t = record { left = left_as (sym (append-nil (json_text i m t))) left_all; no_wider = λ h. h; no_deeper = omega arith; given = λ g. g }
-
 only_nesting : (t s : Tree) → IsOnlyItem t s → nesting s ≡ suc (nesting t)
 only_nesting t s o = ap nesting o ∙ omega arith
 
-only_depth : (t s : Tree) → IsOnlyItem t s → depth s ≡ suc (depth t)
-only_depth t s o = ap depth o ∙ omega arith
-
 module _ {W : Type 0} {gives : W → List ℕ → W → Type 0} {i : Option ℕ} {m : ℕ} {w v : W} {outer : Tree} {n d : ℕ} {s : Tree} where
   -- what is left, with the array that is opened next
-  level_left : (inner : ℕ) (t : Tree) → inner ≡ deeper i d → IsOnlyItem t s → Opens gives i m w outer v n d s
+  pub level_left : (inner : ℕ) (t : Tree) → inner ≡ deeper i d → IsOnlyItem t s → Opens gives i m w outer v n d s
       → IsLeft gives w (json_text i m outer) v (codes "[" ++ (new_line i inner ++ (json_text i inner t ++ nest_end i inner (suc n))))
   level_left inner t e o p = left_as (next_level i d inner n t s e o) p.left
 
@@ -40,7 +33,7 @@ module _ {W : Type 0} {gives : W → List ℕ → W → Type 0} {i : Option ℕ}
       → Wrote gives v (codes "[") u → Wrote gives u (new_line i inner) x → Opens gives i m w outer x k inner t
   opens_more inner k t e c o p a b =
       let one_more : suc n ≡ k = omega (arith, c) in
-      let own = only_depth t s o in
+      let own : depth s ≡ suc (depth t) = ap depth o ∙ omega arith in
       record {
         left = left_as (ap (λ j. json_text i inner t ++ nest_end i inner j) one_more) (left_after (left_after (level_left inner t e o p) a) b);
         no_wider = λ h. p.no_wider (subst (λ j. IsTooWide i d j) (sym (only_nesting t s o)) (wide_inside i d inner (nesting t) e h));
@@ -54,22 +47,9 @@ module _ {W : Type 0} {gives : W → List ℕ → W → Type 0} {i : Option ℕ}
   margin_stops t h o p =
       left_stopped p.left (stopped_here _ _ _ _ _ (p.no_wider (subst (λ j. IsTooWide i d j) (sym (only_nesting t s o)) (wide_margin i d (nesting t) h))) refl)
 
-  -- its bracket was refused
-  pub bracket_stops : {leaves : W → List ℕ → W → Type 0} {u : W} (inner : ℕ) (t : Tree) → inner ≡ deeper i d → IsOnlyItem t s → Opens gives i m w outer v n d s
-      → Stopped gives leaves ⊥ v (codes "[") u → Stopped gives leaves (IsTooWide i m (nesting outer)) w (json_text i m outer) u
-  bracket_stops inner t e o p q = left_stopped (level_left inner t e o p) (stopped_early _ (stopped_for (λ b. absurd b) q))
-
-  -- the new line after it was refused
-  pub line_stops : {leaves : W → List ℕ → W → Type 0} {u x : W} (inner : ℕ) (t : Tree) → inner ≡ deeper i d → IsOnlyItem t s → Opens gives i m w outer v n d s
-      → Wrote gives v (codes "[") u → Stopped gives leaves ⊥ u (new_line i inner) x → Stopped gives leaves (IsTooWide i m (nesting outer)) w (json_text i m outer) x
-  line_stops inner t e o p a q = left_stopped (left_after (level_left inner t e o p) a) (stopped_early _ (stopped_for (λ b. absurd b) q))
-
 -- the end of the innermost array, and those further out
 pub next_end : (i : Option ℕ) (m n outer : ℕ) → 0 < n → outer ≡ shallower i m → nest_end i m n ≡ new_line i outer ++ (codes "]" ++ nest_end i outer (n - 1))
 next_end i m zero outer h e = absurd (omega arith)
 next_end i m (suc n) outer h e =
     let same : n ≡ suc n - 1 = omega arith in
     ap (λ k. new_line i k ++ (codes "]" ++ nest_end i k n)) (sym e) ∙ ap (λ k. new_line i outer ++ (codes "]" ++ nest_end i outer k)) same
-
-pub no_end : (i : Option ℕ) (m n : ℕ) → n ≡ 0 → nest_end i m n ≡ []
-no_end i m n e = ap (λ k. nest_end i m k) e

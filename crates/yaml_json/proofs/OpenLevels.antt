@@ -1,5 +1,5 @@
 -- Levels one in another, the innermost first.
-use Rattle.yaml_json.proofs.Common.{[], alias, ap, arith, array, bad_value, boolean, get_or, hash, integer, is_block, length, length-map, length-reverse, length-take-le, Level, List, map, max, nodes, null, part_nesting, part_nodes, real, refl, reverse, reverse-append, set, string, suc, sym, take, take-set_at, take_more, Tree, tree_left, true, true≢false, ℕ, ◌*◌, ◌+◌, ◌-◌, ◌<◌, ◌∙◌, ◌∷◌, ◌≡◌, ◌≢◌, ◌≤◌}
+use Rattle.yaml_json.proofs.Common.{[], ap, arith, array, get_or, hash, is_block, length, length-map, length-reverse, length-take-le, Level, List, map, max, nodes, part_nesting, part_nodes, refl, reverse, reverse-append, set, suc, sym, take, take-set_at, take_more, Tree, tree_left, true, ℕ, ◌*◌, ◌+◌, ◌-◌, ◌<◌, ◌∙◌, ◌∷◌, ◌≡◌, ◌≢◌, ◌≤◌}
 
 -- what is left of levels
 abbrev pub trees : List Level → List Tree
@@ -19,13 +19,7 @@ weight (t ∷ ts) = suc (2 * part_nodes t) + weight ts
 pub part_count : (t : Tree) → is_block t ≡ true → nodes t ≡ suc (part_nodes t)
 part_count (array ts) b = refl
 part_count (hash ps) b = refl
-part_count (real s) b = absurd (true≢false (sym b))
-part_count (integer z) b = absurd (true≢false (sym b))
-part_count (string s) b = absurd (true≢false (sym b))
-part_count (boolean x) b = absurd (true≢false (sym b))
-part_count (alias n) b = absurd (true≢false (sym b))
-part_count null b = absurd (true≢false (sym b))
-part_count bad_value b = absurd (true≢false (sym b))
+part_count t b = cc
 
 -- ---- levels in places made before
 

@@ -1,5 +1,5 @@
 -- What was written of a level's parts.
-use Rattle.yaml_json.proofs.Common.{[], ap, ArePartsGiven, arith, array, Bool, closing, Ends, Err, false, flat_text, hash, is_block, IsGiven, IsLeft, json_text, left_after, left_all, left_as, left_none, left_stopped, List, no_items, no_pairs, Ok, OnErr, Option, part_nesting, part_nodes, parts_left, refl, Result, Stopped, stopped_early, stopped_late, Stops, subst, sym, Tree, true, Wrote, ℕ, ◌∙◌, ◌≡◌, ◌≤◌}
+use Rattle.yaml_json.proofs.Common.{ap, ArePartsGiven, arith, Bool, closing, Ends, false, flat_text, hash, is_block, IsGiven, IsLeft, json_text, left_after, left_as, left_none, left_stopped, List, no_pairs, OnErr, Option, part_nesting, part_nodes, parts_left, Result, Stopped, stopped_early, stopped_late, Stops, subst, sym, Tree, true, Wrote, ℕ, ◌∙◌, ◌≡◌, ◌≤◌}
 use Rattle.yaml_json.proofs.GivenLemmas.{flat_text_is}
 use Rattle.yaml_json.proofs.LeftLemmas.{IsNext}
 
@@ -17,9 +17,6 @@ pub record Goes {W : Type 0} (gives : W → List ℕ → W → Type 0) (i : Opti
   pub fewer : part_nodes u ≤ part_nodes t
   pub given : ArePartsGiven u → ArePartsGiven t
   pub same : closing u ≡ closing t
-
-pub goes_none : {W : Type 0} (gives : W → List ℕ → W → Type 0) (i : Option ℕ) (m : ℕ) (w : W) (first : Bool) (t : Tree) → Goes gives i m w first t w first t
-goes_none gives i m w first t = record { left = left_all; no_higher = omega arith; fewer = omega arith; given = λ g. g; same = refl }
 
 module _ {W : Type 0} {gives : W → List ℕ → W → Type 0} {i : Option ℕ} {m : ℕ} {w : W} {first : Bool} {t : Tree} {v : W} {now : Bool} {u : Tree} (h : Goes gives i m w first t v now u) where
   module _ {before : List ℕ} {K : Type 0} {part x : Tree} (n : IsNext i m now u before K part x) where
@@ -53,11 +50,6 @@ module _ {W : Type 0} {gives : W → List ℕ → W → Type 0} {i : Option ℕ}
     stopped_in p q = left_stopped (left_as n.text h.left) (stopped_late p (stopped_early _ q))
 
   -- no part is left
-  goes_to_end : parts_left now i m u ≡ [] → ArePartsGiven u → Ends gives i m w first t v
-  goes_to_end e g = record { wrote = left_none (left_as e h.left); given = h.given g }
-
-  pub items_end : u ≡ array no_items → Ends gives i m w first t v
-  items_end e = goes_to_end (ap (parts_left now i m) e) (subst ArePartsGiven (sym e) tt)
-
   pub members_end : u ≡ hash no_pairs → Ends gives i m w first t v
-  members_end e = goes_to_end (ap (parts_left now i m) e) (subst ArePartsGiven (sym e) tt)
+  members_end e =
+      record { wrote = left_none (left_as (ap (parts_left now i m) e) h.left); given = h.given (subst ArePartsGiven (sym e) tt) }

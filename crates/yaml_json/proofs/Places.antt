@@ -61,14 +61,12 @@ has_scalar os tree text at rest o v = record { at = at; opened = o; value = reco
 puts_on : (before after : Open) (tree : Tree) (r0 r1 : List ℕ) → Puts before tree false after r0 r1 → (n : ℕ) (text at : List ℕ) → IsIn before n text at → IsValue tree n at r0 → IsIn after n text r1
 puts_on (open_as.Array ts) (open_as.Array us) tree r0 r1 p n text at o v = p n text at o v
 puts_on (open_as.Object ps k) (open_as.Object qs l) tree r0 r1 p n text at o v = p n text at o v
-puts_on (open_as.Array ts) (open_as.Object qs l) tree r0 r1 p n text at o v = absurd p
-puts_on (open_as.Object ps k) (open_as.Array us) tree r0 r1 p n text at o v = absurd p
+puts_on _ _ tree r0 r1 p n text at o v = absurd p
 
 puts_end : (before after : Open) (tree : Tree) (r0 r1 : List ℕ) → Puts before tree true after r0 r1 → (n : ℕ) (text at : List ℕ) → IsIn before n text at → IsValue tree n at r0 → IsValue (tree_in after) (suc n) text r1
 puts_end (open_as.Array ts) (open_as.Array us) tree r0 r1 p n text at o v = p n text at o v
 puts_end (open_as.Object ps k) (open_as.Object qs l) tree r0 r1 p n text at o v = p n text at o v
-puts_end (open_as.Array ts) (open_as.Object qs l) tree r0 r1 p n text at o v = absurd p
-puts_end (open_as.Object ps k) (open_as.Array us) tree r0 r1 p n text at o v = absurd p
+puts_end _ _ tree r0 r1 p n text at o v = absurd p
 
 -- it stays open
 pub open_on : (old now : List Open) (tree : Tree) (b : Bool) (text r0 r1 : List ℕ) → b ≡ false → PutsLast old now tree b r0 r1 → HasValue old tree text r0 → AreOpen now 255 text r1

@@ -1,5 +1,5 @@
 -- The first part that is left of a level.
-use Rattle.yaml_json.proofs.Common.{[], ap, arith, array, array_tree, drop, drop_more, drop_of_length-le, false, get_or, hash, hash_tree, item, items_of, items_view, left_in, length, length-drop, length-map, List, no_items, no_pairs, pair, paired, pairs_of, refl, sym, Tree, true, view, Yaml, ℕ, ◌+◌, ◌<◌, ◌∙◌, ◌∷◌, ◌≡◌, ◌≤◌}
+use Rattle.yaml_json.proofs.Common.{[], ap, arith, array, array_tree, drop, drop_more, false, get_or, hash, hash_tree, item, items_of, items_view, left_in, length, length-drop, length-map, List, no_pairs, pair, paired, pairs_of, sym, Tree, true, view, Yaml, ℕ, ◌+◌, ◌<◌, ◌∙◌, ◌∷◌, ◌≡◌, ◌≤◌}
 
 next_node : (ys : List Yaml) (n : ℕ) (y : Yaml) → n < length ys → y ≡ get_or ys n y → items_view (drop n ys) ≡ view y ∷ items_view (drop (n + 1) ys)
 next_node ys n y h is = ap items_view (drop_more ys n y h) ∙ ap (λ x. view x ∷ items_view (drop (n + 1) ys)) (sym is)
@@ -9,9 +9,6 @@ next_node ys n y h is = ap items_view (drop_more ys n y h) ∙ ap (λ x. view x 
 pub item_left : (row : List Yaml) (n q : ℕ) (y : Yaml) → n < length row → y ≡ get_or row n y → q ≡ n + 1
     → left_in false row n ≡ array (item (view y) (items_of (items_view (drop q row))))
 item_left row n q y h is e = ap array_tree (next_node row n y h is) ∙ ap (λ k. array_tree (view y ∷ items_view (drop k row))) (sym e)
-
-pub no_item_left : (row : List Yaml) (n : ℕ) → length row ≤ n → left_in false row n ≡ array no_items
-no_item_left row n h = ap (λ ys. array_tree (items_view ys)) (drop_of_length-le row h)
 
 -- ---- members
 

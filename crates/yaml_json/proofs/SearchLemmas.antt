@@ -1,11 +1,10 @@
 -- The search for the first node that has no JSON text.
 use Rattle.std.proofs.lemmas.List.{get_or-map}
-use Rattle.yaml_json.proofs.Common.{[], alias, ap, ArePlain, arith, array, bad_value, below, boolean, drop, false, Fault, fault_in, fault_left, first_fault, first_item_fault, first_member_fault, first_of, get_or, get_or_default, hash, here, index, integer, is_block, IsMet, IsSoundAtRoot, item, Items, items_of, items_view, last_step, left_in, length, Level, List, max, Meets, Names, nesting, no_items, no_pairs, nodes, None, null, Option, pair, paired, Pairs, pairs_of, part_nesting, part_nodes, real, reason_view, refl, Some, step_in, step_of, string, subst, suc, sym, Tree, tree_left, true, true≢false, view, Yaml, ℕ, ◌+◌, ◌-◌, ◌<◌, ◌∙◌, ◌∷◌, ◌≡◌, ◌≤◌}
+use Rattle.yaml_json.proofs.Common.{[], ap, ArePlain, arith, array, below, drop, false, Fault, fault_in, fault_left, first_fault, first_item_fault, first_member_fault, first_of, get_or, get_or_default, hash, index, is_block, IsMet, IsSoundAtRoot, item, Items, items_of, items_view, last_step, left_in, length, Level, List, max, Meets, nesting, no_items, no_pairs, nodes, None, null, Option, pair, paired, Pairs, pairs_of, part_nesting, part_nodes, refl, Some, step_in, step_of, subst, suc, sym, Tree, tree_left, true, view, Yaml, ℕ, ◌+◌, ◌-◌, ◌<◌, ◌∙◌, ◌∷◌, ◌≡◌, ◌≤◌}
 use Rattle.defs_tree.specs.Path as tree_path
 use Rattle.yaml_json.proofs.LeftLemmas.{part_wide}
 use Rattle.yaml_json.proofs.OpenLevels.{trees, reach, weight, part_count}
 use Rattle.yaml_json.proofs.RowLemmas.{item_left, member_left}
-use Rattle.yaml_json.specs.declared.error.JsonError.{JsonError}
 use Rattle.yaml_json.specs.declared.error.Reason.{Reason}
 
 -- ---- one part
@@ -51,17 +50,9 @@ member_part row n q v h is e =
 -- ---- a level
 
 pub flat_nesting : (t : Tree) → is_block t ≡ false → nesting t ≤ 1
-flat_nesting (array no_items) b = omega arith
-flat_nesting (array (item t ts)) b = absurd (true≢false b)
-flat_nesting (hash no_pairs) b = omega arith
-flat_nesting (hash (pair k v ps)) b = absurd (true≢false b)
-flat_nesting (real s) b = omega arith
-flat_nesting (integer z) b = omega arith
-flat_nesting (string s) b = omega arith
-flat_nesting (boolean x) b = omega arith
-flat_nesting (alias n) b = omega arith
-flat_nesting null b = omega arith
-flat_nesting bad_value b = omega arith
+flat_nesting (array (item t ts)) b = cc
+flat_nesting (hash (pair k v ps)) b = cc
+flat_nesting t b = omega arith
 
 -- nodes without a fault and without parts were passed
 pub record Passes (t : Tree) (passed : ℕ) (u : Tree) (more : ℕ) : Type 0 where
@@ -69,9 +60,6 @@ pub record Passes (t : Tree) (passed : ℕ) (u : Tree) (more : ℕ) : Type 0 whe
   pub no_deeper : part_nesting t ≤ max 1 (part_nesting u)
   pub no_higher : part_nesting u ≤ part_nesting t
   pub fewer : part_nodes u ≤ part_nodes t
-
-pub passes_none : (t : Tree) (p : ℕ) → Passes t p t p
-passes_none t p = record { fault = refl; no_deeper = omega arith; no_higher = omega arith; fewer = omega arith }
 
 module _ {t u : Tree} {p q : ℕ} (a : Passes t p u q) where
   pub passes_more : {part x : Tree} {s : tree_path.Step} {r : ℕ} → IsPart u q s part x r → (first_fault part ≡ None) × (is_block part ≡ false) → Passes t p x r
@@ -90,14 +78,8 @@ module _ {t u : Tree} {p q : ℕ} (a : Passes t p u q) where
     fewer = omega (arith, a.fewer, b.fewer);
   }
 
-  no_more : fault_left q u ≡ None → part_nesting u ≡ 0 → ArePlain p t
-  no_more f d = (a.fault ∙ f, omega (arith, a.no_deeper, d))
-
-  pub no_more_items : u ≡ array no_items → ArePlain p t
-  no_more_items e = no_more (ap (fault_left q) e) (ap part_nesting e)
-
   pub no_more_members : u ≡ hash no_pairs → ArePlain p t
-  no_more_members e = no_more (ap (fault_left q) e) (ap part_nesting e)
+  no_more_members e = (a.fault ∙ ap (fault_left q) e, omega (arith, a.no_deeper, ap part_nesting e))
 
 -- a node that was met without a reason
 pub has_parts_met : (t : Tree) (o : Option Reason) → ((r : Reason) → o ≡ Some r → ⊥) → IsMet t o → IsMet t None
@@ -115,19 +97,10 @@ members_sound : (ps : Pairs) → IsSoundAtRoot (first_member_fault ps)
 members_sound no_pairs = tt
 members_sound (pair k v ps) = below_sound (step_of k) (first_fault v) (first_member_fault ps) (members_sound ps)
 
-left_sound : (t : Tree) → IsSoundAtRoot (fault_left 0 t)
+pub left_sound : (t : Tree) → IsSoundAtRoot (fault_left 0 t)
 left_sound (array ts) = items_sound 0 ts
 left_sound (hash ps) = members_sound ps
-left_sound (real s) = tt
-left_sound (integer z) = tt
-left_sound (string s) = tt
-left_sound (boolean x) = tt
-left_sound (alias n) = tt
-left_sound null = tt
-left_sound bad_value = tt
-
-pub root_sound : (t : Tree) → first_fault t ≡ fault_left 0 t → IsSoundAtRoot (first_fault t)
-root_sound t e = subst IsSoundAtRoot (sym e) (left_sound t)
+left_sound t = tt
 
 -- ---- levels
 
@@ -142,19 +115,6 @@ pub record Searches (root : Tree) (os : List Level) (l : Level) (depth deepest :
 
 same_fault : (t : Tree) (l : Level) → tree_left l ≡ t → l.passed ≡ 0 → fault_left 0 t ≡ fault_left l.passed (tree_left l)
 same_fault t l e z = ap (fault_left 0) (sym e) ∙ ap (λ n. fault_left n (tree_left l)) (sym z)
-
-pub searches_first : (t : Tree) (l : Level) → is_block t ≡ true → first_fault t ≡ fault_left 0 t → tree_left l ≡ t → l.passed ≡ 0 → Searches t [] l 1 1
-searches_first t l b f e z =
-    let own = part_wide t b in
-    let same = ap part_nesting e in
-    record {
-      fault = f ∙ same_fault t l e z;
-      no_deeper = omega (arith, own, same);
-      no_higher = omega (arith, own, same);
-      count = refl;
-      most = omega arith;
-      within = omega (arith, own);
-    }
 
 module _ {root : Tree} {os : List Level} {l : Level} {d k : ℕ} (h : Searches root os l d k) where
   -- a part was met: the level with it passed
@@ -177,29 +137,9 @@ module _ {root : Tree} {os : List Level} {l : Level} {d k : ℕ} (h : Searches r
     pub smaller_in : (i : Level) → is_block met ≡ true → tree_left i ≡ met → weight (trees (i ∷ m ∷ os)) < weight (trees (l ∷ os))
     smaller_in i b g = omega (arith, p.fewer, part_count met b, ap part_nodes g)
 
-    -- it has no text
-    pub names_met : (r : Reason) (e : JsonError) → first_fault met ≡ here (reason_view r) → Names (fault_in (m ∷ os) (here (reason_view r))) e → Names (first_fault root) e
-    names_met r e f n = grind (arith, first_of, below)
-
   -- all levels are done
   pub done : os ≡ [] → ArePlain l.passed (tree_left l) → (first_fault root ≡ None) × (nesting root ≤ k + 1) × (k ≤ nesting root)
   done e p =
       let none = ap (λ x. length (trees x)) e in
       let low = ap (λ x. reach (trees (l ∷ x))) e in
       (h.fault ∙ ap (λ x. fault_in x (fault_left l.passed (tree_left l))) e ∙ p.0, omega (arith, low, p.1, h.no_deeper, h.count, h.most), h.within)
-
--- the level is done
-pub searches_out : {root : Tree} {ls os : List Level} {o l : Level} {d k e : ℕ} → Searches root ls l d k → ls ≡ o ∷ os → ArePlain l.passed (tree_left l) → e ≡ d - 1 → Searches root os o e k
-searches_out {root} {ls} {os} {o} {l} {d} {k} {e} h same p c =
-    let s = subst (λ x. Searches root x l d k) same h in
-    record {
-      fault = s.fault ∙ ap (fault_in (o ∷ os)) p.0;
-      no_deeper = omega (arith, s.no_deeper, p.1, s.count, s.most);
-      no_higher = omega (arith, s.no_higher);
-      count = omega (arith, c, s.count);
-      most = omega (arith, c, s.most);
-      within = s.within;
-    }
-
-pub smaller_out : (ls os : List Level) (o l : Level) → ls ≡ o ∷ os → weight (trees (o ∷ os)) < weight (trees (l ∷ ls))
-smaller_out ls os o l e = omega (arith, ap (λ x. weight (trees x)) e)

@@ -1,5 +1,6 @@
 -- Shallow trees, each node of which has a JSON text.
-use Rattle.yaml_json.proofs.Common.{alias, and_parts, ap, are_items_shallow, are_items_whole, are_pairs_whole, are_strings, arith, array, bad_value, below, Bool, boolean, false, Fault, first_fault, first_item_fault, first_member_fault, first_of, has_other_key, hash, here, if◌then◌else◌, index, integer, is_json_real, is_no_number, is_shallow, is_some, is_string, IsOnlyItem, item, item_nesting, Items, max, member_nesting, nat_le, nat_tests, nesting, no_items, no_pairs, None, not, null, Option, pair, Pairs, real, refl, Some, Step, step_of, string, suc, sym, Tree, true, ℕ, ◌&&◌, ◌+◌, ◌-◌, ◌<◌, ◌∙◌, ◌≡◌, ◌≢◌}
+use Rattle.yaml_json.proofs.Common.{and_parts, ap, are_items_shallow, are_items_whole, are_pairs_whole, are_strings, arith, array, below, Bool, false, Fault, first_fault, first_item_fault, first_member_fault, first_of, has_other_key, hash, here, if◌then◌else◌, index, is_json_real, is_no_number, is_shallow, is_some, is_string, IsOnlyItem, item, item_nesting, Items, max, member_nesting, nat_le, nat_tests, nesting, no_items, no_pairs, None, not, Option, pair, Pairs, real, refl, Step, step_of, suc, sym, Tree, true, ℕ, ◌&&◌, ◌+◌, ◌-◌, ◌<◌, ◌∙◌, ◌≡◌, ◌≢◌}
+use Rattle.std.proofs.Math.Bool.{and-true}
 use Rattle.yaml_json.specs.Shallow.{is_whole}
 
 -- ---- one node and the rest
@@ -8,15 +9,11 @@ real_same : (b : Bool) → b ≡ not (is_some (if b then None else here is_no_nu
 real_same a = grind arith
 
 item_same : (s : Step) (a b : Bool) (o q : Option Fault) → a ≡ not (is_some o) → b ≡ not (is_some q) → (a && b) ≡ not (is_some (first_of (below s o) q))
-item_same s a b None q h k = ap (λ x. x && b) h ∙ k
-item_same s a b (Some f) q h k = ap (λ x. x && b) h
+item_same s a b o q h k = grind arith
 
 pair_same : (s : Step) (k strings a b : Bool) (o q : Option Fault) → a ≡ not (is_some o) → b ≡ (strings && not (is_some q))
     → (k && (a && b)) ≡ ((k && strings) && not (is_some (first_of (below s o) q)))
-pair_same s false strings a b o q h g = refl
-pair_same s true strings a b None q h g = ap (λ x. x && b) h ∙ g
-pair_same s true true a b (Some f) q h g = ap (λ x. x && b) h
-pair_same s true false a b (Some f) q h g = ap (λ x. x && b) h
+pair_same s k strings a b o q h g = grind arith
 
 hash_same : (strings : Bool) (o : Option Fault) → (strings && not (is_some o)) ≡ not (is_some (if strings then o else here has_other_key))
 hash_same a o = grind arith
@@ -26,14 +23,9 @@ hash_same a o = grind arith
 mutual
   whole_same : (t : Tree) → is_whole t ≡ not (is_some (first_fault t))
   whole_same (real s) = real_same (is_json_real s)
-  whole_same (integer z) = refl
-  whole_same (string s) = refl
-  whole_same (boolean b) = refl
   whole_same (array ts) = items_same 0 ts
   whole_same (hash ps) = pairs_same ps ∙ hash_same (are_strings ps) (first_member_fault ps)
-  whole_same (alias n) = refl
-  whole_same null = refl
-  whole_same bad_value = refl
+  whole_same t = refl
 
   items_same : (n : ℕ) (ts : Items) → are_items_whole ts ≡ not (is_some (first_item_fault n ts))
   items_same n no_items = refl
@@ -73,19 +65,13 @@ next_item n t ts =
 
 -- ---- level by level
 
-and_false : (b : Bool) → (b && false) ≡ false
-and_false a = grind arith
-
-and_true : (b : Bool) → (b && true) ≡ b
-and_true a = grind arith
-
 -- a scalar has no level
 pub scalar_within : (b : Bool) (n : ℕ) → (b && nat_le 0 n) ≡ b
-scalar_within b n = let low : nat_le 0 n ≡ true = grind (arith, nat_tests) in ap (λ x. b && x) low ∙ and_true b
+scalar_within b n = grind (arith, nat_tests)
 
 -- where no level is left
 none_within : (b : Bool) (m n : ℕ) → n ≡ 0 → (b && nat_le (suc m) n) ≡ false
-none_within b m n e = let low : nat_le (suc m) n ≡ false = grind (arith, nat_tests) in ap (λ x. b && x) low ∙ and_false b
+none_within b m n e = grind (arith, nat_tests)
 
 pub no_items_within : (n : ℕ) (ts : Items) → n ≡ 0 → is_shallow n (array ts) ≡ false
 no_items_within n ts e = none_within (are_items_whole ts) (item_nesting ts) n e
@@ -98,10 +84,12 @@ nothing_within n t s o e = ap (is_shallow n) o ∙ no_items_within n (item t no_
 
 -- one less for the parts
 one_less : (b : Bool) (m n : ℕ) → n ≢ 0 → (b && nat_le (suc m) n) ≡ (b && nat_le m (n - 1))
-one_less b m n h = let same : nat_le (suc m) n ≡ nat_le m (n - 1) = grind (arith, nat_tests) in ap (λ x. b && x) same
+one_less b m n h = grind (arith, nat_tests)
 
 pub items_within : (n : ℕ) (ts : Items) → n ≢ 0 → is_shallow n (array ts) ≡ are_items_shallow (n - 1) ts
 items_within n ts h = one_less (are_items_whole ts) (item_nesting ts) n h
 
 pub only_within : (n : ℕ) (t s : Tree) → IsOnlyItem t s → n ≢ 0 → is_shallow n s ≡ is_shallow (n - 1) t
-only_within n t s o h = ap (is_shallow n) o ∙ items_within n (item t no_items) h ∙ next_item (n - 1) t no_items ∙ ap (λ b. is_shallow (n - 1) t && b) (scalar_within true (n - 1)) ∙ and_true (is_shallow (n - 1) t)
+only_within n t s o h =
+    ap (is_shallow n) o ∙ items_within n (item t no_items) h ∙ next_item (n - 1) t no_items
+    ∙ ap (λ b. is_shallow (n - 1) t && b) (scalar_within true (n - 1)) ∙ and-true (is_shallow (n - 1) t)

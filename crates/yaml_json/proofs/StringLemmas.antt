@@ -1,5 +1,5 @@
 -- Strings, escape by escape.
-use Rattle.yaml_json.proofs.ReadCommon.{[], and_from, ap, append-nil, append_assoc, ap₂, are_pieces, arith, backspace, chars, chars-append, encode_utf8, form_feed, four_digits, is_hex_digit, is_piece, is_surrogate, IsCode, IsEscape, IsInside, IsPart, IsRun, IsScalar, IsShort, IsStringEnd, IsUtf8-string_bytes, IsValue, length, letter_of, List, nat_tests, new_line, not, quotation_mark, refl, return, reverse_solidus, Short, short, solidus, String, string_bytes, string_chars, subst, sym, tabulator, TakesDigit, Tree, true, unicode, ℕ, ◌&&◌, ◌*◌, ◌++◌, ◌+◌, ◌<◌, ◌∙◌, ◌∷◌, ◌≡◌}
+use Rattle.yaml_json.proofs.ReadCommon.{[], and_from, ap, append-nil, append_assoc, ap₂, are_pieces, arith, chars, chars-append, encode_utf8, four_digits, is_piece, is_surrogate, IsCode, IsEscape, IsInside, IsPart, IsRun, IsScalar, IsShort, IsStringEnd, IsUtf8-string_bytes, IsValue, length, letter_of, List, nat_tests, not, quotation_mark, refl, Short, short, String, string_bytes, string_chars, subst, sym, TakesDigit, Tree, true, unicode, ℕ, ◌*◌, ◌++◌, ◌+◌, ◌<◌, ◌∙◌, ◌∷◌, ◌≡◌}
 use Rattle.defs_layout.specs.Json as json
 use Rattle.yaml_chars.proofs.TextLemmas.{string_chars_push}
 
@@ -10,13 +10,7 @@ no_pieces text = record { pieces = []; are = refl; value_is = refl; spelled = re
 
 pub letter_ascii : (s : Short) → (0 < letter_of s) × (letter_of s < 128)
 letter_ascii quotation_mark = (omega arith, omega arith)
-letter_ascii reverse_solidus = (omega arith, omega arith)
-letter_ascii solidus = (omega arith, omega arith)
-letter_ascii backspace = (omega arith, omega arith)
-letter_ascii form_feed = (omega arith, omega arith)
-letter_ascii new_line = (omega arith, omega arith)
-letter_ascii return = (omega arith, omega arith)
-letter_ascii tabulator = (omega arith, omega arith)
+letter_ascii s = (omega arith, omega arith)
 
 pub short_ascii : (letter c : ℕ) → IsShort letter c → (0 < letter) × (letter < 128)
 short_ascii letter c s = let l = letter_ascii s.short in (omega (arith, s.letter_is, l.0), omega (arith, s.letter_is, l.1))
@@ -41,8 +35,7 @@ code_read character v w x y t1 t2 t3 t4 rest a b c d scalar is =
     let code : four_digits a.digit b.digit c.digit d.digit ≡ v * 4096 + w * 256 + x * 16 + y = omega (arith, a.value_is, b.value_is, c.value_is, d.value_is) in
     let text : t1 ≡ a.digit ∷ b.digit ∷ c.digit ∷ d.digit ∷ rest = a.first ∙ ap (λ z. a.digit ∷ z) (b.first ∙ ap (λ z. b.digit ∷ z) (c.first ∙ ap (λ z. c.digit ∷ z) d.first)) in
     let piece : is_piece (unicode a.digit b.digit c.digit d.digit) ≡ true =
-    and_from (((is_hex_digit a.digit && is_hex_digit b.digit) && is_hex_digit c.digit) && is_hex_digit d.digit) (not (is_surrogate (four_digits a.digit b.digit c.digit d.digit)))
-    (and_from ((is_hex_digit a.digit && is_hex_digit b.digit) && is_hex_digit c.digit) (is_hex_digit d.digit) (and_from (is_hex_digit a.digit && is_hex_digit b.digit) (is_hex_digit c.digit) (and_from (is_hex_digit a.digit) (is_hex_digit b.digit) a.is b.is) c.is) d.is)
+    and_from _ _ (and_from _ _ (and_from _ _ (and_from _ _ a.is b.is) c.is) d.is)
     (ap (λ z. not (is_surrogate z)) code ∙ no_surrogate (v * 4096 + w * 256 + x * 16 + y) scalar) in
     record {
       goes_on = λ more end i. record {
@@ -59,9 +52,6 @@ code_read character v w x y t1 t2 t3 t4 rest a b c d scalar is =
 -- what stands behind its start so far
 pub record Goes (start now text rest : List ℕ) : Type 0 where
   pub goes_on : (more end : List ℕ) → IsInside more rest end → IsPart start (now ++ more) text end
-
-pub begun : (start text : List ℕ) → Goes start start text text
-begun start text = record { goes_on = λ more end i. record { more = more; value_is = refl; inside = i } }
 
 pub gone_on : (start now text r0 r1 r2 : List ℕ) (c : ℕ) (run later : List ℕ) → Goes start now text (92 ∷ r0) → IsEscape c r0 r1 → IsRun run r1 r2 → later ≡ (now ++ c ∷ []) ++ run → Goes start later text r2
 gone_on start now text r0 r1 r2 c run later g e r is = record {

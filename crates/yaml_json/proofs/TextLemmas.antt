@@ -1,6 +1,7 @@
 -- The first character of a text, and runs of characters.
-use Rattle.yaml_json.proofs.ReadCommon.{[], and_from, and_parts, ap, ap₂, are_pieces, arith, Bool, cases_order, chars, chars-append, chars-nil, chars_past_char, cond, drop, encode_ascii, encode_utf8, encode_utf8_all, encodes-chars, false, get_or, inl, inr, is_unescaped, IsAsciiFirst, IsCharBoundary, IsCharBoundary-after_ascii, IsCharBoundary-before_ascii, IsCharBoundary-end, IsFirst, IsInside, IsRun, IsUtf8, IsUtf8-past_char, IsUtf8-take, itself, length, length-append, List, list_all, list_all-append, nat_lt, nat_tests, prefix_len, prefix_len-le-length, prefix_len_stops, refl, scalars-chars, Skips, stands, subst, suc, sym, take, take-append-drop, true, ℕ, ◌++◌, ◌+◌, ◌<◌, ◌==◌, ◌∙◌, ◌∷◌, ◌≡◌, ◌≤◌, ◌⊎◌}
+use Rattle.yaml_json.proofs.ReadCommon.{[], and_from, and_parts, ap, ap₂, are_pieces, arith, Bool, chars, chars-append, chars-nil, chars_past_char, drop, encode_ascii, encode_utf8, encode_utf8_all, encodes-chars, false, get_or, is_unescaped, IsAsciiFirst, IsCharBoundary, IsCharBoundary-after_ascii, IsFirst, IsInside, IsRun, IsUtf8, IsUtf8-past_char, IsUtf8-take, itself, length, length-append, List, list_all, nat_tests, nil_from_length, prefix_len, refl, scalars-chars, Skips, stands, subst, suc, sym, take, take-append-drop, true, ℕ, ◌++◌, ◌<◌, ◌==◌, ◌∙◌, ◌∷◌, ◌≡◌, ◌≤◌}
 use lib.Utf8.{scalar, scalars}
+use Rattle.yaml_emitter.proofs.ByteLemmas.{all_pass, all_tested, run_boundary}
 
 -- ---- the first character
 
@@ -31,8 +32,7 @@ cut_first bs u a =
     let b = begun bs a.first a.rest u a.is a.ascii in
     let byte : get_or bs 0 0 ≡ a.first = ap (λ x. get_or x 0 0) b.whole in
     let long : length bs ≡ suc (length b.back) = ap length b.whole in
-    let at = IsCharBoundary-after_ascii bs 0 u (omega (arith, long)) (omega (arith, byte, a.ascii)) in
-    at
+    IsCharBoundary-after_ascii bs 0 u (omega (arith, long)) (omega (arith, byte, a.ascii))
 
 pub skipped : (bs back : List ℕ) → IsUtf8 bs → IsAsciiFirst (chars bs) → back ≡ drop 1 bs → (c : ℕ) (rest : List ℕ) → chars bs ≡ c ∷ rest → chars back ≡ rest
 skipped bs back u a e c rest is =
@@ -41,14 +41,7 @@ skipped bs back u a e c rest is =
     cc
 
 pub nothing_left : (bs : List ℕ) (b : Bool) → b ≡ (length bs == 0) → b ≡ true → chars bs ≡ []
-nothing_left [] b e h = chars-nil
-nothing_left (x ∷ bs) b e h = absurd (some (length bs) (sym e ∙ h))
-  where
-    some : (n : ℕ) → (suc n == 0) ≡ true → ⊥
-    some n h = grind (arith, nat_tests)
-
-pub ascii_of : (c : ℕ) (text : List ℕ) → (0 < c → c < 128 → IsFirst c text) → 0 < c → c < 128 → IsAsciiFirst text
-ascii_of c text first some low = let f = first some low in record { first = c; rest = f.rest; ascii = low; is = f.is }
+nothing_left bs b e h = let none : length bs ≡ 0 = grind (arith, nat_tests) in ap chars (nil_from_length bs none) ∙ chars-nil
 
 pub took : (c : ℕ) (old new : List ℕ) → (0 < c → c < 128 → IsFirst c old) → 0 < c → c < 128 → Skips old new → old ≡ c ∷ new
 took c old new first some low skips = let f = first some low in f.is ∙ ap (λ x. c ∷ x) (sym (skips c f.rest f.is))
@@ -58,41 +51,22 @@ took c old new first some low skips = let f = first some low in f.is ∙ ap (λ 
 low_ends : (c : ℕ) → stands c ≡ false → c < 128
 low_ends c h = grind (arith, nat_tests)
 
-wide_stands : (c : ℕ) → nat_lt c 128 ≡ false → stands c ≡ true
+wide_stands : (c : ℕ) → 128 ≤ c → stands c ≡ true
 wide_stands c h = grind (arith, nat_tests)
 
 unescaped_one : (c : ℕ) → scalar c ≡ true → stands c ≡ true → is_unescaped c ≡ true
 unfolding is_unescaped
 unescaped_one c s h = grind (arith, nat_tests)
 
-unescaped_all : (cs : List ℕ) → scalars cs ≡ true → list_all stands (encode_utf8_all cs) ≡ true → list_all is_unescaped cs ≡ true
+unescaped_all : (cs : List ℕ) → scalars cs ≡ true → list_all stands cs ≡ true → list_all is_unescaped cs ≡ true
 unescaped_all [] s h = refl
 unescaped_all (c ∷ cs) s h =
-    let scalar_parts = and_parts (scalar c) (scalars cs) s in
-    let parts = and_parts (list_all stands (encode_utf8 c)) _ (sym (list_all-append stands (encode_utf8 c) (encode_utf8_all cs)) ∙ h) in
-    and_from (is_unescaped c) (list_all is_unescaped cs) (unescaped_one c scalar_parts.0 (first (nat_lt c 128) refl parts.0)) (unescaped_all cs scalar_parts.1 parts.1)
-  where
-    first : (b : Bool) → nat_lt c 128 ≡ b → list_all stands (encode_utf8 c) ≡ true → stands c ≡ true
-    first true e h = (and_parts (stands c) true (ap (list_all stands) (sym (encode_ascii c (grind (arith, nat_tests)))) ∙ h)).0
-    first false e h = wide_stands c e
-
-all_stand : (bs : List ℕ) → list_all stands (take (prefix_len stands bs) bs) ≡ true
-all_stand [] = refl
-all_stand (b ∷ bs) = by (stands b) refl (all_stand bs)
-  where
-    by : (x : Bool) → stands b ≡ x → list_all stands (take (prefix_len stands bs) bs) ≡ true → list_all stands (take (cond x (1 + prefix_len stands bs) 0) (b ∷ bs)) ≡ true
-    by false e h = refl
-    by true e h =
-        let n : 1 + prefix_len stands bs ≡ suc (prefix_len stands bs) = omega arith in
-        ap (λ k. list_all stands (take k (b ∷ bs))) n ∙ and_from (stands b) (list_all stands (take (prefix_len stands bs) bs)) e h
+    let p = and_parts (scalar c) (scalars cs) s in
+    let q = and_parts (stands c) (list_all stands cs) h in
+    and_from (is_unescaped c) (list_all is_unescaped cs) (unescaped_one c p.0 q.0) (unescaped_all cs p.1 q.1)
 
 pub cut_run : (bs : List ℕ) (n : ℕ) → n ≡ prefix_len stands bs → IsCharBoundary bs n
-cut_run bs n is = subst (IsCharBoundary bs) (sym is) (by (cases_order (prefix_len stands bs) (length bs)))
-  where
-    by : (prefix_len stands bs ≡ length bs) ⊎ ((prefix_len stands bs < length bs) ⊎ (length bs < prefix_len stands bs)) → IsCharBoundary bs (prefix_len stands bs)
-    by (inl e) = subst (IsCharBoundary bs) (sym e) (IsCharBoundary-end bs)
-    by (inr (inl l)) = IsCharBoundary-before_ascii bs (prefix_len stands bs) l (low_ends _ (prefix_len_stops stands bs 0 l))
-    by (inr (inr g)) = absurd (omega (arith, prefix_len-le-length stands bs))
+cut_run bs n is = subst (IsCharBoundary bs) (sym is) (run_boundary stands low_ends bs)
 
 -- characters that stand as they are, before the pieces of a string
 pub unescaped_before : (cs more rest end : List ℕ) → list_all is_unescaped cs ≡ true → IsInside more rest end → IsInside (cs ++ more) (cs ++ rest) end
@@ -106,6 +80,7 @@ pub run_is : (bs front back : List ℕ) (n : ℕ) → IsUtf8 bs → n ≡ prefix
 run_is bs front back n u is f b =
     let utf8 : IsUtf8 front = subst IsUtf8 (sym f) (IsUtf8-take bs n u (cut_run bs n is)) in
     let whole : chars front ++ chars back ≡ chars bs = sym (chars-append front back utf8) ∙ ap chars (ap₂ (λ x y. x ++ y) f b ∙ take-append-drop n bs) in
-    let all : list_all stands front ≡ true = ap (list_all stands) (f ∙ ap (λ k. take k bs) is) ∙ all_stand bs in
-    let plain : list_all is_unescaped (chars front) ≡ true = unescaped_all (chars front) (scalars-chars front utf8) (ap (list_all stands) (encodes-chars front utf8) ∙ all) in
+    let all : list_all stands front ≡ true = ap (list_all stands) (f ∙ ap (λ k. take k bs) is) ∙ all_pass stands bs in
+    let plain : list_all is_unescaped (chars front) ≡ true =
+    unescaped_all (chars front) (scalars-chars front utf8) (all_tested stands wide_stands front utf8 all) in
     record { nearer = omega (arith, ap length whole, length-append (chars front) (chars back)); goes_on = λ more end i. subst (λ x. IsInside (chars front ++ more) x end) whole (unescaped_before (chars front) more (chars back) end plain i) }

@@ -4,12 +4,10 @@ use Rattle.defs_layout.specs.Json as json
 use Rattle.yaml_json.proofs.ReadNumberLemmas.{low_front}
 
 pub word_taken : (b : Bool) (word old new : List ℕ) → b ≡ true → TakesWord b word old new → word ++ new ≡ old
-word_taken true word old new e h = h
-word_taken false word old new e h = cc
+word_taken a word old new e h = grind arith
 
 pub word_not_taken : (b : Bool) (word old new : List ℕ) → b ≡ false → TakesWord b word old new → new ≡ old
-word_not_taken true word old new e h = cc
-word_not_taken false word old new e h = h
+word_not_taken a word old new e h = grind arith
 
 pub true_is : (text rest : List ℕ) → codes "true" ++ rest ≡ text → IsValue (Tree.boolean true) 0 text rest
 true_is text rest e = record { value = json.true_word; is = tt; tree_is = refl; shallow = omega arith; spelled = e }

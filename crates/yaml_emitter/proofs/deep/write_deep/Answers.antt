@@ -1,10 +1,5 @@
-use Rattle.yaml_emitter.proofs.Common.{ap, append-nil, AreRestsValid, arith, refl, rests_text, rests_weight, subst, sym, ◌∙◌}
-use Rattle.yaml_emitter.proofs.DeepLemmas.{left_then, stopped_there}
-use Rattle.yaml_emitter.proofs.WritingLemmas.{left_all, left_as, left_none, left_stopped, writes_err, writes_ok}
+use Rattle.yaml_emitter.proofs.Common.{ap, append-nil, AreRestsValid, arith, left_all, left_as, left_none, left_stopped, left_then, refl, rests_text, rests_weight, subst, sym, writes_err, writes_ok, ◌∙◌}
 use Rattle.yaml_emitter.proofs.deep.write_deep.Goals as goal
-
-pub returns-in_err-push-clause-text : goal.returns-in_err-push-clause-text
-returns-in_err-push-clause-text g c = writes_err c.from_residual.ensures.0 (stopped_there left_all)
 
 pub rests-init : goal.rests-init
 rests-init g c =

@@ -1,6 +1,5 @@
-use Rattle.yaml_emitter.proofs.Common.{arith, refl, rests_text, view}
-use Rattle.yaml_emitter.proofs.DeepLemmas.{value_left, goes_late, goes_refused}
-use Rattle.yaml_emitter.proofs.WritingLemmas.{left_after}
+use Rattle.yaml_emitter.proofs.Common.{append_assoc, arith, left_after, left_all, left_as, new_line, refl}
+use Rattle.yaml_emitter.proofs.DeepLemmas.{goes_late, goes_refused}
 use Rattle.yaml_emitter.proofs.deep.write_first.Goals as goal
 
 pub returns-in-Items : goal.returns-in-Items
@@ -11,9 +10,12 @@ returns-in-Pairs g c = rw c.in-Pairs.is c.write_pair.ensures
 
 pub returns-in_err-break_line-in-Value : goal.returns-in_err-break_line-in-Value
 returns-in_err-break_line-in-Value g c =
-    rw c.in-Value.is (goes_refused _ c.from_residual.ensures.0 (value_left c.args.settings.now.compact c.args.settings.now.multiline c.in-Value.level (view c.in-Value.node.now) (rests_text c.args.settings.now.compact c.args.settings.now.multiline c.args.outer.now)) (c.in_err-break_line-in-Value.ensures.err refl))
+    rw c.in-Value.is
+    (goes_refused _ c.from_residual.ensures.0 (left_as (append_assoc (new_line c.in-Value.level) _ _) left_all)
+    (c.in_err-break_line-in-Value.ensures.err refl))
 
 pub returns-in_ok-break_line-in-Value : goal.returns-in_ok-break_line-in-Value
 returns-in_ok-break_line-in-Value g c =
     rw c.in-Value.is
-    (goes_late (left_after (value_left c.args.settings.now.compact c.args.settings.now.multiline c.in-Value.level (view c.in-Value.node.now) (rests_text c.args.settings.now.compact c.args.settings.now.multiline c.args.outer.now)) (c.in_ok-break_line-in-Value.ensures.ok refl)) (omega arith) (λ f. f) c.begin_value.ensures)
+    (goes_late (left_after (left_as (append_assoc (new_line c.in-Value.level) _ _) left_all) (c.in_ok-break_line-in-Value.ensures.ok refl))
+    (omega arith) (λ f. f) c.begin_value.ensures)

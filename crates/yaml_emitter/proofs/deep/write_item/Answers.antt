@@ -1,10 +1,14 @@
-use Rattle.yaml_emitter.proofs.Common.{ap, arith, items_nodes, items_of, items_view, nil_from_length, refl}
-use Rattle.yaml_emitter.proofs.DeepLemmas.{item_left, items_end, items_fit, goes_err, goes_late, goes_refused, stopped_there}
-use Rattle.yaml_emitter.proofs.WritingLemmas.{left_after}
+use Rattle.yaml_emitter.proofs.Common.{ap, arith, items_nodes, items_of, items_view, left_after, nil_from_length, refl}
+use Rattle.yaml_emitter.proofs.DeepLemmas.{entries_end, item_left, goes_err, goes_late, goes_refused, stopped_there}
+use Rattle.yaml_emitter.proofs.ListLemmas.{fit_from}
+use Rattle.yaml_emitter.proofs.NodeLemmas.{item_entries}
+use Rattle.yaml_emitter.proofs.ValidLemmas.{nodes}
 use Rattle.yaml_emitter.proofs.deep.write_item.Goals as goal
 
 pub returns-in_default : goal.returns-in_default
-returns-in_default g c = items_end c.args.is_first c.args.level c.args.outer.now refl (ap items_view (nil_from_length _ c.in_default.ensures.cases))
+returns-in_default g c =
+    entries_end (item_entries c.args.settings.now.compact c.args.settings.now.multiline c.args.level)
+    c.args.is_first c.args.outer.now _ refl (ap items_view (nil_from_length _ c.in_default.ensures.cases))
 
 pub returns-in_err-begin_entry : goal.returns-in_err-begin_entry
 returns-in_err-begin_entry g c =
@@ -20,5 +24,5 @@ returns g c =
     let items = ap items_view c.in-Some.ensures.cases.0 in
     goes_late (left_after (item_left _ _ c.args.is_first c.args.level _ items) (c.in_ok-begin_entry.ensures.ok refl))
     (omega (arith, ap (λ ts. items_nodes (items_of ts)) items))
-    (λ f. (items_fit items f.0 f.1.0, f.1.1))
+    (λ f. (fit_from nodes items f.0 f.1.0, f.1.1))
     (rw c.in_ok-push.ensures.ok at c.begin_value.ensures)

@@ -1,12 +1,12 @@
 use Rattle.std.specs.Prelude.{chars}
 use Rattle.yaml_emitter.proofs.Common.{ap, drop, encode_utf8, IsCharBoundary, IsRun, IsRunCut, length, MatchOption, prefix_len, stands, subst, sym, take, ◌++◌, ◌∙◌}
-use Rattle.yaml_emitter.proofs.RunLemmas.{run_boundary, only_run, run_cut}
+use Rattle.yaml_emitter.proofs.RunLemmas.{only_run, run_cut, stands_boundary}
 use Rattle.yaml_emitter.proofs.escape.first_escape.Goals as goal
 
 pub split_at-requires : goal.split_at-requires
 split_at-requires c =
     let n = c.run_length.ensures ∙ ap (prefix_len stands) c.as_bytes.ensures.value in
-    subst (IsCharBoundary c.args.text.now) (sym n) (run_boundary c.args.text.now)
+    subst (IsCharBoundary c.args.text.now) (sym n) (stands_boundary c.args.text.now)
 
 pub returns-in_err-c : goal.returns-in_err-c
 returns-in_err-c c =

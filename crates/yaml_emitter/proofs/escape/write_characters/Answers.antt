@@ -1,10 +1,6 @@
-use Rattle.yaml_emitter.proofs.Common.{refl}
+use Rattle.yaml_emitter.proofs.Common.{left_after, left_as, left_stopped, left_writes, refl, stopped_early, stopped_late, writes_err}
 use Rattle.yaml_emitter.proofs.RunLemmas.{cut_written}
-use Rattle.yaml_emitter.proofs.WritingLemmas.{writes_err, stopped_early, stopped_late, left_all, left_as, left_after, left_stopped, left_writes}
 use Rattle.yaml_emitter.proofs.escape.write_characters.Goals as goal
-
-pub runs-init : goal.runs-init
-runs-init g c = record { utf8 = c.utf8.text; left = left_all }
 
 pub returns-in_err-put : goal.returns-in_err-put
 returns-in_err-put g c =

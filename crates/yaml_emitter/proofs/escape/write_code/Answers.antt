@@ -1,5 +1,4 @@
-use Rattle.yaml_emitter.proofs.Common.{[], ap, refl, ◌∷◌}
-use Rattle.yaml_emitter.proofs.WritingLemmas.{writes_late, writes_err, writes_as, stopped_early, stopped_late}
+use Rattle.yaml_emitter.proofs.Common.{[], ap, refl, stopped_early, stopped_late, writes_as, writes_err, writes_late, ◌∷◌}
 use Rattle.yaml_emitter.proofs.escape.write_code.Goals as goal
 
 pub returns-in_err-put_ascii : goal.returns-in_err-put_ascii

@@ -1,5 +1,4 @@
-use Rattle.yaml_emitter.proofs.Common.{refl}
-use Rattle.yaml_emitter.proofs.WritingLemmas.{writes_late, writes_err, stopped_early, stopped_late}
+use Rattle.yaml_emitter.proofs.Common.{refl, stopped_early, stopped_late, writes_err, writes_late}
 use Rattle.yaml_emitter.proofs.escape.write_double_quoted.Goals as goal
 
 pub returns-in_err-put_ascii : goal.returns-in_err-put_ascii

@@ -1,10 +1,9 @@
-use Rattle.yaml_emitter.proofs.Common.{ap, refl, ◌*◌, ◌∙◌, ◌∷◌}
-use Rattle.yaml_emitter.proofs.LineLemmas.{low_line, twice, of_level}
-use Rattle.yaml_emitter.proofs.WritingLemmas.{writes_as, writes_late, writes_err, stopped_as, stopped_early}
+use Rattle.yaml_emitter.proofs.Common.{ap, is_low, refl, stopped_as, stopped_early, writes_as, writes_err, writes_late, ◌*◌, ◌∙◌, ◌∷◌}
+use Rattle.yaml_emitter.proofs.LineLemmas.{low_blanks, twice, of_level}
 use Rattle.yaml_emitter.proofs.line.break_line.Goals as goal
 
 pub put_ascii-requires : goal.put_ascii-requires
-put_ascii-requires g c = low_line _ (2 * c.args.level) c.line.ensures
+put_ascii-requires g c = ap is_low c.line.ensures ∙ low_blanks (2 * c.args.level)
 
 pub returns-then-level-le-MOST_LEVELS : goal.returns-then-level-le-MOST_LEVELS
 returns-then-level-le-MOST_LEVELS g c = writes_as (c.line.ensures ∙ ap (λ t. 10 ∷ t) (of_level c.args.level)) c.put_ascii.ensures

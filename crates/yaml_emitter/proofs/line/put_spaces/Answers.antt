@@ -1,16 +1,12 @@
-use Rattle.yaml_emitter.proofs.Common.{arith, refl, sym}
-use Rattle.yaml_emitter.proofs.LineLemmas.{deep_blanks, low_text}
-use Rattle.yaml_emitter.proofs.WritingLemmas.{writes_err, stopped_early, left_all, left_as, left_after, left_stopped, left_writes}
+use Rattle.yaml_emitter.proofs.Common.{ap, arith, is_low, left_after, left_as, left_stopped, left_writes, refl, stopped_early, sym, writes_err, ◌∙◌}
+use Rattle.yaml_emitter.proofs.LineLemmas.{deep_blanks, low_blanks}
 use Rattle.yaml_emitter.proofs.line.put_spaces.Goals as goal
 
-pub left-init : goal.left-init
-left-init g c = left_all
-
 pub put_ascii-requires : goal.put_ascii-requires
-put_ascii-requires g c = low_text _ 64 c.spaces.ensures
+put_ascii-requires g c = ap is_low c.spaces.ensures ∙ low_blanks 64
 
 pub put_ascii-requires-2 : goal.put_ascii-requires-2
-put_ascii-requires-2 g c = low_text _ c.left.left c.spaces-2.ensures
+put_ascii-requires-2 g c = ap is_low c.spaces-2.ensures ∙ low_blanks c.left.left
 
 pub returns-in_err-put_ascii : goal.returns-in_err-put_ascii
 returns-in_err-put_ascii g c =

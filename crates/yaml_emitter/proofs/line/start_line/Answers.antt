@@ -1,10 +1,9 @@
-use Rattle.yaml_emitter.proofs.Common.{arith, refl}
-use Rattle.yaml_emitter.proofs.WritingLemmas.{writes_as, writes_late, writes_err, stopped_as, stopped_early}
-use Rattle.yaml_emitter.proofs.LineLemmas.{deep_line, low_line}
+use Rattle.yaml_emitter.proofs.Common.{ap, arith, is_low, refl, stopped_as, stopped_early, writes_as, writes_err, writes_late, ◌∙◌}
+use Rattle.yaml_emitter.proofs.LineLemmas.{deep_line, low_blanks}
 use Rattle.yaml_emitter.proofs.line.start_line.Goals as goal
 
 pub put_ascii-requires : goal.put_ascii-requires
-put_ascii-requires g c = low_line _ c.args.count c.line.ensures
+put_ascii-requires g c = ap is_low c.line.ensures ∙ low_blanks c.args.count
 
 pub returns-in_err-put_ascii : goal.returns-in_err-put_ascii
 returns-in_err-put_ascii g c =

@@ -1,5 +1,5 @@
-use Rattle.yaml_emitter.proofs.Common.{ap, begins_well, chars, chars_rest, IsUtf8, IsUtf8-past_char, subst, sym, ◌∙◌}
-use Rattle.yaml_emitter.proofs.LiteralLemmas.{well_first, well_break, well_none}
+use Rattle.yaml_emitter.proofs.Common.{ap, begins_well, chars, chars-nil, chars_rest, IsUtf8, IsUtf8-past_char, nil_from_length, subst, sym, ◌∙◌}
+use Rattle.yaml_emitter.proofs.LiteralLemmas.{well_first, well_break}
 use Rattle.yaml_emitter.proofs.literal.begins_well.Goals as goal
 
 pub characters-init : goal.characters-init
@@ -17,4 +17,6 @@ characters-preserved c = record {
 }
 
 pub returns : goal.returns
-returns c = sym (c.characters.invariant.left ∙ well_none _ c.in-None.ensures.steps.0.0)
+returns c =
+    let none = nil_from_length _ c.in-None.ensures.steps.0.0 in
+    sym (c.characters.invariant.left ∙ ap (λ bs. begins_well (chars bs)) none ∙ ap begins_well chars-nil)

@@ -1,10 +1,6 @@
-use Rattle.yaml_emitter.proofs.Common.{refl}
+use Rattle.yaml_emitter.proofs.Common.{left_after, left_as, left_stopped, left_writes, refl, stopped_early, writes_err}
 use Rattle.yaml_emitter.proofs.LiteralLemmas.{first_below, line_last}
-use Rattle.yaml_emitter.proofs.WritingLemmas.{writes_err, stopped_early, left_all, left_as, left_after, left_stopped, left_writes}
 use Rattle.yaml_emitter.proofs.literal.write_lines.Goals as goal
-
-pub lines-init : goal.lines-init
-lines-init g c = record { utf8 = c.utf8.text; left = left_all }
 
 pub returns-in_err-write_line : goal.returns-in_err-write_line
 returns-in_err-write_line g c =

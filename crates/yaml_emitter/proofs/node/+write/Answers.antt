@@ -1,9 +1,8 @@
-use Rattle.yaml_emitter.proofs.Common.{ap, arith, depth, mark_text, refl, sym, view, ◌∙◌}
+use Rattle.yaml_emitter.proofs.Common.{arith, mark_text, refl, stopped_early, stopped_for, stopped_late, sym, view, writes_as, writes_err, writes_for, writes_late, writes_ok, wrote_then, ◌∙◌}
 use Rattle.yaml_emitter.proofs.EntryLemmas.{items_text, pairs_text, two_levels}
 use Rattle.yaml_emitter.proofs.ListLemmas.{all_left, rest_left, entry_stopped, none_left, own_no_higher, none_decide, first_within}
 use Rattle.yaml_emitter.proofs.NodeLemmas.{flat_after, block_after, block_writes, item_entries, pair_entries, scalar_pair, complex_pair}
-use Rattle.yaml_emitter.proofs.ValidLemmas.{unless_ok, pair_valid, in_any, flat_valid, valid_as, valid_hash, nodes, nodes_in_pairs}
-use Rattle.yaml_emitter.proofs.WritingLemmas.{wrote_then, writes_late, writes_err, writes_for, writes_as, stopped_early, stopped_late, stopped_for, writes_ok}
+use Rattle.yaml_emitter.proofs.ValidLemmas.{in_any, flat_valid, valid_hash, nodes, nodes_in_pairs}
 use Rattle.yaml_emitter.proofs.node.+write.Goals as goal
 
 pub write_value-returns-in_err-put_spaced-clause-text : goal.write_value-returns-in_err-put_spaced-clause-text
@@ -40,18 +39,6 @@ write_block-returns-in-Hash-clause-text g t c = grind (arith, block_writes, pair
 pub write_value-returns-then-not-has_parts-clause-valid : goal.write_value-returns-then-not-has_parts-clause-valid
 write_value-returns-then-not-has_parts-clause-valid g t c =
     in_any _ (flat_valid (view c.args.node.now) (sym (c.if-not-has_parts.ensures {u = tt})) c.write_scalar.ensures.valid)
-
-pub write_block-returns-in-Array-clause-valid : goal.write_block-returns-in-Array-clause-valid
-write_block-returns-in-Array-clause-valid g t c = valid_as _ _ _ (ap view c.in-Array.is) c.write_items.ensures.valid
-
-pub write_block-returns-in-Hash-clause-valid : goal.write_block-returns-in-Hash-clause-valid
-write_block-returns-in-Hash-clause-valid g t c = valid_as _ _ _ (ap view c.in-Hash.is) c.write_pairs.ensures.valid
-
-pub write_block-write_items-requires : goal.write_block-write_items-requires
-write_block-write_items-requires g t c = λ κs s. (omega (arith, ap (λ y. depth (view y)) c.in-Array.is), (s, omega arith))
-
-pub write_block-write_pairs-requires : goal.write_block-write_pairs-requires
-write_block-write_pairs-requires g t c = λ κs s. (omega (arith, ap (λ y. depth (view y)) c.in-Hash.is), (s, omega arith))
 
 -- ---- entries
 
@@ -141,47 +128,7 @@ write_complex_pair-returns-clause-text g t c =
     writes_late (c.in_ok-write_value.ensures.text.ok refl)
     (writes_late (c.in_ok-break_line.ensures.ok refl) (writes_for (λ b. omega (arith, b)) c.write_value-2.ensures.text))
 
-pub write_pair-write_value-requires : goal.write_pair-write_value-requires
-write_pair-write_value-requires g t c = λ κs s. (omega arith, (s, omega arith))
-
 -- ---- valid trees
-
-pub write_value-returns-in_err-put_spaced-clause-valid : goal.write_value-returns-in_err-put_spaced-clause-valid
-write_value-returns-in_err-put_spaced-clause-valid g t c = unless_ok _ _ c.from_residual.ensures.0
-
-pub write_value-returns-in_err-begin_block-clause-valid : goal.write_value-returns-in_err-begin_block-clause-valid
-write_value-returns-in_err-begin_block-clause-valid g t c = unless_ok _ _ c.from_residual-in_err-begin_block.ensures.0
-
-pub write_items-returns-clause-valid : goal.write_items-returns-clause-valid
-write_items-returns-clause-valid g t c = none_decide nodes c.items.invariant.decide c.in-None.ensures.steps.0
-
-pub write_items-returns-in_err-begin_entry-clause-valid : goal.write_items-returns-in_err-begin_entry-clause-valid
-write_items-returns-in_err-begin_entry-clause-valid g t c = unless_ok _ _ c.from_residual.ensures.0
-
-pub write_items-returns-in_err-write_value-clause-valid : goal.write_items-returns-in_err-write_value-clause-valid
-write_items-returns-in_err-write_value-clause-valid g t c = unless_ok _ _ c.from_residual-in_err-write_value.ensures.0
 
 pub write_pairs-returns-clause-valid : goal.write_pairs-returns-clause-valid
 write_pairs-returns-clause-valid g t c = valid_hash _ c.iter-key-items.ensures.distinct (none_decide nodes_in_pairs c.pairs.invariant.decide c.in-None.ensures.steps.0)
-
-pub write_pairs-returns-in_err-begin_entry-clause-valid : goal.write_pairs-returns-in_err-begin_entry-clause-valid
-write_pairs-returns-in_err-begin_entry-clause-valid g t c = unless_ok _ _ c.from_residual.ensures.0
-
-pub write_pairs-returns-in_err-write_pair-clause-valid : goal.write_pairs-returns-in_err-write_pair-clause-valid
-write_pairs-returns-in_err-write_pair-clause-valid g t c = unless_ok _ _ c.from_residual-in_err-write_pair.ensures.0
-
-pub write_pair-returns-in_err-write_spelling-clause-valid : goal.write_pair-returns-in_err-write_spelling-clause-valid
-write_pair-returns-in_err-write_spelling-clause-valid g t c = unless_ok _ _ c.from_residual.ensures.0
-
-pub write_pair-returns-then-is_scalar-clause-valid : goal.write_pair-returns-then-is_scalar-clause-valid
-write_pair-returns-then-is_scalar-clause-valid g t c =
-    pair_valid _ _ _ (c.in_ok-write_spelling.ensures.valid (sym (c.if-is_scalar.ensures {u = tt}))) c.write_value.ensures.valid
-
-pub write_complex_pair-returns-in_err-write_value-clause-valid : goal.write_complex_pair-returns-in_err-write_value-clause-valid
-write_complex_pair-returns-in_err-write_value-clause-valid g t c = unless_ok _ _ c.from_residual.ensures.0
-
-pub write_complex_pair-returns-in_err-break_line-clause-valid : goal.write_complex_pair-returns-in_err-break_line-clause-valid
-write_complex_pair-returns-in_err-break_line-clause-valid g t c = unless_ok _ _ c.from_residual-in_err-break_line.ensures.0
-
-pub write_complex_pair-returns-clause-valid : goal.write_complex_pair-returns-clause-valid
-write_complex_pair-returns-clause-valid g t c = pair_valid _ _ _ c.in_ok-write_value.ensures.valid c.write_value-2.ensures.valid

@@ -1,5 +1,4 @@
-use Rattle.yaml_emitter.proofs.Common.{ap, before_block, mark_text, refl, sym, ◌++◌}
-use Rattle.yaml_emitter.proofs.WritingLemmas.{writes_as, writes_late, writes_err, stopped_early}
+use Rattle.yaml_emitter.proofs.Common.{ap, before_block, mark_text, refl, stopped_early, sym, writes_as, writes_err, writes_late, ◌++◌}
 use Rattle.yaml_emitter.proofs.node.begin_block.Goals as goal
 
 pub returns-in_err-put_mark : goal.returns-in_err-put_mark

@@ -1,5 +1,4 @@
-use Rattle.yaml_emitter.proofs.Common.{refl}
-use Rattle.yaml_emitter.proofs.WritingLemmas.{writes_late, writes_err, stopped_early}
+use Rattle.yaml_emitter.proofs.Common.{refl, stopped_early, writes_err, writes_late}
 use Rattle.yaml_emitter.proofs.node.put_spaced.Goals as goal
 
 pub returns-in_err-put_mark : goal.returns-in_err-put_mark

@@ -1,7 +1,5 @@
-use Rattle.yaml_emitter.proofs.Common.{arith, refl, view}
+use Rattle.yaml_emitter.proofs.Common.{arith, refl, stopped_early, stopped_for, view, writes_as, writes_err, writes_for, writes_late}
 use Rattle.yaml_emitter.proofs.NodeLemmas.{document_text}
-use Rattle.yaml_emitter.proofs.ValidLemmas.{unless_ok}
-use Rattle.yaml_emitter.proofs.WritingLemmas.{writes_late, writes_err, writes_as, writes_for, stopped_early, stopped_for}
 use Rattle.yaml_emitter.proofs.node.write_document.Goals as goal
 
 pub returns-in_err-put_ascii-clause-text : goal.returns-in_err-put_ascii-clause-text
@@ -10,9 +8,3 @@ returns-in_err-put_ascii-clause-text g c =
 
 pub returns-clause-text : goal.returns-clause-text
 returns-clause-text g c = writes_as (document_text c.args.settings.now.compact c.args.settings.now.multiline (view c.args.root.now)) (writes_late (c.in_ok-put_ascii.ensures.ok refl) (writes_for (λ b. omega (arith, b)) c.write_node.ensures.text))
-
-pub returns-in_err-put_ascii-clause-valid : goal.returns-in_err-put_ascii-clause-valid
-returns-in_err-put_ascii-clause-valid g c = unless_ok _ _ c.from_residual.ensures.0
-
-pub returns-clause-valid : goal.returns-clause-valid
-returns-clause-valid g c = c.write_node.ensures.valid

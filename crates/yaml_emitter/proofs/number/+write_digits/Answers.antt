@@ -1,10 +1,11 @@
-use Rattle.yaml_emitter.proofs.Common.{refl}
-use Rattle.yaml_emitter.proofs.NumberLemmas.{one_digit, last_digit}
-use Rattle.yaml_emitter.proofs.WritingLemmas.{writes_late, writes_err, writes_as, stopped_as, stopped_early}
+use Rattle.std.proofs.lemmas.Fmt.{decimal_digit}
+use Rattle.yaml_emitter.proofs.Common.{[], ap, refl, stopped_as, stopped_early, sym, writes_as, writes_err, writes_late, ◌∙◌, ◌∷◌}
+use Rattle.yaml_emitter.proofs.NumberLemmas.{last_digit}
 use Rattle.yaml_emitter.proofs.number.+write_digits.Goals as goal
 
 pub returns-then-number-lt10 : goal.returns-then-number-lt10
-returns-then-number-lt10 g t c = writes_as (one_digit c.args.number c.digit.result c.if-number-lt10.true c.digit.ensures) c.put_char.ensures
+returns-then-number-lt10 g t c =
+    writes_as (ap (λ x. x ∷ []) c.digit.ensures ∙ sym (decimal_digit c.args.number c.if-number-lt10.true)) c.put_char.ensures
 
 pub returns-in_err-write_digits : goal.returns-in_err-write_digits
 returns-in_err-write_digits g t c =

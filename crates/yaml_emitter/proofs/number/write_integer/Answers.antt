@@ -1,6 +1,5 @@
-use Rattle.yaml_emitter.proofs.Common.{refl, to_z-of_z}
+use Rattle.yaml_emitter.proofs.Common.{refl, stopped_as, stopped_early, to_z-of_z, writes_as, writes_err, writes_late}
 use Rattle.yaml_emitter.proofs.NumberLemmas.{nonnegative, negative}
-use Rattle.yaml_emitter.proofs.WritingLemmas.{writes_late, writes_err, writes_as, stopped_as, stopped_early}
 use Rattle.yaml_emitter.proofs.number.write_integer.Goals as goal
 
 pub returns-then-number-ge0 : goal.returns-then-number-ge0

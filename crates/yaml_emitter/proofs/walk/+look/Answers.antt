@@ -1,25 +1,9 @@
-use Rattle.yaml_emitter.proofs.Common.{ap, IsValid, subst, sym, view, ◌∙◌}
-use Rattle.yaml_emitter.proofs.ListLemmas.{all_decide, rest_decides, none_decide}
+use Rattle.yaml_emitter.proofs.ListLemmas.{rest_decides, none_decide}
 use Rattle.yaml_emitter.proofs.ValidLemmas.{nodes, nodes_in_pairs, valid_hash}
 use Rattle.yaml_emitter.proofs.walk.+look.Goals as goal
 
-pub look-returns-in-Array : goal.look-returns-in-Array
-look-returns-in-Array t c = subst IsValid (sym (ap view c.in-Array.is)) c.look_at_items.ensures
-
-pub look-returns-in-Hash : goal.look-returns-in-Hash
-look-returns-in-Hash t c = subst IsValid (sym (ap view c.in-Hash.is)) c.look_at_pairs.ensures
-
-pub look_at_items-items-init : goal.look_at_items-items-init
-look_at_items-items-init t c = all_decide nodes c.into_iter-item-iterator.ensures.into_iter_gives
-
 pub look_at_items-items-preserved : goal.look_at_items-items-preserved
 look_at_items-items-preserved t c = rest_decides nodes c.items.invariant c.in-Some.ensures.steps c.look.ensures
-
-pub look_at_items-returns : goal.look_at_items-returns
-look_at_items-returns t c = none_decide nodes c.items.invariant c.in-None.ensures.steps.0
-
-pub look_at_pairs-pairs-init : goal.look_at_pairs-pairs-init
-look_at_pairs-pairs-init t c = all_decide nodes_in_pairs (c.into_iter-key-iterator.ensures.into_iter_gives ∙ c.iter-key-items.ensures.pairs)
 
 pub look_at_pairs-pairs-preserved : goal.look_at_pairs-pairs-preserved
 look_at_pairs-pairs-preserved t c = rest_decides nodes_in_pairs c.pairs.invariant c.in-Some.ensures.steps (c.look.ensures, c.look-in-pairs.ensures)

@@ -1,6 +1,5 @@
-use Rattle.yaml_emitter.proofs.Common.{ap, chars, ◌∙◌}
+use Rattle.yaml_emitter.proofs.Common.{ap, chars, writes_as, ◌∙◌}
 use Rattle.yaml_chars.proofs.TextLemmas.{chars-encode}
-use Rattle.yaml_emitter.proofs.WritingLemmas.{writes_as}
 use Rattle.yaml_emitter.proofs.writer.put_char.Goals as goal
 
 pub returns : goal.returns

@@ -1,5 +1,5 @@
-use Rattle.yaml_json.proofs.Common.{arith, refl, writes_err, writes_ok}
-use Rattle.yaml_json.proofs.LevelLemmas.{end_stopped, finished, first_stopped, opened, opened_smaller, opening_stopped, parts_stopped, place, resumed, resumed_smaller, stands_first, within_more}
+use Rattle.yaml_json.proofs.Common.{arith, left_stopped, refl, stopped_early, stopped_for, writes_err, writes_ok}
+use Rattle.yaml_json.proofs.LevelLemmas.{finished, first_stopped, from_end, opened, opened_smaller, opening_stopped, place, resumed, resumed_smaller, stands_first, within_more}
 use Rattle.yaml_json.proofs.deep.write_levels.Goals as goal
 
 pub returns-in_err-margin-clause-text : goal.returns-in_err-margin-clause-text
@@ -12,7 +12,9 @@ levels-init g c = record {
 }
 
 pub returns-in_err-stop-clause-text : goal.returns-in_err-stop-clause-text
-returns-in_err-stop-clause-text g c = writes_err c.from_residual-in_err-stop.ensures.0 (parts_stopped c.levels.invariant.stands c.in_err-stop.ensures.stopped)
+returns-in_err-stop-clause-text g c =
+    writes_err c.from_residual-in_err-stop.ensures.0
+    (left_stopped c.levels.invariant.stands.left (stopped_early _ (stopped_for (λ b. absurd b) c.in_err-stop.ensures.stopped)))
 
 pub bounds-places-waiting : goal.bounds-places-waiting
 bounds-places-waiting g c = place c.levels.level c.levels.waiting c.levels.places c.levels.invariant.stands c.levels.invariant.within (record { row = c.levels.level.row; passed = c.in-Some.stop.passed; is_hash = c.levels.level.is_hash }) (rw c.in-Some.is at c.in_ok-stop.ensures.stop) (omega (arith, c.requires.room, c.levels.auto.places))
@@ -33,7 +35,9 @@ levels-preserved-in-Some g c = record {
 
 pub returns-in_err-margin-in-None-clause-text : goal.returns-in_err-margin-in-None-clause-text
 returns-in_err-margin-in-None-clause-text g c =
-    writes_err c.from_residual-in_err-margin-in-None.ensures.0 (end_stopped c.levels.invariant.stands (rw c.in-None.is at c.in_ok-stop.ensures.end) c.in_err-margin-in-None.ensures.stopped)
+    writes_err c.from_residual-in_err-margin-in-None.ensures.0
+    (left_stopped (from_end c.levels.invariant.stands (rw c.in-None.is at c.in_ok-stop.ensures.end))
+    (stopped_early _ (stopped_for (λ b. absurd b) c.in_err-margin-in-None.ensures.stopped)))
 
 pub returns-then-waiting-eq0-clause-text : goal.returns-then-waiting-eq0-clause-text
 returns-then-waiting-eq0-clause-text g c =

@@ -1,9 +1,9 @@
-use Rattle.yaml_json.proofs.ReadCommon.{arith, get_or, refl}
-use Rattle.yaml_json.proofs.ReadNumberLemmas.{rest_of, zero_whole, digits_whole}
+use Rattle.yaml_json.proofs.ReadCommon.{[], arith, get_or, refl, ◌∷◌}
+use Rattle.yaml_json.proofs.ReadNumberLemmas.{rest_of, digits_whole}
 use Rattle.yaml_json.proofs.digits.after_whole.Goals as goal
 
 pub returns-in-48 : goal.returns-in-48
-returns-in-48 c = zero_whole c.args.text.now _ (rest_of c.args.text.now 48 (omega arith) (omega arith))
+returns-in-48 c = record { digits = 48 ∷ []; is = refl; spelled = rest_of c.args.text.now 48 (omega arith) (omega arith) }
 
 pub returns-in-49-to-57 : goal.returns-in-49-to-57
 returns-in-49-to-57 c =

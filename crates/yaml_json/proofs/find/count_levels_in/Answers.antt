@@ -1,6 +1,6 @@
-use Rattle.yaml_json.proofs.Common.{arith, common_steps, subst, sym, view, ◌+◌, ◌<◌, ◌∷◌, ◌≡◌}
+use Rattle.yaml_json.proofs.Common.{arith, common_steps, IsSoundAtRoot, subst, sym, view, ◌+◌, ◌<◌, ◌∷◌, ◌≡◌}
 use Rattle.yaml_json.proofs.OpenLevels.{trees, weight}
-use Rattle.yaml_json.proofs.SearchLemmas.{Searches, has_parts_met, root_sound, searches_in, smaller_in}
+use Rattle.yaml_json.proofs.SearchLemmas.{left_sound, Searches, has_parts_met, searches_in, smaller_in}
 use Rattle.yaml_json.proofs.find.count_levels_in.Goals as goal
 
 pub levels-smaller : goal.levels-smaller
@@ -17,4 +17,4 @@ levels-preserved c =
     (searches_in c.levels.invariant (record { row = c.levels.level.row; passed = c.in-Some.met.passed; is_hash = c.levels.level.is_hash }) c.in-Some.ensures.meets c.of-level-in-levels.result seen c.of-level-in-levels.ensures.tree c.of-level-in-levels.ensures.none_passed more c.max-deepest.ensures)
 
 pub returns-in_default-push-clause-names : goal.returns-in_default-push-clause-names
-returns-in_default-push-clause-names c = root_sound (view c.args.tree.now) c.requires.fault
+returns-in_default-push-clause-names c = subst IsSoundAtRoot (sym c.requires.fault) (left_sound (view c.args.tree.now))

@@ -1,9 +1,6 @@
-use Rattle.yaml_json.proofs.Common.{arith, left_after, left_all, left_as, left_none, left_stopped, refl, stopped_early, writes_err, writes_ok}
-use Rattle.yaml_json.proofs.NestLemmas.{next_end, no_end}
+use Rattle.yaml_json.proofs.Common.{ap, arith, left_after, left_as, left_none, left_stopped, nest_end, refl, stopped_early, writes_err, writes_ok, ◌≡◌}
+use Rattle.yaml_json.proofs.NestLemmas.{next_end}
 use Rattle.yaml_json.proofs.nest.close_nest.Goals as goal
-
-pub left-init : goal.left-init
-left-init g c = left_all
 
 pub left-preserved : goal.left-preserved
 left-preserved g c =
@@ -21,4 +18,6 @@ returns-in_err-put_ascii g c =
     (stopped_early _ (c.in_err-put_ascii.ensures.err refl)))
 
 pub returns : goal.returns
-returns g c = writes_ok refl (left_none (left_as (no_end _ _ c.left.left (omega arith)) c.left.invariant))
+returns g c =
+    let none : c.left.left ≡ 0 = omega arith in
+    writes_ok refl (left_none (left_as (ap (nest_end _ _) none) c.left.invariant))

@@ -1,10 +1,7 @@
-use Rattle.yaml_json.proofs.Common.{refl}
-use Rattle.yaml_json.proofs.NestLemmas.{opens_none, opens_more, margin_stops, bracket_stops, line_stops}
+use Rattle.yaml_json.proofs.Common.{left_after, left_stopped, refl, stopped_early, stopped_for}
+use Rattle.yaml_json.proofs.NestLemmas.{level_left, opens_more, margin_stops}
 use Rattle.yaml_json.proofs.PartLemmas.{when_err}
 use Rattle.yaml_json.proofs.nest.open_nest.Goals as goal
-
-pub levels-init : goal.levels-init
-levels-init g c = opens_none _ _ _ _ _
 
 pub levels-preserved : goal.levels-preserved
 levels-preserved g c =
@@ -15,8 +12,11 @@ returns-in_err-deeper-clause-stopped g c = when_err _ (margin_stops _ c.in_err-d
 
 pub returns-in_err-put_ascii-clause-stopped : goal.returns-in_err-put_ascii-clause-stopped
 returns-in_err-put_ascii-clause-stopped g c =
-    when_err _ (bracket_stops _ _ c.in_ok-deeper.ensures c.in-Some.ensures c.levels.invariant (c.in_err-put_ascii.ensures.err refl))
+    when_err _ (left_stopped (level_left _ _ c.in_ok-deeper.ensures c.in-Some.ensures c.levels.invariant)
+    (stopped_early _ (stopped_for (λ b. absurd b) (c.in_err-put_ascii.ensures.err refl))))
 
 pub returns-in_err-new_line-clause-stopped : goal.returns-in_err-new_line-clause-stopped
 returns-in_err-new_line-clause-stopped g c =
-    when_err _ (line_stops _ _ c.in_ok-deeper.ensures c.in-Some.ensures c.levels.invariant (c.in_ok-put_ascii.ensures.ok refl) (c.in_err-new_line.ensures.err refl))
+    when_err _ (left_stopped
+    (left_after (level_left _ _ c.in_ok-deeper.ensures c.in-Some.ensures c.levels.invariant) (c.in_ok-put_ascii.ensures.ok refl))
+    (stopped_early _ (stopped_for (λ b. absurd b) (c.in_err-new_line.ensures.err refl))))

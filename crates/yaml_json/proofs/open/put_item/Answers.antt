@@ -1,7 +1,5 @@
-use Rattle.yaml_json.proofs.ReadCommon.{[], ap, arith, false, length, sym, view, ◌++◌, ◌∙◌, ◌∷◌, ◌≡◌}
-use Rattle.yaml_json.proofs.Gaps.{taken, not_taken}
+use Rattle.yaml_json.proofs.ReadCommon.{[], ap, arith, false, length, not_taken, sym, taken, view, was_ok, ◌++◌, ◌∙◌, ◌∷◌, ◌≡◌}
 use Rattle.yaml_json.proofs.Longer.{gap_nearer}
-use Rattle.yaml_json.proofs.Results.{was_ok}
 use Rattle.yaml_json.proofs.Collections.{item_put, item_last}
 use Rattle.yaml_json.proofs.open.put_item.Goals as goal
 

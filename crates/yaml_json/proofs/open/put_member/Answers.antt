@@ -1,5 +1,4 @@
-use Rattle.yaml_json.proofs.ReadCommon.{Adds, ap, arith, false, IsKey, length, subst, sym, view, ◌∙◌}
-use Rattle.yaml_json.proofs.Gaps.{taken, not_taken}
+use Rattle.yaml_json.proofs.ReadCommon.{Adds, ap, arith, false, IsKey, length, not_taken, subst, sym, taken, view, ◌∙◌}
 use Rattle.yaml_json.proofs.Longer.{gap_nearer, key_nearer}
 use Rattle.yaml_json.proofs.Collections.{member_put, member_last}
 use Rattle.yaml_json.proofs.open.put_member.Goals as goal

@@ -1,5 +1,4 @@
-use Rattle.yaml_json.proofs.ReadCommon.{string_chars}
-use Rattle.yaml_json.proofs.Gaps.{taken}
+use Rattle.yaml_json.proofs.ReadCommon.{string_chars, taken}
 use Rattle.yaml_json.proofs.Collections.{key_read}
 use Rattle.yaml_json.proofs.open.read_key.Goals as goal
 

@@ -1,5 +1,4 @@
-use Rattle.yaml_json.proofs.ReadCommon.{ap, arith, false, length}
-use Rattle.yaml_json.proofs.Gaps.{taken, not_taken}
+use Rattle.yaml_json.proofs.ReadCommon.{ap, arith, false, length, not_taken, taken}
 use Rattle.yaml_json.proofs.Longer.{gap_nearer}
 use Rattle.yaml_json.proofs.Places.{array_opened, array_whole}
 use Rattle.yaml_json.proofs.reader.begin_array.Goals as goal

@@ -1,5 +1,4 @@
-use Rattle.yaml_json.proofs.ReadCommon.{IsValue, subst, view, ◌∙◌}
-use Rattle.yaml_json.proofs.Gaps.{not_taken}
+use Rattle.yaml_json.proofs.ReadCommon.{IsValue, not_taken, subst, view, ◌∙◌}
 use Rattle.yaml_json.proofs.Longer.{value_nearer}
 use Rattle.yaml_json.proofs.Places.{has_scalar}
 use Rattle.yaml_json.proofs.reader.begin_value.Goals as goal

@@ -1,5 +1,4 @@
-use Rattle.yaml_json.proofs.ReadCommon.{string_chars}
-use Rattle.yaml_json.proofs.Gaps.{taken}
+use Rattle.yaml_json.proofs.ReadCommon.{string_chars, taken}
 use Rattle.yaml_json.proofs.StringLemmas.{string_value}
 use Rattle.yaml_json.proofs.scalar.read_scalar.Goals as goal
 

@@ -1,13 +1,13 @@
-use Rattle.yaml_json.proofs.ReadCommon.{sym, ◌∙◌}
-use Rattle.yaml_json.proofs.Gaps.{not_taken}
-use Rattle.yaml_json.proofs.TextLemmas.{ascii_of, took}
+use Rattle.yaml_json.proofs.ReadCommon.{not_taken, sym, ◌∙◌}
+use Rattle.yaml_json.proofs.TextLemmas.{took}
 use Rattle.yaml_json.proofs.StringLemmas.{short_read, short_ascii}
 use Rattle.yaml_json.proofs.string.read_escape.Goals as goal
 
 pub skip-requires : goal.skip-requires
 skip-requires c =
     let ascii = short_ascii c.peek-letter.result c.in-Some.character c.in-Some.ensures in
-    ascii_of c.peek-letter.result _ c.peek-letter.ensures ascii.0 ascii.1
+    let f = c.peek-letter.ensures ascii.0 ascii.1 in
+    record { first = c.peek-letter.result; rest = f.rest; ascii = ascii.1; is = f.is }
 
 pub returns : goal.returns
 returns c =

@@ -1,5 +1,4 @@
-use Rattle.yaml_json.proofs.ReadCommon.{chars, rules, string_chars, subst, sym, ◌∙◌}
-use Rattle.yaml_json.proofs.Gaps.{taken, not_taken}
+use Rattle.yaml_json.proofs.ReadCommon.{chars, not_taken, rules, string_chars, subst, sym, taken, ◌∙◌}
 use Rattle.yaml_json.proofs.StringLemmas.{Goes, gone_on, ended, pushed}
 use Rattle.yaml_json.proofs.string.read_escaped.Goals as goal
 

@@ -1,6 +1,4 @@
-use Rattle.yaml_json.proofs.ReadCommon.{chars, IsRun, string_chars, subst, sym}
-use Rattle.yaml_json.proofs.Gaps.{taken, not_taken}
-use Rattle.yaml_json.proofs.Results.{ok_of}
+use Rattle.yaml_json.proofs.ReadCommon.{chars, IsRun, not_taken, ok_of, string_chars, subst, sym, taken}
 use Rattle.yaml_json.proofs.StringLemmas.{plain_string, escaped_string, begins_with}
 use Rattle.yaml_json.proofs.string.read_string.Goals as goal
 

@@ -1,14 +1,10 @@
-use Rattle.yaml_json.proofs.Common.{all_left, ap, arith, depth, entry_stopped, first_within, is_low, left_after, left_stopped, left_writes, none_decide, none_left, own_no_higher, refl, rest_left, stopped_early, stopped_for, stopped_here, stopped_late, sym, view, writes_as, writes_err, writes_for, writes_late, writes_ok, wrote_then, ◌∙◌}
-use Rattle.yaml_emitter.proofs.ValidLemmas.{unless_ok, in_any}
-use Rattle.yaml_json.proofs.GivenLemmas.{flat_given, flat_text_is, given_as, given_hash}
-use Rattle.yaml_json.proofs.LeftLemmas.{wide_within, part_inside, part_margin, low_brackets, put_in_brackets, item_entries, member_entries}
-use Rattle.yaml_json.proofs.ValueLemmas.{parts_as}
+use Rattle.yaml_json.proofs.Common.{all_left, ap, arith, entry_stopped, first_within, is_low, left_after, left_stopped, left_writes, none_decide, none_left, own_no_higher, refl, rest_left, stopped_early, stopped_for, stopped_here, stopped_late, sym, view, writes_as, writes_err, writes_for, writes_late, writes_ok, wrote_then, ◌∙◌}
+use Rattle.yaml_emitter.proofs.ValidLemmas.{in_any}
+use Rattle.yaml_json.proofs.GivenLemmas.{flat_given, flat_text_is, given_hash}
+use Rattle.yaml_json.proofs.LeftLemmas.{parts_as, wide_within, part_inside, part_margin, low_brackets, put_in_brackets, item_entries, member_entries}
 use Rattle.yaml_json.proofs.value.+write.Goals as goal
 
 -- ---- nests
-
-pub write_nest-returns-in_err-nest-clause-text : goal.write_nest-returns-in_err-nest-clause-text
-write_nest-returns-in_err-nest-clause-text g t c = writes_err c.from_residual.ensures.0 c.in_err-nest.ensures.stopped
 
 pub write_nest-returns-in_err-write_node-clause-text : goal.write_nest-returns-in_err-write_node-clause-text
 write_nest-returns-in_err-write_node-clause-text g t c =
@@ -18,15 +14,6 @@ write_nest-returns-in_err-write_node-clause-text g t c =
 pub write_nest-returns-clause-text : goal.write_nest-returns-clause-text
 write_nest-returns-clause-text g t c =
     left_writes (left_after c.in_ok-nest.ensures.opened.left (c.in_ok-write_node.ensures.text.ok refl)) (writes_for (λ b. absurd b) c.close_nest.ensures)
-
-pub write_nest-returns-in_err-nest-clause-given : goal.write_nest-returns-in_err-nest-clause-given
-write_nest-returns-in_err-nest-clause-given g t c = unless_ok _ _ c.from_residual.ensures.0
-
-pub write_nest-returns-in_err-write_node-clause-given : goal.write_nest-returns-in_err-write_node-clause-given
-write_nest-returns-in_err-write_node-clause-given g t c = unless_ok _ _ c.from_residual-in_err-write_node.ensures.0
-
-pub write_nest-returns-clause-given : goal.write_nest-returns-clause-given
-write_nest-returns-clause-given g t c = in_any _ (c.in_ok-nest.ensures.opened.given c.in_ok-write_node.ensures.given)
 
 -- ---- values
 
@@ -78,41 +65,11 @@ write_node-returns-clause-text g t c =
 pub write_node-returns-then-not-has_parts-clause-given : goal.write_node-returns-then-not-has_parts-clause-given
 write_node-returns-then-not-has_parts-clause-given g t c = in_any _ (flat_given (view c.args.node.now) (sym (c.if-not-has_parts.ensures {u = tt})) c.write_flat.ensures.given)
 
-pub write_node-returns-clause-given : goal.write_node-returns-clause-given
-write_node-returns-clause-given g t c = in_any _ c.in_ok-write_parts.ensures.given
-
-pub write_node-write_parts-requires : goal.write_node-write_parts-requires
-write_node-write_parts-requires g t c = λ κs s. (omega arith, (s.0, (s.1, sym (c.if-not-has_parts.ensures {u = tt}))))
-
 pub write_parts-returns-in-Array-clause-text : goal.write_parts-returns-in-Array-clause-text
 write_parts-returns-in-Array-clause-text g t c = parts_as _ _ _ _ (ap view c.in-Array.is) c.write_items.ensures.text
 
 pub write_parts-returns-in-Hash-clause-text : goal.write_parts-returns-in-Hash-clause-text
 write_parts-returns-in-Hash-clause-text g t c = parts_as _ _ _ _ (ap view c.in-Hash.is) c.write_members.ensures.text
-
-pub write_parts-returns-in-Array-clause-given : goal.write_parts-returns-in-Array-clause-given
-write_parts-returns-in-Array-clause-given g t c = given_as _ _ _ (ap view c.in-Array.is) c.write_items.ensures.given
-
-pub write_parts-returns-in-Hash-clause-given : goal.write_parts-returns-in-Hash-clause-given
-write_parts-returns-in-Hash-clause-given g t c = given_as _ _ _ (ap view c.in-Hash.is) c.write_members.ensures.given
-
-pub write_parts-write_items-requires : goal.write_parts-write_items-requires
-write_parts-write_items-requires g t c = λ κs s. (omega (arith, ap (λ y. depth (view y)) c.in-Array.is), s)
-
-pub write_parts-write_members-requires : goal.write_parts-write_members-requires
-write_parts-write_members-requires g t c = λ κs s. (omega (arith, ap (λ y. depth (view y)) c.in-Hash.is), s)
-
-pub write_node-returns-in_err-inner-clause-given : goal.write_node-returns-in_err-inner-clause-given
-write_node-returns-in_err-inner-clause-given g t c = unless_ok _ _ c.from_residual.ensures.0
-
-pub write_node-returns-in_err-put_ascii-clause-given : goal.write_node-returns-in_err-put_ascii-clause-given
-write_node-returns-in_err-put_ascii-clause-given g t c = unless_ok _ _ c.from_residual-in_err-put_ascii.ensures.0
-
-pub write_node-returns-in_err-write_parts-clause-given : goal.write_node-returns-in_err-write_parts-clause-given
-write_node-returns-in_err-write_parts-clause-given g t c = unless_ok _ _ c.from_residual-in_err-write_parts.ensures.0
-
-pub write_node-returns-in_err-new_line-clause-given : goal.write_node-returns-in_err-new_line-clause-given
-write_node-returns-in_err-new_line-clause-given g t c = unless_ok _ _ c.from_residual-in_err-new_line.ensures.0
 
 -- ---- items and members: the loops
 
@@ -148,29 +105,17 @@ write_members-returns-in_err-begin_entry-clause-text g t c =
     (entry_stopped (member_entries (g.S.Spacing.indentation c.args.spacing) c.args.margin) c.pairs.invariant c.in-Some.ensures.steps
     (stopped_early _ (stopped_for (λ b. absurd b) (c.in_err-begin_entry.ensures.err refl))))
 
-pub write_items-returns-in_err-begin_entry-clause-given : goal.write_items-returns-in_err-begin_entry-clause-given
-write_items-returns-in_err-begin_entry-clause-given g t c = unless_ok _ _ c.from_residual.ensures.0
-
-pub write_members-returns-in_err-begin_entry-clause-given : goal.write_members-returns-in_err-begin_entry-clause-given
-write_members-returns-in_err-begin_entry-clause-given g t c = unless_ok _ _ c.from_residual.ensures.0
-
 pub write_members-returns-in_err-write_key-clause-text : goal.write_members-returns-in_err-write_key-clause-text
 write_members-returns-in_err-write_key-clause-text g t c =
     writes_err c.from_residual-in_err-write_key.ensures.0
     (entry_stopped (member_entries (g.S.Spacing.indentation c.args.spacing) c.args.margin) c.pairs.invariant c.in-Some.ensures.steps
     (stopped_late (c.in_ok-begin_entry.ensures.ok refl) (stopped_early _ (stopped_for (λ b. absurd b) (c.in_err-write_key.ensures.text.err refl)))))
 
-pub write_members-returns-in_err-write_key-clause-given : goal.write_members-returns-in_err-write_key-clause-given
-write_members-returns-in_err-write_key-clause-given g t c = unless_ok _ _ c.from_residual-in_err-write_key.ensures.0
-
 pub write_members-returns-in_err-end_key-clause-text : goal.write_members-returns-in_err-end_key-clause-text
 write_members-returns-in_err-end_key-clause-text g t c =
     writes_err c.from_residual-in_err-end_key.ensures.0
     (entry_stopped (member_entries (g.S.Spacing.indentation c.args.spacing) c.args.margin) c.pairs.invariant c.in-Some.ensures.steps
     (stopped_late (c.in_ok-begin_entry.ensures.ok refl) (stopped_late (c.in_ok-write_key.ensures.text.ok refl) (stopped_early _ (stopped_for (λ b. absurd b) (c.in_err-end_key.ensures.err refl))))))
-
-pub write_members-returns-in_err-end_key-clause-given : goal.write_members-returns-in_err-end_key-clause-given
-write_members-returns-in_err-end_key-clause-given g t c = unless_ok _ _ c.from_residual-in_err-end_key.ensures.0
 
 pub write_items-returns-in_err-write_value-clause-text : goal.write_items-returns-in_err-write_value-clause-text
 write_items-returns-in_err-write_value-clause-text g t c =
@@ -183,12 +128,6 @@ write_members-returns-in_err-write_value-clause-text g t c =
     writes_err c.from_residual-in_err-write_value.ensures.0
     (entry_stopped (member_entries (g.S.Spacing.indentation c.args.spacing) c.args.margin) c.pairs.invariant c.in-Some.ensures.steps
     (stopped_late (c.in_ok-begin_entry.ensures.ok refl) (stopped_late (c.in_ok-write_key.ensures.text.ok refl) (stopped_late (c.in_ok-end_key.ensures.ok refl) (stopped_for (wide_within (g.S.Spacing.indentation c.args.spacing) c.args.margin _ _ (own_no_higher (member_entries (g.S.Spacing.indentation c.args.spacing) c.args.margin) c.pairs.invariant c.in-Some.ensures.steps)) (c.in_err-write_value.ensures.text.err refl))))))
-
-pub write_items-returns-in_err-write_value-clause-given : goal.write_items-returns-in_err-write_value-clause-given
-write_items-returns-in_err-write_value-clause-given g t c = unless_ok _ _ c.from_residual-in_err-write_value.ensures.0
-
-pub write_members-returns-in_err-write_value-clause-given : goal.write_members-returns-in_err-write_value-clause-given
-write_members-returns-in_err-write_value-clause-given g t c = unless_ok _ _ c.from_residual-in_err-write_value.ensures.0
 
 -- ---- items and members: the end
 

@@ -1,5 +1,4 @@
-use Rattle.yaml_emitter.proofs.Common.{encodes-chars, has_written_of_eq, sym}
-use Rattle.yaml_emitter.proofs.WritingLemmas.{wrote_one, stopped_one}
+use Rattle.yaml_emitter.proofs.Common.{encodes-chars, has_written_of_eq, stopped_one, sym, wrote_one}
 use Rattle.yaml_emitter.proofs.fmt_writer.FmtFormatterWriter.put.Goals as goal
 
 pub returns : goal.returns

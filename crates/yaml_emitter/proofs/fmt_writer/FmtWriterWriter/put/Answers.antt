@@ -1,5 +1,4 @@
-use Rattle.yaml_emitter.proofs.Common.{refl}
-use Rattle.yaml_emitter.proofs.WritingLemmas.{wrote_one, stopped_one}
+use Rattle.yaml_emitter.proofs.Common.{refl, stopped_one, wrote_one}
 use Rattle.yaml_emitter.proofs.fmt_writer.FmtWriterWriter.put.Goals as goal
 
 pub returns : goal.returns

@@ -1,6 +1,5 @@
 use Rattle.std.specs.Prelude.{chars}
-use Rattle.yaml_emitter.proofs.Common.{ap, chars-append, IsUtf8-string_bytes, refl, string_bytes, string_chars, ◌∙◌}
-use Rattle.yaml_emitter.proofs.WritingLemmas.{wrote_one, stopped_one, writes_ok, writes_err}
+use Rattle.yaml_emitter.proofs.Common.{ap, chars-append, IsUtf8-string_bytes, refl, stopped_one, string_bytes, string_chars, writes_err, writes_ok, wrote_one, ◌∙◌}
 use Rattle.yaml_emitter.proofs.writer.StringWriter.put.Goals as goal
 
 pub returns-in-Ok : goal.returns-in-Ok
