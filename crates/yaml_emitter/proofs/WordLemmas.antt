@@ -4,7 +4,7 @@ use Rattle.defs_tree.specs.Grammar.{is_among, followed_by}
 use Rattle.defs_tree.proofs.GrammarLaws.{after_one, Rejects, optional_one-after, followed_by-empty}
 use Rattle.yaml_tree.proofs.FirstByte.{typing_itself}
 use Rattle.yaml_tree.specs.Values.{begins_value}
-use Rattle.yaml_tree.proofs.TableByFirst.{not_among}
+use Rattle.yaml_tree.proofs.TypingLemmas.{not_among}
 use Rattle.yaml_tree.proofs.WideTexts.{low, low_bytes}
 use Rattle.yaml_emitter.proofs.TextLemmas.{ascii_low, low_chars}
 
