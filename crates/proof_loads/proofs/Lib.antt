@@ -5,7 +5,7 @@ mod BlockTexts
 mod Common
 pub mod CutTexts
 pub mod DocumentTrees
-pub mod Documents
+pub mod DocumentTokens
 pub mod Dumps
 pub mod FirstTokens
 pub mod InTurn
@@ -28,7 +28,7 @@ pub mod Pulled
 pub mod QuotedTexts
 pub mod QuotedTokens
 pub mod RowTexts
-pub mod Rows
+pub mod HasRows
 pub mod Runs
 pub mod Settled
 pub mod Spelled

@@ -3,11 +3,11 @@ use Rattle.proof_loads.proofs.TokensCommon.{[], append-nil, arith, false, first_
 use Rattle.defs_layout.specs.JsonGap.{spell_gap}
 use Rattle.proof_loads.proofs.Nul.{whole}
 use Rattle.proof_loads.proofs.TextTokens.{no_other_tokens, none_is_refused}
-use Rattle.proof_loads.proofs.Rows.Steps.{Reads}
-use Rattle.proof_loads.proofs.Rows.Nodes.{outside}
-use Rattle.proof_loads.proofs.Rows.Gaps.{white, white_none, spelt, separates, ends, at_end}
-use Rattle.proof_loads.proofs.Rows.Json.{value_reads}
-use Rattle.proof_loads.proofs.Rows.Texts.{has_tokens, read_end}
+use Rattle.proof_loads.proofs.HasRows.Steps.{Reads}
+use Rattle.proof_loads.proofs.HasRows.Nodes.{outside}
+use Rattle.proof_loads.proofs.HasRows.Gaps.{white, white_none, spelt, separates, ends, at_end}
+use Rattle.proof_loads.proofs.HasRows.Json.{value_reads}
+use Rattle.proof_loads.proofs.HasRows.Texts.{has_tokens, read_end}
 
 json_text_reads : (w : JsonText) → IsWellFormed w → Reads first_account (spell_text w) (json_tokens w.value (Tok.stream_end ∷ []))
 json_text_reads w is =

@@ -7,13 +7,13 @@ use Rattle.defs_layout.specs.JsonGap.{spell_gap}
 use Rattle.proof_loads.proofs.JsonTokens.Numbers.{number_then, number_word}
 use Rattle.proof_loads.proofs.JsonTokens.OnOneLine.{HasSpaces, HaveSpaces, MembersHaveSpaces}
 use Rattle.proof_loads.proofs.PlainTexts.{is_word, are_words, IsWord, word_text}
-use Rattle.proof_loads.proofs.Rows.Steps.{Reads, at, step_of, site_of, step}
-use Rattle.proof_loads.proofs.Rows.Nodes.{IsDeep, none_ends, Parts, Quiet, Place, outside, within, awaiting, entries_before, entries_after, line_after, node_step}
-use Rattle.proof_loads.proofs.Rows.Flow.{opening, closing, opening_bracket, closing_bracket, entry_of, close_at, comma_at, key_at, colon_at}
-use Rattle.proof_loads.proofs.Rows.Gaps.{white, MayStand, parts, deep_gap, deep_piece, Ends, comma_ends, closing_ends, colon_follows, no_comment_past, IsSolid, solid_past, colon_stands}
-use Rattle.proof_loads.proofs.Rows.Gaps
-use Rattle.proof_loads.proofs.Rows.Plain.{is_in_flow, IsPlainPiece, plain_piece}
-use Rattle.proof_loads.proofs.Rows.Strings.{body_of, quoted, quoted_is, value_is, lines_fit, quoted_no_break}
+use Rattle.proof_loads.proofs.HasRows.Steps.{Reads, at, step_of, site_of, step}
+use Rattle.proof_loads.proofs.HasRows.Nodes.{IsDeep, none_ends, Parts, Quiet, Place, outside, within, awaiting, entries_before, entries_after, line_after, node_step}
+use Rattle.proof_loads.proofs.HasRows.Flow.{opening, closing, opening_bracket, closing_bracket, entry_of, close_at, comma_at, key_at, colon_at}
+use Rattle.proof_loads.proofs.HasRows.Gaps.{white, MayStand, parts, deep_gap, deep_piece, Ends, comma_ends, closing_ends, colon_follows, no_comment_past, IsSolid, solid_past, colon_stands}
+use Rattle.proof_loads.proofs.HasRows.Gaps
+use Rattle.proof_loads.proofs.HasRows.Plain.{is_in_flow, IsPlainPiece, plain_piece}
+use Rattle.proof_loads.proofs.HasRows.Strings.{body_of, quoted, quoted_is, value_is, lines_fit, quoted_no_break}
 use Rattle.proof_loads.proofs.Nul.{HasNone, quoted_none}
 use Rattle.defs_layout.specs.QuotedText as laid
 

@@ -1,8 +1,8 @@
 -- Texts in quotes as layouts write them, by the definition of their values: in double quotes with the written escapes, in single quotes with quotes doubled.
 use Rattle.proof_loads.proofs.TokensCommon.{[], and_parts, arith, Bool, codes, content, digit_value, doubled, eqb-true, escape, escaped_code, false, flat_map, hexadecimal_digit, if◌then◌else◌, is_blank, is_break, is_character_code, is_digit, is_line_character, is_nul, IsLineText, List, list_all, nat_lt, nat_tests, plain_element, refl, single_quoted_element, Some, true, written_character, written_escapes, ℕ, ◌%◌, ◌/◌, ◌<◌, ◌==◌, ◌||◌, ◌∷◌, ◌≡◌}
 use Rattle.defs_text.specs.FlowScalar.{blank}
-use Rattle.proof_loads.proofs.Rows.OneLine.{with_content, with_blank}
-use Rattle.proof_loads.proofs.Rows.Strings.{IsBody, Goes, Unescaped, nothing_is, itself_goes, named_goes, unicode_goes}
+use Rattle.proof_loads.proofs.HasRows.OneLine.{with_content, with_blank}
+use Rattle.proof_loads.proofs.HasRows.Strings.{IsBody, Goes, Unescaped, nothing_is, itself_goes, named_goes, unicode_goes}
 
 -- ---- in double quotes
 

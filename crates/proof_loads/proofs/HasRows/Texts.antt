@@ -4,7 +4,7 @@ use Rattle.defs_token.specs.Step.{Row}
 use Rattle.defs_token.specs.Key.{Line}
 use Rattle.proof_row.proofs.Pieces.{clean_up_to_end}
 use Rattle.proof_scanner.proofs.Complete.{texts_with_a_row_are_read}
-use Rattle.proof_loads.proofs.Rows.Steps.{Reads, at}
+use Rattle.proof_loads.proofs.HasRows.Steps.{Reads, at}
 use Rattle.proof_loads.proofs.Nul.{HasNone, whole}
 
 pub has_tokens : (text : List ℕ) (tokens : List Tok) → Reads first_account text tokens → HasToks text (Tok.stream_start ∷ tokens)

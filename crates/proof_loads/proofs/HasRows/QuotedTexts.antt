@@ -2,10 +2,10 @@
 use Rattle.proof_loads.proofs.TokensCommon.{[], act_of, append_assoc, arith, begins_with, begun_by, blanks_before, body_value, Bool, double_quoted_element, Element, elements, false, first_account, first_position, free, further_lines_stand, gives_node, has_more, is_blank, is_break, is_empty, is_separation, IsShown, least_for, length, Lines, lines_fit, List, may_precede, nat_le, not, Option, parts, previous_by, quoted_lines_fit, quoted_may_end, Quotes, refl, replicate, single_quoted_element, Some, Spelled, style_of, suc, taken, Tok, true, zero, ℕ, ◌&&◌, ◌++◌, ◌||◌, ◌∷◌, ◌≡◌}
 use Rattle.defs_text.specs.FlowScalar as flow
 use Rattle.defs_layout.specs.QuotedText as laid
-use Rattle.proof_loads.proofs.Rows.Steps.{Reads, at, step_of, site_of, step}
-use Rattle.proof_loads.proofs.Rows.Nodes.{outside, node_step}
-use Rattle.proof_loads.proofs.Rows.OneLine.{between}
-use Rattle.proof_loads.proofs.Rows.Texts.{read_end}
+use Rattle.proof_loads.proofs.HasRows.Steps.{Reads, at, step_of, site_of, step}
+use Rattle.proof_loads.proofs.HasRows.Nodes.{outside, node_step}
+use Rattle.proof_loads.proofs.HasRows.OneLine.{between}
+use Rattle.proof_loads.proofs.HasRows.Texts.{read_end}
 use Rattle.proof_loads.proofs.Nul.{HasNone, quoted_none}
 
 -- outside all collections no line is refused for its column

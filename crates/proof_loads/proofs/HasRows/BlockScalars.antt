@@ -8,11 +8,11 @@ use Rattle.proof_loads.proofs.BlockTexts.{lines_at, empties, texts_are, empty_ro
 use Rattle.proof_loads.proofs.BlockLines.{header_line, block_text, header_is, header_inner, IsInside, AreBlockLines, Lines, lines_are, text_body, end_body, is_block, inner_line, inner_spaces, are_lines, lines_none, empties_none, header_none, spelt_feeds, texts_split, high}
 use Rattle.proof_loads.proofs.BlockLines as scans
 use Rattle.defs_token.specs.Key
-use Rattle.proof_loads.proofs.Rows.Steps.{Reads, at, step_of, Steps, step}
-use Rattle.proof_loads.proofs.Rows.Nodes.{IsDeep, none_ends, no_column, no_less, outside_line, Parts, indented}
-use Rattle.proof_loads.proofs.Rows.Json.{column_is}
-use Rattle.proof_loads.proofs.Rows.Trails.{over_break, gap_none, ending_none, gap_separates, spaces_separate, gap_last, no_tab, gap_column, spaces_are, gap_is, ending_separates, Trail, next, marker, end, marker_text, trail_text, BeginsContent, content_first, IsTrail, IsLow, After}
-use Rattle.proof_loads.proofs.Rows.Blocks.{Here}
+use Rattle.proof_loads.proofs.HasRows.Steps.{Reads, at, step_of, Steps, step}
+use Rattle.proof_loads.proofs.HasRows.Nodes.{IsDeep, none_ends, no_column, no_less, outside_line, Parts, indented}
+use Rattle.proof_loads.proofs.HasRows.Json.{column_is}
+use Rattle.proof_loads.proofs.HasRows.Trails.{over_break, gap_none, ending_none, gap_separates, spaces_separate, gap_last, no_tab, gap_column, spaces_are, gap_is, ending_separates, Trail, next, marker, end, marker_text, trail_text, BeginsContent, content_first, IsTrail, IsLow, After}
+use Rattle.proof_loads.proofs.HasRows.Blocks.{Here}
 use Rattle.proof_loads.proofs.Nul.{HasNone, both, text_none, spaces_none}
 
 -- what may stand directly after a block's last break: the end, or further text that begins with no TAB

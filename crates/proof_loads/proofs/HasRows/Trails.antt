@@ -2,11 +2,11 @@
 use Rattle.proof_loads.proofs.TokensCommon.{[], after_blank, and_parts, ap, append-nil, append_assoc, are_marks, arith, Bool, codes, Comment, comment, comment_line, empty_line, ends_line, false, GapLine, has_break, has_tab_within, innermost, inside, is_before_line_feed, is_blank, is_blank_or_end, is_blanks_and_comment, is_break, is_document_marker, is_line_character, is_nul, is_on_line, is_separation, is_value_indicator, is_waiting, IsComment, IsGap, IsLineText, last_line, leading, List, list_all, nat_le, nat_tests, next_line, no_comment, not, on_line, Option, Position, position_after, position_past, Previous, refl, Some, spaces, spell_comment, spell_ending, spell_gap, Split, split, split_by, Stand, stops, subst, suc, sym, Tok, true, zero, ℕ, ◌&&◌, ◌++◌, ◌+◌, ◌<◌, ◌==◌, ◌||◌, ◌∙◌, ◌∷◌, ◌≡◌, ◌≤◌}
 use Rattle.defs_token.specs.Key.{Line}
 use Rattle.defs_token.specs.Plain.{is_deeper}
-use Rattle.proof_loads.proofs.Rows.Steps.{Reads, at}
-use Rattle.proof_loads.proofs.Rows.Gaps.{Ends}
-use Rattle.proof_loads.proofs.Rows.Nodes.{or_true, Quiet}
-use Rattle.proof_loads.proofs.Rows.Blocks.{Here}
-use Rattle.proof_loads.proofs.Rows.Texts.{ended}
+use Rattle.proof_loads.proofs.HasRows.Steps.{Reads, at}
+use Rattle.proof_loads.proofs.HasRows.Gaps.{Ends}
+use Rattle.proof_loads.proofs.HasRows.Nodes.{or_true, Quiet}
+use Rattle.proof_loads.proofs.HasRows.Blocks.{Here}
+use Rattle.proof_loads.proofs.HasRows.Texts.{ended}
 use Rattle.proof_loads.proofs.Nul.{HasNone, both, text_none, spaces_none}
 pub use Rattle.proof_loads.proofs.BlockTexts.{spaces_are}
 

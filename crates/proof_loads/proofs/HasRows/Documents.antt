@@ -5,14 +5,14 @@ use Rattle.defs_layout.specs.Layout.{spell}
 use Rattle.defs_layout.specs.Layout as layout
 use Rattle.proof_loads.proofs.LiteralTexts.{strips_of, headed_literal, root_literal_lines}
 use Rattle.proof_loads.proofs.Nul.{spaces_none}
-use Rattle.proof_loads.proofs.Rows.Steps.{Reads, at, step_of, Steps, step}
-use Rattle.proof_loads.proofs.Rows.Nodes.{or_true}
-use Rattle.proof_loads.proofs.Rows.Texts.{ended, read_end}
-use Rattle.proof_loads.proofs.Rows.Blocks.{Here, ends_are, ended_append}
-use Rattle.proof_loads.proofs.Rows.Trails.{Trail, next, marker, end, marker_text, trail_text, IsTrail, After, gap_separates, gap_none, spaces_separate, gap_last, no_tab, gap_column, spaces_are, gap_is, here_after}
-use Rattle.proof_loads.proofs.Rows.Leaves.{Lead}
-use Rattle.proof_loads.proofs.Rows.BlockScalars.{at_text, block_is_read}
-use Rattle.proof_loads.proofs.Rows.Values.{block_reads, inline_reads}
+use Rattle.proof_loads.proofs.HasRows.Steps.{Reads, at, step_of, Steps, step}
+use Rattle.proof_loads.proofs.HasRows.Nodes.{or_true}
+use Rattle.proof_loads.proofs.HasRows.Texts.{ended, read_end}
+use Rattle.proof_loads.proofs.HasRows.Blocks.{Here, ends_are, ended_append}
+use Rattle.proof_loads.proofs.HasRows.Trails.{Trail, next, marker, end, marker_text, trail_text, IsTrail, After, gap_separates, gap_none, spaces_separate, gap_last, no_tab, gap_column, spaces_are, gap_is, here_after}
+use Rattle.proof_loads.proofs.HasRows.Leaves.{Lead}
+use Rattle.proof_loads.proofs.HasRows.BlockScalars.{at_text, block_is_read}
+use Rattle.proof_loads.proofs.HasRows.Values.{block_reads, inline_reads}
 
 -- ---- in front of a root
 

@@ -7,21 +7,21 @@ use Rattle.defs_layout.specs.Layout.{empty_array}
 use Rattle.defs_layout.specs.Layout as layout
 use Rattle.defs_token.specs.Key.{Line}
 use Rattle.proof_loads.proofs.JsonTokens.Spaces.{json_spaces}
-use Rattle.proof_loads.proofs.Rows.Steps.{Reads, at}
-use Rattle.proof_loads.proofs.Rows.Nodes.{outside}
-use Rattle.proof_loads.proofs.Rows.Flow.{opening, closing, opening_bracket, closing_bracket}
-use Rattle.proof_loads.proofs.Rows.Json.{node_goes, opens_at, closes_at, value_reads}
-use Rattle.proof_loads.proofs.Rows.Blocks.{AreAbove, left_open, Here, stood, stands, starts, MayBegin, dash_reads, question_reads, colon_reads, key_reads}
-use Rattle.proof_loads.proofs.Rows.Trails.{in_line, spaces_separate, spaces_column, no_tab, spaces_line, spaces_are, line_gap, gap_text, here_after, Trail, next, marker, end, trail_text, BeginsContent, content_first, IsTrail, IsLow, EndsAt, AllEnd, After, arrive, trail_ends}
-use Rattle.proof_loads.proofs.Rows.Trails
-use Rattle.proof_loads.proofs.Rows.Texts.{ended}
+use Rattle.proof_loads.proofs.HasRows.Steps.{Reads, at}
+use Rattle.proof_loads.proofs.HasRows.Nodes.{outside}
+use Rattle.proof_loads.proofs.HasRows.Flow.{opening, closing, opening_bracket, closing_bracket}
+use Rattle.proof_loads.proofs.HasRows.Json.{node_goes, opens_at, closes_at, value_reads}
+use Rattle.proof_loads.proofs.HasRows.Blocks.{AreAbove, left_open, Here, stood, stands, starts, MayBegin, dash_reads, question_reads, colon_reads, key_reads}
+use Rattle.proof_loads.proofs.HasRows.Trails.{in_line, spaces_separate, spaces_column, no_tab, spaces_line, spaces_are, line_gap, gap_text, here_after, Trail, next, marker, end, trail_text, BeginsContent, content_first, IsTrail, IsLow, EndsAt, AllEnd, After, arrive, trail_ends}
+use Rattle.proof_loads.proofs.HasRows.Trails
+use Rattle.proof_loads.proofs.HasRows.Texts.{ended}
 use Rattle.proof_loads.proofs.JsonTokens.OnOneLine.{AreSpaces}
 use Rattle.proof_loads.proofs.PlainTexts.{spelt_plain, first_space}
-use Rattle.proof_loads.proofs.Rows.Plain.{plain_char, first_char}
+use Rattle.proof_loads.proofs.HasRows.Plain.{plain_char, first_char}
 use Rattle.proof_loads.proofs.LiteralTexts.{strips_of, headed_literal, literal_lines}
 use Rattle.proof_loads.proofs.BlockLines.{block_text}
-use Rattle.proof_loads.proofs.Rows.BlockScalars.{nested_follows, block_is_read}
-use Rattle.proof_loads.proofs.Rows.Leaves.{Lead, scalar_reads, piece_of, piece_spelt, scalar_node, scalar_no_break, scalar_none, scalar_further, scalar_precedes, scalar_shown}
+use Rattle.proof_loads.proofs.HasRows.BlockScalars.{nested_follows, block_is_read}
+use Rattle.proof_loads.proofs.HasRows.Leaves.{Lead, scalar_reads, piece_of, piece_spelt, scalar_node, scalar_no_break, scalar_none, scalar_further, scalar_precedes, scalar_shown}
 use Rattle.proof_loads.proofs.Nul.{HasNone, of_class, spaces_none}
 
 -- ---- what stands on one line

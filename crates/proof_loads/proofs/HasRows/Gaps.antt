@@ -2,8 +2,8 @@
 use Rattle.proof_loads.proofs.TokensCommon.{[], after, and_parts, ap, arith, begins_with, Blank, blank_character, Bool, carriage_return, codes, colon_may_precede, false, goes_on_quoted, has_no_break, has_tab_within, inside, is_blank, is_blanks_and_comment, is_break, is_empty, is_flow, is_on_line, is_one_of, is_separation, last_line, leading, least_column, line_feed, List, map, not, not-true, Option, Position, position_after, position_past, quoted_may_end, refl, space, split, Stand, stops, suc, tab, TabsBeginLines, true, zero, ℕ, ◌++◌, ◌==◌, ◌||◌, ◌∷◌, ◌≡◌}
 use Rattle.defs_layout.specs.JsonGap.{spell_gap}
 use Rattle.proof_loads.proofs.JsonTokens.OnOneLine.{AreSpaces}
-use Rattle.proof_loads.proofs.Rows.Nodes.{IsDeep, Parts, or_true}
-use Rattle.proof_loads.proofs.Rows.Flow.{closing_bracket}
+use Rattle.proof_loads.proofs.HasRows.Nodes.{IsDeep, Parts, or_true}
+use Rattle.proof_loads.proofs.HasRows.Flow.{closing_bracket}
 use Rattle.proof_loads.proofs.Nul.{HasNone}
 
 -- the white space as text

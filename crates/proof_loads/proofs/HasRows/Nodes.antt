@@ -1,7 +1,7 @@
 -- Steps whose pieces are nodes, outside flow and in an entry of a JSON array or object.
 use Rattle.proof_loads.proofs.TokensCommon.{[], Account, act_of, and_false, another, arith, awaits_at, awaits_past, begins_free_line, begins_line, begun_by, Bool, Colon, Entry, false, filled, FlowKind, free, fresh, further_lines_stand, gives_node, has_break, has_tab_within, if◌then◌else◌, is_deeper, is_in_column, is_in_flow, is_indented_by_spaces, is_separation, is_waiting, IsShown, last_line, le-ltb, least_column, least_for, line_past_separation, List, mapping, may_precede, may_stand, nat_le, ne_eqb, no_pair, not, not_ended, Position, position_after, Previous, previous_by, refl, sequence, settled, Some, taken, Tok, toks, true, ℕ, ◌++◌, ◌-◌, ◌∷◌, ◌≡◌, ◌≤◌}
 use Rattle.defs_token.specs.Key.{Line}
-use Rattle.proof_loads.proofs.Rows.Steps.{at, step_of, site_of, past_step, first_tokens, Steps}
+use Rattle.proof_loads.proofs.HasRows.Steps.{at, step_of, site_of, past_step, first_tokens, Steps}
 use Rattle.proof_loads.proofs.Nul.{HasNone}
 pub use Rattle.proof_lexers.proofs.Plain.Turns.{or_true}
 

@@ -3,8 +3,8 @@ use Rattle.proof_loads.proofs.TokensCommon.{arith, [], and_false, another, begin
 use Rattle.defs_token.specs.Token.{scalar, double_quoted}
 use Rattle.defs_token.specs.Key.{Line}
 use Rattle.defs_token.specs.FlowEntry as flow
-use Rattle.proof_loads.proofs.Rows.Steps.{at, step_of, Steps}
-use Rattle.proof_loads.proofs.Rows.Nodes.{IsDeep, low, Parts, indented, kind_of, awaiting, same_line, or_true}
+use Rattle.proof_loads.proofs.HasRows.Steps.{at, step_of, Steps}
+use Rattle.proof_loads.proofs.HasRows.Nodes.{IsDeep, low, Parts, indented, kind_of, awaiting, same_line, or_true}
 use Rattle.proof_loads.proofs.Nul.{quoted_none}
 use Rattle.defs_layout.specs.QuotedText as laid
 

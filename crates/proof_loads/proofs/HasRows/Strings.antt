@@ -1,8 +1,8 @@
 -- Strings of JSON texts as bodies in double quotes, by the definition of their value.
 use Rattle.proof_loads.proofs.TokensCommon.{[], and_parts, ap, append_assoc, are_pieces, arith, Bool, character_of, content, digit_value, double_quoted_element, double_quoted_value, escape, false, four_digits, has_no_break, if◌then◌else◌, is_blank, is_break, is_character_code, is_digit, is_hex_digit, is_nul, is_piece, is_surrogate, is_unescaped, itself, letter_of, List, ltb-true, nat_tests, not, numeric_escape, Piece, plain_element, quoted_lines_fit, refl, Short, short, single_quoted_element, Some, spell_pieces, spell_string, sym, true, unescaped, unicode, ℕ, ◌&&◌, ◌*◌, ◌++◌, ◌+◌, ◌<◌, ◌==◌, ◌∙◌, ◌∷◌, ◌≡◌}
 use Rattle.defs_text.specs.FlowScalar.{blank}
-use Rattle.proof_loads.proofs.Rows.OneLine.{IsOneLine, nothing, with_content, with_blank}
-use Rattle.proof_loads.proofs.Rows.OneLine
+use Rattle.proof_loads.proofs.HasRows.OneLine.{IsOneLine, nothing, with_content, with_blank}
+use Rattle.proof_loads.proofs.HasRows.OneLine
 
 -- the text of pieces, as a body
 abbrev pub body_of : List Piece → List ℕ

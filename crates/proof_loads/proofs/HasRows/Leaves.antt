@@ -2,13 +2,13 @@
 use Rattle.proof_loads.proofs.TokensCommon.{arith, [], act_of, another, append_assoc, before_by, before_past, begins_with, begun_by, Bool, Comment, comment, double_quoted, double_quoted_element, double_quoted_value, doubled, false, flat_map, further_lines_stand, gives_node, has_no_break, innermost, inside, is_adjacent, is_break, is_waiting, IsComment, IsScalar, IsShown, List, may_precede, no_comment, None, not_ended, plain, Position, position_after, Previous, previous_by, quoted, quoted_may_end, refl, Scalar, scalar_token, single_quoted, single_quoted_element, single_quoted_value, spell_comment, spell_scalar, spelling, stops, taken, Tok, true, written_escapes, ℕ, ◌++◌, ◌∷◌, ◌≡◌}
 use Rattle.defs_token.specs.Key.{Line}
 use Rattle.proof_loads.proofs.PlainTexts.{IsPlainText, spelt_plain}
-use Rattle.proof_loads.proofs.Rows.Steps.{Reads, at, step_of, site_of}
-use Rattle.proof_loads.proofs.Rows.Nodes.{IsDeep, none_ends, Parts, Quiet, outside}
-use Rattle.proof_loads.proofs.Rows.OneLine.{quote_no_break, value_is, lines_fit}
-use Rattle.proof_loads.proofs.Rows.Json.{column_is, node_goes}
-use Rattle.proof_loads.proofs.Rows.Plain.{IsPlainPiece, plain_piece}
-use Rattle.proof_loads.proofs.Rows.Quotes.{double_is, single_is}
-use Rattle.proof_loads.proofs.Rows.Trails.{Trail, next, marker, end, trail_text, IsTrail, IsLow, After, arrive, trail_ends}
+use Rattle.proof_loads.proofs.HasRows.Steps.{Reads, at, step_of, site_of}
+use Rattle.proof_loads.proofs.HasRows.Nodes.{IsDeep, none_ends, Parts, Quiet, outside}
+use Rattle.proof_loads.proofs.HasRows.OneLine.{quote_no_break, value_is, lines_fit}
+use Rattle.proof_loads.proofs.HasRows.Json.{column_is, node_goes}
+use Rattle.proof_loads.proofs.HasRows.Plain.{IsPlainPiece, plain_piece}
+use Rattle.proof_loads.proofs.HasRows.Quotes.{double_is, single_is}
+use Rattle.proof_loads.proofs.HasRows.Trails.{Trail, next, marker, end, trail_text, IsTrail, IsLow, After, arrive, trail_ends}
 use Rattle.proof_loads.proofs.Nul.{HasNone, quoted_none}
 use Rattle.defs_layout.specs.QuotedText as laid
 
