@@ -82,7 +82,7 @@ marker a p n text = four (texts p text) (numbers a.position.col 0) (bools (is_at
 abbrev directive : (a : Account) (p n : List ℕ) (d : Directive) → Option (IsDirective a p n d)
 directive a p n d =
     option_map (λ e. (e.0, e.1.0, e.1.1, e.1.2, e.1.3)) (both (given (λ x. directives x d) (directive_of p))
-      (four (bools (has_no_break p) true) (numbers a.position.col 0) (bools (is_at_line_end n) true) (bools (is_closed a) true)))
+    (four (bools (has_no_break p) true) (numbers a.position.col 0) (bools (is_at_line_end n) true) (bools (is_closed a) true)))
 
 abbrev named : (c : ℕ) (p n name : List ℕ) → Option (IsNamed c p n name)
 named c p n name = three (texts p (c ∷ name)) (bools (is_name name) true) (bools (goes_on_with_name n) false)
@@ -90,7 +90,7 @@ named c p n name = three (texts p (c ∷ name)) (bools (is_name name) true) (boo
 abbrev in_single_quotes : (p n text : List ℕ) → Option (IsSingleQuoted p n text)
 in_single_quotes p n text =
     option_map (λ e. (body_of p, e.0, e.1, e.2))
-      (three (texts p (single_quote ∷ (body_of p ++ (single_quote ∷ [])))) (given (λ x. texts x text) (single_quoted_value (body_of p))) (bools (begins_with single_quote n) false))
+    (three (texts p (single_quote ∷ (body_of p ++ (single_quote ∷ [])))) (given (λ x. texts x text) (single_quoted_value (body_of p))) (bools (begins_with single_quote n) false))
 
 abbrev in_double_quotes : (p n text : List ℕ) → Option (IsDoubleQuoted p n text)
 in_double_quotes p n text =
@@ -102,7 +102,7 @@ abbrev block_of : (o : Option BlockRead) (style : BlockStyle) (text : List ℕ) 
 block_of None style text at begins = None
 block_of (Some r) style text at begins =
     option_map (λ e. (r.column, (λ i. Some (record { style = e.0 i; column = r.column; text = e.1 i })), e.2))
-      (three (styles r.style style) (texts r.text text) (positions at (begins r.column)))
+    (three (styles r.style style) (texts r.text text) (positions at (begins r.column)))
 
 abbrev block : (a : Account) (p n : List ℕ) (style : BlockStyle) (text : List ℕ) (at : Position) → Option (IsBlockScalar a p n style text at)
 block a p n style text at = both (bools (is_in_flow a) false) (block_of (block_read (collection_column a) p n) style text at (λ column. block_position column a.position p n))
@@ -122,7 +122,7 @@ piece_of a p n o at flow_sequence_start = both (opening a p (codes "[")) (positi
 piece_of a p n o at flow_sequence_end = both (entry_end a p (codes "]")) (positions at a.position)
 piece_of a p n o at flow_mapping_start =
     one (both (opening a p (codes "{")) (positions at a.position))
-      (four (texts p []) (bools (takes_pair a) true) (bools (begins_pair o) true) (bools (begins_with_key_indicator (past_separation false n)) false))
+    (four (texts p []) (bools (takes_pair a) true) (bools (begins_pair o) true) (bools (begins_with_key_indicator (past_separation false n)) false))
 piece_of a p n o at flow_mapping_end =
     one (both (entry_end a p (codes "}")) (positions at a.position)) (three (texts p []) (bools (has_open_pair a) true) (bools (ends_entry o) true))
 piece_of a p n o at block_entry = three (texts p (codes "-")) (bools (is_at_gap n) true) (bools (is_in_flow a) false)
@@ -135,7 +135,7 @@ piece_of a p n o at (tag h x) =
     both (both (given (λ t. tags t (record { handle = h; suffix = x })) (written_tag p)) (bools (is_at_gap n || (is_in_flow a && begins_flow n)) true)) (positions at a.position)
 piece_of a p n o at (scalar plain x) =
     both (three (bools (begins_plain (is_in_flow a) (is_adjacent a.before) a.position.col (p ++ n)) true)
-      (bools (is_whole_plain (is_in_flow a) (collection_column a) p n) true) (given (λ t. texts t x) (plain_value p))) (positions at a.position)
+    (bools (is_whole_plain (is_in_flow a) (collection_column a) p n) true) (given (λ t. texts t x) (plain_value p))) (positions at a.position)
 piece_of a p n o at (scalar single_quoted x) = both (in_single_quotes p n x) (positions at a.position)
 piece_of a p n o at (scalar double_quoted x) = both (in_double_quotes p n x) (positions at a.position)
 piece_of a p n o at (scalar literal x) = block a p n BlockStyle.literal x at
@@ -148,14 +148,14 @@ abbrev pub cut_of : (a : Account) (ws : List Written) (after : List ℕ) (last :
 cut_of a [] after last = Some tt
 cut_of a (w ∷ ws) after last =
     both (both (bools (is_separation false w.separation (w.piece ++ spelled ws after)) true)
-      (piece_of (account_at a w (spelled ws after)) w.piece (spelled ws after) (first_token ws last) w.token.position w.token.tok))
-      (cut_of (account_past a w (spelled ws after)) ws after last)
+    (piece_of (account_at a w (spelled ws after)) w.piece (spelled ws after) (first_token ws last) w.token.position w.token.tok))
+    (cut_of (account_past a w (spelled ws after)) ws after last)
 
 -- a step, whose piece stands at a site
 abbrev step_of : (a : RowAccount) (at : Site) (w : Step) (next : List ℕ) → Option (Holds (is_separation false w.separation (w.piece ++ next)) × IsShown a at w next)
 step_of a at w next =
     both (bools (is_separation false w.separation (w.piece ++ next)) true)
-      (both (bools (not (is_empty w.piece)) true) (piece_of (seen a at w.separation) w.piece next None (shown_position at w.piece w.shown next) w.shown))
+    (both (bools (not (is_empty w.piece)) true) (piece_of (seen a at w.separation) w.piece next None (shown_position at w.piece w.shown next) w.shown))
 
 -- a row of steps
 abbrev pub steps_of : (o : Option RowAccount) (ws : List Step) (last : List ℕ) → Option (IsRowFrom o ws last)
@@ -163,4 +163,4 @@ steps_of None ws last = None
 steps_of (Some a) [] last = both (bools (is_separation false last []) true) (bools (may_end a) true)
 steps_of (Some a) (w ∷ ws) last =
     both (step_of a (site_at (stands_in_flow a.entries) a.site w.separation w.piece w.shown (spelled_steps ws last)) w (spelled_steps ws last))
-      (steps_of (past_step a w (spelled_steps ws last)) ws last)
+    (steps_of (past_step a w (spelled_steps ws last)) ws last)

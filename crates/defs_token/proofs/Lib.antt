@@ -10,7 +10,6 @@ pub mod Append
 pub mod CutRows
 pub mod Decide
 pub mod Inserted
-pub mod InsertedPair
 pub mod MoreRowSteps
 pub mod OnLiterals
 pub mod TokensOfText

@@ -1,5 +1,5 @@
 -- The conditions of a cut and of a row at their limits, by computing: what is allowed and what is not.
-use Rattle.defs_token.proofs.Common.{[], Account, all_of, anchor, before_past, begins_node, begins_plain, begins_with_space_or_break, block_position, block_read, BlockStyle, Bool, codes, collection, ends_entry, false, first_account, flow_entry, flow_sequence_end, FlowKind, folded, goes_on, goes_on_with_name, has_open_pair, has_room, is_closed, is_name, is_separation, is_value_indicator, is_whole_plain, Level, levels_past, List, literal, mapping, None, not, other, position_after, quoted, replicate, sequence, settled, Some, stream_end, takes_pair, true, up_to_nul, value, ◌++◌, ◌∷◌, ◌≡◌}
+use Rattle.defs_token.proofs.Common.{[], Account, all_of, anchor, before_past, begins_node, begins_plain, begins_with_space_or_break, block_position, block_read, BlockStyle, Bool, codes, collection, ends_entry, false, first_account, flow_entry, flow_sequence_end, FlowKind, goes_on_with_name, has_open_pair, has_room, is_closed, is_name, is_separation, is_value_indicator, is_whole_plain, Level, levels_past, List, mapping, None, not, other, position_after, quoted, replicate, sequence, settled, Some, stream_end, takes_pair, true, up_to_nul, value, ◌++◌, ◌∷◌, ◌≡◌}
 use Rattle.defs_token.specs.Column.{not_ended, opened}
 use Rattle.defs_token.specs.Indentation.{least_column}
 use Rattle.defs_token.specs.Key.{is_near}

@@ -1,5 +1,5 @@
 -- More tokens of short texts that are cuts of them, by computing.
-use Rattle.defs_token.proofs.Common.{[], block_end, block_entry, block_mapping_start, block_sequence_start, codes, document_end, document_start, double_quoted, flow_entry, flow_mapping_end, flow_mapping_start, flow_sequence_end, flow_sequence_start, folded, key, literal, plain, scalar, tag, tag_directive, value, ◌∷◌}
+use Rattle.defs_token.proofs.Common.{[], block_end, block_entry, block_mapping_start, block_sequence_start, codes, document_end, document_start, double_quoted, flow_entry, flow_mapping_end, flow_mapping_start, flow_sequence_end, flow_sequence_start, folded, key, literal, scalar, tag, tag_directive, value, ◌∷◌}
 use Rattle.defs_token.proofs.OnLiterals.{cut_on_literals}
 use Rattle.defs_token.proofs.Shown.{at, piece, position, word}
 use Rattle.defs_token.proofs.TokensOfText.{Begins, begins, Reads, reads}

@@ -1,11 +1,11 @@
 -- What a row states of a text that is written out: its tokens, as a cut and as a row of steps.
 use Prim.Native.String.{String}
-use Rattle.std.proofs.Common.{IsSome, is_some}
+use Rattle.std.proofs.Common.{is_some}
 use Rattle.defs_text.specs.Text.{is_empty}
 use Rattle.defs_token.specs.RowAccount.{first_account as first_row_account}
 use Rattle.defs_token.specs.Step.{spelled as spelled_steps}
 use Rattle.defs_token.specs.Tokens.{tokens_of_row}
-use Rattle.defs_token.proofs.Common.{[], account_past_row, Bool, codes, false, first_account, HasRow, Holds, if◌then◌else◌, inr, is_closed, is_separation, IsCut, IsCutOfBeginning, IsRead, IsRow, key, List, None, Option, Position, refl, Row, Some, spelled, start_token, Step, stream_end, Tok, tokens_of, true, up_to_nul, Written, ℕ, ◌∷◌, ◌≡◌}
+use Rattle.defs_token.proofs.Common.{[], account_past_row, Bool, codes, false, first_account, if◌then◌else◌, inr, is_closed, is_separation, IsCut, IsCutOfBeginning, IsRead, key, List, None, Option, Position, refl, Row, Some, spelled, start_token, Step, stream_end, Tok, tokens_of, true, up_to_nul, Written, ℕ, ◌∷◌, ◌≡◌}
 use Rattle.defs_token.proofs.Decide.{cut_of, steps_of}
 use Rattle.defs_token.proofs.RowShown.{step}
 use Rattle.defs_token.proofs.Shown.{first, tokens_between}
