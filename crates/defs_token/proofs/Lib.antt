@@ -3,6 +3,7 @@ mod Limits
 mod LongDirective
 mod MoreNoRows
 mod MoreRows
+mod NoCut
 mod NoRows
 mod WrongPair
 mod WrongStart
