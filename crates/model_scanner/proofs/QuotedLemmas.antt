@@ -1,5 +1,5 @@
 -- Lemmas about the scan of a quoted scalar.
-use Rattle.model_scanner.proofs.Common.{[], after, ap, arith, At, at_marker, Bool, cases_Bool, closed, Context, digit_value, digits, digits_from, eqb-true, Err, escape_of, false, Fault, Folded, gap, inl, inr, is_blank, is_break, is_hex, is_scalar, joined, List, named, nat_lt, nat_tests, not, nothing, Ok, past, Position, quote_of, quoted, quoted_from, refl, slice_index, suc, sym, true, with_blank, with_char, zero, ℕ, ◌&&◌, ◌*◌, ◌+◌, ◌<◌, ◌==◌, ◌||◌, ◌∙◌, ◌∷◌, ◌≡◌, ◌≢◌, ◌≤◌}
+use Rattle.model_scanner.proofs.Common.{[], after, ap, arith, At, at_marker, Bool, closed, Context, digit_value, digits, digits_from, Err, escape_of, false, Fault, Folded, gap, is_blank, is_break, is_hex, is_scalar, joined, List, named, nat_lt, nat_tests, nothing, Ok, past, Position, quote_of, quoted, quoted_from, refl, slice_index, suc, true, with_blank, with_char, zero, ℕ, ◌*◌, ◌+◌, ◌<◌, ◌==◌, ◌||◌, ◌∙◌, ◌∷◌, ◌≡◌, ◌≢◌, ◌≤◌}
 use Rattle.yaml_tokens.specs.declared.problem.Problem.TheVariants as problem
 use Rattle.model_scanner.specs.Quoted.{refused, first, inside, count_of}
 use Rattle.model_scanner.specs.declared.kind.Digits.{Digits}
@@ -77,27 +77,11 @@ pub closed_end : (single : Bool) (ctx : Context) (start : Position) (a : List �
 closed_end single ctx start [] p t = refl
 closed_end single ctx start (c ∷ a) p t = refl
 
-quote_no_blank : (single : Bool) → (is_break (quote_of single) || is_blank (quote_of single)) ≡ false
-unfolding is_break is_blank
-quote_no_blank true = refl
-quote_no_blank false = refl
-
-quote_no_backslash : (single : Bool) → ((quote_of single == 92) && not single) ≡ false
-quote_no_backslash true = refl
-quote_no_backslash false = refl
-
-quote_self : (single : Bool) → (quote_of single == quote_of single) ≡ true
-quote_self true = refl
-quote_self false = refl
-
-after_quote_at : (single : Bool) (ctx : Context) (start : Position) (d : ℕ) (a : List ℕ) (p : Position) (t : Folded) → d ≡ quote_of single
-    → quoted_from single ctx start (d ∷ a) (record { mode = after; position = p; folded = t }) ≡ quoted_from single ctx start (d ∷ a) (record { mode = inside; position = p; folded = t })
-after_quote_at single ctx start d a p t h = rw (h, quote_no_blank single, quote_no_backslash single, quote_self single) refl
-
 pub after_quote : (single : Bool) (ctx : Context) (start : Position) (c : ℕ) (a : List ℕ) (p : Position) (t : Folded) → c ≡ slice_index a 0 → c ≡ quote_of single
     → quoted_from single ctx start a (record { mode = after; position = p; folded = t }) ≡ quoted_from single ctx start a (record { mode = inside; position = p; folded = t })
+unfolding is_break is_blank
 after_quote single ctx start c [] p t e h = refl
-after_quote single ctx start c (d ∷ a) p t e h = after_quote_at single ctx start d a p t (sym e ∙ h)
+after_quote single ctx start c (d ∷ a) p t e h = grind (arith, nat_tests)
 
 pub quoted_starts : (single : Bool) (ctx : Context) (a b : List ℕ) (p : Position) → a ≡ slice_index a 0 ∷ b
     → quoted single ctx a p ≡ quoted_from single ctx p b (record { mode = first; position = past p; folded = nothing })
@@ -114,10 +98,7 @@ in_line_goes_on ctx start a p right deep =
 
 pub blank_no_break : (c : ℕ) → is_blank c ≡ true → is_break c ≡ false
 unfolding is_blank is_break
-blank_no_break c h = elim (cases_Bool (c == 32)) [
-  | inl space ↦ let e : c ≡ 32 = eqb-true c 32 space in rw e refl
-  | inr other ↦ let e : c ≡ 9 = eqb-true c 9 (rw other at h) in rw e refl
-]
+blank_no_break c h = grind (arith, nat_tests)
 
 blank_turn : (single : Bool) (ctx : Context) (start : Position) (c : ℕ) (a : List ℕ) (p : Position) (t : Folded) → is_blank c ≡ true → t.leading ≡ false
     → quoted_from single ctx start (c ∷ a) (record { mode = inside; position = p; folded = t }) ≡ quoted_from single ctx start a (record { mode = gap; position = past p; folded = with_blank c t })

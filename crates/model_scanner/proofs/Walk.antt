@@ -1,5 +1,5 @@
 -- One walk over all functions of the model: a fetch keeps whatever each of its steps keeps.
-use Rattle.model_scanner.proofs.Common.{[], adjacent_in_flow, allow_key, anchor_name, are_single, At, at_break, begin_flow, begin_key, begin_keyless_mapping, begin_keyless_pair, begin_keyless_value, begin_line, begin_pair, begin_stream, block, BlockStyle, Bool, check_after_quoted, check_after_tab, check_block_entry, check_dash, check_document_end, check_key_space, check_value_space, class_of, cleared, closed_key, Collection, context, decrease_flow_level, deepen, deepened_flow, directive, drop_open, drop_open_level, drop_stale, end_entry, end_flow, end_flow_pair, end_level, end_pair, end_stream, ended_flow, Err, false, Fault, fetch, fetch_anchor, fetch_block_entry, fetch_block_scalar, fetch_content, fetch_directive, fetch_document_end, fetch_document_marker, fetch_first_column, fetch_flow_collection_end, fetch_flow_collection_start, fetch_flow_entry, fetch_flow_scalar, fetch_here, fetch_indented, fetch_key, fetch_next, fetch_plain_scalar, fetch_stream_end, fetch_stream_start, fetch_tag, fetch_token, fetch_value, flow_end, flow_start, Gap, go_on, Held, here, if◌then◌else◌, in_block, in_flow, in_line, increase_flow_level, insert, insert_key, is_break, is_cr_lf, is_far, is_flow, is_literal, Key, length, Levels, lexed, List, map, NameKind, nat_lt, next_entry, next_line, node_start, None, not, Ok, on_held, opens_pair, Option, paired, pass_indicator, peek, placed, plain, pop, Position, push, put, quoted, Quotes, Reaches, Read, refl, remove_implicit_key, Result, roll_entry, roll_indent, roll_one_col_indent, save_implicit_key, ScannerState, skip, skip_indicator, skip_spaces, skip_to_next_token, skip_yaml_whitespace, SkipTabs, Some, space, stale, still, tab_line, tag, there, Tok, Token, token, token_by, top_key, true, unled, unroll_indent, unroll_non_block_indents, unrolled, value_of, white, white_end, Whitespace, with_held, with_keys, with_top, without_open, ℕ, ◌++◌, ◌+◌, ◌==◌, ◌||◌, ◌∷◌, ◌≡◌}
+use Rattle.model_scanner.proofs.Common.{[], adjacent_in_flow, allow_key, anchor_name, are_single, At, at_break, begin_flow, begin_key, begin_keyless_mapping, begin_keyless_value, begin_line, begin_pair, begin_stream, block, BlockStyle, Bool, check_after_quoted, check_after_tab, check_block_entry, check_dash, check_document_end, check_key_space, check_value_space, class_of, cleared, closed_key, Collection, context, decrease_flow_level, deepen, deepened_flow, directive, drop_open, drop_open_level, drop_stale, end_entry, end_flow, end_flow_pair, end_level, end_pair, end_stream, ended_flow, Err, false, Fault, fetch, fetch_anchor, fetch_block_entry, fetch_block_scalar, fetch_content, fetch_directive, fetch_document_end, fetch_document_marker, fetch_first_column, fetch_flow_collection_end, fetch_flow_collection_start, fetch_flow_entry, fetch_flow_scalar, fetch_here, fetch_indented, fetch_key, fetch_next, fetch_plain_scalar, fetch_stream_end, fetch_stream_start, fetch_tag, fetch_token, fetch_value, flow_end, flow_start, Gap, go_on, Held, here, if◌then◌else◌, in_block, in_flow, in_line, increase_flow_level, insert, insert_key, is_break, is_cr_lf, is_far, is_flow, is_literal, Key, length, Levels, lexed, List, map, NameKind, nat_lt, next_entry, next_line, node_start, None, not, Ok, on_held, opens_pair, Option, paired, pass_indicator, peek, placed, plain, pop, Position, push, put, quoted, Quotes, Reaches, Read, refl, remove_implicit_key, Result, roll_entry, roll_indent, roll_one_col_indent, save_implicit_key, ScannerState, skip, skip_indicator, skip_spaces, skip_to_next_token, skip_yaml_whitespace, SkipTabs, Some, space, stale, still, tab_line, tag, there, Tok, Token, token, token_by, top_key, true, unled, unroll_indent, unroll_non_block_indents, unrolled, value_of, white, white_end, with_held, with_keys, with_top, without_open, ℕ, ◌++◌, ◌+◌, ◌==◌, ◌||◌, ◌∷◌, ◌≡◌}
 use Rattle.yaml_tokens.specs.declared.problem.Problem.TheVariants as problem
 use Rattle.model_scanner.specs.declared.level.Indent.{Indent}
 use Rattle.model_scanner.specs.declared.level.FlowLevel.{FlowLevel}
