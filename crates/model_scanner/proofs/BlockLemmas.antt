@@ -1,5 +1,5 @@
 -- Lemmas about the scan of a block scalar.
-use Rattle.model_scanner.proofs.Common.{[], arith, At, begins, begun, Bool, chomping, ends_indent, Err, false, First, first_indent, header_break, increment, indent_from, is_break, is_digit, line, linebreak, Lines, lines_from, List, Margin, margin, max, nat_lt, no_tab, Ok, past, Position, refl, slice_index, true, ℕ, ◌&&◌, ◌==◌, ◌∷◌, ◌≡◌, ◌≢◌}
+use Rattle.model_scanner.proofs.Common.{[], arith, At, begins, begun, Bool, chomping, ends_indent, Err, false, First, first_indent, header_break, increment, indent_from, is_break, is_digit, line, linebreak, Lines, lines_from, List, Margin, margin, max, nat_lt, nat_tests, no_tab, Ok, past, Position, refl, slice_index, true, ℕ, ◌&&◌, ◌==◌, ◌∷◌, ◌≡◌, ◌≢◌}
 use Rattle.yaml_tokens.specs.declared.problem.Problem.TheVariants as problem
 use Rattle.yaml_tokens.specs.declared.token.Chomping.TheVariants.{Clip}
 use Rattle.model_scanner.specs.BlockScalar.{with_char}
@@ -15,14 +15,9 @@ unfolding increment
 no_increment start c [] p e h = refl
 no_increment start c (d ∷ a) p e h = let g : is_digit d ≡ false = rw e at h in rw g refl
 
-no_break_here : (c : ℕ) (a : List ℕ) → c ≡ slice_index a 0 → is_break c ≡ true → a ≢ []
-unfolding is_break
-no_break_here c [] e h = let z : is_break 0 ≡ true = rw e at h in cc
-no_break_here c (d ∷ a) e h = λ n. cc
-
 pub break_stands : (start : Position) (c : ℕ) (a : List ℕ) (p : Position) → c ≡ slice_index a 0 → is_break c ≡ true → header_break start a p ≡ no_tab start (linebreak a p)
-unfolding header_break
-break_stands start c [] p e h = absurd (no_break_here c [] e h refl)
+unfolding header_break is_break
+break_stands start c [] p e h = grind (arith, nat_tests)
 break_stands start c (d ∷ a) p e h = let g : is_break d ≡ true = rw e at h in rw g refl
 
 pub header_fails : (start : Position) (c : ℕ) (a : List ℕ) (p : Position) → c ≡ slice_index a 0 → c ≢ 0 → is_break c ≡ false → header_break start a p ≡ Err (At problem.BlockScalarHeader start)

@@ -1,5 +1,5 @@
 -- Lemmas about the scan of a plain scalar.
-use Rattle.model_scanner.proofs.Common.{[], ap, arith, at_dash, at_marker, at_plain, Bool, can_be_plain, Context, ends_gap, ends_run, ends_tabs, Err, false, Fault, first, Folded, goes_on, inside, is_blank, is_blank_or_breakz, is_break, is_flow, is_shallow, joined, List, nat_lt, nat_tests, nothing, Ok, past, Plain, plain, plain_from, Position, refl, slice_index, starts, stops, tabs, true, with_blank, with_break, with_char, ℕ, ◌+◌, ◌<◌, ◌||◌, ◌∙◌, ◌∷◌, ◌≡◌, ◌≢◌}
+use Rattle.model_scanner.proofs.Common.{[], arith, at_dash, at_marker, at_plain, Bool, can_be_plain, Context, ends_gap, ends_run, ends_tabs, Err, false, Fault, first, Folded, goes_on, inside, is_blank, is_blank_or_breakz, is_break, is_flow, is_shallow, joined, List, nat_lt, nat_tests, nothing, Ok, past, Plain, plain, plain_from, Position, refl, slice_index, starts, stops, tabs, true, with_blank, with_break, with_char, ℕ, ◌+◌, ◌<◌, ◌||◌, ◌∷◌, ◌≡◌, ◌≢◌}
 use Rattle.yaml_chars.specs.Words.{begins_word}
 use Rattle.model_scanner.proofs.QuotedLemmas.{blank_no_break}
 use Rattle.model_scanner.proofs.RunLemmas.{no_gap}
@@ -89,11 +89,5 @@ lone_blank ctx start flow c d a [] p t e next blank w deep none leading escaped 
 lone_blank ctx start flow c d a (x ∷ b) p t e next blank w deep none leading escaped =
     let word : begins_word (Plain flow) x ≡ true = rw next at w in
     let runs = wordy_runs ctx flow x (slice_index b 0) word in
-    let turn : plain_from ctx start (c ∷ x ∷ b) (record { mode = inside; position = p; folded = t }) ≡ plain_from ctx start (x ∷ b) (record { mode = between; position = past p; folded = with_blank c t }) =
-    rw (blank_no_break c blank, blank, leading) refl in
-    let here : plain_from ctx start (x ∷ b) (record { mode = between; position = past p; folded = with_blank c t }) ≡ plain_from ctx start (x ∷ b) (record { mode = inside; position = past p; folded = joined (with_blank c t) }) =
-    rw (runs.0, wordy_goes_on ctx flow x b p word deep, runs.1) refl in
-    ap (λ y. plain_from ctx start y (record { mode = inside; position = p; folded = t })) e ∙ turn ∙ here ∙ ap (λ y. plain_from ctx start (x ∷ b) (record { mode = inside; position = past p; folded = y })) same
-  where
-    same : joined (with_blank c t) ≡ with_char c t
-    same = rw (none, leading, escaped) refl
+    let same : joined (with_blank c t) ≡ with_char c t = rw (none, leading, escaped) refl in
+    grind (arith, e, runs.0, runs.1, blank_no_break c blank, wordy_goes_on ctx flow x b p word deep, same)
