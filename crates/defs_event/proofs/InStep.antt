@@ -1,5 +1,5 @@
 -- After the same events, trees and their marks are related, where leaves, aliases and collections of related parts are; so marks have the parts of the trees.
-use Rattle.defs_event.proofs.Common.{[], alias, aliased, Anchors, ap, AreDistinct, array, at_work, bad_value, Bool, by_name, bytes_eq, codes, cond, core_prefix, documents_of, Ev, false, false_words, finished, fits_i64, has_key, hash, if◌then◌else◌, insert, integer, is_among, is_decimal, is_real_text, is_some, IsTrue, items_of, List, Loader, loader_after, lookup, MayStandFor, nat_eq, new_loader, None, noted, OfSome, Opened, opened_mapping, opened_sequence, Option, option_map, pairs_of, Position, reads, refl, refused, repeats, scalar_tree, signed_decimal, signed_number-fits, Some, Step, Style, subst, suc, sym, Tag, Tree, tree_eq, true, true_words, typing, typing_plain, Unfinished, unwrap_or, with_document_end, with_event, with_event_at, with_events, with_mapping_end, with_root, with_sequence_end, with_start, with_tree, without, zero, ℕ, ℤ, ◌++◌, ◌||◌, ◌∷◌, ◌≡◌}
+use Rattle.defs_event.proofs.Common.{[], alias, aliased, Anchors, ap, AreDistinct, arith, array, at_work, bad_value, Bool, by_name, bytes_eq, codes, cond, core_prefix, documents_of, Ev, false, false_words, finished, fits_i64, has_key, hash, if◌then◌else◌, insert, integer, is_among, is_decimal, is_real_text, is_some, IsTrue, items_of, List, Loader, loader_after, lookup, MayStandFor, nat_eq, new_loader, None, noted, OfSome, Opened, opened_mapping, opened_sequence, Option, option_map, pairs_of, Position, reads, refl, refused, repeats, scalar_tree, signed_decimal, signed_number-fits, Some, Step, Style, subst, suc, sym, Tag, Tree, tree_eq, true, true_words, typing, typing_plain, Unfinished, unwrap_or, with_document_end, with_event, with_event_at, with_events, with_mapping_end, with_root, with_sequence_end, with_start, with_tree, without, zero, ℕ, ℤ, ◌++◌, ◌||◌, ◌∷◌, ◌≡◌}
 use Rattle.defs_tree.proofs.PairsLaws.{AreDistinct_insert}
 use Rattle.defs_event.specs.Unfinished.{with_node}
 use Rattle.defs_event.specs.Fits.{Fits, ItemsFit, PairsFit, AllFit}
@@ -47,11 +47,7 @@ scalar_leaf text _ tag = tt
 -- a key that is not there is not removed
 new_key : (k : Tree) (ps : List (Tree × Tree)) → has_key k ps ≡ false → without k ps ≡ ps
 new_key k [] h = refl
-new_key k (p ∷ ps) h = by (tree_eq k p.0) h (new_key k ps)
-  where
-    by : (b : Bool) → is_some (cond b (Some p.1) (lookup k ps)) ≡ false → (has_key k ps ≡ false → without k ps ≡ ps) → cond b ps (p ∷ without k ps) ≡ p ∷ ps
-    by true e ih = cc
-    by false e ih = ap (λ qs. p ∷ qs) (ih e)
+new_key k (p ∷ ps) h = grind (arith, new_key k ps)
 
 -- ---- related trees and marks
 

@@ -1,5 +1,5 @@
 -- A run of ordinary characters of one line belongs to a scalar's text as it stands.
-use Rattle.model_scanner.proofs.Common.{[], ap, arith, Bool, Context, false, is_blank, is_break, is_breakz, List, past, Position, Ran, ran, refl, stops, true, ℕ, ◌++◌, ◌||◌, ◌∙◌, ◌∷◌, ◌≡◌}
+use Rattle.model_scanner.proofs.Common.{[], ap, arith, Bool, Context, false, is_blank, is_break, is_breakz, List, past, Position, Ran, ran, refl, stops, true, ℕ, ◌++◌, ◌||◌, ◌∷◌, ◌≡◌}
 use Rattle.yaml_chars.specs.declared.run.Run.{Run}
 use Rattle.yaml_chars.specs.declared.run.Run.TheVariants as kind
 use Rattle.model_scanner.specs.Folding as folding
@@ -39,11 +39,7 @@ pub through_run : {A : Type 0} (run : Run) (f : List ℕ → Position → List �
     → ((c : ℕ) (a : List ℕ) (p : Position) (t : List ℕ) → stops run c ≡ false → f (c ∷ a) p t ≡ f a (past p) (t ++ c ∷ []))
     → (a b : List ℕ) (p q : Position) (t u : List ℕ) → ran run a p t ≡ record { rest = b; position = q; text = u } → f a p t ≡ f b q u
 through_run run f step [] b p q t u h = ap (λ (r : Ran). f r.rest r.position r.text) h
-through_run run f step (c ∷ a) b p q t u h = turn (stops run c) refl (through_run run f step a b (past p) q (t ++ c ∷ []) u)
-  where
-    turn : (ends : Bool) → stops run c ≡ ends → (ran run a (past p) (t ++ c ∷ []) ≡ record { rest = b; position = q; text = u } → f a (past p) (t ++ c ∷ []) ≡ f b q u) → f (c ∷ a) p t ≡ f b q u
-    turn true e more = let here : record { rest = c ∷ a; position = p; text = t } ≡ record { rest = b; position = q; text = u } = rw e at h in ap (λ (r : Ran). f r.rest r.position r.text) here
-    turn false e more = step c a p t e ∙ more (rw e at h)
+through_run run f step (c ∷ a) b p q t u h = grind (arith, step c a p t, through_run run f step a b (past p) q (t ++ c ∷ []) u)
 
 pub block_ran : (literal : Bool) (column : ℕ) (a b : List ℕ) (p q : Position) (l : block.Lines) (u : List ℕ) → ran kind.Line a p l.text ≡ record { rest = b; position = q; text = u }
     → block.lines_from literal column a (record { mode = block.line; position = p; lines = l })
