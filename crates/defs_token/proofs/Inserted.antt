@@ -1,6 +1,6 @@
 -- What a piece of an implicit key stays when other block collections are open: its key is known to be one only at its colon.
 use Rattle.std.proofs.Common.{arith}
-use Rattle.defs_token.proofs.Common.{[], Account, after_blank, alias, anchor, block_end, block_entry, block_mapping_start, block_sequence_start, Bool, collection_column, document_end, document_start, double_quoted, ends_plain, false, flow_entry, flow_mapping_end, flow_mapping_start, flow_sequence_end, flow_sequence_start, folded, goes_on, has_no_break, Holds, inside, is_blank, is_break, is_in_flow, is_whole_plain, IsPiece, key, List, literal, not, on_line, Option, past, plain, Position, refl, scalar, single_quoted, Stand, stops, stream_end, stream_start, sym, tag, tag_directive, Tok, true, value, version_directive, ℕ, ◌&&◌, ◌++◌, ◌||◌, ◌∙◌, ◌∷◌, ◌≡◌}
+use Rattle.defs_token.proofs.Common.{[], Account, after_blank, alias, anchor, block_end, Bool, collection_column, document_end, document_start, double_quoted, ends_plain, false, flow_entry, flow_mapping_end, flow_mapping_start, flow_sequence_end, flow_sequence_start, folded, goes_on, has_no_break, inside, is_blank, is_break, is_in_flow, is_whole_plain, IsPiece, key, List, literal, not, on_line, Option, past, plain, Position, refl, scalar, single_quoted, Stand, stops, sym, tag, tag_directive, Tok, true, value, version_directive, ℕ, ◌&&◌, ◌++◌, ◌||◌, ◌∙◌, ◌∷◌, ◌≡◌}
 
 -- whether no break stands before a text's next character that is no blank
 abbrev pub is_in_line : List ℕ → Bool
@@ -60,32 +60,13 @@ with_blocks bs a = record a { blocks = bs }
 -- a piece of a implicit key belongs to its token whatever block collections are open
 pub piece_with_blocks : (bs : List (Option ℕ)) (a : Account) (p n : List ℕ) (o : Option Tok) (at : Position) (t : Tok) →
     is_of_key t ≡ true → has_no_break p ≡ true → is_in_line n ≡ true → IsPiece a p n o at t → IsPiece (with_blocks bs a) p n o at t
-piece_with_blocks bs a p n o at (alias x) k h i q = q
-piece_with_blocks bs a p n o at (anchor x) k h i q = q
-piece_with_blocks bs a p n o at (tag x s) k h i q = q
 piece_with_blocks bs a p n o at (scalar plain x) k h i q =
-    ((q.0.0, ap_holds (whole_alike (is_in_flow a) (collection_column a) (collection_column (with_blocks bs a)) p n h i) q.0.1, q.0.2), q.1)
-  where
-    ap_holds : {x y : Bool} → x ≡ y → Holds x → Holds y
-    ap_holds e v = sym e ∙ v
-piece_with_blocks bs a p n o at (scalar single_quoted x) k h i q = q
-piece_with_blocks bs a p n o at (scalar double_quoted x) k h i q = q
-piece_with_blocks bs a p n o at flow_sequence_start k h i q = q
-piece_with_blocks bs a p n o at flow_sequence_end k h i q = q
-piece_with_blocks bs a p n o at flow_mapping_start k h i q = q
-piece_with_blocks bs a p n o at flow_mapping_end k h i q = q
-piece_with_blocks bs a p n o at flow_entry k h i q = q
-piece_with_blocks bs a p n o at key k h i q = q
-piece_with_blocks bs a p n o at value k h i q = q
-piece_with_blocks bs a p n o at stream_start k h i q = absurd q
-piece_with_blocks bs a p n o at stream_end k h i q = absurd q
+    ((q.0.0, sym (whole_alike (is_in_flow a) (collection_column a) (collection_column (with_blocks bs a)) p n h i) ∙ q.0.1, q.0.2), q.1)
 piece_with_blocks bs a p n o at (version_directive x y) k h i q = absurd (cc k)
 piece_with_blocks bs a p n o at (tag_directive x y) k h i q = absurd (cc k)
 piece_with_blocks bs a p n o at document_start k h i q = absurd (cc k)
 piece_with_blocks bs a p n o at document_end k h i q = absurd (cc k)
-piece_with_blocks bs a p n o at block_sequence_start k h i q = absurd (cc k)
-piece_with_blocks bs a p n o at block_mapping_start k h i q = absurd (cc k)
 piece_with_blocks bs a p n o at block_end k h i q = absurd (cc k)
-piece_with_blocks bs a p n o at block_entry k h i q = absurd (cc k)
 piece_with_blocks bs a p n o at (scalar literal x) k h i q = absurd (cc k)
 piece_with_blocks bs a p n o at (scalar folded x) k h i q = absurd (cc k)
+piece_with_blocks bs a p n o at t k h i q = q
