@@ -1,4 +1,5 @@
--- After the same events, trees and their marks are related, where leaves, aliases and collections of related parts are; so marks have the parts of the trees.
+-- After the same events, trees and their marks are related, where leaves, aliases and collections of related parts are.
+-- So marks have the parts of the trees.
 use Rattle.defs_event.proofs.Common.{[], alias, aliased, Anchors, ap, AreDistinct, arith, array, at_work, bad_value, Bool, by_name, bytes_eq, codes, cond, core_prefix, documents_of, Ev, false, false_words, finished, fits_i64, has_key, hash, if◌then◌else◌, insert, integer, is_among, is_decimal, is_real_text, is_some, IsTrue, items_of, List, Loader, loader_after, lookup, MayStandFor, nat_eq, new_loader, None, noted, OfSome, Opened, opened_mapping, opened_sequence, Option, option_map, pairs_of, Position, reads, refl, refused, repeats, scalar_tree, signed_decimal, signed_number-fits, Some, Step, Style, subst, suc, sym, Tag, Tree, tree_eq, true, true_words, typing, typing_plain, Unfinished, unwrap_or, with_document_end, with_event, with_event_at, with_events, with_mapping_end, with_root, with_sequence_end, with_start, with_tree, without, zero, ℕ, ℤ, ◌++◌, ◌||◌, ◌∷◌, ◌≡◌}
 use Rattle.defs_tree.proofs.PairsLaws.{AreDistinct_insert}
 use Rattle.defs_event.specs.Unfinished.{with_node}
@@ -34,7 +35,8 @@ number_leaf (Some z) h = h
 
 named_leaf : (name text : List ℕ) → IsLeaf (by_name name text)
 named_leaf name text =
-    either IsLeaf (bytes_eq name (codes "bool")) (either IsLeaf (is_among true_words text) tt (either IsLeaf (is_among false_words text) tt tt))
+    either IsLeaf (bytes_eq name (codes "bool"))
+    (either IsLeaf (is_among true_words text) tt (either IsLeaf (is_among false_words text) tt tt))
     (either IsLeaf (bytes_eq name (codes "int")) (number_leaf (signed_decimal text) (signed_number-fits 10 text))
     (either IsLeaf (bytes_eq name (codes "float")) (either IsLeaf (is_real_text text || is_decimal text) tt tt)
     (either IsLeaf (bytes_eq name (codes "null")) (either IsLeaf (is_among (codes "~" ∷ codes "null" ∷ []) text) tt tt) tt)))
@@ -69,7 +71,8 @@ pub record IsKept (R : Tree → Marks → Type 0) : Type 0 where
   pub of_leaf : (t : Tree) (p : Position) → IsLeaf t → R t (leaf p)
   pub of_alias : (t : Tree) (p : Position) (m : Marks) → R t m → R t (alias_of p m)
   pub of_array : (ts : List Tree) (p : Position) (ms : List Marks) → Each R ts ms → R (array (items_of ts)) (marks p p (parts_of ms))
-  pub of_hash : (ps : List (Tree × Tree)) (p : Position) (ms : List Marks) → AreDistinct ps → EachPair R ps None ms → R (hash (pairs_of ps)) (marks p p (parts_of ms))
+  pub of_hash : (ps : List (Tree × Tree)) (p : Position) (ms : List Marks) → AreDistinct ps → EachPair R ps None ms
+      → R (hash (pairs_of ps)) (marks p p (parts_of ms))
 
 module _ (R : Tree → Marks → Type 0) where
   -- ---- one more part
@@ -79,12 +82,14 @@ module _ (R : Tree → Marks → Type 0) where
   one_more (s ∷ ts) (n ∷ ms) t m h f = (h.0, one_more ts ms t m h.1 f)
   one_more ts ms t m h f = absurd h
 
-  with_key : (ps : List (Tree × Tree)) (ms : List Marks) (k : Tree) (m : Marks) → EachPair R ps None ms → R k m → EachPair R ps (Some k) (ms ++ m ∷ [])
+  with_key : (ps : List (Tree × Tree)) (ms : List Marks) (k : Tree) (m : Marks) → EachPair R ps None ms → R k m
+      → EachPair R ps (Some k) (ms ++ m ∷ [])
   with_key [] [] k m h f = f
   with_key (p ∷ ps) (n ∷ o ∷ ms) k m h f = (h.0, h.1, with_key ps ms k m h.2 f)
   with_key ps ms k m h f = absurd h
 
-  with_value : (ps : List (Tree × Tree)) (ms : List Marks) (k v : Tree) (m : Marks) → EachPair R ps (Some k) ms → R v m → EachPair R (ps ++ (k, v) ∷ []) None (ms ++ m ∷ [])
+  with_value : (ps : List (Tree × Tree)) (ms : List Marks) (k v : Tree) (m : Marks) → EachPair R ps (Some k) ms → R v m
+      → EachPair R (ps ++ (k, v) ∷ []) None (ms ++ m ∷ [])
   with_value [] (n ∷ []) k v m h f = (h, f, tt)
   with_value (p ∷ ps) (n ∷ o ∷ ms) k v m h f = (h.0, h.1, with_value ps ms k v m h.2 f)
   with_value ps ms k v m h f = absurd h
@@ -118,7 +123,8 @@ module _ (R : Tree → Marks → Type 0) where
   StepFits _ x = Unit {0}
 
   module _ (is : IsKept R) where
-    finished_fit : (a : ℕ) (t : Tree) (m : Marks) (anchors : Anchors) (marked : MarkedAnchors) → R t m → AliasesFit anchors marked → AliasesFit (finished a t anchors) (finished_marks a m marked)
+    finished_fit : (a : ℕ) (t : Tree) (m : Marks) (anchors : Anchors) (marked : MarkedAnchors)
+        → R t m → AliasesFit anchors marked → AliasesFit (finished a t anchors) (finished_marks a m marked)
     finished_fit zero t m anchors marked f h n p = h n p
     finished_fit (suc a) t m anchors marked f h n p = by (nat_eq n (suc a))
       where
@@ -126,8 +132,8 @@ module _ (R : Tree → Marks → Type 0) where
         by true = is.of_alias t p m f
         by false = h n p
 
-    root_fits : (u : Unfinished) (x : Marking) (t : Tree) (m : Marks) (root : Option Tree) → Each R u.documents x.documents → AliasesFit u.anchors x.anchors → R t m
-        → StepFits (with_root t u root) (with_part m x [])
+    root_fits : (u : Unfinished) (x : Marking) (t : Tree) (m : Marks) (root : Option Tree)
+        → Each R u.documents x.documents → AliasesFit u.anchors x.anchors → R t m → StepFits (with_root t u root) (with_part m x [])
     root_fits u x t m None d a f = (d, tt, f, a)
     root_fits u x t m (Some r) d a f = tt
 
@@ -141,11 +147,13 @@ module _ (R : Tree → Marks → Type 0) where
         (h.0, ((h.1.0.0, h.1.0.1, with_key ps o.parts t m h.1.0.2 f), h.1.1), h.2, h.3)
     tree_fits u x t m (opened_mapping a ps (Some k) ∷ cs) (o ∷ os) h f = by (has_key k ps) refl
       where
-        by : (b : Bool) → has_key k ps ≡ b → StepFits (if b then repeats k else reads (record u { opened = opened_mapping a (insert k t ps) None ∷ cs })) (with_part m x (o ∷ os))
+        by : (b : Bool) → has_key k ps ≡ b
+            → StepFits (if b then repeats k else reads (record u { opened = opened_mapping a (insert k t ps) None ∷ cs })) (with_part m x (o ∷ os))
         by true e = tt
         by false e =
             let held : EachPair R (insert k t ps) None (o.parts ++ m ∷ []) =
-            subst (λ qs. EachPair R (qs ++ (k, t) ∷ []) None (o.parts ++ m ∷ [])) (sym (new_key k ps e)) (with_value ps o.parts k t m h.1.0.2 f) in
+            subst (λ qs. EachPair R (qs ++ (k, t) ∷ []) None (o.parts ++ m ∷ [])) (sym (new_key k ps e))
+            (with_value ps o.parts k t m h.1.0.2 f) in
             (h.0, ((h.1.0.0, AreDistinct_insert k t ps h.1.0.1, held), h.1.1), h.2, h.3)
     tree_fits u x t m cs os h f = absurd h.1
 
@@ -156,7 +164,8 @@ module _ (R : Tree → Marks → Type 0) where
 
     -- a complete node with an anchor
     node_fits : (u : Unfinished) (x : Marking) (a b : ℕ) (t : Tree) (m : Marks) (cs : List Opened) (os : List OpenMarks)
-        → InStep (record u { opened = cs }) (record x { opened = os }) → R t m → a ≡ b → StepFits (with_node a t u cs) (with_anchored b m x os)
+        → InStep (record u { opened = cs }) (record x { opened = os }) → R t m → a ≡ b
+        → StepFits (with_node a t u cs) (with_anchored b m x os)
     node_fits u x a b t m cs os h f e =
         subst (λ n. StepFits (with_node a t u cs) (with_anchored n m x os)) e
         (tree_fits (record u { anchors = finished a t u.anchors }) (record x { anchors = finished_marks a m x.anchors }) t m cs os
@@ -181,7 +190,8 @@ module _ (R : Tree → Marks → Type 0) where
     perhaps_root (Some t) (Some m) p h = h
     perhaps_root t m p h = absurd h
 
-    document_end_fits : (u : Unfinished) (x : Marking) (p : Position) (cs : List Opened) → InStep u x → StepFits (with_document_end u cs) (with_event_marked x Ev.document_end p)
+    document_end_fits : (u : Unfinished) (x : Marking) (p : Position) (cs : List Opened) → InStep u x
+        → StepFits (with_document_end u cs) (with_event_marked x Ev.document_end p)
     document_end_fits u x p [] h = (one_more u.documents x.documents _ _ h.0 (perhaps_root u.root x.root p h.2), h.1, tt, h.3)
     document_end_fits u x p (c ∷ cs) h = tt
 
@@ -189,10 +199,13 @@ module _ (R : Tree → Marks → Type 0) where
     event_fits u x Ev.document_end p h = document_end_fits u x p u.opened h
     event_fits u x (Ev.alias n) p h = tree_fits u x (aliased n u.anchors) (aliased_marks n p x.anchors) u.opened x.opened h (h.3 n p)
     event_fits u x (Ev.scalar text style a tag) p h =
-        node_fits u x a a (scalar_tree text style tag) (leaf p) u.opened x.opened h (is.of_leaf (scalar_tree text style tag) p (scalar_leaf text style tag)) refl
-    event_fits u x (Ev.sequence_start a tag) p h = start_fits u x (opened_sequence a []) (record { anchor = a; start = p; parts = [] }) u.opened u.root h (refl, tt)
+        node_fits u x a a (scalar_tree text style tag) (leaf p) u.opened x.opened h
+        (is.of_leaf (scalar_tree text style tag) p (scalar_leaf text style tag)) refl
+    event_fits u x (Ev.sequence_start a tag) p h =
+        start_fits u x (opened_sequence a []) (record { anchor = a; start = p; parts = [] }) u.opened u.root h (refl, tt)
     event_fits u x Ev.sequence_end p h = sequence_end_fits u x u.opened x.opened h
-    event_fits u x (Ev.mapping_start a tag) p h = start_fits u x (opened_mapping a [] None) (record { anchor = a; start = p; parts = [] }) u.opened u.root h (refl, tt, tt)
+    event_fits u x (Ev.mapping_start a tag) p h =
+        start_fits u x (opened_mapping a [] None) (record { anchor = a; start = p; parts = [] }) u.opened u.root h (refl, tt, tt)
     event_fits u x Ev.mapping_end p h = mapping_end_fits u x u.opened x.opened h
     event_fits u x _ p h = h
 
@@ -204,11 +217,13 @@ module _ (R : Tree → Marks → Type 0) where
     LoaderFits (noted docs key at) x = (ms : List Marks) × Each R docs ms
     LoaderFits (refused docs at) x = (ms : List Marks) × Each R docs ms
 
-    loader_fits : (s : Step) (docs : List Tree) (ms : List Marks) (at : Position) (x : Marking) → StepFits s x → Each R docs ms → LoaderFits (loader_after s docs at) x
+    loader_fits : (s : Step) (docs : List Tree) (ms : List Marks) (at : Position) (x : Marking) → StepFits s x → Each R docs ms
+        → LoaderFits (loader_after s docs at) x
     loader_fits (reads u) docs ms at x h d = h
     loader_fits _ docs ms at x h d = (ms, d)
 
-    events_fit : (l : Loader) (x : Marking) (es : List (Ev × Position)) → LoaderFits l x → LoaderFits (with_events l es) (with_events_marked x es)
+    events_fit : (l : Loader) (x : Marking) (es : List (Ev × Position))
+        → LoaderFits l x → LoaderFits (with_events l es) (with_events_marked x es)
     events_fit l x [] h = h
     events_fit (at_work u) x (e ∷ es) h =
         events_fit (with_event_at (at_work u) e.0 e.1) (with_event_marked x e.0 e.1) es
@@ -242,7 +257,8 @@ items_fit [] p [] h = tt
 items_fit (t ∷ ts) p (m ∷ ms) h = (h.0, items_fit ts p ms h.1)
 items_fit ts p ms h = absurd h
 
-pairs_fit : (ps : List (Tree × Tree)) (p : Position) (ms : List Marks) → AreDistinct ps → EachPair Fits ps None ms → PairsFit (pairs_of ps) (parts_of ms)
+pairs_fit : (ps : List (Tree × Tree)) (p : Position) (ms : List Marks) → AreDistinct ps → EachPair Fits ps None ms
+    → PairsFit (pairs_of ps) (parts_of ms)
 pairs_fit [] p [] d h = tt
 pairs_fit (q ∷ ps) p (m ∷ n ∷ ms) d h = (h.0, h.1, pairs_fit ps p ms d.1 h.2)
 pairs_fit ps p ms d h = absurd h

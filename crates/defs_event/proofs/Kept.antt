@@ -21,13 +21,14 @@ loaded_kept P is es = let h = documents_kept (OfTree P) is es in each_all P (doc
 -- ---- what is kept
 
 -- what is said of each item, and of each key and value
-each_item : (P : Tree → Type 0) (Q : Items → Type 0) → Q no_items → ((t : Tree) (ts : Items) → P t → Q ts → Q (item t ts)) → (ts : List Tree) (ms : List Marks) → Each (OfTree P) ts ms → Q (items_of ts)
+each_item : (P : Tree → Type 0) (Q : Items → Type 0) → Q no_items → ((t : Tree) (ts : Items) → P t → Q ts → Q (item t ts))
+    → (ts : List Tree) (ms : List Marks) → Each (OfTree P) ts ms → Q (items_of ts)
 each_item P Q none more [] [] h = none
 each_item P Q none more (t ∷ ts) (m ∷ ms) h = more t (items_of ts) h.0 (each_item P Q none more ts ms h.1)
 each_item P Q none more ts ms h = absurd h
 
-each_pair : (P : Tree → Type 0) (Q : Pairs → Type 0) → Q no_pairs → ((k v : Tree) (ps : Pairs) → P k → P v → Q ps → Q (pair k v ps)) → (ps : List (Tree × Tree)) (ms : List Marks)
-    → EachPair (OfTree P) ps None ms → Q (pairs_of ps)
+each_pair : (P : Tree → Type 0) (Q : Pairs → Type 0) → Q no_pairs → ((k v : Tree) (ps : Pairs) → P k → P v → Q ps → Q (pair k v ps))
+    → (ps : List (Tree × Tree)) (ms : List Marks) → EachPair (OfTree P) ps None ms → Q (pairs_of ps)
 each_pair P Q none more [] [] h = none
 each_pair P Q none more (p ∷ ps) (m ∷ n ∷ ms) h = more p.0 p.1 (pairs_of ps) h.0 h.1 (each_pair P Q none more ps ms h.2)
 each_pair P Q none more ps ms h = absurd h
@@ -74,5 +75,6 @@ distinct_kept = record {
   of_leaf = λ t p. distinct_leaf t;
   of_alias = λ t p m h. h;
   of_array = λ ts p. each_item IsDistinct AllDistinct tt (λ t us h i. (h, i)) ts;
-  of_hash = λ ps p ms d h. (subst AreDistinct (pairs_back ps) d, each_pair IsDistinct AllPairsDistinct tt (λ k v qs h i j. (h, i, j)) ps ms h);
+  of_hash = λ ps p ms d h.
+      (subst AreDistinct (pairs_back ps) d, each_pair IsDistinct AllPairsDistinct tt (λ k v qs h i j. (h, i, j)) ps ms h);
 }

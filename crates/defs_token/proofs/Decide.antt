@@ -43,14 +43,17 @@ texts (c ∷ a) (d ∷ b) = option_map (λ e. λ i. e.0 i ∷ e.1 i) (both (numb
 texts _ _ = None
 
 abbrev positions : (p q : Position) → Option (p ≡ q)
-positions p q = option_map (λ e. λ i. record { index = e.0 i; line = e.1 i; col = e.2 i }) (three (numbers p.index q.index) (numbers p.line q.line) (numbers p.col q.col))
+positions p q =
+    option_map (λ e. λ i. record { index = e.0 i; line = e.1 i; col = e.2 i })
+    (three (numbers p.index q.index) (numbers p.line q.line) (numbers p.col q.col))
 
 abbrev tags : (t u : Tag) → Option (t ≡ u)
 tags t u = option_map (λ e. λ i. record { handle = e.0 i; suffix = e.1 i }) (both (texts t.handle u.handle) (texts t.suffix u.suffix))
 
 abbrev directives : (d e : Directive) → Option (d ≡ e)
 directives (version m n) (version k l) = option_map (λ e. λ i. version (e.0 i) (e.1 i)) (both (numbers m k) (numbers n l))
-directives (tag_declaration h p) (tag_declaration k q) = option_map (λ e. λ i. tag_declaration (e.0 i) (e.1 i)) (both (texts h k) (texts p q))
+directives (tag_declaration h p) (tag_declaration k q) =
+    option_map (λ e. λ i. tag_declaration (e.0 i) (e.1 i)) (both (texts h k) (texts p q))
 directives reserved reserved = Some refl
 directives _ _ = None
 
@@ -90,11 +93,13 @@ named c p n name = three (texts p (c ∷ name)) (bools (is_name name) true) (boo
 abbrev in_single_quotes : (p n text : List ℕ) → Option (IsSingleQuoted p n text)
 in_single_quotes p n text =
     option_map (λ e. (body_of p, e.0, e.1, e.2))
-    (three (texts p (single_quote ∷ (body_of p ++ (single_quote ∷ [])))) (given (λ x. texts x text) (single_quoted_value (body_of p))) (bools (begins_with single_quote n) false))
+    (three (texts p (single_quote ∷ (body_of p ++ (single_quote ∷ []))))
+    (given (λ x. texts x text) (single_quoted_value (body_of p))) (bools (begins_with single_quote n) false))
 
 abbrev in_double_quotes : (p n text : List ℕ) → Option (IsDoubleQuoted p n text)
 in_double_quotes p n text =
-    option_map (λ e. (body_of p, e.0, e.1)) (both (texts p (double_quote ∷ (body_of p ++ (double_quote ∷ [])))) (given (λ x. texts x text) (double_quoted_value (body_of p))))
+    option_map (λ e. (body_of p, e.0, e.1)) (both (texts p (double_quote ∷ (body_of p ++ (double_quote ∷ []))))
+    (given (λ x. texts x text) (double_quoted_value (body_of p))))
 
 -- what is read as a block scalar, and where its content begins
 abbrev block_of : (o : Option BlockRead) (style : BlockStyle) (text : List ℕ) (at : Position) (begins : ℕ → Position) →
@@ -104,15 +109,19 @@ block_of (Some r) style text at begins =
     option_map (λ e. (r.column, (λ i. Some (record { style = e.0 i; column = r.column; text = e.1 i })), e.2))
     (three (styles r.style style) (texts r.text text) (positions at (begins r.column)))
 
-abbrev block : (a : Account) (p n : List ℕ) (style : BlockStyle) (text : List ℕ) (at : Position) → Option (IsBlockScalar a p n style text at)
-block a p n style text at = both (bools (is_in_flow a) false) (block_of (block_read (collection_column a) p n) style text at (λ column. block_position column a.position p n))
+abbrev block : (a : Account) (p n : List ℕ) (style : BlockStyle) (text : List ℕ) (at : Position)
+    → Option (IsBlockScalar a p n style text at)
+block a p n style text at =
+    both (bools (is_in_flow a) false)
+    (block_of (block_read (collection_column a) p n) style text at (λ column. block_position column a.position p n))
 
 -- a piece that belongs to a token
 abbrev piece_of : (a : Account) (p n : List ℕ) (o : Option Tok) (at : Position) (t : Tok) → Option (IsPiece a p n o at t)
 piece_of a p n o at stream_start = None
 piece_of a p n o at stream_end = None
 piece_of a p n o at (version_directive x y) = both (directive a p n (version x y)) (positions at a.position)
-piece_of a p n o at (tag_directive x y) = both (one (directive a p n (tag_declaration x y)) (three (texts x []) (texts y []) (directive a p n reserved))) (positions at a.position)
+piece_of a p n o at (tag_directive x y) =
+    both (one (directive a p n (tag_declaration x y)) (three (texts x []) (texts y []) (directive a p n reserved))) (positions at a.position)
 piece_of a p n o at document_start = both (marker a p n (codes "---")) (positions at a.position)
 piece_of a p n o at document_end = both (marker a p n (codes "...")) (positions at a.position)
 piece_of a p n o at block_sequence_start = both (texts p []) (bools (is_in_flow a) false)
@@ -122,20 +131,25 @@ piece_of a p n o at flow_sequence_start = both (opening a p (codes "[")) (positi
 piece_of a p n o at flow_sequence_end = both (entry_end a p (codes "]")) (positions at a.position)
 piece_of a p n o at flow_mapping_start =
     one (both (opening a p (codes "{")) (positions at a.position))
-    (four (texts p []) (bools (takes_pair a) true) (bools (begins_pair o) true) (bools (begins_with_key_indicator (past_separation false n)) false))
+    (four (texts p []) (bools (takes_pair a) true) (bools (begins_pair o) true)
+    (bools (begins_with_key_indicator (past_separation false n)) false))
 piece_of a p n o at flow_mapping_end =
-    one (both (entry_end a p (codes "}")) (positions at a.position)) (three (texts p []) (bools (has_open_pair a) true) (bools (ends_entry o) true))
+    one (both (entry_end a p (codes "}")) (positions at a.position))
+    (three (texts p []) (bools (has_open_pair a) true) (bools (ends_entry o) true))
 piece_of a p n o at block_entry = three (texts p (codes "-")) (bools (is_at_gap n) true) (bools (is_in_flow a) false)
 piece_of a p n o at flow_entry = both (entry_end a p (codes ",")) (positions at a.position)
-piece_of a p n o at key = one (both (texts p (codes "?")) (bools (begins_with_space_or_break n) true)) (both (texts p []) (bools (begins_node o) true))
+piece_of a p n o at key =
+    one (both (texts p (codes "?")) (bools (begins_with_space_or_break n) true)) (both (texts p []) (bools (begins_node o) true))
 piece_of a p n o at value = both (texts p (codes ":")) (bools (is_value_indicator (is_in_flow a) (is_adjacent a.before) n) true)
 piece_of a p n o at (alias x) = both (named 42 p n x) (positions at a.position)
 piece_of a p n o at (anchor x) = both (named 38 p n x) (positions at a.position)
 piece_of a p n o at (tag h x) =
-    both (both (given (λ t. tags t (record { handle = h; suffix = x })) (written_tag p)) (bools (is_at_gap n || (is_in_flow a && begins_flow n)) true)) (positions at a.position)
+    both (both (given (λ t. tags t (record { handle = h; suffix = x })) (written_tag p))
+    (bools (is_at_gap n || (is_in_flow a && begins_flow n)) true)) (positions at a.position)
 piece_of a p n o at (scalar plain x) =
     both (three (bools (begins_plain (is_in_flow a) (is_adjacent a.before) a.position.col (p ++ n)) true)
-    (bools (is_whole_plain (is_in_flow a) (collection_column a) p n) true) (given (λ t. texts t x) (plain_value p))) (positions at a.position)
+    (bools (is_whole_plain (is_in_flow a) (collection_column a) p n) true)
+    (given (λ t. texts t x) (plain_value p))) (positions at a.position)
 piece_of a p n o at (scalar single_quoted x) = both (in_single_quotes p n x) (positions at a.position)
 piece_of a p n o at (scalar double_quoted x) = both (in_double_quotes p n x) (positions at a.position)
 piece_of a p n o at (scalar literal x) = block a p n BlockStyle.literal x at
@@ -152,15 +166,18 @@ cut_of a (w ∷ ws) after last =
     (cut_of (account_past a w (spelled ws after)) ws after last)
 
 -- a step, whose piece stands at a site
-abbrev step_of : (a : RowAccount) (at : Site) (w : Step) (next : List ℕ) → Option (Holds (is_separation false w.separation (w.piece ++ next)) × IsShown a at w next)
+abbrev step_of : (a : RowAccount) (at : Site) (w : Step) (next : List ℕ)
+    → Option (Holds (is_separation false w.separation (w.piece ++ next)) × IsShown a at w next)
 step_of a at w next =
     both (bools (is_separation false w.separation (w.piece ++ next)) true)
-    (both (bools (not (is_empty w.piece)) true) (piece_of (seen a at w.separation) w.piece next None (shown_position at w.piece w.shown next) w.shown))
+    (both (bools (not (is_empty w.piece)) true)
+    (piece_of (seen a at w.separation) w.piece next None (shown_position at w.piece w.shown next) w.shown))
 
 -- a row of steps
 abbrev pub steps_of : (o : Option RowAccount) (ws : List Step) (last : List ℕ) → Option (IsRowFrom o ws last)
 steps_of None ws last = None
 steps_of (Some a) [] last = both (bools (is_separation false last []) true) (bools (may_end a) true)
 steps_of (Some a) (w ∷ ws) last =
-    both (step_of a (site_at (stands_in_flow a.entries) a.site w.separation w.piece w.shown (spelled_steps ws last)) w (spelled_steps ws last))
+    both
+    (step_of a (site_at (stands_in_flow a.entries) a.site w.separation w.piece w.shown (spelled_steps ws last)) w (spelled_steps ws last))
     (steps_of (past_step a w (spelled_steps ws last)) ws last)

@@ -23,16 +23,20 @@ ends_alike fl c d inside r i = refl
 ends_alike fl c d after_blank r i = refl
 ends_alike fl c d (on_line k) r i = cc
 
-goes_on_alike : (fl : Bool) (c d : Option ℕ) (s : Stand) (p n : List ℕ) → has_no_break p ≡ true → is_on_first_line s ≡ true → goes_on fl c s p n ≡ goes_on fl d s p n
+goes_on_alike : (fl : Bool) (c d : Option ℕ) (s : Stand) (p n : List ℕ)
+    → has_no_break p ≡ true → is_on_first_line s ≡ true → goes_on fl c s p n ≡ goes_on fl d s p n
 goes_on_alike fl c d s [] n h i = refl
-goes_on_alike fl c d s (x ∷ r) n h i = grind (arith, ends_alike fl c d s (x ∷ (r ++ n)) i, past_in_line s x, goes_on_alike fl c d (past s x) r n)
+goes_on_alike fl c d s (x ∷ r) n h i =
+    grind (arith, ends_alike fl c d s (x ∷ (r ++ n)) i, past_in_line s x, goes_on_alike fl c d (past s x) r n)
 
-stops_alike : (fl : Bool) (c d : Option ℕ) (s : Stand) (n : List ℕ) → is_in_line n ≡ true → is_on_first_line s ≡ true → stops fl c s n ≡ stops fl d s n
+stops_alike : (fl : Bool) (c d : Option ℕ) (s : Stand) (n : List ℕ)
+    → is_in_line n ≡ true → is_on_first_line s ≡ true → stops fl c s n ≡ stops fl d s n
 stops_alike fl c d s [] h i = refl
 stops_alike fl c d s (x ∷ r) h i = grind (arith, ends_alike fl c d s (x ∷ r) i, past_in_line s x, stops_alike fl c d (past s x) r)
 
 -- a plain scalar on one line is whole whatever block collection is open
-whole_alike : (fl : Bool) (c d : Option ℕ) (p n : List ℕ) → has_no_break p ≡ true → is_in_line n ≡ true → is_whole_plain fl c p n ≡ is_whole_plain fl d p n
+whole_alike : (fl : Bool) (c d : Option ℕ) (p n : List ℕ)
+    → has_no_break p ≡ true → is_in_line n ≡ true → is_whole_plain fl c p n ≡ is_whole_plain fl d p n
 whole_alike fl c d [] n h i = refl
 whole_alike fl c d (x ∷ r) n h i = grind (arith, goes_on_alike fl c d inside r n, stops_alike fl c d inside n i)
 

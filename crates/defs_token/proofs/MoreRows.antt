@@ -92,7 +92,8 @@ record Rows : Type 0 where
       piece "" "]" 7 1 7 flow_sequence_end ∷
       []) "" (position 8 2 0)
   -- a quoted scalar over lines, with blank lines after it
-  quoted_lines : Reads "\"a  \n  b\n\n c\\\n   d\"\n\n" (piece "" "\"a  \n  b\n\n c\\\n   d\"" 0 1 0 (scalar double_quoted (codes "a b\ncd")) ∷ []) "\n\n" (position 21 7 0)
+  quoted_lines : Reads "\"a  \n  b\n\n c\\\n   d\"\n\n" (
+      piece "" "\"a  \n  b\n\n c\\\n   d\"" 0 1 0 (scalar double_quoted (codes "a b\ncd")) ∷ []) "\n\n" (position 21 7 0)
 
 rows : Rows
 unfolding cut_on_literals

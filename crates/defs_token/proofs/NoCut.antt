@@ -26,7 +26,8 @@ abbrev pub may_be : Account → (p n : List ℕ) → (following : Option Tok) �
 may_be a p n o (tag_directive x y) = has_no_break p && is_at_line_end n
 may_be a p n o flow_sequence_start = is_same p (codes "[")
 may_be a p n o flow_sequence_end = is_same p (codes "]")
-may_be a p n o flow_mapping_start = is_same p (codes "{") || (is_same p [] && begins_pair o && not (begins_with_key_indicator (past_separation false n)))
+may_be a p n o flow_mapping_start =
+    is_same p (codes "{") || (is_same p [] && begins_pair o && not (begins_with_key_indicator (past_separation false n)))
 may_be a p n o flow_mapping_end = is_same p (codes "}") || (is_same p [] && has_open_pair a)
 may_be a p n o flow_entry = is_same p (codes ",")
 may_be a p n o key = is_same p (codes "?") || is_same p []
@@ -56,7 +57,7 @@ must_be a p n o at _ q = refl
 
 -- ---- what a text must be
 
--- whether one of the ways to divide the text among the tokens, of which the last is the stream's end, gives each a piece that may be its own
+-- Whether one of the ways to divide the text among the tokens gives each a piece that may be its own. The last token is the stream's end.
 abbrev pub is_possible : Account → List Token → (text : List ℕ) → Bool
 is_possible a [] text = true
 is_possible a (t ∷ []) text = is_separation false text []
@@ -69,18 +70,21 @@ one_step : (a : Account) (w : Written) (u : Token) (us : List Token) (n : List �
     IsPiece (account_at a w n) w.piece n (Some u.tok) w.token.position w.token.tok → is_possible (account_past a w n) (u ∷ us) n ≡ true →
     is_possible a (w.token ∷ (u ∷ us)) (w.separation ++ (w.piece ++ n)) ≡ true
 one_step a w u us n s q h =
-    let is : may_be (account_at a w n) w.piece n (Some u.tok) w.token.tok ≡ true = must_be (account_at a w n) w.piece n (Some u.tok) w.token.position w.token.tok q in
+    let is : may_be (account_at a w n) w.piece n (Some u.tok) w.token.tok ≡ true =
+    must_be (account_at a w n) w.piece n (Some u.tok) w.token.position w.token.tok q in
     divided _ w.separation (w.piece ++ n) (rw s (divided _ w.piece n (rw (is, h) refl)))
 
-row_possible : (a : Account) (ws : List Written) (f : List ℕ) (end : Position) → IsRow a ws f (Some stream_end) → is_separation false f [] ≡ true →
-    is_possible a (tokens_of ws ++ (end_token end ∷ [])) (spelled ws f) ≡ true
+row_possible : (a : Account) (ws : List Written) (f : List ℕ) (end : Position) →
+    IsRow a ws f (Some stream_end) → is_separation false f [] ≡ true → is_possible a (tokens_of ws ++ (end_token end ∷ [])) (spelled ws f) ≡ true
 row_possible a [] f end r s = s
 row_possible a (w ∷ []) f end r s = one_step a w (end_token end) [] f r.0.0 r.0.1 (row_possible (account_past a w f) [] f end r.1 s)
 row_possible a (w ∷ (v ∷ vs)) f end r s =
-    one_step a w v.token (tokens_of vs ++ (end_token end ∷ [])) (spelled (v ∷ vs) f) r.0.0 r.0.1 (row_possible (account_past a w (spelled (v ∷ vs) f)) (v ∷ vs) f end r.1 s)
+    one_step a w v.token (tokens_of vs ++ (end_token end ∷ [])) (spelled (v ∷ vs) f) r.0.0 r.0.1
+    (row_possible (account_past a w (spelled (v ∷ vs) f)) (v ∷ vs) f end r.1 s)
 
 -- Tokens after the stream's start that no way to divide a text allows are no cut of it.
-pub no_cut : (begin : Position) (ts : List Token) {text : List ℕ} → is_possible first_account ts (up_to_nul text) ≡ false → IsCut (start_token begin ∷ ts) text → ⊥
+pub no_cut : (begin : Position) (ts : List Token) {text : List ℕ} →
+    is_possible first_account ts (up_to_nul text) ≡ false → IsCut (start_token begin ∷ ts) text → ⊥
 no_cut begin ts e c =
     let same : ts ≡ tokens_of c.row ++ (end_token c.end ∷ []) = cc (c.are_tokens) in
     let yes = row_possible first_account c.row c.separation c.end c.is_row c.is_filled in

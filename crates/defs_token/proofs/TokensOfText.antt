@@ -15,7 +15,8 @@ abbrev is_key : Tok → Bool
 is_key key = true
 is_key _ = false
 
--- The steps of tokens as they are written, one for each piece. An implicit key begins with it if the token of a key, without a piece, stands right before.
+-- The steps of tokens as they are written, one for each piece. An implicit key begins with a piece if the token of a key, without one of its
+-- own, stands right before.
 abbrev pub steps_shown : (keyed : Bool) → List Written → List Step
 steps_shown k [] = []
 steps_shown k (w ∷ ws) =
@@ -25,7 +26,7 @@ steps_shown k (w ∷ ws) =
 abbrev pub row : List Written → (last : List ℕ) → Row
 row ws last = record { steps = steps_shown false ws; last = last }
 
--- Whether tokens as they are written are those of a text, between the stream's start and its end: they are a cut of it, and the tokens of a row of it.
+-- Whether tokens as they are written are those of a text, between the stream's start and its end: a cut of it, and the tokens of its row.
 pub record Reads (text : String) (ws : List Written) (last : String) (end : Position) : Type 0 where
   pub is_cut : IsCut (tokens_between ws end) (codes text)
   pub is_read : IsRead (codes text) (tokens_between ws end)
@@ -36,8 +37,10 @@ found None e = absurd (cc e)
 
 -- by computing
 pub reads : {text : String} {ws : List Written} {last : String} {end : Position} → spelled ws (codes last) ≡ up_to_nul (codes text) →
-    is_some (cut_of first_account ws (codes last) (Some stream_end)) ≡ true → is_separation false (codes last) [] ≡ true → is_closed (account_past_row first_account ws (codes last)) ≡ true →
-    spelled_steps (steps_shown false ws) (codes last) ≡ up_to_nul (codes text) → is_some (steps_of (Some first_row_account) (steps_shown false ws) (codes last)) ≡ true →
+    is_some (cut_of first_account ws (codes last) (Some stream_end)) ≡ true → is_separation false (codes last) [] ≡ true →
+    is_closed (account_past_row first_account ws (codes last)) ≡ true →
+    spelled_steps (steps_shown false ws) (codes last) ≡ up_to_nul (codes text) →
+    is_some (steps_of (Some first_row_account) (steps_shown false ws) (codes last)) ≡ true →
     tokens_of_row (row ws (codes last)) ≡ tokens_between ws end → Reads text ws last end
 reads {ws = ws} {last = last} {end = end} s c f z t r e = record {
   is_cut = record {
@@ -59,7 +62,8 @@ pub record Begins (text : String) (ws : List Written) (after : String) : Type 0 
   pub is_cut : IsCutOfBeginning (start_token first ∷ tokens_of ws) (codes text)
 
 -- by computing
-pub begins : {text : String} {ws : List Written} {after : String} → spelled ws (codes after) ≡ up_to_nul (codes text) → is_some (cut_of first_account ws (codes after) None) ≡ true → Begins text ws after
+pub begins : {text : String} {ws : List Written} {after : String} →
+    spelled ws (codes after) ≡ up_to_nul (codes text) → is_some (cut_of first_account ws (codes after) None) ≡ true → Begins text ws after
 begins {ws = ws} {after = after} s c = record {
   is_cut = inr (record {
     begin = first;

@@ -13,12 +13,14 @@ tokens after end = token_at 0 flow_sequence_start ∷ token_at 1 flow_mapping_st
 
 -- a pair that begins with `?` has no start
 pub start_before_indicator : (end : Position) →
-    IsCut (start_token first ∷ tokens (token_at 1 key ∷ token_at 3 flow_mapping_end ∷ token_at 3 flow_sequence_end ∷ []) end) (codes "[? ]") → ⊥
+    IsCut (start_token first ∷ tokens (token_at 1 key ∷ token_at 3 flow_mapping_end ∷ token_at 3 flow_sequence_end ∷ []) end)
+    (codes "[? ]") → ⊥
 unfolding cut_on_literals
 start_before_indicator end = no_cut first _ refl
 
 -- a node that is no key has no start before it
 pub start_before_node : (end : Position) →
-    IsCut (start_token first ∷ tokens (token_at 1 (scalar plain (codes "a")) ∷ token_at 2 flow_mapping_end ∷ token_at 2 flow_sequence_end ∷ []) end) (codes "[a]") → ⊥
+    IsCut (start_token first ∷ tokens (token_at 1 (scalar plain (codes "a")) ∷ token_at 2 flow_mapping_end ∷ token_at 2 flow_sequence_end ∷ []) end)
+    (codes "[a]") → ⊥
 unfolding cut_on_literals
 start_before_node end = no_cut first _ refl

@@ -265,7 +265,8 @@ module _ (w : Watched) (kept : IsKept w) where
 
   flow_started : (kind : Collection) (t : ScannerState) → IsNoEnd (flow_start kind) → Stands w t.held → Holds (StandsAt w) (fetch_flow_collection_start kind t)
   unfolding fetch_flow_collection_start begin_flow
-  flow_started kind t q s = chained (tried t _ (deeper_allowed _ (flow_deeper kind _ (rolled_one _ (saved t.held s))))) (λ u k. chained (passed u k) (λ v l. went (more _ _ _ q l)))
+  flow_started kind t q s =
+      chained (tried t _ (deeper_allowed _ (flow_deeper kind _ (rolled_one _ (saved t.held s))))) (λ u k. chained (passed u k) (λ v l. went (more _ _ _ q l)))
 
   pair_ended : (fs : List FlowLevel) (h : Held) → Stands w h → Stands w (end_pair fs h)
   pair_ended [] h s = s
@@ -292,7 +293,8 @@ module _ (w : Watched) (kept : IsKept w) where
 
   flow_ended : (kind : Collection) (t : ScannerState) → IsNoEnd (flow_end kind) → Stands w t.held → Holds (StandsAt w) (fetch_flow_collection_end kind t)
   unfolding fetch_flow_collection_end end_flow
-  flow_ended kind t q s = chained (tried t _ (flow_closed _ (removed t.held s))) (λ u k. chained (passed u k) (λ v l. went (more _ _ _ q (adjacent v.held l))))
+  flow_ended kind t q s =
+      chained (tried t _ (flow_closed _ (removed t.held s))) (λ u k. chained (passed u k) (λ v l. went (more _ _ _ q (adjacent v.held l))))
 
   next_begun : (r : Result Held Fault) → Holds (Stands w) r → Holds (Stands w) (next_entry r)
   next_begun r (went s) = went (entry_over _ (record { stood = s.stood }))
@@ -317,7 +319,8 @@ module _ (w : Watched) (kept : IsKept w) where
   block_entry t s = chained (tried t _ (entry_checked t.held s)) (λ u k.
       let p = t.held.position in
       let v = on_held (roll_indent p.col None Tok.block_sequence_start p) (skip_indicator u) in
-      chained (read v.held (space Yes v.rest v.held.position) check_dash (rolled p.col None _ p (skip_indicator u).held tt tt (record { stood = k.stood })) (λ z x l. passes _ _ (went l))) (λ z l.
+      chained (read v.held (space Yes v.rest v.held.position) check_dash (rolled p.col None _ p (skip_indicator u).held tt tt (record { stood = k.stood }))
+      (λ z x l. passes _ _ (went l))) (λ z l.
       chained (spaces_skipped No z l) (λ x m.
       chained (tried (roll_entry x) _ (removed (roll_entry x).held (entry_rolled x m))) (λ y n. went (record { stood = pushed _ _ _ _ _ tt n.stood })))))
 
@@ -339,7 +342,8 @@ module _ (w : Watched) (kept : IsKept w) where
 
   value_spaced : (t : ScannerState) → Stands w t.held → Holds (StandsAt w) (check_value_space t)
   unfolding check_value_space check_after_tab
-  value_spaced t s = choice (peek t.rest == 9) (read t.held (space Yes t.rest t.held.position) check_after_tab s (λ x u k. passes _ _ (went k))) (went s)
+  value_spaced t s =
+      choice (peek t.rest == 9) (read t.held (space Yes t.rest t.held.position) check_after_tab s (λ x u k. passes _ _ (went k))) (went s)
 
   key_inserted : (k : Key) (p : Position) (pair : Bool) (h : Held) → w.number k.number → Stands w h → Holds (Stands w) (insert_key k p pair h)
   unfolding insert_key begin_pair
@@ -355,7 +359,8 @@ module _ (w : Watched) (kept : IsKept w) where
 
   keyless_begun : (p : Position) (pair : Bool) (h : Held) → Stands w h → Holds (Stands w) (begin_keyless_value p pair h)
   unfolding begin_keyless_value
-  keyless_begun p pair h s = chained (keyless_mapped p _ (held_choice pair (more h.position Tok.flow_mapping_start h tt s) s)) (λ u k. went (let l = rolled_one u k in record { stood = l.stood }))
+  keyless_begun p pair h s = chained (keyless_mapped p _ (held_choice pair (more h.position Tok.flow_mapping_start h tt s) s)) (λ u k.
+      went (let l = rolled_one u k in record { stood = l.stood }))
 
   value_begun : (k : Option Key) (p : Position) (pair : Bool) (h : Held) → KeyIs w.number k → Stands w h → Holds (Stands w) (value_of k p pair h)
   value_begun None p pair h l s = keyless_begun p pair h s
@@ -400,7 +405,8 @@ module _ (w : Watched) (kept : IsKept w) where
 
   document_ended : (t : ScannerState) → Stands w t.held → Holds (StandsAt w) (fetch_document_end t)
   unfolding fetch_document_end check_document_end
-  document_ended t s = chained (marker_fetched Tok.document_end t tt s) (λ u k. chained (spaces_skipped Yes u k) (λ v l. choice _ (went l) refused))
+  document_ended t s = chained (marker_fetched Tok.document_end t tt s) (λ u k.
+      chained (spaces_skipped Yes u k) (λ v l. choice _ (went l) refused))
 
   -- ---- nodes
 
@@ -466,7 +472,8 @@ module _ (w : Watched) (kept : IsKept w) where
   pub content_fetched : (t : ScannerState) → Stands w t.held → Holds (StandsAt w) (fetch_content t)
   unfolding fetch_content fetch_first_column
   content_fetched t s =
-      choice _ (choice _ (directive_fetched t s) (choice _ (marker_fetched Tok.document_start t tt s) (choice _ (document_ended t s) (indented_fetched t s)))) (indented_fetched t s)
+      choice _ (choice _ (directive_fetched t s) (choice _ (marker_fetched Tok.document_start t tt s) (choice _ (document_ended t s) (indented_fetched t s))))
+      (indented_fetched t s)
 
   fares_stale : (h : Held) → Fares w h → Holds (Fares w) (stale h)
   unfolding stale
@@ -480,7 +487,8 @@ module _ (w : Watched) (kept : IsKept w) where
   next_fetched : (t : ScannerState) → Stands w t.held → Holds (FaresAt w) (fetch_next t)
   unfolding fetch_next fetch_here
   next_fetched t s = chained (to_token t s) (λ u k. chained (tried u _ (stale_dropped u.held k)) (λ v l.
-      chained (choice _ (weakened (λ u p. over p) (stream_ended _ (unrolled_all _ v.held l))) (weakened (λ u p. goes p) (content_fetched _ (unrolled_all _ v.held l)))) (λ x m.
+      chained (choice _ (weakened (λ u p. over p) (stream_ended _ (unrolled_all _ v.held l)))
+      (weakened (λ u p. goes p) (content_fetched _ (unrolled_all _ v.held l)))) (λ x m.
       tried x _ (fares_stale x.held m))))
 
   pub fetched : (t : ScannerState) → Stands w t.held → Holds (FaresAt w) (fetch t)
