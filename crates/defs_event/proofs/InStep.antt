@@ -1,6 +1,6 @@
 -- After the same events, trees and their marks are related, where leaves, aliases and collections of related parts are.
 -- So marks have the parts of the trees.
-use Rattle.defs_event.proofs.Common.{[], alias, aliased, Anchors, ap, AreDistinct, arith, array, at_work, bad_value, Bool, by_name, bytes_eq, codes, cond, core_prefix, documents_of, Ev, false, false_words, finished, fits_i64, has_key, hash, if◌then◌else◌, insert, integer, is_among, is_decimal, is_real_text, is_some, IsTrue, items_of, List, Loader, loader_after, lookup, MayStandFor, nat_eq, new_loader, None, noted, OfSome, Opened, opened_mapping, opened_sequence, Option, option_map, pairs_of, Position, reads, refl, refused, repeats, scalar_tree, signed_decimal, signed_number-fits, Some, Step, Style, subst, suc, sym, Tag, Tree, tree_eq, true, true_words, typing, typing_plain, Unfinished, unwrap_or, with_document_end, with_event, with_event_at, with_events, with_mapping_end, with_root, with_sequence_end, with_start, with_tree, without, zero, ℕ, ℤ, ◌++◌, ◌||◌, ◌∷◌, ◌≡◌}
+use Rattle.defs_event.proofs.Common.{[], alias, aliased, Anchors, AreDistinct, arith, array, at_work, bad_value, Bool, by_name, bytes_eq, codes, core_prefix, documents_of, Ev, false, false_words, finished, fits_i64, has_key, hash, if◌then◌else◌, insert, integer, is_among, is_decimal, is_real_text, IsTrue, items_of, List, Loader, loader_after, MayStandFor, nat_eq, new_loader, None, noted, OfSome, Opened, opened_mapping, opened_sequence, Option, option_map, pairs_of, Position, reads, refl, refused, repeats, scalar_tree, signed_decimal, signed_number-fits, Some, Step, Style, subst, suc, sym, Tag, Tree, true, true_words, typing, typing_plain, Unfinished, unwrap_or, with_document_end, with_event, with_event_at, with_events, with_mapping_end, with_root, with_sequence_end, with_start, with_tree, without, zero, ℕ, ℤ, ◌++◌, ◌||◌, ◌∷◌, ◌≡◌}
 use Rattle.defs_tree.proofs.PairsLaws.{AreDistinct_insert}
 use Rattle.defs_event.specs.Unfinished.{with_node}
 use Rattle.defs_event.specs.Fits.{Fits, ItemsFit, PairsFit, AllFit}
@@ -148,7 +148,8 @@ module _ (R : Tree → Marks → Type 0) where
     tree_fits u x t m (opened_mapping a ps (Some k) ∷ cs) (o ∷ os) h f = by (has_key k ps) refl
       where
         by : (b : Bool) → has_key k ps ≡ b
-            → StepFits (if b then repeats k else reads (record u { opened = opened_mapping a (insert k t ps) None ∷ cs })) (with_part m x (o ∷ os))
+            → StepFits (if b then repeats k else reads (record u { opened = opened_mapping a (insert k t ps) None ∷ cs }))
+            (with_part m x (o ∷ os))
         by true e = tt
         by false e =
             let held : EachPair R (insert k t ps) None (o.parts ++ m ∷ []) =

@@ -121,7 +121,8 @@ piece_of a p n o at stream_start = None
 piece_of a p n o at stream_end = None
 piece_of a p n o at (version_directive x y) = both (directive a p n (version x y)) (positions at a.position)
 piece_of a p n o at (tag_directive x y) =
-    both (one (directive a p n (tag_declaration x y)) (three (texts x []) (texts y []) (directive a p n reserved))) (positions at a.position)
+    both (one (directive a p n (tag_declaration x y)) (three (texts x []) (texts y []) (directive a p n reserved)))
+    (positions at a.position)
 piece_of a p n o at document_start = both (marker a p n (codes "---")) (positions at a.position)
 piece_of a p n o at document_end = both (marker a p n (codes "...")) (positions at a.position)
 piece_of a p n o at block_sequence_start = both (texts p []) (bools (is_in_flow a) false)

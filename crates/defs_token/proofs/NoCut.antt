@@ -75,7 +75,8 @@ one_step a w u us n s q h =
     divided _ w.separation (w.piece ++ n) (rw s (divided _ w.piece n (rw (is, h) refl)))
 
 row_possible : (a : Account) (ws : List Written) (f : List ℕ) (end : Position) →
-    IsRow a ws f (Some stream_end) → is_separation false f [] ≡ true → is_possible a (tokens_of ws ++ (end_token end ∷ [])) (spelled ws f) ≡ true
+    IsRow a ws f (Some stream_end) → is_separation false f [] ≡ true →
+    is_possible a (tokens_of ws ++ (end_token end ∷ [])) (spelled ws f) ≡ true
 row_possible a [] f end r s = s
 row_possible a (w ∷ []) f end r s = one_step a w (end_token end) [] f r.0.0 r.0.1 (row_possible (account_past a w f) [] f end r.1 s)
 row_possible a (w ∷ (v ∷ vs)) f end r s =

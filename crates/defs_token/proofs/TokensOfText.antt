@@ -15,8 +15,8 @@ abbrev is_key : Tok → Bool
 is_key key = true
 is_key _ = false
 
--- The steps of tokens as they are written, one for each piece. An implicit key begins with a piece if the token of a key, without one of its
--- own, stands right before.
+-- The steps of tokens as they are written, one for each piece. An implicit key begins with a piece if the token of a key stands right
+-- before it without one.
 abbrev pub steps_shown : (keyed : Bool) → List Written → List Step
 steps_shown k [] = []
 steps_shown k (w ∷ ws) =

@@ -20,7 +20,8 @@ start_before_indicator end = no_cut first _ refl
 
 -- a node that is no key has no start before it
 pub start_before_node : (end : Position) →
-    IsCut (start_token first ∷ tokens (token_at 1 (scalar plain (codes "a")) ∷ token_at 2 flow_mapping_end ∷ token_at 2 flow_sequence_end ∷ []) end)
+    IsCut (start_token first ∷ tokens (token_at 1 (scalar plain (codes "a")) ∷
+    token_at 2 flow_mapping_end ∷ token_at 2 flow_sequence_end ∷ []) end)
     (codes "[a]") → ⊥
 unfolding cut_on_literals
 start_before_node end = no_cut first _ refl

@@ -68,12 +68,14 @@ pub break_leads : (t : Folded) → (with_break t).leading ≡ true
 break_leads t = grind arith
 
 -- a word's first character goes on a scalar after a gap
-wordy_goes_on : (ctx : Context) (flow : Bool) (c : ℕ) (a : List ℕ) (p : Position) → begins_word (Plain flow) c ≡ true → is_shallow ctx (p.col + 1) ≡ false → goes_on ctx (c ∷ a) (past p) ≡ Ok true
+wordy_goes_on : (ctx : Context) (flow : Bool) (c : ℕ) (a : List ℕ) (p : Position)
+    → begins_word (Plain flow) c ≡ true → is_shallow ctx (p.col + 1) ≡ false → goes_on ctx (c ∷ a) (past p) ≡ Ok true
 unfolding begins_word stops is_break is_blank is_flow goes_on at_marker at_plain can_be_plain at_dash
 wordy_goes_on ctx flow c a p w deep = grind (arith, nat_tests)
 
 -- and it is one of a run
-wordy_runs : (ctx : Context) (flow : Bool) (c d : ℕ) → begins_word (Plain flow) c ≡ true → ((is_break c || is_blank c) ≡ false) × (can_be_plain ctx.flow c d ≡ true)
+wordy_runs : (ctx : Context) (flow : Bool) (c d : ℕ) → begins_word (Plain flow) c ≡ true
+    → ((is_break c || is_blank c) ≡ false) × (can_be_plain ctx.flow c d ≡ true)
 unfolding begins_word stops is_break is_blank is_flow can_be_plain
 wordy_runs ctx flow c d w = (grind (arith, nat_tests), grind (arith, nat_tests))
 

@@ -101,7 +101,14 @@ pub lone_blank : (single : Bool) (ctx : Context) (start : Position) (c d : ℕ) 
     → quoted_from single ctx start a (record { mode = inside; position = p; folded = t }) ≡ quoted_from single ctx start b (record { mode = inside; position = past p; folded = with_char c t })
 lone_blank single ctx start c d a b p t e next blank other none leading escaped goes =
     let same : joined (with_blank c t) ≡ with_char c t = rw (none, leading, escaped) refl in
-    grind (arith, e, blank_no_break c blank, gap_line single ctx start d b (past p) (with_blank c t) next other, line_inside single ctx start b (past p) (with_blank c t) goes, same)
+    grind (
+      arith,
+      e,
+      blank_no_break c blank,
+      gap_line single ctx start d b (past p) (with_blank c t) next other,
+      line_inside single ctx start b (past p) (with_blank c t) goes,
+      same,
+    )
 
 -- the closing quote
 pub closing : (ctx : Context) (start : Position) (a b : List ℕ) (p : Position) (t : Folded) → a ≡ 34 ∷ b

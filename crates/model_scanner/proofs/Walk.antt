@@ -266,7 +266,8 @@ module _ (w : Watched) (kept : IsKept w) where
   flow_started : (kind : Collection) (t : ScannerState) → IsNoEnd (flow_start kind) → Stands w t.held → Holds (StandsAt w) (fetch_flow_collection_start kind t)
   unfolding fetch_flow_collection_start begin_flow
   flow_started kind t q s =
-      chained (tried t _ (deeper_allowed _ (flow_deeper kind _ (rolled_one _ (saved t.held s))))) (λ u k. chained (passed u k) (λ v l. went (more _ _ _ q l)))
+      chained (tried t _ (deeper_allowed _ (flow_deeper kind _ (rolled_one _ (saved t.held s))))) (λ u k.
+      chained (passed u k) (λ v l. went (more _ _ _ q l)))
 
   pair_ended : (fs : List FlowLevel) (h : Held) → Stands w h → Stands w (end_pair fs h)
   pair_ended [] h s = s
@@ -319,7 +320,8 @@ module _ (w : Watched) (kept : IsKept w) where
   block_entry t s = chained (tried t _ (entry_checked t.held s)) (λ u k.
       let p = t.held.position in
       let v = on_held (roll_indent p.col None Tok.block_sequence_start p) (skip_indicator u) in
-      chained (read v.held (space Yes v.rest v.held.position) check_dash (rolled p.col None _ p (skip_indicator u).held tt tt (record { stood = k.stood }))
+      chained (read v.held (space Yes v.rest v.held.position) check_dash
+      (rolled p.col None _ p (skip_indicator u).held tt tt (record { stood = k.stood }))
       (λ z x l. passes _ _ (went l))) (λ z l.
       chained (spaces_skipped No z l) (λ x m.
       chained (tried (roll_entry x) _ (removed (roll_entry x).held (entry_rolled x m))) (λ y n. went (record { stood = pushed _ _ _ _ _ tt n.stood })))))
@@ -472,7 +474,8 @@ module _ (w : Watched) (kept : IsKept w) where
   pub content_fetched : (t : ScannerState) → Stands w t.held → Holds (StandsAt w) (fetch_content t)
   unfolding fetch_content fetch_first_column
   content_fetched t s =
-      choice _ (choice _ (directive_fetched t s) (choice _ (marker_fetched Tok.document_start t tt s) (choice _ (document_ended t s) (indented_fetched t s))))
+      choice _ (choice _ (directive_fetched t s)
+      (choice _ (marker_fetched Tok.document_start t tt s) (choice _ (document_ended t s) (indented_fetched t s))))
       (indented_fetched t s)
 
   fares_stale : (h : Held) → Fares w h → Holds (Fares w) (stale h)
