@@ -61,8 +61,7 @@ record Rows : Type 0 where
       piece "" "}" flow_mapping_end ∷ [])
   -- a bracket left of the least column
   flow_left : HasNoRow "a: [\n]" (
-      keyed (word "" "a") ∷ piece "" ":" value ∷ piece " " "[" flow_sequence_start ∷ piece "\n" "]" flow_sequence_end ∷
-      [])
+      keyed (word "" "a") ∷ piece "" ":" value ∷ piece " " "[" flow_sequence_start ∷ piece "\n" "]" flow_sequence_end ∷ [])
   -- a plain scalar in flow that is not deeper than the block
   flow_plain_left : HasNoRow "a: [b,\nc]" (
       keyed (word "" "a") ∷ piece "" ":" value ∷ piece " " "[" flow_sequence_start ∷ word "" "b" ∷

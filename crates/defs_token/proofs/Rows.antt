@@ -1,4 +1,5 @@
--- Texts with their rows, and their tokens with positions, by computing.
+-- Texts with their rows, and their tokens with positions, by computing. A line has a step: the tokens before its piece, which have none,
+-- and the piece with the separation before it, its token's position, and its token.
 use Rattle.defs_token.proofs.Common.{[], alias, anchor, block_end, block_entry, block_mapping_start, block_sequence_start, codes, double_quoted, flow_entry, flow_mapping_end, flow_mapping_start, flow_sequence_end, flow_sequence_start, IsRead, key, List, plain, scalar, tag, value, Written, ◌∷◌}
 use Rattle.defs_token.proofs.OnLiterals.{cut_on_literals}
 use Rattle.defs_token.proofs.Shown.{at, piece, position, tokens_between, word}
@@ -41,8 +42,7 @@ record Rows : Type 0 where
       at 5 2 0 key ∷ word "\n" "c" 5 2 0 ∷
       piece "" ":" 6 2 1 value ∷
       word " " "d" 8 2 3 ∷
-      at 10 3 0 block_end ∷
-      []) "\n" (position 10 3 0)
+      at 10 3 0 block_end ∷ []) "\n" (position 10 3 0)
   -- a deeper key opens a mapping; a key in an outer column ends the inner one
   nested : Reads "a:\n  b: c\nd: e\n" (
       at 1 1 1 block_mapping_start ∷ at 0 1 0 key ∷ word "" "a" 0 1 0 ∷
@@ -53,16 +53,14 @@ record Rows : Type 0 where
       at 10 3 0 block_end ∷ at 10 3 0 key ∷ word "\n" "d" 10 3 0 ∷
       piece "" ":" 11 3 1 value ∷
       word " " "e" 13 3 3 ∷
-      at 15 4 0 block_end ∷
-      []) "\n" (position 15 4 0)
+      at 15 4 0 block_end ∷ []) "\n" (position 15 4 0)
   -- a dash's token stands after the blanks after it and a comment
   dashes : Reads "- a\n-  # c\n  b\n" (
       at 0 1 0 block_sequence_start ∷ piece "" "-" 2 1 2 block_entry ∷
       word " " "a" 2 1 2 ∷
       piece "\n" "-" 10 2 6 block_entry ∷
       word "  # c\n  " "b" 13 3 2 ∷
-      at 15 4 0 block_end ∷
-      []) "\n" (position 15 4 0)
+      at 15 4 0 block_end ∷ []) "\n" (position 15 4 0)
   -- sequences in a sequence, ended by the first piece left of their column
   dash_dash : Reads "- - a\n  - b\n- c\n" (
       at 0 1 0 block_sequence_start ∷ piece "" "-" 2 1 2 block_entry ∷
@@ -72,8 +70,7 @@ record Rows : Type 0 where
       word " " "b" 10 2 4 ∷
       at 12 3 0 block_end ∷ piece "\n" "-" 14 3 2 block_entry ∷
       word " " "c" 14 3 2 ∷
-      at 16 4 0 block_end ∷
-      []) "\n" (position 16 4 0)
+      at 16 4 0 block_end ∷ []) "\n" (position 16 4 0)
   -- a sequence at the column of its key has no start and no end
   at_key_column : Reads "a:\n- b\nc: d\n" at_key_column_row "\n" (position 12 4 0)
   -- an explicit key, and its value
@@ -82,22 +79,19 @@ record Rows : Type 0 where
       word " " "a" 2 1 2 ∷
       piece "\n" ":" 4 2 0 value ∷
       word " " "b" 6 2 2 ∷
-      at 8 3 0 block_end ∷
-      []) "\n" (position 8 3 0)
+      at 8 3 0 block_end ∷ []) "\n" (position 8 3 0)
   -- a colon with an empty key
   empty_key : Reads ": a\n" (
       at 0 1 0 block_mapping_start ∷ piece "" ":" 0 1 0 value ∷
       word " " "a" 2 1 2 ∷
-      at 4 2 0 block_end ∷
-      []) "\n" (position 4 2 0)
+      at 4 2 0 block_end ∷ []) "\n" (position 4 2 0)
   -- after an empty key's colon a key may begin
   key_with_colon_next : Reads ": a: b\n" (
       at 0 1 0 block_mapping_start ∷ piece "" ":" 0 1 0 value ∷
       at 3 1 3 block_mapping_start ∷ at 2 1 2 key ∷ word " " "a" 2 1 2 ∷
       piece "" ":" 3 1 3 value ∷
       word " " "b" 5 1 5 ∷
-      at 7 2 0 block_end ∷ at 7 2 0 block_end ∷
-      []) "\n" (position 7 2 0)
+      at 7 2 0 block_end ∷ at 7 2 0 block_end ∷ []) "\n" (position 7 2 0)
   -- a key begins with its first property
   properties : Reads "&x !t a: *x \n" (
       at 7 1 7 block_mapping_start ∷ at 0 1 0 key ∷ piece "" "&x" 0 1 0 (anchor (codes "x")) ∷
@@ -105,8 +99,7 @@ record Rows : Type 0 where
       word " " "a" 6 1 6 ∷
       piece "" ":" 7 1 7 value ∷
       piece " " "*x" 9 1 9 (alias (codes "x")) ∷
-      at 13 2 0 block_end ∷
-      []) " \n" (position 13 2 0)
+      at 13 2 0 block_end ∷ []) " \n" (position 13 2 0)
   -- an anchor before a mapping, on a line of its own
   anchors_apart : Reads "k:\n  &x\n  a: b\n" (
       at 1 1 1 block_mapping_start ∷ at 0 1 0 key ∷ word "" "k" 0 1 0 ∷
@@ -115,16 +108,14 @@ record Rows : Type 0 where
       at 11 3 3 block_mapping_start ∷ at 10 3 2 key ∷ word "\n  " "a" 10 3 2 ∷
       piece "" ":" 11 3 3 value ∷
       word " " "b" 13 3 5 ∷
-      at 15 4 0 block_end ∷ at 15 4 0 block_end ∷
-      []) "\n" (position 15 4 0)
+      at 15 4 0 block_end ∷ at 15 4 0 block_end ∷ []) "\n" (position 15 4 0)
   -- entries of a flow sequence
   flow_sequence : Reads "[a, b]" (
       piece "" "[" 0 1 0 flow_sequence_start ∷
       word "" "a" 1 1 1 ∷
       piece "" "," 2 1 2 flow_entry ∷
       word " " "b" 4 1 4 ∷
-      piece "" "]" 5 1 5 flow_sequence_end ∷
-      []) "" (position 6 2 0)
+      piece "" "]" 5 1 5 flow_sequence_end ∷ []) "" (position 6 2 0)
   -- an implicit key in a flow mapping has no start
   flow_mapping : Reads "{a: b, c}" (
       piece "" "{" 0 1 0 flow_mapping_start ∷
@@ -133,16 +124,14 @@ record Rows : Type 0 where
       word " " "b" 4 1 4 ∷
       piece "" "," 5 1 5 flow_entry ∷
       word " " "c" 7 1 7 ∷
-      piece "" "}" 8 1 8 flow_mapping_end ∷
-      []) "" (position 9 2 0)
+      piece "" "}" 8 1 8 flow_mapping_end ∷ []) "" (position 9 2 0)
   -- a single pair: its start has the position after its colon
   single_pair : Reads "[a: b]" (
       piece "" "[" 0 1 0 flow_sequence_start ∷
       at 3 1 3 flow_mapping_start ∷ at 1 1 1 key ∷ word "" "a" 1 1 1 ∷
       piece "" ":" 2 1 2 value ∷
       word " " "b" 4 1 4 ∷
-      at 5 1 5 flow_mapping_end ∷ piece "" "]" 5 1 5 flow_sequence_end ∷
-      []) "" (position 6 2 0)
+      at 5 1 5 flow_mapping_end ∷ piece "" "]" 5 1 5 flow_sequence_end ∷ []) "" (position 6 2 0)
   -- a single pair with an empty key starts at its colon
   single_pair_empty : Reads "[: a, b]" (
       piece "" "[" 0 1 0 flow_sequence_start ∷
@@ -150,8 +139,7 @@ record Rows : Type 0 where
       word " " "a" 3 1 3 ∷
       at 4 1 4 flow_mapping_end ∷ piece "" "," 4 1 4 flow_entry ∷
       word " " "b" 6 1 6 ∷
-      piece "" "]" 7 1 7 flow_sequence_end ∷
-      []) "" (position 8 2 0)
+      piece "" "]" 7 1 7 flow_sequence_end ∷ []) "" (position 8 2 0)
   -- a pair after `?` has no start
   asked_pair : Reads "[? a : b]" (
       piece "" "[" 0 1 0 flow_sequence_start ∷
@@ -159,16 +147,14 @@ record Rows : Type 0 where
       word " " "a" 3 1 3 ∷
       piece " " ":" 5 1 5 value ∷
       word " " "b" 7 1 7 ∷
-      piece "" "]" 8 1 8 flow_sequence_end ∷
-      []) "" (position 9 2 0)
+      piece "" "]" 8 1 8 flow_sequence_end ∷ []) "" (position 9 2 0)
   -- a colon next to a quoted key
   adjacent : Reads "{\"a\":b}" (
       piece "" "{" 0 1 0 flow_mapping_start ∷
       at 1 1 1 key ∷ piece "" "\"a\"" 1 1 1 (scalar double_quoted (codes "a")) ∷
       piece "" ":" 4 1 4 value ∷
       word "" "b" 5 1 5 ∷
-      piece "" "}" 6 1 6 flow_mapping_end ∷
-      []) "" (position 7 2 0)
+      piece "" "}" 6 1 6 flow_mapping_end ∷ []) "" (position 7 2 0)
   -- a colon next to a flow collection
   adjacent_collection : Reads "[[a]:b]" (
       piece "" "[" 0 1 0 flow_sequence_start ∷
@@ -177,8 +163,7 @@ record Rows : Type 0 where
       piece "" "]" 3 1 3 flow_sequence_end ∷
       piece "" ":" 4 1 4 value ∷
       word "" "b" 5 1 5 ∷
-      at 6 1 6 flow_mapping_end ∷ piece "" "]" 6 1 6 flow_sequence_end ∷
-      []) "" (position 7 2 0)
+      at 6 1 6 flow_mapping_end ∷ piece "" "]" 6 1 6 flow_sequence_end ∷ []) "" (position 7 2 0)
 
 rows : Rows
 unfolding cut_on_literals

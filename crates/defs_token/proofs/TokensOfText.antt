@@ -1,4 +1,4 @@
--- What a row states of a text that is written out: its tokens, as a cut and as a row of steps.
+-- What the rows state of texts that are written out: their tokens are a cut, and those of a row of steps.
 use Prim.Native.String.{String}
 use Rattle.std.proofs.Common.{is_some}
 use Rattle.defs_text.specs.Text.{is_empty}
