@@ -20,10 +20,9 @@ abbrev Whole : {Fault : Type 0} → Loaded Fault → List (Ev × Position) → T
 Whole l es = l ≡ record { pushed = es; ending = well; taken = length es }
 
 pushed_too : {Fault : Type 0} (l : Loaded Fault) (e : Ev) (p : Position) (es : List (Ev × Position)) → Whole l es → Whole (push e p l) ((e, p) ∷ es)
-pushed_too l e p es h = ap (push e p) h ∙ ap (λ n. record { pushed = (e, p) ∷ es; ending = well; taken = n }) (one_more (length es))
-  where
-    one_more : (n : ℕ) → n + 1 ≡ suc n
-    one_more n = omega arith
+pushed_too l e p es h =
+    let one_more : length es + 1 ≡ suc (length es) = omega arith in
+    ap (push e p) h ∙ ap (λ n. record { pushed = (e, p) ∷ es; ending = well; taken = n }) one_more
 
 abbrev AllPushed : (Fault : Type 0) → Standing → List Ev → Type 0
 AllPushed Fault s es = (at : ℕ → Position) → Whole (load_from s true (given Fault (placed at es))) (placed at es)

@@ -1,6 +1,6 @@
 -- The words of other crates and of specs/ that the proofs here use, passed on from one place. Declares nothing.
-pub use Rattle.std.proofs.Common.{[], ap, arith, Bool, cond, false, length, List, nat_eq, Option, refl, Some, subst, subst₂, suc, sym, true, zero, ◌++◌, ◌+◌, ◌↔◌, ◌∙◌, ◌∷◌, ◌≡◌}
-pub use Rattle.std.specs.Prelude.{All, bytes_eq, codes, drop, Err, if◌then◌else◌, is_some, IsTrue, map, negsuc, None, Ok, option_map, pos, unwrap_or, ℕ, ℤ, ◌||◌}
+pub use Rattle.std.proofs.Common.{[], ap, arith, Bool, false, length, List, nat_eq, Option, refl, Some, subst, subst₂, suc, sym, true, zero, ◌++◌, ◌+◌, ◌↔◌, ◌∙◌, ◌∷◌, ◌≡◌}
+pub use Rattle.std.specs.Prelude.{All, bytes_eq, codes, drop, Err, if◌then◌else◌, IsTrue, map, negsuc, None, Ok, option_map, pos, unwrap_or, ℕ, ℤ, ◌||◌}
 pub use Rattle.defs_event.specs.Anchors.{aliased, Anchors, finished}
 pub use Rattle.defs_event.specs.Event.{Ev, Tag}
 pub use Rattle.defs_event.specs.Grammar.{after_anchor, after_brace, after_comma, after_tag, block_mapping_entries, block_mapping_value, block_sequence_entries, cases, content, directives, document_end, documents, explicit_document, flow_mapping_comma, flow_mapping_entries, flow_mapping_value, flow_mapping_valued, flow_sequence_comma, flow_sequence_entries, flow_value, Goal, grammar, Held, in_block, in_flow, in_pair, indentless_sequence_entries, key, no_flow_mapping_value, node, nothing_held, Place, Side, then_in, value}
@@ -20,8 +20,7 @@ pub use Rattle.defs_token.specs.Token.{Style, Tok}
 pub use Rattle.defs_tree.proofs.TypingLaws.{OfSome, signed_number-fits, typing_plain}
 pub use Rattle.defs_tree.specs.Grammar.{is_among}
 pub use Rattle.defs_tree.specs.Laws.{MayStandFor}
-pub use Rattle.defs_tree.specs.Order.{tree_eq}
-pub use Rattle.defs_tree.specs.Pairs.{AreDistinct, has_key, insert, lookup, without}
+pub use Rattle.defs_tree.specs.Pairs.{AreDistinct, has_key, insert, without}
 pub use Rattle.defs_tree.specs.Tree.{alias, array, bad_value, boolean, hash, integer, item, Items, items_of, no_items, no_pairs, null, pair, pair_list_of, Pairs, pairs_of, real, string, Tree}
 pub use Rattle.defs_tree.specs.Typing.{false_words, fits_i64, is_real_text, signed_decimal, true_words}
 unfoldable pub use Rattle.defs_tree.specs.Typing.{is_decimal, typing}

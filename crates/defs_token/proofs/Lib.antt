@@ -3,16 +3,17 @@ mod Limits
 mod LongDirective
 mod MoreNoRows
 mod MoreRows
+mod NoCut
 mod NoRows
-mod RowLimits
 mod WrongPair
 mod WrongStart
 pub mod Append
 pub mod CutRows
+pub mod Decide
 pub mod Inserted
-pub mod InsertedPair
 pub mod MoreRowSteps
 pub mod OnLiterals
+pub mod TokensOfText
 pub mod RowShown
 pub mod Rows
 pub mod Shown

@@ -1,5 +1,5 @@
 -- Lemmas about the scan of a block scalar.
-use Rattle.model_scanner.proofs.Common.{[], At, begins, begun, Bool, chomping, ends_indent, Err, false, First, first_indent, header_break, increment, indent_from, is_break, is_digit, line, linebreak, Lines, lines_from, List, Margin, margin, max, nat_lt, no_tab, not, Ok, past, Position, refl, slice_index, true, ℕ, ◌&&◌, ◌==◌, ◌∷◌, ◌≡◌, ◌≢◌}
+use Rattle.model_scanner.proofs.Common.{[], arith, At, begins, begun, Bool, chomping, ends_indent, Err, false, First, first_indent, header_break, increment, indent_from, is_break, is_digit, line, linebreak, Lines, lines_from, List, Margin, margin, max, nat_lt, nat_tests, no_tab, Ok, past, Position, refl, slice_index, true, ℕ, ◌&&◌, ◌==◌, ◌∷◌, ◌≡◌, ◌≢◌}
 use Rattle.yaml_tokens.specs.declared.problem.Problem.TheVariants as problem
 use Rattle.yaml_tokens.specs.declared.token.Chomping.TheVariants.{Clip}
 use Rattle.model_scanner.specs.BlockScalar.{with_char}
@@ -15,14 +15,9 @@ unfolding increment
 no_increment start c [] p e h = refl
 no_increment start c (d ∷ a) p e h = let g : is_digit d ≡ false = rw e at h in rw g refl
 
-no_break_here : (c : ℕ) (a : List ℕ) → c ≡ slice_index a 0 → is_break c ≡ true → a ≢ []
-unfolding is_break
-no_break_here c [] e h = let z : is_break 0 ≡ true = rw e at h in cc
-no_break_here c (d ∷ a) e h = λ n. cc
-
 pub break_stands : (start : Position) (c : ℕ) (a : List ℕ) (p : Position) → c ≡ slice_index a 0 → is_break c ≡ true → header_break start a p ≡ no_tab start (linebreak a p)
-unfolding header_break
-break_stands start c [] p e h = absurd (no_break_here c [] e h refl)
+unfolding header_break is_break
+break_stands start c [] p e h = grind (arith, nat_tests)
 break_stands start c (d ∷ a) p e h = let g : is_break d ≡ true = rw e at h in rw g refl
 
 pub header_fails : (start : Position) (c : ℕ) (a : List ℕ) (p : Position) → c ≡ slice_index a 0 → c ≢ 0 → is_break c ≡ false → header_break start a p ≡ Err (At problem.BlockScalarHeader start)
@@ -30,15 +25,10 @@ unfolding header_break
 header_fails start c [] p e some h = absurd (some e)
 header_fails start c (d ∷ a) p e some h = let g : is_break d ≡ false = rw e at h in rw g refl
 
-both_not : (b c : Bool) → (not b && not c) ≡ true → (b ≡ false) × (c ≡ false)
-both_not true c h = cc
-both_not false true h = cc
-both_not false false h = (refl, refl)
-
 -- neither indentation nor a break stands here
 at_other : (column col c : ℕ) (a : List ℕ) → ends_indent column col (c ∷ a) ≡ true → (is_break c ≡ false) × (((c == 32) && nat_lt col column) ≡ false)
 unfolding ends_indent
-at_other column col c a h = both_not _ _ h
+at_other column col c a h = (grind arith, grind arith)
 
 pub stop_lines : (literal : Bool) (column : ℕ) (a : List ℕ) (p : Position) (l : Lines) → ends_indent column p.col a ≡ true → begins column p.col a ≡ false
     → lines_from literal column a (record { mode = margin; position = p; lines = l }) ≡ Ok (record { rest = a; position = p; value = l })

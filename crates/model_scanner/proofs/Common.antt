@@ -1,6 +1,5 @@
 -- The words of other crates and of specs/ that the proofs here use, passed on from one place. Declares nothing.
-pub use Rattle.std.proofs.Common.{[], add-one, ap, append_assoc, arith, Bool, drop, Err, false, if◌then◌else◌, inl, inr, length, length-append, List, lit<, map, max, nat_lt, None, not, Ok, Option, refl, Result, slice_index, Some, subst, suc, sym, true, zero, ℕ, ◌&&◌, ◌*◌, ◌++◌, ◌+◌, ◌-◌, ◌<◌, ◌==◌, ◌^◌, ◌||◌, ◌∙◌, ◌∷◌, ◌≡◌, ◌≢◌, ◌≤◌, ◌⊎◌}
-pub use Rattle.std.proofs.lemmas.Bool.{cases_Bool, eqb-true}
+pub use Rattle.std.proofs.Common.{[], ap, append_assoc, arith, Bool, drop, Err, false, if◌then◌else◌, inl, inr, length, length-append, List, lit<, map, max, nat_lt, None, not, Ok, Option, refl, Result, slice_index, Some, subst, suc, sym, true, zero, ℕ, ◌&&◌, ◌*◌, ◌++◌, ◌+◌, ◌-◌, ◌<◌, ◌==◌, ◌^◌, ◌||◌, ◌∙◌, ◌∷◌, ◌≡◌, ◌≢◌, ◌≤◌, ◌⊎◌}
 pub use Rattle.std.proofs.lemmas.Bool.Decides.{nat_tests}
 pub use Rattle.std.specs.Char.{digit_value}
 pub use Rattle.std.specs.List.{insert}
@@ -10,7 +9,7 @@ pub use Rattle.defs_token.specs.Token.{Style, Tok, Token}
 unfoldable pub use Rattle.model_scanner.specs.Anchor.{anchor_name}
 pub use Rattle.model_scanner.specs.Blanks.{are_skipped, blanks, comment, comment_after, linebreak, space_from}
 unfoldable pub use Rattle.model_scanner.specs.Blanks.{space}
-pub use Rattle.model_scanner.specs.Block.{begin_keyless_pair, opens_pair, paired, value_of}
+pub use Rattle.model_scanner.specs.Block.{opens_pair, paired, value_of}
 unfoldable pub use Rattle.model_scanner.specs.Block.{begin_key, begin_keyless_mapping, begin_keyless_value, begin_pair, check_after_tab, check_block_entry, check_dash, check_key_space, check_value_space, fetch_block_entry, fetch_key, fetch_value, insert_key, roll_entry}
 pub use Rattle.model_scanner.specs.BlockScalar.{begun, First, first_indent, indent_from, line, Lines, lines_from, Margin, margin, no_tab}
 unfoldable pub use Rattle.model_scanner.specs.BlockScalar.{begins, between, block, chomping, content, empty_text, ends_indent, header, header_break, header_end, increment, indicators, tail}
@@ -29,11 +28,11 @@ unfoldable pub use Rattle.model_scanner.specs.Indents.{deepen, drop_open_level, 
 pub use Rattle.model_scanner.specs.Keys.{cleared, still, top_key, with_keys}
 unfoldable pub use Rattle.model_scanner.specs.Keys.{drop_stale, is_far, must_be_key, remove_implicit_key, save_implicit_key, stale}
 pub use Rattle.model_scanner.specs.Kinds.{anchor_token, are_single, flow_end, flow_start, is_literal}
-pub use Rattle.model_scanner.specs.Machine.{and_then, ends_while, is_cr_lf, past, Read, skip_while, Stop, take_while, turned}
+pub use Rattle.model_scanner.specs.Machine.{and_then, ends_while, is_cr_lf, past, Read, skip_while, take_while}
 unfoldable pub use Rattle.model_scanner.specs.Machine.{at_marker, is_marker}
 pub use Rattle.model_scanner.specs.Plain.{ends_gap, ends_run, ends_tabs, first, inside, plain_from, tabs}
 unfoldable pub use Rattle.model_scanner.specs.Plain.{at_dash, at_plain, can_be_plain, goes_on, is_shallow, plain, starts}
-pub use Rattle.model_scanner.specs.Quoted.{after, closed, digits, digits_from, gap, named, quote_of, quoted_from}
+pub use Rattle.model_scanner.specs.Quoted.{after, closed, digits_from, gap, named, quote_of, quoted_from}
 unfoldable pub use Rattle.model_scanner.specs.Quoted.{escape_of, is_scalar, quoted}
 pub use Rattle.model_scanner.specs.Run.{HasTokens, here, IsRefused, Reaches, scan, start, there}
 pub use Rattle.model_scanner.specs.Space.{at_break, Gap, in_line, tab_line, white_end}

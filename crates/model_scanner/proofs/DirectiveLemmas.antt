@@ -1,6 +1,6 @@
 -- Lemmas about the scan of a directive.
 use Rattle.std.proofs.Math.Nat.{pow-le-pow_right}
-use Rattle.model_scanner.proofs.Common.{[], arith, At, Digits, digits_end, directive_break, Err, false, is_break, is_digit, linebreak, List, lit<, number_from, Ok, Position, refl, slice_index, true, ℕ, ◌<◌, ◌^◌, ◌∷◌, ◌≡◌, ◌≢◌, ◌≤◌}
+use Rattle.model_scanner.proofs.Common.{[], arith, At, Digits, digits_end, directive_break, Err, false, is_break, is_digit, linebreak, List, lit<, nat_tests, number_from, Ok, Position, refl, slice_index, true, ℕ, ◌<◌, ◌^◌, ◌∷◌, ◌≡◌, ◌≢◌, ◌≤◌}
 use Rattle.yaml_tokens.specs.declared.problem.Problem.TheVariants as problem
 
 -- at most eight digits are a small number
@@ -24,14 +24,9 @@ pub too_long : (start : Position) (c : ℕ) (a : List ℕ) (s : Digits) → c �
 too_long start c [] s e some h nine = absurd (some e)
 too_long start c (d ∷ a) s e some h nine = let g : is_digit d ≡ true = rw e at h in rw (g, nine) refl
 
-no_break_here : (c : ℕ) (a : List ℕ) → c ≡ slice_index a 0 → is_break c ≡ true → a ≢ []
-unfolding is_break
-no_break_here c [] e h = let z : is_break 0 ≡ true = rw e at h in cc
-no_break_here c (d ∷ a) e h = λ n. cc
-
 pub break_stands : (start : Position) (c : ℕ) (a : List ℕ) (p : Position) → c ≡ slice_index a 0 → is_break c ≡ true → directive_break start a p ≡ Ok (linebreak a p)
-unfolding directive_break
-break_stands start c [] p e h = absurd (no_break_here c [] e h refl)
+unfolding directive_break is_break
+break_stands start c [] p e h = grind (arith, nat_tests)
 break_stands start c (d ∷ a) p e h = let g : is_break d ≡ true = rw e at h in rw g refl
 
 pub break_fails : (start : Position) (c : ℕ) (a : List ℕ) (p : Position) → c ≡ slice_index a 0 → c ≢ 0 → is_break c ≡ false → directive_break start a p ≡ Err (At problem.DirectiveEnd start)

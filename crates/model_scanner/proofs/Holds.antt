@@ -1,5 +1,5 @@
 -- What holds of what a step leaves, unless it refuses: rules for the forms that the model's functions are made of.
-use Rattle.model_scanner.proofs.Common.{ap, Bool, Err, false, Fault, go_on, Held, if◌then◌else◌, lexed, Ok, Read, refl, Result, ScannerState, subst, true, with_held, ◌>>=◌, ◌≡◌}
+use Rattle.model_scanner.proofs.Common.{Bool, Err, false, Fault, go_on, Held, if◌then◌else◌, lexed, Ok, Read, refl, Result, ScannerState, subst, true, with_held, ◌>>=◌, ◌≡◌}
 
 -- P holds of what is left, unless it is a fault
 pub data Holds {A : Type 0} (P : A → Type 0) : Result A Fault → Type 0 where
@@ -7,15 +7,8 @@ pub data Holds {A : Type 0} (P : A → Type 0) : Result A Fault → Type 0 where
   refused : {f : Fault} → Holds P (Err f)
 
 pub held_of : {A : Type 0} {P : A → Type 0} {r : Result A Fault} (x : A) → Holds P r → r ≡ Ok x → P x
-held_of {P = P} x (went {x = y} p) e = subst P (same y x e) p
-  where
-    value_or : {B : Type 0} → B → Result B Fault → B
-    value_or z (Ok w) = w
-    value_or z (Err f) = z
-
-    same : {B : Type 0} (y x : B) → ◌≡◌ {A = Result B Fault} (Ok y) (Ok x) → y ≡ x
-    same y x e = ap (value_or y) e
-held_of x refused e = absurd (cc)
+held_of {P = P} x (went {x = y} p) e = let same : y ≡ x = cc e in subst P same p
+held_of x refused e = absurd cc
 
 pub chained : {A B : Type 0} {P : A → Type 0} {Q : B → Type 0} {r : Result A Fault} {k : A → Result B Fault} → Holds P r → ((x : A) → P x → Holds Q (k x)) → Holds Q (r >>= k)
 chained (went p) f = f _ p

@@ -1,5 +1,5 @@
 -- Lemmas about the scan of a quoted scalar.
-use Rattle.model_scanner.proofs.Common.{[], after, ap, arith, At, at_marker, Bool, cases_Bool, closed, Context, digit_value, digits, digits_from, eqb-true, Err, escape_of, false, Fault, Folded, gap, inl, inr, is_blank, is_break, is_hex, is_scalar, joined, List, named, nat_lt, nat_tests, not, nothing, Ok, past, Position, quote_of, quoted, quoted_from, refl, slice_index, suc, sym, true, with_blank, with_char, zero, ℕ, ◌&&◌, ◌*◌, ◌+◌, ◌<◌, ◌==◌, ◌||◌, ◌∙◌, ◌∷◌, ◌≡◌, ◌≢◌, ◌≤◌}
+use Rattle.model_scanner.proofs.Common.{[], after, arith, At, at_marker, Bool, closed, Context, digit_value, digits_from, Err, escape_of, false, Fault, Folded, gap, is_blank, is_break, is_hex, is_scalar, joined, List, named, nat_lt, nat_tests, nothing, Ok, past, Position, quote_of, quoted, quoted_from, refl, slice_index, suc, true, with_blank, with_char, zero, ℕ, ◌*◌, ◌+◌, ◌<◌, ◌==◌, ◌||◌, ◌∷◌, ◌≡◌, ◌≢◌, ◌≤◌}
 use Rattle.yaml_tokens.specs.declared.problem.Problem.TheVariants as problem
 use Rattle.model_scanner.specs.Quoted.{refused, first, inside, count_of}
 use Rattle.model_scanner.specs.declared.kind.Digits.{Digits}
@@ -50,12 +50,7 @@ module _ (single : Bool) (ctx : Context) (start : Position) where
 
   pub digit_turn : (more value c : ℕ) (a b : List ℕ) (p : Position) (t : Folded) → is_hex c ≡ true → a ≡ c ∷ b
       → digits_from single ctx start (suc more) value a p t ≡ digits_from single ctx start more (value * 16 + digit_value c) b (past p) t
-  digit_turn zero value c a b p t h e = ap (λ x. digits_from single ctx start (suc zero) value x p t) e ∙ last (is_scalar (value * 16 + digit_value c)) refl
-    where
-      last : (ok : Bool) → is_scalar (value * 16 + digit_value c) ≡ ok
-          → quoted_from single ctx start (c ∷ b) (record { mode = digits zero value; position = p; folded = t }) ≡ digits_from single ctx start zero (value * 16 + digit_value c) b (past p) t
-      last true ok = rw (h, ok) refl
-      last false ok = rw (h, ok) refl
+  digit_turn zero value c a b p t h e = grind arith
   digit_turn (suc more) value c a b p t h e = rw (e, h) refl
 
   pub digit_fails : (more value c : ℕ) (a : List ℕ) (p : Position) (t : Folded) → is_hex c ≡ false → c ≡ slice_index a 0
@@ -77,27 +72,11 @@ pub closed_end : (single : Bool) (ctx : Context) (start : Position) (a : List �
 closed_end single ctx start [] p t = refl
 closed_end single ctx start (c ∷ a) p t = refl
 
-quote_no_blank : (single : Bool) → (is_break (quote_of single) || is_blank (quote_of single)) ≡ false
-unfolding is_break is_blank
-quote_no_blank true = refl
-quote_no_blank false = refl
-
-quote_no_backslash : (single : Bool) → ((quote_of single == 92) && not single) ≡ false
-quote_no_backslash true = refl
-quote_no_backslash false = refl
-
-quote_self : (single : Bool) → (quote_of single == quote_of single) ≡ true
-quote_self true = refl
-quote_self false = refl
-
-after_quote_at : (single : Bool) (ctx : Context) (start : Position) (d : ℕ) (a : List ℕ) (p : Position) (t : Folded) → d ≡ quote_of single
-    → quoted_from single ctx start (d ∷ a) (record { mode = after; position = p; folded = t }) ≡ quoted_from single ctx start (d ∷ a) (record { mode = inside; position = p; folded = t })
-after_quote_at single ctx start d a p t h = rw (h, quote_no_blank single, quote_no_backslash single, quote_self single) refl
-
 pub after_quote : (single : Bool) (ctx : Context) (start : Position) (c : ℕ) (a : List ℕ) (p : Position) (t : Folded) → c ≡ slice_index a 0 → c ≡ quote_of single
     → quoted_from single ctx start a (record { mode = after; position = p; folded = t }) ≡ quoted_from single ctx start a (record { mode = inside; position = p; folded = t })
+unfolding is_break is_blank
 after_quote single ctx start c [] p t e h = refl
-after_quote single ctx start c (d ∷ a) p t e h = after_quote_at single ctx start d a p t (sym e ∙ h)
+after_quote single ctx start c (d ∷ a) p t e h = grind (arith, nat_tests)
 
 pub quoted_starts : (single : Bool) (ctx : Context) (a b : List ℕ) (p : Position) → a ≡ slice_index a 0 ∷ b
     → quoted single ctx a p ≡ quoted_from single ctx p b (record { mode = first; position = past p; folded = nothing })
@@ -114,28 +93,22 @@ in_line_goes_on ctx start a p right deep =
 
 pub blank_no_break : (c : ℕ) → is_blank c ≡ true → is_break c ≡ false
 unfolding is_blank is_break
-blank_no_break c h = elim (cases_Bool (c == 32)) [
-  | inl space ↦ let e : c ≡ 32 = eqb-true c 32 space in rw e refl
-  | inr other ↦ let e : c ≡ 9 = eqb-true c 9 (rw other at h) in rw e refl
-]
-
-blank_turn : (single : Bool) (ctx : Context) (start : Position) (c : ℕ) (a : List ℕ) (p : Position) (t : Folded) → is_blank c ≡ true → t.leading ≡ false
-    → quoted_from single ctx start (c ∷ a) (record { mode = inside; position = p; folded = t }) ≡ quoted_from single ctx start a (record { mode = gap; position = past p; folded = with_blank c t })
-blank_turn single ctx start c a p t blank leading = rw (blank_no_break c blank, blank, leading) refl
+blank_no_break c h = grind (arith, nat_tests)
 
 -- a blank that stands alone between two characters of a line belongs to the text as it stands
 pub lone_blank : (single : Bool) (ctx : Context) (start : Position) (c d : ℕ) (a b : List ℕ) (p : Position) (t : Folded)
     → a ≡ c ∷ b → d ≡ slice_index b 0 → is_blank c ≡ true → (is_break d || is_blank d) ≡ false → t.gap ≡ [] → t.leading ≡ false → t.escaped ≡ false → refused ctx start b (past p) ≡ Ok tt
     → quoted_from single ctx start a (record { mode = inside; position = p; folded = t }) ≡ quoted_from single ctx start b (record { mode = inside; position = past p; folded = with_char c t })
 lone_blank single ctx start c d a b p t e next blank other none leading escaped goes =
-    ap (λ x. quoted_from single ctx start x (record { mode = inside; position = p; folded = t })) e
-    ∙ blank_turn single ctx start c b p t blank leading
-    ∙ gap_line single ctx start d b (past p) (with_blank c t) next other
-    ∙ line_inside single ctx start b (past p) (with_blank c t) goes
-    ∙ ap (λ x. quoted_from single ctx start b (record { mode = inside; position = past p; folded = x })) same
-  where
-    same : joined (with_blank c t) ≡ with_char c t
-    same = rw (none, leading, escaped) refl
+    let same : joined (with_blank c t) ≡ with_char c t = rw (none, leading, escaped) refl in
+    grind (
+      arith,
+      e,
+      blank_no_break c blank,
+      gap_line single ctx start d b (past p) (with_blank c t) next other,
+      line_inside single ctx start b (past p) (with_blank c t) goes,
+      same,
+    )
 
 -- the closing quote
 pub closing : (ctx : Context) (start : Position) (a b : List ℕ) (p : Position) (t : Folded) → a ≡ 34 ∷ b

@@ -4,3 +4,4 @@ pub mod Lines
 pub mod Properties
 pub mod Refused
 pub mod Scalars
+pub mod Words

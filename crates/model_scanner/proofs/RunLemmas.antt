@@ -1,5 +1,5 @@
 -- A run of ordinary characters of one line belongs to a scalar's text as it stands.
-use Rattle.model_scanner.proofs.Common.{[], ap, Bool, Context, false, is_blank, is_break, is_breakz, is_flow, List, past, Position, Ran, ran, refl, slice_index, stops, true, ℕ, ◌&&◌, ◌++◌, ◌==◌, ◌||◌, ◌∙◌, ◌∷◌, ◌≡◌}
+use Rattle.model_scanner.proofs.Common.{[], ap, arith, Bool, Context, false, is_blank, is_break, is_breakz, List, past, Position, Ran, ran, refl, stops, true, ℕ, ◌++◌, ◌||◌, ◌∷◌, ◌≡◌}
 use Rattle.yaml_chars.specs.declared.run.Run.{Run}
 use Rattle.yaml_chars.specs.declared.run.Run.TheVariants as kind
 use Rattle.model_scanner.specs.Folding as folding
@@ -7,19 +7,11 @@ use Rattle.model_scanner.specs.Plain as plain
 use Rattle.model_scanner.specs.Quoted as quoted
 use Rattle.model_scanner.specs.BlockScalar as block
 
-first_of : (b c : Bool) → (b || c) ≡ false → b ≡ false
-first_of true c h = h
-first_of false c h = refl
-
-second_of : (b c : Bool) → (b || c) ≡ false → c ≡ false
-second_of true c h = cc
-second_of false c h = h
-
 pub no_break : (c : ℕ) → is_breakz c ≡ false → is_break c ≡ false
-no_break c h = first_of (is_break c) _ h
+no_break c h = grind arith
 
 pub no_gap : (c : ℕ) → (is_blank c || is_breakz c) ≡ false → (is_break c || is_blank c) ≡ false
-no_gap c h = let b = first_of (is_blank c) _ h in let d = no_break c (second_of (is_blank c) _ h) in rw (d, b) refl
+no_gap c h = grind arith
 
 -- of a line of a block scalar
 pub block_run : (literal : Bool) (column c : ℕ) (a : List ℕ) (p : Position) (t : block.Lines) → stops kind.Line c ≡ false
@@ -33,38 +25,21 @@ pub quoted_run : (single : Bool) (ctx : Context) (start : Position) (c : ℕ) (a
     → quoted.quoted_from single ctx start (c ∷ a) (record { mode = quoted.inside; position = p; folded = t })
     ≡ quoted.quoted_from single ctx start a (record { mode = quoted.inside; position = past p; folded = folding.with_char c t })
 unfolding stops
-quoted_run single ctx start c a p t h =
-    let front = first_of _ (c == 92) h in
-    let gap = no_gap c (first_of _ (c == quoted.quote_of single) front) in
-    let quote = second_of _ (c == quoted.quote_of single) front in
-    let slash = second_of _ (c == 92) h in
-    rw (gap, quote, slash) (elim single [ true ↦ refl | false ↦ refl ])
-
-plain_char : (flow : Bool) (c d : ℕ) → (c == 58) ≡ false → (flow && is_flow c) ≡ false → plain.can_be_plain flow c d ≡ true
-unfolding plain.can_be_plain
-plain_char flow c d colon indicator = rw (colon, indicator) refl
+quoted_run single ctx start c a p t h = grind arith
 
 -- of a plain scalar
 pub plain_run : (ctx : Context) (start : Position) (c : ℕ) (a : List ℕ) (p : Position) (t : folding.Folded) → stops (kind.Plain ctx.flow) c ≡ false
     → plain.plain_from ctx start (c ∷ a) (record { mode = plain.inside; position = p; folded = t })
     ≡ plain.plain_from ctx start a (record { mode = plain.inside; position = past p; folded = folding.with_char c t })
-unfolding stops
-plain_run ctx start c a p t h =
-    let front = first_of _ (ctx.flow && is_flow c) h in
-    let gap = no_gap c (first_of _ (c == 58) front) in
-    let goes = plain_char ctx.flow c (slice_index a 0) (second_of _ (c == 58) front) (second_of _ (ctx.flow && is_flow c) h) in
-    rw (gap, goes) refl
+unfolding stops plain.can_be_plain
+plain_run ctx start c a p t h = grind arith
 
 -- what takes a run's characters one by one takes the whole run
 pub through_run : {A : Type 0} (run : Run) (f : List ℕ → Position → List ℕ → A)
     → ((c : ℕ) (a : List ℕ) (p : Position) (t : List ℕ) → stops run c ≡ false → f (c ∷ a) p t ≡ f a (past p) (t ++ c ∷ []))
     → (a b : List ℕ) (p q : Position) (t u : List ℕ) → ran run a p t ≡ record { rest = b; position = q; text = u } → f a p t ≡ f b q u
 through_run run f step [] b p q t u h = ap (λ (r : Ran). f r.rest r.position r.text) h
-through_run run f step (c ∷ a) b p q t u h = turn (stops run c) refl (through_run run f step a b (past p) q (t ++ c ∷ []) u)
-  where
-    turn : (ends : Bool) → stops run c ≡ ends → (ran run a (past p) (t ++ c ∷ []) ≡ record { rest = b; position = q; text = u } → f a (past p) (t ++ c ∷ []) ≡ f b q u) → f (c ∷ a) p t ≡ f b q u
-    turn true e more = let here : record { rest = c ∷ a; position = p; text = t } ≡ record { rest = b; position = q; text = u } = rw e at h in ap (λ (r : Ran). f r.rest r.position r.text) here
-    turn false e more = step c a p t e ∙ more (rw e at h)
+through_run run f step (c ∷ a) b p q t u h = grind (arith, step c a p t, through_run run f step a b (past p) q (t ++ c ∷ []) u)
 
 pub block_ran : (literal : Bool) (column : ℕ) (a b : List ℕ) (p q : Position) (l : block.Lines) (u : List ℕ) → ran kind.Line a p l.text ≡ record { rest = b; position = q; text = u }
     → block.lines_from literal column a (record { mode = block.line; position = p; lines = l })

@@ -1,19 +1,15 @@
 -- Lemmas about spaces and runs of characters.
-use Rattle.model_scanner.proofs.Common.{[], are_skipped, Bool, comment, comment_after, ends_while, eqb-true, false, is_break, Line, List, not, Ok, past, Position, refl, skip_while, SkipTabs, slice_index, space_from, stops, sym, take_while, true, Whitespace, ℕ, ◌&&◌, ◌==◌, ◌∙◌, ◌∷◌, ◌≡◌}
+use Rattle.model_scanner.proofs.Common.{[], are_skipped, arith, Bool, comment, comment_after, ends_while, false, Line, List, nat_tests, Ok, past, Position, refl, skip_while, SkipTabs, slice_index, space_from, stops, sym, take_while, true, Whitespace, ℕ, ◌&&◌, ◌==◌, ◌∷◌, ◌≡◌}
 use Rattle.model_scanner.proofs.RunLemmas.{no_break}
-
-is_false : (b : Bool) → not b ≡ true → b ≡ false
-is_false true h = sym h
-is_false false h = refl
 
 -- where no character of the kind stands
 pub skip_end : (test : ℕ → Bool) (a : List ℕ) (p : Position) → ends_while test a ≡ true → skip_while test a p ≡ record { rest = a; position = p; value = tt }
 skip_end test [] p h = refl
-skip_end test (c ∷ a) p h = rw (is_false _ h) refl
+skip_end test (c ∷ a) p h = grind arith
 
 pub take_end : (test : ℕ → Bool) (a : List ℕ) (p : Position) (t : List ℕ) → ends_while test a ≡ true → take_while test a p t ≡ record { rest = a; position = p; value = t }
 take_end test [] p t h = refl
-take_end test (c ∷ a) p t h = rw (is_false _ h) refl
+take_end test (c ∷ a) p t h = grind arith
 
 -- a comment goes on with a character of its line, and ends where the line does
 pub comment_on : (c : ℕ) (a b : List ℕ) (p : Position) → a ≡ c ∷ b → stops Line c ≡ false → comment a p ≡ comment b (past p)
@@ -23,11 +19,7 @@ comment_on c a b p e goes = let line = no_break c goes in rw (e, line) refl
 pub comment_end : (c : ℕ) (a : List ℕ) (p : Position) → c ≡ slice_index a 0 → (c ≡ 0 → a ≡ []) → stops Line c ≡ true → comment a p ≡ record { rest = a; position = p; value = tt }
 unfolding stops
 comment_end c [] p e none ends = refl
-comment_end c (d ∷ a) p e none ends = by (is_break d) refl
-  where
-    by : (b : Bool) → is_break d ≡ b → comment (d ∷ a) p ≡ record { rest = d ∷ a; position = p; value = tt }
-    by true f = rw f refl
-    by false f = let nul : (d == 0) ≡ true = (rw (e, f) at ends) in let zero : c ≡ 0 = e ∙ eqb-true d 0 nul in let some = none zero in cc
+comment_end c (d ∷ a) p e none ends = grind (arith, nat_tests)
 
 -- where neither a space, nor a TAB to be skipped, nor a comment stands
 pub spaces_stop : (tabs : SkipTabs) (c : ℕ) (a : List ℕ) (p : Position) (w : Whitespace) → c ≡ slice_index a 0 → (c == 32) ≡ false → ((c == 9) && are_skipped tabs) ≡ false → (c == 35) ≡ false

@@ -1,7 +1,7 @@
 -- Lemmas about the scan of a URI's characters.
-use Rattle.model_scanner.proofs.Common.{[], and_then, At, Bool, digit_value, Err, false, Fault, is_hex, List, Ok, past, Position, refl, Result, slice_index, Stop, true, turned, ℕ, ◌*◌, ◌+◌, ◌==◌, ◌∷◌, ◌≡◌}
+use Rattle.model_scanner.proofs.Common.{[], arith, At, Bool, digit_value, Err, false, is_hex, List, Ok, past, Position, refl, slice_index, true, ℕ, ◌*◌, ◌+◌, ◌==◌, ◌∷◌, ◌≡◌}
 use Rattle.yaml_tokens.specs.declared.problem.Problem.TheVariants as problem
-use Rattle.model_scanner.specs.Uri.{Octet, lead, plain, percent, high, low, UriState, uri_from, octet_from, went_on, at_octet, ended}
+use Rattle.model_scanner.specs.Uri.{Octet, lead, plain, percent, high, low, uri_from, octet_from}
 
 module _ (test : ℕ → Bool) (start : Position) where
   -- where no character of the kind stands
@@ -26,14 +26,10 @@ module _ (test : ℕ → Bool) (start : Position) where
   low_fails o v c [] p t e h = refl
   low_fails o v c (d ∷ a) p t e h = let g : is_hex d ≡ false = rw e at h in rw g refl
 
-  goes_on : (r : Result UriState Fault) (a : List ℕ) (go : UriState → Result (Stop UriState) Fault) → ended start (turned (went_on r) a go) ≡ and_then r (λ s. ended start (go s))
-  goes_on (Ok s) a go = refl
-  goes_on (Err f) a go = refl
-
   -- after the last digit of an octet
   pub low_turn : (o : Octet) (v c : ℕ) (a b : List ℕ) (p : Position) (t : List ℕ) → is_hex c ≡ true → a ≡ c ∷ b
       → uri_from test start a (record { mode = low o v; position = p; text = t }) ≡ octet_from test start o (v * 16 + digit_value c) b (past p) t
-  low_turn o v c a b p t h e = rw (e, h) (goes_on (at_octet start o (v * 16 + digit_value c) (past p) t) (c ∷ b) _)
+  low_turn o v c a b p t h e = grind arith
 
   -- a `%` begins an octet
   pub percent_lead : (a : List ℕ) (p : Position) (t : List ℕ) → 37 ≡ slice_index a 0 → test 37 ≡ true

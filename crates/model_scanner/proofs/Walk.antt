@@ -1,5 +1,5 @@
 -- One walk over all functions of the model: a fetch keeps whatever each of its steps keeps.
-use Rattle.model_scanner.proofs.Common.{[], adjacent_in_flow, allow_key, anchor_name, are_single, At, at_break, begin_flow, begin_key, begin_keyless_mapping, begin_keyless_pair, begin_keyless_value, begin_line, begin_pair, begin_stream, block, BlockStyle, Bool, check_after_quoted, check_after_tab, check_block_entry, check_dash, check_document_end, check_key_space, check_value_space, class_of, cleared, closed_key, Collection, context, decrease_flow_level, deepen, deepened_flow, directive, drop_open, drop_open_level, drop_stale, end_entry, end_flow, end_flow_pair, end_level, end_pair, end_stream, ended_flow, Err, false, Fault, fetch, fetch_anchor, fetch_block_entry, fetch_block_scalar, fetch_content, fetch_directive, fetch_document_end, fetch_document_marker, fetch_first_column, fetch_flow_collection_end, fetch_flow_collection_start, fetch_flow_entry, fetch_flow_scalar, fetch_here, fetch_indented, fetch_key, fetch_next, fetch_plain_scalar, fetch_stream_end, fetch_stream_start, fetch_tag, fetch_token, fetch_value, flow_end, flow_start, Gap, go_on, Held, here, if◌then◌else◌, in_block, in_flow, in_line, increase_flow_level, insert, insert_key, is_break, is_cr_lf, is_far, is_flow, is_literal, Key, length, Levels, lexed, List, map, NameKind, nat_lt, next_entry, next_line, node_start, None, not, Ok, on_held, opens_pair, Option, paired, pass_indicator, peek, placed, plain, pop, Position, push, put, quoted, Quotes, Reaches, Read, refl, remove_implicit_key, Result, roll_entry, roll_indent, roll_one_col_indent, save_implicit_key, ScannerState, skip, skip_indicator, skip_spaces, skip_to_next_token, skip_yaml_whitespace, SkipTabs, Some, space, stale, still, tab_line, tag, there, Tok, Token, token, token_by, top_key, true, unled, unroll_indent, unroll_non_block_indents, unrolled, value_of, white, white_end, Whitespace, with_held, with_keys, with_top, without_open, ℕ, ◌++◌, ◌+◌, ◌==◌, ◌||◌, ◌∷◌, ◌≡◌}
+use Rattle.model_scanner.proofs.Common.{[], adjacent_in_flow, allow_key, anchor_name, are_single, At, at_break, begin_flow, begin_key, begin_keyless_mapping, begin_keyless_value, begin_line, begin_pair, begin_stream, block, BlockStyle, Bool, check_after_quoted, check_after_tab, check_block_entry, check_dash, check_document_end, check_key_space, check_value_space, class_of, cleared, closed_key, Collection, context, decrease_flow_level, deepen, deepened_flow, directive, drop_open, drop_open_level, drop_stale, end_entry, end_flow, end_flow_pair, end_level, end_pair, end_stream, ended_flow, Err, false, Fault, fetch, fetch_anchor, fetch_block_entry, fetch_block_scalar, fetch_content, fetch_directive, fetch_document_end, fetch_document_marker, fetch_first_column, fetch_flow_collection_end, fetch_flow_collection_start, fetch_flow_entry, fetch_flow_scalar, fetch_here, fetch_indented, fetch_key, fetch_next, fetch_plain_scalar, fetch_stream_end, fetch_stream_start, fetch_tag, fetch_token, fetch_value, flow_end, flow_start, Gap, go_on, Held, here, if◌then◌else◌, in_block, in_flow, in_line, increase_flow_level, insert, insert_key, is_break, is_cr_lf, is_far, is_flow, is_literal, Key, length, Levels, lexed, List, map, NameKind, nat_lt, next_entry, next_line, node_start, None, not, Ok, on_held, opens_pair, Option, paired, pass_indicator, peek, placed, plain, pop, Position, push, put, quoted, Quotes, Reaches, Read, refl, remove_implicit_key, Result, roll_entry, roll_indent, roll_one_col_indent, save_implicit_key, ScannerState, skip, skip_indicator, skip_spaces, skip_to_next_token, skip_yaml_whitespace, SkipTabs, Some, space, stale, still, tab_line, tag, there, Tok, Token, token, token_by, top_key, true, unled, unroll_indent, unroll_non_block_indents, unrolled, value_of, white, white_end, with_held, with_keys, with_top, without_open, ℕ, ◌++◌, ◌+◌, ◌==◌, ◌||◌, ◌∷◌, ◌≡◌}
 use Rattle.yaml_tokens.specs.declared.problem.Problem.TheVariants as problem
 use Rattle.model_scanner.specs.declared.level.Indent.{Indent}
 use Rattle.model_scanner.specs.declared.level.FlowLevel.{FlowLevel}
@@ -164,10 +164,6 @@ module _ (w : Watched) (kept : IsKept w) where
   open_dropped h [] s = s
   open_dropped h (d ∷ ds) s = held_choice d.needs_block_end s (record { stood = s.stood })
 
-  level_dropped : (col : ℕ) (h : Held) → Stands w h → Stands w (drop_open_level col h)
-  unfolding drop_open_level
-  level_dropped col h s = held_choice _ (open_dropped h h.indents s) s
-
   abbrev NumberIs : Option ℕ → Type 0
   NumberIs None = Unit {0}
   NumberIs (Some n) = w.number n
@@ -181,8 +177,9 @@ module _ (w : Watched) (kept : IsKept w) where
   deepened col n t h q l s = held_choice (nat_lt h.indent (col + 1)) (record { stood = placed_stood h.tokens h.keys h.started h.ended n t q l s.stood }) s
 
   rolled : (col : ℕ) (n : Option ℕ) (t : Tok) (p : Position) (h : Held) → IsNoEnd t → NumberIs n → Stands w h → Stands w (roll_indent col n t p h)
-  unfolding roll_indent
-  rolled col n t p h q l s = held_choice (in_flow h) s (deepened col n (token p t) (drop_open_level col h) q l (level_dropped col h s))
+  unfolding roll_indent drop_open_level
+  rolled col n t p h q l s =
+      held_choice (in_flow h) s (deepened col n (token p t) (drop_open_level col h) q l (held_choice _ (open_dropped h h.indents s) s))
 
   rolled_one : (h : Held) → Stands w h → Stands w (roll_one_col_indent h)
   unfolding roll_one_col_indent
@@ -252,10 +249,6 @@ module _ (w : Watched) (kept : IsKept w) where
       choice (is_break c) (white_skipped false true a _ (line_passed c a h s)) (choice i (white_skipped true f a _ (record { stood = s.stood }))
       (choice (c == 32) (white_skipped false true a _ (record { stood = s.stood })) (choice (c == 35) (white_skipped true f a _ (record { stood = s.stood })) (white_ended f (c ∷ a) h s))))
 
-  white_passed : (t : ScannerState) → Stands w t.held → Holds (StandsAt w) (skip_yaml_whitespace t)
-  unfolding skip_yaml_whitespace
-  white_passed t s = white_skipped false false t.rest t.held s
-
   -- ---- flow collections
 
   flow_deeper : (kind : Collection) (h : Held) → Stands w h → Holds (Stands w) (increase_flow_level kind h)
@@ -266,17 +259,15 @@ module _ (w : Watched) (kept : IsKept w) where
   deeper_allowed r (went s) = went (record { stood = s.stood })
   deeper_allowed r refused = refused
 
-  flow_begun : (kind : Collection) (h : Held) → Stands w h → Holds (Stands w) (begin_flow kind h)
-  unfolding begin_flow
-  flow_begun kind h s = deeper_allowed _ (flow_deeper kind _ (rolled_one _ (saved h s)))
-
   passed : (t : ScannerState) → Stands w t.held → Holds (StandsAt w) (pass_indicator t)
   unfolding pass_indicator
   passed t s = spaces_skipped Yes (skip_indicator t) (record { stood = s.stood })
 
   flow_started : (kind : Collection) (t : ScannerState) → IsNoEnd (flow_start kind) → Stands w t.held → Holds (StandsAt w) (fetch_flow_collection_start kind t)
-  unfolding fetch_flow_collection_start
-  flow_started kind t q s = chained (tried t _ (flow_begun kind t.held s)) (λ u k. chained (passed u k) (λ v l. went (more _ _ _ q l)))
+  unfolding fetch_flow_collection_start begin_flow
+  flow_started kind t q s =
+      chained (tried t _ (deeper_allowed _ (flow_deeper kind _ (rolled_one _ (saved t.held s))))) (λ u k.
+      chained (passed u k) (λ v l. went (more _ _ _ q l)))
 
   pair_ended : (fs : List FlowLevel) (h : Held) → Stands w h → Stands w (end_pair fs h)
   pair_ended [] h s = s
@@ -301,25 +292,18 @@ module _ (w : Watched) (kept : IsKept w) where
   flow_closed r (went s) = went (let k = flow_higher _ (entry_over _ s) in record { stood = k.stood })
   flow_closed r refused = refused
 
-  flow_over : (h : Held) → Stands w h → Holds (Stands w) (end_flow h)
-  unfolding end_flow
-  flow_over h s = flow_closed _ (removed h s)
-
   flow_ended : (kind : Collection) (t : ScannerState) → IsNoEnd (flow_end kind) → Stands w t.held → Holds (StandsAt w) (fetch_flow_collection_end kind t)
-  unfolding fetch_flow_collection_end
-  flow_ended kind t q s = chained (tried t _ (flow_over t.held s)) (λ u k. chained (passed u k) (λ v l. went (more _ _ _ q (adjacent v.held l))))
+  unfolding fetch_flow_collection_end end_flow
+  flow_ended kind t q s =
+      chained (tried t _ (flow_closed _ (removed t.held s))) (λ u k. chained (passed u k) (λ v l. went (more _ _ _ q (adjacent v.held l))))
 
   next_begun : (r : Result Held Fault) → Holds (Stands w) r → Holds (Stands w) (next_entry r)
   next_begun r (went s) = went (entry_over _ (record { stood = s.stood }))
   next_begun r refused = refused
 
-  entry_ended : (h : Held) → Stands w h → Holds (Stands w) (end_entry h)
-  unfolding end_entry
-  entry_ended h s = next_begun _ (removed h s)
-
   entry_passed : (t : ScannerState) → Stands w t.held → Holds (StandsAt w) (fetch_flow_entry t)
-  unfolding fetch_flow_entry
-  entry_passed t s = chained (tried t _ (entry_ended t.held s)) (λ u k. chained (passed u k) (λ v l. went (more _ _ _ tt l)))
+  unfolding fetch_flow_entry end_entry
+  entry_passed t s = chained (tried t _ (next_begun _ (removed t.held s))) (λ u k. chained (passed u k) (λ v l. went (more _ _ _ tt l)))
 
   -- ---- block collections
 
@@ -327,20 +311,18 @@ module _ (w : Watched) (kept : IsKept w) where
   unfolding check_block_entry
   entry_checked h s = passes (in_flow h) (At problem.BlockEntryInFlow h.position) (passes (not h.key_allowed) (At problem.BlockEntryNotAllowed h.position) (went s))
 
-  dash_checked : (x : Whitespace) (t : ScannerState) → Stands w t.held → Holds (StandsAt w) (check_dash x t)
-  unfolding check_dash
-  dash_checked x t s = passes _ _ (went s)
-
   entry_rolled : (t : ScannerState) → Stands w t.held → StandsAt w (roll_entry t)
   unfolding roll_entry
   entry_rolled t s = state_choice (is_break (peek t.rest) || is_flow (peek t.rest)) (on_held roll_one_col_indent t) t (rolled_one t.held s) s
 
   block_entry : (t : ScannerState) → Stands w t.held → Holds (StandsAt w) (fetch_block_entry t)
-  unfolding fetch_block_entry
+  unfolding fetch_block_entry check_dash
   block_entry t s = chained (tried t _ (entry_checked t.held s)) (λ u k.
       let p = t.held.position in
       let v = on_held (roll_indent p.col None Tok.block_sequence_start p) (skip_indicator u) in
-      chained (read v.held (space Yes v.rest v.held.position) check_dash (rolled p.col None _ p (skip_indicator u).held tt tt (record { stood = k.stood })) (λ z x l. dash_checked z x l)) (λ z l.
+      chained (read v.held (space Yes v.rest v.held.position) check_dash
+      (rolled p.col None _ p (skip_indicator u).held tt tt (record { stood = k.stood }))
+      (λ z x l. passes _ _ (went l))) (λ z l.
       chained (spaces_skipped No z l) (λ x m.
       chained (tried (roll_entry x) _ (removed (roll_entry x).held (entry_rolled x m))) (λ y n. went (record { stood = pushed _ _ _ _ _ tt n.stood })))))
 
@@ -353,33 +335,25 @@ module _ (w : Watched) (kept : IsKept w) where
   key_spaced t s = passes _ _ (went s)
 
   key_fetched : (t : ScannerState) → Stands w t.held → Holds (StandsAt w) (fetch_key t)
-  unfolding fetch_key
+  unfolding fetch_key skip_yaml_whitespace
   key_fetched t s = chained (tried t _ (key_begun t.held s)) (λ u k. chained (tried u _ (removed u.held k)) (λ v l.
-      chained (white_passed (skip_indicator (on_held (λ h. allow_key (not (in_flow h)) h) v)) (record { stood = l.stood })) (λ x m.
+      chained (white_skipped false false _ _ (record { stood = l.stood })) (λ x m.
       chained (key_spaced x m) (λ y n. went (more _ _ _ tt n)))))
 
   -- ---- values
 
-  after_tab_checked : (x : Whitespace) (t : ScannerState) → Stands w t.held → Holds (StandsAt w) (check_after_tab x t)
-  unfolding check_after_tab
-  after_tab_checked x t s = passes _ _ (went s)
-
   value_spaced : (t : ScannerState) → Stands w t.held → Holds (StandsAt w) (check_value_space t)
-  unfolding check_value_space
-  value_spaced t s = choice (peek t.rest == 9) (read t.held (space Yes t.rest t.held.position) check_after_tab s (λ x u k. after_tab_checked x u k)) (went s)
-
-  pair_begun : (k : Key) (p : Position) (pair : Bool) (h : Held) → w.number k.number → Stands w h → Holds (Stands w) (begin_pair k p pair h)
-  unfolding begin_pair
-  pair_begun k p pair h l s = choice pair (passes _ _ (went (put_in k.number h.position _ h tt l s))) (went s)
+  unfolding check_value_space check_after_tab
+  value_spaced t s =
+      choice (peek t.rest == 9) (read t.held (space Yes t.rest t.held.position) check_after_tab s (λ x u k. passes _ _ (went k))) (went s)
 
   key_inserted : (k : Key) (p : Position) (pair : Bool) (h : Held) → w.number k.number → Stands w h → Holds (Stands w) (insert_key k p pair h)
-  unfolding insert_key
-  key_inserted k p pair h l s = chained (pair_begun k p pair _ l (put_in k.number k.position Tok.key h tt l s)) (λ u m.
+  unfolding insert_key begin_pair
+  key_inserted k p pair h l s =
+      let f = put_in k.number k.position Tok.key h tt l s in
+      chained (choice pair (passes _ _ (went (put_in k.number h.position _ _ tt l f))) (went f)) (λ u m.
       let v = rolled_one _ (rolled k.position.col (Some k.number) Tok.block_mapping_start p u tt l m) in
       went (record { stood = rekeyed (topped w.number None _ tt v.stood.keys) v.stood }))
-
-  keyless_paired : (pair : Bool) (h : Held) → Stands w h → Stands w (begin_keyless_pair pair h)
-  keyless_paired pair h s = held_choice pair (more h.position Tok.flow_mapping_start h tt s) s
 
   keyless_mapped : (p : Position) (h : Held) → Stands w h → Holds (Stands w) (begin_keyless_mapping p h)
   unfolding begin_keyless_mapping
@@ -387,7 +361,8 @@ module _ (w : Watched) (kept : IsKept w) where
 
   keyless_begun : (p : Position) (pair : Bool) (h : Held) → Stands w h → Holds (Stands w) (begin_keyless_value p pair h)
   unfolding begin_keyless_value
-  keyless_begun p pair h s = chained (keyless_mapped p _ (keyless_paired pair h s)) (λ u k. went (let l = rolled_one u k in record { stood = l.stood }))
+  keyless_begun p pair h s = chained (keyless_mapped p _ (held_choice pair (more h.position Tok.flow_mapping_start h tt s) s)) (λ u k.
+      went (let l = rolled_one u k in record { stood = l.stood }))
 
   value_begun : (k : Option Key) (p : Position) (pair : Bool) (h : Held) → KeyIs w.number k → Stands w h → Holds (Stands w) (value_of k p pair h)
   value_begun None p pair h l s = keyless_begun p pair h s
@@ -430,13 +405,10 @@ module _ (w : Watched) (kept : IsKept w) where
   unfolding fetch_document_marker
   marker_fetched tok t q s = chained (tried t _ (line_begun t.held s)) (λ u k. went (record { stood = pushed _ _ _ _ _ q k.stood }))
 
-  end_checked : (t : ScannerState) → Stands w t.held → Holds (StandsAt w) (check_document_end t)
-  unfolding check_document_end
-  end_checked t s = choice _ (went s) refused
-
   document_ended : (t : ScannerState) → Stands w t.held → Holds (StandsAt w) (fetch_document_end t)
-  unfolding fetch_document_end
-  document_ended t s = chained (marker_fetched Tok.document_end t tt s) (λ u k. chained (spaces_skipped Yes u k) (λ v l. end_checked v l))
+  unfolding fetch_document_end check_document_end
+  document_ended t s = chained (marker_fetched Tok.document_end t tt s) (λ u k.
+      chained (spaces_skipped Yes u k) (λ v l. choice _ (went l) refused))
 
   -- ---- nodes
 
@@ -458,16 +430,12 @@ module _ (w : Watched) (kept : IsKept w) where
       let l = saved t.held s in
       read h (block (is_literal style) h.indent t.rest t.held.position) _ (unrolled_open _ (record { stood = l.stood })) (λ b u k. went (record { stood = pushed _ _ _ _ _ tt k.stood }))
 
-  quoted_checked : (line : ℕ) (t : ScannerState) → Stands w t.held → Holds (StandsAt w) (check_after_quoted line t)
-  unfolding check_after_quoted
-  quoted_checked line t s = chained (spaces_skipped Yes t s) (λ u k. choice _ (went k) refused)
-
   flow_scalar_fetched : (quotes : Quotes) (t : ScannerState) → Stands w t.held → Holds (StandsAt w) (fetch_flow_scalar quotes t)
-  unfolding fetch_flow_scalar
+  unfolding fetch_flow_scalar check_after_quoted
   flow_scalar_fetched quotes t s =
       let h = node_start t.held in
       read h (quoted (are_single quotes) (context h) t.rest t.held.position) _ (node_begun t.held s) (λ text u k.
-      chained (quoted_checked t.held.position.line (on_held unled u) (record { stood = k.stood })) (λ v l.
+      chained (chained (spaces_skipped Yes (on_held unled u) (record { stood = k.stood })) (λ v l. choice _ (went l) refused)) (λ v l.
       chained (to_token v l) (λ x m. went (record { stood = pushed _ _ _ _ _ tt m.stood }))))
 
   plain_fetched : (t : ScannerState) → Stands w t.held → Holds (StandsAt w) (fetch_plain_scalar t)
@@ -503,17 +471,12 @@ module _ (w : Watched) (kept : IsKept w) where
   unfolding fetch_indented fetch_token
   indented_fetched t s = passes _ _ (by_class (class_of (peek t.rest)) t s)
 
-  first_fetched : (t : ScannerState) → Stands w t.held → Holds (StandsAt w) (fetch_first_column t)
-  unfolding fetch_first_column
-  first_fetched t s = choice _ (directive_fetched t s) (choice _ (marker_fetched Tok.document_start t tt s) (choice _ (document_ended t s) (indented_fetched t s)))
-
   pub content_fetched : (t : ScannerState) → Stands w t.held → Holds (StandsAt w) (fetch_content t)
-  unfolding fetch_content
-  content_fetched t s = choice _ (first_fetched t s) (indented_fetched t s)
-
-  here_fetched : (t : ScannerState) → Stands w t.held → Holds (FaresAt w) (fetch_here t)
-  unfolding fetch_here
-  here_fetched t s = choice _ (weakened (λ u p. over p) (stream_ended t s)) (weakened (λ u p. goes p) (content_fetched t s))
+  unfolding fetch_content fetch_first_column
+  content_fetched t s =
+      choice _ (choice _ (directive_fetched t s)
+      (choice _ (marker_fetched Tok.document_start t tt s) (choice _ (document_ended t s) (indented_fetched t s))))
+      (indented_fetched t s)
 
   fares_stale : (h : Held) → Fares w h → Holds (Fares w) (stale h)
   unfolding stale
@@ -525,9 +488,10 @@ module _ (w : Watched) (kept : IsKept w) where
       by r refused = refused
 
   next_fetched : (t : ScannerState) → Stands w t.held → Holds (FaresAt w) (fetch_next t)
-  unfolding fetch_next
+  unfolding fetch_next fetch_here
   next_fetched t s = chained (to_token t s) (λ u k. chained (tried u _ (stale_dropped u.held k)) (λ v l.
-      chained (here_fetched (on_held (λ h. unroll_indent (h.position.col + 1) h) v) (unrolled_all (v.held.position.col + 1) v.held l)) (λ x m.
+      chained (choice _ (weakened (λ u p. over p) (stream_ended _ (unrolled_all _ v.held l)))
+      (weakened (λ u p. goes p) (content_fetched _ (unrolled_all _ v.held l)))) (λ x m.
       tried x _ (fares_stale x.held m))))
 
   pub fetched : (t : ScannerState) → Stands w t.held → Holds (FaresAt w) (fetch t)

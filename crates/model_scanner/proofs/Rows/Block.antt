@@ -1,13 +1,8 @@
 -- Block collections and their tokens.
-use Rattle.model_scanner.proofs.Common.{[], At, codes, Err, Fault, List, Ok, Problem, Result, scan, Style, Tok, Token, token, ℕ, ◌∷◌, ◌≡◌}
+use Rattle.model_scanner.proofs.Common.{[], codes, Ok, scan, Style, Tok, ◌∷◌, ◌≡◌}
 use Rattle.yaml_tokens.specs.declared.problem.Problem.TheVariants as problem
 use Rattle.model_scanner.proofs.OnLiterals.{scan_on_literals}
-
-abbrev at : ℕ → ℕ → ℕ → Tok → Token
-at index line col t = token (record { index = index; line = line; col = col }) t
-
-abbrev fails : Problem → ℕ → ℕ → ℕ → Result (List Token) Fault
-fails p index line col = Err (At p (record { index = index; line = line; col = col }))
+use Rattle.model_scanner.proofs.Rows.Words.{at, fails}
 
 record Rows : Type 0 where
   -- two pairs

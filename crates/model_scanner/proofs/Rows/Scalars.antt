@@ -1,9 +1,7 @@
 -- Documents, plain and quoted scalars, and their tokens.
-use Rattle.model_scanner.proofs.Common.{[], codes, Ok, scan, Style, Tok, Token, token, ℕ, ◌∷◌, ◌≡◌}
+use Rattle.model_scanner.proofs.Common.{[], codes, Ok, scan, Style, Tok, ◌∷◌, ◌≡◌}
 use Rattle.model_scanner.proofs.OnLiterals.{scan_on_literals}
-
-abbrev at : ℕ → ℕ → ℕ → Tok → Token
-at index line col t = token (record { index = index; line = line; col = col }) t
+use Rattle.model_scanner.proofs.Rows.Words.{at}
 
 record Rows : Type 0 where
   -- a document marker alone
