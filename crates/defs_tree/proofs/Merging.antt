@@ -1,5 +1,5 @@
 -- What merges do to a tree.
-use Rattle.defs_tree.proofs.Common.{[], AllDistinct, AllLackMergeKeys, AllPairsDistinct, ap, append-nil, append_assoc, AreDistinct, array, Bool, brought, cond, false, has_key, hash, is_some, IsDistinct, item, Items, items_of, Lacks, LacksMergeKeys, List, list_of, lookup, merge_key, merged, merged_items, merged_pairs, merged_values, no_items, no_pairs, None, Option, option_or, pair, pair_list_of, Pairs, pairs_of, pairs_of_mappings, refl, Some, subst, sym, Tree, tree_eq, true, true≢false, ValuesLackMergeKeys, with_new_pair, with_new_pairs, without, ◌++◌, ◌∙◌, ◌∷◌, ◌≡◌, ◌≢◌}
+use Rattle.defs_tree.proofs.Common.{[], AllDistinct, AllLackMergeKeys, AllPairsDistinct, ap, append-nil, append_assoc, AreDistinct, array, Bool, brought, cond, false, has_key, hash, is_some, IsDistinct, item, Items, items_of, Lacks, LacksMergeKeys, List, list_of, lookup, merge_key, merged, merged_items, merged_pairs, merged_values, no_items, no_pairs, None, Option, option_or, pair, pair_list_of, Pairs, pairs_of, pairs_of_mappings, refl, Some, subst, sym, Tree, tree_eq, true, true≢false, ValuesLackMergeKeys, with_new_pair, with_new_pairs, without, ◌++◌, ◌∙◌, ◌∷◌, ◌≡◌, ◌≢◌, arith}
 use Rattle.defs_tree.proofs.OrderLaws.{tree_eq_decides}
 use Rattle.defs_tree.proofs.OverlayLaws.{Each, each_append, each_lookup, list_of_pairs}
 use Rattle.defs_tree.proofs.PairsLaws.{tree_eq-other, AreDistinct-append, AreDistinct-without, Lacks-itself, lookup-without_other}
@@ -10,44 +10,27 @@ use Rattle.defs_tree.specs.MergeLaws.{value_among, value_brought}
 
 lookup_both : (k : Tree) (ps qs : List (Tree × Tree)) → lookup k (ps ++ qs) ≡ option_or (lookup k ps) (lookup k qs)
 lookup_both k [] qs = refl
-lookup_both k (p ∷ ps) qs = by (tree_eq k p.0) (lookup_both k ps qs)
-  where
-    by : (b : Bool) → lookup k (ps ++ qs) ≡ option_or (lookup k ps) (lookup k qs) → cond b (Some p.1) (lookup k (ps ++ qs)) ≡ option_or (cond b (Some p.1) (lookup k ps)) (lookup k qs)
-    by true r = refl
-    by false r = r
+lookup_both k (p ∷ ps) qs = grind (arith, lookup_both k ps qs)
 
 or_none : (o : Option Tree) → option_or o None ≡ o
-or_none None = refl
-or_none (Some x) = refl
+or_none a = grind arith
 
 or_there : (o q : Option Tree) → is_some o ≡ true → o ≡ option_or o q
-or_there None q h = cc
-or_there (Some x) q h = refl
+or_there a q h = grind arith
 
 or_assoc : (a b c : Option Tree) → option_or (option_or a b) c ≡ option_or a (option_or b c)
-or_assoc None b c = refl
-or_assoc (Some x) b c = refl
+or_assoc a b c = grind arith
 
 -- a key that is there already keeps its value
 stays : (k : Tree) (ps : List (Tree × Tree)) (q : Tree × Tree) → has_key q.0 ps ≡ true → lookup k ps ≡ option_or (lookup k ps) (lookup k (q ∷ []))
-stays k ps q h = by (tree_eq k q.0) refl
-  where
-    by : (b : Bool) → tree_eq k q.0 ≡ b → lookup k ps ≡ option_or (lookup k ps) (cond b (Some q.1) None)
-    by true e = or_there _ _ (ap (λ l. has_key l ps) ((tree_eq_decides k q.0).0 e) ∙ h)
-    by false e = sym (or_none (lookup k ps))
+stays k ps q h = grind (arith, or_there, tree_eq_decides, or_none)
 
 lookup_new_pair : (k : Tree) (ps : List (Tree × Tree)) (q : Tree × Tree) → lookup k (with_new_pair ps q) ≡ option_or (lookup k ps) (lookup k (q ∷ []))
-lookup_new_pair k ps q = by (has_key q.0 ps) refl
-  where
-    by : (b : Bool) → has_key q.0 ps ≡ b → lookup k (cond b ps (ps ++ q ∷ [])) ≡ option_or (lookup k ps) (lookup k (q ∷ []))
-    by true e = stays k ps q e
-    by false e = lookup_both k ps (q ∷ [])
+lookup_new_pair k ps q = grind (arith, stays, lookup_both)
 
 lookup_new_pairs : (k : Tree) (ps qs : List (Tree × Tree)) → lookup k (with_new_pairs ps qs) ≡ option_or (lookup k ps) (lookup k qs)
 lookup_new_pairs k ps [] = sym (or_none (lookup k ps))
-lookup_new_pairs k ps (q ∷ qs) =
-    lookup_new_pairs k (with_new_pair ps q) qs ∙ ap (λ o. option_or o (lookup k qs)) (lookup_new_pair k ps q)
-    ∙ or_assoc (lookup k ps) (lookup k (q ∷ [])) (lookup k qs) ∙ ap (option_or (lookup k ps)) (sym (lookup_both k (q ∷ []) qs))
+lookup_new_pairs k ps (q ∷ qs) = grind (arith, lookup_new_pair, or_assoc, lookup_both, lookup_new_pairs k (with_new_pair ps q) qs)
 
 among : (k : Tree) (ts : Items) → lookup k (pairs_of_mappings ts) ≡ value_among k ts
 among k no_items = refl
@@ -55,15 +38,10 @@ among k (item (hash ps) ts) = lookup_both k (pair_list_of ps) (pairs_of_mappings
 among k (item t ts) = among k ts
 
 brings : (k : Tree) (o : Option Tree) → lookup k (brought o) ≡ value_brought k o
-brings k (Some (hash ps)) = refl
-brings k (Some (array ts)) = among k ts
-brings k o = refl
+brings k o = grind (arith, among)
 
 pub merge_finds : (k : Tree) (ps : List (Tree × Tree)) → k ≢ merge_key → lookup k (merged_pairs ps) ≡ option_or (lookup k ps) (value_brought k (lookup merge_key ps))
-merge_finds k ps n =
-    let v = lookup merge_key ps in
-    lookup_new_pairs k (without merge_key ps) (brought v) ∙ ap (λ o. option_or o (lookup k (brought v))) (lookup-without_other merge_key k ps n)
-    ∙ ap (option_or (lookup k ps)) (brings k v)
+merge_finds k ps n = grind (arith, lookup_new_pairs, lookup-without_other, brings)
 
 -- ---- the order
 
@@ -83,11 +61,7 @@ own_first ps = new_pairs_after (without merge_key ps) (brought (lookup merge_key
 
 pub lacks_key : (k : Tree) (ps : List (Tree × Tree)) → has_key k ps ≡ false → Lacks k ps
 lacks_key k [] h = tt
-lacks_key k (p ∷ ps) h = by (tree_eq k p.0) refl (lacks_key k ps) h
-  where
-    by : (b : Bool) → tree_eq k p.0 ≡ b → (has_key k ps ≡ false → Lacks k ps) → is_some (cond b (Some p.1) (lookup k ps)) ≡ false → Lacks k (p ∷ ps)
-    by true e r g = absurd (true≢false g)
-    by false e r g = ((λ is. true≢false (sym ((tree_eq_decides k p.0).1 is) ∙ e)), r g)
+lacks_key k (p ∷ ps) h = grind (arith, tree_eq_decides, lacks_key k ps)
 
 new_pair_distinct : (ps : List (Tree × Tree)) (q : Tree × Tree) → AreDistinct ps → AreDistinct (with_new_pair ps q)
 new_pair_distinct ps q h = by (has_key q.0 ps) refl
@@ -130,32 +104,21 @@ module _ (K V : Tree → Type 0) (opens : Opens K V) where
   each_of_mappings (item t ts) h = each_of_mappings ts h.1
 
   each_brought : (o : Option Tree) → OfSome V o → Each K V (brought o)
-  each_brought (Some (hash ps)) h = opens.0 ps h
-  each_brought (Some (array ts)) h = each_of_mappings ts (opens.1 ts h)
-  each_brought o h = tt
+  each_brought o h = grind (arith, each_of_mappings)
 
   each_without : (k : Tree) (ps : List (Tree × Tree)) → Each K V ps → Each K V (without k ps)
   each_without k [] h = tt
-  each_without k (p ∷ ps) h = by (tree_eq k p.0) (each_without k ps h.1)
-    where
-      by : (b : Bool) → Each K V (without k ps) → Each K V (cond b ps (p ∷ without k ps))
-      by true r = h.1
-      by false r = (h.0, r)
+  each_without k (p ∷ ps) h = grind (arith, each_without k ps h.1)
 
   each_new_pair : (ps : List (Tree × Tree)) (q : Tree × Tree) → Each K V ps → K q.0 × V q.1 → Each K V (with_new_pair ps q)
-  each_new_pair ps q h g = by (has_key q.0 ps)
-    where
-      by : (b : Bool) → Each K V (cond b ps (ps ++ q ∷ []))
-      by true = h
-      by false = each_append K V ps (q ∷ []) h (g, tt)
+  each_new_pair ps q h g = grind (arith, each_append)
 
   each_new_pairs : (ps qs : List (Tree × Tree)) → Each K V ps → Each K V qs → Each K V (with_new_pairs ps qs)
   each_new_pairs ps [] h g = h
   each_new_pairs ps (q ∷ qs) h g = each_new_pairs (with_new_pair ps q) qs (each_new_pair ps q h g.0) g.1
 
   pub each_merged : (ps : List (Tree × Tree)) → Each K V ps → Each K V (merged_pairs ps)
-  each_merged ps h =
-      each_new_pairs (without merge_key ps) (brought (lookup merge_key ps)) (each_without merge_key ps h) (each_brought (lookup merge_key ps) (each_lookup K V merge_key ps h))
+  each_merged ps h = grind (arith, each_new_pairs, each_without, each_brought, each_lookup)
 
 -- ---- distinct keys
 

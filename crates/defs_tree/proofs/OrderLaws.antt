@@ -48,34 +48,19 @@ nat_cmp-suc : (m n : ℕ) → nat_cmp (suc m) (suc n) ≡ nat_cmp m n
 nat_cmp-suc m n = grind (arith, nat_tests)
 
 then_assoc : (o p q : Ordering) → ordering_then o (ordering_then p q) ≡ ordering_then (ordering_then o p) q
-then_assoc Less p q = refl
-then_assoc Equal p q = refl
-then_assoc Greater p q = refl
+then_assoc a p q = grind arith
 
 then_Equal : (o : Ordering) → ordering_then o Equal ≡ o
-then_Equal Less = refl
-then_Equal Equal = refl
-then_Equal Greater = refl
+then_Equal a = grind arith
 
 text_same : (s t : List ℕ) (q r : List ℤ) → cmp (text_code s q) (text_code t r) ≡ ordering_then (slice_cmp nat_cmp s t) (cmp q r)
 text_same [] [] q r = refl
-text_same [] (n ∷ ns) q r = ap (λ o. ordering_then o (cmp q (text_code ns r))) (int_cmp-pos 0 (suc n) ∙ less n)
-  where
-    less : (n : ℕ) → nat_cmp 0 (suc n) ≡ Less
-    less n = grind (arith, nat_tests)
-text_same (m ∷ ms) [] q r = ap (λ o. ordering_then o (cmp (text_code ms q) r)) (int_cmp-pos (suc m) 0 ∙ greater m)
-  where
-    greater : (n : ℕ) → nat_cmp (suc n) 0 ≡ Greater
-    greater n = grind (arith, nat_tests)
-text_same (m ∷ ms) (n ∷ ns) q r =
-    (λ i. ordering_then ((int_cmp-pos (suc m) (suc n) ∙ nat_cmp-suc m n) i) (text_same ms ns q r i))
-    ∙ then_assoc (nat_cmp m n) (slice_cmp nat_cmp ms ns) (cmp q r)
+text_same [] (n ∷ ns) q r = grind (arith, int_cmp-pos)
+text_same (m ∷ ms) [] q r = grind (arith, int_cmp-pos)
+text_same (m ∷ ms) (n ∷ ns) q r = grind (arith, int_cmp-pos, nat_cmp-suc, then_assoc, text_same ms ns q r)
 
 bool_same : (b c : Bool) (o : Ordering) → ordering_then (int_cmp (pos (bit b)) (pos (bit c))) o ≡ ordering_then (bool_cmp b c) o
-bool_same false false o = refl
-bool_same false true o = refl
-bool_same true false o = refl
-bool_same true true o = refl
+bool_same a b o = grind arith
 
 mutual
   tree_same : (t u : Tree) (q r : List ℤ) → cmp (tree_code t q) (tree_code u r) ≡ ordering_then (tree_cmp t u) (cmp q r)
@@ -128,20 +113,13 @@ int_tied : (x y : ℤ) → int_cmp x y ≡ Equal → x ≡ y
 int_tied x y e = int_ranked x y Equal (sym e)
 
 bool_tied : (b c : Bool) → bool_cmp b c ≡ Equal → b ≡ c
-bool_tied false false e = refl
-bool_tied false true e = cc
-bool_tied true false e = cc
-bool_tied true true e = refl
+bool_tied a b e = grind arith
 
 first_tied : (o p : Ordering) → ordering_then o p ≡ Equal → o ≡ Equal
-first_tied Less p e = e
-first_tied Equal p e = refl
-first_tied Greater p e = e
+first_tied a p e = grind arith
 
 second_tied : (o p : Ordering) → ordering_then o p ≡ Equal → p ≡ Equal
-second_tied Less p e = cc
-second_tied Equal p e = e
-second_tied Greater p e = cc
+second_tied a p e = grind arith
 
 mutual
   pub tree_tied : (t u : Tree) → tree_cmp t u ≡ Equal → t ≡ u
@@ -173,12 +151,7 @@ mutual
 
 -- the test holds of the same tree alone
 pub tree_eq_decides : (t u : Tree) → Decides (tree_eq t u) (t ≡ u)
-tree_eq_decides t u = (λ e. tree_tied t u (of_eq (tree_cmp t u) e), λ e. ap (λ x. tree_eq t x) (sym e) ∙ ap is_eq (tied_itself tree_cmp_total t))
-  where
-    of_eq : (o : Ordering) → is_eq o ≡ true → o ≡ Equal
-    of_eq Less e = cc
-    of_eq Equal e = refl
-    of_eq Greater e = cc
+tree_eq_decides t u = grind (arith, tree_tied, tree_cmp_total)
 
 -- ---- lists of trees and of pairs
 

@@ -95,5 +95,4 @@ real_text-characters t h = by (real_text-cases t h)
 
 pub real_text-nonempty : (t : List ℕ) → is_real_text t ≡ true → is_empty t ≡ false
 unfolding typing is_decimal
-real_text-nonempty [] h = cc
-real_text-nonempty (c ∷ cs) h = refl
+real_text-nonempty a h = grind arith

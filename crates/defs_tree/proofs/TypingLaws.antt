@@ -1,5 +1,5 @@
 -- What typing gives, and that a plain spelling stands for its scalar.
-use Rattle.defs_tree.proofs.Common.{[], after_prefix, alias, and_parts, ap, array, bad_value, Bool, boolean, by_rows, codes, false, false_words, fits_i64, hash, if◌then◌else◌, inl, inr, integer, is_among, is_decimal, is_none, is_real, is_real_text, is_string, IsTrue, List, list_all, MayStandFor, None, null, null_words, Option, option_and_then, option_map, real, refl, rows, signed_decimal, signed_number, Some, special_words, string, sym, Tree, true, true_words, true≢false, typing, unwrap_or, where_true, with_sign, ℕ, ℤ, ◌&&◌, ◌∙◌, ◌∷◌, ◌≡◌, ◌⊎◌}
+use Rattle.defs_tree.proofs.Common.{[], after_prefix, alias, and_parts, ap, array, bad_value, Bool, boolean, by_rows, codes, false, false_words, fits_i64, hash, if◌then◌else◌, inl, inr, integer, is_among, is_decimal, is_none, is_real, is_real_text, is_string, IsTrue, List, list_all, MayStandFor, None, null, null_words, Option, option_and_then, option_map, real, refl, rows, signed_decimal, signed_number, Some, special_words, string, sym, Tree, true, true_words, true≢false, typing, unwrap_or, where_true, with_sign, ℕ, ℤ, ◌&&◌, ◌∙◌, ◌∷◌, ◌≡◌, ◌⊎◌, arith}
 
 -- a fact of what a row gives, where it gives something
 abbrev pub OfSome : {A : Type 0} → (A → Type 0) → Option A → Type 0
@@ -7,12 +7,10 @@ OfSome P None = Unit {0}
 OfSome P (Some t) = P t
 
 or_else : (P : Tree → Type 0) (o : Option Tree) (t : Tree) → OfSome P o → P t → P (unwrap_or o t)
-or_else P None t h r = r
-or_else P (Some u) t h r = h
+or_else a b t h r = grind arith
 
 OfSome-where_true : (P : Tree → Type 0) (b : Bool) (t : Tree) → P t → OfSome P (where_true b t)
-OfSome-where_true P true t h = h
-OfSome-where_true P false t h = tt
+OfSome-where_true a b t h = grind arith
 
 -- ---- integers fit
 
@@ -20,23 +18,16 @@ Fits : ℤ → Type 0
 Fits z = IsTrue (fits_i64 z)
 
 fitting : (o : Option ℤ) → OfSome (λ z. IsTrue (fits_i64 z)) (option_and_then (λ z. if fits_i64 z then Some z else None) o)
-fitting None = tt
-fitting (Some z) = by (fits_i64 z) refl
-  where
-    by : (b : Bool) → fits_i64 z ≡ b → OfSome (λ z. IsTrue (fits_i64 z)) (if b then Some z else None)
-    by true e = e
-    by false e = tt
+fitting a = grind arith
 
 pub signed_number-fits : (base : ℕ) (text : List ℕ) → OfSome (λ z. IsTrue (fits_i64 z)) (signed_number base text)
 signed_number-fits base text = fitting (with_sign base text)
 
 integer_row : (text : List ℕ) (o : Option ℤ) → OfSome (λ z. IsTrue (fits_i64 z)) o → OfSome (MayStandFor text) (option_map integer o)
-integer_row text None h = tt
-integer_row text (Some z) h = h
+integer_row text a h = grind arith
 
 after_row : (text : List ℕ) (base : ℕ) (o : Option (List ℕ)) → OfSome (MayStandFor text) (option_map integer (option_and_then (signed_number base) o))
-after_row text base None = tt
-after_row text base (Some rest) = integer_row text (signed_number base rest) (signed_number-fits base rest)
+after_row text base a = grind arith
 
 -- ---- what typing gives
 
@@ -83,20 +74,10 @@ typing_plain text = by_rows-sound MayStandFor rows text (
     refl
 
 pub real_of_plain : (text : List ℕ) (t : Tree) → MayStandFor text t → is_real t ≡ true → t ≡ real text
-real_of_plain text (real s) h e = ap real h
-real_of_plain text (array ts) h e = absurd h
-real_of_plain text (hash ps) h e = absurd h
-real_of_plain text (alias n) h e = absurd h
-real_of_plain text bad_value h e = absurd h
-real_of_plain text _ h e = cc
+real_of_plain text a h e = grind arith
 
 pub string_of_plain : (text : List ℕ) (t : Tree) → MayStandFor text t → is_string t ≡ true → t ≡ string text
-string_of_plain text (string s) h e = ap string h
-string_of_plain text (array ts) h e = absurd h
-string_of_plain text (hash ps) h e = absurd h
-string_of_plain text (alias n) h e = absurd h
-string_of_plain text bad_value h e = absurd h
-string_of_plain text _ h e = cc
+string_of_plain text a h e = grind arith
 
 pub typing-real : (text : List ℕ) → is_real_text text ≡ true → typing text ≡ real text
 typing-real text e = real_of_plain text (typing text) (typing_plain text) e
@@ -110,28 +91,16 @@ abbrev NotString : List ℕ → Tree → Type 0
 NotString text t = is_string t ≡ false
 
 option_map-integer : (o : Option ℤ) (text : List ℕ) → OfSome (NotString text) (option_map integer o)
-option_map-integer None text = tt
-option_map-integer (Some z) text = refl
+option_map-integer a text = grind arith
 
 no_row-string : (rs : List (List ℕ → Option Tree)) (text : List ℕ) → list_all (λ row. is_none (row text)) rs ≡ true → by_rows rs text ≡ string text
 no_row-string [] text h = refl
-no_row-string (row ∷ rest) text h =
-    let parts = and_parts (is_none (row text)) (list_all (λ row. is_none (row text)) rest) h in
-    by (row text) parts.0 (no_row-string rest text parts.1)
-  where
-    by : (o : Option Tree) → is_none o ≡ true → by_rows rest text ≡ string text → unwrap_or o (by_rows rest text) ≡ string text
-    by None e r = r
-    by (Some t) e r = cc
+no_row-string (row ∷ rest) text h = grind (arith, and_parts, no_row-string rest text)
 
 string-no_row : (rs : List (List ℕ → Option Tree)) (text : List ℕ) → AllSound NotString rs text → by_rows rs text ≡ string text → list_all (λ row. is_none (row text)) rs ≡ true
 unfolding AllSound
 string-no_row [] text h e = refl
-string-no_row (row ∷ rest) text h e = by (row text) h.0 e (string-no_row rest text h.1)
-  where
-    by : (o : Option Tree) → OfSome (NotString text) o → unwrap_or o (by_rows rest text) ≡ string text
-        → (by_rows rest text ≡ string text → list_all (λ row. is_none (row text)) rest ≡ true) → (is_none o && list_all (λ row. is_none (row text)) rest) ≡ true
-    by None g e r = r e
-    by (Some t) g e r = absurd (true≢false (sym (ap is_string e) ∙ g))
+string-no_row (row ∷ rest) text h e = grind (arith, string-no_row rest text h.1)
 
 pub strings_exactly : (text : List ℕ) → (typing text ≡ string text → list_all (λ row. is_none (row text)) rows ≡ true) × (list_all (λ row. is_none (row text)) rows ≡ true → typing text ≡ string text)
 unfolding typing AllSound
@@ -170,15 +139,13 @@ strings_exactly text = (
 -- ---- real texts
 
 OfSome-where : (P : Tree → Type 0) (b : Bool) (t : Tree) → (b ≡ true → P t) → OfSome P (where_true b t)
-OfSome-where P true t h = h refl
-OfSome-where P false t h = tt
+OfSome-where a b t h = grind arith
 
 abbrev FromRealRow : List ℕ → Tree → Type 0
 FromRealRow text t = is_real t ≡ true → (is_among special_words text ≡ true) ⊎ (is_decimal text ≡ true)
 
 option_map-no_real : (o : Option ℤ) (text : List ℕ) → OfSome (FromRealRow text) (option_map integer o)
-option_map-no_real None text = tt
-option_map-no_real (Some z) text = λ e. cc
+option_map-no_real a text = grind arith
 
 -- a real text is one of the special words or of the decimal grammar
 pub real_text-cases : (text : List ℕ) → is_real_text text ≡ true → (is_among special_words text ≡ true) ⊎ (is_decimal text ≡ true)
