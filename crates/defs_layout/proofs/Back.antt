@@ -1,5 +1,5 @@
 -- The value of a JSON text has a JSON text, and nests as the text does.
-use Rattle.defs_layout.proofs.Common.{[], AllHaveJson, and_from, and_parts, ap, are_characters, are_pieces, AreDistinct, AreElements, AreMembers, arith, backspace, Bool, character_of, digit_value, element, element_levels, Elements, exponent, false, fits_i64, form_feed, four_digits, fraction, HasJson, if◌then◌else◌, integer, integer_value, is_character, is_hex_digit, is_number, is_piece, is_unescaped, IsJson, item_nesting, items, itself, Json, last_element, last_member, levels, List, ltb-true, max, member, member_levels, member_nesting, Members, nat_tests, nesting, new_line, no_exponent, no_fraction, Number, number, number_tree, pair_list, pair_list_of, pairs_of, Piece, quotation_mark, real, refl, return, reverse_solidus, Short, short, solidus, spell_number, subst, suc, sym, tabulator, Tree, tree_of, true, unescaped, unicode, value_of, ValuesHaveJson, ℕ, ◌&&◌, ◌<◌, ◌∷◌, ◌≡◌, ◌≤◌}
+use Rattle.defs_layout.proofs.Common.{[], AllHaveJson, and_from, and_parts, ap, are_characters, are_pieces, AreDistinct, AreElements, AreMembers, arith, backspace, Bool, character_of, digit_value, element, element_levels, Elements, exponent, false, fits_i64, form_feed, four_digits, fraction, HasJson, if◌then◌else◌, integer, integer_value, is_character, is_hex_digit, is_number, is_piece, is_unescaped, IsJson, item_nesting, items, itself, Json, last_element, last_member, levels, List, ltb-true, max, member, member_levels, member_nesting, Members, nat_tests, nesting, new_line, no_exponent, no_fraction, Number, number, number_tree, pair_list, pair_list_of, pairs_of, Piece, quotation_mark, real, refl, return, reverse_solidus, Short, short, solidus, spell_number, subst, suc, sym, tabulator, Tree, tree_of, true, unescaped, unicode, value_of, ValuesHaveJson, ℕ, ◌&&◌, ◌<◌, ◌∷◌, ◌≡◌, ◌≤◌, eqb-true}
 use Rattle.defs_layout.specs.Json as json
 use Rattle.defs_layout.proofs.Numbers.{real_from}
 
@@ -10,31 +10,13 @@ unfolding is_unescaped
 low_is c h = grind (arith, nat_tests)
 
 short_is : (s : Short) → is_character (character_of s) ≡ true
-short_is quotation_mark = refl
-short_is reverse_solidus = refl
-short_is solidus = refl
-short_is backspace = refl
-short_is form_feed = refl
-short_is new_line = refl
-short_is return = refl
-short_is tabulator = refl
+short_is a = grind arith
 
 code_is : (n : ℕ) → n ≤ 0xFFFF → is_character n ≡ true
 code_is n h = grind (arith, nat_tests)
 
 piece_is : (p : Piece) → is_piece p ≡ true → is_character (value_of p) ≡ true
-piece_is (itself c) h = low_is c h
-piece_is (short s) h = short_is s
-piece_is (unicode a b c d) h =
-    let v = and_parts (is_hex_digit a && is_hex_digit b && is_hex_digit c && is_hex_digit d) _ h in
-    let w = and_parts (is_hex_digit a && is_hex_digit b && is_hex_digit c) (is_hex_digit d) v.0 in
-    let x = and_parts (is_hex_digit a && is_hex_digit b) (is_hex_digit c) w.0 in
-    let y = and_parts (is_hex_digit a) (is_hex_digit b) x.0 in
-    let i : digit_value a < 16 = ltb-true _ 16 y.0 in
-    let j : digit_value b < 16 = ltb-true _ 16 y.1 in
-    let k : digit_value c < 16 = ltb-true _ 16 x.1 in
-    let l : digit_value d < 16 = ltb-true _ 16 w.1 in
-    code_is (four_digits a b c d) (omega arith)
+piece_is e h = grind (arith, nat_tests, eqb-true, low_is, short_is, and_parts, code_is)
 
 pieces_are : (ps : List Piece) → are_pieces ps ≡ true → are_characters (unescaped ps) ≡ true
 pieces_are [] h = refl
@@ -52,13 +34,7 @@ number_has (number m w no_fraction (exponent b s d)) h = real_from (number m w n
 number_has (number m w (fraction d) e) h = real_from (number m w (fraction d) e) _ h refl
 
 number_flat : (n : Number) → nesting (number_tree n) ≡ 0
-number_flat (number m w no_fraction no_exponent) = by (fits_i64 (integer_value m w))
-  where
-    by : (b : Bool) → nesting (if b then integer (integer_value m w) else real (spell_number (number m w no_fraction no_exponent) [])) ≡ 0
-    by true = refl
-    by false = refl
-number_flat (number m w no_fraction (exponent b s d)) = refl
-number_flat (number m w (fraction d) e) = refl
+number_flat a = grind arith
 
 -- ---- values
 
@@ -107,6 +83,4 @@ mutual
   members_nest (member k g q v a b ms) = (λ i. max (nests v i) (members_nest ms i))
 
 pub values_have_json : ValuesHaveJson
-values_have_json t text h =
-    let v = h.0.value in
-    (subst HasJson h.3 (has v h.1.value), omega (arith, nests v, h.1.depth, ap nesting h.3))
+values_have_json t text h = grind (arith, has, nests)

@@ -2,7 +2,7 @@
 use Rattle.std.specs.Fmt.{signed_decimal}
 use Rattle.std.proofs.lemmas.Fmt.{decimal_is_IsNumeral, decimal_digit, decimal_nonempty, first_decimal}
 use Rattle.std.proofs.lemmas.Str.Parse.{digit_from_value}
-use Rattle.defs_layout.proofs.Common.{[], AllDigits, and_from, and_parts, ap, arith, Bool, decimal, false, fits_i64, get_or, integer, integer_value, is_ascii_digit, is_number, is_whole, length, List, list_all, ltb-true, nat_tests, ne_eqb, neg_ℤ, negsuc, no_exponent, no_fraction, not, Number, number, number_tree, pos, refl, spell_number, suc, true, zero, ℕ, ℤ, ◌++◌, ◌<◌, ◌^◌, ◌∷◌, ◌≡◌, ◌≤◌}
+use Rattle.defs_layout.proofs.Common.{[], AllDigits, and_from, and_parts, ap, arith, Bool, decimal, false, fits_i64, get_or, integer, integer_value, is_ascii_digit, is_number, is_whole, length, List, list_all, ltb-true, nat_tests, ne_eqb, neg_ℤ, negsuc, no_exponent, no_fraction, not, Number, number, number_tree, pos, refl, spell_number, suc, true, zero, ℕ, ℤ, ◌++◌, ◌<◌, ◌^◌, ◌∷◌, ◌≡◌, ◌≤◌, eqb-true}
 
 digit_test : (c : ℕ) → 48 ≤ c → c ≤ 57 → is_ascii_digit c ≡ true
 digit_test c h g = grind (arith, nat_tests)
@@ -13,9 +13,7 @@ digits_test (d ∷ ds) h = let r = digit_from_value d h.0 in and_from _ _ (digit
 
 -- digits that begin with no zero
 whole_test : (ds : List ℕ) → AllDigits 10 ds → 0 < length ds → 48 < get_or ds 0 0 → is_whole ds ≡ true
-whole_test [] h l f = absurd (omega arith)
-whole_test (c ∷ []) h l f = (and_parts (is_ascii_digit c) true (digits_test (c ∷ []) h)).0
-whole_test (c ∷ d ∷ w) h l f = and_from _ _ (ap not (ne_eqb c 48 (λ e. omega arith))) (digits_test (c ∷ d ∷ w) h)
+whole_test a h l f = grind (arith, nat_tests, eqb-true, and_parts, digits_test)
 
 decimal_whole : (n : ℕ) → n < 2 ^ 64 → is_whole (decimal n) ≡ true
 decimal_whole zero h = ap is_whole (decimal_digit 0 (omega arith))

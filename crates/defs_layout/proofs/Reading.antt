@@ -44,8 +44,7 @@ end_rejects_digit c cs h = rw (digit_no_point c h, digit_no_mark c h) refl
 -- ---- a fraction and an exponent
 
 digits_are : (t : List ℕ) → are_digits t ≡ at_least_one is_ascii_digit t
-digits_are [] = refl
-digits_are (c ∷ t) = refl
+digits_are a = grind arith
 
 digits_read : (t : List ℕ) → followed_by are_digits reads_exponent t ≡ (begins_in is_ascii_digit t && reads_exponent (after_all is_ascii_digit t))
 digits_read [] = refl
@@ -76,19 +75,7 @@ end_read t = (λ i. followed_by (optional is_frac) (λ b. exponent_read b i) t) 
 -- ---- the whole part
 
 whole_parts : (c : ℕ) (b : List ℕ) → is_whole (c ∷ b) ≡ ((is_ascii_digit c && is_empty b) || ((not (c == 48) && is_ascii_digit c) && any_number is_ascii_digit b))
-whole_parts c [] = by (is_ascii_digit c) (not (c == 48))
-  where
-    by : (d n : Bool) → d ≡ ((d && true) || ((n && d) && true))
-    by true n = refl
-    by false true = refl
-    by false false = refl
-whole_parts c (d ∷ w) = by (is_ascii_digit c) (not (c == 48)) (list_all is_ascii_digit (d ∷ w))
-  where
-    by : (e n x : Bool) → (n && (e && x)) ≡ ((e && false) || ((n && e) && x))
-    by true true x = refl
-    by true false x = refl
-    by false true x = refl
-    by false false x = refl
+whole_parts c a = grind arith
 
 -- where digits are passed over, nothing is lost
 passed : (g : List ℕ → Bool) → Rejects is_ascii_digit g → (t : List ℕ) → (g t || g (after_all is_ascii_digit t)) ≡ g (after_all is_ascii_digit t)

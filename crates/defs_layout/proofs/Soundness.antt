@@ -1,5 +1,5 @@
 -- The trees of JSON texts and of layouts are sound.
-use Rattle.defs_layout.proofs.Common.{[], Anchor, ap, AreDistinct, AreElements, begun, Bool, bytes_eq, cond, element, Elements, ended, exponent, false, fits_i64, fraction, integer_value, is_some, IsJson, IsJsonText, Items, items, Json, last_element, last_member, last_tree, List, member, Members, no_exponent, no_fraction, None, Number, number, number_tree, Option, pair_list, pair_list_of, Pairs, pairs_of, refl, Some, sym, Tree, tree_of, true, true≢false, unwrap_or, with_end, ℕ, ℤ, ◌∙◌, ◌∷◌, ◌≡◌}
+use Rattle.defs_layout.proofs.Common.{[], Anchor, ap, AreDistinct, AreElements, begun, Bool, bytes_eq, cond, element, Elements, ended, exponent, false, fits_i64, fraction, integer_value, is_some, IsJson, IsJsonText, Items, items, Json, last_element, last_member, last_tree, List, member, Members, no_exponent, no_fraction, None, Number, number, number_tree, Option, pair_list, pair_list_of, Pairs, pairs_of, refl, Some, sym, Tree, tree_of, true, true≢false, unwrap_or, with_end, ℕ, ℤ, ◌∙◌, ◌∷◌, ◌≡◌, arith}
 use Rattle.defs_tree.specs.Valid.{AllDistinct, AllPairsDistinct, AllFitI64, AllPairsFitI64}
 use Rattle.defs_layout.specs.Json.{AreMembers}
 use Rattle.defs_layout.specs.Layout
@@ -27,11 +27,7 @@ no_pairs_sound : ArePairsSound Pairs.no_pairs
 no_pairs_sound = record { distinct = tt; fits = tt; has_values = tt }
 
 pair_sound : (k v : Tree) (ps : Pairs) → IsSound k → IsSound v → ArePairsSound ps → ArePairsSound (Pairs.pair k v ps)
-pair_sound k v ps h g hs = record {
-  distinct = (h.distinct, g.distinct, hs.distinct);
-  fits = (h.fits, g.fits, hs.fits);
-  has_values = (h.has_values, g.has_values, hs.has_values);
-}
+pair_sound k v ps h g hs = grind arith
 
 array_sound : (ts : Items) → AreSound ts → IsSound (Tree.array ts)
 array_sound ts hs = record { distinct = hs.distinct; fits = hs.fits; has_values = hs.has_values }
@@ -55,13 +51,10 @@ real_sound s = record { distinct = tt; fits = tt; has_values = tt }
 -- ---- JSON
 
 chosen_sound : (z : ℤ) (s : List ℕ) (b : Bool) → fits_i64 z ≡ b → IsSound (cond b (Tree.integer z) (Tree.real s))
-chosen_sound z s true e = record { distinct = tt; fits = e; has_values = tt }
-chosen_sound z s false e = real_sound s
+chosen_sound z s a e = grind arith
 
 number_sound : (n : Number) → IsSound (number_tree n)
-number_sound (number m w no_fraction no_exponent) = chosen_sound (integer_value m w) _ (fits_i64 (integer_value m w)) refl
-number_sound (number m w no_fraction (exponent c s d)) = real_sound _
-number_sound (number m w (fraction d) e) = real_sound _
+number_sound a = grind arith
 
 mutual
   json_sound : (v : Json) → IsJson v → IsSound (tree_of v)
@@ -90,15 +83,7 @@ json_text_sound t text h = rw (h.3) at (json_sound h.0.value h.1.value)
 -- ---- layouts
 
 plain_sound : (t : Tree) → Layout.IsPlain t → IsSound t
-plain_sound (Tree.real s) h = real_sound s
-plain_sound (Tree.integer z) h = record { distinct = tt; fits = h; has_values = tt }
-plain_sound (Tree.string s) h = string_sound s
-plain_sound (Tree.boolean b) h = record { distinct = tt; fits = tt; has_values = tt }
-plain_sound (Tree.array ts) h = absurd h
-plain_sound (Tree.hash ps) h = absurd h
-plain_sound (Tree.alias n) h = absurd h
-plain_sound Tree.null h = record { distinct = tt; fits = tt; has_values = tt }
-plain_sound Tree.bad_value h = absurd h
+plain_sound a h = grind arith
 
 -- the trees of the ended nodes
 abbrev AreAnchorsSound : List Anchor → Type 0
@@ -119,25 +104,18 @@ found_sound u t h e = rw (ap (λ o. unwrap_or o u) e) at h
 
 -- one of two answers, of which each that is a tree is sound
 either_sound : (b : Bool) (o p : Option Tree) (t : Tree) → (o ≡ Some t → IsSound t) → (p ≡ Some t → IsSound t) → cond b o p ≡ Some t → IsSound t
-either_sound true o p t f g e = f e
-either_sound false o p t f g e = g e
+either_sound a o p t f g e = grind arith
 
 last_tree_sound : (name : List ℕ) (a : List Anchor) (t : Tree) → AreAnchorsSound a → last_tree name a ≡ Some t → IsSound t
 last_tree_sound name [] t hs e = absurd (nothing_differs _ t refl e)
-last_tree_sound name (begun n ∷ a) t hs e =
-    either_sound (bytes_eq n name) None (last_tree name a) t (λ d. absurd (nothing_differs None t refl d)) (last_tree_sound name a t hs) e
-last_tree_sound name (ended n u ∷ a) t hs e =
-    either_sound (bytes_eq n name) (Some u) (last_tree name a) t (found_sound u t hs.0) (last_tree_sound name a t hs.1) e
+last_tree_sound name (begun n ∷ a) t hs e = grind (arith, either_sound, nothing_differs, last_tree_sound name a t hs)
+last_tree_sound name (ended n u ∷ a) t hs e = grind (arith, either_sound, found_sound, last_tree_sound name a t hs.1)
 
 scalar_sound : (s : Layout.Scalar) → Layout.IsScalar s → IsSound (Layout.scalar_tree s)
-scalar_sound (Layout.plain t) h = plain_sound t h
-scalar_sound (Layout.quoted text) h = string_sound text
-scalar_sound (Layout.single_quoted text) h = string_sound text
+scalar_sound a h = grind arith
 
 inline_sound : (i : Layout.Inline) → Layout.IsInline i → IsSound (Layout.inline_tree i)
-inline_sound (Layout.scalar s) h = scalar_sound s h
-inline_sound Layout.empty_array h = array_sound Items.no_items no_items_sound
-inline_sound Layout.empty_hash h = empty_hash_sound
+inline_sound a h = grind arith
 
 mutual
   block_sound : (c : ℕ) (a : List Anchor) (b : Layout.Block) → Layout.IsBlock c a b → AreAnchorsSound a → IsSound (Layout.block_tree b) × AreAnchorsSound (Layout.anchors_after_block b a)
@@ -180,9 +158,7 @@ mutual
       (pair_sound _ _ _ k.0.0 k.0.1 l.0, l.1)
 
 root_sound : (x : Layout.Root) → Layout.IsRoot x → IsSound (Layout.root_tree x)
-root_sound (Layout.Root.block column b) h = (block_sound column [] b h tt).0
-root_sound (Layout.Root.inline i) h = inline_sound i h
-root_sound (Layout.Root.literal text ls) h = string_sound text
+root_sound a h = grind (arith, block_sound, inline_sound, string_sound)
 
 documents_sound : (ds : Layout.Documents) → Layout.AreDocuments ds → AreAllSound (Layout.trees_of ds)
 documents_sound (Layout.last_document d after) h = (root_sound d.root h.1, tt)

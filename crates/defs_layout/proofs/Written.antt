@@ -27,13 +27,11 @@ spaces_fit b (suc m) = spaces_fit b m
 
 gap_spelt : (i : Option ℕ) (m : ℕ) (r : List ℕ) → spell_gap (gap i m) r ≡ new_line i m ++ r
 unfolding gap
-gap_spelt None m r = refl
-gap_spelt (Some w) m r = ap (λ t. 10 ∷ t) (spaces_spelt m r)
+gap_spelt a m r = grind (arith, spaces_spelt)
 
 gap_fits : (i : Option ℕ) (m : ℕ) → IsJsonGap (gap i m)
 unfolding gap
-gap_fits None m = tt
-gap_fits (Some w) m = spaces_fit true m
+gap_fits a m = grind (arith, spaces_fit)
 
 -- after a colon
 colon_gap : Option ℕ → List Blank
@@ -42,13 +40,11 @@ colon_gap (Some w) = space ∷ []
 
 colon_spelt : (i : Option ℕ) (r : List ℕ) → 58 ∷ spell_gap (colon_gap i) r ≡ key_end i ++ r
 unfolding colon_gap
-colon_spelt None r = refl
-colon_spelt (Some w) r = refl
+colon_spelt a r = grind arith
 
 colon_fits : (i : Option ℕ) → IsJsonGap (colon_gap i)
 unfolding colon_gap
-colon_fits None = tt
-colon_fits (Some w) = tt
+colon_fits a = grind arith
 
 -- ---- keys
 
