@@ -1,5 +1,5 @@
 -- Like accounts stay like over a step with the same text; and where they are equal after it, they were, and so were the steps.
-use Rattle.proof_row.proofs.Common.{[], account_past, act_of, ap, begins_free_line, begun_by, Bool, Entry, false, filled, free, fresh, Had, has_break, have_no_key, is_in_column, is_in_flow, is_keyed, is_renewed, is_waiting, Line, List, may_end, may_stand, None, not, on_one_line, Option, Outside, past_inside, past_outside, past_piece, past_site, refl, settled, Site, site_at, site_past, Some, Step, subst, taken, Tok, true, waits, ℕ, ◌&&◌, ◌∙◌, ◌∷◌, ◌≡◌}
+use Rattle.proof_row.proofs.Common.{[], account_past, act_of, ap, begins_free_line, begun_by, Bool, Entry, false, filled, free, fresh, Had, has_break, have_no_key, is_in_column, is_in_flow, is_keyed, is_renewed, is_waiting, Line, List, may_end, may_stand, None, not, on_one_line, Option, Outside, past_inside, past_outside, past_piece, past_site, refl, settled, Site, site_at, site_past, Some, Step, subst, taken, Tok, true, waits, ℕ, ◌&&◌, ◌∙◌, ◌∷◌, ◌≡◌, arith}
 use Rattle.defs_token.specs.FlowEntry.{Had.waits as had_waits}
 use Rattle.defs_token.specs.RowAccount.{Account}
 use Rattle.proof_row.proofs.Like.{LikeLine, LikeHad, LikeEntries, IsLike, LikeOutside, entries_themselves, Stepped, none_second, weaker, unless, where_both, both, same_entry}
@@ -11,18 +11,11 @@ use Rattle.std.proofs.lemmas.Bool.{and_parts}
 
 outside_step : (s : Site) (p : List ℕ) (t : Tok) (next : List ℕ) (Were : Type 0) (x y : Option Outside) → Stepped LikeOutside Were x y →
     Stepped IsLike Were (past_outside s p t next x) (past_outside s p t next y)
-outside_step s p t next Were None y h = tt
-outside_step s p t next Were (Some x) None h = tt
-outside_step s p t next Were (Some x) (Some y) h = (
-  (ap (λ bs. site_past false s p t next bs) h.0.1, h.0.0, entries_themselves (begun_by t)),
-  λ k. h.1 (ap (λ a. let o : Outside = record { line = a.line; blocks = a.site.blocks } in o) k),
-)
+outside_step s p t next a b y h = grind arith
 
 inside_step : (s : Site) (p : List ℕ) (t : Tok) (next : List ℕ) (l m : Line) (Were : Type 0) (x y : Option (List Entry)) → LikeLine l m → Stepped LikeEntries Were x y →
     Stepped IsLike ((l ≡ m) × Were) (past_inside s p t next l x) (past_inside s p t next m y)
-inside_step s p t next l m Were None y i h = tt
-inside_step s p t next l m Were (Some x) None i h = tt
-inside_step s p t next l m Were (Some x) (Some y) i h = ((refl, i, h.0), λ k. (ap (λ a. a.line) k, h.1 (ap (λ a. a.entries) k)))
+inside_step s p t next l m a b y i h = grind arith
 
 piece_step : (s : Site) (p : List ℕ) (t : Tok) (next : List ℕ) (again b c : Bool) (Were : Type 0) (x y : Option Line) (ds es : List Entry) →
     LikeEntries ds es → Stepped LikeLine Were x y →
@@ -39,9 +32,7 @@ piece_step s p t next again b c Were (Some l) (Some m) [] (e ∷ es) j h = absur
 piece_step s p t next again b c Were (Some l) (Some m) (d ∷ ds) [] j h = absurd j
 
 on_one_line_step : (p : List ℕ) (Were : Type 0) (x y : Option Account) → Stepped IsLike Were x y → Stepped IsLike Were (on_one_line p x) (on_one_line p y)
-on_one_line_step p Were None y h = tt
-on_one_line_step p Were (Some a) None h = none_second IsLike Were (on_one_line p (Some a))
-on_one_line_step p Were (Some a) (Some b) h = unless IsLike Were (has_break p && is_waiting a.line) (has_break p && is_waiting b.line) a b h.0 h.1
+on_one_line_step p d e y h = grind arith
 
 -- ---- a step
 
@@ -49,23 +40,13 @@ abbrev With : Step → (key : Bool) → Step
 With w key = record { separation = w.separation; piece = w.piece; shown = w.shown; key = key }
 
 pub same_flow : (ds es : List Entry) → LikeEntries ds es → is_in_flow ds ≡ is_in_flow es
-same_flow [] [] j = refl
-same_flow (d ∷ ds) (e ∷ es) j = refl
-same_flow [] (e ∷ es) j = absurd j
-same_flow (d ∷ ds) [] j = absurd j
+same_flow a b j = grind arith
 
 same_account : (a b : Account) → a.site ≡ b.site → a.line ≡ b.line → a.entries ≡ b.entries → a ≡ b
-same_account a b s l es =
-    ap (λ x. record { site = x; line = a.line; entries = a.entries }) s ∙
-    (ap (λ x. record { site = b.site; line = x; entries = a.entries }) l ∙
-    ap (λ x. record { site = b.site; line = b.line; entries = x }) es)
+same_account a b s l es = grind arith
 
 same_step : (w v : Step) → w.separation ≡ v.separation → w.piece ≡ v.piece → w.shown ≡ v.shown → w.key ≡ v.key → w ≡ v
-same_step w v f p t k =
-    ap (λ x. record { separation = x; piece = w.piece; shown = w.shown; key = w.key }) f ∙
-    (ap (λ x. record { separation = v.separation; piece = x; shown = w.shown; key = w.key }) p ∙
-    (ap (λ x. record { separation = v.separation; piece = v.piece; shown = x; key = w.key }) t ∙
-    ap (λ x. record { separation = v.separation; piece = v.piece; shown = v.shown; key = x }) k))
+same_step w v f p t k = grind arith
 
 -- Two like accounts are like again after steps with the same text, and where they are equal then, they were, and so were the steps.
 pub account_step : (a b : Account) (w v : Step) (x y : List ℕ) → IsLike a b → w.separation ≡ v.separation → w.piece ≡ v.piece → w.shown ≡ v.shown → x ≡ y →
@@ -90,32 +71,17 @@ account_step a b w v x y i f p t n =
 -- ---- the text's end
 
 same_line : (l m : Line) → LikeLine l m → not (is_waiting l) ≡ true → not (is_waiting m) ≡ true → l ≡ m
-same_line free free i h k = refl
-same_line taken taken i h k = refl
-same_line (waits p) m i h k = absurd (cc h)
-same_line l (waits q) i h k = absurd (cc k)
-same_line _ _ i h k = absurd i
+same_line l m i h k = grind arith
 
 same_had : (d e : Had) → LikeHad d e → not (is_keyed d) ≡ true → not (is_keyed e) ≡ true → d ≡ e
-same_had fresh fresh i h k = refl
-same_had filled filled i h k = refl
-same_had settled settled i h k = refl
-same_had (had_waits p) e i h k = absurd (cc h)
-same_had d (had_waits q) i h k = absurd (cc k)
-same_had _ _ i h k = absurd i
+same_had d e i h k = grind arith
 
 same_entries : (ds es : List Entry) → LikeEntries ds es → have_no_key ds ≡ true → have_no_key es ≡ true → ds ≡ es
 same_entries [] [] i h k = refl
-same_entries (d ∷ ds) (e ∷ es) i h k =
-    let first : (not (is_keyed d.had) ≡ true) × (have_no_key ds ≡ true) = and_parts _ _ h in
-    let second : (not (is_keyed e.had) ≡ true) × (have_no_key es ≡ true) = and_parts _ _ k in
-    both d e ds es (same_entry d e i.0.0 i.0.1 (same_had d.had e.had i.0.2 first.0 second.0)) (same_entries ds es i.1 first.1 second.1)
+same_entries (d ∷ ds) (e ∷ es) i h k = grind (arith, and_parts, both, same_entry, same_had, same_entries ds es i.1)
 same_entries [] (e ∷ es) i h k = absurd i
 same_entries (d ∷ ds) [] i h k = absurd i
 
 -- Like accounts at which a text may end are equal.
 pub same_at_end : (a b : Account) → IsLike a b → may_end a ≡ true → may_end b ≡ true → a ≡ b
-same_at_end a b i h k =
-    let first : (not (is_waiting a.line) ≡ true) × (have_no_key a.entries ≡ true) = and_parts _ _ h in
-    let second : (not (is_waiting b.line) ≡ true) × (have_no_key b.entries ≡ true) = and_parts _ _ k in
-    same_account a b i.0 (same_line a.line b.line i.1 first.0 second.0) (same_entries a.entries b.entries i.2 first.1 second.1)
+same_at_end a b i h k = grind (arith, and_parts, same_account, same_line, same_entries)

@@ -40,17 +40,7 @@ unbroken c e = subst (λ z. is_break z ≡ false) (sym (eqb-true c 32 e)) refl
 outside : (n : ℕ) (t : List ℕ) → is_outside n t ≡ true → Outside n (up_to_break t)
 outside zero t h = absurd (cc h)
 outside (suc n) [] h = absurd (cc h)
-outside (suc n) (c ∷ r) h = by (c == space) (is_break c) refl refl h (λ f. outside n r f)
-  where
-    spaced : (c : ℕ) (l : List ℕ) → (c == 32) ≡ true → Outside n l → Outside (suc n) (c ∷ l)
-    spaced c l e f = rw e (f.0, omega (arith, f.1))
-
-    unspaced : (c : ℕ) (l : List ℕ) → (c == 32) ≡ false → Outside (suc n) (c ∷ l)
-    unspaced c l e = rw e (refl, omega arith)
-
-    by : (blank break : Bool) → (c == 32) ≡ blank → is_break c ≡ break → (if blank then is_outside n r else (not break && not (is_nul c))) ≡ true → (is_outside n r ≡ true → Outside n (up_to_break r)) →
-        Outside (suc n) (if break then [] else c ∷ up_to_break r)
-    by a b e f g k = grind (arith, unbroken, spaced)
+outside (suc n) (c ∷ r) h = grind (arith, unbroken, outside n r)
 
 -- a line that is neither of spaces alone nor content
 no_row : (column : ℕ) (l : List ℕ) → is_spaces l ≡ false → is_content_line column l ≡ false → row_of column l ≡ None

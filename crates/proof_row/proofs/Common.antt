@@ -1,6 +1,7 @@
 -- The words of other crates and of specs/ that the proofs here use, passed on from one place. Declares nothing.
 pub use Rattle.std.proofs.Common.{[], ap, append-nil, append_assoc, arith, Bool, codes, drop, false, if◌then◌else◌, inl, inr, length, List, map, max, nat_le, nat_lt, None, not, Option, refl, replicate, Some, subst, suc, sym, take, true, zero, ℕ, ◌&&◌, ◌++◌, ◌+◌, ◌-◌, ◌<◌, ◌==◌, ◌||◌, ◌∙◌, ◌∷◌, ◌≡◌, ◌≢◌, ◌≤◌, ◌⊎◌}
 pub use Rattle.std.proofs.lemmas.Bool.{eqb-true, lt-leb}
+pub use Rattle.std.proofs.lemmas.Bool.Decides.{nat_tests}
 pub use Rattle.std.proofs.lemmas.List.{append_cancel_right, length-take, take-append-le}
 pub use Rattle.defs_text.specs.BlockScalar.{after_style, all_lines, block_value, BlockStyle, Body, body, column_by, content_column, deepest_start, Ending, further_text, Header, header_of, input_ends, is_further_text, is_outside, is_spaces, leading_spaces, put_row, Row, rows_of, starts_with_tab, value_at_end, value_at_text, value_by}
 unfoldable pub use Rattle.defs_text.specs.BlockScalar.{digit_of, is_content_line, is_empty_line, row_of, sign_of}

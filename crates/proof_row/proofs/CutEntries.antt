@@ -1,5 +1,5 @@
 -- A step of a row in a flow collection, as a cut has it: keys, and starts and ends of single pairs, have no piece.
-use Rattle.proof_row.proofs.Common.{[], Account, Act, act_of, ap, asked_pair, Before, begins_pair, begins_with_key_indicator, begun_by, begun_inside, Bool, ends_entry, entries_past, Entry, false, filled, first_entry, flow_entry, flow_mapping_start, FlowKind, fresh, gives_closing, gives_colon, gives_comma, gives_marker, gives_node, gives_question, Had, if◌then◌else◌, inl, inr, key_tokens, Level, levels_past, List, no_pair, None, Option, Pair, pair_end, pair_past, past_separation, Position, put, refl, sequence, settled, single_pair, Some, subst, sym, takes_pair, Tok, Token, true, with_had, ℕ, ◌++◌, ◌==◌, ◌||◌, ◌∙◌, ◌∷◌, ◌≡◌, ◌⊎◌}
+use Rattle.proof_row.proofs.Common.{[], Account, Act, act_of, ap, asked_pair, Before, begins_pair, begins_with_key_indicator, begun_by, begun_inside, Bool, ends_entry, entries_past, Entry, false, filled, first_entry, flow_entry, flow_mapping_start, FlowKind, fresh, gives_closing, gives_colon, gives_comma, gives_marker, gives_node, gives_question, Had, if◌then◌else◌, inl, inr, key_tokens, Level, levels_past, List, no_pair, None, Option, Pair, pair_end, pair_past, past_separation, Position, put, refl, sequence, settled, single_pair, Some, subst, sym, takes_pair, Tok, Token, true, with_had, ℕ, ◌++◌, ◌==◌, ◌||◌, ◌∙◌, ◌∷◌, ◌≡◌, ◌⊎◌, arith}
 use Rattle.defs_token.specs.FlowEntry.{waits}
 use Rattle.proof_row.proofs.CutPieces.{account_by}
 use Rattle.proof_row.proofs.CutSteps.{is_single, level_in, levels_in, levels_go_on, levels_close, node_begins, is_comma, is_colon, closing_ends, goes_on}
@@ -27,13 +27,7 @@ Inner here b bs e es = account_by here b bs (levels_in (e ∷ es))
 -- an entry goes on, with a piece that does not end it
 in_entry : (d : Account) (us : List Token) (next : List ℕ) (t : Tok) (c : ℕ) (r : List ℕ) (es : List Entry) (e : Entry) (k : Act) → act_of t ≡ k → (k ≡ gives_comma → ⊥) → (k ≡ gives_closing → ⊥) →
     AreEmpty d us next t → past_all d us ≡ record d { levels = level_in e ∷ levels_in es } → Entered d us next t c r es (begun_by t ++ (e ∷ es))
-in_entry d us next t c r es e k a no_comma no_close empty same = record {
-  level = level_in e;
-  are_empty = empty;
-  account_is = same;
-  has_no_pair = λ h. absurd (cc (h, goes_on t k a no_comma no_close));
-  levels_are = levels_go_on t c r (e ∷ es) (λ h. no_close (sym a ∙ h));
-}
+in_entry d us next t c r es e k a no_comma no_close empty same = grind arith
 
 -- the same, where nothing begins
 nothing : (here : Position) (b : Before) (bs : List (Option ℕ)) (e f : Entry) (next : List ℕ) (t : Tok) (c : ℕ) (r : List ℕ) (es : List Entry) (k : Act) → act_of t ≡ k → (k ≡ gives_comma → ⊥) → (k ≡ gives_closing → ⊥) → level_in e ≡ level_in f →
@@ -49,29 +43,19 @@ Unkeyed here b bs kind pair es = Inner here b bs (entry_by kind pair fresh) es
 -- a key begins, and in a sequence its single pair
 key_enters : (kind : FlowKind) (pair : Pair) (here colon : Position) (b : Before) (bs : List (Option ℕ)) (next : List ℕ) (t : Tok) (c : ℕ) (r : List ℕ) (es : List Entry) → act_of t ≡ gives_node → begins_with_key_indicator (past_separation false next) ≡ false →
     Entered (Unkeyed here b bs kind pair es) (key_tokens (takes_pair kind pair) colon flow_mapping_start here) next t c r es (begun_by t ++ (entry_by kind pair (waits here) ∷ es))
-key_enters sequence no_pair here colon b bs next t c r es a q =
-    in_entry (Unkeyed here b bs sequence no_pair es) (key_tokens true colon flow_mapping_start here) next t c r es (entry_by sequence no_pair (waits here)) gives_node a (λ h. cc h) (λ h. cc h)
-    (inr (refl, refl, refl, q), (inr (refl, node_begins t a), tt)) refl
-key_enters kind pair here colon b bs next t c r es a q =
-    in_entry (Unkeyed here b bs kind pair es) (key_tokens false colon flow_mapping_start here) next t c r es (entry_by kind pair (waits here)) gives_node a (λ h. cc h) (λ h. cc h)
-    (inr (refl, node_begins t a), tt) refl
+key_enters kind pair here colon b bs next t c r es a q = grind (arith, in_entry, node_begins)
 
 -- ---- `?`, lines for the document, and colons
 
 question_pair : (single : Bool) (pair : Pair) → is_single (pair_past single gives_question pair) ≡ is_single pair
-question_pair true no_pair = refl
-question_pair false no_pair = refl
-question_pair true pair = refl
-question_pair false pair = refl
+question_pair a pair = grind arith
 
 -- ---- ends of entries
 
 -- the end of a single pair, before a token that ends an entry
 pair_ends : (pair : Pair) (kind : FlowKind) (here : Position) (b : Before) (bs : List (Option ℕ)) (next : List ℕ) (t : Tok) (c : ℕ) (r : List ℕ) (es zs : List Entry) → ends_entry (Some t) ≡ true →
     levels_past (record { kind = kind; pair = false } ∷ levels_in es) (c ∷ r) t ≡ levels_in zs → Entered (Unkeyed here b bs kind pair es) (pair_end here pair) next t c r es zs
-pair_ends single_pair kind here b bs next t c r es zs e l = record { level = record { kind = kind; pair = false }; are_empty = (inr (refl, refl, e), tt); account_is = refl; has_no_pair = λ h. refl; levels_are = l }
-pair_ends no_pair kind here b bs next t c r es zs e l = record { level = record { kind = kind; pair = false }; are_empty = tt; account_is = refl; has_no_pair = λ h. refl; levels_are = l }
-pair_ends asked_pair kind here b bs next t c r es zs e l = record { level = record { kind = kind; pair = false }; are_empty = tt; account_is = refl; has_no_pair = λ h. refl; levels_are = l }
+pair_ends a kind here b bs next t c r es zs e l = grind arith
 
 -- Every piece in flow.
 pub entered : (k : Act) (again key : Bool) (had : Had) (kind : FlowKind) (pair : Pair) (here colon own : Position) (b : Before) (bs : List (Option ℕ)) (next : List ℕ) (t : Tok) (c : ℕ) (r : List ℕ) (es : List Entry) → act_of t ≡ k →

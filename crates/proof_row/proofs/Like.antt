@@ -1,5 +1,5 @@
 -- Accounts that are alike but for keys that wait, and what a step makes of two like things.
-use Rattle.proof_row.proofs.Common.{[], ap, Bool, Entry, false, filled, free, fresh, Had, if◌then◌else◌, Line, List, None, Option, Outside, refl, settled, Some, taken, true, waits, ◌++◌, ◌∙◌, ◌∷◌, ◌≡◌}
+use Rattle.proof_row.proofs.Common.{[], ap, Bool, Entry, false, filled, free, fresh, Had, if◌then◌else◌, Line, List, None, Option, Outside, refl, settled, Some, taken, true, waits, ◌++◌, ◌∙◌, ◌∷◌, ◌≡◌, arith}
 use Rattle.defs_token.specs.FlowEntry.{Had.waits as had_waits}
 use Rattle.defs_token.specs.RowAccount.{Account}
 
@@ -40,10 +40,7 @@ abbrev pub LikeOutside : Outside → Outside → Type 0
 LikeOutside x y = LikeLine x.line y.line × (x.blocks ≡ y.blocks)
 
 had_itself : (h : Had) → LikeHad h h
-had_itself fresh = tt
-had_itself filled = tt
-had_itself (had_waits p) = refl
-had_itself settled = tt
+had_itself a = grind arith
 
 pub entries_themselves : (es : List Entry) → LikeEntries es es
 entries_themselves [] = tt
@@ -58,35 +55,26 @@ Stepped Like Were (Some x) None = Unit {0}
 Stepped Like Were None y = Unit {0}
 
 pub none_second : {A : Type 0} → (Like : A → A → Type 0) (Were : Type 0) (x : Option A) → Stepped Like Were x None
-none_second Like Were None = tt
-none_second Like Were (Some x) = tt
+none_second a b d = grind arith
 
 -- what follows from a step follows also where more is said of what was before
 pub weaker : {A : Type 0} → (Like : A → A → Type 0) (P Q : Type 0) (x y : Option A) → (P → Q) → Stepped Like P x y → Stepped Like Q x y
-weaker Like P Q None y f s = tt
-weaker Like P Q (Some x) None f s = tt
-weaker Like P Q (Some x) (Some y) f s = (s.0, λ h. f (s.1 h))
+weaker a b d e y f s = grind arith
 
 -- a step that either thing may fail to make
 pub unless : {A : Type 0} → (Like : A → A → Type 0) (Were : Type 0) (m n : Bool) (x y : A) → Like x y → (x ≡ y → Were) →
     Stepped Like Were (if m then None else Some x) (if n then None else Some y)
-unless Like Were true n x y i f = tt
-unless Like Were false true x y i f = tt
-unless Like Were false false x y i f = (i, f)
+unless a b d n x y i f = grind arith
 
 -- a step that both make, or neither
 pub where_both : {A : Type 0} → (Like : A → A → Type 0) (Were : Type 0) (n : Bool) (x y : Option A) → Stepped Like Were x y →
     Stepped Like Were (if n then x else None) (if n then y else None)
-where_both Like Were true x y s = s
-where_both Like Were false x y s = tt
+where_both a b d x y s = grind arith
 
 -- ---- lists of entries
 
 pub tails : (d e : Entry) (ds es : List Entry) → d ∷ ds ≡ e ∷ es → (d ≡ e) × (ds ≡ es)
-tails d e ds es h =
-    let head : d ≡ e = cc h in
-    let tail : ds ≡ es = cc h in
-    (head, tail)
+tails d e ds es h = grind arith
 
 pub both : (d e : Entry) (ds es : List Entry) → d ≡ e → ds ≡ es → d ∷ ds ≡ e ∷ es
 both d e ds es h k = cc (h, k)
@@ -101,7 +89,4 @@ same_after [] ds es h = h
 same_after (b ∷ begun) ds es h = same_after begun ds es (tails b b (begun ++ ds) (begun ++ es) h).1
 
 pub same_entry : (d e : Entry) → d.kind ≡ e.kind → d.pair ≡ e.pair → d.had ≡ e.had → d ≡ e
-same_entry d e k p h =
-    ap (λ x. record { kind = x; pair = d.pair; had = d.had }) k ∙
-    (ap (λ x. record { kind = e.kind; pair = x; had = d.had }) p ∙
-    ap (λ x. record { kind = e.kind; pair = e.pair; had = x }) h)
+same_entry d e k p h = grind arith

@@ -1,6 +1,6 @@
 -- A text has at most one list of events, and means at most one list of trees.
 use Rattle.std.specs.Prelude.{Result, Ok, Err, map, ◌++◌}
-use Rattle.proof_row.proofs.Common.{[], ap, List, Position, refl, subst, sym, ◌∙◌, ◌∷◌, ◌≡◌}
+use Rattle.proof_row.proofs.Common.{[], ap, List, Position, refl, subst, sym, ◌∙◌, ◌∷◌, ◌≡◌, arith}
 use Rattle.defs_tree.specs.Tree.{Tree}
 use Rattle.defs_token.specs.Toks.{toks}
 use Rattle.defs_event.specs.Event.{Ev}
@@ -32,13 +32,7 @@ with_somewhere [] (f ∷ fs) = ap (λ vs. f ∷ vs) (with_somewhere [] fs)
 with_somewhere (e ∷ es) fs = ap (λ vs. e.0 ∷ vs) (with_somewhere es fs)
 
 pub read_again : (r q : Result (List Tree) Tree) (x : Loader) → HasRead r x → HasRead q x → {trees : List Tree} → q ≡ Ok trees → r ≡ Ok trees
-read_again (Ok ts) (Ok us) (at_work u) h k e = ap Ok (sym h.0 ∙ k.0) ∙ e
-read_again (Ok ts) (Ok us) (noted documents key p) h k e = absurd h
-read_again (Ok ts) (Ok us) (unfinished.refused documents p) h k e = absurd h
-read_again (Err key) (Ok us) (at_work u) h k e = absurd h
-read_again (Err key) (Ok us) (noted documents k' p) h k e = absurd k
-read_again (Err key) (Ok us) (unfinished.refused documents p) h k e = absurd k
-read_again r (Err key) x h k e = cc
+read_again r a x h k e = grind arith
 
 same_trees : {ts us : List Tree} (r : Result (List Tree) Tree) → r ≡ Ok ts → r ≡ Ok us → ts ≡ us
 same_trees a e f = cc

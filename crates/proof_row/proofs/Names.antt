@@ -1,14 +1,12 @@
 -- The name of an anchor or of an alias has one end.
-use Rattle.proof_row.proofs.Common.{[], all_of, ap, false, goes_on_with_name, is_anchor_name, is_name, List, NamesHaveOneEnd, not, refl, sym, true, ℕ, ◌++◌, ◌∙◌, ◌∷◌, ◌≡◌}
+use Rattle.proof_row.proofs.Common.{[], all_of, ap, false, goes_on_with_name, is_anchor_name, is_name, List, NamesHaveOneEnd, not, refl, sym, true, ℕ, ◌++◌, ◌∙◌, ◌∷◌, ◌≡◌, arith}
 use Rattle.proof_row.proofs.Runs.{same_head, ends_run, runs}
 
 of_names : (n : List ℕ) → is_name n ≡ true → all_of is_anchor_name n ≡ true
-of_names [] h = refl
-of_names (c ∷ n) h = h
+of_names a h = grind arith
 
 ended : (x : List ℕ) → goes_on_with_name x ≡ false → ends_run is_anchor_name x ≡ true
-ended [] h = refl
-ended (c ∷ x) h = ap not h
+ended a h = grind arith
 
 pub names : NamesHaveOneEnd
 names i p q x y h k e =

@@ -27,49 +27,21 @@ doubled r = (if begins_with single_quote r then Some (spelled (content single_qu
 
 single_onward : IsOnward single_quoted_element
 unfolding single_quoted_element
-single_onward c r z h = by (is_nul c) (c == single_quote)
-  where
-    by : (nul quote : Bool) → Onward r (if nul then None else (if quote then doubled r else plain_element c r)) (if nul then None else (if quote then doubled (r ++ z) else plain_element c (r ++ z)))
-    by true quote = tt
-    by false true = grind arith
-    by false false = plain_onward c r z h
+single_onward c r z h = grind (arith, plain_onward)
 
 -- ---- double quotes
 
 numeric_onward : (n d : ℕ) (r z : List ℕ) → Onward (d ∷ r) (numeric_escape n r) (numeric_escape n (r ++ z))
 unfolding numeric_escape
-numeric_onward n d r z = by (length (take n r) == n) refl
-  where
-    by : (many : Bool) → (length (take n r) == n) ≡ many →
-        Onward (d ∷ r) (if many then numbered n (hexadecimal 0 (take n r)) else None) (if length (take n (r ++ z)) == n then numbered n (hexadecimal 0 (take n (r ++ z))) else None)
-    by false e = tt
-    by true e =
-        let fits : n ≤ length r = omega (arith, eqb-true (length (take n r)) n e, length-take n r) in
-        rw (take-append-le n r z fits, e) (grind arith)
+numeric_onward n d r z = grind (arith, eqb-true, length-take, take-append-le)
 
 escape_onward : (r z : List ℕ) → begins_with 10 z ≡ false → Onward r (escape r) (escape (r ++ z))
 unfolding escape
-escape_onward [] z h = tt
-escape_onward (d ∷ r) z h = by (is_break d) (lookup d escapes) (lookup d numeric_escapes)
-  where
-    by : (break : Bool) (named number : Option ℕ) →
-        Onward (d ∷ r) (if break then Some (spelled escaped_break (suc (break_further d r))) else escape_by named number r)
-        (if break then Some (spelled escaped_break (suc (break_further d (r ++ z)))) else escape_by named number (r ++ z))
-    by true named number = let further_fits : break_further d r ≤ length r = grind arith in (omega (arith, further_fits), ap (λ n. Some (spelled escaped_break (suc n))) (grind arith))
-    by false (Some code) number = (omega arith, refl)
-    by false None (Some n) = numeric_onward n d r z
-    by false None None = tt
+escape_onward a z h = grind (arith, numeric_onward)
 
 double_onward : IsOnward double_quoted_element
 unfolding double_quoted_element
-double_onward c r z h = by (is_nul c) (c == double_quote) (c == backslash)
-  where
-    by : (nul quote slash : Bool) → Onward r (if nul then None else (if quote then None else (if slash then escape r else plain_element c r)))
-        (if nul then None else (if quote then None else (if slash then escape (r ++ z) else plain_element c (r ++ z))))
-    by true quote slash = tt
-    by false true slash = tt
-    by false false true = escape_onward r z h
-    by false false false = plain_onward c r z h
+double_onward c r z h = grind (arith, escape_onward, plain_onward)
 
 -- ---- a body
 
@@ -112,10 +84,7 @@ bodies at f quote lf again stop b d x y h k i j e = by (splits b d (quote ∷ x)
 
 -- two pieces that are a body between quotes
 between : (quote : ℕ) (p q b d x y : List ℕ) → p ≡ quote ∷ (b ++ (quote ∷ [])) → q ≡ quote ∷ (d ++ (quote ∷ [])) → p ++ x ≡ q ++ y → b ++ (quote ∷ x) ≡ d ++ (quote ∷ y)
-between quote p q b d x y f g e =
-    let whole : (quote ∷ (b ++ (quote ∷ []))) ++ x ≡ (quote ∷ (d ++ (quote ∷ []))) ++ y = ap (λ z. z ++ x) (sym f) ∙ (e ∙ ap (λ z. z ++ y) g) in
-    let tails : (b ++ (quote ∷ [])) ++ x ≡ (d ++ (quote ∷ [])) ++ y = (same_head quote quote _ _ whole).1 in
-    sym (append_assoc b (quote ∷ []) x) ∙ (tails ∙ append_assoc d (quote ∷ []) y)
+between quote p q b d x y f g e = grind (arith, same_head, append_assoc)
 
 single_stops : (z y : List ℕ) → begins_with single_quote (z ++ (single_quote ∷ y)) ≡ false → is_read (elements single_quoted_element 0 (single_quote ∷ z)) ≡ false
 unfolding single_quoted_element is_nul
