@@ -9,13 +9,10 @@ OfSome P (Some t) = P t
 or_else : (P : Tree → Type 0) (o : Option Tree) (t : Tree) → OfSome P o → P t → P (unwrap_or o t)
 or_else a b t h r = grind arith
 
-OfSome-where_true : (P : Tree → Type 0) (b : Bool) (t : Tree) → P t → OfSome P (where_true b t)
-OfSome-where_true a b t h = grind arith
+OfSome-where : (P : Tree → Type 0) (b : Bool) (t : Tree) → (b ≡ true → P t) → OfSome P (where_true b t)
+OfSome-where a b t h = grind arith
 
 -- ---- integers fit
-
-Fits : ℤ → Type 0
-Fits z = IsTrue (fits_i64 z)
 
 fitting : (o : Option ℤ) → OfSome (λ z. IsTrue (fits_i64 z)) (option_and_then (λ z. if fits_i64 z then Some z else None) o)
 fitting a = grind arith
@@ -23,159 +20,74 @@ fitting a = grind arith
 pub signed_number-fits : (base : ℕ) (text : List ℕ) → OfSome (λ z. IsTrue (fits_i64 z)) (signed_number base text)
 signed_number-fits base text = fitting (with_sign base text)
 
-integer_row : (text : List ℕ) (o : Option ℤ) → OfSome (λ z. IsTrue (fits_i64 z)) o → OfSome (MayStandFor text) (option_map integer o)
-integer_row text a h = grind arith
-
-after_row : (text : List ℕ) (base : ℕ) (o : Option (List ℕ)) → OfSome (MayStandFor text) (option_map integer (option_and_then (signed_number base) o))
-after_row text base a = grind arith
-
 -- ---- what typing gives
 
--- each of the rows gives a plain scalar
-AllSound : (List ℕ → Tree → Type 0) → List (List ℕ → Option Tree) → List ℕ → Type 0
-AllSound P [] text = Unit {0}
-AllSound P (row ∷ rest) text = OfSome (P text) (row text) × AllSound P rest text
+-- a fact of what each of the rows gives
+AllHave : (Tree → Type 0) → List (List ℕ → Option Tree) → List ℕ → Type 0
+AllHave P [] text = Unit {0}
+AllHave P (row ∷ rest) text = OfSome P (row text) × AllHave P rest text
 
-by_rows-sound : (P : List ℕ → Tree → Type 0) (rs : List (List ℕ → Option Tree)) (text : List ℕ) → AllSound P rs text → P text (string text) → P text (by_rows rs text)
-unfolding AllSound
-by_rows-sound P [] text h r = r
-by_rows-sound P (row ∷ rest) text h r = or_else (P text) (row text) (by_rows rest text) h.0 (by_rows-sound P rest text h.1 r)
+by_rows-have : (P : Tree → Type 0) (rs : List (List ℕ → Option Tree)) (text : List ℕ) → AllHave P rs text → P (string text) → P (by_rows rs text)
+unfolding AllHave
+by_rows-have P [] text h r = r
+by_rows-have P (row ∷ rest) text h r = or_else P (row text) (by_rows rest text) h.0 (by_rows-have P rest text h.1 r)
+
+-- the rows give integers of 64 bits, null, booleans, and the text as a real if it is a special word or of the decimal grammar
+module _ (P : Tree → Type 0) (integers : (z : ℤ) → IsTrue (fits_i64 z) → P (integer z)) where
+  integer_row : (o : Option ℤ) → OfSome (λ z. IsTrue (fits_i64 z)) o → OfSome P (option_map integer o)
+  integer_row o h = grind arith
+
+  after_row : (base : ℕ) (o : Option (List ℕ)) → OfSome P (option_map integer (option_and_then (signed_number base) o))
+  after_row base None = tt
+  after_row base (Some text) = integer_row (signed_number base text) (signed_number-fits base text)
+
+  rows_have : (text : List ℕ) → P null → ((b : Bool) → P (boolean b)) → (is_among special_words text ≡ true → P (real text))
+      → (is_decimal text ≡ true → P (real text)) → AllHave P rows text
+  unfolding AllHave
+  rows_have text n b s d = search (after_row, integer_row, signed_number-fits, OfSome-where, n, b, s, d)
 
 pub typing_plain : (text : List ℕ) → MayStandFor text (typing text)
-unfolding typing AllSound
-typing_plain text = by_rows-sound MayStandFor rows text (
-  after_row text 16 (after_prefix (codes "0x") text),
-  (
-    after_row text 8 (after_prefix (codes "0o") text),
-    (
-      after_row text 10 (after_prefix (codes "+") text),
-      (
-        OfSome-where_true (MayStandFor text) (is_among null_words text) null tt,
-        (
-          OfSome-where_true (MayStandFor text) (is_among true_words text) (boolean true) tt,
-          (
-            OfSome-where_true (MayStandFor text) (is_among false_words text) (boolean false) tt,
-            (
-              integer_row text (signed_decimal text) (signed_number-fits 10 text),
-              (
-                OfSome-where_true (MayStandFor text) (is_among special_words text) (real text) refl,
-                (
-                  OfSome-where_true (MayStandFor text) (is_decimal text) (real text) refl,
-                  tt,
-                ),
-              ),
-            ),
-          ),
-        ),
-      ),
-    ),
-  ),
-)
-    refl
-
-pub real_of_plain : (text : List ℕ) (t : Tree) → MayStandFor text t → is_real t ≡ true → t ≡ real text
-real_of_plain text a h e = grind arith
-
-pub string_of_plain : (text : List ℕ) (t : Tree) → MayStandFor text t → is_string t ≡ true → t ≡ string text
-string_of_plain text a h e = grind arith
+unfolding typing
+typing_plain text =
+    by_rows-have (MayStandFor text) rows text (rows_have (MayStandFor text) (λ z h. h) text tt (λ b. tt) (λ s. refl) (λ d. refl)) refl
 
 pub typing-real : (text : List ℕ) → is_real_text text ≡ true → typing text ≡ real text
-typing-real text e = real_of_plain text (typing text) (typing_plain text) e
+typing-real text e = real_of_plain (typing text) (typing_plain text) e
+  where
+    real_of_plain : (t : Tree) → MayStandFor text t → is_real t ≡ true → t ≡ real text
+    real_of_plain t h e = grind arith
 
 pub typing-string : (text : List ℕ) → is_string (typing text) ≡ true → typing text ≡ string text
-typing-string text e = string_of_plain text (typing text) (typing_plain text) e
+typing-string text e = string_of_plain (typing text) (typing_plain text) e
+  where
+    string_of_plain : (t : Tree) → MayStandFor text t → is_string t ≡ true → t ≡ string text
+    string_of_plain t h e = grind arith
 
 -- ---- strings fit no row
 
-abbrev NotString : List ℕ → Tree → Type 0
-NotString text t = is_string t ≡ false
-
-option_map-integer : (o : Option ℤ) (text : List ℕ) → OfSome (NotString text) (option_map integer o)
-option_map-integer a text = grind arith
+abbrev NotString : Tree → Type 0
+NotString t = is_string t ≡ false
 
 no_row-string : (rs : List (List ℕ → Option Tree)) (text : List ℕ) → list_all (λ row. is_none (row text)) rs ≡ true → by_rows rs text ≡ string text
 no_row-string [] text h = refl
 no_row-string (row ∷ rest) text h = grind (arith, and_parts, no_row-string rest text)
 
-string-no_row : (rs : List (List ℕ → Option Tree)) (text : List ℕ) → AllSound NotString rs text → by_rows rs text ≡ string text → list_all (λ row. is_none (row text)) rs ≡ true
-unfolding AllSound
+string-no_row : (rs : List (List ℕ → Option Tree)) (text : List ℕ) → AllHave NotString rs text → by_rows rs text ≡ string text → list_all (λ row. is_none (row text)) rs ≡ true
+unfolding AllHave
 string-no_row [] text h e = refl
 string-no_row (row ∷ rest) text h e = grind (arith, string-no_row rest text h.1)
 
 pub strings_exactly : (text : List ℕ) → (typing text ≡ string text → list_all (λ row. is_none (row text)) rows ≡ true) × (list_all (λ row. is_none (row text)) rows ≡ true → typing text ≡ string text)
-unfolding typing AllSound
-strings_exactly text = (
-  string-no_row rows text (
-    option_map-integer (option_and_then (signed_number 16) (after_prefix (codes "0x") text)) text,
-    (
-      option_map-integer (option_and_then (signed_number 8) (after_prefix (codes "0o") text)) text,
-      (
-        option_map-integer (option_and_then signed_decimal (after_prefix (codes "+") text)) text,
-        (
-          OfSome-where_true (NotString text) (is_among null_words text) null refl,
-          (
-            OfSome-where_true (NotString text) (is_among true_words text) (boolean true) refl,
-            (
-              OfSome-where_true (NotString text) (is_among false_words text) (boolean false) refl,
-              (
-                option_map-integer (signed_decimal text) text,
-                (
-                  OfSome-where_true (NotString text) (is_among special_words text) (real text) refl,
-                  (
-                    OfSome-where_true (NotString text) (is_decimal text) (real text) refl,
-                    tt,
-                  ),
-                ),
-              ),
-            ),
-          ),
-        ),
-      ),
-    ),
-  ),
-  no_row-string rows text,
-)
+unfolding typing
+strings_exactly text = (string-no_row rows text (rows_have NotString (λ z h. refl) text refl (λ b. refl) (λ s. refl) (λ d. refl)), no_row-string rows text)
 
 -- ---- real texts
-
-OfSome-where : (P : Tree → Type 0) (b : Bool) (t : Tree) → (b ≡ true → P t) → OfSome P (where_true b t)
-OfSome-where a b t h = grind arith
 
 abbrev FromRealRow : List ℕ → Tree → Type 0
 FromRealRow text t = is_real t ≡ true → (is_among special_words text ≡ true) ⊎ (is_decimal text ≡ true)
 
-option_map-no_real : (o : Option ℤ) (text : List ℕ) → OfSome (FromRealRow text) (option_map integer o)
-option_map-no_real a text = grind arith
-
 -- a real text is one of the special words or of the decimal grammar
 pub real_text-cases : (text : List ℕ) → is_real_text text ≡ true → (is_among special_words text ≡ true) ⊎ (is_decimal text ≡ true)
-unfolding typing AllSound
-real_text-cases text = by_rows-sound FromRealRow rows text (
-  option_map-no_real (option_and_then (signed_number 16) (after_prefix (codes "0x") text)) text,
-  (
-    option_map-no_real (option_and_then (signed_number 8) (after_prefix (codes "0o") text)) text,
-    (
-      option_map-no_real (option_and_then signed_decimal (after_prefix (codes "+") text)) text,
-      (
-        OfSome-where (FromRealRow text) (is_among null_words text) null (λ b e. cc),
-        (
-          OfSome-where (FromRealRow text) (is_among true_words text) (boolean true) (λ b e. cc),
-          (
-            OfSome-where (FromRealRow text) (is_among false_words text) (boolean false) (λ b e. cc),
-            (
-              option_map-no_real (signed_decimal text) text,
-              (
-                OfSome-where (FromRealRow text) (is_among special_words text) (real text) (λ b e. inl b),
-                (
-                  OfSome-where (FromRealRow text) (is_decimal text) (real text) (λ b e. inr b),
-                  tt,
-                ),
-              ),
-            ),
-          ),
-        ),
-      ),
-    ),
-  ),
-)
-    (λ e. cc)
+unfolding typing
+real_text-cases text =
+    by_rows-have (FromRealRow text) rows text (rows_have (FromRealRow text) (λ z h e. cc) text (λ e. cc) (λ b e. cc) (λ s e. inl s) (λ d e. inr d)) (λ e. cc)

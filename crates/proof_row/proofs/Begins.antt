@@ -1,5 +1,5 @@
 -- The text says which kind of piece begins.
-use Rattle.proof_row.proofs.Common.{[], Account, after, after_mark, alias, alias_name, anchor, anchor_name, ap, are_marks, begins_flow, begins_plain, begins_with_space_or_break, block_end, block_entry, block_mapping_start, block_read, block_scalar, block_sequence_start, BlockRead, BlockStyle, Bool, codes, collection_column, colon, comma, dash, dashes, Directive, directive_by, directive_line, directive_of, document_end, document_start, dots, double_quoted, ends_separation, eqb-true, false, flow_entry, flow_mapping_end, flow_mapping_start, flow_sequence_end, flow_sequence_start, folded, has_no_break, Holds, if◌then◌else◌, in_double_quotes, in_single_quotes, inl, inr, is_adjacent, is_alpha, is_at_gap, is_at_line_end, is_blank, is_blank_or_end, is_break, is_document_marker, is_flow, is_nul, is_value_indicator, is_whole_plain, IsDirective, IsDoubleQuoted, IsNamed, IsPiece, IsSingleQuoted, key, Kind, kind_at, kind_by, kind_of, leading, List, literal, mapping_closing, mapping_opening, may_begin, None, not, nothing, Option, plain, plain_scalar, plain_value, Position, question, refl, reserved, scalar, SeparationsEndBeforePieces, sequence_closing, sequence_opening, single_quoted, Some, stream_end, stream_start, subst, sym, Tag, tag, tag_declaration, tag_directive, tag_text, TextsBeginWithOneKind, Tok, true, value, version, version_directive, written_tag, ℕ, ◌&&◌, ◌++◌, ◌==◌, ◌||◌, ◌∙◌, ◌∷◌, ◌≡◌, ◌≢◌, ◌⊎◌, arith}
+use Rattle.proof_row.proofs.Common.{[], Account, after, after_mark, alias, alias_name, anchor, anchor_name, ap, are_marks, begins_flow, begins_plain, begins_with_space_or_break, block_end, block_entry, block_mapping_start, block_read, block_scalar, block_sequence_start, BlockRead, BlockStyle, Bool, codes, collection_column, colon, comma, dash, dashes, Directive, directive_by, directive_line, directive_of, document_end, document_start, dots, double_quoted, ends_separation, eqb-true, false, flow_entry, flow_mapping_end, flow_mapping_start, flow_sequence_end, flow_sequence_start, folded, has_no_break, Holds, if◌then◌else◌, in_double_quotes, in_single_quotes, inl, inr, is_adjacent, is_alpha, is_at_gap, is_at_line_end, is_blank, is_blank_or_end, is_break, is_document_marker, is_flow, is_nul, is_value_indicator, is_whole_plain, IsDirective, IsDoubleQuoted, IsNamed, IsPiece, IsSingleQuoted, key, Kind, kind_at, kind_by, kind_of, leading, List, literal, mapping_closing, mapping_opening, may_begin, None, not, nothing, Option, plain, plain_scalar, plain_value, Position, question, refl, reserved, scalar, SeparationsEndBeforePieces, sequence_closing, sequence_opening, single_quoted, Some, stream_end, stream_start, subst, sym, Tag, tag, tag_declaration, tag_directive, tag_text, TextsBeginWithOneKind, Tok, true, value, version, version_directive, written_tag, ℕ, ◌&&◌, ◌++◌, ◌==◌, ◌||◌, ◌∙◌, ◌∷◌, ◌≡◌, ◌≢◌, ◌⊎◌, arith, nat_tests}
 use Rattle.defs_token.specs.Account.{is_in_flow}
 use Rattle.proof_row.proofs.Runs.{joined}
 use Rattle.proof_row.proofs.TagEnds.{mark_is_first}
@@ -140,19 +140,7 @@ kind_there block_scalar a p x t h = block_there a p x h.2 (block_begins a.collec
 -- and no separation goes on over it
 pub separations_end : (k : Kind) (a : Context) (p x : List ℕ) (t : Tok) → Whole k a p x t → ends_separation (p ++ x) ≡ true
 unfolding is_blank_or_end is_blank is_break is_nul is_flow
-separations_end k a p x t h = of_kind (p ++ x) (kind_there k a p x t h)
-  where
-    none : k ≡ nothing → ⊥
-    none e = subst (λ z. Whole z a p x t) e h
-
-    of_kind : (text : List ℕ) → IsThere a text k → ends_separation text ≡ true
-    of_kind [] i = refl
-    of_kind (c ∷ r) i = by (is_blank_or_end c) (c == 35) refl refl
-      where
-        by : (gap mark : Bool) → is_blank_or_end c ≡ gap → (c == 35) ≡ mark → (not gap && not mark) ≡ true
-        by true mark f g = absurd (none (sym i ∙ (gaps (λ z. IsThere a (z ∷ r) nothing) c f refl refl refl refl refl)))
-        by false true f g = absurd (none (sym i ∙ subst (λ z. IsThere a (z ∷ r) nothing) (sym (eqb-true c 35 g)) refl))
-        by false false f g = refl
+separations_end k a p x t h = grind (arith, nat_tests, kind_there, gaps, eqb-true)
 
 pub texts_begin : TextsBeginWithOneKind
 texts_begin a p x f m t n h = kind_there (kind_of t) (context_of a) p x t (piece_of a p x f m t n h)

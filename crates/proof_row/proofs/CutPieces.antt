@@ -20,12 +20,10 @@ ends_in_flow : (c d : Option ℕ) (s : Stand) (r : List ℕ) → ends_plain true
 ends_in_flow c d a r = cc
 
 goes_on_in_flow : (c d : Option ℕ) (s : Stand) (p n : List ℕ) → goes_on true c s p n ≡ goes_on true d s p n
-goes_on_in_flow c d s [] n = refl
-goes_on_in_flow c d s (x ∷ r) n = grind arith
+goes_on_in_flow c d s a n = grind arith
 
 stops_in_flow : (c d : Option ℕ) (s : Stand) (n : List ℕ) → stops true c s n ≡ stops true d s n
-stops_in_flow c d s [] = refl
-stops_in_flow c d s (x ∷ r) = grind arith
+stops_in_flow c d s a = grind arith
 
 -- an account by its parts
 abbrev pub account_by : Position → Before → List (Option ℕ) → List Level → Account
