@@ -83,20 +83,14 @@ indented-unbroken : (ls : List (List ℕ)) → AreUnbroken ls → AreUnbroken (i
 indented-unbroken [] h = refl
 indented-unbroken (l ∷ ls) h = let p = and_parts (is_unbroken l) (list_all is_unbroken ls) h in both (32 ∷ 32 ∷ l) (indented ls) p.0 (indented-unbroken ls p.1)
 
-hung-unbroken : (mark : List ℕ) (ls : List (List ℕ)) → is_unbroken mark ≡ true → AreUnbroken ls → AreUnbroken (hung mark ls)
-hung-unbroken mark a m h = grind (arith, both, and_parts, unbroken-append, indented-unbroken)
-
 placed-unbroken : (lower : Bool) (mark : List ℕ) (t : Tree) (ls : List (List ℕ)) → is_unbroken mark ≡ true → AreUnbroken ls → AreUnbroken (placed lower mark t ls)
-placed-unbroken lower mark t ls m h = grind (arith, both, indented-unbroken, hung-unbroken)
+placed-unbroken lower mark t ls m h = grind (arith, both, indented-unbroken, and_parts, unbroken-append)
 
 if_none-unbroken : (text : List ℕ) (ls : List (List ℕ)) → is_unbroken text ≡ true → AreUnbroken ls → AreUnbroken (if_none text ls)
 if_none-unbroken text a m h = grind arith
 
-header-unbroken : (b : Bool) → is_unbroken (if b then codes "|" else codes "|-") ≡ true
-header-unbroken a = grind arith
-
 string_box-unbroken : (multiline at_root : Bool) (s : List ℕ) → AreUnbroken (string_box multiline at_root s)
-string_box-unbroken multiline at_root s = grind (arith, both, header-unbroken, lines_of_unbroken, string_spelling-unbroken)
+string_box-unbroken multiline at_root s = grind (arith, both, lines_of_unbroken, string_spelling-unbroken)
 
 pair_box-unbroken : (compact : Bool) (k : Tree) (key : List (List ℕ)) (v : Tree) (value : List (List ℕ)) → is_unbroken (spelling k) ≡ true → AreUnbroken key → AreUnbroken value
     → AreUnbroken (pair_box compact k key v value)

@@ -40,9 +40,6 @@ digit_no_mark c h = grind (arith, nat_tests)
 digit_no_point : (c : ℕ) → is_ascii_digit c ≡ true → is_point c ≡ false
 digit_no_point c h = grind (arith, nat_tests)
 
-point_no_mark : (c : ℕ) → is_point c ≡ true → is_exponent_mark c ≡ false
-point_no_mark c h = grind (arith, nat_tests)
-
 -- ---- the exponent
 
 abbrev exponent_part : List ℕ → Bool
@@ -134,11 +131,7 @@ point_rejects_digit g c cs h = one-then is_point g c cs ∙ ap (λ b. b && g cs)
 
 -- a text that begins with a digit, seen after its first digits
 with_digits : (r : List ℕ) → (reads_exponent r || (after_point fraction r || after_point whole_form r)) ≡ reads_on true r
-with_digits a = grind (arith, point_then, fraction, whole_form, point_no_mark, fraction_read, whole_read, or-false)
-
--- one that doesn't
-without_digits : (r : List ℕ) → after_point whole_form r ≡ reads_on false r
-without_digits a = grind (arith, point_then, whole_form, whole_read)
+with_digits a = grind (arith, point_then, fraction, whole_form, fraction_read, whole_read, or-false, nat_tests)
 
 first_read : (t : List ℕ) → first_point t ≡ (begins_in is_ascii_digit t && after_point fraction (after_all is_ascii_digit t))
 unfolding first_point fraction
@@ -149,7 +142,7 @@ unfolding late_point whole_form
 late_read t = any-after is_ascii_digit (after_point whole_form) (point_rejects_digit whole_form) t
 
 pub unsigned_read : (t : List ℕ) → followed_by is_mantissa exponent_part t ≡ reads_unsigned t
-unsigned_read t = grind (arith, forms, whole_read, first_read, late_read, after_point, fraction, whole_form, with_digits, without_digits)
+unsigned_read t = grind (arith, forms, whole_read, first_read, late_read, after_point, fraction, whole_form, with_digits, point_then)
 
 unsigned_rejects_sign : Rejects is_sign (λ t. followed_by is_mantissa exponent_part t)
 unsigned_rejects_sign c cs h = unsigned_read (c ∷ cs) ∙ rw (sign_no_digit c h, sign_no_point c h) refl

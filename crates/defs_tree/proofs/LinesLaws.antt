@@ -19,9 +19,6 @@ has_no_line (l ∷ ls) = false
 onto_first_line-some : (c : ℕ) (ls : List (List ℕ)) → has_no_line (onto_first_line c ls) ≡ false
 onto_first_line-some c a = grind arith
 
-pub lines_of-some : (c : ℕ) (cs : List ℕ) → has_no_line (lines_of (c ∷ cs)) ≡ false
-lines_of-some c cs = grind arith
-
 ended-onto : (c : ℕ) (ls : List (List ℕ)) → has_no_line ls ≡ false → ended (onto_first_line c ls) ≡ c ∷ ended ls
 ended-onto c a h = grind arith
 
@@ -35,16 +32,13 @@ with_end-cons a c t = grind arith
 pub lines_of_ended : (text : List ℕ) → ended (lines_of text) ≡ (if is_empty text || ends_with nat_eq text (codes "\n") then text else text ++ 10 ∷ [])
 lines_of_ended [] = refl
 lines_of_ended (c ∷ []) = grind (arith, ends_with-one)
-lines_of_ended (c ∷ d ∷ cs) = grind (arith, with_end-cons, ends_with-step, ended-onto, lines_of-some, lines_of_ended (d ∷ cs))
+lines_of_ended (c ∷ d ∷ cs) = grind (arith, with_end-cons, ends_with-step, ended-onto, lines_of_ended (d ∷ cs))
 
 -- ---- no line holds a line feed
 
-unbroken-onto : (c : ℕ) (ls : List (List ℕ)) → (c == 10) ≡ false → list_all is_unbroken ls ≡ true → list_all is_unbroken (onto_first_line c ls) ≡ true
-unbroken-onto c a n h = grind arith
-
 pub lines_of_unbroken : (text : List ℕ) → list_all is_unbroken (lines_of text) ≡ true
 lines_of_unbroken [] = refl
-lines_of_unbroken (c ∷ cs) = grind (arith, unbroken-onto, lines_of_unbroken cs)
+lines_of_unbroken (c ∷ cs) = grind (arith, lines_of_unbroken cs)
 
 -- ---- std's lines, where there is no CR
 
@@ -56,36 +50,20 @@ no_return-at [] i h = refl
 no_return-at (c ∷ cs) zero h = not-true (c == 13) (and_parts (not (c == 13)) (has_no_return cs) h).0
 no_return-at (c ∷ cs) (suc i) h = no_return-at cs i (and_parts (not (c == 13)) (has_no_return cs) h).1
 
-strip-none : (l : List ℕ) → has_no_return l ≡ true → strip_carriage_return l ≡ l
-strip-none l h = ap (λ b. if b then take (length l - 1) l else l) (no_return-at l (length l - 1) h)
-
 -- the parts of a text without CR have none either
 abbrev have_no_return : List (List ℕ) → Bool
 have_no_return ps = list_all has_no_return ps
-
-no_return-onto : (c : ℕ) (ps : List (List ℕ)) → (not (c == 13)) ≡ true → have_no_return ps ≡ true → have_no_return (onto_first c ps) ≡ true
-no_return-onto c a n h = grind arith
 
 abbrev parts_of : List ℕ → List (List ℕ)
 parts_of t = slice_split (λ b. b == 10) t
 
 parts-no_return : (t : List ℕ) → has_no_return t ≡ true → have_no_return (parts_of t) ≡ true
 parts-no_return [] h = refl
-parts-no_return (c ∷ cs) h = grind (arith, and_parts, no_return-onto, parts-no_return cs)
-
-onto_first-some : (c : ℕ) (ps : List (List ℕ)) → has_no_line (onto_first c ps) ≡ false
-onto_first-some c a = grind arith
+parts-no_return (c ∷ cs) h = grind (arith, and_parts, parts-no_return cs)
 
 parts-some : (t : List ℕ) → has_no_line (parts_of t) ≡ false
 parts-some [] = refl
-parts-some (c ∷ cs) = by (c == 10)
-  where
-    by : (b : Bool) → has_no_line (cond b ([] ∷ parts_of cs) (onto_first c (parts_of cs))) ≡ false
-    by true = refl
-    by false = onto_first-some c (parts_of cs)
-
-break_before : (ps : List (List ℕ)) → has_no_line ps ≡ false → lines_of_parts ([] ∷ ps) ≡ [] ∷ lines_of_parts ps
-break_before a h = grind arith
+parts-some (c ∷ cs) = grind arith
 
 last_part : (c : ℕ) (cs : List ℕ) → lines_of_parts ((c ∷ cs) ∷ []) ≡ (c ∷ cs) ∷ []
 last_part c cs = ap (λ b. if b then [] else (c ∷ cs) ∷ []) (ne_eqb (length (c ∷ cs)) 0 (λ e. omega arith))
@@ -95,11 +73,8 @@ character_before : (c : ℕ) (ps : List (List ℕ)) → has_no_line ps ≡ false
 character_before c [] h n r = cc
 character_before c ([] ∷ []) h n r = refl
 character_before c ((d ∷ ds) ∷ []) h n r = last_part c (d ∷ ds) ∙ ap (λ ls. onto_first_line c ls) (sym (last_part d ds))
-character_before c (p ∷ q ∷ ps) h n r =
-    let e = and_parts (has_no_return p) (have_no_return (q ∷ ps)) r in
-    ap (λ l. l ∷ lines_of_parts (q ∷ ps)) (strip-none (c ∷ p) (ap (λ b. b && has_no_return p) n ∙ e.0))
-    ∙ ap (λ l. (c ∷ l) ∷ lines_of_parts (q ∷ ps)) (sym (strip-none p e.0))
+character_before c (p ∷ q ∷ ps) h n r = grind (arith, and_parts, no_return-at)
 
 pub lines_of_std : (t : List ℕ) → has_no_return t ≡ true → lines_of t ≡ lines t
 lines_of_std [] h = refl
-lines_of_std (c ∷ cs) h = grind (arith, and_parts, break_before, parts-some, character_before, parts-no_return, lines_of_std cs)
+lines_of_std (c ∷ cs) h = grind (arith, and_parts, parts-some, character_before, parts-no_return, lines_of_std cs)

@@ -18,30 +18,20 @@ or_none a = grind arith
 or_there : (o q : Option Tree) → is_some o ≡ true → o ≡ option_or o q
 or_there a q h = grind arith
 
-or_assoc : (a b c : Option Tree) → option_or (option_or a b) c ≡ option_or a (option_or b c)
-or_assoc a b c = grind arith
-
--- a key that is there already keeps its value
-stays : (k : Tree) (ps : List (Tree × Tree)) (q : Tree × Tree) → has_key q.0 ps ≡ true → lookup k ps ≡ option_or (lookup k ps) (lookup k (q ∷ []))
-stays k ps q h = grind (arith, or_there, tree_eq_decides, or_none)
-
 lookup_new_pair : (k : Tree) (ps : List (Tree × Tree)) (q : Tree × Tree) → lookup k (with_new_pair ps q) ≡ option_or (lookup k ps) (lookup k (q ∷ []))
-lookup_new_pair k ps q = grind (arith, stays, lookup_both)
+lookup_new_pair k ps q = grind (arith, lookup_both, or_there, tree_eq_decides, or_none)
 
 lookup_new_pairs : (k : Tree) (ps qs : List (Tree × Tree)) → lookup k (with_new_pairs ps qs) ≡ option_or (lookup k ps) (lookup k qs)
 lookup_new_pairs k ps [] = sym (or_none (lookup k ps))
-lookup_new_pairs k ps (q ∷ qs) = grind (arith, lookup_new_pair, or_assoc, lookup_both, lookup_new_pairs k (with_new_pair ps q) qs)
+lookup_new_pairs k ps (q ∷ qs) = grind (arith, lookup_new_pair, lookup_both, lookup_new_pairs k (with_new_pair ps q) qs)
 
 among : (k : Tree) (ts : Items) → lookup k (pairs_of_mappings ts) ≡ value_among k ts
 among k no_items = refl
 among k (item (hash ps) ts) = lookup_both k (pair_list_of ps) (pairs_of_mappings ts) ∙ ap (option_or (lookup k (pair_list_of ps))) (among k ts)
 among k (item t ts) = among k ts
 
-brings : (k : Tree) (o : Option Tree) → lookup k (brought o) ≡ value_brought k o
-brings k o = grind (arith, among)
-
 pub merge_finds : (k : Tree) (ps : List (Tree × Tree)) → k ≢ merge_key → lookup k (merged_pairs ps) ≡ option_or (lookup k ps) (value_brought k (lookup merge_key ps))
-merge_finds k ps n = grind (arith, lookup_new_pairs, lookup-without_other, brings)
+merge_finds k ps n = grind (arith, lookup_new_pairs, lookup-without_other, among)
 
 -- ---- the order
 
@@ -216,9 +206,6 @@ lacks_without : (k : Tree) (ps : List (Tree × Tree)) → Lacks k ps → without
 lacks_without k [] h = refl
 lacks_without k (p ∷ ps) h = ap (λ b. cond b ps (p ∷ without k ps)) (tree_eq-other k p.0 h.0) ∙ ap (λ qs. p ∷ qs) (lacks_without k ps h.1)
 
-same_pairs : (ps : List (Tree × Tree)) → Lacks merge_key ps → merged_pairs ps ≡ ps
-same_pairs ps h = ap (λ o. with_new_pairs (without merge_key ps) (brought o)) (lacks_none merge_key ps h) ∙ lacks_without merge_key ps h
-
 items_of_list : (ts : Items) → items_of (list_of ts) ≡ ts
 items_of_list no_items = refl
 items_of_list (item t ts) = ap (item t) (items_of_list ts)
@@ -230,8 +217,7 @@ pairs_of_list (pair k v ps) = ap (pair k v) (pairs_of_list ps)
 mutual
   pub merged_same : (t : Tree) → LacksMergeKeys t → merged t ≡ t
   merged_same (array ts) h = ap (λ us. array (items_of us)) (items_same ts h) ∙ ap array (items_of_list ts)
-  merged_same (hash ps) h =
-      ap (λ qs. hash (pairs_of (merged_pairs qs))) (values_same ps h.1) ∙ ap (λ qs. hash (pairs_of qs)) (same_pairs (pair_list_of ps) h.0) ∙ ap hash (pairs_of_list ps)
+  merged_same (hash ps) h = grind (arith, pairs_of_list, values_same ps h.1, lacks_none, lacks_without)
   merged_same t h = refl
 
   items_same : (ts : Items) → AllLackMergeKeys ts → merged_items ts ≡ list_of ts

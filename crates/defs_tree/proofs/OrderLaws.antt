@@ -44,9 +44,6 @@ cmp = slice_cmp int_cmp
 int_cmp-pos : (m n : ℕ) → int_cmp (pos m) (pos n) ≡ nat_cmp m n
 int_cmp-pos m n = grind (arith, nat_tests)
 
-nat_cmp-suc : (m n : ℕ) → nat_cmp (suc m) (suc n) ≡ nat_cmp m n
-nat_cmp-suc m n = grind (arith, nat_tests)
-
 then_assoc : (o p q : Ordering) → ordering_then o (ordering_then p q) ≡ ordering_then (ordering_then o p) q
 then_assoc a p q = grind arith
 
@@ -57,7 +54,7 @@ text_same : (s t : List ℕ) (q r : List ℤ) → cmp (text_code s q) (text_code
 text_same [] [] q r = refl
 text_same [] (n ∷ ns) q r = grind (arith, int_cmp-pos)
 text_same (m ∷ ms) [] q r = grind (arith, int_cmp-pos)
-text_same (m ∷ ms) (n ∷ ns) q r = grind (arith, int_cmp-pos, nat_cmp-suc, then_assoc, text_same ms ns q r)
+text_same (m ∷ ms) (n ∷ ns) q r = grind (arith, int_cmp-pos, then_assoc, text_same ms ns q r, nat_tests)
 
 bool_same : (b c : Bool) (o : Ordering) → ordering_then (int_cmp (pos (bit b)) (pos (bit c))) o ≡ ordering_then (bool_cmp b c) o
 bool_same a b o = grind arith

@@ -111,7 +111,4 @@ mutual
 
   under_distinct : (us : List (Tree × Tree)) (ps : Pairs) → EachDistinct us → AllPairsDistinct ps → EachDistinct (pairs_under us ps)
   under_distinct us no_pairs e h = tt
-  under_distinct us (pair k v ps) e h = (
-    (h.0, laid_value IsDistinct v (overlay v) (lookup k us) h.1 (λ w g. overlay_distinct v w h.1 g) (each_lookup IsDistinct IsDistinct k us e)),
-    under_distinct us ps e h.2,
-  )
+  under_distinct us (pair k v ps) e h = grind (arith, laid_value, each_lookup, overlay_distinct v, under_distinct us ps e h.2)

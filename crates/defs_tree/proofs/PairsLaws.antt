@@ -8,9 +8,6 @@ tree_eq-itself t = (tree_eq_decides t t).1 refl
 pub tree_eq-other : (t u : Tree) → t ≢ u → tree_eq t u ≡ false
 tree_eq-other t u n = false_from_ne_true (tree_eq t u) (λ e. n ((tree_eq_decides t u).0 e))
 
-apart : (k l : Tree) → tree_eq k l ≡ false → k ≢ l
-apart k l f e = true≢false (sym ((tree_eq_decides k l).1 e) ∙ f)
-
 pub Lacks-without : (k l : Tree) (ps : List (Tree × Tree)) → Lacks l ps → Lacks l (without k ps)
 Lacks-without k l [] h = tt
 Lacks-without k l (p ∷ ps) h = grind (arith, Lacks-without k l ps h.1)
@@ -22,7 +19,7 @@ AreDistinct-without k (p ∷ ps) h = grind (arith, Lacks-without, AreDistinct-wi
 -- of distinct keys, none is left that was taken out
 pub Lacks-itself : (k : Tree) (ps : List (Tree × Tree)) → AreDistinct ps → Lacks k (without k ps)
 Lacks-itself k [] h = tt
-Lacks-itself k (p ∷ ps) h = grind (arith, tree_eq_decides, apart, Lacks-itself k ps h.1)
+Lacks-itself k (p ∷ ps) h = grind (arith, tree_eq_decides, Lacks-itself k ps h.1)
 
 pub Lacks-append : (l k v : Tree) (ps : List (Tree × Tree)) → Lacks l ps → l ≢ k → Lacks l (ps ++ (k, v) ∷ [])
 Lacks-append l k v [] h n = (n, tt)

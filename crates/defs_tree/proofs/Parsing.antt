@@ -13,9 +13,6 @@ all_digits-from : (base : ℕ) (ds : List ℕ) → list_all (is_digit base) ds �
 all_digits-from base [] h = tt
 all_digits-from base (d ∷ ds) h = grind (arith, and_parts, all_digits-from base ds)
 
-numeral-to : (base : ℕ) (ds : List ℕ) → IsNumeral base ds → at_least_one (is_digit base) ds ≡ true
-numeral-to base a h = grind (arith, all_digits-to)
-
 numeral-from : (base : ℕ) (ds : List ℕ) → at_least_one (is_digit base) ds ≡ true → IsNumeral base ds
 numeral-from base a h = grind (arith, all_digits-from)
 
@@ -45,7 +42,7 @@ signed_number-std base t = ap (λ o. option_and_then (λ y. if fits_i64 y then S
 -- on the very list that `parse` is given
 pub parsed_signed : {E : Type 0} (base : ℕ) (t : List ℕ) (r : Result ℤ E) → ParsesSigned w64 base t r
     → MatchResult r (λ z. signed_number base t ≡ Some z) (λ e. signed_number base t ≡ None)
-parsed_signed base t a h = grind (arith, signed_number-std, numeral-to, fits-to, numeral-from, fits-from)
+parsed_signed base t a h = grind (arith, signed_number-std, fits-to, numeral-from, fits-from, all_digits-to)
 
 -- ---- bytes and characters
 
@@ -57,12 +54,9 @@ IsAscii-from [] h i = omega arith
 IsAscii-from (c ∷ cs) h zero = ltb-true c 128 (and_parts (nat_lt c 128) (are_ascii cs) h).0
 IsAscii-from (c ∷ cs) h (suc i) = IsAscii-from cs (and_parts (nat_lt c 128) (are_ascii cs) h).1 i
 
-digit_is_ascii : (base c : ℕ) → base ≤ 36 → is_digit base c ≡ true → nat_lt c 128 ≡ true
-digit_is_ascii base c small h = grind (arith, nat_tests)
-
 digits_are_ascii : (base : ℕ) (ds : List ℕ) → base ≤ 36 → list_all (is_digit base) ds ≡ true → are_ascii ds ≡ true
 digits_are_ascii base [] small h = refl
-digits_are_ascii base (d ∷ ds) small h = grind (arith, and_parts, digit_is_ascii, digits_are_ascii base ds small)
+digits_are_ascii base (d ∷ ds) small h = grind (arith, and_parts, digits_are_ascii base ds small, nat_tests)
 
 signed_is_ascii : (base : ℕ) (t : List ℕ) → base ≤ 36 → at_least_one (is_digit base) (without_leading_sign t) ≡ true → are_ascii t ≡ true
 signed_is_ascii base a small h = grind (arith, digits_are_ascii, and_parts)

@@ -16,11 +16,7 @@ place_in k (u ∷ us) i e = from (shift_place (tree_eq k u.0) (place_of k us) i 
   where
     from : ((tree_eq k u.0 ≡ true) × (i ≡ 0)) ⊎ ((tree_eq k u.0 ≡ false) × ((j : ℕ) × (i ≡ suc j) × (Some j ≡ place_of k us)))
         → ((j : ℕ) → Some j ≡ place_of k us → IsPlaceOf k us j) → IsPlaceOf k (u ∷ us) i
-    from (inl h) later = subst (IsPlaceOf k (u ∷ us)) (sym h.1) (record {
-      within = omega arith;
-      found = sym (ap (λ b. cond b (Some u.1) (lookup k us)) h.0);
-      changed = λ t. sym (ap (λ b. cond b ((u.0, t) ∷ us) (u ∷ with_value k t us)) h.0);
-    })
+    from (inl h) later = grind arith
     from (inr h) later =
         let r = later h.1.0 h.1.2 in
         subst (IsPlaceOf k (u ∷ us)) (sym h.1.1) (record {
@@ -35,12 +31,9 @@ pub record IsAbsent (k : Tree) (ps : List (Tree × Tree)) : Type 0 where
   pub same : without k ps ≡ ps
   pub unchanged : (t : Tree) → with_value k t ps ≡ ps
 
-not_placed : (b : Bool) (o : Option ℕ) → None ≡ cond b (Some 0) (option_map suc o) → (b ≡ false) × (None ≡ o)
-not_placed a o e = grind arith
-
 pub absent : (k : Tree) (ps : List (Tree × Tree)) → None ≡ place_of k ps → IsAbsent k ps
 absent k [] e = grind (arith)
-absent k (p ∷ ps) e = grind (arith, not_placed, absent k ps)
+absent k (p ∷ ps) e = grind (arith, absent k ps)
 
 -- the value at the key's place is the key's value
 pub place_finds : (k : Tree) (ps : List (Tree × Tree)) → option_and_then (λ i. value_at i ps) (place_of k ps) ≡ lookup k ps

@@ -14,20 +14,14 @@ abbrev starts_late : List ℕ → Bool
 starts_late [] = true
 starts_late (c ∷ cs) = nat_lt 57 c
 
-late_word : (w : List ℕ) (c : ℕ) (cs : List ℕ) → starts_late w ≡ true → c < 58 → bytes_eq w (c ∷ cs) ≡ false
-late_word a c cs h s = grind arith
-
 no_late_word : (ws : List (List ℕ)) (c : ℕ) (cs : List ℕ) → list_all starts_late ws ≡ true → c < 58 → is_among ws (c ∷ cs) ≡ false
 no_late_word [] c cs h s = refl
-no_late_word (w ∷ ws) c cs h s = grind (arith, and_parts, late_word, no_late_word ws c cs)
+no_late_word (w ∷ ws) c cs h s = grind (arith, and_parts, no_late_word ws c cs)
 
 -- a second character that is a letter is not found
 abbrev SecondIsEarly : List ℕ → Type 0
 SecondIsEarly [] = Unit {0}
 SecondIsEarly (c ∷ cs) = c < 58
-
-after_letter : (x : ℕ) (c : ℕ) (cs : List ℕ) → 57 < x → SecondIsEarly cs → after_prefix (48 ∷ x ∷ []) (c ∷ cs) ≡ None
-after_letter x c a h s = grind arith
 
 after_plus : (c : ℕ) (cs : List ℕ) → c ≢ 43 → after_prefix (43 ∷ []) (c ∷ cs) ≡ None
 after_plus c cs n = ap (λ b. if b then Some cs else None) (ne_eqb 43 c (λ e. n (sym e)))
@@ -35,7 +29,7 @@ after_plus c cs n = ap (λ b. if b then Some cs else None) (ne_eqb 43 c (λ e. n
 -- such a text stands for the integer that it writes
 integer_text : (c : ℕ) (cs : List ℕ) (z : ℤ) → c < 58 → c ≢ 43 → SecondIsEarly cs → signed_decimal (c ∷ cs) ≡ Some z → typing (c ∷ cs) ≡ integer z
 unfolding typing
-integer_text c cs z early n second e = grind (arith, nat_tests, eqb-true, after_letter, after_plus, no_late_word)
+integer_text c cs z early n second e = grind (arith, nat_tests, eqb-true, after_plus, no_late_word)
 
 -- ---- the digits of a number
 
@@ -89,13 +83,10 @@ unquoted_is_string s h = not-false (is_string (typing s)) (or_parts _ (not (is_s
 pub string_back : (s : List ℕ) → is_quoted s ≡ false → typing s ≡ string s
 string_back s h = typing-string s (unquoted_is_string s h)
 
-boolean_back : (b : Bool) → typing (spelling (boolean b)) ≡ boolean b
-unfolding typing is_decimal
-boolean_back a = grind arith
-
 null_back : typing (spelling null) ≡ null
 unfolding typing is_decimal
 null_back = refl
 
 pub spelling_back : (t : Tree) → IsSpeltPlain t → typing (spelling t) ≡ t
-spelling_back a h = grind (arith, typing-real, integer_back, not-true, string_back, boolean_back, null_back)
+unfolding typing is_decimal
+spelling_back a h = grind (arith, typing-real, integer_back, not-true, string_back, null_back)
