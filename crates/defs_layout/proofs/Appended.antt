@@ -83,10 +83,7 @@ mutual
       ap (spell_field c f) (ap (next_line c g) (fields_append c fs h.1 a b) ∙ next_line_append c g (spell_fields c fs a) b)
       ∙ field_append c f h.0 (next_line c g (spell_fields c fs a)) b
 
-root_append : (x : Root) → IsBasicRoot x → Appends (spell_root x)
-root_append d h a b = grind (arith, block_append, spaces_append, inline_append, literal_append)
-
 -- ---- a document after its `---`
 
 pub document_append : (d : Document) (after : List GapLine) → IsBasicRoot d.root → Appends (λ r. codes "---\n" ++ spell_document d (spell_ending after r))
-document_append d after h a b = grind (arith, ending_append, root_append, gap_append)
+document_append d after h a b = grind (arith, ending_append, gap_append, block_append, spaces_append, inline_append, literal_append)

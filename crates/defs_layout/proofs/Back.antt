@@ -5,10 +5,6 @@ use Rattle.defs_layout.proofs.Numbers.{real_from}
 
 -- ---- strings
 
-low_is : (c : ℕ) → is_unescaped c ≡ true → is_character c ≡ true
-unfolding is_unescaped
-low_is c h = grind (arith, nat_tests)
-
 short_is : (s : Short) → is_character (character_of s) ≡ true
 short_is a = grind arith
 
@@ -16,7 +12,8 @@ code_is : (n : ℕ) → n ≤ 0xFFFF → is_character n ≡ true
 code_is n h = grind (arith, nat_tests)
 
 piece_is : (p : Piece) → is_piece p ≡ true → is_character (value_of p) ≡ true
-piece_is e h = grind (arith, nat_tests, eqb-true, low_is, short_is, and_parts, code_is)
+unfolding is_unescaped
+piece_is e h = grind (arith, nat_tests, eqb-true, short_is, and_parts, code_is)
 
 pieces_are : (ps : List Piece) → are_pieces ps ≡ true → are_characters (unescaped ps) ≡ true
 pieces_are [] h = refl

@@ -100,15 +100,12 @@ all_digits (c ∷ w) h = let q = and_parts (is_ascii_digit c) (list_all is_ascii
 whole_digits : (w : List ℕ) → is_whole w ≡ true → are_digits w ≡ true
 whole_digits a h = grind arith
 
-some_digits : (w : List ℕ) → are_digits w ≡ true → at_least_one (is_digit 10) w ≡ true
-some_digits a h = grind (arith, all_digits)
-
 whole_begins : (w r : List ℕ) → are_digits w ≡ true → begins_in is_ascii_digit (w ++ r) ≡ true
 whole_begins a r h = grind arith
 
 -- a whole number's text
 plain_text : (m : Bool) (w : List ℕ) → is_whole w ≡ true → signed_decimal (spell_minus m (w ++ [])) ≡ fitted true (integer_value m w)
-plain_text m w h = grind (arith, whole_digits, append-nil, signed_text, whole_begins, some_digits)
+plain_text m w h = grind (arith, whole_digits, append-nil, signed_text, whole_begins, all_digits)
 
 other_text : (m : Bool) (w r : List ℕ) → is_whole w ≡ true → IsOther r → signed_decimal (spell_minus m (w ++ r)) ≡ None
 other_text m w r h o = signed_text m (w ++ r) (whole_begins w r (whole_digits w h)) ∙ ap (λ b. fitted b (integer_value m (w ++ r))) (no_digits w r o)
@@ -127,12 +124,7 @@ real_value a h none = grind (arith, plain_text, whole_of)
 
 -- and the other way
 no_integer : (n : Number) (s : List ℕ) → is_number n ≡ true → number_tree n ≡ real s → (is_none (signed_decimal (spell_number n [])) ≡ true) × (spell_number n [] ≡ s)
-no_integer (json.number m w no_fraction no_exponent) s h e = by (fits_i64 (integer_value m w)) refl e
-  where
-    by : (b : Bool) → fits_i64 (integer_value m w) ≡ b → (if b then integer (integer_value m w) else real (spell_minus m (w ++ []))) ≡ real s
-        → (is_none (signed_decimal (spell_minus m (w ++ []))) ≡ true) × (spell_minus m (w ++ []) ≡ s)
-    by true f g = cc
-    by false f g = (ap is_none (plain_text m w (whole_of m w no_fraction no_exponent h)) ∙ ap (λ b. is_none (if b then Some (integer_value m w) else None)) f, cc)
+no_integer (json.number m w no_fraction no_exponent) s h e = grind (arith, plain_text, whole_of)
 no_integer (json.number m w no_fraction (exponent b x d)) s h e = (ap is_none (other_text m w _ (whole_of m w no_fraction (exponent b x d) h) (exponent_other b x d [])), cc)
 no_integer (json.number m w (fraction d) x) s h e = (ap is_none (other_text m w (spell_fraction (fraction d) (spell_exponent x [])) (whole_of m w (fraction d) x h) refl), cc)
 
@@ -159,17 +151,8 @@ real_written s h =
 cut : (f g : List ℕ → Bool) (a b : List ℕ) → f a ≡ true → g b ≡ true → followed_by f g (a ++ b) ≡ true
 cut f g a b h k = cut_to f g (a ++ b) (record { before = a; after = b; whole = refl; is_first = h; is_second = k })
 
-frac_text : (f : Fraction) (r : List ℕ) → is_fraction f ≡ true → (a : List ℕ) × (optional is_frac a ≡ true) × (spell_fraction f r ≡ a ++ r)
-frac_text no_fraction r h = ([], refl, refl)
-frac_text (fraction w) r h = (46 ∷ w, h, refl)
-
-sign_text : (s : Sign) (r : List ℕ) → (a : List ℕ) × (optional (one is_sign) a ≡ true) × (spell_sign s r ≡ a ++ r)
-sign_text no_sign r = ([], refl, refl)
-sign_text plus r = (43 ∷ [], refl, refl)
-sign_text minus r = (45 ∷ [], refl, refl)
-
 exponent_text : (e : Exponent) → json.is_exponent e ≡ true → optional is_exponent (spell_exponent e []) ≡ true
-exponent_text a h = grind (arith, sign_text, followed_by-empty, digits_are, append-nil, cut)
+exponent_text a h = grind (arith, followed_by-empty, digits_are, append-nil, cut)
 
 minus_text : (m : Bool) (r : List ℕ) → (a : List ℕ) × (optional (one is_minus) a ≡ true) × (spell_minus m r ≡ a ++ r)
 minus_text true r = (45 ∷ [], refl, refl)
@@ -177,7 +160,7 @@ minus_text false r = ([], refl, refl)
 
 text_of_number : (n : Number) → is_number n ≡ true → is_json_number (spell_number n []) ≡ true
 unfolding is_json_number
-text_of_number a h = grind (arith, and_parts, followed_by-empty, exponent_text, frac_text, cut, minus_text)
+text_of_number a h = grind (arith, and_parts, followed_by-empty, exponent_text, cut, minus_text)
 
 pub real_from : (n : Number) (s : List ℕ) → is_number n ≡ true → number_tree n ≡ real s → is_json_real s ≡ true
 real_from n s h e =

@@ -79,20 +79,8 @@ whole_parts c a = grind arith
 
 -- where digits are passed over, nothing is lost
 passed : (g : List ℕ → Bool) → Rejects is_ascii_digit g → (t : List ℕ) → (g t || g (after_all is_ascii_digit t)) ≡ g (after_all is_ascii_digit t)
-passed g r [] = twice (g [])
-  where
-    twice : (b : Bool) → (b || b) ≡ b
-    twice true = refl
-    twice false = refl
-passed g r (c ∷ cs) = by (is_ascii_digit c) refl
-  where
-    twice : (b : Bool) → (b || b) ≡ b
-    twice true = refl
-    twice false = refl
-
-    by : (b : Bool) → is_ascii_digit c ≡ b → (g (c ∷ cs) || g (if b then after_all is_ascii_digit cs else c ∷ cs)) ≡ g (if b then after_all is_ascii_digit cs else c ∷ cs)
-    by true e = ap (λ x. x || g (after_all is_ascii_digit cs)) (r c cs e)
-    by false e = twice (g (c ∷ cs))
+passed g r [] = grind arith
+passed g r (c ∷ cs) = grind arith
 
 whole_read : (g : List ℕ → Bool) → Rejects is_ascii_digit g → (c : ℕ) (cs : List ℕ)
     → followed_by is_whole g (c ∷ cs) ≡ (if c == 48 then g cs else is_ascii_digit c && g (after_all is_ascii_digit cs))

@@ -74,8 +74,7 @@ mutual
 
   members_sound : (ms : Members) → AreMembers ms → ArePairsSound (pairs_of (pair_list ms))
   members_sound (last_member k g q v a) h = pair_sound _ (tree_of v) Pairs.no_pairs (string_sound _) (json_sound v h.3) no_pairs_sound
-  members_sound (member k g q v a b ms) h =
-      pair_sound _ (tree_of v) (pairs_of (pair_list ms)) (string_sound _) (json_sound v h.3) (members_sound ms h.6)
+  members_sound (member k g q v a b ms) h = grind (arith, pair_sound, string_sound, json_sound v h.3, members_sound ms h.6)
 
 pub json_text_sound : (t : Tree) (text : List ℕ) → IsJsonText t text → IsSound t
 json_text_sound t text h = rw (h.3) at (json_sound h.0.value h.1.value)
@@ -102,14 +101,10 @@ nothing_differs o t none e = true≢false (sym (ap is_some e) ∙ none)
 found_sound : (u t : Tree) → IsSound u → Some u ≡ Some t → IsSound t
 found_sound u t h e = rw (ap (λ o. unwrap_or o u) e) at h
 
--- one of two answers, of which each that is a tree is sound
-either_sound : (b : Bool) (o p : Option Tree) (t : Tree) → (o ≡ Some t → IsSound t) → (p ≡ Some t → IsSound t) → cond b o p ≡ Some t → IsSound t
-either_sound a o p t f g e = grind arith
-
 last_tree_sound : (name : List ℕ) (a : List Anchor) (t : Tree) → AreAnchorsSound a → last_tree name a ≡ Some t → IsSound t
 last_tree_sound name [] t hs e = absurd (nothing_differs _ t refl e)
-last_tree_sound name (begun n ∷ a) t hs e = grind (arith, either_sound, nothing_differs, last_tree_sound name a t hs)
-last_tree_sound name (ended n u ∷ a) t hs e = grind (arith, either_sound, found_sound, last_tree_sound name a t hs.1)
+last_tree_sound name (begun n ∷ a) t hs e = grind (arith, nothing_differs, last_tree_sound name a t hs)
+last_tree_sound name (ended n u ∷ a) t hs e = grind (arith, found_sound, last_tree_sound name a t hs.1)
 
 scalar_sound : (s : Layout.Scalar) → Layout.IsScalar s → IsSound (Layout.scalar_tree s)
 scalar_sound a h = grind arith
@@ -130,8 +125,7 @@ mutual
   value_sound c a (Layout.compact more b) h hs = block_sound _ a b h hs
   value_sound c a (Layout.below after g column b) h hs = block_sound column a b h.3 hs
   value_sound c a (Layout.at_key after g es) h hs = let k = entries_sound c a es h.2 hs in (array_sound _ k.0, k.1)
-  value_sound c a (Layout.anchored more name v) h hs =
-      let k = value_sound c (begun name ∷ a) v h.2 hs in (k.0, with_end_sound _ _ k.0 k.1)
+  value_sound c a (Layout.anchored more name v) h hs = grind (arith, with_end_sound, value_sound c (begun name ∷ a) v h.2 hs)
   value_sound c a (Layout.Value.alias more name t) h hs = (last_tree_sound name a t hs h.1, hs)
 
   entries_sound : (c : ℕ) (a : List Anchor) (es : Layout.Entries) → Layout.AreEntries c a es → AreAnchorsSound a → AreSound (Layout.items es) × AreAnchorsSound (Layout.anchors_after_entries es a)
@@ -150,8 +144,7 @@ mutual
       ((m.0, l.0), l.1)
 
   fields_sound : (c : ℕ) (a : List Anchor) (fs : Layout.Fields) → Layout.AreFields c a fs → AreAnchorsSound a → ArePairsSound (pairs_of (Layout.pair_list fs)) × AreAnchorsSound (Layout.anchors_after_fields fs a)
-  fields_sound c a (Layout.last_field f) h hs =
-      let k = field_sound c a f h hs in (pair_sound _ _ Pairs.no_pairs k.0.0 k.0.1 no_pairs_sound, k.1)
+  fields_sound c a (Layout.last_field f) h hs = grind (arith, pair_sound, no_pairs_sound, field_sound c a f h hs)
   fields_sound c a (Layout.field f g fs) h hs =
       let k = field_sound c a f h.0 hs in
       let l = fields_sound c _ fs h.2 k.1 in

@@ -35,11 +35,8 @@ digit_back n h = grind arith
 digit_fits : (n : ℕ) → n < 16 → is_hex_digit (hexadecimal_digit n) ≡ true
 digit_fits n h = ap (λ d. nat_lt d 16) (digit_back n h) ∙ lt-ltb n 16 h
 
-low_no_surrogate : (c : ℕ) → c < 256 → not (is_surrogate c) ≡ true
-low_no_surrogate c h = grind (arith, nat_tests)
-
 control : (c : ℕ) → c < 256 → IsWritten (unicode 48 48 (hexadecimal_digit (c / 16)) (hexadecimal_digit (c % 16))) (escaped_code c) c
-control c h = grind (arith, digit_back, digit_fits, low_no_surrogate)
+control c h = grind (arith, digit_back, digit_fits, nat_tests)
 
 itself_written : (c : ℕ) → (c == 34) ≡ false → (c == 92) ≡ false → nat_lt c 32 ≡ false → is_character c ≡ true → IsWritten (itself c) (c ∷ []) c
 unfolding is_unescaped
