@@ -22,9 +22,7 @@ piece_step : (s : Site) (p : List ℕ) (t : Tok) (next : List ℕ) (again b c : 
     Stepped IsLike (Were × (ds ≡ es) × (b ≡ c)) (past_piece s p t next again b x ds) (past_piece s p t next again c y es)
 piece_step s p t next again b c Were None y ds es j h = tt
 piece_step s p t next again b c Were (Some l) None ds es j h = none_second IsLike (Were × (ds ≡ es) × (b ≡ c)) (past_piece s p t next again b (Some l) ds)
-piece_step s p t next again b c Were (Some l) (Some m) [] [] j h =
-    weaker IsLike ((l ≡ m) × (b ≡ c)) (Were × ([] ≡ []) × (b ≡ c)) _ _ (λ k. (h.1 k.0, refl, k.1))
-    (outside_step s p t next ((l ≡ m) × (b ≡ c)) _ _ (line_step (act_of t) (is_in_column s.position.col s.blocks) s.position s.blocks b c l m h.0))
+piece_step s p t next again b c Were (Some l) (Some m) [] [] j h = grind (arith, weaker, outside_step, line_step)
 piece_step s p t next again b c Were (Some l) (Some m) (d ∷ ds) (e ∷ es) j h =
     weaker IsLike ((l ≡ m) × ((d ∷ ds ≡ e ∷ es) × (b ≡ c))) (Were × (d ∷ ds ≡ e ∷ es) × (b ≡ c)) _ _ (λ k. (h.1 k.0, k.1.0, k.1.1))
     (inside_step s p t next l m ((d ∷ ds ≡ e ∷ es) × (b ≡ c)) _ _ h.0 (entries_step (act_of t) s.position again (begun_by t) b c d e ds es j.0 j.1))

@@ -100,52 +100,8 @@ entered gives_marker again key had kind pair here colon own b bs next t c r es a
     by false false filled = settles
     by false false settled = settles
     by _ _ _ = tt
-entered gives_colon again key had kind pair here colon own b bs next t c r es a q = by again key had kind pair
-  where
-    Of : Bool → Bool → Had → FlowKind → Pair → Type 0
-    Of again key had kind pair = EnteredBy (Inner here b bs (entry_by kind pair had) es) (begun_inside (takes_pair kind pair) pair here colon own gives_colon key had) next t c r es (entries_past here again gives_colon (begun_by t) key (entry_by kind pair had) es)
-
-    starts : Entered (Unkeyed here b bs sequence no_pair es) (put own flow_mapping_start ∷ []) next t c r es (begun_by t ++ (entry_by sequence single_pair settled ∷ es))
-    starts = in_entry (Unkeyed here b bs sequence no_pair es) (put own flow_mapping_start ∷ []) next t c r es (entry_by sequence single_pair settled) gives_colon a (λ h. cc h) (λ h. cc h)
-        (inr (refl, refl, ap (λ x. begins_pair (Some x)) (is_colon t a), (q (inr a))), tt) refl
-
-    ends : (begin : Position) (e f : Entry) (x : Bool) → level_in e ≡ level_in f → EnteredBy (Inner here b bs e es) [] next t c r es (with_had f.kind f.pair (begun_by t) es (if x then Some f.had else None))
-    ends begin e f true same = nothing here b bs e f next t c r es gives_colon a (λ h. cc h) (λ h. cc h) same
-    ends begin e f false same = tt
-
-    by : (again key : Bool) (had : Had) (kind : FlowKind) (pair : Pair) → Of again key had kind pair
-    by true false fresh sequence no_pair = starts
-    by true false settled sequence no_pair = starts
-    by false false fresh sequence no_pair = starts
-    by false false settled sequence no_pair = starts
-    by true false (waits begin) sequence no_pair = ends begin (entry_by sequence no_pair (waits begin)) (entry_by sequence single_pair settled) (begin.line == here.line) refl
-    by false false (waits begin) sequence no_pair = ends begin (entry_by sequence no_pair (waits begin)) (entry_by sequence single_pair settled) (begin.line == here.line) refl
-    by true false fresh kind pair = ends here (entry_by kind pair fresh) (entry_by kind pair settled) true refl
-    by true false settled kind pair = ends here (entry_by kind pair settled) (entry_by kind pair settled) true refl
-    by true false (waits begin) kind pair = ends begin (entry_by kind pair (waits begin)) (entry_by kind pair settled) true refl
-    by false false fresh kind pair = ends here (entry_by kind pair fresh) (entry_by kind pair settled) true refl
-    by false false settled kind pair = ends here (entry_by kind pair settled) (entry_by kind pair settled) true refl
-    by false false (waits begin) kind pair = ends begin (entry_by kind pair (waits begin)) (entry_by kind pair settled) true refl
-    by _ _ _ _ _ = tt
-entered gives_comma again key had kind pair here colon own b bs next t c r es a q = by key had
-  where
-    ends : Entered (Unkeyed here b bs kind pair es) (pair_end here pair) next t c r es (first_entry kind ∷ es)
-    ends = subst (λ x. Entered (Unkeyed here b bs kind pair es) (pair_end here pair) next x c r es (first_entry kind ∷ es)) (sym (is_comma t a)) (pair_ends pair kind here b bs next flow_entry c r es (first_entry kind ∷ es) refl refl)
-
-    by : (key : Bool) (had : Had) → EnteredBy (Inner here b bs (entry_by kind pair had) es) (begun_inside (takes_pair kind pair) pair here colon own gives_comma key had) next t c r es (entries_past here again gives_comma (begun_by t) key (entry_by kind pair had) es)
-    by false fresh = ends
-    by false filled = ends
-    by false settled = ends
-    by _ _ = tt
-entered gives_closing again key had kind pair here colon own b bs next t c r es a q = by key had
-  where
-    ends : Entered (Unkeyed here b bs kind pair es) (pair_end here pair) next t c r es es
-    ends = pair_ends pair kind here b bs next t c r es es (closing_ends t a) (levels_close t c r (record { kind = kind; pair = false }) es a)
-
-    by : (key : Bool) (had : Had) → EnteredBy (Inner here b bs (entry_by kind pair had) es) (begun_inside (takes_pair kind pair) pair here colon own gives_closing key had) next t c r es (entries_past here again gives_closing (begun_by t) key (entry_by kind pair had) es)
-    by false fresh = ends
-    by false filled = ends
-    by false settled = ends
-    by _ _ = tt
+entered gives_colon again key had kind pair here colon own b bs next t c r es a q = grind (arith, in_entry, is_colon, nothing)
+entered gives_comma again key had kind pair here colon own b bs next t c r es a q = grind (arith, is_comma, pair_ends)
+entered gives_closing again key had kind pair here colon own b bs next t c r es a q = grind (arith, pair_ends, closing_ends, levels_close)
 entered _ true key had kind pair here colon own b bs next t c r es a q = tt
 entered _ false key had kind pair here colon own b bs next t c r es a q = tt

@@ -187,13 +187,7 @@ outside_step must s line f c r t key ws after x h same on_line in_line kept = by
 
     waiting_so : (begin : Position) → line ≡ waits begin → begins_free_line s.before f ≡ false → (m : Bool) → is_marker (act_of t) ≡ m → IsCutStep (record { site = s; line = line; entries = [] }) (record { separation = f; piece = c ∷ r; shown = t; key = key }) ws after x
     waiting_so begin e g true k = grind (arith, t, key, line, same, at, next, must, waits, x)
-    waiting_so begin e g false k =
-        let keeps : KeptBy (waits begin) s = subst (λ z. KeptBy z s) e kept in
-        let right : begin.col ≤ at.position.col = omega (arith, keeps.1, column_grows s.position f ((c ∷ r) ++ next) (unbroken f (sym (keeps.2 f) ∙ g))) in
-        let all : at.blocks ≡ s.blocks = ap (λ m. if m then [] else not_ended at.position.col s.blocks) k ∙ not_ended_further begin.col at.position.col s.blocks right keeps.0 in
-        so (waits begin) (waits begin) e (ap (λ z. line_past_separation false z (waits begin)) g)
-        (subst (λ cs. LeadTo (account_by at.position b (somes (with_key s.blocks (waits begin))) []) (ends_at at.position s.blocks at.blocks) (account_by at.position b (somes (with_key cs (waits begin))) [])) (sym all) (none_ends (account_by at.position b (somes (with_key s.blocks (waits begin))) []) at.position s.blocks at.blocks all))
-        (subst (λ cs. not_ended begin.col cs ≡ cs) (sym all) keeps.0, right)
+    waiting_so begin e g false k = grind (arith, column_grows, next, unbroken, not_ended_further, so, b, none_ends)
 
     by : (n : Bool) (m : Line) → begins_free_line s.before f ≡ n → line ≡ m → IsCutStep (record { site = s; line = line; entries = [] }) (record { separation = f; piece = c ∷ r; shown = t; key = key }) ws after x
     by true free g e = so free free e (ap (λ z. line_past_separation false z free) g) (free_so free free refl refl) tt
@@ -273,10 +267,7 @@ inside_step s line e es f c r t key ws after x h same on_line kept = by_line (li
             KeptBy m (site_past true at (c ∷ r) t next at.blocks)
         keeps free k broken one p = tt
         keeps taken k broken one p = tt
-        keeps (waits begin) k broken one p =
-            let right : begin.col < at.position.col = omega (arith, k.1, column_grows s.position f ((c ∷ r) ++ next) (unbroken f (sym (k.2 f) ∙ broken refl))) in
-            kept_on (waits begin) at.position s.blocks (site_past true at (c ∷ r) t next at.blocks).awaits c r next t (k.0, omega (arith, right)) one
-            (λ i. no_directive (account_by at.position b bs (n.level ∷ levels_in es)) c r next None own t p (inr (omega (arith, right))))
+        keeps (waits begin) k broken one p = grind (arith, column_grows, next, unbroken, kept_on, no_directive, b, bs, own)
 
     by_line : (o : Option Line) → line_past_separation true (begins_free_line s.before f) line ≡ o → past_piece at (c ∷ r) t next (is_renewed s.before f) key o (e ∷ es) ≡ Some x → IsCutStep a w ws after x
     by_line None g i = absurd (cc i)

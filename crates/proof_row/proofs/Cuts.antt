@@ -22,11 +22,7 @@ line_stands a fl broken at p t next again key begin es x e = grind arith
 
 -- after a key that waits the text goes on in its line
 waits_in_line : (a : Account) (ws : List Step) (after : List ℕ) (b : Account) → Leads (Some a) ws after b → may_end b ≡ true → IsKept a → is_waiting a.line ≡ true → is_in_line (step.spelled ws after) ≡ true
-waits_in_line a [] after b h ends kept w = absurd (by (is_waiting a.line) (have_no_key a.entries) w (ap may_end h ∙ ends))
-  where
-    by : (x y : Bool) → x ≡ true → (not x && y) ≡ true → ⊥
-    by true y e f = cc f
-    by false y e f = cc e
+waits_in_line a [] after b h ends kept w = grind arith
 waits_in_line a (w ∷ ws) after b h ends kept waiting = by_line a.line refl waiting
   where
     next : List ℕ
@@ -34,9 +30,7 @@ waits_in_line a (w ∷ ws) after b h ends kept waiting = by_line a.line refl wai
 
     by_piece : (f p : List ℕ) (t : Tok) → IsWritten a (record { separation = f; piece = p; shown = t; key = w.key }) next → has_break f ≡ false → is_in_line (f ++ (p ++ next)) ≡ true
     by_piece f [] t h e = absurd (cc h.1.0)
-    by_piece f (c ∷ r) t h e =
-        let at : Site = site_at (is_in_flow a.entries) a.site f (c ∷ r) t next in
-        in_line f c (r ++ next) (unbroken f e) (separations_end_before (seen a at f) (c ∷ r) next None (shown_position at (c ∷ r) t next) t (λ e. cc e) h.1.1)
+    by_piece f (c ∷ r) t h e = grind (arith, next, in_line, unbroken, separations_end_before)
 
     by_past : (begin : Position) → a.line ≡ waits begin → (o : Option Account) → account_past a w next ≡ o → Leads o ws after b → begins_free_line a.site.before w.separation ≡ false
     by_past begin e None g k = absurd k
@@ -65,12 +59,7 @@ pub record IsCutTo (a : Account) (ws : List Step) (after : List ℕ) (b : Accoun
 
 -- Steps that lead to an account at which no key waits are a row of a cut.
 pub cut_to : (a : Account) (ws : List Step) (after : List ℕ) (b : Account) → Leads (Some a) ws after b → may_end b ≡ true → IsKept a → IsCutTo a ws after b
-cut_to a [] after b h ends kept = record {
-  row = [];
-  spells = refl;
-  tokens_are = ap (λ x. tokens_from (Some x) [] after) h;
-  is_row = record { is_row = λ last. tt; past = ap in_cut h };
-}
+cut_to a [] after b h ends kept = grind arith
 cut_to a (w ∷ ws) after b h ends kept = by (account_past a w next) refl h.1 (λ x. cut_to x ws after b)
   where
     next : List ℕ

@@ -58,13 +58,8 @@ ended d e after next a c i j = grind arith
 
 -- Like entries are like again after a piece in flow.
 pub entries_step : (k : Act) → EntriesStep k
-entries_step gives_comma here again begun b c d e ds es i j =
-    weaker LikeEntries (((d.had ≡ e.had) × (b ≡ c)) × (first_entry d.kind ∷ ds ≡ first_entry e.kind ∷ es)) ((d ∷ ds ≡ e ∷ es) × (b ≡ c)) _ _
-    (λ h. (both d e ds es (same_entry d e i.0 i.1 h.0.0) (tails (first_entry d.kind) (first_entry e.kind) ds es h.1).1, h.0.1))
-    (ended d.had e.had (first_entry d.kind ∷ ds) (first_entry e.kind ∷ es) b c i.2 ((i.0, refl, tt), j))
-entries_step gives_closing here again begun b c d e ds es i j =
-    weaker LikeEntries (((d.had ≡ e.had) × (b ≡ c)) × (ds ≡ es)) ((d ∷ ds ≡ e ∷ es) × (b ≡ c)) _ _
-    (λ h. (both d e ds es (same_entry d e i.0 i.1 h.0.0) h.1, h.0.1)) (ended d.had e.had ds es b c i.2 j)
+entries_step gives_comma here again begun b c d e ds es i j = grind (arith, weaker, both, same_entry, tails, ended)
+entries_step gives_closing here again begun b c d e ds es i j = grind (arith, weaker, both, same_entry, ended)
 entries_step gives_node here again begun b c d e ds es i j = goes_on gives_node here again begun b c d e ds es i j
 entries_step gives_block_scalar here again begun b c d e ds es i j = goes_on gives_block_scalar here again begun b c d e ds es i j
 entries_step gives_dash here again begun b c d e ds es i j = goes_on gives_dash here again begun b c d e ds es i j

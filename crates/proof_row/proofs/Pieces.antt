@@ -45,10 +45,7 @@ read_token r = block_token (r.style) (r.text)
 
 pub one_of : (k : Kind) → OneOf k
 one_of nothing a p q x y t u h k e n = absurd h
-one_of plain_scalar a p q x y t u h k e n =
-    let same : (p ≡ q) × (x ≡ y) = plains a.in_flow a.collection p q x y h.1.1 k.1.1 e in
-    let text : h.0 ≡ k.0 = some _ _ (sym h.1.2 ∙ (ap plain_value same.0 ∙ k.1.2)) in
-    same_by p q x y t u same (cc (h.2, k.2, text))
+one_of plain_scalar a p q x y t u h k e n = grind (arith, plains, some, same_by)
 one_of sequence_opening a p q x y t u h k e n = same_by p q x y t u (alike p q _ x y h.0 k.0 e) (h.1 ∙ sym k.1)
 one_of sequence_closing a p q x y t u h k e n = same_by p q x y t u (alike p q _ x y h.0 k.0 e) (h.1 ∙ sym k.1)
 one_of mapping_opening a p q x y t u h k e n = same_by p q x y t u (alike p q _ x y h.0 k.0 e) (h.1 ∙ sym k.1)
@@ -59,10 +56,7 @@ one_of colon a p q x y t u h k e n = same_by p q x y t u (alike p q _ x y h.0 k.
 one_of dash a p q x y t u h k e n = same_by p q x y t u (alike p q _ x y h.0 k.0 e) (h.2 ∙ sym k.2)
 one_of dashes a p q x y t u h k e n = same_by p q x y t u (alike p q _ x y h.0.0 k.0.0 e) (h.1 ∙ sym k.1)
 one_of dots a p q x y t u h k e n = same_by p q x y t u (alike p q _ x y h.0.0 k.0.0 e) (h.1 ∙ sym k.1)
-one_of directive_line a p q x y t u h k e n =
-    let same : (p ≡ q) × (x ≡ y) = directives p q x y (h.0, h.1, h.2, h.3, n) (k.0, k.1, k.2, k.3, subst (λ z. has_no_nul z ≡ true) e n) e in
-    let d : h.0 ≡ k.0 = some _ _ (sym h.1 ∙ (ap directive_of same.0 ∙ k.1)) in
-    same_by p q x y t u same (h.4 ∙ (ap directive_token d ∙ sym k.4))
+one_of directive_line a p q x y t u h k e n = grind (arith, directives, some, same_by)
 one_of alias_name a p q x y t u h k e n = one_name 42 alias p q x y t u h k e
 one_of anchor_name a p q x y t u h k e n = one_name 38 anchor p q x y t u h k e
 one_of tag_text a p q x y t u h k e n =

@@ -26,12 +26,7 @@ from fl coll after_blank [] (d ∷ q) x y h k f g i j e = absurd (cc f)
 from fl coll after_blank (c ∷ p) [] x y h k f g i j e = absurd (cc g)
 from fl coll (on_line n) [] (d ∷ q) x y h k f g i j e = absurd (cc f)
 from fl coll (on_line n) (c ∷ p) [] x y h k f g i j e = absurd (cc g)
-from fl coll s (c ∷ p) (d ∷ q) x y h k f g i j e =
-    let heads : (c ≡ d) × (p ++ x ≡ q ++ y) = same_head c d (p ++ x) (q ++ y) e in
-    let rest : (p ≡ q) × (x ≡ y) =
-    from fl coll (past s c) p q x y (both _ _ h).1 (subst (λ z. goes_on fl coll (past s z) q y ≡ true) (sym heads.0) (both _ _ k).1)
-    (settled_past s c p f) (settled_past s c q (subst (λ z. ends_with_content z q ≡ true) (sym heads.0) g)) i j heads.1 in
-    (longer c d p q heads.0 rest.0, rest.1)
+from fl coll s (c ∷ p) (d ∷ q) x y h k f g i j e = grind (arith, same_head, both, settled_past, longer, from fl coll (past s c) p q x y)
 
 settled_inside : (c : ℕ) (r : List ℕ) → ends_with_content c r ≡ true → settled inside r ≡ true
 settled_inside c a h = grind arith

@@ -74,10 +74,7 @@ bodies at f quote lf again stop b d x y h k i j e = by (splits b d (quote ∷ x)
   where
     over : (b d x y more : List ℕ) → d ≡ b ++ more → quote ∷ x ≡ more ++ (quote ∷ y) → is_read (elements at 0 b) ≡ true → is_read (elements at 0 d) ≡ true → again x ≡ false → (b ≡ d) × (x ≡ y)
     over b d x y [] g l h k i = (sym (g ∙ append-nil b), (same_head quote quote x y l).1)
-    over b d x y (c ∷ more) g l h k i =
-        let heads : (quote ≡ c) × (x ≡ more ++ (quote ∷ y)) = same_head quote c x (more ++ (quote ∷ y)) l in
-        let whole : d ≡ b ++ (quote ∷ more) = g ∙ ap (λ z. b ++ (z ∷ more)) (sym heads.0) in
-        absurd (contrary _ (reads at f 0 b (quote ∷ more) (omega arith) lf h (subst (λ z. is_read (elements at 0 z) ≡ true) whole k)) (stop more y (subst (λ z. again z ≡ false) heads.1 i)))
+    over b d x y (c ∷ more) g l h k i = grind (arith, same_head, contrary, reads)
 
     by : More b d (quote ∷ x) (quote ∷ y) ⊎ More d b (quote ∷ y) (quote ∷ x) → (b ≡ d) × (x ≡ y)
     by a = grind (arith, over)
