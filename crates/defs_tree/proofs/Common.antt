@@ -18,7 +18,7 @@ pub use Rattle.defs_tree.specs.Digits.{digits_up_to, IsLeastExponent}
 unfoldable pub use Rattle.defs_tree.specs.Digits.{binary_digits}
 pub use Rattle.defs_tree.specs.Escapes.{double_quoted, escaped_code, hexadecimal_digit, written_escapes}
 unfoldable pub use Rattle.defs_tree.specs.Escapes.{written_character}
-pub use Rattle.defs_tree.specs.Grammar.{any_number, at_least_one, followed_by, in_order, is_among, IsSplit, one, optional}
+pub use Rattle.defs_tree.specs.Grammar.{any_number, at_least_one, followed_by, in_order, is_among, IsSplit, one, one_of, optional}
 pub use Rattle.defs_tree.specs.Laws.{IsSpeltPlain, MayStandFor}
 pub use Rattle.defs_tree.specs.Lines.{ended, is_unbroken, lines_of, onto_first_line}
 pub use Rattle.defs_tree.specs.Literal.{literal_header}

@@ -1,31 +1,8 @@
 -- How the marks of a grammar go together: equations on `followed_by`, by which a text is read from left to right.
 use Rattle.defs_tree.proofs.Common.{[], and_from, and_parts, any_number, ap, at_least_one, Bool, false, followed_by, if◌then◌else◌, inl, inr, is_empty, IsSplit, List, list_all, not, one, optional, or_cases, or_left, or_right, refl, subst, sym, true, ℕ, ◌&&◌, ◌++◌, ◌||◌, ◌∙◌, ◌∷◌, ◌≡◌, ◌⊎◌, arith}
 
--- ---- tests
-
-and-false : (x : Bool) → (x && false) ≡ false
-and-false a = grind arith
-
-and-true : (x : Bool) → (x && true) ≡ x
-and-true a = grind arith
-
 pub or-false : (x : Bool) → (x || false) ≡ x
 or-false a = grind arith
-
-and-assoc : (x y z : Bool) → ((x && y) && z) ≡ (x && (y && z))
-and-assoc a y z = grind arith
-
-and-or : (x y z : Bool) → (x && (y || z)) ≡ ((x && y) || (x && z))
-and-or a y z = grind arith
-
-or-and : (x y z : Bool) → ((x || y) && z) ≡ ((x && z) || (y && z))
-or-and a y z = grind arith
-
-or-swap : (a b c d : Bool) → ((a || b) || (c || d)) ≡ ((a || c) || (b || d))
-or-swap a b c d = grind arith
-
-or-assoc : (a b c : Bool) → ((a || b) || c) ≡ (a || (b || c))
-or-assoc a b c = grind arith
 
 -- ---- `followed_by`
 
@@ -34,32 +11,27 @@ nothing_first g [] = refl
 nothing_first g (c ∷ cs) = nothing_first g cs
 
 pub followed_by-empty : (f : List ℕ → Bool) (t : List ℕ) → followed_by f is_empty t ≡ f t
-followed_by-empty f [] = and-true (f [])
-followed_by-empty f (c ∷ cs) = ap (λ x. x || followed_by (λ b. f (c ∷ b)) is_empty cs) (and-false (f [])) ∙ followed_by-empty (λ b. f (c ∷ b)) cs
+followed_by-empty f [] = grind arith
+followed_by-empty f (c ∷ cs) = grind (arith, followed_by-empty (λ b. f (c ∷ b)) cs)
 
 pub empty-followed_by : (g : List ℕ → Bool) (t : List ℕ) → followed_by is_empty g t ≡ g t
 empty-followed_by g [] = refl
-empty-followed_by g (c ∷ cs) = ap (λ x. g (c ∷ cs) || x) (nothing_first g cs) ∙ or-false (g (c ∷ cs))
+empty-followed_by g (c ∷ cs) = grind (arith, nothing_first g cs)
 
 pub followed_by-and : (x : Bool) (f g : List ℕ → Bool) (t : List ℕ) → followed_by (λ b. x && f b) g t ≡ (x && followed_by f g t)
 followed_by-and true f g t = refl
 followed_by-and false f g t = nothing_first g t
 
 pub followed_by-or : (f h g : List ℕ → Bool) (t : List ℕ) → followed_by (λ b. f b || h b) g t ≡ (followed_by f g t || followed_by h g t)
-followed_by-or f h g [] = or-and (f []) (h []) (g [])
-followed_by-or f h g (c ∷ cs) =
-    (λ i. or-and (f []) (h []) (g (c ∷ cs)) i || followed_by-or (λ b. f (c ∷ b)) (λ b. h (c ∷ b)) g cs i)
-    ∙ or-swap (f [] && g (c ∷ cs)) (h [] && g (c ∷ cs)) (followed_by (λ b. f (c ∷ b)) g cs) (followed_by (λ b. h (c ∷ b)) g cs)
+followed_by-or f h g [] = grind arith
+followed_by-or f h g (c ∷ cs) = grind (arith, followed_by-or (λ b. f (c ∷ b)) (λ b. h (c ∷ b)) g cs)
 
 pub followed_by-assoc : (f g h : List ℕ → Bool) (t : List ℕ) → followed_by (λ b. followed_by f g b) h t ≡ followed_by f (λ b. followed_by g h b) t
-followed_by-assoc f g h [] = and-assoc (f []) (g []) (h [])
+followed_by-assoc f g h [] = grind arith
 followed_by-assoc f g h (c ∷ cs) =
     let f' = λ (b : List ℕ). f (c ∷ b) in
     let g' = λ (b : List ℕ). g (c ∷ b) in
-    ap (λ x. ((f [] && g []) && h (c ∷ cs)) || x) (followed_by-or (λ b. f [] && g' b) (λ b. followed_by f' g b) h cs)
-    ∙ (λ i. and-assoc (f []) (g []) (h (c ∷ cs)) i || (followed_by-and (f []) g' h cs i || followed_by-assoc f' g h cs i))
-    ∙ sym (or-assoc (f [] && (g [] && h (c ∷ cs))) (f [] && followed_by g' h cs) (followed_by f' (λ b. followed_by g h b) cs))
-    ∙ ap (λ x. x || followed_by f' (λ b. followed_by g h b) cs) (sym (and-or (f []) (g [] && h (c ∷ cs)) (followed_by g' h cs)))
+    grind (arith, followed_by-or (λ b. f [] && g' b) (λ b. followed_by f' g b) h cs, followed_by-and (f []) g' h cs, followed_by-assoc f' g h cs)
 
 -- ---- read from the left
 

@@ -1,7 +1,7 @@
 -- What merges do to a tree.
 use Rattle.defs_tree.proofs.Common.{[], AllDistinct, AllLackMergeKeys, AllPairsDistinct, ap, append-nil, append_assoc, AreDistinct, array, Bool, brought, cond, false, has_key, hash, is_some, IsDistinct, item, Items, items_of, Lacks, LacksMergeKeys, List, list_of, lookup, merge_key, merged, merged_items, merged_pairs, merged_values, no_items, no_pairs, None, Option, option_or, pair, pair_list_of, Pairs, pairs_of, pairs_of_mappings, refl, Some, subst, sym, Tree, tree_eq, true, true≢false, ValuesLackMergeKeys, with_new_pair, with_new_pairs, without, ◌++◌, ◌∙◌, ◌∷◌, ◌≡◌, ◌≢◌, arith}
 use Rattle.defs_tree.proofs.OrderLaws.{tree_eq_decides}
-use Rattle.defs_tree.proofs.OverlayLaws.{Each, each_append, each_lookup, list_of_pairs}
+use Rattle.defs_tree.proofs.OverlayLaws.{Each, EachDistinct, EachDistinct-list, EachDistinct-pairs, each_append, each_lookup, list_of_pairs}
 use Rattle.defs_tree.proofs.PairsLaws.{tree_eq-other, AreDistinct-append, AreDistinct-without, Lacks-itself, lookup-without_other}
 use Rattle.defs_tree.proofs.TypingLaws.{OfSome}
 use Rattle.defs_tree.specs.MergeLaws.{value_among, value_brought}
@@ -112,23 +112,15 @@ module _ (K V : Tree → Type 0) (opens : Opens K V) where
 
 -- ---- distinct keys
 
-distinct_each : (ps : Pairs) → AllPairsDistinct ps → Each IsDistinct IsDistinct (pair_list_of ps)
-distinct_each no_pairs h = tt
-distinct_each (pair k v ps) h = ((h.0, h.1), distinct_each ps h.2)
-
-each_distinct : (ps : List (Tree × Tree)) → Each IsDistinct IsDistinct ps → AllPairsDistinct (pairs_of ps)
-each_distinct [] h = tt
-each_distinct (p ∷ ps) h = (h.0.0, h.0.1, each_distinct ps h.1)
-
 distinct_items : (ts : Items) → AllDistinct ts → EachItem IsDistinct ts
 distinct_items no_items h = tt
 distinct_items (item t ts) h = (h.0, distinct_items ts h.1)
 
 distinct_opens : Opens IsDistinct IsDistinct
-distinct_opens = ((λ ps h. distinct_each ps h.1), distinct_items)
+distinct_opens = ((λ ps h. EachDistinct-list ps h.1), distinct_items)
 
-whole_distinct : (ps : List (Tree × Tree)) → AreDistinct ps → Each IsDistinct IsDistinct ps → IsDistinct (hash (pairs_of (merged_pairs ps)))
-whole_distinct ps h g = (subst AreDistinct (sym (list_of_pairs (merged_pairs ps))) (merged_pairs_distinct ps h), each_distinct (merged_pairs ps) (each_merged IsDistinct IsDistinct distinct_opens ps g))
+whole_distinct : (ps : List (Tree × Tree)) → AreDistinct ps → EachDistinct ps → IsDistinct (hash (pairs_of (merged_pairs ps)))
+whole_distinct ps h g = (subst AreDistinct (sym (list_of_pairs (merged_pairs ps))) (merged_pairs_distinct ps h), EachDistinct-pairs (merged_pairs ps) (each_merged IsDistinct IsDistinct distinct_opens ps g))
 
 -- ---- no merge key is left
 
@@ -186,7 +178,7 @@ mutual
   items_both no_items h = (tt, tt)
   items_both (item t ts) h = let a = merged_both t h.0 in let b = items_both ts h.1 in ((a.0, b.0), (a.1, b.1))
 
-  values_both : (ps : Pairs) → AllPairsDistinct ps → Each IsDistinct IsDistinct (merged_values ps) × Each IsAny LacksMergeKeys (merged_values ps)
+  values_both : (ps : Pairs) → AllPairsDistinct ps → EachDistinct (merged_values ps) × Each IsAny LacksMergeKeys (merged_values ps)
   values_both no_pairs h = (tt, tt)
   values_both (pair k v ps) h = let a = merged_both v h.1 in let b = values_both ps h.2 in (((h.0, a.0), b.0), ((tt, a.1), b.1))
 

@@ -74,20 +74,16 @@ mutual
 
   items_same : (ts us : Items) (q r : List ℤ) → cmp (items_code ts q) (items_code us r) ≡ ordering_then (items_cmp ts us) (cmp q r)
   items_same no_items no_items q r = refl
-  items_same no_items (item u us) q r = refl
-  items_same (item t ts) no_items q r = refl
   items_same (item t ts) (item u us) q r =
-      tree_same t u (items_code ts q) (items_code us r) ∙ ap (ordering_then (tree_cmp t u)) (items_same ts us q r) ∙ then_assoc (tree_cmp t u) (items_cmp ts us) (cmp q r)
+      grind (arith, then_assoc, tree_same t u (items_code ts q) (items_code us r), items_same ts us q r)
+  items_same ts us q r = refl
 
   pairs_same : (ps ss : Pairs) (q r : List ℤ) → cmp (pairs_code ps q) (pairs_code ss r) ≡ ordering_then (pairs_cmp ps ss) (cmp q r)
   pairs_same no_pairs no_pairs q r = refl
-  pairs_same no_pairs (pair l w ss) q r = refl
-  pairs_same (pair k v ps) no_pairs q r = refl
   pairs_same (pair k v ps) (pair l w ss) q r =
-      tree_same k l (tree_code v (pairs_code ps q)) (tree_code w (pairs_code ss r))
-      ∙ ap (ordering_then (tree_cmp k l)) (tree_same v w (pairs_code ps q) (pairs_code ss r) ∙ ap (ordering_then (tree_cmp v w)) (pairs_same ps ss q r))
-      ∙ ap (ordering_then (tree_cmp k l)) (then_assoc (tree_cmp v w) (pairs_cmp ps ss) (cmp q r))
-      ∙ then_assoc (tree_cmp k l) (ordering_then (tree_cmp v w) (pairs_cmp ps ss)) (cmp q r)
+      grind (arith, then_assoc, tree_same k l (tree_code v (pairs_code ps q)) (tree_code w (pairs_code ss r)),
+      tree_same v w (pairs_code ps q) (pairs_code ss r), pairs_same ps ss q r)
+  pairs_same ps ss q r = refl
 
 by_code : (t u : Tree) → cmp (tree_code t []) (tree_code u []) ≡ tree_cmp t u
 by_code t u = tree_same t u [] [] ∙ then_Equal (tree_cmp t u)
@@ -133,18 +129,13 @@ mutual
 
   items_tied : (ts us : Items) → items_cmp ts us ≡ Equal → ts ≡ us
   items_tied no_items no_items e = refl
-  items_tied no_items (item u us) e = cc
-  items_tied (item t ts) no_items e = cc
-  items_tied (item t ts) (item u us) e =
-      λ i. item (tree_tied t u (first_tied (tree_cmp t u) (items_cmp ts us) e) i) (items_tied ts us (second_tied (tree_cmp t u) (items_cmp ts us) e) i)
+  items_tied (item t ts) (item u us) e = grind (arith, tree_tied t u, items_tied ts us)
+  items_tied ts us e = cc
 
   pairs_tied : (ps qs : Pairs) → pairs_cmp ps qs ≡ Equal → ps ≡ qs
   pairs_tied no_pairs no_pairs e = refl
-  pairs_tied no_pairs (pair l w qs) e = cc
-  pairs_tied (pair k v ps) no_pairs e = cc
-  pairs_tied (pair k v ps) (pair l w qs) e =
-      let f : ordering_then (tree_cmp v w) (pairs_cmp ps qs) ≡ Equal = second_tied (tree_cmp k l) (ordering_then (tree_cmp v w) (pairs_cmp ps qs)) e in
-      λ i. pair (tree_tied k l (first_tied (tree_cmp k l) (ordering_then (tree_cmp v w) (pairs_cmp ps qs)) e) i) (tree_tied v w (first_tied (tree_cmp v w) (pairs_cmp ps qs) f) i) (pairs_tied ps qs (second_tied (tree_cmp v w) (pairs_cmp ps qs) f) i)
+  pairs_tied (pair k v ps) (pair l w qs) e = grind (arith, tree_tied k l, tree_tied v w, pairs_tied ps qs)
+  pairs_tied ps qs e = cc
 
 -- the test holds of the same tree alone
 pub tree_eq_decides : (t u : Tree) → Decides (tree_eq t u) (t ≡ u)

@@ -9,7 +9,7 @@ Each K V [] = Unit {0}
 Each K V (p ∷ ps) = (K p.0 × V p.1) × Each K V ps
 
 -- each key and each value has distinct keys
-abbrev EachDistinct : List (Tree × Tree) → Type 0
+abbrev pub EachDistinct : List (Tree × Tree) → Type 0
 EachDistinct ps = Each IsDistinct IsDistinct ps
 
 -- each of these keys is one of those
@@ -21,11 +21,11 @@ pub list_of_pairs : (ps : List (Tree × Tree)) → pair_list_of (pairs_of ps) �
 list_of_pairs [] = refl
 list_of_pairs (p ∷ ps) = ap (λ qs. p ∷ qs) (list_of_pairs ps)
 
-EachDistinct-list : (ps : Pairs) → AllPairsDistinct ps → EachDistinct (pair_list_of ps)
+pub EachDistinct-list : (ps : Pairs) → AllPairsDistinct ps → EachDistinct (pair_list_of ps)
 EachDistinct-list no_pairs h = tt
 EachDistinct-list (pair k v ps) h = ((h.0, h.1), EachDistinct-list ps h.2)
 
-EachDistinct-pairs : (ps : List (Tree × Tree)) → EachDistinct ps → AllPairsDistinct (pairs_of ps)
+pub EachDistinct-pairs : (ps : List (Tree × Tree)) → EachDistinct ps → AllPairsDistinct (pairs_of ps)
 EachDistinct-pairs [] h = tt
 EachDistinct-pairs (p ∷ ps) h = (h.0.0, h.0.1, EachDistinct-pairs ps h.1)
 
