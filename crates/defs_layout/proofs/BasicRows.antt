@@ -3,7 +3,8 @@ use Prim.Native.String.{String}
 use Rattle.std.specs.Fmt.{digits}
 use Rattle.defs_layout.proofs.Common.{[], ap, AreDocuments, arith, array, below, blank, Block, codes, comment_line, Document, empty_array, empty_hash, empty_line, entry, explicit, false, field, GapLine, hash, implicit, is_decimal, is_line_character, is_literal_character, is_literal_text, is_quoted, is_root_literal, is_unfit_for_plain, IsBasic, IsBasicLayout, IsBlock, IsField, IsGap, IsImplicitKey, IsPlain, IsRoot, IsValue, Json, last_document, last_entry, last_field, Layout, List, negsuc, no_comment, plain, quoted, replicate, Root, scalar, slice_index, sym, Tree, trees_of, true, true≢false, typing, Value, written_character, ℕ, ◌==◌, ◌∙◌, ◌∷◌, ◌≡◌}
 use Rattle.defs_layout.specs.Layout as layout
-use Rattle.defs_layout.proofs.RowWords.{text, number, list, pairs, word, integer, line, one, empty, nested, differ}
+use Rattle.defs_tree.proofs.TreeWords.{text, number, list, mapping}
+use Rattle.defs_layout.proofs.RowWords.{word, integer, line, one, empty, nested, differ}
 
 -- ---- words for the examples
 
@@ -45,7 +46,7 @@ record Rows : Type 0 where
             (last_field (implicit (word "k")
             (below no_comment (comment_line (codes " c") ∷ []) 5 (hash (last_field (implicit (word "z") (beside 0 empty_hash)))))))));
       }) (empty_line ∷ []))
-      (pairs ((list (number 1 ∷ number 2 ∷ []), list (text "x" ∷ text "p\n\nq\n" ∷ [])) ∷ (text "k", pairs ((text "z", pairs []) ∷ [])) ∷ []))
+      (mapping ((list (number 1 ∷ number 2 ∷ []), list (text "x" ∷ text "p\n\nq\n" ∷ [])) ∷ (text "k", mapping ((text "z", mapping []) ∷ [])) ∷ []))
       "---\n# top\n\n   ? - 1\n     - 2\n# mid\n   :       - x\n           - |\n                 p\n\n                 q\n   k:\n# c\n     z: {}\n"
   -- the scalars: a null, a boolean, integers, a real, a string as it stands, one in double quotes that need not be, one with escapes
   scalars : Shows
@@ -61,13 +62,13 @@ record Rows : Type 0 where
         root = Root.block 0 (hash (last_field (implicit (word "a")
             (below no_comment (comment_line (codes " note") ∷ []) 5 (array (entry (one (integer 1)) (empty_line ∷ []) (last_entry (one (integer 2)))))))));
       }) (empty_line ∷ []))
-      (pairs ((text "a", list (number 1 ∷ number 2 ∷ [])) ∷ []))
+      (mapping ((text "a", list (number 1 ∷ number 2 ∷ [])) ∷ []))
       "---\na:\n# note\n     - 1\n\n     - 2\n"
   -- a literal block without a last break, and an entry after it
   literal_value : Shows
       (plainly (hash (field (implicit (word "foo") (Value.literal 0 2 (codes "bar!\nbar!") (line "bar!" ∷ line "bar!" ∷ []))) []
       (last_field (implicit (word "baz") (one (integer 42)))))))
-      (pairs ((text "foo", text "bar!\nbar!") ∷ (text "baz", number 42) ∷ []))
+      (mapping ((text "foo", text "bar!\nbar!") ∷ (text "baz", number 42) ∷ []))
       "---\nfoo: |-\n  bar!\n  bar!\nbaz: 42"
   -- an empty line of a literal block has as many spaces as the others at most: here none, two, and three
   literal_with_empty_lines : Shows
@@ -90,13 +91,13 @@ record Rows : Type 0 where
       (below no_comment [] 4 (array (entry (one (integer 1)) [] (entry (one (integer 2)) [] (last_entry (one (integer 3)))))))))))
       []
       (compact 0 (array (entry (one (integer 4)) [] (entry (one (integer 5)) [] (last_entry (one (integer 6)))))))))))
-      (pairs ((pairs ((text "key", list (number 1 ∷ number 2 ∷ number 3 ∷ [])) ∷ []), list (number 4 ∷ number 5 ∷ number 6 ∷ [])) ∷ []))
+      (mapping ((mapping ((text "key", list (number 1 ∷ number 2 ∷ number 3 ∷ [])) ∷ []), list (number 4 ∷ number 5 ∷ number 6 ∷ [])) ∷ []))
       "---\n? key:\n    - 1\n    - 2\n    - 3\n: - 4\n  - 5\n  - 6"
   -- an empty array as key, after two spaces, and a key and a value on lines of their own
   other_keys : Shows
       (plainly (hash (field (explicit (beside 1 empty_array) [] (one (integer 1))) []
       (last_field (explicit (below no_comment [] 1 (array (last_entry (one (plain Tree.null))))) [] (below no_comment [] 2 (array (last_entry (one (plain Tree.null))))))))))
-      (pairs ((list [], number 1) ∷ (list (Tree.null ∷ []), list (Tree.null ∷ [])) ∷ []))
+      (mapping ((list [], number 1) ∷ (list (Tree.null ∷ []), list (Tree.null ∷ [])) ∷ []))
       "---\n?  []\n: 1\n?\n - ~\n:\n  - ~"
   -- a root on one line, after a gap, with a comment at the end that no break ends
   scalar_root : Shows

@@ -3,8 +3,9 @@ use Prim.Native.String.{String}
 use Rattle.defs_layout.proofs.Common.{[], ap, are_pieces, arith, Blank, carriage_return, codes, element, Elements, exponent, false, fraction, is_empty, is_number, is_unescaped, IsJson, IsJsonText, IsWellFormed, itself, Json, JsonText, last_element, last_member, levels, line_feed, List, map, member, minus, negsuc, no_exponent, no_fraction, no_sign, number, number_tree, Piece, plus, refl, replicate, Short, short, space, spell, suc, sym, tab, Tree, tree_of, true, true≢false, unicode, zero, ℕ, ◌++◌, ◌+◌, ◌∙◌, ◌∷◌, ◌≡◌, ◌≤◌}
 use Rattle.defs_layout.specs.Json.{spell_text}
 use Rattle.defs_layout.specs.JsonGap.{spell_gap}
-use Rattle.defs_layout.proofs.RowWords as tree
-use Rattle.defs_layout.proofs.RowWords.{text, list, pairs, differ}
+use Rattle.defs_tree.proofs.TreeWords as tree
+use Rattle.defs_tree.proofs.TreeWords.{text, list, mapping}
+use Rattle.defs_layout.proofs.RowWords.{differ}
 
 -- ---- words for the examples
 
@@ -49,7 +50,7 @@ record Rows : Type 0 where
       (alone (Json.object [] (member (raw "k") (line_feed ∷ []) [] (whole "1") [] []
       (last_member (raw "b") [] []
       (Json.array [] (elements Json.true_word (Json.null_word ∷ great ∷ Json.number (number true (codes "0") no_fraction no_exponent) ∷ []))) []))))
-      (pairs ((text "k", tree.number 1) ∷ (text "b", list (Tree.boolean true ∷ Tree.null ∷ great_tree ∷ tree.number 0 ∷ [])) ∷ []))
+      (mapping ((text "k", tree.number 1) ∷ (text "b", list (Tree.boolean true ∷ Tree.null ∷ great_tree ∷ tree.number 0 ∷ [])) ∷ []))
       (codes "{\"k\"\n:1,\"b\":[true,null,1e400,-0]}")
   -- `[1e400, "a b", [], null]`, with spaces
   an_array : Shows
@@ -60,7 +61,7 @@ record Rows : Type 0 where
   indented_by_tabs : Shows
       (alone (Json.object (line_feed ∷ tab ∷ []) (last_member (raw "a") [] (space ∷ [])
       (Json.array (line_feed ∷ tab ∷ tab ∷ []) (last_element (whole "1") (line_feed ∷ tab ∷ []))) (line_feed ∷ []))))
-      (pairs ((text "a", list (tree.number 1 ∷ [])) ∷ []))
+      (mapping ((text "a", list (tree.number 1 ∷ [])) ∷ []))
       (codes "{\n\t\"a\": [\n\t\t1\n\t]\n}")
   -- white space around the value, with a tab at the text's start and one after CR LF
   around_the_value : Shows
@@ -81,19 +82,19 @@ record Rows : Type 0 where
   -- two keys that differ only as texts, one empty
   two_keys : Shows
       (alone (Json.object [] (member (raw "") [] [] Json.null_word [] [] (last_member (raw "a") [] [] (Json.empty_object []) []))))
-      (pairs ((text "", Tree.null) ∷ (text "a", pairs []) ∷ []))
+      (mapping ((text "", Tree.null) ∷ (text "a", mapping []) ∷ []))
       (codes "{\"\":null,\"a\":{}}")
   one_two : Shows
       (alone (Json.array [] (element (whole "1") [] (space ∷ []) (last_element (whole "2") []))))
       (list (tree.number 1 ∷ tree.number 2 ∷ [])) (codes "[1, 2]")
   array_in_object : Shows
       (alone (Json.object [] (member (raw "a") [] [] (whole "1") [] [] (last_member (raw "b") [] [] (Json.array [] (elements Json.true_word (Json.null_word ∷ []))) []))))
-      (pairs ((text "a", tree.number 1) ∷ (text "b", list (Tree.boolean true ∷ Tree.null ∷ [])) ∷ []))
+      (mapping ((text "a", tree.number 1) ∷ (text "b", list (Tree.boolean true ∷ Tree.null ∷ [])) ∷ []))
       (codes "{\"a\":1,\"b\":[true,null]}")
   -- white space alone inside an array and an object
   empty_inside : Shows
       (alone (Json.array [] (elements (Json.empty_array (space ∷ line_feed ∷ tab ∷ [])) (Json.empty_object (space ∷ []) ∷ []))))
-      (list (list [] ∷ pairs [] ∷ [])) (codes "[[ \n\t],{ }]")
+      (list (list [] ∷ mapping [] ∷ [])) (codes "[[ \n\t],{ }]")
   -- a number alone
   number_alone : Shows
       (alone (Json.number (number true (codes "12") (fraction (codes "50")) (exponent true plus (codes "07")))))

@@ -4,8 +4,9 @@ use Rattle.std.specs.Fmt.{digits}
 use Rattle.defs_layout.proofs.Common.{[], Anchor, anchored, anchors_after, AreDocuments, AreEntries, AreLaidOut, arith, array, at_key, below, beside, blank, Block, block, codes, comment, comment_line, compact, Document, document, element, empty_array, empty_line, entry, explicit, false, field, folded, hash, implicit, inline, is_blank, is_decimal, is_line_character, is_literal_character, is_literal_text, is_on_one_line, is_quoted, is_root_literal, is_unescaped, is_unfit_for_plain, IsField, IsImplicitKey, IsValue, itself, Json, last_document, last_element, last_entry, last_field, last_member, last_tree, Layout, line_feed, List, no_comment, no_exponent, no_fraction, number, replicate, Root, scalar, single_quoted, Some, space, tab, Tree, trees_of, true, true≢false, typing, Value, ℕ, ◌∷◌, ◌≡◌}
 use Rattle.defs_text.specs.BlockScalar.{row_of, is_empty_line, is_content_line}
 use Rattle.defs_layout.specs.Layout as layout
-use Rattle.defs_layout.proofs.RowWords as tree
-use Rattle.defs_layout.proofs.RowWords.{text, list, pairs, word, integer, line, one, empty, nested, differ}
+use Rattle.defs_tree.proofs.TreeWords as tree
+use Rattle.defs_tree.proofs.TreeWords.{text, list, mapping}
+use Rattle.defs_layout.proofs.RowWords.{word, integer, line, one, empty, nested, differ}
 
 -- ---- words for the examples
 
@@ -35,22 +36,22 @@ record Rows : Type 0 where
   many_forms : Shows
       (alone (hash
       (field (implicit (word "a") (anchored 0 (codes "x") (below no_comment [] 2 (hash (last_field (implicit (word "k") (one (single_quoted (codes "it's"))))))))) []
-      (field (implicit (word "b") (Value.alias 0 (codes "x") (pairs ((text "k", text "it's") ∷ [])))) []
+      (field (implicit (word "b") (Value.alias 0 (codes "x") (mapping ((text "k", text "it's") ∷ [])))) []
       (field (implicit (word "c") (folded 0 2 true (codes "p q\nr") (line "p" ∷ line "q" ∷ blank 0 ∷ line "r" ∷ []))) []
       (last_field (implicit (word "d") (Value.json 0
       (Json.array [] (element (json_number (codes "1")) [] (space ∷ [])
       (last_element (Json.object [] (last_member (itself 101 ∷ []) [] (space ∷ []) (json_number (codes "2")) [])) [])))))))))))
-      (pairs ((text "a", pairs ((text "k", text "it's") ∷ []))
-      ∷ (text "b", pairs ((text "k", text "it's") ∷ []))
+      (mapping ((text "a", mapping ((text "k", text "it's") ∷ []))
+      ∷ (text "b", mapping ((text "k", text "it's") ∷ []))
       ∷ (text "c", text "p q\nr")
-      ∷ (text "d", list (tree.number 1 ∷ pairs ((text "e", tree.number 2) ∷ []) ∷ [])) ∷ []) ∷ [])
+      ∷ (text "d", list (tree.number 1 ∷ mapping ((text "e", tree.number 2) ∷ []) ∷ [])) ∷ []) ∷ [])
       "---\na: &x\n  k: 'it''s'\nb: *x\nc: >-\n  p\n  q\n\n  r\nd: [1, {\"e\": 2}]"
   -- a JSON array as key
   json_key : Shows
       (alone (hash (last_field (explicit
       (Value.json 0 (Json.array [] (element (json_number (codes "1")) [] (space ∷ []) (last_element (json_number (codes "2")) []))))
       [] (one (word "x"))))))
-      (pairs ((list (tree.number 1 ∷ tree.number 2 ∷ []), text "x") ∷ []) ∷ [])
+      (mapping ((list (tree.number 1 ∷ tree.number 2 ∷ []), text "x") ∷ []) ∷ [])
       "---\n? [1, 2]\n: x"
   -- no `---`, comments after a key and after a scalar, an array at its key's column
   array_at_key : Shows
@@ -64,7 +65,7 @@ record Rows : Type 0 where
               (last_field (implicit (word "m") (one (integer 1))))));
         }) [];
       })
-      (pairs ((text "k", list (text "a" ∷ text "x" ∷ [])) ∷ (text "m", tree.number 1) ∷ []) ∷ [])
+      (mapping ((text "k", list (text "a" ∷ text "x" ∷ [])) ∷ (text "m", tree.number 1) ∷ []) ∷ [])
       "# top\nk: # why\n- 'a' # b\n- x\nm: 1"
   -- an alias means the last anchor of its name before it
   anchor_again : Shows
@@ -81,7 +82,7 @@ record Rows : Type 0 where
             (document (plainly (array (last_entry (one (word "b"))))) (comment_line (codes " c") ∷ [])
             (last_document (record { gap = []; root = inline (scalar (integer 5)) }) []));
       })
-      (pairs ((text "a", tree.number 1) ∷ []) ∷ list (text "b" ∷ []) ∷ tree.number 5 ∷ [])
+      (mapping ((text "a", tree.number 1) ∷ []) ∷ list (text "b" ∷ []) ∷ tree.number 5 ∷ [])
       "a: 1\n\n---\n- b\n# c\n---\n5"
   -- a literal block at column 0, line feeds, and the next document, which is one in single quotes
   literal_and_document : Shows

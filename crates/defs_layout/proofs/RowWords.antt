@@ -1,19 +1,7 @@
--- Words for the rows: trees and written things, with texts as they stand.
+-- Words for the rows: written things, with texts as they stand.
 use Prim.Native.String.{String}
-use Rattle.defs_layout.proofs.Common.{ap, array, beside, Block, codes, empty_array, false, full, items_of, last_entry, Line, List, no_comment, pairs_of, plain, pos, scalar, Scalar, sym, Tree, tree_eq, true, true≢false, Value, ℕ, ◌∙◌, ◌≡◌, ◌≢◌}
-
--- trees: a string, an integer, an array, a hash
-abbrev pub text : String → Tree
-text s = Tree.string (codes s)
-
-abbrev pub number : ℕ → Tree
-number n = Tree.integer (pos n)
-
-abbrev pub list : List Tree → Tree
-list ts = Tree.array (items_of ts)
-
-abbrev pub pairs : List (Tree × Tree) → Tree
-pairs ps = Tree.hash (pairs_of ps)
+use Rattle.defs_tree.proofs.TreeWords.{text, number}
+use Rattle.defs_layout.proofs.Common.{ap, array, beside, Block, codes, empty_array, false, full, last_entry, Line, no_comment, plain, scalar, Scalar, sym, Tree, tree_eq, true, true≢false, Value, ℕ, ◌∙◌, ◌≡◌, ◌≢◌}
 
 -- scalars: a string as it stands, an integer; a scalar after one space, a full line
 abbrev pub word : String → Scalar
