@@ -58,11 +58,7 @@ mutual
   value_append c (Value.below no_comment g column k) h a b = ap (next_line column g) (block_append column k h.1 a b) ∙ next_line_append column g (spell_block column k a) b
   value_append c (Value.beside more i (comment n text)) h a b = absurd h.1
   value_append c (Value.below (comment n text) g column k) h a b = absurd h.0
-  value_append c (Value.folded more column strips text ls) h a b = absurd h
-  value_append c (Value.json more v) h a b = absurd h
-  value_append c (Value.at_key after g es) h a b = absurd h
-  value_append c (Value.anchored more name v) h a b = absurd h
-  value_append c (Value.alias more name t) h a b = absurd h
+  value_append c v h a b = absurd h
 
   entries_append : (c : ℕ) (es : Entries) → AreBasicEntries es → Appends (spell_entries c es)
   entries_append c (last_entry v) h a b = ap (λ x. 45 ∷ x) (value_append c v h a b)

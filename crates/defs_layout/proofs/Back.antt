@@ -2,6 +2,7 @@
 use Rattle.defs_layout.proofs.Common.{[], AllHaveJson, and_from, and_parts, ap, are_characters, are_pieces, AreDistinct, AreElements, AreMembers, arith, backspace, Bool, character_of, digit_value, element, element_levels, Elements, exponent, false, fits_i64, form_feed, four_digits, fraction, HasJson, if◌then◌else◌, integer, integer_value, is_character, is_hex_digit, is_number, is_piece, is_unescaped, IsJson, item_nesting, items, itself, Json, last_element, last_member, levels, List, ltb-true, max, member, member_levels, member_nesting, Members, nat_tests, nesting, new_line, no_exponent, no_fraction, Number, number, number_tree, pair_list, pair_list_of, pairs_of, Piece, quotation_mark, real, refl, return, reverse_solidus, Short, short, solidus, spell_number, subst, suc, sym, tabulator, Tree, tree_of, true, unescaped, unicode, value_of, ValuesHaveJson, ℕ, ◌&&◌, ◌<◌, ◌∷◌, ◌≡◌, ◌≤◌, eqb-true}
 use Rattle.defs_layout.specs.Json as json
 use Rattle.defs_layout.proofs.Numbers.{real_from}
+use Rattle.defs_tree.proofs.OverlayLaws.{list_of_pairs}
 
 -- ---- strings
 
@@ -35,21 +36,14 @@ number_flat a = grind arith
 
 -- ---- values
 
-pairs_back : (ps : List (Tree × Tree)) → pair_list_of (pairs_of ps) ≡ ps
-pairs_back [] = refl
-pairs_back (p ∷ ps) = ap (λ qs. p ∷ qs) (pairs_back ps)
-
 mutual
   has : (v : Json) → IsJson v → HasJson (tree_of v)
-  has json.false_word h = tt
-  has json.null_word h = tt
-  has json.true_word h = tt
   has (json.number n) h = number_has n h
   has (json.string ps) h = pieces_are ps h
-  has (json.empty_array g) h = tt
   has (json.array g es) h = all_have es h.1
   has (json.empty_object g) h = (tt, tt)
-  has (json.object g ms) h = (subst AreDistinct (sym (pairs_back (pair_list ms))) h.2, are_members ms h.1)
+  has (json.object g ms) h = (subst AreDistinct (sym (list_of_pairs (pair_list ms))) h.2, are_members ms h.1)
+  has v h = tt
 
   all_have : (es : Elements) → AreElements es → AllHaveJson (items es)
   all_have (last_element v a) h = (has v h.0, tt)
@@ -61,15 +55,10 @@ mutual
 
 mutual
   nests : (v : Json) → nesting (tree_of v) ≡ levels v
-  nests json.false_word = refl
-  nests json.null_word = refl
-  nests json.true_word = refl
   nests (json.number n) = number_flat n
-  nests (json.string ps) = refl
-  nests (json.empty_array g) = refl
   nests (json.array g es) = ap suc (items_nest es)
-  nests (json.empty_object g) = refl
   nests (json.object g ms) = ap suc (members_nest ms)
+  nests v = refl
 
   items_nest : (es : Elements) → item_nesting (items es) ≡ element_levels es
   items_nest (last_element v a) = omega (arith, nests v)

@@ -13,14 +13,11 @@ keys_are_strings (pair k v ps) h = and_from _ _ (key_is_string k h.0) (keys_are_
 mutual
   pub no_fault : (t : Tree) → HasJson t → first_fault t ≡ None
   no_fault (real s) h = ap (λ b. if b then None else here is_no_number) h
-  no_fault (integer z) h = refl
-  no_fault (string s) h = refl
-  no_fault (boolean b) h = refl
   no_fault (array ts) h = no_item_fault 0 ts h
   no_fault (hash ps) h = ap (λ b. if b then first_member_fault ps else here has_other_key) (keys_are_strings ps h.1) ∙ no_member_fault ps h.1
   no_fault (alias n) h = absurd h
-  no_fault null h = refl
   no_fault bad_value h = absurd h
+  no_fault t h = refl
 
   no_item_fault : (n : ℕ) (ts : Items) → AllHaveJson ts → first_item_fault n ts ≡ None
   no_item_fault n no_items h = refl

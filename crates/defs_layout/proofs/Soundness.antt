@@ -1,5 +1,6 @@
 -- The trees of JSON texts and of layouts are sound.
 use Rattle.defs_layout.proofs.Common.{[], Anchor, ap, AreDistinct, AreElements, begun, Bool, bytes_eq, cond, element, Elements, ended, exponent, false, fits_i64, fraction, integer_value, is_some, IsJson, IsJsonText, Items, items, Json, last_element, last_member, last_tree, List, member, Members, no_exponent, no_fraction, None, Number, number, number_tree, Option, pair_list, pair_list_of, Pairs, pairs_of, refl, Some, sym, Tree, tree_of, true, true≢false, unwrap_or, with_end, ℕ, ℤ, ◌∙◌, ◌∷◌, ◌≡◌, arith}
+use Rattle.defs_tree.proofs.OverlayLaws.{list_of_pairs}
 use Rattle.defs_tree.specs.Valid.{AllDistinct, AllPairsDistinct, AllFitI64, AllPairsFitI64}
 use Rattle.defs_layout.specs.Json.{AreMembers}
 use Rattle.defs_layout.specs.Layout
@@ -32,12 +33,8 @@ pair_sound k v ps h g hs = grind arith
 array_sound : (ts : Items) → AreSound ts → IsSound (Tree.array ts)
 array_sound ts hs = record { distinct = hs.distinct; fits = hs.fits; has_values = hs.has_values }
 
-pair_list_of-pairs_of : (ps : List (Tree × Tree)) → pair_list_of (pairs_of ps) ≡ ps
-pair_list_of-pairs_of [] = refl
-pair_list_of-pairs_of (p ∷ ps) = ap (λ qs. p ∷ qs) (pair_list_of-pairs_of ps)
-
 hash_sound : (ps : List (Tree × Tree)) → AreDistinct ps → ArePairsSound (pairs_of ps) → IsSound (Tree.hash (pairs_of ps))
-hash_sound ps d hs = record { distinct = (rw (pair_list_of-pairs_of ps) d, hs.distinct); fits = hs.fits; has_values = hs.has_values }
+hash_sound ps d hs = record { distinct = (rw (list_of_pairs ps) d, hs.distinct); fits = hs.fits; has_values = hs.has_values }
 
 empty_hash_sound : IsSound (Tree.hash Pairs.no_pairs)
 empty_hash_sound = record { distinct = (tt, tt); fits = tt; has_values = tt }
@@ -58,15 +55,11 @@ number_sound a = grind arith
 
 mutual
   json_sound : (v : Json) → IsJson v → IsSound (tree_of v)
-  json_sound Json.false_word h = record { distinct = tt; fits = tt; has_values = tt }
-  json_sound Json.null_word h = record { distinct = tt; fits = tt; has_values = tt }
-  json_sound Json.true_word h = record { distinct = tt; fits = tt; has_values = tt }
   json_sound (Json.number n) h = number_sound n
-  json_sound (Json.string ps) h = string_sound _
-  json_sound (Json.empty_array g) h = array_sound Items.no_items no_items_sound
   json_sound (Json.array g es) h = array_sound (items es) (elements_sound es h.1)
   json_sound (Json.empty_object g) h = empty_hash_sound
   json_sound (Json.object g ms) h = hash_sound (pair_list ms) h.2 (members_sound ms h.1)
+  json_sound v h = record { distinct = tt; fits = tt; has_values = tt }
 
   elements_sound : (es : Elements) → AreElements es → AreSound (items es)
   elements_sound (last_element v a) h = item_sound (tree_of v) Items.no_items (json_sound v h.0) no_items_sound

@@ -88,7 +88,7 @@ last_item : (i : Option ℕ) (m outer : ℕ) (t : Tree) → IsWritten i m t → 
 last_item i m outer t w = record {
   elements = last_element w.value (gap i outer);
   are = (w.is, gap_fits i outer);
-  spelt = λ r. w.spelt (spell_gap (gap i outer) r) ∙ ap (λ u. json_text i m t ++ u) (gap_spelt i outer r);
+  spelt = λ r. simp (w.spelt, gap_spelt);
   trees = ap (λ u. item u no_items) w.tree;
   depth = omega (arith, w.depth);
 }
@@ -97,10 +97,7 @@ next_item : (i : Option ℕ) (m outer : ℕ) (t u : Tree) (us : Items) → IsWri
 next_item i m outer t u us w ws = record {
   elements = element w.value [] (gap i m) ws.elements;
   are = (w.is, tt, gap_fits i m, ws.are);
-  spelt = λ r.
-      w.spelt (44 ∷ spell_gap (gap i m) (spell_elements ws.elements r))
-      ∙ ap (λ x. json_text i m t ++ (44 ∷ x)) (gap_spelt i m (spell_elements ws.elements r) ∙ ap (λ x. new_line i m ++ x) (ws.spelt r))
-      ∙ ap (λ x. json_text i m t ++ (44 ∷ x)) (simp append_assoc);
+  spelt = λ r. simp (w.spelt, gap_spelt, ws.spelt, append_assoc);
   trees = (λ j. item (w.tree j) (ws.trees j));
   depth = omega (arith, w.depth, ws.depth);
 }
@@ -109,10 +106,7 @@ last_member_written : (i : Option ℕ) (m outer : ℕ) (k v : Tree) → IsWritte
 last_member_written i m outer k v q w = record {
   members = last_member q.pieces [] (colon_gap i) w.value (gap i outer);
   are = (q.fit, tt, colon_fits i, w.is, gap_fits i outer);
-  spelt = λ r.
-      q.spelt (58 ∷ spell_gap (colon_gap i) (spell w.value (spell_gap (gap i outer) r)))
-      ∙ ap (λ u. key_text k ++ u) (colon_spelt i (spell w.value (spell_gap (gap i outer) r))
-      ∙ ap (λ u. key_end i ++ u) (w.spelt (spell_gap (gap i outer) r) ∙ ap (λ u. json_text i m v ++ u) (gap_spelt i outer r)));
+  spelt = λ r. simp (q.spelt, colon_spelt, w.spelt, gap_spelt);
   pairs = (λ j. (q.tree j, w.tree j) ∷ []);
   depth = omega (arith, w.depth);
 }
@@ -121,12 +115,7 @@ next_member : (i : Option ℕ) (m outer : ℕ) (k v l u : Tree) (ps : Pairs) →
 next_member i m outer k v l u ps q w ws = record {
   members = member q.pieces [] (colon_gap i) w.value [] (gap i m) ws.members;
   are = (q.fit, tt, colon_fits i, w.is, tt, gap_fits i m, ws.are);
-  spelt = λ r.
-      q.spelt (58 ∷ spell_gap (colon_gap i) (spell w.value (44 ∷ spell_gap (gap i m) (spell_members ws.members r))))
-      ∙ ap (λ x. key_text k ++ x) (colon_spelt i (spell w.value (44 ∷ spell_gap (gap i m) (spell_members ws.members r)))
-      ∙ ap (λ x. key_end i ++ x) (w.spelt (44 ∷ spell_gap (gap i m) (spell_members ws.members r))
-      ∙ ap (λ x. json_text i m v ++ (44 ∷ x)) (gap_spelt i m (spell_members ws.members r) ∙ ap (λ x. new_line i m ++ x) (ws.spelt r))))
-      ∙ ap (λ x. key_text k ++ (key_end i ++ (json_text i m v ++ (44 ∷ x)))) (simp append_assoc);
+  spelt = λ r. simp (q.spelt, colon_spelt, w.spelt, gap_spelt, ws.spelt, append_assoc);
   pairs = (λ j. (q.tree j, w.tree j) ∷ ws.pairs j);
   depth = omega (arith, w.depth, ws.depth);
 }
@@ -135,8 +124,7 @@ array_written : (i : Option ℕ) (m : ℕ) (t : Tree) (ts : Items) → AreWritte
 array_written i m t ts ws = record {
   value = Json.array (gap i (deeper i m)) ws.elements;
   is = (gap_fits i (deeper i m), ws.are);
-  spelt = λ r.
-      ap (λ x. 91 ∷ x) (gap_spelt i (deeper i m) (spell_elements ws.elements (93 ∷ r)) ∙ ap (λ x. new_line i (deeper i m) ++ x) (ws.spelt (93 ∷ r)) ∙ simp append_assoc);
+  spelt = λ r. simp (gap_spelt, ws.spelt, append_assoc);
   tree = ap array ws.trees;
   depth = omega (arith, ws.depth);
 }
@@ -149,8 +137,7 @@ hash_written : (i : Option ℕ) (m : ℕ) (k v : Tree) (ps : Pairs) → AreDisti
 hash_written i m k v ps d ws = record {
   value = Json.object (gap i (deeper i m)) ws.members;
   is = (gap_fits i (deeper i m), ws.are, subst AreDistinct (sym ws.pairs) d);
-  spelt = λ r.
-      ap (λ x. 123 ∷ x) (gap_spelt i (deeper i m) (spell_members ws.members (125 ∷ r)) ∙ ap (λ x. new_line i (deeper i m) ++ x) (ws.spelt (125 ∷ r)) ∙ simp append_assoc);
+  spelt = λ r. simp (gap_spelt, ws.spelt, append_assoc);
   tree = ap (λ qs. hash (pairs_of qs)) ws.pairs ∙ ap hash (list_back (pair k v ps));
   depth = omega (arith, ws.depth);
 }

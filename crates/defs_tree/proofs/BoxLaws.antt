@@ -61,11 +61,7 @@ spelling-unbroken (real s) f h = list_all-more is_real_character (λ c. not (c =
 spelling-unbroken (integer z) f h = integer-unbroken z f
 spelling-unbroken (string s) f h = string_spelling-unbroken s
 spelling-unbroken (boolean b) f h = boolean-unbroken b
-spelling-unbroken (array ts) f h = refl
-spelling-unbroken (hash ps) f h = refl
-spelling-unbroken (alias n) f h = refl
-spelling-unbroken null f h = refl
-spelling-unbroken bad_value f h = refl
+spelling-unbroken t f h = refl
 
 -- ---- lines
 
@@ -104,9 +100,7 @@ mutual
   box_unbroken c m r (real s) f h = both s [] (spelling-unbroken (real s) f h) refl
   box_unbroken c m r (integer z) f h = both (decimal_digits z) [] (spelling-unbroken (integer z) f h) refl
   box_unbroken c m r (boolean b) f h = both (boolean_spelling b) [] (boolean-unbroken b) refl
-  box_unbroken c m r (alias n) f h = refl
-  box_unbroken c m r null f h = refl
-  box_unbroken c m r bad_value f h = refl
+  box_unbroken c m r t f h = refl
 
   items-unbroken : (c m : Bool) (ts : Items) → AllFitI64 ts → AllHaveText ts → AreUnbroken (item_boxes c m ts)
   items-unbroken c m no_items f h = refl

@@ -5,7 +5,7 @@ use Rattle.defs_tree.proofs.Common.{[], AllDigits, and_from, and_parts, ap, arit
 
 -- ---- numerals
 
-all_digits-to : (base : ℕ) (ds : List ℕ) → AllDigits base ds → list_all (is_digit base) ds ≡ true
+pub all_digits-to : (base : ℕ) (ds : List ℕ) → AllDigits base ds → list_all (is_digit base) ds ≡ true
 all_digits-to base [] h = refl
 all_digits-to base (d ∷ ds) h = and_from (is_digit base d) (list_all (is_digit base) ds) (lt-ltb (digit_value d) base h.0) (all_digits-to base ds h.1)
 

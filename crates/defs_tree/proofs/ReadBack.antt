@@ -1,6 +1,7 @@
 -- The spelling of a scalar, where it is plain, stands for that scalar.
 use Rattle.std.specs.Fmt.{signed_decimal as decimal_digits}
 use Rattle.defs_tree.proofs.Common.{[], after_prefix, alias, AllDigits, and_left, and_parts, ap, arith, array, bad_value, Bool, boolean, bytes_eq, cond-false, decimal, decimal_is_IsNumeral, digit_from_value, digit_value, digits_value, false, false_words, fits_i64, hash, if◌then◌else◌, integer, is_among, is_decimal, is_digit, is_quoted, is_string, IsNumeral, IsSpeltPlain, List, list_all, lt-ltb, ltb-true, nat_lt, ne_eqb, negsuc, None, not, not-false, not-true, null, null_words, number, option_and_then, or_from, or_parts, pos, real, refl, signed_decimal, Some, spelling, string, suc, sym, Tree, true, true_words, typing, ℕ, ℤ, ◌&&◌, ◌<◌, ◌==◌, ◌^◌, ◌∙◌, ◌∷◌, ◌≡◌, ◌≢◌, ◌≤◌, nat_tests, eqb-true}
+use Rattle.defs_tree.proofs.Parsing.{all_digits-to}
 use Rattle.defs_tree.proofs.TypingLaws.{typing-real, typing-string}
 
 -- ---- texts that begin with a digit or a minus
@@ -33,12 +34,8 @@ integer_text c cs z early n second e = grind (arith, nat_tests, eqb-true, after_
 
 -- ---- the digits of a number
 
-digits-test : (base : ℕ) (ds : List ℕ) → AllDigits base ds → list_all (is_digit base) ds ≡ true
-digits-test base [] h = refl
-digits-test base (d ∷ ds) h = ap (λ b. b && list_all (is_digit base) ds) (lt-ltb (digit_value d) base h.0) ∙ digits-test base ds h.1
-
 number-digits : (d : ℕ) (ds : List ℕ) → AllDigits 10 (d ∷ ds) → number 10 (d ∷ ds) ≡ Some (digits_value 10 (d ∷ ds))
-number-digits d ds h = ap (λ b. if b then Some (digits_value 10 (d ∷ ds)) else None) (digits-test 10 (d ∷ ds) h)
+number-digits d ds h = ap (λ b. if b then Some (digits_value 10 (d ∷ ds)) else None) (all_digits-to 10 (d ∷ ds) h)
 
 fitted : (z : ℤ) → fits_i64 z ≡ true → option_and_then (λ z. if fits_i64 z then Some z else None) (Some z) ≡ Some z
 fitted z h = ap (λ b. if b then Some z else None) h
