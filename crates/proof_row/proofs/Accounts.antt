@@ -9,10 +9,6 @@ use Rattle.std.proofs.lemmas.Bool.{and_parts}
 
 -- ---- after a piece
 
-outside_step : (s : Site) (p : List ℕ) (t : Tok) (next : List ℕ) (Were : Type 0) (x y : Option Outside) → Stepped LikeOutside Were x y →
-    Stepped IsLike Were (past_outside s p t next x) (past_outside s p t next y)
-outside_step s p t next a b y h = grind arith
-
 inside_step : (s : Site) (p : List ℕ) (t : Tok) (next : List ℕ) (l m : Line) (Were : Type 0) (x y : Option (List Entry)) → LikeLine l m → Stepped LikeEntries Were x y →
     Stepped IsLike ((l ≡ m) × Were) (past_inside s p t next l x) (past_inside s p t next m y)
 inside_step s p t next l m a b y i h = grind arith
@@ -22,7 +18,7 @@ piece_step : (s : Site) (p : List ℕ) (t : Tok) (next : List ℕ) (again b c : 
     Stepped IsLike (Were × (ds ≡ es) × (b ≡ c)) (past_piece s p t next again b x ds) (past_piece s p t next again c y es)
 piece_step s p t next again b c Were None y ds es j h = tt
 piece_step s p t next again b c Were (Some l) None ds es j h = none_second IsLike (Were × (ds ≡ es) × (b ≡ c)) (past_piece s p t next again b (Some l) ds)
-piece_step s p t next again b c Were (Some l) (Some m) [] [] j h = grind (arith, weaker, outside_step, line_step)
+piece_step s p t next again b c Were (Some l) (Some m) [] [] j h = grind (arith, weaker, line_step)
 piece_step s p t next again b c Were (Some l) (Some m) (d ∷ ds) (e ∷ es) j h =
     weaker IsLike ((l ≡ m) × ((d ∷ ds ≡ e ∷ es) × (b ≡ c))) (Were × (d ∷ ds ≡ e ∷ es) × (b ≡ c)) _ _ (λ k. (h.1 k.0, k.1.0, k.1.1))
     (inside_step s p t next l m ((d ∷ ds ≡ e ∷ es) × (b ≡ c)) _ _ h.0 (entries_step (act_of t) s.position again (begun_by t) b c d e ds es j.0 j.1))
@@ -68,18 +64,12 @@ account_step a b w v x y i f p t n =
 
 -- ---- the text's end
 
-same_line : (l m : Line) → LikeLine l m → not (is_waiting l) ≡ true → not (is_waiting m) ≡ true → l ≡ m
-same_line l m i h k = grind arith
-
-same_had : (d e : Had) → LikeHad d e → not (is_keyed d) ≡ true → not (is_keyed e) ≡ true → d ≡ e
-same_had d e i h k = grind arith
-
 same_entries : (ds es : List Entry) → LikeEntries ds es → have_no_key ds ≡ true → have_no_key es ≡ true → ds ≡ es
 same_entries [] [] i h k = refl
-same_entries (d ∷ ds) (e ∷ es) i h k = grind (arith, and_parts, both, same_entry, same_had, same_entries ds es i.1)
+same_entries (d ∷ ds) (e ∷ es) i h k = grind (arith, and_parts, both, same_entry, same_entries ds es i.1)
 same_entries [] (e ∷ es) i h k = absurd i
 same_entries (d ∷ ds) [] i h k = absurd i
 
 -- Like accounts at which a text may end are equal.
 pub same_at_end : (a b : Account) → IsLike a b → may_end a ≡ true → may_end b ≡ true → a ≡ b
-same_at_end a b i h k = grind (arith, and_parts, same_account, same_line, same_entries)
+same_at_end a b i h k = grind (arith, and_parts, same_account, same_entries)

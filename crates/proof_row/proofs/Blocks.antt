@@ -58,14 +58,9 @@ before_text collection a last next r i e = grind arith
 
 -- ---- lines after it have no value
 
--- the column of all lines, the last of which has no break
-columns : (digit collection : Option ℕ) (ls zs : List (List ℕ)) (last : List ℕ) → IsBefore (column_by digit collection ls) (first_line zs last) →
-    column_by digit collection ((ls ++ zs) ++ (last ∷ [])) ≡ column_by digit collection ls
-columns digit collection ls a last b = grind (arith, append-nil, column_same, append_assoc)
-
 no_end : (h : Header) (collection : Option ℕ) (ls zs : List (List ℕ)) (last : List ℕ) → IsBefore (column_by h.digit collection ls) (first_line zs last) →
     value_by h (content_column h collection (ls ++ zs) (unbroken last)) (ls ++ zs) (unbroken last) ≡ None
-no_end h collection ls zs last b = grind (arith, columns, no_rows)
+no_end h collection ls zs last b = grind (arith, no_rows, append-nil, column_same, append_assoc)
 
 -- what has no value is not read
 unread : (h : Header) (collection : Option ℕ) (lines : List (List ℕ)) (ending : Ending) (next : List ℕ) (r : BlockRead) → value_by h (content_column h collection lines ending) lines ending ≡ None →

@@ -32,15 +32,11 @@ pub record IsBefore (column : ℕ) (l : List ℕ) : Type 0 where
 abbrev Outside : ℕ → List ℕ → Type 0
 Outside n l = (is_spaces l ≡ false) × (leading_spaces l < n)
 
--- a space is no break
-unbroken : (c : ℕ) → (c == 32) ≡ true → is_break c ≡ false
-unfolding is_break
-unbroken c e = subst (λ z. is_break z ≡ false) (sym (eqb-true c 32 e)) refl
-
 outside : (n : ℕ) (t : List ℕ) → is_outside n t ≡ true → Outside n (up_to_break t)
+unfolding is_break
 outside zero t h = absurd (cc h)
 outside (suc n) [] h = absurd (cc h)
-outside (suc n) (c ∷ r) h = grind (arith, unbroken, outside n r)
+outside (suc n) (c ∷ r) h = grind (arith, outside n r, eqb-true)
 
 -- a line that is neither of spaces alone nor content
 no_row : (column : ℕ) (l : List ℕ) → is_spaces l ≡ false → is_content_line column l ≡ false → row_of column l ≡ None

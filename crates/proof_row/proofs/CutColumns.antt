@@ -47,10 +47,6 @@ blocks_end k here p b bs =
     subst (λ cs. LeadTo (account_by here b (somes bs) []) (ends_at p bs (blocks_at false k here.col bs)) (account_by here b (somes cs) [])) o.0
     (ends_lead (length bs - length (blocks_at false k here.col bs)) here p b bs (omega arith))
 
--- none ends
-pub none_ends : (a : Account) (p : Position) (bs cs : List ℕ) → cs ≡ bs → LeadTo a (ends_at p bs cs) a
-none_ends a p bs cs same = grind arith
-
 -- ---- collections that no key ends
 
 pub not_ended_twice : (col : ℕ) (bs : List ℕ) → not_ended col (not_ended col bs) ≡ not_ended col bs

@@ -2,7 +2,7 @@
 use Rattle.proof_row.proofs.Common.{[], Account, Act, act_of, ap, asked_pair, Before, begins_pair, begins_with_key_indicator, begun_by, begun_inside, Bool, ends_entry, entries_past, Entry, false, filled, first_entry, flow_entry, flow_mapping_start, FlowKind, fresh, gives_closing, gives_colon, gives_comma, gives_marker, gives_node, gives_question, Had, if◌then◌else◌, inl, inr, key_tokens, Level, levels_past, List, no_pair, None, Option, Pair, pair_end, pair_past, past_separation, Position, put, refl, sequence, settled, single_pair, Some, subst, sym, takes_pair, Tok, Token, true, with_had, ℕ, ◌++◌, ◌==◌, ◌||◌, ◌∙◌, ◌∷◌, ◌≡◌, ◌⊎◌, arith}
 use Rattle.defs_token.specs.FlowEntry.{waits}
 use Rattle.proof_row.proofs.CutPieces.{account_by}
-use Rattle.proof_row.proofs.CutSteps.{is_single, level_in, levels_in, levels_go_on, levels_close, node_begins, is_comma, is_colon, closing_ends, goes_on}
+use Rattle.proof_row.proofs.CutSteps.{is_single, level_in, levels_in, levels_go_on, node_begins, is_comma, is_colon, closing_ends, goes_on}
 use Rattle.proof_row.proofs.Inserted.{past_all, AreEmpty}
 
 -- What comes of a piece in flow: the tokens before the one it shows have no piece, and the cut has the levels of the row.
@@ -102,6 +102,6 @@ entered gives_marker again key had kind pair here colon own b bs next t c r es a
     by _ _ _ = tt
 entered gives_colon again key had kind pair here colon own b bs next t c r es a q = grind (arith, in_entry, is_colon, nothing)
 entered gives_comma again key had kind pair here colon own b bs next t c r es a q = grind (arith, is_comma, pair_ends)
-entered gives_closing again key had kind pair here colon own b bs next t c r es a q = grind (arith, pair_ends, closing_ends, levels_close)
+entered gives_closing again key had kind pair here colon own b bs next t c r es a q = grind (arith, pair_ends, closing_ends)
 entered _ true key had kind pair here colon own b bs next t c r es a q = tt
 entered _ false key had kind pair here colon own b bs next t c r es a q = tt

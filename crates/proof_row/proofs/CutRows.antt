@@ -3,7 +3,7 @@ use Rattle.proof_row.proofs.Common.{[], account_at_piece, account_past, account_
 use Rattle.defs_token.specs.Account.{Account as PieceAccount}
 use Rattle.defs_token.specs.Step as step
 use Rattle.defs_token.specs.RowAccount.{Account, before_by as before_by_previous}
-use Rattle.proof_row.proofs.CutColumns.{LeadTo, blocks_end, none_ends, not_ended_twice, not_ended_further, column_grows, unbroken, no_directive}
+use Rattle.proof_row.proofs.CutColumns.{LeadTo, blocks_end, not_ended_twice, not_ended_further, column_grows, unbroken, no_directive}
 use Rattle.proof_row.proofs.CutEntries.{EnteredBy, entered}
 use Rattle.proof_row.proofs.CutPieces.{account_by, whatever_follows, indicator_with_blocks, piece_in_flow, begins_no_key}
 use Rattle.proof_row.proofs.CutSteps.{somes, with_key, levels_in, in_cut, before_alike, blocks_alike, settled_all, levels_outside, Sees, BegunBy, begun}
@@ -187,7 +187,7 @@ outside_step must s line f c r t key ws after x h same on_line in_line kept = by
 
     waiting_so : (begin : Position) → line ≡ waits begin → begins_free_line s.before f ≡ false → (m : Bool) → is_marker (act_of t) ≡ m → IsCutStep (record { site = s; line = line; entries = [] }) (record { separation = f; piece = c ∷ r; shown = t; key = key }) ws after x
     waiting_so begin e g true k = grind (arith, t, key, line, same, at, next, must, waits, x)
-    waiting_so begin e g false k = grind (arith, column_grows, next, unbroken, not_ended_further, so, b, none_ends)
+    waiting_so begin e g false k = grind (arith, column_grows, next, unbroken, not_ended_further, so, b)
 
     by : (n : Bool) (m : Line) → begins_free_line s.before f ≡ n → line ≡ m → IsCutStep (record { site = s; line = line; entries = [] }) (record { separation = f; piece = c ∷ r; shown = t; key = key }) ws after x
     by true free g e = so free free e (ap (λ z. line_past_separation false z free) g) (free_so free free refl refl) tt

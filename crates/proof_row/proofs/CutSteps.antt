@@ -49,9 +49,6 @@ settled_all column (n ∷ bs) = ap (λ z. Some n ∷ z) (settled_all column bs)
 pub levels_go_on : (t : Tok) (c : ℕ) (r : List ℕ) (es : List Entry) → (act_of t ≡ gives_closing → ⊥) → levels_past (levels_in es) (c ∷ r) t ≡ levels_in (begun_by t ++ es)
 levels_go_on a c r es n = grind arith
 
-pub levels_close : (t : Tok) (c : ℕ) (r : List ℕ) (l : Level) (es : List Entry) → act_of t ≡ gives_closing → levels_past (l ∷ levels_in es) (c ∷ r) t ≡ levels_in es
-levels_close a c r l es k = grind arith
-
 -- outside flow
 pub levels_outside : (t : Tok) (c : ℕ) (r : List ℕ) → levels_past [] (c ∷ r) t ≡ levels_in (begun_by t)
 levels_outside a c r = grind arith

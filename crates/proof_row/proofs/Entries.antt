@@ -52,14 +52,10 @@ goes_on k here again begun b c d e ds es i j =
 
 -- ---- an entry that ends
 
-ended : (d e : Had) (after next : List Entry) (b c : Bool) → LikeHad d e → LikeEntries after next →
-    Stepped LikeEntries (((d ≡ e) × (b ≡ c)) × (after ≡ next)) (past_end after b d) (past_end next c e)
-ended d e after next a c i j = grind arith
-
 -- Like entries are like again after a piece in flow.
 pub entries_step : (k : Act) → EntriesStep k
-entries_step gives_comma here again begun b c d e ds es i j = grind (arith, weaker, both, same_entry, tails, ended)
-entries_step gives_closing here again begun b c d e ds es i j = grind (arith, weaker, both, same_entry, ended)
+entries_step gives_comma here again begun b c d e ds es i j = grind (arith, weaker, both, same_entry, tails)
+entries_step gives_closing here again begun b c d e ds es i j = grind (arith, weaker, both, same_entry)
 entries_step gives_node here again begun b c d e ds es i j = goes_on gives_node here again begun b c d e ds es i j
 entries_step gives_block_scalar here again begun b c d e ds es i j = goes_on gives_block_scalar here again begun b c d e ds es i j
 entries_step gives_dash here again begun b c d e ds es i j = goes_on gives_dash here again begun b c d e ds es i j

@@ -34,17 +34,12 @@ abbrev Then : ℕ → Option (List Entry) → Type 0
 Then n None = Unit {0}
 Then n (Some es) = AreBefore es n
 
-entries_before : (k : Act) (here : Position) (again key : Bool) (t : Tok) (e : Entry) (es : List Entry) (n : ℕ) → here.line ≤ n → AreBefore (e ∷ es) n → Then n (entries_past here again k (begun_by t) key e es)
-entries_before gives_comma here again key t e es n l b = grind arith
-entries_before gives_closing here again key t e es n l b = grind arith
-entries_before k here again key t e es n l b = grind arith
-
 abbrev Kept : Option Account → Type 0
 Kept None = Unit {0}
 Kept (Some a) = KeysBefore a
 
 piece_before : (s : Site) (p : List ℕ) (t : Tok) (next : List ℕ) (again key : Bool) (l : Option Line) (es : List Entry) → AreBefore es s.position.line → Kept (past_piece s p t next again key l es)
-piece_before s p t next again key a es b = grind (arith, entries_before, later, line_grows)
+piece_before s p t next again key a es b = grind (arith, later, line_grows)
 
 one_line_before : (may : Bool) (p : List ℕ) (o : Option Account) → Kept o → Kept (if may then on_one_line p o else None)
 one_line_before a p o b = grind arith

@@ -54,14 +54,11 @@ line_of z = first_line ((split z).complete) ((split z).last)
 first_kept : (c : ℕ) (complete : List (List ℕ)) (last : List ℕ) → first_line ((put_first c complete last).complete) ((put_first c complete last).last) ≡ c ∷ first_line complete last
 first_kept c a last = grind arith
 
-line_feed_breaks : (c : ℕ) (r : List ℕ) → is_before_line_feed c r ≡ true → up_to_break r ≡ []
-unfolding is_break
-line_feed_breaks c a h = grind arith
-
 -- it goes up to the first break
 pub line_is : (z : List ℕ) → line_of z ≡ up_to_break z
+unfolding is_break
 line_is [] = refl
-line_is (c ∷ r) = grind (arith, line_feed_breaks, first_kept, line_is r)
+line_is (c ∷ r) = grind (arith, first_kept, line_is r)
 
 -- the first line of a longer text is that of its beginning, if this has a complete line
 pub line_more : (z : List ℕ) → ((split z).complete ≡ [] → ⊥) → (y : List ℕ) → up_to_break (z ++ y) ≡ up_to_break z

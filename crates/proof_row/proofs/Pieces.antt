@@ -80,12 +80,8 @@ one_of block_scalar a p q x y t u h k e n =
 
 -- ---- pieces at accounts that are seen alike
 
-same_context : (f g i j : Bool) (m n : ℕ) (o r : Option ℕ) → f ≡ g → i ≡ j → m ≡ n → o ≡ r →
-    ◌≡◌ {A = Context} (record { in_flow = f; adjacent = i; column = m; collection = o }) (record { in_flow = g; adjacent = j; column = n; collection = r })
-same_context f g i j m n o r e h k l = cc
-
 pub pieces_seen_alike : PiecesSeenAlikeHaveOneEnd
-pieces_seen_alike a b p q x y f g m n t u like collection i j h k e c = grind (arith, piece_of, kind_there, same_context, one_of)
+pieces_seen_alike a b p q x y f g m n t u like collection i j h k e c = grind (arith, piece_of, kind_there, one_of)
 
 pub pieces : PiecesHaveOneEnd
 pieces a p q x y f g m n t u i j h k e c = pieces_seen_alike a a p q x y f g m n t u (refl, refl, refl) (λ z. refl) i j h k e c

@@ -9,9 +9,6 @@ settled after_blank [] = false
 settled (on_line k) [] = false
 settled s (c ∷ r) = ends_with_content c r
 
-settled_past : (s : Stand) (c : ℕ) (r : List ℕ) → ends_with_content c r ≡ true → settled (past s c) r ≡ true
-settled_past s c a h = grind arith
-
 -- A scalar does not go on over a text before which it stops.
 over : (fl : Bool) (coll : Option ℕ) (s : Stand) (c : ℕ) (r next : List ℕ) → stops fl coll s (c ∷ (r ++ next)) ≡ true → goes_on fl coll s (c ∷ r) next ≡ true → ends_with_content c r ≡ true → ⊥
 over fl coll s c [] next h k f = grind (arith, untrue, both, contrary)
@@ -26,10 +23,7 @@ from fl coll after_blank [] (d ∷ q) x y h k f g i j e = absurd (cc f)
 from fl coll after_blank (c ∷ p) [] x y h k f g i j e = absurd (cc g)
 from fl coll (on_line n) [] (d ∷ q) x y h k f g i j e = absurd (cc f)
 from fl coll (on_line n) (c ∷ p) [] x y h k f g i j e = absurd (cc g)
-from fl coll s (c ∷ p) (d ∷ q) x y h k f g i j e = grind (arith, same_head, both, settled_past, longer, from fl coll (past s c) p q x y)
-
-settled_inside : (c : ℕ) (r : List ℕ) → ends_with_content c r ≡ true → settled inside r ≡ true
-settled_inside c a h = grind arith
+from fl coll s (c ∷ p) (d ∷ q) x y h k f g i j e = grind (arith, same_head, both, longer, from fl coll (past s c) p q x y)
 
 pub plains : PlainScalarsHaveOneEnd
-plains fl coll a q x y h k e = grind (arith, same_head, both, from, settled_inside, longer)
+plains fl coll a q x y h k e = grind (arith, same_head, both, from, longer)

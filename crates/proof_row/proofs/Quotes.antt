@@ -16,18 +16,14 @@ IsOnward at = (c : ℕ) (r z : List ℕ) → begins_with 10 z ≡ false → Onwa
 abbrev spelled : Element → ℕ → Spelled
 spelled e n = record { element = e; further = n }
 
-plain_onward : IsOnward plain_element
-unfolding plain_element
-plain_onward c r z h = grind arith
-
 -- ---- single quotes
 
 abbrev doubled : List ℕ → Option Spelled
 doubled r = (if begins_with single_quote r then Some (spelled (content single_quote) 1) else None)
 
 single_onward : IsOnward single_quoted_element
-unfolding single_quoted_element
-single_onward c r z h = grind (arith, plain_onward)
+unfolding single_quoted_element plain_element
+single_onward c r z h = grind arith
 
 -- ---- double quotes
 
@@ -40,8 +36,8 @@ unfolding escape
 escape_onward a z h = grind (arith, numeric_onward)
 
 double_onward : IsOnward double_quoted_element
-unfolding double_quoted_element
-double_onward c r z h = grind (arith, escape_onward, plain_onward)
+unfolding double_quoted_element plain_element
+double_onward c r z h = grind (arith, escape_onward)
 
 -- ---- a body
 
