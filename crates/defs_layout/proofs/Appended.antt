@@ -34,11 +34,8 @@ lines_append column (l ∷ ls) a b = ap (λ x. 10 ∷ spell_line column l x) (li
 
 -- ---- nodes
 
-scalar_append : (s : Scalar) → Appends (spell_scalar s)
-scalar_append d a b = grind (arith, append_assoc)
-
 inline_append : (i : Inline) → Appends (spell_inline i)
-inline_append d a b = grind (arith, scalar_append)
+inline_append d a b = grind (arith, append_assoc)
 
 literal_append : (column : ℕ) (text : List ℕ) (ls : List Line) → Appends (spell_literal column text ls)
 literal_append column text ls a b = grind (arith, lines_append, append_assoc)
@@ -68,7 +65,7 @@ mutual
 
   field_append : (c : ℕ) (f : Field) → IsBasicField f → Appends (spell_field c f)
   field_append c (implicit k v) h a b =
-      ap (λ x. spell_scalar k (58 ∷ x)) (value_append c v h.1 a b) ∙ scalar_append k (58 ∷ spell_value c v a) b
+      ap (λ x. spell_scalar k (58 ∷ x)) (value_append c v h.1 a b) ∙ (grind (arith, append_assoc))
   field_append c (explicit k g v) h a b =
       ap (λ x. 63 ∷ spell_value c k x) (ap (λ x. next_line c g (58 ∷ x)) (value_append c v h.1 a b) ∙ next_line_append c g (58 ∷ spell_value c v a) b)
       ∙ ap (λ x. 63 ∷ x) (value_append c k h.0 (next_line c g (58 ∷ spell_value c v a)) b)

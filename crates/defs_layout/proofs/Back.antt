@@ -6,15 +6,9 @@ use Rattle.defs_tree.proofs.OverlayLaws.{list_of_pairs}
 
 -- ---- strings
 
-short_is : (s : Short) → is_character (character_of s) ≡ true
-short_is a = grind arith
-
-code_is : (n : ℕ) → n ≤ 0xFFFF → is_character n ≡ true
-code_is n h = grind (arith, nat_tests)
-
 piece_is : (p : Piece) → is_piece p ≡ true → is_character (value_of p) ≡ true
 unfolding is_unescaped
-piece_is e h = grind (arith, nat_tests, eqb-true, short_is, and_parts, code_is)
+piece_is e h = grind (arith, nat_tests, eqb-true, and_parts)
 
 pieces_are : (ps : List Piece) → are_pieces ps ≡ true → are_characters (unescaped ps) ≡ true
 pieces_are [] h = refl
@@ -30,9 +24,6 @@ number_has (number m w no_fraction no_exponent) h = by (fits_i64 (integer_value 
     by false e = real_from (number m w no_fraction no_exponent) _ h (ap (λ b. if b then integer (integer_value m w) else real (spell_number (number m w no_fraction no_exponent) [])) e)
 number_has (number m w no_fraction (exponent b s d)) h = real_from (number m w no_fraction (exponent b s d)) _ h refl
 number_has (number m w (fraction d) e) h = real_from (number m w (fraction d) e) _ h refl
-
-number_flat : (n : Number) → nesting (number_tree n) ≡ 0
-number_flat a = grind arith
 
 -- ---- values
 
@@ -55,7 +46,7 @@ mutual
 
 mutual
   nests : (v : Json) → nesting (tree_of v) ≡ levels v
-  nests (json.number n) = number_flat n
+  nests (json.number n) = grind arith
   nests (json.array g es) = ap suc (items_nest es)
   nests (json.object g ms) = ap suc (members_nest ms)
   nests v = refl

@@ -3,12 +3,9 @@ use Rattle.defs_layout.proofs.Common.{alias, AllHaveJson, and_from, ap, are_stri
 use Rattle.defs_tree.specs.Tree.{array, hash}
 use Rattle.defs_layout.specs.Fault.{below}
 
-key_is_string : (k : Tree) → IsKey k → is_string k ≡ true
-key_is_string a h = grind arith
-
 keys_are_strings : (ps : Pairs) → AreMembers ps → are_strings ps ≡ true
 keys_are_strings no_pairs h = refl
-keys_are_strings (pair k v ps) h = and_from _ _ (key_is_string k h.0) (keys_are_strings ps h.2)
+keys_are_strings (pair k v ps) h = and_from _ _ (grind arith) (keys_are_strings ps h.2)
 
 mutual
   pub no_fault : (t : Tree) → HasJson t → first_fault t ≡ None

@@ -20,12 +20,8 @@ record One (t : Tree) (text : List ℕ) : Type 0 where
 first_tree : {t u : Tree} → t ∷ [] ≡ u ∷ [] → t ≡ u
 first_tree e = cc
 
-one_of : (is_marked : Bool) (ds : Documents) (t : Tree) (text : List ℕ) → is_marked ≡ true → AreBasicDocuments ds → AreDocuments ds
-    → spell_mark is_marked (spell_documents ds []) ≡ text → trees_of ds ≡ t ∷ [] → One t text
-one_of a ds t text marked basic are spelt trees = grind arith
-
 one : (t : Tree) (text : List ℕ) → IsBasicLayout t text → One t text
-one t text (w, is, basic, spelt, trees) = one_of w.is_marked w.documents t text basic.0 basic.1 is spelt trees
+one t text (w, is, basic, spelt, trees) = grind arith
 
 -- ---- an LF after it
 
@@ -49,9 +45,6 @@ ended_lines : (g : List GapLine) → AreEmptyLines g → AreEmptyLines (g ++ emp
 ended_lines [] h = (tt, tt)
 ended_lines (l ∷ g) h = (h.0, ended_lines g h.1)
 
-ended_after : (x : Root) (g : List GapLine) → IsAfterRoot x g → IsAfterRoot x (g ++ empty_line ∷ [])
-ended_after a g h = grind (arith, ended_gap, ended_lines)
-
 -- ---- all of them
 
 -- documents, the first after its `---`
@@ -66,7 +59,7 @@ in_turn t [] text (first, others, laid, none, whole) =
     let o = one t first laid in
     record {
       written = last_document o.written (o.after ++ empty_line ∷ []);
-      are = (o.is.0, o.is.1, ended_after o.written.root o.after o.is.2);
+      are = (o.is.0, o.is.1, (grind (arith, ended_gap, ended_lines)));
       spelt =
           ap (λ x. codes "---\n" ++ spell_document o.written x) (ending_text o.after) ∙ document_append o.written o.after o.basic [] (10 ∷ [])
           ∙ ap (λ x. x ++ 10 ∷ []) o.spelt ∙ ap (λ x. first ++ 10 ∷ x) (sym none) ∙ whole;

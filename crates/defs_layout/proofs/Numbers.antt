@@ -22,9 +22,6 @@ nothing_is a h = grind arith
 one_is : (p : ℕ → Bool) (t : List ℕ) → one p t ≡ true → IsOne p t
 one_is p a h = grind arith
 
-digits_are : (t : List ℕ) → at_least_one is_ascii_digit t ≡ are_digits t
-digits_are a = grind arith
-
 minus_part : (t : List ℕ) → optional (one is_minus) t ≡ true → IsPart Bool (λ b. true) spell_minus t
 minus_part a h = grind arith
 
@@ -48,7 +45,7 @@ some_exponent t h =
     let letter = letter_part mark.character mark.fits in
     let second = cut_from (optional (one is_sign)) (in_order (at_least_one is_ascii_digit ∷ [])) first.after first.is_second in
     let sign = sign_part second.before second.is_first in
-    let digits : are_digits second.after ≡ true = sym (digits_are second.after) ∙ sym (followed_by-empty (at_least_one is_ascii_digit) second.after) ∙ second.is_second in
+    let digits : are_digits second.after ≡ true = sym (grind arith) ∙ sym (followed_by-empty (at_least_one is_ascii_digit) second.after) ∙ second.is_second in
     record {
       part = exponent letter.0 sign.part second.after;
       fit = digits;
@@ -97,18 +94,15 @@ all_digits : (w : List ℕ) → list_all is_ascii_digit w ≡ true → list_all 
 all_digits [] h = refl
 all_digits (c ∷ w) h = let q = and_parts (is_ascii_digit c) (list_all is_ascii_digit w) h in and_from _ _ (digit_test c q.0) (all_digits w q.1)
 
-whole_digits : (w : List ℕ) → is_whole w ≡ true → are_digits w ≡ true
-whole_digits a h = grind arith
-
 whole_begins : (w r : List ℕ) → are_digits w ≡ true → begins_in is_ascii_digit (w ++ r) ≡ true
 whole_begins a r h = grind arith
 
 -- a whole number's text
 plain_text : (m : Bool) (w : List ℕ) → is_whole w ≡ true → signed_decimal (spell_minus m (w ++ [])) ≡ fitted true (integer_value m w)
-plain_text m w h = grind (arith, whole_digits, append-nil, signed_text, whole_begins, all_digits)
+plain_text m w h = grind (arith, append-nil, signed_text, whole_begins, all_digits)
 
 other_text : (m : Bool) (w r : List ℕ) → is_whole w ≡ true → IsOther r → signed_decimal (spell_minus m (w ++ r)) ≡ None
-other_text m w r h o = signed_text m (w ++ r) (whole_begins w r (whole_digits w h)) ∙ ap (λ b. fitted b (integer_value m (w ++ r))) (no_digits w r o)
+other_text m w r h o = signed_text m (w ++ r) (whole_begins w r (grind arith)) ∙ ap (λ b. fitted b (integer_value m (w ++ r))) (no_digits w r o)
 
 exponent_other : (b : Bool) (s : Sign) (w r : List ℕ) → IsOther (spell_exponent (exponent b s w) r)
 exponent_other a s w r = grind arith
@@ -152,7 +146,7 @@ cut : (f g : List ℕ → Bool) (a b : List ℕ) → f a ≡ true → g b ≡ tr
 cut f g a b h k = cut_to f g (a ++ b) (record { before = a; after = b; whole = refl; is_first = h; is_second = k })
 
 exponent_text : (e : Exponent) → json.is_exponent e ≡ true → optional is_exponent (spell_exponent e []) ≡ true
-exponent_text a h = grind (arith, followed_by-empty, digits_are, append-nil, cut)
+exponent_text a h = grind (arith, followed_by-empty, append-nil, cut)
 
 minus_text : (m : Bool) (r : List ℕ) → (a : List ℕ) × (optional (one is_minus) a ≡ true) × (spell_minus m r ≡ a ++ r)
 minus_text true r = (45 ∷ [], refl, refl)

@@ -32,9 +32,6 @@ minus_no_zero c h = grind (arith, nat_tests)
 point_no_mark : (c : ℕ) → (c == 46) ≡ true → is_exponent_mark c ≡ false
 point_no_mark c h = grind (arith, nat_tests)
 
-zero_is_digit : (c : ℕ) → (c == 48) ≡ true → is_ascii_digit c ≡ true
-zero_is_digit c h = grind (arith, nat_tests)
-
 exponent_rejects_digit : Rejects is_ascii_digit reads_exponent
 exponent_rejects_digit c cs h = rw (digit_no_mark c h) refl
 
@@ -94,7 +91,7 @@ whole_read g r c cs =
     by : (z : Bool) → (c == 48) ≡ z → (d : Bool) → is_ascii_digit c ≡ d
         → ((d && g cs) || ((not z && d) && g (after_all is_ascii_digit cs))) ≡ (if z then g cs else d && g (after_all is_ascii_digit cs))
     by true e true f = or-false (g cs)
-    by true e false f = let no : true ≡ false = sym (zero_is_digit c e) ∙ f in cc
+    by true e false f = let no : true ≡ false = sym (grind (arith, nat_tests)) ∙ f in cc
     by false e true f = passed g r cs
     by false e false f = refl
 

@@ -36,9 +36,6 @@ array_sound ts hs = record { distinct = hs.distinct; fits = hs.fits; has_values 
 hash_sound : (ps : List (Tree × Tree)) → AreDistinct ps → ArePairsSound (pairs_of ps) → IsSound (Tree.hash (pairs_of ps))
 hash_sound ps d hs = record { distinct = (rw (list_of_pairs ps) d, hs.distinct); fits = hs.fits; has_values = hs.has_values }
 
-empty_hash_sound : IsSound (Tree.hash Pairs.no_pairs)
-empty_hash_sound = record { distinct = (tt, tt); fits = tt; has_values = tt }
-
 string_sound : (s : List ℕ) → IsSound (Tree.string s)
 string_sound s = record { distinct = tt; fits = tt; has_values = tt }
 
@@ -50,14 +47,11 @@ real_sound s = record { distinct = tt; fits = tt; has_values = tt }
 chosen_sound : (z : ℤ) (s : List ℕ) (b : Bool) → fits_i64 z ≡ b → IsSound (cond b (Tree.integer z) (Tree.real s))
 chosen_sound z s a e = grind arith
 
-number_sound : (n : Number) → IsSound (number_tree n)
-number_sound a = grind arith
-
 mutual
   json_sound : (v : Json) → IsJson v → IsSound (tree_of v)
-  json_sound (Json.number n) h = number_sound n
+  json_sound (Json.number n) h = grind arith
   json_sound (Json.array g es) h = array_sound (items es) (elements_sound es h.1)
-  json_sound (Json.empty_object g) h = empty_hash_sound
+  json_sound (Json.empty_object g) h = record { distinct = (tt, tt); fits = tt; has_values = tt }
   json_sound (Json.object g ms) h = hash_sound (pair_list ms) h.2 (members_sound ms h.1)
   json_sound v h = record { distinct = tt; fits = tt; has_values = tt }
 
@@ -99,19 +93,13 @@ last_tree_sound name [] t hs e = absurd (nothing_differs _ t refl e)
 last_tree_sound name (begun n ∷ a) t hs e = grind (arith, nothing_differs, last_tree_sound name a t hs)
 last_tree_sound name (ended n u ∷ a) t hs e = grind (arith, found_sound, last_tree_sound name a t hs.1)
 
-scalar_sound : (s : Layout.Scalar) → Layout.IsScalar s → IsSound (Layout.scalar_tree s)
-scalar_sound a h = grind arith
-
-inline_sound : (i : Layout.Inline) → Layout.IsInline i → IsSound (Layout.inline_tree i)
-inline_sound a h = grind arith
-
 mutual
   block_sound : (c : ℕ) (a : List Anchor) (b : Layout.Block) → Layout.IsBlock c a b → AreAnchorsSound a → IsSound (Layout.block_tree b) × AreAnchorsSound (Layout.anchors_after_block b a)
   block_sound c a (Layout.array es) h hs = let k = entries_sound c a es h hs in (array_sound _ k.0, k.1)
   block_sound c a (Layout.hash fs) h hs = let k = fields_sound c a fs h.0 hs in (hash_sound (Layout.pair_list fs) h.1 k.0, k.1)
 
   value_sound : (c : ℕ) (a : List Anchor) (v : Layout.Value) → Layout.IsValue c a v → AreAnchorsSound a → IsSound (Layout.value_tree v) × AreAnchorsSound (Layout.anchors_after v a)
-  value_sound c a (Layout.beside more i after) h hs = (inline_sound i h.0, hs)
+  value_sound c a (Layout.beside more i after) h hs = ((grind arith), hs)
   value_sound c a (Layout.Value.literal more column text ls) h hs = (string_sound text, hs)
   value_sound c a (Layout.folded more column strips text ls) h hs = (string_sound text, hs)
   value_sound c a (Layout.Value.json more v) h hs = (json_sound v h.1, hs)
@@ -130,7 +118,7 @@ mutual
 
   field_sound : (c : ℕ) (a : List Anchor) (f : Layout.Field) → Layout.IsField c a f → AreAnchorsSound a
       → (IsSound (Layout.pair_of f).0 × IsSound (Layout.pair_of f).1) × AreAnchorsSound (Layout.anchors_after_field f a)
-  field_sound c a (Layout.implicit k v) h hs = let l = value_sound c a v h.2 hs in ((scalar_sound k h.0.0, l.0), l.1)
+  field_sound c a (Layout.implicit k v) h hs = let l = value_sound c a v h.2 hs in (((grind arith), l.0), l.1)
   field_sound c a (Layout.explicit k g v) h hs =
       let m = value_sound c a k h.1 hs in
       let l = value_sound c _ v h.4 m.1 in
@@ -144,7 +132,7 @@ mutual
       (pair_sound _ _ _ k.0.0 k.0.1 l.0, l.1)
 
 root_sound : (x : Layout.Root) → Layout.IsRoot x → IsSound (Layout.root_tree x)
-root_sound a h = grind (arith, block_sound, inline_sound, string_sound)
+root_sound a h = grind (arith, block_sound, string_sound)
 
 documents_sound : (ds : Layout.Documents) → Layout.AreDocuments ds → AreAllSound (Layout.trees_of ds)
 documents_sound (Layout.last_document d after) h = (root_sound d.root h.1, tt)

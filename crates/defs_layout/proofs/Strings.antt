@@ -29,14 +29,11 @@ low_digit n h e = grind (arith, nat_tests)
 high_digit : (n : ℕ) → n < 16 → nat_lt n 10 ≡ false → digit_value (87 + n) ≡ n
 high_digit n h e = grind (arith, nat_tests)
 
-digit_back : (n : ℕ) → n < 16 → digit_value (hexadecimal_digit n) ≡ n
-digit_back n h = grind arith
-
 digit_fits : (n : ℕ) → n < 16 → is_hex_digit (hexadecimal_digit n) ≡ true
-digit_fits n h = ap (λ d. nat_lt d 16) (digit_back n h) ∙ lt-ltb n 16 h
+digit_fits n h = ap (λ d. nat_lt d 16) (grind arith) ∙ lt-ltb n 16 h
 
 control : (c : ℕ) → c < 256 → IsWritten (unicode 48 48 (hexadecimal_digit (c / 16)) (hexadecimal_digit (c % 16))) (escaped_code c) c
-control c h = grind (arith, digit_back, digit_fits, nat_tests)
+control c h = grind (arith, digit_fits, nat_tests)
 
 itself_written : (c : ℕ) → (c == 34) ≡ false → (c == 92) ≡ false → nat_lt c 32 ≡ false → is_character c ≡ true → IsWritten (itself c) (c ∷ []) c
 unfolding is_unescaped
@@ -63,12 +60,9 @@ written c h =
     λ _. chosen c 13 _ _ _ _ (short_written return)
     λ _. by a b (nat_lt c 32 || (c == 127)) refl
   where
-    small : (nat_lt c 32 || (c == 127)) ≡ true → c < 256
-    small e = grind (arith, nat_tests)
-
     by : (c == 34) ≡ false → (c == 92) ≡ false → (t : Bool) → (nat_lt c 32 || (c == 127)) ≡ t
         → IsWritten (if t then unicode 48 48 (hexadecimal_digit (c / 16)) (hexadecimal_digit (c % 16)) else itself c) (if t then escaped_code c else c ∷ []) c
-    by a b true e = control c (small e)
+    by a b true e = control c (grind (arith, nat_tests))
     by a b false e = itself_written c a b (or_parts (nat_lt c 32) (c == 127) e).0 h
 
 -- ---- a text

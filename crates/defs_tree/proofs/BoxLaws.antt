@@ -30,9 +30,6 @@ written_escapes-unbroken : (s : List ℕ) → is_unbroken (written_escapes s) �
 written_escapes-unbroken [] = refl
 written_escapes-unbroken (c ∷ cs) = unbroken-append (written_character c) (written_escapes cs) (written_character-unbroken c) (written_escapes-unbroken cs)
 
-pub double_quoted-unbroken : (s : List ℕ) → is_unbroken (double_quoted s) ≡ true
-double_quoted-unbroken s = unbroken-append (written_escapes s) (34 ∷ []) (written_escapes-unbroken s) refl
-
 fit-unbroken : (s : List ℕ) → list_any is_unfit_for_plain s ≡ false → is_unbroken s ≡ true
 unfolding is_unfit_for_plain
 fit-unbroken [] h = refl
@@ -42,7 +39,7 @@ string_spelling-unbroken : (s : List ℕ) → is_unbroken (string_spelling s) �
 string_spelling-unbroken s = by (is_quoted s) refl
   where
     by : (b : Bool) → is_quoted s ≡ b → is_unbroken (if b then double_quoted s else s) ≡ true
-    by true e = double_quoted-unbroken s
+    by true e = unbroken-append (written_escapes s) (34 ∷ []) (written_escapes-unbroken s) refl
     by false e = fit-unbroken s ((unquoted s e).fit)
 
 digits-unbroken : (ds : List ℕ) → AllDigits 10 ds → is_unbroken ds ≡ true

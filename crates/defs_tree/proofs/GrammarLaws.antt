@@ -58,16 +58,13 @@ optional-then f g t = followed_by-or is_empty f g t ∙ ap (λ x. x || followed_
 pub any-then : (p : ℕ → Bool) (g : List ℕ → Bool) (c : ℕ) (cs : List ℕ) → followed_by (any_number p) g (c ∷ cs) ≡ (g (c ∷ cs) || (p c && followed_by (any_number p) g cs))
 any-then p g c cs = ap (λ x. g (c ∷ cs) || x) (followed_by-and (p c) (any_number p) g cs)
 
-pub at_least-then : (p : ℕ → Bool) (g : List ℕ → Bool) (c : ℕ) (cs : List ℕ) → followed_by (at_least_one p) g (c ∷ cs) ≡ (p c && followed_by (any_number p) g cs)
-at_least-then p g c cs = followed_by-and (p c) (any_number p) g cs
-
 -- a class is read as far as it goes, where what follows doesn't begin in it
 pub any-after : (p : ℕ → Bool) (g : List ℕ → Bool) → Rejects p g → (t : List ℕ) → followed_by (any_number p) g t ≡ g (after_all p t)
 any-after p g r [] = refl
 any-after p g r (c ∷ cs) = grind (arith, any-then, or-false, any-after p g r cs)
 
 pub at_least-after : (p : ℕ → Bool) (g : List ℕ → Bool) → Rejects p g → (c : ℕ) (cs : List ℕ) → followed_by (at_least_one p) g (c ∷ cs) ≡ (p c && g (after_all p cs))
-at_least-after p g r c cs = at_least-then p g c cs ∙ ap (λ x. p c && x) (any-after p g r cs)
+at_least-after p g r c cs = (followed_by-and (p c) (any_number p) g cs) ∙ ap (λ x. p c && x) (any-after p g r cs)
 
 pub optional_one-after : (p : ℕ → Bool) (g : List ℕ → Bool) → Rejects p g → (t : List ℕ) → followed_by (optional (one p)) g t ≡ g (after_one p t)
 optional_one-after p g r [] = optional-then (one p) g [] ∙ or-false (g [])

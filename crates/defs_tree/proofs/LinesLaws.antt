@@ -19,20 +19,14 @@ has_no_line (l ∷ ls) = false
 onto_first_line-some : (c : ℕ) (ls : List (List ℕ)) → has_no_line (onto_first_line c ls) ≡ false
 onto_first_line-some c a = grind arith
 
-ended-onto : (c : ℕ) (ls : List (List ℕ)) → has_no_line ls ≡ false → ended (onto_first_line c ls) ≡ c ∷ ended ls
-ended-onto c a h = grind arith
-
 -- the text, and a line feed where it lacks one
 abbrev pub with_end : Bool → List ℕ → List ℕ
 with_end has_end text = if has_end then text else text ++ 10 ∷ []
 
-with_end-cons : (b : Bool) (c : ℕ) (t : List ℕ) → c ∷ with_end b t ≡ with_end b (c ∷ t)
-with_end-cons a c t = grind arith
-
 pub lines_of_ended : (text : List ℕ) → ended (lines_of text) ≡ (if is_empty text || ends_with nat_eq text (codes "\n") then text else text ++ 10 ∷ [])
 lines_of_ended [] = refl
 lines_of_ended (c ∷ []) = grind (arith, ends_with-one)
-lines_of_ended (c ∷ d ∷ cs) = grind (arith, with_end-cons, ends_with-step, ended-onto, lines_of_ended (d ∷ cs))
+lines_of_ended (c ∷ d ∷ cs) = grind (arith, ends_with-step, lines_of_ended (d ∷ cs))
 
 -- ---- no line holds a line feed
 

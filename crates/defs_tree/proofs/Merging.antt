@@ -12,17 +12,11 @@ lookup_both : (k : Tree) (ps qs : List (Tree × Tree)) → lookup k (ps ++ qs) �
 lookup_both k [] qs = refl
 lookup_both k (p ∷ ps) qs = grind (arith, lookup_both k ps qs)
 
-or_none : (o : Option Tree) → option_or o None ≡ o
-or_none a = grind arith
-
-or_there : (o q : Option Tree) → is_some o ≡ true → o ≡ option_or o q
-or_there a q h = grind arith
-
 lookup_new_pair : (k : Tree) (ps : List (Tree × Tree)) (q : Tree × Tree) → lookup k (with_new_pair ps q) ≡ option_or (lookup k ps) (lookup k (q ∷ []))
-lookup_new_pair k ps q = grind (arith, lookup_both, or_there, tree_eq_decides, or_none)
+lookup_new_pair k ps q = grind (arith, lookup_both, tree_eq_decides)
 
 lookup_new_pairs : (k : Tree) (ps qs : List (Tree × Tree)) → lookup k (with_new_pairs ps qs) ≡ option_or (lookup k ps) (lookup k qs)
-lookup_new_pairs k ps [] = sym (or_none (lookup k ps))
+lookup_new_pairs k ps [] = sym (grind arith)
 lookup_new_pairs k ps (q ∷ qs) = grind (arith, lookup_new_pair, lookup_both, lookup_new_pairs k (with_new_pair ps q) qs)
 
 among : (k : Tree) (ts : Items) → lookup k (pairs_of_mappings ts) ≡ value_among k ts
@@ -100,12 +94,9 @@ module _ (K V : Tree → Type 0) (opens : Opens K V) where
   each_without k [] h = tt
   each_without k (p ∷ ps) h = grind (arith, each_without k ps h.1)
 
-  each_new_pair : (ps : List (Tree × Tree)) (q : Tree × Tree) → Each K V ps → K q.0 × V q.1 → Each K V (with_new_pair ps q)
-  each_new_pair ps q h g = grind (arith, each_append)
-
   each_new_pairs : (ps qs : List (Tree × Tree)) → Each K V ps → Each K V qs → Each K V (with_new_pairs ps qs)
   each_new_pairs ps [] h g = h
-  each_new_pairs ps (q ∷ qs) h g = each_new_pairs (with_new_pair ps q) qs (each_new_pair ps q h g.0) g.1
+  each_new_pairs ps (q ∷ qs) h g = each_new_pairs (with_new_pair ps q) qs (grind (arith, each_append)) g.1
 
   pub each_merged : (ps : List (Tree × Tree)) → Each K V ps → Each K V (merged_pairs ps)
   each_merged ps h = grind (arith, each_new_pairs, each_without, each_brought, each_lookup)

@@ -44,27 +44,18 @@ cmp = slice_cmp int_cmp
 int_cmp-pos : (m n : ℕ) → int_cmp (pos m) (pos n) ≡ nat_cmp m n
 int_cmp-pos m n = grind (arith, nat_tests)
 
-then_assoc : (o p q : Ordering) → ordering_then o (ordering_then p q) ≡ ordering_then (ordering_then o p) q
-then_assoc a p q = grind arith
-
-then_Equal : (o : Ordering) → ordering_then o Equal ≡ o
-then_Equal a = grind arith
-
 text_same : (s t : List ℕ) (q r : List ℤ) → cmp (text_code s q) (text_code t r) ≡ ordering_then (slice_cmp nat_cmp s t) (cmp q r)
 text_same [] [] q r = refl
 text_same [] (n ∷ ns) q r = grind (arith, int_cmp-pos)
 text_same (m ∷ ms) [] q r = grind (arith, int_cmp-pos)
-text_same (m ∷ ms) (n ∷ ns) q r = grind (arith, int_cmp-pos, then_assoc, text_same ms ns q r, nat_tests)
-
-bool_same : (b c : Bool) (o : Ordering) → ordering_then (int_cmp (pos (bit b)) (pos (bit c))) o ≡ ordering_then (bool_cmp b c) o
-bool_same a b o = grind arith
+text_same (m ∷ ms) (n ∷ ns) q r = grind (arith, int_cmp-pos, text_same ms ns q r, nat_tests)
 
 mutual
   tree_same : (t u : Tree) (q r : List ℤ) → cmp (tree_code t q) (tree_code u r) ≡ ordering_then (tree_cmp t u) (cmp q r)
   tree_same (real s) (real t) q r = text_same s t q r
   tree_same (integer x) (integer y) q r = refl
   tree_same (string s) (string t) q r = text_same s t q r
-  tree_same (boolean b) (boolean c) q r = bool_same b c (cmp q r)
+  tree_same (boolean b) (boolean c) q r = grind arith
   tree_same (array ts) (array us) q r = items_same ts us q r
   tree_same (hash ps) (hash ss) q r = pairs_same ps ss q r
   tree_same (alias m) (alias n) q r = ap (λ o. ordering_then o (cmp q r)) (int_cmp-pos m n)
@@ -75,18 +66,18 @@ mutual
   items_same : (ts us : Items) (q r : List ℤ) → cmp (items_code ts q) (items_code us r) ≡ ordering_then (items_cmp ts us) (cmp q r)
   items_same no_items no_items q r = refl
   items_same (item t ts) (item u us) q r =
-      grind (arith, then_assoc, tree_same t u (items_code ts q) (items_code us r), items_same ts us q r)
+      grind (arith, tree_same t u (items_code ts q) (items_code us r), items_same ts us q r)
   items_same ts us q r = refl
 
   pairs_same : (ps ss : Pairs) (q r : List ℤ) → cmp (pairs_code ps q) (pairs_code ss r) ≡ ordering_then (pairs_cmp ps ss) (cmp q r)
   pairs_same no_pairs no_pairs q r = refl
   pairs_same (pair k v ps) (pair l w ss) q r =
-      grind (arith, then_assoc, tree_same k l (tree_code v (pairs_code ps q)) (tree_code w (pairs_code ss r)),
+      grind (arith, tree_same k l (tree_code v (pairs_code ps q)) (tree_code w (pairs_code ss r)),
       tree_same v w (pairs_code ps q) (pairs_code ss r), pairs_same ps ss q r)
   pairs_same ps ss q r = refl
 
 by_code : (t u : Tree) → cmp (tree_code t []) (tree_code u []) ≡ tree_cmp t u
-by_code t u = tree_same t u [] [] ∙ then_Equal (tree_cmp t u)
+by_code t u = tree_same t u [] [] ∙ (grind arith)
 
 pub tree_cmp_total : IsTotalOrder tree_cmp
 tree_cmp_total = subst IsTotalOrder (λ i t u. by_code t u i) (on_total (λ t. tree_code t []) (lists_total int_cmp_total))
@@ -99,15 +90,6 @@ tree_eq_equiv = eq_by_cmp_equiv tree_cmp_total
 text_tied : (s t : List ℕ) → slice_cmp nat_cmp s t ≡ Equal → s ≡ t
 text_tied s t e = (bytes_eq-Decides s t).0 (sym (is_eq-slice_cmp s t) ∙ ap is_eq e)
 
-nat_tied : (m n : ℕ) → nat_cmp m n ≡ Equal → m ≡ n
-nat_tied m n e = ranked m n Equal (sym e)
-
-int_tied : (x y : ℤ) → int_cmp x y ≡ Equal → x ≡ y
-int_tied x y e = int_ranked x y Equal (sym e)
-
-bool_tied : (b c : Bool) → bool_cmp b c ≡ Equal → b ≡ c
-bool_tied a b e = grind arith
-
 first_tied : (o p : Ordering) → ordering_then o p ≡ Equal → o ≡ Equal
 first_tied a p e = grind arith
 
@@ -117,12 +99,12 @@ second_tied a p e = grind arith
 mutual
   pub tree_tied : (t u : Tree) → tree_cmp t u ≡ Equal → t ≡ u
   tree_tied (real s) (real t) e = ap real (text_tied s t e)
-  tree_tied (integer x) (integer y) e = ap integer (int_tied x y e)
+  tree_tied (integer x) (integer y) e = ap integer (int_ranked x y Equal (sym e))
   tree_tied (string s) (string t) e = ap string (text_tied s t e)
-  tree_tied (boolean b) (boolean c) e = ap boolean (bool_tied b c e)
+  tree_tied (boolean b) (boolean c) e = ap boolean (grind arith)
   tree_tied (array ts) (array us) e = ap array (items_tied ts us e)
   tree_tied (hash ps) (hash qs) e = ap hash (pairs_tied ps qs e)
-  tree_tied (alias m) (alias n) e = ap alias (nat_tied m n e)
+  tree_tied (alias m) (alias n) e = ap alias (ranked m n Equal (sym e))
   tree_tied null null e = refl
   tree_tied bad_value bad_value e = refl
   tree_tied t u e = cc

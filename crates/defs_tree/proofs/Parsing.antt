@@ -13,9 +13,6 @@ all_digits-from : (base : ℕ) (ds : List ℕ) → list_all (is_digit base) ds �
 all_digits-from base [] h = tt
 all_digits-from base (d ∷ ds) h = grind (arith, and_parts, all_digits-from base ds)
 
-numeral-from : (base : ℕ) (ds : List ℕ) → at_least_one (is_digit base) ds ≡ true → IsNumeral base ds
-numeral-from base a h = grind (arith, all_digits-from)
-
 -- ---- signs
 
 mapped : {A B : Type 0} (f : A → B) (b : Bool) (x : A) → option_map f (if b then Some x else None) ≡ (if b then Some (f x) else None)
@@ -42,7 +39,7 @@ signed_number-std base t = ap (λ o. option_and_then (λ y. if fits_i64 y then S
 -- on the very list that `parse` is given
 pub parsed_signed : {E : Type 0} (base : ℕ) (t : List ℕ) (r : Result ℤ E) → ParsesSigned w64 base t r
     → MatchResult r (λ z. signed_number base t ≡ Some z) (λ e. signed_number base t ≡ None)
-parsed_signed base t a h = grind (arith, signed_number-std, fits-to, numeral-from, fits-from, all_digits-to)
+parsed_signed base t a h = grind (arith, signed_number-std, fits-to, all_digits-from, fits-from, all_digits-to)
 
 -- ---- bytes and characters
 
@@ -58,14 +55,11 @@ digits_are_ascii : (base : ℕ) (ds : List ℕ) → base ≤ 36 → list_all (is
 digits_are_ascii base [] small h = refl
 digits_are_ascii base (d ∷ ds) small h = grind (arith, and_parts, digits_are_ascii base ds small, nat_tests)
 
-signed_is_ascii : (base : ℕ) (t : List ℕ) → base ≤ 36 → at_least_one (is_digit base) (without_leading_sign t) ≡ true → are_ascii t ≡ true
-signed_is_ascii base a small h = grind (arith, digits_are_ascii, and_parts)
-
 no_number : (base : ℕ) (t : List ℕ) → base ≤ 36 → are_ascii t ≡ false → signed_number base t ≡ None
 no_number base t small h = signed_number-std base t ∙ by (at_least_one (is_digit base) (without_leading_sign t)) refl
   where
     by : (b : Bool) → at_least_one (is_digit base) (without_leading_sign t) ≡ b → fitting b (signed_digits_value base t) ≡ None
-    by true e = absurd (true≢false (sym (signed_is_ascii base t small e) ∙ h))
+    by true e = absurd (true≢false (sym (grind (arith, digits_are_ascii, and_parts)) ∙ h))
     by false e = refl
 
 -- the bytes of a text and its characters write the same number

@@ -7,12 +7,9 @@ pub record IsPlaceOf (k : Tree) (us : List (Tree × Tree)) (i : ℕ) : Type 0 wh
   pub found : value_at i us ≡ lookup k us
   pub changed : (t : Tree) → with_value_at i t us ≡ with_value k t us
 
-shift_place : (b : Bool) (o : Option ℕ) (i : ℕ) → Some i ≡ cond b (Some 0) (option_map suc o) → ((b ≡ true) × (i ≡ 0)) ⊎ ((b ≡ false) × ((j : ℕ) × (i ≡ suc j) × (Some j ≡ o)))
-shift_place a o i e = grind arith
-
 pub place_in : (k : Tree) (us : List (Tree × Tree)) (i : ℕ) → Some i ≡ place_of k us → IsPlaceOf k us i
 place_in k [] i e = cc
-place_in k (u ∷ us) i e = from (shift_place (tree_eq k u.0) (place_of k us) i e) (place_in k us)
+place_in k (u ∷ us) i e = from (grind arith) (place_in k us)
   where
     from : ((tree_eq k u.0 ≡ true) × (i ≡ 0)) ⊎ ((tree_eq k u.0 ≡ false) × ((j : ℕ) × (i ≡ suc j) × (Some j ≡ place_of k us)))
         → ((j : ℕ) → Some j ≡ place_of k us → IsPlaceOf k us j) → IsPlaceOf k (u ∷ us) i

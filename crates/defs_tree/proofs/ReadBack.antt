@@ -80,10 +80,6 @@ unquoted_is_string s h = not-false (is_string (typing s)) (or_parts _ (not (is_s
 pub string_back : (s : List ℕ) → is_quoted s ≡ false → typing s ≡ string s
 string_back s h = typing-string s (unquoted_is_string s h)
 
-null_back : typing (spelling null) ≡ null
-unfolding typing is_decimal
-null_back = refl
-
 pub spelling_back : (t : Tree) → IsSpeltPlain t → typing (spelling t) ≡ t
 unfolding typing is_decimal
-spelling_back a h = grind (arith, typing-real, integer_back, not-true, string_back, null_back)
+spelling_back a h = grind (arith, typing-real, integer_back, not-true, string_back, refl)

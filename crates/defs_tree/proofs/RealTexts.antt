@@ -40,9 +40,6 @@ digits_fit = IsWithin-at_least_one is_real_character is_ascii_digit digit_fits
 any_digits_fit : Fits (any_number is_ascii_digit)
 any_digits_fit = IsWithin-any_number is_real_character is_ascii_digit digit_fits
 
-one_point_fits : Fits (one is_point)
-one_point_fits = IsWithin-one is_real_character is_point point_fits
-
 optional_sign_fits : Fits (optional (one is_sign))
 optional_sign_fits = IsWithin-optional is_real_character (one is_sign) (IsWithin-one is_real_character is_sign sign_fits)
 
@@ -61,8 +58,8 @@ mantissa_fits : Fits is_mantissa
 unfolding first_mantissa late_mantissa
 mantissa_fits =
     one_of_fits (at_least_one is_ascii_digit ∷ in_order first_mantissa ∷ in_order late_mantissa ∷ [])
-    (digits_fit, (in_order_fits first_mantissa (digits_fit, (one_point_fits, (any_digits_fit, tt))),
-    (in_order_fits late_mantissa (any_digits_fit, (one_point_fits, (digits_fit, tt))), tt)))
+    (digits_fit, (in_order_fits first_mantissa (digits_fit, ((IsWithin-one is_real_character is_point point_fits), (any_digits_fit, tt))),
+    (in_order_fits late_mantissa (any_digits_fit, ((IsWithin-one is_real_character is_point point_fits), (digits_fit, tt))), tt)))
 
 pub decimal-characters : (t : List ℕ) → is_decimal t ≡ true → list_all is_real_character t ≡ true
 unfolding is_decimal

@@ -14,11 +14,8 @@ OfSome-where a b t h = grind arith
 
 -- ---- integers fit
 
-fitting : (o : Option ℤ) → OfSome (λ z. IsTrue (fits_i64 z)) (option_and_then (λ z. if fits_i64 z then Some z else None) o)
-fitting a = grind arith
-
 pub signed_number-fits : (base : ℕ) (text : List ℕ) → OfSome (λ z. IsTrue (fits_i64 z)) (signed_number base text)
-signed_number-fits base text = fitting (with_sign base text)
+signed_number-fits base text = grind arith
 
 -- ---- what typing gives
 
