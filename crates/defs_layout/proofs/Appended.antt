@@ -1,6 +1,5 @@
 -- What stands after a basic layout is appended to its text.
-use Rattle.defs_layout.proofs.Common.{[], ap, append_assoc, AreBasicEntries, AreBasicFields, array, blank, Block, codes, comment, comment_line, Document, double_quoted, doubled, empty_array, empty_hash, empty_line, Entries, entry, explicit, Field, field, Fields, flat_map, full, GapLine, hash, implicit, Inline, IsBasicBlock, IsBasicField, IsBasicRoot, IsBasicValue, last_entry, last_field, Line, List, literal_header, next_line, no_comment, plain, quoted, refl, Root, Scalar, scalar, single_quoted, spaces, spell_block, spell_document, spell_ending, spell_entries, spell_field, spell_fields, spell_gap, spell_inline, spell_line, spell_lines, spell_literal, spell_root, spell_scalar, spell_value, suc, sym, Value, zero, ℕ, ◌++◌, ◌+◌, ◌∙◌, ◌∷◌, ◌≡◌, arith}
-use Rattle.defs_tree.specs.Spelling.{spelling}
+use Rattle.defs_layout.proofs.Common.{[], ap, append_assoc, AreBasicEntries, AreBasicFields, array, Block, codes, comment, comment_line, Document, empty_line, Entries, entry, explicit, Field, field, Fields, GapLine, hash, implicit, Inline, IsBasicBlock, IsBasicField, IsBasicRoot, IsBasicValue, last_entry, last_field, Line, List, next_line, no_comment, refl, spaces, spell_block, spell_document, spell_ending, spell_entries, spell_field, spell_fields, spell_gap, spell_inline, spell_line, spell_lines, spell_literal, spell_scalar, spell_value, suc, Value, zero, ℕ, ◌++◌, ◌+◌, ◌∙◌, ◌∷◌, ◌≡◌, arith}
 
 -- the text of f goes before what stands after it
 abbrev Appends : (List ℕ → List ℕ) → Type 0

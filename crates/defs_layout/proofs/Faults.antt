@@ -1,5 +1,5 @@
 -- A tree that has a JSON text has no node that has none.
-use Rattle.defs_layout.proofs.Common.{alias, AllHaveJson, and_from, ap, are_strings, AreMembers, bad_value, boolean, first_fault, first_item_fault, first_member_fault, first_of, has_other_key, HasJson, here, if◌then◌else◌, index, integer, is_no_number, is_string, IsKey, item, Items, no_items, no_pairs, None, null, pair, Pairs, real, refl, step_of, string, Tree, true, ℕ, ◌+◌, ◌∙◌, ◌≡◌, arith}
+use Rattle.defs_layout.proofs.Common.{alias, AllHaveJson, and_from, ap, are_strings, AreMembers, bad_value, first_fault, first_item_fault, first_member_fault, first_of, has_other_key, HasJson, here, if◌then◌else◌, index, is_no_number, item, Items, no_items, no_pairs, None, pair, Pairs, real, refl, step_of, Tree, true, ℕ, ◌+◌, ◌∙◌, ◌≡◌, arith}
 use Rattle.defs_tree.specs.Tree.{array, hash}
 use Rattle.defs_layout.specs.Fault.{below}
 

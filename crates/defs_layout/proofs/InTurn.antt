@@ -1,5 +1,5 @@
 -- A basic layout is a layout of its one tree, and basic layouts one after another, an LF after each, are a layout of their trees.
-use Rattle.defs_layout.proofs.Common.{[], ap, AreBasicDocuments, AreDocuments, AreEmptyLines, Bool, codes, comment_line, Document, document, Documents, empty_line, false, GapLine, IsAfterRoot, IsBasicLayout, IsBasicRoot, IsGap, last_document, List, refl, Root, root_tree, spell_document, spell_documents, spell_ending, spell_gap, spell_mark, sym, Tree, trees_of, true, true≢false, ℕ, ◌++◌, ◌∙◌, ◌∷◌, ◌≡◌, arith}
+use Rattle.defs_layout.proofs.Common.{[], ap, AreDocuments, AreEmptyLines, codes, comment_line, Document, document, Documents, empty_line, GapLine, IsBasicLayout, IsBasicRoot, IsGap, last_document, List, refl, root_tree, spell_document, spell_documents, spell_ending, spell_gap, sym, Tree, trees_of, true, ℕ, ◌++◌, ◌∙◌, ◌∷◌, ◌≡◌, arith}
 use Rattle.defs_layout.specs.InTurn.{AreLaidOutInTurn}
 use Rattle.defs_layout.specs.Laws.{BasicLayoutsAreLayouts, LayoutsInTurnAreLayouts}
 use Rattle.defs_layout.proofs.Appended.{document_append}
@@ -59,7 +59,7 @@ in_turn t [] text (first, others, laid, none, whole) =
     let o = one t first laid in
     record {
       written = last_document o.written (o.after ++ empty_line ∷ []);
-      are = (o.is.0, o.is.1, (grind (arith, ended_gap, ended_lines)));
+      are = (o.is.0, o.is.1, grind (arith, ended_gap, ended_lines));
       spelt =
           ap (λ x. codes "---\n" ++ spell_document o.written x) (ending_text o.after) ∙ document_append o.written o.after o.basic [] (10 ∷ [])
           ∙ ap (λ x. x ++ 10 ∷ []) o.spelt ∙ ap (λ x. first ++ 10 ∷ x) (sym none) ∙ whole;

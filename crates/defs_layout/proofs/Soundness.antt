@@ -1,5 +1,5 @@
 -- The trees of JSON texts and of layouts are sound.
-use Rattle.defs_layout.proofs.Common.{[], Anchor, ap, AreDistinct, AreElements, begun, Bool, bytes_eq, cond, element, Elements, ended, exponent, false, fits_i64, fraction, integer_value, is_some, IsJson, IsJsonText, Items, items, Json, last_element, last_member, last_tree, List, member, Members, no_exponent, no_fraction, None, Number, number, number_tree, Option, pair_list, pair_list_of, Pairs, pairs_of, refl, Some, sym, Tree, tree_of, true, true≢false, unwrap_or, with_end, ℕ, ℤ, ◌∙◌, ◌∷◌, ◌≡◌, arith}
+use Rattle.defs_layout.proofs.Common.{[], Anchor, ap, AreDistinct, AreElements, begun, Bool, cond, element, Elements, ended, false, fits_i64, is_some, IsJson, IsJsonText, Items, items, Json, last_element, last_member, last_tree, List, member, Members, number, Option, pair_list, Pairs, pairs_of, refl, Some, sym, Tree, tree_of, true, true≢false, unwrap_or, with_end, ℕ, ℤ, ◌∙◌, ◌∷◌, ◌≡◌, arith}
 use Rattle.defs_tree.proofs.OverlayLaws.{list_of_pairs}
 use Rattle.defs_tree.specs.Valid.{AllDistinct, AllPairsDistinct, AllFitI64, AllPairsFitI64}
 use Rattle.defs_layout.specs.Json.{AreMembers}

@@ -1,7 +1,7 @@
 -- No line of a box holds a line feed.
 use Rattle.std.specs.Fmt.{signed_decimal as decimal_digits}
-use Rattle.defs_tree.proofs.Common.{[], alias, AllDigits, AllFitI64, AllHaveText, AllPairsFitI64, AllPairsHaveText, and_from, and_parts, ap, arith, array, bad_value, Bool, boolean, boolean_spelling, codes, decimal, decimal_is_IsNumeral, digit_from_value, double_quoted, eqb-true, escaped_code, false, false_from_ne_true, fits_i64, FitsI64, hash, HasText, hexadecimal_digit, if◌then◌else◌, integer, is_literal_text, is_quoted, is_root_literal, is_scalar, is_unbroken, is_unfit_for_plain, item, Items, lines_of, List, list_all, list_any, literal_header, ltb-true, nat_lt, ne_eqb, negsuc, no_items, no_pairs, not, not_from_false, null, or_parts, pair, Pairs, pos, real, refl, spelling, string, string_spelling, suc, sym, Tree, true, true≢false, written_character, written_escapes, ℕ, ℤ, ◌%◌, ◌&&◌, ◌++◌, ◌+◌, ◌/◌, ◌<◌, ◌==◌, ◌^◌, ◌||◌, ◌∙◌, ◌∷◌, ◌≡◌, ◌≤◌}
-use Rattle.defs_tree.specs.Box.{indented, hung, hung_lower, placed, if_none, is_block, literal_box, string_box, pair_box, box, item_boxes, pair_boxes}
+use Rattle.defs_tree.proofs.Common.{[], AllDigits, AllFitI64, AllHaveText, AllPairsFitI64, AllPairsHaveText, and_from, and_parts, ap, arith, array, Bool, boolean, boolean_spelling, codes, decimal, decimal_is_IsNumeral, double_quoted, eqb-true, escaped_code, false, false_from_ne_true, fits_i64, FitsI64, hash, HasText, hexadecimal_digit, if◌then◌else◌, integer, is_quoted, is_unbroken, is_unfit_for_plain, item, Items, List, list_all, list_any, ltb-true, negsuc, no_items, no_pairs, not, not_from_false, or_parts, pair, Pairs, pos, real, refl, spelling, string, string_spelling, suc, sym, Tree, true, true≢false, written_character, written_escapes, ℕ, ℤ, ◌++◌, ◌+◌, ◌<◌, ◌==◌, ◌^◌, ◌∙◌, ◌∷◌, ◌≡◌}
+use Rattle.defs_tree.specs.Box.{indented, placed, if_none, string_box, pair_box, box, item_boxes, pair_boxes}
 use Rattle.defs_tree.proofs.GrammarLaws.{list_all-more}
 use Rattle.defs_tree.proofs.LinesLaws.{lines_of_unbroken}
 use Rattle.defs_tree.proofs.RealTexts.{is_real_character, real_text-characters}

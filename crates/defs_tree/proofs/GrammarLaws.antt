@@ -1,5 +1,5 @@
 -- How the marks of a grammar go together: equations on `followed_by`, by which a text is read from left to right.
-use Rattle.defs_tree.proofs.Common.{[], and_from, and_parts, any_number, ap, at_least_one, Bool, false, followed_by, if◌then◌else◌, inl, inr, is_empty, IsSplit, List, list_all, not, one, optional, or_cases, or_left, or_right, refl, subst, sym, true, ℕ, ◌&&◌, ◌++◌, ◌||◌, ◌∙◌, ◌∷◌, ◌≡◌, ◌⊎◌, arith}
+use Rattle.defs_tree.proofs.Common.{[], and_from, and_parts, any_number, ap, at_least_one, Bool, false, followed_by, if◌then◌else◌, inl, inr, is_empty, IsSplit, List, list_all, not, one, optional, or_cases, or_left, or_right, refl, subst, true, ℕ, ◌&&◌, ◌++◌, ◌||◌, ◌∙◌, ◌∷◌, ◌≡◌, ◌⊎◌, arith}
 
 pub or-false : (x : Bool) → (x || false) ≡ x
 or-false a = grind arith

@@ -1,6 +1,5 @@
 -- The lines of a text make the text, and are those of std's `lines`.
-use Rattle.defs_tree.proofs.Common.{[], and_parts, ap, arith, Bool, cases_eq, codes, cond, drop, ended, ends_with, false, if◌then◌else◌, inl, inr, is_empty, is_unbroken, length, lines, lines_of, lines_of_parts, List, list_all, nat_eq, ne_eqb, not, not-true, onto_first, onto_first_line, refl, slice_index, slice_split, strip_carriage_return, subst, suc, sym, take, true, zero, ℕ, ◌&&◌, ◌++◌, ◌-◌, ◌==◌, ◌||◌, ◌∙◌, ◌∷◌, ◌≡◌, ◌⊎◌}
-use lib.Pointwise.{pointwise}
+use Rattle.defs_tree.proofs.Common.{[], and_parts, ap, arith, Bool, codes, ended, ends_with, false, if◌then◌else◌, is_empty, is_unbroken, length, lines, lines_of, lines_of_parts, List, list_all, nat_eq, ne_eqb, not, not-true, onto_first, onto_first_line, refl, slice_index, slice_split, suc, sym, true, zero, ℕ, ◌++◌, ◌-◌, ◌==◌, ◌||◌, ◌∙◌, ◌∷◌, ◌≡◌}
 
 -- ---- the last character
 

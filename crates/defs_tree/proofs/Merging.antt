@@ -1,5 +1,5 @@
 -- What merges do to a tree.
-use Rattle.defs_tree.proofs.Common.{[], AllDistinct, AllLackMergeKeys, AllPairsDistinct, ap, append-nil, append_assoc, AreDistinct, array, Bool, brought, cond, false, has_key, hash, is_some, IsDistinct, item, Items, items_of, Lacks, LacksMergeKeys, List, list_of, lookup, merge_key, merged, merged_items, merged_pairs, merged_values, no_items, no_pairs, None, Option, option_or, pair, pair_list_of, Pairs, pairs_of, pairs_of_mappings, refl, Some, subst, sym, Tree, tree_eq, true, true≢false, ValuesLackMergeKeys, with_new_pair, with_new_pairs, without, ◌++◌, ◌∙◌, ◌∷◌, ◌≡◌, ◌≢◌, arith}
+use Rattle.defs_tree.proofs.Common.{[], AllDistinct, AllLackMergeKeys, AllPairsDistinct, ap, append-nil, append_assoc, AreDistinct, array, Bool, brought, cond, false, has_key, hash, IsDistinct, item, Items, items_of, Lacks, LacksMergeKeys, List, list_of, lookup, merge_key, merged, merged_items, merged_pairs, merged_values, no_items, no_pairs, None, Option, option_or, pair, pair_list_of, Pairs, pairs_of, pairs_of_mappings, refl, Some, subst, sym, Tree, true, ValuesLackMergeKeys, with_new_pair, with_new_pairs, without, ◌++◌, ◌∙◌, ◌∷◌, ◌≡◌, ◌≢◌, arith}
 use Rattle.defs_tree.proofs.OrderLaws.{tree_eq_decides}
 use Rattle.defs_tree.proofs.OverlayLaws.{Each, EachDistinct, EachDistinct-list, EachDistinct-pairs, each_append, each_lookup, list_of_pairs}
 use Rattle.defs_tree.proofs.PairsLaws.{tree_eq-other, AreDistinct-append, AreDistinct-without, Lacks-itself, lookup-without_other}

@@ -1,11 +1,11 @@
 -- The order of trees is total, and two trees that tie are one tree.
 use Rattle.std.specs.declared.cmp.Ordering.{Ordering}
-use Rattle.std.specs.Ordering.{ordering_then, nat_cmp, int_cmp, bool_cmp, is_eq}
+use Rattle.std.specs.Ordering.{ordering_then, nat_cmp, int_cmp, is_eq}
 use Rattle.std.specs.Cmp.{IsTotalOrder, IsEquivalence}
 use Rattle.std.specs.Cmp.Lexicographic.{slice_cmp}
-use Rattle.std.proofs.lemmas.Cmp.{ranked, int_ranked, int_cmp_total, lists_total, on_total, then_total, tied_itself, eq_by_cmp_equiv}
+use Rattle.std.proofs.lemmas.Cmp.{ranked, int_ranked, int_cmp_total, lists_total, on_total, then_total, eq_by_cmp_equiv}
 use Rattle.std.proofs.lemmas.Map.Text.{is_eq-slice_cmp}
-use Rattle.defs_tree.proofs.Common.{[], alias, ap, arith, array, bad_value, Bool, boolean, bytes_eq-Decides, Decides, Equal, false, Greater, hash, integer, item, Items, items_cmp, Less, List, nat_tests, no_items, no_pairs, null, pair, Pairs, pairs_cmp, pos, real, refl, string, subst, suc, sym, Tree, tree_cmp, tree_eq, true, ℕ, ℤ, ◌∙◌, ◌∷◌, ◌≡◌}
+use Rattle.defs_tree.proofs.Common.{[], alias, ap, arith, array, bad_value, Bool, boolean, bytes_eq-Decides, Decides, Equal, false, hash, integer, item, Items, items_cmp, List, nat_tests, no_items, no_pairs, null, pair, Pairs, pairs_cmp, pos, real, refl, string, subst, suc, sym, Tree, tree_cmp, tree_eq, true, ℕ, ℤ, ◌∙◌, ◌∷◌, ◌≡◌}
 use Rattle.defs_tree.specs.Lists.{pair_cmp, list_cmp, pair_list_cmp}
 
 -- ---- a tree as a list of numbers, whose order is the tree's

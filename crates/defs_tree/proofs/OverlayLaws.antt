@@ -1,5 +1,5 @@
 -- Laid over one another, trees with distinct keys have distinct keys.
-use Rattle.defs_tree.proofs.Common.{[], AllPairsDistinct, ap, AreDistinct, Bool, cond, false, has_key, hash, is_some, IsDistinct, Lacks, List, lookup, new_pairs, no_pairs, None, not, Option, option_map_or, overlay, pair, pair_list_of, Pairs, pairs_of, pairs_under, refl, Some, subst, sym, Tree, tree_eq, true, true≢false, ◌++◌, ◌∙◌, ◌∷◌, ◌≡◌, arith}
+use Rattle.defs_tree.proofs.Common.{[], AllPairsDistinct, ap, AreDistinct, cond, has_key, hash, is_some, IsDistinct, Lacks, List, lookup, new_pairs, no_pairs, Option, option_map_or, overlay, pair, pair_list_of, Pairs, pairs_of, pairs_under, refl, Some, Tree, true, ◌++◌, ◌∷◌, ◌≡◌, arith}
 use Rattle.defs_tree.proofs.PairsLaws.{tree_eq-itself}
 use Rattle.defs_tree.proofs.TypingLaws.{OfSome}
 

@@ -1,5 +1,5 @@
 -- What inserting does to a list of pairs.
-use Rattle.defs_tree.proofs.Common.{[], ap, AreDistinct, Bool, cond, false, false_from_ne_true, filter, insert, Lacks, List, lookup, None, not, refl, Some, subst, sym, Tree, tree_eq, true, true≢false, without, ◌++◌, ◌∙◌, ◌∷◌, ◌≡◌, ◌≢◌, arith}
+use Rattle.defs_tree.proofs.Common.{[], ap, AreDistinct, cond, false, false_from_ne_true, filter, insert, Lacks, List, lookup, None, not, refl, Some, sym, Tree, tree_eq, true, without, ◌++◌, ◌∙◌, ◌∷◌, ◌≡◌, ◌≢◌, arith}
 use Rattle.defs_tree.proofs.OrderLaws.{tree_eq_decides}
 
 pub tree_eq-itself : (t : Tree) → tree_eq t t ≡ true

@@ -1,7 +1,7 @@
 -- A signed number is what std's `parse` and `from_str_radix` read at 64 bits, from the bytes of the text. For code that calls them.
 use Rattle.std.specs.Int.{w64}
 use Rattle.std.proofs.lemmas.Str.{chars-IsAscii, encodes-IsAscii, encodes-chars}
-use Rattle.defs_tree.proofs.Common.{[], AllDigits, and_from, and_parts, ap, arith, at_least_one, Bool, cases_eq, chars, digit_value, digits_value, Err, false, fits_i64, FitsSigned, if◌then◌else◌, inl, inr, is_digit, is_empty, IsAscii, IsNumeral, IsUtf8, List, list_all, lt-ltb, ltb-true, MatchResult, nat_lt, nat_tests, ne_eqb, neg_ℤ, negsuc, None, not, Ok, Option, option_and_then, option_map, ParsesSigned, pos, refl, Result, signed_digits_value, signed_number, Some, subst, suc, sym, true, true≢false, with_sign, without_leading_sign, zero, ℕ, ℤ, ◌<◌, ◌^◌, ◌∙◌, ◌∷◌, ◌≡◌, ◌≢◌, ◌≤◌, ◌⊎◌}
+use Rattle.defs_tree.proofs.Common.{[], AllDigits, and_from, and_parts, ap, arith, at_least_one, Bool, chars, digit_value, Err, false, fits_i64, FitsSigned, if◌then◌else◌, is_digit, IsAscii, IsUtf8, List, list_all, lt-ltb, ltb-true, MatchResult, nat_lt, nat_tests, None, Ok, Option, option_and_then, option_map, ParsesSigned, refl, Result, signed_digits_value, signed_number, Some, suc, sym, true, true≢false, with_sign, without_leading_sign, zero, ℕ, ℤ, ◌∙◌, ◌∷◌, ◌≡◌, ◌≢◌, ◌≤◌}
 
 -- ---- numerals
 

@@ -1,5 +1,5 @@
 -- Where a key's pair stands in a list of pairs, and what that says of the list. For code that searches.
-use Rattle.defs_tree.proofs.Common.{[], ap, AreDistinct, arith, Bool, cond, false, inl, inr, Lacks, length, List, lookup, None, Option, option_and_then, option_map, place_of, refl, Some, subst, suc, sym, Tree, tree_eq, true, value_at, with_value, with_value_at, without, zero, ℕ, ◌<◌, ◌∙◌, ◌∷◌, ◌≡◌, ◌⊎◌}
+use Rattle.defs_tree.proofs.Common.{[], ap, AreDistinct, arith, cond, false, inl, inr, Lacks, length, List, lookup, None, Option, option_and_then, place_of, refl, Some, subst, suc, sym, Tree, tree_eq, true, value_at, with_value, with_value_at, without, zero, ℕ, ◌<◌, ◌∙◌, ◌∷◌, ◌≡◌, ◌⊎◌}
 
 -- a place of the key: within the list, with the key's value
 pub record IsPlaceOf (k : Tree) (us : List (Tree × Tree)) (i : ℕ) : Type 0 where

@@ -1,6 +1,6 @@
 -- The spelling of a scalar, where it is plain, stands for that scalar.
 use Rattle.std.specs.Fmt.{signed_decimal as decimal_digits}
-use Rattle.defs_tree.proofs.Common.{[], after_prefix, alias, AllDigits, and_left, and_parts, ap, arith, array, bad_value, Bool, boolean, bytes_eq, cond-false, decimal, decimal_is_IsNumeral, digit_from_value, digit_value, digits_value, false, false_words, fits_i64, hash, if◌then◌else◌, integer, is_among, is_decimal, is_digit, is_quoted, is_string, IsNumeral, IsSpeltPlain, List, list_all, lt-ltb, ltb-true, nat_lt, ne_eqb, negsuc, None, not, not-false, not-true, null, null_words, number, option_and_then, or_from, or_parts, pos, real, refl, signed_decimal, Some, spelling, string, suc, sym, Tree, true, true_words, typing, ℕ, ℤ, ◌&&◌, ◌<◌, ◌==◌, ◌^◌, ◌∙◌, ◌∷◌, ◌≡◌, ◌≢◌, ◌≤◌, nat_tests, eqb-true}
+use Rattle.defs_tree.proofs.Common.{[], after_prefix, AllDigits, and_parts, ap, arith, Bool, decimal, decimal_is_IsNumeral, digit_from_value, digits_value, false, fits_i64, if◌then◌else◌, integer, is_among, is_decimal, is_quoted, is_string, IsNumeral, IsSpeltPlain, List, list_all, lt-ltb, ltb-true, nat_lt, ne_eqb, negsuc, None, not, not-false, not-true, number, option_and_then, or_parts, pos, refl, signed_decimal, Some, spelling, string, suc, sym, Tree, true, typing, ℕ, ℤ, ◌<◌, ◌^◌, ◌∷◌, ◌≡◌, ◌≢◌, ◌≤◌, nat_tests, eqb-true}
 use Rattle.defs_tree.proofs.Parsing.{all_digits-to}
 use Rattle.defs_tree.proofs.TypingLaws.{typing-real, typing-string}
 

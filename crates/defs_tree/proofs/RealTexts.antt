@@ -1,5 +1,5 @@
 -- The characters of a text that stands for a real: it isn't empty, and it has no blank, no break and no indicator but signs.
-use Rattle.defs_tree.proofs.Common.{[], and_parts, any_number, arith, at_least_one, Bool, bytes_eq, bytes_eq-Decides, codes, false, in_order, inl, inr, is_among, is_ascii_digit, is_decimal, is_empty, is_exponent, is_exponent_mark, is_in, is_mantissa, is_point, is_real_text, is_sign, List, list_all, nat_tests, one, one_of, optional, or_cases, or_left, refl, special_words, subst, true, typing, ℕ, ◌||◌, ◌∷◌, ◌≡◌, ◌⊎◌}
+use Rattle.defs_tree.proofs.Common.{[], and_parts, any_number, arith, at_least_one, Bool, bytes_eq-Decides, codes, false, in_order, inl, inr, is_among, is_ascii_digit, is_decimal, is_empty, is_exponent, is_exponent_mark, is_in, is_mantissa, is_point, is_real_text, is_sign, List, list_all, nat_tests, one, one_of, optional, or_cases, or_left, refl, special_words, true, typing, ℕ, ◌||◌, ◌∷◌, ◌≡◌, ◌⊎◌}
 use Rattle.defs_tree.proofs.GrammarLaws.{IsWithin, IsWithin-followed_by, IsWithin-empty, IsWithin-one, IsWithin-any_number, IsWithin-at_least_one, IsWithin-optional, IsWithin-or, IsWithin-none}
 use Rattle.defs_tree.proofs.TypingLaws.{real_text-cases}
 

@@ -1,5 +1,5 @@
 -- What typing gives, and that a plain spelling stands for its scalar.
-use Rattle.defs_tree.proofs.Common.{[], after_prefix, alias, and_parts, ap, array, bad_value, Bool, boolean, by_rows, codes, false, false_words, fits_i64, hash, if◌then◌else◌, inl, inr, integer, is_among, is_decimal, is_none, is_real, is_real_text, is_string, IsTrue, List, list_all, MayStandFor, None, null, null_words, Option, option_and_then, option_map, real, refl, rows, signed_decimal, signed_number, Some, special_words, string, sym, Tree, true, true_words, true≢false, typing, unwrap_or, where_true, with_sign, ℕ, ℤ, ◌&&◌, ◌∙◌, ◌∷◌, ◌≡◌, ◌⊎◌, arith}
+use Rattle.defs_tree.proofs.Common.{[], and_parts, Bool, boolean, by_rows, false, fits_i64, inl, inr, integer, is_among, is_decimal, is_none, is_real, is_real_text, is_string, IsTrue, List, list_all, MayStandFor, None, null, Option, option_and_then, option_map, real, refl, rows, signed_number, Some, special_words, string, Tree, true, typing, unwrap_or, where_true, ℕ, ℤ, ◌∷◌, ◌≡◌, ◌⊎◌, arith}
 
 -- a fact of what a row gives, where it gives something
 abbrev pub OfSome : {A : Type 0} → (A → Type 0) → Option A → Type 0

@@ -1,5 +1,5 @@
 -- Without merge keys there is nothing that cannot be merged.
-use Rattle.defs_tree.proofs.Common.{AllLackMergeKeys, any_node, ap, array, below, first_fault, first_item_fault, first_pair_fault, hash, if◌then◌else◌, index, item, Items, Lacks, LacksMergeKeys, mappings, merge_key, no_items, no_pairs, None, option_or, pair, pair_list_of, Pairs, refl, step_to, Tree, ValuesLackMergeKeys, wanted_at, ℕ, ◌+◌, ◌∙◌, ◌≡◌, ◌≢◌, arith}
+use Rattle.defs_tree.proofs.Common.{AllLackMergeKeys, any_node, ap, array, below, first_fault, first_item_fault, first_pair_fault, hash, index, item, Items, Lacks, LacksMergeKeys, merge_key, no_items, no_pairs, None, option_or, pair, pair_list_of, Pairs, refl, Tree, ValuesLackMergeKeys, ℕ, ◌+◌, ◌∙◌, ◌≡◌, arith}
 use Rattle.defs_tree.proofs.PairsLaws.{tree_eq-other}
 
 mutual

@@ -1,5 +1,5 @@
 -- What is known of a string that is written as it stands.
-use Rattle.defs_tree.proofs.Common.{begins_with, codes, false, has_indicator_first, has_outer_space, is_among, is_empty, is_float_word, is_quoted, is_string, is_unfit_for_plain, List, list_any, not, or_parts, reserved_words, string, typing, ℕ, ◌≡◌, arith}
+use Rattle.defs_tree.proofs.Common.{begins_with, codes, false, has_indicator_first, has_outer_space, is_among, is_empty, is_float_word, is_quoted, is_unfit_for_plain, List, list_any, or_parts, reserved_words, string, typing, ℕ, ◌≡◌, arith}
 use Rattle.defs_tree.proofs.ReadBack.{string_back}
 
 pub record IsUnquoted (s : List ℕ) : Type 0 where

@@ -1,8 +1,7 @@
 -- Like accounts stay like over a step with the same text; and where they are equal after it, they were, and so were the steps.
-use Rattle.proof_row.proofs.Common.{[], account_past, act_of, ap, begins_free_line, begun_by, Bool, Entry, false, filled, free, fresh, Had, has_break, have_no_key, is_in_column, is_in_flow, is_keyed, is_renewed, is_waiting, Line, List, may_end, may_stand, None, not, on_one_line, Option, Outside, past_inside, past_outside, past_piece, past_site, refl, settled, Site, site_at, site_past, Some, Step, subst, taken, Tok, true, waits, ℕ, ◌&&◌, ◌∙◌, ◌∷◌, ◌≡◌, arith}
-use Rattle.defs_token.specs.FlowEntry.{Had.waits as had_waits}
+use Rattle.proof_row.proofs.Common.{[], account_past, act_of, begins_free_line, begun_by, Bool, Entry, have_no_key, is_in_flow, is_renewed, Line, List, may_end, may_stand, None, on_one_line, Option, past_inside, past_piece, past_site, refl, Site, site_at, Some, Step, subst, Tok, true, ℕ, ◌∷◌, ◌≡◌, arith}
 use Rattle.defs_token.specs.RowAccount.{Account}
-use Rattle.proof_row.proofs.Like.{LikeLine, LikeHad, LikeEntries, IsLike, LikeOutside, entries_themselves, Stepped, none_second, weaker, unless, where_both, both, same_entry}
+use Rattle.proof_row.proofs.Like.{LikeLine, LikeEntries, IsLike, Stepped, weaker, where_both, both, same_entry}
 use Rattle.proof_row.proofs.RowLines.{separation_step, line_step}
 use Rattle.proof_row.proofs.Entries.{entries_step}
 use Rattle.std.proofs.lemmas.Bool.{and_parts}
@@ -17,7 +16,7 @@ piece_step : (s : Site) (p : List ℕ) (t : Tok) (next : List ℕ) (again b c : 
     LikeEntries ds es → Stepped LikeLine Were x y →
     Stepped IsLike (Were × (ds ≡ es) × (b ≡ c)) (past_piece s p t next again b x ds) (past_piece s p t next again c y es)
 piece_step s p t next again b c Were None y ds es j h = tt
-piece_step s p t next again b c Were (Some l) None ds es j h = none_second IsLike (Were × (ds ≡ es) × (b ≡ c)) (past_piece s p t next again b (Some l) ds)
+piece_step s p t next again b c Were (Some l) None ds es j h = grind arith
 piece_step s p t next again b c Were (Some l) (Some m) [] [] j h = grind (arith, weaker, line_step)
 piece_step s p t next again b c Were (Some l) (Some m) (d ∷ ds) (e ∷ es) j h =
     weaker IsLike ((l ≡ m) × ((d ∷ ds ≡ e ∷ es) × (b ≡ c))) (Were × (d ∷ ds ≡ e ∷ es) × (b ≡ c)) _ _ (λ k. (h.1 k.0, k.1.0, k.1.1))
@@ -36,18 +35,12 @@ With w key = record { separation = w.separation; piece = w.piece; shown = w.show
 pub same_flow : (ds es : List Entry) → LikeEntries ds es → is_in_flow ds ≡ is_in_flow es
 same_flow a b j = grind arith
 
-same_account : (a b : Account) → a.site ≡ b.site → a.line ≡ b.line → a.entries ≡ b.entries → a ≡ b
-same_account a b s l es = grind arith
-
-same_step : (w v : Step) → w.separation ≡ v.separation → w.piece ≡ v.piece → w.shown ≡ v.shown → w.key ≡ v.key → w ≡ v
-same_step w v f p t k = grind arith
-
 -- Two like accounts are like again after steps with the same text, and where they are equal then, they were, and so were the steps.
 pub account_step : (a b : Account) (w v : Step) (x y : List ℕ) → IsLike a b → w.separation ≡ v.separation → w.piece ≡ v.piece → w.shown ≡ v.shown → x ≡ y →
     Stepped IsLike ((a ≡ b) × (w ≡ v)) (account_past a w x) (account_past b v y)
 account_step a b w v x y i f p t n =
     let Were : Type 0 = (a.line ≡ b.line) × (a.entries ≡ b.entries) × (w.key ≡ v.key) in
-    let moved : w ≡ With v w.key = same_step w (With v w.key) f p t refl in
+    let moved : w ≡ With v w.key = (grind arith) in
     let first : Option Account = account_past a w x in
     let T : Bool → Site → Step → List ℕ → Type 0 = λ fl s u z. Stepped IsLike Were first
     (past_site fl s (site_at fl s u.separation u.piece u.shown z) (With u v.key) z b.line b.entries) in
@@ -60,7 +53,7 @@ account_step a b w v x y i f p t n =
     let steps : T (is_in_flow b.entries) b.site (With v w.key) x = subst (λ z. T (is_in_flow b.entries) b.site z x) moved sites in
     let texts : T (is_in_flow b.entries) b.site (With v w.key) y = subst (λ z. T (is_in_flow b.entries) b.site (With v w.key) z) n steps in
     weaker IsLike Were ((a ≡ b) × (w ≡ v)) (account_past a w x) (account_past b v y)
-    (λ h. (same_account a b i.0 h.0 h.1, same_step w v f p t h.2)) texts
+    (λ h. ((grind arith), grind arith)) texts
 
 -- ---- the text's end
 
@@ -72,4 +65,4 @@ same_entries (d ∷ ds) [] i h k = absurd i
 
 -- Like accounts at which a text may end are equal.
 pub same_at_end : (a b : Account) → IsLike a b → may_end a ≡ true → may_end b ≡ true → a ≡ b
-same_at_end a b i h k = grind (arith, and_parts, same_account, same_entries)
+same_at_end a b i h k = grind (arith, and_parts, same_entries)

@@ -1,7 +1,6 @@
 -- The text says which kind of piece begins.
-use Rattle.proof_row.proofs.Common.{[], Account, after, after_mark, alias, alias_name, anchor, anchor_name, ap, are_marks, begins_flow, begins_plain, begins_with_space_or_break, block_end, block_entry, block_mapping_start, block_read, block_scalar, block_sequence_start, BlockRead, BlockStyle, Bool, codes, collection_column, colon, comma, dash, dashes, Directive, directive_by, directive_line, directive_of, document_end, document_start, dots, double_quoted, ends_separation, eqb-true, false, flow_entry, flow_mapping_end, flow_mapping_start, flow_sequence_end, flow_sequence_start, folded, has_no_break, Holds, if◌then◌else◌, in_double_quotes, in_single_quotes, inl, inr, is_adjacent, is_alpha, is_at_gap, is_at_line_end, is_blank, is_blank_or_end, is_break, is_document_marker, is_flow, is_nul, is_value_indicator, is_whole_plain, IsDirective, IsDoubleQuoted, IsNamed, IsPiece, IsSingleQuoted, key, Kind, kind_at, kind_by, kind_of, leading, List, literal, mapping_closing, mapping_opening, may_begin, None, not, nothing, Option, plain, plain_scalar, plain_value, Position, question, refl, reserved, scalar, SeparationsEndBeforePieces, sequence_closing, sequence_opening, single_quoted, Some, stream_end, stream_start, subst, sym, Tag, tag, tag_declaration, tag_directive, tag_text, TextsBeginWithOneKind, Tok, true, value, version, version_directive, written_tag, ℕ, ◌&&◌, ◌++◌, ◌==◌, ◌||◌, ◌∙◌, ◌∷◌, ◌≡◌, ◌≢◌, ◌⊎◌, arith, nat_tests}
+use Rattle.proof_row.proofs.Common.{[], Account, alias, alias_name, anchor, anchor_name, ap, are_marks, begins_flow, begins_plain, begins_with_space_or_break, block_entry, block_read, block_scalar, BlockRead, BlockStyle, Bool, codes, collection_column, colon, comma, dash, dashes, Directive, directive_line, directive_of, document_end, document_start, dots, double_quoted, ends_separation, eqb-true, false, flow_entry, flow_mapping_end, flow_mapping_start, flow_sequence_end, flow_sequence_start, folded, has_no_break, Holds, in_double_quotes, in_single_quotes, is_adjacent, is_at_gap, is_at_line_end, is_blank, is_blank_or_end, is_break, is_flow, is_nul, is_value_indicator, is_whole_plain, IsDoubleQuoted, IsNamed, IsPiece, IsSingleQuoted, key, Kind, kind_at, kind_by, kind_of, List, literal, mapping_closing, mapping_opening, not, nothing, Option, plain, plain_scalar, plain_value, Position, question, refl, reserved, scalar, SeparationsEndBeforePieces, sequence_closing, sequence_opening, single_quoted, Some, subst, sym, Tag, tag, tag_declaration, tag_directive, tag_text, TextsBeginWithOneKind, Tok, true, value, version, version_directive, written_tag, ℕ, ◌&&◌, ◌++◌, ◌||◌, ◌∙◌, ◌∷◌, ◌≡◌, ◌≢◌, arith, nat_tests}
 use Rattle.defs_token.specs.Account.{is_in_flow}
-use Rattle.proof_row.proofs.Runs.{joined}
 use Rattle.proof_row.proofs.TagEnds.{mark_is_first}
 use Rattle.proof_row.proofs.Blocks.{begins_block, block_begins}
 use Rattle.proof_row.proofs.Texts.{gaps}
@@ -74,9 +73,6 @@ space_is_gap : (x : List ℕ) → begins_with_space_or_break x ≡ true → is_a
 unfolding is_blank_or_end is_blank
 space_is_gap a h = grind arith
 
-dash_kind : (x : List ℕ) → is_at_gap x ≡ true → kind_by 45 x ≡ dash
-dash_kind x h = rw h refl
-
 pub directive_begins : (p : List ℕ) (d : Directive) → directive_of p ≡ Some d → (r : List ℕ) × (p ≡ 37 ∷ r)
 unfolding directive_of
 directive_begins a d e = grind arith
@@ -107,14 +103,11 @@ known a p r x k e h = subst (λ z. IsThere a (z ++ x) k) (sym e) h
 block_there : (a : Context) (p x : List ℕ) → a.in_flow ≡ false → begins_block p ≡ true → IsThere a (p ++ x) block_scalar
 block_there a b x o h = grind (arith, there, unplain, eqb-true)
 
-plain_there : (a : Context) (p x text : List ℕ) → IsPlainIn a p x text → IsThere a (p ++ x) plain_scalar
-plain_there a b x text h = grind arith
-
 -- the text at a piece says the piece's kind
 pub kind_there : (k : Kind) (a : Context) (p x : List ℕ) (t : Tok) → Whole k a p x t → IsThere a (p ++ x) k
 unfolding is_blank_or_end is_blank is_break is_nul is_flow
 kind_there nothing a p x t h = absurd h
-kind_there plain_scalar a p x t h = plain_there a p x h.0 h.1
+kind_there plain_scalar a p x t h = grind arith
 kind_there sequence_opening a p x t h = known a p (codes "[") x _ h.0 (here a 91 x refl)
 kind_there sequence_closing a p x t h = known a p (codes "]") x _ h.0 (here a 93 x refl)
 kind_there mapping_opening a p x t h = known a p (codes "{") x _ h.0 (here a 123 x refl)
@@ -122,7 +115,7 @@ kind_there mapping_closing a p x t h = known a p (codes "}") x _ h.0 (here a 125
 kind_there comma a p x t h = known a p (codes ",") x _ h.0 (here a 44 x refl)
 kind_there question a p x t h = known a p (codes "?") x _ h.0 (here a 63 x (unplain _ _ (ap not (space_is_gap x h.1))))
 kind_there colon a p x t h = known a p (codes ":") x _ h.0 (here a 58 x (unplain _ _ (ap not h.1)))
-kind_there dash a p x t h = known a p (codes "-") x _ h.0 (here a 45 x (unplain _ _ (unplain _ _ (ap not h.1))) ∙ dash_kind x h.1)
+kind_there dash a p x t h = known a p (codes "-") x _ h.0 (here a 45 x (unplain _ _ (unplain _ _ (ap not h.1))) ∙ (rw h.1 refl))
 kind_there dashes a p x t h = known a p (codes "---") x _ h.0.0 (here a 45 (45 ∷ 45 ∷ x) (marked a 45 x dash_marks h.0.1 h.0.2))
 kind_there dots a p x t h = known a p (codes "...") x _ h.0.0 (here a 46 (46 ∷ 46 ∷ x) (marked a 46 x dot_marks h.0.1 h.0.2))
 kind_there directive_line a p x t h =

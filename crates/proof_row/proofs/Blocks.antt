@@ -1,7 +1,7 @@
 -- A block scalar has one end.
-use Rattle.proof_row.proofs.Common.{[], after_style, all_lines, ap, append-nil, append_assoc, begins_with, block_read, block_value, BlockRead, BlockScalarsHaveOneEnd, body, Bool, column_by, content_column, Ending, eqb-true, false, further_text, has_no_nul, Header, header_of, if◌then◌else◌, inl, inr, is_at_end, is_break, is_further_text, is_nul, is_past, List, None, Option, read_body, read_lines, read_split, refl, Row, row_of, rows_of, Some, Split, split, starts_with_tab, subst, sym, true, value_at_end, value_at_text, value_by, with_value, ℕ, ◌++◌, ◌==◌, ◌||◌, ◌∙◌, ◌∷◌, ◌≡◌, ◌⊎◌, arith}
-use Rattle.defs_text.specs.BlockScalar.{literal, folded, unbroken}
-use Rattle.proof_row.proofs.Runs.{both, untrue, contrary}
+use Rattle.proof_row.proofs.Common.{[], ap, append-nil, append_assoc, begins_with, block_read, BlockRead, BlockScalarsHaveOneEnd, body, Bool, column_by, content_column, Ending, false, further_text, has_no_nul, Header, header_of, if◌then◌else◌, inl, inr, is_at_end, is_break, is_further_text, List, None, Option, read_body, read_lines, read_split, refl, row_of, Some, Split, split, subst, sym, true, value_at_text, value_by, ℕ, ◌++◌, ◌==◌, ◌||◌, ◌∙◌, ◌∷◌, ◌≡◌, ◌⊎◌, arith}
+use Rattle.defs_text.specs.BlockScalar.{unbroken}
+use Rattle.proof_row.proofs.Runs.{both, untrue}
 use Rattle.proof_row.proofs.Splits.{More, splits}
 use Rattle.proof_row.proofs.Texts.{no_nul_after}
 use Rattle.proof_row.proofs.Lines.{of_lines, lines_after, split_append, up_to_break, first_line, line_of, line_is, line_more, no_lines}
@@ -52,10 +52,6 @@ record BeforeText (collection : Option ℕ) (s : Split) (next : List ℕ) : Type
   pub is_header : header_of head ≡ Some header
   pub is_further : is_further_text (column_by header.digit collection lines) next ≡ true
 
-before_text : (collection : Option ℕ) (complete : List (List ℕ)) (last next : List ℕ) (r : BlockRead) → is_at_end next ≡ false → read_lines collection complete last next false ≡ Some r →
-    BeforeText collection (of_lines complete last) next
-before_text collection a last next r i e = grind arith
-
 -- ---- lines after it have no value
 
 no_end : (h : Header) (collection : Option ℕ) (ls zs : List (List ℕ)) (last : List ℕ) → IsBefore (column_by h.digit collection ls) (first_line zs last) →
@@ -92,23 +88,19 @@ longer_lines collection head ls h z y zs last s i j k n c true e f =
 longer_lines collection head ls h z y zs (d ∷ last) s i j k n c false e f = cc f
 longer_lines collection head ls h z y [] [] s i j k n c false e f = n (no_lines z j)
 longer_lines collection head ls h z y (l ∷ zs) [] s i j k n c false e f =
-    let lines : (split z).complete ≡ [] → ⊥ = λ g. absurd (two_lines (sym (ap (λ x. x.complete) j) ∙ g)) in
+    let lines : (split z).complete ≡ [] → ⊥ = λ g. absurd (cc (sym (ap (λ x. x.complete) j) ∙ g)) in
     let first : up_to_break (z ++ y) ≡ l = line_more z lines y ∙ (sym (line_is z) ∙ ap (λ x. first_line (x.complete) (x.last)) j) in
     let b : IsBefore (column_by h.digit collection ls) l = subst (λ l. IsBefore (column_by h.digit collection ls) l) first (further _ _ k) in
     let no_text : value_by h (content_column h collection (ls ++ (l ∷ zs)) further_text) (ls ++ (l ∷ zs)) further_text ≡ None = let column : column_by h.digit collection (ls ++ (l ∷ zs)) ≡ column_by h.digit collection ls = column_same h.digit collection ls l zs b.written b.start in
     let row : row_of (column_by h.digit collection (ls ++ (l ∷ zs))) l ≡ None = ap (λ n. row_of n l) column ∙ b.none in
     ap (λ o. value_at_text h o) (no_rows (column_by h.digit collection (ls ++ (l ∷ zs))) ls l zs row) in
     unread h collection (ls ++ (l ∷ zs)) further_text y s no_text (ap (λ o. read_body o collection (body (ls ++ (l ∷ zs)) further_text) y) (sym i) ∙ f)
-  where
-    two_lines : l ∷ zs ≡ [] → ⊥
-    two_lines g = cc g
-
 -- A block scalar does not go on over further text.
 over : (collection : Option ℕ) (p z y : List ℕ) (r s : BlockRead) → block_read collection p (z ++ y) ≡ Some r → block_read collection (p ++ z) y ≡ Some s → (z ≡ [] → ⊥) → has_no_nul (z ++ y) ≡ true → ⊥
 over collection p z y r s e f n c =
     let goes : is_at_end (z ++ y) ≡ false = not_at_end z y n c in
     let part : BeforeText collection (of_lines ((split p).complete) ((split p).last)) (z ++ y) =
-    before_text collection ((split p).complete) ((split p).last) (z ++ y) r goes (ap (λ b. read_lines collection ((split p).complete) ((split p).last) (z ++ y) b) (sym goes) ∙ e) in
+    (grind arith) in
     let whole : split (p ++ z) ≡ lines_after (part.head ∷ part.lines) (split z) =
     split_append p z (part.head ∷ part.lines) part.is_split (begins_not z y (further_is_no_break (column_by part.header.digit collection part.lines) (z ++ y) part.is_further)) in
     longer_lines collection part.head part.lines part.header z y ((split z).complete) ((split z).last) s part.is_header refl part.is_further n (no_nul_after z y c) (is_at_end y) refl

@@ -1,8 +1,8 @@
 -- A step of a row in a flow collection, as a cut has it: keys, and starts and ends of single pairs, have no piece.
-use Rattle.proof_row.proofs.Common.{[], Account, Act, act_of, ap, asked_pair, Before, begins_pair, begins_with_key_indicator, begun_by, begun_inside, Bool, ends_entry, entries_past, Entry, false, filled, first_entry, flow_entry, flow_mapping_start, FlowKind, fresh, gives_closing, gives_colon, gives_comma, gives_marker, gives_node, gives_question, Had, if◌then◌else◌, inl, inr, key_tokens, Level, levels_past, List, no_pair, None, Option, Pair, pair_end, pair_past, past_separation, Position, put, refl, sequence, settled, single_pair, Some, subst, sym, takes_pair, Tok, Token, true, with_had, ℕ, ◌++◌, ◌==◌, ◌||◌, ◌∙◌, ◌∷◌, ◌≡◌, ◌⊎◌, arith}
+use Rattle.proof_row.proofs.Common.{[], Account, Act, act_of, ap, Before, begins_with_key_indicator, begun_by, begun_inside, Bool, ends_entry, entries_past, Entry, false, filled, flow_mapping_start, FlowKind, fresh, gives_closing, gives_colon, gives_comma, gives_marker, gives_node, gives_question, Had, inl, key_tokens, Level, levels_past, List, None, Option, Pair, pair_end, pair_past, past_separation, Position, refl, settled, Some, sym, takes_pair, Tok, Token, true, ℕ, ◌++◌, ◌||◌, ◌∷◌, ◌≡◌, ◌⊎◌, arith}
 use Rattle.defs_token.specs.FlowEntry.{waits}
 use Rattle.proof_row.proofs.CutPieces.{account_by}
-use Rattle.proof_row.proofs.CutSteps.{is_single, level_in, levels_in, levels_go_on, node_begins, is_comma, is_colon, closing_ends, goes_on}
+use Rattle.proof_row.proofs.CutSteps.{level_in, levels_in}
 use Rattle.proof_row.proofs.Inserted.{past_all, AreEmpty}
 
 -- What comes of a piece in flow: the tokens before the one it shows have no piece, and the cut has the levels of the row.
@@ -43,12 +43,9 @@ Unkeyed here b bs kind pair es = Inner here b bs (entry_by kind pair fresh) es
 -- a key begins, and in a sequence its single pair
 key_enters : (kind : FlowKind) (pair : Pair) (here colon : Position) (b : Before) (bs : List (Option ℕ)) (next : List ℕ) (t : Tok) (c : ℕ) (r : List ℕ) (es : List Entry) → act_of t ≡ gives_node → begins_with_key_indicator (past_separation false next) ≡ false →
     Entered (Unkeyed here b bs kind pair es) (key_tokens (takes_pair kind pair) colon flow_mapping_start here) next t c r es (begun_by t ++ (entry_by kind pair (waits here) ∷ es))
-key_enters kind pair here colon b bs next t c r es a q = grind (arith, in_entry, node_begins)
+key_enters kind pair here colon b bs next t c r es a q = grind (arith, in_entry)
 
 -- ---- `?`, lines for the document, and colons
-
-question_pair : (single : Bool) (pair : Pair) → is_single (pair_past single gives_question pair) ≡ is_single pair
-question_pair a pair = grind arith
 
 -- ---- ends of entries
 
@@ -77,7 +74,7 @@ entered gives_question again key had kind pair here colon own b bs next t c r es
     entry = entry_by kind (pair_past (takes_pair kind pair) gives_question pair) settled
 
     settles : Entered (Unkeyed here b bs kind pair es) [] next t c r es (begun_by t ++ (entry ∷ es))
-    settles = nothing here b bs (entry_by kind pair fresh) entry next t c r es gives_question a (λ h. cc h) (λ h. cc h) (ap (λ z. let l : Level = record { kind = kind; pair = z || false } in l) (sym (question_pair (takes_pair kind pair) pair)))
+    settles = nothing here b bs (entry_by kind pair fresh) entry next t c r es gives_question a (λ h. cc h) (λ h. cc h) (ap (λ z. let l : Level = record { kind = kind; pair = z || false } in l) (sym (grind arith)))
 
     by : (again key : Bool) (had : Had) → EnteredBy (Inner here b bs (entry_by kind pair had) es) (begun_inside (takes_pair kind pair) pair here colon own gives_question key had) next t c r es (entries_past here again gives_question (begun_by t) key (entry_by kind pair had) es)
     by true false fresh = settles
@@ -100,8 +97,8 @@ entered gives_marker again key had kind pair here colon own b bs next t c r es a
     by false false filled = settles
     by false false settled = settles
     by _ _ _ = tt
-entered gives_colon again key had kind pair here colon own b bs next t c r es a q = grind (arith, in_entry, is_colon, nothing)
-entered gives_comma again key had kind pair here colon own b bs next t c r es a q = grind (arith, is_comma, pair_ends)
-entered gives_closing again key had kind pair here colon own b bs next t c r es a q = grind (arith, pair_ends, closing_ends)
+entered gives_colon again key had kind pair here colon own b bs next t c r es a q = grind (arith, in_entry, nothing)
+entered gives_comma again key had kind pair here colon own b bs next t c r es a q = grind (arith, pair_ends)
+entered gives_closing again key had kind pair here colon own b bs next t c r es a q = grind (arith, pair_ends)
 entered _ true key had kind pair here colon own b bs next t c r es a q = tt
 entered _ false key had kind pair here colon own b bs next t c r es a q = tt

@@ -1,7 +1,7 @@
 -- Pieces of a row at the accounts of a cut: other block collections are open there while a key waits, and pairs are open in flow levels.
-use Rattle.proof_row.proofs.Common.{[], Account, act_of, ap, Before, begins_with_key_indicator, begins_with_space_or_break, block_end, block_entry, block_mapping_start, block_sequence_start, Bool, double_quoted, ends_entry, ends_plain, ends_with_content, eqb-true, false, flow_entry, flow_mapping_end, flow_mapping_start, flow_sequence_end, flow_sequence_start, folded, gives_colon, gives_dash, gives_node, gives_question, goes_on, if◌then◌else◌, inl, innermost_column, inr, inside, is_adjacent, is_blank, is_blank_or_end, is_break, is_document_marker, is_nul, is_whole_plain, IsPiece, key, kind_at, kind_of, length, Level, List, literal, not, Option, past, past_separation, plain, plain_scalar, Position, question, refl, scalar, single_quoted, Some, Stand, stops, stream_end, stream_start, subst, sym, Tok, true, value, with_blocks, ℕ, ◌&&◌, ◌++◌, ◌==◌, ◌||◌, ◌∙◌, ◌∷◌, ◌≡◌, ◌⊎◌, arith}
+use Rattle.proof_row.proofs.Common.{Account, act_of, Before, begins_with_key_indicator, begins_with_space_or_break, Bool, ends_entry, ends_plain, eqb-true, false, gives_colon, gives_dash, gives_node, gives_question, goes_on, if◌then◌else◌, is_adjacent, is_blank, is_blank_or_end, is_break, is_nul, IsPiece, kind_at, length, Level, List, not, Option, past_separation, Position, question, refl, Some, Stand, stops, subst, sym, Tok, true, with_blocks, ℕ, ◌&&◌, ◌++◌, ◌==◌, ◌||◌, ◌∷◌, ◌≡◌, ◌⊎◌, arith}
 use Rattle.defs_token.specs.Account.{is_in_flow}
-use Rattle.proof_row.proofs.Begins.{texts_begin, separations_end_before}
+use Rattle.proof_row.proofs.Begins.{separations_end_before}
 
 -- a piece that is not empty belongs to its token whatever token follows
 pub whatever_follows : (a : Account) (c : ℕ) (r n : List ℕ) (f g : Option Tok) (q : Position) (t : Tok) → IsPiece a (c ∷ r) n f q t → IsPiece a (c ∷ r) n g q t
@@ -42,9 +42,6 @@ question_there : (fl adjacent : Bool) (col : ℕ) (r : List ℕ) → begins_with
 unfolding is_blank is_blank_or_end
 question_there fl adjacent col a h = grind arith
 
-no_question : (t : Tok) → (act_of t ≡ gives_node) ⊎ (act_of t ≡ gives_colon) → kind_of t ≡ question → (b : Bool) → b ≡ false
-no_question a k e b = grind arith
-
 -- a node or a colon does not begin with one
 pub begins_no_key : (a : Account) (c : ℕ) (r n : List ℕ) (f : Option Tok) (q : Position) (t : Tok) → (act_of t ≡ gives_node) ⊎ (act_of t ≡ gives_colon) → IsPiece a (c ∷ r) n f q t →
     begins_with_key_indicator (past_separation false ((c ∷ r) ++ n)) ≡ false
@@ -56,7 +53,7 @@ begins_no_key a c r n f q t k h = by (is_blank c) (is_break c) (is_nul c) (c == 
     here true false e i = refl
     here true true e i =
         let there : kind_at (is_in_flow a) (is_adjacent a.before) (a.position.col) (c ∷ (r ++ n)) ≡ question = subst (λ x. kind_at (is_in_flow a) (is_adjacent a.before) (a.position.col) (x ∷ (r ++ n)) ≡ question) (sym (eqb-true c 63 e)) (question_there (is_in_flow a) (is_adjacent a.before) (a.position.col) (r ++ n) i) in
-        no_question t k (sym (texts_begin a (c ∷ r) n f q t (λ e. cc e) h) ∙ there) true
+        (grind arith)
 
     by : (b l z o : Bool) → (not (b || l || z) && not o) ≡ true → begins_with_key_indicator (if b || l || o then past_separation o (r ++ n) else c ∷ (r ++ n)) ≡ false
     by false false false false e = here (c == 63) (begins_with_space_or_break (r ++ n)) refl refl

@@ -6,7 +6,7 @@ use Rattle.defs_token.specs.RowAccount.{Account, before_by as before_by_previous
 use Rattle.proof_row.proofs.CutColumns.{LeadTo, blocks_end, not_ended_twice, not_ended_further, column_grows, unbroken, no_directive}
 use Rattle.proof_row.proofs.CutEntries.{EnteredBy, entered}
 use Rattle.proof_row.proofs.CutPieces.{account_by, whatever_follows, indicator_with_blocks, piece_in_flow, begins_no_key}
-use Rattle.proof_row.proofs.CutSteps.{somes, with_key, levels_in, in_cut, before_alike, blocks_alike, settled_all, levels_outside, Sees, BegunBy, begun}
+use Rattle.proof_row.proofs.CutSteps.{somes, with_key, levels_in, in_cut, blocks_alike, settled_all, levels_outside, Sees, BegunBy, begun}
 use Rattle.proof_row.proofs.Inserted.{written, spelled_written, tokens_written, past_all, AreEmpty, IsRowTo, written_so}
 
 -- ---- a key that waits
@@ -139,7 +139,7 @@ outside_so must s line l f c r t key ws after x h same_line same on_line in_line
         let past : account_past_token opened (c ∷ r) next t ≡ in_cut z =
         ap (λ bs. account_by (position_after at.position (c ∷ r) next) (before_past_token b (c ∷ r) t) bs (levels_past [] (c ∷ r) t)) (blocks_alike opened c r next None own t (somes (with_key o.blocks o.line)) piece) ∙
         (ap (λ ls. account_by (position_after at.position (c ∷ r) next) (before_past_token b (c ∷ r) t) (somes (with_key o.blocks o.line)) ls) (levels_outside t c r) ∙
-        ap (λ y. account_by (position_after at.position (c ∷ r) next) y (somes (with_key o.blocks o.line)) (levels_in (begun_by t))) (before_alike t)) in
+        ap (λ y. account_by (position_after at.position (c ∷ r) next) y (somes (with_key o.blocks o.line)) (levels_in (begun_by t))) (grind arith)) in
         subst (λ y. IsCutStep a w ws after y) to
         (stepped a w ws after z us own h.0 (ap (λ o. (ends_at at.position s.blocks at.blocks ++ more o) ++ (put own t ∷ [])) same_line) lead.0
         (λ last. subst (λ d. IsPiece d (c ∷ r) next last own t) (sym there) (whatever_follows opened c r next None last own t piece))
@@ -255,7 +255,7 @@ inside_step s line e es f c r t key ws after x h same on_line kept = by_line (li
         let past : account_past_token after_all (c ∷ r) next t ≡ in_cut z =
         ap (λ y. account_by (position_after at.position (c ∷ r) next) (before_past_token b (c ∷ r) t) y (levels_past (n.level ∷ levels_in es) (c ∷ r) t)) (blocks_alike after_all c r next None own t bs piece) ∙
         (ap (λ y. account_by (position_after at.position (c ∷ r) next) (before_past_token b (c ∷ r) t) bs y) n.levels_are ∙
-        (ap (λ y. account_by (position_after at.position (c ∷ r) next) y bs (levels_in zs)) (before_alike t) ∙
+        (ap (λ y. account_by (position_after at.position (c ∷ r) next) y bs (levels_in zs)) (grind arith) ∙
         ap (λ y. account_by (position_after at.position (c ∷ r) next) (before_by_previous (previous_by t)) (somes (with_key s.blocks y)) (levels_in zs)) (sym flow.0))) in
         let waiting : KeptBy l z.site = subst (λ y. KeptBy y z.site) (sym flow.0) (keeps line kept flow.1 one_line piece) in
         subst (λ y. IsCutStep a w ws after y) to

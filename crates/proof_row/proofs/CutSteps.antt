@@ -1,5 +1,5 @@
 -- A step of a row, as a cut has it: the tokens before the one that it shows have no piece, and the account of the cut goes on as that of the row.
-use Rattle.proof_row.proofs.Common.{[], Account, account_at_piece, Act, act_of, ap, Before, before_by, begins_node, begun_by, begun_outside, block_end, block_mapping_start, block_sequence_start, blocks_past, Bool, double_quoted, ends_entry, Entry, false, flow_entry, flow_mapping_end, flow_mapping_start, flow_sequence_end, flow_sequence_start, folded, free, gives_block_scalar, gives_closing, gives_colon, gives_comma, gives_dash, gives_marker, gives_node, gives_question, if◌then◌else◌, inl, inr, is_deeper, is_keyed, is_near, is_waiting, IsPiece, key_tokens, keyed, Level, levels_past, Line, line_past, List, literal, map, None, opened, Option, Outside, Pair, plain, Position, previous_by, refl, scalar, single_pair, single_quoted, Some, start_if, subst, sym, taken, takes_pair, Tok, Token, true, unless_key, value, waits, ℕ, ◌&&◌, ◌++◌, ◌||◌, ◌∙◌, ◌∷◌, ◌≡◌, ◌⊎◌, arith}
+use Rattle.proof_row.proofs.Common.{[], Account, account_at_piece, Act, act_of, ap, Before, begins_node, begun_by, begun_outside, block_mapping_start, block_sequence_start, blocks_past, Bool, ends_entry, Entry, false, free, gives_block_scalar, gives_closing, gives_colon, gives_comma, gives_dash, gives_marker, gives_node, gives_question, if◌then◌else◌, inl, inr, is_deeper, is_keyed, is_near, is_waiting, IsPiece, key_tokens, keyed, Level, levels_past, Line, line_past, List, map, None, opened, Option, Outside, Pair, Position, refl, single_pair, Some, start_if, taken, takes_pair, Tok, Token, true, unless_key, waits, ℕ, ◌&&◌, ◌++◌, ◌||◌, ◌∷◌, ◌≡◌, ◌⊎◌, arith}
 use Rattle.defs_token.specs.Account.{settled}
 use Rattle.defs_token.specs.RowAccount.{Account as RowAccount, before_by as before_by_previous}
 use Rattle.proof_row.proofs.CutPieces.{account_by}
@@ -34,9 +34,6 @@ in_cut a = account_by a.site.position (before_by_previous a.site.before) (somes 
 
 -- ---- tokens
 
-pub before_alike : (t : Tok) → before_by t ≡ before_by_previous (previous_by t)
-before_alike a = grind arith
-
 -- a piece is of no token of a block collection
 pub blocks_alike : (a : Account) (c : ℕ) (r n : List ℕ) (f : Option Tok) (q : Position) (t : Tok) (bs : List (Option ℕ)) → IsPiece a (c ∷ r) n f q t → blocks_past bs t ≡ bs
 blocks_alike a c r n f q b bs h = grind arith
@@ -52,18 +49,6 @@ levels_go_on a c r es n = grind arith
 -- outside flow
 pub levels_outside : (t : Tok) (c : ℕ) (r : List ℕ) → levels_past [] (c ∷ r) t ≡ levels_in (begun_by t)
 levels_outside a c r = grind arith
-
-pub node_begins : (t : Tok) → act_of t ≡ gives_node → begins_node (Some t) ≡ true
-node_begins a k = grind arith
-
-pub is_comma : (t : Tok) → act_of t ≡ gives_comma → t ≡ flow_entry
-is_comma a k = grind arith
-
-pub is_colon : (t : Tok) → act_of t ≡ gives_colon → t ≡ value
-is_colon a k = grind arith
-
-pub closing_ends : (t : Tok) → act_of t ≡ gives_closing → ends_entry (Some t) ≡ true
-closing_ends a k = grind arith
 
 -- a piece that ends no entry
 pub goes_on : (t : Tok) (k : Act) → act_of t ≡ k → (k ≡ gives_comma → ⊥) → (k ≡ gives_closing → ⊥) → ends_entry (Some t) ≡ false
@@ -121,7 +106,7 @@ key_ends here b next t c r bs begin = by (is_near begin here)
 -- every piece outside flow
 pub begun : (k : Act) (must key : Bool) (l : Line) (here colon : Position) (b : Before) (next : List ℕ) (t : Tok) (c : ℕ) (r bs : List ℕ) → act_of t ≡ k →
     BegunBy (Outer here b (with_key bs l)) (begun_outside (is_deeper here.col bs) here colon k key (Some l)) next t k c r bs (line_past must here bs k key l)
-begun gives_node must true free here colon b next t c r bs e = key_begins here colon b next t c r bs (node_begins t e)
+begun gives_node must true free here colon b next t c r bs e = key_begins here colon b next t c r bs (grind arith)
 begun gives_node must false free here colon b next t c r bs e = unless here b must next t gives_node c r bs taken refl
 begun gives_node must false taken here colon b next t c r bs e = plainly here b next t gives_node c r bs (record { line = taken; blocks = bs }) bs refl (inl refl)
 begun gives_node must false (waits begin) here colon b next t c r bs e = plainly here b next t gives_node c r bs (record { line = waits begin; blocks = bs }) (opened begin.col bs) refl (inr (inl (refl, refl)))

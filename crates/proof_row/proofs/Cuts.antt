@@ -1,6 +1,5 @@
 -- A row is a cut, and steps with which a row may begin are a cut of a beginning of the text.
-use Rattle.proof_row.proofs.Common.{[], account_past, account_past_row, ap, append_assoc, append_cancel_right, Before, before_past, Begins, begins_free_line, block_end, Bool, ends_with_stream, Entry, false, first_account, first_position, first_token, free, has_break, have_no_key, if◌then◌else◌, is_closed, is_in_flow, is_in_line, is_renewed, is_separation, is_waiting, IsCut, IsRead, IsRow, IsRowFrom, IsWritten, Leads, Line, line_past_separation, List, may_end, may_stand, nat_lt, None, not, on_one_line, Option, past_piece, Position, position_after, put, refl, seen, shown_position, Site, site_at, Some, spelled, start_token, Step, stream_end, stream_position, stream_start, subst, sym, taken, Tok, Token, tokens_from, tokens_of, tokens_of_step, true, up_to_nul, waits, Written, ℕ, ◌&&◌, ◌++◌, ◌∙◌, ◌∷◌, ◌≡◌, arith}
-use Rattle.defs_token.specs.Account.{Account as PieceAccount}
+use Rattle.proof_row.proofs.Common.{[], account_past, account_past_row, ap, append_assoc, append_cancel_right, Before, Begins, begins_free_line, block_end, Bool, ends_with_stream, Entry, false, first_account, first_position, first_token, free, has_break, have_no_key, if◌then◌else◌, is_closed, is_in_flow, is_in_line, is_renewed, is_separation, is_waiting, IsCut, IsRead, IsRow, IsRowFrom, IsWritten, Leads, Line, line_past_separation, List, may_end, may_stand, nat_lt, None, not, on_one_line, Option, past_piece, Position, position_after, put, refl, Site, site_at, Some, spelled, start_token, Step, stream_end, stream_position, stream_start, subst, sym, taken, Tok, Token, tokens_from, tokens_of, tokens_of_step, true, up_to_nul, waits, Written, ℕ, ◌&&◌, ◌++◌, ◌∙◌, ◌∷◌, ◌≡◌, arith}
 use Rattle.defs_token.specs.Account as cut
 use Rattle.defs_token.specs.Step.{Row}
 use Rattle.defs_token.specs.Step as step

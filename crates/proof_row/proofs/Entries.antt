@@ -1,7 +1,6 @@
 -- Like entries stay like over a piece in flow.
-use Rattle.proof_row.proofs.Common.{Act, ap, Bool, entries_past, Entry, entry_past, false, filled, first_entry, FlowKind, fresh, gives_block_scalar, gives_closing, gives_colon, gives_comma, gives_dash, gives_marker, gives_node, gives_nothing, gives_question, Had, had_after, had_past, if◌then◌else◌, List, None, not, Option, Pair, pair_past, past_end, Position, refl, renewed, settled, settled_past, Some, subst, takes_pair, true, with_had, ◌==◌, ◌||◌, ◌∷◌, ◌≡◌, arith}
-use Rattle.defs_token.specs.FlowEntry.{waits}
-use Rattle.proof_row.proofs.Like.{LikeHad, LikeEntry, LikeEntries, Stepped, none_second, weaker, tails, both, like_after, same_after, same_entry}
+use Rattle.proof_row.proofs.Common.{Act, Bool, entries_past, Entry, entry_past, false, FlowKind, gives_block_scalar, gives_closing, gives_colon, gives_comma, gives_dash, gives_marker, gives_node, gives_nothing, gives_question, Had, had_after, had_past, List, None, Option, Pair, pair_past, Position, renewed, settled_past, subst, takes_pair, true, with_had, ◌∷◌, ◌≡◌, arith}
+use Rattle.proof_row.proofs.Like.{LikeHad, LikeEntry, LikeEntries, Stepped, weaker, tails, both, like_after, same_after, same_entry}
 
 -- ---- where a key may begin again
 
@@ -24,10 +23,6 @@ settled_had f settles key a c d e i = grind arith
 had_step : (k : Act) → HadStep k
 had_step a here s b c d e i = grind arith
 
-after_step : (here : Position) (s : Bool) (k : Act) (b c : Bool) (Were : Type 0) (x y : Option Had) → Stepped LikeHad Were x y →
-    Stepped LikeHad (Were × (b ≡ c)) (had_after here s k b x) (had_after here s k c y)
-after_step here s k b c a g y t = grind arith
-
 -- ---- an entry that goes on
 
 with_had_step : (kind : FlowKind) (pair : Pair) (begun ds es : List Entry) (Were : Type 0) (x y : Option Had) → LikeEntries ds es → Stepped LikeHad Were x y →
@@ -45,7 +40,7 @@ goes_on k here again begun b c d e ds es i j =
     let Were : Type 0 = ((d.had ≡ e.had) × (b ≡ c)) × (ds ≡ es) in
     let T : FlowKind → Pair → Type 0 = λ x y. Stepped LikeEntries Were (entry_past here again k begun b d ds) (second x y) in
     let own : T d.kind d.pair = with_had_step d.kind (pair_past (takes_pair d.kind d.pair) k d.pair) begun ds es ((d.had ≡ e.had) × (b ≡ c)) _ _ j
-    (after_step here (takes_pair d.kind d.pair) k b c (d.had ≡ e.had) _ _ (renewed_step again k d.had e.had i.2)) in
+    (grind arith) in
     let kinds : T e.kind d.pair = subst (λ x. T x d.pair) i.0 own in
     let pairs : T e.kind e.pair = subst (λ x. T e.kind x) i.1 kinds in
     weaker LikeEntries Were ((d ∷ ds ≡ e ∷ es) × (b ≡ c)) _ _ (λ h. (both d e ds es (same_entry d e i.0 i.1 h.0.0) h.1, h.0.1)) pairs

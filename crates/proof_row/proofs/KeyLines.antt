@@ -1,5 +1,5 @@
 -- A key that waits in an entry of a flow collection began on the position's line, or on an earlier one.
-use Rattle.proof_row.proofs.Common.{[], account_past, Act, act_of, arith, begins_free_line, begun_by, Bool, ends_line, entries_past, Entry, gives_closing, gives_comma, Had, if◌then◌else◌, is_in_flow, is_renewed, Leads, Line, line_past_separation, List, may_stand, None, on_one_line, Option, past_inside, past_piece, Position, position_after, position_past, Site, site_at, Some, Step, subst, suc, Tok, ℕ, ◌++◌, ◌∷◌, ◌≤◌}
+use Rattle.proof_row.proofs.Common.{[], account_past, arith, begins_free_line, Bool, Entry, Had, if◌then◌else◌, is_in_flow, is_renewed, Leads, Line, line_past_separation, List, may_stand, None, on_one_line, Option, past_piece, Position, position_after, position_past, Site, site_at, Some, Step, subst, Tok, ℕ, ◌++◌, ◌∷◌, ◌≤◌}
 use Rattle.defs_token.specs.Step.{spelled}
 use Rattle.defs_token.specs.FlowEntry.{waits}
 use Rattle.defs_token.specs.RowAccount.{Account}

@@ -1,5 +1,5 @@
 -- Accounts that are alike but for keys that wait, and what a step makes of two like things.
-use Rattle.proof_row.proofs.Common.{[], ap, Bool, Entry, false, filled, free, fresh, Had, if◌then◌else◌, Line, List, None, Option, Outside, refl, settled, Some, taken, true, waits, ◌++◌, ◌∙◌, ◌∷◌, ◌≡◌, arith}
+use Rattle.proof_row.proofs.Common.{[], Bool, Entry, filled, free, fresh, Had, if◌then◌else◌, Line, List, None, Option, Outside, refl, settled, Some, taken, waits, ◌++◌, ◌∷◌, ◌≡◌, arith}
 use Rattle.defs_token.specs.FlowEntry.{Had.waits as had_waits}
 use Rattle.defs_token.specs.RowAccount.{Account}
 
@@ -39,12 +39,9 @@ IsLike a b = (a.site ≡ b.site) × LikeLine a.line b.line × LikeEntries a.entr
 abbrev pub LikeOutside : Outside → Outside → Type 0
 LikeOutside x y = LikeLine x.line y.line × (x.blocks ≡ y.blocks)
 
-had_itself : (h : Had) → LikeHad h h
-had_itself a = grind arith
-
 pub entries_themselves : (es : List Entry) → LikeEntries es es
 entries_themselves [] = tt
-entries_themselves (e ∷ es) = ((refl, refl, had_itself e.had), entries_themselves es)
+entries_themselves (e ∷ es) = ((refl, refl, grind arith), entries_themselves es)
 
 -- ---- what a step makes of two like things
 
@@ -53,9 +50,6 @@ abbrev pub Stepped : {A : Type 0} → (Like : A → A → Type 0) → (Were : Ty
 Stepped Like Were (Some x) (Some y) = Like x y × (x ≡ y → Were)
 Stepped Like Were (Some x) None = Unit {0}
 Stepped Like Were None y = Unit {0}
-
-pub none_second : {A : Type 0} → (Like : A → A → Type 0) (Were : Type 0) (x : Option A) → Stepped Like Were x None
-none_second a b d = grind arith
 
 -- what follows from a step follows also where more is said of what was before
 pub weaker : {A : Type 0} → (Like : A → A → Type 0) (P Q : Type 0) (x y : Option A) → (P → Q) → Stepped Like P x y → Stepped Like Q x y
@@ -82,7 +76,7 @@ both d e ds es h k = cc (h, k)
 -- the same entries before like ones
 pub like_after : (begun ds es : List Entry) → LikeEntries ds es → LikeEntries (begun ++ ds) (begun ++ es)
 like_after [] ds es i = i
-like_after (b ∷ begun) ds es i = ((refl, refl, had_itself b.had), like_after begun ds es i)
+like_after (b ∷ begun) ds es i = ((refl, refl, grind arith), like_after begun ds es i)
 
 pub same_after : (begun ds es : List Entry) → begun ++ ds ≡ begun ++ es → ds ≡ es
 same_after [] ds es h = h

@@ -1,6 +1,5 @@
 -- The lines of a text after another one, and a text's first line.
-use Rattle.proof_row.proofs.Common.{[], ap, begins_with, Bool, eqb-true, false, if◌then◌else◌, is_before_line_feed, is_break, List, put_first, refl, Split, split, split_by, subst, sym, true, with_empty_line, with_first, ℕ, ◌&&◌, ◌++◌, ◌==◌, ◌∙◌, ◌∷◌, ◌≡◌, arith}
-use Rattle.proof_row.proofs.Runs.{both}
+use Rattle.proof_row.proofs.Common.{[], ap, begins_with, Bool, false, if◌then◌else◌, is_before_line_feed, is_break, List, put_first, refl, Split, split, split_by, true, with_first, ℕ, ◌++◌, ◌∙◌, ◌∷◌, ◌≡◌, arith}
 
 abbrev pub of_lines : (complete : List (List ℕ)) → (last : List ℕ) → Split
 of_lines ls l = record { complete = ls; last = l }
@@ -51,14 +50,11 @@ first_line (l ∷ ls) last = l
 abbrev pub line_of : List ℕ → List ℕ
 line_of z = first_line ((split z).complete) ((split z).last)
 
-first_kept : (c : ℕ) (complete : List (List ℕ)) (last : List ℕ) → first_line ((put_first c complete last).complete) ((put_first c complete last).last) ≡ c ∷ first_line complete last
-first_kept c a last = grind arith
-
 -- it goes up to the first break
 pub line_is : (z : List ℕ) → line_of z ≡ up_to_break z
 unfolding is_break
 line_is [] = refl
-line_is (c ∷ r) = grind (arith, first_kept, line_is r)
+line_is (c ∷ r) = grind (arith, line_is r)
 
 -- the first line of a longer text is that of its beginning, if this has a complete line
 pub line_more : (z : List ℕ) → ((split z).complete ≡ [] → ⊥) → (y : List ℕ) → up_to_break (z ++ y) ≡ up_to_break z

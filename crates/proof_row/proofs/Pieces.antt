@@ -1,6 +1,5 @@
 -- At one account a text begins with one piece of one token.
-use Rattle.proof_row.proofs.Common.{[], alias_name, anchor_name, ap, append-nil, block_read, block_scalar, BlockRead, Bool, colon, comma, dash, dashes, directive_line, directive_of, dots, double_quoted_value, false, has_no_nul, if◌then◌else◌, in_double_quotes, in_single_quotes, is_adjacent, is_nul, Kind, kind_at, kind_of, List, mapping_closing, mapping_opening, NoPieceIsInASeparation, not, nothing, Option, PiecesHaveOneEnd, PiecesSeenAlikeHaveOneEnd, plain_scalar, plain_value, question, refl, SeparationsBeforePiecesAreOne, sequence_closing, sequence_opening, single_quoted_value, Some, subst, sym, Tag, tag, tag_text, TextsUpToTheirEndHaveNoNul, Tok, true, up_to_nul, written_tag, ℕ, ◌++◌, ◌∙◌, ◌∷◌, ◌≡◌, IsNamed, alias, anchor, arith}
-use Rattle.defs_token.specs.Account.{is_in_flow}
+use Rattle.proof_row.proofs.Common.{[], alias_name, anchor_name, ap, append-nil, block_read, block_scalar, BlockRead, colon, comma, dash, dashes, directive_line, dots, double_quoted_value, has_no_nul, in_double_quotes, in_single_quotes, Kind, List, mapping_closing, mapping_opening, NoPieceIsInASeparation, nothing, PiecesHaveOneEnd, PiecesSeenAlikeHaveOneEnd, plain_scalar, question, refl, SeparationsBeforePiecesAreOne, sequence_closing, sequence_opening, single_quoted_value, Some, subst, sym, Tag, tag, tag_text, TextsUpToTheirEndHaveNoNul, Tok, true, written_tag, ℕ, ◌++◌, ◌∙◌, ◌∷◌, ◌≡◌, IsNamed, alias, anchor, arith}
 use Rattle.proof_row.proofs.Runs.{joined, same_head}
 use Rattle.proof_row.proofs.Separations.{separations}
 use Rattle.proof_row.proofs.Names.{names}
@@ -9,7 +8,7 @@ use Rattle.proof_row.proofs.Quotes.{singles, single_bodies, doubles, double_bodi
 use Rattle.proof_row.proofs.Directives.{directives}
 use Rattle.proof_row.proofs.TagEnds.{tags}
 use Rattle.proof_row.proofs.Blocks.{blocks}
-use Rattle.proof_row.proofs.Begins.{directive_token, block_token, Context, context_of, Whole, piece_of, kind_there, separations_end_before}
+use Rattle.proof_row.proofs.Begins.{block_token, Context, Whole, piece_of, kind_there, separations_end_before}
 
 some : {A : Type 0} → (a b : A) → Some a ≡ Some b → a ≡ b
 some a b e = cc

@@ -1,5 +1,5 @@
 -- A scalar in quotes has one end: no quote that would end it stands inside a body that has a value.
-use Rattle.proof_row.proofs.Common.{[], ap, append-nil, append_assoc, arith, backslash, begins_with, Bool, break_further, content, double_quote, double_quoted_element, double_quoted_value, DoubleQuotedScalarsHaveOneEnd, Element, elements, eqb-true, escape, escape_by, escaped_break, escapes, false, folded_elements, followed, has_document_marker, hexadecimal, if◌then◌else◌, is_break, is_nul, IsDoubleQuoted, IsSingleQuoted, length, length-take, List, lookup, None, numbered, numeric_escape, numeric_escapes, Option, plain_element, refl, single_quote, single_quoted_element, single_quoted_value, SingleQuotedScalarsHaveOneEnd, Some, Spelled, subst, suc, sym, take, take-append-le, true, zero, ℕ, ◌++◌, ◌==◌, ◌∙◌, ◌∷◌, ◌≡◌, ◌≤◌, ◌⊎◌}
+use Rattle.proof_row.proofs.Common.{[], ap, append-nil, append_assoc, arith, begins_with, Bool, content, double_quote, double_quoted_element, double_quoted_value, DoubleQuotedScalarsHaveOneEnd, Element, elements, eqb-true, escape, false, folded_elements, followed, has_document_marker, if◌then◌else◌, is_nul, IsDoubleQuoted, IsSingleQuoted, length, length-take, List, None, numeric_escape, Option, plain_element, refl, single_quote, single_quoted_element, single_quoted_value, SingleQuotedScalarsHaveOneEnd, Some, Spelled, suc, sym, take-append-le, true, zero, ℕ, ◌++◌, ◌==◌, ◌∙◌, ◌∷◌, ◌≡◌, ◌≤◌, ◌⊎◌}
 use Rattle.proof_row.proofs.Runs.{contrary, same_head}
 use Rattle.proof_row.proofs.Splits.{More, splits}
 

@@ -1,6 +1,6 @@
 -- Like lines stay like: over a separation, and over a piece outside flow.
-use Rattle.proof_row.proofs.Common.{Act, ap, Bool, false, free, gives_block_scalar, gives_closing, gives_colon, gives_comma, gives_dash, gives_marker, gives_node, gives_nothing, gives_question, if◌then◌else◌, is_near, keyed, Line, line_past, line_past_separation, List, None, opened, Option, Outside, Position, refl, Some, subst, taken, true, waits, ℕ, ◌≡◌, arith}
-use Rattle.proof_row.proofs.Like.{LikeLine, LikeOutside, Stepped, none_second}
+use Rattle.proof_row.proofs.Common.{Act, ap, Bool, false, Line, line_past, line_past_separation, List, None, Option, Outside, Position, true, waits, ℕ, ◌≡◌, arith}
+use Rattle.proof_row.proofs.Like.{LikeLine, LikeOutside, Stepped}
 
 pub separation_step : (fl broken : Bool) (l m : Line) → LikeLine l m → Stepped LikeLine (l ≡ m) (line_past_separation fl broken l) (line_past_separation fl broken m)
 separation_step fl a l m i = grind arith

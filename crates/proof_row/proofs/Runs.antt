@@ -1,5 +1,5 @@
 -- Tests that hold together, and texts of which each character is of a class.
-use Rattle.proof_row.proofs.Common.{[], all_of, Bool, false, List, not, refl, subst, sym, true, ℕ, ◌&&◌, ◌++◌, ◌||◌, ◌∷◌, ◌≡◌, arith}
+use Rattle.proof_row.proofs.Common.{[], all_of, Bool, false, List, not, refl, true, ℕ, ◌&&◌, ◌++◌, ◌||◌, ◌∷◌, ◌≡◌, arith}
 
 -- ---- tests
 

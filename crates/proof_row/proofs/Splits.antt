@@ -1,5 +1,5 @@
 -- A text that is two texts after each other in two ways.
-use Rattle.proof_row.proofs.Common.{[], inl, inr, List, refl, sym, ℕ, ◌++◌, ◌∷◌, ◌≡◌, ◌⊎◌, arith}
+use Rattle.proof_row.proofs.Common.{[], List, ℕ, ◌++◌, ◌∷◌, ◌≡◌, ◌⊎◌, arith}
 use Rattle.proof_row.proofs.Runs.{same_head, longer}
 
 -- a text with more after it

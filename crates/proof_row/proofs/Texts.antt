@@ -1,5 +1,5 @@
 -- Characters that end a piece, and the texts before and after a run.
-use Rattle.proof_row.proofs.Common.{[], after, all_of, ap, Bool, eqb-true, false, has_no_nul, if◌then◌else◌, is_blank, is_blank_or_end, is_break, is_flow, is_nul, leading, List, refl, subst, sym, true, ℕ, ◌++◌, ◌==◌, ◌||◌, ◌∷◌, ◌≡◌, arith}
+use Rattle.proof_row.proofs.Common.{[], after, all_of, Bool, has_no_nul, is_blank, is_blank_or_end, is_break, is_flow, is_nul, leading, List, refl, true, ℕ, ◌++◌, ◌∷◌, ◌≡◌, arith}
 use Rattle.proof_row.proofs.Runs.{both, joined}
 
 -- ---- characters

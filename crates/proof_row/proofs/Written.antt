@@ -1,10 +1,9 @@
 -- The text says which piece comes: at like accounts, two steps with which one text begins have the same separation, piece and token.
-use Rattle.proof_row.proofs.Common.{[], Act, act_of, ap, before_past, blocks_at, Bool, dashes, directive_line, dots, Entry, false, has_no_nul, Holds, if◌then◌else◌, innermost_column, is_adjacent, is_empty, is_in_flow, is_marker, IsSeenAlike, IsWritten, Kind, kind_of, level_of, List, literal, map, None, not, not_ended, Option, position_after, refl, scalar, seen, shown_position, Site, site_at, Some, Step, sym, Tok, true, ℕ, ◌++◌, ◌∙◌, ◌∷◌, ◌≡◌, ◌≢◌, arith}
+use Rattle.proof_row.proofs.Common.{[], Act, act_of, ap, before_past, blocks_at, Bool, dashes, directive_line, dots, Entry, false, has_no_nul, Holds, innermost_column, is_adjacent, is_empty, is_in_flow, is_marker, IsSeenAlike, IsWritten, Kind, kind_of, level_of, List, map, None, not, Option, position_after, refl, seen, shown_position, Site, site_at, Some, Step, Tok, true, ℕ, ◌++◌, ◌∙◌, ◌∷◌, ◌≡◌, ◌≢◌, arith}
 use Rattle.proof_row.proofs.Texts.{no_nul_after}
 use Rattle.proof_row.proofs.Pieces.{pieces_seen_alike, separations_before}
 use Rattle.defs_token.specs.RowAccount.{Account, before_by}
 use Rattle.proof_row.proofs.Like.{LikeEntries, IsLike}
-use Rattle.proof_row.proofs.Accounts.{same_flow}
 
 -- ---- what a piece is seen with
 
