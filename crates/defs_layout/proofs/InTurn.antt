@@ -17,9 +17,6 @@ record One (t : Tree) (text : List ℕ) : Type 0 where
   spelt : codes "---\n" ++ spell_document written (spell_ending after []) ≡ text
   tree : root_tree written.root ≡ t
 
-first_tree : {t u : Tree} → t ∷ [] ≡ u ∷ [] → t ≡ u
-first_tree e = cc
-
 one : (t : Tree) (text : List ℕ) → IsBasicLayout t text → One t text
 one t text (w, is, basic, spelt, trees) = grind arith
 

@@ -1,5 +1,5 @@
 -- The reals that JSON can write are the texts of its numbers whose value is a real.
-use Rattle.defs_layout.proofs.Common.{[], and_from, and_parts, ap, append-nil, append_assoc, are_digits, arith, at_least_one, begins_in, Bool, cut_from, cut_to, eqb-true, Exponent, exponent, false, followed_by, followed_by-empty, Fraction, fraction, in_order, integer_value, is_ascii_digit, is_digit, is_empty, is_exponent, is_exponent_mark, is_frac, is_fraction, is_json_number, is_json_real, is_minus, is_none, is_number, is_sign, is_whole, List, list_all, nat_tests, no_exponent, no_fraction, None, Number, number_tree, one, optional, real, refl, Sign, signed_decimal, spell_exponent, spell_fraction, spell_minus, spell_number, spell_sign, subst, sym, true, ℕ, ◌&&◌, ◌++◌, ◌==◌, ◌∙◌, ◌∷◌, ◌≡◌}
+use Rattle.defs_layout.proofs.Common.{[], and_from, and_parts, ap, append-nil, append_assoc, are_digits, arith, at_least_one, begins_in, Bool, cut_from, cut_to, eqb-true, Exponent, exponent, followed_by, followed_by-empty, Fraction, fraction, in_order, integer_value, is_ascii_digit, is_digit, is_exponent, is_exponent_mark, is_frac, is_fraction, is_json_number, is_json_real, is_minus, is_none, is_number, is_sign, is_whole, List, list_all, nat_tests, no_exponent, no_fraction, None, Number, number_tree, one, optional, real, refl, Sign, signed_decimal, spell_exponent, spell_fraction, spell_minus, spell_number, spell_sign, subst, sym, true, ℕ, ◌&&◌, ◌++◌, ◌==◌, ◌∙◌, ◌∷◌, ◌≡◌}
 use Rattle.defs_layout.specs.JsonNumber as json
 use Rattle.defs_layout.proofs.WholeNumbers.{fitted, signed_text, IsOther, no_digits}
 
@@ -15,9 +15,6 @@ record IsOne (p : ℕ → Bool) (t : List ℕ) : Type 0 where
   character : ℕ
   whole : t ≡ character ∷ []
   fits : p character ≡ true
-
-nothing_is : (t : List ℕ) → is_empty t ≡ true → t ≡ []
-nothing_is a h = grind arith
 
 one_is : (p : ℕ → Bool) (t : List ℕ) → one p t ≡ true → IsOne p t
 one_is p a h = grind arith
@@ -97,10 +94,6 @@ all_digits (c ∷ w) h = let q = and_parts (is_ascii_digit c) (list_all is_ascii
 whole_begins : (w r : List ℕ) → are_digits w ≡ true → begins_in is_ascii_digit (w ++ r) ≡ true
 whole_begins a r h = grind arith
 
--- a whole number's text
-plain_text : (m : Bool) (w : List ℕ) → is_whole w ≡ true → signed_decimal (spell_minus m (w ++ [])) ≡ fitted true (integer_value m w)
-plain_text m w h = grind (arith, append-nil, signed_text, whole_begins, all_digits)
-
 other_text : (m : Bool) (w r : List ℕ) → is_whole w ≡ true → IsOther r → signed_decimal (spell_minus m (w ++ r)) ≡ None
 other_text m w r h o = signed_text m (w ++ r) (whole_begins w r (grind arith)) ∙ ap (λ b. fitted b (integer_value m (w ++ r))) (no_digits w r o)
 
@@ -114,11 +107,11 @@ whole_of m w f e h = (and_parts (is_whole w) (is_fraction f) (and_parts (is_whol
 
 -- a number whose text is no integer is a real
 real_value : (n : Number) → is_number n ≡ true → is_none (signed_decimal (spell_number n [])) ≡ true → number_tree n ≡ real (spell_number n [])
-real_value a h none = grind (arith, plain_text, whole_of)
+real_value a h none = grind (arith, whole_of, append-nil, signed_text, whole_begins, all_digits)
 
 -- and the other way
 no_integer : (n : Number) (s : List ℕ) → is_number n ≡ true → number_tree n ≡ real s → (is_none (signed_decimal (spell_number n [])) ≡ true) × (spell_number n [] ≡ s)
-no_integer (json.number m w no_fraction no_exponent) s h e = grind (arith, plain_text, whole_of)
+no_integer (json.number m w no_fraction no_exponent) s h e = grind (arith, whole_of, append-nil, signed_text, whole_begins, all_digits)
 no_integer (json.number m w no_fraction (exponent b x d)) s h e = (ap is_none (other_text m w _ (whole_of m w no_fraction (exponent b x d) h) (exponent_other b x d [])), cc)
 no_integer (json.number m w (fraction d) x) s h e = (ap is_none (other_text m w (spell_fraction (fraction d) (spell_exponent x [])) (whole_of m w (fraction d) x h) refl), cc)
 
@@ -148,13 +141,9 @@ cut f g a b h k = cut_to f g (a ++ b) (record { before = a; after = b; whole = r
 exponent_text : (e : Exponent) → json.is_exponent e ≡ true → optional is_exponent (spell_exponent e []) ≡ true
 exponent_text a h = grind (arith, followed_by-empty, append-nil, cut)
 
-minus_text : (m : Bool) (r : List ℕ) → (a : List ℕ) × (optional (one is_minus) a ≡ true) × (spell_minus m r ≡ a ++ r)
-minus_text true r = (45 ∷ [], refl, refl)
-minus_text false r = ([], refl, refl)
-
 text_of_number : (n : Number) → is_number n ≡ true → is_json_number (spell_number n []) ≡ true
 unfolding is_json_number
-text_of_number a h = grind (arith, and_parts, followed_by-empty, exponent_text, cut, minus_text)
+text_of_number a h = grind (arith, and_parts, followed_by-empty, exponent_text, cut)
 
 pub real_from : (n : Number) (s : List ℕ) → is_number n ≡ true → number_tree n ≡ real s → is_json_real s ≡ true
 real_from n s h e =

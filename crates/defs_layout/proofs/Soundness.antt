@@ -1,5 +1,5 @@
 -- The trees of JSON texts and of layouts are sound.
-use Rattle.defs_layout.proofs.Common.{[], Anchor, ap, AreDistinct, AreElements, begun, Bool, cond, element, Elements, ended, false, fits_i64, is_some, IsJson, IsJsonText, Items, items, Json, last_element, last_member, last_tree, List, member, Members, number, Option, pair_list, Pairs, pairs_of, refl, Some, sym, Tree, tree_of, true, true≢false, unwrap_or, with_end, ℕ, ℤ, ◌∙◌, ◌∷◌, ◌≡◌, arith}
+use Rattle.defs_layout.proofs.Common.{[], Anchor, ap, AreDistinct, AreElements, begun, element, Elements, ended, false, is_some, IsJson, IsJsonText, Items, items, Json, last_element, last_member, last_tree, List, member, Members, number, Option, pair_list, Pairs, pairs_of, refl, Some, sym, Tree, tree_of, true, true≢false, with_end, ℕ, ℤ, ◌∙◌, ◌∷◌, ◌≡◌, arith}
 use Rattle.defs_tree.proofs.OverlayLaws.{list_of_pairs}
 use Rattle.defs_tree.specs.Valid.{AllDistinct, AllPairsDistinct, AllFitI64, AllPairsFitI64}
 use Rattle.defs_layout.specs.Json.{AreMembers}
@@ -39,13 +39,7 @@ hash_sound ps d hs = record { distinct = (rw (list_of_pairs ps) d, hs.distinct);
 string_sound : (s : List ℕ) → IsSound (Tree.string s)
 string_sound s = record { distinct = tt; fits = tt; has_values = tt }
 
-real_sound : (s : List ℕ) → IsSound (Tree.real s)
-real_sound s = record { distinct = tt; fits = tt; has_values = tt }
-
 -- ---- JSON
-
-chosen_sound : (z : ℤ) (s : List ℕ) (b : Bool) → fits_i64 z ≡ b → IsSound (cond b (Tree.integer z) (Tree.real s))
-chosen_sound z s a e = grind arith
 
 mutual
   json_sound : (v : Json) → IsJson v → IsSound (tree_of v)
@@ -68,9 +62,6 @@ json_text_sound t text h = rw (h.3) at (json_sound h.0.value h.1.value)
 
 -- ---- layouts
 
-plain_sound : (t : Tree) → Layout.IsPlain t → IsSound t
-plain_sound a h = grind arith
-
 -- the trees of the ended nodes
 abbrev AreAnchorsSound : List Anchor → Type 0
 AreAnchorsSound [] = Unit {0}
@@ -85,13 +76,10 @@ with_end_sound t (ended n u ∷ a) h hs = (hs.0, with_end_sound t a h hs.1)
 nothing_differs : (o : Option Tree) (t : Tree) → is_some o ≡ false → o ≡ Some t → ⊥
 nothing_differs o t none e = true≢false (sym (ap is_some e) ∙ none)
 
-found_sound : (u t : Tree) → IsSound u → Some u ≡ Some t → IsSound t
-found_sound u t h e = rw (ap (λ o. unwrap_or o u) e) at h
-
 last_tree_sound : (name : List ℕ) (a : List Anchor) (t : Tree) → AreAnchorsSound a → last_tree name a ≡ Some t → IsSound t
 last_tree_sound name [] t hs e = absurd (nothing_differs _ t refl e)
 last_tree_sound name (begun n ∷ a) t hs e = grind (arith, nothing_differs, last_tree_sound name a t hs)
-last_tree_sound name (ended n u ∷ a) t hs e = grind (arith, found_sound, last_tree_sound name a t hs.1)
+last_tree_sound name (ended n u ∷ a) t hs e = grind (arith, last_tree_sound name a t hs.1)
 
 mutual
   block_sound : (c : ℕ) (a : List Anchor) (b : Layout.Block) → Layout.IsBlock c a b → AreAnchorsSound a → IsSound (Layout.block_tree b) × AreAnchorsSound (Layout.anchors_after_block b a)

@@ -1,5 +1,5 @@
 -- The text of a string is a string of JSON, and its value is the string.
-use Rattle.defs_layout.proofs.Common.{[], and_from, and_parts, ap, append_assoc, are_characters, are_pieces, arith, backspace, Bool, character_of, digit_value, double_quoted, escaped_code, false, form_feed, hexadecimal_digit, if◌then◌else◌, is_character, is_hex_digit, is_piece, is_unescaped, itself, letter_of, List, lt-ltb, nat_lt, nat_tests, new_line, or_parts, Piece, quotation_mark, refl, return, reverse_solidus, Short, short, spell_piece, spell_pieces, spell_string, sym, tabulator, true, unescaped, unicode, value_of, written_character, written_escapes, ℕ, ◌%◌, ◌++◌, ◌+◌, ◌/◌, ◌<◌, ◌==◌, ◌||◌, ◌∙◌, ◌∷◌, ◌≡◌}
+use Rattle.defs_layout.proofs.Common.{[], and_from, and_parts, ap, append_assoc, are_characters, are_pieces, arith, backspace, Bool, character_of, double_quoted, escaped_code, false, form_feed, hexadecimal_digit, if◌then◌else◌, is_character, is_piece, is_unescaped, itself, letter_of, List, nat_lt, nat_tests, new_line, or_parts, Piece, quotation_mark, refl, return, reverse_solidus, Short, short, spell_piece, spell_pieces, spell_string, sym, tabulator, true, unescaped, unicode, value_of, written_character, written_escapes, ℕ, ◌%◌, ◌++◌, ◌+◌, ◌/◌, ◌<◌, ◌==◌, ◌||◌, ◌∙◌, ◌∷◌, ◌≡◌}
 use Rattle.defs_layout.specs.Marks.{backslash}
 
 -- how a character is written
@@ -23,17 +23,8 @@ record IsWritten (p : Piece) (text : List ℕ) (c : ℕ) : Type 0 where
 
 -- ---- the digits of a code
 
-low_digit : (n : ℕ) → n < 16 → nat_lt n 10 ≡ true → digit_value (48 + n) ≡ n
-low_digit n h e = grind (arith, nat_tests)
-
-high_digit : (n : ℕ) → n < 16 → nat_lt n 10 ≡ false → digit_value (87 + n) ≡ n
-high_digit n h e = grind (arith, nat_tests)
-
-digit_fits : (n : ℕ) → n < 16 → is_hex_digit (hexadecimal_digit n) ≡ true
-digit_fits n h = ap (λ d. nat_lt d 16) (grind arith) ∙ lt-ltb n 16 h
-
 control : (c : ℕ) → c < 256 → IsWritten (unicode 48 48 (hexadecimal_digit (c / 16)) (hexadecimal_digit (c % 16))) (escaped_code c) c
-control c h = grind (arith, digit_fits, nat_tests)
+control c h = grind (arith, nat_tests)
 
 itself_written : (c : ℕ) → (c == 34) ≡ false → (c == 92) ≡ false → nat_lt c 32 ≡ false → is_character c ≡ true → IsWritten (itself c) (c ∷ []) c
 unfolding is_unescaped

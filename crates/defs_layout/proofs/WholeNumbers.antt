@@ -1,20 +1,14 @@
 -- Whole numbers of JSON as integers: what the text of one stands for, and what does not follow its digits.
-use Rattle.defs_layout.proofs.Common.{[], arith, at_least_one, begins_in, Bool, false, fits_i64, if◌then◌else◌, integer_value, is_ascii_digit, is_digit, List, list_all, nat_tests, None, Option, option_and_then, option_map, refl, signed_decimal, Some, spell_minus, true, ℕ, ℤ, ◌++◌, ◌==◌, ◌∷◌, ◌≡◌}
+use Rattle.defs_layout.proofs.Common.{[], arith, at_least_one, begins_in, Bool, false, fits_i64, if◌then◌else◌, integer_value, is_ascii_digit, is_digit, List, list_all, None, Option, option_and_then, refl, signed_decimal, Some, spell_minus, true, ℕ, ℤ, ◌++◌, ◌==◌, ◌∷◌, ◌≡◌}
 
 -- the integer of a text, from whether it is all digits, and its value
 abbrev pub fitted : Bool → ℤ → Option ℤ
 fitted are z = option_and_then (λ y. if fits_i64 y then Some y else None) (if are then Some z else None)
 
-mapped : {A B : Type 0} (f : A → B) (b : Bool) (x : A) → option_map f (if b then Some x else None) ≡ (if b then Some (f x) else None)
-mapped f a x = grind arith
-
 -- what a digit is not
 record Digit (c : ℕ) : Type 0 where
   plus : (c == 43) ≡ false
   minus : (c == 45) ≡ false
-
-digit : (c : ℕ) → is_ascii_digit c ≡ true → Digit c
-digit c h = record { plus = grind (arith, nat_tests); minus = grind (arith, nat_tests) }
 
 pub signed_text : (m : Bool) (t : List ℕ) → begins_in is_ascii_digit t ≡ true → signed_decimal (spell_minus m t) ≡ fitted (at_least_one (is_digit 10) t) (integer_value m t)
 signed_text a t h = grind arith

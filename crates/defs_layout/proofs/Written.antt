@@ -10,9 +10,6 @@ use Rattle.defs_layout.proofs.Numbers.{real_written}
 
 -- ---- white space
 
-spaces : ℕ → List Blank
-spaces m = replicate m space
-
 gap : Option ℕ → ℕ → List Blank
 gap None m = []
 gap (Some w) m = line_feed ∷ replicate m space

@@ -1,6 +1,6 @@
 -- No line of a box holds a line feed.
 use Rattle.std.specs.Fmt.{signed_decimal as decimal_digits}
-use Rattle.defs_tree.proofs.Common.{[], AllDigits, AllFitI64, AllHaveText, AllPairsFitI64, AllPairsHaveText, and_from, and_parts, ap, arith, array, Bool, boolean, boolean_spelling, codes, decimal, decimal_is_IsNumeral, double_quoted, eqb-true, escaped_code, false, false_from_ne_true, fits_i64, FitsI64, hash, HasText, hexadecimal_digit, if◌then◌else◌, integer, is_quoted, is_unbroken, is_unfit_for_plain, item, Items, List, list_all, list_any, ltb-true, negsuc, no_items, no_pairs, not, not_from_false, or_parts, pair, Pairs, pos, real, refl, spelling, string, string_spelling, suc, sym, Tree, true, true≢false, written_character, written_escapes, ℕ, ℤ, ◌++◌, ◌+◌, ◌<◌, ◌==◌, ◌^◌, ◌∙◌, ◌∷◌, ◌≡◌}
+use Rattle.defs_tree.proofs.Common.{[], AllDigits, AllFitI64, AllHaveText, AllPairsFitI64, AllPairsHaveText, and_from, and_parts, ap, arith, array, Bool, boolean, boolean_spelling, codes, decimal, decimal_is_IsNumeral, double_quoted, eqb-true, false, false_from_ne_true, fits_i64, FitsI64, hash, HasText, if◌then◌else◌, integer, is_quoted, is_unbroken, is_unfit_for_plain, item, Items, List, list_all, list_any, ltb-true, negsuc, no_items, no_pairs, not, not_from_false, or_parts, pair, Pairs, pos, real, refl, spelling, string, string_spelling, suc, sym, Tree, true, true≢false, written_character, written_escapes, ℕ, ℤ, ◌++◌, ◌+◌, ◌<◌, ◌==◌, ◌^◌, ◌∙◌, ◌∷◌, ◌≡◌}
 use Rattle.defs_tree.specs.Box.{indented, placed, if_none, string_box, pair_box, box, item_boxes, pair_boxes}
 use Rattle.defs_tree.proofs.GrammarLaws.{list_all-more}
 use Rattle.defs_tree.proofs.LinesLaws.{lines_of_unbroken}
@@ -15,12 +15,6 @@ no_break p h c e = not_from_false (c == 10) (false_from_ne_true (c == 10) (λ t.
 unbroken-append : (a b : List ℕ) → is_unbroken a ≡ true → is_unbroken b ≡ true → is_unbroken (a ++ b) ≡ true
 unbroken-append [] b h e = e
 unbroken-append (c ∷ a) b h e = grind (arith, and_parts, unbroken-append a b)
-
-hexadecimal-unbroken : (n : ℕ) → not (hexadecimal_digit n == 10) ≡ true
-hexadecimal-unbroken n = grind arith
-
-escaped_code-unbroken : (c : ℕ) → is_unbroken (escaped_code c) ≡ true
-escaped_code-unbroken c = grind arith
 
 written_character-unbroken : (c : ℕ) → is_unbroken (written_character c) ≡ true
 unfolding written_character

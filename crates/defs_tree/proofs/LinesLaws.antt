@@ -15,13 +15,6 @@ abbrev has_no_line : List (List ℕ) → Bool
 has_no_line [] = true
 has_no_line (l ∷ ls) = false
 
-onto_first_line-some : (c : ℕ) (ls : List (List ℕ)) → has_no_line (onto_first_line c ls) ≡ false
-onto_first_line-some c a = grind arith
-
--- the text, and a line feed where it lacks one
-abbrev pub with_end : Bool → List ℕ → List ℕ
-with_end has_end text = if has_end then text else text ++ 10 ∷ []
-
 pub lines_of_ended : (text : List ℕ) → ended (lines_of text) ≡ (if is_empty text || ends_with nat_eq text (codes "\n") then text else text ++ 10 ∷ [])
 lines_of_ended [] = refl
 lines_of_ended (c ∷ []) = grind (arith, ends_with-one)

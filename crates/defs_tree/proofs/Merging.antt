@@ -12,12 +12,9 @@ lookup_both : (k : Tree) (ps qs : List (Tree × Tree)) → lookup k (ps ++ qs) �
 lookup_both k [] qs = refl
 lookup_both k (p ∷ ps) qs = grind (arith, lookup_both k ps qs)
 
-lookup_new_pair : (k : Tree) (ps : List (Tree × Tree)) (q : Tree × Tree) → lookup k (with_new_pair ps q) ≡ option_or (lookup k ps) (lookup k (q ∷ []))
-lookup_new_pair k ps q = grind (arith, lookup_both, tree_eq_decides)
-
 lookup_new_pairs : (k : Tree) (ps qs : List (Tree × Tree)) → lookup k (with_new_pairs ps qs) ≡ option_or (lookup k ps) (lookup k qs)
 lookup_new_pairs k ps [] = sym (grind arith)
-lookup_new_pairs k ps (q ∷ qs) = grind (arith, lookup_new_pair, lookup_both, lookup_new_pairs k (with_new_pair ps q) qs)
+lookup_new_pairs k ps (q ∷ qs) = grind (arith, lookup_both, lookup_new_pairs k (with_new_pair ps q) qs, tree_eq_decides)
 
 among : (k : Tree) (ts : Items) → lookup k (pairs_of_mappings ts) ≡ value_among k ts
 among k no_items = refl

@@ -3,10 +3,9 @@ use Rattle.std.specs.declared.cmp.Ordering.{Ordering}
 use Rattle.std.specs.Ordering.{ordering_then, nat_cmp, int_cmp, is_eq}
 use Rattle.std.specs.Cmp.{IsTotalOrder, IsEquivalence}
 use Rattle.std.specs.Cmp.Lexicographic.{slice_cmp}
-use Rattle.std.proofs.lemmas.Cmp.{ranked, int_ranked, int_cmp_total, lists_total, on_total, then_total, eq_by_cmp_equiv}
+use Rattle.std.proofs.lemmas.Cmp.{ranked, int_ranked, int_cmp_total, lists_total, on_total, eq_by_cmp_equiv}
 use Rattle.std.proofs.lemmas.Map.Text.{is_eq-slice_cmp}
 use Rattle.defs_tree.proofs.Common.{[], alias, ap, arith, array, bad_value, Bool, boolean, bytes_eq-Decides, Decides, Equal, false, hash, integer, item, Items, items_cmp, List, nat_tests, no_items, no_pairs, null, pair, Pairs, pairs_cmp, pos, real, refl, string, subst, suc, sym, Tree, tree_cmp, tree_eq, true, ℕ, ℤ, ◌∙◌, ◌∷◌, ◌≡◌}
-use Rattle.defs_tree.specs.Lists.{pair_cmp, list_cmp, pair_list_cmp}
 
 -- ---- a tree as a list of numbers, whose order is the tree's
 
@@ -90,12 +89,6 @@ tree_eq_equiv = eq_by_cmp_equiv tree_cmp_total
 text_tied : (s t : List ℕ) → slice_cmp nat_cmp s t ≡ Equal → s ≡ t
 text_tied s t e = (bytes_eq-Decides s t).0 (sym (is_eq-slice_cmp s t) ∙ ap is_eq e)
 
-first_tied : (o p : Ordering) → ordering_then o p ≡ Equal → o ≡ Equal
-first_tied a p e = grind arith
-
-second_tied : (o p : Ordering) → ordering_then o p ≡ Equal → p ≡ Equal
-second_tied a p e = grind arith
-
 mutual
   pub tree_tied : (t u : Tree) → tree_cmp t u ≡ Equal → t ≡ u
   tree_tied (real s) (real t) e = ap real (text_tied s t e)
@@ -122,14 +115,3 @@ mutual
 -- the test holds of the same tree alone
 pub tree_eq_decides : (t u : Tree) → Decides (tree_eq t u) (t ≡ u)
 tree_eq_decides t u = grind (arith, tree_tied, tree_cmp_total)
-
--- ---- lists of trees and of pairs
-
-pub list_cmp_total : IsTotalOrder list_cmp
-list_cmp_total = lists_total tree_cmp_total
-
-pub pair_cmp_total : IsTotalOrder pair_cmp
-pair_cmp_total = then_total (on_total (λ (p : Tree × Tree). p.0) tree_cmp_total) (on_total (λ (p : Tree × Tree). p.1) tree_cmp_total)
-
-pub pair_list_cmp_total : IsTotalOrder pair_list_cmp
-pair_list_cmp_total = lists_total pair_cmp_total

@@ -1,7 +1,7 @@
 -- A signed number is what std's `parse` and `from_str_radix` read at 64 bits, from the bytes of the text. For code that calls them.
 use Rattle.std.specs.Int.{w64}
 use Rattle.std.proofs.lemmas.Str.{chars-IsAscii, encodes-IsAscii, encodes-chars}
-use Rattle.defs_tree.proofs.Common.{[], AllDigits, and_from, and_parts, ap, arith, at_least_one, Bool, chars, digit_value, Err, false, fits_i64, FitsSigned, if◌then◌else◌, is_digit, IsAscii, IsUtf8, List, list_all, lt-ltb, ltb-true, MatchResult, nat_lt, nat_tests, None, Ok, Option, option_and_then, option_map, ParsesSigned, refl, Result, signed_digits_value, signed_number, Some, suc, sym, true, true≢false, with_sign, without_leading_sign, zero, ℕ, ℤ, ◌∙◌, ◌∷◌, ◌≡◌, ◌≢◌, ◌≤◌}
+use Rattle.defs_tree.proofs.Common.{[], AllDigits, and_from, and_parts, ap, arith, at_least_one, Bool, chars, digit_value, Err, false, fits_i64, FitsSigned, if◌then◌else◌, is_digit, IsAscii, IsUtf8, List, list_all, lt-ltb, ltb-true, MatchResult, nat_lt, nat_tests, None, Ok, Option, option_and_then, ParsesSigned, refl, Result, signed_digits_value, signed_number, Some, suc, sym, true, true≢false, with_sign, without_leading_sign, zero, ℕ, ℤ, ◌∙◌, ◌∷◌, ◌≡◌, ◌≢◌, ◌≤◌}
 
 -- ---- numerals
 
@@ -14,9 +14,6 @@ all_digits-from base [] h = tt
 all_digits-from base (d ∷ ds) h = grind (arith, and_parts, all_digits-from base ds)
 
 -- ---- signs
-
-mapped : {A B : Type 0} (f : A → B) (b : Bool) (x : A) → option_map f (if b then Some x else None) ≡ (if b then Some (f x) else None)
-mapped f a x = grind arith
 
 with_sign-std : (base : ℕ) (t : List ℕ) → with_sign base t ≡ (if at_least_one (is_digit base) (without_leading_sign t) then Some (signed_digits_value base t) else None)
 with_sign-std base a = grind arith

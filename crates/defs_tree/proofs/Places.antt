@@ -51,11 +51,3 @@ pub AreDistinct-with_value_at : (i : ℕ) (t : Tree) (us : List (Tree × Tree)) 
 AreDistinct-with_value_at i t [] h = tt
 AreDistinct-with_value_at zero t (u ∷ us) h = h
 AreDistinct-with_value_at (suc i) t (u ∷ us) h = (Lacks-with_value_at u.0 i t us h.0, AreDistinct-with_value_at i t us h.1)
-
-Lacks-with_value : (l k t : Tree) (us : List (Tree × Tree)) → Lacks l us → Lacks l (with_value k t us)
-Lacks-with_value l k t [] h = tt
-Lacks-with_value l k t (u ∷ us) h = grind (arith, Lacks-with_value l k t us h.1)
-
-pub AreDistinct-with_value : (k t : Tree) (us : List (Tree × Tree)) → AreDistinct us → AreDistinct (with_value k t us)
-AreDistinct-with_value k t [] h = tt
-AreDistinct-with_value k t (u ∷ us) h = grind (arith, Lacks-with_value, AreDistinct-with_value k t us h.1)

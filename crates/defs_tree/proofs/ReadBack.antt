@@ -1,14 +1,10 @@
 -- The spelling of a scalar, where it is plain, stands for that scalar.
 use Rattle.std.specs.Fmt.{signed_decimal as decimal_digits}
-use Rattle.defs_tree.proofs.Common.{[], after_prefix, AllDigits, and_parts, ap, arith, Bool, decimal, decimal_is_IsNumeral, digit_from_value, digits_value, false, fits_i64, if◌then◌else◌, integer, is_among, is_decimal, is_quoted, is_string, IsNumeral, IsSpeltPlain, List, list_all, lt-ltb, ltb-true, nat_lt, ne_eqb, negsuc, None, not, not-false, not-true, number, option_and_then, or_parts, pos, refl, signed_decimal, Some, spelling, string, suc, sym, Tree, true, typing, ℕ, ℤ, ◌<◌, ◌^◌, ◌∷◌, ◌≡◌, ◌≢◌, ◌≤◌, nat_tests, eqb-true}
+use Rattle.defs_tree.proofs.Common.{[], AllDigits, and_parts, ap, arith, Bool, decimal, decimal_is_IsNumeral, digit_from_value, digits_value, false, fits_i64, if◌then◌else◌, integer, is_among, is_decimal, is_quoted, is_string, IsNumeral, IsSpeltPlain, List, list_all, lt-ltb, ltb-true, nat_lt, ne_eqb, negsuc, None, not, not-false, not-true, number, option_and_then, or_parts, pos, refl, signed_decimal, Some, spelling, string, suc, Tree, true, typing, ℕ, ℤ, ◌<◌, ◌^◌, ◌∷◌, ◌≡◌, ◌≢◌, ◌≤◌, nat_tests, eqb-true}
 use Rattle.defs_tree.proofs.Parsing.{all_digits-to}
 use Rattle.defs_tree.proofs.TypingLaws.{typing-real, typing-string}
 
 -- ---- texts that begin with a digit or a minus
-
--- not one of a word's first characters
-abbrev pub IsNumberStart : ℕ → Type 0
-IsNumberStart c = (c < 58) × (c ≢ 43)
 
 -- a word that is empty or begins with a letter or a tilde
 abbrev starts_late : List ℕ → Bool
@@ -24,13 +20,10 @@ abbrev SecondIsEarly : List ℕ → Type 0
 SecondIsEarly [] = Unit {0}
 SecondIsEarly (c ∷ cs) = c < 58
 
-after_plus : (c : ℕ) (cs : List ℕ) → c ≢ 43 → after_prefix (43 ∷ []) (c ∷ cs) ≡ None
-after_plus c cs n = ap (λ b. if b then Some cs else None) (ne_eqb 43 c (λ e. n (sym e)))
-
 -- such a text stands for the integer that it writes
 integer_text : (c : ℕ) (cs : List ℕ) (z : ℤ) → c < 58 → c ≢ 43 → SecondIsEarly cs → signed_decimal (c ∷ cs) ≡ Some z → typing (c ∷ cs) ≡ integer z
 unfolding typing
-integer_text c cs z early n second e = grind (arith, nat_tests, eqb-true, after_plus, no_late_word)
+integer_text c cs z early n second e = grind (arith, nat_tests, eqb-true, no_late_word)
 
 -- ---- the digits of a number
 

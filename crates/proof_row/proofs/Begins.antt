@@ -63,9 +63,6 @@ piece_of a p x f m b n h = grind arith
 there : (fl adj : Bool) (col c : ℕ) (r : List ℕ) → begins_plain fl adj col (c ∷ r) ≡ false → kind_at fl adj col (c ∷ r) ≡ kind_by c r
 there fl adj col c r h = rw h refl
 
-neither_plain : (a b : Bool) → b ≡ true → (a && not b) ≡ false
-neither_plain a b h = grind arith
-
 unplain : (a b : Bool) → a ≡ false → (a && b) ≡ false
 unplain a b h = rw h refl
 

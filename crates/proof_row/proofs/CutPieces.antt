@@ -1,5 +1,5 @@
 -- Pieces of a row at the accounts of a cut: other block collections are open there while a key waits, and pairs are open in flow levels.
-use Rattle.proof_row.proofs.Common.{Account, act_of, Before, begins_with_key_indicator, begins_with_space_or_break, Bool, ends_entry, ends_plain, eqb-true, false, gives_colon, gives_dash, gives_node, gives_question, goes_on, if◌then◌else◌, is_adjacent, is_blank, is_blank_or_end, is_break, is_nul, IsPiece, kind_at, length, Level, List, not, Option, past_separation, Position, question, refl, Some, Stand, stops, subst, sym, Tok, true, with_blocks, ℕ, ◌&&◌, ◌++◌, ◌==◌, ◌||◌, ◌∷◌, ◌≡◌, ◌⊎◌, arith}
+use Rattle.proof_row.proofs.Common.{Account, act_of, Before, begins_with_key_indicator, begins_with_space_or_break, Bool, ends_entry, eqb-true, false, gives_colon, gives_dash, gives_node, gives_question, if◌then◌else◌, is_adjacent, is_blank, is_blank_or_end, is_break, is_nul, IsPiece, kind_at, length, Level, List, not, Option, past_separation, Position, question, refl, Some, subst, sym, Tok, true, with_blocks, ℕ, ◌&&◌, ◌++◌, ◌==◌, ◌||◌, ◌∷◌, ◌≡◌, ◌⊎◌, arith}
 use Rattle.defs_token.specs.Account.{is_in_flow}
 use Rattle.proof_row.proofs.Begins.{separations_end_before}
 
@@ -15,15 +15,6 @@ pub indicator_with_blocks : (bs : List (Option ℕ)) (a : Account) (c : ℕ) (r 
 indicator_with_blocks bs a c r n f q b k h = grind arith
 
 -- ---- in flow
-
-ends_in_flow : (c d : Option ℕ) (s : Stand) (r : List ℕ) → ends_plain true c s r ≡ ends_plain true d s r
-ends_in_flow c d a r = cc
-
-goes_on_in_flow : (c d : Option ℕ) (s : Stand) (p n : List ℕ) → goes_on true c s p n ≡ goes_on true d s p n
-goes_on_in_flow c d s a n = grind arith
-
-stops_in_flow : (c d : Option ℕ) (s : Stand) (n : List ℕ) → stops true c s n ≡ stops true d s n
-stops_in_flow c d s a = grind arith
 
 -- an account by its parts
 abbrev pub account_by : Position → Before → List (Option ℕ) → List Level → Account

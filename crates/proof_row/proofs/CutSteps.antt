@@ -1,5 +1,5 @@
 -- A step of a row, as a cut has it: the tokens before the one that it shows have no piece, and the account of the cut goes on as that of the row.
-use Rattle.proof_row.proofs.Common.{[], Account, account_at_piece, Act, act_of, ap, Before, begins_node, begun_by, begun_outside, block_mapping_start, block_sequence_start, blocks_past, Bool, ends_entry, Entry, false, free, gives_block_scalar, gives_closing, gives_colon, gives_comma, gives_dash, gives_marker, gives_node, gives_question, if◌then◌else◌, inl, inr, is_deeper, is_keyed, is_near, is_waiting, IsPiece, key_tokens, keyed, Level, levels_past, Line, line_past, List, map, None, opened, Option, Outside, Pair, Position, refl, single_pair, Some, start_if, taken, takes_pair, Tok, Token, true, unless_key, waits, ℕ, ◌&&◌, ◌++◌, ◌||◌, ◌∷◌, ◌≡◌, ◌⊎◌, arith}
+use Rattle.proof_row.proofs.Common.{[], Account, account_at_piece, Act, act_of, ap, Before, begins_node, begun_by, begun_outside, block_mapping_start, block_sequence_start, blocks_past, Bool, Entry, false, free, gives_block_scalar, gives_closing, gives_colon, gives_comma, gives_dash, gives_marker, gives_node, gives_question, if◌then◌else◌, inl, inr, is_deeper, is_keyed, is_near, is_waiting, IsPiece, key_tokens, keyed, Level, levels_past, Line, line_past, List, map, None, opened, Option, Outside, Pair, Position, refl, single_pair, Some, start_if, taken, takes_pair, Tok, Token, true, unless_key, waits, ℕ, ◌&&◌, ◌||◌, ◌∷◌, ◌≡◌, ◌⊎◌, arith}
 use Rattle.defs_token.specs.Account.{settled}
 use Rattle.defs_token.specs.RowAccount.{Account as RowAccount, before_by as before_by_previous}
 use Rattle.proof_row.proofs.CutPieces.{account_by}
@@ -42,17 +42,9 @@ pub settled_all : (column : ℕ) (bs : List ℕ) → settled column (somes bs) �
 settled_all column [] = refl
 settled_all column (n ∷ bs) = ap (λ z. Some n ∷ z) (settled_all column bs)
 
--- the levels after a piece that closes no collection
-pub levels_go_on : (t : Tok) (c : ℕ) (r : List ℕ) (es : List Entry) → (act_of t ≡ gives_closing → ⊥) → levels_past (levels_in es) (c ∷ r) t ≡ levels_in (begun_by t ++ es)
-levels_go_on a c r es n = grind arith
-
 -- outside flow
 pub levels_outside : (t : Tok) (c : ℕ) (r : List ℕ) → levels_past [] (c ∷ r) t ≡ levels_in (begun_by t)
 levels_outside a c r = grind arith
-
--- a piece that ends no entry
-pub goes_on : (t : Tok) (k : Act) → act_of t ≡ k → (k ≡ gives_comma → ⊥) → (k ≡ gives_closing → ⊥) → ends_entry (Some t) ≡ false
-goes_on a k e no_comma no_close = grind arith
 
 -- ---- outside flow
 

@@ -1,27 +1,6 @@
 -- Like entries stay like over a piece in flow.
-use Rattle.proof_row.proofs.Common.{Act, Bool, entries_past, Entry, entry_past, false, FlowKind, gives_block_scalar, gives_closing, gives_colon, gives_comma, gives_dash, gives_marker, gives_node, gives_nothing, gives_question, Had, had_after, had_past, List, None, Option, Pair, pair_past, Position, renewed, settled_past, subst, takes_pair, true, with_had, ◌∷◌, ◌≡◌, arith}
+use Rattle.proof_row.proofs.Common.{Act, Bool, entries_past, Entry, entry_past, FlowKind, gives_block_scalar, gives_closing, gives_colon, gives_comma, gives_dash, gives_marker, gives_node, gives_nothing, gives_question, Had, had_after, List, Option, Pair, pair_past, Position, renewed, subst, takes_pair, with_had, ◌∷◌, ◌≡◌, arith}
 use Rattle.proof_row.proofs.Like.{LikeHad, LikeEntry, LikeEntries, Stepped, weaker, tails, both, like_after, same_after, same_entry}
-
--- ---- where a key may begin again
-
-renewed_step : (again : Bool) (k : Act) (d e : Had) → LikeHad d e → Stepped LikeHad (d ≡ e) (renewed again k d) (renewed again k e)
-renewed_step a k d e i = grind arith
-
--- ---- what an entry has had
-
-abbrev pub HadStep : Act → Type 0
-HadStep k = (here : Position) (single : Bool) (b c : Bool) (d e : Had) → LikeHad d e →
-    Stepped LikeHad ((d ≡ e) × (b ≡ c)) (had_past here single k b d) (had_past here single k c e)
-
-settled_step : (d e : Had) → LikeHad d e → Stepped LikeHad ((d ≡ e) × (false ≡ false)) (settled_past d) (settled_past e)
-settled_step d e i = grind arith
-
--- what settles an entry, and is no key
-settled_had : (f : (key : Bool) → Had → Option Had) → ((d : Had) → f false d ≡ settled_past d) → ((d : Had) → f true d ≡ None) → (b c : Bool) (d e : Had) → LikeHad d e → Stepped LikeHad ((d ≡ e) × (b ≡ c)) (f b d) (f c e)
-settled_had f settles key a c d e i = grind arith
-
-had_step : (k : Act) → HadStep k
-had_step a here s b c d e i = grind arith
 
 -- ---- an entry that goes on
 

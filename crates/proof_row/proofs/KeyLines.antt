@@ -30,10 +30,6 @@ later (e ∷ es) m n l b = ((grind arith), later es m n l b.1)
 
 -- ---- a step
 
-abbrev Then : ℕ → Option (List Entry) → Type 0
-Then n None = Unit {0}
-Then n (Some es) = AreBefore es n
-
 abbrev Kept : Option Account → Type 0
 Kept None = Unit {0}
 Kept (Some a) = KeysBefore a

@@ -39,10 +39,6 @@ IsLike a b = (a.site ≡ b.site) × LikeLine a.line b.line × LikeEntries a.entr
 abbrev pub LikeOutside : Outside → Outside → Type 0
 LikeOutside x y = LikeLine x.line y.line × (x.blocks ≡ y.blocks)
 
-pub entries_themselves : (es : List Entry) → LikeEntries es es
-entries_themselves [] = tt
-entries_themselves (e ∷ es) = ((refl, refl, grind arith), entries_themselves es)
-
 -- ---- what a step makes of two like things
 
 -- What holds of what comes of two like things by a step: it is like again, and where it is equal, so were they, and more.
@@ -54,11 +50,6 @@ Stepped Like Were None y = Unit {0}
 -- what follows from a step follows also where more is said of what was before
 pub weaker : {A : Type 0} → (Like : A → A → Type 0) (P Q : Type 0) (x y : Option A) → (P → Q) → Stepped Like P x y → Stepped Like Q x y
 weaker a b d e y f s = grind arith
-
--- a step that either thing may fail to make
-pub unless : {A : Type 0} → (Like : A → A → Type 0) (Were : Type 0) (m n : Bool) (x y : A) → Like x y → (x ≡ y → Were) →
-    Stepped Like Were (if m then None else Some x) (if n then None else Some y)
-unless a b d n x y i f = grind arith
 
 -- a step that both make, or neither
 pub where_both : {A : Type 0} → (Like : A → A → Type 0) (Were : Type 0) (n : Bool) (x y : Option A) → Stepped Like Were x y →

@@ -1,24 +1,11 @@
 -- The text says which piece comes: at like accounts, two steps with which one text begins have the same separation, piece and token.
-use Rattle.proof_row.proofs.Common.{[], Act, act_of, ap, before_past, blocks_at, Bool, dashes, directive_line, dots, Entry, false, has_no_nul, Holds, innermost_column, is_adjacent, is_empty, is_in_flow, is_marker, IsSeenAlike, IsWritten, Kind, kind_of, level_of, List, map, None, not, Option, position_after, refl, seen, shown_position, Site, site_at, Some, Step, Tok, true, ℕ, ◌++◌, ◌∙◌, ◌∷◌, ◌≡◌, ◌≢◌, arith}
+use Rattle.proof_row.proofs.Common.{[], Act, act_of, ap, before_past, blocks_at, Bool, Entry, has_no_nul, Holds, innermost_column, is_adjacent, is_empty, is_in_flow, IsSeenAlike, IsWritten, kind_of, level_of, List, map, None, not, Option, position_after, refl, seen, shown_position, Site, site_at, Some, Step, true, ℕ, ◌++◌, ◌∙◌, ◌∷◌, ◌≡◌, ◌≢◌, arith}
 use Rattle.proof_row.proofs.Texts.{no_nul_after}
 use Rattle.proof_row.proofs.Pieces.{pieces_seen_alike, separations_before}
 use Rattle.defs_token.specs.RowAccount.{Account, before_by}
 use Rattle.proof_row.proofs.Like.{LikeEntries, IsLike}
 
 -- ---- what a piece is seen with
-
--- a kind of piece says whether it stands for the document
-abbrev pub is_marker_kind : Kind → Bool
-is_marker_kind directive_line = true
-is_marker_kind dashes = true
-is_marker_kind dots = true
-is_marker_kind _ = false
-
-pub marker_by_kind : (t : Tok) → is_marker (act_of t) ≡ is_marker_kind (kind_of t)
-marker_by_kind a = grind arith
-
-same_blocks : (fl : Bool) (j k : Act) (col : ℕ) (bs : List ℕ) → is_marker j ≡ is_marker k → blocks_at fl j col bs ≡ blocks_at fl k col bs
-same_blocks a j k col bs h = grind arith
 
 abbrev in_levels : List Entry → Bool
 in_levels es = not (is_empty (map level_of es))
