@@ -49,8 +49,7 @@ digits_read (c ∷ cs) =
     (λ i. followed_by (λ b. digits_are b i) reads_exponent (c ∷ cs)) ∙ at_least-after is_ascii_digit reads_exponent exponent_rejects_digit c cs ∙ by (is_ascii_digit c)
   where
     by : (b : Bool) → (b && reads_exponent (after_all is_ascii_digit cs)) ≡ (b && reads_exponent (if b then after_all is_ascii_digit cs else c ∷ cs))
-    by true = refl
-    by false = refl
+    by a = grind arith
 
 frac_read : (c : ℕ) (cs : List ℕ) → followed_by is_frac reads_exponent (c ∷ cs) ≡ ((c == 46) && (begins_in is_ascii_digit cs && reads_exponent (after_all is_ascii_digit cs)))
 frac_read c cs = followed_by-and (c == 46) are_digits reads_exponent cs ∙ ap (λ b. (c == 46) && b) (digits_read cs)
@@ -62,12 +61,10 @@ end_read : (t : List ℕ) → end_part t ≡ reads_end t
 end_read t = (λ i. followed_by (optional is_frac) (λ b. exponent_read b i) t) ∙ optional-then is_frac reads_exponent t ∙ by t
   where
     chosen : (c : ℕ) (cs : List ℕ) (b : Bool) → (c == 46) ≡ b → (x : Bool) → (reads_exponent (c ∷ cs) || (b && x)) ≡ (if b then x else reads_exponent (c ∷ cs))
-    chosen c cs true e x = rw (point_no_mark c e) refl
-    chosen c cs false e x = or-false (reads_exponent (c ∷ cs))
+    chosen c cs a e x = grind (arith, point_no_mark, or-false)
 
     by : (t : List ℕ) → (reads_exponent t || followed_by is_frac reads_exponent t) ≡ reads_end t
-    by [] = refl
-    by (c ∷ cs) = ap (λ b. reads_exponent (c ∷ cs) || b) (frac_read c cs) ∙ chosen c cs (c == 46) refl _
+    by a = grind (arith, frac_read, chosen)
 
 -- ---- the whole part
 
@@ -90,17 +87,13 @@ whole_read g r c cs =
   where
     by : (z : Bool) → (c == 48) ≡ z → (d : Bool) → is_ascii_digit c ≡ d
         → ((d && g cs) || ((not z && d) && g (after_all is_ascii_digit cs))) ≡ (if z then g cs else d && g (after_all is_ascii_digit cs))
-    by true e true f = or-false (g cs)
-    by true e false f = let no : true ≡ false = sym (grind (arith, nat_tests)) ∙ f in cc
-    by false e true f = passed g r cs
-    by false e false f = refl
+    by a e b f = grind (arith, or-false, passed)
 
 unsigned_read : (t : List ℕ) → followed_by is_whole end_part t ≡ reads_unsigned t
 unsigned_read t = (λ i. followed_by is_whole (λ b. end_read b i) t) ∙ by t
   where
     by : (t : List ℕ) → followed_by is_whole reads_end t ≡ reads_unsigned t
-    by [] = refl
-    by (c ∷ cs) = whole_read reads_end end_rejects_digit c cs
+    by a = grind (arith, whole_read, end_rejects_digit)
 
 unsigned_rejects_minus : Rejects is_minus (λ t. followed_by is_whole end_part t)
 unsigned_rejects_minus c cs h = unsigned_read (c ∷ cs) ∙ rw (minus_no_zero c h, minus_no_digit c h) refl

@@ -53,8 +53,7 @@ written c h =
   where
     by : (c == 34) ≡ false → (c == 92) ≡ false → (t : Bool) → (nat_lt c 32 || (c == 127)) ≡ t
         → IsWritten (if t then unicode 48 48 (hexadecimal_digit (c / 16)) (hexadecimal_digit (c % 16)) else itself c) (if t then escaped_code c else c ∷ []) c
-    by a b true e = control c (grind (arith, nat_tests))
-    by a b false e = itself_written c a b (or_parts (nat_lt c 32) (c == 127) e).0 h
+    by a b d e = grind (arith, control, itself_written, or_parts)
 
 -- ---- a text
 

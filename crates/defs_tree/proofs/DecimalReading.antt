@@ -122,8 +122,7 @@ point_then g [] = refl
 point_then g (c ∷ cs) = one-then is_point g c cs ∙ by (is_point c)
   where
     by : (b : Bool) → (b && g cs) ≡ (b && g (if b then cs else c ∷ cs))
-    by true = refl
-    by false = refl
+    by a = grind arith
 
 point_rejects_digit : (g : List ℕ → Bool) → Rejects is_ascii_digit (after_point g)
 unfolding after_point

@@ -71,8 +71,7 @@ optional_one-after p g r [] = optional-then (one p) g [] ∙ or-false (g [])
 optional_one-after p g r (c ∷ cs) = optional-then (one p) g (c ∷ cs) ∙ ap (λ x. g (c ∷ cs) || x) (one-then p g c cs) ∙ by (p c) refl
   where
     by : (b : Bool) → p c ≡ b → (g (c ∷ cs) || (b && g cs)) ≡ g (if b then cs else c ∷ cs)
-    by true e = ap (λ x. x || g cs) (r c cs e)
-    by false e = or-false (g (c ∷ cs))
+    by a e = grind (arith, or-false)
 
 -- ---- what `followed_by` says: the text is cut
 
@@ -81,8 +80,7 @@ cut_from f g [] h = let parts = and_parts (f []) (g []) h in record { before = [
 cut_from f g (c ∷ cs) h = by (or_cases (f [] && g (c ∷ cs)) (followed_by (λ b. f (c ∷ b)) g cs) h) (cut_from (λ b. f (c ∷ b)) g cs)
   where
     by : ((f [] && g (c ∷ cs)) ≡ true) ⊎ (followed_by (λ b. f (c ∷ b)) g cs ≡ true) → (followed_by (λ b. f (c ∷ b)) g cs ≡ true → IsSplit (λ b. f (c ∷ b)) g cs) → IsSplit f g (c ∷ cs)
-    by (inl e) later = let parts = and_parts (f []) (g (c ∷ cs)) e in record { before = []; after = c ∷ cs; whole = refl; is_first = parts.0; is_second = parts.1 }
-    by (inr e) later = let r = later e in record { before = c ∷ r.before; after = r.after; whole = ap (λ t. c ∷ t) r.whole; is_first = r.is_first; is_second = r.is_second }
+    by a later = grind (arith, and_parts)
 
 joined_parts : (f g : List ℕ → Bool) (a b : List ℕ) → f a ≡ true → g b ≡ true → followed_by f g (a ++ b) ≡ true
 joined_parts f g [] [] h e = and_from (f []) (g []) h e

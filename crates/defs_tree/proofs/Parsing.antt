@@ -56,8 +56,7 @@ no_number : (base : ℕ) (t : List ℕ) → base ≤ 36 → are_ascii t ≡ fals
 no_number base t small h = signed_number-std base t ∙ by (at_least_one (is_digit base) (without_leading_sign t)) refl
   where
     by : (b : Bool) → at_least_one (is_digit base) (without_leading_sign t) ≡ b → fitting b (signed_digits_value base t) ≡ None
-    by true e = absurd (true≢false (sym (grind (arith, digits_are_ascii, and_parts)) ∙ h))
-    by false e = refl
+    by a e = grind (arith, digits_are_ascii, and_parts)
 
 -- the bytes of a text and its characters write the same number
 pub signed_number-chars : (base : ℕ) (bs : List ℕ) → base ≤ 36 → IsUtf8 bs → signed_number base (chars bs) ≡ signed_number base bs

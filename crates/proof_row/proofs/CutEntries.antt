@@ -77,26 +77,14 @@ entered gives_question again key had kind pair here colon own b bs next t c r es
     settles = nothing here b bs (entry_by kind pair fresh) entry next t c r es gives_question a (λ h. cc h) (λ h. cc h) (ap (λ z. let l : Level = record { kind = kind; pair = z || false } in l) (sym (grind arith)))
 
     by : (again key : Bool) (had : Had) → EnteredBy (Inner here b bs (entry_by kind pair had) es) (begun_inside (takes_pair kind pair) pair here colon own gives_question key had) next t c r es (entries_past here again gives_question (begun_by t) key (entry_by kind pair had) es)
-    by true false fresh = settles
-    by true false filled = settles
-    by true false settled = settles
-    by false false fresh = settles
-    by false false filled = settles
-    by false false settled = settles
-    by _ _ _ = tt
+    by a b d = grind (arith, settles)
 entered gives_marker again key had kind pair here colon own b bs next t c r es a q = by again key had
   where
     settles : Entered (Unkeyed here b bs kind pair es) [] next t c r es (begun_by t ++ (entry_by kind pair settled ∷ es))
     settles = nothing here b bs (entry_by kind pair fresh) (entry_by kind pair settled) next t c r es gives_marker a (λ h. cc h) (λ h. cc h) refl
 
     by : (again key : Bool) (had : Had) → EnteredBy (Inner here b bs (entry_by kind pair had) es) (begun_inside (takes_pair kind pair) pair here colon own gives_marker key had) next t c r es (entries_past here again gives_marker (begun_by t) key (entry_by kind pair had) es)
-    by true false fresh = settles
-    by true false filled = settles
-    by true false settled = settles
-    by false false fresh = settles
-    by false false filled = settles
-    by false false settled = settles
-    by _ _ _ = tt
+    by a b d = grind (arith, settles)
 entered gives_colon again key had kind pair here colon own b bs next t c r es a q = grind (arith, in_entry, nothing)
 entered gives_comma again key had kind pair here colon own b bs next t c r es a q = grind (arith, pair_ends)
 entered gives_closing again key had kind pair here colon own b bs next t c r es a q = grind (arith, pair_ends)

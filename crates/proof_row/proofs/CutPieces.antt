@@ -47,8 +47,4 @@ begins_no_key a c r n f q t k h = by (is_blank c) (is_break c) (is_nul c) (c == 
         (grind arith)
 
     by : (b l z o : Bool) → (not (b || l || z) && not o) ≡ true → begins_with_key_indicator (if b || l || o then past_separation o (r ++ n) else c ∷ (r ++ n)) ≡ false
-    by false false false false e = here (c == 63) (begins_with_space_or_break (r ++ n)) refl refl
-    by true l z o e = absurd (cc e)
-    by false true z o e = absurd (cc e)
-    by false false true o e = absurd (cc e)
-    by false false false true e = absurd (cc e)
+    by a l z o e = grind (arith, here)

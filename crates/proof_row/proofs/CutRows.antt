@@ -265,9 +265,7 @@ inside_step s line e es f c r t key ws after x h same on_line kept = by_line (li
       where
         keeps : (m : Line) → KeptBy m s → (is_waiting m ≡ true → begins_free_line s.before f ≡ false) → (is_waiting m ≡ true → has_no_break (c ∷ r) ≡ true) → IsPiece (account_by at.position b bs (n.level ∷ levels_in es)) (c ∷ r) next None own t →
             KeptBy m (site_past true at (c ∷ r) t next at.blocks)
-        keeps free k broken one p = tt
-        keeps taken k broken one p = tt
-        keeps (waits begin) k broken one p = grind (arith, column_grows, next, unbroken, kept_on, no_directive, b, bs, own)
+        keeps a k broken one p = grind (arith, column_grows, next, unbroken, kept_on, no_directive, b, bs, own)
 
     by_line : (o : Option Line) → line_past_separation true (begins_free_line s.before f) line ≡ o → past_piece at (c ∷ r) t next (is_renewed s.before f) key o (e ∷ es) ≡ Some x → IsCutStep a w ws after x
     by_line None g i = absurd (cc i)

@@ -30,9 +30,7 @@ split_append (c ∷ p) z ls e h =
 
     by : (break two : Bool) (s : Split) → split p ≡ s → ((ls : List (List ℕ)) → s ≡ of_lines ls [] → split (p ++ z) ≡ lines_after ls (split z)) → split_by break two c s ≡ of_lines ls [] →
         split_by break two c (split (p ++ z)) ≡ lines_after ls (split z)
-    by true true s i f e = f ls e
-    by true false s i f e = grind arith
-    by false two s i f e = kept (s.complete) (s.last) e f
+    by a two s i f e = grind (arith, kept)
 
 -- ---- the first line
 

@@ -63,8 +63,7 @@ bodies : (at : ℕ → List ℕ → Option Spelled) → IsOnward at → (quote :
 bodies at f quote lf again stop b d x y h k i j e = by (splits b d (quote ∷ x) (quote ∷ y) e)
   where
     over : (b d x y more : List ℕ) → d ≡ b ++ more → quote ∷ x ≡ more ++ (quote ∷ y) → is_read (elements at 0 b) ≡ true → is_read (elements at 0 d) ≡ true → again x ≡ false → (b ≡ d) × (x ≡ y)
-    over b d x y [] g l h k i = (sym (g ∙ append-nil b), (same_head quote quote x y l).1)
-    over b d x y (c ∷ more) g l h k i = grind (arith, same_head, contrary, reads)
+    over b d x y a g l h k i = grind (arith, append-nil, same_head, contrary, reads)
 
     by : More b d (quote ∷ x) (quote ∷ y) ⊎ More d b (quote ∷ y) (quote ∷ x) → (b ≡ d) × (x ≡ y)
     by a = grind (arith, over)
