@@ -46,10 +46,7 @@ digits_are a = grind arith
 digits_read : (t : List ℕ) → followed_by are_digits reads_exponent t ≡ (begins_in is_ascii_digit t && reads_exponent (after_all is_ascii_digit t))
 digits_read [] = refl
 digits_read (c ∷ cs) =
-    (λ i. followed_by (λ b. digits_are b i) reads_exponent (c ∷ cs)) ∙ at_least-after is_ascii_digit reads_exponent exponent_rejects_digit c cs ∙ by (is_ascii_digit c)
-  where
-    by : (b : Bool) → (b && reads_exponent (after_all is_ascii_digit cs)) ≡ (b && reads_exponent (if b then after_all is_ascii_digit cs else c ∷ cs))
-    by a = grind arith
+    (λ i. followed_by (λ b. digits_are b i) reads_exponent (c ∷ cs)) ∙ grind (arith, at_least-after is_ascii_digit reads_exponent exponent_rejects_digit c cs)
 
 frac_read : (c : ℕ) (cs : List ℕ) → followed_by is_frac reads_exponent (c ∷ cs) ≡ ((c == 46) && (begins_in is_ascii_digit cs && reads_exponent (after_all is_ascii_digit cs)))
 frac_read c cs = followed_by-and (c == 46) are_digits reads_exponent cs ∙ ap (λ b. (c == 46) && b) (digits_read cs)
@@ -58,13 +55,7 @@ abbrev end_part : List ℕ → Bool
 end_part t = in_order (optional is_frac ∷ optional is_exponent ∷ []) t
 
 end_read : (t : List ℕ) → end_part t ≡ reads_end t
-end_read t = (λ i. followed_by (optional is_frac) (λ b. exponent_read b i) t) ∙ optional-then is_frac reads_exponent t ∙ by t
-  where
-    chosen : (c : ℕ) (cs : List ℕ) (b : Bool) → (c == 46) ≡ b → (x : Bool) → (reads_exponent (c ∷ cs) || (b && x)) ≡ (if b then x else reads_exponent (c ∷ cs))
-    chosen c cs a e x = grind (arith, point_no_mark, or-false)
-
-    by : (t : List ℕ) → (reads_exponent t || followed_by is_frac reads_exponent t) ≡ reads_end t
-    by a = grind (arith, frac_read, chosen)
+end_read t = (λ i. followed_by (optional is_frac) (λ b. exponent_read b i) t) ∙ optional-then is_frac reads_exponent t ∙ grind (arith, frac_read, point_no_mark)
 
 -- ---- the whole part
 
@@ -79,21 +70,14 @@ passed g r (c ∷ cs) = grind arith
 whole_read : (g : List ℕ → Bool) → Rejects is_ascii_digit g → (c : ℕ) (cs : List ℕ)
     → followed_by is_whole g (c ∷ cs) ≡ (if c == 48 then g cs else is_ascii_digit c && g (after_all is_ascii_digit cs))
 whole_read g r c cs =
+    let some = is_ascii_digit c in
+    let more = not (c == 48) && is_ascii_digit c in
     (λ i. followed_by (λ b. whole_parts c b i) g cs)
-    ∙ followed_by-or (λ b. is_ascii_digit c && is_empty b) (λ b. (not (c == 48) && is_ascii_digit c) && any_number is_ascii_digit b) g cs
-    ∙ (λ i. (followed_by-and (is_ascii_digit c) is_empty g cs i) || (followed_by-and (not (c == 48) && is_ascii_digit c) (any_number is_ascii_digit) g cs i))
-    ∙ (λ i. (is_ascii_digit c && empty-followed_by g cs i) || ((not (c == 48) && is_ascii_digit c) && any-after is_ascii_digit g r cs i))
-    ∙ by (c == 48) refl (is_ascii_digit c) refl
-  where
-    by : (z : Bool) → (c == 48) ≡ z → (d : Bool) → is_ascii_digit c ≡ d
-        → ((d && g cs) || ((not z && d) && g (after_all is_ascii_digit cs))) ≡ (if z then g cs else d && g (after_all is_ascii_digit cs))
-    by a e b f = grind (arith, or-false, passed)
+    ∙ grind (arith, followed_by-or (λ b. some && is_empty b) (λ b. more && any_number is_ascii_digit b) g cs, followed_by-and some is_empty g cs,
+    followed_by-and more (any_number is_ascii_digit) g cs, empty-followed_by g cs, any-after is_ascii_digit g r cs, passed g r cs, nat_tests)
 
 unsigned_read : (t : List ℕ) → followed_by is_whole end_part t ≡ reads_unsigned t
-unsigned_read t = (λ i. followed_by is_whole (λ b. end_read b i) t) ∙ by t
-  where
-    by : (t : List ℕ) → followed_by is_whole reads_end t ≡ reads_unsigned t
-    by a = grind (arith, whole_read, end_rejects_digit)
+unsigned_read t = (λ i. followed_by is_whole (λ b. end_read b i) t) ∙ grind (arith, whole_read, end_rejects_digit)
 
 unsigned_rejects_minus : Rejects is_minus (λ t. followed_by is_whole end_part t)
 unsigned_rejects_minus c cs h = unsigned_read (c ∷ cs) ∙ rw (minus_no_zero c h, minus_no_digit c h) refl

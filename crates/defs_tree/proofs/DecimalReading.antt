@@ -119,10 +119,7 @@ whole_read a = grind (arith, at_least-after, exponent_rejects_digit)
 point_then : (g : List ℕ → Bool) (t : List ℕ) → after_point g t ≡ (begins_in is_point t && g (after_one is_point t))
 unfolding after_point
 point_then g [] = refl
-point_then g (c ∷ cs) = one-then is_point g c cs ∙ by (is_point c)
-  where
-    by : (b : Bool) → (b && g cs) ≡ (b && g (if b then cs else c ∷ cs))
-    by a = grind arith
+point_then g (c ∷ cs) = grind (arith, one-then is_point g c cs)
 
 point_rejects_digit : (g : List ℕ → Bool) → Rejects is_ascii_digit (after_point g)
 unfolding after_point
