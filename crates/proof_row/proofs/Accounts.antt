@@ -2,7 +2,7 @@
 use Rattle.proof_row.proofs.Common.{[], account_past, act_of, begins_free_line, begun_by, Bool, Entry, have_no_key, is_in_flow, is_renewed, Line, List, may_end, may_stand, None, on_one_line, Option, past_inside, past_piece, past_site, refl, Site, site_at, Some, Step, subst, Tok, true, ℕ, ◌∷◌, ◌≡◌, arith}
 use Rattle.defs_token.specs.RowAccount.{Account}
 use Rattle.proof_row.proofs.Like.{LikeLine, LikeEntries, IsLike, Stepped, weaker, where_both, both, same_entry}
-use Rattle.proof_row.proofs.RowLines.{separation_step, line_step}
+use Rattle.proof_row.proofs.RowLines.{separation_step}
 use Rattle.proof_row.proofs.Entries.{entries_step}
 use Rattle.std.proofs.lemmas.Bool.{and_parts}
 
@@ -17,7 +17,7 @@ piece_step : (s : Site) (p : List ℕ) (t : Tok) (next : List ℕ) (again b c : 
     Stepped IsLike (Were × (ds ≡ es) × (b ≡ c)) (past_piece s p t next again b x ds) (past_piece s p t next again c y es)
 piece_step s p t next again b c Were None y ds es j h = tt
 piece_step s p t next again b c Were (Some l) None ds es j h = grind arith
-piece_step s p t next again b c Were (Some l) (Some m) [] [] j h = grind (arith, weaker, line_step)
+piece_step s p t next again b c Were (Some l) (Some m) [] [] j h = grind (arith, weaker)
 piece_step s p t next again b c Were (Some l) (Some m) (d ∷ ds) (e ∷ es) j h =
     weaker IsLike ((l ≡ m) × ((d ∷ ds ≡ e ∷ es) × (b ≡ c))) (Were × (d ∷ ds ≡ e ∷ es) × (b ≡ c)) _ _ (λ k. (h.1 k.0, k.1.0, k.1.1))
     (inside_step s p t next l m ((d ∷ ds ≡ e ∷ es) × (b ≡ c)) _ _ h.0 (entries_step (act_of t) s.position again (begun_by t) b c d e ds es j.0 j.1))

@@ -28,7 +28,7 @@ waits_in_line a (w ∷ ws) after b h ends kept waiting = by_line a.line refl wai
     next = step.spelled ws after
 
     by_piece : (f p : List ℕ) (t : Tok) → IsWritten a (record { separation = f; piece = p; shown = t; key = w.key }) next → has_break f ≡ false → is_in_line (f ++ (p ++ next)) ≡ true
-    by_piece f a t h e = grind (arith, next, in_line, unbroken, separations_end_before)
+    by_piece f a t h e = grind (arith, in_line, unbroken, separations_end_before)
 
     by_past : (begin : Position) → a.line ≡ waits begin → (o : Option Account) → account_past a w next ≡ o → Leads o ws after b → begins_free_line a.site.before w.separation ≡ false
     by_past begin e None g k = absurd k

@@ -8,7 +8,3 @@ separation_step fl a l m i = grind arith
 abbrev pub LineStep : Act → Type 0
 LineStep k = (must : Bool) (here : Position) (bs : List ℕ) (b c : Bool) (l m : Line) → LikeLine l m →
     Stepped LikeOutside ((l ≡ m) × (b ≡ c)) (line_past must here bs k b l) (line_past must here bs k c m)
-
--- Like lines are like again after a piece outside flow.
-pub line_step : (k : Act) → LineStep k
-line_step a must here bs b c l m i = grind arith
