@@ -73,8 +73,16 @@ whole_read g r c cs =
     let some = is_ascii_digit c in
     let more = not (c == 48) && is_ascii_digit c in
     (λ i. followed_by (λ b. whole_parts c b i) g cs)
-    ∙ grind (arith, followed_by-or (λ b. some && is_empty b) (λ b. more && any_number is_ascii_digit b) g cs, followed_by-and some is_empty g cs,
-    followed_by-and more (any_number is_ascii_digit) g cs, empty-followed_by g cs, any-after is_ascii_digit g r cs, passed g r cs, nat_tests)
+    ∙ grind (
+      arith,
+      followed_by-or (λ b. some && is_empty b) (λ b. more && any_number is_ascii_digit b) g cs,
+      followed_by-and some is_empty g cs,
+      followed_by-and more (any_number is_ascii_digit) g cs,
+      empty-followed_by g cs,
+      any-after is_ascii_digit g r cs,
+      passed g r cs,
+      nat_tests,
+    )
 
 unsigned_read : (t : List ℕ) → followed_by is_whole end_part t ≡ reads_unsigned t
 unsigned_read t = (λ i. followed_by is_whole (λ b. end_read b i) t) ∙ grind (arith, whole_read, end_rejects_digit)

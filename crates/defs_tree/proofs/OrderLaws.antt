@@ -71,8 +71,12 @@ mutual
   pairs_same : (ps ss : Pairs) (q r : List ℤ) → cmp (pairs_code ps q) (pairs_code ss r) ≡ ordering_then (pairs_cmp ps ss) (cmp q r)
   pairs_same no_pairs no_pairs q r = refl
   pairs_same (pair k v ps) (pair l w ss) q r =
-      grind (arith, tree_same k l (tree_code v (pairs_code ps q)) (tree_code w (pairs_code ss r)),
-      tree_same v w (pairs_code ps q) (pairs_code ss r), pairs_same ps ss q r)
+      grind (
+        arith,
+        tree_same k l (tree_code v (pairs_code ps q)) (tree_code w (pairs_code ss r)),
+        tree_same v w (pairs_code ps q) (pairs_code ss r),
+        pairs_same ps ss q r,
+      )
   pairs_same ps ss q r = refl
 
 by_code : (t u : Tree) → cmp (tree_code t []) (tree_code u []) ≡ tree_cmp t u

@@ -57,9 +57,10 @@ late_mantissa = any_number is_ascii_digit ∷ one is_point ∷ at_least_one is_a
 mantissa_fits : Fits is_mantissa
 unfolding first_mantissa late_mantissa
 mantissa_fits =
-    one_of_fits (at_least_one is_ascii_digit ∷ in_order first_mantissa ∷ in_order late_mantissa ∷ [])
-    (digits_fit, (in_order_fits first_mantissa (digits_fit, ((IsWithin-one is_real_character is_point point_fits), (any_digits_fit, tt))),
-    (in_order_fits late_mantissa (any_digits_fit, ((IsWithin-one is_real_character is_point point_fits), (digits_fit, tt))), tt)))
+    let point = IsWithin-one is_real_character is_point point_fits in
+    let first = in_order_fits first_mantissa (digits_fit, (point, (any_digits_fit, tt))) in
+    let late = in_order_fits late_mantissa (any_digits_fit, (point, (digits_fit, tt))) in
+    one_of_fits (at_least_one is_ascii_digit ∷ in_order first_mantissa ∷ in_order late_mantissa ∷ []) (digits_fit, (first, (late, tt)))
 
 pub decimal-characters : (t : List ℕ) → is_decimal t ≡ true → list_all is_real_character t ≡ true
 unfolding is_decimal

@@ -95,6 +95,7 @@ longer_lines collection head ls h z y (l ∷ zs) [] s i j k n c false e f =
     let row : row_of (column_by h.digit collection (ls ++ (l ∷ zs))) l ≡ None = ap (λ n. row_of n l) column ∙ b.none in
     ap (λ o. value_at_text h o) (no_rows (column_by h.digit collection (ls ++ (l ∷ zs))) ls l zs row) in
     unread h collection (ls ++ (l ∷ zs)) further_text y s no_text (ap (λ o. read_body o collection (body (ls ++ (l ∷ zs)) further_text) y) (sym i) ∙ f)
+
 -- A block scalar does not go on over further text.
 over : (collection : Option ℕ) (p z y : List ℕ) (r s : BlockRead) → block_read collection p (z ++ y) ≡ Some r → block_read collection (p ++ z) y ≡ Some s → (z ≡ [] → ⊥) → has_no_nul (z ++ y) ≡ true → ⊥
 over collection p z y r s e f n c =
