@@ -46,21 +46,25 @@ record Rows : Type 0 where
             (last_field (implicit (word "k")
             (below no_comment (comment_line (codes " c") ∷ []) 5 (hash (last_field (implicit (word "z") (beside 0 empty_hash)))))))));
       }) (empty_line ∷ []))
-      (mapping ((list (number 1 ∷ number 2 ∷ []), list (text "x" ∷ text "p\n\nq\n" ∷ [])) ∷ (text "k", mapping ((text "z", mapping []) ∷ [])) ∷ []))
+      (mapping ((list (number 1 ∷ number 2 ∷ []), list (text "x" ∷ text "p\n\nq\n" ∷ []))
+      ∷ (text "k", mapping ((text "z", mapping []) ∷ [])) ∷ []))
       "---\n# top\n\n   ? - 1\n     - 2\n# mid\n   :       - x\n           - |\n                 p\n\n                 q\n   k:\n# c\n     z: {}\n"
   -- the scalars: a null, a boolean, integers, a real, a string as it stands, one in double quotes that need not be, one with escapes
   scalars : Shows
-      (plainly (array (entry (one (plain Tree.null)) [] (entry (one (plain (Tree.boolean true))) [] (entry (one (plain (Tree.integer (negsuc 6)))) []
+      (plainly (array
+      (entry (one (plain Tree.null)) [] (entry (one (plain (Tree.boolean true))) [] (entry (one (plain (Tree.integer (negsuc 6)))) []
       (entry (one (plain (Tree.real (codes "1e400")))) [] (entry (one (word "a b")) [] (entry (beside 2 (scalar (quoted (codes "a")))) []
       (last_entry (one (quoted (codes "\t\"\n"))))))))))))
-      (list (Tree.null ∷ Tree.boolean true ∷ Tree.integer (negsuc 6) ∷ Tree.real (codes "1e400") ∷ text "a b" ∷ text "a" ∷ text "\t\"\n" ∷ []))
+      (list (Tree.null ∷ Tree.boolean true ∷ Tree.integer (negsuc 6) ∷ Tree.real (codes "1e400") ∷ text "a b" ∷ text "a" ∷ text "\t\"\n"
+      ∷ []))
       "---\n- ~\n- true\n- -7\n- 1e400\n- a b\n-   \"a\"\n- \"\\t\\\"\\n\""
   -- an array at a deeper column than its key's, with a comment line before it and an empty line in it
   array_below_key : Shows
       (marked (record {
         gap = [];
         root = Root.block 0 (hash (last_field (implicit (word "a")
-            (below no_comment (comment_line (codes " note") ∷ []) 5 (array (entry (one (integer 1)) (empty_line ∷ []) (last_entry (one (integer 2)))))))));
+            (below no_comment (comment_line (codes " note") ∷ []) 5
+            (array (entry (one (integer 1)) (empty_line ∷ []) (last_entry (one (integer 2)))))))));
       }) (empty_line ∷ []))
       (mapping ((text "a", list (number 1 ∷ number 2 ∷ [])) ∷ []))
       "---\na:\n# note\n     - 1\n\n     - 2\n"
@@ -77,11 +81,13 @@ record Rows : Type 0 where
       "---\n- |-\n   \n   a\n\n  \n   b"
   -- a block after `-` on its line, and one on the next line
   compact_array : Shows
-      (plainly (array (entry (compact 0 (array (entry (one (integer 1)) [] (last_entry (one (integer 2)))))) [] (last_entry (beside 0 empty_array)))))
+      (plainly (array
+      (entry (compact 0 (array (entry (one (integer 1)) [] (last_entry (one (integer 2)))))) [] (last_entry (beside 0 empty_array)))))
       (list (list (number 1 ∷ number 2 ∷ []) ∷ list [] ∷ []))
       "---\n- - 1\n  - 2\n- []"
   spread_array : Shows
-      (plainly (array (entry (below no_comment [] 2 (array (entry (one (integer 1)) [] (last_entry (one (integer 2)))))) [] (last_entry (beside 0 empty_array)))))
+      (plainly (array (entry (below no_comment [] 2 (array (entry (one (integer 1)) [] (last_entry (one (integer 2)))))) []
+      (last_entry (beside 0 empty_array)))))
       (list (list (number 1 ∷ number 2 ∷ []) ∷ list [] ∷ []))
       "---\n-\n  - 1\n  - 2\n- []"
   -- a hash as key
@@ -96,16 +102,19 @@ record Rows : Type 0 where
   -- an empty array as key, after two spaces, and a key and a value on lines of their own
   other_keys : Shows
       (plainly (hash (field (explicit (beside 1 empty_array) [] (one (integer 1))) []
-      (last_field (explicit (below no_comment [] 1 (array (last_entry (one (plain Tree.null))))) [] (below no_comment [] 2 (array (last_entry (one (plain Tree.null))))))))))
+      (last_field (explicit (below no_comment [] 1 (array (last_entry (one (plain Tree.null))))) []
+      (below no_comment [] 2 (array (last_entry (one (plain Tree.null))))))))))
       (mapping ((list [], number 1) ∷ (list (Tree.null ∷ []), list (Tree.null ∷ [])) ∷ []))
       "---\n?  []\n: 1\n?\n - ~\n:\n  - ~"
   -- a root on one line, after a gap, with a comment at the end that no break ends
   scalar_root : Shows
-      (marked (record { gap = empty_line ∷ comment_line [] ∷ []; root = Root.inline (scalar (word "a")) }) (comment_line (codes " end") ∷ []))
+      (marked (record { gap = empty_line ∷ comment_line [] ∷ []; root = Root.inline (scalar (word "a")) })
+      (comment_line (codes " end") ∷ []))
       (text "a") "---\n\n#\na\n# end"
   -- a literal block as root, and line feeds after it
   literal_root : Shows
-      (marked (record { gap = []; root = Root.literal (codes "a\n\n b\n") (line "a" ∷ blank 0 ∷ line " b" ∷ []) }) (empty_line ∷ empty_line ∷ []))
+      (marked (record { gap = []; root = Root.literal (codes "a\n\n b\n") (line "a" ∷ blank 0 ∷ line " b" ∷ []) })
+      (empty_line ∷ empty_line ∷ []))
       (text "a\n\n b\n") "---\n|\na\n\n b\n\n"
 
 rows : Rows
@@ -144,7 +153,8 @@ record Refused : Type 0 where
   -- at the root, a first line that begins with a tab, a line that is a document marker, and a comment after the block
   root_begins_with_tab : ¬ IsRoot (Root.literal (codes "\ta\nb") (line "\ta" ∷ line "b" ∷ []))
   root_holds_marker : ¬ IsRoot (Root.literal (codes "a\n---\nb") (line "a" ∷ line "---" ∷ line "b" ∷ []))
-  comment_after_literal_root : ¬ AreDocuments (last_document (record { gap = []; root = Root.literal (codes "a\nb") (line "a" ∷ line "b" ∷ []) }) (comment_line [] ∷ []))
+  comment_after_literal_root : ¬ AreDocuments
+      (last_document (record { gap = []; root = Root.literal (codes "a\nb") (line "a" ∷ line "b" ∷ []) }) (comment_line [] ∷ []))
   -- a comment line that holds CR, and one that holds NUL
   comment_with_return : ¬ IsGap (comment_line (codes "a\r") ∷ [])
   comment_with_nul : ¬ IsGap (comment_line (0 ∷ []) ∷ [])
@@ -185,9 +195,11 @@ record NotBasic : Type 0 where
   -- a second document, and no `---`
   second_document : ¬ IsBasic (record {
     is_marked = true;
-    documents = layout.document (record { gap = []; root = Root.block 0 (array one_integer) }) [] (last_document (record { gap = []; root = Root.block 0 (array one_integer) }) []);
+    documents = layout.document (record { gap = []; root = Root.block 0 (array one_integer) }) []
+        (last_document (record { gap = []; root = Root.block 0 (array one_integer) }) []);
   })
-  unmarked : ¬ IsBasic (record { is_marked = false; documents = last_document (record { gap = []; root = Root.block 0 (array one_integer) }) [] })
+  unmarked : ¬ IsBasic
+      (record { is_marked = false; documents = last_document (record { gap = []; root = Root.block 0 (array one_integer) }) [] })
 
 not_basic : NotBasic
 not_basic = search (arith, true≢false)

@@ -49,12 +49,14 @@ record Rows : Type 0 where
   an_object : Shows
       (alone (Json.object [] (member (raw "k") (line_feed ∷ []) [] (whole "1") [] []
       (last_member (raw "b") [] []
-      (Json.array [] (elements Json.true_word (Json.null_word ∷ great ∷ Json.number (number true (codes "0") no_fraction no_exponent) ∷ []))) []))))
+      (Json.array []
+      (elements Json.true_word (Json.null_word ∷ great ∷ Json.number (number true (codes "0") no_fraction no_exponent) ∷ []))) []))))
       (mapping ((text "k", tree.number 1) ∷ (text "b", list (Tree.boolean true ∷ Tree.null ∷ great_tree ∷ tree.number 0 ∷ [])) ∷ []))
       (codes "{\"k\"\n:1,\"b\":[true,null,1e400,-0]}")
   -- `[1e400, "a b", [], null]`, with spaces
   an_array : Shows
-      (alone (Json.array [] (element great [] (space ∷ []) (element (string "a b") [] (space ∷ []) (element (Json.empty_array []) [] (space ∷ []) (last_element Json.null_word []))))))
+      (alone (Json.array [] (element great [] (space ∷ [])
+      (element (string "a b") [] (space ∷ []) (element (Json.empty_array []) [] (space ∷ []) (last_element Json.null_word []))))))
       (list (great_tree ∷ text "a b" ∷ list [] ∷ Tree.null ∷ []))
       (codes "[1e400, \"a b\", [], null]")
   -- an object indented by tabs
@@ -88,7 +90,8 @@ record Rows : Type 0 where
       (alone (Json.array [] (element (whole "1") [] (space ∷ []) (last_element (whole "2") []))))
       (list (tree.number 1 ∷ tree.number 2 ∷ [])) (codes "[1, 2]")
   array_in_object : Shows
-      (alone (Json.object [] (member (raw "a") [] [] (whole "1") [] [] (last_member (raw "b") [] [] (Json.array [] (elements Json.true_word (Json.null_word ∷ []))) []))))
+      (alone (Json.object [] (member (raw "a") [] [] (whole "1") [] []
+      (last_member (raw "b") [] [] (Json.array [] (elements Json.true_word (Json.null_word ∷ []))) []))))
       (mapping ((text "a", tree.number 1) ∷ (text "b", list (Tree.boolean true ∷ Tree.null ∷ [])) ∷ []))
       (codes "{\"a\":1,\"b\":[true,null]}")
   -- white space alone inside an array and an object
@@ -108,14 +111,17 @@ rows = search (arith, differ)
 
 record NumberRows : Type 0 where
   -- the least integer of 64 bits, and the next below, which is a real
-  least_integer : number_tree (number true (codes "9223372036854775808") no_fraction no_exponent) ≡ Tree.integer (negsuc 9223372036854775807)
+  least_integer : number_tree (number true (codes "9223372036854775808") no_fraction no_exponent)
+      ≡ Tree.integer (negsuc 9223372036854775807)
   below_least : number_tree (number true (codes "9223372036854775809") no_fraction no_exponent) ≡ Tree.real (codes "-9223372036854775809")
   -- the greatest, and the next above
   greatest_integer : number_tree (number false (codes "9223372036854775807") no_fraction no_exponent) ≡ tree.number 9223372036854775807
-  above_greatest : number_tree (number false (codes "9223372036854775808") no_fraction no_exponent) ≡ Tree.real (codes "9223372036854775808")
+  above_greatest : number_tree (number false (codes "9223372036854775808") no_fraction no_exponent)
+      ≡ Tree.real (codes "9223372036854775808")
   -- with a fraction or an exponent a number is a real, as it is written
   with_fraction : number_tree (number false (codes "1") (fraction (codes "0")) no_exponent) ≡ Tree.real (codes "1.0")
-  with_both : number_tree (number true (codes "12") (fraction (codes "50")) (exponent true plus (codes "07"))) ≡ Tree.real (codes "-12.50E+07")
+  with_both : number_tree (number true (codes "12") (fraction (codes "50")) (exponent true plus (codes "07")))
+      ≡ Tree.real (codes "-12.50E+07")
   -- a zero before another digit, no digit after a point, no digit at all, no digit after `e`
   leading_zero : is_number (number false (codes "01") no_fraction no_exponent) ≡ false
   empty_fraction : is_number (number false (codes "1") (fraction []) no_exponent) ≡ false
@@ -145,7 +151,8 @@ record Refused : Type 0 where
   -- an escape that has a letter past F
   no_digit : are_pieces (unicode 48 48 48 103 ∷ []) ≡ false
   -- `{"a":1,"\u0061":2}`: the keys are one when they are unescaped
-  repeated_key : ¬ IsJson (Json.object [] (member (raw "a") [] [] (whole "1") [] [] (last_member (unicode 48 48 54 49 ∷ []) [] [] (whole "2") [])))
+  repeated_key : ¬ IsJson
+      (Json.object [] (member (raw "a") [] [] (whole "1") [] [] (last_member (unicode 48 48 54 49 ∷ []) [] [] (whole "2") [])))
 
 refused : Refused
 unfolding is_unescaped
@@ -171,7 +178,9 @@ levels_around (suc n) v h = let r = levels_around n v h in ((tt, (r.0, tt)), ome
 
 -- 255 levels of arrays are JSON, 256 are not
 levels_255 : IsWellFormed (alone (nested 254))
-levels_255 = let r = levels_around 254 (Json.empty_array []) tt in record { before = tt; value = r.0; after = tt; depth = rw r.1 (omega arith) }
+levels_255 =
+    let r = levels_around 254 (Json.empty_array []) tt in
+    record { before = tt; value = r.0; after = tt; depth = rw r.1 (omega arith) }
 
 levels_256 : ¬ IsWellFormed (alone (nested 255))
 levels_256 h = let d : 256 ≤ 255 = rw ((levels_around 255 (Json.empty_array []) tt).1) at h.depth in omega arith
@@ -179,7 +188,9 @@ levels_256 h = let d : 256 ≤ 255 = rw ((levels_around 255 (Json.empty_array []
 -- the innermost may be an object
 objects_255 : IsWellFormed (alone (around 254 (an_object (whole "1"))))
 unfolding is_unescaped
-objects_255 = let r = levels_around 254 (an_object (whole "1")) search in record { before = tt; value = r.0; after = tt; depth = rw r.1 (omega arith) }
+objects_255 =
+    let r = levels_around 254 (an_object (whole "1")) search in
+    record { before = tt; value = r.0; after = tt; depth = rw r.1 (omega arith) }
 
 -- so 255 `[` and 255 `]` are a text
 text_of_255 : IsJsonText (tree_of (nested 254)) (replicate 255 91 ++ replicate 255 93)

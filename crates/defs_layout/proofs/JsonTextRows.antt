@@ -29,7 +29,8 @@ escapes = refl
 
 -- `{a: [1, -2.50, null, true, []], b: {}}`
 a_tree : Tree
-a_tree = mapping ((text "a", list (number 1 ∷ Tree.real (codes "-2.50") ∷ Tree.null ∷ Tree.boolean true ∷ list [] ∷ [])) ∷ (text "b", mapping []) ∷ [])
+a_tree = mapping
+    ((text "a", list (number 1 ∷ Tree.real (codes "-2.50") ∷ Tree.null ∷ Tree.boolean true ∷ list [] ∷ [])) ∷ (text "b", mapping []) ∷ [])
 
 record TextRows : Type 0 where
   compact : json_text None 0 a_tree ≡ codes "{\"a\":[1,-2.50,null,true,[]],\"b\":{}}"

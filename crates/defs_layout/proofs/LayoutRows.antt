@@ -35,7 +35,8 @@ record Rows : Type 0 where
   -- an anchor before a block and an alias, single quotes, a folded block, JSON on one line
   many_forms : Shows
       (alone (hash
-      (field (implicit (word "a") (anchored 0 (codes "x") (below no_comment [] 2 (hash (last_field (implicit (word "k") (one (single_quoted (codes "it's"))))))))) []
+      (field (implicit (word "a")
+      (anchored 0 (codes "x") (below no_comment [] 2 (hash (last_field (implicit (word "k") (one (single_quoted (codes "it's"))))))))) []
       (field (implicit (word "b") (Value.alias 0 (codes "x") (mapping ((text "k", text "it's") ∷ [])))) []
       (field (implicit (word "c") (folded 0 2 true (codes "p q\nr") (line "p" ∷ line "q" ∷ blank 0 ∷ line "r" ∷ []))) []
       (last_field (implicit (word "d") (Value.json 0
@@ -93,20 +94,24 @@ record Rows : Type 0 where
             (last_document (record { gap = []; root = inline (scalar (single_quoted (codes "c"))) }) (empty_line ∷ []));
       })
       (text "a\nb\n" ∷ text "c" ∷ []) "---\n|\na\nb\n\n---\n'c'\n"
-  -- a folded block that keeps one break, with a more indented line and a line that begins with a tab; an anchored literal block and its alias
+  -- a folded block that keeps one break, with a more indented line and a line that begins with a tab; an anchored literal block and its
+  -- alias
   blocks_as_items : Shows
       (alone (array
-      (entry (folded 0 1 false (codes "a b\n  c\nd\n\te\nf\n") (line "a" ∷ line "b" ∷ line "  c" ∷ line "d" ∷ line "\te" ∷ line "f" ∷ [])) []
+      (entry (folded 0 1 false (codes "a b\n  c\nd\n\te\nf\n")
+      (line "a" ∷ line "b" ∷ line "  c" ∷ line "d" ∷ line "\te" ∷ line "f" ∷ [])) []
       (entry (anchored 0 (codes "l1") (Value.literal 0 2 (codes "p\nq\n") (line "p" ∷ line "q" ∷ []))) []
       (last_entry (Value.alias 1 (codes "l1") (text "p\nq\n")))))))
       (list (text "a b\n  c\nd\n\te\nf\n" ∷ text "p\nq\n" ∷ text "p\nq\n" ∷ []) ∷ [])
       "---\n- >\n a\n b\n   c\n d\n \te\n f\n- &l1 |\n  p\n  q\n-  *l1"
   -- a folded block, a gap after it, and further text
   folded_before_gap : Shows
-      (alone (array (entry (folded 0 1 true (codes "a") (line "a" ∷ [])) (empty_line ∷ comment_line (codes " c") ∷ []) (last_entry (one (word "b"))))))
+      (alone (array
+      (entry (folded 0 1 true (codes "a") (line "a" ∷ [])) (empty_line ∷ comment_line (codes " c") ∷ []) (last_entry (one (word "b"))))))
       (list (text "a" ∷ text "b" ∷ []) ∷ []) "---\n- >-\n a\n\n# c\n- b"
   -- an anchor inside the node of the same anchor: after that node the alias means the inner one, which stands later
-  inner_anchor : last_tree (codes "a") (anchors_after (anchored 0 (codes "a") (below no_comment [] 2 (array (last_entry (anchored 0 (codes "a") (one (integer 1))))))) [])
+  inner_anchor : last_tree (codes "a")
+      (anchors_after (anchored 0 (codes "a") (below no_comment [] 2 (array (last_entry (anchored 0 (codes "a") (one (integer 1))))))) [])
       ≡ Some (tree.number 1)
 
 rows : Rows
@@ -123,7 +128,8 @@ record Refused : Type 0 where
   break_in_quotes : ¬ IsValue 0 [] (one (single_quoted (codes "a\nb")))
   nul_in_quotes : ¬ IsValue 0 [] (one (single_quoted (97 ∷ 0 ∷ [])))
   -- an alias inside the node that has its anchor
-  alias_inside : (t : Tree) → ¬ IsValue 0 [] (anchored 0 (codes "a") (below no_comment [] 2 (array (last_entry (Value.alias 0 (codes "a") t)))))
+  alias_inside : (t : Tree)
+      → ¬ IsValue 0 [] (anchored 0 (codes "a") (below no_comment [] 2 (array (last_entry (Value.alias 0 (codes "a") t)))))
   -- an alias in another document than its anchor
   alias_past_document : (t : Tree) → ¬ AreDocuments
       (document (plainly (array (last_entry (anchored 0 (codes "a") (one (word "b")))))) []

@@ -42,7 +42,8 @@ some_exponent t h =
     let letter = letter_part mark.character mark.fits in
     let second = cut_from (optional (one is_sign)) (in_order (at_least_one is_ascii_digit ∷ [])) first.after first.is_second in
     let sign = sign_part second.before second.is_first in
-    let digits : are_digits second.after ≡ true = sym (grind arith) ∙ sym (followed_by-empty (at_least_one is_ascii_digit) second.after) ∙ second.is_second in
+    let digits : are_digits second.after ≡ true =
+    sym (grind arith) ∙ sym (followed_by-empty (at_least_one is_ascii_digit) second.after) ∙ second.is_second in
     record {
       part = exponent letter.0 sign.part second.after;
       fit = digits;
@@ -95,7 +96,8 @@ whole_begins : (w r : List ℕ) → are_digits w ≡ true → begins_in is_ascii
 whole_begins a r h = grind arith
 
 other_text : (m : Bool) (w r : List ℕ) → is_whole w ≡ true → IsOther r → signed_decimal (spell_minus m (w ++ r)) ≡ None
-other_text m w r h o = signed_text m (w ++ r) (whole_begins w r (grind arith)) ∙ ap (λ b. fitted b (integer_value m (w ++ r))) (no_digits w r o)
+other_text m w r h o = signed_text m (w ++ r) (whole_begins w r (grind arith))
+    ∙ ap (λ b. fitted b (integer_value m (w ++ r))) (no_digits w r o)
 
 exponent_other : (b : Bool) (s : Sign) (w r : List ℕ) → IsOther (spell_exponent (exponent b s w) r)
 exponent_other a s w r = grind arith

@@ -46,7 +46,8 @@ digits_are a = grind arith
 digits_read : (t : List ℕ) → followed_by are_digits reads_exponent t ≡ (begins_in is_ascii_digit t && reads_exponent (after_all is_ascii_digit t))
 digits_read [] = refl
 digits_read (c ∷ cs) =
-    (λ i. followed_by (λ b. digits_are b i) reads_exponent (c ∷ cs)) ∙ grind (arith, at_least-after is_ascii_digit reads_exponent exponent_rejects_digit c cs)
+    (λ i. followed_by (λ b. digits_are b i) reads_exponent (c ∷ cs))
+    ∙ grind (arith, at_least-after is_ascii_digit reads_exponent exponent_rejects_digit c cs)
 
 frac_read : (c : ℕ) (cs : List ℕ) → followed_by is_frac reads_exponent (c ∷ cs) ≡ ((c == 46) && (begins_in is_ascii_digit cs && reads_exponent (after_all is_ascii_digit cs)))
 frac_read c cs = followed_by-and (c == 46) are_digits reads_exponent cs ∙ ap (λ b. (c == 46) && b) (digits_read cs)
@@ -55,7 +56,8 @@ abbrev end_part : List ℕ → Bool
 end_part t = in_order (optional is_frac ∷ optional is_exponent ∷ []) t
 
 end_read : (t : List ℕ) → end_part t ≡ reads_end t
-end_read t = (λ i. followed_by (optional is_frac) (λ b. exponent_read b i) t) ∙ optional-then is_frac reads_exponent t ∙ grind (arith, frac_read, point_no_mark)
+end_read t = (λ i. followed_by (optional is_frac) (λ b. exponent_read b i) t) ∙ optional-then is_frac reads_exponent t
+    ∙ grind (arith, frac_read, point_no_mark)
 
 -- ---- the whole part
 

@@ -21,7 +21,8 @@ record Rows : Type 0 where
   -- `{"a":[true,{}]}`
   object : json_text_tokens (record {
     before = [];
-    value = Json.object [] (last_member (itself 97 ∷ []) [] [] (Json.array [] (element Json.true_word [] [] (last_element (Json.empty_object []) []))) []);
+    value = Json.object []
+        (last_member (itself 97 ∷ []) [] [] (Json.array [] (element Json.true_word [] [] (last_element (Json.empty_object []) []))) []);
     after = [];
   })
       ≡ stream_start ∷ flow_mapping_start ∷ key ∷ token Style.double_quoted "a" ∷ value
@@ -42,7 +43,8 @@ record Rows : Type 0 where
     documents = last_document (plainly (hash (last_field (explicit (compact 0 (array (last_entry (one (quoted (codes "a"))))))
         [] (Value.literal 0 2 (codes "b") (line "b" ∷ [])))))) [];
   })
-      ≡ stream_start ∷ document_start ∷ block_mapping_start ∷ key ∷ block_sequence_start ∷ block_entry ∷ token Style.double_quoted "a" ∷ block_end
+      ≡ stream_start ∷ document_start ∷ block_mapping_start ∷ key ∷ block_sequence_start ∷ block_entry ∷ token Style.double_quoted "a"
+      ∷ block_end
       ∷ value ∷ token Style.literal "b" ∷ block_end ∷ stream_end ∷ []
   -- `"k":`, `- &n 'x'`, `- *n`, and a second document `~`
   wide : layout_tokens (record {
@@ -51,7 +53,8 @@ record Rows : Type 0 where
         (entry (anchored 0 (codes "n") (one (single_quoted (codes "x")))) [] (last_entry (Value.alias 0 (codes "n") (text "x"))))))))) []
         (last_document (record { gap = []; root = inline (scalar (plain Tree.null)) }) []);
   })
-      ≡ stream_start ∷ block_mapping_start ∷ key ∷ token Style.double_quoted "k" ∷ value ∷ block_entry ∷ Tok.anchor (codes "n") ∷ token Style.single_quoted "x"
+      ≡ stream_start ∷ block_mapping_start ∷ key ∷ token Style.double_quoted "k" ∷ value ∷ block_entry ∷ Tok.anchor (codes "n")
+      ∷ token Style.single_quoted "x"
       ∷ block_entry ∷ Tok.alias (codes "n") ∷ block_end ∷ document_start ∷ token Style.plain "~" ∷ stream_end ∷ []
 
 rows : Rows

@@ -31,7 +31,12 @@ followed_by-assoc f g h [] = grind arith
 followed_by-assoc f g h (c ∷ cs) =
     let f' = λ (b : List ℕ). f (c ∷ b) in
     let g' = λ (b : List ℕ). g (c ∷ b) in
-    grind (arith, followed_by-or (λ b. f [] && g' b) (λ b. followed_by f' g b) h cs, followed_by-and (f []) g' h cs, followed_by-assoc f' g h cs)
+    grind (
+      arith,
+      followed_by-or (λ b. f [] && g' b) (λ b. followed_by f' g b) h cs,
+      followed_by-and (f []) g' h cs,
+      followed_by-assoc f' g h cs,
+    )
 
 -- ---- read from the left
 

@@ -18,11 +18,14 @@ record Rows : Type 0 where
   a_mapping_is_merged : merged (mapping ((merge_key, mapping ((a, number 1) ∷ [])) ∷ (b, number 2) ∷ []))
       ≡ mapping ((b, number 2) ∷ (a, number 1) ∷ [])
   own_keys_override : merged (mapping ((merge_key, mapping ((a, number 1) ∷ [])) ∷ (a, null) ∷ [])) ≡ mapping ((a, null) ∷ [])
-  earlier_mappings_override : merged (mapping ((merge_key, list (mapping ((a, number 1) ∷ []) ∷ mapping ((b, number 2) ∷ (a, number 3) ∷ []) ∷ [])) ∷ []))
+  earlier_mappings_override : merged
+      (mapping ((merge_key, list (mapping ((a, number 1) ∷ []) ∷ mapping ((b, number 2) ∷ (a, number 3) ∷ []) ∷ [])) ∷ []))
       ≡ mapping ((a, number 1) ∷ (b, number 2) ∷ [])
-  inner_merges_come_first : merged (mapping ((merge_key, mapping ((merge_key, mapping ((a, number 1) ∷ [])) ∷ (b, number 2) ∷ [])) ∷ (c, number 3) ∷ []))
+  inner_merges_come_first : merged
+      (mapping ((merge_key, mapping ((merge_key, mapping ((a, number 1) ∷ [])) ∷ (b, number 2) ∷ [])) ∷ (c, number 3) ∷ []))
       ≡ mapping ((c, number 3) ∷ (b, number 2) ∷ (a, number 1) ∷ [])
-  a_value_is_not_merged_with_a_value : merged (mapping ((merge_key, mapping ((a, mapping ((b, number 1) ∷ [])) ∷ [])) ∷ (a, mapping ((c, number 2) ∷ [])) ∷ []))
+  a_value_is_not_merged_with_a_value : merged
+      (mapping ((merge_key, mapping ((a, mapping ((b, number 1) ∷ [])) ∷ [])) ∷ (a, mapping ((c, number 2) ∷ [])) ∷ []))
       ≡ mapping ((a, mapping ((c, number 2) ∷ [])) ∷ [])
   in_a_value : merged (mapping ((b, mapping ((merge_key, mapping ((a, number 1) ∷ [])) ∷ [])) ∷ []))
       ≡ mapping ((b, mapping ((a, number 1) ∷ [])) ∷ [])

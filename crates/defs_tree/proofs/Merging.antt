@@ -108,7 +108,10 @@ distinct_opens : Opens IsDistinct IsDistinct
 distinct_opens = ((λ ps h. EachDistinct-list ps h.1), distinct_items)
 
 whole_distinct : (ps : List (Tree × Tree)) → AreDistinct ps → EachDistinct ps → IsDistinct (hash (pairs_of (merged_pairs ps)))
-whole_distinct ps h g = (subst AreDistinct (sym (list_of_pairs (merged_pairs ps))) (merged_pairs_distinct ps h), EachDistinct-pairs (merged_pairs ps) (each_merged IsDistinct IsDistinct distinct_opens ps g))
+whole_distinct ps h g = (
+  subst AreDistinct (sym (list_of_pairs (merged_pairs ps))) (merged_pairs_distinct ps h),
+  EachDistinct-pairs (merged_pairs ps) (each_merged IsDistinct IsDistinct distinct_opens ps g),
+)
 
 -- ---- no merge key is left
 

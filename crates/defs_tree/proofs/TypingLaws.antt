@@ -24,7 +24,8 @@ AllHave : (Tree → Type 0) → List (List ℕ → Option Tree) → List ℕ →
 AllHave P [] text = Unit {0}
 AllHave P (row ∷ rest) text = OfSome P (row text) × AllHave P rest text
 
-by_rows-have : (P : Tree → Type 0) (rs : List (List ℕ → Option Tree)) (text : List ℕ) → AllHave P rs text → P (string text) → P (by_rows rs text)
+by_rows-have : (P : Tree → Type 0) (rs : List (List ℕ → Option Tree)) (text : List ℕ) → AllHave P rs text → P (string text)
+    → P (by_rows rs text)
 unfolding AllHave
 by_rows-have P [] text h r = r
 by_rows-have P (row ∷ rest) text h r = or_else P (row text) (by_rows rest text) h.0 (by_rows-have P rest text h.1 r)
@@ -69,14 +70,16 @@ no_row-string : (rs : List (List ℕ → Option Tree)) (text : List ℕ) → lis
 no_row-string [] text h = refl
 no_row-string (row ∷ rest) text h = grind (arith, and_parts, no_row-string rest text)
 
-string-no_row : (rs : List (List ℕ → Option Tree)) (text : List ℕ) → AllHave NotString rs text → by_rows rs text ≡ string text → list_all (λ row. is_none (row text)) rs ≡ true
+string-no_row : (rs : List (List ℕ → Option Tree)) (text : List ℕ) → AllHave NotString rs text → by_rows rs text ≡ string text
+    → list_all (λ row. is_none (row text)) rs ≡ true
 unfolding AllHave
 string-no_row [] text h e = refl
 string-no_row (row ∷ rest) text h e = grind (arith, string-no_row rest text h.1)
 
 pub strings_exactly : (text : List ℕ) → (typing text ≡ string text → list_all (λ row. is_none (row text)) rows ≡ true) × (list_all (λ row. is_none (row text)) rows ≡ true → typing text ≡ string text)
 unfolding typing
-strings_exactly text = (string-no_row rows text (rows_have NotString (λ z h. refl) text refl (λ b. refl) (λ s. refl) (λ d. refl)), no_row-string rows text)
+strings_exactly text =
+    (string-no_row rows text (rows_have NotString (λ z h. refl) text refl (λ b. refl) (λ s. refl) (λ d. refl)), no_row-string rows text)
 
 -- ---- real texts
 
@@ -87,4 +90,5 @@ FromRealRow text t = is_real t ≡ true → (is_among special_words text ≡ tru
 pub real_text-cases : (text : List ℕ) → is_real_text text ≡ true → (is_among special_words text ≡ true) ⊎ (is_decimal text ≡ true)
 unfolding typing
 real_text-cases text =
-    by_rows-have (FromRealRow text) rows text (rows_have (FromRealRow text) (λ z h e. cc) text (λ e. cc) (λ b e. cc) (λ s e. inl s) (λ d e. inr d)) (λ e. cc)
+    by_rows-have (FromRealRow text) rows text
+    (rows_have (FromRealRow text) (λ z h e. cc) text (λ e. cc) (λ b e. cc) (λ s e. inl s) (λ d e. inr d)) (λ e. cc)

@@ -74,7 +74,8 @@ entered gives_question again key had kind pair here colon own b bs next t c r es
     entry = entry_by kind (pair_past (takes_pair kind pair) gives_question pair) settled
 
     settles : Entered (Unkeyed here b bs kind pair es) [] next t c r es (begun_by t ++ (entry ∷ es))
-    settles = nothing here b bs (entry_by kind pair fresh) entry next t c r es gives_question a (λ h. cc h) (λ h. cc h) (ap (λ z. let l : Level = record { kind = kind; pair = z || false } in l) (sym (grind arith)))
+    settles = nothing here b bs (entry_by kind pair fresh) entry next t c r es gives_question a (λ h. cc h) (λ h. cc h)
+        (ap (λ z. let l : Level = record { kind = kind; pair = z || false } in l) (sym (grind arith)))
 
     by : (again key : Bool) (had : Had) → EnteredBy (Inner here b bs (entry_by kind pair had) es) (begun_inside (takes_pair kind pair) pair here colon own gives_question key had) next t c r es (entries_past here again gives_question (begun_by t) key (entry_by kind pair had) es)
     by a b d = grind (arith, settles)

@@ -139,7 +139,8 @@ outside_so must s line l f c r t key ws after x h same_line same on_line in_line
         let past : account_past_token opened (c ∷ r) next t ≡ in_cut z =
         ap (λ bs. account_by (position_after at.position (c ∷ r) next) (before_past_token b (c ∷ r) t) bs (levels_past [] (c ∷ r) t)) (blocks_alike opened c r next None own t (somes (with_key o.blocks o.line)) piece) ∙
         (ap (λ ls. account_by (position_after at.position (c ∷ r) next) (before_past_token b (c ∷ r) t) (somes (with_key o.blocks o.line)) ls) (levels_outside t c r) ∙
-        ap (λ y. account_by (position_after at.position (c ∷ r) next) y (somes (with_key o.blocks o.line)) (levels_in (begun_by t))) (grind arith)) in
+        ap (λ y. account_by (position_after at.position (c ∷ r) next) y (somes (with_key o.blocks o.line)) (levels_in (begun_by t)))
+        (grind arith)) in
         subst (λ y. IsCutStep a w ws after y) to
         (stepped a w ws after z us own h.0 (ap (λ o. (ends_at at.position s.blocks at.blocks ++ more o) ++ (put own t ∷ [])) same_line) lead.0
         (λ last. subst (λ d. IsPiece d (c ∷ r) next last own t) (sym there) (whatever_follows opened c r next None last own t piece))

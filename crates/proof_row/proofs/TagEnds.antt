@@ -34,7 +34,8 @@ of_named : (name r : List ℕ) (t : Tag) → begins_with_mark r ≡ true → nam
 unfolding is_blank_or_end is_blank is_break is_nul is_flow
 of_named name [] t m e = absurd (cc e)
 of_named name (c ∷ []) t m e = absurd (cc e)
-of_named name (c ∷ d ∷ r) t m e = joined _ _ (subst (λ z. goes_on z ≡ true) (sym (eqb-true c 33 m)) refl) (all_weaker is_tag goes_on tag_goes_on (d ∷ r) (grind arith))
+of_named name (c ∷ d ∷ r) t m e =
+    joined _ _ (subst (λ z. goes_on z ≡ true) (sym (eqb-true c 33 m)) refl) (all_weaker is_tag goes_on tag_goes_on (d ∷ r) (grind arith))
 
 of_shorthand : (c : ℕ) (r : List ℕ) (t : Tag) → shorthand (c ∷ r) ≡ Some t → all_of goes_on (c ∷ r) ≡ true
 of_shorthand c r t e = by (begins_with_mark (after is_alpha (c ∷ r))) refl e
@@ -88,5 +89,6 @@ tags fl p q x y h k e = by (mark_is_first p h.0 h.1) (mark_is_first q k.0 k.1)
     by m n =
         let whole : (33 ∷ m.0) ++ x ≡ (33 ∷ n.0) ++ y = ap (λ z. z ++ x) (sym m.1) ∙ (e ∙ ap (λ z. z ++ y) n.1) in
         let same : (m.0 ≡ n.0) × (x ≡ y) =
-        shapes m.0 n.0 x y (shape m.0 h.0 m.2) (shape n.0 k.0 n.2) (grind arith) (grind arith) (same_head 33 33 (m.0 ++ x) (n.0 ++ y) whole).1 in
+        shapes m.0 n.0 x y (shape m.0 h.0 m.2) (shape n.0 k.0 n.2) (grind arith) (grind arith)
+        (same_head 33 33 (m.0 ++ x) (n.0 ++ y) whole).1 in
         (m.1 ∙ (ap (λ z. 33 ∷ z) same.0 ∙ sym n.1), same.1)

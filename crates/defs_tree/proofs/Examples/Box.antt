@@ -16,9 +16,11 @@ record Rows : Type 0 where
   array_in_an_array : dump_text true false (list (list (number 1 ∷ number 2 ∷ []) ∷ list [] ∷ [])) ≡ codes "---\n- - 1\n  - 2\n- []"
   array_in_an_array_spread : dump_text false false (list (list (number 1 ∷ number 2 ∷ []) ∷ list [] ∷ []))
       ≡ codes "---\n-\n  - 1\n  - 2\n- []"
-  hash_as_key : dump_text true false (mapping ((mapping ((text "key", list (number 1 ∷ number 2 ∷ number 3 ∷ [])) ∷ []), list (number 4 ∷ number 5 ∷ number 6 ∷ [])) ∷ []))
+  hash_as_key : dump_text true false
+      (mapping ((mapping ((text "key", list (number 1 ∷ number 2 ∷ number 3 ∷ [])) ∷ []), list (number 4 ∷ number 5 ∷ number 6 ∷ [])) ∷ []))
       ≡ codes "---\n? key:\n    - 1\n    - 2\n    - 3\n: - 4\n  - 5\n  - 6"
-  hash_as_key_spread : dump_text false false (mapping ((mapping ((text "key", list (number 1 ∷ number 2 ∷ number 3 ∷ [])) ∷ []), list (number 4 ∷ number 5 ∷ number 6 ∷ [])) ∷ []))
+  hash_as_key_spread : dump_text false false
+      (mapping ((mapping ((text "key", list (number 1 ∷ number 2 ∷ number 3 ∷ [])) ∷ []), list (number 4 ∷ number 5 ∷ number 6 ∷ [])) ∷ []))
       ≡ codes "---\n?\n  key:\n    - 1\n    - 2\n    - 3\n:\n  - 4\n  - 5\n  - 6"
   empty_array_as_key : dump_text true false (mapping ((list [], number 1) ∷ [])) ≡ codes "---\n? []\n: 1"
   empty_hash_as_value : dump_text true false (mapping ((text "d", mapping []) ∷ [])) ≡ codes "---\nd: {}"
@@ -30,9 +32,13 @@ record Rows : Type 0 where
   bad_value_at_the_root : dump_text true false bad_value ≡ codes "---\n~"
   alias_at_the_root : dump_text true false (alias 1) ≡ codes "---\n"
   alias_in_an_array : dump_text true false (list (alias 1 ∷ number 2 ∷ [])) ≡ codes "---\n- \n- 2"
-  words_in_an_array : dump_text true false (list (text "yes" ∷ text "true" ∷ text "~" ∷ text "2.6" ∷ text "can't" ∷ text ".milk" ∷ text "a b" ∷ text "2014-12-31" ∷ string (20320 ∷ 22909 ∷ []) ∷ null ∷ []))
-      ≡ codes "---\n- \"yes\"\n- \"true\"\n- \"~\"\n- \"2.6\"\n- \"can't\"\n- \".milk\"\n- a b\n- 2014-12-31\n- " ++ 20320 ∷ 22909 ∷ codes "\n- ~"
-  hashes_and_arrays_in_one_another : dump_text true false (mapping ((text "a", mapping ((text "b", mapping ((text "c", text "hello") ∷ [])) ∷ (text "d", mapping []) ∷ [])) ∷ (text "e", list (text "f" ∷ list (text "g" ∷ list (text "h" ∷ []) ∷ []) ∷ mapping ((text "i", list []) ∷ []) ∷ [])) ∷ []))
+  words_in_an_array : dump_text true false (list (text "yes" ∷ text "true" ∷ text "~" ∷ text "2.6" ∷ text "can't" ∷ text ".milk"
+      ∷ text "a b" ∷ text "2014-12-31" ∷ string (20320 ∷ 22909 ∷ []) ∷ null ∷ []))
+      ≡ codes "---\n- \"yes\"\n- \"true\"\n- \"~\"\n- \"2.6\"\n- \"can't\"\n- \".milk\"\n- a b\n- 2014-12-31\n- " ++ 20320 ∷ 22909
+      ∷ codes "\n- ~"
+  hashes_and_arrays_in_one_another : dump_text true false
+      (mapping ((text "a", mapping ((text "b", mapping ((text "c", text "hello") ∷ [])) ∷ (text "d", mapping []) ∷ []))
+      ∷ (text "e", list (text "f" ∷ list (text "g" ∷ list (text "h" ∷ []) ∷ []) ∷ mapping ((text "i", list []) ∷ []) ∷ [])) ∷ []))
       ≡ codes "---\na:\n  b:\n    c: hello\n  d: {}\ne:\n  - f\n  - - g\n    - - h\n  - i: []"
   literal_block_after_a_colon_of_an_array_key : dump_text true true (mapping ((list (number 1 ∷ []), text "p\n\nq\n") ∷ []))
       ≡ codes "---\n? - 1\n: |\n  p\n  \n  q"

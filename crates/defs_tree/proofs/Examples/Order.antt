@@ -28,9 +28,11 @@ record Rows : Type 0 where
   keys_before_values : tree_cmp (mapping ((text "a", number 9) ∷ [])) (mapping ((text "b", number 1) ∷ [])) ≡ Less
   values_of_one_key : tree_cmp (mapping ((text "a", number 9) ∷ [])) (mapping ((text "a", number 1) ∷ [])) ≡ Greater
   shorter_hash : tree_cmp (mapping ((text "a", number 1) ∷ [])) (mapping ((text "a", number 1) ∷ (text "b", number 2) ∷ [])) ≡ Less
-  pairs_in_another_order : tree_cmp (mapping ((text "a", number 1) ∷ (text "b", number 2) ∷ [])) (mapping ((text "b", number 2) ∷ (text "a", number 1) ∷ []))
+  pairs_in_another_order : tree_cmp (mapping ((text "a", number 1) ∷ (text "b", number 2) ∷ []))
+      (mapping ((text "b", number 2) ∷ (text "a", number 1) ∷ []))
       ≡ Less
-  same_hash : tree_cmp (mapping ((text "a", number 1) ∷ (text "b", number 2) ∷ [])) (mapping ((text "a", number 1) ∷ (text "b", number 2) ∷ []))
+  same_hash : tree_cmp (mapping ((text "a", number 1) ∷ (text "b", number 2) ∷ []))
+      (mapping ((text "a", number 1) ∷ (text "b", number 2) ∷ []))
       ≡ Equal
   aliases : tree_cmp (alias 1) (alias 2) ≡ Less
   nulls : tree_cmp null null ≡ Equal
