@@ -1,6 +1,5 @@
 -- What stands after a basic layout is appended to its text.
-use Rattle.defs_layout.proofs.Common.{[], ap, append_assoc, AreBasicEntries, AreBasicFields, array, blank, Block, codes, comment, comment_line, Document, double_quoted, doubled, empty_array, empty_hash, empty_line, Entries, entry, explicit, Field, field, Fields, flat_map, full, GapLine, hash, implicit, Inline, IsBasicBlock, IsBasicField, IsBasicRoot, IsBasicValue, last_entry, last_field, Line, List, literal_header, next_line, no_comment, plain, quoted, refl, Root, Scalar, scalar, single_quoted, spaces, spell_block, spell_document, spell_ending, spell_entries, spell_field, spell_fields, spell_gap, spell_inline, spell_line, spell_lines, spell_literal, spell_root, spell_scalar, spell_value, suc, sym, Value, zero, ℕ, ◌++◌, ◌+◌, ◌∙◌, ◌∷◌, ◌≡◌}
-use Rattle.defs_tree.specs.Spelling.{spelling}
+use Rattle.defs_layout.proofs.Common.{[], ap, append_assoc, AreBasicEntries, AreBasicFields, array, Block, codes, comment, comment_line, Document, empty_line, Entries, entry, explicit, Field, field, Fields, GapLine, hash, implicit, Inline, IsBasicBlock, IsBasicField, IsBasicRoot, IsBasicValue, last_entry, last_field, Line, List, next_line, no_comment, refl, spaces, spell_block, spell_document, spell_ending, spell_entries, spell_field, spell_fields, spell_gap, spell_inline, spell_line, spell_lines, spell_literal, spell_scalar, spell_value, suc, Value, zero, ℕ, ◌++◌, ◌+◌, ◌∙◌, ◌∷◌, ◌≡◌, arith}
 
 -- the text of f goes before what stands after it
 abbrev Appends : (List ℕ → List ℕ) → Type 0
@@ -14,22 +13,19 @@ spaces_append (suc n) a b = ap (λ x. 32 ∷ x) (spaces_append n a b)
 
 gap_append : (g : List GapLine) → Appends (spell_gap g)
 gap_append [] a b = refl
-gap_append (empty_line ∷ g) a b = ap (λ x. 10 ∷ x) (gap_append g a b)
-gap_append (comment_line text ∷ g) a b =
-    ap (λ x. 35 ∷ (text ++ 10 ∷ x)) (gap_append g a b) ∙ ap (λ x. 35 ∷ x) (sym (append_assoc text (10 ∷ spell_gap g a) b))
+gap_append (empty_line ∷ g) a b = grind (arith, gap_append g a b)
+gap_append (comment_line text ∷ g) a b = grind (arith, append_assoc, gap_append g a b)
 
 ending_append : (g : List GapLine) → Appends (spell_ending g)
 ending_append [] a b = refl
-ending_append (empty_line ∷ g) a b = ap (λ x. 10 ∷ x) (ending_append g a b)
-ending_append (comment_line text ∷ g) a b =
-    ap (λ x. 10 ∷ 35 ∷ (text ++ x)) (ending_append g a b) ∙ ap (λ x. 10 ∷ 35 ∷ x) (sym (append_assoc text (spell_ending g a) b))
+ending_append (empty_line ∷ g) a b = grind (arith, ending_append g a b)
+ending_append (comment_line text ∷ g) a b = grind (arith, append_assoc, ending_append g a b)
 
 next_line_append : (column : ℕ) (g : List GapLine) → Appends (next_line column g)
 next_line_append column g a b = ap (λ x. 10 ∷ spell_gap g x) (spaces_append column a b) ∙ ap (λ x. 10 ∷ x) (gap_append g (spaces column a) b)
 
 line_append : (column : ℕ) (l : Line) → Appends (spell_line column l)
-line_append column (full text) a b = ap (spaces column) (sym (append_assoc text a b)) ∙ spaces_append column (text ++ a) b
-line_append column (blank n) a b = spaces_append n a b
+line_append column d a b = grind (arith, append_assoc, spaces_append)
 
 lines_append : (column : ℕ) (ls : List Line) → Appends (spell_lines column ls)
 lines_append column [] a b = refl
@@ -37,19 +33,11 @@ lines_append column (l ∷ ls) a b = ap (λ x. 10 ∷ spell_line column l x) (li
 
 -- ---- nodes
 
-scalar_append : (s : Scalar) → Appends (spell_scalar s)
-scalar_append (plain t) a b = sym (append_assoc (spelling t) a b)
-scalar_append (quoted text) a b = sym (append_assoc (double_quoted text) a b)
-scalar_append (single_quoted text) a b = ap (λ x. 39 ∷ x) (sym (append_assoc (flat_map doubled text) (39 ∷ a) b))
-
 inline_append : (i : Inline) → Appends (spell_inline i)
-inline_append (scalar s) a b = scalar_append s a b
-inline_append empty_array a b = refl
-inline_append empty_hash a b = refl
+inline_append d a b = grind (arith, append_assoc)
 
 literal_append : (column : ℕ) (text : List ℕ) (ls : List Line) → Appends (spell_literal column text ls)
-literal_append column text ls a b =
-    ap (λ x. literal_header text ++ x) (lines_append column ls a b) ∙ sym (append_assoc (literal_header text) (spell_lines column ls a) b)
+literal_append column text ls a b = grind (arith, lines_append, append_assoc)
 
 after_spaces : (more : ℕ) (f : List ℕ → List ℕ) → Appends f → Appends (λ r. 32 ∷ spaces more (f r))
 after_spaces more f h a b = ap (λ x. 32 ∷ spaces more x) (h a b) ∙ ap (λ x. 32 ∷ x) (spaces_append more (f a) b)
@@ -66,11 +54,7 @@ mutual
   value_append c (Value.below no_comment g column k) h a b = ap (next_line column g) (block_append column k h.1 a b) ∙ next_line_append column g (spell_block column k a) b
   value_append c (Value.beside more i (comment n text)) h a b = absurd h.1
   value_append c (Value.below (comment n text) g column k) h a b = absurd h.0
-  value_append c (Value.folded more column strips text ls) h a b = absurd h
-  value_append c (Value.json more v) h a b = absurd h
-  value_append c (Value.at_key after g es) h a b = absurd h
-  value_append c (Value.anchored more name v) h a b = absurd h
-  value_append c (Value.alias more name t) h a b = absurd h
+  value_append c v h a b = absurd h
 
   entries_append : (c : ℕ) (es : Entries) → AreBasicEntries es → Appends (spell_entries c es)
   entries_append c (last_entry v) h a b = ap (λ x. 45 ∷ x) (value_append c v h a b)
@@ -80,7 +64,7 @@ mutual
 
   field_append : (c : ℕ) (f : Field) → IsBasicField f → Appends (spell_field c f)
   field_append c (implicit k v) h a b =
-      ap (λ x. spell_scalar k (58 ∷ x)) (value_append c v h.1 a b) ∙ scalar_append k (58 ∷ spell_value c v a) b
+      ap (λ x. spell_scalar k (58 ∷ x)) (value_append c v h.1 a b) ∙ (grind (arith, append_assoc))
   field_append c (explicit k g v) h a b =
       ap (λ x. 63 ∷ spell_value c k x) (ap (λ x. next_line c g (58 ∷ x)) (value_append c v h.1 a b) ∙ next_line_append c g (58 ∷ spell_value c v a) b)
       ∙ ap (λ x. 63 ∷ x) (value_append c k h.0 (next_line c g (58 ∷ spell_value c v a)) b)
@@ -91,15 +75,7 @@ mutual
       ap (spell_field c f) (ap (next_line c g) (fields_append c fs h.1 a b) ∙ next_line_append c g (spell_fields c fs a) b)
       ∙ field_append c f h.0 (next_line c g (spell_fields c fs a)) b
 
-root_append : (x : Root) → IsBasicRoot x → Appends (spell_root x)
-root_append (Root.block column k) h a b = ap (spaces column) (block_append column k h a b) ∙ spaces_append column (spell_block column k a) b
-root_append (Root.inline i) h a b = inline_append i a b
-root_append (Root.literal text ls) h a b = literal_append 0 text ls a b
-
 -- ---- a document after its `---`
 
 pub document_append : (d : Document) (after : List GapLine) → IsBasicRoot d.root → Appends (λ r. codes "---\n" ++ spell_document d (spell_ending after r))
-document_append d after h a b =
-    ap (λ x. codes "---\n" ++ spell_document d x) (ending_append after a b)
-    ∙ ap (λ x. codes "---\n" ++ spell_gap d.gap x) (root_append d.root h (spell_ending after a) b)
-    ∙ ap (λ x. codes "---\n" ++ x) (gap_append d.gap (spell_root d.root (spell_ending after a)) b)
+document_append d after h a b = grind (arith, ending_append, gap_append, block_append, spaces_append, inline_append, literal_append)

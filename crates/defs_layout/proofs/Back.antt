@@ -1,40 +1,14 @@
 -- The value of a JSON text has a JSON text, and nests as the text does.
-use Rattle.defs_layout.proofs.Common.{[], AllHaveJson, and_from, and_parts, ap, are_characters, are_pieces, AreDistinct, AreElements, AreMembers, arith, backspace, Bool, character_of, digit_value, element, element_levels, Elements, exponent, false, fits_i64, form_feed, four_digits, fraction, HasJson, if◌then◌else◌, integer, integer_value, is_character, is_hex_digit, is_number, is_piece, is_unescaped, IsJson, IsJsonText, item_nesting, items, itself, Json, last_element, last_member, levels, List, ltb-true, max, member, member_levels, member_nesting, Members, nat_tests, nesting, new_line, no_exponent, no_fraction, Number, number, number_tree, pair_list, pair_list_of, pairs_of, Piece, quotation_mark, real, refl, return, reverse_solidus, Short, short, solidus, spell_number, subst, suc, sym, tabulator, Tree, tree_of, true, unescaped, unicode, value_of, ValuesHaveJson, ℕ, ◌&&◌, ◌<◌, ◌∷◌, ◌≡◌, ◌≤◌}
+use Rattle.defs_layout.proofs.Common.{[], AllHaveJson, and_from, and_parts, ap, are_characters, are_pieces, AreDistinct, AreElements, AreMembers, arith, Bool, element, element_levels, Elements, exponent, false, fits_i64, fraction, HasJson, if◌then◌else◌, integer, integer_value, is_character, is_number, is_piece, is_unescaped, IsJson, item_nesting, items, Json, last_element, last_member, levels, List, max, member, member_levels, member_nesting, Members, nat_tests, nesting, no_exponent, no_fraction, Number, number, number_tree, pair_list, pairs_of, Piece, real, refl, spell_number, subst, suc, sym, tree_of, true, unescaped, value_of, ValuesHaveJson, ◌∷◌, ◌≡◌, eqb-true}
 use Rattle.defs_layout.specs.Json as json
 use Rattle.defs_layout.proofs.Numbers.{real_from}
+use Rattle.defs_tree.proofs.OverlayLaws.{list_of_pairs}
 
 -- ---- strings
 
-low_is : (c : ℕ) → is_unescaped c ≡ true → is_character c ≡ true
-unfolding is_unescaped
-low_is c h = grind (arith, nat_tests)
-
-short_is : (s : Short) → is_character (character_of s) ≡ true
-short_is quotation_mark = refl
-short_is reverse_solidus = refl
-short_is solidus = refl
-short_is backspace = refl
-short_is form_feed = refl
-short_is new_line = refl
-short_is return = refl
-short_is tabulator = refl
-
-code_is : (n : ℕ) → n ≤ 0xFFFF → is_character n ≡ true
-code_is n h = grind (arith, nat_tests)
-
 piece_is : (p : Piece) → is_piece p ≡ true → is_character (value_of p) ≡ true
-piece_is (itself c) h = low_is c h
-piece_is (short s) h = short_is s
-piece_is (unicode a b c d) h =
-    let v = and_parts (is_hex_digit a && is_hex_digit b && is_hex_digit c && is_hex_digit d) _ h in
-    let w = and_parts (is_hex_digit a && is_hex_digit b && is_hex_digit c) (is_hex_digit d) v.0 in
-    let x = and_parts (is_hex_digit a && is_hex_digit b) (is_hex_digit c) w.0 in
-    let y = and_parts (is_hex_digit a) (is_hex_digit b) x.0 in
-    let i : digit_value a < 16 = ltb-true _ 16 y.0 in
-    let j : digit_value b < 16 = ltb-true _ 16 y.1 in
-    let k : digit_value c < 16 = ltb-true _ 16 x.1 in
-    let l : digit_value d < 16 = ltb-true _ 16 w.1 in
-    code_is (four_digits a b c d) (omega arith)
+unfolding is_unescaped
+piece_is e h = grind (arith, nat_tests, eqb-true, and_parts)
 
 pieces_are : (ps : List Piece) → are_pieces ps ≡ true → are_characters (unescaped ps) ≡ true
 pieces_are [] h = refl
@@ -51,32 +25,16 @@ number_has (number m w no_fraction no_exponent) h = by (fits_i64 (integer_value 
 number_has (number m w no_fraction (exponent b s d)) h = real_from (number m w no_fraction (exponent b s d)) _ h refl
 number_has (number m w (fraction d) e) h = real_from (number m w (fraction d) e) _ h refl
 
-number_flat : (n : Number) → nesting (number_tree n) ≡ 0
-number_flat (number m w no_fraction no_exponent) = by (fits_i64 (integer_value m w))
-  where
-    by : (b : Bool) → nesting (if b then integer (integer_value m w) else real (spell_number (number m w no_fraction no_exponent) [])) ≡ 0
-    by true = refl
-    by false = refl
-number_flat (number m w no_fraction (exponent b s d)) = refl
-number_flat (number m w (fraction d) e) = refl
-
 -- ---- values
-
-pairs_back : (ps : List (Tree × Tree)) → pair_list_of (pairs_of ps) ≡ ps
-pairs_back [] = refl
-pairs_back (p ∷ ps) = ap (λ qs. p ∷ qs) (pairs_back ps)
 
 mutual
   has : (v : Json) → IsJson v → HasJson (tree_of v)
-  has json.false_word h = tt
-  has json.null_word h = tt
-  has json.true_word h = tt
   has (json.number n) h = number_has n h
   has (json.string ps) h = pieces_are ps h
-  has (json.empty_array g) h = tt
   has (json.array g es) h = all_have es h.1
   has (json.empty_object g) h = (tt, tt)
-  has (json.object g ms) h = (subst AreDistinct (sym (pairs_back (pair_list ms))) h.2, are_members ms h.1)
+  has (json.object g ms) h = (subst AreDistinct (sym (list_of_pairs (pair_list ms))) h.2, are_members ms h.1)
+  has v h = tt
 
   all_have : (es : Elements) → AreElements es → AllHaveJson (items es)
   all_have (last_element v a) h = (has v h.0, tt)
@@ -88,15 +46,10 @@ mutual
 
 mutual
   nests : (v : Json) → nesting (tree_of v) ≡ levels v
-  nests json.false_word = refl
-  nests json.null_word = refl
-  nests json.true_word = refl
-  nests (json.number n) = number_flat n
-  nests (json.string ps) = refl
-  nests (json.empty_array g) = refl
+  nests (json.number n) = grind arith
   nests (json.array g es) = ap suc (items_nest es)
-  nests (json.empty_object g) = refl
   nests (json.object g ms) = ap suc (members_nest ms)
+  nests v = refl
 
   items_nest : (es : Elements) → item_nesting (items es) ≡ element_levels es
   items_nest (last_element v a) = omega (arith, nests v)
@@ -107,6 +60,4 @@ mutual
   members_nest (member k g q v a b ms) = (λ i. max (nests v i) (members_nest ms i))
 
 pub values_have_json : ValuesHaveJson
-values_have_json t text h =
-    let v = h.0.value in
-    (subst HasJson h.3 (has v h.1.value), omega (arith, nests v, h.1.depth, ap nesting h.3))
+values_have_json t text h = grind (arith, has, nests)

@@ -1,27 +1,20 @@
 -- A tree that has a JSON text has no node that has none.
-use Rattle.defs_layout.proofs.Common.{alias, AllHaveJson, and_from, ap, are_strings, AreMembers, bad_value, boolean, first_fault, first_item_fault, first_member_fault, first_of, has_other_key, HasJson, here, if◌then◌else◌, index, integer, is_no_number, is_string, IsKey, item, Items, no_items, no_pairs, None, null, pair, Pairs, real, refl, step_of, string, Tree, true, ℕ, ◌+◌, ◌∙◌, ◌≡◌}
+use Rattle.defs_layout.proofs.Common.{alias, AllHaveJson, and_from, ap, are_strings, AreMembers, bad_value, first_fault, first_item_fault, first_member_fault, first_of, has_other_key, HasJson, here, if◌then◌else◌, index, is_no_number, item, Items, no_items, no_pairs, None, pair, Pairs, real, refl, step_of, Tree, true, ℕ, ◌+◌, ◌∙◌, ◌≡◌, arith}
 use Rattle.defs_tree.specs.Tree.{array, hash}
 use Rattle.defs_layout.specs.Fault.{below}
 
-key_is_string : (k : Tree) → IsKey k → is_string k ≡ true
-key_is_string (string s) h = refl
-key_is_string _ h = absurd h
-
 keys_are_strings : (ps : Pairs) → AreMembers ps → are_strings ps ≡ true
 keys_are_strings no_pairs h = refl
-keys_are_strings (pair k v ps) h = and_from _ _ (key_is_string k h.0) (keys_are_strings ps h.2)
+keys_are_strings (pair k v ps) h = and_from _ _ (grind arith) (keys_are_strings ps h.2)
 
 mutual
   pub no_fault : (t : Tree) → HasJson t → first_fault t ≡ None
   no_fault (real s) h = ap (λ b. if b then None else here is_no_number) h
-  no_fault (integer z) h = refl
-  no_fault (string s) h = refl
-  no_fault (boolean b) h = refl
   no_fault (array ts) h = no_item_fault 0 ts h
   no_fault (hash ps) h = ap (λ b. if b then first_member_fault ps else here has_other_key) (keys_are_strings ps h.1) ∙ no_member_fault ps h.1
   no_fault (alias n) h = absurd h
-  no_fault null h = refl
   no_fault bad_value h = absurd h
+  no_fault t h = refl
 
   no_item_fault : (n : ℕ) (ts : Items) → AllHaveJson ts → first_item_fault n ts ≡ None
   no_item_fault n no_items h = refl

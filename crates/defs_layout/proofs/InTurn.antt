@@ -1,5 +1,5 @@
 -- A basic layout is a layout of its one tree, and basic layouts one after another, an LF after each, are a layout of their trees.
-use Rattle.defs_layout.proofs.Common.{[], ap, AreBasicDocuments, AreDocuments, AreEmptyLines, Bool, codes, comment_line, Document, document, Documents, empty_line, false, GapLine, IsAfterRoot, IsBasicLayout, IsBasicRoot, IsGap, last_document, List, refl, Root, root_tree, spell_document, spell_documents, spell_ending, spell_gap, spell_mark, sym, Tree, trees_of, true, true≢false, ℕ, ◌++◌, ◌∙◌, ◌∷◌, ◌≡◌}
+use Rattle.defs_layout.proofs.Common.{[], ap, AreDocuments, AreEmptyLines, codes, comment_line, Document, document, Documents, empty_line, GapLine, IsBasicLayout, IsBasicRoot, IsGap, last_document, List, refl, root_tree, spell_document, spell_documents, spell_ending, spell_gap, sym, Tree, trees_of, true, ℕ, ◌++◌, ◌∙◌, ◌∷◌, ◌≡◌, arith}
 use Rattle.defs_layout.specs.InTurn.{AreLaidOutInTurn}
 use Rattle.defs_layout.specs.Laws.{BasicLayoutsAreLayouts, LayoutsInTurnAreLayouts}
 use Rattle.defs_layout.proofs.Appended.{document_append}
@@ -17,18 +17,8 @@ record One (t : Tree) (text : List ℕ) : Type 0 where
   spelt : codes "---\n" ++ spell_document written (spell_ending after []) ≡ text
   tree : root_tree written.root ≡ t
 
-first_tree : {t u : Tree} → t ∷ [] ≡ u ∷ [] → t ≡ u
-first_tree e = cc
-
-one_of : (is_marked : Bool) (ds : Documents) (t : Tree) (text : List ℕ) → is_marked ≡ true → AreBasicDocuments ds → AreDocuments ds
-    → spell_mark is_marked (spell_documents ds []) ≡ text → trees_of ds ≡ t ∷ [] → One t text
-one_of false ds t text marked basic are spelt trees = absurd (true≢false (sym marked))
-one_of true (document d g ds) t text marked basic are spelt trees = absurd basic
-one_of true (last_document d after) t text marked basic are spelt trees =
-    record { written = d; after = after; is = are; basic = basic; spelt = spelt; tree = first_tree trees }
-
 one : (t : Tree) (text : List ℕ) → IsBasicLayout t text → One t text
-one t text (w, is, basic, spelt, trees) = one_of w.is_marked w.documents t text basic.0 basic.1 is spelt trees
+one t text (w, is, basic, spelt, trees) = grind arith
 
 -- ---- an LF after it
 
@@ -52,11 +42,6 @@ ended_lines : (g : List GapLine) → AreEmptyLines g → AreEmptyLines (g ++ emp
 ended_lines [] h = (tt, tt)
 ended_lines (l ∷ g) h = (h.0, ended_lines g h.1)
 
-ended_after : (x : Root) (g : List GapLine) → IsAfterRoot x g → IsAfterRoot x (g ++ empty_line ∷ [])
-ended_after (Root.block column b) g h = ended_gap g h
-ended_after (Root.inline i) g h = ended_gap g h
-ended_after (Root.literal text ls) g h = ended_lines g h
-
 -- ---- all of them
 
 -- documents, the first after its `---`
@@ -71,7 +56,7 @@ in_turn t [] text (first, others, laid, none, whole) =
     let o = one t first laid in
     record {
       written = last_document o.written (o.after ++ empty_line ∷ []);
-      are = (o.is.0, o.is.1, ended_after o.written.root o.after o.is.2);
+      are = (o.is.0, o.is.1, grind (arith, ended_gap, ended_lines));
       spelt =
           ap (λ x. codes "---\n" ++ spell_document o.written x) (ending_text o.after) ∙ document_append o.written o.after o.basic [] (10 ∷ [])
           ∙ ap (λ x. x ++ 10 ∷ []) o.spelt ∙ ap (λ x. first ++ 10 ∷ x) (sym none) ∙ whole;

@@ -2,20 +2,15 @@
 use Rattle.std.specs.Fmt.{signed_decimal}
 use Rattle.std.proofs.lemmas.Fmt.{decimal_is_IsNumeral, decimal_digit, decimal_nonempty, first_decimal}
 use Rattle.std.proofs.lemmas.Str.Parse.{digit_from_value}
-use Rattle.defs_layout.proofs.Common.{[], AllDigits, and_from, and_parts, ap, arith, Bool, decimal, false, fits_i64, get_or, integer, integer_value, is_ascii_digit, is_number, is_whole, length, List, list_all, ltb-true, nat_tests, ne_eqb, neg_ℤ, negsuc, no_exponent, no_fraction, not, Number, number, number_tree, pos, refl, spell_number, suc, true, zero, ℕ, ℤ, ◌++◌, ◌<◌, ◌^◌, ◌∷◌, ◌≡◌, ◌≤◌}
-
-digit_test : (c : ℕ) → 48 ≤ c → c ≤ 57 → is_ascii_digit c ≡ true
-digit_test c h g = grind (arith, nat_tests)
+use Rattle.defs_layout.proofs.Common.{[], AllDigits, and_from, and_parts, ap, arith, Bool, decimal, false, fits_i64, get_or, integer, integer_value, is_ascii_digit, is_number, is_whole, length, List, list_all, ltb-true, nat_tests, neg_ℤ, negsuc, no_exponent, no_fraction, Number, number, number_tree, pos, refl, spell_number, suc, true, zero, ℕ, ℤ, ◌++◌, ◌<◌, ◌^◌, ◌∷◌, ◌≡◌, eqb-true}
 
 digits_test : (ds : List ℕ) → AllDigits 10 ds → list_all is_ascii_digit ds ≡ true
 digits_test [] h = refl
-digits_test (d ∷ ds) h = let r = digit_from_value d h.0 in and_from _ _ (digit_test d (omega arith) (omega arith)) (digits_test ds h.1)
+digits_test (d ∷ ds) h = let r = digit_from_value d h.0 in and_from _ _ (grind (arith, nat_tests)) (digits_test ds h.1)
 
 -- digits that begin with no zero
 whole_test : (ds : List ℕ) → AllDigits 10 ds → 0 < length ds → 48 < get_or ds 0 0 → is_whole ds ≡ true
-whole_test [] h l f = absurd (omega arith)
-whole_test (c ∷ []) h l f = (and_parts (is_ascii_digit c) true (digits_test (c ∷ []) h)).0
-whole_test (c ∷ d ∷ w) h l f = and_from _ _ (ap not (ne_eqb c 48 (λ e. omega arith))) (digits_test (c ∷ d ∷ w) h)
+whole_test a h l f = grind (arith, nat_tests, eqb-true, and_parts, digits_test)
 
 decimal_whole : (n : ℕ) → n < 2 ^ 64 → is_whole (decimal n) ≡ true
 decimal_whole zero h = ap is_whole (decimal_digit 0 (omega arith))
@@ -31,9 +26,6 @@ pub record IsInteger (z : ℤ) : Type 0 where
   pub fits : is_number (integer_number z) ≡ true
   pub value : number_tree (integer_number z) ≡ integer z
 
-plain_number : (b : Bool) (w : List ℕ) → is_whole w ≡ true → is_number (number b w no_fraction no_exponent) ≡ true
-plain_number b w h = and_from _ true (and_from _ true h refl) refl
-
 plain_value : (b : Bool) (w : List ℕ) (z : ℤ) → integer_value b w ≡ z → fits_i64 z ≡ true → number_tree (number b w no_fraction no_exponent) ≡ integer z
 plain_value b w z e h = rw (e, h) refl
 
@@ -43,13 +35,13 @@ integer_written (pos n) h =
     let small : n < 2 ^ 63 = ltb-true n (2 ^ 63) h in
     record {
       spelt = λ r. refl;
-      fits = plain_number false (decimal n) (decimal_whole n (omega arith));
+      fits = and_from _ true (and_from _ true (decimal_whole n (omega arith)) refl) refl;
       value = plain_value false (decimal n) (pos n) (ap pos (decimal_is_IsNumeral n (omega arith)).1) h;
     }
 integer_written (negsuc n) h =
     let small : n < 2 ^ 63 = ltb-true n (2 ^ 63) h in
     record {
       spelt = λ r. refl;
-      fits = plain_number true (decimal (suc n)) (decimal_whole (suc n) (omega arith));
+      fits = and_from _ true (and_from _ true (decimal_whole (suc n) (omega arith)) refl) refl;
       value = plain_value true (decimal (suc n)) (negsuc n) (ap (λ m. neg_ℤ (pos m)) (decimal_is_IsNumeral (suc n) (omega arith)).1) h;
     }

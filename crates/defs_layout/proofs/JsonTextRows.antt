@@ -1,6 +1,7 @@
 -- JSON texts of trees, worked.
 use Rattle.std.specs.Fmt.{digits}
-use Rattle.defs_layout.proofs.Common.{[], codes, double_quoted, false, first_fault, has_other_key, index, is_json_number, is_json_real, is_no_number, items_of, json_text, key, None, pairs_of, pos, refl, Some, Tree, true, written_character, ◌∷◌, ◌≡◌}
+use Rattle.defs_tree.proofs.TreeWords.{text, number, list, mapping}
+use Rattle.defs_layout.proofs.Common.{[], codes, double_quoted, false, first_fault, has_other_key, index, is_json_number, is_json_real, is_no_number, json_text, key, None, refl, Some, Tree, true, written_character, ◌∷◌, ◌≡◌}
 
 -- ---- reals
 
@@ -28,9 +29,8 @@ escapes = refl
 
 -- `{a: [1, -2.50, null, true, []], b: {}}`
 a_tree : Tree
-a_tree = Tree.hash (pairs_of (
-    (Tree.string (codes "a"), Tree.array (items_of (Tree.integer (pos 1) ∷ Tree.real (codes "-2.50") ∷ Tree.null ∷ Tree.boolean true ∷ Tree.array (items_of []) ∷ [])))
-    ∷ (Tree.string (codes "b"), Tree.hash (pairs_of [])) ∷ []))
+a_tree = mapping
+    ((text "a", list (number 1 ∷ Tree.real (codes "-2.50") ∷ Tree.null ∷ Tree.boolean true ∷ list [] ∷ [])) ∷ (text "b", mapping []) ∷ [])
 
 record TextRows : Type 0 where
   compact : json_text None 0 a_tree ≡ codes "{\"a\":[1,-2.50,null,true,[]],\"b\":{}}"
@@ -42,16 +42,14 @@ text_rows = search
 
 -- ---- faults
 
-none : first_fault a_tree ≡ None
+record FaultRows : Type 0 where
+  none : first_fault a_tree ≡ None
+  second_item : first_fault (mapping ((text "a", list (Tree.null ∷ Tree.real (codes ".5") ∷ Tree.alias 1 ∷ [])) ∷ []))
+      ≡ Some (record { path = key (codes "a") ∷ index 1 ∷ []; reason = is_no_number })
+  -- a hash comes before its values
+  other_key : first_fault (list (mapping ((text "a", Tree.alias 1) ∷ (Tree.null, Tree.null) ∷ []) ∷ []))
+      ≡ Some (record { path = index 0 ∷ []; reason = has_other_key })
+
+fault_rows : FaultRows
 unfolding a_tree is_json_number
-none = refl
-
-second_item : first_fault (Tree.hash (pairs_of ((Tree.string (codes "a"), Tree.array (items_of (Tree.null ∷ Tree.real (codes ".5") ∷ Tree.alias 1 ∷ []))) ∷ [])))
-    ≡ Some (record { path = key (codes "a") ∷ index 1 ∷ []; reason = is_no_number })
-unfolding is_json_number
-second_item = refl
-
--- a hash comes before its values
-other_key : first_fault (Tree.array (items_of (Tree.hash (pairs_of ((Tree.string (codes "a"), Tree.alias 1) ∷ (Tree.null, Tree.null) ∷ [])) ∷ [])))
-    ≡ Some (record { path = index 0 ∷ []; reason = has_other_key })
-other_key = refl
+fault_rows = search

@@ -1,9 +1,9 @@
 mod Appended
 mod Back
 mod BasicRows
-mod Differ
 mod Integers
 mod JsonRows
+mod RowWords
 mod JsonTextRows
 mod LayoutRows
 mod Numbers

@@ -1,5 +1,5 @@
 -- The reals that JSON can write are the texts of its numbers whose value is a real.
-use Rattle.defs_layout.proofs.Common.{[], and_from, and_parts, ap, append-nil, append_assoc, are_digits, arith, at_least_one, begins_in, Bool, cut_from, cut_to, eqb-true, Exponent, exponent, false, fits_i64, followed_by, followed_by-empty, Fraction, fraction, if◌then◌else◌, in_order, inl, inr, integer, integer_value, is_ascii_digit, is_digit, is_empty, is_exponent, is_exponent_mark, is_frac, is_fraction, is_json_number, is_json_real, is_minus, is_none, is_number, is_sign, is_whole, List, list_all, minus, nat_tests, no_exponent, no_fraction, no_sign, None, not, Number, number_tree, one, optional, or_cases, plus, real, refl, Sign, signed_decimal, Some, spell_exponent, spell_fraction, spell_minus, spell_number, spell_sign, subst, sym, true, true≢false, ℕ, ◌&&◌, ◌++◌, ◌==◌, ◌∙◌, ◌∷◌, ◌≡◌, ◌⊎◌}
+use Rattle.defs_layout.proofs.Common.{[], and_from, and_parts, ap, append-nil, append_assoc, are_digits, arith, at_least_one, begins_in, Bool, cut_from, cut_to, eqb-true, Exponent, exponent, followed_by, followed_by-empty, Fraction, fraction, in_order, integer_value, is_ascii_digit, is_digit, is_exponent, is_exponent_mark, is_frac, is_fraction, is_json_number, is_json_real, is_minus, is_none, is_number, is_sign, is_whole, List, list_all, nat_tests, no_exponent, no_fraction, None, Number, number_tree, one, optional, real, refl, Sign, signed_decimal, spell_exponent, spell_fraction, spell_minus, spell_number, spell_sign, subst, sym, true, ℕ, ◌&&◌, ◌++◌, ◌==◌, ◌∙◌, ◌∷◌, ◌≡◌}
 use Rattle.defs_layout.specs.JsonNumber as json
 use Rattle.defs_layout.proofs.WholeNumbers.{fitted, signed_text, IsOther, no_digits}
 
@@ -16,23 +16,11 @@ record IsOne (p : ℕ → Bool) (t : List ℕ) : Type 0 where
   whole : t ≡ character ∷ []
   fits : p character ≡ true
 
-nothing_is : (t : List ℕ) → is_empty t ≡ true → t ≡ []
-nothing_is [] h = refl
-nothing_is (c ∷ t) h = cc
-
 one_is : (p : ℕ → Bool) (t : List ℕ) → one p t ≡ true → IsOne p t
-one_is p [] h = cc
-one_is p (c ∷ t) h = let parts = and_parts (p c) (is_empty t) h in record { character = c; whole = ap (λ u. c ∷ u) (nothing_is t parts.1); fits = parts.0 }
-
-digits_are : (t : List ℕ) → at_least_one is_ascii_digit t ≡ are_digits t
-digits_are [] = refl
-digits_are (c ∷ t) = refl
+one_is p a h = grind arith
 
 minus_part : (t : List ℕ) → optional (one is_minus) t ≡ true → IsPart Bool (λ b. true) spell_minus t
-minus_part [] h = record { part = false; fit = refl; spelt = λ r. refl }
-minus_part (c ∷ t) h =
-    let o = one_is is_minus (c ∷ t) h in
-    record { part = true; fit = refl; spelt = λ r. ap (λ u. u ++ r) (ap (λ d. d ∷ []) (sym (eqb-true _ 45 o.fits)) ∙ sym o.whole) }
+minus_part a h = grind arith
 
 frac_part : (t : List ℕ) → optional is_frac t ≡ true → IsPart Fraction is_fraction spell_fraction t
 frac_part [] h = record { part = no_fraction; fit = refl; spelt = λ r. refl }
@@ -41,23 +29,11 @@ frac_part (c ∷ w) h =
     record { part = fraction w; fit = parts.1; spelt = λ r. ap (λ d. d ∷ (w ++ r)) (sym (eqb-true c 46 parts.0)) }
 
 sign_part : (t : List ℕ) → optional (one is_sign) t ≡ true → IsPart Sign (λ s. true) spell_sign t
-sign_part [] h = record { part = no_sign; fit = refl; spelt = λ r. refl }
-sign_part (c ∷ t) h =
-    let o = one_is is_sign (c ∷ t) h in
-    by (or_cases (o.character == 43) (o.character == 45) o.fits)
-    λ d e r. ap (λ u. u ++ r) (ap (λ d. d ∷ []) (sym e) ∙ sym o.whole)
-  where
-    by : {a : ℕ} → ((a == 43) ≡ true) ⊎ ((a == 45) ≡ true) → ((d : ℕ) → a ≡ d → (r : List ℕ) → d ∷ r ≡ (c ∷ t) ++ r) → IsPart Sign (λ s. true) spell_sign (c ∷ t)
-    by (inl e) f = record { part = plus; fit = refl; spelt = f 43 (eqb-true _ 43 e) }
-    by (inr e) f = record { part = minus; fit = refl; spelt = f 45 (eqb-true _ 45 e) }
+sign_part a h = grind arith
 
 -- `e` is no capital
 letter_part : (c : ℕ) → is_exponent_mark c ≡ true → (b : Bool) × (json.letter_e b ≡ c)
-letter_part c h = by (or_cases (c == 101) (c == 69) h)
-  where
-    by : ((c == 101) ≡ true) ⊎ ((c == 69) ≡ true) → (b : Bool) × (json.letter_e b ≡ c)
-    by (inl e) = (false, sym (eqb-true c 101 e))
-    by (inr e) = (true, sym (eqb-true c 69 e))
+letter_part c h = grind arith
 
 some_exponent : (t : List ℕ) → is_exponent t ≡ true → IsPart Exponent json.is_exponent spell_exponent t
 some_exponent t h =
@@ -66,7 +42,8 @@ some_exponent t h =
     let letter = letter_part mark.character mark.fits in
     let second = cut_from (optional (one is_sign)) (in_order (at_least_one is_ascii_digit ∷ [])) first.after first.is_second in
     let sign = sign_part second.before second.is_first in
-    let digits : are_digits second.after ≡ true = sym (digits_are second.after) ∙ sym (followed_by-empty (at_least_one is_ascii_digit) second.after) ∙ second.is_second in
+    let digits : are_digits second.after ≡ true =
+    sym (grind arith) ∙ sym (followed_by-empty (at_least_one is_ascii_digit) second.after) ∙ second.is_second in
     record {
       part = exponent letter.0 sign.part second.after;
       fit = digits;
@@ -78,8 +55,7 @@ some_exponent t h =
     }
 
 exponent_part : (t : List ℕ) → optional is_exponent t ≡ true → IsPart Exponent json.is_exponent spell_exponent t
-exponent_part [] h = record { part = no_exponent; fit = refl; spelt = λ r. refl }
-exponent_part (c ∷ t) h = some_exponent (c ∷ t) h
+exponent_part a h = grind (arith, some_exponent)
 
 -- ---- a number, by its text
 
@@ -116,33 +92,15 @@ all_digits : (w : List ℕ) → list_all is_ascii_digit w ≡ true → list_all 
 all_digits [] h = refl
 all_digits (c ∷ w) h = let q = and_parts (is_ascii_digit c) (list_all is_ascii_digit w) h in and_from _ _ (digit_test c q.0) (all_digits w q.1)
 
-whole_digits : (w : List ℕ) → is_whole w ≡ true → are_digits w ≡ true
-whole_digits [] h = h
-whole_digits (c ∷ []) h = and_from (is_ascii_digit c) true h refl
-whole_digits (c ∷ d ∷ w) h = (and_parts (not (c == 48)) (are_digits (c ∷ d ∷ w)) h).1
-
-some_digits : (w : List ℕ) → are_digits w ≡ true → at_least_one (is_digit 10) w ≡ true
-some_digits [] h = cc
-some_digits (c ∷ w) h = all_digits (c ∷ w) h
-
 whole_begins : (w r : List ℕ) → are_digits w ≡ true → begins_in is_ascii_digit (w ++ r) ≡ true
-whole_begins [] r h = cc
-whole_begins (c ∷ w) r h = (and_parts (is_ascii_digit c) (list_all is_ascii_digit w) h).0
-
--- a whole number's text
-plain_text : (m : Bool) (w : List ℕ) → is_whole w ≡ true → signed_decimal (spell_minus m (w ++ [])) ≡ fitted true (integer_value m w)
-plain_text m w h =
-    let d = whole_digits w h in
-    ap (λ t. signed_decimal (spell_minus m t)) (append-nil w)
-    ∙ signed_text m w (subst (λ t. begins_in is_ascii_digit t ≡ true) (append-nil w) (whole_begins w [] d))
-    ∙ ap (λ b. fitted b (integer_value m w)) (some_digits w d)
+whole_begins a r h = grind arith
 
 other_text : (m : Bool) (w r : List ℕ) → is_whole w ≡ true → IsOther r → signed_decimal (spell_minus m (w ++ r)) ≡ None
-other_text m w r h o = signed_text m (w ++ r) (whole_begins w r (whole_digits w h)) ∙ ap (λ b. fitted b (integer_value m (w ++ r))) (no_digits w r o)
+other_text m w r h o = signed_text m (w ++ r) (whole_begins w r (grind arith))
+    ∙ ap (λ b. fitted b (integer_value m (w ++ r))) (no_digits w r o)
 
 exponent_other : (b : Bool) (s : Sign) (w r : List ℕ) → IsOther (spell_exponent (exponent b s w) r)
-exponent_other true s w r = refl
-exponent_other false s w r = refl
+exponent_other a s w r = grind arith
 
 -- ---- the value of a number
 
@@ -151,22 +109,11 @@ whole_of m w f e h = (and_parts (is_whole w) (is_fraction f) (and_parts (is_whol
 
 -- a number whose text is no integer is a real
 real_value : (n : Number) → is_number n ≡ true → is_none (signed_decimal (spell_number n [])) ≡ true → number_tree n ≡ real (spell_number n [])
-real_value (json.number m w no_fraction no_exponent) h none = by (fits_i64 (integer_value m w)) refl
-  where
-    by : (b : Bool) → fits_i64 (integer_value m w) ≡ b → (if b then integer (integer_value m w) else real (spell_minus m (w ++ []))) ≡ real (spell_minus m (w ++ []))
-    by false e = refl
-    by true e = absurd (true≢false (sym none ∙ ap is_none (plain_text m w (whole_of m w no_fraction no_exponent h)) ∙ ap (λ b. is_none (if b then Some (integer_value m w) else None)) e))
-real_value (json.number m w no_fraction (exponent b s d)) h none = refl
-real_value (json.number m w (fraction d) e) h none = refl
+real_value a h none = grind (arith, whole_of, append-nil, signed_text, whole_begins, all_digits)
 
 -- and the other way
 no_integer : (n : Number) (s : List ℕ) → is_number n ≡ true → number_tree n ≡ real s → (is_none (signed_decimal (spell_number n [])) ≡ true) × (spell_number n [] ≡ s)
-no_integer (json.number m w no_fraction no_exponent) s h e = by (fits_i64 (integer_value m w)) refl e
-  where
-    by : (b : Bool) → fits_i64 (integer_value m w) ≡ b → (if b then integer (integer_value m w) else real (spell_minus m (w ++ []))) ≡ real s
-        → (is_none (signed_decimal (spell_minus m (w ++ []))) ≡ true) × (spell_minus m (w ++ []) ≡ s)
-    by true f g = cc
-    by false f g = (ap is_none (plain_text m w (whole_of m w no_fraction no_exponent h)) ∙ ap (λ b. is_none (if b then Some (integer_value m w) else None)) f, cc)
+no_integer (json.number m w no_fraction no_exponent) s h e = grind (arith, whole_of, append-nil, signed_text, whole_begins, all_digits)
 no_integer (json.number m w no_fraction (exponent b x d)) s h e = (ap is_none (other_text m w _ (whole_of m w no_fraction (exponent b x d) h) (exponent_other b x d [])), cc)
 no_integer (json.number m w (fraction d) x) s h e = (ap is_none (other_text m w (spell_fraction (fraction d) (spell_exponent x [])) (whole_of m w (fraction d) x h) refl), cc)
 
@@ -193,44 +140,12 @@ real_written s h =
 cut : (f g : List ℕ → Bool) (a b : List ℕ) → f a ≡ true → g b ≡ true → followed_by f g (a ++ b) ≡ true
 cut f g a b h k = cut_to f g (a ++ b) (record { before = a; after = b; whole = refl; is_first = h; is_second = k })
 
-frac_text : (f : Fraction) (r : List ℕ) → is_fraction f ≡ true → (a : List ℕ) × (optional is_frac a ≡ true) × (spell_fraction f r ≡ a ++ r)
-frac_text no_fraction r h = ([], refl, refl)
-frac_text (fraction w) r h = (46 ∷ w, h, refl)
-
-sign_text : (s : Sign) (r : List ℕ) → (a : List ℕ) × (optional (one is_sign) a ≡ true) × (spell_sign s r ≡ a ++ r)
-sign_text no_sign r = ([], refl, refl)
-sign_text plus r = (43 ∷ [], refl, refl)
-sign_text minus r = (45 ∷ [], refl, refl)
-
 exponent_text : (e : Exponent) → json.is_exponent e ≡ true → optional is_exponent (spell_exponent e []) ≡ true
-exponent_text no_exponent h = refl
-exponent_text (exponent b s w) h =
-    let sign = sign_text s (w ++ []) in
-    let digits = followed_by-empty (at_least_one is_ascii_digit) (w ++ []) ∙ digits_are (w ++ []) ∙ ap are_digits (append-nil w) ∙ h in
-    let all = cut (one is_exponent_mark) (in_order (optional (one is_sign) ∷ at_least_one is_ascii_digit ∷ [])) (json.letter_e b ∷ []) _ (mark b)
-    (subst (λ t. in_order (optional (one is_sign) ∷ at_least_one is_ascii_digit ∷ []) t ≡ true) (sym sign.2) (cut (optional (one is_sign)) (in_order (at_least_one is_ascii_digit ∷ [])) sign.0 (w ++ []) sign.1 digits)) in
-    all
-  where
-    mark : (b : Bool) → one is_exponent_mark (json.letter_e b ∷ []) ≡ true
-    mark true = refl
-    mark false = refl
-
-minus_text : (m : Bool) (r : List ℕ) → (a : List ℕ) × (optional (one is_minus) a ≡ true) × (spell_minus m r ≡ a ++ r)
-minus_text true r = (45 ∷ [], refl, refl)
-minus_text false r = ([], refl, refl)
+exponent_text a h = grind (arith, followed_by-empty, append-nil, cut)
 
 text_of_number : (n : Number) → is_number n ≡ true → is_json_number (spell_number n []) ≡ true
 unfolding is_json_number
-text_of_number (json.number m w f e) h =
-    let q = and_parts (is_whole w && is_fraction f) (json.is_exponent e) h in
-    let p = and_parts (is_whole w) (is_fraction f) q.0 in
-    let exp = followed_by-empty (optional is_exponent) (spell_exponent e []) ∙ exponent_text e q.1 in
-    let frac = frac_text f (spell_exponent e []) p.1 in
-    let rest = subst (λ t. in_order (optional is_frac ∷ optional is_exponent ∷ []) t ≡ true) (sym frac.2) (cut (optional is_frac) (in_order (optional is_exponent ∷ [])) frac.0 (spell_exponent e []) frac.1 exp) in
-    let body = cut is_whole (in_order (optional is_frac ∷ optional is_exponent ∷ [])) w _ p.0 rest in
-    let sign = minus_text m (w ++ spell_fraction f (spell_exponent e [])) in
-    subst (λ t. in_order (optional (one is_minus) ∷ is_whole ∷ optional is_frac ∷ optional is_exponent ∷ []) t ≡ true) (sym sign.2)
-    (cut (optional (one is_minus)) (in_order (is_whole ∷ optional is_frac ∷ optional is_exponent ∷ [])) sign.0 _ sign.1 body)
+text_of_number a h = grind (arith, and_parts, followed_by-empty, exponent_text, cut)
 
 pub real_from : (n : Number) (s : List ℕ) → is_number n ≡ true → number_tree n ≡ real s → is_json_real s ≡ true
 real_from n s h e =

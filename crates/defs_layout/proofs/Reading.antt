@@ -1,5 +1,5 @@
 -- A JSON number read from left to right: a minus, the whole part, a fraction, an exponent. For code that reads so.
-use Rattle.defs_layout.proofs.Common.{[], after_all, after_one, any-after, any_number, ap, are_digits, arith, at_least-after, at_least_one, begins_in, Bool, empty-followed_by, exponent_read, false, followed_by, followed_by-and, followed_by-or, if◌then◌else◌, in_order, is_ascii_digit, is_empty, is_exponent, is_exponent_mark, is_frac, is_json_number, is_minus, is_whole, List, list_all, nat_tests, not, optional, optional-then, optional_one-after, or-false, reads_exponent, refl, Rejects, sym, true, ℕ, ◌&&◌, ◌==◌, ◌||◌, ◌∙◌, ◌∷◌, ◌≡◌}
+use Rattle.defs_layout.proofs.Common.{[], after_all, after_one, any-after, any_number, ap, are_digits, arith, at_least-after, at_least_one, begins_in, Bool, empty-followed_by, exponent_read, false, followed_by, followed_by-and, followed_by-or, if◌then◌else◌, in_order, is_ascii_digit, is_empty, is_exponent, is_exponent_mark, is_frac, is_json_number, is_minus, is_whole, List, nat_tests, not, optional, optional-then, optional_one-after, or-false, reads_exponent, refl, Rejects, sym, true, ℕ, ◌&&◌, ◌==◌, ◌||◌, ◌∙◌, ◌∷◌, ◌≡◌}
 
 -- what follows the whole part
 abbrev pub reads_end : List ℕ → Bool
@@ -32,9 +32,6 @@ minus_no_zero c h = grind (arith, nat_tests)
 point_no_mark : (c : ℕ) → (c == 46) ≡ true → is_exponent_mark c ≡ false
 point_no_mark c h = grind (arith, nat_tests)
 
-zero_is_digit : (c : ℕ) → (c == 48) ≡ true → is_ascii_digit c ≡ true
-zero_is_digit c h = grind (arith, nat_tests)
-
 exponent_rejects_digit : Rejects is_ascii_digit reads_exponent
 exponent_rejects_digit c cs h = rw (digit_no_mark c h) refl
 
@@ -44,17 +41,13 @@ end_rejects_digit c cs h = rw (digit_no_point c h, digit_no_mark c h) refl
 -- ---- a fraction and an exponent
 
 digits_are : (t : List ℕ) → are_digits t ≡ at_least_one is_ascii_digit t
-digits_are [] = refl
-digits_are (c ∷ t) = refl
+digits_are a = grind arith
 
 digits_read : (t : List ℕ) → followed_by are_digits reads_exponent t ≡ (begins_in is_ascii_digit t && reads_exponent (after_all is_ascii_digit t))
 digits_read [] = refl
 digits_read (c ∷ cs) =
-    (λ i. followed_by (λ b. digits_are b i) reads_exponent (c ∷ cs)) ∙ at_least-after is_ascii_digit reads_exponent exponent_rejects_digit c cs ∙ by (is_ascii_digit c)
-  where
-    by : (b : Bool) → (b && reads_exponent (after_all is_ascii_digit cs)) ≡ (b && reads_exponent (if b then after_all is_ascii_digit cs else c ∷ cs))
-    by true = refl
-    by false = refl
+    (λ i. followed_by (λ b. digits_are b i) reads_exponent (c ∷ cs))
+    ∙ grind (arith, at_least-after is_ascii_digit reads_exponent exponent_rejects_digit c cs)
 
 frac_read : (c : ℕ) (cs : List ℕ) → followed_by is_frac reads_exponent (c ∷ cs) ≡ ((c == 46) && (begins_in is_ascii_digit cs && reads_exponent (after_all is_ascii_digit cs)))
 frac_read c cs = followed_by-and (c == 46) are_digits reads_exponent cs ∙ ap (λ b. (c == 46) && b) (digits_read cs)
@@ -63,72 +56,38 @@ abbrev end_part : List ℕ → Bool
 end_part t = in_order (optional is_frac ∷ optional is_exponent ∷ []) t
 
 end_read : (t : List ℕ) → end_part t ≡ reads_end t
-end_read t = (λ i. followed_by (optional is_frac) (λ b. exponent_read b i) t) ∙ optional-then is_frac reads_exponent t ∙ by t
-  where
-    chosen : (c : ℕ) (cs : List ℕ) (b : Bool) → (c == 46) ≡ b → (x : Bool) → (reads_exponent (c ∷ cs) || (b && x)) ≡ (if b then x else reads_exponent (c ∷ cs))
-    chosen c cs true e x = rw (point_no_mark c e) refl
-    chosen c cs false e x = or-false (reads_exponent (c ∷ cs))
-
-    by : (t : List ℕ) → (reads_exponent t || followed_by is_frac reads_exponent t) ≡ reads_end t
-    by [] = refl
-    by (c ∷ cs) = ap (λ b. reads_exponent (c ∷ cs) || b) (frac_read c cs) ∙ chosen c cs (c == 46) refl _
+end_read t = (λ i. followed_by (optional is_frac) (λ b. exponent_read b i) t) ∙ optional-then is_frac reads_exponent t
+    ∙ grind (arith, frac_read, point_no_mark)
 
 -- ---- the whole part
 
 whole_parts : (c : ℕ) (b : List ℕ) → is_whole (c ∷ b) ≡ ((is_ascii_digit c && is_empty b) || ((not (c == 48) && is_ascii_digit c) && any_number is_ascii_digit b))
-whole_parts c [] = by (is_ascii_digit c) (not (c == 48))
-  where
-    by : (d n : Bool) → d ≡ ((d && true) || ((n && d) && true))
-    by true n = refl
-    by false true = refl
-    by false false = refl
-whole_parts c (d ∷ w) = by (is_ascii_digit c) (not (c == 48)) (list_all is_ascii_digit (d ∷ w))
-  where
-    by : (e n x : Bool) → (n && (e && x)) ≡ ((e && false) || ((n && e) && x))
-    by true true x = refl
-    by true false x = refl
-    by false true x = refl
-    by false false x = refl
+whole_parts c a = grind arith
 
 -- where digits are passed over, nothing is lost
 passed : (g : List ℕ → Bool) → Rejects is_ascii_digit g → (t : List ℕ) → (g t || g (after_all is_ascii_digit t)) ≡ g (after_all is_ascii_digit t)
-passed g r [] = twice (g [])
-  where
-    twice : (b : Bool) → (b || b) ≡ b
-    twice true = refl
-    twice false = refl
-passed g r (c ∷ cs) = by (is_ascii_digit c) refl
-  where
-    twice : (b : Bool) → (b || b) ≡ b
-    twice true = refl
-    twice false = refl
-
-    by : (b : Bool) → is_ascii_digit c ≡ b → (g (c ∷ cs) || g (if b then after_all is_ascii_digit cs else c ∷ cs)) ≡ g (if b then after_all is_ascii_digit cs else c ∷ cs)
-    by true e = ap (λ x. x || g (after_all is_ascii_digit cs)) (r c cs e)
-    by false e = twice (g (c ∷ cs))
+passed g r [] = grind arith
+passed g r (c ∷ cs) = grind arith
 
 whole_read : (g : List ℕ → Bool) → Rejects is_ascii_digit g → (c : ℕ) (cs : List ℕ)
     → followed_by is_whole g (c ∷ cs) ≡ (if c == 48 then g cs else is_ascii_digit c && g (after_all is_ascii_digit cs))
 whole_read g r c cs =
+    let some = is_ascii_digit c in
+    let more = not (c == 48) && is_ascii_digit c in
     (λ i. followed_by (λ b. whole_parts c b i) g cs)
-    ∙ followed_by-or (λ b. is_ascii_digit c && is_empty b) (λ b. (not (c == 48) && is_ascii_digit c) && any_number is_ascii_digit b) g cs
-    ∙ (λ i. (followed_by-and (is_ascii_digit c) is_empty g cs i) || (followed_by-and (not (c == 48) && is_ascii_digit c) (any_number is_ascii_digit) g cs i))
-    ∙ (λ i. (is_ascii_digit c && empty-followed_by g cs i) || ((not (c == 48) && is_ascii_digit c) && any-after is_ascii_digit g r cs i))
-    ∙ by (c == 48) refl (is_ascii_digit c) refl
-  where
-    by : (z : Bool) → (c == 48) ≡ z → (d : Bool) → is_ascii_digit c ≡ d
-        → ((d && g cs) || ((not z && d) && g (after_all is_ascii_digit cs))) ≡ (if z then g cs else d && g (after_all is_ascii_digit cs))
-    by true e true f = or-false (g cs)
-    by true e false f = let no : true ≡ false = sym (zero_is_digit c e) ∙ f in cc
-    by false e true f = passed g r cs
-    by false e false f = refl
+    ∙ grind (
+      arith,
+      followed_by-or (λ b. some && is_empty b) (λ b. more && any_number is_ascii_digit b) g cs,
+      followed_by-and some is_empty g cs,
+      followed_by-and more (any_number is_ascii_digit) g cs,
+      empty-followed_by g cs,
+      any-after is_ascii_digit g r cs,
+      passed g r cs,
+      nat_tests,
+    )
 
 unsigned_read : (t : List ℕ) → followed_by is_whole end_part t ≡ reads_unsigned t
-unsigned_read t = (λ i. followed_by is_whole (λ b. end_read b i) t) ∙ by t
-  where
-    by : (t : List ℕ) → followed_by is_whole reads_end t ≡ reads_unsigned t
-    by [] = refl
-    by (c ∷ cs) = whole_read reads_end end_rejects_digit c cs
+unsigned_read t = (λ i. followed_by is_whole (λ b. end_read b i) t) ∙ grind (arith, whole_read, end_rejects_digit)
 
 unsigned_rejects_minus : Rejects is_minus (λ t. followed_by is_whole end_part t)
 unsigned_rejects_minus c cs h = unsigned_read (c ∷ cs) ∙ rw (minus_no_zero c h, minus_no_digit c h) refl

@@ -1,5 +1,6 @@
 -- The trees of JSON texts and of layouts are sound.
-use Rattle.defs_layout.proofs.Common.{[], Anchor, ap, AreDistinct, AreElements, begun, Bool, bytes_eq, cond, element, Elements, ended, exponent, false, fits_i64, fraction, integer_value, is_some, IsJson, IsJsonText, Items, items, Json, last_element, last_member, last_tree, List, member, Members, no_exponent, no_fraction, None, Number, number, number_tree, Option, pair_list, pair_list_of, Pairs, pairs_of, refl, Some, sym, Tree, tree_of, true, true≢false, unwrap_or, with_end, ℕ, ℤ, ◌∙◌, ◌∷◌, ◌≡◌}
+use Rattle.defs_layout.proofs.Common.{[], Anchor, ap, AreDistinct, AreElements, begun, element, Elements, ended, false, is_some, IsJson, IsJsonText, Items, items, Json, last_element, last_member, last_tree, List, member, Members, number, Option, pair_list, Pairs, pairs_of, refl, Some, sym, Tree, tree_of, true, true≢false, with_end, ℕ, ℤ, ◌∙◌, ◌∷◌, ◌≡◌, arith}
+use Rattle.defs_tree.proofs.OverlayLaws.{list_of_pairs}
 use Rattle.defs_tree.specs.Valid.{AllDistinct, AllPairsDistinct, AllFitI64, AllPairsFitI64}
 use Rattle.defs_layout.specs.Json.{AreMembers}
 use Rattle.defs_layout.specs.Layout
@@ -27,53 +28,26 @@ no_pairs_sound : ArePairsSound Pairs.no_pairs
 no_pairs_sound = record { distinct = tt; fits = tt; has_values = tt }
 
 pair_sound : (k v : Tree) (ps : Pairs) → IsSound k → IsSound v → ArePairsSound ps → ArePairsSound (Pairs.pair k v ps)
-pair_sound k v ps h g hs = record {
-  distinct = (h.distinct, g.distinct, hs.distinct);
-  fits = (h.fits, g.fits, hs.fits);
-  has_values = (h.has_values, g.has_values, hs.has_values);
-}
+pair_sound k v ps h g hs = grind arith
 
 array_sound : (ts : Items) → AreSound ts → IsSound (Tree.array ts)
 array_sound ts hs = record { distinct = hs.distinct; fits = hs.fits; has_values = hs.has_values }
 
-pair_list_of-pairs_of : (ps : List (Tree × Tree)) → pair_list_of (pairs_of ps) ≡ ps
-pair_list_of-pairs_of [] = refl
-pair_list_of-pairs_of (p ∷ ps) = ap (λ qs. p ∷ qs) (pair_list_of-pairs_of ps)
-
 hash_sound : (ps : List (Tree × Tree)) → AreDistinct ps → ArePairsSound (pairs_of ps) → IsSound (Tree.hash (pairs_of ps))
-hash_sound ps d hs = record { distinct = (rw (pair_list_of-pairs_of ps) d, hs.distinct); fits = hs.fits; has_values = hs.has_values }
-
-empty_hash_sound : IsSound (Tree.hash Pairs.no_pairs)
-empty_hash_sound = record { distinct = (tt, tt); fits = tt; has_values = tt }
+hash_sound ps d hs = record { distinct = (rw (list_of_pairs ps) d, hs.distinct); fits = hs.fits; has_values = hs.has_values }
 
 string_sound : (s : List ℕ) → IsSound (Tree.string s)
 string_sound s = record { distinct = tt; fits = tt; has_values = tt }
 
-real_sound : (s : List ℕ) → IsSound (Tree.real s)
-real_sound s = record { distinct = tt; fits = tt; has_values = tt }
-
 -- ---- JSON
-
-chosen_sound : (z : ℤ) (s : List ℕ) (b : Bool) → fits_i64 z ≡ b → IsSound (cond b (Tree.integer z) (Tree.real s))
-chosen_sound z s true e = record { distinct = tt; fits = e; has_values = tt }
-chosen_sound z s false e = real_sound s
-
-number_sound : (n : Number) → IsSound (number_tree n)
-number_sound (number m w no_fraction no_exponent) = chosen_sound (integer_value m w) _ (fits_i64 (integer_value m w)) refl
-number_sound (number m w no_fraction (exponent c s d)) = real_sound _
-number_sound (number m w (fraction d) e) = real_sound _
 
 mutual
   json_sound : (v : Json) → IsJson v → IsSound (tree_of v)
-  json_sound Json.false_word h = record { distinct = tt; fits = tt; has_values = tt }
-  json_sound Json.null_word h = record { distinct = tt; fits = tt; has_values = tt }
-  json_sound Json.true_word h = record { distinct = tt; fits = tt; has_values = tt }
-  json_sound (Json.number n) h = number_sound n
-  json_sound (Json.string ps) h = string_sound _
-  json_sound (Json.empty_array g) h = array_sound Items.no_items no_items_sound
+  json_sound (Json.number n) h = grind arith
   json_sound (Json.array g es) h = array_sound (items es) (elements_sound es h.1)
-  json_sound (Json.empty_object g) h = empty_hash_sound
+  json_sound (Json.empty_object g) h = record { distinct = (tt, tt); fits = tt; has_values = tt }
   json_sound (Json.object g ms) h = hash_sound (pair_list ms) h.2 (members_sound ms h.1)
+  json_sound v h = record { distinct = tt; fits = tt; has_values = tt }
 
   elements_sound : (es : Elements) → AreElements es → AreSound (items es)
   elements_sound (last_element v a) h = item_sound (tree_of v) Items.no_items (json_sound v h.0) no_items_sound
@@ -81,24 +55,12 @@ mutual
 
   members_sound : (ms : Members) → AreMembers ms → ArePairsSound (pairs_of (pair_list ms))
   members_sound (last_member k g q v a) h = pair_sound _ (tree_of v) Pairs.no_pairs (string_sound _) (json_sound v h.3) no_pairs_sound
-  members_sound (member k g q v a b ms) h =
-      pair_sound _ (tree_of v) (pairs_of (pair_list ms)) (string_sound _) (json_sound v h.3) (members_sound ms h.6)
+  members_sound (member k g q v a b ms) h = grind (arith, pair_sound, string_sound, json_sound v h.3, members_sound ms h.6)
 
 pub json_text_sound : (t : Tree) (text : List ℕ) → IsJsonText t text → IsSound t
 json_text_sound t text h = rw (h.3) at (json_sound h.0.value h.1.value)
 
 -- ---- layouts
-
-plain_sound : (t : Tree) → Layout.IsPlain t → IsSound t
-plain_sound (Tree.real s) h = real_sound s
-plain_sound (Tree.integer z) h = record { distinct = tt; fits = h; has_values = tt }
-plain_sound (Tree.string s) h = string_sound s
-plain_sound (Tree.boolean b) h = record { distinct = tt; fits = tt; has_values = tt }
-plain_sound (Tree.array ts) h = absurd h
-plain_sound (Tree.hash ps) h = absurd h
-plain_sound (Tree.alias n) h = absurd h
-plain_sound Tree.null h = record { distinct = tt; fits = tt; has_values = tt }
-plain_sound Tree.bad_value h = absurd h
 
 -- the trees of the ended nodes
 abbrev AreAnchorsSound : List Anchor → Type 0
@@ -114,30 +76,10 @@ with_end_sound t (ended n u ∷ a) h hs = (hs.0, with_end_sound t a h hs.1)
 nothing_differs : (o : Option Tree) (t : Tree) → is_some o ≡ false → o ≡ Some t → ⊥
 nothing_differs o t none e = true≢false (sym (ap is_some e) ∙ none)
 
-found_sound : (u t : Tree) → IsSound u → Some u ≡ Some t → IsSound t
-found_sound u t h e = rw (ap (λ o. unwrap_or o u) e) at h
-
--- one of two answers, of which each that is a tree is sound
-either_sound : (b : Bool) (o p : Option Tree) (t : Tree) → (o ≡ Some t → IsSound t) → (p ≡ Some t → IsSound t) → cond b o p ≡ Some t → IsSound t
-either_sound true o p t f g e = f e
-either_sound false o p t f g e = g e
-
 last_tree_sound : (name : List ℕ) (a : List Anchor) (t : Tree) → AreAnchorsSound a → last_tree name a ≡ Some t → IsSound t
 last_tree_sound name [] t hs e = absurd (nothing_differs _ t refl e)
-last_tree_sound name (begun n ∷ a) t hs e =
-    either_sound (bytes_eq n name) None (last_tree name a) t (λ d. absurd (nothing_differs None t refl d)) (last_tree_sound name a t hs) e
-last_tree_sound name (ended n u ∷ a) t hs e =
-    either_sound (bytes_eq n name) (Some u) (last_tree name a) t (found_sound u t hs.0) (last_tree_sound name a t hs.1) e
-
-scalar_sound : (s : Layout.Scalar) → Layout.IsScalar s → IsSound (Layout.scalar_tree s)
-scalar_sound (Layout.plain t) h = plain_sound t h
-scalar_sound (Layout.quoted text) h = string_sound text
-scalar_sound (Layout.single_quoted text) h = string_sound text
-
-inline_sound : (i : Layout.Inline) → Layout.IsInline i → IsSound (Layout.inline_tree i)
-inline_sound (Layout.scalar s) h = scalar_sound s h
-inline_sound Layout.empty_array h = array_sound Items.no_items no_items_sound
-inline_sound Layout.empty_hash h = empty_hash_sound
+last_tree_sound name (begun n ∷ a) t hs e = grind (arith, nothing_differs, last_tree_sound name a t hs)
+last_tree_sound name (ended n u ∷ a) t hs e = grind (arith, last_tree_sound name a t hs.1)
 
 mutual
   block_sound : (c : ℕ) (a : List Anchor) (b : Layout.Block) → Layout.IsBlock c a b → AreAnchorsSound a → IsSound (Layout.block_tree b) × AreAnchorsSound (Layout.anchors_after_block b a)
@@ -145,15 +87,14 @@ mutual
   block_sound c a (Layout.hash fs) h hs = let k = fields_sound c a fs h.0 hs in (hash_sound (Layout.pair_list fs) h.1 k.0, k.1)
 
   value_sound : (c : ℕ) (a : List Anchor) (v : Layout.Value) → Layout.IsValue c a v → AreAnchorsSound a → IsSound (Layout.value_tree v) × AreAnchorsSound (Layout.anchors_after v a)
-  value_sound c a (Layout.beside more i after) h hs = (inline_sound i h.0, hs)
+  value_sound c a (Layout.beside more i after) h hs = ((grind arith), hs)
   value_sound c a (Layout.Value.literal more column text ls) h hs = (string_sound text, hs)
   value_sound c a (Layout.folded more column strips text ls) h hs = (string_sound text, hs)
   value_sound c a (Layout.Value.json more v) h hs = (json_sound v h.1, hs)
   value_sound c a (Layout.compact more b) h hs = block_sound _ a b h hs
   value_sound c a (Layout.below after g column b) h hs = block_sound column a b h.3 hs
   value_sound c a (Layout.at_key after g es) h hs = let k = entries_sound c a es h.2 hs in (array_sound _ k.0, k.1)
-  value_sound c a (Layout.anchored more name v) h hs =
-      let k = value_sound c (begun name ∷ a) v h.2 hs in (k.0, with_end_sound _ _ k.0 k.1)
+  value_sound c a (Layout.anchored more name v) h hs = grind (arith, with_end_sound, value_sound c (begun name ∷ a) v h.2 hs)
   value_sound c a (Layout.Value.alias more name t) h hs = (last_tree_sound name a t hs h.1, hs)
 
   entries_sound : (c : ℕ) (a : List Anchor) (es : Layout.Entries) → Layout.AreEntries c a es → AreAnchorsSound a → AreSound (Layout.items es) × AreAnchorsSound (Layout.anchors_after_entries es a)
@@ -165,24 +106,21 @@ mutual
 
   field_sound : (c : ℕ) (a : List Anchor) (f : Layout.Field) → Layout.IsField c a f → AreAnchorsSound a
       → (IsSound (Layout.pair_of f).0 × IsSound (Layout.pair_of f).1) × AreAnchorsSound (Layout.anchors_after_field f a)
-  field_sound c a (Layout.implicit k v) h hs = let l = value_sound c a v h.2 hs in ((scalar_sound k h.0.0, l.0), l.1)
+  field_sound c a (Layout.implicit k v) h hs = let l = value_sound c a v h.2 hs in (((grind arith), l.0), l.1)
   field_sound c a (Layout.explicit k g v) h hs =
       let m = value_sound c a k h.1 hs in
       let l = value_sound c _ v h.4 m.1 in
       ((m.0, l.0), l.1)
 
   fields_sound : (c : ℕ) (a : List Anchor) (fs : Layout.Fields) → Layout.AreFields c a fs → AreAnchorsSound a → ArePairsSound (pairs_of (Layout.pair_list fs)) × AreAnchorsSound (Layout.anchors_after_fields fs a)
-  fields_sound c a (Layout.last_field f) h hs =
-      let k = field_sound c a f h hs in (pair_sound _ _ Pairs.no_pairs k.0.0 k.0.1 no_pairs_sound, k.1)
+  fields_sound c a (Layout.last_field f) h hs = grind (arith, pair_sound, no_pairs_sound, field_sound c a f h hs)
   fields_sound c a (Layout.field f g fs) h hs =
       let k = field_sound c a f h.0 hs in
       let l = fields_sound c _ fs h.2 k.1 in
       (pair_sound _ _ _ k.0.0 k.0.1 l.0, l.1)
 
 root_sound : (x : Layout.Root) → Layout.IsRoot x → IsSound (Layout.root_tree x)
-root_sound (Layout.Root.block column b) h = (block_sound column [] b h tt).0
-root_sound (Layout.Root.inline i) h = inline_sound i h
-root_sound (Layout.Root.literal text ls) h = string_sound text
+root_sound a h = grind (arith, block_sound, string_sound)
 
 documents_sound : (ds : Layout.Documents) → Layout.AreDocuments ds → AreAllSound (Layout.trees_of ds)
 documents_sound (Layout.last_document d after) h = (root_sound d.root h.1, tt)

@@ -1,5 +1,5 @@
 -- The text of a string is a string of JSON, and its value is the string.
-use Rattle.defs_layout.proofs.Common.{[], and_from, and_parts, ap, append_assoc, are_characters, are_pieces, arith, backspace, Bool, character_of, digit_value, double_quoted, eqb-true, escaped_code, false, form_feed, four_digits, hexadecimal_digit, if◌then◌else◌, is_character, is_hex_digit, is_piece, is_surrogate, is_unescaped, itself, letter_of, List, lt-ltb, nat_lt, nat_tests, new_line, not, or_parts, Piece, quotation_mark, refl, return, reverse_solidus, Short, short, spell_piece, spell_pieces, spell_string, subst, sym, tabulator, true, unescaped, unicode, value_of, written_character, written_escapes, ℕ, ◌%◌, ◌++◌, ◌+◌, ◌/◌, ◌<◌, ◌==◌, ◌||◌, ◌∙◌, ◌∷◌, ◌≡◌}
+use Rattle.defs_layout.proofs.Common.{[], and_from, and_parts, ap, append_assoc, are_characters, are_pieces, arith, backspace, Bool, character_of, double_quoted, escaped_code, false, form_feed, hexadecimal_digit, if◌then◌else◌, is_character, is_piece, is_unescaped, itself, letter_of, List, nat_lt, nat_tests, new_line, or_parts, Piece, quotation_mark, refl, return, reverse_solidus, Short, short, spell_piece, spell_pieces, spell_string, sym, tabulator, true, unescaped, unicode, value_of, written_character, written_escapes, ℕ, ◌%◌, ◌++◌, ◌+◌, ◌/◌, ◌<◌, ◌==◌, ◌||◌, ◌∙◌, ◌∷◌, ◌≡◌}
 use Rattle.defs_layout.specs.Marks.{backslash}
 
 -- how a character is written
@@ -23,35 +23,8 @@ record IsWritten (p : Piece) (text : List ℕ) (c : ℕ) : Type 0 where
 
 -- ---- the digits of a code
 
-low_digit : (n : ℕ) → n < 16 → nat_lt n 10 ≡ true → digit_value (48 + n) ≡ n
-low_digit n h e = grind (arith, nat_tests)
-
-high_digit : (n : ℕ) → n < 16 → nat_lt n 10 ≡ false → digit_value (87 + n) ≡ n
-high_digit n h e = grind (arith, nat_tests)
-
-digit_back : (n : ℕ) → n < 16 → digit_value (hexadecimal_digit n) ≡ n
-digit_back n h = by (nat_lt n 10) refl
-  where
-    by : (b : Bool) → nat_lt n 10 ≡ b → digit_value (if b then 48 + n else 87 + n) ≡ n
-    by true e = low_digit n h e
-    by false e = high_digit n h e
-
-digit_fits : (n : ℕ) → n < 16 → is_hex_digit (hexadecimal_digit n) ≡ true
-digit_fits n h = ap (λ d. nat_lt d 16) (digit_back n h) ∙ lt-ltb n 16 h
-
-low_no_surrogate : (c : ℕ) → c < 256 → not (is_surrogate c) ≡ true
-low_no_surrogate c h = grind (arith, nat_tests)
-
 control : (c : ℕ) → c < 256 → IsWritten (unicode 48 48 (hexadecimal_digit (c / 16)) (hexadecimal_digit (c % 16))) (escaped_code c) c
-control c h =
-    let high : c / 16 < 16 = omega arith in
-    let low : c % 16 < 16 = omega arith in
-    let value : four_digits 48 48 (hexadecimal_digit (c / 16)) (hexadecimal_digit (c % 16)) ≡ c = rw (digit_back (c / 16) high, digit_back (c % 16) low) (omega arith) in
-    record {
-      spelt = λ r. refl;
-      value = value;
-      fits = and_from _ _ (and_from _ _ (digit_fits (c / 16) high) (digit_fits (c % 16) low)) (ap (λ n. not (is_surrogate n)) value ∙ low_no_surrogate c h);
-    }
+control c h = grind (arith, nat_tests)
 
 itself_written : (c : ℕ) → (c == 34) ≡ false → (c == 92) ≡ false → nat_lt c 32 ≡ false → is_character c ≡ true → IsWritten (itself c) (c ∷ []) c
 unfolding is_unescaped
@@ -61,11 +34,7 @@ itself_written c a b low high = record { spelt = λ r. refl; value = refl; fits 
 
 -- one choice in both tables
 chosen : (c d : ℕ) (p q : Piece) (text other : List ℕ) → IsWritten p text d → ((c == d) ≡ false → IsWritten q other c) → IsWritten (if c == d then p else q) (if c == d then text else other) c
-chosen c d p q text other is later = by (c == d) refl
-  where
-    by : (b : Bool) → (c == d) ≡ b → IsWritten (if b then p else q) (if b then text else other) c
-    by true e = subst (IsWritten p text) (sym (eqb-true c d e)) is
-    by false e = later e
+chosen c d p q text other is later = grind arith
 
 short_written : (s : Short) → IsWritten (short s) (backslash ∷ letter_of s ∷ []) (character_of s)
 short_written s = record { spelt = λ r. refl; value = refl; fits = refl }
@@ -82,13 +51,9 @@ written c h =
     λ _. chosen c 13 _ _ _ _ (short_written return)
     λ _. by a b (nat_lt c 32 || (c == 127)) refl
   where
-    small : (nat_lt c 32 || (c == 127)) ≡ true → c < 256
-    small e = grind (arith, nat_tests)
-
     by : (c == 34) ≡ false → (c == 92) ≡ false → (t : Bool) → (nat_lt c 32 || (c == 127)) ≡ t
         → IsWritten (if t then unicode 48 48 (hexadecimal_digit (c / 16)) (hexadecimal_digit (c % 16)) else itself c) (if t then escaped_code c else c ∷ []) c
-    by a b true e = control c (small e)
-    by a b false e = itself_written c a b (or_parts (nat_lt c 32) (c == 127) e).0 h
+    by a b d e = grind (arith, control, itself_written, or_parts)
 
 -- ---- a text
 

@@ -1,81 +1,71 @@
 -- The tokens of texts that are known as what was written, computed.
-use Rattle.defs_layout.proofs.Common.{[], are_marks, codes, false, full, is_blank, is_break, is_nul, refl, Tree, true, ◌∷◌, ◌≡◌}
-use Rattle.defs_token.specs.Token.{Tok, Style}
-use Rattle.defs_layout.specs.JsonString as string
-use Rattle.defs_layout.specs.Json
-use Rattle.defs_layout.specs.Layout
+use Prim.Native.String.{String}
+use Rattle.defs_token.specs.Token.{Tok, Style, stream_start, stream_end, document_start, block_mapping_start, block_sequence_start, block_entry, block_end, flow_mapping_start, flow_mapping_end, flow_sequence_start, flow_sequence_end, flow_entry, key, value}
 use Rattle.defs_layout.specs.JsonTokens.{json_text_tokens}
 use Rattle.defs_layout.specs.LayoutTokens.{layout_tokens}
 use Rattle.defs_layout.specs.QuotedText.{single, double, HasQuotedTokens}
+use Rattle.defs_layout.proofs.Common.{[], anchored, are_marks, array, at_key, below, Block, codes, compact, document, Document, element, empty_array, entry, explicit, false, hash, implicit, inline, is_blank, is_break, is_nul, itself, Json, last_document, last_element, last_entry, last_field, last_member, no_comment, plain, quoted, refl, Root, scalar, single_quoted, Tree, true, Value, ◌∷◌, ◌≡◌}
 use Rattle.defs_text.specs.FlowScalar.{plain_element, single_quoted_element, double_quoted_element, is_character_code, numeric_escape, escape, begins_with_marker, single_quoted_value, double_quoted_value}
+use Rattle.defs_tree.proofs.TreeWords.{text}
+use Rattle.defs_layout.proofs.RowWords.{one, line, empty}
 
--- `{"a":[true,{}]}`
-object : json_text_tokens (record {
-  before = [];
-  value = Json.Json.object [] (Json.Members.last_member (string.Piece.itself 97 ∷ []) [] []
-      (Json.Json.array [] (Json.Elements.element Json.Json.true_word [] [] (Json.Elements.last_element (Json.Json.empty_object []) []))) []);
-  after = [];
-})
-    ≡ Tok.stream_start ∷ Tok.flow_mapping_start ∷ Tok.key ∷ Tok.scalar Style.double_quoted (codes "a") ∷ Tok.value
-    ∷ Tok.flow_sequence_start ∷ Tok.scalar Style.plain (codes "true") ∷ Tok.flow_entry ∷ Tok.flow_mapping_start ∷ Tok.flow_mapping_end ∷ Tok.flow_sequence_end
-    ∷ Tok.flow_mapping_end ∷ Tok.stream_end ∷ []
-object = refl
+-- a scalar of a style and a text
+abbrev token : Style → String → Tok
+token s t = Tok.scalar s (codes t)
 
--- a document without a gap
-abbrev document : Layout.Root → Layout.Document
-document x = record { gap = []; root = x }
+-- a document without a gap, whose root is a block at column 0
+abbrev plainly : Block → Document
+plainly b = record { gap = []; root = Root.block 0 b }
 
--- a value after one space
-abbrev beside : Layout.Inline → Layout.Value
-beside i = Layout.Value.beside 0 i Layout.Comment.no_comment
+record Rows : Type 0 where
+  -- `{"a":[true,{}]}`
+  object : json_text_tokens (record {
+    before = [];
+    value = Json.object []
+        (last_member (itself 97 ∷ []) [] [] (Json.array [] (element Json.true_word [] [] (last_element (Json.empty_object []) []))) []);
+    after = [];
+  })
+      ≡ stream_start ∷ flow_mapping_start ∷ key ∷ token Style.double_quoted "a" ∷ value
+      ∷ flow_sequence_start ∷ token Style.plain "true" ∷ flow_entry ∷ flow_mapping_start ∷ flow_mapping_end ∷ flow_sequence_end
+      ∷ flow_mapping_end ∷ stream_end ∷ []
+  -- `---`, `"k":`, `  - ~`, `  - []`
+  nested : layout_tokens (record {
+    is_marked = true;
+    documents = last_document (plainly (hash (last_field (implicit (quoted (codes "k"))
+        (below no_comment [] 2 (array (entry (one (plain Tree.null)) [] (last_entry empty)))))))) [];
+  })
+      ≡ stream_start ∷ document_start ∷ block_mapping_start ∷ key ∷ token Style.double_quoted "k" ∷ value
+      ∷ block_sequence_start ∷ block_entry ∷ token Style.plain "~" ∷ block_entry ∷ flow_sequence_start ∷ flow_sequence_end ∷ block_end
+      ∷ block_end ∷ stream_end ∷ []
+  -- `---`, `? - a`, `: |-`, `  b`
+  key_of_lines : layout_tokens (record {
+    is_marked = true;
+    documents = last_document (plainly (hash (last_field (explicit (compact 0 (array (last_entry (one (quoted (codes "a"))))))
+        [] (Value.literal 0 2 (codes "b") (line "b" ∷ [])))))) [];
+  })
+      ≡ stream_start ∷ document_start ∷ block_mapping_start ∷ key ∷ block_sequence_start ∷ block_entry ∷ token Style.double_quoted "a"
+      ∷ block_end
+      ∷ value ∷ token Style.literal "b" ∷ block_end ∷ stream_end ∷ []
+  -- `"k":`, `- &n 'x'`, `- *n`, and a second document `~`
+  wide : layout_tokens (record {
+    is_marked = false;
+    documents = document (plainly (hash (last_field (implicit (quoted (codes "k")) (at_key no_comment []
+        (entry (anchored 0 (codes "n") (one (single_quoted (codes "x")))) [] (last_entry (Value.alias 0 (codes "n") (text "x"))))))))) []
+        (last_document (record { gap = []; root = inline (scalar (plain Tree.null)) }) []);
+  })
+      ≡ stream_start ∷ block_mapping_start ∷ key ∷ token Style.double_quoted "k" ∷ value ∷ block_entry ∷ Tok.anchor (codes "n")
+      ∷ token Style.single_quoted "x"
+      ∷ block_entry ∷ Tok.alias (codes "n") ∷ block_end ∷ document_start ∷ token Style.plain "~" ∷ stream_end ∷ []
 
--- `---`, `"k":`, `  - ~`, `  - []`
-nested : layout_tokens (record {
-  is_marked = true;
-  documents = Layout.Documents.last_document
-      (document (Layout.Root.block 0 (Layout.Block.hash (Layout.Fields.last_field (Layout.Field.implicit (Layout.Scalar.quoted (codes "k"))
-      (Layout.below Layout.Comment.no_comment [] 2 (Layout.Block.array (Layout.Entries.entry (beside (Layout.Inline.scalar (Layout.Scalar.plain Tree.null))) []
-      (Layout.Entries.last_entry (beside Layout.Inline.empty_array)))))))))) [];
-})
-    ≡ Tok.stream_start ∷ Tok.document_start ∷ Tok.block_mapping_start ∷ Tok.key ∷ Tok.scalar Style.double_quoted (codes "k") ∷ Tok.value
-    ∷ Tok.block_sequence_start ∷ Tok.block_entry ∷ Tok.scalar Style.plain (codes "~") ∷ Tok.block_entry ∷ Tok.flow_sequence_start ∷ Tok.flow_sequence_end ∷ Tok.block_end
-    ∷ Tok.block_end ∷ Tok.stream_end ∷ []
-nested = refl
-
--- `---`, `? - a`, `: |-`, `  b`
-key_of_lines : layout_tokens (record {
-  is_marked = true;
-  documents = Layout.Documents.last_document
-      (document (Layout.Root.block 0 (Layout.Block.hash (Layout.Fields.last_field (Layout.Field.explicit
-      (Layout.Value.compact 0 (Layout.Block.array (Layout.Entries.last_entry (beside (Layout.Inline.scalar (Layout.Scalar.quoted (codes "a")))))))
-      [] (Layout.Value.literal 0 2 (codes "b") (full (codes "b") ∷ []))))))) [];
-})
-    ≡ Tok.stream_start ∷ Tok.document_start ∷ Tok.block_mapping_start ∷ Tok.key ∷ Tok.block_sequence_start ∷ Tok.block_entry ∷ Tok.scalar Style.double_quoted (codes "a") ∷ Tok.block_end
-    ∷ Tok.value ∷ Tok.scalar Style.literal (codes "b") ∷ Tok.block_end ∷ Tok.stream_end ∷ []
-key_of_lines = refl
-
--- `"k":`, `- &n 'x'`, `- *n`, and a second document `~`
-wide : layout_tokens (record {
-  is_marked = false;
-  documents = Layout.Documents.document
-      (record {
-        gap = [];
-        root = Layout.Root.block 0 (Layout.Block.hash (Layout.Fields.last_field (Layout.Field.implicit (Layout.Scalar.quoted (codes "k"))
-            (Layout.Value.at_key Layout.Comment.no_comment [] (Layout.Entries.entry (Layout.Value.anchored 0 (codes "n") (Layout.Value.beside 0 (Layout.Inline.scalar (Layout.Scalar.single_quoted (codes "x"))) Layout.Comment.no_comment)) []
-            (Layout.Entries.last_entry (Layout.Value.alias 0 (codes "n") (Tree.string (codes "x")))))))));
-      })
-      [] (Layout.Documents.last_document (record { gap = []; root = Layout.Root.inline (Layout.Inline.scalar (Layout.Scalar.plain Tree.null)) }) []);
-})
-    ≡ Tok.stream_start ∷ Tok.block_mapping_start ∷ Tok.key ∷ Tok.scalar Style.double_quoted (codes "k") ∷ Tok.value ∷ Tok.block_entry ∷ Tok.anchor (codes "n") ∷ Tok.scalar Style.single_quoted (codes "x")
-    ∷ Tok.block_entry ∷ Tok.alias (codes "n") ∷ Tok.block_end ∷ Tok.document_start ∷ Tok.scalar Style.plain (codes "~") ∷ Tok.stream_end ∷ []
-wide = refl
+rows : Rows
+rows = search
 
 -- `'it''s'` and two line feeds
-quoted : HasQuotedTokens (codes "'it''s'\n\n") (Tok.stream_start ∷ Tok.scalar Style.single_quoted (codes "it's") ∷ Tok.stream_end ∷ [])
+single_quotes : HasQuotedTokens (codes "'it''s'\n\n") (stream_start ∷ token Style.single_quoted "it's" ∷ stream_end ∷ [])
 unfolding is_blank is_break is_nul are_marks plain_element single_quoted_element begins_with_marker single_quoted_value
-quoted = (record { quotes = single; body = codes "it''s"; breaks = 2 }, codes "it's", refl, refl, refl)
+single_quotes = (record { quotes = single; body = codes "it''s"; breaks = 2 }, codes "it's", refl, refl, refl)
 
 -- `"a`, an escaped break, ` b"`
-quoted_over_lines : HasQuotedTokens (codes "\"a\\\n b\"") (Tok.stream_start ∷ Tok.scalar Style.double_quoted (codes "ab") ∷ Tok.stream_end ∷ [])
+quoted_over_lines : HasQuotedTokens (codes "\"a\\\n b\"") (stream_start ∷ token Style.double_quoted "ab" ∷ stream_end ∷ [])
 unfolding is_blank is_break is_nul are_marks plain_element double_quoted_element is_character_code numeric_escape escape begins_with_marker double_quoted_value
 quoted_over_lines = (record { quotes = double; body = codes "a\\\n b"; breaks = 0 }, codes "ab", refl, refl, refl)

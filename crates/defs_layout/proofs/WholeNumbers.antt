@@ -1,28 +1,17 @@
 -- Whole numbers of JSON as integers: what the text of one stands for, and what does not follow its digits.
-use Rattle.defs_layout.proofs.Common.{[], ap, arith, at_least_one, begins_in, Bool, digits_value, false, fits_i64, if◌then◌else◌, integer_value, is_ascii_digit, is_digit, List, list_all, nat_tests, neg_ℤ, None, Option, option_and_then, option_map, pos, refl, signed_decimal, Some, spell_minus, true, ℕ, ℤ, ◌&&◌, ◌++◌, ◌==◌, ◌∷◌, ◌≡◌}
+use Rattle.defs_layout.proofs.Common.{[], arith, at_least_one, begins_in, Bool, false, fits_i64, if◌then◌else◌, integer_value, is_ascii_digit, is_digit, List, list_all, None, Option, option_and_then, refl, signed_decimal, Some, spell_minus, true, ℕ, ℤ, ◌++◌, ◌==◌, ◌∷◌, ◌≡◌}
 
 -- the integer of a text, from whether it is all digits, and its value
 abbrev pub fitted : Bool → ℤ → Option ℤ
 fitted are z = option_and_then (λ y. if fits_i64 y then Some y else None) (if are then Some z else None)
-
-mapped : {A B : Type 0} (f : A → B) (b : Bool) (x : A) → option_map f (if b then Some x else None) ≡ (if b then Some (f x) else None)
-mapped f true x = refl
-mapped f false x = refl
 
 -- what a digit is not
 record Digit (c : ℕ) : Type 0 where
   plus : (c == 43) ≡ false
   minus : (c == 45) ≡ false
 
-digit : (c : ℕ) → is_ascii_digit c ≡ true → Digit c
-digit c h = record { plus = grind (arith, nat_tests); minus = grind (arith, nat_tests) }
-
 pub signed_text : (m : Bool) (t : List ℕ) → begins_in is_ascii_digit t ≡ true → signed_decimal (spell_minus m t) ≡ fitted (at_least_one (is_digit 10) t) (integer_value m t)
-signed_text true t h = ap (λ o. option_and_then (λ y. if fits_i64 y then Some y else None) o) (mapped (λ n. neg_ℤ (pos n)) (at_least_one (is_digit 10) t) (digits_value 10 t))
-signed_text false [] h = cc
-signed_text false (c ∷ t) h =
-    let d = digit c h in
-    rw (d.plus, d.minus) (ap (λ o. option_and_then (λ y. if fits_i64 y then Some y else None) o) (mapped pos (at_least_one (is_digit 10) (c ∷ t)) (digits_value 10 (c ∷ t))))
+signed_text a t h = grind arith
 
 -- another character after the digits
 abbrev pub IsOther : List ℕ → Type 0
@@ -32,13 +21,7 @@ IsOther (c ∷ r) = is_digit 10 c ≡ false
 some_other : (w r : List ℕ) → IsOther r → list_all (is_digit 10) (w ++ r) ≡ false
 some_other [] [] h = absurd h
 some_other [] (c ∷ r) h = rw h refl
-some_other (c ∷ w) r h = rw (some_other w r h) (by (is_digit 10 c))
-  where
-    by : (b : Bool) → (b && false) ≡ false
-    by true = refl
-    by false = refl
+some_other (c ∷ w) r h = grind (arith, some_other w r h)
 
 pub no_digits : (w r : List ℕ) → IsOther r → at_least_one (is_digit 10) (w ++ r) ≡ false
-no_digits [] [] h = refl
-no_digits [] (c ∷ r) h = some_other [] (c ∷ r) h
-no_digits (c ∷ w) r h = some_other (c ∷ w) r h
+no_digits a r h = grind (arith, some_other)

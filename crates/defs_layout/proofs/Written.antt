@@ -1,5 +1,5 @@
 -- The JSON text of a tree is JSON with that value, and nests as the tree does.
-use Rattle.defs_layout.proofs.Common.{[], alias, AllHaveJson, ap, append-nil, append_assoc, are_pieces, AreDistinct, AreElements, AreMembers, arith, bad_value, Blank, Bool, boolean, deeper, element, element_levels, Elements, false, HasJson, integer, IsJson, IsJsonGap, IsJsonText, IsKey, item, item_nesting, Items, items, Json, json_text, JsonTextsAreJson, key_end, key_text, last_element, last_member, levels, line_feed, List, member, member_levels, member_nesting, Members, more_items, more_members, nesting, no_items, no_pairs, None, null, Option, pair, pair_list, pair_list_of, Pairs, pairs_of, Piece, real, refl, replicate, Some, space, spell, spell_elements, spell_members, spell_string, string, subst, suc, sym, TabsBeginLines, Tree, tree_of, true, unescaped, zero, ℕ, ◌++◌, ◌∙◌, ◌∷◌, ◌≡◌}
+use Rattle.defs_layout.proofs.Common.{[], alias, AllHaveJson, ap, append-nil, append_assoc, are_pieces, AreDistinct, AreElements, AreMembers, arith, bad_value, Blank, Bool, boolean, deeper, element, element_levels, Elements, false, HasJson, integer, IsJson, IsJsonGap, IsKey, item, item_nesting, Items, items, Json, json_text, JsonTextsAreJson, key_end, key_text, last_element, last_member, levels, line_feed, List, member, member_levels, member_nesting, Members, more_items, more_members, nesting, no_items, no_pairs, None, null, Option, pair, pair_list, pair_list_of, Pairs, pairs_of, Piece, real, refl, replicate, Some, space, spell, spell_elements, spell_members, spell_string, string, subst, suc, sym, TabsBeginLines, Tree, tree_of, true, unescaped, zero, ℕ, ◌++◌, ◌∙◌, ◌∷◌, ◌≡◌}
 use Rattle.defs_tree.specs.Tree.{array, hash}
 use Rattle.defs_layout.specs.JsonGap.{spell_gap}
 use Rattle.defs_layout.specs.Json
@@ -9,9 +9,6 @@ use Rattle.defs_layout.proofs.Integers.{integer_number, integer_written}
 use Rattle.defs_layout.proofs.Numbers.{real_written}
 
 -- ---- white space
-
-spaces : ℕ → List Blank
-spaces m = replicate m space
 
 gap : Option ℕ → ℕ → List Blank
 gap None m = []
@@ -27,13 +24,11 @@ spaces_fit b (suc m) = spaces_fit b m
 
 gap_spelt : (i : Option ℕ) (m : ℕ) (r : List ℕ) → spell_gap (gap i m) r ≡ new_line i m ++ r
 unfolding gap
-gap_spelt None m r = refl
-gap_spelt (Some w) m r = ap (λ t. 10 ∷ t) (spaces_spelt m r)
+gap_spelt a m r = grind (arith, spaces_spelt)
 
 gap_fits : (i : Option ℕ) (m : ℕ) → IsJsonGap (gap i m)
 unfolding gap
-gap_fits None m = tt
-gap_fits (Some w) m = spaces_fit true m
+gap_fits a m = grind (arith, spaces_fit)
 
 -- after a colon
 colon_gap : Option ℕ → List Blank
@@ -42,13 +37,11 @@ colon_gap (Some w) = space ∷ []
 
 colon_spelt : (i : Option ℕ) (r : List ℕ) → 58 ∷ spell_gap (colon_gap i) r ≡ key_end i ++ r
 unfolding colon_gap
-colon_spelt None r = refl
-colon_spelt (Some w) r = refl
+colon_spelt a r = grind arith
 
 colon_fits : (i : Option ℕ) → IsJsonGap (colon_gap i)
 unfolding colon_gap
-colon_fits None = tt
-colon_fits (Some w) = tt
+colon_fits a = grind arith
 
 -- ---- keys
 
@@ -92,7 +85,7 @@ last_item : (i : Option ℕ) (m outer : ℕ) (t : Tree) → IsWritten i m t → 
 last_item i m outer t w = record {
   elements = last_element w.value (gap i outer);
   are = (w.is, gap_fits i outer);
-  spelt = λ r. w.spelt (spell_gap (gap i outer) r) ∙ ap (λ u. json_text i m t ++ u) (gap_spelt i outer r);
+  spelt = λ r. simp (w.spelt, gap_spelt);
   trees = ap (λ u. item u no_items) w.tree;
   depth = omega (arith, w.depth);
 }
@@ -101,10 +94,7 @@ next_item : (i : Option ℕ) (m outer : ℕ) (t u : Tree) (us : Items) → IsWri
 next_item i m outer t u us w ws = record {
   elements = element w.value [] (gap i m) ws.elements;
   are = (w.is, tt, gap_fits i m, ws.are);
-  spelt = λ r.
-      w.spelt (44 ∷ spell_gap (gap i m) (spell_elements ws.elements r))
-      ∙ ap (λ x. json_text i m t ++ (44 ∷ x)) (gap_spelt i m (spell_elements ws.elements r) ∙ ap (λ x. new_line i m ++ x) (ws.spelt r))
-      ∙ ap (λ x. json_text i m t ++ (44 ∷ x)) (simp append_assoc);
+  spelt = λ r. simp (w.spelt, gap_spelt, ws.spelt, append_assoc);
   trees = (λ j. item (w.tree j) (ws.trees j));
   depth = omega (arith, w.depth, ws.depth);
 }
@@ -113,10 +103,7 @@ last_member_written : (i : Option ℕ) (m outer : ℕ) (k v : Tree) → IsWritte
 last_member_written i m outer k v q w = record {
   members = last_member q.pieces [] (colon_gap i) w.value (gap i outer);
   are = (q.fit, tt, colon_fits i, w.is, gap_fits i outer);
-  spelt = λ r.
-      q.spelt (58 ∷ spell_gap (colon_gap i) (spell w.value (spell_gap (gap i outer) r)))
-      ∙ ap (λ u. key_text k ++ u) (colon_spelt i (spell w.value (spell_gap (gap i outer) r))
-      ∙ ap (λ u. key_end i ++ u) (w.spelt (spell_gap (gap i outer) r) ∙ ap (λ u. json_text i m v ++ u) (gap_spelt i outer r)));
+  spelt = λ r. simp (q.spelt, colon_spelt, w.spelt, gap_spelt);
   pairs = (λ j. (q.tree j, w.tree j) ∷ []);
   depth = omega (arith, w.depth);
 }
@@ -125,12 +112,7 @@ next_member : (i : Option ℕ) (m outer : ℕ) (k v l u : Tree) (ps : Pairs) →
 next_member i m outer k v l u ps q w ws = record {
   members = member q.pieces [] (colon_gap i) w.value [] (gap i m) ws.members;
   are = (q.fit, tt, colon_fits i, w.is, tt, gap_fits i m, ws.are);
-  spelt = λ r.
-      q.spelt (58 ∷ spell_gap (colon_gap i) (spell w.value (44 ∷ spell_gap (gap i m) (spell_members ws.members r))))
-      ∙ ap (λ x. key_text k ++ x) (colon_spelt i (spell w.value (44 ∷ spell_gap (gap i m) (spell_members ws.members r)))
-      ∙ ap (λ x. key_end i ++ x) (w.spelt (44 ∷ spell_gap (gap i m) (spell_members ws.members r))
-      ∙ ap (λ x. json_text i m v ++ (44 ∷ x)) (gap_spelt i m (spell_members ws.members r) ∙ ap (λ x. new_line i m ++ x) (ws.spelt r))))
-      ∙ ap (λ x. key_text k ++ (key_end i ++ (json_text i m v ++ (44 ∷ x)))) (simp append_assoc);
+  spelt = λ r. simp (q.spelt, colon_spelt, w.spelt, gap_spelt, ws.spelt, append_assoc);
   pairs = (λ j. (q.tree j, w.tree j) ∷ ws.pairs j);
   depth = omega (arith, w.depth, ws.depth);
 }
@@ -139,8 +121,7 @@ array_written : (i : Option ℕ) (m : ℕ) (t : Tree) (ts : Items) → AreWritte
 array_written i m t ts ws = record {
   value = Json.array (gap i (deeper i m)) ws.elements;
   is = (gap_fits i (deeper i m), ws.are);
-  spelt = λ r.
-      ap (λ x. 91 ∷ x) (gap_spelt i (deeper i m) (spell_elements ws.elements (93 ∷ r)) ∙ ap (λ x. new_line i (deeper i m) ++ x) (ws.spelt (93 ∷ r)) ∙ simp append_assoc);
+  spelt = λ r. simp (gap_spelt, ws.spelt, append_assoc);
   tree = ap array ws.trees;
   depth = omega (arith, ws.depth);
 }
@@ -153,8 +134,7 @@ hash_written : (i : Option ℕ) (m : ℕ) (k v : Tree) (ps : Pairs) → AreDisti
 hash_written i m k v ps d ws = record {
   value = Json.object (gap i (deeper i m)) ws.members;
   is = (gap_fits i (deeper i m), ws.are, subst AreDistinct (sym ws.pairs) d);
-  spelt = λ r.
-      ap (λ x. 123 ∷ x) (gap_spelt i (deeper i m) (spell_members ws.members (125 ∷ r)) ∙ ap (λ x. new_line i (deeper i m) ++ x) (ws.spelt (125 ∷ r)) ∙ simp append_assoc);
+  spelt = λ r. simp (gap_spelt, ws.spelt, append_assoc);
   tree = ap (λ qs. hash (pairs_of qs)) ws.pairs ∙ ap hash (list_back (pair k v ps));
   depth = omega (arith, ws.depth);
 }

@@ -1,7 +1,7 @@
 -- No line of a box holds a line feed.
 use Rattle.std.specs.Fmt.{signed_decimal as decimal_digits}
-use Rattle.defs_tree.proofs.Common.{[], alias, AllDigits, AllFitI64, AllHaveText, AllPairsFitI64, AllPairsHaveText, and_from, and_parts, ap, arith, array, bad_value, Bool, boolean, boolean_spelling, codes, decimal, decimal_is_IsNumeral, digit_from_value, double_quoted, eqb-true, escaped_code, false, false_from_ne_true, fits_i64, FitsI64, hash, HasText, hexadecimal_digit, if◌then◌else◌, integer, is_literal_text, is_quoted, is_root_literal, is_scalar, is_unbroken, is_unfit_for_plain, item, Items, lines_of, List, list_all, list_any, literal_header, ltb-true, nat_lt, ne_eqb, negsuc, no_items, no_pairs, not, not_from_false, null, or_parts, pair, Pairs, pos, real, refl, spelling, string, string_spelling, suc, sym, Tree, true, true≢false, written_character, written_escapes, ℕ, ℤ, ◌%◌, ◌&&◌, ◌++◌, ◌+◌, ◌/◌, ◌<◌, ◌==◌, ◌^◌, ◌||◌, ◌∙◌, ◌∷◌, ◌≡◌, ◌≤◌}
-use Rattle.defs_tree.specs.Box.{indented, hung, hung_lower, placed, if_none, is_block, literal_box, string_box, pair_box, box, item_boxes, pair_boxes}
+use Rattle.defs_tree.proofs.Common.{[], AllDigits, AllFitI64, AllHaveText, AllPairsFitI64, AllPairsHaveText, and_from, and_parts, ap, arith, array, Bool, boolean, boolean_spelling, codes, decimal, decimal_is_IsNumeral, double_quoted, eqb-true, false, false_from_ne_true, fits_i64, FitsI64, hash, HasText, if◌then◌else◌, integer, is_quoted, is_unbroken, is_unfit_for_plain, item, Items, List, list_all, list_any, ltb-true, negsuc, no_items, no_pairs, not, not_from_false, or_parts, pair, Pairs, pos, real, refl, spelling, string, string_spelling, suc, sym, Tree, true, true≢false, written_character, written_escapes, ℕ, ℤ, ◌++◌, ◌+◌, ◌<◌, ◌==◌, ◌^◌, ◌∙◌, ◌∷◌, ◌≡◌}
+use Rattle.defs_tree.specs.Box.{indented, placed, if_none, string_box, pair_box, box, item_boxes, pair_boxes}
 use Rattle.defs_tree.proofs.GrammarLaws.{list_all-more}
 use Rattle.defs_tree.proofs.LinesLaws.{lines_of_unbroken}
 use Rattle.defs_tree.proofs.RealTexts.{is_real_character, real_text-characters}
@@ -14,83 +14,45 @@ no_break p h c e = not_from_false (c == 10) (false_from_ne_true (c == 10) (λ t.
 
 unbroken-append : (a b : List ℕ) → is_unbroken a ≡ true → is_unbroken b ≡ true → is_unbroken (a ++ b) ≡ true
 unbroken-append [] b h e = e
-unbroken-append (c ∷ a) b h e =
-    let p = and_parts (not (c == 10)) (is_unbroken a) h in and_from (not (c == 10)) (is_unbroken (a ++ b)) p.0 (unbroken-append a b p.1 e)
-
-hexadecimal-unbroken : (n : ℕ) → not (hexadecimal_digit n == 10) ≡ true
-hexadecimal-unbroken n = by (nat_lt n 10)
-  where
-    by : (b : Bool) → not ((if b then 48 + n else 87 + n) == 10) ≡ true
-    by true = not_from_false (48 + n == 10) (ne_eqb (48 + n) 10 (λ e. omega arith))
-    by false = not_from_false (87 + n == 10) (ne_eqb (87 + n) 10 (λ e. omega arith))
-
-escaped_code-unbroken : (c : ℕ) → is_unbroken (escaped_code c) ≡ true
-escaped_code-unbroken c =
-    and_from (not (hexadecimal_digit (c / 16) == 10)) (not (hexadecimal_digit (c % 16) == 10) && true) (hexadecimal-unbroken (c / 16))
-    (ap (λ b. b && true) (hexadecimal-unbroken (c % 16)))
+unbroken-append (c ∷ a) b h e = grind (arith, and_parts, unbroken-append a b)
 
 written_character-unbroken : (c : ℕ) → is_unbroken (written_character c) ≡ true
 unfolding written_character
-written_character-unbroken c = by (c == 34) (c == 92) (c == 8) (c == 9) (c == 10) (c == 12) (c == 13) (nat_lt c 32 || (c == 127)) refl
-  where
-    by : (a b d e f g h i : Bool) → (c == 10) ≡ f → is_unbroken
-        (if a then codes "\\\"" else (if b then codes "\\\\" else (if d then codes "\\b" else (if e then codes "\\t" else (if f then codes "\\n"
-        else (if g then codes "\\f" else (if h then codes "\\r" else (if i then escaped_code c else c ∷ [])))))))) ≡ true
-    by true b d e f g h i n = refl
-    by false true d e f g h i n = refl
-    by false false true e f g h i n = refl
-    by false false false true f g h i n = refl
-    by false false false false true g h i n = refl
-    by false false false false false true h i n = refl
-    by false false false false false false true i n = refl
-    by false false false false false false false true n = escaped_code-unbroken c
-    by false false false false false false false false n = ap (λ b. not b && true) n
+written_character-unbroken c = grind arith
 
 written_escapes-unbroken : (s : List ℕ) → is_unbroken (written_escapes s) ≡ true
 written_escapes-unbroken [] = refl
 written_escapes-unbroken (c ∷ cs) = unbroken-append (written_character c) (written_escapes cs) (written_character-unbroken c) (written_escapes-unbroken cs)
 
-pub double_quoted-unbroken : (s : List ℕ) → is_unbroken (double_quoted s) ≡ true
-double_quoted-unbroken s = unbroken-append (written_escapes s) (34 ∷ []) (written_escapes-unbroken s) refl
-
 fit-unbroken : (s : List ℕ) → list_any is_unfit_for_plain s ≡ false → is_unbroken s ≡ true
 unfolding is_unfit_for_plain
 fit-unbroken [] h = refl
-fit-unbroken (c ∷ cs) h =
-    let p = or_parts (is_unfit_for_plain c) (list_any is_unfit_for_plain cs) h in
-    and_from (not (c == 10)) (is_unbroken cs) (no_break (λ d. not (is_unfit_for_plain d)) refl c (not_from_false (is_unfit_for_plain c) p.0)) (fit-unbroken cs p.1)
+fit-unbroken (c ∷ cs) h = grind (arith, or_parts, no_break, fit-unbroken cs)
 
 string_spelling-unbroken : (s : List ℕ) → is_unbroken (string_spelling s) ≡ true
 string_spelling-unbroken s = by (is_quoted s) refl
   where
     by : (b : Bool) → is_quoted s ≡ b → is_unbroken (if b then double_quoted s else s) ≡ true
-    by true e = double_quoted-unbroken s
+    by true e = unbroken-append (written_escapes s) (34 ∷ []) (written_escapes-unbroken s) refl
     by false e = fit-unbroken s ((unquoted s e).fit)
 
 digits-unbroken : (ds : List ℕ) → AllDigits 10 ds → is_unbroken ds ≡ true
 digits-unbroken [] h = refl
-digits-unbroken (d ∷ ds) h =
-    let range : (48 ≤ d) × (d ≤ 57) = digit_from_value d h.0 in
-    and_from (not (d == 10)) (is_unbroken ds) (not_from_false (d == 10) (ne_eqb d 10 (λ e. omega arith))) (digits-unbroken ds h.1)
+digits-unbroken (d ∷ ds) h = grind (arith, digits-unbroken ds h.1)
 
 integer-unbroken : (z : ℤ) → fits_i64 z ≡ true → is_unbroken (decimal_digits z) ≡ true
 integer-unbroken (pos n) h = let small : n < 2 ^ 63 = ltb-true n (2 ^ 63) h in digits-unbroken (decimal n) (decimal_is_IsNumeral n (omega arith)).0.1
 integer-unbroken (negsuc n) h = let small : n < 2 ^ 63 = ltb-true n (2 ^ 63) h in digits-unbroken (decimal (suc n)) (decimal_is_IsNumeral (suc n) (omega arith)).0.1
 
 boolean-unbroken : (b : Bool) → is_unbroken (boolean_spelling b) ≡ true
-boolean-unbroken true = refl
-boolean-unbroken false = refl
+boolean-unbroken a = grind arith
 
 pub spelling-unbroken : (t : Tree) → FitsI64 t → HasText t → is_unbroken (spelling t) ≡ true
 spelling-unbroken (real s) f h = list_all-more is_real_character (λ c. not (c == 10)) (no_break is_real_character refl) s (real_text-characters s h)
 spelling-unbroken (integer z) f h = integer-unbroken z f
 spelling-unbroken (string s) f h = string_spelling-unbroken s
 spelling-unbroken (boolean b) f h = boolean-unbroken b
-spelling-unbroken (array ts) f h = refl
-spelling-unbroken (hash ps) f h = refl
-spelling-unbroken (alias n) f h = refl
-spelling-unbroken null f h = refl
-spelling-unbroken bad_value f h = refl
+spelling-unbroken t f h = refl
 
 -- ---- lines
 
@@ -108,42 +70,18 @@ indented-unbroken : (ls : List (List ℕ)) → AreUnbroken ls → AreUnbroken (i
 indented-unbroken [] h = refl
 indented-unbroken (l ∷ ls) h = let p = and_parts (is_unbroken l) (list_all is_unbroken ls) h in both (32 ∷ 32 ∷ l) (indented ls) p.0 (indented-unbroken ls p.1)
 
-hung-unbroken : (mark : List ℕ) (ls : List (List ℕ)) → is_unbroken mark ≡ true → AreUnbroken ls → AreUnbroken (hung mark ls)
-hung-unbroken mark [] m h = both mark [] m refl
-hung-unbroken mark (l ∷ ls) m h =
-    let p = and_parts (is_unbroken l) (list_all is_unbroken ls) h in both (mark ++ 32 ∷ l) (indented ls) (unbroken-append mark (32 ∷ l) m p.0) (indented-unbroken ls p.1)
-
 placed-unbroken : (lower : Bool) (mark : List ℕ) (t : Tree) (ls : List (List ℕ)) → is_unbroken mark ≡ true → AreUnbroken ls → AreUnbroken (placed lower mark t ls)
-placed-unbroken lower mark t ls m h = by (lower && is_block t)
-  where
-    by : (b : Bool) → AreUnbroken (if b then hung_lower mark ls else hung mark ls)
-    by true = both mark (indented ls) m (indented-unbroken ls h)
-    by false = hung-unbroken mark ls m h
+placed-unbroken lower mark t ls m h = grind (arith, both, indented-unbroken, and_parts, unbroken-append)
 
 if_none-unbroken : (text : List ℕ) (ls : List (List ℕ)) → is_unbroken text ≡ true → AreUnbroken ls → AreUnbroken (if_none text ls)
-if_none-unbroken text [] m h = both text [] m refl
-if_none-unbroken text (l ∷ ls) m h = h
-
-header-unbroken : (b : Bool) → is_unbroken (if b then codes "|" else codes "|-") ≡ true
-header-unbroken true = refl
-header-unbroken false = refl
+if_none-unbroken text a m h = grind arith
 
 string_box-unbroken : (multiline at_root : Bool) (s : List ℕ) → AreUnbroken (string_box multiline at_root s)
-string_box-unbroken multiline at_root s = by (multiline && (if at_root then is_root_literal s else is_literal_text s))
-  where
-    by : (b : Bool) → AreUnbroken (if b then literal_box s else string_spelling s ∷ [])
-    by true = both (literal_header s) (lines_of s) (header-unbroken _) (lines_of_unbroken s)
-    by false = both (string_spelling s) [] (string_spelling-unbroken s) refl
+string_box-unbroken multiline at_root s = grind (arith, both, lines_of_unbroken, string_spelling-unbroken)
 
 pair_box-unbroken : (compact : Bool) (k : Tree) (key : List (List ℕ)) (v : Tree) (value : List (List ℕ)) → is_unbroken (spelling k) ≡ true → AreUnbroken key → AreUnbroken value
     → AreUnbroken (pair_box compact k key v value)
-pair_box-unbroken compact k key v value s e h = by (is_scalar k)
-  where
-    by : (b : Bool) → AreUnbroken (if b then placed true (spelling k ++ codes ":") v value else placed (not compact) (codes "?") k key ++ placed (not compact) (codes ":") v value)
-    by true = placed-unbroken true (spelling k ++ codes ":") v value (unbroken-append (spelling k) (codes ":") s refl) h
-    by false =
-        all-append (placed (not compact) (codes "?") k key) (placed (not compact) (codes ":") v value)
-        (placed-unbroken (not compact) (codes "?") k key refl e) (placed-unbroken (not compact) (codes ":") v value refl h)
+pair_box-unbroken compact k key v value s e h = grind (arith, placed-unbroken, unbroken-append, all-append)
 
 mutual
   pub box_unbroken : (c m r : Bool) (t : Tree) → FitsI64 t → HasText t → AreUnbroken (box c m r t)
@@ -153,9 +91,7 @@ mutual
   box_unbroken c m r (real s) f h = both s [] (spelling-unbroken (real s) f h) refl
   box_unbroken c m r (integer z) f h = both (decimal_digits z) [] (spelling-unbroken (integer z) f h) refl
   box_unbroken c m r (boolean b) f h = both (boolean_spelling b) [] (boolean-unbroken b) refl
-  box_unbroken c m r (alias n) f h = refl
-  box_unbroken c m r null f h = refl
-  box_unbroken c m r bad_value f h = refl
+  box_unbroken c m r t f h = refl
 
   items-unbroken : (c m : Bool) (ts : Items) → AllFitI64 ts → AllHaveText ts → AreUnbroken (item_boxes c m ts)
   items-unbroken c m no_items f h = refl

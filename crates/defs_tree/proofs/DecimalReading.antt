@@ -40,9 +40,6 @@ digit_no_mark c h = grind (arith, nat_tests)
 digit_no_point : (c : ℕ) → is_ascii_digit c ≡ true → is_point c ≡ false
 digit_no_point c h = grind (arith, nat_tests)
 
-point_no_mark : (c : ℕ) → is_point c ≡ true → is_exponent_mark c ≡ false
-point_no_mark c h = grind (arith, nat_tests)
-
 -- ---- the exponent
 
 abbrev exponent_part : List ℕ → Bool
@@ -117,21 +114,12 @@ fraction_read t = any-after is_ascii_digit reads_exponent exponent_rejects_digit
 
 whole_read : (t : List ℕ) → whole_form t ≡ (begins_in is_ascii_digit t && reads_exponent (after_all is_ascii_digit t))
 unfolding whole_form
-whole_read [] = refl
-whole_read (c ∷ cs) = at_least-after is_ascii_digit reads_exponent exponent_rejects_digit c cs ∙ by (is_ascii_digit c)
-  where
-    by : (b : Bool) → (b && reads_exponent (after_all is_ascii_digit cs)) ≡ (b && reads_exponent (if b then after_all is_ascii_digit cs else c ∷ cs))
-    by true = refl
-    by false = refl
+whole_read a = grind (arith, at_least-after, exponent_rejects_digit)
 
 point_then : (g : List ℕ → Bool) (t : List ℕ) → after_point g t ≡ (begins_in is_point t && g (after_one is_point t))
 unfolding after_point
 point_then g [] = refl
-point_then g (c ∷ cs) = one-then is_point g c cs ∙ by (is_point c)
-  where
-    by : (b : Bool) → (b && g cs) ≡ (b && g (if b then cs else c ∷ cs))
-    by true = refl
-    by false = refl
+point_then g (c ∷ cs) = grind (arith, one-then is_point g c cs)
 
 point_rejects_digit : (g : List ℕ → Bool) → Rejects is_ascii_digit (after_point g)
 unfolding after_point
@@ -139,57 +127,18 @@ point_rejects_digit g c cs h = one-then is_point g c cs ∙ ap (λ b. b && g cs)
 
 -- a text that begins with a digit, seen after its first digits
 with_digits : (r : List ℕ) → (reads_exponent r || (after_point fraction r || after_point whole_form r)) ≡ reads_on true r
-with_digits [] = refl
-with_digits (d ∷ ds) =
-    (λ i. reads_exponent (d ∷ ds) || (point_then fraction (d ∷ ds) i || point_then whole_form (d ∷ ds) i))
-    ∙ by (is_point d) refl
-  where
-    more : (b e : Bool) → (e || (b && e)) ≡ e
-    more true true = refl
-    more true false = refl
-    more false true = refl
-    more false false = refl
-
-    by : (b : Bool) → is_point d ≡ b
-        → (reads_exponent (d ∷ ds) || ((b && fraction (if b then ds else d ∷ ds)) || (b && whole_form (if b then ds else d ∷ ds))))
-        ≡ (if b then (true || begins_in is_ascii_digit ds) && reads_exponent (after_all is_ascii_digit ds) else true && reads_exponent (d ∷ ds))
-    by true e =
-        ap (λ x. (x && at_least_one is_ascii_digit (after_one is_sign ds)) || (fraction ds || whole_form ds)) (point_no_mark d e)
-        ∙ (λ i. fraction_read ds i || whole_read ds i)
-        ∙ more (begins_in is_ascii_digit ds) (reads_exponent (after_all is_ascii_digit ds))
-    by false e = or-false (reads_exponent (d ∷ ds))
-
--- one that doesn't
-without_digits : (r : List ℕ) → after_point whole_form r ≡ reads_on false r
-without_digits [] = point_then whole_form []
-without_digits (d ∷ ds) = point_then whole_form (d ∷ ds) ∙ by (is_point d)
-  where
-    by : (b : Bool) → (b && whole_form (if b then ds else d ∷ ds))
-        ≡ (if b then (false || begins_in is_ascii_digit ds) && reads_exponent (after_all is_ascii_digit ds) else false && reads_exponent (d ∷ ds))
-    by true = whole_read ds
-    by false = refl
+with_digits a = grind (arith, point_then, fraction, whole_form, fraction_read, whole_read, or-false, nat_tests)
 
 first_read : (t : List ℕ) → first_point t ≡ (begins_in is_ascii_digit t && after_point fraction (after_all is_ascii_digit t))
 unfolding first_point fraction
-first_read [] = refl
-first_read (c ∷ cs) = at_least-after is_ascii_digit (after_point fraction) (point_rejects_digit fraction) c cs ∙ by (is_ascii_digit c)
-  where
-    by : (b : Bool) → (b && after_point fraction (after_all is_ascii_digit cs)) ≡ (b && after_point fraction (if b then after_all is_ascii_digit cs else c ∷ cs))
-    by true = refl
-    by false = refl
+first_read a = grind (arith, at_least-after, after_point, fraction, point_rejects_digit)
 
 late_read : (t : List ℕ) → late_point t ≡ after_point whole_form (after_all is_ascii_digit t)
 unfolding late_point whole_form
 late_read t = any-after is_ascii_digit (after_point whole_form) (point_rejects_digit whole_form) t
 
 pub unsigned_read : (t : List ℕ) → followed_by is_mantissa exponent_part t ≡ reads_unsigned t
-unsigned_read t =
-    forms t ∙ (λ i. whole_read t i || (first_read t i || late_read t i)) ∙ by (begins_in is_ascii_digit t)
-  where
-    by : (b : Bool) → ((b && reads_exponent (after_all is_ascii_digit t)) || ((b && after_point fraction (after_all is_ascii_digit t)) || after_point whole_form (after_all is_ascii_digit t)))
-        ≡ reads_on b (after_all is_ascii_digit t)
-    by true = with_digits (after_all is_ascii_digit t)
-    by false = without_digits (after_all is_ascii_digit t)
+unsigned_read t = grind (arith, forms, whole_read, first_read, late_read, after_point, fraction, whole_form, with_digits, point_then)
 
 unsigned_rejects_sign : Rejects is_sign (λ t. followed_by is_mantissa exponent_part t)
 unsigned_rejects_sign c cs h = unsigned_read (c ∷ cs) ∙ rw (sign_no_digit c h, sign_no_point c h) refl

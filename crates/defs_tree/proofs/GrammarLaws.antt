@@ -1,43 +1,8 @@
 -- How the marks of a grammar go together: equations on `followed_by`, by which a text is read from left to right.
-use Rattle.defs_tree.proofs.Common.{[], and_from, and_parts, any_number, ap, at_least_one, Bool, false, followed_by, if◌then◌else◌, inl, inr, is_empty, IsSplit, List, list_all, not, one, optional, or_cases, or_left, or_right, refl, subst, sym, true, ℕ, ◌&&◌, ◌++◌, ◌||◌, ◌∙◌, ◌∷◌, ◌≡◌, ◌⊎◌}
-
--- ---- tests
-
-and-false : (x : Bool) → (x && false) ≡ false
-and-false true = refl
-and-false false = refl
-
-and-true : (x : Bool) → (x && true) ≡ x
-and-true true = refl
-and-true false = refl
+use Rattle.defs_tree.proofs.Common.{[], and_from, and_parts, any_number, ap, at_least_one, Bool, false, followed_by, if◌then◌else◌, inl, inr, is_empty, IsSplit, List, list_all, not, one, optional, or_cases, or_left, or_right, refl, subst, true, ℕ, ◌&&◌, ◌++◌, ◌||◌, ◌∙◌, ◌∷◌, ◌≡◌, ◌⊎◌, arith}
 
 pub or-false : (x : Bool) → (x || false) ≡ x
-or-false true = refl
-or-false false = refl
-
-and-assoc : (x y z : Bool) → ((x && y) && z) ≡ (x && (y && z))
-and-assoc true y z = refl
-and-assoc false y z = refl
-
-and-or : (x y z : Bool) → (x && (y || z)) ≡ ((x && y) || (x && z))
-and-or true y z = refl
-and-or false y z = refl
-
-or-and : (x y z : Bool) → ((x || y) && z) ≡ ((x && z) || (y && z))
-or-and true true true = refl
-or-and true true false = refl
-or-and true false z = sym (or-false z)
-or-and false y z = refl
-
-or-swap : (a b c d : Bool) → ((a || b) || (c || d)) ≡ ((a || c) || (b || d))
-or-swap true b c d = refl
-or-swap false true true d = refl
-or-swap false true false d = refl
-or-swap false false c d = refl
-
-or-assoc : (a b c : Bool) → ((a || b) || c) ≡ (a || (b || c))
-or-assoc true b c = refl
-or-assoc false b c = refl
+or-false a = grind arith
 
 -- ---- `followed_by`
 
@@ -46,32 +11,32 @@ nothing_first g [] = refl
 nothing_first g (c ∷ cs) = nothing_first g cs
 
 pub followed_by-empty : (f : List ℕ → Bool) (t : List ℕ) → followed_by f is_empty t ≡ f t
-followed_by-empty f [] = and-true (f [])
-followed_by-empty f (c ∷ cs) = ap (λ x. x || followed_by (λ b. f (c ∷ b)) is_empty cs) (and-false (f [])) ∙ followed_by-empty (λ b. f (c ∷ b)) cs
+followed_by-empty f [] = grind arith
+followed_by-empty f (c ∷ cs) = grind (arith, followed_by-empty (λ b. f (c ∷ b)) cs)
 
 pub empty-followed_by : (g : List ℕ → Bool) (t : List ℕ) → followed_by is_empty g t ≡ g t
 empty-followed_by g [] = refl
-empty-followed_by g (c ∷ cs) = ap (λ x. g (c ∷ cs) || x) (nothing_first g cs) ∙ or-false (g (c ∷ cs))
+empty-followed_by g (c ∷ cs) = grind (arith, nothing_first g cs)
 
 pub followed_by-and : (x : Bool) (f g : List ℕ → Bool) (t : List ℕ) → followed_by (λ b. x && f b) g t ≡ (x && followed_by f g t)
 followed_by-and true f g t = refl
 followed_by-and false f g t = nothing_first g t
 
 pub followed_by-or : (f h g : List ℕ → Bool) (t : List ℕ) → followed_by (λ b. f b || h b) g t ≡ (followed_by f g t || followed_by h g t)
-followed_by-or f h g [] = or-and (f []) (h []) (g [])
-followed_by-or f h g (c ∷ cs) =
-    (λ i. or-and (f []) (h []) (g (c ∷ cs)) i || followed_by-or (λ b. f (c ∷ b)) (λ b. h (c ∷ b)) g cs i)
-    ∙ or-swap (f [] && g (c ∷ cs)) (h [] && g (c ∷ cs)) (followed_by (λ b. f (c ∷ b)) g cs) (followed_by (λ b. h (c ∷ b)) g cs)
+followed_by-or f h g [] = grind arith
+followed_by-or f h g (c ∷ cs) = grind (arith, followed_by-or (λ b. f (c ∷ b)) (λ b. h (c ∷ b)) g cs)
 
 pub followed_by-assoc : (f g h : List ℕ → Bool) (t : List ℕ) → followed_by (λ b. followed_by f g b) h t ≡ followed_by f (λ b. followed_by g h b) t
-followed_by-assoc f g h [] = and-assoc (f []) (g []) (h [])
+followed_by-assoc f g h [] = grind arith
 followed_by-assoc f g h (c ∷ cs) =
     let f' = λ (b : List ℕ). f (c ∷ b) in
     let g' = λ (b : List ℕ). g (c ∷ b) in
-    ap (λ x. ((f [] && g []) && h (c ∷ cs)) || x) (followed_by-or (λ b. f [] && g' b) (λ b. followed_by f' g b) h cs)
-    ∙ (λ i. and-assoc (f []) (g []) (h (c ∷ cs)) i || (followed_by-and (f []) g' h cs i || followed_by-assoc f' g h cs i))
-    ∙ sym (or-assoc (f [] && (g [] && h (c ∷ cs))) (f [] && followed_by g' h cs) (followed_by f' (λ b. followed_by g h b) cs))
-    ∙ ap (λ x. x || followed_by f' (λ b. followed_by g h b) cs) (sym (and-or (f []) (g [] && h (c ∷ cs)) (followed_by g' h cs)))
+    grind (
+      arith,
+      followed_by-or (λ b. f [] && g' b) (λ b. followed_by f' g b) h cs,
+      followed_by-and (f []) g' h cs,
+      followed_by-assoc f' g h cs,
+    )
 
 -- ---- read from the left
 
@@ -98,29 +63,20 @@ optional-then f g t = followed_by-or is_empty f g t ∙ ap (λ x. x || followed_
 pub any-then : (p : ℕ → Bool) (g : List ℕ → Bool) (c : ℕ) (cs : List ℕ) → followed_by (any_number p) g (c ∷ cs) ≡ (g (c ∷ cs) || (p c && followed_by (any_number p) g cs))
 any-then p g c cs = ap (λ x. g (c ∷ cs) || x) (followed_by-and (p c) (any_number p) g cs)
 
-pub at_least-then : (p : ℕ → Bool) (g : List ℕ → Bool) (c : ℕ) (cs : List ℕ) → followed_by (at_least_one p) g (c ∷ cs) ≡ (p c && followed_by (any_number p) g cs)
-at_least-then p g c cs = followed_by-and (p c) (any_number p) g cs
-
 -- a class is read as far as it goes, where what follows doesn't begin in it
 pub any-after : (p : ℕ → Bool) (g : List ℕ → Bool) → Rejects p g → (t : List ℕ) → followed_by (any_number p) g t ≡ g (after_all p t)
 any-after p g r [] = refl
-any-after p g r (c ∷ cs) = any-then p g c cs ∙ by (p c) refl (any-after p g r cs)
-  where
-    by : (b : Bool) → p c ≡ b → followed_by (any_number p) g cs ≡ g (after_all p cs)
-        → (g (c ∷ cs) || (b && followed_by (any_number p) g cs)) ≡ g (if b then after_all p cs else c ∷ cs)
-    by true e h = ap (λ x. x || followed_by (any_number p) g cs) (r c cs e) ∙ h
-    by false e h = or-false (g (c ∷ cs))
+any-after p g r (c ∷ cs) = grind (arith, any-then, or-false, any-after p g r cs)
 
 pub at_least-after : (p : ℕ → Bool) (g : List ℕ → Bool) → Rejects p g → (c : ℕ) (cs : List ℕ) → followed_by (at_least_one p) g (c ∷ cs) ≡ (p c && g (after_all p cs))
-at_least-after p g r c cs = at_least-then p g c cs ∙ ap (λ x. p c && x) (any-after p g r cs)
+at_least-after p g r c cs = (followed_by-and (p c) (any_number p) g cs) ∙ ap (λ x. p c && x) (any-after p g r cs)
 
 pub optional_one-after : (p : ℕ → Bool) (g : List ℕ → Bool) → Rejects p g → (t : List ℕ) → followed_by (optional (one p)) g t ≡ g (after_one p t)
 optional_one-after p g r [] = optional-then (one p) g [] ∙ or-false (g [])
 optional_one-after p g r (c ∷ cs) = optional-then (one p) g (c ∷ cs) ∙ ap (λ x. g (c ∷ cs) || x) (one-then p g c cs) ∙ by (p c) refl
   where
     by : (b : Bool) → p c ≡ b → (g (c ∷ cs) || (b && g cs)) ≡ g (if b then cs else c ∷ cs)
-    by true e = ap (λ x. x || g cs) (r c cs e)
-    by false e = or-false (g (c ∷ cs))
+    by a e = grind (arith, or-false)
 
 -- ---- what `followed_by` says: the text is cut
 
@@ -129,8 +85,7 @@ cut_from f g [] h = let parts = and_parts (f []) (g []) h in record { before = [
 cut_from f g (c ∷ cs) h = by (or_cases (f [] && g (c ∷ cs)) (followed_by (λ b. f (c ∷ b)) g cs) h) (cut_from (λ b. f (c ∷ b)) g cs)
   where
     by : ((f [] && g (c ∷ cs)) ≡ true) ⊎ (followed_by (λ b. f (c ∷ b)) g cs ≡ true) → (followed_by (λ b. f (c ∷ b)) g cs ≡ true → IsSplit (λ b. f (c ∷ b)) g cs) → IsSplit f g (c ∷ cs)
-    by (inl e) later = let parts = and_parts (f []) (g (c ∷ cs)) e in record { before = []; after = c ∷ cs; whole = refl; is_first = parts.0; is_second = parts.1 }
-    by (inr e) later = let r = later e in record { before = c ∷ r.before; after = r.after; whole = ap (λ t. c ∷ t) r.whole; is_first = r.is_first; is_second = r.is_second }
+    by a later = grind (arith, and_parts)
 
 joined_parts : (f g : List ℕ → Bool) (a b : List ℕ) → f a ≡ true → g b ≡ true → followed_by f g (a ++ b) ≡ true
 joined_parts f g [] [] h e = and_from (f []) (g []) h e
@@ -148,26 +103,21 @@ IsWithin class f = (t : List ℕ) → f t ≡ true → list_all class t ≡ true
 
 list_all-append : (class : ℕ → Bool) (a b : List ℕ) → list_all class a ≡ true → list_all class b ≡ true → list_all class (a ++ b) ≡ true
 list_all-append class [] b h e = e
-list_all-append class (c ∷ a) b h e =
-    let parts = and_parts (class c) (list_all class a) h in and_from (class c) (list_all class (a ++ b)) parts.0 (list_all-append class a b parts.1 e)
+list_all-append class (c ∷ a) b h e = grind (arith, and_parts, list_all-append class a b)
 
 pub list_all-more : (p q : ℕ → Bool) → ((c : ℕ) → p c ≡ true → q c ≡ true) → (t : List ℕ) → list_all p t ≡ true → list_all q t ≡ true
 list_all-more p q more [] h = refl
-list_all-more p q more (c ∷ cs) h =
-    let parts = and_parts (p c) (list_all p cs) h in and_from (q c) (list_all q cs) (more c parts.0) (list_all-more p q more cs parts.1)
+list_all-more p q more (c ∷ cs) h = grind (arith, and_parts, list_all-more p q more cs)
 
 pub IsWithin-followed_by : (class : ℕ → Bool) (f g : List ℕ → Bool) → IsWithin class f → IsWithin class g → IsWithin class (λ t. followed_by f g t)
 IsWithin-followed_by class f g h e t is =
     let r = cut_from f g t is in subst (λ u. list_all class u ≡ true) r.whole (list_all-append class r.before r.after (h r.before r.is_first) (e r.after r.is_second))
 
 pub IsWithin-empty : (class : ℕ → Bool) → IsWithin class is_empty
-IsWithin-empty class [] h = refl
-IsWithin-empty class (c ∷ cs) h = cc
+IsWithin-empty class a h = grind arith
 
 pub IsWithin-one : (class p : ℕ → Bool) → ((c : ℕ) → p c ≡ true → class c ≡ true) → IsWithin class (one p)
-IsWithin-one class p more [] h = refl
-IsWithin-one class p more (c ∷ cs) h =
-    let parts = and_parts (p c) (is_empty cs) h in and_from (class c) (list_all class cs) (more c parts.0) (IsWithin-empty class cs parts.1)
+IsWithin-one class p more a h = grind arith
 
 pub IsWithin-any_number : (class p : ℕ → Bool) → ((c : ℕ) → p c ≡ true → class c ≡ true) → IsWithin class (any_number p)
 IsWithin-any_number class p more t h = list_all-more p class more t h
@@ -176,15 +126,10 @@ pub IsWithin-at_least_one : (class p : ℕ → Bool) → ((c : ℕ) → p c ≡ 
 IsWithin-at_least_one class p more t h = list_all-more p class more t (and_parts (not (is_empty t)) (list_all p t) h).1
 
 pub IsWithin-optional : (class : ℕ → Bool) (f : List ℕ → Bool) → IsWithin class f → IsWithin class (optional f)
-IsWithin-optional class f h [] e = refl
-IsWithin-optional class f h (c ∷ cs) e = h (c ∷ cs) e
+IsWithin-optional class f h a e = grind arith
 
 pub IsWithin-or : (class : ℕ → Bool) (f g : List ℕ → Bool) → IsWithin class f → IsWithin class g → IsWithin class (λ t. f t || g t)
-IsWithin-or class f g h e t is = by (or_cases (f t) (g t) is)
-  where
-    by : (f t ≡ true) ⊎ (g t ≡ true) → list_all class t ≡ true
-    by (inl is) = h t is
-    by (inr is) = e t is
+IsWithin-or class f g h e t is = grind arith
 
 pub IsWithin-none : (class : ℕ → Bool) → IsWithin class (λ t. false)
 IsWithin-none class t h = cc

@@ -15,6 +15,7 @@ pub mod Parsing
 pub mod Places
 pub mod ReadBack
 pub mod RealTexts
+pub mod TreeWords
 pub mod TypingLaws
 pub mod Unquoted
 mod Common

@@ -1,21 +1,13 @@
 -- The lines of a text make the text, and are those of std's `lines`.
-use Rattle.defs_tree.proofs.Common.{[], and_parts, ap, arith, Bool, cases_eq, codes, cond, drop, ended, ends_with, false, if◌then◌else◌, inl, inr, is_empty, is_unbroken, length, lines, lines_of, lines_of_parts, List, list_all, nat_eq, ne_eqb, not, not-true, onto_first, onto_first_line, refl, slice_index, slice_split, strip_carriage_return, subst, suc, sym, take, true, zero, ℕ, ◌&&◌, ◌++◌, ◌-◌, ◌==◌, ◌||◌, ◌∙◌, ◌∷◌, ◌≡◌, ◌⊎◌}
-use lib.Pointwise.{pointwise}
+use Rattle.defs_tree.proofs.Common.{[], and_parts, ap, arith, Bool, codes, ended, ends_with, false, if◌then◌else◌, is_empty, is_unbroken, length, lines, lines_of, lines_of_parts, List, list_all, nat_eq, ne_eqb, not, not-true, onto_first, onto_first_line, refl, slice_index, slice_split, suc, sym, true, zero, ℕ, ◌++◌, ◌-◌, ◌==◌, ◌||◌, ◌∙◌, ◌∷◌, ◌≡◌}
 
 -- ---- the last character
 
 pub ends_with-step : (x c d : ℕ) (cs : List ℕ) → ends_with nat_eq (c ∷ d ∷ cs) (x ∷ []) ≡ ends_with nat_eq (d ∷ cs) (x ∷ [])
-ends_with-step x c d cs =
-    let e : suc (suc (length cs)) - 1 ≡ suc (length cs) = omega arith in
-    let f : suc (length cs) - 1 ≡ length cs = omega arith in
-    ap (λ k. pointwise nat_eq (x ∷ []) (drop k (c ∷ d ∷ cs))) e ∙ sym (ap (λ k. pointwise nat_eq (x ∷ []) (drop k (d ∷ cs))) f)
+ends_with-step x c d cs = grind arith
 
 pub ends_with-one : (x c : ℕ) → ends_with nat_eq (c ∷ []) (x ∷ []) ≡ (x == c)
-ends_with-one x c = by (x == c)
-  where
-    by : (b : Bool) → (b && true) ≡ b
-    by true = refl
-    by false = refl
+ends_with-one x c = grind arith
 
 -- ---- the lines make the text
 
@@ -23,59 +15,16 @@ abbrev has_no_line : List (List ℕ) → Bool
 has_no_line [] = true
 has_no_line (l ∷ ls) = false
 
-onto_first_line-some : (c : ℕ) (ls : List (List ℕ)) → has_no_line (onto_first_line c ls) ≡ false
-onto_first_line-some c [] = refl
-onto_first_line-some c (l ∷ ls) = refl
-
-pub lines_of-some : (c : ℕ) (cs : List ℕ) → has_no_line (lines_of (c ∷ cs)) ≡ false
-lines_of-some c cs = by (c == 10)
-  where
-    by : (b : Bool) → has_no_line (if b then [] ∷ lines_of cs else onto_first_line c (lines_of cs)) ≡ false
-    by true = refl
-    by false = onto_first_line-some c (lines_of cs)
-
-ended-onto : (c : ℕ) (ls : List (List ℕ)) → has_no_line ls ≡ false → ended (onto_first_line c ls) ≡ c ∷ ended ls
-ended-onto c [] h = cc
-ended-onto c (l ∷ ls) h = refl
-
--- the text, and a line feed where it lacks one
-abbrev pub with_end : Bool → List ℕ → List ℕ
-with_end has_end text = if has_end then text else text ++ 10 ∷ []
-
-with_end-cons : (b : Bool) (c : ℕ) (t : List ℕ) → c ∷ with_end b t ≡ with_end b (c ∷ t)
-with_end-cons true c t = refl
-with_end-cons false c t = refl
-
 pub lines_of_ended : (text : List ℕ) → ended (lines_of text) ≡ (if is_empty text || ends_with nat_eq text (codes "\n") then text else text ++ 10 ∷ [])
 lines_of_ended [] = refl
-lines_of_ended (c ∷ []) = by (cases_eq c 10) ∙ ap (λ b. with_end b (c ∷ [])) (sym (ends_with-one 10 c))
-  where
-    by : (c ≡ 10) ⊎ (c ≡ 10 → ⊥) → ended (if c == 10 then [] ∷ [] else (c ∷ []) ∷ []) ≡ with_end (10 == c) (c ∷ [])
-    by (inl e) = subst (λ d. ended (if d == 10 then [] ∷ [] else (d ∷ []) ∷ []) ≡ with_end (10 == d) (d ∷ [])) (sym e) refl
-    by (inr n) = rw (ne_eqb c 10 n, ne_eqb 10 c (λ e. n (sym e))) refl
-lines_of_ended (c ∷ d ∷ cs) =
-    by (cases_eq c 10) ∙ ap (λ t. c ∷ t) (lines_of_ended (d ∷ cs)) ∙ with_end-cons (ends_with nat_eq (d ∷ cs) (10 ∷ [])) c (d ∷ cs)
-    ∙ ap (λ b. with_end b (c ∷ d ∷ cs)) (sym (ends_with-step 10 c d cs))
-  where
-    by : (c ≡ 10) ⊎ (c ≡ 10 → ⊥) → ended (if c == 10 then [] ∷ lines_of (d ∷ cs) else onto_first_line c (lines_of (d ∷ cs))) ≡ c ∷ ended (lines_of (d ∷ cs))
-    by (inl e) = subst (λ x. ended (if x == 10 then [] ∷ lines_of (d ∷ cs) else onto_first_line x (lines_of (d ∷ cs))) ≡ x ∷ ended (lines_of (d ∷ cs))) (sym e) refl
-    by (inr n) =
-        ap (λ b. ended (if b then [] ∷ lines_of (d ∷ cs) else onto_first_line c (lines_of (d ∷ cs)))) (ne_eqb c 10 n)
-        ∙ ended-onto c (lines_of (d ∷ cs)) (lines_of-some d cs)
+lines_of_ended (c ∷ []) = grind (arith, ends_with-one)
+lines_of_ended (c ∷ d ∷ cs) = grind (arith, ends_with-step, lines_of_ended (d ∷ cs))
 
 -- ---- no line holds a line feed
 
-unbroken-onto : (c : ℕ) (ls : List (List ℕ)) → (c == 10) ≡ false → list_all is_unbroken ls ≡ true → list_all is_unbroken (onto_first_line c ls) ≡ true
-unbroken-onto c [] n h = ap (λ b. (not b && true) && true) n
-unbroken-onto c (l ∷ ls) n h = ap (λ b. (not b && is_unbroken l) && list_all is_unbroken ls) n ∙ h
-
 pub lines_of_unbroken : (text : List ℕ) → list_all is_unbroken (lines_of text) ≡ true
 lines_of_unbroken [] = refl
-lines_of_unbroken (c ∷ cs) = by (c == 10) refl (lines_of_unbroken cs)
-  where
-    by : (b : Bool) → (c == 10) ≡ b → list_all is_unbroken (lines_of cs) ≡ true → list_all is_unbroken (if b then [] ∷ lines_of cs else onto_first_line c (lines_of cs)) ≡ true
-    by true e h = h
-    by false e h = unbroken-onto c (lines_of cs) e h
+lines_of_unbroken (c ∷ cs) = grind (arith, lines_of_unbroken cs)
 
 -- ---- std's lines, where there is no CR
 
@@ -87,44 +36,20 @@ no_return-at [] i h = refl
 no_return-at (c ∷ cs) zero h = not-true (c == 13) (and_parts (not (c == 13)) (has_no_return cs) h).0
 no_return-at (c ∷ cs) (suc i) h = no_return-at cs i (and_parts (not (c == 13)) (has_no_return cs) h).1
 
-strip-none : (l : List ℕ) → has_no_return l ≡ true → strip_carriage_return l ≡ l
-strip-none l h = ap (λ b. if b then take (length l - 1) l else l) (no_return-at l (length l - 1) h)
-
 -- the parts of a text without CR have none either
 abbrev have_no_return : List (List ℕ) → Bool
 have_no_return ps = list_all has_no_return ps
-
-no_return-onto : (c : ℕ) (ps : List (List ℕ)) → (not (c == 13)) ≡ true → have_no_return ps ≡ true → have_no_return (onto_first c ps) ≡ true
-no_return-onto c [] n h = ap (λ b. (b && true) && true) n
-no_return-onto c (p ∷ ps) n h = ap (λ b. (b && has_no_return p) && have_no_return ps) n ∙ h
 
 abbrev parts_of : List ℕ → List (List ℕ)
 parts_of t = slice_split (λ b. b == 10) t
 
 parts-no_return : (t : List ℕ) → has_no_return t ≡ true → have_no_return (parts_of t) ≡ true
 parts-no_return [] h = refl
-parts-no_return (c ∷ cs) h =
-    let p = and_parts (not (c == 13)) (has_no_return cs) h in by (c == 10) p.0 (parts-no_return cs p.1)
-  where
-    by : (b : Bool) → not (c == 13) ≡ true → have_no_return (parts_of cs) ≡ true → have_no_return (cond b ([] ∷ parts_of cs) (onto_first c (parts_of cs))) ≡ true
-    by true n r = r
-    by false n r = no_return-onto c (parts_of cs) n r
-
-onto_first-some : (c : ℕ) (ps : List (List ℕ)) → has_no_line (onto_first c ps) ≡ false
-onto_first-some c [] = refl
-onto_first-some c (p ∷ ps) = refl
+parts-no_return (c ∷ cs) h = grind (arith, and_parts, parts-no_return cs)
 
 parts-some : (t : List ℕ) → has_no_line (parts_of t) ≡ false
 parts-some [] = refl
-parts-some (c ∷ cs) = by (c == 10)
-  where
-    by : (b : Bool) → has_no_line (cond b ([] ∷ parts_of cs) (onto_first c (parts_of cs))) ≡ false
-    by true = refl
-    by false = onto_first-some c (parts_of cs)
-
-break_before : (ps : List (List ℕ)) → has_no_line ps ≡ false → lines_of_parts ([] ∷ ps) ≡ [] ∷ lines_of_parts ps
-break_before [] h = cc
-break_before (p ∷ ps) h = refl
+parts-some (c ∷ cs) = grind arith
 
 last_part : (c : ℕ) (cs : List ℕ) → lines_of_parts ((c ∷ cs) ∷ []) ≡ (c ∷ cs) ∷ []
 last_part c cs = ap (λ b. if b then [] else (c ∷ cs) ∷ []) (ne_eqb (length (c ∷ cs)) 0 (λ e. omega arith))
@@ -134,17 +59,8 @@ character_before : (c : ℕ) (ps : List (List ℕ)) → has_no_line ps ≡ false
 character_before c [] h n r = cc
 character_before c ([] ∷ []) h n r = refl
 character_before c ((d ∷ ds) ∷ []) h n r = last_part c (d ∷ ds) ∙ ap (λ ls. onto_first_line c ls) (sym (last_part d ds))
-character_before c (p ∷ q ∷ ps) h n r =
-    let e = and_parts (has_no_return p) (have_no_return (q ∷ ps)) r in
-    ap (λ l. l ∷ lines_of_parts (q ∷ ps)) (strip-none (c ∷ p) (ap (λ b. b && has_no_return p) n ∙ e.0))
-    ∙ ap (λ l. (c ∷ l) ∷ lines_of_parts (q ∷ ps)) (sym (strip-none p e.0))
+character_before c (p ∷ q ∷ ps) h n r = grind (arith, and_parts, no_return-at)
 
 pub lines_of_std : (t : List ℕ) → has_no_return t ≡ true → lines_of t ≡ lines t
 lines_of_std [] h = refl
-lines_of_std (c ∷ cs) h =
-    let p = and_parts (not (c == 13)) (has_no_return cs) h in by (c == 10) p.0 p.1 (lines_of_std cs p.1)
-  where
-    by : (b : Bool) → not (c == 13) ≡ true → has_no_return cs ≡ true → lines_of cs ≡ lines_of_parts (parts_of cs)
-        → (if b then [] ∷ lines_of cs else onto_first_line c (lines_of cs)) ≡ lines_of_parts (cond b ([] ∷ parts_of cs) (onto_first c (parts_of cs)))
-    by true n r e = ap (λ ls. [] ∷ ls) e ∙ sym (break_before (parts_of cs) (parts-some cs))
-    by false n r e = ap (λ ls. onto_first_line c ls) e ∙ sym (character_before c (parts_of cs) (parts-some cs) n (parts-no_return cs r))
+lines_of_std (c ∷ cs) h = grind (arith, and_parts, parts-some, character_before, parts-no_return, lines_of_std cs)

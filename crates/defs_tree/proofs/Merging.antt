@@ -1,7 +1,7 @@
 -- What merges do to a tree.
-use Rattle.defs_tree.proofs.Common.{[], AllDistinct, AllLackMergeKeys, AllPairsDistinct, ap, append-nil, append_assoc, AreDistinct, array, Bool, brought, cond, false, has_key, hash, is_some, IsDistinct, item, Items, items_of, Lacks, LacksMergeKeys, List, list_of, lookup, merge_key, merged, merged_items, merged_pairs, merged_values, no_items, no_pairs, None, Option, option_or, pair, pair_list_of, Pairs, pairs_of, pairs_of_mappings, refl, Some, subst, sym, Tree, tree_eq, true, true≢false, ValuesLackMergeKeys, with_new_pair, with_new_pairs, without, ◌++◌, ◌∙◌, ◌∷◌, ◌≡◌, ◌≢◌}
+use Rattle.defs_tree.proofs.Common.{[], AllDistinct, AllLackMergeKeys, AllPairsDistinct, ap, append-nil, append_assoc, AreDistinct, array, Bool, brought, cond, false, has_key, hash, IsDistinct, item, Items, items_of, Lacks, LacksMergeKeys, List, list_of, lookup, merge_key, merged, merged_items, merged_pairs, merged_values, no_items, no_pairs, None, Option, option_or, pair, pair_list_of, Pairs, pairs_of, pairs_of_mappings, refl, Some, subst, sym, Tree, true, ValuesLackMergeKeys, with_new_pair, with_new_pairs, without, ◌++◌, ◌∙◌, ◌∷◌, ◌≡◌, ◌≢◌, arith}
 use Rattle.defs_tree.proofs.OrderLaws.{tree_eq_decides}
-use Rattle.defs_tree.proofs.OverlayLaws.{Each, each_append, each_lookup, list_of_pairs}
+use Rattle.defs_tree.proofs.OverlayLaws.{Each, EachDistinct, EachDistinct-list, EachDistinct-pairs, each_append, each_lookup, list_of_pairs}
 use Rattle.defs_tree.proofs.PairsLaws.{tree_eq-other, AreDistinct-append, AreDistinct-without, Lacks-itself, lookup-without_other}
 use Rattle.defs_tree.proofs.TypingLaws.{OfSome}
 use Rattle.defs_tree.specs.MergeLaws.{value_among, value_brought}
@@ -10,60 +10,19 @@ use Rattle.defs_tree.specs.MergeLaws.{value_among, value_brought}
 
 lookup_both : (k : Tree) (ps qs : List (Tree × Tree)) → lookup k (ps ++ qs) ≡ option_or (lookup k ps) (lookup k qs)
 lookup_both k [] qs = refl
-lookup_both k (p ∷ ps) qs = by (tree_eq k p.0) (lookup_both k ps qs)
-  where
-    by : (b : Bool) → lookup k (ps ++ qs) ≡ option_or (lookup k ps) (lookup k qs) → cond b (Some p.1) (lookup k (ps ++ qs)) ≡ option_or (cond b (Some p.1) (lookup k ps)) (lookup k qs)
-    by true r = refl
-    by false r = r
-
-or_none : (o : Option Tree) → option_or o None ≡ o
-or_none None = refl
-or_none (Some x) = refl
-
-or_there : (o q : Option Tree) → is_some o ≡ true → o ≡ option_or o q
-or_there None q h = cc
-or_there (Some x) q h = refl
-
-or_assoc : (a b c : Option Tree) → option_or (option_or a b) c ≡ option_or a (option_or b c)
-or_assoc None b c = refl
-or_assoc (Some x) b c = refl
-
--- a key that is there already keeps its value
-stays : (k : Tree) (ps : List (Tree × Tree)) (q : Tree × Tree) → has_key q.0 ps ≡ true → lookup k ps ≡ option_or (lookup k ps) (lookup k (q ∷ []))
-stays k ps q h = by (tree_eq k q.0) refl
-  where
-    by : (b : Bool) → tree_eq k q.0 ≡ b → lookup k ps ≡ option_or (lookup k ps) (cond b (Some q.1) None)
-    by true e = or_there _ _ (ap (λ l. has_key l ps) ((tree_eq_decides k q.0).0 e) ∙ h)
-    by false e = sym (or_none (lookup k ps))
-
-lookup_new_pair : (k : Tree) (ps : List (Tree × Tree)) (q : Tree × Tree) → lookup k (with_new_pair ps q) ≡ option_or (lookup k ps) (lookup k (q ∷ []))
-lookup_new_pair k ps q = by (has_key q.0 ps) refl
-  where
-    by : (b : Bool) → has_key q.0 ps ≡ b → lookup k (cond b ps (ps ++ q ∷ [])) ≡ option_or (lookup k ps) (lookup k (q ∷ []))
-    by true e = stays k ps q e
-    by false e = lookup_both k ps (q ∷ [])
+lookup_both k (p ∷ ps) qs = grind (arith, lookup_both k ps qs)
 
 lookup_new_pairs : (k : Tree) (ps qs : List (Tree × Tree)) → lookup k (with_new_pairs ps qs) ≡ option_or (lookup k ps) (lookup k qs)
-lookup_new_pairs k ps [] = sym (or_none (lookup k ps))
-lookup_new_pairs k ps (q ∷ qs) =
-    lookup_new_pairs k (with_new_pair ps q) qs ∙ ap (λ o. option_or o (lookup k qs)) (lookup_new_pair k ps q)
-    ∙ or_assoc (lookup k ps) (lookup k (q ∷ [])) (lookup k qs) ∙ ap (option_or (lookup k ps)) (sym (lookup_both k (q ∷ []) qs))
+lookup_new_pairs k ps [] = sym (grind arith)
+lookup_new_pairs k ps (q ∷ qs) = grind (arith, lookup_both, lookup_new_pairs k (with_new_pair ps q) qs, tree_eq_decides)
 
 among : (k : Tree) (ts : Items) → lookup k (pairs_of_mappings ts) ≡ value_among k ts
 among k no_items = refl
 among k (item (hash ps) ts) = lookup_both k (pair_list_of ps) (pairs_of_mappings ts) ∙ ap (option_or (lookup k (pair_list_of ps))) (among k ts)
 among k (item t ts) = among k ts
 
-brings : (k : Tree) (o : Option Tree) → lookup k (brought o) ≡ value_brought k o
-brings k (Some (hash ps)) = refl
-brings k (Some (array ts)) = among k ts
-brings k o = refl
-
 pub merge_finds : (k : Tree) (ps : List (Tree × Tree)) → k ≢ merge_key → lookup k (merged_pairs ps) ≡ option_or (lookup k ps) (value_brought k (lookup merge_key ps))
-merge_finds k ps n =
-    let v = lookup merge_key ps in
-    lookup_new_pairs k (without merge_key ps) (brought v) ∙ ap (λ o. option_or o (lookup k (brought v))) (lookup-without_other merge_key k ps n)
-    ∙ ap (option_or (lookup k ps)) (brings k v)
+merge_finds k ps n = grind (arith, lookup_new_pairs, lookup-without_other, among)
 
 -- ---- the order
 
@@ -83,11 +42,7 @@ own_first ps = new_pairs_after (without merge_key ps) (brought (lookup merge_key
 
 pub lacks_key : (k : Tree) (ps : List (Tree × Tree)) → has_key k ps ≡ false → Lacks k ps
 lacks_key k [] h = tt
-lacks_key k (p ∷ ps) h = by (tree_eq k p.0) refl (lacks_key k ps) h
-  where
-    by : (b : Bool) → tree_eq k p.0 ≡ b → (has_key k ps ≡ false → Lacks k ps) → is_some (cond b (Some p.1) (lookup k ps)) ≡ false → Lacks k (p ∷ ps)
-    by true e r g = absurd (true≢false g)
-    by false e r g = ((λ is. true≢false (sym ((tree_eq_decides k p.0).1 is) ∙ e)), r g)
+lacks_key k (p ∷ ps) h = grind (arith, tree_eq_decides, lacks_key k ps)
 
 new_pair_distinct : (ps : List (Tree × Tree)) (q : Tree × Tree) → AreDistinct ps → AreDistinct (with_new_pair ps q)
 new_pair_distinct ps q h = by (has_key q.0 ps) refl
@@ -130,52 +85,33 @@ module _ (K V : Tree → Type 0) (opens : Opens K V) where
   each_of_mappings (item t ts) h = each_of_mappings ts h.1
 
   each_brought : (o : Option Tree) → OfSome V o → Each K V (brought o)
-  each_brought (Some (hash ps)) h = opens.0 ps h
-  each_brought (Some (array ts)) h = each_of_mappings ts (opens.1 ts h)
-  each_brought o h = tt
+  each_brought o h = grind (arith, each_of_mappings)
 
   each_without : (k : Tree) (ps : List (Tree × Tree)) → Each K V ps → Each K V (without k ps)
   each_without k [] h = tt
-  each_without k (p ∷ ps) h = by (tree_eq k p.0) (each_without k ps h.1)
-    where
-      by : (b : Bool) → Each K V (without k ps) → Each K V (cond b ps (p ∷ without k ps))
-      by true r = h.1
-      by false r = (h.0, r)
-
-  each_new_pair : (ps : List (Tree × Tree)) (q : Tree × Tree) → Each K V ps → K q.0 × V q.1 → Each K V (with_new_pair ps q)
-  each_new_pair ps q h g = by (has_key q.0 ps)
-    where
-      by : (b : Bool) → Each K V (cond b ps (ps ++ q ∷ []))
-      by true = h
-      by false = each_append K V ps (q ∷ []) h (g, tt)
+  each_without k (p ∷ ps) h = grind (arith, each_without k ps h.1)
 
   each_new_pairs : (ps qs : List (Tree × Tree)) → Each K V ps → Each K V qs → Each K V (with_new_pairs ps qs)
   each_new_pairs ps [] h g = h
-  each_new_pairs ps (q ∷ qs) h g = each_new_pairs (with_new_pair ps q) qs (each_new_pair ps q h g.0) g.1
+  each_new_pairs ps (q ∷ qs) h g = each_new_pairs (with_new_pair ps q) qs (grind (arith, each_append)) g.1
 
   pub each_merged : (ps : List (Tree × Tree)) → Each K V ps → Each K V (merged_pairs ps)
-  each_merged ps h =
-      each_new_pairs (without merge_key ps) (brought (lookup merge_key ps)) (each_without merge_key ps h) (each_brought (lookup merge_key ps) (each_lookup K V merge_key ps h))
+  each_merged ps h = grind (arith, each_new_pairs, each_without, each_brought, each_lookup)
 
 -- ---- distinct keys
-
-distinct_each : (ps : Pairs) → AllPairsDistinct ps → Each IsDistinct IsDistinct (pair_list_of ps)
-distinct_each no_pairs h = tt
-distinct_each (pair k v ps) h = ((h.0, h.1), distinct_each ps h.2)
-
-each_distinct : (ps : List (Tree × Tree)) → Each IsDistinct IsDistinct ps → AllPairsDistinct (pairs_of ps)
-each_distinct [] h = tt
-each_distinct (p ∷ ps) h = (h.0.0, h.0.1, each_distinct ps h.1)
 
 distinct_items : (ts : Items) → AllDistinct ts → EachItem IsDistinct ts
 distinct_items no_items h = tt
 distinct_items (item t ts) h = (h.0, distinct_items ts h.1)
 
 distinct_opens : Opens IsDistinct IsDistinct
-distinct_opens = ((λ ps h. distinct_each ps h.1), distinct_items)
+distinct_opens = ((λ ps h. EachDistinct-list ps h.1), distinct_items)
 
-whole_distinct : (ps : List (Tree × Tree)) → AreDistinct ps → Each IsDistinct IsDistinct ps → IsDistinct (hash (pairs_of (merged_pairs ps)))
-whole_distinct ps h g = (subst AreDistinct (sym (list_of_pairs (merged_pairs ps))) (merged_pairs_distinct ps h), each_distinct (merged_pairs ps) (each_merged IsDistinct IsDistinct distinct_opens ps g))
+whole_distinct : (ps : List (Tree × Tree)) → AreDistinct ps → EachDistinct ps → IsDistinct (hash (pairs_of (merged_pairs ps)))
+whole_distinct ps h g = (
+  subst AreDistinct (sym (list_of_pairs (merged_pairs ps))) (merged_pairs_distinct ps h),
+  EachDistinct-pairs (merged_pairs ps) (each_merged IsDistinct IsDistinct distinct_opens ps g),
+)
 
 -- ---- no merge key is left
 
@@ -233,7 +169,7 @@ mutual
   items_both no_items h = (tt, tt)
   items_both (item t ts) h = let a = merged_both t h.0 in let b = items_both ts h.1 in ((a.0, b.0), (a.1, b.1))
 
-  values_both : (ps : Pairs) → AllPairsDistinct ps → Each IsDistinct IsDistinct (merged_values ps) × Each IsAny LacksMergeKeys (merged_values ps)
+  values_both : (ps : Pairs) → AllPairsDistinct ps → EachDistinct (merged_values ps) × Each IsAny LacksMergeKeys (merged_values ps)
   values_both no_pairs h = (tt, tt)
   values_both (pair k v ps) h = let a = merged_both v h.1 in let b = values_both ps h.2 in (((h.0, a.0), b.0), ((tt, a.1), b.1))
 
@@ -253,9 +189,6 @@ lacks_without : (k : Tree) (ps : List (Tree × Tree)) → Lacks k ps → without
 lacks_without k [] h = refl
 lacks_without k (p ∷ ps) h = ap (λ b. cond b ps (p ∷ without k ps)) (tree_eq-other k p.0 h.0) ∙ ap (λ qs. p ∷ qs) (lacks_without k ps h.1)
 
-same_pairs : (ps : List (Tree × Tree)) → Lacks merge_key ps → merged_pairs ps ≡ ps
-same_pairs ps h = ap (λ o. with_new_pairs (without merge_key ps) (brought o)) (lacks_none merge_key ps h) ∙ lacks_without merge_key ps h
-
 items_of_list : (ts : Items) → items_of (list_of ts) ≡ ts
 items_of_list no_items = refl
 items_of_list (item t ts) = ap (item t) (items_of_list ts)
@@ -267,8 +200,7 @@ pairs_of_list (pair k v ps) = ap (pair k v) (pairs_of_list ps)
 mutual
   pub merged_same : (t : Tree) → LacksMergeKeys t → merged t ≡ t
   merged_same (array ts) h = ap (λ us. array (items_of us)) (items_same ts h) ∙ ap array (items_of_list ts)
-  merged_same (hash ps) h =
-      ap (λ qs. hash (pairs_of (merged_pairs qs))) (values_same ps h.1) ∙ ap (λ qs. hash (pairs_of qs)) (same_pairs (pair_list_of ps) h.0) ∙ ap hash (pairs_of_list ps)
+  merged_same (hash ps) h = grind (arith, pairs_of_list, values_same ps h.1, lacks_none, lacks_without)
   merged_same t h = refl
 
   items_same : (ts : Items) → AllLackMergeKeys ts → merged_items ts ≡ list_of ts

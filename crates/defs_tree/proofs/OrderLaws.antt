@@ -1,12 +1,11 @@
 -- The order of trees is total, and two trees that tie are one tree.
 use Rattle.std.specs.declared.cmp.Ordering.{Ordering}
-use Rattle.std.specs.Ordering.{ordering_then, nat_cmp, int_cmp, bool_cmp, is_eq}
+use Rattle.std.specs.Ordering.{ordering_then, nat_cmp, int_cmp, is_eq}
 use Rattle.std.specs.Cmp.{IsTotalOrder, IsEquivalence}
 use Rattle.std.specs.Cmp.Lexicographic.{slice_cmp}
-use Rattle.std.proofs.lemmas.Cmp.{ranked, int_ranked, int_cmp_total, lists_total, on_total, then_total, tied_itself, eq_by_cmp_equiv}
+use Rattle.std.proofs.lemmas.Cmp.{ranked, int_ranked, int_cmp_total, lists_total, on_total, eq_by_cmp_equiv}
 use Rattle.std.proofs.lemmas.Map.Text.{is_eq-slice_cmp}
-use Rattle.defs_tree.proofs.Common.{[], alias, ap, arith, array, bad_value, Bool, boolean, bytes_eq-Decides, Decides, Equal, false, Greater, hash, integer, item, Items, items_cmp, Less, List, nat_tests, no_items, no_pairs, null, pair, Pairs, pairs_cmp, pos, real, refl, string, subst, suc, sym, Tree, tree_cmp, tree_eq, true, ℕ, ℤ, ◌∙◌, ◌∷◌, ◌≡◌}
-use Rattle.defs_tree.specs.Lists.{pair_cmp, list_cmp, pair_list_cmp}
+use Rattle.defs_tree.proofs.Common.{[], alias, ap, arith, array, bad_value, Bool, boolean, bytes_eq-Decides, Decides, Equal, false, hash, integer, item, Items, items_cmp, List, nat_tests, no_items, no_pairs, null, pair, Pairs, pairs_cmp, pos, real, refl, string, subst, suc, sym, Tree, tree_cmp, tree_eq, true, ℕ, ℤ, ◌∙◌, ◌∷◌, ◌≡◌}
 
 -- ---- a tree as a list of numbers, whose order is the tree's
 
@@ -44,45 +43,18 @@ cmp = slice_cmp int_cmp
 int_cmp-pos : (m n : ℕ) → int_cmp (pos m) (pos n) ≡ nat_cmp m n
 int_cmp-pos m n = grind (arith, nat_tests)
 
-nat_cmp-suc : (m n : ℕ) → nat_cmp (suc m) (suc n) ≡ nat_cmp m n
-nat_cmp-suc m n = grind (arith, nat_tests)
-
-then_assoc : (o p q : Ordering) → ordering_then o (ordering_then p q) ≡ ordering_then (ordering_then o p) q
-then_assoc Less p q = refl
-then_assoc Equal p q = refl
-then_assoc Greater p q = refl
-
-then_Equal : (o : Ordering) → ordering_then o Equal ≡ o
-then_Equal Less = refl
-then_Equal Equal = refl
-then_Equal Greater = refl
-
 text_same : (s t : List ℕ) (q r : List ℤ) → cmp (text_code s q) (text_code t r) ≡ ordering_then (slice_cmp nat_cmp s t) (cmp q r)
 text_same [] [] q r = refl
-text_same [] (n ∷ ns) q r = ap (λ o. ordering_then o (cmp q (text_code ns r))) (int_cmp-pos 0 (suc n) ∙ less n)
-  where
-    less : (n : ℕ) → nat_cmp 0 (suc n) ≡ Less
-    less n = grind (arith, nat_tests)
-text_same (m ∷ ms) [] q r = ap (λ o. ordering_then o (cmp (text_code ms q) r)) (int_cmp-pos (suc m) 0 ∙ greater m)
-  where
-    greater : (n : ℕ) → nat_cmp (suc n) 0 ≡ Greater
-    greater n = grind (arith, nat_tests)
-text_same (m ∷ ms) (n ∷ ns) q r =
-    (λ i. ordering_then ((int_cmp-pos (suc m) (suc n) ∙ nat_cmp-suc m n) i) (text_same ms ns q r i))
-    ∙ then_assoc (nat_cmp m n) (slice_cmp nat_cmp ms ns) (cmp q r)
-
-bool_same : (b c : Bool) (o : Ordering) → ordering_then (int_cmp (pos (bit b)) (pos (bit c))) o ≡ ordering_then (bool_cmp b c) o
-bool_same false false o = refl
-bool_same false true o = refl
-bool_same true false o = refl
-bool_same true true o = refl
+text_same [] (n ∷ ns) q r = grind (arith, int_cmp-pos)
+text_same (m ∷ ms) [] q r = grind (arith, int_cmp-pos)
+text_same (m ∷ ms) (n ∷ ns) q r = grind (arith, int_cmp-pos, text_same ms ns q r, nat_tests)
 
 mutual
   tree_same : (t u : Tree) (q r : List ℤ) → cmp (tree_code t q) (tree_code u r) ≡ ordering_then (tree_cmp t u) (cmp q r)
   tree_same (real s) (real t) q r = text_same s t q r
   tree_same (integer x) (integer y) q r = refl
   tree_same (string s) (string t) q r = text_same s t q r
-  tree_same (boolean b) (boolean c) q r = bool_same b c (cmp q r)
+  tree_same (boolean b) (boolean c) q r = grind arith
   tree_same (array ts) (array us) q r = items_same ts us q r
   tree_same (hash ps) (hash ss) q r = pairs_same ps ss q r
   tree_same (alias m) (alias n) q r = ap (λ o. ordering_then o (cmp q r)) (int_cmp-pos m n)
@@ -92,23 +64,23 @@ mutual
 
   items_same : (ts us : Items) (q r : List ℤ) → cmp (items_code ts q) (items_code us r) ≡ ordering_then (items_cmp ts us) (cmp q r)
   items_same no_items no_items q r = refl
-  items_same no_items (item u us) q r = refl
-  items_same (item t ts) no_items q r = refl
   items_same (item t ts) (item u us) q r =
-      tree_same t u (items_code ts q) (items_code us r) ∙ ap (ordering_then (tree_cmp t u)) (items_same ts us q r) ∙ then_assoc (tree_cmp t u) (items_cmp ts us) (cmp q r)
+      grind (arith, tree_same t u (items_code ts q) (items_code us r), items_same ts us q r)
+  items_same ts us q r = refl
 
   pairs_same : (ps ss : Pairs) (q r : List ℤ) → cmp (pairs_code ps q) (pairs_code ss r) ≡ ordering_then (pairs_cmp ps ss) (cmp q r)
   pairs_same no_pairs no_pairs q r = refl
-  pairs_same no_pairs (pair l w ss) q r = refl
-  pairs_same (pair k v ps) no_pairs q r = refl
   pairs_same (pair k v ps) (pair l w ss) q r =
-      tree_same k l (tree_code v (pairs_code ps q)) (tree_code w (pairs_code ss r))
-      ∙ ap (ordering_then (tree_cmp k l)) (tree_same v w (pairs_code ps q) (pairs_code ss r) ∙ ap (ordering_then (tree_cmp v w)) (pairs_same ps ss q r))
-      ∙ ap (ordering_then (tree_cmp k l)) (then_assoc (tree_cmp v w) (pairs_cmp ps ss) (cmp q r))
-      ∙ then_assoc (tree_cmp k l) (ordering_then (tree_cmp v w) (pairs_cmp ps ss)) (cmp q r)
+      grind (
+        arith,
+        tree_same k l (tree_code v (pairs_code ps q)) (tree_code w (pairs_code ss r)),
+        tree_same v w (pairs_code ps q) (pairs_code ss r),
+        pairs_same ps ss q r,
+      )
+  pairs_same ps ss q r = refl
 
 by_code : (t u : Tree) → cmp (tree_code t []) (tree_code u []) ≡ tree_cmp t u
-by_code t u = tree_same t u [] [] ∙ then_Equal (tree_cmp t u)
+by_code t u = tree_same t u [] [] ∙ (grind arith)
 
 pub tree_cmp_total : IsTotalOrder tree_cmp
 tree_cmp_total = subst IsTotalOrder (λ i t u. by_code t u i) (on_total (λ t. tree_code t []) (lists_total int_cmp_total))
@@ -121,72 +93,29 @@ tree_eq_equiv = eq_by_cmp_equiv tree_cmp_total
 text_tied : (s t : List ℕ) → slice_cmp nat_cmp s t ≡ Equal → s ≡ t
 text_tied s t e = (bytes_eq-Decides s t).0 (sym (is_eq-slice_cmp s t) ∙ ap is_eq e)
 
-nat_tied : (m n : ℕ) → nat_cmp m n ≡ Equal → m ≡ n
-nat_tied m n e = ranked m n Equal (sym e)
-
-int_tied : (x y : ℤ) → int_cmp x y ≡ Equal → x ≡ y
-int_tied x y e = int_ranked x y Equal (sym e)
-
-bool_tied : (b c : Bool) → bool_cmp b c ≡ Equal → b ≡ c
-bool_tied false false e = refl
-bool_tied false true e = cc
-bool_tied true false e = cc
-bool_tied true true e = refl
-
-first_tied : (o p : Ordering) → ordering_then o p ≡ Equal → o ≡ Equal
-first_tied Less p e = e
-first_tied Equal p e = refl
-first_tied Greater p e = e
-
-second_tied : (o p : Ordering) → ordering_then o p ≡ Equal → p ≡ Equal
-second_tied Less p e = cc
-second_tied Equal p e = e
-second_tied Greater p e = cc
-
 mutual
   pub tree_tied : (t u : Tree) → tree_cmp t u ≡ Equal → t ≡ u
   tree_tied (real s) (real t) e = ap real (text_tied s t e)
-  tree_tied (integer x) (integer y) e = ap integer (int_tied x y e)
+  tree_tied (integer x) (integer y) e = ap integer (int_ranked x y Equal (sym e))
   tree_tied (string s) (string t) e = ap string (text_tied s t e)
-  tree_tied (boolean b) (boolean c) e = ap boolean (bool_tied b c e)
+  tree_tied (boolean b) (boolean c) e = ap boolean (grind arith)
   tree_tied (array ts) (array us) e = ap array (items_tied ts us e)
   tree_tied (hash ps) (hash qs) e = ap hash (pairs_tied ps qs e)
-  tree_tied (alias m) (alias n) e = ap alias (nat_tied m n e)
+  tree_tied (alias m) (alias n) e = ap alias (ranked m n Equal (sym e))
   tree_tied null null e = refl
   tree_tied bad_value bad_value e = refl
   tree_tied t u e = cc
 
   items_tied : (ts us : Items) → items_cmp ts us ≡ Equal → ts ≡ us
   items_tied no_items no_items e = refl
-  items_tied no_items (item u us) e = cc
-  items_tied (item t ts) no_items e = cc
-  items_tied (item t ts) (item u us) e =
-      λ i. item (tree_tied t u (first_tied (tree_cmp t u) (items_cmp ts us) e) i) (items_tied ts us (second_tied (tree_cmp t u) (items_cmp ts us) e) i)
+  items_tied (item t ts) (item u us) e = grind (arith, tree_tied t u, items_tied ts us)
+  items_tied ts us e = cc
 
   pairs_tied : (ps qs : Pairs) → pairs_cmp ps qs ≡ Equal → ps ≡ qs
   pairs_tied no_pairs no_pairs e = refl
-  pairs_tied no_pairs (pair l w qs) e = cc
-  pairs_tied (pair k v ps) no_pairs e = cc
-  pairs_tied (pair k v ps) (pair l w qs) e =
-      let f : ordering_then (tree_cmp v w) (pairs_cmp ps qs) ≡ Equal = second_tied (tree_cmp k l) (ordering_then (tree_cmp v w) (pairs_cmp ps qs)) e in
-      λ i. pair (tree_tied k l (first_tied (tree_cmp k l) (ordering_then (tree_cmp v w) (pairs_cmp ps qs)) e) i) (tree_tied v w (first_tied (tree_cmp v w) (pairs_cmp ps qs) f) i) (pairs_tied ps qs (second_tied (tree_cmp v w) (pairs_cmp ps qs) f) i)
+  pairs_tied (pair k v ps) (pair l w qs) e = grind (arith, tree_tied k l, tree_tied v w, pairs_tied ps qs)
+  pairs_tied ps qs e = cc
 
 -- the test holds of the same tree alone
 pub tree_eq_decides : (t u : Tree) → Decides (tree_eq t u) (t ≡ u)
-tree_eq_decides t u = (λ e. tree_tied t u (of_eq (tree_cmp t u) e), λ e. ap (λ x. tree_eq t x) (sym e) ∙ ap is_eq (tied_itself tree_cmp_total t))
-  where
-    of_eq : (o : Ordering) → is_eq o ≡ true → o ≡ Equal
-    of_eq Less e = cc
-    of_eq Equal e = refl
-    of_eq Greater e = cc
-
--- ---- lists of trees and of pairs
-
-pub list_cmp_total : IsTotalOrder list_cmp
-list_cmp_total = lists_total tree_cmp_total
-
-pub pair_cmp_total : IsTotalOrder pair_cmp
-pair_cmp_total = then_total (on_total (λ (p : Tree × Tree). p.0) tree_cmp_total) (on_total (λ (p : Tree × Tree). p.1) tree_cmp_total)
-
-pub pair_list_cmp_total : IsTotalOrder pair_list_cmp
-pair_list_cmp_total = lists_total pair_cmp_total
+tree_eq_decides t u = grind (arith, tree_tied, tree_cmp_total)

@@ -1,5 +1,5 @@
 -- Laid over one another, trees with distinct keys have distinct keys.
-use Rattle.defs_tree.proofs.Common.{[], AllPairsDistinct, ap, AreDistinct, Bool, cond, false, has_key, hash, is_some, IsDistinct, Lacks, List, lookup, new_pairs, no_pairs, None, not, Option, option_map_or, overlay, pair, pair_list_of, Pairs, pairs_of, pairs_under, refl, Some, subst, sym, Tree, tree_eq, true, true≢false, ◌++◌, ◌∙◌, ◌∷◌, ◌≡◌}
+use Rattle.defs_tree.proofs.Common.{[], AllPairsDistinct, ap, AreDistinct, cond, has_key, hash, is_some, IsDistinct, Lacks, List, lookup, new_pairs, no_pairs, Option, option_map_or, overlay, pair, pair_list_of, Pairs, pairs_of, pairs_under, refl, Some, Tree, true, ◌++◌, ◌∷◌, ◌≡◌, arith}
 use Rattle.defs_tree.proofs.PairsLaws.{tree_eq-itself}
 use Rattle.defs_tree.proofs.TypingLaws.{OfSome}
 
@@ -9,7 +9,7 @@ Each K V [] = Unit {0}
 Each K V (p ∷ ps) = (K p.0 × V p.1) × Each K V ps
 
 -- each key and each value has distinct keys
-abbrev EachDistinct : List (Tree × Tree) → Type 0
+abbrev pub EachDistinct : List (Tree × Tree) → Type 0
 EachDistinct ps = Each IsDistinct IsDistinct ps
 
 -- each of these keys is one of those
@@ -21,11 +21,11 @@ pub list_of_pairs : (ps : List (Tree × Tree)) → pair_list_of (pairs_of ps) �
 list_of_pairs [] = refl
 list_of_pairs (p ∷ ps) = ap (λ qs. p ∷ qs) (list_of_pairs ps)
 
-EachDistinct-list : (ps : Pairs) → AllPairsDistinct ps → EachDistinct (pair_list_of ps)
+pub EachDistinct-list : (ps : Pairs) → AllPairsDistinct ps → EachDistinct (pair_list_of ps)
 EachDistinct-list no_pairs h = tt
 EachDistinct-list (pair k v ps) h = ((h.0, h.1), EachDistinct-list ps h.2)
 
-EachDistinct-pairs : (ps : List (Tree × Tree)) → EachDistinct ps → AllPairsDistinct (pairs_of ps)
+pub EachDistinct-pairs : (ps : List (Tree × Tree)) → EachDistinct ps → AllPairsDistinct (pairs_of ps)
 EachDistinct-pairs [] h = tt
 EachDistinct-pairs (p ∷ ps) h = (h.0.0, h.0.1, EachDistinct-pairs ps h.1)
 
@@ -36,46 +36,26 @@ module _ (K V : Tree → Type 0) where
 
   pub each_lookup : (k : Tree) (ps : List (Tree × Tree)) → Each K V ps → OfSome V (lookup k ps)
   each_lookup k [] h = tt
-  each_lookup k (p ∷ ps) h = by (tree_eq k p.0) (each_lookup k ps h.1)
-    where
-      by : (b : Bool) → OfSome V (lookup k ps) → OfSome V (cond b (Some p.1) (lookup k ps))
-      by true r = h.0.1
-      by false r = r
+  each_lookup k (p ∷ ps) h = grind (arith, each_lookup k ps h.1)
 
   pub each_new : (those ps : List (Tree × Tree)) → Each K V ps → Each K V (new_pairs those ps)
   each_new those [] h = tt
-  each_new those (p ∷ ps) h = by (has_key p.0 those) (each_new those ps h.1)
-    where
-      by : (b : Bool) → Each K V (new_pairs those ps) → Each K V (cond (not b) (p ∷ new_pairs those ps) (new_pairs those ps))
-      by true r = r
-      by false r = (h.0, r)
+  each_new those (p ∷ ps) h = grind (arith, each_new those ps h.1)
 
 -- ---- the new pairs
 
 Lacks-new : (l : Tree) (those ps : List (Tree × Tree)) → Lacks l ps → Lacks l (new_pairs those ps)
 Lacks-new l those [] h = tt
-Lacks-new l those (p ∷ ps) h = by (has_key p.0 those) (Lacks-new l those ps h.1)
-  where
-    by : (b : Bool) → Lacks l (new_pairs those ps) → Lacks l (cond (not b) (p ∷ new_pairs those ps) (new_pairs those ps))
-    by true r = r
-    by false r = (h.0, r)
+Lacks-new l those (p ∷ ps) h = grind (arith, Lacks-new l those ps h.1)
 
 AreDistinct-new : (those ps : List (Tree × Tree)) → AreDistinct ps → AreDistinct (new_pairs those ps)
 AreDistinct-new those [] h = tt
-AreDistinct-new those (p ∷ ps) h = by (has_key p.0 those) (Lacks-new p.0 those ps h.0) (AreDistinct-new those ps h.1)
-  where
-    by : (b : Bool) → Lacks p.0 (new_pairs those ps) → AreDistinct (new_pairs those ps) → AreDistinct (cond (not b) (p ∷ new_pairs those ps) (new_pairs those ps))
-    by true l r = r
-    by false l r = (l, r)
+AreDistinct-new those (p ∷ ps) h = grind (arith, Lacks-new, AreDistinct-new those ps h.1)
 
 -- they lack each of those keys
 new_lacks : (l : Tree) (those ps : List (Tree × Tree)) → has_key l those ≡ true → Lacks l (new_pairs those ps)
 new_lacks l those [] h = tt
-new_lacks l those (p ∷ ps) h = by (has_key p.0 those) refl (new_lacks l those ps h)
-  where
-    by : (b : Bool) → has_key p.0 those ≡ b → Lacks l (new_pairs those ps) → Lacks l (cond (not b) (p ∷ new_pairs those ps) (new_pairs those ps))
-    by true e r = r
-    by false e r = (λ is. true≢false (sym h ∙ ap (λ k. has_key k those) is ∙ e), r)
+new_lacks l those (p ∷ ps) h = grind (arith, new_lacks l those ps h)
 
 -- ---- the left's pairs
 
@@ -93,11 +73,7 @@ KeysWithin-under those us (pair k v ps) h = (h.0, KeysWithin-under those us ps h
 
 KeysWithin-more : (q : Tree × Tree) (those ps : List (Tree × Tree)) → KeysWithin those ps → KeysWithin (q ∷ those) ps
 KeysWithin-more q those [] h = tt
-KeysWithin-more q those (p ∷ ps) h = (by (tree_eq p.0 q.0), KeysWithin-more q those ps h.1)
-  where
-    by : (b : Bool) → is_some (cond b (Some q.1) (lookup p.0 those)) ≡ true
-    by true = refl
-    by false = h.0
+KeysWithin-more q those (p ∷ ps) h = grind (arith, KeysWithin-more q those ps h.1)
 
 KeysWithin-itself : (ps : List (Tree × Tree)) → KeysWithin ps ps
 KeysWithin-itself [] = tt
@@ -121,19 +97,12 @@ laid_distinct ps us h g =
 
 -- a value with what may be laid over it
 pub laid_value : (V : Tree → Type 0) (v : Tree) (laid : Tree → Tree) (o : Option Tree) → V v → ((w : Tree) → V w → V (laid w)) → OfSome V o → V (option_map_or laid o v)
-laid_value V v laid None h f g = h
-laid_value V v laid (Some w) h f g = f w g
+laid_value a v laid b h f g = grind arith
 
 -- ---- whole trees
 
 whole_distinct : (ps qs : Pairs) → IsDistinct (hash ps) → IsDistinct (hash qs) → EachDistinct (pairs_under (pair_list_of qs) ps) → IsDistinct (overlay (hash ps) (hash qs))
-whole_distinct ps qs h g each =
-    let ts = pair_list_of ps in
-    let us = pair_list_of qs in
-    let under = pairs_under us ps in (
-      subst AreDistinct (sym (list_of_pairs (under ++ new_pairs ts us))) (laid_distinct ps us h.0 g.0),
-      EachDistinct-pairs (under ++ new_pairs ts us) (each_append IsDistinct IsDistinct under (new_pairs ts us) each (each_new IsDistinct IsDistinct ts us (EachDistinct-list qs g.1))),
-    )
+whole_distinct ps qs h g each = grind (arith, list_of_pairs, laid_distinct, EachDistinct-pairs, each_append, each_new, EachDistinct-list)
 
 mutual
   pub overlay_distinct : (t u : Tree) → IsDistinct t → IsDistinct u → IsDistinct (overlay t u)
@@ -142,7 +111,4 @@ mutual
 
   under_distinct : (us : List (Tree × Tree)) (ps : Pairs) → EachDistinct us → AllPairsDistinct ps → EachDistinct (pairs_under us ps)
   under_distinct us no_pairs e h = tt
-  under_distinct us (pair k v ps) e h = (
-    (h.0, laid_value IsDistinct v (overlay v) (lookup k us) h.1 (λ w g. overlay_distinct v w h.1 g) (each_lookup IsDistinct IsDistinct k us e)),
-    under_distinct us ps e h.2,
-  )
+  under_distinct us (pair k v ps) e h = grind (arith, laid_value, each_lookup, overlay_distinct v, under_distinct us ps e h.2)

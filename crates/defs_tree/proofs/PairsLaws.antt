@@ -1,5 +1,5 @@
 -- What inserting does to a list of pairs.
-use Rattle.defs_tree.proofs.Common.{[], ap, AreDistinct, Bool, cond, false, false_from_ne_true, filter, insert, Lacks, List, lookup, None, not, refl, Some, subst, sym, Tree, tree_eq, true, true≢false, without, ◌++◌, ◌∙◌, ◌∷◌, ◌≡◌, ◌≢◌}
+use Rattle.defs_tree.proofs.Common.{[], ap, AreDistinct, cond, false, false_from_ne_true, filter, insert, Lacks, List, lookup, None, not, refl, Some, sym, Tree, tree_eq, true, without, ◌++◌, ◌∙◌, ◌∷◌, ◌≡◌, ◌≢◌, arith}
 use Rattle.defs_tree.proofs.OrderLaws.{tree_eq_decides}
 
 pub tree_eq-itself : (t : Tree) → tree_eq t t ≡ true
@@ -8,33 +8,18 @@ tree_eq-itself t = (tree_eq_decides t t).1 refl
 pub tree_eq-other : (t u : Tree) → t ≢ u → tree_eq t u ≡ false
 tree_eq-other t u n = false_from_ne_true (tree_eq t u) (λ e. n ((tree_eq_decides t u).0 e))
 
-apart : (k l : Tree) → tree_eq k l ≡ false → k ≢ l
-apart k l f e = true≢false (sym ((tree_eq_decides k l).1 e) ∙ f)
-
 pub Lacks-without : (k l : Tree) (ps : List (Tree × Tree)) → Lacks l ps → Lacks l (without k ps)
 Lacks-without k l [] h = tt
-Lacks-without k l (p ∷ ps) h = by (tree_eq k p.0) (Lacks-without k l ps h.1)
-  where
-    by : (b : Bool) → Lacks l (without k ps) → Lacks l (cond b ps (p ∷ without k ps))
-    by true r = h.1
-    by false r = (h.0, r)
+Lacks-without k l (p ∷ ps) h = grind (arith, Lacks-without k l ps h.1)
 
 pub AreDistinct-without : (k : Tree) (ps : List (Tree × Tree)) → AreDistinct ps → AreDistinct (without k ps)
 AreDistinct-without k [] h = tt
-AreDistinct-without k (p ∷ ps) h = by (tree_eq k p.0) (AreDistinct-without k ps h.1)
-  where
-    by : (b : Bool) → AreDistinct (without k ps) → AreDistinct (cond b ps (p ∷ without k ps))
-    by true r = h.1
-    by false r = (Lacks-without k p.0 ps h.0, r)
+AreDistinct-without k (p ∷ ps) h = grind (arith, Lacks-without, AreDistinct-without k ps h.1)
 
 -- of distinct keys, none is left that was taken out
 pub Lacks-itself : (k : Tree) (ps : List (Tree × Tree)) → AreDistinct ps → Lacks k (without k ps)
 Lacks-itself k [] h = tt
-Lacks-itself k (p ∷ ps) h = by (tree_eq k p.0) refl (Lacks-itself k ps h.1)
-  where
-    by : (b : Bool) → tree_eq k p.0 ≡ b → Lacks k (without k ps) → Lacks k (cond b ps (p ∷ without k ps))
-    by true e r = subst (λ t. Lacks t ps) (sym ((tree_eq_decides k p.0).0 e)) h.0
-    by false e r = (apart k p.0 e, r)
+Lacks-itself k (p ∷ ps) h = grind (arith, tree_eq_decides, Lacks-itself k ps h.1)
 
 pub Lacks-append : (l k v : Tree) (ps : List (Tree × Tree)) → Lacks l ps → l ≢ k → Lacks l (ps ++ (k, v) ∷ [])
 Lacks-append l k v [] h n = (n, tt)
@@ -61,11 +46,7 @@ lookup-append_other k v l (p ∷ ps) n = ap (λ o. cond (tree_eq l p.0) (Some p.
 
 pub lookup-without_other : (k l : Tree) (ps : List (Tree × Tree)) → l ≢ k → lookup l (without k ps) ≡ lookup l ps
 lookup-without_other k l [] n = refl
-lookup-without_other k l (p ∷ ps) n = by (tree_eq k p.0) refl (lookup-without_other k l ps n)
-  where
-    by : (b : Bool) → tree_eq k p.0 ≡ b → lookup l (without k ps) ≡ lookup l ps → lookup l (cond b ps (p ∷ without k ps)) ≡ lookup l (p ∷ ps)
-    by true e r = sym (ap (λ b. cond b (Some p.1) (lookup l ps)) (tree_eq-other l p.0 (λ is. n (is ∙ sym ((tree_eq_decides k p.0).0 e)))))
-    by false e r = ap (λ o. cond (tree_eq l p.0) (Some p.1) o) r
+lookup-without_other k l (p ∷ ps) n = grind (arith, tree_eq-other, tree_eq_decides, lookup-without_other k l ps n)
 
 pub lookup_insert_other : (k v l : Tree) (ps : List (Tree × Tree)) → l ≢ k → lookup l (insert k v ps) ≡ lookup l ps
 lookup_insert_other k v l ps n = lookup-append_other k v l (without k ps) n ∙ lookup-without_other k l ps n
@@ -83,11 +64,7 @@ others-lacking k (p ∷ ps) h = ap (λ b. cond (not b) (p ∷ others k ps) (othe
 without-others : (k : Tree) (ps : List (Tree × Tree)) → AreDistinct ps → without k ps ≡ others k ps
 unfolding others
 without-others k [] h = refl
-without-others k (p ∷ ps) h = by (tree_eq k p.0) refl (without-others k ps h.1)
-  where
-    by : (b : Bool) → tree_eq k p.0 ≡ b → without k ps ≡ others k ps → cond b ps (p ∷ without k ps) ≡ cond (not b) (p ∷ others k ps) (others k ps)
-    by true e r = sym (others-lacking k ps (subst (λ t. Lacks t ps) (sym ((tree_eq_decides k p.0).0 e)) h.0))
-    by false e r = ap (λ qs. p ∷ qs) r
+without-others k (p ∷ ps) h = grind (arith, others, others-lacking, tree_eq_decides, without-others k ps h.1)
 
 pub insert_in_order : (k v : Tree) (ps : List (Tree × Tree)) → AreDistinct ps → insert k v ps ≡ filter (λ p. not (tree_eq k p.0)) ps ++ (k, v) ∷ []
 unfolding others

@@ -1,5 +1,5 @@
 -- Where a key's pair stands in a list of pairs, and what that says of the list. For code that searches.
-use Rattle.defs_tree.proofs.Common.{[], ap, AreDistinct, arith, Bool, cond, false, inl, inr, Lacks, length, List, lookup, None, Option, option_and_then, option_map, place_of, refl, Some, subst, suc, sym, Tree, tree_eq, true, value_at, with_value, with_value_at, without, zero, ℕ, ◌<◌, ◌∙◌, ◌∷◌, ◌≡◌, ◌⊎◌}
+use Rattle.defs_tree.proofs.Common.{[], ap, AreDistinct, arith, cond, false, inl, inr, Lacks, length, List, lookup, None, Option, option_and_then, place_of, refl, Some, subst, suc, sym, Tree, tree_eq, true, value_at, with_value, with_value_at, without, zero, ℕ, ◌<◌, ◌∙◌, ◌∷◌, ◌≡◌, ◌⊎◌}
 
 -- a place of the key: within the list, with the key's value
 pub record IsPlaceOf (k : Tree) (us : List (Tree × Tree)) (i : ℕ) : Type 0 where
@@ -7,22 +7,13 @@ pub record IsPlaceOf (k : Tree) (us : List (Tree × Tree)) (i : ℕ) : Type 0 wh
   pub found : value_at i us ≡ lookup k us
   pub changed : (t : Tree) → with_value_at i t us ≡ with_value k t us
 
-shift_place : (b : Bool) (o : Option ℕ) (i : ℕ) → Some i ≡ cond b (Some 0) (option_map suc o) → ((b ≡ true) × (i ≡ 0)) ⊎ ((b ≡ false) × ((j : ℕ) × (i ≡ suc j) × (Some j ≡ o)))
-shift_place true o i e = inl (refl, cc)
-shift_place false None i e = cc
-shift_place false (Some j) i e = inr (refl, (j, cc, refl))
-
 pub place_in : (k : Tree) (us : List (Tree × Tree)) (i : ℕ) → Some i ≡ place_of k us → IsPlaceOf k us i
 place_in k [] i e = cc
-place_in k (u ∷ us) i e = from (shift_place (tree_eq k u.0) (place_of k us) i e) (place_in k us)
+place_in k (u ∷ us) i e = from (grind arith) (place_in k us)
   where
     from : ((tree_eq k u.0 ≡ true) × (i ≡ 0)) ⊎ ((tree_eq k u.0 ≡ false) × ((j : ℕ) × (i ≡ suc j) × (Some j ≡ place_of k us)))
         → ((j : ℕ) → Some j ≡ place_of k us → IsPlaceOf k us j) → IsPlaceOf k (u ∷ us) i
-    from (inl h) later = subst (IsPlaceOf k (u ∷ us)) (sym h.1) (record {
-      within = omega arith;
-      found = sym (ap (λ b. cond b (Some u.1) (lookup k us)) h.0);
-      changed = λ t. sym (ap (λ b. cond b ((u.0, t) ∷ us) (u ∷ with_value k t us)) h.0);
-    })
+    from (inl h) later = grind arith
     from (inr h) later =
         let r = later h.1.0 h.1.2 in
         subst (IsPlaceOf k (u ∷ us)) (sym h.1.1) (record {
@@ -37,21 +28,9 @@ pub record IsAbsent (k : Tree) (ps : List (Tree × Tree)) : Type 0 where
   pub same : without k ps ≡ ps
   pub unchanged : (t : Tree) → with_value k t ps ≡ ps
 
-not_placed : (b : Bool) (o : Option ℕ) → None ≡ cond b (Some 0) (option_map suc o) → (b ≡ false) × (None ≡ o)
-not_placed true o e = cc
-not_placed false None e = (refl, refl)
-not_placed false (Some j) e = cc
-
 pub absent : (k : Tree) (ps : List (Tree × Tree)) → None ≡ place_of k ps → IsAbsent k ps
-absent k [] e = record { unfound = refl; same = refl; unchanged = λ t. refl }
-absent k (p ∷ ps) e =
-    let f = not_placed (tree_eq k p.0) (place_of k ps) e in
-    let r = absent k ps f.1 in
-    record {
-      unfound = ap (λ b. cond b (Some p.1) (lookup k ps)) f.0 ∙ r.unfound;
-      same = ap (λ b. cond b ps (p ∷ without k ps)) f.0 ∙ ap (λ qs. p ∷ qs) r.same;
-      unchanged = λ t. ap (λ b. cond b ((p.0, t) ∷ ps) (p ∷ with_value k t ps)) f.0 ∙ ap (λ qs. p ∷ qs) (r.unchanged t);
-    }
+absent k [] e = grind (arith)
+absent k (p ∷ ps) e = grind (arith, absent k ps)
 
 -- the value at the key's place is the key's value
 pub place_finds : (k : Tree) (ps : List (Tree × Tree)) → option_and_then (λ i. value_at i ps) (place_of k ps) ≡ lookup k ps
@@ -72,19 +51,3 @@ pub AreDistinct-with_value_at : (i : ℕ) (t : Tree) (us : List (Tree × Tree)) 
 AreDistinct-with_value_at i t [] h = tt
 AreDistinct-with_value_at zero t (u ∷ us) h = h
 AreDistinct-with_value_at (suc i) t (u ∷ us) h = (Lacks-with_value_at u.0 i t us h.0, AreDistinct-with_value_at i t us h.1)
-
-Lacks-with_value : (l k t : Tree) (us : List (Tree × Tree)) → Lacks l us → Lacks l (with_value k t us)
-Lacks-with_value l k t [] h = tt
-Lacks-with_value l k t (u ∷ us) h = by (tree_eq k u.0) (Lacks-with_value l k t us h.1)
-  where
-    by : (b : Bool) → Lacks l (with_value k t us) → Lacks l (cond b ((u.0, t) ∷ us) (u ∷ with_value k t us))
-    by true r = h
-    by false r = (h.0, r)
-
-pub AreDistinct-with_value : (k t : Tree) (us : List (Tree × Tree)) → AreDistinct us → AreDistinct (with_value k t us)
-AreDistinct-with_value k t [] h = tt
-AreDistinct-with_value k t (u ∷ us) h = by (tree_eq k u.0) (AreDistinct-with_value k t us h.1)
-  where
-    by : (b : Bool) → AreDistinct (with_value k t us) → AreDistinct (cond b ((u.0, t) ∷ us) (u ∷ with_value k t us))
-    by true r = h
-    by false r = (Lacks-with_value u.0 k t us h.0, r)

@@ -1,78 +1,40 @@
 -- The spelling of a scalar, where it is plain, stands for that scalar.
 use Rattle.std.specs.Fmt.{signed_decimal as decimal_digits}
-use Rattle.defs_tree.proofs.Common.{[], after_prefix, alias, AllDigits, and_left, and_parts, ap, arith, array, bad_value, Bool, boolean, bytes_eq, cond-false, decimal, decimal_is_IsNumeral, digit_from_value, digit_value, digits_value, false, false_words, fits_i64, hash, if◌then◌else◌, integer, is_among, is_decimal, is_digit, is_quoted, is_string, IsNumeral, IsSpeltPlain, List, list_all, lt-ltb, ltb-true, nat_lt, ne_eqb, negsuc, None, not, not-false, not-true, null, null_words, number, option_and_then, or_from, or_parts, pos, real, refl, signed_decimal, Some, spelling, string, suc, sym, Tree, true, true_words, typing, ℕ, ℤ, ◌&&◌, ◌<◌, ◌==◌, ◌^◌, ◌∙◌, ◌∷◌, ◌≡◌, ◌≢◌, ◌≤◌}
+use Rattle.defs_tree.proofs.Common.{[], AllDigits, and_parts, ap, arith, Bool, decimal, decimal_is_IsNumeral, digit_from_value, digits_value, false, fits_i64, if◌then◌else◌, integer, is_among, is_decimal, is_quoted, is_string, IsNumeral, IsSpeltPlain, List, list_all, lt-ltb, ltb-true, nat_lt, ne_eqb, negsuc, None, not, not-false, not-true, number, option_and_then, or_parts, pos, refl, signed_decimal, Some, spelling, string, suc, Tree, true, typing, ℕ, ℤ, ◌<◌, ◌^◌, ◌∷◌, ◌≡◌, ◌≢◌, ◌≤◌, nat_tests, eqb-true}
+use Rattle.defs_tree.proofs.Parsing.{all_digits-to}
 use Rattle.defs_tree.proofs.TypingLaws.{typing-real, typing-string}
 
 -- ---- texts that begin with a digit or a minus
-
--- not one of a word's first characters
-abbrev pub IsNumberStart : ℕ → Type 0
-IsNumberStart c = (c < 58) × (c ≢ 43)
 
 -- a word that is empty or begins with a letter or a tilde
 abbrev starts_late : List ℕ → Bool
 starts_late [] = true
 starts_late (c ∷ cs) = nat_lt 57 c
 
-late_word : (w : List ℕ) (c : ℕ) (cs : List ℕ) → starts_late w ≡ true → c < 58 → bytes_eq w (c ∷ cs) ≡ false
-late_word [] c cs h s = refl
-late_word (x ∷ xs) c cs h s = and_left (x == c) (bytes_eq xs cs) (ne_eqb x c (let far : 57 < x = ltb-true 57 x h in λ e. omega arith))
-
 no_late_word : (ws : List (List ℕ)) (c : ℕ) (cs : List ℕ) → list_all starts_late ws ≡ true → c < 58 → is_among ws (c ∷ cs) ≡ false
 no_late_word [] c cs h s = refl
-no_late_word (w ∷ ws) c cs h s =
-    let parts = and_parts (starts_late w) (list_all starts_late ws) h in
-    or_from (bytes_eq w (c ∷ cs)) (is_among ws (c ∷ cs)) (late_word w c cs parts.0 s) (no_late_word ws c cs parts.1 s)
+no_late_word (w ∷ ws) c cs h s = grind (arith, and_parts, no_late_word ws c cs)
 
 -- a second character that is a letter is not found
 abbrev SecondIsEarly : List ℕ → Type 0
 SecondIsEarly [] = Unit {0}
 SecondIsEarly (c ∷ cs) = c < 58
 
-after_letter : (x : ℕ) (c : ℕ) (cs : List ℕ) → 57 < x → SecondIsEarly cs → after_prefix (48 ∷ x ∷ []) (c ∷ cs) ≡ None
-after_letter x c [] h s = by (48 == c)
-  where
-    by : (b : Bool) → (if b then after_prefix (x ∷ []) [] else None) ≡ None
-    by true = refl
-    by false = refl
-after_letter x c (d ∷ ds) h s = by (48 == c) (ne_eqb x d (λ e. omega arith))
-  where
-    by : (b : Bool) → (x == d) ≡ false → (if b then (if x == d then Some ds else None) else None) ≡ None
-    by true e = ap (λ b. if b then Some ds else None) e
-    by false e = refl
-
-after_plus : (c : ℕ) (cs : List ℕ) → c ≢ 43 → after_prefix (43 ∷ []) (c ∷ cs) ≡ None
-after_plus c cs n = ap (λ b. if b then Some cs else None) (ne_eqb 43 c (λ e. n (sym e)))
-
 -- such a text stands for the integer that it writes
 integer_text : (c : ℕ) (cs : List ℕ) (z : ℤ) → c < 58 → c ≢ 43 → SecondIsEarly cs → signed_decimal (c ∷ cs) ≡ Some z → typing (c ∷ cs) ≡ integer z
 unfolding typing
-integer_text c cs z early n second e =
-    rw (
-      after_letter 120 c cs (omega arith) second,
-      after_letter 111 c cs (omega arith) second,
-      after_plus c cs n,
-      no_late_word null_words c cs refl early,
-      no_late_word true_words c cs refl early,
-      no_late_word false_words c cs refl early,
-      e,
-    ) refl
+integer_text c cs z early n second e = grind (arith, nat_tests, eqb-true, no_late_word)
 
 -- ---- the digits of a number
 
-digits-test : (base : ℕ) (ds : List ℕ) → AllDigits base ds → list_all (is_digit base) ds ≡ true
-digits-test base [] h = refl
-digits-test base (d ∷ ds) h = ap (λ b. b && list_all (is_digit base) ds) (lt-ltb (digit_value d) base h.0) ∙ digits-test base ds h.1
-
 number-digits : (d : ℕ) (ds : List ℕ) → AllDigits 10 (d ∷ ds) → number 10 (d ∷ ds) ≡ Some (digits_value 10 (d ∷ ds))
-number-digits d ds h = ap (λ b. if b then Some (digits_value 10 (d ∷ ds)) else None) (digits-test 10 (d ∷ ds) h)
+number-digits d ds h = ap (λ b. if b then Some (digits_value 10 (d ∷ ds)) else None) (all_digits-to 10 (d ∷ ds) h)
 
 fitted : (z : ℤ) → fits_i64 z ≡ true → option_and_then (λ z. if fits_i64 z then Some z else None) (Some z) ≡ Some z
 fitted z h = ap (λ b. if b then Some z else None) h
 
 second_digit : (ds : List ℕ) → AllDigits 10 ds → SecondIsEarly ds
-second_digit [] h = tt
-second_digit (d ∷ ds) h = let r = digit_from_value d h.0 in omega arith
+second_digit a h = grind arith
 
 -- a number's digits
 numeral_text : (ds : List ℕ) (n : ℕ) → IsNumeral 10 ds → digits_value 10 ds ≡ n → n < 2 ^ 63 → typing ds ≡ integer (pos n)
@@ -111,24 +73,6 @@ unquoted_is_string s h = not-false (is_string (typing s)) (or_parts _ (not (is_s
 pub string_back : (s : List ℕ) → is_quoted s ≡ false → typing s ≡ string s
 string_back s h = typing-string s (unquoted_is_string s h)
 
-boolean_back : (b : Bool) → typing (spelling (boolean b)) ≡ boolean b
-unfolding typing is_decimal
-boolean_back true = refl
-boolean_back false = refl
-
-null_back : typing (spelling null) ≡ null
-unfolding typing is_decimal
-null_back = refl
-
 pub spelling_back : (t : Tree) → IsSpeltPlain t → typing (spelling t) ≡ t
-spelling_back (real s) h = typing-real s h
-spelling_back (integer z) h = integer_back z h
-spelling_back (string s) h =
-    let plain = not-true (is_quoted s) h in
-    ap typing (cond-false (is_quoted s) _ s plain) ∙ string_back s plain
-spelling_back (boolean b) h = boolean_back b
-spelling_back null h = null_back
-spelling_back (array ts) h = absurd h
-spelling_back (hash ps) h = absurd h
-spelling_back (alias n) h = absurd h
-spelling_back bad_value h = absurd h
+unfolding typing is_decimal
+spelling_back a h = grind (arith, typing-real, integer_back, not-true, string_back, refl)

@@ -1,5 +1,5 @@
 -- The characters of a text that stands for a real: it isn't empty, and it has no blank, no break and no indicator but signs.
-use Rattle.defs_tree.proofs.Common.{[], and_parts, any_number, arith, at_least_one, Bool, bytes_eq, bytes_eq-Decides, codes, false, in_order, inl, inr, is_among, is_ascii_digit, is_decimal, is_empty, is_exponent, is_exponent_mark, is_in, is_mantissa, is_point, is_real_text, is_sign, List, list_all, nat_tests, one, optional, or_cases, or_left, refl, special_words, subst, true, typing, ℕ, ◌||◌, ◌∷◌, ◌≡◌, ◌⊎◌}
+use Rattle.defs_tree.proofs.Common.{[], and_parts, any_number, arith, at_least_one, Bool, bytes_eq-Decides, codes, false, in_order, inl, inr, is_among, is_ascii_digit, is_decimal, is_empty, is_exponent, is_exponent_mark, is_in, is_mantissa, is_point, is_real_text, is_sign, List, list_all, nat_tests, one, one_of, optional, or_cases, or_left, refl, special_words, true, typing, ℕ, ◌||◌, ◌∷◌, ◌≡◌, ◌⊎◌}
 use Rattle.defs_tree.proofs.GrammarLaws.{IsWithin, IsWithin-followed_by, IsWithin-empty, IsWithin-one, IsWithin-any_number, IsWithin-at_least_one, IsWithin-optional, IsWithin-or, IsWithin-none}
 use Rattle.defs_tree.proofs.TypingLaws.{real_text-cases}
 
@@ -22,69 +22,55 @@ mark_fits c h = grind (arith, nat_tests)
 abbrev Fits : (List ℕ → Bool) → Type 0
 Fits f = IsWithin is_real_character f
 
+abbrev AllFit : List (List ℕ → Bool) → Type 0
+AllFit [] = Unit {0}
+AllFit (f ∷ fs) = Fits f × AllFit fs
+
+in_order_fits : (fs : List (List ℕ → Bool)) → AllFit fs → Fits (λ t. in_order fs t)
+in_order_fits [] h = IsWithin-empty is_real_character
+in_order_fits (f ∷ fs) h = IsWithin-followed_by is_real_character f (λ t. in_order fs t) h.0 (in_order_fits fs h.1)
+
+one_of_fits : (fs : List (List ℕ → Bool)) → AllFit fs → Fits (λ t. one_of fs t)
+one_of_fits [] h = IsWithin-none is_real_character
+one_of_fits (f ∷ fs) h = IsWithin-or is_real_character f (λ t. one_of fs t) h.0 (one_of_fits fs h.1)
+
 digits_fit : Fits (at_least_one is_ascii_digit)
 digits_fit = IsWithin-at_least_one is_real_character is_ascii_digit digit_fits
 
 any_digits_fit : Fits (any_number is_ascii_digit)
 any_digits_fit = IsWithin-any_number is_real_character is_ascii_digit digit_fits
 
-one_point_fits : Fits (one is_point)
-one_point_fits = IsWithin-one is_real_character is_point point_fits
-
 optional_sign_fits : Fits (optional (one is_sign))
 optional_sign_fits = IsWithin-optional is_real_character (one is_sign) (IsWithin-one is_real_character is_sign sign_fits)
 
-in_order_fits : (f : List ℕ → Bool) (fs : List (List ℕ → Bool)) → Fits f → Fits (λ t. in_order fs t) → Fits (λ t. in_order (f ∷ fs) t)
-in_order_fits f fs h e = IsWithin-followed_by is_real_character f (λ t. in_order fs t) h e
-
 exponent_fits : Fits is_exponent
 exponent_fits =
-    in_order_fits (one is_exponent_mark) (optional (one is_sign) ∷ at_least_one is_ascii_digit ∷ []) (IsWithin-one is_real_character is_exponent_mark mark_fits)
-    (in_order_fits (optional (one is_sign)) (at_least_one is_ascii_digit ∷ []) optional_sign_fits
-    (in_order_fits (at_least_one is_ascii_digit) [] digits_fit (IsWithin-empty is_real_character)))
+    in_order_fits (one is_exponent_mark ∷ optional (one is_sign) ∷ at_least_one is_ascii_digit ∷ [])
+    (IsWithin-one is_real_character is_exponent_mark mark_fits, (optional_sign_fits, (digits_fit, tt)))
 
-either_fits : (f g : List ℕ → Bool) → Fits f → Fits g → Fits (λ t. f t || g t)
-either_fits f g h e = IsWithin-or is_real_character f g h e
+first_mantissa : List (List ℕ → Bool)
+first_mantissa = at_least_one is_ascii_digit ∷ one is_point ∷ any_number is_ascii_digit ∷ []
 
-one_point_part : (fs : List (List ℕ → Bool)) → Fits (λ t. in_order fs t) → Fits (λ t. in_order (one is_point ∷ fs) t)
-one_point_part fs h = in_order_fits (one is_point) fs one_point_fits h
-
-last_part : (f : List ℕ → Bool) → Fits f → Fits (λ t. in_order (f ∷ []) t)
-last_part f h = in_order_fits f [] h (IsWithin-empty is_real_character)
-
-abbrev first_mantissa : List ℕ → Bool
-first_mantissa t = in_order (at_least_one is_ascii_digit ∷ one is_point ∷ any_number is_ascii_digit ∷ []) t
-
-abbrev late_mantissa : List ℕ → Bool
-late_mantissa t = in_order (any_number is_ascii_digit ∷ one is_point ∷ at_least_one is_ascii_digit ∷ []) t
+late_mantissa : List (List ℕ → Bool)
+late_mantissa = any_number is_ascii_digit ∷ one is_point ∷ at_least_one is_ascii_digit ∷ []
 
 mantissa_fits : Fits is_mantissa
+unfolding first_mantissa late_mantissa
 mantissa_fits =
-    either_fits (at_least_one is_ascii_digit) (λ t. first_mantissa t || (late_mantissa t || false)) digits_fit
-    (either_fits first_mantissa (λ t. late_mantissa t || false)
-    (in_order_fits (at_least_one is_ascii_digit) (one is_point ∷ any_number is_ascii_digit ∷ []) digits_fit
-    (one_point_part (any_number is_ascii_digit ∷ []) (last_part (any_number is_ascii_digit) any_digits_fit)))
-    (either_fits late_mantissa (λ t. false)
-    (in_order_fits (any_number is_ascii_digit) (one is_point ∷ at_least_one is_ascii_digit ∷ []) any_digits_fit
-    (one_point_part (at_least_one is_ascii_digit ∷ []) (last_part (at_least_one is_ascii_digit) digits_fit)))
-    (IsWithin-none is_real_character)))
+    let point = IsWithin-one is_real_character is_point point_fits in
+    let first = in_order_fits first_mantissa (digits_fit, (point, (any_digits_fit, tt))) in
+    let late = in_order_fits late_mantissa (any_digits_fit, (point, (digits_fit, tt))) in
+    one_of_fits (at_least_one is_ascii_digit ∷ in_order first_mantissa ∷ in_order late_mantissa ∷ []) (digits_fit, (first, (late, tt)))
 
 pub decimal-characters : (t : List ℕ) → is_decimal t ≡ true → list_all is_real_character t ≡ true
 unfolding is_decimal
 decimal-characters =
-    in_order_fits (optional (one is_sign)) (is_mantissa ∷ optional is_exponent ∷ []) optional_sign_fits
-    (in_order_fits is_mantissa (optional is_exponent ∷ []) mantissa_fits
-    (last_part (optional is_exponent) (IsWithin-optional is_real_character is_exponent exponent_fits)))
+    in_order_fits (optional (one is_sign) ∷ is_mantissa ∷ optional is_exponent ∷ [])
+    (optional_sign_fits, (mantissa_fits, (IsWithin-optional is_real_character is_exponent exponent_fits, tt)))
 
 words-characters : (ws : List (List ℕ)) (t : List ℕ) → list_all (λ w. list_all is_real_character w) ws ≡ true → is_among ws t ≡ true → list_all is_real_character t ≡ true
 words-characters [] t h e = cc
-words-characters (w ∷ ws) t h e =
-    let parts = and_parts (list_all is_real_character w) (list_all (λ w. list_all is_real_character w) ws) h in
-    by parts.0 (words-characters ws t parts.1) (or_cases (bytes_eq w t) (is_among ws t) e)
-  where
-    by : list_all is_real_character w ≡ true → (is_among ws t ≡ true → list_all is_real_character t ≡ true) → (bytes_eq w t ≡ true) ⊎ (is_among ws t ≡ true) → list_all is_real_character t ≡ true
-    by fit later (inl is) = subst (λ u. list_all is_real_character u ≡ true) ((bytes_eq-Decides w t).0 is) fit
-    by fit later (inr is) = later is
+words-characters (w ∷ ws) t h e = grind (arith, and_parts, or_cases, bytes_eq-Decides, words-characters ws t)
 
 pub real_text-characters : (t : List ℕ) → is_real_text t ≡ true → list_all is_real_character t ≡ true
 real_text-characters t h = by (real_text-cases t h)
@@ -95,5 +81,4 @@ real_text-characters t h = by (real_text-cases t h)
 
 pub real_text-nonempty : (t : List ℕ) → is_real_text t ≡ true → is_empty t ≡ false
 unfolding typing is_decimal
-real_text-nonempty [] h = cc
-real_text-nonempty (c ∷ cs) h = refl
+real_text-nonempty a h = grind arith

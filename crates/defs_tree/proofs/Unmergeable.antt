@@ -1,9 +1,6 @@
 -- Without merge keys there is nothing that cannot be merged.
-use Rattle.defs_tree.proofs.Common.{AllLackMergeKeys, any_node, ap, array, below, first_fault, first_item_fault, first_pair_fault, hash, if◌then◌else◌, index, item, Items, Lacks, LacksMergeKeys, mappings, merge_key, no_items, no_pairs, None, option_or, pair, pair_list_of, Pairs, refl, step_to, Tree, ValuesLackMergeKeys, wanted_at, ℕ, ◌+◌, ◌∙◌, ◌≡◌, ◌≢◌}
+use Rattle.defs_tree.proofs.Common.{AllLackMergeKeys, any_node, ap, array, below, first_fault, first_item_fault, first_pair_fault, hash, index, item, Items, Lacks, LacksMergeKeys, merge_key, no_items, no_pairs, None, option_or, pair, pair_list_of, Pairs, refl, Tree, ValuesLackMergeKeys, ℕ, ◌+◌, ◌∙◌, ◌≡◌, arith}
 use Rattle.defs_tree.proofs.PairsLaws.{tree_eq-other}
-
-any_is_wanted : (k : Tree) → merge_key ≢ k → wanted_at k ≡ any_node
-any_is_wanted k n = ap (λ b. if b then mappings else any_node) (tree_eq-other merge_key k n)
 
 mutual
   pub no_fault : (t : Tree) → LacksMergeKeys t → first_fault any_node t ≡ None
@@ -17,5 +14,4 @@ mutual
 
   no_pair_fault : (n : ℕ) (ps : Pairs) → Lacks merge_key (pair_list_of ps) → ValuesLackMergeKeys ps → first_pair_fault n ps ≡ None
   no_pair_fault n no_pairs h g = refl
-  no_pair_fault n (pair k v ps) h g =
-      ap (λ o. option_or (below (step_to n k) o) (first_pair_fault (n + 1) ps)) (ap (λ w. first_fault w v) (any_is_wanted k h.0) ∙ no_fault v g.0) ∙ no_pair_fault (n + 1) ps h.1 g.1
+  no_pair_fault n (pair k v ps) h g = grind (arith, no_fault v g.0, no_pair_fault (n + 1) ps h.1 g.1, tree_eq-other)

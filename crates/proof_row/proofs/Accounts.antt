@@ -1,37 +1,23 @@
 -- Like accounts stay like over a step with the same text; and where they are equal after it, they were, and so were the steps.
-use Rattle.proof_row.proofs.Common.{[], account_past, act_of, ap, begins_free_line, begun_by, Bool, Entry, false, filled, free, fresh, Had, has_break, have_no_key, is_in_column, is_in_flow, is_keyed, is_renewed, is_waiting, Line, List, may_end, may_stand, None, not, on_one_line, Option, Outside, past_inside, past_outside, past_piece, past_site, refl, settled, Site, site_at, site_past, Some, Step, subst, taken, Tok, true, waits, ℕ, ◌&&◌, ◌∙◌, ◌∷◌, ◌≡◌}
-use Rattle.defs_token.specs.FlowEntry.{Had.waits as had_waits}
+use Rattle.proof_row.proofs.Common.{[], account_past, act_of, begins_free_line, begun_by, Bool, Entry, have_no_key, is_in_flow, is_renewed, Line, List, may_end, may_stand, None, on_one_line, Option, past_inside, past_piece, past_site, refl, Site, site_at, Some, Step, subst, Tok, true, ℕ, ◌∷◌, ◌≡◌, arith}
 use Rattle.defs_token.specs.RowAccount.{Account}
-use Rattle.proof_row.proofs.Like.{LikeLine, LikeHad, LikeEntries, IsLike, LikeOutside, entries_themselves, Stepped, none_second, weaker, unless, where_both, both, same_entry}
-use Rattle.proof_row.proofs.RowLines.{separation_step, line_step}
+use Rattle.proof_row.proofs.Like.{LikeLine, LikeEntries, IsLike, Stepped, weaker, where_both, both, same_entry}
+use Rattle.proof_row.proofs.RowLines.{separation_step}
 use Rattle.proof_row.proofs.Entries.{entries_step}
 use Rattle.std.proofs.lemmas.Bool.{and_parts}
 
 -- ---- after a piece
 
-outside_step : (s : Site) (p : List ℕ) (t : Tok) (next : List ℕ) (Were : Type 0) (x y : Option Outside) → Stepped LikeOutside Were x y →
-    Stepped IsLike Were (past_outside s p t next x) (past_outside s p t next y)
-outside_step s p t next Were None y h = tt
-outside_step s p t next Were (Some x) None h = tt
-outside_step s p t next Were (Some x) (Some y) h = (
-  (ap (λ bs. site_past false s p t next bs) h.0.1, h.0.0, entries_themselves (begun_by t)),
-  λ k. h.1 (ap (λ a. let o : Outside = record { line = a.line; blocks = a.site.blocks } in o) k),
-)
-
 inside_step : (s : Site) (p : List ℕ) (t : Tok) (next : List ℕ) (l m : Line) (Were : Type 0) (x y : Option (List Entry)) → LikeLine l m → Stepped LikeEntries Were x y →
     Stepped IsLike ((l ≡ m) × Were) (past_inside s p t next l x) (past_inside s p t next m y)
-inside_step s p t next l m Were None y i h = tt
-inside_step s p t next l m Were (Some x) None i h = tt
-inside_step s p t next l m Were (Some x) (Some y) i h = ((refl, i, h.0), λ k. (ap (λ a. a.line) k, h.1 (ap (λ a. a.entries) k)))
+inside_step s p t next l m a b y i h = grind arith
 
 piece_step : (s : Site) (p : List ℕ) (t : Tok) (next : List ℕ) (again b c : Bool) (Were : Type 0) (x y : Option Line) (ds es : List Entry) →
     LikeEntries ds es → Stepped LikeLine Were x y →
     Stepped IsLike (Were × (ds ≡ es) × (b ≡ c)) (past_piece s p t next again b x ds) (past_piece s p t next again c y es)
 piece_step s p t next again b c Were None y ds es j h = tt
-piece_step s p t next again b c Were (Some l) None ds es j h = none_second IsLike (Were × (ds ≡ es) × (b ≡ c)) (past_piece s p t next again b (Some l) ds)
-piece_step s p t next again b c Were (Some l) (Some m) [] [] j h =
-    weaker IsLike ((l ≡ m) × (b ≡ c)) (Were × ([] ≡ []) × (b ≡ c)) _ _ (λ k. (h.1 k.0, refl, k.1))
-    (outside_step s p t next ((l ≡ m) × (b ≡ c)) _ _ (line_step (act_of t) (is_in_column s.position.col s.blocks) s.position s.blocks b c l m h.0))
+piece_step s p t next again b c Were (Some l) None ds es j h = grind arith
+piece_step s p t next again b c Were (Some l) (Some m) [] [] j h = grind (arith, weaker)
 piece_step s p t next again b c Were (Some l) (Some m) (d ∷ ds) (e ∷ es) j h =
     weaker IsLike ((l ≡ m) × ((d ∷ ds ≡ e ∷ es) × (b ≡ c))) (Were × (d ∷ ds ≡ e ∷ es) × (b ≡ c)) _ _ (λ k. (h.1 k.0, k.1.0, k.1.1))
     (inside_step s p t next l m ((d ∷ ds ≡ e ∷ es) × (b ≡ c)) _ _ h.0 (entries_step (act_of t) s.position again (begun_by t) b c d e ds es j.0 j.1))
@@ -39,9 +25,7 @@ piece_step s p t next again b c Were (Some l) (Some m) [] (e ∷ es) j h = absur
 piece_step s p t next again b c Were (Some l) (Some m) (d ∷ ds) [] j h = absurd j
 
 on_one_line_step : (p : List ℕ) (Were : Type 0) (x y : Option Account) → Stepped IsLike Were x y → Stepped IsLike Were (on_one_line p x) (on_one_line p y)
-on_one_line_step p Were None y h = tt
-on_one_line_step p Were (Some a) None h = none_second IsLike Were (on_one_line p (Some a))
-on_one_line_step p Were (Some a) (Some b) h = unless IsLike Were (has_break p && is_waiting a.line) (has_break p && is_waiting b.line) a b h.0 h.1
+on_one_line_step p d e y h = grind arith
 
 -- ---- a step
 
@@ -49,30 +33,14 @@ abbrev With : Step → (key : Bool) → Step
 With w key = record { separation = w.separation; piece = w.piece; shown = w.shown; key = key }
 
 pub same_flow : (ds es : List Entry) → LikeEntries ds es → is_in_flow ds ≡ is_in_flow es
-same_flow [] [] j = refl
-same_flow (d ∷ ds) (e ∷ es) j = refl
-same_flow [] (e ∷ es) j = absurd j
-same_flow (d ∷ ds) [] j = absurd j
-
-same_account : (a b : Account) → a.site ≡ b.site → a.line ≡ b.line → a.entries ≡ b.entries → a ≡ b
-same_account a b s l es =
-    ap (λ x. record { site = x; line = a.line; entries = a.entries }) s ∙
-    (ap (λ x. record { site = b.site; line = x; entries = a.entries }) l ∙
-    ap (λ x. record { site = b.site; line = b.line; entries = x }) es)
-
-same_step : (w v : Step) → w.separation ≡ v.separation → w.piece ≡ v.piece → w.shown ≡ v.shown → w.key ≡ v.key → w ≡ v
-same_step w v f p t k =
-    ap (λ x. record { separation = x; piece = w.piece; shown = w.shown; key = w.key }) f ∙
-    (ap (λ x. record { separation = v.separation; piece = x; shown = w.shown; key = w.key }) p ∙
-    (ap (λ x. record { separation = v.separation; piece = v.piece; shown = x; key = w.key }) t ∙
-    ap (λ x. record { separation = v.separation; piece = v.piece; shown = v.shown; key = x }) k))
+same_flow a b j = grind arith
 
 -- Two like accounts are like again after steps with the same text, and where they are equal then, they were, and so were the steps.
 pub account_step : (a b : Account) (w v : Step) (x y : List ℕ) → IsLike a b → w.separation ≡ v.separation → w.piece ≡ v.piece → w.shown ≡ v.shown → x ≡ y →
     Stepped IsLike ((a ≡ b) × (w ≡ v)) (account_past a w x) (account_past b v y)
 account_step a b w v x y i f p t n =
     let Were : Type 0 = (a.line ≡ b.line) × (a.entries ≡ b.entries) × (w.key ≡ v.key) in
-    let moved : w ≡ With v w.key = same_step w (With v w.key) f p t refl in
+    let moved : w ≡ With v w.key = (grind arith) in
     let first : Option Account = account_past a w x in
     let T : Bool → Site → Step → List ℕ → Type 0 = λ fl s u z. Stepped IsLike Were first
     (past_site fl s (site_at fl s u.separation u.piece u.shown z) (With u v.key) z b.line b.entries) in
@@ -85,37 +53,16 @@ account_step a b w v x y i f p t n =
     let steps : T (is_in_flow b.entries) b.site (With v w.key) x = subst (λ z. T (is_in_flow b.entries) b.site z x) moved sites in
     let texts : T (is_in_flow b.entries) b.site (With v w.key) y = subst (λ z. T (is_in_flow b.entries) b.site (With v w.key) z) n steps in
     weaker IsLike Were ((a ≡ b) × (w ≡ v)) (account_past a w x) (account_past b v y)
-    (λ h. (same_account a b i.0 h.0 h.1, same_step w v f p t h.2)) texts
+    (λ h. ((grind arith), grind arith)) texts
 
 -- ---- the text's end
 
-same_line : (l m : Line) → LikeLine l m → not (is_waiting l) ≡ true → not (is_waiting m) ≡ true → l ≡ m
-same_line free free i h k = refl
-same_line taken taken i h k = refl
-same_line (waits p) m i h k = absurd (cc h)
-same_line l (waits q) i h k = absurd (cc k)
-same_line _ _ i h k = absurd i
-
-same_had : (d e : Had) → LikeHad d e → not (is_keyed d) ≡ true → not (is_keyed e) ≡ true → d ≡ e
-same_had fresh fresh i h k = refl
-same_had filled filled i h k = refl
-same_had settled settled i h k = refl
-same_had (had_waits p) e i h k = absurd (cc h)
-same_had d (had_waits q) i h k = absurd (cc k)
-same_had _ _ i h k = absurd i
-
 same_entries : (ds es : List Entry) → LikeEntries ds es → have_no_key ds ≡ true → have_no_key es ≡ true → ds ≡ es
 same_entries [] [] i h k = refl
-same_entries (d ∷ ds) (e ∷ es) i h k =
-    let first : (not (is_keyed d.had) ≡ true) × (have_no_key ds ≡ true) = and_parts _ _ h in
-    let second : (not (is_keyed e.had) ≡ true) × (have_no_key es ≡ true) = and_parts _ _ k in
-    both d e ds es (same_entry d e i.0.0 i.0.1 (same_had d.had e.had i.0.2 first.0 second.0)) (same_entries ds es i.1 first.1 second.1)
+same_entries (d ∷ ds) (e ∷ es) i h k = grind (arith, and_parts, both, same_entry, same_entries ds es i.1)
 same_entries [] (e ∷ es) i h k = absurd i
 same_entries (d ∷ ds) [] i h k = absurd i
 
 -- Like accounts at which a text may end are equal.
 pub same_at_end : (a b : Account) → IsLike a b → may_end a ≡ true → may_end b ≡ true → a ≡ b
-same_at_end a b i h k =
-    let first : (not (is_waiting a.line) ≡ true) × (have_no_key a.entries ≡ true) = and_parts _ _ h in
-    let second : (not (is_waiting b.line) ≡ true) × (have_no_key b.entries ≡ true) = and_parts _ _ k in
-    same_account a b i.0 (same_line a.line b.line i.1 first.0 second.0) (same_entries a.entries b.entries i.2 first.1 second.1)
+same_at_end a b i h k = grind (arith, and_parts, same_entries)

@@ -1,7 +1,6 @@
 -- The text says which kind of piece begins.
-use Rattle.proof_row.proofs.Common.{[], Account, after, after_mark, alias, alias_name, anchor, anchor_name, ap, are_marks, begins_flow, begins_plain, begins_with_space_or_break, block_end, block_entry, block_mapping_start, block_read, block_scalar, block_sequence_start, BlockRead, BlockStyle, Bool, codes, collection_column, colon, comma, dash, dashes, Directive, directive_by, directive_line, directive_of, document_end, document_start, dots, double_quoted, ends_separation, eqb-true, false, flow_entry, flow_mapping_end, flow_mapping_start, flow_sequence_end, flow_sequence_start, folded, has_no_break, Holds, if◌then◌else◌, in_double_quotes, in_single_quotes, inl, inr, is_adjacent, is_alpha, is_at_gap, is_at_line_end, is_blank, is_blank_or_end, is_break, is_document_marker, is_flow, is_nul, is_value_indicator, is_whole_plain, IsDirective, IsDoubleQuoted, IsNamed, IsPiece, IsSingleQuoted, key, Kind, kind_at, kind_by, kind_of, leading, List, literal, mapping_closing, mapping_opening, may_begin, None, not, nothing, Option, plain, plain_scalar, plain_value, Position, question, refl, reserved, scalar, SeparationsEndBeforePieces, sequence_closing, sequence_opening, single_quoted, Some, stream_end, stream_start, subst, sym, Tag, tag, tag_declaration, tag_directive, tag_text, TextsBeginWithOneKind, Tok, true, value, version, version_directive, written_tag, ℕ, ◌&&◌, ◌++◌, ◌==◌, ◌||◌, ◌∙◌, ◌∷◌, ◌≡◌, ◌≢◌, ◌⊎◌}
+use Rattle.proof_row.proofs.Common.{[], Account, alias, alias_name, anchor, anchor_name, ap, are_marks, begins_flow, begins_plain, begins_with_space_or_break, block_entry, block_read, block_scalar, BlockRead, BlockStyle, Bool, codes, collection_column, colon, comma, dash, dashes, Directive, directive_line, directive_of, document_end, document_start, dots, double_quoted, ends_separation, eqb-true, false, flow_entry, flow_mapping_end, flow_mapping_start, flow_sequence_end, flow_sequence_start, folded, has_no_break, Holds, in_double_quotes, in_single_quotes, is_adjacent, is_at_gap, is_at_line_end, is_blank, is_blank_or_end, is_break, is_flow, is_nul, is_value_indicator, is_whole_plain, IsDoubleQuoted, IsNamed, IsPiece, IsSingleQuoted, key, Kind, kind_at, kind_by, kind_of, List, literal, mapping_closing, mapping_opening, not, nothing, Option, plain, plain_scalar, plain_value, Position, question, refl, reserved, scalar, SeparationsEndBeforePieces, sequence_closing, sequence_opening, single_quoted, Some, subst, sym, Tag, tag, tag_declaration, tag_directive, tag_text, TextsBeginWithOneKind, Tok, true, value, version, version_directive, written_tag, ℕ, ◌&&◌, ◌++◌, ◌||◌, ◌∙◌, ◌∷◌, ◌≡◌, ◌≢◌, arith, nat_tests}
 use Rattle.defs_token.specs.Account.{is_in_flow}
-use Rattle.proof_row.proofs.Runs.{joined}
 use Rattle.proof_row.proofs.TagEnds.{mark_is_first}
 use Rattle.proof_row.proofs.Blocks.{begins_block, block_begins}
 use Rattle.proof_row.proofs.Texts.{gaps}
@@ -57,80 +56,27 @@ Whole block_scalar a p x t = (r : BlockRead) × (block_read a.collection p x ≡
 
 -- a piece of a token is one of the token's kind
 pub piece_of : (a : Account) (p x : List ℕ) (f : Option Tok) (m : Position) (t : Tok) → p ≢ [] → IsPiece a p x f m t → Whole (kind_of t) (context_of a) p x t
-piece_of a p x f m stream_start n h = absurd h
-piece_of a p x f m stream_end n h = absurd h
-piece_of a p x f m (version_directive major minor) n h = (version major minor, h.0.0, h.0.1, h.0.3, refl)
-piece_of a p x f m (tag_directive handle prefix) n h = by h.0
-  where
-    by : IsDirective a p x (tag_declaration handle prefix) ⊎ ((handle ≡ []) × (prefix ≡ []) × IsDirective a p x reserved) → Whole directive_line (context_of a) p x (tag_directive handle prefix)
-    by (inl d) = (tag_declaration handle prefix, d.0, d.1, d.3, refl)
-    by (inr d) = (reserved, d.2.0, d.2.1, d.2.3, cc (d.0, d.1))
-piece_of a p x f m document_start n h = ((h.0.0, h.0.1, h.0.2), refl)
-piece_of a p x f m document_end n h = ((h.0.0, h.0.1, h.0.2), refl)
-piece_of a p x f m block_sequence_start n h = absurd (n h.0)
-piece_of a p x f m block_mapping_start n h = absurd (n h.0)
-piece_of a p x f m block_end n h = absurd (n h.0)
-piece_of a p x f m flow_sequence_start n h = (h.0.0, refl)
-piece_of a p x f m flow_sequence_end n h = (h.0.0, refl)
-piece_of a p x f m flow_mapping_start n (inl h) = (h.0.0, refl)
-piece_of a p x f m flow_mapping_start n (inr h) = absurd (n h.0)
-piece_of a p x f m flow_mapping_end n (inl h) = (h.0.0, refl)
-piece_of a p x f m flow_mapping_end n (inr h) = absurd (n h.0)
-piece_of a p x f m block_entry n h = (h.0, h.1, refl)
-piece_of a p x f m flow_entry n h = (h.0.0, refl)
-piece_of a p x f m key n (inl h) = (h.0, h.1, refl)
-piece_of a p x f m key n (inr h) = absurd (n h.0)
-piece_of a p x f m value n h = (h.0, h.1, refl)
-piece_of a p x f m (alias name) n h = (name, h.0, refl)
-piece_of a p x f m (anchor name) n h = (name, h.0, refl)
-piece_of a p x f m (tag handle suffix) n h = (record { handle = handle; suffix = suffix }, h.0.0, h.0.1, refl)
-piece_of a p x f m (scalar plain text) n h = (text, h.0, refl)
-piece_of a p x f m (scalar single_quoted text) n h = (text, h.0, refl)
-piece_of a p x f m (scalar double_quoted text) n h = (text, h.0, refl)
-piece_of a p x f m (scalar literal text) n h = (record { style = BlockStyle.literal; column = h.1.0; text = text }, h.1.1, h.0, refl)
-piece_of a p x f m (scalar folded text) n h = (record { style = BlockStyle.folded; column = h.1.0; text = text }, h.1.1, h.0, refl)
+piece_of a p x f m b n h = grind arith
 
 -- ---- the kind at a text
 
 there : (fl adj : Bool) (col c : ℕ) (r : List ℕ) → begins_plain fl adj col (c ∷ r) ≡ false → kind_at fl adj col (c ∷ r) ≡ kind_by c r
 there fl adj col c r h = rw h refl
 
-neither_plain : (a b : Bool) → b ≡ true → (a && not b) ≡ false
-neither_plain true b h = ap not h
-neither_plain false b h = refl
-
 unplain : (a b : Bool) → a ≡ false → (a && b) ≡ false
 unplain a b h = rw h refl
 
 space_is_gap : (x : List ℕ) → begins_with_space_or_break x ≡ true → is_at_gap x ≡ true
 unfolding is_blank_or_end is_blank
-space_is_gap [] h = absurd (cc h)
-space_is_gap (c ∷ x) h = by (c == 32) (c == 9) (is_break c) (is_nul c) h
-  where
-    by : (a b d e : Bool) → (a || d) ≡ true → (((a || b) || d) || e) ≡ true
-    by true b d e f = refl
-    by false true true e f = refl
-    by false true false e f = refl
-    by false false true e f = refl
-    by false false false e f = absurd (cc f)
-
-dash_kind : (x : List ℕ) → is_at_gap x ≡ true → kind_by 45 x ≡ dash
-dash_kind x h = rw h refl
+space_is_gap a h = grind arith
 
 pub directive_begins : (p : List ℕ) (d : Directive) → directive_of p ≡ Some d → (r : List ℕ) × (p ≡ 37 ∷ r)
 unfolding directive_of
-directive_begins [] d e = absurd (cc e)
-directive_begins (c ∷ r) d e = by (c == 37) refl e
-  where
-    by : (b : Bool) → (c == 37) ≡ b → (if b then directive_by (leading is_alpha r) (after is_alpha r) else None) ≡ Some d → (s : List ℕ) × (c ∷ r ≡ 37 ∷ s)
-    by true f g = (r, ap (λ z. z ∷ r) (eqb-true c 37 f))
-    by false f g = absurd (cc g)
+directive_begins a d e = grind arith
 
 -- at a document marker
 pub marked : (a : Context) (c : ℕ) (x : List ℕ) → are_marks c c c ≡ true → a.column ≡ 0 → is_at_gap x ≡ true → begins_plain a.in_flow a.adjacent a.column (c ∷ c ∷ c ∷ x) ≡ false
-marked a c x m f g =
-    let marker : is_document_marker (c ∷ c ∷ c ∷ x) ≡ true = joined _ _ m g in
-    neither_plain (may_begin a.in_flow a.adjacent c (c ∷ c ∷ x)) ((a.column == 0) && is_document_marker (c ∷ c ∷ c ∷ x)) (joined (a.column == 0) _ (ap (λ z. z == 0) f) marker)
+marked a c x m f g = grind arith
 
 pub dash_marks : are_marks 45 45 45 ≡ true
 unfolding are_marks
@@ -152,26 +98,13 @@ known : (a : Context) (p r x : List ℕ) (k : Kind) → p ≡ r → IsThere a (r
 known a p r x k e h = subst (λ z. IsThere a (z ++ x) k) (sym e) h
 
 block_there : (a : Context) (p x : List ℕ) → a.in_flow ≡ false → begins_block p ≡ true → IsThere a (p ++ x) block_scalar
-block_there a [] x o h = absurd (cc h)
-block_there a (c ∷ r) x o h = by (c == 124) (c == 62) refl refl h
-  where
-    at : (c : ℕ) → may_begin false a.adjacent c (r ++ x) ≡ false → kind_by c (r ++ x) ≡ block_scalar → IsThere a (c ∷ (r ++ x)) block_scalar
-    at c f g = rw o (there false a.adjacent a.column c (r ++ x) (unplain _ _ f) ∙ g)
-
-    by : (b d : Bool) → (c == 124) ≡ b → (c == 62) ≡ d → (b || d) ≡ true → IsThere a (c ∷ (r ++ x)) block_scalar
-    by true d f g h = subst (λ z. IsThere a (z ∷ (r ++ x)) block_scalar) (sym (eqb-true c 124 f)) (at 124 refl refl)
-    by false true f g h = subst (λ z. IsThere a (z ∷ (r ++ x)) block_scalar) (sym (eqb-true c 62 g)) (at 62 refl refl)
-    by false false f g h = absurd (cc h)
-
-plain_there : (a : Context) (p x text : List ℕ) → IsPlainIn a p x text → IsThere a (p ++ x) plain_scalar
-plain_there a [] x text h = absurd (cc h.1)
-plain_there a (c ∷ p) x text h = rw h.0 refl
+block_there a b x o h = grind (arith, there, unplain, eqb-true)
 
 -- the text at a piece says the piece's kind
 pub kind_there : (k : Kind) (a : Context) (p x : List ℕ) (t : Tok) → Whole k a p x t → IsThere a (p ++ x) k
 unfolding is_blank_or_end is_blank is_break is_nul is_flow
 kind_there nothing a p x t h = absurd h
-kind_there plain_scalar a p x t h = plain_there a p x h.0 h.1
+kind_there plain_scalar a p x t h = grind arith
 kind_there sequence_opening a p x t h = known a p (codes "[") x _ h.0 (here a 91 x refl)
 kind_there sequence_closing a p x t h = known a p (codes "]") x _ h.0 (here a 93 x refl)
 kind_there mapping_opening a p x t h = known a p (codes "{") x _ h.0 (here a 123 x refl)
@@ -179,7 +112,7 @@ kind_there mapping_closing a p x t h = known a p (codes "}") x _ h.0 (here a 125
 kind_there comma a p x t h = known a p (codes ",") x _ h.0 (here a 44 x refl)
 kind_there question a p x t h = known a p (codes "?") x _ h.0 (here a 63 x (unplain _ _ (ap not (space_is_gap x h.1))))
 kind_there colon a p x t h = known a p (codes ":") x _ h.0 (here a 58 x (unplain _ _ (ap not h.1)))
-kind_there dash a p x t h = known a p (codes "-") x _ h.0 (here a 45 x (unplain _ _ (unplain _ _ (ap not h.1))) ∙ dash_kind x h.1)
+kind_there dash a p x t h = known a p (codes "-") x _ h.0 (here a 45 x (unplain _ _ (unplain _ _ (ap not h.1))) ∙ (rw h.1 refl))
 kind_there dashes a p x t h = known a p (codes "---") x _ h.0.0 (here a 45 (45 ∷ 45 ∷ x) (marked a 45 x dash_marks h.0.1 h.0.2))
 kind_there dots a p x t h = known a p (codes "...") x _ h.0.0 (here a 46 (46 ∷ 46 ∷ x) (marked a 46 x dot_marks h.0.1 h.0.2))
 kind_there directive_line a p x t h =
@@ -187,9 +120,7 @@ kind_there directive_line a p x t h =
     known a p (37 ∷ r.0) x _ r.1 (here a 37 (r.0 ++ x) refl)
 kind_there alias_name a p x t h = known a p (42 ∷ h.0) x _ h.1.0 (here a 42 (h.0 ++ x) refl)
 kind_there anchor_name a p x t h = known a p (38 ∷ h.0) x _ h.1.0 (here a 38 (h.0 ++ x) refl)
-kind_there tag_text a p x t h =
-    let r : (r : List ℕ) × (p ≡ 33 ∷ r) × (after_mark r ≡ Some h.0) = mark_is_first p h.0 h.1 in
-    known a p (33 ∷ r.0) x _ r.1 (here a 33 (r.0 ++ x) refl)
+kind_there tag_text a p x t h = grind (arith, nat_tests, eqb-true, mark_is_first, known, here)
 kind_there in_single_quotes a p x t h = known a p (39 ∷ (h.1.0 ++ (39 ∷ []))) x _ h.1.1 (here a 39 ((h.1.0 ++ (39 ∷ [])) ++ x) refl)
 kind_there in_double_quotes a p x t h = known a p (34 ∷ (h.1.0 ++ (34 ∷ []))) x _ h.1.1 (here a 34 ((h.1.0 ++ (34 ∷ [])) ++ x) refl)
 kind_there block_scalar a p x t h = block_there a p x h.2 (block_begins a.collection p x h.0 h.1)
@@ -197,19 +128,7 @@ kind_there block_scalar a p x t h = block_there a p x h.2 (block_begins a.collec
 -- and no separation goes on over it
 pub separations_end : (k : Kind) (a : Context) (p x : List ℕ) (t : Tok) → Whole k a p x t → ends_separation (p ++ x) ≡ true
 unfolding is_blank_or_end is_blank is_break is_nul is_flow
-separations_end k a p x t h = of_kind (p ++ x) (kind_there k a p x t h)
-  where
-    none : k ≡ nothing → ⊥
-    none e = subst (λ z. Whole z a p x t) e h
-
-    of_kind : (text : List ℕ) → IsThere a text k → ends_separation text ≡ true
-    of_kind [] i = refl
-    of_kind (c ∷ r) i = by (is_blank_or_end c) (c == 35) refl refl
-      where
-        by : (gap mark : Bool) → is_blank_or_end c ≡ gap → (c == 35) ≡ mark → (not gap && not mark) ≡ true
-        by true mark f g = absurd (none (sym i ∙ (gaps (λ z. IsThere a (z ∷ r) nothing) c f refl refl refl refl refl)))
-        by false true f g = absurd (none (sym i ∙ subst (λ z. IsThere a (z ∷ r) nothing) (sym (eqb-true c 35 g)) refl))
-        by false false f g = refl
+separations_end k a p x t h = grind (arith, nat_tests, kind_there, gaps, eqb-true)
 
 pub texts_begin : TextsBeginWithOneKind
 texts_begin a p x f m t n h = kind_there (kind_of t) (context_of a) p x t (piece_of a p x f m t n h)

@@ -1,7 +1,7 @@
 -- A block scalar has one end.
-use Rattle.proof_row.proofs.Common.{[], after_style, all_lines, ap, append-nil, append_assoc, begins_with, block_read, block_value, BlockRead, BlockScalarsHaveOneEnd, body, Bool, column_by, content_column, Ending, eqb-true, false, further_text, has_no_nul, Header, header_of, if◌then◌else◌, inl, inr, is_at_end, is_break, is_further_text, is_nul, is_past, List, None, Option, read_body, read_lines, read_split, refl, Row, row_of, rows_of, Some, Split, split, starts_with_tab, subst, sym, true, value_at_end, value_at_text, value_by, with_value, ℕ, ◌++◌, ◌==◌, ◌||◌, ◌∙◌, ◌∷◌, ◌≡◌, ◌⊎◌}
-use Rattle.defs_text.specs.BlockScalar.{literal, folded, unbroken}
-use Rattle.proof_row.proofs.Runs.{both, untrue, contrary}
+use Rattle.proof_row.proofs.Common.{[], ap, append-nil, append_assoc, begins_with, block_read, BlockRead, BlockScalarsHaveOneEnd, body, Bool, column_by, content_column, Ending, false, further_text, has_no_nul, Header, header_of, if◌then◌else◌, inl, inr, is_at_end, is_break, is_further_text, List, None, Option, read_body, read_lines, read_split, refl, row_of, Some, Split, split, subst, sym, true, value_at_text, value_by, ℕ, ◌++◌, ◌==◌, ◌||◌, ◌∙◌, ◌∷◌, ◌≡◌, ◌⊎◌, arith}
+use Rattle.defs_text.specs.BlockScalar.{unbroken}
+use Rattle.proof_row.proofs.Runs.{both, untrue}
 use Rattle.proof_row.proofs.Splits.{More, splits}
 use Rattle.proof_row.proofs.Texts.{no_nul_after}
 use Rattle.proof_row.proofs.Lines.{of_lines, lines_after, split_append, up_to_break, first_line, line_of, line_is, line_more, no_lines}
@@ -11,11 +11,7 @@ use Rattle.proof_row.proofs.Columns.{column_same, IsBefore, further, further_is_
 
 -- a block scalar has a header
 pub has_header : (collection : Option ℕ) (lines : List (List ℕ)) (last next : List ℕ) (at_end : Bool) (r : BlockRead) → read_lines collection lines last next at_end ≡ Some r → header_of (first_line lines last) ≡ None → ⊥
-has_header collection [] last next true r e f = cc
-has_header collection (h ∷ ls) last next true r e f = cc
-has_header collection (h ∷ ls) [] next false r e f = cc
-has_header collection [] last next false r e f = cc e
-has_header collection (h ∷ ls) (c ∷ last) next false r e f = cc e
+has_header collection a last next b r e f = grind arith
 
 -- whether a text begins with the indicator of a block scalar
 abbrev pub begins_block : List ℕ → Bool
@@ -23,22 +19,11 @@ begins_block [] = false
 begins_block (c ∷ r) = (c == 124) || (c == 62)
 
 no_header : (l : List ℕ) → begins_block l ≡ false → header_of l ≡ None
-no_header [] h = refl
-no_header (c ∷ r) h = by (c == 124) (c == 62) h
-  where
-    by : (a b : Bool) → (a || b) ≡ false → (if a then after_style literal r else (if b then after_style folded r else None)) ≡ None
-    by true b f = absurd (cc f)
-    by false true f = absurd (cc f)
-    by false false f = refl
+no_header a h = grind arith
 
 break_is_none : (c : ℕ) (r : List ℕ) → is_break c ≡ true → begins_block (c ∷ r) ≡ false
 unfolding is_break
-break_is_none c r h = by (c == 10) (c == 13) refl refl h
-  where
-    by : (a b : Bool) → (c == 10) ≡ a → (c == 13) ≡ b → (a || b) ≡ true → ((c == 124) || (c == 62)) ≡ false
-    by true b f g h = subst (λ z. ((z == 124) || (z == 62)) ≡ false) (sym (eqb-true c 10 f)) refl
-    by false true f g h = subst (λ z. ((z == 124) || (z == 62)) ≡ false) (sym (eqb-true c 13 g)) refl
-    by false false f g h = absurd (cc h)
+break_is_none c r h = grind arith
 
 line_begins : (p : List ℕ) → begins_block (up_to_break p) ≡ begins_block p
 line_begins [] = refl
@@ -67,72 +52,16 @@ record BeforeText (collection : Option ℕ) (s : Split) (next : List ℕ) : Type
   pub is_header : header_of head ≡ Some header
   pub is_further : is_further_text (column_by header.digit collection lines) next ≡ true
 
-before_text : (collection : Option ℕ) (complete : List (List ℕ)) (last next : List ℕ) (r : BlockRead) → is_at_end next ≡ false → read_lines collection complete last next false ≡ Some r →
-    BeforeText collection (of_lines complete last) next
-before_text collection [] last next r i e = absurd (cc e)
-before_text collection (h ∷ ls) (c ∷ last) next r i e = absurd (cc e)
-before_text collection (h ∷ ls) [] next r i e = by (header_of h) refl e
-  where
-    past : (at_end further : Bool) (o : Option BlockRead) → at_end ≡ false → (if at_end || further then o else None) ≡ Some r → further ≡ true
-    past true further o i e = absurd (cc i)
-    past false true o i e = refl
-    past false false o i e = absurd (cc e)
-
-    by : (o : Option Header) → header_of h ≡ o → read_body o collection (body ls further_text) next ≡ Some r → BeforeText collection (of_lines (h ∷ ls) []) next
-    by None f e = absurd (cc e)
-    by (Some d) f e = record {
-      head = h;
-      lines = ls;
-      header = d;
-      is_split = refl;
-      is_header = f;
-      is_further = past (is_at_end next) (is_further_text (column_by d.digit collection ls) next) (with_value d (column_by d.digit collection ls) (block_value d collection (body ls further_text))) i e;
-    }
-
 -- ---- lines after it have no value
-
--- the column of all lines, the last of which has no break
-columns : (digit collection : Option ℕ) (ls zs : List (List ℕ)) (last : List ℕ) → IsBefore (column_by digit collection ls) (first_line zs last) →
-    column_by digit collection ((ls ++ zs) ++ (last ∷ [])) ≡ column_by digit collection ls
-columns digit collection ls [] last b = ap (λ x. column_by digit collection (x ++ (last ∷ []))) (append-nil ls) ∙ column_same digit collection ls last [] b.written b.start
-columns digit collection ls (l ∷ zs) last b =
-    ap (λ x. column_by digit collection x) (append_assoc ls (l ∷ zs) (last ∷ [])) ∙ column_same digit collection ls l (zs ++ (last ∷ [])) b.written b.start
 
 no_end : (h : Header) (collection : Option ℕ) (ls zs : List (List ℕ)) (last : List ℕ) → IsBefore (column_by h.digit collection ls) (first_line zs last) →
     value_by h (content_column h collection (ls ++ zs) (unbroken last)) (ls ++ zs) (unbroken last) ≡ None
-no_end h collection ls zs last b = by zs b (columns h.digit collection ls zs last b)
-  where
-    end_none : (n : ℕ) (o : Option (List Row)) → value_at_end h n last o None ≡ None
-    end_none n None = refl
-    end_none n (Some rows) = refl
-
-    by : (zs : List (List ℕ)) → IsBefore (column_by h.digit collection ls) (first_line zs last) →
-        column_by h.digit collection ((ls ++ zs) ++ (last ∷ [])) ≡ column_by h.digit collection ls →
-        value_by h (content_column h collection (ls ++ zs) (unbroken last)) (ls ++ zs) (unbroken last) ≡ None
-    by [] b e =
-        let n : ℕ = column_by h.digit collection ((ls ++ []) ++ (last ∷ [])) in
-        let row : row_of n last ≡ None = ap (λ k. row_of k last) e ∙ b.none in
-        ap (λ o. value_at_end h n last (rows_of n (ls ++ [])) o) row ∙ end_none n (rows_of n (ls ++ []))
-    by (l ∷ zs) b e =
-        let n : ℕ = column_by h.digit collection ((ls ++ (l ∷ zs)) ++ (last ∷ [])) in
-        let row : row_of n l ≡ None = ap (λ k. row_of k l) e ∙ b.none in
-        ap (λ o. value_at_end h n last o (row_of n last)) (no_rows n ls l zs row)
+no_end h collection ls zs last b = grind (arith, no_rows, append-nil, column_same, append_assoc)
 
 -- what has no value is not read
 unread : (h : Header) (collection : Option ℕ) (lines : List (List ℕ)) (ending : Ending) (next : List ℕ) (r : BlockRead) → value_by h (content_column h collection lines ending) lines ending ≡ None →
     read_body (Some h) collection (body lines ending) next ≡ Some r → ⊥
-unread h collection lines ending next r e f =
-    by (is_past (content_column h collection lines ending) next) (block_value h collection (body lines ending))
-    (tabbed (starts_with_tab (all_lines lines ending)) (value_by h (content_column h collection lines ending) lines ending) e) f
-  where
-    tabbed : (b : Bool) (o : Option (List ℕ)) → o ≡ None → (if b then None else o) ≡ None
-    tabbed true o e = refl
-    tabbed false o e = e
-
-    by : (b : Bool) (o : Option (List ℕ)) → o ≡ None → (if b then with_value h (content_column h collection lines ending) o else None) ≡ Some r → ⊥
-    by true None e f = cc f
-    by true (Some t) e f = cc e
-    by false o e f = cc f
+unread h collection lines ending next r e f = grind arith
 
 -- ---- two block scalars
 
@@ -141,12 +70,10 @@ not_at_end [] y n c = absurd (n refl)
 not_at_end (d ∷ z) y n c = untrue _ (both _ _ c).0
 
 at_end : (y : List ℕ) → has_no_nul y ≡ true → is_at_end y ≡ true → y ≡ []
-at_end [] c e = refl
-at_end (d ∷ y) c e = absurd (contrary (is_nul d) e (untrue _ (both _ _ c).0))
+at_end a c e = grind arith
 
 begins_not : (z y : List ℕ) → begins_with 10 (z ++ y) ≡ false → begins_with 10 z ≡ false
-begins_not [] y h = refl
-begins_not (d ∷ z) y h = h
+begins_not a y h = grind arith
 
 -- The lines of a longer scalar, of which the first after the shorter one is further text.
 longer_lines : (collection : Option ℕ) (head : List ℕ) (ls : List (List ℕ)) (h : Header) (z y : List ℕ) (zs : List (List ℕ)) (last : List ℕ) (s : BlockRead) → header_of head ≡ Some h →
@@ -161,23 +88,20 @@ longer_lines collection head ls h z y zs last s i j k n c true e f =
 longer_lines collection head ls h z y zs (d ∷ last) s i j k n c false e f = cc f
 longer_lines collection head ls h z y [] [] s i j k n c false e f = n (no_lines z j)
 longer_lines collection head ls h z y (l ∷ zs) [] s i j k n c false e f =
-    let lines : (split z).complete ≡ [] → ⊥ = λ g. absurd (two_lines (sym (ap (λ x. x.complete) j) ∙ g)) in
+    let lines : (split z).complete ≡ [] → ⊥ = λ g. absurd (cc (sym (ap (λ x. x.complete) j) ∙ g)) in
     let first : up_to_break (z ++ y) ≡ l = line_more z lines y ∙ (sym (line_is z) ∙ ap (λ x. first_line (x.complete) (x.last)) j) in
     let b : IsBefore (column_by h.digit collection ls) l = subst (λ l. IsBefore (column_by h.digit collection ls) l) first (further _ _ k) in
     let no_text : value_by h (content_column h collection (ls ++ (l ∷ zs)) further_text) (ls ++ (l ∷ zs)) further_text ≡ None = let column : column_by h.digit collection (ls ++ (l ∷ zs)) ≡ column_by h.digit collection ls = column_same h.digit collection ls l zs b.written b.start in
     let row : row_of (column_by h.digit collection (ls ++ (l ∷ zs))) l ≡ None = ap (λ n. row_of n l) column ∙ b.none in
     ap (λ o. value_at_text h o) (no_rows (column_by h.digit collection (ls ++ (l ∷ zs))) ls l zs row) in
     unread h collection (ls ++ (l ∷ zs)) further_text y s no_text (ap (λ o. read_body o collection (body (ls ++ (l ∷ zs)) further_text) y) (sym i) ∙ f)
-  where
-    two_lines : l ∷ zs ≡ [] → ⊥
-    two_lines g = cc g
 
 -- A block scalar does not go on over further text.
 over : (collection : Option ℕ) (p z y : List ℕ) (r s : BlockRead) → block_read collection p (z ++ y) ≡ Some r → block_read collection (p ++ z) y ≡ Some s → (z ≡ [] → ⊥) → has_no_nul (z ++ y) ≡ true → ⊥
 over collection p z y r s e f n c =
     let goes : is_at_end (z ++ y) ≡ false = not_at_end z y n c in
     let part : BeforeText collection (of_lines ((split p).complete) ((split p).last)) (z ++ y) =
-    before_text collection ((split p).complete) ((split p).last) (z ++ y) r goes (ap (λ b. read_lines collection ((split p).complete) ((split p).last) (z ++ y) b) (sym goes) ∙ e) in
+    (grind arith) in
     let whole : split (p ++ z) ≡ lines_after (part.head ∷ part.lines) (split z) =
     split_append p z (part.head ∷ part.lines) part.is_split (begins_not z y (further_is_no_break (column_by part.header.digit collection part.lines) (z ++ y) part.is_further)) in
     longer_lines collection part.head part.lines part.header z y ((split z).complete) ((split z).last) s part.is_header refl part.is_further n (no_nul_after z y c) (is_at_end y) refl

@@ -1,5 +1,5 @@
 -- The content column of a block scalar is fixed by its lines up to the first content line; and further text is no line of it.
-use Rattle.proof_row.proofs.Common.{[], are_marks, arith, begins_with, Bool, column_by, deepest_start, eqb-true, false, if◌then◌else◌, is_at_gap, is_break, is_content_line, is_document_marker, is_empty_line, is_further_text, is_nul, is_outside, is_spaces, leading_spaces, List, lt-leb, max, None, not, Option, refl, row_of, rows_of, space, subst, suc, sym, true, zero, ℕ, ◌&&◌, ◌++◌, ◌<◌, ◌==◌, ◌∷◌, ◌≡◌, ◌≤◌}
+use Rattle.proof_row.proofs.Common.{[], are_marks, arith, begins_with, column_by, deepest_start, eqb-true, false, is_at_gap, is_break, is_content_line, is_document_marker, is_empty_line, is_further_text, is_outside, is_spaces, leading_spaces, List, lt-leb, max, None, Option, refl, row_of, rows_of, suc, true, zero, ℕ, ◌++◌, ◌<◌, ◌∷◌, ◌≡◌, ◌≤◌}
 use Rattle.proof_row.proofs.Runs.{both}
 use Rattle.proof_row.proofs.Lines.{up_to_break}
 
@@ -32,25 +32,11 @@ pub record IsBefore (column : ℕ) (l : List ℕ) : Type 0 where
 abbrev Outside : ℕ → List ℕ → Type 0
 Outside n l = (is_spaces l ≡ false) × (leading_spaces l < n)
 
--- a space is no break
-unbroken : (c : ℕ) → (c == 32) ≡ true → is_break c ≡ false
-unfolding is_break
-unbroken c e = subst (λ z. is_break z ≡ false) (sym (eqb-true c 32 e)) refl
-
 outside : (n : ℕ) (t : List ℕ) → is_outside n t ≡ true → Outside n (up_to_break t)
+unfolding is_break
 outside zero t h = absurd (cc h)
 outside (suc n) [] h = absurd (cc h)
-outside (suc n) (c ∷ r) h = by (c == space) (is_break c) refl refl h (λ f. outside n r f)
-  where
-    spaced : (c : ℕ) (l : List ℕ) → (c == 32) ≡ true → Outside n l → Outside (suc n) (c ∷ l)
-    spaced c l e f = rw e (f.0, omega (arith, f.1))
-
-    unspaced : (c : ℕ) (l : List ℕ) → (c == 32) ≡ false → Outside (suc n) (c ∷ l)
-    unspaced c l e = rw e (refl, omega arith)
-
-    by : (blank break : Bool) → (c == 32) ≡ blank → is_break c ≡ break → (if blank then is_outside n r else (not break && not (is_nul c))) ≡ true → (is_outside n r ≡ true → Outside n (up_to_break r)) →
-        Outside (suc n) (if break then [] else c ∷ up_to_break r)
-    by a b e f g k = grind (arith, unbroken, spaced)
+outside (suc n) (c ∷ r) h = grind (arith, outside n r, eqb-true)
 
 -- a line that is neither of spaces alone nor content
 no_row : (column : ℕ) (l : List ℕ) → is_spaces l ≡ false → is_content_line column l ≡ false → row_of column l ≡ None

@@ -1,6 +1,6 @@
 -- Columns over a step, as a cut has them: block collections that end, and a key that waits on its line.
 use Rattle.std.proofs.lemmas.Bool.Decides.{nat_tests}
-use Rattle.proof_row.proofs.Common.{[], Account, Act, act_of, ap, arith, Before, begins_free_line, block_end, blocks_at, Bool, drop, ends_at, ends_separation, false, gives_node, has_break, has_no_break, if◌then◌else◌, is_blank, is_blank_or_end, is_break, is_in_line, is_marker, IsPiece, length, List, nat_lt, not, not_ended, Option, Position, position_after, position_past, previous_by, put, refl, replicate, subst, suc, sym, Tok, Token, true, zero, ℕ, ◌++◌, ◌+◌, ◌-◌, ◌<◌, ◌||◌, ◌∙◌, ◌∷◌, ◌≡◌, ◌≤◌, ◌⊎◌}
+use Rattle.proof_row.proofs.Common.{[], Account, Act, act_of, ap, arith, Before, begins_free_line, block_end, blocks_at, Bool, drop, ends_at, ends_separation, false, gives_node, has_break, has_no_break, if◌then◌else◌, is_blank_or_end, is_in_line, is_marker, IsPiece, length, List, nat_lt, not_ended, Option, Position, position_after, position_past, previous_by, put, refl, replicate, subst, suc, sym, Tok, Token, true, zero, ℕ, ◌++◌, ◌+◌, ◌-◌, ◌<◌, ◌∙◌, ◌∷◌, ◌≡◌, ◌≤◌, ◌⊎◌}
 use Rattle.proof_row.proofs.CutPieces.{account_by}
 use Rattle.proof_row.proofs.CutSteps.{somes}
 use Rattle.proof_row.proofs.Inserted.{past_all, AreEmpty}
@@ -38,10 +38,7 @@ LeadTo a es b = (us : List Token) (next : List ℕ) (t : Tok) → AreEmpty b us 
 ends_lead : (many : ℕ) (here p : Position) (b : Before) (bs : List ℕ) → many ≤ length bs → LeadTo (account_by here b (somes bs) []) (replicate many (put p block_end)) (account_by here b (somes (drop many bs)) [])
 ends_lead zero here p b bs m us next t e = (e, refl)
 ends_lead (suc many) here p b [] m us next t e = absurd (omega (arith, m))
-ends_lead (suc many) here p b (n ∷ bs) m us next t e =
-    let later : AreEmpty (account_by here b (somes bs) []) (replicate many (put p block_end) ++ us) next t × (past_all (account_by here b (somes bs) []) (replicate many (put p block_end) ++ us) ≡ past_all (account_by here b (somes (drop many bs)) []) us) =
-    ends_lead many here p b bs (omega (arith, m)) us next t e in
-    (((refl, refl, refl), later.0), later.1)
+ends_lead (suc many) here p b (n ∷ bs) m us next t e = grind (arith, ends_lead many here p b bs)
 
 -- at a piece outside flow
 pub blocks_end : (k : Act) (here p : Position) (b : Before) (bs : List ℕ) → LeadTo (account_by here b (somes bs) []) (ends_at p bs (blocks_at false k here.col bs)) (account_by here b (somes (blocks_at false k here.col bs)) [])
@@ -49,10 +46,6 @@ blocks_end k here p b bs =
     let o : (drop (length bs - length (blocks_at false k here.col bs)) bs ≡ blocks_at false k here.col bs) × (length (blocks_at false k here.col bs) ≤ length bs) = outer k here.col bs in
     subst (λ cs. LeadTo (account_by here b (somes bs) []) (ends_at p bs (blocks_at false k here.col bs)) (account_by here b (somes cs) [])) o.0
     (ends_lead (length bs - length (blocks_at false k here.col bs)) here p b bs (omega arith))
-
--- none ends
-pub none_ends : (a : Account) (p : Position) (bs cs : List ℕ) → cs ≡ bs → LeadTo a (ends_at p bs cs) a
-none_ends a p bs cs same = grind arith
 
 -- ---- collections that no key ends
 
@@ -75,10 +68,7 @@ not_ended_further col here (n ∷ bs) m h = by (nat_lt here n) refl
 
 pub column_grows : (p : Position) (t next : List ℕ) → has_no_break t ≡ true → (position_after p t next).col ≡ p.col + length t
 column_grows p [] next h = omega arith
-column_grows p (c ∷ t) next h =
-    let b : (not (is_break c) ≡ true) × (has_no_break t ≡ true) = both (not (is_break c)) (has_no_break t) h in
-    let past : position_past p c (t ++ next) ≡ record { index = suc p.index; line = p.line; col = suc p.col } = rw (untrue (is_break c) b.0) refl in
-    column_grows (position_past p c (t ++ next)) t next b.1 ∙ (ap (λ q. q.col + length t) past ∙ omega arith)
+column_grows p (c ∷ t) next h = grind (arith, both, untrue, column_grows (position_past p c (t ++ next)) t next)
 
 pub unbroken : (t : List ℕ) → has_break t ≡ false → has_no_break t ≡ true
 unbroken t h = grind arith
@@ -87,12 +77,7 @@ unbroken t h = grind arith
 pub in_line : (f : List ℕ) (c : ℕ) (r : List ℕ) → has_no_break f ≡ true → ends_separation (c ∷ r) ≡ true → is_in_line (f ++ (c ∷ r)) ≡ true
 unfolding is_blank_or_end
 in_line [] c r h e = grind arith
-in_line (x ∷ f) c r h e =
-    let b : (not (is_break x) ≡ true) × (has_no_break f ≡ true) = both (not (is_break x)) (has_no_break f) h in
-    rw (untrue (is_break x) b.0, in_line f c r b.1 e) (by (is_blank x))
-  where
-    by : (b : Bool) → (not b || true) ≡ true
-    by a = grind arith
+in_line (x ∷ f) c r h e = grind (arith, both, untrue, in_line f c r)
 
 -- a directive stands in column 0
 pub no_directive : (a : Account) (c : ℕ) (r n : List ℕ) (o : Option Tok) (q : Position) (t : Tok) → IsPiece a (c ∷ r) n o q t → (act_of t ≡ gives_node) ⊎ (0 < a.position.col) → (f : List ℕ) → begins_free_line (previous_by t) f ≡ has_break f

@@ -1,8 +1,8 @@
 -- A step of a row in a flow collection, as a cut has it: keys, and starts and ends of single pairs, have no piece.
-use Rattle.proof_row.proofs.Common.{[], Account, Act, act_of, ap, asked_pair, Before, begins_pair, begins_with_key_indicator, begun_by, begun_inside, Bool, ends_entry, entries_past, Entry, false, filled, first_entry, flow_entry, flow_mapping_start, FlowKind, fresh, gives_closing, gives_colon, gives_comma, gives_marker, gives_node, gives_question, Had, if◌then◌else◌, inl, inr, key_tokens, Level, levels_past, List, no_pair, None, Option, Pair, pair_end, pair_past, past_separation, Position, put, refl, sequence, settled, single_pair, Some, subst, sym, takes_pair, Tok, Token, true, with_had, ℕ, ◌++◌, ◌==◌, ◌||◌, ◌∙◌, ◌∷◌, ◌≡◌, ◌⊎◌}
+use Rattle.proof_row.proofs.Common.{[], Account, Act, act_of, ap, Before, begins_with_key_indicator, begun_by, begun_inside, Bool, ends_entry, entries_past, Entry, false, filled, flow_mapping_start, FlowKind, fresh, gives_closing, gives_colon, gives_comma, gives_marker, gives_node, gives_question, Had, inl, key_tokens, Level, levels_past, List, None, Option, Pair, pair_end, pair_past, past_separation, Position, refl, settled, Some, sym, takes_pair, Tok, Token, true, ℕ, ◌++◌, ◌||◌, ◌∷◌, ◌≡◌, ◌⊎◌, arith}
 use Rattle.defs_token.specs.FlowEntry.{waits}
 use Rattle.proof_row.proofs.CutPieces.{account_by}
-use Rattle.proof_row.proofs.CutSteps.{is_single, level_in, levels_in, levels_go_on, levels_close, node_begins, is_comma, is_colon, closing_ends, goes_on}
+use Rattle.proof_row.proofs.CutSteps.{level_in, levels_in}
 use Rattle.proof_row.proofs.Inserted.{past_all, AreEmpty}
 
 -- What comes of a piece in flow: the tokens before the one it shows have no piece, and the cut has the levels of the row.
@@ -27,13 +27,7 @@ Inner here b bs e es = account_by here b bs (levels_in (e ∷ es))
 -- an entry goes on, with a piece that does not end it
 in_entry : (d : Account) (us : List Token) (next : List ℕ) (t : Tok) (c : ℕ) (r : List ℕ) (es : List Entry) (e : Entry) (k : Act) → act_of t ≡ k → (k ≡ gives_comma → ⊥) → (k ≡ gives_closing → ⊥) →
     AreEmpty d us next t → past_all d us ≡ record d { levels = level_in e ∷ levels_in es } → Entered d us next t c r es (begun_by t ++ (e ∷ es))
-in_entry d us next t c r es e k a no_comma no_close empty same = record {
-  level = level_in e;
-  are_empty = empty;
-  account_is = same;
-  has_no_pair = λ h. absurd (cc (h, goes_on t k a no_comma no_close));
-  levels_are = levels_go_on t c r (e ∷ es) (λ h. no_close (sym a ∙ h));
-}
+in_entry d us next t c r es e k a no_comma no_close empty same = grind arith
 
 -- the same, where nothing begins
 nothing : (here : Position) (b : Before) (bs : List (Option ℕ)) (e f : Entry) (next : List ℕ) (t : Tok) (c : ℕ) (r : List ℕ) (es : List Entry) (k : Act) → act_of t ≡ k → (k ≡ gives_comma → ⊥) → (k ≡ gives_closing → ⊥) → level_in e ≡ level_in f →
@@ -49,29 +43,16 @@ Unkeyed here b bs kind pair es = Inner here b bs (entry_by kind pair fresh) es
 -- a key begins, and in a sequence its single pair
 key_enters : (kind : FlowKind) (pair : Pair) (here colon : Position) (b : Before) (bs : List (Option ℕ)) (next : List ℕ) (t : Tok) (c : ℕ) (r : List ℕ) (es : List Entry) → act_of t ≡ gives_node → begins_with_key_indicator (past_separation false next) ≡ false →
     Entered (Unkeyed here b bs kind pair es) (key_tokens (takes_pair kind pair) colon flow_mapping_start here) next t c r es (begun_by t ++ (entry_by kind pair (waits here) ∷ es))
-key_enters sequence no_pair here colon b bs next t c r es a q =
-    in_entry (Unkeyed here b bs sequence no_pair es) (key_tokens true colon flow_mapping_start here) next t c r es (entry_by sequence no_pair (waits here)) gives_node a (λ h. cc h) (λ h. cc h)
-    (inr (refl, refl, refl, q), (inr (refl, node_begins t a), tt)) refl
-key_enters kind pair here colon b bs next t c r es a q =
-    in_entry (Unkeyed here b bs kind pair es) (key_tokens false colon flow_mapping_start here) next t c r es (entry_by kind pair (waits here)) gives_node a (λ h. cc h) (λ h. cc h)
-    (inr (refl, node_begins t a), tt) refl
+key_enters kind pair here colon b bs next t c r es a q = grind (arith, in_entry)
 
 -- ---- `?`, lines for the document, and colons
-
-question_pair : (single : Bool) (pair : Pair) → is_single (pair_past single gives_question pair) ≡ is_single pair
-question_pair true no_pair = refl
-question_pair false no_pair = refl
-question_pair true pair = refl
-question_pair false pair = refl
 
 -- ---- ends of entries
 
 -- the end of a single pair, before a token that ends an entry
 pair_ends : (pair : Pair) (kind : FlowKind) (here : Position) (b : Before) (bs : List (Option ℕ)) (next : List ℕ) (t : Tok) (c : ℕ) (r : List ℕ) (es zs : List Entry) → ends_entry (Some t) ≡ true →
     levels_past (record { kind = kind; pair = false } ∷ levels_in es) (c ∷ r) t ≡ levels_in zs → Entered (Unkeyed here b bs kind pair es) (pair_end here pair) next t c r es zs
-pair_ends single_pair kind here b bs next t c r es zs e l = record { level = record { kind = kind; pair = false }; are_empty = (inr (refl, refl, e), tt); account_is = refl; has_no_pair = λ h. refl; levels_are = l }
-pair_ends no_pair kind here b bs next t c r es zs e l = record { level = record { kind = kind; pair = false }; are_empty = tt; account_is = refl; has_no_pair = λ h. refl; levels_are = l }
-pair_ends asked_pair kind here b bs next t c r es zs e l = record { level = record { kind = kind; pair = false }; are_empty = tt; account_is = refl; has_no_pair = λ h. refl; levels_are = l }
+pair_ends a kind here b bs next t c r es zs e l = grind arith
 
 -- Every piece in flow.
 pub entered : (k : Act) (again key : Bool) (had : Had) (kind : FlowKind) (pair : Pair) (here colon own : Position) (b : Before) (bs : List (Option ℕ)) (next : List ℕ) (t : Tok) (c : ℕ) (r : List ℕ) (es : List Entry) → act_of t ≡ k →
@@ -93,75 +74,20 @@ entered gives_question again key had kind pair here colon own b bs next t c r es
     entry = entry_by kind (pair_past (takes_pair kind pair) gives_question pair) settled
 
     settles : Entered (Unkeyed here b bs kind pair es) [] next t c r es (begun_by t ++ (entry ∷ es))
-    settles = nothing here b bs (entry_by kind pair fresh) entry next t c r es gives_question a (λ h. cc h) (λ h. cc h) (ap (λ z. let l : Level = record { kind = kind; pair = z || false } in l) (sym (question_pair (takes_pair kind pair) pair)))
+    settles = nothing here b bs (entry_by kind pair fresh) entry next t c r es gives_question a (λ h. cc h) (λ h. cc h)
+        (ap (λ z. let l : Level = record { kind = kind; pair = z || false } in l) (sym (grind arith)))
 
     by : (again key : Bool) (had : Had) → EnteredBy (Inner here b bs (entry_by kind pair had) es) (begun_inside (takes_pair kind pair) pair here colon own gives_question key had) next t c r es (entries_past here again gives_question (begun_by t) key (entry_by kind pair had) es)
-    by true false fresh = settles
-    by true false filled = settles
-    by true false settled = settles
-    by false false fresh = settles
-    by false false filled = settles
-    by false false settled = settles
-    by _ _ _ = tt
+    by a b d = grind (arith, settles)
 entered gives_marker again key had kind pair here colon own b bs next t c r es a q = by again key had
   where
     settles : Entered (Unkeyed here b bs kind pair es) [] next t c r es (begun_by t ++ (entry_by kind pair settled ∷ es))
     settles = nothing here b bs (entry_by kind pair fresh) (entry_by kind pair settled) next t c r es gives_marker a (λ h. cc h) (λ h. cc h) refl
 
     by : (again key : Bool) (had : Had) → EnteredBy (Inner here b bs (entry_by kind pair had) es) (begun_inside (takes_pair kind pair) pair here colon own gives_marker key had) next t c r es (entries_past here again gives_marker (begun_by t) key (entry_by kind pair had) es)
-    by true false fresh = settles
-    by true false filled = settles
-    by true false settled = settles
-    by false false fresh = settles
-    by false false filled = settles
-    by false false settled = settles
-    by _ _ _ = tt
-entered gives_colon again key had kind pair here colon own b bs next t c r es a q = by again key had kind pair
-  where
-    Of : Bool → Bool → Had → FlowKind → Pair → Type 0
-    Of again key had kind pair = EnteredBy (Inner here b bs (entry_by kind pair had) es) (begun_inside (takes_pair kind pair) pair here colon own gives_colon key had) next t c r es (entries_past here again gives_colon (begun_by t) key (entry_by kind pair had) es)
-
-    starts : Entered (Unkeyed here b bs sequence no_pair es) (put own flow_mapping_start ∷ []) next t c r es (begun_by t ++ (entry_by sequence single_pair settled ∷ es))
-    starts = in_entry (Unkeyed here b bs sequence no_pair es) (put own flow_mapping_start ∷ []) next t c r es (entry_by sequence single_pair settled) gives_colon a (λ h. cc h) (λ h. cc h)
-        (inr (refl, refl, ap (λ x. begins_pair (Some x)) (is_colon t a), (q (inr a))), tt) refl
-
-    ends : (begin : Position) (e f : Entry) (x : Bool) → level_in e ≡ level_in f → EnteredBy (Inner here b bs e es) [] next t c r es (with_had f.kind f.pair (begun_by t) es (if x then Some f.had else None))
-    ends begin e f true same = nothing here b bs e f next t c r es gives_colon a (λ h. cc h) (λ h. cc h) same
-    ends begin e f false same = tt
-
-    by : (again key : Bool) (had : Had) (kind : FlowKind) (pair : Pair) → Of again key had kind pair
-    by true false fresh sequence no_pair = starts
-    by true false settled sequence no_pair = starts
-    by false false fresh sequence no_pair = starts
-    by false false settled sequence no_pair = starts
-    by true false (waits begin) sequence no_pair = ends begin (entry_by sequence no_pair (waits begin)) (entry_by sequence single_pair settled) (begin.line == here.line) refl
-    by false false (waits begin) sequence no_pair = ends begin (entry_by sequence no_pair (waits begin)) (entry_by sequence single_pair settled) (begin.line == here.line) refl
-    by true false fresh kind pair = ends here (entry_by kind pair fresh) (entry_by kind pair settled) true refl
-    by true false settled kind pair = ends here (entry_by kind pair settled) (entry_by kind pair settled) true refl
-    by true false (waits begin) kind pair = ends begin (entry_by kind pair (waits begin)) (entry_by kind pair settled) true refl
-    by false false fresh kind pair = ends here (entry_by kind pair fresh) (entry_by kind pair settled) true refl
-    by false false settled kind pair = ends here (entry_by kind pair settled) (entry_by kind pair settled) true refl
-    by false false (waits begin) kind pair = ends begin (entry_by kind pair (waits begin)) (entry_by kind pair settled) true refl
-    by _ _ _ _ _ = tt
-entered gives_comma again key had kind pair here colon own b bs next t c r es a q = by key had
-  where
-    ends : Entered (Unkeyed here b bs kind pair es) (pair_end here pair) next t c r es (first_entry kind ∷ es)
-    ends = subst (λ x. Entered (Unkeyed here b bs kind pair es) (pair_end here pair) next x c r es (first_entry kind ∷ es)) (sym (is_comma t a)) (pair_ends pair kind here b bs next flow_entry c r es (first_entry kind ∷ es) refl refl)
-
-    by : (key : Bool) (had : Had) → EnteredBy (Inner here b bs (entry_by kind pair had) es) (begun_inside (takes_pair kind pair) pair here colon own gives_comma key had) next t c r es (entries_past here again gives_comma (begun_by t) key (entry_by kind pair had) es)
-    by false fresh = ends
-    by false filled = ends
-    by false settled = ends
-    by _ _ = tt
-entered gives_closing again key had kind pair here colon own b bs next t c r es a q = by key had
-  where
-    ends : Entered (Unkeyed here b bs kind pair es) (pair_end here pair) next t c r es es
-    ends = pair_ends pair kind here b bs next t c r es es (closing_ends t a) (levels_close t c r (record { kind = kind; pair = false }) es a)
-
-    by : (key : Bool) (had : Had) → EnteredBy (Inner here b bs (entry_by kind pair had) es) (begun_inside (takes_pair kind pair) pair here colon own gives_closing key had) next t c r es (entries_past here again gives_closing (begun_by t) key (entry_by kind pair had) es)
-    by false fresh = ends
-    by false filled = ends
-    by false settled = ends
-    by _ _ = tt
+    by a b d = grind (arith, settles)
+entered gives_colon again key had kind pair here colon own b bs next t c r es a q = grind (arith, in_entry, nothing)
+entered gives_comma again key had kind pair here colon own b bs next t c r es a q = grind (arith, pair_ends)
+entered gives_closing again key had kind pair here colon own b bs next t c r es a q = grind (arith, pair_ends)
 entered _ true key had kind pair here colon own b bs next t c r es a q = tt
 entered _ false key had kind pair here colon own b bs next t c r es a q = tt

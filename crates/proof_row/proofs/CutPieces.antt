@@ -1,54 +1,20 @@
 -- Pieces of a row at the accounts of a cut: other block collections are open there while a key waits, and pairs are open in flow levels.
-use Rattle.proof_row.proofs.Common.{[], Account, act_of, ap, Before, begins_with_key_indicator, begins_with_space_or_break, block_end, block_entry, block_mapping_start, block_sequence_start, Bool, double_quoted, ends_entry, ends_plain, ends_with_content, eqb-true, false, flow_entry, flow_mapping_end, flow_mapping_start, flow_sequence_end, flow_sequence_start, folded, gives_colon, gives_dash, gives_node, gives_question, goes_on, if◌then◌else◌, inl, innermost_column, inr, inside, is_adjacent, is_blank, is_blank_or_end, is_break, is_document_marker, is_nul, is_whole_plain, IsPiece, key, kind_at, kind_of, length, Level, List, literal, not, Option, past, past_separation, plain, plain_scalar, Position, question, refl, scalar, single_quoted, Some, Stand, stops, stream_end, stream_start, subst, sym, Tok, true, value, with_blocks, ℕ, ◌&&◌, ◌++◌, ◌==◌, ◌||◌, ◌∙◌, ◌∷◌, ◌≡◌, ◌⊎◌}
+use Rattle.proof_row.proofs.Common.{Account, act_of, Before, begins_with_key_indicator, begins_with_space_or_break, Bool, ends_entry, eqb-true, false, gives_colon, gives_dash, gives_node, gives_question, if◌then◌else◌, is_adjacent, is_blank, is_blank_or_end, is_break, is_nul, IsPiece, kind_at, length, Level, List, not, Option, past_separation, Position, question, refl, Some, subst, sym, Tok, true, with_blocks, ℕ, ◌&&◌, ◌++◌, ◌==◌, ◌||◌, ◌∷◌, ◌≡◌, ◌⊎◌, arith}
 use Rattle.defs_token.specs.Account.{is_in_flow}
-use Rattle.proof_row.proofs.Begins.{texts_begin, separations_end_before}
+use Rattle.proof_row.proofs.Begins.{separations_end_before}
 
 -- a piece that is not empty belongs to its token whatever token follows
 pub whatever_follows : (a : Account) (c : ℕ) (r n : List ℕ) (f g : Option Tok) (q : Position) (t : Tok) → IsPiece a (c ∷ r) n f q t → IsPiece a (c ∷ r) n g q t
-whatever_follows a c r n f g q flow_mapping_start (inl h) = inl h
-whatever_follows a c r n f g q flow_mapping_start (inr h) = absurd (cc h.0)
-whatever_follows a c r n f g q flow_mapping_end (inl h) = inl h
-whatever_follows a c r n f g q flow_mapping_end (inr h) = absurd (cc h.0)
-whatever_follows a c r n f g q key (inl h) = inl h
-whatever_follows a c r n f g q key (inr h) = absurd (cc h.0)
-whatever_follows a c r n f g q (scalar plain x) h = h
-whatever_follows a c r n f g q (scalar single_quoted x) h = h
-whatever_follows a c r n f g q (scalar double_quoted x) h = h
-whatever_follows a c r n f g q (scalar literal x) h = h
-whatever_follows a c r n f g q (scalar folded x) h = h
-whatever_follows a c r n f g q _ h = h
+whatever_follows a c r n f g q b h = grind arith
 
 -- ---- outside flow
 
 -- an indicator of a block collection is one whatever block collections are open
 pub indicator_with_blocks : (bs : List (Option ℕ)) (a : Account) (c : ℕ) (r n : List ℕ) (f : Option Tok) (q : Position) (t : Tok) → (act_of t ≡ gives_dash) ⊎ ((act_of t ≡ gives_question) ⊎ (act_of t ≡ gives_colon)) →
     IsPiece a (c ∷ r) n f q t → IsPiece (with_blocks bs a) (c ∷ r) n f q t
-indicator_with_blocks bs a c r n f q block_entry k h = h
-indicator_with_blocks bs a c r n f q key k h = h
-indicator_with_blocks bs a c r n f q value k h = h
-indicator_with_blocks bs a c r n f q (scalar literal x) (inl k) h = absurd (cc k)
-indicator_with_blocks bs a c r n f q (scalar literal x) (inr (inl k)) h = absurd (cc k)
-indicator_with_blocks bs a c r n f q (scalar literal x) (inr (inr k)) h = absurd (cc k)
-indicator_with_blocks bs a c r n f q _ (inl k) h = absurd (cc k)
-indicator_with_blocks bs a c r n f q _ (inr (inl k)) h = absurd (cc k)
-indicator_with_blocks bs a c r n f q _ (inr (inr k)) h = absurd (cc k)
+indicator_with_blocks bs a c r n f q b k h = grind arith
 
 -- ---- in flow
-
-ends_in_flow : (c d : Option ℕ) (s : Stand) (r : List ℕ) → ends_plain true c s r ≡ ends_plain true d s r
-ends_in_flow c d a r = cc
-
-goes_on_in_flow : (c d : Option ℕ) (s : Stand) (p n : List ℕ) → goes_on true c s p n ≡ goes_on true d s p n
-goes_on_in_flow c d s [] n = refl
-goes_on_in_flow c d s (x ∷ r) n =
-    ap (λ e. (is_blank x || is_break x || not e) && goes_on true c (past s x) r n) (ends_in_flow c d s (x ∷ (r ++ n))) ∙
-    ap (λ g. (is_blank x || is_break x || not (ends_plain true d s (x ∷ (r ++ n)))) && g) (goes_on_in_flow c d (past s x) r n)
-
-stops_in_flow : (c d : Option ℕ) (s : Stand) (n : List ℕ) → stops true c s n ≡ stops true d s n
-stops_in_flow c d s [] = refl
-stops_in_flow c d s (x ∷ r) =
-    ap (λ g. if is_blank x || is_break x then g else ends_plain true c s (x ∷ r)) (stops_in_flow c d (past s x) r) ∙
-    ap (λ e. if is_blank x || is_break x then stops true d (past s x) r else e) (ends_in_flow c d s (x ∷ r))
 
 -- an account by its parts
 abbrev pub account_by : Position → Before → List (Option ℕ) → List Level → Account
@@ -58,49 +24,14 @@ account_by p b bs ls = record { position = p; blocks = bs; levels = ls; before =
 pub piece_in_flow : (p : Position) (b : Before) (bs cs : List (Option ℕ)) (l m : Level) (ls ms : List Level) (c : ℕ) (r n : List ℕ) (f g : Option Tok) (q : Position) (t : Tok) →
     length ls ≡ length ms → (ends_entry (Some t) ≡ true → m.pair ≡ false) →
     IsPiece (account_by p b bs (l ∷ ls)) (c ∷ r) n f q t → IsPiece (account_by p b cs (m ∷ ms)) (c ∷ r) n g q t
-piece_in_flow p b bs cs l m ls ms c r n f g q stream_start e k h = absurd h
-piece_in_flow p b bs cs l m ls ms c r n f g q stream_end e k h = absurd h
-piece_in_flow p b bs cs l m ls ms c r n f g q block_sequence_start e k h = absurd (cc h.0)
-piece_in_flow p b bs cs l m ls ms c r n f g q block_mapping_start e k h = absurd (cc h.0)
-piece_in_flow p b bs cs l m ls ms c r n f g q block_end e k h = absurd (cc h.0)
-piece_in_flow p b bs cs l m ls ms c r n f g q flow_sequence_start e k h = ((h.0.0, rw (← e) h.0.1), h.1)
-piece_in_flow p b bs cs l m ls ms c r n f g q flow_mapping_start e k (inl h) = inl ((h.0.0, rw (← e) h.0.1), h.1)
-piece_in_flow p b bs cs l m ls ms c r n f g q flow_mapping_start e k (inr h) = absurd (cc h.0)
-piece_in_flow p b bs cs l m ls ms c r n f g q flow_sequence_end e k h = ((h.0.0, k refl), h.1)
-piece_in_flow p b bs cs l m ls ms c r n f g q flow_mapping_end e k (inl h) = inl ((h.0.0, k refl), h.1)
-piece_in_flow p b bs cs l m ls ms c r n f g q flow_mapping_end e k (inr h) = absurd (cc h.0)
-piece_in_flow p b bs cs l m ls ms c r n f g q flow_entry e k h = ((h.0.0, k refl), h.1)
-piece_in_flow p b bs cs l m ls ms c r n f g q block_entry e k h = absurd (cc h.2)
-piece_in_flow p b bs cs l m ls ms c r n f g q key e k (inl h) = inl h
-piece_in_flow p b bs cs l m ls ms c r n f g q key e k (inr h) = absurd (cc h.0)
-piece_in_flow p b bs cs l m ls ms c r n f g q (scalar plain x) e k h = let whole_in_flow : is_whole_plain true (innermost_column cs) (c ∷ r) n ≡ is_whole_plain true (innermost_column bs) (c ∷ r) n = ap (λ g. g && ends_with_content c r && stops true (innermost_column cs) inside n) (goes_on_in_flow (innermost_column cs) (innermost_column bs) inside r n) ∙
-    ap (λ g. goes_on true (innermost_column bs) inside r n && ends_with_content c r && g) (stops_in_flow (innermost_column cs) (innermost_column bs) inside n) in ((h.0.0, whole_in_flow ∙ h.0.1, h.0.2), h.1)
-piece_in_flow p b bs cs l m ls ms c r n f g q (scalar single_quoted x) e k h = h
-piece_in_flow p b bs cs l m ls ms c r n f g q (scalar double_quoted x) e k h = h
-piece_in_flow p b bs cs l m ls ms c r n f g q (scalar literal x) e k h = absurd (cc h.0)
-piece_in_flow p b bs cs l m ls ms c r n f g q (scalar folded x) e k h = absurd (cc h.0)
-piece_in_flow p b bs cs l m ls ms c r n f g q _ e k h = h
+piece_in_flow p b bs cs l m ls ms c r n f g q a e k h = grind arith
 
 -- ---- no indicator of a key
 
 -- the indicator of a key at a text's start is its kind
 question_there : (fl adjacent : Bool) (col : ℕ) (r : List ℕ) → begins_with_space_or_break r ≡ true → kind_at fl adjacent col (63 ∷ r) ≡ question
 unfolding is_blank is_blank_or_end
-question_there fl adjacent col [] h = absurd (cc h)
-question_there fl adjacent col (c ∷ r) h = by (c == 32) (c == 9) (is_break c) (is_nul c) (is_document_marker (63 ∷ c ∷ r)) h
-  where
-    by : (s t b n m : Bool) → (s || b) ≡ true → (if not ((s || t) || b || n) && not ((col == 0) && m) then plain_scalar else question) ≡ question
-    by true t b n m e = refl
-    by false true b n m e = refl
-    by false false true n m e = refl
-    by false false false n m e = absurd (cc e)
-
-no_question : (t : Tok) → (act_of t ≡ gives_node) ⊎ (act_of t ≡ gives_colon) → kind_of t ≡ question → (b : Bool) → b ≡ false
-no_question key (inl k) e b = absurd (cc k)
-no_question key (inr k) e b = absurd (cc k)
-no_question (scalar literal x) k e b = absurd (cc e)
-no_question (scalar folded x) k e b = absurd (cc e)
-no_question _ k e b = absurd (cc e)
+question_there fl adjacent col a h = grind arith
 
 -- a node or a colon does not begin with one
 pub begins_no_key : (a : Account) (c : ℕ) (r n : List ℕ) (f : Option Tok) (q : Position) (t : Tok) → (act_of t ≡ gives_node) ⊎ (act_of t ≡ gives_colon) → IsPiece a (c ∷ r) n f q t →
@@ -113,11 +44,7 @@ begins_no_key a c r n f q t k h = by (is_blank c) (is_break c) (is_nul c) (c == 
     here true false e i = refl
     here true true e i =
         let there : kind_at (is_in_flow a) (is_adjacent a.before) (a.position.col) (c ∷ (r ++ n)) ≡ question = subst (λ x. kind_at (is_in_flow a) (is_adjacent a.before) (a.position.col) (x ∷ (r ++ n)) ≡ question) (sym (eqb-true c 63 e)) (question_there (is_in_flow a) (is_adjacent a.before) (a.position.col) (r ++ n) i) in
-        no_question t k (sym (texts_begin a (c ∷ r) n f q t (λ e. cc e) h) ∙ there) true
+        (grind arith)
 
     by : (b l z o : Bool) → (not (b || l || z) && not o) ≡ true → begins_with_key_indicator (if b || l || o then past_separation o (r ++ n) else c ∷ (r ++ n)) ≡ false
-    by false false false false e = here (c == 63) (begins_with_space_or_break (r ++ n)) refl refl
-    by true l z o e = absurd (cc e)
-    by false true z o e = absurd (cc e)
-    by false false true o e = absurd (cc e)
-    by false false false true e = absurd (cc e)
+    by a l z o e = grind (arith, here)

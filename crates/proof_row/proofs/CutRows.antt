@@ -3,10 +3,10 @@ use Rattle.proof_row.proofs.Common.{[], account_at_piece, account_past, account_
 use Rattle.defs_token.specs.Account.{Account as PieceAccount}
 use Rattle.defs_token.specs.Step as step
 use Rattle.defs_token.specs.RowAccount.{Account, before_by as before_by_previous}
-use Rattle.proof_row.proofs.CutColumns.{LeadTo, blocks_end, none_ends, not_ended_twice, not_ended_further, column_grows, unbroken, no_directive}
+use Rattle.proof_row.proofs.CutColumns.{LeadTo, blocks_end, not_ended_twice, not_ended_further, column_grows, unbroken, no_directive}
 use Rattle.proof_row.proofs.CutEntries.{EnteredBy, entered}
 use Rattle.proof_row.proofs.CutPieces.{account_by, whatever_follows, indicator_with_blocks, piece_in_flow, begins_no_key}
-use Rattle.proof_row.proofs.CutSteps.{somes, with_key, levels_in, in_cut, before_alike, blocks_alike, settled_all, levels_outside, Sees, BegunBy, begun}
+use Rattle.proof_row.proofs.CutSteps.{somes, with_key, levels_in, in_cut, blocks_alike, settled_all, levels_outside, Sees, BegunBy, begun}
 use Rattle.proof_row.proofs.Inserted.{written, spelled_written, tokens_written, past_all, AreEmpty, IsRowTo, written_so}
 
 -- ---- a key that waits
@@ -139,7 +139,8 @@ outside_so must s line l f c r t key ws after x h same_line same on_line in_line
         let past : account_past_token opened (c ∷ r) next t ≡ in_cut z =
         ap (λ bs. account_by (position_after at.position (c ∷ r) next) (before_past_token b (c ∷ r) t) bs (levels_past [] (c ∷ r) t)) (blocks_alike opened c r next None own t (somes (with_key o.blocks o.line)) piece) ∙
         (ap (λ ls. account_by (position_after at.position (c ∷ r) next) (before_past_token b (c ∷ r) t) (somes (with_key o.blocks o.line)) ls) (levels_outside t c r) ∙
-        ap (λ y. account_by (position_after at.position (c ∷ r) next) y (somes (with_key o.blocks o.line)) (levels_in (begun_by t))) (before_alike t)) in
+        ap (λ y. account_by (position_after at.position (c ∷ r) next) y (somes (with_key o.blocks o.line)) (levels_in (begun_by t)))
+        (grind arith)) in
         subst (λ y. IsCutStep a w ws after y) to
         (stepped a w ws after z us own h.0 (ap (λ o. (ends_at at.position s.blocks at.blocks ++ more o) ++ (put own t ∷ [])) same_line) lead.0
         (λ last. subst (λ d. IsPiece d (c ∷ r) next last own t) (sym there) (whatever_follows opened c r next None last own t piece))
@@ -187,13 +188,7 @@ outside_step must s line f c r t key ws after x h same on_line in_line kept = by
 
     waiting_so : (begin : Position) → line ≡ waits begin → begins_free_line s.before f ≡ false → (m : Bool) → is_marker (act_of t) ≡ m → IsCutStep (record { site = s; line = line; entries = [] }) (record { separation = f; piece = c ∷ r; shown = t; key = key }) ws after x
     waiting_so begin e g true k = grind (arith, t, key, line, same, at, next, must, waits, x)
-    waiting_so begin e g false k =
-        let keeps : KeptBy (waits begin) s = subst (λ z. KeptBy z s) e kept in
-        let right : begin.col ≤ at.position.col = omega (arith, keeps.1, column_grows s.position f ((c ∷ r) ++ next) (unbroken f (sym (keeps.2 f) ∙ g))) in
-        let all : at.blocks ≡ s.blocks = ap (λ m. if m then [] else not_ended at.position.col s.blocks) k ∙ not_ended_further begin.col at.position.col s.blocks right keeps.0 in
-        so (waits begin) (waits begin) e (ap (λ z. line_past_separation false z (waits begin)) g)
-        (subst (λ cs. LeadTo (account_by at.position b (somes (with_key s.blocks (waits begin))) []) (ends_at at.position s.blocks at.blocks) (account_by at.position b (somes (with_key cs (waits begin))) [])) (sym all) (none_ends (account_by at.position b (somes (with_key s.blocks (waits begin))) []) at.position s.blocks at.blocks all))
-        (subst (λ cs. not_ended begin.col cs ≡ cs) (sym all) keeps.0, right)
+    waiting_so begin e g false k = grind (arith, column_grows, next, unbroken, not_ended_further, so, b)
 
     by : (n : Bool) (m : Line) → begins_free_line s.before f ≡ n → line ≡ m → IsCutStep (record { site = s; line = line; entries = [] }) (record { separation = f; piece = c ∷ r; shown = t; key = key }) ws after x
     by true free g e = so free free e (ap (λ z. line_past_separation false z free) g) (free_so free free refl refl) tt
@@ -261,7 +256,7 @@ inside_step s line e es f c r t key ws after x h same on_line kept = by_line (li
         let past : account_past_token after_all (c ∷ r) next t ≡ in_cut z =
         ap (λ y. account_by (position_after at.position (c ∷ r) next) (before_past_token b (c ∷ r) t) y (levels_past (n.level ∷ levels_in es) (c ∷ r) t)) (blocks_alike after_all c r next None own t bs piece) ∙
         (ap (λ y. account_by (position_after at.position (c ∷ r) next) (before_past_token b (c ∷ r) t) bs y) n.levels_are ∙
-        (ap (λ y. account_by (position_after at.position (c ∷ r) next) y bs (levels_in zs)) (before_alike t) ∙
+        (ap (λ y. account_by (position_after at.position (c ∷ r) next) y bs (levels_in zs)) (grind arith) ∙
         ap (λ y. account_by (position_after at.position (c ∷ r) next) (before_by_previous (previous_by t)) (somes (with_key s.blocks y)) (levels_in zs)) (sym flow.0))) in
         let waiting : KeptBy l z.site = subst (λ y. KeptBy y z.site) (sym flow.0) (keeps line kept flow.1 one_line piece) in
         subst (λ y. IsCutStep a w ws after y) to
@@ -271,12 +266,7 @@ inside_step s line e es f c r t key ws after x h same on_line kept = by_line (li
       where
         keeps : (m : Line) → KeptBy m s → (is_waiting m ≡ true → begins_free_line s.before f ≡ false) → (is_waiting m ≡ true → has_no_break (c ∷ r) ≡ true) → IsPiece (account_by at.position b bs (n.level ∷ levels_in es)) (c ∷ r) next None own t →
             KeptBy m (site_past true at (c ∷ r) t next at.blocks)
-        keeps free k broken one p = tt
-        keeps taken k broken one p = tt
-        keeps (waits begin) k broken one p =
-            let right : begin.col < at.position.col = omega (arith, k.1, column_grows s.position f ((c ∷ r) ++ next) (unbroken f (sym (k.2 f) ∙ broken refl))) in
-            kept_on (waits begin) at.position s.blocks (site_past true at (c ∷ r) t next at.blocks).awaits c r next t (k.0, omega (arith, right)) one
-            (λ i. no_directive (account_by at.position b bs (n.level ∷ levels_in es)) c r next None own t p (inr (omega (arith, right))))
+        keeps a k broken one p = grind (arith, column_grows, next, unbroken, kept_on, no_directive, b, bs, own)
 
     by_line : (o : Option Line) → line_past_separation true (begins_free_line s.before f) line ≡ o → past_piece at (c ∷ r) t next (is_renewed s.before f) key o (e ∷ es) ≡ Some x → IsCutStep a w ws after x
     by_line None g i = absurd (cc i)

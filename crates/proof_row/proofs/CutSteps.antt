@@ -1,5 +1,5 @@
 -- A step of a row, as a cut has it: the tokens before the one that it shows have no piece, and the account of the cut goes on as that of the row.
-use Rattle.proof_row.proofs.Common.{[], Account, account_at_piece, Act, act_of, ap, Before, before_by, begins_node, begun_by, begun_outside, block_end, block_mapping_start, block_sequence_start, blocks_past, Bool, double_quoted, ends_entry, Entry, false, flow_entry, flow_mapping_end, flow_mapping_start, flow_sequence_end, flow_sequence_start, folded, free, gives_block_scalar, gives_closing, gives_colon, gives_comma, gives_dash, gives_marker, gives_node, gives_question, if◌then◌else◌, inl, inr, is_deeper, is_keyed, is_near, is_waiting, IsPiece, key_tokens, keyed, Level, levels_past, Line, line_past, List, literal, map, None, opened, Option, Outside, Pair, plain, Position, previous_by, refl, scalar, single_pair, single_quoted, Some, start_if, subst, sym, taken, takes_pair, Tok, Token, true, unless_key, value, waits, ℕ, ◌&&◌, ◌++◌, ◌||◌, ◌∙◌, ◌∷◌, ◌≡◌, ◌⊎◌}
+use Rattle.proof_row.proofs.Common.{[], Account, account_at_piece, Act, act_of, ap, Before, begins_node, begun_by, begun_outside, block_mapping_start, block_sequence_start, blocks_past, Bool, Entry, false, free, gives_block_scalar, gives_closing, gives_colon, gives_comma, gives_dash, gives_marker, gives_node, gives_question, if◌then◌else◌, inl, inr, is_deeper, is_keyed, is_near, is_waiting, IsPiece, key_tokens, keyed, Level, levels_past, Line, line_past, List, map, None, opened, Option, Outside, Pair, Position, refl, single_pair, Some, start_if, taken, takes_pair, Tok, Token, true, unless_key, waits, ℕ, ◌&&◌, ◌||◌, ◌∷◌, ◌≡◌, ◌⊎◌, arith}
 use Rattle.defs_token.specs.Account.{settled}
 use Rattle.defs_token.specs.RowAccount.{Account as RowAccount, before_by as before_by_previous}
 use Rattle.proof_row.proofs.CutPieces.{account_by}
@@ -34,79 +34,17 @@ in_cut a = account_by a.site.position (before_by_previous a.site.before) (somes 
 
 -- ---- tokens
 
-pub before_alike : (t : Tok) → before_by t ≡ before_by_previous (previous_by t)
-before_alike (scalar plain x) = refl
-before_alike (scalar single_quoted x) = refl
-before_alike (scalar double_quoted x) = refl
-before_alike (scalar literal x) = refl
-before_alike (scalar folded x) = refl
-before_alike _ = refl
-
 -- a piece is of no token of a block collection
 pub blocks_alike : (a : Account) (c : ℕ) (r n : List ℕ) (f : Option Tok) (q : Position) (t : Tok) (bs : List (Option ℕ)) → IsPiece a (c ∷ r) n f q t → blocks_past bs t ≡ bs
-blocks_alike a c r n f q block_sequence_start bs h = absurd (cc h.0)
-blocks_alike a c r n f q block_mapping_start bs h = absurd (cc h.0)
-blocks_alike a c r n f q block_end bs h = absurd (cc h.0)
-blocks_alike a c r n f q _ bs h = refl
+blocks_alike a c r n f q b bs h = grind arith
 
 pub settled_all : (column : ℕ) (bs : List ℕ) → settled column (somes bs) ≡ somes bs
 settled_all column [] = refl
 settled_all column (n ∷ bs) = ap (λ z. Some n ∷ z) (settled_all column bs)
 
--- the levels after a piece that closes no collection
-pub levels_go_on : (t : Tok) (c : ℕ) (r : List ℕ) (es : List Entry) → (act_of t ≡ gives_closing → ⊥) → levels_past (levels_in es) (c ∷ r) t ≡ levels_in (begun_by t ++ es)
-levels_go_on flow_sequence_end c r es n = absurd (n refl)
-levels_go_on flow_mapping_end c r es n = absurd (n refl)
-levels_go_on flow_sequence_start c r es n = refl
-levels_go_on flow_mapping_start c r es n = refl
-levels_go_on _ c r es n = refl
-
-pub levels_close : (t : Tok) (c : ℕ) (r : List ℕ) (l : Level) (es : List Entry) → act_of t ≡ gives_closing → levels_past (l ∷ levels_in es) (c ∷ r) t ≡ levels_in es
-levels_close flow_sequence_end c r l es k = refl
-levels_close flow_mapping_end c r l es k = refl
-levels_close (scalar literal x) c r l es k = absurd (cc k)
-levels_close (scalar folded x) c r l es k = absurd (cc k)
-levels_close _ c r l es k = absurd (cc k)
-
 -- outside flow
 pub levels_outside : (t : Tok) (c : ℕ) (r : List ℕ) → levels_past [] (c ∷ r) t ≡ levels_in (begun_by t)
-levels_outside flow_sequence_start c r = refl
-levels_outside flow_mapping_start c r = refl
-levels_outside flow_sequence_end c r = refl
-levels_outside flow_mapping_end c r = refl
-levels_outside _ c r = refl
-
-pub node_begins : (t : Tok) → act_of t ≡ gives_node → begins_node (Some t) ≡ true
-node_begins (scalar plain x) k = refl
-node_begins (scalar single_quoted x) k = refl
-node_begins (scalar double_quoted x) k = refl
-node_begins (scalar literal x) k = cc
-node_begins (scalar folded x) k = cc
-node_begins _ k = cc
-
-pub is_comma : (t : Tok) → act_of t ≡ gives_comma → t ≡ flow_entry
-is_comma flow_entry k = refl
-is_comma (scalar literal x) k = absurd (cc k)
-is_comma (scalar folded x) k = absurd (cc k)
-is_comma _ k = absurd (cc k)
-
-pub is_colon : (t : Tok) → act_of t ≡ gives_colon → t ≡ value
-is_colon value k = refl
-is_colon (scalar literal x) k = absurd (cc k)
-is_colon (scalar folded x) k = absurd (cc k)
-is_colon _ k = absurd (cc k)
-
-pub closing_ends : (t : Tok) → act_of t ≡ gives_closing → ends_entry (Some t) ≡ true
-closing_ends (scalar literal x) k = absurd (cc k)
-closing_ends (scalar folded x) k = absurd (cc k)
-closing_ends _ k = cc
-
--- a piece that ends no entry
-pub goes_on : (t : Tok) (k : Act) → act_of t ≡ k → (k ≡ gives_comma → ⊥) → (k ≡ gives_closing → ⊥) → ends_entry (Some t) ≡ false
-goes_on flow_entry k e no_comma no_close = absurd (no_comma (sym e))
-goes_on flow_sequence_end k e no_comma no_close = absurd (no_close (sym e))
-goes_on flow_mapping_end k e no_comma no_close = absurd (no_close (sym e))
-goes_on _ k e no_comma no_close = refl
+levels_outside a c r = grind arith
 
 -- ---- outside flow
 
@@ -133,11 +71,7 @@ Outer here b bs = account_by here b (somes bs) []
 
 -- nothing begins
 plainly : (here : Position) (b : Before) (next : List ℕ) (t : Tok) (k : Act) (c : ℕ) (r bs : List ℕ) (x : Outside) → (cs : List ℕ) → with_key x.blocks x.line ≡ cs → Sees k bs x → Begun (Outer here b cs) [] next t k c r bs x
-plainly here b next t k c r bs x cs e s = record {
-  are_empty = tt;
-  blocks_are = ap (λ z. account_by here b z []) (settled_all here.col cs ∙ ap somes (sym e));
-  sees = s;
-}
+plainly here b next t k c r bs x cs e s = grind (arith, settled_all)
 
 unless : (here : Position) (b : Before) (must : Bool) (next : List ℕ) (t : Tok) (k : Act) (c : ℕ) (r bs : List ℕ) (l : Line) → with_key bs l ≡ bs → BegunBy (Outer here b bs) [] next t k c r bs (unless_key must l bs)
 unless here b true next t k c r bs l e = tt
@@ -146,32 +80,12 @@ unless here b false next t k c r bs l e = plainly here b next t k c r bs (record
 -- a block collection begins with an indicator
 collection_begins : (here : Position) (b : Before) (start : Tok) (next : List ℕ) (t : Tok) (k : Act) (c : ℕ) (r bs : List ℕ) → (start ≡ block_sequence_start) ⊎ (start ≡ block_mapping_start) → IsIndicator k →
     Begun (Outer here b bs) (start_if (is_deeper here.col bs) here start) next t k c r bs (record { line = free; blocks = opened here.col bs })
-collection_begins here b start next t k c r bs s i = by s (is_deeper here.col bs)
-  where
-    Of : Tok → Bool → Type 0
-    Of s d = Begun (Outer here b bs) (start_if d here s) next t k c r bs (record { line = free; blocks = (if d then here.col ∷ bs else bs) })
-
-    by : (start ≡ block_sequence_start) ⊎ (start ≡ block_mapping_start) → (d : Bool) → Of start d
-    by (inl e) true = subst (λ s. Of s true) (sym e) (record { are_empty = ((refl, refl), tt); blocks_are = ap (λ z. account_by here b (Some here.col ∷ z) []) (settled_all here.col bs); sees = inr (inr i) })
-    by (inr e) true = subst (λ s. Of s true) (sym e) (record { are_empty = ((refl, refl), tt); blocks_are = ap (λ z. account_by here b (Some here.col ∷ z) []) (settled_all here.col bs); sees = inr (inr i) })
-    by s false = plainly here b next t k c r bs (record { line = free; blocks = bs }) bs refl (inl refl)
+collection_begins here b start next t k c r bs s i = grind (arith, settled_all, plainly)
 
 -- a key begins, and its mapping where it is deeper
 key_begins : (here colon : Position) (b : Before) (next : List ℕ) (t : Tok) (c : ℕ) (r bs : List ℕ) → begins_node (Some t) ≡ true →
     Begun (Outer here b bs) (key_tokens (is_deeper here.col bs) colon block_mapping_start here) next t gives_node c r bs (record { line = waits here; blocks = bs })
-key_begins here colon b next t c r bs n = by (is_deeper here.col bs) refl
-  where
-    by : (d : Bool) → is_deeper here.col bs ≡ d → Begun (Outer here b bs) (key_tokens d colon block_mapping_start here) next t gives_node c r bs (record { line = waits here; blocks = bs })
-    by true e = record {
-      are_empty = ((refl, refl), (inr (refl, n), tt));
-      blocks_are = ap (λ z. account_by here b (Some here.col ∷ z) []) (settled_all here.col bs) ∙ ap (λ z. account_by here b (somes (if z then here.col ∷ bs else bs)) []) (sym e);
-      sees = inr (inl (refl, refl));
-    }
-    by false e = record {
-      are_empty = (inr (refl, n), tt);
-      blocks_are = ap (λ z. account_by here b z []) (settled_all here.col bs) ∙ ap (λ z. account_by here b (somes (if z then here.col ∷ bs else bs)) []) (sym e);
-      sees = inr (inl (refl, refl));
-    }
+key_begins here colon b next t c r bs n = grind (arith, settled_all)
 
 -- a colon ends the key that waits
 key_ends : (here : Position) (b : Before) (next : List ℕ) (t : Tok) (c : ℕ) (r bs : List ℕ) (begin : Position) → BegunBy (Outer here b (opened begin.col bs)) [] next t gives_colon c r bs (keyed begin here bs)
@@ -184,7 +98,7 @@ key_ends here b next t c r bs begin = by (is_near begin here)
 -- every piece outside flow
 pub begun : (k : Act) (must key : Bool) (l : Line) (here colon : Position) (b : Before) (next : List ℕ) (t : Tok) (c : ℕ) (r bs : List ℕ) → act_of t ≡ k →
     BegunBy (Outer here b (with_key bs l)) (begun_outside (is_deeper here.col bs) here colon k key (Some l)) next t k c r bs (line_past must here bs k key l)
-begun gives_node must true free here colon b next t c r bs e = key_begins here colon b next t c r bs (node_begins t e)
+begun gives_node must true free here colon b next t c r bs e = key_begins here colon b next t c r bs (grind arith)
 begun gives_node must false free here colon b next t c r bs e = unless here b must next t gives_node c r bs taken refl
 begun gives_node must false taken here colon b next t c r bs e = plainly here b next t gives_node c r bs (record { line = taken; blocks = bs }) bs refl (inl refl)
 begun gives_node must false (waits begin) here colon b next t c r bs e = plainly here b next t gives_node c r bs (record { line = waits begin; blocks = bs }) (opened begin.col bs) refl (inr (inl (refl, refl)))

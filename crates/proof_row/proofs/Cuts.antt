@@ -1,6 +1,5 @@
 -- A row is a cut, and steps with which a row may begin are a cut of a beginning of the text.
-use Rattle.proof_row.proofs.Common.{[], account_past, account_past_row, ap, append_assoc, append_cancel_right, Before, before_past, Begins, begins_free_line, block_end, Bool, ends_with_stream, Entry, false, first_account, first_position, first_token, free, has_break, have_no_key, if◌then◌else◌, is_closed, is_in_flow, is_in_line, is_renewed, is_separation, is_waiting, IsCut, IsRead, IsRow, IsRowFrom, IsWritten, Leads, Line, line_past_separation, List, may_end, may_stand, nat_lt, None, not, on_one_line, Option, past_piece, Position, position_after, put, refl, seen, shown_position, Site, site_at, Some, spelled, start_token, Step, stream_end, stream_position, stream_start, subst, sym, taken, Tok, Token, tokens_from, tokens_of, tokens_of_step, true, up_to_nul, waits, Written, ℕ, ◌&&◌, ◌++◌, ◌∙◌, ◌∷◌, ◌≡◌}
-use Rattle.defs_token.specs.Account.{Account as PieceAccount}
+use Rattle.proof_row.proofs.Common.{[], account_past, account_past_row, ap, append_assoc, append_cancel_right, Before, Begins, begins_free_line, block_end, Bool, ends_with_stream, Entry, false, first_account, first_position, first_token, free, has_break, have_no_key, if◌then◌else◌, is_closed, is_in_flow, is_in_line, is_renewed, is_separation, is_waiting, IsCut, IsRead, IsRow, IsRowFrom, IsWritten, Leads, Line, line_past_separation, List, may_end, may_stand, nat_lt, None, not, on_one_line, Option, past_piece, Position, position_after, put, refl, Site, site_at, Some, spelled, start_token, Step, stream_end, stream_position, stream_start, subst, sym, taken, Tok, Token, tokens_from, tokens_of, tokens_of_step, true, up_to_nul, waits, Written, ℕ, ◌&&◌, ◌++◌, ◌∙◌, ◌∷◌, ◌≡◌, arith}
 use Rattle.defs_token.specs.Account as cut
 use Rattle.defs_token.specs.Step.{Row}
 use Rattle.defs_token.specs.Step as step
@@ -18,27 +17,18 @@ use Rattle.proof_row.proofs.CutPieces.{account_by}
 -- no break stands after a key that waits
 line_stands : (may fl broken : Bool) (at : Site) (p : List ℕ) (t : Tok) (next : List ℕ) (again key : Bool) (begin : Position) (es : List Entry) (x : Account) →
     (if may then on_one_line p (past_piece at p t next again key (line_past_separation fl broken (waits begin)) es) else None) ≡ Some x → broken ≡ false
-line_stands false fl broken at p t next again key begin es x e = absurd (cc e)
-line_stands true fl true at p t next again key begin es x e = absurd (cc e)
-line_stands true fl false at p t next again key begin es x e = refl
+line_stands a fl broken at p t next again key begin es x e = grind arith
 
 -- after a key that waits the text goes on in its line
 waits_in_line : (a : Account) (ws : List Step) (after : List ℕ) (b : Account) → Leads (Some a) ws after b → may_end b ≡ true → IsKept a → is_waiting a.line ≡ true → is_in_line (step.spelled ws after) ≡ true
-waits_in_line a [] after b h ends kept w = absurd (by (is_waiting a.line) (have_no_key a.entries) w (ap may_end h ∙ ends))
-  where
-    by : (x y : Bool) → x ≡ true → (not x && y) ≡ true → ⊥
-    by true y e f = cc f
-    by false y e f = cc e
+waits_in_line a [] after b h ends kept w = grind arith
 waits_in_line a (w ∷ ws) after b h ends kept waiting = by_line a.line refl waiting
   where
     next : List ℕ
     next = step.spelled ws after
 
     by_piece : (f p : List ℕ) (t : Tok) → IsWritten a (record { separation = f; piece = p; shown = t; key = w.key }) next → has_break f ≡ false → is_in_line (f ++ (p ++ next)) ≡ true
-    by_piece f [] t h e = absurd (cc h.1.0)
-    by_piece f (c ∷ r) t h e =
-        let at : Site = site_at (is_in_flow a.entries) a.site f (c ∷ r) t next in
-        in_line f c (r ++ next) (unbroken f e) (separations_end_before (seen a at f) (c ∷ r) next None (shown_position at (c ∷ r) t next) t (λ e. cc e) h.1.1)
+    by_piece f a t h e = grind (arith, in_line, unbroken, separations_end_before)
 
     by_past : (begin : Position) → a.line ≡ waits begin → (o : Option Account) → account_past a w next ≡ o → Leads o ws after b → begins_free_line a.site.before w.separation ≡ false
     by_past begin e None g k = absurd k
@@ -67,12 +57,7 @@ pub record IsCutTo (a : Account) (ws : List Step) (after : List ℕ) (b : Accoun
 
 -- Steps that lead to an account at which no key waits are a row of a cut.
 pub cut_to : (a : Account) (ws : List Step) (after : List ℕ) (b : Account) → Leads (Some a) ws after b → may_end b ≡ true → IsKept a → IsCutTo a ws after b
-cut_to a [] after b h ends kept = record {
-  row = [];
-  spells = refl;
-  tokens_are = ap (λ x. tokens_from (Some x) [] after) h;
-  is_row = record { is_row = λ last. tt; past = ap in_cut h };
-}
+cut_to a [] after b h ends kept = grind arith
 cut_to a (w ∷ ws) after b h ends kept = by (account_past a w next) refl h.1 (λ x. cut_to x ws after b)
   where
     next : List ℕ
@@ -113,15 +98,8 @@ ends_tokens [] end = refl
 ends_tokens (n ∷ bs) end = ap (λ ts. put (if nat_lt end.col n then end else stream_position end) block_end ∷ ts) (ends_tokens bs end)
 
 ends_row : (bs : List ℕ) (p end : Position) (b : Before) (after : List ℕ) → IsRowTo (account_by p b (somes bs) []) (ends_written bs end) after (account_by p b [] [])
-ends_row [] p end b after = record { is_row = λ last. tt; past = refl }
-ends_row (n ∷ bs) p end b after =
-    let parted : PieceAccount = account_by p (before_past b []) (somes bs) [] in
-    let same : account_by p b (somes bs) [] ≡ parted = ap (λ y. account_by p y (somes bs) []) (sym (before_again b)) in
-    let later : IsRowTo (account_by p b (somes bs) []) (ends_written bs end) after (account_by p b [] []) = ends_row bs p end b after in
-    record {
-      is_row = λ last. ((refl, (refl, refl, refl)), subst (λ a. IsRow a (ends_written bs end) after last) same (later.is_row last));
-      past = ap (λ a. account_past_row a (ends_written bs end) after) (sym same) ∙ later.past;
-    }
+ends_row [] p end b after = grind (arith)
+ends_row (n ∷ bs) p end b after = grind (arith, before_again, ends_row bs p end b after)
 
 -- the row after a text's last piece
 record IsEnd (a : Account) (last : List ℕ) : Type 0 where
@@ -162,9 +140,7 @@ ends_so a last h = by a.line a.entries h
 row_leads : (o : Option Account) (ws : List Step) (last : List ℕ) → IsRowFrom o ws last → (b : Account) × Leads o ws last b × (is_separation false last [] ≡ true) × (may_end b ≡ true)
 row_leads None ws last h = absurd h
 row_leads (Some a) [] last h = (a, refl, h.0, h.1)
-row_leads (Some a) (w ∷ ws) last h =
-    let r : (b : Account) × Leads (account_past a w (step.spelled ws last)) ws last b × (is_separation false last [] ≡ true) × (may_end b ≡ true) = row_leads (account_past a w (step.spelled ws last)) ws last h.1 in
-    (r.0, (h.0, r.1), r.2, r.3)
+row_leads (Some a) (w ∷ ws) last h = grind (arith, row_leads (account_past a w (step.spelled ws last)) ws last h.1)
 
 -- Tokens of a row of a text are a cut of it.
 pub rows_are_cuts : (text : List ℕ) (ts : List Token) → IsRead text ts → IsCut ts text

@@ -1,6 +1,6 @@
 -- A directive has one end: its line's.
-use Rattle.proof_row.proofs.Common.{[], all_of, Bool, DirectivesHaveOneEnd, false, has_no_break, has_no_nul, is_at_line_end, is_break, is_nul, List, not, refl, true, ℕ, ◌||◌, ◌∷◌, ◌≡◌}
-use Rattle.proof_row.proofs.Runs.{both, joined, untrue, ends_run, runs}
+use Rattle.proof_row.proofs.Common.{[], all_of, Bool, DirectivesHaveOneEnd, has_no_break, has_no_nul, is_at_line_end, is_break, List, not, refl, true, ℕ, ◌∷◌, ◌≡◌, arith}
+use Rattle.proof_row.proofs.Runs.{both, joined, ends_run, runs}
 use Rattle.proof_row.proofs.Texts.{no_nul_after}
 
 abbrev is_in_line : ℕ → Bool
@@ -11,13 +11,7 @@ in_line [] h = refl
 in_line (c ∷ p) h = joined _ _ (both _ _ h).0 (in_line p (both _ _ h).1)
 
 ended : (x : List ℕ) → is_at_line_end x ≡ true → has_no_nul x ≡ true → ends_run is_in_line x ≡ true
-ended [] h k = refl
-ended (c ∷ x) h k = by (is_break c) (is_nul c) h (untrue _ (both _ _ k).0)
-  where
-    by : (break nul : Bool) → (break || nul) ≡ true → nul ≡ false → not (not break) ≡ true
-    by true nul f g = refl
-    by false true f g = absurd (cc g)
-    by false false f g = f
+ended a h k = grind arith
 
 pub directives : DirectivesHaveOneEnd
 directives p q x y h k e =

@@ -1,5 +1,5 @@
 -- Tokens without a piece before a token with its piece, as a cut has them: what each step of a row is there.
-use Rattle.proof_row.proofs.Common.{[], Account, account_at_piece, account_past_row, account_past_separation, account_past_token, ap, Before, before_past, blocks_past, collection, false, first_token, is_separation, IsPiece, IsRow, levels_past, List, Option, other, quoted, refl, Some, spelled, subst, sym, Tok, Token, tokens_of, true, Written, ℕ, ◌++◌, ◌∙◌, ◌∷◌, ◌≡◌}
+use Rattle.proof_row.proofs.Common.{[], Account, account_at_piece, account_past_row, account_past_separation, account_past_token, ap, Before, before_past, blocks_past, false, first_token, is_separation, IsPiece, IsRow, levels_past, List, Option, refl, Some, spelled, subst, sym, Tok, Token, tokens_of, true, Written, ℕ, ◌++◌, ◌∙◌, ◌∷◌, ◌≡◌, arith}
 use Rattle.defs_token.specs.Cut.{IsWritten, account_past}
 
 -- ---- the row
@@ -23,8 +23,7 @@ first_of [] t = t
 first_of (u ∷ us) t = u.tok
 
 first_written : (f : List ℕ) (us : List Token) (p : List ℕ) (t : Token) (last : Option Tok) → first_token (written f us p t) last ≡ Some (first_of us t.tok)
-first_written f [] p t last = refl
-first_written f (u ∷ us) p t last = refl
+first_written f a p t last = grind arith
 
 -- ---- accounts
 
@@ -42,12 +41,7 @@ AreEmpty a [] next t = Unit {0}
 AreEmpty a (u ∷ us) next t = IsPiece a [] next (Some (first_of us t)) u.position u.tok × AreEmpty (past_empty a u.tok) us next t
 
 pub before_again : (b : Before) → before_past b [] ≡ b
-before_again quoted = refl
-before_again collection = refl
-before_again other = refl
-
-again : (a : Account) (next : List ℕ) → account_past_separation a [] next ≡ a
-again a next = ap (λ b. record a { before = b }) (before_again a.before)
+before_again a = grind arith
 
 -- ---- rows
 
@@ -68,7 +62,7 @@ written_so a f (u ∷ us) p t next fills empty piece =
     let own : Written = record { separation = f; piece = []; token = u } in
     let more : List Written = written [] us p t in
     let End : Account → Account = λ b. account_past_token (account_at_piece (past_all b us) p) p next t.tok in
-    let same : past ≡ account_past_separation past [] (p ++ next) = sym (again past (p ++ next)) in
+    let same : past ≡ account_past_separation past [] (p ++ next) = sym (ap (λ b. record past { before = b }) (before_again past.before)) in
     let cut : p ++ next ≡ spelled more next = sym (spelled_written [] us p t next) in
     let later : IsRowTo past more next (End (account_past_separation past [] (p ++ next))) =
     written_so past [] us p t next refl (subst (λ b. AreEmpty b us (p ++ next) t.tok) same empty.1)

@@ -1,5 +1,5 @@
 -- A key that waits in an entry of a flow collection began on the position's line, or on an earlier one.
-use Rattle.proof_row.proofs.Common.{[], account_past, Act, act_of, arith, begins_free_line, begun_by, Bool, ends_line, entries_past, Entry, gives_closing, gives_comma, Had, if◌then◌else◌, is_in_flow, is_renewed, Leads, Line, line_past_separation, List, may_stand, None, on_one_line, Option, past_inside, past_piece, Position, position_after, position_past, Site, site_at, Some, Step, subst, suc, Tok, ℕ, ◌++◌, ◌∷◌, ◌≤◌}
+use Rattle.proof_row.proofs.Common.{[], account_past, arith, begins_free_line, Bool, Entry, Had, if◌then◌else◌, is_in_flow, is_renewed, Leads, Line, line_past_separation, List, may_stand, None, on_one_line, Option, past_piece, Position, position_after, position_past, Site, site_at, Some, Step, subst, Tok, ℕ, ◌++◌, ◌∷◌, ◌≤◌}
 use Rattle.defs_token.specs.Step.{spelled}
 use Rattle.defs_token.specs.FlowEntry.{waits}
 use Rattle.defs_token.specs.RowAccount.{Account}
@@ -22,11 +22,7 @@ KeysBefore a = AreBefore a.entries a.site.position.line
 
 pub line_grows : (p : Position) (t next : List ℕ) → p.line ≤ (position_after p t next).line
 line_grows p [] next = omega arith
-line_grows p (c ∷ t) next = by (ends_line c (t ++ next)) (line_grows (position_past p c (t ++ next)) t next)
-  where
-    by : (b : Bool) → (let q : Position = (if b then record { index = suc p.index; line = suc p.line; col = 0 } else record { index = suc p.index; line = p.line; col = suc p.col }) in q.line ≤ (position_after (position_past p c (t ++ next)) t next).line) →
-        p.line ≤ (position_after (position_past p c (t ++ next)) t next).line
-    by a h = grind arith
+line_grows p (c ∷ t) next = grind (arith, line_grows (position_past p c (t ++ next)) t next)
 
 later : (es : List Entry) (m n : ℕ) → m ≤ n → AreBefore es m → AreBefore es n
 later [] m n l b = tt
@@ -34,27 +30,12 @@ later (e ∷ es) m n l b = ((grind arith), later es m n l b.1)
 
 -- ---- a step
 
-abbrev Then : ℕ → Option (List Entry) → Type 0
-Then n None = Unit {0}
-Then n (Some es) = AreBefore es n
-
-entries_before : (k : Act) (here : Position) (again key : Bool) (t : Tok) (e : Entry) (es : List Entry) (n : ℕ) → here.line ≤ n → AreBefore (e ∷ es) n → Then n (entries_past here again k (begun_by t) key e es)
-entries_before gives_comma here again key t e es n l b = grind arith
-entries_before gives_closing here again key t e es n l b = grind arith
-entries_before k here again key t e es n l b = grind arith
-
 abbrev Kept : Option Account → Type 0
 Kept None = Unit {0}
 Kept (Some a) = KeysBefore a
 
 piece_before : (s : Site) (p : List ℕ) (t : Tok) (next : List ℕ) (again key : Bool) (l : Option Line) (es : List Entry) → AreBefore es s.position.line → Kept (past_piece s p t next again key l es)
-piece_before s p t next again key None es b = tt
-piece_before s p t next again key (Some l) [] b = grind arith
-piece_before s p t next again key (Some l) (e ∷ es) b = by (entries_past s.position again (act_of t) (begun_by t) key e es) (entries_before (act_of t) s.position again key t e es s.position.line (omega arith) b)
-  where
-    by : (o : Option (List Entry)) → Then s.position.line o → Kept (past_inside s p t next l o)
-    by None i = tt
-    by (Some zs) i = later zs s.position.line (position_after s.position p next).line (line_grows s.position p next) i
+piece_before s p t next again key a es b = grind (arith, later, line_grows)
 
 one_line_before : (may : Bool) (p : List ℕ) (o : Option Account) → Kept o → Kept (if may then on_one_line p o else None)
 one_line_before a p o b = grind arith

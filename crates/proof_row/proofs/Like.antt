@@ -1,5 +1,5 @@
 -- Accounts that are alike but for keys that wait, and what a step makes of two like things.
-use Rattle.proof_row.proofs.Common.{[], ap, Bool, Entry, false, filled, free, fresh, Had, if◌then◌else◌, Line, List, None, Option, Outside, refl, settled, Some, taken, true, waits, ◌++◌, ◌∙◌, ◌∷◌, ◌≡◌}
+use Rattle.proof_row.proofs.Common.{[], Bool, Entry, filled, free, fresh, Had, if◌then◌else◌, Line, List, None, Option, Outside, refl, settled, Some, taken, waits, ◌++◌, ◌∷◌, ◌≡◌, arith}
 use Rattle.defs_token.specs.FlowEntry.{Had.waits as had_waits}
 use Rattle.defs_token.specs.RowAccount.{Account}
 
@@ -39,16 +39,6 @@ IsLike a b = (a.site ≡ b.site) × LikeLine a.line b.line × LikeEntries a.entr
 abbrev pub LikeOutside : Outside → Outside → Type 0
 LikeOutside x y = LikeLine x.line y.line × (x.blocks ≡ y.blocks)
 
-had_itself : (h : Had) → LikeHad h h
-had_itself fresh = tt
-had_itself filled = tt
-had_itself (had_waits p) = refl
-had_itself settled = tt
-
-pub entries_themselves : (es : List Entry) → LikeEntries es es
-entries_themselves [] = tt
-entries_themselves (e ∷ es) = ((refl, refl, had_itself e.had), entries_themselves es)
-
 -- ---- what a step makes of two like things
 
 -- What holds of what comes of two like things by a step: it is like again, and where it is equal, so were they, and more.
@@ -57,36 +47,19 @@ Stepped Like Were (Some x) (Some y) = Like x y × (x ≡ y → Were)
 Stepped Like Were (Some x) None = Unit {0}
 Stepped Like Were None y = Unit {0}
 
-pub none_second : {A : Type 0} → (Like : A → A → Type 0) (Were : Type 0) (x : Option A) → Stepped Like Were x None
-none_second Like Were None = tt
-none_second Like Were (Some x) = tt
-
 -- what follows from a step follows also where more is said of what was before
 pub weaker : {A : Type 0} → (Like : A → A → Type 0) (P Q : Type 0) (x y : Option A) → (P → Q) → Stepped Like P x y → Stepped Like Q x y
-weaker Like P Q None y f s = tt
-weaker Like P Q (Some x) None f s = tt
-weaker Like P Q (Some x) (Some y) f s = (s.0, λ h. f (s.1 h))
-
--- a step that either thing may fail to make
-pub unless : {A : Type 0} → (Like : A → A → Type 0) (Were : Type 0) (m n : Bool) (x y : A) → Like x y → (x ≡ y → Were) →
-    Stepped Like Were (if m then None else Some x) (if n then None else Some y)
-unless Like Were true n x y i f = tt
-unless Like Were false true x y i f = tt
-unless Like Were false false x y i f = (i, f)
+weaker a b d e y f s = grind arith
 
 -- a step that both make, or neither
 pub where_both : {A : Type 0} → (Like : A → A → Type 0) (Were : Type 0) (n : Bool) (x y : Option A) → Stepped Like Were x y →
     Stepped Like Were (if n then x else None) (if n then y else None)
-where_both Like Were true x y s = s
-where_both Like Were false x y s = tt
+where_both a b d x y s = grind arith
 
 -- ---- lists of entries
 
 pub tails : (d e : Entry) (ds es : List Entry) → d ∷ ds ≡ e ∷ es → (d ≡ e) × (ds ≡ es)
-tails d e ds es h =
-    let head : d ≡ e = cc h in
-    let tail : ds ≡ es = cc h in
-    (head, tail)
+tails d e ds es h = grind arith
 
 pub both : (d e : Entry) (ds es : List Entry) → d ≡ e → ds ≡ es → d ∷ ds ≡ e ∷ es
 both d e ds es h k = cc (h, k)
@@ -94,14 +67,11 @@ both d e ds es h k = cc (h, k)
 -- the same entries before like ones
 pub like_after : (begun ds es : List Entry) → LikeEntries ds es → LikeEntries (begun ++ ds) (begun ++ es)
 like_after [] ds es i = i
-like_after (b ∷ begun) ds es i = ((refl, refl, had_itself b.had), like_after begun ds es i)
+like_after (b ∷ begun) ds es i = ((refl, refl, grind arith), like_after begun ds es i)
 
 pub same_after : (begun ds es : List Entry) → begun ++ ds ≡ begun ++ es → ds ≡ es
 same_after [] ds es h = h
 same_after (b ∷ begun) ds es h = same_after begun ds es (tails b b (begun ++ ds) (begun ++ es) h).1
 
 pub same_entry : (d e : Entry) → d.kind ≡ e.kind → d.pair ≡ e.pair → d.had ≡ e.had → d ≡ e
-same_entry d e k p h =
-    ap (λ x. record { kind = x; pair = d.pair; had = d.had }) k ∙
-    (ap (λ x. record { kind = e.kind; pair = x; had = d.had }) p ∙
-    ap (λ x. record { kind = e.kind; pair = e.pair; had = x }) h)
+same_entry d e k p h = grind arith

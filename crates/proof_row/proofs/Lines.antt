@@ -1,6 +1,5 @@
 -- The lines of a text after another one, and a text's first line.
-use Rattle.proof_row.proofs.Common.{[], ap, begins_with, Bool, eqb-true, false, if◌then◌else◌, is_before_line_feed, is_break, List, put_first, refl, Split, split, split_by, subst, sym, true, with_empty_line, with_first, ℕ, ◌&&◌, ◌++◌, ◌==◌, ◌∙◌, ◌∷◌, ◌≡◌}
-use Rattle.proof_row.proofs.Runs.{both}
+use Rattle.proof_row.proofs.Common.{[], ap, begins_with, Bool, false, if◌then◌else◌, is_before_line_feed, is_break, List, put_first, refl, Split, split, split_by, true, with_first, ℕ, ◌++◌, ◌∙◌, ◌∷◌, ◌≡◌, arith}
 
 abbrev pub of_lines : (complete : List (List ℕ)) → (last : List ℕ) → Split
 of_lines ls l = record { complete = ls; last = l }
@@ -13,13 +12,7 @@ lines_after ls s = of_lines (ls ++ s.complete) (s.last)
 
 -- more text that does not begin with a line feed does not change whether one follows
 before_same : (c : ℕ) (r z : List ℕ) → begins_with 10 z ≡ false → is_before_line_feed c (r ++ z) ≡ is_before_line_feed c r
-before_same c [] [] h = refl
-before_same c [] (d ∷ z) h = by (c == 13) (d == 10) h
-  where
-    by : (a b : Bool) → b ≡ false → (a && b) ≡ false
-    by true b f = f
-    by false b f = refl
-before_same c (d ∷ r) z h = refl
+before_same c a z h = grind arith
 
 -- a text whose last line is complete, and one after it that does not go on with a line feed
 pub split_append : (p z : List ℕ) (ls : List (List ℕ)) → split p ≡ of_lines ls [] → begins_with 10 z ≡ false → split (p ++ z) ≡ lines_after ls (split z)
@@ -37,12 +30,7 @@ split_append (c ∷ p) z ls e h =
 
     by : (break two : Bool) (s : Split) → split p ≡ s → ((ls : List (List ℕ)) → s ≡ of_lines ls [] → split (p ++ z) ≡ lines_after ls (split z)) → split_by break two c s ≡ of_lines ls [] →
         split_by break two c (split (p ++ z)) ≡ lines_after ls (split z)
-    by true true s i f e = f ls e
-    by true false s i f e =
-        let ended : s.last ≡ [] = ap (λ s. s.last) e in
-        let lines : [] ∷ s.complete ≡ ls = ap (λ s. s.complete) e in
-        ap with_empty_line (f (s.complete) (ap (λ x. of_lines (s.complete) x) ended)) ∙ ap (λ x. lines_after x (split z)) lines
-    by false two s i f e = kept (s.complete) (s.last) e f
+    by a two s i f e = grind (arith, kept)
 
 -- ---- the first line
 
@@ -60,50 +48,18 @@ first_line (l ∷ ls) last = l
 abbrev pub line_of : List ℕ → List ℕ
 line_of z = first_line ((split z).complete) ((split z).last)
 
-first_kept : (c : ℕ) (complete : List (List ℕ)) (last : List ℕ) → first_line ((put_first c complete last).complete) ((put_first c complete last).last) ≡ c ∷ first_line complete last
-first_kept c [] last = refl
-first_kept c (l ∷ ls) last = refl
-
-line_feed_breaks : (c : ℕ) (r : List ℕ) → is_before_line_feed c r ≡ true → up_to_break r ≡ []
-unfolding is_break
-line_feed_breaks c [] h = refl
-line_feed_breaks c (d ∷ r) h = subst (λ z. up_to_break (z ∷ r) ≡ []) (sym (eqb-true d 10 (both _ _ h).1)) refl
-
 -- it goes up to the first break
 pub line_is : (z : List ℕ) → line_of z ≡ up_to_break z
+unfolding is_break
 line_is [] = refl
-line_is (c ∷ r) = by (is_break c) (is_before_line_feed c r) refl (line_is r)
-  where
-    by : (break two : Bool) → is_before_line_feed c r ≡ two → line_of r ≡ up_to_break r →
-        first_line ((split_by break two c (split r)).complete) ((split_by break two c (split r)).last) ≡ (if break then [] else c ∷ up_to_break r)
-    by true true f h = h ∙ line_feed_breaks c r f
-    by true false f h = refl
-    by false two f h = first_kept c ((split r).complete) ((split r).last) ∙ ap (λ x. c ∷ x) h
+line_is (c ∷ r) = grind (arith, line_is r)
 
 -- the first line of a longer text is that of its beginning, if this has a complete line
 pub line_more : (z : List ℕ) → ((split z).complete ≡ [] → ⊥) → (y : List ℕ) → up_to_break (z ++ y) ≡ up_to_break z
 line_more [] h y = absurd (h refl)
-line_more (c ∷ r) h y = by (is_break c) (is_before_line_feed c r) (λ f. line_more r f y) h
-  where
-    by : (break two : Bool) → (((split r).complete ≡ [] → ⊥) → up_to_break (r ++ y) ≡ up_to_break r) → ((split_by break two c (split r)).complete ≡ [] → ⊥) →
-        (if break then [] else c ∷ up_to_break (r ++ y)) ≡ (if break then [] else c ∷ up_to_break r)
-    by true two f g = refl
-    by false two f g = ap (λ x. c ∷ x) (f (λ e. g (none ((split r).complete) ((split r).last) e)))
-      where
-        none : (complete : List (List ℕ)) (last : List ℕ) → complete ≡ [] → (put_first c complete last).complete ≡ []
-        none [] last e = refl
-        none (l ∷ ls) last e = absurd (cc e)
+line_more (c ∷ r) h y = grind (arith, line_more r)
 
 -- a text without lines is empty
 pub no_lines : (z : List ℕ) → split z ≡ of_lines [] [] → z ≡ []
 no_lines [] e = refl
-no_lines (c ∷ r) e = absurd (by (is_break c) (is_before_line_feed c r) refl (λ f. no_lines r f) e)
-  where
-    kept : (complete : List (List ℕ)) (last : List ℕ) → put_first c complete last ≡ of_lines [] [] → ⊥
-    kept [] last e = cc (ap (λ s. s.last) e)
-    kept (l ∷ ls) last e = let lines : (c ∷ l) ∷ ls ≡ [] = ap (λ s. s.complete) e in cc lines
-
-    by : (break two : Bool) → is_before_line_feed c r ≡ two → (split r ≡ of_lines [] [] → r ≡ []) → split_by break two c (split r) ≡ of_lines [] [] → ⊥
-    by true true f g e = let two : false ≡ true = subst (λ z. is_before_line_feed c z ≡ true) (g e) f in cc two
-    by true false f g e = let lines : [] ∷ (split r).complete ≡ [] = ap (λ s. s.complete) e in cc lines
-    by false two f g e = kept ((split r).complete) ((split r).last) e
+no_lines (c ∷ r) e = grind (arith, no_lines r)

@@ -1,14 +1,13 @@
 -- A text has at most one list of events, and means at most one list of trees.
-use Rattle.std.specs.Prelude.{Result, Ok, Err, map, ◌++◌}
-use Rattle.proof_row.proofs.Common.{[], ap, List, Position, refl, subst, sym, ◌∙◌, ◌∷◌, ◌≡◌}
+use Rattle.std.specs.Prelude.{Result, Ok, map, ◌++◌}
+use Rattle.proof_row.proofs.Common.{[], ap, List, Position, refl, subst, ◌∙◌, ◌∷◌, ◌≡◌, arith}
 use Rattle.defs_tree.specs.Tree.{Tree}
 use Rattle.defs_token.specs.Toks.{toks}
 use Rattle.defs_event.specs.Event.{Ev}
 use Rattle.defs_event.specs.Stream.{IsStream, events_of}
 use Rattle.defs_event.specs.Nested.{NestedDocument, nested_stream}
 use Rattle.defs_event.specs.Reading.{reading}
-use Rattle.defs_event.specs.Unfinished.{Loader, at_work, noted, new_loader, with_events}
-use Rattle.defs_event.specs.Unfinished as unfinished
+use Rattle.defs_event.specs.Unfinished.{Loader, new_loader, with_events}
 use Rattle.defs_event.specs.Laws.{HasRead}
 use Rattle.defs_event.proofs.OneByOne.{one_by_one}
 use Rattle.defs_event.proofs.OneReading as grammar
@@ -32,16 +31,7 @@ with_somewhere [] (f ∷ fs) = ap (λ vs. f ∷ vs) (with_somewhere [] fs)
 with_somewhere (e ∷ es) fs = ap (λ vs. e.0 ∷ vs) (with_somewhere es fs)
 
 pub read_again : (r q : Result (List Tree) Tree) (x : Loader) → HasRead r x → HasRead q x → {trees : List Tree} → q ≡ Ok trees → r ≡ Ok trees
-read_again (Ok ts) (Ok us) (at_work u) h k e = ap Ok (sym h.0 ∙ k.0) ∙ e
-read_again (Ok ts) (Ok us) (noted documents key p) h k e = absurd h
-read_again (Ok ts) (Ok us) (unfinished.refused documents p) h k e = absurd h
-read_again (Err key) (Ok us) (at_work u) h k e = absurd h
-read_again (Err key) (Ok us) (noted documents k' p) h k e = absurd k
-read_again (Err key) (Ok us) (unfinished.refused documents p) h k e = absurd k
-read_again r (Err key) x h k e = cc
-
-same_trees : {ts us : List Tree} (r : Result (List Tree) Tree) → r ≡ Ok ts → r ≡ Ok us → ts ≡ us
-same_trees a e f = cc
+read_again r a x h k e = grind arith
 
 pub one_meaning : OneMeaning
 one_meaning keep_tags text ts us x y =
@@ -54,4 +44,4 @@ one_meaning keep_tags text ts us x y =
     let are : events_of es ≡ nested_stream first = with_somewhere [] (nested_stream first) in
     let again : reading first ≡ Ok us =
     read_again (reading first) (reading second) (with_events new_loader es) (one_by_one first es are) (one_by_one second es (are ∙ events)) y.read.trees_are in
-    same_trees (reading first) x.read.trees_are again
+    cc

@@ -1,18 +1,16 @@
 -- A text has one row. The choice of keys goes forwards, the proof backwards: at the text's end no key waits, so like accounts are equal there, and that is carried back to the start.
-use Rattle.proof_row.proofs.Common.{[], account_past, ap, false, first_account, has_no_nul, Holds, is_separation, IsRowFrom, IsWritten, List, None, OneReading, OneRow, Option, refl, seen, shown_position, Some, Step, subst, sym, tokens_of_row, ℕ, ◌++◌, ◌∙◌, ◌∷◌, ◌≡◌}
+use Rattle.proof_row.proofs.Common.{[], account_past, ap, false, first_account, has_no_nul, Holds, is_separation, IsRowFrom, IsWritten, List, None, OneReading, OneRow, Option, refl, Some, Step, subst, sym, tokens_of_row, ℕ, ◌++◌, ◌∙◌, ◌∷◌, ◌≡◌, arith}
 use Rattle.proof_row.proofs.Texts.{no_nul_after}
 use Rattle.proof_row.proofs.Pieces.{no_piece_at_end, clean_up_to_end}
 use Rattle.defs_token.specs.Step.{Row, spelled}
 use Rattle.defs_token.specs.RowAccount.{Account}
 use Rattle.proof_row.proofs.Like.{IsLike, Stepped}
 use Rattle.proof_row.proofs.Accounts.{account_step, same_at_end}
-use Rattle.proof_row.proofs.Written.{At, not_empty, same_written}
+use Rattle.proof_row.proofs.Written.{not_empty, same_written}
 
 -- no step begins in the separation at a text's end
 at_end : (b : Account) (v : Step) (f next : List ℕ) → Holds (is_separation false f []) → IsWritten b v next → f ≡ v.separation ++ (v.piece ++ next) → ⊥
-at_end b v f next h k e =
-    no_piece_at_end (seen b (At b v next) v.separation) f v.separation v.piece next None (shown_position (At b v next) v.piece v.shown next) v.shown
-    h k.0 (not_empty v.piece k.1.0) k.1.1 e
+at_end b v f next h k e = grind (arith, no_piece_at_end, not_empty)
 
 rows_from : (Were : Type 0) (x y : Option Account) (r s : List Step) (f g : List ℕ) → Stepped IsLike Were x y →
     IsRowFrom x r f → IsRowFrom y s g → spelled r f ≡ spelled s g → Holds (has_no_nul (spelled r f)) → Were × (r ≡ s) × (f ≡ g)

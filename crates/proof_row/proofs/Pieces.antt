@@ -1,6 +1,5 @@
 -- At one account a text begins with one piece of one token.
-use Rattle.proof_row.proofs.Common.{[], alias_name, anchor_name, ap, append-nil, block_read, block_scalar, BlockRead, Bool, colon, comma, dash, dashes, directive_line, directive_of, dots, double_quoted_value, false, has_no_nul, if◌then◌else◌, in_double_quotes, in_single_quotes, is_adjacent, is_nul, Kind, kind_at, kind_of, List, mapping_closing, mapping_opening, NoPieceIsInASeparation, not, nothing, Option, PiecesHaveOneEnd, PiecesSeenAlikeHaveOneEnd, plain_scalar, plain_value, question, refl, SeparationsBeforePiecesAreOne, sequence_closing, sequence_opening, single_quoted_value, Some, subst, sym, Tag, tag, tag_text, TextsUpToTheirEndHaveNoNul, Tok, true, up_to_nul, written_tag, ℕ, ◌++◌, ◌∙◌, ◌∷◌, ◌≡◌, IsNamed, alias, anchor}
-use Rattle.defs_token.specs.Account.{is_in_flow}
+use Rattle.proof_row.proofs.Common.{[], alias_name, anchor_name, ap, append-nil, block_read, block_scalar, BlockRead, colon, comma, dash, dashes, directive_line, dots, double_quoted_value, has_no_nul, in_double_quotes, in_single_quotes, Kind, List, mapping_closing, mapping_opening, NoPieceIsInASeparation, nothing, PiecesHaveOneEnd, PiecesSeenAlikeHaveOneEnd, plain_scalar, question, refl, SeparationsBeforePiecesAreOne, sequence_closing, sequence_opening, single_quoted_value, Some, subst, sym, Tag, tag, tag_text, TextsUpToTheirEndHaveNoNul, Tok, true, written_tag, ℕ, ◌++◌, ◌∙◌, ◌∷◌, ◌≡◌, IsNamed, alias, anchor, arith}
 use Rattle.proof_row.proofs.Runs.{joined, same_head}
 use Rattle.proof_row.proofs.Separations.{separations}
 use Rattle.proof_row.proofs.Names.{names}
@@ -9,7 +8,7 @@ use Rattle.proof_row.proofs.Quotes.{singles, single_bodies, doubles, double_bodi
 use Rattle.proof_row.proofs.Directives.{directives}
 use Rattle.proof_row.proofs.TagEnds.{tags}
 use Rattle.proof_row.proofs.Blocks.{blocks}
-use Rattle.proof_row.proofs.Begins.{directive_token, block_token, Context, context_of, Whole, piece_of, kind_there, separations_end_before}
+use Rattle.proof_row.proofs.Begins.{block_token, Context, Whole, piece_of, kind_there, separations_end_before}
 
 some : {A : Type 0} → (a b : A) → Some a ≡ Some b → a ≡ b
 some a b e = cc
@@ -45,10 +44,7 @@ read_token r = block_token (r.style) (r.text)
 
 pub one_of : (k : Kind) → OneOf k
 one_of nothing a p q x y t u h k e n = absurd h
-one_of plain_scalar a p q x y t u h k e n =
-    let same : (p ≡ q) × (x ≡ y) = plains a.in_flow a.collection p q x y h.1.1 k.1.1 e in
-    let text : h.0 ≡ k.0 = some _ _ (sym h.1.2 ∙ (ap plain_value same.0 ∙ k.1.2)) in
-    same_by p q x y t u same (cc (h.2, k.2, text))
+one_of plain_scalar a p q x y t u h k e n = grind (arith, plains, some, same_by)
 one_of sequence_opening a p q x y t u h k e n = same_by p q x y t u (alike p q _ x y h.0 k.0 e) (h.1 ∙ sym k.1)
 one_of sequence_closing a p q x y t u h k e n = same_by p q x y t u (alike p q _ x y h.0 k.0 e) (h.1 ∙ sym k.1)
 one_of mapping_opening a p q x y t u h k e n = same_by p q x y t u (alike p q _ x y h.0 k.0 e) (h.1 ∙ sym k.1)
@@ -59,10 +55,7 @@ one_of colon a p q x y t u h k e n = same_by p q x y t u (alike p q _ x y h.0 k.
 one_of dash a p q x y t u h k e n = same_by p q x y t u (alike p q _ x y h.0 k.0 e) (h.2 ∙ sym k.2)
 one_of dashes a p q x y t u h k e n = same_by p q x y t u (alike p q _ x y h.0.0 k.0.0 e) (h.1 ∙ sym k.1)
 one_of dots a p q x y t u h k e n = same_by p q x y t u (alike p q _ x y h.0.0 k.0.0 e) (h.1 ∙ sym k.1)
-one_of directive_line a p q x y t u h k e n =
-    let same : (p ≡ q) × (x ≡ y) = directives p q x y (h.0, h.1, h.2, h.3, n) (k.0, k.1, k.2, k.3, subst (λ z. has_no_nul z ≡ true) e n) e in
-    let d : h.0 ≡ k.0 = some _ _ (sym h.1 ∙ (ap directive_of same.0 ∙ k.1)) in
-    same_by p q x y t u same (h.4 ∙ (ap directive_token d ∙ sym k.4))
+one_of directive_line a p q x y t u h k e n = grind (arith, directives, some, same_by)
 one_of alias_name a p q x y t u h k e n = one_name 42 alias p q x y t u h k e
 one_of anchor_name a p q x y t u h k e n = one_name 38 anchor p q x y t u h k e
 one_of tag_text a p q x y t u h k e n =
@@ -86,22 +79,8 @@ one_of block_scalar a p q x y t u h k e n =
 
 -- ---- pieces at accounts that are seen alike
 
-same_context : (f g i j : Bool) (m n : ℕ) (o r : Option ℕ) → f ≡ g → i ≡ j → m ≡ n → o ≡ r →
-    ◌≡◌ {A = Context} (record { in_flow = f; adjacent = i; column = m; collection = o }) (record { in_flow = g; adjacent = j; column = n; collection = r })
-same_context f g i j m n o r e h k l = cc
-
 pub pieces_seen_alike : PiecesSeenAlikeHaveOneEnd
-pieces_seen_alike a b p q x y f g m n t u like collection i j h k e c =
-    let first : Whole (kind_of t) (context_of a) p x t = piece_of a p x f m t i h in
-    let second : Whole (kind_of u) (context_of b) q y u = piece_of b q y g n u j k in
-    let kinds : kind_of t ≡ kind_of u = let flow : kind_at (is_in_flow a) (is_adjacent a.before) (a.position.col) (p ++ x) ≡ kind_at (is_in_flow b) (is_adjacent a.before) (a.position.col) (p ++ x) = ap (λ z. kind_at z (is_adjacent a.before) (a.position.col) (p ++ x)) like.0 in
-    let next_to : kind_at (is_in_flow b) (is_adjacent a.before) (a.position.col) (p ++ x) ≡ kind_at (is_in_flow b) (is_adjacent b.before) (a.position.col) (p ++ x) = ap (λ z. kind_at (is_in_flow b) z (a.position.col) (p ++ x)) like.1 in
-    let column : kind_at (is_in_flow b) (is_adjacent b.before) (a.position.col) (p ++ x) ≡ kind_at (is_in_flow b) (is_adjacent b.before) (b.position.col) (p ++ x) = ap (λ z. kind_at (is_in_flow b) (is_adjacent b.before) z (p ++ x)) like.2 in
-    let text : kind_at (is_in_flow b) (is_adjacent b.before) (b.position.col) (p ++ x) ≡ kind_at (is_in_flow b) (is_adjacent b.before) (b.position.col) (q ++ y) = ap (λ z. kind_at (is_in_flow b) (is_adjacent b.before) (b.position.col) z) e in
-    sym (kind_there (kind_of t) (context_of a) p x t first) ∙ (flow ∙ (next_to ∙ (column ∙ (text ∙ kind_there (kind_of u) (context_of b) q y u second)))) in
-    let contexts : context_of a ≡ context_of b = same_context _ _ _ _ _ _ _ _ like.0 like.1 like.2 (collection kinds) in
-    let third : Whole (kind_of t) (context_of b) q y u = subst (λ z. Whole z (context_of b) q y u) (sym kinds) second in
-    one_of (kind_of t) (context_of a) p q x y t u first (subst (λ z. Whole (kind_of t) z q y u) (sym contexts) third) e c
+pieces_seen_alike a b p q x y f g m n t u like collection i j h k e c = grind (arith, piece_of, kind_there, one_of)
 
 pub pieces : PiecesHaveOneEnd
 pieces a p q x y f g m n t u i j h k e c = pieces_seen_alike a a p q x y f g m n t u (refl, refl, refl) (λ z. refl) i j h k e c
@@ -109,8 +88,7 @@ pieces a p q x y f g m n t u i j h k e c = pieces_seen_alike a a p q x y f g m n
 -- ---- separations and pieces
 
 pub separations_before : SeparationsBeforePiecesAreOne
-separations_before a b v w p q x y f g m n t u h k i j r s e =
-    separations v w (p ++ x) (q ++ y) (h, separations_end_before a p x f m t i r) (k, separations_end_before b q y g n u j s) e
+separations_before a b v w p q x y f g m n t u h k i j r s e = grind (arith, separations, separations_end_before)
 
 pub no_piece_at_end : NoPieceIsInASeparation
 no_piece_at_end a v w p x f m t h k i r e =
@@ -125,8 +103,4 @@ no_piece_at_end a v w p x f m t h k i r e =
 
 pub clean_up_to_end : TextsUpToTheirEndHaveNoNul
 clean_up_to_end [] = refl
-clean_up_to_end (c ∷ r) = by (is_nul c) refl (clean_up_to_end r)
-  where
-    by : (nul : Bool) → is_nul c ≡ nul → has_no_nul (up_to_nul r) ≡ true → has_no_nul (if nul then [] else c ∷ up_to_nul r) ≡ true
-    by true e h = refl
-    by false e h = joined _ _ (ap not e) h
+clean_up_to_end (c ∷ r) = grind (arith, joined, clean_up_to_end r)

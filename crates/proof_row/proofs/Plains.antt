@@ -1,5 +1,5 @@
 -- A plain scalar has one end.
-use Rattle.proof_row.proofs.Common.{[], after_blank, Bool, ends_plain, ends_with_content, false, goes_on, if◌then◌else◌, inside, is_blank, is_break, List, not, on_line, Option, past, past_blank, PlainScalarsHaveOneEnd, refl, Stand, stops, subst, sym, true, ℕ, ◌&&◌, ◌++◌, ◌||◌, ◌∷◌, ◌≡◌}
+use Rattle.proof_row.proofs.Common.{[], after_blank, Bool, ends_with_content, false, goes_on, inside, List, on_line, Option, past, PlainScalarsHaveOneEnd, refl, Stand, stops, subst, sym, true, ℕ, ◌++◌, ◌∷◌, ◌≡◌, arith}
 use Rattle.proof_row.proofs.Runs.{both, untrue, contrary, same_head, longer}
 
 -- whether the last character of a text is content, or what stands before an empty one
@@ -9,31 +9,10 @@ settled after_blank [] = false
 settled (on_line k) [] = false
 settled s (c ∷ r) = ends_with_content c r
 
-settled_past : (s : Stand) (c : ℕ) (r : List ℕ) → ends_with_content c r ≡ true → settled (past s c) r ≡ true
-settled_past s c [] h = by (is_blank c) (is_break c) (untrue _ (both _ _ h).0) (untrue _ (both _ _ h).1)
-  where
-    by : (blank break : Bool) → blank ≡ false → break ≡ false → settled (if break then on_line 0 else (if blank then past_blank s else inside)) [] ≡ true
-    by false false f g = refl
-    by true break f g = absurd (cc f)
-    by blank true f g = absurd (cc g)
-settled_past s c (d ∷ r) h = h
-
 -- A scalar does not go on over a text before which it stops.
 over : (fl : Bool) (coll : Option ℕ) (s : Stand) (c : ℕ) (r next : List ℕ) → stops fl coll s (c ∷ (r ++ next)) ≡ true → goes_on fl coll s (c ∷ r) next ≡ true → ends_with_content c r ≡ true → ⊥
-over fl coll s c [] next h k f =
-    by (is_blank c) (is_break c) (ends_plain fl coll s (c ∷ next)) (stops fl coll (past s c) next) (untrue _ (both _ _ f).0) (untrue _ (both _ _ f).1) h (both _ _ k).0
-  where
-    by : (blank break ends rest : Bool) → blank ≡ false → break ≡ false → (if blank || break then rest else ends) ≡ true → (blank || break || not ends) ≡ true → ⊥
-    by false false ends rest f g h k = contrary ends h (untrue ends k)
-    by true break ends rest f g h k = cc f
-    by blank true ends rest f g h k = cc g
-over fl coll s c (d ∷ r) next h k f =
-    by (is_blank c) (is_break c) (ends_plain fl coll s (c ∷ d ∷ (r ++ next))) (stops fl coll (past s c) (d ∷ (r ++ next))) h (both _ _ k).0 (λ g. over fl coll (past s c) d r next g (both _ _ k).1 f)
-  where
-    by : (blank break ends rest : Bool) → (if blank || break then rest else ends) ≡ true → (blank || break || not ends) ≡ true → (rest ≡ true → ⊥) → ⊥
-    by false false ends rest h k f = contrary ends h (untrue ends k)
-    by true break ends rest h k f = f h
-    by false true ends rest h k f = f h
+over fl coll s c [] next h k f = grind (arith, untrue, both, contrary)
+over fl coll s c (d ∷ r) next h k f = grind (arith, both, contrary, untrue, over fl coll (past s c) d r next)
 
 from : (fl : Bool) (coll : Option ℕ) (s : Stand) (p q x y : List ℕ) → goes_on fl coll s p x ≡ true → goes_on fl coll s q y ≡ true → settled s p ≡ true → settled s q ≡ true →
     stops fl coll inside x ≡ true → stops fl coll inside y ≡ true → p ++ x ≡ q ++ y → (p ≡ q) × (x ≡ y)
@@ -44,24 +23,7 @@ from fl coll after_blank [] (d ∷ q) x y h k f g i j e = absurd (cc f)
 from fl coll after_blank (c ∷ p) [] x y h k f g i j e = absurd (cc g)
 from fl coll (on_line n) [] (d ∷ q) x y h k f g i j e = absurd (cc f)
 from fl coll (on_line n) (c ∷ p) [] x y h k f g i j e = absurd (cc g)
-from fl coll s (c ∷ p) (d ∷ q) x y h k f g i j e =
-    let heads : (c ≡ d) × (p ++ x ≡ q ++ y) = same_head c d (p ++ x) (q ++ y) e in
-    let rest : (p ≡ q) × (x ≡ y) =
-    from fl coll (past s c) p q x y (both _ _ h).1 (subst (λ z. goes_on fl coll (past s z) q y ≡ true) (sym heads.0) (both _ _ k).1)
-    (settled_past s c p f) (settled_past s c q (subst (λ z. ends_with_content z q ≡ true) (sym heads.0) g)) i j heads.1 in
-    (longer c d p q heads.0 rest.0, rest.1)
-
-settled_inside : (c : ℕ) (r : List ℕ) → ends_with_content c r ≡ true → settled inside r ≡ true
-settled_inside c [] h = refl
-settled_inside c (d ∷ r) h = h
+from fl coll s (c ∷ p) (d ∷ q) x y h k f g i j e = grind (arith, same_head, both, longer, from fl coll (past s c) p q x y)
 
 pub plains : PlainScalarsHaveOneEnd
-plains fl coll [] q x y h k e = absurd (cc h)
-plains fl coll (c ∷ p) [] x y h k e = absurd (cc k)
-plains fl coll (c ∷ p) (d ∷ q) x y h k e =
-    let heads : (c ≡ d) × (p ++ x ≡ q ++ y) = same_head c d (p ++ x) (q ++ y) e in
-    let f : ((goes_on fl coll inside p x && ends_with_content c p) ≡ true) × (stops fl coll inside x ≡ true) = both _ _ h in
-    let g : ((goes_on fl coll inside q y && ends_with_content d q) ≡ true) × (stops fl coll inside y ≡ true) = both _ _ k in
-    let rest : (p ≡ q) × (x ≡ y) =
-    from fl coll inside p q x y (both _ _ f.0).0 (both _ _ g.0).0 (settled_inside c p (both _ _ f.0).1) (settled_inside d q (both _ _ g.0).1) f.1 g.1 heads.1 in
-    (longer c d p q heads.0 rest.0, rest.1)
+plains fl coll a q x y h k e = grind (arith, same_head, both, from, longer)

@@ -1,5 +1,5 @@
 -- A scalar in quotes has one end: no quote that would end it stands inside a body that has a value.
-use Rattle.proof_row.proofs.Common.{[], ap, append-nil, append_assoc, arith, backslash, begins_with, Bool, break_further, content, double_quote, double_quoted_element, double_quoted_value, DoubleQuotedScalarsHaveOneEnd, Element, elements, eqb-true, escape, escape_by, escaped_break, escapes, false, folded_elements, followed, has_document_marker, hexadecimal, if◌then◌else◌, is_break, is_nul, IsDoubleQuoted, IsSingleQuoted, length, length-take, List, lookup, None, numbered, numeric_escape, numeric_escapes, Option, plain_element, refl, single_quote, single_quoted_element, single_quoted_value, SingleQuotedScalarsHaveOneEnd, Some, Spelled, subst, suc, sym, take, take-append-le, true, zero, ℕ, ◌++◌, ◌==◌, ◌∙◌, ◌∷◌, ◌≡◌, ◌≤◌, ◌⊎◌}
+use Rattle.proof_row.proofs.Common.{[], ap, append-nil, append_assoc, arith, begins_with, Bool, double_quote, double_quoted_element, double_quoted_value, DoubleQuotedScalarsHaveOneEnd, Element, elements, eqb-true, escape, false, folded_elements, followed, has_document_marker, if◌then◌else◌, is_nul, IsDoubleQuoted, IsSingleQuoted, length, length-take, List, None, numeric_escape, Option, plain_element, refl, single_quote, single_quoted_element, single_quoted_value, SingleQuotedScalarsHaveOneEnd, Some, Spelled, suc, sym, take-append-le, true, zero, ℕ, ◌++◌, ◌==◌, ◌∙◌, ◌∷◌, ◌≡◌, ◌≤◌, ◌⊎◌}
 use Rattle.proof_row.proofs.Runs.{contrary, same_head}
 use Rattle.proof_row.proofs.Splits.{More, splits}
 
@@ -13,63 +13,25 @@ Onward r (Some s) o = (s.further ≤ length r) × (o ≡ Some s)
 abbrev IsOnward : (ℕ → List ℕ → Option Spelled) → Type 0
 IsOnward at = (c : ℕ) (r z : List ℕ) → begins_with 10 z ≡ false → Onward r (at c r) (at c (r ++ z))
 
-abbrev spelled : Element → ℕ → Spelled
-spelled e n = record { element = e; further = n }
-
-plain_onward : IsOnward plain_element
-unfolding plain_element
-plain_onward c r z h = grind arith
-
 -- ---- single quotes
 
-abbrev doubled : List ℕ → Option Spelled
-doubled r = (if begins_with single_quote r then Some (spelled (content single_quote) 1) else None)
-
 single_onward : IsOnward single_quoted_element
-unfolding single_quoted_element
-single_onward c r z h = by (is_nul c) (c == single_quote)
-  where
-    by : (nul quote : Bool) → Onward r (if nul then None else (if quote then doubled r else plain_element c r)) (if nul then None else (if quote then doubled (r ++ z) else plain_element c (r ++ z)))
-    by true quote = tt
-    by false true = grind arith
-    by false false = plain_onward c r z h
+unfolding single_quoted_element plain_element
+single_onward c r z h = grind arith
 
 -- ---- double quotes
 
 numeric_onward : (n d : ℕ) (r z : List ℕ) → Onward (d ∷ r) (numeric_escape n r) (numeric_escape n (r ++ z))
 unfolding numeric_escape
-numeric_onward n d r z = by (length (take n r) == n) refl
-  where
-    by : (many : Bool) → (length (take n r) == n) ≡ many →
-        Onward (d ∷ r) (if many then numbered n (hexadecimal 0 (take n r)) else None) (if length (take n (r ++ z)) == n then numbered n (hexadecimal 0 (take n (r ++ z))) else None)
-    by false e = tt
-    by true e =
-        let fits : n ≤ length r = omega (arith, eqb-true (length (take n r)) n e, length-take n r) in
-        rw (take-append-le n r z fits, e) (grind arith)
+numeric_onward n d r z = grind (arith, eqb-true, length-take, take-append-le)
 
 escape_onward : (r z : List ℕ) → begins_with 10 z ≡ false → Onward r (escape r) (escape (r ++ z))
 unfolding escape
-escape_onward [] z h = tt
-escape_onward (d ∷ r) z h = by (is_break d) (lookup d escapes) (lookup d numeric_escapes)
-  where
-    by : (break : Bool) (named number : Option ℕ) →
-        Onward (d ∷ r) (if break then Some (spelled escaped_break (suc (break_further d r))) else escape_by named number r)
-        (if break then Some (spelled escaped_break (suc (break_further d (r ++ z)))) else escape_by named number (r ++ z))
-    by true named number = let further_fits : break_further d r ≤ length r = grind arith in (omega (arith, further_fits), ap (λ n. Some (spelled escaped_break (suc n))) (grind arith))
-    by false (Some code) number = (omega arith, refl)
-    by false None (Some n) = numeric_onward n d r z
-    by false None None = tt
+escape_onward a z h = grind (arith, numeric_onward)
 
 double_onward : IsOnward double_quoted_element
-unfolding double_quoted_element
-double_onward c r z h = by (is_nul c) (c == double_quote) (c == backslash)
-  where
-    by : (nul quote slash : Bool) → Onward r (if nul then None else (if quote then None else (if slash then escape r else plain_element c r)))
-        (if nul then None else (if quote then None else (if slash then escape (r ++ z) else plain_element c (r ++ z))))
-    by true quote slash = tt
-    by false true slash = tt
-    by false false true = escape_onward r z h
-    by false false false = plain_onward c r z h
+unfolding double_quoted_element plain_element
+double_onward c r z h = grind (arith, escape_onward)
 
 -- ---- a body
 
@@ -101,21 +63,14 @@ bodies : (at : ℕ → List ℕ → Option Spelled) → IsOnward at → (quote :
 bodies at f quote lf again stop b d x y h k i j e = by (splits b d (quote ∷ x) (quote ∷ y) e)
   where
     over : (b d x y more : List ℕ) → d ≡ b ++ more → quote ∷ x ≡ more ++ (quote ∷ y) → is_read (elements at 0 b) ≡ true → is_read (elements at 0 d) ≡ true → again x ≡ false → (b ≡ d) × (x ≡ y)
-    over b d x y [] g l h k i = (sym (g ∙ append-nil b), (same_head quote quote x y l).1)
-    over b d x y (c ∷ more) g l h k i =
-        let heads : (quote ≡ c) × (x ≡ more ++ (quote ∷ y)) = same_head quote c x (more ++ (quote ∷ y)) l in
-        let whole : d ≡ b ++ (quote ∷ more) = g ∙ ap (λ z. b ++ (z ∷ more)) (sym heads.0) in
-        absurd (contrary _ (reads at f 0 b (quote ∷ more) (omega arith) lf h (subst (λ z. is_read (elements at 0 z) ≡ true) whole k)) (stop more y (subst (λ z. again z ≡ false) heads.1 i)))
+    over b d x y a g l h k i = grind (arith, append-nil, same_head, contrary, reads)
 
     by : More b d (quote ∷ x) (quote ∷ y) ⊎ More d b (quote ∷ y) (quote ∷ x) → (b ≡ d) × (x ≡ y)
     by a = grind (arith, over)
 
 -- two pieces that are a body between quotes
 between : (quote : ℕ) (p q b d x y : List ℕ) → p ≡ quote ∷ (b ++ (quote ∷ [])) → q ≡ quote ∷ (d ++ (quote ∷ [])) → p ++ x ≡ q ++ y → b ++ (quote ∷ x) ≡ d ++ (quote ∷ y)
-between quote p q b d x y f g e =
-    let whole : (quote ∷ (b ++ (quote ∷ []))) ++ x ≡ (quote ∷ (d ++ (quote ∷ []))) ++ y = ap (λ z. z ++ x) (sym f) ∙ (e ∙ ap (λ z. z ++ y) g) in
-    let tails : (b ++ (quote ∷ [])) ++ x ≡ (d ++ (quote ∷ [])) ++ y = (same_head quote quote _ _ whole).1 in
-    sym (append_assoc b (quote ∷ []) x) ∙ (tails ∙ append_assoc d (quote ∷ []) y)
+between quote p q b d x y f g e = grind (arith, same_head, append_assoc)
 
 single_stops : (z y : List ℕ) → begins_with single_quote (z ++ (single_quote ∷ y)) ≡ false → is_read (elements single_quoted_element 0 (single_quote ∷ z)) ≡ false
 unfolding single_quoted_element is_nul

@@ -1,6 +1,6 @@
 -- A tag has one end: a verbatim one its `>`, another one the first gap or flow indicator.
-use Rattle.proof_row.proofs.Common.{[], after, after_mark, all_of, ap, append_assoc, begins_flow, begins_with, begins_with_mark, Bool, decoded, eqb-true, false, if◌then◌else◌, inl, inr, is_alpha, is_at_gap, is_blank, is_blank_or_end, is_break, is_decimal_digit, is_flow, is_letter, is_nul, is_same, is_tag, is_tag_mark, is_uri, leading, List, named, None, not, refl, shorthand, Some, subst, sym, Tag, tag_by, tag_of_class, TagsHaveOneEnd, true, verbatim, written_tag, ℕ, ◌&&◌, ◌++◌, ◌==◌, ◌||◌, ◌∙◌, ◌∷◌, ◌≡◌, ◌⊎◌}
-use Rattle.proof_row.proofs.Runs.{both, joined, contrary, same_head, ends_run, runs}
+use Rattle.proof_row.proofs.Common.{[], after, after_mark, all_of, ap, append_assoc, begins_with, begins_with_mark, Bool, eqb-true, false, if◌then◌else◌, inl, inr, is_alpha, is_blank, is_blank_or_end, is_break, is_decimal_digit, is_flow, is_letter, is_nul, is_same, is_tag, is_uri, leading, List, named, not, refl, shorthand, Some, subst, sym, Tag, tag_of_class, TagsHaveOneEnd, true, verbatim, written_tag, ℕ, ◌&&◌, ◌++◌, ◌==◌, ◌∙◌, ◌∷◌, ◌≡◌, ◌⊎◌, arith}
+use Rattle.proof_row.proofs.Runs.{both, joined, same_head, ends_run, runs}
 use Rattle.proof_row.proofs.Texts.{gaps, flows, leading_after, all_leading, all_weaker, all_append}
 
 -- ---- the characters of a shorthand
@@ -10,12 +10,7 @@ abbrev goes_on : ℕ → Bool
 goes_on c = not (is_blank_or_end c) && not (is_flow c)
 
 going : (class : ℕ → Bool) (c : ℕ) → (is_blank_or_end c ≡ true → class c ≡ false) → (is_flow c ≡ true → class c ≡ false) → class c ≡ true → goes_on c ≡ true
-going class c f g h = by (is_blank_or_end c) (is_flow c) f g
-  where
-    by : (gap flow : Bool) → (gap ≡ true → class c ≡ false) → (flow ≡ true → class c ≡ false) → (not gap && not flow) ≡ true
-    by true flow f g = absurd (contrary (class c) h (f refl))
-    by false true f g = absurd (contrary (class c) h (g refl))
-    by false false f g = refl
+going class c f g h = grind arith
 
 alpha_goes_on : (c : ℕ) → is_alpha c ≡ true → goes_on c ≡ true
 unfolding is_alpha is_decimal_digit is_letter
@@ -27,16 +22,6 @@ unfolding is_tag is_uri is_flow is_decimal_digit is_letter
 tag_goes_on c h =
     going is_tag c (λ f. gaps (λ z. is_tag z ≡ false) c f refl refl refl refl refl) (λ f. flows (λ z. is_tag z ≡ false) c f refl refl refl refl refl) h
 
-ended : (fl : Bool) (x : List ℕ) → (is_at_gap x || (fl && begins_flow x)) ≡ true → ends_run goes_on x ≡ true
-ended fl [] h = refl
-ended fl (c ∷ x) h = by fl (is_blank_or_end c) (is_flow c) h
-  where
-    by : (fl gap flow : Bool) → (gap || (fl && flow)) ≡ true → not (not gap && not flow) ≡ true
-    by fl true flow h = refl
-    by fl false true h = refl
-    by true false false h = absurd (cc h)
-    by false false false h = absurd (cc h)
-
 -- ---- the two shapes of a tag, after its mark
 
 abbrev IsVerbatim : List ℕ → Type 0
@@ -45,18 +30,12 @@ IsVerbatim r = (u : List ℕ) × (r ≡ 60 ∷ (u ++ (62 ∷ []))) × (all_of is
 abbrev IsShorthand : List ℕ → Type 0
 IsShorthand r = (all_of goes_on r ≡ true) × (begins_with 60 r ≡ false)
 
-of_class : (class : ℕ → Bool) (h r : List ℕ) (t : Tag) → tag_of_class class h r ≡ Some t → all_of class r ≡ true
-of_class class h r t e = by (all_of class r) e
-  where
-    by : (b : Bool) → (if b then tag_by h (decoded r) else None) ≡ Some t → b ≡ true
-    by true f = refl
-    by false f = absurd (cc f)
-
 of_named : (name r : List ℕ) (t : Tag) → begins_with_mark r ≡ true → named name r ≡ Some t → all_of goes_on r ≡ true
 unfolding is_blank_or_end is_blank is_break is_nul is_flow
 of_named name [] t m e = absurd (cc e)
 of_named name (c ∷ []) t m e = absurd (cc e)
-of_named name (c ∷ d ∷ r) t m e = joined _ _ (subst (λ z. goes_on z ≡ true) (sym (eqb-true c 33 m)) refl) (all_weaker is_tag goes_on tag_goes_on (d ∷ r) (of_class is_tag _ (d ∷ r) t e))
+of_named name (c ∷ d ∷ r) t m e =
+    joined _ _ (subst (λ z. goes_on z ≡ true) (sym (eqb-true c 33 m)) refl) (all_weaker is_tag goes_on tag_goes_on (d ∷ r) (grind arith))
 
 of_shorthand : (c : ℕ) (r : List ℕ) (t : Tag) → shorthand (c ∷ r) ≡ Some t → all_of goes_on (c ∷ r) ≡ true
 of_shorthand c r t e = by (begins_with_mark (after is_alpha (c ∷ r))) refl e
@@ -67,26 +46,19 @@ of_shorthand c r t e = by (begins_with_mark (after is_alpha (c ∷ r))) refl e
         subst (λ z. all_of goes_on z ≡ true) (leading_after is_alpha (c ∷ r))
         (all_append goes_on (leading is_alpha (c ∷ r)) (after is_alpha (c ∷ r)) (all_weaker is_alpha goes_on alpha_goes_on _ (all_leading is_alpha (c ∷ r)))
         (of_named (leading is_alpha (c ∷ r)) (after is_alpha (c ∷ r)) t m f))
-    by false m f = all_weaker is_tag goes_on tag_goes_on (c ∷ r) (of_class is_tag _ (c ∷ r) t f)
+    by false m f = all_weaker is_tag goes_on tag_goes_on (c ∷ r) (grind arith)
 
 same_one : (r : List ℕ) → is_same r (62 ∷ []) ≡ true → r ≡ 62 ∷ []
 same_one [] h = absurd (cc h)
 same_one (c ∷ []) h = ap (λ z. z ∷ []) (eqb-true c 62 (both _ _ h).0)
 same_one (c ∷ d ∷ r) h = absurd (cc (both (c == 62) false h).1)
 
-of_verbatim : (r : List ℕ) (t : Tag) → verbatim r ≡ Some t → IsVerbatim (60 ∷ r)
-of_verbatim r t e = by (is_same (after is_uri r) (62 ∷ [])) refl e
-  where
-    by : (b : Bool) → is_same (after is_uri r) (62 ∷ []) ≡ b → (if b then tag_of_class is_uri [] (leading is_uri r) else None) ≡ Some t → IsVerbatim (60 ∷ r)
-    by true s f = (leading is_uri r, ap (λ z. 60 ∷ z) (sym (leading_after is_uri r) ∙ ap (λ z. leading is_uri r ++ z) (same_one _ s)), all_leading is_uri r)
-    by false s f = absurd (cc f)
-
 shape : (r : List ℕ) (t : Tag) → after_mark r ≡ Some t → IsVerbatim r ⊎ IsShorthand r
 shape [] t e = inr (refl, refl)
 shape (c ∷ r) t e = by (c == 60) refl e
   where
     by : (b : Bool) → (c == 60) ≡ b → (if b then verbatim r else shorthand (c ∷ r)) ≡ Some t → IsVerbatim (c ∷ r) ⊎ IsShorthand (c ∷ r)
-    by true i f = inl (subst (λ z. IsVerbatim (z ∷ r)) (sym (eqb-true c 60 i)) (of_verbatim r t f))
+    by true i f = inl (subst (λ z. IsVerbatim (z ∷ r)) (sym (eqb-true c 60 i)) (grind (arith, leading_after, same_one, all_leading)))
     by false i f = inr (of_shorthand c r t f, i)
 
 -- ---- two tags
@@ -94,22 +66,10 @@ shape (c ∷ r) t e = by (c == 60) refl e
 -- a verbatim tag's `<` is no part of a shorthand, and ends none
 apart : (r s x y : List ℕ) → IsVerbatim r → IsShorthand s → ends_run goes_on y ≡ true → r ++ x ≡ s ++ y → ⊥
 unfolding is_blank_or_end is_blank is_break is_nul is_flow
-apart r [] x y h k g e =
-    let whole : 60 ∷ ((h.0 ++ (62 ∷ [])) ++ x) ≡ y = ap (λ z. z ++ x) (sym h.1) ∙ e in
-    let ends : ends_run goes_on (60 ∷ ((h.0 ++ (62 ∷ [])) ++ x)) ≡ true = subst (λ z. ends_run goes_on z ≡ true) (sym whole) g in
-    cc ends
-apart r (c ∷ s) x y h k g e =
-    let whole : 60 ∷ ((h.0 ++ (62 ∷ [])) ++ x) ≡ c ∷ (s ++ y) = ap (λ z. z ++ x) (sym h.1) ∙ e in
-    let other : (60 == 60) ≡ false = subst (λ z. (z == 60) ≡ false) (sym (same_head 60 c _ _ whole).0) k.1 in
-    cc other
+apart r a x y h k g e = grind arith
 
 pub mark_is_first : (p : List ℕ) (t : Tag) → written_tag p ≡ Some t → (r : List ℕ) × (p ≡ 33 ∷ r) × (after_mark r ≡ Some t)
-mark_is_first [] t e = absurd (cc e)
-mark_is_first (c ∷ r) t e = by (is_tag_mark c) refl e
-  where
-    by : (b : Bool) → (c == 33) ≡ b → (if b then after_mark r else None) ≡ Some t → (s : List ℕ) × (c ∷ r ≡ 33 ∷ s) × (after_mark s ≡ Some t)
-    by true i f = (r, ap (λ z. z ∷ r) (eqb-true c 33 i), f)
-    by false i f = absurd (cc f)
+mark_is_first a t e = grind arith
 
 shapes : (r s x y : List ℕ) → IsVerbatim r ⊎ IsShorthand r → IsVerbatim s ⊎ IsShorthand s → ends_run goes_on x ≡ true → ends_run goes_on y ≡ true → r ++ x ≡ s ++ y → (r ≡ s) × (x ≡ y)
 unfolding is_uri is_decimal_digit is_letter
@@ -129,5 +89,6 @@ tags fl p q x y h k e = by (mark_is_first p h.0 h.1) (mark_is_first q k.0 k.1)
     by m n =
         let whole : (33 ∷ m.0) ++ x ≡ (33 ∷ n.0) ++ y = ap (λ z. z ++ x) (sym m.1) ∙ (e ∙ ap (λ z. z ++ y) n.1) in
         let same : (m.0 ≡ n.0) × (x ≡ y) =
-        shapes m.0 n.0 x y (shape m.0 h.0 m.2) (shape n.0 k.0 n.2) (ended fl x h.2) (ended fl y k.2) (same_head 33 33 (m.0 ++ x) (n.0 ++ y) whole).1 in
+        shapes m.0 n.0 x y (shape m.0 h.0 m.2) (shape n.0 k.0 n.2) (grind arith) (grind arith)
+        (same_head 33 33 (m.0 ++ x) (n.0 ++ y) whole).1 in
         (m.1 ∙ (ap (λ z. 33 ∷ z) same.0 ∙ sym n.1), same.1)

@@ -1,27 +1,11 @@
 -- The text says which piece comes: at like accounts, two steps with which one text begins have the same separation, piece and token.
-use Rattle.proof_row.proofs.Common.{[], Act, act_of, ap, before_past, blocks_at, Bool, dashes, directive_line, dots, Entry, false, has_no_nul, Holds, if◌then◌else◌, innermost_column, is_adjacent, is_empty, is_in_flow, is_marker, IsSeenAlike, IsWritten, Kind, kind_of, level_of, List, literal, map, None, not, not_ended, Option, position_after, refl, scalar, seen, shown_position, Site, site_at, Some, Step, sym, Tok, true, ℕ, ◌++◌, ◌∙◌, ◌∷◌, ◌≡◌, ◌≢◌}
+use Rattle.proof_row.proofs.Common.{[], Act, act_of, ap, before_past, blocks_at, Bool, Entry, has_no_nul, Holds, innermost_column, is_adjacent, is_empty, is_in_flow, IsSeenAlike, IsWritten, kind_of, level_of, List, map, None, not, Option, position_after, refl, seen, shown_position, Site, site_at, Some, Step, true, ℕ, ◌++◌, ◌∙◌, ◌∷◌, ◌≡◌, ◌≢◌, arith}
 use Rattle.proof_row.proofs.Texts.{no_nul_after}
 use Rattle.proof_row.proofs.Pieces.{pieces_seen_alike, separations_before}
 use Rattle.defs_token.specs.RowAccount.{Account, before_by}
 use Rattle.proof_row.proofs.Like.{LikeEntries, IsLike}
-use Rattle.proof_row.proofs.Accounts.{same_flow}
 
 -- ---- what a piece is seen with
-
--- a kind of piece says whether it stands for the document
-abbrev pub is_marker_kind : Kind → Bool
-is_marker_kind directive_line = true
-is_marker_kind dashes = true
-is_marker_kind dots = true
-is_marker_kind _ = false
-
-pub marker_by_kind : (t : Tok) → is_marker (act_of t) ≡ is_marker_kind (kind_of t)
-marker_by_kind (scalar literal text) = refl
-marker_by_kind _ = refl
-
-same_blocks : (fl : Bool) (j k : Act) (col : ℕ) (bs : List ℕ) → is_marker j ≡ is_marker k → blocks_at fl j col bs ≡ blocks_at fl k col bs
-same_blocks true j k col bs h = refl
-same_blocks false j k col bs h = ap (λ m. if m then [] else not_ended col bs) h
 
 abbrev in_levels : List Entry → Bool
 in_levels es = not (is_empty (map level_of es))
@@ -41,11 +25,7 @@ Innermost fl k col bs = innermost_column (map (λ n. Some n) (blocks_at fl k col
 
 same_column : (a b : Account) (w v : Step) (x y : List ℕ) → IsLike a b → (At a w x).position.col ≡ (At b v y).position.col → kind_of w.shown ≡ kind_of v.shown →
     Innermost (is_in_flow a.entries) (act_of w.shown) (At a w x).position.col a.site.blocks ≡ Innermost (is_in_flow b.entries) (act_of v.shown) (At b v y).position.col b.site.blocks
-same_column a b w v x y i c k =
-    ap (λ z. Innermost z (act_of w.shown) (At a w x).position.col a.site.blocks) (same_flow a.entries b.entries i.2) ∙
-    (ap (λ z. innermost_column (map (λ n. Some n) z)) (same_blocks (is_in_flow b.entries) (act_of w.shown) (act_of v.shown) (At a w x).position.col a.site.blocks (marker_by_kind w.shown ∙ (ap is_marker_kind k ∙ sym (marker_by_kind v.shown)))) ∙
-    (ap (λ z. Innermost (is_in_flow b.entries) (act_of v.shown) z a.site.blocks) c ∙
-    ap (λ s. Innermost (is_in_flow b.entries) (act_of v.shown) (At b v y).position.col s.blocks) i.0))
+same_column a b w v x y i c k = grind arith
 
 -- ---- pieces
 
@@ -72,9 +52,4 @@ same_piece a b w v x y i h k f e clean =
 pub same_written : (a b : Account) (w v : Step) (x y : List ℕ) → IsLike a b → IsWritten a w x → IsWritten b v y →
     w.separation ++ (w.piece ++ x) ≡ v.separation ++ (v.piece ++ y) → Holds (has_no_nul (w.separation ++ (w.piece ++ x))) →
     (w.separation ≡ v.separation) × (w.piece ≡ v.piece) × (w.shown ≡ v.shown) × (x ≡ y)
-same_written a b w v x y i h k e clean =
-    let separations : (w.separation ≡ v.separation) × (w.piece ++ x ≡ v.piece ++ y) =
-    separations_before (seen a (At a w x) w.separation) (seen b (At b v y) v.separation) w.separation v.separation w.piece v.piece x y None None
-    (shown_position (At a w x) w.piece w.shown x) (shown_position (At b v y) v.piece v.shown y) w.shown v.shown h.0 k.0 (not_empty w.piece h.1.0) (not_empty v.piece k.1.0) h.1.1 k.1.1 e in
-    let pieces : (w.piece ≡ v.piece) × (w.shown ≡ v.shown) × (x ≡ y) = same_piece a b w v x y i h k separations.0 separations.1 (no_nul_after w.separation (w.piece ++ x) clean) in
-    (separations.0, pieces.0, pieces.1, pieces.2)
+same_written a b w v x y i h k e clean = grind (arith, separations_before, not_empty, same_piece, no_nul_after)

@@ -1,38 +1,34 @@
 -- Trees laid over one another, worked.
-use Rattle.defs_tree.proofs.Common.{array, bad_value, codes, hash, integer, item, no_items, no_pairs, null, overlay, pair, pos, refl, string, ◌≡◌}
+use Rattle.defs_tree.proofs.Common.{bad_value, null, overlay, ◌≡◌, ◌∷◌, []}
+use Rattle.defs_tree.proofs.TreeWords.{text, number, list, mapping}
 
-shared_hashes_are_laid_over_one_another : overlay (hash (pair (string (codes "a")) (integer (pos 1)) (pair (string (codes "b")) (hash (pair (string (codes "c")) (integer (pos 2)) no_pairs)) no_pairs))) (hash (pair (string (codes "b")) (hash (pair (string (codes "d")) (integer (pos 3)) no_pairs)) (pair (string (codes "e")) (integer (pos 4)) no_pairs))) ≡ hash (pair (string (codes "a")) (integer (pos 1)) (pair (string (codes "b")) (hash (pair (string (codes "c")) (integer (pos 2)) (pair (string (codes "d")) (integer (pos 3)) no_pairs))) (pair (string (codes "e")) (integer (pos 4)) no_pairs)))
-shared_hashes_are_laid_over_one_another = refl
+record Rows : Type 0 where
+  shared_hashes_are_laid_over_one_another : overlay
+      (mapping ((text "a", number 1) ∷ (text "b", mapping ((text "c", number 2) ∷ [])) ∷ []))
+      (mapping ((text "b", mapping ((text "d", number 3) ∷ [])) ∷ (text "e", number 4) ∷ []))
+      ≡ mapping ((text "a", number 1) ∷ (text "b", mapping ((text "c", number 2) ∷ (text "d", number 3) ∷ [])) ∷ (text "e", number 4) ∷ [])
+  null_over_a_hash : overlay (mapping ((text "a", number 1) ∷ [])) null ≡ null
+  array_over_an_array : overlay (list (number 1 ∷ [])) (list (number 2 ∷ [])) ≡ list (number 2 ∷ [])
+  order_of_the_left : overlay (mapping ((text "a", number 1) ∷ (text "b", number 2) ∷ []))
+      (mapping ((text "b", number 3) ∷ (text "a", null) ∷ []))
+      ≡ mapping ((text "a", null) ∷ (text "b", number 3) ∷ [])
+  arrays_as_keys : overlay (mapping ((list (number 1 ∷ []), text "x") ∷ []))
+      (mapping ((list (number 1 ∷ []), text "y") ∷ (number 2, text "z") ∷ []))
+      ≡ mapping ((list (number 1 ∷ []), text "y") ∷ (number 2, text "z") ∷ [])
+  hash_over_a_scalar : overlay (number 5) (mapping ((text "a", number 1) ∷ (text "b", number 2) ∷ []))
+      ≡ mapping ((text "a", number 1) ∷ (text "b", number 2) ∷ [])
+  empty_hash_over_a_hash : overlay (mapping ((text "a", number 1) ∷ (text "b", number 2) ∷ [])) (mapping [])
+      ≡ mapping ((text "a", number 1) ∷ (text "b", number 2) ∷ [])
+  hash_over_an_empty_hash : overlay (mapping []) (mapping ((text "a", number 1) ∷ (text "b", number 2) ∷ []))
+      ≡ mapping ((text "a", number 1) ∷ (text "b", number 2) ∷ [])
+  scalar_over_a_hash_below : overlay (mapping ((text "a", mapping ((text "b", number 1) ∷ [])) ∷ [])) (mapping ((text "a", number 2) ∷ []))
+      ≡ mapping ((text "a", number 2) ∷ [])
+  hash_over_a_scalar_below : overlay (mapping ((text "a", number 2) ∷ [])) (mapping ((text "a", mapping ((text "b", number 1) ∷ [])) ∷ []))
+      ≡ mapping ((text "a", mapping ((text "b", number 1) ∷ [])) ∷ [])
+  three_levels : overlay (mapping ((text "a", mapping ((text "b", mapping ((text "c", number 1) ∷ [])) ∷ [])) ∷ []))
+      (mapping ((text "a", mapping ((text "b", mapping ((text "d", number 2) ∷ [])) ∷ [])) ∷ []))
+      ≡ mapping ((text "a", mapping ((text "b", mapping ((text "c", number 1) ∷ (text "d", number 2) ∷ [])) ∷ [])) ∷ [])
+  bad_value_over_a_hash : overlay (mapping ((text "a", number 1) ∷ (text "b", number 2) ∷ [])) bad_value ≡ bad_value
 
-null_over_a_hash : overlay (hash (pair (string (codes "a")) (integer (pos 1)) no_pairs)) (null) ≡ null
-null_over_a_hash = refl
-
-array_over_an_array : overlay (array (item (integer (pos 1)) no_items)) (array (item (integer (pos 2)) no_items)) ≡ array (item (integer (pos 2)) no_items)
-array_over_an_array = refl
-
-order_of_the_left : overlay (hash (pair (string (codes "a")) (integer (pos 1)) (pair (string (codes "b")) (integer (pos 2)) no_pairs))) (hash (pair (string (codes "b")) (integer (pos 3)) (pair (string (codes "a")) (null) no_pairs))) ≡ hash (pair (string (codes "a")) (null) (pair (string (codes "b")) (integer (pos 3)) no_pairs))
-order_of_the_left = refl
-
-arrays_as_keys : overlay (hash (pair (array (item (integer (pos 1)) no_items)) (string (codes "x")) no_pairs)) (hash (pair (array (item (integer (pos 1)) no_items)) (string (codes "y")) (pair (integer (pos 2)) (string (codes "z")) no_pairs))) ≡ hash (pair (array (item (integer (pos 1)) no_items)) (string (codes "y")) (pair (integer (pos 2)) (string (codes "z")) no_pairs))
-arrays_as_keys = refl
-
-hash_over_a_scalar : overlay (integer (pos 5)) (hash (pair (string (codes "a")) (integer (pos 1)) (pair (string (codes "b")) (integer (pos 2)) no_pairs))) ≡ hash (pair (string (codes "a")) (integer (pos 1)) (pair (string (codes "b")) (integer (pos 2)) no_pairs))
-hash_over_a_scalar = refl
-
-empty_hash_over_a_hash : overlay (hash (pair (string (codes "a")) (integer (pos 1)) (pair (string (codes "b")) (integer (pos 2)) no_pairs))) (hash no_pairs) ≡ hash (pair (string (codes "a")) (integer (pos 1)) (pair (string (codes "b")) (integer (pos 2)) no_pairs))
-empty_hash_over_a_hash = refl
-
-hash_over_an_empty_hash : overlay (hash no_pairs) (hash (pair (string (codes "a")) (integer (pos 1)) (pair (string (codes "b")) (integer (pos 2)) no_pairs))) ≡ hash (pair (string (codes "a")) (integer (pos 1)) (pair (string (codes "b")) (integer (pos 2)) no_pairs))
-hash_over_an_empty_hash = refl
-
-scalar_over_a_hash_below : overlay (hash (pair (string (codes "a")) (hash (pair (string (codes "b")) (integer (pos 1)) no_pairs)) no_pairs)) (hash (pair (string (codes "a")) (integer (pos 2)) no_pairs)) ≡ hash (pair (string (codes "a")) (integer (pos 2)) no_pairs)
-scalar_over_a_hash_below = refl
-
-hash_over_a_scalar_below : overlay (hash (pair (string (codes "a")) (integer (pos 2)) no_pairs)) (hash (pair (string (codes "a")) (hash (pair (string (codes "b")) (integer (pos 1)) no_pairs)) no_pairs)) ≡ hash (pair (string (codes "a")) (hash (pair (string (codes "b")) (integer (pos 1)) no_pairs)) no_pairs)
-hash_over_a_scalar_below = refl
-
-three_levels : overlay (hash (pair (string (codes "a")) (hash (pair (string (codes "b")) (hash (pair (string (codes "c")) (integer (pos 1)) no_pairs)) no_pairs)) no_pairs)) (hash (pair (string (codes "a")) (hash (pair (string (codes "b")) (hash (pair (string (codes "d")) (integer (pos 2)) no_pairs)) no_pairs)) no_pairs)) ≡ hash (pair (string (codes "a")) (hash (pair (string (codes "b")) (hash (pair (string (codes "c")) (integer (pos 1)) (pair (string (codes "d")) (integer (pos 2)) no_pairs))) no_pairs)) no_pairs)
-three_levels = refl
-
-bad_value_over_a_hash : overlay (hash (pair (string (codes "a")) (integer (pos 1)) (pair (string (codes "b")) (integer (pos 2)) no_pairs))) (bad_value) ≡ bad_value
-bad_value_over_a_hash = refl
+rows : Rows
+rows = search
