@@ -27,10 +27,6 @@ not_entry k a b = grind arith
 pub not_indentless : (k : Kind) → k ≢ kind.BlockEntry → ends_part k ≡ false → ends_indentless_entry k ≡ false
 not_indentless k a h = grind arith
 
--- one that is one of several is no other
-pub not_by : {k x : Kind} (ends : Kind → Bool) → ends k ≡ true → ends x ≡ false → k ≢ x
-not_by ends h none e = let clash : true ≡ false = sym h ∙ ap ends e ∙ none in cc
-
 pub not_flow_pair : (k : Kind) → k ≢ kind.FlowEntry → k ≢ kind.FlowMappingEnd → ends_flow_pair k ≡ false
 not_flow_pair k a b = grind arith
 

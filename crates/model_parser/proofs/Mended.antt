@@ -1,5 +1,5 @@
 -- In the table of the token grammar, rows for all other tokens are chosen by each token that ends a goal too.
-use Rattle.model_parser.proofs.Common.{[], and_before, arith, before, block_mapping_entries, block_sequence_entries, Bool, cases, content, directives, document_end, documents, ends_goal, explicit_document, false, flow_mapping_comma, flow_mapping_entries, flow_mapping_valued, flow_sequence_comma, flow_sequence_entries, grammar, Held, in_block, in_flow, in_pair, indentless_sequence_entries, inl, inr, key, leaves, List, no_flow_mapping_value, node, None, nothing_held, Part, Place, Raw, reading, refl, refused, Row, row_of, saying, Some, step, stream, suc, Tok, true, Turned, value, weight, Work, work_weight, zero, ℕ, ◌<◌, ◌∷◌, ◌≡◌}
+use Rattle.model_parser.proofs.Common.{[], and_before, arith, before, block_mapping_entries, block_sequence_entries, Bool, cases, content, directives, document_end, documents, ends_goal, explicit_document, false, flow_mapping_comma, flow_mapping_entries, flow_mapping_valued, flow_sequence_comma, flow_sequence_entries, grammar, Held, in_block, in_flow, in_pair, indentless_sequence_entries, inl, inr, key, leaves, List, no_flow_mapping_value, node, None, nothing_held, Part, Place, Raw, read, reading, refl, refused, Row, row_of, say, saying, Some, step, stream, suc, Tok, true, Turned, value, weight, Work, work_weight, zero, ℕ, ◌<◌, ◌∷◌, ◌≡◌}
 use Rattle.defs_event.specs.Kinds.{begins_flow_node, begins_node}
 use Rattle.defs_event.specs.Grammar.{Goal}
 use Rattle.defs_event.proofs.Meanings.{EachRow, row_holds}
@@ -74,29 +74,22 @@ bare_taken (suc n) t i w es l e =
 
 -- ---- all rows
 
+-- a flow node, or a document that is one
+flow_leaving : (g : Goal) (t : Tok) (ps : List (Part Goal Raw)) → begins_flow_node t ≡ true → LeavingRow grammar weight ends_goal g t (leaves (read (node in_flow) ∷ ps))
+flow_leaving g t ps i = inr (λ n h w es l e. goes_from in_flow t (before grammar h t ps w) (flow_node_taken in_flow t i) n nothing_held es l e)
+
+bare_leaving : (g : Goal) (t : Tok) → begins_node t ≡ true → LeavingRow grammar weight ends_goal g t (leaves (say (Raw.document_start []) ∷ read (node in_block) ∷ read document_end ∷ []))
+bare_leaving g t i = inr (λ n h w es l e. bare_taken n t i (reading document_end nothing_held ∷ w) es l e)
+
 abbrev Leaving : Goal → Type 0
 Leaving g = EachRow (λ t r. LeavingRow grammar weight ends_goal g t r) (λ t. false) (cases g)
 
 leaving_rows : (g : Goal) → Leaving g
-leaving_rows stream = (λ t i. tt, tt)
-leaving_rows documents = (λ t i. tt, (λ t i. tt, (λ t i. inr (λ n h w es l e. bare_taken n t i (reading document_end nothing_held ∷ w) es l e), λ t i. others documents t _ refl refl refl refl refl refl (λ u h w. refl))))
-leaving_rows directives = (λ t i. tt, (λ t i. tt, tt))
-leaving_rows explicit_document = (λ t i. tt, (λ t i. tt, tt))
-leaving_rows (node p) = (λ t i. tt, (λ t i. tt, (λ t i. tt, λ t i. others (node p) t _ refl refl refl refl refl refl (λ u h w. refl))))
-leaving_rows (content in_flow) = (λ t i. tt, (λ t i. tt, (λ t i. tt, λ t i. others (content in_flow) t _ refl refl refl refl refl refl (λ u h w. refl))))
-leaving_rows (content in_block) = (λ t i. tt, (λ t i. tt, (λ t i. tt, (λ t i. tt, (λ t i. tt, λ t i. others (content in_block) t _ refl refl refl refl refl refl (λ u h w. refl))))))
-leaving_rows (content (in_pair key)) = (λ t i. tt, (λ t i. tt, (λ t i. tt, (λ t i. tt, (λ t i. tt, (λ t i. tt, λ t i. others (content (in_pair key)) t _ refl refl refl refl refl refl (λ u h w. refl)))))))
-leaving_rows (content (in_pair value)) = (λ t i. tt, (λ t i. tt, (λ t i. tt, (λ t i. tt, (λ t i. tt, (λ t i. tt, λ t i. others (content (in_pair value)) t _ refl refl refl refl refl refl (λ u h w. refl)))))))
-leaving_rows block_sequence_entries = (λ t i. tt, (λ t i. tt, tt))
-leaving_rows (indentless_sequence_entries key) = (λ t i. tt, λ t i. others (indentless_sequence_entries key) t _ refl refl refl refl refl refl (λ u h w. refl))
-leaving_rows block_mapping_entries = (λ t i. tt, (λ t i. tt, (λ t i. tt, tt)))
-leaving_rows flow_sequence_entries = (λ t i. inr (λ n h w es l e. goes_from in_flow t _ (flow_node_taken in_flow t i) n nothing_held es l e), (λ t i. tt, (λ t i. tt, tt)))
-leaving_rows flow_sequence_comma = (λ t i. tt, (λ t i. tt, tt))
-leaving_rows (flow_mapping_entries s) = (λ t i. inr (λ n h w es l e. goes_from in_flow t _ (flow_node_taken in_flow t i) n nothing_held es l e), (λ t i. tt, (λ t i. tt, (λ t i. tt, tt))))
-leaving_rows flow_mapping_comma = (λ t i. tt, (λ t i. tt, tt))
-leaving_rows flow_mapping_valued = (λ t i. inr (λ n h w es l e. goes_from in_flow t _ (flow_node_taken in_flow t i) n nothing_held es l e), λ t i. others flow_mapping_valued t _ refl refl refl refl refl refl (λ u h w. refl))
-leaving_rows no_flow_mapping_value = λ t i. others no_flow_mapping_value t _ refl refl refl refl refl refl (λ u h w. refl)
-leaving_rows g = (λ t i. tt, λ t i. others g t _ refl refl refl refl refl refl (λ u h w. refl))
+leaving_rows (content in_flow) = search others
+leaving_rows (content (in_pair key)) = search others
+leaving_rows (content (in_pair value)) = search others
+leaving_rows (indentless_sequence_entries key) = search others
+leaving_rows g = search (others, bare_leaving, flow_leaving)
 
 pub leaving : (g : Goal) (t : Tok) (r : Row Goal Raw) → row_of (cases g) t ≡ Some r → LeavingRow grammar weight ends_goal g t r
 leaving g t r p = row_holds (λ t r. LeavingRow grammar weight ends_goal g t r) (λ t. false) (cases g) (leaving_rows g) t refl r p

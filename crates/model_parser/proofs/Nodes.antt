@@ -83,18 +83,21 @@ dash_reads ss o h = cc
 pub after_dash : (ss : List State) (o : Option Properties) → Takes (Goal.after_properties context.Part o) ss Tok.block_entry (Some (Raw.indentless_sequence_start (perhaps_anchor_of o) (perhaps_tag_of o))) Goal.done (state.IndentlessSequenceItem ∷ ss)
 after_dash ss o = takes_so (λ n f. ((in_mapping ss f.1, n), tt)) (λ f. (own_begins context.Part o _ kind.BlockEntry refl, (λ k. refl), dash_reads ss o f.1)) refl (λ f. refl) (λ f. refl)
 
-part_is_block : (c : NodeContext) → narrows context.Part c ≡ true → narrows context.Block c ≡ true
-part_is_block c h = grind arith
+-- A content of a narrower context may begin where one of the wider may, if what begins it begins the other.
+widens : (p q : NodeContext) (o : Option Properties) (c : NodeContext) (k : Kind) → (begins_content q k ≡ true → begins_content p k ≡ true)
+    → may_begin_content q o c k ≡ true → may_begin_content p o c k ≡ true
+widens p q o c k b m = grind arith
 
-part_back : (o : Option Properties) (c : NodeContext) (k : Kind) → narrows context.Part c ≡ true → may_begin_content context.Block o c k ≡ true → may_begin_content context.Part o c k ≡ true
-part_back o c k h m = grind arith
-
-part_on : (o : Option Properties) (c : NodeContext) (k : Kind) → narrows context.Part c ≡ true → k ≢ kind.BlockEntry → may_begin_content context.Part o c k ≡ true → may_begin_content context.Block o c k ≡ true
-part_on o c k h a m = grind arith
+narrows_on : (p q : NodeContext) (ss : List State) (o : Option Properties) (t : Tok) → ((c : NodeContext) → narrows p c ≡ true → narrows q c ≡ true)
+    → ((k : Kind) → begins_content q k ≡ true → begins_content p k ≡ true) → (begins_content p (kind_of t) ≡ true → begins_content q (kind_of t) ≡ true)
+    → Leaves (Goal.after_properties p o) ss (Some t) None (Goal.after_properties q o) ss
+narrows_on p q ss o t n back on =
+    let c = context_at (place_of ss) in
+    leaves_so 0 (λ n' f. (n', (f.0, n c f.1))) (λ f. refl) (λ f u r m. cc (m, widens p q o c (kind_of u) (back (kind_of u)) m)) (λ f r m. cc (m, widens q p o c (kind_of t) on m)) refl
+    (λ f. alike (next_alike p q o) refl) (λ f h. inl (past_alike p q o ss ∙ h))
 
 pub part_block : (ss : List State) (o : Option Properties) (t : Tok) → kind_of t ≢ kind.BlockEntry → Leaves (Goal.after_properties context.Part o) ss (Some t) None (Goal.after_properties context.Block o) ss
-part_block ss o t a = leaves_so 0 (λ n f. (n, (f.0, part_is_block _ f.1))) (λ f. refl) (λ f u r m. cc (m, part_back o (context_at (place_of ss)) (kind_of u) f.1 m)) (λ f r m. cc (m, part_on o (context_at (place_of ss)) (kind_of t) f.1 a m)) refl
-    (λ f. alike (next_alike context.Part context.Block o) refl) (λ f h. inl (past_alike context.Part context.Block o ss ∙ h))
+part_block ss o t a = narrows_on context.Part context.Block ss o t (λ c h. grind arith) (λ k h. grind arith) (λ h. grind arith)
 
 block_row : (p : Place) → narrows context.Block (context_at p) ≡ true → row_of (cases (table.content p)) Tok.block_sequence_start ≡ Some (takes (show ∷ read table.block_sequence_entries ∷ then_in p))
 block_row p h = grind arith
@@ -110,15 +113,8 @@ pub after_mapping : (ss : List State) (o : Option Properties) → Takes (Goal.af
 after_mapping ss o = takes_so (λ n f. ((f.0, n), tt))
     (λ f. (own_begins context.Block o _ kind.BlockMappingStart refl, (λ k. refl), by_row _ (mapping_row (place_of ss) f.1) (shows_and ss (with_properties o) Tok.block_mapping_start table.block_mapping_entries))) refl (λ f. refl) (λ f. refl)
 
-flow_back : (o : Option Properties) (c : NodeContext) (k : Kind) → narrows context.Block c ≡ true → may_begin_content context.Flow o c k ≡ true → may_begin_content context.Block o c k ≡ true
-flow_back o c k h m = grind arith
-
-flow_on : (o : Option Properties) (c : NodeContext) (k : Kind) → narrows context.Block c ≡ true → k ≢ kind.BlockSequenceStart → k ≢ kind.BlockMappingStart → may_begin_content context.Block o c k ≡ true → may_begin_content context.Flow o c k ≡ true
-flow_on o c k h a b m = grind arith
-
 pub block_flow : (ss : List State) (o : Option Properties) (t : Tok) → kind_of t ≢ kind.BlockSequenceStart → kind_of t ≢ kind.BlockMappingStart → Leaves (Goal.after_properties context.Block o) ss (Some t) None (Goal.after_properties context.Flow o) ss
-block_flow ss o t a b = leaves_so 0 (λ n f. (n, (f.0, refl))) (λ f. refl) (λ f u r m. cc (m, flow_back o (context_at (place_of ss)) (kind_of u) f.1 m)) (λ f r m. cc (m, flow_on o (context_at (place_of ss)) (kind_of t) f.1 a b m)) refl
-    (λ f. alike (next_alike context.Block context.Flow o) refl) (λ f h. inl (past_alike context.Block context.Flow o ss ∙ h))
+block_flow ss o t a b = narrows_on context.Block context.Flow ss o t (λ c h. refl) (λ k h. grind arith) (λ h. grind arith)
 
 pub after_scalar : (ss : List State) (o : Option Properties) (y : Style) (v : List ℕ) → Takes (Goal.after_properties context.Flow o) ss (Tok.scalar y v) (Some (Raw.scalar v y (perhaps_anchor_of o) (perhaps_tag_of o))) Goal.done ss
 after_scalar ss o y v = takes_so (λ n f. (n, under_goes ss f.0)) (λ f. (own_begins context.Flow o _ kind.Scalar refl, under_any ss f.0, by_row _ refl (shows ss (with_properties o) (Tok.scalar y v)))) refl (λ f. under_other ss f.0) (λ f. under_past ss f.0)

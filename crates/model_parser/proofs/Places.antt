@@ -9,14 +9,14 @@ plain_work [] = []
 plain_work (reading g h ∷ w) = reading g h ∷ plain_work w
 plain_work (saying x ∷ w) = saying x.0 ∷ plain_work w
 
-plain_placed : (f : Raw → Option Position) (v : List (Work Goal Raw Held)) (w : PlacedWork) → plain_work (placed_by f v ++ w) ≡ v ++ plain_work w
-plain_placed f [] w = refl
-plain_placed f (reading g h ∷ v) w = ap (λ x. reading g h ∷ x) (plain_placed f v w)
-plain_placed f (saying e ∷ v) w = ap (λ x. saying e ∷ x) (plain_placed f v w)
+pub plain_along : (f : Raw → Option Position) (v : List (Work Goal Raw Held)) (w : PlacedWork) → plain_work (placed_by f v ++ w) ≡ v ++ plain_work w
+plain_along f [] w = refl
+plain_along f (reading g h ∷ v) w = ap (λ x. reading g h ∷ x) (plain_along f v w)
+plain_along f (saying e ∷ v) w = ap (λ x. saying e ∷ x) (plain_along f v w)
 
 pub plain_before : (t : Token) (b : Option Position) (h : Held) (ps : List (Part Goal Raw)) (w : PlacedWork)
     → plain_work (placed_before t b h ps w) ≡ before grammar h t.tok ps (plain_work w)
-plain_before t b h ps w = plain_placed (position_at t b) (before grammar h t.tok ps []) w ∙ before_along grammar h t.tok ps [] (plain_work w)
+plain_before t b h ps w = plain_along (position_at t b) (before grammar h t.tok ps []) w ∙ before_along grammar h t.tok ps [] (plain_work w)
 
 -- Without positions it is a reading of the tokens.
 pub without_positions : {b : Option Position} {w : PlacedWork} {ts : List Token} {es : List (Raw × Position)} → Places to_end b w ts es → Derives grammar (plain_work w) (toks ts) (raws_of es)

@@ -1,7 +1,7 @@
 -- What a parser still has to read has no event that is due at a place: that of the end of a single pair is promised nowhere.
-use Rattle.model_parser.proofs.Common.{arith, [], ap, before, Bool, false, Goal, grammar, Held, List, None, Option, Part, past, placed, placed_before, placed_by, Position, position_at, Raw, reading, refl, saying, State, Token, true, work_of, Works, works, ◌++◌, ◌∙◌, ◌∷◌, ◌≡◌}
+use Rattle.model_parser.proofs.Common.{arith, [], ap, append-nil, before, Bool, false, Goal, grammar, Held, List, None, Option, Part, past, placed, placed_before, placed_by, Position, position_at, Raw, reading, refl, saying, State, sym, Token, true, work_of, Works, works, ◌++◌, ◌∙◌, ◌∷◌, ◌≡◌}
 use Rattle.defs_event.specs.Grammar.{Goal as Read}
-use Rattle.model_parser.proofs.Places.{plain_work}
+use Rattle.model_parser.proofs.Places.{plain_along, plain_work}
 use Rattle.model_parser.proofs.Completions.{before_along}
 use Rattle.model_parser.specs.declared.state.State.TheVariants as state
 
@@ -32,9 +32,7 @@ quiet_placed k b (saying Raw.pair_end ∷ w) q = ap (λ v. saying (Raw.pair_end,
 quiet_placed k b (saying e ∷ w) q = cc
 
 pub plain_placed : (f : Raw → Option Position) (w : Works) → plain_work (placed_by f w) ≡ w
-plain_placed f [] = refl
-plain_placed f (reading g h ∷ w) = ap (λ v. reading g h ∷ v) (plain_placed f w)
-plain_placed f (saying e ∷ w) = ap (λ v. saying e ∷ v) (plain_placed f w)
+plain_placed f w = ap plain_work (sym (append-nil (placed_by f w))) ∙ plain_along f w [] ∙ append-nil w
 
 placed_over : (f : Raw → Option Position) (v w : Works) → placed_by f v ++ placed_by f w ≡ placed_by f (v ++ w)
 placed_over f [] w = refl
