@@ -1,5 +1,5 @@
 -- The events of tokens with their positions: they are the events without, and each reading of the tokens has positions.
-use Rattle.model_parser.proofs.Common.{[], ap, before, by_leaving, by_taking, cases, Derives, grammar, Held, IfSome, List, None, nothing_left, Option, Part, placed_before, placed_by, PlacedWork, Places, Position, position_at, Raw, raws_of, reading, refl, row_of, saying, says, Some, subst, to_end, Tok, Token, toks, Work, ◌++◌, ◌∙◌, ◌∷◌, ◌≡◌}
+use Rattle.model_parser.proofs.Common.{[], ap, arith, before, by_leaving, by_taking, cases, Derives, grammar, Held, IfSome, List, None, nothing_left, Option, Part, placed_before, placed_by, PlacedWork, Places, Position, position_at, Raw, raws_of, reading, refl, row_of, saying, says, Some, subst, to_end, Tok, Token, toks, Work, ◌++◌, ◌∙◌, ◌∷◌, ◌≡◌}
 use Rattle.defs_event.specs.Grammar.{Goal}
 use Rattle.model_parser.proofs.Completions.{before_along}
 use Rattle.defs_event.specs.Stream as placed
@@ -11,8 +11,7 @@ plain_work (saying x ∷ w) = saying x.0 ∷ plain_work w
 
 pub plain_along : (f : Raw → Option Position) (v : List (Work Goal Raw Held)) (w : PlacedWork) → plain_work (placed_by f v ++ w) ≡ v ++ plain_work w
 plain_along f [] w = refl
-plain_along f (reading g h ∷ v) w = ap (λ x. reading g h ∷ x) (plain_along f v w)
-plain_along f (saying e ∷ v) w = ap (λ x. saying e ∷ x) (plain_along f v w)
+plain_along f (x ∷ v) w = let i = plain_along f v w in grind arith
 
 pub plain_before : (t : Token) (b : Option Position) (h : Held) (ps : List (Part Goal Raw)) (w : PlacedWork)
     → plain_work (placed_before t b h ps w) ≡ before grammar h t.tok ps (plain_work w)
@@ -37,8 +36,7 @@ or_nowhere None = nowhere
 or_nowhere (Some p) = p
 
 pub at_own : (o : Option Position) → IfSome o (λ p. or_nowhere o ≡ p)
-at_own None = tt
-at_own (Some p) = refl
+at_own o = grind arith
 
 abbrev pub HasPlaces : Option Position → PlacedWork → List Token → List Raw → Type 0
 HasPlaces b w ts rs = (es : List (Raw × Position)) × (raws_of es ≡ rs) × Places to_end b w ts es

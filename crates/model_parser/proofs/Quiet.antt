@@ -27,17 +27,14 @@ work_quiet g ss = let q = works_quiet ss in let h = past_quiet ss q in grind ari
 -- So it is the same wherever its events would stand.
 pub quiet_placed : (k : Token) (b : Option Position) (w : Works) → is_quiet w ≡ true → placed_by (position_at k b) w ≡ placed w
 quiet_placed k b [] q = refl
-quiet_placed k b (reading g h ∷ w) q = ap (λ v. reading g h ∷ v) (quiet_placed k b w q)
-quiet_placed k b (saying Raw.pair_end ∷ w) q = ap (λ v. saying (Raw.pair_end, None) ∷ v) (quiet_placed k b w q)
-quiet_placed k b (saying e ∷ w) q = cc
+quiet_placed k b (x ∷ w) q = let i = quiet_placed k b w in grind arith
 
 pub plain_placed : (f : Raw → Option Position) (w : Works) → plain_work (placed_by f w) ≡ w
 plain_placed f w = ap plain_work (sym (append-nil (placed_by f w))) ∙ plain_along f w [] ∙ append-nil w
 
 placed_over : (f : Raw → Option Position) (v w : Works) → placed_by f v ++ placed_by f w ≡ placed_by f (v ++ w)
 placed_over f [] w = refl
-placed_over f (reading g h ∷ v) w = ap (λ x. reading g h ∷ x) (placed_over f v w)
-placed_over f (saying e ∷ v) w = ap (λ x. saying (e, f e) ∷ x) (placed_over f v w)
+placed_over f (x ∷ v) w = let i = placed_over f v w in grind arith
 
 -- a row's parts at its token, before other work
 pub placed_row : (k : Token) (b : Option Position) (h : Held) (ps : List (Part Read Raw)) (w : Works) → placed_before k b h ps (placed_by (position_at k b) w) ≡ placed_by (position_at k b) (before grammar h k.tok ps w)

@@ -64,9 +64,7 @@ TurnsRight a bottom ends start taken t given (refused es) = Begins a start taken
 
 turn_saying : {G T E H : Type 0} (a : Table G T E H) (bottom : G → Bool) (ends : T → Bool) (start : List (Work G E H)) (taken : List T) (t : T) (given : List E)
     (e : E) (o : Turned G E H) → TurnsRight a bottom ends start taken t (given ++ e ∷ []) o → TurnsRight a bottom ends start taken t given (and_before e o)
-turn_saying a bottom ends start taken t given e (goes es v) x =
-    (subst (λ l. IsOnTrack a ends start v (taken ++ t ∷ []) None l) (append_assoc given (e ∷ []) es) x.0, x.1)
-turn_saying a bottom ends start taken t given e (refused es) x = (subst (λ l. Begins a start taken l) (append_assoc given (e ∷ []) es) x.0, x.1)
+turn_saying a bottom ends start taken t given e o x = grind (arith, append_assoc)
 
 turn_row : {G T E H : Type 0} {a : Table G T E H} {m : G → ℕ} {bottom : G → Bool} {ends : T → Bool} → IsMended a m bottom ends
     → {start : List (Work G E H)} {g : G} {h : H} {w : List (Work G E H)} {taken : List T} {t : T} {given : List E}
@@ -120,9 +118,7 @@ turns {a = a} {m = m} {bottom = bottom} {ends = ends} c {start} {taken} {given} 
 
 -- the events that were given before those of the outcome
 events_along : {T E : Type 0} (given es : List E) (o : Outcome T E) → after_events (given ++ es) o ≡ after_events given (after_events es o)
-events_along given es (reads fs) = ap (λ l. reads l) (append_assoc given es fs)
-events_along given es (unfinished fs) = ap (λ l. unfinished l) (append_assoc given es fs)
-events_along given es (stops fs ts) = ap (λ l. stops l ts) (append_assoc given es fs)
+events_along given es o = grind (arith, append_assoc)
 
 -- what the machine tells from here is right of all tokens
 abbrev RightFrom : {G T E H : Type 0} → Table G T E H → (start : List (Work G E H)) → (taken : List T) → (given : List E) → (ts : List T) → Outcome T E → Type 0

@@ -69,18 +69,12 @@ as_first {a = a} {g = g} {h = h} {w = w} {u = u} {ts = ts} {es = es} ps r e d =
 
 left_sound : {G T E H : Type 0} {a : Table G T E H} (ends : T → Bool) {g : G} {h : H} {w : List (Work G E H)} (t : T) (ps : List (Part G E)) (ts : List T)
     {es : List E} (too : Bool)
-    → row_of (a.cases g) t ≡ Some (leaves ps) → HaveIt a ends g t ps → MayBegin ends too (Some t) ts → Derives a (before a h t ps w) ts es
+    → row_of (a.cases g) t ≡ Some (leaves ps) → (too ≡ true → HaveIt a ends g t ps) → MayBegin ends too (Some t) ts → Derives a (before a h t ps w) ts es
     → Derives a (reading g h ∷ w) ts es
 left_sound ends t ps [] too r l b d = absurd b
 left_sound ends t ps (u ∷ ts) true r l (inl e) d = as_first ps r e d
-left_sound {a = a} ends {h = h} {w = w} t ps (u ∷ ts) {es} true r l (inr e) d = let k = l u e in by_leaving ps k.0 (subst (λ v. Derives a v (u ∷ ts) es) (sym (k.1 h w)) d)
+left_sound {a = a} ends {h = h} {w = w} t ps (u ∷ ts) {es} true r l (inr e) d = let k = l refl u e in by_leaving ps k.0 (subst (λ v. Derives a v (u ∷ ts) es) (sym (k.1 h w)) d)
 left_sound ends t ps (u ∷ ts) false r l e d = as_first ps r e d
-
-left_alone : {G T E H : Type 0} {a : Table G T E H} (ends : T → Bool) {g : G} {h : H} {w : List (Work G E H)} (t : T) (ps : List (Part G E)) (ts : List T)
-    {es : List E}
-    → row_of (a.cases g) t ≡ Some (leaves ps) → MayBegin ends false (Some t) ts → Derives a (before a h t ps w) ts es → Derives a (reading g h ∷ w) ts es
-left_alone ends t ps [] r b d = absurd b
-left_alone ends t ps (u ∷ ts) r e d = as_first ps r e d
 
 -- with the token alone, too
 alone : {T : Type 0} (ends : T → Bool) (too : Bool) (t : T) (ts : List T) → MayBegin ends false (Some t) ts → MayBegin ends too (Some t) ts
@@ -108,7 +102,7 @@ pub leave : {G T E H : Type 0} {a : Table G T E H} (m : G → ℕ) {ends : T →
     → LeavingRow a m ends g t (leaves ps) → IsOnTrack a ends start (before a h t ps w) taken (Some t) given
 leave m {ends = ends} {t = t} x c ps r (inl l) = record {
   too = x.too;
-  sound = λ ts es b d. x.sound ts es b (left_sound ends t ps ts x.too r l b d);
+  sound = λ ts es b d. x.sound ts es b (left_sound ends t ps ts x.too r (λ e. l) b d);
   exact = λ ts es n d. left_exact x ps r ts es n d;
   safe = λ f. let y = x.safe f in (y.0, y.1, left_by y.2 ps r);
 }
@@ -117,7 +111,7 @@ leave {a = a} m {ends = ends} {h = h} {w = w} {t = t} x c ps r (inr l) =
     let n = suc (work_weight m v) in
     record {
       too = false;
-      sound = λ ts es b d. x.sound ts es (alone ends x.too t ts b) (left_alone ends t ps ts r b d);
+      sound = λ ts es b d. x.sound ts es (alone ends x.too t ts b) (left_sound ends t ps ts false r (λ e. cc e) b d);
       exact = λ ts es k d. left_exact x ps r ts es k d;
       safe = λ f. not_refused a m v t (step a n v t) c (step_sound a n v t) (λ es p. l n h w es (omega arith) p);
     }
