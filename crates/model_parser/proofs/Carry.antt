@@ -45,9 +45,6 @@ settled_on g ss p g' ss' taken given (alike_after e n) s = as_before g ss p g' s
 settled_on g ss p g' ss' taken given (without_node h m) s = goes_on h (comes_on g ss p taken given s m)
 settled_on g ss p g' ss' taken given (before_directive a d) s = at_directive a d
 
-past_on : {A B : Type 0} → A ⊎ B → (A → B) → B
-past_on x f = grind arith
-
 pub stands_leave : (g : Goal) (ss : List State) (p : Option Tok) (e : Option Raw) (g' : Goal) (ss' : List State) (taken : List Tok) (given : List Raw)
     → Leaves g ss p e g' ss' → IsOnTrack g ss taken p given → IsOnTrack g' ss' taken p (then_event given e)
 stands_leave g ss p e g' ss' taken given k s = record {
@@ -55,7 +52,7 @@ stands_leave g ss p e g' ss' taken given k s = record {
   fits = (k.nested s.nested s.fits).1;
   opened = s.opened ∙ k.opened;
   settled = settled_on g ss p g' ss' taken given (k.settles s.fits) s;
-  past = λ h. past_on (k.past s.fits h) s.past;
+  past = λ h. let q = k.past s.fits h in grind (arith, s.past);
   sound = λ ts es a. subst (λ fs. StreamSays (taken ++ ts) fs) (event_along given es e) (s.sound ts (event_then e es) (k.comes s.nested s.fits ts es a));
   exact = λ ts es u d.
       let x = s.exact ts es u d in

@@ -20,11 +20,8 @@ is_bottom _ = false
 abbrev Bottoms : Goal → Type 0
 Bottoms g = EachRow (λ t r. BottomRow grammar is_bottom t r) (λ t. false) (cases g)
 
-bottom_rows : (g : Goal) → is_bottom g ≡ true → Bottoms g
-bottom_rows a b = grind arith
-
 bottoms : (g : Goal) (t : Tok) (r : Row Goal Raw) → is_bottom g ≡ true → row_of (cases g) t ≡ Some r → BottomRow grammar is_bottom t r
-bottoms g t r b p = row_holds (λ t r. BottomRow grammar is_bottom t r) (λ t. false) (cases g) (bottom_rows g b) t refl r p
+bottoms g t r b p = row_holds (λ t r. BottomRow grammar is_bottom t r) (λ t. false) (cases g) (grind arith) t refl r p
 
 -- ---- tokens that end a goal
 
@@ -60,16 +57,13 @@ goes_from p t v f zero h es l e = omega (arith, l)
 goes_from p t v f (suc zero) h es l e = omega (arith, l)
 goes_from p t v f (suc (suc n)) h es l e = f n h v es e
 
-and_refused : (e : Raw) (o : Turned Goal Raw Held) (es : List Raw) → and_before e o ≡ refused es → (fs : List Raw) × (o ≡ refused fs)
-and_refused e a fs p = grind arith
-
 -- a document that begins with its node
 bare_taken : (n : ℕ) (t : Tok) → begins_node t ≡ true → (w : List (Work Goal Raw Held)) (es : List Raw)
     → work_weight weight (saying (Raw.document_start []) ∷ reading (node in_block) nothing_held ∷ w) < n
     → step grammar n (saying (Raw.document_start []) ∷ reading (node in_block) nothing_held ∷ w) t ≡ refused es → ⊥
 bare_taken zero t i w es l e = omega (arith, l)
 bare_taken (suc n) t i w es l e =
-    let x = and_refused (Raw.document_start []) (step grammar n (reading (node in_block) nothing_held ∷ w) t) es e in
+    let x : (fs : List Raw) × (step grammar n (reading (node in_block) nothing_held ∷ w) t ≡ refused fs) = grind arith in
     goes_from in_block t w (node_taken t i) n nothing_held x.0 (omega (arith, l)) x.1
 
 -- ---- all rows

@@ -2,7 +2,7 @@
 use Rattle.std.proofs.Math.Bool.{or-true}
 use Rattle.model_parser.proofs.Common.{arith, alike, anchor_of, anchored, anchored_tagged, ap, before, begins_content, begins_node, Bool, both_ways, cases, context_at, event_of, false, Goal, goal_and, grammar, Held, in_block, in_flow, in_pair, inl, is_in_mapping, is_past_directives, is_under, Kind, kind_of, Leaves, List, may_begin, may_begin_content, narrows, NodeContext, None, not, nothing_held, Option, past, perhaps_anchor_of, perhaps_tag_of, Place, place_of, Properties, Raw, read, refl, Refuses, row_of, saying, show, Some, State, Style, subst, sym, Tag, tag_of, tag_token, tagged, tagged_anchored, Takes, takes, then_in, Tok, true, with_properties, work_of, Works, works, ℕ, ◌||◌, ◌∙◌, ◌∷◌, ◌≡◌, ◌≢◌}
 use Rattle.model_parser.proofs.StepRows.{Reads, by_row, takes_so, refuses, Leads, leaves_so}
-use Rattle.model_parser.proofs.Settling.{no_content, content_refuses, closes_so, none_begins, empty_content, under_goes, under_other, under_past, under_any, under_reads, past_alike, next_alike, then_works}
+use Rattle.model_parser.proofs.Settling.{no_content, content_refuses, closes_so, none_begins, empty_content, under_goes, under_other, under_past, under_any, under_reads, then_works}
 use Rattle.defs_event.specs.Grammar as table
 use Rattle.model_parser.specs.declared.kind.Kind.TheVariants as kind
 use Rattle.model_parser.specs.declared.context.NodeContext.TheVariants as context
@@ -44,35 +44,24 @@ no_property k p o ss u f r e =
     let behind : refuses 9 u (works ss) ≡ false = sym (content_refuses ss (with_properties o) u (ap (begins_content c) e ∙ (p c).0)) ∙ r in
     both_ways (begins_node c (kind_of u)) (none_begins ss u f (closes_so ss u f behind)) (ap (begins_node c) e ∙ (p c).1)
 
-anchor_leads : (p : NodeContext) (ss : List State) (a : List ℕ) (t : Tok) → kind_of t ≢ kind.Tag → may_begin (Goal.after_properties p (Some (anchored a))) ss (kind_of t) ≡ true
-    → Leads 1 (Goal.after_anchor p a) ss None (Goal.after_properties p (Some (anchored a))) ss t
-anchor_leads p ss a t n m = grind arith
-
 pub anchor_tag : (p : NodeContext) (ss : List State) (a : List ℕ) (t : Tag) → Takes (Goal.after_anchor p a) ss (tag_token t) None (Goal.after_properties p (Some (anchored_tagged a t))) ss
 anchor_tag p ss a t = takes_so (λ n f. (n, (f.0, narrows_itself p _ f.1))) (λ f. (refl, (λ k. all_begin p _ k f.1), by_row _ refl refl)) refl (λ f. refl) (λ f. refl)
 
 pub anchor_alone : (p : NodeContext) (ss : List State) (a : List ℕ) (t : Tok) → kind_of t ≢ kind.Tag → Leaves (Goal.after_anchor p a) ss (Some t) None (Goal.after_properties p (Some (anchored a))) ss
-anchor_alone p ss a t d = leaves_so 1 (λ n f. (n, (f.0, narrows_itself p _ f.1))) (λ f. refl) (λ f u r m. anchor_leads p ss a u (no_property kind.Tag (elim [ context.Flow ↦ (refl, refl) | _ ↦ (refl, refl) ]) (Some (anchored a)) ss u f.0 (r 11)) m) (λ f r m. anchor_leads p ss a t d (all_begin p _ (kind_of t) f.1)) refl
+anchor_alone p ss a t d = leaves_so 1 (λ n f. (n, (f.0, narrows_itself p _ f.1))) (λ f. refl) (λ f u r m. let n = no_property kind.Tag (elim [ context.Flow ↦ (refl, refl) | _ ↦ (refl, refl) ]) (Some (anchored a)) ss u f.0 (r 11) in grind arith) (λ f r m. let b = all_begin p _ (kind_of t) f.1 in grind arith) refl
     (λ f. alike refl refl) (λ f h. inl h)
-
-tag_leads : (p : NodeContext) (ss : List State) (x : Tag) (t : Tok) → kind_of t ≢ kind.Anchor → may_begin (Goal.after_properties p (Some (tagged x))) ss (kind_of t) ≡ true
-    → Leads 1 (Goal.after_tag p x) ss None (Goal.after_properties p (Some (tagged x))) ss t
-tag_leads p ss x t n m = grind arith
 
 pub tag_anchor : (p : NodeContext) (ss : List State) (t : Tag) (a : List ℕ) → Takes (Goal.after_tag p t) ss (Tok.anchor a) None (Goal.after_properties p (Some (tagged_anchored t a))) ss
 tag_anchor p ss t a = takes_so (λ n f. (n, (f.0, narrows_itself p _ f.1))) (λ f. (refl, (λ k. all_begin p _ k f.1), by_row _ refl refl)) refl (λ f. refl) (λ f. refl)
 
 pub tag_alone : (p : NodeContext) (ss : List State) (t : Tag) (u : Tok) → kind_of u ≢ kind.Anchor → Leaves (Goal.after_tag p t) ss (Some u) None (Goal.after_properties p (Some (tagged t))) ss
-tag_alone p ss t u d = leaves_so 1 (λ n f. (n, (f.0, narrows_itself p _ f.1))) (λ f. refl) (λ f v r m. tag_leads p ss t v (no_property kind.Anchor (elim [ context.Flow ↦ (refl, refl) | _ ↦ (refl, refl) ]) (Some (tagged t)) ss v f.0 (r 11)) m) (λ f r m. tag_leads p ss t u d (all_begin p _ (kind_of u) f.1)) refl
+tag_alone p ss t u d = leaves_so 1 (λ n f. (n, (f.0, narrows_itself p _ f.1))) (λ f. refl) (λ f v r m. let n = no_property kind.Anchor (elim [ context.Flow ↦ (refl, refl) | _ ↦ (refl, refl) ]) (Some (tagged t)) ss v f.0 (r 11) in grind arith) (λ f r m. let b = all_begin p _ (kind_of u) f.1 in grind arith) refl
     (λ f. alike refl refl) (λ f h. inl h)
 
 -- ---- a content
 
 own_begins : (p : NodeContext) (o : Option Properties) (c : NodeContext) (k : Kind) → begins_content p k ≡ true → may_begin_content p o c k ≡ true
 own_begins p o c k h = grind arith
-
-in_mapping : (ss : List State) → narrows context.Part (context_at (place_of ss)) ≡ true → is_in_mapping ss ≡ true
-in_mapping ss h = grind arith
 
 dash_reads : (ss : List State) (o : Option Properties) → narrows context.Part (context_at (place_of ss)) ≡ true
     → Reads (work_of (Goal.after_properties context.Part o) ss) Tok.block_entry (Some (Raw.indentless_sequence_start (perhaps_anchor_of o) (perhaps_tag_of o))) (work_of Goal.done (state.IndentlessSequenceItem ∷ ss))
@@ -81,7 +70,7 @@ dash_reads (state.BlockMappingValue ∷ ss) o h = by_row _ refl refl
 dash_reads ss o h = cc
 
 pub after_dash : (ss : List State) (o : Option Properties) → Takes (Goal.after_properties context.Part o) ss Tok.block_entry (Some (Raw.indentless_sequence_start (perhaps_anchor_of o) (perhaps_tag_of o))) Goal.done (state.IndentlessSequenceItem ∷ ss)
-after_dash ss o = takes_so (λ n f. ((in_mapping ss f.1, n), tt)) (λ f. (own_begins context.Part o _ kind.BlockEntry refl, (λ k. refl), dash_reads ss o f.1)) refl (λ f. refl) (λ f. refl)
+after_dash ss o = takes_so (λ n f. ((grind arith, n), tt)) (λ f. (own_begins context.Part o _ kind.BlockEntry refl, (λ k. refl), dash_reads ss o f.1)) refl (λ f. refl) (λ f. refl)
 
 -- A content of a narrower context may begin where one of the wider may, if what begins it begins the other.
 widens : (p q : NodeContext) (o : Option Properties) (c : NodeContext) (k : Kind) → (begins_content q k ≡ true → begins_content p k ≡ true)
@@ -94,24 +83,18 @@ narrows_on : (p q : NodeContext) (ss : List State) (o : Option Properties) (t : 
 narrows_on p q ss o t n back on =
     let c = context_at (place_of ss) in
     leaves_so 0 (λ n' f. (n', (f.0, n c f.1))) (λ f. refl) (λ f u r m. cc (m, widens p q o c (kind_of u) (back (kind_of u)) m)) (λ f r m. cc (m, widens q p o c (kind_of t) on m)) refl
-    (λ f. alike (next_alike p q o) refl) (λ f h. inl (past_alike p q o ss ∙ h))
+    (λ f. alike refl refl) (λ f h. inl h)
 
 pub part_block : (ss : List State) (o : Option Properties) (t : Tok) → kind_of t ≢ kind.BlockEntry → Leaves (Goal.after_properties context.Part o) ss (Some t) None (Goal.after_properties context.Block o) ss
 part_block ss o t a = narrows_on context.Part context.Block ss o t (λ c h. grind arith) (λ k h. grind arith) (λ h. grind arith)
 
-block_row : (p : Place) → narrows context.Block (context_at p) ≡ true → row_of (cases (table.content p)) Tok.block_sequence_start ≡ Some (takes (show ∷ read table.block_sequence_entries ∷ then_in p))
-block_row p h = grind arith
-
 pub after_sequence : (ss : List State) (o : Option Properties) → Takes (Goal.after_properties context.Block o) ss Tok.block_sequence_start (Some (Raw.sequence_start (perhaps_anchor_of o) (perhaps_tag_of o))) Goal.done (state.BlockSequenceEntry ∷ ss)
 after_sequence ss o = takes_so (λ n f. ((f.0, n), tt))
-    (λ f. (own_begins context.Block o _ kind.BlockSequenceStart refl, (λ k. refl), by_row _ (block_row (place_of ss) f.1) (shows_and ss (with_properties o) Tok.block_sequence_start table.block_sequence_entries))) refl (λ f. refl) (λ f. refl)
-
-mapping_row : (p : Place) → narrows context.Block (context_at p) ≡ true → row_of (cases (table.content p)) Tok.block_mapping_start ≡ Some (takes (show ∷ read table.block_mapping_entries ∷ then_in p))
-mapping_row p h = grind arith
+    (λ f. (own_begins context.Block o _ kind.BlockSequenceStart refl, (λ k. refl), by_row (show ∷ read table.block_sequence_entries ∷ then_in (place_of ss)) (grind arith) (shows_and ss (with_properties o) Tok.block_sequence_start table.block_sequence_entries))) refl (λ f. refl) (λ f. refl)
 
 pub after_mapping : (ss : List State) (o : Option Properties) → Takes (Goal.after_properties context.Block o) ss Tok.block_mapping_start (Some (Raw.mapping_start (perhaps_anchor_of o) (perhaps_tag_of o))) Goal.done (state.BlockMappingKey ∷ ss)
 after_mapping ss o = takes_so (λ n f. ((f.0, n), tt))
-    (λ f. (own_begins context.Block o _ kind.BlockMappingStart refl, (λ k. refl), by_row _ (mapping_row (place_of ss) f.1) (shows_and ss (with_properties o) Tok.block_mapping_start table.block_mapping_entries))) refl (λ f. refl) (λ f. refl)
+    (λ f. (own_begins context.Block o _ kind.BlockMappingStart refl, (λ k. refl), by_row (show ∷ read table.block_mapping_entries ∷ then_in (place_of ss)) (grind arith) (shows_and ss (with_properties o) Tok.block_mapping_start table.block_mapping_entries))) refl (λ f. refl) (λ f. refl)
 
 pub block_flow : (ss : List State) (o : Option Properties) (t : Tok) → kind_of t ≢ kind.BlockSequenceStart → kind_of t ≢ kind.BlockMappingStart → Leaves (Goal.after_properties context.Block o) ss (Some t) None (Goal.after_properties context.Flow o) ss
 block_flow ss o t a b = narrows_on context.Block context.Flow ss o t (λ c h. refl) (λ k h. grind arith) (λ h. grind arith)
@@ -131,12 +114,9 @@ only_leads ss o t f b =
     let may = ap (λ x. begins_content context.Flow (kind_of t) || not x) b ∙ or-true (begins_content context.Flow (kind_of t)) in
     cc (empty_content ss (with_properties (Some o)) t b, may, under_any ss f (kind_of t))
 
-no_such : (x y : Bool) → x ≡ false → (x || not y) ≡ true → y ≡ false
-no_such x y a m = grind arith
-
 pub properties_only : (ss : List State) (o : Properties) (t : Tok) → begins_content context.Flow (kind_of t) ≡ false → Leaves (Goal.after_properties context.Flow (Some o)) ss (Some t) (Some (Raw.empty_scalar (anchor_of o) (tag_of o))) Goal.done ss
 properties_only ss o t a = leaves_so 2 (λ n f. (n, under_goes ss f.0)) (λ f. under_reads ss f.0) (λ f u r m. only_leads ss o u f.0 (no_content (context_at (place_of ss)) (kind_of u) (none_begins ss u f.0 (closes_so ss u f.0 (r 9)))))
-    (λ f r m. only_leads ss o t f.0 (no_such (begins_content context.Flow (kind_of t)) (begins_content (context_at (place_of ss)) (kind_of t)) a m)) refl
+    (λ f r m. only_leads ss o t f.0 (grind arith)) refl
     (λ f. alike (under_other ss f.0) refl) (λ f h. absurd (both_ways (is_past_directives Goal.done ss) (under_past ss f.0) h))
 
 pub nothing_refuses : (ss : List State) (t : Tok) → begins_content context.Flow (kind_of t) ≡ false → Refuses (Goal.after_properties context.Flow None) ss t

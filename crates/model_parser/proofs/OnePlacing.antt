@@ -95,18 +95,10 @@ same_events keep s [] [] [] [] a n p m q = tt
 same_events keep s (r ∷ rs) (u ∷ us) (e ∷ es) (f ∷ fs) a n p m q =
     let x = both_some (resolved_event s r.0) (named keep (names_after keep s r.0) (raws_of rs)) (e.0 ∷ events_of es) n in
     let y = both_some (resolved_event s u.0) (named keep (names_after keep s u.0) (raws_of us)) (f.0 ∷ events_of fs) m in
-    let one : e.0 ≡ x.event = cc x.whole in
-    let other : f.0 ≡ y.event = cc y.whole in
-    let ones : events_of es ≡ x.more = cc x.whole in
-    let others : events_of fs ≡ y.more = cc y.whole in
-    let at : r.1 ≡ e.1 = cc p in
-    let other_at : u.1 ≡ f.1 = cc q in
-    let ats : map (λ e. e.1) rs ≡ positions_of es = cc p in
-    let other_ats : map (λ e. e.1) us ≡ positions_of fs = cc q in (
-      one ∙ some_is (sym x.is_first ∙ ap (resolved_event s) a.0 ∙ y.is_first) ∙ sym other,
-      λ no_end. sym at ∙ a.1 (λ is. no_end (one ∙ some_is (sym x.is_first ∙ ap (resolved_event s) is))) ∙ other_at,
-      same_events keep (names_after keep s r.0) rs us es fs a.2 (x.are_more ∙ ap Some (sym ones)) ats
-          (ap (λ k. named keep (names_after keep s k) (raws_of us)) a.0 ∙ y.are_more ∙ ap Some (sym others)) other_ats,
+    (
+      cc (x.whole, x.is_first, y.whole, y.is_first, a.0),
+      λ no_end. let one : r.1 ≡ u.1 = a.1 (λ is. no_end (cc (x.whole, x.is_first, ap (resolved_event s) is))) in cc (one, p, q),
+      same_events keep (names_after keep s r.0) rs us es fs a.2 (cc (x.whole, x.are_more)) (cc p) (cc (y.whole, y.are_more, a.0)) (cc q),
     )
 same_events keep s rs us es fs a n p m q = grind arith
 

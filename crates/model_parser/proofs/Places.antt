@@ -41,9 +41,6 @@ at_own o = grind arith
 abbrev pub HasPlaces : Option Position → PlacedWork → List Token → List Raw → Type 0
 HasPlaces b w ts rs = (es : List (Raw × Position)) × (raws_of es ≡ rs) × Places to_end b w ts es
 
-same_before : (h h' : Held) (t t' : Tok) (ps : List (Part Goal Raw)) (w w' : List (Work Goal Raw Held)) → h ≡ h' → t ≡ t' → w ≡ w' → before grammar h t ps w ≡ before grammar h' t' ps w'
-same_before h h' t t' ps w w' a b c = ap (λ x. before grammar x t ps w) a ∙ ap (λ x. before grammar h' x ps w) b ∙ ap (λ x. before grammar h' t' ps x) c
-
 pub with_positions : {v : List (Work Goal Raw Held)} {us : List Tok} {rs : List Raw} → Derives grammar v us rs
     → (b : Option Position) (w : PlacedWork) (ts : List Token) → plain_work w ≡ v → toks ts ≡ us → HasPlaces b w ts rs
 with_positions nothing_left b [] [] p q = ([], refl, placed.nothing_left)
@@ -53,19 +50,13 @@ with_positions (says {e = e} {w = v} {es = rs} d) b (saying x ∷ w) ts p q =
     let rest : plain_work w ≡ v = cc p in
     let i = with_positions d b w ts rest q in
     ((x.0, or_nowhere x.1) ∷ i.0, ap (λ l. x.0 ∷ l) i.1 ∙ ap (λ y. y ∷ rs) same, placed.says (at_own x.1) i.2)
-with_positions (by_taking {g = g'} {h = h'} {w = w'} {t = t'} {ts = us} ps r d) b (reading g h ∷ w) (t ∷ ts) p q =
-    let goal : g ≡ g' = cc p in
-    let held : h ≡ h' = cc p in
-    let rest : plain_work w ≡ w' = cc p in
-    let tok : t.tok ≡ t' = cc q in
+with_positions (by_taking {h = h'} {w = w'} {t = t'} {ts = us} ps r d) b (reading g h ∷ w) (t ∷ ts) p q =
+    let rest : plain_work (placed_before t b h ps w) ≡ before grammar h' t' ps w' = cc (plain_before t b h ps w, p, q) in
     let more : toks ts ≡ us = cc q in
-    let i = with_positions d (Some t.position) (placed_before t b h ps w) ts (plain_before t b h ps w ∙ same_before h h' t.tok t' ps (plain_work w) w' held tok rest) more in
-    (i.0, i.1, placed.by_taking {es = i.0} ps (ap (λ x. row_of (cases x) t.tok) goal ∙ ap (λ x. row_of (cases g') x) tok ∙ r) i.2)
-with_positions (by_leaving {g = g'} {h = h'} {w = w'} {t = t'} {ts = us} ps r d) b (reading g h ∷ w) (t ∷ ts) p q =
-    let goal : g ≡ g' = cc p in
-    let held : h ≡ h' = cc p in
-    let rest : plain_work w ≡ w' = cc p in
-    let tok : t.tok ≡ t' = cc q in
-    let i = with_positions d b (placed_before t b h ps w) (t ∷ ts) (plain_before t b h ps w ∙ same_before h h' t.tok t' ps (plain_work w) w' held tok rest) q in
-    (i.0, i.1, placed.by_leaving {es = i.0} ps (ap (λ x. row_of (cases x) t.tok) goal ∙ ap (λ x. row_of (cases g') x) tok ∙ r) i.2)
+    let i = with_positions d (Some t.position) (placed_before t b h ps w) ts rest more in
+    (i.0, i.1, placed.by_taking {es = i.0} ps (cc (p, q, r)) i.2)
+with_positions (by_leaving {h = h'} {w = w'} {t = t'} {ts = us} ps r d) b (reading g h ∷ w) (t ∷ ts) p q =
+    let rest : plain_work (placed_before t b h ps w) ≡ before grammar h' t' ps w' = cc (plain_before t b h ps w, p, q) in
+    let i = with_positions d b (placed_before t b h ps w) (t ∷ ts) rest q in
+    (i.0, i.1, placed.by_leaving {es = i.0} ps (cc (p, q, r)) i.2)
 with_positions d b w ts p q = cc (p, q)

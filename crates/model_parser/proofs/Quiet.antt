@@ -14,12 +14,9 @@ is_quiet (saying e ∷ w) = false
 past_quiet : (ss : List State) → is_quiet (works ss) ≡ true → is_quiet (past ss (works ss)) ≡ true
 past_quiet ss q = grind arith
 
-state_quiet : (s : State) (ss : List State) → is_quiet (works ss) ≡ true → is_quiet (works (s ∷ ss)) ≡ true
-state_quiet s ss q = let h = past_quiet ss q in grind arith
-
 works_quiet : (ss : List State) → is_quiet (works ss) ≡ true
 works_quiet [] = refl
-works_quiet (s ∷ ss) = state_quiet s ss (works_quiet ss)
+works_quiet (s ∷ ss) = let q = works_quiet ss in let h = past_quiet ss q in grind arith
 
 pub work_quiet : (g : Goal) (ss : List State) → is_quiet (work_of g ss) ≡ true
 work_quiet g ss = let q = works_quiet ss in let h = past_quiet ss q in grind arith

@@ -50,9 +50,6 @@ by_row {g} {h} {w} {t} {e} {w'} ps r b = record {
 pub first_any : (g : Goal) (ss : List State) (ts : List Tok) → ((k : Kind) → may_begin g ss k ≡ true) → first_may g ss ts ≡ true
 first_any g ss ts f = grind arith
 
-first_placed : (g : Goal) (ss : List State) (k : Token) (e : Option Raw) (m : Position) (ts : List Token) (es : List (Raw × Position)) → may_begin g ss (kind_of k.tok) ≡ true → first_may g ss (toks (k ∷ ts)) ≡ true
-first_placed g ss k e m ts es h = h
-
 -- Anything may come after the token.
 pub takes_so : {g : Goal} {ss : List State} {t : Tok} {e : Option Raw} {g' : Goal} {ss' : List State}
     → (IsNested ss → IsFor g ss → IsNested ss' × IsFor g' ss')
@@ -63,7 +60,7 @@ takes_so {g} {ss} {t} {e} {g'} {ss'} nested reads opened next past = record {
   comes = λ f ts es a. ((reads f).2.back ts es a.0, (reads f).0);
   goes = λ f ts es a. let x = (reads f).2.on ts es a.0 in (x.0, x.1, (x.2, first_any g' ss' ts (reads f).1));
   places = λ f x b k m same at ts es a.
-      ((reads f).2.places (work_quiet g ss) (work_quiet g' ss') x b k m same at ts es a.0, first_placed g ss k e m ts es (ap (λ u. may_begin g ss (kind_of u)) same ∙ (reads f).0));
+      ((reads f).2.places (work_quiet g ss) (work_quiet g' ss') x b k m same at ts es a.0, ap (λ u. may_begin g ss (kind_of u)) same ∙ (reads f).0);
   opened = opened;
   next = next;
   past = past;
@@ -99,8 +96,7 @@ by_steps (suc n) t (reading g h ∷ w) = by (row_of (cases g) t) refl (λ v. by_
     by : (r : Option (Row table.Goal Raw)) → row_of (cases g) t ≡ r → ((v : Works) → Stays t v (steps n t v).0 (steps n t v).1)
         → Stays t (reading g h ∷ w) (leave_row h t g w (λ v. steps n t v) r).0 (leave_row h t g w (λ v. steps n t v) r).1
     by (Some (leaves ps)) q again = let i = again (before grammar h t ps w) in (λ ts fs d. by_leaving ps q (i.0 ts fs d), λ ts gs d. i.1 ts gs (left_by d ps q))
-    by (Some (takes ps)) q again = (λ ts fs d. d, λ ts gs d. (gs, refl, d))
-    by None q again = (λ ts fs d. d, λ ts gs d. (gs, refl, d))
+    by r q again = (λ ts fs d. d, λ ts gs d. (gs, refl, d))
 
 -- ---- and where its events stand
 
@@ -131,8 +127,7 @@ steps_at (suc n) x b k m (reading g h ∷ w) = by (row_of (cases g) k.tok) refl 
   where
     by : (r : Option (Row table.Goal Raw)) → row_of (cases g) k.tok ≡ r → ((v : Works) → StaysAt x b k m v (steps n k.tok v)) → StaysAt x b k m (reading g h ∷ w) (leave_row h k.tok g w (λ v. steps n k.tok v) r)
     by (Some (leaves ps)) q again = λ ts fs d. places.by_leaving ps q (subst (λ v. Places x b v (k ∷ ts) (each_at (λ e. or_at m (position_at k b e)) (steps n k.tok (before grammar h k.tok ps w)).0 fs)) (sym (placed_row k b h ps w)) (again (before grammar h k.tok ps w) ts fs d))
-    by (Some (takes ps)) q again = λ ts fs d. d
-    by None q again = λ ts fs d. d
+    by r q again = λ ts fs d. d
 
 each_one : (b : Option Position) (k : Token) (e : Option Raw) (m : Position) (fs : List (Raw × Position)) → IsAt b k e m → each_at (λ x. or_at m (position_at k b x)) (event_list e) fs ≡ event_at e m fs
 each_one b k e m fs at = grind arith
@@ -180,8 +175,7 @@ not_refused (suc n) t (reading g h ∷ w) ts es d = by (row_of (cases g) t) refl
   where
     by : (r : Option (Row table.Goal Raw)) → row_of (cases g) t ≡ r → ((v : Works) → Derives grammar v (t ∷ ts) es → refuses n t v ≡ false) → refuse_row h t w (λ v. refuses n t v) r ≡ false
     by (Some (leaves ps)) q again = again (before grammar h t ps w) (left_by d ps q)
-    by (Some (takes ps)) q again = refl
-    by None q again = absurd (none_by d q)
+    by r q again = grind (arith, none_by d)
 
 -- nor is one that is read with positions
 placed_admits : (n : ℕ) (x : Extent) (b : Option Position) (k : Token) (v : PlacedWork) (ts : List Token) (es : List (Raw × Position)) → Places x b v (k ∷ ts) es → refuses n k.tok (plain_work v) ≡ false

@@ -29,9 +29,6 @@ step_sound a (suc n) (reading g h ∷ w) t = sound_row a g h w t (λ v. step a n
 abbrev pub Falls : {G T E H : Type 0} → Table G T E H → (G → ℕ) → Type 0
 Falls {G = G} {T = T} {E = E} a m = (g : G) (t : T) (ps : List (Part G E)) → row_of (a.cases g) t ≡ Some (leaves ps) → parts_weight m ps < m g
 
-part_weighs : {G T E H : Type 0} (a : Table G T E H) (m : G → ℕ) (h : H) (t : T) (p : Part G E) (w : List (Work G E H)) → work_weight m (part_work a h t p ∷ w) ≡ part_weight m p + work_weight m w
-part_weighs a m h t b w = grind arith
-
 pub parts_weigh : {G T E H : Type 0} (a : Table G T E H) (m : G → ℕ) (h : H) (t : T) (ps : List (Part G E)) (w : List (Work G E H)) → work_weight m (before a h t ps w) ≡ parts_weight m ps + work_weight m w
 parts_weigh a m h t [] w = omega arith
-parts_weigh a m h t (p ∷ ps) w = let i = parts_weigh a m h t ps w in let j = part_weighs a m h t p (before a h t ps w) in omega (arith, i, j)
+parts_weigh a m h t (p ∷ ps) w = let i = parts_weigh a m h t ps w in grind arith

@@ -25,9 +25,6 @@ EndsGoal {T = T} {E = E} a ends g h = (u : T) × (us : List T) × (es : List E) 
 
 -- ---- steps
 
-itself : {T : Type 0} (ends : T → Bool) (too : Bool) (t : T) (ts : List T) → MayBegin ends too (Some t) (t ∷ ts)
-itself a b t ts = grind arith
-
 pub starts : {G T E H : Type 0} (a : Table G T E H) (ends : T → Bool) (w : List (Work G E H)) → IsOnTrack a ends w w [] None []
 starts a ends w = record { too = true; sound = λ ts es b d. d; exact = λ ts es n d. (es, refl, d); safe = λ f. absurd (cc f) }
 
@@ -37,16 +34,13 @@ pub look : {G T E H : Type 0} {a : Table G T E H} {ends : T → Bool} {start w :
 look x t = record { too = true; sound = λ ts es b d. x.sound ts es tt d; exact = λ ts es n d. x.exact ts es tt d; safe = λ f. absurd (cc f) }
 
 -- An event is given.
-goes_on_saying : {G T E H : Type 0} (a : Table G T E H) (e : E) (w : List (Work G E H)) (next : Option T) → GoesOn a (saying e ∷ w) next → GoesOn a w next
-goes_on_saying a e w b x = grind arith
-
 pub give : {G T E H : Type 0} {a : Table G T E H} {ends : T → Bool} {start w : List (Work G E H)} {e : E} {taken : List T} {next : Option T} {given : List E}
     → IsOnTrack a ends start (saying e ∷ w) taken next given → IsOnTrack a ends start w taken next (given ++ e ∷ [])
 give {a = a} {start = start} {w = w} {e = e} {taken = taken} {next = next} {given = given} x = record {
   too = x.too;
   sound = λ ts es b d. subst (λ l. Derives a start (taken ++ ts) l) (sym (append_assoc given (e ∷ []) es)) (x.sound ts (e ∷ es) b (says d));
   exact = λ ts es n d. let y = x.exact ts es n d in let z = said_by y.2 in (z.0, y.1 ∙ ap (λ l. given ++ l) z.1 ∙ sym (append_assoc given (e ∷ []) z.0), z.2);
-  safe = λ f. goes_on_saying a e w next (x.safe f);
+  safe = λ f. let y = x.safe f in grind arith;
 }
 
 -- A row takes the next token.
@@ -56,7 +50,7 @@ pub take : {G T E H : Type 0} {a : Table G T E H} {ends : T → Bool} {start : L
 take {a = a} {ends = ends} {start = start} {taken = taken} {t = t} {given = given} x ps r = record {
   too = true;
   sound = λ ts es b d.
-      subst (λ l. Derives a start l (given ++ es)) (sym (append_assoc taken (t ∷ []) ts)) (x.sound (t ∷ ts) es (itself ends x.too t ts) (by_taking ps r d));
+      subst (λ l. Derives a start l (given ++ es)) (sym (append_assoc taken (t ∷ []) ts)) (x.sound (t ∷ ts) es (grind arith) (by_taking ps r d));
   exact = λ ts es n d. let y = x.exact (t ∷ ts) es refl (subst (λ l. Derives a start l es) (append_assoc taken (t ∷ []) ts) d) in (y.0, y.1, taken_by y.2 ps r);
   safe = λ f. absurd (cc f);
 }
@@ -75,10 +69,6 @@ left_sound ends t ps [] too r l b d = absurd b
 left_sound ends t ps (u ∷ ts) true r l (inl e) d = as_first ps r e d
 left_sound {a = a} ends {h = h} {w = w} t ps (u ∷ ts) {es} true r l (inr e) d = let k = l refl u e in by_leaving ps k.0 (subst (λ v. Derives a v (u ∷ ts) es) (sym (k.1 h w)) d)
 left_sound ends t ps (u ∷ ts) false r l e d = as_first ps r e d
-
--- with the token alone, too
-alone : {T : Type 0} (ends : T → Bool) (too : Bool) (t : T) (ts : List T) → MayBegin ends false (Some t) ts → MayBegin ends too (Some t) ts
-alone a too t b d = grind arith
 
 left_exact : {G T E H : Type 0} {a : Table G T E H} {ends : T → Bool} {start : List (Work G E H)} {g : G} {h : H} {w : List (Work G E H)} {taken : List T}
     {t : T} {given : List E} → IsOnTrack a ends start (reading g h ∷ w) taken (Some t) given → (ps : List (Part G E)) → row_of (a.cases g) t ≡ Some (leaves ps)
@@ -111,7 +101,7 @@ leave {a = a} m {ends = ends} {h = h} {w = w} {t = t} x c ps r (inr l) =
     let n = suc (work_weight m v) in
     record {
       too = false;
-      sound = λ ts es b d. x.sound ts es (alone ends x.too t ts b) (left_sound ends t ps ts false r (λ e. cc e) b d);
+      sound = λ ts es b d. x.sound ts es (grind arith) (left_sound ends t ps ts false r (λ e. cc e) b d);
       exact = λ ts es k d. left_exact x ps r ts es k d;
       safe = λ f. not_refused a m v t (step a n v t) c (step_sound a n v t) (λ es p. l n h w es (omega arith) p);
     }
