@@ -1,5 +1,5 @@
 -- The turns carry where a parser stands.
-use Rattle.model_parser.proofs.Common.{[], arith, alike, alike_after, ap, append_assoc, as_tokens, at_directive, before_directive, both_ways, Collection, event_then, Goal, goes_on, inl, inr, is_after, is_directive_next, is_node, is_past_directives, IsSettled, Leaves, List, MayCome, Next, next_after, next_at, next_past, None, open_after, open_past, Option, other_next, Raw, refl, Settles, Some, State, StreamSays, subst, sym, Takes, then_event, Tok, top, true, without_node, ◌++◌, ◌∙◌, ◌∷◌, ◌≡◌, ◌⊎◌}
+use Rattle.model_parser.proofs.Common.{[], arith, alike, alike_after, ap, append_assoc, as_tokens, at_directive, before_directive, both_ways, Collection, event_then, Goal, goes_on, is_after, is_directive_next, is_past_directives, IsSettled, Leaves, List, MayCome, Next, next_after, next_at, next_past, None, open_after, open_past, Option, other_next, Raw, refl, Settles, Some, State, StreamSays, subst, sym, Takes, then_event, Tok, top, true, without_node, ◌++◌, ◌∙◌, ◌∷◌, ◌≡◌}
 use Rattle.model_parser.specs.Stands.{IsOnTrack, GoesOn}
 
 event_along : (given fs : List Raw) (e : Option Raw) → given ++ event_then e fs ≡ then_event given e ++ fs

@@ -1,5 +1,5 @@
 -- In the table of the token grammar, rows for all other tokens are chosen by each token that ends a goal too.
-use Rattle.model_parser.proofs.Common.{[], and_before, arith, before, block_mapping_entries, block_sequence_entries, Bool, cases, content, directives, document_end, documents, ends_goal, explicit_document, false, flow_mapping_comma, flow_mapping_entries, flow_mapping_valued, flow_sequence_comma, flow_sequence_entries, grammar, Held, in_block, in_flow, in_pair, indentless_sequence_entries, inl, inr, key, leaves, List, no_flow_mapping_value, node, None, nothing_held, Part, Place, Raw, read, reading, refl, refused, Row, row_of, say, saying, Some, step, stream, suc, Tok, true, Turned, value, weight, Work, work_weight, zero, ℕ, ◌<◌, ◌∷◌, ◌≡◌}
+use Rattle.model_parser.proofs.Common.{[], arith, before, block_mapping_entries, block_sequence_entries, Bool, cases, content, directives, document_end, documents, ends_goal, explicit_document, false, flow_mapping_comma, flow_mapping_entries, flow_sequence_comma, flow_sequence_entries, grammar, Held, in_block, in_flow, in_pair, indentless_sequence_entries, inl, inr, key, leaves, List, node, None, nothing_held, Part, Place, Raw, read, reading, refl, refused, Row, row_of, say, saying, Some, step, stream, suc, Tok, true, value, weight, Work, work_weight, zero, ℕ, ◌<◌, ◌∷◌, ◌≡◌}
 use Rattle.defs_event.specs.Kinds.{begins_flow_node, begins_node}
 use Rattle.defs_event.specs.Grammar.{Goal}
 use Rattle.defs_event.proofs.Meanings.{EachRow, row_holds}

@@ -1,6 +1,6 @@
 -- The positions of events, on some streams, by computing.
 use Prim.Native.String.{String}
-use Rattle.model_parser.proofs.Common.{[], BeginsPlaced, cases, codes, Ev, Extent, false, Held, IsPlacedStream, leaves, List, None, nothing_written, Option, placed_before, PlacedWork, Places, plain_event, plain_raw, Position, Raw, reading, refl, Row, row_of, Some, StreamPlaces, StreamPlacesTo, Style, takes, takes_last, to_end, to_last, to_next, Tok, Token, wants_token, ℕ, ◌++◌, ◌∷◌, ◌≡◌}
+use Rattle.model_parser.proofs.Common.{[], BeginsPlaced, cases, codes, Ev, Extent, false, Held, IsPlacedStream, leaves, List, None, nothing_written, Option, placed_before, PlacedWork, Places, plain_event, plain_raw, Position, Raw, reading, refl, Row, row_of, Some, StreamPlaces, StreamPlacesTo, Style, takes, takes_last, to_last, to_next, Tok, Token, wants_token, ℕ, ◌++◌, ◌∷◌, ◌≡◌}
 use Rattle.defs_event.specs.Grammar.{Goal}
 use Rattle.defs_event.specs.Stream.{nothing_left, says, by_taking, by_leaving}
 use Rattle.defs_token.specs.Token.{alias, anchor, block_end, block_entry, block_mapping_start, flow_entry, flow_mapping_end, flow_mapping_start, flow_sequence_end, flow_sequence_start, key, stream_end, stream_start, value}

@@ -1,9 +1,8 @@
 -- What a parser still has to read has no event that is due at a place: that of the end of a single pair is promised nowhere.
-use Rattle.model_parser.proofs.Common.{arith, [], ap, append-nil, before, Bool, false, Goal, grammar, Held, List, None, Option, Part, past, placed, placed_before, placed_by, Position, position_at, Raw, reading, refl, saying, State, sym, Token, true, work_of, Works, works, ◌++◌, ◌∙◌, ◌∷◌, ◌≡◌}
+use Rattle.model_parser.proofs.Common.{arith, [], ap, append-nil, before, Bool, false, Goal, grammar, Held, List, Option, Part, past, placed, placed_before, placed_by, Position, position_at, Raw, reading, refl, saying, State, sym, Token, true, work_of, Works, works, ◌++◌, ◌∙◌, ◌∷◌, ◌≡◌}
 use Rattle.defs_event.specs.Grammar.{Goal as Read}
 use Rattle.model_parser.proofs.Places.{plain_along, plain_work}
 use Rattle.model_parser.proofs.Completions.{before_along}
-use Rattle.model_parser.specs.declared.state.State.TheVariants as state
 
 abbrev pub is_quiet : Works → Bool
 is_quiet [] = true

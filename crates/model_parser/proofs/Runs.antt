@@ -1,5 +1,5 @@
 -- What a machine tells of tokens is right, over any table: it is a parser that stays on track.
-use Rattle.model_parser.proofs.Common.{[], after_events, and_before, ap, append-nil, append_assoc, arith, before, Begins, Bool, Derives, false, finish, go_on, goes, inl, inr, IsOnTrack, IsRight, leaves, List, NeverGoesOn, None, nothing_left, Option, Outcome, Part, part_work, reading, reads, refl, refused, Row, row_of, run, saying, says, Some, step, stops, subst, suc, sym, Table, takes, true, Turned, unfinished, Work, work_weight, zero, ℕ, ◌++◌, ◌<◌, ◌∷◌, ◌≡◌, ◌⊎◌}
+use Rattle.model_parser.proofs.Common.{[], after_events, and_before, ap, append-nil, append_assoc, arith, before, Begins, Bool, Derives, false, finish, go_on, goes, inl, inr, IsOnTrack, IsRight, leaves, List, NeverGoesOn, None, nothing_left, Option, Outcome, Part, part_work, reading, refl, refused, Row, row_of, run, saying, says, Some, step, subst, suc, sym, Table, takes, true, Turned, Work, work_weight, zero, ℕ, ◌++◌, ◌<◌, ◌∷◌, ◌≡◌, ◌⊎◌}
 use Rattle.model_parser.specs.Machine.{by_row}
 use Rattle.model_parser.proofs.Steps.{Falls, parts_weigh}
 use Rattle.model_parser.proofs.Completions.{Completes, all_complete}
