@@ -22,11 +22,8 @@ abbrev row_falls : {G E : Type 0} → (G → ℕ) → ℕ → Row G E → Bool
 row_falls m n (takes ps) = true
 row_falls m n (leaves ps) = nat_lt (parts_weight m ps) n
 
-goal_falls : (g : Goal) → cases_pass (row_falls weight (weight g)) (cases g) ≡ true
-goal_falls g = grind arith
-
 pub grammar_falls : Falls grammar weight
-grammar_falls g t ps h = ltb-true (parts_weight weight ps) (weight g) (row_passes (row_falls weight (weight g)) (cases g) t (leaves ps) (goal_falls g) h)
+grammar_falls g t ps h = ltb-true (parts_weight weight ps) (weight g) (row_passes (row_falls weight (weight g)) (cases g) t (leaves ps) (grind arith) h)
 
 -- ---- goals complete: each is read to its end by some tokens, which say these events
 

@@ -17,17 +17,10 @@ is_bottom explicit_document = true
 is_bottom document_end = true
 is_bottom _ = false
 
-abbrev Bottoms : Goal → Type 0
-Bottoms g = EachRow (λ t r. BottomRow grammar is_bottom t r) (λ t. false) (cases g)
-
 bottoms : (g : Goal) (t : Tok) (r : Row Goal Raw) → is_bottom g ≡ true → row_of (cases g) t ≡ Some r → BottomRow grammar is_bottom t r
 bottoms g t r b p = row_holds (λ t r. BottomRow grammar is_bottom t r) (λ t. false) (cases g) (grind arith) t refl r p
 
 -- ---- tokens that end a goal
-
-at_enders : (P : Tok → Type 0) → P Tok.stream_start → P Tok.stream_end → P Tok.document_start → P Tok.block_end → P Tok.flow_sequence_end → P Tok.flow_mapping_end
-    → (u : Tok) → ends_goal u ≡ true → P u
-at_enders a b d c e g f i h = grind arith
 
 abbrev Leaves : Goal → List (Part Goal Raw) → Tok → Type 0
 Leaves g ps t = row_of (cases g) t ≡ Some (leaves ps)
@@ -36,18 +29,12 @@ Leaves g ps t = row_of (cases g) t ≡ Some (leaves ps)
 others : (g : Goal) (t : Tok) (ps : List (Part Goal Raw)) → Leaves g ps Tok.stream_start → Leaves g ps Tok.stream_end → Leaves g ps Tok.document_start
     → Leaves g ps Tok.block_end → Leaves g ps Tok.flow_sequence_end → Leaves g ps Tok.flow_mapping_end
     → ((u : Tok) (h : Held) (w : List (Work Goal Raw Held)) → before grammar h u ps w ≡ before grammar h t ps w) → LeavingRow grammar weight ends_goal g t (leaves ps)
-others g t ps a b c d e f same = inl (λ u is. (at_enders (Leaves g ps) a b c d e f u is, λ h w. same u h w))
+others g t ps a b c d e f same = inl (λ u is. (grind arith, λ h w. same u h w))
 
 -- ---- a node's first token is taken
 
 abbrev NeverRefused : Place → Tok → Type 0
 NeverRefused p t = (n : ℕ) (h : Held) (w : List (Work Goal Raw Held)) (es : List Raw) → step grammar (suc (suc n)) (reading (node p) h ∷ w) t ≡ refused es → ⊥
-
-flow_node_taken : (p : Place) (t : Tok) → begins_flow_node t ≡ true → NeverRefused p t
-flow_node_taken p a b n h w es e = grind arith
-
-node_taken : (t : Tok) → begins_node t ≡ true → NeverRefused in_block t
-node_taken t b n h w es e = grind arith
 
 abbrev GoesFrom : Place → Tok → List (Work Goal Raw Held) → Type 0
 GoesFrom p t v = (n : ℕ) (h : Held) (es : List Raw) → work_weight weight (reading (node p) h ∷ v) < n → step grammar n (reading (node p) h ∷ v) t ≡ refused es → ⊥
@@ -64,21 +51,18 @@ bare_taken : (n : ℕ) (t : Tok) → begins_node t ≡ true → (w : List (Work 
 bare_taken zero t i w es l e = omega (arith, l)
 bare_taken (suc n) t i w es l e =
     let x : (fs : List Raw) × (step grammar n (reading (node in_block) nothing_held ∷ w) t ≡ refused fs) = grind arith in
-    goes_from in_block t w (node_taken t i) n nothing_held x.0 (omega (arith, l)) x.1
+    goes_from in_block t w (λ n h w es e. grind arith) n nothing_held x.0 (omega (arith, l)) x.1
 
 -- ---- all rows
 
 -- a flow node, or a document that is one
 flow_leaving : (g : Goal) (t : Tok) (ps : List (Part Goal Raw)) → begins_flow_node t ≡ true → LeavingRow grammar weight ends_goal g t (leaves (read (node in_flow) ∷ ps))
-flow_leaving g t ps i = inr (λ n h w es l e. goes_from in_flow t (before grammar h t ps w) (flow_node_taken in_flow t i) n nothing_held es l e)
+flow_leaving g t ps i = inr (λ n h w es l e. goes_from in_flow t (before grammar h t ps w) (λ n h w es e. grind arith) n nothing_held es l e)
 
 bare_leaving : (g : Goal) (t : Tok) → begins_node t ≡ true → LeavingRow grammar weight ends_goal g t (leaves (say (Raw.document_start []) ∷ read (node in_block) ∷ read document_end ∷ []))
 bare_leaving g t i = inr (λ n h w es l e. bare_taken n t i (reading document_end nothing_held ∷ w) es l e)
 
-abbrev Leaving : Goal → Type 0
-Leaving g = EachRow (λ t r. LeavingRow grammar weight ends_goal g t r) (λ t. false) (cases g)
-
-leaving_rows : (g : Goal) → Leaving g
+leaving_rows : (g : Goal) → EachRow (λ t r. LeavingRow grammar weight ends_goal g t r) (λ t. false) (cases g)
 leaving_rows (content in_flow) = search others
 leaving_rows (content (in_pair key)) = search others
 leaving_rows (content (in_pair value)) = search others

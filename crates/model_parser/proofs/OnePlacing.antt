@@ -17,12 +17,9 @@ are_due [] = true
 are_due (reading g h ∷ w) = are_due w
 are_due (saying x ∷ w) = is_due x && are_due w
 
-due_at : (t : Token) (p : Position) (e : Raw) → is_due (e, position_at t (Some p) e) ≡ true
-due_at t p e = grind arith
-
 due_before : (t : Token) (p : Position) (v : List (Work Goal Raw Held)) (w : PlacedWork) → are_due w ≡ true → are_due (placed_by (position_at t (Some p)) v ++ w) ≡ true
 due_before t p [] w d = d
-due_before t p (x ∷ v) w d = let i = due_before t p v w d in grind (arith, due_at)
+due_before t p (x ∷ v) w d = let i = due_before t p v w d in grind arith
 
 -- ---- one list
 
@@ -63,16 +60,8 @@ one_placing {x} {p} due (placed.by_leaving {h = h} {w = w} {t = t} {ts = ts} {es
 
 -- ---- of a stream
 
-start_due : (t : Token) (h : Held) (ps : List (Part Goal Raw)) → row_of (cases stream) t.tok ≡ Some (takes ps) → are_due (placed_before t None h ps []) ≡ true
-start_due t h ps q = by t.tok q
-  where
-    by : (u : Tok) → row_of (cases stream) u ≡ Some (takes ps) → are_due (placed_by (position_at t None) (before grammar h u ps []) ++ []) ≡ true
-    by Tok.stream_start r =
-        let same : show ∷ read documents ∷ [] ≡ ps = cc r in subst (λ l. are_due (placed_by (position_at t None) (before grammar h Tok.stream_start l []) ++ []) ≡ true) same refl
-    by u r = cc
-
-none_leaves : (u : Tok) (ps : List (Part Goal Raw)) → row_of (cases stream) u ≡ Some (leaves ps) → ⊥
-none_leaves u ps r = grind arith
+start_due : (t : Token) (u : Tok) (h : Held) (ps : List (Part Goal Raw)) → row_of (cases stream) u ≡ Some (takes ps) → are_due (placed_by (position_at t None) (before grammar h u ps []) ++ []) ≡ true
+start_due t u h ps q = grind arith
 
 pub one_stream : {x : Extent} {ts : List Token} {es fs : List (Raw × Position)} → StreamPlacesTo x ts es → StreamPlacesTo x ts fs → AreSame es fs
 one_stream placed.wants_token placed.wants_token = tt
@@ -83,8 +72,8 @@ one_stream (placed.by_taking ps q d) (placed.takes_last qs r) = absurd (none_is_
 one_stream (placed.by_taking ps q d) (placed.by_leaving qs r c) = cc
 one_stream {x} (placed.by_taking {h = h} {t = t} {ts = ts} {es = es} ps q d) (placed.by_taking {es = fs} qs r c) =
     let same : qs ≡ ps = cc (q, r) in
-    one_placing (start_due t h ps q) d (subst (λ l. Places x (Some t.position) (placed_before t None h l []) ts fs) same c)
-one_stream (placed.by_leaving {t = t} ps q d) c = absurd (none_leaves t.tok ps q)
+    one_placing (start_due t t.tok h ps q) d (subst (λ l. Places x (Some t.position) (placed_before t None h l []) ts fs) same c)
+one_stream (placed.by_leaving {t = t} ps q d) c = absurd (grind arith)
 
 pub some_is : {A : Type 0} {x y : A} → Some x ≡ Some y → x ≡ y
 some_is h = cc

@@ -35,21 +35,18 @@ abbrev pub or_nowhere : Option Position → Position
 or_nowhere None = nowhere
 or_nowhere (Some p) = p
 
-pub at_own : (o : Option Position) → IfSome o (λ p. or_nowhere o ≡ p)
-at_own o = grind arith
-
 abbrev pub HasPlaces : Option Position → PlacedWork → List Token → List Raw → Type 0
 HasPlaces b w ts rs = (es : List (Raw × Position)) × (raws_of es ≡ rs) × Places to_end b w ts es
 
 pub with_positions : {v : List (Work Goal Raw Held)} {us : List Tok} {rs : List Raw} → Derives grammar v us rs
-    → (b : Option Position) (w : PlacedWork) (ts : List Token) → plain_work w ≡ v → toks ts ≡ us → HasPlaces b w ts rs
+    → (b : Option Position) (w : PlacedWork) (ts : List Token) → plain_work w ≡ v → toks ts ≡ us → (es : List (Raw × Position)) × (raws_of es ≡ rs) × Places to_end b w ts es
 with_positions nothing_left b [] [] p q = ([], refl, placed.nothing_left)
 with_positions nothing_left b (reading g h ∷ w) ts p q = cc p
 with_positions (says {e = e} {w = v} {es = rs} d) b (saying x ∷ w) ts p q =
     let same : x.0 ≡ e = cc p in
     let rest : plain_work w ≡ v = cc p in
     let i = with_positions d b w ts rest q in
-    ((x.0, or_nowhere x.1) ∷ i.0, ap (λ l. x.0 ∷ l) i.1 ∙ ap (λ y. y ∷ rs) same, placed.says (at_own x.1) i.2)
+    ((x.0, or_nowhere x.1) ∷ i.0, ap (λ l. x.0 ∷ l) i.1 ∙ ap (λ y. y ∷ rs) same, placed.says (grind arith) i.2)
 with_positions (by_taking {h = h'} {w = w'} {t = t'} {ts = us} ps r d) b (reading g h ∷ w) (t ∷ ts) p q =
     let rest : plain_work (placed_before t b h ps w) ≡ before grammar h' t' ps w' = cc (plain_before t b h ps w, p, q) in
     let more : toks ts ≡ us = cc q in

@@ -45,15 +45,6 @@ open_before : {G T E H : Type 0} (a : Table G T E H) (bottom : G → Bool) (h : 
 open_before a bottom h t [] w o = o
 open_before a bottom h t (p ∷ ps) w o = open_after bottom (part_work a h t p) (before a h t ps w) (open_before a bottom h t ps w o)
 
--- a row's parts in the place of an open goal
-takes_in_step : {G T E H : Type 0} (a : Table G T E H) (bottom : G → Bool) (g : G) (h : H) (t : T) (ps : List (Part G E)) (w : List (Work G E H))
-    → (bottom g ≡ true → BottomRow a bottom t (takes ps)) → is_open bottom (reading g h ∷ w) ≡ true → IsInStep bottom (before a h t ps w)
-takes_in_step a bottom g h t ps b r o = grind (arith, open_before)
-
-leaves_open : {G T E H : Type 0} (a : Table G T E H) (bottom : G → Bool) (g : G) (h : H) (t : T) (ps : List (Part G E)) (w : List (Work G E H))
-    → (bottom g ≡ true → BottomRow a bottom t (leaves ps)) → is_open bottom (reading g h ∷ w) ≡ true → is_open bottom (before a h t ps w) ≡ true
-leaves_open a bottom g h t ps b r o = grind (arith, open_before)
-
 -- ---- a turn of open work
 
 -- It goes on, on track and in step; or the token is refused by right.
@@ -61,10 +52,6 @@ abbrev TurnsRight : {G T E H : Type 0} → Table G T E H → (bottom : G → Boo
     → (given : List E) → Turned G E H → Type 0
 TurnsRight a bottom ends start taken t given (goes es v) = IsOnTrack a ends start v (taken ++ t ∷ []) None (given ++ es) × IsInStep bottom v
 TurnsRight a bottom ends start taken t given (refused es) = Begins a start taken (given ++ es) × NeverGoesOn a start taken t
-
-turn_saying : {G T E H : Type 0} (a : Table G T E H) (bottom : G → Bool) (ends : T → Bool) (start : List (Work G E H)) (taken : List T) (t : T) (given : List E)
-    (e : E) (o : Turned G E H) → TurnsRight a bottom ends start taken t (given ++ e ∷ []) o → TurnsRight a bottom ends start taken t given (and_before e o)
-turn_saying a bottom ends start taken t given e o x = grind (arith, append_assoc)
 
 turn_row : {G T E H : Type 0} {a : Table G T E H} {m : G → ℕ} {bottom : G → Bool} {ends : T → Bool} → IsMended a m bottom ends
     → {start : List (Work G E H)} {g : G} {h : H} {w : List (Work G E H)} {taken : List T} {t : T} {given : List E}
@@ -74,12 +61,12 @@ turn_row : {G T E H : Type 0} {a : Table G T E H} {m : G → ℕ} {bottom : G �
     → TurnsRight a bottom ends start taken t given (by_row a h t w (λ v. step a n v t) r)
 turn_row {a = a} {bottom = bottom} {ends = ends} c {start} {g} {h} {w} {taken} {t} {given} x n (Some (takes ps)) p k o i = (
   subst (λ l. IsOnTrack a ends start (before a h t ps w) (taken ++ t ∷ []) None l) (sym (append-nil given)) (take x ps p),
-  takes_in_step a bottom g h t ps w (λ b. c.bottoms g t (takes ps) b p) o,
+  let b = c.bottoms g t (takes ps) in grind (arith, open_before),
 )
 turn_row {a = a} {m = m} {bottom = bottom} c {g = g} {h = h} {w = w} {t = t} x n (Some (leaves ps)) p k o i =
     let l = c.falls g t ps p in
     let j = parts_weigh a m h t ps w in
-    i (before a h t ps w) (leave m x c.completes ps p (c.leaving g t (leaves ps) p)) (omega (arith, k, l, j)) (leaves_open a bottom g h t ps w (λ b. c.bottoms g t (leaves ps) b p) o)
+    i (before a h t ps w) (leave m x c.completes ps p (c.leaving g t (leaves ps) p)) (omega (arith, k, l, j)) (let b = c.bottoms g t (leaves ps) in grind (arith, open_before))
 turn_row {a = a} c {start} {g} {h} {w} {taken} {t} {given} x n None p k o i =
     let y = refuse x c.completes (c.ended g h t p) p in
     (subst (λ l. Begins a start taken l) (sym (append-nil given)) y.0, y.1)
@@ -90,7 +77,7 @@ open_turn : {G T E H : Type 0} {a : Table G T E H} {m : G → ℕ} {bottom : G �
 open_turn c zero w t x k o = absurd (omega (arith, k))
 open_turn c (suc n) [] t x k o = cc
 open_turn {a = a} {bottom = bottom} {ends = ends} c {start} {taken} {given} (suc n) (saying e ∷ w) t x k o =
-    turn_saying a bottom ends start taken t given e (step a n w t) (open_turn c n w t (give x) (omega (arith, k)) o)
+    let y = open_turn c n w t (give x) (omega (arith, k)) o in grind (arith, append_assoc)
 open_turn {a = a} c (suc n) (reading g h ∷ w) t x k o = turn_row c x n (row_of (a.cases g) t) refl k o (λ v y l q. open_turn c n v t y l q)
 
 -- ---- a turn at the end

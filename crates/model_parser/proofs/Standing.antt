@@ -34,9 +34,6 @@ looks {g} {ss} {taken} o s = record {
 pub top_of : (s : State) (ss : List State) → top (goal_of s) ss ≡ goal_of s
 top_of s ss = grind arith
 
-past_of : (s : State) (ss : List State) → is_past_directives (goal_of s) ss ≡ is_past_in (goal_of s) ss
-past_of s ss = grind arith
-
 pub first_of : (s : State) (ss : List State) (ts : List Tok) → first_may Goal.done (s ∷ ss) ts ≡ first_may (goal_of s) ss ts
 first_of s ss ts = grind arith
 
@@ -46,7 +43,7 @@ pops {s} {ss} {taken} {p} h = record {
   fits = h.nested.0;
   opened = h.opened;
   settled = by h.settled;
-  past = λ e. h.past (sym (past_of s ss) ∙ e);
+  past = λ e. h.past (grind arith);
   sound = λ ts es a. h.sound ts es (a.0, first_of s ss ts ∙ a.1);
   exact = λ ts es u d. let x = h.exact ts es u d in (x.0, x.1, (x.2.0, sym (first_of s ss ts) ∙ x.2.1));
 }

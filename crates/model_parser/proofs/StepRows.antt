@@ -16,12 +16,6 @@ abbrev pub and_saying : Option Raw → Works → Works
 and_saying None w = w
 and_saying (Some e) w = saying e ∷ w
 
-saying_on : (e : Option Raw) (w : Works) (ts : List Tok) (es : List Raw) → Derives grammar w ts es → Derives grammar (and_saying e w) ts (event_then e es)
-saying_on e w ts es d = grind (arith, says)
-
-said_on : (e : Option Raw) (w : Works) (ts : List Tok) (es : List Raw) → Derives grammar (and_saying e w) ts es → (fs : List Raw) × (es ≡ event_then e fs) × Derives grammar w ts fs
-said_on e w ts es d = grind (arith, said_by)
-
 -- Work takes a token, and says this event or none before other work.
 pub record Reads (w : Works) (t : Tok) (e : Option Raw) (w' : Works) : Type 0 where
   pub back : (ts : List Tok) (es : List Raw) → Derives grammar w' ts es → Derives grammar w (t ∷ ts) (event_then e es)
@@ -38,8 +32,8 @@ saying_at (Some y) w b k m at q x c ts es d = places.says at (subst (λ v. Place
 pub by_row : {g : table.Goal} {h : Held} {w : Works} {t : Tok} {e : Option Raw} {w' : Works} (ps : List (Part table.Goal Raw))
     → row_of (cases g) t ≡ Some (takes ps) → before grammar h t ps w ≡ and_saying e w' → Reads (reading g h ∷ w) t e w'
 by_row {g} {h} {w} {t} {e} {w'} ps r b = record {
-  back = λ ts es d. by_taking ps r (subst (λ v. Derives grammar v ts (event_then e es)) (sym b) (saying_on e w' ts es d));
-  on = λ ts es d. said_on e w' ts es (subst (λ v. Derives grammar v ts es) b (taken_by d ps r));
+  back = λ ts es d. by_taking ps r (subst (λ v. Derives grammar v ts (event_then e es)) (sym b) (grind (arith, says)));
+  on = λ ts es d. let x : Derives grammar (and_saying e w') ts es = subst (λ v. Derives grammar v ts es) b (taken_by d ps r) in grind (arith, said_by);
   places = λ q q' x c k m same at ts es d.
       let there : placed_before k c h ps (placed w) ≡ placed_by (position_at k c) (and_saying e w') =
       ap (placed_before k c h ps) (sym (quiet_placed k c w q)) ∙ placed_row k c h ps w ∙ ap (λ u. placed_by (position_at k c) (before grammar h u ps w)) same ∙ ap (placed_by (position_at k c)) b in
@@ -108,9 +102,6 @@ abbrev or_at : Position → Option Position → Position
 or_at m None = m
 or_at m (Some p) = p
 
-or_at_own : (m : Position) (o : Option Position) → IfSome o (λ p. or_at m o ≡ p)
-or_at_own m o = grind arith
-
 abbrev each_at : (Raw → Position) → List Raw → List (Raw × Position) → List (Raw × Position)
 each_at f [] fs = fs
 each_at f (e ∷ es) fs = (e, f e) ∷ each_at f es fs
@@ -122,7 +113,7 @@ StaysAt x b k m w y =
 steps_at : (n : ℕ) (x : Extent) (b : Option Position) (k : Token) (m : Position) (w : Works) → StaysAt x b k m w (steps n k.tok w)
 steps_at zero x b k m w = λ ts fs d. d
 steps_at (suc n) x b k m [] = λ ts fs d. d
-steps_at (suc n) x b k m (saying e ∷ w) = λ ts fs d. places.says (or_at_own m (position_at k b e)) (steps_at n x b k m w ts fs d)
+steps_at (suc n) x b k m (saying e ∷ w) = λ ts fs d. places.says (grind arith) (steps_at n x b k m w ts fs d)
 steps_at (suc n) x b k m (reading g h ∷ w) = by (row_of (cases g) k.tok) refl (λ v. steps_at n x b k m v)
   where
     by : (r : Option (Row table.Goal Raw)) → row_of (cases g) k.tok ≡ r → ((v : Works) → StaysAt x b k m v (steps n k.tok v)) → StaysAt x b k m (reading g h ∷ w) (leave_row h k.tok g w (λ v. steps n k.tok v) r)
