@@ -28,11 +28,8 @@ entry_node ss t a = reads_node (search) t context.Block (λ f. refl) (λ f. a) (
 pub indentless_entries_dash : (ss : List State) → Takes Goal.indentless_entries ss Tok.block_entry None Goal.indentless_entry ss
 indentless_entries_dash ss = takes_so (λ n f. (n, f)) (λ f. (refl, (λ k. refl), by_row _ refl refl)) refl (λ f. refl) (λ f. refl)
 
-indentless_leads : (ss : List State) (t : Tok) → is_in_mapping ss ≡ true → kind_of t ≢ kind.BlockEntry → Leads 2 Goal.indentless_entries ss (Some Raw.indentless_sequence_end) Goal.done ss t
-indentless_leads ss t f a = grind arith
-
 pub indentless_entries_end : (ss : List State) (t : Tok) → kind_of t ≢ kind.BlockEntry → Leaves Goal.indentless_entries ss (Some t) (Some Raw.indentless_sequence_end) Goal.done ss
-indentless_entries_end ss t a = leaves_so 2 (λ n f. (n, under_goes ss (mapping_under ss f))) (λ f. under_reads ss (mapping_under ss f)) (λ f u r m. let c = closes_so ss u (mapping_under ss f) (r 9) in indentless_leads ss u f (grind arith)) (λ f r m. indentless_leads ss t f a) refl
+indentless_entries_end ss t a = leaves_so 2 (λ n f. (n, under_goes ss (mapping_under ss f))) (λ f. under_reads ss (mapping_under ss f)) (λ f u r m. let c = closes_so ss u (mapping_under ss f) (r 9) in grind arith) (λ f r m. grind arith) refl
     (λ f. alike (under_other ss (mapping_under ss f)) refl) (λ f h. absurd (both_ways (is_past_directives Goal.done ss) (under_past ss (mapping_under ss f)) h))
 
 pub indentless_entry_empty : (ss : List State) (t : Tok) → ends_indentless_entry (kind_of t) ≡ true → Leaves Goal.indentless_entry ss (Some t) (Some nothing_written) Goal.done (state.IndentlessSequenceEntry ∷ ss)
@@ -65,11 +62,8 @@ after_key_value ss = takes_so (λ n f. ((f, n), refl)) (λ f. (refl, (λ k. refl
 pub after_key_empty : (ss : List State) (t : Tok) → kind_of t ≢ kind.Value → Leaves Goal.after_key ss (Some t) (Some nothing_written) Goal.done (state.BlockMappingNextKey ∷ ss)
 after_key_empty ss t a = leaves_so 2 (λ n f. ((f, n), tt)) (λ f. refl) (λ f u r m. grind arith) (λ f r m. grind arith) refl (λ f. alike refl refl) (λ f h. inl h)
 
-closes_part : (ss : List State) (k : Kind) → is_in_mapping ss ≡ true → closes ss k ≡ ends_part k
-closes_part ss k f = grind arith
-
 pub part_empty : (ss : List State) (t : Tok) → ends_part (kind_of t) ≡ true → Leaves Goal.part ss (Some t) (Some nothing_written) Goal.done ss
-part_empty ss t a = empties (search mapping_under) t (λ f. closes_part ss (kind_of t) f ∙ a)
+part_empty ss t a = empties (search mapping_under) t (λ f. grind arith)
 
 pub part_has_node : (ss : List State) (t : Tok) → ends_part (kind_of t) ≡ false → Leaves Goal.part ss (Some t) None (Goal.node context.Part) ss
-part_has_node ss t a = reads_node (search mapping_under) t context.Part (λ f. grind arith) (λ f. closes_part ss (kind_of t) f ∙ a) (λ f. alike refl refl) (λ f h. absurd (grind arith))
+part_has_node ss t a = reads_node (search mapping_under) t context.Part (λ f. grind arith) (λ f. grind arith) (λ f. alike refl refl) (λ f h. absurd (grind arith))

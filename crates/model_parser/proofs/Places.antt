@@ -35,9 +35,6 @@ abbrev pub or_nowhere : Option Position → Position
 or_nowhere None = nowhere
 or_nowhere (Some p) = p
 
-abbrev pub HasPlaces : Option Position → PlacedWork → List Token → List Raw → Type 0
-HasPlaces b w ts rs = (es : List (Raw × Position)) × (raws_of es ≡ rs) × Places to_end b w ts es
-
 pub with_positions : {v : List (Work Goal Raw Held)} {us : List Tok} {rs : List Raw} → Derives grammar v us rs
     → (b : Option Position) (w : PlacedWork) (ts : List Token) → plain_work w ≡ v → toks ts ≡ us → (es : List (Raw × Position)) × (raws_of es ≡ rs) × Places to_end b w ts es
 with_positions nothing_left b [] [] p q = ([], refl, placed.nothing_left)

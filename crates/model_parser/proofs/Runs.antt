@@ -59,17 +59,13 @@ turn_row : {G T E H : Type 0} {a : Table G T E H} {m : G → ℕ} {bottom : G �
     → (n : ℕ) (r : Option (Row G E)) → row_of (a.cases g) t ≡ r → work_weight m (reading g h ∷ w) < suc n → is_open bottom (reading g h ∷ w) ≡ true
     → ((v : List (Work G E H)) → IsOnTrack a ends start v taken (Some t) given → work_weight m v < n → is_open bottom v ≡ true → TurnsRight a bottom ends start taken t given (step a n v t))
     → TurnsRight a bottom ends start taken t given (by_row a h t w (λ v. step a n v t) r)
-turn_row {a = a} {bottom = bottom} {ends = ends} c {start} {g} {h} {w} {taken} {t} {given} x n (Some (takes ps)) p k o i = (
-  subst (λ l. IsOnTrack a ends start (before a h t ps w) (taken ++ t ∷ []) None l) (sym (append-nil given)) (take x ps p),
-  let b = c.bottoms g t (takes ps) in grind (arith, open_before),
-)
+turn_row {a = a} {bottom = bottom} c {g = g} {h = h} {w = w} {t = t} x n (Some (takes ps)) p k o i =
+    let y = take x ps p in let b = c.bottoms g t (takes ps) in grind (arith, append-nil, open_before)
 turn_row {a = a} {m = m} {bottom = bottom} c {g = g} {h = h} {w = w} {t = t} x n (Some (leaves ps)) p k o i =
     let l = c.falls g t ps p in
     let j = parts_weigh a m h t ps w in
     i (before a h t ps w) (leave m x c.completes ps p (c.leaving g t (leaves ps) p)) (omega (arith, k, l, j)) (let b = c.bottoms g t (leaves ps) in grind (arith, open_before))
-turn_row {a = a} c {start} {g} {h} {w} {taken} {t} {given} x n None p k o i =
-    let y = refuse x c.completes (c.ended g h t p) p in
-    (subst (λ l. Begins a start taken l) (sym (append-nil given)) y.0, y.1)
+turn_row {a = a} c {start} {g} {h} {w} {taken} {t} {given} x n None p k o i = let y = refuse x c.completes (c.ended g h t p) p in grind (arith, append-nil)
 
 open_turn : {G T E H : Type 0} {a : Table G T E H} {m : G → ℕ} {bottom : G → Bool} {ends : T → Bool} → IsMended a m bottom ends
     → {start : List (Work G E H)} {taken : List T} {given : List E} (n : ℕ) (w : List (Work G E H)) (t : T) → IsOnTrack a ends start w taken (Some t) given
@@ -137,9 +133,6 @@ right_from {a = a} {m = m} {bottom = bottom} {ends = ends} c {start} {taken} {gi
     let n = suc (work_weight m w) in
     right_on a bottom ends start taken given t ts (λ v. run a m v ts) (step a n w t) (turns c n w t x (omega arith) s) (λ v es q y. right_from c v ts q y)
 
-no_events : {T E : Type 0} (o : Outcome T E) → after_events [] o ≡ o
-no_events a = grind arith
-
 pub run_is_right : {G T E H : Type 0} {a : Table G T E H} {m : G → ℕ} {bottom : G → Bool} {ends : T → Bool} → IsMended a m bottom ends
     → (w : List (Work G E H)) (ts : List T) → IsInStep bottom w → IsRight a w ts (run a m w ts)
-run_is_right {a = a} {m = m} {ends = ends} c w ts s = subst (λ o. IsRight a w ts o) (no_events (run a m w ts)) (right_from c w ts s (starts a ends w))
+run_is_right {a = a} {m = m} {ends = ends} c w ts s = let r = right_from c w ts s (starts a ends w) in grind arith
