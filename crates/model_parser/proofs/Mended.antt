@@ -33,16 +33,11 @@ others g t ps a b c d e f same = inl (λ u is. (grind arith, λ h w. same u h w)
 
 -- ---- a node's first token is taken
 
-abbrev NeverRefused : Place → Tok → Type 0
-NeverRefused p t = (n : ℕ) (h : Held) (w : List (Work Goal Raw Held)) (es : List Raw) → step grammar (suc (suc n)) (reading (node p) h ∷ w) t ≡ refused es → ⊥
-
-abbrev GoesFrom : Place → Tok → List (Work Goal Raw Held) → Type 0
-GoesFrom p t v = (n : ℕ) (h : Held) (es : List Raw) → work_weight weight (reading (node p) h ∷ v) < n → step grammar n (reading (node p) h ∷ v) t ≡ refused es → ⊥
-
-goes_from : (p : Place) (t : Tok) (v : List (Work Goal Raw Held)) → NeverRefused p t → GoesFrom p t v
-goes_from p t v f zero h es l e = omega (arith, l)
+goes_from : (p : Place) (t : Tok) (v : List (Work Goal Raw Held)) → ((n : ℕ) (h : Held) (es : List Raw) → step grammar (suc (suc n)) (reading (node p) h ∷ v) t ≡ refused es → ⊥)
+    → (n : ℕ) (h : Held) (es : List Raw) → 1 < n → step grammar n (reading (node p) h ∷ v) t ≡ refused es → ⊥
 goes_from p t v f (suc zero) h es l e = omega (arith, l)
-goes_from p t v f (suc (suc n)) h es l e = f n h v es e
+goes_from p t v f (suc (suc n)) h es l e = f n h es e
+goes_from p t v f zero h es l e = omega (arith, l)
 
 -- a document that begins with its node
 bare_taken : (n : ℕ) (t : Tok) → begins_node t ≡ true → (w : List (Work Goal Raw Held)) (es : List Raw)
@@ -51,13 +46,13 @@ bare_taken : (n : ℕ) (t : Tok) → begins_node t ≡ true → (w : List (Work 
 bare_taken zero t i w es l e = omega (arith, l)
 bare_taken (suc n) t i w es l e =
     let x : (fs : List Raw) × (step grammar n (reading (node in_block) nothing_held ∷ w) t ≡ refused fs) = grind arith in
-    goes_from in_block t w (λ n h w es e. grind arith) n nothing_held x.0 (omega (arith, l)) x.1
+    goes_from in_block t w (λ n h es e. grind arith) n nothing_held x.0 (omega (arith, l)) x.1
 
 -- ---- all rows
 
--- a flow node, or a document that is one
+-- Rows that leave a token to a flow node, or to a document's node, leave it where it is taken.
 flow_leaving : (g : Goal) (t : Tok) (ps : List (Part Goal Raw)) → begins_flow_node t ≡ true → LeavingRow grammar weight ends_goal g t (leaves (read (node in_flow) ∷ ps))
-flow_leaving g t ps i = inr (λ n h w es l e. goes_from in_flow t (before grammar h t ps w) (λ n h w es e. grind arith) n nothing_held es l e)
+flow_leaving g t ps i = inr (λ n h w es l e. goes_from in_flow t (before grammar h t ps w) (λ n h es e. grind arith) n nothing_held es (omega (arith, l)) e)
 
 bare_leaving : (g : Goal) (t : Tok) → begins_node t ≡ true → LeavingRow grammar weight ends_goal g t (leaves (say (Raw.document_start []) ∷ read (node in_block) ∷ read document_end ∷ []))
 bare_leaving g t i = inr (λ n h w es l e. bare_taken n t i (reading document_end nothing_held ∷ w) es l e)
