@@ -1,7 +1,7 @@
 -- The turns in block collections.
-use Rattle.model_parser.proofs.Common.{arith, alike, both_ways, ends_entry, ends_indentless_entry, ends_part, false, Goal, inl, is_in_mapping, is_past_directives, kind_of, Leaves, List, None, nothing_written, Raw, refl, Refuses, Some, State, Takes, Tok, true, ◌∷◌, ◌≡◌, ◌≢◌, Kind, ◌∙◌}
-use Rattle.model_parser.proofs.StepRows.{by_row, takes_so, Leads, leaves_so, refuses_so}
-use Rattle.model_parser.proofs.Settling.{under_goes, under_other, under_past, under_any, mapping_under, under_reads, empties, reads_node, closes, closes_so}
+use Rattle.model_parser.proofs.Common.{arith, alike, both_ways, ends_entry, ends_indentless_entry, ends_part, false, Goal, inl, is_past_directives, kind_of, Leaves, List, None, nothing_written, Raw, refl, Refuses, Some, State, Takes, Tok, true, ◌∷◌, ◌≡◌, ◌≢◌}
+use Rattle.model_parser.proofs.StepRows.{by_row, takes_so, leaves_so, refuses_so}
+use Rattle.model_parser.proofs.Settling.{under_goes, under_other, under_past, under_any, mapping_under, under_reads, empties, reads_node, closes_so}
 use Rattle.model_parser.specs.declared.kind.Kind.TheVariants as kind
 use Rattle.model_parser.specs.declared.context.NodeContext.TheVariants as context
 use Rattle.model_parser.specs.declared.state.State.TheVariants as state

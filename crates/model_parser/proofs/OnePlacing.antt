@@ -1,5 +1,5 @@
 -- Of the same tokens, read so far, the same events are said, at the same positions.
-use Rattle.model_parser.proofs.Common.{[], AgreeAt, and_parts, ap, arith, before, Bool, cases, documents, Ev, events_of, Extent, false, grammar, HasPlacedTo, Held, IfSome, leaves, List, map, named, Names, names_after, no_names, None, Option, Part, placed_before, placed_by, PlacedWork, Places, Position, position_at, positions_of, Raw, raws_of, read, reading, refl, resolved_event, row_of, saying, show, Some, stream, StreamPlacesTo, subst, takes, to_last, Tok, Token, true, Work, ◌&&◌, ◌++◌, ◌∷◌, ◌≡◌, ◌≢◌}
+use Rattle.model_parser.proofs.Common.{[], AgreeAt, and_parts, ap, arith, before, Bool, cases, Ev, events_of, Extent, false, grammar, HasPlacedTo, Held, IfSome, List, map, named, Names, names_after, no_names, None, Option, Part, placed_before, placed_by, PlacedWork, Places, Position, position_at, positions_of, Raw, raws_of, reading, refl, resolved_event, row_of, saying, Some, stream, StreamPlacesTo, subst, takes, to_last, Tok, Token, true, Work, ◌&&◌, ◌++◌, ◌∷◌, ◌≡◌, ◌≢◌}
 use Rattle.defs_event.specs.Grammar.{Goal}
 use Rattle.defs_event.proofs.NameLemmas.{both_some}
 use Rattle.defs_event.specs.Stream as placed
@@ -83,8 +83,7 @@ pub same_events : (keep : Bool) (s : Names) (rs us : List (Raw × Position)) (es
 same_events keep s [] [] [] [] a n p m q = tt
 same_events keep s (r ∷ rs) (u ∷ us) (e ∷ es) (f ∷ fs) a n p m q =
     let x = both_some (resolved_event s r.0) (named keep (names_after keep s r.0) (raws_of rs)) (e.0 ∷ events_of es) n in
-    let y = both_some (resolved_event s u.0) (named keep (names_after keep s u.0) (raws_of us)) (f.0 ∷ events_of fs) m in
-    (
+    let y = both_some (resolved_event s u.0) (named keep (names_after keep s u.0) (raws_of us)) (f.0 ∷ events_of fs) m in (
       cc (x.whole, x.is_first, y.whole, y.is_first, a.0),
       λ no_end. let one : r.1 ≡ u.1 = a.1 (λ is. no_end (cc (x.whole, x.is_first, ap (resolved_event s) is))) in cc (one, p, q),
       same_events keep (names_after keep s r.0) rs us es fs a.2 (cc (x.whole, x.are_more)) (cc p) (cc (y.whole, y.are_more, a.0)) (cc q),

@@ -1,5 +1,5 @@
 -- The events of tokens with their positions: they are the events without, and each reading of the tokens has positions.
-use Rattle.model_parser.proofs.Common.{[], ap, arith, before, by_leaving, by_taking, Derives, grammar, Held, IfSome, List, None, nothing_left, Option, Part, placed_before, placed_by, PlacedWork, Places, Position, position_at, Raw, raws_of, reading, refl, saying, says, Some, subst, to_end, Tok, Token, toks, Work, ◌++◌, ◌∙◌, ◌∷◌, ◌≡◌}
+use Rattle.model_parser.proofs.Common.{[], ap, arith, before, by_leaving, by_taking, Derives, grammar, Held, List, None, nothing_left, Option, Part, placed_before, placed_by, PlacedWork, Places, Position, position_at, Raw, raws_of, reading, refl, saying, says, Some, subst, to_end, Tok, Token, toks, Work, ◌++◌, ◌∙◌, ◌∷◌, ◌≡◌}
 use Rattle.defs_event.specs.Grammar.{Goal}
 use Rattle.model_parser.proofs.Completions.{before_along}
 use Rattle.defs_event.specs.Stream as placed

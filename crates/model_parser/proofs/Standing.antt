@@ -1,5 +1,5 @@
 -- Where a parser stands at first, after a look at the next token, at the next state of its stack, and at the end.
-use Rattle.model_parser.proofs.Common.{[], ap, append-nil, arith, as_tokens, at_directive, Derives, first_may, Goal, goal_of, goes_on, grammar, is_past_directives, is_past_in, IsSettled, List, None, nothing_left, Option, Raw, refl, State, StreamSays, subst, sym, Tok, top, ◌++◌, ◌∙◌, ◌∷◌, ◌≡◌}
+use Rattle.model_parser.proofs.Common.{[], ap, append-nil, arith, as_tokens, at_directive, Derives, first_may, Goal, goal_of, goes_on, grammar, IsSettled, List, None, nothing_left, Option, Raw, refl, State, StreamSays, subst, sym, Tok, top, ◌++◌, ◌∙◌, ◌∷◌, ◌≡◌}
 use Rattle.model_parser.specs.Stands.{IsOnTrack}
 use Rattle.model_parser.proofs.StepRows.{first_any}
 use Rattle.model_parser.specs.declared.state.State.TheVariants as state

@@ -68,7 +68,6 @@ record Streams : Type 0 where
       document (Raw.flow_sequence_start None None ∷ Raw.flow_sequence_end ∷ []) ++
       document (Raw.flow_mapping_start None None ∷ Raw.flow_mapping_end ∷ []) ++
       document (Raw.sequence_start None None ∷ Raw.sequence_end ∷ []) ++ document (Raw.mapping_start None None ∷ Raw.mapping_end ∷ []))
-
   -- ---- flow
   -- `[&a , !t , *a , &b !u x, !v &c [], !w {}, [y], ]`
   flow_sequence : DocumentSays
@@ -94,7 +93,6 @@ record Streams : Type 0 where
       (Raw.flow_mapping_start None None ∷ plain "a" ∷ nothing_written ∷ plain "b" ∷ plain "c" ∷ nothing_written ∷ plain "d" ∷
       nothing_written ∷ nothing_written ∷ Raw.flow_mapping_start (Some (codes "e")) None ∷ plain "f" ∷ Raw.unwritten_value ∷
       Raw.flow_mapping_end ∷ nothing_written ∷ Raw.flow_mapping_end_at_comma ∷ [])
-
   -- ---- block
   -- `- x` LF `-` LF `- &a` LF `- *a` LF `- []` LF `- {}`, and entries that are block collections
   block_sequence : DocumentSays
