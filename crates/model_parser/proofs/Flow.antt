@@ -1,12 +1,14 @@
 -- The turns in flow collections.
-use Rattle.model_parser.proofs.Common.{alike, arith, ends_flow_key, ends_flow_pair, ends_item, ends_item_key, false, Goal, inl, kind_of, Leaves, List, None, nothing_written, Option, Raw, refl, Refuses, Some, State, Takes, Tok, true, without_node, ◌∷◌, ◌≡◌, ◌≢◌}
-use Rattle.model_parser.proofs.StepRows.{by_row, takes_so, leaves_so, says_so, refuses_so}
+use Rattle.model_parser.proofs.Common.{says, toks, alike, arith, ends_flow_key, ends_flow_pair, ends_item, ends_item_key, false, Goal, inl, kind_of, Leaves, List, None, nothing_written, Option, Raw, refl, Refuses, Some, State, Takes, Tok, true, without_node, ◌∷◌, ◌≡◌, ◌≢◌}
+use Rattle.model_parser.proofs.StepRows.{by_row, takes_so, leaves_so, first_any, refuses_so}
 use Rattle.model_parser.proofs.Settling.{under_goes, under_other, under_past, under_any, comes_so, empties, reads_node}
 use Rattle.defs_text.specs.Position as chars
 use Rattle.model_parser.specs.declared.kind.Kind.TheVariants as kind
 use Rattle.model_parser.specs.declared.context.NodeContext.TheVariants as context
 use Rattle.model_parser.specs.declared.state.State.TheVariants as state
 use Rattle.defs_event.specs.Grammar as table
+use Rattle.defs_event.specs.Stream as places
+use Rattle.model_parser.proofs.CameBy.{said_by}
 
 -- ---- a flow sequence
 
@@ -58,7 +60,15 @@ pub pair_valued_node : (ss : List State) (t : Tok) → ends_item (kind_of t) ≡
 pair_valued_node ss t a = reads_node (search) t context.Flow (λ f. refl) (λ f. a) (λ f. alike refl refl) (λ f h. inl h)
 
 pub pair_ends : (ss : List State) (p : Option Tok) → Leaves Goal.pair_end ss p (Some Raw.pair_end) Goal.done (state.FlowSequenceEntry ∷ ss)
-pair_ends ss p = says_so (λ n f. ((f, n), tt)) refl (λ k. refl) (λ k. refl) refl (λ f. alike refl refl) (λ f h. inl h)
+pair_ends ss p = record {
+  nested = λ n f. ((f, n), tt);
+  comes = λ n f ts es a. (says a.0, first_any Goal.pair_end ss ts (λ k. refl));
+  goes = λ n f ts es k a. let s = said_by a.0 in (s.0, s.1, (s.2, first_any Goal.done (state.FlowSequenceEntry ∷ ss) ts (λ k. refl)));
+  places = λ n f x b m ts there at es a. (places.says tt a.0, first_any Goal.pair_end ss (toks ts) (λ k. refl));
+  opened = refl;
+  settles = λ f. alike refl refl;
+  past = λ f h. inl h;
+}
 
 -- ---- a flow mapping
 

@@ -60,11 +60,12 @@ dash_reads ss o h = cc
 pub after_dash : (ss : List State) (o : Option Properties) → Takes (Goal.after_properties context.Part o) ss Tok.block_entry (Some (Raw.indentless_sequence_start (perhaps_anchor_of o) (perhaps_tag_of o))) Goal.done (state.IndentlessSequenceItem ∷ ss)
 after_dash ss o = takes_so (λ n f. ((grind arith, n), tt)) (λ f. (grind arith, (λ k. refl), dash_reads ss o f.1)) refl (λ f. refl) (λ f. refl)
 
--- A content of a narrower context may begin where one of the wider may, if what begins it begins the other.
+-- What may begin a content of one context may begin one of another, if what begins the one begins the other.
 widens : (p q : NodeContext) (o : Option Properties) (c : NodeContext) (k : Kind) → (begins_content q k ≡ true → begins_content p k ≡ true)
     → may_begin_content q o c k ≡ true → may_begin_content p o c k ≡ true
 widens p q o c k b m = grind arith
 
+-- A content is read as one of a narrower context, before a token that begins no content of the wider one alone.
 narrows_on : (p q : NodeContext) (ss : List State) (o : Option Properties) (t : Tok) → ((c : NodeContext) → narrows p c ≡ true → narrows q c ≡ true)
     → ((k : Kind) → begins_content q k ≡ true → begins_content p k ≡ true) → (begins_content p (kind_of t) ≡ true → begins_content q (kind_of t) ≡ true)
     → Leaves (Goal.after_properties p o) ss (Some t) None (Goal.after_properties q o) ss

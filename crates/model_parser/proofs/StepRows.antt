@@ -1,5 +1,5 @@
 -- A turn of the parser by the rows of the grammar's table.
-use Rattle.model_parser.proofs.Common.{[], ap, arith, Awaits, AwaitsAt, before, Bool, by_leaving, by_taking, cases, Derives, event_at, event_then, Extent, false, first_may, Goal, goes, grammar, Held, is_past_directives, IsAt, IsAtFirst, IsFor, IsNested, IsNext, IsNoDirective, IsThere, Kind, kind_of, Leaves, leaves, List, may_begin, next_at, next_past, None, open_at, open_past, Option, Part, placed, placed_before, placed_by, PlacedWork, Places, Position, position_at, Raw, reading, refl, refused, Refuses, Row, row_of, saying, says, Settles, Some, State, step, subst, suc, sym, Takes, takes, Then, Tok, Token, toks, true, Turned, work_of, Works, zero, ℕ, ◌++◌, ◌∙◌, ◌∷◌, ◌≡◌, ◌⊎◌}
+use Rattle.model_parser.proofs.Common.{[], ap, arith, Awaits, AwaitsAt, before, Bool, by_leaving, by_taking, cases, Derives, event_at, event_then, Extent, false, first_may, Goal, goes, grammar, Held, is_past_directives, IsAt, IsAtFirst, IsFor, IsNested, IsNext, IsNoDirective, IsThere, Kind, kind_of, Leaves, leaves, List, may_begin, next_at, next_past, None, open_at, open_past, Option, Part, placed, placed_before, placed_by, PlacedWork, Places, Position, position_at, Raw, reading, refl, refused, Refuses, Row, row_of, saying, says, Settles, Some, State, step, subst, suc, sym, Takes, takes, Then, Tok, Token, true, Turned, work_of, Works, zero, ℕ, ◌++◌, ◌∙◌, ◌∷◌, ◌≡◌, ◌⊎◌}
 use Rattle.model_parser.proofs.CameBy.{taken_by, left_by, none_by, said_by}
 use Rattle.model_parser.proofs.Completions.{all_complete}
 use Rattle.model_parser.proofs.Falls.{grammar_completes}
@@ -128,19 +128,20 @@ leads_at n w e w' x b k m q q' at h ts fs d =
     let y = subst (StaysAt x b k m w) h (steps_at n x b k m w) ts fs (subst (λ v. Places x b v (k ∷ ts) fs) (sym (quiet_placed k b w' q')) d) in
     subst (λ v. Places x b v (k ∷ ts) (event_at e m fs)) (quiet_placed k b w q) (subst (λ es. Places x b (placed_by (position_at k b) w) (k ∷ ts) es) (each_one b k e m fs at) y)
 
--- Two goals of which the same row takes the token read it alike.
-pub placed_alike : (g g' : table.Goal) (h : Held) (w : PlacedWork) (x : Extent) (b : Option Position) (k : Token) (ts : List Token) (es : List (Raw × Position)) (ps : List (Part table.Goal Raw)) → row_of (cases g) k.tok ≡ Some (takes ps)
-    → row_of (cases g') k.tok ≡ Some (takes ps) → Places x b (reading g h ∷ w) (k ∷ ts) es → Places x b (reading g' h ∷ w) (k ∷ ts) es
-placed_alike g g' h w x b k ts es ps r r' (places.by_taking qs q d) = let same : qs ≡ ps = cc (q, r) in places.by_taking qs (r' ∙ ap (λ l. Some (takes l)) (sym same)) d
-placed_alike g g' h w x b k ts es ps r r' (places.by_leaving qs q d) = cc
-placed_alike g g' h w x b k ts es ps r r' (places.takes_last qs q) = places.takes_last ps r'
+-- Two goals that have the same row for a token read it alike.
+pub placed_alike : {g g' : table.Goal} {h : Held} {w : PlacedWork} {x : Extent} {b : Option Position} {k : Token} {ts : List Token} {es : List (Raw × Position)}
+    → row_of (cases g) k.tok ≡ row_of (cases g') k.tok → Places x b (reading g h ∷ w) (k ∷ ts) es → Places x b (reading g' h ∷ w) (k ∷ ts) es
+placed_alike r (places.by_taking qs q d) = places.by_taking qs (sym r ∙ q) d
+placed_alike r (places.by_leaving qs q d) = places.by_leaving qs (sym r ∙ q) d
+placed_alike r (places.takes_last qs q) = places.takes_last qs (sym r ∙ q)
 
--- Two works that take the token alike.
-pub alike_reads : {w v x : Works} {t : Tok} {e : Option Raw} → Reads w t e x → Reads v t e x → Stays t w [] v
-alike_reads {w} {v} {x} {t} r s = (
-  λ ts fs d. let y = s.on ts fs d in subst (λ es. Derives grammar w (t ∷ ts) es) (sym y.1) (r.back ts y.0 y.2),
-  λ ts gs d. let y = r.on ts gs d in (gs, refl, subst (λ es. Derives grammar v (t ∷ ts) es) (sym y.1) (s.back ts y.0 y.2)),
-)
+read_alike : {g g' : table.Goal} {h : Held} {w : Works} {t : Tok} {ts : List Tok} {es : List Raw} → row_of (cases g) t ≡ row_of (cases g') t
+    → Derives grammar (reading g h ∷ w) (t ∷ ts) es → Derives grammar (reading g' h ∷ w) (t ∷ ts) es
+read_alike r (by_taking qs q d) = by_taking qs (sym r ∙ q) d
+read_alike r (by_leaving qs q d) = by_leaving qs (sym r ∙ q) d
+
+pub alike_reads : (g g' : table.Goal) (h : Held) (w : Works) (t : Tok) → row_of (cases g) t ≡ row_of (cases g') t → Stays t (reading g h ∷ w) [] (reading g' h ∷ w)
+alike_reads g g' h w t r = (λ ts fs d. read_alike (sym r) d, λ ts gs d. (gs, refl, read_alike r d))
 
 pub after_steps : {w v x : Works} {t : Tok} → Stays t w [] v → Stays t v [] x → Stays t w [] x
 after_steps r s = (λ ts fs d. r.0 ts fs (s.0 ts fs d), λ ts gs d. let y = r.1 ts gs d in let z = s.1 ts y.0 y.2 in (z.0, y.1 ∙ z.1, z.2))
@@ -248,20 +249,6 @@ leaves_so {g} {ss} {t} {e} {g'} {ss'} n nested goal back on opened settles past 
         let l = on f (λ m. not_refused m t (work_of g ss) us es b.0) b.1 in
         let x = (leads_stay n (work_of g ss) e (work_of g' ss') t (ap (λ x. x.0) l)).1 us es b.0 in
         (x.0, x.1 ∙ in_list e x.0, subst (λ y. Awaits g' ss' (y ∷ us) x.0) (sym k) (x.2, ap (λ x. x.2) l))
-
--- An event is due, whatever comes.
-pub says_so : {g : Goal} {ss : List State} {p : Option Tok} {e : Raw} {g' : Goal} {ss' : List State}
-    → (IsNested ss → IsFor g ss → IsNested ss' × IsFor g' ss') → work_of g ss ≡ saying e ∷ work_of g' ss' → ((k : Kind) → may_begin g ss k ≡ true) → ((k : Kind) → may_begin g' ss' k ≡ true)
-    → open_at g ss ≡ open_at g' ss' → (IsFor g ss → Settles g ss p g' ss') → (IsFor g ss → is_past_directives g' ss' ≡ true → (is_past_directives g ss ≡ true) ⊎ IsNoDirective p) → Leaves g ss p (Some e) g' ss'
-says_so {g} {ss} {p} {e} {g'} {ss'} nested same any any' opened settles past = record {
-  nested = nested;
-  comes = λ n f ts es a. (subst (λ w. Derives grammar w ts (e ∷ es)) (sym same) (says a.0), first_any g ss ts any);
-  goes = λ n f ts es k a. let s = said_by (subst (λ w. Derives grammar w ts es) same a.0) in (s.0, s.1, (s.2, first_any g' ss' ts any'));
-  places = λ n f x b m ts there at es a. (subst (λ w. Places x b (placed w) ts ((e, m) ∷ es)) (sym same) (places.says tt a.0), first_any g ss (toks ts) any);
-  opened = opened;
-  settles = settles;
-  past = past;
-}
 
 -- ---- refusals, and what may come
 
