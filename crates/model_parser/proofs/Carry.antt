@@ -1,10 +1,9 @@
 -- The turns carry where a parser stands.
-use Rattle.model_parser.proofs.Common.{[], alike, alike_after, ap, append_assoc, as_tokens, at_directive, before_directive, both_ways, Collection, event_then, Goal, goes_on, inl, inr, is_after, is_directive_next, is_node, is_past_directives, IsSettled, Leaves, List, MayCome, Next, next_after, next_at, next_past, None, open_after, open_past, Option, other_next, Raw, refl, Settles, Some, State, StreamSays, subst, sym, Takes, then_event, Tok, top, true, without_node, ◌++◌, ◌∙◌, ◌∷◌, ◌≡◌, ◌⊎◌}
+use Rattle.model_parser.proofs.Common.{[], arith, alike, alike_after, ap, append_assoc, as_tokens, at_directive, before_directive, both_ways, Collection, event_then, Goal, goes_on, is_after, is_directive_next, is_past_directives, IsSettled, Leaves, List, MayCome, Next, next_after, next_at, next_past, None, open_after, open_past, Option, other_next, Raw, refl, Settles, Some, State, StreamSays, subst, sym, Takes, then_event, Tok, top, true, without_node, ◌++◌, ◌∙◌, ◌∷◌, ◌≡◌}
 use Rattle.model_parser.specs.Stands.{IsOnTrack, GoesOn}
 
 event_along : (given fs : List Raw) (e : Option Raw) → given ++ event_then e fs ≡ then_event given e ++ fs
-event_along given fs None = refl
-event_along given fs (Some x) = sym (append_assoc given (x ∷ []) fs)
+event_along given fs e = grind (arith, append_assoc)
 
 open_more : (cs : List Collection) (ts : List Tok) (t : Tok) → open_after cs (ts ++ t ∷ []) ≡ open_past t (open_after cs ts)
 open_more cs [] t = refl
@@ -38,19 +37,13 @@ comes_on g ss (Some t) taken given s m = (m.0, given ++ m.1, s.sound (t ∷ m.0)
 
 as_before : (g : Goal) (ss : List State) (p : Option Tok) (g' : Goal) (ss' : List State) (taken : List Tok) → next_at g ss ≡ next_at g' ss'
     → (is_after (top g ss) ≡ true → is_directive_next p ≡ true → ⊥) → IsSettled g ss taken p → IsSettled g' ss' taken p
-as_before g ss p g' ss' taken e never (as_tokens h) = as_tokens (h ∙ e)
-as_before g ss p g' ss' taken e never (goes_on h c) = goes_on (ap is_node (sym e) ∙ h) c
-as_before g ss p g' ss' taken e never (at_directive a d) = absurd (never a d)
+as_before g ss p g' ss' taken e never s = grind (arith, as_tokens, goes_on)
 
 settled_on : (g : Goal) (ss : List State) (p : Option Tok) (g' : Goal) (ss' : List State) (taken : List Tok) (given : List Raw) → Settles g ss p g' ss' → IsOnTrack g ss taken p given → IsSettled g' ss' taken p
 settled_on g ss p g' ss' taken given (alike e n) s = as_before g ss p g' ss' taken e (λ a d. both_ways (is_after (top g ss)) n a) s.settled
 settled_on g ss p g' ss' taken given (alike_after e n) s = as_before g ss p g' ss' taken e (λ a d. both_ways (is_directive_next p) n d) s.settled
 settled_on g ss p g' ss' taken given (without_node h m) s = goes_on h (comes_on g ss p taken given s m)
 settled_on g ss p g' ss' taken given (before_directive a d) s = at_directive a d
-
-past_on : {A B : Type 0} → A ⊎ B → (A → B) → B
-past_on (inl a) f = f a
-past_on (inr b) f = b
 
 pub stands_leave : (g : Goal) (ss : List State) (p : Option Tok) (e : Option Raw) (g' : Goal) (ss' : List State) (taken : List Tok) (given : List Raw)
     → Leaves g ss p e g' ss' → IsOnTrack g ss taken p given → IsOnTrack g' ss' taken p (then_event given e)
@@ -59,7 +52,7 @@ stands_leave g ss p e g' ss' taken given k s = record {
   fits = (k.nested s.nested s.fits).1;
   opened = s.opened ∙ k.opened;
   settled = settled_on g ss p g' ss' taken given (k.settles s.fits) s;
-  past = λ h. past_on (k.past s.fits h) s.past;
+  past = λ h. let q = k.past s.fits h in grind (arith, s.past);
   sound = λ ts es a. subst (λ fs. StreamSays (taken ++ ts) fs) (event_along given es e) (s.sound ts (event_then e es) (k.comes s.nested s.fits ts es a));
   exact = λ ts es u d.
       let x = s.exact ts es u d in

@@ -1,7 +1,7 @@
 -- The turns between documents.
-use Rattle.model_parser.proofs.Common.{arith, [], alike, alike_after, ap, Awaits, AwaitsAt, begins_node, Directive, directive_token, ends_content, ends_document, Extent, false, Goal, inl, inr, is_directive, IsNext, IsThere, kind_of, Leaves, List, None, nothing_written, Option, placed, Places, Position, Raw, refl, Refuses, row_of, Some, State, Takes, Then, Tok, Token, true, without_node, work_of, works, ◌++◌, ◌∙◌, ◌∷◌, ◌≡◌, ◌≢◌, before_directive}
-use Rattle.model_parser.proofs.StepRows.{by_row, takes_so, Stays, by_steps, alike_reads, after_steps, refuses, not_refused, reads_first, placed_alike, needs_tokens, Leads, leaves_so, refuses_so}
-use Rattle.model_parser.proofs.Settling.{no_directive, explicit_goes, directive_goes, comes_so, MayRead, empties_as, reads_node, empties}
+use Rattle.model_parser.proofs.Common.{subst, sym, arith, [], alike, alike_after, ap, Awaits, AwaitsAt, begins_node, Directive, directive_token, ends_content, ends_document, Extent, false, Goal, inl, inr, is_directive, IsNext, IsThere, kind_of, Leaves, List, None, nothing_written, Option, placed, Places, Position, Raw, refl, Refuses, row_of, Some, State, Takes, Then, Tok, Token, true, without_node, work_of, works, ◌++◌, ◌∙◌, ◌∷◌, ◌≡◌, ◌≢◌, before_directive}
+use Rattle.model_parser.proofs.StepRows.{by_row, takes_so, Stays, by_steps, alike_reads, after_steps, refuses, not_refused, reads_first, placed_alike, needs_tokens, leaves_so, refuses_so}
+use Rattle.model_parser.proofs.Settling.{comes_so, empties_as, reads_node, empties}
 use Rattle.defs_event.specs.Table as part
 use Rattle.defs_event.specs.Grammar as table
 use Rattle.defs_event.specs.Stream as places
@@ -21,7 +21,7 @@ pub documents_marker : (ss : List State) → Takes Goal.documents ss Tok.documen
 documents_marker ss = takes_so (λ n f. (n, f)) (λ f. (refl, (λ k. refl), by_row _ refl refl)) refl (λ f. refl) (λ f. refl)
 
 pub documents_explicit : (ss : List State) (t : Tok) → ends_document (kind_of t) ≡ true → kind_of t ≢ kind.DocumentEnd → begins_node context.Block (kind_of t) ≡ false → Leaves Goal.documents ss (Some t) None Goal.explicit ss
-documents_explicit ss t e a b = leaves_so 1 (λ n f. (n, f)) (λ f. refl) (λ f u r m. let h = r 9 in grind arith) (λ f r m. grind arith) refl (λ f. without_node refl (comes_so Goal.documents ss t (explicit_goes ss t e))) (λ f h. inr (no_directive (kind_of t) e))
+documents_explicit ss t e a b = leaves_so 1 (λ n f. (n, f)) (λ f. refl) (λ f u r m. let h = r 9 in grind arith) (λ f r m. grind arith) refl (λ f. without_node refl (comes_so Goal.documents ss t (grind arith))) (λ f h. inr (grind arith))
 
 pub documents_bare : (ss : List State) (t : Tok) → ends_document (kind_of t) ≡ false → is_directive (kind_of t) ≡ false → Leaves Goal.documents ss (Some t) (Some (Raw.document_start [])) Goal.done (state.BlockNode ∷ state.DocumentEnd ∷ ss)
 documents_bare ss t e a = leaves_so 2 (λ n f. (((refl, refl), (f, n)), tt)) (λ f. refl) (λ f u r m. grind arith) (λ f r m. let h = r 9 in grind arith) refl (λ f. alike refl refl) (λ f h. inr a)
@@ -30,24 +30,21 @@ documents_bare ss t e a = leaves_so 2 (λ n f. (((refl, refl), (f, n)), tt)) (λ
 
 -- Directives and `---` are taken by both goals.
 both_read : (ss : List State) (u : Tok) → refuses 9 u (work_of (Goal.directed []) ss) ≡ false → Stays u (work_of Goal.documents ss) [] (work_of (Goal.directed []) ss)
-both_read ss (Tok.version_directive m n) r = alike_reads {x = work_of (Goal.directed (Directive.version m n ∷ [])) ss} {e = None} (by_row _ refl refl) (by_row _ refl refl)
-both_read ss (Tok.tag_directive x y) r = alike_reads {x = work_of (Goal.directed (Directive.tag x y ∷ [])) ss} {e = None} (by_row _ refl refl) (by_row _ refl refl)
+both_read ss (Tok.version_directive m n) r = alike_reads table.documents table.directives table.nothing_held (works ss) (Tok.version_directive m n) refl
+both_read ss (Tok.tag_directive x y) r = alike_reads table.documents table.directives table.nothing_held (works ss) (Tok.tag_directive x y) refl
 both_read ss Tok.document_start r =
-    after_steps (by_steps 1 Tok.document_start (work_of Goal.documents ss)) (alike_reads {w = work_of Goal.explicit ss} {x = work_of Goal.content ss} {e = Some (Raw.document_start [])} (by_row _ refl refl) (by_row _ refl refl))
+    after_steps (by_steps 1 Tok.document_start (work_of Goal.documents ss)) (alike_reads table.explicit_document table.directives table.nothing_held (works ss) Tok.document_start refl)
 both_read ss u r = cc
 
 both_place : (ss : List State) (x : Extent) (b : Option Position) (k : Token) (u : Tok) → k.tok ≡ u → refuses 9 u (work_of (Goal.directed []) ss) ≡ false → (ts : List Token) (es : List (Raw × Position))
     → Places x b (placed (work_of (Goal.directed []) ss)) (k ∷ ts) es → Places x b (placed (work_of Goal.documents ss)) (k ∷ ts) es
 both_place ss x b k (Tok.version_directive m n) e r ts es d =
-    placed_alike table.directives table.documents table.nothing_held (placed (works ss)) x b k ts es (part.hold table.directives ∷ [])
-    (ap (λ u. row_of (table.cases table.directives) u) e) (ap (λ u. row_of (table.cases table.documents) u) e) d
+    placed_alike (subst (λ v. row_of (table.cases table.directives) v ≡ row_of (table.cases table.documents) v) (sym e) refl) d
 both_place ss x b k (Tok.tag_directive y z) e r ts es d =
-    placed_alike table.directives table.documents table.nothing_held (placed (works ss)) x b k ts es (part.hold table.directives ∷ [])
-    (ap (λ u. row_of (table.cases table.directives) u) e) (ap (λ u. row_of (table.cases table.documents) u) e) d
+    placed_alike (subst (λ v. row_of (table.cases table.directives) v ≡ row_of (table.cases table.documents) v) (sym e) refl) d
 both_place ss x b k Tok.document_start e r ts es d =
     places.by_leaving (part.read table.explicit_document ∷ []) (ap (λ u. row_of (table.cases table.documents) u) e)
-    (placed_alike table.directives table.explicit_document table.nothing_held (placed (works ss)) x b k ts es (part.show ∷ part.read (table.node table.in_block) ∷ part.read table.document_end ∷ [])
-    (ap (λ u. row_of (table.cases table.directives) u) e) (ap (λ u. row_of (table.cases table.explicit_document) u) e) d)
+    (placed_alike (subst (λ v. row_of (table.cases table.directives) v ≡ row_of (table.cases table.explicit_document) v) (sym e) refl) d)
 both_place ss x b k u e r ts es d = cc
 
 pub documents_directives : (ss : List State) (t : Tok) → is_directive (kind_of t) ≡ true → begins_node context.Block (kind_of t) ≡ false → Leaves Goal.documents ss (Some t) None (Goal.directed []) ss
@@ -57,7 +54,7 @@ documents_directives ss t e b = record {
   goes = λ n f ts es k a. go ts es k a;
   places = λ n f x c m ts there p es a. place x c ts there es a;
   opened = refl;
-  settles = λ f. without_node refl (comes_so Goal.documents ss t (directive_goes ss t e));
+  settles = λ f. without_node refl (comes_so Goal.documents ss t (grind arith));
   past = λ f h. inl h;
 }
   where
@@ -99,17 +96,14 @@ explicit_refuses ss t a b = refuses_so Goal.explicit ss t 9 (λ f. grind arith)
 
 -- ---- after `---`
 
-content_over : (ss : List State) → MayRead Goal.content ss (state.DocumentEnd ∷ ss)
-content_over ss = record { nested = λ n f. (f, n); under = λ f. refl; work = refl; any = λ k. refl; opened = refl }
-
 -- A directive is refused behind the document.
 pub content_empty : (ss : List State) (t : Tok) → ends_content (kind_of t) ≡ true → Leaves Goal.content ss (Some t) (Some nothing_written) Goal.done (state.DocumentEnd ∷ ss)
-content_empty ss (Tok.version_directive m n) a = empties_as (content_over ss) (Tok.version_directive m n) (λ f. refl) (λ f. before_directive refl refl)
-content_empty ss (Tok.tag_directive m n) a = empties_as (content_over ss) (Tok.tag_directive m n) (λ f. refl) (λ f. before_directive refl refl)
-content_empty ss t a = empties (content_over ss) t (λ f. a)
+content_empty ss (Tok.version_directive m n) a = empties_as (search) (Tok.version_directive m n) (λ f. refl) (λ f. before_directive refl refl)
+content_empty ss (Tok.tag_directive m n) a = empties_as (search) (Tok.tag_directive m n) (λ f. refl) (λ f. before_directive refl refl)
+content_empty ss t a = empties (search) t (λ f. a)
 
 pub content_node : (ss : List State) (t : Tok) → ends_document (kind_of t) ≡ false → is_directive (kind_of t) ≡ false → Leaves Goal.content ss (Some t) None (Goal.node context.Block) (state.DocumentEnd ∷ ss)
-content_node ss t a b = reads_node (content_over ss) t context.Block (λ f. refl) (λ f. a) (λ f. alike refl refl) (λ f h. inr b)
+content_node ss t a b = reads_node (search) t context.Block (λ f. refl) (λ f. a) (λ f. alike refl refl) (λ f h. inr b)
 
 -- ---- after a document's node
 

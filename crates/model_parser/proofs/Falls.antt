@@ -1,6 +1,6 @@
 -- Each row of the grammar that leaves its token weighs less than its goal, and each goal can be read to an end.
-use Rattle.model_parser.proofs.Common.{explicit_document, [], and_parts, ap, before, after_anchor, after_tag, block_mapping_entries, block_mapping_value, block_sequence_entries, Bool, by_leaving, by_taking, Case, cases, content, Derives, directives, document_end, documents, false, flow_mapping_comma, flow_mapping_entries, flow_mapping_value, flow_mapping_valued, flow_sequence_comma, flow_sequence_entries, flow_value, grammar, Held, if◌then◌else◌, in_pair, indentless_sequence_entries, key, leaves, List, ltb-true, nat_lt, no_flow_mapping_value, node, nothing_left, nothing_written, on, otherwise, Part, parts_weight, Place, Raw, reading, refl, Row, row_of, says, Some, stream, Style, sym, takes, Tok, true, value, weight, ℕ, ◌&&◌, ◌<◌, ◌∙◌, ◌∷◌, ◌≡◌}
-use Rattle.defs_event.specs.Grammar.{Goal, Side, then_in_pair}
+use Rattle.model_parser.proofs.Common.{arith, explicit_document, [], and_parts, ap, before, after_anchor, after_tag, block_mapping_entries, block_mapping_value, block_sequence_entries, Bool, by_leaving, by_taking, Case, cases, content, Derives, directives, document_end, documents, flow_mapping_comma, flow_mapping_entries, flow_mapping_value, flow_mapping_valued, flow_sequence_comma, flow_sequence_entries, flow_value, grammar, Held, in_pair, indentless_sequence_entries, key, leaves, List, ltb-true, nat_lt, no_flow_mapping_value, node, nothing_left, nothing_written, on, otherwise, parts_weight, Place, Raw, reading, refl, Row, row_of, says, Some, stream, Style, sym, takes, Tok, true, value, weight, ℕ, ◌&&◌, ◌∙◌, ◌∷◌, ◌≡◌}
+use Rattle.defs_event.specs.Grammar.{Side, then_in_pair}
 use Rattle.model_parser.proofs.Steps.{Falls}
 use Rattle.model_parser.proofs.Completions.{Completes}
 
@@ -15,25 +15,15 @@ cases_pass f (otherwise r ∷ cs) = f r
 pub row_passes : {G T E : Type 0} (f : Row G E → Bool) (cs : List (Case G T E)) (t : T) (r : Row G E) → cases_pass f cs ≡ true → row_of cs t ≡ Some r → f r ≡ true
 row_passes f [] t r h e = absurd (cc e)
 row_passes f (on test q ∷ cs) t r h e =
-    let k = and_parts (f q) (cases_pass f cs) h in
-    by (test t) k.0 (row_passes f cs t r k.1) e
-  where
-    by : (b : Bool) → f q ≡ true → (row_of cs t ≡ Some r → f r ≡ true) → (if b then Some q else row_of cs t) ≡ Some r → f r ≡ true
-    by true k i e = let same : q ≡ r = cc e in ap f (sym same) ∙ k
-    by false k i e = i e
+    let k = and_parts (f q) (cases_pass f cs) h in let i = row_passes f cs t r k.1 in grind arith
 row_passes f (otherwise q ∷ cs) t r h e = let same : q ≡ r = cc e in ap f (sym same) ∙ h
 
 abbrev row_falls : {G E : Type 0} → (G → ℕ) → ℕ → Row G E → Bool
 row_falls m n (takes ps) = true
 row_falls m n (leaves ps) = nat_lt (parts_weight m ps) n
 
-goal_falls : (g : Goal) → cases_pass (row_falls weight (weight g)) (cases g) ≡ true
-goal_falls (content (in_pair key)) = refl
-goal_falls (indentless_sequence_entries key) = refl
-goal_falls _ = refl
-
 pub grammar_falls : Falls grammar weight
-grammar_falls g t ps h = ltb-true (parts_weight weight ps) (weight g) (row_passes (row_falls weight (weight g)) (cases g) t (leaves ps) (goal_falls g) h)
+grammar_falls g t ps h = ltb-true (parts_weight weight ps) (weight g) (row_passes (row_falls weight (weight g)) (cases g) t (leaves ps) (grind arith) h)
 
 -- ---- goals complete: each is read to its end by some tokens, which say these events
 

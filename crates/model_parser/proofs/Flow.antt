@@ -1,13 +1,14 @@
 -- The turns in flow collections.
-use Rattle.model_parser.proofs.Common.{alike, arith, ends_flow_key, ends_flow_pair, ends_item, ends_item_key, false, Goal, inl, kind_of, Leaves, List, may_begin, None, nothing_written, Option, Raw, refl, Refuses, Some, State, Takes, Tok, true, without_node, work_of, ◌∷◌, ◌≡◌, ◌≢◌}
-use Rattle.model_parser.proofs.StepRows.{by_row, takes_so, refuses, Leads, leaves_so, says_so, refuses_so}
-use Rattle.model_parser.proofs.First.{not_by}
-use Rattle.model_parser.proofs.Settling.{under_goes, under_other, under_past, under_any, flow_valued_goes, comes_so, MayRead, empties, reads_node, closes_so}
+use Rattle.model_parser.proofs.Common.{says, toks, alike, arith, ends_flow_key, ends_flow_pair, ends_item, ends_item_key, false, Goal, inl, kind_of, Leaves, List, None, nothing_written, Option, Raw, refl, Refuses, Some, State, Takes, Tok, true, without_node, ◌∷◌, ◌≡◌, ◌≢◌}
+use Rattle.model_parser.proofs.StepRows.{by_row, takes_so, leaves_so, first_any, refuses_so}
+use Rattle.model_parser.proofs.Settling.{under_goes, under_other, under_past, under_any, comes_so, empties, reads_node}
 use Rattle.defs_text.specs.Position as chars
 use Rattle.model_parser.specs.declared.kind.Kind.TheVariants as kind
 use Rattle.model_parser.specs.declared.context.NodeContext.TheVariants as context
 use Rattle.model_parser.specs.declared.state.State.TheVariants as state
 use Rattle.defs_event.specs.Grammar as table
+use Rattle.defs_event.specs.Stream as places
+use Rattle.model_parser.proofs.CameBy.{said_by}
 
 -- ---- a flow sequence
 
@@ -40,14 +41,11 @@ item_node ss t a = leaves_so 1 (λ n f. ((f, n), (refl, refl))) (λ f. refl) (λ
 
 -- ---- a pair that is an item
 
-pair_key_over : (ss : List State) → MayRead Goal.pair_key ss (state.FlowSequenceEntryMappingValue ∷ ss)
-pair_key_over ss = record { nested = λ n f. (f, n); under = λ f. refl; work = refl; any = λ k. refl; opened = refl }
-
 pub pair_key_empty : (ss : List State) (t : Tok) → ends_item_key (kind_of t) ≡ true → Leaves Goal.pair_key ss (Some t) (Some nothing_written) Goal.done (state.FlowSequenceEntryMappingValue ∷ ss)
-pair_key_empty ss t a = empties (pair_key_over ss) t (λ f. a)
+pair_key_empty ss t a = empties (search) t (λ f. a)
 
 pub pair_key_node : (ss : List State) (t : Tok) → ends_item_key (kind_of t) ≡ false → Leaves Goal.pair_key ss (Some t) None (Goal.node context.Flow) (state.FlowSequenceEntryMappingValue ∷ ss)
-pair_key_node ss t a = reads_node (pair_key_over ss) t context.Flow (λ f. refl) (λ f. a) (λ f. alike refl refl) (λ f h. inl h)
+pair_key_node ss t a = reads_node (search) t context.Flow (λ f. refl) (λ f. a) (λ f. alike refl refl) (λ f h. inl h)
 
 pub pair_value_value : (ss : List State) → Takes Goal.pair_value ss Tok.value None Goal.pair_valued ss
 pair_value_value ss = takes_so (λ n f. (n, f)) (λ f. (refl, (λ k. refl), by_row _ refl refl)) refl (λ f. refl) (λ f. refl)
@@ -55,17 +53,22 @@ pair_value_value ss = takes_so (λ n f. (n, f)) (λ f. (refl, (λ k. refl), by_r
 pub pair_value_empty : (ss : List State) (t : Tok) → kind_of t ≢ kind.Value → Leaves Goal.pair_value ss (Some t) (Some nothing_written) Goal.done (state.FlowSequenceEntryMappingEnd ∷ ss)
 pair_value_empty ss t a = leaves_so 2 (λ n f. ((f, n), tt)) (λ f. refl) (λ f u r m. let h = r 9 in grind arith) (λ f r m. grind arith) refl (λ f. alike refl refl) (λ f h. inl h)
 
-pair_valued_over : (ss : List State) → MayRead Goal.pair_valued ss (state.FlowSequenceEntryMappingEnd ∷ ss)
-pair_valued_over ss = record { nested = λ n f. (f, n); under = λ f. refl; work = refl; any = λ k. refl; opened = refl }
-
 pub pair_valued_empty : (ss : List State) (t : Tok) → ends_item (kind_of t) ≡ true → Leaves Goal.pair_valued ss (Some t) (Some nothing_written) Goal.done (state.FlowSequenceEntryMappingEnd ∷ ss)
-pair_valued_empty ss t a = empties (pair_valued_over ss) t (λ f. a)
+pair_valued_empty ss t a = empties (search) t (λ f. a)
 
 pub pair_valued_node : (ss : List State) (t : Tok) → ends_item (kind_of t) ≡ false → Leaves Goal.pair_valued ss (Some t) None (Goal.node context.Flow) (state.FlowSequenceEntryMappingEnd ∷ ss)
-pair_valued_node ss t a = reads_node (pair_valued_over ss) t context.Flow (λ f. refl) (λ f. a) (λ f. alike refl refl) (λ f h. inl h)
+pair_valued_node ss t a = reads_node (search) t context.Flow (λ f. refl) (λ f. a) (λ f. alike refl refl) (λ f h. inl h)
 
 pub pair_ends : (ss : List State) (p : Option Tok) → Leaves Goal.pair_end ss p (Some Raw.pair_end) Goal.done (state.FlowSequenceEntry ∷ ss)
-pair_ends ss p = says_so (λ n f. ((f, n), tt)) refl (λ k. refl) (λ k. refl) refl (λ f. alike refl refl) (λ f h. inl h)
+pair_ends ss p = record {
+  nested = λ n f. ((f, n), tt);
+  comes = λ n f ts es a. (says a.0, first_any Goal.pair_end ss ts (λ k. refl));
+  goes = λ n f ts es k a. let s = said_by a.0 in (s.0, s.1, (s.2, first_any Goal.done (state.FlowSequenceEntry ∷ ss) ts (λ k. refl)));
+  places = λ n f x b m ts there at es a. (places.says tt a.0, first_any Goal.pair_end ss (toks ts) (λ k. refl));
+  opened = refl;
+  settles = λ f. alike refl refl;
+  past = λ f h. inl h;
+}
 
 -- ---- a flow mapping
 
@@ -99,14 +102,11 @@ flow_pair_value s ss colon = takes_so (λ n f. ((f, n), tt)) (λ f. (refl, (λ k
 pub flow_pair_node : (s : table.Start) (ss : List State) (t : Tok) → kind_of t ≢ kind.Key → kind_of t ≢ kind.Value → Leaves (Goal.flow_pair s) ss (Some t) None (Goal.node context.Flow) (state.FlowMappingEmptyValue ∷ ss)
 flow_pair_node s ss t a b = leaves_so 1 (λ n f. ((f, n), (refl, refl))) (λ f. refl) (λ f u r m. grind arith) (λ f r m. let h = r 9 in grind arith) refl (λ f. alike refl refl) (λ f h. inl h)
 
-flow_key_over : (ss : List State) → MayRead Goal.flow_key ss (state.FlowMappingValue ∷ ss)
-flow_key_over ss = record { nested = λ n f. (f, n); under = λ f. refl; work = refl; any = λ k. refl; opened = refl }
-
 pub flow_key_empty : (ss : List State) (t : Tok) → ends_flow_key (kind_of t) ≡ true → Leaves Goal.flow_key ss (Some t) (Some nothing_written) Goal.done (state.FlowMappingValue ∷ ss)
-flow_key_empty ss t a = empties (flow_key_over ss) t (λ f. a)
+flow_key_empty ss t a = empties (search) t (λ f. a)
 
 pub flow_key_node : (ss : List State) (t : Tok) → ends_flow_key (kind_of t) ≡ false → Leaves Goal.flow_key ss (Some t) None (Goal.node context.Flow) (state.FlowMappingValue ∷ ss)
-flow_key_node ss t a = reads_node (flow_key_over ss) t context.Flow (λ f. refl) (λ f. a) (λ f. alike refl refl) (λ f h. inl h)
+flow_key_node ss t a = reads_node (search) t context.Flow (λ f. refl) (λ f. a) (λ f. alike refl refl) (λ f h. inl h)
 
 pub flow_after_value : (ss : List State) (m : chars.Position) → Takes Goal.flow_after_key ss Tok.value None (Goal.flow_valued m) ss
 flow_after_value ss m = takes_so (λ n f. (n, f)) (λ f. (refl, (λ k. refl), by_row _ refl refl)) refl (λ f. refl) (λ f. refl)
@@ -115,7 +115,7 @@ pub flow_after_empty : (ss : List State) (t : Tok) → kind_of t ≢ kind.Value 
 flow_after_empty ss t a = leaves_so 2 (λ n f. ((f, n), tt)) (λ f. refl) (λ f u r m. let h = r 9 in grind arith) (λ f r m. grind arith) refl (λ f. alike refl refl) (λ f h. inl h)
 
 pub flow_valued_empty : (m : chars.Position) (ss : List State) (t : Tok) → ends_flow_pair (kind_of t) ≡ true → Leaves (Goal.flow_valued m) ss (Some t) (Some Raw.unwritten_value) Goal.done (state.FlowMappingKey ∷ ss)
-flow_valued_empty c ss t a = leaves_so 2 (λ n f. ((f, n), tt)) (λ f. refl) (λ f u r m. let h = r 9 in grind arith) (λ f r m. grind arith) refl (λ f. without_node refl (comes_so (Goal.flow_valued c) ss t (flow_valued_goes c ss t a))) (λ f h. inl h)
+flow_valued_empty c ss t a = leaves_so 2 (λ n f. ((f, n), tt)) (λ f. refl) (λ f u r m. let h = r 9 in grind arith) (λ f r m. grind arith) refl (λ f. without_node refl (comes_so (Goal.flow_valued c) ss t (grind arith))) (λ f h. inl h)
 
 pub flow_valued_node : (m : chars.Position) (ss : List State) (t : Tok) → ends_flow_pair (kind_of t) ≡ false → Leaves (Goal.flow_valued m) ss (Some t) None (Goal.node context.Flow) (state.FlowMappingKey ∷ ss)
 flow_valued_node c ss t a = leaves_so 1 (λ n f. ((f, n), (refl, refl))) (λ f. refl) (λ f u r m. grind arith) (λ f r m. let h = r 9 in grind arith) refl (λ f. alike refl refl) (λ f h. inl h)

@@ -1,5 +1,5 @@
 -- In the table of the token grammar, rows for all other tokens are chosen by each token that ends a goal too.
-use Rattle.model_parser.proofs.Common.{[], and_before, arith, before, block_mapping_entries, block_sequence_entries, Bool, cases, content, directives, document_end, documents, ends_goal, explicit_document, false, flow_mapping_comma, flow_mapping_entries, flow_mapping_valued, flow_sequence_comma, flow_sequence_entries, grammar, Held, in_block, in_flow, in_pair, indentless_sequence_entries, inl, inr, key, leaves, List, no_flow_mapping_value, node, None, nothing_held, Part, Place, Raw, reading, refl, refused, Row, row_of, saying, Some, step, stream, suc, Tok, true, Turned, value, weight, Work, work_weight, zero, ℕ, ◌<◌, ◌∷◌, ◌≡◌}
+use Rattle.model_parser.proofs.Common.{[], arith, before, block_mapping_entries, block_sequence_entries, Bool, cases, content, directives, document_end, documents, ends_goal, explicit_document, false, flow_mapping_comma, flow_mapping_entries, flow_sequence_comma, flow_sequence_entries, grammar, Held, in_block, in_flow, in_pair, indentless_sequence_entries, inl, inr, key, leaves, List, node, None, nothing_held, Part, Place, Raw, read, reading, refl, refused, Row, row_of, say, saying, Some, step, stream, suc, Tok, true, value, weight, Work, work_weight, zero, ℕ, ◌<◌, ◌∷◌, ◌≡◌}
 use Rattle.defs_event.specs.Kinds.{begins_flow_node, begins_node}
 use Rattle.defs_event.specs.Grammar.{Goal}
 use Rattle.defs_event.proofs.Meanings.{EachRow, row_holds}
@@ -17,20 +17,10 @@ is_bottom explicit_document = true
 is_bottom document_end = true
 is_bottom _ = false
 
-abbrev Bottoms : Goal → Type 0
-Bottoms g = EachRow (λ t r. BottomRow grammar is_bottom t r) (λ t. false) (cases g)
-
-bottom_rows : (g : Goal) → is_bottom g ≡ true → Bottoms g
-bottom_rows a b = grind arith
-
 bottoms : (g : Goal) (t : Tok) (r : Row Goal Raw) → is_bottom g ≡ true → row_of (cases g) t ≡ Some r → BottomRow grammar is_bottom t r
-bottoms g t r b p = row_holds (λ t r. BottomRow grammar is_bottom t r) (λ t. false) (cases g) (bottom_rows g b) t refl r p
+bottoms g t r b p = row_holds (λ t r. BottomRow grammar is_bottom t r) (λ t. false) (cases g) (grind arith) t refl r p
 
 -- ---- tokens that end a goal
-
-at_enders : (P : Tok → Type 0) → P Tok.stream_start → P Tok.stream_end → P Tok.document_start → P Tok.block_end → P Tok.flow_sequence_end → P Tok.flow_mapping_end
-    → (u : Tok) → ends_goal u ≡ true → P u
-at_enders a b d c e g f i h = grind arith
 
 abbrev Leaves : Goal → List (Part Goal Raw) → Tok → Type 0
 Leaves g ps t = row_of (cases g) t ≡ Some (leaves ps)
@@ -39,29 +29,15 @@ Leaves g ps t = row_of (cases g) t ≡ Some (leaves ps)
 others : (g : Goal) (t : Tok) (ps : List (Part Goal Raw)) → Leaves g ps Tok.stream_start → Leaves g ps Tok.stream_end → Leaves g ps Tok.document_start
     → Leaves g ps Tok.block_end → Leaves g ps Tok.flow_sequence_end → Leaves g ps Tok.flow_mapping_end
     → ((u : Tok) (h : Held) (w : List (Work Goal Raw Held)) → before grammar h u ps w ≡ before grammar h t ps w) → LeavingRow grammar weight ends_goal g t (leaves ps)
-others g t ps a b c d e f same = inl (λ u is. (at_enders (Leaves g ps) a b c d e f u is, λ h w. same u h w))
+others g t ps a b c d e f same = inl (λ u is. (grind arith, λ h w. same u h w))
 
 -- ---- a node's first token is taken
 
-abbrev NeverRefused : Place → Tok → Type 0
-NeverRefused p t = (n : ℕ) (h : Held) (w : List (Work Goal Raw Held)) (es : List Raw) → step grammar (suc (suc n)) (reading (node p) h ∷ w) t ≡ refused es → ⊥
-
-flow_node_taken : (p : Place) (t : Tok) → begins_flow_node t ≡ true → NeverRefused p t
-flow_node_taken p a b n h w es e = grind arith
-
-node_taken : (t : Tok) → begins_node t ≡ true → NeverRefused in_block t
-node_taken t b n h w es e = grind arith
-
-abbrev GoesFrom : Place → Tok → List (Work Goal Raw Held) → Type 0
-GoesFrom p t v = (n : ℕ) (h : Held) (es : List Raw) → work_weight weight (reading (node p) h ∷ v) < n → step grammar n (reading (node p) h ∷ v) t ≡ refused es → ⊥
-
-goes_from : (p : Place) (t : Tok) (v : List (Work Goal Raw Held)) → NeverRefused p t → GoesFrom p t v
-goes_from p t v f zero h es l e = omega (arith, l)
+goes_from : (p : Place) (t : Tok) (v : List (Work Goal Raw Held)) → ((n : ℕ) (h : Held) (es : List Raw) → step grammar (suc (suc n)) (reading (node p) h ∷ v) t ≡ refused es → ⊥)
+    → (n : ℕ) (h : Held) (es : List Raw) → 1 < n → step grammar n (reading (node p) h ∷ v) t ≡ refused es → ⊥
 goes_from p t v f (suc zero) h es l e = omega (arith, l)
-goes_from p t v f (suc (suc n)) h es l e = f n h v es e
-
-and_refused : (e : Raw) (o : Turned Goal Raw Held) (es : List Raw) → and_before e o ≡ refused es → (fs : List Raw) × (o ≡ refused fs)
-and_refused e a fs p = grind arith
+goes_from p t v f (suc (suc n)) h es l e = f n h es e
+goes_from p t v f zero h es l e = omega (arith, l)
 
 -- a document that begins with its node
 bare_taken : (n : ℕ) (t : Tok) → begins_node t ≡ true → (w : List (Work Goal Raw Held)) (es : List Raw)
@@ -69,34 +45,24 @@ bare_taken : (n : ℕ) (t : Tok) → begins_node t ≡ true → (w : List (Work 
     → step grammar n (saying (Raw.document_start []) ∷ reading (node in_block) nothing_held ∷ w) t ≡ refused es → ⊥
 bare_taken zero t i w es l e = omega (arith, l)
 bare_taken (suc n) t i w es l e =
-    let x = and_refused (Raw.document_start []) (step grammar n (reading (node in_block) nothing_held ∷ w) t) es e in
-    goes_from in_block t w (node_taken t i) n nothing_held x.0 (omega (arith, l)) x.1
+    let x : (fs : List Raw) × (step grammar n (reading (node in_block) nothing_held ∷ w) t ≡ refused fs) = grind arith in
+    goes_from in_block t w (λ n h es e. grind arith) n nothing_held x.0 (omega (arith, l)) x.1
 
 -- ---- all rows
 
-abbrev Leaving : Goal → Type 0
-Leaving g = EachRow (λ t r. LeavingRow grammar weight ends_goal g t r) (λ t. false) (cases g)
+-- Rows that leave a token to a flow node, or to a document's node, leave it where it is taken.
+flow_leaving : (g : Goal) (t : Tok) (ps : List (Part Goal Raw)) → begins_flow_node t ≡ true → LeavingRow grammar weight ends_goal g t (leaves (read (node in_flow) ∷ ps))
+flow_leaving g t ps i = inr (λ n h w es l e. goes_from in_flow t (before grammar h t ps w) (λ n h es e. grind arith) n nothing_held es (omega (arith, l)) e)
 
-leaving_rows : (g : Goal) → Leaving g
-leaving_rows stream = (λ t i. tt, tt)
-leaving_rows documents = (λ t i. tt, (λ t i. tt, (λ t i. inr (λ n h w es l e. bare_taken n t i (reading document_end nothing_held ∷ w) es l e), λ t i. others documents t _ refl refl refl refl refl refl (λ u h w. refl))))
-leaving_rows directives = (λ t i. tt, (λ t i. tt, tt))
-leaving_rows explicit_document = (λ t i. tt, (λ t i. tt, tt))
-leaving_rows (node p) = (λ t i. tt, (λ t i. tt, (λ t i. tt, λ t i. others (node p) t _ refl refl refl refl refl refl (λ u h w. refl))))
-leaving_rows (content in_flow) = (λ t i. tt, (λ t i. tt, (λ t i. tt, λ t i. others (content in_flow) t _ refl refl refl refl refl refl (λ u h w. refl))))
-leaving_rows (content in_block) = (λ t i. tt, (λ t i. tt, (λ t i. tt, (λ t i. tt, (λ t i. tt, λ t i. others (content in_block) t _ refl refl refl refl refl refl (λ u h w. refl))))))
-leaving_rows (content (in_pair key)) = (λ t i. tt, (λ t i. tt, (λ t i. tt, (λ t i. tt, (λ t i. tt, (λ t i. tt, λ t i. others (content (in_pair key)) t _ refl refl refl refl refl refl (λ u h w. refl)))))))
-leaving_rows (content (in_pair value)) = (λ t i. tt, (λ t i. tt, (λ t i. tt, (λ t i. tt, (λ t i. tt, (λ t i. tt, λ t i. others (content (in_pair value)) t _ refl refl refl refl refl refl (λ u h w. refl)))))))
-leaving_rows block_sequence_entries = (λ t i. tt, (λ t i. tt, tt))
-leaving_rows (indentless_sequence_entries key) = (λ t i. tt, λ t i. others (indentless_sequence_entries key) t _ refl refl refl refl refl refl (λ u h w. refl))
-leaving_rows block_mapping_entries = (λ t i. tt, (λ t i. tt, (λ t i. tt, tt)))
-leaving_rows flow_sequence_entries = (λ t i. inr (λ n h w es l e. goes_from in_flow t _ (flow_node_taken in_flow t i) n nothing_held es l e), (λ t i. tt, (λ t i. tt, tt)))
-leaving_rows flow_sequence_comma = (λ t i. tt, (λ t i. tt, tt))
-leaving_rows (flow_mapping_entries s) = (λ t i. inr (λ n h w es l e. goes_from in_flow t _ (flow_node_taken in_flow t i) n nothing_held es l e), (λ t i. tt, (λ t i. tt, (λ t i. tt, tt))))
-leaving_rows flow_mapping_comma = (λ t i. tt, (λ t i. tt, tt))
-leaving_rows flow_mapping_valued = (λ t i. inr (λ n h w es l e. goes_from in_flow t _ (flow_node_taken in_flow t i) n nothing_held es l e), λ t i. others flow_mapping_valued t _ refl refl refl refl refl refl (λ u h w. refl))
-leaving_rows no_flow_mapping_value = λ t i. others no_flow_mapping_value t _ refl refl refl refl refl refl (λ u h w. refl)
-leaving_rows g = (λ t i. tt, λ t i. others g t _ refl refl refl refl refl refl (λ u h w. refl))
+bare_leaving : (g : Goal) (t : Tok) → begins_node t ≡ true → LeavingRow grammar weight ends_goal g t (leaves (say (Raw.document_start []) ∷ read (node in_block) ∷ read document_end ∷ []))
+bare_leaving g t i = inr (λ n h w es l e. bare_taken n t i (reading document_end nothing_held ∷ w) es l e)
+
+leaving_rows : (g : Goal) → EachRow (λ t r. LeavingRow grammar weight ends_goal g t r) (λ t. false) (cases g)
+leaving_rows (content in_flow) = search others
+leaving_rows (content (in_pair key)) = search others
+leaving_rows (content (in_pair value)) = search others
+leaving_rows (indentless_sequence_entries key) = search others
+leaving_rows g = search (others, bare_leaving, flow_leaving)
 
 pub leaving : (g : Goal) (t : Tok) (r : Row Goal Raw) → row_of (cases g) t ≡ Some r → LeavingRow grammar weight ends_goal g t r
 leaving g t r p = row_holds (λ t r. LeavingRow grammar weight ends_goal g t r) (λ t. false) (cases g) (leaving_rows g) t refl r p

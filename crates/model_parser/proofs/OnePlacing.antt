@@ -1,5 +1,5 @@
 -- Of the same tokens, read so far, the same events are said, at the same positions.
-use Rattle.model_parser.proofs.Common.{[], AgreeAt, ap, before, Bool, cases, documents, Ev, events_of, Extent, false, grammar, HasPlacedTo, Held, IfSome, leaves, List, map, named, Names, names_after, no_names, None, Option, Part, placed_before, placed_by, PlacedWork, Places, Position, position_at, positions_of, Raw, raws_of, read, reading, refl, resolved_event, row_of, saying, show, Some, stream, StreamPlacesTo, subst, sym, takes, to_last, Tok, Token, true, Work, ◌&&◌, ◌++◌, ◌∙◌, ◌∷◌, ◌≡◌, ◌≢◌}
+use Rattle.model_parser.proofs.Common.{[], AgreeAt, and_parts, ap, arith, before, Bool, cases, Ev, events_of, Extent, false, grammar, HasPlacedTo, Held, IfSome, List, map, named, Names, names_after, no_names, None, Option, Part, placed_before, placed_by, PlacedWork, Places, Position, position_at, positions_of, Raw, raws_of, reading, refl, resolved_event, row_of, saying, Some, stream, StreamPlacesTo, subst, takes, to_last, Tok, Token, true, Work, ◌&&◌, ◌++◌, ◌∷◌, ◌≡◌, ◌≢◌}
 use Rattle.defs_event.specs.Grammar.{Goal}
 use Rattle.defs_event.proofs.NameLemmas.{both_some}
 use Rattle.defs_event.specs.Stream as placed
@@ -17,14 +17,9 @@ are_due [] = true
 are_due (reading g h ∷ w) = are_due w
 are_due (saying x ∷ w) = is_due x && are_due w
 
-due_at : (t : Token) (p : Position) (e : Raw) → is_due (e, position_at t (Some p) e) ≡ true
-due_at t p Raw.pair_end = refl
-due_at t p e = refl
-
 due_before : (t : Token) (p : Position) (v : List (Work Goal Raw Held)) (w : PlacedWork) → are_due w ≡ true → are_due (placed_by (position_at t (Some p)) v ++ w) ≡ true
 due_before t p [] w d = d
-due_before t p (reading g h ∷ v) w d = due_before t p v w d
-due_before t p (saying e ∷ v) w d = ap (λ b. b && are_due (placed_by (position_at t (Some p)) v ++ w)) (due_at t p e) ∙ due_before t p v w d
+due_before t p (x ∷ v) w d = let i = due_before t p v w d in grind arith
 
 -- ---- one list
 
@@ -41,13 +36,7 @@ none_is_last b (reading g h ∷ w) es d = elim d [ ]
 none_is_last b (saying x ∷ w) _ (placed.says {es = es} o d) = none_is_last b w es d
 
 at_one : (e : Raw) (o : Option Position) (m n : Position) → is_due (e, o) ≡ true → IfSome o (λ p. m ≡ p) → IfSome o (λ p. n ≡ p) → e ≢ Raw.pair_end → m ≡ n
-at_one e (Some p) m n d x y other = x ∙ sym y
-at_one Raw.pair_end None m n d x y other = absurd (other refl)
-at_one e None m n d x y other = cc
-
-and_both : (a b : Bool) → (a && b) ≡ true → (a ≡ true) × (b ≡ true)
-and_both true b h = (refl, h)
-and_both false b h = cc
+at_one e o m n d x y other = grind arith
 
 pub one_placing : {x : Extent} {p : Position} {w : PlacedWork} {ts : List Token} {es fs : List (Raw × Position)} → are_due w ≡ true → Places x (Some p) w ts es → Places x (Some p) w ts fs → AreSame es fs
 one_placing due placed.nothing_left placed.nothing_left = tt
@@ -60,7 +49,7 @@ one_placing due (placed.by_leaving ps q d) (placed.takes_last qs r) = cc
 one_placing due (placed.by_taking ps q d) (placed.by_leaving qs r c) = cc
 one_placing due (placed.by_leaving ps q d) (placed.by_taking qs r c) = cc
 one_placing due (placed.says {e = e} {o = o} {m = m} {w = w} a d) (placed.says {m = n} b c) =
-    let both = and_both (is_due (e, o)) (are_due w) due in
+    let both = and_parts (is_due (e, o)) (are_due w) due in
     (refl, λ other. at_one e o m n both.0 a b other, one_placing both.1 d c)
 one_placing {x} {p} due (placed.by_taking {h = h} {w = w} {t = t} {ts = ts} {es = es} ps q d) (placed.by_taking {es = fs} qs r c) =
     let same : qs ≡ ps = cc (q, r) in
@@ -71,17 +60,8 @@ one_placing {x} {p} due (placed.by_leaving {h = h} {w = w} {t = t} {ts = ts} {es
 
 -- ---- of a stream
 
-start_due : (t : Token) (h : Held) (ps : List (Part Goal Raw)) → row_of (cases stream) t.tok ≡ Some (takes ps) → are_due (placed_before t None h ps []) ≡ true
-start_due t h ps q = by t.tok q
-  where
-    by : (u : Tok) → row_of (cases stream) u ≡ Some (takes ps) → are_due (placed_by (position_at t None) (before grammar h u ps []) ++ []) ≡ true
-    by Tok.stream_start r =
-        let same : show ∷ read documents ∷ [] ≡ ps = cc r in subst (λ l. are_due (placed_by (position_at t None) (before grammar h Tok.stream_start l []) ++ []) ≡ true) same refl
-    by u r = cc
-
-none_leaves : (u : Tok) (ps : List (Part Goal Raw)) → row_of (cases stream) u ≡ Some (leaves ps) → ⊥
-none_leaves Tok.stream_start ps r = cc
-none_leaves u ps r = cc
+start_due : (t : Token) (u : Tok) (h : Held) (ps : List (Part Goal Raw)) → row_of (cases stream) u ≡ Some (takes ps) → are_due (placed_by (position_at t None) (before grammar h u ps []) ++ []) ≡ true
+start_due t u h ps q = grind arith
 
 pub one_stream : {x : Extent} {ts : List Token} {es fs : List (Raw × Position)} → StreamPlacesTo x ts es → StreamPlacesTo x ts fs → AreSame es fs
 one_stream placed.wants_token placed.wants_token = tt
@@ -92,8 +72,8 @@ one_stream (placed.by_taking ps q d) (placed.takes_last qs r) = absurd (none_is_
 one_stream (placed.by_taking ps q d) (placed.by_leaving qs r c) = cc
 one_stream {x} (placed.by_taking {h = h} {t = t} {ts = ts} {es = es} ps q d) (placed.by_taking {es = fs} qs r c) =
     let same : qs ≡ ps = cc (q, r) in
-    one_placing (start_due t h ps q) d (subst (λ l. Places x (Some t.position) (placed_before t None h l []) ts fs) same c)
-one_stream (placed.by_leaving {t = t} ps q d) c = absurd (none_leaves t.tok ps q)
+    one_placing (start_due t t.tok h ps q) d (subst (λ l. Places x (Some t.position) (placed_before t None h l []) ts fs) same c)
+one_stream (placed.by_leaving {t = t} ps q d) c = absurd (grind arith)
 
 pub some_is : {A : Type 0} {x y : A} → Some x ≡ Some y → x ≡ y
 some_is h = cc
@@ -101,28 +81,14 @@ some_is h = cc
 pub same_events : (keep : Bool) (s : Names) (rs us : List (Raw × Position)) (es fs : List (Ev × Position)) → AreSame rs us
     → named keep s (raws_of rs) ≡ Some (events_of es) → map (λ e. e.1) rs ≡ positions_of es → named keep s (raws_of us) ≡ Some (events_of fs) → map (λ e. e.1) us ≡ positions_of fs → AgreeAt es fs
 same_events keep s [] [] [] [] a n p m q = tt
-same_events keep s [] [] (e ∷ es) fs a n p m q = cc
-same_events keep s [] [] [] (f ∷ fs) a n p m q = cc
-same_events keep s [] (u ∷ us) es fs a n p m q = absurd a
-same_events keep s (r ∷ rs) [] es fs a n p m q = absurd a
-same_events keep s (r ∷ rs) (u ∷ us) [] fs a n p m q = cc
-same_events keep s (r ∷ rs) (u ∷ us) (e ∷ es) [] a n p m q = cc
 same_events keep s (r ∷ rs) (u ∷ us) (e ∷ es) (f ∷ fs) a n p m q =
     let x = both_some (resolved_event s r.0) (named keep (names_after keep s r.0) (raws_of rs)) (e.0 ∷ events_of es) n in
-    let y = both_some (resolved_event s u.0) (named keep (names_after keep s u.0) (raws_of us)) (f.0 ∷ events_of fs) m in
-    let one : e.0 ≡ x.event = cc x.whole in
-    let other : f.0 ≡ y.event = cc y.whole in
-    let ones : events_of es ≡ x.more = cc x.whole in
-    let others : events_of fs ≡ y.more = cc y.whole in
-    let at : r.1 ≡ e.1 = cc p in
-    let other_at : u.1 ≡ f.1 = cc q in
-    let ats : map (λ e. e.1) rs ≡ positions_of es = cc p in
-    let other_ats : map (λ e. e.1) us ≡ positions_of fs = cc q in (
-      one ∙ some_is (sym x.is_first ∙ ap (resolved_event s) a.0 ∙ y.is_first) ∙ sym other,
-      λ no_end. sym at ∙ a.1 (λ is. no_end (one ∙ some_is (sym x.is_first ∙ ap (resolved_event s) is))) ∙ other_at,
-      same_events keep (names_after keep s r.0) rs us es fs a.2 (x.are_more ∙ ap Some (sym ones)) ats
-          (ap (λ k. named keep (names_after keep s k) (raws_of us)) a.0 ∙ y.are_more ∙ ap Some (sym others)) other_ats,
+    let y = both_some (resolved_event s u.0) (named keep (names_after keep s u.0) (raws_of us)) (f.0 ∷ events_of fs) m in (
+      cc (x.whole, x.is_first, y.whole, y.is_first, a.0),
+      λ no_end. let one : r.1 ≡ u.1 = a.1 (λ is. no_end (cc (x.whole, x.is_first, ap (resolved_event s) is))) in cc (one, p, q),
+      same_events keep (names_after keep s r.0) rs us es fs a.2 (cc (x.whole, x.are_more)) (cc p) (cc (y.whole, y.are_more, a.0)) (cc q),
     )
+same_events keep s rs us es fs a n p m q = grind arith
 
 -- Tokens that are read so far have one list of events.
 pub one_list_so_far : (x : Extent) (keep_tags : Bool) (tokens : List Token) (es fs : List (Ev × Position)) → HasPlacedTo x keep_tags tokens es → HasPlacedTo x keep_tags tokens fs → AgreeAt es fs

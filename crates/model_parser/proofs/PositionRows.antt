@@ -1,139 +1,113 @@
--- The positions of events, on some streams: a machine finds them, and each row asks it by `refl`.
-use Rattle.model_parser.proofs.Common.{[], BeginsPlaced, cases, codes, Ev, false, Held, IsPlacedStream, leaves, List, None, nothing_held, nothing_written, Option, option_map, placed_before, PlacedWork, Places, plain_event, plain_raw, Position, Raw, reading, refl, Row, row_of, saying, Some, stream, StreamPlaces, StreamPlacesTo, Style, subst, suc, takes, takes_last, to_end, to_last, to_next, Tok, Token, wants_token, zero, ℕ, ◌++◌, ◌∷◌, ◌≡◌}
+-- The positions of events, on some streams, by computing.
+use Prim.Native.String.{String}
+use Rattle.model_parser.proofs.Common.{[], BeginsPlaced, cases, codes, Ev, Extent, false, Held, IsPlacedStream, leaves, List, None, nothing_written, Option, placed_before, PlacedWork, Places, plain_event, plain_raw, Position, Raw, reading, refl, Row, row_of, Some, StreamPlaces, StreamPlacesTo, Style, takes, takes_last, to_last, to_next, Tok, Token, wants_token, ℕ, ◌++◌, ◌∷◌, ◌≡◌}
 use Rattle.defs_event.specs.Grammar.{Goal}
 use Rattle.defs_event.specs.Stream.{nothing_left, says, by_taking, by_leaving}
-use Rattle.model_parser.proofs.OnePlacing.{some_is}
-use Rattle.model_parser.proofs.Places.{or_nowhere, at_own}
+use Rattle.defs_token.specs.Token.{alias, anchor, block_end, block_entry, block_mapping_start, flow_entry, flow_mapping_end, flow_mapping_start, flow_sequence_end, flow_sequence_start, key, stream_end, stream_start, value}
+use Rattle.model_parser.proofs.Places.{nowhere}
 
--- ---- a machine
+-- ---- by computing
 
-abbrev Found : Type 0
-Found = Option (List (Raw × Position))
+-- what is left to show after a turn
+abbrev Turned : Extent → Option Position → Held → PlacedWork → Token → List Token → List (Raw × Position) → Option (Row Goal Raw) → Type 0
+Turned to_last b h w t [] [] (Some (takes ps)) = Unit {0}
+Turned x b h w t ts es (Some (takes ps)) = Places x (Some t.position) (placed_before t b h ps w) ts es
+Turned x b h w t ts es (Some (leaves ps)) = Places x b (placed_before t b h ps w) (t ∷ ts) es
+Turned x b h w t ts es None = ⊥
 
-abbrev turn : Option Position → Held → PlacedWork → Token → List Token → (Option Position → PlacedWork → List Token → Found) → Option (Row Goal Raw) → Found
-turn b h w t ts again (Some (takes ps)) = again (Some t.position) (placed_before t b h ps w) ts
-turn b h w t ts again (Some (leaves ps)) = again b (placed_before t b h ps w) (t ∷ ts)
-turn b h w t ts again None = None
-
-abbrev run : ℕ → Option Position → PlacedWork → List Token → Found
-run zero b w ts = None
-run (suc n) b [] [] = Some []
-run (suc n) b [] (t ∷ ts) = None
-run (suc n) b (saying x ∷ w) ts = option_map (λ es. (x.0, or_nowhere x.1) ∷ es) (run n b w ts)
-run (suc n) b (reading g h ∷ w) [] = None
-run (suc n) b (reading g h ∷ w) (t ∷ ts) = turn b h w t ts (λ c v us. run n c v us) (row_of (cases g) t.tok)
-
-run_so : (n : ℕ) (b : Option Position) (w : PlacedWork) (ts : List Token) (es : List (Raw × Position)) → run n b w ts ≡ Some es → Places to_end b w ts es
-run_so zero b w ts es h = cc
-run_so (suc n) b [] [] es h = subst (Places to_end b [] []) (some_is h) nothing_left
-run_so (suc n) b [] (t ∷ ts) es h = cc
-run_so (suc n) b (saying x ∷ w) ts es h = by (run n b w ts) (λ fs. run_so n b w ts fs) h
+by_row : {x : Extent} {b : Option Position} {g : Goal} {h : Held} {w : PlacedWork} {t : Token} {ts : List Token} {es : List (Raw × Position)}
+    → Turned x b h w t ts es (row_of (cases g) t.tok) → Places x b (reading g h ∷ w) (t ∷ ts) es
+by_row {x} {b} {g} {h} {w} {t} {ts} {es} d = by x ts es (row_of (cases g) t.tok) refl d
   where
-    by : (o : Found) → ((fs : List (Raw × Position)) → o ≡ Some fs → Places to_end b w ts fs) → option_map (λ es. (x.0, or_nowhere x.1) ∷ es) o ≡ Some es → Places to_end b (saying x ∷ w) ts es
-    by None again k = cc
-    by (Some fs) again k = subst (Places to_end b (saying x ∷ w) ts) (some_is k) (says (at_own x.1) (again fs refl))
-run_so (suc n) b (reading g h ∷ w) [] es k = cc
-run_so (suc n) b (reading g h ∷ w) (t ∷ ts) es k = by (row_of (cases g) t.tok) refl (λ c v us f. run_so n c v us es f) k
-  where
-    by : (o : Option (Row Goal Raw)) → row_of (cases g) t.tok ≡ o → ((c : Option Position) (v : PlacedWork) (us : List Token) → run n c v us ≡ Some es → Places to_end c v us es)
-        → turn b h w t ts (λ c v us. run n c v us) o ≡ Some es → Places to_end b (reading g h ∷ w) (t ∷ ts) es
-    by (Some (takes ps)) q again f = by_taking ps q (again _ _ _ f)
-    by (Some (leaves ps)) q again f = by_leaving ps q (again _ _ _ f)
-    by None q again f = cc
-
-stream_so : (ts : List Token) (es : List (Raw × Position)) → run 99 None (reading stream nothing_held ∷ []) ts ≡ Some es → StreamPlaces ts es
-stream_so ts es h = run_so 99 None (reading stream nothing_held ∷ []) ts es h
+    by : (x : Extent) (ts : List Token) (es : List (Raw × Position)) (r : Option (Row Goal Raw)) → row_of (cases g) t.tok ≡ r
+        → Turned x b h w t ts es r → Places x b (reading g h ∷ w) (t ∷ ts) es
+    by to_last [] [] (Some (takes ps)) q d = takes_last ps q
+    by x ts es (Some (takes ps)) q d = by_taking ps q d
+    by x ts es (Some (leaves ps)) q d = by_leaving ps q d
+    by x ts es None q d = absurd d
 
 -- ---- in the first line
 
-abbrev col : ℕ → Position
-col n = record { index = n; line = 1; col = n }
+abbrev column : ℕ → Position
+column n = record { index = n; line = 1; col = n }
 
-abbrev token_at : ℕ → Tok → Token
-token_at n t = record { position = col n; tok = t }
+abbrev at : ℕ → Tok → Token
+at n t = record { position = column n; tok = t }
 
-abbrev raw_at : ℕ → Raw → Raw × Position
-raw_at n e = (e, col n)
+abbrev word : ℕ → String → Token
+word n text = at n (Tok.scalar Style.plain (codes text))
 
-abbrev word : List ℕ → Tok
-word text = Tok.scalar Style.plain text
+abbrev said : ℕ → Raw → Raw × Position
+said n e = (e, column n)
 
--- of a document without `---`, whose node begins at column 0, in a text that ends at this column
-abbrev whole : ℕ → List (Raw × Position) → List (Raw × Position)
-whole n es = raw_at 0 Raw.stream_start ∷ raw_at 0 (Raw.document_start []) ∷ es ++ raw_at n Raw.document_end ∷ raw_at n Raw.stream_end ∷ []
+abbrev plain : ℕ → String → Raw × Position
+plain n text = said n (plain_raw (codes text))
 
-abbrev whole_tokens : ℕ → List Token → List Token
-whole_tokens n ts = token_at 0 Tok.stream_start ∷ ts ++ token_at n Tok.stream_end ∷ []
+-- a document without `---`, whose node begins at column 0, in a text that ends at this column
+abbrev DocumentPlaces : ℕ → List Token → List (Raw × Position) → Type 0
+DocumentPlaces n ts es = StreamPlaces (at 0 stream_start ∷ ts ++ at n stream_end ∷ [])
+    (said 0 Raw.stream_start ∷ said 0 (Raw.document_start []) ∷ es ++ said n Raw.document_end ∷ said n Raw.stream_end ∷ [])
+
+record Positions : Type 0 where
+  -- `{a, b: , : c, }`
+  in_a_mapping : DocumentPlaces 15
+      (at 0 flow_mapping_start ∷ word 1 "a" ∷ at 2 flow_entry ∷ at 4 key ∷ word 4 "b" ∷ at 5 value ∷ at 7 flow_entry ∷
+      at 9 value ∷ word 11 "c" ∷ at 12 flow_entry ∷ at 14 flow_mapping_end ∷ [])
+      (said 0 (Raw.flow_mapping_start None None) ∷ plain 1 "a" ∷ said 2 nothing_written ∷ plain 4 "b" ∷ said 5 Raw.unwritten_value ∷
+      said 9 nothing_written ∷ plain 11 "c" ∷ said 12 Raw.flow_mapping_end_at_comma ∷ [])
+  -- `{a: b}`: without a comma, the mapping ends at its bracket
+  at_a_bracket : DocumentPlaces 6
+      (at 0 flow_mapping_start ∷ at 1 key ∷ word 1 "a" ∷ at 2 value ∷ word 4 "b" ∷ at 5 flow_mapping_end ∷ [])
+      (said 0 (Raw.flow_mapping_start None None) ∷ plain 1 "a" ∷ plain 4 "b" ∷ said 5 Raw.flow_mapping_end ∷ [])
+  -- `[*a, ? b]`: a pair that begins with `?` begins there, and its empty value stands at the token after the key
+  in_a_sequence : DocumentPlaces 9
+      (at 0 flow_sequence_start ∷ at 1 (alias (codes "a")) ∷ at 3 flow_entry ∷ at 5 key ∷ word 7 "b" ∷ at 8 flow_sequence_end ∷ [])
+      (said 0 (Raw.flow_sequence_start None None) ∷ said 1 (Raw.alias (codes "a")) ∷ said 5 Raw.pair_start ∷ plain 7 "b" ∷
+      said 8 nothing_written ∷ (Raw.pair_end, nowhere) ∷ said 8 Raw.flow_sequence_end ∷ [])
+  -- outside flow, in the places that the tokens have: a mapping whose first value is a sequence without indentation, and whose second
+  -- is not written
+  in_blocks : DocumentPlaces 9
+      (at 0 block_mapping_start ∷ at 1 key ∷ word 1 "a" ∷ at 2 value ∷ at 3 block_entry ∷ word 4 "b" ∷
+      at 5 key ∷ word 5 "c" ∷ at 6 value ∷ at 8 block_end ∷ [])
+      (said 0 (Raw.mapping_start None None) ∷ plain 1 "a" ∷ said 3 (Raw.indentless_sequence_start None None) ∷ plain 4 "b" ∷
+      said 5 Raw.indentless_sequence_end ∷ plain 5 "c" ∷ said 8 nothing_written ∷ said 8 Raw.mapping_end ∷ [])
+  -- `a`, where the next token is wanted: the end of the document waits for it
+  after_a_word : StreamPlacesTo to_next (at 0 stream_start ∷ word 0 "a" ∷ [])
+      (said 0 Raw.stream_start ∷ said 0 (Raw.document_start []) ∷ plain 0 "a" ∷ [])
+  -- `{? a`, before a bracket that ends the mapping: the value that is not written stands there
+  before_a_bracket : StreamPlacesTo to_last
+      (at 0 stream_start ∷ at 0 flow_mapping_start ∷ at 1 key ∷ word 3 "a" ∷ at 4 flow_mapping_end ∷ [])
+      (said 0 Raw.stream_start ∷ said 0 (Raw.document_start []) ∷ said 0 (Raw.flow_mapping_start None None) ∷ plain 3 "a" ∷
+      said 4 nothing_written ∷ [])
+
+positions : Positions
+positions = search (by_row, says, nothing_left, wants_token) depth 60
 
 -- ---- `[1, &a ]`: a node of an anchor alone stands at the token after it
 
 abbrev first_tokens : List Token
-first_tokens = token_at 0 Tok.stream_start ∷ token_at 0 Tok.flow_sequence_start ∷ []
+first_tokens = at 0 stream_start ∷ at 0 flow_sequence_start ∷ []
 
 abbrev later_tokens : List Token
-later_tokens = token_at 1 (word (codes "1")) ∷ token_at 2 Tok.flow_entry ∷ token_at 4 (Tok.anchor (codes "a")) ∷ token_at 7 Tok.flow_sequence_end ∷ token_at 8 Tok.stream_end ∷ []
+later_tokens = word 1 "1" ∷ at 2 flow_entry ∷ at 4 (anchor (codes "a")) ∷ at 7 flow_sequence_end ∷ at 8 stream_end ∷ []
 
 abbrev first_events : List (Ev × Position)
-first_events = (Ev.stream_start, col 0) ∷ (Ev.document_start, col 0) ∷ (Ev.sequence_start 0 None, col 0) ∷ []
+first_events = (Ev.stream_start, column 0) ∷ (Ev.document_start, column 0) ∷ (Ev.sequence_start 0 None, column 0) ∷ []
 
 abbrev later_events : List (Ev × Position)
-later_events = (plain_event (codes "1"), col 1) ∷ (Ev.scalar [] Style.plain 1 None, col 7) ∷ (Ev.sequence_end, col 7) ∷ (Ev.document_end, col 8) ∷ (Ev.stream_end, col 8) ∷ []
+later_events =
+    (plain_event (codes "1"), column 1) ∷ (Ev.scalar [] Style.plain 1 None, column 7) ∷ (Ev.sequence_end, column 7) ∷
+    (Ev.document_end, column 8) ∷ (Ev.stream_end, column 8) ∷ []
 
 placed : IsPlacedStream false (first_tokens ++ later_tokens) (first_events ++ later_events)
 placed = record {
-  raws = whole 8 (raw_at 0 (Raw.flow_sequence_start None None) ∷ raw_at 1 (plain_raw (codes "1")) ∷ raw_at 7 (Raw.empty_scalar (Some (codes "a")) None) ∷ raw_at 7 Raw.flow_sequence_end ∷ []);
-  says = stream_so _ _ refl;
+  raws =
+      said 0 Raw.stream_start ∷ said 0 (Raw.document_start []) ∷ said 0 (Raw.flow_sequence_start None None) ∷ plain 1 "1" ∷
+      said 7 (Raw.empty_scalar (Some (codes "a")) None) ∷ said 7 Raw.flow_sequence_end ∷ said 8 Raw.document_end ∷ said 8 Raw.stream_end ∷ [];
+  says = search (by_row, says, nothing_left) depth 60;
   has_events = refl;
   has_positions = refl;
 }
 
 begun : BeginsPlaced false first_tokens first_events
 begun = record { more_tokens = later_tokens; more_events = later_events; stream = placed }
-
--- ---- flow mappings: `{a, b: , : c, }`
-
-in_a_mapping : StreamPlaces
-    (whole_tokens 15 (token_at 0 Tok.flow_mapping_start ∷ token_at 1 (word (codes "a")) ∷ token_at 2 Tok.flow_entry
-    ∷ token_at 4 Tok.key ∷ token_at 4 (word (codes "b")) ∷ token_at 5 Tok.value ∷ token_at 7 Tok.flow_entry
-    ∷ token_at 9 Tok.value ∷ token_at 11 (word (codes "c")) ∷ token_at 12 Tok.flow_entry ∷ token_at 14 Tok.flow_mapping_end ∷ []))
-    (whole 15 (raw_at 0 (Raw.flow_mapping_start None None) ∷ raw_at 1 (plain_raw (codes "a")) ∷ raw_at 2 nothing_written
-    ∷ raw_at 4 (plain_raw (codes "b")) ∷ raw_at 5 Raw.unwritten_value ∷ raw_at 9 nothing_written ∷ raw_at 11 (plain_raw (codes "c")) ∷ raw_at 12 Raw.flow_mapping_end_at_comma ∷ []))
-in_a_mapping = stream_so _ _ refl
-
--- `{a: b}`: without a comma, the mapping ends at its bracket
-at_a_bracket : StreamPlaces
-    (whole_tokens 6 (token_at 0 Tok.flow_mapping_start ∷ token_at 1 Tok.key ∷ token_at 1 (word (codes "a")) ∷ token_at 2 Tok.value ∷ token_at 4 (word (codes "b")) ∷ token_at 5 Tok.flow_mapping_end ∷ []))
-    (whole 6 (raw_at 0 (Raw.flow_mapping_start None None) ∷ raw_at 1 (plain_raw (codes "a")) ∷ raw_at 4 (plain_raw (codes "b")) ∷ raw_at 5 Raw.flow_mapping_end ∷ []))
-at_a_bracket = stream_so _ _ refl
-
--- `[*a, ? b]`: a pair that begins with `?` begins there, and its empty value stands at the token after the key
-in_a_sequence : StreamPlaces
-    (whole_tokens 9 (token_at 0 Tok.flow_sequence_start ∷ token_at 1 (Tok.alias (codes "a")) ∷ token_at 3 Tok.flow_entry ∷ token_at 5 Tok.key ∷ token_at 7 (word (codes "b")) ∷ token_at 8 Tok.flow_sequence_end ∷ []))
-    (whole 9 (raw_at 0 (Raw.flow_sequence_start None None) ∷ raw_at 1 (Raw.alias (codes "a")) ∷ raw_at 5 Raw.pair_start ∷ raw_at 7 (plain_raw (codes "b")) ∷ raw_at 8 nothing_written
-    ∷ (Raw.pair_end, or_nowhere None) ∷ raw_at 8 Raw.flow_sequence_end ∷ []))
-in_a_sequence = stream_so _ _ refl
-
--- ---- outside flow, in the places that the tokens have
-
--- a mapping whose first value is a sequence without indentation, and whose second is not written
-in_blocks : StreamPlaces
-    (whole_tokens 9 (token_at 0 Tok.block_mapping_start ∷ token_at 1 Tok.key ∷ token_at 1 (word (codes "a")) ∷ token_at 2 Tok.value
-    ∷ token_at 3 Tok.block_entry ∷ token_at 4 (word (codes "b")) ∷ token_at 5 Tok.key ∷ token_at 5 (word (codes "c")) ∷ token_at 6 Tok.value ∷ token_at 8 Tok.block_end ∷ []))
-    (whole 9 (raw_at 0 (Raw.mapping_start None None) ∷ raw_at 1 (plain_raw (codes "a")) ∷ raw_at 3 (Raw.indentless_sequence_start None None) ∷ raw_at 4 (plain_raw (codes "b")) ∷ raw_at 5 Raw.indentless_sequence_end
-    ∷ raw_at 5 (plain_raw (codes "c")) ∷ raw_at 8 nothing_written ∷ raw_at 8 Raw.mapping_end ∷ []))
-in_blocks = stream_so _ _ refl
-
--- ---- so far
-
--- `a`, where the next token is wanted: the end of the document waits for it
-after_a_word : StreamPlacesTo to_next (token_at 0 Tok.stream_start ∷ token_at 0 (word (codes "a")) ∷ [])
-    (raw_at 0 Raw.stream_start ∷ raw_at 0 (Raw.document_start []) ∷ raw_at 0 (plain_raw (codes "a")) ∷ [])
-after_a_word = by_taking _ refl (says refl (by_leaving _ refl (says refl (by_leaving _ refl (by_taking _ refl (says refl wants_token))))))
-
--- `{? a`, before a bracket that ends the mapping: the value that is not written stands there
-before_a_bracket : StreamPlacesTo to_last
-    (token_at 0 Tok.stream_start ∷ token_at 0 Tok.flow_mapping_start ∷ token_at 1 Tok.key ∷ token_at 3 (word (codes "a")) ∷ token_at 4 Tok.flow_mapping_end ∷ [])
-    (raw_at 0 Raw.stream_start ∷ raw_at 0 (Raw.document_start []) ∷ raw_at 0 (Raw.flow_mapping_start None None) ∷ raw_at 3 (plain_raw (codes "a")) ∷ raw_at 4 nothing_written ∷ [])
-before_a_bracket =
-    by_taking _ refl (says refl (by_leaving _ refl (says refl (by_leaving _ refl (by_taking _ refl (says refl
-    (by_taking _ refl (by_leaving _ refl (by_taking _ refl (says refl (by_leaving _ refl (says refl (takes_last _ refl)))))))))))))

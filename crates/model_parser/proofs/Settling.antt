@@ -1,8 +1,7 @@
 -- What may come behind a node, and what is read next.
-use Rattle.model_parser.proofs.Common.{arith, [], and_parts, ap, before, begins_content, begins_node, Bool, both_ways, cases, context_at, empty, empty_event, ends_document, ends_entry, ends_flow_key, ends_flow_pair, ends_indentless_entry, ends_item, ends_item_key, ends_part, false, Goal, goal_and, grammar, Held, in_block, in_flow, in_pair, is_directive, is_in_mapping, is_node, is_over_document, is_past_directives, is_under, IsFor, IsGoing, IsNested, keep, Kind, kind_of, Leaves, leaves, List, may_begin, MayCome, next_at, next_in, NodeContext, None, not, nothing_held, nothing_written, open_at, Option, other_next, past, Place, place_of, Position, Properties, reading, refl, row_of, Settles, Some, State, step, sym, then_in, Tok, true, without_node, work_of, Works, works, ◌&&◌, ◌∙◌, ◌∷◌, ◌≡◌, ◌⊎◌, IsNoDirective}
+use Rattle.model_parser.proofs.Common.{arith, [], and_parts, ap, before, begins_content, begins_node, Bool, both_ways, cases, context_at, empty, empty_event, ends_document, ends_entry, ends_flow_key, ends_flow_pair, ends_indentless_entry, ends_item, ends_item_key, ends_part, false, Goal, goal_and, grammar, Held, is_in_mapping, is_node, is_over_document, is_past_directives, is_under, IsFor, IsGoing, IsNested, keep, Kind, kind_of, Leaves, leaves, List, may_begin, MayCome, next_at, NodeContext, None, not, nothing_held, nothing_written, open_at, other_next, past, Place, place_of, reading, refl, row_of, Settles, Some, State, step, sym, then_in, Tok, true, without_node, work_of, Works, works, ◌&&◌, ◌∙◌, ◌∷◌, ◌≡◌, ◌⊎◌, IsNoDirective}
 use Rattle.model_parser.proofs.StepRows.{has_goal, is_going, Leads, leads_stay, leave_row, leaves_so, may_come, refuse_row, refuses, steps}
 use Rattle.defs_event.specs.Grammar as table
-use Rattle.model_parser.specs.declared.kind.Kind.TheVariants as kind
 use Rattle.model_parser.specs.declared.state.State.TheVariants as state
 
 -- ---- under a node
@@ -22,26 +21,12 @@ under_any ss h k = grind arith
 pub under_reads : (ss : List State) → is_under ss ≡ true → has_goal (works ss) ≡ true
 under_reads ss h = grind arith
 
--- where a mapping goes on, no document's node is read
-pub mapping_no_document : (ss : List State) → is_in_mapping ss ≡ true → is_over_document ss ≡ false
-mapping_no_document ss h = grind arith
-
 pub mapping_under : (ss : List State) → is_in_mapping ss ≡ true → is_under ss ≡ true
 mapping_under ss h = grind arith
 
 -- after a node, what goes on with these
 pub then_works : (ss : List State) (h : Held) (t : Tok) → before grammar h t (then_in (place_of ss)) (past ss (works ss)) ≡ works ss
 then_works ss h t = grind arith
-
-pub past_alike : (p q : NodeContext) (o : Option Properties) (ss : List State) → is_past_directives (Goal.after_properties p o) ss ≡ is_past_directives (Goal.after_properties q o) ss
-past_alike p q a ss = cc
-
-pub no_directive : (k : Kind) → ends_document k ≡ true → is_directive k ≡ false
-no_directive k h = grind arith
-
--- what comes does not depend on the context
-pub next_alike : (p q : NodeContext) (o : Option Properties) → next_in (Goal.after_properties p o) ≡ next_in (Goal.after_properties q o)
-next_alike p q a = cc
 
 -- ---- behind a node
 
@@ -179,12 +164,3 @@ comes_so g ss t h =
     let both = and_parts (is_going (step grammar 9 (work_of g ss) t)) (may_begin g ss (kind_of t)) h in
     let c = may_come 9 t (work_of g ss) both.0 in
     (c.0, c.1, (c.2, both.1))
-
-pub flow_valued_goes : (m : Position) (ss : List State) (t : Tok) → ends_flow_pair (kind_of t) ≡ true → GoesFrom (Goal.flow_valued m) ss t
-flow_valued_goes m ss t h = grind arith
-
-pub explicit_goes : (ss : List State) (t : Tok) → ends_document (kind_of t) ≡ true → GoesFrom Goal.documents ss t
-explicit_goes ss t h = grind arith
-
-pub directive_goes : (ss : List State) (t : Tok) → is_directive (kind_of t) ≡ true → GoesFrom Goal.documents ss t
-directive_goes ss t h = grind arith

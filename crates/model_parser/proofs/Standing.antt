@@ -1,5 +1,5 @@
 -- Where a parser stands at first, after a look at the next token, at the next state of its stack, and at the end.
-use Rattle.model_parser.proofs.Common.{[], ap, append-nil, as_tokens, at_directive, Derives, first_may, Goal, goal_of, goes_on, grammar, is_after, is_node, is_past_directives, is_past_in, IsSettled, Kind, List, may_begin, next_in, None, nothing_left, Option, Raw, refl, State, StreamSays, subst, sym, Tok, top, ◌++◌, ◌∙◌, ◌∷◌, ◌≡◌}
+use Rattle.model_parser.proofs.Common.{[], ap, append-nil, arith, as_tokens, at_directive, Derives, first_may, Goal, goal_of, goes_on, grammar, IsSettled, List, None, nothing_left, Option, Raw, refl, State, StreamSays, subst, sym, Tok, top, ◌++◌, ◌∙◌, ◌∷◌, ◌≡◌}
 use Rattle.model_parser.specs.Stands.{IsOnTrack}
 use Rattle.model_parser.proofs.StepRows.{first_any}
 use Rattle.model_parser.specs.declared.state.State.TheVariants as state
@@ -28,26 +28,14 @@ looks {g} {ss} {taken} o s = record {
 }
   where
     by : IsSettled g ss taken None → IsSettled g ss taken o
-    by (as_tokens h) = as_tokens h
-    by (goes_on h c) = absurd c
-    by (at_directive h d) = cc
+    by h = grind (arith, as_tokens)
 
 -- What a state reads is read next.
 pub top_of : (s : State) (ss : List State) → top (goal_of s) ss ≡ goal_of s
-top_of state.StreamStart ss = refl
-top_of s ss = refl
-
-past_of : (s : State) (ss : List State) → is_past_directives (goal_of s) ss ≡ is_past_in (goal_of s) ss
-past_of state.StreamStart ss = refl
-past_of s ss = refl
-
-may_of : (s : State) (ss : List State) (k : Kind) → may_begin Goal.done (s ∷ ss) k ≡ may_begin (goal_of s) ss k
-may_of state.StreamStart ss k = refl
-may_of s ss k = refl
+top_of s ss = grind arith
 
 pub first_of : (s : State) (ss : List State) (ts : List Tok) → first_may Goal.done (s ∷ ss) ts ≡ first_may (goal_of s) ss ts
-first_of s ss [] = refl
-first_of s ss (t ∷ ts) = may_of s ss _
+first_of s ss ts = grind arith
 
 pub pops : {s : State} {ss : List State} {taken : List Tok} {p : Option Tok} {given : List Raw} → IsOnTrack Goal.done (s ∷ ss) taken p given → IsOnTrack (goal_of s) ss taken p given
 pops {s} {ss} {taken} {p} h = record {
@@ -55,15 +43,13 @@ pops {s} {ss} {taken} {p} h = record {
   fits = h.nested.0;
   opened = h.opened;
   settled = by h.settled;
-  past = λ e. h.past (sym (past_of s ss) ∙ e);
+  past = λ e. h.past (grind arith);
   sound = λ ts es a. h.sound ts es (a.0, first_of s ss ts ∙ a.1);
   exact = λ ts es u d. let x = h.exact ts es u d in (x.0, x.1, (x.2.0, sym (first_of s ss ts) ∙ x.2.1));
 }
   where
     by : IsSettled Goal.done (s ∷ ss) taken p → IsSettled (goal_of s) ss taken p
-    by (as_tokens e) = as_tokens (e ∙ ap next_in (sym (top_of s ss)))
-    by (goes_on e c) = goes_on (ap (λ g. is_node (next_in g)) (top_of s ss) ∙ e) c
-    by (at_directive e d) = at_directive (ap is_after (top_of s ss) ∙ e) d
+    by e = let same = top_of s ss in grind (arith, as_tokens, goes_on, at_directive)
 
 -- At the end the tokens taken are a stream, and begin no other.
 read_out : (ts : List Tok) (es : List Raw) → Derives grammar [] ts es → (ts ≡ []) × (es ≡ [])

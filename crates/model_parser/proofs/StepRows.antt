@@ -1,6 +1,5 @@
 -- A turn of the parser by the rows of the grammar's table.
-use Rattle.std.specs.Option.{IfSome}
-use Rattle.model_parser.proofs.Common.{[], ap, Awaits, AwaitsAt, before, Bool, by_leaving, by_taking, cases, Derives, event_at, event_then, Extent, false, first_may, Goal, goes, grammar, Held, is_past_directives, IsAt, IsAtFirst, IsFor, IsNested, IsNext, IsNoDirective, IsThere, Kind, kind_of, Leaves, leaves, List, may_begin, next_at, next_past, None, open_at, open_past, Option, Part, placed, placed_before, placed_by, PlacedWork, Places, Position, position_at, Raw, reading, refl, refused, Refuses, Row, row_of, saying, says, Settles, Some, State, step, subst, suc, sym, Takes, takes, Then, Tok, Token, toks, true, Turned, work_of, Works, zero, ℕ, ◌++◌, ◌∙◌, ◌∷◌, ◌≡◌, ◌⊎◌}
+use Rattle.model_parser.proofs.Common.{[], ap, arith, Awaits, AwaitsAt, before, Bool, by_leaving, by_taking, cases, Derives, event_at, event_then, Extent, false, first_may, Goal, goes, grammar, Held, is_past_directives, IsAt, IsAtFirst, IsFor, IsNested, IsNext, IsNoDirective, IsThere, Kind, kind_of, Leaves, leaves, List, may_begin, next_at, next_past, None, open_at, open_past, Option, Part, placed, placed_before, placed_by, PlacedWork, Places, Position, position_at, Raw, reading, refl, refused, Refuses, Row, row_of, saying, says, Settles, Some, State, step, subst, suc, sym, Takes, takes, Then, Tok, Token, true, Turned, work_of, Works, zero, ℕ, ◌++◌, ◌∙◌, ◌∷◌, ◌≡◌, ◌⊎◌}
 use Rattle.model_parser.proofs.CameBy.{taken_by, left_by, none_by, said_by}
 use Rattle.model_parser.proofs.Completions.{all_complete}
 use Rattle.model_parser.proofs.Falls.{grammar_completes}
@@ -15,14 +14,6 @@ use Rattle.defs_event.specs.Grammar as table
 abbrev pub and_saying : Option Raw → Works → Works
 and_saying None w = w
 and_saying (Some e) w = saying e ∷ w
-
-saying_on : (e : Option Raw) (w : Works) (ts : List Tok) (es : List Raw) → Derives grammar w ts es → Derives grammar (and_saying e w) ts (event_then e es)
-saying_on None w ts es d = d
-saying_on (Some x) w ts es d = says d
-
-said_on : (e : Option Raw) (w : Works) (ts : List Tok) (es : List Raw) → Derives grammar (and_saying e w) ts es → (fs : List Raw) × (es ≡ event_then e fs) × Derives grammar w ts fs
-said_on None w ts es d = (es, refl, d)
-said_on (Some x) w ts es d = said_by d
 
 -- Work takes a token, and says this event or none before other work.
 pub record Reads (w : Works) (t : Tok) (e : Option Raw) (w' : Works) : Type 0 where
@@ -40,8 +31,8 @@ saying_at (Some y) w b k m at q x c ts es d = places.says at (subst (λ v. Place
 pub by_row : {g : table.Goal} {h : Held} {w : Works} {t : Tok} {e : Option Raw} {w' : Works} (ps : List (Part table.Goal Raw))
     → row_of (cases g) t ≡ Some (takes ps) → before grammar h t ps w ≡ and_saying e w' → Reads (reading g h ∷ w) t e w'
 by_row {g} {h} {w} {t} {e} {w'} ps r b = record {
-  back = λ ts es d. by_taking ps r (subst (λ v. Derives grammar v ts (event_then e es)) (sym b) (saying_on e w' ts es d));
-  on = λ ts es d. said_on e w' ts es (subst (λ v. Derives grammar v ts es) b (taken_by d ps r));
+  back = λ ts es d. by_taking ps r (subst (λ v. Derives grammar v ts (event_then e es)) (sym b) (grind (arith, says)));
+  on = λ ts es d. let x : Derives grammar (and_saying e w') ts es = subst (λ v. Derives grammar v ts es) b (taken_by d ps r) in grind (arith, said_by);
   places = λ q q' x c k m same at ts es d.
       let there : placed_before k c h ps (placed w) ≡ placed_by (position_at k c) (and_saying e w') =
       ap (placed_before k c h ps) (sym (quiet_placed k c w q)) ∙ placed_row k c h ps w ∙ ap (λ u. placed_by (position_at k c) (before grammar h u ps w)) same ∙ ap (placed_by (position_at k c)) b in
@@ -50,11 +41,7 @@ by_row {g} {h} {w} {t} {e} {w'} ps r b = record {
 }
 
 pub first_any : (g : Goal) (ss : List State) (ts : List Tok) → ((k : Kind) → may_begin g ss k ≡ true) → first_may g ss ts ≡ true
-first_any g ss [] f = refl
-first_any g ss (t ∷ ts) f = f (kind_of t)
-
-first_placed : (g : Goal) (ss : List State) (k : Token) (e : Option Raw) (m : Position) (ts : List Token) (es : List (Raw × Position)) → may_begin g ss (kind_of k.tok) ≡ true → first_may g ss (toks (k ∷ ts)) ≡ true
-first_placed g ss k e m ts es h = h
+first_any g ss ts f = grind arith
 
 -- Anything may come after the token.
 pub takes_so : {g : Goal} {ss : List State} {t : Tok} {e : Option Raw} {g' : Goal} {ss' : List State}
@@ -66,7 +53,7 @@ takes_so {g} {ss} {t} {e} {g'} {ss'} nested reads opened next past = record {
   comes = λ f ts es a. ((reads f).2.back ts es a.0, (reads f).0);
   goes = λ f ts es a. let x = (reads f).2.on ts es a.0 in (x.0, x.1, (x.2, first_any g' ss' ts (reads f).1));
   places = λ f x b k m same at ts es a.
-      ((reads f).2.places (work_quiet g ss) (work_quiet g' ss') x b k m same at ts es a.0, first_placed g ss k e m ts es (ap (λ u. may_begin g ss (kind_of u)) same ∙ (reads f).0));
+      ((reads f).2.places (work_quiet g ss) (work_quiet g' ss') x b k m same at ts es a.0, ap (λ u. may_begin g ss (kind_of u)) same ∙ (reads f).0);
   opened = opened;
   next = next;
   past = past;
@@ -102,8 +89,7 @@ by_steps (suc n) t (reading g h ∷ w) = by (row_of (cases g) t) refl (λ v. by_
     by : (r : Option (Row table.Goal Raw)) → row_of (cases g) t ≡ r → ((v : Works) → Stays t v (steps n t v).0 (steps n t v).1)
         → Stays t (reading g h ∷ w) (leave_row h t g w (λ v. steps n t v) r).0 (leave_row h t g w (λ v. steps n t v) r).1
     by (Some (leaves ps)) q again = let i = again (before grammar h t ps w) in (λ ts fs d. by_leaving ps q (i.0 ts fs d), λ ts gs d. i.1 ts gs (left_by d ps q))
-    by (Some (takes ps)) q again = (λ ts fs d. d, λ ts gs d. (gs, refl, d))
-    by None q again = (λ ts fs d. d, λ ts gs d. (gs, refl, d))
+    by r q again = (λ ts fs d. d, λ ts gs d. (gs, refl, d))
 
 -- ---- and where its events stand
 
@@ -114,10 +100,6 @@ event_list (Some e) = e ∷ []
 abbrev or_at : Position → Option Position → Position
 or_at m None = m
 or_at m (Some p) = p
-
-or_at_own : (m : Position) (o : Option Position) → IfSome o (λ p. or_at m o ≡ p)
-or_at_own m None = tt
-or_at_own m (Some p) = refl
 
 abbrev each_at : (Raw → Position) → List Raw → List (Raw × Position) → List (Raw × Position)
 each_at f [] fs = fs
@@ -130,21 +112,15 @@ StaysAt x b k m w y =
 steps_at : (n : ℕ) (x : Extent) (b : Option Position) (k : Token) (m : Position) (w : Works) → StaysAt x b k m w (steps n k.tok w)
 steps_at zero x b k m w = λ ts fs d. d
 steps_at (suc n) x b k m [] = λ ts fs d. d
-steps_at (suc n) x b k m (saying e ∷ w) = λ ts fs d. places.says (or_at_own m (position_at k b e)) (steps_at n x b k m w ts fs d)
+steps_at (suc n) x b k m (saying e ∷ w) = λ ts fs d. places.says (grind arith) (steps_at n x b k m w ts fs d)
 steps_at (suc n) x b k m (reading g h ∷ w) = by (row_of (cases g) k.tok) refl (λ v. steps_at n x b k m v)
   where
     by : (r : Option (Row table.Goal Raw)) → row_of (cases g) k.tok ≡ r → ((v : Works) → StaysAt x b k m v (steps n k.tok v)) → StaysAt x b k m (reading g h ∷ w) (leave_row h k.tok g w (λ v. steps n k.tok v) r)
     by (Some (leaves ps)) q again = λ ts fs d. places.by_leaving ps q (subst (λ v. Places x b v (k ∷ ts) (each_at (λ e. or_at m (position_at k b e)) (steps n k.tok (before grammar h k.tok ps w)).0 fs)) (sym (placed_row k b h ps w)) (again (before grammar h k.tok ps w) ts fs d))
-    by (Some (takes ps)) q again = λ ts fs d. d
-    by None q again = λ ts fs d. d
+    by r q again = λ ts fs d. d
 
 each_one : (b : Option Position) (k : Token) (e : Option Raw) (m : Position) (fs : List (Raw × Position)) → IsAt b k e m → each_at (λ x. or_at m (position_at k b x)) (event_list e) fs ≡ event_at e m fs
-each_one b k None m fs at = refl
-each_one b k (Some e) m fs at = by (position_at k b e) at
-  where
-    by : (o : Option Position) → IfSome o (λ p. m ≡ p) → (e, or_at m o) ∷ fs ≡ (e, m) ∷ fs
-    by None h = refl
-    by (Some p) h = ap (λ x. (e, x) ∷ fs) (sym h)
+each_one b k e m fs at = grind arith
 
 pub leads_at : (n : ℕ) (w : Works) (e : Option Raw) (w' : Works) (x : Extent) (b : Option Position) (k : Token) (m : Position) → is_quiet w ≡ true → is_quiet w' ≡ true → IsAt b k e m → steps n k.tok w ≡ (event_list e, w')
     → (ts : List Token) (fs : List (Raw × Position)) → Places x b (placed w') (k ∷ ts) fs → Places x b (placed w) (k ∷ ts) (event_at e m fs)
@@ -152,19 +128,20 @@ leads_at n w e w' x b k m q q' at h ts fs d =
     let y = subst (StaysAt x b k m w) h (steps_at n x b k m w) ts fs (subst (λ v. Places x b v (k ∷ ts) fs) (sym (quiet_placed k b w' q')) d) in
     subst (λ v. Places x b v (k ∷ ts) (event_at e m fs)) (quiet_placed k b w q) (subst (λ es. Places x b (placed_by (position_at k b) w) (k ∷ ts) es) (each_one b k e m fs at) y)
 
--- Two goals of which the same row takes the token read it alike.
-pub placed_alike : (g g' : table.Goal) (h : Held) (w : PlacedWork) (x : Extent) (b : Option Position) (k : Token) (ts : List Token) (es : List (Raw × Position)) (ps : List (Part table.Goal Raw)) → row_of (cases g) k.tok ≡ Some (takes ps)
-    → row_of (cases g') k.tok ≡ Some (takes ps) → Places x b (reading g h ∷ w) (k ∷ ts) es → Places x b (reading g' h ∷ w) (k ∷ ts) es
-placed_alike g g' h w x b k ts es ps r r' (places.by_taking qs q d) = let same : qs ≡ ps = cc (q, r) in places.by_taking qs (r' ∙ ap (λ l. Some (takes l)) (sym same)) d
-placed_alike g g' h w x b k ts es ps r r' (places.by_leaving qs q d) = cc
-placed_alike g g' h w x b k ts es ps r r' (places.takes_last qs q) = places.takes_last ps r'
+-- Two goals that have the same row for a token read it alike.
+pub placed_alike : {g g' : table.Goal} {h : Held} {w : PlacedWork} {x : Extent} {b : Option Position} {k : Token} {ts : List Token} {es : List (Raw × Position)}
+    → row_of (cases g) k.tok ≡ row_of (cases g') k.tok → Places x b (reading g h ∷ w) (k ∷ ts) es → Places x b (reading g' h ∷ w) (k ∷ ts) es
+placed_alike r (places.by_taking qs q d) = places.by_taking qs (sym r ∙ q) d
+placed_alike r (places.by_leaving qs q d) = places.by_leaving qs (sym r ∙ q) d
+placed_alike r (places.takes_last qs q) = places.takes_last qs (sym r ∙ q)
 
--- Two works that take the token alike.
-pub alike_reads : {w v x : Works} {t : Tok} {e : Option Raw} → Reads w t e x → Reads v t e x → Stays t w [] v
-alike_reads {w} {v} {x} {t} r s = (
-  λ ts fs d. let y = s.on ts fs d in subst (λ es. Derives grammar w (t ∷ ts) es) (sym y.1) (r.back ts y.0 y.2),
-  λ ts gs d. let y = r.on ts gs d in (gs, refl, subst (λ es. Derives grammar v (t ∷ ts) es) (sym y.1) (s.back ts y.0 y.2)),
-)
+read_alike : {g g' : table.Goal} {h : Held} {w : Works} {t : Tok} {ts : List Tok} {es : List Raw} → row_of (cases g) t ≡ row_of (cases g') t
+    → Derives grammar (reading g h ∷ w) (t ∷ ts) es → Derives grammar (reading g' h ∷ w) (t ∷ ts) es
+read_alike r (by_taking qs q d) = by_taking qs (sym r ∙ q) d
+read_alike r (by_leaving qs q d) = by_leaving qs (sym r ∙ q) d
+
+pub alike_reads : (g g' : table.Goal) (h : Held) (w : Works) (t : Tok) → row_of (cases g) t ≡ row_of (cases g') t → Stays t (reading g h ∷ w) [] (reading g' h ∷ w)
+alike_reads g g' h w t r = (λ ts fs d. read_alike (sym r) d, λ ts gs d. (gs, refl, read_alike r d))
 
 pub after_steps : {w v x : Works} {t : Tok} → Stays t w [] v → Stays t v [] x → Stays t w [] x
 after_steps r s = (λ ts fs d. r.0 ts fs (s.0 ts fs d), λ ts gs d. let y = r.1 ts gs d in let z = s.1 ts y.0 y.2 in (z.0, y.1 ∙ z.1, z.2))
@@ -189,8 +166,7 @@ not_refused (suc n) t (reading g h ∷ w) ts es d = by (row_of (cases g) t) refl
   where
     by : (r : Option (Row table.Goal Raw)) → row_of (cases g) t ≡ r → ((v : Works) → Derives grammar v (t ∷ ts) es → refuses n t v ≡ false) → refuse_row h t w (λ v. refuses n t v) r ≡ false
     by (Some (leaves ps)) q again = again (before grammar h t ps w) (left_by d ps q)
-    by (Some (takes ps)) q again = refl
-    by None q again = absurd (none_by d q)
+    by r q again = grind (arith, none_by d)
 
 -- nor is one that is read with positions
 placed_admits : (n : ℕ) (x : Extent) (b : Option Position) (k : Token) (v : PlacedWork) (ts : List Token) (es : List (Raw × Position)) → Places x b v (k ∷ ts) es → refuses n k.tok (plain_work v) ≡ false
@@ -206,8 +182,7 @@ pub reads_first : (n : ℕ) (x : Extent) (b : Option Position) (k : Token) (w : 
 reads_first n x b k w ts es d = subst (λ u. refuses n k.tok u ≡ false) (plain_placed (λ e. None) w) (placed_admits n x b k (placed w) ts es d)
 
 in_list : (e : Option Raw) (es : List Raw) → event_list e ++ es ≡ event_then e es
-in_list None es = refl
-in_list (Some e) es = refl
+in_list e es = grind arith
 
 -- something is still to be read
 abbrev pub has_goal : Works → Bool
@@ -274,20 +249,6 @@ leaves_so {g} {ss} {t} {e} {g'} {ss'} n nested goal back on opened settles past 
         let l = on f (λ m. not_refused m t (work_of g ss) us es b.0) b.1 in
         let x = (leads_stay n (work_of g ss) e (work_of g' ss') t (ap (λ x. x.0) l)).1 us es b.0 in
         (x.0, x.1 ∙ in_list e x.0, subst (λ y. Awaits g' ss' (y ∷ us) x.0) (sym k) (x.2, ap (λ x. x.2) l))
-
--- An event is due, whatever comes.
-pub says_so : {g : Goal} {ss : List State} {p : Option Tok} {e : Raw} {g' : Goal} {ss' : List State}
-    → (IsNested ss → IsFor g ss → IsNested ss' × IsFor g' ss') → work_of g ss ≡ saying e ∷ work_of g' ss' → ((k : Kind) → may_begin g ss k ≡ true) → ((k : Kind) → may_begin g' ss' k ≡ true)
-    → open_at g ss ≡ open_at g' ss' → (IsFor g ss → Settles g ss p g' ss') → (IsFor g ss → is_past_directives g' ss' ≡ true → (is_past_directives g ss ≡ true) ⊎ IsNoDirective p) → Leaves g ss p (Some e) g' ss'
-says_so {g} {ss} {p} {e} {g'} {ss'} nested same any any' opened settles past = record {
-  nested = nested;
-  comes = λ n f ts es a. (subst (λ w. Derives grammar w ts (e ∷ es)) (sym same) (says a.0), first_any g ss ts any);
-  goes = λ n f ts es k a. let s = said_by (subst (λ w. Derives grammar w ts es) same a.0) in (s.0, s.1, (s.2, first_any g' ss' ts any'));
-  places = λ n f x b m ts there at es a. (subst (λ w. Places x b (placed w) ts ((e, m) ∷ es)) (sym same) (places.says tt a.0), first_any g ss (toks ts) any);
-  opened = opened;
-  settles = settles;
-  past = past;
-}
 
 -- ---- refusals, and what may come
 

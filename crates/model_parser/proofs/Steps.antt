@@ -1,5 +1,5 @@
 -- A machine's turn at one token, over any table.
-use Rattle.model_parser.proofs.Common.{[], and_before, arith, before, by_leaving, by_taking, Derives, empty, goes, hold, keep, leaves, List, None, Option, Part, part_weight, part_work, parts_weight, read, reading, refl, refused, Row, row_of, say, saying, says, show, Some, step, suc, Table, takes, Turned, Work, work_weight, zero, ℕ, ◌++◌, ◌+◌, ◌<◌, ◌∷◌, ◌≡◌}
+use Rattle.model_parser.proofs.Common.{[], arith, before, by_leaving, by_taking, Derives, goes, leaves, List, Option, Part, parts_weight, reading, refl, refused, Row, row_of, saying, says, Some, step, suc, Table, Turned, Work, work_weight, zero, ℕ, ◌++◌, ◌+◌, ◌<◌, ◌∷◌, ◌≡◌}
 use Rattle.model_parser.specs.Machine.{by_row}
 
 -- ---- what the machine reads, the table reads
@@ -9,24 +9,18 @@ abbrev pub Sound : {G T E H : Type 0} → Table G T E H → List (Work G E H) �
 Sound {T = T} {E = E} a w t (goes es v) = (ts : List T) (fs : List E) → Derives a v ts fs → Derives a w (t ∷ ts) (es ++ fs)
 Sound a w t (refused es) = Unit {0}
 
-sound_saying : {G T E H : Type 0} (a : Table G T E H) (e : E) (w : List (Work G E H)) (t : T) (o : Turned G E H) → Sound a w t o → Sound a (saying e ∷ w) t (and_before e o)
-sound_saying a e w t b s = grind (arith, says)
-
 sound_leaving : {G T E H : Type 0} (a : Table G T E H) (g : G) (h : H) (w : List (Work G E H)) (t : T) (ps : List (Part G E)) (o : Turned G E H)
     → row_of (a.cases g) t ≡ Some (leaves ps) → Sound a (before a h t ps w) t o → Sound a (reading g h ∷ w) t o
-sound_leaving a g h w t ps (goes es v) p s = λ ts fs d. by_leaving ps p (s ts fs d)
-sound_leaving a g h w t ps (refused es) p s = tt
+sound_leaving a g h w t ps o p s = grind (arith, by_leaving)
 
 sound_row : {G T E H : Type 0} (a : Table G T E H) (g : G) (h : H) (w : List (Work G E H)) (t : T) (again : List (Work G E H) → Turned G E H) (r : Option (Row G E))
     → row_of (a.cases g) t ≡ r → ((v : List (Work G E H)) → Sound a v t (again v)) → Sound a (reading g h ∷ w) t (by_row a h t w again r)
-sound_row a g h w t again (Some (takes ps)) p s = λ ts fs d. by_taking ps p d
-sound_row a g h w t again (Some (leaves ps)) p s = sound_leaving a g h w t ps (again (before a h t ps w)) p (s (before a h t ps w))
-sound_row a g h w t again None p s = tt
+sound_row a g h w t again r p s = grind (arith, by_taking, sound_leaving)
 
 pub step_sound : {G T E H : Type 0} (a : Table G T E H) (n : ℕ) (w : List (Work G E H)) (t : T) → Sound a w t (step a n w t)
 step_sound a zero w t = tt
 step_sound a (suc n) [] t = tt
-step_sound a (suc n) (saying e ∷ w) t = sound_saying a e w t (step a n w t) (step_sound a n w t)
+step_sound a (suc n) (saying e ∷ w) t = let s = step_sound a n w t in grind (arith, says)
 step_sound a (suc n) (reading g h ∷ w) t = sound_row a g h w t (λ v. step a n v t) (row_of (a.cases g) t) refl (λ v. step_sound a n v t)
 
 -- ---- weights
@@ -35,9 +29,6 @@ step_sound a (suc n) (reading g h ∷ w) t = sound_row a g h w t (λ v. step a n
 abbrev pub Falls : {G T E H : Type 0} → Table G T E H → (G → ℕ) → Type 0
 Falls {G = G} {T = T} {E = E} a m = (g : G) (t : T) (ps : List (Part G E)) → row_of (a.cases g) t ≡ Some (leaves ps) → parts_weight m ps < m g
 
-part_weighs : {G T E H : Type 0} (a : Table G T E H) (m : G → ℕ) (h : H) (t : T) (p : Part G E) (w : List (Work G E H)) → work_weight m (part_work a h t p ∷ w) ≡ part_weight m p + work_weight m w
-part_weighs a m h t b w = grind arith
-
 pub parts_weigh : {G T E H : Type 0} (a : Table G T E H) (m : G → ℕ) (h : H) (t : T) (ps : List (Part G E)) (w : List (Work G E H)) → work_weight m (before a h t ps w) ≡ parts_weight m ps + work_weight m w
 parts_weigh a m h t [] w = omega arith
-parts_weigh a m h t (p ∷ ps) w = let i = parts_weigh a m h t ps w in let j = part_weighs a m h t p (before a h t ps w) in omega (arith, i, j)
+parts_weigh a m h t (p ∷ ps) w = let i = parts_weigh a m h t ps w in grind arith

@@ -23,6 +23,6 @@ all_stay = (
   (λ w taken t given x. look x t),
   (λ e w taken next given x. give x),
   (λ g h w taken t given ps r x. take x ps r),
-  (λ g h w taken t given ps r x. leave weight x grammar_completes ps r (leaving g t (leaves ps) r)),
+  (λ g h w taken t given ps r x. leave x weight grammar_completes ps r (leaving g t (leaves ps) r)),
   (λ g h w taken t given r x. refuse x grammar_completes (ended g h t r) r),
 )

@@ -25,116 +25,86 @@ EndsGoal {T = T} {E = E} a ends g h = (u : T) × (us : List T) × (es : List E) 
 
 -- ---- steps
 
-itself : {T : Type 0} (ends : T → Bool) (too : Bool) (t : T) (ts : List T) → MayBegin ends too (Some t) (t ∷ ts)
-itself a b t ts = grind arith
-
 pub starts : {G T E H : Type 0} (a : Table G T E H) (ends : T → Bool) (w : List (Work G E H)) → IsOnTrack a ends w w [] None []
 starts a ends w = record { too = true; sound = λ ts es b d. d; exact = λ ts es n d. (es, refl, d); safe = λ f. absurd (cc f) }
 
--- The next token is looked at.
-pub look : {G T E H : Type 0} {a : Table G T E H} {ends : T → Bool} {start w : List (Work G E H)} {taken : List T} {given : List E}
-    → IsOnTrack a ends start w taken None given → (t : T) → IsOnTrack a ends start w taken (Some t) given
-look x t = record { too = true; sound = λ ts es b d. x.sound ts es tt d; exact = λ ts es n d. x.exact ts es tt d; safe = λ f. absurd (cc f) }
+module _ {G T E H : Type 0} {a : Table G T E H} {ends : T → Bool} {start : List (Work G E H)} where
+  -- The next token is looked at.
+  pub look : {w : List (Work G E H)} {taken : List T} {given : List E} → IsOnTrack a ends start w taken None given → (t : T) → IsOnTrack a ends start w taken (Some t) given
+  look x t = record { too = true; sound = λ ts es b d. x.sound ts es tt d; exact = λ ts es n d. x.exact ts es tt d; safe = λ f. absurd (cc f) }
 
--- An event is given.
-goes_on_saying : {G T E H : Type 0} (a : Table G T E H) (e : E) (w : List (Work G E H)) (next : Option T) → GoesOn a (saying e ∷ w) next → GoesOn a w next
-goes_on_saying a e w b x = grind arith
+  -- An event is given.
+  pub give : {w : List (Work G E H)} {e : E} {taken : List T} {next : Option T} {given : List E}
+      → IsOnTrack a ends start (saying e ∷ w) taken next given → IsOnTrack a ends start w taken next (given ++ e ∷ [])
+  give {w} {e} {taken} {next} {given} x = record {
+    too = x.too;
+    sound = λ ts es b d. subst (λ l. Derives a start (taken ++ ts) l) (sym (append_assoc given (e ∷ []) es)) (x.sound ts (e ∷ es) b (says d));
+    exact = λ ts es n d. let y = x.exact ts es n d in let z = said_by y.2 in (z.0, y.1 ∙ ap (λ l. given ++ l) z.1 ∙ sym (append_assoc given (e ∷ []) z.0), z.2);
+    safe = λ f. let y = x.safe f in grind arith;
+  }
 
-pub give : {G T E H : Type 0} {a : Table G T E H} {ends : T → Bool} {start w : List (Work G E H)} {e : E} {taken : List T} {next : Option T} {given : List E}
-    → IsOnTrack a ends start (saying e ∷ w) taken next given → IsOnTrack a ends start w taken next (given ++ e ∷ [])
-give {a = a} {start = start} {w = w} {e = e} {taken = taken} {next = next} {given = given} x = record {
-  too = x.too;
-  sound = λ ts es b d. subst (λ l. Derives a start (taken ++ ts) l) (sym (append_assoc given (e ∷ []) es)) (x.sound ts (e ∷ es) b (says d));
-  exact = λ ts es n d. let y = x.exact ts es n d in let z = said_by y.2 in (z.0, y.1 ∙ ap (λ l. given ++ l) z.1 ∙ sym (append_assoc given (e ∷ []) z.0), z.2);
-  safe = λ f. goes_on_saying a e w next (x.safe f);
-}
-
--- A row takes the next token.
-pub take : {G T E H : Type 0} {a : Table G T E H} {ends : T → Bool} {start : List (Work G E H)} {g : G} {h : H} {w : List (Work G E H)} {taken : List T} {t : T}
-    {given : List E} → IsOnTrack a ends start (reading g h ∷ w) taken (Some t) given → (ps : List (Part G E)) → row_of (a.cases g) t ≡ Some (takes ps)
-    → IsOnTrack a ends start (before a h t ps w) (taken ++ t ∷ []) None given
-take {a = a} {ends = ends} {start = start} {taken = taken} {t = t} {given = given} x ps r = record {
-  too = true;
-  sound = λ ts es b d.
-      subst (λ l. Derives a start l (given ++ es)) (sym (append_assoc taken (t ∷ []) ts)) (x.sound (t ∷ ts) es (itself ends x.too t ts) (by_taking ps r d));
-  exact = λ ts es n d. let y = x.exact (t ∷ ts) es refl (subst (λ l. Derives a start l es) (append_assoc taken (t ∷ []) ts) d) in (y.0, y.1, taken_by y.2 ps r);
-  safe = λ f. absurd (cc f);
-}
-
--- A row leaves it.
-as_first : {G T E H : Type 0} {a : Table G T E H} {g : G} {h : H} {w : List (Work G E H)} {t u : T} {ts : List T} {es : List E} (ps : List (Part G E))
-    → row_of (a.cases g) t ≡ Some (leaves ps) → u ≡ t → Derives a (before a h t ps w) (u ∷ ts) es → Derives a (reading g h ∷ w) (u ∷ ts) es
-as_first {a = a} {g = g} {h = h} {w = w} {u = u} {ts = ts} {es = es} ps r e d =
-    by_leaving ps (ap (λ v. row_of (a.cases g) v) e ∙ r) (subst (λ v. Derives a (before a h v ps w) (u ∷ ts) es) (sym e) d)
-
-left_sound : {G T E H : Type 0} {a : Table G T E H} (ends : T → Bool) {g : G} {h : H} {w : List (Work G E H)} (t : T) (ps : List (Part G E)) (ts : List T)
-    {es : List E} (too : Bool)
-    → row_of (a.cases g) t ≡ Some (leaves ps) → HaveIt a ends g t ps → MayBegin ends too (Some t) ts → Derives a (before a h t ps w) ts es
-    → Derives a (reading g h ∷ w) ts es
-left_sound ends t ps [] too r l b d = absurd b
-left_sound ends t ps (u ∷ ts) true r l (inl e) d = as_first ps r e d
-left_sound {a = a} ends {h = h} {w = w} t ps (u ∷ ts) {es} true r l (inr e) d = let k = l u e in by_leaving ps k.0 (subst (λ v. Derives a v (u ∷ ts) es) (sym (k.1 h w)) d)
-left_sound ends t ps (u ∷ ts) false r l e d = as_first ps r e d
-
-left_alone : {G T E H : Type 0} {a : Table G T E H} (ends : T → Bool) {g : G} {h : H} {w : List (Work G E H)} (t : T) (ps : List (Part G E)) (ts : List T)
-    {es : List E}
-    → row_of (a.cases g) t ≡ Some (leaves ps) → MayBegin ends false (Some t) ts → Derives a (before a h t ps w) ts es → Derives a (reading g h ∷ w) ts es
-left_alone ends t ps [] r b d = absurd b
-left_alone ends t ps (u ∷ ts) r e d = as_first ps r e d
-
--- with the token alone, too
-alone : {T : Type 0} (ends : T → Bool) (too : Bool) (t : T) (ts : List T) → MayBegin ends false (Some t) ts → MayBegin ends too (Some t) ts
-alone a too t b d = grind arith
-
-left_exact : {G T E H : Type 0} {a : Table G T E H} {ends : T → Bool} {start : List (Work G E H)} {g : G} {h : H} {w : List (Work G E H)} {taken : List T}
-    {t : T} {given : List E} → IsOnTrack a ends start (reading g h ∷ w) taken (Some t) given → (ps : List (Part G E)) → row_of (a.cases g) t ≡ Some (leaves ps)
-    → (ts : List T) (es : List E) → IsNext (Some t) ts → Derives a start (taken ++ ts) es
-    → (fs : List E) × (es ≡ given ++ fs) × Derives a (before a h t ps w) ts fs
-left_exact x ps r [] es n d = absurd n
-left_exact {a = a} {g = g} {h = h} {w = w} {t = t} x ps r (u ∷ ts) es n d =
-    let y = x.exact (u ∷ ts) es n d in
-    let z : Derives a (reading g h ∷ w) (t ∷ ts) y.0 = subst (λ v. Derives a (reading g h ∷ w) (v ∷ ts) y.0) n y.2 in
-    (y.0, y.1, subst (λ v. Derives a (before a h t ps w) (v ∷ ts) y.0) (sym n) (left_by z ps r))
-
--- work whose turn does not refuse a token goes on with it
-not_refused : {G T E H : Type 0} (a : Table G T E H) (m : G → ℕ) (w : List (Work G E H)) (t : T) (o : Turned G E H) → Completes a → Sound a w t o
-    → ((es : List E) → o ≡ refused es → ⊥) → GoesOn a w (Some t)
-not_refused a m w t (goes es v) c s n = let k = all_complete a c v in (k.0, es ++ k.1, s k.0 k.1 k.2)
-not_refused a m w t (refused es) c s n = absurd (n es refl)
-
-pub leave : {G T E H : Type 0} {a : Table G T E H} (m : G → ℕ) {ends : T → Bool} {start : List (Work G E H)} {g : G} {h : H} {w : List (Work G E H)}
-    {taken : List T} {t : T} {given : List E}
-    → IsOnTrack a ends start (reading g h ∷ w) taken (Some t) given → Completes a → (ps : List (Part G E)) → row_of (a.cases g) t ≡ Some (leaves ps)
-    → LeavingRow a m ends g t (leaves ps) → IsOnTrack a ends start (before a h t ps w) taken (Some t) given
-leave m {ends = ends} {t = t} x c ps r (inl l) = record {
-  too = x.too;
-  sound = λ ts es b d. x.sound ts es b (left_sound ends t ps ts x.too r l b d);
-  exact = λ ts es n d. left_exact x ps r ts es n d;
-  safe = λ f. let y = x.safe f in (y.0, y.1, left_by y.2 ps r);
-}
-leave {a = a} m {ends = ends} {h = h} {w = w} {t = t} x c ps r (inr l) =
-    let v = before a h t ps w in
-    let n = suc (work_weight m v) in
-    record {
-      too = false;
-      sound = λ ts es b d. x.sound ts es (alone ends x.too t ts b) (left_alone ends t ps ts r b d);
-      exact = λ ts es k d. left_exact x ps r ts es k d;
-      safe = λ f. not_refused a m v t (step a n v t) c (step_sound a n v t) (λ es p. l n h w es (omega arith) p);
+  module _ {g : G} {h : H} {w : List (Work G E H)} {taken : List T} {t : T} {given : List E} (x : IsOnTrack a ends start (reading g h ∷ w) taken (Some t) given) where
+    -- A row takes the next token.
+    pub take : (ps : List (Part G E)) → row_of (a.cases g) t ≡ Some (takes ps) → IsOnTrack a ends start (before a h t ps w) (taken ++ t ∷ []) None given
+    take ps r = record {
+      too = true;
+      sound = λ ts es b d.
+          subst (λ l. Derives a start l (given ++ es)) (sym (append_assoc taken (t ∷ []) ts)) (x.sound (t ∷ ts) es (grind arith) (by_taking ps r d));
+      exact = λ ts es n d. let y = x.exact (t ∷ ts) es refl (subst (λ l. Derives a start l es) (append_assoc taken (t ∷ []) ts) d) in (y.0, y.1, taken_by y.2 ps r);
+      safe = λ f. absurd (cc f);
     }
 
--- ---- refusals
+    -- A row leaves it.
+    as_first : {u : T} {ts : List T} {es : List E} (ps : List (Part G E)) → row_of (a.cases g) t ≡ Some (leaves ps) → u ≡ t
+        → Derives a (before a h t ps w) (u ∷ ts) es → Derives a (reading g h ∷ w) (u ∷ ts) es
+    as_first {u} {ts} {es} ps r e d = by_leaving ps (ap (λ v. row_of (a.cases g) v) e ∙ r) (subst (λ v. Derives a (before a h v ps w) (u ∷ ts) es) (sym e) d)
 
--- No row is for the next token: no stream begins so, but one begins with the tokens before and with the events that were given.
-pub refuse : {G T E H : Type 0} {a : Table G T E H} {ends : T → Bool} {start : List (Work G E H)} {g : G} {h : H} {w : List (Work G E H)} {taken : List T}
-    {t : T} {given : List E} → IsOnTrack a ends start (reading g h ∷ w) taken (Some t) given → Completes a → EndsGoal a ends g h → row_of (a.cases g) t ≡ None
-    → Begins a start taken given × NeverGoesOn a start taken t
-refuse {a = a} {ends = ends} {start = start} {g = g} {h = h} {w = w} {taken = taken} {t = t} {given = given} x c e r =
-    (begun x.too refl, λ ts es d. let y = x.exact (t ∷ ts) es refl d in none_by y.2 r)
-  where
-    begun : (b : Bool) → x.too ≡ b → Begins a start taken given
-    begun true p =
-        let k = all_complete a c w in
-        let d = along a (reading g h ∷ []) w (e.0 ∷ e.1) k.0 e.2 k.1 e.4 k.2 in
-        let b : MayBegin ends x.too (Some t) (e.0 ∷ (e.1 ++ k.0)) = subst (λ z. MayBegin ends z (Some t) (e.0 ∷ (e.1 ++ k.0))) (sym p) (inr e.3) in
-        (e.0 ∷ (e.1 ++ k.0), e.2 ++ k.1, x.sound (e.0 ∷ (e.1 ++ k.0)) (e.2 ++ k.1) b d)
-    begun false p = let y = x.safe p in absurd (none_by y.2 r)
+    left_sound : (ps : List (Part G E)) (ts : List T) {es : List E} (too : Bool) → row_of (a.cases g) t ≡ Some (leaves ps) → (too ≡ true → HaveIt a ends g t ps)
+        → MayBegin ends too (Some t) ts → Derives a (before a h t ps w) ts es → Derives a (reading g h ∷ w) ts es
+    left_sound ps [] too r l b d = absurd b
+    left_sound ps (u ∷ ts) true r l (inl e) d = as_first ps r e d
+    left_sound ps (u ∷ ts) {es} true r l (inr e) d = let k = l refl u e in by_leaving ps k.0 (subst (λ v. Derives a v (u ∷ ts) es) (sym (k.1 h w)) d)
+    left_sound ps (u ∷ ts) false r l e d = as_first ps r e d
+
+    left_exact : (ps : List (Part G E)) → row_of (a.cases g) t ≡ Some (leaves ps) → (ts : List T) (es : List E) → IsNext (Some t) ts
+        → Derives a start (taken ++ ts) es → (fs : List E) × (es ≡ given ++ fs) × Derives a (before a h t ps w) ts fs
+    left_exact ps r [] es n d = absurd n
+    left_exact ps r (u ∷ ts) es n d =
+        let y = x.exact (u ∷ ts) es n d in
+        let z : Derives a (reading g h ∷ w) (t ∷ ts) y.0 = subst (λ v. Derives a (reading g h ∷ w) (v ∷ ts) y.0) n y.2 in
+        (y.0, y.1, subst (λ v. Derives a (before a h t ps w) (v ∷ ts) y.0) (sym n) (left_by z ps r))
+
+    -- work whose turn does not refuse the token goes on with it
+    not_refused : (v : List (Work G E H)) (o : Turned G E H) → Completes a → Sound a v t o → ((es : List E) → o ≡ refused es → ⊥) → GoesOn a v (Some t)
+    not_refused v (goes es u) c s n = let k = all_complete a c u in (k.0, es ++ k.1, s k.0 k.1 k.2)
+    not_refused v (refused es) c s n = absurd (n es refl)
+
+    pub leave : (m : G → ℕ) → Completes a → (ps : List (Part G E)) → row_of (a.cases g) t ≡ Some (leaves ps) → LeavingRow a m ends g t (leaves ps)
+        → IsOnTrack a ends start (before a h t ps w) taken (Some t) given
+    leave m c ps r (inl l) = record {
+      too = x.too;
+      sound = λ ts es b d. x.sound ts es b (left_sound ps ts x.too r (λ e. l) b d);
+      exact = λ ts es n d. left_exact ps r ts es n d;
+      safe = λ f. let y = x.safe f in (y.0, y.1, left_by y.2 ps r);
+    }
+    leave m c ps r (inr l) =
+        let v = before a h t ps w in
+        let n = suc (work_weight m v) in
+        record {
+          too = false;
+          sound = λ ts es b d. x.sound ts es (grind arith) (left_sound ps ts false r (λ e. cc e) b d);
+          exact = λ ts es k d. left_exact ps r ts es k d;
+          safe = λ f. not_refused v (step a n v t) c (step_sound a n v t) (λ es p. l n h w es (omega arith) p);
+        }
+
+    -- No row is for the next token: no stream begins so, but one begins with the tokens before and with the events that were given.
+    pub refuse : Completes a → EndsGoal a ends g h → row_of (a.cases g) t ≡ None → Begins a start taken given × NeverGoesOn a start taken t
+    refuse c e r = (begun x.too refl, λ ts es d. let y = x.exact (t ∷ ts) es refl d in none_by y.2 r)
+      where
+        begun : (b : Bool) → x.too ≡ b → Begins a start taken given
+        begun true p =
+            let k = all_complete a c w in
+            let d = along a (reading g h ∷ []) w (e.0 ∷ e.1) k.0 e.2 k.1 e.4 k.2 in
+            let b : MayBegin ends x.too (Some t) (e.0 ∷ (e.1 ++ k.0)) = subst (λ z. MayBegin ends z (Some t) (e.0 ∷ (e.1 ++ k.0))) (sym p) (inr e.3) in
+            (e.0 ∷ (e.1 ++ k.0), e.2 ++ k.1, x.sound (e.0 ∷ (e.1 ++ k.0)) (e.2 ++ k.1) b d)
+        begun false p = let y = x.safe p in absurd (none_by y.2 r)
