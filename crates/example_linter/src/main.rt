@@ -4,9 +4,9 @@
 
 use std::process::ExitCode;
 use std::{env, fs, io};
-use yaml_excerpt::Excerpt;
 use yaml_loader::marked::{Marked, load_marked};
 use yaml_rust2::scanner::Marker;
+use yaml_tokens::Excerpt;
 
 #[derive(Drop)]
 struct Linter<'a> {

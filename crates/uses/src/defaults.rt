@@ -8,10 +8,10 @@ ghost use Rattle.yaml_paths.specs.Path.{steps_of};
 
 use std::alloc::{AllocError, Global};
 use thiserror::Error;
-use yaml_excerpt::Excerpt;
 use yaml_loader::marked::{Marked, load_marked};
 use yaml_paths::{FromYaml, ReadError, Step, marked};
 use yaml_rust2::ScanError;
+use yaml_tokens::Excerpt;
 
 #[cfg(test)]
 mod tests;

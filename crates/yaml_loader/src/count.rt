@@ -11,7 +11,7 @@ use crate::limits::Limits;
 use std::alloc::{AllocError, Global};
 use std::collections::BTreeMap;
 use yaml_parser::{Event, Tag};
-use yaml_scanner_state::Stack;
+use yaml_scanner::Stack;
 
 /// An open collection: its anchor's number, and how large it is so far.
 #[derive(Clone, Copy, Debug)]

@@ -80,7 +80,7 @@ pub use Rattle.yaml_parser.specs.declared.tokens.KeptStop.{KeptStop}
 pub use Rattle.yaml_parser.specs.declared.tokens.Stop.{Stop}
 pub use Rattle.yaml_parser.specs.declared.tokens.Tokens.{Tokens}
 pub use Rattle.yaml_scanner.specs.Scanned.{HandsOut, Scanned, scanned}
-pub use Rattle.yaml_scanner_state.specs.Tokens.{is_end}
+pub use Rattle.yaml_scanner.specs.Tokens.{is_end}
 pub use Rattle.yaml_tokens.specs.ErrorReport.{ErrorReport}
 pub use Rattle.yaml_tokens.specs.Shown.{all_shown, shown, tok_of}
 pub use Rattle.yaml_tokens.specs.declared.problem.Fault.TheVariants.{OutOfMemory}

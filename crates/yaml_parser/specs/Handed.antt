@@ -6,7 +6,7 @@ use Rattle.defs_token.specs.Token.{Tok}
 use Rattle.yaml_tokens.specs.declared.token.Token.{Token}
 use Rattle.yaml_tokens.specs.Shown.{shown, all_shown, tok_of}
 use Rattle.yaml_scanner.specs.Scanned.{Scanned, scanned}
-use Rattle.yaml_scanner_state.specs.Tokens.{is_end}
+use Rattle.yaml_scanner.specs.Tokens.{is_end}
 use Rattle.defs_token.specs.Toks.{toks}
 use Rattle.yaml_parser.specs.declared.tokens.Tokens.{Tokens}
 

@@ -44,11 +44,11 @@ pub use Rattle.yaml_scanner.specs.Shape.{held, state}
 pub use Rattle.yaml_scanner.specs.Work.{Fetches, Moves, work}
 pub use Rattle.yaml_scanner.specs.declared.fetcher.Fetcher.{Fetcher}
 pub use Rattle.yaml_scanner.specs.declared.fetcher.KeptFault.{KeptFault}
-pub use Rattle.yaml_scanner_state.proofs.KeyLemmas.{none_front, none_lowered, with_top_seen}
-pub use Rattle.yaml_scanner_state.specs.ImplicitKeys.{is_front, lowered, no_implicit, seen}
-pub use Rattle.yaml_scanner_state.specs.Levels.{Columns, ends_open, value_level}
-pub use Rattle.yaml_scanner_state.specs.Tokens.{handed, has_end, is_end, key_tokens, Tokens, waiting}
-pub use Rattle.yaml_scanner_state.specs.declared.keys.ImplicitKey.{ImplicitKey}
+pub use Rattle.yaml_scanner.proofs.KeyLemmas.{none_front, none_lowered, with_top_seen}
+pub use Rattle.yaml_scanner.specs.ImplicitKeys.{is_front, lowered, no_implicit, seen}
+pub use Rattle.yaml_scanner.specs.Levels.{Columns, ends_open, value_level}
+pub use Rattle.yaml_scanner.specs.Tokens.{handed, has_end, is_end, key_tokens, Tokens, waiting}
+pub use Rattle.yaml_scanner.specs.declared.keys.ImplicitKey.{ImplicitKey}
 pub use Rattle.yaml_tokens.specs.ErrorReport.{ErrorReport}
 pub use Rattle.yaml_tokens.specs.declared.problem.Fault.{Fault}
 pub use Rattle.yaml_tokens.specs.declared.problem.Fault.TheVariants.{At, OutOfMemory}

@@ -8,9 +8,9 @@ use Rattle.model_scanner.proofs.Ends.{end_is_last}
 use Rattle.yaml_scanner.specs.declared.fetcher.Backlog.{Backlog}
 use Rattle.yaml_scanner.specs.Rowless.{HasNoRow}
 use Rattle.yaml_scanner.specs.Waits.{comes_before}
-use Rattle.yaml_scanner_state.proofs.GivenLemmas.{lowered_seen}
+use Rattle.yaml_scanner.proofs.GivenLemmas.{lowered_seen}
 use Rattle.yaml_scanner.proofs.WhereLemmas.{in_text, at_end, not_started, has_started}
-use Rattle.yaml_scanner_state.proofs.QueueLemmas.{has_end_append}
+use Rattle.yaml_scanner.proofs.QueueLemmas.{has_end_append}
 use Rattle.defs_token.specs.Cut.{IsCut, IsCutOfBeginning, tokens_of, end_token}
 use Rattle.proof_scanner.proofs.Cut.Scalars.{same_number}
 use Rattle.proof_scanner.proofs.Cut.Faults.Fetches.{faults_stand}

@@ -1,15 +1,20 @@
 pub mod BlockLemmas
+mod Common
 pub mod FirstFetch
-pub mod ReadsLemmas
-pub mod WhereLemmas
 pub mod FollowLemmas
+pub mod GivenLemmas
 pub mod HeldLemmas
-pub mod NodeLemmas
-pub mod RunsLemmas
-pub mod SpaceLemmas
-pub mod PairTexts
-pub mod PairFetches
-pub mod PairFollows
+pub mod KeyLemmas
+pub mod LevelLemmas
 pub mod NodeFetches
 pub mod NodeFollows
-mod Common
+pub mod NodeLemmas
+pub mod PairFetches
+pub mod PairFollows
+pub mod PairTexts
+pub mod QueueLemmas
+pub mod ReadsLemmas
+pub mod RunsLemmas
+pub mod SpaceLemmas
+pub mod StackLemmas
+pub mod WhereLemmas

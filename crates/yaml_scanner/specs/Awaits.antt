@@ -4,10 +4,10 @@ use Rattle.defs_text.specs.Position.{Position}
 use Rattle.defs_token.specs.Token.{Tok, Token}
 use Rattle.model_scanner.specs.State.{token}
 use Rattle.model_scanner.specs.Keys.{top_needs_block_end}
-use Rattle.yaml_scanner_state.specs.ImplicitKeys.{no_implicit}
+use Rattle.yaml_scanner.specs.ImplicitKeys.{no_implicit}
 use Rattle.model_scanner.specs.Indents.{level, without_open}
-use Rattle.yaml_scanner_state.specs.Levels.{Columns, ends_open, value_level}
-use Rattle.yaml_scanner_state.specs.Tokens.{handed, waiting}
+use Rattle.yaml_scanner.specs.Levels.{Columns, ends_open, value_level}
+use Rattle.yaml_scanner.specs.Tokens.{handed, waiting}
 use Rattle.yaml_scanner.specs.declared.fetcher.Fetcher.{Fetcher}
 
 -- inside the stream, outside flow, no fault is kept and nothing may be a key

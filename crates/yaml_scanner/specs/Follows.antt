@@ -9,8 +9,8 @@ use Rattle.yaml_tokens.specs.declared.problem.Fault.TheVariants.{OutOfMemory}
 use Rattle.model_scanner.specs.State.{Key, ScannerState}
 use Rattle.model_scanner.specs.Run.{Reaches, HasTokens, IsRefused, start}
 use Rattle.yaml_scanner.specs.declared.fetcher.Fetcher.{Fetcher}
-use Rattle.yaml_scanner_state.specs.ImplicitKeys.{is_front}
-use Rattle.yaml_scanner_state.specs.Tokens.{handed, has_end, waiting}
+use Rattle.yaml_scanner.specs.ImplicitKeys.{is_front}
+use Rattle.yaml_scanner.specs.Tokens.{handed, has_end, waiting}
 use Rattle.yaml_scanner.specs.Shape.{state}
 use Rattle.yaml_scanner.specs.Waits.{Waits, comes_before}
 

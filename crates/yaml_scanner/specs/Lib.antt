@@ -1,10 +1,13 @@
 pub mod Awaits
 pub mod Fetched
 pub mod Follows
+pub mod ImplicitKeys
+pub mod Levels
 pub mod Next
 pub mod Rowless
 pub mod Runs
 pub mod Scanned
 pub mod Shape
+pub mod Tokens
 pub mod Waits
 pub mod Work

@@ -19,7 +19,7 @@ use Rattle.yaml_scanner.specs.declared.fetcher.KeptFault.{KeptFault}
 use Rattle.yaml_scanner.specs.Follows.{BeginsWith, IsReached, AreSettled}
 use Rattle.yaml_scanner.specs.Rowless.{HasNoRow}
 use Rattle.yaml_scanner.specs.Waits.{Waits}
-use Rattle.yaml_scanner_state.specs.Tokens.{handed, waiting, is_end}
+use Rattle.yaml_scanner.specs.Tokens.{handed, waiting, is_end}
 use Rattle.yaml_scanner.specs.Work.{work}
 
 pub record Scanned : Type 0 where

@@ -3,7 +3,7 @@ use Rattle.std.specs.Prelude.{ℕ, List}
 use Rattle.yaml_chars.specs.WindowView.{position_of}
 use Rattle.model_scanner.specs.State.{Held, ScannerState}
 use Rattle.yaml_scanner.specs.declared.fetcher.Fetcher.{Fetcher}
-use Rattle.yaml_scanner_state.specs.ImplicitKeys.{seen}
+use Rattle.yaml_scanner.specs.ImplicitKeys.{seen}
 
 abbrev pub held : {T : Type 0} → Fetcher T → Held
 held s = record {

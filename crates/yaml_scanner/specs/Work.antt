@@ -2,7 +2,7 @@
 -- what the characters to come may bring.
 use Rattle.std.specs.Prelude.{◌≡◌, ℕ, ◌+◌, ◌*◌, ◌≤◌, Bool, length, if◌then◌else◌}
 use Rattle.yaml_chars.specs.WindowView.{WindowView}
-use Rattle.yaml_scanner_state.specs.Tokens.{waiting, handed}
+use Rattle.yaml_scanner.specs.Tokens.{waiting, handed}
 use Rattle.yaml_scanner.specs.declared.fetcher.Fetcher.{Fetcher}
 
 abbrev pub unset : Bool → ℕ

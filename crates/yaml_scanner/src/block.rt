@@ -7,14 +7,14 @@ ghost use Rattle.model_scanner.specs.Keys.{top_key};
 ghost use Rattle.model_scanner.specs.Block.{check_block_entry, pass_dash, roll_entry, begin_entry, fetch_block_entry, begin_key, pass_key, check_key_space, fetch_key, check_value_space, opens_pair, paired, insert_key, begin_keyless_pair, begin_keyless_mapping, begin_keyless_value, value_of, fetch_value};
 ghost use Rattle.yaml_scanner.specs.Runs.{Becomes, Front, Runs, Steps, Turns};
 ghost use Rattle.yaml_scanner.specs.Shape.{held};
-ghost use Rattle.yaml_scanner_state.specs.ImplicitKeys.{keyed_by};
+ghost use Rattle.yaml_scanner.specs.ImplicitKeys.{keyed_by};
 
+use crate::ImplicitKey;
 use crate::fetcher::{Failed, Fetcher};
 use model_scanner::{Collection, FlowLevel};
 use yaml_chars::class::{is_alpha, is_blank_or_breakz, is_break, is_flow};
 use yaml_chars::{Characters, Marker};
 use yaml_lexers::SkipTabs;
-use yaml_scanner_state::ImplicitKey;
 use yaml_tokens::{Fault, Problem, Token, TokenType};
 
 /// Whether a character after a `-` is a break or a flow indicator.
@@ -211,7 +211,7 @@ impl<T: Characters> Fetcher<T> {
 
     /// Gives the key that began without `?` its token, and its mapping a start if the key is the first. In a flow sequence a pair
     /// begins before the key.
-    #[tactic(auto, using(yaml_scanner_state::proofs::KeyLemmas::with_top_seen), unfolding(model_scanner::specs::Block::insert_key, model_scanner::specs::Block::begin_pair))]
+    #[tactic(auto, using(crate::proofs::KeyLemmas::with_top_seen), unfolding(model_scanner::specs::Block::insert_key, model_scanner::specs::Block::begin_pair))]
     fn insert_key(&mut self, key: ImplicitKey, mark: Marker, opens_pair: bool) -> Result<(), Failed>
         ensures { Steps (insert_key (keyed_by self.old.tokens.given key) mark opens_pair) self.old result self.new 5 }
     {

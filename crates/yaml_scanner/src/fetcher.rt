@@ -1,10 +1,10 @@
 ghost use Rattle.std.specs.Prelude.{◌≡◌, ◌^◌, ◌<◌, [], None, false};
 ghost use Rattle.std.specs.Iterator.{IsFinite, size};
 
+use crate::{ImplicitKeys, Levels, Queue, Stack};
 use model_scanner::FlowLevel;
 use std::alloc::Global;
 use yaml_chars::{Characters, Marker, Window};
-use yaml_scanner_state::{ImplicitKeys, Levels, Queue, Stack};
 use yaml_tokens::{Fault, Problem};
 
 /// A fault that is kept, and the position where the scanner stood.
@@ -59,7 +59,7 @@ pub struct Failed;
 impl<T: Characters> Fetcher<T> {
     ghost use Rattle.model_scanner.specs.Run.{nothing_held};
     ghost use Rattle.yaml_scanner.specs.Shape.{held};
-    ghost use Rattle.yaml_scanner_state.specs.Tokens.{handed};
+    ghost use Rattle.yaml_scanner.specs.Tokens.{handed};
     ghost use Rattle.yaml_scanner.specs.Follows.{Follows};
     ghost use Rattle.yaml_scanner.specs.Runs.{Holds};
     ghost use Rattle.yaml_chars.specs.WindowView.{position_of};

@@ -4,9 +4,9 @@ ghost use Rattle.std.specs.List.{list_any};
 ghost use Rattle.defs_text.specs.Position.{Position};
 ghost use Rattle.yaml_tokens.specs.Shown.{shown};
 ghost use Rattle.yaml_scanner.specs.Follows.{Follows, IsShort};
-ghost use Rattle.yaml_scanner_state.specs.ImplicitKeys.{is_front};
+ghost use Rattle.yaml_scanner.specs.ImplicitKeys.{is_front};
 ghost use Rattle.yaml_scanner.specs.Scanned.{inside, kept_fault, HandsOut};
-ghost use Rattle.yaml_scanner_state.specs.Tokens.{waiting, handed};
+ghost use Rattle.yaml_scanner.specs.Tokens.{waiting, handed};
 ghost use Rattle.yaml_scanner.specs.Work.{Fetches, Fills, work};
 ghost use Rattle.yaml_scanner.specs.declared.fetcher.Backlog.{Backlog};
 

@@ -107,7 +107,7 @@ impl<T: Characters> Fetcher<T> {
     }
 
     /// Ends the innermost flow collection.
-    #[tactic(auto, using(yaml_scanner_state::proofs::KeyLemmas::pop_seen), unfolding(model_scanner::specs::Flow::end_flow, model_scanner::specs::Flow::decrease_flow_level))]
+    #[tactic(auto, using(crate::proofs::KeyLemmas::pop_seen), unfolding(model_scanner::specs::Flow::end_flow, model_scanner::specs::Flow::decrease_flow_level))]
     fn end_flow(&mut self) -> Result<(), Failed>
         ensures { Steps end_flow self.old result self.new 1 }
     {

@@ -3,15 +3,15 @@ ghost use Rattle.model_scanner.specs.State.{in_flow, token};
 ghost use Rattle.model_scanner.specs.Keys.{save_implicit_key, remove_implicit_key, stale};
 ghost use Rattle.model_scanner.specs.Indents.{roll_indent, drop_open_level, roll_one_col_indent, unroll_indent, unroll_non_block_indents};
 ghost use Rattle.model_scanner.specs.Kinds.{block_start};
-ghost use Rattle.yaml_scanner_state.specs.Levels.{ends_open};
+ghost use Rattle.yaml_scanner.specs.Levels.{ends_open};
 ghost use Rattle.yaml_scanner.specs.Runs.{Becomes, Steps, Turns};
 ghost use Rattle.yaml_scanner.specs.Shape.{held};
-ghost use Rattle.yaml_scanner_state.specs.ImplicitKeys.{number_of};
+ghost use Rattle.yaml_scanner.specs.ImplicitKeys.{number_of};
 
+use crate::ImplicitKey;
 use crate::fetcher::{Failed, Fetcher};
 use model_scanner::Collection;
 use yaml_chars::{Characters, Marker};
-use yaml_scanner_state::ImplicitKey;
 use yaml_tokens::{Fault, Problem, Token, TokenType};
 
 impl<T: Characters> Fetcher<T> {
@@ -23,7 +23,7 @@ impl<T: Characters> Fetcher<T> {
 
     /// Notes that the next token may be a key, if one is allowed.
     #[inline(always)]
-    #[tactic(auto, using(yaml_scanner_state::proofs::KeyLemmas::with_top_seen), unfolding(model_scanner::specs::Keys::save_implicit_key, model_scanner::specs::Keys::must_be_key))]
+    #[tactic(auto, using(crate::proofs::KeyLemmas::with_top_seen), unfolding(model_scanner::specs::Keys::save_implicit_key, model_scanner::specs::Keys::must_be_key))]
     pub(crate) fn save_implicit_key(&mut self)
         ensures { Turns save_implicit_key self.old self.new }
     {

@@ -8,7 +8,7 @@ ghost use Rattle.yaml_scanner.specs.Awaits.{AwaitsNode, StandsAt};
 ghost use Rattle.yaml_scanner.specs.Fetched.{Fetched, fetch_rest, with_key};
 ghost use Rattle.yaml_scanner.specs.Runs.{Becomes};
 ghost use Rattle.yaml_scanner.specs.Work.{Fetches, Moves};
-ghost use Rattle.yaml_scanner_state.specs.Tokens.{waiting};
+ghost use Rattle.yaml_scanner.specs.Tokens.{waiting};
 
 use crate::fetcher::{Failed, Fetcher};
 use model_scanner::Collection;

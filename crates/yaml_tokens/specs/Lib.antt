@@ -1,5 +1,7 @@
 pub mod ErrorReport
+pub mod Excerpt
 pub mod FaultLaws
 pub mod Info
 pub mod Problem
 pub mod Shown
+pub mod ShownLine

@@ -1,10 +1,13 @@
 //! Tokens, and the faults of scanner, parser and loader.
 #![tactic(auto)]
 
+mod excerpt;
 pub mod fault;
+mod line;
 pub mod problem;
 pub mod token;
 
+pub use excerpt::Excerpt;
 pub use fault::{ScanError, ScanResult};
 pub use problem::{Fault, Problem};
 pub use token::{Chomping, TEncoding, TScalarStyle, Token, TokenType};

@@ -8,9 +8,9 @@ use std::io;
 use std::io::Write;
 use yaml_chars::Marker;
 use yaml_encoding::{Stop, YAMLDecodingTrap, text_of};
-use yaml_excerpt::Excerpt;
 use yaml_loader::limits::{Limits, LimitsError, load_with_limits};
 use yaml_programs::{Bounds, FileProgram, MAX_LEVELS, MAX_SIZE, NO_LIMITS, Program};
+use yaml_tokens::Excerpt;
 
 const PROGRAM: Program = Program {
     name: "yamlcheck",

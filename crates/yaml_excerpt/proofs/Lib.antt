@@ -1,3 +1,0 @@
-mod LineLemmas
-mod WriteLemmas
-mod ShownLemmas

@@ -1,2 +1,0 @@
-pub mod Excerpt
-pub mod Shown

@@ -1,0 +1,117 @@
+-- Lemmas about the queue of tokens.
+use Rattle.std.proofs.Common.{◌≡◌, ℕ, ◌+◌, ◌-◌, Bool, true, false, ◌||◌, List, [], ◌∷◌, ◌++◌, map, length, take, drop, refl, ap, sym, ◌∙◌, append_assoc, append-nil, arith, length-append, ◌≤◌, suc}
+use Rattle.std.proofs.lemmas.List.{map-append, take-map, drop-map, take_all, drop_all, take-append-drop}
+use Rattle.std.proofs.lemmas.List.Edits.{insert-append_right}
+use Rattle.std.specs.List.{insert}
+use Rattle.yaml_tokens.specs.declared.token.Token.{Token}
+use Rattle.yaml_tokens.specs.Shown.{shown, tok_of}
+use Rattle.yaml_scanner.specs.Tokens.{is_end, has_end, end_at}
+use Rattle.defs_text.specs.Position.{Position}
+use Rattle.defs_token.specs.Token as seen
+
+length_shown : (w : List Token) → length (map shown w) ≡ length w
+length_shown [] = refl
+length_shown (t ∷ w) = ap suc (length_shown w)
+
+pub waiting_len : (g w : List Token) → length g + length w ≡ length (map shown g ++ map shown w)
+waiting_len g w = simp (length-append, length_shown) refl
+
+pub push_shown : (g w v : List Token) (t : Token) → v ≡ w ++ t ∷ [] → map shown g ++ map shown v ≡ (map shown g ++ map shown w) ++ shown t ∷ []
+push_shown g w v t e = rw (e, map-append shown w (t ∷ [])) (sym (append_assoc (map shown g) (map shown w) (shown t ∷ [])))
+
+pub one_shown : (g h : List Token) (t : Token) → h ≡ g ++ t ∷ [] → map shown h ≡ map shown g ++ shown t ∷ []
+one_shown g h t e = rw (e, map-append shown g (t ∷ [])) refl
+
+map_insert : (w : List Token) (i : ℕ) (t : Token) → map shown (insert w i t) ≡ insert (map shown w) i (shown t)
+map_insert w i t = rw (take-map shown i w, drop-map shown i w) (map-append shown (take i w) (t ∷ drop i w))
+
+minus : (n i : ℕ) → i ≡ n + i - n
+minus n i = omega arith
+
+pub insert_shown : (g w v : List Token) (i : ℕ) (t : Token) → v ≡ insert w i t → map shown g ++ map shown v ≡ insert (map shown g ++ map shown w) (length g + i) (shown t)
+insert_shown g w v i t e = rw (e, map_insert w i t) (ap (λ x. map shown g ++ insert (map shown w) x (shown t)) (minus (length g) i) ∙ sym (insert-append_right (map shown g) (map shown w) (length g) (length g + i) (shown t) (length_shown g) (omega arith)))
+
+pub give_shown : (g h w v : List Token) (t : Token) → w ≡ t ∷ v → h ≡ g ++ t ∷ [] → map shown h ++ map shown v ≡ map shown g ++ map shown w
+give_shown g h w v t e f = rw (e, f, map-append shown g (t ∷ [])) (append_assoc (map shown g) (shown t ∷ []) (map shown v))
+
+pub give_len : (g h : List Token) (t : Token) → h ≡ g ++ t ∷ [] → length h ≡ length g + 1
+give_len g h t e = rw e (simp length-append refl)
+
+or_true : (b : Bool) → b || true ≡ true
+or_true true = refl
+or_true false = refl
+
+pub has_end_append : (ts us : List seen.Token) → has_end (ts ++ us) ≡ has_end ts || has_end us
+has_end_append [] us = refl
+has_end_append (t ∷ ts) us = or_of (is_end t.tok) (has_end (ts ++ us)) (has_end ts) (has_end us) (has_end_append ts us)
+  where
+    or_of : (a b c d : Bool) → b ≡ c || d → a || b ≡ (a || c) || d
+    or_of true b c d e = refl
+    or_of false b c d e = e
+
+-- the end still waits after a push
+pub push_keeps : (w v : List Token) (t : Token) → v ≡ w ++ t ∷ [] → has_end (map shown w) ≡ true → has_end (map shown v) ≡ true
+push_keeps w v t e h = rw (e, map-append shown w (t ∷ []), has_end_append (map shown w) (map shown (t ∷ [])), h) refl
+
+-- and after an insertion
+pub insert_keeps : (w v : List Token) (i : ℕ) (t : Token) → v ≡ insert w i t → has_end (map shown w) ≡ true → has_end (map shown v) ≡ true
+insert_keeps w v i t e h =
+    let parts : has_end (map shown (take i w)) || has_end (map shown (drop i w)) ≡ true =
+    sym (ap (λ xs. has_end (map shown xs)) (sym (take-append-drop i w)) ∙ ap has_end (map-append shown (take i w) (drop i w)) ∙ has_end_append (map shown (take i w)) (map shown (drop i w))) ∙ h in
+    rw (e, map-append shown (take i w) (t ∷ drop i w), has_end_append (map shown (take i w)) (map shown (t ∷ drop i w))) (between (has_end (map shown (take i w))) (is_end (shown t).tok) (has_end (map shown (drop i w))) parts)
+  where
+    between : (a b c : Bool) → a || c ≡ true → a || (b || c) ≡ true
+    between true b c h = refl
+    between false true c h = refl
+    between false false c h = h
+
+-- the end waits once it was pushed
+pub end_waits : (w v : List Token) (t : Token) (p : Position) → shown t ≡ end_at p → v ≡ w ++ t ∷ [] → has_end (map shown v) ≡ true
+end_waits w v t p end e =
+    let last : is_end (tok_of t.1) ≡ true = ap (λ (s : seen.Token). is_end s.tok) end in
+    rw (e, map-append shown w (t ∷ []), has_end_append (map shown w) (map shown (t ∷ [])), last) (or_true (has_end (map shown w)))
+
+-- a position after all is the end
+insert_past : (w : List Token) (i : ℕ) (t : Token) → length w ≤ i → insert w i t ≡ w ++ t ∷ []
+insert_past w i t h = rw (take_all i w h, drop_all i w h) refl
+
+-- a token after all, at a position after all
+pub past_shown : (g w v : List Token) (i : ℕ) (t : Token) → v ≡ w ++ t ∷ [] → length w ≤ i → map shown g ++ map shown v ≡ insert (map shown g ++ map shown w) (length g + i) (shown t)
+past_shown g w v i t e h = insert_shown g w v i t (e ∙ sym (insert_past w i t h))
+
+-- a token before all, and how many wait before it
+pub front_shown : (g w v : List Token) (i : ℕ) (t : Token) → v ≡ t ∷ w → i ≡ 0 → map shown g ++ map shown v ≡ insert (map shown g ++ map shown w) (length g + i) (shown t)
+front_shown g w v i t e z = rw z (insert_shown g w v 0 t e)
+
+pub front_keeps : (w v : List Token) (t : Token) → v ≡ t ∷ w → has_end (map shown w) ≡ true → has_end (map shown v) ≡ true
+front_keeps w v t e h = insert_keeps w v 0 t e h
+
+-- ---- two tokens are handed out at once
+
+pub key_shown : (g k s w v : List Token) (t u : Token) (x : seen.Token) → length w ≡ 0 → k ≡ g ++ t ∷ [] → map shown s ≡ map shown k ++ x ∷ [] → v ≡ w ++ u ∷ []
+    → map shown s ++ map shown v ≡ (map shown g ++ map shown w) ++ shown t ∷ x ∷ shown u ∷ []
+key_shown g k s [] v t u x n e f h = rw (h, f, e, map-append shown g (t ∷ [])) (simp (append_assoc, append-nil) refl)
+key_shown g k s (y ∷ w) v t u x n e f h = absurd (omega (arith, n))
+
+pub value_shown : (g k s w v : List Token) (t : Token) (x : seen.Token) → w ≡ t ∷ v → length v ≡ 0 → k ≡ g ++ t ∷ [] → map shown s ≡ map shown k ++ x ∷ []
+    → map shown s ++ map shown v ≡ (map shown g ++ map shown w) ++ x ∷ []
+value_shown g k s w [] t x e n f h = rw (h, f, e, map-append shown g (t ∷ [])) (simp (append_assoc, append-nil) refl)
+value_shown g k s w (y ∷ v) t x e n f h = absurd (omega (arith, n))
+
+pub two_more : (g k s : List Token) (t : Token) → k ≡ g ++ t ∷ [] → length s ≡ length k + 1 → length s ≡ length g + 2
+two_more g k s t e f = let one = give_len g k t e in omega (arith, one, f)
+
+take_given : (g w : List Token) → take (length g) (map shown g ++ map shown w) ≡ map shown g
+take_given [] w = refl
+take_given (t ∷ g) w = ap (λ xs. shown t ∷ xs) (take_given g w)
+
+cancel : (xs ys zs : List seen.Token) → xs ++ ys ≡ xs ++ zs → ys ≡ zs
+cancel [] ys zs e = e
+cancel (x ∷ xs) ys zs e = cancel xs ys zs cc
+
+-- a token alone waits
+pub alone_shown : (g w : List Token) (t : Token) → w ≡ t ∷ [] → map shown g ++ map shown w ≡ take (length g) (map shown g ++ map shown w) ++ shown t ∷ []
+alone_shown g w t e = rw (take_given g w, e) refl
+
+pub waits_alone : (g w : List Token) (x : seen.Token) → map shown g ++ map shown w ≡ take (length g) (map shown g ++ map shown w) ++ x ∷ [] → map shown w ≡ x ∷ []
+waits_alone g w x e = cancel (map shown g) (map shown w) (x ∷ []) (e ∙ ap (λ xs. xs ++ x ∷ []) (take_given g w))

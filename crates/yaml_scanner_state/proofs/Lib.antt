@@ -1,5 +1,0 @@
-pub mod GivenLemmas
-pub mod KeyLemmas
-pub mod LevelLemmas
-pub mod QueueLemmas
-pub mod StackLemmas

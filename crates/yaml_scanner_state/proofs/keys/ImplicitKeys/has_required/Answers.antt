@@ -1,9 +1,0 @@
-use Rattle.std.proofs.Common.{◌∙◌, ap}
-use Rattle.std.specs.List.{list_any}
-use Rattle.model_scanner.specs.Keys.{is_required}
-use Rattle.yaml_scanner_state.specs.ImplicitKeys.{key_of}
-use Rattle.yaml_scanner_state.proofs.KeyLemmas.{required_seen}
-use Rattle.yaml_scanner_state.proofs.keys.ImplicitKeys.has_required.Goals as goal
-
-pub returns : goal.returns
-returns c = rw (← c.self.view_is) (λ g. c.any_required.ensures ∙ ap (list_any (λ k. is_required (key_of 0 k))) c.deref.ensures.value ∙ required_seen g c.self.inside.levels.items)

@@ -1,3 +1,0 @@
-pub mod ImplicitKeys
-pub mod Levels
-pub mod Tokens
