@@ -76,13 +76,12 @@ pub use Rattle.yaml_parser.specs.declared.names.Keeping.{Keeping}
 pub use Rattle.yaml_parser.specs.declared.pull.EventReader.{EventReader}
 pub use Rattle.yaml_parser.specs.declared.reader.Reader.{Reader}
 pub use Rattle.yaml_parser.specs.declared.slot.EventSlot.{EventSlot}
-pub use Rattle.yaml_parser.specs.declared.tokens.KeptStop.{KeptStop}
-pub use Rattle.yaml_parser.specs.declared.tokens.Stop.{Stop}
 pub use Rattle.yaml_parser.specs.declared.tokens.Tokens.{Tokens}
 pub use Rattle.yaml_scanner.specs.Scanned.{HandsOut, Scanned, scanned}
 pub use Rattle.yaml_scanner.specs.Tokens.{is_end}
 pub use Rattle.yaml_tokens.specs.ErrorReport.{ErrorReport}
 pub use Rattle.yaml_tokens.specs.Shown.{all_shown, shown, tok_of}
+pub use Rattle.yaml_tokens.specs.declared.problem.Fault.{Fault}
 pub use Rattle.yaml_tokens.specs.declared.problem.Fault.TheVariants.{OutOfMemory}
 pub use Rattle.yaml_tokens.specs.declared.problem.Problem.{Problem}
 pub use Rattle.yaml_tokens.specs.declared.problem.Problem.TheVariants.{BlockMappingKey, BlockSequenceEntry, DirectiveWithoutDocumentEnd, DocumentStartToken, FlowMappingEntry, FlowSequenceEntry, NodeContent, RepeatedHandle, SecondVersion, UndeclaredHandle, UnknownAnchor}

@@ -1,5 +1,5 @@
 -- The arms of the productions of documents.
-use Rattle.yaml_parser.proofs.Common.{[], all_shown, and_from, and_left, and_parts, and_right, ap, append-nil, append_assoc, are_allowed, arith, At, at_document, BeginAt, begins_node, Bool, Carries, declared, Declares, Derives, directed_more, directed_start, Directing, Directive, directive_token, directives_tokens, DirectsTo, documents_directives, Err, Ev, events_of, explicit_end, explicit_start, false, Faulted, fits, Goal, grammar, HasRead, IfSome, if◌then◌else◌, inl, is_directive, is_each_once, is_end, is_of_names, is_over, IsAfter, IsCause, IsNamed, IsOfKind, IsOwn, Kind, kind_of, last_position, Leaves, List, lt-leb, named, nat_le, needs_tokens, none_by, None, Ok, option_map, OutOfMemory, Position, Problem, Raw, Reader, reading, refl, RepeatedHandle, Result, taken_by, said_by, SecondVersion, shown, Skips, Some, SpoilsDirectives, Stayed, Stop, subst, sym, taken_toks, Takes, Tok, tok_is, tok_of, Token, Tokens, toks, true, UndeclaredHandle, versions, with_directives, Works, works, ℕ, ◌++◌, ◌+◌, ◌<◌, ◌∙◌, ◌∷◌, ◌≡◌, ◌≢◌}
+use Rattle.yaml_parser.proofs.Common.{[], all_shown, and_from, and_left, and_parts, and_right, ap, append-nil, append_assoc, are_allowed, arith, At, at_document, BeginAt, begins_node, Bool, Carries, declared, Declares, Derives, directed_more, directed_start, Directing, Directive, directive_token, directives_tokens, DirectsTo, documents_directives, Err, Ev, events_of, explicit_end, explicit_start, false, Faulted, fits, Goal, grammar, HasRead, IfSome, if◌then◌else◌, inl, is_directive, is_each_once, is_end, is_of_names, is_over, IsAfter, IsCause, IsNamed, IsOfKind, IsOwn, Kind, kind_of, last_position, Leaves, List, lt-leb, named, nat_le, needs_tokens, none_by, None, Ok, option_map, OutOfMemory, Position, Problem, Raw, Reader, reading, refl, RepeatedHandle, Result, taken_by, said_by, SecondVersion, shown, Skips, Some, SpoilsDirectives, Stayed, Fault, subst, sym, taken_toks, Takes, Tok, tok_is, tok_of, Token, Tokens, toks, true, UndeclaredHandle, versions, with_directives, Works, works, ℕ, ◌++◌, ◌+◌, ◌<◌, ◌∙◌, ◌∷◌, ◌≡◌, ◌≢◌}
 use Rattle.yaml_parser.specs.declared.names.Names.{Names}
 use Rattle.yaml_parser.proofs.Steps.{looked, taken_snoc, took, took_on, left, left_as, if_some_at}
 use Rattle.yaml_parser.proofs.Arms.{Skipped, here_at, faulted_as}
@@ -14,7 +14,6 @@ use Rattle.model_parser.specs.declared.kind.Kind.TheVariants as kind
 use Rattle.model_parser.specs.declared.context.NodeContext.TheVariants as context
 use Rattle.model_parser.specs.declared.state.State.TheVariants as state
 use Rattle.defs_event.specs.Grammar as table
-use Rattle.yaml_parser.specs.declared.tokens.Stop.TheVariants as stop
 
 -- ---- a document's start
 
@@ -183,7 +182,7 @@ directives_say ds w (t ∷ ts) es d = absurd (none_by d refl)
 refused_directive : {T : Type 0} {p r : Reader T} {t : Token} {m : Position} (q : Problem) (read : List Directive) (d : Directive) {names : defs.Names} {given : List (Ev × Position)}
     → fits q (kind_of (directive_token d)) ≡ true → is_of_names q ≡ true → (q ≡ UndeclaredHandle → ⊥) → t.0 ≡ m → p.tokens.peeked ≡ Some t → Skips p.tokens t r.tokens → r.names.keeping ≡ p.names.keeping → tok_of t.1 ≡ directive_token d → ((more : List Directive) → are_allowed ((read ++ d ∷ []) ++ more) ≡ false)
     → IsAfter read (taken_toks p.tokens) → ((before : List Tok) (last : Tok) → SpoilsDirectives before last → IsCause q names (events_of given) before last) → ((b : At (Goal.directed read) p names given) → StandsBeside q b)
-    → At (Goal.directed read) p names given → Faulted r given (stop.Own (fault.At q m))
+    → At (Goal.directed read) p names given → Faulted r given (Some (fault.At q m))
 refused_directive {T} {p} {r} {t} {m} q read d {names} {given} fit of_names other mark here skips keep tok bad taken cause apart a =
     unnamed_at q (ap (λ u. fits q (kind_of u)) tok ∙ fit) of_names (inl (sym mark, λ e. absurd (other e))) here skips keep (subst (λ u. Takes (Goal.directed read) p.stack u None (Goal.directed (read ++ d ∷ [])) p.stack) (sym tok) (directed_more p.stack read d))
     (λ ts es x.
@@ -194,18 +193,22 @@ refused_directive {T} {p} {r} {t} {m} q read d {names} {given} fit of_names othe
 -- A second version is refused.
 pub version_refused : {T : Type 0} {p r : Reader T} {m : Position} {names : defs.Names} {given : List (Ev × Position)}
     → IsOfKind kind.VersionDirective p.tokens.peeked → IfSome p.tokens.peeked (λ t. t.0 ≡ m) → Skipped p r p.stack → Directing p names given true
-    → Faulted r given (stop.Own (fault.At SecondVersion m))
+    → Faulted r given (Some (fault.At SecondVersion m))
 version_refused {T} {p} {r} {m} {names} {given} here mark skip d =
     let l = looked kind.VersionDirective p.tokens.peeked here in
     let v = version_text (tok_of l.0.1) l.2 in
     let x = skip l.0 l.1 in
     refused_directive SecondVersion d.read (raw.version v.0 v.1) refl refl (λ e. cc) (if_some_at (λ (t : Token). t.0 ≡ m) mark l.1) l.1 x.tokens (ap (λ n. n.keeping) x.names) v.2 (λ more. second_version d.read v.0 v.1 more d.version) d.taken (λ before last x. x) (apart_as refl (directed_ways d.read)) d.here
 
+abbrev pub own : {A : Type 0} → Result A Fault → Result A (Option Fault)
+own (Ok x) = Ok x
+own (Err f) = Err (Some f)
+
 -- What declares a handle is taken.
-pub tag_directive_taken : {T : Type 0} {p : Reader T} (r : Reader T) {t : Token} (m : Position) {h x : List ℕ} {versioned : Bool} {names : defs.Names} {given : List (Ev × Position)} (res : Result (Unit {0}) Stop)
+pub tag_directive_taken : {T : Type 0} {p : Reader T} (r : Reader T) {t : Token} (m : Position) {h x : List ℕ} {versioned : Bool} {names : defs.Names} {given : List (Ev × Position)} (res : Result (Unit {0}) Fault)
     → t.0 ≡ m → p.tokens.peeked ≡ Some t → Skips p.tokens t r.tokens → r.stack ≡ p.stack → r.names.keeping ≡ p.names.keeping → tok_of t.1 ≡ Tok.tag_directive h x
     → ((keep : Bool) (names : defs.Names) (read : List Directive) → HasRead p.names keep names read → Declares m r.names keep names read h x res)
-    → Directing p names given versioned → DirectsTo r names given versioned res
+    → Directing p names given versioned → DirectsTo r names given versioned (own res)
 tag_directive_taken {T} {p} r {t} m {h} {x} {versioned} {names} {given} (Ok u) mark here skips stack keep tok declares d =
     let k = declares p.names.keeping.tags names d.read (record { named = d.here.code; own = d.own }) in
     let read = d.read ++ raw.tag h x ∷ [] in
@@ -217,12 +220,11 @@ tag_directive_taken {T} {p} r {t} m {h} {x} {versioned} {names} {given} (Ok u) m
       version = tag_snoc d.read h x ∙ d.version;
       taken = read_more d.read (raw.tag h x) skips tok d.taken;
     }
-tag_directive_taken {T} {p} r {t} m {h} {x} {versioned} {names} {given} (Err (stop.Own OutOfMemory)) mark here skips stack keep tok declares d = tt
-tag_directive_taken {T} {p} r {t} m {h} {x} {versioned} {names} {given} (Err (stop.Own (fault.At q n))) mark here skips stack keep tok declares d =
+tag_directive_taken {T} {p} r {t} m {h} {x} {versioned} {names} {given} (Err OutOfMemory) mark here skips stack keep tok declares d = tt
+tag_directive_taken {T} {p} r {t} m {h} {x} {versioned} {names} {given} (Err (fault.At q n)) mark here skips stack keep tok declares d =
     let k = declares p.names.keeping.tags names d.read (record { named = d.here.code; own = d.own }) in
-    faulted_as r given (ap (λ y. stop.Own (fault.At y n)) k.1 ∙ ap (λ y. stop.Own (fault.At RepeatedHandle y)) k.2)
+    faulted_as r given (ap (λ y. Some (fault.At y n)) k.1 ∙ ap (λ y. Some (fault.At RepeatedHandle y)) k.2)
     (refused_directive RepeatedHandle d.read (raw.tag h x) refl refl (λ e. cc) mark here skips keep tok (λ more. and_right (nat_le (versions ((d.read ++ raw.tag h x ∷ []) ++ more)) 1) (is_each_once (declared ((d.read ++ raw.tag h x ∷ []) ++ more))) (k.0 more)) d.taken (λ before last x. x) (apart_as refl (directed_ways d.read)) d.here)
-tag_directive_taken {T} {p} r {t} m {h} {x} {versioned} {names} {given} (Err stop.Scan) mark here skips stack keep tok declares d = absurd (declares p.names.keeping.tags names d.read (record { named = d.here.code; own = d.own }))
 
 -- a look at the next token
 pub directing_on : {T : Type 0} {p r : Reader T} {versioned : Bool} {names : defs.Names} {given : List (Ev × Position)} → ((g : Goal) → is_over g ≡ false → Carries g p r) → r.names ≡ p.names → r.tokens.taken ≡ p.tokens.taken → Directing p names given versioned → Directing r names given versioned

@@ -7,7 +7,6 @@ use Rattle.yaml_parser.proofs.Steps.{map_snoc, looked, if_some_at}
 use Rattle.yaml_parser.proofs.Positions.{stood_over}
 use Rattle.yaml_parser.proofs.Since.{since_append}
 use Rattle.defs_token.specs.Token as defs
-use Rattle.yaml_parser.specs.declared.tokens.Stop.TheVariants as stop
 use Rattle.yaml_tokens.specs.declared.problem.Fault.TheVariants as fault
 
 -- ---- what comes of the tokens
@@ -154,7 +153,7 @@ pub refuses_for : {T : Type 0} {g : Goal} {p : Reader T} {k : Kind} {m : Positio
     → is_of_names q ≡ false → fits q k ≡ true → IfSome p.tokens.peeked (λ t. t.0 ≡ m) → IsOfKind k p.tokens.peeked → ((t : Tok) → kind_of t ≡ k → Refuses g p.stack t)
     → ((a : At g p names given) (t : Tok) → kind_of t ≡ k → IsCause q (names_by p.names.keeping a.raw) (events_of given) (taken_toks p.tokens) t)
     → ((a : At g p names given) → (taken_toks p.tokens ≡ [] → ⊥) → IsKnown g p → StandsBeside q a) → Says q k g p names given → At g p names given
-    → Faulted p given (stop.Own (fault.At q m))
+    → Faulted p given (Some (fault.At q m))
 refuses_for {T} {g} {p} {k} {m} {names} {given} q free fit mark o turn cause apart says a =
     let l = looked k p.tokens.peeked o in
     let t = l.0 in
@@ -183,5 +182,5 @@ refuses_for {T} {g} {p} {k} {m} {names} {given} q free fit mark o turn cause apa
 -- the same where the grammar is the only cause
 pub refuses : {T : Type 0} {g : Goal} {p : Reader T} {k : Kind} {m : Position} {names : Names} {given : List (Ev × Position)} (q : Problem)
     → is_of_names q ≡ false → fits q k ≡ true → IfSome p.tokens.peeked (λ t. t.0 ≡ m) → IsOfKind k p.tokens.peeked → ((t : Tok) → kind_of t ≡ k → Refuses g p.stack t) → HasNoCause q → ((a : At g p names given) → IsKnown g p → StandsBeside q a) → Says q k g p names given → At g p names given
-    → Faulted p given (stop.Own (fault.At q m))
+    → Faulted p given (Some (fault.At q m))
 refuses q free fit mark o turn none apart says a = refuses_for q free fit mark o turn (λ b t h. none _ _ _ t) (λ b h. apart b) says a

@@ -1,5 +1,5 @@
 -- What holds between two calls, and what it says of the events.
-use Rattle.yaml_parser.proofs.Common.{[], Advances, all_shown, answered, Answers, ap, append-nil, append_assoc, AreAll, arith, At, BeginsPlaced, behind, Blames, Bool, both_ways, Err, ErrorReport, Ev, ev_of, Event, EventReader, events_of, EventSlot, Explains, Fails, false, fault_kept, fault_seen, Faulted, first_of, Follows, Goal, goal_after, goal_after_event, goal_of, has_end, HasPlacedTo, IfSome, inl, inr, is_over, is_stream_end, IsBottom, IsComplete, IsDerived, IsErrAnd, IsGoing, IsHalted, IsHeld, IsMet, IsNamed, IsOnTrack, IsPastColon, IsSome, IsSound, IsWhole, Keeping, KeptStop, last_position, length, length-append, List, listed, map-append, Moves, named, named_append, named_by, named_since, Names, names_at, names_by, names_since, no_names, None, Notes, nothing_left, Ok, Option, option_map, or-false, or_assoc, OutOfMemory, Parsed, peeked_tok, placed, Places, pops, Position, Raw, read, Reader, Reads, refl, Refused, Result, scanned, shown, shown_list, Some, Stands, State, stood, Stop, StreamPlaces, StreamPlacesTo, StreamSays, subst, sym, taken_toks, to_end, to_next, Tok, tok_of, Token, toks, top, top_of, true, unwrap_or, weight, weights, work, work_of, ◌++◌, ◌+◌, ◌<◌, ◌||◌, ◌∙◌, ◌∷◌, ◌≡◌, ◌≤◌}
+use Rattle.yaml_parser.proofs.Common.{[], Advances, all_shown, answered, Answers, ap, append-nil, append_assoc, AreAll, arith, At, BeginsPlaced, behind, Blames, Bool, both_ways, Err, ErrorReport, Ev, ev_of, Event, EventReader, events_of, EventSlot, Explains, Fails, false, fault_kept, fault_seen, Faulted, first_of, Follows, Goal, goal_after, goal_after_event, goal_of, has_end, HasPlacedTo, IfSome, inl, inr, is_over, is_stream_end, IsBottom, IsComplete, IsDerived, IsErrAnd, IsGoing, IsHalted, IsHeld, IsMet, IsNamed, IsOnTrack, IsPastColon, IsSome, IsSound, IsWhole, Keeping, last_position, length, length-append, List, listed, map-append, Moves, named, named_append, named_by, named_since, Names, names_at, names_by, names_since, no_names, None, Notes, nothing_left, Ok, Option, option_map, or-false, or_assoc, OutOfMemory, Parsed, peeked_tok, placed, Places, pops, Position, Raw, read, Reader, Reads, refl, Refused, Result, scanned, shown, shown_list, Some, Stands, State, stood, Fault, StreamPlaces, StreamPlacesTo, StreamSays, subst, sym, taken_toks, to_end, to_next, Tok, tok_of, Token, toks, top, top_of, true, unwrap_or, weight, weights, work, work_of, ◌++◌, ◌+◌, ◌<◌, ◌||◌, ◌∙◌, ◌∷◌, ◌≡◌, ◌≤◌}
 use Rattle.model_parser.specs.Rest.{placed as placed_work}
 use Rattle.model_parser.proofs.Standing.{begins, ends as read_whole}
 use Rattle.yaml_parser.specs.Handed.{ends}
@@ -13,7 +13,6 @@ use Rattle.yaml_parser.proofs.Nesting.{at_begins_nested}
 use Rattle.defs_token.specs.Token as defs
 use Rattle.yaml_tokens.specs.declared.problem.Fault.TheVariants as fault
 use Rattle.model_parser.specs.declared.state.State.TheVariants as state
-use Rattle.yaml_parser.specs.declared.tokens.Stop.TheVariants as stop
 
 -- ---- the stack
 
@@ -145,28 +144,28 @@ pulled {T} p r s ss es slot k h x reads bounds notes =
     let each : length r.names.keeping.settings.items + 1 ≡ length (es ++ placed e ∷ []) = ap (λ q. length q.settings.items + 1) keep ∙ ap (λ n. n + 1) x.each ∙ sym (length-append es (placed e ∷ [])) in
     (o.0, omega (arith, less, popped_is), subst (λ q. Notes q k) keep notes, noted_stands r k (es ++ placed e ∷ []) a.0 notes a.1 each)
 
-pub failed : {T : Type 0} (p r : Reader T) (s : State) (ss : List State) (es : List (Ev × Position)) (u : Stop)
+pub failed : {T : Type 0} (p r : Reader T) (s : State) (ss : List State) (es : List (Ev × Position)) (u : Option Fault)
     → p.stack ≡ s ∷ ss → IsHeld p es None → Fails (goal_of s) (record p { stack = ss }) r u → (has_end es ≡ false) × Faulted r es u
 failed {T} p r s ss es u h x reads =
     let o = open_at (has_end es) p s ss h x.here in
     (o.0, reads x.names es (popped p s ss h o.1))
 
-pub advances_err : {T E : Type 0} (old new : EventReader T) (es : List (Ev × Position)) (r : Result (Unit {0}) E) (x : E) (slot : EventSlot) → IsErrAnd r (λ e. e ≡ x) → Advances old es (Err slot.stop) new → Advances old es (answered r slot) new
+pub advances_err : {T E : Type 0} (old new : EventReader T) (es : List (Ev × Position)) (r : Result (Unit {0}) E) (x : E) (slot : EventSlot) → IsErrAnd r (λ e. e ≡ x) → Advances old es (Err slot.fault) new → Advances old es (answered r slot) new
 advances_err old new es (Ok u) x slot h a = absurd h
 advances_err old new es (Err e) x slot h a = a
 
-pub keeps : {T : Type 0} (p : EventReader T) (es : List (Ev × Position)) (u : Stop) {f : ErrorReport} → fault_kept p ≡ Some f → IfSome p.kept (λ k. k.stop ≡ u) → (has_end es ≡ false) × Faulted p.reader es u → IsHeld p.reader es p.kept × IsMet p.reader es p.kept
+pub keeps : {T : Type 0} (p : EventReader T) (es : List (Ev × Position)) (u : Option Fault) {f : ErrorReport} → fault_kept p ≡ Some f → IfSome p.kept (λ k. k.0 ≡ u) → (has_end es ≡ false) × Faulted p.reader es u → IsHeld p.reader es p.kept × IsMet p.reader es p.kept
 keeps {T} p es u {f} h k x = kept_at p.kept h k
   where
-    kept_at : (o : Option KeptStop) → option_map (λ z. fault_seen z.stop z.mark (scanned p.reader.tokens.scanner).fault) o ≡ Some f → IfSome o (λ z. z.stop ≡ u) → IsHeld p.reader es o × IsMet p.reader es o
+    kept_at : (o : Option (Option Fault × Position)) → option_map (λ z. fault_seen z.0 z.1 (scanned p.reader.tokens.scanner).fault) o ≡ Some f → IfSome o (λ z. z.0 ≡ u) → IsHeld p.reader es o × IsMet p.reader es o
     kept_at None e k = cc
     kept_at (Some z) e k = (x.0, subst (Faulted p.reader es) (sym k) x.1)
 
 -- A fault that was kept is not met again.
-pub kept_again : {T : Type 0} (r : Reader T) (es : List (Ev × Position)) {o : Option KeptStop} {k : KeptStop} → o ≡ Some k → o ≡ None → IsMet r es o
+pub kept_again : {T : Type 0} (r : Reader T) (es : List (Ev × Position)) {o : Option (Option Fault × Position)} {k : Option Fault × Position} → o ≡ Some k → o ≡ None → IsMet r es o
 kept_again {T} r es {o} {k} h none = let no : None ≡ Some k = sym none ∙ h in cc
 
-pub failed_as : {T : Type 0} {p q : Reader T} (es : List (Ev × Position)) (u : Stop) → p ≡ q → (has_end es ≡ false) × Faulted q es u → (has_end es ≡ false) × Faulted p es u
+pub failed_as : {T : Type 0} {p q : Reader T} (es : List (Ev × Position)) (u : Option Fault) → p ≡ q → (has_end es ≡ false) × Faulted q es u → (has_end es ≡ false) × Faulted p es u
 failed_as {T} {p} {q} es u h x = (x.0, subst (λ r. Faulted r es u) (sym h) x.1)
 
 -- ---- at the beginning
@@ -352,15 +351,15 @@ blames_refused {T} p v x steady = record {
   none = λ ts fs y. x.unnamed ts y.raws fs y.says (since_same p.names.keeping.settings.items p.names.keeping.tags no_names y.raws steady ∙ y.has_events);
 }
 
-explained : {T : Type 0} (p : Reader T) (v : Parsed) (u : Stop) (m : Position) (f : ErrorReport) → fault_seen u m (scanned p.tokens.scanner).fault ≡ f → Faulted p (read v) u → KnowsSteady p → Explains f (seen_of p v)
-explained {T} p v (stop.Own OutOfMemory) m f h x known = inr (inl (record { memory = ap (λ z. z.memory) (sym h); text = ap (λ z. z.text) (sym h) }))
-explained {T} p v (stop.Own (fault.At q n)) m f h x known =
+explained : {T : Type 0} (p : Reader T) (v : Parsed) (u : Option Fault) (m : Position) (f : ErrorReport) → fault_seen u m (scanned p.tokens.scanner).fault ≡ f → Faulted p (read v) u → KnowsSteady p → Explains f (seen_of p v)
+explained {T} p v (Some OutOfMemory) m f h x known = inr (inl (record { memory = ap (λ z. z.memory) (sym h); text = ap (λ z. z.text) (sym h) }))
+explained {T} p v (Some (fault.At q n)) m f h x known =
     inr (inr (record {
       blames = subst (λ g. Blames g p.names.keeping.settings.items p.names.keeping.tags (scanned p.tokens.scanner).given (read v)) h x.blames;
       steady = known;
       refused = λ steady. blames_refused p v x.blames (known steady);
     }))
-explained {T} p v stop.Scan m f h x known =
+explained {T} p v None m f h x known =
     let kept : (scanned p.tokens.scanner).fault ≡ Some f = kept_some (scanned p.tokens.scanner).fault _ x.0.0 h in
     inl (record {
       fault = kept;
@@ -374,6 +373,6 @@ explained {T} p v stop.Scan m f h x known =
     kept_some None d i e = cc
     kept_some (Some y) d i e = ap Some e
 
-pub held_explained : {T : Type 0} (p : Reader T) (v : Parsed) (o : Option KeptStop) (f : ErrorReport) → option_map (λ k. fault_seen k.stop k.mark (scanned p.tokens.scanner).fault) o ≡ Some f → IsMet p (read v) o → KnowsSteady p → Explains f (seen_of p v)
+pub held_explained : {T : Type 0} (p : Reader T) (v : Parsed) (o : Option (Option Fault × Position)) (f : ErrorReport) → option_map (λ k. fault_seen k.0 k.1 (scanned p.tokens.scanner).fault) o ≡ Some f → IsMet p (read v) o → KnowsSteady p → Explains f (seen_of p v)
 held_explained {T} p v None f h x known = cc
-held_explained {T} p v (Some k) f h x known = let e : fault_seen k.stop k.mark (scanned p.tokens.scanner).fault ≡ f = cc in explained p v k.stop k.mark f e x known
+held_explained {T} p v (Some k) f h x known = let e : fault_seen k.0 k.1 (scanned p.tokens.scanner).fault ≡ f = cc in explained p v k.0 k.1 f e x known

@@ -3,13 +3,12 @@ use Rattle.std.specs.Str.{chars}
 use Rattle.std.specs.String.{string_cmp, string_len}
 use Rattle.std.proofs.lemmas.Map.Text.{btree_map_updates_text}
 use Rattle.std.proofs.lemmas.Str.{encodes-chars, IsUtf8-string_bytes}
-use Rattle.yaml_parser.proofs.Common.{arith, [], ap, BTreeMap, bytes_eq, bytes_eq-Decides, codes, cond, Decides-like, Err, false, get_by_text, Global, if◌then◌else◌, is_empty, IsUndeclared, length, List, Names, None, Ok, Option, option_map, OutOfMemory, Position, prefix_or_undeclared, refl, resolved, Resolves, Result, rules, same_from_decides, Some, Stop, String, string_bytes, string_chars, sym, tag_of, true, undeclared, under_name, ℕ, ◌==◌, ◌∙◌, ◌∷◌, ◌≡◌, ◌≢◌}
+use Rattle.yaml_parser.proofs.Common.{arith, [], ap, BTreeMap, bytes_eq, bytes_eq-Decides, codes, cond, Decides-like, Err, false, get_by_text, Global, if◌then◌else◌, is_empty, IsUndeclared, length, List, Names, None, Ok, Option, option_map, OutOfMemory, Position, prefix_or_undeclared, refl, resolved, Resolves, Result, rules, same_from_decides, Some, Fault, String, string_bytes, string_chars, sym, tag_of, true, undeclared, under_name, ℕ, ◌==◌, ◌∙◌, ◌∷◌, ◌≡◌, ◌≢◌}
 use lib.Utf8.{encodes, encode}
 use Rattle.yaml_chars.proofs.TextLemmas.{is_nil_chars}
 use Rattle.yaml_parser.specs.declared.event.Tag.{Tag}
 use Rattle.std.specs.BTreeMap as tree
 use Rattle.yaml_tokens.specs.declared.problem.Fault.TheVariants as fault
-use Rattle.yaml_parser.specs.declared.tokens.Stop.TheVariants as stop
 
 nil_of : (xs : List ℕ) → is_empty xs ≡ true → xs ≡ []
 nil_of xs h = grind arith
@@ -80,11 +79,10 @@ pub core_is : (s : String Global) → string_bytes s ≡ codes "tag:yaml.org,200
 unfolding string_chars
 core_is s h = ap chars h ∙ core_chars
 
-pub undeclared_resolves : (mark : Position) (names : Names) (h x : List ℕ) (r : Result Tag Stop) → h ≢ [] → under_name h names.handles ≡ None → IsUndeclared mark h x r → Resolves mark names (record { handle = h; suffix = x }) r
+pub undeclared_resolves : (mark : Position) (names : Names) (h x : List ℕ) (r : Result Tag Fault) → h ≢ [] → under_name h names.handles ≡ None → IsUndeclared mark h x r → Resolves mark names (record { handle = h; suffix = x }) r
 undeclared_resolves mark names h x (Ok t) a e u = resolved_nonempty names.handles h x None a e ∙ ap (option_map (λ p. record { handle = p; suffix = x })) u.0 ∙ ap (λ y. Some (record { handle = (tag_of t).handle; suffix = y })) (sym u.1)
-undeclared_resolves mark names h x (Err (stop.Own OutOfMemory)) a e u = tt
-undeclared_resolves mark names h x (Err (stop.Own (fault.At q m))) a e u = (resolved_nonempty names.handles h x None a e ∙ ap (option_map (λ p. record { handle = p; suffix = x })) u.0, u.1, u.2)
-undeclared_resolves mark names h x (Err stop.Scan) a e u = u
+undeclared_resolves mark names h x (Err OutOfMemory) a e u = tt
+undeclared_resolves mark names h x (Err (fault.At q m)) a e u = (resolved_nonempty names.handles h x None a e ∙ ap (option_map (λ p. record { handle = p; suffix = x })) u.0, u.1, u.2)
 
 pub string_length : (s : String Global) → (length (string_bytes s) == 0) ≡ (string_len s == 0)
 string_length s = search rules

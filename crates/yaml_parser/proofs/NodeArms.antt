@@ -1,5 +1,5 @@
 -- The arms of the productions of nodes.
-use Rattle.yaml_parser.proofs.Common.{arith, [], all_shown, answered, Answers, ap, append_assoc, At, Awaits, BeginAt, Bool, both, both_ways, cases, Derives, empty, empty_event, EndsInAnchor, Err, Ev, event_of, event_then, events_of, EventSlot, false, Faulted, fits, Goal, goal_after_event, grammar, Has, HasNoText, HasUndeclaredHandle, HasUnknownAnchor, Held, IfSome, inl, inr, is_end, is_of_names, is_some, IsCause, IsDerived, IsNamed, IsOfKind, IsPending, IsSome, kept_tag, Kind, kind_of, last_position, Leaves, List, name_of, named, named_by, Names, names_after, names_by, needs_tokens, no_names, None, number, Ok, OnErr, OnOk, Option, option_map, OutOfMemory, peeked_tok, perhaps_anchor_of, perhaps_resolved, Place, placed, Position, Problem, Raw, Reader, reading, refl, Registers, resolved, resolved_event, Resolves, Result, Row, left_by, row_of, taken_by, said_by, scanned, show, shown, shown_list, Skips, SkipsOne, Some, StandsAt, State, Stop, StreamSays, Style, subst, sym, taken_toks, Takes, takes, Tok, tok_is, tok_of, tok_of_kind, Token, Tokens, toks, true, UndeclaredHandle, under_name, UnknownAnchor, with_anchor, Works, ℕ, ◌++◌, ◌∙◌, ◌∷◌, ◌≡◌, ◌≢◌, ◌⊎◌, next_after, node_next, other_next}
+use Rattle.yaml_parser.proofs.Common.{arith, [], all_shown, answered, Answers, ap, append_assoc, At, Awaits, BeginAt, Bool, both, both_ways, cases, Derives, empty, empty_event, EndsInAnchor, Err, Ev, event_of, event_then, events_of, EventSlot, false, Faulted, fits, Goal, goal_after_event, grammar, Has, HasNoText, HasUndeclaredHandle, HasUnknownAnchor, Held, IfSome, inl, inr, is_end, is_of_names, is_some, IsCause, IsDerived, IsNamed, IsOfKind, IsPending, IsSome, kept_tag, Kind, kind_of, last_position, Leaves, List, name_of, named, named_by, Names, names_after, names_by, needs_tokens, no_names, None, number, Ok, OnErr, OnOk, Option, option_map, OutOfMemory, peeked_tok, perhaps_anchor_of, perhaps_resolved, Place, placed, Position, Problem, Raw, Reader, reading, refl, Registers, resolved, resolved_event, Resolves, Result, Row, left_by, row_of, taken_by, said_by, scanned, show, shown, shown_list, Skips, SkipsOne, Some, StandsAt, State, Fault, StreamSays, Style, subst, sym, taken_toks, Takes, takes, Tok, tok_is, tok_of, tok_of_kind, Token, Tokens, toks, true, UndeclaredHandle, under_name, UnknownAnchor, with_anchor, Works, ℕ, ◌++◌, ◌∙◌, ◌∷◌, ◌≡◌, ◌≢◌, ◌⊎◌, next_after, node_next, other_next}
 use Rattle.defs_event.specs.Properties.{perhaps_tag_of}
 use Rattle.defs_event.specs.Names.{prefix_of}
 use Rattle.defs_event.specs.Table.{leaves}
@@ -22,7 +22,6 @@ use Rattle.model_parser.specs.declared.context.NodeContext.TheVariants as contex
 use Rattle.model_parser.proofs.Nodes as turn
 use Rattle.model_parser.specs.declared.kind.Kind.TheVariants as kind
 use Rattle.defs_event.specs.Grammar as table
-use Rattle.yaml_parser.specs.declared.tokens.Stop.TheVariants as stop
 
 -- ---- an event with properties
 
@@ -57,7 +56,7 @@ pub starts : {T E : Type 0} (m : Position) {p q : Reader T} (r : Reader T) {k k'
     → Makes mk f → IsOfKind k' p.tokens.peeked → k' ≡ k → HasNoText k → is_end (tok_of_kind k) ≡ false
     → ((a : Option (List ℕ)) (t : Option event.Tag) → StandsHere (mk a t)) → HasNoColon Goal.done ss → IfSome p.tokens.peeked (λ t. t.0 ≡ m) → Skipped p q ss
     → Takes (Goal.after_properties w o) p.stack (tok_of_kind k) (Some (mk (perhaps_anchor_of o) (perhaps_tag_of o))) Goal.done ss
-    → ((names : Names) → IsNamed q.names names → OnOk res (Registers q x names (λ a t. placed slot.next ≡ (f a t, m)) r)) → OnErr res (slot.stop ≡ stop.Own OutOfMemory)
+    → ((names : Names) → IsNamed q.names names → OnOk res (Registers q x names (λ a t. placed slot.next ≡ (f a t, m)) r)) → OnErr res (slot.fault ≡ Some OutOfMemory)
     → ((a : ℕ) (t : Option event.Tag) → goal_after_event (f a t) ≡ Goal.done)
     → Has s o x → At (Goal.after_properties w o) p s given → Answers r given (answered res slot)
 starts {T} {E} m {p} {q} r {k} {k'} {w} {o} {x} {ss} mk f {s} {given} (Err u) slot makes here h plain end alike colon mark skip turn registers err no_end has a = subst (Faulted r given) (sym err) tt
@@ -124,7 +123,7 @@ pub unnamed_at : {T : Type 0} {g g' : Goal} {p r : Reader T} {t : Token} {m : Po
     → p.tokens.peeked ≡ Some t → Skips p.tokens t r.tokens → r.names.keeping ≡ p.names.keeping → Takes g p.stack (tok_of t.1) e g' ss
     → ((ts : List Tok) (es : List Raw) → Awaits g' ss ts es → Unnameable p.names.keeping.tags names (event_then e es))
     → IsCause q names (events_of given) (taken_toks p.tokens) (tok_of t.1) → ((a : At g p names given) → StandsBeside q a)
-    → At g p names given → Faulted r given (stop.Own (fault.At q m))
+    → At g p names given → Faulted r given (Some (fault.At q m))
 unnamed_at {T} {g} {g'} {p} {r} {t} {m} {ss} {e} {names} {given} q fit of_names stands here skips keep turn bad cause apart a =
     let handed : (scanned r.tokens.scanner).given ≡ all_shown p.tokens.taken.items ++ shown t ∷ [] =
     ap (λ x. (scanned x).given) skips.scanner ∙ a.handed ∙ ap (λ o. all_shown p.tokens.taken.items ++ shown_list o) here in
@@ -238,7 +237,7 @@ alias_taken {T} m {p} {r} {t} {w} {x} {n} {names} {given} here mark skips stack 
 )
 
 pub alias_unknown : {T : Type 0} {p r : Reader T} {t : Token} {m : Position} {w : positions.NodeContext} {x : List ℕ} {names : Names} {given : List (Ev × Position)}
-    → p.tokens.peeked ≡ Some t → t.0 ≡ m → Skips p.tokens t r.tokens → r.names ≡ p.names → tok_of t.1 ≡ Tok.alias x → under_name x names.anchors ≡ None → At (Goal.node w) p names given → Faulted r given (stop.Own (fault.At UnknownAnchor m))
+    → p.tokens.peeked ≡ Some t → t.0 ≡ m → Skips p.tokens t r.tokens → r.names ≡ p.names → tok_of t.1 ≡ Tok.alias x → under_name x names.anchors ≡ None → At (Goal.node w) p names given → Faulted r given (Some (fault.At UnknownAnchor m))
 alias_unknown {T} {p} {r} {t} {m} {w} {x} {names} {given} here mark skips same tok missing a =
     unnamed_at UnknownAnchor (ap (λ u. fits UnknownAnchor (kind_of u)) tok) refl (inl (sym mark, λ e. absurd (cc e))) here skips (ap (λ z. z.keeping) same) (subst (λ u. Takes (Goal.node w) p.stack u (Some (Raw.alias x)) Goal.done p.stack) (sym tok) (turn.node_alias w p.stack x))
     (λ ts es y. unnameable_first p.names.keeping.tags names (Raw.alias x) es (ap (option_map Ev.alias) missing)) (subst (HasUnknownAnchor names) (sym tok) missing) node_apart a
@@ -296,14 +295,14 @@ no_prefix : (x : event.Tag) (o : Option (List ℕ)) → option_map {U = event.Ta
 no_prefix x o h = grind arith
 
 pub tag_unknown : {T : Type 0} {p r : Reader T} {t : Token} {m : Position} {w : positions.NodeContext} {x : event.Tag} {names : Names} {given : List (Ev × Position)}
-    → p.tokens.peeked ≡ Some t → t.0 ≡ m → Skips p.tokens t r.tokens → r.names ≡ p.names → tok_of t.1 ≡ written.tag_token x → resolved names.handles x ≡ None → At (Goal.node w) p names given → Faulted r given (stop.Own (fault.At UndeclaredHandle m))
+    → p.tokens.peeked ≡ Some t → t.0 ≡ m → Skips p.tokens t r.tokens → r.names ≡ p.names → tok_of t.1 ≡ written.tag_token x → resolved names.handles x ≡ None → At (Goal.node w) p names given → Faulted r given (Some (fault.At UndeclaredHandle m))
 tag_unknown {T} {p} {r} {t} {m} {w} {x} {names} {given} here mark skips same tok missing a =
     unnamed_at UndeclaredHandle (ap (λ u. fits UndeclaredHandle (kind_of u)) tok) refl (inl (sym mark, λ e q before. no_anchor_before w a before)) here skips (ap (λ z. z.keeping) same) (subst (λ z. Takes (Goal.node w) p.stack z None (Goal.after_tag w x) p.stack) (sym tok) (turn.node_tag w p.stack x))
     (λ ts es y. tagged_unnameable p.names.keeping.tags names _ _ _ ts es (ap (option_map Some) missing) y.0)
     (subst (HasUndeclaredHandle names) (sym tok) (no_prefix x (prefix_of names.handles x.handle) missing)) (apart_as refl (node_ways w)) a
 
 pub tag_unknown_after : {T : Type 0} {p r : Reader T} {t : Token} {m : Position} {w : positions.NodeContext} {v : List ℕ} {x : event.Tag} {names : Names} {given : List (Ev × Position)}
-    → p.tokens.peeked ≡ Some t → EndsInAnchor (all_shown p.tokens.taken.items) m → Skips p.tokens t r.tokens → r.names ≡ p.names → tok_of t.1 ≡ written.tag_token x → resolved names.handles x ≡ None → At (Goal.after_anchor w v) p names given → Faulted r given (stop.Own (fault.At UndeclaredHandle m))
+    → p.tokens.peeked ≡ Some t → EndsInAnchor (all_shown p.tokens.taken.items) m → Skips p.tokens t r.tokens → r.names ≡ p.names → tok_of t.1 ≡ written.tag_token x → resolved names.handles x ≡ None → At (Goal.after_anchor w v) p names given → Faulted r given (Some (fault.At UndeclaredHandle m))
 tag_unknown_after {T} {p} {r} {t} {m} {w} {v} {x} {names} {given} here anchored skips same tok missing a =
     unnamed_at UndeclaredHandle (ap (λ u. fits UndeclaredHandle (kind_of u)) tok) refl (inr (refl, anchored)) here skips (ap (λ z. z.keeping) same) (subst (λ z. Takes (Goal.after_anchor w v) p.stack z None (Goal.after_properties w (Some (written.anchored_tagged v x))) p.stack) (sym tok) (turn.anchor_tag w p.stack v x))
     (λ ts es y. content_unnameable p.names.keeping.tags names _ _ _ ts es (ap (option_map Some) missing) y.0)
@@ -319,8 +318,7 @@ anchor_before {T} {p} {q} r {t} {m} skips taken is mark = record {
   at = sym mark;
 }
 
-pub resolve_fails : {T : Type 0} (r : Reader T) (given : List (Ev × Position)) (m : Position) (names : Names) (t : event.Tag) (s : Stop) → Resolves m names t (Err s)
-    → (resolved names.handles t ≡ None → Faulted r given (stop.Own (fault.At UndeclaredHandle m))) → Faulted r given s
-resolve_fails r given m names t (stop.Own OutOfMemory) h f = tt
-resolve_fails r given m names t (stop.Own (fault.At q n)) h f = faulted_as r given (ap (λ x. stop.Own (fault.At x n)) h.1 ∙ ap (λ x. stop.Own (fault.At UndeclaredHandle x)) h.2) (f h.0)
-resolve_fails r given m names t stop.Scan h f = absurd h
+pub resolve_fails : {T : Type 0} (r : Reader T) (given : List (Ev × Position)) (m : Position) (names : Names) (t : event.Tag) (s : Fault) → Resolves m names t (Err s)
+    → (resolved names.handles t ≡ None → Faulted r given (Some (fault.At UndeclaredHandle m))) → Faulted r given (Some s)
+resolve_fails r given m names t OutOfMemory h f = tt
+resolve_fails r given m names t (fault.At q n) h f = faulted_as r given (ap (λ x. Some (fault.At x n)) h.1 ∙ ap (λ x. Some (fault.At UndeclaredHandle x)) h.2) (f h.0)

@@ -9,7 +9,6 @@ use Rattle.yaml_tokens.specs.declared.token.TokenType.TheVariants as token
 use Rattle.model_parser.specs.declared.context.NodeContext.TheVariants as context
 use Rattle.model_parser.specs.declared.kind.Kind.TheVariants as kind
 use Rattle.model_parser.specs.declared.state.State.TheVariants as state
-use Rattle.yaml_parser.specs.declared.tokens.Stop.TheVariants as stop
 
 -- ---- the tokens between
 
@@ -107,7 +106,7 @@ at_same {g = g} {names} {given} same a = subst (λ r. At g r names given) (sym s
 
 -- The scalar is written, and a state more is awaited; or memory was refused.
 pub answers_plain : {T E : Type 0} {q : Reader T} (r : Reader T) {x : State} (n : PlainNode) (given : List (Ev × Position)) (res : Result (Unit {0}) E) (slot : EventSlot)
-    → OnOk res (placed slot.next ≡ (Ev.scalar (string_chars n.text) Style.plain 0 None, n.mark)) → OnOk res (Stayed q r (x ∷ q.stack)) → OnErr res (slot.stop ≡ stop.Own OutOfMemory)
+    → OnOk res (placed slot.next ≡ (Ev.scalar (string_chars n.text) Style.plain 0 None, n.mark)) → OnOk res (Stayed q r (x ∷ q.stack)) → OnErr res (slot.fault ≡ Some OutOfMemory)
     → (Stayed q r (x ∷ q.stack) → (names : Names) × At Goal.done r names (given ++ (Ev.scalar (string_chars n.text) Style.plain 0 None, n.mark) ∷ [])) → Answers r given (answered res slot)
 answers_plain r n given (Ok u) slot event stayed err f = answers_written r given slot.next event (f stayed)
 answers_plain r n given (Err e) slot event stayed err f = subst (Faulted r given) (sym err) tt

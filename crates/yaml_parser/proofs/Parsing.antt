@@ -1,6 +1,6 @@
 -- What is known of a parser, from call to call.
 use Rattle.std.specs.Bool.{beq}
-use Rattle.yaml_parser.proofs.Common.{[], Advances, all_placed, and_parts, ap, append-nil, AreAll, arith, Bool, both_ways, Continues, Err, ErrorReport, Ev, ev_of, Event, EventReader, events_left, Explains, false, false_from_ne_true, fault_kept, fault_of_all, fault_seen, GivesEvent, GivesFault, has_end, Holds, IfSome, if◌then◌else◌, inl, inr, is_fresh, is_some, is_stream_end, IsErrAnd, IsHeld, IsSound, Keeping, KeptStop, length, List, Looks, map-append, nil_from_length, no_document, None, not, not-true, Notes, Ok, Option, option_map, or_cases, Parsed, placed, Position, read_so, Reader, refl, Result, scanned, Some, stays_steady, Stop, subst, sym, true, Waits, work, ◌&&◌, ◌++◌, ◌<◌, ◌||◌, ◌∙◌, ◌∷◌, ◌≡◌, ◌≢◌}
+use Rattle.yaml_parser.proofs.Common.{[], Advances, all_placed, and_parts, ap, append-nil, AreAll, arith, Bool, both_ways, Continues, Err, ErrorReport, Ev, ev_of, Event, EventReader, events_left, Explains, false, false_from_ne_true, fault_kept, fault_of_all, fault_seen, GivesEvent, GivesFault, has_end, Holds, IfSome, if◌then◌else◌, inl, inr, is_fresh, is_some, is_stream_end, IsErrAnd, IsHeld, IsSound, Keeping, length, List, Looks, map-append, nil_from_length, no_document, None, not, not-true, Notes, Ok, Option, option_map, or_cases, Parsed, placed, Position, read_so, Reader, refl, Result, scanned, Some, stays_steady, Fault, subst, sym, true, Waits, work, ◌&&◌, ◌++◌, ◌<◌, ◌||◌, ◌∙◌, ◌∷◌, ◌≡◌, ◌≢◌}
 use Rattle.yaml_parser.proofs.Holding.{KnowsSteady, closed, keeps, failed_as, set_stands, held_sound, held_explained, has_end_snoc}
 use Rattle.yaml_parser.proofs.DirectiveLemmas.{none_if, some_map}
 use Rattle.yaml_parser.proofs.Since.{all_more}
@@ -108,7 +108,7 @@ reads_given : (given : List (Ev × Position)) (current : Option (Event × Positi
 reads_given given None ended n = read_none given ended
 reads_given given (Some e) ended n = cc
 
-fault_open : {T : Type 0} (p : Reader T) (es : List (Ev × Position)) (o : Option KeptStop) {f : ErrorReport} → option_map (λ k. fault_seen k.stop k.mark (scanned p.tokens.scanner).fault) o ≡ Some f → IsHeld p es o → has_end es ≡ false
+fault_open : {T : Type 0} (p : Reader T) (es : List (Ev × Position)) (o : Option (Option Fault × Position)) {f : ErrorReport} → option_map (λ k. fault_seen k.0 k.1 (scanned p.tokens.scanner).fault) o ≡ Some f → IsHeld p es o → has_end es ≡ false
 fault_open {T} p es None h x = cc
 fault_open {T} p es (Some k) h x = x
 
@@ -161,7 +161,7 @@ fault_given {T} pull new given current started ended misplaced f h none clear x 
   where
     why : (seen pull given current started ended misplaced).fault ≡ None → Explains f (seen new given current started ended misplaced)
     why b =
-        let none = none_before (λ k. fault_seen k.stop k.mark (scanned pull.reader.tokens.scanner).fault) pull.kept (ap (λ m. fault_of_all m pull) (sym clear) ∙ b) in
+        let none = none_before (λ k. fault_seen k.0 k.1 (scanned pull.reader.tokens.scanner).fault) pull.kept (ap (λ m. fault_of_all m pull) (sym clear) ∙ b) in
         held_explained new.reader (seen new given current started ended misplaced) new.kept f kept (x.2 none) (subst IsKnownSteady (sym x.0) h.steady)
 
     again_seen : (o : Option ErrorReport) → IfSome o (λ g. (◌≡◌ {A = Result (Event × Position) ErrorReport} (Err f) (Err g)) × (new ≡ pull)) → IfSome o (λ g. (f ≡ g) × (seen new given current started ended misplaced ≡ seen pull given current started ended misplaced))
@@ -336,7 +336,7 @@ all_noted xs ys x false h = ap all_placed h ∙ map-append placed xs (x ∷ [])
 -- ---- inside a document
 
 clear_parts : {T : Type 0} (pull : EventReader T) (misplaced : Option Position) → fault_of_all misplaced pull ≡ None → (pull.kept ≡ None) × (misplaced ≡ None)
-clear_parts {T} pull None h = (none_before (λ k. fault_seen k.stop k.mark (scanned pull.reader.tokens.scanner).fault) pull.kept h, refl)
+clear_parts {T} pull None h = (none_before (λ k. fault_seen k.0 k.1 (scanned pull.reader.tokens.scanner).fault) pull.kept h, refl)
 clear_parts {T} pull (Some p) h = cc
 
 -- Before the stream's end something is awaited.
@@ -366,10 +366,10 @@ advanced {T} pull new given more current started ended ended' misplaced e {v} vi
     (y.0, subst (λ u. GivesEvent u (placed e) (seen new (all_placed more) current true ended' misplaced)) view y.1)
 
 -- A fault is met, and kept at once.
-pub stopped : {T : Type 0} (pull mid new : EventReader T) (given : List (Ev × Position)) (current : Option (Event × Position)) (started ended : Bool) (misplaced : Option Position) (s : Stop) (f : ErrorReport) {v : Parsed} → seen pull given current started ended misplaced ≡ v
+pub stopped : {T : Type 0} (pull mid new : EventReader T) (given : List (Ev × Position)) (current : Option (Event × Position)) (started ended : Bool) (misplaced : Option Position) (s : Option Fault) (f : ErrorReport) {v : Parsed} → seen pull given current started ended misplaced ≡ v
     → Holds pull given (option_map placed current) started ended misplaced → v.ahead ≡ None → v.fault ≡ None
     → ((es : List (Ev × Position)) → IsHeld pull.reader es None → Advances pull es (Err s) mid)
-    → fault_kept new ≡ Some f → IfSome new.kept (λ k. k.stop ≡ s) → new.reader ≡ mid.reader
+    → fault_kept new ≡ Some f → IfSome new.kept (λ k. k.0 ≡ s) → new.reader ≡ mid.reader
     → Holds new given (option_map placed current) started ended misplaced × GivesFault v f (seen new given current started ended misplaced)
 stopped {T} pull mid new given current started ended misplaced s f {v} view h ahead fault reads kept stop reader =
     let es = read_so given ended (option_map placed current) in
@@ -385,7 +385,7 @@ stopped {T} pull mid new given current started ended misplaced s f {v} view h ah
 
 -- ---- a setting
 
-held_set : {T : Type 0} (p : Reader T) (k : Keeping) (es : List (Ev × Position)) (o : Option KeptStop) → k.settings ≡ p.names.keeping.settings → IsHeld p es o → IsHeld (record p { names = record (p.names) { keeping = k } }) es o
+held_set : {T : Type 0} (p : Reader T) (k : Keeping) (es : List (Ev × Position)) (o : Option (Option Fault × Position)) → k.settings ≡ p.names.keeping.settings → IsHeld p es o → IsHeld (record p { names = record (p.names) { keeping = k } }) es o
 held_set {T} p k es None same x = set_stands p k es same x
 held_set {T} p k es (Some z) same x = x
 

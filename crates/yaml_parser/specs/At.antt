@@ -23,8 +23,7 @@ use Rattle.model_parser.specs.declared.state.State.{State}
 use Rattle.yaml_parser.specs.declared.event.Event.{Event}
 use Rattle.yaml_parser.specs.declared.names.Keeping.{Keeping}
 use Rattle.yaml_parser.specs.declared.slot.EventSlot.{EventSlot}
-use Rattle.yaml_parser.specs.declared.tokens.Stop.{Stop}
-use Rattle.yaml_parser.specs.declared.tokens.Stop.TheVariants as stop
+use Rattle.yaml_tokens.specs.declared.problem.Fault.{Fault}
 use Rattle.yaml_parser.specs.declared.reader.Reader.{Reader}
 use Rattle.yaml_parser.specs.Ahead.{Skips}
 use Rattle.yaml_parser.specs.Blames.{Blames}
@@ -101,29 +100,29 @@ pub record At {T : Type 0} (g : Goal) (p : Reader T) (names : Names) (given : Li
 pub record IsStuck {T : Type 0} (p : Reader T) (given : List (Ev × Position)) (problem : Problem) (mark : Position) : Type 0 where
   pub blames : Blames (fault_of (fault.At problem mark) mark) p.names.keeping.settings.items p.names.keeping.tags (scanned p.tokens.scanner).given given
 
-abbrev pub Faulted : {T : Type 0} → Reader T → List (Ev × Position) → Stop → Type 0
-Faulted p given (stop.Own OutOfMemory) = Unit {0}
-Faulted p given (stop.Own (fault.At problem mark)) = IsStuck p given problem mark
-Faulted p given stop.Scan = IsStopped (scanned p.tokens.scanner) × IsHalted p.names.keeping.settings.items p.names.keeping.tags (scanned p.tokens.scanner).given given
+abbrev pub Faulted : {T : Type 0} → Reader T → List (Ev × Position) → Option Fault → Type 0
+Faulted p given (Some OutOfMemory) = Unit {0}
+Faulted p given (Some (fault.At problem mark)) = IsStuck p given problem mark
+Faulted p given None = IsStopped (scanned p.tokens.scanner) × IsHalted p.names.keeping.settings.items p.names.keeping.tags (scanned p.tokens.scanner).given given
 
 abbrev pub goal_after_event : Ev → Goal
 goal_after_event Ev.stream_end = at.ended
 goal_after_event _ = at.done
 
 -- An event more, or a fault.
-abbrev pub Answers : {T : Type 0} → Reader T → List (Ev × Position) → Result (Event × Position) Stop → Type 0
+abbrev pub Answers : {T : Type 0} → Reader T → List (Ev × Position) → Result (Event × Position) (Option Fault) → Type 0
 Answers p given (Ok e) = (names : Names) × At (goal_after_event (ev_of e.0)) p names (given ++ placed e ∷ [])
 Answers p given (Err s) = Faulted p given s
 
 -- what a slot holds after this answer
-abbrev pub answered : {E : Type 0} → Result (Unit {0}) E → EventSlot → Result (Event × Position) Stop
+abbrev pub answered : {E : Type 0} → Result (Unit {0}) E → EventSlot → Result (Event × Position) (Option Fault)
 answered (Ok u) slot = Ok slot.next
-answered (Err e) slot = Err slot.stop
+answered (Err e) slot = Err slot.fault
 
 -- the same of what is no event
-abbrev pub with_stop : {A E : Type 0} → Result A E → EventSlot → Result A Stop
-with_stop (Ok x) slot = Ok x
-with_stop (Err e) slot = Err slot.stop
+abbrev pub with_fault : {A E : Type 0} → Result A E → EventSlot → Result A (Option Fault)
+with_fault (Ok x) slot = Ok x
+with_fault (Err e) slot = Err slot.fault
 
 -- what a production comes to
 abbrev pub Reads : {T E : Type 0} → Goal → Reader T → Reader T → Result (Unit {0}) E → EventSlot → Type 0
@@ -132,7 +131,7 @@ Reads g old new result slot = (names : Names) (given : List (Ev × Position)) �
 abbrev pub Carries : {T : Type 0} → Goal → Reader T → Reader T → Type 0
 Carries g old new = (names : Names) (given : List (Ev × Position)) → At g old names given → At g new names given
 
-abbrev pub Fails : {T : Type 0} → Goal → Reader T → Reader T → Stop → Type 0
+abbrev pub Fails : {T : Type 0} → Goal → Reader T → Reader T → Option Fault → Type 0
 Fails g old new s = (names : Names) (given : List (Ev × Position)) → At g old names given → Faulted new given s
 
 -- ---- steps

@@ -7,12 +7,12 @@ use Rattle.defs_event.specs.Properties.{directives_tokens}
 use Rattle.defs_token.specs.Token.{Tok}
 use Rattle.defs_event.specs.Names.{Names, versions}
 use Rattle.model_parser.specs.Goal as at
-use Rattle.yaml_parser.specs.declared.tokens.Stop.{Stop}
+use Rattle.yaml_tokens.specs.declared.problem.Fault.{Fault}
 use Rattle.yaml_parser.specs.declared.slot.EventSlot.{EventSlot}
 use Rattle.yaml_parser.specs.declared.reader.Reader.{Reader}
 use Rattle.yaml_parser.specs.Handed.{taken_toks}
 use Rattle.yaml_parser.specs.Named.{IsOwn}
-use Rattle.yaml_parser.specs.At.{At, Faulted, with_stop}
+use Rattle.yaml_parser.specs.At.{At, Faulted, with_fault}
 
 -- These tokens end with these directives.
 abbrev pub IsAfter : List Directive → List Tok → Type 0
@@ -27,16 +27,16 @@ pub record Directing {T : Type 0} (p : Reader T) (names : Names) (given : List (
   pub taken : IsAfter read (taken_toks p.tokens)
 
 -- The directives go on, or one is refused.
-abbrev pub DirectsTo : {T : Type 0} → Reader T → Names → List (Ev × Position) → Bool → Result (Unit {0}) Stop → Type 0
+abbrev pub DirectsTo : {T : Type 0} → Reader T → Names → List (Ev × Position) → Bool → Result (Unit {0}) (Option Fault) → Type 0
 DirectsTo p names given versioned (Ok u) = Directing p names given versioned
 DirectsTo p names given versioned (Err s) = Faulted p given s
 
 abbrev pub Directs : {T E : Type 0} → Bool → Bool → Reader T → Reader T → Result (Unit {0}) E → EventSlot → Type 0
-Directs before after old new result slot = (names : Names) (given : List (Ev × Position)) → Directing old names given before → DirectsTo new names given after (with_stop result slot)
+Directs before after old new result slot = (names : Names) (given : List (Ev × Position)) → Directing old names given before → DirectsTo new names given after (with_fault result slot)
 
 -- All directives of a document are read.
 abbrev pub AreRead : {T : Type 0} → Reader T → Reader T → Type 0
 AreRead old new = (names : Names) (given : List (Ev × Position)) → Directing old names given false → (read : List Directive) × At (at.directed read) new names given
 
-abbrev pub DirectivesFail : {T : Type 0} → Reader T → Reader T → Stop → Type 0
+abbrev pub DirectivesFail : {T : Type 0} → Reader T → Reader T → Option Fault → Type 0
 DirectivesFail old new s = (names : Names) (given : List (Ev × Position)) → Directing old names given false → Faulted new given s

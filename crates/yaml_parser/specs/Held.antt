@@ -8,8 +8,7 @@ use Rattle.model_parser.specs.Goal as at
 use Rattle.model_parser.specs.Goal.{Goal}
 use Rattle.yaml_parser.specs.declared.event.Event.{Event}
 use Rattle.yaml_parser.specs.declared.names.Keeping.{Keeping}
-use Rattle.yaml_parser.specs.declared.tokens.KeptStop.{KeptStop}
-use Rattle.yaml_parser.specs.declared.tokens.Stop.{Stop}
+use Rattle.yaml_tokens.specs.declared.problem.Fault.{Fault}
 use Rattle.yaml_parser.specs.declared.pull.EventReader.{EventReader}
 use Rattle.yaml_parser.specs.declared.reader.Reader.{Reader}
 use Rattle.yaml_parser.specs.Parsed.{has_end, read_so}
@@ -29,7 +28,7 @@ pub record Stands {T : Type 0} (p : Reader T) (read : List (Ev × Position)) : T
   pub each : length p.names.keeping.settings.items ≡ length read
 
 -- The reader stands after these events; or a fault was met there.
-abbrev pub IsHeld : {T : Type 0} → Reader T → List (Ev × Position) → Option KeptStop → Type 0
+abbrev pub IsHeld : {T : Type 0} → Reader T → List (Ev × Position) → Option (Option Fault × Position) → Type 0
 IsHeld p read None = Stands p read
 IsHeld p read (Some k) = has_end read ≡ false
 
@@ -40,8 +39,8 @@ pub record Notes (old new : Keeping) : Type 0 where
   pub settings : new.settings.items ≡ old.settings.items ++ old.tags ∷ []
 
 -- where a fault is kept: it was met after these events
-abbrev pub IsMet : {T : Type 0} → Reader T → List (Ev × Position) → Option KeptStop → Type 0
-IsMet p read o = IfSome o (λ k. Faulted p read k.stop)
+abbrev pub IsMet : {T : Type 0} → Reader T → List (Ev × Position) → Option (Option Fault × Position) → Type 0
+IsMet p read o = IfSome o (λ k. Faulted p read k.0)
 
 -- An event more is read; the stream's end comes again, and nothing changes; or a fault is met.
 abbrev pub Continues : {T : Type 0} → EventReader T → List (Ev × Position) → Result (Event × Position) ErrorReport → EventReader T → Type 0
@@ -52,7 +51,7 @@ Continues old read (Ok e) new =
 Continues old read (Err f) new = (new.reader.names.keeping ≡ old.reader.names.keeping) × IsHeld new.reader read new.kept × (old.kept ≡ None → IsMet new.reader read new.kept)
 
 -- The same before the stream's end, where no fault is kept.
-abbrev pub Advances : {T : Type 0} → EventReader T → List (Ev × Position) → Result (Event × Position) Stop → EventReader T → Type 0
+abbrev pub Advances : {T : Type 0} → EventReader T → List (Ev × Position) → Result (Event × Position) (Option Fault) → EventReader T → Type 0
 Advances old read (Ok e) new = (has_end read ≡ false) × (work new.reader < work old.reader) × Notes old.reader.names.keeping new.reader.names.keeping × IsHeld new.reader (read ++ placed e ∷ []) None
 Advances old read (Err s) new = (new.reader.names.keeping ≡ old.reader.names.keeping) × (has_end read ≡ false) × Faulted new.reader read s
 

@@ -12,7 +12,7 @@ use Rattle.yaml_parser.specs.Seen.{fault_seen}
 use Rattle.yaml_parser.specs.Work.{work}
 
 abbrev pub fault_kept : {T : Type 0} → EventReader T → Option ErrorReport
-fault_kept p = option_map (λ k. fault_seen k.stop k.mark (scanned p.reader.tokens.scanner).fault) p.kept
+fault_kept p = option_map (λ k. fault_seen k.0 k.1 (scanned p.reader.tokens.scanner).fault) p.kept
 
 abbrev pub one_if_some : {A : Type 0} → Option A → ℕ
 one_if_some None = 0

@@ -7,7 +7,6 @@ ghost use Rattle.yaml_parser.specs.Kinds.{IsOfKind};
 use crate::event::Event;
 use crate::reader::Reader;
 use crate::slot::{Answer, EventSlot};
-use crate::tokens::Stop;
 use model_parser::{Kind, NodeContext, State};
 use yaml_chars::Characters;
 use yaml_tokens::{Fault, Problem};
@@ -28,7 +27,7 @@ impl<T: Characters> Reader<T> {
                 self.skip();
                 self.block_sequence_item(slot)
             }
-            _ => Err(slot.halt(Stop::Own(Fault::At(Problem::BlockSequenceEntry, self.mark())))),
+            _ => Err(slot.halt(Some(Fault::At(Problem::BlockSequenceEntry, self.mark())))),
         }
     }
 
@@ -130,7 +129,7 @@ impl<T: Characters> Reader<T> {
                 self.push(slot, State::BlockMappingValue)?;
                 self.block_mapping_part(slot)
             }
-            _ => Err(slot.halt(Stop::Own(Fault::At(Problem::BlockMappingKey, self.mark())))),
+            _ => Err(slot.halt(Some(Fault::At(Problem::BlockMappingKey, self.mark())))),
         }
     }
 

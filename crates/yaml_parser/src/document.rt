@@ -11,7 +11,6 @@ ghost use Rattle.yaml_parser.specs.Kinds.{IsOfKind};
 use crate::event::Event;
 use crate::reader::Reader;
 use crate::slot::{Answer, EventSlot};
-use crate::tokens::Stop;
 use model_parser::{Kind, NodeContext, State};
 use yaml_chars::Characters;
 use yaml_scanner::Failed;
@@ -30,7 +29,7 @@ impl<T: Characters> Reader<T> {
                 slot.write(Event::StreamStart, mark);
                 Ok(())
             }
-            _ => Err(slot.halt(Stop::Own(Fault::At(Problem::DocumentStartToken, self.mark())))),
+            _ => Err(slot.halt(Some(Fault::At(Problem::DocumentStartToken, self.mark())))),
         }
     }
 
@@ -39,7 +38,7 @@ impl<T: Characters> Reader<T> {
         ensures peeked { IfOk result (λ n. IsOfKind n self.new.tokens.peeked × (n ≢ kind.DocumentEnd)) }
         ensures bounds { Moves 0 0 self.old self.new result }
         ensures at { OnOk result (Carries at.documents self.old self.new) }
-        ensures err { OnErr result (Fails at.documents self.old self.new slot.new.stop) }
+        ensures err { OnErr result (Fails at.documents self.old self.new slot.new.fault) }
     {
         let mut next = self.peek(slot)?;
         'ends: while let Kind::DocumentEnd = next {
@@ -95,7 +94,7 @@ impl<T: Characters> Reader<T> {
                 slot.write(Event::DocumentStart, mark);
                 Ok(())
             }
-            _ => Err(slot.halt(Stop::Own(Fault::At(Problem::DocumentStartToken, self.mark())))),
+            _ => Err(slot.halt(Some(Fault::At(Problem::DocumentStartToken, self.mark())))),
         }
     }
 
@@ -115,7 +114,7 @@ impl<T: Characters> Reader<T> {
                 slot.write(Event::DocumentStart, mark);
                 Ok(())
             }
-            _ => Err(slot.halt(Stop::Own(Fault::At(Problem::DocumentStartToken, self.mark())))),
+            _ => Err(slot.halt(Some(Fault::At(Problem::DocumentStartToken, self.mark())))),
         }
     }
 
@@ -124,7 +123,7 @@ impl<T: Characters> Reader<T> {
         ensures peeked { IfOk result (λ n. IsOfKind n self.new.tokens.peeked × (n ≢ kind.VersionDirective) × (n ≢ kind.TagDirective)) }
         ensures bounds { Moves 0 0 self.old self.new result }
         ensures at { OnOk result (AreRead self.old self.new) }
-        ensures err { OnErr result (DirectivesFail self.old self.new slot.new.stop) }
+        ensures err { OnErr result (DirectivesFail self.old self.new slot.new.fault) }
     {
         let mut versioned = false;
         'directives: loop {
@@ -148,7 +147,7 @@ impl<T: Characters> Reader<T> {
     {
         let mark = self.skip();
         if versioned {
-            return Err(slot.halt(Stop::Own(Fault::At(Problem::SecondVersion, mark))));
+            return Err(slot.halt(Some(Fault::At(Problem::SecondVersion, mark))));
         }
         Ok(())
     }
@@ -163,7 +162,7 @@ impl<T: Characters> Reader<T> {
         let (handle, prefix) = self.tokens.take_tag_directive();
         match self.names.declare(mark, handle, prefix) {
             Ok(()) => Ok(()),
-            Err(stop) => Err(slot.halt(stop)),
+            Err(fault) => Err(slot.halt(Some(fault))),
         }
     }
 
@@ -201,10 +200,7 @@ impl<T: Characters> Reader<T> {
                 Ok(())
             }
             Kind::VersionDirective | Kind::TagDirective => {
-                Err(slot.halt(Stop::Own(Fault::At(
-                    Problem::DirectiveWithoutDocumentEnd,
-                    self.mark(),
-                ))))
+                Err(slot.halt(Some(Fault::At(Problem::DirectiveWithoutDocumentEnd, self.mark()))))
             }
             _ => {
                 self.push(slot, State::DocumentStart)?;

@@ -10,7 +10,6 @@ ghost use Rattle.yaml_parser.specs.Kinds.{IsOfKind};
 use crate::event::Event;
 use crate::reader::Reader;
 use crate::slot::{Answer, EventSlot};
-use crate::tokens::Stop;
 use model_parser::{Kind, NodeContext, State};
 use yaml_chars::{Characters, Marker};
 use yaml_tokens::{Fault, Problem};
@@ -47,7 +46,7 @@ impl<T: Characters> Reader<T> {
                 self.skip();
                 self.flow_sequence_next(slot)
             }
-            _ => Err(slot.halt(Stop::Own(Fault::At(Problem::FlowSequenceEntry, self.mark())))),
+            _ => Err(slot.halt(Some(Fault::At(Problem::FlowSequenceEntry, self.mark())))),
         }
     }
 
@@ -189,7 +188,7 @@ impl<T: Characters> Reader<T> {
                 let comma = self.skip();
                 self.flow_mapping_next(slot, comma)
             }
-            _ => Err(slot.halt(Stop::Own(Fault::At(Problem::FlowMappingEntry, self.mark())))),
+            _ => Err(slot.halt(Some(Fault::At(Problem::FlowMappingEntry, self.mark())))),
         }
     }
 

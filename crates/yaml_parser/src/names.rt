@@ -7,7 +7,6 @@ ghost use Rattle.yaml_tokens.specs.declared.problem.Fault.TheVariants as fault;
 ghost use Rattle.yaml_tokens.specs.declared.problem.Problem.TheVariants.{UnknownAnchor};
 ghost use Rattle.defs_event.specs.Names as defs;
 ghost use Rattle.defs_event.specs.Names.{at_document, no_names, number, with_anchor};
-ghost use Rattle.yaml_parser.specs.declared.tokens.Stop.TheVariants.{Own};
 ghost use Rattle.defs_event.specs.Raw.{Directive};
 ghost use Rattle.yaml_parser.specs.Named.{IsNamed, IsOwn, is_own, prefix_of};
 ghost use Rattle.yaml_parser.specs.Declares.{HasRead, Declares};
@@ -15,7 +14,6 @@ ghost use Rattle.yaml_parser.specs.Held.{Notes};
 ghost use Rattle.yaml_parser.specs.Resolves.{Resolves, IsUndeclared};
 
 use crate::event::{Tag, copied};
-use crate::tokens::Stop;
 use std::alloc::{AllocError, Global};
 use std::collections::BTreeMap;
 use yaml_chars::Marker;
@@ -140,7 +138,7 @@ impl Names {
     }
 
     /// Declares a handle. A document may declare each handle only once.
-    pub fn declare(&mut self, mark: Marker, handle: String, prefix: String) -> Result<(), Stop>
+    pub fn declare(&mut self, mark: Marker, handle: String, prefix: String) -> Result<(), Fault>
         ensures keep { self.new.keeping ≡ self.old.keeping }
         ensures declares { (keep : Bool) (names : defs.Names) (read : List Directive) → HasRead self.old keep names read → Declares mark self.new keep names read (string_chars handle) (string_chars prefix) result }
     {
@@ -148,11 +146,11 @@ impl Names {
             return Ok(());
         }
         let Some(number) = self.declared.checked_add(1) else {
-            return Err(Stop::Own(Fault::OutOfMemory));
+            return Err(Fault::OutOfMemory);
         };
         let before = put(&mut self.handles, handle, Declaration { prefix, number })?;
         if self.is_own(&before) {
-            return Err(Stop::Own(Fault::At(Problem::RepeatedHandle, mark)));
+            return Err(Fault::At(Problem::RepeatedHandle, mark));
         }
         self.declared = number;
         Ok(())
@@ -169,7 +167,7 @@ impl Names {
     }
 
     /// A tag with its handle's prefix. `mark` is the position of a fault.
-    pub fn resolve(&self, mark: Marker, handle: String, suffix: String) -> Result<Tag, Stop>
+    pub fn resolve(&self, mark: Marker, handle: String, suffix: String) -> Result<Tag, Fault>
         ensures { (names : defs.Names) → IsNamed self.now names → Resolves mark names (record { handle = string_chars handle; suffix = string_chars suffix }) result }
     {
         if handle.is_empty() {
@@ -196,7 +194,7 @@ impl Names {
     }
 
     /// A tag whose handle was not declared.
-    fn undeclared(&self, mark: Marker, handle: String, suffix: String) -> Result<Tag, Stop>
+    fn undeclared(&self, mark: Marker, handle: String, suffix: String) -> Result<Tag, Fault>
         ensures { IsUndeclared mark (string_chars handle) (string_chars suffix) result }
     {
         if handle.as_str() == "!!" {
@@ -206,21 +204,21 @@ impl Names {
         if handle.as_str() == "!" {
             return Ok(Tag { handle, suffix });
         }
-        Err(Stop::Own(Fault::At(Problem::UndeclaredHandle, mark)))
+        Err(Fault::At(Problem::UndeclaredHandle, mark))
     }
 
     /// Numbers an anchor, if there is one.
-    pub fn register(&mut self, anchor: Option<String>) -> Result<usize, Stop>
+    pub fn register(&mut self, anchor: Option<String>) -> Result<usize, Fault>
         ensures keep { self.new.keeping ≡ self.old.keeping }
         ensures value { IfOk result (λ n. (names : defs.Names) → IsNamed self.old names → n ≡ number names (option_map string_chars anchor)) }
         ensures named { OnOk result ((names : defs.Names) → IsNamed self.old names → IsNamed self.new (with_anchor names (option_map string_chars anchor))) }
-        ensures err { IfErr result (λ s. s ≡ Own OutOfMemory) }
+        ensures err { IfErr result (λ f. f ≡ OutOfMemory) }
     {
         let Some(name) = anchor else {
             return Ok(0);
         };
         let Some(number) = self.count.checked_add(1) else {
-            return Err(Stop::Own(Fault::OutOfMemory));
+            return Err(Fault::OutOfMemory);
         };
         put(&mut self.anchors, name, number)?;
         self.count = number;
@@ -228,13 +226,13 @@ impl Names {
     }
 
     /// The number of the anchor that an alias means.
-    pub fn number_of(&self, mark: Marker, name: &String) -> Result<usize, Stop>
+    pub fn number_of(&self, mark: Marker, name: &String) -> Result<usize, Fault>
         ensures some { IfOk result (λ n. get_by_text self.now.anchors (string_bytes name.now) ≡ Some n) }
-        ensures none { IfErr result (λ s. (s ≡ Own (fault.At UnknownAnchor mark)) × (get_by_text self.now.anchors (string_bytes name.now) ≡ None)) }
+        ensures none { IfErr result (λ f. (f ≡ fault.At UnknownAnchor mark) × (get_by_text self.now.anchors (string_bytes name.now) ≡ None)) }
     {
         match self.anchors.get(name.as_str()) {
             Some(number) => Ok(*number),
-            None => Err(Stop::Own(Fault::At(Problem::UnknownAnchor, mark))),
+            None => Err(Fault::At(Problem::UnknownAnchor, mark)),
         }
     }
 }

@@ -5,7 +5,6 @@ ghost use Rattle.defs_event.specs.Names.{Names};
 ghost use Rattle.model_parser.specs.declared.context.NodeContext.TheVariants as context;
 ghost use Rattle.model_parser.specs.Kinds.{begins_content};
 ghost use Rattle.yaml_tokens.specs.declared.problem.Fault.TheVariants.{OutOfMemory};
-ghost use Rattle.yaml_parser.specs.declared.tokens.Stop.TheVariants.{Own};
 ghost use Rattle.yaml_parser.specs.Shown.{placed, perhaps_tag_of, start_of};
 ghost use Rattle.yaml_parser.specs.Named.{IsNamed};
 ghost use Rattle.yaml_parser.specs.Properties.{ReadsAfter, Registers};
@@ -17,7 +16,6 @@ ghost use Rattle.model_parser.specs.declared.kind.Kind.TheVariants as kind;
 use crate::event::{Event, Tag};
 use crate::reader::Reader;
 use crate::slot::{Answer, EventSlot};
-use crate::tokens::Stop;
 use model_parser::{Kind, NodeContext, State};
 use model_scanner::Collection;
 use yaml_chars::{Characters, Marker};
@@ -70,7 +68,7 @@ impl<T: Characters> Reader<T> {
         let name = self.tokens.take_name();
         let number = match self.names.number_of(mark, &name) {
             Ok(number) => number,
-            Err(stop) => return Err(slot.halt(stop)),
+            Err(fault) => return Err(slot.halt(Some(fault))),
         };
         slot.write(Event::Alias(number), mark);
         Ok(())
@@ -90,7 +88,7 @@ impl<T: Characters> Reader<T> {
                 let (handle, suffix) = self.tokens.take_tag();
                 let tag = match self.names.resolve(mark, handle, suffix) {
                     Ok(tag) => tag,
-                    Err(stop) => return Err(slot.halt(stop)),
+                    Err(fault) => return Err(slot.halt(Some(fault))),
                 };
                 self.content_after(slot, context, name, tag)
             }
@@ -116,7 +114,7 @@ impl<T: Characters> Reader<T> {
         let (handle, suffix) = self.tokens.take_tag();
         let tag = match self.names.resolve(mark, handle, suffix) {
             Ok(tag) => tag,
-            Err(stop) => return Err(slot.halt(stop)),
+            Err(fault) => return Err(slot.halt(Some(fault))),
         };
         let next = self.peek(slot)?;
         match next {
@@ -328,7 +326,7 @@ impl<T: Characters> Reader<T> {
                 slot.write(Event::empty_with(self.alloc, anchor, tag), mark);
                 Ok(())
             }
-            None => Err(slot.halt(Stop::Own(Fault::At(Problem::NodeContent, mark)))),
+            None => Err(slot.halt(Some(Fault::At(Problem::NodeContent, mark)))),
         }
     }
 
@@ -344,7 +342,7 @@ impl<T: Characters> Reader<T> {
         ensures work { OnOk result (work self.new ≡ work self.old) }
         ensures input { KeepsInput self.old self.new }
         ensures registers { (names : Names) → IsNamed self.old.names names → OnOk result (Registers self.old properties names (λ a t. placed slot.new.next ≡ (start_of collection a t, mark)) self.new) }
-        ensures err { OnErr result (slot.new.stop ≡ Own OutOfMemory) }
+        ensures err { OnErr result (slot.new.fault ≡ Some OutOfMemory) }
     {
         let (anchor, tag) = self.registered(slot, properties)?;
         match collection {
@@ -364,14 +362,14 @@ impl<T: Characters> Reader<T> {
         ensures work { OnOk result (work self.new ≡ work self.old) }
         ensures input { KeepsInput self.old self.new }
         ensures registers { (names : Names) → IsNamed self.old.names names → IfOk result (λ r. Registers self.old properties names (λ a t. (r.0 ≡ a) × (perhaps_tag_of r.1 ≡ t)) self.new) }
-        ensures err { OnErr result (slot.new.stop ≡ Own OutOfMemory) }
+        ensures err { OnErr result (slot.new.fault ≡ Some OutOfMemory) }
     {
         let Some(properties) = properties else {
             return Ok((0, None));
         };
         let anchor = match self.names.register(properties.anchor) {
             Ok(anchor) => anchor,
-            Err(stop) => return Err(slot.halt(stop)),
+            Err(fault) => return Err(slot.halt(Some(fault))),
         };
         Ok((anchor, properties.tag))
     }

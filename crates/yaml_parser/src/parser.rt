@@ -311,7 +311,7 @@ impl<T: Characters> Parser<T> {
                 }
                 Ok(last)
             }
-            Err(_) => Err(self.pull.keep(slot.stop)),
+            Err(_) => Err(self.pull.keep(slot.fault)),
         }
     }
 

@@ -14,19 +14,19 @@ use crate::names::Names;
 use crate::reader::Reader;
 use crate::slot::{Answer, EventSlot};
 use crate::stack::Stack;
-use crate::tokens::{KeptStop, Stop, Tokens};
+use crate::tokens::Tokens;
 use std::alloc::Global;
-use yaml_chars::Characters;
+use yaml_chars::{Characters, Marker};
 use yaml_scanner::Scanner;
-use yaml_tokens::ScanError;
+use yaml_tokens::{Fault, ScanError};
 
 /// Reads events one by one, and keeps a fault.
 #[derive(Drop)]
 pub struct EventReader<T: Characters> {
     /// What reads the events.
     pub reader: Reader<T>,
-    /// The fault that is kept, if there is one.
-    pub kept: Option<KeptStop>,
+    /// The fault that is kept, if there is one: the parser's own, or `None` for one that the scanner keeps; and where the scanner stood.
+    pub kept: Option<(Option<Fault>, Marker)>,
 }
 
 impl<T: Characters> EventReader<T> {
@@ -63,8 +63,8 @@ impl<T: Characters> EventReader<T> {
         ensures err { IfErr result (λ f. fault_kept self.new ≡ Some f) }
         ensures again { IfSome (fault_kept self.old) (λ f. (result ≡ Err f) × (self.new ≡ self.old)) }
     {
-        if let Some(kept) = &self.kept {
-            return Err(self.reader.error(kept));
+        if let Some((fault, mark)) = self.kept {
+            return Err(self.reader.error(fault, mark));
         }
         if self.reader.stack.is_empty() {
             return Ok((Event::StreamEnd, self.reader.tokens.scanner.mark()));
@@ -75,7 +75,7 @@ impl<T: Characters> EventReader<T> {
                 self.reader.names.keeping.note();
                 Ok(slot.next)
             }
-            Err(_) => Err(self.keep(slot.stop)),
+            Err(_) => Err(self.keep(slot.fault)),
         }
     }
 
@@ -94,17 +94,13 @@ impl<T: Characters> EventReader<T> {
 
     /// Keeps a fault, and gives it as callers see it.
     #[inline(never)]
-    pub fn keep(&mut self, stop: Stop) -> ScanError
+    pub fn keep(&mut self, fault: Option<Fault>) -> ScanError
         ensures kept { fault_kept self.new ≡ Some result }
-        ensures stop { IfSome self.new.kept (λ k. k.stop ≡ stop) }
+        ensures fault { IfSome self.new.kept (λ k. k.0 ≡ fault) }
         ensures reader { self.new.reader ≡ self.old.reader }
     {
-        let kept = KeptStop {
-            stop,
-            mark: self.reader.tokens.scanner.mark(),
-        };
-        let error = self.reader.error(&kept);
-        self.kept = Some(kept);
-        error
+        let mark = self.reader.tokens.scanner.mark();
+        self.kept = Some((fault, mark));
+        self.reader.error(fault, mark)
     }
 }

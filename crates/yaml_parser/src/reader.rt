@@ -7,7 +7,6 @@ ghost use Rattle.yaml_tokens.specs.declared.problem.Fault.TheVariants.{OutOfMemo
 ghost use Rattle.defs_event.specs.Event.{Ev};
 ghost use Rattle.model_parser.specs.Goal.{Goal};
 ghost use Rattle.yaml_parser.specs.declared.event.Event.TheVariants.{SequenceEnd, MappingEnd};
-ghost use Rattle.yaml_parser.specs.declared.tokens.Stop.TheVariants.{Own};
 ghost use Rattle.yaml_parser.specs.Ahead.{TakesBoth};
 ghost use Rattle.yaml_parser.specs.Shown.{placed};
 ghost use Rattle.model_parser.specs.Rest.{goal_of};
@@ -22,7 +21,7 @@ use crate::event::Event;
 use crate::names::Names;
 use crate::slot::{Answer, EventSlot};
 use crate::stack::Stack;
-use crate::tokens::{KeptStop, Stop, Tokens};
+use crate::tokens::Tokens;
 use model_parser::{Kind, State};
 use std::alloc::Global;
 use yaml_chars::{Characters, Marker};
@@ -51,11 +50,11 @@ impl<T: Characters> Reader<T> {
         ensures taken { self.new.tokens.taken ≡ self.old.tokens.taken }
         ensures bounds { Moves 0 0 self.old self.new result }
         ensures at { OnOk result ((g : Goal) → is_over g ≡ false → Carries g self.old self.new) }
-        ensures err { OnErr result ((g : Goal) → is_idle g ≡ false → Fails g self.old self.new slot.new.stop) }
+        ensures err { OnErr result ((g : Goal) → is_idle g ≡ false → Fails g self.old self.new slot.new.fault) }
     {
         match self.tokens.peek() {
             Ok(kind) => Ok(kind),
-            Err(_) => Err(slot.halt(Stop::Scan)),
+            Err(_) => Err(slot.halt(None)),
         }
     }
 
@@ -87,11 +86,11 @@ impl<T: Characters> Reader<T> {
         ensures names { self.new.names ≡ self.old.names }
         ensures tokens { self.new.tokens ≡ self.old.tokens }
         ensures stayed { OnOk result (Stayed self.old self.new (state ∷ self.old.stack)) }
-        ensures err { OnErr result (slot.new.stop ≡ Own OutOfMemory) }
+        ensures err { OnErr result (slot.new.fault ≡ Some OutOfMemory) }
     {
         match self.stack.push(state) {
             Ok(()) => Ok(()),
-            Err(error) => Err(slot.halt(Stop::from(error))),
+            Err(error) => Err(slot.halt(Some(Fault::from(error)))),
         }
     }
 
@@ -104,11 +103,11 @@ impl<T: Characters> Reader<T> {
         ensures names { self.new.names ≡ self.old.names }
         ensures stack { self.new.stack ≡ self.old.stack }
         ensures start { self.new.tokens.scanner.start ≡ self.old.tokens.scanner.start }
-        ensures err { OnErr result ((g : Goal) → is_idle g ≡ false → Fails g self.old self.new slot.new.stop) }
+        ensures err { OnErr result ((g : Goal) → is_idle g ≡ false → Fails g self.old self.new slot.new.fault) }
     {
         match self.tokens.next_key() {
             Ok(node) => Ok(node),
-            Err(_) => Err(slot.halt(Stop::Scan)),
+            Err(_) => Err(slot.halt(None)),
         }
     }
 
@@ -121,11 +120,11 @@ impl<T: Characters> Reader<T> {
         ensures names { self.new.names ≡ self.old.names }
         ensures stack { self.new.stack ≡ self.old.stack }
         ensures start { self.new.tokens.scanner.start ≡ self.old.tokens.scanner.start }
-        ensures err { OnErr result ((g : Goal) → is_idle g ≡ false → Fails g self.old self.new slot.new.stop) }
+        ensures err { OnErr result ((g : Goal) → is_idle g ≡ false → Fails g self.old self.new slot.new.fault) }
     {
         match self.tokens.next_value() {
             Ok(node) => Ok(node),
-            Err(_) => Err(slot.halt(Stop::Scan)),
+            Err(_) => Err(slot.halt(None)),
         }
     }
 
@@ -137,7 +136,7 @@ impl<T: Characters> Reader<T> {
         ensures names { self.new.names ≡ self.old.names }
         ensures tokens { self.new.tokens ≡ self.old.tokens }
         ensures stayed { OnOk result (Stayed self.old self.new (state ∷ self.old.stack)) }
-        ensures err { OnErr result (slot.new.stop ≡ Own OutOfMemory) }
+        ensures err { OnErr result (slot.new.fault ≡ Some OutOfMemory) }
     {
         self.push(slot, state)?;
         slot.write(
@@ -184,13 +183,12 @@ impl<T: Characters> Reader<T> {
     }
 
     /// A fault as callers see it.
-    pub fn error(&self, kept: &KeptStop) -> ScanError
-        ensures { result ≡ fault_seen kept.now.stop kept.now.mark (scanned self.now.tokens.scanner).fault }
+    pub fn error(&self, fault: Option<Fault>, mark: Marker) -> ScanError
+        ensures { result ≡ fault_seen fault mark (scanned self.now.tokens.scanner).fault }
     {
-        let mark = kept.mark;
-        match &kept.stop {
-            Stop::Own(fault) => (*fault).error(mark),
-            Stop::Scan => match self.tokens.scanner.get_error() {
+        match fault {
+            Some(fault) => fault.error(mark),
+            None => match self.tokens.scanner.get_error() {
                 Some(error) => error,
                 None => ScanError::memory(mark),
             },

@@ -1,10 +1,10 @@
 ghost use Rattle.std.specs.Prelude.{◌≡◌};
 
 use crate::event::Event;
-use crate::tokens::Stop;
 use std::mem;
 use yaml_chars::Marker;
 use yaml_scanner::Failed;
+use yaml_tokens::Fault;
 
 /// Whether an event was written into the slot. If not, the slot says why.
 pub type Answer = Result<(), Failed>;
@@ -14,8 +14,8 @@ pub type Answer = Result<(), Failed>;
 pub struct EventSlot {
     /// The event that was written, and its position.
     pub next: (Event, Marker),
-    /// Why no event comes, where a call failed.
-    pub stop: Stop,
+    /// Where a call failed, why no event comes: a fault of the parser, or `None` where the scanner keeps one.
+    pub fault: Option<Fault>,
 }
 
 impl EventSlot {
@@ -24,7 +24,7 @@ impl EventSlot {
     pub fn new(mark: Marker) -> Self {
         EventSlot {
             next: (Event::Nothing, mark),
-            stop: Stop::Scan,
+            fault: None,
         }
     }
 
@@ -38,10 +38,10 @@ impl EventSlot {
 
     /// Writes why no event comes.
     #[inline(never)]
-    pub(crate) fn halt(&mut self, stop: Stop) -> Failed
-        ensures { self.new.stop ≡ stop }
+    pub(crate) fn halt(&mut self, fault: Option<Fault>) -> Failed
+        ensures { self.new.fault ≡ fault }
     {
-        self.stop = stop;
+        self.fault = fault;
         Failed
     }
 }

@@ -11,52 +11,10 @@ ghost use Rattle.model_parser.specs.declared.kind.Kind.TheVariants as kind;
 
 use crate::looked::Looked;
 use model_parser::Kind;
-use std::alloc::AllocError;
 use yaml_chars::ghost_list::GhostList;
 use yaml_chars::{Characters, Marker};
 use yaml_scanner::{Failed, PlainNode, Scanner};
-use yaml_tokens::{Fault, TScalarStyle, Token, TokenType};
-
-/// Why no event comes.
-#[derive(Clone, Copy, Debug, PartialEq, Eq)]
-pub enum Stop {
-    /// What the parser found.
-    Own(Fault),
-    /// The scanner's fault, which the scanner keeps.
-    Scan,
-}
-
-impl From<Fault> for Stop {
-    ghost use Rattle.std.specs.Prelude.{◌≡◌};
-    ghost use Rattle.yaml_parser.specs.declared.tokens.Stop.TheVariants.{Own};
-
-    ghost from_gives = { λ f stop. stop ≡ Own f };
-
-    fn from(fault: Fault) -> Stop {
-        Stop::Own(fault)
-    }
-}
-
-impl From<AllocError> for Stop {
-    ghost use Rattle.std.specs.Prelude.{◌≡◌};
-    ghost use Rattle.yaml_tokens.specs.declared.problem.Fault.TheVariants.{OutOfMemory};
-    ghost use Rattle.yaml_parser.specs.declared.tokens.Stop.TheVariants.{Own};
-
-    ghost from_gives = { λ _ stop. stop ≡ Own OutOfMemory };
-
-    fn from(_: AllocError) -> Stop {
-        Stop::Own(Fault::OutOfMemory)
-    }
-}
-
-/// Why no event comes, and where the scanner stood.
-#[derive(Clone, Copy)]
-pub struct KeptStop {
-    /// Why no event comes.
-    pub stop: Stop,
-    /// Where the scanner stood.
-    pub mark: Marker,
-}
+use yaml_tokens::{TScalarStyle, Token, TokenType};
 
 /// A scanner's tokens. The next one may have been looked at.
 #[derive(Drop)]

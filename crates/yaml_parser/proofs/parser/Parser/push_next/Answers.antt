@@ -41,10 +41,10 @@ returns-in_default-clause-pushes g c =
 pub returns-in-Err-clause-pushes : goal.returns-in-Err-clause-pushes
 returns-in-Err-clause-pushes g c =
     let i = c.self.inside in
-    let stops = stopped i.pull c.advance.new.self c.keep.new.self (all_placed i.given.items) i.current i.started i.ended i.misplaced c.advance.new.slot.stop c.keep.result (ap parsed c.self.view_is) c.self.invariant c.requires.none c.requires.clear c.in-Err.ensures.advances c.keep.ensures.kept c.keep.ensures.stop c.keep.ensures.reader in
+    let stops = stopped i.pull c.advance.new.self c.keep.new.self (all_placed i.given.items) i.current i.started i.ended i.misplaced c.advance.new.slot.fault c.keep.result (ap parsed c.self.view_is) c.self.invariant c.requires.none c.requires.clear c.in-Err.ensures.advances c.keep.ensures.kept c.keep.ensures.fault c.keep.ensures.reader in
     inl (stops.1, refl)
 
 pub invariant_of-self-in-Err : goal.invariant_of-self-in-Err
 invariant_of-self-in-Err g c =
     let i = c.self.inside in
-    (stopped i.pull c.advance.new.self c.keep.new.self (all_placed i.given.items) i.current i.started i.ended i.misplaced c.advance.new.slot.stop c.keep.result (ap parsed c.self.view_is) c.self.invariant c.requires.none c.requires.clear c.in-Err.ensures.advances c.keep.ensures.kept c.keep.ensures.stop c.keep.ensures.reader).0
+    (stopped i.pull c.advance.new.self c.keep.new.self (all_placed i.given.items) i.current i.started i.ended i.misplaced c.advance.new.slot.fault c.keep.result (ap parsed c.self.view_is) c.self.invariant c.requires.none c.requires.clear c.in-Err.ensures.advances c.keep.ensures.kept c.keep.ensures.fault c.keep.ensures.reader).0
