@@ -39,11 +39,10 @@ pub use Rattle.yaml_scanner.specs.Fetched.{Fetched, FetchesTwice, Gets, once, Ru
 unfoldable pub use Rattle.yaml_scanner.specs.Fetched.{fetch_rest}
 pub use Rattle.yaml_scanner.specs.Follows.{AreBehind, AreSettled, BeginsWith, Follows, FollowsIn, IsReached, IsShort}
 pub use Rattle.yaml_scanner.specs.Runs.{Becomes, Brings, Comes, Runs, Steps, Turns}
-pub use Rattle.yaml_scanner.specs.Scanned.{HandsBoth, inside, is_early, IsRefusal, kept_fault, LeavesNoRow, Scanned, Scans}
+pub use Rattle.yaml_scanner.specs.Scanned.{HandsBoth, inside, IsRefusal, LeavesNoRow, Scanned, Scans}
 pub use Rattle.yaml_scanner.specs.Shape.{held, state}
 pub use Rattle.yaml_scanner.specs.Work.{Fetches, Moves, work}
 pub use Rattle.yaml_scanner.specs.declared.fetcher.Fetcher.{Fetcher}
-pub use Rattle.yaml_scanner.specs.declared.fetcher.KeptFault.{KeptFault}
 pub use Rattle.yaml_scanner.proofs.KeyLemmas.{none_front, none_lowered, with_top_seen}
 pub use Rattle.yaml_scanner.specs.ImplicitKeys.{is_front, lowered, no_implicit, seen}
 pub use Rattle.yaml_scanner.specs.Levels.{Columns, ends_open, value_level}

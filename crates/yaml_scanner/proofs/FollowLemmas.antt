@@ -1,6 +1,6 @@
 -- What was fetched and handed out is a run of the model.
 use Rattle.std.specs.Prelude.{IfSome}
-use Rattle.yaml_scanner.proofs.Common.{[], ap, AreBehind, AreSettled, arith, At, BeginsWith, Bool, both_ways, codes, drop, eqb-true, Err, ErrorReport, false, Fault, fetch, Fetcher, Fetches, Follows, FollowsIn, handed, has_end, has_no_nul, HasTokens, held, here, ImplicitKey, inl, inr, inside, is_early, is_end, is_front, IsReached, IsRefusal, IsRefused, IsShort, kept_fault, KeptFault, LeavesNoRow, length, length-drop, length-take, List, list_any, lowered, map, None, not_refused, nothing_held, Ok, one_fault, one_list, one_more, Option, option_map, OutOfMemory, Position, position_of, Possible-taken, Reaches, Reads, refl, run_to_end, Scanned, Scans, seen, Some, start, state, subst, suc, sym, take, take-append-drop, Tok, Token, Tokens, true, zero, ℕ, ◌++◌, ◌+◌, ◌-◌, ◌<◌, ◌==◌, ◌||◌, ◌∙◌, ◌∷◌, ◌≡◌, ◌≢◌, ◌≤◌}
+use Rattle.yaml_scanner.proofs.Common.{[], ap, AreBehind, AreSettled, arith, At, BeginsWith, Bool, both_ways, codes, drop, eqb-true, Err, ErrorReport, false, Fault, fetch, Fetcher, Fetches, Follows, FollowsIn, handed, has_end, has_no_nul, HasTokens, held, here, ImplicitKey, inl, inr, inside, is_end, is_front, IsReached, IsRefusal, IsRefused, IsShort, LeavesNoRow, length, length-drop, length-take, List, list_any, lowered, map, None, not_refused, nothing_held, Ok, one_fault, one_list, one_more, Option, option_map, OutOfMemory, Position, position_of, Possible-taken, Reaches, Reads, refl, run_to_end, Scanned, Scans, seen, Some, start, state, subst, suc, sym, take, take-append-drop, Tok, Token, Tokens, true, zero, ℕ, ◌++◌, ◌+◌, ◌-◌, ◌<◌, ◌==◌, ◌||◌, ◌∙◌, ◌∷◌, ◌≡◌, ◌≢◌, ◌≤◌}
 use Rattle.yaml_tokens.specs.Problem.{fault_of}
 use Rattle.yaml_tokens.specs.declared.problem.Problem.{Problem}
 use Rattle.model_scanner.proofs.Given.{GivenStands, KeysFrom, reached}
@@ -110,8 +110,8 @@ settled_at x a e run going refused short = record {
 }
 
 -- a refusal, which is then kept
-pub stopped : {T : Type 0} (x y : Fetcher T) (e : Fault) (k : KeptFault) → k.fault ≡ e → x.kept ≡ None → x.tokens.ended ≡ false → (k.early ≡ false → IsShort x) → Follows x → Reads x.window y.window (λ a b. e ≢ OutOfMemory → fetch (state a x) ≡ Err e) → Fetches x y → Follows (record y { kept = Some k })
-stopped x y e k i n g short f d m = λ a p.
+pub stopped : {T : Type 0} (x y : Fetcher T) (mark : Position) (early : Bool) → x.kept ≡ None → x.tokens.ended ≡ false → (early ≡ false → IsShort x) → Follows x → Reads x.window y.window (λ a b. y.fault ≢ OutOfMemory → fetch (state a x) ≡ Err y.fault) → Fetches x y → Follows (record y { kept = Some mark; early = early })
+stopped x y mark early n g short f d m = λ a p.
     let old = f a (d.back a p) in
     record {
       run = λ c _. absurd cc;
@@ -120,8 +120,8 @@ stopped x y e k i n g short f d m = λ a p.
       reached = rw m.given old.reached;
       begins = λ ts h. rw m.given (old.begins ts h);
       whole = λ o. rw m.given (old.whole (sym m.over ∙ o));
-      refused = λ q. rw i (record { last = state (drop x.window.at a) x; run = old.run n g; going = g; refused = d.reads a p (λ z. q (i ∙ z)) });
-      settled = λ late q. rw m.given (settled_at x a e (old.run n g) g (d.reads a p (λ z. q (i ∙ z))) (short late));
+      refused = λ q. record { last = state (drop x.window.at a) x; run = old.run n g; going = g; refused = d.reads a p q };
+      settled = λ late q. rw m.given (settled_at x a y.fault (old.run n g) g (d.reads a p q) (short late));
       open_end = λ o. rw m.given (old.open_end (sym m.over ∙ o));
       backlog = rw m.backlog old.backlog;
     }
@@ -129,9 +129,9 @@ stopped x y e k i n g short f d m = λ a p.
 -- ---- tokens that wait
 
 -- more tokens wait than there is room for, and the fault is kept
-pub held_up : {T : Type 0} (x : Fetcher T) (b : Backlog) (k : KeptFault) (d : Fault) → x.kept ≡ None → x.tokens.ended ≡ false → Follows x → list_any is_front x.keys ≡ true → x.tokens.given + b.tokens ≡ length x.tokens.all → b.mark ≡ position_of x.window
-    → k.fault ≡ OutOfMemory → Follows (record x { backlog = Some b; kept = Some k; fault = d })
-held_up x b k d n g f front count at e = λ a p.
+pub held_up : {T : Type 0} (x : Fetcher T) (b : Backlog) (mark : Position) → x.kept ≡ None → x.tokens.ended ≡ false → Follows x → list_any is_front x.keys ≡ true → x.tokens.given + b.tokens ≡ length x.tokens.all → b.mark ≡ position_of x.window
+    → Follows (record x { backlog = Some b; kept = Some mark; early = false; fault = OutOfMemory })
+held_up x b mark n g f front count at = λ a p.
     let old = f a p in
     record {
       run = λ c _. absurd cc;
@@ -140,8 +140,8 @@ held_up x b k d n g f front count at e = λ a p.
       reached = old.reached;
       begins = old.begins;
       whole = old.whole;
-      refused = λ q. absurd (q e);
-      settled = λ late q. absurd (q e);
+      refused = λ q. absurd (q refl);
+      settled = λ late q. absurd (q refl);
       open_end = old.open_end;
       backlog = record { last = state (drop x.window.at a) x; run = old.run n g; going = g; is_here = sym at; before = x.tokens.given; may = is_numbered x.tokens.given x.keys front; tokens = count };
     }
@@ -296,21 +296,15 @@ begun_cut ts a r e n = elim (first_tokens_are_cut a ts r.begins.more r.last n r.
   | inr c ↦ c
 ]
 
-memory_sound : (f : Option KeptFault) (a : List ℕ) → IfSome f (λ k. k.fault ≢ OutOfMemory → IsRefused a k.fault) → (ts : List Token) → HasTokens a ts → IfSome (option_map kept_fault f) (λ x. x.memory ≡ true)
-memory_sound None a r ts h = tt
-memory_sound (Some k) a r ts h = by k.fault k.mark r
-  where
-    by : (e : Fault) (m : Position) → (e ≢ OutOfMemory → IsRefused a e) → (fault_of e m).memory ≡ true
-    by OutOfMemory m r = refl
-    by (At q p) m r = absurd (not_refused a ts (At q p) h (r (λ e. absurd cc)))
+memory_sound : (e : Fault) (kept : Option Position) (a : List ℕ) → IfSome kept (λ _. e ≢ OutOfMemory → IsRefused a e) → (ts : List Token) → HasTokens a ts → IfSome (option_map (fault_of e) kept) (λ x. x.memory ≡ true)
+memory_sound e None a r ts h = tt
+memory_sound OutOfMemory (Some m) a r ts h = refl
+memory_sound (At q p) (Some m) a r ts h = absurd (not_refused a ts (At q p) h (r (λ e. absurd cc)))
 
-memory_says : (f : Option KeptFault) → IfSome (option_map kept_fault f) (λ x. x.memory ≡ true → x.text ≡ codes "out of memory")
-memory_says None = tt
-memory_says (Some k) = by k.fault k.mark
-  where
-    by : (e : Fault) (m : Position) → (fault_of e m).memory ≡ true → (fault_of e m).text ≡ codes "out of memory"
-    by OutOfMemory m h = refl
-    by (At q p) m h = absurd cc
+memory_says : (e : Fault) (kept : Option Position) → IfSome (option_map (fault_of e) kept) (λ x. x.memory ≡ true → x.text ≡ codes "out of memory")
+memory_says e None = tt
+memory_says OutOfMemory (Some m) = λ h. refl
+memory_says (At q p) (Some m) = λ h. absurd cc
 
 -- a refused text has no row
 has_no_row : (a : List ℕ) (why : Problem) (at m : Position) → has_no_nul a ≡ true → IsRefused a (At why at) → HasNoRow a (fault_of (At why at) m)
@@ -322,37 +316,28 @@ has_no_row a why at m n r = record {
   stuck = refused_texts_are_stuck a why at n r;
 }
 
-is_refusal : (f : Option KeptFault) (a : List ℕ) → has_no_nul a ≡ true → IfSome f (λ k. k.fault ≢ OutOfMemory → IsRefused a k.fault) → IfSome (option_map kept_fault f) (λ x. x.memory ≡ false → IsRefusal a x)
-is_refusal None a n r = tt
-is_refusal (Some k) a n r = by k.fault k.mark r
-  where
-    by : (e : Fault) (m : Position) → (e ≢ OutOfMemory → IsRefused a e) → (fault_of e m).memory ≡ false → IsRefusal a (fault_of e m)
-    by OutOfMemory m r none = absurd cc
-    by (At q p) m r none = record { fault = At q p; position = m; refused = r (λ e. absurd cc); shown = refl; stands = λ s. faults_stand a (At q p) n (r (λ e. absurd cc)) s; rowless = has_no_row a q p m n (r (λ e. absurd cc)) }
+is_refusal : (e : Fault) (kept : Option Position) (a : List ℕ) → has_no_nul a ≡ true → IfSome kept (λ _. e ≢ OutOfMemory → IsRefused a e) → IfSome (option_map (fault_of e) kept) (λ x. x.memory ≡ false → IsRefusal a x)
+is_refusal e None a n r = tt
+is_refusal OutOfMemory (Some m) a n r = λ none. absurd cc
+is_refusal (At q p) (Some m) a n r = λ none. record { fault = At q p; position = m; refused = r (λ e. absurd cc); shown = refl; stands = λ s. faults_stand a (At q p) n (r (λ e. absurd cc)) s; rowless = has_no_row a q p m n (r (λ e. absurd cc)) }
 
-one_refusal : (f : Option KeptFault) (a : List ℕ) → IfSome f (λ k. k.fault ≢ OutOfMemory → IsRefused a k.fault) → (e : Fault) → IsRefused a e → IfSome (option_map kept_fault f) (λ x. x.memory ≡ false → (p : Position) × (x ≡ fault_of e p))
-one_refusal None a r e i = tt
-one_refusal (Some k) a r e i = by k.fault k.mark r
-  where
-    by : (d : Fault) (m : Position) → (d ≢ OutOfMemory → IsRefused a d) → (fault_of d m).memory ≡ false → (p : Position) × (fault_of d m ≡ fault_of e p)
-    by OutOfMemory m r n = absurd cc
-    by (At q p) m r n = (m, ap (λ d. fault_of d m) (one_fault a (At q p) e (r (λ e. absurd cc)) i))
+one_refusal : (d : Fault) (kept : Option Position) (a : List ℕ) → IfSome kept (λ _. d ≢ OutOfMemory → IsRefused a d) → (e : Fault) → IsRefused a e → IfSome (option_map (fault_of d) kept) (λ x. x.memory ≡ false → (p : Position) × (x ≡ fault_of e p))
+one_refusal d None a r e i = tt
+one_refusal OutOfMemory (Some m) a r e i = λ n. absurd cc
+one_refusal (At q p) (Some m) a r e i = λ n. (m, ap (λ d. fault_of d m) (one_fault a (At q p) e (r (λ e. absurd cc)) i))
 
-all_settled : (f : Option KeptFault) (a : List ℕ) (given : List Token) → IfSome f (λ k. k.early ≡ false → k.fault ≢ OutOfMemory → AreSettled a given) → is_early f ≡ false → IfSome (option_map kept_fault f) (λ x. x.memory ≡ false → AreSettled a given)
-all_settled None a given s late = tt
-all_settled (Some k) a given s late = by k.fault k.mark (s late)
-  where
-    by : (e : Fault) (m : Position) → (e ≢ OutOfMemory → AreSettled a given) → (fault_of e m).memory ≡ false → AreSettled a given
-    by OutOfMemory m r n = absurd cc
-    by (At q p) m r n = r (λ e. absurd cc)
+all_settled : (e : Fault) (kept : Option Position) (early : Bool) (a : List ℕ) (given : List Token) → IfSome kept (λ _. early ≡ false → e ≢ OutOfMemory → AreSettled a given) → early ≡ false → IfSome (option_map (fault_of e) kept) (λ x. x.memory ≡ false → AreSettled a given)
+all_settled e None early a given s late = tt
+all_settled OutOfMemory (Some m) early a given s late = λ n. absurd cc
+all_settled (At q p) (Some m) early a given s late = λ n. s late (λ e. absurd cc)
 
-none_kept : (f : Option KeptFault) → option_map kept_fault f ≡ None → f ≡ None
-none_kept None e = refl
-none_kept (Some k) e = absurd cc
+none_kept : (e : Fault) (kept : Option Position) → option_map (fault_of e) kept ≡ None → kept ≡ None
+none_kept e None h = refl
+none_kept e (Some m) h = absurd cc
 
 pub scans_from : {T : Type 0} (x : Fetcher T) → Follows x → Scans (inside x)
 scans_from x f = record {
-  done = λ k e. (f x.window.taken (Possible-taken x.window)).done (none_kept x.kept k) e;
+  done = λ k e. (f x.window.taken (Possible-taken x.window)).done (none_kept x.fault x.kept k) e;
   scans = λ a m.
       let s = f a (record { begins = m.begins; ends = m.ends }) in
       let read : (ts : List Token) → IsRead a ts → HasTokens a ts = λ ts row. texts_with_a_row_are_read a ts m.no_nul row in
@@ -362,15 +347,15 @@ scans_from x f = record {
         begins = λ ts row. s.begins ts (read ts row);
         whole = λ o. tokens_are_of_a_row a (handed x.tokens) m.no_nul (s.whole o);
         begun = λ o. begun_cut (handed x.tokens) a s.reached (s.open_end o) m.no_nul;
-        position = λ k e. in_text x a s (none_kept x.kept k) m.no_nul e;
-        end = λ k e. at_end x a s (none_kept x.kept k) m.no_nul e;
-        none = λ k b. not_started x a s (none_kept x.kept k) m.no_nul b;
-        some = λ k b. has_started x a s (none_kept x.kept k) m.no_nul b;
-        sound = λ ts row. memory_sound x.kept a s.refused ts (read ts row);
-        wants = memory_says x.kept;
-        refused = is_refusal x.kept a m.no_nul s.refused;
-        same = one_refusal x.kept a s.refused;
-        settled = all_settled x.kept a (handed x.tokens) s.settled;
+        position = λ k e. in_text x a s (none_kept x.fault x.kept k) m.no_nul e;
+        end = λ k e. at_end x a s (none_kept x.fault x.kept k) m.no_nul e;
+        none = λ k b. not_started x a s (none_kept x.fault x.kept k) m.no_nul b;
+        some = λ k b. has_started x a s (none_kept x.fault x.kept k) m.no_nul b;
+        sound = λ ts row. memory_sound x.fault x.kept a s.refused ts (read ts row);
+        wants = memory_says x.fault x.kept;
+        refused = is_refusal x.fault x.kept a m.no_nul s.refused;
+        same = one_refusal x.fault x.kept a s.refused;
+        settled = all_settled x.fault x.kept x.early a (handed x.tokens) s.settled;
         waits = s.backlog;
       };
 }

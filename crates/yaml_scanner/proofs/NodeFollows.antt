@@ -173,7 +173,7 @@ fetched_some x y (Err e) k g f d m n = tt
 
 -- a fetch that is refused is one of the model's, and its fault may be kept
 pub fetched_refused : {T X E : Type 0} (x y : Fetcher T) (r : Result X E) → x.kept ≡ None → x.tokens.ended ≡ false → Follows x → Fetched fetch x r y → Fetches x y
-    → IfErr r (λ _. (mark : Position) (early : Bool) → (early ≡ false → IsShort x) → Follows (record y { kept = Some (record { fault = y.fault; mark = mark; early = early }) }))
+    → IfErr r (λ _. (mark : Position) (early : Bool) → (early ≡ false → IsShort x) → Follows (record y { kept = Some mark; early = early }))
 fetched_refused x y (Ok v) k g f d m = tt
-fetched_refused x y (Err e) k g f (once d) m = λ mark early short. stopped x y _ (record { fault = y.fault; mark = mark; early = early }) refl k g short f d m
+fetched_refused x y (Err e) k g f (once d) m = λ mark early short. stopped x y mark early k g short f d m
 fetched_refused x y (Err e) k g f (twice i d) m = absurd i

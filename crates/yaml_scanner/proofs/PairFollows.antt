@@ -1,5 +1,6 @@
 -- Two tokens that are handed out at once, against the model's runs.
-use Rattle.yaml_scanner.proofs.Common.{[], along, ap, append_assoc, arith, AwaitsKey, AwaitsValue, Bool, cleared, Columns, drop, ErrorReport, false, fetch, Fetcher, Fetches, FetchesTwice, Follows, handed, HandsBoth, held, ImplicitKey, Indent, inside, is_end, kept_fault, KeptFault, Key, key_tokens, length, length-append, level, levels_after, List, map, no_implicit, None, none_front, none_lowered, Ok, one_more, Option, option_map, OutOfMemory, past, Position, position_of, Reaches, Reads, refl, Scanned, seen, Some, StandsAt, start, state, Style, subst, suc, sym, take, TakesKey, TakesValue, Tok, Token, token, Tokens, top_needs_block_end, true, value_level, WindowView, work, ℕ, ◌++◌, ◌+◌, ◌-◌, ◌<◌, ◌||◌, ◌∙◌, ◌∷◌, ◌≡◌, ◌≤◌}
+use Rattle.yaml_scanner.proofs.Common.{[], along, ap, append_assoc, arith, AwaitsKey, AwaitsValue, Bool, cleared, Columns, drop, ErrorReport, false, Fault, fetch, Fetcher, Fetches, FetchesTwice, Follows, handed, HandsBoth, held, ImplicitKey, Indent, inside, is_end, Key, key_tokens, length, length-append, level, levels_after, List, map, no_implicit, None, none_front, none_lowered, Ok, one_more, Option, option_map, OutOfMemory, past, Position, position_of, Reaches, Reads, refl, Scanned, seen, Some, StandsAt, start, state, Style, subst, suc, sym, take, TakesKey, TakesValue, Tok, Token, token, Tokens, top_needs_block_end, true, value_level, WindowView, work, ℕ, ◌++◌, ◌+◌, ◌-◌, ◌<◌, ◌||◌, ◌∙◌, ◌∷◌, ◌≡◌, ◌≤◌}
+use Rattle.yaml_tokens.specs.Problem.{fault_of}
 use Rattle.yaml_scanner.proofs.ReadsLemmas.{Reads-map}
 use Rattle.yaml_scanner.proofs.FollowLemmas.{fetched_on, handed_on}
 use Rattle.yaml_scanner.proofs.PairTexts.{same_place, along_is}
@@ -25,8 +26,8 @@ fetched_twice x y k g f d m n = λ a p.
     }
 
 -- memory was refused, as callers see it
-pub memory_kept : (k : KeptFault) (r : ErrorReport) → r ≡ kept_fault k → k.fault ≡ OutOfMemory → r.memory ≡ true
-memory_kept k r e f = rw (e, f) refl
+pub memory_kept : (e : Fault) (m : Position) (r : ErrorReport) → r ≡ fault_of e m → e ≡ OutOfMemory → r.memory ≡ true
+memory_kept e m r h f = rw (h, f) refl
 
 -- ---- tokens
 
@@ -74,7 +75,7 @@ two_after gs us t u n e =
 hands_both : {T : Type 0} (x y : Fetcher T) (gs us : List Token) (t u : Token) → x.kept ≡ None → x.tokens.over ≡ false → y.kept ≡ x.kept → y.tokens.over ≡ x.tokens.over → handed x.tokens ≡ gs → y.tokens.all ≡ gs ++ t ∷ u ∷ us → y.tokens.given ≡ length gs + 2
     → is_end t.tok ≡ false → is_end u.tok ≡ false → work y + 1 < work x → HandsBoth (inside x) t u (inside y)
 hands_both x y gs us t u k o kept over given all count te ue less =
-    let fault : option_map kept_fault x.kept ≡ None = ap (option_map kept_fault) k in
+    let fault : option_map (fault_of x.fault) x.kept ≡ None = ap (option_map (fault_of x.fault)) k in
     let middle : Scanned = record (inside x) { given = handed x.tokens ++ t ∷ []; left = work y + 1 } in
     record {
       between = middle;
@@ -82,7 +83,7 @@ hands_both x y gs us t u k o kept over given all count te ue less =
       second = record {
         going = (o, fault);
         given = rw (all, count, given) (two_after gs us t u (length gs) refl);
-        fault = ap (option_map kept_fault) (kept ∙ k);
+        fault = ap (option_map (fault_of y.fault)) (kept ∙ k);
         ended = over ∙ o ∙ sym ue;
         left = omega arith;
       };

@@ -66,9 +66,9 @@ pub record FollowsIn {T : Type 0} (a : List ℕ) (s : Fetcher T) : Type 0 where
   pub reached : IsReached a (handed s.tokens)
   pub begins : (ts : List Token) → HasTokens a ts → BeginsWith (handed s.tokens) ts
   pub whole : s.tokens.over ≡ true → HasTokens a (handed s.tokens)
-  pub refused : IfSome s.kept (λ k. k.fault ≢ OutOfMemory → IsRefused a k.fault)
+  pub refused : IfSome s.kept (λ _. s.fault ≢ OutOfMemory → IsRefused a s.fault)
   -- unless the fault came early, all that was settled before it was handed out
-  pub settled : IfSome s.kept (λ k. k.early ≡ false → k.fault ≢ OutOfMemory → AreSettled a (handed s.tokens))
+  pub settled : IfSome s.kept (λ _. s.early ≡ false → s.fault ≢ OutOfMemory → AreSettled a (handed s.tokens))
   -- until the stream's end was handed out it is none of what was
   pub open_end : s.tokens.over ≡ false → has_end (handed s.tokens) ≡ false
   -- where more tokens waited than there was room for, they wait in the text

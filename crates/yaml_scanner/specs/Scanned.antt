@@ -15,7 +15,6 @@ use Rattle.proof_scanner.specs.Faults.{IsThere, is_shown}
 use Rattle.proof_scanner.specs.Positions.{IsPositionIn}
 use Rattle.yaml_scanner.specs.declared.fetcher.Backlog.{Backlog}
 use Rattle.yaml_scanner.specs.declared.fetcher.Fetcher.{Fetcher}
-use Rattle.yaml_scanner.specs.declared.fetcher.KeptFault.{KeptFault}
 use Rattle.yaml_scanner.specs.Follows.{BeginsWith, IsReached, AreSettled}
 use Rattle.yaml_scanner.specs.Rowless.{HasNoRow}
 use Rattle.yaml_scanner.specs.Waits.{Waits}
@@ -43,19 +42,12 @@ pub record Scanned : Type 0 where
   -- where more tokens waited than there was room for
   pub backlog : Option Backlog
 
-abbrev pub kept_fault : KeptFault → ErrorReport
-kept_fault k = fault_of k.fault k.mark
-
-abbrev pub is_early : Option KeptFault → Bool
-is_early None = false
-is_early (Some k) = k.early
-
 abbrev pub inside : {T : Type 0} → Fetcher T → Scanned
 inside s = record {
   given = handed s.tokens;
   waiting = waiting s.tokens;
-  fault = option_map kept_fault s.kept;
-  early = is_early s.kept;
+  fault = option_map (fault_of s.fault) s.kept;
+  early = s.early;
   started = s.started;
   stopped = s.tokens.ended;
   ended = s.tokens.over;

@@ -7,17 +7,6 @@ use std::alloc::Global;
 use yaml_chars::{Characters, Marker, Window};
 use yaml_tokens::{Fault, Problem};
 
-/// A fault that is kept, and the position where the scanner stood.
-#[derive(Clone, Copy)]
-pub struct KeptFault {
-    /// The fault.
-    pub fault: Fault,
-    /// Where the scanner stood.
-    pub mark: Marker,
-    /// Whether tokens may wait before which no key can come any more.
-    pub early: bool,
-}
-
 /// Where more tokens waited than there was room for.
 #[derive(Clone, Copy, Debug, PartialEq, Eq)]
 pub struct Backlog {
@@ -47,9 +36,12 @@ pub struct Fetcher<T: Characters> {
     // Where more of them waited.
     pub(crate) backlog: Option<Backlog>,
     pub(crate) started: bool,
-    pub(crate) kept: Option<KeptFault>,
     // The fault that was met last, where a function gave `Failed`.
     pub(crate) fault: Fault,
+    // Where the scanner stood, once this fault is kept.
+    pub(crate) kept: Option<Marker>,
+    // Whether tokens may wait beside it before which no key can come any more.
+    pub(crate) early: bool,
 }
 
 /// What a function gives in place of a fault, which is held in a field: so it takes one byte where a fault takes 32.
@@ -92,6 +84,7 @@ impl<T: Characters> Fetcher<T> {
             backlog: None,
             started: false,
             kept: None,
+            early: false,
             fault: Fault::OutOfMemory,
         }
     }

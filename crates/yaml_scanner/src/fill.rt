@@ -5,29 +5,20 @@ ghost use Rattle.defs_text.specs.Position.{Position};
 ghost use Rattle.yaml_tokens.specs.Shown.{shown};
 ghost use Rattle.yaml_scanner.specs.Follows.{Follows, IsShort};
 ghost use Rattle.yaml_scanner.specs.ImplicitKeys.{is_front};
-ghost use Rattle.yaml_scanner.specs.Scanned.{inside, kept_fault, HandsOut};
+ghost use Rattle.yaml_scanner.specs.Scanned.{inside, HandsOut};
 ghost use Rattle.yaml_scanner.specs.Tokens.{waiting, handed};
 ghost use Rattle.yaml_scanner.specs.Work.{Fetches, Fills, work};
 ghost use Rattle.yaml_scanner.specs.declared.fetcher.Backlog.{Backlog};
 
-use crate::fetcher::{Backlog, Failed, Fetcher, KeptFault};
+use crate::fetcher::{Backlog, Failed, Fetcher};
 use yaml_chars::Characters;
 use yaml_tokens::{Fault, ScanError, Token};
-
-impl KeptFault {
-    /// The fault as callers see it.
-    pub fn error(&self) -> ScanError
-        ensures { result ≡ kept_fault self.now }
-    {
-        self.fault.error(self.mark)
-    }
-}
 
 impl<T: Characters> Fetcher<T> {
     /// Keeps the fault that was met, and whether tokens may wait that could be handed out.
     #[tactic(auto, using(crate::proofs::PairFollows::memory_kept))]
     pub(crate) fn keep(&mut self, early: bool) -> ScanError
-        requires follows { (mark : Position) → Follows (record self.old { kept = Some (record { fault = self.old.fault; mark = mark; early = early }) }) }
+        requires follows { (mark : Position) → Follows (record self.old { kept = Some mark; early = early }) }
         ensures kept { (inside self.new).fault ≡ Some result }
         ensures same { inside self.new ≡ record (inside self.old) { fault = Some result; early = early } }
         ensures memory { self.old.fault ≡ Fault.OutOfMemory → result.memory ≡ true }
@@ -35,14 +26,9 @@ impl<T: Characters> Fetcher<T> {
         ensures window { self.new.window ≡ self.old.window }
     {
         let mark = self.window.mark();
-        let kept = KeptFault {
-            fault: self.fault,
-            mark,
-            early,
-        };
-        let error = kept.error();
-        self.kept = Some(kept);
-        error
+        self.kept = Some(mark);
+        self.early = early;
+        self.fault.error(mark)
     }
 
     /// Fetches the next token, or several.
@@ -54,7 +40,7 @@ impl<T: Characters> Fetcher<T> {
         ensures start { self.new.window.start ≡ self.old.window.start }
         ensures less { OnOk result (work self.new < work self.old) }
         ensures ok { OnOk result (Follows self.new) }
-        ensures err { IfErr result (λ _. (mark : Position) (early : Bool) → (early ≡ false → IsShort self.old) → Follows (record self.new { kept = Some (record { fault = self.new.fault; mark = mark; early = early }) })) }
+        ensures err { IfErr result (λ _. (mark : Position) (early : Bool) → (early ≡ false → IsShort self.old) → Follows (record self.new { kept = Some mark; early = early })) }
     {
         if !self.started {
             return self.fetch_stream_start();
@@ -75,7 +61,7 @@ impl<T: Characters> Fetcher<T> {
         ensures front { OnOk result (self.new.tokens.ended ≡ false → list_any is_front self.new.keys ≡ false) }
         ensures after { self.old.tokens.ended ≡ true → (result ≡ Ok tt) × (self.new ≡ self.old) }
         ensures ok { OnOk result (Follows self.new) }
-        ensures err { IfErr result (λ _. (mark : Position) → Follows (record self.new { kept = Some (record { fault = self.new.fault; mark = mark; early = false }) })) }
+        ensures err { IfErr result (λ _. (mark : Position) → Follows (record self.new { kept = Some mark; early = false })) }
     {
         if self.is_ready() {
             return Ok(());
@@ -95,7 +81,7 @@ impl<T: Characters> Fetcher<T> {
         ensures front { OnOk result (self.new.tokens.ended ≡ false → list_any is_front self.new.keys ≡ false) }
         ensures after { self.old.tokens.ended ≡ true → (result ≡ Ok tt) × (self.new ≡ self.old) }
         ensures ok { OnOk result (Follows self.new) }
-        ensures err { IfErr result (λ _. (mark : Position) → Follows (record self.new { kept = Some (record { fault = self.new.fault; mark = mark; early = false }) })) }
+        ensures err { IfErr result (λ _. (mark : Position) → Follows (record self.new { kept = Some mark; early = false })) }
     {
         'tokens: while !self.is_ready() {
             if self.tokens.len() > self.room {
@@ -117,7 +103,7 @@ impl<T: Characters> Fetcher<T> {
         requires follows { Follows self.old }
         ensures run { Fills self.old self.new }
         ensures start { self.new.window.start ≡ self.old.window.start }
-        ensures err { (mark : Position) → Follows (record self.new { kept = Some (record { fault = self.new.fault; mark = mark; early = false }) }) }
+        ensures err { (mark : Position) → Follows (record self.new { kept = Some mark; early = false }) }
     {
         self.backlog = Some(Backlog {
             mark: self.window.mark(),

@@ -179,7 +179,7 @@ impl<T: Characters> Fetcher<T> {
         ensures none { IfOk result (λ o. IfNone o (self.new ≡ self.old)) }
         ensures ok { OnOk result (Follows self.new) }
         ensures run { IfErr result (λ _. Fetches self.old self.new) }
-        ensures err { IfErr result (λ _. (mark : Position) → Follows (record self.new { kept = Some (record { fault = self.new.fault; mark = mark; early = true }) })) }
+        ensures err { IfErr result (λ _. (mark : Position) → Follows (record self.new { kept = Some mark; early = true })) }
         ensures memory { IfErr result (λ _. self.new.fault ≡ Fault.OutOfMemory) }
         ensures over { self.old.tokens.over ≡ true → (result ≡ Ok None) × (self.new ≡ self.old) }
         ensures ready { self.old.tokens.ended ≡ true → (result ≡ Ok None) × (self.new ≡ self.old) }
@@ -212,7 +212,7 @@ impl<T: Characters> Fetcher<T> {
         ensures none { IfOk result (λ o. IfNone o (self.new ≡ self.old)) }
         ensures ok { OnOk result (Follows self.new) }
         ensures run { IfErr result (λ _. Fetches self.old self.new) }
-        ensures err { IfErr result (λ _. (mark : Position) → Follows (record self.new { kept = Some (record { fault = self.new.fault; mark = mark; early = true }) })) }
+        ensures err { IfErr result (λ _. (mark : Position) → Follows (record self.new { kept = Some mark; early = true })) }
         ensures memory { IfErr result (λ _. self.new.fault ≡ Fault.OutOfMemory) }
         ensures over { self.old.tokens.over ≡ true → (result ≡ Ok None) × (self.new ≡ self.old) }
         ensures ready { self.old.tokens.ended ≡ true → (result ≡ Ok None) × (self.new ≡ self.old) }

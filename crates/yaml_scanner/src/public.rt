@@ -59,7 +59,7 @@ impl<T: Characters> Scanner<T> {
     pub fn get_error(&self) -> Option<ScanError>
         ensures { result ≡ (scanned self.now).fault }
     {
-        Some(self.fetcher.kept?.error())
+        Some(self.fetcher.fault.error(self.fetcher.kept?))
     }
 
     /// Whether the token of the stream's start was fetched.
