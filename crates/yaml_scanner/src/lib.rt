@@ -1,4 +1,5 @@
-//! Characters to tokens: the scanner of YAML 1.2 streams.
+//! Characters to tokens: the scanner of YAML 1.2 streams. What it holds between two tokens has types of its own: what may be
+//! an implicit key (`keys`), the levels of indentation (`levels`), the tokens that wait (`queue`), and stacks (`stack`).
 #![tactic(auto)]
 
 mod block;

@@ -1,4 +1,4 @@
-//! Tokens, and the faults of scanner, parser and loader.
+//! Tokens, the faults of scanner, parser and loader, and a fault shown with its line of the text.
 #![tactic(auto)]
 
 mod excerpt;
