@@ -18,7 +18,8 @@ import sys
 TOP = os.path.join(os.path.dirname(os.path.abspath(__file__)), "..")
 PAGE = os.path.join(TOP, "docs", "API.md")
 FACADE, MODULES = "yaml_rust2", ["yaml", "emitter", "parser", "scanner", "laws"]
-BESIDE = [("yaml_loader", "limits"), ("yaml_loader", "marked"), ("yaml_loader", "documents"), ("yaml_loader", "laws"), ("yaml_excerpt", ""),
+# Crates beside the facade: all of a crate, a module of it, or one item of its root.
+BESIDE = [("yaml_loader", "limits"), ("yaml_loader", "marked"), ("yaml_loader", "documents"), ("yaml_loader", "laws"), ("yaml_tokens", "Excerpt"),
           ("yaml_json", ""), ("yaml_paths", ""), ("overlay", "")]
 
 INTRO = """# The public items
@@ -180,6 +181,13 @@ class Library:
         found = [item for item in it.items[module].values() if item.kind != "mod"]
         return found + [self.item(crate, module, path) for path in it.passed[module].values()]
 
+    def part(self, crate, name):
+        """What a module makes public, with that module; or the item of this name, with the module where it stands."""
+        if self.is_module(crate, name):
+            return self.public(crate, name), name
+        item = self.item(crate, "", [name])
+        return [item], re.sub(r".*/src/(.*)\.rt$", r"\1", item.path)
+
     def item(self, crate, module, path):
         """The item at a path, or the name of a crate and a module."""
         if path[0] in ("crate", "self"):
@@ -276,7 +284,7 @@ class Page:
         self.library, self.lines, self.faults = Library(), [INTRO], []
         self.aliases = dict(ALIASES)
         for crate, module in [(FACADE, module) for module in MODULES] + BESIDE:
-            for item in (it for it in self.library.public(crate, module) if isinstance(it, Item)):
+            for item in (it for it in self.library.part(crate, module)[0] if isinstance(it, Item)):
                 if item.kind == "type" and "Result<" in item.head:
                     self.aliases[item.name] = error_type("-> " + item.head.partition("= ")[2], {})
 
@@ -344,15 +352,16 @@ class Page:
                 self.group([it for it in self.library.public(low, inner) if it not in own])
 
     def beside(self, crate, part):
-        self.module(named(crate, part), crate, part)
-        self.group([it for it in self.library.public(crate, part) if isinstance(it, Item)])
+        items, home = self.library.part(crate, part)
+        self.module(named(crate, part), crate, home)
+        self.group([it for it in items if isinstance(it, Item)])
         inner = [] if part else [name for name, it in self.library.crate(crate).items[""].items() if it.kind == "mod"]
         for module in sorted(inner, key=lambda name: name == "laws"):
             self.module("%s::%s" % (crate, module), crate, module)
             self.group(self.library.public(crate, module))
 
     def left_out(self):
-        """Modules and names of the facade, and crates and modules that README lists, of which nothing is told."""
+        """Modules and names of the facade, and what README lists beside it, of which nothing is told."""
         facade = self.library.crate(FACADE)
         told = {it.name for module in MODULES for it in self.library.public(FACADE, module) if isinstance(it, Item)}
         with open(os.path.join(TOP, "README.md")) as text:
