@@ -26,7 +26,7 @@ use model_parser::{Kind, State};
 use std::alloc::Global;
 use yaml_chars::{Characters, Marker};
 use yaml_scanner::{Failed, PlainNode};
-use yaml_tokens::{ScanError, TScalarStyle};
+use yaml_tokens::{Fault, ScanError, TScalarStyle};
 
 /// The productions of the token grammar, one function each.
 #[derive(Drop)]
