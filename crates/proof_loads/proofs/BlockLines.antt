@@ -1,11 +1,11 @@
 -- The lines of a literal or folded block, its column and its value.
-use Rattle.proof_loads.proofs.TokensCommon.{[], and_parts, ap, append-nil, AreLines, AreLineTexts, arith, begins_with, BeginsWithText, blank, block_value, BlockStyle, body, Bool, collection_of, column_by, digit_of, EndsInText, false, full, further_text, has_content, header_of, indented_lines, indicator_of, is_at_end, is_further_text, is_in_line, is_line_character, is_outside, IsLineText, Line, List, list_all, nat_tests, None, not, Option, read_body, refl, Row, row_of, rows_of, sign_of, Some, spaces, spell_line, spell_lines, starts_with_tab, suc, sym, texts, texts_append, true, unbroken, value_before_end, value_before_text, zero, ℕ, ◌&&◌, ◌++◌, ◌<◌, ◌==◌, ◌||◌, ◌∙◌, ◌∷◌, ◌≡◌, ◌≢◌, ◌≤◌}
+use Rattle.proof_loads.proofs.TokensCommon.{[], and_parts, append-nil, are_marks, AreFoldedLines, AreLines, AreLineTexts, arith, begins_as_marker, begins_with, BeginsWithText, blank, BlockStyle, body, Bool, collection_of, column_by, contents, digit_of, EndsInText, false, full, further_text, header_of, indented_lines, indicator_of, is_at_end, is_blank, is_blank_or_end, is_document_marker, is_further_text, is_in_line, is_line_character, is_nul, is_outside, IsLineText, Line, List, list_all, list_any, map, nat_tests, None, not, or_parts, read_body, refl, Row, row_of, rows_of, sign_of, Some, spaces, spell_line, starts_with_tab, suc, texts, true, unbroken, value_before_end, value_before_text, zero, ℕ, ◌&&◌, ◌++◌, ◌<◌, ◌==◌, ◌||◌, ◌∷◌, ◌≡◌, ◌≢◌, ◌≤◌}
 use Rattle.defs_text.specs.Classes as classes
 use Rattle.defs_text.specs.Classes.{tab}
 use Rattle.defs_token.specs.BlockPiece as cut
 use Rattle.proof_lexers.proofs.Blocks.Written as written
 use Rattle.proof_lexers.proofs.Blocks.Written.{spell}
-use Rattle.proof_loads.proofs.BlockTexts.{header_by, line_of, lines_at, empties, texts_are, line_more, Last, last_of, deepest, rows_split, row_full}
+use Rattle.proof_loads.proofs.BlockTexts.{header_by, lines_at, empties, texts_are, deepest, row_by, row_spaces, text_row}
 use Rattle.proof_loads.proofs.Nul.{HasNone, both, text_none, spaces_none}
 use Rattle.proof_lexers.proofs.Blocks.First.{least_is}
 
@@ -31,92 +31,43 @@ abbrev pub IsInside : (indent column : ℕ) → Type 0
 IsInside zero column = column ≡ 0
 IsInside (suc c) column = c < column
 
+-- what a written line of a block is
+pub record IsBlockLine (column : ℕ) (l : Line) : Type 0 where
+  pub row : row_of column (spell_line column l []) ≡ Some (row_by l)
+  pub inner : is_in_line (spell_line column l []) ≡ true
+  pub none : HasNone (spell_line column l [])
+
+abbrev pub AreEach : (column : ℕ) → List Line → Type 0
+AreEach column [] = Unit {0}
+AreEach column (l ∷ ls) = IsBlockLine column l × AreEach column ls
+
 -- The lines of a block of this style, whose value is the text.
-abbrev pub AreBlockLines : BlockStyle → (indent column : ℕ) → (strips : Bool) → (text : List ℕ) → List Line → Type 0
-AreBlockLines s indent column strips text ls =
-    BeginsWithText ls × EndsInText ls × AreLineTexts ls × AreLines column ls × (block_value (header_by s strips) (collection_of indent) (body (indented_lines column ls) further_text) ≡ Some text)
+pub record AreBlockLines (s : BlockStyle) (column : ℕ) (strips : Bool) (text : List ℕ) (ls : List Line) : Type 0 where
+  pub begins : BeginsWithText ls
+  pub ends : EndsInText ls
+  pub lines : AreLines column ls
+  pub each : AreEach column ls
+  pub tabless : starts_with_tab (indented_lines column ls) ≡ false
+  pub value : value_before_text (header_by s strips) (map row_by ls) ≡ text
 
--- what its lines are
-pub record Lines (s : BlockStyle) (i column : ℕ) (strips : Bool) (text : List ℕ) (ls : List Line) : Type 0 where
-  pub init : List Line
-  pub last : List ℕ
-  pub is : ls ≡ init ++ full last ∷ []
-  pub before : List Row
-  pub row : Row
-  pub rows : rows_of column (texts (lines_at column init)) ≡ Some before
-  pub last_row : row_of column (spell_line column (full last) []) ≡ Some row
-  pub lines : texts (lines_at column init) ++ spell_line column (full last) [] ∷ [] ≡ indented_lines column ls
-  pub all : rows_of column (indented_lines column ls) ≡ Some (before ++ row ∷ [])
-  pub content : has_content (row ∷ []) ≡ true
-  pub value : value_before_text (header_by s strips) (before ++ row ∷ []) ≡ text
-  pub in_column : (more : List (List ℕ)) → column_by None (collection_of i) (indented_lines column ls ++ more) ≡ column
-  pub tabless : (more : List (List ℕ)) → starts_with_tab (indented_lines column ls ++ more) ≡ false
+-- at column 0 no line is read as a document marker
+abbrev pub AreFree : ℕ → List Line → Type 0
+AreFree column ls = column ≡ 0 → list_any begins_as_marker (contents ls) ≡ false
 
-tab_more : (ls more : List (List ℕ)) (b : Bool) → ls ≢ [] → starts_with_tab ls ≡ b → starts_with_tab (ls ++ more) ≡ b
+pub tab_more : (ls more : List (List ℕ)) (b : Bool) → ls ≢ [] → starts_with_tab ls ≡ b → starts_with_tab (ls ++ more) ≡ b
 tab_more a more b d h = grind arith
 
-some_lines : (column : ℕ) (ls : List Line) → BeginsWithText ls → indented_lines column ls ≢ []
+pub some_lines : (column : ℕ) (ls : List Line) → BeginsWithText ls → indented_lines column ls ≢ []
 some_lines column [] h = absurd h
 some_lines column (l ∷ ls) h = λ e. cc
-
-full_last : (column : ℕ) (init : List Line) (w : List ℕ) → AreLines column (init ++ full w ∷ []) → w ≢ []
-full_last column [] w are = are.0
-full_last column (l ∷ init) w are = full_last column init w are.1
 
 pub high : (i column : ℕ) → IsInside i column → i ≤ column
 high zero column h = omega arith
 high (suc c) column h = omega (arith, h)
 
 -- the lines have their column, whatever lines stand after them
-in_column_with : (i column : ℕ) (ls : List Line) (more : List (List ℕ)) → IsInside i column → BeginsWithText ls → AreLines column ls → column_by None (collection_of i) (indented_lines column ls ++ more) ≡ column
+pub in_column_with : (i column : ℕ) (ls : List Line) (more : List (List ℕ)) → IsInside i column → BeginsWithText ls → AreLines column ls → column_by None (collection_of i) (indented_lines column ls ++ more) ≡ column
 in_column_with i column ls more inside begins are = let e = deepest column ls more begins are in let f = least_is i in let g = high i column inside in omega (arith, e, f, g)
-
-pub in_its_column : (i column : ℕ) (ls : List Line) → IsInside i column → BeginsWithText ls → AreLines column ls → column_by None (collection_of i) (indented_lines column ls) ≡ column
-in_its_column i column ls inside begins are = ap (column_by None (collection_of i)) (sym (append-nil (indented_lines column ls))) ∙ in_column_with i column ls [] inside begins are
-
--- their value, where their rows are known
-pub value_by_rows : (s : BlockStyle) (i column : ℕ) (strips : Bool) (ts : List (List ℕ)) (rs : List Row) → starts_with_tab ts ≡ false → column_by None (collection_of i) ts ≡ column → rows_of column ts ≡ Some rs
-    → block_value (header_by s strips) (collection_of i) (body ts further_text) ≡ Some (value_before_text (header_by s strips) rs)
-value_by_rows s i column strips ts rs tabless col rows = rw (tabless, col, rows) refl
-
-pub lines_are : (s : BlockStyle) (i column : ℕ) (strips : Bool) (text : List ℕ) (ls : List Line) → IsInside i column → AreBlockLines s i column strips text ls → Lines s i column strips text ls
-lines_are s i column strips text ls inside h = by (starts_with_tab (indented_lines column ls)) (rows_of column (indented_lines column ls)) refl refl
-  where
-    z : Last ls
-    z = last_of ls h.1
-
-    all : texts (lines_at column z.init) ++ spell_line column (full z.last) [] ∷ [] ≡ indented_lines column ls
-    all = sym (texts_append (lines_at column z.init) (line_of column (full z.last) ∷ [])) ∙ ap texts (lines_append z.init) ∙ ap (λ l. texts (lines_at column l)) (sym z.is) ∙ texts_are column ls
-      where
-        lines_append : (init : List Line) → lines_at column init ++ line_of column (full z.last) ∷ [] ≡ lines_at column (init ++ full z.last ∷ [])
-        lines_append [] = refl
-        lines_append (l ∷ init) = ap (λ x. line_of column l ∷ x) (lines_append init)
-
-    value_is : block_value (header_by s strips) (collection_of i) (body (indented_lines column ls) further_text) ≡ Some text
-    value_is = h.4
-
-    by : (t : Bool) (o : Option (List Row)) → starts_with_tab (indented_lines column ls) ≡ t → rows_of column (indented_lines column ls) ≡ o → Lines s i column strips text ls
-    by true o e f = let no : None ≡ Some text = rw e at value_is in cc
-    by false None e f = let no : None ≡ Some text = rw (e, in_its_column i column ls inside h.0 h.3, f) at value_is in cc
-    by false (Some rs) e f =
-        let one : Some (value_before_text (header_by s strips) rs) ≡ Some text = rw (e, in_its_column i column ls inside h.0 h.3, f) at value_is in
-        let value : value_before_text (header_by s strips) rs ≡ text = cc in
-        let y = rows_split column (texts (lines_at column z.init)) (spell_line column (full z.last) []) rs (ap (rows_of column) all ∙ f) in
-        record {
-          init = z.init;
-          last = z.last;
-          is = z.is;
-          before = y.before;
-          row = y.row;
-          rows = y.are;
-          last_row = y.last;
-          lines = all;
-          all = f ∙ ap Some y.is;
-          content = row_full column z.last y.row (full_last column z.init z.last (rw (z.is) at h.3)) y.last;
-          value = ap (value_before_text (header_by s strips)) (sym y.is) ∙ value;
-          in_column = λ more. in_column_with i column ls more inside h.0 h.3;
-          tabless = λ more. tab_more (indented_lines column ls) more false (some_lines column ls h.0) e;
-        }
 
 -- a character that begins a text after spaces
 abbrev pub is_further : ℕ → Bool
@@ -154,32 +105,57 @@ unfolding classes.is_break
 inner_spaces zero w h = h
 inner_spaces (suc n) w h = inner_spaces n w h
 
-pub are_empty : (n : ℕ) (e : List ℕ) → written.AreLines (empties n) e
-are_empty zero e = tt
-are_empty (suc n) e = (refl, tt, are_empty n e)
+no_marker : (w : List ℕ) → IsLineText w → begins_as_marker w ≡ false → is_document_marker (w ++ []) ≡ false
+unfolding are_marks is_line_character is_blank_or_end is_blank classes.is_break is_nul
+no_marker [] h e = refl
+no_marker (a ∷ []) h e = refl
+no_marker (a ∷ b ∷ []) h e = refl
+no_marker (a ∷ b ∷ c ∷ []) h e = grind (arith, nat_tests)
+no_marker (a ∷ b ∷ c ∷ d ∷ r) h e =
+    let p = and_parts (is_line_character a) (list_all is_line_character (b ∷ c ∷ d ∷ r)) h in
+    let q = and_parts (is_line_character b) (list_all is_line_character (c ∷ d ∷ r)) p.1 in
+    let s = and_parts (is_line_character c) (list_all is_line_character (d ∷ r)) q.1 in
+    grind (arith, nat_tests)
 
-pub are_lines : (column : ℕ) (ls : List Line) (more : List written.Line) (e : List ℕ) → AreLineTexts ls → written.AreLines more e → written.AreLines (lines_at column ls ++ more) e
-are_lines column [] more e h are = are
-are_lines column (full w ∷ ls) more e h are = (inner_spaces column (w ++ []) (inner_line w h.0), tt, are_lines column ls more e h.1 are)
-are_lines column (blank n ∷ ls) more e h are = (inner_spaces n [] refl, tt, are_lines column ls more e h are)
+a_blank : (column n : ℕ) → n ≤ column → IsBlockLine column (blank n)
+a_blank column n low = record { row = row_spaces column n low; inner = inner_spaces n [] refl; none = spaces_none n [] refl }
 
--- nor has a line a NUL
-pub lines_none : (column : ℕ) (ls : List Line) (more : List written.Line) (e : List ℕ) → AreLineTexts ls → HasNone (spell more e) → HasNone (spell (lines_at column ls ++ more) e)
-lines_none column [] more e h n = n
-lines_none column (full w ∷ ls) more e h n = both (spaces column (w ++ [])) _ (spaces_none column (w ++ []) (both w [] (text_none w h.0) refl)) (lines_none column ls more e h.1 n)
-lines_none column (blank k ∷ ls) more e h n = both (spaces k []) _ (spaces_none k [] refl) (lines_none column ls more e h n)
+pub each_line : (column : ℕ) (ls : List Line) → AreLines column ls → AreLineTexts ls → AreFree column ls → AreEach column ls
+each_line column [] are texts free = tt
+each_line column (full [] ∷ ls) are texts free = absurd (are.0 refl)
+each_line column (full (c ∷ w) ∷ ls) are texts free =
+    let w' = c ∷ w in
+    (record {
+      row = text_row column c w (λ e. no_marker w' texts.0 (or_parts (begins_as_marker w') (list_any begins_as_marker (contents ls)) (free e)).0);
+      inner = inner_spaces column (w' ++ []) (inner_line w' texts.0);
+      none = spaces_none column (w' ++ []) (both w' [] (text_none w' texts.0) refl);
+    }, each_line column ls are.1 texts.1 (λ e. (or_parts (begins_as_marker w') (list_any begins_as_marker (contents ls)) (free e)).1))
+each_line column (blank n ∷ ls) are texts free = (a_blank column n are.0, each_line column ls are.1 texts free)
 
-pub empties_none : (n : ℕ) → HasNone (spell (empties n) [])
-empties_none zero = refl
-empties_none (suc n) = empties_none n
+-- with empty lines after them
+pub each_more : (column : ℕ) (ls : List Line) (n : ℕ) → AreEach column ls → AreEach column (ls ++ empties n)
+each_more column [] zero h = tt
+each_more column [] (suc n) h = (a_blank column 0 (omega arith), each_more column [] n h)
+each_more column (l ∷ ls) n h = (h.0, each_more column ls n h.1)
+
+pub each_split : (column : ℕ) (ls : List Line) (l : Line) → AreEach column (ls ++ l ∷ []) → AreEach column ls × IsBlockLine column l
+each_split column [] l h = (tt, h.0)
+each_split column (m ∷ ls) l h = let q = each_split column ls l h.1 in ((h.0, q.0), q.1)
+
+pub rows_are : (column : ℕ) (ls : List Line) → AreEach column ls → rows_of column (texts (lines_at column ls)) ≡ Some (map row_by ls)
+rows_are column [] h = refl
+rows_are column (l ∷ ls) h = rw (h.0.row, rows_are column ls h.1) refl
+
+pub are_lines : (column : ℕ) (ls : List Line) (e : List ℕ) → AreEach column ls → written.AreLines (lines_at column ls) e
+are_lines column [] e h = tt
+are_lines column (l ∷ ls) e h = (h.0.inner, tt, are_lines column ls e h.1)
+
+pub lines_none : (column : ℕ) (ls : List Line) (e : List ℕ) → AreEach column ls → HasNone e → HasNone (spell (lines_at column ls) e)
+lines_none column [] e h n = n
+lines_none column (l ∷ ls) e h n = both (spell_line column l []) _ h.0.none (lines_none column ls e h.1 n)
 
 pub header_none : (s : BlockStyle) (strips : Bool) (a : List ℕ) → HasNone a → HasNone (block_text s strips (10 ∷ a))
 header_none s strips a n = grind arith
-
--- each line, and then an LF
-pub spelt_feeds : (column : ℕ) (ls : List Line) (r : List ℕ) → spell_lines column ls (10 ∷ r) ≡ 10 ∷ spell (lines_at column ls) r
-spelt_feeds column [] r = refl
-spelt_feeds column (l ∷ ls) r = ap (λ x. 10 ∷ spell_line column l x) (spelt_feeds column ls r) ∙ ap (λ x. 10 ∷ x) (sym (line_more column l (10 ∷ spell (lines_at column ls) r)))
 
 module _ (s : BlockStyle) (i column : ℕ) (strips : Bool) where
   abbrev pub is_block : List ℕ → cut.BlockRead
@@ -193,9 +169,21 @@ module _ (s : BlockStyle) (i column : ℕ) (strips : Bool) where
       → read_body (header_of (indicator_of s ∷ header_line strips)) (collection_of i) (body ts (unbroken l)) [] ≡ Some (is_block (value_before_end (header_by s strips) column rs l r))
   end_body ts l rs r col tabless rows last = rw (header_is s strips, col, tabless, rows, last) refl
 
--- ---- the end of the text, in the last line
+-- ---- folded blocks
 
-pub texts_split : (init : List Line) (w : List ℕ) → AreLineTexts (init ++ full w ∷ []) → AreLineTexts init × IsLineText w
-texts_split [] w h = (tt, h.0)
-texts_split (full v ∷ init) w h = let q = texts_split init w h.1 in ((h.0, q.0), q.1)
-texts_split (blank n ∷ init) w h = texts_split init w h
+-- below a collection at a column
+pub folded_lines : (c column : ℕ) (strips : Bool) (text : List ℕ) (ls : List Line) → c < column → AreFoldedLines c column strips text ls → AreBlockLines BlockStyle.folded column strips text ls
+folded_lines c column strips text ls deep h =
+    let each = each_line column ls h.3 h.2 (λ e. absurd (omega (arith, deep, e))) in
+    let rows : rows_of column (indented_lines column ls) ≡ Some (map row_by ls) = rw (← texts_are column ls) (rows_are column ls each) in
+    let col : column_by None (Some c) (indented_lines column ls) ≡ column = rw (← append-nil (indented_lines column ls)) (in_column_with (suc c) column ls [] deep h.0 h.3) in
+    let tabless = no_tab column ls deep h.3 in
+    let value : Some (value_before_text (header_by BlockStyle.folded strips) (map row_by ls)) ≡ Some text = rw (tabless, col, rows) at h.4 in
+    record { begins = h.0; ends = h.1; lines = h.3; each = each; tabless = tabless; value = cc }
+  where
+    no_tab : (column : ℕ) (ls : List Line) → c < column → AreLines column ls → starts_with_tab (indented_lines column ls) ≡ false
+    no_tab zero ls low are = absurd (omega (arith, low))
+    no_tab (suc n) [] low are = refl
+    no_tab (suc n) (full w ∷ ls) low are = refl
+    no_tab (suc n) (blank zero ∷ ls) low are = refl
+    no_tab (suc n) (blank (suc m) ∷ ls) low are = refl

@@ -1,5 +1,5 @@
 -- The lines of a literal or folded block as the definitions of block scalars read them: empty lines after them change neither its column nor its value.
-use Rattle.proof_loads.proofs.TokensCommon.{[], and_false, ap, append-nil, AreLines, arith, BeginsWithText, blank, BlockStyle, Bool, Chomping, content_row, deepest_start, drop, empty_row, EndsInText, false, feed, full, has_content, Header, if◌then◌else◌, indented_lines, is_content_line, is_document_marker, is_empty_line, is_spaces, leading_spaces, length, Line, List, max, nat_le, nat_tests, ne_eqb, None, Option, refl, Row, row_of, rows_of, Some, spaces, spell_line, spell_lines, suc, sym, text_after, text_of, texts, true, value_before_end, value_before_text, zero, ℕ, ◌&&◌, ◌++◌, ◌+◌, ◌<◌, ◌==◌, ◌∙◌, ◌∷◌, ◌≡◌, ◌≢◌, ◌≤◌}
+use Rattle.proof_loads.proofs.TokensCommon.{[], and_false, ap, append-nil, AreLines, arith, BeginsWithText, blank, BlockStyle, Bool, Chomping, content_row, deepest_start, drop, empty_row, EndsInText, false, feed, full, has_content, Header, if◌then◌else◌, indented_lines, is_content_line, is_document_marker, is_empty_line, is_spaces, leading_spaces, length, Line, List, map, max, nat_le, nat_tests, ne_eqb, None, refl, Row, row_of, Some, spaces, spell_line, spell_lines, suc, sym, text_after, text_of, texts, true, value_before_end, value_before_text, zero, ℕ, ◌&&◌, ◌++◌, ◌+◌, ◌<◌, ◌==◌, ◌∙◌, ◌∷◌, ◌≡◌, ◌≤◌}
 use Rattle.proof_lexers.proofs.Blocks.Written as written
 
 -- ---- lines
@@ -9,13 +9,12 @@ line_of column l = record { text = spell_line column l []; by = feed }
 
 -- the lines, each before an LF
 abbrev pub lines_at : (column : ℕ) → List Line → List written.Line
-lines_at column [] = []
-lines_at column (l ∷ ls) = line_of column l ∷ lines_at column ls
+lines_at column ls = map (line_of column) ls
 
 -- so many empty lines
-abbrev pub empties : ℕ → List written.Line
+abbrev pub empties : ℕ → List Line
 empties zero = []
-empties (suc n) = record { text = []; by = feed } ∷ empties n
+empties (suc n) = blank 0 ∷ empties n
 
 pub texts_are : (column : ℕ) (ls : List Line) → texts (lines_at column ls) ≡ indented_lines column ls
 texts_are column [] = refl
@@ -29,11 +28,14 @@ pub line_more : (column : ℕ) (l : Line) (r : List ℕ) → spell_line column l
 line_more column (full text) r = spaces_are column (text ++ []) r ∙ ap (λ x. spaces column (x ++ r)) (append-nil text)
 line_more column (blank n) r = spaces_are n [] r
 
--- lines of which the last is this one
-pub spelt : (column : ℕ) (ls : List Line) (w r : List ℕ) → spell_lines column (ls ++ full w ∷ []) r ≡ 10 ∷ written.spell (lines_at column ls) (spell_line column (full w) [] ++ r)
-spelt column [] w r = ap (λ x. 10 ∷ x) (sym (line_more column (full w) r))
-spelt column (l ∷ ls) w r =
-    ap (λ x. 10 ∷ spell_line column l x) (spelt column ls w r) ∙ ap (λ x. 10 ∷ x) (sym (line_more column l (10 ∷ written.spell (lines_at column ls) (spell_line column (full w) [] ++ r))))
+-- each line, and then an LF
+pub spelt_feeds : (column : ℕ) (ls : List Line) (r : List ℕ) → spell_lines column ls (10 ∷ r) ≡ 10 ∷ written.spell (lines_at column ls) r
+spelt_feeds column [] r = refl
+spelt_feeds column (l ∷ ls) r = ap (λ x. 10 ∷ spell_line column l x) (spelt_feeds column ls r) ∙ ap (λ x. 10 ∷ x) (sym (line_more column l (10 ∷ written.spell (lines_at column ls) r)))
+
+pub spelt_more : (column : ℕ) (ls ms : List Line) (r : List ℕ) → spell_lines column (ls ++ ms) r ≡ spell_lines column ls (spell_lines column ms r)
+spelt_more column [] ms r = refl
+spelt_more column (l ∷ ls) ms r = ap (λ x. 10 ∷ spell_line column l x) (spelt_more column ls ms r)
 
 -- lines whose last is full
 pub record Last (ls : List Line) : Type 0 where
@@ -86,40 +88,12 @@ no_marker (suc n) r free = rw (ne_eqb (suc n) 0 (λ e. omega (arith, e))) refl
 
 -- ---- rows
 
--- so many empty rows
-abbrev pub empty_rows : ℕ → List Row
-empty_rows zero = []
-empty_rows (suc n) = empty_row ∷ empty_rows n
+-- the row of a line
+abbrev pub row_by : Line → Row
+row_by (full w) = content_row w
+row_by (blank n) = empty_row
 
 module _ (column : ℕ) where
-  pub rows_append : (a b : List (List ℕ)) (rs ss : List Row) → rows_of column a ≡ Some rs → rows_of column b ≡ Some ss → rows_of column (a ++ b) ≡ Some (rs ++ ss)
-  rows_append [] b rs ss e f = let z : [] ≡ rs = cc in rw (← z) f
-  rows_append (l ∷ a) b rs ss e f = by (row_of column l) (rows_of column a) refl refl (λ more g. rows_append a b more ss g f)
-    where
-      by : (o : Option Row) (os : Option (List Row)) → row_of column l ≡ o → rows_of column a ≡ os → ((more : List Row) → rows_of column a ≡ Some more → rows_of column (a ++ b) ≡ Some (more ++ ss)) → rows_of column (l ∷ (a ++ b)) ≡ Some (rs ++ ss)
-      by d os x y go = grind arith
-
-  -- the row of a last line, and those before it
-  pub record Rows (a : List (List ℕ)) (l : List ℕ) (rs : List Row) : Type 0 where
-    pub before : List Row
-    pub row : Row
-    pub are : rows_of column a ≡ Some before
-    pub last : row_of column l ≡ Some row
-    pub is : rs ≡ before ++ row ∷ []
-
-  pub rows_split : (a : List (List ℕ)) (l : List ℕ) (rs : List Row) → rows_of column (a ++ l ∷ []) ≡ Some rs → Rows a l rs
-  rows_split [] l rs e = grind arith
-  rows_split (m ∷ a) l rs e = by (row_of column m) (rows_of column (a ++ l ∷ [])) refl refl (λ more g. rows_split a l more g)
-    where
-      by : (o : Option Row) (os : Option (List Row)) → row_of column m ≡ o → rows_of column (a ++ l ∷ []) ≡ os → ((more : List Row) → rows_of column (a ++ l ∷ []) ≡ Some more → Rows a l more) → Rows (m ∷ a) l rs
-      by None os x y go = let no : None ≡ Some rs = rw x at e in cc
-      by (Some r) None x y go = let no : None ≡ Some rs = rw (x, y) at e in cc
-      by (Some r) (Some more) x y go =
-          let one : Some (r ∷ more) ≡ Some rs = rw (x, y) at e in
-          let z = go more y in
-          let same : rs ≡ r ∷ more = cc in
-          record { before = r ∷ z.before; row = z.row; are = rw (x, z.are) refl; last = z.last; is = same ∙ ap (λ q. r ∷ q) z.is }
-
   -- spaces left of the column
   pub row_spaces : (n : ℕ) → n ≤ column → row_of column (spaces n []) ≡ Some empty_row
   unfolding row_of is_empty_line
@@ -127,10 +101,6 @@ module _ (column : ℕ) where
       let long : length (spaces n []) ≡ n + 0 = spaces_long n [] in
       let low : nat_le (length (spaces n [])) column ≡ true = grind (arith, nat_tests) in
       rw (are_spaces n [], low) refl
-
-  pub rows_empty : (n : ℕ) → rows_of column (texts (empties n)) ≡ Some (empty_rows n)
-  rows_empty zero = refl
-  rows_empty (suc n) = rw (row_spaces 0 (omega arith), rows_empty n) refl
 
   -- a full line isn't empty
   full_line : (c : ℕ) (w : List ℕ) → is_empty_line column (spaces column ((c ∷ w) ++ [])) ≡ false
@@ -140,20 +110,7 @@ module _ (column : ℕ) where
       let more : nat_le (length (spaces column ((c ∷ w) ++ []))) column ≡ false = grind (arith, nat_tests) in
       rw more (and_false (is_spaces (spaces column ((c ∷ w) ++ []))))
 
-  -- the row of a full line has content
-  pub row_full : (w : List ℕ) (r : Row) → w ≢ [] → row_of column (spell_line column (full w) []) ≡ Some r → has_content (r ∷ []) ≡ true
-  unfolding row_of
-  row_full [] r some e = absurd (some refl)
-  row_full (c ∷ w) r some e = by (is_content_line column (spaces column ((c ∷ w) ++ []))) refl
-    where
-      by : (b : Bool) → is_content_line column (spaces column ((c ∷ w) ++ [])) ≡ b → has_content (r ∷ []) ≡ true
-      by true x = let one = rw (full_line c w, x) at e in rw (← one_is _ r one) refl
-        where
-          one_is : (m : Row) (n : Row) → Some m ≡ Some n → m ≡ n
-          one_is m n f = cc
-      by false x = let no : None ≡ Some r = rw (full_line c w, x) at e in cc
-
-  -- it is its text, but for a document marker at column 0
+  -- its row is its text, but for a document marker at column 0
   pub text_row : (c : ℕ) (w : List ℕ) → (column ≡ 0 → is_document_marker ((c ∷ w) ++ []) ≡ false) → row_of column (spell_line column (full (c ∷ w)) []) ≡ Some (content_row (c ∷ w))
   unfolding row_of is_content_line
   text_row c w free =
@@ -179,31 +136,31 @@ abbrev pub header_by : BlockStyle → (strips : Bool) → Header
 header_by s strips = record { style = s; chomping = (if strips then Chomping.strip else Chomping.clip); digit = None }
 
 module _ (s : BlockStyle) where
-  no_text : (l : List ℕ) (k n : ℕ) → text_after s l k (empty_rows n) ≡ []
+  no_text : (l : List ℕ) (k n : ℕ) → text_after s l k (map row_by (empties n)) ≡ []
   no_text l k zero = refl
   no_text l k (suc n) = no_text l (suc k) n
 
-  same_after : (l : List ℕ) (k : ℕ) (rs : List Row) (n : ℕ) → text_after s l k (rs ++ empty_rows n) ≡ text_after s l k rs
+  same_after : (l : List ℕ) (k : ℕ) (rs : List Row) (n : ℕ) → text_after s l k (rs ++ map row_by (empties n)) ≡ text_after s l k rs
   same_after l k [] n = no_text l k n
   same_after l k (empty_row ∷ rs) n = same_after l (suc k) rs n
   same_after l k (content_row m ∷ rs) n = rw (same_after m 0 rs n) refl
 
-  same_text : (rs : List Row) (n : ℕ) → has_content rs ≡ true → text_of s (rs ++ empty_rows n) ≡ text_of s rs
+  same_text : (rs : List Row) (n : ℕ) → has_content rs ≡ true → text_of s (rs ++ map row_by (empties n)) ≡ text_of s rs
   same_text [] n h = cc
   same_text (empty_row ∷ rs) n h = ap (λ x. 10 ∷ x) (same_text rs n h)
   same_text (content_row l ∷ rs) n h = ap (λ x. l ++ x) (same_after l 0 rs n)
 
   -- before further text
-  pub text_value : (strips : Bool) (rs : List Row) (n : ℕ) → has_content rs ≡ true → value_before_text (header_by s strips) (rs ++ empty_rows n) ≡ value_before_text (header_by s strips) rs
-  text_value strips rs n h = rw (content_more rs (empty_rows n) h, h) (grind (arith, same_text))
+  pub text_value : (strips : Bool) (rs : List Row) (n : ℕ) → has_content rs ≡ true → value_before_text (header_by s strips) (rs ++ map row_by (empties n)) ≡ value_before_text (header_by s strips) rs
+  text_value strips rs n h = rw (content_more rs (map row_by (empties n)) h, h) (grind (arith, same_text))
 
   -- at the end of the text, in a line of spaces
   pub spaces_value : (strips : Bool) (column : ℕ) (rs : List Row) (n width : ℕ) → has_content rs ≡ true → width < max column 1
-      → value_before_end (header_by s strips) column (rs ++ empty_rows n) (spaces width []) empty_row ≡ value_before_text (header_by s strips) rs
+      → value_before_end (header_by s strips) column (rs ++ map row_by (empties n)) (spaces width []) empty_row ≡ value_before_text (header_by s strips) rs
   spaces_value strips column rs n width h low =
       let long : length (spaces width []) ≡ width + 0 = spaces_long width [] in
       let short : nat_le (max column 1) (length (spaces width [])) ≡ false = grind (arith, nat_tests) in
-      rw (content_more rs (empty_rows n) h, h, short) (grind (arith, same_text))
+      rw (content_more rs (map row_by (empties n)) h, h, short) (grind (arith, same_text))
 
   -- at the end of the text, in the last line
   pub last_value : (strips : Bool) (column : ℕ) (rs : List Row) (r : Row) (l : List ℕ) → has_content (r ∷ []) ≡ true → value_before_end (header_by s strips) column rs l r ≡ value_before_text (header_by s strips) (rs ++ r ∷ [])

@@ -1,7 +1,6 @@
 pub mod Blocks
 pub mod BlockScalars
 pub mod Documents
-pub mod Flow
 pub mod Gaps
 pub mod Json
 pub mod Leaves

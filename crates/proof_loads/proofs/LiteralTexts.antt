@@ -1,10 +1,10 @@
 -- A text that may be a literal block is the value of the lines that are written for it.
-use Rattle.proof_loads.proofs.TokensCommon.{[], and_false, and_parts, ap, append-nil, append_assoc, append_cancel_right, are_marks, AreLines, AreLinesOf, AreLineTexts, arith, begins_as_marker, BeginsWithText, blank, BlockStyle, Bool, breaks, codes, content_row, contents, empty_row, ends_with, EndsInText, false, first_full_line_is_indented, full, has_content, if◌then◌else◌, indented_lines, is_blank, is_blank_or_end, is_break, is_document_marker, is_empty, is_line_character, is_line_feed, is_literal_character, is_literal_text, is_nul, is_root_literal, IsLineText, Line, lines_of, lines_of_ended, List, list_all, list_any, literal_header, nat_eq, nat_tests, not, not-true, onto_first_line, or_parts, refl, Row, rows_of, Some, starts_with_tab, suc, sym, text_after, text_of, true, value_before_text, zero, ℕ, ◌&&◌, ◌++◌, ◌<◌, ◌==◌, ◌∙◌, ◌∷◌, ◌≡◌}
+use Rattle.proof_loads.proofs.TokensCommon.{[], and_false, and_parts, ap, append-nil, append_assoc, append_cancel_right, AreLines, AreLinesOf, AreLineTexts, arith, begins_as_marker, BeginsWithText, blank, BlockStyle, Bool, breaks, codes, contents, ends_with, EndsInText, false, first_full_line_is_indented, full, has_content, if◌then◌else◌, indented_lines, is_empty, is_line_character, is_line_feed, is_literal_character, is_literal_text, is_root_literal, Line, lines_of, lines_of_ended, List, list_all, list_any, literal_header, map, nat_eq, nat_tests, not, not-true, onto_first_line, refl, Row, starts_with_tab, suc, sym, text_after, text_of, true, value_before_text, zero, ℕ, ◌&&◌, ◌++◌, ◌<◌, ◌==◌, ◌∙◌, ◌∷◌, ◌≡◌}
 use Rattle.defs_tree.specs.Lines.{ended}
 use Rattle.defs_tree.specs.Literal as literal_defs
 use Rattle.defs_layout.specs.BlockLines.{content}
-use Rattle.proof_loads.proofs.BlockTexts.{header_by, row_spaces, text_row}
-use Rattle.proof_loads.proofs.BlockLines.{block_text, IsInside, AreBlockLines, in_its_column, value_by_rows}
+use Rattle.proof_loads.proofs.BlockTexts.{header_by, row_by}
+use Rattle.proof_loads.proofs.BlockLines.{block_text, AreBlockLines, each_line}
 
 -- ---- characters
 
@@ -59,40 +59,12 @@ begins_lines : (column : ℕ) (ls : List Line) → AreLines column ls → EndsIn
 begins_lines column [] are ends h = absurd ends
 begins_lines column (l ∷ ls) are ends h = grind (arith, begins_lines column ls)
 
--- ---- their rows
-
--- no line is read as a document marker
-abbrev AreFree : ℕ → List (List ℕ) → Type 0
-AreFree column ls = column ≡ 0 → list_any begins_as_marker ls ≡ false
-
-no_marker : (w : List ℕ) → IsLineText w → begins_as_marker w ≡ false → is_document_marker (w ++ []) ≡ false
-unfolding are_marks is_line_character is_blank_or_end is_blank is_break is_nul
-no_marker [] h e = refl
-no_marker (a ∷ []) h e = refl
-no_marker (a ∷ b ∷ []) h e = refl
-no_marker (a ∷ b ∷ c ∷ []) h e = grind (arith, nat_tests)
-no_marker (a ∷ b ∷ c ∷ d ∷ r) h e =
-    let p = and_parts (is_line_character a) (list_all is_line_character (b ∷ c ∷ d ∷ r)) h in
-    let q = and_parts (is_line_character b) (list_all is_line_character (c ∷ d ∷ r)) p.1 in
-    let s = and_parts (is_line_character c) (list_all is_line_character (d ∷ r)) q.1 in
-    grind (arith, nat_tests)
+-- ---- their text
 
 abbrev rows : List Line → List Row
-rows [] = []
-rows (full w ∷ ls) = content_row w ∷ rows ls
-rows (blank n ∷ ls) = empty_row ∷ rows ls
+rows ls = map row_by ls
 
-rows_are : (column : ℕ) (ls : List Line) → AreLines column ls → AreLineTexts ls → AreFree column (contents ls) → rows_of column (indented_lines column ls) ≡ Some (rows ls)
-rows_are column [] are texts free = refl
-rows_are column (full [] ∷ ls) are texts free = absurd (are.0 refl)
-rows_are column (full (c ∷ w) ∷ ls) are texts free =
-    rw (
-      text_row column c w (λ e. no_marker (c ∷ w) texts.0 (or_parts (begins_as_marker (c ∷ w)) (list_any begins_as_marker (contents ls)) (free e)).0),
-      rows_are column ls are.1 texts.1 (λ e. (or_parts (begins_as_marker (c ∷ w)) (list_any begins_as_marker (contents ls)) (free e)).1),
-    ) refl
-rows_are column (blank n ∷ ls) are texts free = rw (row_spaces column n are.0, rows_are column ls are.1 texts free) refl
-
-content_last : (ls : List Line) → EndsInText ls → has_content (rows ls) ≡ true
+pub content_last : (ls : List Line) → EndsInText ls → has_content (rows ls) ≡ true
 content_last [] h = absurd h
 content_last (full w ∷ ls) h = refl
 content_last (blank n ∷ []) h = absurd h
@@ -175,40 +147,35 @@ literal_text (c ∷ cs) h =
 abbrev MayStandAt : ℕ → List ℕ → Type 0
 MayStandAt column text = column ≡ 0 → (literal_defs.starts_with_tab text ≡ false) × (list_any begins_as_marker (lines_of text) ≡ false)
 
-lines_by : (i column : ℕ) (text : List ℕ) (ls : List Line) → IsInside i column → LiteralText text → AreLinesOf text column ls → MayStandAt column text → AreBlockLines BlockStyle.literal i column (strips_of text) text ls
-lines_by i column text ls inside z are may = by ls are.0 are.1 ends
+lines_by : (column : ℕ) (text : List ℕ) (ls : List Line) → LiteralText text → AreLinesOf text column ls → MayStandAt column text → AreBlockLines BlockStyle.literal column (strips_of text) text ls
+lines_by column text ls z are may = by ls are.0 are.1 (ends_lines ls (ap ends_full are.0 ∙ z.last))
   where
-    ends : EndsInText ls
-    ends = ends_lines ls (ap ends_full are.0 ∙ z.last)
-
-    by : (ls : List Line) → contents ls ≡ lines_of text → AreLines column ls → EndsInText ls → AreBlockLines BlockStyle.literal i column (strips_of text) text ls
+    by : (ls : List Line) → contents ls ≡ lines_of text → AreLines column ls → EndsInText ls → AreBlockLines BlockStyle.literal column (strips_of text) text ls
     by [] e g h = absurd h
     by (l ∷ ls) e g h =
         let clips = ends_with nat_eq text (codes "\n") in
-        let begins = begins_lines column (l ∷ ls) g h (ap first_full_line_is_indented e ∙ z.first) in
         let texts = line_texts (l ∷ ls) (ap are_line_texts e ∙ text_lines text z.chars) in
         let whole = make_text clips l ls text e z.some refl in
-        let tabless = no_tab column l ls (last_feed clips) text g whole (λ x. (may x).0) in
-        let free : AreFree column (contents (l ∷ ls)) = λ x. ap (list_any begins_as_marker) e ∙ (may x).1 in (
-          begins,
-          h,
-          texts,
-          g,
-          value_by_rows BlockStyle.literal i column (not clips) (indented_lines column (l ∷ ls)) (rows (l ∷ ls)) tabless (in_its_column i column (l ∷ ls) inside begins g) (rows_are column (l ∷ ls) g texts free)
-              ∙ ap Some (value_is clips l ls h ∙ whole),
-        )
+        record {
+          begins = begins_lines column (l ∷ ls) g h (ap first_full_line_is_indented e ∙ z.first);
+          ends = h;
+          lines = g;
+          each = each_line column (l ∷ ls) g texts (λ x. ap (list_any begins_as_marker) e ∙ (may x).1);
+          tabless = no_tab column l ls (last_feed clips) text g whole (λ x. (may x).0);
+          value = value_is clips l ls h ∙ whole;
+        }
 
 -- below a collection at a column
-pub literal_lines : (c column : ℕ) (text : List ℕ) (ls : List Line) → c < column → is_literal_text text ≡ true → AreLinesOf text column ls → AreBlockLines BlockStyle.literal (suc c) column (strips_of text) text ls
-literal_lines c column text ls deep one are = lines_by (suc c) column text ls deep (literal_text text one) are (λ e. absurd (omega (arith, deep, e)))
+pub literal_lines : (c column : ℕ) (text : List ℕ) (ls : List Line) → c < column → is_literal_text text ≡ true → AreLinesOf text column ls → AreBlockLines BlockStyle.literal column (strips_of text) text ls
+literal_lines c column text ls deep one are = lines_by column text ls (literal_text text one) are (λ e. absurd (omega (arith, deep, e)))
 
 -- at the root
-pub root_literal_lines : (text : List ℕ) (ls : List Line) → is_root_literal text ≡ true → AreLinesOf text 0 ls → AreBlockLines BlockStyle.literal 0 0 (strips_of text) text ls
+pub root_literal_lines : (text : List ℕ) (ls : List Line) → is_root_literal text ≡ true → AreLinesOf text 0 ls → AreBlockLines BlockStyle.literal 0 (strips_of text) text ls
 unfolding is_root_literal
 root_literal_lines text ls one are =
     let q = and_parts (is_literal_text text && not (literal_defs.starts_with_tab text)) (not (list_any begins_as_marker (lines_of text))) one in
     let r = and_parts (is_literal_text text) (not (literal_defs.starts_with_tab text)) q.0 in
-    lines_by 0 0 text ls refl (literal_text text r.0) are (λ e. (not-true _ r.1, not-true _ q.1))
+    lines_by 0 text ls (literal_text text r.0) are (λ e. (not-true _ r.1, not-true _ q.1))
 
 -- their header
 pub headed_literal : (text r : List ℕ) → literal_header text ++ r ≡ block_text BlockStyle.literal (strips_of text) r

@@ -1,7 +1,8 @@
 -- The scalars that are spelt without quotes, as texts that a plain scalar may be.
-use Rattle.proof_loads.proofs.TokensCommon.{[], alias, AllDigits, and_false, and_from, and_parts, arith, bad_value, Bool, boolean, codes, decimal, decimal_is_IsNumeral, digit_from_value, ends_with, ends_with-one, ends_with-step, false, has_indicator_first, hash, integer, is_decimal, is_quoted, is_real_character, is_real_text, is_unfit_for_plain, IsNumeral, IsPlain, List, list_all, list_any, ltb-true, nat_eq, nat_le, nat_tests, ne_eqb, negsuc, not, null, or_parts, pos, real, real_text-characters, refl, spelling, suc, Tree, true, typing, unquoted, ℕ, ◌&&◌, ◌<◌, ◌==◌, ◌^◌, ◌||◌, ◌∷◌, ◌≡◌, ◌≤◌}
+use Rattle.proof_loads.proofs.TokensCommon.{AllDigits, Bool, IsNumeral, IsPlain, List, Tree, [], alias, and_false, and_from, and_parts, arith, bad_value, boolean, codes, decimal, decimal_is_IsNumeral, digit_from_value, ends_with, ends_with-one, ends_with-step, false, has_indicator_first, hash, integer, is_decimal, is_quoted, is_real_character, is_real_text, is_unfit_for_plain, list_all, list_any, ltb-true, nat_eq, nat_le, nat_tests, ne_eqb, negsuc, not, null, or_parts, pos, real, real_text-characters, refl, spelling, suc, true, typing, unquoted, ℕ, ◌&&◌, ◌<◌, ◌==◌, ◌^◌, ◌||◌, ◌∷◌, ◌≡◌, ◌≤◌}
 use Rattle.defs_tree.specs.Tree.{string, array}
 use Rattle.defs_tree.specs.Quoting.{begins_with}
+use Rattle.defs_tree.proofs.GrammarLaws.{list_all-more}
 use Rattle.defs_tree.proofs.DecimalReading.{is_decimal-read}
 use Rattle.defs_tree.proofs.TypingLaws.{real_text-cases}
 
@@ -10,8 +11,7 @@ abbrev pub is_plain_char : ℕ → Bool
 is_plain_char c = not ((c == 0) || (c == 9) || (c == 10) || (c == 13) || (c == 35) || (c == 58))
 
 abbrev pub are_plain : List ℕ → Bool
-are_plain [] = true
-are_plain (c ∷ w) = is_plain_char c && are_plain w
+are_plain w = list_all is_plain_char w
 
 -- it doesn't end in a space; the flag says that one came last
 abbrev pub closes : Bool → List ℕ → Bool
@@ -45,8 +45,7 @@ is_word c = (nat_le 48 c && nat_le c 57) || (c == 43) || (c == 45) || (c == 46) 
 
 -- each character is one
 abbrev pub are_words : List ℕ → Bool
-are_words [] = true
-are_words (c ∷ w) = is_word c && are_words w
+are_words w = list_all is_word w
 
 abbrev pub begins_word : List ℕ → Bool
 begins_word [] = false
@@ -135,8 +134,7 @@ negative_plain (d ∷ ds) h = let range : (48 ≤ d) × (d ≤ 57) = digit_from_
 -- ---- reals
 
 real_words : (w : List ℕ) → list_all is_real_character w ≡ true → are_words w ≡ true
-real_words [] h = refl
-real_words (c ∷ w) h = let q = and_parts (is_real_character c) (list_all is_real_character w) h in and_from _ _ (let e = q.0 in grind (arith, nat_tests)) (real_words w q.1)
+real_words w h = list_all-more is_real_character is_word (λ c e. grind (arith, nat_tests)) w h
 
 two_dashes : (w : List ℕ) → is_real_text (45 ∷ 45 ∷ w) ≡ true → ⊥
 two_dashes w h = let z = real_text-cases (45 ∷ 45 ∷ w) h in let f = is_decimal-read (45 ∷ 45 ∷ w) in grind arith

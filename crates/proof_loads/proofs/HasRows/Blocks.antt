@@ -1,5 +1,5 @@
 -- Steps outside flow that begin at a column, after block collections that end there.
-use Rattle.proof_loads.proofs.TokensCommon.{[], Account, act_of, and_parts, another, ap, arith, awaits_past, begins_free_line, begins_with_space_or_break, begun_by, begun_outside, Bool, colon_may_precede, dash_may_precede, false, free, further_lines_stand, gives_node, has_break, has_no_break, has_tab_before_piece, has_tab_within, inl, is_at_gap, is_break, is_deeper, is_in_column, is_marker, is_separation, is_waiting, IsShown, last_line, le-ltb, least_column, length, length-append, line_past, line_past_separation, List, may_precede, nat_lt, not, not-true, not_ended, opened, Position, position_after, Previous, previous_by, put, refl, replicate, Some, suc, taken, Tok, Token, toks, true, zero, ℕ, ◌&&◌, ◌++◌, ◌+◌, ◌-◌, ◌<◌, ◌∙◌, ◌∷◌, ◌≡◌, ◌≤◌}
+use Rattle.proof_loads.proofs.TokensCommon.{Bool, IsShown, List, Position, Previous, Some, Tok, Token, [], act_of, and_parts, another, ap, arith, awaits_past, begins_free_line, begins_with_space_or_break, begun_by, begun_outside, colon_may_precede, dash_may_precede, false, free, further_lines_stand, gives_node, has_break, has_no_break, has_tab_before_piece, has_tab_within, inl, is_at_gap, is_break, is_deeper, is_in_column, is_marker, is_separation, is_waiting, last_line, le-ltb, least_column, length, length-append, line_past, line_past_separation, may_precede, nat_lt, not, not-true, not_ended, opened, position_after, previous_by, put, refl, replicate, start_if, suc, taken, toks, true, ℕ, ◌&&◌, ◌++◌, ◌+◌, ◌-◌, ◌<◌, ◌∙◌, ◌∷◌, ◌≡◌, ◌≤◌}
 use Rattle.defs_token.specs.Key.{Line}
 use Rattle.proof_loads.proofs.HasRows.Steps.{Reads, at, step_of, site_of, Steps, step}
 use Rattle.proof_loads.proofs.HasRows.Nodes.{or_true, deeper}
@@ -18,7 +18,7 @@ abbrev pub Stay : ℕ → List ℕ → Type 0
 Stay c [] = Unit {0}
 Stay c (n ∷ ns) = n ≤ c
 
-pub left_open : (c : ℕ) (extra bs : List ℕ) → AreAbove c extra → Stay c bs → not_ended c (extra ++ bs) ≡ bs
+left_open : (c : ℕ) (extra bs : List ℕ) → AreAbove c extra → Stay c bs → not_ended c (extra ++ bs) ≡ bs
 left_open c [] bs above stay = grind (arith, le-ltb)
 left_open c (n ∷ extra) bs above stay = let low = above.0 in let e : nat_lt c n ≡ true = grind (arith, low) in rw e (left_open c extra bs above.1 stay)
 
@@ -30,46 +30,17 @@ pub ended_append : (extra : List ℕ) (a b : List Tok) → ended extra a ++ b �
 ended_append [] a b = refl
 ended_append (n ∷ extra) a b = ap (λ o. Tok.block_end ∷ o) (ended_append extra a b)
 
--- ---- a separation up to a column
+-- ---- collections at a column
 
--- after a separation a text stands at a column, and a key may begin there
-pub record Here (c : ℕ) (r : List ℕ) (p : Position) (before : Previous) (l : Line) (f : List ℕ) : Type 0 where
-  pub separates : is_separation false f r ≡ true
-  pub tabless : (n : ℕ) → has_tab_within n (last_line f) ≡ false
-  pub line : line_past_separation false (begins_free_line before f) l ≡ Some free
-  pub column : (position_after p f r).col ≡ c
-  pub none : HasNone f
-
-module _ (c : ℕ) (extra bs : List ℕ) (p : Position) (awaits : Bool) (before : Previous) (l : Line) (f w : List ℕ) (t : Tok) (key : Bool) (next : List ℕ) (here : Here c (w ++ next) p before l f) where
-  abbrev from : Account
-  from = at p (extra ++ bs) awaits before l []
-
-  abbrev there : Position
-  there = position_after p f (w ++ next)
-
-  -- a step at the column, from all of these collections, with what is read after it
-  pub block_reads : (bs' : List ℕ) (l' : Line) (first tokens : List Tok) → AreAbove c extra → Stay c bs → is_marker (act_of t) ≡ false → HasNone w
-      → IsShown from (site_of from (step_of f w t key) next) (step_of f w t key) next
-      → ((column : ℕ) → further_lines_stand column t w ≡ true) → may_precede false bs t w next ≡ true
-      → line_past (is_in_column c bs) there bs (act_of t) key free ≡ Some (record { line = l'; blocks = bs' }) → (has_break w && is_waiting l') ≡ false
-      → ((colon : Position) → toks (begun_outside (is_deeper c bs) there colon (act_of t) key (Some free)) ≡ first)
-      → ((awaits : Bool) → Reads (at (position_after there w next) bs' awaits (previous_by t) l' (begun_by t)) next tokens)
-      → Reads from (f ++ (w ++ next)) (ended extra (first ++ (t ∷ tokens)))
-  block_reads bs' l' first tokens above stay no_marker none shown further precede leads one_line begins rest =
-      let stay_on = left_open c extra bs above stay in
-      let awaits_then = awaits_past false t (site_of from (step_of f w t key) next).blocks (site_of from (step_of f w t key) next).awaits next in
-      let so_many : length (extra ++ bs) - length bs ≡ length extra = rw length-append (omega arith) in
-      let z : Steps from (step_of f w t key) next (at (position_after there w next) bs' awaits_then (previous_by t) l' (begun_by t)) (ended extra first) = record {
-        is_separated = here.separates;
-        is_shown = shown;
-        stands = rw (here.tabless, or_true, further _, no_marker, here.column, stay_on, precede) refl;
-        leads = rw (here.line, no_marker, here.column, stay_on, leads, one_line) refl;
-        begins = λ past colon. rw (here.line, no_marker, here.column, stay_on, so_many) (ends_are extra there _ ∙ ap (ended extra) (begins colon.here));
-        none = (here.none, none);
-      } in
-      rw (← ended_append extra first (t ∷ tokens)) (step (step_of f w t key) next z (rest awaits_then))
-
--- ---- collections at the column
+-- after a separation a rest stands at a column, and a key may begin there
+pub record Here (c : ℕ) (text rest : List ℕ) (p : Position) (before : Previous) (l : Line) : Type 0 where
+  pub by : List ℕ
+  pub is : text ≡ by ++ rest
+  pub separates : is_separation false by rest ≡ true
+  pub tabless : (n : ℕ) → has_tab_within n (last_line by) ≡ false
+  pub line : line_past_separation false (begins_free_line before by) l ≡ Some free
+  pub column : (position_after p by rest).col ≡ c
+  pub none : HasNone by
 
 -- the collection of the column is open, or not yet
 abbrev pub stood : (is_open : Bool) → ℕ → List ℕ → List ℕ
@@ -84,14 +55,67 @@ starts false t o = t ∷ o
 abbrev pub MayBegin : (is_open : Bool) → ℕ → List ℕ → Type 0
 MayBegin is_open c bs = is_open ≡ false → least_column bs true ≤ c
 
-pub stands : (is_open : Bool) (c : ℕ) (bs : List ℕ) → MayBegin is_open c bs → Stay c (stood is_open c bs)
+-- where a rest stands at the column, from any collections that end there, these tokens are read, and first the collection's start if it isn't open
+abbrev pub Comes : (c : ℕ) → (blocks rest : List ℕ) → (collection : Tok) → List Tok → Type 0
+Comes c bs rest collection tokens =
+    (is_open : Bool) (extra : List ℕ) (p : Position) (awaits : Bool) (before : Previous) (l : Line) (text : List ℕ) → AreAbove c extra → MayBegin is_open c bs → Here c text rest p before l
+    → Reads (at p (extra ++ stood is_open c bs) awaits before l []) text (ended extra (starts is_open collection tokens))
+
+stands : (is_open : Bool) (c : ℕ) (bs : List ℕ) → MayBegin is_open c bs → Stay c (stood is_open c bs)
 stands a c bs h = grind arith
 
-pub opens : (is_open : Bool) (c : ℕ) (bs : List ℕ) → MayBegin is_open c bs → opened c (stood is_open c bs) ≡ c ∷ bs
+opens : (is_open : Bool) (c : ℕ) (bs : List ℕ) → MayBegin is_open c bs → opened c (stood is_open c bs) ≡ c ∷ bs
 opens a c bs h = grind (arith, le-ltb, deeper)
 
 is_deep : (is_open : Bool) (c : ℕ) (bs : List ℕ) → MayBegin is_open c bs → is_deeper c (stood is_open c bs) ≡ not is_open
 is_deep a c bs h = grind (arith, le-ltb, deeper)
+
+start_more : (is_open : Bool) (t : Tok) (a b : List Tok) → starts is_open t a ++ b ≡ starts is_open t (a ++ b)
+start_more true t a b = refl
+start_more false t a b = refl
+
+-- the start of a collection, and what stands between it and a piece
+start_is : (is_open : Bool) (p : Position) (t : Tok) (own : List Token) → toks (start_if (not is_open) p t ++ own) ≡ starts is_open t (toks own)
+start_is true p t own = refl
+start_is false p t own = refl
+
+mark_is : (is_open : Bool) (p : Position) (t : Tok) → toks (start_if (not is_open) p t) ≡ starts is_open t []
+mark_is true p t = refl
+mark_is false p t = refl
+
+-- what a piece at the column says, where these collections go on there
+abbrev pub ShownAt : (bs w : List ℕ) → Tok → (key : Bool) → (next : List ℕ) → Type 0
+ShownAt bs w t key next =
+    (all : List ℕ) (p : Position) (awaits : Bool) (before : Previous) (l : Line) (f : List ℕ) → not_ended (position_after p f (w ++ next)).col all ≡ bs
+    → IsShown (at p all awaits before l []) (site_of (at p all awaits before l []) (step_of f w t key) next) (step_of f w t key) next
+
+module _ (c : ℕ) (bs w : List ℕ) (t : Tok) (key : Bool) (next : List ℕ) (collection : Tok) (own tokens : List Tok) (blocks : (is_open : Bool) → List ℕ) (after : Position → Line) where
+  -- a piece at the column
+  at_column : is_marker (act_of t) ≡ false → HasNone w → ((is_open : Bool) → ShownAt (stood is_open c bs) w t key next) → ((column : ℕ) → further_lines_stand column t w ≡ true)
+      → ((is_open : Bool) → may_precede false (stood is_open c bs) t w next ≡ true)
+      → ((is_open must : Bool) (here : Position) → here.col ≡ c → MayBegin is_open c bs → line_past must here (stood is_open c bs) (act_of t) key free ≡ Some (record { line = after here; blocks = blocks is_open }))
+      → ((here : Position) → (has_break w && is_waiting (after here)) ≡ false)
+      → ((is_open : Bool) (here colon : Position) → toks (begun_outside (not is_open) here colon (act_of t) key (Some free)) ≡ starts is_open collection own)
+      → ((is_open : Bool) (here : Position) (awaits : Bool) → here.col ≡ c → MayBegin is_open c bs → Reads (at (position_after here w next) (blocks is_open) awaits (previous_by t) (after here) (begun_by t)) next tokens)
+      → Comes c bs (w ++ next) collection (own ++ t ∷ tokens)
+  at_column no_marker none shown further precede leads one_line begins rest is_open extra p awaits before l text above may here =
+      let at_c = stood is_open c bs in
+      let a = at p (extra ++ at_c) awaits before l [] in
+      let w' = step_of here.by w t key in
+      let there = position_after p here.by (w ++ next) in
+      let stay : not_ended there.col (extra ++ at_c) ≡ at_c = rw (here.column) (left_open c extra at_c above (stands is_open c bs may)) in
+      let waits = awaits_past false t (site_of a w' next).blocks (site_of a w' next).awaits next in
+      let so_many : length (extra ++ at_c) - length at_c ≡ length extra = rw length-append (omega arith) in
+      let deep : is_deeper there.col at_c ≡ not is_open = rw (here.column) (is_deep is_open c bs may) in
+      let s : Steps a w' next (at (position_after there w next) (blocks is_open) waits (previous_by t) (after there) (begun_by t)) (ended extra (starts is_open collection own)) = record {
+        is_separated = here.separates;
+        is_shown = shown is_open (extra ++ at_c) p awaits before l here.by stay;
+        stands = rw (here.tabless, or_true, further, no_marker, stay, precede) refl;
+        leads = rw (here.line, no_marker, stay, leads is_open (is_in_column there.col at_c) there here.column may, one_line) refl;
+        begins = λ past colon. rw (here.line, no_marker, stay, so_many, deep) (ends_are extra there _ ∙ ap (ended extra) (begins is_open there colon.here));
+        none = (here.none, none);
+      } in
+      rw (here.is, ← start_more is_open collection own (t ∷ tokens), ← ended_append extra (starts is_open collection own) (t ∷ tokens)) (step w' next s (rest is_open there waits here.column may))
 
 -- ---- entries
 
@@ -103,69 +127,49 @@ along (c ∷ w) p next h =
     let z = along w (record { index = suc p.index; line = p.line; col = suc p.col }) next q.1 in
     rw (position_after, not-true (is_break c) q.0) (omega (arith, z), omega (arith, z))
 
-module _ (is_open : Bool) (c : ℕ) (extra bs : List ℕ) (p : Position) (awaits : Bool) (before : Previous) (l : Line) (f next : List ℕ) (tokens : List Tok) (above : AreAbove c extra) (may : MayBegin is_open c bs) where
-  abbrev Begins : ℕ → Tok → (collection : Tok) → Line → Type 0
-  Begins mark t collection l' = Here c (mark ∷ next) p before l f → ((p : Position) (awaits : Bool) → p.col ≡ suc c → Reads (at p (c ∷ bs) awaits another l' []) next tokens)
-      → Reads (at p (extra ++ stood is_open c bs) awaits before l []) (f ++ mark ∷ next) (ended extra (starts is_open collection (t ∷ tokens)))
+module _ (c : ℕ) (bs next : List ℕ) (tokens : List Tok) where
+  -- from after an indicator at the column on
+  abbrev pub Marked : Type 0
+  Marked = (p : Position) (awaits : Bool) → p.col ≡ suc c → Reads (at p (c ∷ bs) awaits another free []) next tokens
 
-  start_more : (t : Tok) (o : List Tok) → starts is_open t [] ++ o ≡ starts is_open t o
-  start_more t o = grind (arith, is_open, starts)
-
-  pub dash_reads : is_at_gap next ≡ true → dash_may_precede next ≡ true → Begins 45 Tok.block_entry Tok.block_sequence_start free
+  pub dash_reads : is_at_gap next ≡ true → dash_may_precede next ≡ true → Marked → Comes c bs (45 ∷ next) Tok.block_sequence_start (Tok.block_entry ∷ tokens)
   unfolding is_break
-  dash_reads gap follows here rest =
-      rw (← start_more Tok.block_sequence_start (Tok.block_entry ∷ tokens))
-      (block_reads c extra (stood is_open c bs) p awaits before l f (45 ∷ []) Tok.block_entry false next here (c ∷ bs) free (starts is_open Tok.block_sequence_start []) tokens above (stands is_open c bs may) refl refl
-      (refl, (refl, gap, refl)) (λ column. refl) follows (rw (here.column, opens is_open c bs may) refl) refl (λ colon. rw (is_deep is_open c bs may) (grind (arith, is_open, starts))) (λ awaits. rest _ awaits (ap suc here.column)))
+  dash_reads gap follows rest =
+      at_column c bs (45 ∷ []) Tok.block_entry false next Tok.block_sequence_start [] tokens (λ o. c ∷ bs) (λ here. free) refl refl (λ o all p awaits before l f stay. (refl, (refl, gap, refl))) (λ column. refl) (λ o. follows)
+      (λ o must here col may. rw (col, opens o c bs may) refl) (λ here. refl) (λ o here colon. mark_is o here Tok.block_sequence_start) (λ o here awaits col may. rest _ awaits (ap suc col))
 
-  pub question_reads : begins_with_space_or_break next ≡ true → has_tab_before_piece false next ≡ false → Begins 63 Tok.key Tok.block_mapping_start free
+  pub question_reads : begins_with_space_or_break next ≡ true → has_tab_before_piece false next ≡ false → Marked → Comes c bs (63 ∷ next) Tok.block_mapping_start (Tok.key ∷ tokens)
   unfolding is_break
-  question_reads gap follows here rest =
-      rw (← start_more Tok.block_mapping_start (Tok.key ∷ tokens))
-      (block_reads c extra (stood is_open c bs) p awaits before l f (63 ∷ []) Tok.key false next here (c ∷ bs) free (starts is_open Tok.block_mapping_start []) tokens above (stands is_open c bs may) refl refl
-      (refl, inl (refl, gap)) (λ column. refl) (rw follows refl) (rw (here.column, opens is_open c bs may) refl) refl (λ colon. rw (is_deep is_open c bs may) (grind (arith, is_open, starts))) (λ awaits. rest _ awaits (ap suc here.column)))
+  question_reads gap follows rest =
+      at_column c bs (63 ∷ []) Tok.key false next Tok.block_mapping_start [] tokens (λ o. c ∷ bs) (λ here. free) refl refl (λ o all p awaits before l f stay. (refl, inl (refl, gap))) (λ column. refl) (λ o. rw follows refl)
+      (λ o must here col may. rw (col, opens o c bs may) refl) (λ here. refl) (λ o here colon. mark_is o here Tok.block_mapping_start) (λ o here awaits col may. rest _ awaits (ap suc col))
 
   -- the colon of an explicit key, or of an empty one
-  pub colon_reads : is_at_gap next ≡ true → colon_may_precede next ≡ true → Begins 58 Tok.value Tok.block_mapping_start free
+  pub colon_reads : is_at_gap next ≡ true → colon_may_precede next ≡ true → Marked → Comes c bs (58 ∷ next) Tok.block_mapping_start (Tok.value ∷ tokens)
   unfolding is_break
-  colon_reads gap follows here rest =
-      rw (← start_more Tok.block_mapping_start (Tok.value ∷ tokens))
-      (block_reads c extra (stood is_open c bs) p awaits before l f (58 ∷ []) Tok.value false next here (c ∷ bs) free (starts is_open Tok.block_mapping_start []) tokens above (stands is_open c bs may) refl refl
-      (refl, (refl, rw gap refl)) (λ column. refl) follows (rw (here.column, opens is_open c bs may) refl) refl (λ colon. rw (is_deep is_open c bs may) (grind (arith, is_open, starts))) (λ awaits. rest _ awaits (ap suc here.column)))
+  colon_reads gap follows rest =
+      at_column c bs (58 ∷ []) Tok.value false next Tok.block_mapping_start [] tokens (λ o. c ∷ bs) (λ here. free) refl refl (λ o all p awaits before l f stay. (refl, (refl, rw gap refl))) (λ column. refl) (λ o. follows)
+      (λ o must here col may. rw (col, opens o c bs may) refl) (λ here. refl) (λ o here colon. mark_is o here Tok.block_mapping_start) (λ o here awaits col may. rest _ awaits (ap suc col))
 
 -- ---- implicit keys
 
-no_tab : (n : ℕ) → has_tab_within n [] ≡ false
-no_tab zero = refl
-no_tab (suc n) = refl
-
 -- the colon right after a key
 module _ (bs bs' next : List ℕ) (begin p : Position) (awaits : Bool) (before : Previous) (stay : Stay p.col bs) (near : p.index ≤ begin.index + 1024) (opens : opened begin.col bs ≡ bs') (gap : is_at_gap next ≡ true) (follows : colon_may_precede next ≡ true) (quiet : begins_free_line before [] ≡ false) where
-  abbrev waiting : Account
-  waiting = at p bs awaits before (Line.waits begin) []
-
-  colon_step : Steps waiting (step_of [] (58 ∷ []) Tok.value false) next (at (position_after p (58 ∷ []) next) bs' true another taken []) []
+  colon_step : Steps (at p bs awaits before (Line.waits begin) []) (step_of [] (58 ∷ []) Tok.value false) next (at (position_after p (58 ∷ []) next) bs' true another taken []) []
   colon_step = grind arith
 
-module _ (is_open : Bool) (c : ℕ) (extra bs : List ℕ) (p : Position) (awaits : Bool) (before : Previous) (l : Line) (f w : List ℕ) (t : Tok) (next : List ℕ) (tokens : List Tok) (above : AreAbove c extra) (may : MayBegin is_open c bs) where
-  key_more : (o : List Tok) → starts is_open Tok.block_mapping_start (Tok.key ∷ []) ++ o ≡ starts is_open Tok.block_mapping_start (Tok.key ∷ o)
-  key_more o = grind (arith, is_open, starts)
-
-  -- a key and its colon
-  pub key_reads : act_of t ≡ gives_node → begun_by t ≡ [] → begins_free_line (previous_by t) [] ≡ false → has_no_break w ≡ true → HasNone w → length w ≤ 1024
-      → IsShown (at p (extra ++ stood is_open c bs) awaits before l []) (site_of (at p (extra ++ stood is_open c bs) awaits before l []) (step_of f w t true) (58 ∷ next)) (step_of f w t true) (58 ∷ next)
-      → ((column : ℕ) → further_lines_stand column t w ≡ true) → may_precede false (stood is_open c bs) t w (58 ∷ next) ≡ true → is_at_gap next ≡ true → colon_may_precede next ≡ true
-      → Here c (w ++ 58 ∷ next) p before l f → ((p : Position) → suc c ≤ p.col → Reads (at p (c ∷ bs) true another taken []) next tokens)
-      → Reads (at p (extra ++ stood is_open c bs) awaits before l []) (f ++ (w ++ 58 ∷ next)) (ended extra (starts is_open Tok.block_mapping_start (Tok.key ∷ t ∷ Tok.value ∷ tokens)))
-  unfolding is_break
-  key_reads node none quiet one_line clean short shown further precede gap follows here rest =
-      let begin = position_after p f (w ++ 58 ∷ next) in
-      let past = position_after begin w (58 ∷ next) in
-      let z = along w begin (58 ∷ next) one_line in
-      let at_c = here.column in
-      let on : Stay past.col (stood is_open c bs) = grind arith in
-      let opened_at : opened begin.col (stood is_open c bs) ≡ c ∷ bs = rw at_c (opens is_open c bs may) in
-      rw (← key_more (t ∷ Tok.value ∷ tokens))
-      (block_reads c extra (stood is_open c bs) p awaits before l f w t true (58 ∷ next) here (stood is_open c bs) (Line.waits begin) (starts is_open Tok.block_mapping_start (Tok.key ∷ [])) (Tok.value ∷ tokens) above (stands is_open c bs may) (rw node refl) clean
-      shown further precede (rw node refl) (rw one_line refl) (λ colon. rw (is_deep is_open c bs may) (grind (arith, is_open, starts)))
-      (λ awaits. rw none (step (step_of [] (58 ∷ []) Tok.value false) next (colon_step (stood is_open c bs) (c ∷ bs) next begin past awaits (previous_by t) on (omega (arith, z, short)) opened_at gap follows quiet) (rest (position_after past (58 ∷ []) next) (omega (arith, z, at_c))))))
+-- a key and its colon
+pub key_reads : (c : ℕ) (bs w : List ℕ) (t : Tok) (next : List ℕ) (tokens : List Tok) → act_of t ≡ gives_node → begun_by t ≡ [] → begins_free_line (previous_by t) [] ≡ false → has_no_break w ≡ true → HasNone w → length w ≤ 1024
+    → ((is_open : Bool) → ShownAt (stood is_open c bs) w t true (58 ∷ next)) → ((column : ℕ) → further_lines_stand column t w ≡ true) → ((is_open : Bool) → may_precede false (stood is_open c bs) t w (58 ∷ next) ≡ true)
+    → is_at_gap next ≡ true → colon_may_precede next ≡ true → ((p : Position) → suc c ≤ p.col → Reads (at p (c ∷ bs) true another taken []) next tokens)
+    → Comes c bs (w ++ 58 ∷ next) Tok.block_mapping_start (Tok.key ∷ t ∷ Tok.value ∷ tokens)
+unfolding is_break
+key_reads c bs w t next tokens node none quiet one_line clean short shown further precede gap follows rest =
+    at_column c bs w t true (58 ∷ next) Tok.block_mapping_start (Tok.key ∷ []) (Tok.value ∷ tokens) (λ o. stood o c bs) Line.waits (rw node refl) clean shown further precede
+    (λ o must here col may. rw node refl) (λ here. rw one_line refl) (λ o here colon. start_is o colon Tok.block_mapping_start (put here Tok.key ∷ []))
+    (λ o here awaits col may.
+        let past = position_after here w (58 ∷ next) in
+        let z = along w here (58 ∷ next) one_line in
+        let on : Stay past.col (stood o c bs) = let low = stands o c bs may in grind arith in
+        let opened_at : opened here.col (stood o c bs) ≡ c ∷ bs = rw col (opens o c bs may) in
+        rw none (step (step_of [] (58 ∷ []) Tok.value false) next (colon_step (stood o c bs) (c ∷ bs) next here past awaits (previous_by t) on (omega (arith, z, short)) opened_at gap follows quiet) (rest (position_after past (58 ∷ []) next) (omega (arith, z, col)))))

@@ -1,9 +1,8 @@
 -- White space of JSON texts as separations.
-use Rattle.proof_loads.proofs.TokensCommon.{[], after, and_parts, ap, arith, begins_with, Blank, blank_character, Bool, carriage_return, codes, colon_may_precede, false, goes_on_quoted, has_no_break, has_tab_within, inside, is_blank, is_blanks_and_comment, is_break, is_empty, is_flow, is_on_line, is_one_of, is_separation, last_line, leading, least_column, line_feed, List, map, not, not-true, Option, Position, position_after, position_past, quoted_may_end, refl, space, split, Stand, stops, suc, tab, TabsBeginLines, true, zero, ℕ, ◌++◌, ◌==◌, ◌||◌, ◌∷◌, ◌≡◌}
+use Rattle.proof_loads.proofs.TokensCommon.{Blank, Bool, List, Option, Position, Stand, TabsBeginLines, [], after, ap, arith, begins_with, blank_character, carriage_return, codes, colon_may_precede, false, goes_on_quoted, has_tab_within, inside, is_blank, is_blanks_and_comment, is_break, is_empty, is_flow, is_on_line, is_one_of, is_separation, last_line, leading, least_column, line_feed, map, position_after, quoted_may_end, refl, space, split, stops, suc, tab, true, zero, ℕ, ◌++◌, ◌==◌, ◌||◌, ◌∷◌, ◌≡◌}
 use Rattle.defs_layout.specs.JsonGap.{spell_gap}
 use Rattle.proof_loads.proofs.JsonTokens.OnOneLine.{AreSpaces}
-use Rattle.proof_loads.proofs.HasRows.Nodes.{IsDeep, Parts, or_true}
-use Rattle.proof_loads.proofs.HasRows.Flow.{closing_bracket}
+use Rattle.proof_loads.proofs.HasRows.Nodes.{IsDeep, deep_char, Parts, or_true, closing_bracket}
 use Rattle.proof_loads.proofs.Nul.{HasNone}
 
 -- the white space as text
@@ -37,26 +36,16 @@ no_tab zero g h = refl
 no_tab (suc n) [] h = refl
 no_tab (suc n) (b ∷ g) h = grind (arith, no_tab n g)
 
-pub parts : (bs : List ℕ) (g : List Blank) → MayStand bs g → Parts bs (white g)
-parts bs g may = record { separates = separates g; tabless = by bs may; none = white_none g }
-  where
-    by : (bs : List ℕ) → MayStand bs g → (awaits : Bool) → has_tab_within (least_column bs awaits) (last_line (white g)) ≡ false
-    by a may b = grind (arith, one_line, no_tab)
-
--- ---- columns
-
-deep_char : (bs : List ℕ) (p : Position) (c : ℕ) (next : List ℕ) → (is_empty bs ≡ false → is_break c ≡ false) → IsDeep bs p → IsDeep bs (position_past p c next)
-deep_char a p c b h deep = grind arith
-
-pub deep_gap : (bs : List ℕ) (g : List Blank) (p : Position) (next : List ℕ) → MayStand bs g → IsDeep bs p → IsDeep bs (position_after p (white g) next)
+deep_gap : (bs : List ℕ) (g : List Blank) (p : Position) (next : List ℕ) → MayStand bs g → IsDeep bs p → IsDeep bs (position_after p (white g) next)
 unfolding is_break
 deep_gap bs [] p next may deep = deep
 deep_gap bs (b ∷ g) p next may deep = grind (arith, deep_char, deep_gap bs g)
 
--- after a piece on one line
-pub deep_piece : (bs : List ℕ) (w : List ℕ) (p : Position) (next : List ℕ) → has_no_break w ≡ true → IsDeep bs p → IsDeep bs (position_after p w next)
-deep_piece bs [] p next h deep = deep
-deep_piece bs (c ∷ w) p next h deep = let q = and_parts (not (is_break c)) (has_no_break w) h in deep_piece bs w _ next q.1 (deep_char bs p c (w ++ next) (λ e. not-true (is_break c) q.0) deep)
+pub blanks : (bs : List ℕ) (g : List Blank) (rest : List ℕ) → MayStand bs g → Parts bs (spell_gap g rest) rest
+blanks bs g rest may = record { by = white g; is = spelt g rest; separates = separates g rest; tabless = tabless bs may; deep = λ p. deep_gap bs g p rest may; none = white_none g }
+  where
+    tabless : (bs : List ℕ) → MayStand bs g → (awaits : Bool) → has_tab_within (least_column bs awaits) (last_line (white g)) ≡ false
+    tabless a may b = grind (arith, one_line, no_tab)
 
 -- ---- what follows a value
 

@@ -1,7 +1,9 @@
--- Steps whose pieces are nodes, outside flow and in an entry of a JSON array or object.
-use Rattle.proof_loads.proofs.TokensCommon.{[], Account, act_of, and_false, another, arith, awaits_at, awaits_past, begins_free_line, begins_line, begun_by, Bool, Colon, Entry, false, filled, FlowKind, free, fresh, further_lines_stand, gives_node, has_break, has_tab_within, if◌then◌else◌, is_deeper, is_in_column, is_in_flow, is_indented_by_spaces, is_separation, is_waiting, IsShown, last_line, le-ltb, least_column, least_for, line_past_separation, List, mapping, may_precede, may_stand, nat_le, ne_eqb, no_pair, not, not_ended, Position, position_after, Previous, previous_by, refl, sequence, settled, Some, taken, Tok, toks, true, ℕ, ◌++◌, ◌-◌, ◌∷◌, ◌≡◌, ◌≤◌}
+-- Texts that are read from a place on: how they begin with a separation and a piece, outside flow and in flow.
+use Rattle.proof_loads.proofs.TokensCommon.{[], act_of, and_false, and_parts, another, arith, awaits_at, awaits_past, begins_free_line, begins_line, begun_by, Bool, Entry, false, filled, flow_mapping_end, flow_mapping_start, flow_sequence_end, flow_sequence_start, FlowKind, free, fresh, further_lines_stand, gives_node, Had, has_break, has_no_break, has_tab_within, if◌then◌else◌, is_break, is_deeper, is_empty, is_in_column, is_in_flow, is_indented_by_spaces, is_marker, is_renewed, is_separation, is_waiting, IsShown, last_line, le-ltb, least_column, least_for, length, line_past, line_past_separation, List, mapping, may_precede, nat_le, ne_eqb, no_pair, not, not-true, not_ended, Option, Position, position_after, position_past, Previous, previous_by, refl, sequence, settled, Site, Some, Step, taken, Tok, toks, true, ℕ, ◌++◌, ◌-◌, ◌∷◌, ◌≡◌, ◌≤◌}
+use Rattle.defs_token.specs.FlowEntry.{entries_past, takes_pair}
 use Rattle.defs_token.specs.Key.{Line}
-use Rattle.proof_loads.proofs.HasRows.Steps.{at, step_of, site_of, past_step, first_tokens, Steps}
+use Rattle.defs_token.specs.Tokens.{begun_inside, begun_outside}
+use Rattle.proof_loads.proofs.HasRows.Steps.{Reads, at, step_of, site_of, Steps, step}
 use Rattle.proof_loads.proofs.Nul.{HasNone}
 pub use Rattle.proof_lexers.proofs.Plain.Turns.{or_true}
 
@@ -23,38 +25,163 @@ deeper a n h = grind arith
 pub no_column : (bs : List ℕ) (n : ℕ) → least_column bs true ≤ n → is_in_column n bs ≡ false
 no_column a n h = grind (arith, ne_eqb)
 
+pub deep_char : (bs : List ℕ) (p : Position) (c : ℕ) (next : List ℕ) → (is_empty bs ≡ false → is_break c ≡ false) → IsDeep bs p → IsDeep bs (position_past p c next)
+deep_char a p c b h deep = grind arith
+
+-- after a piece on one line
+pub deep_piece : (bs w next : List ℕ) → has_no_break w ≡ true → (p : Position) → IsDeep bs p → IsDeep bs (position_after p w next)
+deep_piece bs [] next h p deep = deep
+deep_piece bs (c ∷ w) next h p deep =
+    let q = and_parts (not (is_break c)) (has_no_break w) h in
+    deep_piece bs w next q.1 _ (deep_char bs p c (w ++ next) (λ e. not-true (is_break c) q.0) deep)
+
 -- ---- separations
 
--- a separation before any text, after which no TAB indents a line
-pub record Parts (bs : List ℕ) (f : List ℕ) : Type 0 where
-  pub separates : (next : List ℕ) → is_separation false f next ≡ true
-  pub tabless : (awaits : Bool) → has_tab_within (least_column bs awaits) (last_line f) ≡ false
-  pub none : HasNone f
+-- A text is a separation and a rest: no TAB indents the rest's line, and the rest is deep where the text is.
+pub record Parts (bs text rest : List ℕ) : Type 0 where
+  pub by : List ℕ
+  pub is : text ≡ by ++ rest
+  pub separates : is_separation false by rest ≡ true
+  pub tabless : (awaits : Bool) → has_tab_within (least_column bs awaits) (last_line by) ≡ false
+  pub deep : (p : Position) → IsDeep bs p → IsDeep bs (position_after p by rest)
+  pub none : HasNone by
 
-pub indented : (before : Previous) (bs : List ℕ) (awaits : Bool) (f : List ℕ) → Parts bs f → is_indented_by_spaces before bs awaits f ≡ true
-indented before bs awaits f parts = rw (parts.tabless) (or_true (not (begins_line before f)))
+pub indented : (before : Previous) (bs : List ℕ) (awaits : Bool) {text rest : List ℕ} (parts : Parts bs text rest) → is_indented_by_spaces before bs awaits parts.by ≡ true
+indented before bs awaits parts = rw (parts.tabless) (or_true (not (begins_line before parts.by)))
 
 -- what is no directive: a break after it begins a line
 abbrev pub Quiet : Previous → Type 0
 Quiet before = (f : List ℕ) → begins_free_line before f ≡ has_break f
 
--- ---- places of nodes
-
--- outside flow, or in an entry of an array or an object
-pub data Place : Type 0 where
-  outside : Place
-  within : (is_object : Bool) → (around : List Entry) → Place
+-- ---- entries of flow collections
 
 abbrev pub kind_of : (is_object : Bool) → FlowKind
 kind_of true = mapping
 kind_of false = sequence
 
--- an entry that awaits a value, and one that has had it
+-- an entry without a single pair; one that awaits a value, and one that has had it
+abbrev pub entry_of : (is_object : Bool) → Had → Entry
+entry_of b h = record { kind = kind_of b; pair = no_pair; had = h }
+
 abbrev pub awaiting : (is_object : Bool) → Entry
-awaiting b = record { kind = kind_of b; pair = no_pair; had = (if b then settled else fresh) }
+awaiting b = entry_of b (if b then settled else fresh)
 
 abbrev pub filled_by : (is_object : Bool) → Entry
-filled_by b = record { kind = kind_of b; pair = no_pair; had = (if b then settled else filled) }
+filled_by b = entry_of b (if b then settled else filled)
+
+-- the brackets of an object and an array
+abbrev pub opening : (is_object : Bool) → Tok
+opening true = flow_mapping_start
+opening false = flow_sequence_start
+
+abbrev pub closing : (is_object : Bool) → Tok
+closing true = flow_mapping_end
+closing false = flow_sequence_end
+
+abbrev pub opening_bracket : (is_object : Bool) → ℕ
+opening_bracket true = 123
+opening_bracket false = 91
+
+abbrev pub closing_bracket : (is_object : Bool) → ℕ
+closing_bracket true = 125
+closing_bracket false = 93
+
+-- ---- what is read
+
+-- wherever it is deep enough and no key waits, a text is read after such a piece
+abbrev pub From : Previous → (blocks : List ℕ) → List Entry → (text : List ℕ) → List Tok → Type 0
+From before bs es text tokens = (p : Position) (awaits : Bool) (l : Line) → is_waiting l ≡ false → IsDeep bs p → Reads (at p bs awaits before l es) text tokens
+
+-- so it is after a value
+abbrev pub Then : (blocks : List ℕ) → List Entry → (text : List ℕ) → List Tok → Type 0
+Then bs es text tokens = (before : Previous) → Quiet before → From before bs es text tokens
+
+-- what a step says of its piece, wherever that is deep enough
+abbrev pub Shown : Previous → (blocks : List ℕ) → List Entry → Step → (next : List ℕ) → Type 0
+Shown before bs es w next =
+    (p : Position) (awaits : Bool) (l : Line) → IsDeep bs (position_after p w.separation (w.piece ++ next))
+    → IsShown (at p bs awaits before l es) (site_of (at p bs awaits before l es) w next) w next
+
+pub same_line : (broken : Bool) (l : Line) → is_waiting l ≡ false → line_past_separation true broken l ≡ Some l
+same_line a l h = grind arith
+
+outside_line : (broken : Bool) (l : Line) → is_waiting l ≡ false → (m : Line) × (line_past_separation false broken l ≡ Some m) × (is_waiting m ≡ false)
+outside_line true free h = (free, refl, refl)
+outside_line true taken h = (free, refl, refl)
+outside_line true (Line.waits begin) h = cc
+outside_line false l h = (l, refl, h)
+
+node_line : (must : Bool) (here : Position) (bs : List ℕ) (l : Line) → must ≡ false → is_waiting l ≡ false → line_past must here bs gives_node false l ≡ Some (record { line = taken; blocks = bs })
+node_line a p bs b e h = grind arith
+
+no_less : (n : ℕ) → n - n ≡ 0
+no_less n = omega arith
+
+module _ (bs w : List ℕ) (t : Tok) (text next : List ℕ) (tokens : List Tok) (parts : Parts bs text (w ++ next)) (none : HasNone w) where
+  abbrev Over : Type 0
+  Over = (p : Position) → IsDeep bs p → IsDeep bs (position_after p w next)
+
+  abbrev Further : Type 0
+  Further = (s : Site) → s.blocks ≡ bs → further_lines_stand (least_for t s) t w ≡ true
+
+  -- a piece in an entry of a flow collection
+  pub flow_reads : Over → Further → (before : Previous) (e : Entry) (es : List Entry) (after : Position → List Entry) (key : Bool) (first : List Tok) → is_marker (act_of t) ≡ false → Shown before bs (e ∷ es) (step_of parts.by w t key) next → may_precede true bs t w next ≡ true
+      → ((here : Position) → entries_past here (is_renewed before parts.by) (act_of t) (begun_by t) key e es ≡ Some (after here))
+      → ((here colon own : Position) → toks (begun_inside (takes_pair e.kind e.pair) e.pair here colon own (act_of t) key e.had) ≡ first)
+      → ((here : Position) → From (previous_by t) bs (after here) next tokens) → From before bs (e ∷ es) text (first ++ t ∷ tokens)
+  flow_reads over further before e es after key first no_marker shown precede past begins rest p awaits l line deep =
+      let w' = step_of parts.by w t key in
+      let here = position_after p parts.by (w ++ next) in
+      let there = parts.deep p deep in
+      let a = at p bs awaits before l (e ∷ es) in
+      let low_for : nat_le (least_for t (site_of a w' next)) here.col ≡ true = grind (arith, low) in
+      let fits = further (site_of a w' next) refl in
+      let s : Steps a w' next (at (position_after here w next) bs (awaits_past true t bs awaits next) (previous_by t) l (after here)) first = record {
+        is_separated = parts.separates;
+        is_shown = shown p awaits l there;
+        stands = rw (indented before bs awaits parts, no_marker, low_for, fits, precede) refl;
+        leads = rw (same_line (begins_free_line before parts.by) l line, past here, line, and_false (has_break w)) refl;
+        begins = λ past colon. begins here _ _;
+        none = (parts.none, none);
+      } in
+      rw (parts.is) (step w' next s (rest here _ _ l line (over here there)))
+
+  -- a piece outside flow that begins no block collection
+  pub outside_reads : Further → (after : Line) → is_waiting after ≡ false → is_marker (act_of t) ≡ false → Shown another bs [] (step_of parts.by w t false) next → may_precede false bs t w next ≡ true
+      → ((must : Bool) (here : Position) (l : Line) → must ≡ false → is_waiting l ≡ false → line_past must here bs (act_of t) false l ≡ Some (record { line = after; blocks = bs }))
+      → ((deeper : Bool) (here colon : Position) (l : Option Line) → begun_outside deeper here colon (act_of t) false l ≡ [])
+      → ((here : Position) (awaits : Bool) → IsDeep bs here → Reads (at (position_after here w next) bs awaits (previous_by t) after (begun_by t)) next tokens)
+      → From another bs [] text (t ∷ tokens)
+  outside_reads further after quiet no_marker shown precede leads begins rest p awaits l line deep =
+      let w' = step_of parts.by w t false in
+      let here = position_after p parts.by (w ++ next) in
+      let there = parts.deep p deep in
+      let a = at p bs awaits another l [] in
+      let m = outside_line (has_break parts.by) l line in
+      let fits = further (site_of a w' next) (rw (no_marker, none_ends bs here.col there) refl) in
+      let waits = awaits_past false t bs (awaits_at false here.col bs awaits) next in
+      let s : Steps a w' next (at (position_after here w next) bs waits (previous_by t) after (begun_by t)) [] = record {
+        is_separated = parts.separates;
+        is_shown = shown p awaits l there;
+        stands = rw (fits, indented another bs awaits parts, no_marker, none_ends bs here.col there, precede) refl;
+        leads = rw (no_marker, none_ends bs here.col there, m.1, leads (is_in_column here.col bs) here m.0 (no_column bs here.col there) m.2, quiet, and_false (has_break w)) refl;
+        begins = λ past colon. rw (no_marker, none_ends bs here.col there, no_less (length bs), begins) refl;
+        none = (parts.none, none);
+      } in
+      rw (parts.is) (step w' next s (rest here waits there))
+
+  -- a node outside flow
+  pub node_reads : Over → Further → act_of t ≡ gives_node → Shown another bs [] (step_of parts.by w t false) next → may_precede false bs t w next ≡ true
+      → From (previous_by t) bs (begun_by t) next tokens → From another bs [] text (t ∷ tokens)
+  node_reads over further node shown precede rest =
+      outside_reads further taken refl (rw node refl) shown precede (λ must here l no line. rw node (node_line must here bs l no line)) (λ deeper here colon l. rw node refl) (λ here waits there. rest _ waits taken refl (over here there))
+
+-- ---- places of values
+
+-- outside flow, or in an entry of an array or an object
+pub data Place : Type 0 where
+  outside : Place
+  within : (is_object : Bool) → (around : List Entry) → Place
 
 abbrev pub entries_before : Place → List Entry
 entries_before outside = []
@@ -62,65 +189,18 @@ entries_before (within b es) = awaiting b ∷ es
 
 abbrev pub entries_after : Place → (begun : List Entry) → List Entry
 entries_after outside begun = begun
-entries_after (within b es) begun = begun ++ (filled_by b ∷ es)
+entries_after (within b es) begun = begun ++ filled_by b ∷ es
 
-abbrev pub line_after : Place → Line → Line
-line_after outside l = taken
-line_after (within b es) l = l
+abbrev pub flows : Place → Bool
+flows pl = is_in_flow (entries_before pl)
 
--- ---- the account after a node
-
-pub same_line : (broken : Bool) (l : Line) → is_waiting l ≡ false → line_past_separation true broken l ≡ Some l
-same_line a l h = grind arith
-
-pub outside_line : (broken : Bool) (l : Line) → is_waiting l ≡ false → (m : Line) × (line_past_separation false broken l ≡ Some m) × (is_waiting m ≡ false)
-outside_line true free h = (free, refl, refl)
-outside_line true taken h = (free, refl, refl)
-outside_line true (Line.waits begin) h = cc
-outside_line false l h = (l, refl, h)
-
-pub no_less : (n : ℕ) → n - n ≡ 0
-no_less n = omega arith
-
-module _ (bs f w next : List ℕ) (t : Tok) (node : act_of t ≡ gives_node) where
-  abbrev here : Position → Position
-  here p = position_after p f (w ++ next)
-
-  abbrev after_node : Place → Position → Bool → Line → Account
-  after_node pl p awaits l = at (position_after (here p) w next) bs awaits (previous_by t) (line_after pl l) (entries_after pl (begun_by t))
-
-  -- whether a value is awaited then
-  abbrev now : Place → Position → Bool → Bool
-  now pl p awaits = awaits_past (is_in_flow (entries_before pl)) t bs (awaits_at (is_in_flow (entries_before pl)) (here p).col bs awaits) next
-
-  leads : (pl : Place) (p : Position) (awaits : Bool) (l : Line) → is_waiting l ≡ false → IsDeep bs (here p) → past_step (at p bs awaits another l (entries_before pl)) (step_of f w t false) next ≡ Some (after_node pl p (now pl p awaits) l)
-  leads outside p awaits l line deep = grind arith
-  leads (within true es) p awaits l line deep = rw (same_line (has_break f) l line, node, line, and_false (has_break w)) refl
-  leads (within false es) p awaits l line deep = rw (same_line (has_break f) l line, node, line, and_false (has_break w)) refl
-
-  abbrev shown : (pl : Place) → Position → Bool → Line → Type 0
-  shown pl p awaits l = IsShown (at p bs awaits another l (entries_before pl)) (site_of (at p bs awaits another l (entries_before pl)) (step_of f w t false) next) (step_of f w t false) next
-
-  first : (pl : Place) (p : Position) (awaits : Bool) (l : Line) → IsDeep bs (here p) → (past : Position) (colon : Colon) → toks (first_tokens (at p bs awaits another l (entries_before pl)) (step_of f w t false) next past colon) ≡ []
-  first a p b l deep past d = grind arith
-
-  -- a piece that may stand here, before what may follow it
-  pub node_step : (pl : Place) (p : Position) (awaits : Bool) (l : Line) → is_waiting l ≡ false → IsDeep bs (here p) → Parts bs f → HasNone w
-      → IsShown (at p bs awaits another l (entries_before pl)) (site_of (at p bs awaits another l (entries_before pl)) (step_of f w t false) next) (step_of f w t false) next
-      → further_lines_stand (least_for t (site_of (at p bs awaits another l (entries_before pl)) (step_of f w t false) next)) t w ≡ true
-      → may_precede (is_in_flow (entries_before pl)) bs t w next ≡ true
-      → Steps (at p bs awaits another l (entries_before pl)) (step_of f w t false) next (after_node pl p (now pl p awaits) l) []
-  node_step pl p awaits l line deep parts none is_shown further precede = record {
-    is_separated = parts.separates (w ++ next);
-    is_shown = is_shown;
-    stands = stand pl further precede;
-    leads = leads pl p awaits l line deep;
-    begins = first pl p awaits l deep;
-    none = (parts.none, none);
-  }
-    where
-      stand : (pl : Place) → further_lines_stand (least_for t (site_of (at p bs awaits another l (entries_before pl)) (step_of f w t false) next)) t w ≡ true
-          → may_precede (is_in_flow (entries_before pl)) bs t w next ≡ true
-          → may_stand (is_in_flow (entries_before pl)) (at p bs awaits another l (entries_before pl)).site (site_of (at p bs awaits another l (entries_before pl)) (step_of f w t false) next) f w t next ≡ true
-      stand outside further precede = rw (indented another bs awaits f parts, further, node, none_ends bs (here p).col deep, precede) refl
-      stand (within b es) further precede = let low_for : nat_le (least_for t (site_of (at p bs awaits another l (awaiting b ∷ es)) (step_of f w t false) next)) (site_of (at p bs awaits another l (awaiting b ∷ es)) (step_of f w t false) next).position.col ≡ true = grind (arith, low) in rw (indented another bs awaits f parts, node, low_for, further, precede) refl
+-- a node at a place
+pub place_reads : (pl : Place) (bs w : List ℕ) (t : Tok) (text next : List ℕ) (tokens : List Tok) (parts : Parts bs text (w ++ next)) → HasNone w → ((p : Position) → IsDeep bs p → IsDeep bs (position_after p w next))
+    → ((s : Site) → s.blocks ≡ bs → further_lines_stand (least_for t s) t w ≡ true) → act_of t ≡ gives_node → Shown another bs (entries_before pl) (step_of parts.by w t false) next → may_precede (flows pl) bs t w next ≡ true
+    → From (previous_by t) bs (entries_after pl (begun_by t)) next tokens → From another bs (entries_before pl) text (t ∷ tokens)
+place_reads outside bs w t text next tokens parts none over further node shown precede rest = node_reads bs w t text next tokens parts none over further node shown precede rest
+place_reads (within b es) bs w t text next tokens parts none over further node shown precede rest =
+    flow_reads bs w t text next tokens parts none over further another (awaiting b) es (λ here. begun_by t ++ filled_by b ∷ es) false [] (rw node refl) shown precede (λ here. rw node (past here b)) (λ here colon own. rw node refl) (λ here. rest)
+  where
+    past : (here : Position) (b : Bool) → entries_past here false gives_node (begun_by t) false (awaiting b) es ≡ Some (begun_by t ++ filled_by b ∷ es)
+    past here b = grind arith

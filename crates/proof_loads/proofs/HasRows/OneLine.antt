@@ -1,5 +1,5 @@
 -- Bodies of flow scalars on one line: their values.
-use Rattle.proof_loads.proofs.TokensCommon.{arith, [], and_parts, ap, content, Element, elements, elements_fit, false, has_document_marker, has_no_break, is_break, List, not, not-true, Option, quoted_lines_fit, refl, Some, Spelled, true, value_by, without_last, ℕ, ◌++◌, ◌∷◌, ◌≡◌}
+use Rattle.proof_loads.proofs.TokensCommon.{[], and_parts, ap, arith, Bool, content, Element, elements, elements_fit, false, has_document_marker, has_no_break, is_blank, is_break, List, not, not-true, Option, plain_element, quoted_lines_fit, refl, Some, Spelled, true, value_by, without_last, ℕ, ◌++◌, ◌∷◌, ◌≡◌}
 use Rattle.defs_text.specs.FlowScalar.{blank, lines_of, last_line, text_of}
 
 -- elements without a break, and their text
@@ -13,6 +13,15 @@ pub record IsOneLine (at : ℕ → List ℕ → Option Spelled) (body text : Lis
   pub all : List Element
   pub are : elements at 0 body ≡ Some all
   pub in_line : InLine all text
+
+-- a character that stands for itself, before a body
+pub plain_step : (at : ℕ → List ℕ → Option Spelled) (c : ℕ) (body text : List ℕ) → at c body ≡ plain_element c body → is_break c ≡ false → IsOneLine at body text → IsOneLine at (c ∷ body) (c ∷ text)
+unfolding plain_element
+plain_step at c body text e no_break z = by (is_blank c) refl
+  where
+    by : (b : Bool) → is_blank c ≡ b → IsOneLine at (c ∷ body) (c ∷ text)
+    by true h = record { all = blank c ∷ z.all; are = rw (e, no_break, h, z.are) refl; in_line = with_blank c z.in_line }
+    by false h = record { all = content c ∷ z.all; are = rw (e, no_break, h, z.are) refl; in_line = with_content c z.in_line }
 
 lines_are : {es : List Element} {text : List ℕ} → InLine es text → lines_of es ≡ last_line es
 lines_are nothing = refl

@@ -1,9 +1,9 @@
 -- Plain scalars on one line, by the definition of pieces.
-use Rattle.proof_loads.proofs.TokensCommon.{[], after_blank, and_false, and_from, and_parts, are_marks, arith, begins_plain, Bool, codes, content, ends_plain, ends_with_content, ends_with_dash, false, goes_on, has_dash_before_flow, has_no_break, inside, is_blank, is_blank_or_end, is_break, is_document_marker, is_empty, is_flow, is_nul, is_one_of, is_whole_plain, List, list_all, may_begin, nat_tests, not, not-true, Option, plain_element, plain_lines_fit, plain_value, refl, Some, split, Stand, stops, true, ℕ, ◌&&◌, ◌++◌, ◌==◌, ◌||◌, ◌∷◌, ◌≡◌}
+use Rattle.proof_loads.proofs.TokensCommon.{[], after_blank, and_false, and_from, and_parts, are_marks, arith, begins_plain, Bool, codes, ends_plain, ends_with_content, ends_with_dash, false, goes_on, has_dash_before_flow, has_no_break, inside, is_blank, is_blank_or_end, is_break, is_document_marker, is_empty, is_flow, is_nul, is_one_of, is_whole_plain, List, list_all, may_begin, nat_tests, not, not-true, Option, plain_element, plain_lines_fit, plain_value, refl, Some, split, Stand, stops, true, ℕ, ◌&&◌, ◌++◌, ◌==◌, ◌||◌, ◌∷◌, ◌≡◌}
 use Rattle.defs_text.specs.FlowScalar.{blank}
-use Rattle.proof_loads.proofs.HasRows.OneLine.{IsOneLine, nothing, with_content, with_blank, value_is}
+use Rattle.proof_loads.proofs.HasRows.OneLine.{IsOneLine, nothing, plain_step, value_is}
 use Rattle.proof_loads.proofs.PlainTexts.{is_plain_char, are_plain, closes, IsPlainText, is_first, is_second, first_space}
-use Rattle.proof_loads.proofs.Nul.{HasNone}
+use Rattle.proof_loads.proofs.Nul.{HasNone, of_class}
 
 pub record PlainChar (c : ℕ) : Type 0 where
   pub break : is_break c ≡ false
@@ -28,21 +28,11 @@ no_break : (w : List ℕ) → are_plain w ≡ true → has_no_break w ≡ true
 no_break [] h = refl
 no_break (c ∷ w) h = let q = and_parts (is_plain_char c) (are_plain w) h in rw ((plain_char c q.0).break) (no_break w q.1)
 
-no_nul : (w : List ℕ) → are_plain w ≡ true → HasNone w
-unfolding is_nul
-no_nul [] h = refl
-no_nul (c ∷ w) h = let q = and_parts (is_plain_char c) (are_plain w) h in rw ((plain_char c q.0).nul) (no_nul w q.1)
-
 -- ---- the value
 
 elements_are : (w : List ℕ) → are_plain w ≡ true → IsOneLine plain_element w w
-unfolding plain_element
 elements_are [] h = record { all = []; are = refl; in_line = nothing }
-elements_are (c ∷ w) h = let q = and_parts (is_plain_char c) (are_plain w) h in by (c == 32) (plain_char c q.0) refl (elements_are w q.1)
-  where
-    by : (b : Bool) → PlainChar c → (c == 32) ≡ b → IsOneLine plain_element w w → IsOneLine plain_element (c ∷ w) (c ∷ w)
-    by true p e z = record { all = blank c ∷ z.all; are = rw (p.break, p.blank, e, z.are) refl; in_line = with_blank c z.in_line }
-    by false p e z = record { all = content c ∷ z.all; are = rw (p.break, p.blank, e, z.are) refl; in_line = with_content c z.in_line }
+elements_are (c ∷ w) h = let q = and_parts (is_plain_char c) (are_plain w) h in plain_step plain_element c w w refl (plain_char c q.0).break (elements_are w q.1)
 
 -- ---- its lines
 
@@ -158,5 +148,5 @@ plain_piece in_flow collection w next text flow stops = rw (text.whole) (by (rw 
           no_break = no_break (c ∷ v) all;
           some = refl;
           no_dash = dashless in_flow (c ∷ v) next all flow;
-          none = no_nul (c ∷ v) all;
+          none = of_class is_plain_char refl (c ∷ v) all;
         }

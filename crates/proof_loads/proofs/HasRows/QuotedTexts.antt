@@ -1,9 +1,9 @@
 -- A text of one quoted scalar, with line feeds alone after it, has a row.
-use Rattle.proof_loads.proofs.TokensCommon.{[], act_of, append_assoc, arith, begins_with, begun_by, blanks_before, body_value, Bool, double_quoted_element, Element, elements, false, first_account, first_position, free, further_lines_stand, gives_node, has_more, is_blank, is_break, is_empty, is_separation, IsShown, least_for, length, Lines, lines_fit, List, may_precede, nat_le, not, Option, parts, previous_by, quoted_lines_fit, quoted_may_end, Quotes, refl, replicate, single_quoted_element, Some, Spelled, style_of, suc, taken, Tok, true, zero, ℕ, ◌&&◌, ◌++◌, ◌||◌, ◌∷◌, ◌≡◌}
+use Rattle.proof_loads.proofs.TokensCommon.{Bool, Element, Lines, List, Option, Quotes, Site, Some, Spelled, Tok, [], act_of, another, append_assoc, arith, begins_with, begun_by, blanks_before, body_value, double_quoted_element, elements, false, first_account, first_position, free, further_lines_stand, gives_node, has_more, is_blank, is_break, is_empty, is_separation, least_for, length, lines_fit, may_precede, nat_le, not, parts, previous_by, quoted_lines_fit, quoted_may_end, refl, replicate, single_quoted_element, style_of, suc, true, zero, ℕ, ◌&&◌, ◌++◌, ◌||◌, ◌∷◌, ◌≡◌}
 use Rattle.defs_text.specs.FlowScalar as flow
 use Rattle.defs_layout.specs.QuotedText as laid
-use Rattle.proof_loads.proofs.HasRows.Steps.{Reads, at, step_of, site_of, step}
-use Rattle.proof_loads.proofs.HasRows.Nodes.{outside, node_step}
+use Rattle.proof_loads.proofs.HasRows.Steps.{Reads, step_of}
+use Rattle.proof_loads.proofs.HasRows.Nodes.{Shown, node_reads}
 use Rattle.proof_loads.proofs.HasRows.OneLine.{between}
 use Rattle.proof_loads.proofs.HasRows.Texts.{read_end}
 use Rattle.proof_loads.proofs.Nul.{HasNone, quoted_none}
@@ -41,12 +41,11 @@ module _ (quote : ℕ) (t : Tok) (body : List ℕ) (n : ℕ) where
   abbrev piece : List ℕ
   piece = quote ∷ (body ++ quote ∷ [])
 
-  scalar_reads : act_of t ≡ gives_node → begun_by t ≡ [] → HasNone piece → IsShown first_account (site_of first_account (step_of [] piece t false) (replicate n 10)) (step_of [] piece t false) (replicate n 10)
-      → further_lines_stand (least_for t (site_of first_account (step_of [] piece t false) (replicate n 10))) t piece ≡ true → may_precede false [] t piece (replicate n 10) ≡ true
-      → Reads first_account (piece ++ replicate n 10) (t ∷ Tok.stream_end ∷ [])
+  scalar_reads : act_of t ≡ gives_node → begun_by t ≡ [] → HasNone piece → Shown another [] [] (step_of [] piece t false) (replicate n 10) → ((s : Site) → s.blocks ≡ [] → further_lines_stand (least_for t s) t piece ≡ true)
+      → may_precede false [] t piece (replicate n 10) ≡ true → Reads first_account (piece ++ replicate n 10) (t ∷ Tok.stream_end ∷ [])
   scalar_reads node none clean shown further follows =
-      let first = node_step [] [] piece (replicate n 10) t node outside first_position false free refl (omega arith) (record { separates = λ r. refl; tabless = λ awaits. refl; none = refl }) clean shown further follows in
-      step (step_of [] piece t false) (replicate n 10) first (rw none (read_end _ [] _ (previous_by t) taken (replicate n 10) refl (feeds_end n) (feeds_none n)))
+      node_reads [] piece t (piece ++ replicate n 10) (replicate n 10) (Tok.stream_end ∷ []) (record { by = []; is = refl; separates = refl; tabless = λ awaits. refl; deep = λ p deep. deep; none = refl }) clean (λ p deep. omega arith) further node shown follows
+      (rw none (λ p awaits l line deep. read_end p [] awaits (previous_by t) l (replicate n 10) line (feeds_end n) (feeds_none n))) first_position false free refl (omega arith)
 
 no_quote : (n : ℕ) → begins_with 39 (replicate n 10) ≡ false
 no_quote zero = refl
@@ -57,8 +56,8 @@ pub quoted_reads : (quotes : Quotes) (body value : List ℕ) (n : ℕ) → body_
 quoted_reads laid.single body value n h =
     let z = parts true body value h in
     rw (← append_assoc (39 ∷ body) (39 ∷ []) (replicate n 10))
-    (scalar_reads 39 (Tok.scalar (style_of laid.single) value) body n refl refl (quoted_none laid.single body value h) (refl, ((body, refl, h, no_quote n), refl)) (fits single_quoted_element 39 body z.all z.are) (feeds_follow n (39 ∷ (body ++ 39 ∷ []))))
+    (scalar_reads 39 (Tok.scalar (style_of laid.single) value) body n refl refl (quoted_none laid.single body value h) (λ p awaits l there. (refl, ((body, refl, h, no_quote n), refl))) (λ s e. rw e (fits single_quoted_element 39 body z.all z.are)) (feeds_follow n (39 ∷ (body ++ 39 ∷ []))))
 quoted_reads laid.double body value n h =
     let z = parts false body value h in
     rw (← append_assoc (34 ∷ body) (34 ∷ []) (replicate n 10))
-    (scalar_reads 34 (Tok.scalar (style_of laid.double) value) body n refl refl (quoted_none laid.double body value h) (refl, ((body, refl, h), refl)) (fits double_quoted_element 34 body z.all z.are) (feeds_follow n (34 ∷ (body ++ 34 ∷ []))))
+    (scalar_reads 34 (Tok.scalar (style_of laid.double) value) body n refl refl (quoted_none laid.double body value h) (λ p awaits l there. (refl, ((body, refl, h), refl))) (λ s e. rw e (fits double_quoted_element 34 body z.all z.are)) (feeds_follow n (34 ∷ (body ++ 34 ∷ []))))

@@ -1,5 +1,5 @@
 -- Rows from an account on, given from their last step to their first.
-use Rattle.proof_loads.proofs.TokensCommon.{[], Account, account_past, ap, append_assoc, begins_free_line, Bool, Colon, Entry, false, is_in_flow, is_renewed, is_separation, IsRowFrom, IsShown, line_past_separation, List, map-append, may_stand, on_one_line, Option, past_piece, Position, Previous, Site, site_at, Some, spelled, Step, subst, sym, Tok, Token, tokens_before, tokens_from, toks, true, ℕ, ◌++◌, ◌∷◌, ◌≡◌}
+use Rattle.proof_loads.proofs.TokensCommon.{Account, Bool, Colon, Entry, IsRowFrom, IsShown, List, Option, Position, Previous, Site, Some, Step, Tok, Token, [], account_past, ap, append_assoc, begins_free_line, false, is_in_flow, is_renewed, is_separation, line_past_separation, map-append, may_stand, on_one_line, past_piece, site_at, spelled, subst, sym, tokens_before, tokens_from, toks, true, ℕ, ◌++◌, ◌∷◌, ◌≡◌}
 use Rattle.defs_token.specs.Key.{Line}
 use Rattle.proof_loads.proofs.Nul.{HasNone, both}
 

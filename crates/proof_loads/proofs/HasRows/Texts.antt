@@ -1,5 +1,5 @@
 -- A text that has a row has the row's tokens by the scanner's model.
-use Rattle.proof_loads.proofs.TokensCommon.{[], ap, Bool, ends_with_stream, false, first_account, has_no_nul, HasToks, is_separation, is_waiting, List, Position, position_after, Previous, put, refl, stream_position, subst, sym, Tok, tokens_of_row, toks, true, up_to_nul, ℕ, ◌++◌, ◌∙◌, ◌∷◌, ◌≡◌}
+use Rattle.proof_loads.proofs.TokensCommon.{Bool, HasToks, List, Position, Previous, Tok, [], ap, ends_with_stream, false, first_account, has_no_nul, is_separation, is_waiting, position_after, put, refl, stream_position, subst, sym, tokens_of_row, toks, true, up_to_nul, ℕ, ◌++◌, ◌∙◌, ◌∷◌, ◌≡◌}
 use Rattle.defs_token.specs.Step.{Row}
 use Rattle.defs_token.specs.Key.{Line}
 use Rattle.proof_row.proofs.Pieces.{clean_up_to_end}

@@ -1,13 +1,13 @@
 -- What stands after a value of a layout: gaps and comments as separations, and how the next piece is read.
-use Rattle.proof_loads.proofs.TokensCommon.{[], after_blank, and_parts, ap, append-nil, append_assoc, are_marks, arith, Bool, codes, Comment, comment, comment_line, empty_line, ends_line, false, GapLine, has_break, has_tab_within, innermost, inside, is_before_line_feed, is_blank, is_blank_or_end, is_blanks_and_comment, is_break, is_document_marker, is_line_character, is_nul, is_on_line, is_separation, is_value_indicator, is_waiting, IsComment, IsGap, IsLineText, last_line, leading, List, list_all, nat_le, nat_tests, next_line, no_comment, not, on_line, Option, Position, position_after, position_past, Previous, refl, Some, spaces, spell_comment, spell_ending, spell_gap, Split, split, split_by, Stand, stops, subst, suc, sym, Tok, true, zero, ℕ, ◌&&◌, ◌++◌, ◌+◌, ◌<◌, ◌==◌, ◌||◌, ◌∙◌, ◌∷◌, ◌≡◌, ◌≤◌}
+use Rattle.proof_loads.proofs.TokensCommon.{Bool, Comment, GapLine, IsComment, IsGap, IsLineText, List, Option, Position, Previous, Some, Stand, Tok, [], after_blank, and_parts, another, ap, append_assoc, are_marks, arith, codes, comment, comment_line, empty_line, ends_line, false, free, has_break, has_tab_within, innermost, inside, is_before_line_feed, is_blank, is_blank_or_end, is_blanks_and_comment, is_break, is_document_marker, is_line_character, is_nul, is_on_line, is_separation, is_value_indicator, is_waiting, last_line, leading, least_column, line_past_separation, list_all, nat_le, nat_tests, next_line, no_comment, not, on_line, position_after, position_past, refl, spaces, spell_comment, spell_ending, spell_gap, split, split_by, stops, suc, sym, true, zero, ℕ, ◌&&◌, ◌++◌, ◌+◌, ◌<◌, ◌==◌, ◌||◌, ◌∙◌, ◌∷◌, ◌≡◌, ◌≤◌}
 use Rattle.defs_token.specs.Key.{Line}
 use Rattle.defs_token.specs.Plain.{is_deeper}
 use Rattle.proof_loads.proofs.HasRows.Steps.{Reads, at}
 use Rattle.proof_loads.proofs.HasRows.Gaps.{Ends}
-use Rattle.proof_loads.proofs.HasRows.Nodes.{or_true, Quiet}
+use Rattle.proof_loads.proofs.HasRows.Nodes.{or_true, Parts, Quiet, Then}
 use Rattle.proof_loads.proofs.HasRows.Blocks.{Here}
 use Rattle.proof_loads.proofs.HasRows.Texts.{ended}
-use Rattle.proof_loads.proofs.Nul.{HasNone, both, text_none, spaces_none}
+use Rattle.proof_loads.proofs.Nul.{HasNone, both, text_none}
 pub use Rattle.proof_loads.proofs.BlockTexts.{spaces_are}
 
 -- a gap, and at a column of the next line the rest; a gap, and the `---` of a next document with the rest; or a gap up to the end
@@ -45,24 +45,21 @@ AllEnd t (n ∷ ns) = EndsAt t n × AllEnd t ns
 
 -- ---- what is read after a trail
 
-abbrev pub Arrives : Trail → Position → Previous → Line → (separation : List ℕ) → Type 0
-Arrives (next g d r) p before l f = Here d r p before l f
-Arrives (marker g r) p before l f = Here 0 (marker_text r) p before l f
-Arrives (end g) p before l f = (is_separation false f [] ≡ true) × (is_waiting l ≡ false) × HasNone f
-
-abbrev pub rest_of : Trail → List ℕ
-rest_of (next g d r) = r
-rest_of (marker g r) = marker_text r
-rest_of (end g) = []
+abbrev pub Arrives : Trail → Position → Previous → Line → (text : List ℕ) → Type 0
+Arrives (next g d r) p before l text = Here d text r p before l
+Arrives (marker g r) p before l text = Here 0 text (marker_text r) p before l
+Arrives (end g) p before l text = (is_separation false text [] ≡ true) × (is_waiting l ≡ false) × HasNone text
 
 -- from these collections, and others that end there, the text goes on
 abbrev pub After : Trail → List ℕ → List Tok → Type 0
-After t bs tokens = (extra : List ℕ) (p : Position) (awaits : Bool) (before : Previous) (l : Line) (f : List ℕ) → AllEnd t extra → Arrives t p before l f → Reads (at p (extra ++ bs) awaits before l []) (f ++ rest_of t) (ended extra tokens)
+After t bs tokens =
+    (extra : List ℕ) (p : Position) (awaits : Bool) (before : Previous) (l : Line) (text : List ℕ) → AllEnd t extra → Arrives t p before l text
+    → Reads (at p (extra ++ bs) awaits before l []) text (ended extra tokens)
 
 -- after a collection that ends there too
 pub one_more : (t : Trail) (n : ℕ) (bs : List ℕ) (tokens : List Tok) → EndsAt t n → After t bs tokens → After t (n ∷ bs) (Tok.block_end ∷ tokens)
-one_more t n bs tokens ends rest extra p awaits before l f all arrives =
-    subst (λ o. Reads (at p (extra ++ n ∷ bs) awaits before l []) (f ++ rest_of t) o) (same extra) (subst (λ x. Reads (at p x awaits before l []) (f ++ rest_of t) (ended (extra ++ n ∷ []) tokens)) (append_assoc extra (n ∷ []) bs) (rest (extra ++ n ∷ []) p awaits before l f (more extra all) arrives))
+one_more t n bs tokens ends rest extra p awaits before l text all arrives =
+    rw (← append_assoc extra (n ∷ []) bs, ← same extra) (rest (extra ++ n ∷ []) p awaits before l text (more extra all) arrives)
   where
     same : (extra : List ℕ) → ended (extra ++ n ∷ []) tokens ≡ ended extra (Tok.block_end ∷ tokens)
     same [] = refl
@@ -83,68 +80,54 @@ over_comment : (text a r : List ℕ) → IsLineText text → is_separation true 
 over_comment [] a r h = refl
 over_comment (c ∷ text) a r h = let q = and_parts (is_line_character c) (list_all is_line_character text) h in rw (is_separation, in_line c q.0) (over_comment text a r q.1)
 
-pub spaces_separate : (n : ℕ) (a r : List ℕ) → is_separation false (spaces n a) r ≡ is_separation false a r
+-- a text separates what stands before it from a rest, and has no NUL
+abbrev pub Parting : (text rest : List ℕ) → Type 0
+Parting a r = (is_separation false a r ≡ true) × HasNone a
+
+spaces_part : (n : ℕ) (a r : List ℕ) → Parting a r → Parting (spaces n a) r
 unfolding is_blank
-spaces_separate zero a r = refl
-spaces_separate (suc n) a r = spaces_separate n a r
+spaces_part zero a r e = e
+spaces_part (suc n) a r e = spaces_part n a r e
 
-pub gap_separates : (g : List GapLine) (a r : List ℕ) → IsGap g → is_separation false a r ≡ true → is_separation false (spell_gap g a) r ≡ true
+hash_parts : (text a r : List ℕ) → IsLineText text → is_separation true a r ≡ true → HasNone a → Parting (35 ∷ (text ++ a)) r
+unfolding is_blank is_break
+hash_parts text a r h e none = (over_comment text a r h ∙ e, both text a (text_none text h) none)
+
+gap_parts : (g : List GapLine) (a r : List ℕ) → IsGap g → Parting a r → Parting (spell_gap g a) r
 unfolding is_break is_blank
-gap_separates [] a r h e = e
-gap_separates (l ∷ g) a r h e = grind (arith, over_comment, gap_separates g a r)
+gap_parts [] a r h e = e
+gap_parts (empty_line ∷ g) a r h e = gap_parts g a r h.1 e
+gap_parts (comment_line text ∷ g) a r h e = let z = gap_parts g a r h.1 e in hash_parts text (10 ∷ spell_gap g a) r h.0 z.0 z.1
 
-comment_separates : (k : Comment) (a r : List ℕ) → IsComment k → is_separation false (10 ∷ a) r ≡ true → is_separation false (spell_comment k (10 ∷ a)) r ≡ true
+comment_parts : (k : Comment) (a r : List ℕ) → IsComment k → Parting a r → is_separation true a r ≡ true → Parting (spell_comment k a) r
+unfolding is_blank
+comment_parts no_comment a r h e commented = e
+comment_parts (comment more text) a r h e commented = spaces_part (suc more) (35 ∷ (text ++ a)) r (hash_parts text a r h commented e.1)
+
+-- up to the end of the text, also after a comment
+pub ending_parts : (g : List GapLine) → IsGap g → Parting (spell_ending g []) [] × (is_separation true (spell_ending g []) [] ≡ true)
 unfolding is_break is_blank
-comment_separates b a r h e = grind (arith, spaces_separate, over_comment)
-
--- up to the end of the text
-pub ending_separates : (g : List GapLine) → IsGap g → is_separation false (spell_ending g []) [] ≡ true
-unfolding is_break is_blank
-ending_separates [] h = refl
-ending_separates (empty_line ∷ g) h = ending_separates g h.1
-ending_separates (comment_line text ∷ g) h = over_comment text (spell_ending g []) [] h.0 ∙ commented g (ending_separates g h.1)
-  where
-    commented : (g : List GapLine) → is_separation false (spell_ending g []) [] ≡ true → is_separation true (spell_ending g []) [] ≡ true
-    commented [] e = refl
-    commented (l ∷ g) e = e
-
-end_separates : (k : Comment) (g : List GapLine) → IsComment k → IsGap g → is_separation false (spell_comment k (spell_ending g [])) [] ≡ true
-unfolding is_break is_blank
-end_separates no_comment g h gap = ending_separates g gap
-end_separates (comment more text) [] h gap = spaces_separate more (35 ∷ (text ++ [])) [] ∙ over_comment text [] [] h
-end_separates (comment more text) (l ∷ g) h gap = spaces_separate more (35 ∷ (text ++ spell_ending (l ∷ g) [])) [] ∙ over_comment text (spell_ending (l ∷ g) []) [] h ∙ ending_separates (l ∷ g) gap
-
--- they have no NUL
-pub gap_none : (g : List GapLine) (a : List ℕ) → IsGap g → HasNone a → HasNone (spell_gap g a)
-gap_none [] a h n = n
-gap_none (l ∷ g) a h n = grind (arith, both, text_none, gap_none g a)
-
-comment_none : (k : Comment) (a : List ℕ) → IsComment k → HasNone a → HasNone (spell_comment k a)
-comment_none k a h n = grind (arith, spaces_none, both, text_none)
-
-pub ending_none : (g : List GapLine) → IsGap g → HasNone (spell_ending g [])
-ending_none [] h = refl
-ending_none (l ∷ g) h = grind (arith, both, text_none, ending_none g)
+ending_parts [] h = ((refl, refl), refl)
+ending_parts (empty_line ∷ g) h = let z = ending_parts g h.1 in (z.0, z.0.0)
+ending_parts (comment_line text ∷ g) h = let z = ending_parts g h.1 in let y = hash_parts text (spell_ending g []) [] h.0 z.1 z.0.1 in (y, y.0)
 
 -- ---- the last line
 
 -- after a break the lines before do not matter
-record Broken (s : Split) (last : List ℕ) : Type 0 where
-  first : List ℕ
-  others : List (List ℕ)
-  is : s ≡ record { complete = first ∷ others; last = last }
-
-broken_at : (x y : List ℕ) → Broken (split (x ++ 10 ∷ y)) (split y).last
+broken_at : (x y : List ℕ) → (first : List ℕ) × (others : List (List ℕ)) × (split (x ++ 10 ∷ y) ≡ record { complete = first ∷ others; last = (split y).last })
 unfolding is_break
-broken_at [] [] = record { first = []; others = []; is = refl }
-broken_at [] (d ∷ y) = record { first = []; others = (split (d ∷ y)).complete; is = refl }
+broken_at [] [] = ([], [], refl)
+broken_at [] (d ∷ y) = ([], (split (d ∷ y)).complete, refl)
 broken_at (c ∷ x) y = by (is_break c) (is_before_line_feed c (x ++ 10 ∷ y)) (broken_at x y)
   where
-    by : (b d : Bool) → Broken (split (x ++ 10 ∷ y)) (split y).last → Broken (split_by b d c (split (x ++ 10 ∷ y))) (split y).last
-    by a d z = grind arith
+    by : (b d : Bool) → (first : List ℕ) × (others : List (List ℕ)) × (split (x ++ 10 ∷ y) ≡ record { complete = first ∷ others; last = (split y).last })
+        → (first : List ℕ) × (others : List (List ℕ)) × (split_by b d c (split (x ++ 10 ∷ y)) ≡ record { complete = first ∷ others; last = (split y).last })
+    by true true z = z
+    by true false z = ([], z.0 ∷ z.1, rw (z.2) refl)
+    by false d z = (c ∷ z.0, z.1, rw (z.2) refl)
 
 last_past : (x y : List ℕ) → last_line (x ++ 10 ∷ y) ≡ last_line y
-last_past x y = rw (last_line, (broken_at x y).is) refl
+last_past x y = rw (last_line, (broken_at x y).2) refl
 
 -- ---- positions
 
@@ -199,40 +182,87 @@ has_break_at (c ∷ x) y = grind (arith, has_break, has_break_at x y)
 
 -- ---- after a value and a comment
 
--- the separation up to a column of a further line
-abbrev pub line_gap : Comment → List GapLine → ℕ → List ℕ
-line_gap k g n = spell_comment k (10 ∷ spell_gap g (spaces n []))
+-- where a key may begin, it may after any separation
+free_past : (broken : Bool) → line_past_separation false broken free ≡ Some free
+free_past b = grind arith
 
-pub here_after : (k : Comment) (g : List GapLine) (n : ℕ) (r : List ℕ) (p : Position) (before : Previous) (l : Line) → IsComment k → IsGap g → Quiet before → is_waiting l ≡ false → Here n r p before l (line_gap k g n)
+gap_text : (g : List GapLine) (n : ℕ) (r : List ℕ) → spell_gap g (spaces n []) ++ r ≡ spell_gap g (spaces n r)
+gap_text g n r = gap_is g (spaces n []) r ∙ ap (spell_gap g) (spaces_are n [] r)
+
+gap_parting : (g : List GapLine) (n : ℕ) (r : List ℕ) → IsGap g → Parting (spell_gap g (spaces n [])) r
+gap_parting g n r gap = gap_parts g (spaces n []) r gap (spaces_part n [] r (refl, refl))
+
+-- a gap where a line begins
+pub here_gap : (g : List GapLine) (n : ℕ) (r : List ℕ) (p : Position) (before : Previous) → IsGap g → p.col ≡ 0 → Here n (spell_gap g (spaces n r)) r p before free
+here_gap g n r p before gap start = record {
+  by = spell_gap g (spaces n []);
+  is = sym (gap_text g n r);
+  separates = (gap_parting g n r gap).0;
+  tabless = λ m. rw (gap_last g n) (no_tab m n);
+  line = free_past _;
+  column = gap_column g n r p start;
+  none = (gap_parting g n r gap).1;
+}
+
+pub here_after : (k : Comment) (g : List GapLine) (n : ℕ) (r : List ℕ) (p : Position) (before : Previous) (l : Line) → IsComment k → IsGap g → Quiet before → is_waiting l ≡ false → Here n (spell_comment k (next_line n g r)) r p before l
 unfolding is_blank is_break
 here_after k g n r p before l remark gap quiet line =
     let x = spell_gap g (spaces n []) in
     let text : spell_comment k (10 ∷ x) ≡ spell_comment k [] ++ 10 ∷ x = sym (comment_is k [] (10 ∷ x)) in
     let z = over_break (spell_comment k []) x r p in
+    let parts = comment_parts k (10 ∷ x) r remark (gap_parting g n r gap) (gap_parting g n r gap).0 in
     record {
-      separates = comment_separates k x r remark (gap_separates g (spaces n []) r gap (spaces_separate n [] r));
+      by = spell_comment k (10 ∷ x);
+      is = sym (comment_is k (10 ∷ x) r ∙ ap (λ y. spell_comment k (10 ∷ y)) (gap_text g n r));
+      separates = parts.0;
       tabless = λ m. rw (text, last_past (spell_comment k []) x, gap_last g n) (no_tab m n);
       line = rw (quiet (spell_comment k (10 ∷ x)), text, has_break_at (spell_comment k []) x) (grind arith);
       column = rw (text, z.1) (gap_column g n r z.0 z.2);
-      none = comment_none k (10 ∷ x) remark (gap_none g (spaces n []) gap (spaces_none n [] refl));
+      none = parts.1;
     }
 
-pub gap_text : (k : Comment) (g : List GapLine) (n : ℕ) (r : List ℕ) → line_gap k g n ++ r ≡ spell_comment k (next_line n g r)
-gap_text k g n r = comment_is k (10 ∷ spell_gap g (spaces n [])) r ∙ ap (λ x. spell_comment k (10 ∷ x)) (gap_is g (spaces n []) r ∙ ap (spell_gap g) (spaces_are n [] r))
-
 -- after a value that is no block scalar
-pub arrive : (k : Comment) (t : Trail) (bs : List ℕ) (tokens : List Tok) (p : Position) (awaits : Bool) (before : Previous) (l : Line) → IsComment k → IsTrail t → Quiet before → is_waiting l ≡ false → After t bs tokens → Reads (at p bs awaits before l []) (spell_comment k (trail_text t)) tokens
-arrive k (next g d r) bs tokens p awaits before l remark trail quiet line rest = rw (← gap_text k g d r) (rest [] p awaits before l (line_gap k g d) tt (here_after k g d r p before l remark trail.0 quiet line))
-arrive k (marker g r) bs tokens p awaits before l remark trail quiet line rest = rw (← gap_text k g 0 (marker_text r)) (rest [] p awaits before l (line_gap k g 0) tt (here_after k g 0 (marker_text r) p before l remark trail quiet line))
-arrive k (end g) bs tokens p awaits before l remark trail quiet line rest = rw (← append-nil (spell_comment k (spell_ending g []))) (rest [] p awaits before l (spell_comment k (spell_ending g [])) tt (end_separates k g remark trail, line, comment_none k (spell_ending g []) remark (ending_none g trail)))
+pub arrive : (k : Comment) (t : Trail) (bs : List ℕ) (tokens : List Tok) → IsComment k → IsTrail t → After t bs tokens → Then bs [] (spell_comment k (trail_text t)) tokens
+arrive k (next g d r) bs tokens remark trail rest before quiet p awaits l line deep = rest [] p awaits before l _ tt (here_after k g d r p before l remark trail.0 quiet line)
+arrive k (marker g r) bs tokens remark trail rest before quiet p awaits l line deep = rest [] p awaits before l _ tt (here_after k g 0 (marker_text r) p before l remark trail quiet line)
+arrive k (end g) bs tokens remark trail rest before quiet p awaits l line deep = let e = ending_parts g trail in let parts = comment_parts k (spell_ending g []) [] remark e.0 e.1 in rest [] p awaits before l _ tt (parts.0, line, parts.1)
 
--- ---- what a scalar ends before
+-- ---- spaces before a value on the line
+
+pub spaced : (bs : List ℕ) (more : ℕ) (r : List ℕ) → Parts bs (32 ∷ spaces more r) r
+spaced bs more r = record {
+  by = 32 ∷ spaces more [];
+  is = ap (λ y. 32 ∷ y) (sym (spaces_are more [] r));
+  separates = (spaces_part (suc more) [] r (refl, refl)).0;
+  tabless = λ awaits. rw (last_line, spaces_line (suc more)) (no_tab (least_column bs awaits) (suc more));
+  deep = λ p deep. let z = spaces_column (suc more) r p in omega (arith, deep, z);
+  none = (spaces_part more [] r (refl, refl)).1;
+}
+
+pub here_beside : (n more : ℕ) (r : List ℕ) (p : Position) → p.col + suc more ≡ n → Here n (32 ∷ spaces more r) r p another free
+here_beside n more r p h = record {
+  by = 32 ∷ spaces more [];
+  is = ap (λ y. 32 ∷ y) (sym (spaces_are more [] r));
+  separates = (spaces_part (suc more) [] r (refl, refl)).0;
+  tabless = λ m. rw (last_line, spaces_line (suc more)) (no_tab m (suc more));
+  line = free_past _;
+  column = let z = spaces_column (suc more) r p in omega (arith, z, h);
+  none = (spaces_part more [] r (refl, refl)).1;
+}
+
+-- ---- what a value ends before
 
 -- a piece on the next line stands no deeper than the innermost collection
 abbrev pub IsLow : Trail → List ℕ → Type 0
 IsLow (next g d r) [] = ⊥
 IsLow (next g d r) (n ∷ bs) = d ≤ n
 IsLow _ bs = Unit {0}
+
+-- A trail may stand after a value of these collections, and then these tokens are read.
+pub record Rest (t : Trail) (bs : List ℕ) (tokens : List Tok) : Type 0 where
+  pub trail : IsTrail t
+  pub low : IsLow t bs
+  pub after : After t bs tokens
 
 module _ (collection : Option ℕ) where
   stops_spaces : (n k : ℕ) (r : List ℕ) → stops false collection (on_line (k + n)) r ≡ true → stops false collection (on_line k) (spaces n r) ≡ true

@@ -1,14 +1,14 @@
 -- The words of JSON and its numbers are words.
-use Rattle.proof_loads.proofs.TokensCommon.{[], and_from, and_parts, ap, append-nil, append_assoc, are_digits, arith, Bool, Exponent, Fraction, is_ascii_digit, is_exponent, is_fraction, is_number, is_whole, List, list_all, nat_tests, Number, number, refl, spell_exponent, spell_fraction, spell_minus, spell_number, sym, true, ℕ, ◌&&◌, ◌++◌, ◌∙◌, ◌∷◌, ◌≡◌}
+use Rattle.proof_loads.proofs.TokensCommon.{Bool, Exponent, Fraction, List, Number, [], and_from, and_parts, ap, append-nil, append_assoc, are_digits, arith, is_ascii_digit, is_exponent, is_fraction, is_number, is_whole, list_all, nat_tests, number, refl, spell_exponent, spell_fraction, spell_minus, spell_number, sym, true, ℕ, ◌&&◌, ◌++◌, ◌∙◌, ◌≡◌}
+use Rattle.std.proofs.lemmas.List.Folds.{list_all-append}
+use Rattle.defs_tree.proofs.GrammarLaws.{list_all-more}
 use Rattle.proof_loads.proofs.PlainTexts.{is_word, are_words, IsWord}
 
 digits_words : (w : List ℕ) → list_all is_ascii_digit w ≡ true → are_words w ≡ true
-digits_words [] h = refl
-digits_words (c ∷ w) h = let q = and_parts (is_ascii_digit c) (list_all is_ascii_digit w) h in and_from _ _ (grind (arith, nat_tests)) (digits_words w q.1)
+digits_words w h = list_all-more is_ascii_digit is_word (λ c e. grind (arith, nat_tests)) w h
 
 append_words : (w v : List ℕ) → are_words w ≡ true → are_words v ≡ true → are_words (w ++ v) ≡ true
-append_words [] v h e = e
-append_words (c ∷ w) v h e = let q = and_parts (is_word c) (are_words w) h in and_from _ _ q.0 (append_words w v q.1 e)
+append_words w v h e = rw (list_all-append, h) e
 
 are_digits_words : (w : List ℕ) → are_digits w ≡ true → are_words w ≡ true
 are_digits_words a h = grind (arith, digits_words)

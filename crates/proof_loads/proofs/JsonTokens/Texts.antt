@@ -1,18 +1,18 @@
 -- JSON texts have their tokens.
-use Rattle.proof_loads.proofs.TokensCommon.{[], append-nil, arith, false, first_account, first_position, free, IsWellFormed, json_text_tokens, json_tokens, JsonText, JsonTextsAreNotRefused, JsonTextsHaveNoOtherTokens, JsonTextsHaveTheirTokens, None, refl, spell_text, taken, Tok, up_to_nul, ◌∷◌, ◌≡◌}
+use Rattle.proof_loads.proofs.TokensCommon.{IsWellFormed, JsonText, JsonTextsAreNotRefused, JsonTextsHaveNoOtherTokens, JsonTextsHaveTheirTokens, None, Tok, [], append-nil, arith, false, first_account, first_position, free, json_text_tokens, json_tokens, refl, spell_text, up_to_nul, ◌∷◌, ◌≡◌}
 use Rattle.defs_layout.specs.JsonGap.{spell_gap}
 use Rattle.proof_loads.proofs.Nul.{whole}
 use Rattle.proof_loads.proofs.TextTokens.{no_other_tokens, none_is_refused}
 use Rattle.proof_loads.proofs.HasRows.Steps.{Reads}
 use Rattle.proof_loads.proofs.HasRows.Nodes.{outside}
-use Rattle.proof_loads.proofs.HasRows.Gaps.{white, white_none, spelt, separates, ends, at_end}
+use Rattle.proof_loads.proofs.HasRows.Gaps.{white, blanks, white_none, spelt, separates, ends, at_end}
 use Rattle.proof_loads.proofs.HasRows.Json.{value_reads}
 use Rattle.proof_loads.proofs.HasRows.Texts.{has_tokens, read_end}
 
 json_text_reads : (w : JsonText) → IsWellFormed w → Reads first_account (spell_text w) (json_tokens w.value (Tok.stream_end ∷ []))
 json_text_reads w is =
-    value_reads [] w.value is.value (λ e. cc) outside first_position false free w.before (spell_gap w.after []) (Tok.stream_end ∷ []) refl (omega arith) (λ e. cc) (ends false [] at_end None (λ s. refl) w.after) (omega (arith, is.depth))
-    (λ p awaits before quiet deep. rw (spelt w.after [], append-nil) (read_end p [] awaits before taken (white w.after) refl (separates w.after []) (white_none w.after)))
+    value_reads [] w.value is.value (λ e. cc) outside _ (spell_gap w.after []) (Tok.stream_end ∷ []) (blanks [] w.before _ (λ e. cc)) (ends false [] at_end None (λ s. refl) w.after) (omega (arith, is.depth))
+    (λ before quiet p awaits l line deep. rw (spelt w.after [], append-nil) (read_end p [] awaits before l (white w.after) line (separates w.after []) (white_none w.after))) first_position false free refl (omega arith)
 
 pub json_texts_have_no_nul : (w : JsonText) → IsWellFormed w → up_to_nul (spell_text w) ≡ spell_text w
 json_texts_have_no_nul w is = whole (spell_text w) (json_text_reads w is).none
