@@ -1,6 +1,6 @@
 -- Tokens that are settled stay, and where a text is refused they are all its first tokens.
 use Rattle.std.specs.List.{list_any}
-use Rattle.proof_loads.proofs.Common.{[], ap, append-nil, AreBehind, AreSettled, arith, BeginsWith, Bool, eqb-true, Err, false, Fault, fetch, here, inl, inr, IsReached, Key, length, length-append, List, None, one_run, Option, Reaches, refl, ScannerState, SettledTokensStay, Some, subst, sym, there, Token, true, ℕ, ◌++◌, ◌+◌, ◌==◌, ◌||◌, ◌∙◌, ◌∷◌, ◌≡◌, ◌⊎◌}
+use Rattle.proof_loads.proofs.Common.{[], ap, append-nil, AreBehind, AreSettled, arith, BeginsWith, Err, false, Fault, fetch, here, inl, inr, IsReached, Key, length, length-append, List, None, one_run, Option, Reaches, refl, ScannerState, SettledTokensStay, Some, subst, sym, there, Token, ℕ, ◌++◌, ◌+◌, ◌∙◌, ◌∷◌, ◌≡◌, ◌⊎◌}
 use Rattle.model_scanner.proofs.Given.{KeysFrom, reached}
 use Rattle.yaml_scanner.specs.Waits.{comes_before}
 
@@ -29,14 +29,13 @@ pub one_begins : (xs ys zs : List Token) → BeginsWith xs zs → BeginsWith ys 
 one_begins [] ys zs b c = inl (record { more = ys; whole = refl })
 one_begins (x ∷ xs) [] zs b c = inr (record { more = x ∷ xs; whole = refl })
 one_begins (x ∷ xs) (y ∷ ys) zs b c =
-    let h = heads (sym b.whole ∙ c.whole) in
-    elim (one_begins xs ys (xs ++ b.more) (record { more = b.more; whole = refl }) (record { more = c.more; whole = h.1 })) [
-      | inl d ↦ inl (record { more = d.more; whole = ap (λ ts. y ∷ ts) d.whole ∙ ap (λ t. t ∷ xs ++ d.more) (sym h.0) })
-      | inr d ↦ inr (record { more = d.more; whole = ap (λ ts. x ∷ ts) d.whole ∙ ap (λ t. t ∷ ys ++ d.more) h.0 })
+    let e : x ∷ (xs ++ b.more) ≡ y ∷ (ys ++ c.more) = sym b.whole ∙ c.whole in
+    let first : x ≡ y = cc in
+    let rest : xs ++ b.more ≡ ys ++ c.more = cc in
+    elim (one_begins xs ys (xs ++ b.more) (record { more = b.more; whole = refl }) (record { more = c.more; whole = rest })) [
+      | inl d ↦ inl (record { more = d.more; whole = cc (d.whole) })
+      | inr d ↦ inr (record { more = d.more; whole = cc (d.whole) })
     ]
-  where
-    heads : {t u : Token} {ts us : List Token} → t ∷ ts ≡ u ∷ us → (t ≡ u) × (ts ≡ us)
-    heads e = (cc, cc)
 
 -- Settled tokens of one text, at any two points: one list begins the other.
 pub settled_agree : (text : List ℕ) (xs ys : List Token) → IsReached text xs → IsReached text ys → BeginsWith xs ys ⊎ BeginsWith ys xs

@@ -1,141 +1,108 @@
 -- After the first events of a stream, no open node's anchor is finished: anchors are numbered as they come.
-use Rattle.proof_loads.proofs.Common.{[], AliasesInsideTheirNodeAreBadValues, ap, are_allowed, arith, array, at_work, bad_value, Bool, both, Ev, events_of, false, hash, if◌then◌else◌, inl, inr, IsOpen, items_of, List, Loader, loader_after, named, Names, names_after, ne_eqb, new_loader, no_names, None, noted, number, Opened, opened_mapping, opened_sequence, Option, option_map, out_of_nesting, pairs_of, perhaps_resolved, Position, Raw, reads, refl, refused, repeats, resolved_event, Some, Step, Style, subst, suc, sym, Tree, true, under_name, Unfinished, with_anchor, with_document_end, with_event, with_event_at, with_events, with_mapping_end, with_root, with_sequence_end, with_start, with_tree, zero, ℕ, ◌++◌, ◌+◌, ◌<◌, ◌∙◌, ◌∷◌, ◌≡◌, ◌≤◌}
+use Rattle.proof_loads.proofs.Common.{[], AliasesInsideTheirNodeAreBadValues, ap, are_allowed, arith, array, at_work, bad_value, Bool, both, Ev, events_of, false, hash, if◌then◌else◌, inl, inr, IsOpen, items_of, List, Loader, loader_after, map, named, Names, names_after, ne_eqb, new_loader, no_names, None, noted, number, Opened, opened_mapping, opened_sequence, Option, option_map, out_of_nesting, pairs_of, perhaps_resolved, Position, Raw, reads, refl, refused, repeats, resolved_event, Some, Step, Style, subst, suc, Tree, true, under_name, Unfinished, with_anchor, with_document_end, with_event, with_event_at, with_events, with_mapping_end, with_root, with_sequence_end, with_start, with_tree, zero, ℕ, ◌++◌, ◌<◌, ◌∙◌, ◌∷◌, ◌≡◌, ◌≤◌, ◌⊎◌}
 use Rattle.defs_tree.specs.Pairs.{has_key, insert}
 use Rattle.defs_event.specs.Scalar.{scalar_tree}
 use Rattle.defs_event.specs.Anchors.{Anchors, aliased, finished}
 use Rattle.defs_event.specs.Unfinished.{with_node}
 
--- ---- finished anchors, numbered from 1 to m
-
-abbrev Low : ℕ → Anchors → Type 0
-Low m [] = Unit {0}
-Low m (a ∷ anchors) = (0 < a.0) × (a.0 ≤ m) × Low m anchors
-
-low_more : (m n : ℕ) (anchors : Anchors) → m ≤ n → Low m anchors → Low n anchors
-low_more m n [] le l = tt
-low_more m n (a ∷ anchors) le l = (l.0, omega (arith, l.1, le), low_more m n anchors le l.2)
-
-low_finished : (m a : ℕ) (t : Tree) (anchors : Anchors) → a ≤ m → Low m anchors → Low m (finished a t anchors)
-low_finished m zero t anchors le l = l
-low_finished m (suc a) t anchors le l = (omega arith, le, l)
-
-not_at : (n : ℕ) (a : ℕ × Tree) (anchors : Anchors) → (n ≡ a.0 → ⊥) → aliased n (a ∷ anchors) ≡ aliased n anchors
-not_at n a anchors ne = ap (λ b. if b then a.1 else aliased n anchors) (ne_eqb n a.0 ne)
-
-above_all : (m n : ℕ) (anchors : Anchors) → m < n → Low m anchors → aliased n anchors ≡ bad_value
-above_all m n [] lt l = refl
-above_all m n (a ∷ anchors) lt l = not_at n a anchors (λ e. omega (arith, e, lt, l.1)) ∙ above_all m n anchors lt l.2
-
-no_zero : (m : ℕ) (anchors : Anchors) → Low m anchors → aliased 0 anchors ≡ bad_value
-no_zero m [] l = refl
-no_zero m (a ∷ anchors) l = not_at 0 a anchors (λ e. omega (arith, e, l.0)) ∙ no_zero m anchors l.2
-
--- ---- open collections, whose anchors are not finished, and each greater than those around it
+-- ---- numbers of anchors
 
 abbrev anchor_of : Opened → ℕ
 anchor_of (opened_sequence a ts) = a
 anchor_of (opened_mapping a ps waiting) = a
 
-abbrev under : ℕ → ℕ → ℕ
-under zero m = m
-under (suc a) m = a
+-- those of open collections, the innermost first; 0 is none
+abbrev numbers : List Opened → List ℕ
+numbers opened = map anchor_of opened
 
-abbrev Held : ℕ → Anchors → List Opened → Type 0
-Held m anchors [] = Unit {0}
-Held m anchors (c ∷ outer) = (anchor_of c ≤ m) × (aliased (anchor_of c) anchors ≡ bad_value) × Held (under (anchor_of c) m) anchors outer
+abbrev IsIn : ℕ → List ℕ → Type 0
+IsIn n [] = ⊥
+IsIn n (k ∷ ns) = (k ≡ n) ⊎ IsIn n ns
 
-under_more : (a m n : ℕ) → m ≤ n → under a m ≤ under a n
-under_more zero m n le = le
-under_more (suc a) m n le = omega arith
+-- each is greater than those around it
+abbrev AreSorted : List ℕ → Type 0
+AreSorted [] = Unit {0}
+AreSorted (k ∷ ns) = ((n : ℕ) → IsIn n ns → 0 < k → n < k) × AreSorted ns
 
-held_more : (m n : ℕ) (anchors : Anchors) (opened : List Opened) → m ≤ n → Held m anchors opened → Held n anchors opened
-held_more m n anchors [] le h = tt
-held_more m n anchors (c ∷ outer) le h = (omega (arith, h.0, le), h.1, held_more (under (anchor_of c) m) (under (anchor_of c) n) anchors outer (under_more (anchor_of c) m n le) h.2)
+-- After m anchors: the finished ones are numbered from 1 to m, those of the open collections are not finished, and numbered as they came.
+record Fits (m : ℕ) (anchors : Anchors) (ns : List ℕ) : Type 0 where
+  fresh : (n : ℕ) → (0 < n → m < n) → aliased n anchors ≡ bad_value
+  held : (n : ℕ) → IsIn n ns → (n ≤ m) × (aliased n anchors ≡ bad_value)
+  sorted : AreSorted ns
 
-under_less : (a m : ℕ) → a ≤ m → under a m ≤ m
-under_less zero m le = omega arith
-under_less (suc a) m le = omega (arith, le)
+later : (m n : ℕ) (anchors : Anchors) (ns : List ℕ) → m ≤ n → Fits m anchors ns → Fits n anchors ns
+later m n anchors ns le f = record { fresh = λ k e. f.fresh k (λ pos. omega (arith, e pos, le)); held = λ k o. (omega (arith, (f.held k o).0, le), (f.held k o).1); sorted = f.sorted }
 
-held_finished : (m a : ℕ) (t : Tree) (anchors : Anchors) (opened : List Opened) → m ≤ a → Held m anchors opened → Held m (finished (suc a) t anchors) opened
-held_finished m a t anchors [] le h = tt
-held_finished m a t anchors (c ∷ outer) le h =
-    let less = under_less (anchor_of c) m h.0 in (
-      h.0,
-      not_at (anchor_of c) (suc a, t) anchors (λ e. omega (arith, e, h.0, le)) ∙ h.1,
-      held_finished (under (anchor_of c) m) a t anchors outer (omega (arith, less, le)) h.2,
-    )
+not_at : (n : ℕ) (a : ℕ × Tree) (anchors : Anchors) → (n ≡ a.0 → ⊥) → aliased n (a ∷ anchors) ≡ aliased n anchors
+not_at n a anchors ne = ap (λ b. if b then a.1 else aliased n anchors) (ne_eqb n a.0 ne)
 
--- ---- unfinished readings after m anchors
+-- A node is finished inside collections whose anchors are less than its own.
+finishes : (m a : ℕ) (t : Tree) (anchors : Anchors) (ns : List ℕ) → a ≤ m → ((n : ℕ) → IsIn n ns → 0 < a → n < a) → Fits m anchors ns → Fits m (finished a t anchors) ns
+finishes m zero t anchors ns le less f = f
+finishes m (suc a) t anchors ns le less f = record {
+  fresh = λ n e. not_at n (suc a, t) anchors (λ x. omega (arith, x, le, e (omega (arith, x)))) ∙ f.fresh n e;
+  held = λ n o. ((f.held n o).0, not_at n (suc a, t) anchors (λ x. omega (arith, x, less n o (omega arith))) ∙ (f.held n o).1);
+  sorted = f.sorted;
+}
 
-record IsStillOpen (m : ℕ) (u : Unfinished) : Type 0 where
-  low : Low m u.anchors
-  held : Held m u.anchors u.opened
+-- ---- unfinished readings
+
+abbrev IsStillOpen : ℕ → Unfinished → Type 0
+IsStillOpen m u = Fits m u.anchors (numbers u.opened)
 
 abbrev OfStep : ℕ → Step → Type 0
 OfStep m (reads u) = IsStillOpen m u
 OfStep m (repeats key) = Unit {0}
 OfStep m out_of_nesting = Unit {0}
 
-repeats_or : (m : ℕ) (b : Bool) (key : Tree) (u : Unfinished) → IsStillOpen m u → OfStep m (if b then repeats key else reads u)
-repeats_or m a d u h = grind arith
+of_tree : (m : ℕ) (t : Tree) (u : Unfinished) (outer : List Opened) → Fits m u.anchors (numbers outer) → OfStep m (with_tree t u outer)
+of_tree m t u [] f = by u.root
+  where
+    by : (root : Option Tree) → OfStep m (with_root t u root)
+    by None = f
+    by (Some r) = tt
+of_tree m t u (opened_sequence a ts ∷ outer) f = f
+of_tree m t u (opened_mapping a ps None ∷ outer) f = f
+of_tree m t u (opened_mapping a ps (Some k) ∷ outer) f = by (has_key k ps)
+  where
+    by : (b : Bool) → OfStep m (if b then repeats k else reads (record u { opened = opened_mapping a (insert k t ps) None ∷ outer }))
+    by true = tt
+    by false = f
 
-of_root : (m : ℕ) (t : Tree) (u : Unfinished) (root : Option Tree) → Low m u.anchors → OfStep m (with_root t u root)
-of_root m t u a l = grind arith
+of_node : (m a : ℕ) (t : Tree) (u : Unfinished) (outer : List Opened) → Fits m u.anchors (a ∷ numbers outer) → OfStep m (with_node a t u outer)
+of_node m a t u outer f =
+    of_tree m t (record u { anchors = finished a t u.anchors }) outer
+    (finishes m a t u.anchors (numbers outer) (f.held a (inl refl)).0 f.sorted.0 (record { fresh = f.fresh; held = λ n o. f.held n (inr o); sorted = f.sorted.1 }))
 
-of_tree : (m : ℕ) (t : Tree) (u : Unfinished) (outer : List Opened) → Low m u.anchors → Held m u.anchors outer → OfStep m (with_tree t u outer)
-of_tree m t u a l h = grind arith
+of_sequence_end : (m : ℕ) (u : Unfinished) (opened : List Opened) → Fits m u.anchors (numbers opened) → OfStep m (with_sequence_end u opened)
+of_sequence_end m u (opened_sequence a ts ∷ outer) f = of_node m a (array (items_of ts)) u outer f
+of_sequence_end m u opened f = tt
 
--- a finished node, where the open collections' anchors are less than its own
-of_node : (m a : ℕ) (t : Tree) (u : Unfinished) (outer : List Opened) → a ≤ m → Low m u.anchors → Held (under a m) u.anchors outer → OfStep m (with_node a t u outer)
-of_node m zero t u outer le l h = of_tree m t u outer l h
-of_node m (suc a) t u outer le l h =
-    of_tree m t (record u { anchors = (suc a, t) ∷ u.anchors }) outer (low_finished m (suc a) t u.anchors le l)
-    (held_more a m ((suc a, t) ∷ u.anchors) outer (omega (arith, le)) (held_finished a a t u.anchors outer (omega arith) h))
+of_mapping_end : (m : ℕ) (u : Unfinished) (opened : List Opened) → Fits m u.anchors (numbers opened) → OfStep m (with_mapping_end u opened)
+of_mapping_end m u (opened_mapping a ps None ∷ outer) f = of_node m a (hash (pairs_of ps)) u outer f
+of_mapping_end m u opened f = tt
 
-of_sequence_end : (m : ℕ) (u : Unfinished) (opened : List Opened) → Low m u.anchors → Held m u.anchors opened → OfStep m (with_sequence_end u opened)
-of_sequence_end m u [] l h = tt
-of_sequence_end m u (opened_sequence a ts ∷ outer) l h = of_node m a (array (items_of ts)) u outer h.0 l h.2
-of_sequence_end m u (opened_mapping a ps w ∷ outer) l h = tt
+of_document_end : (m : ℕ) (u : Unfinished) (opened : List Opened) → IsStillOpen m u → OfStep m (with_document_end u opened)
+of_document_end m u [] f = f
+of_document_end m u (c ∷ outer) f = tt
 
-of_mapping_end : (m : ℕ) (u : Unfinished) (opened : List Opened) → Low m u.anchors → Held m u.anchors opened → OfStep m (with_mapping_end u opened)
-of_mapping_end m u [] l h = tt
-of_mapping_end m u (opened_sequence a ts ∷ outer) l h = tt
-of_mapping_end m u (opened_mapping a ps None ∷ outer) l h = of_node m a (hash (pairs_of ps)) u outer h.0 l h.2
-of_mapping_end m u (opened_mapping a ps (Some k) ∷ outer) l h = tt
+-- a node's start or scalar has no anchor, or a number after m; n are the anchors after it
+abbrev IsNext : (m a n : ℕ) → Type 0
+IsNext m a n = (m ≤ n) × (a ≤ n) × (0 < a → m < a)
 
-of_document_end : (m : ℕ) (u : Unfinished) (opened : List Opened) → u.opened ≡ opened → IsStillOpen m u → OfStep m (with_document_end u opened)
-of_document_end m u a e s = grind arith
+next_fits : (m a n : ℕ) (anchors : Anchors) (ns : List ℕ) → IsNext m a n → Fits m anchors ns → Fits n anchors (a ∷ ns)
+next_fits m a n anchors ns i f =
+    let more = later m n anchors ns i.0 f in
+    record {
+      fresh = more.fresh;
+      held = λ k o. elim o [ inl e ↦ (omega (arith, e, i.1), f.fresh k (λ pos. rw (← e) (i.2 (rw (← e) at pos)))) | inr x ↦ more.held k x ];
+      sorted = (λ k o pos. omega (arith, (f.held k o).0, i.2 pos), f.sorted);
+    }
 
--- a node's start or scalar has no anchor, or the next number
-data IsNext (m : ℕ) : ℕ → ℕ → Type 0 where
-  none : IsNext m 0 m
-  next : IsNext m (m + 1) (m + 1)
-
-next_low : {m a n : ℕ} → IsNext m a n → a ≤ n
-next_low b = grind arith
-
-next_more : {m a n : ℕ} → IsNext m a n → m ≤ n
-next_more b = grind arith
-
-next_unfinished : {m a n : ℕ} (anchors : Anchors) → IsNext m a n → Low m anchors → aliased a anchors ≡ bad_value
-next_unfinished {m = m} anchors none l = no_zero m anchors l
-next_unfinished {m = m} anchors next l = above_all m (m + 1) anchors (omega arith) l
-
-under_next : (m : ℕ) → under (m + 1) (m + 1) ≡ m
-under_next m = grind arith
-
-next_under : {m a n : ℕ} (anchors : Anchors) (opened : List Opened) → IsNext m a n → Held m anchors opened → Held (under a n) anchors opened
-next_under anchors opened none h = h
-next_under {m = m} anchors opened next h = subst (λ k. Held k anchors opened) (sym (under_next m)) h
-
-of_start : {m n : ℕ} (c : Opened) (u : Unfinished) (opened : List Opened) (root : Option Tree) → IsNext m (anchor_of c) n → Low m u.anchors → Held m u.anchors opened → OfStep n (with_start c u opened root)
-of_start c u [] (Some r) i l h = tt
-of_start {m = m} {n} c u [] None i l h = record { low = low_more m n u.anchors (next_more i) l; held = (next_low i, next_unfinished u.anchors i l, tt) }
-of_start {m = m} {n} c u (d ∷ outer) root i l h =
-    record { low = low_more m n u.anchors (next_more i) l; held = (next_low i, next_unfinished u.anchors i l, next_under u.anchors (d ∷ outer) i h) }
-
-of_scalar : {m a n : ℕ} (t : Tree) (u : Unfinished) → IsNext m a n → IsStillOpen m u → OfStep n (with_node a t u u.opened)
-of_scalar {m = m} {a} {n} t u i s = of_node n a t u u.opened (next_low i) (low_more m n u.anchors (next_more i) s.low) (next_under u.anchors u.opened i s.held)
+of_start : (m n : ℕ) (c : Opened) (u : Unfinished) (opened : List Opened) (root : Option Tree) → IsNext m (anchor_of c) n → Fits m u.anchors (numbers opened) → OfStep n (with_start c u opened root)
+of_start m n c u [] (Some r) i f = tt
+of_start m n c u [] None i f = next_fits m (anchor_of c) n u.anchors [] i f
+of_start m n c u (d ∷ outer) root i f = next_fits m (anchor_of c) n u.anchors (numbers (d ∷ outer)) i f
 
 -- ---- events by their names
 
@@ -143,23 +110,21 @@ abbrev Follows : ℕ → ℕ → Ev → Type 0
 Follows m n (Ev.scalar text style a tag) = IsNext m a n
 Follows m n (Ev.sequence_start a tag) = IsNext m a n
 Follows m n (Ev.mapping_start a tag) = IsNext m a n
-Follows m n _ = m ≡ n
+Follows m n _ = m ≤ n
 
 of_event : (m n : ℕ) (u : Unfinished) (e : Ev) → Follows m n e → IsStillOpen m u → OfStep n (with_event u e)
-of_event m n u Ev.nothing f s = subst (λ k. IsStillOpen k u) f s
-of_event m n u Ev.stream_start f s = subst (λ k. IsStillOpen k u) f s
-of_event m n u Ev.stream_end f s = subst (λ k. IsStillOpen k u) f s
-of_event m n u Ev.document_start f s = subst (λ k. IsStillOpen k u) f s
-of_event m n u Ev.document_end f s = of_document_end n u u.opened refl (subst (λ k. IsStillOpen k u) f s)
-of_event m n u (Ev.alias k) f s = let v = subst (λ j. IsStillOpen j u) f s in of_tree n (aliased k u.anchors) u u.opened v.low v.held
-of_event m n u (Ev.scalar text style a tag) f s = of_scalar (scalar_tree text style tag) u f s
-of_event m n u (Ev.sequence_start a tag) f s = of_start (opened_sequence a []) u u.opened u.root f s.low s.held
-of_event m n u Ev.sequence_end f s = let v = subst (λ j. IsStillOpen j u) f s in of_sequence_end n u u.opened v.low v.held
-of_event m n u (Ev.mapping_start a tag) f s = of_start (opened_mapping a [] None) u u.opened u.root f s.low s.held
-of_event m n u Ev.mapping_end f s = let v = subst (λ j. IsStillOpen j u) f s in of_mapping_end n u u.opened v.low v.held
+of_event m n u Ev.document_end le f = of_document_end n u u.opened (later m n u.anchors (numbers u.opened) le f)
+of_event m n u (Ev.alias k) le f = of_tree n (aliased k u.anchors) u u.opened (later m n u.anchors (numbers u.opened) le f)
+of_event m n u (Ev.scalar text style a tag) i f = of_node n a (scalar_tree text style tag) u u.opened (next_fits m a n u.anchors (numbers u.opened) i f)
+of_event m n u (Ev.sequence_start a tag) i f = of_start m n (opened_sequence a []) u u.opened u.root i f
+of_event m n u Ev.sequence_end le f = of_sequence_end n u u.opened (later m n u.anchors (numbers u.opened) le f)
+of_event m n u (Ev.mapping_start a tag) i f = of_start m n (opened_mapping a [] None) u u.opened u.root i f
+of_event m n u Ev.mapping_end le f = of_mapping_end n u u.opened (later m n u.anchors (numbers u.opened) le f)
+of_event m n u e le f = later m n u.anchors (numbers u.opened) le f
 
 is_next : (s : Names) (a : Option (List ℕ)) → IsNext s.count (number s a) (with_anchor s a).count
-is_next s b = grind (arith, none, next)
+is_next s None = (omega arith, omega arith, λ pos. omega (arith, pos))
+is_next s (Some name) = (omega arith, omega arith, λ pos. omega arith)
 
 abbrev OfSome : {A : Type 0} → (A → Type 0) → Option A → Type 0
 OfSome P None = Unit {0}
@@ -172,27 +137,18 @@ allowed : (P : Ev → Type 0) (b : Bool) (e : Ev) → P e → OfSome P (if b the
 allowed a d e h = grind arith
 
 numbered : (keep_tags : Bool) (s : Names) (r : Raw) → OfSome (Follows s.count (names_after keep_tags s r).count) (resolved_event s r)
-numbered k s Raw.stream_start = refl
-numbered k s Raw.stream_end = refl
-numbered k s (Raw.document_start ds) = allowed (Follows s.count s.count) (are_allowed ds) Ev.document_start refl
-numbered k s Raw.document_end = refl
-numbered k s (Raw.alias name) = mapped (Follows s.count s.count) Ev.alias (under_name name s.anchors) (λ n. refl)
+numbered k s (Raw.document_start ds) = allowed (Follows s.count s.count) (are_allowed ds) Ev.document_start (omega arith)
+numbered k s (Raw.alias name) = mapped (Follows s.count s.count) Ev.alias (under_name name s.anchors) (λ n. omega arith)
 numbered k s (Raw.scalar text style a t) = mapped (Follows s.count (with_anchor s a).count) (λ u. Ev.scalar text style (number s a) u) (perhaps_resolved s.handles t) (λ u. is_next s a)
 numbered k s (Raw.empty_scalar a t) = mapped (Follows s.count (with_anchor s a).count) (λ u. Ev.scalar [] Style.plain (number s a) u) (perhaps_resolved s.handles t) (λ u. is_next s a)
 numbered k s (Raw.flow_sequence_start a t) = mapped (Follows s.count (with_anchor s a).count) (λ u. Ev.sequence_start (number s a) u) (perhaps_resolved s.handles t) (λ u. is_next s a)
 numbered k s (Raw.sequence_start a t) = mapped (Follows s.count (with_anchor s a).count) (λ u. Ev.sequence_start (number s a) u) (perhaps_resolved s.handles t) (λ u. is_next s a)
 numbered k s (Raw.indentless_sequence_start a t) = mapped (Follows s.count (with_anchor s a).count) (λ u. Ev.sequence_start (number s a) u) (perhaps_resolved s.handles t) (λ u. is_next s a)
-numbered k s Raw.flow_sequence_end = refl
-numbered k s Raw.sequence_end = refl
-numbered k s Raw.indentless_sequence_end = refl
 numbered k s (Raw.flow_mapping_start a t) = mapped (Follows s.count (with_anchor s a).count) (λ u. Ev.mapping_start (number s a) u) (perhaps_resolved s.handles t) (λ u. is_next s a)
 numbered k s (Raw.mapping_start a t) = mapped (Follows s.count (with_anchor s a).count) (λ u. Ev.mapping_start (number s a) u) (perhaps_resolved s.handles t) (λ u. is_next s a)
 numbered k s Raw.pair_start = is_next s None
-numbered k s Raw.pair_end = refl
 numbered k s Raw.unwritten_value = is_next s None
-numbered k s Raw.flow_mapping_end = refl
-numbered k s Raw.flow_mapping_end_at_comma = refl
-numbered k s Raw.mapping_end = refl
+numbered k s r = omega arith
 
 -- ---- loaders
 
@@ -226,15 +182,14 @@ stands_after k s (r ∷ rs) l (e ∷ before) more q h =
     stands_after k (names_after k s r) rs (with_event_at l e.0 e.1) before more first.rest
     (of_event_at s.count (names_after k s r).count l e.0 e.1 first.follows h)
 
-open_unfinished : (m n : ℕ) (anchors : Anchors) (opened : List Opened) → Held m anchors opened → IsOpen n opened → aliased n anchors ≡ bad_value
-open_unfinished m n anchors [] h o = absurd o
-open_unfinished m n anchors (opened_sequence a ts ∷ outer) h (inl e) = ap (λ k. aliased k anchors) (sym e) ∙ h.1
-open_unfinished m n anchors (opened_sequence a ts ∷ outer) h (inr o) = open_unfinished (under a m) n anchors outer h.2 o
-open_unfinished m n anchors (opened_mapping a ps w ∷ outer) h (inl e) = ap (λ k. aliased k anchors) (sym e) ∙ h.1
-open_unfinished m n anchors (opened_mapping a ps w ∷ outer) h (inr o) = open_unfinished (under a m) n anchors outer h.2 o
+open_in : (n : ℕ) (opened : List Opened) → IsOpen n opened → IsIn n (numbers opened)
+open_in n [] o = o
+open_in n (opened_sequence a ts ∷ outer) o = elim o [ inl e ↦ inl e | inr x ↦ inr (open_in n outer x) ]
+open_in n (opened_mapping a ps w ∷ outer) o = elim o [ inl e ↦ inl e | inr x ↦ inr (open_in n outer x) ]
 
 pub aliases_are_bad : AliasesInsideTheirNodeAreBadValues
 aliases_are_bad keep_tags tokens before n more u stream work is_open =
-    let names_after = stands_after keep_tags no_names stream.raws new_loader before (Ev.alias n ∷ more) stream.has_events (record { low = tt; held = tt }) in
-    let stands : IsStillOpen names_after.0 u = subst (OfLoader names_after.0) work names_after.1 in
-    ap (λ t. with_tree t u u.opened) (open_unfinished names_after.0 n u.anchors u.opened stands.held is_open)
+    let start : Fits 0 [] [] = record { fresh = λ k e. refl; held = λ k o. absurd o; sorted = tt } in
+    let after = stands_after keep_tags no_names stream.raws new_loader before (Ev.alias n ∷ more) stream.has_events start in
+    let f : IsStillOpen after.0 u = subst (OfLoader after.0) work after.1 in
+    ap (λ t. with_tree t u u.opened) (f.held n (open_in n u.opened is_open)).1

@@ -19,6 +19,7 @@ mod LiteralTexts
 pub mod Loads
 mod MeaningRows
 pub mod Nul
+pub mod OneCause
 pub mod OneFault
 pub mod OneList
 pub mod OneListBefore

@@ -1,5 +1,5 @@
--- The events before a fault of a text are one list.
-use Rattle.proof_loads.proofs.Common.{[], AgreeAt, ap, append-nil, AreFirst, AreSettled, arith, BeginsPlaced, BeginsWith, Blames, Bool, both_ways, ErrorReport, Ev, false, fetch, HasPlacedTo, here, inl, inr, IsReached, IsStream, length, length-append, List, named, no_names, no_stream, no_token, NoneBegins, Ok, OneListOfEventsBefore, OneListOfPulledEventsBefore, OneListOfPushedEventsBefore, Position, Problem, Raw, Reaches, read, refl, Result, ScannerState, start, stood, stream_by, subst, sym, there, to_next, Tok, Token, toks, wants_memory, ℕ, ◌++◌, ◌+◌, ◌∙◌, ◌∷◌, ◌≡◌}
+-- A text has one fault, and the events before it are one list.
+use Rattle.proof_loads.proofs.Common.{[], AgreeAt, ap, append-nil, AreFirst, AreSettled, arith, BeginsPlaced, BeginsWith, Blames, Bool, both_ways, ComesAfter, ErrorReport, Ev, false, fetch, HasPlacedTo, here, inl, inr, IsFaultOf, IsReached, IsStream, length, length-append, List, named, no_names, no_stream, no_token, NoneBegins, Ok, OneListOfEventsBefore, OneListOfPulledEventsBefore, OneListOfPushedEventsBefore, Position, Problem, Raw, Reaches, read, refl, Result, ScannerState, start, stood, stream_by, subst, sym, there, to_next, Tok, Token, toks, wants_memory, ℕ, ◌++◌, ◌+◌, ◌∙◌, ◌∷◌, ◌≡◌}
 use Rattle.model_parser.proofs.OnePlacing.{AreSame, one_stream, same_events, one_list_so_far}
 use Rattle.yaml_tokens.specs.declared.problem.Problem.TheVariants as problem
 use Rattle.model_scanner.specs.Document.{fetch_stream_start}
@@ -8,7 +8,7 @@ use Rattle.yaml_parser.proofs.Holding.{many}
 use Rattle.yaml_parser.proofs.Positions.{stood_raws, stood_positions}
 use Rattle.proof_loads.proofs.Answers.{FaultAfter, fault_after, fault_taken}
 use Rattle.proof_loads.proofs.FirstTokens.{stays, settled_agree, settled_first}
-use Rattle.proof_loads.proofs.OneFault.{same_blame, refused_first, last_or_before}
+use Rattle.proof_loads.proofs.OneCause.{one_refusal, same_blame, one_blame, refused_first, last_or_before}
 
 -- ---- of the scanner
 
@@ -38,16 +38,14 @@ first_is_start : (text : List ℕ) (t : Token) → IsReached text (t ∷ []) →
 unfolding fetch_stream_start
 first_is_start text t r = by r.last r.run r.begins
   where
-    heads : {a b : Token} {ts us : List Token} → a ∷ ts ≡ b ∷ us → a ≡ b
-    heads e = cc
-
     by : (last : ScannerState) → Reaches (start text) last → BeginsWith (t ∷ []) last.held.tokens → t.tok ≡ Tok.stream_start
     by _ here b = let no : [] ≡ t ∷ b.more = b.whole in cc
     by last (there {u = u} going e run) b =
         let is : u ≡ fetch_stream_start (start text) = first_fetch text u e in
         let first : Token = record { position = record { index = 0; line = 1; col = 0 }; tok = Tok.stream_start } in
         let s = stays (first ∷ []) (fetch_stream_start (start text)) last (subst (λ v. Reaches v last) is run) (record { more = []; whole = refl }) (λ _. (tt, tt)) in
-        ap (λ (x : Token). x.tok) (heads (sym b.whole ∙ s.begins.whole))
+        let same : t ≡ first = cc (b.whole, s.begins.whole) in
+        ap (λ (x : Token). x.tok) same
 
 -- ---- of the parser
 
@@ -92,36 +90,44 @@ beside_one keep_tags text tokens es fs f g first none a b =
         not_first keep_tags b.last (first_is_start text b.last (subst (IsReached text) whole first.reached)) (subst (λ ts. NoneBegins keep_tags (toks ts)) whole none)
     alone (t ∷ ts) nothing whole = cc nothing
 
-same_tokens : (keep_tags : Bool) (text : List ℕ) (f g : ErrorReport) (bs cs : List Token) (t u : Token) (es fs : List (Ev × Position)) → AreFirst text (cs ++ u ∷ []) → NoneBegins keep_tags (toks (bs ++ t ∷ [])) → NoneBegins keep_tags (toks (cs ++ u ∷ []))
-    → Blames f [] keep_tags (bs ++ t ∷ []) es → BeginsPlaced keep_tags cs fs → Blames g [] keep_tags (cs ++ u ∷ []) fs → BeginsWith (bs ++ t ∷ []) (cs ++ u ∷ []) → AgreeAt es fs
-same_tokens keep_tags text f g bs cs t u es fs first none other_none a begins b w = elim (last_or_before (bs ++ t ∷ []) cs w.more u w.whole) [
-  | inl same ↦ beside_one keep_tags text (cs ++ u ∷ []) es fs f g first other_none (subst (λ ts. Blames f [] keep_tags ts es) same a) b
-  | inr x ↦ absurd (refused_first keep_tags bs cs t fs none begins x)
-]
-
-agree_back : (es fs : List (Ev × Position)) → AgreeAt es fs → AgreeAt fs es
-agree_back [] [] a = tt
-agree_back [] (f ∷ fs) a = absurd a
-agree_back (e ∷ es) [] a = absurd a
-agree_back (e ∷ es) (f ∷ fs) a = (sym a.0, λ no_end. sym (a.1 (λ is. no_end (sym a.0 ∙ is))), agree_back es fs a.2)
+-- Where two tokens are refused of first tokens of a text, they are the same.
+same_tokens : (keep_tags : Bool) (bs cs : List Token) (t u : Token) (fs : List (Ev × Position)) → NoneBegins keep_tags (toks (bs ++ t ∷ [])) → BeginsPlaced keep_tags cs fs → BeginsWith (bs ++ t ∷ []) (cs ++ u ∷ []) → bs ++ t ∷ [] ≡ cs ++ u ∷ []
+same_tokens keep_tags bs cs t u fs none begins w = elim (last_or_before (bs ++ t ∷ []) cs w.more u w.whole) [ inl same ↦ same | inr x ↦ absurd (refused_first keep_tags bs cs t fs none begins x) ]
 
 -- ---- of both
 
-pub one_list_before : OneListOfEventsBefore
-one_list_before keep_tags text f g xs ys (wants_memory w) y m n x z = absurd (both_ways f.memory m w.memory)
-one_list_before keep_tags text f g xs ys x (wants_memory w) m n z y = absurd (both_ways g.memory n w.memory)
-one_list_before keep_tags text f g xs ys (no_token given es settled begins has r) (no_token given' fs settled' begins' had s) m n x y =
+-- the events before a fault
+abbrev events_before : {keep_tags : Bool} {text : List ℕ} {f : ErrorReport} → IsFaultOf keep_tags text f → List (Ev × Position)
+events_before (wants_memory w) = []
+events_before (no_token given es settled begins has r) = es
+events_before (no_stream before last es first blames begins none) = es
+
+come_before : {keep_tags : Bool} {text : List ℕ} {f : ErrorReport} (x : IsFaultOf keep_tags text f) (es : List (Ev × Position)) → f.memory ≡ false → ComesAfter x es → es ≡ events_before x
+come_before {f = f} (wants_memory w) es m h = absurd (both_ways f.memory m w.memory)
+come_before (no_token given fs settled begins has r) es m h = h
+come_before (no_stream before last fs first blames begins none) es m h = h
+
+-- Two faults of a text are the same, and so are the events before them.
+pub one_cause : (keep_tags : Bool) (text : List ℕ) (f g : ErrorReport) (x : IsFaultOf keep_tags text f) (y : IsFaultOf keep_tags text g) → f.memory ≡ false → g.memory ≡ false → (f ≡ g) × AgreeAt (events_before x) (events_before y)
+one_cause keep_tags text f g (wants_memory w) y m n = absurd (both_ways f.memory m w.memory)
+one_cause keep_tags text f g x (wants_memory w) m n = absurd (both_ways g.memory n w.memory)
+one_cause keep_tags text f g (no_token given es settled begins has r) (no_token given' fs settled' begins' had s) m n =
     let same : given ≡ given' = one_settled text given given' settled settled' in
-    subst (λ l. AgreeAt l ys) (sym x) (subst (AgreeAt es) (sym y) (one_list_so_far to_next keep_tags given' es fs (subst (λ ts. HasPlacedTo to_next keep_tags ts es) same has) had))
-one_list_before keep_tags text f g xs ys (no_token given es settled begins has r) (no_stream before last fs first b begins' none) m n x y =
+    (one_refusal text f g r s m, one_list_so_far to_next keep_tags given' es fs (subst (λ ts. HasPlacedTo to_next keep_tags ts es) same has) had)
+one_cause keep_tags text f g (no_token given es settled begins has r) (no_stream before last fs first b begins' none) m n =
     absurd (refused_first keep_tags before given last es none begins (settled_first text given (before ++ last ∷ []) settled first.reached))
-one_list_before keep_tags text f g xs ys (no_stream before last es first a begins none) (no_token given fs settled begins' has r) m n x y =
+one_cause keep_tags text f g (no_stream before last es first a begins none) (no_token given fs settled begins' has r) m n =
     absurd (refused_first keep_tags before given last fs none begins' (settled_first text given (before ++ last ∷ []) settled first.reached))
-one_list_before keep_tags text f g xs ys (no_stream bs t es first a begins none) (no_stream cs u fs first' b begins' none') m n x y =
-    subst (λ l. AgreeAt l ys) (sym x) (subst (AgreeAt es) (sym y) (elim (settled_agree text (bs ++ t ∷ []) (cs ++ u ∷ []) first.reached first'.reached) [
-      | inl w ↦ same_tokens keep_tags text f g bs cs t u es fs first' none none' a begins' b w
-      | inr w ↦ agree_back fs es (same_tokens keep_tags text g f cs bs u t fs es first none' none b begins a w)
-    ]))
+one_cause keep_tags text f g (no_stream bs t es first a begins none) (no_stream cs u fs first' b begins' none') m n =
+    let same : bs ++ t ∷ [] ≡ cs ++ u ∷ [] = elim (settled_agree text (bs ++ t ∷ []) (cs ++ u ∷ []) first.reached first'.reached) [
+      | inl w ↦ same_tokens keep_tags bs cs t u fs none begins' w
+      | inr w ↦ sym (same_tokens keep_tags cs bs u t es none' begins w)
+    ] in
+    let a' = subst (λ ts. Blames f [] keep_tags ts es) same a in
+    (one_blame keep_tags (cs ++ u ∷ []) es fs f g a' b, beside_one keep_tags text (cs ++ u ∷ []) es fs f g first' none' a' b)
+
+pub one_list_before : OneListOfEventsBefore
+one_list_before keep_tags text f g xs ys x y m n a b = rw (come_before x xs m a, come_before y ys n b) (one_cause keep_tags text f g x y m n).1
 
 -- the same of two parsers
 agree_before : (k c : Bool) (text : List ℕ) (f g : ErrorReport) (es fs : List (Ev × Position)) → k ≡ c → FaultAfter k text f es → FaultAfter c text g fs → f.memory ≡ false → g.memory ≡ false → AgreeAt es fs

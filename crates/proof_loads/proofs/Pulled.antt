@@ -1,31 +1,12 @@
--- What a parser at its start was asked for, and what it has given.
-use Rattle.proof_loads.proofs.Common.{[], Answer, ap, append-nil, append_assoc, Bool, ErrorReport, Ev, event, Explains, false, fault, given, GivesEvent, has_end, IfSome, is_stream_end, IsAtStart, KeepsSettings, List, no_call, None, one_call, Option, Parsed, Position, PullsAll, read_so, refl, Some, subst, sym, true, ◌++◌, ◌||◌, ◌∙◌, ◌∷◌, ◌≡◌}
+-- The calls of a parser from its start on: what it answered, and what it has given.
+use Rattle.proof_loads.proofs.Common.{Answer, Bool, ErrorReport, Ev, Explains, GivesEvent, IfSome, IsAtStart, KeepsSettings, List, None, Option, Parsed, Position, PullsAll, Some, [], ap, append-nil, append_assoc, event, false, fault, given, has_end, inl, inr, is_stream_end, no_call, one_call, read_so, refl, subst, sym, true, ◌++◌, ◌||◌, ◌∙◌, ◌∷◌, ◌≡◌, ◌⊎◌}
+use Rattle.yaml_parser.specs.Pulls.{IsSound}
 use Rattle.proof_loads.proofs.Runs.{given_append}
-
--- ---- what was pulled
 
 pub settings_stay : {p q : Parsed} {answers : List (Answer ErrorReport)} → PullsAll p answers q → KeepsSettings p q
 settings_stay no_call = record { keep_tags = refl; steady = refl }
 settings_stay (one_call (event e p) calls gives) = let k = settings_stay calls in record { keep_tags = gives.settings.keep_tags ∙ k.keep_tags; steady = gives.settings.steady ∙ k.steady }
 settings_stay (one_call (fault f) calls gives) = let k = settings_stay calls in record { keep_tags = gives.settings.keep_tags ∙ k.keep_tags; steady = gives.settings.steady ∙ k.steady }
-
--- A fault after a start without one has its reason.
-pub explained : {p q : Parsed} {answers : List (Answer ErrorReport)} (f : ErrorReport) → p.fault ≡ None → PullsAll p answers q → q.fault ≡ Some f → Explains f q
-explained f clear no_call h = cc
-explained f clear (one_call (event e p) calls gives) h = let none = gives.sound.fault in cc
-explained f clear (one_call {q = q} {r = r} (fault g) calls gives) h = by q.fault refl (explained f clear calls)
-  where
-    same : Some g ≡ Some f
-    same = sym gives.fault ∙ h
-
-    taken_over : (k : ErrorReport) → (g ≡ k) × (r ≡ q) → q.fault ≡ Some k → (q.fault ≡ Some f → Explains f q) → Explains f r
-    taken_over k again e before = subst (λ x. Explains f x) (sym again.1) (before (e ∙ ap Some (sym again.0) ∙ same))
-
-    by : (o : Option ErrorReport) → q.fault ≡ o → (q.fault ≡ Some f → Explains f q) → Explains f r
-    by None e before = let is : g ≡ f = cc in subst (λ x. Explains x r) is (gives.why e)
-    by (Some k) e before = taken_over k (subst (λ x. IfSome x (λ k. (g ≡ k) × (r ≡ q))) e gives.again) e before
-
--- ---- after an event
 
 pub read_given : (es : List (Ev × Position)) (ended : Bool) (ahead : Option (Ev × Position)) → ahead ≡ None → read_so es ended ahead ≡ es
 read_given es true ahead h = refl
@@ -51,11 +32,14 @@ pub record Noted (answers : List (Answer ErrorReport)) (p : Parsed) : Type 0 whe
   pub ended : p.ended ≡ has_end p.given
   pub none : p.ended ≡ false → rest ≡ []
 
+pub given_alone : (answers : List (Answer ErrorReport)) (p : Parsed) → Noted answers p → p.ended ≡ false → answers ≡ given ErrorReport p.given
+given_alone answers p n going = n.answers_are ∙ ap (λ bs. given ErrorReport p.given ++ bs) (n.none going) ∙ append-nil (given ErrorReport p.given)
+
 note : (q p : Parsed) (answers : List (Answer ErrorReport)) (e : Ev) (pl : Position) → Noted answers q → GivesEvent q (e, pl) p → Noted (answers ++ event e pl ∷ []) p
 note q p answers e pl n gives = by q.ended refl
   where
-    over : q.ended ≡ true → Noted (answers ++ event e pl ∷ []) p
-    over h =
+    by : (b : Bool) → q.ended ≡ b → Noted (answers ++ event e pl ∷ []) p
+    by true h =
         let same : p.given ≡ q.given = (rw h at gives.given) ∙ append-nil q.given in
         let end : p.ended ≡ true = rw h at gives.ended in
         record {
@@ -64,70 +48,32 @@ note q p answers e pl n gives = by q.ended refl
           ended = end ∙ sym h ∙ n.ended ∙ sym (ap has_end same);
           none = λ no. cc;
         }
-
-    going : q.ended ≡ false → Noted (answers ++ event e pl ∷ []) p
-    going h =
+    by false h =
         let more : p.given ≡ q.given ++ (e, pl) ∷ [] = rw h at gives.given in
-        let all : answers ≡ given ErrorReport q.given = n.answers_are ∙ ap (λ bs. given ErrorReport q.given ++ bs) (n.none h) ∙ append-nil (given ErrorReport q.given) in
         record {
           rest = [];
-          answers_are = ap (λ bs. bs ++ event e pl ∷ []) all ∙ sym (given_append ErrorReport q.given ((e, pl) ∷ [])) ∙ ap (given ErrorReport) (sym more) ∙ sym (append-nil (given ErrorReport p.given));
+          answers_are = ap (λ bs. bs ++ event e pl ∷ []) (given_alone answers q n h) ∙ sym (given_append ErrorReport q.given ((e, pl) ∷ [])) ∙ ap (given ErrorReport) (sym more) ∙ sym (append-nil (given ErrorReport p.given));
           ended = gives.ended ∙ ap (λ b. b || is_stream_end e) n.ended ∙ ap (λ b. has_end q.given || b) (sym (or_false (is_stream_end e))) ∙ sym (ap has_end more ∙ has_end_append q.given ((e, pl) ∷ []));
           none = λ no. refl;
         }
 
-    by : (b : Bool) → q.ended ≡ b → Noted (answers ++ event e pl ∷ []) p
-    by true h = over h
-    by false h = going h
+-- What is known after the answers: no fault came, and if any event did, all that were read are given; or a fault is kept, which has its reason,
+-- and the events given are all that came before the first fault.
+pub data Answered (answers : List (Answer ErrorReport)) (p : Parsed) : Type 0 where
+  events : Noted answers p → p.fault ≡ None → (answers ≡ []) ⊎ ((p.ahead ≡ None) × IsSound p) → Answered answers p
+  faults : (f first : ErrorReport) (rest : List (Answer ErrorReport)) → answers ≡ given ErrorReport p.given ++ fault first ∷ rest → p.fault ≡ Some f → p.ahead ≡ None → Explains f p → Answered answers p
 
-pub noted : {p q : Parsed} {answers : List (Answer ErrorReport)} → IsAtStart p → PullsAll p answers q → q.fault ≡ None → Noted answers q
-noted {p} start no_call clear =
-    record {
-      rest = [];
-      answers_are = ap (λ es. given ErrorReport es ++ []) (sym start.given);
-      ended = start.ended ∙ ap has_end (sym start.given);
-      none = λ no. refl;
-    }
-noted start (one_call {q = q} {r = r} {answers = answers} (event e pl) calls gives) clear = note q r answers e pl (noted start calls gives.clear) gives
-noted start (one_call (fault f) calls gives) clear = let kept = gives.fault in cc
-
-last_is_event : (xs : List (Answer ErrorReport)) (f : ErrorReport) (es : List (Ev × Position)) → xs ++ fault f ∷ [] ≡ given ErrorReport es → ⊥
-last_is_event [] f [] h = cc
-last_is_event [] f (e ∷ es) h = cc
-last_is_event (x ∷ xs) f [] h = cc
-last_is_event (x ∷ xs) f (e ∷ es) h = let rest : xs ++ fault f ∷ [] ≡ given ErrorReport es = cc in last_is_event xs f es rest
-
-pub events_are_clear : {p q : Parsed} {answers : List (Answer ErrorReport)} (es : List (Ev × Position)) → p.fault ≡ None → PullsAll p answers q → answers ≡ given ErrorReport es → q.fault ≡ None
-events_are_clear es clear no_call h = clear
-events_are_clear es clear (one_call (event e p) calls gives) h = gives.sound.fault
-events_are_clear es clear (one_call {answers = answers} (fault f) calls gives) h = absurd (last_is_event answers f es h)
-
--- Where a fault is kept: the events that were given are all that were answered before the first fault.
-pub record NotedFault (answers : List (Answer ErrorReport)) (p : Parsed) : Type 0 where
-  pub first : ErrorReport
-  pub rest : List (Answer ErrorReport)
-  pub answers_are : answers ≡ given ErrorReport p.given ++ fault first ∷ rest
-  pub ahead : p.ahead ≡ None
-
-pub noted_fault : {p q : Parsed} {answers : List (Answer ErrorReport)} (f : ErrorReport) → IsAtStart p → PullsAll p answers q → q.fault ≡ Some f → NotedFault answers q
-noted_fault f start no_call h = let clear = start.fault in cc
-noted_fault f start (one_call (event e p) calls gives) h = let none = gives.sound.fault in cc
-noted_fault f start (one_call {q = q} {r = r} {answers = answers} (fault g) calls gives) h = by q.fault refl (λ k. noted_fault k start calls)
+pub answered : {p q : Parsed} {answers : List (Answer ErrorReport)} → IsAtStart p → PullsAll p answers q → Answered answers q
+answered start no_call = events (record { rest = []; answers_are = ap (λ es. given ErrorReport es ++ []) (sym start.given); ended = start.ended ∙ ap has_end (sym start.given); none = λ no. refl }) start.fault (inl refl)
+answered start (one_call {q = q} {r = r} {answers = answers} (event e pl) calls gives) = by (answered start calls)
   where
-    by : (o : Option ErrorReport) → q.fault ≡ o → ((k : ErrorReport) → q.fault ≡ Some k → NotedFault answers q) → NotedFault (answers ++ fault g ∷ []) r
-    by None e before =
-        let n = noted start calls e in
-        record {
-          first = g;
-          rest = [];
-          answers_are = ap (λ bs. bs ++ fault g ∷ []) (n.answers_are ∙ ap (λ bs. given ErrorReport q.given ++ bs) (n.none gives.ended.0) ∙ append-nil (given ErrorReport q.given)) ∙ ap (λ es. given ErrorReport es ++ fault g ∷ []) (sym gives.given);
-          ahead = gives.ahead.1;
-        }
-    by (Some k) e before =
-        let n = before k e in
-        record {
-          first = n.first;
-          rest = n.rest ++ fault g ∷ [];
-          answers_are = ap (λ bs. bs ++ fault g ∷ []) n.answers_are ∙ append_assoc (given ErrorReport q.given) (fault n.first ∷ n.rest) (fault g ∷ []) ∙ ap (λ es. given ErrorReport es ++ fault n.first ∷ (n.rest ++ fault g ∷ [])) (sym gives.given);
-          ahead = gives.ahead.1;
-        }
+    by : Answered answers q → Answered (answers ++ event e pl ∷ []) r
+    by (events n clear s) = events (note q r answers e pl n gives) gives.sound.fault (inr (gives.ahead, gives.sound))
+    by (faults f first rest are kept ahead why) = let clear = gives.clear in cc
+answered start (one_call {q = q} {r = r} {answers = answers} (fault g) calls gives) = by (answered start calls)
+  where
+    by : Answered answers q → Answered (answers ++ fault g ∷ []) r
+    by (events n clear s) = faults g g [] (ap (λ bs. bs ++ fault g ∷ []) (given_alone answers q n gives.ended.0) ∙ ap (λ es. given ErrorReport es ++ fault g ∷ []) (sym gives.given)) gives.fault gives.ahead.1 (gives.why clear)
+    by (faults f first rest are kept ahead why) =
+        let again = subst (λ x. IfSome x (λ k. (g ≡ k) × (r ≡ q))) kept gives.again in
+        subst (Answered (answers ++ fault g ∷ [])) (sym again.1) (faults f first (rest ++ fault g ∷ []) (ap (λ bs. bs ++ fault g ∷ []) are ∙ append_assoc (given ErrorReport q.given) (fault first ∷ rest) (fault g ∷ [])) kept ahead why)

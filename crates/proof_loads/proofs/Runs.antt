@@ -1,5 +1,9 @@
 -- Runs of `load` with `multi` over answers, whatever they are.
-use Rattle.proof_loads.proofs.Common.{[], Answer, ap, append_assoc, arith, before_stream, between, Ending, ends, Ev, event, fault, faulted, given, inside, length, List, load_from, Loaded, no_document, Position, push, refl, Standing, subst, sym, true, unfinished, well, ◌++◌, ◌+◌, ◌∙◌, ◌∷◌, ◌≡◌}
+use Rattle.proof_loads.proofs.Common.{Answer, Bool, Ending, Ev, List, Loaded, Position, Standing, [], ap, append_assoc, arith, before_stream, between, ends, event, false, fault, faulted, given, has_end, inside, is_stream_end, length, length-append, load_from, no_document, push, refl, subst, sym, true, unfinished, well, ◌++◌, ◌+◌, ◌||◌, ◌∙◌, ◌∷◌, ◌≡◌}
+
+pub or_right : (b : Bool) {c : Bool} → c ≡ true → b || c ≡ true
+or_right true h = refl
+or_right false h = h
 
 -- The call has come to its end.
 abbrev pub IsOver : {F : Type 0} → Ending F → Type 0
@@ -45,30 +49,33 @@ pushes F s (e ∷ es) = by (turn F s e.0 e.1) (λ t. pushes F t es)
     by (stops l over one left pushed same) rest =
         subst (λ l. Pushes l (e ∷ es)) (sym (same (given F es))) (record { left = left ++ es; whole = sym (ap (λ xs. xs ++ es) pushed) ∙ append_assoc l.pushed left es })
 
-none_left : {A : Type 0} (xs : List A) → length xs ≡ 0 → xs ≡ []
-none_left [] h = refl
-none_left (x ∷ xs) h = absurd (omega (arith, h))
-
--- A call that took all answers and found no document took events alone.
-abbrev AreEvents : (F : Type 0) → List (Answer F) → Type 0
-AreEvents F answers = (es : List (Ev × Position)) × (answers ≡ given F es)
-
-pub misplaced_events : (F : Type 0) (s : Standing) (answers : List (Answer F)) (p : Position) → (load_from s true answers).ending ≡ no_document p
-    → (load_from s true answers).taken ≡ length answers → AreEvents F answers
-misplaced_events F s [] p h n = cc
-misplaced_events F s (fault f ∷ answers) p h n = cc
-misplaced_events F s (event e q ∷ answers) p h n = by (turn F s e q) (λ t. misplaced_events F t answers p)
+-- A call that took all answers up to a fault, or more, has not met an event in no document.
+pub fault_is_reached : (F : Type 0) (s : Standing) (es : List (Ev × Position)) (f : F) (rest : List (Answer F)) (p : Position) → (load_from s true (given F es ++ fault f ∷ rest)).ending ≡ no_document p
+    → (load_from s true (given F es ++ fault f ∷ rest)).taken ≡ length (given F es ++ fault f ∷ rest) → ⊥
+fault_is_reached F s [] f rest p h n = cc
+fault_is_reached F s (e ∷ es) f rest p h n = by (turn F s e.0 e.1) (λ t. fault_is_reached F t es f rest p)
   where
-    with_first : AreEvents F answers → AreEvents F (event e q ∷ answers)
-    with_first r = ((e, q) ∷ r.0, ap (λ bs. event e q ∷ bs) r.1)
+    more : List (Answer F)
+    more = given F es ++ fault f ∷ rest
 
-    by : Turn F s e q → ((t : Standing) → (load_from t true answers).ending ≡ no_document p → (load_from t true answers).taken ≡ length answers → AreEvents F answers) → AreEvents F (event e q ∷ answers)
-    by (goes t same) rest =
-        let took : (load_from t true answers).taken + 1 ≡ length (event e q ∷ answers) = sym (ap (λ l. l.taken) (same answers)) ∙ n in
-        with_first (rest t (sym (ap (λ l. l.ending) (same answers)) ∙ h) (omega (arith, took)))
-    by (stops l over one left pushed same) rest =
-        let took : 1 ≡ length (event e q ∷ answers) = sym one ∙ sym (ap (λ l. l.taken) (same answers)) ∙ n in
-        with_first ([], none_left answers (omega (arith, took)))
+    by : Turn F s e.0 e.1 → ((t : Standing) → (load_from t true more).ending ≡ no_document p → (load_from t true more).taken ≡ length more → ⊥) → ⊥
+    by (goes t same) before =
+        let took : (load_from t true more).taken + 1 ≡ length (event e.0 e.1 ∷ more) = sym (ap (λ l. l.taken) (same more)) ∙ n in
+        before t (sym (ap (λ l. l.ending) (same more)) ∙ h) (omega (arith, took))
+    by (stops l over one left pushed same) before =
+        let took : 1 ≡ length (event e.0 e.1 ∷ more) = sym one ∙ sym (ap (λ l. l.taken) (same more)) ∙ n in
+        let long = length-append (given F es) (fault f ∷ rest) in
+        omega (arith, took, long)
+
+-- A call that has ended well took the stream's end.
+pub end_is_reached : (F : Type 0) (s : Standing) (es : List (Ev × Position)) → (load_from s true (given F es)).ending ≡ well → has_end es ≡ true
+end_is_reached F s [] h = cc
+end_is_reached F before_stream (e ∷ es) h = or_right (is_stream_end e.0) (end_is_reached F between es h)
+end_is_reached F between ((Ev.stream_end, p) ∷ es) h = refl
+end_is_reached F between ((Ev.document_start, p) ∷ es) h = end_is_reached F inside es h
+end_is_reached F between ((e, p) ∷ es) h = cc
+end_is_reached F inside ((Ev.document_end, p) ∷ es) h = end_is_reached F between es h
+end_is_reached F inside ((e, p) ∷ es) h = or_right (is_stream_end e) (end_is_reached F inside es h)
 
 -- ---- against a whole stream
 

@@ -1,5 +1,5 @@
 -- A parser somewhere in a text that means trees.
-use Rattle.proof_loads.proofs.Common.{ap, append_assoc, AreFirst, Bool, ErrorReport, Ev, events_of, EventsOfReadTextsAreRead, Foretells, foretold_are_not_refused, IfSome, inl, inr, IsAtWork, IsStream, List, map-append, Means, new_loader, Option, Position, read, ReadAs, ReadTextsAreNotRefused, ReadTextsHaveNoFaultButMemory, ReadTextsHaveTheirTrees, Scanned, ScansIn, Some, streams_are_loaded, streams_are_not_cut, subst, Tok, Token, toks, Tree, true, with_events, ℕ, ◌++◌, ◌∙◌, ◌≡◌}
+use Rattle.proof_loads.proofs.Common.{AreFirst, Bool, ErrorReport, Ev, EventsOfReadTextsAreRead, Foretells, IfSome, IsStream, List, Means, Option, Position, ReadAs, ReadTextsAreNotRefused, ReadTextsHaveNoFaultButMemory, ReadTextsHaveTheirTrees, Scanned, ScansIn, Some, Tok, Token, Tree, ap, append_assoc, events_of, foretold_are_not_refused, inl, inr, map-append, read, streams_are_loaded, streams_are_not_cut, subst, toks, true, ℕ, ◌++◌, ◌∙◌, ◌≡◌}
 
 -- The tokens handed out, with some more, are read as the trees.
 pub record GoesOn (keep_tags : Bool) (given : List Token) (trees : List Tree) : Type 0 where
@@ -20,13 +20,14 @@ texts_are_not_refused p text trees x scans r =
     let y = goes_on p.keep_tags text trees p.scanner.given x (first_tokens text p.scanner scans) in
     streams_are_not_cut p.keep_tags (toks p.scanner.given) y.more trees y.reads r.none
 
-scanner_wants_memory : (o : Option ErrorReport) (f : ErrorReport) → o ≡ Some f → IfSome o (λ g. g.memory ≡ true) → f.memory ≡ true
-scanner_wants_memory o f e h = rw e at h
+-- what holds of a fault that may be kept, where it is
+pub if_kept : (P : ErrorReport → Type 0) (o : Option ErrorReport) (f : ErrorReport) → o ≡ Some f → IfSome o P → P f
+if_kept P o f e h = rw e at h
 
 pub only_memory_is_wanted : ReadTextsHaveNoFaultButMemory
 only_memory_is_wanted p f text trees x scans steady why =
     elim why [
-      | inl kept ↦ scanner_wants_memory p.scanner.fault f kept.fault (scans.sound x.tokens x.has)
+      | inl kept ↦ if_kept (λ g. g.memory ≡ true) p.scanner.fault f kept.fault (scans.sound x.tokens x.has)
       | inr other ↦ elim other [ inl wants ↦ wants.memory | inr cut ↦ absurd (texts_are_not_refused p text trees x scans (cut.refused steady)) ]
     ]
 
