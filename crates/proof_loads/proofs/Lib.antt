@@ -5,7 +5,6 @@ mod BlockTexts
 mod Common
 pub mod CutTexts
 pub mod DocumentTrees
-pub mod DocumentTokens
 pub mod Dumps
 pub mod FirstTokens
 pub mod InTurn

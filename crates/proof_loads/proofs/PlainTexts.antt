@@ -1,5 +1,5 @@
 -- The scalars that are spelt without quotes, as texts that a plain scalar may be.
-use Rattle.proof_loads.proofs.TokensCommon.{AllDigits, Bool, IsNumeral, IsPlain, List, Tree, [], alias, and_false, and_from, and_parts, arith, bad_value, boolean, codes, decimal, decimal_is_IsNumeral, digit_from_value, ends_with, ends_with-one, ends_with-step, false, has_indicator_first, hash, integer, is_decimal, is_quoted, is_real_character, is_real_text, is_unfit_for_plain, list_all, list_any, ltb-true, nat_eq, nat_le, nat_tests, ne_eqb, negsuc, not, null, or_parts, pos, real, real_text-characters, refl, spelling, suc, true, typing, unquoted, ℕ, ◌&&◌, ◌<◌, ◌==◌, ◌^◌, ◌||◌, ◌∷◌, ◌≡◌, ◌≤◌}
+use Rattle.proof_loads.proofs.TokensCommon.{[], alias, AllDigits, and_false, and_from, and_parts, arith, bad_value, Bool, boolean, codes, decimal, decimal_is_IsNumeral, digit_from_value, ends_with, ends_with-one, ends_with-step, false, has_indicator_first, hash, integer, is_decimal, is_quoted, is_real_character, is_real_text, is_unfit_for_plain, IsNumeral, IsPlain, List, list_all, list_any, ltb-true, nat_eq, nat_le, nat_tests, ne_eqb, negsuc, not, null, or_parts, pos, real, real_text-characters, refl, spelling, suc, Tree, true, typing, unquoted, ℕ, ◌&&◌, ◌<◌, ◌==◌, ◌^◌, ◌||◌, ◌∷◌, ◌≡◌, ◌≤◌}
 use Rattle.defs_tree.specs.Tree.{string, array}
 use Rattle.defs_tree.specs.Quoting.{begins_with}
 use Rattle.defs_tree.proofs.GrammarLaws.{list_all-more}
@@ -28,14 +28,15 @@ abbrev pub is_second : ℕ → List ℕ → Bool
 is_second c [] = not (c == 45) && not (c == 46)
 is_second c (d ∷ v) = not ((c == 45) && (d == 45)) && not ((c == 46) && (d == 46)) && not ((c == 45) && (d == 32))
 
-pub record IsPlainText (w : List ℕ) : Type 0 where
-  pub head : ℕ
-  pub tail : List ℕ
-  pub whole : w ≡ head ∷ tail
+pub record IsPlainFrom (head : ℕ) (tail : List ℕ) : Type 0 where
   pub first : is_first head ≡ true
   pub second : is_second head tail ≡ true
   pub chars : are_plain tail ≡ true
   pub close : closes false tail ≡ true
+
+abbrev pub IsPlainText : List ℕ → Type 0
+IsPlainText [] = ⊥
+IsPlainText (c ∷ w) = IsPlainFrom c w
 
 -- ---- words
 
@@ -72,7 +73,7 @@ word_text [] word = cc (word.begins)
 word_text (c ∷ w) word =
     let q = and_parts (is_word c) (are_words w) word.chars in
     let r = words_plain w q.1 in
-    record { head = c; tail = w; whole = refl; first = (word_char c q.0).2; second = word.begins; chars = r.0; close = r.1 }
+    record { first = (word_char c q.0).2; second = word.begins; chars = r.0; close = r.1 }
 
 -- ---- what a plain scalar doesn't begin with
 
@@ -106,9 +107,6 @@ string_plain (c ∷ w) h =
     let dash = no_dash c w z.no_indicator_first in
     let first = first_fits c w fit.0 z.no_indicator_first outer.0 in
     record {
-      head = c;
-      tail = w;
-      whole = refl;
       first = first;
       second = grind arith;
       chars = fit_chars w fit.1;
@@ -171,5 +169,5 @@ spelt_plain (boolean b) h = grind arith
 spelt_plain (array ts) h = absurd h
 spelt_plain (hash ps) h = absurd h
 spelt_plain (alias n) h = absurd h
-spelt_plain null h = record { head = 126; tail = []; whole = refl; first = refl; second = refl; chars = refl; close = refl }
+spelt_plain null h = record { first = refl; second = refl; chars = refl; close = refl }
 spelt_plain bad_value h = absurd h

@@ -68,7 +68,7 @@ marker_reads r tokens rest extra p awaits before l text here =
 
 -- ---- documents
 
-end_reads : (g : List GapLine) → After (end g) [] (Tok.stream_end ∷ [])
+pub end_reads : (g : List GapLine) → After (end g) [] (Tok.stream_end ∷ [])
 end_reads g extra p awaits before l text all (separates, line, none) = rw append-nil (read_end p extra awaits before l text line separates none)
 
 front_after : (p : Position) → IsFront (λ a. 10 ∷ a) p taken

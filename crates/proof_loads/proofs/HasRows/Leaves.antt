@@ -57,7 +57,7 @@ scalar_piece (single_quoted text) h =
 
 -- ---- where a value stands
 
-no_quote : (k : Comment) (t : Trail) → begins_with 39 (spell_comment k (trail_text t)) ≡ false
+pub no_quote : (k : Comment) (t : Trail) → begins_with 39 (spell_comment k (trail_text t)) ≡ false
 no_quote (comment more text) t = refl
 no_quote no_comment (next g d r) = refl
 no_quote no_comment (marker g r) = refl

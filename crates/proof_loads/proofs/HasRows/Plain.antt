@@ -40,9 +40,6 @@ one_line : (w : List ℕ) → has_no_break w ≡ true → split w ≡ record { c
 one_line [] h = refl
 one_line (c ∷ w) h = let q = and_parts (not (is_break c)) (has_no_break w) h in rw (not-true (is_break c) q.0, one_line w q.1) refl
 
-lines_fit : (column : ℕ) (w : List ℕ) → has_no_break w ≡ true → plain_lines_fit column w ≡ true
-lines_fit column w h = rw (one_line w h) refl
-
 -- ---- where it ends
 
 module _ (in_flow : Bool) (collection : Option ℕ) (next : List ℕ) where
@@ -127,26 +124,19 @@ dashless a w b h flow = grind (arith, no_last_dash)
 
 pub plain_piece : (in_flow : Bool) (collection : Option ℕ) (w next : List ℕ) → IsPlainText w → MayFlow in_flow w → stops in_flow collection inside next ≡ true → IsPlainPiece in_flow collection w next
 unfolding plain_value
-plain_piece in_flow collection w next text flow stops = rw (text.whole) (by (rw (text.whole) at flow))
-  where
-    c : ℕ
-    c = text.head
-
-    v : List ℕ
-    v = text.tail
-
-    by : MayFlow in_flow (c ∷ v) → IsPlainPiece in_flow collection (c ∷ v) next
-    by flow =
-        let one = (first_char c text.first).0 in
-        let all : are_plain (c ∷ v) ≡ true = and_from _ _ one text.chars in
-        let full = ends_full c v one text.chars (rw (first_space c text.first) text.close) in
-        record {
-          begins = λ adjacent column. begins in_flow adjacent column c v next text.first text.second text.chars flow;
-          whole = rw (goes_over in_flow collection next false v text.chars (λ e. (and_parts (is_in_flow c) (list_all is_in_flow v) (flow e)).1), full, stops) refl;
-          value = value_is plain_element (c ∷ v) (c ∷ v) (elements_are (c ∷ v) all) (no_break (c ∷ v) all);
-          fits = λ column. lines_fit column (c ∷ v) (no_break (c ∷ v) all);
-          no_break = no_break (c ∷ v) all;
-          some = refl;
-          no_dash = dashless in_flow (c ∷ v) next all flow;
-          none = of_class is_plain_char refl (c ∷ v) all;
-        }
+plain_piece in_flow collection [] next text flow stops = absurd text
+plain_piece in_flow collection (c ∷ v) next text flow stops =
+    let one = (first_char c text.first).0 in
+    let all : are_plain (c ∷ v) ≡ true = and_from _ _ one text.chars in
+    let full = ends_full c v one text.chars (rw (first_space c text.first) text.close) in
+    let line = no_break (c ∷ v) all in
+    record {
+      begins = λ adjacent column. begins in_flow adjacent column c v next text.first text.second text.chars flow;
+      whole = rw (goes_over in_flow collection next false v text.chars (λ e. (and_parts (is_in_flow c) (list_all is_in_flow v) (flow e)).1), full, stops) refl;
+      value = value_is plain_element (c ∷ v) (c ∷ v) (elements_are (c ∷ v) all) line;
+      fits = λ column. rw (one_line (c ∷ v) line) refl;
+      no_break = line;
+      some = refl;
+      no_dash = dashless in_flow (c ∷ v) next all flow;
+      none = of_class is_plain_char refl (c ∷ v) all;
+    }

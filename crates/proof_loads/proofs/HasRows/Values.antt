@@ -1,5 +1,5 @@
 -- Values, arrays and hashes of layouts have rows.
-use Rattle.proof_loads.proofs.TokensCommon.{[], all_field_tokens, all_of, Anchor, anchors_after, anchors_after_field, and_from, and_parts, another, append-nil, AreEntries, AreFields, arith, begins_with_space_or_break, begun, Block, block_tokens, BlockStyle, Bool, colon_may_precede, Comment, comment, dash_may_precede, empty_hash, Entries, entry_tokens, false, Field, field_tokens, Fields, folded_header, free, GapLine, goes_on_with_name, has_no_break, has_tab_before_piece, inl, Inline, inline_tokens, inr, is_anchor_name, is_ascii_alphanumeric, is_at_gap, is_blank, is_blank_or_end, is_break, is_flow, is_line_character, is_name, is_nul, is_one_of, is_waiting, IsBlock, IsComment, IsField, IsGap, IsInline, IsLineText, IsScalar, IsValue, leading, least_column, length, List, list_all, MayFollowScalarKey, nat_tests, next_line, no_comment, Position, Previous, refl, Scalar, scalar, scalar_token, spaces, spell_block, spell_comment, spell_entries, spell_field, spell_fields, spell_gap, spell_inline, spell_lines, spell_literal, spell_scalar, spell_value, subst, suc, taken, Tok, true, Value, value_tokens, zero, ℕ, ◌++◌, ◌+◌, ◌==◌, ◌∙◌, ◌∷◌, ◌≡◌, ◌≤◌, ◌⊎◌}
+use Rattle.proof_loads.proofs.TokensCommon.{[], all_field_tokens, all_of, Anchor, anchors_after, anchors_after_field, and_from, and_parts, another, append-nil, AreEntries, AreFields, arith, begins_with_space_or_break, begun, Block, block_tokens, BlockStyle, Bool, colon_may_precede, Comment, comment, dash_may_precede, empty_hash, Entries, entry_tokens, false, Field, field_tokens, Fields, folded_header, free, GapLine, goes_on_with_name, has_no_break, has_tab_before_piece, inl, Inline, inline_tokens, inr, is_anchor_name, is_ascii_alphanumeric, is_at_gap, is_blank, is_blank_or_end, is_break, is_flow, is_line_character, is_name, is_nul, is_one_of, is_waiting, IsBlock, IsComment, IsField, IsGap, IsInline, IsLineText, IsScalar, IsValue, leading, least_column, length, List, list_all, MayFollowScalarKey, nat_tests, next_line, no_comment, Position, Previous, refl, Scalar, scalar, scalar_token, spaces, spell_block, spell_comment, spell_entries, spell_field, spell_fields, spell_gap, spell_inline, spell_lines, spell_literal, spell_scalar, spell_value, spelling, subst, suc, taken, Tok, true, Value, value_tokens, zero, ℕ, ◌++◌, ◌+◌, ◌==◌, ◌∙◌, ◌∷◌, ◌≡◌, ◌≤◌, ◌⊎◌}
 use Rattle.defs_layout.specs.Json
 use Rattle.defs_token.specs.Piece as piece
 use Rattle.defs_layout.specs.Layout.{empty_array}
@@ -12,7 +12,7 @@ use Rattle.proof_loads.proofs.HasRows.Json.{empty_reads, value_reads}
 use Rattle.proof_loads.proofs.HasRows.Blocks.{AreAbove, Here, stood, Comes, Marked, dash_reads, question_reads, colon_reads, key_reads}
 use Rattle.proof_loads.proofs.HasRows.Trails.{in_line, here_after, spaced, here_beside, Trail, next, marker, end, trail_text, BeginsContent, content_first, IsTrail, Rest, EndsAt, AllEnd, After, arrive, trail_ends}
 use Rattle.proof_loads.proofs.HasRows.Trails
-use Rattle.proof_loads.proofs.PlainTexts.{spelt_plain, first_space}
+use Rattle.proof_loads.proofs.PlainTexts.{IsPlainText, spelt_plain, first_space}
 use Rattle.proof_loads.proofs.HasRows.Plain.{plain_char, first_char}
 use Rattle.proof_loads.proofs.LiteralTexts.{strips_of, headed_literal, literal_lines}
 use Rattle.proof_loads.proofs.BlockLines.{block_text, folded_lines}
@@ -88,13 +88,13 @@ opens_below k g n a remark gap z = by k remark
 
 -- ---- what stands at a column
 
+plain_begins : (w r : List ℕ) → IsPlainText w → BeginsContent (w ++ r)
+plain_begins [] r z = absurd z
+plain_begins (c ∷ w) r z = let k = plain_char c (first_char c z.first).0 in content_first c (w ++ r) (rw (k.blank) (first_space c z.first)) k.break k.hash k.nul
+
 scalar_begins : (s : Scalar) (r : List ℕ) → IsScalar s → BeginsContent (spell_scalar s r)
 unfolding is_blank is_break is_nul
-scalar_begins (Scalar.plain t) r h =
-    let z = spelt_plain t h in
-    let one = (first_char z.head z.first).0 in
-    let c = plain_char z.head one in
-    rw (z.whole) (content_first z.head (z.tail ++ r) (rw (c.blank) (first_space z.head z.first)) c.break c.hash c.nul)
+scalar_begins (Scalar.plain t) r h = plain_begins (spelling t) r (spelt_plain t h)
 scalar_begins (Scalar.quoted text) r h = content_first 34 _ refl refl refl refl
 scalar_begins (Scalar.single_quoted text) r h = content_first 39 _ refl refl refl refl
 
