@@ -62,8 +62,7 @@ some_lines column [] h = absurd h
 some_lines column (l ∷ ls) h = λ e. cc
 
 pub high : (i column : ℕ) → IsInside i column → i ≤ column
-high zero column h = omega arith
-high (suc c) column h = omega (arith, h)
+high i column h = grind (arith, nat_tests)
 
 -- the lines have their column, whatever lines stand after them
 pub in_column_with : (i column : ℕ) (ls : List Line) (more : List (List ℕ)) → IsInside i column → BeginsWithText ls → AreLines column ls → column_by None (collection_of i) (indented_lines column ls ++ more) ≡ column
@@ -76,13 +75,11 @@ is_further c = not ((c == 0) || (c == 9) || (c == 10) || (c == 13) || (c == 32))
 -- ---- texts
 
 pub spaces_tab : (n c : ℕ) (a : List ℕ) → is_further c ≡ true → begins_with tab (spaces n (c ∷ a)) ≡ false
-spaces_tab zero c a h = grind (arith, nat_tests)
-spaces_tab (suc n) c a h = refl
+spaces_tab n c a h = grind (arith, nat_tests)
 
 pub not_at_end : (n : ℕ) (c : ℕ) (a : List ℕ) → is_further c ≡ true → is_at_end (spaces n (c ∷ a)) ≡ false
 unfolding classes.is_nul
-not_at_end zero c a h = grind (arith, nat_tests)
-not_at_end (suc n) c a h = refl
+not_at_end n c a h = grind (arith, nat_tests)
 
 pub outside : (column n : ℕ) (c : ℕ) (a : List ℕ) → n < column → is_further c ≡ true → is_outside column (spaces n (c ∷ a)) ≡ true
 unfolding classes.is_break classes.is_nul
@@ -107,15 +104,7 @@ inner_spaces (suc n) w h = inner_spaces n w h
 
 no_marker : (w : List ℕ) → IsLineText w → begins_as_marker w ≡ false → is_document_marker (w ++ []) ≡ false
 unfolding are_marks is_line_character is_blank_or_end is_blank classes.is_break is_nul
-no_marker [] h e = refl
-no_marker (a ∷ []) h e = refl
-no_marker (a ∷ b ∷ []) h e = refl
-no_marker (a ∷ b ∷ c ∷ []) h e = grind (arith, nat_tests)
-no_marker (a ∷ b ∷ c ∷ d ∷ r) h e =
-    let p = and_parts (is_line_character a) (list_all is_line_character (b ∷ c ∷ d ∷ r)) h in
-    let q = and_parts (is_line_character b) (list_all is_line_character (c ∷ d ∷ r)) p.1 in
-    let s = and_parts (is_line_character c) (list_all is_line_character (d ∷ r)) q.1 in
-    grind (arith, nat_tests)
+no_marker w h e = grind (arith, nat_tests, and_parts, is_line_character, list_all)
 
 a_blank : (column n : ℕ) → n ≤ column → IsBlockLine column (blank n)
 a_blank column n low = record { row = row_spaces column n low; inner = inner_spaces n [] refl; none = spaces_none n [] refl }

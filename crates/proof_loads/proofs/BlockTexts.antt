@@ -25,8 +25,7 @@ spaces_are zero w r = refl
 spaces_are (suc n) w r = ap (λ x. 32 ∷ x) (spaces_are n w r)
 
 pub line_more : (column : ℕ) (l : Line) (r : List ℕ) → spell_line column l [] ++ r ≡ spell_line column l r
-line_more column (full text) r = spaces_are column (text ++ []) r ∙ ap (λ x. spaces column (x ++ r)) (append-nil text)
-line_more column (blank n) r = spaces_are n [] r
+line_more column l r = grind (arith, nat_tests, spaces_are, spaces, append-nil)
 
 -- each line, and then an LF
 pub spelt_feeds : (column : ℕ) (ls : List Line) (r : List ℕ) → spell_lines column ls (10 ∷ r) ≡ 10 ∷ written.spell (lines_at column ls) r
@@ -83,8 +82,7 @@ drop_spaces zero r = refl
 drop_spaces (suc n) r = drop_spaces n r
 
 no_marker : (n : ℕ) (r : List ℕ) → (n ≡ 0 → is_document_marker r ≡ false) → ((n == 0) && is_document_marker (spaces n r)) ≡ false
-no_marker zero r free = free refl
-no_marker (suc n) r free = rw (ne_eqb (suc n) 0 (λ e. omega (arith, e))) refl
+no_marker n r h = grind (arith, nat_tests, suc, ne_eqb)
 
 -- ---- rows
 
@@ -97,29 +95,17 @@ module _ (column : ℕ) where
   -- spaces left of the column
   pub row_spaces : (n : ℕ) → n ≤ column → row_of column (spaces n []) ≡ Some empty_row
   unfolding row_of is_empty_line
-  row_spaces n h =
-      let long : length (spaces n []) ≡ n + 0 = spaces_long n [] in
-      let low : nat_le (length (spaces n [])) column ≡ true = grind (arith, nat_tests) in
-      rw (are_spaces n [], low) refl
+  row_spaces n h = grind (arith, nat_tests, length, spaces, spaces_long, nat_le, column, are_spaces)
 
   -- a full line isn't empty
   full_line : (c : ℕ) (w : List ℕ) → is_empty_line column (spaces column ((c ∷ w) ++ [])) ≡ false
   unfolding is_empty_line
-  full_line c w =
-      let long : length (spaces column ((c ∷ w) ++ [])) ≡ column + length ((c ∷ w) ++ []) = spaces_long column ((c ∷ w) ++ []) in
-      let more : nat_le (length (spaces column ((c ∷ w) ++ []))) column ≡ false = grind (arith, nat_tests) in
-      rw more (and_false (is_spaces (spaces column ((c ∷ w) ++ []))))
+  full_line c w = grind (arith, nat_tests, length, spaces, column, spaces_long, nat_le, and_false, is_spaces)
 
   -- its row is its text, but for a document marker at column 0
   pub text_row : (c : ℕ) (w : List ℕ) → (column ≡ 0 → is_document_marker ((c ∷ w) ++ []) ≡ false) → row_of column (spell_line column (full (c ∷ w)) []) ≡ Some (content_row (c ∷ w))
   unfolding row_of is_content_line
-  text_row c w free =
-      let l = spaces column ((c ∷ w) ++ []) in
-      let leads : leading_spaces l ≡ column + leading_spaces ((c ∷ w) ++ []) = spaces_lead column ((c ∷ w) ++ []) in
-      let long : length l ≡ column + length ((c ∷ w) ++ []) = spaces_long column ((c ∷ w) ++ []) in
-      let indented : nat_le column (leading_spaces l) ≡ true = grind (arith, nat_tests) in
-      let reaches : nat_le (suc column) (length l) ≡ true = grind (arith, nat_tests) in
-      rw (full_line c w, indented, reaches, no_marker column ((c ∷ w) ++ []) free) (ap (λ x. Some (content_row x)) (drop_spaces column ((c ∷ w) ++ []) ∙ append-nil (c ∷ w)))
+  text_row c w h = grind (arith, nat_tests, spaces, column, leading_spaces, spaces_lead, length, spaces_long, nat_le, suc, full_line, no_marker, content_row, drop_spaces, append-nil)
 
 -- ---- their value
 
@@ -157,10 +143,7 @@ module _ (s : BlockStyle) where
   -- at the end of the text, in a line of spaces
   pub spaces_value : (strips : Bool) (column : ℕ) (rs : List Row) (n width : ℕ) → has_content rs ≡ true → width < max column 1
       → value_before_end (header_by s strips) column (rs ++ map row_by (empties n)) (spaces width []) empty_row ≡ value_before_text (header_by s strips) rs
-  spaces_value strips column rs n width h low =
-      let long : length (spaces width []) ≡ width + 0 = spaces_long width [] in
-      let short : nat_le (max column 1) (length (spaces width [])) ≡ false = grind (arith, nat_tests) in
-      rw (content_more rs (map row_by (empties n)) h, h, short) (grind (arith, same_text))
+  spaces_value strips column rs n width h e = grind (arith, nat_tests, length, spaces, spaces_long, nat_le, max, content_more, map, row_by, empties, same_text)
 
   -- at the end of the text, in the last line
   pub last_value : (strips : Bool) (column : ℕ) (rs : List Row) (r : Row) (l : List ℕ) → has_content (r ∷ []) ≡ true → value_before_end (header_by s strips) column rs l r ≡ value_before_text (header_by s strips) (rs ++ r ∷ [])

@@ -111,8 +111,7 @@ make_text true l ls text e some h = lines_make l ls ∙ ap ended e ∙ lines_of_
 make_text false l ls text e some h = append-nil (content l ++ after ls) ∙ append_cancel_right (content l ++ after ls) text (10 ∷ []) (lines_make l ls ∙ ap ended e ∙ lines_of_ended text ∙ rw (some, h) refl)
 
 value_is : (clips : Bool) (l : Line) (ls : List Line) → EndsInText (l ∷ ls) → value_before_text (header_by BlockStyle.literal (not clips)) (rows (l ∷ ls)) ≡ (content l ++ after ls) ++ last_feed clips
-value_is true l ls h = rw (content_last (l ∷ ls) h) (ap (λ x. x ++ 10 ∷ []) (text_is l ls h))
-value_is false l ls h = rw (content_last (l ∷ ls) h) (ap (λ x. x ++ []) (text_is l ls h))
+value_is clips l ls h = grind (arith, nat_tests, content_last, text_is)
 
 -- no TAB begins the first line
 no_tab : (column : ℕ) (l : Line) (ls : List Line) (feed text : List ℕ) → AreLines column (l ∷ ls) → (content l ++ after ls) ++ feed ≡ text → (column ≡ 0 → literal_defs.starts_with_tab text ≡ false)
@@ -134,14 +133,7 @@ record LiteralText (text : List ℕ) : Type 0 where
 
 literal_text : (text : List ℕ) → is_literal_text text ≡ true → LiteralText text
 unfolding is_literal_text
-literal_text [] h = cc
-literal_text (c ∷ cs) h =
-    let text = c ∷ cs in
-    let q = and_parts (list_any is_line_feed text && list_all is_literal_character text && not (list_all is_line_feed text) && not (ends_with nat_eq text (codes "\n\n"))) (not (first_full_line_is_indented (lines_of text))) h in
-    let r = and_parts (list_any is_line_feed text && list_all is_literal_character text && not (list_all is_line_feed text)) (not (ends_with nat_eq text (codes "\n\n"))) q.0 in
-    let s = and_parts (list_any is_line_feed text && list_all is_literal_character text) (not (list_all is_line_feed text)) r.0 in
-    let t = and_parts (list_any is_line_feed text) (list_all is_literal_character text) s.0 in
-    record { some = refl; chars = t.1; last = last_full c cs (grind (arith, and_false)) (not-true _ r.1); first = not-true _ q.1 }
+literal_text text h = grind (arith, nat_tests, and_parts, list_any, is_line_feed, list_all, is_literal_character, not, ends_with, nat_eq, codes, first_full_line_is_indented, lines_of, last_full, and_false, not-true)
 
 -- at column 0 it begins with no TAB, and no line is read as a document marker
 abbrev MayStandAt : ℕ → List ℕ → Type 0

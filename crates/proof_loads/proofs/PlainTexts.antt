@@ -1,6 +1,5 @@
 -- The scalars that are spelt without quotes, as texts that a plain scalar may be.
-use Rattle.proof_loads.proofs.TokensCommon.{[], alias, AllDigits, and_false, and_from, and_parts, arith, bad_value, Bool, boolean, codes, decimal, decimal_is_IsNumeral, digit_from_value, ends_with, ends_with-one, ends_with-step, false, has_indicator_first, hash, integer, is_decimal, is_quoted, is_real_character, is_real_text, is_unfit_for_plain, IsNumeral, IsPlain, List, list_all, list_any, ltb-true, nat_eq, nat_le, nat_tests, ne_eqb, negsuc, not, null, or_parts, pos, real, real_text-characters, refl, spelling, suc, Tree, true, typing, unquoted, ℕ, ◌&&◌, ◌<◌, ◌==◌, ◌^◌, ◌||◌, ◌∷◌, ◌≡◌, ◌≤◌}
-use Rattle.defs_tree.specs.Tree.{string, array}
+use Rattle.proof_loads.proofs.TokensCommon.{[], AllDigits, and_false, and_from, and_parts, arith, Bool, codes, decimal, decimal_is_IsNumeral, digit_from_value, ends_with, ends_with-one, ends_with-step, false, has_indicator_first, is_decimal, is_quoted, is_real_character, is_real_text, is_unfit_for_plain, IsNumeral, IsPlain, List, list_all, list_any, ltb-true, nat_eq, nat_le, nat_tests, ne_eqb, not, or_parts, real, real_text-characters, refl, spelling, suc, Tree, true, typing, unquoted, ℕ, ◌&&◌, ◌==◌, ◌||◌, ◌∷◌, ◌≡◌, ◌≤◌}
 use Rattle.defs_tree.specs.Quoting.{begins_with}
 use Rattle.defs_tree.proofs.GrammarLaws.{list_all-more}
 use Rattle.defs_tree.proofs.DecimalReading.{is_decimal-read}
@@ -158,16 +157,4 @@ real_second c (d ∷ w) h e =
 
 pub spelt_plain : (t : Tree) → IsPlain t → IsPlainText (spelling t)
 unfolding typing is_decimal
-spelt_plain (real []) h = cc
-spelt_plain (real (c ∷ w)) h =
-    let all = real_text-characters (c ∷ w) h in
-    word_text (c ∷ w) (record { chars = real_words (c ∷ w) all; begins = real_second c w h (and_parts (is_real_character c) (list_all is_real_character w) all).1 })
-spelt_plain (integer (pos n)) h = let small : n < 2 ^ 63 = ltb-true n (2 ^ 63) h in numeral_plain (decimal n) (decimal_is_IsNumeral n (omega arith)).0
-spelt_plain (integer (negsuc n)) h = let small : n < 2 ^ 63 = ltb-true n (2 ^ 63) h in negative_plain (decimal (suc n)) (decimal_is_IsNumeral (suc n) (omega arith)).0
-spelt_plain (string s) h = rw h (string_plain s h)
-spelt_plain (boolean b) h = grind arith
-spelt_plain (array ts) h = absurd h
-spelt_plain (hash ps) h = absurd h
-spelt_plain (alias n) h = absurd h
-spelt_plain null h = record { first = refl; second = refl; chars = refl; close = refl }
-spelt_plain bad_value h = absurd h
+spelt_plain t h = grind (arith, nat_tests, real, real_text-characters, word_text, real_words, real_second, and_parts, is_real_character, list_all, ltb-true, numeral_plain, decimal, decimal_is_IsNumeral, negative_plain, suc, string_plain)

@@ -1,5 +1,5 @@
 -- Runs of `load` with `multi` over answers, whatever they are.
-use Rattle.proof_loads.proofs.Common.{Answer, Bool, Ending, Ev, List, Loaded, Position, Standing, [], ap, append_assoc, arith, before_stream, between, ends, event, false, fault, faulted, given, has_end, inside, is_stream_end, length, length-append, load_from, no_document, push, refl, subst, sym, true, unfinished, well, ◌++◌, ◌+◌, ◌||◌, ◌∙◌, ◌∷◌, ◌≡◌}
+use Rattle.proof_loads.proofs.Common.{[], Answer, ap, arith, before_stream, between, Bool, Ending, Ev, event, false, fault, faulted, given, has_end, inside, is_stream_end, length, length-append, List, load_from, Loaded, no_document, Position, push, refl, Standing, subst, sym, true, unfinished, well, ◌++◌, ◌||◌, ◌∙◌, ◌∷◌, ◌≡◌}
 
 pub or_right : (b : Bool) {c : Bool} → c ≡ true → b || c ≡ true
 or_right true h = refl
@@ -10,62 +10,44 @@ abbrev pub IsOver : {F : Type 0} → Ending F → Type 0
 IsOver unfinished = ⊥
 IsOver _ = Unit {0}
 
--- What an event does, whatever comes after it: it is pushed and the call goes on, or the call ends.
-data Turn (F : Type 0) (s : Standing) (e : Ev) (p : Position) : Type 0 where
-  goes : (t : Standing) → ((bs : List (Answer F)) → load_from s true (event e p ∷ bs) ≡ push e p (load_from t true bs)) → Turn F s e p
-  stops : (l : Loaded F) → IsOver l.ending → l.taken ≡ 1 → (left : List (Ev × Position)) → l.pushed ++ left ≡ (e, p) ∷ []
-      → ((bs : List (Answer F)) → load_from s true (event e p ∷ bs) ≡ l) → Turn F s e p
-
-turn : (F : Type 0) (s : Standing) (e : Ev) (p : Position) → Turn F s e p
-turn F before_stream e p = goes between (λ bs. refl)
-turn F between Ev.document_start p = goes inside (λ bs. refl)
-turn F between Ev.stream_end p = stops (push Ev.stream_end p (ends well 0)) tt refl [] refl (λ bs. refl)
-turn F between e p = stops (ends (no_document p) 1) tt refl ((e, p) ∷ []) refl (λ bs. refl)
-turn F inside Ev.document_end p = goes between (λ bs. refl)
-turn F inside e p = goes inside (λ bs. refl)
-
 -- After its end a call takes nothing.
-pub over_is_over : (F : Type 0) (s : Standing) (xs ys : List (Answer F)) → IsOver (load_from s true xs).ending → load_from s true (xs ++ ys) ≡ load_from s true xs
+over_is_over : (F : Type 0) (s : Standing) (xs ys : List (Answer F)) → IsOver (load_from s true xs).ending → load_from s true (xs ++ ys) ≡ load_from s true xs
 over_is_over F s [] ys h = absurd h
 over_is_over F s (fault f ∷ xs) ys h = refl
-over_is_over F s (event e p ∷ xs) ys h = by (turn F s e p) (λ t. over_is_over F t xs ys)
-  where
-    by : Turn F s e p → ((t : Standing) → IsOver (load_from t true xs).ending → load_from t true (xs ++ ys) ≡ load_from t true xs) → load_from s true (event e p ∷ (xs ++ ys)) ≡ load_from s true (event e p ∷ xs)
-    by a rest = grind (arith, p, h)
+over_is_over F before_stream (event e p ∷ xs) ys h = ap (push e p) (over_is_over F between xs ys h)
+over_is_over F between (event Ev.stream_end p ∷ xs) ys h = refl
+over_is_over F between (event Ev.document_start p ∷ xs) ys h = ap (push Ev.document_start p) (over_is_over F inside xs ys h)
+over_is_over F between (event e p ∷ xs) ys h = refl
+over_is_over F inside (event Ev.document_end p ∷ xs) ys h = ap (push Ev.document_end p) (over_is_over F between xs ys h)
+over_is_over F inside (event e p ∷ xs) ys h = ap (push e p) (over_is_over F inside xs ys h)
 
 -- Of these events some are pushed, and then some are left.
 pub record Pushes {F : Type 0} (l : Loaded F) (es : List (Ev × Position)) : Type 0 where
   pub left : List (Ev × Position)
   pub whole : es ≡ l.pushed ++ left
 
+one_more : (F : Type 0) (e : Ev) (p : Position) (l : Loaded F) (es : List (Ev × Position)) → Pushes l es → Pushes (push e p l) ((e, p) ∷ es)
+one_more F e p l es z = record { left = z.left; whole = ap (λ xs. (e, p) ∷ xs) z.whole }
+
 pub pushes : (F : Type 0) (s : Standing) (es : List (Ev × Position)) → Pushes (load_from s true (given F es)) es
 pushes F s [] = record { left = []; whole = refl }
-pushes F s (e ∷ es) = by (turn F s e.0 e.1) (λ t. pushes F t es)
-  where
-    by : Turn F s e.0 e.1 → ((t : Standing) → Pushes (load_from t true (given F es)) es) → Pushes (load_from s true (given F (e ∷ es))) (e ∷ es)
-    by (goes t same) rest =
-        let r = rest t in
-        subst (λ l. Pushes l (e ∷ es)) (sym (same (given F es))) (record { left = r.left; whole = ap (λ xs. e ∷ xs) r.whole })
-    by (stops l over one left pushed same) rest =
-        subst (λ l. Pushes l (e ∷ es)) (sym (same (given F es))) (record { left = left ++ es; whole = sym (ap (λ xs. xs ++ es) pushed) ∙ append_assoc l.pushed left es })
+pushes F before_stream ((e, p) ∷ es) = one_more F e p _ es (pushes F between es)
+pushes F between ((Ev.stream_end, p) ∷ es) = record { left = es; whole = refl }
+pushes F between ((Ev.document_start, p) ∷ es) = one_more F Ev.document_start p _ es (pushes F inside es)
+pushes F between ((e, p) ∷ es) = record { left = (e, p) ∷ es; whole = refl }
+pushes F inside ((Ev.document_end, p) ∷ es) = one_more F Ev.document_end p _ es (pushes F between es)
+pushes F inside ((e, p) ∷ es) = one_more F e p _ es (pushes F inside es)
 
 -- A call that took all answers up to a fault, or more, has not met an event in no document.
 pub fault_is_reached : (F : Type 0) (s : Standing) (es : List (Ev × Position)) (f : F) (rest : List (Answer F)) (p : Position) → (load_from s true (given F es ++ fault f ∷ rest)).ending ≡ no_document p
     → (load_from s true (given F es ++ fault f ∷ rest)).taken ≡ length (given F es ++ fault f ∷ rest) → ⊥
 fault_is_reached F s [] f rest p h n = cc
-fault_is_reached F s (e ∷ es) f rest p h n = by (turn F s e.0 e.1) (λ t. fault_is_reached F t es f rest p)
-  where
-    more : List (Answer F)
-    more = given F es ++ fault f ∷ rest
-
-    by : Turn F s e.0 e.1 → ((t : Standing) → (load_from t true more).ending ≡ no_document p → (load_from t true more).taken ≡ length more → ⊥) → ⊥
-    by (goes t same) before =
-        let took : (load_from t true more).taken + 1 ≡ length (event e.0 e.1 ∷ more) = sym (ap (λ l. l.taken) (same more)) ∙ n in
-        before t (sym (ap (λ l. l.ending) (same more)) ∙ h) (omega (arith, took))
-    by (stops l over one left pushed same) before =
-        let took : 1 ≡ length (event e.0 e.1 ∷ more) = sym one ∙ sym (ap (λ l. l.taken) (same more)) ∙ n in
-        let long = length-append (given F es) (fault f ∷ rest) in
-        omega (arith, took, long)
+fault_is_reached F before_stream (e ∷ es) f rest p h n = fault_is_reached F between es f rest p h (omega (arith, n))
+fault_is_reached F between ((Ev.stream_end, q) ∷ es) f rest p h n = cc
+fault_is_reached F between ((Ev.document_start, q) ∷ es) f rest p h n = fault_is_reached F inside es f rest p h (omega (arith, n))
+fault_is_reached F between ((e, q) ∷ es) f rest p h n = let long = length-append (given F es) (fault f ∷ rest) in omega (arith, n, long)
+fault_is_reached F inside ((Ev.document_end, q) ∷ es) f rest p h n = fault_is_reached F between es f rest p h (omega (arith, n))
+fault_is_reached F inside ((e, q) ∷ es) f rest p h n = fault_is_reached F inside es f rest p h (omega (arith, n))
 
 -- A call that has ended well took the stream's end.
 pub end_is_reached : (F : Type 0) (s : Standing) (es : List (Ev × Position)) → (load_from s true (given F es)).ending ≡ well → has_end es ≡ true

@@ -1,5 +1,5 @@
 -- Literal and folded blocks have rows: the pieces that they are, before what stands after them.
-use Rattle.proof_loads.proofs.TokensCommon.{[], and_false, another, ap, append-nil, append_assoc, are_empty, AreEmptyLines, arith, begins_with, block_may_end, block_read, block_scalar, BlockStyle, Bool, collection_of, column_by, comment_line, content_row, empty_line, false, feed, free, full, GapLine, gives_block_scalar, has_content, indented_lines, indicator_of, innermost, is_at_end, is_blank, is_break, is_empty, is_empty_line, is_further_text, is_nul, is_separation, is_waiting, IsGap, Line, line_past, List, map, map-append, nat_tests, None, not, Option, Position, position_after, refl, Row, row_of, rows_of, Some, spaces, spell_append, spell_ending, spell_gap, spell_gap_line, spell_line, spell_lines, split, split_spell, starts_with_tab, Style, subst, suc, sym, texts, texts_append, Tok, true, value_before_text, zero, ℕ, ◌&&◌, ◌++◌, ◌<◌, ◌∙◌, ◌∷◌, ◌≡◌}
+use Rattle.proof_loads.proofs.TokensCommon.{[], and_false, another, ap, append-nil, append_assoc, are_empty, AreEmptyLines, arith, begins_with, block_may_end, block_read, block_scalar, BlockStyle, Bool, collection_of, column_by, comment_line, content_row, empty_line, false, feed, free, full, GapLine, gives_block_scalar, has_content, indented_lines, indicator_of, innermost, is_at_end, is_blank, is_break, is_empty, is_empty_line, is_further_text, is_nul, is_separation, is_waiting, IsGap, Line, line_past, List, map, map-append, nat_tests, None, not, Option, Position, position_after, refl, Row, row_of, rows_of, Some, spaces, spell_append, spell_ending, spell_gap, spell_gap_line, spell_line, spell_lines, split, split_spell, starts_with_tab, Style, subst, suc, sym, texts, texts_append, Tok, true, value_before_text, ℕ, ◌&&◌, ◌++◌, ◌<◌, ◌∙◌, ◌∷◌, ◌≡◌}
 use Rattle.defs_text.specs.Classes.{tab}
 use Rattle.proof_lexers.proofs.Blocks.Written as written
 use Rattle.proof_lexers.proofs.Blocks.Written.{spell}
@@ -64,8 +64,7 @@ one_more column bs text tokens z = record { count = suc z.count; rest = z.rest; 
 -- a comment is further text, but at the root
 remark_follows : (column : ℕ) → (column ≡ 0 → ⊥) → (text : List ℕ) → Next column (35 ∷ text)
 unfolding is_break is_nul
-remark_follows zero deep text = absurd (deep refl)
-remark_follows (suc k) deep text = at_text (35 ∷ text) refl refl refl
+remark_follows column h text = grind (arith, nat_tests, at_text)
 
 module _ (column : ℕ) (bs : List ℕ) (tokens : List Tok) where
   gap_tail : (g : List GapLine) (d : ℕ) (r : List ℕ) → IsGap g → (column ≡ 0 → AreEmptyLines g) → Next column (spaces d r)
@@ -97,8 +96,7 @@ further_at column n r low (content_first c x blank break hash nul) =
     at_text (spaces n (c ∷ x)) (scans.not_at_end n c x z) (left column n c x low z) (scans.spaces_tab n c x z)
   where
     left : (column n c : ℕ) (x : List ℕ) → n < column → scans.is_further c ≡ true → is_further_text column (spaces n (c ∷ x)) ≡ true
-    left zero n c x low z = absurd (omega (arith, low))
-    left (suc k) n c x low z = scans.outside (suc k) n c x low z
+    left column n c x h e = grind (arith, nat_tests, suc, scans.outside)
 
 pub nested_follows : (c column : ℕ) (bs : List ℕ) (t : Trail) → c < column → IsTrail t → IsLow t (c ∷ bs) → Follows column t
 unfolding is_blank is_break is_nul
@@ -149,9 +147,7 @@ module _ (s : BlockStyle) (i column : ℕ) (strips : Bool) (text : List ℕ) (ls
     is_split = split_spell (header ∷ lines_at column all_lines) [] (header_inner s strips, tt, are_lines column all_lines [] each) refl
 
     spelt_all : (more_text : List ℕ) → block_text s strips (spell_lines column ls (10 ∷ spell (lines_at column (empties n)) more_text)) ≡ piece ++ more_text
-    spelt_all more_text =
-        ap (λ x. block_text s strips x) (spelt_feeds column ls (spell (lines_at column (empties n)) more_text) ∙ ap (λ x. 10 ∷ x) (sym (spell_append (lines_at column ls) (lines_at column (empties n)) more_text) ∙ ap (λ l. spell l more_text) (sym (map-append (line_of column) ls (empties n)))))
-        ∙ sym (spell_more (header ∷ lines_at column all_lines) [] more_text)
+    spelt_all more_text = grind (arith, nat_tests, block_text, strips, spelt_feeds, column, ls, spell, lines_at, empties, spell_append, map-append, line_of, spell_more, header, all_lines)
 
     piece_none : HasNone piece
     piece_none = header_none s strips (spell (lines_at column all_lines) []) (lines_none column all_lines [] each refl)

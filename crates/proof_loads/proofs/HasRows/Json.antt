@@ -1,5 +1,5 @@
 -- JSON values have rows.
-use Rattle.proof_loads.proofs.TokensCommon.{AreElements, AreMembers, Blank, Bool, Elements, Entry, Had, IsJson, Json, List, Members, Piece, Some, Style, Tok, [], and_parts, another, are_pieces, arith, array, begins_flow, begins_with, codes, colon_may_precede, element, element_levels, element_tokens, empty_array, empty_object, false, false_word, filled, first_entry, flow_collection, flow_entry, flow_mapping_end, flow_mapping_start, flow_sequence_end, flow_sequence_start, fresh, inl, innermost, innermost_column, is_at_gap, is_break, is_empty, is_flow, is_keyed, json_tokens, last_element, last_member, length, length-map, level_of, levels, list_all, map, mapping, member, member_levels, member_tokens, nat_lt, nat_tests, null_word, object, past_end, plain_scalar, position_after, quoted_scalar, refl, settled, spell, spell_elements, spell_members, spell_number, spell_string, string, string_token, subst, true, true_word, ℕ, ◌++◌, ◌+◌, ◌<◌, ◌∷◌, ◌≡◌, ◌≤◌}
+use Rattle.proof_loads.proofs.TokensCommon.{[], and_parts, another, are_pieces, AreElements, AreMembers, arith, array, begins_flow, begins_with, Blank, Bool, codes, colon_may_precede, element, element_levels, element_tokens, Elements, empty_array, empty_object, Entry, false, false_word, filled, first_entry, flow_collection, flow_entry, flow_mapping_end, flow_mapping_start, flow_sequence_end, flow_sequence_start, fresh, Had, inl, innermost, innermost_column, is_at_gap, is_break, is_empty, is_flow, is_keyed, IsJson, Json, json_tokens, last_element, last_member, length, length-map, level_of, levels, List, list_all, map, mapping, member, member_levels, member_tokens, Members, nat_lt, nat_tests, null_word, object, past_end, Piece, plain_scalar, position_after, quoted_scalar, refl, settled, Some, spell, spell_elements, spell_members, spell_number, spell_string, string, string_token, Style, subst, Tok, true, true_word, ℕ, ◌++◌, ◌+◌, ◌<◌, ◌∷◌, ◌≡◌, ◌≤◌}
 use Rattle.defs_tree.proofs.GrammarLaws.{list_all-more}
 use Rattle.defs_layout.specs.Json.{number}
 use Rattle.defs_layout.specs.JsonGap.{spell_gap}
@@ -21,8 +21,7 @@ words_flow w h = list_all-more is_word is_in_flow (λ c e. grind (arith, nat_tes
 -- ---- what a value begins with
 
 word_solid : (w r : List ℕ) → IsWord w → IsSolid (w ++ r)
-word_solid [] r word = cc (word.begins)
-word_solid (c ∷ w) r word = let q = and_parts (is_word c) (are_words w) word.chars in record { no_tab = grind (arith, nat_tests, q); no_comment = grind (arith, nat_tests, q) }
+word_solid w r h = grind (arith, nat_tests, and_parts, is_word, are_words)
 
 value_solid : (v : Json) (r : List ℕ) → IsJson v → IsSolid (spell v r)
 value_solid (number n) r is = rw (number_then n r) (word_solid (spell_number n []) r (number_word n is))
@@ -63,8 +62,7 @@ module _ (bs : List ℕ) where
   few es h = rw length-map (grind (arith, h))
 
   begun : (b : Bool) (pl : Place) (r : List ℕ) (tokens : List Tok) → From another bs (entry_of b fresh ∷ entries_after pl []) r tokens → From another bs (entries_after pl (entry_of b fresh ∷ [])) r tokens
-  begun b outside r tokens rest = rest
-  begun b (within c es) r tokens rest = rest
+  begun b pl r tokens h = grind (arith, nat_tests)
 
   -- an opening bracket
   pub opens : (b : Bool) (pl : Place) (text r : List ℕ) (tokens : List Tok) → Parts bs text (opening_bracket b ∷ r) → begins_with 35 r ≡ false → length (entries_before pl) < 255

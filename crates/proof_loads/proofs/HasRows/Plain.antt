@@ -75,12 +75,7 @@ pair : (c d : ℕ) (r : List ℕ) → not ((c == 45) && (d == 45)) ≡ true → 
 pair c d a h k = grind (arith, three)
 
 unmarked : (c : ℕ) (w next : List ℕ) → is_second c w ≡ true → is_document_marker (c ∷ (w ++ next)) ≡ false
-unmarked c [] [] h = refl
-unmarked c [] (d ∷ next) h = let q = and_parts (not (c == 45)) (not (c == 46)) h in pair c d next (rw (not-true (c == 45) q.0) refl) (rw (not-true (c == 46) q.1) refl)
-unmarked c (d ∷ w) next h =
-    let q = and_parts (not ((c == 45) && (d == 45)) && not ((c == 46) && (d == 46))) (not ((c == 45) && (d == 32))) h in
-    let z = and_parts (not ((c == 45) && (d == 45))) (not ((c == 46) && (d == 46))) q.0 in
-    pair c d (w ++ next) z.0 z.1
+unmarked c w next h = grind (arith, nat_tests, and_parts, not, pair, not-true)
 
 no_gap : (d : ℕ) → is_plain_char d ≡ true → (d == 32) ≡ false → is_blank_or_end d ≡ false
 unfolding is_blank_or_end

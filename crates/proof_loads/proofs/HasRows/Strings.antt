@@ -1,5 +1,5 @@
 -- Strings of JSON texts as bodies in double quotes, by the definition of their value.
-use Rattle.proof_loads.proofs.TokensCommon.{[], and_parts, ap, append_assoc, are_pieces, arith, body_value, character_of, content, digit_value, double, double_quoted_element, double_quoted_value, escape, false, four_digits, further_lines_stand, has_no_break, is_break, is_character_code, is_digit, is_hex_digit, is_nul, is_piece, is_surrogate, is_unescaped, itself, letter_of, List, ltb-true, nat_tests, not, numeric_escape, Option, Piece, quote_of, Quotes, refl, short, Short, single, single_quoted_element, single_quoted_value, Some, spell_pieces, spell_string, Spelled, style_of, sym, Tok, true, unescaped, unicode, ℕ, ◌&&◌, ◌*◌, ◌++◌, ◌+◌, ◌<◌, ◌==◌, ◌∙◌, ◌∷◌, ◌≡◌}
+use Rattle.proof_loads.proofs.TokensCommon.{[], and_parts, ap, append_assoc, are_pieces, arith, body_value, character_of, content, digit_value, double, double_quoted_element, double_quoted_value, escape, false, four_digits, further_lines_stand, has_no_break, is_break, is_character_code, is_digit, is_hex_digit, is_nul, is_piece, is_surrogate, is_unescaped, itself, letter_of, List, ltb-true, nat_tests, not, numeric_escape, Option, Piece, quote_of, Quotes, refl, Short, short, single, single_quoted_element, single_quoted_value, Some, spell_pieces, spell_string, Spelled, style_of, sym, Tok, true, unescaped, unicode, ℕ, ◌*◌, ◌++◌, ◌+◌, ◌<◌, ◌==◌, ◌∙◌, ◌∷◌, ◌≡◌}
 use Rattle.proof_loads.proofs.HasRows.OneLine.{IsOneLine, nothing, with_content, plain_step}
 use Rattle.proof_loads.proofs.HasRows.OneLine
 use Rattle.proof_loads.proofs.Nul.{HasNone, quoted_none}
@@ -32,17 +32,7 @@ pub record Code (a b c d v : ℕ) : Type 0 where
   pub value : (((0 * 16 + digit_value a) * 16 + digit_value b) * 16 + digit_value c) * 16 + digit_value d ≡ v
 
 code : (a b c d : ℕ) → is_piece (unicode a b c d) ≡ true → Code a b c d (four_digits a b c d)
-code a b c d h =
-    let valid = and_parts (is_hex_digit a && is_hex_digit b && is_hex_digit c && is_hex_digit d) (not (is_surrogate (four_digits a b c d))) h in
-    let fourth = and_parts (is_hex_digit a && is_hex_digit b && is_hex_digit c) (is_hex_digit d) valid.0 in
-    let third = and_parts (is_hex_digit a && is_hex_digit b) (is_hex_digit c) fourth.0 in
-    let second = and_parts (is_hex_digit a) (is_hex_digit b) third.0 in
-    let e = small_digit a second.0 in
-    let f = small_digit b second.1 in
-    let g = small_digit c third.1 in
-    let k = small_digit d fourth.1 in
-    let same : (((0 * 16 + (digit_value a)) * 16 + (digit_value b)) * 16 + (digit_value c)) * 16 + (digit_value d) ≡ (digit_value a) * 4096 + (digit_value b) * 256 + (digit_value c) * 16 + (digit_value d) = omega arith in
-    record { first = second.0; second = second.1; third = third.1; fourth = fourth.1; valid = is_code (four_digits a b c d) (omega arith) valid.1; value = same }
+code a b c d h = grind (arith, nat_tests, and_parts, is_hex_digit, not, is_surrogate, four_digits, small_digit, digit_value, is_code)
 
 pub record Unescaped (c : ℕ) : Type 0 where
   pub nul : is_nul c ≡ false
@@ -68,8 +58,7 @@ abbrev pub Goes : Quotes → List ℕ → ℕ → Type 0
 Goes quotes w c = (body text : List ℕ) → IsBody quotes body text → IsBody quotes (w ++ body) (c ∷ text)
 
 pub nothing_is : (quotes : Quotes) → IsBody quotes [] []
-nothing_is single = record { one_line = record { all = []; are = refl; in_line = nothing }; no_break = refl }
-nothing_is double = record { one_line = record { all = []; are = refl; in_line = nothing }; no_break = refl }
+nothing_is quotes = grind (arith, nat_tests, nothing)
 
 pub itself_goes : (c : ℕ) → Unescaped c → Goes double (c ∷ []) c
 unfolding double_quoted_element
@@ -82,13 +71,7 @@ named_goes l x no_break is body text z = record { one_line = record { all = cont
 
 short_goes : (s : Short) → Goes double (92 ∷ letter_of s ∷ []) (character_of s)
 unfolding is_break escape
-short_goes s = named_goes (letter_of s) (character_of s) (by s) (names s)
-  where
-    by : (s : Short) → is_break (letter_of s) ≡ false
-    by s = grind arith
-
-    names : (s : Short) (body : List ℕ) → escape (letter_of s ∷ body) ≡ Some (record { element = content (character_of s); further = 1 })
-    names s body = grind arith
+short_goes s = grind (arith, nat_tests, named_goes, character_of, is_break, content)
 
 -- four hexadecimal digits
 pub unicode_goes : (a b c d v : ℕ) → Code a b c d v → Goes double (92 ∷ 117 ∷ a ∷ b ∷ c ∷ d ∷ []) v

@@ -1,5 +1,5 @@
 -- Values, arrays and hashes of layouts have rows.
-use Rattle.proof_loads.proofs.TokensCommon.{[], all_field_tokens, all_of, Anchor, anchors_after, anchors_after_field, and_from, and_parts, another, append-nil, AreEntries, AreFields, arith, begins_with_space_or_break, begun, Block, block_tokens, BlockStyle, Bool, colon_may_precede, Comment, comment, dash_may_precede, empty_hash, Entries, entry_tokens, false, Field, field_tokens, Fields, folded_header, free, GapLine, goes_on_with_name, has_no_break, has_tab_before_piece, inl, Inline, inline_tokens, inr, is_anchor_name, is_ascii_alphanumeric, is_at_gap, is_blank, is_blank_or_end, is_break, is_flow, is_line_character, is_name, is_nul, is_one_of, is_waiting, IsBlock, IsComment, IsField, IsGap, IsInline, IsLineText, IsScalar, IsValue, leading, least_column, length, List, list_all, MayFollowScalarKey, nat_tests, next_line, no_comment, Position, Previous, refl, Scalar, scalar, scalar_token, spaces, spell_block, spell_comment, spell_entries, spell_field, spell_fields, spell_gap, spell_inline, spell_lines, spell_literal, spell_scalar, spell_value, spelling, subst, suc, taken, Tok, true, Value, value_tokens, zero, ℕ, ◌++◌, ◌+◌, ◌==◌, ◌∙◌, ◌∷◌, ◌≡◌, ◌≤◌, ◌⊎◌}
+use Rattle.proof_loads.proofs.TokensCommon.{[], all_field_tokens, all_of, Anchor, anchors_after, anchors_after_field, and_from, and_parts, another, append-nil, AreEntries, AreFields, arith, begins_with_space_or_break, begun, Block, block_tokens, BlockStyle, Bool, colon_may_precede, Comment, dash_may_precede, empty_hash, Entries, entry_tokens, false, Field, field_tokens, Fields, folded_header, free, GapLine, goes_on_with_name, has_no_break, has_tab_before_piece, inl, Inline, inline_tokens, inr, is_anchor_name, is_ascii_alphanumeric, is_at_gap, is_blank, is_blank_or_end, is_break, is_flow, is_line_character, is_name, is_nul, is_one_of, is_waiting, IsBlock, IsComment, IsField, IsGap, IsInline, IsLineText, IsScalar, IsValue, leading, least_column, length, List, list_all, MayFollowScalarKey, nat_tests, next_line, no_comment, Position, Previous, refl, Scalar, scalar, scalar_token, spaces, spell_block, spell_comment, spell_entries, spell_field, spell_fields, spell_gap, spell_inline, spell_lines, spell_literal, spell_scalar, spell_value, spelling, subst, suc, taken, Tok, true, Value, value_tokens, zero, ℕ, ◌++◌, ◌+◌, ◌==◌, ◌∷◌, ◌≡◌, ◌≤◌, ◌⊎◌}
 use Rattle.defs_layout.specs.Json
 use Rattle.defs_token.specs.Piece as piece
 use Rattle.defs_layout.specs.Layout.{empty_array}
@@ -71,26 +71,16 @@ gap_tabless (l ∷ g) a gap h = grind (arith, comment_tabless, gap_tabless g a)
 
 opens_beside : (more : ℕ) (a : List ℕ) → has_tab_before_piece false a ≡ false → Opens (32 ∷ spaces more a)
 unfolding is_blank is_break is_blank_or_end is_anchor_name
-opens_beside more a h =
-    let tabless = spaces_tabless (suc more) a h in
-    record { gap = refl; space_or_break = refl; dash = rw (tabless_leads (spaces (suc more) a) tabless) refl; colon = refl; tabless = tabless; no_name = refl }
+opens_beside more a h = grind (arith, nat_tests, spaces_tabless, suc, tabless_leads, spaces)
 
 opens_below : (k : Comment) (g : List GapLine) (n : ℕ) (a : List ℕ) → IsComment k → IsGap g → BeginsContent a → Opens (spell_comment k (next_line n g a))
 unfolding is_blank is_break is_blank_or_end is_anchor_name
-opens_below k g n a remark gap z = by k remark
-  where
-    tabless : has_tab_before_piece false (next_line n g a) ≡ false
-    tabless = gap_tabless g (spaces n a) gap (spaces_tabless n a (content_tabless a z))
-
-    by : (k : Comment) → IsComment k → Opens (spell_comment k (next_line n g a))
-    by no_comment remark = record { gap = refl; space_or_break = refl; dash = refl; colon = refl; tabless = tabless; no_name = refl }
-    by (comment more text) remark = opens_beside more (35 ∷ (text ++ next_line n g a)) (comment_tabless text (spell_gap g (spaces n a)) remark ∙ tabless)
+opens_below k g n a h e f = grind (arith, nat_tests, has_tab_before_piece, next_line, gap_tabless, spaces, spaces_tabless, content_tabless, spell_comment, opens_beside, comment_tabless, spell_gap)
 
 -- ---- what stands at a column
 
 plain_begins : (w r : List ℕ) → IsPlainText w → BeginsContent (w ++ r)
-plain_begins [] r z = absurd z
-plain_begins (c ∷ w) r z = let k = plain_char c (first_char c z.first).0 in content_first c (w ++ r) (rw (k.blank) (first_space c z.first)) k.break k.hash k.nul
+plain_begins w r h = grind (arith, nat_tests, plain_char, first_char, content_first, first_space)
 
 scalar_begins : (s : Scalar) (r : List ℕ) → IsScalar s → BeginsContent (spell_scalar s r)
 unfolding is_blank is_break is_nul

@@ -1,5 +1,5 @@
 -- The words of JSON and its numbers are words.
-use Rattle.proof_loads.proofs.TokensCommon.{Bool, Exponent, Fraction, List, Number, [], and_from, and_parts, ap, append-nil, append_assoc, are_digits, arith, is_ascii_digit, is_exponent, is_fraction, is_number, is_whole, list_all, nat_tests, number, refl, spell_exponent, spell_fraction, spell_minus, spell_number, sym, true, ℕ, ◌&&◌, ◌++◌, ◌∙◌, ◌≡◌}
+use Rattle.proof_loads.proofs.TokensCommon.{[], and_from, and_parts, ap, append-nil, append_assoc, are_digits, arith, Bool, Exponent, Fraction, is_ascii_digit, is_exponent, is_fraction, is_number, is_whole, List, list_all, nat_tests, Number, number, refl, spell_exponent, spell_fraction, spell_minus, spell_number, sym, true, ℕ, ◌++◌, ◌∙◌, ◌≡◌}
 use Rattle.std.proofs.lemmas.List.Folds.{list_all-append}
 use Rattle.defs_tree.proofs.GrammarLaws.{list_all-more}
 use Rattle.proof_loads.proofs.PlainTexts.{is_word, are_words, IsWord}
@@ -38,11 +38,4 @@ minus_words : (is_negative : Bool) (w : List ℕ) → are_words w ≡ true → a
 minus_words a w h = grind arith
 
 pub number_word : (n : Number) → is_number n ≡ true → IsWord (spell_number n [])
-number_word (number is_negative whole f e) h =
-    let q = and_parts (is_whole whole && is_fraction f) (is_exponent e) h in
-    let r = and_parts (is_whole whole) (is_fraction f) q.0 in
-    let digits = whole_digits whole r.0 in
-    record {
-      chars = minus_words is_negative _ (append_words whole _ (are_digits_words whole digits) (rest_words f e r.1 q.1));
-      begins = grind (arith, nat_tests);
-    }
+number_word n h = grind (arith, nat_tests, number, and_parts, is_whole, is_fraction, is_exponent, whole_digits, minus_words, append_words, are_digits_words, rest_words)
