@@ -1,5 +1,5 @@
 -- What a load answers of any text, by a parser that is at its start.
-use Rattle.proof_loads.proofs.Common.{Answer, AnswersText, AreFirst, AreSettled, BeginsEvents, BeginsPlaced, Blames, Bool, ComesAfter, EndsSo, Err, ErrorReport, Ev, Explains, Foretells, HasEvents, IsAtStart, IsFaultOf, IsOfScanner, IsPlacedStream, IsRefusal, IsStream, List, Loads, None, NoneBegins, Parsed, Position, Receives, Refused, Result, ScansIn, Some, TextsAreAnswered, Tok, Token, [], ap, append-nil, append_assoc, before_stream, codes, events_of, false, fault, given, has_end, inl, inr, length, load, load_from, nested_stream, no_stream, no_token, raws_of, read, refl, subst, sym, toks, true, wants_memory, whole, without_positions, ℕ, ◌++◌, ◌∙◌, ◌∷◌, ◌≡◌}
+use Rattle.proof_loads.proofs.Common.{[], Answer, AnswersText, ap, append-nil, append_assoc, AreFirst, AreSettled, before_stream, BeginsEvents, BeginsPlaced, Blames, Bool, codes, ComesAfter, EndsSo, Err, ErrorReport, Ev, events_of, Explains, false, fault, Foretells, given, has_end, HasEvents, inl, inr, IsAtStart, IsFaultOf, IsOfScanner, IsPlacedStream, IsRefusal, IsStream, length, List, load, load_from, Loads, nested_stream, no_stream, no_token, None, NoneBegins, Parsed, Position, raws_of, read, Receives, refl, Refused, Result, ScansIn, Some, subst, sym, TextsAreAnswered, Tok, Token, toks, true, wants_memory, whole, without_positions, ℕ, ◌++◌, ◌∙◌, ◌∷◌, ◌≡◌}
 use Rattle.defs_event.specs.Push as run
 use Rattle.defs_event.proofs.AllPushed.{all_pushed}
 use Rattle.defs_event.proofs.StreamNests.{stream_nests}
@@ -201,39 +201,20 @@ scanner_stays (loads.faulted e kept received) = refl
 scanner_stays (loads.misplaced q e received) = refl
 scanner_stays (loads.refused e q pushed clear received takes) = refl
 
--- A load from the start on: its answers, and the parser after them.
-record Ran {R : Type 0} (takes : R → Ev → Position → Result (Unit {0}) ErrorReport → R → Type 0) (old new : Parsed) (r s : R) (result : Result (Unit {0}) ErrorReport) (text : List ℕ) : Type 0 where
-  answers : List (Answer ErrorReport)
-  after : Parsed
-  scans : ScansIn text after.scanner
-  keep_tags : after.keep_tags ≡ old.keep_tags
-  steady : after.steady ≡ true
-  known : Answered answers after
-  taken : (so answers).taken ≡ length answers
-  ends : EndsSo takes r (so answers) after result new s
-
-ran : {R : Type 0} (takes : R → Ev → Position → Result (Unit {0}) ErrorReport → R → Type 0) (old new : Parsed) (r s : R) (result : Result (Unit {0}) ErrorReport) (text : List ℕ) → IsAtStart old → ScansIn text new.scanner
-    → Loads takes true old r result new s → Ran takes old new r s result text
-ran takes old new r s result text start scans l =
+-- what holds after the answers of a load from the start on
+of_load : {R : Type 0} (takes : R → Ev → Position → Result (Unit {0}) ErrorReport → R → Type 0) (old new : Parsed) (r s : R) (result : Result (Unit {0}) ErrorReport) (text : List ℕ) (P : Bool → Type 0)
+    → IsAtStart old → ScansIn text new.scanner → Loads takes true old r result new s
+    → ((answers : List (Answer ErrorReport)) (p : Parsed) → ScansIn text p.scanner → p.steady ≡ true → Answered answers p → (so answers).taken ≡ length answers → EndsSo takes r (so answers) p result new s → P p.keep_tags) → P old.keep_tags
+of_load takes old new r s result text P start scans l f =
     let from_start : (load old.started true l.answers) ≡ so l.answers = rw start.started refl in
-    record {
-      answers = l.answers;
-      after = l.after;
-      scans = subst (ScansIn text) (scanner_stays l.ends) scans;
-      keep_tags = (settings_stay l.pulled).keep_tags;
-      steady = (settings_stay l.pulled).steady ∙ start.steady;
-      known = answered start l.pulled;
-      taken = sym (ap (λ u. u.taken) from_start) ∙ l.taken;
-      ends = subst (λ u. EndsSo takes r u l.after result new s) from_start l.ends;
-    }
+    let k = settings_stay l.pulled in
+    subst P k.keep_tags (f l.answers l.after (subst (ScansIn text) (scanner_stays l.ends) scans) (k.steady ∙ start.steady) (answered start l.pulled) (sym (ap (λ u. u.taken) from_start) ∙ l.taken)
+    (subst (λ u. EndsSo takes r u l.after result new s) from_start l.ends))
 
 pub texts_are_answered : {R : Type 0} (takes : R → Ev → Position → Result (Unit {0}) ErrorReport → R → Type 0) → TextsAreAnswered takes
-texts_are_answered takes old new r s result text start scans l =
-    let x = ran takes old new r s result text start scans l in
-    subst (λ k. AnswersText takes k text r result s) x.keep_tags (ends_so x.answers x.after x.scans x.steady x.known x.taken x.ends)
+texts_are_answered takes old new r s result text start scans l = of_load takes old new r s result text (λ k. AnswersText takes k text r result s) start scans l (λ answers p. ends_so answers p)
 
 pub fault_taken : {R : Type 0} (takes : R → Ev → Position → Result (Unit {0}) ErrorReport → R → Type 0) (old new : Parsed) (r s : R) (f : ErrorReport) (text : List ℕ) → IsAtStart old → ScansIn text new.scanner
     → Loads takes true old r (Err f) new s → new.fault ≡ Some f → FaultTaken takes old.keep_tags text f r s
 fault_taken takes old new r s f text start scans l kept =
-    let x = ran takes old new r s (Err f) text start scans l in
-    subst (λ k. FaultTaken takes k text f r s) x.keep_tags (fault_ends x.answers x.after x.scans x.steady x.known x.taken x.ends kept)
+    of_load takes old new r s (Err f) text (λ k. FaultTaken takes k text f r s) start scans l (λ answers p scanned steady a taken ends. fault_ends answers p scanned steady a taken ends kept)

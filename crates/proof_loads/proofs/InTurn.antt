@@ -1,5 +1,5 @@
 -- Layouts one after another mean their trees, and have no NUL.
-use Rattle.proof_loads.proofs.Common.{[], ap, Bool, dumps_are_laid_out_in_turn, IsWithoutNul, layout_tokens, Means, refl, stream_by, subst, sym, Tok, tokens_read_as_their_trees, trees_of, up_to_nul, ◌∙◌, ◌∷◌}
+use Rattle.proof_loads.proofs.Common.{[], ap, dumps_are_laid_out_in_turn, IsWithoutNul, layout_tokens, Means, refl, stream_by, subst, sym, Tok, tokens_read_as_their_trees, trees_of, up_to_nul, ◌∙◌, ◌∷◌}
 use Rattle.defs_layout.specs.DumpsInTurn.{dump_texts}
 use Rattle.proof_loads.proofs.TextTokens.{nothing_has_its_tokens}
 use Rattle.proof_loads.proofs.TokensInTurn.{layouts_in_turn_have_their_tokens}
@@ -7,11 +7,8 @@ use Rattle.proof_loads.specs.InTurn.{LayoutsInTurnMeanTheirTrees, LayoutsInTurnA
 use Rattle.proof_loads.proofs.LayoutNul.{layouts_have_no_nul}
 use Rattle.proof_loads.proofs.RowTexts.{means}
 
-nothing_is_read : (keep_tags : Bool) → Means keep_tags [] []
-nothing_is_read keep_tags = means keep_tags [] (Tok.stream_start ∷ Tok.stream_end ∷ []) [] refl nothing_has_its_tokens (record { documents = []; stream = stream_by refl refl; trees_are = refl })
-
 pub layouts_in_turn_are_read : LayoutsInTurnMeanTheirTrees
-layouts_in_turn_are_read keep_tags [] text none = subst (λ a. Means keep_tags a []) (sym none) (nothing_is_read keep_tags)
+layouts_in_turn_are_read keep_tags [] text none = let nothing_is_read : Means keep_tags [] [] = means keep_tags [] (Tok.stream_start ∷ Tok.stream_end ∷ []) [] refl nothing_has_its_tokens (record { documents = []; stream = stream_by refl refl; trees_are = refl }) in subst (λ a. Means keep_tags a []) (sym none) (nothing_is_read)
 layouts_in_turn_are_read keep_tags (t ∷ ts) text laid =
     let z = layouts_in_turn_have_their_tokens t ts text laid in
     let without = subst IsWithoutNul z.2 (layouts_have_no_nul z.0 z.1) in

@@ -36,15 +36,6 @@ one_refusal text f g r s m =
 
 -- ---- of the parser
 
--- a stream that begins with tokens begins with the first of these
-begins_first : (keep_tags : Bool) (first more : List Token) (events : List (Ev × Position)) → BeginsPlaced keep_tags (first ++ more) events → NoneBegins keep_tags (toks first) → ⊥
-begins_first keep_tags first more events b none =
-    let s = b.stream in
-    let rest = toks more ++ toks b.more_tokens in
-    let all : toks ((first ++ more) ++ b.more_tokens) ≡ toks first ++ rest =
-    map-append (λ (t : Token). t.tok) (first ++ more) b.more_tokens ∙ ap (λ ts. ts ++ toks b.more_tokens) (map-append (λ (t : Token). t.tok) first more) ∙ append_assoc (toks first) (toks more) (toks b.more_tokens) in
-    none rest (events_of (events ++ b.more_events)) (subst (λ ts. IsStream keep_tags ts (events_of (events ++ b.more_events))) all (record { raws = raws_of s.raws; says = without_positions s.says; has_events = s.has_events }))
-
 -- the kind of a token says which problem of names it may have
 abbrev name_problem : Kind → Problem
 name_problem kind.VersionDirective = problem.SecondVersion
@@ -98,7 +89,11 @@ one_blame keep_tags tokens es fs f g a b =
 
 -- where a token is refused, no stream begins with more tokens
 pub refused_first : (keep_tags : Bool) (before ts : List Token) (last : Token) (events : List (Ev × Position)) → NoneBegins keep_tags (toks (before ++ last ∷ [])) → BeginsPlaced keep_tags ts events → BeginsWith (before ++ last ∷ []) ts → ⊥
-refused_first keep_tags before ts last events none b w = begins_first keep_tags (before ++ last ∷ []) w.more events (subst (λ us. BeginsPlaced keep_tags us events) w.whole b) none
+refused_first keep_tags before ts last events none b w = let begins_first : ⊥ = let s = (subst (λ us. BeginsPlaced keep_tags us events) w.whole b).stream in
+    let rest = toks w.more ++ toks (subst (λ us. BeginsPlaced keep_tags us events) w.whole b).more_tokens in
+    let all : toks (((before ++ last ∷ []) ++ w.more) ++ (subst (λ us. BeginsPlaced keep_tags us events) w.whole b).more_tokens) ≡ toks (before ++ last ∷ []) ++ rest =
+    map-append (λ (t : Token). t.tok) ((before ++ last ∷ []) ++ w.more) (subst (λ us. BeginsPlaced keep_tags us events) w.whole b).more_tokens ∙ ap (λ ts. ts ++ toks (subst (λ us. BeginsPlaced keep_tags us events) w.whole b).more_tokens) (map-append (λ (t : Token). t.tok) (before ++ last ∷ []) w.more) ∙ append_assoc (toks (before ++ last ∷ [])) (toks w.more) (toks (subst (λ us. BeginsPlaced keep_tags us events) w.whole b).more_tokens) in
+    none rest (events_of (events ++ (subst (λ us. BeginsPlaced keep_tags us events) w.whole b).more_events)) (subst (λ ts. IsStream keep_tags ts (events_of (events ++ (subst (λ us. BeginsPlaced keep_tags us events) w.whole b).more_events))) all (record { raws = raws_of s.raws; says = without_positions s.says; has_events = s.has_events })) in begins_first
 
 -- a list that begins another one with a last token begins what stands before it, or is all
 pub last_or_before : (xs ys more : List Token) (u : Token) → ys ++ u ∷ [] ≡ xs ++ more → (xs ≡ ys ++ u ∷ []) ⊎ BeginsWith xs ys

@@ -1,5 +1,5 @@
 -- A text has one fault, and the events before it are one list.
-use Rattle.proof_loads.proofs.Common.{[], AgreeAt, ap, append-nil, AreFirst, AreSettled, arith, BeginsPlaced, BeginsWith, Blames, Bool, both_ways, ComesAfter, ErrorReport, Ev, false, fetch, HasPlacedTo, here, inl, inr, IsFaultOf, IsReached, IsStream, length, length-append, List, named, no_names, no_stream, no_token, NoneBegins, Ok, OneListOfEventsBefore, OneListOfPulledEventsBefore, OneListOfPushedEventsBefore, Position, Problem, Raw, Reaches, read, refl, Result, ScannerState, start, stood, stream_by, subst, sym, there, to_next, Tok, Token, toks, wants_memory, ℕ, ◌++◌, ◌+◌, ◌∙◌, ◌∷◌, ◌≡◌}
+use Rattle.proof_loads.proofs.Common.{[], AgreeAt, ap, append-nil, AreFirst, AreSettled, arith, BeginsPlaced, BeginsWith, Blames, Bool, both_ways, ComesAfter, ErrorReport, Ev, false, fetch, HasPlacedTo, here, inl, inr, IsFaultOf, IsReached, IsStream, length, length-append, List, named, no_names, no_stream, no_token, NoneBegins, OneListOfEventsBefore, OneListOfPulledEventsBefore, OneListOfPushedEventsBefore, Position, Problem, Raw, Reaches, read, refl, Result, ScannerState, start, stood, stream_by, subst, sym, there, to_next, Tok, Token, toks, wants_memory, ℕ, ◌++◌, ◌+◌, ◌∙◌, ◌∷◌, ◌≡◌}
 use Rattle.model_parser.proofs.OnePlacing.{AreSame, one_stream, same_events, one_list_so_far}
 use Rattle.yaml_tokens.specs.declared.problem.Problem.TheVariants as problem
 use Rattle.model_scanner.specs.Document.{fetch_stream_start}
@@ -25,23 +25,14 @@ both_begin xs ys b c = by b.more b.whole
 reached_all : (text : List ℕ) (given : List Token) → AreSettled text given → IsReached text given
 reached_all text given s = record { last = s.refused.last; run = s.refused.run; begins = s.begins; behind = λ going. s.behind }
 
--- The tokens that are settled where a text is refused are one list.
-one_settled : (text : List ℕ) (xs ys : List Token) → AreSettled text xs → AreSettled text ys → xs ≡ ys
-one_settled text xs ys s r = both_begin xs ys (settled_first text ys xs r (reached_all text xs s)) (settled_first text xs ys s (reached_all text ys r))
-
--- The first token is the stream's start.
-first_fetch : (text : List ℕ) (u : ScannerState) → fetch (start text) ≡ Ok u → u ≡ fetch_stream_start (start text)
-unfolding fetch
-first_fetch text u e = cc
-
 first_is_start : (text : List ℕ) (t : Token) → IsReached text (t ∷ []) → t.tok ≡ Tok.stream_start
-unfolding fetch_stream_start
+unfolding fetch_stream_start fetch
 first_is_start text t r = by r.last r.run r.begins
   where
     by : (last : ScannerState) → Reaches (start text) last → BeginsWith (t ∷ []) last.held.tokens → t.tok ≡ Tok.stream_start
     by _ here b = let no : [] ≡ t ∷ b.more = b.whole in cc
     by last (there {u = u} going e run) b =
-        let is : u ≡ fetch_stream_start (start text) = first_fetch text u e in
+        let is : u ≡ fetch_stream_start (start text) = cc in
         let first : Token = record { position = record { index = 0; line = 1; col = 0 }; tok = Tok.stream_start } in
         let s = stays (first ∷ []) (fetch_stream_start (start text)) last (subst (λ v. Reaches v last) is run) (record { more = []; whole = refl }) (λ _. (tt, tt)) in
         let same : t ≡ first = cc (b.whole, s.begins.whole) in
@@ -111,8 +102,8 @@ come_before (no_stream before last fs first blames begins none) es m h = h
 pub one_cause : (keep_tags : Bool) (text : List ℕ) (f g : ErrorReport) (x : IsFaultOf keep_tags text f) (y : IsFaultOf keep_tags text g) → f.memory ≡ false → g.memory ≡ false → (f ≡ g) × AgreeAt (events_before x) (events_before y)
 one_cause keep_tags text f g (wants_memory w) y m n = absurd (both_ways f.memory m w.memory)
 one_cause keep_tags text f g x (wants_memory w) m n = absurd (both_ways g.memory n w.memory)
-one_cause keep_tags text f g (no_token given es settled begins has r) (no_token given' fs settled' begins' had s) m n =
-    let same : given ≡ given' = one_settled text given given' settled settled' in
+one_cause keep_tags text f g (no_token given es settled begins has r) (no_token given' fs settled' begins' had s) m n = let one_settled : given ≡ given' = both_begin given given' (settled_first text given' given settled' (reached_all text given settled)) (settled_first text given given' settled (reached_all text given' settled')) in
+    let same : given ≡ given' = one_settled in
     (one_refusal text f g r s m, one_list_so_far to_next keep_tags given' es fs (subst (λ ts. HasPlacedTo to_next keep_tags ts es) same has) had)
 one_cause keep_tags text f g (no_token given es settled begins has r) (no_stream before last fs first b begins' none) m n =
     absurd (refused_first keep_tags before given last es none begins (settled_first text given (before ++ last ∷ []) settled first.reached))

@@ -1,6 +1,6 @@
 -- After the stream's end or a fault the same answer comes again.
 use Rattle.proof_lexers.proofs.Plain.Turns.{or_true}
-use Rattle.proof_loads.proofs.Common.{Answer, AnswersAreSettled, ErrorReport, Ev, GivesFault, IfSome, IsSettled, IsStreamEnd, List, MayFollow, None, Parsed, Pulls, PullsAll, Some, [], ap, event, false, fault, no_call, one_call, subst, sym, true, ◌++◌, ◌∙◌, ◌∷◌, ◌≡◌}
+use Rattle.proof_loads.proofs.Common.{[], Answer, AnswersAreSettled, ap, ErrorReport, Ev, event, false, fault, IfSome, IsSettled, IsStreamEnd, List, MayFollow, no_call, None, one_call, Parsed, Pulls, PullsAll, Some, subst, sym, true, ◌++◌, ◌∙◌, ◌∷◌, ◌≡◌}
 
 -- what an answer leaves of the parser
 abbrev Leaves : Parsed → Answer ErrorReport → Type 0
@@ -13,15 +13,12 @@ leaves p q (event Ev.stream_end at) g = g.ended ∙ or_true p.ended
 leaves p q (event e at) g = tt
 leaves p q (fault f) g = g.fault
 
-same_fault : (q r : Parsed) (f g : ErrorReport) → q.fault ≡ Some f → GivesFault q g r → g ≡ f
-same_fault q r f g h gives = (subst (λ o. IfSome o (λ x. (g ≡ x) × (r ≡ q))) h gives.again).0
-
 may_follow : (q r : Parsed) (a b : Answer ErrorReport) → Leaves q a → Pulls q b r → MayFollow a b
 may_follow q r (event Ev.stream_end at) (event e p) l g = subst (λ x. IsStreamEnd {Fault = ErrorReport} (event x p)) (sym (g.over l)) tt
 may_follow q r (event Ev.stream_end at) (fault f) l g = let no : false ≡ true = sym g.ended.0 ∙ l in cc
 may_follow q r (event e at) b l g = tt
 may_follow q r (fault f) (event e p) l g = let no : Some f ≡ None = sym l ∙ g.clear in cc
-may_follow q r (fault f) (fault g) l h = ap (λ x. fault x) (same_fault q r f g l h)
+may_follow q r (fault f) (fault g) l h = let same_fault : g ≡ f = (subst (λ o. IfSome o (λ x. (g ≡ x) × (r ≡ q))) l h.again).0 in ap (λ x. fault x) (same_fault)
 
 -- Each answer may follow the one before, and of the last the parser is what that leaves.
 abbrev Ends : Parsed → List (Answer ErrorReport) → Type 0

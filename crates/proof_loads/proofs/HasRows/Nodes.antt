@@ -114,9 +114,6 @@ outside_line false l h = (l, refl, h)
 node_line : (must : Bool) (here : Position) (bs : List ℕ) (l : Line) → must ≡ false → is_waiting l ≡ false → line_past must here bs gives_node false l ≡ Some (record { line = taken; blocks = bs })
 node_line a p bs b e h = grind arith
 
-no_less : (n : ℕ) → n - n ≡ 0
-no_less n = omega arith
-
 module _ (bs w : List ℕ) (t : Tok) (text next : List ℕ) (tokens : List Tok) (parts : Parts bs text (w ++ next)) (none : HasNone w) where
   abbrev Over : Type 0
   Over = (p : Position) → IsDeep bs p → IsDeep bs (position_after p w next)
@@ -159,13 +156,13 @@ module _ (bs w : List ℕ) (t : Tok) (text next : List ℕ) (tokens : List Tok) 
       let a = at p bs awaits another l [] in
       let m = outside_line (has_break parts.by) l line in
       let fits = further (site_of a w' next) (rw (no_marker, none_ends bs here.col there) refl) in
-      let waits = awaits_past false t bs (awaits_at false here.col bs awaits) next in
+      let waits = awaits_past false t bs (awaits_at false here.col bs awaits) next in let no_less : (length bs) - (length bs) ≡ 0 = omega arith in
       let s : Steps a w' next (at (position_after here w next) bs waits (previous_by t) after (begun_by t)) [] = record {
         is_separated = parts.separates;
         is_shown = shown p awaits l there;
         stands = rw (fits, indented another bs awaits parts, no_marker, none_ends bs here.col there, precede) refl;
         leads = rw (no_marker, none_ends bs here.col there, m.1, leads (is_in_column here.col bs) here m.0 (no_column bs here.col there) m.2, quiet, and_false (has_break w)) refl;
-        begins = λ past colon. rw (no_marker, none_ends bs here.col there, no_less (length bs), begins) refl;
+        begins = λ past colon. rw (no_marker, none_ends bs here.col there, no_less, begins) refl;
         none = (parts.none, none);
       } in
       rw (parts.is) (step w' next s (rest here waits there))

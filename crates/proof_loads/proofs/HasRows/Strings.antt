@@ -31,18 +31,11 @@ pub record Code (a b c d v : ℕ) : Type 0 where
   pub valid : is_character_code v ≡ true
   pub value : (((0 * 16 + digit_value a) * 16 + digit_value b) * 16 + digit_value c) * 16 + digit_value d ≡ v
 
-code : (a b c d : ℕ) → is_piece (unicode a b c d) ≡ true → Code a b c d (four_digits a b c d)
-code a b c d h = grind (arith, nat_tests, and_parts, is_hex_digit, not, is_surrogate, four_digits, small_digit, digit_value, is_code)
-
 pub record Unescaped (c : ℕ) : Type 0 where
   pub nul : is_nul c ≡ false
   pub break : is_break c ≡ false
   pub backslash : (c == 92) ≡ false
   pub quote : (c == 34) ≡ false
-
-unescaped_char : (c : ℕ) → is_unescaped c ≡ true → Unescaped c
-unfolding is_unescaped is_break is_nul
-unescaped_char c h = record { nul = grind (arith, nat_tests); break = grind (arith, nat_tests); backslash = grind (arith, nat_tests); quote = grind (arith, nat_tests) }
 
 abbrev pub element_of : Quotes → ℕ → List ℕ → Option Spelled
 element_of single = single_quoted_element
@@ -82,10 +75,11 @@ unicode_goes a b c d v u body text z = record {
 }
 
 string_is : (ps : List Piece) → are_pieces ps ≡ true → IsBody double (body_of ps) (unescaped ps)
+unfolding is_unescaped is_break is_nul
 string_is [] h = nothing_is double
-string_is (itself c ∷ ps) h = let q = and_parts (is_piece (itself c)) (are_pieces ps) h in itself_goes c (unescaped_char c q.0) (body_of ps) (unescaped ps) (string_is ps q.1)
+string_is (itself c ∷ ps) h = let q = and_parts (is_piece (itself c)) (are_pieces ps) h in let unescaped_char : Unescaped c = record { nul = grind (arith, nat_tests); break = grind (arith, nat_tests); backslash = grind (arith, nat_tests); quote = grind (arith, nat_tests) } in itself_goes c (unescaped_char) (body_of ps) (unescaped ps) (string_is ps q.1)
 string_is (short s ∷ ps) h = short_goes s (body_of ps) (unescaped ps) (string_is ps h)
-string_is (unicode a b c d ∷ ps) h = let q = and_parts (is_piece (unicode a b c d)) (are_pieces ps) h in unicode_goes a b c d _ (code a b c d q.0) (body_of ps) (unescaped ps) (string_is ps q.1)
+string_is (unicode a b c d ∷ ps) h = let q = and_parts (is_piece (unicode a b c d)) (are_pieces ps) h in let code : Code a b c d (four_digits a b c d) = grind (arith, nat_tests, and_parts, is_hex_digit, not, is_surrogate, four_digits, small_digit, digit_value, is_code) in unicode_goes a b c d _ (code) (body_of ps) (unescaped ps) (string_is ps q.1)
 
 -- ---- between quotes
 

@@ -41,10 +41,6 @@ pub record Opens (a : List ℕ) : Type 0 where
   pub tabless : has_tab_before_piece false a ≡ false
   pub no_name : goes_on_with_name a ≡ false
 
-no_blank_space : (c : ℕ) → is_blank c ≡ false → (c == 32) ≡ false
-unfolding is_blank
-no_blank_space c h = grind (arith, nat_tests)
-
 -- no TAB stands among the blanks of such a text
 tabless_leads : (a : List ℕ) → has_tab_before_piece false a ≡ false → is_one_of (leading is_blank a) 9 ≡ false
 unfolding is_blank
@@ -57,7 +53,7 @@ spaces_tabless (suc n) a h = spaces_tabless n a h
 
 content_tabless : (a : List ℕ) → BeginsContent a → has_tab_before_piece false a ≡ false
 unfolding is_blank
-content_tabless a (content_first c r blank break hash nul) = let no_blank_tab : (c == 9) ≡ false = grind (arith, nat_tests) in rw (no_blank_tab, no_blank_space c blank, break, hash) refl
+content_tabless a (content_first c r blank break hash nul) = let no_blank_tab : (c == 9) ≡ false = grind (arith, nat_tests) in let no_blank_space : (c == 32) ≡ false = grind (arith, nat_tests) in rw (no_blank_tab, no_blank_space, break, hash) refl
 
 comment_tabless : (text a : List ℕ) → IsLineText text → has_tab_before_piece true (text ++ 10 ∷ a) ≡ has_tab_before_piece false a
 unfolding is_break
