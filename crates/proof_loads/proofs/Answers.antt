@@ -108,7 +108,10 @@ module _ (text : List ℕ) (answers : List (Answer ErrorReport)) (p : Parsed) (s
     where
       by : (b : Bool) → p.ended ≡ b → AllGiven answers p
       by true ended = ended_all ended
-      by false going = let reached = end_is_reached ErrorReport before_stream p.given (ap (λ bs. (so bs).ending) (sym (given_alone answers p n going)) ∙ e) in let ended = n.ended in cc
+      by false going =
+          let reached = end_is_reached ErrorReport before_stream p.given (ap (λ bs. (so bs).ending) (sym (given_alone answers p n going)) ∙ e) in
+          let ended = n.ended in
+          cc
 
   -- An event that is no document's start never stands between documents.
   not_misplaced : (q : Position) → (so answers).ending ≡ run.no_document q → ⊥

@@ -113,12 +113,14 @@ pub each_line : (column : ℕ) (ls : List Line) → AreLines column ls → AreLi
 each_line column [] are texts free = tt
 each_line column (full [] ∷ ls) are texts free = absurd (are.0 refl)
 each_line column (full (c ∷ w) ∷ ls) are texts free =
-    let w' = c ∷ w in
-    (record {
-      row = text_row column c w (λ e. no_marker w' texts.0 (or_parts (begins_as_marker w') (list_any begins_as_marker (contents ls)) (free e)).0);
-      inner = inner_spaces column (w' ++ []) (inner_line w' texts.0);
-      none = spaces_none column (w' ++ []) (both w' [] (text_none w' texts.0) refl);
-    }, each_line column ls are.1 texts.1 (λ e. (or_parts (begins_as_marker w') (list_any begins_as_marker (contents ls)) (free e)).1))
+    let w' = c ∷ w in (
+      record {
+        row = text_row column c w (λ e. no_marker w' texts.0 (or_parts (begins_as_marker w') (list_any begins_as_marker (contents ls)) (free e)).0);
+        inner = inner_spaces column (w' ++ []) (inner_line w' texts.0);
+        none = spaces_none column (w' ++ []) (both w' [] (text_none w' texts.0) refl);
+      },
+      each_line column ls are.1 texts.1 (λ e. (or_parts (begins_as_marker w') (list_any begins_as_marker (contents ls)) (free e)).1),
+    )
 each_line column (blank n ∷ ls) are texts free = (a_blank column n are.0, each_line column ls are.1 texts free)
 
 -- with empty lines after them

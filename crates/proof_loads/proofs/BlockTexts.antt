@@ -24,10 +24,13 @@ pub spaces_are : (n : ℕ) (w r : List ℕ) → spaces n w ++ r ≡ spaces n (w 
 spaces_are zero w r = refl
 spaces_are (suc n) w r = ap (λ x. 32 ∷ x) (spaces_are n w r)
 
+pub line_more : (column : ℕ) (l : Line) (r : List ℕ) → spell_line column l [] ++ r ≡ spell_line column l r
+line_more column l r = grind (arith, nat_tests, spaces_are, spaces, append-nil)
+
 -- each line, and then an LF
 pub spelt_feeds : (column : ℕ) (ls : List Line) (r : List ℕ) → spell_lines column ls (10 ∷ r) ≡ 10 ∷ written.spell (lines_at column ls) r
 spelt_feeds column [] r = refl
-spelt_feeds column (l ∷ ls) r = let line_more : spell_line column l [] ++ (10 ∷ written.spell (lines_at column ls) r) ≡ spell_line column l (10 ∷ written.spell (lines_at column ls) r) = grind (arith, nat_tests, spaces_are, spaces, append-nil) in ap (λ x. 10 ∷ spell_line column l x) (spelt_feeds column ls r) ∙ ap (λ x. 10 ∷ x) (sym (line_more))
+spelt_feeds column (l ∷ ls) r = ap (λ x. 10 ∷ spell_line column l x) (spelt_feeds column ls r) ∙ ap (λ x. 10 ∷ x) (sym (line_more column l (10 ∷ written.spell (lines_at column ls) r)))
 
 pub spelt_more : (column : ℕ) (ls ms : List Line) (r : List ℕ) → spell_lines column (ls ++ ms) r ≡ spell_lines column ls (spell_lines column ms r)
 spelt_more column [] ms r = refl

@@ -185,6 +185,25 @@ module _ (s : BlockStyle) (i column : ℕ) (strips : Bool) (text : List ℕ) (ls
   abbrev last_piece : List ℕ
   last_piece = spell (header ∷ lines_at column end_of.init) last_text
 
+  block_ends : IsBlockPiece bs s text last_piece []
+  block_ends =
+      let before = lines_at column end_of.init in
+      let q = each_split column end_of.init (full end_of.last) (rw (end_of.is) at h.each) in
+      let lines : texts before ++ last_text ∷ [] ≡ indented_lines column ls ++ [] =
+      sym (texts_append before (line_of column (full end_of.last) ∷ [])) ∙ ap texts (sym (map-append (line_of column) end_of.init (full end_of.last ∷ []))) ∙ ap (λ l. texts (lines_at column l)) (sym end_of.is) ∙ texts_are column ls ∙ sym (append-nil (indented_lines column ls)) in
+      let value = last_value s strips column (map row_by end_of.init) (content_row end_of.last) last_text refl ∙ ap (value_before_text (header_by s strips)) (sym (map-append row_by end_of.init (full end_of.last ∷ [])) ∙ ap (map row_by) (sym end_of.is)) ∙ h.value in
+      let body = end_body s i column strips (texts before) last_text _ _ (ap (column_by None (collection_of i)) lines ∙ (in_column []).0) (ap starts_with_tab lines ∙ (in_column []).1) (rows_are column end_of.init q.0) q.1.row ∙ ap (λ t. Some (is_block s i column strips t)) value in
+      record {
+        column = column;
+        read = rw (same, split_spell (header ∷ before) last_text (header_inner s strips, tt, are_lines column end_of.init last_text q.0) q.1.inner) body;
+        may = refl;
+        none = header_none s strips (spell before last_text) (lines_none column end_of.init last_text q.0 q.1.none);
+        some = refl;
+      }
+
+  last_spelt : block_text s strips (spell_lines column ls []) ≡ last_piece ++ []
+  last_spelt = ap (λ x. block_text s strips x) (ap (λ l. spell_lines column l []) end_of.is ∙ spelt_more column end_of.init (full end_of.last ∷ []) [] ∙ spelt_feeds column end_of.init last_text) ∙ sym (append-nil last_piece)
+
   -- ---- before a trail
   module _ (tokens : List Tok) (whole : List ℕ) where
     by_tail : (x : List ℕ) → Tail column bs x tokens → Parts bs whole (block_text s strips (spell_lines column ls (10 ∷ x))) → From another bs [] whole (token_of s text ∷ tokens)
@@ -197,19 +216,7 @@ module _ (s : BlockStyle) (i column : ℕ) (strips : Bool) (text : List ℕ) (ls
         by_tail (spell_gap g (spaces d r)) (gap_tail column bs tokens g d r trail.0 (λ e. absurd (follows.0 e)) follows.1 (λ p awaits x here. rest [] p awaits block_scalar free x tt here)) parts
     block_is_read (marker g r) parts trail follows rest =
         by_tail (spell_gap g (marker_text r)) (gap_tail column bs tokens g 0 (marker_text r) trail follows.0 follows.1 (λ p awaits x here. rest [] p awaits block_scalar free x tt here)) parts
-    block_is_read (end []) parts trail follows rest = let block_ends : IsBlockPiece bs s text last_piece [] = let before = lines_at column end_of.init in
-      let q = each_split column end_of.init (full end_of.last) (rw (end_of.is) at h.each) in
-      let lines : texts before ++ last_text ∷ [] ≡ indented_lines column ls ++ [] =
-      sym (texts_append before (line_of column (full end_of.last) ∷ [])) ∙ ap texts (sym (map-append (line_of column) end_of.init (full end_of.last ∷ []))) ∙ ap (λ l. texts (lines_at column l)) (sym end_of.is) ∙ texts_are column ls ∙ sym (append-nil (indented_lines column ls)) in
-      let value = last_value s strips column (map row_by end_of.init) (content_row end_of.last) last_text refl ∙ ap (value_before_text (header_by s strips)) (sym (map-append row_by end_of.init (full end_of.last ∷ [])) ∙ ap (map row_by) (sym end_of.is)) ∙ h.value in
-      let body = end_body s i column strips (texts before) last_text _ _ (ap (column_by None (collection_of i)) lines ∙ (in_column []).0) (ap starts_with_tab lines ∙ (in_column []).1) (rows_are column end_of.init q.0) q.1.row ∙ ap (λ t. Some (is_block s i column strips t)) value in
-      record {
-        column = column;
-        read = rw (same, split_spell (header ∷ before) last_text (header_inner s strips, tt, are_lines column end_of.init last_text q.0) q.1.inner) body;
-        may = refl;
-        none = header_none s strips (spell before last_text) (lines_none column end_of.init last_text q.0 q.1.none);
-        some = refl;
-      } in let last_spelt : block_text s strips (spell_lines column ls []) ≡ last_piece ++ [] = ap (λ x. block_text s strips x) (ap (λ l. spell_lines column l []) end_of.is ∙ spelt_more column end_of.init (full end_of.last ∷ []) [] ∙ spelt_feeds column end_of.init last_text) ∙ sym (append-nil last_piece) in
+    block_is_read (end []) parts trail follows rest =
         piece_reads bs last_piece text whole [] tokens (subst (Parts bs whole) last_spelt parts) s block_ends (λ p awaits. rest [] _ awaits block_scalar free [] tt (refl, refl, refl))
     block_is_read (end (m ∷ g)) parts trail follows rest =
         by_tail (spell_gap_line m (spell_ending g [])) (ending_tail column bs tokens m g trail follows (λ p awaits x separates none. rest [] p awaits block_scalar free x tt (separates, refl, none))) parts

@@ -1,5 +1,5 @@
 -- Steps outside flow that begin at a column, after block collections that end there.
-use Rattle.proof_loads.proofs.TokensCommon.{Bool, IsShown, List, Position, Previous, Some, Tok, Token, [], act_of, and_parts, another, ap, arith, awaits_past, begins_free_line, begins_with_space_or_break, begun_by, begun_outside, colon_may_precede, dash_may_precede, false, free, further_lines_stand, gives_node, has_break, has_no_break, has_tab_before_piece, has_tab_within, inl, is_at_gap, is_break, is_deeper, is_in_column, is_marker, is_separation, is_waiting, last_line, le-ltb, least_column, length, length-append, line_past, line_past_separation, may_precede, nat_lt, not, not-true, not_ended, opened, position_after, previous_by, put, refl, replicate, start_if, suc, taken, toks, true, ℕ, ◌&&◌, ◌++◌, ◌+◌, ◌-◌, ◌<◌, ◌∙◌, ◌∷◌, ◌≡◌, ◌≤◌}
+use Rattle.proof_loads.proofs.TokensCommon.{[], act_of, and_parts, another, ap, arith, awaits_past, begins_free_line, begins_with_space_or_break, begun_by, begun_outside, Bool, colon_may_precede, dash_may_precede, false, free, further_lines_stand, gives_node, has_break, has_no_break, has_tab_before_piece, has_tab_within, inl, is_at_gap, is_break, is_deeper, is_in_column, is_marker, is_separation, is_waiting, IsShown, last_line, le-ltb, least_column, length, length-append, line_past, line_past_separation, List, may_precede, nat_lt, not, not-true, not_ended, opened, Position, position_after, Previous, previous_by, put, refl, replicate, Some, start_if, suc, taken, Tok, Token, toks, true, ℕ, ◌&&◌, ◌++◌, ◌+◌, ◌-◌, ◌<◌, ◌∙◌, ◌∷◌, ◌≡◌, ◌≤◌}
 use Rattle.defs_token.specs.Key.{Line}
 use Rattle.proof_loads.proofs.HasRows.Steps.{Reads, at, step_of, site_of, Steps, step}
 use Rattle.proof_loads.proofs.HasRows.Nodes.{or_true, deeper}
@@ -168,8 +168,8 @@ key_reads c bs w t next tokens node none quiet one_line clean short shown furthe
     at_column c bs w t true (58 ∷ next) Tok.block_mapping_start (Tok.key ∷ []) (Tok.value ∷ tokens) (λ o. stood o c bs) Line.waits (rw node refl) clean shown further precede
     (λ o must here col may. rw node refl) (λ here. rw one_line refl) (λ o here colon. start_is o colon Tok.block_mapping_start (put here Tok.key ∷ []))
     (λ o here awaits col may.
-        let past = position_after here w (58 ∷ next) in
-        let z = along w here (58 ∷ next) one_line in
-        let on : Stay past.col (stood o c bs) = let low = stands o c bs may in grind arith in
-        let opened_at : opened here.col (stood o c bs) ≡ c ∷ bs = rw col (opens o c bs may) in
-        rw none (step (step_of [] (58 ∷ []) Tok.value false) next (colon_step (stood o c bs) (c ∷ bs) next here past awaits (previous_by t) on (omega (arith, z, short)) opened_at gap follows quiet) (rest (position_after past (58 ∷ []) next) (omega (arith, z, col)))))
+    let past = position_after here w (58 ∷ next) in
+    let z = along w here (58 ∷ next) one_line in
+    let on : Stay past.col (stood o c bs) = let low = stands o c bs may in grind arith in
+    let opened_at : opened here.col (stood o c bs) ≡ c ∷ bs = rw col (opens o c bs may) in
+    rw none (step (step_of [] (58 ∷ []) Tok.value false) next (colon_step (stood o c bs) (c ∷ bs) next here past awaits (previous_by t) on (omega (arith, z, short)) opened_at gap follows quiet) (rest (position_after past (58 ∷ []) next) (omega (arith, z, col)))))

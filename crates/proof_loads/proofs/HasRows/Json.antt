@@ -17,7 +17,9 @@ use Rattle.proof_loads.proofs.HasRows.Strings.{body_of, quoted, quoted_is, strin
 -- ---- what a value begins with
 
 value_solid : (v : Json) (r : List ℕ) → IsJson v → IsSolid (spell v r)
-value_solid (number n) r is = let word_solid : IsSolid ((spell_number n []) ++ r) = grind (arith, nat_tests, and_parts, is_word, are_words) in rw (number_then n r) (word_solid)
+value_solid (number n) r is =
+    let word_solid : IsSolid ((spell_number n []) ++ r) = grind (arith, nat_tests, and_parts, is_word, are_words) in
+    rw (number_then n r) (word_solid)
 value_solid v r is = record { no_tab = grind arith; no_comment = grind arith }
 
 elements_solid : (es : Elements) (r : List ℕ) → AreElements es → IsSolid (spell_elements es r)
@@ -41,8 +43,9 @@ module _ (bs : List ℕ) where
   word_reads : (w : List ℕ) → IsWord w → (pl : Place) (text r : List ℕ) (tokens : List Tok) → Parts bs text (w ++ r) → Ends (flows pl) (innermost bs) r
       → Then bs (entries_after pl []) r tokens → From another bs (entries_before pl) text (Tok.scalar Style.plain w ∷ tokens)
   unfolding is_flow
-  word_reads w word pl text r tokens parts ends rest = let words_flow : list_all is_in_flow w ≡ true = list_all-more is_word is_in_flow (λ c e. grind (arith, nat_tests)) w word.chars in
-      let z = plain_piece (flows pl) (innermost bs) w r (word_text w word) (λ e. words_flow) ends.stopped in
+  word_reads w word pl text r tokens parts ends rest =
+      let flow : list_all is_in_flow w ≡ true = list_all-more is_word is_in_flow (λ c e. grind (arith, nat_tests)) w word.chars in
+      let z = plain_piece (flows pl) (innermost bs) w r (word_text w word) (λ e. flow) ends.stopped in
       place_reads pl bs w (Tok.scalar Style.plain w) text r tokens parts z.none (deep_piece bs w r z.no_break) (λ s e. z.fits _) refl (plain_shown pl parts.by w r z) (rw (z.no_dash) refl) (rest plain_scalar (λ f. refl))
 
   few : (es : List Entry) → length es < 255 → nat_lt (length (map level_of es)) 255 ≡ true
@@ -126,9 +129,10 @@ module _ (bs : List ℕ) where
     value_reads null_word is may pl text r tokens parts ends few rest = word_reads bs (codes "null") (record { chars = refl; begins = refl }) pl text r tokens parts ends rest
     value_reads true_word is may pl text r tokens parts ends few rest = word_reads bs (codes "true") (record { chars = refl; begins = refl }) pl text r tokens parts ends rest
     value_reads (number n) is may pl text r tokens parts ends few rest = word_reads bs (spell_number n []) (number_word n is) pl text r tokens (subst (Parts bs text) (number_then n r) parts) ends rest
-    value_reads (string ps) is may pl text r tokens parts ends few rest = let string_reads : From another bs (entries_before pl) text (string_token ps ∷ tokens) = let z = string_piece ps is in
-      place_reads pl bs (quoted ps) (string_token ps) text r tokens (subst (Parts bs text) (quoted_is ps r) parts) z.none (deep_piece bs (quoted ps) r z.no_break) (λ s e. z.further _) refl
-      (λ p awaits l there. (refl, ((body_of ps, refl, z.value), refl))) (ends.done (quoted ps)) (rest quoted_scalar (λ f. refl)) in string_reads
+    value_reads (string ps) is may pl text r tokens parts ends few rest =
+        let z = string_piece ps is in
+        place_reads pl bs (quoted ps) (string_token ps) text r tokens (subst (Parts bs text) (quoted_is ps r) parts) z.none (deep_piece bs (quoted ps) r z.no_break) (λ s e. z.further _) refl
+        (λ p awaits l there. (refl, ((body_of ps, refl, z.value), refl))) (ends.done (quoted ps)) (rest quoted_scalar (λ f. refl))
     value_reads (empty_array a) is may pl text r tokens parts ends few rest = empty_reads false a may pl text r tokens parts ends.no_comment (omega (arith, few)) rest
     value_reads (empty_object a) is may pl text r tokens parts ends few rest = empty_reads true a may pl text r tokens parts ends.no_comment (omega (arith, few)) rest
     value_reads (array a es) is may pl text r tokens parts ends few rest =

@@ -37,7 +37,13 @@ scalar_piece (plain t) h =
     let text = spelt_plain t h in
     let z = plain_piece false None (spelling t) [] text (λ e. cc) refl in
     record {
-      node = refl; begun = refl; quiet = λ f. refl; no_break = z.no_break; none = z.none; further = z.fits; precedes = λ bs r ends. refl;
+      node = refl;
+      begun = refl;
+      quiet = λ f. refl;
+      no_break = z.no_break;
+      none = z.none;
+      further = z.fits;
+      precedes = λ bs r ends. refl;
       shown = λ bs key r stop quote all p awaits before l f stay.
           let y = plain_piece false (innermost bs) (spelling t) r text (λ e. cc) stop in
           rw (stay, column_is bs) (y.some, ((y.begins (is_adjacent (before_past (before_by before) f)) _, y.whole, y.value), refl));
@@ -45,13 +51,25 @@ scalar_piece (plain t) h =
 scalar_piece (quoted text) h =
     let z = quoted_piece double (written_escapes text) text (double_is text) in
     record {
-      node = refl; begun = refl; quiet = λ f. refl; no_break = z.no_break; none = z.none; further = z.further; precedes = λ bs r ends. ends;
+      node = refl;
+      begun = refl;
+      quiet = λ f. refl;
+      no_break = z.no_break;
+      none = z.none;
+      further = z.further;
+      precedes = λ bs r ends. ends;
       shown = λ bs key r stop quote all p awaits before l f stay. (refl, ((written_escapes text, refl, z.value), refl));
     }
 scalar_piece (single_quoted text) h =
     let z = quoted_piece single (flat_map doubled text) text (single_is text h) in
     record {
-      node = refl; begun = refl; quiet = λ f. refl; no_break = z.no_break; none = z.none; further = z.further; precedes = λ bs r ends. ends;
+      node = refl;
+      begun = refl;
+      quiet = λ f. refl;
+      no_break = z.no_break;
+      none = z.none;
+      further = z.further;
+      precedes = λ bs r ends. ends;
       shown = λ bs key r stop quote all p awaits before l f stay. (refl, ((flat_map doubled text, refl, z.value, quote), refl));
     }
 

@@ -156,7 +156,8 @@ module _ (bs w : List ℕ) (t : Tok) (text next : List ℕ) (tokens : List Tok) 
       let a = at p bs awaits another l [] in
       let m = outside_line (has_break parts.by) l line in
       let fits = further (site_of a w' next) (rw (no_marker, none_ends bs here.col there) refl) in
-      let waits = awaits_past false t bs (awaits_at false here.col bs awaits) next in let no_less : (length bs) - (length bs) ≡ 0 = omega arith in
+      let waits = awaits_past false t bs (awaits_at false here.col bs awaits) next in
+      let no_less : length bs - length bs ≡ 0 = omega arith in
       let s : Steps a w' next (at (position_after here w next) bs waits (previous_by t) after (begun_by t)) [] = record {
         is_separated = parts.separates;
         is_shown = shown p awaits l there;

@@ -74,10 +74,16 @@ three c d e h k = grind (arith, nat_tests)
 pair : (c d : ℕ) (r : List ℕ) → not ((c == 45) && (d == 45)) ≡ true → not ((c == 46) && (d == 46)) ≡ true → is_document_marker (c ∷ d ∷ r) ≡ false
 pair c d a h k = grind (arith, three)
 
+unmarked : (c : ℕ) (w next : List ℕ) → is_second c w ≡ true → is_document_marker (c ∷ (w ++ next)) ≡ false
+unmarked c w next h = grind (arith, nat_tests, and_parts, not, pair, not-true)
+
+no_gap : (d : ℕ) → is_plain_char d ≡ true → (d == 32) ≡ false → is_blank_or_end d ≡ false
+unfolding is_blank_or_end
+no_gap d h e = let z = plain_char d h in rw (z.blank, e, z.break, z.nul) refl
+
 module _ (in_flow adjacent : Bool) (column : ℕ) where
   begins : (c : ℕ) (w next : List ℕ) → is_first c ≡ true → is_second c w ≡ true → are_plain w ≡ true → MayFlow in_flow (c ∷ w) → begins_plain in_flow adjacent column (c ∷ (w ++ next)) ≡ true
-  unfolding is_blank_or_end
-  begins c w next first second plain flow = let unmarked : is_document_marker (c ∷ (w ++ next)) ≡ false = grind (arith, nat_tests, and_parts, not, pair, not-true) in rw (unmarked, and_false (column == 0)) (by (c == 45) refl w second plain flow)
+  begins c w next first second plain flow = rw (unmarked c w next second, and_false (column == 0)) (by (c == 45) refl w second plain flow)
     where
       by : (b : Bool) → (c == 45) ≡ b → (w : List ℕ) → is_second c w ≡ true → are_plain w ≡ true → MayFlow in_flow (c ∷ w) → (may_begin in_flow adjacent c (w ++ next) && true) ≡ true
       by true e [] second plain flow = let q = and_parts (not (c == 45)) (not (c == 46)) second in let n = not-true (c == 45) q.0 in cc
@@ -85,8 +91,8 @@ module _ (in_flow adjacent : Bool) (column : ℕ) where
           let q = and_parts (not ((c == 45) && (d == 45)) && not ((c == 46) && (d == 46))) (not ((c == 45) && (d == 32))) second in
           let n : (d == 32) ≡ false = rw e at (not-true ((c == 45) && (d == 32)) q.1) in
           let one = and_parts (is_plain_char d) (are_plain w) plain in
-          let no_flow : (in_flow && is_flow d) ≡ false = grind (arith, not-true) in let no_gap : is_blank_or_end d ≡ false = let z = plain_char d one.0 in rw (z.blank, n, z.break, z.nul) refl in
-          rw (e, no_gap, no_flow) refl
+          let no_flow : (in_flow && is_flow d) ≡ false = grind (arith, not-true) in
+          rw (e, no_gap d one.0 n, no_flow) refl
       by false e w second plain flow = let z = first_char c first in rw (e, z.2, (plain_char c z.0).colon, z.3, z.4) refl
 
 -- ---- the piece

@@ -25,10 +25,10 @@ if_goes : (b : Bool) (x y : List ℕ) (c : ℕ) → (b ≡ true → Goes double 
 if_goes true x y c f g = f refl
 if_goes false x y c f g = g refl
 
-pub double_is : (w : List ℕ) → IsBody double (written_escapes w) w
+character_goes : (c : ℕ) → Goes double (written_character c) c
 unfolding written_character is_break escape is_nul
-double_is [] = nothing_is double
-double_is (c ∷ w) = let character_goes : Goes double (written_character c) c = if_goes (c == 34) _ _ c (λ e. named 34 34 c e refl (λ body. refl)) (λ quote.
+character_goes c =
+    if_goes (c == 34) _ _ c (λ e. named 34 34 c e refl (λ body. refl)) (λ quote.
     if_goes (c == 92) _ _ c (λ e. named 92 92 c e refl (λ body. refl)) (λ backslash.
     if_goes (c == 8) _ _ c (λ e. named 98 8 c e refl (λ body. refl)) (λ e8.
     if_goes (c == 9) _ _ c (λ e. named 116 9 c e refl (λ body. refl)) (λ e9.
@@ -36,7 +36,11 @@ double_is (c ∷ w) = let character_goes : Goes double (written_character c) c =
     if_goes (c == 12) _ _ c (λ e. named 102 12 c e refl (λ body. refl)) (λ e12.
     if_goes (c == 13) _ _ c (λ e. named 114 13 c e refl (λ body. refl)) (λ e13.
     if_goes (nat_lt c 32 || (c == 127)) _ _ c (λ e. coded c (grind (arith, nat_tests)))
-    (λ high. itself_goes c (record { nul = grind (arith, nat_tests); break = grind (arith, nat_tests); backslash = backslash; quote = quote }))))))))) in character_goes (written_escapes w) w (double_is w)
+    (λ high. itself_goes c (record { nul = grind (arith, nat_tests); break = grind (arith, nat_tests); backslash = backslash; quote = quote })))))))))
+
+pub double_is : (w : List ℕ) → IsBody double (written_escapes w) w
+double_is [] = nothing_is double
+double_is (c ∷ w) = character_goes c (written_escapes w) w (double_is w)
 
 -- ---- in single quotes
 

@@ -1,5 +1,5 @@
 -- Strings of JSON texts as bodies in double quotes, by the definition of their value.
-use Rattle.proof_loads.proofs.TokensCommon.{[], and_parts, ap, append_assoc, are_pieces, arith, body_value, character_of, content, digit_value, double, double_quoted_element, double_quoted_value, escape, false, four_digits, further_lines_stand, has_no_break, is_break, is_character_code, is_digit, is_hex_digit, is_nul, is_piece, is_surrogate, is_unescaped, itself, letter_of, List, ltb-true, nat_tests, not, numeric_escape, Option, Piece, quote_of, Quotes, refl, Short, short, single, single_quoted_element, single_quoted_value, Some, spell_pieces, spell_string, Spelled, style_of, sym, Tok, true, unescaped, unicode, ℕ, ◌*◌, ◌++◌, ◌+◌, ◌<◌, ◌==◌, ◌∙◌, ◌∷◌, ◌≡◌}
+use Rattle.proof_loads.proofs.TokensCommon.{[], and_parts, ap, append_assoc, are_pieces, arith, body_value, character_of, content, digit_value, double, double_quoted_element, double_quoted_value, escape, false, four_digits, further_lines_stand, has_no_break, is_break, is_character_code, is_digit, is_hex_digit, is_nul, is_piece, is_surrogate, is_unescaped, itself, letter_of, List, ltb-true, nat_tests, not, numeric_escape, Option, Piece, quote_of, Quotes, refl, short, Short, single, single_quoted_element, single_quoted_value, Some, spell_pieces, spell_string, Spelled, style_of, sym, Tok, true, unescaped, unicode, ℕ, ◌*◌, ◌++◌, ◌+◌, ◌<◌, ◌==◌, ◌∙◌, ◌∷◌, ◌≡◌}
 use Rattle.proof_loads.proofs.HasRows.OneLine.{IsOneLine, nothing, with_content, plain_step}
 use Rattle.proof_loads.proofs.HasRows.OneLine
 use Rattle.proof_loads.proofs.Nul.{HasNone, quoted_none}
@@ -31,11 +31,18 @@ pub record Code (a b c d v : ℕ) : Type 0 where
   pub valid : is_character_code v ≡ true
   pub value : (((0 * 16 + digit_value a) * 16 + digit_value b) * 16 + digit_value c) * 16 + digit_value d ≡ v
 
+code : (a b c d : ℕ) → is_piece (unicode a b c d) ≡ true → Code a b c d (four_digits a b c d)
+code a b c d h = grind (arith, nat_tests, and_parts, is_hex_digit, not, is_surrogate, four_digits, small_digit, digit_value, is_code)
+
 pub record Unescaped (c : ℕ) : Type 0 where
   pub nul : is_nul c ≡ false
   pub break : is_break c ≡ false
   pub backslash : (c == 92) ≡ false
   pub quote : (c == 34) ≡ false
+
+unescaped_char : (c : ℕ) → is_unescaped c ≡ true → Unescaped c
+unfolding is_unescaped is_break is_nul
+unescaped_char c h = record { nul = grind (arith, nat_tests); break = grind (arith, nat_tests); backslash = grind (arith, nat_tests); quote = grind (arith, nat_tests) }
 
 abbrev pub element_of : Quotes → ℕ → List ℕ → Option Spelled
 element_of single = single_quoted_element
@@ -75,11 +82,10 @@ unicode_goes a b c d v u body text z = record {
 }
 
 string_is : (ps : List Piece) → are_pieces ps ≡ true → IsBody double (body_of ps) (unescaped ps)
-unfolding is_unescaped is_break is_nul
 string_is [] h = nothing_is double
-string_is (itself c ∷ ps) h = let q = and_parts (is_piece (itself c)) (are_pieces ps) h in let unescaped_char : Unescaped c = record { nul = grind (arith, nat_tests); break = grind (arith, nat_tests); backslash = grind (arith, nat_tests); quote = grind (arith, nat_tests) } in itself_goes c (unescaped_char) (body_of ps) (unescaped ps) (string_is ps q.1)
+string_is (itself c ∷ ps) h = let q = and_parts (is_piece (itself c)) (are_pieces ps) h in itself_goes c (unescaped_char c q.0) (body_of ps) (unescaped ps) (string_is ps q.1)
 string_is (short s ∷ ps) h = short_goes s (body_of ps) (unescaped ps) (string_is ps h)
-string_is (unicode a b c d ∷ ps) h = let q = and_parts (is_piece (unicode a b c d)) (are_pieces ps) h in let code : Code a b c d (four_digits a b c d) = grind (arith, nat_tests, and_parts, is_hex_digit, not, is_surrogate, four_digits, small_digit, digit_value, is_code) in unicode_goes a b c d _ (code) (body_of ps) (unescaped ps) (string_is ps q.1)
+string_is (unicode a b c d ∷ ps) h = let q = and_parts (is_piece (unicode a b c d)) (are_pieces ps) h in unicode_goes a b c d _ (code a b c d q.0) (body_of ps) (unescaped ps) (string_is ps q.1)
 
 -- ---- between quotes
 

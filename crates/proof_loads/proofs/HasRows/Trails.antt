@@ -1,5 +1,5 @@
 -- What stands after a value of a layout: gaps and comments as separations, and how the next piece is read.
-use Rattle.proof_loads.proofs.TokensCommon.{Bool, Comment, GapLine, IsComment, IsGap, IsLineText, List, Option, Position, Previous, Some, Stand, Tok, [], after_blank, and_parts, another, ap, append_assoc, are_marks, arith, codes, comment, comment_line, empty_line, ends_line, false, free, has_break, has_tab_within, innermost, inside, is_before_line_feed, is_blank, is_blank_or_end, is_blanks_and_comment, is_break, is_document_marker, is_line_character, is_nul, is_on_line, is_separation, is_value_indicator, is_waiting, last_line, leading, least_column, line_past_separation, list_all, nat_le, nat_tests, next_line, no_comment, not, on_line, position_after, position_past, refl, spaces, spell_comment, spell_ending, spell_gap, split, split_by, stops, suc, sym, true, zero, ℕ, ◌&&◌, ◌++◌, ◌+◌, ◌<◌, ◌==◌, ◌||◌, ◌∙◌, ◌∷◌, ◌≡◌, ◌≤◌}
+use Rattle.proof_loads.proofs.TokensCommon.{[], after_blank, and_parts, another, ap, append_assoc, are_marks, arith, Bool, codes, comment, Comment, comment_line, empty_line, ends_line, false, free, GapLine, has_break, has_tab_within, innermost, inside, is_before_line_feed, is_blank, is_blank_or_end, is_blanks_and_comment, is_break, is_document_marker, is_line_character, is_nul, is_on_line, is_separation, is_value_indicator, is_waiting, IsComment, IsGap, IsLineText, last_line, leading, least_column, line_past_separation, List, list_all, nat_le, nat_tests, next_line, no_comment, not, on_line, Option, Position, position_after, position_past, Previous, refl, Some, spaces, spell_comment, spell_ending, spell_gap, split, split_by, Stand, stops, suc, sym, Tok, true, zero, ℕ, ◌&&◌, ◌++◌, ◌+◌, ◌<◌, ◌==◌, ◌||◌, ◌∙◌, ◌∷◌, ◌≡◌, ◌≤◌}
 use Rattle.defs_token.specs.Key.{Line}
 use Rattle.defs_token.specs.Plain.{is_deeper}
 use Rattle.proof_loads.proofs.HasRows.Steps.{Reads, at}
@@ -225,7 +225,10 @@ here_after k g n r p before l remark gap quiet line =
 pub arrive : (k : Comment) (t : Trail) (bs : List ℕ) (tokens : List Tok) → IsComment k → IsTrail t → After t bs tokens → Then bs [] (spell_comment k (trail_text t)) tokens
 arrive k (next g d r) bs tokens remark trail rest before quiet p awaits l line deep = rest [] p awaits before l _ tt (here_after k g d r p before l remark trail.0 quiet line)
 arrive k (marker g r) bs tokens remark trail rest before quiet p awaits l line deep = rest [] p awaits before l _ tt (here_after k g 0 (marker_text r) p before l remark trail quiet line)
-arrive k (end g) bs tokens remark trail rest before quiet p awaits l line deep = let e = ending_parts g trail in let parts = comment_parts k (spell_ending g []) [] remark e.0 e.1 in rest [] p awaits before l _ tt (parts.0, line, parts.1)
+arrive k (end g) bs tokens remark trail rest before quiet p awaits l line deep =
+    let e = ending_parts g trail in
+    let parts = comment_parts k (spell_ending g []) [] remark e.0 e.1 in
+    rest [] p awaits before l _ tt (parts.0, line, parts.1)
 
 -- ---- spaces before a value on the line
 

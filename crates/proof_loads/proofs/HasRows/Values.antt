@@ -1,5 +1,5 @@
 -- Values, arrays and hashes of layouts have rows.
-use Rattle.proof_loads.proofs.TokensCommon.{[], all_field_tokens, all_of, Anchor, anchors_after, anchors_after_field, and_from, and_parts, another, append-nil, AreEntries, AreFields, arith, begins_with_space_or_break, begun, Block, block_tokens, BlockStyle, Bool, colon_may_precede, Comment, dash_may_precede, empty_hash, Entries, entry_tokens, false, Field, field_tokens, Fields, folded_header, free, GapLine, goes_on_with_name, has_no_break, has_tab_before_piece, inl, Inline, inline_tokens, inr, is_anchor_name, is_ascii_alphanumeric, is_at_gap, is_blank, is_blank_or_end, is_break, is_flow, is_line_character, is_name, is_nul, is_one_of, is_waiting, IsBlock, IsComment, IsField, IsGap, IsInline, IsLineText, IsScalar, IsValue, leading, least_column, length, List, list_all, MayFollowScalarKey, nat_tests, next_line, no_comment, Position, Previous, refl, Scalar, scalar, scalar_token, spaces, spell_block, spell_comment, spell_entries, spell_field, spell_fields, spell_gap, spell_inline, spell_lines, spell_literal, spell_scalar, spell_value, spelling, subst, suc, taken, Tok, true, Value, value_tokens, zero, ℕ, ◌++◌, ◌+◌, ◌==◌, ◌∷◌, ◌≡◌, ◌≤◌, ◌⊎◌}
+use Rattle.proof_loads.proofs.TokensCommon.{[], all_field_tokens, all_of, Anchor, anchors_after, anchors_after_field, and_from, and_parts, another, append-nil, AreEntries, AreFields, arith, begins_with_space_or_break, begun, Block, block_tokens, BlockStyle, Bool, colon_may_precede, Comment, dash_may_precede, empty_hash, Entries, entry_tokens, false, Field, field_tokens, Fields, folded_header, free, GapLine, goes_on_with_name, has_no_break, has_tab_before_piece, inl, Inline, inline_tokens, inr, is_anchor_name, is_ascii_alphanumeric, is_at_gap, is_blank, is_blank_or_end, is_break, is_flow, is_line_character, is_name, is_nul, is_one_of, is_waiting, IsBlock, IsComment, IsField, IsGap, IsInline, IsLineText, IsScalar, IsValue, leading, least_column, length, List, list_all, MayFollowScalarKey, nat_tests, next_line, no_comment, Position, Previous, refl, scalar, Scalar, scalar_token, spaces, spell_block, spell_comment, spell_entries, spell_field, spell_fields, spell_gap, spell_inline, spell_lines, spell_literal, spell_scalar, spell_value, spelling, subst, suc, taken, Tok, true, Value, value_tokens, zero, ℕ, ◌++◌, ◌+◌, ◌==◌, ◌∷◌, ◌≡◌, ◌≤◌, ◌⊎◌}
 use Rattle.defs_layout.specs.Json
 use Rattle.defs_token.specs.Piece as piece
 use Rattle.defs_layout.specs.Layout.{empty_array}
@@ -53,7 +53,10 @@ spaces_tabless (suc n) a h = spaces_tabless n a h
 
 content_tabless : (a : List ℕ) → BeginsContent a → has_tab_before_piece false a ≡ false
 unfolding is_blank
-content_tabless a (content_first c r blank break hash nul) = let no_blank_tab : (c == 9) ≡ false = grind (arith, nat_tests) in let no_blank_space : (c == 32) ≡ false = grind (arith, nat_tests) in rw (no_blank_tab, no_blank_space, break, hash) refl
+content_tabless a (content_first c r blank break hash nul) =
+    let no_blank_tab : (c == 9) ≡ false = grind (arith, nat_tests) in
+    let no_blank_space : (c == 32) ≡ false = grind (arith, nat_tests) in
+    rw (no_blank_tab, no_blank_space, break, hash) refl
 
 comment_tabless : (text a : List ℕ) → IsLineText text → has_tab_before_piece true (text ++ 10 ∷ a) ≡ has_tab_before_piece false a
 unfolding is_break
