@@ -84,7 +84,7 @@ not_at_end n c a h = grind (arith, nat_tests)
 pub outside : (column n : ℕ) (c : ℕ) (a : List ℕ) → n < column → is_further c ≡ true → is_outside column (spaces n (c ∷ a)) ≡ true
 unfolding classes.is_break classes.is_nul
 outside zero n c a low h = absurd (omega (arith, low))
-outside (suc column) zero c a low h = let no : (c == 32) ≡ false = grind (arith, nat_tests) in let yes : (not ((c == 10) || (c == 13)) && not (c == 0)) ≡ true = grind (arith, nat_tests) in rw (no, yes) refl
+outside (suc column) zero c a low h = grind (arith, nat_tests)
 outside (suc column) (suc n) c a low h = outside column n c a (omega (arith, low)) h
 
 -- ---- lines
@@ -92,10 +92,7 @@ outside (suc column) (suc n) c a low h = outside column n c a (omega (arith, low
 pub inner_line : (w : List ℕ) → IsLineText w → is_in_line (w ++ []) ≡ true
 unfolding classes.is_break is_line_character
 inner_line [] h = refl
-inner_line (c ∷ w) h =
-    let q = and_parts (is_line_character c) (list_all is_line_character w) h in
-    let one : not ((c == 10) || (c == 13)) ≡ true = (let e = q.0 in grind (arith, nat_tests)) in
-    rw one (inner_line w q.1)
+inner_line (c ∷ w) h = grind (arith, nat_tests, and_parts, inner_line w)
 
 pub inner_spaces : (n : ℕ) (w : List ℕ) → is_in_line w ≡ true → is_in_line (spaces n w) ≡ true
 unfolding classes.is_break

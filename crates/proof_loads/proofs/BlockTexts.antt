@@ -64,18 +64,7 @@ spaces_long (suc n) r = let e = spaces_long n r in omega (arith, e)
 
 pub deepest : (column : ℕ) (ls : List Line) (more : List (List ℕ)) → BeginsWithText ls → AreLines column ls → deepest_start (indented_lines column ls ++ more) ≡ column
 deepest column [] more h are = absurd h
-deepest column (full [] ∷ ls) more h are = absurd h
-deepest column (full (c ∷ w) ∷ ls) more h are =
-    let no : is_spaces (spaces column ((c ∷ w) ++ [])) ≡ false = are_spaces column ((c ∷ w) ++ []) ∙ rw h refl in
-    let leads : leading_spaces (spaces column ((c ∷ w) ++ [])) ≡ column + leading_spaces ((c ∷ w) ++ []) = spaces_lead column ((c ∷ w) ++ []) in
-    let none : leading_spaces ((c ∷ w) ++ []) ≡ 0 = rw h refl in
-    rw no (omega (arith, leads, none))
-deepest column (blank n ∷ ls) more h are =
-    let all : is_spaces (spaces n []) ≡ true = are_spaces n [] in
-    let leads : leading_spaces (spaces n []) ≡ n + leading_spaces [] = spaces_lead n [] in
-    let low = are.0 in
-    let e = deepest column ls more h are.1 in
-    rw all (omega (arith, leads, low, e))
+deepest column (l ∷ ls) more h are = grind (arith, are_spaces, spaces_lead, deepest column ls more)
 
 drop_spaces : (n : ℕ) (r : List ℕ) → drop n (spaces n r) ≡ r
 drop_spaces zero r = refl

@@ -6,8 +6,7 @@ use Rattle.yaml_scanner.specs.Waits.{comes_before}
 
 keys_from : (n : ℕ) (ks : List (Option Key)) → AreBehind n ks → KeysFrom n ks
 keys_from n [] b = tt
-keys_from n (None ∷ ks) b = (tt, keys_from n ks b.1)
-keys_from n (Some k ∷ ks) b = (b.0, keys_from n ks b.1)
+keys_from n (k ∷ ks) b = grind (arith, keys_from n ks)
 
 -- These tokens come first at a state, and no key may come before one of them.
 pub record Stays (given : List Token) (t : ScannerState) : Type 0 where
@@ -52,8 +51,7 @@ stops a e = grind arith
 -- a key that stands behind more tokens comes before none of these
 none_comes : (n m : ℕ) (ks : List (Option Key)) → KeysFrom (n + 1 + m) ks → list_any (comes_before n) ks ≡ false
 none_comes n m [] k = refl
-none_comes n m (None ∷ ks) k = none_comes n m ks k.1
-none_comes n m (Some x ∷ ks) k = grind (arith, none_comes n m ks k.1)
+none_comes n m (x ∷ ks) k = grind (arith, none_comes n m ks)
 
 -- All settled tokens begin with those that are settled anywhere.
 pub settled_first : (text : List ℕ) (all given : List Token) → AreSettled text all → IsReached text given → BeginsWith given all

@@ -1,5 +1,5 @@
 -- After the first events of a stream, no open node's anchor is finished: anchors are numbered as they come.
-use Rattle.proof_loads.proofs.Common.{[], AliasesInsideTheirNodeAreBadValues, ap, are_allowed, arith, array, at_work, bad_value, Bool, both, Ev, events_of, false, hash, if◌then◌else◌, inl, inr, IsOpen, items_of, List, Loader, loader_after, map, named, Names, names_after, ne_eqb, new_loader, no_names, None, noted, number, Opened, opened_mapping, opened_sequence, Option, option_map, out_of_nesting, pairs_of, perhaps_resolved, Position, Raw, reads, refl, refused, repeats, resolved_event, Some, Step, Style, subst, suc, Tree, true, under_name, Unfinished, with_anchor, with_document_end, with_event, with_event_at, with_events, with_mapping_end, with_root, with_sequence_end, with_start, with_tree, zero, ℕ, ◌++◌, ◌<◌, ◌∙◌, ◌∷◌, ◌≡◌, ◌≤◌, ◌⊎◌}
+use Rattle.proof_loads.proofs.Common.{[], AliasesInsideTheirNodeAreBadValues, ap, are_allowed, arith, array, at_work, bad_value, Bool, both, Ev, events_of, hash, if◌then◌else◌, inl, inr, IsOpen, items_of, List, Loader, loader_after, map, named, Names, names_after, ne_eqb, new_loader, no_names, None, noted, number, Opened, opened_mapping, opened_sequence, Option, option_map, out_of_nesting, pairs_of, perhaps_resolved, Position, Raw, reads, refl, refused, repeats, resolved_event, Some, Step, subst, suc, Tree, under_name, Unfinished, with_anchor, with_document_end, with_event, with_event_at, with_events, with_mapping_end, with_root, with_sequence_end, with_start, with_tree, ℕ, ◌++◌, ◌<◌, ◌∷◌, ◌≡◌, ◌≤◌, ◌⊎◌}
 use Rattle.defs_tree.specs.Pairs.{has_key, insert}
 use Rattle.defs_event.specs.Scalar.{scalar_tree}
 use Rattle.defs_event.specs.Anchors.{Anchors, aliased, finished}
@@ -38,12 +38,7 @@ not_at n a anchors ne = ap (λ b. if b then a.1 else aliased n anchors) (ne_eqb 
 
 -- A node is finished inside collections whose anchors are less than its own.
 finishes : (m a : ℕ) (t : Tree) (anchors : Anchors) (ns : List ℕ) → a ≤ m → ((n : ℕ) → IsIn n ns → 0 < a → n < a) → Fits m anchors ns → Fits m (finished a t anchors) ns
-finishes m zero t anchors ns le less f = f
-finishes m (suc a) t anchors ns le less f = record {
-  fresh = λ n e. not_at n (suc a, t) anchors (λ x. omega (arith, x, le, e (omega (arith, x)))) ∙ f.fresh n e;
-  held = λ n o. ((f.held n o).0, not_at n (suc a, t) anchors (λ x. omega (arith, x, less n o (omega arith))) ∙ (f.held n o).1);
-  sorted = f.sorted;
-}
+finishes m a t anchors ns h e f = grind (arith, suc, not_at)
 
 -- ---- unfinished readings
 
@@ -56,18 +51,7 @@ OfStep m (repeats key) = Unit {0}
 OfStep m out_of_nesting = Unit {0}
 
 of_tree : (m : ℕ) (t : Tree) (u : Unfinished) (outer : List Opened) → Fits m u.anchors (numbers outer) → OfStep m (with_tree t u outer)
-of_tree m t u [] f = by u.root
-  where
-    by : (root : Option Tree) → OfStep m (with_root t u root)
-    by None = f
-    by (Some r) = tt
-of_tree m t u (opened_sequence a ts ∷ outer) f = f
-of_tree m t u (opened_mapping a ps None ∷ outer) f = f
-of_tree m t u (opened_mapping a ps (Some k) ∷ outer) f = by (has_key k ps)
-  where
-    by : (b : Bool) → OfStep m (if b then repeats k else reads (record u { opened = opened_mapping a (insert k t ps) None ∷ outer }))
-    by true = tt
-    by false = f
+of_tree m t u outer h = grind (arith, with_root, opened_mapping, has_key, insert)
 
 of_node : (m a : ℕ) (t : Tree) (u : Unfinished) (outer : List Opened) → Fits m u.anchors (a ∷ numbers outer) → OfStep m (with_node a t u outer)
 of_node m a t u outer f =
@@ -83,8 +67,7 @@ of_mapping_end m u (opened_mapping a ps None ∷ outer) f = of_node m a (hash (p
 of_mapping_end m u opened f = tt
 
 of_document_end : (m : ℕ) (u : Unfinished) (opened : List Opened) → IsStillOpen m u → OfStep m (with_document_end u opened)
-of_document_end m u [] f = f
-of_document_end m u (c ∷ outer) f = tt
+of_document_end m u opened h = grind (arith)
 
 -- a node's start or scalar has no anchor, or a number after m; n are the anchors after it
 abbrev IsNext : (m a n : ℕ) → Type 0
@@ -123,8 +106,7 @@ of_event m n u Ev.mapping_end le f = of_mapping_end n u u.opened (later m n u.an
 of_event m n u e le f = later m n u.anchors (numbers u.opened) le f
 
 is_next : (s : Names) (a : Option (List ℕ)) → IsNext s.count (number s a) (with_anchor s a).count
-is_next s None = (omega arith, omega arith, λ pos. omega (arith, pos))
-is_next s (Some name) = (omega arith, omega arith, λ pos. omega arith)
+is_next s a = grind (arith)
 
 abbrev OfSome : {A : Type 0} → (A → Type 0) → Option A → Type 0
 OfSome P None = Unit {0}
@@ -137,18 +119,7 @@ allowed : (P : Ev → Type 0) (b : Bool) (e : Ev) → P e → OfSome P (if b the
 allowed a d e h = grind arith
 
 numbered : (keep_tags : Bool) (s : Names) (r : Raw) → OfSome (Follows s.count (names_after keep_tags s r).count) (resolved_event s r)
-numbered k s (Raw.document_start ds) = allowed (Follows s.count s.count) (are_allowed ds) Ev.document_start (omega arith)
-numbered k s (Raw.alias name) = mapped (Follows s.count s.count) Ev.alias (under_name name s.anchors) (λ n. omega arith)
-numbered k s (Raw.scalar text style a t) = mapped (Follows s.count (with_anchor s a).count) (λ u. Ev.scalar text style (number s a) u) (perhaps_resolved s.handles t) (λ u. is_next s a)
-numbered k s (Raw.empty_scalar a t) = mapped (Follows s.count (with_anchor s a).count) (λ u. Ev.scalar [] Style.plain (number s a) u) (perhaps_resolved s.handles t) (λ u. is_next s a)
-numbered k s (Raw.flow_sequence_start a t) = mapped (Follows s.count (with_anchor s a).count) (λ u. Ev.sequence_start (number s a) u) (perhaps_resolved s.handles t) (λ u. is_next s a)
-numbered k s (Raw.sequence_start a t) = mapped (Follows s.count (with_anchor s a).count) (λ u. Ev.sequence_start (number s a) u) (perhaps_resolved s.handles t) (λ u. is_next s a)
-numbered k s (Raw.indentless_sequence_start a t) = mapped (Follows s.count (with_anchor s a).count) (λ u. Ev.sequence_start (number s a) u) (perhaps_resolved s.handles t) (λ u. is_next s a)
-numbered k s (Raw.flow_mapping_start a t) = mapped (Follows s.count (with_anchor s a).count) (λ u. Ev.mapping_start (number s a) u) (perhaps_resolved s.handles t) (λ u. is_next s a)
-numbered k s (Raw.mapping_start a t) = mapped (Follows s.count (with_anchor s a).count) (λ u. Ev.mapping_start (number s a) u) (perhaps_resolved s.handles t) (λ u. is_next s a)
-numbered k s Raw.pair_start = is_next s None
-numbered k s Raw.unwritten_value = is_next s None
-numbered k s r = omega arith
+numbered keep_tags s r = grind (arith, allowed, are_allowed, mapped, under_name, with_anchor, number, perhaps_resolved, is_next)
 
 -- ---- loaders
 
@@ -161,9 +132,7 @@ of_after : (m : ℕ) (x : Step) (documents : List Tree) (p : Position) → OfSte
 of_after m a b p h = grind arith
 
 of_event_at : (m n : ℕ) (l : Loader) (e : Ev) (p : Position) → Follows m n e → OfLoader m l → OfLoader n (with_event_at l e p)
-of_event_at m n (at_work u) e p f h = of_after n (with_event u e) u.documents p (of_event m n u e f h)
-of_event_at m n (noted documents key q) e p f h = tt
-of_event_at m n (refused documents q) e p f h = tt
+of_event_at m n l e p h f = grind (arith, of_after, with_event, of_event)
 
 record FirstNamed (keep_tags : Bool) (s : Names) (r : Raw) (rs : List Raw) (e : Ev) (es : List Ev) : Type 0 where
   follows : Follows s.count (names_after keep_tags s r).count e

@@ -17,10 +17,7 @@ are_line_texts ls = list_all (λ l. list_all is_line_character l) ls
 
 text_lines : (text : List ℕ) → list_all is_literal_character text ≡ true → are_line_texts (lines_of text) ≡ true
 text_lines [] h = refl
-text_lines (c ∷ cs) h = let q = and_parts (is_literal_character c) (list_all is_literal_character cs) h in by (c == 10) refl q.0 (text_lines cs q.1)
-  where
-    by : (b : Bool) → (c == 10) ≡ b → is_literal_character c ≡ true → are_line_texts (lines_of cs) ≡ true → are_line_texts (if b then [] ∷ lines_of cs else onto_first_line c (lines_of cs)) ≡ true
-    by a e d g = grind (arith, in_line)
+text_lines (c ∷ cs) h = grind (arith, and_parts, in_line, text_lines cs)
 
 -- ---- the last line
 
@@ -51,9 +48,7 @@ line_texts (l ∷ ls) h = grind (arith, line_texts ls)
 
 ends_lines : (ls : List Line) → ends_full (contents ls) ≡ true → EndsInText ls
 ends_lines [] h = cc
-ends_lines (full w ∷ []) h = tt
-ends_lines (blank n ∷ []) h = cc
-ends_lines (l ∷ m ∷ ls) h = ends_lines (m ∷ ls) h
+ends_lines (l ∷ ls) h = grind (arith, ends_lines ls)
 
 begins_lines : (column : ℕ) (ls : List Line) → AreLines column ls → EndsInText ls → first_full_line_is_indented (contents ls) ≡ false → BeginsWithText ls
 begins_lines column [] are ends h = absurd ends
@@ -66,9 +61,7 @@ rows ls = map row_by ls
 
 pub content_last : (ls : List Line) → EndsInText ls → has_content (rows ls) ≡ true
 content_last [] h = absurd h
-content_last (full w ∷ ls) h = refl
-content_last (blank n ∷ []) h = absurd h
-content_last (blank n ∷ m ∷ ls) h = content_last (m ∷ ls) h
+content_last (l ∷ ls) h = grind (arith, content_last ls)
 
 -- the text after a first line
 abbrev after : List Line → List ℕ

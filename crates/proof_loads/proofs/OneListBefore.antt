@@ -1,7 +1,6 @@
 -- A text has one fault, and the events before it are one list.
 use Rattle.proof_loads.proofs.Common.{[], AgreeAt, ap, append-nil, AreFirst, AreSettled, arith, BeginsPlaced, BeginsWith, Blames, Bool, both_ways, ComesAfter, ErrorReport, Ev, false, fetch, HasPlacedTo, here, inl, inr, IsFaultOf, IsReached, IsStream, length, length-append, List, named, no_names, no_stream, no_token, NoneBegins, OneListOfEventsBefore, OneListOfPulledEventsBefore, OneListOfPushedEventsBefore, Position, Problem, Raw, Reaches, read, refl, Result, ScannerState, start, stood, stream_by, subst, sym, there, to_next, Tok, Token, toks, wants_memory, ℕ, ◌++◌, ◌+◌, ◌∙◌, ◌∷◌, ◌≡◌}
 use Rattle.model_parser.proofs.OnePlacing.{AreSame, one_stream, same_events, one_list_so_far}
-use Rattle.yaml_tokens.specs.declared.problem.Problem.TheVariants as problem
 use Rattle.model_scanner.specs.Document.{fetch_stream_start}
 use Rattle.yaml_parser.specs.Apart.{StandsBefore}
 use Rattle.yaml_parser.proofs.Holding.{many}
@@ -56,11 +55,7 @@ without_last (x ∷ xs) (y ∷ ys) e a = (a.0, a.1, without_last xs ys e a.2)
 
 -- What the same tokens say before the same problem is one list.
 one_beside : (q : Problem) (tokens : List Token) (place : Position) (xs ys : List (Raw × Position)) → StandsBefore q tokens place xs → StandsBefore q tokens place ys → AreSame xs ys
-one_beside problem.DirectiveWithoutDocumentEnd tokens place xs ys s r = without_last xs ys (Raw.document_end, place) (one_stream s r)
-one_beside problem.UndeclaredHandle tokens place xs ys s r = one_stream s r
-one_beside problem.SecondVersion tokens place xs ys s r = one_stream s r
-one_beside problem.RepeatedHandle tokens place xs ys s r = one_stream s r
-one_beside q tokens place xs ys s r = one_stream s r
+one_beside q tokens place xs ys h e = grind (arith, without_last, one_stream)
 
 beside_one : (keep_tags : Bool) (text : List ℕ) (tokens : List Token) (es fs : List (Ev × Position)) (f g : ErrorReport) → AreFirst text tokens → NoneBegins keep_tags (toks tokens) → Blames f [] keep_tags tokens es → Blames g [] keep_tags tokens fs → AgreeAt es fs
 beside_one keep_tags text tokens es fs f g first none a b =

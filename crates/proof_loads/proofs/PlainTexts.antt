@@ -61,18 +61,10 @@ word_char c h = (grind (arith, nat_tests), grind (arith, nat_tests), grind (arit
 
 words_plain : (w : List ℕ) → are_words w ≡ true → (are_plain w ≡ true) × (closes false w ≡ true)
 words_plain [] h = (refl, refl)
-words_plain (c ∷ w) h =
-    let q = and_parts (is_word c) (are_words w) h in
-    let z = word_char c q.0 in
-    let r = words_plain w q.1 in
-    (and_from _ _ z.0 r.0, rw (z.1) (r.1))
+words_plain (c ∷ w) h = grind (arith, and_parts, word_char, words_plain w)
 
 pub word_text : (w : List ℕ) → IsWord w → IsPlainText w
-word_text [] word = cc (word.begins)
-word_text (c ∷ w) word =
-    let q = and_parts (is_word c) (are_words w) word.chars in
-    let r = words_plain w q.1 in
-    record { first = (word_char c q.0).2; second = word.begins; chars = r.0; close = r.1 }
+word_text w h = grind (arith, and_parts, is_word, are_words, words_plain, word_char)
 
 -- ---- what a plain scalar doesn't begin with
 

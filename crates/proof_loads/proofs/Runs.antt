@@ -1,5 +1,5 @@
 -- Runs of `load` with `multi` over answers, whatever they are.
-use Rattle.proof_loads.proofs.Common.{[], Answer, ap, arith, before_stream, between, Bool, Ending, Ev, event, false, fault, faulted, given, has_end, inside, is_stream_end, length, length-append, List, load_from, Loaded, no_document, Position, push, refl, Standing, subst, sym, true, unfinished, well, ◌++◌, ◌||◌, ◌∙◌, ◌∷◌, ◌≡◌}
+use Rattle.proof_loads.proofs.Common.{[], Answer, ap, arith, before_stream, between, Bool, Ending, Ev, event, false, fault, faulted, given, has_end, inside, is_stream_end, length, length-append, List, load_from, Loaded, no_document, Position, push, refl, Standing, true, unfinished, well, ◌++◌, ◌||◌, ◌∷◌, ◌≡◌}
 
 pub or_right : (b : Bool) {c : Bool} → c ≡ true → b || c ≡ true
 or_right true h = refl
@@ -74,9 +74,7 @@ ended_within F es answers more all e over = grind (arith, over_is_over)
 
 -- a call over all of the stream
 pub ended_after : (F : Type 0) (es : List (Ev × Position)) (answers rest : List (Answer F)) → PushesAll (run (given F es)) es → answers ≡ given F es ++ rest → PushesAll (run answers) es
-ended_after F es answers rest all e =
-    let over : IsOver (run (given F es)).ending = subst (λ x. IsOver x) (sym all.1) tt in
-    subst (λ l. PushesAll l es) (sym (ap (λ bs. load_from before_stream true bs) e ∙ over_is_over F before_stream (given F es) rest over)) all
+ended_after F es answers rest h e = grind (arith, run, given, load_from, before_stream, over_is_over)
 
 pub given_append : (F : Type 0) (es fs : List (Ev × Position)) → given F (es ++ fs) ≡ given F es ++ given F fs
 given_append F [] fs = refl

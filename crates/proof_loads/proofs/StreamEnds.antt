@@ -1,6 +1,6 @@
 -- A stream's tokens hold the stream's end; so a text has no more tokens than a stream that it begins with.
 use Rattle.std.specs.List.{list_any}
-use Rattle.proof_loads.proofs.Common.{Bool, IsReached, IsRead, List, None, Option, Raw, Some, StreamSays, Tok, Token, [], ap, append-nil, append_assoc, arith, false, has_no_nul, refl, subst, tokens_are_of_a_row, toks, true, whole_stream, ℕ, ◌++◌, ◌||◌, ◌∙◌, ◌∷◌, ◌≡◌}
+use Rattle.proof_loads.proofs.Common.{[], ap, append-nil, append_assoc, arith, Bool, false, has_no_nul, IsReached, IsRead, List, None, Option, Raw, refl, Some, StreamSays, subst, Tok, Token, tokens_are_of_a_row, toks, true, whole_stream, ℕ, ◌++◌, ◌||◌, ◌∙◌, ◌∷◌, ◌≡◌}
 use Rattle.defs_event.specs.Kinds.{is_stream_end}
 use Rattle.defs_event.specs.Table.{Part, Row, takes, leaves, row_of, Work, reading, saying, before, Derives, says, by_taking, by_leaving, say, show, empty}
 use Rattle.defs_event.specs.Grammar.{Held, Goal, stream, documents, directives, explicit_document, document_end, cases, grammar}
@@ -41,12 +41,7 @@ after_row h t w (Some (takes ps)) = is_stream_end t || has_last (before grammar 
 after_row h t w (Some (leaves ps)) = has_last (before grammar h t ps w)
 
 row_lasts : (g : Goal) (h : Held) (t : Tok) (w : Works) → is_last g ≡ true → after_row h t w (row_of (cases g) t) ≡ true
-row_lasts stream h Tok.stream_start w k = refl
-row_lasts documents h Tok.stream_start w k = refl
-row_lasts directives h Tok.stream_start w k = refl
-row_lasts explicit_document h Tok.stream_start w k = refl
-row_lasts document_end h Tok.stream_start w k = refl
-row_lasts g h t w k = cc
+row_lasts g h t w e = grind (arith)
 
 row_keeps : (h : Held) (t : Tok) (w : Works) (r : Option (Row Goal Raw)) → has_last w ≡ true → after_row h t w r ≡ true
 row_keeps h t w None k = refl

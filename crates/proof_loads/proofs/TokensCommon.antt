@@ -1,5 +1,5 @@
 -- The words of other crates and of specs/ that the proofs here use, passed on from one place. Declares nothing.
-pub use Rattle.std.proofs.Common.{[], ap, append-nil, append_assoc, arith, Bool, codes, drop, Err, false, flat_map, if◌then◌else◌, inl, inr, length, List, map, max, nat_le, nat_lt, None, not, Option, refl, replicate, Some, subst, suc, sym, true, true≢false, zero, ℕ, ◌%◌, ◌&&◌, ◌*◌, ◌++◌, ◌+◌, ◌-◌, ◌/◌, ◌<◌, ◌==◌, ◌^◌, ◌||◌, ◌∙◌, ◌∷◌, ◌≡◌, ◌≢◌, ◌≤◌, ◌⊎◌}
+pub use Rattle.std.proofs.Common.{[], ap, append-nil, append_assoc, arith, Bool, codes, drop, Err, false, flat_map, if◌then◌else◌, inl, inr, length, List, map, max, nat_le, nat_lt, None, not, Option, refl, replicate, Some, subst, suc, sym, true, true≢false, zero, ℕ, ◌%◌, ◌&&◌, ◌*◌, ◌++◌, ◌+◌, ◌-◌, ◌/◌, ◌<◌, ◌==◌, ◌||◌, ◌∙◌, ◌∷◌, ◌≡◌, ◌≢◌, ◌≤◌, ◌⊎◌}
 pub use Rattle.std.proofs.lemmas.Bool.{and_from, and_parts, eqb-true, le-ltb, ltb-true, ne_eqb, not-true, or_parts}
 pub use Rattle.std.proofs.lemmas.Bool.Decides.{nat_tests}
 pub use Rattle.std.proofs.lemmas.Fmt.{decimal_is_IsNumeral}
@@ -8,25 +8,25 @@ pub use Rattle.std.proofs.lemmas.Str.Parse.{digit_from_value}
 pub use Rattle.std.specs.Char.{digit_value, is_ascii_alphanumeric, is_ascii_digit, is_digit}
 pub use Rattle.std.specs.Fmt.{decimal}
 pub use Rattle.std.specs.List.{ends_with, list_all, list_any}
-pub use Rattle.std.specs.Prelude.{nat_eq, negsuc, pos, ℤ}
+pub use Rattle.std.specs.Prelude.{nat_eq, pos}
 pub use Rattle.std.specs.Str.Parse.{AllDigits, IsNumeral}
 pub use Rattle.defs_layout.specs.Anchored.{Anchor, begun, is_name}
 pub use Rattle.defs_layout.specs.BlockLines.{AreLines, blank, contents, full, Line, spell_line, spell_lines}
-pub use Rattle.defs_layout.specs.Gap.{AreEmptyLines, comment_line, empty_line, GapLine, IsGap, IsGapLine, IsLineText, next_line, spaces, spell_ending, spell_gap, spell_gap_line}
+pub use Rattle.defs_layout.specs.Gap.{AreEmptyLines, comment_line, empty_line, GapLine, IsGap, IsLineText, next_line, spaces, spell_ending, spell_gap, spell_gap_line}
 unfoldable pub use Rattle.defs_layout.specs.Gap.{is_line_character}
-pub use Rattle.defs_layout.specs.Json.{AreElements, AreMembers, array, element, element_levels, Elements, empty_array, empty_object, false_word, IsJson, IsJsonGap, IsWellFormed, Json, JsonText, last_element, last_member, levels, member, member_levels, Members, null_word, object, spell, spell_elements, spell_members, spell_text, string, true_word}
+pub use Rattle.defs_layout.specs.Json.{AreElements, AreMembers, array, element, element_levels, Elements, empty_array, empty_object, false_word, IsJson, IsWellFormed, Json, JsonText, last_element, last_member, levels, member, member_levels, Members, null_word, object, spell, spell_elements, spell_members, spell_text, string, true_word}
 pub use Rattle.defs_layout.specs.JsonGap.{Blank, blank_character, carriage_return, line_feed, space, tab, TabsBeginLines}
-pub use Rattle.defs_layout.specs.JsonNumber.{are_digits, Exponent, exponent, Fraction, fraction, is_exponent, is_fraction, is_number, is_whole, letter_e, minus, no_exponent, no_fraction, no_sign, Number, number, plus, Sign, spell_exponent, spell_fraction, spell_minus, spell_number, spell_sign}
-pub use Rattle.defs_layout.specs.JsonString.{are_pieces, character_of, four_digits, is_hex_digit, is_piece, is_surrogate, itself, letter_of, Piece, Short, short, spell_piece, spell_pieces, spell_string, unescaped, unicode, value_of}
+pub use Rattle.defs_layout.specs.JsonNumber.{are_digits, Exponent, exponent, Fraction, fraction, is_exponent, is_fraction, is_number, is_whole, no_exponent, no_fraction, Number, number, plus, spell_exponent, spell_fraction, spell_minus, spell_number}
+pub use Rattle.defs_layout.specs.JsonString.{are_pieces, character_of, four_digits, is_hex_digit, is_piece, is_surrogate, itself, letter_of, Piece, Short, short, spell_pieces, spell_string, unescaped, unicode}
 unfoldable pub use Rattle.defs_layout.specs.JsonString.{is_unescaped}
 pub use Rattle.defs_layout.specs.JsonTokens.{element_tokens, json_text_tokens, json_tokens, member_tokens, string_token}
-pub use Rattle.defs_layout.specs.Layout.{anchored, anchors_after, anchors_after_field, AreDocuments, AreEntries, AreFields, AreFoldedLines, AreLinesOf, AreLineTexts, BeginsWithText, below, beside, Block, Comment, comment, compact, Document, document, Documents, doubled, empty_hash, EndsInText, Entries, entry, explicit, Field, field, Fields, folded, folded_header, implicit, indented_lines, Inline, IsAfterRoot, IsBlock, IsComment, IsField, IsImplicitKey, IsInline, IsJsonCollection, IsJsonOnOneLine, IsLayout, IsPlain, IsRoot, IsScalar, IsValue, json, last_document, last_entry, last_field, Layout, literal, MayBeAnchored, MayFollowScalarKey, no_comment, plain, quoted, Root, Scalar, scalar, single_quoted, spell_block, spell_comment, spell_document, spell_documents, spell_entries, spell_field, spell_fields, spell_inline, spell_literal, spell_mark, spell_root, spell_scalar, spell_value, Value}
+pub use Rattle.defs_layout.specs.Layout.{anchored, anchors_after, anchors_after_field, AreDocuments, AreEntries, AreFields, AreFoldedLines, AreLinesOf, AreLineTexts, BeginsWithText, below, beside, Block, Comment, comment, compact, Documents, doubled, empty_hash, EndsInText, Entries, entry, explicit, Field, field, Fields, folded, folded_header, implicit, indented_lines, Inline, IsAfterRoot, IsBlock, IsComment, IsField, IsInline, IsLayout, IsPlain, IsRoot, IsScalar, IsValue, json, last_document, last_entry, last_field, Layout, literal, MayFollowScalarKey, no_comment, plain, quoted, Root, Scalar, scalar, single_quoted, spell_block, spell_comment, spell_documents, spell_entries, spell_field, spell_fields, spell_inline, spell_literal, spell_root, spell_scalar, spell_value, Value}
 unfoldable pub use Rattle.defs_layout.specs.Layout.{is_on_one_line}
 pub use Rattle.defs_layout.specs.LayoutTokens.{all_field_tokens, block_tokens, documents_tokens, entry_tokens, field_tokens, inline_tokens, layout_tokens, marked, root_tokens, scalar_token, value_tokens}
 pub use Rattle.defs_layout.specs.QuotedText.{body_value, double, quote_of, QuotedText, Quotes, single, style_of}
-pub use Rattle.defs_text.specs.BlockScalar.{block_value, BlockStyle, body, breaks, Chomping, column_by, content_row, deepest_start, empty_row, further_text, has_content, Header, header_of, is_further_text, is_outside, is_spaces, leading_spaces, Row, rows_of, starts_with_tab, text_after, text_of, unbroken, value_before_end, value_before_text}
+pub use Rattle.defs_text.specs.BlockScalar.{BlockStyle, body, breaks, Chomping, column_by, content_row, deepest_start, empty_row, further_text, has_content, Header, header_of, is_further_text, is_outside, is_spaces, leading_spaces, Row, rows_of, starts_with_tab, text_after, text_of, unbroken, value_before_end, value_before_text}
 unfoldable pub use Rattle.defs_text.specs.BlockScalar.{digit_of, is_content_line, is_empty_line, row_of, sign_of}
-pub use Rattle.defs_text.specs.Breaks.{ends_line, has_no_break, is_before_line_feed, is_blanks_and_comment, Split, split, split_by}
+pub use Rattle.defs_text.specs.Breaks.{ends_line, has_no_break, is_before_line_feed, is_blanks_and_comment, split, split_by}
 pub use Rattle.defs_text.specs.Classes.{is_at_end, is_at_gap, is_document_marker, is_one_of}
 unfoldable pub use Rattle.defs_text.specs.Classes.{are_marks, is_anchor_name, is_blank, is_blank_or_end, is_break, is_flow, is_nul}
 pub use Rattle.defs_text.specs.FlowScalar.{begins_with, content, Element, elements, has_document_marker, Lines, Spelled, value_by}
@@ -35,21 +35,21 @@ pub use Rattle.defs_text.specs.Position.{first_position, Position, position_afte
 pub use Rattle.defs_text.specs.Tags.{after, all_of, leading}
 pub use Rattle.defs_text.specs.Text.{has_no_nul, is_empty, up_to_nul}
 pub use Rattle.defs_token.specs.Account.{before_past, FlowKind, innermost_column, is_adjacent, mapping, sequence}
-pub use Rattle.defs_token.specs.BlockPiece.{block_position, block_read, past_spaces, read_body}
+pub use Rattle.defs_token.specs.BlockPiece.{block_read, read_body}
 pub use Rattle.defs_token.specs.Column.{innermost, is_deeper, is_in_column, not_ended, opened}
 pub use Rattle.defs_token.specs.FlowEntry.{begun_by, Entry, filled, first_entry, fresh, Had, is_keyed, is_renewed, no_pair, past_end, settled}
-pub use Rattle.defs_token.specs.Following.{are_empty, block_may_end, goes_on_quoted, line_is_done, may_precede, quoted_may_end}
-pub use Rattle.defs_token.specs.Indentation.{awaits_at, awaits_past, begins_line, colon_may_precede, dash_may_precede, follows_plain, has_tab_before_piece, has_tab_within, is_indented_by_spaces, last_line, least_column}
+pub use Rattle.defs_token.specs.Following.{are_empty, block_may_end, goes_on_quoted, may_precede, quoted_may_end}
+pub use Rattle.defs_token.specs.Indentation.{awaits_at, awaits_past, begins_line, colon_may_precede, dash_may_precede, has_tab_before_piece, has_tab_within, is_indented_by_spaces, last_line, least_column}
 pub use Rattle.defs_token.specs.Key.{begins_free_line, free, is_waiting, line_past, line_past_separation, taken}
-pub use Rattle.defs_token.specs.Lines.{blanks_before, elements_fit, ends_with_dash, further_lines_fit, further_lines_stand, has_dash_before_flow, has_more, lines_fit, plain_lines_fit, quoted_lines_fit, without_last}
+pub use Rattle.defs_token.specs.Lines.{blanks_before, elements_fit, ends_with_dash, further_lines_stand, has_dash_before_flow, has_more, lines_fit, plain_lines_fit, quoted_lines_fit, without_last}
 pub use Rattle.defs_token.specs.Piece.{begins_with_space_or_break, goes_on_with_name}
-pub use Rattle.defs_token.specs.Plain.{after_blank, begins_flow, begins_plain, ends_plain, ends_with_content, goes_on, inside, is_value_indicator, is_whole_plain, may_begin, on_line, past, Stand, stops}
+pub use Rattle.defs_token.specs.Plain.{after_blank, begins_flow, begins_plain, ends_plain, ends_with_content, goes_on, inside, is_value_indicator, is_whole_plain, may_begin, on_line, Stand, stops}
 pub use Rattle.defs_token.specs.Row.{IsRowFrom, IsShown}
 pub use Rattle.defs_token.specs.RowAccount.{Account, account_past, before_by, first_account, is_in_flow, least_for, level_of, may_stand, on_one_line, past_piece, Site, site_at}
 pub use Rattle.defs_token.specs.Separation.{is_separation}
 pub use Rattle.defs_token.specs.Step.{act_of, another, block_scalar, flow_collection, gives_block_scalar, gives_node, has_break, is_marker, is_on_line, plain_scalar, Previous, previous_by, quoted_scalar, spelled, Step}
-pub use Rattle.defs_token.specs.Token.{flow_entry, flow_mapping_end, flow_mapping_start, flow_sequence_end, flow_sequence_start, key, Style, Tok, Token, value}
-pub use Rattle.defs_token.specs.Tokens.{begun_outside, Colon, ends_with_stream, key_tokens, put, start_if, stream_position, tokens_before, tokens_from, tokens_of_row}
+pub use Rattle.defs_token.specs.Token.{flow_entry, flow_mapping_end, flow_mapping_start, flow_sequence_end, flow_sequence_start, Style, Tok, Token}
+pub use Rattle.defs_token.specs.Tokens.{begun_outside, Colon, ends_with_stream, put, start_if, stream_position, tokens_before, tokens_from, tokens_of_row}
 pub use Rattle.defs_token.specs.Toks.{toks}
 pub use Rattle.defs_tree.proofs.LinesLaws.{ends_with-one, ends_with-step, lines_of_ended}
 pub use Rattle.defs_tree.proofs.RealTexts.{is_real_character, real_text-characters}
@@ -63,8 +63,8 @@ pub use Rattle.defs_tree.specs.Order.{tree_eq}
 pub use Rattle.defs_tree.specs.Quoting.{has_indicator_first}
 unfoldable pub use Rattle.defs_tree.specs.Quoting.{is_quoted, is_unfit_for_plain}
 pub use Rattle.defs_tree.specs.Spelling.{spelling}
-pub use Rattle.defs_tree.specs.Tree.{alias, bad_value, boolean, hash, integer, null, pairs_of, real, Tree}
-pub use Rattle.defs_tree.specs.Typing.{fits_i64, is_real_text, special_words}
+pub use Rattle.defs_tree.specs.Tree.{pairs_of, real, Tree}
+pub use Rattle.defs_tree.specs.Typing.{is_real_text}
 unfoldable pub use Rattle.defs_tree.specs.Typing.{is_decimal, typing}
 unfoldable pub use Rattle.model_scanner.proofs.OnLiterals.{scan_on_literals}
 pub use Rattle.model_scanner.proofs.Runs.{not_refused, one_list}
@@ -72,7 +72,7 @@ pub use Rattle.model_scanner.specs.Run.{HasTokens, IsRefused, scan}
 pub use Rattle.model_scanner.specs.TextTokens.{HasToks}
 pub use Rattle.proof_loads.specs.TokenLaws.{JsonTextsAreNotRefused, JsonTextsHaveNoOtherTokens, JsonTextsHaveTheirTokens, LayoutsAreNotRefused, LayoutsHaveNoOtherTokens, LayoutsHaveTheirTokens, LayoutsInTurnAreNotRefused, LayoutsInTurnHaveTheirTokens, QuotedTextsHaveTheirTokens}
 pub use Rattle.proof_lexers.proofs.Blocks.Columns.{spell_append, texts_append}
-pub use Rattle.proof_lexers.proofs.Blocks.Written.{both, carriage, feed, split_spell, texts}
+pub use Rattle.proof_lexers.proofs.Blocks.Written.{feed, split_spell, texts}
 pub use Rattle.proof_lexers.proofs.Bridges.{and_false}
 pub use Rattle.proof_lexers.proofs.Quoted.Values.{parts}
 pub use Rattle.proof_lexers.specs.HeaderEnds.{indicator_of, is_in_line}

@@ -109,11 +109,8 @@ nested_follows c column bs (end g) inside trail low = λ e. absurd (omega (arith
 -- lines of which one has content are not all empty
 not_all_empty : (column : ℕ) (ls : List (List ℕ)) (rs : List Row) → rows_of column ls ≡ Some rs → has_content rs ≡ true → are_empty column ls ≡ false
 unfolding row_of
-not_all_empty column [] rs e h = let z : [] ≡ rs = cc in let none : has_content [] ≡ true = rw (← z) at h in cc
-not_all_empty column (l ∷ ls) rs e h = by (is_empty_line column l) (rows_of column ls) refl refl (λ more f g. not_all_empty column ls more f g)
-  where
-    by : (b : Bool) (o : Option (List Row)) → is_empty_line column l ≡ b → rows_of column ls ≡ o → ((more : List Row) → rows_of column ls ≡ Some more → has_content more ≡ true → are_empty column ls ≡ false) → (is_empty_line column l && are_empty column ls) ≡ false
-    by a o x y go = grind arith
+not_all_empty column [] rs e h = grind arith
+not_all_empty column (l ∷ ls) rs e h = grind (arith, not_all_empty column ls)
 
 module _ (s : BlockStyle) (i column : ℕ) (strips : Bool) (text : List ℕ) (ls : List Line) (inside : IsInside i column) (h : AreBlockLines s column strips text ls) (bs : List ℕ) (same : innermost bs ≡ collection_of i) where
   abbrev header : written.Line

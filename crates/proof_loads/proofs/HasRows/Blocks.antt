@@ -71,17 +71,14 @@ is_deep : (is_open : Bool) (c : ℕ) (bs : List ℕ) → MayBegin is_open c bs �
 is_deep a c bs h = grind (arith, le-ltb, deeper)
 
 start_more : (is_open : Bool) (t : Tok) (a b : List Tok) → starts is_open t a ++ b ≡ starts is_open t (a ++ b)
-start_more true t a b = refl
-start_more false t a b = refl
+start_more is_open t a b = grind (arith)
 
 -- the start of a collection, and what stands between it and a piece
 start_is : (is_open : Bool) (p : Position) (t : Tok) (own : List Token) → toks (start_if (not is_open) p t ++ own) ≡ starts is_open t (toks own)
-start_is true p t own = refl
-start_is false p t own = refl
+start_is is_open p t own = grind (arith)
 
 mark_is : (is_open : Bool) (p : Position) (t : Tok) → toks (start_if (not is_open) p t) ≡ starts is_open t []
-mark_is true p t = refl
-mark_is false p t = refl
+mark_is is_open p t = grind (arith)
 
 -- what a piece at the column says, where these collections go on there
 abbrev pub ShownAt : (bs w : List ℕ) → Tok → (key : Bool) → (next : List ℕ) → Type 0

@@ -1,5 +1,5 @@
 -- Values, arrays and hashes of layouts have rows.
-use Rattle.proof_loads.proofs.TokensCommon.{[], all_field_tokens, all_of, Anchor, anchors_after, anchors_after_field, and_from, and_parts, another, append-nil, AreEntries, AreFields, arith, begins_with_space_or_break, begun, Block, block_tokens, BlockStyle, Bool, colon_may_precede, Comment, dash_may_precede, empty_hash, Entries, entry_tokens, false, Field, field_tokens, Fields, folded_header, free, GapLine, goes_on_with_name, has_no_break, has_tab_before_piece, inl, Inline, inline_tokens, inr, is_anchor_name, is_ascii_alphanumeric, is_at_gap, is_blank, is_blank_or_end, is_break, is_flow, is_line_character, is_name, is_nul, is_one_of, is_waiting, IsBlock, IsComment, IsField, IsGap, IsInline, IsLineText, IsScalar, IsValue, leading, least_column, length, List, list_all, MayFollowScalarKey, nat_tests, next_line, no_comment, Position, Previous, refl, scalar, Scalar, scalar_token, spaces, spell_block, spell_comment, spell_entries, spell_field, spell_fields, spell_gap, spell_inline, spell_lines, spell_literal, spell_scalar, spell_value, spelling, subst, suc, taken, Tok, true, Value, value_tokens, zero, ℕ, ◌++◌, ◌+◌, ◌==◌, ◌∷◌, ◌≡◌, ◌≤◌, ◌⊎◌}
+use Rattle.proof_loads.proofs.TokensCommon.{[], all_field_tokens, all_of, Anchor, anchors_after, anchors_after_field, and_from, and_parts, another, append-nil, AreEntries, AreFields, arith, begins_with_space_or_break, begun, Block, block_tokens, BlockStyle, Bool, colon_may_precede, Comment, dash_may_precede, empty_hash, Entries, entry_tokens, false, Field, field_tokens, Fields, folded_header, free, GapLine, goes_on_with_name, has_no_break, has_tab_before_piece, inl, Inline, inline_tokens, inr, is_anchor_name, is_ascii_alphanumeric, is_at_gap, is_blank, is_blank_or_end, is_break, is_flow, is_line_character, is_name, is_nul, is_one_of, is_waiting, IsBlock, IsComment, IsField, IsGap, IsInline, IsLineText, IsScalar, IsValue, leading, least_column, length, List, list_all, MayFollowScalarKey, nat_tests, next_line, no_comment, Position, Previous, refl, Scalar, scalar, scalar_token, spaces, spell_block, spell_comment, spell_entries, spell_field, spell_fields, spell_gap, spell_inline, spell_lines, spell_literal, spell_scalar, spell_value, spelling, subst, suc, taken, Tok, true, Value, value_tokens, zero, ℕ, ◌++◌, ◌+◌, ◌∷◌, ◌≡◌, ◌≤◌, ◌⊎◌}
 use Rattle.defs_layout.specs.Json
 use Rattle.defs_token.specs.Piece as piece
 use Rattle.defs_layout.specs.Layout.{empty_array}
@@ -53,10 +53,7 @@ spaces_tabless (suc n) a h = spaces_tabless n a h
 
 content_tabless : (a : List ℕ) → BeginsContent a → has_tab_before_piece false a ≡ false
 unfolding is_blank
-content_tabless a (content_first c r blank break hash nul) =
-    let no_blank_tab : (c == 9) ≡ false = grind (arith, nat_tests) in
-    let no_blank_space : (c == 32) ≡ false = grind (arith, nat_tests) in
-    rw (no_blank_tab, no_blank_space, break, hash) refl
+content_tabless a h = grind (arith, content_first)
 
 comment_tabless : (text a : List ℕ) → IsLineText text → has_tab_before_piece true (text ++ 10 ∷ a) ≡ has_tab_before_piece false a
 unfolding is_break
@@ -83,9 +80,7 @@ plain_begins w r h = grind (arith, nat_tests, plain_char, first_char, content_fi
 
 scalar_begins : (s : Scalar) (r : List ℕ) → IsScalar s → BeginsContent (spell_scalar s r)
 unfolding is_blank is_break is_nul
-scalar_begins (Scalar.plain t) r h = plain_begins (spelling t) r (spelt_plain t h)
-scalar_begins (Scalar.quoted text) r h = content_first 34 _ refl refl refl refl
-scalar_begins (Scalar.single_quoted text) r h = content_first 39 _ refl refl refl refl
+scalar_begins s r h = grind (arith, plain_begins, spelling, spelt_plain, content_first)
 
 entries_begin : (c : ℕ) (es : Entries) (r : List ℕ) → BeginsContent (spell_entries c es r)
 unfolding is_blank is_break is_nul
@@ -179,11 +174,7 @@ then_reads c one_text all collection gives gives_all g gap begins one more bs t 
 names : (name : List ℕ) → list_all is_ascii_alphanumeric name ≡ true → (all_of is_anchor_name name ≡ true) × (has_no_break name ≡ true)
 unfolding is_anchor_name is_blank_or_end is_blank is_break is_nul is_flow
 names [] h = (refl, refl)
-names (c ∷ name) h =
-    let q = and_parts (is_ascii_alphanumeric c) (list_all is_ascii_alphanumeric name) h in
-    let z : (is_anchor_name c ≡ true) × (is_break c ≡ false) = (grind (arith, nat_tests), grind (arith, nat_tests)) in
-    let r = names name q.1 in
-    (and_from _ _ z.0 r.0, rw (z.1) (r.1))
+names (c ∷ name) h = grind (arith, nat_tests, names name)
 
 a_name : (name : List ℕ) → is_name name ≡ true → (piece.is_name name ≡ true) × (has_no_break name ≡ true) × HasNone name
 a_name [] h = cc
