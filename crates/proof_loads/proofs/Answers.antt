@@ -199,10 +199,8 @@ fault_ends {f = f} answers p scans steady a taken (loads.refused e q pushed clea
 
 scanner_stays : {R : Type 0} {takes : R → Ev → Position → Result (Unit {0}) ErrorReport → R → Type 0} {r s : R} {l : run.Loaded ErrorReport} {p new : Parsed} {result : Result (Unit {0}) ErrorReport}
     → EndsSo takes r l p result new s → new.scanner ≡ p.scanner
-scanner_stays (loads.well e clear received) = refl
-scanner_stays (loads.faulted e kept received) = refl
 scanner_stays (loads.misplaced q e received) = refl
-scanner_stays (loads.refused e q pushed clear received takes) = refl
+scanner_stays e = refl
 
 -- what holds after the answers of a load from the start on
 of_load : {R : Type 0} (takes : R → Ev → Position → Result (Unit {0}) ErrorReport → R → Type 0) (old new : Parsed) (r s : R) (result : Result (Unit {0}) ErrorReport) (text : List ℕ) (P : Bool → Type 0)

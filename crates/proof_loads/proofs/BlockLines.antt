@@ -1,5 +1,5 @@
 -- The lines of a literal or folded block, its column and its value.
-use Rattle.proof_loads.proofs.TokensCommon.{[], and_parts, append-nil, are_marks, AreFoldedLines, AreLines, AreLineTexts, arith, begins_as_marker, begins_with, BeginsWithText, blank, BlockStyle, body, Bool, collection_of, column_by, contents, digit_of, EndsInText, false, full, further_text, header_of, indented_lines, indicator_of, is_at_end, is_blank, is_blank_or_end, is_document_marker, is_further_text, is_in_line, is_line_character, is_nul, is_outside, IsLineText, Line, List, list_all, list_any, map, nat_tests, None, not, or_parts, read_body, refl, Row, row_of, rows_of, sign_of, Some, spaces, spell_line, starts_with_tab, suc, texts, true, unbroken, value_before_end, value_before_text, zero, ℕ, ◌&&◌, ◌++◌, ◌<◌, ◌==◌, ◌||◌, ◌∷◌, ◌≡◌, ◌≢◌, ◌≤◌}
+use Rattle.proof_loads.proofs.TokensCommon.{[], and_parts, append-nil, are_marks, AreFoldedLines, AreLines, AreLineTexts, arith, begins_as_marker, begins_with, BeginsWithText, blank, BlockStyle, body, Bool, collection_of, column_by, contents, digit_of, EndsInText, false, full, further_text, header_of, indented_lines, indicator_of, is_at_end, is_blank, is_blank_or_end, is_document_marker, is_further_text, is_in_line, is_line_character, is_nul, is_outside, IsLineText, Line, List, list_all, list_any, map, nat_tests, None, not, or_parts, read_body, refl, Row, row_of, rows_of, sign_of, Some, spaces, spell_line, starts_with_tab, suc, texts, true, unbroken, value_before_end, value_before_text, zero, ℕ, ◌++◌, ◌<◌, ◌==◌, ◌||◌, ◌∷◌, ◌≡◌, ◌≢◌, ◌≤◌}
 use Rattle.defs_text.specs.Classes as classes
 use Rattle.defs_text.specs.Classes.{tab}
 use Rattle.defs_token.specs.BlockPiece as cut
@@ -171,7 +171,5 @@ folded_lines c column strips text ls deep h =
   where
     no_tab : (column : ℕ) (ls : List Line) → c < column → AreLines column ls → starts_with_tab (indented_lines column ls) ≡ false
     no_tab zero ls low are = absurd (omega (arith, low))
-    no_tab (suc n) [] low are = refl
-    no_tab (suc n) (full w ∷ ls) low are = refl
     no_tab (suc n) (blank zero ∷ ls) low are = refl
-    no_tab (suc n) (blank (suc m) ∷ ls) low are = refl
+    no_tab (suc n) ls low are = refl

@@ -111,9 +111,8 @@ no_tab : (column : ℕ) (l : Line) (ls : List Line) (feed text : List ℕ) → A
     → starts_with_tab (indented_lines column (l ∷ ls)) ≡ false
 no_tab zero (full []) ls feed text are whole free = absurd (are.0 refl)
 no_tab zero (full (c ∷ w)) ls feed text are whole free = let e : literal_defs.starts_with_tab ((c ∷ (w ++ after ls)) ++ feed) ≡ false = rw (← whole) at (free refl) in grind (arith, nat_tests)
-no_tab (suc n) (full w) ls feed text are whole free = refl
 no_tab column (blank zero) ls feed text are whole free = refl
-no_tab column (blank (suc n)) ls feed text are whole free = refl
+no_tab column l ls feed text are whole free = refl
 
 -- ---- the block
 

@@ -13,13 +13,12 @@ use Rattle.model_scanner.proofs.Runs as runs
 last_of : (xs ys : List Token) (t u : Token) → xs ++ t ∷ [] ≡ ys ++ u ∷ [] → (xs ≡ ys) × (t ≡ u)
 last_of [] [] t u e = (refl, cc)
 last_of [] (y ∷ []) t u e = absurd cc
-last_of [] (y ∷ z ∷ ys) t u e = absurd cc
 last_of (x ∷ []) [] t u e = absurd cc
-last_of (x ∷ z ∷ xs) [] t u e = absurd cc
 last_of (x ∷ xs) (y ∷ ys) t u e =
     let rest : xs ++ t ∷ [] ≡ ys ++ u ∷ [] = cc in
     let r = last_of xs ys t u rest in
     (cc (r.0), r.1)
+last_of xs ys t u e = absurd cc
 
 -- ---- of the scanner
 
@@ -45,14 +44,10 @@ name_problem _ = problem.UndeclaredHandle
 
 fits_name : (p : Problem) (k : Kind) → is_of_names p ≡ true → fits p k ≡ true → p ≡ name_problem k
 fits_name problem.SecondVersion kind.VersionDirective n f = refl
-fits_name problem.SecondVersion _ n f = absurd cc
 fits_name problem.RepeatedHandle kind.TagDirective n f = refl
-fits_name problem.RepeatedHandle _ n f = absurd cc
 fits_name problem.UnknownAnchor kind.Alias n f = refl
-fits_name problem.UnknownAnchor _ n f = absurd cc
 fits_name problem.UndeclaredHandle kind.Tag n f = refl
-fits_name problem.UndeclaredHandle _ n f = absurd cc
-fits_name _ k n f = absurd cc
+fits_name p k n f = absurd cc
 
 one_place : (p : Problem) (before : List Token) (last : Token) (x y : Position) → StandsAt p x before last → StandsAt p y before last → x ≡ y
 one_place p before last x y s u = elim s [

@@ -48,10 +48,9 @@ not_first keep_tags t is none =
 without_last : (xs ys : List (Raw × Position)) (e : Raw × Position) → AreSame (xs ++ e ∷ []) (ys ++ e ∷ []) → AreSame xs ys
 without_last [] [] e a = tt
 without_last [] (y ∷ []) e a = absurd a.2
-without_last [] (y ∷ z ∷ ys) e a = absurd a.2
 without_last (x ∷ []) [] e a = absurd a.2
-without_last (x ∷ z ∷ xs) [] e a = absurd a.2
 without_last (x ∷ xs) (y ∷ ys) e a = (a.0, a.1, without_last xs ys e a.2)
+without_last xs ys e a = absurd a.2
 
 -- What the same tokens say before the same problem is one list.
 one_beside : (q : Problem) (tokens : List Token) (place : Position) (xs ys : List (Raw × Position)) → StandsBefore q tokens place xs → StandsBefore q tokens place ys → AreSame xs ys
@@ -90,8 +89,7 @@ events_before (no_stream before last es first blames begins none) = es
 
 come_before : {keep_tags : Bool} {text : List ℕ} {f : ErrorReport} (x : IsFaultOf keep_tags text f) (es : List (Ev × Position)) → f.memory ≡ false → ComesAfter x es → es ≡ events_before x
 come_before {f = f} (wants_memory w) es m h = absurd (both_ways f.memory m w.memory)
-come_before (no_token given fs settled begins has r) es m h = h
-come_before (no_stream before last fs first blames begins none) es m h = h
+come_before x es m h = h
 
 -- Two faults of a text are the same, and so are the events before them.
 pub one_cause : (keep_tags : Bool) (text : List ℕ) (f g : ErrorReport) (x : IsFaultOf keep_tags text f) (y : IsFaultOf keep_tags text g) → f.memory ≡ false → g.memory ≡ false → (f ≡ g) × AgreeAt (events_before x) (events_before y)

@@ -1,5 +1,5 @@
 -- The calls of a parser from its start on: what it answered, and what it has given.
-use Rattle.proof_loads.proofs.Common.{Answer, Bool, ErrorReport, Ev, Explains, GivesEvent, IfSome, IsAtStart, KeepsSettings, List, None, Option, Parsed, Position, PullsAll, Some, [], ap, append-nil, append_assoc, event, false, fault, given, has_end, inl, inr, is_stream_end, no_call, one_call, read_so, refl, subst, sym, true, ◌++◌, ◌||◌, ◌∙◌, ◌∷◌, ◌≡◌, ◌⊎◌}
+use Rattle.proof_loads.proofs.Common.{[], Answer, ap, append-nil, append_assoc, Bool, ErrorReport, Ev, event, Explains, false, fault, given, GivesEvent, has_end, IfSome, inl, inr, is_stream_end, IsAtStart, KeepsSettings, List, no_call, None, one_call, Option, Parsed, Position, PullsAll, read_so, refl, Some, subst, sym, true, ◌++◌, ◌||◌, ◌∙◌, ◌∷◌, ◌≡◌, ◌⊎◌}
 use Rattle.yaml_parser.specs.Pulls.{IsSound}
 use Rattle.proof_loads.proofs.Runs.{given_append}
 
@@ -9,9 +9,8 @@ settings_stay (one_call (event e p) calls gives) = let k = settings_stay calls i
 settings_stay (one_call (fault f) calls gives) = let k = settings_stay calls in record { keep_tags = gives.settings.keep_tags ∙ k.keep_tags; steady = gives.settings.steady ∙ k.steady }
 
 pub read_given : (es : List (Ev × Position)) (ended : Bool) (ahead : Option (Ev × Position)) → ahead ≡ None → read_so es ended ahead ≡ es
-read_given es true ahead h = refl
-read_given es false None h = refl
 read_given es false (Some e) h = cc
+read_given es ended ahead h = refl
 
 pub has_end_append : (es fs : List (Ev × Position)) → has_end (es ++ fs) ≡ has_end es || has_end fs
 has_end_append [] fs = refl

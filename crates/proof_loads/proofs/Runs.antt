@@ -13,13 +13,11 @@ IsOver _ = Unit {0}
 -- After its end a call takes nothing.
 over_is_over : (F : Type 0) (s : Standing) (xs ys : List (Answer F)) → IsOver (load_from s true xs).ending → load_from s true (xs ++ ys) ≡ load_from s true xs
 over_is_over F s [] ys h = absurd h
-over_is_over F s (fault f ∷ xs) ys h = refl
 over_is_over F before_stream (event e p ∷ xs) ys h = ap (push e p) (over_is_over F between xs ys h)
-over_is_over F between (event Ev.stream_end p ∷ xs) ys h = refl
 over_is_over F between (event Ev.document_start p ∷ xs) ys h = ap (push Ev.document_start p) (over_is_over F inside xs ys h)
-over_is_over F between (event e p ∷ xs) ys h = refl
 over_is_over F inside (event Ev.document_end p ∷ xs) ys h = ap (push Ev.document_end p) (over_is_over F between xs ys h)
 over_is_over F inside (event e p ∷ xs) ys h = ap (push e p) (over_is_over F inside xs ys h)
+over_is_over F s xs ys h = refl
 
 -- Of these events some are pushed, and then some are left.
 pub record Pushes {F : Type 0} (l : Loaded F) (es : List (Ev × Position)) : Type 0 where

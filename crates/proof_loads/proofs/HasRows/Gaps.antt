@@ -1,5 +1,5 @@
 -- White space of JSON texts as separations.
-use Rattle.proof_loads.proofs.TokensCommon.{Blank, Bool, List, Option, Position, Stand, TabsBeginLines, [], after, ap, arith, begins_with, blank_character, carriage_return, codes, colon_may_precede, false, goes_on_quoted, has_tab_within, inside, is_blank, is_blanks_and_comment, is_break, is_empty, is_flow, is_on_line, is_one_of, is_separation, last_line, leading, least_column, line_feed, map, position_after, quoted_may_end, refl, space, split, stops, suc, tab, true, zero, ℕ, ◌++◌, ◌==◌, ◌||◌, ◌∷◌, ◌≡◌}
+use Rattle.proof_loads.proofs.TokensCommon.{[], after, ap, arith, begins_with, Blank, blank_character, Bool, codes, colon_may_precede, false, goes_on_quoted, has_tab_within, inside, is_blank, is_blanks_and_comment, is_break, is_empty, is_flow, is_on_line, is_one_of, is_separation, last_line, leading, least_column, List, map, Option, Position, position_after, quoted_may_end, refl, space, split, Stand, stops, suc, TabsBeginLines, true, zero, ℕ, ◌++◌, ◌==◌, ◌||◌, ◌∷◌, ◌≡◌}
 use Rattle.defs_layout.specs.JsonGap.{spell_gap}
 use Rattle.proof_loads.proofs.JsonTokens.OnOneLine.{AreSpaces}
 use Rattle.proof_loads.proofs.HasRows.Nodes.{IsDeep, deep_char, Parts, or_true, closing_bracket}
@@ -73,9 +73,7 @@ stopped_past in_flow collection r stop (b ∷ g) s = grind (arith, stopped_past 
 pub no_comment_past : (r : List ℕ) → begins_with 35 r ≡ false → (g : List Blank) → begins_with 35 (spell_gap g r) ≡ false
 no_comment_past r h [] = h
 no_comment_past r h (space ∷ g) = refl
-no_comment_past r h (tab ∷ g) = refl
-no_comment_past r h (line_feed ∷ g) = refl
-no_comment_past r h (carriage_return ∷ g) = refl
+no_comment_past r h (b ∷ g) = refl
 
 module _ (in_flow : Bool) (r : List ℕ) (edge : Edge in_flow r) where
   rest_past : (g : List Blank) (piece : List ℕ) → (is_blanks_and_comment (leading is_on_line (spell_gap g r)) || goes_on_quoted in_flow piece (after is_blank (spell_gap g r))) ≡ true

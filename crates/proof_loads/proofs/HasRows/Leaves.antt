@@ -1,5 +1,5 @@
 -- Scalars of layouts: as values with a comment, and as keys.
-use Rattle.proof_loads.proofs.TokensCommon.{[], act_of, another, append_assoc, arith, before_by, before_past, begins_with, begun_by, Bool, Comment, comment, double, double_quoted, doubled, false, flat_map, further_lines_stand, gives_node, has_no_break, innermost, inside, is_adjacent, IsComment, IsScalar, List, may_precede, no_comment, None, plain, position_after, previous_by, quoted, quoted_may_end, refl, Scalar, scalar_token, single, single_quoted, spell_comment, spell_scalar, spelling, stops, subst, Tok, true, written_escapes, ℕ, ◌++◌, ◌∷◌, ◌≡◌}
+use Rattle.proof_loads.proofs.TokensCommon.{[], act_of, another, append_assoc, arith, before_by, before_past, begins_with, begun_by, Bool, Comment, double, double_quoted, doubled, false, flat_map, further_lines_stand, gives_node, has_no_break, innermost, inside, is_adjacent, IsComment, IsScalar, List, may_precede, no_comment, None, plain, position_after, previous_by, quoted, quoted_may_end, refl, Scalar, scalar_token, single, single_quoted, spell_comment, spell_scalar, spelling, stops, subst, Tok, true, written_escapes, ℕ, ◌++◌, ◌∷◌, ◌≡◌}
 use Rattle.proof_loads.proofs.PlainTexts.{spelt_plain}
 use Rattle.proof_loads.proofs.HasRows.Nodes.{none_ends, deep_piece, Parts, Quiet, From, node_reads}
 use Rattle.proof_loads.proofs.HasRows.Blocks.{ShownAt}
@@ -7,7 +7,7 @@ use Rattle.proof_loads.proofs.HasRows.Json.{column_is}
 use Rattle.proof_loads.proofs.HasRows.Plain.{plain_piece}
 use Rattle.proof_loads.proofs.HasRows.Strings.{quoted_piece}
 use Rattle.proof_loads.proofs.HasRows.Quotes.{double_is, single_is}
-use Rattle.proof_loads.proofs.HasRows.Trails.{Trail, next, marker, end, trail_text, Rest, arrive, trail_ends}
+use Rattle.proof_loads.proofs.HasRows.Trails.{Trail, end, trail_text, Rest, arrive, trail_ends}
 use Rattle.proof_loads.proofs.Nul.{HasNone}
 
 -- ---- pieces
@@ -23,9 +23,7 @@ piece_spelt s r = grind (arith, append_assoc)
 
 -- what a piece and its token say
 pub record IsScalarPiece (w : List ℕ) (t : Tok) : Type 0 where
-  pub node : act_of t ≡ gives_node
-  pub begun : begun_by t ≡ []
-  pub quiet : Quiet (previous_by t)
+  pub node : (act_of t ≡ gives_node) × (begun_by t ≡ []) × Quiet (previous_by t)
   pub no_break : has_no_break w ≡ true
   pub none : HasNone w
   pub further : (column : ℕ) → further_lines_stand column t w ≡ true
@@ -37,9 +35,7 @@ scalar_piece (plain t) h =
     let text = spelt_plain t h in
     let z = plain_piece false None (spelling t) [] text (λ e. cc) refl in
     record {
-      node = refl;
-      begun = refl;
-      quiet = λ f. refl;
+      node = (refl, refl, λ f. refl);
       no_break = z.no_break;
       none = z.none;
       further = z.fits;
@@ -51,9 +47,7 @@ scalar_piece (plain t) h =
 scalar_piece (quoted text) h =
     let z = quoted_piece double (written_escapes text) text (double_is text) in
     record {
-      node = refl;
-      begun = refl;
-      quiet = λ f. refl;
+      node = (refl, refl, λ f. refl);
       no_break = z.no_break;
       none = z.none;
       further = z.further;
@@ -63,9 +57,7 @@ scalar_piece (quoted text) h =
 scalar_piece (single_quoted text) h =
     let z = quoted_piece single (flat_map doubled text) text (single_is text h) in
     record {
-      node = refl;
-      begun = refl;
-      quiet = λ f. refl;
+      node = (refl, refl, λ f. refl);
       no_break = z.no_break;
       none = z.none;
       further = z.further;
@@ -76,11 +68,8 @@ scalar_piece (single_quoted text) h =
 -- ---- where a value stands
 
 pub no_quote : (k : Comment) (t : Trail) → begins_with 39 (spell_comment k (trail_text t)) ≡ false
-no_quote (comment more text) t = refl
-no_quote no_comment (next g d r) = refl
-no_quote no_comment (marker g r) = refl
 no_quote no_comment (end []) = refl
-no_quote no_comment (end (l ∷ g)) = refl
+no_quote k t = refl
 
 pub scalar_reads : (s : Scalar) → IsScalar s → (k : Comment) (t : Trail) (bs : List ℕ) (tokens : List Tok) → IsComment k → Rest t bs tokens
     → (text : List ℕ) → Parts bs text (spell_scalar s (spell_comment k (trail_text t))) → From another bs [] text (scalar_token s ∷ tokens)
@@ -89,6 +78,6 @@ scalar_reads s h k t bs tokens remark rest text parts =
     let z = scalar_piece s h in
     let ends = trail_ends k t bs rest.trail rest.low in
     let laid : Parts bs text (piece_of s ++ r) = subst (Parts bs text) (piece_spelt s r) parts in
-    node_reads bs (piece_of s) (scalar_token s) text r tokens laid z.none (deep_piece bs (piece_of s) r z.no_break) (λ s e. z.further _) z.node
+    node_reads bs (piece_of s) (scalar_token s) text r tokens laid z.none (deep_piece bs (piece_of s) r z.no_break) (λ s e. z.further _) z.node.0
     (λ p awaits l there. z.shown bs false r ends.stopped (no_quote k t) bs p awaits another l laid.by (none_ends bs (position_after p laid.by (piece_of s ++ r)).col there)) (z.precedes bs r (ends.done (piece_of s)))
-    (rw (z.begun) (arrive k t bs tokens remark rest.trail rest.after (previous_by (scalar_token s)) z.quiet))
+    (rw (z.node.1) (arrive k t bs tokens remark rest.trail rest.after (previous_by (scalar_token s)) z.node.2))

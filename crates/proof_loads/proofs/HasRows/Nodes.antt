@@ -106,10 +106,9 @@ pub same_line : (broken : Bool) (l : Line) → is_waiting l ≡ false → line_p
 same_line a l h = grind arith
 
 outside_line : (broken : Bool) (l : Line) → is_waiting l ≡ false → (m : Line) × (line_past_separation false broken l ≡ Some m) × (is_waiting m ≡ false)
-outside_line true free h = (free, refl, refl)
-outside_line true taken h = (free, refl, refl)
-outside_line true (Line.waits begin) h = cc
 outside_line false l h = (l, refl, h)
+outside_line true (Line.waits begin) h = cc
+outside_line true l h = (free, refl, refl)
 
 node_line : (must : Bool) (here : Position) (bs : List ℕ) (l : Line) → must ≡ false → is_waiting l ≡ false → line_past must here bs gives_node false l ≡ Some (record { line = taken; blocks = bs })
 node_line a p bs b e h = grind arith

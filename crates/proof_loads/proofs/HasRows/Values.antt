@@ -1,5 +1,5 @@
 -- Values, arrays and hashes of layouts have rows.
-use Rattle.proof_loads.proofs.TokensCommon.{[], all_field_tokens, all_of, Anchor, anchors_after, anchors_after_field, and_from, and_parts, another, append-nil, AreEntries, AreFields, arith, begins_with_space_or_break, begun, Block, block_tokens, BlockStyle, Bool, colon_may_precede, Comment, dash_may_precede, empty_hash, Entries, entry_tokens, false, Field, field_tokens, Fields, folded_header, free, GapLine, goes_on_with_name, has_no_break, has_tab_before_piece, inl, Inline, inline_tokens, inr, is_anchor_name, is_ascii_alphanumeric, is_at_gap, is_blank, is_blank_or_end, is_break, is_flow, is_line_character, is_name, is_nul, is_one_of, is_waiting, IsBlock, IsComment, IsField, IsGap, IsInline, IsLineText, IsScalar, IsValue, leading, least_column, length, List, list_all, MayFollowScalarKey, nat_tests, next_line, no_comment, Position, Previous, refl, Scalar, scalar, scalar_token, spaces, spell_block, spell_comment, spell_entries, spell_field, spell_fields, spell_gap, spell_inline, spell_lines, spell_literal, spell_scalar, spell_value, spelling, subst, suc, taken, Tok, true, Value, value_tokens, zero, ℕ, ◌++◌, ◌+◌, ◌∷◌, ◌≡◌, ◌≤◌, ◌⊎◌}
+use Rattle.proof_loads.proofs.TokensCommon.{[], all_field_tokens, all_of, Anchor, anchors_after, anchors_after_field, and_parts, another, append-nil, AreEntries, AreFields, arith, begins_with_space_or_break, begun, Block, block_tokens, BlockStyle, Bool, colon_may_precede, Comment, dash_may_precede, empty_hash, Entries, entry_tokens, false, Field, field_tokens, Fields, folded_header, free, GapLine, goes_on_with_name, has_no_break, has_tab_before_piece, inl, Inline, inline_tokens, inr, is_anchor_name, is_ascii_alphanumeric, is_at_gap, is_blank, is_blank_or_end, is_break, is_flow, is_line_character, is_name, is_nul, is_one_of, is_waiting, IsBlock, IsComment, IsField, IsGap, IsInline, IsLineText, IsScalar, IsValue, leading, least_column, length, List, list_all, MayFollowScalarKey, nat_tests, next_line, no_comment, Position, Previous, refl, scalar, Scalar, scalar_token, spaces, spell_block, spell_comment, spell_entries, spell_field, spell_fields, spell_gap, spell_inline, spell_lines, spell_literal, spell_scalar, spell_value, spelling, subst, suc, taken, Tok, true, Value, value_tokens, zero, ℕ, ◌++◌, ◌+◌, ◌∷◌, ◌≡◌, ◌≤◌, ◌⊎◌}
 use Rattle.defs_layout.specs.Json
 use Rattle.defs_token.specs.Piece as piece
 use Rattle.defs_layout.specs.Layout.{empty_array}
@@ -10,7 +10,7 @@ use Rattle.proof_loads.proofs.HasRows.Steps.{Reads, at}
 use Rattle.proof_loads.proofs.HasRows.Nodes.{Parts, From, deep_piece, node_reads, outside}
 use Rattle.proof_loads.proofs.HasRows.Json.{empty_reads, value_reads}
 use Rattle.proof_loads.proofs.HasRows.Blocks.{AreAbove, Here, stood, Comes, Marked, dash_reads, question_reads, colon_reads, key_reads}
-use Rattle.proof_loads.proofs.HasRows.Trails.{in_line, here_after, spaced, here_beside, Trail, next, marker, end, trail_text, BeginsContent, content_first, IsTrail, Rest, EndsAt, AllEnd, After, arrive, trail_ends}
+use Rattle.proof_loads.proofs.HasRows.Trails.{in_line, here_after, spaced, here_beside, Trail, next, end, trail_text, BeginsContent, content_first, IsTrail, Rest, EndsAt, AllEnd, After, arrive, trail_ends}
 use Rattle.proof_loads.proofs.HasRows.Trails
 use Rattle.proof_loads.proofs.PlainTexts.{IsPlainText, spelt_plain, first_space}
 use Rattle.proof_loads.proofs.HasRows.Plain.{plain_char, first_char}
@@ -182,10 +182,8 @@ a_name (c ∷ name) h = let z = names (c ∷ name) h in (z.0, z.1, of_class is_a
 
 trail_no_name : (t : Trail) → goes_on_with_name (trail_text t) ≡ false
 unfolding is_anchor_name is_blank_or_end is_blank is_break
-trail_no_name (next g d r) = refl
-trail_no_name (marker g r) = refl
 trail_no_name (end []) = refl
-trail_no_name (end (l ∷ g)) = refl
+trail_no_name t = refl
 
 -- ---- all of them
 
@@ -238,7 +236,7 @@ mutual
       let z = scalar_piece k h.0.0 in
       let short : length (piece_of k) ≤ 1024 = rw (append-nil (piece_of k)) at rw (piece_spelt k []) at h.0.1 in
       rw (piece_spelt k (58 ∷ r))
-      (key_reads c bs (piece_of k) (scalar_token k) r (value_tokens v tokens) z.node z.begun (z.quiet []) z.no_break z.none short (λ b. z.shown (stood b c bs) true (58 ∷ r) (rw (o.gap) refl) refl) z.further
+      (key_reads c bs (piece_of k) (scalar_token k) r (value_tokens v tokens) z.node.0 z.node.1 (z.node.2 []) z.no_break z.none short (λ b. z.shown (stood b c bs) true (58 ∷ r) (rw (o.gap) refl) refl) z.further
       (λ b. z.precedes (stood b c bs) (58 ∷ r) (rw (z.no_break) refl)) o.gap o.colon (λ q deep. read_value c a v h.2 bs t tokens rest q true taken (inr h.1) refl deep))
   field_read c a (Field.explicit k g v) h bs t tokens rest =
       let r = spell_value c v (trail_text t) in

@@ -1,27 +1,20 @@
 -- JSON values between whose parts only spaces stand: those that are written on one line without TAB.
-use Rattle.proof_loads.proofs.TokensCommon.{[], array, Blank, carriage_return, element, Elements, empty_array, empty_object, false_word, Json, last_element, last_member, line_feed, List, member, Members, null_word, object, space, string, tab, true_word, ◌∷◌}
-use Rattle.defs_layout.specs.Json.{number}
+use Rattle.proof_loads.proofs.TokensCommon.{[], array, Blank, element, Elements, empty_array, empty_object, Json, last_element, last_member, List, member, Members, object, space, ◌∷◌}
 
 -- only spaces
 abbrev pub AreSpaces : List Blank → Type 0
 AreSpaces [] = Unit {0}
 AreSpaces (space ∷ g) = AreSpaces g
-AreSpaces (tab ∷ g) = ⊥
-AreSpaces (line_feed ∷ g) = ⊥
-AreSpaces (carriage_return ∷ g) = ⊥
+AreSpaces (b ∷ g) = ⊥
 
 abbrev mutual
   -- within a value
   pub HasSpaces : Json → Type 0
-  HasSpaces false_word = Unit {0}
-  HasSpaces null_word = Unit {0}
-  HasSpaces true_word = Unit {0}
-  HasSpaces (number n) = Unit {0}
-  HasSpaces (string ps) = Unit {0}
   HasSpaces (empty_array g) = AreSpaces g
   HasSpaces (array g es) = AreSpaces g × HaveSpaces es
   HasSpaces (empty_object g) = AreSpaces g
   HasSpaces (object g ms) = AreSpaces g × MembersHaveSpaces ms
+  HasSpaces _ = Unit {0}
 
   -- within the values of an array, and between them
   pub HaveSpaces : Elements → Type 0
