@@ -46,7 +46,7 @@ module _ (bs : List ℕ) where
   word_reads w word pl text r tokens parts ends rest =
       let flow : list_all is_in_flow w ≡ true = list_all-more is_word is_in_flow (λ c e. grind (arith, nat_tests)) w word.chars in
       let z = plain_piece (flows pl) (innermost bs) w r (word_text w word) (λ e. flow) ends.stopped in
-      place_reads pl bs w (Tok.scalar Style.plain w) text r tokens parts z.none (deep_piece bs w r z.no_break) (λ s e. z.fits _) refl (plain_shown pl parts.by w r z) (rw (z.no_dash) refl) (rest plain_scalar (λ f. refl))
+      place_reads bs w (Tok.scalar Style.plain w) text r tokens parts z.none pl (deep_piece bs w r z.no_break) (λ s e. z.fits _) refl (plain_shown pl parts.by w r z) (rw (z.no_dash) refl) (rest plain_scalar (λ f. refl))
 
   few : (es : List Entry) → length es < 255 → nat_lt (length (map level_of es)) 255 ≡ true
   few es h = rw length-map (grind (arith, h))
@@ -59,9 +59,9 @@ module _ (bs : List ℕ) where
       → From another bs (entry_of b fresh ∷ entries_after pl []) r tokens → From another bs (entries_before pl) text (opening b ∷ tokens)
   unfolding is_break
   opens true pl text r tokens parts no_comment room rest =
-      place_reads pl bs (123 ∷ []) flow_mapping_start text r tokens parts refl (deep_piece bs (123 ∷ []) r refl) (λ s e. refl) refl (λ p awaits l there. (refl, inl ((refl, few (entries_before pl) room), refl))) (rw no_comment refl) (begun true pl r tokens rest)
+      place_reads bs (123 ∷ []) flow_mapping_start text r tokens parts refl pl (deep_piece bs (123 ∷ []) r refl) (λ s e. refl) refl (λ p awaits l there. (refl, inl ((refl, few (entries_before pl) room), refl))) (rw no_comment refl) (begun true pl r tokens rest)
   opens false pl text r tokens parts no_comment room rest =
-      place_reads pl bs (91 ∷ []) flow_sequence_start text r tokens parts refl (deep_piece bs (91 ∷ []) r refl) (λ s e. refl) refl (λ p awaits l there. (refl, ((refl, few (entries_before pl) room), refl))) (rw no_comment refl) (begun false pl r tokens rest)
+      place_reads bs (91 ∷ []) flow_sequence_start text r tokens parts refl pl (deep_piece bs (91 ∷ []) r refl) (λ s e. refl) refl (λ p awaits l there. (refl, ((refl, few (entries_before pl) room), refl))) (rw no_comment refl) (begun false pl r tokens rest)
 
   entry_ends : (es : List Entry) (h : Had) → is_keyed h ≡ false → past_end es false h ≡ Some es
   entry_ends es h e = grind arith
@@ -131,7 +131,7 @@ module _ (bs : List ℕ) where
     value_reads (number n) is may pl text r tokens parts ends few rest = word_reads bs (spell_number n []) (number_word n is) pl text r tokens (subst (Parts bs text) (number_then n r) parts) ends rest
     value_reads (string ps) is may pl text r tokens parts ends few rest =
         let z = string_piece ps is in
-        place_reads pl bs (quoted ps) (string_token ps) text r tokens (subst (Parts bs text) (quoted_is ps r) parts) z.none (deep_piece bs (quoted ps) r z.no_break) (λ s e. z.further _) refl
+        place_reads bs (quoted ps) (string_token ps) text r tokens (subst (Parts bs text) (quoted_is ps r) parts) z.none pl (deep_piece bs (quoted ps) r z.no_break) (λ s e. z.further _) refl
         (λ p awaits l there. (refl, ((body_of ps, refl, z.value), refl))) (ends.done (quoted ps)) (rest quoted_scalar (λ f. refl))
     value_reads (empty_array a) is may pl text r tokens parts ends few rest = empty_reads false a may pl text r tokens parts ends.no_comment (omega (arith, few)) rest
     value_reads (empty_object a) is may pl text r tokens parts ends few rest = empty_reads true a may pl text r tokens parts ends.no_comment (omega (arith, few)) rest

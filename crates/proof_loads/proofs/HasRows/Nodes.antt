@@ -113,6 +113,22 @@ outside_line true l h = (free, refl, refl)
 node_line : (must : Bool) (here : Position) (bs : List ℕ) (l : Line) → must ≡ false → is_waiting l ≡ false → line_past must here bs gives_node false l ≡ Some (record { line = taken; blocks = bs })
 node_line a p bs b e h = grind arith
 
+-- outside flow, or in an entry of an array or an object
+pub data Place : Type 0 where
+  outside : Place
+  within : (is_object : Bool) → (around : List Entry) → Place
+
+abbrev pub entries_before : Place → List Entry
+entries_before outside = []
+entries_before (within b es) = awaiting b ∷ es
+
+abbrev pub entries_after : Place → (begun : List Entry) → List Entry
+entries_after outside begun = begun
+entries_after (within b es) begun = begun ++ filled_by b ∷ es
+
+abbrev pub flows : Place → Bool
+flows pl = is_in_flow (entries_before pl)
+
 module _ (bs w : List ℕ) (t : Tok) (text next : List ℕ) (tokens : List Tok) (parts : Parts bs text (w ++ next)) (none : HasNone w) where
   abbrev Over : Type 0
   Over = (p : Position) → IsDeep bs p → IsDeep bs (position_after p w next)
@@ -173,31 +189,12 @@ module _ (bs w : List ℕ) (t : Tok) (text next : List ℕ) (tokens : List Tok) 
   node_reads over further node shown precede rest =
       outside_reads further taken refl (rw node refl) shown precede (λ must here l no line. rw node (node_line must here bs l no line)) (λ deeper here colon l. rw node refl) (λ here waits there. rest _ waits taken refl (over here there))
 
--- ---- places of values
-
--- outside flow, or in an entry of an array or an object
-pub data Place : Type 0 where
-  outside : Place
-  within : (is_object : Bool) → (around : List Entry) → Place
-
-abbrev pub entries_before : Place → List Entry
-entries_before outside = []
-entries_before (within b es) = awaiting b ∷ es
-
-abbrev pub entries_after : Place → (begun : List Entry) → List Entry
-entries_after outside begun = begun
-entries_after (within b es) begun = begun ++ filled_by b ∷ es
-
-abbrev pub flows : Place → Bool
-flows pl = is_in_flow (entries_before pl)
-
--- a node at a place
-pub place_reads : (pl : Place) (bs w : List ℕ) (t : Tok) (text next : List ℕ) (tokens : List Tok) (parts : Parts bs text (w ++ next)) → HasNone w → ((p : Position) → IsDeep bs p → IsDeep bs (position_after p w next))
-    → ((s : Site) → s.blocks ≡ bs → further_lines_stand (least_for t s) t w ≡ true) → act_of t ≡ gives_node → Shown another bs (entries_before pl) (step_of parts.by w t false) next → may_precede (flows pl) bs t w next ≡ true
-    → From (previous_by t) bs (entries_after pl (begun_by t)) next tokens → From another bs (entries_before pl) text (t ∷ tokens)
-place_reads outside bs w t text next tokens parts none over further node shown precede rest = node_reads bs w t text next tokens parts none over further node shown precede rest
-place_reads (within b es) bs w t text next tokens parts none over further node shown precede rest =
-    flow_reads bs w t text next tokens parts none over further another (awaiting b) es (λ here. begun_by t ++ filled_by b ∷ es) false [] (rw node refl) shown precede (λ here. rw node (past here b)) (λ here colon own. rw node refl) (λ here. rest)
-  where
-    past : (here : Position) (b : Bool) → entries_past here false gives_node (begun_by t) false (awaiting b) es ≡ Some (begun_by t ++ filled_by b ∷ es)
-    past here b = grind arith
+  -- a node at a place
+  pub place_reads : (pl : Place) → Over → Further → act_of t ≡ gives_node → Shown another bs (entries_before pl) (step_of parts.by w t false) next → may_precede (flows pl) bs t w next ≡ true
+      → From (previous_by t) bs (entries_after pl (begun_by t)) next tokens → From another bs (entries_before pl) text (t ∷ tokens)
+  place_reads outside over further node shown precede rest = node_reads over further node shown precede rest
+  place_reads (within b es) over further node shown precede rest =
+      flow_reads over further another (awaiting b) es (λ here. begun_by t ++ filled_by b ∷ es) false [] (rw node refl) shown precede (λ here. rw node (past here b)) (λ here colon own. rw node refl) (λ here. rest)
+    where
+      past : (here : Position) (b : Bool) → entries_past here false gives_node (begun_by t) false (awaiting b) es ≡ Some (begun_by t ++ filled_by b ∷ es)
+      past here b = grind arith
