@@ -5,12 +5,9 @@ pub mod Gaps
 pub mod Json
 pub mod Leaves
 pub mod Nodes
-pub mod OneLine
 pub mod Plain
 pub mod QuotedTexts
-pub mod Quotes
 pub mod Steps
 pub mod Strings
-pub mod Texts
 pub mod Trails
 pub mod Values

@@ -1,6 +1,6 @@
 -- A text that has tokens has no others, and is not refused. The empty text has its tokens.
 use Rattle.proof_loads.proofs.TokensCommon.{[], another, ap, false, Fault, first_position, free, HasTokens, HasToks, IsRefused, List, not_refused, one_list, refl, Tok, Token, toks, ℕ, ◌∙◌, ◌∷◌, ◌≡◌}
-use Rattle.proof_loads.proofs.HasRows.Texts.{has_tokens, read_end}
+use Rattle.proof_loads.proofs.HasRows.Steps.{has_tokens, read_end}
 
 pub no_other_tokens : (a : List ℕ) (want : List Tok) → HasToks a want → (ts : List Token) → HasTokens a ts → toks ts ≡ want
 no_other_tokens a want y ts z = ap toks (one_list a ts y.0 z y.1) ∙ y.2

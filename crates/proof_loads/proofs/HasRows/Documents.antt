@@ -1,12 +1,11 @@
 -- Whole layouts have rows: roots, and documents one after the other.
-use Rattle.proof_loads.proofs.TokensCommon.{AreDocuments, AreEmptyLines, BlockStyle, Bool, Documents, GapLine, IsAfterRoot, IsGap, IsLayout, IsRoot, Layout, List, Position, Previous, Root, Tok, [], and_false, another, append-nil, are_marks, arith, awaits_at, awaits_past, codes, documents_tokens, false, first_account, first_position, free, has_break, is_blank, is_blank_or_end, is_break, is_nul, is_waiting, length, marked, no_comment, position_after, refl, root_tokens, spaces, spell_documents, spell_gap, spell_lines, spell_root, subst, taken, true, ℕ, ◌++◌, ◌-◌, ◌∷◌, ◌≡◌}
+use Rattle.proof_loads.proofs.TokensCommon.{[], and_false, another, append-nil, are_marks, AreDocuments, AreEmptyLines, arith, awaits_at, awaits_past, BlockStyle, Bool, codes, Documents, documents_tokens, false, first_account, first_position, free, GapLine, has_break, is_blank, is_blank_or_end, is_break, is_nul, is_waiting, IsAfterRoot, IsGap, IsLayout, IsRoot, Layout, length, List, marked, no_comment, Position, position_after, Previous, refl, Root, root_tokens, spaces, spell_documents, spell_gap, spell_lines, spell_root, subst, taken, Tok, true, ℕ, ◌++◌, ◌-◌, ◌∷◌, ◌≡◌}
 use Rattle.defs_token.specs.Key.{Line}
 use Rattle.defs_layout.specs.Layout.{spell}
 use Rattle.defs_layout.specs.Layout as layout
 use Rattle.proof_loads.proofs.LiteralTexts.{strips_of, headed_literal, root_literal_lines}
-use Rattle.proof_loads.proofs.HasRows.Steps.{Reads, at, step_of, Steps, step}
+use Rattle.proof_loads.proofs.HasRows.Steps.{Reads, at, step_of, Steps, step, ended, read_end}
 use Rattle.proof_loads.proofs.HasRows.Nodes.{or_true, Parts}
-use Rattle.proof_loads.proofs.HasRows.Texts.{ended, read_end}
 use Rattle.proof_loads.proofs.HasRows.Blocks.{Here, ends_are, ended_append}
 use Rattle.proof_loads.proofs.HasRows.Trails.{Trail, next, marker, end, marker_text, trail_text, IsTrail, After, here_gap, here_after}
 use Rattle.proof_loads.proofs.HasRows.BlockScalars.{at_text, block_is_read}

@@ -1,7 +1,7 @@
 -- White space of JSON texts as separations.
 use Rattle.proof_loads.proofs.TokensCommon.{[], after, ap, arith, begins_with, Blank, blank_character, Bool, codes, colon_may_precede, false, goes_on_quoted, has_tab_within, inside, is_blank, is_blanks_and_comment, is_break, is_empty, is_flow, is_on_line, is_one_of, is_separation, last_line, leading, least_column, List, map, Option, Position, position_after, quoted_may_end, refl, space, split, Stand, stops, suc, TabsBeginLines, true, zero, ℕ, ◌++◌, ◌==◌, ◌||◌, ◌∷◌, ◌≡◌}
 use Rattle.defs_layout.specs.JsonGap.{spell_gap}
-use Rattle.proof_loads.proofs.JsonTokens.OnOneLine.{AreSpaces}
+use Rattle.proof_loads.proofs.JsonTokens.Spaces.{AreSpaces}
 use Rattle.proof_loads.proofs.HasRows.Nodes.{IsDeep, deep_char, Parts, or_true, closing_bracket}
 use Rattle.proof_loads.proofs.Nul.{HasNone}
 

@@ -4,7 +4,7 @@ use Rattle.defs_tree.proofs.GrammarLaws.{list_all-more}
 use Rattle.defs_layout.specs.Json.{number}
 use Rattle.defs_layout.specs.JsonGap.{spell_gap}
 use Rattle.proof_loads.proofs.JsonTokens.Numbers.{number_then, number_word}
-use Rattle.proof_loads.proofs.JsonTokens.OnOneLine.{HasSpaces, HaveSpaces, MembersHaveSpaces}
+use Rattle.proof_loads.proofs.JsonTokens.Spaces.{HasSpaces, HaveSpaces, MembersHaveSpaces}
 use Rattle.proof_loads.proofs.PlainTexts.{is_word, are_words, IsWord, word_text}
 use Rattle.proof_loads.proofs.HasRows.Steps.{step_of}
 use Rattle.proof_loads.proofs.HasRows.Nodes.{deep_piece, none_ends, Parts, entry_of, awaiting, opening, closing, opening_bracket, closing_bracket, From, Then, Shown, flow_reads, Place, outside, within, entries_before, entries_after, flows, place_reads, or_true}

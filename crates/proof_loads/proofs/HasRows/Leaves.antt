@@ -5,8 +5,7 @@ use Rattle.proof_loads.proofs.HasRows.Nodes.{none_ends, deep_piece, Parts, Quiet
 use Rattle.proof_loads.proofs.HasRows.Blocks.{ShownAt}
 use Rattle.proof_loads.proofs.HasRows.Json.{column_is}
 use Rattle.proof_loads.proofs.HasRows.Plain.{plain_piece}
-use Rattle.proof_loads.proofs.HasRows.Strings.{quoted_piece}
-use Rattle.proof_loads.proofs.HasRows.Quotes.{double_is, single_is}
+use Rattle.proof_loads.proofs.HasRows.Strings.{quoted_piece, double_is, single_is}
 use Rattle.proof_loads.proofs.HasRows.Trails.{Trail, end, trail_text, Rest, arrive, trail_ends}
 use Rattle.proof_loads.proofs.Nul.{HasNone}
 

@@ -1,7 +1,7 @@
 -- Plain scalars on one line, by the definition of pieces.
 use Rattle.proof_loads.proofs.TokensCommon.{[], after_blank, and_false, and_from, and_parts, are_marks, arith, begins_plain, Bool, codes, ends_plain, ends_with_content, ends_with_dash, false, goes_on, has_dash_before_flow, has_no_break, inside, is_blank, is_blank_or_end, is_break, is_document_marker, is_empty, is_flow, is_nul, is_one_of, is_whole_plain, List, list_all, may_begin, nat_tests, not, not-true, Option, plain_element, plain_lines_fit, plain_value, refl, Some, split, Stand, stops, true, ℕ, ◌&&◌, ◌++◌, ◌==◌, ◌||◌, ◌∷◌, ◌≡◌}
 use Rattle.defs_text.specs.FlowScalar.{blank}
-use Rattle.proof_loads.proofs.HasRows.OneLine.{IsOneLine, nothing, plain_step, value_is}
+use Rattle.proof_loads.proofs.HasRows.Strings.{IsOneLine, nothing, plain_step, value_is}
 use Rattle.proof_loads.proofs.PlainTexts.{is_plain_char, are_plain, closes, IsPlainText, is_first, is_second, first_space}
 use Rattle.proof_loads.proofs.Nul.{HasNone, of_class}
 

@@ -4,10 +4,9 @@ use Rattle.defs_text.specs.FlowScalar as flow
 use Rattle.defs_layout.specs.QuotedText as laid
 use Rattle.proof_loads.proofs.HasRows.Steps.{Reads, step_of}
 use Rattle.proof_loads.proofs.HasRows.Nodes.{Quiet, Shown, node_reads}
-use Rattle.proof_loads.proofs.HasRows.OneLine.{between}
+use Rattle.proof_loads.proofs.HasRows.Strings.{between, in_quotes}
 use Rattle.proof_loads.proofs.HasRows.Documents.{end_reads}
 use Rattle.proof_loads.proofs.HasRows.Leaves.{no_quote}
-use Rattle.proof_loads.proofs.HasRows.Strings.{in_quotes}
 use Rattle.proof_loads.proofs.HasRows.Trails.{end, arrive, trail_ends}
 use Rattle.proof_loads.proofs.Nul.{HasNone, quoted_none}
 

@@ -1,7 +1,10 @@
--- Rows from an account on, given from their last step to their first.
-use Rattle.proof_loads.proofs.TokensCommon.{Account, Bool, Colon, Entry, IsRowFrom, IsShown, List, Option, Position, Previous, Site, Some, Step, Tok, Token, [], account_past, ap, append_assoc, begins_free_line, false, is_in_flow, is_renewed, is_separation, line_past_separation, map-append, may_stand, on_one_line, past_piece, site_at, spelled, subst, sym, tokens_before, tokens_from, toks, true, ℕ, ◌++◌, ◌∷◌, ◌≡◌}
+-- Rows from an account on, given from their last step to their first. A text that has a row has the row's tokens by the scanner's model.
+use Rattle.proof_loads.proofs.TokensCommon.{[], Account, account_past, ap, append_assoc, begins_free_line, Bool, Colon, ends_with_stream, Entry, false, first_account, has_no_nul, HasToks, is_in_flow, is_renewed, is_separation, is_waiting, IsRowFrom, IsShown, line_past_separation, List, map-append, may_stand, on_one_line, Option, past_piece, Position, position_after, Previous, put, refl, Site, site_at, Some, spelled, Step, stream_position, subst, sym, Tok, Token, tokens_before, tokens_from, tokens_of_row, toks, true, up_to_nul, ℕ, ◌++◌, ◌∙◌, ◌∷◌, ◌≡◌}
 use Rattle.defs_token.specs.Key.{Line}
-use Rattle.proof_loads.proofs.Nul.{HasNone, both}
+use Rattle.proof_loads.proofs.Nul.{HasNone, both, whole}
+use Rattle.defs_token.specs.Step.{Row}
+use Rattle.proof_row.proofs.Pieces.{clean_up_to_end}
+use Rattle.proof_scanner.proofs.Complete.{texts_with_a_row_are_read}
 
 -- From an account on a text has a row, with these tokens.
 pub record Reads (a : Account) (text : List ℕ) (tokens : List Tok) : Type 0 where
@@ -57,3 +60,22 @@ step {a} {b} w next {first} {tokens} s z = by (subst (λ n. Steps a w n b first)
           are_tokens = rw (past, map-append, map-append, s.begins, z.are_tokens) (append_assoc first (w.shown ∷ []) tokens);
           none = both w.separation (w.piece ++ next) s.none.0 (both w.piece next s.none.1 z.none);
         }
+
+pub has_tokens : (text : List ℕ) (tokens : List Tok) → Reads first_account text tokens → HasToks text (Tok.stream_start ∷ tokens)
+has_tokens text tokens z =
+    let without : up_to_nul text ≡ text = whole text z.none in
+    let row : Row = record { steps = z.steps; last = z.last } in
+    (tokens_of_row row, texts_with_a_row_are_read text (tokens_of_row row) (subst (λ a. has_no_nul a ≡ true) without (clean_up_to_end text)) (row, (z.is_text ∙ sym without, z.is_row), refl), ap (λ o. Tok.stream_start ∷ o) z.are_tokens)
+
+-- the ends of block collections, before other tokens
+abbrev pub ended : List ℕ → List Tok → List Tok
+ended [] o = o
+ended (n ∷ bs) o = Tok.block_end ∷ ended bs o
+
+-- the end of a text
+pub read_end : (p : Position) (bs : List ℕ) (awaits : Bool) (before : Previous) (l : Line) (last : List ℕ) → is_waiting l ≡ false → is_separation false last [] ≡ true → HasNone last → Reads (at p bs awaits before l []) last (ended bs (Tok.stream_end ∷ []))
+read_end p bs awaits before l last line separates none = record { steps = []; last = last; is_text = refl; is_row = (separates, rw line refl); are_tokens = told bs; none = none }
+  where
+    told : (bs : List ℕ) → toks (ends_with_stream (position_after p last []) bs ++ (put (stream_position (position_after p last [])) Tok.stream_end ∷ [])) ≡ ended bs (Tok.stream_end ∷ [])
+    told [] = refl
+    told (n ∷ bs) = ap (λ o. Tok.block_end ∷ o) (told bs)

@@ -1,8 +1,62 @@
--- Strings of JSON texts as bodies in double quotes, by the definition of their value.
-use Rattle.proof_loads.proofs.TokensCommon.{[], and_parts, ap, append_assoc, are_pieces, arith, body_value, character_of, content, digit_value, double, double_quoted_element, double_quoted_value, escape, false, four_digits, further_lines_stand, has_no_break, is_break, is_character_code, is_digit, is_hex_digit, is_nul, is_piece, is_surrogate, is_unescaped, itself, letter_of, List, ltb-true, nat_tests, not, numeric_escape, Option, Piece, quote_of, Quotes, refl, short, Short, single, single_quoted_element, single_quoted_value, Some, spell_pieces, spell_string, Spelled, style_of, sym, Tok, true, unescaped, unicode, ℕ, ◌*◌, ◌++◌, ◌+◌, ◌<◌, ◌==◌, ◌∙◌, ◌∷◌, ◌≡◌}
-use Rattle.proof_loads.proofs.HasRows.OneLine.{IsOneLine, nothing, with_content, plain_step}
-use Rattle.proof_loads.proofs.HasRows.OneLine
+-- Bodies of flow scalars on one line, and their values: strings of JSON texts, and texts in quotes as layouts write them.
+use Rattle.proof_loads.proofs.TokensCommon.{[], and_parts, ap, append_assoc, are_pieces, arith, body_value, Bool, character_of, content, digit_value, double, double_quoted_element, double_quoted_value, doubled, Element, elements, elements_fit, eqb-true, escape, escaped_code, false, flat_map, four_digits, further_lines_stand, has_document_marker, has_no_break, hexadecimal_digit, if◌then◌else◌, is_blank, is_break, is_character_code, is_digit, is_hex_digit, is_line_character, is_nul, is_piece, is_surrogate, is_unescaped, IsLineText, itself, letter_of, List, list_all, ltb-true, nat_lt, nat_tests, not, not-true, numeric_escape, Option, Piece, plain_element, quote_of, quoted_lines_fit, Quotes, refl, short, Short, single, single_quoted_element, single_quoted_value, Some, spell_pieces, spell_string, Spelled, style_of, sym, Tok, true, unescaped, unicode, value_by, without_last, written_character, written_escapes, ℕ, ◌%◌, ◌*◌, ◌++◌, ◌+◌, ◌/◌, ◌<◌, ◌==◌, ◌||◌, ◌∙◌, ◌∷◌, ◌≡◌}
+use Rattle.defs_text.specs.FlowScalar.{blank, lines_of, last_line, text_of}
 use Rattle.proof_loads.proofs.Nul.{HasNone, quoted_none}
+
+-- elements without a break, and their text
+pub data InLine : List Element → List ℕ → Type 0 where
+  nothing : InLine [] []
+  with_content : {es : List Element} {text : List ℕ} (c : ℕ) → InLine es text → InLine (content c ∷ es) (c ∷ text)
+  with_blank : {es : List Element} {text : List ℕ} (c : ℕ) → InLine es text → InLine (blank c ∷ es) (c ∷ text)
+
+-- the elements of a body are on one line, and have this text
+pub record IsOneLine (at : ℕ → List ℕ → Option Spelled) (body text : List ℕ) : Type 0 where
+  pub all : List Element
+  pub are : elements at 0 body ≡ Some all
+  pub in_line : InLine all text
+
+-- a character that stands for itself, before a body
+pub plain_step : (at : ℕ → List ℕ → Option Spelled) (c : ℕ) (body text : List ℕ) → at c body ≡ plain_element c body → is_break c ≡ false → IsOneLine at body text → IsOneLine at (c ∷ body) (c ∷ text)
+unfolding plain_element
+plain_step at c body text e no_break z = by (is_blank c) refl
+  where
+    by : (b : Bool) → is_blank c ≡ b → IsOneLine at (c ∷ body) (c ∷ text)
+    by true h = record { all = blank c ∷ z.all; are = rw (e, no_break, h, z.are) refl; in_line = with_blank c z.in_line }
+    by false h = record { all = content c ∷ z.all; are = rw (e, no_break, h, z.are) refl; in_line = with_content c z.in_line }
+
+lines_are : {es : List Element} {text : List ℕ} → InLine es text → lines_of es ≡ last_line es
+lines_are nothing = refl
+lines_are (with_content c h) = rw (lines_are h) refl
+lines_are (with_blank c h) = rw (lines_are h) refl
+
+text_is : {es : List Element} {text : List ℕ} → InLine es text → text_of es ≡ text
+text_is nothing = refl
+text_is (with_content c h) = rw (text_is h) refl
+text_is (with_blank c h) = rw (text_is h) refl
+
+no_marker : (body : List ℕ) → has_no_break body ≡ true → has_document_marker body ≡ false
+no_marker [] h = refl
+no_marker (c ∷ r) h = let q = and_parts (not (is_break c)) (has_no_break r) h in rw (not-true (is_break c) q.0) (no_marker r q.1)
+
+-- the body between a piece's quotes
+pub between : (quote : ℕ) (r : List ℕ) → without_last (r ++ quote ∷ []) ≡ r
+between quote [] = refl
+between quote (c ∷ []) = refl
+between quote (c ∷ d ∷ r) = ap (λ x. c ∷ x) (between quote (d ∷ r))
+
+pub quote_no_break : (quote : ℕ) (w : List ℕ) → is_break quote ≡ false → has_no_break w ≡ true → has_no_break (quote ∷ (w ++ quote ∷ [])) ≡ true
+quote_no_break quote [] q h = rw q refl
+quote_no_break quote (c ∷ w) q h = grind (arith, quote_no_break quote w)
+
+module _ (at : ℕ → List ℕ → Option Spelled) (body text : List ℕ) (z : IsOneLine at body text) where
+  pub value_is : has_no_break body ≡ true → value_by at body ≡ Some text
+  value_is h = rw (no_marker body h, z.are, lines_are z.in_line, text_is z.in_line) refl
+
+  fits : (column : ℕ) → elements_fit column (elements at 0 body) ≡ true
+  fits column = rw (z.are, lines_are z.in_line) refl
+
+  pub lines_fit : (column quote : ℕ) → quoted_lines_fit column at (quote ∷ (body ++ quote ∷ [])) ≡ true
+  lines_fit column quote = rw (between quote body) (fits column)
 
 -- the text of pieces, as a body
 abbrev pub body_of : List Piece → List ℕ
@@ -102,11 +156,11 @@ pub record IsQuotedPiece (quotes : Quotes) (body text : List ℕ) : Type 0 where
 pub quoted_piece : (quotes : Quotes) (body text : List ℕ) → IsBody quotes body text → IsQuotedPiece quotes body text
 unfolding single_quoted_value double_quoted_value is_break
 quoted_piece single body text z =
-    let value : single_quoted_value body ≡ Some text = OneLine.value_is single_quoted_element body text z.one_line z.no_break in
-    record { value = value; no_break = OneLine.quote_no_break 39 body refl z.no_break; further = λ column. OneLine.lines_fit single_quoted_element body text z.one_line column 39; none = quoted_none single body text value }
+    let value : single_quoted_value body ≡ Some text = value_is single_quoted_element body text z.one_line z.no_break in
+    record { value = value; no_break = quote_no_break 39 body refl z.no_break; further = λ column. lines_fit single_quoted_element body text z.one_line column 39; none = quoted_none single body text value }
 quoted_piece double body text z =
-    let value : double_quoted_value body ≡ Some text = OneLine.value_is double_quoted_element body text z.one_line z.no_break in
-    record { value = value; no_break = OneLine.quote_no_break 34 body refl z.no_break; further = λ column. OneLine.lines_fit double_quoted_element body text z.one_line column 34; none = quoted_none double body text value }
+    let value : double_quoted_value body ≡ Some text = value_is double_quoted_element body text z.one_line z.no_break in
+    record { value = value; no_break = quote_no_break 34 body refl z.no_break; further = λ column. lines_fit double_quoted_element body text z.one_line column 34; none = quoted_none double body text value }
 
 -- a string of a JSON text
 abbrev pub quoted : List Piece → List ℕ
@@ -117,3 +171,66 @@ quoted_is ps r = ap (λ x. 34 ∷ x) (spelt ps (34 ∷ r) ∙ sym (append_assoc 
 
 pub string_piece : (ps : List Piece) → are_pieces ps ≡ true → IsQuotedPiece double (body_of ps) (unescaped ps)
 string_piece ps h = quoted_piece double (body_of ps) (unescaped ps) (string_is ps h)
+
+-- ---- in double quotes
+
+is_low_code : (c : ℕ) → c < 128 → is_character_code c ≡ true
+unfolding is_character_code
+is_low_code c h = grind (arith, nat_tests)
+
+hex_digit : (n : ℕ) → n < 16 → (is_digit (hexadecimal_digit n) 16 ≡ true) × (digit_value (hexadecimal_digit n) ≡ n)
+hex_digit n h = (grind (arith, nat_tests), grind (arith, nat_tests))
+
+coded : (c : ℕ) → c < 128 → Goes double (escaped_code c) c
+coded c low =
+    let high = hex_digit (c / 16) (omega (arith, low)) in
+    let small = hex_digit (c % 16) (omega arith) in
+    unicode_goes 48 48 (hexadecimal_digit (c / 16)) (hexadecimal_digit (c % 16)) c (record { first = refl; second = refl; third = high.0; fourth = small.0; valid = is_low_code c low; value = rw (high.1, small.1) (omega arith) })
+
+named : (l x c : ℕ) → (c == x) ≡ true → is_break l ≡ false → ((body : List ℕ) → escape (l ∷ body) ≡ Some (record { element = content x; further = 1 })) → Goes double (92 ∷ l ∷ []) c
+named l x c e no_break is = rw (eqb-true c x e) (named_goes l x no_break is)
+
+if_goes : (b : Bool) (x y : List ℕ) (c : ℕ) → (b ≡ true → Goes double x c) → (b ≡ false → Goes double y c) → Goes double (if b then x else y) c
+if_goes true x y c f g = f refl
+if_goes false x y c f g = g refl
+
+character_goes : (c : ℕ) → Goes double (written_character c) c
+unfolding written_character is_break escape is_nul
+character_goes c =
+    if_goes (c == 34) _ _ c (λ e. named 34 34 c e refl (λ body. refl)) (λ quote.
+    if_goes (c == 92) _ _ c (λ e. named 92 92 c e refl (λ body. refl)) (λ backslash.
+    if_goes (c == 8) _ _ c (λ e. named 98 8 c e refl (λ body. refl)) (λ e8.
+    if_goes (c == 9) _ _ c (λ e. named 116 9 c e refl (λ body. refl)) (λ e9.
+    if_goes (c == 10) _ _ c (λ e. named 110 10 c e refl (λ body. refl)) (λ e10.
+    if_goes (c == 12) _ _ c (λ e. named 102 12 c e refl (λ body. refl)) (λ e12.
+    if_goes (c == 13) _ _ c (λ e. named 114 13 c e refl (λ body. refl)) (λ e13.
+    if_goes (nat_lt c 32 || (c == 127)) _ _ c (λ e. coded c (grind (arith, nat_tests)))
+    (λ high. itself_goes c (record { nul = grind (arith, nat_tests); break = grind (arith, nat_tests); backslash = backslash; quote = quote })))))))))
+
+pub double_is : (w : List ℕ) → IsBody double (written_escapes w) w
+double_is [] = nothing_is double
+double_is (c ∷ w) = character_goes c (written_escapes w) w (double_is w)
+
+-- ---- in single quotes
+
+plain_goes : (c : ℕ) → is_line_character c ≡ true → (c == 39) ≡ false → Goes single (c ∷ []) c
+unfolding single_quoted_element is_nul is_break is_line_character
+plain_goes c h quote body text z =
+    let nul : is_nul c ≡ false = grind (arith, nat_tests) in
+    let no_break : is_break c ≡ false = grind (arith, nat_tests) in
+    record { one_line = plain_step single_quoted_element c body text (rw (nul, quote) refl) no_break z.one_line; no_break = rw no_break (z.no_break) }
+
+two_go : Goes single (39 ∷ 39 ∷ []) 39
+unfolding single_quoted_element is_nul is_break
+two_go body text z = record { one_line = record { all = content 39 ∷ z.one_line.all; are = rw (z.one_line.are) refl; in_line = with_content 39 z.one_line.in_line }; no_break = z.no_break }
+
+doubled_goes : (c : ℕ) → is_line_character c ≡ true → Goes single (doubled c) c
+doubled_goes c h = by (c == 39) refl
+  where
+    by : (b : Bool) → (c == 39) ≡ b → Goes single (if b then 39 ∷ 39 ∷ [] else c ∷ []) c
+    by true e = rw (eqb-true c 39 e) two_go
+    by false e = plain_goes c h e
+
+pub single_is : (w : List ℕ) → IsLineText w → IsBody single (flat_map doubled w) w
+single_is [] h = nothing_is single
+single_is (c ∷ w) h = let q = and_parts (is_line_character c) (list_all is_line_character w) h in doubled_goes c q.0 (flat_map doubled w) w (single_is w q.1)

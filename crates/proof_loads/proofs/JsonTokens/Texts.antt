@@ -1,13 +1,12 @@
 -- JSON texts have their tokens.
-use Rattle.proof_loads.proofs.TokensCommon.{IsWellFormed, JsonText, JsonTextsAreNotRefused, JsonTextsHaveNoOtherTokens, JsonTextsHaveTheirTokens, None, Tok, [], append-nil, arith, false, first_account, first_position, free, json_text_tokens, json_tokens, refl, spell_text, up_to_nul, ◌∷◌, ◌≡◌}
+use Rattle.proof_loads.proofs.TokensCommon.{[], append-nil, arith, false, first_account, first_position, free, IsWellFormed, json_text_tokens, json_tokens, JsonText, JsonTextsAreNotRefused, JsonTextsHaveNoOtherTokens, JsonTextsHaveTheirTokens, None, refl, spell_text, Tok, up_to_nul, ◌∷◌, ◌≡◌}
 use Rattle.defs_layout.specs.JsonGap.{spell_gap}
 use Rattle.proof_loads.proofs.Nul.{whole}
 use Rattle.proof_loads.proofs.TextTokens.{no_other_tokens, none_is_refused}
-use Rattle.proof_loads.proofs.HasRows.Steps.{Reads}
+use Rattle.proof_loads.proofs.HasRows.Steps.{Reads, has_tokens, read_end}
 use Rattle.proof_loads.proofs.HasRows.Nodes.{outside}
 use Rattle.proof_loads.proofs.HasRows.Gaps.{white, blanks, white_none, spelt, separates, ends, at_end}
 use Rattle.proof_loads.proofs.HasRows.Json.{value_reads}
-use Rattle.proof_loads.proofs.HasRows.Texts.{has_tokens, read_end}
 
 json_text_reads : (w : JsonText) → IsWellFormed w → Reads first_account (spell_text w) (json_tokens w.value (Tok.stream_end ∷ []))
 json_text_reads w is =

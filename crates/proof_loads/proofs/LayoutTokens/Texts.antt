@@ -1,10 +1,10 @@
 -- Layouts have their tokens.
-use Rattle.proof_loads.proofs.TokensCommon.{[], documents_tokens, IsLayout, Layout, up_to_nul, ◌≡◌, layout_tokens, LayoutsAreNotRefused, LayoutsHaveNoOtherTokens, LayoutsHaveTheirTokens, marked}
+use Rattle.proof_loads.proofs.TokensCommon.{[], documents_tokens, IsLayout, Layout, layout_tokens, LayoutsAreNotRefused, LayoutsHaveNoOtherTokens, LayoutsHaveTheirTokens, marked, up_to_nul, ◌≡◌}
 use Rattle.defs_layout.specs.Layout.{spell}
 use Rattle.proof_loads.proofs.Nul.{whole}
 use Rattle.proof_loads.proofs.TextTokens.{no_other_tokens, none_is_refused}
 use Rattle.proof_loads.proofs.HasRows.Documents.{layout_reads}
-use Rattle.proof_loads.proofs.HasRows.Texts.{has_tokens}
+use Rattle.proof_loads.proofs.HasRows.Steps.{has_tokens}
 
 pub layouts_have_no_nul : (w : Layout) → IsLayout w → up_to_nul (spell w []) ≡ spell w []
 layouts_have_no_nul w is = whole (spell w []) (layout_reads w is).none

@@ -3,7 +3,7 @@ use Rattle.proof_loads.proofs.TokensCommon.{[], body_value, List, QuotedText, Qu
 use Rattle.defs_layout.specs.QuotedText.{spell}
 use Rattle.proof_loads.proofs.Nul.{whole}
 use Rattle.proof_loads.proofs.HasRows.QuotedTexts.{quoted_reads}
-use Rattle.proof_loads.proofs.HasRows.Texts.{has_tokens}
+use Rattle.proof_loads.proofs.HasRows.Steps.{has_tokens}
 
 pub quoted_text_has_no_nul : (w : QuotedText) (value : List ℕ) → body_value w.quotes w.body ≡ Some value → up_to_nul (spell w) ≡ spell w
 quoted_text_has_no_nul w value is = whole (spell w) (quoted_reads w.quotes w.body value w.breaks is).none
