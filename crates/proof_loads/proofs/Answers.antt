@@ -1,5 +1,7 @@
 -- What a load answers of any text, by a parser that is at its start.
-use Rattle.proof_loads.proofs.Common.{[], Answer, AnswersText, ap, append-nil, append_assoc, AreFirst, AreSettled, before_stream, BeginsEvents, BeginsPlaced, Blames, Bool, codes, ComesAfter, EndsSo, Err, ErrorReport, Ev, events_of, Explains, false, fault, Foretells, given, has_end, HasEvents, inl, inr, IsAtStart, IsFaultOf, IsOfScanner, IsPlacedStream, IsRefusal, IsStream, length, List, load, load_from, Loads, nested_stream, no_stream, no_token, None, NoneBegins, Parsed, Position, raws_of, read, Receives, refl, Refused, Result, ScansIn, Some, subst, sym, TextsAreAnswered, Tok, Token, toks, true, wants_memory, whole, without_positions, ℕ, ◌++◌, ◌∙◌, ◌∷◌, ◌≡◌}
+use Rattle.proof_loads.proofs.Common.{[], Answer, AnswersText, ap, append-nil, append_assoc, AreFirst, AreSettled, before_stream, BeginsEvents, BeginsPlaced, Blames, Bool, codes, ComesAfter, EndsSo, Err, ErrorReport, Ev, events_of, Explains, false, fault, Foretells, given, has_end, HasEvents, inl, inr, IsAtStart, IsCause, IsDerived, IsFaultOf, IsOfScanner, IsPlacedStream, IsRefusal, IsStream, length, List, load, load_from, Loads, nested_stream, no_names, no_stream, no_token, None, NoneBegins, Parsed, Position, Raw, raws_of, read, Receives, refl, Refused, Result, ScansIn, Some, subst, sym, TextsAreAnswered, Tok, Token, toks, true, wants_memory, whole, without_positions, ℕ, ◌++◌, ◌∙◌, ◌∷◌, ◌≡◌}
+use Rattle.yaml_parser.specs.Settings.{AreAll}
+use Rattle.yaml_parser.proofs.Since.{since_same, names_same}
 use Rattle.defs_event.specs.Push as run
 use Rattle.defs_event.proofs.AllPushed.{all_pushed}
 use Rattle.defs_event.proofs.StreamNests.{stream_nests}
@@ -9,8 +11,40 @@ use Rattle.proof_loads.specs.TextEvents.{faulted, refused}
 use Rattle.proof_loads.proofs.Pulled.{Noted, given_alone, Answered, events, faults, answered, read_given, settings_stay}
 use Rattle.proof_loads.proofs.Texts.{first_tokens, foretells_beginning, if_kept}
 use Rattle.proof_loads.proofs.Runs.{IsOver, Pushes, pushes, fault_is_reached, end_is_reached, faulted_pushes, PushesAll, ended_within, ended_after, given_append}
-use Rattle.proof_loads.proofs.Steady.{blames_steady}
 use Rattle.proof_loads.proofs.StreamEnds.{all_tokens}
+
+derived_steady : {settings : List Bool} {keep_tags : Bool} {tokens : List Token} {raw : List Raw} {events : List (Ev × Position)} → AreAll keep_tags settings → IsDerived settings keep_tags tokens raw events → IsDerived [] keep_tags tokens raw events
+derived_steady {settings} {keep_tags} {tokens} {raw} {events} all d = record {
+  more_tokens = d.more_tokens;
+  more_raw = d.more_raw;
+  more_events = d.more_events;
+  stream = record {
+    says = d.stream.says;
+    has_events = sym (since_same settings keep_tags no_names (raw ++ d.more_raw) all) ∙ d.stream.has_events;
+    places = d.stream.places;
+  };
+  named = sym (since_same settings keep_tags no_names raw all) ∙ d.named;
+}
+
+pub blames_steady : {f : ErrorReport} {settings : List Bool} {keep_tags : Bool} {tokens : List Token} {events : List (Ev × Position)} → AreAll keep_tags settings → Blames f settings keep_tags tokens events → Blames f [] keep_tags tokens events
+blames_steady {f} {settings} {keep_tags} {tokens} {events} all b = record {
+  before = b.before;
+  last = b.last;
+  whole = b.whole;
+  raw = b.raw;
+  derived = derived_steady all b.derived;
+  unnamed = λ ts raw es d named. b.unnamed ts raw es d (since_same settings keep_tags no_names raw all ∙ named);
+  problem = b.problem;
+  shown = b.shown;
+  fits_it = b.fits_it;
+  says = b.says;
+  cause = subst (λ names. IsCause b.problem names (events_of events) (toks b.before) b.last.tok) (names_same settings keep_tags no_names b.raw all) b.cause;
+  stands = b.stands;
+  apart = b.apart;
+  beside = b.beside;
+  none = b.none;
+  some = b.some;
+}
 
 -- what a call does with these answers
 abbrev so : List (Answer ErrorReport) → run.Loaded ErrorReport

@@ -1,9 +1,6 @@
 pub mod Blocks
 pub mod BlockScalars
-pub mod Documents
-pub mod Gaps
 pub mod Json
-pub mod Leaves
 pub mod Nodes
 pub mod Plain
 pub mod QuotedTexts

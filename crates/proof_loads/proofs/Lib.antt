@@ -1,7 +1,6 @@
 mod AnchorRows
 pub mod Answers
 mod BlockLines
-mod BlockTexts
 mod Common
 pub mod CutTexts
 pub mod DocumentTrees
@@ -18,9 +17,7 @@ mod LiteralTexts
 pub mod Loads
 mod MeaningRows
 pub mod Nul
-pub mod OneCause
 pub mod OneFault
-pub mod OneList
 pub mod OneListBefore
 pub mod OneReading
 mod PlainTexts
@@ -32,7 +29,6 @@ pub mod HasRows
 pub mod Runs
 pub mod Settled
 pub mod Spelled
-pub mod Steady
 pub mod StreamEnds
 mod TextTokens
 pub mod Texts

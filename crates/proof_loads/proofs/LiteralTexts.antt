@@ -3,8 +3,7 @@ use Rattle.proof_loads.proofs.TokensCommon.{[], and_false, and_parts, ap, append
 use Rattle.defs_tree.specs.Lines.{ended}
 use Rattle.defs_tree.specs.Literal as literal_defs
 use Rattle.defs_layout.specs.BlockLines.{content}
-use Rattle.proof_loads.proofs.BlockTexts.{header_by, row_by}
-use Rattle.proof_loads.proofs.BlockLines.{block_text, AreBlockLines, each_line}
+use Rattle.proof_loads.proofs.BlockLines.{header_by, row_by, block_text, AreBlockLines, each_line}
 
 -- ---- characters
 

@@ -5,8 +5,7 @@ use Rattle.defs_layout.specs.QuotedText as laid
 use Rattle.proof_loads.proofs.HasRows.Steps.{Reads, step_of}
 use Rattle.proof_loads.proofs.HasRows.Nodes.{Quiet, Shown, node_reads}
 use Rattle.proof_loads.proofs.HasRows.Strings.{between, in_quotes}
-use Rattle.proof_loads.proofs.HasRows.Documents.{end_reads}
-use Rattle.proof_loads.proofs.HasRows.Leaves.{no_quote}
+use Rattle.proof_loads.proofs.HasRows.Values.{end_reads, no_quote}
 use Rattle.proof_loads.proofs.HasRows.Trails.{end, arrive, trail_ends}
 use Rattle.proof_loads.proofs.Nul.{HasNone, quoted_none}
 

@@ -3,11 +3,11 @@ use Rattle.proof_loads.proofs.TokensCommon.{[], after_blank, and_parts, another,
 use Rattle.defs_token.specs.Key.{Line}
 use Rattle.defs_token.specs.Plain.{is_deeper}
 use Rattle.proof_loads.proofs.HasRows.Steps.{Reads, at, ended}
-use Rattle.proof_loads.proofs.HasRows.Gaps.{Ends}
+use Rattle.proof_loads.proofs.HasRows.Json.{Ends}
 use Rattle.proof_loads.proofs.HasRows.Nodes.{or_true, Parts, Quiet, Then}
 use Rattle.proof_loads.proofs.HasRows.Blocks.{Here}
 use Rattle.proof_loads.proofs.Nul.{HasNone, both, text_none}
-pub use Rattle.proof_loads.proofs.BlockTexts.{spaces_are}
+pub use Rattle.proof_loads.proofs.BlockLines.{spaces_are}
 
 -- a gap, and at a column of the next line the rest; a gap, and the `---` of a next document with the rest; or a gap up to the end
 pub data Trail : Type 0 where

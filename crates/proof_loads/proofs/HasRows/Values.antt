@@ -1,24 +1,96 @@
--- Values, arrays and hashes of layouts have rows.
-use Rattle.proof_loads.proofs.TokensCommon.{[], all_field_tokens, all_of, Anchor, anchors_after, anchors_after_field, and_parts, another, append-nil, AreEntries, AreFields, arith, begins_with_space_or_break, begun, Block, block_tokens, BlockStyle, Bool, colon_may_precede, Comment, dash_may_precede, empty_hash, Entries, entry_tokens, false, Field, field_tokens, Fields, folded_header, free, GapLine, goes_on_with_name, has_no_break, has_tab_before_piece, inl, Inline, inline_tokens, inr, is_anchor_name, is_ascii_alphanumeric, is_at_gap, is_blank, is_blank_or_end, is_break, is_flow, is_line_character, is_name, is_nul, is_one_of, is_waiting, IsBlock, IsComment, IsField, IsGap, IsInline, IsLineText, IsScalar, IsValue, leading, least_column, length, List, list_all, MayFollowScalarKey, nat_tests, next_line, no_comment, Position, Previous, refl, scalar, Scalar, scalar_token, spaces, spell_block, spell_comment, spell_entries, spell_field, spell_fields, spell_gap, spell_inline, spell_lines, spell_literal, spell_scalar, spell_value, spelling, subst, suc, taken, Tok, true, Value, value_tokens, zero, ℕ, ◌++◌, ◌+◌, ◌∷◌, ◌≡◌, ◌≤◌, ◌⊎◌}
+-- Layouts have rows: scalars, values, arrays and hashes, roots, and documents one after the other.
+use Rattle.proof_loads.proofs.TokensCommon.{[], act_of, all_field_tokens, all_of, Anchor, anchors_after, anchors_after_field, and_false, and_parts, another, append-nil, append_assoc, are_marks, AreDocuments, AreEmptyLines, AreEntries, AreFields, arith, awaits_at, awaits_past, before_by, before_past, begins_with, begins_with_space_or_break, begun, begun_by, Block, block_tokens, BlockStyle, Bool, codes, colon_may_precede, Comment, dash_may_precede, Documents, documents_tokens, double, double_quoted, doubled, empty_hash, Entries, entry_tokens, false, Field, field_tokens, Fields, first_account, first_position, flat_map, folded_header, free, further_lines_stand, GapLine, gives_node, goes_on_with_name, has_break, has_no_break, has_tab_before_piece, inl, Inline, inline_tokens, innermost, inr, inside, is_adjacent, is_anchor_name, is_ascii_alphanumeric, is_at_gap, is_blank, is_blank_or_end, is_break, is_flow, is_line_character, is_name, is_nul, is_one_of, is_waiting, IsAfterRoot, IsBlock, IsComment, IsField, IsGap, IsInline, IsLayout, IsLineText, IsRoot, IsScalar, IsValue, Layout, leading, least_column, length, List, list_all, marked, may_precede, MayFollowScalarKey, nat_tests, next_line, no_comment, None, plain, Position, position_after, Previous, previous_by, quoted, quoted_may_end, refl, Root, root_tokens, Scalar, scalar, scalar_token, single, single_quoted, spaces, spell_block, spell_comment, spell_documents, spell_entries, spell_field, spell_fields, spell_gap, spell_inline, spell_lines, spell_literal, spell_root, spell_scalar, spell_value, spelling, stops, subst, suc, taken, Tok, true, Value, value_tokens, written_escapes, zero, ℕ, ◌++◌, ◌+◌, ◌-◌, ◌∷◌, ◌≡◌, ◌≤◌, ◌⊎◌}
+use Rattle.proof_loads.proofs.PlainTexts.{spelt_plain, IsPlainText, first_space}
+use Rattle.proof_loads.proofs.HasRows.Nodes.{none_ends, deep_piece, Parts, Quiet, From, node_reads, outside, or_true}
+use Rattle.proof_loads.proofs.HasRows.Blocks.{ShownAt, AreAbove, Here, stood, Comes, Marked, dash_reads, question_reads, colon_reads, key_reads, ends_are, ended_append}
+use Rattle.proof_loads.proofs.HasRows.Json.{column_is, empty_reads, value_reads}
+use Rattle.proof_loads.proofs.HasRows.Plain.{plain_piece, plain_char, first_char}
+use Rattle.proof_loads.proofs.HasRows.Strings.{quoted_piece, double_is, single_is}
+use Rattle.proof_loads.proofs.HasRows.Trails.{Trail, end, trail_text, Rest, arrive, trail_ends, in_line, here_after, spaced, here_beside, next, BeginsContent, content_first, IsTrail, EndsAt, AllEnd, After, marker, marker_text, here_gap}
+use Rattle.proof_loads.proofs.Nul.{HasNone, of_class}
 use Rattle.defs_layout.specs.Json
 use Rattle.defs_token.specs.Piece as piece
-use Rattle.defs_layout.specs.Layout.{empty_array}
+use Rattle.defs_layout.specs.Layout.{empty_array, spell}
 use Rattle.defs_layout.specs.Layout as layout
 use Rattle.defs_token.specs.Key.{Line}
 use Rattle.proof_loads.proofs.JsonTokens.Spaces.{json_spaces}
-use Rattle.proof_loads.proofs.HasRows.Steps.{Reads, at}
-use Rattle.proof_loads.proofs.HasRows.Nodes.{Parts, From, deep_piece, node_reads, outside}
-use Rattle.proof_loads.proofs.HasRows.Json.{empty_reads, value_reads}
-use Rattle.proof_loads.proofs.HasRows.Blocks.{AreAbove, Here, stood, Comes, Marked, dash_reads, question_reads, colon_reads, key_reads}
-use Rattle.proof_loads.proofs.HasRows.Trails.{in_line, here_after, spaced, here_beside, Trail, next, end, trail_text, BeginsContent, content_first, IsTrail, Rest, EndsAt, AllEnd, After, arrive, trail_ends}
+use Rattle.proof_loads.proofs.HasRows.Steps.{Reads, at, step_of, Steps, step, ended, read_end}
 use Rattle.proof_loads.proofs.HasRows.Trails
-use Rattle.proof_loads.proofs.PlainTexts.{IsPlainText, spelt_plain, first_space}
-use Rattle.proof_loads.proofs.HasRows.Plain.{plain_char, first_char}
-use Rattle.proof_loads.proofs.LiteralTexts.{strips_of, headed_literal, literal_lines}
+use Rattle.proof_loads.proofs.LiteralTexts.{strips_of, headed_literal, literal_lines, root_literal_lines}
 use Rattle.proof_loads.proofs.BlockLines.{block_text, folded_lines}
-use Rattle.proof_loads.proofs.HasRows.BlockScalars.{nested_follows, block_is_read}
-use Rattle.proof_loads.proofs.HasRows.Leaves.{scalar_reads, scalar_piece, piece_of, piece_spelt}
-use Rattle.proof_loads.proofs.Nul.{HasNone, of_class}
+use Rattle.proof_loads.proofs.HasRows.BlockScalars.{nested_follows, block_is_read, at_text}
+
+-- ---- pieces
+
+-- the piece of a scalar
+abbrev pub piece_of : Scalar → List ℕ
+piece_of (plain t) = spelling t
+piece_of (quoted text) = double_quoted text
+piece_of (single_quoted text) = 39 ∷ (flat_map doubled text ++ 39 ∷ [])
+
+pub piece_spelt : (s : Scalar) (r : List ℕ) → spell_scalar s r ≡ piece_of s ++ r
+piece_spelt s r = grind (arith, append_assoc)
+
+-- what a piece and its token say
+pub record IsScalarPiece (w : List ℕ) (t : Tok) : Type 0 where
+  pub node : (act_of t ≡ gives_node) × (begun_by t ≡ []) × Quiet (previous_by t)
+  pub no_break : has_no_break w ≡ true
+  pub none : HasNone w
+  pub further : (column : ℕ) → further_lines_stand column t w ≡ true
+  pub shown : (bs : List ℕ) (key : Bool) (r : List ℕ) → stops false (innermost bs) inside r ≡ true → begins_with 39 r ≡ false → ShownAt bs w t key r
+  pub precedes : (bs r : List ℕ) → quoted_may_end false w r ≡ true → may_precede false bs t w r ≡ true
+
+pub scalar_piece : (s : Scalar) → IsScalar s → IsScalarPiece (piece_of s) (scalar_token s)
+scalar_piece (plain t) h =
+    let text = spelt_plain t h in
+    let z = plain_piece false None (spelling t) [] text (λ e. cc) refl in
+    record {
+      node = (refl, refl, λ f. refl);
+      no_break = z.no_break;
+      none = z.none;
+      further = z.fits;
+      precedes = λ bs r ends. refl;
+      shown = λ bs key r stop quote all p awaits before l f stay.
+          let y = plain_piece false (innermost bs) (spelling t) r text (λ e. cc) stop in
+          rw (stay, column_is bs) (y.some, ((y.begins (is_adjacent (before_past (before_by before) f)) _, y.whole, y.value), refl));
+    }
+scalar_piece (quoted text) h =
+    let z = quoted_piece double (written_escapes text) text (double_is text) in
+    record {
+      node = (refl, refl, λ f. refl);
+      no_break = z.no_break;
+      none = z.none;
+      further = z.further;
+      precedes = λ bs r ends. ends;
+      shown = λ bs key r stop quote all p awaits before l f stay. (refl, ((written_escapes text, refl, z.value), refl));
+    }
+scalar_piece (single_quoted text) h =
+    let z = quoted_piece single (flat_map doubled text) text (single_is text h) in
+    record {
+      node = (refl, refl, λ f. refl);
+      no_break = z.no_break;
+      none = z.none;
+      further = z.further;
+      precedes = λ bs r ends. ends;
+      shown = λ bs key r stop quote all p awaits before l f stay. (refl, ((flat_map doubled text, refl, z.value, quote), refl));
+    }
+
+-- ---- where a value stands
+
+pub no_quote : (k : Comment) (t : Trail) → begins_with 39 (spell_comment k (trail_text t)) ≡ false
+no_quote no_comment (end []) = refl
+no_quote k t = refl
+
+pub scalar_reads : (s : Scalar) → IsScalar s → (k : Comment) (t : Trail) (bs : List ℕ) (tokens : List Tok) → IsComment k → Rest t bs tokens
+    → (text : List ℕ) → Parts bs text (spell_scalar s (spell_comment k (trail_text t))) → From another bs [] text (scalar_token s ∷ tokens)
+scalar_reads s h k t bs tokens remark rest text parts =
+    let r = spell_comment k (trail_text t) in
+    let z = scalar_piece s h in
+    let ends = trail_ends k t bs rest.trail rest.low in
+    let laid : Parts bs text (piece_of s ++ r) = subst (Parts bs text) (piece_spelt s r) parts in
+    node_reads bs (piece_of s) (scalar_token s) text r tokens laid z.none (deep_piece bs (piece_of s) r z.no_break) (λ s e. z.further _) z.node.0
+    (λ p awaits l there. z.shown bs false r ends.stopped (no_quote k t) bs p awaits another l laid.by (none_ends bs (position_after p laid.by (piece_of s ++ r)).col there)) (z.precedes bs r (ends.done (piece_of s)))
+    (rw (z.node.1) (arrive k t bs tokens remark rest.trail rest.after (previous_by (scalar_token s)) z.node.2))
 
 -- ---- what stands on one line
 
@@ -252,3 +324,78 @@ mutual
   fields_read c a (Fields.field f g fs) h =
       let b = anchors_after_field f a in
       then_reads c (spell_field c f) (spell_fields c fs) Tok.block_mapping_start (field_tokens f) (all_field_tokens fs) g h.1 (λ r. fields_begin c b fs r h.2) (field_read c a f h.0) (fields_read c b fs h.2)
+
+-- ---- roots
+
+-- a trail that ends a document
+abbrev EndsDocument : Root → Trail → Type 0
+EndsDocument root (next g d r) = ⊥
+EndsDocument root (marker g r) = IsAfterRoot root g
+EndsDocument root (end g) = IsAfterRoot root g
+
+empty_gap : (g : List GapLine) → AreEmptyLines g → IsGap g
+empty_gap [] are = tt
+empty_gap (l ∷ g) are = grind (arith, empty_gap g)
+
+is_trail : (root : Root) (t : Trail) → EndsDocument root t → IsTrail t
+is_trail root t h = grind (arith, empty_gap)
+
+-- before a root at column 0
+root_parts : {text rest : List ℕ} {p : Position} {before : Previous} {l : Line} → Here 0 text rest p before l → Parts [] text rest
+root_parts here = record { by = here.by; is = here.is; separates = here.separates; tabless = λ awaits. here.tabless 0; deep = λ p deep. omega arith; none = here.none }
+
+-- what stands in front of a column of a document: the break of a marker's line or nothing, and then a gap
+abbrev IsFront : (List ℕ → List ℕ) → Position → Line → Type 0
+IsFront front p l = (g : List GapLine) (n : ℕ) (r : List ℕ) → IsGap g → Here n (front (spell_gap g (spaces n r))) r p another l
+
+root_reads : (root : Root) → IsRoot root → (front : List ℕ → List ℕ) (g : List GapLine) → IsGap g → (t : Trail) → EndsDocument root t → (tokens : List Tok) (p : Position) (awaits : Bool) (l : Line) → is_waiting l ≡ false → IsFront front p l → After t [] tokens
+    → Reads (at p [] awaits another l []) (front (spell_gap g (spell_root root (trail_text t)))) (root_tokens root tokens)
+unfolding is_nul are_marks is_blank_or_end is_blank is_break
+root_reads (Root.block column block) is front g gap t ends tokens p awaits l line here rest =
+    block_reads column [] block is [] t tokens (omega arith) (is_trail (Root.block column block) t ends) (grind arith) rest p awaits another l _ (here g column _ gap)
+root_reads (Root.inline i) is front g gap t ends tokens p awaits l line here rest =
+    inline_reads no_comment t [] tokens tt (record { trail = is_trail (Root.inline i) t ends; low = grind arith; after = rest }) i is _ (root_parts (here g 0 _ gap)) p awaits l line (omega arith)
+root_reads (Root.literal text ls) is front g gap t ends tokens p awaits l line here rest =
+    block_is_read BlockStyle.literal 0 0 (strips_of text) text ls refl (root_literal_lines text ls is.0 is.1) [] refl tokens _ t (subst (Parts [] _) (headed_literal text (spell_lines 0 ls (trail_text t))) (root_parts (here g 0 _ gap)))
+    (is_trail (Root.literal text ls) t ends) (grind (arith, at_text)) rest p awaits l line (omega arith)
+
+-- ---- markers
+
+marker_reads : (r : List ℕ) (tokens : List Tok) → ((p : Position) (awaits : Bool) → Reads (at p [] awaits another taken []) (10 ∷ r) tokens)
+    → (extra : List ℕ) (p : Position) (awaits : Bool) (before : Previous) (l : Line) (text : List ℕ) → Here 0 text (marker_text r) p before l → Reads (at p (extra ++ []) awaits before l []) text (ended extra (Tok.document_start ∷ tokens))
+unfolding is_blank_or_end is_blank is_break
+marker_reads r tokens rest extra p awaits before l text here =
+    let next = 10 ∷ r in
+    let w = codes "---" in
+    let there = position_after p here.by (w ++ next) in
+    let all_left : (length extra) - 0 ≡ (length extra) = omega arith in
+    let first : Steps (at p extra awaits before l []) (step_of here.by w Tok.document_start false) next (at (position_after there w next) [] (awaits_past false Tok.document_start [] (awaits_at false there.col extra awaits) next) another taken []) (ended extra []) = record {
+      is_separated = here.separates;
+      is_shown = (refl, ((refl, here.column, refl, refl), refl));
+      stands = rw (here.tabless, or_true _) refl;
+      leads = rw (here.line, and_false (has_break w)) refl;
+      begins = λ past colon. rw (all_left) (ends_are extra there []);
+      none = (here.none, refl);
+    } in
+    rw (append-nil, here.is, ← ended_append extra [] (Tok.document_start ∷ tokens)) (step (step_of here.by w Tok.document_start false) next first (rest _ _))
+
+-- ---- documents
+
+pub end_reads : (g : List GapLine) → After (end g) [] (Tok.stream_end ∷ [])
+end_reads g extra p awaits before l text all (separates, line, none) = rw append-nil (read_end p extra awaits before l text line separates none)
+
+front_after : (p : Position) → IsFront (λ a. 10 ∷ a) p taken
+front_after p g n r gap = here_after no_comment g n r p another taken tt gap (λ f. refl) refl
+
+documents_read : (ds : Documents) → AreDocuments ds → (front : List ℕ → List ℕ) (p : Position) (awaits : Bool) (l : Line) → is_waiting l ≡ false → IsFront front p l → Reads (at p [] awaits another l []) (front (spell_documents ds [])) (documents_tokens ds)
+documents_read (Documents.last_document d after) are front p awaits l line here = root_reads d.root are.1 front d.gap are.0 (end after) are.2 (Tok.stream_end ∷ []) p awaits l line here (end_reads after)
+documents_read (Documents.document d g ds) are front p awaits l line here =
+    root_reads d.root are.1 front d.gap are.0 (marker g (spell_documents ds [])) are.2 (Tok.document_start ∷ documents_tokens ds) p awaits l line here
+    (λ extra q waits before m text all. marker_reads (spell_documents ds []) (documents_tokens ds) (λ r waits. documents_read ds are.3 (λ a. 10 ∷ a) r waits taken refl (front_after r)) extra q waits before m text)
+
+pub layout_reads : (w : Layout) → IsLayout w → Reads first_account (spell w []) (marked w.is_marked (documents_tokens w.documents))
+layout_reads w is = by w.is_marked
+  where
+    by : (b : Bool) → Reads first_account (layout.spell_mark b (spell_documents w.documents [])) (marked b (documents_tokens w.documents))
+    by true = marker_reads (spell_documents w.documents []) (documents_tokens w.documents) (λ p waits. documents_read w.documents is (λ a. 10 ∷ a) p waits taken refl (front_after p)) [] first_position false another free _ (here_gap [] 0 _ first_position another tt refl)
+    by false = documents_read w.documents is (λ a. a) first_position false free refl (λ g n r gap. here_gap g n r first_position another gap refl)

@@ -5,8 +5,7 @@ use Rattle.proof_loads.proofs.Nul.{whole}
 use Rattle.proof_loads.proofs.TextTokens.{no_other_tokens, none_is_refused}
 use Rattle.proof_loads.proofs.HasRows.Steps.{Reads, has_tokens, read_end}
 use Rattle.proof_loads.proofs.HasRows.Nodes.{outside}
-use Rattle.proof_loads.proofs.HasRows.Gaps.{white, blanks, white_none, spelt, separates, ends, at_end}
-use Rattle.proof_loads.proofs.HasRows.Json.{value_reads}
+use Rattle.proof_loads.proofs.HasRows.Json.{white, blanks, white_none, spelt, separates, ends, at_end, value_reads}
 
 json_text_reads : (w : JsonText) → IsWellFormed w → Reads first_account (spell_text w) (json_tokens w.value (Tok.stream_end ∷ []))
 json_text_reads w is =

@@ -3,7 +3,7 @@ use Rattle.proof_loads.proofs.TokensCommon.{[], documents_tokens, IsLayout, Layo
 use Rattle.defs_layout.specs.Layout.{spell}
 use Rattle.proof_loads.proofs.Nul.{whole}
 use Rattle.proof_loads.proofs.TextTokens.{no_other_tokens, none_is_refused}
-use Rattle.proof_loads.proofs.HasRows.Documents.{layout_reads}
+use Rattle.proof_loads.proofs.HasRows.Values.{layout_reads}
 use Rattle.proof_loads.proofs.HasRows.Steps.{has_tokens}
 
 pub layouts_have_no_nul : (w : Layout) → IsLayout w → up_to_nul (spell w []) ≡ spell w []

@@ -1,4 +1,4 @@
-use Rattle.proof_loads.proofs.OneList.{same_events}
+use Rattle.proof_loads.proofs.Texts.{same_events}
 use Rattle.proof_loads.proofs.laws.read_texts_have_one_list_of_events.Goals as goal
 
 pub returns : goal.returns
