@@ -8,9 +8,8 @@ use Rattle.defs_event.proofs.StreamNests.{stream_nests}
 use Rattle.yaml_parser.specs.Loads as loads
 use Rattle.yaml_parser.specs.Pulls.{IsSound}
 use Rattle.proof_loads.specs.TextEvents.{faulted, refused}
-use Rattle.proof_loads.proofs.Pulled.{Noted, given_alone, Answered, events, faults, answered, read_given, settings_stay}
+use Rattle.proof_loads.proofs.Pulled.{Noted, given_alone, Answered, events, faults, answered, read_given, settings_stay, IsOver, Pushes, pushes, fault_is_reached, end_is_reached, faulted_pushes, PushesAll, ended_within, ended_after, given_append}
 use Rattle.proof_loads.proofs.Texts.{first_tokens, foretells_beginning, if_kept}
-use Rattle.proof_loads.proofs.Runs.{IsOver, Pushes, pushes, fault_is_reached, end_is_reached, faulted_pushes, PushesAll, ended_within, ended_after, given_append}
 use Rattle.proof_loads.proofs.StreamEnds.{all_tokens}
 
 derived_steady : {settings : List Bool} {keep_tags : Bool} {tokens : List Token} {raw : List Raw} {events : List (Ev × Position)} → AreAll keep_tags settings → IsDerived settings keep_tags tokens raw events → IsDerived [] keep_tags tokens raw events

@@ -2,8 +2,6 @@ pub mod Blocks
 pub mod BlockScalars
 pub mod Json
 pub mod Nodes
-pub mod Plain
-pub mod QuotedTexts
 pub mod Steps
 pub mod Strings
 pub mod Trails

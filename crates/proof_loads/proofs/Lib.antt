@@ -5,7 +5,6 @@ mod Common
 pub mod CutTexts
 pub mod DocumentTrees
 pub mod Dumps
-pub mod FirstTokens
 pub mod InTurn
 pub mod InsideNode
 pub mod JsonNul
@@ -13,7 +12,6 @@ pub mod JsonTokens
 pub mod LayoutNul
 pub mod LayoutTexts
 pub mod LayoutTokens
-mod LiteralTexts
 pub mod Loads
 mod MeaningRows
 pub mod Nul
@@ -26,7 +24,6 @@ pub mod QuotedTexts
 pub mod QuotedTokens
 pub mod RowTexts
 pub mod HasRows
-pub mod Runs
 pub mod Settled
 pub mod Spelled
 pub mod StreamEnds

@@ -4,7 +4,7 @@ use Rattle.proof_loads.proofs.Common.{[], ap, append-nil, append_assoc, arith, B
 use Rattle.defs_event.specs.Kinds.{is_stream_end}
 use Rattle.defs_event.specs.Table.{Part, Row, takes, leaves, row_of, Work, reading, saying, before, Derives, says, by_taking, by_leaving, say, show, empty}
 use Rattle.defs_event.specs.Grammar.{Held, Goal, stream, documents, directives, explicit_document, document_end, cases, grammar}
-use Rattle.proof_loads.proofs.Runs.{or_right}
+use Rattle.proof_loads.proofs.Pulled.{or_right}
 use Rattle.model_scanner.proofs.Ends.{end_is_last}
 
 -- ---- by the table

@@ -4,8 +4,7 @@ use Rattle.defs_text.specs.Classes.{tab}
 use Rattle.proof_lexers.proofs.Blocks.Written as written
 use Rattle.proof_lexers.proofs.Blocks.Written.{spell}
 use Rattle.proof_lexers.proofs.Blocks.Positions.{spell_more}
-use Rattle.proof_loads.proofs.BlockLines.{line_of, lines_at, empties, texts_are, spelt_feeds, spelt_more, Last, last_of, row_by, row_spaces, content_more, header_by, text_value, spaces_value, last_value, header_line, block_text, header_inner, IsInside, AreEach, AreBlockLines, tab_more, some_lines, in_column_with, text_body, end_body, is_block, each_more, each_split, rows_are, are_lines, lines_none, header_none}
-use Rattle.proof_loads.proofs.LiteralTexts.{content_last}
+use Rattle.proof_loads.proofs.BlockLines.{line_of, lines_at, empties, texts_are, spelt_feeds, spelt_more, Last, last_of, row_by, row_spaces, content_more, header_by, text_value, spaces_value, last_value, header_line, block_text, header_inner, IsInside, AreEach, AreBlockLines, tab_more, some_lines, in_column_with, text_body, end_body, is_block, each_more, each_split, rows_are, are_lines, lines_none, header_none, content_last}
 use Rattle.proof_loads.proofs.BlockLines as scans
 use Rattle.defs_token.specs.Key
 use Rattle.proof_loads.proofs.HasRows.Steps.{Reads, at}

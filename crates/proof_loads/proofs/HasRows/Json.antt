@@ -1,16 +1,147 @@
--- JSON values have rows, with the white space between their parts.
-use Rattle.proof_loads.proofs.TokensCommon.{[], after, and_parts, another, ap, are_pieces, AreElements, AreMembers, arith, array, begins_flow, begins_with, Blank, blank_character, Bool, codes, colon_may_precede, element, element_levels, element_tokens, Elements, empty_array, empty_object, Entry, false, false_word, filled, first_entry, flow_collection, flow_entry, flow_mapping_end, flow_mapping_start, flow_sequence_end, flow_sequence_start, fresh, goes_on_quoted, Had, has_tab_within, inl, innermost, innermost_column, inside, is_at_gap, is_blank, is_blanks_and_comment, is_break, is_empty, is_flow, is_keyed, is_on_line, is_one_of, is_separation, IsJson, Json, json_tokens, last_element, last_line, last_member, leading, least_column, length, length-map, level_of, levels, List, list_all, map, mapping, member, member_levels, member_tokens, Members, nat_lt, nat_tests, null_word, object, Option, past_end, Piece, plain_scalar, Position, position_after, quoted_may_end, quoted_scalar, refl, settled, Some, space, spell, spell_elements, spell_members, spell_number, spell_string, split, Stand, stops, string, string_token, Style, subst, suc, TabsBeginLines, Tok, true, true_word, zero, ℕ, ◌++◌, ◌+◌, ◌<◌, ◌==◌, ◌||◌, ◌∷◌, ◌≡◌, ◌≤◌}
+-- JSON values have rows, with the white space between their parts; plain scalars on one line as pieces.
+use Rattle.proof_loads.proofs.TokensCommon.{[], after, after_blank, and_false, and_from, and_parts, another, ap, are_marks, are_pieces, AreElements, AreMembers, arith, array, begins_flow, begins_plain, begins_with, Blank, blank_character, Bool, codes, colon_may_precede, element, element_levels, element_tokens, Elements, empty_array, empty_object, ends_plain, ends_with_content, ends_with_dash, Entry, false, false_word, filled, first_entry, flow_collection, flow_entry, flow_mapping_end, flow_mapping_start, flow_sequence_end, flow_sequence_start, fresh, goes_on, goes_on_quoted, Had, has_dash_before_flow, has_no_break, has_tab_within, inl, innermost, innermost_column, inside, is_at_gap, is_blank, is_blank_or_end, is_blanks_and_comment, is_break, is_document_marker, is_empty, is_flow, is_keyed, is_nul, is_on_line, is_one_of, is_separation, is_whole_plain, IsJson, Json, json_tokens, last_element, last_line, last_member, leading, least_column, length, length-map, level_of, levels, List, list_all, map, mapping, may_begin, member, member_levels, member_tokens, Members, nat_lt, nat_tests, not, not-true, null_word, object, Option, past_end, Piece, plain_element, plain_lines_fit, plain_scalar, plain_value, Position, position_after, quoted_may_end, quoted_scalar, refl, settled, Some, space, spell, spell_elements, spell_members, spell_number, spell_string, split, Stand, stops, string, string_token, Style, subst, suc, TabsBeginLines, Tok, true, true_word, zero, ℕ, ◌&&◌, ◌++◌, ◌+◌, ◌<◌, ◌==◌, ◌||◌, ◌∷◌, ◌≡◌, ◌≤◌}
+use Rattle.defs_text.specs.FlowScalar.{blank}
+use Rattle.proof_loads.proofs.HasRows.Strings.{IsOneLine, nothing, plain_step, value_is, body_of, quoted, quoted_is, string_piece}
+use Rattle.proof_loads.proofs.PlainTexts.{is_plain_char, are_plain, closes, IsPlainText, is_first, is_second, first_space, is_word, are_words, IsWord, word_text}
+use Rattle.proof_loads.proofs.Nul.{HasNone, of_class}
 use Rattle.defs_layout.specs.JsonGap.{spell_gap}
 use Rattle.proof_loads.proofs.JsonTokens.Spaces.{AreSpaces, HasSpaces, HaveSpaces, MembersHaveSpaces}
 use Rattle.proof_loads.proofs.HasRows.Nodes.{IsDeep, deep_char, Parts, or_true, closing_bracket, deep_piece, none_ends, entry_of, awaiting, opening, closing, opening_bracket, From, Then, Shown, flow_reads, Place, outside, within, entries_before, entries_after, flows, place_reads}
-use Rattle.proof_loads.proofs.Nul.{HasNone}
 use Rattle.defs_tree.proofs.GrammarLaws.{list_all-more}
 use Rattle.defs_layout.specs.Json.{number}
 use Rattle.proof_loads.proofs.JsonTokens.Numbers.{number_then, number_word}
-use Rattle.proof_loads.proofs.PlainTexts.{is_word, are_words, IsWord, word_text}
 use Rattle.proof_loads.proofs.HasRows.Steps.{step_of}
-use Rattle.proof_loads.proofs.HasRows.Plain.{is_in_flow, IsPlainPiece, plain_piece}
-use Rattle.proof_loads.proofs.HasRows.Strings.{body_of, quoted, quoted_is, string_piece}
+
+pub record PlainChar (c : ℕ) : Type 0 where
+  pub break : is_break c ≡ false
+  pub blank : is_blank c ≡ (c == 32)
+  pub colon : (c == 58) ≡ false
+  pub hash : (c == 35) ≡ false
+  pub nul : is_nul c ≡ false
+
+pub plain_char : (c : ℕ) → is_plain_char c ≡ true → PlainChar c
+unfolding is_break is_blank is_nul
+plain_char c h = grind arith
+
+-- a character that may stand in a plain scalar in flow
+abbrev pub is_in_flow : ℕ → Bool
+is_in_flow c = not (is_flow c) && not (c == 32)
+
+-- in flow each is such a character
+abbrev pub MayFlow : (in_flow : Bool) → List ℕ → Type 0
+MayFlow in_flow w = in_flow ≡ true → list_all is_in_flow w ≡ true
+
+no_break : (w : List ℕ) → are_plain w ≡ true → has_no_break w ≡ true
+no_break [] h = refl
+no_break (c ∷ w) h = let q = and_parts (is_plain_char c) (are_plain w) h in rw ((plain_char c q.0).break) (no_break w q.1)
+
+-- ---- the value
+
+elements_are : (w : List ℕ) → are_plain w ≡ true → IsOneLine plain_element w w
+elements_are [] h = record { all = []; are = refl; in_line = nothing }
+elements_are (c ∷ w) h = let q = and_parts (is_plain_char c) (are_plain w) h in plain_step plain_element c w w refl (plain_char c q.0).break (elements_are w q.1)
+
+-- ---- its lines
+
+is_one_line : (w : List ℕ) → has_no_break w ≡ true → split w ≡ record { complete = []; last = w }
+is_one_line [] h = refl
+is_one_line (c ∷ w) h = let q = and_parts (not (is_break c)) (has_no_break w) h in rw (not-true (is_break c) q.0, is_one_line w q.1) refl
+
+-- ---- where it ends
+
+module _ (in_flow : Bool) (collection : Option ℕ) (next : List ℕ) where
+  abbrev stand : (after_space : Bool) → Stand
+  stand true = after_blank
+  stand false = inside
+
+  goes_over : (b : Bool) (w : List ℕ) → are_plain w ≡ true → MayFlow in_flow w → goes_on in_flow collection (stand b) w next ≡ true
+  goes_over b [] h flow = refl
+  goes_over b (c ∷ w) h flow =
+      let q = and_parts (is_plain_char c) (are_plain w) h in
+      let z = plain_char c q.0 in
+      by b (c == 32) refl z (grind arith) (goes_over (c == 32) w q.1 (λ e. (and_parts (is_in_flow c) (list_all is_in_flow w) (flow e)).1))
+    where
+      by : (b d : Bool) → (c == 32) ≡ d → PlainChar c → ends_plain in_flow collection (stand b) (c ∷ (w ++ next)) ≡ false → goes_on in_flow collection (stand (c == 32)) w next ≡ true → goes_on in_flow collection (stand b) (c ∷ w) next ≡ true
+      by a e g z i rest = grind arith
+
+ends_full : (c : ℕ) (w : List ℕ) → is_plain_char c ≡ true → are_plain w ≡ true → closes (c == 32) w ≡ true → ends_with_content c w ≡ true
+ends_full c [] one h e = let z = plain_char c one in rw (z.break, z.blank, not-true (c == 32) e) refl
+ends_full c (d ∷ w) one h e = let q = and_parts (is_plain_char d) (are_plain w) h in ends_full d w q.0 q.1 e
+
+-- ---- where it begins
+
+pub first_char : (c : ℕ) → is_first c ≡ true → (is_plain_char c ≡ true) × ((c == 32) ≡ false) × ((c == 63) ≡ false) × (is_one_of (codes "|>") c ≡ false) × ((is_blank_or_end c || is_flow c || is_one_of (codes "#&*!%@`'\"") c) ≡ false)
+unfolding is_blank_or_end is_flow is_blank is_break is_nul
+first_char c h = (grind (arith, nat_tests), grind (arith, nat_tests), grind (arith, nat_tests), grind (arith, nat_tests), grind (arith, nat_tests))
+
+three : (c d e : ℕ) → not ((c == 45) && (d == 45)) ≡ true → not ((c == 46) && (d == 46)) ≡ true → are_marks c d e ≡ false
+unfolding are_marks
+three c d e h k = grind (arith, nat_tests)
+
+pair : (c d : ℕ) (r : List ℕ) → not ((c == 45) && (d == 45)) ≡ true → not ((c == 46) && (d == 46)) ≡ true → is_document_marker (c ∷ d ∷ r) ≡ false
+pair c d a h k = grind (arith, three)
+
+unmarked : (c : ℕ) (w next : List ℕ) → is_second c w ≡ true → is_document_marker (c ∷ (w ++ next)) ≡ false
+unmarked c w next h = grind (arith, nat_tests, and_parts, not, pair, not-true)
+
+no_gap : (d : ℕ) → is_plain_char d ≡ true → (d == 32) ≡ false → is_blank_or_end d ≡ false
+unfolding is_blank_or_end
+no_gap d h e = let z = plain_char d h in rw (z.blank, e, z.break, z.nul) refl
+
+module _ (in_flow adjacent : Bool) (column : ℕ) where
+  begins : (c : ℕ) (w next : List ℕ) → is_first c ≡ true → is_second c w ≡ true → are_plain w ≡ true → MayFlow in_flow (c ∷ w) → begins_plain in_flow adjacent column (c ∷ (w ++ next)) ≡ true
+  begins c w next first second plain flow = rw (unmarked c w next second, and_false (column == 0)) (by (c == 45) refl w second plain flow)
+    where
+      by : (b : Bool) → (c == 45) ≡ b → (w : List ℕ) → is_second c w ≡ true → are_plain w ≡ true → MayFlow in_flow (c ∷ w) → (may_begin in_flow adjacent c (w ++ next) && true) ≡ true
+      by true e [] second plain flow = let q = and_parts (not (c == 45)) (not (c == 46)) second in let n = not-true (c == 45) q.0 in cc
+      by true e (d ∷ w) second plain flow =
+          let q = and_parts (not ((c == 45) && (d == 45)) && not ((c == 46) && (d == 46))) (not ((c == 45) && (d == 32))) second in
+          let n : (d == 32) ≡ false = rw e at (not-true ((c == 45) && (d == 32)) q.1) in
+          let one = and_parts (is_plain_char d) (are_plain w) plain in
+          let no_flow : (in_flow && is_flow d) ≡ false = grind (arith, not-true) in
+          rw (e, no_gap d one.0 n, no_flow) refl
+      by false e w second plain flow = let z = first_char c first in rw (e, z.2, (plain_char c z.0).colon, z.3, z.4) refl
+
+-- ---- the piece
+
+-- what a piece says that is a plain scalar on one line, before a text
+pub record IsPlainPiece (in_flow : Bool) (collection : Option ℕ) (w next : List ℕ) : Type 0 where
+  pub begins : (adjacent : Bool) (column : ℕ) → begins_plain in_flow adjacent column (w ++ next) ≡ true
+  pub whole : is_whole_plain in_flow collection w next ≡ true
+  pub value : plain_value w ≡ Some w
+  pub fits : (column : ℕ) → plain_lines_fit column w ≡ true
+  pub no_break : has_no_break w ≡ true
+  pub some : not (is_empty w) ≡ true
+  pub no_dash : (in_flow && has_dash_before_flow w next) ≡ false
+  pub none : HasNone w
+
+no_last_dash : (w : List ℕ) → are_plain w ≡ true → list_all is_in_flow w ≡ true → ends_with_dash w ≡ false
+no_last_dash [] h flow = refl
+no_last_dash (c ∷ []) h flow = refl
+no_last_dash (c ∷ d ∷ []) h flow = grind (arith, plain_char, not-true)
+no_last_dash (c ∷ d ∷ e ∷ w) h flow = no_last_dash (d ∷ e ∷ w) (and_parts (is_plain_char c) (are_plain (d ∷ e ∷ w)) h).1 (and_parts (is_in_flow c) (list_all is_in_flow (d ∷ e ∷ w)) flow).1
+
+dashless : (in_flow : Bool) (w next : List ℕ) → are_plain w ≡ true → MayFlow in_flow w → (in_flow && has_dash_before_flow w next) ≡ false
+dashless a w b h flow = grind (arith, no_last_dash)
+
+pub plain_piece : (in_flow : Bool) (collection : Option ℕ) (w next : List ℕ) → IsPlainText w → MayFlow in_flow w → stops in_flow collection inside next ≡ true → IsPlainPiece in_flow collection w next
+unfolding plain_value
+plain_piece in_flow collection [] next text flow stops = absurd text
+plain_piece in_flow collection (c ∷ v) next text flow stops =
+    let one = (first_char c text.first).0 in
+    let all : are_plain (c ∷ v) ≡ true = and_from _ _ one text.chars in
+    let full = ends_full c v one text.chars (rw (first_space c text.first) text.close) in
+    let line = no_break (c ∷ v) all in
+    record {
+      begins = λ adjacent column. begins in_flow adjacent column c v next text.first text.second text.chars flow;
+      whole = rw (goes_over in_flow collection next false v text.chars (λ e. (and_parts (is_in_flow c) (list_all is_in_flow v) (flow e)).1), full, stops) refl;
+      value = value_is plain_element (c ∷ v) (c ∷ v) (elements_are (c ∷ v) all) line;
+      fits = λ column. rw (is_one_line (c ∷ v) line) refl;
+      no_break = line;
+      some = refl;
+      no_dash = dashless in_flow (c ∷ v) next all flow;
+      none = of_class is_plain_char refl (c ∷ v) all;
+    }
 
 -- the white space as text
 abbrev pub white : List Blank → List ℕ
@@ -102,10 +233,10 @@ at_end = record { done = λ piece. refl; rest = λ piece. refl; no_comment = ref
 
 -- a character that ends an entry, or a colon
 at_mark : (c : ℕ) (r : List ℕ) → is_blank c ≡ false → (c == 35) ≡ false → is_one_of (codes ",]}:") c ≡ true → Edge true (c ∷ r)
-at_mark c r blank hash mark = grind arith
+at_mark c r no_blank hash mark = grind arith
 
 stop_at : (collection : Option ℕ) (c : ℕ) (r : List ℕ) → is_blank c ≡ false → is_break c ≡ false → is_flow c ≡ true → Stops true collection (c ∷ r)
-stop_at collection c r blank break flow s = rw (blank, break, flow) (or_true _)
+stop_at collection c r no_blank break flow s = rw (no_blank, break, flow) (or_true _)
 
 pub comma_ends : (collection : Option ℕ) (g : List Blank) (r : List ℕ) → Ends true collection (spell_gap g (44 ∷ r))
 unfolding is_blank is_break is_flow
@@ -189,13 +320,13 @@ module _ (bs : List ℕ) where
   entry_ends : (es : List Entry) (h : Had) → is_keyed h ≡ false → past_end es false h ≡ Some es
   entry_ends es h e = grind arith
 
-  pub closes : (b : Bool) (h : Had) → is_keyed h ≡ false → (es : List Entry) (g : List Blank) (r : List ℕ) (tokens : List Tok) → MayStand bs g → begins_with 35 r ≡ false
+  pub bracket_closes : (b : Bool) (h : Had) → is_keyed h ≡ false → (es : List Entry) (g : List Blank) (r : List ℕ) (tokens : List Tok) → MayStand bs g → begins_with 35 r ≡ false
       → Then bs es r tokens → Then bs (entry_of b h ∷ es) (spell_gap g (closing_bracket b ∷ r)) (closing b ∷ tokens)
   unfolding is_break
-  closes true h ends es g r tokens may no_comment rest before quiet =
+  bracket_closes true h ends es g r tokens may no_comment rest before quiet =
       flow_reads bs (125 ∷ []) flow_mapping_end _ r tokens (blanks bs g (125 ∷ r) may) refl (deep_piece bs (125 ∷ []) r refl) (λ s e. refl) before (entry_of true h) es (λ here. es) false [] refl
       (λ p awaits l there. (refl, inl ((refl, refl), refl))) (rw no_comment refl) (λ here. entry_ends es h ends) (λ here colon own. refl) (λ here. rest flow_collection (λ f. refl))
-  closes false h ends es g r tokens may no_comment rest before quiet =
+  bracket_closes false h ends es g r tokens may no_comment rest before quiet =
       flow_reads bs (93 ∷ []) flow_sequence_end _ r tokens (blanks bs g (93 ∷ r) may) refl (deep_piece bs (93 ∷ []) r refl) (λ s e. refl) before (entry_of false h) es (λ here. es) false [] refl
       (λ p awaits l there. (refl, ((refl, refl), refl))) (rw no_comment refl) (λ here. entry_ends es h ends) (λ here colon own. refl) (λ here. rest flow_collection (λ f. refl))
 
@@ -241,7 +372,7 @@ module _ (bs : List ℕ) where
       → Then bs (entries_after pl []) r tokens → From another bs (entries_before pl) text (opening b ∷ closing b ∷ tokens)
   empty_reads b a may pl text r tokens parts no_comment few rest =
       opens bs b pl text (spell_gap a (closing_bracket b ∷ r)) (closing b ∷ tokens) parts (no_comment_past (closing_bracket b ∷ r) (hash b) a) few
-      (closes bs b fresh refl (entries_after pl []) a r tokens may no_comment rest another (λ f. refl))
+      (bracket_closes bs b fresh refl (entries_after pl []) a r tokens may no_comment rest another (λ f. refl))
     where
       hash : (b : Bool) → begins_with 35 (closing_bracket b ∷ r) ≡ false
       hash a = grind arith
@@ -270,7 +401,7 @@ module _ (bs : List ℕ) where
     elements_read : (es : Elements) → AreElements es → (is_empty bs ≡ false → HaveSpaces es) → ReadsElements es
     elements_read (last_element v a) are may around g r tokens gap no_comment few rest =
         value_reads v are.0 (λ e. (may e).0) (within false around) _ (spell_gap a (93 ∷ r)) (flow_sequence_end ∷ tokens) (blanks bs g _ gap) (closing_ends false (innermost bs) a r) (omega (arith, few))
-        (closes bs false filled refl around a r tokens (λ e. (may e).1) no_comment rest)
+        (bracket_closes bs false filled refl around a r tokens (λ e. (may e).1) no_comment rest)
     elements_read (element v a b es) are may around g r tokens gap no_comment few rest =
         value_reads v are.0 (λ e. (may e).0) (within false around) _ (spell_gap a (44 ∷ spell_gap b (spell_elements es (93 ∷ r)))) _ (blanks bs g _ gap) (comma_ends (innermost bs) a _) (omega (arith, few))
         (comma_goes bs false filled refl around a (spell_gap b (spell_elements es (93 ∷ r))) _ (λ e. (may e).1) (solid_past b _ are.2 (elements_solid es _ are.3)).no_comment
@@ -281,7 +412,7 @@ module _ (bs : List ℕ) where
         let next = spell_gap h (spell v (spell_gap a (125 ∷ r))) in
         key_goes bs k are.0 around _ g next _ (blanks bs f _ gap) (λ e. (may e).0) (colon_stands next (solid_past h _ are.2 (value_solid v _ are.3)))
         (value_reads v are.3 (λ e. (may e).2) (within true around) _ (spell_gap a (125 ∷ r)) (flow_mapping_end ∷ tokens) (blanks bs h _ (λ e. (may e).1)) (closing_ends true (innermost bs) a r) (omega (arith, few))
-        (closes bs true settled refl around a r tokens (λ e. (may e).3) no_comment rest))
+        (bracket_closes bs true settled refl around a r tokens (λ e. (may e).3) no_comment rest))
     members_read (member k g h v a b ms) are may around f r tokens gap no_comment few rest =
         let last = spell_gap a (44 ∷ spell_gap b (spell_members ms (125 ∷ r))) in
         let next = spell_gap h (spell v last) in

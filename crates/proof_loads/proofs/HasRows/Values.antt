@@ -1,13 +1,12 @@
--- Layouts have rows: scalars, values, arrays and hashes, roots, and documents one after the other.
-use Rattle.proof_loads.proofs.TokensCommon.{[], act_of, all_field_tokens, all_of, Anchor, anchors_after, anchors_after_field, and_false, and_parts, another, append-nil, append_assoc, are_marks, AreDocuments, AreEmptyLines, AreEntries, AreFields, arith, awaits_at, awaits_past, before_by, before_past, begins_with, begins_with_space_or_break, begun, begun_by, Block, block_tokens, BlockStyle, Bool, codes, colon_may_precede, Comment, dash_may_precede, Documents, documents_tokens, double, double_quoted, doubled, empty_hash, Entries, entry_tokens, false, Field, field_tokens, Fields, first_account, first_position, flat_map, folded_header, free, further_lines_stand, GapLine, gives_node, goes_on_with_name, has_break, has_no_break, has_tab_before_piece, inl, Inline, inline_tokens, innermost, inr, inside, is_adjacent, is_anchor_name, is_ascii_alphanumeric, is_at_gap, is_blank, is_blank_or_end, is_break, is_flow, is_line_character, is_name, is_nul, is_one_of, is_waiting, IsAfterRoot, IsBlock, IsComment, IsField, IsGap, IsInline, IsLayout, IsLineText, IsRoot, IsScalar, IsValue, Layout, leading, least_column, length, List, list_all, marked, may_precede, MayFollowScalarKey, nat_tests, next_line, no_comment, None, plain, Position, position_after, Previous, previous_by, quoted, quoted_may_end, refl, Root, root_tokens, Scalar, scalar, scalar_token, single, single_quoted, spaces, spell_block, spell_comment, spell_documents, spell_entries, spell_field, spell_fields, spell_gap, spell_inline, spell_lines, spell_literal, spell_root, spell_scalar, spell_value, spelling, stops, subst, suc, taken, Tok, true, Value, value_tokens, written_escapes, zero, ℕ, ◌++◌, ◌+◌, ◌-◌, ◌∷◌, ◌≡◌, ◌≤◌, ◌⊎◌}
+-- Layouts have rows: scalars, values, arrays and hashes, roots, and documents one after the other. So has a text of one quoted scalar.
+use Rattle.proof_loads.proofs.TokensCommon.{[], act_of, all_field_tokens, all_of, Anchor, anchors_after, anchors_after_field, and_false, and_parts, another, ap, append-nil, append_assoc, are_marks, AreDocuments, AreEmptyLines, AreEntries, AreFields, arith, awaits_at, awaits_past, before_by, before_past, begins_with, begins_with_space_or_break, begun, begun_by, blanks_before, Block, block_tokens, BlockStyle, body_value, Bool, codes, colon_may_precede, Comment, dash_may_precede, Documents, documents_tokens, double, double_quoted, double_quoted_element, doubled, Element, elements, empty_hash, empty_line, Entries, entry_tokens, false, Field, field_tokens, Fields, first_account, first_position, flat_map, folded_header, free, further_lines_stand, GapLine, gives_node, goes_on_with_name, has_break, has_more, has_no_break, has_tab_before_piece, inl, Inline, inline_tokens, innermost, inr, inside, is_adjacent, is_anchor_name, is_ascii_alphanumeric, is_at_gap, is_blank, is_blank_or_end, is_break, is_empty, is_flow, is_line_character, is_name, is_nul, is_one_of, is_waiting, IsAfterRoot, IsBlock, IsComment, IsField, IsGap, IsInline, IsLayout, IsLineText, IsRoot, IsScalar, IsValue, Layout, leading, least_column, least_for, length, Lines, lines_fit, List, list_all, marked, may_precede, MayFollowScalarKey, nat_le, nat_tests, next_line, no_comment, None, not, Option, parts, plain, Position, position_after, Previous, previous_by, quote_of, quoted, quoted_lines_fit, quoted_may_end, Quotes, refl, replicate, Root, root_tokens, Scalar, scalar, scalar_token, single, single_quoted, single_quoted_element, Site, Some, spaces, spell_block, spell_comment, spell_documents, spell_ending, spell_entries, spell_field, spell_fields, spell_gap, spell_inline, spell_lines, spell_literal, spell_root, spell_scalar, spell_value, Spelled, spelling, stops, style_of, subst, suc, taken, Tok, true, Value, value_tokens, written_escapes, zero, ℕ, ◌&&◌, ◌++◌, ◌+◌, ◌-◌, ◌||◌, ◌∷◌, ◌≡◌, ◌≤◌, ◌⊎◌}
 use Rattle.proof_loads.proofs.PlainTexts.{spelt_plain, IsPlainText, first_space}
-use Rattle.proof_loads.proofs.HasRows.Nodes.{none_ends, deep_piece, Parts, Quiet, From, node_reads, outside, or_true}
+use Rattle.proof_loads.proofs.HasRows.Nodes.{none_ends, deep_piece, Parts, Quiet, From, node_reads, outside, or_true, Shown}
 use Rattle.proof_loads.proofs.HasRows.Blocks.{ShownAt, AreAbove, Here, stood, Comes, Marked, dash_reads, question_reads, colon_reads, key_reads, ends_are, ended_append}
-use Rattle.proof_loads.proofs.HasRows.Json.{column_is, empty_reads, value_reads}
-use Rattle.proof_loads.proofs.HasRows.Plain.{plain_piece, plain_char, first_char}
-use Rattle.proof_loads.proofs.HasRows.Strings.{quoted_piece, double_is, single_is}
+use Rattle.proof_loads.proofs.HasRows.Json.{column_is, empty_reads, value_reads, plain_piece, plain_char, first_char}
+use Rattle.proof_loads.proofs.HasRows.Strings.{quoted_piece, double_is, single_is, between, in_quotes}
 use Rattle.proof_loads.proofs.HasRows.Trails.{Trail, end, trail_text, Rest, arrive, trail_ends, in_line, here_after, spaced, here_beside, next, BeginsContent, content_first, IsTrail, EndsAt, AllEnd, After, marker, marker_text, here_gap}
-use Rattle.proof_loads.proofs.Nul.{HasNone, of_class}
+use Rattle.proof_loads.proofs.Nul.{HasNone, of_class, quoted_none}
 use Rattle.defs_layout.specs.Json
 use Rattle.defs_token.specs.Piece as piece
 use Rattle.defs_layout.specs.Layout.{empty_array, spell}
@@ -16,9 +15,10 @@ use Rattle.defs_token.specs.Key.{Line}
 use Rattle.proof_loads.proofs.JsonTokens.Spaces.{json_spaces}
 use Rattle.proof_loads.proofs.HasRows.Steps.{Reads, at, step_of, Steps, step, ended, read_end}
 use Rattle.proof_loads.proofs.HasRows.Trails
-use Rattle.proof_loads.proofs.LiteralTexts.{strips_of, headed_literal, literal_lines, root_literal_lines}
-use Rattle.proof_loads.proofs.BlockLines.{block_text, folded_lines}
+use Rattle.proof_loads.proofs.BlockLines.{strips_of, headed_literal, literal_lines, root_literal_lines, block_text, folded_lines}
 use Rattle.proof_loads.proofs.HasRows.BlockScalars.{nested_follows, block_is_read, at_text}
+use Rattle.defs_text.specs.FlowScalar as flow
+use Rattle.defs_layout.specs.QuotedText as laid
 
 -- ---- pieces
 
@@ -399,3 +399,48 @@ layout_reads w is = by w.is_marked
     by : (b : Bool) → Reads first_account (layout.spell_mark b (spell_documents w.documents [])) (marked b (documents_tokens w.documents))
     by true = marker_reads (spell_documents w.documents []) (documents_tokens w.documents) (λ p waits. documents_read w.documents is (λ a. 10 ∷ a) p waits taken refl (front_after p)) [] first_position false another free _ (here_gap [] 0 _ first_position another tt refl)
     by false = documents_read w.documents is (λ a. a) first_position false free refl (λ g n r gap. here_gap g n r first_position another gap refl)
+
+-- outside all collections no line is refused for its column
+no_column : (n : ℕ) → nat_le 0 n ≡ true
+no_column n = grind arith
+
+line_any : (b : Bool) (n : ℕ) → (not b || nat_le 0 n) ≡ true
+line_any a n = grind (arith, no_column)
+
+any_lines : (escaped : Bool) (ls : Lines) → lines_fit 0 escaped ls ≡ true
+any_lines escaped (flow.last_line l) = line_any (not (escaped && is_empty l)) (length (blanks_before l))
+any_lines escaped (flow.line l e ls) = rw (line_any (has_more l || e) (length (blanks_before l))) (any_lines e ls)
+
+fits : (at : ℕ → List ℕ → Option Spelled) (quote : ℕ) (body : List ℕ) (es : List Element) → elements at 0 body ≡ Some es → quoted_lines_fit 0 at (quote ∷ (body ++ quote ∷ [])) ≡ true
+fits at quote body es e = rw (between quote body, e) (grind (arith, any_lines))
+
+-- so many line feeds as the empty lines of a gap
+feeds : (n : ℕ) → (g : List GapLine) × IsGap g × (spell_ending g [] ≡ replicate n 10)
+feeds zero = ([], tt, refl)
+feeds (suc n) = let z = feeds n in (empty_line ∷ z.0, (tt, z.1), ap (λ x. 10 ∷ x) z.2)
+
+-- a scalar in quotes, by its token
+module _ (piece : List ℕ) (t : Tok) (g : List GapLine) (gap : IsGap g) where
+  abbrev after : List ℕ
+  after = spell_ending g []
+
+  alone_reads : act_of t ≡ gives_node → begun_by t ≡ [] → Quiet (previous_by t) → HasNone piece → Shown another [] [] (step_of [] piece t false) after → ((s : Site) → s.blocks ≡ [] → further_lines_stand (least_for t s) t piece ≡ true)
+      → may_precede false [] t piece after ≡ true → Reads first_account (piece ++ after) (t ∷ Tok.stream_end ∷ [])
+  alone_reads node none quiet clean shown further follows =
+      node_reads [] piece t (piece ++ after) after (Tok.stream_end ∷ []) (record { by = []; is = refl; separates = refl; tabless = λ awaits. refl; deep = λ p deep. deep; none = refl }) clean (λ p deep. omega arith) further node shown follows
+      (rw none (arrive no_comment (end g) [] (Tok.stream_end ∷ []) tt gap (end_reads g) (previous_by t) quiet)) first_position false free refl (omega arith)
+
+pub quoted_reads : (quotes : Quotes) (body value : List ℕ) (n : ℕ) → body_value quotes body ≡ Some value
+    → Reads first_account (laid.spell (record { quotes = quotes; body = body; breaks = n })) (Tok.scalar (style_of quotes) value ∷ Tok.stream_end ∷ [])
+quoted_reads quotes body value n h =
+    let f = feeds n in
+    let ends = trail_ends no_comment (end f.0) [] f.1 tt in
+    rw (← append_assoc (quote_of quotes ∷ body) (quote_of quotes ∷ []) (replicate n 10), ← f.2) (by quotes f.0 f.1 h (ends.done (in_quotes quotes body)))
+  where
+    by : (quotes : Quotes) (g : List GapLine) → IsGap g → body_value quotes body ≡ Some value → quoted_may_end false (in_quotes quotes body) (spell_ending g []) ≡ true → Reads first_account (in_quotes quotes body ++ spell_ending g []) (Tok.scalar (style_of quotes) value ∷ Tok.stream_end ∷ [])
+    by laid.single g gap h follows =
+        let z = parts true body value h in
+        alone_reads (in_quotes laid.single body) (Tok.scalar (style_of laid.single) value) g gap refl refl (λ f. refl) (quoted_none laid.single body value h) (λ p awaits l there. (refl, ((body, refl, h, no_quote no_comment (end g)), refl))) (λ s e. rw e (fits single_quoted_element 39 body z.all z.are)) follows
+    by laid.double g gap h follows =
+        let z = parts false body value h in
+        alone_reads (in_quotes laid.double body) (Tok.scalar (style_of laid.double) value) g gap refl refl (λ f. refl) (quoted_none laid.double body value h) (λ p awaits l there. (refl, ((body, refl, h), refl))) (λ s e. rw e (fits double_quoted_element 34 body z.all z.are)) follows

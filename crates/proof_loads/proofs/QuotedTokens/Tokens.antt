@@ -2,7 +2,7 @@
 use Rattle.proof_loads.proofs.TokensCommon.{[], body_value, List, QuotedText, QuotedTextsHaveTheirTokens, Some, style_of, Tok, up_to_nul, ℕ, ◌∷◌, ◌≡◌}
 use Rattle.defs_layout.specs.QuotedText.{spell}
 use Rattle.proof_loads.proofs.Nul.{whole}
-use Rattle.proof_loads.proofs.HasRows.QuotedTexts.{quoted_reads}
+use Rattle.proof_loads.proofs.HasRows.Values.{quoted_reads}
 use Rattle.proof_loads.proofs.HasRows.Steps.{has_tokens}
 
 pub quoted_text_has_no_nul : (w : QuotedText) (value : List ℕ) → body_value w.quotes w.body ≡ Some value → up_to_nul (spell w) ≡ spell w

@@ -1,4 +1,4 @@
-use Rattle.proof_loads.proofs.FirstTokens.{settled_stay}
+use Rattle.proof_loads.proofs.OneListBefore.{settled_stay}
 use Rattle.proof_loads.proofs.laws.settled_tokens_stay.Goals as goal
 
 pub returns : goal.returns
