@@ -10,11 +10,9 @@ dumps_are_read keep_tags compact multiline t is =
     let text = subst (λ s. Means keep_tags s (trees_of laid.0.documents)) laid.3 (layouts_are_read keep_tags laid.0 laid.1) in
     subst (λ ts. Means keep_tags (dump_text compact multiline t) ts) laid.4 text
 
-one_tree : {t u : Tree} → t ∷ [] ≡ u ∷ [] → t ≡ u
-one_tree e = cc
-
 pub dump_is_injective : DumpIsInjective
 dump_is_injective compact multiline t u is_t is_u same =
     let read_t = dumps_are_read true compact multiline t is_t in
     let read_u = subst (λ s. Means true s (u ∷ [])) (sym same) (dumps_are_read true compact multiline u is_u) in
-    one_tree (one_meaning true (dump_text compact multiline t) (t ∷ []) (u ∷ []) read_t read_u)
+    let one : t ∷ [] ≡ u ∷ [] = one_meaning true (dump_text compact multiline t) (t ∷ []) (u ∷ []) read_t read_u in
+    cc
