@@ -23,11 +23,8 @@ break_is_none c h = (grind (arith, nat_tests), grind (arith, nat_tests), grind (
 -- all of a line without a break is skipped
 pub line_skipped : (m n : List ℕ) (p : Position) → has_no_break m ≡ true → ends_line n ≡ true → skip_while is_line (m ++ n) p ≡ record { rest = n; position = further (length m) p; value = tt }
 line_skipped [] [] p h e = ap (λ q. record { rest = []; position = q; value = tt }) (sym (none_further p))
-line_skipped [] (c ∷ n) p h e = let breaks : is_break c ≡ true = sym (same_break c) ∙ e in rw breaks (ap (λ q. record { rest = c ∷ n; position = q; value = tt }) (sym (none_further p)))
-line_skipped (c ∷ m) n p h e =
-    let q = and_parts (not (classes.is_break c)) (has_no_break m) h in
-    let no_break : is_break c ≡ false = sym (same_break c) ∙ not-true (classes.is_break c) q.0 in
-    rw no_break (line_skipped m n (past p) q.1 e ∙ ap (λ z. record { rest = n; position = z; value = tt }) (one_further p (length m)))
+line_skipped [] (c ∷ n) p h e = grind (arith, same_break, none_further)
+line_skipped (c ∷ m) n p h e = grind (arith, same_break, one_further, line_skipped m n (past p))
 
 -- ---- a blank
 

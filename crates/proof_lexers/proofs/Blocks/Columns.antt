@@ -16,7 +16,7 @@ all_spaces (c ∷ w) h = grind (arith, all_spaces w)
 
 pub spaces_leading : (w : List ℕ) → is_spaces w ≡ true → leading_spaces w ≡ length w
 spaces_leading [] h = refl
-spaces_leading (c ∷ w) h = let q = and_parts (c == 32) (is_spaces w) h in rw (q.0) (ap suc (spaces_leading w q.1))
+spaces_leading (c ∷ w) h = grind (arith, spaces_leading w)
 
 none_outside : (n : ℕ) (w y : List ℕ) → (is_spaces w && nat_le (length w) n) ≡ false → (nat_le n (leading_spaces w) && nat_le (suc n) (length w)) ≡ false → is_in_line w ≡ true → list_all is_some w ≡ true → is_outside n (w ++ y) ≡ true
 unfolding classes.is_nul
@@ -101,7 +101,4 @@ first_left (suc n) w z = elim (cases_lt (leading_spaces w) (suc n)) [
 -- and leaves the column of the lines before it as it is
 pub same_column : (digit collection : Option ℕ) (ls ns : List Line) (e : List ℕ) → is_spaces (first_line (texts ns) e) ≡ false → leading_spaces (first_line (texts ns) e) ≤ column_by digit collection (texts ls)
     → column_by digit collection (texts (ls ++ ns) ++ e ∷ []) ≡ column_by digit collection (texts ls)
-same_column digit collection ls [] e other le =
-    ap (λ x. column_by digit collection (x ++ e ∷ [])) (texts_append ls [] ∙ append-nil (texts ls)) ∙ column_same digit collection (texts ls) e [] other le
-same_column digit collection ls (n ∷ ns) e other le =
-    ap (column_by digit collection) (ap (λ x. x ++ e ∷ []) (texts_append ls (n ∷ ns)) ∙ append_assoc (texts ls) (texts (n ∷ ns)) (e ∷ [])) ∙ column_same digit collection (texts ls) n.text (texts ns ++ e ∷ []) other le
+same_column digit collection ls ns e other le = grind (arith, texts_append, append-nil, append_assoc, column_same)

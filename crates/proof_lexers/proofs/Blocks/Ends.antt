@@ -34,10 +34,7 @@ part_column None indent ls ns e are inner further =
 -- ---- the two ends
 
 pub style_same : (s t : BlockStyle) → indicator_of s ≡ indicator_of t → s ≡ t
-style_same defs.literal defs.literal e = refl
-style_same defs.literal defs.folded e = let no : true ≡ false = ap (λ n. n == 124) e in cc
-style_same defs.folded defs.literal e = let no : false ≡ true = ap (λ n. n == 124) e in cc
-style_same defs.folded defs.folded e = refl
+style_same s t e = grind arith
 
 module _ (style : BlockStyle) (indent : ℕ) (p : Position) where
   abbrev Ends : List ℕ → Type 0

@@ -21,15 +21,7 @@ pub record Said (c : ℕ) (h : defs.Header) : Type 0 where
   pub digit_is : digit_by (digit_or_zero h.digit) ≡ h.digit
 
 pub said : (c : ℕ) (l : List ℕ) (h : defs.Header) → header_of (c ∷ l) ≡ Some h → Said c h
-said c l h e = by (c == 124) (c == 62) refl refl e
-  where
-    by_style : (s : BlockStyle) → c ≡ indicator_of s → From s h → Said c h
-    by_style s is z = record { begins = is ∙ ap indicator_of (sym z.style_is); digit_is = z.digit_is }
-
-    by : (b f : Bool) → (c == 124) ≡ b → (c == 62) ≡ f → (if b then after_style literal l else (if f then after_style folded l else None)) ≡ Some h → Said c h
-    by true f g k x = by_style literal (eqb-true c 124 g) (from_style literal l h x)
-    by false true g k x = by_style folded (eqb-true c 62 k) (from_style folded l h x)
-    by false false g k x = cc
+said c l h e = grind (arith, from_style, eqb-true)
 
 -- ---- the model reads it
 

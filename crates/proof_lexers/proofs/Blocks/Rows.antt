@@ -71,9 +71,7 @@ module _ (literal : Bool) (column : ℕ) where
 
   chars : (w a : List ℕ) (p : Position) (l : Lines) → is_in_line w ≡ true → scan (w ++ a) (inside p l) ≡ scan a (inside (along w p) (record l { text = l.text ++ w }))
   chars [] a p l h = rw append-nil refl
-  chars (c ∷ w) a p l h =
-      let q = first_inner c w h in
-      rw (q.0) (chars w a (past p) (with_char c l) q.1 ∙ ap (λ t. scan a (inside (along w (past p)) (record l { text = t }))) (append_assoc l.text (c ∷ []) w))
+  chars (c ∷ w) a p l h = grind (arith, first_inner, append_assoc, chars w a (past p) (with_char c l))
 
   line_ends : (k : Break) (a : List ℕ) (p : Position) (l : Lines) → Fits k a → scan (put k a) (inside p l) ≡ scan a (front (after_break k p) (record l { broken = true }))
   unfolding is_break

@@ -21,8 +21,7 @@ second_false d b c = grind arith
 
 pub style_inner : (s : defs.BlockStyle) (line : List ℕ) → is_in_line line ≡ true → is_in_line (indicator_of s ∷ line) ≡ true
 unfolding classes.is_break
-style_inner defs.literal line h = h
-style_inner defs.folded line h = h
+style_inner s line h = grind arith
 
 module _ (h : defs.Header) (line : List ℕ) (k : Break) (indent : ℕ) (p : Position) (is : header_of (indicator_of h.style ∷ line) ≡ Some h) (digit : digit_by (digit_or_zero h.digit) ≡ h.digit) (inner : is_in_line line ≡ true) where
   -- the position after the header's break
@@ -245,9 +244,7 @@ same_end indent a q = grind (arith, nat_tests)
 
 nothing_there : (ch : defs.Chomping) (b : List ℕ) → empty_text (chomping_of ch) false b ≡ []
 unfolding empty_text
-nothing_there defs.strip b = refl
-nothing_there defs.clip b = refl
-nothing_there defs.keep b = refl
+nothing_there ch b = grind arith
 
 pub header_alone_is_read : (h : defs.Header) (line : List ℕ) (indent : ℕ) (p : Position) → header_of (indicator_of h.style ∷ line) ≡ Some h → is_in_line line ≡ true
     → IsRead indent p (record { style = h.style; column = 0; text = [] }) (indicator_of h.style ∷ line) [] (block (is_literal_style h.style) indent (indicator_of h.style ∷ line) p)

@@ -39,8 +39,7 @@ module _ (s : BlockStyle) where
   text_goes : (rs : List Row) (t l : List ℕ) (n : ℕ) (b : Bool) → AreFull rs → b ≡ starts_blank l → Holds (rows_after rs (after_content t n b)) (t ++ text_after s l n rs) (empty_after n rs)
   unfolding between
   text_goes [] t l n b full e = record { text_is = sym (append-nil t); breaks_are = refl; is_broken = refl }
-  text_goes (empty_row ∷ rs) t l n b full e =
-      holds_on _ _ _ _ _ (ap (λ x. rows_after rs (record { text = t; breaks = x; broken = true; blank = b })) (more_breaks n)) refl (text_goes rs t l (suc n) b full e)
+  text_goes (empty_row ∷ rs) t l n b full e = grind (arith, more_breaks, text_goes rs t l (suc n) b full e)
   text_goes (content_row [] ∷ rs) t l n b full e = absurd full
   text_goes (content_row (c ∷ m) ∷ rs) t l n b full e =
       let gap = between_lines s n (starts_blank l || starts_blank (c ∷ m)) in
@@ -53,8 +52,7 @@ module _ (s : BlockStyle) where
   first_goes : (rs : List Row) (n k : ℕ) → AreFull rs → has_content rs ≡ true → Holds (rows_after rs (after_empty n)) (breaks n ++ text_of s rs) (empty_after k rs)
   unfolding between
   first_goes [] n k full h = cc
-  first_goes (empty_row ∷ rs) n k full h =
-      holds_on _ _ _ _ _ (ap (λ x. rows_after rs (record { text = []; breaks = x; broken = false; blank = false })) (more_breaks n)) (break_before n (text_of s rs)) (first_goes rs (suc n) (suc k) full h)
+  first_goes (empty_row ∷ rs) n k full h = grind (arith, more_breaks, break_before, first_goes rs (suc n) (suc k) full h)
   first_goes (content_row [] ∷ rs) n k full h = absurd full
   first_goes (content_row (c ∷ m) ∷ rs) n k full h =
       holds_on _ (rows_after rs (after_content (breaks n ++ c ∷ m) 0 (is_blank c))) ((breaks n ++ c ∷ m) ++ text_after s (c ∷ m) 0 rs) _ _
@@ -108,14 +106,11 @@ rows_more b (q ∷ rs) r l = rows_more b rs r (after_row b q l)
 
 full_more : (rs : List Row) (c : ℕ) (m : List ℕ) → AreFull rs → AreFull (rs ++ content_row (c ∷ m) ∷ [])
 full_more [] c m full = tt
-full_more (empty_row ∷ rs) c m full = full_more rs c m full
-full_more (content_row [] ∷ rs) c m full = absurd full
-full_more (content_row (d ∷ n) ∷ rs) c m full = full_more rs c m full
+full_more (r ∷ rs) c m full = grind (arith, full_more rs c m)
 
 some_more : (rs : List Row) (m : List ℕ) → has_content (rs ++ content_row m ∷ []) ≡ true
 some_more [] m = refl
-some_more (empty_row ∷ rs) m = some_more rs m
-some_more (content_row n ∷ rs) m = refl
+some_more (r ∷ rs) m = grind (arith, some_more rs m)
 
 pub last_value : (h : defs.Header) (rs : List Row) (c : ℕ) (m : List ℕ) → AreFull rs
     → (after_row (is_literal_style h.style) (content_row (c ∷ m)) (after_rows (is_literal_style h.style) rs (after_empty 0))).text

@@ -55,7 +55,7 @@ module _ (column : ℕ) where
 
   pub all_empty : (ls : List Line) (a : List ℕ) (p : Position) (b : List ℕ) (rs : List Row) → p.col ≡ 0 → AreLines ls a → rows_of column (texts ls) ≡ Some rs → has_content rs ≡ false
       → indent_from column (spell ls a) (at p b) ≡ indent_from column a (at (after_lines ls p) (b ++ breaks (length rs)))
-  all_empty [] a p b rs col are h none = let same : [] ≡ rs = cc in rw (← same) (ap (λ x. indent_from column a (at p x)) (sym (append-nil b)))
+  all_empty [] a p b rs col are h none = grind (arith, append-nil)
   all_empty (l ∷ ls) a p b rs col are h none = elim (first_of column l.text (texts ls) rs h) [
     | first_row empty_row more e (no_content s le) f ↦
         empty_passes column l (spell ls a) p b s (omega (arith, le, col)) are.1 ∙ all_empty ls a (after_line l p) (b ++ 10 ∷ []) more refl are.2 f (ap has_content (sym e) ∙ none)

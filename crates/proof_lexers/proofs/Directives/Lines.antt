@@ -16,13 +16,9 @@ use Rattle.proof_lexers.proofs.Directives.Values as values
 use Rattle.proof_lexers.proofs.Classes.{same_place, before_end, skipped, span_cut}
 
 pub same_text : (a b : List ℕ) → is_same a b ≡ true → a ≡ b
-same_text [] [] h = refl
-same_text [] (d ∷ b) h = cc
+same_text [] b h = grind arith
 same_text (c ∷ a) [] h = cc
-same_text (c ∷ a) (d ∷ b) h =
-    let q = and_parts (c == d) (is_same a b) h in
-    let first : c ≡ d = eqb-true c d q.0 in
-    rw first (ap (λ r. d ∷ r) (same_text a b q.1))
+same_text (c ∷ a) (d ∷ b) h = grind (arith, eqb-true, same_text a b)
 
 none_by : (b : Bool) → ◌≡◌ {A = Option Directive} (if b then None else None) None
 none_by a = grind arith
@@ -295,7 +291,7 @@ in_line c = not (classes.is_break c)
 first_line : (a : List ℕ) → (has_no_break (leading in_line a) ≡ true) × (ends_line (after in_line a) ≡ true)
 unfolding in_line
 first_line [] = (refl, refl)
-first_line (c ∷ a) = let q = first_line a in elim (cases_Bool (classes.is_break c)) [ inl e ↦ (rw e refl, rw (e, e) refl) | inr e ↦ (rw (e, e) q.0, rw e q.1) ]
+first_line (c ∷ a) = grind (arith, first_line a)
 
 pub directives_end : DirectivesEndAsTheirTextSays
 directives_end a start =

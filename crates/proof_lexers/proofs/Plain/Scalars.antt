@@ -16,7 +16,7 @@ use Rattle.proof_lexers.proofs.Plain.Values.{no_markers, value_is}
 
 deep : (ctx : Context) (p : Position) → is_indented ctx p ≡ true → is_shallow ctx (p.col + 1) ≡ false
 unfolding is_shallow
-deep ctx p h = elim (cases_Bool ctx.flow) [ inl e ↦ rw e refl | inr e ↦ let le : nat_le ctx.indent (suc p.col) ≡ true = rw e at h in rw e (grind (arith, nat_tests)) ]
+deep ctx p h = grind (arith, nat_tests)
 
 -- ---- each text
 

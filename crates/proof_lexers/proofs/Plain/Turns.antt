@@ -50,7 +50,7 @@ off_margin n = grind (arith, nat_tests)
 
 pub as_deep : (ctx : Context) (n : ℕ) → is_shallow ctx n ≡ false → is_shallow ctx (n + 1) ≡ false
 unfolding is_shallow
-as_deep ctx n h = elim (cases_Bool ctx.flow) [ inl e ↦ rw e refl | inr e ↦ let deep : nat_lt n ctx.indent ≡ false = rw e at h in rw e (grind (arith, nat_tests)) ]
+as_deep ctx n h = grind (arith, nat_tests)
 
 -- whether content after a TAB is refused
 abbrev pub is_tabs : Mode → Bool

@@ -43,10 +43,10 @@ elements_of zero (c ∷ a) = first_element c a (λ k. elements_of k a)
 -- ---- after content
 
 solid_char : (c : ℕ) (t : Folded) → (not (is_blank c) && not (is_break c)) ≡ true → after_char c [] t ≡ in_text ((joined t).text ++ c ∷ [])
-solid_char c t h = let q = and_parts (not (is_blank c)) (not (is_break c)) h in rw (not-true (is_blank c) q.0, not-true (is_break c) q.1) refl
+solid_char c t h = grind arith
 
 joined_solid : (c : ℕ) (r : List ℕ) (t : Folded) → ends_with_content c r ≡ true → (joined (after_text (c ∷ r) t)).text ≡ (after_text (c ∷ r) t).text
-joined_solid c [] t h = ap (λ u. (joined u).text) (solid_char c t h) ∙ append-nil ((joined t).text ++ c ∷ []) ∙ ap (λ u. u.text) (sym (solid_char c t h))
+joined_solid c [] t h = grind (arith, solid_char, append-nil)
 joined_solid c (d ∷ r) t h = joined_solid d r (after_char c (d ∷ r) t) h
 
 -- ---- document markers

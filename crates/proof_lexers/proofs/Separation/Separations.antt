@@ -40,7 +40,7 @@ pub same_allowed : (s : Held) (c : ℕ) (a : List ℕ) → classes.is_break c �
 same_allowed s c a e separation rest cut ends = rw e refl
 
 pub line_allowed : (s : Held) (c : ℕ) (a : List ℕ) → classes.is_break c ≡ true → Allows s c (not (in_flow s) || s.key_allowed) a
-line_allowed s c a e separation rest cut ends = rw e (elim (cases_Bool (in_flow s)) [ inl f ↦ rw f refl | inr f ↦ rw (f, or-true (has_break separation)) refl ])
+line_allowed s c a e separation rest cut ends = grind (arith, or-true)
 
 -- of CR LF the LF is a break
 pub feed_allowed : (s : Held) (c : ℕ) (a : List ℕ) → classes.is_break c ≡ true → is_before_line_feed c a ≡ true → Allows s c s.key_allowed a
@@ -149,7 +149,7 @@ data Kind (c : ℕ) : Type 0 where
   token : is_blank c ≡ false → (c == 35) ≡ false → Kind c
 
 kind : (c : ℕ) → Kind c
-kind c = elim (cases_Bool (is_blank c)) [ inl e ↦ blank e | inr e ↦ elim (cases_Bool (c == 35)) [ inl f ↦ hash e f | inr f ↦ token e f ] ]
+kind c = grind (arith, blank, hash, token)
 
 no_separation : (c : ℕ) → is_break c ≡ false → is_blank c ≡ false → (c == 35) ≡ false → (is_white c || (c == 35)) ≡ false
 no_separation c e f g = rw (same_blank c, same_break c, e, f, g) refl
