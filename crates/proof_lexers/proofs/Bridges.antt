@@ -83,4 +83,4 @@ same_uri c = simp (or_assoc, or_false) refl
 
 pub same_tag : (c : ℕ) → classes.is_tag c ≡ is_tag c
 unfolding classes.is_tag is_tag
-same_tag c = rw (same_uri c, same_flow c, or_false (c == 33)) refl
+same_tag c = grind (arith, same_uri, same_flow, or_false)

@@ -1,5 +1,5 @@
 -- The definitions' positions are the model's.
-use Rattle.proof_lexers.proofs.Common.{[], along, ap, append-nil, append_assoc, arith, false, first_content, is_break, is_in_line, is_spaces, length, List, None, not, past, past_break, Position, position_after, position_past, refl, sym, true, ℕ, ◌++◌, ◌+◌, ◌∙◌, ◌∷◌, ◌≡◌, ◌≤◌, Read, indent_from, Column, Option, if◌then◌else◌, is_empty, Some}
+use Rattle.proof_lexers.proofs.Common.{[], along, ap, append-nil, append_assoc, arith, false, first_content, is_break, is_in_line, is_spaces, length, List, None, past, past_break, Position, position_after, position_past, refl, sym, true, ℕ, ◌++◌, ◌+◌, ◌∙◌, ◌∷◌, ◌≡◌, ◌≤◌, Read, indent_from, Column, Option, if◌then◌else◌, is_empty, Some}
 use Rattle.defs_text.specs.Classes as classes
 use Rattle.defs_text.specs.Breaks as cut
 use Rattle.proof_lexers.proofs.Bridges.{same_break}
@@ -40,7 +40,7 @@ spell_more (l ∷ ls) a b = grind (arith, append_assoc, spell_more ls a b)
 
 pub after_spell : (ls : List Line) (y next : List ℕ) (p : Position) → AreLines ls (y ++ next) → position_after p (spell ls y) next ≡ position_after (after_lines ls p) y next
 after_spell [] y next p are = refl
-after_spell (l ∷ ls) y next p are = grind (arith, spell_more, after_chars, after_put, after_spell ls y next (after_line l p) are.2)
+after_spell (l ∷ ls) y next p are = grind (arith, spell_more, after_chars, after_put, after_spell ls y next (after_line l p))
 
 -- ---- the position of the first content
 

@@ -1,5 +1,5 @@
 -- Each text is lines, each with its break as written, and a last line without one.
-use Rattle.proof_lexers.proofs.Common.{[], and-false, and_parts, ap, cases_Bool, eqb-true, false, inl, inr, is_break, is_in_line, List, or_cases, refl, slice_index, Split, split, true, with_empty_line, ℕ, ◌&&◌, ◌++◌, ◌==◌, ◌∙◌, ◌∷◌, ◌≡◌}
+use Rattle.proof_lexers.proofs.Common.{[], and-false, and_parts, ap, cases_Bool, eqb-true, false, inl, inr, is_break, is_in_line, List, or_cases, refl, slice_index, Split, split, true, with_empty_line, ℕ, ◌&&◌, ◌++◌, ◌==◌, ◌∙◌, ◌∷◌, ◌≡◌, arith}
 use Rattle.defs_text.specs.Classes as classes
 use Rattle.proof_lexers.proofs.Bridges.{same_break}
 use Rattle.proof_lexers.proofs.Blocks.InLine.{first_inner}
@@ -89,11 +89,11 @@ of_lines ls w = record { complete = ls; last = w }
 
 split_last : (w : List ℕ) → is_in_line w ≡ true → split w ≡ of_lines [] w
 split_last [] h = refl
-split_last (c ∷ w) h = let q = first_inner c w h in rw (same_break c, q.0, split_last w q.1) refl
+split_last (c ∷ w) h = grind (arith, first_inner, same_break, split_last w)
 
 split_line : (w a : List ℕ) (ls : List (List ℕ)) (r : List ℕ) → is_in_line w ≡ true → split a ≡ of_lines ([] ∷ ls) r → split (w ++ a) ≡ of_lines (w ∷ ls) r
 split_line [] a ls r h e = e
-split_line (c ∷ w) a ls r h e = let q = first_inner c w h in rw (same_break c, q.0, split_line w a ls r q.1 e) refl
+split_line (c ∷ w) a ls r h e = grind (arith, first_inner, same_break, split_line w a ls r)
 
 split_feed : (a : List ℕ) → split (10 ∷ a) ≡ with_empty_line (split a)
 unfolding classes.is_break

@@ -1,5 +1,5 @@
 -- Directives are read as their lines say, and no other text is.
-use Rattle.proof_lexers.proofs.Common.{[], after, after_declaration, after_major, after_value, after_version, and_parts, and_then, ap, append-nil, append_assoc, arith, At, begins_prefix, begins_with, blanks, Bool, by_comment, by_declaration, by_name, by_octets, by_version, cases_Bool, codes, declaration_by, decoded, Directive, directive, directive_of, DirectivesAreRead, DirectivesEndAsTheirTextSays, eqb-true, Err, false, Fault, first_break, further, handle_and_rest, has_no_break, if◌then◌else◌, inl, inr, is_alpha, is_alphanumeric, is_at_gap, is_blank, is_flow, is_handle, is_rest_of_line, is_same, is_tag, is_uri, is_uri_mark, IsDirectiveRefusal, IsNoDeclaration, IsNoVersion, kind, leading, length, length-append, List, long_major, long_minor, name, next_line, no_major, no_minor, no_name, no_point, no_prefix, None, not, not-false, not-true, number, number_of, Ok, open_name, Option, past, Position, position_after, prefix, prefix_after, Problem, problem_of, Read, reads, refl, refuses, reserved, Result, skip_while, slice_index, Some, suc, sym, tag, tag_declaration, tag_value, token_of, true, unknown, UriFault, value, version, version_of, version_value, with_minor, with_prefix, ℕ, ◌++◌, ◌+◌, ◌==◌, ◌||◌, ◌∙◌, ◌∷◌, ◌≡◌, nat_tests}
+use Rattle.proof_lexers.proofs.Common.{[], after, after_declaration, after_major, after_value, after_version, and_then, ap, append-nil, append_assoc, arith, At, begins_prefix, begins_with, blanks, Bool, by_comment, by_declaration, by_name, by_octets, by_version, cases_Bool, codes, declaration_by, decoded, Directive, directive, directive_of, DirectivesAreRead, DirectivesEndAsTheirTextSays, eqb-true, Err, false, Fault, first_break, further, handle_and_rest, has_no_break, if◌then◌else◌, inl, inr, is_alpha, is_alphanumeric, is_at_gap, is_blank, is_flow, is_handle, is_rest_of_line, is_same, is_tag, is_uri, is_uri_mark, IsDirectiveRefusal, IsNoDeclaration, IsNoVersion, kind, leading, length, length-append, List, long_major, long_minor, name, next_line, no_major, no_minor, no_name, no_point, no_prefix, None, not, not-false, not-true, number, number_of, Ok, open_name, Option, past, Position, position_after, prefix, prefix_after, Problem, problem_of, Read, reads, refl, refuses, reserved, Result, skip_while, slice_index, Some, suc, sym, tag, tag_declaration, tag_value, token_of, true, unknown, UriFault, value, version, version_of, version_value, with_minor, with_prefix, ℕ, ◌++◌, ◌+◌, ◌==◌, ◌||◌, ◌∙◌, ◌∷◌, ◌≡◌, nat_tests}
 use Rattle.defs_token.specs.Token.{Tok}
 use Rattle.yaml_tokens.specs.declared.problem.Problem.TheVariants as problem
 use Rattle.defs_text.specs.Classes as classes
@@ -11,7 +11,7 @@ use Rattle.proof_lexers.proofs.Separation.Positions.{position_append, position_i
 use Rattle.proof_lexers.proofs.Properties.Uris.{uris_are_read}
 use Rattle.proof_lexers.proofs.RestOfLine.{line_skipped}
 use Rattle.proof_lexers.proofs.Directives.Parts.{none_at_end, no_break_after, ended, comment, text, line_ends, spells_name, kind_is, gap_is}
-use Rattle.proof_lexers.proofs.Directives.Values.{NumberSees, missing, long, found, number_sees, not_at_end, HandleSees, handle_sees}
+use Rattle.proof_lexers.proofs.Directives.Values.{missing, long, found, number_sees, not_at_end, handle_sees}
 use Rattle.proof_lexers.proofs.Directives.Values as values
 use Rattle.proof_lexers.proofs.Classes.{same_place, before_end, skipped, span_cut}
 
@@ -154,7 +154,7 @@ module _ (start : Position) (l n : List ℕ) (line : has_no_break l ≡ true) (e
   -- ---- declarations
 
   begins_with_prefix : (g : List ℕ) → ((slice_index (g ++ n) 0 == 33) || is_tag (slice_index (g ++ n) 0)) ≡ begins_prefix g
-  begins_with_prefix a = grind (arith, same_tag, not_at_end, ends, no_tag_at_end)
+  begins_with_prefix g = grind (arith, same_tag, not_at_end, ends, no_tag_at_end)
 
   module _ (word : leading classes.is_alpha l ≡ codes "TAG") (gap : is_at_gap after_word ≡ true) where
     abbrev handle_is : List ℕ
@@ -303,10 +303,4 @@ directives_end a start =
     ]
 
 pub directives_are_read : DirectivesAreRead
-directives_are_read line next d p no_break ends is = elim (told p line next no_break ends) [
-  | fails f none why e ↦ let no : Some d ≡ None = sym is ∙ none in cc
-  | is_directive k says e ↦
-      let one : Some k ≡ Some d = sym says ∙ is in
-      let same : k ≡ d = cc in
-      e ∙ ap (λ z. Ok (after_line p (37 ∷ line) next (token_of z))) same
-]
+directives_are_read line next d p no_break ends is = grind (arith, told p line next no_break ends)

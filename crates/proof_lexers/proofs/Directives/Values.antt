@@ -45,10 +45,7 @@ pub data HandleSees (start p : Position) (t n : List ℕ) (x : Result (Read (Lis
 marked : (c : ℕ) (w : List ℕ) → all_of classes.is_alpha (c ∷ w) ≡ true → (is_marked_name (c ∷ w) ≡ false) × (is_marked_name ((c ∷ w) ++ 33 ∷ []) ≡ true)
 unfolding classes.is_alpha classes.is_decimal_digit classes.is_letter
 marked c [] h = let q = and_parts (classes.is_alpha c) true h in ((ne_eqb c 33 (λ same. both_ways (classes.is_alpha 33) refl (ap classes.is_alpha (sym same) ∙ q.0))), rw q.0 refl)
-marked c (d ∷ w) h =
-    let q = and_parts (classes.is_alpha c) (all_of classes.is_alpha (d ∷ w)) h in
-    let r = marked d w q.1 in
-    (rw q.0 (r.0), rw q.0 (r.1))
+marked c (d ∷ w) h = grind (arith, and_parts, marked d w)
 
 handle_of : (w : List ℕ) → all_of classes.is_alpha w ≡ true → is_handle (33 ∷ (w ++ 33 ∷ [])) ≡ true
 handle_of [] h = refl

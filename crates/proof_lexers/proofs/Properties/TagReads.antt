@@ -1,5 +1,5 @@
 -- Each tag is read as it is written.
-use Rattle.proof_lexers.proofs.Common.{[], after, after_class, after_name, after_tag, all_of, and_parts, and_then, ap, append_assoc, Bool, cases_Bool, codes, decoded, eqb-true, Err, false, further, if◌then◌else◌, inl, inr, is_empty, is_same, is_tag, leading, length, length-append, List, may_follow, named, None, Ok, or_cases, past, Position, read_tag, refl, Result, shorthand, slice_index, Some, sym, tag_by, tag_end, tag_of_class, TagsAreRead, true, uri, uri_character, UriFault, verbatim, ℕ, ◌&&◌, ◌++◌, ◌==◌, ◌∙◌, ◌∷◌, ◌≡◌}
+use Rattle.proof_lexers.proofs.Common.{[], after, after_class, after_name, after_tag, all_of, and_parts, and_then, ap, append_assoc, Bool, cases_Bool, codes, decoded, eqb-true, Err, false, further, inl, inr, is_empty, is_same, is_tag, leading, length, length-append, List, may_follow, named, None, Ok, or_cases, past, Position, read_tag, refl, Result, shorthand, slice_index, Some, sym, tag_end, tag_of_class, TagsAreRead, true, uri, uri_character, UriFault, verbatim, ℕ, ◌&&◌, ◌++◌, ◌==◌, ◌∙◌, ◌∷◌, ◌≡◌, arith}
 use Rattle.defs_text.specs.Classes as classes
 use Rattle.defs_text.specs.Tags as defs
 use Rattle.model_scanner.specs.Tag.{tag}
@@ -20,12 +20,7 @@ follower class flow (c ∷ r) h space tab feed carriage nul comma bracket bracke
 
 -- a tag whose suffix is written so
 of_class : (class : ℕ → Bool) (h t : List ℕ) (g : defs.Tag) → tag_of_class class h t ≡ Some g → (all_of class t ≡ true) × (decoded t ≡ Ok g.suffix) × (g.handle ≡ h)
-of_class class h t g e = by (all_of class t) (decoded t) refl refl e
-  where
-    by : (b : Bool) (d : Result (List ℕ) UriFault) → all_of class t ≡ b → decoded t ≡ d → (if b then tag_by h d else None) ≡ Some g → (all_of class t ≡ true) × (decoded t ≡ Ok g.suffix) × (g.handle ≡ h)
-    by false d a k e = cc
-    by true (Err f) a k e = cc
-    by true (Ok cs) a k e = let same : record { handle = h; suffix = cs } ≡ g = cc in (a, k ∙ ap (λ (z : defs.Tag). Ok z.suffix) same, ap (λ (z : defs.Tag). z.handle) (sym same))
+of_class class h t g e = grind arith
 
 word_fails : (name r : List ℕ) (f : UriFault) → all_of classes.is_alpha name ≡ true → decoded r ≡ Err f → decoded (name ++ r) ≡ Err f
 unfolding uri_character

@@ -124,8 +124,7 @@ no_mark [] h = (refl, refl)
 no_mark (c ∷ r) h = let q = and_parts (classes.is_tag c) (all_of classes.is_tag r) h in ((tag_starts c q.0).1, (tag_starts c q.0).0)
 
 nil_parts : (a b : List ℕ) → is_empty (a ++ b) ≡ true → (a ≡ []) × (b ≡ [])
-nil_parts [] [] h = (refl, refl)
-nil_parts [] (c ∷ b) h = cc
+nil_parts [] b h = grind arith
 nil_parts (c ∷ a) b h = cc
 
 pub same_empty : (name l cs : List ℕ) → decoded l ≡ Ok cs → is_empty (name ++ cs) ≡ is_empty (name ++ l)

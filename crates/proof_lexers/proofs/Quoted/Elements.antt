@@ -1,5 +1,4 @@
 -- What the model does at each element of a body in single and in double quotes.
-use Rattle.std.specs.Char.{is_digit}
 use Rattle.proof_lexers.proofs.Common.{[], along, and_parts, arith, begins_with, Bool, break_further, by_line, cases_Bool, Char, Code, coded, content, Context, count_of, digit_turn, digit_value, digits_from, double_quoted_element, drop, element_of, eqb-true, Escape, escape, escape_by, escape_of, escaped_break, escapes, false, Fault, Folded, has_marker, hexadecimal, if◌then◌else◌, inl, inr, inside, is_blank, is_break, is_character_code, is_document_marker, joined, length, List, list_all, lookup, named_char, named_code, nat_tests, ne_eqb, None, numbered, numeric_escape, numeric_escapes, Option, past, past_break, Position, Read, refl, Result, single_quoted_element, slice_index, Some, subst, suc, sym, take, true, Unknown, with_char, with_escaped_break, zero, ℕ, ◌&&◌, ◌*◌, ◌++◌, ◌+◌, ◌==◌, ◌||◌, ◌∙◌, ◌∷◌, ◌≡◌, Err, coded_fails, At, digit_fails, length-take, take-append-le}
 use Rattle.std.proofs.lemmas.List.{drop-append-le}
 use Rattle.yaml_tokens.specs.declared.problem.Problem.TheVariants as problem
@@ -64,10 +63,7 @@ module _ (ctx : Context) (start : Position) where
   unfolding classes.is_break
   over_digits zero value code b r h = (refl, refl)
   over_digits (suc n) value code [] r h = (refl, refl)
-  over_digits (suc n) value code (c ∷ b) r h = elim (cases_Bool (is_digit c 16)) [
-    | inl e ↦ let z = over_digits n (value * 16 + digit_value c) code b r (rw e at h) in let o : (classes.is_break c ≡ false) × ((c == 0) ≡ false) = (grind (arith, nat_tests), grind (arith, nat_tests)) in (rw o.0 z.0, rw o.1 z.1)
-    | inr e ↦ let no : None ≡ Some code = rw e at h in cc
-  ]
+  over_digits (suc n) value code (c ∷ b) r h = grind (arith, nat_tests, over_digits n (value * 16 + digit_value c) code b r)
 
   -- ---- an escape
 

@@ -1,5 +1,5 @@
 -- Bodies with a value are read as it.
-use Rattle.proof_lexers.proofs.Common.{after_elements, Bool, double_quoted_value, Element, element_of, elements, false, folded_elements, has_document_marker, if◌then◌else◌, joined, lines_of, List, None, nothing, Option, quote_of, quoted, QuotedBodiesAreRead, refl, shallow, single_quoted_value, Some, trimmed, true, value_of, ℕ, ◌∙◌, ◌∷◌, ◌≡◌}
+use Rattle.proof_lexers.proofs.Common.{after_elements, Bool, double_quoted_value, Element, element_of, elements, false, folded_elements, has_document_marker, if◌then◌else◌, joined, lines_of, List, None, nothing, Option, quote_of, quoted, QuotedBodiesAreRead, shallow, single_quoted_value, Some, trimmed, true, value_of, ℕ, ◌∙◌, ◌∷◌, ◌≡◌, arith}
 use Rattle.defs_text.specs.FlowScalar.{folded}
 use Rattle.proof_lexers.specs.QuotedScan.{IsRead}
 use Rattle.proof_lexers.proofs.Fold.{buffers_join}
@@ -20,14 +20,12 @@ parts_by single false (Some es) body value e f h = record { all = es; are = f; u
 
 pub parts : (single : Bool) (body value : List ℕ) → value_of single body ≡ Some value → HasElements single body value
 unfolding single_quoted_value double_quoted_value
-parts true body value h = parts_by true (has_document_marker body) (elements (element_of true) 0 body) body value refl refl h
-parts false body value h = parts_by false (has_document_marker body) (elements (element_of false) 0 body) body value refl refl h
+parts single body value h = grind arith
 
 -- the value of a body of elements, of which no line begins with a marker
 pub value_is : (single : Bool) (body : List ℕ) (es : List Element) → elements (element_of single) 0 body ≡ Some es → has_document_marker body ≡ false → value_of single body ≡ Some (folded (trimmed (lines_of es)))
 unfolding single_quoted_value double_quoted_value
-value_is true body es e f = rw (e, f) refl
-value_is false body es e f = rw (e, f) refl
+value_is single body es e f = grind arith
 
 pub bodies_are_read : QuotedBodiesAreRead
 unfolding quoted

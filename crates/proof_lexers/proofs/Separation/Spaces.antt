@@ -1,5 +1,5 @@
 -- The blanks and the comment that the model passes in a line are a separation.
-use Rattle.proof_lexers.proofs.Common.{[], after_space, and_parts, ap, are_skipped, are_spaces, At, begins_with, Bool, cases_Bool, comment_after, ends_spaces, eqb-true, Err, false, Fault, has, has_break, inl, inr, is_blank, is_break, is_line, is_separation, List, Ok, past, Position, position_after, position_past, Read, reads, refl, refuses, Result, skip_while, space, space_from, spaces, SpacesArePassed, sym, true, Whitespace, with_found, ℕ, ◌&&◌, ◌++◌, ◌==◌, ◌||◌, ◌∙◌, ◌∷◌, ◌≡◌}
+use Rattle.proof_lexers.proofs.Common.{[], after_space, and_parts, ap, are_skipped, are_spaces, At, begins_with, Bool, cases_Bool, comment_after, ends_spaces, eqb-true, Err, false, Fault, has, has_break, inl, inr, is_blank, is_break, is_line, is_separation, List, Ok, past, Position, position_after, position_past, Read, reads, refl, refuses, Result, skip_while, space, space_from, spaces, SpacesArePassed, sym, true, Whitespace, with_found, ℕ, ◌&&◌, ◌++◌, ◌==◌, ◌||◌, ◌∙◌, ◌∷◌, ◌≡◌, arith}
 use Rattle.yaml_tokens.specs.declared.problem.Problem.TheVariants as problem
 use Rattle.defs_text.specs.Classes as classes
 use Rattle.model_scanner.specs.declared.context.SkipTabs.{SkipTabs}
@@ -15,8 +15,7 @@ is_line_end [] = true
 is_line_end (c ∷ r) = is_break c
 
 line_ends : (tabs : SkipTabs) (r : List ℕ) → is_line_end r ≡ true → ends_spaces tabs r ≡ true
-line_ends tabs [] h = refl
-line_ends tabs (c ∷ r) h = let q = break_is_none c h in rw (q.0, q.1, q.2) refl
+line_ends tabs r h = grind (arith, break_is_none)
 
 -- the rest of a line
 record Line (a : List ℕ) (p : Position) : Type 0 where
@@ -59,8 +58,7 @@ passes_on : (tabs : SkipTabs) (w : Whitespace) (p : Position) (a : List ℕ) (x 
 passes_on tabs w p a x y e z = rw e z
 
 or_both : (a b : Bool) → (a || (true || b)) ≡ true
-or_both true b = refl
-or_both false b = refl
+or_both a b = grind arith
 
 same_space : (p q : Position) (rest : List ℕ) (a b c d : Bool) → p ≡ q → a ≡ b → c ≡ d
     → ◌≡◌ {A = Result (Read Whitespace) Fault} (Ok (record { rest = rest; position = p; value = record { found_tabs = a; has_valid_yaml_ws = c } })) (Ok (record { rest = rest; position = q; value = record { found_tabs = b; has_valid_yaml_ws = d } }))
