@@ -68,12 +68,6 @@ more_breaks (suc n) = ap (λ r. line_feed ∷ r) (more_breaks n)
 leading_blank : (escaped : Bool) (n : ℕ) (c : ℕ) (ls : Lines) → folded_after escaped n (trimmed_after (begun_with (blank c) ls)) ≡ folded_after escaped n (trimmed_after ls)
 leading_blank escaped n c ls = grind arith
 
-content_after : (escaped : Bool) (n c : ℕ) (l : List Element) (e : Bool) (ls : Lines) → folded_after escaped n (line (content c ∷ l) e ls) ≡ folded_break escaped n ++ c ∷ (text_of l ++ folded_after e 0 ls)
-content_after escaped n c l e ls = grind (arith, append_assoc)
-
-leading_content : (escaped : Bool) (n : ℕ) (c : ℕ) (ls : Lines) → folded_after escaped n (trimmed_after (begun_with (content c) ls)) ≡ folded_break escaped n ++ c ∷ line_text [] ls
-leading_content escaped n c ls = grind (arith, content_after)
-
 mutual
   line_joins : (es : List Element) (text g : List ℕ) → joined_text es (in_line text g) ≡ text ++ line_text g (lines_of es)
   line_joins [] text g = rw (text_after g [], append-nil) refl
@@ -85,7 +79,7 @@ mutual
   break_joins : (es : List Element) (escaped : Bool) (n : ℕ) (text : List ℕ) → joined_text es (after_break escaped n text) ≡ text ++ folded_after escaped n (trimmed_after (lines_of es))
   break_joins [] escaped n text = ap (λ t. t.text) (joined_break escaped n text) ∙ rw append-nil refl
   break_joins (content c ∷ es) escaped n text =
-      grind (arith, broken, leading_content, append_assoc, line_joins es ((text ++ folded_break escaped n) ++ c ∷ []) [])
+      grind (arith, broken, append_assoc, line_joins es ((text ++ folded_break escaped n) ++ c ∷ []) [])
   break_joins (blank c ∷ es) escaped n text = break_joins es escaped n text ∙ ap (λ l. text ++ l) (sym (leading_blank escaped n c (lines_of es)))
   break_joins (line_break ∷ es) escaped n text = ap (λ g. joined_text es (record { text = text; gap = g; leading = true; escaped = escaped })) (more_breaks n) ∙ break_joins es escaped (suc n) text
   break_joins (escaped_break ∷ es) escaped n text =

@@ -1,5 +1,5 @@
 -- The first lines give the content column.
-use Rattle.proof_lexers.proofs.Common.{[], all_lines, along, and_parts, ap, append-nil, arith, at_least, cases_Bool, collection_of, Column, column_by, deepest_start, digit_by, false, First, first_indent, FirstLinesGiveTheColumn, indent_from, inl, inr, is_break, is_in_line, is_spaces, leading_spaces, least_column, List, max, past, Position, Read, refl, Split, split, suc, sym, true, unbroken, zero, ℕ, ◌++◌, ◌+◌, ◌==◌, ◌∙◌, ◌∷◌, ◌≡◌, ◌≤◌, nat_tests}
+use Rattle.proof_lexers.proofs.Common.{[], all_lines, along, and_parts, ap, append-nil, arith, at_least, cases_Bool, collection_of, Column, column_by, deepest_start, digit_by, false, First, first_indent, FirstLinesGiveTheColumn, indent_from, inl, inr, is_break, is_in_line, is_spaces, leading_spaces, least_column, List, max, past, Position, Read, refl, split, suc, sym, true, unbroken, zero, ℕ, ◌++◌, ◌+◌, ◌==◌, ◌∙◌, ◌∷◌, ◌≡◌, ◌≤◌, nat_tests}
 use Rattle.model_scanner.specs.BlockScalar.{content}
 use Rattle.proof_lexers.proofs.Blocks.InLine.{first_inner}
 use Rattle.proof_lexers.proofs.Blocks.Written.{Break, Line, put, spell, texts, Fits, AreLines, Lined, lined, split_spell}
@@ -95,7 +95,4 @@ pub first_lines : FirstLinesGiveTheColumn
 first_lines indent increment text p col = of_lines (lined text)
   where
     of_lines : Lined text → (content indent increment text p).value.column ≡ column_by (digit_by increment) (collection_of indent) (all_lines (split text).complete (unbroken (split text).last))
-    of_lines z =
-        let cut : split text ≡ record { complete = texts z.lines; last = z.last } = ap split z.is ∙ split_spell z.lines z.last z.are z.inner in
-        ap (λ a. (content indent increment a p).value.column) z.is ∙ ap (λ (r : Read Column). r.value.column) (content_is indent increment z.lines z.last p col z.are z.inner)
-        ∙ ap (λ (s : Split). column_by (digit_by increment) (collection_of indent) (all_lines s.complete (unbroken s.last))) (sym cut)
+    of_lines z = grind (arith, nat_tests, split_spell, content_is, digit_by)

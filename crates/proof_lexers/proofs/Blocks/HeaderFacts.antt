@@ -1,5 +1,5 @@
 -- What a header says of itself, and that the model reads it so.
-use Rattle.proof_lexers.proofs.Common.{after_style, along, ap, arith, At, begins_with, BlockStyle, Bool, digit_by, digit_of, digit_or_zero, ends_line, eqb-true, Err, false, Fault, folded, header, Header, header_of, if◌then◌else◌, indicator_of, is_in_line, IsHeaderRead, IsHeaderRefusal, linebreak, List, literal, None, Ok, past, Position, Read, read_header, reads, refl, refuses, sign_of, Some, sym, tab, true, whole_header, ℕ, ◌++◌, ◌==◌, ◌∙◌, ◌∷◌, ◌≡◌}
+use Rattle.proof_lexers.proofs.Common.{along, ap, arith, At, begins_with, BlockStyle, digit_by, digit_of, digit_or_zero, ends_line, eqb-true, Err, false, Fault, header, Header, header_of, indicator_of, is_in_line, IsHeaderRead, IsHeaderRefusal, linebreak, List, Ok, past, Position, Read, read_header, reads, refuses, sign_of, Some, sym, tab, true, whole_header, ℕ, ◌++◌, ◌∙◌, ◌∷◌, ◌≡◌}
 use Rattle.yaml_tokens.specs.declared.problem.Problem.TheVariants as problem
 use Rattle.defs_text.specs.BlockScalar as defs
 use Rattle.proof_lexers.proofs.Blocks.Headers.{headers_end}
@@ -11,17 +11,14 @@ pub record From (s : BlockStyle) (h : defs.Header) : Type 0 where
   pub style_is : h.style ≡ s
   pub digit_is : digit_by (digit_or_zero h.digit) ≡ h.digit
 
-from_style : (s : BlockStyle) (l : List ℕ) (h : defs.Header) → after_style s l ≡ Some h → From s h
-unfolding digit_of sign_of
-from_style s l h e = grind arith
-
 -- the same of a header and its first character
 pub record Said (c : ℕ) (h : defs.Header) : Type 0 where
   pub begins : c ≡ indicator_of h.style
   pub digit_is : digit_by (digit_or_zero h.digit) ≡ h.digit
 
 pub said : (c : ℕ) (l : List ℕ) (h : defs.Header) → header_of (c ∷ l) ≡ Some h → Said c h
-said c l h e = grind (arith, from_style, eqb-true)
+unfolding digit_of sign_of
+said c l h e = grind (arith, eqb-true)
 
 -- ---- the model reads it
 

@@ -17,11 +17,8 @@ use Rattle.defs_text.specs.BlockScalar.{value_at_end, value_at_text}
 
 -- ---- a TAB after the header
 
-tab_put : (k : Break) (a : List ℕ) → begins_with tab (put k a) ≡ false
-tab_put b a = grind (arith, nat_tests)
-
 pub tab_line : (w a : List ℕ) (k : Break) (ls : List (List ℕ)) → begins_with tab (w ++ put k a) ≡ starts_with_tab (w ∷ ls)
-tab_line b a k ls = grind (arith, nat_tests, tab_put)
+tab_line b a k ls = grind (arith, nat_tests)
 
 pub tab_whole : (ls : List Line) (e : List ℕ) → begins_with tab (spell ls e) ≡ starts_with_tab (texts ls ++ e ∷ [])
 tab_whole [] [] = refl

@@ -1,5 +1,5 @@
 -- Each text is lines, each with its break as written, and a last line without one.
-use Rattle.proof_lexers.proofs.Common.{[], and-false, and_parts, ap, cases_Bool, eqb-true, false, inl, inr, is_break, is_in_line, List, or_cases, refl, slice_index, Split, split, true, with_empty_line, ℕ, ◌&&◌, ◌++◌, ◌==◌, ◌∙◌, ◌∷◌, ◌≡◌, arith}
+use Rattle.proof_lexers.proofs.Common.{[], and-false, and_parts, ap, cases_Bool, eqb-true, false, inl, inr, is_break, is_in_line, List, or_cases, refl, slice_index, Split, split, true, with_empty_line, ℕ, ◌&&◌, ◌++◌, ◌==◌, ◌∙◌, ◌∷◌, ◌≡◌, arith, nat_tests}
 use Rattle.defs_text.specs.Classes as classes
 use Rattle.proof_lexers.proofs.Bridges.{same_break}
 use Rattle.proof_lexers.proofs.Blocks.InLine.{first_inner}
@@ -72,15 +72,7 @@ two_breaks a z = record { lines = record { text = []; by = both } ∷ z.lines; l
 pub lined : (a : List ℕ) → Lined a
 lined [] = record { lines = []; last = []; is = refl; are = tt; inner = refl }
 lined (c ∷ []) = let z = lined [] in elim (cases_Bool (is_break c)) [ inl e ↦ lone_break c [] z e (and-false (c == 13)) | inr e ↦ char_line c [] z z.lines z.is z.are e ]
-lined (c ∷ d ∷ a) =
-    let z = lined (d ∷ a) in
-    elim (cases_Bool (is_break c)) [
-      | inr e ↦ char_line c (d ∷ a) z z.lines z.is z.are e
-      | inl e ↦ elim (cases_Bool ((c == 13) && (d == 10))) [
-        | inl g ↦ let q = and_parts (c == 13) (d == 10) g in rw (eqb-true c 13 q.0, eqb-true d 10 q.1) (two_breaks a (lined a))
-        | inr g ↦ lone_break c (d ∷ a) z e g
-      ]
-    ]
+lined (c ∷ d ∷ a) = grind (arith, nat_tests, cases_Bool, char_line, and_parts, eqb-true, two_breaks, lone_break, lined (d ∷ a), lined a)
 
 -- ---- the lines of the text are these
 

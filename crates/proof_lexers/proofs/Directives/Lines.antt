@@ -47,10 +47,7 @@ module _ (start : Position) (l n : List ℕ) (line : has_no_break l ≡ true) (e
       → position_after (further (length m) p) (first_break n) (next_line n) ≡ position_after start ((37 ∷ l) ++ first_break n) (next_line n)
   unfolding classes.is_break
   last_position before m p cut position =
-      let so_long : length l ≡ length before + length m = ap length cut ∙ length-append before m in
-      let here : further (length m) p ≡ position_after start (37 ∷ l) (first_break n ++ next_line n) =
-      ap (further (length m)) position ∙ same_place start (suc (length l)) (omega (arith, so_long)) (omega (arith, so_long)) ∙ position_in_line start (37 ∷ l) (first_break n ++ next_line n) line in
-      ap (λ q. position_after q (first_break n) (next_line n)) here ∙ sym (position_append start (37 ∷ l) (first_break n) (next_line n))
+      grind (arith, nat_tests, length-append, further, first_break, same_place, position_in_line, position_append)
 
   finish : (before m : List ℕ) (d : Directive) (p : Position) → l ≡ before ++ m → p ≡ further (suc (length before)) start → directive_of (37 ∷ l) ≡ (if is_rest_of_line m then Some d else None)
       → ((k : List ℕ) → m ≡ 35 ∷ k → IsDirectiveRefusal start l (At problem.CommentNotSeparated (further (suc (length before)) start)))

@@ -1,5 +1,5 @@
 -- Parts of a directive's line: words, numbers, and what may stand after its value.
-use Rattle.proof_lexers.proofs.Common.{[], after, all_of, and_assoc, and_parts, and_then, ap, arith, At, begins_with, Bool, both_ways, cases_Bool, codes, decimal_value, Digits, directive_break, drop, eqb-true, Err, false, Fault, first_break, further, has_no_break, if◌then◌else◌, inl, inr, is_alpha, is_alphanumeric, is_at_gap, is_blank, is_blank_or_breakz, is_break, is_empty, is_rest_of_line, is_same, kind, leading, length, line_end, List, nat_le, nat_tests, ne_eqb, next_line, not, number, Ok, or_cases, past, Position, position_after, Read, refl, Result, run, slice_index, space, Stop, sym, tag, true, unknown, version, Whitespace, Yes, ℕ, ◌&&◌, ◌*◌, ◌++◌, ◌+◌, ◌-◌, ◌==◌, ◌∙◌, ◌∷◌, ◌≡◌, ◌≤◌}
+use Rattle.proof_lexers.proofs.Common.{[], after, all_of, and_assoc, and_parts, and_then, ap, arith, At, begins_with, Bool, both_ways, codes, decimal_value, Digits, directive_break, drop, eqb-true, Err, false, Fault, first_break, further, has_no_break, if◌then◌else◌, inl, inr, is_alpha, is_alphanumeric, is_at_gap, is_blank, is_blank_or_breakz, is_break, is_empty, is_rest_of_line, is_same, kind, leading, length, line_end, List, nat_le, nat_tests, ne_eqb, next_line, not, number, Ok, or_cases, past, Position, position_after, Read, refl, Result, run, slice_index, space, Stop, sym, tag, true, unknown, version, Whitespace, Yes, ℕ, ◌&&◌, ◌*◌, ◌++◌, ◌+◌, ◌-◌, ◌==◌, ◌∙◌, ◌∷◌, ◌≡◌, ◌≤◌}
 use Rattle.yaml_chars.specs.Class.{is_digit}
 use Rattle.yaml_tokens.specs.declared.problem.Problem.TheVariants as problem
 use Rattle.defs_text.specs.Classes as classes
@@ -47,10 +47,6 @@ line_ends start p m n h k = told (space Yes (m ++ n) p) (rest_of_line m n p h k)
 
 -- ---- numbers
 
-digit_is : (c : ℕ) → classes.is_decimal_digit c ≡ is_digit c
-unfolding classes.is_decimal_digit is_digit
-digit_is c = refl
-
 -- what a version's number leaves, by its digits and how many were read before them
 abbrev digits_read : (start p : Position) (v k : ℕ) → (a : List ℕ) → Result (Stop Digits) Fault
 digits_read start p v k a =
@@ -59,8 +55,9 @@ digits_read start p v k a =
     else Err (At problem.VersionTooLong start))
 
 digits_run : (start : Position) (a : List ℕ) (p : Position) (v k : ℕ) → k ≤ 9 → run (digit_turn start) a (record { position = p; value = v; length = k }) ≡ digits_read start p v k a
+unfolding classes.is_decimal_digit is_digit
 digits_run start [] p v k few = grind arith
-digits_run start (c ∷ a) p v k few = grind (arith, nat_tests, digit_is, one_further, digits_run start a (past p) (v * 10 + (c - 48)) (k + 1))
+digits_run start (c ∷ a) p v k few = grind (arith, nat_tests, one_further, digits_run start a (past p) (v * 10 + (c - 48)) (k + 1))
 
 -- what the scan of a version's number leaves
 abbrev pub number_read : (start p : Position) → (a : List ℕ) → Result (Read ℕ) Fault

@@ -1,5 +1,5 @@
 -- The numbers of a version, and the handle and the prefix of a declaration, as the model reads them in a line.
-use Rattle.proof_lexers.proofs.Common.{[], after, all_of, and_parts, ap, append_assoc, arith, At, begins_with_mark, both_ways, cases_Bool, decimal_value, eqb-true, Err, false, Fault, further, handle, handle_and_rest, handle_end, if◌then◌else◌, inl, inr, is_empty, is_handle, is_marked_name, is_same, leading, length, length-append, List, name_and_mark, nat_le, ne_eqb, None, number, number_of, Ok, past, Position, Read, refl, Result, slice_index, Some, suc, sym, true, ℕ, ◌++◌, ◌==◌, ◌∙◌, ◌∷◌, ◌≡◌}
+use Rattle.proof_lexers.proofs.Common.{[], after, all_of, and_parts, ap, append_assoc, arith, At, begins_with_mark, both_ways, cases_Bool, decimal_value, eqb-true, Err, false, Fault, further, handle, handle_and_rest, handle_end, if◌then◌else◌, inl, inr, is_empty, is_handle, is_marked_name, is_same, leading, length, length-append, List, name_and_mark, nat_le, ne_eqb, None, number, number_of, Ok, past, Position, Read, refl, Result, slice_index, Some, sym, true, ℕ, ◌++◌, ◌==◌, ◌∙◌, ◌∷◌, ◌≡◌, nat_tests}
 use Rattle.yaml_tokens.specs.declared.problem.Problem.TheVariants as problem
 use Rattle.defs_text.specs.Classes as classes
 use Rattle.proof_lexers.specs.DirectiveEnds.{ends_line}
@@ -67,9 +67,7 @@ module _ (start p : Position) (r n : List ℕ) (ends : ends_line n ≡ true) whe
   -- after a name a second mark stands
   with_mark : (w s : List ℕ) → leading classes.is_alpha r ≡ w → after classes.is_alpha r ≡ 33 ∷ s → r ≡ w ++ 33 ∷ s → all_of classes.is_alpha w ≡ true
       → HandleSees start p (33 ∷ r) n (Ok (record { rest = s ++ n; position = past (further (length w) (past p)); value = (33 ∷ w) ++ 33 ∷ [] }))
-  with_mark w s lead rest cut all =
-      found (rw (lead, rest) (handle_of w all)) (rw (lead, rest) (ap (λ k. 33 ∷ k) (cut ∙ sym (append_assoc w (33 ∷ []) s))))
-      (rw (lead, rest) (ap (λ q. Ok (record { rest = s ++ n; position = q; value = 33 ∷ (w ++ 33 ∷ []) })) (same_place p (suc (length (w ++ 33 ∷ []))) (omega (arith, length-append w (33 ∷ []))) (omega (arith, length-append w (33 ∷ []))))))
+  with_mark w s lead rest cut all = grind (arith, nat_tests, handle_of, append_assoc, same_place, length-append)
 
   -- none stands there
   without_mark : (w s : List ℕ) → leading classes.is_alpha r ≡ w → after classes.is_alpha r ≡ s → r ≡ w ++ s → all_of classes.is_alpha w ≡ true → begins_with_mark s ≡ false

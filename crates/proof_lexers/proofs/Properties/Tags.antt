@@ -161,8 +161,7 @@ module _ (flow : Bool) (start : Position) (text name : List ℕ) (all : all_of c
   local_by m l rest (Ok cs) cut ends not_verbatim unmarked begins lead b e = by (is_empty (name ++ l)) refl
     where
       goes : may_follow flow rest ≡ false → IsTagRefusal flow text problem.TagEnd
-      goes g =
-          local_goes_on cs not_verbatim (ap defs.begins_with_mark ends ∙ unmarked) (ap (λ r. decoded (leading classes.is_tag r)) ends ∙ (ap decoded lead ∙ e)) (ap (λ r. may_follow flow (after classes.is_tag r)) ends ∙ (ap (may_follow flow) b ∙ g))
+      goes g = grind (arith, nat_tests, local_goes_on)
 
       by : (none : Bool) → is_empty (name ++ l) ≡ none → Ends flow start text (tag_end flow start (local (record { rest = after classes.is_tag m; position = further (length (leading classes.is_tag m)) (further (length name) (past start)); value = name ++ cs })))
       by true f =

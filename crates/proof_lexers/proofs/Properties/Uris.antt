@@ -148,10 +148,7 @@ module _ (test class : ℕ → Bool) (start : Position) (same : (c : ℕ) → cl
       by : (o : Option Lead) → and_then (lead_to start (past (past (past p))) t o) (λ s. uri_from test start b s)
           ≡ answer (37 ∷ x ∷ y ∷ b) p t (code_followed (led_by o (37 ∷ x ∷ y ∷ leading class b)) (λ n. decoded_after n (x ∷ y ∷ leading class b)))
       by None = refl
-      by (Some l) =
-          trailing l.further l.bits l.least b (past (past (past p))) t plains
-          ∙ three_more x y b p t _ e f
-          ∙ ap (answer (37 ∷ x ∷ y ∷ b) p t) (sym (grind (arith, nat_tests, after_some)))
+      by (Some l) = grind (arith, nat_tests, trailing, three_more, nat_tests, after_some)
 
   at_percent : (a : List ℕ) (p : Position) (t : List ℕ) → ((k : ℕ) → Plain (drop k a)) → Octets lead a (past p) t → scan (37 ∷ a) p t ≡ answer (37 ∷ a) p t (decoded (37 ∷ leading class a))
   unfolding uri_character escaped_character

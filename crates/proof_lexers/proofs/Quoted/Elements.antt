@@ -40,9 +40,6 @@ too_short n = grind (arith, nat_tests)
 abbrev pub number_after : ℕ → ℕ → List ℕ → Option ℕ
 number_after n value b = (if length (take n b) == n then hexadecimal value (take n b) else None)
 
-none_either : (b : Bool) → ◌≡◌ {A = Option ℕ} (if b then None else None) None
-none_either b = grind arith
-
 module _ (ctx : Context) (start : Position) where
   -- what a scan makes of a code's number
   abbrev pub coded_end : List ℕ → Position → Folded → Option ℕ → Result (Read (List ℕ)) Fault
@@ -53,7 +50,7 @@ module _ (ctx : Context) (start : Position) where
   pub digits_read : (n value : ℕ) (b : List ℕ) (p : Position) (u : Folded) → digits_from false ctx start n value b p u ≡ coded_end (drop n b) (along (take n b) p) u (number_after n value b)
   digits_read zero value b p u = grind (arith, nat_tests, coded, same_code, coded_fails)
   digits_read (suc n) value [] p u = rw (too_short n) refl
-  digits_read (suc n) value (c ∷ b) p u = grind (arith, nat_tests, digit_turn, same_digit, past, both, digit_fails, none_either, digits_read n (value * 16 + digit_value c) b (past p) u)
+  digits_read (suc n) value (c ∷ b) p u = grind (arith, nat_tests, digit_turn, same_digit, past, both, digit_fails, digits_read n (value * 16 + digit_value c) b (past p) u)
 
   counted : (n code : ℕ) (b r : List ℕ) (p : Position) (u : Folded) → (length (take n b) == n) ≡ true → hexadecimal 0 (take n b) ≡ Some code → is_character_code code ≡ true
       → digits_from false ctx start n 0 (b ++ r) p u ≡ scan false ctx start (drop n b ++ r) inside (along (take n b) p) (with_char code u)

@@ -37,13 +37,9 @@ pub data NoElement (single : Bool) (c : ℕ) (b : List ℕ) : Type 0 where
   closing : c ≡ quote_of single → ends_before single b ≡ true → NoElement single c b
   slash : single ≡ false → c ≡ 92 → escape b ≡ None → NoElement single c b
 
-plain_some : (c : ℕ) (b : List ℕ) → plain_element c b ≡ None → ⊥
-unfolding plain_element
-plain_some c b h = grind arith
-
 pub no_element : (single : Bool) (c : ℕ) (b : List ℕ) → (c == 0) ≡ false → element_of single c b ≡ None → NoElement single c b
-unfolding single_quoted_element double_quoted_element classes.is_nul
-no_element single c b nul h = grind (arith, closing, slash, plain_some, eqb-true)
+unfolding single_quoted_element double_quoted_element classes.is_nul plain_element
+no_element single c b nul h = grind (arith, closing, slash, eqb-true)
 
 none_shape : (single : Bool) (c : ℕ) (b : List ℕ) → NoElement single c b → Shape single (c ∷ b)
 none_shape single c b (closing q ends) = closed [] b (ap (λ x. x ∷ b) q) ([], refl) ends
