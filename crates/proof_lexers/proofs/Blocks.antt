@@ -5,9 +5,7 @@ pub mod First
 pub mod Further
 pub mod HeaderFacts
 pub mod Headers
-pub mod InLine
 pub mod Margins
-pub mod Markers
 pub mod Pieces
 pub mod Positions
 pub mod Rows

@@ -1,11 +1,9 @@
 -- Which lines a block scalar's text goes up to, and that the lines after it don't change its content column.
-use Rattle.proof_lexers.proofs.Common.{[], and_parts, ap, append-nil, append_assoc, arith, cases_lt, column_by, column_same, ends_line, false, first_line, inl, inr, is_content_line, is_document_marker, is_empty_line, is_further_text, is_in_line, is_outside, is_some, is_spaces, IsBefore, le-leb, leading_spaces, length, List, list_all, nat_le, None, not, not-false, Option, refl, row_of, suc, sym, true, up_to_break, zero, ℕ, ◌&&◌, ◌++◌, ◌==◌, ◌∙◌, ◌∷◌, ◌≡◌, ◌≤◌, ◌⊎◌}
+use Rattle.proof_lexers.proofs.Common.{[], ap, append-nil, append_assoc, arith, cases_lt, column_by, column_same, ends_line, false, first_line, inl, inr, is_content_line, is_document_marker, is_empty_line, is_further_text, is_in_line, is_outside, is_some, is_spaces, IsBefore, le-leb, leading_spaces, length, List, list_all, nat_le, None, not, not-false, Option, refl, row_of, suc, sym, true, up_to_break, zero, ℕ, ◌&&◌, ◌++◌, ◌==◌, ◌∙◌, ◌∷◌, ◌≡◌, ◌≤◌, ◌⊎◌}
 use Rattle.defs_text.specs.Classes as classes
 use Rattle.proof_lexers.proofs.Bridges.{same_break}
-use Rattle.proof_lexers.proofs.Blocks.InLine.{first_inner}
-use Rattle.proof_lexers.proofs.Blocks.Written.{Line, put, spell, texts, AreLines}
-use Rattle.proof_lexers.proofs.Blocks.Markers.{line_marker}
-use Rattle.proof_lexers.proofs.Blocks.Rows.{break_ends, suc_off}
+use Rattle.proof_lexers.proofs.Blocks.Written.{first_inner, Line, put, spell, texts, AreLines}
+use Rattle.proof_lexers.proofs.Blocks.Rows.{line_marker, break_ends, suc_off}
 use Rattle.proof_row.proofs.Columns.{further}
 
 -- ---- a line that is no row is further text

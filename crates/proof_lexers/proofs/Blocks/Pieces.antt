@@ -4,8 +4,7 @@ use Rattle.defs_text.specs.Classes as classes
 use Rattle.defs_token.specs.BlockPiece.{with_value}
 use Rattle.defs_text.specs.BlockScalar as defs
 use Rattle.proof_lexers.specs.BlockScan.{tabbed}
-use Rattle.proof_lexers.proofs.Blocks.InLine.{first_inner}
-use Rattle.proof_lexers.proofs.Blocks.Written.{Break, Line, put, spell, texts, Fits, AreLines, lined, split_spell}
+use Rattle.proof_lexers.proofs.Blocks.Written.{first_inner, Break, Line, put, spell, texts, Fits, AreLines, lined, split_spell}
 use Rattle.proof_lexers.proofs.Blocks.Margins.{at, after_lines, lines_front}
 use Rattle.proof_lexers.proofs.Blocks.Positions.{spell_more}
 use Rattle.proof_lexers.proofs.Blocks.Rows.{row_is}

@@ -1,12 +1,27 @@
 -- The lines of a block scalar are read row by row.
-use Rattle.proof_lexers.proofs.Common.{[], along, ap, append-nil, append_assoc, arith, at_marker, between, BlockState, Bool, cases_Bool, content_row, drop, empty_row, ends_line, eq-eqb, false, Fault, indent_from, inl, inr, is_blank, is_break, is_content_line, is_document_marker, is_empty_line, is_in_line, is_spaces, le-ltb, leading_spaces, leb-true, length, Lines, lines_from, List, lt-ltb, margin, nat_lt, nat_tests, None, not-true, Ok, Option, past, Position, put_row, Read, refl, Result, Row, row_of, rows_of, Some, suc, sym, true, zero, ℕ, ◌&&◌, ◌++◌, ◌+◌, ◌==◌, ◌∙◌, ◌∷◌, ◌≡◌, ◌≤◌}
+use Rattle.proof_lexers.proofs.Common.{[], along, ap, append-nil, append_assoc, arith, at_marker, between, BlockState, Bool, cases_Bool, content_row, drop, empty_row, ends_line, eq-eqb, false, Fault, indent_from, inl, inr, is_blank, is_break, is_content_line, is_document_marker, is_empty_line, is_in_line, is_spaces, le-ltb, leading_spaces, leb-true, length, Lines, lines_from, List, lt-ltb, margin, nat_lt, nat_tests, None, not-true, Ok, Option, past, Position, put_row, Read, refl, Result, Row, row_of, rows_of, Some, suc, sym, true, zero, ℕ, ◌&&◌, ◌++◌, ◌+◌, ◌==◌, ◌∙◌, ◌∷◌, ◌≡◌, ◌≤◌, or-true}
 use Rattle.defs_text.specs.Classes as classes
 use Rattle.model_scanner.specs.BlockScalar.{line, begins, begun, with_char}
-use Rattle.proof_lexers.proofs.Bridges.{and_false}
-use Rattle.proof_lexers.proofs.Blocks.InLine.{first_inner}
-use Rattle.proof_lexers.proofs.Blocks.Written.{Break, Line, put, spell, texts, Fits, AreLines}
+use Rattle.proof_lexers.proofs.Bridges.{and_false, same_marker}
+use Rattle.proof_lexers.proofs.Blocks.Written.{first_inner, Break, Line, put, spell, texts, Fits, AreLines}
 use Rattle.proof_lexers.proofs.Blocks.Margins.{after_break, after_line, after_lines, at, before, margin_passes, empty_passes, last_passes}
-use Rattle.proof_lexers.proofs.Blocks.Markers.{marker_in_line}
+
+-- ---- a document marker is seen alike in a line and in the text that begins with the line
+
+break_is_none : (c : ℕ) → classes.is_break c ≡ true → ((c == 45) ≡ false) × ((c == 46) ≡ false)
+unfolding classes.is_break
+break_is_none c h = (grind (arith, nat_tests), grind (arith, nat_tests))
+
+break_is_gap : (c : ℕ) → classes.is_break c ≡ true → classes.is_blank_or_end c ≡ true
+unfolding classes.is_blank_or_end
+break_is_gap c h = rw (h, or-true (classes.is_blank c)) refl
+
+pub line_marker : (w r : List ℕ) → ends_line r ≡ true → is_document_marker (w ++ r) ≡ is_document_marker w
+unfolding classes.are_marks
+line_marker a r h = grind (arith, break_is_none, and_false, break_is_gap)
+
+pub marker_in_line : (col : ℕ) (w r : List ℕ) → ends_line r ≡ true → at_marker col (w ++ r) ≡ ((col == 0) && is_document_marker w)
+marker_in_line col w r h = same_marker col (w ++ r) ∙ rw (line_marker w r h) refl
 
 -- ---- what is known after rows
 

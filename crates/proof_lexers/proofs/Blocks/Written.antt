@@ -1,8 +1,11 @@
 -- Each text is lines, each with its break as written, and a last line without one.
-use Rattle.proof_lexers.proofs.Common.{[], and-false, and_parts, ap, cases_Bool, eqb-true, false, inl, inr, is_break, is_in_line, List, or_cases, refl, slice_index, Split, split, true, with_empty_line, ℕ, ◌&&◌, ◌++◌, ◌==◌, ◌∙◌, ◌∷◌, ◌≡◌, arith, nat_tests}
+use Rattle.proof_lexers.proofs.Common.{[], and-false, and_parts, ap, cases_Bool, eqb-true, false, inl, inr, is_break, is_in_line, List, or_cases, refl, slice_index, Split, split, true, with_empty_line, ℕ, ◌&&◌, ◌++◌, ◌==◌, ◌∙◌, ◌∷◌, ◌≡◌, arith, nat_tests, not, not-true}
 use Rattle.defs_text.specs.Classes as classes
 use Rattle.proof_lexers.proofs.Bridges.{same_break}
-use Rattle.proof_lexers.proofs.Blocks.InLine.{first_inner}
+
+-- the first character of a line, and the others
+pub first_inner : (c : ℕ) (w : List ℕ) → is_in_line (c ∷ w) ≡ true → (is_break c ≡ false) × (is_in_line w ≡ true)
+first_inner c w h = let q = and_parts (not (classes.is_break c)) (is_in_line w) h in (rw (← same_break c) (not-true _ q.0), q.1)
 
 -- a break as written: LF, CR, or CR LF
 pub data Break : Type 0 where
