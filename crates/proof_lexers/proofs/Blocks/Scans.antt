@@ -11,10 +11,8 @@ use Rattle.proof_lexers.proofs.Blocks.Margins.{after_break, after_lines, at, bef
 use Rattle.proof_lexers.proofs.Blocks.First.{content_is}
 use Rattle.proof_lexers.proofs.Blocks.Positions.{spell_more, after_chars, after_put, after_spell, first_header, header_alone, stopped_at, first_is}
 use Rattle.proof_lexers.proofs.Blocks.Rows.{after_rows, front, written, rows_go, last_empty, last_content, break_ends, IsRow, no_content, is_content, starts}
-use Rattle.proof_lexers.proofs.Blocks.Further.{Outside, further_stops}
-use Rattle.proof_lexers.proofs.Blocks.Values.{after_empty, content_value, empty_value, end_value, last_value}
-use Rattle.proof_lexers.proofs.Blocks.HeaderFacts.{header_reads, header_tabs, linebreak_put}
-use Rattle.proof_lexers.proofs.Blocks.Walks.{found_in, all_empty, are_full}
+use Rattle.proof_lexers.proofs.Blocks.Values.{Outside, further_stops, after_empty, content_value, empty_value, end_value, last_value, found_in, all_empty, are_full}
+use Rattle.proof_lexers.proofs.Blocks.Headers.{header_reads, header_tabs, linebreak_put}
 
 second_false : (a b c : Bool) → (((a && false) && b) && c) ≡ false
 second_false d b c = grind arith

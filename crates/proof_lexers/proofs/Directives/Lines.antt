@@ -10,8 +10,7 @@ use Rattle.proof_lexers.specs.DirectiveEnds.{ends_line, after_line, no_mark, goe
 use Rattle.proof_lexers.proofs.Separation.Positions.{position_append, position_in_line}
 use Rattle.proof_lexers.proofs.Properties.Uris.{uris_are_read}
 use Rattle.proof_lexers.proofs.RestOfLine.{first_line, in_line, line_skipped}
-use Rattle.proof_lexers.proofs.Directives.Parts.{none_at_end, no_break_after, ended, comment, text, line_ends, spells_name, kind_is, gap_is}
-use Rattle.proof_lexers.proofs.Directives.Values.{missing, long, found, number_sees, not_at_end, handle_sees}
+use Rattle.proof_lexers.proofs.Directives.Values.{none_at_end, no_break_after, ended, comment, text, line_ends, spells_name, kind_is, gap_is, missing, long, found, number_sees, not_at_end, handle_sees}
 use Rattle.proof_lexers.proofs.Directives.Values as values
 use Rattle.proof_lexers.proofs.Classes.{same_place, before_end, skipped, span_cut}
 
