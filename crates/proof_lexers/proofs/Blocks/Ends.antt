@@ -1,5 +1,5 @@
 -- Each piece that is a block scalar is read as it, and each scan of one ends as its text says.
-use Rattle.proof_lexers.proofs.Common.{[], ap, append-nil, arith, begins_with, block, block_read, BlockRead, BlockScansEndAsTheirTextSays, BlockStyle, body, collection_of, column_by, ends_line, EndsAs, false, first_line, further_text, header, header_of, indicator_of, inl, inr, is_at_end, is_further_text, is_in_line, is_literal_style, is_some, IsHeaderRead, IsHeaderRefusal, IsRead, leading_spaces, linebreak, List, list_all, None, Option, past, Position, Read, read_body, read_lines, read_split, reads, refl, refuses, Row, rows_of, Some, starts_with_tab, subst, sym, tab, true, unbroken, value_before_end, value_before_text, whole_header, ℕ, ◌++◌, ◌==◌, ◌∙◌, ◌∷◌, ◌≡◌, and_parts, BlockPiecesAreRead, Body, Bool, digit_by, digit_or_zero, further_is_no_break, indent_from, input_ends, is_single, is_tabbed, not, not-true, row_of, slice_index, Split, split, ◌&&◌, if◌then◌else◌, nat_tests}
+use Rattle.proof_lexers.proofs.Common.{[], ap, append-nil, arith, begins_with, block, block_read, BlockRead, BlockScansEndAsTheirTextSays, BlockStyle, body, collection_of, column_by, ends_line, EndsAs, false, first_line, further_text, header, header_of, indicator_of, is_at_end, is_further_text, is_in_line, is_literal_style, is_some, IsHeaderRead, IsHeaderRefusal, IsRead, leading_spaces, linebreak, List, list_all, None, Option, past, Position, Read, read_body, read_lines, read_split, reads, refl, refuses, Row, rows_of, Some, starts_with_tab, subst, sym, tab, true, unbroken, value_before_end, value_before_text, whole_header, ℕ, ◌++◌, ◌==◌, ◌∙◌, ◌∷◌, ◌≡◌, and_parts, BlockPiecesAreRead, Body, Bool, digit_by, digit_or_zero, further_is_no_break, indent_from, input_ends, is_single, is_tabbed, not, not-true, row_of, slice_index, Split, split, ◌&&◌, if◌then◌else◌, nat_tests}
 use Rattle.defs_text.specs.BlockScalar as defs
 use Rattle.proof_lexers.specs.BlockEnds.{IsBlockPiece, IsBlockRead, IsBlockRefusal, whole_block, after_piece, bad_header}
 use Rattle.proof_lexers.proofs.Ends.{ends_also}
@@ -36,19 +36,16 @@ no_feed column r h = grind (arith, nat_tests, further_is_no_break)
 pub fits_alone : (k : Break) → Fits k []
 fits_alone a = grind arith
 
-fits_same : (k : Break) (a b : List ℕ) → (slice_index a 0 == 10) ≡ (slice_index b 0 == 10) → Fits k a → Fits k b
-fits_same d a b e h = grind (arith, nat_tests)
-
 fits_next : (k : Break) (next : List ℕ) → (slice_index next 0 == 10) ≡ false → Fits k next
-fits_next k next h = fits_same k [] next (sym h) (fits_alone k)
+fits_next k next h = grind arith
 
-same_first : (w : List ℕ) (m : Break) (a b : List ℕ) → (slice_index (w ++ put m a) 0 == 10) ≡ (slice_index (w ++ put m b) 0 == 10)
-same_first [] m a b = grind arith
-same_first (c ∷ w) m a b = refl
+fits_line : (k m : Break) (w a b : List ℕ) → Fits k (w ++ put m a) → Fits k (w ++ put m b)
+fits_line k m [] a b h = grind (arith, nat_tests)
+fits_line k m (c ∷ w) a b h = grind arith
 
 pub fits_before : (k : Break) (ls : List Line) (a b : List ℕ) → Fits k b → Fits k (spell ls a) → Fits k (spell ls b)
 fits_before k [] a b fits h = fits
-fits_before k (l ∷ ls) a b fits h = fits_same k _ _ (same_first l.text l.by (spell ls a) (spell ls b)) h
+fits_before k (l ∷ ls) a b fits h = fits_line k l.by l.text (spell ls a) (spell ls b) h
 
 pub are_before : (ls : List Line) (a b : List ℕ) → ((k : Break) → Fits k b) → AreLines ls a → AreLines ls b
 are_before [] a b fits are = tt
@@ -225,8 +222,8 @@ part_column None indent ls ns e are inner further =
     let z = first_before (column_by None (collection_of indent) (texts (ls ++ ns) ++ e ∷ [])) ns e are inner further in
     let least = least_is (leading_spaces w) in
     let same = same_column None (collection_of (leading_spaces w)) ls ns e z.written (omega (arith, least)) in
-    let start = z.start in
-    elim (first_left (column_by None (collection_of indent) (texts (ls ++ ns) ++ e ∷ [])) w z) [ inl h ↦ omega (arith, least, same, h) | inr h ↦ omega (arith, least, same, h, start) ]
+    let left = first_left (column_by None (collection_of indent) (texts (ls ++ ns) ++ e ∷ [])) w z in
+    omega (arith, least, same, left)
 
 -- ---- the two ends
 
