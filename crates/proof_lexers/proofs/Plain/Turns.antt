@@ -167,24 +167,22 @@ module _ (ctx : Context) (start : Position) where
   pub outcome : (c : ℕ) (a : List ℕ) (s : Stand) (p : Position) (t : Folded) → is_white c ≡ false → (c == 0) ≡ false → ends_at_comment s (c ∷ a) ≡ (c == 35)
       → ends_at_line ctx.flow (collection_of ctx.indent) s (c ∷ a) ≡ (at_marker p.col (c ∷ a) || is_shallow ctx p.col) → Outcome c a s p t (scan (c ∷ a) between p t)
   unfolding goes_on at_plain classes.is_blank_or_end classes.is_nul
-  outcome c a s p t white nul comment line =
-      let solid : (is_break c || is_blank c) ≡ false = let q = or_parts (classes.is_blank c) (classes.is_break c) white in rw (← same_break c, ← same_blank c, q.0, q.1) refl in
-      elim (cases_Bool (is_shallow ctx p.col)) [
-        | inl e ↦ stopped (ends_line c a s (line ∙ rw e (or_true (at_marker p.col (c ∷ a))))) (rw (solid, e) refl)
-        | inr e ↦ elim (cases_Bool (c == 35)) [
-          | inl f ↦ stopped (ends_comment c a s (comment ∙ f)) (rw (solid, e, f) refl)
-          | inr f ↦ elim (cases_Bool (at_marker p.col (c ∷ a))) [
-            | inl g ↦ stopped (ends_line c a s (line ∙ rw g refl)) (rw (solid, e, f, g) refl)
-            | inr g ↦ elim (cases_Bool (at_dash ctx.flow (c ∷ a))) [
-              | inl h ↦ let q = dash_parts ctx.flow c a h in dashed q.0 q.1 q.2 (rw (solid, e, f, g, h) refl)
-              | inr h ↦
-                  let plain : at_plain ctx.flow (c ∷ a) ≡ not (ends_at_colon ctx.flow (c ∷ a) || (ctx.flow && classes.is_flow c)) = let q = or_parts (classes.is_blank c) (classes.is_break c) white in
-                  rw (← same_gap c, q.0, q.1, nul, can_be ctx.flow c a) refl in
-                  elim (cases_Bool (ends_at_colon ctx.flow (c ∷ a) || (ctx.flow && classes.is_flow c))) [
-                    | inl k ↦ stopped (ends_over c a s true nul (comment ∙ f) (line ∙ rw (e, g) refl) k) (rw (solid, e, f, g, h, plain ∙ ap not k) refl)
-                    | inr k ↦ went (ends_over c a s false nul (comment ∙ f) (line ∙ rw (e, g) refl) k) e (rw (solid, e, f, g, h, plain ∙ ap not k) refl)
-                  ]
-            ]
-          ]
-        ]
-      ]
+  outcome c a s p t white nul comment line = by _ _ _ _ _ refl refl refl refl refl
+    where
+      q : (classes.is_blank c ≡ false) × (classes.is_break c ≡ false)
+      q = or_parts (classes.is_blank c) (classes.is_break c) white
+
+      solid : (is_break c || is_blank c) ≡ false
+      solid = rw (← same_break c, ← same_blank c, q.0, q.1) refl
+
+      plain : at_plain ctx.flow (c ∷ a) ≡ not (ends_at_colon ctx.flow (c ∷ a) || (ctx.flow && classes.is_flow c))
+      plain = rw (← same_gap c, q.0, q.1, nul, can_be ctx.flow c a) refl
+
+      by : (shallow hash marker dash ends : Bool) → is_shallow ctx p.col ≡ shallow → (c == 35) ≡ hash → at_marker p.col (c ∷ a) ≡ marker → at_dash ctx.flow (c ∷ a) ≡ dash
+          → (ends_at_colon ctx.flow (c ∷ a) || (ctx.flow && classes.is_flow c)) ≡ ends → Outcome c a s p t (scan (c ∷ a) between p t)
+      by true hash marker dash ends e f g h k = stopped (ends_line c a s (line ∙ rw e (or_true (at_marker p.col (c ∷ a))))) (rw (solid, e) refl)
+      by false true marker dash ends e f g h k = stopped (ends_comment c a s (comment ∙ f)) (rw (solid, e, f) refl)
+      by false false true dash ends e f g h k = stopped (ends_line c a s (line ∙ rw g refl)) (rw (solid, e, f, g) refl)
+      by false false false true ends e f g h k = let q = dash_parts ctx.flow c a h in dashed q.0 q.1 q.2 (rw (solid, e, f, g, h) refl)
+      by false false false false true e f g h k = stopped (ends_over c a s true nul (comment ∙ f) (line ∙ rw (e, g) refl) k) (rw (solid, e, f, g, h, plain ∙ ap not k) refl)
+      by false false false false false e f g h k = went (ends_over c a s false nul (comment ∙ f) (line ∙ rw (e, g) refl) k) e (rw (solid, e, f, g, h, plain ∙ ap not k) refl)
