@@ -29,8 +29,7 @@ none_trailing (b ∷ []) c l = refl
 none_trailing (b ∷ d ∷ g) c l = rw (none_trailing (d ∷ g) c l) refl
 
 kept : (escaped : Bool) (g : List ℕ) (c : ℕ) (l : List Element) → text_of (before_break escaped (blanks g (content c ∷ l))) ≡ g ++ c ∷ text_of (before_break escaped l)
-kept true g c l = text_after g (content c ∷ l)
-kept false g c l = rw (none_trailing g c l) (text_after g _)
+kept escaped g c l = grind (arith, text_after, none_trailing)
 
 -- ---- the text of the lines left
 

@@ -68,8 +68,7 @@ record Blank (c : ℕ) (a : List ℕ) (s : Spaces) : Type 0 where
   is : space_from Yes (c ∷ a) s ≡ space_from Yes a next
 
 at_end : (n : List ℕ) (s : Spaces) → ends_line n ≡ true → space_from Yes n s ≡ Ok (record { rest = n; position = further 0 s.position; value = s.found })
-at_end [] s k = ap (λ q. Ok (record { rest = []; position = q; value = s.found })) (sym (none_further s.position))
-at_end (c ∷ n) s k = let q = break_is_none c (sym (same_break c) ∙ k) in rw (q.0, q.1, q.2) (ap (λ z. Ok (record { rest = c ∷ n; position = z; value = s.found })) (sym (none_further s.position)))
+at_end n s h = grind (arith, none_further, break_is_none, same_break)
 
 -- ---- a line
 

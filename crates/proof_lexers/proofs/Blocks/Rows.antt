@@ -112,8 +112,7 @@ module _ (literal : Bool) (column : ℕ) where
       rw (here, none k same is, at_column) refl
     where
       none : (k : ℕ) → k ≡ column → drop k w ≡ char ∷ rest → ((p.col == 0) && is_document_marker (char ∷ rest)) ≡ false
-      none zero same is = rw col (ap (λ (x : List ℕ). (column == 0) && is_document_marker x) (sym is) ∙ free)
-      none (suc n) same is = rw (col, ← same, suc_off n) refl
+      none k h e = grind (arith, suc_off)
 
   -- after a content line's characters
   abbrev pub written : Row → Lines → Lines

@@ -92,15 +92,11 @@ split_line (c ∷ w) a ls r h e = grind (arith, first_inner, same_break, split_l
 
 split_feed : (a : List ℕ) → split (10 ∷ a) ≡ with_empty_line (split a)
 unfolding classes.is_break
-split_feed [] = refl
-split_feed (c ∷ a) = refl
+split_feed a = grind arith
 
 split_break : (b : Break) (a : List ℕ) → Fits b a → split (put b a) ≡ with_empty_line (split a)
 unfolding classes.is_break
-split_break feed a fits = split_feed a
-split_break carriage [] fits = refl
-split_break carriage (c ∷ a) fits = rw fits refl
-split_break both a fits = split_feed a
+split_break b a h = grind (arith, split_feed)
 
 pub split_spell : (ls : List Line) (r : List ℕ) → AreLines ls r → is_in_line r ≡ true → split (spell ls r) ≡ of_lines (texts ls) r
 split_spell [] r are h = split_last r h

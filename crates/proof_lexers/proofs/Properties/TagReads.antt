@@ -41,8 +41,7 @@ module _ (flow : Bool) (rest : List ℕ) (g : defs.Tag) (p : Position) (follows 
   none_after [] k h e z = at_end rest e
     where
       at_end : (r : List ℕ) → begins_in (λ c. c == k) r ≡ false → (slice_index r 0 == k) ≡ false
-      at_end [] e = z
-      at_end (c ∷ r) e = e
+      at_end r h = grind arith
 
   suffix_of : (q : Position) (l before cs : List ℕ) → all_of classes.is_tag l ≡ true → decoded l ≡ Ok cs → uri is_tag p (l ++ rest) q before ≡ Ok (record { rest = rest; position = further (length l) q; value = before ++ cs })
   unfolding classes.is_tag classes.is_uri classes.is_decimal_digit classes.is_letter classes.is_flow

@@ -52,8 +52,7 @@ module _ (test class : ℕ → Bool) (start : Position) (same : (c : ℕ) → cl
   more c a p t b e = grind arith
 
   with_code : (c : ℕ) (a : List ℕ) (p : Position) (t : List ℕ) (d : Result (List ℕ) UriFault) → answer a p (t ++ c ∷ []) d ≡ answer a p t (put_code c d)
-  with_code c a p t (Ok cs) = rw (append_assoc) refl
-  with_code c a p t (Err f) = refl
+  with_code c a p t d = grind (arith, append_assoc)
 
   -- After a percent sign two digits are an octet, or the text is refused.
   data Octets (o : Octet) (a : List ℕ) (p : Position) (t : List ℕ) : Type 0 where
@@ -147,8 +146,7 @@ module _ (test class : ℕ → Bool) (start : Position) (same : (c : ℕ) → cl
     where
       by : (o : Option Lead) → and_then (lead_to start (past (past (past p))) t o) (λ s. uri_from test start b s)
           ≡ answer (37 ∷ x ∷ y ∷ b) p t (code_followed (led_by o (37 ∷ x ∷ y ∷ leading class b)) (λ n. decoded_after n (x ∷ y ∷ leading class b)))
-      by None = refl
-      by (Some l) = grind (arith, nat_tests, trailing, three_more, nat_tests, after_some)
+      by o = grind (arith, trailing, three_more, after_some)
 
   at_percent : (a : List ℕ) (p : Position) (t : List ℕ) → ((k : ℕ) → Plain (drop k a)) → Octets lead a (past p) t → scan (37 ∷ a) p t ≡ answer (37 ∷ a) p t (decoded (37 ∷ leading class a))
   unfolding uri_character escaped_character

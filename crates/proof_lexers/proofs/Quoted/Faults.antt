@@ -1,5 +1,5 @@
 -- Escapes that are none are refused.
-use Rattle.proof_lexers.proofs.Common.{[], At, cases_Bool, content, Context, digits_from, Err, escape, escape_by, escapes, false, Folded, inl, inr, inside, is_blank, is_break, is_character_code, IsBadEscape, length, List, lookup, named_code, named_unknown, no_digit, None, number_at, numbered, numeric_escape, numeric_escapes, Option, past, Position, Problem, refl, Some, suc, take, ℕ, ◌==◌, ◌∙◌, ◌∷◌, ◌≡◌, arith, nat_tests}
+use Rattle.proof_lexers.proofs.Common.{At, cases_Bool, content, Context, digits_from, Err, escape, escape_by, escapes, false, Folded, inl, inr, inside, is_blank, is_break, is_character_code, IsBadEscape, length, List, lookup, named_code, named_unknown, no_digit, None, number_at, numbered, numeric_escape, numeric_escapes, Option, past, Position, Problem, refl, Some, suc, take, ℕ, ◌==◌, ◌∙◌, ◌∷◌, ◌≡◌, arith, nat_tests}
 use Rattle.yaml_tokens.specs.declared.problem.Problem.TheVariants as problem
 use Rattle.defs_text.specs.Classes as classes
 use Rattle.proof_lexers.specs.QuotedEnds.{ends, unknown, no_character}
@@ -36,5 +36,4 @@ module _ (ctx : Context) (start : Position) where
 
   pub escape_fails : (b : List ℕ) (p : Position) (u : Folded) → escape b ≡ None → Fails b p u
   unfolding escape is_break is_blank
-  escape_fails [] p u h = record { why = problem.UnknownEscape; bad = ends; is = refl }
-  escape_fails (d ∷ b) p u h = grind (arith, nat_tests, cases_Bool, rows_fail, same_break)
+  escape_fails b p u h = grind (arith, ends, rows_fail, same_break)

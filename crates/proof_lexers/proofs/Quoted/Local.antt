@@ -37,8 +37,7 @@ by_rows d b None (Some n) e f g = elim (cases_Bool (length (take n b) == n)) [ i
 
 escape_local : (b : List ℕ) → LocalOf escape b (escape b)
 unfolding escape
-escape_local [] = tt
-escape_local (d ∷ b) = elim (cases_Bool (classes.is_break d)) [ inl e ↦ rw e (escape_broken d b e) | inr e ↦ rw e (by_rows d b (lookup d escapes) (lookup d numeric_escapes) e refl refl) ]
+escape_local b = grind (arith, escape_broken, by_rows)
 
 -- ---- either
 

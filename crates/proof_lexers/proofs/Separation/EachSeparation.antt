@@ -1,5 +1,5 @@
 -- Each separation is passed whole.
-use Rattle.proof_lexers.proofs.Common.{[], after_separation, and_parts, ap, begins_separation, EachSeparationIsPassed, false, has_no_nul, HasPassed, is_blank_or_end, is_nul, IsAfter, List, not, not-true, or_parts, refl, ScannerState, sym, true, ℕ, ◌++◌, ◌∙◌, ◌∷◌, ◌≡◌, arith}
+use Rattle.proof_lexers.proofs.Common.{[], after_separation, and_parts, ap, begins_separation, EachSeparationIsPassed, false, has_no_nul, HasPassed, is_blank_or_end, is_nul, IsAfter, List, not, ScannerState, sym, true, ℕ, ◌++◌, ◌∙◌, ◌∷◌, ◌≡◌, arith}
 use Rattle.proof_lexers.proofs.Ends.{ends_also}
 use Rattle.proof_lexers.proofs.Separation.Separations.{separations_are_passed}
 use Rattle.proof_row.specs.Ends.{ends_separation}
@@ -7,8 +7,7 @@ use Rattle.proof_row.proofs.Separations.{separations}
 
 ends_here : (r : List ℕ) → has_no_nul r ≡ true → begins_separation r ≡ false → ends_separation r ≡ true
 unfolding is_blank_or_end
-ends_here [] n h = refl
-ends_here (c ∷ r) n h = grind (arith, or_parts, and_parts, not-true)
+ends_here r h e = grind arith
 
 pub no_nul_after : (a b : List ℕ) → has_no_nul (a ++ b) ≡ true → has_no_nul b ≡ true
 no_nul_after [] b h = h
