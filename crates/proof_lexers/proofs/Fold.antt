@@ -28,9 +28,6 @@ none_trailing [] c l = refl
 none_trailing (b ∷ []) c l = refl
 none_trailing (b ∷ d ∷ g) c l = rw (none_trailing (d ∷ g) c l) refl
 
-kept : (escaped : Bool) (g : List ℕ) (c : ℕ) (l : List Element) → text_of (before_break escaped (blanks g (content c ∷ l))) ≡ g ++ c ∷ text_of (before_break escaped l)
-kept escaped g c l = grind (arith, text_after, none_trailing)
-
 -- ---- the text of the lines left
 
 -- within a line, after its trailing blanks
@@ -49,7 +46,7 @@ abbrev joined_text : List Element → Folded → List ℕ
 joined_text es t = (joined (after_elements es t)).text
 
 content_line : (g : List ℕ) (c : ℕ) (ls : Lines) → line_text g (begun_with (content c) ls) ≡ g ++ c ∷ line_text [] ls
-content_line g c ls = grind (arith, text_after, kept, append_assoc)
+content_line g c ls = grind (arith, text_after, none_trailing, append_assoc)
 
 blank_line : (g : List ℕ) (c : ℕ) (ls : Lines) → line_text (g ++ c ∷ []) ls ≡ line_text g (begun_with (blank c) ls)
 blank_line g c ls = grind (arith, one_more)

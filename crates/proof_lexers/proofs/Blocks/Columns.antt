@@ -31,11 +31,8 @@ no_row : (column : ℕ) (w : List ℕ) → row_of column w ≡ None → NoRow co
 unfolding row_of is_empty_line is_content_line
 no_row column w h = grind arith
 
-false_true : false ≡ true → ⊥
-false_true e = cc
-
 none_marked : (w y : List ℕ) → NoRow 0 w → ends_line y ≡ true → is_further_text 0 (w ++ y) ≡ true
-none_marked a y z b = grind (arith, false_true, le-leb, line_marker, not-false)
+none_marked a y z b = grind (arith, le-leb, line_marker, not-false)
 
 pub none_further : (column : ℕ) (w y : List ℕ) → row_of column w ≡ None → is_in_line w ≡ true → list_all is_some w ≡ true → ends_line y ≡ true → is_further_text column (w ++ y) ≡ true
 none_further zero w y h inner some ends = none_marked w y (no_row 0 w h) ends

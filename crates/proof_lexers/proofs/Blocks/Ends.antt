@@ -62,32 +62,25 @@ whole_column digit indent ls ns e column are inner same further =
 -- ---- before further text
 
 module _ (indent : ℕ) (p : Position) (next : List ℕ) where
-  -- what a piece before further text is
-  data Before (h : defs.Header) (ls : List Line) (b : BlockRead) : Type 0 where
-    is_before : (rows : List Row) → starts_with_tab (texts ls) ≡ false → rows_of (column_by h.digit (collection_of indent) (texts ls)) (texts ls) ≡ Some rows → is_further_text (column_by h.digit (collection_of indent) (texts ls)) next ≡ true
-        → record { style = h.style; column = column_by h.digit (collection_of indent) (texts ls); text = value_before_text h rows } ≡ b → Before h ls b
+  -- what a piece before further text is, by its column
+  record Before (h : defs.Header) (column : ℕ) (ls : List (List ℕ)) (b : BlockRead) : Type 0 where
+    rows : List Row
+    are_rows : rows_of column ls ≡ Some rows
+    tabless : starts_with_tab ls ≡ false
+    further : is_further_text column next ≡ true
+    value : record { style = h.style; column = column; text = value_before_text h rows } ≡ b
 
-  before : (h : defs.Header) (ls : List Line) (b : BlockRead) → is_at_end next ≡ false → read_body (Some h) (collection_of indent) (body (texts ls) further_text) next ≡ Some b → Before h ls b
-  before h ls b some e = by _ _ _ refl refl refl (rw some at e)
-    where
-      K : ℕ
-      K = column_by h.digit (collection_of indent) (texts ls)
-
-      by : (f t : Bool) (o : Option (List Row)) → is_further_text K next ≡ f → starts_with_tab (texts ls) ≡ t → rows_of K (texts ls) ≡ o → (if f then with_value h K (if t then None else value_at_text h o) else None) ≡ Some b → Before h ls b
-      by false t o x y z e = cc
-      by true true o x y z e = cc
-      by true false None x y z e = cc
-      by true false (Some rs) x y z e = is_before rs y z x cc
+  before : (h : defs.Header) (column : ℕ) (ls : List (List ℕ)) (b : BlockRead)
+      → (if is_further_text column next then with_value h column (if starts_with_tab ls then None else value_at_text h (rows_of column ls)) else None) ≡ Some b → Before h column ls b
+  before h column ls b e = grind arith
 
   module _ (h : defs.Header) (line : List ℕ) (k : Break) (ls : List Line) (b : BlockRead) (is : header_of (indicator_of h.style ∷ line) ≡ Some h) (digit : digit_by (digit_or_zero h.digit) ≡ h.digit) (inner : is_in_line line ≡ true)
-      (fits : Fits k (spell ls [])) (are : AreLines ls []) (not_end : is_at_end next ≡ false)
-      (rows : List Row) (tabless : starts_with_tab (texts ls) ≡ false) (are_rows : rows_of (column_by h.digit (collection_of indent) (texts ls)) (texts ls) ≡ Some rows) (further : is_further_text (column_by h.digit (collection_of indent) (texts ls)) next ≡ true)
-      (value : record { style = h.style; column = column_by h.digit (collection_of indent) (texts ls); text = value_before_text h rows } ≡ b) where
+      (fits : Fits k (spell ls [])) (are : AreLines ls []) (not_end : is_at_end next ≡ false) (z : Before h (column_by h.digit (collection_of indent) (texts ls)) (texts ls) b) where
     abbrev column_here : ℕ
     column_here = column_by h.digit (collection_of indent) (texts ls)
 
     free : (slice_index next 0 == 10) ≡ false
-    free = no_feed column_here next further
+    free = no_feed column_here next z.further
 
     tabbed_is : (ls : List Line) → Fits k (spell ls []) → AreLines ls [] → starts_with_tab (texts ls) ≡ false → is_tabbed (indicator_of h.style ∷ (line ++ put k (spell ls []))) next ≡ begins_with tab (spell ls next)
     tabbed_is ls fits are free =
@@ -97,54 +90,49 @@ module _ (indent : ℕ) (p : Position) (next : List ℕ) where
         read_of_lines [] free = refl
         read_of_lines (l ∷ ls) free = sym free ∙ sym (tab_line l.text (spell ls next) l.by (texts ls))
 
-    text_here : (t : Bool) → begins_with tab (spell ls next) ≡ t → IsRead indent p (record { style = h.style; column = column_here; text = value_before_text h rows }) (indicator_of h.style ∷ (line ++ put k (spell ls []))) next (block (is_literal_style h.style) indent (indicator_of h.style ∷ (line ++ put k (spell ls next))) p)
-    text_here true e = refuses _ (tabbed (tabbed_is ls fits are tabless ∙ e)) (tab_fails h line k indent p is digit inner (spell ls next) (fits_before k ls [] next (fits_next k next free) fits) e)
+    text_here : (t : Bool) → begins_with tab (spell ls next) ≡ t → IsRead indent p (record { style = h.style; column = column_here; text = value_before_text h z.rows }) (indicator_of h.style ∷ (line ++ put k (spell ls []))) next (block (is_literal_style h.style) indent (indicator_of h.style ∷ (line ++ put k (spell ls next))) p)
+    text_here true e = refuses _ (tabbed (tabbed_is ls fits are z.tabless ∙ e)) (tab_fails h line k indent p is digit inner (spell ls next) (fits_before k ls [] next (fits_next k next free) fits) e)
     text_here false e =
         let y = lined next in
         let same : spell (ls ++ y.lines) y.last ≡ spell ls next = spell_append ls y.lines y.last ∙ ap (spell ls) (sym y.is) in
         let fits_there : Fits k (spell ls next) = fits_before k ls [] next (fits_next k next free) fits in
         let are_next : AreLines ls next = are_before ls [] next (λ k. fits_next k next free) are in
         let are_first : AreLines ls (spell y.lines y.last) = subst (AreLines ls) y.is are_next in
-        let here : is_further_text column_here (spell y.lines y.last) ≡ true = ap (is_further_text column_here) (sym y.is) ∙ further in
+        let here : is_further_text column_here (spell y.lines y.last) ≡ true = ap (is_further_text column_here) (sym y.is) ∙ z.further in
         let found : block (is_literal_style h.style) indent (indicator_of h.style ∷ (line ++ put k (spell ls next))) p ≡ _ =
         ap (λ a. block (is_literal_style h.style) indent (indicator_of h.style ∷ (line ++ put k a)) p) (sym same)
         ∙ block_is h line k indent p is digit inner (ls ++ y.lines) y.last column_here (whole_column h.digit indent ls y.lines y.last column_here y.are y.inner refl here) (are_append ls y.lines y.last are_first y.are) y.inner (rw same fits_there) (rw same e)
         ∙ ap (λ a. after h line k indent p is digit inner (indent_from column_here a (at (start h line k indent p is digit inner) []))) same in
-        before_further h line k indent p is digit inner column_here ls next rows are_next fits_there are fits are_rows not_end (tabbed_is ls fits are tabless ∙ e) found
-        (further_outside column_here next (after_lines ls (start h line k indent p is digit inner)) (lines_front ls (start h line k indent p is digit inner) refl) further)
+        before_further h line k indent p is digit inner column_here ls next z.rows are_next fits_there are fits z.are_rows not_end (tabbed_is ls fits are z.tabless ∙ e) found
+        (further_outside column_here next (after_lines ls (start h line k indent p is digit inner)) (lines_front ls (start h line k indent p is digit inner) refl) z.further)
 
     further_read : IsRead indent p b (indicator_of h.style ∷ (line ++ put k (spell ls []))) next (block (is_literal_style b.style) indent ((indicator_of h.style ∷ (line ++ put k (spell ls []))) ++ next) p)
     further_read =
         let cut : (indicator_of h.style ∷ (line ++ put k (spell ls []))) ++ next ≡ indicator_of h.style ∷ (line ++ put k (spell ls next)) = spell_more (record { text = indicator_of h.style ∷ line; by = k } ∷ ls) [] next in
-        rw (cut, ← value) (text_here (begins_with tab (spell ls next)) refl)
+        rw (cut, ← z.value) (text_here (begins_with tab (spell ls next)) refl)
 
 -- ---- at the end of the text
 
 module _ (indent : ℕ) (p : Position) where
-  data AtEnd (h : defs.Header) (ls : List Line) (last : List ℕ) (b : BlockRead) : Type 0 where
-    is_at_end_of : (rows : List Row) (row : Row) → starts_with_tab (texts ls ++ last ∷ []) ≡ false → rows_of (column_by h.digit (collection_of indent) (texts ls ++ last ∷ [])) (texts ls) ≡ Some rows
-        → row_of (column_by h.digit (collection_of indent) (texts ls ++ last ∷ [])) last ≡ Some row
-        → record { style = h.style; column = column_by h.digit (collection_of indent) (texts ls ++ last ∷ []); text = value_before_end h (column_by h.digit (collection_of indent) (texts ls ++ last ∷ [])) rows last row } ≡ b → AtEnd h ls last b
+  record AtEnd (h : defs.Header) (column : ℕ) (ls : List (List ℕ)) (last : List ℕ) (b : BlockRead) : Type 0 where
+    rows : List Row
+    are_rows : rows_of column ls ≡ Some rows
+    row : Row
+    is_row : row_of column last ≡ Some row
+    tabless : starts_with_tab (ls ++ last ∷ []) ≡ false
+    value : record { style = h.style; column = column; text = value_before_end h column rows last row } ≡ b
 
-  at_the_end : (h : defs.Header) (ls : List Line) (last : List ℕ) (b : BlockRead) → read_body (Some h) (collection_of indent) (body (texts ls) (unbroken last)) [] ≡ Some b → AtEnd h ls last b
-  at_the_end h ls last b e = by _ _ _ refl refl refl e
-    where
-      K : ℕ
-      K = column_by h.digit (collection_of indent) (texts ls ++ last ∷ [])
-
-      by : (t : Bool) (o : Option (List Row)) (u : Option Row) → starts_with_tab (texts ls ++ last ∷ []) ≡ t → rows_of K (texts ls) ≡ o → row_of K last ≡ u → with_value h K (if t then None else value_at_end h K last o u) ≡ Some b → AtEnd h ls last b
-      by true o u x y z e = cc
-      by false None u x y z e = cc
-      by false (Some rs) None x y z e = cc
-      by false (Some rs) (Some r) x y z e = is_at_end_of rs r x y z cc
+  at_the_end : (h : defs.Header) (column : ℕ) (ls : List (List ℕ)) (last : List ℕ) (b : BlockRead)
+      → with_value h column (if starts_with_tab (ls ++ last ∷ []) then None else value_at_end h column last (rows_of column ls) (row_of column last)) ≡ Some b → AtEnd h column ls last b
+  at_the_end h column ls last b e = grind arith
 
   end_read : (h : defs.Header) (line : List ℕ) (k : Break) (ls : List Line) (last : List ℕ) (b : BlockRead) → header_of (indicator_of h.style ∷ line) ≡ Some h → digit_by (digit_or_zero h.digit) ≡ h.digit → is_in_line line ≡ true
-      → Fits k (spell ls last) → AreLines ls last → is_in_line last ≡ true → AtEnd h ls last b
+      → Fits k (spell ls last) → AreLines ls last → is_in_line last ≡ true → AtEnd h (column_by h.digit (collection_of indent) (texts ls ++ last ∷ [])) (texts ls) last b
       → IsRead indent p b (indicator_of h.style ∷ (line ++ put k (spell ls last))) [] (block (is_literal_style b.style) indent ((indicator_of h.style ∷ (line ++ put k (spell ls last))) ++ []) p)
-  end_read h line k ls last b is digit inner fits are last_inner (is_at_end_of rows row tabless are_rows last_row value) =
+  end_read h line k ls last b is digit inner fits are last_inner z =
       let K = column_by h.digit (collection_of indent) (texts ls ++ last ∷ []) in
-      let found = block_is h line k indent p is digit inner ls last K refl are last_inner fits (tab_whole ls last ∙ tabless) in
-      rw (append-nil, ← value) (before_the_end h line k indent p is digit inner K ls last rows are last_inner fits are_rows found row (row_is K last row last_row))
+      let found = block_is h line k indent p is digit inner ls last K refl are last_inner fits (tab_whole ls last ∙ z.tabless) in
+      rw (append-nil, ← z.value) (before_the_end h line k indent p is digit inner K ls last z.rows are last_inner fits z.are_rows found z.row (row_is K last z.row z.is_row))
 
 -- ---- each piece
 
@@ -153,41 +141,48 @@ unfolding classes.is_nul
 some_next d n h = not-true _ ((and_parts (not (d == 0)) (list_all is_some n) h).0)
 
 -- a piece's first line is a header
-data Headed (indent : ℕ) (w : List ℕ) (content : Body) (next : List ℕ) (b : BlockRead) : Type 0 where
-  has_header : (h : defs.Header) (line : List ℕ) → w ≡ indicator_of h.style ∷ line → header_of (indicator_of h.style ∷ line) ≡ Some h → digit_by (digit_or_zero h.digit) ≡ h.digit
-      → is_in_line line ≡ true → read_body (Some h) (collection_of indent) content next ≡ Some b
-      → Headed indent w content next b
+record Headed (w : List ℕ) : Type 0 where
+  h : defs.Header
+  is : header_of w ≡ Some h
+  line : List ℕ
+  cut : w ≡ indicator_of h.style ∷ line
+  digit : digit_by (digit_or_zero h.digit) ≡ h.digit
+  inner : is_in_line line ≡ true
 
-headed : (indent : ℕ) (w : List ℕ) (content : Body) (next : List ℕ) (b : BlockRead) → is_in_line w ≡ true → read_body (header_of w) (collection_of indent) content next ≡ Some b → Headed indent w content next b
+headed : (indent : ℕ) (w : List ℕ) (content : Body) (next : List ℕ) (b : BlockRead) → is_in_line w ≡ true → read_body (header_of w) (collection_of indent) content next ≡ Some b → Headed w
 headed indent [] content next b inner e = cc
 headed indent (c ∷ line) content next b inner e = by (header_of (c ∷ line)) refl
   where
-    by : (o : Option defs.Header) → header_of (c ∷ line) ≡ o → Headed indent (c ∷ line) content next b
+    by : (o : Option defs.Header) → header_of (c ∷ line) ≡ o → Headed (c ∷ line)
     by None f = let no : None ≡ Some b = rw f at e in cc
-    by (Some h) f = let z = said c line h f in has_header h line (ap (λ d. d ∷ line) z.begins) (rw (← z.begins) f) z.digit_is (first_inner c line inner).1 (rw f at e)
+    by (Some h) f = let z = said c line h f in record { h = h; is = f; line = line; cut = ap (λ d. d ∷ line) z.begins; digit = z.digit_is; inner = (first_inner c line inner).1 }
 
 module _ (indent : ℕ) (p : Position) (b : BlockRead) where
   abbrev pub Read_as : List ℕ → List ℕ → Type 0
   Read_as piece next = IsRead indent p b piece next (block (is_literal_style b.style) indent (piece ++ next) p)
 
   read_alone : (w : List ℕ) → is_in_line w ≡ true → read_body (header_of w) (collection_of indent) input_ends [] ≡ Some b → Read_as w []
-  read_alone w inner e = elim (headed indent w input_ends [] b inner e) [
-    | has_header h line cut is digit inner one ↦ let same : record { style = h.style; column = 0; text = [] } ≡ b = cc in rw (cut, append-nil, ← same) (header_alone_is_read h line indent p is inner)
-  ]
+  read_alone w inner e =
+      let z = headed indent w input_ends [] b inner e in
+      let same : record { style = z.h.style; column = 0; text = [] } ≡ b = cc (e, z.is) in
+      let w' = indicator_of z.h.style ∷ z.line in
+      subst (λ x. Read_as x []) (sym z.cut) (subst (λ (r : BlockRead). IsRead indent p r w' [] (block (is_literal_style r.style) indent (w' ++ []) p)) same
+      (rw append-nil (header_alone_is_read z.h z.line indent p (sym (ap header_of z.cut) ∙ z.is) z.inner)))
 
   pub to_end : (w : List ℕ) (k : Break) (ls : List Line) (last : List ℕ) → is_in_line w ≡ true → Fits k (spell ls last) → AreLines ls last → is_in_line last ≡ true
       → read_body (header_of w) (collection_of indent) (body (texts ls) (unbroken last)) [] ≡ Some b → Read_as (w ++ put k (spell ls last)) []
-  to_end w k ls last inner fits are last_inner e = elim (headed indent w (body (texts ls) (unbroken last)) [] b inner e) [
-    | has_header h line cut is digit inner value ↦ rw cut (end_read indent p h line k ls last b is digit inner fits are last_inner (at_the_end indent p h ls last b value))
-  ]
+  to_end w k ls last inner fits are last_inner e =
+      let z = headed indent w (body (texts ls) (unbroken last)) [] b inner e in
+      subst (λ x. Read_as (x ++ put k (spell ls last)) []) (sym z.cut)
+      (end_read indent p z.h z.line k ls last b (sym (ap header_of z.cut) ∙ z.is) z.digit z.inner fits are last_inner (at_the_end indent p z.h _ (texts ls) last b (rw z.is at e)))
 
   pub read_to_text : (w : List ℕ) (k : Break) (ls : List Line) (next : List ℕ) → is_in_line w ≡ true → Fits k (spell ls []) → AreLines ls [] → is_at_end next ≡ false
       → read_body (header_of w) (collection_of indent) (body (texts ls) further_text) next ≡ Some b → Read_as (w ++ put k (spell ls [])) next
-  read_to_text w k ls next inner fits are some e = elim (headed indent w (body (texts ls) further_text) next b inner e) [
-    | has_header h line cut is digit inner value ↦ elim (before indent p next h ls b some value) [
-      | is_before rows tabless are_rows further same ↦ rw cut (further_read indent p next h line k ls b is digit inner fits are some rows tabless are_rows further same)
-    ]
-  ]
+  read_to_text w k ls next inner fits are some e =
+      let z = headed indent w (body (texts ls) further_text) next b inner e in
+      let value = rw (z.is, some) at e in
+      subst (λ x. Read_as (x ++ put k (spell ls [])) next) (sym z.cut)
+      (further_read indent p next z.h z.line k ls b (sym (ap header_of z.cut) ∙ z.is) z.digit z.inner fits are some (before indent p next z.h _ (texts ls) b value))
 
   read_of_lines : (ls : List Line) (last next : List ℕ) → AreLines ls last → is_in_line last ≡ true → list_all is_some next ≡ true → (t : Bool) → is_at_end next ≡ t
       → read_lines (collection_of indent) (texts ls) last next t ≡ Some b → Read_as (spell ls last) next

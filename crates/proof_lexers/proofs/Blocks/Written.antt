@@ -90,13 +90,9 @@ split_line : (w a : List ℕ) (ls : List (List ℕ)) (r : List ℕ) → is_in_li
 split_line [] a ls r h e = e
 split_line (c ∷ w) a ls r h e = grind (arith, first_inner, same_break, split_line w a ls r)
 
-split_feed : (a : List ℕ) → split (10 ∷ a) ≡ with_empty_line (split a)
-unfolding classes.is_break
-split_feed a = grind arith
-
 split_break : (b : Break) (a : List ℕ) → Fits b a → split (put b a) ≡ with_empty_line (split a)
 unfolding classes.is_break
-split_break b a h = grind (arith, split_feed)
+split_break b a h = grind (arith)
 
 pub split_spell : (ls : List Line) (r : List ℕ) → AreLines ls r → is_in_line r ≡ true → split (spell ls r) ≡ of_lines (texts ls) r
 split_spell [] r are h = split_last r h
