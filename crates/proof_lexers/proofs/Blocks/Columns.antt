@@ -2,8 +2,7 @@
 use Rattle.proof_lexers.proofs.Common.{[], ap, append-nil, append_assoc, arith, column_by, column_same, ends_line, false, first_line, is_content_line, is_document_marker, is_empty_line, is_further_text, is_in_line, is_outside, is_some, is_spaces, IsBefore, le-leb, leading_spaces, length, List, list_all, nat_le, None, not, not-false, Option, refl, row_of, suc, sym, true, up_to_break, zero, ℕ, ◌&&◌, ◌++◌, ◌==◌, ◌∙◌, ◌∷◌, ◌≡◌, ◌≤◌, max, nat_tests}
 use Rattle.defs_text.specs.Classes as classes
 use Rattle.proof_lexers.proofs.Bridges.{same_break}
-use Rattle.proof_lexers.proofs.Blocks.Written.{first_inner, Line, put, spell, texts, AreLines}
-use Rattle.proof_lexers.proofs.Blocks.Rows.{line_marker, break_ends, suc_off}
+use Rattle.proof_lexers.proofs.Blocks.Rows.{AreLines, break_ends, first_inner, Line, line_marker, put, spell, suc_off, texts}
 use Rattle.proof_row.proofs.Columns.{further}
 
 -- ---- a line that is no row is further text

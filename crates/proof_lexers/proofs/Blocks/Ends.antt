@@ -3,10 +3,9 @@ use Rattle.proof_lexers.proofs.Common.{[], ap, append-nil, arith, begins_with, b
 use Rattle.defs_text.specs.BlockScalar as defs
 use Rattle.proof_lexers.specs.BlockEnds.{IsBlockPiece, IsBlockRead, IsBlockRefusal, whole_block, after_piece, bad_header}
 use Rattle.proof_lexers.proofs.Ends.{ends_also}
-use Rattle.proof_lexers.proofs.Blocks.Written.{Break, Line, put, spell, texts, Fits, AreLines, lined, split_spell, first_inner}
 use Rattle.proof_lexers.proofs.Blocks.Headers.{headers_end, said, linebreak_put}
 use Rattle.proof_lexers.proofs.Blocks.Positions.{spell_more}
-use Rattle.proof_lexers.proofs.Blocks.Rows.{break_ends, row_is}
+use Rattle.proof_lexers.proofs.Blocks.Rows.{after_lines, AreLines, at, Break, break_ends, first_inner, Fits, Line, lined, lines_front, put, row_is, spell, split_spell, texts}
 use Rattle.proof_lexers.proofs.Blocks.Columns.{first_before, first_left, same_column, spell_append, are_first, are_second, are_append}
 use Rattle.proof_lexers.proofs.Blocks.Values.{of_line, stops, ends, walked, further_outside}
 use Rattle.proof_lexers.proofs.Blocks.Scans.{style_inner, start, after, block_is, tab_fails, before_further, before_the_end, header_alone_is_read}
@@ -14,7 +13,6 @@ use Rattle.proof_lexers.proofs.Blocks.First.{least_is}
 use Rattle.defs_text.specs.Classes as classes
 use Rattle.defs_token.specs.BlockPiece.{with_value}
 use Rattle.proof_lexers.specs.BlockScan.{tabbed}
-use Rattle.proof_lexers.proofs.Blocks.Margins.{at, after_lines, lines_front}
 use Rattle.defs_text.specs.BlockScalar.{value_at_end, value_at_text}
 
 -- ---- a TAB after the header

@@ -1,8 +1,7 @@
 -- The first lines give the content column.
 use Rattle.proof_lexers.proofs.Common.{[], all_lines, along, and_parts, ap, append-nil, arith, at_least, collection_of, Column, column_by, deepest_start, digit_by, false, First, first_indent, FirstLinesGiveTheColumn, indent_from, is_break, is_in_line, is_spaces, leading_spaces, least_column, List, max, past, Position, Read, refl, split, suc, sym, true, unbroken, zero, ℕ, ◌++◌, ◌+◌, ◌==◌, ◌∙◌, ◌∷◌, ◌≡◌, ◌≤◌, nat_tests, past_break}
 use Rattle.model_scanner.specs.BlockScalar.{content}
-use Rattle.proof_lexers.proofs.Blocks.Written.{first_inner, Break, Line, put, spell, texts, Fits, AreLines, Lined, lined, split_spell}
-use Rattle.proof_lexers.proofs.Blocks.Margins.{after_break, after_line, at, col_along}
+use Rattle.proof_lexers.proofs.Blocks.Margins.{after_break, after_line, AreLines, at, Break, col_along, first_inner, Fits, Line, Lined, lined, put, spell, split_spell, texts}
 use Rattle.proof_lexers.proofs.Blocks.Columns.{spaces_leading}
 
 -- within the spaces of a first line

@@ -9,8 +9,7 @@ use Rattle.proof_lexers.proofs.Bridges.{same_break}
 use Rattle.proof_lexers.proofs.Along.{along_append}
 use Rattle.proof_lexers.proofs.RestOfLine as rest_of_lines
 use Rattle.proof_lexers.proofs.RestOfLine.{along_further, in_line_is, Rest, glued, goes_on, rest_of_line}
-use Rattle.proof_lexers.proofs.Blocks.Written.{first_inner, Break, put, Fits}
-use Rattle.proof_lexers.proofs.Blocks.Margins.{after_break}
+use Rattle.proof_lexers.proofs.Blocks.Margins.{after_break, Break, first_inner, Fits, put}
 
 -- what stands at a line's end is no indicator
 still : (c : ℕ) → is_break c ≡ true → ((c == 43) ≡ false) × ((c == 45) ≡ false) × (is_digit c ≡ false)

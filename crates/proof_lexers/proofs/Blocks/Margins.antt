@@ -1,6 +1,6 @@
 -- What the model does before content: spaces and breaks.
 use Rattle.proof_lexers.proofs.Common.{[], along, ap, append-nil, arith, BlockState, Bool, indent_from, is_break, is_spaces, length, Lines, lines_from, List, Margin, margin, past, past_break, Position, refl, sym, true, ℕ, ◌++◌, ◌+◌, ◌∙◌, ◌∷◌, ◌≡◌, ◌≤◌, nat_tests}
-use Rattle.proof_lexers.proofs.Blocks.Written.{Break, feed, carriage, both, Line, put, Fits}
+pub use Rattle.proof_lexers.proofs.Blocks.Written.{AreLines, both, Break, carriage, feed, first_inner, Fits, Line, lined, Lined, put, spell, split_spell, texts}
 
 -- the position after a break
 abbrev pub before_break : Break → Position → Position

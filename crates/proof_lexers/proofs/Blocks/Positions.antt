@@ -3,8 +3,7 @@ use Rattle.proof_lexers.proofs.Common.{[], along, ap, append-nil, append_assoc, 
 use Rattle.defs_text.specs.Classes as classes
 use Rattle.defs_text.specs.Breaks as cut
 use Rattle.proof_lexers.proofs.Bridges.{same_break}
-use Rattle.proof_lexers.proofs.Blocks.Written.{first_inner, Break, Line, put, spell, Fits, AreLines}
-use Rattle.proof_lexers.proofs.Blocks.Margins.{after_break, after_line, after_lines, empty_passes, at}
+use Rattle.proof_lexers.proofs.Blocks.Margins.{after_break, after_line, after_lines, AreLines, at, Break, empty_passes, first_inner, Fits, Line, put, spell}
 use Rattle.proof_lexers.proofs.Plain.Turns.{in_line_position, line_position, same_feed}
 
 -- after a character of a line

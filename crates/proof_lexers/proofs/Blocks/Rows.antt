@@ -3,8 +3,7 @@ use Rattle.proof_lexers.proofs.Common.{[], along, ap, append-nil, append_assoc, 
 use Rattle.defs_text.specs.Classes as classes
 use Rattle.model_scanner.specs.BlockScalar.{line, begins, begun, with_char}
 use Rattle.proof_lexers.proofs.Bridges.{and_false, same_marker}
-use Rattle.proof_lexers.proofs.Blocks.Written.{first_inner, Break, Line, put, spell, texts, Fits, AreLines}
-use Rattle.proof_lexers.proofs.Blocks.Margins.{after_break, after_line, after_lines, at, before, margin_passes, empty_passes, last_passes}
+pub use Rattle.proof_lexers.proofs.Blocks.Margins.{after_break, after_line, after_lines, AreLines, at, before, Break, col_along, empty_passes, first_inner, Fits, last_passes, Line, lined, lines_front, margin_passes, put, spell, split_spell, texts}
 
 -- ---- a document marker is seen alike in a line and in the text that begins with the line
 

@@ -6,11 +6,9 @@ use Rattle.defs_text.specs.BlockScalar as defs
 use Rattle.model_scanner.specs.BlockScalar.{content}
 use Rattle.proof_lexers.proofs.Bridges.{and_false, both}
 use Rattle.proof_lexers.specs.BlockScan.{read, shallow, is_shallow}
-use Rattle.proof_lexers.proofs.Blocks.Written.{Break, Line, put, spell, texts, Fits, AreLines}
-use Rattle.proof_lexers.proofs.Blocks.Margins.{after_break, after_lines, at, before, margin_passes, last_passes, col_along, lines_front}
 use Rattle.proof_lexers.proofs.Blocks.First.{content_is}
 use Rattle.proof_lexers.proofs.Blocks.Positions.{spell_more, after_chars, after_put, after_spell, first_header, header_alone, stopped_at, first_is}
-use Rattle.proof_lexers.proofs.Blocks.Rows.{after_rows, front, written, rows_go, last_empty, last_content, break_ends, IsRow, no_content, is_content, starts}
+use Rattle.proof_lexers.proofs.Blocks.Rows.{after_break, after_lines, after_rows, AreLines, at, before, Break, break_ends, col_along, Fits, front, is_content, IsRow, last_content, last_empty, last_passes, Line, lines_front, margin_passes, no_content, put, rows_go, spell, starts, texts, written}
 use Rattle.proof_lexers.proofs.Blocks.Values.{Outside, further_stops, after_empty, content_value, empty_value, end_value, last_value, found_in, all_empty, are_full}
 use Rattle.proof_lexers.proofs.Blocks.Headers.{header_reads, header_tabs, linebreak_put}
 

@@ -3,10 +3,8 @@ use Rattle.proof_lexers.proofs.Common.{[], ap, append-nil, append_assoc, arith, 
 use Rattle.defs_text.specs.BlockScalar as defs
 use Rattle.proof_lexers.proofs.Bridges.{same_blank, same_break, same_marker}
 use Rattle.proof_lexers.proofs.Fold.{more_breaks}
-use Rattle.proof_lexers.proofs.Blocks.Rows.{after_row, after_rows, IsRow, no_content, is_content, break_ends, starts, first_row, first_of, front, scan, through}
+use Rattle.proof_lexers.proofs.Blocks.Rows.{after_line, after_lines, after_row, after_rows, AreLines, at, Break, break_ends, empty_passes, first_of, first_row, front, is_content, IsRow, Line, no_content, put, scan, spell, starts, texts, through}
 use Rattle.std.proofs.lemmas.List.Folds.{list_all-append}
-use Rattle.proof_lexers.proofs.Blocks.Written.{Break, Line, put, spell, texts, AreLines}
-use Rattle.proof_lexers.proofs.Blocks.Margins.{after_line, after_lines, at, empty_passes}
 use Rattle.proof_lexers.proofs.Blocks.Columns.{none_further}
 use Rattle.defs_text.specs.Classes as classes
 use Rattle.model_scanner.specs.BlockScalar.{begins}

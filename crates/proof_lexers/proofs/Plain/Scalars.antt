@@ -7,8 +7,7 @@ use Rattle.model_scanner.specs.Plain.{inside, first, starts, between}
 use Rattle.proof_lexers.specs.PlainEnds.{IsScalarRead, just}
 use Rattle.proof_lexers.proofs.Ends.{ends_also}
 use Rattle.proof_row.proofs.Plains.{plains}
-use Rattle.proof_lexers.proofs.Plain.Found.{after_text, after_more, Tabbed, Fails, dash, tabbed, tab, after_tab, flow_untabbed, Found, found, fails, same_left, no_lead, content_char, solid_first, past_content, dash_untabbed}
-use Rattle.proof_lexers.proofs.Plain.Turns.{off_margin, in_line_position, in_line, dash_parts, as_deep, can_be, line_is, no_line, in_text, scan, after_blanks, at_line, at_tabs, at_feed, Scans, found_here, break_step, blank_step, no_tabs, content_step, Outcome, stopped, went, dashed, outcome, ends_over, ends_comment}
+use Rattle.proof_lexers.proofs.Plain.Turns.{after_blanks, after_more, after_tab, after_text, as_deep, at_feed, at_line, at_tabs, blank_step, break_step, can_be, content_char, content_step, dash, dash_parts, dash_untabbed, dashed, ends_comment, ends_over, Fails, fails, flow_untabbed, Found, found, found_here, in_line, in_line_position, in_text, line_is, no_lead, no_line, no_tabs, off_margin, Outcome, outcome, past_content, same_left, scan, Scans, solid_first, stopped, tab, Tabbed, tabbed, went}
 use Rattle.proof_lexers.proofs.Plain.Values.{no_markers, value_is}
 use Rattle.defs_text.specs.Classes as classes
 use Rattle.proof_lexers.proofs.Bridges.{same_break, same_blank}

@@ -6,7 +6,7 @@ use Rattle.defs_token.specs.Plain as defs
 use Rattle.model_scanner.specs.Plain.{Mode, inside, between, goes_on}
 use Rattle.proof_lexers.proofs.Bridges.{both, same_break, same_blank, same_gap, same_flow, same_marker, and_false}
 pub use Rattle.proof_lexers.proofs.Bridges.{or_false}
-use Rattle.proof_lexers.proofs.Plain.Found.{after_char, tab_blank, Tabbed, Moves, Found, found, further, after_gap, after_content}
+pub use Rattle.proof_lexers.proofs.Plain.Found.{after_char, after_content, after_gap, after_more, after_tab, after_text, content_char, dash, dash_untabbed, Fails, fails, flow_untabbed, Found, found, further, Moves, no_lead, past_content, same_left, solid_first, tab, tab_blank, Tabbed, tabbed}
 
 pub or_true : (b : Bool) → (b || true) ≡ true
 or_true b = or-true b
@@ -178,11 +178,11 @@ module _ (ctx : Context) (start : Position) where
       plain : at_plain ctx.flow (c ∷ a) ≡ not (ends_at_colon ctx.flow (c ∷ a) || (ctx.flow && classes.is_flow c))
       plain = rw (← same_gap c, q.0, q.1, nul, can_be ctx.flow c a) refl
 
-      by : (shallow hash marker dash ends : Bool) → is_shallow ctx p.col ≡ shallow → (c == 35) ≡ hash → at_marker p.col (c ∷ a) ≡ marker → at_dash ctx.flow (c ∷ a) ≡ dash
+      by : (shallow hash marker minus ends : Bool) → is_shallow ctx p.col ≡ shallow → (c == 35) ≡ hash → at_marker p.col (c ∷ a) ≡ marker → at_dash ctx.flow (c ∷ a) ≡ minus
           → (ends_at_colon ctx.flow (c ∷ a) || (ctx.flow && classes.is_flow c)) ≡ ends → Outcome c a s p t (scan (c ∷ a) between p t)
-      by true hash marker dash ends e f g h k = stopped (ends_line c a s (line ∙ rw e (or_true (at_marker p.col (c ∷ a))))) (rw (solid, e) refl)
-      by false true marker dash ends e f g h k = stopped (ends_comment c a s (comment ∙ f)) (rw (solid, e, f) refl)
-      by false false true dash ends e f g h k = stopped (ends_line c a s (line ∙ rw g refl)) (rw (solid, e, f, g) refl)
+      by true hash marker minus ends e f g h k = stopped (ends_line c a s (line ∙ rw e (or_true (at_marker p.col (c ∷ a))))) (rw (solid, e) refl)
+      by false true marker minus ends e f g h k = stopped (ends_comment c a s (comment ∙ f)) (rw (solid, e, f) refl)
+      by false false true minus ends e f g h k = stopped (ends_line c a s (line ∙ rw g refl)) (rw (solid, e, f, g) refl)
       by false false false true ends e f g h k = let q = dash_parts ctx.flow c a h in dashed q.0 q.1 q.2 (rw (solid, e, f, g, h) refl)
       by false false false false true e f g h k = stopped (ends_over c a s true nul (comment ∙ f) (line ∙ rw (e, g) refl) k) (rw (solid, e, f, g, h, plain ∙ ap not k) refl)
       by false false false false false e f g h k = went (ends_over c a s false nul (comment ∙ f) (line ∙ rw (e, g) refl) k) e (rw (solid, e, f, g, h, plain ∙ ap not k) refl)

@@ -3,7 +3,7 @@ use Rattle.proof_lexers.proofs.Common.{[], after_element, after_elements, and_pa
 use Rattle.defs_text.specs.Classes.{is_blank, is_break}
 use Rattle.defs_token.specs.Plain.{past}
 use Rattle.proof_lexers.proofs.Fold.{buffers_join}
-use Rattle.proof_lexers.proofs.Plain.Found.{after_char, after_text}
+use Rattle.proof_lexers.proofs.Plain.Turns.{after_char, after_text}
 
 
 -- ---- elements
