@@ -54,13 +54,9 @@ pub are_append : (ls ns : List Line) (e : List ℕ) → AreLines ls (spell ns e)
 are_append [] ns e are more = more
 are_append (l ∷ ls) ns e are more = (are.0, rw (spell_append ls ns e) (are.1), are_append ls ns e are.2 more)
 
-pub are_first : (ls ns : List Line) (e : List ℕ) → AreLines (ls ++ ns) e → AreLines ls (spell ns e)
-are_first [] ns e are = tt
-are_first (l ∷ ls) ns e are = (are.0, rw (← spell_append ls ns e) (are.1), are_first ls ns e are.2)
-
-pub are_second : (ls ns : List Line) (e : List ℕ) → AreLines (ls ++ ns) e → AreLines ns e
-are_second [] ns e are = are
-are_second (l ∷ ls) ns e are = are_second ls ns e are.2
+pub are_parts : (ls ns : List Line) (e : List ℕ) → AreLines (ls ++ ns) e → AreLines ls (spell ns e) × AreLines ns e
+are_parts [] ns e are = (tt, are)
+are_parts (l ∷ ls) ns e are = let z = are_parts ls ns e are.2 in ((are.0, rw (← spell_append ls ns e) (are.1), z.0), z.1)
 
 -- ---- the column of further text
 

@@ -6,7 +6,7 @@ use Rattle.proof_lexers.proofs.Ends.{ends_also}
 use Rattle.proof_lexers.proofs.Blocks.Headers.{headers_end, said, linebreak_put}
 use Rattle.proof_lexers.proofs.Blocks.Positions.{spell_more}
 use Rattle.proof_lexers.proofs.Blocks.Rows.{after_lines, AreLines, at, Break, break_ends, first_inner, Fits, Line, lined, lines_front, put, row_is, spell, split_spell, texts}
-use Rattle.proof_lexers.proofs.Blocks.Columns.{first_before, first_left, same_column, spell_append, are_first, are_second, are_append}
+use Rattle.proof_lexers.proofs.Blocks.Columns.{first_before, first_left, same_column, spell_append, are_parts, are_append}
 use Rattle.proof_lexers.proofs.Blocks.Values.{of_line, stops, ends, walked, further_outside}
 use Rattle.proof_lexers.proofs.Blocks.Scans.{style_inner, start, after, block_is, tab_fails, before_further, before_the_end, header_alone_is_read}
 use Rattle.proof_lexers.proofs.Blocks.First.{least_is}
@@ -95,11 +95,11 @@ module _ (indent : ℕ) (p : Position) (next : List ℕ) where
         let same : spell (ls ++ y.lines) y.last ≡ spell ls next = spell_append ls y.lines y.last ∙ ap (spell ls) (sym y.is) in
         let fits_there : Fits k (spell ls next) = fits_before k ls [] next (fits_next k next free) fits in
         let are_next : AreLines ls next = are_before ls [] next (λ k. fits_next k next free) are in
-        let are_first : AreLines ls (spell y.lines y.last) = subst (AreLines ls) y.is are_next in
+        let are_parts : AreLines ls (spell y.lines y.last) = subst (AreLines ls) y.is are_next in
         let here : is_further_text column_here (spell y.lines y.last) ≡ true = ap (is_further_text column_here) (sym y.is) ∙ z.further in
         let found : block (is_literal_style h.style) indent (indicator_of h.style ∷ (line ++ put k (spell ls next))) p ≡ _ =
         ap (λ a. block (is_literal_style h.style) indent (indicator_of h.style ∷ (line ++ put k a)) p) (sym same)
-        ∙ block_is h line k indent p is digit inner (ls ++ y.lines) y.last column_here (whole_column h.digit indent ls y.lines y.last column_here y.are y.inner refl here) (are_append ls y.lines y.last are_first y.are) y.inner (rw same fits_there) (rw same e)
+        ∙ block_is h line k indent p is digit inner (ls ++ y.lines) y.last column_here (whole_column h.digit indent ls y.lines y.last column_here y.are y.inner refl here) (are_append ls y.lines y.last are_parts y.are) y.inner (rw same fits_there) (rw same e)
         ∙ ap (λ a. after h line k indent p is digit inner (indent_from column_here a (at (start h line k indent p is digit inner) []))) same in
         before_further h line k indent p is digit inner column_here ls next z.rows are_next fits_there are fits z.are_rows not_end (tabbed_is ls fits are z.tabless ∙ e) found
         (further_outside column_here next (after_lines ls (start h line k indent p is digit inner)) (lines_front ls (start h line k indent p is digit inner) refl) z.further)
@@ -259,13 +259,13 @@ module _ (style : BlockStyle) (indent : ℕ) (p : Position) where
     to_text : (own ns : List Line) (rs : List Row) → ls ≡ own ++ ns → rows_of column (texts own) ≡ Some rs → is_further_text column (spell ns last) ≡ true → list_all is_some (spell ns last) ≡ true → Ends (line ++ put k (spell ls last))
     to_text own ns rs split_at rows further some_next_text =
         let joined : spell ls last ≡ spell own (spell ns last) = ap (λ x. spell x last) split_at ∙ spell_append own ns last in
-        let are_own : AreLines own (spell ns last) = are_first own ns last (rw (← split_at) are) in
+        let parts = are_parts own ns last (rw (← split_at) are) in
         let column_is : column ≡ column_by h.digit (collection_of indent) (texts (own ++ ns) ++ last ∷ []) = ap (λ x. column_by h.digit (collection_of indent) (texts x ++ last ∷ [])) split_at in
-        let same : column ≡ column_by h.digit (collection_of indent) (texts own) = column_is ∙ part_column h.digit indent own ns last (are_second own ns last (rw (← split_at) are)) last_inner (rw (← column_is) further) in
+        let same : column ≡ column_by h.digit (collection_of indent) (texts own) = column_is ∙ part_column h.digit indent own ns last parts.1 last_inner (rw (← column_is) further) in
         let fits_own : Fits k (spell own []) = fits_before k own (spell ns last) [] (fits_alone k) (rw (← joined) fits) in
         let tab_free = tab_of own (spell ns last) (rw (← joined) tabless) in
         let not_end = further_not_end column (spell ns last) further some_next_text in
-        let lines = split_spell (record { text = indicator_of style ∷ line; by = k } ∷ own) [] (style_inner style line inner, fits_own, are_before own (spell ns last) [] fits_alone are_own) refl in
+        let lines = split_spell (record { text = indicator_of style ∷ line; by = k } ∷ own) [] (style_inner style line inner, fits_own, are_before own (spell ns last) [] fits_alone parts.0) refl in
         let rows_here : rows_of (column_by h.digit (collection_of indent) (texts own)) (texts own) ≡ Some rs = rw (← same) rows in
         let further_here : is_further_text (column_by h.digit (collection_of indent) (texts own)) (spell ns last) ≡ true = rw (← same) further in
         found (line ++ put k (spell ls last)) (indicator_of style ∷ (line ++ put k (spell own []))) (spell ns last) line (value_before_text h rs) h (column_by h.digit (collection_of indent) (texts own)) is

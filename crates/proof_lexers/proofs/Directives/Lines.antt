@@ -22,9 +22,6 @@ same_text (c ∷ a) (d ∷ b) h = grind (arith, eqb-true, same_text a b)
 none_by : (b : Bool) → ◌≡◌ {A = Option Directive} (if b then None else None) None
 none_by a = grind arith
 
-four_texts : (a b c d r : List ℕ) → a ++ (b ++ (c ++ (46 ∷ (d ++ r)))) ≡ (a ++ (b ++ (c ++ 46 ∷ d))) ++ r
-four_texts a b c d r = sym (append_assoc a (b ++ (c ++ 46 ∷ d)) r ∙ ap (λ k. a ++ k) (append_assoc b (c ++ 46 ∷ d) r ∙ ap (λ k. b ++ k) (append_assoc c (46 ∷ d) r)))
-
 no_hash : classes.is_blank_or_end 35 ≡ true → ⊥
 unfolding classes.is_blank_or_end classes.is_blank classes.is_break classes.is_nul
 no_hash h = cc
@@ -113,7 +110,7 @@ module _ (start : Position) (l n : List ℕ) (line : has_no_break l ≡ true) (e
         tail = span_cut classes.is_decimal_digit said ∙ ap (λ r. major ++ r) (point ∙ ap (λ r. 46 ∷ r) (span_cut classes.is_decimal_digit s ∙ ap (λ r. r ++ rest) lead))
 
         cut : l ≡ before ++ rest
-        cut = from_word ∙ ap (λ r. leading classes.is_alpha l ++ (leading classes.is_blank after_word ++ r)) tail ∙ four_texts (leading classes.is_alpha l) (leading classes.is_blank after_word) major minor rest
+        cut = grind (arith, from_word, tail, append_assoc)
 
         position : further (length minor) (past (further (length major) said_position)) ≡ further (suc (length before)) start
         position = grind (arith, length-append, same_place)
