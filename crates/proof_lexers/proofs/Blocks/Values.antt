@@ -109,13 +109,9 @@ rows_more : (b : Bool) (rs : List Row) (r : Row) (l : Lines) → after_rows b (r
 rows_more b [] r l = refl
 rows_more b (q ∷ rs) r l = rows_more b rs r (after_row b q l)
 
-full_more : (rs : List Row) (c : ℕ) (m : List ℕ) → AreFull rs → AreFull (rs ++ content_row (c ∷ m) ∷ [])
-full_more [] c m full = tt
-full_more (r ∷ rs) c m full = grind (arith, full_more rs c m)
-
-some_more : (rs : List Row) (m : List ℕ) → has_content (rs ++ content_row m ∷ []) ≡ true
-some_more [] m = refl
-some_more (r ∷ rs) m = grind (arith, some_more rs m)
+more_rows : (rs : List Row) (c : ℕ) (m : List ℕ) → AreFull rs → AreFull (rs ++ content_row (c ∷ m) ∷ []) × (has_content (rs ++ content_row (c ∷ m) ∷ []) ≡ true)
+more_rows [] c m full = (tt, refl)
+more_rows (r ∷ rs) c m full = grind (arith, more_rows rs c m)
 
 pub last_value : (h : defs.Header) (rs : List Row) (c : ℕ) (m : List ℕ) → AreFull rs
     → (after_row (is_literal_style h.style) (content_row (c ∷ m)) (after_rows (is_literal_style h.style) rs (after_empty 0))).text
@@ -125,7 +121,7 @@ unfolding tail
 last_value h rs c m full =
     let all = rs ++ content_row (c ∷ m) ∷ [] in
     let x = after_row (is_literal_style h.style) (content_row (c ∷ m)) (after_rows (is_literal_style h.style) rs (after_empty 0)) in
-    let z = first_goes h.style all 0 0 (full_more rs c m full) (some_more rs (c ∷ m)) in
+    let z = first_goes h.style all 0 0 (more_rows rs c m full).0 (more_rows rs c m full).1 in
     let more = rows_more (is_literal_style h.style) rs (content_row (c ∷ m)) (after_empty 0) in
     let text : x.text ≡ text_of h.style all = ap (λ (l : Lines). l.text) (sym more) ∙ z.text_is in
     let none : breaks (empty_after 0 all) ≡ [] = sym z.breaks_are ∙ ap (λ (l : Lines). l.breaks) more in
