@@ -33,9 +33,6 @@ module _ (ctx : Context) (start : Position) where
 pub has_digits : (d n : ℕ) → lookup d numeric_escapes ≡ Some n → count_of (digits_of n) ≡ n
 has_digits d n h = grind arith
 
-pub too_short : (n : ℕ) → (zero == suc n) ≡ false
-too_short n = grind (arith, nat_tests)
-
 -- the number of so many digits after a value, if they are there
 abbrev pub number_after : ℕ → ℕ → List ℕ → Option ℕ
 number_after n value b = (if length (take n b) == n then hexadecimal value (take n b) else None)
@@ -49,7 +46,7 @@ module _ (ctx : Context) (start : Position) where
   -- The digits of a code are taken, or refused.
   pub digits_read : (n value : ℕ) (b : List ℕ) (p : Position) (u : Folded) → digits_from false ctx start n value b p u ≡ coded_end (drop n b) (along (take n b) p) u (number_after n value b)
   digits_read zero value b p u = grind (arith, nat_tests, coded, same_code, coded_fails)
-  digits_read (suc n) value [] p u = rw (too_short n) refl
+  digits_read (suc n) value [] p u = grind (arith, nat_tests)
   digits_read (suc n) value (c ∷ b) p u = grind (arith, nat_tests, digit_turn, same_digit, past, both, digit_fails, digits_read n (value * 16 + digit_value c) b (past p) u)
 
   counted : (n code : ℕ) (b r : List ℕ) (p : Position) (u : Folded) → (length (take n b) == n) ≡ true → hexadecimal 0 (take n b) ≡ Some code → is_character_code code ≡ true
