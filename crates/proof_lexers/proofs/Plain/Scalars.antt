@@ -7,7 +7,7 @@ use Rattle.model_scanner.specs.Plain.{inside, first, starts, between}
 use Rattle.proof_lexers.specs.PlainEnds.{IsScalarRead, just}
 use Rattle.proof_lexers.proofs.Ends.{ends_also}
 use Rattle.proof_row.proofs.Plains.{plains}
-use Rattle.proof_lexers.proofs.Plain.Turns.{after_blanks, after_more, after_tab, after_text, as_deep, at_feed, at_line, at_tabs, blank_step, break_step, can_be, content_char, content_step, dash, dash_parts, dash_untabbed, dashed, ends_comment, ends_over, Fails, fails, flow_untabbed, Found, found, found_here, in_line, in_line_position, in_text, line_is, no_lead, no_line, no_tabs, off_margin, Outcome, outcome, past_content, same_left, scan, Scans, solid_first, stopped, tab, Tabbed, tabbed, went}
+use Rattle.proof_lexers.proofs.Plain.Turns.{after_blanks, after_more, after_tab, after_text, as_deep, at_feed, at_line, at_tabs, blank_step, break_step, can_be, content_char, content_step, dash, dash_parts, dash_untabbed, dashed, ends_comment, ends_over, Fails, fails, flow_untabbed, Found, found, found_here, in_line, in_line_position, in_text, line_is, no_lead, no_line, off_margin, Outcome, outcome, past_content, same_left, scan, Scans, solid_first, stopped, tab, Tabbed, tabbed, went}
 use Rattle.proof_lexers.proofs.Plain.Values.{no_markers, value_is}
 use Rattle.defs_text.specs.Classes as classes
 use Rattle.proof_lexers.proofs.Bridges.{same_break, same_blank}
@@ -21,10 +21,6 @@ data Kind (c : ℕ) : Type 0 where
 
 kind : (c : ℕ) → Kind c
 kind c = grind (arith, is_breaks, is_solid, same_blank, same_break)
-
-not_nul : (c : ℕ) → classes.is_nul c ≡ false → (c == 0) ≡ false
-unfolding classes.is_nul
-not_nul c h = h
 
 feed_breaks : (c : ℕ) → c ≡ 10 → is_break c ≡ true
 unfolding is_break
@@ -48,7 +44,7 @@ module _ (ctx : Context) (start : Position) where
       → Found ctx start false after_blank p t (c ∷ a) (scan ctx start (c ∷ a) between p t)
   blanks_by c a p t nul lead off deep ih (is_breaks e) = break_step ctx start c a false between after_blank p t _ e ih (rw e refl)
   blanks_by c a p t nul lead off deep ih (is_blanks e f) =
-      blank_step ctx start c a false between between after_blank after_blank p t _ e f refl (λ b r k. no_tabs ctx start k) (λ k i l h. cc l) (λ i. cc i) ih
+      blank_step ctx start c a false between between after_blank after_blank p t _ e f refl (λ b r k. cc) (λ k i l h. cc l) (λ i. cc i) ih
       (after_blanks (rw lead refl) (off_margin p.col) (as_deep ctx p.col deep)) (rw (e, f, lead) refl)
   blanks_by c a p t nul lead off deep ih (is_solid white plain) =
       by_outcome c a after_blank p t white refl ih (outcome ctx start c a after_blank p t white nul refl (no_line ctx c a p off deep))
@@ -63,7 +59,7 @@ module _ (ctx : Context) (start : Position) where
       (λ b r k cut blank content. tab [] b r column (ap (λ d. d ∷ a) (eqb-true c 9 q.0) ∙ ap (λ d. 9 ∷ d) cut) refl refl (rw is (q.1)) blank content) (λ k i l j. refl) (λ i. refl) ih
       (at_tabs (suc column) (rw lead refl)) (rw (e, f, lead, h) refl)
   line_blank c column a p t false h is lead e f ih =
-      blank_step ctx start c a false between between (on_line column) (on_line (suc column)) p t _ e f refl (λ b r k. no_tabs ctx start k) (λ k i l j. absurd (no_mark k i l j)) (λ i. cc i) ih
+      blank_step ctx start c a false between between (on_line column) (on_line (suc column)) p t _ e f refl (λ b r k. cc) (λ k i l j. absurd (no_mark k i l j)) (λ i. cc i) ih
       (at_line (suc column) (omega (arith, is)) (rw lead refl)) (rw (e, f, lead, h) refl)
     where
       no_mark : (k : ℕ) → c ≡ 9 → on_line column ≡ on_line k → nat_lt k ctx.indent ≡ true → ⊥
@@ -99,7 +95,7 @@ module _ (ctx : Context) (start : Position) where
       → Found ctx start false defs.inside p (in_text text) (c ∷ a) (scan ctx start (c ∷ a) inside p (in_text text))
   inside_by c a p text nul off deep ih (is_breaks e) = break_step ctx start c a false inside defs.inside p (in_text text) _ e ih (rw e refl)
   inside_by c a p text nul off deep ih (is_blanks e f) =
-      blank_step ctx start c a false inside between defs.inside after_blank p (in_text text) _ e f refl (λ b r k. no_tabs ctx start k) (λ k i l h. cc l) (λ i. cc i) ih
+      blank_step ctx start c a false inside between defs.inside after_blank p (in_text text) _ e f refl (λ b r k. cc) (λ k i l h. cc l) (λ i. cc i) ih
       (after_blanks refl (off_margin p.col) (as_deep ctx p.col deep)) (rw (e, f) refl)
   inside_by c a p text nul off deep ih (is_solid white plain) = elim (cases_Bool (ends_at_colon ctx.flow (c ∷ a) || (ctx.flow && classes.is_flow c))) [
     | inl e ↦
@@ -129,8 +125,9 @@ module _ (ctx : Context) (start : Position) where
   none m s p t (at_feed column b cut) = cc
 
   pub scans : (a : List ℕ) → has_no_nul a ≡ true → Scans ctx start a
+  unfolding classes.is_nul
   scans [] h = none
-  scans (c ∷ a) h = let q = and_parts (not (classes.is_nul c)) (has_no_nul a) h in step c a (not_nul c (not-true (classes.is_nul c) q.0)) (scans a q.1)
+  scans (c ∷ a) h = let q = and_parts (not (classes.is_nul c)) (has_no_nul a) h in step c a (not-true (classes.is_nul c) q.0) (scans a q.1)
 
 -- ---- plain scalars are read as their values
 

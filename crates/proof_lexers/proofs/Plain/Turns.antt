@@ -129,9 +129,6 @@ module _ (ctx : Context) (start : Position) where
       gap_step c a u n s next p (past p) t (with_blank c t) x white (rw (no_break, blank) g) (in_line_position c a p (rw no_break refl)) (rw (no_break, blank) refl) tabs_after
       (record { begins = begins; goes_further = λ i b. stays i; is_no_token = λ i. rw white refl }) ih stands is
 
-  pub no_tabs : {A : Type 0} → false ≡ true → A
-  no_tabs e = cc
-
   -- ---- content
 
   pub content_step : (c : ℕ) (a : List ℕ) (m : Mode) (s : Stand) (p : Position) (t : Folded) (x : Result (Read Plain) Fault) → is_white c ≡ false → ends_plain ctx.flow (collection_of ctx.indent) s (c ∷ a) ≡ false → is_shallow ctx p.col ≡ false

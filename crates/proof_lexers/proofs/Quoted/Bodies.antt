@@ -29,10 +29,6 @@ quote_still single r = grind (arith, no_marker)
 pub quote_feed : (single : Bool) (r : List ℕ) → (slice_index (quote_of single ∷ r) 0 == 10) ≡ false
 quote_feed single r = grind arith
 
-quote_solid : (single : Bool) → (is_break (quote_of single) || is_blank (quote_of single)) ≡ false
-unfolding is_break is_blank
-quote_solid single = grind arith
-
 -- in double quotes no element begins with the quote
 no_quote : (c : ℕ) (b : List ℕ) (s : Spelled) → double_quoted_element c b ≡ Some s → (c == 34) ≡ false
 unfolding double_quoted_element
@@ -65,12 +61,9 @@ module _ (single : Bool) (ctx : Context) (start : Position) where
   by_element c b r None es m p t h e ready others z = cc
   by_element c b r (Some s) es m p t h e ready others z = by_elements c b r s (elements (element_of single) s.further b) es m p t h refl e ready (others s.further) z
 
-  none_marked : (x y : Bool) → y ≡ false → ((x && y) || false) ≡ false
-  none_marked x y h = grind arith
-
   no_elements : (r : List ℕ) (es : List Element) (m : Mode) (p : Position) (t : Folded) → is_document_marker r ≡ false → Some [] ≡ Some es → Ready single t m
       → Passed single ctx start (scan single ctx start r m p t) [] r p.col (after_elements es t)
-  no_elements r es m p t still h ready = let none : es ≡ [] = cc in rw none (passed m p ready (none_marked (p.col == 0) (is_document_marker r) still) refl)
+  no_elements r es m p t still h ready = let none : es ≡ [] = cc in rw none (passed m p ready (rw still (grind arith)) refl)
 
   -- what the scan does up to the text after a body's elements
   pub passes : (n : ℕ) (a r : List ℕ) → (slice_index r 0 == 10) ≡ false → is_document_marker r ≡ false → Passes n a r
@@ -133,6 +126,7 @@ module _ (single : Bool) (ctx : Context) (start : Position) (r : List ℕ) (ends
   in_line p t (turns.shallow e f) = shallow (by_line p e f)
 
   pub close : (m : Mode) (p : Position) (t : Folded) → Ready single t m → IsRead ctx start (joined t).text r (scan single ctx start (quote_of single ∷ r) m p t)
-  close m p t in_gap = in_line p t (begins single ctx start (quote_of single) r p t (quote_solid single))
+  unfolding is_break is_blank
+  close m p t in_gap = in_line p t (begins single ctx start (quote_of single) r p t (grind arith))
   close m p t (after_escaped double e f) =
       read (past p) (after_quote single ctx start (quote_of single) (quote_of single ∷ r) p t refl refl ∙ closes single ctx start r p t ends ∙ ap (λ text. Ok (record { rest = r; position = past p; value = text })) (elim (cases_Bool t.leading) [ inl g ↦ rw (g, f, e) (sym (append-nil t.text)) | inr g ↦ rw (g, e) (sym (append-nil t.text)) ]))
