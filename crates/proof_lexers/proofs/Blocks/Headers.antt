@@ -18,16 +18,13 @@ still c h = (grind (arith, nat_tests), grind (arith, nat_tests), grind (arith, n
 
 -- ---- after a header's line
 
-same_rest : (r : List ℕ) (p q : Position) → (linebreak r p).rest ≡ (linebreak r q).rest
-same_rest a p q = grind arith
-
 module _ (start : Position) (style : BlockStyle) (line r : List ℕ) (h : defs.Header) (is : header_of (indicator_of style ∷ line) ≡ Some h) (q : Position) (along_it : along line (past start) ≡ q) where
   at_line_end : ends_line r ≡ true → EndsAs (IsHeaderRead start style line r) (IsHeaderRefusal start style line r) (and_then (header_break start r q) (λ (b : Read Bool). Ok (with_indicators (indicators_of h) b)))
   unfolding header_break
   at_line_end e = of_text r e
     where
       next : (c : ℕ) (a : List ℕ) (t : Bool) → begins_with tab (linebreak (c ∷ a) start).rest ≡ t → (slice_index (linebreak (c ∷ a) q).rest 0 == 9) ≡ t
-      next c a t f = (grind arith) ∙ ap (begins_with tab) (same_rest (c ∷ a) q start) ∙ f
+      next c a t f = grind arith
 
       of_text : (a : List ℕ) → ends_line a ≡ true → EndsAs (IsHeaderRead start style line a) (IsHeaderRefusal start style line a) (and_then (header_break start a q) (λ (b : Read Bool). Ok (with_indicators (indicators_of h) b)))
       of_text [] e = reads _ (whole_header h is refl) (rw along_it refl)

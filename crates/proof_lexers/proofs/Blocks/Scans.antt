@@ -157,9 +157,6 @@ module _ (h : defs.Header) (line : List ℕ) (k : Break) (indent : ℕ) (p : Pos
         after_chars (indicator_of h.style ∷ line) (put k (spell ls last)) [] p (style_inner h.style line inner) ∙ after_put k (spell ls last) [] (along line (past p)) more ∙ after_spell ls last [] start are'
         ∙ ap (λ x. position_after (after_lines ls start) x []) (sym (append-nil last)) ∙ after_chars last [] [] (after_lines ls start) last_inner in sym end_position
 
-    reaches : (n : ℕ) → (nat_le column n && nat_lt 0 n) ≡ nat_le (max column 1) n
-    reaches n = both _ _ (λ e. grind (arith, nat_tests)) (λ e. grind (arith, nat_tests))
-
     at_front : last_position.col ≡ 0
     at_front = lines_front ls start refl
 
@@ -200,7 +197,7 @@ module _ (h : defs.Header) (line : List ℕ) (k : Break) (indent : ℕ) (p : Pos
     before_the_end empty_row (no_content spaces le) = elim (cases_Bool (has_content rs)) [
       | inl e ↦ content_by empty_row rows_read (sees_before e)
           (rows_go (is_literal_style h.style) column ls last start (after_empty 0) rs refl are rows ∙ last_empty (is_literal_style h.style) column last last_position rows_read at_front spaces le)
-          (ap (λ b. rows_read.text ++ tail (chomping_of h.chomping) b rows_read) (reaches (along last last_position).col ∙ ap (nat_le (max column 1)) far)
+          (ap (λ b. rows_read.text ++ tail (chomping_of h.chomping) b rows_read) (ap (λ n. nat_le column n && nat_lt 0 n) far ∙ both _ _ (λ e. grind (arith, nat_tests)) (λ e. grind (arith, nat_tests)))
           ∙ content_value h (nat_le (max column 1) (length last)) rs (are_full column (texts ls) rs rows) e ∙ rw e refl)
       | inr e ↦ empty_none e spaces le
     ]

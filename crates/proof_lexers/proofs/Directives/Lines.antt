@@ -1,5 +1,5 @@
 -- Directives are read as their lines say, and no other text is.
-use Rattle.proof_lexers.proofs.Common.{[], after, after_declaration, after_major, after_value, after_version, and_then, ap, append-nil, append_assoc, arith, At, begins_prefix, begins_with, blanks, Bool, by_comment, by_declaration, by_name, by_octets, by_version, cases_Bool, codes, declaration_by, decoded, Directive, directive, directive_of, DirectivesAreRead, DirectivesEndAsTheirTextSays, eqb-true, Err, false, Fault, first_break, further, handle_and_rest, has_no_break, if◌then◌else◌, inl, inr, is_alpha, is_alphanumeric, is_at_gap, is_blank, is_flow, is_handle, is_rest_of_line, is_same, is_tag, is_uri, is_uri_mark, IsDirectiveRefusal, IsNoDeclaration, IsNoVersion, kind, leading, length, length-append, List, long_major, long_minor, name, next_line, no_major, no_minor, no_name, no_point, no_prefix, None, not-false, not-true, number, number_of, Ok, open_name, Option, past, Position, position_after, prefix, prefix_after, Problem, problem_of, Read, reads, refl, refuses, reserved, Result, skip_while, slice_index, Some, suc, sym, tag, tag_declaration, tag_value, token_of, true, unknown, UriFault, value, version, version_of, version_value, with_minor, with_prefix, ℕ, ◌++◌, ◌+◌, ◌==◌, ◌||◌, ◌∙◌, ◌∷◌, ◌≡◌, nat_tests}
+use Rattle.proof_lexers.proofs.Common.{[], after, after_declaration, after_major, after_value, after_version, and_then, ap, append-nil, append_assoc, arith, At, begins_prefix, begins_with, blanks, by_comment, by_declaration, by_name, by_octets, by_version, cases_Bool, codes, declaration_by, decoded, Directive, directive, directive_of, DirectivesAreRead, DirectivesEndAsTheirTextSays, eqb-true, Err, false, Fault, first_break, further, handle_and_rest, has_no_break, if◌then◌else◌, inl, inr, is_alpha, is_alphanumeric, is_at_gap, is_blank, is_flow, is_handle, is_rest_of_line, is_same, is_tag, is_uri, is_uri_mark, IsDirectiveRefusal, IsNoDeclaration, IsNoVersion, kind, leading, length, length-append, List, long_major, long_minor, name, next_line, no_major, no_minor, no_name, no_point, no_prefix, None, not-false, not-true, number, number_of, Ok, open_name, past, Position, position_after, prefix, prefix_after, Problem, problem_of, Read, reads, refl, refuses, reserved, Result, skip_while, slice_index, Some, suc, sym, tag, tag_declaration, tag_value, token_of, true, unknown, UriFault, value, version, version_of, version_value, with_minor, with_prefix, ℕ, ◌++◌, ◌+◌, ◌==◌, ◌||◌, ◌∙◌, ◌∷◌, ◌≡◌, nat_tests}
 use Rattle.defs_token.specs.Token.{Tok}
 use Rattle.yaml_tokens.specs.declared.problem.Problem.TheVariants as problem
 use Rattle.defs_text.specs.Classes as classes
@@ -18,13 +18,6 @@ pub same_text : (a b : List ℕ) → is_same a b ≡ true → a ≡ b
 same_text [] b h = grind arith
 same_text (c ∷ a) [] h = cc
 same_text (c ∷ a) (d ∷ b) h = grind (arith, eqb-true, same_text a b)
-
-none_by : (b : Bool) → ◌≡◌ {A = Option Directive} (if b then None else None) None
-none_by a = grind arith
-
-no_hash : classes.is_blank_or_end 35 ≡ true → ⊥
-unfolding classes.is_blank_or_end classes.is_blank classes.is_break classes.is_nul
-no_hash h = cc
 
 no_tag_at_end : (n : List ℕ) → ends_line n ≡ true → is_tag (slice_index n 0) ≡ false
 unfolding is_tag is_uri is_alphanumeric is_uri_mark is_flow classes.is_tag classes.is_uri classes.is_decimal_digit classes.is_letter classes.is_flow
@@ -124,7 +117,7 @@ module _ (start : Position) (l n : List ℕ) (line : has_no_break l ≡ true) (e
     ]
       where
         no_version : number_of (leading classes.is_decimal_digit s) ≡ None → version_of said ≡ None
-        no_version without = rw (point, is, without) (none_by (is_rest_of_line (after classes.is_decimal_digit s)))
+        no_version without = rw (point, is, without) (grind arith)
 
     point_read : (r : List ℕ) (v : ℕ) → after classes.is_decimal_digit said ≡ r → number_of major ≡ Some v
         → Told start l n (and_then (after_major start (record { rest = r ++ n; position = further (length major) said_position; value = v })) (λ t. after_value start t))
@@ -139,8 +132,8 @@ module _ (start : Position) (l n : List ℕ) (line : has_no_break l ≡ true) (e
     versions : Told start l n (and_then (value start version (after_word ++ n) word_position) (λ t. after_value start t))
     unfolding version_value
     versions = rw (blanks_skipped after_word word_position) (elim (number_sees start said_position said n ends) [
-      | missing none without e ↦ rw e (version_refused problem.VersionNumber _ (rw without (grind (arith, none_by, after))) (no_major none) refl)
-      | long much without e ↦ rw e (version_refused problem.VersionTooLong _ (rw without (grind (arith, none_by, after))) (long_major much) refl)
+      | missing none without e ↦ rw e (version_refused problem.VersionNumber _ (rw without (grind (arith, after))) (no_major none) refl)
+      | long much without e ↦ rw e (version_refused problem.VersionTooLong _ (rw without (grind (arith, after))) (long_major much) refl)
       | found v is e ↦ rw e (point_read (after classes.is_decimal_digit said) v refl is)
     ])
 
@@ -186,10 +179,10 @@ module _ (start : Position) (l n : List ℕ) (line : has_no_break l ≡ true) (e
 
       declaration_end : (cs : List ℕ) → begins_prefix from_prefix ≡ true → decoded prefix_text ≡ Ok cs → is_at_gap after_prefix ≡ true
           → Told start l n (after_value start (record { rest = after_prefix ++ n; position = further (length prefix_text) prefix_position; value = Tok.tag_directive handle_is cs }))
-      unfolding directive_of
+      unfolding directive_of classes.is_blank_or_end classes.is_blank classes.is_break classes.is_nul
       declaration_end cs begins means apart =
           finish before after_prefix (tag_declaration handle_is cs) _ cut position ((rw (word, gap) refl) ∙ declares cs begins means)
-          (λ k e. absurd (no_hash (sym (ap is_at_gap e) ∙ apart)))
+          (λ k e. absurd (cc (sym (ap is_at_gap e) ∙ apart)))
           (λ none begins_no. after_declaration after_prefix (record { prefix = cs; is_declaration = record { is_name = word; is_whole = gap }; has_handle = is; has_prefix = begins; is_prefix = means; is_before = refl; is_apart = apart }) none)
         where
           before : List ℕ
