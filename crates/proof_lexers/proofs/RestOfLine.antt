@@ -51,12 +51,12 @@ pub spaces_passed : (tabs : SkipTabs) (a : List ℕ) (p : Position) (w : Whitesp
     ≡ after_spaces (after (is_space tabs) a) (record { position = further (length (leading (is_space tabs) a)) p; found = found_in w (leading (is_space tabs) a) })
 spaces_passed tabs [] p w = grind (arith, none_further, or-false)
 spaces_passed tabs (c ∷ a) p w = grind (
-    arith,
-    none_further,
-    one_further,
-    or-false,
-    spaces_passed tabs a (past p) (record w { has_valid_yaml_ws = true }),
-    spaces_passed tabs a (past p) (record w { found_tabs = true }),
+  arith,
+  none_further,
+  one_further,
+  or-false,
+  spaces_passed tabs a (past p) (record w { has_valid_yaml_ws = true }),
+  spaces_passed tabs a (past p) (record w { found_tabs = true }),
 )
 
 -- ---- a blank
@@ -66,9 +66,6 @@ record Blank (c : ℕ) (a : List ℕ) (s : Spaces) : Type 0 where
   position : next.position ≡ past s.position
   some : (next.found.found_tabs || next.found.has_valid_yaml_ws) ≡ true
   is : space_from Yes (c ∷ a) s ≡ space_from Yes a next
-
-at_end : (n : List ℕ) (s : Spaces) → ends_line n ≡ true → space_from Yes n s ≡ Ok (record { rest = n; position = further 0 s.position; value = s.found })
-at_end n s h = grind (arith, none_further, break_is_none, same_break)
 
 -- ---- a line
 
@@ -80,7 +77,7 @@ data Walked (some : Bool) (m n : List ℕ) (p : Position) (x : Result (Read Whit
 
 walked : (m n : List ℕ) (s : Spaces) → has_no_break m ≡ true → ends_line n ≡ true → Walked (s.found.found_tabs || s.found.has_valid_yaml_ws) m n s.position (space_from Yes (m ++ n) s)
 unfolding classes.is_blank
-walked [] n s h k = ended s.found refl (or-true _) (at_end n s k)
+walked [] n s h k = ended s.found refl (or-true _) (grind (arith, none_further, break_is_none, same_break))
 walked (c ∷ m) n s h k = elim (cases_Bool (c == 35)) [
   | inl e ↦ rw (eqb-true c 35 e) (hash (rw (eqb-true c 35 e) at h) _ refl)
   | inr e ↦ elim (cases_Bool (classes.is_blank c)) [

@@ -23,10 +23,10 @@ with_column n r = record { rest = r.rest; position = r.position; value = record 
 first_least : (a : List ℕ) (s : First) → s.spaces ≤ s.position.col → max s.most s.spaces ≤ (first_indent a s).value.column
 first_least [] s le = omega arith
 first_least (c ∷ a) s le = grind (
-    arith,
-    first_least a (record s { position = past s.position }),
-    first_least a (record s { spaces = s.position.col + 1; position = past s.position }),
-    first_least a (record { most = max s.most s.spaces; spaces = 0; position = past_break s.position; breaks = s.breaks ++ 10 ∷ [] }),
+  arith,
+  first_least a (record s { position = past s.position }),
+  first_least a (record s { spaces = s.position.col + 1; position = past s.position }),
+  first_least a (record { most = max s.most s.spaces; spaces = 0; position = past_break s.position; breaks = s.breaks ++ 10 ∷ [] }),
 )
 
 -- The search passes what a search up to a column passes that is at least the one it finds.
@@ -34,12 +34,12 @@ first_is_indent : (column : ℕ) (a : List ℕ) (s : First) → (first_indent a 
     → first_indent a s ≡ with_column (first_indent a s).value.column (indent_from column a (at s.position s.breaks))
 first_is_indent column [] s le = refl
 first_is_indent column (c ∷ a) s le = grind (
-    arith,
-    nat_tests,
-    first_least a (record s { spaces = s.position.col + 1; position = past s.position }),
-    first_is_indent column a (record s { position = past s.position }),
-    first_is_indent column a (record s { spaces = s.position.col + 1; position = past s.position }),
-    first_is_indent column a (record { most = max s.most s.spaces; spaces = 0; position = past_break s.position; breaks = s.breaks ++ 10 ∷ [] }),
+  arith,
+  nat_tests,
+  first_least a (record s { spaces = s.position.col + 1; position = past s.position }),
+  first_is_indent column a (record s { position = past s.position }),
+  first_is_indent column a (record s { spaces = s.position.col + 1; position = past s.position }),
+  first_is_indent column a (record { most = max s.most s.spaces; spaces = 0; position = past_break s.position; breaks = s.breaks ++ 10 ∷ [] }),
 )
 
 -- a line that isn't of spaces alone ends the search
@@ -53,13 +53,13 @@ first_column_is : (ls : List Line) (last : List ℕ) (most : ℕ) (p : Position)
     → (first_indent (spell ls last) (looking most p b)).value.column ≡ max most (deepest_start (texts ls ++ last ∷ []))
 first_column_is [] last most p b col are inner = grind (arith, append-nil, first_spaces last [] most p b, first_other last [] most p b, spaces_leading, col_along)
 first_column_is (l ∷ ls) last most p b col are inner = grind (
-    arith,
-    first_spaces,
-    first_break,
-    first_other,
-    spaces_leading,
-    col_along,
-    first_column_is ls last (max most (along l.text p).col) (after_line l p) (b ++ 10 ∷ []),
+  arith,
+  first_spaces,
+  first_break,
+  first_other,
+  spaces_leading,
+  col_along,
+  first_column_is ls last (max most (along l.text p).col) (after_line l p) (b ++ 10 ∷ []),
 )
 
 -- ---- with a digit and without one

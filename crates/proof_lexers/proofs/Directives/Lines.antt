@@ -1,5 +1,5 @@
 -- Directives are read as their lines say, and no other text is.
-use Rattle.proof_lexers.proofs.Common.{[], after, after_declaration, after_major, after_value, after_version, and_then, ap, append-nil, append_assoc, arith, At, begins_prefix, begins_with, blanks, by_comment, by_declaration, by_name, by_octets, by_version, cases_Bool, codes, declaration_by, decoded, Directive, directive, directive_of, DirectivesAreRead, DirectivesEndAsTheirTextSays, eqb-true, Err, false, Fault, first_break, further, handle_and_rest, has_no_break, if◌then◌else◌, inl, inr, is_alpha, is_alphanumeric, is_at_gap, is_blank, is_flow, is_handle, is_rest_of_line, is_same, is_tag, is_uri, is_uri_mark, IsDirectiveRefusal, IsNoDeclaration, IsNoVersion, kind, leading, length, length-append, List, long_major, long_minor, name, next_line, no_major, no_minor, no_name, no_point, no_prefix, None, not-false, not-true, number, number_of, Ok, open_name, past, Position, position_after, prefix, prefix_after, Problem, problem_of, Read, reads, refl, refuses, reserved, Result, skip_while, slice_index, Some, suc, sym, tag, tag_declaration, tag_value, token_of, true, unknown, UriFault, value, version, version_of, version_value, with_minor, with_prefix, ℕ, ◌++◌, ◌+◌, ◌==◌, ◌||◌, ◌∙◌, ◌∷◌, ◌≡◌, nat_tests}
+use Rattle.proof_lexers.proofs.Common.{[], after, after_declaration, after_major, after_value, after_version, and_then, ap, append-nil, append_assoc, arith, At, begins_prefix, begins_with, blanks, by_comment, by_declaration, by_name, by_octets, by_version, cases_Bool, codes, declaration_by, decoded, Directive, directive, directive_of, DirectivesAreRead, DirectivesEndAsTheirTextSays, eqb-true, Err, false, Fault, first_break, further, handle_and_rest, has_no_break, if◌then◌else◌, inl, inr, is_alpha, is_alphanumeric, is_at_gap, is_blank, is_flow, is_handle, is_rest_of_line, is_same, is_tag, is_uri, is_uri_mark, IsDirectiveRefusal, IsNoDeclaration, IsNoVersion, kind, leading, length, length-append, List, long_major, long_minor, name, next_line, no_major, no_minor, no_name, no_point, no_prefix, None, not-false, not-true, number, number_of, Ok, open_name, past, Position, prefix, prefix_after, Problem, problem_of, Read, reads, refl, refuses, reserved, Result, skip_while, slice_index, Some, suc, sym, tag, tag_declaration, tag_value, token_of, true, unknown, UriFault, value, version, version_of, version_value, with_minor, with_prefix, ℕ, ◌++◌, ◌+◌, ◌==◌, ◌||◌, ◌∙◌, ◌∷◌, ◌≡◌, nat_tests}
 use Rattle.defs_token.specs.Token.{Tok}
 use Rattle.yaml_tokens.specs.declared.problem.Problem.TheVariants as problem
 use Rattle.defs_text.specs.Classes as classes
@@ -32,17 +32,12 @@ data Told (start : Position) (l n : List ℕ) (x : Result (Read Tok) Fault) : Ty
 module _ (start : Position) (l n : List ℕ) (line : has_no_break l ≡ true) (ends : ends_line n ≡ true) where
   -- ---- the line's end
 
-  last_position : (before m : List ℕ) (p : Position) → l ≡ before ++ m → p ≡ further (suc (length before)) start
-      → position_after (further (length m) p) (first_break n) (next_line n) ≡ position_after start ((37 ∷ l) ++ first_break n) (next_line n)
-  unfolding classes.is_break
-  last_position before m p cut position =
-      grind (arith, nat_tests, length-append, further, first_break, same_place, position_in_line, position_append)
-
   finish : (before m : List ℕ) (d : Directive) (p : Position) → l ≡ before ++ m → p ≡ further (suc (length before)) start → directive_of (37 ∷ l) ≡ (if is_rest_of_line m then Some d else None)
       → ((k : List ℕ) → m ≡ 35 ∷ k → IsDirectiveRefusal start l (At problem.CommentNotSeparated (further (suc (length before)) start)))
       → (is_rest_of_line m ≡ false → begins_with 35 m ≡ false → IsDirectiveRefusal start l (At problem.DirectiveEnd start)) → Told start l n (after_value start (record { rest = m ++ n; position = p; value = token_of d }))
+  unfolding classes.is_break
   finish before m d p cut position says by_hash by_other = elim (line_ends start p m n (no_break_after before m (ap has_no_break (sym cut) ∙ line)) ends) [
-    | ended is e ↦ rw e (is_directive d (says ∙ rw is refl) (ap (λ q. Ok (record { rest = next_line n; position = q; value = token_of d })) (last_position before m p cut position)))
+    | ended is e ↦ rw e (is_directive d (says ∙ rw is refl) (ap (λ q. Ok (record { rest = next_line n; position = q; value = token_of d })) (grind (arith, nat_tests, length-append, further, first_break, same_place, position_in_line, position_append))))
     | comment begins none e ↦ rw (e, position) (fails _ (says ∙ rw none refl) (glued m refl begins) refl)
     | text none begins e ↦ rw e (fails (At problem.DirectiveEnd start) (says ∙ rw none refl) (by_other none begins) refl)
   ]

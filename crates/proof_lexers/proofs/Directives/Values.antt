@@ -172,11 +172,6 @@ pub no_handle : (c : ℕ) (w r : List ℕ) → leading classes.is_alpha r ≡ c 
 no_handle c w r lead none = rw (lead, no_second_mark (c ∷ w) (after classes.is_alpha r) none) ((marked c w (ap (all_of classes.is_alpha) (sym lead) ∙ all_leading classes.is_alpha r)).0)
 
 module _ (start p : Position) (r n : List ℕ) (ends : ends_line n ≡ true) where
-  -- after a name a second mark stands
-  with_mark : (w s : List ℕ) → leading classes.is_alpha r ≡ w → after classes.is_alpha r ≡ 33 ∷ s → r ≡ w ++ 33 ∷ s → all_of classes.is_alpha w ≡ true
-      → HandleSees start p (33 ∷ r) n (Ok (record { rest = s ++ n; position = past (further (length w) (past p)); value = (33 ∷ w) ++ 33 ∷ [] }))
-  with_mark w s lead rest cut all = grind (arith, nat_tests, handle_of, append_assoc, same_place, length-append)
-
   -- none stands there
   without_mark : (w s : List ℕ) → leading classes.is_alpha r ≡ w → after classes.is_alpha r ≡ s → r ≡ w ++ s → all_of classes.is_alpha w ≡ true → begins_with_mark s ≡ false
       → HandleSees start p (33 ∷ r) n (if is_same w [] then Ok (record { rest = s ++ n; position = further (length w) (past p); value = 33 ∷ w }) else Err (At problem.TagDirectiveHandle start))
@@ -189,7 +184,7 @@ module _ (start p : Position) (r n : List ℕ) (ends : ends_line n ≡ true) whe
       → HandleSees start p (33 ∷ r) n (handle_end start (is_same w []) (33 ∷ w) (s ++ n) (further (length w) (past p)))
   after_name w [] lead rest cut all = let none = not_at_end 33 refl refl refl n ends in rw none (without_mark w [] lead rest cut all refl)
   after_name w (d ∷ s) lead rest cut all = elim (cases_Bool (d == 33)) [
-    | inl e ↦ let same : d ≡ 33 = eqb-true d 33 e in rw same (with_mark w s lead (rest ∙ ap (λ k. k ∷ s) same) (cut ∙ ap (λ k. w ++ k ∷ s) same) all)
+    | inl e ↦ let same : d ≡ 33 = eqb-true d 33 e in rw same (grind (arith, nat_tests, handle_of, append_assoc, same_place, length-append))
     | inr e ↦ rw e (without_mark w (d ∷ s) lead rest cut all e)
   ]
 

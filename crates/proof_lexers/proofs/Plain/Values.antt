@@ -5,7 +5,6 @@ use Rattle.defs_token.specs.Plain.{past}
 use Rattle.proof_lexers.proofs.Fold.{buffers_join}
 use Rattle.proof_lexers.proofs.Plain.Turns.{after_char, after_text}
 
-
 -- ---- elements
 
 -- the elements of a text after so many characters, and that the buffers take them as they take the text

@@ -83,14 +83,11 @@ module _ (flow : Bool) (rest : List ℕ) (g : defs.Tag) (p : Position) (follows 
   local_read : (name m : List ℕ) → all_of classes.is_alpha name ≡ true → defs.begins_with_mark m ≡ false → is_empty (name ++ m) ≡ false → tag_of_class classes.is_tag (codes "!") (name ++ m) ≡ Some g → ReadsOn name m
   local_read name m all unmarked some h = by (decoded m) refl (of_class classes.is_tag (codes "!") (name ++ m) g h)
     where
-      no_mark : (l : List ℕ) → defs.begins_with_mark l ≡ false → begins_in (λ c. c == 33) l ≡ false
-      no_mark a e = cc
-
       by : (d : Result (List ℕ) UriFault) → decoded m ≡ d → (all_of classes.is_tag (name ++ m) ≡ true) × (decoded (name ++ m) ≡ Ok g.suffix) × (g.handle ≡ codes "!") → ReadsOn name m
       by (Err f) e k = absurd (cc (k.1, word_fails name m f all e))
       by (Ok cs) e k =
           let whole : name ++ cs ≡ g.suffix = cc (k.1, decoded_word name m cs all e) in
-          rw (none_after m 33 (no_mark m unmarked) mark_ends refl, suffix_of (further (length name) (past p)) m name cs (tags_after name m k.0) e, same_empty name m cs e ∙ some, same_end flow rest, follows, whole, k.2, local_position p (length name) (length m) (length (name ++ m)) (length-append name m)) refl
+          rw (none_after m 33 (cc) mark_ends refl, suffix_of (further (length name) (past p)) m name cs (tags_after name m k.0) e, same_empty name m cs e ∙ some, same_end flow rest, follows, whole, k.2, local_position p (length name) (length m) (length (name ++ m)) (length-append name m)) refl
 
   -- a text that begins no verbatim tag
   shorthand_here : (a : List ℕ) → begins_in (λ c. c == 60) a ≡ false → tag flow (33 ∷ (a ++ rest)) p

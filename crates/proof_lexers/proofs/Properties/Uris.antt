@@ -63,10 +63,6 @@ module _ (test class : ℕ → Bool) (start : Position) (same : (c : ℕ) → cl
   of_class : (c : ℕ) → is_digit c 16 ≡ true → class c ≡ true
   of_class c h = same c ∙ digits c h
 
-  none_by : (b : Bool) (x : ℕ) (l : List ℕ) → is_digit x 16 ≡ false → octet_at (37 ∷ (if b then x ∷ l else [])) ≡ None
-  unfolding octet_at
-  none_by a x l e = grind arith
-
   second_octet : (o : Octet) (x : ℕ) (r : List ℕ) (p : Position) (t : List ℕ) → is_digit x 16 ≡ true → class x ≡ true → is_hex x ≡ true → Octets o (x ∷ r) p t
   unfolding octet_at
   second_octet o x [] p t e f g = no_octets (rw f refl) (rw g refl)
@@ -85,7 +81,7 @@ module _ (test class : ℕ → Bool) (start : Position) (same : (c : ℕ) → cl
   octets_at o [] p t = no_octets refl refl
   octets_at o (x ∷ r) p t = elim (cases_Bool (is_digit x 16)) [
     | inl e ↦ second_octet o x r p t e (of_class x e) (same_digit x ∙ e)
-    | inr e ↦ let no_hex : is_hex x ≡ false = same_digit x ∙ e in no_octets (none_by (class x) x (leading class r) e) (rw no_hex refl)
+    | inr e ↦ let no_hex : is_hex x ≡ false = same_digit x ∙ e in no_octets (grind arith) (rw no_hex refl)
   ]
 
   abbrev Plain : List ℕ → Type 0

@@ -61,7 +61,7 @@ spaces_are_passed tabs text p = rw (spaces_passed tabs text p nothing) (by (afte
     by (c ∷ a) e = elim (cases_Bool (c == 35)) [
       | inr f ↦ rw f (ended [] (c ∷ a) _ (cut (c ∷ a) e) (sym (none_further _)) refl refl (ap (ends_spaces tabs) (sym e) ∙ (leading_spaces tabs text).1 ∙ ap (λ r. not (begins_with 35 r)) e ∙ rw f refl))
       | inl f ↦ elim (cases_Bool (has 9 before || has 32 before)) [
-        | inr g ↦ 
+        | inr g ↦
             let none = (leading_spaces tabs text).2 g in
             rw (f, g) (refuses _ (glued (rw (cut (c ∷ a) e, none) f)) (ap (λ b. Err (At problem.CommentNotSeparated (further (length b) p))) none ∙ ap (λ q. Err (At problem.CommentNotSeparated q)) (none_further p)))
         | inl g ↦
