@@ -76,7 +76,11 @@ first_before column ns e are inner h = rw (← text_first ns e are inner) (furth
 -- which begins left of the column, if that is not 0
 pub first_left : (column : ℕ) (w : List ℕ) → IsBefore column w → suc (leading_spaces w) ≤ max column 1
 first_left zero w z = let start = z.start in omega (arith, start)
-first_left (suc n) w z = let start = z.start in let other = z.written in let y = no_row (suc n) w z.none in grind (arith, nat_tests, y, all_spaces, suc_off)
+first_left (suc n) w z =
+    let start = z.start in
+    let other = z.written in
+    let y = no_row (suc n) w z.none in
+    grind (arith, nat_tests, y, all_spaces, suc_off)
 
 -- and leaves the column of the lines before it as it is
 pub same_column : (digit collection : Option ℕ) (ls ns : List Line) (e : List ℕ) → is_spaces (first_line (texts ns) e) ≡ false → leading_spaces (first_line (texts ns) e) ≤ column_by digit collection (texts ls)

@@ -125,7 +125,8 @@ module _ (indent : ℕ) (p : Position) where
   at_the_end h column ls last b e = grind arith
 
   end_read : (h : defs.Header) (line : List ℕ) (k : Break) (ls : List Line) (last : List ℕ) (b : BlockRead) → header_of (indicator_of h.style ∷ line) ≡ Some h → digit_by (digit_or_zero h.digit) ≡ h.digit → is_in_line line ≡ true
-      → Fits k (spell ls last) → AreLines ls last → is_in_line last ≡ true → AtEnd h (column_by h.digit (collection_of indent) (texts ls ++ last ∷ [])) (texts ls) last b
+      → Fits k (spell ls last) → AreLines ls last → is_in_line last ≡ true
+      → AtEnd h (column_by h.digit (collection_of indent) (texts ls ++ last ∷ [])) (texts ls) last b
       → IsRead indent p b (indicator_of h.style ∷ (line ++ put k (spell ls last))) [] (block (is_literal_style b.style) indent ((indicator_of h.style ∷ (line ++ put k (spell ls last))) ++ []) p)
   end_read h line k ls last b is digit inner fits are last_inner z =
       let K = column_by h.digit (collection_of indent) (texts ls ++ last ∷ []) in
@@ -153,7 +154,8 @@ headed indent (c ∷ line) content next b inner e = by (header_of (c ∷ line)) 
   where
     by : (o : Option defs.Header) → header_of (c ∷ line) ≡ o → Headed (c ∷ line)
     by None f = let no : None ≡ Some b = rw f at e in cc
-    by (Some h) f = let z = said c line h f in record { h = h; is = f; line = line; cut = ap (λ d. d ∷ line) z.begins; digit = z.digit_is; inner = (first_inner c line inner).1 }
+    by (Some h) f =
+        let z = said c line h f in record { h = h; is = f; line = line; cut = ap (λ d. d ∷ line) z.begins; digit = z.digit_is; inner = (first_inner c line inner).1 }
 
 module _ (indent : ℕ) (p : Position) (b : BlockRead) where
   abbrev pub Read_as : List ℕ → List ℕ → Type 0

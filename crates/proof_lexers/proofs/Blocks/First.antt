@@ -49,9 +49,11 @@ first_other [] a most p b h inner = cc
 first_other (c ∷ w) a most p b h inner = grind (arith, nat_tests, first_inner, first_other w a most (past p) b)
 
 -- The column that is found is that of the deepest line of spaces, or of the first other line.
-first_column_is : (ls : List Line) (last : List ℕ) (most : ℕ) (p : Position) (b : List ℕ) → p.col ≡ 0 → AreLines ls last → is_in_line last ≡ true
+first_column_is : (ls : List Line) (last : List ℕ) (most : ℕ) (p : Position) (b : List ℕ) → p.col ≡ 0 → AreLines ls last
+    → is_in_line last ≡ true
     → (first_indent (spell ls last) (looking most p b)).value.column ≡ max most (deepest_start (texts ls ++ last ∷ []))
-first_column_is [] last most p b col are inner = grind (arith, append-nil, first_spaces last [] most p b, first_other last [] most p b, spaces_leading, col_along)
+first_column_is [] last most p b col are inner =
+    grind (arith, append-nil, first_spaces last [] most p b, first_other last [] most p b, spaces_leading, col_along)
 first_column_is (l ∷ ls) last most p b col are inner = grind (
   arith,
   first_spaces,

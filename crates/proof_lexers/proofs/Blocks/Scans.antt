@@ -224,7 +224,8 @@ module _ (h : defs.Header) (line : List ℕ) (k : Break) (indent : ℕ) (p : Pos
 
 -- ---- a header at the end of the text
 
-no_lines : (indent increment : ℕ) (q : Position) → ((content indent increment [] q).rest ≡ []) × ((content indent increment [] q).position ≡ q)
+no_lines : (indent increment : ℕ) (q : Position)
+    → ((content indent increment [] q).rest ≡ []) × ((content indent increment [] q).position ≡ q)
 unfolding content
 no_lines indent a q = (grind (arith, nat_tests), grind (arith, nat_tests))
 

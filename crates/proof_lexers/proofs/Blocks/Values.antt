@@ -109,7 +109,8 @@ rows_more : (b : Bool) (rs : List Row) (r : Row) (l : Lines) → after_rows b (r
 rows_more b [] r l = refl
 rows_more b (q ∷ rs) r l = rows_more b rs r (after_row b q l)
 
-more_rows : (rs : List Row) (c : ℕ) (m : List ℕ) → AreFull rs → AreFull (rs ++ content_row (c ∷ m) ∷ []) × (has_content (rs ++ content_row (c ∷ m) ∷ []) ≡ true)
+more_rows : (rs : List Row) (c : ℕ) (m : List ℕ) → AreFull rs
+    → AreFull (rs ++ content_row (c ∷ m) ∷ []) × (has_content (rs ++ content_row (c ∷ m) ∷ []) ≡ true)
 more_rows [] c m full = (tt, refl)
 more_rows (r ∷ rs) c m full = grind (arith, more_rows rs c m)
 

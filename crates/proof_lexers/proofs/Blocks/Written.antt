@@ -75,7 +75,8 @@ two_breaks a z = record { lines = record { text = []; by = both } ∷ z.lines; l
 pub lined : (a : List ℕ) → Lined a
 lined [] = record { lines = []; last = []; is = refl; are = tt; inner = refl }
 lined (c ∷ []) = let z = lined [] in elim (cases_Bool (is_break c)) [ inl e ↦ lone_break c [] z e (and-false (c == 13)) | inr e ↦ char_line c [] z z.lines z.is z.are e ]
-lined (c ∷ d ∷ a) = grind (arith, nat_tests, cases_Bool, char_line, and_parts, eqb-true, two_breaks, lone_break, lined (d ∷ a), lined a)
+lined (c ∷ d ∷ a) =
+    grind (arith, nat_tests, cases_Bool, char_line, and_parts, eqb-true, two_breaks, lone_break, lined (d ∷ a), lined a)
 
 -- ---- the lines of the text are these
 

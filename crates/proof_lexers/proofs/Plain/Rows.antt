@@ -28,7 +28,8 @@ before_comma = scalars_read flow (codes "a:b") (codes ":,") (codes "a:b") here r
 -- a dash before a comma, after a blank
 dashed : IsPlainRefusal flow here (codes "a -,") (At problem.PlainDashInFlow (record { index = 5; line = 1; col = 5 }))
 unfolding is_blank is_break is_nul is_blank_or_end is_flow
-dashed = by_dash (codes "a ") (codes ",") refl (λ t. both_ways false refl (ap (has 9) t.is_text ∙ has_tab t.before (t.blanks ++ t.rest))) refl refl refl refl refl
+dashed =
+    by_dash (codes "a ") (codes ",") refl (λ t. both_ways false refl (ap (has 9) t.is_text ∙ has_tab t.before (t.blanks ++ t.rest))) refl refl refl refl refl
   where
     has_tab : (before more : List ℕ) → has 9 (before ++ 9 ∷ more) ≡ true
     has_tab [] more = refl

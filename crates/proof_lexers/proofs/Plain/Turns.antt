@@ -175,9 +175,11 @@ module _ (ctx : Context) (start : Position) where
       plain : at_plain ctx.flow (c ∷ a) ≡ not (ends_at_colon ctx.flow (c ∷ a) || (ctx.flow && classes.is_flow c))
       plain = rw (← same_gap c, q.0, q.1, nul, can_be ctx.flow c a) refl
 
-      by : (shallow hash marker minus ends : Bool) → is_shallow ctx p.col ≡ shallow → (c == 35) ≡ hash → at_marker p.col (c ∷ a) ≡ marker → at_dash ctx.flow (c ∷ a) ≡ minus
+      by : (shallow hash marker minus ends : Bool) → is_shallow ctx p.col ≡ shallow → (c == 35) ≡ hash → at_marker p.col (c ∷ a) ≡ marker
+          → at_dash ctx.flow (c ∷ a) ≡ minus
           → (ends_at_colon ctx.flow (c ∷ a) || (ctx.flow && classes.is_flow c)) ≡ ends → Outcome c a s p t (scan (c ∷ a) between p t)
-      by true hash marker minus ends e f g h k = stopped (ends_line c a s (line ∙ rw e (or_true (at_marker p.col (c ∷ a))))) (rw (solid, e) refl)
+      by true hash marker minus ends e f g h k =
+          stopped (ends_line c a s (line ∙ rw e (or_true (at_marker p.col (c ∷ a))))) (rw (solid, e) refl)
       by false true marker minus ends e f g h k = stopped (ends_comment c a s (comment ∙ f)) (rw (solid, e, f) refl)
       by false false true minus ends e f g h k = stopped (ends_line c a s (line ∙ rw g refl)) (rw (solid, e, f, g) refl)
       by false false false true ends e f g h k = let q = dash_parts ctx.flow c a h in dashed q.0 q.1 q.2 (rw (solid, e, f, g, h) refl)

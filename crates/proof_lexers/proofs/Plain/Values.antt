@@ -58,7 +58,8 @@ no_marker_on flow collection (a ∷ b ∷ c ∷ d ∷ r) next h e = grind (arith
 
 pub no_markers : (flow : Bool) (collection : Option ℕ) (s : Stand) (more next : List ℕ) → goes_on flow collection s more next ≡ true → has_document_marker more ≡ false
 no_markers flow collection s [] next h = refl
-no_markers flow collection s (c ∷ r) next h = grind (arith, nat_tests, goes_on, no_marker_on, no_markers flow collection (past s c) r next)
+no_markers flow collection s (c ∷ r) next h =
+    grind (arith, nat_tests, goes_on, no_marker_on, no_markers flow collection (past s c) r next)
 
 -- ---- the value
 

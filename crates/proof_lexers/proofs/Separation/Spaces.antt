@@ -16,7 +16,8 @@ no_break_is [] = refl
 no_break_is (c ∷ a) = grind (arith, no_break_is a)
 
 -- the spaces that a text begins with, what they leave, and whether any was found
-leading_spaces : (tabs : SkipTabs) (a : List ℕ) → (are_spaces tabs (leading (is_space tabs) a) ≡ true) × (ends_spaces tabs (after (is_space tabs) a) ≡ not (begins_with 35 (after (is_space tabs) a)))
+leading_spaces : (tabs : SkipTabs) (a : List ℕ)
+    → (are_spaces tabs (leading (is_space tabs) a) ≡ true) × (ends_spaces tabs (after (is_space tabs) a) ≡ not (begins_with 35 (after (is_space tabs) a)))
     × ((has 9 (leading (is_space tabs) a) || has 32 (leading (is_space tabs) a)) ≡ false → leading (is_space tabs) a ≡ [])
 leading_spaces tabs [] = (refl, refl, λ e. refl)
 leading_spaces tabs (c ∷ a) = grind (arith, nat_tests, leading_spaces tabs a)
@@ -29,7 +30,8 @@ filled tabs [] c rest h line is = (is, line)
 filled tabs (d ∷ b) c rest h line is = grind (arith, nat_tests, filled tabs b c rest)
 
 -- a comment goes on to its line's end
-commented : (tabs : SkipTabs) (m n : List ℕ) → has_no_break m ≡ true → ends_line n ≡ true → (is_separation true m n ≡ true) × (ends_spaces tabs n ≡ true)
+commented : (tabs : SkipTabs) (m n : List ℕ) → has_no_break m ≡ true → ends_line n ≡ true
+    → (is_separation true m n ≡ true) × (ends_spaces tabs n ≡ true)
 commented tabs [] n h k = grind (arith, break_is_none, same_break)
 commented tabs (c ∷ m) n h k = grind (arith, commented tabs m n)
 
@@ -43,7 +45,9 @@ spaces_are_passed tabs text p = rw (spaces_passed tabs text p nothing) (by (afte
     before : List ℕ
     before = leading (is_space tabs) text
 
-    ended : (comment rest : List ℕ) (q : Position) → text ≡ before ++ (comment ++ rest) → q ≡ further (length comment) (further (length before) p) → has_no_break comment ≡ true → is_separation false comment rest ≡ true → ends_spaces tabs rest ≡ true
+    ended : (comment rest : List ℕ) (q : Position) → text ≡ before ++ (comment ++ rest)
+        → q ≡ further (length comment) (further (length before) p) → has_no_break comment ≡ true
+        → is_separation false comment rest ≡ true → ends_spaces tabs rest ≡ true
         → EndsAs (HasSpaces tabs p text) (IsGlued p text) (Ok (record { rest = rest; position = q; value = found_in nothing before }))
     ended comment rest q cut place line is ends =
         let are = (leading_spaces tabs text).0 in
@@ -56,14 +60,18 @@ spaces_are_passed tabs text p = rw (spaces_passed tabs text p nothing) (by (afte
     cut : (r : List ℕ) → after (is_space tabs) text ≡ r → text ≡ before ++ r
     cut r e = span_cut (is_space tabs) text ∙ ap (λ x. before ++ x) e
 
-    by : (r : List ℕ) → after (is_space tabs) text ≡ r → EndsAs (HasSpaces tabs p text) (IsGlued p text) (after_spaces r (record { position = further (length before) p; found = found_in nothing before }))
+    by : (r : List ℕ) → after (is_space tabs) text ≡ r
+        → EndsAs (HasSpaces tabs p text) (IsGlued p text) (after_spaces r (record { position = further (length before) p; found = found_in nothing before }))
     by [] e = ended [] [] _ (cut [] e) (sym (none_further _)) refl refl refl
     by (c ∷ a) e = elim (cases_Bool (c == 35)) [
-      | inr f ↦ rw f (ended [] (c ∷ a) _ (cut (c ∷ a) e) (sym (none_further _)) refl refl (ap (ends_spaces tabs) (sym e) ∙ (leading_spaces tabs text).1 ∙ ap (λ r. not (begins_with 35 r)) e ∙ rw f refl))
+      | inr f ↦ rw f (ended [] (c ∷ a) _ (cut (c ∷ a) e) (sym (none_further _)) refl refl
+          (ap (ends_spaces tabs) (sym e) ∙ (leading_spaces tabs text).1 ∙ ap (λ r. not (begins_with 35 r)) e ∙ rw f refl))
       | inl f ↦ elim (cases_Bool (has 9 before || has 32 before)) [
         | inr g ↦
             let none = (leading_spaces tabs text).2 g in
-            rw (f, g) (refuses _ (glued (rw (cut (c ∷ a) e, none) f)) (ap (λ b. Err (At problem.CommentNotSeparated (further (length b) p))) none ∙ ap (λ q. Err (At problem.CommentNotSeparated q)) (none_further p)))
+            rw (f, g) (refuses _ (glued (rw (cut (c ∷ a) e, none) f))
+            (ap (λ b. Err (At problem.CommentNotSeparated (further (length b) p))) none
+            ∙ ap (λ q. Err (At problem.CommentNotSeparated q)) (none_further p)))
         | inl g ↦
             let z = first_line a in
             let y = commented tabs (leading in_line a) (after in_line a) z.0 z.1 in
