@@ -36,9 +36,6 @@ stayed s rest = same_after s rest s.leading s.position s.position s.key_allowed 
 
 -- ---- what a character adds
 
-pub same_allowed : (s : Held) (c : ℕ) (a : List ℕ) → classes.is_break c ≡ false → Allows s c s.key_allowed a
-same_allowed s c a e separation rest cut ends = rw e refl
-
 pub line_allowed : (s : Held) (c : ℕ) (a : List ℕ) → classes.is_break c ≡ true → Allows s c (not (in_flow s) || s.key_allowed) a
 line_allowed s c a e separation rest cut ends = grind (arith, or-true)
 
@@ -99,7 +96,7 @@ module _ {M : Type 0} (in_comment : M → Bool) (begins : List ℕ → Bool) (no
   pub on_line : (m n : M) (s : Held) (c : ℕ) (a : List ℕ) (b : Bool) → is_break c ≡ false → Fills m n c → Keeps m n s c a b s.key_allowed → WalksOn a → Walks m s (c ∷ a) (go n a (at s (past s.position) b s.key_allowed))
   on_line m n s c a b e fills keeps ih =
       let still : classes.is_break c ≡ false = same_break c ∙ e in
-      one_more m n s c a b s.key_allowed (past s.position) (in_line_position c a s.position (rw still refl)) fills (same_allowed s c a still) keeps ih
+      one_more m n s c a b s.key_allowed (past s.position) (in_line_position c a s.position (rw still refl)) fills (λ separation rest cut ends. rw still refl) keeps ih
 
   -- a break, from anywhere
   pub broken : (m n : M) (s : Held) (c : ℕ) (a : List ℕ) → is_break c ≡ true → in_comment n ≡ false → ((b k : Bool) → Keeps m n s c a b k) → WalksOn a → Walks m s (c ∷ a) (go n a (at_break c a s))
