@@ -56,12 +56,12 @@ first_column_is [] last most p b col are inner =
     grind (arith, append-nil, first_spaces last [] most p b, first_other last [] most p b, spaces_leading, col_along)
 first_column_is (l ∷ ls) last most p b col are inner = grind (
   arith,
-  first_spaces,
-  first_break,
-  first_other,
-  spaces_leading,
-  col_along,
-  first_column_is ls last (max most (along l.text p).col) (after_line l p) (b ++ 10 ∷ []),
+  first_spaces l.text (put l.by (spell ls last)) most p b,
+  first_break l.by (spell ls last) most (along l.text p) b are.1,
+  first_other l.text (put l.by (spell ls last)) most p b,
+  spaces_leading l.text,
+  col_along l.text p,
+  first_column_is ls last (max most (along l.text p).col) (after_line l p) (b ++ 10 ∷ []) refl are.2 inner,
 )
 
 -- ---- with a digit and without one
