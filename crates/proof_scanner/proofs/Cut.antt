@@ -1,5 +1,4 @@
 pub mod Blocks
-pub mod Characters
 pub mod Dispatch
 pub mod Documents
 pub mod Faults

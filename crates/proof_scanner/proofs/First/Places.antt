@@ -89,9 +89,9 @@ module _ (J : Account → Account → Type 0) (same : (x y : Account) → J x y 
     at_quoted : (single : Bool) (piece gap content : List ℕ) → r1 ≡ piece ++ (gap ++ content) → IsQuoted single piece (gap ++ content) → is_separation false gap content ≡ true → begins_separation content ≡ false
         → position_after (position_after h1 piece (gap ++ content)) gap content ≡ h2
     at_quoted single piece gap content e is fills solid =
-        let v = same_quoted_value a s1 r1 h1 step single piece (gap ++ content) e is in
+        let v = same_quoted_value step single piece (gap ++ content) e is in
         let cuts = one_gap gap content (sym v.2) fills solid in
-        let act : act_of step.step.shown ≡ gives_node = ap act_of (sym v.1) ∙ (node_token a s1 r1 h1 step single (quoted_value a s1 r1 h1 step single piece (gap ++ content) is)).0 in
+        let act : act_of step.step.shown ≡ gives_node = ap act_of (sym v.1) ∙ (node_token step single (quoted_value step single piece (gap ++ content) is)).0 in
         let past_is = node_site_past step.account step.step step.next step.past act step.is_past in
         let past : g.past.site.position ≡ position_after h1 piece (gap ++ content) =
         ap (λ (x : Site). x.position) past_is ∙ (ap (λ p. position_after p step.step.piece step.next) step.position_is ∙ (ap (λ f. position_after h1 f step.next) (sym v.0) ∙ ap (λ r. position_after h1 piece r) (sym v.2))) in
@@ -99,13 +99,13 @@ module _ (J : Account → Account → Type 0) (same : (x y : Account) → J x y 
 
   -- Where a way goes on past a place, what fails there first is a TAB after a quoted scalar, which so fails at the next place.
   pub fails_before : (why1 why2 : Problem) (at1 at2 : Position) → FailsFirst a s1 h1 r1 why1 at1 → FailsFirst b s2 h2 r2 why2 at2 → (why1 ≡ why2) × (at1 ≡ at2)
-  fails_before why1 why2 at1 at2 f1 f2 = elim (cases_Bool (is_free_of_tabs b s2)) [ inl free ↦ absurd (no_step_stands a s1 r1 h1 step (clear (λ _. free)) why1 at1 f1.fails) | inr tab ↦ on g.steps refl tab ]
+  fails_before why1 why2 at1 at2 f1 f2 = elim (cases_Bool (is_free_of_tabs b s2)) [ inl free ↦ absurd (no_step_stands step (clear (λ _. free)) why1 at1 f1.fails) | inr tab ↦ on g.steps refl tab ]
     where
       on : (ws : List Step) → g.steps ≡ ws → is_free_of_tabs b s2 ≡ false → (why1 ≡ why2) × (at1 ≡ at2)
-      on (v ∷ vs) last tab = absurd (no_step_stands a s1 r1 h1 step (clear (λ none. absurd (cc (none, last)))) why1 at1 f1.fails)
+      on (v ∷ vs) last tab = absurd (no_step_stands step (clear (λ none. absurd (cc (none, last)))) why1 at1 f1.fails)
       on [] last tab =
           let own = tab_alone b s2 h2 r2 why2 at2 f2.fails f2.is_first tab in
-          let first = step_refuted a s1 r1 h1 step (λ why at. (why ≡ problem.TabInBlockIndentation) × (at ≡ h2))
-          (λ comes before blanks more column cut over stands left are token. absurd (no_tab a s1 r1 h1 step comes before blanks more column cut over stands left are token (clear_gap last tab own.2)))
+          let first = step_refuted step (λ why at. (why ≡ problem.TabInBlockIndentation) × (at ≡ h2))
+          (λ comes before blanks more column cut over stands left are token. absurd (no_tab step comes before blanks more column cut over stands left are token (clear_gap last tab own.2)))
           (λ single piece gap content e is fills some solid tabbed. (refl, at_quoted last tab own.2 single piece gap content e is fills solid)) why1 at1 f1.fails in
           (first.0 ∙ sym own.0, first.1 ∙ sym own.1)

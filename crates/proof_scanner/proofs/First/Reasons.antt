@@ -1,5 +1,5 @@
 -- Of two reasons at one place that both come first, kind and position are the same.
-use Rattle.proof_scanner.proofs.Common.{[], Account, alias_name, ap, are_marks, AreNotIndented, arith, At, begins_block, begins_flow, begins_with, block_begins, BlockStyle, Bool, colon, colon_may_precede, comes_first, dash, dashes, directive_line, dots, eqb-true, Fails, FailsFirst, false, first_line, folded, followed_first, has_no_break, has_no_nul, if◌then◌else◌, in_double_quotes, in_single_quotes, indicator_of, innermost, is_at_gap, is_blank, is_blank_or_end, is_break, is_flow, is_flow_indicator, is_full, is_in_flow, is_nul, is_value_here, is_value_indicator, IsBlockFault, IsDirectiveRefusal, IsFollowed, IsLike, IsLookedAt, IsPlainFault, IsQuoted, IsQuotedFault, IsTagRefusal, Kind, least_column, least_here, line_is, lines_first, List, literal, MayNotStand, nat_tests, no_piece_first, NoPiece, opens, plain_first, Position, Problem, question, refl, stands_first, subst, sym, tab, tag_text, true, ℕ, ◌&&◌, ◌++◌, ◌==◌, ◌||◌, ◌∙◌, ◌∷◌, ◌≡◌, ◌⊎◌}
+use Rattle.proof_scanner.proofs.Common.{[], inl, inr, Account, alias_name, ap, are_marks, AreNotIndented, arith, At, begins_block, begins_flow, begins_with, block_begins, BlockStyle, Bool, colon, colon_may_precede, comes_first, dash, dashes, directive_line, dots, eqb-true, Fails, FailsFirst, false, first_line, folded, followed_first, has_no_break, has_no_nul, if◌then◌else◌, in_double_quotes, in_single_quotes, indicator_of, innermost, is_at_gap, is_blank, is_blank_or_end, is_break, is_flow, is_flow_indicator, is_full, is_in_flow, is_nul, is_value_here, is_value_indicator, IsBlockFault, IsDirectiveRefusal, IsFollowed, IsLike, IsLookedAt, IsPlainFault, IsQuoted, IsQuotedFault, IsTagRefusal, Kind, least_column, least_here, line_is, lines_first, List, literal, MayNotStand, nat_tests, no_piece_first, NoPiece, opens, plain_first, Position, Problem, question, refl, stands_first, subst, sym, tab, tag_text, true, ℕ, ◌&&◌, ◌++◌, ◌==◌, ◌||◌, ◌∙◌, ◌∷◌, ◌≡◌, ◌⊎◌}
 use Rattle.yaml_tokens.specs.declared.problem.Problem.TheVariants as problem
 use Rattle.proof_lexers.specs.DirectiveEnds as directives
 use Rattle.proof_row.specs.Ends.{nothing, plain_scalar, anchor_name, block_scalar}
@@ -60,10 +60,11 @@ InKind _ s here rest why at = BracketReason s here rest why at
 -- ---- the reasons at a place
 
 -- A TAB indents what comes; or it does not lie deep enough; or there is a reason at the kind of piece that the text seems to begin.
-pub data Reason (s : Setting) (here : Position) (rest : List ℕ) : Problem → Position → Type 0 where
-  tab_indents : s.spaced ≡ false → Reason s here rest problem.TabInBlockIndentation here
-  shallow : s.spaced ≡ true → is_deep_at s here rest ≡ false → Reason s here rest problem.InvalidIndentation here
-  looked : (k : Kind) (why : Problem) (at : Position) → s.spaced ≡ true → is_deep_at s here rest ≡ true → kind_here s here.col rest ≡ k → InKind k s here rest why at → Reason s here rest why at
+abbrev pub Reason : Setting → Position → List ℕ → Problem → Position → Type 0
+Reason s here rest why at =
+    ((s.spaced ≡ false) × (why ≡ problem.TabInBlockIndentation) × (at ≡ here)) ⊎
+    (((s.spaced ≡ true) × (is_deep_at s here rest ≡ false) × (why ≡ problem.InvalidIndentation) × (at ≡ here)) ⊎
+    ((s.spaced ≡ true) × (is_deep_at s here rest ≡ true) × (k : Kind) × (kind_here s here.col rest ≡ k) × InKind k s here rest why at))
 
 -- ---- kinds by the first characters
 
@@ -153,10 +154,10 @@ module _ (a : Account) (separation : List ℕ) (here : Position) (rest : List �
   own = setting_of a separation here
 
   seen_reason : (why : Problem) (at : Position) → IsLookedAt a separation here rest → OfKind own here rest why at → Reason own here rest why at
-  seen_reason why at l r = looked r.0 why at l.has_no_tab l.is_deep r.1 r.2
+  seen_reason why at l r = inr (inr (l.has_no_tab, l.is_deep, r.0, r.1, r.2))
 
   stands_reason : (why : Problem) (at : Position) (n : MayNotStand a separation here rest why at) → stands_first a separation here rest why at n → Reason own here rest why at
-  stands_reason why at (failing.shallow inside line left) f = grind (arith, shallow, here, rest, least_here)
+  stands_reason why at (failing.shallow inside line left) f = grind (arith, here, rest, least_here)
   stands_reason why at (failing.too_deep bracket more e is many) f =
       let opens_flow : (c : ℕ) → (c ≡ 91) ⊎ (c ≡ 123) → (opens c ≡ true) × (is_flow_indicator c ≡ true) = λ c a. grind (arith, nat_tests, eqb-true) in
       seen_reason problem.FlowTooDeep here f (bracket_reason own here rest bracket more problem.FlowTooDeep here e (opens_flow bracket is).1 (indicators.too_deep bracket more e (ap (λ b. b && is_full a) (opens_flow bracket is).0 ∙ (grind (arith, nat_tests, many)))))
@@ -166,7 +167,7 @@ module _ (a : Account) (separation : List ℕ) (here : Position) (rest : List �
       seen_reason problem.ColonMisplaced here f.0 (colon, ap (λ r. kind_here own here.col r) e ∙ colon_kind own here.col more is, indicators.key_on_earlier_line more (ap is_in_flow are) e f.1)
   stands_reason why at (failing.question_not_free more e gap out line) f =
       seen_reason problem.KeyNotAllowed here f (question, ap (λ r. kind_here own here.col r) e ∙ question_kind own here.col more gap, indicators.question_not_free (rw (out, line) refl))
-  stands_reason why at (failing.tab_indents tabs) f = tab_indents tabs
+  stands_reason why at (failing.tab_indents tabs) f = inl (tabs, refl, refl)
   stands_reason why at (failing.tab_after_quoted single piece gap content e is fills goes_on solid tabs) f =
       seen_reason problem.TabInBlockIndentation _ f.0 (closed_reason own here rest single piece (gap ++ content) problem.TabInBlockIndentation _ e is (quoted.tab_after_quoted single piece gap content e is fills goes_on solid tabs (f.1, f.2)))
 
@@ -238,15 +239,7 @@ one_in block_scalar s here rest why1 why2 at1 at2 clean r q = one_block s.blocks
 one_in k s here rest why1 why2 at1 at2 clean r q = one_bracket s here rest why1 why2 at1 at2 r q
 
 one_of_two : (s : Setting) (here : Position) (rest : List ℕ) (why1 why2 : Problem) (at1 at2 : Position) → has_no_nul rest ≡ true → Reason s here rest why1 at1 → Reason s here rest why2 at2 → AreSame why1 why2 at1 at2
-one_of_two s here rest why1 why2 at1 at2 clean (tab_indents tabs) (tab_indents tabs2) = (refl, refl)
-one_of_two s here rest why1 why2 at1 at2 clean (tab_indents tabs) (shallow spaced2 low2) = absurd (cc (tabs, spaced2))
-one_of_two s here rest why1 why2 at1 at2 clean (tab_indents tabs) (looked k2 reason2 place2 spaced2 deep2 kind2 q) = absurd (cc (tabs, spaced2))
-one_of_two s here rest why1 why2 at1 at2 clean (shallow spaced low) (tab_indents tabs2) = absurd (cc (tabs2, spaced))
-one_of_two s here rest why1 why2 at1 at2 clean (shallow spaced low) (shallow spaced2 low2) = (refl, refl)
-one_of_two s here rest why1 why2 at1 at2 clean (shallow spaced low) (looked k2 reason2 place2 spaced2 deep2 kind2 q) = absurd (cc (low, deep2))
-one_of_two s here rest why1 why2 at1 at2 clean (looked k reason place spaced deep kind r) (tab_indents tabs2) = absurd (cc (tabs2, spaced))
-one_of_two s here rest why1 why2 at1 at2 clean (looked k reason place spaced deep kind r) (shallow spaced2 low2) = absurd (cc (low2, deep))
-one_of_two s here rest why1 why2 at1 at2 clean (looked k reason place spaced deep kind r) (looked k2 reason2 place2 spaced2 deep2 kind2 q) = grind (arith, nat_tests, eqb-true, one_in)
+one_of_two s here rest why1 why2 at1 at2 clean r q = grind (arith, nat_tests, eqb-true, one_in)
 
 -- At like accounts, after the same separation, what fails first is of one kind and at one position.
 pub one_reason : (a b : Account) → IsLike a b → (separation : List ℕ) (here : Position) (rest : List ℕ) → has_no_nul rest ≡ true → (why1 why2 : Problem) (at1 at2 : Position) → FailsFirst a separation here rest why1 at1 → FailsFirst b separation here rest why2 at2 → (why1 ≡ why2) × (at1 ≡ at2)

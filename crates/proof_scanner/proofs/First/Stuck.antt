@@ -158,7 +158,7 @@ module _ (text : List ℕ) where
 
       passed : (x : Account) (s : StepAt k.account k.separation (58 ∷ k.more) here) → s.account ≡ x → BeginsOrApart text x k.account after2 → ⊥
       passed x s e (inl r) = keyless_step text k.separation k.more k.account here s (subst (λ u. Begins text after2 u) (sym e) r.1) k.place.is_filled k.is_value k.is_outside k.is_line_taken k.has_none
-      passed x s e (inr r) = no_colon_here k.account k.separation (58 ∷ k.more) here s k.more refl k.is_value k.is_outside k.is_line_taken (λ q waiting unbroken near. cc (waiting, ap (λ (u : Account). u.line) e, r.1.none))
+      passed x s e (inr r) = no_colon_here s k.more refl k.is_value k.is_outside k.is_line_taken (λ q waiting unbroken near. cc (waiting, ap (λ (u : Account). u.line) e, r.1.none))
 
       by : Meet GivesUp Same (BeginsOrApart text) f.account k.account after1 after2 → ⊥
       by (same_place like r e) =
@@ -166,7 +166,7 @@ module _ (text : List ℕ) where
           colon_alone k.account f.account (like_sym f.account k.account like) k.separation k.more here k.is_value k.is_outside k.looked k.has_no_tab_after why at
           (subst (λ s. FailsFirst f.account s here (58 ∷ k.more) why at) cut.0 (subst (λ r. FailsFirst f.account f.separation here r why at) cut.1 (subst (λ h. FailsFirst f.account f.separation h f.rest why at) cut.2 f.first)))
       by (second_on n) =
-          no_step_stands f.account f.separation f.rest f.here (step_of Same (BeginsOrApart text) f.account k.account f.separation f.rest k.separation (58 ∷ k.more) f.here f.stands n (clean_place f.way))
+          no_step_stands (step_of Same (BeginsOrApart text) f.account k.account f.separation f.rest k.separation (58 ∷ k.more) f.here f.stands n (clean_place f.way))
           (clear Same (λ x y e. ap (λ (u : Account). u.site) e) (BeginsOrApart text) f.account k.account f.separation f.rest k.separation (58 ∷ k.more) f.here here f.stands (stands_keyless here k) n (clean_place f.way) (λ _. k.looked.has_no_tab)) why at f.first.fails
       by (first_on n) =
           passed n.account (step_of GivesUp (λ x y. BeginsOrApart text y x) k.account f.account k.separation (58 ∷ k.more) f.separation f.rest here (stands_keyless here k) n (clean_place w)) refl n.holds

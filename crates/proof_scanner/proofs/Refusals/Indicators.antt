@@ -15,13 +15,14 @@ use Rattle.proof_scanner.proofs.Sound.Arrivals as arrivals
 use Rattle.proof_scanner.proofs.Sound.Stales.{no_entries}
 use Rattle.proof_scanner.proofs.Sound.DocumentLines.{line_begun}
 use Rattle.proof_scanner.proofs.Cut.Dispatch.{gap_here, value_is}
+use Rattle.proof_scanner.proofs.Cut.Blocks.{key_removed}
 use Rattle.proof_scanner.proofs.Cut.Levels.{rolled_one_is}
 use Rattle.proof_scanner.proofs.Cut.Passes.{Spaced, spaced, spaces_skipped}
 use Rattle.proof_scanner.proofs.Sound.QuotedEnds.{not_at_end}
 use Rattle.proof_scanner.proofs.Sound.Blanks.{same_in_line, line_rest_in_line, line_rest_cut, line_rest_fills, found_in, spaced_parted}
 use Rattle.proof_scanner.proofs.Sound.Passed.{same_has_break}
 use Rattle.proof_scanner.proofs.Refusals.TabsAfterColon.{no_space}
-use Rattle.proof_scanner.proofs.Refusals.Rolled.{Stays, rolled_stays, unrolled_stays, entry_keys, removed_is}
+use Rattle.proof_scanner.proofs.Refusals.Rolled.{Stays, rolled_stays, unrolled_stays, entry_keys}
 use Rattle.proof_scanner.proofs.Cut.Saved.{saved_keys, saved_is}
 use Rattle.proof_scanner.specs.NoPiece as none
 use Rattle.proof_scanner.specs.Failing as defs
@@ -257,7 +258,7 @@ module _ (text : List ℕ) (t : ScannerState) (a : Arrives text t) (some : is_em
       let first : (u.rest ≡ t.rest) × Stays u.held t.held × ((in_flow t.held || t.held.key_allowed) ≡ true) =
       held_of {P = λ v. (v.rest ≡ t.rest) × Stays v.held t.held × ((in_flow t.held || t.held.key_allowed) ≡ true)} u (holds.tried t (begin_key t.held) key_place (λ s k. (refl, k.0, k.1))) i in
       in_turn (tried u (remove_told text u.held (λ must. absurd (cc (must, ap (λ ks. is_required (top_key ks)) first.1.1, not_required text t a some first.2))))) (λ v j.
-      let second : (v.rest ≡ u.rest) × (v.held.position ≡ u.held.position) = held_of {P = λ x. (x.rest ≡ u.rest) × (x.held.position ≡ u.held.position)} v (holds.tried u (remove_implicit_key u.held) (removed_is u.held) (λ s k. (refl, ap (λ h. h.position) k))) j in
+      let second : (v.rest ≡ u.rest) × (v.held.position ≡ u.held.position) = held_of {P = λ x. (x.rest ≡ u.rest) × (x.held.position ≡ u.held.position)} v (holds.tried u (remove_implicit_key u.held) (key_removed u.held) (λ s k. (refl, ap (λ h. h.position) k))) j in
       let here : ScannerState = skip_indicator (on_held (λ s. allow_key (not (in_flow s)) s) v) in
       let left : here.rest ≡ more = ap after (second.0 ∙ (first.0 ∙ e)) in
       let place : here.held.position ≡ past t.held.position = ap past (second.1 ∙ first.1.0) in

@@ -14,7 +14,7 @@ pub many_alike : (ds es : List Entry) → LikeEntries ds es → length ds ≡ le
 many_alike (d ∷ ds) (e ∷ es) h = ap suc (many_alike ds es h.1)
 many_alike a b h = grind arith
 
-module _ (a : Account) (separation rest : List ℕ) (here : Position) (s : StepAt a separation rest here) where
+module _ {a : Account} {separation rest : List ℕ} {here : Position} (s : StepAt a separation rest here) where
   abbrev pub next : List ℕ
   next = s.next
 

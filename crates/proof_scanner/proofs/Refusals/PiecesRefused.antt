@@ -39,7 +39,7 @@ pub tab_gap : (more : List ℕ) → begins_with 9 more ≡ true → is_at_gap mo
 unfolding is_blank_or_end is_blank is_break is_nul
 tab_gap a h = grind arith
 
-module _ (a : Account) (separation rest : List ℕ) (here : Position) (s : StepAt a separation rest here) where
+module _ {a : Account} {separation rest : List ℕ} {here : Position} (s : StepAt a separation rest here) where
   abbrev next : List ℕ
   next = s.next
 

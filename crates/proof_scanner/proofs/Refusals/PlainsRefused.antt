@@ -40,12 +40,12 @@ ends_dashed s c [] h = grind arith
 ends_dashed s c (d ∷ []) h = ends_dashed (past s c) d [] h
 ends_dashed s c (d ∷ e ∷ p) h = ends_dashed (past s c) d (e ∷ p) h
 
-module _ (a : Account) (separation rest : List ℕ) (here : Position) (s : StepAt a separation rest here) (comes_here : comes_plain (is_in_flow a.entries) (is_adjacent (before_past (before_by a.site.before) separation)) here.col rest ≡ true) where
+module _ {a : Account} {separation rest : List ℕ} {here : Position} (s : StepAt a separation rest here) (comes_here : comes_plain (is_in_flow a.entries) (is_adjacent (before_past (before_by a.site.before) separation)) here.col rest ≡ true) where
   abbrev next : List ℕ
   next = s.next
 
   abbrev seen_here : pieces.Account
-  seen_here = acct a separation rest here s
+  seen_here = acct s
 
   abbrev Here : Kind → Type 0
   Here k = Whole k (context_of seen_here) s.step.piece next s.step.shown
@@ -57,17 +57,17 @@ module _ (a : Account) (separation rest : List ℕ) (here : Position) (s : StepA
   plain_here = by (comes_by (pieces.is_in_flow seen_here) (is_adjacent seen_here.before) seen_here.position.col rest comes_there)
     where
       by : Comes (pieces.is_in_flow seen_here) (is_adjacent seen_here.before) seen_here.position.col rest → Here plain_scalar
-      by (comes k) = subst Here k (whole_at a separation rest here s)
+      by (comes k) = subst Here k (whole_at s)
       by (dashed k) =
-          let m : Here dashes = subst Here k (whole_at a separation rest here s) in
+          let m : Here dashes = subst Here k (whole_at s) in
           absurd (no_marker (pieces.is_in_flow seen_here) (is_adjacent seen_here.before) seen_here.position.col rest next comes_there (ap (λ p. p ++ next) (sym m.0.0) ∙ s.text_is) m.0.1 m.0.2)
 
   site_is : At s.account s.step next ≡ site_at_place a here
-  site_is = node_site a separation rest here s (ap act_of plain_here.2)
+  site_is = node_site s (ap act_of plain_here.2)
 
   -- its column in flow
   pub no_column : is_in_flow a.entries ≡ true → nat_le (least_column (site_at_place a here).blocks true) here.col ≡ false → ⊥
-  no_column flow left = no_depth a separation rest here s (scalar tokens.plain plain_here.0) plain_here.2 refl (ap (λ b. is_deep_enough b (scalar tokens.plain plain_here.0) (site_at_place a here)) flow ∙ left)
+  no_column flow left = no_depth s (scalar tokens.plain plain_here.0) plain_here.2 refl (ap (λ b. is_deep_enough b (scalar tokens.plain plain_here.0) (site_at_place a here)) flow ∙ left)
 
   -- its piece is whole
   whole : is_whole_plain (is_in_flow a.entries) (innermost (site_at_place a here).blocks) s.step.piece next ≡ true
@@ -78,7 +78,7 @@ module _ (a : Account) (separation rest : List ℕ) (here : Position) (s : StepA
   no_dash [] more flow cut begins over apart =
       let may : may_begin true (is_adjacent seen_here.before) 45 more ≡ true =
       let all : begins_plain (pieces.is_in_flow seen_here) (is_adjacent seen_here.before) seen_here.position.col (45 ∷ more) ≡ true = ap (begins_plain (pieces.is_in_flow seen_here) (is_adjacent seen_here.before) seen_here.position.col) (sym (s.text_is ∙ cut)) ∙ plain_here.1.0 in
-      ap (λ b. may_begin b (is_adjacent seen_here.before) 45 more) (sym (flow_is a separation rest here s ∙ flow)) ∙ (and_parts (may_begin (pieces.is_in_flow seen_here) (is_adjacent seen_here.before) 45 more) (not ((seen_here.position.col == 0) && is_document_marker (45 ∷ more))) all).0 in
+      ap (λ b. may_begin b (is_adjacent seen_here.before) 45 more) (sym (flow_is s ∙ flow)) ∙ (and_parts (may_begin (pieces.is_in_flow seen_here) (is_adjacent seen_here.before) 45 more) (not ((seen_here.position.col == 0) && is_document_marker (45 ∷ more))) all).0 in
       cc (may, none)
     where
       none : may_begin true (is_adjacent seen_here.before) 45 more ≡ false
@@ -88,7 +88,7 @@ module _ (a : Account) (separation rest : List ℕ) (here : Position) (s : StepA
       let own : is_whole_plain true coll (c ∷ (p ++ 45 ∷ [])) more ≡ true = rw (goes_both true coll inside p (45 ∷ []) more (ap (λ b. goes_on b coll inside p (45 ∷ more)) (sym flow) ∙ over) (dash_goes coll (stand_after inside p) more begins), content_end c p, flow_stops coll inside more begins) refl in
       let same : (s.step.piece ≡ c ∷ (p ++ 45 ∷ [])) × (next ≡ more) = plains true coll s.step.piece (c ∷ (p ++ 45 ∷ [])) next more (ap (λ b. is_whole_plain b coll s.step.piece next) (sym flow) ∙ whole) own (s.text_is ∙ (cut ∙ ap (λ r. c ∷ r) (sym (append_assoc p (45 ∷ []) more)))) in
       let dashed_there : has_dash_before_flow s.step.piece next ≡ true = ap (λ x. has_dash_before_flow x next) same.0 ∙ (ap (λ r. has_dash_before_flow (c ∷ (p ++ 45 ∷ [])) r) same.1 ∙ rw (ends_dashed after_blank c p apart, begins) refl) in
-      no_end a separation rest here s
+      no_end s
       (ap (λ t. may_precede (is_in_flow s.account.entries) (At s.account s.step next).blocks t s.step.piece next) plain_here.2 ∙
       (ap (λ b. not (b && has_dash_before_flow s.step.piece next)) (sym (same_flow a.entries s.account.entries s.is_like.2) ∙ flow) ∙ ap not dashed_there))
 
@@ -107,7 +107,7 @@ module _ (a : Account) (separation rest : List ℕ) (here : Position) (s : StepA
       coll = innermost (site_at_place a here).blocks
 
       lines : plain_lines_fit least s.step.piece ≡ true
-      lines = elim (cases_Bool (plain_lines_fit least s.step.piece)) [ inl e ↦ e | inr e ↦ absurd (no_lines a separation rest here s (scalar tokens.plain plain_here.0) plain_here.2 refl e) ]
+      lines = elim (cases_Bool (plain_lines_fit least s.step.piece)) [ inl e ↦ e | inr e ↦ absurd (no_lines s (scalar tokens.plain plain_here.0) plain_here.2 refl e) ]
 
       past_is : s.past.site ≡ site_past (is_in_flow s.account.entries) (At s.account s.step next) s.step.piece s.step.shown next (At s.account s.step next).blocks
       past_is = node_site_past s.account s.step next s.past (ap act_of plain_here.2) s.is_past

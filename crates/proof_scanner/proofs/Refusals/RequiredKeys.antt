@@ -130,7 +130,7 @@ none_closes : (must : Bool) (here : Position) (bs : List ℕ) (k : Act) (key : B
 none_closes must a bs k b l q o e d h = grind arith
 
 -- The row's step at a place, while a key waits outside flow: no comma or closing bracket, and nothing in column 0.
-module _ (a : Account) (separation rest : List ℕ) (here : Position) (s : StepAt a separation rest here) (q : Position) (waiting : s.account.line ≡ waits q) where
+module _ {a : Account} {separation rest : List ℕ} {here : Position} (s : StepAt a separation rest here) (q : Position) (waiting : s.account.line ≡ waits q) where
   made_here : Made s.account.site s.account.line s.account.entries s.step s.next s.past
   made_here = made s.account.site s.account.line s.account.entries s.step s.next s.past s.is_past
 
@@ -151,9 +151,9 @@ module _ (a : Account) (separation rest : List ℕ) (here : Position) (s : StepA
   -- the text says so
   pub closes : (c : ℕ) (more : List ℕ) → rest ≡ c ∷ more → (c ≡ 44) ⊎ (c ≡ 93) ⊎ (c ≡ 125) → (act_of s.step.shown ≡ gives_comma) ⊎ (act_of s.step.shown ≡ gives_closing)
   unfolding is_blank_or_end is_blank is_break is_nul is_flow
-  closes c more e (inl is) = let w : Whole comma (context_of (acct a separation rest here s)) s.step.piece s.next s.step.shown = whole_by a separation rest here s 44 more (e ∙ ap (λ x. x ∷ more) is) in inl (ap act_of w.1)
-  closes c more e (inr (inl is)) = let w : Whole sequence_closing (context_of (acct a separation rest here s)) s.step.piece s.next s.step.shown = whole_by a separation rest here s 93 more (e ∙ ap (λ x. x ∷ more) is) in inr (ap act_of w.1)
-  closes c more e (inr (inr is)) = let w : Whole mapping_closing (context_of (acct a separation rest here s)) s.step.piece s.next s.step.shown = whole_by a separation rest here s 125 more (e ∙ ap (λ x. x ∷ more) is) in inr (ap act_of w.1)
+  closes c more e (inl is) = let w : Whole comma (context_of (acct s)) s.step.piece s.next s.step.shown = whole_by s 44 more (e ∙ ap (λ x. x ∷ more) is) in inl (ap act_of w.1)
+  closes c more e (inr (inl is)) = let w : Whole sequence_closing (context_of (acct s)) s.step.piece s.next s.step.shown = whole_by s 93 more (e ∙ ap (λ x. x ∷ more) is) in inr (ap act_of w.1)
+  closes c more e (inr (inr is)) = let w : Whole mapping_closing (context_of (acct s)) s.step.piece s.next s.step.shown = whole_by s 125 more (e ∙ ap (λ x. x ∷ more) is) in inr (ap act_of w.1)
 
 -- in flow the innermost open key need not be one
 free_inside : (allowed again : Bool) (fs : List FlowLevel) (ks : List (Option Key)) (es : List Entry) → is_empty fs ≡ false → AreEntries allowed again fs ks es → is_required (top_key ks) ≡ false
@@ -187,10 +187,10 @@ module _ (text : List ℕ) (t : ScannerState) (a : Arrives text t) (some : is_em
           refuted (account_by text t a some true []) at.step_at k.0.position (in_flow_is text t a some true [] ∙ ap not out) (a.knows.required at.step_at.account k.0 at.begins k.1 k.2) (begins_waiting text (a.separation ++ t.rest) at.step_at.account at.begins)
 
   pub line_rowless : t.held.position.col ≡ 0 → is_required (top_key t.held.keys) ≡ true → IsRowless text
-  line_rowless col = rowless (λ b s q out waiting on. not_first b a.separation t.rest t.held.position s q waiting on col)
+  line_rowless col = rowless (λ b s q out waiting on. not_first s q waiting on col)
 
   pub closing_rowless : (c : ℕ) (more : List ℕ) → t.rest ≡ c ∷ more → (c ≡ 44) ⊎ (c ≡ 93) ⊎ (c ≡ 125) → is_required (top_key t.held.keys) ≡ true → IsRowless text
-  closing_rowless c more e is = rowless (λ b s q out waiting on. not_closing b a.separation t.rest t.held.position s q waiting out (closes b a.separation t.rest t.held.position s q waiting c more e is))
+  closing_rowless c more e is = rowless (λ b s q out waiting on. not_closing s q waiting out (closes s q waiting c more e is))
 
   -- Where no key is open outside flow, none waits in any beginning of a row.
   pub none_waits : top_key t.held.keys ≡ None → is_empty t.held.flow ≡ true → HasNoKey text a.separation t.rest t.held.position

@@ -18,8 +18,3 @@ unrolled_stays limit s = grind arith
 pub entry_keys : (t : ScannerState) → (roll_entry t).held.keys ≡ t.held.keys
 unfolding roll_entry
 entry_keys t = grind (arith, rolled_one_is)
-
--- no key is open at this level any more
-pub removed_is : (s : Held) → Holds (λ w. w ≡ record s { keys = with_top None s.keys }) (remove_implicit_key s)
-unfolding remove_implicit_key
-removed_is s = checked (is_required (top_key s.keys)) (At problem.KeyExpected s.position) (λ _. went refl)

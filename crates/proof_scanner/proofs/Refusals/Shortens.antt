@@ -218,24 +218,9 @@ module _ (text : List ℕ) (t : ScannerState) (a : Arrives text t) (some : is_em
 
   token_shortens : IsDeep t.held → ((t.held.position.col == 0) && is_document_marker t.rest) ≡ false → Holds Shorter (fetch_token t)
   token_shortens deep marker =
-      token_holds (Holds Shorter) t (is_adjacent before_here) a.is_clean a.is_solid (λ inside. sym (a.is_adjacent_here inside some)) marker (record {
-        anchor = λ kind more e. name_shortens kind more e;
-        tag = λ more e. tag_shortens more e;
-        plain = λ comes. plain_shortens deep comes;
-        quoted = λ quotes more e. quoted_shortens quotes more e;
-        block = λ style more e o. block_shortens style more e;
-        dash = λ more e gap. dash_shortens;
-        question = λ more e gap. question_shortens;
-        colon = λ more e i. colon_shortens;
-        open_bracket = λ more e. opening_shortens Sequence;
-        open_brace = λ more e. opening_shortens Mapping;
-        close_bracket = λ more e. closing_shortens Sequence;
-        close_brace = λ more e. closing_shortens Mapping;
-        comma = λ more e. comma_shortens;
-        percent = λ more e. refused;
-        at_sign = λ more e. refused;
-        backtick = λ more e. refused;
-      }) some
+      token_holds (Holds Shorter) t (is_adjacent before_here) a.is_clean a.is_solid (λ inside. sym (a.is_adjacent_here inside some)) marker
+      (search (name_shortens, tag_shortens, plain_shortens, quoted_shortens, block_shortens, dash_shortens, question_shortens, colon_shortens,
+      opening_shortens, closing_shortens, comma_shortens, refused)) some
 
   content_shortens : Holds Shorter (fetch_content t)
   content_shortens =

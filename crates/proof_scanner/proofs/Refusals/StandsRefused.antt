@@ -55,7 +55,7 @@ abbrev quoted_token : (single : Bool) → List ℕ → Tok
 quoted_token true value = scalar single_quoted value
 quoted_token false value = scalar double_quoted value
 
-module _ (a : Account) (separation rest : List ℕ) (here : Position) (s : StepAt a separation rest here) where
+module _ {a : Account} {separation rest : List ℕ} {here : Position} (s : StepAt a separation rest here) where
   abbrev next : List ℕ
   next = s.next
 
@@ -104,26 +104,26 @@ module _ (a : Account) (separation rest : List ℕ) (here : Position) (s : StepA
       none_begins there s.step.piece s.step.shown next (is_renewed s.account.site.before s.step.separation) s.step.key _ is (taken_there line)) s.is_past
 
   abbrev Here : Kind → Type 0
-  Here k = Whole k (context_of (acct a separation rest here s)) s.step.piece next s.step.shown
+  Here k = Whole k (context_of (acct s)) s.step.piece next s.step.shown
 
   pub no_dash_here : (more : List ℕ) → rest ≡ 45 ∷ more → is_at_gap more ≡ true → is_in_flow a.entries ≡ false → is_taken a separation ≡ true → ⊥
   unfolding is_blank_or_end is_blank is_break is_nul is_flow
   no_dash_here more e gap out line =
-      let w : Here dash = subst Here (dash_kind a separation rest here s (pieces.is_in_flow (acct a separation rest here s)) (is_adjacent (acct a separation rest here s).before) (acct a separation rest here s).position.col more gap) (whole_by a separation rest here s 45 more e) in
+      let w : Here dash = subst Here (dash_kind s (pieces.is_in_flow (acct s)) (is_adjacent (acct s).before) (acct s).position.col more gap) (whole_by s 45 more e) in
       none_on_line out line (inl (ap act_of w.2))
 
   question_here : (more : List ℕ) → rest ≡ 63 ∷ more → is_at_gap more ≡ true → Here question
   unfolding is_blank_or_end is_blank is_break is_nul is_flow
   question_here more e gap =
       let question_kind : (fl adjacent : Bool) (column : ℕ) → kind_at fl adjacent column (63 ∷ more) ≡ question = λ fl adjacent column. rw gap refl in
-      subst Here (question_kind (pieces.is_in_flow (acct a separation rest here s)) (is_adjacent (acct a separation rest here s).before) (acct a separation rest here s).position.col) (whole_by a separation rest here s 63 more e)
+      subst Here (question_kind (pieces.is_in_flow (acct s)) (is_adjacent (acct s).before) (acct s).position.col) (whole_by s 63 more e)
 
   pub no_question_here : (more : List ℕ) → rest ≡ 63 ∷ more → is_at_gap more ≡ true → is_in_flow a.entries ≡ false → is_taken a separation ≡ true → ⊥
   no_question_here more e gap out line = none_on_line out line (inr (ap act_of (question_here more e gap).2))
 
   -- what stands after a piece of one character
   after_one : (c : ℕ) (more : List ℕ) → rest ≡ c ∷ more → s.step.piece ≡ c ∷ [] → next ≡ more
-  after_one c more e p = rest_of a separation rest here s c [] more p e
+  after_one c more e p = rest_of s c [] more p e
 
   pub no_space_after : (more passed content : List ℕ) → rest ≡ 63 ∷ more → is_at_gap more ≡ true → GoesOn more passed content → begins_with 32 more ≡ false → begins_white_space content ≡ false → ⊥
   no_space_after more passed content e gap on none ends = grind (arith, nat_tests, eqb-true, question_here, no_space_gap, after_one)
@@ -133,19 +133,19 @@ module _ (a : Account) (separation rest : List ℕ) (here : Position) (s : StepA
 
   -- ---- colons
 
-  pub flow_is : pieces.is_in_flow (acct a separation rest here s) ≡ is_in_flow a.entries
+  pub flow_is : pieces.is_in_flow (acct s) ≡ is_in_flow a.entries
   flow_is = (grind arith) ∙ sym (same_flow a.entries s.account.entries s.is_like.2)
 
-  pub adjacent_is : is_adjacent (acct a separation rest here s).before ≡ is_adjacent (before_past (before_by a.site.before) separation)
+  pub adjacent_is : is_adjacent (acct s).before ≡ is_adjacent (before_past (before_by a.site.before) separation)
   adjacent_is = ap (λ f. is_adjacent (before_past (before_by s.account.site.before) f)) s.separation_is ∙ ap (λ (x : Site). is_adjacent (before_past (before_by x.before) separation)) (sym s.is_like.0)
 
   colon_here : (more : List ℕ) → rest ≡ 58 ∷ more → is_value_here a separation more ≡ true → Here colon
   unfolding is_blank_or_end is_blank is_break is_nul is_flow
   colon_here more e is =
       let colon_kind : (fl adjacent : Bool) (column : ℕ) → is_value_indicator fl adjacent more ≡ true → kind_at fl adjacent column (58 ∷ more) ≡ colon = λ fl adjacent column h. rw h refl in
-      subst Here (colon_kind (pieces.is_in_flow (acct a separation rest here s)) (is_adjacent (acct a separation rest here s).before) (acct a separation rest here s).position.col
-      (ap (λ b. is_value_indicator b (is_adjacent (acct a separation rest here s).before) more) flow_is ∙ (ap (λ b. is_value_indicator (is_in_flow a.entries) b more) adjacent_is ∙ is)))
-      (whole_by a separation rest here s 58 more e)
+      subst Here (colon_kind (pieces.is_in_flow (acct s)) (is_adjacent (acct s).before) (acct s).position.col
+      (ap (λ b. is_value_indicator b (is_adjacent (acct s).before) more) flow_is ∙ (ap (λ b. is_value_indicator (is_in_flow a.entries) b more) adjacent_is ∙ is)))
+      (whole_by s 58 more e)
 
   -- no colon stands on a line that is taken, where no key waits for it
   pub no_colon_here : (more : List ℕ) → rest ≡ 58 ∷ more → is_value_here a separation more ≡ true → is_in_flow a.entries ≡ false → is_taken a separation ≡ true
@@ -205,11 +205,11 @@ module _ (a : Account) (separation rest : List ℕ) (here : Position) (s : StepA
       at d i = e ∙ ap (λ x. x ∷ more) (eqb-true c d i)
 
       by : (v w x y z : Bool) → (c == 91) ≡ v → (c == 93) ≡ w → (c == 123) ≡ x → (c == 125) ≡ y → (c == 44) ≡ z → (v || (w || (x || (y || (z || false))))) ≡ true → ⊥
-      by true w x y z i j k l m h = let w : Here sequence_opening = whole_by a separation rest here s 91 more (at 91 i) in glued_by 91 flow_sequence_start more (at 91 i) w.0 w.1 (ap not hash)
-      by false true x y z i j k l m h = let w : Here sequence_closing = whole_by a separation rest here s 93 more (at 93 j) in glued_by 93 flow_sequence_end more (at 93 j) w.0 w.1 (ap not hash)
-      by false false true y z i j k l m h = let w : Here mapping_opening = whole_by a separation rest here s 123 more (at 123 k) in glued_by 123 flow_mapping_start more (at 123 k) w.0 w.1 (ap not hash)
-      by false false false true z i j k l m h = let w : Here mapping_closing = whole_by a separation rest here s 125 more (at 125 l) in glued_by 125 flow_mapping_end more (at 125 l) w.0 w.1 (ap not hash)
-      by false false false false true i j k l m h = let w : Here comma = whole_by a separation rest here s 44 more (at 44 m) in glued_by 44 flow_entry more (at 44 m) w.0 w.1 (ap not hash)
+      by true w x y z i j k l m h = let w : Here sequence_opening = whole_by s 91 more (at 91 i) in glued_by 91 flow_sequence_start more (at 91 i) w.0 w.1 (ap not hash)
+      by false true x y z i j k l m h = let w : Here sequence_closing = whole_by s 93 more (at 93 j) in glued_by 93 flow_sequence_end more (at 93 j) w.0 w.1 (ap not hash)
+      by false false true y z i j k l m h = let w : Here mapping_opening = whole_by s 123 more (at 123 k) in glued_by 123 flow_mapping_start more (at 123 k) w.0 w.1 (ap not hash)
+      by false false false true z i j k l m h = let w : Here mapping_closing = whole_by s 125 more (at 125 l) in glued_by 125 flow_mapping_end more (at 125 l) w.0 w.1 (ap not hash)
+      by false false false false true i j k l m h = let w : Here comma = whole_by s 44 more (at 44 m) in glued_by 44 flow_entry more (at 44 m) w.0 w.1 (ap not hash)
       by false false false false false i j k l m h = cc h
 
   hash_holds : (in_flow : Bool) (piece more : List ℕ) → begins_with 35 more ≡ true → quoted_may_end in_flow piece more ≡ false
@@ -217,8 +217,8 @@ module _ (a : Account) (separation rest : List ℕ) (here : Position) (s : StepA
   hash_holds in_flow piece more h = grind (arith, eqb-true)
 
   pub no_glued_quoted : (single : Bool) (piece more : List ℕ) → rest ≡ piece ++ more → IsQuoted single piece more → begins_with 35 more ≡ true → ⊥
-  no_glued_quoted true piece more e is hash = no_step a separation rest here s piece more (scalar single_quoted is.0) e (not_nothing a separation rest here s _ piece _ is.1.1) (is.1, refl) (hash_holds (is_in_flow a.entries) piece more hash)
-  no_glued_quoted false piece more e is hash = no_step a separation rest here s piece more (scalar double_quoted is.0) e (not_nothing a separation rest here s _ piece _ is.1.1) (is.1, refl) (hash_holds (is_in_flow a.entries) piece more hash)
+  no_glued_quoted true piece more e is hash = no_step s piece more (scalar single_quoted is.0) e (not_nothing s _ piece _ is.1.1) (is.1, refl) (hash_holds (is_in_flow a.entries) piece more hash)
+  no_glued_quoted false piece more e is hash = no_step s piece more (scalar double_quoted is.0) e (not_nothing s _ piece _ is.1.1) (is.1, refl) (hash_holds (is_in_flow a.entries) piece more hash)
 
   -- ---- TABs after a quoted scalar
 
@@ -227,8 +227,8 @@ module _ (a : Account) (separation rest : List ℕ) (here : Position) (s : StepA
   quoted_value false piece more is = is.0
 
   pub same_quoted_value : (single : Bool) (piece more : List ℕ) → rest ≡ piece ++ more → (is : IsQuoted single piece more) → (piece ≡ s.step.piece) × (quoted_token single (quoted_value single piece more is) ≡ s.step.shown) × (more ≡ next)
-  same_quoted_value true piece more e is = let same = same_step a separation rest here s piece more (scalar single_quoted is.0) e (not_nothing a separation rest here s _ piece _ is.1.1) (is.1, refl) in same
-  same_quoted_value false piece more e is = let same = same_step a separation rest here s piece more (scalar double_quoted is.0) e (not_nothing a separation rest here s _ piece _ is.1.1) (is.1, refl) in same
+  same_quoted_value true piece more e is = let same = same_step s piece more (scalar single_quoted is.0) e (not_nothing s _ piece _ is.1.1) (is.1, refl) in same
+  same_quoted_value false piece more e is = let same = same_step s piece more (scalar double_quoted is.0) e (not_nothing s _ piece _ is.1.1) (is.1, refl) in same
 
   pub node_token : (single : Bool) (value : List ℕ) → (act_of (quoted_token single value) ≡ gives_node) × (previous_by (quoted_token single value) ≡ quoted_scalar)
   node_token a b = grind arith

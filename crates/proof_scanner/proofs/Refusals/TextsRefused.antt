@@ -186,20 +186,20 @@ first_char (d ∷ p) header h e is = by (is_break d) (ap header_of e ∙ is)
         on false true e f k = (folded, p, ap (λ z. z ∷ p) (eqb-true d 62 f))
         on false false e f k = absurd (cc k)
 
-module _ (a : Account) (separation rest : List ℕ) (here : Position) (s : StepAt a separation rest here) where
+module _ {a : Account} {separation rest : List ℕ} {here : Position} (s : StepAt a separation rest here) where
   abbrev next : List ℕ
   next = s.next
 
   abbrev Here : Kind → Type 0
-  Here k = Whole k (context_of (acct a separation rest here s)) s.step.piece next s.step.shown
+  Here k = Whole k (context_of (acct s)) s.step.piece next s.step.shown
 
   pub no_tag : (more : List ℕ) (why : Problem) → rest ≡ 33 ∷ more → IsTagRefusal (is_in_flow a.entries) more why → ⊥
   unfolding is_blank_or_end is_blank is_break is_nul is_flow
   no_tag more why e reason =
-      let w : Here tag_text = whole_by a separation rest here s 33 more e in
+      let w : Here tag_text = whole_by s 33 more e in
       let first = mark_is_first s.step.piece w.0 w.1 in
-      let left : first.0 ++ next ≡ more = rest_of a separation rest here s 33 first.0 more first.1 e in
-      let follows : may_follow (is_in_flow a.entries) next ≡ true = ap (λ b. is_at_gap next || (b && begins_flow next)) (sym (flow_is a separation rest here s)) ∙ w.2 in
+      let left : first.0 ++ next ≡ more = rest_of s 33 first.0 more first.1 e in
+      let follows : may_follow (is_in_flow a.entries) next ≡ true = ap (λ b. is_at_gap next || (b && begins_flow next)) (sym (flow_is s)) ∙ w.2 in
       let reads = tags_are_read (is_in_flow a.entries) first.0 next w.0.handle w.0.suffix here (ap written_tag (sym first.1) ∙ w.1) follows in
       let fails = refusal_fails (is_in_flow a.entries) more why here reason in
       cc (reads, fails, ap (λ r. tag (is_in_flow a.entries) (33 ∷ r) here) left)
@@ -208,9 +208,9 @@ module _ (a : Account) (separation rest : List ℕ) (here : Position) (s : StepA
   unfolding is_blank_or_end is_blank is_break is_nul is_flow
   no_directive line after e one ends none =
       let no_nul_more : (r : List ℕ) → has_no_nul (37 ∷ r) ≡ true → has_no_nul r ≡ true = λ r h. (and_parts (not (is_nul 37)) (has_no_nul r) h).1 in
-      let w : Here directive_line = whole_by a separation rest here s 37 (line ++ after) e in
+      let w : Here directive_line = whole_by s 37 (line ++ after) e in
       let first = directive_begins s.step.piece w.0 w.1 in
-      let left : first.0 ++ next ≡ line ++ after = rest_of a separation rest here s 37 first.0 (line ++ after) first.1 e in
+      let left : first.0 ++ next ≡ line ++ after = rest_of s 37 first.0 (line ++ after) first.1 e in
       let clean : has_no_nul (first.0 ++ next) ≡ true = ap has_no_nul left ∙ no_nul_more (line ++ after) (sym (ap has_no_nul e) ∙ s.is_clean) in
       let same : first.0 ≡ line = one_line first.0 next line after left ((and_parts (not (is_break 37)) (has_no_break first.0) (sym (ap has_no_break first.1) ∙ w.2)).1) (clean_end next w.3 (no_nul_after first.0 next clean)) one ends in
       cc (none, ap (λ r. directive_of (37 ∷ r)) (sym same), ap directive_of (sym first.1), w.1)
@@ -219,15 +219,15 @@ module _ (a : Account) (separation rest : List ℕ) (here : Position) (s : StepA
   unfolding is_blank_or_end is_blank is_break is_nul is_flow
   block_here style more out e =
       let block_kind : (style : BlockStyle) (fl adjacent : Bool) (column : ℕ) → fl ≡ false → kind_at fl adjacent column (indicator_of style ∷ more) ≡ block_scalar = λ a fl adjacent column h. grind (arith, nat_tests, eqb-true) in
-      subst Here (block_kind style (pieces.is_in_flow (acct a separation rest here s)) (is_adjacent (acct a separation rest here s).before) (acct a separation rest here s).position.col (flow_is a separation rest here s ∙ out)) (whole_by a separation rest here s (indicator_of style) more e)
+      subst Here (block_kind style (pieces.is_in_flow (acct s)) (is_adjacent (acct s).before) (acct s).position.col (flow_is s ∙ out)) (whole_by s (indicator_of style) more e)
 
   pub no_block_header : (style : BlockStyle) (line after : List ℕ) → is_in_flow a.entries ≡ false → rest ≡ indicator_of style ∷ (line ++ after) → is_in_line line ≡ true → ends_line after ≡ true → header_of (indicator_of style ∷ line) ≡ None → ⊥
   no_block_header style line after out e inner ends none =
       let w : Here block_scalar = block_here style (line ++ after) out e in
       let clean : has_no_nul next ≡ true = no_nul_after s.step.piece next (ap has_no_nul s.text_is ∙ s.is_clean) in
       let own : up_to_break s.step.piece ≡ indicator_of style ∷ line =
-      sym (piece_line (pieces.collection_column (acct a separation rest here s)) s.step.piece next w.0 clean w.1) ∙ (ap up_to_break (s.text_is ∙ e) ∙ (ap (λ b. if b then [] else indicator_of style ∷ up_to_break (line ++ after)) (unbroken style) ∙ ap (λ r. indicator_of style ∷ r) (first_of line after inner ends))) in
-      has_header (pieces.collection_column (acct a separation rest here s)) ((split s.step.piece).complete) ((split s.step.piece).last) next (is_at_end next) w.0 w.1 (ap header_of (line_is s.step.piece ∙ own) ∙ none)
+      sym (piece_line (pieces.collection_column (acct s)) s.step.piece next w.0 clean w.1) ∙ (ap up_to_break (s.text_is ∙ e) ∙ (ap (λ b. if b then [] else indicator_of style ∷ up_to_break (line ++ after)) (unbroken style) ∙ ap (λ r. indicator_of style ∷ r) (first_of line after inner ends))) in
+      has_header (pieces.collection_column (acct s)) ((split s.step.piece).complete) ((split s.step.piece).last) next (is_at_end next) w.0 w.1 (ap header_of (line_is s.step.piece ∙ own) ∙ none)
 
   -- a TAB begins the line after the header
   pub no_block_tab : (own header more : List ℕ) (h : Header) → is_in_flow a.entries ≡ false → rest ≡ own ++ 9 ∷ more → split own ≡ of_lines (header ∷ []) [] → header_of header ≡ Some h → ⊥
@@ -236,23 +236,23 @@ module _ (a : Account) (separation rest : List ℕ) (here : Position) (s : StepA
       let first = first_char own header h (sym (line_is own) ∙ ap (λ z. first_line z.complete z.last) one) is in
       let w : Here block_scalar = block_here first.0 (first.1 ++ 9 ∷ more) out (e ∙ ap (λ p. p ++ 9 ∷ more) first.2) in
       let clean : has_no_nul next ≡ true = no_nul_after s.step.piece next (ap has_no_nul s.text_is ∙ s.is_clean) in
-      no_end_here a separation rest here s (ap (λ t. may_precede (is_in_flow s.account.entries) (written.At s.account s.step next).blocks t s.step.piece next) w.3 ∙
-      (same_end_by w.0.style w.0.text ∙ tab_follows (pieces.collection_column (acct a separation rest here s)) header more own s.step.piece next (written.At s.account s.step next).blocks w.0 (s.text_is ∙ e) one clean w.1))
+      no_end_here s (ap (λ t. may_precede (is_in_flow s.account.entries) (written.At s.account s.step next).blocks t s.step.piece next) w.3 ∙
+      (same_end_by w.0.style w.0.text ∙ tab_follows (pieces.collection_column (acct s)) header more own s.step.piece next (written.At s.account s.step next).blocks w.0 (s.text_is ∙ e) one clean w.1))
 
   -- ---- quoted scalars
 
   single_here : (more : List ℕ) → rest ≡ 39 ∷ more → Here in_single_quotes
   unfolding is_blank_or_end is_blank is_break is_nul is_flow
-  single_here more e = whole_by a separation rest here s 39 more e
+  single_here more e = whole_by s 39 more e
 
   double_here : (more : List ℕ) → rest ≡ 34 ∷ more → Here in_double_quotes
   unfolding is_blank_or_end is_blank is_break is_nul is_flow
-  double_here more e = whole_by a separation rest here s 34 more e
+  double_here more e = whole_by s 34 more e
 
   pub no_quoted_text : (single : Bool) (more : List ℕ) → rest ≡ quote_of single ∷ more → HasNoQuoted single rest → ⊥
   no_quoted_text true more e none = let w = single_here more e in none s.step.piece next (sym s.text_is) (w.0, w.1)
   no_quoted_text false more e none = let w = double_here more e in none s.step.piece next (sym s.text_is) (w.0, w.1)
 
   pub no_quoted_lines : (single : Bool) (more : List ℕ) → rest ≡ quote_of single ∷ more → AreNotIndented single (least_column (site_at_place a here).blocks (site_at_place a here).awaits) rest → ⊥
-  no_quoted_lines true more e none = let w = single_here more e in no_lines_there a separation rest here s (scalar single_quoted w.0) w.2 refl (none s.step.piece next (sym s.text_is) (w.0, w.1))
-  no_quoted_lines false more e none = let w = double_here more e in no_lines_there a separation rest here s (scalar double_quoted w.0) w.2 refl (none s.step.piece next (sym s.text_is) (w.0, w.1))
+  no_quoted_lines true more e none = let w = single_here more e in no_lines_there s (scalar single_quoted w.0) w.2 refl (none s.step.piece next (sym s.text_is) (w.0, w.1))
+  no_quoted_lines false more e none = let w = double_here more e in no_lines_there s (scalar double_quoted w.0) w.2 refl (none s.step.piece next (sym s.text_is) (w.0, w.1))
