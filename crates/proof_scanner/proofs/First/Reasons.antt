@@ -15,7 +15,6 @@ use Rattle.proof_scanner.proofs.First.Property.{one_tag, one_directive}
 use Rattle.proof_scanner.proofs.Refusals.PiecesRefused.{no_colon_before, tab_gap}
 use Rattle.proof_scanner.proofs.Refusals.TextsRefused.{first_char}
 use Rattle.proof_scanner.proofs.First.Settings.{Setting, setting_of, is_deep_at, kind_here, same_setting}
-use Rattle.proof_scanner.proofs.First.Indicators as indicators
 use Rattle.proof_scanner.proofs.First.Indicators.{AreSame, DashReason, QuestionReason, ColonReason, BracketReason, DotsReason, tails, one_dash, one_question, one_colon, one_bracket, one_dots}
 
 -- ---- the reasons at one kind of piece
@@ -25,20 +24,21 @@ abbrev pub PlainReason : Setting → Position → List ℕ → Problem → Posit
 PlainReason s here rest why at = (n : IsPlainFault s.in_flow s.blocks here rest why at) × plain_first s.in_flow s.blocks here rest why at n
 
 -- a name is missing
-pub data NameReason (here : Position) : Problem → Position → Type 0 where
-  nameless : NameReason here problem.AnchorName here
+abbrev pub NameReason : Position → Problem → Position → Type 0
+NameReason here why at = (why ≡ problem.AnchorName) × (at ≡ here)
 
-pub data TagReason (in_flow : Bool) (here : Position) (rest : List ℕ) : Problem → Position → Type 0 where
-  tagless : (more : List ℕ) (why : Problem) → rest ≡ 33 ∷ more → IsTagRefusal in_flow more why → TagReason in_flow here rest why here
+abbrev pub TagReason : (in_flow : Bool) → Position → List ℕ → Problem → Position → Type 0
+TagReason in_flow here rest why at = (more : List ℕ) × (rest ≡ 33 ∷ more) × IsTagRefusal in_flow more why × (at ≡ here)
 
-pub data DirectiveReason (here : Position) (rest : List ℕ) : Problem → Position → Type 0 where
-  percent : (here.col == 0) ≡ false → DirectiveReason here rest problem.UnexpectedPercent here
-  undirected : (line next : List ℕ) (why : Problem) (at : Position) → here.col ≡ 0 → rest ≡ 37 ∷ (line ++ next) → has_no_break line ≡ true → directives.ends_line next ≡ true → IsDirectiveRefusal here line (At why at) → DirectiveReason here rest why at
+abbrev pub DirectiveReason : Position → List ℕ → Problem → Position → Type 0
+DirectiveReason here rest why at =
+    (((here.col == 0) ≡ false) × (why ≡ problem.UnexpectedPercent) × (at ≡ here)) ⊎
+    ((line : List ℕ) × (next : List ℕ) × (here.col ≡ 0) × (rest ≡ 37 ∷ (line ++ next)) × (has_no_break line ≡ true) × (directives.ends_line next ≡ true) × IsDirectiveRefusal here line (At why at))
 
 -- a reserved indicator
-pub data ReservedReason (here : Position) (rest : List ℕ) : Problem → Position → Type 0 where
-  at_sign : (more : List ℕ) → rest ≡ 64 ∷ more → ReservedReason here rest problem.UnexpectedAt here
-  backtick : (more : List ℕ) → rest ≡ 96 ∷ more → ReservedReason here rest problem.UnexpectedBacktick here
+abbrev pub ReservedReason : Position → List ℕ → Problem → Position → Type 0
+ReservedReason here rest why at =
+    (more : List ℕ) × (at ≡ here) × (((rest ≡ 64 ∷ more) × (why ≡ problem.UnexpectedAt)) ⊎ ((rest ≡ 96 ∷ more) × (why ≡ problem.UnexpectedBacktick)))
 
 abbrev pub InKind : Kind → Setting → Position → List ℕ → Problem → Position → Type 0
 InKind nothing s here rest why at = ReservedReason here rest why at
@@ -111,15 +111,15 @@ module _ (s : Setting) (here : Position) (rest : List ℕ) where
 
   none_reason : (why : Problem) (at : Position) (n : NoPiece s.in_flow here rest why at) → no_piece_first s.in_flow (least_column s.blocks s.awaits) here rest why at n → OfKind why at
   unfolding is_blank_or_end is_blank is_break is_nul is_flow
-  none_reason why at (none.percent more e col) f = (directive_line, ap (λ r. kind_here s here.col r) e, percent col)
-  none_reason why at (none.at_sign more e) f = (nothing, ap (λ r. kind_here s here.col r) e, at_sign more e)
-  none_reason why at (none.backtick more e) f = (nothing, ap (λ r. kind_here s here.col r) e, backtick more e)
-  none_reason why at (none.nameless true more e lacks) f = (alias_name, ap (λ r. kind_here s here.col r) e, nameless)
-  none_reason why at (none.nameless false more e lacks) f = (anchor_name, ap (λ r. kind_here s here.col r) e, nameless)
-  none_reason why at (none.tagless more reason e r) f = (tag_text, ap (λ r. kind_here s here.col r) e, tagless more reason e r)
+  none_reason why at (none.percent more e col) f = (directive_line, ap (λ r. kind_here s here.col r) e, inl (col, refl, refl))
+  none_reason why at (none.at_sign more e) f = (nothing, ap (λ r. kind_here s here.col r) e, (more, refl, inl (e, refl)))
+  none_reason why at (none.backtick more e) f = (nothing, ap (λ r. kind_here s here.col r) e, (more, refl, inr (e, refl)))
+  none_reason why at (none.nameless true more e lacks) f = (alias_name, ap (λ r. kind_here s here.col r) e, (refl, refl))
+  none_reason why at (none.nameless false more e lacks) f = (anchor_name, ap (λ r. kind_here s here.col r) e, (refl, refl))
+  none_reason why at (none.tagless more reason e r) f = (tag_text, ap (λ r. kind_here s here.col r) e, (more, e, r, refl))
   none_reason why at (none.unquoted single more reason e lacks n) f = quoted_reason single more reason here e (quoted.unquoted single more reason e lacks n f)
   none_reason why at (none.headless style line next reason place out e one ends lacks n) f = (block_scalar, ap (λ r. kind_here s here.col r) e ∙ block_kind s here.col style (line ++ next) out, headless style line next reason place e one ends lacks n f)
-  none_reason why at (none.undirected line next reason place col e one ends lacks r) f = (directive_line, ap (λ z. kind_here s here.col z) e, undirected line next reason place col e one ends r)
+  none_reason why at (none.undirected line next reason place col e one ends lacks r) f = (directive_line, ap (λ z. kind_here s here.col z) e, inr (line, next, col, e, one, ends, r))
 
   lines_reason : (single : Bool) (why : Problem) (at : Position) → AreNotIndented single (least_column s.blocks s.awaits) rest → (n : IsQuotedFault single (least_column s.blocks s.awaits) here rest why at) → lines_first single (least_column s.blocks s.awaits) here rest why at n → OfKind why at
   lines_reason single why at lacks (quoted_lines.by_column body more es cut has solid begins low) f = quoted_reason single (body ++ more) why at cut (quoted.no_quoted single why at lacks (quoted_lines.by_column body more es cut has solid begins low) f)
@@ -135,17 +135,17 @@ module _ (s : Setting) (here : Position) (rest : List ℕ) where
   block_at out why at (none.by_column piece header next more b cut is further_text lines_are empty deep left) = block_begins_here out piece next cut (block_begins (innermost s.blocks) piece next b is)
 
   followed_reason : (why : Problem) (at : Position) (n : IsFollowed s.in_flow here rest why at) → followed_first s.in_flow (least_column s.blocks s.awaits) s.taken s.full here rest why at n → OfKind why at
-  followed_reason why at (none.glued c more e is begins) f = bracket_reason c more why at e is (indicators.glued c more e f)
+  followed_reason why at (none.glued c more e is begins) f = bracket_reason c more why at e is ((c, more, e, inr (f, refl, refl)))
   followed_reason why at (none.glued_to_quoted single piece more e is begins) f = closed_reason single piece more why at e is (quoted.glued_to_quoted single piece more e is begins f)
   followed_reason why at (none.after_quoted single piece more passed content e is ends on solid) f = closed_reason single piece more why at e is (quoted.after_quoted single piece more passed content e is ends on solid f)
-  followed_reason why at (none.after_end more passed content col e gap on ends solid) f = (dots, ap (λ r. kind_here s here.col r) e ∙ dots_kind s here.col more col gap, indicators.after_end more passed content e on solid)
-  followed_reason why at (none.tab_after_dash more passed content out e gap on tab_there begins) f = (dash, ap (λ r. kind_here s here.col r) e ∙ dash_kind s here.col more gap, indicators.tab_after_dash more passed content out f e on begins)
+  followed_reason why at (none.after_end more passed content col e gap on ends solid) f = (dots, ap (λ r. kind_here s here.col r) e ∙ dots_kind s here.col more col gap, (more, passed, content, e, on, solid, refl, refl))
+  followed_reason why at (none.tab_after_dash more passed content out e gap on tab_there begins) f = (dash, ap (λ r. kind_here s here.col r) e ∙ dash_kind s here.col more gap, inr (inr (out, f, more, passed, content, e, on, begins, refl, refl)))
   followed_reason why at (none.no_space more [] content e gap on begins ends) f =
-      (question, ap (λ r. kind_here s here.col r) e ∙ question_kind s here.col more gap, indicators.no_space more f.0 e (grind arith))
+      (question, ap (λ r. kind_here s here.col r) e ∙ question_kind s here.col more gap, inr (inl (f.0, more, e, grind arith, refl, refl)))
   followed_reason why at (none.no_space more (c ∷ passed) content e gap on begins ends) f = absurd (cc f.1)
-  followed_reason why at (none.tab_after_question more passed content e gap cut fills) f = (question, ap (λ r. kind_here s here.col r) e ∙ question_kind s here.col more gap, indicators.tab_after_question more passed content f.0 e f.1 f.2 cut fills)
+  followed_reason why at (none.tab_after_question more passed content e gap cut fills) f = (question, ap (λ r. kind_here s here.col r) e ∙ question_kind s here.col more gap, inr (inr (f.0, more, passed, content, e, f.1, f.2, cut, fills, refl, refl)))
   followed_reason why at (none.tab_after_colon more passed content e tab_there on lacks letter) f =
-      (colon, ap (λ r. kind_here s here.col r) e ∙ colon_kind s here.col more (ap (λ b. b || (s.in_flow && (begins_flow more || s.adjacent))) (tab_gap more tab_there)), indicators.tab_after_colon more passed content e (no_colon_before more passed content tab_there on lacks letter) on letter)
+      (colon, ap (λ r. kind_here s here.col r) e ∙ colon_kind s here.col more (ap (λ b. b || (s.in_flow && (begins_flow more || s.adjacent))) (tab_gap more tab_there)), inr (more, passed, content, e, no_colon_before more passed content tab_there on lacks letter, on, letter, refl, refl))
 
 -- ---- what fails first is a reason
 
@@ -160,13 +160,13 @@ module _ (a : Account) (separation : List ℕ) (here : Position) (rest : List �
   stands_reason why at (failing.shallow inside line left) f = grind (arith, here, rest, least_here)
   stands_reason why at (failing.too_deep bracket more e is many) f =
       let opens_flow : (c : ℕ) → (c ≡ 91) ⊎ (c ≡ 123) → (opens c ≡ true) × (is_flow_indicator c ≡ true) = λ c a. grind (arith, nat_tests, eqb-true) in
-      seen_reason problem.FlowTooDeep here f (bracket_reason own here rest bracket more problem.FlowTooDeep here e (opens_flow bracket is).1 (indicators.too_deep bracket more e (ap (λ b. b && is_full a) (opens_flow bracket is).0 ∙ (grind (arith, nat_tests, many)))))
-  stands_reason why at (failing.dash_in_flow more e gap inside) f = seen_reason problem.BlockEntryInFlow here f (dash, ap (λ r. kind_here own here.col r) e ∙ dash_kind own here.col more gap, indicators.dash_in_flow inside)
-  stands_reason why at (failing.dash_not_free more e gap out line) f = seen_reason problem.BlockEntryNotAllowed here f (dash, ap (λ r. kind_here own here.col r) e ∙ dash_kind own here.col more gap, indicators.dash_not_free out line)
+      seen_reason problem.FlowTooDeep here f (bracket_reason own here rest bracket more problem.FlowTooDeep here e (opens_flow bracket is).1 (bracket, more, e, inl (ap (λ b. b && is_full a) (opens_flow bracket is).0 ∙ (grind (arith, nat_tests, many)), refl, refl)))
+  stands_reason why at (failing.dash_in_flow more e gap inside) f = seen_reason problem.BlockEntryInFlow here f (dash, ap (λ r. kind_here own here.col r) e ∙ dash_kind own here.col more gap, inl (inside, refl, refl))
+  stands_reason why at (failing.dash_not_free more e gap out line) f = seen_reason problem.BlockEntryNotAllowed here f (dash, ap (λ r. kind_here own here.col r) e ∙ dash_kind own here.col more gap, inr (inl (out, line, refl, refl)))
   stands_reason why at (failing.key_on_earlier_line more begin x xs e is are takes had late) f =
-      seen_reason problem.ColonMisplaced here f.0 (colon, ap (λ r. kind_here own here.col r) e ∙ colon_kind own here.col more is, indicators.key_on_earlier_line more (ap is_in_flow are) e f.1)
+      seen_reason problem.ColonMisplaced here f.0 (colon, ap (λ r. kind_here own here.col r) e ∙ colon_kind own here.col more is, inl (more, ap is_in_flow are, e, f.1, refl, refl))
   stands_reason why at (failing.question_not_free more e gap out line) f =
-      seen_reason problem.KeyNotAllowed here f (question, ap (λ r. kind_here own here.col r) e ∙ question_kind own here.col more gap, indicators.question_not_free (rw (out, line) refl))
+      seen_reason problem.KeyNotAllowed here f (question, ap (λ r. kind_here own here.col r) e ∙ question_kind own here.col more gap, inl (rw (out, line) refl, refl, refl))
   stands_reason why at (failing.tab_indents tabs) f = inl (tabs, refl, refl)
   stands_reason why at (failing.tab_after_quoted single piece gap content e is fills goes_on solid tabs) f =
       seen_reason problem.TabInBlockIndentation _ f.0 (closed_reason own here rest single piece (gap ++ content) problem.TabInBlockIndentation _ e is (quoted.tab_after_quoted single piece gap content e is fills goes_on solid tabs (f.1, f.2)))
@@ -198,28 +198,22 @@ colon_alone a b like separation more here is out seen apart why at x =
     at_colon n e = cc e
 
     none_here : (why : Problem) (at : Position) → ColonReason own here (58 ∷ more) why at → ⊥
-    none_here why at (indicators.key_on_earlier_line n inside e before) = cc (out, inside)
-    none_here why at (indicators.tab_after_colon n passed content e tabs on letter) = cc (apart, tabs, ap colon_may_precede (at_colon n e))
+    none_here why at (inl (n, inside, e, before, _, _)) = cc (out, inside)
+    none_here why at (inr (n, passed, content, e, tabs, on, letter, _, _)) = cc (apart, tabs, ap colon_may_precede (at_colon n e))
 
 -- ---- one reason
 
 one_reserved : (here : Position) (rest : List ℕ) (why1 why2 : Problem) (at1 at2 : Position) → ReservedReason here rest why1 at1 → ReservedReason here rest why2 at2 → AreSame why1 why2 at1 at2
-one_reserved here rest why1 why2 at1 at2 (at_sign more e) (at_sign n f) = (refl, refl)
-one_reserved here rest why1 why2 at1 at2 (at_sign more e) (backtick n f) = absurd (cc (ap (begins_with 64) e, ap (begins_with 64) f))
-one_reserved here rest why1 why2 at1 at2 (backtick more e) (at_sign n f) = absurd (cc (ap (begins_with 64) e, ap (begins_with 64) f))
-one_reserved here rest why1 why2 at1 at2 (backtick more e) (backtick n f) = (refl, refl)
+one_reserved here rest why1 why2 at1 at2 r q = grind arith
 
 one_name : (here : Position) (why1 why2 : Problem) (at1 at2 : Position) → NameReason here why1 at1 → NameReason here why2 at2 → AreSame why1 why2 at1 at2
-one_name here why1 why2 at1 at2 nameless nameless = (refl, refl)
+one_name here why1 why2 at1 at2 r q = grind arith
 
 one_refusal : (in_flow : Bool) (here : Position) (rest : List ℕ) (why1 why2 : Problem) (at1 at2 : Position) → TagReason in_flow here rest why1 at1 → TagReason in_flow here rest why2 at2 → AreSame why1 why2 at1 at2
-one_refusal in_flow here rest why1 why2 at1 at2 (tagless more reason e r) (tagless n reason2 e2 q) = (one_tag in_flow more reason reason2 r (subst (λ t. IsTagRefusal in_flow t reason2) (tails 33 rest n more e2 e) q), refl)
+one_refusal in_flow here rest why1 why2 at1 at2 r q = grind (arith, one_tag)
 
 one_line : (here : Position) (rest : List ℕ) (why1 why2 : Problem) (at1 at2 : Position) → DirectiveReason here rest why1 at1 → DirectiveReason here rest why2 at2 → AreSame why1 why2 at1 at2
-one_line here rest why1 why2 at1 at2 (percent col) (percent col2) = (refl, refl)
-one_line here rest why1 why2 at1 at2 (percent col) (undirected line2 next2 reason2 place2 col2 e2 one2 ends2 q) = absurd (cc (col, ap (λ n. n == 0) col2))
-one_line here rest why1 why2 at1 at2 (undirected line next reason place col e one ends r) (percent col2) = absurd (cc (col2, ap (λ n. n == 0) col))
-one_line here rest why1 why2 at1 at2 (undirected line next reason place col e one ends r) (undirected line2 next2 reason2 place2 col2 e2 one2 ends2 q) = grind (arith, one_directive, tails)
+one_line here rest why1 why2 at1 at2 r q = grind (arith, one_directive)
 
 one_in : (k : Kind) (s : Setting) (here : Position) (rest : List ℕ) (why1 why2 : Problem) (at1 at2 : Position) → has_no_nul rest ≡ true → InKind k s here rest why1 at1 → InKind k s here rest why2 at2 → AreSame why1 why2 at1 at2
 one_in nothing s here rest why1 why2 at1 at2 clean r q = one_reserved here rest why1 why2 at1 at2 r q
