@@ -8,17 +8,13 @@ use Rattle.proof_scanner.proofs.First.Settings.{Setting}
 abbrev pub AreSame : (why1 why2 : Problem) (at1 at2 : Position) → Type 0
 AreSame why1 why2 at1 at2 = (why1 ≡ why2) × (at1 ≡ at2)
 
--- what stands after one character
-pub tails : (c : ℕ) (rest m n : List ℕ) → rest ≡ c ∷ m → rest ≡ c ∷ n → m ≡ n
-tails c rest m n e f = let both : c ∷ m ≡ c ∷ n = sym e ∙ f in cc both
-
 -- ---- what is passed on a line
 
-entry_ends : (content : List ℕ) → begins_entry content ≡ true → ends_separation content ≡ true
+pub entry_ends : (content : List ℕ) → begins_entry content ≡ true → ends_separation content ≡ true
 unfolding is_blank_or_end is_blank is_break is_nul
 entry_ends a h = grind arith
 
-letter_ends : (content : List ℕ) → begins_with_alpha content ≡ true → ends_separation content ≡ true
+pub letter_ends : (content : List ℕ) → begins_with_alpha content ≡ true → ends_separation content ≡ true
 unfolding is_blank_or_end is_blank is_break is_nul is_alpha is_decimal_digit is_letter
 letter_ends a h = grind (arith, nat_tests, eqb-true)
 
@@ -30,9 +26,6 @@ DashReason s here rest why at =
     (((s.in_flow ≡ false) × (s.taken ≡ true) × (why ≡ problem.BlockEntryNotAllowed) × (at ≡ here)) ⊎
     ((s.in_flow ≡ false) × (s.taken ≡ false) × (more : List ℕ) × (passed : List ℕ) × (content : List ℕ) × (rest ≡ 45 ∷ more) × GoesOn more passed content ×
     (begins_entry content ≡ true) × (why ≡ problem.TabAfterDash) × (at ≡ position_after (further 1 here) passed content)))
-
-pub one_dash : (s : Setting) (here : Position) (rest : List ℕ) (why1 why2 : Problem) (at1 at2 : Position) → DashReason s here rest why1 at1 → DashReason s here rest why2 at2 → AreSame why1 why2 at1 at2
-one_dash s here rest why1 why2 at1 at2 x y = grind (arith, separations, entry_ends)
 
 -- ---- `?`
 
@@ -46,16 +39,13 @@ QuestionReason s here rest why at =
     (why ≡ problem.TabAfterKey) × (at ≡ position_after (further 1 here) passed (9 ∷ content))))
 
 -- the first TAB outside comments is one
-first_tab : (in_comment : Bool) (p q x y : List ℕ) → p ++ 9 ∷ x ≡ q ++ 9 ∷ y → is_separation in_comment p (9 ∷ x) ≡ true → is_separation in_comment q (9 ∷ y) ≡ true → has_tab_before_piece in_comment p ≡ false → has_tab_before_piece in_comment q ≡ false → (p ≡ q) × (x ≡ y)
+pub first_tab : (in_comment : Bool) (p q x y : List ℕ) → p ++ 9 ∷ x ≡ q ++ 9 ∷ y → is_separation in_comment p (9 ∷ x) ≡ true → is_separation in_comment q (9 ∷ y) ≡ true → has_tab_before_piece in_comment p ≡ false → has_tab_before_piece in_comment q ≡ false → (p ≡ q) × (x ≡ y)
 unfolding is_blank is_break is_nul
 first_tab b [] [] x y e f g h k = grind (arith, nat_tests, eqb-true)
 first_tab b [] (d ∷ q) x y e f g h k = grind arith
 first_tab b (c ∷ p) [] x y e f g h k = grind arith
 first_tab true (c ∷ p) (d ∷ q) x y e f g h k = grind (arith, nat_tests, eqb-true, first_tab (not (is_break c)) p q x y)
 first_tab false (c ∷ p) (d ∷ q) x y e f g h k = grind (arith, nat_tests, eqb-true, first_tab (c == 35) p q x y)
-
-pub one_question : (s : Setting) (here : Position) (rest : List ℕ) (why1 why2 : Problem) (at1 at2 : Position) → QuestionReason s here rest why1 at1 → QuestionReason s here rest why2 at2 → AreSame why1 why2 at1 at2
-one_question s here rest why1 why2 at1 at2 x y = grind (arith, first_tab)
 
 -- ---- `:`
 
@@ -65,9 +55,6 @@ ColonReason s here rest why at =
     ((more : List ℕ) × (passed : List ℕ) × (content : List ℕ) × (rest ≡ 58 ∷ more) × (colon_may_precede more ≡ false) × GoesOn more passed content ×
     (begins_with_alpha content ≡ true) × (why ≡ problem.TabAfterColon) × (at ≡ position_after (further 1 here) passed content))
 
-pub one_colon : (s : Setting) (here : Position) (rest : List ℕ) (why1 why2 : Problem) (at1 at2 : Position) → ColonReason s here rest why1 at1 → ColonReason s here rest why2 at2 → AreSame why1 why2 at1 at2
-one_colon s here rest why1 why2 at1 at2 x y = grind (arith, separations, letter_ends)
-
 -- ---- brackets and commas
 
 abbrev pub BracketReason : Setting → Position → List ℕ → Problem → Position → Type 0
@@ -75,16 +62,9 @@ BracketReason s here rest why at =
     (c : ℕ) × (more : List ℕ) × (rest ≡ c ∷ more) × ((((opens c && s.full) ≡ true) × (why ≡ problem.FlowTooDeep) × (at ≡ here)) ⊎
     (((opens c && s.full) ≡ false) × (why ≡ problem.CommentNotSeparated) × (at ≡ further 1 here)))
 
-pub one_bracket : (s : Setting) (here : Position) (rest : List ℕ) (why1 why2 : Problem) (at1 at2 : Position) → BracketReason s here rest why1 at1 → BracketReason s here rest why2 at2 → AreSame why1 why2 at1 at2
-one_bracket s here rest why1 why2 at1 at2 x y = grind arith
-
 -- ---- `...`
 
 abbrev pub DotsReason : Position → List ℕ → Problem → Position → Type 0
 DotsReason here rest why at =
     (more : List ℕ) × (passed : List ℕ) × (content : List ℕ) × (rest ≡ 46 ∷ 46 ∷ 46 ∷ more) × GoesOn more passed content × (begins_separation content ≡ false) ×
     (why ≡ problem.ContentAfterDocumentEnd) × (at ≡ position_after (further 3 here) passed content)
-
-pub one_dots : (here : Position) (rest : List ℕ) (why1 why2 : Problem) (at1 at2 : Position) → has_no_nul rest ≡ true → DotsReason here rest why1 at1 → DotsReason here rest why2 at2 → AreSame why1 why2 at1 at2
-unfolding is_nul
-one_dots here rest why1 why2 at1 at2 clean x y = grind (arith, separations, ends_before, no_nul_after)

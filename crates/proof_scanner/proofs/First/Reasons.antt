@@ -1,5 +1,5 @@
 -- Of two reasons at one place that both come first, kind and position are the same.
-use Rattle.proof_scanner.proofs.Common.{[], inl, inr, Account, alias_name, ap, are_marks, AreNotIndented, arith, At, begins_block, begins_flow, begins_with, block_begins, BlockStyle, Bool, colon, colon_may_precede, comes_first, dash, dashes, directive_line, dots, eqb-true, Fails, FailsFirst, false, first_line, folded, followed_first, has_no_break, has_no_nul, if◌then◌else◌, in_double_quotes, in_single_quotes, indicator_of, innermost, is_at_gap, is_blank, is_blank_or_end, is_break, is_flow, is_flow_indicator, is_full, is_in_flow, is_nul, is_value_here, is_value_indicator, IsBlockFault, IsDirectiveRefusal, IsFollowed, IsLike, IsLookedAt, IsPlainFault, IsQuoted, IsQuotedFault, IsTagRefusal, Kind, least_column, least_here, line_is, lines_first, List, literal, MayNotStand, nat_tests, no_piece_first, NoPiece, opens, plain_first, Position, Problem, question, refl, stands_first, subst, sym, tab, tag_text, true, ℕ, ◌&&◌, ◌++◌, ◌==◌, ◌||◌, ◌∙◌, ◌∷◌, ◌≡◌, ◌⊎◌}
+use Rattle.proof_scanner.proofs.Common.{[], no_nul_after, separations, inl, inr, Account, alias_name, ap, are_marks, AreNotIndented, arith, At, begins_block, begins_flow, begins_with, block_begins, BlockStyle, Bool, colon, colon_may_precede, comes_first, dash, dashes, directive_line, dots, eqb-true, Fails, FailsFirst, false, first_line, folded, followed_first, has_no_break, has_no_nul, if◌then◌else◌, in_double_quotes, in_single_quotes, indicator_of, innermost, is_at_gap, is_blank, is_blank_or_end, is_break, is_flow, is_flow_indicator, is_full, is_in_flow, is_nul, is_value_here, is_value_indicator, IsBlockFault, IsDirectiveRefusal, IsFollowed, IsLike, IsLookedAt, IsPlainFault, IsQuoted, IsQuotedFault, IsTagRefusal, Kind, least_column, least_here, line_is, lines_first, List, literal, MayNotStand, nat_tests, no_piece_first, NoPiece, opens, plain_first, Position, Problem, question, refl, stands_first, subst, sym, tab, tag_text, true, ℕ, ◌&&◌, ◌++◌, ◌==◌, ◌||◌, ◌∙◌, ◌∷◌, ◌≡◌, ◌⊎◌}
 use Rattle.yaml_tokens.specs.declared.problem.Problem.TheVariants as problem
 use Rattle.proof_lexers.specs.DirectiveEnds as directives
 use Rattle.proof_row.specs.Ends.{nothing, plain_scalar, anchor_name, block_scalar}
@@ -15,7 +15,8 @@ use Rattle.proof_scanner.proofs.First.Property.{one_tag, one_directive}
 use Rattle.proof_scanner.proofs.Refusals.PiecesRefused.{no_colon_before, tab_gap}
 use Rattle.proof_scanner.proofs.Refusals.TextsRefused.{first_char}
 use Rattle.proof_scanner.proofs.First.Settings.{Setting, setting_of, is_deep_at, kind_here, same_setting}
-use Rattle.proof_scanner.proofs.First.Indicators.{AreSame, DashReason, QuestionReason, ColonReason, BracketReason, DotsReason, tails, one_dash, one_question, one_colon, one_bracket, one_dots}
+use Rattle.proof_scanner.proofs.First.Indicators.{AreSame, DashReason, QuestionReason, ColonReason, BracketReason, DotsReason, entry_ends, letter_ends, first_tab}
+use Rattle.proof_scanner.proofs.Known.Places.{ends_before}
 
 -- ---- the reasons at one kind of piece
 
@@ -203,34 +204,16 @@ colon_alone a b like separation more here is out seen apart why at x =
 
 -- ---- one reason
 
-one_reserved : (here : Position) (rest : List ℕ) (why1 why2 : Problem) (at1 at2 : Position) → ReservedReason here rest why1 at1 → ReservedReason here rest why2 at2 → AreSame why1 why2 at1 at2
-one_reserved here rest why1 why2 at1 at2 r q = grind arith
-
-one_name : (here : Position) (why1 why2 : Problem) (at1 at2 : Position) → NameReason here why1 at1 → NameReason here why2 at2 → AreSame why1 why2 at1 at2
-one_name here why1 why2 at1 at2 r q = grind arith
-
-one_refusal : (in_flow : Bool) (here : Position) (rest : List ℕ) (why1 why2 : Problem) (at1 at2 : Position) → TagReason in_flow here rest why1 at1 → TagReason in_flow here rest why2 at2 → AreSame why1 why2 at1 at2
-one_refusal in_flow here rest why1 why2 at1 at2 r q = grind (arith, one_tag)
-
-one_line : (here : Position) (rest : List ℕ) (why1 why2 : Problem) (at1 at2 : Position) → DirectiveReason here rest why1 at1 → DirectiveReason here rest why2 at2 → AreSame why1 why2 at1 at2
-one_line here rest why1 why2 at1 at2 r q = grind (arith, one_directive)
-
 one_in : (k : Kind) (s : Setting) (here : Position) (rest : List ℕ) (why1 why2 : Problem) (at1 at2 : Position) → has_no_nul rest ≡ true → InKind k s here rest why1 at1 → InKind k s here rest why2 at2 → AreSame why1 why2 at1 at2
-one_in nothing s here rest why1 why2 at1 at2 clean r q = one_reserved here rest why1 why2 at1 at2 r q
+unfolding is_nul
 one_in plain_scalar s here rest why1 why2 at1 at2 clean r q = one_plain s.in_flow s.blocks here rest why1 why2 at1 at2 r.0 r.1 q.0 q.1
-one_in question s here rest why1 why2 at1 at2 clean r q = one_question s here rest why1 why2 at1 at2 r q
-one_in colon s here rest why1 why2 at1 at2 clean r q = one_colon s here rest why1 why2 at1 at2 r q
-one_in dash s here rest why1 why2 at1 at2 clean r q = one_dash s here rest why1 why2 at1 at2 r q
-one_in dashes s here rest why1 why2 at1 at2 clean r q = absurd r
-one_in dots s here rest why1 why2 at1 at2 clean r q = one_dots here rest why1 why2 at1 at2 clean r q
-one_in directive_line s here rest why1 why2 at1 at2 clean r q = one_line here rest why1 why2 at1 at2 r q
-one_in alias_name s here rest why1 why2 at1 at2 clean r q = one_name here why1 why2 at1 at2 r q
-one_in anchor_name s here rest why1 why2 at1 at2 clean r q = one_name here why1 why2 at1 at2 r q
-one_in tag_text s here rest why1 why2 at1 at2 clean r q = one_refusal s.in_flow here rest why1 why2 at1 at2 r q
 one_in in_single_quotes s here rest why1 why2 at1 at2 clean r q = one_quoted s.in_flow (least_column s.blocks s.awaits) s.blocks s.awaits here rest clean why1 why2 at1 at2 r q
 one_in in_double_quotes s here rest why1 why2 at1 at2 clean r q = one_quoted s.in_flow (least_column s.blocks s.awaits) s.blocks s.awaits here rest clean why1 why2 at1 at2 r q
 one_in block_scalar s here rest why1 why2 at1 at2 clean r q = one_block s.blocks here rest clean why1 why2 at1 at2 r q
-one_in k s here rest why1 why2 at1 at2 clean r q = one_bracket s here rest why1 why2 at1 at2 r q
+one_in tag_text s here rest why1 why2 at1 at2 clean r q = grind (arith, one_tag)
+one_in directive_line s here rest why1 why2 at1 at2 clean r q = grind (arith, one_directive)
+one_in dots s here rest why1 why2 at1 at2 clean r q = grind (arith, separations, ends_before, no_nul_after)
+one_in k s here rest why1 why2 at1 at2 clean r q = grind (arith, separations, entry_ends, letter_ends, first_tab)
 
 one_of_two : (s : Setting) (here : Position) (rest : List ℕ) (why1 why2 : Problem) (at1 at2 : Position) → has_no_nul rest ≡ true → Reason s here rest why1 at1 → Reason s here rest why2 at2 → AreSame why1 why2 at1 at2
 one_of_two s here rest why1 why2 at1 at2 clean r q = grind (arith, nat_tests, eqb-true, one_in)
