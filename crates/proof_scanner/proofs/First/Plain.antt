@@ -1,5 +1,7 @@
 -- A plain scalar has one fault that comes first.
-use Rattle.proof_scanner.proofs.Common.{[], ap, append_cancel_left, begins_flow, Bool, false, further_on, goes_on, goes_over, innermost, is_flow, IsPlainFault, List, no_flow, Option, plain_first, Position, position_after, Problem, refl, Stand, sym, true, ℕ, ◌++◌, ◌∙◌, ◌∷◌, ◌≡◌, arith, eqb-true, nat_tests}
+use Rattle.proof_scanner.proofs.Common.{[], inl, inr, ◌⊎◌, ap, append_cancel_left, begins_flow, Bool, false, further_on, goes_on, goes_over, innermost, is_flow, IsPlainFault, List, no_flow, Option, plain_first, Position, position_after, Problem, refl, Stand, sym, true, ℕ, ◌++◌, ◌∙◌, ◌∷◌, ◌≡◌, arith, eqb-true, nat_tests}
+use Rattle.yaml_tokens.specs.declared.problem.Problem.TheVariants as problem
+use Rattle.proof_scanner.specs.FirstPlain.{HasNoPlainFault}
 use Rattle.defs_token.specs.Plain.{inside, past}
 use Rattle.proof_scanner.specs.NoPiece as none
 
@@ -25,27 +27,20 @@ same_start collection [] (d ∷ b) x y cut f g goes also = absurd (no_later_dash
 same_start collection (c ∷ a) [] x y cut f g goes also = absurd (no_later_dash collection inside a y x g (cc cut) goes)
 same_start collection (c ∷ a) (d ∷ b) x y cut f g goes also = let same : d ≡ c = cc cut in rw (same, same_before collection inside a b x y (cc cut) f g goes also) refl
 
+-- A reason at a plain scalar that comes first: its column; a TAB; or a dash.
+abbrev pub PlainReason : (in_flow : Bool) (collection : List ℕ) (here : Position) (text : List ℕ) → Problem → Position → Type 0
+PlainReason in_flow collection here text why at =
+    (IsPlainFault in_flow collection here text problem.FlowIndentation here × (why ≡ problem.FlowIndentation) × (at ≡ here)) ⊎
+    (HasNoPlainFault in_flow collection here text problem.FlowIndentation × ((IsPlainFault in_flow collection here text problem.PlainTab here × (why ≡ problem.PlainTab) × (at ≡ here)) ⊎
+    (HasNoPlainFault in_flow collection here text problem.PlainTab × (before : List ℕ) × (rest : List ℕ) × (in_flow ≡ true) × (text ≡ before ++ 45 ∷ rest) × (begins_flow rest ≡ true) ×
+    (goes_over true (innermost collection) before (45 ∷ rest) ≡ true) × (why ≡ problem.PlainDashInFlow) × (at ≡ position_after here before (45 ∷ rest)))))
+
 module _ (in_flow : Bool) (collection : List ℕ) (here : Position) (text : List ℕ) where
-  abbrev Fault : Problem → Position → Type 0
-  Fault why at = IsPlainFault in_flow collection here text why at
+  pub plain_reason : (why : Problem) (at : Position) (n : IsPlainFault in_flow collection here text why at) → plain_first in_flow collection here text why at n → PlainReason in_flow collection here text why at
+  plain_reason why at (none.by_column flow left) first = inl (none.by_column flow left, refl, refl)
+  plain_reason why at (none.by_tab before blanks rest column cut over stands left are solid) first = inr (first, inl (none.by_tab before blanks rest column cut over stands left are solid, refl, refl))
+  plain_reason why at (none.by_dash before rest flow cut begins over apart) first =
+      inr (first.0, inr (first.1, before, rest, flow, cut, begins, ap (λ b. goes_over b (innermost collection) before (45 ∷ rest)) (sym flow) ∙ over, refl, refl))
 
-  abbrev First : (why : Problem) (at : Position) → Fault why at → Type 0
-  First why at x = plain_first in_flow collection here text why at x
-
-  pub one_plain : (why1 why2 : Problem) (at1 at2 : Position) (x : Fault why1 at1) → First why1 at1 x → (y : Fault why2 at2) → First why2 at2 y → (why1 ≡ why2) × (at1 ≡ at2)
-  one_plain why1 why2 at1 at2 (none.by_column flow left) first (none.by_column flow2 left2) other = (refl, refl)
-  one_plain why1 why2 at1 at2 (none.by_column flow left) first (none.by_tab before blanks rest column cut over stands left2 are solid) other = absurd (other here (none.by_column flow left))
-  one_plain why1 why2 at1 at2 (none.by_column flow left) first (none.by_dash before rest flow2 cut begins over apart) other = absurd (other.0 here (none.by_column flow left))
-  one_plain why1 why2 at1 at2 (none.by_tab before blanks rest column cut over stands left are solid) first (none.by_column flow left2) other = absurd (first here (none.by_column flow left2))
-  one_plain why1 why2 at1 at2 (none.by_tab before blanks rest column cut over stands left are solid) first (none.by_tab before2 blanks2 rest2 column2 cut2 over2 stands2 left2 are2 solid2) other = (refl, refl)
-  one_plain why1 why2 at1 at2 (none.by_tab before blanks rest column cut over stands left are solid) first (none.by_dash before2 rest2 flow cut2 begins over2 apart) other =
-      absurd (other.1 here (none.by_tab before blanks rest column cut over stands left are solid))
-  one_plain why1 why2 at1 at2 (none.by_dash before rest flow cut begins over apart) first (none.by_column flow2 left) other = absurd (first.0 here (none.by_column flow2 left))
-  one_plain why1 why2 at1 at2 (none.by_dash before rest flow cut begins over apart) first (none.by_tab before2 blanks rest2 column cut2 over2 stands left are solid) other =
-      absurd (first.1 here (none.by_tab before2 blanks rest2 column cut2 over2 stands left are solid))
-  one_plain why1 why2 at1 at2 (none.by_dash before rest flow cut begins over apart) first (none.by_dash before2 rest2 flow2 cut2 begins2 over2 apart2) other =
-      let goes = ap (λ b. goes_over b (innermost collection) before (45 ∷ rest)) (sym flow) ∙ over in
-      let also = ap (λ b. goes_over b (innermost collection) before2 (45 ∷ rest2)) (sym flow) ∙ over2 in
-      let same : before ≡ before2 = same_start (innermost collection) before before2 rest rest2 (sym cut ∙ cut2) begins begins2 goes also in
-      let others : 45 ∷ rest ≡ 45 ∷ rest2 = append_cancel_left before2 (45 ∷ rest) (45 ∷ rest2) (ap (λ b. b ++ 45 ∷ rest) (sym same) ∙ (sym cut ∙ cut2)) in
-      (refl, ap (λ b. position_after here b (45 ∷ rest)) same ∙ ap (position_after here before2) others)
+  pub one_plain : (why1 why2 : Problem) (at1 at2 : Position) → PlainReason in_flow collection here text why1 at1 → PlainReason in_flow collection here text why2 at2 → (why1 ≡ why2) × (at1 ≡ at2)
+  one_plain why1 why2 at1 at2 x y = grind (arith, same_start, append_cancel_left)

@@ -7,7 +7,7 @@ use Rattle.proof_scanner.specs.NoPiece as none
 use Rattle.proof_scanner.specs.NoPiece.{quote_of}
 use Rattle.proof_scanner.specs.QuotedLines as quoted_lines
 use Rattle.proof_scanner.specs.Failing as failing
-use Rattle.proof_scanner.proofs.First.Plain.{one_plain}
+use Rattle.proof_scanner.proofs.First.Plain.{PlainReason, plain_reason, one_plain}
 use Rattle.proof_scanner.proofs.First.Quoted as quoted
 use Rattle.proof_scanner.proofs.First.Quoted.{QuotedReason, one_quoted}
 use Rattle.proof_scanner.proofs.First.Block.{BlockReason, headless, fails, one_block}
@@ -19,10 +19,6 @@ use Rattle.proof_scanner.proofs.First.Indicators.{AreSame, DashReason, QuestionR
 use Rattle.proof_scanner.proofs.Known.Places.{ends_before}
 
 -- ---- the reasons at one kind of piece
-
--- a reason at a plain scalar
-abbrev pub PlainReason : Setting → Position → List ℕ → Problem → Position → Type 0
-PlainReason s here rest why at = (n : IsPlainFault s.in_flow s.blocks here rest why at) × plain_first s.in_flow s.blocks here rest why at n
 
 -- a name is missing
 abbrev pub NameReason : Position → Problem → Position → Type 0
@@ -43,7 +39,7 @@ ReservedReason here rest why at =
 
 abbrev pub InKind : Kind → Setting → Position → List ℕ → Problem → Position → Type 0
 InKind nothing s here rest why at = ReservedReason here rest why at
-InKind plain_scalar s here rest why at = PlainReason s here rest why at
+InKind plain_scalar s here rest why at = PlainReason s.in_flow s.blocks here rest why at
 InKind question s here rest why at = QuestionReason s here rest why at
 InKind colon s here rest why at = ColonReason s here rest why at
 InKind dash s here rest why at = DashReason s here rest why at
@@ -53,8 +49,8 @@ InKind directive_line s here rest why at = DirectiveReason here rest why at
 InKind alias_name s here rest why at = NameReason here why at
 InKind anchor_name s here rest why at = NameReason here why at
 InKind tag_text s here rest why at = TagReason s.in_flow here rest why at
-InKind in_single_quotes s here rest why at = QuotedReason s.in_flow (least_column s.blocks s.awaits) s.blocks s.awaits here rest why at
-InKind in_double_quotes s here rest why at = QuotedReason s.in_flow (least_column s.blocks s.awaits) s.blocks s.awaits here rest why at
+InKind in_single_quotes s here rest why at = QuotedReason (least_column s.blocks s.awaits) here rest why at
+InKind in_double_quotes s here rest why at = QuotedReason (least_column s.blocks s.awaits) here rest why at
 InKind block_scalar s here rest why at = BlockReason s.blocks here rest why at
 InKind _ s here rest why at = BracketReason s here rest why at
 
@@ -96,15 +92,11 @@ module _ (s : Setting) (here : Position) (rest : List ℕ) where
   abbrev OfKind : Problem → Position → Type 0
   OfKind why at = (k : Kind) × (kind_here s here.col rest ≡ k) × InKind k s here rest why at
 
-  quoted_reason : (single : Bool) (more : List ℕ) (why : Problem) (at : Position) → rest ≡ quote_of single ∷ more → QuotedReason s.in_flow (least_column s.blocks s.awaits) s.blocks s.awaits here rest why at → OfKind why at
+  quoted_reason : (single : Bool) (more : List ℕ) (why : Problem) (at : Position) → rest ≡ quote_of single ∷ more → QuotedReason (least_column s.blocks s.awaits) here rest why at → OfKind why at
   quoted_reason a more why b e r = grind (arith, quoted_kind)
 
-  quoted_begins : (single : Bool) (piece next : List ℕ) → rest ≡ piece ++ next → IsQuoted single piece next → (more : List ℕ) × (rest ≡ quote_of single ∷ more)
-  quoted_begins true piece next e is = (_, e ∙ ap (λ p. p ++ next) is.1.1)
-  quoted_begins false piece next e is = (_, e ∙ ap (λ p. p ++ next) is.1.1)
-
-  closed_reason : (single : Bool) (piece next : List ℕ) (why : Problem) (at : Position) → rest ≡ piece ++ next → IsQuoted single piece next → QuotedReason s.in_flow (least_column s.blocks s.awaits) s.blocks s.awaits here rest why at → OfKind why at
-  closed_reason single piece next why at e is r = let first = quoted_begins single piece next e is in quoted_reason single first.0 why at first.1 r
+  of_quoted : (why : Problem) (at : Position) → QuotedReason (least_column s.blocks s.awaits) here rest why at → OfKind why at
+  of_quoted why at r = quoted_reason r.0 r.1 why at r.2 r
 
   bracket_reason : (c : ℕ) (more : List ℕ) (why : Problem) (at : Position) → rest ≡ c ∷ more → is_flow_indicator c ≡ true → BracketReason s here rest why at → OfKind why at
   unfolding is_blank_or_end is_blank is_break is_nul is_flow
@@ -118,13 +110,9 @@ module _ (s : Setting) (here : Position) (rest : List ℕ) where
   none_reason why at (none.nameless true more e lacks) f = (alias_name, ap (λ r. kind_here s here.col r) e, (refl, refl))
   none_reason why at (none.nameless false more e lacks) f = (anchor_name, ap (λ r. kind_here s here.col r) e, (refl, refl))
   none_reason why at (none.tagless more reason e r) f = (tag_text, ap (λ r. kind_here s here.col r) e, (more, e, r, refl))
-  none_reason why at (none.unquoted single more reason e lacks n) f = quoted_reason single more reason here e (quoted.unquoted single more reason e lacks n f)
+  none_reason why at (none.unquoted single more reason e lacks n) f = of_quoted reason here (quoted.unquoted (least_column s.blocks s.awaits) here rest single more reason e lacks n f)
   none_reason why at (none.headless style line next reason place out e one ends lacks n) f = (block_scalar, ap (λ r. kind_here s here.col r) e ∙ block_kind s here.col style (line ++ next) out, headless style line next reason place e one ends lacks n f)
   none_reason why at (none.undirected line next reason place col e one ends lacks r) f = (directive_line, ap (λ z. kind_here s here.col z) e, inr (line, next, col, e, one, ends, r))
-
-  lines_reason : (single : Bool) (why : Problem) (at : Position) → AreNotIndented single (least_column s.blocks s.awaits) rest → (n : IsQuotedFault single (least_column s.blocks s.awaits) here rest why at) → lines_first single (least_column s.blocks s.awaits) here rest why at n → OfKind why at
-  lines_reason single why at lacks (quoted_lines.by_column body more es cut has solid begins low) f = quoted_reason single (body ++ more) why at cut (quoted.no_quoted single why at lacks (quoted_lines.by_column body more es cut has solid begins low) f)
-  lines_reason single why at lacks (quoted_lines.by_tab body more es cut has begins low) f = quoted_reason single (body ++ tab ∷ more) why at cut (quoted.no_quoted single why at lacks (quoted_lines.by_tab body more es cut has begins low) f)
 
   block_begins_here : s.in_flow ≡ false → (piece next : List ℕ) → rest ≡ piece ++ next → begins_block piece ≡ true → kind_here s here.col rest ≡ block_scalar
   block_begins_here out a next e h = grind (arith, block_scalar, eqb-true, block_kind, literal, folded)
@@ -137,8 +125,8 @@ module _ (s : Setting) (here : Position) (rest : List ℕ) where
 
   followed_reason : (why : Problem) (at : Position) (n : IsFollowed s.in_flow here rest why at) → followed_first s.in_flow (least_column s.blocks s.awaits) s.taken s.full here rest why at n → OfKind why at
   followed_reason why at (none.glued c more e is begins) f = bracket_reason c more why at e is ((c, more, e, inr (f, refl, refl)))
-  followed_reason why at (none.glued_to_quoted single piece more e is begins) f = closed_reason single piece more why at e is (quoted.glued_to_quoted single piece more e is begins f)
-  followed_reason why at (none.after_quoted single piece more passed content e is ends on solid) f = closed_reason single piece more why at e is (quoted.after_quoted single piece more passed content e is ends on solid f)
+  followed_reason why at (none.glued_to_quoted single piece more e is begins) f = of_quoted why at (quoted.glued_to_quoted (least_column s.blocks s.awaits) here rest single piece more e is begins f)
+  followed_reason why at (none.after_quoted single piece more passed content e is ends on solid) f = of_quoted why at (quoted.after_quoted (least_column s.blocks s.awaits) here rest single piece more passed content e is on solid f)
   followed_reason why at (none.after_end more passed content col e gap on ends solid) f = (dots, ap (λ r. kind_here s here.col r) e ∙ dots_kind s here.col more col gap, (more, passed, content, e, on, solid, refl, refl))
   followed_reason why at (none.tab_after_dash more passed content out e gap on tab_there begins) f = (dash, ap (λ r. kind_here s here.col r) e ∙ dash_kind s here.col more gap, inr (inr (out, f, more, passed, content, e, on, begins, refl, refl)))
   followed_reason why at (none.no_space more [] content e gap on begins ends) f =
@@ -170,15 +158,15 @@ module _ (a : Account) (separation : List ℕ) (here : Position) (rest : List �
       seen_reason problem.KeyNotAllowed here f (question, ap (λ r. kind_here own here.col r) e ∙ question_kind own here.col more gap, inl (rw (out, line) refl, refl, refl))
   stands_reason why at (failing.tab_indents tabs) f = inl (tabs, refl, refl)
   stands_reason why at (failing.tab_after_quoted single piece gap content e is fills goes_on solid tabs) f =
-      seen_reason problem.TabInBlockIndentation _ f.0 (closed_reason own here rest single piece (gap ++ content) problem.TabInBlockIndentation _ e is (quoted.tab_after_quoted single piece gap content e is fills goes_on solid tabs (f.1, f.2)))
+      seen_reason problem.TabInBlockIndentation _ f.0 (of_quoted own here rest problem.TabInBlockIndentation _ (quoted.tab_after_quoted (least_column own.blocks own.awaits) here rest single piece gap content own.blocks own.awaits e is fills solid tabs f.1 f.2))
 
   pub reason_of : (why : Problem) (at : Position) → FailsFirst a separation here rest why at → Reason own here rest why at
   reason_of why at x = by x.fails x.is_first
     where
       by : (f : Fails a separation here rest why at) → comes_first a separation here rest why at f → Reason own here rest why at
       by (failing.no_piece n) f = seen_reason why at f.0 (none_reason own here rest why at n f.1)
-      by (failing.no_plain comes n) f = seen_reason why at f.0 (plain_scalar, (grind arith), (n, f.1))
-      by (failing.no_quoted single lacks n) f = seen_reason why at f.0 (lines_reason own here rest single why at lacks n f.1)
+      by (failing.no_plain comes n) f = seen_reason why at f.0 (plain_scalar, (grind arith), plain_reason own.in_flow own.blocks here rest why at n f.1)
+      by (failing.no_quoted single lacks n) f = seen_reason why at f.0 (of_quoted own here rest why at (quoted.no_quoted (least_column own.blocks own.awaits) here rest single why at lacks n f.1))
       by (failing.no_block out n) f = seen_reason why at f.0 (block_scalar, block_at own here rest out why at n, fails why at n f.1)
       by (failing.followed n) f = seen_reason why at f.0 (followed_reason own here rest why at n f.1)
       by (failing.may_not_stand n) f = stands_reason why at n f
@@ -206,9 +194,9 @@ colon_alone a b like separation more here is out seen apart why at x =
 
 one_in : (k : Kind) (s : Setting) (here : Position) (rest : List ℕ) (why1 why2 : Problem) (at1 at2 : Position) → has_no_nul rest ≡ true → InKind k s here rest why1 at1 → InKind k s here rest why2 at2 → AreSame why1 why2 at1 at2
 unfolding is_nul
-one_in plain_scalar s here rest why1 why2 at1 at2 clean r q = one_plain s.in_flow s.blocks here rest why1 why2 at1 at2 r.0 r.1 q.0 q.1
-one_in in_single_quotes s here rest why1 why2 at1 at2 clean r q = one_quoted s.in_flow (least_column s.blocks s.awaits) s.blocks s.awaits here rest clean why1 why2 at1 at2 r q
-one_in in_double_quotes s here rest why1 why2 at1 at2 clean r q = one_quoted s.in_flow (least_column s.blocks s.awaits) s.blocks s.awaits here rest clean why1 why2 at1 at2 r q
+one_in plain_scalar s here rest why1 why2 at1 at2 clean r q = one_plain s.in_flow s.blocks here rest why1 why2 at1 at2 r q
+one_in in_single_quotes s here rest why1 why2 at1 at2 clean r q = one_quoted (least_column s.blocks s.awaits) here rest clean why1 why2 at1 at2 r q
+one_in in_double_quotes s here rest why1 why2 at1 at2 clean r q = one_quoted (least_column s.blocks s.awaits) here rest clean why1 why2 at1 at2 r q
 one_in block_scalar s here rest why1 why2 at1 at2 clean r q = one_block s.blocks here rest clean why1 why2 at1 at2 r q
 one_in tag_text s here rest why1 why2 at1 at2 clean r q = grind (arith, one_tag)
 one_in directive_line s here rest why1 why2 at1 at2 clean r q = grind (arith, one_directive)
