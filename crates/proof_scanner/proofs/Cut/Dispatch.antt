@@ -19,10 +19,6 @@ pub gap_here : (m : List ℕ) → is_blank_or_breakz (slice_index m 0) ≡ is_at
 unfolding is_blank is_break
 gap_here a = grind (arith, same_gap)
 
-flow_here : (m : List ℕ) → is_flow (slice_index m 0) ≡ begins_flow m
-unfolding is_flow
-flow_here a = grind (arith, same_flow)
-
 -- the characters that have a case of their own: NUL, blanks, breaks and indicators
 abbrev told : List ℕ
 told = 0 ∷ codes " \t\n\r#-?:,[]{}*&!|>'\"%@`"
@@ -69,8 +65,8 @@ gap_after t c more gap e g = ap (λ l. is_blank_or_breakz (slice_index l 1)) e �
 
 -- whether a colon is the indicator of a value, the model and the definition say alike
 pub value_is : (t : ScannerState) (adjacent : Bool) (more : List ℕ) → t.rest ≡ 58 ∷ more → (is_empty t.held.flow ≡ false → (t.held.position.index == t.held.adjacent_value_at) ≡ adjacent) → is_value t ≡ is_value_indicator (not (is_empty t.held.flow)) adjacent more
-unfolding is_value
-value_is t adjacent more e now = grind (arith, nat_tests, eqb-true, gap_after, flow_here)
+unfolding is_value is_flow
+value_is t adjacent more e now = grind (arith, nat_tests, eqb-true, gap_after, same_flow)
 
 -- ---- the token by its first character
 

@@ -15,17 +15,13 @@ is_given (Some h) = true
 given_by : (h : Header) (b : Bool) → is_given (if b then Some h else None) ≡ b
 given_by h b = grind arith
 
-given_sign : (s : BlockStyle) (ch : Chomping) (r : List ℕ) → is_given (after_sign s ch r) ≡ is_rest_of_line (past_one (is_between 49 57) r)
-unfolding digit_of
-given_sign s ch r = grind (arith, given_by)
-
 given_digit : (s : BlockStyle) (d : ℕ) (r : List ℕ) → is_given (after_digit s d r) ≡ is_rest_of_line (past_one is_sign r)
 unfolding sign_of
 given_digit s d r = grind (arith, given_by)
 
 given_style : (s : BlockStyle) (w : List ℕ) → is_given (after_style s w) ≡ is_rest_of_line (past_indicators w)
 unfolding sign_of digit_of
-given_style s w = grind (arith, given_by, given_sign, given_digit)
+given_style s w = grind (arith, given_by, given_digit)
 
 -- A line is a header if nothing but a line's rest stands after its indicators.
 header_is : (style : BlockStyle) (w : List ℕ) → is_given (header_of (indicator_of style ∷ w)) ≡ is_rest_of_line (past_indicators w)

@@ -65,10 +65,6 @@ Reason s here rest why at =
 
 -- ---- kinds by the first characters
 
-quoted_kind : (s : Setting) (column : ℕ) (single : Bool) (more : List ℕ) → kind_here s column (quote_of single ∷ more) ≡ (if single then in_single_quotes else in_double_quotes)
-unfolding is_blank_or_end is_blank is_break is_nul is_flow
-quoted_kind s column a more = grind arith
-
 block_kind : (s : Setting) (column : ℕ) (style : BlockStyle) (more : List ℕ) → s.in_flow ≡ false → kind_here s column (indicator_of style ∷ more) ≡ block_scalar
 unfolding is_blank_or_end is_blank is_break is_nul is_flow
 block_kind s column a more out = grind arith
@@ -93,7 +89,8 @@ module _ (s : Setting) (here : Position) (rest : List ℕ) where
   OfKind why at = (k : Kind) × (kind_here s here.col rest ≡ k) × InKind k s here rest why at
 
   quoted_reason : (single : Bool) (more : List ℕ) (why : Problem) (at : Position) → rest ≡ quote_of single ∷ more → QuotedReason (least_column s.blocks s.awaits) here rest why at → OfKind why at
-  quoted_reason a more why b e r = grind (arith, quoted_kind)
+  unfolding is_blank_or_end is_blank is_break is_nul is_flow
+  quoted_reason a more why b e r = grind arith
 
   of_quoted : (why : Problem) (at : Position) → QuotedReason (least_column s.blocks s.awaits) here rest why at → OfKind why at
   of_quoted why at r = quoted_reason r.0 r.1 why at r.2 r

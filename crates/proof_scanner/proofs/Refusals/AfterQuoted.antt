@@ -52,14 +52,10 @@ not_done s d r b e f g = ap is_rest_of_line (on_line s b) ∙ (grind (arith, nat
     comment [] b = rw (g, f) refl
     comment (c ∷ s) b = grind (arith, nat_tests, comment s)
 
-follows_by : (flow : Bool) (piece : List ℕ) (same : Bool) (c : ℕ) (r : List ℕ) → (has_break piece ≡ false → same ≡ true) → goes_on_quoted flow piece (c ∷ r) ≡ true → may_follow_quoted flow same c ≡ true
-unfolding may_follow_quoted
-follows_by a piece same c r b h = grind arith
-
 -- what stands after the blanks and a comment may follow
 follows : (flow : Bool) (piece s rest : List ℕ) (same : Bool) → (has_break piece ≡ false → same ≡ true) → is_separation false s rest ≡ true → plains.has_break s ≡ false → ends_spaces Yes rest ≡ true → quoted_may_end flow piece (s ++ rest) ≡ true → may_follow_quoted flow same (peek rest) ≡ true
 unfolding may_follow_quoted is_blank is_break model_classes.is_break
-follows flow piece s rest same stays f h e may = grind (arith, nat_tests, blanks_alone, not_at_end, not_done, after_blanks, follows_by, eqb-true, or_left)
+follows flow piece s rest same stays f h e may = grind (arith, nat_tests, blanks_alone, not_at_end, not_done, after_blanks, eqb-true, or_left)
 
 -- ---- the check
 

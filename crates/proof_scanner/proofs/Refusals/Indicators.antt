@@ -307,12 +307,9 @@ module _ (text : List ℕ) (t : ScannerState) (a : Arrives text t) (some : is_em
   mapping_told more e apart i top s flow allowed =
       either (in_flow s) (λ _. goes) (λ o. checked (not s.key_allowed) (At problem.ValueNotAllowed t.held.position) (λ n. not_allowed more e apart i top (sym flow ∙ o) (sym allowed ∙ not-true s.key_allowed n)) (λ _. goes))
 
-  keyless_alike : (pair : Bool) (s : Held) → (in_flow (begin_keyless_pair pair s) ≡ in_flow s) × ((begin_keyless_pair pair s).key_allowed ≡ s.key_allowed)
-  keyless_alike a s = grind arith
-
   value_told : (more : List ℕ) → t.rest ≡ 58 ∷ more → colon_may_precede more ≡ true → is_value t ≡ true → (o : Option Key) → top_key t.held.keys ≡ o → (s : Held) → in_flow s ≡ in_flow t.held → s.key_allowed ≡ t.held.key_allowed → Faults (Said text) (value_of o t.held.position (opens_pair t.held.flow) s)
   unfolding insert_key begin_keyless_value
-  value_told more e apart i a top s flow allowed = grind (arith, nat_tests, eqb-true, keyless_alike, opens_pair, in_turn, mapping_told, goes, pair_told)
+  value_told more e apart i a top s flow allowed = grind (arith, nat_tests, eqb-true, opens_pair, in_turn, mapping_told, goes, pair_told)
 
   tab_checked : (more : List ℕ) → t.rest ≡ 58 ∷ more → begins_with 9 more ≡ true → (h : Held) → h.position ≡ past t.held.position → (x : Read Whitespace) → space Yes more h.position ≡ Ok x → Faults (Said text) (check_after_tab x.value (go_on x h))
   unfolding check_after_tab is_alpha is_alphanumeric

@@ -21,10 +21,6 @@ plain_in_line : (c : ℕ) (b : List ℕ) → InLineOf c b (plain_element c b)
 unfolding plain_element
 plain_in_line c b = grind arith
 
-single_in_line : (c : ℕ) (b : List ℕ) → InLineOf c b (single_quoted_element c b)
-unfolding single_quoted_element classes.is_break
-single_in_line c b = grind (arith, plain_in_line)
-
 digits_in_line : (n value code : ℕ) (w : List ℕ) → hexadecimal value (take n w) ≡ Some code → is_in_line (take n w) ≡ true
 unfolding classes.is_break
 digits_in_line (suc n) value code (c ∷ w) h = grind (arith, digits_in_line n (value * 16 + digit_value c) code w)
@@ -35,20 +31,13 @@ module _ (d : ℕ) (b : List ℕ) (unbroken : classes.is_break d ≡ false) wher
   unfolding classes.is_break
   slash_in_line = refl
 
-  numbered_in_line : (n : ℕ) → InLineOf 92 (d ∷ b) (numeric_escape n b)
-  unfolding numeric_escape
-  numbered_in_line n = grind (arith, digits_in_line, slash_in_line, unbroken)
-
   row_in_line : (o n : Option ℕ) → InLineOf 92 (d ∷ b) (escape_by o n b)
-  row_in_line o n = grind (arith, slash_in_line, unbroken, numbered_in_line)
-
-escape_in_line : (b : List ℕ) → InLineOf 92 b (escape b)
-unfolding escape
-escape_in_line b = grind (arith, row_in_line)
+  unfolding numeric_escape
+  row_in_line o n = grind (arith, slash_in_line, unbroken, digits_in_line)
 
 double_in_line : (c : ℕ) (b : List ℕ) → InLineOf c b (double_quoted_element c b)
-unfolding double_quoted_element
-double_in_line c b = grind (arith, escape_in_line, plain_in_line)
+unfolding double_quoted_element escape
+double_in_line c b = grind (arith, row_in_line, plain_in_line)
 
 -- in double quotes no element begins with the quote
 pub no_quote : (c : ℕ) (b : List ℕ) (s : Spelled) → double_quoted_element c b ≡ Some s → (c == 34) ≡ false
@@ -110,7 +99,8 @@ module _ (single : Bool) (c : ℕ) (b : List ℕ) (e : Spelled) (is : element_of
 
 -- content ends in its line
 pub content_in_line : (single : Bool) (c : ℕ) (b : List ℕ) (code k : ℕ) → element_of single c b ≡ Some (spelled (content code) k) → is_in_line (c ∷ take k b) ≡ true
-content_in_line single c b code k is = subst (λ o. InLineOf c b o) is (grind (arith, nat_tests, eqb-true, single_in_line, double_in_line))
+unfolding single_quoted_element classes.is_break
+content_in_line single c b code k is = subst (λ o. InLineOf c b o) is (grind (arith, nat_tests, eqb-true, plain_in_line, double_in_line))
 
 pub content_after : (single : Bool) (c : ℕ) (b : List ℕ) (code k : ℕ) → (is : element_of single c b ≡ Some (spelled (content code) k)) → (p : Position) → after_it single c b (spelled (content code) k) is p ≡ along (c ∷ take k b) p
 content_after single c b code k is p = ap (λ l. position_after p l (drop k b)) (sym (append-nil (c ∷ take k b))) ∙ after_chars (c ∷ take k b) [] (drop k b) p (content_in_line single c b code k is)
