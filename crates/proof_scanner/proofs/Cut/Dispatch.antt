@@ -36,11 +36,6 @@ each_of : (P : ℕ → Type 0) (c : ℕ) (ds : List ℕ) → AllOf P ds → (IsN
 each_of P c [] all other = other tt
 each_of P c (d ∷ ds) all other = row c d P all.0 (λ e. each_of P c ds all.1 (λ f. other (e, f)))
 
--- every other character begins a plain scalar
-other_begins : (fl adjacent : Bool) (c : ℕ) (more : List ℕ) → IsNone told c → (if c == 45 then not (is_at_gap more) else may_begin fl adjacent c more) ≡ true
-unfolding classes.is_blank_or_end classes.is_blank classes.is_break classes.is_nul classes.is_flow
-other_begins fl adjacent c more o = grind arith
-
 -- What is so of what the function of each token gives, where it is called, and of the three refusals; whether a colon may stand next to what stands before is known.
 pub record TokensHold (Q : Result ScannerState Fault → Type 0) (t : ScannerState) (adjacent : Bool) : Type 0 where
   pub anchor : (kind : NameKind) (more : List ℕ) → t.rest ≡ mark_of kind ∷ more → Q (fetch_anchor kind t)
@@ -112,7 +107,8 @@ module _ (Q : Result ScannerState Fault → Type 0) (t : ScannerState) (adjacent
   is_plain c o = grind arith
 
   other : (c : ℕ) → IsNone told c → Reads c
-  other c o more e = rw (is_plain c o) (plain_here c more e (other_begins (in_flow t.held) adjacent c more o))
+  unfolding classes.is_blank_or_end classes.is_blank classes.is_break classes.is_nul classes.is_flow
+  other c o more e = rw (is_plain c o) (plain_here c more e (grind arith))
 
   each : (c : ℕ) → Reads c
   unfolding class_of classes.is_blank classes.is_break

@@ -5,13 +5,10 @@ use Rattle.proof_scanner.specs.FirstPlain.{HasNoPlainFault}
 use Rattle.defs_token.specs.Plain.{inside, past}
 use Rattle.proof_scanner.specs.NoPiece as none
 
-dash_no_flow : is_flow 45 ≡ false
-unfolding is_flow
-dash_no_flow = refl
-
 -- a dash before a flow indicator, and one behind it
 no_later_dash : (collection : Option ℕ) (s : Stand) (before rest more : List ℕ) → begins_flow rest ≡ true → rest ≡ before ++ 45 ∷ more → goes_on true collection s before (45 ∷ more) ≡ true → ⊥
-no_later_dash collection s before rest more begins cut goes = no_flow true collection s before 45 more rest refl cut dash_no_flow begins goes
+unfolding is_flow
+no_later_dash collection s before rest more begins cut goes = no_flow true collection s before 45 more rest refl cut (refl) begins goes
 
 -- A scalar that goes on over two texts, each before a dash and a flow indicator, goes on over the same text.
 same_before : (collection : Option ℕ) (s : Stand) (a b x y : List ℕ) → a ++ 45 ∷ x ≡ b ++ 45 ∷ y → begins_flow x ≡ true → begins_flow y ≡ true → goes_on true collection s a (45 ∷ x) ≡ true → goes_on true collection s b (45 ∷ y) ≡ true → a ≡ b

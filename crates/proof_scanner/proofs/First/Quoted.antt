@@ -24,10 +24,6 @@ begins_quoted false rest piece next e is = ((is.1.0 ++ 34 ∷ []) ++ next, e ∙
 one_end : (single : Bool) (p q x y : List ℕ) → IsQuoted single p x → IsQuoted single q y → p ++ x ≡ q ++ y → (p ≡ q) × (x ≡ y)
 one_end a p q x y h k e = grind (arith, nat_tests, eqb-true, singles, doubles)
 
-solid_no_feed : (r : List ℕ) → begins_solid r ≡ true → begins_with 10 r ≡ false
-unfolding classes.is_break classes.is_blank
-solid_no_feed r h = grind arith
-
 module _ (least : ℕ) (here : Position) (rest : List ℕ) where
   -- ---- the reasons
 
@@ -75,9 +71,10 @@ module _ (least : ℕ) (here : Position) (rest : List ℕ) where
         walked why here false (content 92 ∷ []) has.0 body (92 ∷ r) e refl has.1 (sym (indented_are least (past here).col (has.0 ++ content 92 ∷ [])) ∙ first.1) first.0 (λ t q x h n. absurd (cc n)) (λ f n. by_escape r why double refl bad f)
 
     by_lines : rest ≡ quote_of single ∷ more → (why : Problem) (at : Position) (n : IsQuotedFault single least here rest why at) → lines_first single least here rest why at n → Reason single least here within (past here) more why at
+    unfolding classes.is_break classes.is_blank
     by_lines whole why at (lines.by_column body r es e are solid further low) first =
         let all : quote_of single ∷ more ≡ quote_of single ∷ (body ++ r) = sym whole ∙ e in
-        walked why at false [] es body r (cc all) (solid_no_feed r solid) are (indented es first.1) first.0 (λ t q x h n. absurd (cc n)) (λ f n. by_column solid further (ap (λ (q : Position). nat_lt q.col least) (sym (after_quote_at single here body r)) ∙ low))
+        walked why at false [] es body r (cc all) (grind arith) are (indented es first.1) first.0 (λ t q x h n. absurd (cc n)) (λ f n. by_column solid further (ap (λ (q : Position). nat_lt q.col least) (sym (after_quote_at single here body r)) ∙ low))
     by_lines whole why at (lines.by_tab body r es e are further low) first =
         let all : quote_of single ∷ more ≡ quote_of single ∷ (body ++ tab ∷ r) = sym whole ∙ e in
         let there = after_quote_at single here body (tab ∷ r) in

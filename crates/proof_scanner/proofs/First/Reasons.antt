@@ -78,22 +78,15 @@ question_kind s column more gap = rw gap refl
 colon_kind : (s : Setting) (column : ℕ) (more : List ℕ) → is_value_indicator s.in_flow s.adjacent more ≡ true → kind_here s column (58 ∷ more) ≡ colon
 colon_kind s column more is = rw is refl
 
-dots_kind : (s : Setting) (column : ℕ) (more : List ℕ) → column ≡ 0 → is_at_gap more ≡ true → kind_here s column (46 ∷ 46 ∷ 46 ∷ more) ≡ dots
-unfolding is_blank_or_end is_blank is_break is_nul is_flow are_marks
-dots_kind s column more zero gap = rw (zero, gap) refl
-
 -- ---- each reason has its kind
 
 module _ (s : Setting) (here : Position) (rest : List ℕ) where
   abbrev OfKind : Problem → Position → Type 0
   OfKind why at = (k : Kind) × (kind_here s here.col rest ≡ k) × InKind k s here rest why at
 
-  quoted_reason : (single : Bool) (more : List ℕ) (why : Problem) (at : Position) → rest ≡ quote_of single ∷ more → QuotedReason (least_column s.blocks s.awaits) here rest why at → OfKind why at
-  unfolding is_blank_or_end is_blank is_break is_nul is_flow
-  quoted_reason a more why b e r = grind arith
-
   of_quoted : (why : Problem) (at : Position) → QuotedReason (least_column s.blocks s.awaits) here rest why at → OfKind why at
-  of_quoted why at r = quoted_reason r.0 r.1 why at r.2 r
+  unfolding is_blank_or_end is_blank is_break is_nul is_flow
+  of_quoted why at r = grind arith
 
   bracket_reason : (c : ℕ) (more : List ℕ) (why : Problem) (at : Position) → rest ≡ c ∷ more → is_flow_indicator c ≡ true → BracketReason s here rest why at → OfKind why at
   unfolding is_blank_or_end is_blank is_break is_nul is_flow
@@ -121,10 +114,11 @@ module _ (s : Setting) (here : Position) (rest : List ℕ) where
   block_at out why at (none.by_column piece header next more b cut is further_text lines_are empty deep left) = block_begins_here out piece next cut (block_begins (innermost s.blocks) piece next b is)
 
   followed_reason : (why : Problem) (at : Position) (n : IsFollowed s.in_flow here rest why at) → followed_first s.in_flow (least_column s.blocks s.awaits) s.taken s.full here rest why at n → OfKind why at
+  unfolding is_blank_or_end is_blank is_break is_nul is_flow are_marks
   followed_reason why at (none.glued c more e is begins) f = bracket_reason c more why at e is ((c, more, e, inr (f, refl, refl)))
   followed_reason why at (none.glued_to_quoted single piece more e is begins) f = of_quoted why at (quoted.glued_to_quoted (least_column s.blocks s.awaits) here rest single piece more e is begins f)
   followed_reason why at (none.after_quoted single piece more passed content e is ends on solid) f = of_quoted why at (quoted.after_quoted (least_column s.blocks s.awaits) here rest single piece more passed content e is on solid f)
-  followed_reason why at (none.after_end more passed content col e gap on ends solid) f = (dots, ap (λ r. kind_here s here.col r) e ∙ dots_kind s here.col more col gap, (more, passed, content, e, on, solid, refl, refl))
+  followed_reason why at (none.after_end more passed content col e gap on ends solid) f = (dots, ap (λ r. kind_here s here.col r) e ∙ (rw (col, gap) refl), (more, passed, content, e, on, solid, refl, refl))
   followed_reason why at (none.tab_after_dash more passed content out e gap on tab_there begins) f = (dash, ap (λ r. kind_here s here.col r) e ∙ dash_kind s here.col more gap, inr (inr (out, f, more, passed, content, e, on, begins, refl, refl)))
   followed_reason why at (none.no_space more [] content e gap on begins ends) f =
       (question, ap (λ r. kind_here s here.col r) e ∙ question_kind s here.col more gap, inr (inl (f.0, more, e, grind arith, refl, refl)))

@@ -31,10 +31,6 @@ record TabAfter (after : List ℕ) : Type 0 where
   more : List ℕ
   is : after ≡ put by (tab ∷ more)
 
-tab_after : (after : List ℕ) (p : Position) → headers.ends_line after ≡ true → begins_with tab (linebreak after p).rest ≡ true → TabAfter after
-unfolding is_break
-tab_after a p e h = grind arith
-
 -- a fault that comes first
 abbrev FirstFault : (collection : List ℕ) (here : Position) (text : List ℕ) (why : Problem) (at : Position) → Type 0
 FirstFault collection here text why at = (x : IsBlockFault collection here text why at) × block_first collection here text why at x
@@ -75,9 +71,6 @@ piece_tab_fault collection o here text piece next b e is tabbed =
 
 -- ---- what stands after a scalar without content
 
-untabbed_by : (h : List ℕ) (ls : List (List ℕ)) (t : Bool) → (scan.is_single (h ∷ ls) && t) ≡ false → not (is_empty ls && t) ≡ true
-untabbed_by h ls t i = grind arith
-
 rest_fails : (t y l d : Bool) → t ≡ true → (t && (not y || l || d)) ≡ false → (y ≡ true) × (l ≡ false) × (d ≡ false)
 rest_fails t y l d e k = grind arith
 
@@ -89,7 +82,7 @@ column_fault indent bs here text piece next b least e clean is untabbed low = by
     by true further k = absurd (cc k)
     by false further k =
         let w : Written piece next = written (collection_of indent) piece next b is further in
-        let no_tab : not (is_empty (texts w.lines) && begins_with tab next) ≡ true = untabbed_by w.header.text (texts w.lines) (begins_with tab next) (ap (λ x. scan.is_single x && begins_with tab next) (sym (lines_written piece next w)) ∙ untabbed) in
+        let no_tab : not (is_empty (texts w.lines) && begins_with tab next) ≡ true = grind (arith, (ap (λ x. scan.is_single x && begins_with tab next) (sym (lines_written piece next w)) ∙ untabbed)) in
         let q = rest_fails (not (is_empty (texts w.lines) && begins_with tab next)) (are_empty b.column (texts w.lines)) (nat_lt (leading_spaces next) (least_column bs true)) (nat_le b.column (leading_spaces next)) no_tab (lines_asked indent b piece next bs least is w ∙ k) in
         (none.by_column piece w.header.text next (texts w.lines) b e read_here further (lines_written piece next w) q.0 (grind (arith, nat_tests, q)) (grind (arith, nat_tests, q)), no_tab_fault)
       where
@@ -121,8 +114,9 @@ module _ (text : List ℕ) (t : ScannerState) (a : Arrives text t) (some : is_em
 
   -- `|` or `>`
   header_told : (style : BlockStyle) (line after : List ℕ) → t.rest ≡ indicator_of style ∷ (line ++ after) → is_in_line line ≡ true → headers.ends_line after ≡ true → (g : Fault) → headers.IsHeaderRefusal t.held.position style line after g → Said text g
+  unfolding is_break
   header_told style line after e inline ends g (headers.tabbed h is begins) =
-      let f : TabAfter after = tab_after after t.held.position ends begins in
+      let f : TabAfter after = grind arith in
       λ _. block_stuck problem.BlockScalarTab t.held.position
       (tab_fault collections t.held.position t.rest (indicator_of style ∷ line) f.more f.by h (e ∙ ap (λ r. indicator_of style ∷ (line ++ r)) f.is) (style_inner style line inline) is)
   header_told style line after e inline ends g (headers.zero_digit lacks zero) =

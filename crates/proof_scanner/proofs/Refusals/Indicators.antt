@@ -307,10 +307,6 @@ module _ (text : List ℕ) (t : ScannerState) (a : Arrives text t) (some : is_em
   mapping_told more e apart i top s flow allowed =
       either (in_flow s) (λ _. goes) (λ o. checked (not s.key_allowed) (At problem.ValueNotAllowed t.held.position) (λ n. not_allowed more e apart i top (sym flow ∙ o) (sym allowed ∙ not-true s.key_allowed n)) (λ _. goes))
 
-  value_told : (more : List ℕ) → t.rest ≡ 58 ∷ more → colon_may_precede more ≡ true → is_value t ≡ true → (o : Option Key) → top_key t.held.keys ≡ o → (s : Held) → in_flow s ≡ in_flow t.held → s.key_allowed ≡ t.held.key_allowed → Faults (Said text) (value_of o t.held.position (opens_pair t.held.flow) s)
-  unfolding insert_key begin_keyless_value
-  value_told more e apart i a top s flow allowed = grind (arith, nat_tests, eqb-true, opens_pair, in_turn, mapping_told, goes, pair_told)
-
   tab_checked : (more : List ℕ) → t.rest ≡ 58 ∷ more → begins_with 9 more ≡ true → (h : Held) → h.position ≡ past t.held.position → (x : Read Whitespace) → space Yes more h.position ≡ Ok x → Faults (Said text) (check_after_tab x.value (go_on x h))
   unfolding check_after_tab is_alpha is_alphanumeric
   tab_checked more e tab h place x k =
@@ -343,11 +339,11 @@ module _ (text : List ℕ) (t : ScannerState) (a : Arrives text t) (some : is_em
       holds.checked (not x.value.has_valid_yaml_ws && ((peek x.rest == 45) || is_alpha (peek x.rest))) (At problem.TabAfterColon x.position) (λ _. holds.went refl))) (λ _. holds.went refl)
 
   pub colon_told : (more : List ℕ) → t.rest ≡ 58 ∷ more → is_value t ≡ true → Faults (Said text) (fetch_value t)
-  unfolding fetch_value
+  unfolding fetch_value insert_key begin_keyless_value
   colon_told more e is =
       let value_told_by : (more : List ℕ) → t.rest ≡ 58 ∷ more → colon_may_precede more ≡ true → (u : ScannerState) → u.held.keys ≡ t.held.keys → in_flow u.held ≡ in_flow t.held → u.held.key_allowed ≡ t.held.key_allowed
       → Faults (Said text) (value_of (top_key u.held.keys) t.held.position (opens_pair t.held.flow) u.held) =
-      λ more e apart u keys flow allowed. value_told more e apart is (top_key u.held.keys) (sym (ap top_key keys)) u.held flow allowed in
+      λ more e apart u keys flow allowed. (grind (arith, nat_tests, eqb-true, opens_pair, in_turn, mapping_told, goes, pair_told, (sym (ap top_key keys)))) in
       let first : ScannerState = skip_indicator (on_held (λ s. record s { flow = paired s.flow }) t) in
       in_turn (value_checked more e first (ap after e) refl) (λ u k.
       let h = held_of u (value_held first) k in

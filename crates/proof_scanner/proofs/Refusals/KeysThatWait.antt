@@ -47,10 +47,6 @@ not_below q a h b = grind arith
 falls_at : (fl : Bool) (k : Act) (c : ℕ) (ns : List ℕ) → Falls ns → Falls (blocks_at fl k c ns)
 falls_at fl k c ns f = grind (arith, falls_kept)
 
--- where a node stands in no column of a collection, all that go on have columns before it
-node_below : (k : Act) (c : ℕ) (ns : List ℕ) → k ≡ gives_node → Falls ns → is_in_column c (blocks_at false k c ns) ≡ false → AllBelow c (blocks_at false k c ns)
-node_below k c ns e f h = grind (arith, below_here)
-
 below_at : (q : ℕ) (fl : Bool) (k : Act) (c : ℕ) (ns : List ℕ) → AllBelow q ns → AllBelow q (blocks_at fl k c ns)
 below_at q fl k c ns f = grind (arith, below_kept)
 
@@ -158,7 +154,7 @@ below_after s l m ds es w c next a b i j f below e1 e2 q wt tk = by (made s l ds
     both n o u v k sep1 sep2 past tk (begun act fr h bs) = to (taken_past _ _ _ c o v (ap (λ x. line_past (is_in_column at.position.col at.blocks) at.position at.blocks x c o) (sym act) ∙ past) tk)
       where
         to : ((o ≡ free) × (is_in_column at.position.col at.blocks ≡ false)) ⊎ (o ≡ taken) → AllBelow q.col u.blocks
-        to (inl p) = subst (λ x. AllBelow q.col x) (sym bs) (subst (λ (x : Position). AllBelow x.col at.blocks) h (node_below (act_of w.shown) at.position.col s.blocks act f p.1))
+        to (inl p) = subst (λ x. AllBelow q.col x) (sym bs) (subst (λ (x : Position). AllBelow x.col at.blocks) h (grind (arith, below_here)))
         to (inr t) = absurd (grind arith)
     both n o u v k sep1 sep2 past tk (kept act is bs) = to (taken_past _ _ _ c o v (ap (λ x. line_past (is_in_column at.position.col at.blocks) at.position at.blocks x c o) (sym act) ∙ past) tk)
       where

@@ -27,13 +27,9 @@ digits_in_line (suc n) value code (c ∷ w) h = grind (arith, digits_in_line n (
 digits_in_line a value code w h = grind arith
 
 module _ (d : ℕ) (b : List ℕ) (unbroken : classes.is_break d ≡ false) where
-  slash_in_line : classes.is_break 92 ≡ false
-  unfolding classes.is_break
-  slash_in_line = refl
-
   row_in_line : (o n : Option ℕ) → InLineOf 92 (d ∷ b) (escape_by o n b)
-  unfolding numeric_escape
-  row_in_line o n = grind (arith, slash_in_line, unbroken, digits_in_line)
+  unfolding numeric_escape classes.is_break
+  row_in_line o n = grind (arith, (refl), unbroken, digits_in_line)
 
 double_in_line : (c : ℕ) (b : List ℕ) → InLineOf c b (double_quoted_element c b)
 unfolding double_quoted_element escape

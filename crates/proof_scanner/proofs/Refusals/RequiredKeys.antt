@@ -125,10 +125,6 @@ end_rowless text t a none must r h =
 
 -- ---- where a piece begins
 
--- no comma and no closing bracket comes while a key waits
-none_closes : (must : Bool) (here : Position) (bs : List ℕ) (k : Act) (key : Bool) (l : Line) (q : Position) (o : Outside) → l ≡ waits q → (k ≡ gives_comma) ⊎ (k ≡ gives_closing) → line_past must here bs k key l ≡ Some o → ⊥
-none_closes must a bs k b l q o e d h = grind arith
-
 -- The row's step at a place, while a key waits outside flow: no comma or closing bracket, and nothing in column 0.
 module _ {a : Account} {separation rest : List ℕ} {here : Position} (s : StepAt a separation rest here) (q : Position) (waiting : s.account.line ≡ waits q) where
   made_here : Made s.account.site s.account.line s.account.entries s.step s.next s.past
@@ -145,7 +141,7 @@ module _ {a : Account} {separation rest : List ℕ} {here : Position} (s : StepA
   not_closing out act = by made_here
     where
       by : Made s.account.site s.account.line s.account.entries s.step s.next s.past → ⊥
-      by (outside m o none sep past line site one) = none_closes _ _ _ (act_of s.step.shown) s.step.key m q o (still_there false _ s.account.line m q waiting sep).1 act past
+      by (outside m o none sep past line site one) = grind (arith, (still_there false _ s.account.line m q waiting sep).1)
       by (inside some sep site one) = cc (out, same_flow a.entries s.account.entries s.is_like.2, some)
 
   -- the text says so

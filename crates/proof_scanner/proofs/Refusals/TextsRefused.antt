@@ -81,9 +81,6 @@ line_ends a e = grind arith
 pub one_line : (line1 next1 line2 next2 : List ℕ) → line1 ++ next1 ≡ line2 ++ next2 → has_no_break line1 ≡ true → directives.ends_line next1 ≡ true → has_no_break line2 ≡ true → directives.ends_line next2 ≡ true → line1 ≡ line2
 one_line line1 next1 line2 next2 e h j k l = (runs in_line line1 line2 next1 next2 (all_in_line line1 ∙ h) (all_in_line line2 ∙ k) (line_ends next1 j) (line_ends next2 l) e).0
 
-clean_end : (next : List ℕ) → is_at_line_end next ≡ true → has_no_nul next ≡ true → directives.ends_line next ≡ true
-clean_end a e n = grind arith
-
 -- a text's first line
 pub first_of : (line after : List ℕ) → is_in_line line ≡ true → ends_line after ≡ true → up_to_break (line ++ after) ≡ line
 first_of [] after h e = grind arith
@@ -98,10 +95,6 @@ piece_line collection piece next r clean is = grind (arith, end_no_text, append-
 -- a block scalar that was read ends before the text after it
 ended_body : (collection : Option ℕ) (h : Option Header) (b : Body) (next : List ℕ) (r : BlockRead) → read_body h collection b next ≡ Some r → (column : ℕ) × (is_past column next ≡ true)
 ended_body collection h b next r e = grind arith
-
-tab_is_text : is_at_end (9 ∷ []) ≡ false
-unfolding is_nul
-tab_is_text = refl
 
 not_past : (column : ℕ) (r : List ℕ) → is_further_text column (10 ∷ r) ≡ false
 unfolding is_break are_marks
@@ -166,7 +159,8 @@ module _ (collection : Option ℕ) (header more : List ℕ) where
 
   -- It may not end there.
   tab_follows : (own piece next : List ℕ) (bs : List ℕ) (r : BlockRead) → piece ++ next ≡ own ++ 9 ∷ more → split own ≡ of_lines (header ∷ []) [] → has_no_nul next ≡ true → block_read collection piece next ≡ Some r → block_may_end bs piece next ≡ false
-  tab_follows own piece next bs r cut one clean is = grind (arith, nat_tests, header_alone, eqb-true, tab_is_text)
+  unfolding is_nul
+  tab_follows own piece next bs r cut one clean is = grind (arith, nat_tests, header_alone, eqb-true, (refl))
 
 unbroken : (style : BlockStyle) → is_break (indicator_of style) ≡ false
 unfolding is_break
@@ -212,7 +206,7 @@ module _ {a : Account} {separation rest : List ℕ} {here : Position} (s : StepA
       let first = directive_begins s.step.piece w.0 w.1 in
       let left : first.0 ++ next ≡ line ++ after = rest_of s 37 first.0 (line ++ after) first.1 e in
       let clean : has_no_nul (first.0 ++ next) ≡ true = ap has_no_nul left ∙ no_nul_more (line ++ after) (sym (ap has_no_nul e) ∙ s.is_clean) in
-      let same : first.0 ≡ line = one_line first.0 next line after left ((and_parts (not (is_break 37)) (has_no_break first.0) (sym (ap has_no_break first.1) ∙ w.2)).1) (clean_end next w.3 (no_nul_after first.0 next clean)) one ends in
+      let same : first.0 ≡ line = one_line first.0 next line after left ((and_parts (not (is_break 37)) (has_no_break first.0) (sym (ap has_no_break first.1) ∙ w.2)).1) (grind (arith, (no_nul_after first.0 next clean))) one ends in
       cc (none, ap (λ r. directive_of (37 ∷ r)) (sym same), ap directive_of (sym first.1), w.1)
 
   block_here : (style : BlockStyle) (more : List ℕ) → is_in_flow a.entries ≡ false → rest ≡ indicator_of style ∷ more → Here block_scalar

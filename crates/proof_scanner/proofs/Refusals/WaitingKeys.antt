@@ -8,10 +8,6 @@ use Rattle.proof_scanner.proofs.Known.Made.{still_there, Made, outside, inside, 
 pub none_ends : (a : Account) (begin : Position) → a.line ≡ waits begin → may_end a ≡ true → ⊥
 none_ends a begin e h = grind arith
 
--- Outside flow a piece is a part of a node, after which the key waits still, or it is its colon and near.
-waits_on : (must : Bool) (here : Position) (bs : List ℕ) (k : Act) (key : Bool) (q : Position) (o : Outside) → line_past must here bs k key (waits q) ≡ Some o → (o.line ≡ waits q) ⊎ (here.index ≤ q.index + 1024)
-waits_on must a bs b d q o e = grind arith
-
 -- What a row's step says of a key that waits before it: no line begins before its piece, which is near.
 pub record GoesNear (a : Account) (w : Step) (next : List ℕ) (q : Position) : Type 0 where
   pub unbroken : begins_free_line a.site.before w.separation ≡ false
@@ -44,7 +40,7 @@ near_by w ws last a q e row further = let c = some_row (account_past a w (spelle
         record { unbroken = there.0; near = earlier b (ap (λ x. x.position) site) (further b there.1 on) }
     of b on (outside m o none sep past line site one) =
         let there = still_there false (begins_free_line a.site.before w.separation) a.line m q e sep in
-        record { unbroken = there.0; near = to (waits_on (is_in_column here.col at.blocks) here at.blocks (act_of w.shown) w.key q o (subst (λ l. line_past (is_in_column here.col at.blocks) here at.blocks (act_of w.shown) w.key l ≡ Some o) there.1 past)) }
+        record { unbroken = there.0; near = to (grind (arith, (subst (λ l. line_past (is_in_column here.col at.blocks) here at.blocks (act_of w.shown) w.key l ≡ Some o) there.1 past))) }
       where
         to : (o.line ≡ waits q) ⊎ (here.index ≤ q.index + 1024) → here.index ≤ q.index + 1024
         to (inl still) = earlier b (ap (λ x. x.position) site) (further b (line ∙ still) on)
