@@ -15,13 +15,9 @@ is_given (Some h) = true
 given_by : (h : Header) (b : Bool) → is_given (if b then Some h else None) ≡ b
 given_by h b = grind arith
 
-given_digit : (s : BlockStyle) (d : ℕ) (r : List ℕ) → is_given (after_digit s d r) ≡ is_rest_of_line (past_one is_sign r)
-unfolding sign_of
-given_digit s d r = grind (arith, given_by)
-
 given_style : (s : BlockStyle) (w : List ℕ) → is_given (after_style s w) ≡ is_rest_of_line (past_indicators w)
 unfolding sign_of digit_of
-given_style s w = grind (arith, given_by, given_digit)
+given_style s w = grind (arith, given_by)
 
 -- A line is a header if nothing but a line's rest stands after its indicators.
 header_is : (style : BlockStyle) (w : List ℕ) → is_given (header_of (indicator_of style ∷ w)) ≡ is_rest_of_line (past_indicators w)

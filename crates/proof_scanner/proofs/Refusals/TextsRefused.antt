@@ -37,9 +37,6 @@ plainly text h = grind arith
 unmarked : (text : List ℕ) → begins_with_mark text ≡ false → (slice_index text 0 == 33) ≡ false
 unmarked text h = grind arith
 
-suffix_given : (l suffix : List ℕ) → is_empty l ≡ false → decoded l ≡ Ok suffix → is_empty suffix ≡ false
-suffix_given l suffix h e = grind (arith, decoded_some)
-
 -- The scan refuses a text after `!` for each of these reasons.
 pub refusal_fails : (flow : Bool) (text : List ℕ) (why : Problem) (p : Position) → IsTagRefusal flow text why → tag flow (33 ∷ text) p ≡ Err (At why p)
 unfolding tag verbatim shorthand named
@@ -54,7 +51,7 @@ refusal_fails flow text why p (no_suffix name rest cut all none) =
     rw (cut, no_angle name rest all, word (name ++ 33 ∷ rest) (past p) [], z.0, z.1, (uris_are_read p rest (past (further (length name) (past p))) []).1, none) refl
 refusal_fails flow text why p (suffix_goes_on name rest suffix cut all some e goes) =
     let z = leading_all is_alpha name (33 ∷ rest) all no_mark in
-    let given : is_empty suffix ≡ false = suffix_given (leading is_tag rest) suffix some e in
+    let given : is_empty suffix ≡ false = grind (arith, decoded_some) in
     rw (cut, no_angle name rest all, word (name ++ 33 ∷ rest) (past p) [], z.0, z.1, (uris_are_read p rest (past (further (length name) (past p))) []).1, e, given, same_end flow (after is_tag rest), goes) refl
 refusal_fails flow text why p (local_octets f no_verbatim none e) =
     rw (plainly text no_verbatim, word text (past p) [], unmarked (after is_alpha text) none, (uris_are_read p (after is_alpha text) (further (length (leading is_alpha text)) (past p)) (leading is_alpha text)).1, e) refl
