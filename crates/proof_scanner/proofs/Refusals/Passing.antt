@@ -20,11 +20,7 @@ HasNear s = is_empty s.flow ≡ true → (k : Key) → top_key s.keys ≡ Some k
 
 stale_near : (s : Held) → Holds HasNear (stale s)
 unfolding stale drop_stale
-stale_near s = either (in_flow s) (λ i. went (λ o. absurd (cc (o, ap not o, i)))) (λ _. (grind (arith, refused, went, first)))
-  where
-    first : (ks : List (Option Key)) (k : Key) → top_key (map (still s.position) ks) ≡ Some k → is_far k.position s.position ≡ false
-    first [] k e = absurd (cc e)
-    first (o ∷ ks) k e = grind arith
+stale_near s = grind (arith, nat_tests, eqb-true, either, in_flow, went, not, refused, top_key, map, still, is_far)
 
 pub anything : {A : Type 0} (r : Result A Fault) → Holds (λ x. Unit {0}) r
 anything (Ok x) = went tt
