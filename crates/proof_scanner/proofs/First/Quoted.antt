@@ -100,9 +100,7 @@ module _ (least : ℕ) (here : Position) (rest : List ℕ) where
   unquoted single more why e lacks n first = (single, more, e, inl (by_text single more why n first, λ piece next f is fit. lacks piece next f is))
 
   pub no_quoted : (single : Bool) (why : Problem) (at : Position) → AreNotIndented single least rest → (n : IsQuotedFault single least here rest why at) → lines_first single least here rest why at n → QuotedReason why at
-  no_quoted single why at lacks n first =
-      let z = begins_lines single why at n in
-      (single, z.0, z.1, inl (by_lines single z.0 z.1 why at n first, λ piece next f is fit. cc (lacks piece next f is, fit)))
+  no_quoted single why at h n e = grind (arith, nat_tests, eqb-true, begins_lines, by_lines)
 
   pub glued_to_quoted : (single : Bool) (piece more : List ℕ) → rest ≡ piece ++ more → IsQuoted single piece more → begins_with 35 more ≡ true → closed_first single least piece → QuotedReason problem.CommentNotSeparated (position_after here piece more)
   glued_to_quoted single piece more e is begins fit = closed single piece more _ _ e is fit (inl (begins, refl, refl))

@@ -175,9 +175,7 @@ module _ (text : List ℕ) (t : ScannerState) (a : Arrives text t) (some : is_em
   -- no comment stands after what was passed behind a dash
   dash_spaced : (u : ScannerState) → Holds (λ v. (begins_with 35 v.rest ≡ false) × (v.held.keys ≡ u.held.keys)) (lexed (space Yes u.rest u.held.position) u.held check_dash)
   unfolding check_dash
-  dash_spaced u =
-      spaced Yes u check_dash (λ v. (begins_with 35 v.rest ≡ false) × (v.held.keys ≡ u.held.keys)) (λ w v s.
-      holds.checked (w.found_tabs && (slice_index v.rest 0 == 45) && is_blank_or_breakz (slice_index v.rest 1)) (At problem.TabAfterDash v.held.position) (λ _. holds.went (no_comment_left Yes v.rest s.ends, ap (λ h. h.keys) s.is_held)))
+  dash_spaced u = grind (arith, nat_tests, eqb-true, spaced, check_dash, begins_with, holds.checked, slice_index, is_blank_or_breakz, problem.TabAfterDash, holds.went, no_comment_left)
 
   pub dash_told : (more : List ℕ) → t.rest ≡ 45 ∷ more → is_at_gap more ≡ true → Faults (Said text) (fetch_block_entry t)
   unfolding fetch_block_entry
@@ -206,10 +204,7 @@ module _ (text : List ℕ) (t : ScannerState) (a : Arrives text t) (some : is_em
 
   key_place : Holds (λ s. Stays s t.held × ((in_flow t.held || t.held.key_allowed) ≡ true)) (begin_key t.held)
   unfolding begin_key
-  key_place =
-      holds.either (in_flow t.held) (λ i. holds.went ((refl, refl), ap (λ b. b || t.held.key_allowed) i)) (λ o.
-      holds.checked (not t.held.key_allowed) (At problem.KeyNotAllowed t.held.position) (λ n.
-      holds.went (rolled_stays t.held.position.col None Tok.block_mapping_start t.held.position t.held, ap (λ b. b || t.held.key_allowed) o ∙ not-false t.held.key_allowed n)))
+  key_place = grind (arith, nat_tests, eqb-true, holds.either, in_flow, holds.went, holds.checked, not, problem.KeyNotAllowed, rolled_stays, not-false)
 
   white_told : (in_flow t.held || t.held.key_allowed) ≡ true → (more : List ℕ) → t.rest ≡ 63 ∷ more → is_at_gap more ≡ true → (u : ScannerState) → u.rest ≡ more → u.held.position ≡ past t.held.position → Faults (Said text) (skip_yaml_whitespace u)
   unfolding skip_yaml_whitespace
@@ -323,9 +318,7 @@ module _ (text : List ℕ) (t : ScannerState) (a : Arrives text t) (some : is_em
   -- only the position is another
   value_held : (u : ScannerState) → Holds (λ w. w.held ≡ record u.held { position = w.held.position }) (check_value_space u)
   unfolding check_value_space check_after_tab
-  value_held u =
-      holds.either (peek u.rest == 9) (λ _. holds.read u.held (space Yes u.rest u.held.position) check_after_tab (λ x k.
-      holds.checked (not x.value.has_valid_yaml_ws && ((peek x.rest == 45) || is_alpha (peek x.rest))) (At problem.TabAfterColon x.position) (λ _. holds.went refl))) (λ _. holds.went refl)
+  value_held u = grind (arith, nat_tests, eqb-true, holds.either, peek, holds.read, space, check_after_tab, holds.checked, not, is_alpha, problem.TabAfterColon, holds.went)
 
   pub colon_told : (more : List ℕ) → t.rest ≡ 58 ∷ more → is_value t ≡ true → Faults (Said text) (fetch_value t)
   unfolding fetch_value insert_key begin_keyless_value

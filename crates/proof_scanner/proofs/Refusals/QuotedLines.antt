@@ -279,9 +279,7 @@ module _ (single : Bool) (ctx : Context) (start : Position) (least : ℕ) (limit
       fails (c ∷ b) f i = cc (i, first_fails single ctx start c (b ++ quote_of single ∷ x.rest) (past start) (off_margin start.col 0) f)
 
       position_of : (position : Position) → position ≡ past (position_after (past start) body (quote_of single ∷ x.rest)) → position ≡ position_after start (quote_of single ∷ (body ++ quote_of single ∷ [])) x.rest
-      position_of position e =
-          e ∙ (sym (past_is (position_after (past start) body (quote_of single ∷ x.rest)) (quote_of single) x.rest (quote_no_break single)) ∙
-          (sym (position_append (past start) body (quote_of single ∷ []) x.rest) ∙ sym (after_quote_at single start (body ++ quote_of single ∷ []) x.rest)))
+      position_of position h = grind (arith, nat_tests, eqb-true, past_is, position_after, past, start, body, quote_of, single, quote_no_break, position_append, after_quote_at)
 
       by : Ends within (past start) (body ++ quote_of single ∷ x.rest) (quoted single ctx (quote_of single ∷ (body ++ quote_of single ∷ x.rest)) start) → IsBody (quote_of single) body x
       by (refused why at h i) = absurd (cc (i, e))

@@ -179,15 +179,10 @@ module _ {a : Account} {separation rest : List ℕ} {here : Position} (s : StepA
           single = ap (λ k. takes_pair k d.pair) (sym like.0.0) ∙ (ap (λ p. takes_pair e.kind p) (sym like.0.1) ∙ takes)
 
           no_had : entry.had_after there.position (takes_pair d.kind d.pair) gives_colon s.step.key (entry.renewed (is_renewed s.account.site.before s.step.separation) gives_colon d.had) ≡ None
-          no_had =
-              ap (λ b. entry.had_after there.position b gives_colon s.step.key (entry.renewed (is_renewed s.account.site.before s.step.separation) gives_colon d.had)) single ∙
-              none_had there.position begin (is_renewed s.account.site.before s.step.separation) s.step.key d.had (subst (λ h. LikeHad h d.had) had like.0.2) (subst (λ (p : Position). begin.line < p.line) (sym s.position_is) late)
+          no_had = grind (arith, nat_tests, eqb-true, entry.had_after, gives_colon, entry.renewed, is_renewed, single, none_had, begin, had, like, late)
 
           none_past : (o : Option Line) → past_piece there s.step.piece s.step.shown next (is_renewed s.account.site.before s.step.separation) s.step.key o (d ∷ ds) ≡ None
-          none_past None = refl
-          none_past (Some l) =
-              ap (λ t. past_inside there s.step.piece s.step.shown next l (entries_past there.position (is_renewed s.account.site.before s.step.separation) (act_of t) (entry.begun_by t) s.step.key d ds)) (colon_here more cut is).2 ∙
-              ap (λ h. past_inside there s.step.piece s.step.shown next l (entry.with_had d.kind (entry.pair_past (takes_pair d.kind d.pair) gives_colon d.pair) [] ds h)) no_had
+          none_past o = grind (arith, nat_tests, eqb-true, past_inside, there, next, entries_past, is_renewed, act_of, entry.begun_by, ds, colon_here, more, cut, is, entry.with_had, entry.pair_past, takes_pair, gives_colon, no_had)
 
   -- ---- comments right after a piece
 
