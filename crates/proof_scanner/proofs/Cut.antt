@@ -6,7 +6,6 @@ pub mod Fetched
 pub mod FlowEnds
 pub mod Flows
 pub mod Heres
-pub mod Levels
 pub mod Nodes
 pub mod Passes
 pub mod Pieces

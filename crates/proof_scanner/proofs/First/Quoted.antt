@@ -9,8 +9,7 @@ use Rattle.proof_scanner.specs.QuotedLines as lines
 use Rattle.proof_scanner.proofs.Known.Places.{ends_before}
 use Rattle.proof_scanner.proofs.Sound.Passed.{same_has_break}
 use Rattle.proof_scanner.proofs.Refusals.QuotedCuts.{one_reason, walk_of}
-use Rattle.proof_scanner.proofs.Refusals.QuotedElements.{after_quote_at}
-use Rattle.proof_scanner.proofs.Refusals.QuotedReasons.{all_stand, indented_are, is_marked, by_end, by_escape, by_column, by_tab, by_marker, placed, Place, Wrong, Reason}
+use Rattle.proof_scanner.proofs.Refusals.QuotedReasons.{after_quote_at, all_stand, indented_are, is_marked, by_end, by_escape, by_column, by_tab, by_marker, placed, Place, Wrong, Reason}
 use Rattle.proof_row.proofs.Columns.{further_is_no_break}
 
 -- ---- the quote

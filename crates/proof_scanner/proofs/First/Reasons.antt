@@ -1,22 +1,163 @@
 -- Of two reasons at one place that both come first, kind and position are the same.
-use Rattle.proof_scanner.proofs.Common.{[], no_nul_after, separations, inl, inr, Account, alias_name, ap, are_marks, AreNotIndented, arith, At, begins_block, begins_flow, begins_with, block_begins, BlockStyle, Bool, colon, colon_may_precede, comes_first, dash, dashes, directive_line, dots, eqb-true, Fails, FailsFirst, false, first_line, folded, followed_first, has_no_break, has_no_nul, if◌then◌else◌, in_double_quotes, in_single_quotes, indicator_of, innermost, is_at_gap, is_blank, is_blank_or_end, is_break, is_flow, is_flow_indicator, is_full, is_in_flow, is_nul, is_value_here, is_value_indicator, IsBlockFault, IsDirectiveRefusal, IsFollowed, IsLike, IsLookedAt, IsPlainFault, IsQuoted, IsQuotedFault, IsTagRefusal, Kind, least_column, least_here, line_is, lines_first, List, literal, MayNotStand, nat_tests, no_piece_first, NoPiece, opens, plain_first, Position, Problem, question, refl, stands_first, subst, sym, tab, tag_text, true, ℕ, ◌&&◌, ◌++◌, ◌==◌, ◌||◌, ◌∙◌, ◌∷◌, ◌≡◌, ◌⊎◌}
-use Rattle.yaml_tokens.specs.declared.problem.Problem.TheVariants as problem
-use Rattle.proof_lexers.specs.DirectiveEnds as directives
+use Rattle.proof_scanner.proofs.Common.{[], no_nul_after, separations, inl, inr, Account, alias_name, ap, are_marks, AreNotIndented, arith, At, begins_block, begins_flow, begins_with, block_begins, BlockStyle, Bool, colon, colon_may_precede, comes_first, dash, dashes, directive_line, dots, eqb-true, Fails, FailsFirst, false, first_line, folded, followed_first, has_no_break, has_no_nul, if◌then◌else◌, in_double_quotes, in_single_quotes, indicator_of, innermost, is_at_gap, is_blank, is_blank_or_end, is_break, is_flow, is_flow_indicator, is_full, is_in_flow, is_nul, is_value_here, is_value_indicator, IsBlockFault, IsDirectiveRefusal, IsFollowed, IsLike, IsLookedAt, IsPlainFault, IsQuoted, IsQuotedFault, IsTagRefusal, Kind, least_column, least_here, line_is, lines_first, List, literal, MayNotStand, nat_tests, no_piece_first, NoPiece, opens, plain_first, Position, Problem, question, refl, stands_first, subst, sym, tab, tag_text, true, ℕ, ◌&&◌, ◌++◌, ◌==◌, ◌||◌, ◌∙◌, ◌∷◌, ◌≡◌, ◌⊎◌, begins_entry, begins_separation, begins_with_alpha, begins_with_space_or_break, ends_separation, further, GoesOn, has_tab_before_piece, is_alpha, is_decimal_digit, is_letter, is_separation, may_ask, not, position_after, before_by, before_past, begins_document_at, comes_plain, is_adjacent, is_free_of_tabs, is_taken, kind_by, nat_le, same_flow, site_at_place, append_cancel_left, further_on, goes_on, goes_over, no_flow, Option, Stand}
 use Rattle.proof_row.specs.Ends.{nothing, plain_scalar, anchor_name, block_scalar}
-use Rattle.proof_scanner.specs.NoPiece as none
 use Rattle.proof_scanner.specs.NoPiece.{quote_of}
-use Rattle.proof_scanner.specs.QuotedLines as quoted_lines
-use Rattle.proof_scanner.specs.Failing as failing
-use Rattle.proof_scanner.proofs.First.Plain.{PlainReason, plain_reason, one_plain}
-use Rattle.proof_scanner.proofs.First.Quoted as quoted
 use Rattle.proof_scanner.proofs.First.Quoted.{QuotedReason, one_quoted}
 use Rattle.proof_scanner.proofs.First.Block.{BlockReason, headless, fails, one_block}
 use Rattle.proof_scanner.proofs.First.Property.{one_tag, one_directive}
 use Rattle.proof_scanner.proofs.Refusals.PiecesRefused.{no_colon_before, tab_gap}
 use Rattle.proof_scanner.proofs.Refusals.TextsRefused.{first_char}
-use Rattle.proof_scanner.proofs.First.Settings.{Setting, setting_of, is_deep_at, kind_here, same_setting}
-use Rattle.proof_scanner.proofs.First.Indicators.{AreSame, DashReason, QuestionReason, ColonReason, BracketReason, DotsReason, entry_ends, letter_ends, first_tab}
 use Rattle.proof_scanner.proofs.Known.Places.{ends_before}
+use Rattle.proof_scanner.proofs.Refusals.PiecesHere.{many_alike}
+use Rattle.proof_scanner.specs.FirstPlain.{HasNoPlainFault}
+use Rattle.defs_token.specs.Plain.{inside, past}
+use Rattle.yaml_tokens.specs.declared.problem.Problem.TheVariants as problem
+use Rattle.proof_lexers.specs.DirectiveEnds as directives
+use Rattle.proof_scanner.specs.NoPiece as none
+use Rattle.proof_scanner.specs.QuotedLines as quoted_lines
+use Rattle.proof_scanner.specs.Failing as failing
+use Rattle.proof_scanner.proofs.First.Quoted as quoted
+
+-- ---- a plain scalar has one fault that comes first
+
+-- a dash before a flow indicator, and one behind it
+no_later_dash : (collection : Option ℕ) (s : Stand) (before rest more : List ℕ) → begins_flow rest ≡ true → rest ≡ before ++ 45 ∷ more → goes_on true collection s before (45 ∷ more) ≡ true → ⊥
+unfolding is_flow
+no_later_dash collection s before rest more begins cut goes = no_flow true collection s before 45 more rest refl cut (refl) begins goes
+
+-- A scalar that goes on over two texts, each before a dash and a flow indicator, goes on over the same text.
+same_before : (collection : Option ℕ) (s : Stand) (a b x y : List ℕ) → a ++ 45 ∷ x ≡ b ++ 45 ∷ y → begins_flow x ≡ true → begins_flow y ≡ true → goes_on true collection s a (45 ∷ x) ≡ true → goes_on true collection s b (45 ∷ y) ≡ true → a ≡ b
+same_before collection s [] [] x y cut f g goes also = refl
+same_before collection s [] (d ∷ b) x y cut f g goes also = grind (arith, nat_tests, eqb-true, no_later_dash, further_on)
+same_before collection s (c ∷ a) [] x y cut f g goes also = grind (arith, nat_tests, eqb-true, no_later_dash, further_on)
+same_before collection s (c ∷ a) (d ∷ b) x y cut f g goes also = grind (arith, nat_tests, eqb-true, further_on, same_before collection (past s c) a b x y)
+
+-- the same of a scalar's first character on
+same_start : (collection : Option ℕ) (a b x y : List ℕ) → a ++ 45 ∷ x ≡ b ++ 45 ∷ y → begins_flow x ≡ true → begins_flow y ≡ true → goes_over true collection a (45 ∷ x) ≡ true → goes_over true collection b (45 ∷ y) ≡ true → a ≡ b
+same_start collection [] [] x y cut f g goes also = refl
+same_start collection [] (d ∷ b) x y cut f g goes also = absurd (no_later_dash collection inside b x y f (cc cut) also)
+same_start collection (c ∷ a) [] x y cut f g goes also = absurd (no_later_dash collection inside a y x g (cc cut) goes)
+same_start collection (c ∷ a) (d ∷ b) x y cut f g goes also = let same : d ≡ c = cc cut in rw (same, same_before collection inside a b x y (cc cut) f g goes also) refl
+
+-- A reason at a plain scalar that comes first: its column; a TAB; or a dash.
+abbrev pub PlainReason : (in_flow : Bool) (collection : List ℕ) (here : Position) (text : List ℕ) → Problem → Position → Type 0
+PlainReason in_flow collection here text why at =
+    (IsPlainFault in_flow collection here text problem.FlowIndentation here × (why ≡ problem.FlowIndentation) × (at ≡ here)) ⊎
+    (HasNoPlainFault in_flow collection here text problem.FlowIndentation × ((IsPlainFault in_flow collection here text problem.PlainTab here × (why ≡ problem.PlainTab) × (at ≡ here)) ⊎
+    (HasNoPlainFault in_flow collection here text problem.PlainTab × (before : List ℕ) × (rest : List ℕ) × (in_flow ≡ true) × (text ≡ before ++ 45 ∷ rest) × (begins_flow rest ≡ true) ×
+    (goes_over true (innermost collection) before (45 ∷ rest) ≡ true) × (why ≡ problem.PlainDashInFlow) × (at ≡ position_after here before (45 ∷ rest)))))
+
+module _ (in_flow : Bool) (collection : List ℕ) (here : Position) (text : List ℕ) where
+  pub plain_reason : (why : Problem) (at : Position) (n : IsPlainFault in_flow collection here text why at) → plain_first in_flow collection here text why at n → PlainReason in_flow collection here text why at
+  plain_reason why at (none.by_column flow left) first = inl (none.by_column flow left, refl, refl)
+  plain_reason why at (none.by_tab before blanks rest column cut over stands left are solid) first = inr (first, inl (none.by_tab before blanks rest column cut over stands left are solid, refl, refl))
+  plain_reason why at (none.by_dash before rest flow cut begins over apart) first =
+      inr (first.0, inr (first.1, before, rest, flow, cut, begins, ap (λ b. goes_over b (innermost collection) before (45 ∷ rest)) (sym flow) ∙ over, refl, refl))
+
+  pub one_plain : (why1 why2 : Problem) (at1 at2 : Position) → PlainReason in_flow collection here text why1 at1 → PlainReason in_flow collection here text why2 at2 → (why1 ≡ why2) × (at1 ≡ at2)
+  one_plain why1 why2 at1 at2 x y = grind (arith, same_start, append_cancel_left)
+
+-- ---- what the reasons at a place ask of an account; it is the same at accounts that are alike
+
+-- Whether the place is in flow; whether a colon may stand next to what stands before; whether outside flow the line is taken; whether as many flow collections are open as may be; whether no TAB indents what comes; the block collections, and whether a value is awaited.
+pub record Setting : Type 0 where
+  pub in_flow : Bool
+  pub adjacent : Bool
+  pub taken : Bool
+  pub full : Bool
+  pub spaced : Bool
+  pub blocks : List ℕ
+  pub awaits : Bool
+
+abbrev pub setting_of : Account → (separation : List ℕ) → (here : Position) → Setting
+setting_of a separation here = record {
+  in_flow = is_in_flow a.entries;
+  adjacent = is_adjacent (before_past (before_by a.site.before) separation);
+  taken = is_taken a separation;
+  full = is_full a;
+  spaced = is_free_of_tabs a separation;
+  blocks = (site_at_place a here).blocks;
+  awaits = (site_at_place a here).awaits;
+}
+
+-- what comes lies deep enough
+abbrev pub is_deep_at : Setting → Position → (rest : List ℕ) → Bool
+is_deep_at s here rest = not s.in_flow || begins_document_at here rest || nat_le (least_column s.blocks s.awaits) here.col
+
+-- The kind of the piece that a text seems to begin: a plain scalar, where one is looked for, or else what the first character says.
+abbrev pub kind_here : Setting → (column : ℕ) → (rest : List ℕ) → Kind
+kind_here s column [] = nothing
+kind_here s column (c ∷ r) = (if comes_plain s.in_flow s.adjacent column (c ∷ r) then plain_scalar else kind_by c r)
+
+-- ---- like accounts
+
+pub same_setting : (a b : Account) (separation : List ℕ) (here : Position) → IsLike a b → setting_of a separation here ≡ setting_of b separation here
+same_setting a b separation here like = grind (arith, nat_tests, eqb-true, same_flow, many_alike)
+
+-- two faults of one kind at one place
+abbrev pub AreSame : (why1 why2 : Problem) (at1 at2 : Position) → Type 0
+AreSame why1 why2 at1 at2 = (why1 ≡ why2) × (at1 ≡ at2)
+
+-- ---- what is passed on a line
+
+pub entry_ends : (content : List ℕ) → begins_entry content ≡ true → ends_separation content ≡ true
+unfolding is_blank_or_end is_blank is_break is_nul
+entry_ends a h = grind arith
+
+pub letter_ends : (content : List ℕ) → begins_with_alpha content ≡ true → ends_separation content ≡ true
+unfolding is_blank_or_end is_blank is_break is_nul is_alpha is_decimal_digit is_letter
+letter_ends a h = grind (arith, nat_tests, eqb-true)
+
+-- ---- `-`
+
+abbrev pub DashReason : Setting → Position → List ℕ → Problem → Position → Type 0
+DashReason s here rest why at =
+    ((s.in_flow ≡ true) × (why ≡ problem.BlockEntryInFlow) × (at ≡ here)) ⊎
+    (((s.in_flow ≡ false) × (s.taken ≡ true) × (why ≡ problem.BlockEntryNotAllowed) × (at ≡ here)) ⊎
+    ((s.in_flow ≡ false) × (s.taken ≡ false) × (more : List ℕ) × (passed : List ℕ) × (content : List ℕ) × (rest ≡ 45 ∷ more) × GoesOn more passed content ×
+    (begins_entry content ≡ true) × (why ≡ problem.TabAfterDash) × (at ≡ position_after (further 1 here) passed content)))
+
+-- ---- `?`
+
+abbrev pub QuestionReason : Setting → Position → List ℕ → Problem → Position → Type 0
+QuestionReason s here rest why at =
+    ((may_ask s.in_flow s.taken ≡ false) × (why ≡ problem.KeyNotAllowed) × (at ≡ here)) ⊎
+    (((may_ask s.in_flow s.taken ≡ true) × (more : List ℕ) × (rest ≡ 63 ∷ more) × (begins_with_space_or_break more ≡ false) × (why ≡ problem.WhitespaceExpected) ×
+    (at ≡ further 1 here)) ⊎
+    ((may_ask s.in_flow s.taken ≡ true) × (more : List ℕ) × (passed : List ℕ) × (content : List ℕ) × (rest ≡ 63 ∷ more) × (begins_with_space_or_break more ≡ true) ×
+    (has_tab_before_piece false passed ≡ false) × (more ≡ passed ++ 9 ∷ content) × (is_separation false passed (9 ∷ content) ≡ true) ×
+    (why ≡ problem.TabAfterKey) × (at ≡ position_after (further 1 here) passed (9 ∷ content))))
+
+-- the first TAB outside comments is one
+pub first_tab : (in_comment : Bool) (p q x y : List ℕ) → p ++ 9 ∷ x ≡ q ++ 9 ∷ y → is_separation in_comment p (9 ∷ x) ≡ true → is_separation in_comment q (9 ∷ y) ≡ true → has_tab_before_piece in_comment p ≡ false → has_tab_before_piece in_comment q ≡ false → (p ≡ q) × (x ≡ y)
+unfolding is_blank is_break is_nul
+first_tab b [] [] x y e f g h k = grind (arith, nat_tests, eqb-true)
+first_tab b [] (d ∷ q) x y e f g h k = grind arith
+first_tab b (c ∷ p) [] x y e f g h k = grind arith
+first_tab true (c ∷ p) (d ∷ q) x y e f g h k = grind (arith, nat_tests, eqb-true, first_tab (not (is_break c)) p q x y)
+first_tab false (c ∷ p) (d ∷ q) x y e f g h k = grind (arith, nat_tests, eqb-true, first_tab (c == 35) p q x y)
+
+-- ---- `:`
+
+abbrev pub ColonReason : Setting → Position → List ℕ → Problem → Position → Type 0
+ColonReason s here rest why at =
+    ((more : List ℕ) × (s.in_flow ≡ true) × (rest ≡ 58 ∷ more) × (colon_may_precede more ≡ true) × (why ≡ problem.ColonMisplaced) × (at ≡ here)) ⊎
+    ((more : List ℕ) × (passed : List ℕ) × (content : List ℕ) × (rest ≡ 58 ∷ more) × (colon_may_precede more ≡ false) × GoesOn more passed content ×
+    (begins_with_alpha content ≡ true) × (why ≡ problem.TabAfterColon) × (at ≡ position_after (further 1 here) passed content))
+
+-- ---- brackets and commas
+
+abbrev pub BracketReason : Setting → Position → List ℕ → Problem → Position → Type 0
+BracketReason s here rest why at =
+    (c : ℕ) × (more : List ℕ) × (rest ≡ c ∷ more) × ((((opens c && s.full) ≡ true) × (why ≡ problem.FlowTooDeep) × (at ≡ here)) ⊎
+    (((opens c && s.full) ≡ false) × (why ≡ problem.CommentNotSeparated) × (at ≡ further 1 here)))
+
+-- ---- `...`
+
+abbrev pub DotsReason : Position → List ℕ → Problem → Position → Type 0
+DotsReason here rest why at =
+    (more : List ℕ) × (passed : List ℕ) × (content : List ℕ) × (rest ≡ 46 ∷ 46 ∷ 46 ∷ more) × GoesOn more passed content × (begins_separation content ≡ false) ×
+    (why ≡ problem.ContentAfterDocumentEnd) × (at ≡ position_after (further 3 here) passed content)
 
 -- ---- the reasons at one kind of piece
 
@@ -137,11 +278,11 @@ module _ (a : Account) (separation : List ℕ) (here : Position) (rest : List �
   seen_reason why at l r = inr (inr (l.has_no_tab, l.is_deep, r.0, r.1, r.2))
 
   stands_reason : (why : Problem) (at : Position) (n : MayNotStand a separation here rest why at) → stands_first a separation here rest why at n → Reason own here rest why at
-  stands_reason why at (failing.shallow inside line left) f = grind (arith, here, rest, least_here)
+  stands_reason why at (failing.shallow flowing line left) f = grind (arith, here, rest, least_here)
   stands_reason why at (failing.too_deep bracket more e is many) f =
       let opens_flow : (c : ℕ) → (c ≡ 91) ⊎ (c ≡ 123) → (opens c ≡ true) × (is_flow_indicator c ≡ true) = λ c a. grind (arith, nat_tests, eqb-true) in
       seen_reason problem.FlowTooDeep here f (bracket_reason own here rest bracket more problem.FlowTooDeep here e (opens_flow bracket is).1 (bracket, more, e, inl (ap (λ b. b && is_full a) (opens_flow bracket is).0 ∙ (grind (arith, nat_tests, many)), refl, refl)))
-  stands_reason why at (failing.dash_in_flow more e gap inside) f = seen_reason problem.BlockEntryInFlow here f (dash, ap (λ r. kind_here own here.col r) e ∙ dash_kind own here.col more gap, inl (inside, refl, refl))
+  stands_reason why at (failing.dash_in_flow more e gap flowing) f = seen_reason problem.BlockEntryInFlow here f (dash, ap (λ r. kind_here own here.col r) e ∙ dash_kind own here.col more gap, inl (flowing, refl, refl))
   stands_reason why at (failing.dash_not_free more e gap out line) f = seen_reason problem.BlockEntryNotAllowed here f (dash, ap (λ r. kind_here own here.col r) e ∙ dash_kind own here.col more gap, inr (inl (out, line, refl, refl)))
   stands_reason why at (failing.key_on_earlier_line more begin x xs e is are takes had late) f =
       seen_reason problem.ColonMisplaced here f.0 (colon, ap (λ r. kind_here own here.col r) e ∙ colon_kind own here.col more is, inl (more, ap is_in_flow are, e, f.1, refl, refl))
@@ -178,7 +319,7 @@ colon_alone a b like separation more here is out seen apart why at x =
     at_colon n e = cc e
 
     none_here : (why : Problem) (at : Position) → ColonReason own here (58 ∷ more) why at → ⊥
-    none_here why at (inl (n, inside, e, before, _, _)) = cc (out, inside)
+    none_here why at (inl (n, flowing, e, before, _, _)) = cc (out, flowing)
     none_here why at (inr (n, passed, content, e, tabs, on, letter, _, _)) = cc (apart, tabs, ap colon_may_precede (at_colon n e))
 
 -- ---- one reason

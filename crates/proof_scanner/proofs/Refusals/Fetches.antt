@@ -1,21 +1,39 @@
 -- The faults of a fetch: each of a kind that is told is one by which the text is stuck.
-use Rattle.proof_scanner.proofs.Common.{ap, are_marks, arith, Arrives, At, before_by, before_past, begins_document_at, begins_with, columns, eqb-true, false, fetch_content, fetch_here, fetch_stream_end, fetch_token, has_open_level, has_required, inl, inr, is_adjacent, is_document_marker, is_empty, List, may_not_stand, nat_le, nat_lt, nat_tests, next_line, not, peek, refl, ScannerState, site_here, subst, sym, Tok, true, ℕ, ◌&&◌, ◌+◌, ◌==◌, ◌||◌, ◌∙◌, ◌≡◌, ◌≤◌, cases_Bool}
-use Rattle.yaml_tokens.specs.declared.problem.Problem.TheVariants as problem
+use Rattle.proof_scanner.proofs.Common.{ap, are_marks, arith, Arrives, At, before_by, before_past, begins_document_at, begins_with, columns, eqb-true, false, fetch_content, fetch_here, fetch_stream_end, fetch_token, has_open_level, has_required, inl, inr, is_adjacent, is_document_marker, is_empty, List, may_not_stand, nat_le, nat_lt, nat_tests, next_line, not, peek, refl, ScannerState, site_here, subst, sym, Tok, true, ℕ, ◌&&◌, ◌+◌, ◌==◌, ◌||◌, ◌∙◌, ◌≡◌, ◌≤◌, cases_Bool, [], and_parts, AreLevels, Bool, if◌then◌else◌, Indent, innermost, is_deeper, IsNotRight, IsTopLevel, not_ended, ◌-◌, ◌∷◌}
 use Rattle.model_scanner.specs.declared.kind.Collection.TheVariants.{Sequence, Mapping}
 use Rattle.model_scanner.specs.State.{after}
 use Rattle.proof_scanner.proofs.Cut.Nodes.{IsDeep}
 use Rattle.proof_scanner.proofs.Cut.Dispatch.{token_holds, content_holds}
 use Rattle.proof_scanner.proofs.Cut.Fetched.{no_end, goes_on_here}
-use Rattle.proof_scanner.proofs.Refusals.Levels.{levels_end}
-use Rattle.proof_scanner.specs.Failing as defs
-use Rattle.proof_scanner.proofs.Refusals.Faults.{Faults, fault, tried, either}
-use Rattle.proof_scanner.proofs.Refusals.Places.{IsRowless, Said, IsWhy, LiesDeep, rowless_told, none_here, stuck_by}
+use Rattle.proof_scanner.proofs.Refusals.Places.{Faults, fault, tried, either, IsRowless, Said, IsWhy, LiesDeep, rowless_told, none_here, stuck_by}
 use Rattle.proof_scanner.proofs.Refusals.Nodes.{name_told, tag_told, quoted_told}
 use Rattle.proof_scanner.proofs.Refusals.Blocks.{block_told}
 use Rattle.proof_scanner.proofs.Refusals.Plains.{plain_told}
 use Rattle.proof_scanner.proofs.Refusals.Indicators.{directive_told, marker_told, document_end_told, dash_told, question_told, colon_told, opening_told, closing_told, comma_told}
 use Rattle.proof_scanner.proofs.Refusals.RequiredKeys.{end_rowless}
+use Rattle.yaml_tokens.specs.declared.problem.Problem.TheVariants as problem
+use Rattle.proof_scanner.specs.Failing as defs
 use Rattle.proof_scanner.specs.NoPiece as none
+
+-- ---- outside flow
+
+-- collections that go on are not right of a column
+first_stays : (col : ℕ) (bs : List ℕ) → IsNotRight (innermost (not_ended col bs)) col
+first_stays col [] = tt
+first_stays col (n ∷ ns) = grind (arith, first_stays col ns)
+
+pub levels_end : (col : ℕ) (bs : List ℕ) (awaits : Bool) (i : ℕ) (ds : List Indent) → AreLevels i ds → not_ended col bs ≡ columns i ds → (awaits && is_deeper col bs) ≡ has_open_level ds → i ≤ col + 1
+levels_end col bs aw i [] a e o = omega (arith, a)
+levels_end col bs aw i (d ∷ ds) a e o = by d.needs_block_end a.0 e o
+  where
+    by : (b : Bool) → IsTopLevel b i d.indent ds → not_ended col bs ≡ (if b then (i - 1) ∷ columns d.indent ds else columns d.indent ds) → (aw && is_deeper col bs) ≡ not b → i ≤ col + 1
+    by true t f o =
+        let first : i - 1 ≤ col = subst (λ x. IsNotRight (innermost x) col) f (first_stays col bs) in
+        omega (arith, first)
+    by false t f o =
+        let deeper : is_deeper col bs ≡ true = (and_parts aw (is_deeper col bs) o).1 in
+        let outer : d.indent ≤ col = grind (arith, nat_tests, eqb-true) in
+        omega (arith, t.0, outer)
 
 module _ (text : List ℕ) (t : ScannerState) (a : Arrives text t) (some : is_empty t.rest ≡ false) where
   -- ---- the token by the first character

@@ -1,39 +1,76 @@
 -- Faults of indicators, markers and directives.
-use Rattle.proof_scanner.proofs.Common.{[], allow_key, and_false, and_parts, ap, append_assoc, AreEntries, arith, Arrives, At, begin_flow, begin_key, begin_keyless_mapping, begin_keyless_pair, begin_keyless_value, begin_line, begin_pair, begins_entry, begins_free_line, begins_with, begins_with_alpha, begins_with_space_or_break, blanks_and_comment, Bool, check_after_tab, check_block_entry, check_dash, check_document_end, check_key_space, check_value_space, chosen, closed_key, Collection, colon_may_precede, deepened_flow, directive_of, directives_end, end_entry, end_flow, ended_flow, entries_by, Entry, eqb-true, Err, false, Fault, fetch_block_entry, fetch_directive, fetch_document_end, fetch_document_marker, fetch_flow_collection_end, fetch_flow_collection_start, fetch_flow_entry, fetch_key, fetch_value, flow_level, FlowLevel, followed_first, free, further, go_on, has, has_no_break, HasNoKey, HasSpaces, Held, held_of, Holds, if◌then◌else◌, in_flow, increase_flow_level, inl, inr, insert_key, is_alphanumeric, is_at_gap, is_blank, is_blank_or_breakz, is_breakz, is_empty, is_free, is_full, is_one_of, is_required, is_separation, is_taken, is_taken_line, is_value, is_value_here, IsDirectiveRefusal, IsFollowed, IsLineHere, IsLookedAt, IsOpenOutside, IsPlace, Key, leading, length, lexed, Line, line_by, line_past_separation, List, may_ask, may_not_stand, MayChoose, nat_le, nat_lt, nat_tests, next_entry, No, no_key, None, not, not-false, not-true, Ok, on_held, opens, opens_pair, Option, or_true, OutOfMemory, outside_key, paired, pass_indicator, past, past_blanks_and_comment, past_line_rest, peek, Position, position_after, Problem, Read, read_as, refl, refused_as, remove_implicit_key, Result, roll_entry, roll_indent, roll_one_col_indent, same_alpha, ScannerState, skip_indicator, skip_yaml_whitespace, slice_index, Some, space, spaces_are_passed, subst, suc, sym, taken, takes_pair, Tok, top_key, true, try_held, unroll_indent, waits, white, Whitespace, Yes, ℕ, ◌&&◌, ◌++◌, ◌-◌, ◌==◌, ◌||◌, ◌∙◌, ◌∷◌, ◌≡◌, ◌≤◌, ◌⊎◌}
-use Rattle.defs_text.specs.Tags as tags
-use Rattle.defs_token.specs.FlowEntry as entry
-use Rattle.yaml_tokens.specs.declared.problem.Problem.TheVariants as problem
+use Rattle.proof_scanner.proofs.Common.{[], allow_key, and_false, and_parts, ap, append_assoc, AreEntries, arith, Arrives, At, begin_flow, begin_key, begin_keyless_mapping, begin_keyless_pair, begin_keyless_value, begin_line, begin_pair, begins_entry, begins_free_line, begins_with, begins_with_alpha, begins_with_space_or_break, blanks_and_comment, Bool, check_after_tab, check_block_entry, check_dash, check_document_end, check_key_space, check_value_space, chosen, closed_key, Collection, colon_may_precede, deepened_flow, directive_of, directives_end, end_entry, end_flow, ended_flow, entries_by, Entry, eqb-true, Err, false, Fault, fetch_block_entry, fetch_directive, fetch_document_end, fetch_document_marker, fetch_flow_collection_end, fetch_flow_collection_start, fetch_flow_entry, fetch_key, fetch_value, flow_level, FlowLevel, followed_first, free, further, go_on, has, has_no_break, HasNoKey, HasSpaces, Held, held_of, Holds, if◌then◌else◌, in_flow, increase_flow_level, inl, inr, insert_key, is_alphanumeric, is_at_gap, is_blank, is_blank_or_breakz, is_breakz, is_empty, is_free, is_full, is_one_of, is_required, is_separation, is_taken, is_taken_line, is_value, is_value_here, IsDirectiveRefusal, IsFollowed, IsLineHere, IsLookedAt, IsOpenOutside, IsPlace, Key, leading, length, lexed, Line, line_by, line_past_separation, List, may_ask, may_not_stand, MayChoose, nat_le, nat_lt, nat_tests, next_entry, No, no_key, None, not, not-false, not-true, Ok, on_held, opens, opens_pair, Option, or_true, OutOfMemory, outside_key, paired, pass_indicator, past, past_blanks_and_comment, past_line_rest, peek, Position, position_after, Problem, Read, read_as, refl, refused_as, remove_implicit_key, Result, roll_entry, roll_indent, roll_one_col_indent, same_alpha, ScannerState, skip_indicator, skip_yaml_whitespace, slice_index, Some, space, spaces_are_passed, subst, suc, sym, taken, takes_pair, Tok, top_key, true, try_held, unroll_indent, waits, white, Whitespace, Yes, ℕ, ◌&&◌, ◌++◌, ◌-◌, ◌==◌, ◌||◌, ◌∙◌, ◌∷◌, ◌≡◌, ◌≤◌, ◌⊎◌, append-nil, comment_of, is_break, is_decimal_digit, is_letter, is_on_line, past_comment, deepen, drop_open_level, with_top, in_block, Indent, level, ◌+◌}
 use Rattle.yaml_chars.specs.Class.{is_alpha}
 use Rattle.model_scanner.specs.Directive.{directive}
 use Rattle.model_scanner.specs.State.{after}
 use Rattle.model_scanner.specs.Block.{value_of}
-use Rattle.model_scanner.proofs.Holds as holds
-use Rattle.proof_lexers.specs.DirectiveEnds as directives
-use Rattle.proof_lexers.specs.PlainEnds as plain_ends
-use Rattle.proof_lexers.specs.Separations as separations
-use Rattle.proof_scanner.proofs.Sound.Arrivals as arrivals
 use Rattle.proof_scanner.proofs.Sound.Stales.{no_entries}
 use Rattle.proof_scanner.proofs.Sound.DocumentLines.{line_begun}
 use Rattle.proof_scanner.proofs.Cut.Dispatch.{gap_here, value_is}
 use Rattle.proof_scanner.proofs.Cut.Blocks.{key_removed}
-use Rattle.proof_scanner.proofs.Cut.Levels.{rolled_one_is}
 use Rattle.proof_scanner.proofs.Cut.Passes.{Spaced, spaced, spaces_skipped}
 use Rattle.proof_scanner.proofs.Sound.QuotedEnds.{not_at_end}
 use Rattle.proof_scanner.proofs.Sound.Blanks.{same_in_line, line_rest_in_line, line_rest_cut, line_rest_fills, found_in, spaced_parted}
 use Rattle.proof_scanner.proofs.Sound.Passed.{same_has_break}
-use Rattle.proof_scanner.proofs.Refusals.TabsAfterColon.{no_space}
-use Rattle.proof_scanner.proofs.Refusals.Rolled.{Stays, rolled_stays, unrolled_stays, entry_keys}
 use Rattle.proof_scanner.proofs.Cut.Saved.{saved_keys, saved_is}
-use Rattle.proof_scanner.specs.NoPiece as none
-use Rattle.proof_scanner.specs.Failing as defs
-use Rattle.proof_scanner.proofs.Refusals.Faults.{Faults, fault, goes, read, in_turn, tried, checked, either, kept}
-use Rattle.proof_scanner.proofs.Refusals.Spaces.{white_goes, space_told, spaces_told, no_comment, no_comment_left, solid_past}
-use Rattle.proof_scanner.proofs.Refusals.Places.{IsRowless, Said, IsWhy, LiesDeep, rowless_told, account_by, place, many_levels, IsAllowed, stuck, in_flow_is, looked_at, none_begins, followed_stuck}
+use Rattle.proof_scanner.proofs.Refusals.Places.{Faults, fault, goes, read, in_turn, tried, checked, either, kept, IsRowless, Said, IsWhy, LiesDeep, rowless_told, account_by, place, many_levels, IsAllowed, stuck, in_flow_is, looked_at, none_begins, followed_stuck, white_goes, space_told, spaces_told, no_comment, no_comment_left, solid_past}
 use Rattle.proof_scanner.proofs.Refusals.RequiredKeys.{not_required, line_rowless, closing_rowless, none_waits}
 use Rattle.proof_scanner.proofs.Sound.WhiteSpaces.{white_of, past_white, white_cut, past_white_space, white_exactly, white_first, no_tab_in, IsMissed, white_or_missed}
 use Rattle.proof_scanner.proofs.Sound.ColonSpaces.{colon_spaced}
 use Rattle.proof_scanner.proofs.Cut.Fetched.{begins_here}
 use Rattle.proof_scanner.proofs.Sound.FlowMarks.{flow_over, entry_over}
+use Rattle.proof_scanner.proofs.Refusals.PiecesRefused.{among}
+use Rattle.defs_text.specs.Classes as classes
+use Rattle.defs_text.specs.Tags as tags
+use Rattle.defs_token.specs.FlowEntry as entry
+use Rattle.yaml_tokens.specs.declared.problem.Problem.TheVariants as problem
+use Rattle.model_scanner.proofs.Holds as holds
+use Rattle.proof_lexers.specs.DirectiveEnds as directives
+use Rattle.proof_lexers.specs.PlainEnds as plain_ends
+use Rattle.proof_lexers.specs.Separations as separations
+use Rattle.proof_scanner.proofs.Sound.Arrivals as arrivals
+use Rattle.proof_scanner.specs.NoPiece as none
+use Rattle.proof_scanner.specs.Failing as defs
+
+-- ---- levels of indentation that a bracket begins
+
+unfoldable pub one_indents : Held → List Indent
+one_indents s = (if in_block s then level s.indent false ∷ s.indents else s.indents)
+
+unfoldable pub one_indent : Held → ℕ
+one_indent s = (if in_block s then s.indent + 1 else s.indent)
+
+pub rolled_one_is : (s : Held) → roll_one_col_indent s ≡ record s { indents = one_indents s; indent = one_indent s }
+unfolding roll_one_col_indent one_indents one_indent
+rolled_one_is a = grind (arith, nat_tests, eqb-true)
+
+-- the position and the open keys stay
+abbrev pub Stays : Held → Held → Type 0
+Stays u s = (u.position ≡ s.position) × (u.keys ≡ s.keys)
+
+pub rolled_stays : (col : ℕ) (number : Option ℕ) (tok : Tok) (p : Position) (s : Held) → Stays (roll_indent col number tok p s) s
+unfolding roll_indent drop_open_level deepen
+rolled_stays col number tok p s = grind arith
+
+pub unrolled_stays : (limit : ℕ) (s : Held) → Stays (unroll_indent limit s) s
+unfolding unroll_indent
+unrolled_stays limit s = grind arith
+
+pub entry_keys : (t : ScannerState) → (roll_entry t).held.keys ≡ t.held.keys
+unfolding roll_entry
+entry_keys t = grind (arith, rolled_one_is)
+
+-- ---- the blanks after a colon: TABs alone, where a letter stands after blanks and a comment without a space among the blanks
+
+-- a line ends with no letter
+line_end : (l : List ℕ) → begins_with_alpha (tags.after is_on_line l) ≡ false
+unfolding is_break classes.is_alpha is_decimal_digit is_letter
+line_end [] = refl
+line_end (d ∷ l) = grind (arith, line_end l)
+
+-- before a letter stand the blanks alone, so no space where none is among them
+pub no_space : (blanks b : List ℕ) → is_one_of blanks 32 ≡ false → begins_with_alpha (past_comment b) ≡ true → has 32 (blanks ++ comment_of b) ≡ false
+no_space blanks b h letter = grind (arith, among, line_end, append-nil)
 
 -- ---- keys that must be one
 

@@ -8,8 +8,7 @@ use Rattle.proof_scanner.proofs.Sound.Stales.{no_entries}
 use Rattle.proof_scanner.proofs.Sound.ToToken.{is_in}
 use Rattle.proof_scanner.specs.Failing as defs
 use Rattle.proof_scanner.proofs.Sound.StreamEnds.{same_flow}
-use Rattle.proof_scanner.proofs.Refusals.Faults.{Faults, mapped}
-use Rattle.proof_scanner.proofs.Refusals.Places.{entries_alike, Said, IsWhy, Where, placed, behind, where_is}
+use Rattle.proof_scanner.proofs.Refusals.Places.{Faults, mapped, entries_alike, Said, IsWhy, Where, placed, behind, where_is}
 use Rattle.proof_scanner.proofs.Refusals.Tabs.{TabStands, skip_refused}
 
 -- ---- keys that are near

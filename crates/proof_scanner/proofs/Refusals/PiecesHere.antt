@@ -1,13 +1,31 @@
 -- What a row's piece at a place is, by the text there; and texts with which no piece begins.
-use Rattle.proof_scanner.proofs.Common.{Account, act_of, alias_name, all_of, ap, arith, block_entry, Bool, context_of, dash, Directive, directive_line, directive_token, Entry, false, flow_mapping_start, flow_sequence_start, goes_on_with_name, inl, inr, is_adjacent, is_at_gap, is_blank, is_blank_or_end, is_break, is_flow, is_in_flow, is_marker, is_name, is_nul, IsPiece, kind_at, length, level_of, LikeEntries, List, mapping_opening, nat_lt, nat_tests, None, not_empty, Position, refl, seen, sequence_opening, shown_position, subst, suc, sym, true, Whole, ℕ, ◌++◌, ◌==◌, ◌∙◌, ◌∷◌, ◌≡◌, ◌≤◌, ◌⊎◌, eqb-true}
-use Rattle.defs_token.specs.Account as pieces
+use Rattle.proof_scanner.proofs.Common.{Account, act_of, alias_name, all_of, ap, arith, block_entry, Bool, context_of, dash, Directive, directive_line, directive_token, Entry, false, flow_mapping_start, flow_sequence_start, goes_on_with_name, inl, inr, is_adjacent, is_at_gap, is_blank, is_blank_or_end, is_break, is_flow, is_in_flow, is_marker, is_name, is_nul, IsPiece, kind_at, length, level_of, LikeEntries, List, mapping_opening, nat_lt, nat_tests, None, not_empty, Position, refl, seen, sequence_opening, shown_position, subst, suc, sym, true, Whole, ℕ, ◌++◌, ◌==◌, ◌∙◌, ◌∷◌, ◌≡◌, ◌≤◌, ◌⊎◌, eqb-true, [], dash_marks, directive_begins, directive_of, dot_marks, is_document_marker, Kind, Option, or_true, peek, piece_of, Some, texts_begin, Tok, ◌||◌, ◌≢◌}
 use Rattle.proof_row.specs.Ends.{anchor_name}
-use Rattle.proof_row.proofs.Written as written
-use Rattle.proof_scanner.proofs.Refusals.KindsOfPieces.{marker_begins}
-use Rattle.proof_scanner.proofs.Refusals.KindsOfPieces.{kind_is}
-use Rattle.proof_scanner.specs.NoPiece as none
 use Rattle.proof_scanner.proofs.Refusals.OtherRows.{StepAt}
 use Rattle.std.proofs.lemmas.List.{length-map}
+use Rattle.defs_token.specs.Account as pieces
+use Rattle.proof_row.proofs.Written as written
+use Rattle.proof_scanner.specs.NoPiece as none
+
+-- ---- the text at a piece says what piece it is; one that stands for the document begins in column 0
+
+-- a text begins with `%`, or with a document marker
+abbrev pub begins_document : List ℕ → Bool
+begins_document text = (peek text == 37) || is_document_marker text
+
+pub record BeginsLine (col : ℕ) (text : List ℕ) : Type 0 where
+  pub column : col ≡ 0
+  pub text_is : begins_document text ≡ true
+
+line_begins : (p x : List ℕ) (d : Directive) → directive_of p ≡ Some d → begins_document (p ++ x) ≡ true
+line_begins p x d e = let b = directive_begins p d e in ap (λ z. begins_document (z ++ x)) b.1
+
+pub marker_begins : (a : pieces.Account) (p x : List ℕ) (f : Option Tok) (m : Position) (t : Tok) → IsPiece a p x f m t → is_marker (act_of t) ≡ true → BeginsLine a.position.col (p ++ x)
+marker_begins a p x f m t h k = grind (arith, nat_tests, eqb-true, line_begins, or_true, dash_marks, dot_marks)
+
+-- So is that of the piece.
+pub kind_is : (k : Kind) (a : pieces.Account) (piece next text : List ℕ) (p : Position) (t : Tok) → piece ≢ [] → IsPiece a piece next None p t → piece ++ next ≡ text → kind_at (pieces.is_in_flow a) (is_adjacent a.before) a.position.col text ≡ k → Whole k (context_of a) piece next t
+kind_is k a piece next text p t some h e there = subst (λ y. Whole y (context_of a) piece next t) (sym (texts_begin a piece next None p t some h) ∙ (ap (λ r. kind_at (pieces.is_in_flow a) (is_adjacent a.before) a.position.col r) e ∙ there)) (piece_of a piece next None p t some h)
 
 -- entries that are alike are as many
 pub many_alike : (ds es : List Entry) → LikeEntries ds es → length ds ≡ length es

@@ -1,7 +1,7 @@
 -- Where a piece may not stand at its column, or before what follows it, no row of the text goes on.
 use Rattle.proof_scanner.proofs.Common.{[], Account, act_of, and_parts, ap, are_empty, arith, begins_document_at, begins_entry, begins_separation, begins_with, begins_with_alpha, block_entry, block_may_end, block_position, block_read, BlockRead, blocks_at, BlockStyle, Bool, colon_may_precede, content_position, dash_may_precede, document_end, double_quoted, Entry, eqb-true, false, folded, gives_block_scalar, GoesOn, has, has_no_nul, if◌then◌else◌, innermost, innermost_column, is_alpha, is_at_end, is_at_gap, is_at_line_end, is_blank, is_blank_or_end, is_blanks, is_break, is_decimal_digit, is_empty, is_in_flow, is_letter, is_marker, is_nul, is_one_of, is_separation, IsPiece, IsQuoted, IsWritten, leading, leading_spaces, least_column, least_for, level_of, List, literal, map, may_precede, nat_le, nat_lt, nat_tests, None, not, Option, or_left, Position, position_after, quoted_may_end, refl, same_flow, same_piece, scalar, seen, shown_position, single_quoted, Site, site_at, site_at_place, Some, split, Step, sym, Tok, true, value, ℕ, ◌&&◌, ◌++◌, ◌||◌, ◌∙◌, ◌∷◌, ◌≡◌, ◌≤◌}
 use Rattle.defs_token.specs.Token as tokens
-use Rattle.proof_scanner.proofs.Refusals.KindsOfPieces.{marker_begins}
+use Rattle.proof_scanner.proofs.Refusals.PiecesHere.{marker_begins}
 use Rattle.proof_scanner.proofs.Refusals.AfterQuoted.{not_done}
 use Rattle.proof_scanner.proofs.Sound.QuotedEnds.{blanks_alone, after_blanks}
 use Rattle.proof_row.proofs.Written.{At}

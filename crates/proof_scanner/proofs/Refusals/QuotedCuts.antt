@@ -6,8 +6,7 @@ use Rattle.yaml_tokens.specs.declared.problem.Problem.TheVariants as problem
 use Rattle.proof_lexers.specs.QuotedEnds as bad
 use Rattle.proof_scanner.proofs.Sound.QuotedBreaks.{Kind, has_content, has_blank, has_line, has_escaped, is_white}
 use Rattle.proof_scanner.specs.NoPiece.{quote_of}
-use Rattle.proof_scanner.proofs.Refusals.QuotedElements.{after_it, kind_of, marks_after}
-use Rattle.proof_scanner.proofs.Refusals.QuotedReasons.{stands, column_past, all_stand, is_marked, Place, by_end, by_escape, by_column, by_tab, Wrong, by_marker, placed, Walk, arrived, stepped, Reason, columns_are, place, before_quote}
+use Rattle.proof_scanner.proofs.Refusals.QuotedReasons.{after_it, kind_of, marks_after, stands, column_past, all_stand, is_marked, Place, by_end, by_escape, by_column, by_tab, Wrong, by_marker, placed, Walk, arrived, stepped, Reason, columns_are, place, before_quote}
 
 -- ---- along a body
 

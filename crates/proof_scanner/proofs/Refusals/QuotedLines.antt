@@ -9,8 +9,7 @@ use Rattle.proof_lexers.proofs.Quoted.Shapes.{NoElement, closing, slash, no_elem
 use Rattle.proof_lexers.proofs.Quoted.Turns.{spelled, begins, Step, is_shallow}
 use Rattle.proof_scanner.proofs.Sound.QuotedBreaks.{Kind, has_content, has_blank, has_line, has_escaped, is_white, quote_white, slash_white, body_between}
 use Rattle.proof_scanner.specs.NoPiece.{quote_of}
-use Rattle.proof_scanner.proofs.Refusals.QuotedElements.{quote_no_break, after_quote_at, no_quote, solid_here, past_line, past_two, after_it, kind_of, content_after}
-use Rattle.proof_scanner.proofs.Refusals.QuotedReasons.{stands, by_end, by_escape, by_column, by_tab, by_marker, placed, arrived, stepped, Reason, Closed, parted, all_stand, before_quote, lines_close}
+use Rattle.proof_scanner.proofs.Refusals.QuotedReasons.{quote_no_break, after_quote_at, no_quote, solid_here, past_line, past_two, after_it, kind_of, content_after, stands, by_end, by_escape, by_column, by_tab, by_marker, placed, arrived, stepped, Reason, Closed, parted, all_stand, before_quote, lines_close}
 use Rattle.model_scanner.proofs.PlainLemmas.{break_leads}
 
 -- the faults of further lines

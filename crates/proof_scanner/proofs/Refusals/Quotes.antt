@@ -13,12 +13,9 @@ use Rattle.proof_scanner.proofs.Refusals.AfterQuoted.{check_passes}
 use Rattle.proof_scanner.proofs.Refusals.QuotedCuts.{not_closed}
 use Rattle.proof_scanner.specs.NoPiece as none
 use Rattle.proof_scanner.specs.QuotedLines as lines
-use Rattle.proof_scanner.proofs.Refusals.QuotedElements.{after_quote_at}
+use Rattle.proof_scanner.proofs.Refusals.QuotedReasons.{after_quote_at, all_stand, indented_are, is_marked, by_end, by_escape, by_column, by_tab, by_marker, placed, Wrong, Reason, Parted, parted, lines_close}
 use Rattle.proof_scanner.proofs.Refusals.QuotedLines.{is_of_lines, Ends, refused, reads, quoted_ends}
-use Rattle.proof_scanner.proofs.Refusals.QuotedReasons.{all_stand, indented_are, is_marked, by_end, by_escape, by_column, by_tab, by_marker, placed, Wrong, Reason, Parted, parted, lines_close}
-use Rattle.proof_scanner.proofs.Refusals.Faults.{Faults, fault, goes, in_turn, either}
-use Rattle.proof_scanner.proofs.Refusals.Spaces.{spaces_told, solid_past}
-use Rattle.proof_scanner.proofs.Refusals.Places.{Said, IsWhy, LiesDeep, looked_at, none_here, followed_stuck, stuck_by}
+use Rattle.proof_scanner.proofs.Refusals.Places.{Faults, fault, goes, in_turn, either, Said, IsWhy, LiesDeep, looked_at, none_here, followed_stuck, stuck_by, spaces_told, solid_past}
 use Rattle.proof_row.proofs.Runs.{neither}
 
 -- ---- texts

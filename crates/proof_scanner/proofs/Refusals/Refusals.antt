@@ -1,8 +1,6 @@
 -- Where the scanner's model refuses a text with a fault of a kind that is told, the text is stuck.
-use Rattle.proof_scanner.proofs.Common.{OutOfMemory, [], ap, Arrives, At, begins, cleared, drop_stale, false, Fares, Fault, fetch, fetch_here, fetch_next, fetch_stream_end, fetch_stream_start, has_no_nul, has_required, held_of, here, Holds, in_flow, inl, inr, is_empty, is_far, is_overdue, IsRefused, Key, List, list_any, map, next_line, not-false, Ok, on_held, Option, outside_key, over, peek, Position, Reaches, refl, RefusedTextsAreStuck, ScannerState, Some, stale, Stands, start, still, sym, there, top_key, true, unroll_indent, ℕ, ◌+◌, ◌==◌, ◌∙◌, ◌∷◌, ◌≡◌, ◌⊎◌, arith, eqb-true, nat_tests}
-use Rattle.yaml_tokens.specs.declared.problem.Problem.TheVariants as problem
+use Rattle.proof_scanner.proofs.Common.{OutOfMemory, [], ap, Arrives, At, begins, cleared, drop_stale, false, Fares, Fault, fetch, fetch_here, fetch_next, fetch_stream_end, fetch_stream_start, has_no_nul, has_required, held_of, here, Holds, in_flow, inl, inr, is_empty, is_far, is_overdue, IsRefused, Key, List, list_any, map, next_line, not-false, Ok, on_held, Option, outside_key, over, peek, Position, Reaches, refl, RefusedTextsAreStuck, ScannerState, Some, stale, Stands, start, still, sym, there, top_key, true, unroll_indent, ℕ, ◌+◌, ◌==◌, ◌∙◌, ◌∷◌, ◌≡◌, ◌⊎◌, arith, eqb-true, nat_tests, Account, Bool, Fails, fails, IsStuck, key_waits}
 use Rattle.model_scanner.specs.Keys.{with_keys}
-use Rattle.model_scanner.proofs.Holds as holds
 use Rattle.proof_scanner.proofs.Cut.Fetched.{goes_on_here}
 use Rattle.proof_scanner.specs.StandsInRow.{goes}
 use Rattle.proof_scanner.proofs.Sound.Fetches.{content_kept, fetch_keeps}
@@ -10,15 +8,29 @@ use Rattle.proof_scanner.proofs.Sound.Runs.{reached, first_fetch}
 use Rattle.proof_scanner.proofs.Sound.Stales.{no_entries, one_key}
 use Rattle.proof_scanner.proofs.Sound.ToToken.{passed_stands}
 use Rattle.proof_scanner.specs.Never.{AnchorIndentationNeverComes}
-use Rattle.proof_scanner.proofs.Refusals.Faults as faults
-use Rattle.proof_scanner.proofs.Refusals.Faults.{Faults, fault_is, in_turn, tried, either}
+use Rattle.proof_scanner.proofs.Refusals.Places.{Faults, fault_is, in_turn, tried, either, Told, Said, kind, rowless_told}
 use Rattle.proof_scanner.proofs.Refusals.Fetches.{here_told}
-use Rattle.proof_scanner.proofs.Refusals.OtherFaults.{stuck_never}
 use Rattle.proof_scanner.proofs.Refusals.Passing.{HasNear, fetch_near, passing_told}
-use Rattle.proof_scanner.proofs.Refusals.Places.{Told, Said, kind, rowless_told}
 use Rattle.proof_scanner.proofs.Refusals.RequiredKeys.{stale_rowless}
-use Rattle.proof_scanner.proofs.Refusals.Rolled.{unrolled_stays}
+use Rattle.proof_scanner.proofs.Refusals.Indicators.{unrolled_stays}
 use Rattle.proof_scanner.proofs.Refusals.Shortens.{stale_arrives}
+use Rattle.proof_scanner.proofs.Cut.Faults.Shown.{line_neither, tag_neither}
+use Rattle.yaml_tokens.specs.declared.problem.Problem.TheVariants as problem
+use Rattle.model_scanner.proofs.Holds as holds
+use Rattle.proof_scanner.proofs.Refusals.Places as faults
+use Rattle.proof_scanner.specs.NoPiece as none
+
+-- ---- no text is stuck for a property in the first column before an entry there: each reason is one of another kind of fault
+
+quoted_never : (single : Bool) (more : List ℕ) → none.IsNotQuoted single more problem.AnchorIndentation → ⊥
+quoted_never single more (none.by_escape body after _ double cut has bad) = elim bad [ ]
+
+fails_never : (a : Account) (separation rest : List ℕ) (spot at : Position) → Fails a separation spot rest problem.AnchorIndentation at → ⊥
+fails_never a separation rest spot at b = grind (arith, nat_tests, eqb-true, tag_neither, quoted_never, line_neither)
+
+pub stuck_never : (text : List ℕ) (at : Position) → IsStuck text problem.AnchorIndentation at → ⊥
+stuck_never text at (fails a separation rest _ spot _ place some solid f) = fails_never a separation rest spot at f.fails
+stuck_never text at (key_waits a separation rest _ begin spot _ g flowing filled here_is late some solid f) = fails_never a separation rest spot at f.fails
 
 -- ---- a fetch
 

@@ -10,7 +10,7 @@ use Rattle.proof_scanner.proofs.Sound.Passed.{skip_stays, Exact}
 use Rattle.proof_lexers.specs.Ends.{EndsAs, reads, refuses}
 use Rattle.proof_lexers.specs.Separations.{tab_left}
 use Rattle.proof_scanner.proofs.Sound.Skips.{line_more, IsLeast, IsAt, IsIn, IsPassed, skip_tells}
-use Rattle.proof_scanner.proofs.Refusals.Faults.{Faults, fault, goes}
+use Rattle.proof_scanner.proofs.Refusals.Places.{Faults, fault, goes}
 
 -- ---- a TAB within columns
 
