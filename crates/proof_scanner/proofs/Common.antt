@@ -154,3 +154,4 @@ unfoldable pub use Rattle.yaml_chars.specs.Class.{is_alphanumeric, is_hex}
 pub use Rattle.yaml_tokens.specs.declared.problem.Fault.{Fault}
 pub use Rattle.yaml_tokens.specs.declared.problem.Fault.TheVariants.{At, OutOfMemory}
 pub use Rattle.yaml_tokens.specs.declared.problem.Problem.{Problem}
+pub use Rattle.yaml_tokens.specs.declared.problem.Problem.TheVariants.{AnchorIndentation, AnchorName, BlockEntryInFlow, BlockEntryNotAllowed, BlockScalarHeader, BlockScalarIndentation, BlockScalarTab, BlockScalarZero, ColonMisplaced, CommentNotSeparated, ContentAfterDocumentEnd, ContentAfterQuoted, DirectiveEnd, DirectiveName, DirectiveNameEnd, EscapedCode, FlowIndentation, FlowTooDeep, GlobalTagCharacter, HexadecimalDigit, InvalidIndentation, KeyExpected, KeyNotAllowed, KeyWithoutColon, PlainDashInFlow, PlainTab, QuotedDocumentMarker, QuotedEnd, QuotedIndentation, TabAfterColon, TabAfterDash, TabAfterKey, TabAsIndentation, TabInBlockIndentation, TagDirectiveEnd, TagDirectiveHandle, TagEnd, TagStart, UnexpectedAt, UnexpectedBacktick, UnexpectedPercent, UnknownEscape, ValueNotAllowed, VerbatimTagEnd, VersionDot, VersionNumber, VersionTooLong, WhitespaceExpected}

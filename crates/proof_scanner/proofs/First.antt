@@ -1,5 +1,4 @@
 pub mod Block
-pub mod Places
 pub mod Property
 pub mod Quoted
 pub mod Reasons

@@ -7,12 +7,10 @@ pub mod NoRows
 pub mod Nodes
 pub mod OtherRows
 pub mod Passing
-pub mod PiecesHere
 pub mod PiecesRefused
 pub mod Places
 pub mod Plains
 pub mod PlainsRefused
-pub mod QuotedCuts
 pub mod QuotedLines
 pub mod QuotedReasons
 pub mod Quotes
@@ -20,7 +18,4 @@ pub mod Refusals
 pub mod RequiredKeys
 pub mod Rows
 pub mod Shortens
-pub mod StandsRefused
-pub mod Tabs
 pub mod TextsRefused
-pub mod WaitingKeys

@@ -1,8 +1,7 @@
 -- The next token by its first characters.
-use Rattle.proof_scanner.proofs.Common.{row, [], codes, and_false, ap, are_single, arith, At, begins_flow, begins_separation, Bool, class_of, comes_marker, comes_plain, eqb-true, Err, false, Fault, fetch_anchor, fetch_block_entry, fetch_block_scalar, fetch_content, fetch_directive, fetch_document_end, fetch_document_marker, fetch_first_column, fetch_flow_collection_end, fetch_flow_collection_start, fetch_flow_entry, fetch_flow_scalar, fetch_indented, fetch_key, fetch_plain_scalar, fetch_tag, fetch_token, fetch_value, has_no_nul, if◌then◌else◌, in_flow, is_at_gap, is_blank_or_breakz, is_document_marker, is_empty, is_literal, is_value, is_value_indicator, is_white, List, mark_of, may_begin, NameKind, nat_lt, not, peek, quote_of, Quotes, refl, Result, same_gap, ScannerState, slice_index, sym, Tok, token_by, true, ℕ, ◌&&◌, ◌+◌, ◌==◌, ◌||◌, ◌∙◌, ◌∷◌, ◌≡◌, nat_tests}
+use Rattle.proof_scanner.proofs.Common.{row, [], codes, and_false, ap, are_single, arith, At, begins_flow, begins_separation, Bool, class_of, comes_marker, comes_plain, eqb-true, Err, false, Fault, fetch_anchor, fetch_block_entry, fetch_block_scalar, fetch_content, fetch_directive, fetch_document_end, fetch_document_marker, fetch_first_column, fetch_flow_collection_end, fetch_flow_collection_start, fetch_flow_entry, fetch_flow_scalar, fetch_indented, fetch_key, fetch_plain_scalar, fetch_tag, fetch_token, fetch_value, has_no_nul, if◌then◌else◌, in_flow, is_at_gap, is_blank_or_breakz, is_document_marker, is_empty, is_literal, is_value, is_value_indicator, is_white, List, mark_of, may_begin, NameKind, nat_lt, not, peek, quote_of, Quotes, refl, Result, same_gap, ScannerState, slice_index, sym, Tok, token_by, true, ℕ, ◌&&◌, ◌+◌, ◌==◌, ◌||◌, ◌∙◌, ◌∷◌, ◌≡◌, nat_tests, InvalidIndentation, UnexpectedAt, UnexpectedBacktick, UnexpectedPercent}
 use Rattle.yaml_chars.specs.Class.{is_blank, is_break, is_flow}
 use Rattle.defs_text.specs.Classes as classes
-use Rattle.yaml_tokens.specs.declared.problem.Problem.TheVariants as problem
 use Rattle.model_scanner.specs.declared.kind.BlockStyle.{BlockStyle}
 use Rattle.model_scanner.specs.declared.kind.BlockStyle.TheVariants.{Literal, Folded}
 use Rattle.model_scanner.specs.declared.kind.Collection.TheVariants.{Sequence, Mapping}
@@ -51,9 +50,9 @@ pub record TokensHold (Q : Result ScannerState Fault → Type 0) (t : ScannerSta
   pub close_bracket : (more : List ℕ) → t.rest ≡ 93 ∷ more → Q (fetch_flow_collection_end Sequence t)
   pub close_brace : (more : List ℕ) → t.rest ≡ 125 ∷ more → Q (fetch_flow_collection_end Mapping t)
   pub comma : (more : List ℕ) → t.rest ≡ 44 ∷ more → Q (fetch_flow_entry t)
-  pub percent : (more : List ℕ) → t.rest ≡ 37 ∷ more → Q (Err (At problem.UnexpectedPercent t.held.position))
-  pub at_sign : (more : List ℕ) → t.rest ≡ 64 ∷ more → Q (Err (At problem.UnexpectedAt t.held.position))
-  pub backtick : (more : List ℕ) → t.rest ≡ 96 ∷ more → Q (Err (At problem.UnexpectedBacktick t.held.position))
+  pub percent : (more : List ℕ) → t.rest ≡ 37 ∷ more → Q (Err (At UnexpectedPercent t.held.position))
+  pub at_sign : (more : List ℕ) → t.rest ≡ 64 ∷ more → Q (Err (At UnexpectedAt t.held.position))
+  pub backtick : (more : List ℕ) → t.rest ≡ 96 ∷ more → Q (Err (At UnexpectedBacktick t.held.position))
 
 gap_after : (t : ScannerState) (c : ℕ) (more : List ℕ) (gap : Bool) → t.rest ≡ c ∷ more → is_at_gap more ≡ gap → is_blank_or_breakz (slice_index t.rest 1) ≡ gap
 gap_after t c more gap e g = ap (λ l. is_blank_or_breakz (slice_index l 1)) e ∙ gap_here more ∙ g
@@ -132,7 +131,7 @@ pub record ContentHolds (Q : Result ScannerState Fault → Type 0) (t : ScannerS
   pub directive : t.rest ≡ 37 ∷ after t.rest → t.held.position.col ≡ 0 → Q (fetch_directive t)
   pub document_start : (more : List ℕ) → t.rest ≡ 45 ∷ 45 ∷ 45 ∷ more → is_at_gap more ≡ true → t.held.position.col ≡ 0 → Q (fetch_document_marker Tok.document_start t)
   pub document_end : (more : List ℕ) → t.rest ≡ 46 ∷ 46 ∷ 46 ∷ more → is_at_gap more ≡ true → t.held.position.col ≡ 0 → Q (fetch_document_end t)
-  pub shallow : IsNoLine t → nat_lt (t.held.position.col + 1) t.held.indent ≡ true → Q (Err (At problem.InvalidIndentation t.held.position))
+  pub shallow : IsNoLine t → nat_lt (t.held.position.col + 1) t.held.indent ≡ true → Q (Err (At InvalidIndentation t.held.position))
   pub token : IsNoLine t → IsDeep t.held → Q (fetch_token t)
 
 pub content_holds : (Q : Result ScannerState Fault → Type 0) (t : ScannerState) → is_empty t.rest ≡ false → ContentHolds Q t → Q (fetch_content t)

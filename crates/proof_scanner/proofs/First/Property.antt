@@ -1,6 +1,5 @@
 -- A text after a `!` is refused for one reason, and so is a line after a `%`: the fault is computed from the line, and each reason for it has that fault.
-use Rattle.proof_scanner.proofs.Common.{[], after, arith, At, begins_handle, begins_prefix, begins_with, begins_with_mark, Bool, codes, decoded, drop, Err, false, Fault, first_position, from_prefix, further, has_no_break, HasName, if◌then◌else◌, is_alpha, is_at_gap, is_decimal_digit, is_empty, is_same, is_uri, IsDeclarationBefore, IsDirectiveRefusal, IsNoDeclaration, IsNoVersion, IsTagRefusal, IsVersionBefore, leading, length, length-append, List, nat_le, None, number_of, Ok, Option, Position, Problem, problem_of, refl, Result, said, Some, suc, true, UriFault, ℕ, ◌++◌, ◌+◌, ◌-◌, ◌==◌, ◌∙◌, ◌∷◌, ◌≡◌, nat_tests, eqb-true}
-use Rattle.yaml_tokens.specs.declared.problem.Problem.TheVariants as problem
+use Rattle.proof_scanner.proofs.Common.{[], after, arith, At, begins_handle, begins_prefix, begins_with, begins_with_mark, Bool, codes, decoded, drop, Err, false, Fault, first_position, from_prefix, further, has_no_break, HasName, if◌then◌else◌, is_alpha, is_at_gap, is_decimal_digit, is_empty, is_same, is_uri, IsDeclarationBefore, IsDirectiveRefusal, IsNoDeclaration, IsNoVersion, IsTagRefusal, IsVersionBefore, leading, length, length-append, List, nat_le, None, number_of, Ok, Option, Position, Problem, problem_of, refl, Result, said, Some, suc, true, UriFault, ℕ, ◌++◌, ◌+◌, ◌-◌, ◌==◌, ◌∙◌, ◌∷◌, ◌≡◌, nat_tests, eqb-true, CommentNotSeparated, DirectiveEnd, DirectiveName, DirectiveNameEnd, GlobalTagCharacter, TagDirectiveEnd, TagDirectiveHandle, TagStart, VersionDot, VersionNumber, VersionTooLong}
 use Rattle.proof_lexers.specs.DirectiveEnds as ends
 use Rattle.proof_lexers.specs.DirectiveEnds.{ends_line}
 use Rattle.proof_lexers.proofs.Directives.Values.{no_handle}
@@ -18,18 +17,18 @@ one_tag in_flow text why1 why2 x y =
 
 -- with the digits of a number, or else after them
 abbrev number_wrong : (digits : List ℕ) → (more : Option Problem) → Option Problem
-number_wrong [] more = Some problem.VersionNumber
-number_wrong (c ∷ w) more = (if nat_le (length (c ∷ w)) 9 then more else Some problem.VersionTooLong)
+number_wrong [] more = Some VersionNumber
+number_wrong (c ∷ w) more = (if nat_le (length (c ∷ w)) 9 then more else Some VersionTooLong)
 
 -- with the point and what stands after it
 abbrev point_wrong : List ℕ → Option Problem
-point_wrong [] = Some problem.VersionDot
-point_wrong (c ∷ r) = (if c == 46 then number_wrong (leading is_decimal_digit r) None else Some problem.VersionDot)
+point_wrong [] = Some VersionDot
+point_wrong (c ∷ r) = (if c == 46 then number_wrong (leading is_decimal_digit r) None else Some VersionDot)
 
 abbrev version_wrong : List ℕ → Option Problem
 version_wrong text = number_wrong (leading is_decimal_digit text) (point_wrong (after is_decimal_digit text))
 
-long : (w : List ℕ) (more : Option Problem) → nat_le (length w) 9 ≡ false → number_wrong w more ≡ Some problem.VersionTooLong
+long : (w : List ℕ) (more : Option Problem) → nat_le (length w) 9 ≡ false → number_wrong w more ≡ Some VersionTooLong
 long a more e = grind arith
 
 number_right : (w : List ℕ) (more : Option Problem) (v : ℕ) → number_of w ≡ Some v → number_wrong w more ≡ more
@@ -50,13 +49,13 @@ version_right line rest v = number_right (leading is_decimal_digit (said line)) 
 -- with the characters of a prefix, or else after them
 abbrev characters_wrong : Result (List ℕ) UriFault → (apart : Bool) → Option Problem
 characters_wrong (Err f) apart = Some (problem_of f)
-characters_wrong (Ok cs) apart = (if apart then None else Some problem.TagDirectiveEnd)
+characters_wrong (Ok cs) apart = (if apart then None else Some TagDirectiveEnd)
 
 abbrev prefix_wrong : List ℕ → Option Problem
-prefix_wrong r = (if begins_prefix r then characters_wrong (decoded (leading is_uri r)) (is_at_gap (after is_uri r)) else Some problem.GlobalTagCharacter)
+prefix_wrong r = (if begins_prefix r then characters_wrong (decoded (leading is_uri r)) (is_at_gap (after is_uri r)) else Some GlobalTagCharacter)
 
 abbrev declaration_wrong : List ℕ → Option Problem
-declaration_wrong text = (if begins_handle text then prefix_wrong (from_prefix text) else (if begins_with_mark text then Some problem.TagDirectiveHandle else Some problem.TagStart))
+declaration_wrong text = (if begins_handle text then prefix_wrong (from_prefix text) else (if begins_with_mark text then Some TagDirectiveHandle else Some TagStart))
 
 no_mark_no_handle : (text : List ℕ) → begins_with_mark text ≡ false → begins_handle text ≡ false
 no_mark_no_handle a e = grind arith
@@ -75,7 +74,7 @@ declaration_right line rest d = rw (d.has_handle, d.has_prefix, d.is_prefix, d.i
 
 -- where a version is all right, with the text after it
 abbrev tail_wrong : Position → (line rest : List ℕ) → Fault
-tail_wrong start line rest = (if begins_with 35 rest then At problem.CommentNotSeparated (further (suc (length line - length rest)) start) else At problem.DirectiveEnd start)
+tail_wrong start line rest = (if begins_with 35 rest then At CommentNotSeparated (further (suc (length line - length rest)) start) else At DirectiveEnd start)
 
 abbrev value_wrong : Position → Option Problem → (tail : Fault) → Fault
 value_wrong start None tail = tail
@@ -83,12 +82,12 @@ value_wrong start (Some why) tail = At why start
 
 abbrev named_wrong : Position → (line : List ℕ) → (version : Bool) → Fault
 named_wrong start line true = value_wrong start (version_wrong (said line)) (tail_wrong start line (after is_decimal_digit (drop 1 (after is_decimal_digit (said line)))))
-named_wrong start line false = value_wrong start (declaration_wrong (said line)) (At problem.DirectiveEnd start)
+named_wrong start line false = value_wrong start (declaration_wrong (said line)) (At DirectiveEnd start)
 
 abbrev line_wrong : Position → List ℕ → Fault
 line_wrong start line =
-    (if is_empty (leading is_alpha line) then At problem.DirectiveName (further 1 start) else
-    (if is_at_gap (after is_alpha line) then named_wrong start line (is_same (leading is_alpha line) (codes "YAML")) else At problem.DirectiveNameEnd (further 1 start)))
+    (if is_empty (leading is_alpha line) then At DirectiveName (further 1 start) else
+    (if is_at_gap (after is_alpha line) then named_wrong start line (is_same (leading is_alpha line) (codes "YAML")) else At DirectiveNameEnd (further 1 start)))
 
 of_version : (start : Position) (line : List ℕ) → HasName (codes "YAML") line → line_wrong start line ≡ named_wrong start line true
 of_version start line h = rw (h.is_name, h.is_whole) refl

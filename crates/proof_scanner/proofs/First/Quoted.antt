@@ -1,15 +1,13 @@
 -- Of two reasons why a quoted scalar is refused at a place that both come first, kind and position are the same.
-use Rattle.proof_scanner.proofs.Common.{[], inl, inr, ◌⊎◌, arith, if◌then◌else◌, ap, append-nil, are_indented, AreNotIndented, begins_separation, begins_solid, begins_with, Bool, closed_first, content, Element, false, GoesOn, has_break, has_marker, has_no_nul, HasNoQuoted, is_empty, is_indented_by_spaces, is_separation, IsNotQuoted, IsQuoted, IsQuotedFault, lines_first, List, nat_lt, no_nul_after, off_margin, past, Position, position_after, Problem, quoted_first, quoted_may_end, quoted_scalar, refl, separations, subst, sym, tab, true, within, ℕ, ◌++◌, ◌∙◌, ◌∷◌, ◌≡◌, arith, nat_tests, eqb-true, elements, element_of, LineStand, past_elements, Some}
+use Rattle.proof_scanner.proofs.Common.{[], inl, inr, ◌⊎◌, arith, if◌then◌else◌, ap, append-nil, are_indented, AreNotIndented, begins_separation, begins_solid, begins_with, Bool, closed_first, content, Element, false, GoesOn, has_break, has_marker, has_no_nul, HasNoQuoted, is_empty, is_indented_by_spaces, is_separation, IsNotQuoted, IsQuoted, IsQuotedFault, lines_first, List, nat_lt, no_nul_after, off_margin, past, Position, position_after, Problem, quoted_first, quoted_may_end, quoted_scalar, refl, separations, subst, sym, tab, true, within, ℕ, ◌++◌, ◌∙◌, ◌∷◌, ◌≡◌, arith, nat_tests, eqb-true, elements, element_of, LineStand, past_elements, Some, CommentNotSeparated, ContentAfterQuoted, TabAsIndentation, TabInBlockIndentation}
 use Rattle.defs_text.specs.Classes as classes
-use Rattle.yaml_tokens.specs.declared.problem.Problem.TheVariants as problem
 use Rattle.proof_row.proofs.Quotes.{singles, doubles}
 use Rattle.proof_scanner.specs.NoPiece as none
 use Rattle.proof_scanner.specs.NoPiece.{quote_of}
 use Rattle.proof_scanner.specs.QuotedLines as lines
 use Rattle.proof_scanner.proofs.Known.Places.{ends_before}
 use Rattle.proof_scanner.proofs.Sound.Passed.{same_has_break}
-use Rattle.proof_scanner.proofs.Refusals.QuotedCuts.{one_reason, walk_of}
-use Rattle.proof_scanner.proofs.Refusals.QuotedReasons.{after_quote_at, all_stand, indented_are, is_marked, by_end, by_escape, by_column, by_tab, by_marker, placed, Place, Wrong, Reason}
+use Rattle.proof_scanner.proofs.Refusals.QuotedReasons.{one_reason, walk_of, after_quote_at, all_stand, indented_are, is_marked, by_end, by_escape, by_column, by_tab, by_marker, placed, Place, Wrong, Reason}
 use Rattle.proof_row.proofs.Columns.{further_is_no_break}
 
 -- ---- the quote
@@ -29,9 +27,9 @@ module _ (least : ℕ) (here : Position) (rest : List ℕ) where
   -- What is wrong after a quoted scalar: a comment right after it; or after a separation text on the line, or a TAB on a later one.
   abbrev After : (piece next : List ℕ) → Problem → Position → Type 0
   After piece next why at =
-      ((begins_with 35 next ≡ true) × (why ≡ problem.CommentNotSeparated) × (at ≡ position_after here piece next)) ⊎
+      ((begins_with 35 next ≡ true) × (why ≡ CommentNotSeparated) × (at ≡ position_after here piece next)) ⊎
       ((begins_with 35 next ≡ false) × (p : List ℕ) × (x : List ℕ) × (next ≡ p ++ x) × (is_separation false p x ≡ true) × (begins_separation x ≡ false) ×
-      (why ≡ (if has_break p then problem.TabInBlockIndentation else problem.ContentAfterQuoted)) × (at ≡ position_after (position_after here piece next) p x))
+      (why ≡ (if has_break p then TabInBlockIndentation else ContentAfterQuoted)) × (at ≡ position_after (position_after here piece next) p x))
 
   -- A quoted scalar does not come to its end, or it does and what follows it is wrong.
   abbrev Sorted : (single : Bool) (more : List ℕ) → Problem → Position → Type 0
@@ -77,8 +75,8 @@ module _ (least : ℕ) (here : Position) (rest : List ℕ) where
     by_lines whole why at (lines.by_tab body r es e are further low) first =
         let all : quote_of single ∷ more ≡ quote_of single ∷ (body ++ tab ∷ r) = sym whole ∙ e in
         let there = after_quote_at single here body (tab ∷ r) in
-        subst (λ q. Reason single least here within (past here) more problem.TabAsIndentation q) (sym there)
-        (walked problem.TabAsIndentation _ false [] es body (tab ∷ r) (cc all) refl are (indented es first.1) first.0 (λ t q x h n. absurd (cc n)) (λ f n. by_tab r refl further (ap (λ (q : Position). nat_lt q.col least) (sym there) ∙ low)))
+        subst (λ q. Reason single least here within (past here) more TabAsIndentation q) (sym there)
+        (walked TabAsIndentation _ false [] es body (tab ∷ r) (cc all) refl are (indented es first.1) first.0 (λ t q x h n. absurd (cc n)) (λ f n. by_tab r refl further (ap (λ (q : Position). nat_lt q.col least) (sym there) ∙ low)))
 
     one_sorted : has_no_nul rest ≡ true → (why1 why2 : Problem) (at1 at2 : Position) → Sorted single more why1 at1 → Sorted single more why2 at2 → (why1 ≡ why2) × (at1 ≡ at2)
     one_sorted clean why1 why2 at1 at2 (inl x) (inl y) = one_reason single least here within (past here) more why1 why2 at1 at2 x.0 y.0
@@ -101,11 +99,11 @@ module _ (least : ℕ) (here : Position) (rest : List ℕ) where
   pub no_quoted : (single : Bool) (why : Problem) (at : Position) → AreNotIndented single least rest → (n : IsQuotedFault single least here rest why at) → lines_first single least here rest why at n → QuotedReason why at
   no_quoted single why at h n e = grind (arith, nat_tests, eqb-true, begins_lines, by_lines)
 
-  pub glued_to_quoted : (single : Bool) (piece more : List ℕ) → rest ≡ piece ++ more → IsQuoted single piece more → begins_with 35 more ≡ true → closed_first single least piece → QuotedReason problem.CommentNotSeparated (position_after here piece more)
+  pub glued_to_quoted : (single : Bool) (piece more : List ℕ) → rest ≡ piece ++ more → IsQuoted single piece more → begins_with 35 more ≡ true → closed_first single least piece → QuotedReason CommentNotSeparated (position_after here piece more)
   glued_to_quoted single piece more e is begins fit = closed single piece more _ _ e is fit (inl (begins, refl, refl))
 
   pub after_quoted : (single : Bool) (piece more passed content : List ℕ) → rest ≡ piece ++ more → IsQuoted single piece more → GoesOn more passed content → begins_separation content ≡ false → closed_first single least piece × (begins_with 35 more ≡ false)
-      → QuotedReason problem.ContentAfterQuoted (position_after (position_after here piece more) passed content)
+      → QuotedReason ContentAfterQuoted (position_after (position_after here piece more) passed content)
   after_quoted single piece more passed left e is on solid first =
       closed single piece more _ _ e is first.0 (inr (first.1, passed, left, on.is_text, on.is_filled, solid, rw (sym (same_has_break passed) ∙ on.is_on_line) refl, refl))
 
@@ -114,7 +112,7 @@ module _ (least : ℕ) (here : Position) (rest : List ℕ) where
   own_line blocks awaits gap h = grind arith
 
   pub tab_after_quoted : (single : Bool) (piece gap content : List ℕ) (blocks : List ℕ) (awaits : Bool) → rest ≡ piece ++ (gap ++ content) → IsQuoted single piece (gap ++ content) → is_separation false gap content ≡ true → begins_separation content ≡ false
-      → is_indented_by_spaces quoted_scalar blocks awaits gap ≡ false → closed_first single least piece → begins_with 35 (gap ++ content) ≡ false → QuotedReason problem.TabInBlockIndentation (position_after (position_after here piece (gap ++ content)) gap content)
+      → is_indented_by_spaces quoted_scalar blocks awaits gap ≡ false → closed_first single least piece → begins_with 35 (gap ++ content) ≡ false → QuotedReason TabInBlockIndentation (position_after (position_after here piece (gap ++ content)) gap content)
   tab_after_quoted single piece gap left blocks awaits e is fills solid indents fit free =
       closed single piece (gap ++ left) _ _ e is fit (inr (free, gap, left, refl, fills, solid, rw (own_line blocks awaits gap indents) refl, refl))
 

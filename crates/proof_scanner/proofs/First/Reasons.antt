@@ -1,17 +1,15 @@
 -- Of two reasons at one place that both come first, kind and position are the same.
-use Rattle.proof_scanner.proofs.Common.{[], no_nul_after, separations, inl, inr, Account, alias_name, ap, are_marks, AreNotIndented, arith, At, begins_block, begins_flow, begins_with, block_begins, BlockStyle, Bool, colon, colon_may_precede, comes_first, dash, dashes, directive_line, dots, eqb-true, Fails, FailsFirst, false, first_line, folded, followed_first, has_no_break, has_no_nul, if◌then◌else◌, in_double_quotes, in_single_quotes, indicator_of, innermost, is_at_gap, is_blank, is_blank_or_end, is_break, is_flow, is_flow_indicator, is_full, is_in_flow, is_nul, is_value_here, is_value_indicator, IsBlockFault, IsDirectiveRefusal, IsFollowed, IsLike, IsLookedAt, IsPlainFault, IsQuoted, IsQuotedFault, IsTagRefusal, Kind, least_column, least_here, line_is, lines_first, List, literal, MayNotStand, nat_tests, no_piece_first, NoPiece, opens, plain_first, Position, Problem, question, refl, stands_first, subst, sym, tab, tag_text, true, ℕ, ◌&&◌, ◌++◌, ◌==◌, ◌||◌, ◌∙◌, ◌∷◌, ◌≡◌, ◌⊎◌, begins_entry, begins_separation, begins_with_alpha, begins_with_space_or_break, ends_separation, further, GoesOn, has_tab_before_piece, is_alpha, is_decimal_digit, is_letter, is_separation, may_ask, not, position_after, before_by, before_past, begins_document_at, comes_plain, is_adjacent, is_free_of_tabs, is_taken, kind_by, nat_le, same_flow, site_at_place, append_cancel_left, further_on, goes_on, goes_over, no_flow, Option, Stand}
+use Rattle.proof_scanner.proofs.Common.{[], no_nul_after, separations, inl, inr, Account, alias_name, ap, are_marks, AreNotIndented, arith, At, begins_block, begins_flow, begins_with, block_begins, BlockStyle, Bool, colon, colon_may_precede, comes_first, dash, dashes, directive_line, dots, eqb-true, Fails, FailsFirst, false, first_line, folded, followed_first, has_no_break, has_no_nul, if◌then◌else◌, in_double_quotes, in_single_quotes, indicator_of, innermost, is_at_gap, is_blank, is_blank_or_end, is_break, is_flow, is_flow_indicator, is_full, is_in_flow, is_nul, is_value_here, is_value_indicator, IsBlockFault, IsDirectiveRefusal, IsFollowed, IsLike, IsLookedAt, IsPlainFault, IsQuoted, IsQuotedFault, IsTagRefusal, Kind, least_column, least_here, line_is, lines_first, List, literal, MayNotStand, nat_tests, no_piece_first, NoPiece, opens, plain_first, Position, Problem, question, refl, stands_first, subst, sym, tab, tag_text, true, ℕ, ◌&&◌, ◌++◌, ◌==◌, ◌||◌, ◌∙◌, ◌∷◌, ◌≡◌, ◌⊎◌, begins_entry, begins_separation, begins_with_alpha, begins_with_space_or_break, ends_separation, further, GoesOn, has_tab_before_piece, is_alpha, is_decimal_digit, is_letter, is_separation, may_ask, not, position_after, before_by, before_past, begins_document_at, comes_plain, is_adjacent, is_free_of_tabs, is_taken, kind_by, nat_le, same_flow, site_at_place, append_cancel_left, further_on, goes_on, goes_over, no_flow, Option, Stand, AnchorName, BlockEntryInFlow, BlockEntryNotAllowed, ColonMisplaced, CommentNotSeparated, ContentAfterDocumentEnd, FlowIndentation, FlowTooDeep, InvalidIndentation, KeyNotAllowed, PlainDashInFlow, PlainTab, TabAfterColon, TabAfterDash, TabAfterKey, TabInBlockIndentation, UnexpectedAt, UnexpectedBacktick, UnexpectedPercent, WhitespaceExpected}
 use Rattle.proof_row.specs.Ends.{nothing, plain_scalar, anchor_name, block_scalar}
 use Rattle.proof_scanner.specs.NoPiece.{quote_of}
 use Rattle.proof_scanner.proofs.First.Quoted.{QuotedReason, one_quoted}
 use Rattle.proof_scanner.proofs.First.Block.{BlockReason, headless, fails, one_block}
 use Rattle.proof_scanner.proofs.First.Property.{one_tag, one_directive}
-use Rattle.proof_scanner.proofs.Refusals.PiecesRefused.{no_colon_before, tab_gap}
+use Rattle.proof_scanner.proofs.Refusals.PiecesRefused.{no_colon_before, tab_gap, many_alike}
 use Rattle.proof_scanner.proofs.Refusals.TextsRefused.{first_char}
 use Rattle.proof_scanner.proofs.Known.Places.{ends_before}
-use Rattle.proof_scanner.proofs.Refusals.PiecesHere.{many_alike}
 use Rattle.proof_scanner.specs.FirstPlain.{HasNoPlainFault}
 use Rattle.defs_token.specs.Plain.{inside, past}
-use Rattle.yaml_tokens.specs.declared.problem.Problem.TheVariants as problem
 use Rattle.proof_lexers.specs.DirectiveEnds as directives
 use Rattle.proof_scanner.specs.NoPiece as none
 use Rattle.proof_scanner.specs.QuotedLines as quoted_lines
@@ -42,10 +40,10 @@ same_start collection (c ∷ a) (d ∷ b) x y cut f g goes also = let same : d �
 -- A reason at a plain scalar that comes first: its column; a TAB; or a dash.
 abbrev pub PlainReason : (in_flow : Bool) (collection : List ℕ) (here : Position) (text : List ℕ) → Problem → Position → Type 0
 PlainReason in_flow collection here text why at =
-    (IsPlainFault in_flow collection here text problem.FlowIndentation here × (why ≡ problem.FlowIndentation) × (at ≡ here)) ⊎
-    (HasNoPlainFault in_flow collection here text problem.FlowIndentation × ((IsPlainFault in_flow collection here text problem.PlainTab here × (why ≡ problem.PlainTab) × (at ≡ here)) ⊎
-    (HasNoPlainFault in_flow collection here text problem.PlainTab × (before : List ℕ) × (rest : List ℕ) × (in_flow ≡ true) × (text ≡ before ++ 45 ∷ rest) × (begins_flow rest ≡ true) ×
-    (goes_over true (innermost collection) before (45 ∷ rest) ≡ true) × (why ≡ problem.PlainDashInFlow) × (at ≡ position_after here before (45 ∷ rest)))))
+    (IsPlainFault in_flow collection here text FlowIndentation here × (why ≡ FlowIndentation) × (at ≡ here)) ⊎
+    (HasNoPlainFault in_flow collection here text FlowIndentation × ((IsPlainFault in_flow collection here text PlainTab here × (why ≡ PlainTab) × (at ≡ here)) ⊎
+    (HasNoPlainFault in_flow collection here text PlainTab × (before : List ℕ) × (rest : List ℕ) × (in_flow ≡ true) × (text ≡ before ++ 45 ∷ rest) × (begins_flow rest ≡ true) ×
+    (goes_over true (innermost collection) before (45 ∷ rest) ≡ true) × (why ≡ PlainDashInFlow) × (at ≡ position_after here before (45 ∷ rest)))))
 
 module _ (in_flow : Bool) (collection : List ℕ) (here : Position) (text : List ℕ) where
   pub plain_reason : (why : Problem) (at : Position) (n : IsPlainFault in_flow collection here text why at) → plain_first in_flow collection here text why at n → PlainReason in_flow collection here text why at
@@ -112,21 +110,21 @@ letter_ends a h = grind (arith, nat_tests, eqb-true)
 
 abbrev pub DashReason : Setting → Position → List ℕ → Problem → Position → Type 0
 DashReason s here rest why at =
-    ((s.in_flow ≡ true) × (why ≡ problem.BlockEntryInFlow) × (at ≡ here)) ⊎
-    (((s.in_flow ≡ false) × (s.taken ≡ true) × (why ≡ problem.BlockEntryNotAllowed) × (at ≡ here)) ⊎
+    ((s.in_flow ≡ true) × (why ≡ BlockEntryInFlow) × (at ≡ here)) ⊎
+    (((s.in_flow ≡ false) × (s.taken ≡ true) × (why ≡ BlockEntryNotAllowed) × (at ≡ here)) ⊎
     ((s.in_flow ≡ false) × (s.taken ≡ false) × (more : List ℕ) × (passed : List ℕ) × (content : List ℕ) × (rest ≡ 45 ∷ more) × GoesOn more passed content ×
-    (begins_entry content ≡ true) × (why ≡ problem.TabAfterDash) × (at ≡ position_after (further 1 here) passed content)))
+    (begins_entry content ≡ true) × (why ≡ TabAfterDash) × (at ≡ position_after (further 1 here) passed content)))
 
 -- ---- `?`
 
 abbrev pub QuestionReason : Setting → Position → List ℕ → Problem → Position → Type 0
 QuestionReason s here rest why at =
-    ((may_ask s.in_flow s.taken ≡ false) × (why ≡ problem.KeyNotAllowed) × (at ≡ here)) ⊎
-    (((may_ask s.in_flow s.taken ≡ true) × (more : List ℕ) × (rest ≡ 63 ∷ more) × (begins_with_space_or_break more ≡ false) × (why ≡ problem.WhitespaceExpected) ×
+    ((may_ask s.in_flow s.taken ≡ false) × (why ≡ KeyNotAllowed) × (at ≡ here)) ⊎
+    (((may_ask s.in_flow s.taken ≡ true) × (more : List ℕ) × (rest ≡ 63 ∷ more) × (begins_with_space_or_break more ≡ false) × (why ≡ WhitespaceExpected) ×
     (at ≡ further 1 here)) ⊎
     ((may_ask s.in_flow s.taken ≡ true) × (more : List ℕ) × (passed : List ℕ) × (content : List ℕ) × (rest ≡ 63 ∷ more) × (begins_with_space_or_break more ≡ true) ×
     (has_tab_before_piece false passed ≡ false) × (more ≡ passed ++ 9 ∷ content) × (is_separation false passed (9 ∷ content) ≡ true) ×
-    (why ≡ problem.TabAfterKey) × (at ≡ position_after (further 1 here) passed (9 ∷ content))))
+    (why ≡ TabAfterKey) × (at ≡ position_after (further 1 here) passed (9 ∷ content))))
 
 -- the first TAB outside comments is one
 pub first_tab : (in_comment : Bool) (p q x y : List ℕ) → p ++ 9 ∷ x ≡ q ++ 9 ∷ y → is_separation in_comment p (9 ∷ x) ≡ true → is_separation in_comment q (9 ∷ y) ≡ true → has_tab_before_piece in_comment p ≡ false → has_tab_before_piece in_comment q ≡ false → (p ≡ q) × (x ≡ y)
@@ -141,42 +139,42 @@ first_tab false (c ∷ p) (d ∷ q) x y e f g h k = grind (arith, nat_tests, eqb
 
 abbrev pub ColonReason : Setting → Position → List ℕ → Problem → Position → Type 0
 ColonReason s here rest why at =
-    ((more : List ℕ) × (s.in_flow ≡ true) × (rest ≡ 58 ∷ more) × (colon_may_precede more ≡ true) × (why ≡ problem.ColonMisplaced) × (at ≡ here)) ⊎
+    ((more : List ℕ) × (s.in_flow ≡ true) × (rest ≡ 58 ∷ more) × (colon_may_precede more ≡ true) × (why ≡ ColonMisplaced) × (at ≡ here)) ⊎
     ((more : List ℕ) × (passed : List ℕ) × (content : List ℕ) × (rest ≡ 58 ∷ more) × (colon_may_precede more ≡ false) × GoesOn more passed content ×
-    (begins_with_alpha content ≡ true) × (why ≡ problem.TabAfterColon) × (at ≡ position_after (further 1 here) passed content))
+    (begins_with_alpha content ≡ true) × (why ≡ TabAfterColon) × (at ≡ position_after (further 1 here) passed content))
 
 -- ---- brackets and commas
 
 abbrev pub BracketReason : Setting → Position → List ℕ → Problem → Position → Type 0
 BracketReason s here rest why at =
-    (c : ℕ) × (more : List ℕ) × (rest ≡ c ∷ more) × ((((opens c && s.full) ≡ true) × (why ≡ problem.FlowTooDeep) × (at ≡ here)) ⊎
-    (((opens c && s.full) ≡ false) × (why ≡ problem.CommentNotSeparated) × (at ≡ further 1 here)))
+    (c : ℕ) × (more : List ℕ) × (rest ≡ c ∷ more) × ((((opens c && s.full) ≡ true) × (why ≡ FlowTooDeep) × (at ≡ here)) ⊎
+    (((opens c && s.full) ≡ false) × (why ≡ CommentNotSeparated) × (at ≡ further 1 here)))
 
 -- ---- `...`
 
 abbrev pub DotsReason : Position → List ℕ → Problem → Position → Type 0
 DotsReason here rest why at =
     (more : List ℕ) × (passed : List ℕ) × (content : List ℕ) × (rest ≡ 46 ∷ 46 ∷ 46 ∷ more) × GoesOn more passed content × (begins_separation content ≡ false) ×
-    (why ≡ problem.ContentAfterDocumentEnd) × (at ≡ position_after (further 3 here) passed content)
+    (why ≡ ContentAfterDocumentEnd) × (at ≡ position_after (further 3 here) passed content)
 
 -- ---- the reasons at one kind of piece
 
 -- a name is missing
 abbrev pub NameReason : Position → Problem → Position → Type 0
-NameReason here why at = (why ≡ problem.AnchorName) × (at ≡ here)
+NameReason here why at = (why ≡ AnchorName) × (at ≡ here)
 
 abbrev pub TagReason : (in_flow : Bool) → Position → List ℕ → Problem → Position → Type 0
 TagReason in_flow here rest why at = (more : List ℕ) × (rest ≡ 33 ∷ more) × IsTagRefusal in_flow more why × (at ≡ here)
 
 abbrev pub DirectiveReason : Position → List ℕ → Problem → Position → Type 0
 DirectiveReason here rest why at =
-    (((here.col == 0) ≡ false) × (why ≡ problem.UnexpectedPercent) × (at ≡ here)) ⊎
+    (((here.col == 0) ≡ false) × (why ≡ UnexpectedPercent) × (at ≡ here)) ⊎
     ((line : List ℕ) × (next : List ℕ) × (here.col ≡ 0) × (rest ≡ 37 ∷ (line ++ next)) × (has_no_break line ≡ true) × (directives.ends_line next ≡ true) × IsDirectiveRefusal here line (At why at))
 
 -- a reserved indicator
 abbrev pub ReservedReason : Position → List ℕ → Problem → Position → Type 0
 ReservedReason here rest why at =
-    (more : List ℕ) × (at ≡ here) × (((rest ≡ 64 ∷ more) × (why ≡ problem.UnexpectedAt)) ⊎ ((rest ≡ 96 ∷ more) × (why ≡ problem.UnexpectedBacktick)))
+    (more : List ℕ) × (at ≡ here) × (((rest ≡ 64 ∷ more) × (why ≡ UnexpectedAt)) ⊎ ((rest ≡ 96 ∷ more) × (why ≡ UnexpectedBacktick)))
 
 abbrev pub InKind : Kind → Setting → Position → List ℕ → Problem → Position → Type 0
 InKind nothing s here rest why at = ReservedReason here rest why at
@@ -200,8 +198,8 @@ InKind _ s here rest why at = BracketReason s here rest why at
 -- A TAB indents what comes; or it does not lie deep enough; or there is a reason at the kind of piece that the text seems to begin.
 abbrev pub Reason : Setting → Position → List ℕ → Problem → Position → Type 0
 Reason s here rest why at =
-    ((s.spaced ≡ false) × (why ≡ problem.TabInBlockIndentation) × (at ≡ here)) ⊎
-    (((s.spaced ≡ true) × (is_deep_at s here rest ≡ false) × (why ≡ problem.InvalidIndentation) × (at ≡ here)) ⊎
+    ((s.spaced ≡ false) × (why ≡ TabInBlockIndentation) × (at ≡ here)) ⊎
+    (((s.spaced ≡ true) × (is_deep_at s here rest ≡ false) × (why ≡ InvalidIndentation) × (at ≡ here)) ⊎
     ((s.spaced ≡ true) × (is_deep_at s here rest ≡ true) × (k : Kind) × (kind_here s here.col rest ≡ k) × InKind k s here rest why at))
 
 -- ---- kinds by the first characters
@@ -281,16 +279,16 @@ module _ (a : Account) (separation : List ℕ) (here : Position) (rest : List �
   stands_reason why at (failing.shallow flowing line left) f = grind (arith, here, rest, least_here)
   stands_reason why at (failing.too_deep bracket more e is many) f =
       let opens_flow : (c : ℕ) → (c ≡ 91) ⊎ (c ≡ 123) → (opens c ≡ true) × (is_flow_indicator c ≡ true) = λ c a. grind (arith, nat_tests, eqb-true) in
-      seen_reason problem.FlowTooDeep here f (bracket_reason own here rest bracket more problem.FlowTooDeep here e (opens_flow bracket is).1 (bracket, more, e, inl (ap (λ b. b && is_full a) (opens_flow bracket is).0 ∙ (grind (arith, nat_tests, many)), refl, refl)))
-  stands_reason why at (failing.dash_in_flow more e gap flowing) f = seen_reason problem.BlockEntryInFlow here f (dash, ap (λ r. kind_here own here.col r) e ∙ dash_kind own here.col more gap, inl (flowing, refl, refl))
-  stands_reason why at (failing.dash_not_free more e gap out line) f = seen_reason problem.BlockEntryNotAllowed here f (dash, ap (λ r. kind_here own here.col r) e ∙ dash_kind own here.col more gap, inr (inl (out, line, refl, refl)))
+      seen_reason FlowTooDeep here f (bracket_reason own here rest bracket more FlowTooDeep here e (opens_flow bracket is).1 (bracket, more, e, inl (ap (λ b. b && is_full a) (opens_flow bracket is).0 ∙ (grind (arith, nat_tests, many)), refl, refl)))
+  stands_reason why at (failing.dash_in_flow more e gap flowing) f = seen_reason BlockEntryInFlow here f (dash, ap (λ r. kind_here own here.col r) e ∙ dash_kind own here.col more gap, inl (flowing, refl, refl))
+  stands_reason why at (failing.dash_not_free more e gap out line) f = seen_reason BlockEntryNotAllowed here f (dash, ap (λ r. kind_here own here.col r) e ∙ dash_kind own here.col more gap, inr (inl (out, line, refl, refl)))
   stands_reason why at (failing.key_on_earlier_line more begin x xs e is are takes had late) f =
-      seen_reason problem.ColonMisplaced here f.0 (colon, ap (λ r. kind_here own here.col r) e ∙ colon_kind own here.col more is, inl (more, ap is_in_flow are, e, f.1, refl, refl))
+      seen_reason ColonMisplaced here f.0 (colon, ap (λ r. kind_here own here.col r) e ∙ colon_kind own here.col more is, inl (more, ap is_in_flow are, e, f.1, refl, refl))
   stands_reason why at (failing.question_not_free more e gap out line) f =
-      seen_reason problem.KeyNotAllowed here f (question, ap (λ r. kind_here own here.col r) e ∙ question_kind own here.col more gap, inl (rw (out, line) refl, refl, refl))
+      seen_reason KeyNotAllowed here f (question, ap (λ r. kind_here own here.col r) e ∙ question_kind own here.col more gap, inl (rw (out, line) refl, refl, refl))
   stands_reason why at (failing.tab_indents tabs) f = inl (tabs, refl, refl)
   stands_reason why at (failing.tab_after_quoted single piece gap content e is fills goes_on solid tabs) f =
-      seen_reason problem.TabInBlockIndentation _ f.0 (of_quoted own here rest problem.TabInBlockIndentation _ (quoted.tab_after_quoted (least_column own.blocks own.awaits) here rest single piece gap content own.blocks own.awaits e is fills solid tabs f.1 f.2))
+      seen_reason TabInBlockIndentation _ f.0 (of_quoted own here rest TabInBlockIndentation _ (quoted.tab_after_quoted (least_column own.blocks own.awaits) here rest single piece gap content own.blocks own.awaits e is fills solid tabs f.1 f.2))
 
   pub reason_of : (why : Problem) (at : Position) → FailsFirst a separation here rest why at → Reason own here rest why at
   reason_of why at x = by x.fails x.is_first

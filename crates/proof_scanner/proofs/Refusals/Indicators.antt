@@ -1,5 +1,5 @@
 -- Faults of indicators, markers and directives.
-use Rattle.proof_scanner.proofs.Common.{[], allow_key, and_false, and_parts, ap, append_assoc, AreEntries, arith, Arrives, At, begin_flow, begin_key, begin_keyless_mapping, begin_keyless_pair, begin_keyless_value, begin_line, begin_pair, begins_entry, begins_free_line, begins_with, begins_with_alpha, begins_with_space_or_break, blanks_and_comment, Bool, check_after_tab, check_block_entry, check_dash, check_document_end, check_key_space, check_value_space, chosen, closed_key, Collection, colon_may_precede, deepened_flow, directive_of, directives_end, end_entry, end_flow, ended_flow, entries_by, Entry, eqb-true, Err, false, Fault, fetch_block_entry, fetch_directive, fetch_document_end, fetch_document_marker, fetch_flow_collection_end, fetch_flow_collection_start, fetch_flow_entry, fetch_key, fetch_value, flow_level, FlowLevel, followed_first, free, further, go_on, has, has_no_break, HasNoKey, HasSpaces, Held, held_of, Holds, if◌then◌else◌, in_flow, increase_flow_level, inl, inr, insert_key, is_alphanumeric, is_at_gap, is_blank, is_blank_or_breakz, is_breakz, is_empty, is_free, is_full, is_one_of, is_required, is_separation, is_taken, is_taken_line, is_value, is_value_here, IsDirectiveRefusal, IsFollowed, IsLineHere, IsLookedAt, IsOpenOutside, IsPlace, Key, leading, length, lexed, Line, line_by, line_past_separation, List, may_ask, may_not_stand, MayChoose, nat_le, nat_lt, nat_tests, next_entry, No, no_key, None, not, not-false, not-true, Ok, on_held, opens, opens_pair, Option, or_true, OutOfMemory, outside_key, paired, pass_indicator, past, past_blanks_and_comment, past_line_rest, peek, Position, position_after, Problem, Read, read_as, refl, refused_as, remove_implicit_key, Result, roll_entry, roll_indent, roll_one_col_indent, same_alpha, ScannerState, skip_indicator, skip_yaml_whitespace, slice_index, Some, space, spaces_are_passed, subst, suc, sym, taken, takes_pair, Tok, top_key, true, try_held, unroll_indent, waits, white, Whitespace, Yes, ℕ, ◌&&◌, ◌++◌, ◌-◌, ◌==◌, ◌||◌, ◌∙◌, ◌∷◌, ◌≡◌, ◌≤◌, ◌⊎◌, append-nil, comment_of, is_break, is_decimal_digit, is_letter, is_on_line, past_comment, deepen, drop_open_level, with_top, in_block, Indent, level, ◌+◌}
+use Rattle.proof_scanner.proofs.Common.{[], allow_key, and_false, and_parts, ap, append_assoc, AreEntries, arith, Arrives, At, begin_flow, begin_key, begin_keyless_mapping, begin_keyless_pair, begin_keyless_value, begin_line, begin_pair, begins_entry, begins_free_line, begins_with, begins_with_alpha, begins_with_space_or_break, blanks_and_comment, Bool, check_after_tab, check_block_entry, check_dash, check_document_end, check_key_space, check_value_space, chosen, closed_key, Collection, colon_may_precede, deepened_flow, directive_of, directives_end, end_entry, end_flow, ended_flow, entries_by, Entry, eqb-true, Err, false, Fault, fetch_block_entry, fetch_directive, fetch_document_end, fetch_document_marker, fetch_flow_collection_end, fetch_flow_collection_start, fetch_flow_entry, fetch_key, fetch_value, flow_level, FlowLevel, followed_first, free, further, go_on, has, has_no_break, HasNoKey, HasSpaces, Held, held_of, Holds, if◌then◌else◌, in_flow, increase_flow_level, inl, inr, insert_key, is_alphanumeric, is_at_gap, is_blank, is_blank_or_breakz, is_breakz, is_empty, is_free, is_full, is_one_of, is_required, is_separation, is_taken, is_taken_line, is_value, is_value_here, IsDirectiveRefusal, IsFollowed, IsLineHere, IsLookedAt, IsOpenOutside, IsPlace, Key, leading, length, lexed, Line, line_by, line_past_separation, List, may_ask, may_not_stand, MayChoose, nat_le, nat_lt, nat_tests, next_entry, No, no_key, None, not, not-false, not-true, Ok, on_held, opens, opens_pair, Option, or_true, OutOfMemory, outside_key, paired, pass_indicator, past, past_blanks_and_comment, past_line_rest, peek, Position, position_after, Problem, Read, read_as, refl, refused_as, remove_implicit_key, Result, roll_entry, roll_indent, roll_one_col_indent, same_alpha, ScannerState, skip_indicator, skip_yaml_whitespace, slice_index, Some, space, spaces_are_passed, subst, suc, sym, taken, takes_pair, Tok, top_key, true, try_held, unroll_indent, waits, white, Whitespace, Yes, ℕ, ◌&&◌, ◌++◌, ◌-◌, ◌==◌, ◌||◌, ◌∙◌, ◌∷◌, ◌≡◌, ◌≤◌, ◌⊎◌, append-nil, comment_of, is_break, is_decimal_digit, is_letter, is_on_line, past_comment, deepen, drop_open_level, with_top, in_block, Indent, level, ◌+◌, BlockEntryInFlow, BlockEntryNotAllowed, ColonMisplaced, CommentNotSeparated, ContentAfterDocumentEnd, FlowTooDeep, KeyExpected, KeyNotAllowed, TabAfterColon, TabAfterDash, TabAfterKey, ValueNotAllowed, WhitespaceExpected}
 use Rattle.yaml_chars.specs.Class.{is_alpha}
 use Rattle.model_scanner.specs.Directive.{directive}
 use Rattle.model_scanner.specs.State.{after}
@@ -23,7 +23,6 @@ use Rattle.proof_scanner.proofs.Refusals.PiecesRefused.{among}
 use Rattle.defs_text.specs.Classes as classes
 use Rattle.defs_text.specs.Tags as tags
 use Rattle.defs_token.specs.FlowEntry as entry
-use Rattle.yaml_tokens.specs.declared.problem.Problem.TheVariants as problem
 use Rattle.model_scanner.proofs.Holds as holds
 use Rattle.proof_lexers.specs.DirectiveEnds as directives
 use Rattle.proof_lexers.specs.PlainEnds as plain_ends
@@ -76,7 +75,7 @@ no_space blanks b h letter = grind (arith, among, line_end, append-nil)
 
 remove_told : (text : List ℕ) (s : Held) → (is_required (top_key s.keys) ≡ true → IsRowless text) → Faults (Said text) (remove_implicit_key s)
 unfolding remove_implicit_key
-remove_told text s rowless = rowless_told text (is_required (top_key s.keys)) problem.KeyExpected s.position _ refl rowless
+remove_told text s rowless = rowless_told text (is_required (top_key s.keys)) KeyExpected s.position _ refl rowless
 
 line_told : (text : List ℕ) (s : Held) → (is_required (top_key s.keys) ≡ true → IsRowless text) → Faults (Said text) (begin_line s)
 unfolding begin_line
@@ -129,7 +128,7 @@ module _ (text : List ℕ) (t : ScannerState) (a : Arrives text t) (some : is_em
   unfolding check_document_end
   end_checked u v more e gap col m s =
       either (is_breakz (peek v.rest)) (λ _. goes) (λ i.
-      fault {f = At problem.ContentAfterDocumentEnd v.held.position} (followed_at problem.ContentAfterDocumentEnd v.held.position (further 3 t.held.position) (s.blanks ++ s.comment) v.rest
+      fault {f = At ContentAfterDocumentEnd v.held.position} (followed_at ContentAfterDocumentEnd v.held.position (further 3 t.held.position) (s.blanks ++ s.comment) v.rest
       (ap (λ h. h.position) s.is_held ∙ ap (λ q. position_after q (s.blanks ++ s.comment) v.rest) m.1)
       (none.after_end more (s.blanks ++ s.comment) v.rest col e gap (record { is_text = sym m.0 ∙ (s.is_rest ∙ sym (append_assoc s.blanks s.comment v.rest)); is_filled = s.is_filled; is_on_line = s.no_break }) (not_at_end v.rest i) (solid_past v.rest s.ends i)) (λ c may. tt)))
 
@@ -169,10 +168,10 @@ module _ (text : List ℕ) (t : ScannerState) (a : Arrives text t) (some : is_em
   entry_checked : (more : List ℕ) → t.rest ≡ 45 ∷ more → is_at_gap more ≡ true → Faults (Said text) (check_block_entry t.held)
   unfolding check_block_entry
   entry_checked more e gap =
-      checked (in_flow t.held) (At problem.BlockEntryInFlow t.held.position)
-      (λ i _. stuck text t a some [] problem.BlockEntryInFlow t.held.position (λ c may. record { fails = may_not_stand (defs.dash_in_flow more e gap (in_flow_is text t a some c [] ∙ i)); is_first = looked_at text t a some lies c [] })) (λ o.
-      checked (not t.held.key_allowed) (At problem.BlockEntryNotAllowed t.held.position)
-      (λ n _. stuck text t a some [] problem.BlockEntryNotAllowed t.held.position (λ c may.
+      checked (in_flow t.held) (At BlockEntryInFlow t.held.position)
+      (λ i _. stuck text t a some [] BlockEntryInFlow t.held.position (λ c may. record { fails = may_not_stand (defs.dash_in_flow more e gap (in_flow_is text t a some c [] ∙ i)); is_first = looked_at text t a some lies c [] })) (λ o.
+      checked (not t.held.key_allowed) (At BlockEntryNotAllowed t.held.position)
+      (λ n _. stuck text t a some [] BlockEntryNotAllowed t.held.position (λ c may.
       record { fails = may_not_stand (defs.dash_not_free more e gap (in_flow_is text t a some c [] ∙ o) (line_taken c [] may (is_outside o) (not-true t.held.key_allowed n))); is_first = looked_at text t a some lies c [] })) (λ _. goes))
 
   -- a character of a text stands in it with more after it
@@ -190,29 +189,29 @@ module _ (text : List ℕ) (t : ScannerState) (a : Arrives text t) (some : is_em
   dash_checked more e gap outside allowed h place x k = by x (read_as k (spaces_are_passed Yes more h.position))
     where
       reason : (blanks comment rest : List ℕ) → more ≡ blanks ++ (comment ++ rest) → is_separation false (blanks ++ comment) rest ≡ true → plain_ends.has_break (blanks ++ comment) ≡ false
-          → (has 9 blanks && (slice_index rest 0 == 45) && is_blank_or_breakz (slice_index rest 1)) ≡ true → Said text (At problem.TabAfterDash (position_after h.position (blanks ++ comment) rest))
+          → (has 9 blanks && (slice_index rest 0 == 45) && is_blank_or_breakz (slice_index rest 1)) ≡ true → Said text (At TabAfterDash (position_after h.position (blanks ++ comment) rest))
       reason blanks comment rest cut fills line all =
           let second = and_parts (has 9 blanks && (slice_index rest 0 == 45)) (is_blank_or_breakz (slice_index rest 1)) all in
           let first = and_parts (has 9 blanks) (slice_index rest 0 == 45) second.0 in
           let d = first_after rest 45 first.1 refl in
           let gap2 : is_at_gap d.0 ≡ true = sym (gap_here d.0) ∙ (ap (λ l. is_blank_or_breakz (slice_index l 1)) (sym d.1) ∙ second.1) in
-          followed_at problem.TabAfterDash _ (further 1 t.held.position) (blanks ++ comment) rest (ap (λ q. position_after q (blanks ++ comment) rest) place)
+          followed_at TabAfterDash _ (further 1 t.held.position) (blanks ++ comment) rest (ap (λ q. position_after q (blanks ++ comment) rest) place)
           (none.tab_after_dash more (blanks ++ comment) rest outside e gap (record { is_text = cut ∙ sym (append_assoc blanks comment rest); is_filled = fills; is_on_line = line })
           (has_more blanks comment first.0) (ap begins_entry d.1 ∙ gap2)) (λ c may. line_not_taken c [] may (is_outside outside) allowed)
 
-      by : (y : Read Whitespace) → HasSpaces Yes h.position more y → Faults (Said text) (if y.value.found_tabs && (slice_index y.rest 0 == 45) && is_blank_or_breakz (slice_index y.rest 1) then Err (At problem.TabAfterDash y.position) else Ok (go_on y h))
+      by : (y : Read Whitespace) → HasSpaces Yes h.position more y → Faults (Said text) (if y.value.found_tabs && (slice_index y.rest 0 == 45) && is_blank_or_breakz (slice_index y.rest 1) then Err (At TabAfterDash y.position) else Ok (go_on y h))
       by y (separations.spaces blanks comment rest cut are fills line ends) =
-          checked (has 9 blanks && (slice_index rest 0 == 45) && is_blank_or_breakz (slice_index rest 1)) (At problem.TabAfterDash (position_after h.position (blanks ++ comment) rest)) (reason blanks comment rest cut fills line) (λ _. goes)
+          checked (has 9 blanks && (slice_index rest 0 == 45) && is_blank_or_breakz (slice_index rest 1)) (At TabAfterDash (position_after h.position (blanks ++ comment) rest)) (reason blanks comment rest cut fills line) (λ _. goes)
 
   entry_outside : Holds (λ s. (in_flow t.held ≡ false) × (t.held.key_allowed ≡ true) × (s ≡ t.held)) (check_block_entry t.held)
   unfolding check_block_entry
   entry_outside =
-      holds.checked (in_flow t.held) (At problem.BlockEntryInFlow t.held.position) (λ o. holds.checked (not t.held.key_allowed) (At problem.BlockEntryNotAllowed t.held.position) (λ n. holds.went (o, not-false t.held.key_allowed n, refl)))
+      holds.checked (in_flow t.held) (At BlockEntryInFlow t.held.position) (λ o. holds.checked (not t.held.key_allowed) (At BlockEntryNotAllowed t.held.position) (λ n. holds.went (o, not-false t.held.key_allowed n, refl)))
 
   -- no comment stands after what was passed behind a dash
   dash_spaced : (u : ScannerState) → Holds (λ v. (begins_with 35 v.rest ≡ false) × (v.held.keys ≡ u.held.keys)) (lexed (space Yes u.rest u.held.position) u.held check_dash)
   unfolding check_dash
-  dash_spaced u = grind (arith, nat_tests, eqb-true, spaced, check_dash, begins_with, holds.checked, slice_index, is_blank_or_breakz, problem.TabAfterDash, holds.went, no_comment_left)
+  dash_spaced u = grind (arith, nat_tests, eqb-true, spaced, check_dash, begins_with, holds.checked, slice_index, is_blank_or_breakz, TabAfterDash, holds.went, no_comment_left)
 
   pub dash_told : (more : List ℕ) → t.rest ≡ 45 ∷ more → is_at_gap more ≡ true → Faults (Said text) (fetch_block_entry t)
   unfolding fetch_block_entry
@@ -235,13 +234,13 @@ module _ (text : List ℕ) (t : ScannerState) (a : Arrives text t) (some : is_em
   unfolding begin_key
   key_begun more e gap =
       either (in_flow t.held) (λ _. goes) (λ o.
-      checked (not t.held.key_allowed) (At problem.KeyNotAllowed t.held.position)
-      (λ n _. stuck text t a some [] problem.KeyNotAllowed t.held.position (λ c may.
+      checked (not t.held.key_allowed) (At KeyNotAllowed t.held.position)
+      (λ n _. stuck text t a some [] KeyNotAllowed t.held.position (λ c may.
       record { fails = may_not_stand (defs.question_not_free more e gap (in_flow_is text t a some c [] ∙ o) (line_taken c [] may (is_outside o) (not-true t.held.key_allowed n))); is_first = looked_at text t a some lies c [] })) (λ _. goes))
 
   key_place : Holds (λ s. Stays s t.held × ((in_flow t.held || t.held.key_allowed) ≡ true)) (begin_key t.held)
   unfolding begin_key
-  key_place = grind (arith, nat_tests, eqb-true, holds.either, in_flow, holds.went, holds.checked, not, problem.KeyNotAllowed, rolled_stays, not-false)
+  key_place = grind (arith, nat_tests, eqb-true, holds.either, in_flow, holds.went, holds.checked, not, KeyNotAllowed, rolled_stays, not-false)
 
   white_told : (in_flow t.held || t.held.key_allowed) ≡ true → (more : List ℕ) → t.rest ≡ 63 ∷ more → is_at_gap more ≡ true → (u : ScannerState) → u.rest ≡ more → u.held.position ≡ past t.held.position → Faults (Said text) (skip_yaml_whitespace u)
   unfolding skip_yaml_whitespace
@@ -250,8 +249,8 @@ module _ (text : List ℕ) (t : ScannerState) (a : Arrives text t) (some : is_em
       by : (begins_with_space_or_break more ≡ true) ⊎ IsMissed more u.held → Faults (Said text) (white false false u.rest u.held)
       by (inl begins) = subst (λ x. Faults (Said text) x) (sym (white_goes u (ap begins_with_space_or_break left ∙ begins))) goes
       by (inr m) =
-          subst (λ x. Faults (Said text) x) (sym (ap (λ r. white false false r u.held) left ∙ m.is_refused)) (fault {f = At problem.WhitespaceExpected u.held.position}
-          (followed_at problem.WhitespaceExpected u.held.position (further 1 t.held.position) [] more place
+          subst (λ x. Faults (Said text) x) (sym (ap (λ r. white false false r u.held) left ∙ m.is_refused)) (fault {f = At WhitespaceExpected u.held.position}
+          (followed_at WhitespaceExpected u.held.position (further 1 t.held.position) [] more place
           (none.no_space more [] more e gap (record { is_text = refl; is_filled = refl; is_on_line = refl }) m.no_space m.ends) (λ c may. (asks asked c may, refl))))
 
   tab_first : (r : List ℕ) → (peek r == 9) ≡ true → r ≡ 9 ∷ after r
@@ -264,10 +263,10 @@ module _ (text : List ℕ) (t : ScannerState) (a : Arrives text t) (some : is_em
       let begins : begins_with_space_or_break more ≡ true = held_of w (white_first more u.held gap) (ap (λ r. white false false r u.held) (sym left) ∙ k) in
       let separation : List ℕ = white_of false u.rest in
       let rest : List ℕ = past_white false u.rest in
-      subst (λ (z : ScannerState). Faults (Said text) (if peek z.rest == 9 then Err (At problem.TabAfterKey z.held.position) else Ok z)) (sym exact.0)
-      (checked (peek rest == 9) (At problem.TabAfterKey (position_after u.held.position separation rest)) (λ tab.
+      subst (λ (z : ScannerState). Faults (Said text) (if peek z.rest == 9 then Err (At TabAfterKey z.held.position) else Ok z)) (sym exact.0)
+      (checked (peek rest == 9) (At TabAfterKey (position_after u.held.position separation rest)) (λ tab.
       let first : rest ≡ 9 ∷ after rest = tab_first rest tab in
-      followed_at problem.TabAfterKey (position_after u.held.position separation rest) (further 1 t.held.position) separation (9 ∷ after rest)
+      followed_at TabAfterKey (position_after u.held.position separation rest) (further 1 t.held.position) separation (9 ∷ after rest)
       (ap (λ q. position_after q separation rest) place ∙ ap (λ r. position_after (further 1 t.held.position) separation r) first)
       (none.tab_after_question more separation (after rest) e gap (sym left ∙ (white_cut false u.rest ∙ ap (λ r. separation ++ r) first)) (subst (λ r. is_separation false separation r ≡ true) first exact.1))
       (λ c may. (asks asked c may, begins, no_tab_in false u.rest))) (λ _. goes))
@@ -299,13 +298,13 @@ module _ (text : List ℕ) (t : ScannerState) (a : Arrives text t) (some : is_em
   single_key : (allowed again : Bool) (fs : List FlowLevel) (ks : List (Option Key)) (es : List Entry) (k : Key) → AreEntries allowed again fs ks es → opens_pair fs ≡ true → top_key ks ≡ Some k → SingleKey k (entries_by (true ∷ []) ks es)
   single_key allowed again a ks es k h o e = grind arith
 
-  misplaced : (more : List ℕ) → t.rest ≡ 58 ∷ more → colon_may_precede more ≡ true → is_value t ≡ true → (k : Key) → top_key t.held.keys ≡ Some k → opens_pair t.held.flow ≡ true → nat_lt k.position.line t.held.position.line ≡ true → Said text (At problem.ColonMisplaced t.held.position)
+  misplaced : (more : List ℕ) → t.rest ≡ 58 ∷ more → colon_may_precede more ≡ true → is_value t ≡ true → (k : Key) → top_key t.held.keys ≡ Some k → opens_pair t.held.flow ≡ true → nat_lt k.position.line t.held.position.line ≡ true → Said text (At ColonMisplaced t.held.position)
   misplaced more e apart i k top opens late = λ _.
       let s : SingleKey k (entries_by (true ∷ []) t.held.keys a.base.entries) = single_key t.held.key_allowed _ t.held.flow t.held.keys a.base.entries k a.are_entries opens top in
-      stuck text t a some (true ∷ []) problem.ColonMisplaced t.held.position (λ c may.
+      stuck text t a some (true ∷ []) ColonMisplaced t.held.position (λ c may.
       record { fails = may_not_stand (defs.key_on_earlier_line more k.position s.first s.around e (value_here more e i c (true ∷ [])) s.are s.takes s.had_is (grind (arith, nat_tests, late))); is_first = (looked_at text t a some lies c (true ∷ []), apart) })
 
-  not_allowed : (more : List ℕ) → t.rest ≡ 58 ∷ more → colon_may_precede more ≡ true → is_value t ≡ true → top_key t.held.keys ≡ None → in_flow t.held ≡ false → t.held.key_allowed ≡ false → Said text (At problem.ValueNotAllowed t.held.position)
+  not_allowed : (more : List ℕ) → t.rest ≡ 58 ∷ more → colon_may_precede more ≡ true → is_value t ≡ true → top_key t.held.keys ≡ None → in_flow t.held ≡ false → t.held.key_allowed ≡ false → Said text (At ValueNotAllowed t.held.position)
   not_allowed more e apart i top o allowed = λ _.
       let out : is_empty t.held.flow ≡ true = is_outside o in
       let none_in : a.base.entries ≡ [] = no_entries t.held.key_allowed _ t.held.flow t.held.keys a.base.entries out a.are_entries in
@@ -320,13 +319,13 @@ module _ (text : List ℕ) (t : ScannerState) (a : Arrives text t) (some : is_em
 
   pair_told : (more : List ℕ) → t.rest ≡ 58 ∷ more → colon_may_precede more ≡ true → is_value t ≡ true → (k : Key) → top_key t.held.keys ≡ Some k → (pair : Bool) → opens_pair t.held.flow ≡ pair → (s : Held) → Faults (Said text) (begin_pair k t.held.position pair s)
   unfolding begin_pair
-  pair_told more e apart i k top true opens s = checked (nat_lt k.position.line t.held.position.line) (At problem.ColonMisplaced t.held.position) (λ late. misplaced more e apart i k top opens late) (λ _. goes)
+  pair_told more e apart i k top true opens s = checked (nat_lt k.position.line t.held.position.line) (At ColonMisplaced t.held.position) (λ late. misplaced more e apart i k top opens late) (λ _. goes)
   pair_told more e apart i k top false opens s = goes
 
   mapping_told : (more : List ℕ) → t.rest ≡ 58 ∷ more → colon_may_precede more ≡ true → is_value t ≡ true → top_key t.held.keys ≡ None → (s : Held) → in_flow s ≡ in_flow t.held → s.key_allowed ≡ t.held.key_allowed → Faults (Said text) (begin_keyless_mapping t.held.position s)
   unfolding begin_keyless_mapping
   mapping_told more e apart i top s flow allowed =
-      either (in_flow s) (λ _. goes) (λ o. checked (not s.key_allowed) (At problem.ValueNotAllowed t.held.position) (λ n. not_allowed more e apart i top (sym flow ∙ o) (sym allowed ∙ not-true s.key_allowed n)) (λ _. goes))
+      either (in_flow s) (λ _. goes) (λ o. checked (not s.key_allowed) (At ValueNotAllowed t.held.position) (λ n. not_allowed more e apart i top (sym flow ∙ o) (sym allowed ∙ not-true s.key_allowed n)) (λ _. goes))
 
   tab_checked : (more : List ℕ) → t.rest ≡ 58 ∷ more → begins_with 9 more ≡ true → (h : Held) → h.position ≡ past t.held.position → (x : Read Whitespace) → space Yes more h.position ≡ Ok x → Faults (Said text) (check_after_tab x.value (go_on x h))
   unfolding check_after_tab is_alpha is_alphanumeric
@@ -335,11 +334,11 @@ module _ (text : List ℕ) (t : ScannerState) (a : Arrives text t) (some : is_em
       let exactly : Read Whitespace = record { rest = past_blanks_and_comment more; position = past_line_rest h.position more; value = found_in (leading is_blank more) } in
       let same : exactly ≡ x = cc (exact, k) in
       let letter : (r : List ℕ) → ((peek r == 45) || is_alpha (peek r)) ≡ true → begins_with_alpha r ≡ true = λ r f. grind (arith, same_alpha) in
-      subst (λ (z : Read Whitespace). Faults (Said text) (if not z.value.has_valid_yaml_ws && ((peek z.rest == 45) || is_alpha (peek z.rest)) then Err (At problem.TabAfterColon z.position) else Ok (go_on z h))) same
-      (checked (not (is_one_of (leading is_blank more) 32) && ((peek (past_blanks_and_comment more) == 45) || is_alpha (peek (past_blanks_and_comment more)))) (At problem.TabAfterColon (past_line_rest h.position more)) (λ all.
+      subst (λ (z : Read Whitespace). Faults (Said text) (if not z.value.has_valid_yaml_ws && ((peek z.rest == 45) || is_alpha (peek z.rest)) then Err (At TabAfterColon z.position) else Ok (go_on z h))) same
+      (checked (not (is_one_of (leading is_blank more) 32) && ((peek (past_blanks_and_comment more) == 45) || is_alpha (peek (past_blanks_and_comment more)))) (At TabAfterColon (past_line_rest h.position more)) (λ all.
       let first = and_parts (not (is_one_of (leading is_blank more) 32)) ((peek (past_blanks_and_comment more) == 45) || is_alpha (peek (past_blanks_and_comment more))) all in
       let alpha : begins_with_alpha (past_blanks_and_comment more) ≡ true = letter (past_blanks_and_comment more) first.1 in
-      followed_at problem.TabAfterColon _ (further 1 t.held.position) (blanks_and_comment more) (past_blanks_and_comment more)
+      followed_at TabAfterColon _ (further 1 t.held.position) (blanks_and_comment more) (past_blanks_and_comment more)
       (same_in_line h.position (blanks_and_comment more) [] (past_blanks_and_comment more) (line_rest_in_line more) ∙ ap (λ q. position_after q (blanks_and_comment more) (past_blanks_and_comment more)) place)
       (none.tab_after_colon more (blanks_and_comment more) (past_blanks_and_comment more) e tab
       (record { is_text = line_rest_cut more; is_filled = line_rest_fills more; is_on_line = same_has_break (blanks_and_comment more) ∙ ap not (line_rest_in_line more) })
@@ -355,7 +354,7 @@ module _ (text : List ℕ) (t : ScannerState) (a : Arrives text t) (some : is_em
   -- only the position is another
   value_held : (u : ScannerState) → Holds (λ w. w.held ≡ record u.held { position = w.held.position }) (check_value_space u)
   unfolding check_value_space check_after_tab
-  value_held u = grind (arith, nat_tests, eqb-true, holds.either, peek, holds.read, space, check_after_tab, holds.checked, not, is_alpha, problem.TabAfterColon, holds.went)
+  value_held u = grind (arith, nat_tests, eqb-true, holds.either, peek, holds.read, space, check_after_tab, holds.checked, not, is_alpha, TabAfterColon, holds.went)
 
   pub colon_told : (more : List ℕ) → t.rest ≡ 58 ∷ more → is_value t ≡ true → Faults (Said text) (fetch_value t)
   unfolding fetch_value insert_key begin_keyless_value
@@ -387,7 +386,7 @@ module _ (text : List ℕ) (t : ScannerState) (a : Arrives text t) (some : is_em
   unfolding pass_indicator
   indicator_passed c more e is room u h =
       spaces_told text Yes (skip_indicator u) (λ k.
-      followed_at problem.CommentNotSeparated (past u.held.position) (further 1 t.held.position) [] (after u.rest) (ap past h.1)
+      followed_at CommentNotSeparated (past u.held.position) (further 1 t.held.position) [] (after u.rest) (ap past h.1)
       (none.glued c more e is (ap (λ r. begins_with 35 (after r)) (sym e) ∙ (ap (λ r. begins_with 35 (after r)) (sym h.0) ∙ k))) (λ d may. ap (λ n. opens c && nat_le 255 n) (sym many_here) ∙ room))
 
   begun_here : (kind : Collection) → Holds (λ s. (s.position ≡ t.held.position) × (nat_le 255 (length t.held.flow) ≡ false)) (begin_flow kind t.held)
@@ -400,10 +399,10 @@ module _ (text : List ℕ) (t : ScannerState) (a : Arrives text t) (some : is_em
   flow_begun : (kind : Collection) (bracket : ℕ) (more : List ℕ) → t.rest ≡ bracket ∷ more → (bracket ≡ 91) ⊎ (bracket ≡ 123) → Faults (Said text) (begin_flow kind t.held)
   unfolding begin_flow increase_flow_level
   flow_begun kind bracket more e is =
-      subst (λ s. Faults (Said text) (deepened_flow (if nat_le 255 (length s.flow) then Err (At problem.FlowTooDeep s.position) else Ok (record s { keys = None ∷ s.keys; flow = flow_level kind ∷ s.flow }))))
+      subst (λ s. Faults (Said text) (deepened_flow (if nat_le 255 (length s.flow) then Err (At FlowTooDeep s.position) else Ok (record s { keys = None ∷ s.keys; flow = flow_level kind ∷ s.flow }))))
       (sym (ap roll_one_col_indent (saved_is t.held) ∙ rolled_one_is (record t.held { keys = saved_keys t.held })))
-      (kept deepened_flow (λ e. refl) (λ x. goes) (checked (nat_le 255 (length t.held.flow)) (At problem.FlowTooDeep t.held.position) (λ full _.
-      stuck text t a some [] problem.FlowTooDeep t.held.position (λ c may.
+      (kept deepened_flow (λ e. refl) (λ x. goes) (checked (nat_le 255 (length t.held.flow)) (At FlowTooDeep t.held.position) (λ full _.
+      stuck text t a some [] FlowTooDeep t.held.position (λ c may.
       let room : 255 ≤ length t.held.flow = grind (arith, nat_tests, full) in
       record { fails = may_not_stand (defs.too_deep bracket more e is (omega (arith, many_here, room))); is_first = looked_at text t a some lies c [] })) (λ _. goes)))
 

@@ -1,14 +1,13 @@
 -- A key that must be one waits in each row of the text; and while it waits no line ends. So no row goes on where a beginning has only gone on over a line's end by making no key of it.
 use Rattle.proof_scanner.proofs.Common.{[], Account, account_past, Act, act_of, ap, arith, begins_free_line, begins_separation, BeginsButForKey, blocks_at, Bool, Entry, fails, false, first_account, free, gives_node, has_break, HasRow, inl, inr, is_empty, is_in_column, is_in_flow, is_marker, is_separation, is_waiting, IsRowFrom, IsWritten, key_waits, length, LikeEntries, LikeLine, Line, line_past, line_past_separation, List, no_key, no_nul_after, None, not, not-true, not_ended, Outside, Position, position_after, position_in_line, previous_by, refl, Row, same_flow, Site, site_at, Some, spelled, Step, subst, sym, taken, TextsWithARowAreNotStuck, Tok, true, waits, ℕ, ◌&&◌, ◌++◌, ◌+◌, ◌<◌, ◌∙◌, ◌∷◌, ◌≡◌, ◌≤◌, ◌⊎◌, eqb-true, nat_tests}
 use Rattle.proof_scanner.proofs.Sound.Sides.{with_entries}
-use Rattle.proof_scanner.proofs.Refusals.PiecesHere.{marker_begins}
+use Rattle.proof_scanner.proofs.Refusals.PiecesRefused.{marker_begins}
 use Rattle.proof_scanner.proofs.Known.Made.{same_of, waited, still_there, like_past, Waits, begun, kept, waits_past, Made, outside, inside, made}
 use Rattle.proof_scanner.proofs.Known.Rows.{Walked, walk}
 use Rattle.proof_scanner.proofs.Known.Ways.{Same, With, strictly}
 use Rattle.proof_scanner.proofs.Known.Places.{step_here}
-use Rattle.proof_scanner.proofs.Refusals.WaitingKeys.{none_ends, goes_near}
+use Rattle.proof_scanner.proofs.Refusals.OtherRows.{none_ends, goes_near, Keeps, keeps_on, row_begins}
 use Rattle.proof_scanner.proofs.Refusals.NoRows.{failing_places_have_no_row, no_keyless_colon}
-use Rattle.proof_scanner.proofs.Refusals.OtherRows.{Keeps, keeps_on, row_begins}
 use Rattle.proof_row.proofs.CutColumns.{unbroken}
 use Rattle.proof_scanner.proofs.Sound.Arrivals.{not_none}
 

@@ -1,16 +1,13 @@
 -- Where a condition of these kinds fails no row of the text goes on.
-use Rattle.proof_scanner.proofs.Common.{Account, after_blank, ap, arith, AreNotIndented, before_by, before_past, Begins, begins_separation, begins_token, Bool, comes_plain, FailingPlacesHaveNoRow, Fails, false, goes_over, HasNoKey, HasRow, innermost, is_adjacent, is_blanks, is_empty, is_in_flow, is_indented_by_spaces, is_separation, is_taken, is_value_here, IsBlockFault, IsFollowed, IsPlace, IsPlainFault, IsQuoted, IsQuotedFault, least_column, List, MayNotStand, nat_lt, NoPiece, on_line, Position, position_after, Problem, quoted_scalar, refl, Row, Site, site_at_place, stand_after, tab, true, ℕ, ◌++◌, ◌∙◌, ◌∷◌, ◌≡◌}
+use Rattle.proof_scanner.proofs.Common.{Account, after_blank, ap, arith, AreNotIndented, before_by, before_past, Begins, begins_separation, begins_token, Bool, comes_plain, FailingPlacesHaveNoRow, Fails, false, goes_over, HasNoKey, HasRow, innermost, is_adjacent, is_blanks, is_empty, is_in_flow, is_indented_by_spaces, is_separation, is_taken, is_value_here, IsBlockFault, IsFollowed, IsPlace, IsPlainFault, IsQuoted, IsQuotedFault, least_column, List, MayNotStand, nat_lt, NoPiece, on_line, Position, position_after, Problem, quoted_scalar, refl, Row, Site, site_at_place, stand_after, tab, true, ℕ, ◌++◌, ◌∙◌, ◌∷◌, ◌≡◌, PlainTab, TabInBlockIndentation}
 use Rattle.defs_text.specs.Classes as classes
-use Rattle.yaml_tokens.specs.declared.problem.Problem.TheVariants as problem
 use Rattle.proof_scanner.specs.NoPiece as none
 use Rattle.proof_scanner.specs.QuotedLines as quoted_lines
 use Rattle.proof_scanner.specs.Failing as defs
 use Rattle.proof_scanner.proofs.Refusals.OtherRows.{StepAt, IsClearAfter, clear_of_gap, RowAt, row_at}
-use Rattle.proof_scanner.proofs.Refusals.PiecesHere.{no_at_sign, no_backtick, no_percent, no_name, no_dash, no_bracket}
+use Rattle.proof_scanner.proofs.Refusals.PiecesRefused.{no_at_sign, no_backtick, no_percent, no_name, no_dash, no_bracket, no_shallow, no_tabbed_dash, no_tabbed_colon, no_document_end, no_quoted_end, no_block_end, no_tab_after_quoted, no_tabbed_line, no_dash_here, no_question_here, no_space_after, no_tab_after, no_colon_here, spaces_indent, no_late_colon, no_glued, no_glued_quoted}
 use Rattle.proof_scanner.proofs.Refusals.PlainsRefused.{no_column, no_dash as no_plain_dash, no_tab}
 use Rattle.proof_scanner.proofs.Refusals.TextsRefused.{no_block_tab, no_tag, no_directive, no_block_header, no_quoted_text, no_quoted_lines}
-use Rattle.proof_scanner.proofs.Refusals.StandsRefused.{no_tab_after_quoted, no_tabbed_line, no_dash_here, no_question_here, no_space_after, no_tab_after, no_colon_here, spaces_indent, no_late_colon, no_glued, no_glued_quoted}
-use Rattle.proof_scanner.proofs.Refusals.PiecesRefused.{no_shallow, no_tabbed_dash, no_tabbed_colon, no_document_end, no_quoted_end, no_block_end}
 
 -- ---- kinds
 
@@ -20,12 +17,12 @@ module _ {a : Account} {separation rest : List ℕ} {here : Position} (s : StepA
   OfPlain =
       comes_plain (is_in_flow a.entries) (is_adjacent (before_past (before_by a.site.before) separation)) here.col rest ≡ true → (before blanks more : List ℕ) (column : ℕ) → rest ≡ before ++ 9 ∷ (blanks ++ more)
       → goes_over (is_in_flow a.entries) (innermost (site_at_place a here).blocks) before (9 ∷ (blanks ++ more)) ≡ true → stand_after after_blank before ≡ on_line column → nat_lt column (least_column (site_at_place a here).blocks true) ≡ true
-      → is_blanks blanks ≡ true → begins_token more ≡ true → T problem.PlainTab here
+      → is_blanks blanks ≡ true → begins_token more ≡ true → T PlainTab here
 
   abbrev pub OfQuoted : Type 0
   OfQuoted =
       (single : Bool) (piece gap content : List ℕ) → rest ≡ piece ++ (gap ++ content) → IsQuoted single piece (gap ++ content) → is_separation false gap content ≡ true → is_empty content ≡ false → begins_separation content ≡ false
-      → is_indented_by_spaces quoted_scalar (site_at_place a here).blocks (site_at_place a here).awaits gap ≡ false → T problem.TabInBlockIndentation (position_after (position_after here piece (gap ++ content)) gap content)
+      → is_indented_by_spaces quoted_scalar (site_at_place a here).blocks (site_at_place a here).awaits gap ≡ false → T TabInBlockIndentation (position_after (position_after here piece (gap ++ content)) gap content)
 
   lines_other : (single : Bool) (why : Problem) (at : Position) → AreNotIndented single (least_column (site_at_place a here).blocks (site_at_place a here).awaits) rest → IsQuotedFault single (least_column (site_at_place a here).blocks (site_at_place a here).awaits) here rest why at → ⊥
   lines_other single why at lacks (quoted_lines.by_column body more es cut has solid further low) = no_quoted_lines s single (body ++ more) cut lacks

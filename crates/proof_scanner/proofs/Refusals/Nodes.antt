@@ -1,5 +1,5 @@
 -- Faults of names, tags and scalars: no such piece begins with the text.
-use Rattle.proof_scanner.proofs.Common.{anchor_name, and_parts, ap, are_single, Arrives, context, false, Fault, fetch_anchor, fetch_flow_scalar, fetch_tag, has_no_nul, in_flow, is_empty, is_nul, List, mark_of, NameKind, names_end, node_start, not, Ok, quoted, Quotes, Read, refused_as, ScannerState, subst, sym, tags_end, true, ℕ, ◌∙◌, ◌∷◌, ◌≡◌, [], append_assoc, begins_with, Bool, check_after_quoted, closed_first, columns, Context, has_break, has_open_level, held_of, inr, is_indented_by_spaces, is_separation, IsQuoted, may_not_stand, no_nul_after, Position, position_after, position_append, quoted_scalar, site_at_place, skip_to_next_token, ◌++◌, arith, eqb-true, nat_tests}
+use Rattle.proof_scanner.proofs.Common.{anchor_name, and_parts, ap, are_single, Arrives, context, false, Fault, fetch_anchor, fetch_flow_scalar, fetch_tag, has_no_nul, in_flow, is_empty, is_nul, List, mark_of, NameKind, names_end, node_start, not, Ok, quoted, Quotes, Read, refused_as, ScannerState, subst, sym, tags_end, true, ℕ, ◌∙◌, ◌∷◌, ◌≡◌, [], append_assoc, begins_with, Bool, check_after_quoted, closed_first, columns, Context, has_break, has_open_level, held_of, inr, is_indented_by_spaces, is_separation, IsQuoted, may_not_stand, no_nul_after, Position, position_after, position_append, quoted_scalar, site_at_place, skip_to_next_token, ◌++◌, arith, eqb-true, nat_tests, AnchorName, TabInBlockIndentation}
 use Rattle.model_scanner.specs.declared.kind.NameKind.TheVariants.{Alias, Anchor}
 use Rattle.proof_scanner.proofs.Cut.Nodes.{IsDeep}
 use Rattle.proof_scanner.proofs.Cut.Saved.{saved_is}
@@ -10,8 +10,7 @@ use Rattle.proof_scanner.proofs.Cut.Pieces.Separations.{separation_append}
 use Rattle.proof_scanner.proofs.Sound.Passed.{least_is, same_has_break}
 use Rattle.proof_scanner.proofs.Sound.QuotedEnds.{Checked, quoted_checked}
 use Rattle.proof_scanner.proofs.Refusals.AfterQuoted.{unglued}
-use Rattle.proof_scanner.proofs.Refusals.Tabs.{TabStands, skip_refused}
-use Rattle.yaml_tokens.specs.declared.problem.Problem.TheVariants as problem
+use Rattle.proof_scanner.proofs.Refusals.Passing.{TabStands, skip_refused}
 use Rattle.model_scanner.specs.Tag as tags
 use Rattle.proof_lexers.specs.NameEnds as names
 use Rattle.proof_lexers.specs.TagEnds as tag_ends
@@ -49,8 +48,8 @@ module _ (text : List ℕ) (t : ScannerState) (a : Arrives text t) (some : is_em
         let place : position_after v.held.position d.passed d.rest ≡ position_after end gap d.rest =
         ap (λ p. position_after p d.passed d.rest) (ap (λ h. h.position) c.spaces.is_held ∙ ap (λ r. position_after x.position spaces r) d.cut) ∙
         (sym (position_append x.position spaces d.passed d.rest) ∙ ap (λ p. position_after p gap d.rest) (q.end_is ∙ ap (λ r. position_after t.held.position scalar r) cut)) in
-        subst (λ g. Said text g) (sym d.is_fault) (λ _. subst (λ p. IsWhy text problem.TabInBlockIndentation p) (sym place)
-        (stuck text t a some [] problem.TabInBlockIndentation (position_after end gap d.rest) (λ k may.
+        subst (λ g. Said text g) (sym d.is_fault) (λ _. subst (λ p. IsWhy text TabInBlockIndentation p) (sym place)
+        (stuck text t a some [] TabInBlockIndentation (position_after end gap d.rest) (λ k may.
         record {
           fails = may_not_stand (defs.tab_after_quoted single scalar gap d.rest (q.cut ∙ ap (λ r. scalar ++ r) cut) (subst (λ r. (IsQuoted single scalar r)) cut (is text t a some lies single ctx x q same)) is_filled d.goes_on d.is_solid
               (ap (λ bs. is_indented_by_spaces quoted_scalar bs (site_at_place (account_by text t a some k []) t.held.position).awaits gap) (blocks_by text t a some k []) ∙
@@ -74,8 +73,8 @@ module _ (text : List ℕ) (t : ScannerState) (a : Arrives text t) (some : is_em
   name_told kind more e = read (node_start t.held) (anchor_name t.rest t.held.position) _ (λ f k. by kind e f (refused_as (ap (λ r. anchor_name r t.held.position) (sym e) ∙ k) (names_end (mark_of kind) more t.held.position))) (λ x k. goes)
     where
       by : (kind : NameKind) → t.rest ≡ mark_of kind ∷ more → (f : Fault) → names.IsNameRefusal t.held.position more f → Said text f
-      by Alias e f (names.nameless lacks) = λ _. none_here text t a some lies problem.AnchorName (none.nameless true more e lacks) tt
-      by Anchor e f (names.nameless lacks) = λ _. none_here text t a some lies problem.AnchorName (none.nameless false more e lacks) tt
+      by Alias e f (names.nameless lacks) = λ _. none_here text t a some lies AnchorName (none.nameless true more e lacks) tt
+      by Anchor e f (names.nameless lacks) = λ _. none_here text t a some lies AnchorName (none.nameless false more e lacks) tt
 
   -- `!`
   pub tag_told : (more : List ℕ) → t.rest ≡ 33 ∷ more → Faults (Said text) (fetch_tag t)

@@ -6,8 +6,7 @@ use Rattle.proof_row.proofs.Plains.{plains}
 use Rattle.proof_row.proofs.Written.{At}
 use Rattle.proof_lexers.proofs.Plain.Found.{tab_blank}
 use Rattle.proof_scanner.proofs.Refusals.OtherRows.{StepAt, IsClearGapAfter}
-use Rattle.proof_scanner.proofs.Refusals.PiecesHere.{acct, whole_at}
-use Rattle.proof_scanner.proofs.Refusals.StandsRefused.{node_site_past, flow_is, node_site, no_depth, no_lines, no_end}
+use Rattle.proof_scanner.proofs.Refusals.PiecesRefused.{acct, whole_at, node_site_past, flow_is, node_site, no_depth, no_lines, no_end}
 use Rattle.proof_scanner.proofs.Sound.PlainKeeps.{same_innermost, no_comment}
 use Rattle.defs_text.specs.Classes.{is_break, is_blank}
 use Rattle.proof_row.proofs.Runs.{joined, neither}

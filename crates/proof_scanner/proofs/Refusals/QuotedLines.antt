@@ -1,7 +1,6 @@
 -- The scan of a quoted scalar reads one, or refuses the text for what is wrong with it first.
-use Rattle.proof_scanner.proofs.Common.{position_append, [], cases_Bool, inl, inr, after_element, after_escaped, after_gap, after_quote, along, along_more, and_false, and_parts, ap, append-nil, arith, At, at_start, begins_further, begins_marked, Begun, begun, blank, Bool, break_further, content, Context, drop, element_of, ends_before, eqb-true, Err, escape, escaped_break, false, Fault, first_is_gap, first_fails, Folded, gap, in_gap, inside, is_document_marker, is_marked, is_some, append_cancel_right, ◌++◌, quoted_lines_fit, joined, line_break, LineStand, List, list_all, marked, Mode, nat_lt, nat_tests, None, not, not-true, nothing, off_margin, Ok, Option, OutOfMemory, past, past_element, past_escaped, past_is, Position, position_after, position_past, Problem, quoted, Read, refl, Result, scan, shallow, Some, Spelled, step, StepOf, steps, subst, suc, sym, take, true, white_stands, with_break, with_escaped_break, within, zero, ℕ, ◌&&◌, ◌+◌, ◌==◌, ◌∙◌, ◌∷◌, ◌≡◌, ◌≤◌, past_elements}
+use Rattle.proof_scanner.proofs.Common.{position_append, [], cases_Bool, inl, inr, after_element, after_escaped, after_gap, after_quote, along, along_more, and_false, and_parts, ap, append-nil, arith, At, at_start, begins_further, begins_marked, Begun, begun, blank, Bool, break_further, content, Context, drop, element_of, ends_before, eqb-true, Err, escape, escaped_break, false, Fault, first_is_gap, first_fails, Folded, gap, in_gap, inside, is_document_marker, is_marked, is_some, append_cancel_right, ◌++◌, quoted_lines_fit, joined, line_break, LineStand, List, list_all, marked, Mode, nat_lt, nat_tests, None, not, not-true, nothing, off_margin, Ok, Option, OutOfMemory, past, past_element, past_escaped, past_is, Position, position_after, position_past, Problem, quoted, Read, refl, Result, scan, shallow, Some, Spelled, step, StepOf, steps, subst, suc, sym, take, true, white_stands, with_break, with_escaped_break, within, zero, ℕ, ◌&&◌, ◌+◌, ◌==◌, ◌∙◌, ◌∷◌, ◌≡◌, ◌≤◌, past_elements, QuotedDocumentMarker, QuotedEnd, QuotedIndentation, TabAsIndentation}
 use Rattle.yaml_chars.specs.Class.{is_break, is_blank}
-use Rattle.yaml_tokens.specs.declared.problem.Problem.TheVariants as problem
 use Rattle.model_scanner.specs.Quoted.{after}
 use Rattle.model_scanner.specs.Quoted as model
 use Rattle.proof_lexers.proofs.Quoted.Faults.{escape_fails}
@@ -15,8 +14,8 @@ use Rattle.model_scanner.proofs.PlainLemmas.{break_leads}
 -- the faults of further lines
 abbrev pub is_of_lines : Fault → Bool
 is_of_lines OutOfMemory = false
-is_of_lines (At problem.QuotedIndentation p) = true
-is_of_lines (At problem.TabAsIndentation p) = true
+is_of_lines (At QuotedIndentation p) = true
+is_of_lines (At TabAsIndentation p) = true
 is_of_lines (At _ p) = false
 
 -- ---- texts
@@ -77,12 +76,12 @@ module _ (single : Bool) (ctx : Context) (start : Position) (least : ℕ) (limit
       further s m a unlike b = grind arith
 
       by : (marker : Bool) → ((p.col == 0) && is_document_marker (c ∷ b)) ≡ marker → Begun single ctx start (c ∷ b) p t → Ends s p (c ∷ b) (scan single ctx start (c ∷ b) gap p t)
-      by true h z = refused problem.QuotedDocumentMarker start (arrived (by_marker h)) (begins_marked single ctx start c b p t solid h)
+      by true h z = refused QuotedDocumentMarker start (arrived (by_marker h)) (begins_marked single ctx start c b p t solid h)
       by false h (begun none deep i) = on none (sym (limit p.col) ∙ deep) i
       by false h (marked g i) = absurd (cc (g, h))
       by false h (shallow g i) =
           let low : nat_lt p.col least ≡ true = sym (limit p.col) ∙ g in
-          refused problem.QuotedIndentation start (arrived (placed _ _ h (by_column (solid_here c b solid) (further s m stood unlike low) low))) i
+          refused QuotedIndentation start (arrived (placed _ _ h (by_column (solid_here c b solid) (further s m stood unlike low) low))) i
 
   -- ---- an element more
 
@@ -153,10 +152,10 @@ module _ (single : Bool) (ctx : Context) (start : Position) (least : ℕ) (limit
 
       tabbed : (s : LineStand) → begins_further s false ≡ true → (t.leading && (c == 9) && nat_lt (p.col + 1) ctx.indent) ≡ true → Ends s p (c ∷ b) here
       tabbed s further h =
-          let fails : here ≡ Err (At problem.TabAsIndentation p) = rw (f, g, h) refl in
+          let fails : here ≡ Err (At TabAsIndentation p) = rw (f, g, h) refl in
           let parts = and_parts (t.leading && (c == 9)) (nat_lt (p.col + 1) ctx.indent) h in
           let is_tab : c ≡ 9 = eqb-true c 9 (and_parts t.leading (c == 9) parts.0).1 in
-          refused problem.TabAsIndentation p (arrived (placed _ _ none (by_tab b (ap (λ x. x ∷ b) is_tab) further (sym (limit p.col) ∙ parts.1)))) fails
+          refused TabAsIndentation p (arrived (placed _ _ none (by_tab b (ap (λ x. x ∷ b) is_tab) further (sym (limit p.col) ∙ parts.1)))) fails
 
       open_line : (s : LineStand) → begins_further s false ≡ true → past_element s (blank c) ≡ at_start → t.leading ≡ true → Ends s p (c ∷ b) here
       open_line s further next leads = elim (cases_Bool (t.leading && (c == 9) && nat_lt (p.col + 1) ctx.indent)) [
@@ -216,7 +215,7 @@ module _ (single : Bool) (ctx : Context) (start : Position) (least : ℕ) (limit
       refused z.why start (arrived (placed _ _ none (by_escape r z.why double refl z.bad (rw (deep, and_false (begins_further s false)) refl)))) (i ∙ (grind arith))))
 
   unclosed_ends : Later []
-  unclosed_ends s p m t stood = refused problem.QuotedEnd start (arrived (placed _ _ (and_false (p.col == 0)) (by_end refl))) (grind arith)
+  unclosed_ends s p m t stood = refused QuotedEnd start (arrived (placed _ _ (and_false (p.col == 0)) (by_end refl))) (grind arith)
 
   none_ends : (c : ℕ) (b : List ℕ) → NoElement single c b → Later (c ∷ b)
   none_ends c b (closing e ended) = subst (λ x. Later (x ∷ b)) (sym e) (closed_ends b ended)

@@ -8,9 +8,8 @@ use Rattle.proof_scanner.specs.KnownKeys.{IsAt}
 use Rattle.proof_scanner.proofs.Known.Places.{piece_ends, at_end}
 use Rattle.proof_scanner.proofs.Refusals.KeysThatWait.{Waiting, waiting_past, here_on}
 use Rattle.proof_scanner.proofs.Known.Made.{still_there, Made, outside, inside, made}
-use Rattle.proof_scanner.proofs.Refusals.OtherRows.{StepAt, RowAt, row_at}
-use Rattle.proof_scanner.proofs.Refusals.WaitingKeys.{BeginsWith, begins_with_part, none_ends, goes_near}
-use Rattle.proof_scanner.proofs.Refusals.PiecesHere.{acct, whole_by}
+use Rattle.proof_scanner.proofs.Refusals.OtherRows.{StepAt, RowAt, row_at, BeginsWith, begins_with_part, none_ends, goes_near}
+use Rattle.proof_scanner.proofs.Refusals.PiecesRefused.{acct, whole_by}
 use Rattle.proof_scanner.proofs.Refusals.Places.{IsRowless, account_by, in_flow_is, place}
 
 -- ---- a row that goes through a place

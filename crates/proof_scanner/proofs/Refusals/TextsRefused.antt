@@ -1,8 +1,7 @@
 -- Where a tag, a directive or a block scalar's header is none, no row of the text goes on.
-use Rattle.proof_scanner.proofs.Common.{[], Account, after, all_of, alpha_starts, and_parts, ap, append-nil, are_marks, AreNotIndented, At, begins_flow, begins_with, begins_with_mark, block_may_end, block_read, block_token, BlockRead, BlockStyle, Body, body, Bool, context_of, decoded, decoded_some, directive_begins, directive_line, directive_of, double_quoted, eqb-true, Err, false, first_line, folded, further, further_text, has_header, has_no_break, has_no_nul, HasNoQuoted, Header, header_of, if◌then◌else◌, in_double_quotes, in_single_quotes, indicator_of, inl, inr, is_adjacent, is_alpha, is_at_end, is_at_gap, is_at_line_end, is_blank, is_blank_or_end, is_break, is_decimal_digit, is_empty, is_flow, is_further_text, is_in_flow, is_in_line, is_letter, is_nul, is_past, is_tag, is_uri, IsTagRefusal, Kind, kind_at, leading, leading_all, least_column, length, line_is, line_more, lines_after, List, literal, local_goes_on, local_octets, may_follow, may_precede, More, no_lines, no_nul_after, no_suffix, None, not, of_lines, Ok, Option, past, Position, Problem, put_first, read_body, read_lines, refl, same_end, scalar, single_quoted, site_at_place, slice_index, Some, split, split_append, splits, subst, suffix_goes_on, suffix_octets, sym, tag_text, tags_are_read, true, unclosed, up_to_break, verbatim_goes_on, verbatim_octets, Whole, word, written_tag, ℕ, ◌&&◌, ◌++◌, ◌==◌, ◌||◌, ◌∙◌, ◌∷◌, ◌≡◌, ◌⊎◌, arith, ends_run, runs, nat_tests}
+use Rattle.proof_scanner.proofs.Common.{[], Account, after, all_of, alpha_starts, and_parts, ap, append-nil, are_marks, AreNotIndented, At, begins_flow, begins_with, begins_with_mark, block_may_end, block_read, block_token, BlockRead, BlockStyle, Body, body, Bool, context_of, decoded, decoded_some, directive_begins, directive_line, directive_of, double_quoted, eqb-true, Err, false, first_line, folded, further, further_text, has_header, has_no_break, has_no_nul, HasNoQuoted, Header, header_of, if◌then◌else◌, in_double_quotes, in_single_quotes, indicator_of, inl, inr, is_adjacent, is_alpha, is_at_end, is_at_gap, is_at_line_end, is_blank, is_blank_or_end, is_break, is_decimal_digit, is_empty, is_flow, is_further_text, is_in_flow, is_in_line, is_letter, is_nul, is_past, is_tag, is_uri, IsTagRefusal, Kind, kind_at, leading, leading_all, least_column, length, line_is, line_more, lines_after, List, literal, local_goes_on, local_octets, may_follow, may_precede, More, no_lines, no_nul_after, no_suffix, None, not, of_lines, Ok, Option, past, Position, Problem, put_first, read_body, read_lines, refl, same_end, scalar, single_quoted, site_at_place, slice_index, Some, split, split_append, splits, subst, suffix_goes_on, suffix_octets, sym, tag_text, tags_are_read, true, unclosed, up_to_break, verbatim_goes_on, verbatim_octets, Whole, word, written_tag, ℕ, ◌&&◌, ◌++◌, ◌==◌, ◌||◌, ◌∙◌, ◌∷◌, ◌≡◌, ◌⊎◌, arith, ends_run, runs, nat_tests, TagEnd, VerbatimTagEnd}
 use Rattle.defs_text.specs.BlockScalar as block
 use Rattle.defs_token.specs.Account as pieces
-use Rattle.yaml_tokens.specs.declared.problem.Problem.TheVariants as problem
 use Rattle.model_scanner.specs.Tag as tags
 use Rattle.model_scanner.specs.Tag.{verbatim_end, verbatim, named, shorthand, tag_end, tag}
 use Rattle.proof_row.specs.Ends.{block_scalar}
@@ -13,8 +12,7 @@ use Rattle.proof_lexers.proofs.Properties.Uris.{uris_are_read}
 use Rattle.proof_row.proofs.Written as written
 use Rattle.proof_scanner.specs.NoPiece.{quote_of}
 use Rattle.proof_scanner.proofs.Refusals.OtherRows.{StepAt}
-use Rattle.proof_scanner.proofs.Refusals.PiecesHere.{acct, whole_by, rest_of}
-use Rattle.proof_scanner.proofs.Refusals.StandsRefused.{flow_is, no_lines as no_lines_there, no_end as no_end_here}
+use Rattle.proof_scanner.proofs.Refusals.PiecesRefused.{acct, whole_by, rest_of, flow_is, no_lines as no_lines_there, no_end as no_end_here}
 use Rattle.proof_scanner.proofs.Cut.Pieces.Blocks.{end_no_text}
 
 -- ---- tags
@@ -23,7 +21,7 @@ no_mark : is_alpha 33 ≡ false
 unfolding is_alpha is_decimal_digit is_letter
 no_mark = refl
 
-closes_not : (start p : Position) (uri r : List ℕ) → begins_with 62 r ≡ false → verbatim_end start uri r p ≡ Err (At problem.VerbatimTagEnd start)
+closes_not : (start p : Position) (uri r : List ℕ) → begins_with 62 r ≡ false → verbatim_end start uri r p ≡ Err (At VerbatimTagEnd start)
 closes_not start p uri r h = grind arith
 
 -- a word and a second mark begin no verbatim tag
@@ -57,7 +55,7 @@ refusal_fails flow text why p (local_octets f no_verbatim none e) =
     rw (plainly text no_verbatim, word text (past p) [], unmarked (after is_alpha text) none, (uris_are_read p (after is_alpha text) (further (length (leading is_alpha text)) (past p)) (leading is_alpha text)).1, e) refl
 refusal_fails flow text why p (local_goes_on suffix no_verbatim none e goes) =
     let by : (b : Bool) → is_empty (leading is_alpha text ++ suffix) ≡ b
-    → tag_end flow p (tags.local (record { rest = after is_tag (after is_alpha text); position = further (length (leading is_tag (after is_alpha text))) (further (length (leading is_alpha text)) (past p)); value = leading is_alpha text ++ suffix })) ≡ Err (At problem.TagEnd p) =
+    → tag_end flow p (tags.local (record { rest = after is_tag (after is_alpha text); position = further (length (leading is_tag (after is_alpha text))) (further (length (leading is_alpha text)) (past p)); value = leading is_alpha text ++ suffix })) ≡ Err (At TagEnd p) =
     λ a i. grind (arith, nat_tests, same_end, flow, after, text, goes, eqb-true) in
     rw (plainly text no_verbatim, word text (past p) [], unmarked (after is_alpha text) none, (uris_are_read p (after is_alpha text) (further (length (leading is_alpha text)) (past p)) (leading is_alpha text)).1, e)
     (by (is_empty (leading is_alpha text ++ suffix)) refl)

@@ -1,5 +1,5 @@
 -- What is wrong where a piece begins stands in the text, if it is a fault that stands there by itself.
-use Rattle.proof_scanner.proofs.Common.{[], account_past_separation, ap, arith, Arrives, At, before_by, before_past, Bool, chosen, Entry, entries_by, Fails, false, is_empty, is_in_flow, is_shown, IsCutUpTo, IsSpot, IsThere, Key, length, List, nat_tests, None, not, Option, Problem, refl, ScannerState, subst, suc, sym, true, ℕ, ◌++◌, ◌∙◌, ◌∷◌, ◌≡◌, Position, eqb-true, Fault}
+use Rattle.proof_scanner.proofs.Common.{[], account_past_separation, ap, arith, Arrives, At, before_by, before_past, Bool, chosen, Entry, entries_by, Fails, false, is_empty, is_in_flow, is_shown, IsCutUpTo, IsSpot, IsThere, Key, length, List, nat_tests, None, not, Option, Problem, refl, ScannerState, subst, suc, sym, true, ℕ, ◌++◌, ◌∙◌, ◌∷◌, ◌≡◌, Position, eqb-true, Fault, AnchorIndentation}
 use Rattle.defs_token.specs.Account.{Account}
 use Rattle.proof_row.proofs.CutPieces.{account_by}
 use Rattle.proof_row.proofs.CutSteps.{somes, with_key, levels_in}
@@ -7,7 +7,6 @@ use Rattle.proof_scanner.specs.Faults.{bad_escape, open_quote, marked_quote, too
 use Rattle.proof_scanner.proofs.Sound.CutsSoFar.{arrives_cut}
 use Rattle.proof_scanner.specs.NoPiece as none
 use Rattle.proof_scanner.specs.Failing as failing
-use Rattle.yaml_tokens.specs.declared.problem.Problem.TheVariants as problem
 use Rattle.proof_lexers.specs.DirectiveEnds as directives
 use Rattle.proof_lexers.specs.TagEnds as tag_ends
 
@@ -15,7 +14,7 @@ use Rattle.proof_lexers.specs.TagEnds as tag_ends
 
 -- whether a fault is that of a property in the first column before an entry there
 abbrev pub is_margin_fault : Fault → Bool
-is_margin_fault (At problem.AnchorIndentation p) = true
+is_margin_fault (At AnchorIndentation p) = true
 is_margin_fault _ = false
 
 -- the fault is neither that nor one that is shown
