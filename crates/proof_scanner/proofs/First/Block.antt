@@ -12,12 +12,9 @@ abbrev is_given : Option Header → Bool
 is_given None = false
 is_given (Some h) = true
 
-given_by : (h : Header) (b : Bool) → is_given (if b then Some h else None) ≡ b
-given_by h b = grind arith
-
 given_style : (s : BlockStyle) (w : List ℕ) → is_given (after_style s w) ≡ is_rest_of_line (past_indicators w)
 unfolding sign_of digit_of
-given_style s w = grind (arith, given_by)
+given_style s w = grind arith
 
 -- A line is a header if nothing but a line's rest stands after its indicators.
 header_is : (style : BlockStyle) (w : List ℕ) → is_given (header_of (indicator_of style ∷ w)) ≡ is_rest_of_line (past_indicators w)

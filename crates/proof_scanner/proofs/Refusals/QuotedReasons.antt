@@ -18,10 +18,6 @@ abbrev InLineOf : ℕ → List ℕ → Option Spelled → Type 0
 InLineOf c b None = Unit {0}
 InLineOf c b (Some s) = InLineBy c b s.element s.further
 
-plain_in_line : (c : ℕ) (b : List ℕ) → InLineOf c b (plain_element c b)
-unfolding plain_element
-plain_in_line c b = grind arith
-
 digits_in_line : (n value code : ℕ) (w : List ℕ) → hexadecimal value (take n w) ≡ Some code → is_in_line (take n w) ≡ true
 unfolding classes.is_break
 digits_in_line (suc n) value code (c ∷ w) h = grind (arith, digits_in_line n (value * 16 + digit_value c) code w)
@@ -33,8 +29,8 @@ module _ (d : ℕ) (b : List ℕ) (unbroken : classes.is_break d ≡ false) wher
   row_in_line o n = grind (arith, (refl), unbroken, digits_in_line)
 
 double_in_line : (c : ℕ) (b : List ℕ) → InLineOf c b (double_quoted_element c b)
-unfolding double_quoted_element escape
-double_in_line c b = grind (arith, row_in_line, plain_in_line)
+unfolding double_quoted_element escape plain_element
+double_in_line c b = grind (arith, row_in_line)
 
 -- in double quotes no element begins with the quote
 pub no_quote : (c : ℕ) (b : List ℕ) (s : Spelled) → double_quoted_element c b ≡ Some s → (c == 34) ≡ false
@@ -96,8 +92,8 @@ module _ (single : Bool) (c : ℕ) (b : List ℕ) (e : Spelled) (is : element_of
 
 -- content ends in its line
 pub content_in_line : (single : Bool) (c : ℕ) (b : List ℕ) (code k : ℕ) → element_of single c b ≡ Some (spelled (content code) k) → is_in_line (c ∷ take k b) ≡ true
-unfolding single_quoted_element classes.is_break
-content_in_line single c b code k is = subst (λ o. InLineOf c b o) is (grind (arith, nat_tests, eqb-true, plain_in_line, double_in_line))
+unfolding single_quoted_element classes.is_break plain_element
+content_in_line single c b code k is = subst (λ o. InLineOf c b o) is (grind (arith, nat_tests, eqb-true, double_in_line))
 
 pub content_after : (single : Bool) (c : ℕ) (b : List ℕ) (code k : ℕ) → (is : element_of single c b ≡ Some (spelled (content code) k)) → (p : Position) → after_it single c b (spelled (content code) k) is p ≡ along (c ∷ take k b) p
 content_after single c b code k is p = ap (λ l. position_after p l (drop k b)) (sym (append-nil (c ∷ take k b))) ∙ after_chars (c ∷ take k b) [] (drop k b) p (content_in_line single c b code k is)
@@ -153,9 +149,6 @@ fits_at least within k es = further_lines_fit least (lines_of es)
 fits_at least at_start k es = lines_from k least false (lines_of es)
 fits_at least past_escaped k es = lines_from k least true (lines_of es)
 
-and_true : (b : Bool) → b ≡ (b && true)
-and_true a = grind arith
-
 deep_is : (k least : ℕ) → fits_from k least true [] ≡ not (nat_lt k least)
 deep_is k least = grind arith
 
@@ -166,7 +159,7 @@ blanks_are : (k least c : ℕ) (e : Bool) (ls : Lines) → lines_from k least e 
 blanks_are k least c e a = grind (arith, and_false, blank_is, lines_fit, has_more)
 
 fits_past : (least : ℕ) (s : LineStand) (k : ℕ) (e : Element) (fs : List Element) → fits_at least s k (e ∷ fs) ≡ (stands least s k e && fits_at least (past_element s e) (column_past k e) fs)
-fits_past least a k b fs = grind (arith, lines_here, and_false, and_true, blanks_are, lines_fit, empty_here, deep_is)
+fits_past least a k b fs = grind (arith, lines_here, and_false, blanks_are, lines_fit, empty_here, deep_is)
 
 -- an indented line fits
 spaces_fit : (n k least : ℕ) → least ≡ k + n → fits_at least at_start k (replicate n (blank 32)) ≡ true
@@ -187,7 +180,7 @@ before_quote past_escaped = []
 before_quote s = content 92 ∷ []
 
 fits_closed : (least : ℕ) (s : LineStand) (k : ℕ) (es : List Element) → fits_at least s k es ≡ all_stand least s k (es ++ before_quote (past_elements s es))
-fits_closed least s k [] = grind (arith, deep_is, and_true, empty_here)
+fits_closed least s k [] = grind (arith, deep_is, empty_here)
 fits_closed least s k (e ∷ es) = fits_past least s k e es ∙ ap (λ b. stands least s k e && b) (fits_closed least (past_element s e) (column_past k e) es)
 
 -- The lines of a whole body are indented just where each element may stand, and the closing quote.
