@@ -12,13 +12,10 @@ abbrev is_given : Option Header → Bool
 is_given None = false
 is_given (Some h) = true
 
-given_style : (s : BlockStyle) (w : List ℕ) → is_given (after_style s w) ≡ is_rest_of_line (past_indicators w)
-unfolding sign_of digit_of
-given_style s w = grind arith
-
 -- A line is a header if nothing but a line's rest stands after its indicators.
 header_is : (style : BlockStyle) (w : List ℕ) → is_given (header_of (indicator_of style ∷ w)) ≡ is_rest_of_line (past_indicators w)
-header_is style w = grind (arith, given_style)
+unfolding sign_of digit_of
+header_is style w = grind arith
 
 -- ---- a comment right after the indicators
 

@@ -102,10 +102,6 @@ pub entry_ends : (content : List ℕ) → begins_entry content ≡ true → ends
 unfolding is_blank_or_end is_blank is_break is_nul
 entry_ends a h = grind arith
 
-pub letter_ends : (content : List ℕ) → begins_with_alpha content ≡ true → ends_separation content ≡ true
-unfolding is_blank_or_end is_blank is_break is_nul is_alpha is_decimal_digit is_letter
-letter_ends a h = grind (arith, nat_tests, eqb-true)
-
 -- ---- `-`
 
 abbrev pub DashReason : Setting → Position → List ℕ → Problem → Position → Type 0
@@ -323,7 +319,7 @@ colon_alone a b like separation more here is out seen apart why at x =
 -- ---- one reason
 
 one_in : (k : Kind) (s : Setting) (here : Position) (rest : List ℕ) (why1 why2 : Problem) (at1 at2 : Position) → has_no_nul rest ≡ true → InKind k s here rest why1 at1 → InKind k s here rest why2 at2 → AreSame why1 why2 at1 at2
-unfolding is_nul
+unfolding is_nul is_blank_or_end is_blank is_break is_alpha is_decimal_digit is_letter
 one_in plain_scalar s here rest why1 why2 at1 at2 clean r q = one_plain s.in_flow s.blocks here rest why1 why2 at1 at2 r q
 one_in in_single_quotes s here rest why1 why2 at1 at2 clean r q = one_quoted (least_column s.blocks s.awaits) here rest clean why1 why2 at1 at2 r q
 one_in in_double_quotes s here rest why1 why2 at1 at2 clean r q = one_quoted (least_column s.blocks s.awaits) here rest clean why1 why2 at1 at2 r q
@@ -331,7 +327,7 @@ one_in block_scalar s here rest why1 why2 at1 at2 clean r q = one_block s.blocks
 one_in tag_text s here rest why1 why2 at1 at2 clean r q = grind (arith, one_tag)
 one_in directive_line s here rest why1 why2 at1 at2 clean r q = grind (arith, one_directive)
 one_in dots s here rest why1 why2 at1 at2 clean r q = grind (arith, separations, ends_before, no_nul_after)
-one_in k s here rest why1 why2 at1 at2 clean r q = grind (arith, separations, entry_ends, letter_ends, first_tab)
+one_in k s here rest why1 why2 at1 at2 clean r q = grind (arith, separations, entry_ends, nat_tests, eqb-true, first_tab)
 
 one_of_two : (s : Setting) (here : Position) (rest : List ℕ) (why1 why2 : Problem) (at1 at2 : Position) → has_no_nul rest ≡ true → Reason s here rest why1 at1 → Reason s here rest why2 at2 → AreSame why1 why2 at1 at2
 one_of_two s here rest why1 why2 at1 at2 clean r q = grind (arith, nat_tests, eqb-true, one_in)

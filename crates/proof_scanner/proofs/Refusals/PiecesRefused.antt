@@ -417,11 +417,8 @@ module _ {a : Account} {separation rest : List ℕ} {here : Position} (s : StepA
           single : takes_pair d.kind d.pair ≡ true
           single = ap (λ k. takes_pair k d.pair) (sym like.0.0) ∙ (ap (λ p. takes_pair e.kind p) (sym like.0.1) ∙ takes)
 
-          no_had : entry.had_after (there s).position (takes_pair d.kind d.pair) gives_colon s.step.key (entry.renewed (is_renewed s.account.site.before s.step.separation) gives_colon d.had) ≡ None
-          no_had = grind (arith, nat_tests, eqb-true, entry.had_after, gives_colon, entry.renewed, is_renewed, single, none_had, begin, had, like, late)
-
           none_past : (o : Option Line) → past_piece (there s) s.step.piece s.step.shown s.next (is_renewed s.account.site.before s.step.separation) s.step.key o (d ∷ ds) ≡ None
-          none_past o = grind (arith, nat_tests, eqb-true, past_inside, (there s), s.next, entries_past, is_renewed, act_of, entry.begun_by, ds, colon_here, more, cut, is, entry.with_had, entry.pair_past, takes_pair, gives_colon, no_had)
+          none_past o = grind (arith, nat_tests, eqb-true, past_inside, (there s), s.next, entries_past, is_renewed, act_of, entry.begun_by, ds, colon_here, more, cut, is, entry.with_had, entry.pair_past, takes_pair, gives_colon, entry.had_after, entry.renewed, single, none_had, begin, had, like, late)
 
   -- ---- comments right after a piece
 
