@@ -15,7 +15,6 @@ pub mod QuotedLines
 pub mod QuotedReasons
 pub mod Quotes
 pub mod Refusals
-pub mod RequiredKeys
 pub mod Rows
 pub mod Shortens
 pub mod TextsRefused

@@ -1,20 +1,223 @@
 -- Of two reasons at one place that both come first, kind and position are the same.
-use Rattle.proof_scanner.proofs.Common.{[], no_nul_after, separations, inl, inr, Account, alias_name, ap, are_marks, AreNotIndented, arith, At, begins_block, begins_flow, begins_with, block_begins, BlockStyle, Bool, colon, colon_may_precede, comes_first, dash, dashes, directive_line, dots, eqb-true, Fails, FailsFirst, false, first_line, folded, followed_first, has_no_break, has_no_nul, if◌then◌else◌, in_double_quotes, in_single_quotes, indicator_of, innermost, is_at_gap, is_blank, is_blank_or_end, is_break, is_flow, is_flow_indicator, is_full, is_in_flow, is_nul, is_value_here, is_value_indicator, IsBlockFault, IsDirectiveRefusal, IsFollowed, IsLike, IsLookedAt, IsPlainFault, IsQuoted, IsQuotedFault, IsTagRefusal, Kind, least_column, least_here, line_is, lines_first, List, literal, MayNotStand, nat_tests, no_piece_first, NoPiece, opens, plain_first, Position, Problem, question, refl, stands_first, subst, sym, tab, tag_text, true, ℕ, ◌&&◌, ◌++◌, ◌==◌, ◌||◌, ◌∙◌, ◌∷◌, ◌≡◌, ◌⊎◌, begins_entry, begins_separation, begins_with_alpha, begins_with_space_or_break, ends_separation, further, GoesOn, has_tab_before_piece, is_alpha, is_decimal_digit, is_letter, is_separation, may_ask, not, position_after, before_by, before_past, begins_document_at, comes_plain, is_adjacent, is_free_of_tabs, is_taken, kind_by, nat_le, same_flow, site_at_place, append_cancel_left, further_on, goes_on, goes_over, no_flow, Option, Stand, AnchorName, BlockEntryInFlow, BlockEntryNotAllowed, ColonMisplaced, CommentNotSeparated, ContentAfterDocumentEnd, FlowIndentation, FlowTooDeep, InvalidIndentation, KeyNotAllowed, PlainDashInFlow, PlainTab, TabAfterColon, TabAfterDash, TabAfterKey, TabInBlockIndentation, UnexpectedAt, UnexpectedBacktick, UnexpectedPercent, WhitespaceExpected}
+use Rattle.proof_scanner.proofs.Common.{[], no_nul_after, separations, inl, inr, Account, alias_name, ap, are_marks, AreNotIndented, arith, At, begins_block, begins_flow, begins_with, block_begins, BlockStyle, Bool, colon, colon_may_precede, comes_first, dash, dashes, directive_line, dots, eqb-true, Fails, FailsFirst, false, first_line, folded, followed_first, has_no_break, has_no_nul, if◌then◌else◌, in_double_quotes, in_single_quotes, indicator_of, innermost, is_at_gap, is_blank, is_blank_or_end, is_break, is_flow, is_flow_indicator, is_full, is_in_flow, is_nul, is_value_here, is_value_indicator, IsBlockFault, IsDirectiveRefusal, IsFollowed, IsLike, IsLookedAt, IsPlainFault, IsQuoted, IsQuotedFault, IsTagRefusal, Kind, least_column, least_here, line_is, lines_first, List, literal, MayNotStand, nat_tests, no_piece_first, NoPiece, opens, plain_first, Position, Problem, question, refl, stands_first, subst, sym, tab, tag_text, true, ℕ, ◌&&◌, ◌++◌, ◌==◌, ◌||◌, ◌∙◌, ◌∷◌, ◌≡◌, ◌⊎◌, begins_entry, begins_separation, begins_with_alpha, begins_with_space_or_break, ends_separation, further, GoesOn, has_tab_before_piece, is_alpha, is_decimal_digit, is_letter, is_separation, may_ask, not, position_after, before_by, before_past, begins_document_at, comes_plain, is_adjacent, is_free_of_tabs, is_taken, kind_by, nat_le, same_flow, site_at_place, append_cancel_left, further_on, goes_on, goes_over, no_flow, Option, Stand, AnchorName, BlockEntryInFlow, BlockEntryNotAllowed, ColonMisplaced, CommentNotSeparated, ContentAfterDocumentEnd, FlowIndentation, FlowTooDeep, InvalidIndentation, KeyNotAllowed, PlainDashInFlow, PlainTab, TabAfterColon, TabAfterDash, TabAfterKey, TabInBlockIndentation, UnexpectedAt, UnexpectedBacktick, UnexpectedPercent, WhitespaceExpected, after, begins_handle, begins_prefix, begins_with_mark, codes, decoded, drop, Err, Fault, first_position, from_prefix, HasName, is_empty, is_same, is_uri, IsDeclarationBefore, IsNoDeclaration, IsNoVersion, IsVersionBefore, leading, length, length-append, None, number_of, Ok, problem_of, Result, said, Some, suc, UriFault, ◌+◌, ◌-◌, DirectiveEnd, DirectiveName, DirectiveNameEnd, GlobalTagCharacter, TagDirectiveEnd, TagDirectiveHandle, TagStart, VersionDot, VersionNumber, VersionTooLong, after_digit, after_sign, after_style, append_cancel_right, block_first, blocks, Chomping, digit_of, has_header, has_zero, Header, header_first, header_of, is_at_end, is_between, is_blanks_and_comment, is_in_line, is_rest_of_line, is_sign, IsNoHeader, line_more, past_indicators, past_spaces, sign_of, split, style_inner, style_same, up_to_break}
 use Rattle.proof_row.specs.Ends.{nothing, plain_scalar, anchor_name, block_scalar}
 use Rattle.proof_scanner.specs.NoPiece.{quote_of}
 use Rattle.proof_scanner.proofs.First.Quoted.{QuotedReason, one_quoted}
-use Rattle.proof_scanner.proofs.First.Block.{BlockReason, headless, fails, one_block}
-use Rattle.proof_scanner.proofs.First.Property.{one_tag, one_directive}
 use Rattle.proof_scanner.proofs.Refusals.PiecesRefused.{no_colon_before, tab_gap, many_alike}
-use Rattle.proof_scanner.proofs.Refusals.TextsRefused.{first_char}
+use Rattle.proof_scanner.proofs.Refusals.TextsRefused.{first_char, refusal_fails, one_line, first_of, piece_line}
 use Rattle.proof_scanner.proofs.Known.Places.{ends_before}
 use Rattle.proof_scanner.specs.FirstPlain.{HasNoPlainFault}
 use Rattle.defs_token.specs.Plain.{inside, past}
+use Rattle.proof_lexers.specs.DirectiveEnds.{ends_line}
+use Rattle.proof_lexers.proofs.Directives.Values.{no_handle}
+use Rattle.proof_lexers.specs.HeaderEnds.{past_one}
 use Rattle.proof_lexers.specs.DirectiveEnds as directives
 use Rattle.proof_scanner.specs.NoPiece as none
 use Rattle.proof_scanner.specs.QuotedLines as quoted_lines
 use Rattle.proof_scanner.specs.Failing as failing
 use Rattle.proof_scanner.proofs.First.Quoted as quoted
+use Rattle.proof_lexers.specs.HeaderEnds as headers
+
+-- ---- a header's line after its indicators
+
+-- whether a line is a header
+abbrev is_given : Option Header → Bool
+is_given None = false
+is_given (Some h) = true
+
+-- A line is a header if nothing but a line's rest stands after its indicators.
+header_is : (style : BlockStyle) (w : List ℕ) → is_given (header_of (indicator_of style ∷ w)) ≡ is_rest_of_line (past_indicators w)
+unfolding sign_of digit_of
+header_is style w = grind arith
+
+-- ---- a comment right after the indicators
+
+blanks_with : (r t : List ℕ) → is_blanks_and_comment r ≡ true → is_blanks_and_comment (r ++ 35 ∷ t) ≡ true
+blanks_with [] t h = refl
+blanks_with (c ∷ r) t h = grind (arith, blanks_with r t)
+
+rest_with : (r t : List ℕ) → is_rest_of_line r ≡ true → is_rest_of_line (r ++ 35 ∷ t) ≡ false → r ≡ []
+rest_with r t h k = grind (arith, blanks_with)
+
+-- a line that is no header, but one before a comment
+comment_is : (style : BlockStyle) (line before text : List ℕ) (h : Header) → header_of (indicator_of style ∷ line) ≡ None → header_of (indicator_of style ∷ before) ≡ Some h → line ≡ before ++ 35 ∷ text → past_indicators line ≡ 35 ∷ text
+comment_is style line before text h lacks is cut =
+    let rest : past_indicators line ≡ past_indicators before ++ 35 ∷ text = ap past_indicators cut ∙ (grind arith) in
+    let ends : is_rest_of_line (past_indicators before) ≡ true = sym (header_is style before) ∙ ap is_given is in
+    let goes : is_rest_of_line (past_indicators before ++ 35 ∷ text) ≡ false = ap is_rest_of_line (sym rest) ∙ (sym (header_is style line) ∙ ap is_given lacks) in
+    rest ∙ ap (λ r. r ++ 35 ∷ text) (rest_with (past_indicators before) text ends goes)
+
+-- ---- one reason why a line is no header
+
+module _ (style : BlockStyle) (here : Position) (line : List ℕ) (lacks : header_of (indicator_of style ∷ line) ≡ None) where
+  zero_no_comment : (text : List ℕ) → has_zero line ≡ true → past_indicators line ≡ 35 ∷ text → ⊥
+  zero_no_comment text zero is = let z : begins_with 48 (past_indicators line) ≡ true = grind (arith, nat_tests) in cc (z, ap (begins_with 48) is)
+
+  comment_no_text : (text : List ℕ) → past_indicators line ≡ 35 ∷ text → begins_with 35 (past_indicators line) ≡ false → ⊥
+  comment_no_text text is other = cc (other, ap (begins_with 35) is)
+
+  one_header : (why1 why2 : Problem) (at1 at2 : Position) → IsNoHeader style here line why1 at1 → IsNoHeader style here line why2 at2 → (why1 ≡ why2) × (at1 ≡ at2)
+  one_header why1 why2 at1 at2 (none.by_zero zero) (none.by_zero zero2) = (refl, refl)
+  one_header why1 why2 at1 at2 (none.by_zero zero) (none.by_comment h before text is cut) = absurd (zero_no_comment text zero (comment_is style line before text h lacks is cut))
+  one_header why1 why2 at1 at2 (none.by_zero zero) (none.by_text none_there more begins) = absurd (cc (zero, none_there))
+  one_header why1 why2 at1 at2 (none.by_comment h before text is cut) (none.by_zero zero) = absurd (zero_no_comment text zero (comment_is style line before text h lacks is cut))
+  one_header why1 why2 at1 at2 (none.by_comment h before text is cut) (none.by_comment h2 before2 text2 is2 cut2) =
+      let same : 35 ∷ text ≡ 35 ∷ text2 = sym (comment_is style line before text h lacks is cut) ∙ comment_is style line before2 text2 h2 lacks is2 cut2 in
+      let first : before ≡ before2 = append_cancel_right before before2 (35 ∷ text2) (ap (λ r. before ++ r) (sym same) ∙ (sym cut ∙ cut2)) in
+      (refl, ap (λ b. position_after here (indicator_of style ∷ b) (35 ∷ text)) first ∙ ap (λ r. position_after here (indicator_of style ∷ before2) r) same)
+  one_header why1 why2 at1 at2 (none.by_comment h before text is cut) (none.by_text none_there more begins) = absurd (comment_no_text text (comment_is style line before text h lacks is cut) begins)
+  one_header why1 why2 at1 at2 (none.by_text none_there more begins) (none.by_zero zero) = absurd (cc (zero, none_there))
+  one_header why1 why2 at1 at2 (none.by_text none_there more begins) (none.by_comment h before text is cut) = absurd (comment_no_text text (comment_is style line before text h lacks is cut) begins)
+  one_header why1 why2 at1 at2 (none.by_text none_there more begins) (none.by_text none_there2 more2 begins2) = (refl, refl)
+
+-- ---- all reasons
+
+-- Why a text that begins with `|` or `>` outside flow is no block scalar, or not one that may stand there; the reason comes first.
+pub data BlockReason (collection : List ℕ) (here : Position) (rest : List ℕ) : Problem → Position → Type 0 where
+  headless : (style : BlockStyle) (line after : List ℕ) (why : Problem) (at : Position) → rest ≡ indicator_of style ∷ (line ++ after) → is_in_line line ≡ true → headers.ends_line after ≡ true → header_of (indicator_of style ∷ line) ≡ None
+      → (n : IsNoHeader style here line why at) → header_first style here line why at n → BlockReason collection here rest why at
+  fails : (why : Problem) (at : Position) (x : IsBlockFault collection here rest why at) → block_first collection here rest why at x → BlockReason collection here rest why at
+
+module _ (collection : List ℕ) (here : Position) (rest : List ℕ) (clean : has_no_nul rest ≡ true) where
+  -- the first line of a text without a header
+  line_here : (style : BlockStyle) (line after : List ℕ) → rest ≡ indicator_of style ∷ (line ++ after) → is_in_line line ≡ true → headers.ends_line after ≡ true → up_to_break rest ≡ indicator_of style ∷ line
+  line_here style line after cut inner ends = ap up_to_break cut ∙ first_of (indicator_of style ∷ line) after (style_inner style line inner) ends
+
+  -- a text with a block scalar has one
+  header_here : (why : Problem) (at : Position) → IsBlockFault collection here rest why at → header_of (up_to_break rest) ≡ None → ⊥
+  header_here why at (none.by_tab piece header more h cut one is) lacks =
+      let line : up_to_break rest ≡ header = ap up_to_break cut ∙ (line_more piece (λ e. absurd (cc (e, ap (λ s. s.complete) one))) (tab ∷ more) ∙ (sym (line_is piece) ∙ ap (λ s. first_line s.complete s.last) one)) in
+      cc (lacks, ap header_of line, is)
+  header_here why at (none.by_column piece header next lines b cut is further lines_are empty deep left) lacks =
+      let line : up_to_break rest ≡ first_line (split piece).complete (split piece).last = ap up_to_break cut ∙ (piece_line (innermost collection) piece next b (no_nul_after piece next (ap has_no_nul (sym cut) ∙ clean)) is ∙ sym (line_is piece)) in
+      has_header (innermost collection) (split piece).complete (split piece).last next (is_at_end next) b is (ap header_of (sym line) ∙ lacks)
+
+  one_fault : (why1 why2 : Problem) (at1 at2 : Position) (x : IsBlockFault collection here rest why1 at1) → block_first collection here rest why1 at1 x → (y : IsBlockFault collection here rest why2 at2) → block_first collection here rest why2 at2 y
+      → (why1 ≡ why2) × (at1 ≡ at2)
+  one_fault why1 why2 at1 at2 (none.by_tab piece header more h cut one is) first (none.by_tab piece2 header2 more2 h2 cut2 one2 is2) other = (refl, refl)
+  one_fault why1 why2 at1 at2 (none.by_tab piece header more h cut one is) first (none.by_column piece2 header2 next lines b cut2 is2 further lines_are empty deep left) other = absurd (other here (none.by_tab piece header more h cut one is))
+  one_fault why1 why2 at1 at2 (none.by_column piece header next lines b cut is further lines_are empty deep left) first (none.by_tab piece2 header2 more h cut2 one is2) other = absurd (first here (none.by_tab piece2 header2 more h cut2 one is2))
+  one_fault why1 why2 at1 at2 (none.by_column piece header next lines b cut is further lines_are empty deep left) first (none.by_column piece2 header2 next2 lines2 b2 cut2 is2 further2 lines_are2 empty2 deep2 left2) other =
+      let same = blocks (innermost collection) piece piece2 next next2 (b, is, ap has_no_nul (sym cut) ∙ clean) (b2, is2, ap has_no_nul (sym cut2) ∙ clean) (sym cut ∙ cut2) in
+      (refl, ap (λ p. past_spaces (position_after here p next) next) same.0 ∙ ap (λ n. past_spaces (position_after here piece2 n) n) same.1)
+
+  pub one_block : (why1 why2 : Problem) (at1 at2 : Position) → BlockReason collection here rest why1 at1 → BlockReason collection here rest why2 at2 → (why1 ≡ why2) × (at1 ≡ at2)
+  one_block why1 why2 at1 at2 (headless style line after why at cut inner ends lacks n first) (headless style2 line2 after2 why3 at3 cut2 inner2 ends2 lacks2 m other) =
+      let same : indicator_of style2 ∷ line2 ≡ indicator_of style ∷ line = sym (line_here style2 line2 after2 cut2 inner2 ends2) ∙ line_here style line after cut inner ends in
+      let style_is : style2 ≡ style = style_same style2 style (cc same) in
+      let line_is : line2 ≡ line = cc same in
+      one_header style here line lacks why1 why2 at1 at2 n (subst (λ s. IsNoHeader s here line why2 at2) style_is (subst (λ l. IsNoHeader style2 here l why2 at2) line_is m))
+  one_block why1 why2 at1 at2 (headless style line after why at cut inner ends lacks n first) (fails why3 at3 y other) = absurd (header_here why2 at2 y (ap header_of (line_here style line after cut inner ends) ∙ lacks))
+  one_block why1 why2 at1 at2 (fails why at x first) (headless style line after why3 at3 cut inner ends lacks n other) = absurd (header_here why1 at1 x (ap header_of (line_here style line after cut inner ends) ∙ lacks))
+  one_block why1 why2 at1 at2 (fails why at x first) (fails why3 at3 y other) = one_fault why1 why2 at1 at2 x first y other
+
+-- ---- tags
+
+pub one_tag : (in_flow : Bool) (text : List ℕ) (why1 why2 : Problem) → IsTagRefusal in_flow text why1 → IsTagRefusal in_flow text why2 → why1 ≡ why2
+one_tag in_flow text why1 why2 x y =
+    let first = refusal_fails in_flow text why1 first_position x in
+    let second = refusal_fails in_flow text why2 first_position y in
+    cc (first, second)
+
+-- ---- what is wrong with a version first
+
+-- with the digits of a number, or else after them
+abbrev number_wrong : (digits : List ℕ) → (more : Option Problem) → Option Problem
+number_wrong [] more = Some VersionNumber
+number_wrong (c ∷ w) more = (if nat_le (length (c ∷ w)) 9 then more else Some VersionTooLong)
+
+-- with the point and what stands after it
+abbrev point_wrong : List ℕ → Option Problem
+point_wrong [] = Some VersionDot
+point_wrong (c ∷ r) = (if c == 46 then number_wrong (leading is_decimal_digit r) None else Some VersionDot)
+
+abbrev version_wrong : List ℕ → Option Problem
+version_wrong text = number_wrong (leading is_decimal_digit text) (point_wrong (after is_decimal_digit text))
+
+long : (w : List ℕ) (more : Option Problem) → nat_le (length w) 9 ≡ false → number_wrong w more ≡ Some VersionTooLong
+long a more e = grind arith
+
+number_right : (w : List ℕ) (more : Option Problem) (v : ℕ) → number_of w ≡ Some v → number_wrong w more ≡ more
+number_right a more v e = grind (arith, nat_tests, eqb-true)
+
+version_is : (text : List ℕ) (why : Problem) → IsNoVersion text why → version_wrong text ≡ Some why
+version_is text why (directives.no_major e) = rw e refl
+version_is text why (directives.long_major e) = long (leading is_decimal_digit text) _ e
+version_is text why (directives.no_point major is e) = number_right (leading is_decimal_digit text) _ major is ∙ (grind arith)
+version_is text why (directives.no_minor major r is cut e) = number_right (leading is_decimal_digit text) _ major is ∙ rw (cut, e) refl
+version_is text why (directives.long_minor major r is cut e) = number_right (leading is_decimal_digit text) _ major is ∙ rw cut (long (leading is_decimal_digit r) None e)
+
+version_right : (line rest : List ℕ) → IsVersionBefore line rest → version_wrong (said line) ≡ None
+version_right line rest v = number_right (leading is_decimal_digit (said line)) _ v.major v.is_major ∙ rw v.has_point (number_right (leading is_decimal_digit v.point) None v.minor v.is_minor)
+
+-- ---- what is wrong with a declaration first
+
+-- with the characters of a prefix, or else after them
+abbrev characters_wrong : Result (List ℕ) UriFault → (apart : Bool) → Option Problem
+characters_wrong (Err f) apart = Some (problem_of f)
+characters_wrong (Ok cs) apart = (if apart then None else Some TagDirectiveEnd)
+
+abbrev prefix_wrong : List ℕ → Option Problem
+prefix_wrong r = (if begins_prefix r then characters_wrong (decoded (leading is_uri r)) (is_at_gap (after is_uri r)) else Some GlobalTagCharacter)
+
+abbrev declaration_wrong : List ℕ → Option Problem
+declaration_wrong text = (if begins_handle text then prefix_wrong (from_prefix text) else (if begins_with_mark text then Some TagDirectiveHandle else Some TagStart))
+
+no_mark_no_handle : (text : List ℕ) → begins_with_mark text ≡ false → begins_handle text ≡ false
+no_mark_no_handle a e = grind arith
+
+declaration_is : (text : List ℕ) (why : Problem) → IsNoDeclaration text why → declaration_wrong text ≡ Some why
+declaration_is text why (directives.no_mark e) = rw (no_mark_no_handle text e, e) refl
+declaration_is text why (directives.open_name c name rest e lead none) = let lacks = no_handle c name rest lead none in rw e (rw lacks refl)
+declaration_is text why (directives.no_prefix is e) = rw (is, e) refl
+declaration_is text why (directives.by_octets f is begins e) = rw (is, begins, e) refl
+declaration_is text why (directives.goes_on prefix is begins e apart) = rw (is, begins, e, apart) refl
+
+declaration_right : (line rest : List ℕ) → IsDeclarationBefore line rest → declaration_wrong (said line) ≡ None
+declaration_right line rest d = rw (d.has_handle, d.has_prefix, d.is_prefix, d.is_before, d.is_apart) refl
+
+-- ---- what is wrong with a line first
+
+-- where a version is all right, with the text after it
+abbrev tail_wrong : Position → (line rest : List ℕ) → Fault
+tail_wrong start line rest = (if begins_with 35 rest then At CommentNotSeparated (further (suc (length line - length rest)) start) else At DirectiveEnd start)
+
+abbrev value_wrong : Position → Option Problem → (tail : Fault) → Fault
+value_wrong start None tail = tail
+value_wrong start (Some why) tail = At why start
+
+abbrev named_wrong : Position → (line : List ℕ) → (version : Bool) → Fault
+named_wrong start line true = value_wrong start (version_wrong (said line)) (tail_wrong start line (after is_decimal_digit (drop 1 (after is_decimal_digit (said line)))))
+named_wrong start line false = value_wrong start (declaration_wrong (said line)) (At DirectiveEnd start)
+
+abbrev line_wrong : Position → List ℕ → Fault
+line_wrong start line =
+    (if is_empty (leading is_alpha line) then At DirectiveName (further 1 start) else
+    (if is_at_gap (after is_alpha line) then named_wrong start line (is_same (leading is_alpha line) (codes "YAML")) else At DirectiveNameEnd (further 1 start)))
+
+of_version : (start : Position) (line : List ℕ) → HasName (codes "YAML") line → line_wrong start line ≡ named_wrong start line true
+of_version start line h = rw (h.is_name, h.is_whole) refl
+
+of_declaration : (start : Position) (line : List ℕ) → HasName (codes "TAG") line → line_wrong start line ≡ named_wrong start line false
+of_declaration start line h = rw (h.is_name, h.is_whole) refl
+
+after_it : (start : Position) (line rest : List ℕ) → IsVersionBefore line rest → line_wrong start line ≡ tail_wrong start line rest
+after_it start line rest v = of_version start line v.is_version ∙ rw (version_right line rest v, v.has_point, v.is_before) refl
+
+refusal_is : (start : Position) (line : List ℕ) (f : Fault) → IsDirectiveRefusal start line f → line_wrong start line ≡ f
+refusal_is start line f (directives.no_name e) = rw e refl
+refusal_is start line f (directives.by_name some e) = rw (some, e) refl
+refusal_is start line f (directives.by_version why h n) = of_version start line h ∙ rw (version_is (said line) why n) refl
+refusal_is start line f (directives.by_declaration why h n) = of_declaration start line h ∙ rw (declaration_is (said line) why n) refl
+refusal_is start line f (directives.by_comment before rest cut v) = grind (arith, nat_tests, eqb-true, length-append, after_it)
+refusal_is start line f (directives.after_version rest v more begins) = after_it start line rest v ∙ rw begins refl
+refusal_is start line f (directives.after_declaration rest d more) = of_declaration start line d.is_declaration ∙ rw (declaration_right line rest d) refl
+
+-- ---- one line
+
+pub one_directive : (here : Position) (line1 next1 line2 next2 : List ℕ) → line1 ++ next1 ≡ line2 ++ next2 → has_no_break line1 ≡ true → ends_line next1 ≡ true → has_no_break line2 ≡ true → ends_line next2 ≡ true
+    → (why1 why2 : Problem) (at1 at2 : Position) → IsDirectiveRefusal here line1 (At why1 at1) → IsDirectiveRefusal here line2 (At why2 at2) → (why1 ≡ why2) × (at1 ≡ at2)
+one_directive here line1 next1 line2 next2 e h j k l why1 why2 at1 at2 x y = grind (arith, nat_tests, eqb-true, refusal_is, one_line)
 
 -- ---- a plain scalar has one fault that comes first
 

@@ -10,7 +10,7 @@ use Rattle.proof_scanner.proofs.Refusals.Nodes.{name_told, tag_told, quoted_told
 use Rattle.proof_scanner.proofs.Refusals.Plains.{plain_told}
 use Rattle.proof_scanner.proofs.Refusals.Blocks.{block_told}
 use Rattle.proof_scanner.proofs.Refusals.Indicators.{directive_told, marker_told, document_end_told, dash_told, question_told, colon_told, opening_told, closing_told, comma_told}
-use Rattle.proof_scanner.proofs.Refusals.RequiredKeys.{end_rowless}
+use Rattle.proof_scanner.proofs.Refusals.KeysThatWait.{end_rowless}
 use Rattle.proof_scanner.specs.Failing as defs
 use Rattle.proof_scanner.specs.NoPiece as none
 

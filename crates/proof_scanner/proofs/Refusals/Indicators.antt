@@ -14,7 +14,7 @@ use Rattle.proof_scanner.proofs.Sound.Blanks.{same_in_line, line_rest_in_line, l
 use Rattle.proof_scanner.proofs.Sound.Passed.{same_has_break}
 use Rattle.proof_scanner.proofs.Cut.Saved.{saved_keys, saved_is}
 use Rattle.proof_scanner.proofs.Refusals.Places.{Faults, fault, goes, read, in_turn, tried, checked, either, kept, IsRowless, Said, IsWhy, LiesDeep, rowless_told, account_by, place, many_levels, IsAllowed, stuck, in_flow_is, looked_at, none_begins, followed_stuck, white_goes, space_told, spaces_told, no_comment, no_comment_left, solid_past}
-use Rattle.proof_scanner.proofs.Refusals.RequiredKeys.{not_required, line_rowless, closing_rowless, none_waits}
+use Rattle.proof_scanner.proofs.Refusals.KeysThatWait.{not_required, line_rowless, closing_rowless, none_waits}
 use Rattle.proof_scanner.proofs.Sound.WhiteSpaces.{white_of, past_white, white_cut, past_white_space, white_exactly, white_first, no_tab_in, IsMissed, white_or_missed}
 use Rattle.proof_scanner.proofs.Sound.ColonSpaces.{colon_spaced}
 use Rattle.proof_scanner.proofs.Cut.Fetched.{begins_here}

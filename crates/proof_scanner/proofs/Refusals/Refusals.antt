@@ -11,7 +11,7 @@ use Rattle.proof_scanner.specs.Never.{AnchorIndentationNeverComes}
 use Rattle.proof_scanner.proofs.Refusals.Places.{Faults, fault_is, in_turn, tried, either, Told, Said, kind, rowless_told}
 use Rattle.proof_scanner.proofs.Refusals.Fetches.{here_told}
 use Rattle.proof_scanner.proofs.Refusals.Passing.{HasNear, fetch_near, passing_told}
-use Rattle.proof_scanner.proofs.Refusals.RequiredKeys.{stale_rowless}
+use Rattle.proof_scanner.proofs.Refusals.KeysThatWait.{stale_rowless}
 use Rattle.proof_scanner.proofs.Refusals.Indicators.{unrolled_stays}
 use Rattle.proof_scanner.proofs.Refusals.Shortens.{stale_arrives}
 use Rattle.proof_scanner.proofs.Cut.Faults.Shown.{line_neither, tag_neither}
