@@ -215,10 +215,6 @@ refusal_is start line f (directives.after_declaration rest d more) = of_declarat
 
 -- ---- one line
 
-pub one_directive : (here : Position) (line1 next1 line2 next2 : List ℕ) → line1 ++ next1 ≡ line2 ++ next2 → has_no_break line1 ≡ true → ends_line next1 ≡ true → has_no_break line2 ≡ true → ends_line next2 ≡ true
-    → (why1 why2 : Problem) (at1 at2 : Position) → IsDirectiveRefusal here line1 (At why1 at1) → IsDirectiveRefusal here line2 (At why2 at2) → (why1 ≡ why2) × (at1 ≡ at2)
-one_directive here line1 next1 line2 next2 e h j k l why1 why2 at1 at2 x y = grind (arith, nat_tests, eqb-true, refusal_is, one_line)
-
 -- ---- a plain scalar has one fault that comes first
 
 -- a dash before a flow indicator, and one behind it
@@ -528,7 +524,7 @@ one_in in_single_quotes s here rest why1 why2 at1 at2 clean r q = one_quoted (le
 one_in in_double_quotes s here rest why1 why2 at1 at2 clean r q = one_quoted (least_column s.blocks s.awaits) here rest clean why1 why2 at1 at2 r q
 one_in block_scalar s here rest why1 why2 at1 at2 clean r q = one_block s.blocks here rest clean why1 why2 at1 at2 r q
 one_in tag_text s here rest why1 why2 at1 at2 clean r q = grind (arith, one_tag)
-one_in directive_line s here rest why1 why2 at1 at2 clean r q = grind (arith, one_directive)
+one_in directive_line s here rest why1 why2 at1 at2 clean r q = grind (arith, nat_tests, eqb-true, refusal_is, one_line)
 one_in dots s here rest why1 why2 at1 at2 clean r q = grind (arith, separations, ends_before, no_nul_after)
 one_in k s here rest why1 why2 at1 at2 clean r q = grind (arith, separations, entry_ends, nat_tests, eqb-true, first_tab)
 

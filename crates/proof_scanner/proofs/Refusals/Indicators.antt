@@ -55,10 +55,6 @@ pub unrolled_stays : (limit : ℕ) (s : Held) → Stays (unroll_indent limit s) 
 unfolding unroll_indent
 unrolled_stays limit s = grind arith
 
-pub entry_keys : (t : ScannerState) → (roll_entry t).held.keys ≡ t.held.keys
-unfolding roll_entry
-entry_keys t = grind (arith, rolled_one_is)
-
 -- ---- the blanks after a colon: TABs alone, where a letter stands after blanks and a comment without a space among the blanks
 
 -- a line ends with no letter
@@ -214,7 +210,7 @@ module _ (text : List ℕ) (t : ScannerState) (a : Arrives text t) (some : is_em
   dash_spaced u = grind (arith, nat_tests, eqb-true, spaced, check_dash, begins_with, holds.checked, slice_index, is_blank_or_breakz, TabAfterDash, holds.went, no_comment_left)
 
   pub dash_told : (more : List ℕ) → t.rest ≡ 45 ∷ more → is_at_gap more ≡ true → Faults (Said text) (fetch_block_entry t)
-  unfolding fetch_block_entry
+  unfolding fetch_block_entry roll_entry
   dash_told more e gap =
       in_turn (tried t (entry_checked more e gap)) (λ u i.
       let was : (u.rest ≡ t.rest) × (in_flow t.held ≡ false) × (t.held.key_allowed ≡ true) × (u.held ≡ t.held) =
@@ -227,7 +223,7 @@ module _ (text : List ℕ) (t : ScannerState) (a : Arrives text t) (some : is_em
       (λ x k. dash_checked more e gap was.1 was.2 rolled.held place x (ap (λ r. space Yes r rolled.held.position) (sym left) ∙ k))) (λ v j.
       let spaced_on = held_of v (dash_spaced rolled) j in
       in_turn (spaces_told text No v (λ h. absurd (cc (h, spaced_on.0)))) (λ w k.
-      let keys : (roll_entry w).held.keys ≡ t.held.keys = entry_keys w ∙ (ap (λ h. h.keys) (held_of w (spaces_skipped No v) k).is_held ∙ (spaced_on.1 ∙ (stays.1 ∙ ap (λ h. h.keys) was.3))) in
+      let keys : (roll_entry w).held.keys ≡ t.held.keys = (grind (arith, rolled_one_is)) ∙ (ap (λ h. h.keys) (held_of w (spaces_skipped No v) k).is_held ∙ (spaced_on.1 ∙ (stays.1 ∙ ap (λ h. h.keys) was.3))) in
       in_turn (tried (roll_entry w) (remove_told text (roll_entry w).held (λ must. absurd (cc (must, ap (λ ks. is_required (top_key ks)) keys, not_required text t a some (ap (λ b. in_flow t.held || b) was.2 ∙ or_true (in_flow t.held))))))) (λ x l. goes))))
 
   key_begun : (more : List ℕ) → t.rest ≡ 63 ∷ more → is_at_gap more ≡ true → Faults (Said text) (begin_key t.held)

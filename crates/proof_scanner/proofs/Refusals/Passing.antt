@@ -154,17 +154,13 @@ skip_refused before bs awaits separation t l known = elim (cases_Bool (begins_se
 abbrev pub HasNear : Held → Type 0
 HasNear s = is_empty s.flow ≡ true → (k : Key) → top_key s.keys ≡ Some k → is_far k.position s.position ≡ false
 
-stale_near : (s : Held) → Holds HasNear (stale s)
-unfolding stale drop_stale
-stale_near s = grind (arith, nat_tests, eqb-true, either, in_flow, went, not, refused, top_key, map, still, is_far)
-
 pub anything : {A : Type 0} (r : Result A Fault) → Holds (λ x. Unit {0}) r
 anything (Ok x) = went tt
 anything (Err f) = refused
 
 next_near : (t : ScannerState) → Holds (λ u. HasNear u.held) (fetch_next t)
-unfolding fetch_next
-next_near t = chained (anything (skip_to_next_token t)) (λ u a. chained (anything _) (λ v b. chained (anything (fetch_here (on_held (λ s. unroll_indent (s.position.col + 1) s) v))) (λ w c. tried w (stale w.held) (stale_near w.held) (λ h n. n))))
+unfolding fetch_next stale drop_stale
+next_near t = chained (anything (skip_to_next_token t)) (λ u a. chained (anything _) (λ v b. chained (anything (fetch_here (on_held (λ s. unroll_indent (s.position.col + 1) s) v))) (λ w c. tried w (stale w.held) (grind (arith, nat_tests, eqb-true, either, in_flow, went, not, refused, top_key, map, still, is_far)) (λ h n. n))))
 
 -- after a fetch
 pub fetch_near : (t : ScannerState) → t.held.started ≡ true → Holds (λ u. HasNear u.held) (fetch t)

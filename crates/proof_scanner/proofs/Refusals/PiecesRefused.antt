@@ -278,10 +278,6 @@ gone a piece x y e k = grind arith
 
 -- ---- entries in flow
 
--- no colon comes to an entry whose key waits on an earlier line, nor to one that has had a node that is no key
-none_had : (p begin : Position) (again is_key : Bool) (h : entry.Had) → LikeHad (entry.waits begin) h → begin.line < p.line → entry.had_after p true gives_colon is_key (entry.renewed again gives_colon h) ≡ None
-none_had p begin again a h i late = grind arith
-
 -- ---- TABs after `?`
 
 tabbed : (in_comment : Bool) (passed content : List ℕ) → is_separation in_comment passed (9 ∷ content) ≡ true → has_tab_before_piece in_comment (passed ++ 9 ∷ content) ≡ true
@@ -418,7 +414,7 @@ module _ {a : Account} {separation rest : List ℕ} {here : Position} (s : StepA
           single = ap (λ k. takes_pair k d.pair) (sym like.0.0) ∙ (ap (λ p. takes_pair e.kind p) (sym like.0.1) ∙ takes)
 
           none_past : (o : Option Line) → past_piece (there s) s.step.piece s.step.shown s.next (is_renewed s.account.site.before s.step.separation) s.step.key o (d ∷ ds) ≡ None
-          none_past o = grind (arith, nat_tests, eqb-true, past_inside, (there s), s.next, entries_past, is_renewed, act_of, entry.begun_by, ds, colon_here, more, cut, is, entry.with_had, entry.pair_past, takes_pair, gives_colon, entry.had_after, entry.renewed, single, none_had, begin, had, like, late)
+          none_past o = grind (arith, nat_tests, eqb-true, past_inside, (there s), s.next, entries_past, is_renewed, act_of, entry.begun_by, ds, colon_here, more, cut, is, entry.with_had, entry.pair_past, takes_pair, gives_colon, entry.had_after, entry.renewed, single, begin, had, like, late)
 
   -- ---- comments right after a piece
 
