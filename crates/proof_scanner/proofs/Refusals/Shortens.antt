@@ -46,12 +46,6 @@ read_shorter a text tok p rest end r = grind (arith, length-append)
 abbrev asked : Position → (flow : Bool) → (column : Option ℕ) → Before → Account
 asked p flow column before = record { position = p; blocks = column ∷ []; levels = (if flow then record { kind = sequence; pair = false } ∷ [] else []); before = before }
 
-asked_flow : (p : Position) (flow : Bool) (column : Option ℕ) (before : Before) → is_in_flow (asked p flow column before) ≡ flow
-asked_flow p a column before = grind arith
-
-asked_column : (p : Position) (flow : Bool) (column : Option ℕ) (before : Before) → collection_column (asked p flow column before) ≡ column
-asked_column p flow a before = grind arith
-
 -- ---- where a piece begins
 
 module _ (text : List ℕ) (t : ScannerState) (a : Arrives text t) (some : is_empty t.rest ≡ false) where
@@ -72,7 +66,7 @@ module _ (text : List ℕ) (t : ScannerState) (a : Arrives text t) (some : is_em
   tag_shortens more e =
       read (node_start t.held) (tags.tag (in_flow t.held) t.rest t.held.position) _ (λ x k.
       went (subst (λ r. length x.rest < length r) (sym e) (read_shorter _ _ _ _ _ _
-      (pieces_are_read.tag (asked t.held.position (in_flow t.held) None other) (in_flow t.held) more x (clean_more _ more e) (asked_flow t.held.position (in_flow t.held) None other) (ap (λ r. tags.tag (in_flow t.held) r t.held.position) (sym e) ∙ k)))))
+      (pieces_are_read.tag (asked t.held.position (in_flow t.held) None other) (in_flow t.held) more x (clean_more _ more e) (grind arith) (ap (λ r. tags.tag (in_flow t.held) r t.held.position) (sym e) ∙ k)))))
 
   after_quoted : (line : ℕ) (u : ScannerState) → Holds (λ v. length v.rest ≤ length u.rest) (check_after_quoted line u)
   unfolding check_after_quoted
@@ -96,7 +90,7 @@ module _ (text : List ℕ) (t : ScannerState) (a : Arrives text t) (some : is_em
   block_shortens style more e =
       read saved (block (is_literal style) saved.indent t.rest t.held.position) _ (λ x k.
       went (subst (λ r. length x.rest < length r) (sym e) (read_shorter _ _ _ _ _ _
-      (pieces_are_read.block (asked t.held.position false (collection_of saved.indent) other) style saved.indent more x (clean_more _ more e) refl (asked_column t.held.position false (collection_of saved.indent) other) (ap (λ r. block (is_literal style) saved.indent r t.held.position) (sym e) ∙ k)).0)))
+      (pieces_are_read.block (asked t.held.position false (collection_of saved.indent) other) style saved.indent more x (clean_more _ more e) refl (grind arith) (ap (λ r. block (is_literal style) saved.indent r t.held.position) (sym e) ∙ k)).0)))
 
   abbrev ctx : Context
   ctx = record { flow = in_flow t.held; indent = (without_open t.held.indent t.held.indents t.held.tokens).indent }
@@ -111,7 +105,7 @@ module _ (text : List ℕ) (t : ScannerState) (a : Arrives text t) (some : is_em
       (λ r u. Ok (on_held (λ v. push t.held.position (Tok.scalar Style.plain r.text) (after_plain r.leading v)) u)))) (sym (saved_is t.held))
       (read (unroll_non_block_indents (allow_key false (record t.held { keys = saved_keys t.held }))) (plain ctx t.rest t.held.position) _ (λ x k.
       let b : Account = asked t.held.position (in_flow t.held) (collection_of ctx.indent) before_here in
-      went (read_shorter b t.rest _ _ _ _ (pieces_are_read.plain b ctx t.rest x a.is_clean (asked_flow t.held.position (in_flow t.held) (collection_of ctx.indent) before_here) (asked_column t.held.position (in_flow t.held) (collection_of ctx.indent) before_here)
+      went (read_shorter b t.rest _ _ _ _ (pieces_are_read.plain b ctx t.rest x a.is_clean (grind arith) (grind arith)
       comes (less_or (in_flow t.held) ctx.indent t.held.position.col (omega (arith, deep, (without_is t.held.indent t.held.indents t.held.tokens a.are_levels).not_deeper))) k))))
 
   -- ---- indicators
