@@ -1,5 +1,5 @@
 -- Where a piece may not stand at its column, or before what follows it, no row of the text goes on.
-use Rattle.proof_scanner.proofs.Common.{[], Account, act_of, and_parts, ap, are_empty, arith, begins_document_at, begins_entry, begins_separation, begins_with, begins_with_alpha, block_entry, block_may_end, block_position, block_read, BlockRead, blocks_at, BlockStyle, Bool, colon_may_precede, content_position, dash_may_precede, document_end, double_quoted, Entry, eqb-true, false, folded, gives_block_scalar, GoesOn, has, has_no_nul, if◌then◌else◌, innermost, innermost_column, is_alpha, is_at_end, is_at_gap, is_at_line_end, is_blank, is_blank_or_end, is_blanks, is_break, is_decimal_digit, is_empty, is_in_flow, is_letter, is_marker, is_nul, is_one_of, is_separation, IsPiece, IsQuoted, IsWritten, leading, leading_spaces, least_column, least_for, level_of, List, literal, map, may_precede, nat_le, nat_lt, nat_tests, None, not, Option, or_left, Position, position_after, quoted_may_end, refl, same_flow, same_piece, scalar, seen, shown_position, single_quoted, Site, site_at, site_at_place, Some, split, Step, sym, Tok, true, value, ℕ, ◌&&◌, ◌++◌, ◌||◌, ◌∙◌, ◌∷◌, ◌≡◌, ◌≤◌, alias_name, all_of, context_of, dash, Directive, directive_line, directive_token, flow_mapping_start, flow_sequence_start, goes_on_with_name, inl, inr, is_adjacent, is_flow, is_name, kind_at, length, LikeEntries, mapping_opening, not_empty, sequence_opening, subst, suc, Whole, ◌==◌, ◌⊎◌, dash_marks, directive_begins, directive_of, dot_marks, is_document_marker, Kind, or_true, peek, piece_of, texts_begin, ◌≢◌, account_past, awaits_past, before_by, before_past, begins_free_line, begins_white_space, begins_with_space_or_break, colon, comma, entries_past, flow_entry, flow_mapping_end, flow_sequence_end, further_lines_stand, gives_colon, gives_dash, gives_node, gives_question, has_tab_before_piece, is_deep_enough, is_flow_indicator, is_indented_by_spaces, is_near, is_renewed, is_taken, is_taken_line, is_value_here, is_value_indicator, LikeHad, Line, line_past_separation, mapping_closing, may_stand, on_one_line, past_inside, past_piece, previous_by, question, quoted_scalar, sequence_closing, site_past, takes_pair, waits, ◌<◌}
+use Rattle.proof_scanner.proofs.Common.{row, [], Account, act_of, and_parts, ap, are_empty, arith, begins_document_at, begins_entry, begins_separation, begins_with, begins_with_alpha, block_entry, block_may_end, block_position, block_read, BlockRead, blocks_at, BlockStyle, Bool, colon_may_precede, content_position, dash_may_precede, document_end, double_quoted, Entry, eqb-true, false, folded, gives_block_scalar, GoesOn, has, has_no_nul, if◌then◌else◌, innermost, innermost_column, is_alpha, is_at_end, is_at_gap, is_at_line_end, is_blank, is_blank_or_end, is_blanks, is_break, is_decimal_digit, is_empty, is_in_flow, is_letter, is_marker, is_nul, is_one_of, is_separation, IsPiece, IsQuoted, IsWritten, leading, leading_spaces, least_column, least_for, level_of, List, literal, map, may_precede, nat_le, nat_lt, nat_tests, None, not, Option, or_left, Position, position_after, quoted_may_end, refl, same_flow, same_piece, scalar, seen, shown_position, single_quoted, Site, site_at, site_at_place, Some, split, Step, sym, Tok, true, value, ℕ, ◌&&◌, ◌++◌, ◌||◌, ◌∙◌, ◌∷◌, ◌≡◌, ◌≤◌, alias_name, all_of, context_of, dash, Directive, directive_line, directive_token, flow_mapping_start, flow_sequence_start, goes_on_with_name, inl, inr, is_adjacent, is_flow, is_name, kind_at, length, LikeEntries, mapping_opening, not_empty, sequence_opening, subst, suc, Whole, ◌==◌, ◌⊎◌, dash_marks, directive_begins, directive_of, dot_marks, is_document_marker, Kind, or_true, peek, piece_of, texts_begin, ◌≢◌, account_past, awaits_past, before_by, before_past, begins_free_line, begins_white_space, begins_with_space_or_break, colon, comma, entries_past, flow_entry, flow_mapping_end, flow_sequence_end, further_lines_stand, gives_colon, gives_dash, gives_node, gives_question, has_tab_before_piece, is_deep_enough, is_flow_indicator, is_indented_by_spaces, is_near, is_renewed, is_taken, is_taken_line, is_value_here, is_value_indicator, LikeHad, Line, line_past_separation, mapping_closing, may_stand, on_one_line, past_inside, past_piece, previous_by, question, quoted_scalar, sequence_closing, site_past, takes_pair, waits, ◌<◌}
 use Rattle.proof_scanner.proofs.Refusals.AfterQuoted.{not_done}
 use Rattle.proof_scanner.proofs.Sound.QuotedEnds.{blanks_alone, after_blanks}
 use Rattle.proof_row.proofs.Written.{At}
@@ -418,34 +418,25 @@ module _ {a : Account} {separation rest : List ℕ} {here : Position} (s : StepA
 
   -- ---- comments right after a piece
 
-  begun_glued : (t : Tok) (more : List ℕ) → s.step.shown ≡ t → s.next ≡ more → may_precede (is_in_flow s.account.entries) (there s).blocks t s.step.piece more ≡ false → ⊥
-  begun_glued t more is left e = no_end (ap (λ t. may_precede (is_in_flow s.account.entries) (there s).blocks t s.step.piece s.next) is ∙ (ap (λ r. may_precede (is_in_flow s.account.entries) (there s).blocks t s.step.piece r) left ∙ e))
-
   glued_by : (c : ℕ) (t : Tok) (more : List ℕ) → rest ≡ c ∷ more → s.step.piece ≡ c ∷ [] → s.step.shown ≡ t → may_precede (is_in_flow s.account.entries) (there s).blocks t s.step.piece more ≡ false → ⊥
-  glued_by c t more e piece is h = begun_glued t more is (after_one c more e piece) h
+  glued_by c t more e piece is h = no_end (ap (λ t. may_precede (is_in_flow s.account.entries) (there s).blocks t s.step.piece s.next) is ∙ (ap (λ r. may_precede (is_in_flow s.account.entries) (there s).blocks t s.step.piece r) (after_one c more e piece) ∙ h))
 
   pub no_glued : (c : ℕ) (more : List ℕ) → rest ≡ c ∷ more → is_flow_indicator c ≡ true → begins_with 35 more ≡ true → ⊥
   unfolding is_blank_or_end is_blank is_break is_nul is_flow
-  no_glued c more e is hash = by (c == 91) (c == 93) (c == 123) (c == 125) (c == 44) refl refl refl refl refl is
-    where
-      at : (d : ℕ) → (c == d) ≡ true → rest ≡ d ∷ more
-      at d i = e ∙ ap (λ x. x ∷ more) (eqb-true c d i)
-
-      by : (v w x y z : Bool) → (c == 91) ≡ v → (c == 93) ≡ w → (c == 123) ≡ x → (c == 125) ≡ y → (c == 44) ≡ z → (v || (w || (x || (y || (z || false))))) ≡ true → ⊥
-      by true w x y z i j k l m h = let w : Here sequence_opening = whole_by s 91 more (at 91 i) in glued_by 91 flow_sequence_start more (at 91 i) w.0 w.1 (ap not hash)
-      by false true x y z i j k l m h = let w : Here sequence_closing = whole_by s 93 more (at 93 j) in glued_by 93 flow_sequence_end more (at 93 j) w.0 w.1 (ap not hash)
-      by false false true y z i j k l m h = let w : Here mapping_opening = whole_by s 123 more (at 123 k) in glued_by 123 flow_mapping_start more (at 123 k) w.0 w.1 (ap not hash)
-      by false false false true z i j k l m h = let w : Here mapping_closing = whole_by s 125 more (at 125 l) in glued_by 125 flow_mapping_end more (at 125 l) w.0 w.1 (ap not hash)
-      by false false false false true i j k l m h = let w : Here comma = whole_by s 44 more (at 44 m) in glued_by 44 flow_entry more (at 44 m) w.0 w.1 (ap not hash)
-      by false false false false false i j k l m h = cc h
+  no_glued c more e is hash =
+      row c 91 (λ d. rest ≡ d ∷ more → ⊥) (λ f. let w : Here sequence_opening = whole_by s 91 more f in glued_by 91 flow_sequence_start more f w.0 w.1 (ap not hash)) (λ v.
+      row c 93 (λ d. rest ≡ d ∷ more → ⊥) (λ f. let w : Here sequence_closing = whole_by s 93 more f in glued_by 93 flow_sequence_end more f w.0 w.1 (ap not hash)) (λ w.
+      row c 123 (λ d. rest ≡ d ∷ more → ⊥) (λ f. let w : Here mapping_opening = whole_by s 123 more f in glued_by 123 flow_mapping_start more f w.0 w.1 (ap not hash)) (λ x.
+      row c 125 (λ d. rest ≡ d ∷ more → ⊥) (λ f. let w : Here mapping_closing = whole_by s 125 more f in glued_by 125 flow_mapping_end more f w.0 w.1 (ap not hash)) (λ y.
+      row c 44 (λ d. rest ≡ d ∷ more → ⊥) (λ f. let w : Here comma = whole_by s 44 more f in glued_by 44 flow_entry more f w.0 w.1 (ap not hash)) (λ z.
+      absurd (let none : false ≡ true = rw (v, w, x, y, z) at is in cc none)))))) e
 
   hash_holds : (in_flow : Bool) (piece more : List ℕ) → begins_with 35 more ≡ true → quoted_may_end in_flow piece more ≡ false
   unfolding is_blank is_break
   hash_holds in_flow piece more h = grind (arith, eqb-true)
 
   pub no_glued_quoted : (single : Bool) (piece more : List ℕ) → rest ≡ piece ++ more → IsQuoted single piece more → begins_with 35 more ≡ true → ⊥
-  no_glued_quoted true piece more e is hash = no_step s piece more (scalar single_quoted is.0) e (not_nothing s _ piece _ is.1.1) (is.1, refl) (hash_holds (is_in_flow a.entries) piece more hash)
-  no_glued_quoted false piece more e is hash = no_step s piece more (scalar double_quoted is.0) e (not_nothing s _ piece _ is.1.1) (is.1, refl) (hash_holds (is_in_flow a.entries) piece more hash)
+  no_glued_quoted single piece more e is hash = no_quoted_end s single piece more e is (hash_holds (is_in_flow a.entries) piece more hash)
 
   -- ---- TABs after a quoted scalar
 
@@ -454,8 +445,8 @@ module _ {a : Account} {separation rest : List ℕ} {here : Position} (s : StepA
   quoted_value false piece more is = is.0
 
   pub same_quoted_value : (single : Bool) (piece more : List ℕ) → rest ≡ piece ++ more → (is : IsQuoted single piece more) → (piece ≡ s.step.piece) × (quoted_token single (quoted_value single piece more is) ≡ s.step.shown) × (more ≡ s.next)
-  same_quoted_value true piece more e is = let same = same_step s piece more (scalar single_quoted is.0) e (not_nothing s _ piece _ is.1.1) (is.1, refl) in same
-  same_quoted_value false piece more e is = let same = same_step s piece more (scalar double_quoted is.0) e (not_nothing s _ piece _ is.1.1) (is.1, refl) in same
+  same_quoted_value true piece more e is = same_step s piece more (scalar single_quoted is.0) e (not_nothing s _ piece _ is.1.1) (is.1, refl)
+  same_quoted_value false piece more e is = same_step s piece more (scalar double_quoted is.0) e (not_nothing s _ piece _ is.1.1) (is.1, refl)
 
   pub node_token : (single : Bool) (value : List ℕ) → (act_of (quoted_token single value) ≡ gives_node) × (previous_by (quoted_token single value) ≡ quoted_scalar)
   node_token a b = grind arith
