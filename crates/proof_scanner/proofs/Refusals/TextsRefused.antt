@@ -1,5 +1,5 @@
 -- Where a tag, a directive or a block scalar's header is none, no row of the text goes on.
-use Rattle.proof_scanner.proofs.Common.{[], Account, after, all_of, alpha_starts, and_parts, ap, append-nil, are_marks, AreNotIndented, At, begins_flow, begins_with, begins_with_mark, block_may_end, block_read, block_token, BlockRead, BlockStyle, Body, body, Bool, context_of, decoded, decoded_some, directive_begins, directive_line, directive_of, double_quoted, eqb-true, Err, false, first_line, folded, further, further_text, has_header, has_no_break, has_no_nul, HasNoQuoted, Header, header_of, if◌then◌else◌, in_double_quotes, in_single_quotes, indicator_of, inl, inr, is_adjacent, is_alpha, is_at_end, is_at_gap, is_at_line_end, is_blank, is_blank_or_end, is_break, is_decimal_digit, is_empty, is_flow, is_further_text, is_in_flow, is_in_line, is_letter, is_nul, is_past, is_tag, is_uri, IsTagRefusal, Kind, kind_at, leading, leading_all, least_column, length, line_is, line_more, lines_after, List, literal, local_goes_on, local_octets, may_follow, may_precede, More, no_lines, no_nul_after, no_suffix, None, not, of_lines, Ok, Option, past, Position, Problem, put_first, read_body, read_lines, refl, same_end, scalar, single_quoted, site_at_place, slice_index, Some, split, split_append, splits, subst, suffix_goes_on, suffix_octets, sym, tag_text, tags_are_read, true, unclosed, up_to_break, verbatim_goes_on, verbatim_octets, Whole, word, written_tag, ℕ, ◌&&◌, ◌++◌, ◌==◌, ◌||◌, ◌∙◌, ◌∷◌, ◌≡◌, ◌⊎◌, arith, ends_run, runs, nat_tests, TagEnd, VerbatimTagEnd}
+use Rattle.proof_scanner.proofs.Common.{cases_Bool, [], Account, after, all_of, alpha_starts, and_parts, ap, append-nil, are_marks, AreNotIndented, At, begins_flow, begins_with, begins_with_mark, block_may_end, block_read, block_token, BlockRead, BlockStyle, Body, body, Bool, context_of, decoded, decoded_some, directive_begins, directive_line, directive_of, double_quoted, eqb-true, Err, false, first_line, folded, further, further_text, has_header, has_no_break, has_no_nul, HasNoQuoted, Header, header_of, if◌then◌else◌, in_double_quotes, in_single_quotes, indicator_of, inl, inr, is_adjacent, is_alpha, is_at_end, is_at_gap, is_at_line_end, is_blank, is_blank_or_end, is_break, is_decimal_digit, is_empty, is_flow, is_further_text, is_in_flow, is_in_line, is_letter, is_nul, is_past, is_tag, is_uri, IsTagRefusal, Kind, kind_at, leading, leading_all, least_column, length, line_is, line_more, lines_after, List, literal, local_goes_on, local_octets, may_follow, may_precede, More, no_lines, no_nul_after, no_suffix, None, not, of_lines, Ok, Option, past, Position, Problem, put_first, read_body, read_lines, refl, same_end, scalar, single_quoted, site_at_place, slice_index, Some, split, split_append, splits, subst, suffix_goes_on, suffix_octets, sym, tag_text, tags_are_read, true, unclosed, up_to_break, verbatim_goes_on, verbatim_octets, Whole, word, written_tag, ℕ, ◌&&◌, ◌++◌, ◌==◌, ◌||◌, ◌∙◌, ◌∷◌, ◌≡◌, ◌⊎◌, arith, ends_run, runs, nat_tests, TagEnd, VerbatimTagEnd}
 use Rattle.defs_text.specs.BlockScalar as block
 use Rattle.defs_token.specs.Account as pieces
 use Rattle.model_scanner.specs.Tag as tags
@@ -164,16 +164,10 @@ unbroken style = grind arith
 -- a text whose first line is a header begins with its indicator
 pub first_char : (own header : List ℕ) (h : Header) → up_to_break own ≡ header → header_of header ≡ Some h → (style : BlockStyle) × (p : List ℕ) × (own ≡ indicator_of style ∷ p)
 first_char [] header h e is = absurd (cc (is, ap header_of (sym e)))
-first_char (d ∷ p) header h e is = by (is_break d) (ap header_of e ∙ is)
-  where
-    by : (b : Bool) → header_of (if b then [] else d ∷ up_to_break p) ≡ Some h → (style : BlockStyle) × (q : List ℕ) × (d ∷ p ≡ indicator_of style ∷ q)
-    by true k = absurd (cc k)
-    by false k = on (d == 124) (d == 62) refl refl k
-      where
-        on : (x y : Bool) → (d == 124) ≡ x → (d == 62) ≡ y → (if x then block.after_style literal (up_to_break p) else (if y then block.after_style folded (up_to_break p) else None)) ≡ Some h → (style : BlockStyle) × (q : List ℕ) × (d ∷ p ≡ indicator_of style ∷ q)
-        on true y e f k = (literal, p, ap (λ z. z ∷ p) (eqb-true d 124 e))
-        on false true e f k = (folded, p, ap (λ z. z ∷ p) (eqb-true d 62 f))
-        on false false e f k = absurd (cc k)
+first_char (d ∷ p) header h e is = elim (cases_Bool (d == 124)) [
+  | inl f ↦ (literal, p, ap (λ z. z ∷ p) (eqb-true d 124 f))
+  | inr f ↦ elim (cases_Bool (d == 62)) [ inl g ↦ (folded, p, ap (λ z. z ∷ p) (eqb-true d 62 g)) | inr g ↦ absurd (grind arith) ]
+]
 
 module _ {a : Account} {separation rest : List ℕ} {here : Position} (s : StepAt a separation rest here) where
   abbrev next : List ℕ
@@ -230,18 +224,15 @@ module _ {a : Account} {separation rest : List ℕ} {here : Position} (s : StepA
 
   -- ---- quoted scalars
 
-  single_here : (more : List ℕ) → rest ≡ 39 ∷ more → Here in_single_quotes
+  quoted_here : (single : Bool) (more : List ℕ) → rest ≡ quote_of single ∷ more → Here (if single then in_single_quotes else in_double_quotes)
   unfolding is_blank_or_end is_blank is_break is_nul is_flow
-  single_here more e = whole_by s 39 more e
-
-  double_here : (more : List ℕ) → rest ≡ 34 ∷ more → Here in_double_quotes
-  unfolding is_blank_or_end is_blank is_break is_nul is_flow
-  double_here more e = whole_by s 34 more e
+  quoted_here true more e = whole_by s 39 more e
+  quoted_here false more e = whole_by s 34 more e
 
   pub no_quoted_text : (single : Bool) (more : List ℕ) → rest ≡ quote_of single ∷ more → HasNoQuoted single rest → ⊥
-  no_quoted_text true more e none = let w = single_here more e in none s.step.piece next (sym s.text_is) (w.0, w.1)
-  no_quoted_text false more e none = let w = double_here more e in none s.step.piece next (sym s.text_is) (w.0, w.1)
+  no_quoted_text true more e none = let w = quoted_here true more e in none s.step.piece next (sym s.text_is) (w.0, w.1)
+  no_quoted_text false more e none = let w = quoted_here false more e in none s.step.piece next (sym s.text_is) (w.0, w.1)
 
   pub no_quoted_lines : (single : Bool) (more : List ℕ) → rest ≡ quote_of single ∷ more → AreNotIndented single (least_column (site_at_place a here).blocks (site_at_place a here).awaits) rest → ⊥
-  no_quoted_lines true more e none = let w = single_here more e in no_lines_there s (scalar single_quoted w.0) w.2 refl (none s.step.piece next (sym s.text_is) (w.0, w.1))
-  no_quoted_lines false more e none = let w = double_here more e in no_lines_there s (scalar double_quoted w.0) w.2 refl (none s.step.piece next (sym s.text_is) (w.0, w.1))
+  no_quoted_lines true more e none = let w = quoted_here true more e in no_lines_there s (scalar single_quoted w.0) w.2 refl (none s.step.piece next (sym s.text_is) (w.0, w.1))
+  no_quoted_lines false more e none = let w = quoted_here false more e in no_lines_there s (scalar double_quoted w.0) w.2 refl (none s.step.piece next (sym s.text_is) (w.0, w.1))
