@@ -56,12 +56,10 @@ pub data Where (k : Option Key) (p : Position) (rest : List ℕ) : Type 0 where
 
 pub where_is : (k : Option Key) (p : Position) (rest : List ℕ) → is_empty rest ≡ false → Where k p rest
 where_is None p rest some = placed false tt
-where_is (Some k) p rest some = by k.required refl (nat_lt k.position.line p.line) refl
-  where
-    by : (r : Bool) → k.required ≡ r → (late : Bool) → nat_lt k.position.line p.line ≡ late → Where (Some k) p rest
-    by false e late l = placed false e
-    by true e true l = behind k refl e (grind (arith, nat_tests, l))
-    by true e false l = placed true (grind (arith, nat_tests, l), some)
+where_is (Some k) p rest some = elim (cases_Bool k.required) [
+  | inl e ↦ elim (cases_Bool (nat_lt k.position.line p.line)) [ inl l ↦ behind k refl e (grind (arith, nat_tests, l)) | inr l ↦ placed true (grind (arith, nat_tests, l), some) ]
+  | inr e ↦ placed false e
+]
 
 -- a text without a row
 abbrev pub IsRowless : List ℕ → Type 0

@@ -93,11 +93,7 @@ module _ (single : Bool) (ctx : Context) (start : Position) (least : ℕ) (limit
     ends_grown x y i fit none (reads z w j) = reads z (stepped c b e is fit none w) (i ∙ j)
 
     not_quote : single ≡ false → (c == quote_of single) ≡ false
-    not_quote double = by single double is
-      where
-        by : (x : Bool) → x ≡ false → element_of x c b ≡ Some e → (c == quote_of x) ≡ false
-        by true d i = absurd (cc d)
-        by false d i = no_quote c b e i
+    not_quote double = let i = rw double at is in rw double (no_quote c b e i)
 
   deep_stands : (s : LineStand) (k : ℕ) → nat_lt k least ≡ false → not (begins_further s false && nat_lt k least) ≡ true
   deep_stands s k h = rw (h, and_false (begins_further s false)) refl

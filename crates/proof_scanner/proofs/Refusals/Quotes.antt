@@ -1,5 +1,5 @@
 -- Faults of quoted scalars: a further line is not indented, or what stands after the scalar may not follow it.
-use Rattle.proof_scanner.proofs.Common.{[], ap, append-nil, append_assoc, are_indented, AreNotIndented, arith, Arrives, At, begins_separation, begins_with, bodies_are_read, Bool, check_after_quoted, closed_first, content, Context, element_of, elements, ends_before, ends_spaces, Err, false, Fault, go_on, has_marker, has_no_nul, held_of, in_flow, is_breakz, is_document_marker, is_empty, IsBadEscape, IsQuoted, IsQuotedFault, lines_first, List, may_follow_quoted, nat_lt, no_quoted, node_start, not-true, off_margin, Ok, on_held, past, past_elements, peek, Position, position_after, Problem, quote_of, quoted, quoted_lines_fit, quoted_may_end, Read, refl, Result, ScannerState, skip_spaces, Some, subst, sym, tab, true, unled, value_of, within, Yes, ℕ, ◌++◌, ◌+◌, ◌-◌, ◌==◌, ◌∙◌, ◌∷◌, ◌≡◌, further_lines_fit, lines_of, eqb-true, nat_tests, and_parts, CommentNotSeparated, ContentAfterQuoted, QuotedDocumentMarker, QuotedEnd, QuotedIndentation, TabAsIndentation}
+use Rattle.proof_scanner.proofs.Common.{inr, inl, cases_Bool, [], ap, append-nil, append_assoc, are_indented, AreNotIndented, arith, Arrives, At, begins_separation, begins_with, bodies_are_read, Bool, check_after_quoted, closed_first, content, Context, element_of, elements, ends_before, ends_spaces, Err, false, Fault, go_on, has_marker, has_no_nul, held_of, in_flow, is_breakz, is_document_marker, is_empty, IsBadEscape, IsQuoted, IsQuotedFault, lines_first, List, may_follow_quoted, nat_lt, no_quoted, node_start, not-true, off_margin, Ok, on_held, past, past_elements, peek, Position, position_after, Problem, quote_of, quoted, quoted_lines_fit, quoted_may_end, Read, refl, Result, ScannerState, skip_spaces, Some, subst, sym, tab, true, unled, value_of, within, Yes, ℕ, ◌++◌, ◌+◌, ◌-◌, ◌==◌, ◌∙◌, ◌∷◌, ◌≡◌, further_lines_fit, lines_of, eqb-true, nat_tests, and_parts, CommentNotSeparated, ContentAfterQuoted, QuotedDocumentMarker, QuotedEnd, QuotedIndentation, TabAsIndentation}
 use Rattle.proof_lexers.specs.QuotedScan as scans
 use Rattle.proof_scanner.proofs.Cut.Nodes.{IsDeep}
 use Rattle.proof_scanner.proofs.Cut.Pieces.Quoted.{some_chars}
@@ -78,11 +78,10 @@ module _ (text : List ℕ) (t : ScannerState) (a : Arrives text t) (some : is_em
   refuses v e n = rw (e, n) refl
 
   may_not_end : (v : ScannerState) → skip_spaces Yes closed ≡ Ok v → may_follow_quoted (in_flow v.held) (t.held.position.line == v.held.position.line) (peek v.rest) ≡ false → quoted_may_end (in_flow t.held) piece x.rest ≡ false
-  may_not_end v e n = by (quoted_may_end (in_flow t.held) piece x.rest) refl
-    where
-      by : (b : Bool) → quoted_may_end (in_flow t.held) piece x.rest ≡ b → b ≡ false
-      by false i = refl
-      by true i = absurd (cc ((check_passes t.held.position piece closed q.end_is (ap (λ b. quoted_may_end b piece x.rest) (ap in_flow (saved_is t.held)) ∙ i)).is, refuses v e n))
+  may_not_end v e n = elim (cases_Bool (quoted_may_end (in_flow t.held) piece x.rest)) [
+    | inl i ↦ absurd (cc ((check_passes t.held.position piece closed q.end_is (ap (λ b. quoted_may_end b piece x.rest) (ap in_flow (saved_is t.held)) ∙ i)).is, refuses v e n))
+    | inr i ↦ i
+  ]
 
   -- other text on its line
   followed_by : (v : ScannerState) → skip_spaces Yes closed ≡ Ok v → Spaced Yes closed v → may_follow_quoted (in_flow v.held) (t.held.position.line == v.held.position.line) (peek v.rest) ≡ false → Said text (At ContentAfterQuoted v.held.position)
@@ -129,18 +128,15 @@ module _ (text : List ℕ) (t : ScannerState) (a : Arrives text t) (some : is_em
 
       -- nor one whose lines are indented
       none_fits : (why : Problem) (at : Position) → (why ≡ QuotedDocumentMarker → ⊥) → Reason single least here within (past here) more why at → AreNotIndented single least t.rest
-      none_fits why at unlike x piece next cut is = on (quoted_lines_fit least (element_of single) piece) refl
-        where
-          b : Bodied single more piece next
-          b = bodied single more piece next (sym e ∙ cut) is
-
-          on : (fit : Bool) → quoted_lines_fit least (element_of single) piece ≡ fit → fit ≡ false
-          on false i = refl
-          on true i =
-              let es = has_elements single b.body b.value b.value_is in
-              let whole : quoted_lines_fit least (element_of single) (none.quote_of single ∷ (b.body ++ none.quote_of single ∷ [])) ≡ true = ap (quoted_lines_fit least (element_of single)) (sym b.piece_is) ∙ i in
-              let fit : further_lines_fit least (lines_of es.0) ≡ true = rw (body_between (none.quote_of single) b.body, es.1) at whole in
-              absurd (not_closed single least here within (past here) b.body next es.0 b.ends es.1 (sym (lines_close least (past here).col es.0) ∙ fit) why at unlike (subst (λ r. Reason single least here within (past here) r why at) b.is_text x))
+      none_fits why at unlike x piece next cut is = elim (cases_Bool (quoted_lines_fit least (element_of single) piece)) [
+        | inl i ↦
+            let b : Bodied single more piece next = bodied single more piece next (sym e ∙ cut) is in
+            let es = has_elements single b.body b.value b.value_is in
+            let whole : quoted_lines_fit least (element_of single) (none.quote_of single ∷ (b.body ++ none.quote_of single ∷ [])) ≡ true = ap (quoted_lines_fit least (element_of single)) (sym b.piece_is) ∙ i in
+            let fit : further_lines_fit least (lines_of es.0) ≡ true = rw (body_between (none.quote_of single) b.body, es.1) at whole in
+            absurd (not_closed single least here within (past here) b.body next es.0 b.ends es.1 (sym (lines_close least (past here).col es.0) ∙ fit) why at unlike (subst (λ r. Reason single least here within (past here) r why at) b.is_text x))
+        | inr i ↦ i
+      ]
 
       -- what is wrong with the text after the quote is what the whole text is stuck by
       told_by : (why : Problem) (at : Position) → At why at ≡ f → Reason single least here within (past here) more why at → IsWhy text why at

@@ -127,11 +127,10 @@ module _ (collection : Option ℕ) (header more : List ℕ) where
       by (l ∷ ls) [] false e f g k =
           let read : read_body (header_of l) collection (body ls further_text) (d ∷ next) ≡ Some r = rw (e, f, g) at k in
           let past = ended_body collection (header_of l) (body ls further_text) (d ∷ next) r read in
-          on (d == 10) refl past.0 past.1
-        where
-          on : (b : Bool) → (d == 10) ≡ b → (column : ℕ) → (is_at_end (d ∷ next) || is_further_text column (d ∷ next)) ≡ true → ⊥
-          on true i column p = let same : d ≡ 10 = eqb-true d 10 i in cc (p, g, ap (λ x. is_further_text column (x ∷ next)) same, not_past column next)
-          on false i column p = two l ls (ap (λ x. of_lines x ((split own).last)) e ∙ ap (λ x. of_lines (l ∷ ls) x) f) i
+          elim (cases_Bool (d == 10)) [
+            | inl i ↦ let same : d ≡ 10 = eqb-true d 10 i in cc (past.1, g, ap (λ x. is_further_text past.0 (x ∷ next)) same, not_past past.0 next)
+            | inr i ↦ two l ls (ap (λ x. of_lines x ((split own).last)) e ∙ ap (λ x. of_lines (l ∷ ls) x) f) i
+          ]
       by complete last a e f g k = grind (arith, some)
 
   -- A block scalar that has this header, after which a TAB begins the next line, is the header alone.
