@@ -1,11 +1,10 @@
 -- The next token by its first characters.
-use Rattle.proof_scanner.proofs.Common.{row, [], codes, and_false, ap, are_single, arith, At, begins_flow, begins_separation, Bool, class_of, comes_marker, comes_plain, eqb-true, Err, false, Fault, fetch_anchor, fetch_block_entry, fetch_block_scalar, fetch_content, fetch_directive, fetch_document_end, fetch_document_marker, fetch_first_column, fetch_flow_collection_end, fetch_flow_collection_start, fetch_flow_entry, fetch_flow_scalar, fetch_indented, fetch_key, fetch_plain_scalar, fetch_tag, fetch_token, fetch_value, has_no_nul, if◌then◌else◌, in_flow, is_at_gap, is_blank_or_breakz, is_document_marker, is_empty, is_literal, is_value, is_value_indicator, is_white, List, mark_of, may_begin, NameKind, nat_lt, not, peek, quote_of, Quotes, refl, Result, same_gap, ScannerState, slice_index, sym, Tok, token_by, true, ℕ, ◌&&◌, ◌+◌, ◌==◌, ◌||◌, ◌∙◌, ◌∷◌, ◌≡◌, nat_tests, InvalidIndentation, UnexpectedAt, UnexpectedBacktick, UnexpectedPercent}
+use Rattle.proof_scanner.proofs.Common.{row, [], codes, and_false, ap, are_single, arith, At, begins_flow, begins_separation, Bool, class_of, comes_marker, comes_plain, eqb-true, Err, false, Fault, fetch_anchor, fetch_block_entry, fetch_block_scalar, fetch_content, fetch_directive, fetch_document_end, fetch_document_marker, fetch_first_column, fetch_flow_collection_end, fetch_flow_collection_start, fetch_flow_entry, fetch_flow_scalar, fetch_indented, fetch_key, fetch_plain_scalar, fetch_tag, fetch_token, fetch_value, has_no_nul, if◌then◌else◌, in_flow, is_at_gap, is_blank_or_breakz, is_document_marker, is_empty, is_literal, is_value, is_value_indicator, is_white, List, mark_of, may_begin, NameKind, nat_lt, not, peek, quote_of, Quotes, refl, Result, same_gap, ScannerState, slice_index, sym, Tok, token_by, true, ℕ, ◌&&◌, ◌+◌, ◌==◌, ◌||◌, ◌∙◌, ◌∷◌, ◌≡◌, nat_tests, InvalidIndentation, UnexpectedAt, UnexpectedBacktick, UnexpectedPercent, Alias, Anchor}
 use Rattle.yaml_chars.specs.Class.{is_blank, is_break, is_flow}
 use Rattle.defs_text.specs.Classes as classes
 use Rattle.model_scanner.specs.declared.kind.BlockStyle.{BlockStyle}
 use Rattle.model_scanner.specs.declared.kind.BlockStyle.TheVariants.{Literal, Folded}
 use Rattle.model_scanner.specs.declared.kind.Collection.TheVariants.{Sequence, Mapping}
-use Rattle.model_scanner.specs.declared.kind.NameKind.TheVariants.{Alias, Anchor}
 use Rattle.model_scanner.specs.declared.kind.Quotes.TheVariants.{Single, Double}
 use Rattle.proof_lexers.proofs.Bridges.{same_flow}
 use Rattle.proof_scanner.proofs.Cut.Nodes.{IsDeep}

@@ -1,5 +1,5 @@
 -- Of two reasons why a quoted scalar is refused at a place that both come first, kind and position are the same.
-use Rattle.proof_scanner.proofs.Common.{[], inl, inr, ◌⊎◌, arith, if◌then◌else◌, ap, append-nil, are_indented, AreNotIndented, begins_separation, begins_solid, begins_with, Bool, closed_first, content, Element, false, GoesOn, has_break, has_marker, has_no_nul, HasNoQuoted, is_empty, is_indented_by_spaces, is_separation, IsNotQuoted, IsQuoted, IsQuotedFault, lines_first, List, nat_lt, no_nul_after, off_margin, past, Position, position_after, Problem, quoted_first, quoted_may_end, quoted_scalar, refl, separations, subst, sym, tab, true, within, ℕ, ◌++◌, ◌∙◌, ◌∷◌, ◌≡◌, arith, nat_tests, eqb-true, elements, element_of, LineStand, past_elements, Some, CommentNotSeparated, ContentAfterQuoted, TabAsIndentation, TabInBlockIndentation}
+use Rattle.proof_scanner.proofs.Common.{[], inl, inr, ◌⊎◌, arith, if◌then◌else◌, ap, append-nil, are_indented, AreNotIndented, begins_separation, begins_solid, begins_with, Bool, closed_first, content, Element, false, GoesOn, has_break, has_marker, has_no_nul, HasNoQuoted, is_empty, is_indented_by_spaces, is_separation, IsNotQuoted, IsQuoted, IsQuotedFault, lines_first, List, nat_lt, no_nul_after, off_margin, past, Position, position_after, Problem, quoted_first, quoted_may_end, quoted_scalar, refl, separations, subst, sym, tab, true, within, ℕ, ◌++◌, ◌∙◌, ◌∷◌, ◌≡◌, arith, nat_tests, eqb-true, elements, element_of, LineStand, past_elements, Some, CommentNotSeparated, ContentAfterQuoted, TabAsIndentation, TabInBlockIndentation, further_is_no_break}
 use Rattle.defs_text.specs.Classes as classes
 use Rattle.proof_row.proofs.Quotes.{singles, doubles}
 use Rattle.proof_scanner.specs.NoPiece as none
@@ -8,7 +8,6 @@ use Rattle.proof_scanner.specs.QuotedLines as lines
 use Rattle.proof_scanner.proofs.Known.Places.{ends_before}
 use Rattle.proof_scanner.proofs.Sound.Passed.{same_has_break}
 use Rattle.proof_scanner.proofs.Refusals.QuotedReasons.{one_reason, walk_of, after_quote_at, all_stand, indented_are, is_marked, by_end, by_escape, by_column, by_tab, by_marker, placed, Place, Wrong, Reason}
-use Rattle.proof_row.proofs.Columns.{further_is_no_break}
 
 -- ---- the quote
 
