@@ -240,14 +240,13 @@ module _ (text : List ℕ) (t : ScannerState) (a : Arrives text t) (some : is_em
 
   white_told : (in_flow t.held || t.held.key_allowed) ≡ true → (more : List ℕ) → t.rest ≡ 63 ∷ more → is_at_gap more ≡ true → (u : ScannerState) → u.rest ≡ more → u.held.position ≡ past t.held.position → Faults (Said text) (skip_yaml_whitespace u)
   unfolding skip_yaml_whitespace
-  white_told asked more e gap u left place = by (white_or_missed more u.held gap)
-    where
-      by : (begins_with_space_or_break more ≡ true) ⊎ IsMissed more u.held → Faults (Said text) (white false false u.rest u.held)
-      by (inl begins) = subst (λ x. Faults (Said text) x) (sym (white_goes u (ap begins_with_space_or_break left ∙ begins))) goes
-      by (inr m) =
-          subst (λ x. Faults (Said text) x) (sym (ap (λ r. white false false r u.held) left ∙ m.is_refused)) (fault {f = At WhitespaceExpected u.held.position}
-          (followed_at WhitespaceExpected u.held.position (further 1 t.held.position) [] more place
-          (none.no_space more [] more e gap (record { is_text = refl; is_filled = refl; is_on_line = refl }) m.no_space m.ends) (λ c may. (asks asked c may, refl))))
+  white_told asked more e gap u left place = elim (white_or_missed more u.held gap) [
+    | inl begins ↦ subst (λ x. Faults (Said text) x) (sym (white_goes u (ap begins_with_space_or_break left ∙ begins))) goes
+    | inr m ↦
+        subst (λ x. Faults (Said text) x) (sym (ap (λ r. white false false r u.held) left ∙ m.is_refused)) (fault {f = At WhitespaceExpected u.held.position}
+        (followed_at WhitespaceExpected u.held.position (further 1 t.held.position) [] more place
+        (none.no_space more [] more e gap (record { is_text = refl; is_filled = refl; is_on_line = refl }) m.no_space m.ends) (λ c may. (asks asked c may, refl))))
+  ]
 
   tab_first : (r : List ℕ) → (peek r == 9) ≡ true → r ≡ 9 ∷ after r
   tab_first r h = grind arith

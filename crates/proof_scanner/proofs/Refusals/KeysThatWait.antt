@@ -393,11 +393,10 @@ module _ {a : Account} {separation rest : List ℕ} {here : Position} (s : StepA
       unbroken (inside some sep site one) = (still_there true _ s.account.line s.past.line q waiting sep).0
 
   pub not_closing : is_in_flow a.entries ≡ false → (act_of s.step.shown ≡ gives_comma) ⊎ (act_of s.step.shown ≡ gives_closing) → ⊥
-  not_closing out act = by made_here
-    where
-      by : Made s.account.site s.account.line s.account.entries s.step s.next s.past → ⊥
-      by (outside m o none sep past line site one) = grind (arith, (still_there false _ s.account.line m q waiting sep).1)
-      by (inside some sep site one) = cc (out, same_flow a.entries s.account.entries s.is_like.2, some)
+  not_closing out act = elim made_here [
+    | outside m o none sep past line site one ↦ grind (arith, (still_there false _ s.account.line m q waiting sep).1)
+    | inside some sep site one ↦ cc (out, same_flow a.entries s.account.entries s.is_like.2, some)
+  ]
 
   -- the text says so
   pub closes : (c : ℕ) (more : List ℕ) → rest ≡ c ∷ more → (c ≡ 44) ⊎ (c ≡ 93) ⊎ (c ≡ 125) → (act_of s.step.shown ≡ gives_comma) ⊎ (act_of s.step.shown ≡ gives_closing)

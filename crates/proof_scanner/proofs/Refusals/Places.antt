@@ -112,20 +112,19 @@ module _ (text : List ℕ) (t : ScannerState) (a : Arrives text t) (some : is_em
 
   -- What fails here, whatever is chosen, is what the text is stuck by.
   pub stuck : (cs : List Bool) (why : Problem) (at : Position) → ((c : Bool) → IsAllowed c → FailsFirst (account_by c cs) a.separation t.held.position t.rest why at) → IsWhy text why at
-  stuck cs why at h = by (where_is (outside_key a.base.entries t.held.keys) t.held.position t.rest some)
-    where
-      by : Where (outside_key a.base.entries t.held.keys) t.held.position t.rest → IsWhy text why at
-      by (placed c may) = record { is_stuck = fails (account_by c cs) a.separation t.rest why t.held.position at (place c cs may) some a.is_solid (h c (λ _. may)); stands = shown.stands text t a c cs why at (h c (λ _. may)).fails }
-      by (behind x e must late) = elim (cases_Bool (is_empty t.held.flow)) [
-        | inl o ↦ let near : IsNear (Some x) t.held.position = subst (λ k. IsNear k t.held.position) e (a.is_near o) in absurd (omega (arith, near.0, late))
-        | inr i ↦
-            let entries : is_empty a.base.entries ≡ false = sym (same_flow t.held.key_allowed _ t.held.flow t.held.keys a.base.entries a.are_entries) ∙ i in
-            let first = h false (λ o. absurd (cc (o, i))) in
-            record {
-              is_stuck = key_waits (account_by false cs) a.separation t.rest why x.position t.held.position at (a.carries cs x e must entries some) (in_flow_is false cs ∙ ap not i) a.is_filled a.position_is late some a.is_solid first;
-              stands = shown.stands text t a false cs why at first.fails;
-            }
-      ]
+  stuck cs why at h = elim (where_is (outside_key a.base.entries t.held.keys) t.held.position t.rest some) [
+    | placed c may ↦ record { is_stuck = fails (account_by c cs) a.separation t.rest why t.held.position at (place c cs may) some a.is_solid (h c (λ _. may)); stands = shown.stands text t a c cs why at (h c (λ _. may)).fails }
+    | behind x e must late ↦ elim (cases_Bool (is_empty t.held.flow)) [
+      | inl o ↦ let near : IsNear (Some x) t.held.position = subst (λ k. IsNear k t.held.position) e (a.is_near o) in absurd (omega (arith, near.0, late))
+      | inr i ↦
+          let entries : is_empty a.base.entries ≡ false = sym (same_flow t.held.key_allowed _ t.held.flow t.held.keys a.base.entries a.are_entries) ∙ i in
+          let first = h false (λ o. absurd (cc (o, i))) in
+          record {
+            is_stuck = key_waits (account_by false cs) a.separation t.rest why x.position t.held.position at (a.carries cs x e must entries some) (in_flow_is false cs ∙ ap not i) a.is_filled a.position_is late some a.is_solid first;
+            stands = shown.stands text t a false cs why at first.fails;
+          }
+    ]
+  ]
 
 -- what comes lies deep enough, unless it is a line for the document
 abbrev pub LiesDeep : ScannerState → Type 0

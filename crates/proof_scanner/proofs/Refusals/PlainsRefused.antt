@@ -199,13 +199,12 @@ module _ {a : Account} {separation rest : List ℕ} {here : Position} (s : StepA
   comes_there = grind arith
 
   plain_here : Here plain_scalar
-  plain_here = by (comes_by (pieces.is_in_flow seen_here) (is_adjacent seen_here.before) seen_here.position.col rest comes_there)
-    where
-      by : Comes (pieces.is_in_flow seen_here) (is_adjacent seen_here.before) seen_here.position.col rest → Here plain_scalar
-      by (comes k) = subst Here k (whole_at s)
-      by (dashed k) =
-          let m : Here dashes = subst Here k (whole_at s) in
-          absurd (no_marker (pieces.is_in_flow seen_here) (is_adjacent seen_here.before) seen_here.position.col rest next comes_there (ap (λ p. p ++ next) (sym m.0.0) ∙ s.text_is) m.0.1 m.0.2)
+  plain_here = elim (comes_by (pieces.is_in_flow seen_here) (is_adjacent seen_here.before) seen_here.position.col rest comes_there) [
+    | comes k ↦ subst Here k (whole_at s)
+    | dashed k ↦
+        let m : Here dashes = subst Here k (whole_at s) in
+        absurd (no_marker (pieces.is_in_flow seen_here) (is_adjacent seen_here.before) seen_here.position.col rest next comes_there (ap (λ p. p ++ next) (sym m.0.0) ∙ s.text_is) m.0.1 m.0.2)
+  ]
 
   site_is : At s.account s.step next ≡ site_at_place a here
   site_is = node_site s (ap act_of plain_here.2)

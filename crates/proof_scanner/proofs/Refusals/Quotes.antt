@@ -176,8 +176,7 @@ module _ (text : List ℕ) (t : ScannerState) (a : Arrives text t) (some : is_em
                   (ap (λ r. has_marker x.body r) (sym cut) ∙ marks false free, indented))
 
     pub refused_told : has_no_nul more ≡ true → (f : Fault) → quoted single ctx (none.quote_of single ∷ more) here ≡ Err f → Said text f
-    refused_told clean f fails = by (quoted_ends single ctx here least limit (omega (arith, deep, same)) more (some_chars more clean))
-      where
-        by : Ends single ctx here least limit within (past here) more (quoted single ctx (none.quote_of single ∷ more) here) → Said text f
-        by (reads y w i) = absurd (cc (i, fails))
-        by (refused why at h i) = let is : At why at ≡ f = cc (i, fails) in subst (λ g. Said text g) is (λ _. told_by f fails why at is h)
+    refused_told clean f fails = elim (quoted_ends single ctx here least limit (omega (arith, deep, same)) more (some_chars more clean)) [
+      | reads y w i ↦ absurd (cc (i, fails))
+      | refused why at h i ↦ let is : At why at ≡ f = cc (i, fails) in subst (λ g. Said text g) is (λ _. told_by f fails why at is h)
+    ]
