@@ -156,20 +156,16 @@ below_after s l m ds es w c next a b i j f below e1 e2 q wt tk = by (made s l ds
 
     both : (n o : Line) (u v : Outside) → LikeLine n o → line_past_separation false broken l ≡ Some n → line_past_separation false broken m ≡ Some o
         → line_past (is_in_column at.position.col at.blocks) at.position at.blocks (act_of w.shown) c o ≡ Some v → v.line ≡ taken → Waits (is_in_column at.position.col at.blocks) at.position at.blocks (act_of w.shown) n u q → AllBelow q.col u.blocks
-    both n o u v k sep1 sep2 past tk (begun act fr h bs) = to (taken_past _ _ _ c o v (ap (λ x. line_past (is_in_column at.position.col at.blocks) at.position at.blocks x c o) (sym act) ∙ past) tk)
-      where
-        to : ((o ≡ free) × (is_in_column at.position.col at.blocks ≡ false)) ⊎ (o ≡ taken) → AllBelow q.col u.blocks
-        to (inl p) = subst (λ x. AllBelow q.col x) (sym bs) (subst (λ (x : Position). AllBelow x.col at.blocks) h (grind (arith, below_here)))
-        to (inr t) = absurd (grind arith)
-    both n o u v k sep1 sep2 past tk (kept act is bs) = to (taken_past _ _ _ c o v (ap (λ x. line_past (is_in_column at.position.col at.blocks) at.position at.blocks x c o) (sym act) ∙ past) tk)
-      where
-        was : (l ≡ waits q) × (broken ≡ false)
-        was = waited false broken l n q sep1 is
-
-        to : ((o ≡ free) × (is_in_column at.position.col at.blocks ≡ false)) ⊎ (o ≡ taken) → AllBelow q.col u.blocks
-        to (inl p) = absurd (grind arith)
-        to (inr t) = subst (λ x. AllBelow q.col x) (sym bs) (below_at q.col false (act_of w.shown) at.position.col s.blocks
-            (below q was.0 (same_of m o (subst (λ x. line_past_separation false x m ≡ Some o) was.1 sep2) ∙ t)))
+    both n o u v k sep1 sep2 past tk (begun act fr h bs) = elim (taken_past _ _ _ c o v (ap (λ x. line_past (is_in_column at.position.col at.blocks) at.position at.blocks x c o) (sym act) ∙ past) tk) [
+      | inl p ↦ subst (λ x. AllBelow q.col x) (sym bs) (subst (λ (x : Position). AllBelow x.col at.blocks) h (grind (arith, below_here)))
+      | inr t ↦ absurd (grind arith)
+    ]
+    both n o u v k sep1 sep2 past tk (kept act is bs) =
+        let was : (l ≡ waits q) × (broken ≡ false) = waited false broken l n q sep1 is in
+        elim (taken_past _ _ _ c o v (ap (λ x. line_past (is_in_column at.position.col at.blocks) at.position at.blocks x c o) (sym act) ∙ past) tk) [
+          | inl p ↦ absurd (grind arith)
+          | inr t ↦ subst (λ x. AllBelow q.col x) (sym bs) (below_at q.col false (act_of w.shown) at.position.col s.blocks (below q was.0 (same_of m o (subst (λ x. line_past_separation false x m ≡ Some o) was.1 sep2) ∙ t)))
+        ]
 
     by : Made s l ds w next a → Made s m es (With w c) next b → AllBelow q.col a.site.blocks
     by (outside n u n1 sep1 past1 line1 site1 one1) (outside o v n2 sep2 past2 line2 site2 one2) =
