@@ -34,13 +34,9 @@ stand_content s c (d ∷ r) h = stand_content (past s c) d r h
 
 -- ---- where one comes
 
--- the dispatch looks for a plain scalar: the text begins with one, or with a dash before another thing
-pub data Comes (fl adjacent : Bool) (column : ℕ) (text : List ℕ) : Type 0 where
-  comes : kind_at fl adjacent column text ≡ plain_scalar → Comes fl adjacent column text
-  dashed : kind_at fl adjacent column text ≡ dashes → Comes fl adjacent column text
-
-pub comes_by : (fl adjacent : Bool) (column : ℕ) (text : List ℕ) → comes_plain fl adjacent column text ≡ true → Comes fl adjacent column text
-comes_by fl adjacent column text h = grind (arith, comes, dashed, nat_tests)
+-- where the dispatch looks for a plain scalar the text begins with one, or with a dash before another thing
+comes_by : (fl adjacent : Bool) (column : ℕ) (text : List ℕ) → comes_plain fl adjacent column text ≡ true → (kind_at fl adjacent column text ≡ plain_scalar) ⊎ (kind_at fl adjacent column text ≡ dashes)
+comes_by fl adjacent column text h = grind (arith, nat_tests)
 
 -- the other thing is no document marker
 pub no_marker : (fl adjacent : Bool) (column : ℕ) (text next : List ℕ) → comes_plain fl adjacent column text ≡ true → (45 ∷ 45 ∷ 45 ∷ next) ≡ text → column ≡ 0 → is_at_gap next ≡ true → ⊥
@@ -200,8 +196,8 @@ module _ {a : Account} {separation rest : List ℕ} {here : Position} (s : StepA
 
   plain_here : Here plain_scalar
   plain_here = elim (comes_by (pieces.is_in_flow seen_here) (is_adjacent seen_here.before) seen_here.position.col rest comes_there) [
-    | comes k ↦ subst Here k (whole_at s)
-    | dashed k ↦
+    | inl k ↦ subst Here k (whole_at s)
+    | inr k ↦
         let m : Here dashes = subst Here k (whole_at s) in
         absurd (no_marker (pieces.is_in_flow seen_here) (is_adjacent seen_here.before) seen_here.position.col rest next comes_there (ap (λ p. p ++ next) (sym m.0.0) ∙ s.text_is) m.0.1 m.0.2)
   ]

@@ -37,8 +37,8 @@ cut_no_longer g a r e = let k = ap length e in let n = length-append g r in omeg
 spaced_no_longer : (tabs : SkipTabs) (t u : ScannerState) → Spaced tabs t u → length u.rest ≤ length t.rest
 spaced_no_longer tabs t u s = cut_no_longer (s.blanks ++ s.comment) t.rest u.rest (s.is_rest ∙ sym (append_assoc s.blanks s.comment u.rest))
 
-read_shorter : (a : Account) (text : List ℕ) (tok : Tok) (p : Position) (rest : List ℕ) (end : Position) → ReadAs a text tok p rest end → length rest < length text
-read_shorter a text tok p rest end r = grind (arith, length-append)
+read_shorter : (a : Account) (whole text : List ℕ) (tok : Tok) (p : Position) (rest : List ℕ) (end : Position) → whole ≡ text → ReadAs a text tok p rest end → length rest < length whole
+read_shorter a whole text tok p rest end e r = grind (arith, length-append)
 
 -- an account that a lexing function asks for
 abbrev asked : Position → (flow : Bool) → (column : Option ℕ) → Before → Account
@@ -57,14 +57,13 @@ module _ (text : List ℕ) (t : ScannerState) (a : Arrives text t) (some : is_em
   unfolding fetch_anchor
   name_shortens kind more e =
       read (node_start t.held) (anchor_name t.rest t.held.position) _ (λ x k.
-      went (subst (λ r. length x.rest < length r) (sym e) (read_shorter _ _ _ _ _ _ (pieces_are_read.name (asked t.held.position false None other) kind more x (clean_more _ more e) (ap (λ r. anchor_name r t.held.position) (sym e) ∙ k)))))
+      went (read_shorter _ _ _ _ _ _ _ e (pieces_are_read.name (asked t.held.position false None other) kind more x (clean_more _ more e) (ap (λ r. anchor_name r t.held.position) (sym e) ∙ k))))
 
   tag_shortens : (more : List ℕ) → t.rest ≡ 33 ∷ more → Holds Shorter (fetch_tag t)
   unfolding fetch_tag
   tag_shortens more e =
       read (node_start t.held) (tags.tag (in_flow t.held) t.rest t.held.position) _ (λ x k.
-      went (subst (λ r. length x.rest < length r) (sym e) (read_shorter _ _ _ _ _ _
-      (pieces_are_read.tag (asked t.held.position (in_flow t.held) None other) (in_flow t.held) more x (clean_more _ more e) (grind arith) (ap (λ r. tags.tag (in_flow t.held) r t.held.position) (sym e) ∙ k)))))
+      went (read_shorter _ _ _ _ _ _ _ e (pieces_are_read.tag (asked t.held.position (in_flow t.held) None other) (in_flow t.held) more x (clean_more _ more e) (grind arith) (ap (λ r. tags.tag (in_flow t.held) r t.held.position) (sym e) ∙ k))))
 
   after_quoted : (line : ℕ) (u : ScannerState) → Holds (λ v. length v.rest ≤ length u.rest) (check_after_quoted line u)
   unfolding check_after_quoted
@@ -74,8 +73,7 @@ module _ (text : List ℕ) (t : ScannerState) (a : Arrives text t) (some : is_em
   unfolding fetch_flow_scalar
   quoted_shortens quotes more e =
       read (node_start t.held) (quoted (are_single quotes) (context (node_start t.held)) t.rest t.held.position) _ (λ x k.
-      let less : length x.rest < length t.rest = subst (λ r. length x.rest < length r) (sym e) (read_shorter _ _ _ _ _ _
-      (pieces_are_read.quoted (asked t.held.position false None other) quotes (context (node_start t.held)) more x (clean_more _ more e) (ap (λ r. quoted (are_single quotes) (context (node_start t.held)) r t.held.position) (sym e) ∙ k))) in
+      let less : length x.rest < length t.rest = read_shorter _ _ _ _ _ _ _ e (pieces_are_read.quoted (asked t.held.position false None other) quotes (context (node_start t.held)) more x (clean_more _ more e) (ap (λ r. quoted (are_single quotes) (context (node_start t.held)) r t.held.position) (sym e) ∙ k)) in
       chained (after_quoted t.held.position.line (on_held unled (go_on x (node_start t.held)))) (λ v n. chained (exact v) (λ w p.
       let m = cut_no_longer p.separation v.rest w.rest p.cut in went (omega (arith, less, n, m)))))
 
@@ -87,8 +85,7 @@ module _ (text : List ℕ) (t : ScannerState) (a : Arrives text t) (some : is_em
   unfolding fetch_block_scalar
   block_shortens style more e =
       read saved (block (is_literal style) saved.indent t.rest t.held.position) _ (λ x k.
-      went (subst (λ r. length x.rest < length r) (sym e) (read_shorter _ _ _ _ _ _
-      (pieces_are_read.block (asked t.held.position false (collection_of saved.indent) other) style saved.indent more x (clean_more _ more e) refl (grind arith) (ap (λ r. block (is_literal style) saved.indent r t.held.position) (sym e) ∙ k)).0)))
+      went (read_shorter _ _ _ _ _ _ _ e (pieces_are_read.block (asked t.held.position false (collection_of saved.indent) other) style saved.indent more x (clean_more _ more e) refl (grind arith) (ap (λ r. block (is_literal style) saved.indent r t.held.position) (sym e) ∙ k)).0))
 
   abbrev ctx : Context
   ctx = record { flow = in_flow t.held; indent = (without_open t.held.indent t.held.indents t.held.tokens).indent }
@@ -103,7 +100,7 @@ module _ (text : List ℕ) (t : ScannerState) (a : Arrives text t) (some : is_em
       (λ r u. Ok (on_held (λ v. push t.held.position (Tok.scalar Style.plain r.text) (after_plain r.leading v)) u)))) (sym (saved_is t.held))
       (read (unroll_non_block_indents (allow_key false (record t.held { keys = saved_keys t.held }))) (plain ctx t.rest t.held.position) _ (λ x k.
       let b : Account = asked t.held.position (in_flow t.held) (collection_of ctx.indent) before_here in
-      went (read_shorter b t.rest _ _ _ _ (pieces_are_read.plain b ctx t.rest x a.is_clean (grind arith) (grind arith)
+      went (read_shorter b t.rest t.rest _ _ _ _ refl (pieces_are_read.plain b ctx t.rest x a.is_clean (grind arith) (grind arith)
       comes (less_or (in_flow t.held) ctx.indent t.held.position.col (omega (arith, deep, (without_is t.held.indent t.held.indents t.held.tokens a.are_levels).not_deeper))) k))))
 
   -- ---- indicators
