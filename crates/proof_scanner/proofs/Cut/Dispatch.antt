@@ -1,9 +1,8 @@
 -- The next token by its first characters.
-use Rattle.proof_scanner.proofs.Common.{row, [], codes, and_false, ap, are_single, arith, At, begins_flow, begins_separation, Bool, class_of, comes_marker, comes_plain, eqb-true, Err, false, Fault, fetch_anchor, fetch_block_entry, fetch_block_scalar, fetch_content, fetch_directive, fetch_document_end, fetch_document_marker, fetch_first_column, fetch_flow_collection_end, fetch_flow_collection_start, fetch_flow_entry, fetch_flow_scalar, fetch_indented, fetch_key, fetch_plain_scalar, fetch_tag, fetch_token, fetch_value, has_no_nul, if◌then◌else◌, in_flow, is_at_gap, is_blank_or_breakz, is_document_marker, is_empty, is_literal, is_value, is_value_indicator, is_white, List, mark_of, may_begin, NameKind, nat_lt, not, peek, quote_of, Quotes, refl, Result, same_gap, ScannerState, slice_index, sym, Tok, token_by, true, ℕ, ◌&&◌, ◌+◌, ◌==◌, ◌||◌, ◌∙◌, ◌∷◌, ◌≡◌, nat_tests, InvalidIndentation, UnexpectedAt, UnexpectedBacktick, UnexpectedPercent, Alias, Anchor}
+use Rattle.proof_scanner.proofs.Common.{row, [], codes, and_false, ap, are_single, arith, At, begins_separation, Bool, class_of, comes_marker, comes_plain, eqb-true, Err, false, Fault, fetch_anchor, fetch_block_entry, fetch_block_scalar, fetch_content, fetch_directive, fetch_document_end, fetch_document_marker, fetch_first_column, fetch_flow_collection_end, fetch_flow_collection_start, fetch_flow_entry, fetch_flow_scalar, fetch_indented, fetch_key, fetch_plain_scalar, fetch_tag, fetch_token, fetch_value, has_no_nul, if◌then◌else◌, in_flow, is_at_gap, is_blank_or_breakz, is_document_marker, is_empty, is_literal, is_value, is_value_indicator, is_white, List, mark_of, may_begin, NameKind, nat_lt, not, peek, quote_of, Quotes, refl, Result, same_gap, ScannerState, slice_index, sym, Tok, token_by, true, ℕ, ◌&&◌, ◌+◌, ◌==◌, ◌||◌, ◌∙◌, ◌∷◌, ◌≡◌, nat_tests, InvalidIndentation, UnexpectedAt, UnexpectedBacktick, UnexpectedPercent, Alias, Anchor}
 use Rattle.yaml_chars.specs.Class.{is_blank, is_break, is_flow}
 use Rattle.defs_text.specs.Classes as classes
 use Rattle.model_scanner.specs.declared.kind.BlockStyle.{BlockStyle}
-use Rattle.model_scanner.specs.declared.kind.BlockStyle.TheVariants.{Literal, Folded}
 use Rattle.model_scanner.specs.declared.kind.Collection.TheVariants.{Sequence, Mapping}
 use Rattle.model_scanner.specs.declared.kind.Quotes.TheVariants.{Single, Double}
 use Rattle.proof_lexers.proofs.Bridges.{same_flow}
@@ -24,6 +23,9 @@ told = 0 ∷ codes " \t\n\r#-?:,[]{}*&!|>'\"%@`"
 abbrev AllOf : (P : ℕ → Type 0) → List ℕ → Type 0
 AllOf P [] = Unit {0}
 AllOf P (d ∷ ds) = P d × AllOf P ds
+
+also : {A B : Type 0} → A → B → A × B
+also a b = (a, b)
 
 -- a character is none of some
 abbrev IsNone : List ℕ → ℕ → Type 0
@@ -111,9 +113,10 @@ module _ (Q : Result ScannerState Fault → Type 0) (t : ScannerState) (adjacent
   each : (c : ℕ) → Reads c
   unfolding class_of classes.is_blank classes.is_break
   each c =
-      each_of Reads c told (no_nul, (no_separation 32 refl, (no_separation 9 refl, (no_separation 10 refl, (no_separation 13 refl, (no_separation 35 refl,
-      (dash, (question, (colon, (h.comma, (h.open_bracket, (h.close_bracket, (h.open_brace, (h.close_brace, (h.anchor Alias, (h.anchor Anchor, (h.tag,
-      (bar, (greater, (h.quoted Single, (h.quoted Double, (h.percent, (h.at_sign, (h.backtick, tt)))))))))))))))))))))))) (other c)
+      each_of Reads c told (also no_nul (also (no_separation 32 refl) (also (no_separation 9 refl) (also (no_separation 10 refl)
+      (also (no_separation 13 refl) (also (no_separation 35 refl) (also dash (also question (also colon (also h.comma (also h.open_bracket
+      (also h.close_bracket (also h.open_brace (also h.close_brace (also (h.anchor Alias) (also (h.anchor Anchor) (also h.tag (also bar
+      (also greater (also (h.quoted Single) (also (h.quoted Double) (also h.percent (also h.at_sign (also h.backtick tt)))))))))))))))))))))))) (other c)
 
   pub token_holds : is_empty t.rest ≡ false → Q (fetch_token t)
   unfolding fetch_token

@@ -1,5 +1,5 @@
 -- What the first characters of a text say: the text goes on, or a document marker stands there.
-use Rattle.proof_scanner.proofs.Common.{[], are_marks, arith, begins_with, comes_marker, false, has_no_nul, is_at_gap, is_blank_or_breakz, is_document_marker, is_empty, is_nul, List, nat_tests, peek, same_gap, slice_index, true, ℕ, ◌==◌, ◌∷◌, ◌≡◌}
+use Rattle.proof_scanner.proofs.Common.{[], are_marks, arith, begins_with, comes_marker, false, has_no_nul, is_at_gap, is_document_marker, is_empty, is_nul, List, nat_tests, peek, same_gap, true, ℕ, ◌==◌, ◌∷◌, ◌≡◌}
 use Rattle.yaml_chars.specs.Class.{is_blank, is_break}
 
 -- ---- keys that are too far back

@@ -1,5 +1,5 @@
 -- Of two reasons why a quoted scalar is refused at a place that both come first, kind and position are the same.
-use Rattle.proof_scanner.proofs.Common.{[], inl, inr, ◌⊎◌, arith, if◌then◌else◌, ap, append-nil, are_indented, AreNotIndented, begins_separation, begins_solid, begins_with, Bool, closed_first, content, Element, false, GoesOn, has_break, has_marker, has_no_nul, HasNoQuoted, is_empty, is_indented_by_spaces, is_separation, IsNotQuoted, IsQuoted, IsQuotedFault, lines_first, List, nat_lt, no_nul_after, off_margin, past, Position, position_after, Problem, quoted_first, quoted_may_end, quoted_scalar, refl, separations, subst, sym, tab, true, within, ℕ, ◌++◌, ◌∙◌, ◌∷◌, ◌≡◌, arith, nat_tests, eqb-true, elements, element_of, LineStand, past_elements, Some, CommentNotSeparated, ContentAfterQuoted, TabAsIndentation, TabInBlockIndentation, further_is_no_break}
+use Rattle.proof_scanner.proofs.Common.{[], inl, inr, ◌⊎◌, arith, if◌then◌else◌, ap, append-nil, are_indented, AreNotIndented, begins_separation, begins_with, Bool, closed_first, content, Element, false, GoesOn, has_break, has_marker, has_no_nul, HasNoQuoted, is_indented_by_spaces, is_separation, IsNotQuoted, IsQuoted, IsQuotedFault, lines_first, List, nat_lt, no_nul_after, off_margin, past, Position, position_after, Problem, quoted_first, quoted_scalar, refl, separations, subst, sym, tab, true, within, ℕ, ◌++◌, ◌∙◌, ◌∷◌, ◌≡◌, arith, nat_tests, eqb-true, elements, element_of, LineStand, past_elements, Some, CommentNotSeparated, ContentAfterQuoted, TabAsIndentation, TabInBlockIndentation, further_is_no_break}
 use Rattle.defs_text.specs.Classes as classes
 use Rattle.proof_row.proofs.Quotes.{singles, doubles}
 use Rattle.proof_scanner.specs.NoPiece as none

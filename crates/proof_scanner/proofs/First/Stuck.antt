@@ -205,15 +205,15 @@ module _ (text : List ℕ) where
       elim (meet GivesUp GivesUp Nothing (record { first_like = λ x y z g i. gives_up_like x z y g i; second_like = gives_up_second; first = λ x y z after i g r. tt; second = λ x y z after i g r. tt; both = λ x y a b v c next i r k l e f. tt })
       f.way.steps g.way.steps (f.separation ++ f.rest) (g.separation ++ g.rest) first_account first_account f.account g.account itself tt
       f.way.leads g.way.leads (f.way.spells ∙ sym g.way.spells) (clean_way text f.way.steps (f.separation ++ f.rest) f.way.spells)) [
-    | same_place like r e ↦
-        let cut = one_cut f.account g.account f.separation f.rest g.separation g.rest f.here g.here f.stands g.stands like (clean_place f.way) e in
-        one_reason f.account g.account like f.separation f.here f.rest (no_nul_after f.separation f.rest (clean_place f.way)) why1 why2 at1 at2 f.first
-        (subst (λ s. FailsFirst g.account s f.here f.rest why2 at2) (sym cut.0) (subst (λ r. FailsFirst g.account g.separation f.here r why2 at2) (sym cut.1) (subst (λ h. FailsFirst g.account g.separation h g.rest why2 at2) (sym cut.2) g.first)))
-    | second_on n ↦ fails_before GivesUp gives_up_site Nothing f.account g.account f.separation f.rest g.separation g.rest f.here g.here f.stands g.stands n (clean_place f.way) why1 why2 at1 at2 f.first g.first
-    | first_on n ↦
-        let turned = fails_before GivesUp gives_up_site (λ x y. Nothing y x) g.account f.account g.separation g.rest f.separation f.rest g.here f.here g.stands f.stands n (clean_place g.way) why2 why1 at2 at1 g.first f.first in
-        (sym turned.0, sym turned.1)
-  ]
+        | same_place like r e ↦
+            let cut = one_cut f.account g.account f.separation f.rest g.separation g.rest f.here g.here f.stands g.stands like (clean_place f.way) e in
+            one_reason f.account g.account like f.separation f.here f.rest (no_nul_after f.separation f.rest (clean_place f.way)) why1 why2 at1 at2 f.first
+            (subst (λ s. FailsFirst g.account s f.here f.rest why2 at2) (sym cut.0) (subst (λ r. FailsFirst g.account g.separation f.here r why2 at2) (sym cut.1) (subst (λ h. FailsFirst g.account g.separation h g.rest why2 at2) (sym cut.2) g.first)))
+        | second_on n ↦ fails_before GivesUp gives_up_site Nothing f.account g.account f.separation f.rest g.separation g.rest f.here g.here f.stands g.stands n (clean_place f.way) why1 why2 at1 at2 f.first g.first
+        | first_on n ↦
+            let turned = fails_before GivesUp gives_up_site (λ x y. Nothing y x) g.account f.account g.separation g.rest f.separation f.rest g.here f.here g.stands f.stands n (clean_place g.way) why2 why1 at2 at1 g.first f.first in
+            (sym turned.0, sym turned.1)
+      ]
 
   stands_keyless : (here : Position) (k : KeylessAt text here) → Stands k.account k.separation (58 ∷ k.more) here
   unfolding classes.is_blank classes.is_break

@@ -1,5 +1,5 @@
 -- Where a condition of these kinds fails no row of the text goes on.
-use Rattle.proof_scanner.proofs.Common.{Account, after_blank, ap, arith, AreNotIndented, before_by, before_past, Begins, begins_separation, begins_token, Bool, comes_plain, FailingPlacesHaveNoRow, Fails, false, goes_over, HasNoKey, HasRow, innermost, is_adjacent, is_blanks, is_empty, is_in_flow, is_indented_by_spaces, is_separation, is_taken, is_value_here, IsBlockFault, IsFollowed, IsPlace, IsPlainFault, IsQuoted, IsQuotedFault, least_column, List, MayNotStand, nat_lt, NoPiece, on_line, Position, position_after, Problem, quoted_scalar, refl, Row, Site, site_at_place, stand_after, tab, true, ℕ, ◌++◌, ◌∙◌, ◌∷◌, ◌≡◌, PlainTab, TabInBlockIndentation}
+use Rattle.proof_scanner.proofs.Common.{Account, after_blank, ap, AreNotIndented, before_by, before_past, Begins, begins_separation, begins_token, Bool, comes_plain, FailingPlacesHaveNoRow, Fails, false, goes_over, HasNoKey, HasRow, innermost, is_adjacent, is_blanks, is_empty, is_in_flow, is_indented_by_spaces, is_separation, is_taken, is_value_here, IsPlace, IsQuoted, IsQuotedFault, least_column, List, nat_lt, on_line, Position, position_after, Problem, quoted_scalar, refl, Row, Site, site_at_place, stand_after, tab, true, ℕ, ◌++◌, ◌∙◌, ◌∷◌, ◌≡◌, PlainTab, TabInBlockIndentation}
 use Rattle.defs_text.specs.Classes as classes
 use Rattle.proof_scanner.specs.NoPiece as none
 use Rattle.proof_scanner.specs.QuotedLines as quoted_lines

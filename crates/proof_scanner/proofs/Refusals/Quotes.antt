@@ -12,7 +12,7 @@ use Rattle.proof_scanner.proofs.Refusals.AfterQuoted.{check_passes}
 use Rattle.proof_scanner.proofs.Refusals.QuotedReasons.{not_closed, after_quote_at, all_stand, indented_are, is_marked, by_end, by_escape, by_column, by_tab, by_marker, placed, Wrong, Reason, Parted, parted, lines_close}
 use Rattle.proof_scanner.specs.NoPiece as none
 use Rattle.proof_scanner.specs.QuotedLines as lines
-use Rattle.proof_scanner.proofs.Refusals.QuotedLines.{is_of_lines, Ends, refused, reads, quoted_ends}
+use Rattle.proof_scanner.proofs.Refusals.QuotedLines.{is_of_lines, refused, reads, quoted_ends}
 use Rattle.proof_scanner.proofs.Refusals.Places.{Faults, fault, goes, in_turn, either, Said, IsWhy, LiesDeep, looked_at, none_here, followed_stuck, stuck_by, spaces_told, solid_past}
 
 -- ---- texts

@@ -1,11 +1,10 @@
 -- Each fetch reads on: where a piece begins, less text is left after it.
-use Rattle.proof_scanner.proofs.Common.{[], after_plain, allow_key, anchor_name, and_parts, ap, append_assoc, are_single, arith, Arrives, At, Before, before_by, before_past, begin_flow, begin_key, begin_line, begins_separation, block, Bool, both_hold, chained, check_after_quoted, check_after_tab, check_block_entry, check_dash, check_document_end, check_key_space, check_value_space, checked, Collection, collection_column, collection_of, comes_plain, Context, context, directives_end, either, end_entry, end_flow, end_stream, false, Fault, fetch, fetch_anchor, fetch_block_entry, fetch_block_scalar, fetch_content, fetch_directive, fetch_document_end, fetch_document_marker, fetch_flow_collection_end, fetch_flow_collection_start, fetch_flow_entry, fetch_flow_scalar, fetch_here, fetch_key, fetch_next, fetch_plain_scalar, fetch_stream_end, fetch_tag, fetch_token, fetch_value, go_on, has_no_nul, has_required, Held, Holds, if◌then◌else◌, in_flow, inl, inr, is_adjacent, is_document_marker, is_empty, is_literal, is_nul, length, lexed, List, mark_of, may_follow_quoted, NameKind, next_line, No, node_start, None, not, Ok, on_held, opens_pair, Option, other, paired, pass_indicator, peek, Position, push, quote_of, quoted, Quotes, Read, read, read_as, ReadAs, refl, refused, remove_implicit_key, Result, roll_entry, roll_indent, save_implicit_key, ScannerState, sequence, skip_indicator, SkipTabs, stale, Stands, Style, subst, sym, Tok, top_key, tried, true, try_held, unled, unroll_indent, unroll_non_block_indents, weakened, went, without_open, Yes, ℕ, ◌&&◌, ◌++◌, ◌+◌, ◌<◌, ◌==◌, ◌>>=◌, ◌∙◌, ◌∷◌, ◌≡◌, ◌≤◌, ◌⊎◌, KeyExpected, TabAfterKey, length-append, passes}
-use Rattle.defs_token.specs.Account.{Account, is_in_flow}
+use Rattle.proof_scanner.proofs.Common.{[], after_plain, allow_key, anchor_name, and_parts, ap, append_assoc, are_single, arith, Arrives, At, Before, before_by, before_past, begin_flow, begin_key, begin_line, begins_separation, block, Bool, both_hold, chained, check_after_quoted, check_after_tab, check_block_entry, check_dash, check_document_end, check_key_space, check_value_space, checked, Collection, collection_of, comes_plain, Context, context, directives_end, either, end_entry, end_flow, end_stream, false, Fault, fetch, fetch_anchor, fetch_block_entry, fetch_block_scalar, fetch_content, fetch_directive, fetch_document_end, fetch_document_marker, fetch_flow_collection_end, fetch_flow_collection_start, fetch_flow_entry, fetch_flow_scalar, fetch_here, fetch_key, fetch_next, fetch_plain_scalar, fetch_stream_end, fetch_tag, fetch_token, fetch_value, go_on, has_no_nul, has_required, Held, Holds, if◌then◌else◌, in_flow, inl, inr, is_adjacent, is_document_marker, is_empty, is_literal, is_nul, length, lexed, List, mark_of, may_follow_quoted, NameKind, next_line, No, node_start, None, not, Ok, on_held, opens_pair, Option, other, paired, pass_indicator, peek, Position, push, quote_of, quoted, Quotes, Read, read, read_as, ReadAs, refl, refused, remove_implicit_key, Result, roll_entry, roll_indent, save_implicit_key, ScannerState, sequence, skip_indicator, SkipTabs, stale, Stands, Style, subst, sym, Tok, top_key, tried, true, try_held, unled, unroll_indent, unroll_non_block_indents, weakened, went, without_open, Yes, ℕ, ◌&&◌, ◌++◌, ◌+◌, ◌<◌, ◌==◌, ◌>>=◌, ◌∙◌, ◌∷◌, ◌≡◌, ◌≤◌, ◌⊎◌, KeyExpected, TabAfterKey, length-append, passes}
+use Rattle.defs_token.specs.Account.{Account}
 use Rattle.model_scanner.specs.Directive.{directive}
 use Rattle.model_scanner.specs.Plain.{plain}
 use Rattle.model_scanner.specs.Tag as tags
 use Rattle.model_scanner.specs.declared.kind.BlockStyle.{BlockStyle}
-use Rattle.model_scanner.specs.declared.kind.Collection.TheVariants.{Sequence, Mapping}
 use Rattle.model_scanner.specs.State.{after}
 use Rattle.model_scanner.specs.Block.{value_of}
 use Rattle.proof_lexers.specs.DirectiveEnds as directives
@@ -207,8 +206,7 @@ module _ (text : List ℕ) (t : ScannerState) (a : Arrives text t) (some : is_em
   token_shortens : IsDeep t.held → ((t.held.position.col == 0) && is_document_marker t.rest) ≡ false → Holds Shorter (fetch_token t)
   token_shortens deep marker =
       token_holds (Holds Shorter) t (is_adjacent before_here) a.is_clean a.is_solid (λ inside. sym (a.is_adjacent_here inside some)) marker
-      (search (name_shortens, tag_shortens, plain_shortens, quoted_shortens, block_shortens, dash_shortens, question_shortens, colon_shortens,
-      opening_shortens, closing_shortens, comma_shortens, refused)) some
+      (search (name_shortens, tag_shortens, plain_shortens, quoted_shortens, block_shortens, dash_shortens, question_shortens, colon_shortens, opening_shortens, closing_shortens, comma_shortens, refused)) some
 
   content_shortens : Holds Shorter (fetch_content t)
   content_shortens =
