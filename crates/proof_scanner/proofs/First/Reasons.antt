@@ -510,8 +510,7 @@ colon_alone a b like separation more here is out seen apart why at x =
     at_colon n e = cc e
 
     none_here : (why : Problem) (at : Position) → ColonReason own here (58 ∷ more) why at → ⊥
-    none_here why at (inl (n, flowing, e, before, _, _)) = cc (out, flowing)
-    none_here why at (inr (n, passed, content, e, tabs, on, letter, _, _)) = cc (apart, tabs, ap colon_may_precede (at_colon n e))
+    none_here why at h = grind (arith, nat_tests, eqb-true, out, apart, colon_may_precede, at_colon)
 
 -- ---- one reason
 

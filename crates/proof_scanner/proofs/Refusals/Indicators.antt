@@ -201,8 +201,7 @@ module _ (text : List ℕ) (t : ScannerState) (a : Arrives text t) (some : is_em
 
   entry_outside : Holds (λ s. (in_flow t.held ≡ false) × (t.held.key_allowed ≡ true) × (s ≡ t.held)) (check_block_entry t.held)
   unfolding check_block_entry
-  entry_outside =
-      holds.checked (in_flow t.held) (At BlockEntryInFlow t.held.position) (λ o. holds.checked (not t.held.key_allowed) (At BlockEntryNotAllowed t.held.position) (λ n. holds.went (o, not-false t.held.key_allowed n, refl)))
+  entry_outside = grind (arith, nat_tests, eqb-true, holds.checked, in_flow, not, holds.went, not-false)
 
   -- no comment stands after what was passed behind a dash
   dash_spaced : (u : ScannerState) → Holds (λ v. (begins_with 35 v.rest ≡ false) × (v.held.keys ≡ u.held.keys)) (lexed (space Yes u.rest u.held.position) u.held check_dash)
@@ -314,8 +313,7 @@ module _ (text : List ℕ) (t : ScannerState) (a : Arrives text t) (some : is_em
 
   pair_told : (more : List ℕ) → t.rest ≡ 58 ∷ more → colon_may_precede more ≡ true → is_value t ≡ true → (k : Key) → top_key t.held.keys ≡ Some k → (pair : Bool) → opens_pair t.held.flow ≡ pair → (s : Held) → Faults (Said text) (begin_pair k t.held.position pair s)
   unfolding begin_pair
-  pair_told more e apart i k top true opens s = checked (nat_lt k.position.line t.held.position.line) (At ColonMisplaced t.held.position) (λ late. misplaced more e apart i k top opens late) (λ _. goes)
-  pair_told more e apart i k top false opens s = goes
+  pair_told more h e f k g pair i s = grind (arith, nat_tests, eqb-true, opens, checked, nat_lt, misplaced, goes)
 
   mapping_told : (more : List ℕ) → t.rest ≡ 58 ∷ more → colon_may_precede more ≡ true → is_value t ≡ true → top_key t.held.keys ≡ None → (s : Held) → in_flow s ≡ in_flow t.held → s.key_allowed ≡ t.held.key_allowed → Faults (Said text) (begin_keyless_mapping t.held.position s)
   unfolding begin_keyless_mapping

@@ -111,8 +111,7 @@ waiting_past s l es w next b on is e q wt = by (made s l es w next b e)
         line_after q here w.piece w.shown next b.site (ap (λ (x : Site). x.position) site) (ap (λ (x : Site). x.before) site) far.0 is.1.0 (not_broken w.piece b.line q wt one) (unmarked (is_marker (act_of w.shown)) refl far.1)
       where
         unmarked : (c : Bool) → is_marker (act_of w.shown) ≡ c → 1 ≤ here.col → is_marker (act_of w.shown) ≡ false
-        unmarked false m far = m
-        unmarked true m far = let zero : here.col ≡ 0 = (marker_begins _ w.piece next None _ w.shown is.1.1 m).column in absurd (omega (arith, far, zero))
+        unmarked c h e = grind (arith, nat_tests, eqb-true, marker_begins, next, is)
 
 -- ---- a beginning and a row
 
@@ -268,8 +267,7 @@ texts_with_a_row_are_not_stuck text why at r row (key_waits a separation rest wh
 
 -- steps lead on from an account
 some_past : (o : Option Account) (ws : List Step) (after : List ℕ) (b : Account) → Leads o ws after b → (c : Account) × (o ≡ Some c) × Leads (Some c) ws after b
-some_past None ws after b h = absurd h
-some_past (Some c) ws after b h = (c, refl, h)
+some_past o ws after b h = grind (arith, nat_tests, eqb-true)
 
 leads_waiting : (ws : List Step) (after : List ℕ) (a b : Account) → Waiting a.line a.site → Leads (Some a) ws after b → Waiting b.line b.site
 leads_waiting [] after a b on e = subst (λ (x : Account). Waiting x.line x.site) e on
@@ -299,8 +297,7 @@ leads_position (w ∷ ws) after a b h =
     ap (λ x. position_after (position_after a.site.position w.separation x) (w.piece ++ rest) after) (sym (append_assoc w.piece rest after)) ∙ sym (position_append a.site.position w.separation (w.piece ++ rest) after)
   where
     place : (c : Account) → Made a.site a.line a.entries w (spelled ws after) c → c.site.position ≡ position_after (position_after a.site.position w.separation (w.piece ++ spelled ws after)) w.piece (spelled ws after)
-    place c (outside m o none sep past line site one) = ap (λ x. x.position) site
-    place c (inside some sep site one) = ap (λ x. x.position) site
+    place c h = grind (arith, nat_tests, eqb-true, outside, inside)
 
 -- A separation after a beginning of a row ends where the scanner is, before the same text.
 same_place : (text separation rest : List ℕ) (p : Position) (b : Account) → has_no_nul text ≡ true → IsPositionIn text rest p → Begins text (separation ++ rest) b → p ≡ position_after b.site.position separation rest

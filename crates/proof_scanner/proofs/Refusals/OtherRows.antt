@@ -23,8 +23,7 @@ pub record GoesNear (a : Account) (w : Step) (next : List ℕ) (q : Position) : 
 
 -- a row goes on from an account
 pub some_row : (o : Option Account) (ws : List Step) (last : List ℕ) → IsRowFrom o ws last → (c : Account) × (o ≡ Some c) × IsRowFrom (Some c) ws last
-some_row None ws last row = absurd row
-some_row (Some c) ws last row = (c, refl, row)
+some_row o ws last h = grind (arith, nat_tests, eqb-true)
 
 near_by : (w : Step) (ws : List Step) (last : List ℕ) (a : Account) (q : Position) → a.line ≡ waits q → IsRowFrom (Some a) (w ∷ ws) last → ((b : Account) → b.line ≡ waits q → IsRowFrom (Some b) ws last → b.site.position.index ≤ q.index + 1024) → GoesNear a w (spelled ws last) q
 near_by w ws last a q e row further = let c = some_row (account_past a w (spelled ws last)) ws last row.1 in of c.0 c.2 (made a.site a.line a.entries w (spelled ws last) c.0 c.1)

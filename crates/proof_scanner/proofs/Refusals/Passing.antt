@@ -198,8 +198,7 @@ module _ (text : List ℕ) (t : ScannerState) (s : Stands text t) (near : HasNea
           hash (c ∷ f) p = or_right (35 == c) _ (hash f p)
 
           comment : (passed : List ℕ) → t.rest ≡ passed ++ d.rest → is_separation false passed d.rest ≡ true → begins_white t.rest ≡ false → is_indented_by_spaces s.base.site.before s.base.site.blocks s.base.site.awaits (s.separation ++ passed) ≡ false → is_one_of (s.separation ++ passed) 35 ≡ true
-          comment [] e fills white tab = grind (arith, nat_tests, eqb-true, append-nil)
-          comment (c ∷ p) e fills white tab = grind (arith, nat_tests, and_parts, hash, eqb-true)
+          comment passed h e f g = grind (arith, nat_tests, eqb-true, append-nil, and_parts, hash)
 
       place : (c : Bool) → MayChoose true c (outside_key s.base.entries t.held.keys) t.held.position t.rest → IsPlace text (chosen c [] t.held.keys s.base) (s.separation ++ d.passed) d.rest here
       place c may = record {
