@@ -295,10 +295,6 @@ AreSame why1 why2 at1 at2 = (why1 ≡ why2) × (at1 ≡ at2)
 
 -- ---- what is passed on a line
 
-pub entry_ends : (content : List ℕ) → begins_entry content ≡ true → ends_separation content ≡ true
-unfolding is_blank_or_end is_blank is_break is_nul
-entry_ends a h = grind arith
-
 -- ---- `-`
 
 abbrev pub DashReason : Setting → Position → List ℕ → Problem → Position → Type 0
@@ -523,7 +519,7 @@ one_in block_scalar s here rest why1 why2 at1 at2 clean r q = one_block s.blocks
 one_in tag_text s here rest why1 why2 at1 at2 clean r q = grind (arith, one_tag)
 one_in directive_line s here rest why1 why2 at1 at2 clean r q = grind (arith, nat_tests, eqb-true, refusal_is, one_line)
 one_in dots s here rest why1 why2 at1 at2 clean r q = grind (arith, separations, ends_before, no_nul_after)
-one_in k s here rest why1 why2 at1 at2 clean r q = grind (arith, separations, entry_ends, nat_tests, eqb-true, first_tab)
+one_in k s here rest why1 why2 at1 at2 clean r q = grind (arith, separations, nat_tests, eqb-true, first_tab)
 
 one_of_two : (s : Setting) (here : Position) (rest : List ℕ) (why1 why2 : Problem) (at1 at2 : Position) → has_no_nul rest ≡ true → Reason s here rest why1 at1 → Reason s here rest why2 at2 → AreSame why1 why2 at1 at2
 one_of_two s here rest why1 why2 at1 at2 clean r q = grind (arith, nat_tests, eqb-true, one_in)

@@ -311,10 +311,6 @@ module _ (text : List ℕ) (t : ScannerState) (a : Arrives text t) (some : is_em
             (subst (λ r. IsLookedAt (account_by text t a some false []) a.separation t.held.position r) e (looked_at text t a some lies false [])) apart;
       }
 
-  pair_told : (more : List ℕ) → t.rest ≡ 58 ∷ more → colon_may_precede more ≡ true → is_value t ≡ true → (k : Key) → top_key t.held.keys ≡ Some k → (pair : Bool) → opens_pair t.held.flow ≡ pair → (s : Held) → Faults (Said text) (begin_pair k t.held.position pair s)
-  unfolding begin_pair
-  pair_told more h e f k g pair i s = grind (arith, nat_tests, eqb-true, opens, checked, nat_lt, misplaced, goes)
-
   mapping_told : (more : List ℕ) → t.rest ≡ 58 ∷ more → colon_may_precede more ≡ true → is_value t ≡ true → top_key t.held.keys ≡ None → (s : Held) → in_flow s ≡ in_flow t.held → s.key_allowed ≡ t.held.key_allowed → Faults (Said text) (begin_keyless_mapping t.held.position s)
   unfolding begin_keyless_mapping
   mapping_told more e apart i top s flow allowed =
@@ -350,11 +346,11 @@ module _ (text : List ℕ) (t : ScannerState) (a : Arrives text t) (some : is_em
   value_held u = grind (arith, nat_tests, eqb-true, holds.either, peek, holds.read, space, check_after_tab, holds.checked, not, is_alpha, TabAfterColon, holds.went)
 
   pub colon_told : (more : List ℕ) → t.rest ≡ 58 ∷ more → is_value t ≡ true → Faults (Said text) (fetch_value t)
-  unfolding fetch_value insert_key begin_keyless_value
+  unfolding fetch_value insert_key begin_keyless_value begin_pair
   colon_told more e is =
       let value_told_by : (more : List ℕ) → t.rest ≡ 58 ∷ more → colon_may_precede more ≡ true → (u : ScannerState) → u.held.keys ≡ t.held.keys → in_flow u.held ≡ in_flow t.held → u.held.key_allowed ≡ t.held.key_allowed
       → Faults (Said text) (value_of (top_key u.held.keys) t.held.position (opens_pair t.held.flow) u.held) =
-      λ more e apart u keys flow allowed. (grind (arith, nat_tests, eqb-true, opens_pair, in_turn, mapping_told, goes, pair_told, (sym (ap top_key keys)))) in
+      λ more e apart u keys flow allowed. (grind (arith, nat_tests, eqb-true, opens_pair, in_turn, mapping_told, goes, opens, checked, nat_lt, misplaced, (sym (ap top_key keys)))) in
       let first : ScannerState = skip_indicator (on_held (λ s. record s { flow = paired s.flow }) t) in
       in_turn (value_checked more e first (ap after e) refl) (λ u k.
       let h = held_of u (value_held first) k in
