@@ -430,12 +430,9 @@ module _ {a : Account} {separation rest : List ℕ} {here : Position} (s : StepA
       row c 44 (λ d. rest ≡ d ∷ more → ⊥) (λ f. let w : Here comma = whole_by s 44 more f in glued_by 44 flow_entry more f w.0 w.1 (ap not hash)) (λ z.
       absurd (let none : false ≡ true = rw (v, w, x, y, z) at is in cc none)))))) e
 
-  hash_holds : (in_flow : Bool) (piece more : List ℕ) → begins_with 35 more ≡ true → quoted_may_end in_flow piece more ≡ false
-  unfolding is_blank is_break
-  hash_holds in_flow piece more h = grind (arith, eqb-true)
-
   pub no_glued_quoted : (single : Bool) (piece more : List ℕ) → rest ≡ piece ++ more → IsQuoted single piece more → begins_with 35 more ≡ true → ⊥
-  no_glued_quoted single piece more e is hash = no_quoted_end s single piece more e is (hash_holds (is_in_flow a.entries) piece more hash)
+  unfolding is_blank is_break
+  no_glued_quoted single piece more e is hash = no_quoted_end s single piece more e is (grind (arith, eqb-true))
 
   -- ---- TABs after a quoted scalar
 
