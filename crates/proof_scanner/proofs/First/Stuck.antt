@@ -222,47 +222,36 @@ module _ (text : List ℕ) where
   begins_first : (steps : List Step) (after : List ℕ) → spelled steps after ≡ up_to_nul text → Begins text (spelled steps after) first_account
   begins_first steps after e = subst (λ z. Begins text z first_account) (sym e) (begins_at_start text)
 
+  -- the text that is left before a colon for which no key waits, and the way there
+  abbrev ahead : {here : Position} → KeylessAt text here → List ℕ
+  ahead k = k.separation ++ 58 ∷ k.more
+
+  abbrev way_to : {here : Position} (k : KeylessAt text here) → Way Same text (ahead k) k.account
+  way_to k = strict_way text (ahead k) k.account k.place.begins
+
   keyless_once : (here1 here2 : Position) → KeylessAt text here1 → KeylessAt text here2 → here1 ≡ here2
-  keyless_once here1 here2 k l = by (meet Same Same (BothBegin text) (keeps_both text) v.steps w.steps after1 after2 first_account first_account k.account l.account itself (begins_first v.steps after1 v.spells, begins_first v.steps after1 v.spells) v.leads w.leads (v.spells ∙ sym w.spells) (clean_way text v.steps after1 v.spells))
+  keyless_once here1 here2 k l = by (meet Same Same (BothBegin text) (keeps_both text) (way_to k).steps (way_to l).steps (ahead k) (ahead l) first_account first_account k.account l.account itself (begins_first (way_to k).steps (ahead k) (way_to k).spells, begins_first (way_to k).steps (ahead k) (way_to k).spells) (way_to k).leads (way_to l).leads ((way_to k).spells ∙ sym (way_to l).spells) (clean_way text (way_to k).steps (ahead k) (way_to k).spells))
     where
-      after1 : List ℕ
-      after1 = k.separation ++ 58 ∷ k.more
-
-      after2 : List ℕ
-      after2 = l.separation ++ 58 ∷ l.more
-
-      v : Way Same text after1 k.account
-      v = strict_way text after1 k.account k.place.begins
-
-      w : Way Same text after2 l.account
-      w = strict_way text after2 l.account l.place.begins
-
-      by : Meet Same Same (BothBegin text) k.account l.account after1 after2 → here1 ≡ here2
-      by (same_place like r e) = (one_cut k.account l.account k.separation (58 ∷ k.more) l.separation (58 ∷ l.more) here1 here2 (stands_keyless here1 k) (stands_keyless here2 l) like (clean_place v) e).2
+      by : Meet Same Same (BothBegin text) k.account l.account (ahead k) (ahead l) → here1 ≡ here2
+      by (same_place like r e) = (one_cut k.account l.account k.separation (58 ∷ k.more) l.separation (58 ∷ l.more) here1 here2 (stands_keyless here1 k) (stands_keyless here2 l) like (clean_place (way_to k)) e).2
       by (second_on n) =
-          let s : StepAt k.account k.separation (58 ∷ k.more) here1 = step_of Same (BothBegin text) k.account l.account k.separation (58 ∷ k.more) l.separation (58 ∷ l.more) here1 (stands_keyless here1 k) n (clean_place v) in
+          let s : StepAt k.account k.separation (58 ∷ k.more) here1 = step_of Same (BothBegin text) k.account l.account k.separation (58 ∷ k.more) l.separation (58 ∷ l.more) here1 (stands_keyless here1 k) n (clean_place (way_to k)) in
           absurd (keyless_step text k.separation k.more k.account here1 s n.holds.1 k.place.is_filled k.is_value k.is_outside k.is_line_taken k.has_none)
       by (first_on n) =
-          let s : StepAt l.account l.separation (58 ∷ l.more) here2 = step_of Same (λ x y. BothBegin text y x) l.account k.account l.separation (58 ∷ l.more) k.separation (58 ∷ k.more) here2 (stands_keyless here2 l) n (clean_place w) in
+          let s : StepAt l.account l.separation (58 ∷ l.more) here2 = step_of Same (λ x y. BothBegin text y x) l.account k.account l.separation (58 ∷ l.more) k.separation (58 ∷ k.more) here2 (stands_keyless here2 l) n (clean_place (way_to l)) in
           absurd (keyless_step text l.separation l.more l.account here2 s n.holds.0 l.place.is_filled l.is_value l.is_outside l.is_line_taken l.has_none)
 
   keyless_alone : (why : Problem) (at here : Position) → FailsAt text why at → KeylessAt text here → ⊥
-  keyless_alone why at here f k = by (meet GivesUp Same (BeginsOrApart text) (keeps_apart text) f.way.steps w.steps after1 after2 first_account first_account f.account k.account itself (inl (first_together, begins_first f.way.steps after1 f.way.spells)) f.way.leads w.leads (f.way.spells ∙ sym w.spells) (clean_way text f.way.steps after1 f.way.spells))
+  keyless_alone why at here f k = by (meet GivesUp Same (BeginsOrApart text) (keeps_apart text) f.way.steps (way_to k).steps after1 (ahead k) first_account first_account f.account k.account itself (inl (first_together, begins_first f.way.steps after1 f.way.spells)) f.way.leads (way_to k).leads (f.way.spells ∙ sym (way_to k).spells) (clean_way text f.way.steps after1 f.way.spells))
     where
       after1 : List ℕ
       after1 = f.separation ++ f.rest
 
-      after2 : List ℕ
-      after2 = k.separation ++ 58 ∷ k.more
-
-      w : Way Same text after2 k.account
-      w = strict_way text after2 k.account k.place.begins
-
-      passed : (x : Account) (s : StepAt k.account k.separation (58 ∷ k.more) here) → s.account ≡ x → BeginsOrApart text x k.account after2 → ⊥
-      passed x s e (inl r) = keyless_step text k.separation k.more k.account here s (subst (λ u. Begins text after2 u) (sym e) r.1) k.place.is_filled k.is_value k.is_outside k.is_line_taken k.has_none
+      passed : (x : Account) (s : StepAt k.account k.separation (58 ∷ k.more) here) → s.account ≡ x → BeginsOrApart text x k.account (ahead k) → ⊥
+      passed x s e (inl r) = keyless_step text k.separation k.more k.account here s (subst (λ u. Begins text (ahead k) u) (sym e) r.1) k.place.is_filled k.is_value k.is_outside k.is_line_taken k.has_none
       passed x s e (inr r) = no_colon_here s k.more refl k.is_value k.is_outside k.is_line_taken (λ q waiting unbroken near. cc (waiting, ap (λ (u : Account). u.line) e, r.1.none))
 
-      by : Meet GivesUp Same (BeginsOrApart text) f.account k.account after1 after2 → ⊥
+      by : Meet GivesUp Same (BeginsOrApart text) f.account k.account after1 (ahead k) → ⊥
       by (same_place like r e) =
           let cut = one_cut f.account k.account f.separation f.rest k.separation (58 ∷ k.more) f.here here f.stands (stands_keyless here k) like (clean_place f.way) e in
           colon_alone k.account f.account (like_sym f.account k.account like) k.separation k.more here k.is_value k.is_outside k.looked k.has_no_tab_after why at
@@ -271,7 +260,7 @@ module _ (text : List ℕ) where
           no_step_stands (step_of Same (BeginsOrApart text) f.account k.account f.separation f.rest k.separation (58 ∷ k.more) f.here f.stands n (clean_place f.way))
           (clear Same (λ x y e. ap (λ (u : Account). u.site) e) (BeginsOrApart text) f.account k.account f.separation f.rest k.separation (58 ∷ k.more) f.here here f.stands (stands_keyless here k) n (clean_place f.way) (λ _. k.looked.has_no_tab)) why at f.first.fails
       by (first_on n) =
-          passed n.account (step_of GivesUp (λ x y. BeginsOrApart text y x) k.account f.account k.separation (58 ∷ k.more) f.separation f.rest here (stands_keyless here k) n (clean_place w)) refl n.holds
+          passed n.account (step_of GivesUp (λ x y. BeginsOrApart text y x) k.account f.account k.separation (58 ∷ k.more) f.separation f.rest here (stands_keyless here k) n (clean_place (way_to k))) refl n.holds
 
   -- All claims of a text are one.
   claimed_once : (why1 why2 : Problem) (at1 at2 : Position) → Claim text why1 at1 → Claim text why2 at2 → (why1 ≡ why2) × (at1 ≡ at2)
