@@ -150,9 +150,6 @@ below_after s l m ds es w c next a b i j f below e1 e2 q wt tk = by (made s l ds
     broken : Bool
     broken = begins_free_line s.before w.separation
 
-    flows : is_in_flow ds ≡ is_in_flow es
-    flows = same_flow ds es j
-
     both : (n o : Line) (u v : Outside) → LikeLine n o → line_past_separation false broken l ≡ Some n → line_past_separation false broken m ≡ Some o
         → line_past (is_in_column at.position.col at.blocks) at.position at.blocks (act_of w.shown) c o ≡ Some v → v.line ≡ taken → Waits (is_in_column at.position.col at.blocks) at.position at.blocks (act_of w.shown) n u q → AllBelow q.col u.blocks
     both n o u v k sep1 sep2 past tk (begun act fr h bs) = elim (taken_past _ _ _ c o v (ap (λ x. line_past (is_in_column at.position.col at.blocks) at.position at.blocks x c o) (sym act) ∙ past) tk) [
@@ -169,8 +166,8 @@ below_after s l m ds es w c next a b i j f below e1 e2 q wt tk = by (made s l ds
     by : Made s l ds w next a → Made s m es (With w c) next b → AllBelow q.col a.site.blocks
     by (outside n u n1 sep1 past1 line1 site1 one1) (outside o v n2 sep2 past2 line2 site2 one2) =
         subst (λ (x : Site). AllBelow q.col x.blocks) (sym site1) (both n o u v (like_past false broken l m n o i sep1 sep2) sep1 sep2 past2 (sym line2 ∙ tk) (waits_past _ _ _ (act_of w.shown) w.key n u q past1 (sym line1 ∙ wt)))
-    by (outside n u n1 sep1 past1 line1 site1 one1) (inside some sep2 site2 one2) = absurd (cc (sym (ap is_in_flow n1) ∙ flows ∙ some))
-    by (inside some sep1 site1 one1) (outside o v n2 sep2 past2 line2 site2 one2) = absurd (cc (sym some ∙ flows ∙ ap is_in_flow n2))
+    by (outside n u n1 sep1 past1 line1 site1 one1) (inside some sep2 site2 one2) = absurd (cc (sym (ap is_in_flow n1) ∙ same_flow ds es j ∙ some))
+    by (inside some sep1 site1 one1) (outside o v n2 sep2 past2 line2 site2 one2) = absurd (cc (sym some ∙ same_flow ds es j ∙ ap is_in_flow n2))
     by (inside some1 sep1 site1 one1) (inside some2 sep2 site2 one2) =
         subst (λ (x : Site). AllBelow q.col x.blocks) (sym site1) (below q (waited true broken l a.line q sep1 wt).0 (was_taken_inside broken m b.line sep2 tk))
 
@@ -181,9 +178,6 @@ apart_after s ds es w c next a b q j e1 e2 = by (made s taken ds w next a e1) (m
   where
     at : Site
     at = site_at false s w.separation w.piece w.shown next
-
-    flows : is_in_flow ds ≡ is_in_flow es
-    flows = same_flow ds es j
 
     inside_line : (broken : Bool) (m : Line) → line_past_separation true broken taken ≡ Some m → m ≡ taken
     inside_line a m e = grind (arith, same_of, taken)
@@ -197,8 +191,8 @@ apart_after s ds es w c next a b q j e1 e2 = by (made s taken ds w next a e1) (m
         let was = still_there false (begins_free_line s.before w.separation) (waits q) o q refl sep2 in
         let n_is : n ≡ taken = sym (same_of taken n (subst (λ x. line_past_separation false x taken ≡ Some n) was.0 sep1)) in
         let r = both n o u v n_is was.1 past1 past2 in (line1 ∙ r.0, line2 ∙ r.1)
-    by (outside n u n1 sep1 past1 line1 site1 one1) (inside some sep2 site2 one2) = absurd (cc (sym (ap is_in_flow n1) ∙ flows ∙ some))
-    by (inside some sep1 site1 one1) (outside o v n2 sep2 past2 line2 site2 one2) = absurd (cc (sym some ∙ flows ∙ ap is_in_flow n2))
+    by (outside n u n1 sep1 past1 line1 site1 one1) (inside some sep2 site2 one2) = absurd (cc (sym (ap is_in_flow n1) ∙ same_flow ds es j ∙ some))
+    by (inside some sep1 site1 one1) (outside o v n2 sep2 past2 line2 site2 one2) = absurd (cc (sym some ∙ same_flow ds es j ∙ ap is_in_flow n2))
     by (inside some1 sep1 site1 one1) (inside some2 sep2 site2 one2) = (inside_line (begins_free_line s.before w.separation) a.line sep1, (still_there true (begins_free_line s.before w.separation) (waits q) b.line q refl sep2).1)
 
 -- ---- as far as a beginning leads
