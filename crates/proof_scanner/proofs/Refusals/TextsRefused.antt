@@ -168,20 +168,17 @@ first_char (d ∷ p) header h e is = elim (cases_Bool (d == 124)) [
 ]
 
 module _ {a : Account} {separation rest : List ℕ} {here : Position} (s : StepAt a separation rest here) where
-  abbrev next : List ℕ
-  next = s.next
-
   abbrev Here : Kind → Type 0
-  Here k = Whole k (context_of (acct s)) s.step.piece next s.step.shown
+  Here k = Whole k (context_of (acct s)) s.step.piece s.next s.step.shown
 
   pub no_tag : (more : List ℕ) (why : Problem) → rest ≡ 33 ∷ more → IsTagRefusal (is_in_flow a.entries) more why → ⊥
   unfolding is_blank_or_end is_blank is_break is_nul is_flow
   no_tag more why e reason =
       let w : Here tag_text = whole_by s 33 more e in
       let first = mark_is_first s.step.piece w.0 w.1 in
-      let left : first.0 ++ next ≡ more = rest_of s 33 first.0 more first.1 e in
-      let follows : may_follow (is_in_flow a.entries) next ≡ true = ap (λ b. is_at_gap next || (b && begins_flow next)) (sym (flow_is s)) ∙ w.2 in
-      let reads = tags_are_read (is_in_flow a.entries) first.0 next w.0.handle w.0.suffix here (ap written_tag (sym first.1) ∙ w.1) follows in
+      let left : first.0 ++ s.next ≡ more = rest_of s 33 first.0 more first.1 e in
+      let follows : may_follow (is_in_flow a.entries) s.next ≡ true = ap (λ b. is_at_gap s.next || (b && begins_flow s.next)) (sym (flow_is s)) ∙ w.2 in
+      let reads = tags_are_read (is_in_flow a.entries) first.0 s.next w.0.handle w.0.suffix here (ap written_tag (sym first.1) ∙ w.1) follows in
       let fails = refusal_fails (is_in_flow a.entries) more why here reason in
       cc (reads, fails, ap (λ r. tag (is_in_flow a.entries) (33 ∷ r) here) left)
 
@@ -191,9 +188,9 @@ module _ {a : Account} {separation rest : List ℕ} {here : Position} (s : StepA
       let no_nul_more : (r : List ℕ) → has_no_nul (37 ∷ r) ≡ true → has_no_nul r ≡ true = λ r h. (and_parts (not (is_nul 37)) (has_no_nul r) h).1 in
       let w : Here directive_line = whole_by s 37 (line ++ after) e in
       let first = directive_begins s.step.piece w.0 w.1 in
-      let left : first.0 ++ next ≡ line ++ after = rest_of s 37 first.0 (line ++ after) first.1 e in
-      let clean : has_no_nul (first.0 ++ next) ≡ true = ap has_no_nul left ∙ no_nul_more (line ++ after) (sym (ap has_no_nul e) ∙ s.is_clean) in
-      let same : first.0 ≡ line = one_line first.0 next line after left ((and_parts (not (is_break 37)) (has_no_break first.0) (sym (ap has_no_break first.1) ∙ w.2)).1) (grind (arith, (no_nul_after first.0 next clean))) one ends in
+      let left : first.0 ++ s.next ≡ line ++ after = rest_of s 37 first.0 (line ++ after) first.1 e in
+      let clean : has_no_nul (first.0 ++ s.next) ≡ true = ap has_no_nul left ∙ no_nul_more (line ++ after) (sym (ap has_no_nul e) ∙ s.is_clean) in
+      let same : first.0 ≡ line = one_line first.0 s.next line after left ((and_parts (not (is_break 37)) (has_no_break first.0) (sym (ap has_no_break first.1) ∙ w.2)).1) (grind (arith, (no_nul_after first.0 s.next clean))) one ends in
       cc (none, ap (λ r. directive_of (37 ∷ r)) (sym same), ap directive_of (sym first.1), w.1)
 
   block_here : (style : BlockStyle) (more : List ℕ) → is_in_flow a.entries ≡ false → rest ≡ indicator_of style ∷ more → Here block_scalar
@@ -205,20 +202,20 @@ module _ {a : Account} {separation rest : List ℕ} {here : Position} (s : StepA
   pub no_block_header : (style : BlockStyle) (line after : List ℕ) → is_in_flow a.entries ≡ false → rest ≡ indicator_of style ∷ (line ++ after) → is_in_line line ≡ true → ends_line after ≡ true → header_of (indicator_of style ∷ line) ≡ None → ⊥
   no_block_header style line after out e inner ends none =
       let w : Here block_scalar = block_here style (line ++ after) out e in
-      let clean : has_no_nul next ≡ true = no_nul_after s.step.piece next (ap has_no_nul s.text_is ∙ s.is_clean) in
+      let clean : has_no_nul s.next ≡ true = no_nul_after s.step.piece s.next (ap has_no_nul s.text_is ∙ s.is_clean) in
       let own : up_to_break s.step.piece ≡ indicator_of style ∷ line =
-      sym (piece_line (pieces.collection_column (acct s)) s.step.piece next w.0 clean w.1) ∙ (ap up_to_break (s.text_is ∙ e) ∙ (ap (λ b. if b then [] else indicator_of style ∷ up_to_break (line ++ after)) (unbroken style) ∙ ap (λ r. indicator_of style ∷ r) (first_of line after inner ends))) in
-      has_header (pieces.collection_column (acct s)) ((split s.step.piece).complete) ((split s.step.piece).last) next (is_at_end next) w.0 w.1 (ap header_of (line_is s.step.piece ∙ own) ∙ none)
+      sym (piece_line (pieces.collection_column (acct s)) s.step.piece s.next w.0 clean w.1) ∙ (ap up_to_break (s.text_is ∙ e) ∙ (ap (λ b. if b then [] else indicator_of style ∷ up_to_break (line ++ after)) (unbroken style) ∙ ap (λ r. indicator_of style ∷ r) (first_of line after inner ends))) in
+      has_header (pieces.collection_column (acct s)) ((split s.step.piece).complete) ((split s.step.piece).last) s.next (is_at_end s.next) w.0 w.1 (ap header_of (line_is s.step.piece ∙ own) ∙ none)
 
   -- a TAB begins the line after the header
   pub no_block_tab : (own header more : List ℕ) (h : Header) → is_in_flow a.entries ≡ false → rest ≡ own ++ 9 ∷ more → split own ≡ of_lines (header ∷ []) [] → header_of header ≡ Some h → ⊥
   no_block_tab own header more h out e one is =
-      let same_end_by : (style : BlockStyle) (text : List ℕ) → may_precede (is_in_flow s.account.entries) (written.At s.account s.step next).blocks (block_token style text) s.step.piece next ≡ block_may_end (written.At s.account s.step next).blocks s.step.piece next = λ a b. grind (arith, nat_tests, eqb-true) in
+      let same_end_by : (style : BlockStyle) (text : List ℕ) → may_precede (is_in_flow s.account.entries) (written.At s.account s.step s.next).blocks (block_token style text) s.step.piece s.next ≡ block_may_end (written.At s.account s.step s.next).blocks s.step.piece s.next = λ a b. grind (arith, nat_tests, eqb-true) in
       let first = first_char own header h (sym (line_is own) ∙ ap (λ z. first_line z.complete z.last) one) is in
       let w : Here block_scalar = block_here first.0 (first.1 ++ 9 ∷ more) out (e ∙ ap (λ p. p ++ 9 ∷ more) first.2) in
-      let clean : has_no_nul next ≡ true = no_nul_after s.step.piece next (ap has_no_nul s.text_is ∙ s.is_clean) in
-      no_end_here s (ap (λ t. may_precede (is_in_flow s.account.entries) (written.At s.account s.step next).blocks t s.step.piece next) w.3 ∙
-      (same_end_by w.0.style w.0.text ∙ tab_follows (pieces.collection_column (acct s)) header more own s.step.piece next (written.At s.account s.step next).blocks w.0 (s.text_is ∙ e) one clean w.1))
+      let clean : has_no_nul s.next ≡ true = no_nul_after s.step.piece s.next (ap has_no_nul s.text_is ∙ s.is_clean) in
+      no_end_here s (ap (λ t. may_precede (is_in_flow s.account.entries) (written.At s.account s.step s.next).blocks t s.step.piece s.next) w.3 ∙
+      (same_end_by w.0.style w.0.text ∙ tab_follows (pieces.collection_column (acct s)) header more own s.step.piece s.next (written.At s.account s.step s.next).blocks w.0 (s.text_is ∙ e) one clean w.1))
 
   -- ---- quoted scalars
 
@@ -228,9 +225,9 @@ module _ {a : Account} {separation rest : List ℕ} {here : Position} (s : StepA
   quoted_here false more e = whole_by s 34 more e
 
   pub no_quoted_text : (single : Bool) (more : List ℕ) → rest ≡ quote_of single ∷ more → HasNoQuoted single rest → ⊥
-  no_quoted_text true more e none = let w = quoted_here true more e in none s.step.piece next (sym s.text_is) (w.0, w.1)
-  no_quoted_text false more e none = let w = quoted_here false more e in none s.step.piece next (sym s.text_is) (w.0, w.1)
+  no_quoted_text true more e none = let w = quoted_here true more e in none s.step.piece s.next (sym s.text_is) (w.0, w.1)
+  no_quoted_text false more e none = let w = quoted_here false more e in none s.step.piece s.next (sym s.text_is) (w.0, w.1)
 
   pub no_quoted_lines : (single : Bool) (more : List ℕ) → rest ≡ quote_of single ∷ more → AreNotIndented single (least_column (site_at_place a here).blocks (site_at_place a here).awaits) rest → ⊥
-  no_quoted_lines true more e none = let w = quoted_here true more e in no_lines_there s (scalar single_quoted w.0) w.2 refl (none s.step.piece next (sym s.text_is) (w.0, w.1))
-  no_quoted_lines false more e none = let w = quoted_here false more e in no_lines_there s (scalar double_quoted w.0) w.2 refl (none s.step.piece next (sym s.text_is) (w.0, w.1))
+  no_quoted_lines true more e none = let w = quoted_here true more e in no_lines_there s (scalar single_quoted w.0) w.2 refl (none s.step.piece s.next (sym s.text_is) (w.0, w.1))
+  no_quoted_lines false more e none = let w = quoted_here false more e in no_lines_there s (scalar double_quoted w.0) w.2 refl (none s.step.piece s.next (sym s.text_is) (w.0, w.1))
