@@ -1,8 +1,11 @@
 -- Blanks and a comment after a piece, within its line: what the model reads there is all of them, and it stands where they end.
 use Rattle.std.proofs.lemmas.List.{append-nil}
-use Rattle.proof_scanner.proofs.Common.{At, Bool, Err, Fault, Holds, List, No, Ok, Position, Read, Result, ScannerState, Whitespace, Yes, [], after, after_spaces, ap, append_assoc, arith, begins_with, blanks_and_comment, comment_after, comment_of, eqb-true, false, has_no_break, if◌then◌else◌, in_line_position, is_blank, is_break, is_line, is_on_line, is_one_of, is_separation, leading, lexed, nat_tests, not, or_false, or_true, past, past_blanks_and_comment, past_comment, past_line_rest, position_after, position_append, position_in_line, refl, refused, same_break, skip_spaces, skip_while, space, space_step, spaces_end, span_cut, subst, sym, true, walk, went, with_found, ℕ, ◌&&◌, ◌++◌, ◌==◌, ◌||◌, ◌∙◌, ◌∷◌, ◌≡◌}
-use Rattle.yaml_tokens.specs.declared.problem.Problem.TheVariants as problem
+use Rattle.proof_scanner.proofs.Common.{[], after, after_spaces, ap, append_assoc, arith, At, begins_line, begins_with, blanks_and_comment, Bool, comment_after, comment_of, eqb-true, Err, false, Fault, follows_plain, has_no_break, has_tab_within, Holds, if◌then◌else◌, in_line_position, is_blank, is_break, is_indented_by_spaces, is_line, is_on_line, is_one_of, is_separation, last_line, leading, least_column, lexed, List, nat_tests, No, not, Ok, or_false, or_true, pass_indicator, past, past_blanks_and_comment, past_comment, past_line_rest, Position, position_after, position_append, position_in_line, Previous, Read, refl, refused, Result, same_break, ScannerState, skip_indicator, skip_spaces, skip_while, space, space_step, spaces_end, span_cut, subst, sym, true, walk, went, Whitespace, with_found, Yes, ℕ, ◌&&◌, ◌++◌, ◌==◌, ◌||◌, ◌∙◌, ◌∷◌, ◌≡◌}
 use Rattle.proof_scanner.proofs.Cut.Pieces.Separations.{no_break_append}
+use Rattle.model_scanner.specs.State.{after as after_first}
+use Rattle.proof_scanner.proofs.Cut.Documents.{past_indicator}
+use Rattle.yaml_tokens.specs.declared.problem.Problem.TheVariants as problem
+use Rattle.proof_lexers.specs.PlainEnds as plains
 
 -- ---- positions
 
@@ -154,3 +157,31 @@ rest_skipped t = rest_read t (λ w u. Ok u) _ (λ h. went (refl, h))
 pub none_skipped : (t : ScannerState) → is_clear t.rest ≡ true → skip_spaces No t ≡ Ok t
 unfolding skip_spaces space is_blank
 none_skipped t h = grind (arith, nat_tests, eqb-true)
+
+-- ---- an indicator of one character, and the blanks and the comment after it
+
+-- the scanner after an indicator, blanks and a comment
+abbrev pub past_it : ScannerState → (more : List ℕ) → ScannerState
+past_it u more = record { rest = past_blanks_and_comment more; held = record u.held { position = past_line_rest (past u.held.position) more; leading = false } }
+
+-- All blanks and a comment after it are read; the comment does not stand directly there.
+pub indicator_passed : (u : ScannerState) (more : List ℕ) → after_first u.rest ≡ more → Holds (λ v. (v ≡ past_it u more) × (begins_with 35 more ≡ false)) (pass_indicator u)
+unfolding pass_indicator
+indicator_passed u more e = subst (λ r. Holds (λ v. (v ≡ past_it u r) × (begins_with 35 r ≡ false)) (pass_indicator u)) e (rest_skipped (skip_indicator u))
+
+-- the position after an indicator
+pub past_one : (p : Position) (c : ℕ) (next : List ℕ) → is_break c ≡ false → position_after p (c ∷ []) next ≡ past p
+past_one p c next e = past_indicator p c next e
+
+-- the position after all of it
+pub indicator_end : (p : Position) (c : ℕ) (more : List ℕ) → is_break c ≡ false → past_line_rest (past p) more ≡ position_after (position_after p (c ∷ []) more) (blanks_and_comment more) (past_blanks_and_comment more)
+indicator_end p c more e = grind (arith, nat_tests, eqb-true, past_one, same_in_line, line_rest_in_line)
+
+-- no TAB indents a line, where no line begins
+pub none_indents : (before : Previous) (bs : List ℕ) (awaits : Bool) (f : List ℕ) → begins_line before f ≡ false → is_indented_by_spaces before bs awaits f ≡ true
+none_indents before bs awaits f h = ap (λ b. not b || not (has_tab_within (least_column bs (awaits || follows_plain before f)) (last_line f))) h
+
+-- a text of one line, by the other word
+pub no_break_alike : (f : List ℕ) → has_no_break f ≡ true → plains.has_break f ≡ false
+no_break_alike [] h = refl
+no_break_alike (c ∷ f) h = grind (arith, no_break_alike f)

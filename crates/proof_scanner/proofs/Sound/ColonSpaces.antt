@@ -3,8 +3,7 @@ use Rattle.proof_scanner.proofs.Common.{arith, At, Bool, Held, Holds, List, Ok, 
 use Rattle.yaml_chars.specs.Class.{is_alpha}
 use Rattle.defs_text.specs.Classes as classes
 use Rattle.yaml_tokens.specs.declared.problem.Problem.TheVariants as problem
-use Rattle.proof_scanner.proofs.Sound.Blanks.{same_in_line, line_rest_cut, line_rest_fills, line_rest_in_line, past_rest, rest_read}
-use Rattle.proof_scanner.proofs.Sound.Indicated.{past_one}
+use Rattle.proof_scanner.proofs.Sound.Blanks.{same_in_line, line_rest_cut, line_rest_fills, line_rest_in_line, past_rest, rest_read, past_one}
 use Rattle.proof_scanner.proofs.Cut.Fetched.{begins_here}
 
 -- what is read after a colon, and the text after that

@@ -4,16 +4,7 @@ use Rattle.yaml_chars.specs.Class.{is_break as is_break_here, is_flow as is_flow
 use Rattle.yaml_tokens.specs.declared.problem.Problem.TheVariants as problem
 use Rattle.model_scanner.specs.State.{after as after_first}
 use Rattle.proof_lexers.proofs.Bridges.{same_flow}
-use Rattle.proof_scanner.proofs.Cut.Dispatch.{gap_here}
-use Rattle.proof_scanner.proofs.Cut.Nodes.{IsDeep}
-use Rattle.proof_scanner.proofs.Cut.Blocks.{entry_from, key_removed}
-use Rattle.proof_scanner.proofs.Sound.Arrivals.{first_not_right}
-use Rattle.proof_scanner.proofs.Sound.Blanks.{line_rest_cut, line_rest_fills, line_rest_in_line, past_rest_is_clear, found_in, past_rest, rest_read, none_skipped}
-use Rattle.proof_scanner.proofs.Sound.Indicated.{past_one, indicator_end}
-use Rattle.proof_scanner.proofs.Sound.OutsidePieces.{read_outside, line_free, started_tokens, begun_after, with_start}
-use Rattle.proof_scanner.proofs.Sound.Rolled.{RollsTo, rolls_to, opens_one, top_closed}
-use Rattle.proof_scanner.proofs.Sound.Sides.{ArrivesBy, ArrivesOutside, ArrivesInside, arrives_side}
-use Rattle.proof_scanner.proofs.Sound.Reads.{reads_before_none}
+use Rattle.proof_scanner.proofs.Sound.Steps.{arrives_side, ArrivesBy, ArrivesInside, ArrivesOutside, begun_after, entry_from, first_not_right, found_in, gap_here, indicator_end, IsDeep, key_removed, line_free, line_rest_cut, line_rest_fills, line_rest_in_line, none_skipped, opens_one, past_one, past_rest, past_rest_is_clear, read_outside, reads_before_none, rest_read, rolls_to, RollsTo, started_tokens, top_closed, with_start}
 
 -- ---- what the model checks
 

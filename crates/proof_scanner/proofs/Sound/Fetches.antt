@@ -3,18 +3,15 @@ use Rattle.proof_scanner.proofs.Common.{Arrives, Fares, FetchKeeps, Holds, IsAtE
 use Rattle.model_scanner.specs.State.{after}
 use Rattle.proof_scanner.proofs.Cut.Dispatch.{token_holds, content_holds}
 use Rattle.proof_scanner.proofs.Cut.Fetched.{no_end, goes_on_here}
-use Rattle.proof_scanner.proofs.Cut.Documents.{whole_text}
+use Rattle.proof_scanner.proofs.Sound.Common.{stream_ended, whole_text}
 use Rattle.proof_scanner.proofs.Sound.CutsSoFar.{arrives_cut, cut_position}
 use Rattle.proof_scanner.proofs.Sound.Stales.{fares_stale}
-use Rattle.proof_scanner.proofs.Sound.StreamEnds.{stream_ended}
 use Rattle.proof_scanner.proofs.Sound.Arriving.{arrived}
 use Rattle.proof_scanner.proofs.Sound.BlockScalars.{block_keeps}
-use Rattle.proof_scanner.proofs.Sound.Closers.{closing_bracket, closing_brace}
+use Rattle.proof_scanner.proofs.Sound.FlowMarks.{closing_bracket, closing_brace, comma_keeps, closing_keeps}
 use Rattle.proof_scanner.proofs.Sound.Dashes.{dash_keeps}
-use Rattle.proof_scanner.proofs.Sound.DocumentMarks.{document_start_keeps, document_end_keeps, directive_keeps}
-use Rattle.proof_scanner.proofs.Sound.FlowMarks.{comma_keeps, closing_keeps}
-use Rattle.proof_scanner.proofs.Sound.FlowStarts.{opening_keeps}
-use Rattle.proof_scanner.proofs.Sound.Openers.{opening_bracket, opening_brace}
+use Rattle.proof_scanner.proofs.Sound.DocumentLines.{document_start_keeps, document_end_keeps, directive_keeps}
+use Rattle.proof_scanner.proofs.Sound.Openers.{opening_keeps, opening_bracket, opening_brace}
 use Rattle.proof_scanner.proofs.Sound.PlainKeeps.{plain_keeps}
 use Rattle.proof_scanner.proofs.Sound.Properties.{anchor_keeps, tag_keeps}
 use Rattle.proof_scanner.proofs.Sound.Questions.{key_keeps}

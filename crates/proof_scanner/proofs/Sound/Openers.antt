@@ -1,18 +1,11 @@
 -- Opening brackets: what holds where they begin holds between two fetches after them.
-use Rattle.proof_scanner.proofs.Common.{AreLevels, Bool, Entry, FlowLevel, Held, Indent, IsPairOf, Key, List, Mapping, None, Option, ScannerState, Site, Some, Tok, [], act_of, another, ap, arith, awaits_past, begins_free_line, begins_with, begun_by, blanks_and_comment, columns, eqb-true, false, first_entry, further_lines_stand, gives_node, has_open_level, if◌then◌else◌, in_block, in_flow, is_empty, least_column, least_for, length, level_of, map, may_precede, nat_le, nat_lt, nat_tests, no_pair, not, past, past_blanks_and_comment, past_line_rest, position_after, position_in_line, previous_by, refl, roll_one_col_indent, seen, shown_position, sym, true, ℕ, ◌&&◌, ◌∙◌, ◌∷◌, ◌≡◌}
+use Rattle.proof_scanner.proofs.Common.{[], act_of, another, ap, AreLevels, arith, Arrives, awaits_past, begin_flow, begins_free_line, begins_with, begun_by, blanks_and_comment, Bool, chained, Collection, columns, Entry, eqb-true, false, fetch_flow_collection_start, first_entry, flow_level, flow_start, FlowLevel, further_lines_stand, gives_node, has_open_level, Held, Holds, if◌then◌else◌, in_block, in_flow, increase_flow_level, Indent, is_empty, IsPairOf, Key, least_column, least_for, length, level_of, List, map, Mapping, may_precede, nat_le, nat_lt, nat_tests, no_pair, None, not, on_held, Option, past, past_blanks_and_comment, past_line_rest, position_after, position_in_line, previous_by, push, refl, refused, roll_one_col_indent, ScannerState, seen, shown_position, Site, Some, Stands, subst, sym, Tok, tried, true, went, ℕ, ◌&&◌, ◌∙◌, ◌∷◌, ◌≡◌}
 use Rattle.model_scanner.specs.declared.level.FlowLevel.TheVariants.{Entry as InEntry}
-use Rattle.proof_scanner.proofs.Cut.Flows.{IsOpeningOf, opening_sequence, opening_mapping}
-use Rattle.proof_scanner.proofs.Cut.Nodes.{IsDeep}
+use Rattle.proof_scanner.proofs.Cut.Flows.{IsOpeningOf, opening_mapping, opening_sequence}
+use Rattle.proof_scanner.proofs.Sound.Steps.{ArrivesBy, deep_for, indicator_end, indicator_passed, IsDeep, IsRead, line_rest_cut, line_rest_fills, line_rest_in_line, many_around, next_of, node_read, past_it, Read, reads_before_none, saved_is, saved_keys, site_of, site_then, state_after, with_entries}
 use Rattle.proof_scanner.specs.StandsInRow.{kind_of}
-use Rattle.proof_scanner.proofs.Sound.Arrivals.{many_around}
-use Rattle.proof_scanner.proofs.Sound.Blanks.{line_rest_cut, line_rest_fills, line_rest_in_line}
-use Rattle.proof_scanner.proofs.Sound.Indicated.{indicator_end}
-use Rattle.proof_scanner.proofs.Sound.Standing.{deep_for}
-use Rattle.proof_scanner.proofs.Sound.Sides.{with_entries, ArrivesBy}
 use Rattle.std.proofs.lemmas.List.{length-map}
-use Rattle.proof_scanner.proofs.Cut.Saved.{saved_keys}
-use Rattle.proof_scanner.proofs.Sound.ReadNodes.{Read, next_of, site_then, IsRead, state_after, site_of}
-use Rattle.proof_scanner.proofs.Sound.Reads.{reads_before_none}
+use Rattle.model_scanner.specs.State.{after}
 
 -- What is said of an opening bracket.
 pub record IsOpener (lv : FlowLevel) (tok : Tok) (c : ℕ) : Type 0 where
@@ -98,3 +91,24 @@ opener_is_read text more lv tok c o t u r e deep hash few fs ks es flow a =
       allowed_is = refl;
       one_line = λ _ _. (ap (λ b. not (not b && true)) o.is_opening.in_line, ap (λ b. begins_free_line b d.gap) o.previous ∙ ap not (line_rest_in_line more));
     }
+
+-- ---- the function of the model that reads an opening bracket keeps what holds where it begins
+
+-- in a flow level more, with these levels of indentation
+abbrev pub begun_now : FlowLevel → Held → List Indent → ℕ → Held
+begun_now lv s ds i = record s { keys = None ∷ saved_keys s; flow = lv ∷ s.flow; key_allowed = true; indents = ds; indent = i }
+
+flow_begun : (kind : Collection) (s : Held) (ds : List Indent) (i : ℕ) → roll_one_col_indent (with_key s) ≡ record (with_key s) { indents = ds; indent = i } → Holds (λ u. (nat_le 255 (length s.flow) ≡ false) × (u ≡ begun_now (flow_level kind) s ds i)) (begin_flow kind s)
+unfolding begin_flow increase_flow_level
+flow_begun kind s ds i rolled = grind (arith, nat_tests, eqb-true, saved_is, refused, went)
+
+-- `[` or `{`
+pub opening_keeps : (text more : List ℕ) (kind : Collection) (c : ℕ) → IsOpener (flow_level kind) (flow_start kind) c → (t : ScannerState) → t.rest ≡ c ∷ more → IsDeep t.held → Arrives text t → Holds (Stands text) (fetch_flow_collection_start kind t)
+unfolding fetch_flow_collection_start
+opening_keeps text more kind c o t e deep a =
+    let r : OpensLevel (with_key t.held) (roll_one_col_indent (with_key t.held)) = opens_level (with_key t.held) a.are_levels in
+    chained {P = λ u. (nat_le 255 (length t.held.flow) ≡ false) × (u ≡ record t { held = begun_now (flow_level kind) t.held r.indents r.indent })}
+    (tried t (begin_flow kind t.held) (flow_begun kind t.held r.indents r.indent r.is_held) (λ h d. (d.0, ap (λ y. record t { held = y }) d.1))) (λ u d.
+    chained (indicator_passed u more (ap (λ y. after y.rest) d.1 ∙ ap after e)) (λ v w.
+    went (subst (λ y. Stands text (on_held (push t.held.position (flow_start kind)) y)) (sym (w.0 ∙ ap (λ y. past_it y more) d.1))
+    (node_read text t (Some (flow_level kind)) (opener_read t (flow_start kind) c more r.indents r.indent) deep a (opener_is_read text more (flow_level kind) (flow_start kind) c o t _ r e deep w.1 d.0)))))

@@ -4,20 +4,10 @@ use Rattle.defs_token.specs.Account.{Account as PieceAccount, is_in_flow}
 use Rattle.model_scanner.specs.Machine as machine
 use Rattle.model_scanner.specs.Plain.{plain}
 use Rattle.proof_lexers.specs.PlainEnds as plains
-use Rattle.proof_scanner.proofs.Cut.Pieces.Separations.{white_is_no_hash, gap_is_separation}
+use Rattle.proof_scanner.proofs.Sound.Steps.{adjacent_kept, allowed_past, AreClosed, ArrivesBy, ends_in_line, gap_is_separation, IsDeep, IsRead, less_or, next_of, node_read, not_before_after, on_one_line, Read, same_flow, same_has_break, saved_is, saved_keys, site_of, site_then, state_after, white_is_no_hash, with_entries, without_is}
 use Rattle.proof_scanner.proofs.Cut.Pieces.Inserted.{no_break_on_line}
-use Rattle.proof_scanner.proofs.Cut.Positions.{not_before_after}
-use Rattle.proof_scanner.proofs.Cut.Saved.{saved_keys, saved_is}
-use Rattle.proof_scanner.proofs.Cut.Nodes.{IsDeep, less_or}
-use Rattle.proof_scanner.proofs.Sound.Sides.{with_entries, ArrivesBy}
-use Rattle.proof_scanner.proofs.Sound.StreamEnds.{same_flow}
-use Rattle.proof_scanner.proofs.Sound.Passed.{same_has_break}
-use Rattle.proof_scanner.proofs.Sound.QuotedEnds.{ends_in_line, on_one_line}
 use Rattle.proof_scanner.proofs.Sound.PlainLines.{PlainFits, plain_fits}
-use Rattle.proof_scanner.proofs.Sound.WithoutOpen.{AreClosed, without_is}
-use Rattle.proof_scanner.proofs.Sound.ReadNodes.{Read, next_of, site_of, site_then, allowed_past, IsRead, node_read, state_after}
 use Rattle.proof_scanner.proofs.Cut.Pieces.Plains.{begins_as_read}
-use Rattle.proof_scanner.proofs.Sound.Reads.{adjacent_kept}
 
 -- ---- what was read
 

@@ -4,11 +4,9 @@ use Rattle.defs_text.specs.Classes as classes
 use Rattle.yaml_chars.specs.Class.{is_break, is_blank}
 use Rattle.yaml_chars.specs.Class as model_classes
 use Rattle.model_scanner.specs.Plain.{Mode, inside, between, goes_on, begun, plain}
-use Rattle.proof_scanner.proofs.Sound.LastLines.{last_first, last_whole}
-use Rattle.proof_scanner.proofs.Sound.TabsWithin.{take_none, none_before, blank_more}
+use Rattle.proof_scanner.proofs.Sound.Common.{and_yes, blank_more, last_first, last_whole, none_before, take_none}
 use Rattle.proof_scanner.proofs.Cut.Pieces.Plains.{same_flow_start}
 use Rattle.model_scanner.proofs.PlainLemmas.{break_leads}
-use Rattle.proof_scanner.proofs.Sound.Standing.{and_yes}
 
 -- ---- what a text says of TABs, character by character
 

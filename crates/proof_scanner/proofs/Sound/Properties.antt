@@ -1,15 +1,9 @@
 -- Anchors, aliases and tags: what holds between two fetches holds after them.
 use Rattle.proof_scanner.proofs.Common.{Arrives, Bool, Entry, FlowLevel, Holds, Key, List, NameKind, None, Option, Position, ScannerState, Site, Stands, Tok, [], act_of, allow_key, anchor_name, anchor_token, another, ap, arith, awaits_past, begins_free_line, begun_by, false, fetch_anchor, fetch_tag, further_lines_stand, gives_node, in_flow, is_empty, is_renewed, least_column, least_for, mark_of, may_precede, node_start, not, on_held, previous_by, push, read, refl, seen, shown_position, subst, sym, true, unled, went, ℕ, ◌∙◌, ◌∷◌, ◌≡◌}
 use Rattle.model_scanner.specs.Tag as tags
-use Rattle.proof_scanner.proofs.Cut.Nodes.{IsDeep}
-use Rattle.proof_scanner.proofs.Cut.Saved.{saved_is}
-use Rattle.proof_scanner.proofs.Sound.StreamEnds.{same_flow}
-use Rattle.proof_scanner.proofs.Sound.Standing.{deep_for, awaits_kept}
-use Rattle.proof_scanner.proofs.Sound.Sides.{with_entries, ArrivesBy}
-use Rattle.proof_scanner.proofs.Sound.ReadNodes.{Read, site_of, allowed_past, IsRead, site_then, node_read, state_after}
+use Rattle.proof_scanner.proofs.Sound.Steps.{allowed_past, ArrivesBy, awaits_kept, deep_for, IsDeep, IsRead, node_read, Read, reads_before_none, same_flow, saved_is, site_of, site_then, state_after, with_entries}
 use Rattle.proof_scanner.proofs.Cut.Pieces.Names.{IsProperty, name_property}
 use Rattle.proof_scanner.proofs.Cut.Pieces.Tags.{tag_property}
-use Rattle.proof_scanner.proofs.Sound.Reads.{reads_before_none}
 
 -- ---- properties
 

@@ -4,18 +4,9 @@ use Rattle.yaml_tokens.specs.declared.problem.Problem.TheVariants as problem
 use Rattle.model_scanner.specs.declared.level.FlowLevel.TheVariants.{Entry as InEntry}
 use Rattle.model_scanner.specs.State.{after}
 use Rattle.proof_lexers.specs.PlainEnds as ends
-use Rattle.proof_scanner.proofs.Cut.Nodes.{IsDeep}
-use Rattle.proof_scanner.proofs.Cut.Blocks.{key_removed}
-use Rattle.proof_scanner.proofs.Sound.Arrivals.{first_not_right}
-use Rattle.proof_scanner.proofs.Sound.Around.{tokens_before}
-use Rattle.proof_scanner.proofs.Sound.EntryPieces.{low_enough, goes_inside}
-use Rattle.proof_scanner.proofs.Sound.Indicated.{past_one}
-use Rattle.proof_scanner.proofs.Sound.OutsidePieces.{read_outside, line_free, started_tokens, begun_after, with_start}
-use Rattle.proof_scanner.proofs.Sound.Rolled.{RollsTo, rolls_to, top_closed}
-use Rattle.proof_scanner.proofs.Sound.Sides.{ArrivesBy, ArrivesOutside, ArrivesInside, arrives_side}
+use Rattle.proof_scanner.proofs.Sound.Steps.{adjacent_kept, arrives_side, ArrivesBy, ArrivesInside, ArrivesOutside, begun_after, first_not_right, goes_inside, IsDeep, key_removed, line_free, low_enough, past_one, read_outside, Reads, rolls_to, RollsTo, started_tokens, tokens_before, top_closed, with_start}
 use Rattle.proof_scanner.proofs.Sound.WhiteSpaces.{white_of, past_white, white_cut, no_tab_before, no_tab_in_last, past_white_space, white_exactly, white_first}
 use Rattle.proof_scanner.proofs.Cut.Fetched.{begins_here}
-use Rattle.proof_scanner.proofs.Sound.Reads.{Reads, adjacent_kept}
 
 -- ---- what is read after it
 

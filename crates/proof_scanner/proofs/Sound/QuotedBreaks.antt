@@ -4,7 +4,7 @@ use Rattle.defs_text.specs.Classes as classes
 use Rattle.defs_text.specs.FlowScalar.{last_line}
 use Rattle.yaml_chars.specs.Class.{is_break, is_blank}
 use Rattle.proof_lexers.proofs.Quoted.Turns.{spelled}
-use Rattle.proof_scanner.proofs.Sound.TabsWithin.{take_none, none_before}
+use Rattle.proof_scanner.proofs.Sound.LastLines.{take_none, none_before}
 
 -- ---- elements by their characters
 

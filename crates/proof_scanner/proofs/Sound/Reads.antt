@@ -1,10 +1,6 @@
 -- What was read from one state to another: a piece at a site, and a separation after it; and what the scanner holds then that no key decides.
 use Rattle.proof_scanner.proofs.Common.{Account, AreEntries, AreLevels, AreNumbered, Before, Bool, FlowLevel, HasNoTabs, IsAdjacent, IsCarriedOn, IsLeading, IsLine, IsOpenOutside, IsReadOn, Key, KnowsKey, List, MayChoose, Option, Position, Previous, ScannerState, Site, SoFar, Stands, another, arith, before_by, before_past, begins_free_line, begins_line, chosen, columns, false, flow_collection, has_no_break, has_no_nul, has_open_level, is_empty, is_renewed, is_separation, is_waiting, length, no_nul_after, not, other, outside_key, position_after, suc, tokens_up_to, true, ℕ, ◌++◌, ◌≡◌, ◌≤◌, ◌⊎◌, eqb-true, nat_tests}
-use Rattle.proof_scanner.proofs.Sound.Sides.{stands_by}
-use Rattle.proof_scanner.proofs.Cut.Nodes.{adjacent_other}
-use Rattle.proof_scanner.proofs.Cut.Positions.{index_after}
-use Rattle.proof_scanner.proofs.Sound.Arrivals.{not_none}
-use Rattle.proof_scanner.proofs.Sound.Indicated.{none_indents}
+use Rattle.proof_scanner.proofs.Sound.Common.{adjacent_other, index_after, none_indents, not_none, stands_by}
 
 -- The site is that after the piece.
 pub record Reads (t u : ScannerState) (y : Site) (piece next gap : List ℕ) : Type 0 where

@@ -2,9 +2,7 @@
 use Rattle.proof_scanner.proofs.Common.{Account, AreEntries, Bool, Entry, Fares, FlowLevel, Held, Holds, IsAtEnd, IsCarriedOn, IsCutUpTo, IsLine, IsNear, IsOpenOutside, IsRead, Key, KnowsKey, List, MayChoose, None, Option, Position, ScannerState, SoFar, Some, Stands, Step, Token, [], ap, arith, begins_free_line, chosen, drop_stale, either, false, have_no_key, in_flow, inl, inr, is_empty, is_far, is_renewed, is_waiting, length, not, not-false, outside_key, over, refl, refused, stale, subst, suc, sym, tokens_from, tokens_up_to, tried, true, try_held, went, ℕ, ◌++◌, ◌+◌, ◌∙◌, ◌∷◌, ◌≡◌, ◌≤◌, ◌⊎◌, eqb-true, nat_tests}
 use Rattle.proof_scanner.proofs.Known.Steps.{known_far}
 use Rattle.proof_scanner.specs.StandsInRow.{goes}
-use Rattle.proof_scanner.proofs.Sound.Completed.{may_be_no_key}
-use Rattle.proof_scanner.proofs.Sound.StreamEnds.{entries_no_key, none_chosen, none_put}
-use Rattle.proof_scanner.proofs.Sound.Sides.{stands_by}
+use Rattle.proof_scanner.proofs.Sound.Common.{entries_no_key, may_be_no_key, none_chosen, none_put, stands_by}
 
 -- rows are completed alike by tokens that are alike
 pub completes_alike : (strict : Bool) (text after : List ℕ) (a : Account) (T U : List Step → List ℕ → List Token) → ((ws : List Step) (last : List ℕ) → T ws last ≡ U ws last) → SoFar strict text after a T → SoFar strict text after a U

@@ -2,16 +2,12 @@
 use Rattle.proof_scanner.proofs.Common.{AreEntries, BeginsButForKey, Bool, HasNoTabs, Holds, IsAdjacent, IsLine, IsLive, IsOpenHere, IsOpenOutside, IsReadOn, IsTakenBy, Key, KnowsKey, Line, List, None, Ok, Option, Position, Previous, ScannerState, SoFar, Some, Stands, [], after_separation, ap, append_assoc, append_cancel_right, arith, before_by, before_past, begins_free_line, begins_separation, between, both_hold, chosen, eqb-true, false, follows_plain, has_no_nul, in_flow, inl, inr, is_at_comment_or_end, is_empty, is_indented_by_spaces, is_one_of, is_separation, least_column, nat_tests, not, or-false, or-true, outside_key, plain_scalar, position_after, position_append, refl, skip_to_next_token, subst, sym, tokens_up_to, true, weakened, went, ℕ, ◌&&◌, ◌++◌, ◌==◌, ◌||◌, ◌∙◌, ◌∷◌, ◌≡◌, ◌≤◌}
 use Rattle.proof_lexers.specs.PlainEnds as plain_ends
 use Rattle.proof_lexers.proofs.Separation.EachSeparation.{no_nul_after}
-use Rattle.proof_scanner.proofs.Cut.Positions.{not_before_after, index_after}
-use Rattle.proof_scanner.proofs.Cut.Pieces.Separations.{separation_append}
+use Rattle.proof_scanner.proofs.Sound.Common.{column_after, index_after, last_whole, no_comment_in_last, not_before_after, separation_append, stands_by, unbroken}
 use Rattle.proof_scanner.proofs.Cut.Heres.{before_both}
 use Rattle.proof_scanner.proofs.Cut.Stoods.{adjacent_filled}
 use Rattle.proof_scanner.proofs.Known.Steps.{known_past}
-use Rattle.proof_scanner.proofs.Sound.Arrivals.{unbroken}
-use Rattle.proof_scanner.proofs.Sound.LastLines.{last_whole, column_after, no_comment_in_last}
 use Rattle.proof_scanner.proofs.Sound.Skips.{Spaced, IsAt, IsIn, Cleared, skip_clears}
 use Rattle.proof_scanner.proofs.Sound.Passed.{skip_stays, Exact, exact, live_before_it, may_before, same_has_break, first_comment, renewed_alike, free_line_append, read_on_append, least_is, goes_on}
-use Rattle.proof_scanner.proofs.Sound.Sides.{stands_by}
 
 -- ---- where the way begins
 
