@@ -71,13 +71,10 @@ levels_end p i (d ∷ ds) ts a = by d.needs_block_end refl a.0
         (if nat_lt (p.col + 1) i then unrolled (p.col + 1) p d.indent ds (end_level b p ts) else record { indent = i; indents = d ∷ ds; tokens = ts })) (sym e)
         (two z.0 z.1 z.2 z.3 (nat_lt (p.col + 1) i) refl)
       where
-        not_left : (n : ℕ) → d.indent ≡ suc n → nat_lt (p.col + 1) i ≡ false → nat_lt p.col n ≡ false
-        not_left n k f = let g : i ≡ d.indent + 1 = h.0 in grind (arith, nat_tests, f, g, k)
-
         two : (n : ℕ) (ns : List ℕ) → columns d.indent ds ≡ n ∷ ns → d.indent ≡ suc n → (b : Bool) → nat_lt (p.col + 1) i ≡ b →
             Ended p (columns d.indent ds) true ts (if b then unrolled (p.col + 1) p d.indent ds ts else record { indent = i; indents = d ∷ ds; tokens = ts })
         two n ns c k true f = alone p (columns d.indent ds) true ts (unrolled (p.col + 1) p d.indent ds ts) (ap (λ x. is_deeper p.col x) c ∙ (grind (arith, nat_tests, eqb-true))) (collections_end p d.indent ds ts a.1)
-        two n ns c k false f = grind (arith, nat_tests, not_left, eqb-true, no_ends)
+        two n ns c k false f = grind (arith, nat_tests, eqb-true, no_ends)
 
 -- ---- from what holds between two fetches to what holds where the next piece begins, or at the text's end
 

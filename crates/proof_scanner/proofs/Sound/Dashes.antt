@@ -1,5 +1,5 @@
 -- The function of the model that reads a dash: what holds where it begins holds between two fetches after it.
-use Rattle.proof_scanner.proofs.Common.{AreLevels, Arrives, At, Fault, Held, Holds, Indent, List, No, None, Ok, Position, Result, ScannerState, Stands, Tok, Token, Yes, [], allow_key, ap, blanks_and_comment, chained, check_block_entry, check_dash, checked, columns, dash_may_precede, ends_at, eqb-true, false, fetch_block_entry, gap, gives_dash, has_open_level, if◌then◌else◌, in_flow, inl, is_at_break_or_flow, is_at_gap, is_blank, is_break, is_deeper, is_empty, is_in_column, leading, lexed, line_past, not, not-false, not_ended, on_held, opened, past, past_blanks_and_comment, past_line_rest, peek, placed, position_after, push, put, refl, remove_implicit_key, roll_entry, roll_indent, same_break, skip_indicator, skip_spaces, space, start_if, subst, sym, token, top_needs_block_end, tried, true, try_held, went, with_top, ℕ, ◌++◌, ◌>>=◌, ◌||◌, ◌∙◌, ◌∷◌, ◌≡◌, ◌⊎◌, arith, nat_tests}
+use Rattle.proof_scanner.proofs.Common.{AreLevels, Arrives, At, Fault, Held, Holds, Indent, List, No, None, Ok, Position, Result, ScannerState, Stands, Tok, Token, Yes, [], allow_key, ap, blanks_and_comment, chained, check_block_entry, check_dash, checked, columns, dash_may_precede, ends_at, eqb-true, false, fetch_block_entry, gap, gives_dash, has_open_level, if◌then◌else◌, in_flow, inl, is_at_break_or_flow, is_at_gap, is_blank, is_break, is_deeper, is_empty, is_in_column, leading, lexed, line_past, not, not-false, not_ended, on_held, opened, past, past_blanks_and_comment, past_line_rest, placed, position_after, push, put, refl, remove_implicit_key, roll_entry, roll_indent, same_break, skip_indicator, skip_spaces, space, start_if, subst, sym, token, top_needs_block_end, tried, true, try_held, went, with_top, ℕ, ◌++◌, ◌>>=◌, ◌∙◌, ◌∷◌, ◌≡◌, ◌⊎◌, arith, nat_tests}
 use Rattle.yaml_chars.specs.Class.{is_break as is_break_here, is_flow as is_flow_here}
 use Rattle.yaml_tokens.specs.declared.problem.Problem.TheVariants as problem
 use Rattle.model_scanner.specs.State.{after as after_first}
@@ -18,11 +18,6 @@ dash_checked : (more : List ℕ) (t : ScannerState) → t.rest ≡ past_blanks_a
 unfolding check_dash
 dash_checked more t e = grind (arith, nat_tests, checked, went, eqb-true, gap_here)
 
--- a flow indicator or a break after the blanks and the comment
-pub flow_or_break : (r : List ℕ) → (is_break_here (peek r) || is_flow_here (peek r)) ≡ is_at_break_or_flow r
-unfolding is_break_here is_flow_here
-flow_or_break a = grind (arith, nat_tests, eqb-true, same_break, same_flow)
-
 -- ---- the levels of indentation after it
 
 -- Where the line ends, or a flow indicator stands, a level that opens no collection stands for the entry's value.
@@ -35,8 +30,8 @@ pub record Entered (w u : ScannerState) : Type 0 where
   pub awaits : has_open_level indents ≡ is_at_break_or_flow w.rest
 
 pub entered : (w : ScannerState) → in_flow w.held ≡ false → AreLevels w.held.indent w.held.indents → top_needs_block_end w.held.indents ≡ true → Entered w (roll_entry w)
-unfolding roll_entry
-entered w out levels top = grind (arith, nat_tests, eqb-true, flow_or_break, opens_one, top_closed)
+unfolding roll_entry is_break_here is_flow_here
+entered w out levels top = grind (arith, nat_tests, eqb-true, same_break, same_flow, opens_one, top_closed)
 
 -- ---- the step
 

@@ -56,9 +56,6 @@ column_after p (c ∷ g) a h = grind (arith, nat_tests, eqb-true, last_first, fe
 
 -- ---- no `#` in it, outside comments
 
-in_no_comment : (d : ℕ) (l : List ℕ) → (35 == d) ≡ false → is_one_of l 35 ≡ false → is_one_of (d ∷ l) 35 ≡ false
-in_no_comment d l e f = rw (e, f) refl
-
 -- where a separation ends within a line, and not in a comment, its last line has no `#`
 pub no_comment_in_last : (g rest : List ℕ) → is_separation false g rest ≡ true → is_at_line_end rest ≡ false → is_one_of (last_line g) 35 ≡ false
 no_comment_in_last g rest h ends = (both g).0 h
@@ -68,7 +65,7 @@ no_comment_in_last g rest h ends = (both g).0 h
 
     both : (g : List ℕ) → Both g
     both [] = grind (arith, nat_tests, eqb-true)
-    both (c ∷ g) = grind (arith, nat_tests, Both, last_first, or-true, in_no_comment, eqb-true, both g)
+    both (c ∷ g) = grind (arith, nat_tests, Both, last_first, or-true, eqb-true, both g)
 
 -- ---- TABs in its first columns
 

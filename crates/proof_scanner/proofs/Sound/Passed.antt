@@ -7,14 +7,10 @@ use Rattle.proof_scanner.proofs.Sound.Skips.{IsLeast}
 
 -- ---- what stands at a token
 
-no_tab : (c : ℕ) (x : Bool) → (c == 9) ≡ x → is_blank c ≡ false → x ≡ false
-unfolding is_blank
-no_tab c a e f = grind arith
-
 -- where no separation begins, nothing is skipped
 pub skip_stays : (a : List ℕ) (s : Held) → begins_separation a ≡ false → skip between a s ≡ Ok (record { rest = a; held = s })
-unfolding skip
-skip_stays b s h = grind (arith, nat_tests, same_break, same_blank, no_tab, eqb-true)
+unfolding skip is_blank
+skip_stays b s h = grind (arith, nat_tests, same_break, same_blank, eqb-true)
 
 -- ---- what was passed
 

@@ -55,11 +55,6 @@ pub no_comment : (g : List ℕ) → is_gap g ≡ true → (is_one_of g 35 ≡ fa
 no_comment [] h = (refl, refl)
 no_comment (c ∷ g) h = grind (arith, nat_tests, eqb-true, and_parts, white_is_no_hash, no_comment g)
 
--- a gap that stays on its line has no break
-gap_in_line : (q : Position) (g rest : List ℕ) → is_empty rest ≡ false → begins_white rest ≡ false → (position_after q g rest).line ≤ q.line → has_break g ≡ false
-unfolding is_break
-gap_in_line q g a some ends h = grind (arith, nat_tests, no_break_on_line, eqb-true)
-
 -- what begins no separation begins with content
 pub solid_text : (text : List ℕ) → is_empty text ≡ false → begins_separation text ≡ false → begins_solid text ≡ true
 solid_text a b h = grind (arith, is_white)
@@ -105,7 +100,8 @@ module _ (text : List ℕ) (t : ScannerState) (a : Arrives text t) (deep : IsDee
     in_line = grind (arith, nat_tests, eqb-true, content_last, and_parts)
 
     one_line_of : is_empty x.rest ≡ false → x.position.line ≤ t.held.position.line → (has_break q.piece ≡ false) × (has_break q.gap ≡ false)
-    one_line_of some h = grind (arith, nat_tests, eqb-true, q, not_before_after, on_one_line, in_line, gap_in_line)
+    unfolding is_break
+    one_line_of some h = grind (arith, nat_tests, eqb-true, q, not_before_after, on_one_line, in_line, no_break_on_line)
 
     allowed_by : (fl : Bool) → x.value.leading ≡ allowed_past None fl plain_scalar q.gap
     allowed_by true = q.leads ∙ ap has_break (sym (no_comment q.gap q.white).1)

@@ -1,5 +1,5 @@
 -- The scan of a plain scalar refuses TABs that indent its further lines, and in flow a dash before a flow indicator.
-use Rattle.proof_scanner.proofs.Common.{Bool, Context, Err, Fault, List, Ok, Plain, PlainState, Position, Read, Result, Stop, Turn, [], after_first, and_false, and_parts, and_then, ap, append_assoc, append_cancel_right, arith, at_break, at_char, at_dash, at_gap, begins_flow, begins_solid, ended, eqb-true, fail, false, first, has_break, has_dash_before_flow, has_tab_within, if◌then◌else◌, inl, inr, is_at_comment_or_end, is_before_line_feed, is_blanks, is_cr_lf, is_gap, joined, last_line, leading, lines_have_no_tab, nat_lt, nat_tests, not, not-true, nothing, on, or_true, plain_from, plain_lines_fit, put_first, refl, run, same_blank, same_break, split, split_by, starts, stop, subst, suc, sym, tabs, true, turn, turn_in, turned, ℕ, ◌&&◌, ◌++◌, ◌-◌, ◌==◌, ◌||◌, ◌∙◌, ◌∷◌, ◌≡◌, ◌≤◌, ◌⊎◌}
+use Rattle.proof_scanner.proofs.Common.{Bool, Context, Err, Fault, List, Ok, Plain, PlainState, Position, Read, Result, Stop, Turn, [], after_first, and_false, and_parts, and_then, ap, append_assoc, append_cancel_right, arith, at_break, at_char, at_dash, at_gap, begins_flow, begins_solid, ended, eqb-true, fail, false, first, has_break, has_dash_before_flow, has_tab_within, if◌then◌else◌, inl, inr, is_at_comment_or_end, is_before_line_feed, is_blanks, is_cr_lf, is_gap, joined, last_line, leading, lines_have_no_tab, nat_lt, nat_tests, not, not-true, nothing, on, or_true, plain_from, plain_lines_fit, put_first, refl, run, same_blank, same_break, split, starts, stop, subst, suc, sym, tabs, true, turn, turn_in, turned, ℕ, ◌&&◌, ◌++◌, ◌-◌, ◌==◌, ◌||◌, ◌∙◌, ◌∷◌, ◌≡◌, ◌≤◌, ◌⊎◌}
 use Rattle.defs_text.specs.Classes as classes
 use Rattle.yaml_chars.specs.Class.{is_break, is_blank}
 use Rattle.yaml_chars.specs.Class as model_classes
@@ -77,10 +77,6 @@ pub white_is_no_dash : (flow apart next : Bool) (c : ℕ) → (is_break c || is_
 unfolding is_break is_blank
 white_is_no_dash flow apart next c h = grind arith
 
-solid_is_no_tab : (c : ℕ) → is_blank c ≡ false → (c == 9) ≡ false
-unfolding is_blank
-solid_is_no_tab c h = grind arith
-
 feed_breaks : (c : ℕ) (a : List ℕ) → is_cr_lf c a ≡ true → begins_break a ≡ true
 unfolding is_break
 feed_breaks c b h = grind arith
@@ -106,7 +102,8 @@ module _ (ctx : Context) (start : Position) (c : ℕ) (a : List ℕ) where
 
     module _ (solid : is_blank c ≡ false) where
       no_spot : (x : Spot) → may_go x c ≡ true → past_spot ctx.indent x c ≡ in_text
-      no_spot a h = grind (arith, breaks, solid, solid_is_no_tab)
+      unfolding is_blank
+      no_spot a h = grind (arith, breaks, solid)
 
       -- one more character of a line
       char_inside : (s : PlainState) → s.folded.leading ≡ false → Goes inside s (on (at_char c s.position s.folded))
@@ -211,13 +208,9 @@ all_lines column a last = grind (arith, none_before)
 put_first_others : (c : ℕ) (ls : List (List ℕ)) (last : List ℕ) → after_first (put_first c ls last).complete (put_first c ls last).last ≡ after_first ls last
 put_first_others c a last = grind arith
 
--- a line feed ends an empty line
-feed_line : (r : List ℕ) → split_by (classes.is_break 10) (is_before_line_feed 10 r) 10 (split r) ≡ record { complete = [] ∷ (split r).complete; last = (split r).last }
-unfolding classes.is_break
-feed_line a = grind arith
-
 pub feed_first : (c : ℕ) (r : List ℕ) → is_before_line_feed c r ≡ true → first_line r ≡ []
-feed_first c a h = grind (arith, nat_tests, eqb-true, and_parts, feed_line)
+unfolding classes.is_break
+feed_first c a h = grind (arith, nat_tests, eqb-true, and_parts)
 
 module _ (column : ℕ) (c : ℕ) (r : List ℕ) where
   -- with a break before it

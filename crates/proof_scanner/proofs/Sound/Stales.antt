@@ -1,5 +1,5 @@
 -- Keys that are too far back are dropped: what holds between two fetches still holds, without them.
-use Rattle.proof_scanner.proofs.Common.{Account, AreEntries, Bool, Entry, Fares, FlowLevel, Held, Holds, IsAtEnd, IsCarriedOn, IsCutUpTo, IsLine, IsNear, IsOpenOutside, IsRead, Key, KnowsKey, List, MayChoose, None, Option, Position, ScannerState, SoFar, Some, Stands, Step, Token, [], ap, arith, begins_free_line, chosen, drop_stale, either, false, have_no_key, in_flow, inl, inr, is_empty, is_far, is_renewed, is_waiting, length, not, not-false, outside_key, over, refl, refused, stale, subst, suc, sym, tokens_from, tokens_up_to, tried, true, try_held, went, ℕ, ◌++◌, ◌+◌, ◌∙◌, ◌∷◌, ◌≡◌, ◌≤◌, ◌⊎◌, eqb-true, nat_tests}
+use Rattle.proof_scanner.proofs.Common.{Account, AreEntries, Bool, Entry, Fares, FlowLevel, Held, Holds, IsAtEnd, IsCarriedOn, IsCutUpTo, IsLine, IsNear, IsOpenOutside, IsRead, Key, KnowsKey, List, MayChoose, None, Option, ScannerState, SoFar, Some, Stands, Step, Token, [], ap, arith, begins_free_line, chosen, drop_stale, either, false, have_no_key, in_flow, inl, inr, is_empty, is_far, is_renewed, is_waiting, length, not, not-false, outside_key, over, refl, refused, stale, subst, suc, sym, tokens_from, tokens_up_to, tried, true, try_held, went, ℕ, ◌++◌, ◌+◌, ◌∙◌, ◌∷◌, ◌≡◌, ◌⊎◌, eqb-true, nat_tests}
 use Rattle.proof_scanner.proofs.Known.Steps.{known_far}
 use Rattle.proof_scanner.specs.StandsInRow.{goes}
 use Rattle.proof_scanner.proofs.Sound.Common.{entries_no_key, may_be_no_key, none_chosen, none_put, stands_by}
@@ -72,13 +72,9 @@ pub record Nearer (text : List ℕ) (u : ScannerState) (h : Held) : Type 0 where
   pub same : h ≡ record u.held { keys = h.keys }
   pub near : is_empty u.held.flow ≡ true → (k : Option Key) × (h.keys ≡ k ∷ []) × IsNear k u.held.position
 
-not_far : (k p : Position) → is_far k p ≡ false → (p.line ≤ k.line) × (p.index ≤ k.index + 1024)
-unfolding is_far
-not_far k p h = grind arith
-
 pub stale_stands : (text : List ℕ) (u : ScannerState) → Stands text u → Holds (Nearer text u) (stale u.held)
-unfolding stale drop_stale
-stale_stands text u s = grind (arith, nat_tests, eqb-true, either, went, not-false, one_key, key_dropped, not_far, refused)
+unfolding stale drop_stale is_far
+stale_stands text u s = grind (arith, nat_tests, eqb-true, either, went, not-false, one_key, key_dropped, refused)
 
 -- The stale keys of a fetch are dropped.
 pub keys_only : (s : Held) → Holds (λ h. h ≡ record s { keys = h.keys }) (stale s)

@@ -27,10 +27,6 @@ white_cut b [] = refl
 white_cut true (c ∷ r) = grind (arith, nat_tests, eqb-true, white_cut (not (is_break c)) r)
 white_cut false (c ∷ r) = grind (arith, nat_tests, eqb-true, white_cut (c == 35) r)
 
-goes_over_none : (c : ℕ) → c ≡ 9 → goes_over c ≡ false
-unfolding is_break
-goes_over_none c e = rw e refl
-
 -- Where no TAB comes after them, none stands outside comments before the next piece.
 pub no_tab_before : (in_comment : Bool) (a : List ℕ) → begins_with 9 (past_white in_comment a) ≡ false → has_tab_before_piece in_comment a ≡ false
 unfolding is_break
@@ -110,7 +106,7 @@ pub no_tab_in : (in_comment : Bool) (a : List ℕ) → has_tab_before_piece in_c
 unfolding is_break
 no_tab_in b [] = refl
 no_tab_in true (c ∷ r) = grind (arith, nat_tests, eqb-true, no_tab_in (not (is_break c)) r)
-no_tab_in false (c ∷ r) = grind (arith, nat_tests, goes_over_none, and_false, eqb-true, no_tab_in (c == 35) r)
+no_tab_in false (c ∷ r) = grind (arith, nat_tests, and_false, eqb-true, no_tab_in (c == 35) r)
 
 -- Neither a space nor a break stands there, and that is refused.
 pub record IsMissed (more : List ℕ) (s : Held) : Type 0 where
