@@ -1,5 +1,5 @@
 -- The function of the model that reads a dash: what holds where it begins holds between two fetches after it.
-use Rattle.proof_scanner.proofs.Common.{AreLevels, Arrives, At, Fault, Held, Holds, Indent, List, No, None, Ok, Position, Result, ScannerState, Stands, Tok, Token, Yes, [], allow_key, ap, blanks_and_comment, chained, check_block_entry, check_dash, checked, columns, dash_may_precede, ends_at, eqb-true, false, fetch_block_entry, gap, gives_dash, has_open_level, if◌then◌else◌, in_flow, inl, is_at_break_or_flow, is_at_gap, is_blank, is_break, is_deeper, is_empty, is_in_column, leading, lexed, line_past, not, not-false, not_ended, on_held, opened, past, past_blanks_and_comment, past_line_rest, placed, position_after, push, put, refl, remove_implicit_key, roll_entry, roll_indent, same_break, skip_indicator, skip_spaces, space, start_if, subst, sym, token, top_needs_block_end, tried, true, try_held, went, with_top, ℕ, ◌++◌, ◌>>=◌, ◌∙◌, ◌∷◌, ◌≡◌, ◌⊎◌, arith, nat_tests}
+use Rattle.proof_scanner.proofs.Common.{AreLevels, Arrives, At, Fault, Held, Holds, Indent, List, No, None, Ok, Position, Result, ScannerState, Stands, Tok, Token, Yes, [], allow_key, ap, blanks_and_comment, chained, check_block_entry, check_dash, checked, columns, dash_may_precede, ends_at, eqb-true, false, fetch_block_entry, gap, gives_dash, has_open_level, if◌then◌else◌, in_flow, inl, is_at_break_or_flow, is_at_gap, is_blank, is_break, is_deeper, is_empty, is_in_column, leading, lexed, line_past, not, not-false, not_ended, on_held, opened, past, past_blanks_and_comment, past_line_rest, placed, push, put, refl, remove_implicit_key, roll_entry, roll_indent, same_break, skip_indicator, skip_spaces, space, start_if, subst, sym, token, top_needs_block_end, tried, true, try_held, went, with_top, ℕ, ◌++◌, ◌>>=◌, ◌∙◌, ◌∷◌, ◌≡◌, ◌⊎◌, arith, nat_tests}
 use Rattle.yaml_chars.specs.Class.{is_break as is_break_here, is_flow as is_flow_here}
 use Rattle.yaml_tokens.specs.declared.problem.Problem.TheVariants as problem
 use Rattle.model_scanner.specs.State.{after as after_first}
@@ -50,20 +50,13 @@ dash_end t more ds i ts = record {
   };
 }
 
-pub past_dash : (p : Position) (next : List ℕ) → position_after p (45 ∷ []) next ≡ past p
-unfolding is_break
-past_dash p next = past_one p 45 next refl
-
-dash_ends : (p : Position) (more : List ℕ) → past_line_rest (past p) more ≡ position_after (position_after p (45 ∷ []) more) (blanks_and_comment more) (past_blanks_and_comment more)
-unfolding is_break
-dash_ends p more = indicator_end p 45 more refl
-
 pub dash_stands : (text more : List ℕ) (t : ScannerState) (a : ArrivesBy text t [] (None ∷ []) []) → t.held.flow ≡ [] → t.held.keys ≡ None ∷ [] → t.rest ≡ 45 ∷ more → is_at_gap more ≡ true → t.held.key_allowed ≡ true → dash_may_precede more ≡ true →
     (i : ℕ) (ds : List Indent) → columns i ds ≡ opened t.held.position.col (columns t.held.indent t.held.indents) → AreLevels i ds → has_open_level ds ≡ is_at_break_or_flow (past_blanks_and_comment more) →
     Stands text (dash_end t more ds i (with_start Tok.block_sequence_start t))
+unfolding is_break
 dash_stands text more t a flow keys e gap allowed apart i ds columns_are levels awaits =
     read_outside text t (dash_end t more ds i (with_start Tok.block_sequence_start t)) a (45 ∷ []) more (blanks_and_comment more) Tok.block_entry (begun_after t.held.position a.site.blocks) _ refl
-    (reads_before_none t _ _ (45 ∷ []) more (blanks_and_comment more) refl e (line_rest_cut more) (line_rest_fills more) (line_rest_in_line more) refl (dash_ends t.held.position more)
+    (reads_before_none t _ _ (45 ∷ []) more (blanks_and_comment more) refl e (line_rest_cut more) (line_rest_fills more) (line_rest_in_line more) refl (indicator_end t.held.position 45 more refl)
     refl refl (ap (opened t.held.position.col) a.blocks_are ∙ sym columns_are) (sym awaits) levels a.was_adjacent (refl, refl, refl))
     (record { line_is = (inl refl, refl, tt); no_key = refl; flow_is = flow; keys_are = ap (with_top None) keys }) (record {
       is_piece = (refl, gap, refl);
@@ -73,7 +66,7 @@ dash_stands text more t a flow keys e gap allowed apart i ds columns_are levels 
       begins_none = refl;
       tokens_are = ap (λ cs. (if is_deeper t.held.position.col cs then placed None (token t.held.position Tok.block_sequence_start) t.held.tokens else t.held.tokens) ++ own (past t.held.position) ∷ []) (sym a.blocks_are) ∙
           (started_tokens (is_deeper t.held.position.col bs) t.held.tokens a.tokens (ends_at t.held.position a.site.blocks bs) t.held.position Tok.block_sequence_start (own (past t.held.position)) a.tokens_are ∙ ap (λ q. a.tokens ++ ((ends_at t.held.position a.site.blocks bs ++ start_if (is_deeper t.held.position.col bs) t.held.position Tok.block_sequence_start) ++ (own q ∷ [])))
-          (sym (past_dash t.held.position more)));
+          (sym (past_one t.held.position 45 more refl)));
     })
   where
     bs : List ℕ

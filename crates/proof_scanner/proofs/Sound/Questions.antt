@@ -20,10 +20,6 @@ space_checked : (more : List ℕ) (t : ScannerState) → t.rest ≡ past_white f
 unfolding check_key_space
 space_checked more t e = checked (peek t.rest == 9) (At problem.TabAfterKey t.held.position) (λ h. went (refl, no_tab_before false more (sym (begins_here 9 (past_white false more) refl) ∙ (ap (λ r. peek r == 9) (sym e) ∙ h))))
 
-pub past_question : (p : Position) (next : List ℕ) → position_after p (63 ∷ []) next ≡ past p
-unfolding is_break
-past_question p next = past_one p 63 next refl
-
 -- ---- outside flow
 
 -- what the scanner holds after the `?` and the separation
@@ -46,8 +42,9 @@ question_reads : (t u : ScannerState) (more : List ℕ) (y : Site) → t.rest �
     u.held.position ≡ position_after (past t.held.position) (white_of false more) (past_white false more) →
     u.held.leading ≡ has_break (white_of false more) → y.position ≡ position_after t.held.position (63 ∷ []) more → y.before ≡ another → y.blocks ≡ columns u.held.indent u.held.indents → y.awaits ≡ has_open_level u.held.indents → AreLevels u.held.indent u.held.indents →
     t.held.adjacent_value_at ≤ t.held.position.index → (u.held.adjacent_value_at ≡ t.held.adjacent_value_at) × (u.held.started ≡ t.held.started) × (u.held.ended ≡ t.held.ended) → Reads t u y (63 ∷ []) more (white_of false more)
+unfolding is_break
 question_reads t u more y cut rest fills place leads here before columns_are awaits levels was same =
-    let stop : u.held.position ≡ position_after (position_after t.held.position (63 ∷ []) more) (white_of false more) u.rest = place ∙ (ap (λ q. position_after q (white_of false more) (past_white false more)) (sym (past_question t.held.position more)) ∙
+    let stop : u.held.position ≡ position_after (position_after t.held.position (63 ∷ []) more) (white_of false more) u.rest = place ∙ (ap (λ q. position_after q (white_of false more) (past_white false more)) (sym (past_one t.held.position 63 more refl)) ∙
     ap (λ l. position_after (position_after t.held.position (63 ∷ []) more) (white_of false more) l) (sym rest)) in
     let far = adjacent_kept t u (before_by y.before) (63 ∷ []) more (white_of false more) refl stop was same.0 (ap before_by before) in
     let cut_then : more ≡ white_of false more ++ u.rest = white_cut false more ∙ ap (λ l. white_of false more ++ l) (sym rest) in
@@ -154,9 +151,6 @@ question_within t more = record {
   };
 }
 
-one_line : (c : ℕ) → is_break c ≡ false → has_break (c ∷ []) ≡ false
-one_line c h = ap (λ b. not (not b && true)) h
-
 pub question_inside : (text more : List ℕ) (t : ScannerState) (f : FlowLevel) (fs : List FlowLevel) (k : Option Key) (ks : List (Option Key)) (e : Entry) (es : List Entry) (a : ArrivesBy text t (f ∷ fs) (k ∷ ks) (e ∷ es)) →
     t.held.flow ≡ f ∷ fs → t.held.keys ≡ k ∷ ks → t.rest ≡ 63 ∷ more → IsDeep t.held → begins_with_space_or_break more ≡ true → has_tab_before_piece false more ≡ false → is_separation false (white_of false more) (past_white false more) ≡ true →
     Stands text (question_within t more)
@@ -168,7 +162,7 @@ question_inside text more t f fs k ks e es a flow keys cut deep begins apart fil
       keys_are = ap (with_top None) keys;
       entry_is = grind arith;
       has_had = (inr refl, ap (λ ls. (not (not (is_empty ls)) && ends.has_break (white_of false more)) || not (not (is_empty ls))) levels);
-      in_line = one_line 63 refl;
+      in_line = refl;
       begun = refl;
       is_piece = inl (refl, begins);
       stands = rw (a.is_indented (ap is_empty cut), low_enough text t f fs (k ∷ ks) (e ∷ es) a deep, apart) refl;

@@ -1,22 +1,16 @@
 -- Quoted scalars: what holds between two fetches holds after them.
-use Rattle.proof_scanner.proofs.Common.{list_all, is_some, Arrives, Bool, Context, Entry, Fault, FlowLevel, HasNoTabs, Held, Holds, IsPiece, IsQuotedRead, Key, List, None, Ok, Option, Position, Quotes, Result, ScannerState, Site, Some, Stands, Tok, [], act_of, adjacent_here, allow_key, and_parts, ap, append_assoc, append_cancel_right, are_single, arith, awaits_past, begins_with, begun_by, between, both_hold, chained, check_after_quoted, columns, context, element_of, ends_before, false, fetch_flow_scalar, further_lines_stand, gives_node, go_on, has_break, has_no_nul, has_open_level, in_flow, inr, is_break, is_empty, is_nul, is_separation, least_column, least_for, lexed, may_precede, no_nul_after, not, not-true, on_held, position_after, position_append, previous_by, push, quote_of, quoted, quoted_lines_fit, quoted_may_end, quoted_scalar, quoted_style, read, read_as, refl, shown_position, skip_to_next_token, subst, sym, true, unled, value_of, weakened, went, ℕ, ◌&&◌, ◌++◌, ◌-◌, ◌>>=◌, ◌||◌, ◌∙◌, ◌∷◌, ◌≡◌, ◌≤◌, eqb-true, nat_tests}
+use Rattle.proof_scanner.proofs.Common.{list_all, is_some, Arrives, Bool, Context, Entry, Fault, FlowLevel, HasNoTabs, Held, Holds, IsPiece, IsQuotedRead, Key, List, None, Ok, Option, Position, Quotes, Result, ScannerState, Site, Some, Stands, Tok, [], act_of, adjacent_here, allow_key, and_parts, ap, append_assoc, append_cancel_right, are_single, arith, awaits_past, begins_with, begun_by, between, both_hold, chained, check_after_quoted, columns, context, element_of, ends_before, false, fetch_flow_scalar, further_lines_stand, gives_node, go_on, has_break, has_no_nul, has_open_level, in_flow, inr, is_break, is_empty, is_nul, is_separation, least_column, least_for, lexed, may_precede, no_nul_after, not, not-true, on_held, position_after, position_append, previous_by, push, quote_of, quoted, quoted_lines_fit, quoted_may_end, quoted_scalar, quoted_style, read, read_as, refl, shown_position, skip_to_next_token, subst, sym, true, unled, value_of, went, ℕ, ◌&&◌, ◌++◌, ◌-◌, ◌>>=◌, ◌||◌, ◌∙◌, ◌∷◌, ◌≡◌, ◌≤◌, eqb-true, nat_tests}
 use Rattle.defs_token.specs.Account.{Account as PieceAccount}
 use Rattle.model_scanner.specs.Machine as machine
 use Rattle.proof_lexers.specs.PlainEnds as plains
 use Rattle.proof_lexers.proofs.Quoted.ScanEnds.{scans_end}
 use Rattle.proof_scanner.proofs.Cut.Pieces.Quoted.{some_chars}
-use Rattle.proof_scanner.proofs.Sound.Steps.{ArrivesBy, break_append, Checked, deep_for, ends_in_line, Exact, exact, IsDeep, IsRead, least_is, next_of, node_read, not_before_after, on_one_line, quoted_checked, Read, same_has_break, saved_is, saved_keys, separation_append, site_of, site_then, some_levels, state_after, unbroken}
+use Rattle.proof_scanner.proofs.Sound.Steps.{ArrivesBy, break_append, Checked, deep_for, ends_in_line, Exact, exact, IsDeep, IsRead, least_is, next_of, node_read, not_before_after, on_one_line, quoted_checked, Read, same_has_break, saved_is, saved_keys, separation_append, site_of, site_then, some_levels, unbroken}
 use Rattle.proof_scanner.proofs.Cut.Scalars.{adjacent_quoted}
 use Rattle.proof_lexers.proofs.Bridges.{or_false}
 use Rattle.proof_scanner.proofs.Sound.Skips.{IsAt, IsLeast, Cleared, skip_clears}
 use Rattle.proof_scanner.proofs.Sound.QuotedBreaks.{same_limit}
 use Rattle.proof_scanner.proofs.Refusals.QuotedLines.{body_read}
-
--- What a function has read of a node where a piece begins, and what it leaves.
-pub record ReadNode (text : List ℕ) (t u : ScannerState) : Type 0 where
-  pub read : Read
-  pub known : (fs : List FlowLevel) (ks : List (Option Key)) (es : List Entry) → t.held.flow ≡ fs → (a : ArrivesBy text t fs ks es) → IsRead t None fs a.site a.line es a.separation read
-  pub is : u ≡ state_after t None read
 
 -- ---- what was read
 
@@ -186,12 +180,9 @@ module _ (text : List ℕ) (quotes : Quotes) (t : ScannerState) (a : Arrives tex
           one_line_of,
         )
 
-      node : ReadNode text t (on_held (λ s. push t.held.position tok (adjacent_here s)) w)
-      node = record {
-        read = d;
-        known = λ fs ks es f r. is_read fs ks es f r;
-        is = ap (λ h. on_held (λ s. push t.held.position tok (adjacent_here s)) (record { rest = w.rest; held = h })) held_is;
-      }
+      node : Stands text (on_held (λ s. push t.held.position tok (adjacent_here s)) w)
+      node = subst (λ h. Stands text (on_held (λ s. push t.held.position tok (adjacent_here s)) (record { rest = w.rest; held = h }))) (sym held_is)
+          (node_read text t None d deep a is_read)
 
 -- what the model does after the closing quote
 abbrev pub after_body : Quotes → ScannerState → List ℕ → ScannerState → Result ScannerState Fault
@@ -200,17 +191,14 @@ after_body quotes t x u =
     skip_to_next_token v >>= λ w.
     Ok (on_held (λ s. push t.held.position (Tok.scalar (quoted_style quotes) x) (adjacent_here s)) w)
 
--- `'` or `"`: what is read of the node
-pub quoted_node : (text : List ℕ) (quotes : Quotes) (t : ScannerState) (more : List ℕ) → t.rest ≡ quote_of (are_single quotes) ∷ more → IsDeep t.held → Arrives text t → Holds (ReadNode text t) (fetch_flow_scalar quotes t)
+-- `'` or `"`
+pub quoted_keeps : (text : List ℕ) (quotes : Quotes) (t : ScannerState) (more : List ℕ) → t.rest ≡ quote_of (are_single quotes) ∷ more → IsDeep t.held → Arrives text t → Holds (Stands text) (fetch_flow_scalar quotes t)
 unfolding fetch_flow_scalar
-quoted_node text quotes t more e deep a =
-    subst (λ h. Holds (ReadNode text t) (lexed (quoted (are_single quotes) (context (allow_key false h)) t.rest t.held.position) (allow_key false h) (after_body quotes t))) (sym (saved_is t.held))
+quoted_keeps text quotes t more e deep a =
+    subst (λ h. Holds (Stands text) (lexed (quoted (are_single quotes) (context (allow_key false h)) t.rest t.held.position) (allow_key false h) (after_body quotes t))) (sym (saved_is t.held))
     (read (allow_key false (record t.held { keys = saved_keys t.held })) (quoted (are_single quotes) (context t.held) t.rest t.held.position) (after_body quotes t)
     (λ x i. (chained (quoted_checked t.held.position (piece_of (are_single quotes) (read_as x i).body) (closed text quotes t a deep x (read_as x i)) (in_line (are_single quotes) (read_as x i).body) (rest_is_clean text quotes t a deep x (read_as x i)) (read_as x i).end_is)
     (λ v c. chained (both_hold (exact v) (skipped text quotes t a deep x (read_as x i) v c)) (λ w z. went (node text quotes t a deep x (read_as x i) v c w z.0 z.1))))))
   where
     read_as : (x : machine.Read (List ℕ)) → quoted (are_single quotes) (context t.held) t.rest t.held.position ≡ Ok x → QuotedAs (are_single quotes) (context t.held) t.held.position t.rest x
     read_as x i = subst (λ r. QuotedAs (are_single quotes) (context t.held) t.held.position r x) (sym e) (quoted_as quotes (context t.held) t.held.position more x ((and_parts (not (is_nul (quote_of (are_single quotes)))) (has_no_nul more) (subst (λ r. has_no_nul r ≡ true) e a.is_clean)).1) (subst (λ r. quoted (are_single quotes) (context t.held) r t.held.position ≡ Ok x) e i))
-
-pub quoted_keeps : (text : List ℕ) (quotes : Quotes) (t : ScannerState) (more : List ℕ) → t.rest ≡ quote_of (are_single quotes) ∷ more → IsDeep t.held → Arrives text t → Holds (Stands text) (fetch_flow_scalar quotes t)
-quoted_keeps text quotes t more e deep a = weakened (λ u n. subst (λ y. Stands text y) (sym n.is) (node_read text t None n.read deep a n.known)) (quoted_node text quotes t more e deep a)

@@ -85,7 +85,7 @@ module _ (before : Previous) (least : ℕ) where
 
     between_by : (g a : List ℕ) (c : ℕ) (s : Held) → is_break c ≡ false → IsLeast s → IsPassed Tabbed between g s (c ∷ a) → Tells a → Q g (c ∷ a) s (skip between (c ∷ a) s)
     unfolding skip
-    between_by g a c s e l h ih = rw e (by ((c == 9) && is_before_indent s) refl)
+    between_by g a c s e l h ih = rw e (by ((c == 9) && is_before_indent s) (is_blank c) (c == 35) refl refl refl)
       where
         at : (c == 35) ≡ false → IsAt g s
         at f = from h
@@ -94,20 +94,14 @@ module _ (before : Previous) (least : ℕ) where
             from (inl x) = absurd (cc (x, no_end c a e f))
             from (inr x) = x
 
-        later : (b : Bool) → is_blank c ≡ b → ((c == 9) && is_before_indent s) ≡ false → Q g (c ∷ a) s (if b then skip between a (moved s) else (if c == 35 then skip comment a (record (moved s) { leading = false }) else Ok (record { rest = c ∷ a; held = s })))
-        later true b f = w.further g a c s (moved s) _ (omega arith) (ih between (g ++ c ∷ []) (moved s) l (inr (at_blank g c s (same_break c ∙ e) f l (at (no_hash c b)))))
-        later false b f = last (c == 35) refl
-          where
-            last : (x : Bool) → (c == 35) ≡ x → Q g (c ∷ a) s (if x then skip comment a (record (moved s) { leading = false }) else Ok (record { rest = c ∷ a; held = s }))
-            last true x = w.further g a c s (record (moved s) { leading = false }) _ (omega arith) (ih comment (g ++ c ∷ []) (record (moved s) { leading = false }) l tt)
-            last false x = w.arrives g a c s (at x)
-
-        by : (t : Bool) → ((c == 9) && is_before_indent s) ≡ t → Q g (c ∷ a) s
-            (if t then skip tab_line a (moved s) else (if is_blank c then skip between a (moved s) else (if c == 35 then skip comment a (record (moved s) { leading = false }) else Ok (record { rest = c ∷ a; held = s }))))
-        by true t =
-            let q = and_parts (c == 9) (is_before_indent s) t in
-            w.further g a c s (moved s) _ (omega arith) (ih tab_line (g ++ c ∷ []) (moved s) l (w.tab g c s e t l (at (let i : c ≡ 9 = eqb-true c 9 q.0 in rw i refl))))
-        by false t = later (is_blank c) refl t
+        by : (t b x : Bool) → ((c == 9) && is_before_indent s) ≡ t → is_blank c ≡ b → (c == 35) ≡ x → Q g (c ∷ a) s
+            (if t then skip tab_line a (moved s) else (if b then skip between a (moved s) else (if x then skip comment a (record (moved s) { leading = false }) else Ok (record { rest = c ∷ a; held = s }))))
+        by true b x f i k =
+            let q = and_parts (c == 9) (is_before_indent s) f in
+            w.further g a c s (moved s) _ (omega arith) (ih tab_line (g ++ c ∷ []) (moved s) l (w.tab g c s e f l (at (let i : c ≡ 9 = eqb-true c 9 q.0 in rw i refl))))
+        by false true x f i k = w.further g a c s (moved s) _ (omega arith) (ih between (g ++ c ∷ []) (moved s) l (inr (at_blank g c s (same_break c ∙ e) f l (at (no_hash c i)))))
+        by false false true f i k = w.further g a c s (record (moved s) { leading = false }) _ (omega arith) (ih comment (g ++ c ∷ []) (record (moved s) { leading = false }) l tt)
+        by false false false f i k = w.arrives g a c s (at k)
 
     comment_by : (g a : List ℕ) (c : ℕ) (s : Held) → is_break c ≡ false → IsLeast s → Tells a → Q g (c ∷ a) s (skip comment (c ∷ a) s)
     unfolding skip

@@ -1,5 +1,5 @@
 -- The way to the next token, or to the text's end, keeps what holds between two fetches, with the separation up to there.
-use Rattle.proof_scanner.proofs.Common.{AreEntries, BeginsButForKey, Bool, HasNoTabs, Holds, IsAdjacent, IsLine, IsLive, IsOpenHere, IsOpenOutside, IsReadOn, IsTakenBy, Key, KnowsKey, Line, List, None, Ok, Option, Position, Previous, ScannerState, SoFar, Some, Stands, [], after_separation, ap, append_assoc, append_cancel_right, arith, before_by, before_past, begins_free_line, begins_separation, between, both_hold, chosen, eqb-true, false, follows_plain, has_no_nul, in_flow, inl, inr, is_at_comment_or_end, is_empty, is_indented_by_spaces, is_one_of, is_separation, least_column, nat_tests, not, or-false, or-true, outside_key, plain_scalar, position_after, position_append, refl, skip_to_next_token, subst, sym, tokens_up_to, true, weakened, went, ℕ, ◌&&◌, ◌++◌, ◌==◌, ◌||◌, ◌∙◌, ◌∷◌, ◌≡◌, ◌≤◌}
+use Rattle.proof_scanner.proofs.Common.{Site, AreEntries, BeginsButForKey, Bool, HasNoTabs, Holds, IsAdjacent, IsLine, IsLive, IsOpenHere, IsOpenOutside, IsReadOn, IsTakenBy, Key, KnowsKey, Line, List, None, Option, Position, Previous, ScannerState, SoFar, Some, Stands, [], after_separation, ap, append_assoc, append_cancel_right, arith, before_by, before_past, begins_free_line, begins_separation, between, both_hold, chosen, eqb-true, false, follows_plain, has_no_nul, in_flow, inl, inr, is_at_comment_or_end, is_empty, is_indented_by_spaces, is_one_of, is_separation, least_column, nat_tests, not, or-false, or-true, outside_key, plain_scalar, position_after, position_append, refl, skip_to_next_token, subst, sym, tokens_up_to, true, weakened, went, ℕ, ◌&&◌, ◌++◌, ◌==◌, ◌||◌, ◌∙◌, ◌∷◌, ◌≡◌, ◌≤◌}
 use Rattle.proof_lexers.specs.PlainEnds as plain_ends
 use Rattle.proof_lexers.proofs.Separation.EachSeparation.{no_nul_after}
 use Rattle.proof_scanner.proofs.Sound.Common.{column_after, index_after, last_whole, no_comment_in_last, not_before_after, separation_append, stands_by, unbroken}
@@ -104,23 +104,14 @@ module _ (text : List ℕ) (t u : ScannerState) (s : Stands text t) (begins : be
         (s.completes strict x cs (may_before strict x (outside_key s.base.entries t.held.keys) t.held.position e.separation t.rest u.rest e.cut may));
   })
 
-  -- at the next token, or at the text's end
-  passed_now : Stands text u × (begins_separation u.rest ≡ false)
-  passed_now = (subst (λ v. Stands text v) (sym e.is_state) now, e.solid)
-
-stayed : (t : ScannerState) → begins_separation t.rest ≡ false → skip_to_next_token t ≡ Ok t
-unfolding skip_to_next_token
-stayed t h = skip_stays t.rest t.held h
-
-cleared : (text : List ℕ) (t : ScannerState) (s : Stands text t) → begins_separation t.rest ≡ true → Holds (Cleared s.base.site.before (least_column s.base.site.blocks s.base.site.awaits) s.separation t.rest) (skip_to_next_token t)
-unfolding skip_to_next_token
-cleared text t s begins =
-    skip_clears s.base.site.before (least_column s.base.site.blocks s.base.site.awaits) t.rest between s.separation t.held (least_is s.base.site.blocks s.base.site.awaits t.held s.blocks_are s.awaits_is s.are_levels) (is_in text t s begins)
-
 -- At the next token, or at the text's end, what holds between two fetches holds.
 pub passed_stands : (text : List ℕ) (t : ScannerState) → Stands text t → Holds (λ u. Stands text u × (begins_separation u.rest ≡ false)) (skip_to_next_token t)
+unfolding skip_to_next_token
 passed_stands text t s = by (begins_separation t.rest) refl
   where
     by : (x : Bool) → begins_separation t.rest ≡ x → Holds (λ u. Stands text u × (begins_separation u.rest ≡ false)) (skip_to_next_token t)
-    by false h = subst (λ r. Holds (λ u. Stands text u × (begins_separation u.rest ≡ false)) r) (sym (stayed t h)) (went (s, h))
-    by true h = weakened (λ u x. passed_now text t u s h x.0 x.1) (both_hold (exact t) (cleared text t s h))
+    by false h = subst (λ r. Holds (λ u. Stands text u × (begins_separation u.rest ≡ false)) r) (sym (skip_stays t.rest t.held h)) (went (s, h))
+    by true h =
+        let site : Site = s.base.site in
+        weakened (λ u x. (subst (λ v. Stands text v) (sym x.0.is_state) (now text t u s h x.0 x.1), x.0.solid)) (both_hold (exact t)
+        (skip_clears site.before (least_column site.blocks site.awaits) t.rest between s.separation t.held (least_is site.blocks site.awaits t.held s.blocks_are s.awaits_is s.are_levels) (is_in text t s h)))

@@ -1,11 +1,11 @@
 -- A colon that ends no key: what holds where it begins holds between two fetches after it.
-use Rattle.proof_scanner.proofs.Common.{[], allow_key, another, ap, append-nil, append_assoc, AreLevels, arith, Arrives, At, before_by, before_past, begin_keyless_mapping, begin_keyless_value, begin_pair, begins_free_line, begun_outside, Bool, chained, check_value_space, checked, chosen, colon_may_precede, columns, Completes, ends_at, entries_by, Entry, entry_by, eqb-true, false, Fault, fetch_value, first_account, FlowLevel, gives_colon, has_break, has_open_level, Held, Holds, if◌then◌else◌, in_flow, Indent, inl, innermost, inr, insert, insert_key, inside, is_adjacent, is_break, is_deeper, is_empty, is_in_column, is_near, is_value, is_value_indicator, IsEntryOf, IsLive, IsNotRight, Key, length, length-append, Line, line_past, List, MayChoose, nat_tests, None, not, not-false, not_ended, NotBefore, Ok, on_held, opened, opens_pair, Option, Outside, outside_key, pair_past, pair_position, paired, past, placed, pop, Position, position_after, push, put, put_key, refl, Result, roll_indent, roll_one_col_indent, ScannerState, settled, Site, site_at, site_here, Some, spelled, Stands, start_if, Step, subst, suc, sym, taken, takes_pair, Tok, Token, token, tokens_at, tokens_of_step, tokens_up_to, top_key, tried, true, try_held, waits, went, with_held, with_keys, with_top, ℕ, ◌++◌, ◌==◌, ◌>>=◌, ◌||◌, ◌∙◌, ◌∷◌, ◌≡◌, ◌≤◌, ◌⊎◌}
+use Rattle.proof_scanner.proofs.Common.{Account, [], allow_key, another, ap, append-nil, append_assoc, AreLevels, arith, Arrives, At, before_by, before_past, begin_keyless_mapping, begin_keyless_value, begin_pair, begins_free_line, begun_outside, Bool, chained, check_value_space, checked, chosen, colon_may_precede, columns, Completes, ends_at, entries_by, Entry, entry_by, eqb-true, false, Fault, fetch_value, first_account, FlowLevel, gives_colon, has_open_level, Held, Holds, if◌then◌else◌, in_flow, Indent, inl, innermost, inr, insert, insert_key, inside, is_adjacent, is_break, is_deeper, is_empty, is_in_column, is_near, is_value, is_value_indicator, IsEntryOf, IsLive, IsNotRight, Key, length, length-append, Line, line_past, List, MayChoose, nat_tests, None, not, not-false, not_ended, NotBefore, Ok, on_held, opened, opens_pair, Option, Outside, outside_key, pair_past, pair_position, paired, past, placed, pop, Position, position_after, push, put, put_key, refl, Result, roll_indent, roll_one_col_indent, ScannerState, settled, Site, site_at, site_here, Some, spelled, Stands, start_if, Step, subst, suc, sym, taken, takes_pair, Tok, Token, token, tokens_at, tokens_of_step, tokens_up_to, top_key, tried, true, try_held, waits, went, with_held, with_keys, with_top, ℕ, ◌++◌, ◌==◌, ◌>>=◌, ◌||◌, ◌∙◌, ◌∷◌, ◌≡◌, ◌≤◌, ◌⊎◌}
 use Rattle.model_scanner.specs.declared.level.FlowLevel.TheVariants.{Pair as InPair}
 use Rattle.model_scanner.specs.Block.{value_of}
 use Rattle.proof_scanner.proofs.Sound.Steps.{all_go_on, among, arrives_side, ArrivesBy, ArrivesInside, ArrivesOutside, begun_after, ends_outside, fewer, first_among, first_not_right, goes_inside, goes_of, is_written, IsDeep, key_longer, keyless, keys_along, keys_first, line_free, line_taken, low_enough, no_waiting, not_before_after, not_before_then, numbered_around, numbered_more, opens_none, opens_one, OpensOne, Outer, outer_completes, outer_then, past_one, past_step, read_outside, Reads, reads_before_none, rolls_to, RollsTo, some_levels, started_tokens, steps_in_flow, tokens_before, value_is, weaker, with_entries, with_start}
 use Rattle.proof_scanner.proofs.Sound.ColonSpaces.{colon_gap, colon_spaced, gap_end, gap_is, past_colon, past_gap}
 use Rattle.proof_scanner.proofs.Sound.Questions.{pair_level}
-use Rattle.proof_row.proofs.KeyLines.{keys_before, line_grows}
+use Rattle.proof_row.proofs.KeyLines.{KeysBefore, keys_before, line_grows}
 use Rattle.model_scanner.specs.State.{after}
 use Rattle.yaml_tokens.specs.declared.problem.Problem.TheVariants as problem
 
@@ -60,35 +60,28 @@ keyless_stands text more t a e allowed apart ind i ds columns_are levels awaits 
     bs : List ℕ
     bs = not_ended t.held.position.col a.site.blocks
 
--- The levels after it: that of a mapping, if one begins, and one that no collection opens.
-pub record KeylessLevels (more : List ℕ) (t : ScannerState) : Type 0 where
-  pub mapping : RollsTo t.held.position.col None (token t.held.position Tok.block_mapping_start) (at_value more t [] (None ∷ [])) (roll_indent t.held.position.col None Tok.block_mapping_start t.held.position (at_value more t [] (None ∷ [])))
-  pub level : (let rolled = record (at_value more t [] (None ∷ [])) { indents = mapping.indents; indent = mapping.indent; tokens = with_start Tok.block_mapping_start t } in OpensOne rolled (roll_one_col_indent rolled))
-
-pub keyless_levels : (more : List ℕ) (t : ScannerState) → AreLevels t.held.indent t.held.indents → IsDeep t.held → KeylessLevels more t
-keyless_levels more t levels deep =
-    let h : Held = at_value more t [] (None ∷ []) in
-    let r : RollsTo t.held.position.col None (token t.held.position Tok.block_mapping_start) h (roll_indent t.held.position.col None Tok.block_mapping_start t.held.position h) =
-    rolls_to t.held.position.col None Tok.block_mapping_start t.held.position h refl levels (first_not_right t.held.position.col t.held.indent t.held.indents levels deep) in
-    record {
-      mapping = r;
-      level = opens_one (record h { indents = r.indents; indent = r.indent; tokens = with_start Tok.block_mapping_start t }) refl r.are_levels (some_levels r.indent r.indents (ap is_empty r.columns_are ∙ (grind arith)));
-    }
-
 pub keyless_outside : (text more : List ℕ) (t : ScannerState) (a : ArrivesBy text t [] (None ∷ []) []) → t.rest ≡ 58 ∷ more → colon_may_precede more ≡ true → is_value_indicator false (is_adjacent (before_past (before_by a.site.before) a.separation)) more ≡ true → IsDeep t.held →
     Holds (Stands text) (value_by more t [] (None ∷ []))
 unfolding begin_keyless_value begin_keyless_mapping
 keyless_outside text more t a e apart ind deep =
-    chained {P = λ w. (w ≡ record { rest = past_gap more; held = (record rolled { indents = k.level.indents; indent = k.level.indent; key_allowed = true }) }) × (t.held.key_allowed ≡ true)}
-    (tried (record { rest = past_gap more; held = (at_value more t [] (None ∷ [])) }) _ (chained {P = λ u. (u ≡ rolled) × (t.held.key_allowed ≡ true)} (checked (not t.held.key_allowed) (At problem.ValueNotAllowed t.held.position) (λ f. went (k.mapping.is_held, not-false t.held.key_allowed f)))
-    (λ u d. subst (λ y. Holds (λ z. (z ≡ (record rolled { indents = k.level.indents; indent = k.level.indent; key_allowed = true })) × (t.held.key_allowed ≡ true)) (let v = roll_one_col_indent y in Ok (allow_key (not (in_flow v)) v))) (sym d.0) (went (ap (λ v. allow_key (not (in_flow v)) v) k.level.is_held, d.1)))) (λ s d. (ap (λ y. record { rest = past_gap more; held = y }) d.0, d.1))) (λ w d.
-    went (subst (λ z. Stands text (on_held (push t.held.position Tok.value) z)) (sym d.0) (keyless_stands text more t a e d.1 apart ind k.level.indent k.level.indents (k.level.columns_are ∙ k.mapping.columns_are) k.level.are_levels k.level.awaits)))
+    chained {P = λ w. (w ≡ record { rest = past_gap more; held = (record rolled { indents = l.indents; indent = l.indent; key_allowed = true }) }) × (t.held.key_allowed ≡ true)}
+    (tried (record { rest = past_gap more; held = (at_value more t [] (None ∷ [])) }) _ (chained {P = λ u. (u ≡ rolled) × (t.held.key_allowed ≡ true)} (checked (not t.held.key_allowed) (At problem.ValueNotAllowed t.held.position) (λ f. went (m.is_held, not-false t.held.key_allowed f)))
+    (λ u d. subst (λ y. Holds (λ z. (z ≡ (record rolled { indents = l.indents; indent = l.indent; key_allowed = true })) × (t.held.key_allowed ≡ true)) (let v = roll_one_col_indent y in Ok (allow_key (not (in_flow v)) v))) (sym d.0) (went (ap (λ v. allow_key (not (in_flow v)) v) l.is_held, d.1)))) (λ s d. (ap (λ y. record { rest = past_gap more; held = y }) d.0, d.1))) (λ w d.
+    went (subst (λ z. Stands text (on_held (push t.held.position Tok.value) z)) (sym d.0) (keyless_stands text more t a e d.1 apart ind l.indent l.indents (l.columns_are ∙ m.columns_are) l.are_levels l.awaits)))
   where
-    k : KeylessLevels more t
-    k = keyless_levels more t a.are_levels deep
+    h : Held
+    h = at_value more t [] (None ∷ [])
+
+    -- the level of a mapping, if one begins
+    m : RollsTo t.held.position.col None (token t.held.position Tok.block_mapping_start) h (roll_indent t.held.position.col None Tok.block_mapping_start t.held.position h)
+    m = rolls_to t.held.position.col None Tok.block_mapping_start t.held.position h refl a.are_levels (first_not_right t.held.position.col t.held.indent t.held.indents a.are_levels deep)
 
     rolled : Held
-    rolled = record (at_value more t [] (None ∷ [])) { indents = k.mapping.indents; indent = k.mapping.indent; tokens = with_start Tok.block_mapping_start t }
+    rolled = record h { indents = m.indents; indent = m.indent; tokens = with_start Tok.block_mapping_start t }
+
+    -- and one that no collection opens
+    l : OpensOne rolled (roll_one_col_indent rolled)
+    l = opens_one rolled refl m.are_levels (some_levels m.indent m.indents (ap is_empty m.columns_are ∙ (grind arith)))
 
 -- ---- in flow
 
@@ -99,10 +92,6 @@ valued_entry e = record { kind = e.kind; pair = pair_past (takes_pair e.kind e.p
 -- a single pair begins just where the scanner opens one
 pub single_is : (f : FlowLevel) (fs : List FlowLevel) (k : Option Key) (e : Entry) → IsEntryOf f k e → takes_pair e.kind e.pair ≡ opens_pair (f ∷ fs)
 single_is f fs k e h = grind arith
-
-pub one_line_colon : has_break (58 ∷ []) ≡ false
-unfolding is_break
-one_line_colon = refl
 
 -- the tokens with the start of a single pair, if one begins
 abbrev pub with_pair : (single : Bool) → (more : List ℕ) → ScannerState → List Token
@@ -121,7 +110,7 @@ keyless_within text more t f fs ks e es a cut apart ind deep =
       keys_are = refl;
       entry_is = grind arith;
       has_had = (inr refl, refl);
-      in_line = one_line_colon;
+      in_line = refl;
       begun = refl;
       is_piece = (refl, ind);
       stands = rw (a.is_indented (ap is_empty cut), low_enough text t f fs (None ∷ ks) (e ∷ es) a deep, apart) refl;
@@ -269,6 +258,7 @@ module _ (text more : List ℕ) (t : ScannerState) (f : FlowLevel) (fs : List Fl
       ap (λ ts. with_keys 1 (past_step a.site.position w ws last) ws last a.site.blocks l ys ks ts) (ap (λ r. first r ++ (put (position_after a.site.position a.separation (58 ∷ r)) Tok.value ∷ [])) h ∙ inner_alike))
 
   pub inner_stands : (not (opens_pair (f ∷ fs)) || (k.position.line == t.held.position.line)) ≡ true → Stands text inner_after
+  unfolding is_break
   inner_stands its_line =
       steps_in_flow text t inner_after f fs (Some k) ks x es a (58 ∷ []) more Tok.value (None ∷ ks) (valued_entry x ∷ es) (pair_level InPair f ∷ fs) (colon_gap more)
       (colon_reads t more t.held.indents t.held.indent (in_pair (opens_pair (f ∷ fs))) false (pair_level InPair f ∷ fs) (None ∷ ks) _ e refl refl a.blocks_are a.awaits_is a.are_levels a.was_adjacent) (record {
@@ -279,7 +269,7 @@ module _ (text more : List ℕ) (t : ScannerState) (f : FlowLevel) (fs : List Fl
         are_entries = ((grind arith), (inr refl, refl), a.are_entries.2);
         line_is = line_taken text t f fs (Some k) ks x es a;
         are_numbered = (tt, numbered_more (length a.tokens) (length inner_after.held.tokens) ks (grind (arith, nat_tests, eqb-true, key_longer, tokens_before, length-append)) (numbered_around (length a.tokens) (Some k) ks a.are_numbered));
-        in_line = λ _ _. one_line_colon;
+        in_line = λ _ _. refl;
       }) (record {
         is_piece = (refl, ind);
         stands = rw (a.is_indented (ap is_empty e), low_enough text t f fs (Some k ∷ ks) (x ∷ es) a deep, apart) refl;
@@ -302,29 +292,27 @@ pub key_before : (text : List ℕ) (t : ScannerState) (f : FlowLevel) (fs : List
     k.position.line ≤ t.held.position.line
 key_before text t f fs k ks x es a some = by (outside_key es ks) refl
   where
+    b : Account
+    b = chosen false (true ∷ []) (Some k ∷ ks) (with_entries a.site a.line (x ∷ es))
+
+    early : KeysBefore b → k.position.line ≤ t.held.position.line
+    early h = let there = ap (λ q. q.line) a.position_is in let grows = line_grows a.site.position a.separation t.rest in omega (arith, h.0, there, grows)
+
     may : (y : Option Key) → outside_key es ks ≡ y → MayChoose true false y t.held.position t.rest → k.position.line ≤ t.held.position.line
-    may y i h = let there = ap (λ q. q.line) a.position_is in let grows = line_grows a.site.position a.separation t.rest in omega (
-      arith,
-      (keys_before (Some first_account) (a.completes true false (true ∷ []) (subst (λ z. MayChoose true false z t.held.position t.rest) (sym i) h)).0.steps
-          (a.separation ++ t.rest) (chosen false (true ∷ []) (Some k ∷ ks) (with_entries a.site a.line (x ∷ es))) (a.completes true false (true ∷ []) (subst (λ z. MayChoose true false z t.held.position t.rest) (sym i) h)).0.leads tt).0,
-      there,
-      grows,
-    )
+    may y i h =
+        let g = (a.completes true false (true ∷ []) (subst (λ z. MayChoose true false z t.held.position t.rest) (sym i) h)).0 in
+        early (keys_before (Some first_account) g.steps (a.separation ++ t.rest) b g.leads tt)
 
     by : (y : Option Key) → outside_key es ks ≡ y → k.position.line ≤ t.held.position.line
     by None i = may None i tt
     by (Some z) i = by_must z.required refl
       where
-        by_must : (b : Bool) → z.required ≡ b → k.position.line ≤ t.held.position.line
+        by_must : (c : Bool) → z.required ≡ c → k.position.line ≤ t.held.position.line
         by_must false e = may (Some z) i e
-        by_must true e = let there = ap (λ q. q.line) a.position_is in let grows = line_grows a.site.position a.separation t.rest in omega (
-          arith,
-          (keys_before (Some (record (a.carries (true ∷ []) z i e refl some).account { line = taken })) (a.carries (true ∷ []) z i e refl some).steps (a.separation ++ t.rest)
-              (chosen false (true ∷ []) (Some k ∷ ks) (with_entries a.site a.line (x ∷ es))) (a.carries (true ∷ []) z i e refl some).leads (keys_before (Some first_account) (a.carries (true ∷ []) z i e refl some).begins.steps (spelled (a.carries (true ∷ []) z i e refl some).steps (a.separation ++ t.rest))
-              (a.carries (true ∷ []) z i e refl some).account (a.carries (true ∷ []) z i e refl some).begins.leads tt)).0,
-          there,
-          grows,
-        )
+        by_must true e =
+            let g = a.carries (true ∷ []) z i e refl some in
+            let first = keys_before (Some first_account) g.begins.steps (spelled g.steps (a.separation ++ t.rest)) g.account g.begins.leads tt in
+            early (keys_before (Some (record g.account { line = taken })) g.steps (a.separation ++ t.rest) b g.leads first)
 
 -- ---- the function of the model that reads a colon: what holds where it begins holds between two fetches after it
 
