@@ -70,9 +70,6 @@ abbrev pub IsLeast : (indent : ℕ) → List ℕ → Type 0
 IsLeast indent bs = (collection_of indent ≡ innermost bs) × (least_column bs true ≡ indent)
 
 module _ (indent column : ℕ) (p : Position) (b : BlockRead) (piece next : List ℕ) (bs : List ℕ) where
-  clear_by : (empty : Bool) → (k : ℕ) → least_column bs true ≡ indent → (empty ≡ true → (nat_le indent k && nat_lt k column) ≡ false) → (not empty || nat_lt k (least_column bs true) || nat_le column k) ≡ true
-  clear_by a k l h = grind arith
-
   -- before further text
   read_clear : IsLeast indent bs → block_read (collection_of indent) piece next ≡ Some b → is_at_end next ≡ false → is_tabbed piece next ≡ false → is_shallow indent p b piece next ≡ false → b.column ≡ column → read_may_end bs (block_read (innermost bs) piece next) piece next ≡ true
   read_clear l h e untabbed clear same =
@@ -94,7 +91,7 @@ module _ (indent column : ℕ) (p : Position) (b : BlockRead) (piece next : List
       (ap (λ x. lines_may_end bs b.column x next) lines ∙
       (ap (λ c. lines_may_end bs c (w.header.text ∷ ls) next) same ∙
       both_hold (not (is_empty ls && begins_with tab next)) (not (are_empty column ls) || nat_lt (leading_spaces next) (least_column bs true) || nat_le column (leading_spaces next))
-      (grind arith) (clear_by (are_empty column ls) (leading_spaces next) l.1 not_shallow)))
+      (grind arith) (grind (arith, nat_tests, eqb-true))))
     where
       both_hold : (x y : Bool) → x ≡ true → y ≡ true → (x && y) ≡ true
       both_hold x y e f = rw (e, f) refl

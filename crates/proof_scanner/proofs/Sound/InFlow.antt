@@ -1,5 +1,5 @@
 -- A piece in flow was read: if the definition and the scanner agree on its entries and tokens, what holds where it begins holds between two fetches after it.
-use Rattle.proof_scanner.proofs.Common.{[], Account, account_past, Act, act_of, ap, AreEntries, AreNumbered, arith, begins_free_line, BeginsButForKey, begun_by, begun_inside, Bool, chosen, Colon, colon_of, columns, entries_by, entries_past, Entry, entry_by, eqb-true, false, FlowLevel, Had, had_by, has_break, HasHadHere, is_empty, is_renewed, is_separation, is_waiting, IsEntryOf, IsLine, IsOpenOutside, IsPiece, Key, key_end, KnowsKey, least_column, length, length-append, Line, line_by, line_past_separation, List, may_stand, MayChoose, nat_le, nat_tests, None, not, NotBefore, Option, outside_key, Pair, pair_position, pop, Position, position_after, previous_by, put, refl, ScannerState, seen, shown_position, Site, site_here, site_past, SoFar, Some, spelled, Stands, Step, subst, suc, sym, takes_pair, Tok, Token, tokens_at, tokens_of_step, tokens_up_to, true, with_had, with_keys, ℕ, ◌&&◌, ◌++◌, ◌∙◌, ◌∷◌, ◌≡◌, ◌≤◌}
+use Rattle.proof_scanner.proofs.Common.{[], Account, account_past, act_of, ap, AreEntries, AreNumbered, arith, begins_free_line, BeginsButForKey, begun_by, begun_inside, Bool, chosen, Colon, colon_of, columns, entries_by, entries_past, Entry, entry_by, eqb-true, false, FlowLevel, had_by, has_break, HasHadHere, is_empty, is_renewed, is_separation, is_waiting, IsEntryOf, IsLine, IsOpenOutside, IsPiece, Key, key_end, KnowsKey, least_column, length, length-append, Line, line_by, line_past_separation, List, may_stand, MayChoose, nat_le, nat_tests, None, not, NotBefore, Option, outside_key, pair_position, pop, Position, position_after, previous_by, put, refl, ScannerState, seen, shown_position, Site, site_here, site_past, SoFar, Some, spelled, Stands, Step, subst, suc, sym, takes_pair, Tok, Token, tokens_at, tokens_of_step, tokens_up_to, true, with_had, with_keys, ℕ, ◌&&◌, ◌++◌, ◌∙◌, ◌∷◌, ◌≡◌, ◌≤◌}
 use Rattle.proof_scanner.proofs.Sound.Common.{among, ArrivesBy, but_for_key_past, completes_at, first_among, goes_past, had_as_it_was, IsDeep, keys_along, keys_first, line_taken, may_around, not_before_after, not_before_then, numbered_around, numbered_more, one_around, open_around, past_step, same_levels, some_rest, unbroken, unbroken_around, with_entries}
 use Rattle.proof_scanner.proofs.Known.Steps.{keyless, knows_inside}
 use Rattle.proof_scanner.proofs.Sound.Reads.{Reads, stands_so}
@@ -108,10 +108,6 @@ tokens_inside x piece tok next e =
     let own : Position = pair_position (position_after x.position piece next) next in
     begun_inside (takes_pair e.kind e.pair) e.pair x.position own own (act_of tok) false e.had ++ (put (shown_position x piece tok next) tok ∷ [])
 
--- where no key begins, it does not matter where a colon stands
-begun_alike : (single : Bool) (pair : Pair) (here p q own : Position) (k : Act) (h : Had) → begun_inside single pair here p own k false h ≡ begun_inside single pair here q own k false h
-begun_alike a pair b p q own d h = cc
-
 -- what an entry and the open keys around it ask of the tokens
 pub numbered_then : (before after : List Token) (k : Option Key) (ks : List (Option Key)) (own : List Token) → after ≡ before ++ own → AreNumbered (length before) (k ∷ ks) → AreNumbered (length after) ks
 numbered_then before after k ks own e h = grind (arith, nat_tests, eqb-true, length-append, numbered_more, numbered_around)
@@ -137,7 +133,7 @@ module _ (text : List ℕ) (t : ScannerState) (f : FlowLevel) (fs : List FlowLev
       rw (had_as_it_was k e.had) (grind arith) in
       let second : tokens_at a.site x w ws last l (entry_by false k e ∷ xs) ≡ own =
       ap (λ y. y ++ (put (shown_position x piece tok (spelled ws last)) tok ∷ []))
-      (begun_alike single e.pair x.position (pair_position at_end.past at_end.next) there there (act_of tok) (had_by false k e.had) ∙ ap (λ y. begun_inside single e.pair x.position there there (act_of tok) false y) (had_as_it_was k e.had)) ∙
+      ((grind (arith, nat_tests, eqb-true)) ∙ ap (λ y. begun_inside single e.pair x.position there there (act_of tok) false y) (had_as_it_was k e.had)) ∙
       (ap (λ y. tokens_inside (at_text y) piece tok y e) h ∙ ap (λ q. tokens_inside (site_here true q a.site) piece tok next e) (sym (a.position_is ∙ ap (λ y. position_after p a.separation y) cut))) in
       ap (λ y. with_keys 1 p (w ∷ ws) last a.site.blocks l xs ks y ++ tokens_at a.site x w ws last l (entry_by false k e ∷ xs)) first ∙
       (ap (λ y. with_keys 1 p (w ∷ ws) last a.site.blocks l xs ks a.tokens ++ y) second ∙

@@ -73,9 +73,6 @@ started_tokens begins ts before ends p start own e = grind (arith, nat_tests, eq
 
 -- ---- an open key that need not be one is dropped where a piece begins
 
-pub line_without : (allowed : Bool) (rest : List ℕ) (k : Option Key) (l : Line) → is_empty rest ≡ false → IsLineHere false allowed rest k l → IsLineHere false allowed rest None l
-line_without allowed rest k l some h = grind arith
-
 -- Outside flow what holds where a piece begins holds without the open key, unless that must be one.
 unfoldable pub key_gone : (text : List ℕ) (t : ScannerState) (k : Option Key) → ArrivesBy text t [] (k ∷ []) [] → is_empty t.rest ≡ false → MayChoose true false k t.held.position t.rest → ArrivesBy text t [] (None ∷ []) []
 key_gone text t k a some may = record {
@@ -85,7 +82,7 @@ key_gone text t k a some may = record {
     among = a.among;
     one_each = refl;
     are_entries = tt;
-    line_is = line_without t.held.key_allowed t.rest k a.line_here some a.line_is;
+    line_is = grind (arith, nat_tests, eqb-true);
     is_open = tt;
     is_near = λ _. tt;
     are_numbered = (tt, tt);

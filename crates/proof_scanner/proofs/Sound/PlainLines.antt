@@ -124,18 +124,9 @@ module _ (ctx : Context) (start : Position) (c : ℕ) (a : List ℕ) where
   unfolding at_dash model_classes.is_flow
   dash_is = ap (λ b. b && (c == 45) && begins_flow a) (and_yes ctx.flow) ∙ ap (λ b. ctx.flow && (c == 45) && b) (sym (same_flow_start a))
 
-  -- a scalar that goes on has no dash before a flow indicator
-  no_dash : (p : Position) → goes_on ctx (c ∷ a) p ≡ Ok true → (ctx.flow && true && (c == 45) && begins_flow a) ≡ false
-  unfolding goes_on
-  no_dash p h = grind (arith, nat_tests, eqb-true, dash_is)
-
-  -- and one that is refused there has
-  has_dash : (p : Position) (f : Fault) → goes_on ctx (c ∷ a) p ≡ Err f → (ctx.flow && true && (c == 45) && begins_flow a) ≡ true
-  unfolding goes_on
-  has_dash p f h = grind (arith, nat_tests, eqb-true, dash_is)
-
   begun_goes : (s : PlainState) (x : Result Bool Fault) → goes_on ctx (c ∷ a) s.position ≡ x → is_break c ≡ false → is_blank c ≡ false → Goes between s (begun x c s)
-  begun_goes s a h e f = grind (arith, nat_tests, eqb-true, char_between, no_dash, stays, between, fails, has_dash)
+  unfolding goes_on
+  begun_goes s a h e f = grind (arith, nat_tests, eqb-true, char_between, stays, between, fails, dash_is)
 
   pub turn_goes : (m : Mode) (s : PlainState) → IsCalm m s.folded.leading → Goes m s (turn_in ctx start m s c a)
   turn_goes a s l = grind (arith, nat_tests, eqb-true, white_turn, on, stop, blank_inside, char_inside, stays, blank_between, begun_goes, tabs, fail, break_goes, goes, white_is_no_dash, fails)

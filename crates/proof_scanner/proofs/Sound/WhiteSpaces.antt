@@ -40,15 +40,12 @@ in_comment_ends : (a : List ℕ) → has_no_break (white_of true a) ≡ true →
 in_comment_ends [] h = refl
 in_comment_ends (c ∷ r) h = grind (arith, in_comment_ends r)
 
-none_first : (c : ℕ) (s : List ℕ) → (9 == c) ≡ false → is_one_of (last_line s) 9 ≡ false → is_one_of (last_line (c ∷ s)) 9 ≡ false
-none_first c s e h = grind (arith, nat_tests, last_first, has_break, eqb-true)
-
 -- Its last line has no TAB, unless the text ends with it.
 pub no_tab_in_last : (in_comment : Bool) (a : List ℕ) → (past_white in_comment a ≡ []) ⊎ (is_one_of (last_line (white_of in_comment a)) 9 ≡ false)
 unfolding is_break
 no_tab_in_last b [] = inr refl
 no_tab_in_last true (c ∷ r) = grind (arith, in_comment_ends, last_first, eqb-true, no_tab_in_last (not (is_break c)) r)
-no_tab_in_last false (c ∷ r) = grind (arith, eqb-true, none_first, no_tab_in_last (c == 35) r)
+no_tab_in_last false (c ∷ r) = grind (arith, eqb-true, last_first, has_break, no_tab_in_last (c == 35) r)
 
 -- ---- what the model reads
 
