@@ -75,19 +75,10 @@ started_tokens begins ts before ends p start own e = grind (arith, nat_tests, eq
 
 -- Outside flow what holds where a piece begins holds without the open key, unless that must be one.
 unfoldable pub key_gone : (text : List ℕ) (t : ScannerState) (k : Option Key) → ArrivesBy text t [] (k ∷ []) [] → is_empty t.rest ≡ false → MayChoose true false k t.held.position t.rest → ArrivesBy text t [] (None ∷ []) []
-key_gone text t k a some may = record {
-  site = a.site;
-  line = a.line;
-  known = record {
-    among = a.among;
-    one_each = refl;
-    are_entries = tt;
-    line_is = grind (arith, nat_tests, eqb-true);
-    is_open = tt;
-    is_near = λ _. tt;
-    are_numbered = (tt, tt);
-    carries = λ cs x key m inside some. absurd (cc inside);
-    completes = λ strict c cs _. none_completes strict text (a.separation ++ t.rest) (with_entries a.site a.line []) (k ∷ []) a.tokens a.no_key refl (a.completes strict false [] (may_be_no_key strict k t.held.position t.rest may));
-  };
-  knows = λ e. absurd (cc e);
-}
+key_gone text t k a some may =
+    let base : Account = with_entries a.site a.line [] in
+    let carries : IsCarriedOn text (a.separation ++ t.rest) t.rest (None ∷ []) base = λ cs x key m inside some. absurd (cc inside) in
+    let completes : (strict c : Bool) (cs : List Bool) → MayChoose strict c None t.held.position t.rest → SoFar strict text (a.separation ++ t.rest) base (λ ws last. a.tokens) =
+    λ strict c cs _. none_completes strict text (a.separation ++ t.rest) base (k ∷ []) a.tokens a.no_key refl (a.completes strict false [] (may_be_no_key strict k t.held.position t.rest may)) in
+    let line : IsLineHere false t.held.key_allowed t.rest None a.line_here = grind (arith, nat_tests, eqb-true) in
+    record { site = a.site; line = a.line; known = search (a.among, line, carries, completes); knows = λ e. absurd (cc e) }
