@@ -122,54 +122,37 @@ arrives_with : (text : List ℕ) (v : ScannerState) (s : Stands text v) → begi
     (site_here (not (is_empty v.held.flow)) v.held.position s.base.site).blocks ≡ columns u.indent u.indents →
     (site_here (not (is_empty v.held.flow)) v.held.position s.base.site).awaits ≡ has_open_level u.indents → AreLevels u.indent u.indents →
     u.tokens ≡ v.held.tokens ++ ends_here (not (is_empty v.held.flow)) v.held.position s.base.site.blocks → Arrives text (with_ends v u)
-arrives_with text v s solid near u blocks awaits levels tokens = ended
-  where
-    ended : Arrives text (with_ends v u)
-    ended = record {
-      base = s.base;
-      known =
-          let line = past_line (not (is_empty v.held.flow)) (begins_free_line s.base.site.before s.separation) v.held.key_allowed v.held.position v.rest (outside_key s.base.entries v.held.keys) s.base.line s.line_is in
-          let among : ArrivesAmong (with_ends v u) v.held.flow s.base.site s.base.line = search (line, s.is_filled, s, tokens, indented text v s solid, adjacent text v s solid) in
-          let near_now : is_empty v.held.flow ≡ true → IsNear (outside_key s.base.entries v.held.keys) v.held.position = λ out. (grind arith) in
-          let line_then = line_here (not (is_empty v.held.flow)) (begins_free_line s.base.site.before s.separation) v.held.key_allowed v.held.position v.rest (outside_key s.base.entries v.held.keys) s.base.line (λ e. near_now (not-false (is_empty v.held.flow) e)) s.line_is in
-          record { among = among; one_each = s.one_each; are_entries = s.are_entries; line_is = line_then; is_open = s.is_open; is_near = near_now; are_numbered = s.are_numbered; carries = s.carries; completes = s.completes };
-      knows = s.knows;
-    }
-
--- The levels and tokens after the ends of block collections, and what holds then.
-record EndedAt (text : List ℕ) (v : ScannerState) : Type 0 where
-  levels : Levels
-  is_state : on_held (λ s. unroll_indent (s.position.col + 1) s) v ≡ with_ends v levels
-  arrives : Arrives text (with_ends v levels)
+arrives_with text v s solid near u blocks awaits levels tokens = record {
+  base = s.base;
+  known =
+      let k : Option Key = outside_key s.base.entries v.held.keys in
+      let line = past_line (not (is_empty v.held.flow)) (begins_free_line s.base.site.before s.separation) v.held.key_allowed v.held.position v.rest k s.base.line s.line_is in
+      let among : ArrivesAmong (with_ends v u) v.held.flow s.base.site s.base.line = search (line, s.is_filled, s, tokens, indented text v s solid, adjacent text v s solid) in
+      let near_now : is_empty v.held.flow ≡ true → IsNear k v.held.position = λ out. (grind arith) in
+      let line_then = line_here (not (is_empty v.held.flow)) (begins_free_line s.base.site.before s.separation) v.held.key_allowed v.held.position v.rest k s.base.line (λ e. near_now (not-false (is_empty v.held.flow) e)) s.line_is in
+      record { among = among; one_each = s.one_each; are_entries = s.are_entries; line_is = line_then; is_open = s.is_open; is_near = near_now; are_numbered = s.are_numbered; carries = s.carries; completes = s.completes };
+  knows = s.knows;
+}
 
 -- Where the next piece begins the block collections that are deeper end.
-ended_at : (text : List ℕ) (v : ScannerState) → (s : Stands text v) → begins_separation v.rest ≡ false → HasNearKey v → EndedAt text v
-ended_at text v s solid near = by (is_empty v.held.flow) refl
+pub arrives_now : (text : List ℕ) (v : ScannerState) → Stands text v → begins_separation v.rest ≡ false → HasNearKey v → Arrives text (on_held (λ s. unroll_indent (s.position.col + 1) s) v)
+arrives_now text v s solid near = by (is_empty v.held.flow) refl
   where
     p : Position
     p = v.held.position
 
-    by : (out : Bool) → is_empty v.held.flow ≡ out → EndedAt text v
-    by false e = record {
-      levels = record { indent = v.held.indent; indents = v.held.indents; tokens = v.held.tokens };
-      is_state = ap (λ h. record v { held = h }) (unrolled_in_flow (p.col + 1) v.held e);
-      arrives = arrives_with text v s solid near (record { indent = v.held.indent; indents = v.held.indents; tokens = v.held.tokens })
-          (ap (λ b. (site_here (not b) p s.base.site).blocks) e ∙ s.blocks_are) (ap (λ b. (site_here (not b) p s.base.site).awaits) e ∙ s.awaits_is) s.are_levels
-          (sym (append-nil v.held.tokens) ∙ ap (λ b. v.held.tokens ++ ends_here (not b) p s.base.site.blocks) (sym e));
-    }
+    by : (out : Bool) → is_empty v.held.flow ≡ out → Arrives text (on_held (λ s. unroll_indent (s.position.col + 1) s) v)
+    by false e =
+        subst (λ h. Arrives text (record v { held = h })) (sym (unrolled_in_flow (p.col + 1) v.held e))
+        (arrives_with text v s solid near (record { indent = v.held.indent; indents = v.held.indents; tokens = v.held.tokens })
+        (ap (λ b. (site_here (not b) p s.base.site).blocks) e ∙ s.blocks_are) (ap (λ b. (site_here (not b) p s.base.site).awaits) e ∙ s.awaits_is) s.are_levels
+        (sym (append-nil v.held.tokens) ∙ ap (λ b. v.held.tokens ++ ends_here (not b) p s.base.site.blocks) (sym e)))
     by true e =
         let u : Levels = unrolled (p.col + 1) p v.held.indent v.held.indents v.held.tokens in
-        let z : Ended p s.base.site.blocks s.base.site.awaits v.held.tokens u = subst (λ bs. Ended p bs s.base.site.awaits v.held.tokens u) (sym s.blocks_are)
-        (subst (λ a. Ended p (columns v.held.indent v.held.indents) a v.held.tokens u) (sym s.awaits_is) (levels_end p v.held.indent v.held.indents v.held.tokens s.are_levels)) in
-        record {
-          levels = u;
-          is_state = ap (λ h. record v { held = h }) (unrolled_outside (p.col + 1) v.held e);
-          arrives = arrives_with text v s solid near u (ap (λ b. (site_here (not b) p s.base.site).blocks) e ∙ z.columns_are) (ap (λ b. (site_here (not b) p s.base.site).awaits) e ∙ z.open_is) z.are_levels
-              (z.tokens_are ∙ ap (λ b. v.held.tokens ++ ends_here (not b) p s.base.site.blocks) (sym e));
-        }
-
-pub arrives_now : (text : List ℕ) (v : ScannerState) → Stands text v → begins_separation v.rest ≡ false → HasNearKey v → Arrives text (on_held (λ s. unroll_indent (s.position.col + 1) s) v)
-arrives_now text v s solid near = let e : EndedAt text v = ended_at text v s solid near in subst (λ u. Arrives text u) (sym e.is_state) e.arrives
+        let z : Ended p s.base.site.blocks s.base.site.awaits v.held.tokens u = rw (s.blocks_are, s.awaits_is) (levels_end p v.held.indent v.held.indents v.held.tokens s.are_levels) in
+        subst (λ h. Arrives text (record v { held = h })) (sym (unrolled_outside (p.col + 1) v.held e))
+        (arrives_with text v s solid near u (ap (λ b. (site_here (not b) p s.base.site).blocks) e ∙ z.columns_are) (ap (λ b. (site_here (not b) p s.base.site).awaits) e ∙ z.open_is) z.are_levels
+        (z.tokens_are ∙ ap (λ b. v.held.tokens ++ ends_here (not b) p s.base.site.blocks) (sym e)))
 
 -- with stale keys dropped the open key outside flow is near
 pub near_key : (text : List ℕ) (u : ScannerState) (h : Held) → Nearer text u h → HasNearKey (record u { held = h })

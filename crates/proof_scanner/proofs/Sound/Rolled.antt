@@ -33,29 +33,13 @@ deepened col number t s a low = by (nat_lt s.indent (col + 1)) refl
           are_levels = (grind (arith, nat_tests, e), a);
           is_top = λ h. refl;
         }
-    by false e =
-        let deeper : false ≡ is_deeper col bs = sym (deeper_is col s.indent s.indents a ∙ e) in
-        record {
-          indents = s.indents;
-          indent = s.indent;
-          is_held = ap (λ b. record s { tokens = (if b then placed number t s.tokens else s.tokens) }) deeper;
-          columns_are = ap (λ b. if b then col ∷ bs else bs) deeper;
-          are_levels = grind arith;
-          is_top = λ h. (grind arith);
-        }
+    by false e = let deeper : is_deeper col (columns s.indent s.indents) ≡ false = deeper_is col s.indent s.indents a ∙ e in grind (arith, nat_tests, deeper, e)
 
 -- an open level is one column deeper than a collection whose column is that of the piece
 open_goes_on : (col : ℕ) (number : Option ℕ) (t : Token) (s : Held) (d : Indent) (ds : List Indent) → s.indents ≡ d ∷ ds → d.needs_block_end ≡ false → AreLevels s.indent (d ∷ ds) → IsNotRight (innermost (columns d.indent ds)) col → col + 1 < s.indent →
     RollsTo col number t s (deepen col number t s)
 unfolding deepen
-open_goes_on col number t s d ds e no_end l right high = rw stays (record {
-  indents = s.indents;
-  indent = s.indent;
-  is_held = ap (λ b. record s { tokens = (if b then placed number t s.tokens else s.tokens) }) not_deeper;
-  columns_are = ap (λ b. if b then col ∷ columns s.indent s.indents else columns s.indent s.indents) not_deeper;
-  are_levels = subst (λ x. AreLevels s.indent x) (sym e) l;
-  is_top = λ h. absurd (omega (arith, h, high));
-})
+open_goes_on col number t s d ds e no_end l right high = rw stays (grind (arith, not_deeper, stays, high))
   where
     stays : nat_lt s.indent (col + 1) ≡ false
     stays = grind (arith, nat_tests, high)
