@@ -1,5 +1,5 @@
 -- Block scalars: what holds where one begins holds between two fetches after it. No key waits over it, and after it a key may begin.
-use Rattle.proof_scanner.proofs.Common.{Act, Arrives, Block, BlockStyle, Bool, HasNoTabs, Holds, IsLive, IsPiece, IsReadOn, IsTakenBy, Key, KnowsKey, Levels, Line, List, MayChoose, None, NotBefore, Ok, Option, Outside, Position, Previous, Read, ScannerState, Site, SoFar, Some, Stands, Tok, Token, [], act_of, allow_key, ap, append-nil, append_assoc, arith, awaits_past, before_by, begins_line, begun_by, block, block_may_end, block_position, block_read, block_scalar, block_style, chosen, collection_of, content_position, false, fetch_block_scalar, folded, free, further_lines_stand, further_position, gives_block_scalar, has_break, has_no_nul, has_tab_within, if◌then◌else◌, inl, innermost, inr, is_break, is_empty, is_in_column, is_indented_by_spaces, is_literal, is_one_of, is_separation, least_column, least_for, lexed, line_past, literal, may_precede, may_stand, nat_tests, no_nul_after, not, on_held, position_after, previous_by, push, read, read_block, refl, seen, shown_position, site_at, site_here, site_in, site_past, subst, suc, sym, take, taken, token, tokens_up_to, true, unroll_non_block_indents, went, without_open, without_spaces, zero, ℕ, ◌&&◌, ◌++◌, ◌||◌, ◌∙◌, ◌∷◌, ◌≡◌, ◌⊎◌, eqb-true}
+use Rattle.proof_scanner.proofs.Common.{Act, Arrives, Block, BlockStyle, Bool, HasNoTabs, Holds, IsLive, IsPiece, IsReadOn, IsTakenBy, Key, KnowsKey, Levels, Line, List, MayChoose, None, NotBefore, Ok, Option, Outside, Position, Previous, Read, ScannerState, Site, SoFar, Some, Stands, Tok, Token, [], act_of, allow_key, ap, append-nil, append_assoc, arith, awaits_past, before_by, begins_line, begun_by, block, block_may_end, block_position, block_read, block_scalar, block_style, chosen, collection_of, content_position, false, fetch_block_scalar, folded, free, further_lines_stand, further_position, gives_block_scalar, has_break, has_no_nul, has_tab_within, if◌then◌else◌, inl, innermost, inr, is_break, is_empty, is_in_column, is_indented_by_spaces, is_literal, is_one_of, is_separation, least_column, least_for, lexed, line_past, literal, may_precede, may_stand, nat_tests, no_nul_after, not, on_held, position_after, previous_by, push, read, refl, seen, shown_position, site_at, site_here, site_in, site_past, subst, suc, sym, take, taken, token, tokens_up_to, true, unroll_non_block_indents, went, without_open, without_spaces, zero, ℕ, ◌&&◌, ◌++◌, ◌||◌, ◌∙◌, ◌∷◌, ◌≡◌, ◌⊎◌, eqb-true}
 use Rattle.model_scanner.specs.declared.kind.BlockStyle as kind
 use Rattle.model_scanner.specs.declared.kind.BlockStyle.TheVariants.{Literal, Folded}
 use Rattle.defs_token.specs.Account as pieces
@@ -25,7 +25,7 @@ no_tab_in (suc n) (c ∷ r) = grind (arith, no_tab_in n r)
 -- ---- its token
 
 -- what is said of the token of a block scalar
-pub record IsBlockToken (style : BlockStyle) (text : List ℕ) (tok : Tok) : Type 0 where
+pub record IsBlockToken (tok : Tok) : Type 0 where
   pub act : act_of tok ≡ gives_block_scalar
   pub begun : begun_by tok ≡ []
   pub before : previous_by tok ≡ block_scalar
@@ -33,7 +33,6 @@ pub record IsBlockToken (style : BlockStyle) (text : List ℕ) (tok : Tok) : Typ
   pub precedes : (bs piece next : List ℕ) → may_precede false bs tok piece next ≡ block_may_end bs piece next
   pub awaits : (bs : List ℕ) (b : Bool) (next : List ℕ) → awaits_past false tok bs b next ≡ false
   pub shown : (s : Site) (piece next : List ℕ) → shown_position s piece tok next ≡ content_position (block_read (innermost s.blocks) piece next) s.position piece next
-  pub is_same : tok ≡ token_of style text
 
 -- ---- the step
 
@@ -41,10 +40,31 @@ pub record IsBlockToken (style : BlockStyle) (text : List ℕ) (tok : Tok) : Typ
 after_by : (must : Bool) (here : Position) (bs : List ℕ) (k : Act) (l : Line) → k ≡ gives_block_scalar → ((l ≡ free) × (must ≡ false)) ⊎ (l ≡ taken) → line_past must here bs k false l ≡ Some (record { line = free; blocks = bs })
 after_by must a bs k l e b = grind arith
 
+-- what the scanner holds after a block scalar, as the model has it
+abbrev pub read_state : ScannerState → Levels → BlockStyle → Read Block → ScannerState
+read_state t w style x = record {
+  rest = x.rest;
+  held = record t.held {
+    position = x.position;
+    tokens = w.tokens ++ token x.value.position (token_of style x.value.text) ∷ [];
+    keys = saved_keys t.held;
+    indents = w.indents;
+    indent = w.indent;
+    key_allowed = true;
+    leading = true;
+  };
+}
+
 module _ (text : List ℕ) (t : ScannerState) (k : Option Key) (a : ArrivesBy text t [] (k ∷ []) []) (within : t.held.flow ≡ []) (keys : t.held.keys ≡ k ∷ []) (deep : IsDeep t.held) (w : Levels) (closed : AreClosed t.held.indent t.held.indents t.held.tokens w)
-    (style : BlockStyle) (x : Read Block) (r : BlockAs style w.indent t.held.position t.rest x) (tok : Tok) (n : IsBlockToken style r.scalar.text tok) where
+    (style : BlockStyle) (x : Read Block) (r : BlockAs style w.indent t.held.position t.rest x) where
   abbrev p : Position
   p = t.held.position
+
+  abbrev tok : Tok
+  tok = token_of style r.scalar.text
+
+  n : IsBlockToken tok
+  n = grind arith
 
   abbrev here : Site
   here = site_here false p a.site
@@ -175,41 +195,20 @@ module _ (text : List ℕ) (t : ScannerState) (k : Option Key) (a : ArrivesBy te
     no_key = refl;
     are_numbered = numbered_past text t k a within deep own t.held.key_allowed;
     carries = λ cs x key m inside some. absurd (cc inside);
-    knows = knows_saved text t r.piece r.next tok r.is_text end gap rest place (spaces_cut r.next) k a (grind (arith, nat_tests, eqb-true, (subst (λ l. is_separation false a.separation l ≡ true) r.is_text a.is_filled), is_solid, same_site, is_piece)) within deep (ap is_of_node n.act) known;
+    knows = knows_saved text t r.piece r.next tok r.is_text end gap rest place (spaces_cut r.next) k a (
+        (subst (λ l. is_separation false a.separation l ≡ true) r.is_text a.is_filled),
+        (ap not is_solid, subst (λ y. IsPiece (seen (with_entries a.site a.line []) y a.separation) r.piece r.next None (shown_position y r.piece tok r.next) tok) (sym same_site) is_piece),
+      ) within deep (ap is_of_node n.act) known;
     completes = λ strict c cs may. then_rows strict c cs key_now refl may;
   })
 
+  -- What stands after a block scalar that was read; the spaces after it are the separation.
+  pub block_stands : KnowsKey text (a.separation ++ t.rest) t.held.position k → Stands text (read_state t w style x)
+  block_stands known =
+      subst (λ z. Stands text (read_state t w style z)) (sym r.is)
+      (subst (λ ts. Stands text (record after_it { held = record after_it.held { tokens = ts ++ own ∷ [] } })) (sym closed.same_tokens) (scalar_stands known))
+
 -- ---- the function
-
--- what the scanner holds after a block scalar, as the model has it
-abbrev pub read_state : ScannerState → Levels → BlockStyle → Read Block → ScannerState
-read_state t w style x = record {
-  rest = x.rest;
-  held = record t.held {
-    position = x.position;
-    tokens = w.tokens ++ token x.value.position (token_of style x.value.text) ∷ [];
-    keys = saved_keys t.held;
-    indents = w.indents;
-    indent = w.indent;
-    key_allowed = true;
-    leading = true;
-  };
-}
-
--- the levels of indentation then
-abbrev pub levels_then : ScannerState → Levels
-levels_then t = without_open t.held.indent t.held.indents t.held.tokens
-
--- What stands after a block scalar that was read, with its account; the spaces after it are the separation.
-pub block_stands : (text : List ℕ) (style : BlockStyle) (t : ScannerState) → IsDeep t.held → (o : ArrivesOutside text t) → (w : Levels) → AreClosed t.held.indent t.held.indents t.held.tokens w → (x : Read Block) → (r : BlockAs style w.indent t.held.position t.rest x) →
-    Stands text (read_state t w style x)
-block_stands text style t deep o w closed x r =
-    let tok : Tok = token_of style r.scalar.text in
-    let y : Read Block = read_block t.held.position r.scalar r.piece r.next in
-    let stands : Stands text (record { rest = y.rest; held = record t.held { position = y.position; tokens = t.held.tokens ++ token y.value.position tok ∷ []; keys = saved_keys t.held; indents = w.indents; indent = w.indent; key_allowed = true; leading = true } }) =
-    scalar_stands text t o.key o.here o.flow_is o.keys_are deep w closed style x r tok (grind arith) o.knows in
-    subst (λ z. Stands text (read_state t w style z)) (sym r.is)
-    (subst (λ ts. Stands text (record { rest = y.rest; held = record t.held { position = y.position; tokens = ts ++ token y.value.position tok ∷ []; keys = saved_keys t.held; indents = w.indents; indent = w.indent; key_allowed = true; leading = true } })) (sym closed.same_tokens) stands)
 
 -- A block scalar is read as in the row.
 pub block_keeps : (text : List ℕ) (style : kind.BlockStyle) (t : ScannerState) (more : List ℕ) → t.rest ≡ (if is_literal style then 124 else 62) ∷ more → is_empty t.held.flow ≡ true → IsDeep t.held → Arrives text t → Holds (Stands text) (fetch_block_scalar style t)
@@ -220,10 +219,10 @@ block_keeps text style t more e out deep arrives =
     (read (unroll_non_block_indents (allow_key true (record t.held { keys = saved_keys t.held }))) (block (is_literal style) w.indent t.rest t.held.position) _ (λ x i. went (by style e x i (arrives_side text t arrives))))
   where
     w : Levels
-    w = levels_then t
+    w = without_open t.held.indent t.held.indents t.held.tokens
 
     by : (style : kind.BlockStyle) → t.rest ≡ (if is_literal style then 124 else 62) ∷ more → (x : Read Block) → block (is_literal style) w.indent t.rest t.held.position ≡ Ok x → ArrivesOutside text t ⊎ ArrivesInside text t →
         Stands text (record { rest = x.rest; held = record t.held { position = x.position; tokens = w.tokens ++ token x.value.position (Tok.scalar (block_style style) x.value.text) ∷ []; keys = saved_keys t.held; indents = w.indents; indent = w.indent; key_allowed = true; leading = true } })
     by style e x i (inr inside) = absurd (cc (out, ap is_empty inside.flow_is))
-    by Literal e x i (inl o) = block_stands text literal t deep o w (without_is t.held.indent t.held.indents t.held.tokens arrives.are_levels) x (grind (arith, nat_tests, eqb-true, clean, no_nul_after, block_as))
-    by Folded e x i (inl o) = block_stands text folded t deep o w (without_is t.held.indent t.held.indents t.held.tokens arrives.are_levels) x (grind (arith, nat_tests, eqb-true, clean, no_nul_after, block_as))
+    by Literal e x i (inl o) = block_stands text t o.key o.here o.flow_is o.keys_are deep w (without_is t.held.indent t.held.indents t.held.tokens arrives.are_levels) literal x (grind (arith, nat_tests, eqb-true, clean, no_nul_after, block_as)) o.knows
+    by Folded e x i (inl o) = block_stands text t o.key o.here o.flow_is o.keys_are deep w (without_is t.held.indent t.held.indents t.held.tokens arrives.are_levels) folded x (grind (arith, nat_tests, eqb-true, clean, no_nul_after, block_as)) o.knows

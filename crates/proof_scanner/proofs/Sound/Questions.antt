@@ -139,17 +139,7 @@ asked_entry e = record { kind = e.kind; pair = pair_past (takes_pair e.kind e.pa
 
 -- what the scanner holds after it
 abbrev pub question_within : ScannerState → (more : List ℕ) → ScannerState
-question_within t more = record {
-  rest = past_white false more;
-  held = record t.held {
-    position = position_after (past t.held.position) (white_of false more) (past_white false more);
-    leading = false || has_break (white_of false more);
-    tokens = t.held.tokens ++ token t.held.position Tok.key ∷ [];
-    key_allowed = (not (not (is_empty (keyed t.held.flow))) && ends.has_break (white_of false more)) || not (not (is_empty (keyed t.held.flow)));
-    keys = with_top None t.held.keys;
-    flow = keyed t.held.flow;
-  };
-}
+question_within t more = question_end (record t { held = record t.held { flow = keyed t.held.flow } }) more t.held.indents t.held.indent t.held.tokens
 
 pub question_inside : (text more : List ℕ) (t : ScannerState) (f : FlowLevel) (fs : List FlowLevel) (k : Option Key) (ks : List (Option Key)) (e : Entry) (es : List Entry) (a : ArrivesBy text t (f ∷ fs) (k ∷ ks) (e ∷ es)) →
     t.held.flow ≡ f ∷ fs → t.held.keys ≡ k ∷ ks → t.rest ≡ 63 ∷ more → IsDeep t.held → begins_with_space_or_break more ≡ true → has_tab_before_piece false more ≡ false → is_separation false (white_of false more) (past_white false more) ≡ true →
