@@ -105,9 +105,6 @@ among many [] a = tt
 among many (None ∷ ks) a = among many ks a.1
 among many (Some k ∷ ks) a = (omega (arith, a.0), fewer k.number many ks (omega (arith, a.0)) (among k.number ks a.1))
 
-pub line_first : (c : Colon) (bs : List ℕ) (l : Line) (k : Option Key) (ts us : List Token) → AreAmong (length ts) (k ∷ []) → with_line c bs l k (ts ++ us) ≡ with_line c bs l k ts ++ us
-line_first c bs l a ts us h = grind (arith, key_first)
-
 pub had_first : (c : Colon) (single : Bool) (d : Had) (k : Option Key) (ts us : List Token) → AreAmong (length ts) (k ∷ []) → with_had c single d k (ts ++ us) ≡ with_had c single d k ts ++ us
 had_first c a d b ts us h = grind (arith, key_first)
 
@@ -121,7 +118,7 @@ first_among many a ks b = grind arith
 pub keys_first : (d : ℕ) (p : Position) (ws : List Step) (last : List ℕ) (bs : List ℕ) (l : Line) (es : List Entry) (ks : List (Option Key)) (ts us : List Token) → AreAmong (length ts) ks →
     with_keys d p ws last bs l es ks (ts ++ us) ≡ with_keys d p ws last bs l es ks ts ++ us
 keys_first d p ws last bs l es [] ts us a = refl
-keys_first d p ws last bs l [] (k ∷ ks) ts us a = grind (arith, nat_tests, eqb-true, line_first, first_among)
+keys_first d p ws last bs l [] (k ∷ ks) ts us a = grind (arith, nat_tests, eqb-true, key_first, first_among)
 keys_first d p ws last bs l (e ∷ es) (k ∷ ks) ts us a = grind (arith, nat_tests, eqb-true, first_among, had_first, fewer, had_longer, keys_first (suc d) p ws last bs l es ks)
 
 -- ---- the tokens of a part of a node: with its key put in, or without
@@ -227,4 +224,4 @@ pub node_outer_tokens : (level : Option FlowLevel) (s : Site) (separation piece 
     let before : Account = Outer s (line_by (choice_before allowed c) k l) in
     new.position ≡ b.position → new.number ≡ length (ts ++ ends_at b.position s.blocks b.blocks) → AreSame k p rest s.blocks b.blocks → tokens_up_to before (k ∷ []) ts (w ∷ ws) last ++ tokens_of_step before w ws last ≡
     with_keys 0 (past_step s.position w ws last) ws last b.blocks (line_by c (saved allowed new k) taken) (with_begun level []) (with_no_key level (saved allowed new k ∷ [])) ((ts ++ ends_at b.position s.blocks b.blocks) ++ (put (shown_position b piece tok (spelled ws last)) tok ∷ [])))
-node_outer_tokens level s separation piece tok strict allowed c k new l m p rest ts ws last act begins a may idle b place number same = grind (arith, nat_tests, eqb-true, append_assoc, keys_past, key_between, line_first, keys_around_begun, taken)
+node_outer_tokens level s separation piece tok strict allowed c k new l m p rest ts ws last act begins a may idle b place number same = grind (arith, nat_tests, eqb-true, append_assoc, keys_past, key_between, key_first, keys_around_begun, taken)

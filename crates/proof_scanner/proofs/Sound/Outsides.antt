@@ -1,6 +1,6 @@
 -- The key that may begin with a node, among the open keys.
-use Rattle.proof_scanner.proofs.Common.{[], After, after, ap, AreNumbered, arith, begins_free_line, Bool, Entry, eqb-true, false, FlowLevel, has_break, is_empty, is_in_column, is_waiting, IsEntryOf, IsLineHere, IsLive, IsOpenHere, IsOpenOutside, IsTakenBy, Key, length, length-append, line_by, line_past_separation, List, MayChoose, must_be_key, nat_tests, not, NotBefore, Option, Position, ScannerState, Site, site_here, Some, subst, suc, sym, taken, Token, ℕ, ◌&&◌, ◌++◌, ◌∙◌, ◌∷◌, ◌≡◌, ◌≤◌}
-use Rattle.proof_scanner.proofs.Sound.Common.{after_then, all_go_on, AreSame, ArrivesBy, choice_before, entry_past_node, first_not_right, IsDeep, must_be, no_waiting, not_before_after, not_before_same, not_before_then, numbered_around, numbered_more, saved, saved_keys, weaker}
+use Rattle.proof_scanner.proofs.Common.{[], After, after, ap, AreNumbered, arith, begins_free_line, Bool, eqb-true, false, has_break, is_empty, is_in_column, is_waiting, IsLineHere, IsLive, IsOpenHere, IsOpenOutside, IsTakenBy, Key, length, length-append, line_by, line_past_separation, List, MayChoose, must_be_key, nat_tests, not, NotBefore, Option, Position, ScannerState, Site, site_here, Some, subst, suc, sym, taken, Token, ℕ, ◌&&◌, ◌++◌, ◌∙◌, ◌∷◌, ◌≡◌, ◌≤◌}
+use Rattle.proof_scanner.proofs.Sound.Common.{after_then, all_go_on, AreSame, ArrivesBy, choice_before, first_not_right, IsDeep, must_be, no_waiting, not_before_after, not_before_same, not_before_then, numbered_around, numbered_more, saved, saved_keys, weaker}
 
 -- the key that may begin here
 abbrev pub new_key : ScannerState → Key
@@ -18,11 +18,6 @@ one_more ts u = omega (arith, length-append ts (u ∷ []))
 pub numbered_inside : (t : ScannerState) (before : List Token) (k : Option Key) (ks : List (Option Key)) (own : Token) → t.held.tokens ≡ before → AreNumbered (length before) (k ∷ ks) →
     (b : Bool) → AreNumbered (length (t.held.tokens ++ (own ∷ []))) (saved b (new_key t) k ∷ ks)
 numbered_inside t before k ks own e h b = grind (arith, one_more, numbered_more, numbered_around)
-
--- the entry after a node is of the same flow level
-pub entry_kept : (t : ScannerState) (f : FlowLevel) (fs : List FlowLevel) (k : Option Key) (e : Entry) → t.held.flow ≡ f ∷ fs → (b : Bool) → IsEntryOf f k e → IsEntryOf f (saved b (new_key t) k) (entry_past_node b e)
-unfolding must_be_key
-entry_kept t f fs k e within b h = grind (arith, nat_tests, eqb-true)
 
 -- ---- a part of a node outside flow, and the open key: the one that was open, or the one that may begin with the node
 

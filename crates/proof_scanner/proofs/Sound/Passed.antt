@@ -1,5 +1,5 @@
 -- What holds between two fetches still holds at the next token, or at the text's end, with the separation up to there.
-use Rattle.proof_scanner.proofs.Common.{AreLevels, Bool, HasPassed, Held, Holds, Indent, IsLive, IsReadOn, Key, List, MayChoose, None, Ok, Option, Position, Previous, ScannerState, Some, [], another, ap, append-nil, arith, begins_free_line, begins_separation, between, columns, eqb-true, false, has_break, has_open_level, is_blank, is_empty, is_no_comment, is_renewed, is_separation, is_white, leading, least_column, nat_tests, or-false, plain_scalar, position_after, refl, same_blank, same_break, separations_are_passed, skip, skip_to_next_token, suc, true, ℕ, ◌++◌, ◌==◌, ◌||◌, ◌∙◌, ◌∷◌, ◌≡◌}
+use Rattle.proof_scanner.proofs.Common.{AreLevels, Bool, HasPassed, Held, Holds, Indent, IsLive, IsReadOn, Key, List, MayChoose, None, Ok, Option, Position, Previous, ScannerState, Some, [], another, ap, append-nil, arith, begins_free_line, begins_separation, between, columns, eqb-true, false, has_break, has_open_level, is_blank, is_empty, is_no_comment, is_renewed, is_separation, leading, least_column, nat_tests, or-false, plain_scalar, position_after, refl, same_blank, same_break, separations_are_passed, skip, skip_to_next_token, suc, true, ℕ, ◌++◌, ◌||◌, ◌∙◌, ◌∷◌, ◌≡◌}
 use Rattle.proof_lexers.specs.PlainEnds as plain_ends
 use Rattle.proof_scanner.proofs.Cut.Passes.{read_holds}
 use Rattle.proof_scanner.proofs.Sound.Common.{break_append, not_before_after}
@@ -43,10 +43,6 @@ pub same_has_break : (g : List ℕ) → plain_ends.has_break g ≡ has_break g
 same_has_break [] = refl
 same_has_break (c ∷ g) = grind (arith, same_has_break g)
 
--- what a separation begins with, if no blank and no break, is a comment
-pub first_comment : (c : ℕ) (p rest : List ℕ) → is_white c ≡ false → is_separation false (c ∷ p) rest ≡ true → (c == 35) ≡ true
-first_comment c p rest h f = grind arith
-
 leading_stop : (g p : List ℕ) (c : ℕ) → is_no_comment c ≡ false → leading is_no_comment (g ++ c ∷ p) ≡ leading is_no_comment g
 leading_stop [] p c h = rw h refl
 leading_stop (d ∷ g) p c h = grind (arith, leading_stop g p c h)
@@ -54,7 +50,7 @@ leading_stop (d ∷ g) p c h = grind (arith, leading_stop g p c h)
 -- whether a key may begin again in an entry is known before all of the separation is passed
 pub renewed_alike : (b : Previous) (q : Position) (f g rest rest2 : List ℕ) → rest ≡ g ++ rest2 → is_separation false g rest2 ≡ true → IsReadOn b q f rest → is_renewed b (f ++ g) ≡ is_renewed b f
 renewed_alike plain_scalar q f [] rest rest2 cut fills r = ap (λ x. has_break (leading is_no_comment x)) (append-nil f)
-renewed_alike plain_scalar q f (c ∷ p) rest rest2 cut fills r = grind (arith, nat_tests, eqb-true, leading_stop, first_comment)
+renewed_alike plain_scalar q f (c ∷ p) rest rest2 cut fills r = grind (arith, nat_tests, eqb-true, leading_stop)
 renewed_alike _ q f g rest rest2 cut fills r = refl
 
 -- a key may begin on a line after what was passed, or what was passed before

@@ -1,10 +1,10 @@
 -- The scan of a plain scalar refuses TABs that indent its further lines, and in flow a dash before a flow indicator.
-use Rattle.proof_scanner.proofs.Common.{Bool, Context, Err, Fault, List, Ok, Plain, PlainState, Position, Read, Result, Stop, Turn, [], after_first, and_false, and_parts, and_then, ap, append_assoc, append_cancel_right, arith, at_break, at_char, at_dash, at_gap, begins_flow, begins_solid, ended, eqb-true, fail, false, first, has_break, has_dash_before_flow, has_tab_within, if◌then◌else◌, inl, inr, is_at_comment_or_end, is_before_line_feed, is_blanks, is_cr_lf, is_gap, joined, last_line, leading, lines_have_no_tab, nat_lt, nat_tests, not, not-true, nothing, on, or_true, plain_from, plain_lines_fit, put_first, refl, run, same_blank, same_break, split, starts, stop, subst, suc, sym, tabs, true, turn, turn_in, turned, ℕ, ◌&&◌, ◌++◌, ◌-◌, ◌==◌, ◌||◌, ◌∙◌, ◌∷◌, ◌≡◌, ◌≤◌, ◌⊎◌}
+use Rattle.proof_scanner.proofs.Common.{Bool, Context, Err, Fault, List, Ok, Plain, PlainState, Position, Read, Result, Stop, Turn, [], after_first, and_false, and_parts, and_then, ap, append_assoc, append_cancel_right, arith, at_char, at_dash, begins_flow, begins_solid, ended, eqb-true, fail, false, first, has_break, has_dash_before_flow, has_tab_within, if◌then◌else◌, inl, inr, is_at_comment_or_end, is_before_line_feed, is_blanks, is_cr_lf, is_gap, joined, last_line, leading, lines_have_no_tab, nat_lt, nat_tests, not, not-true, nothing, on, or_true, plain_from, plain_lines_fit, put_first, refl, run, same_blank, same_break, split, starts, stop, subst, suc, sym, tabs, true, turn, turn_in, turned, ℕ, ◌&&◌, ◌++◌, ◌-◌, ◌==◌, ◌||◌, ◌∙◌, ◌∷◌, ◌≡◌, ◌≤◌, ◌⊎◌}
 use Rattle.defs_text.specs.Classes as classes
 use Rattle.yaml_chars.specs.Class.{is_break, is_blank}
 use Rattle.yaml_chars.specs.Class as model_classes
-use Rattle.model_scanner.specs.Plain.{Mode, inside, between, goes_on, begun, plain}
-use Rattle.proof_scanner.proofs.Sound.Common.{and_yes, blank_more, last_first, last_whole, none_before, take_none}
+use Rattle.model_scanner.specs.Plain.{Mode, inside, between, goes_on, plain}
+use Rattle.proof_scanner.proofs.Sound.Common.{blank_more, last_first, last_whole, none_before, take_none}
 use Rattle.proof_scanner.proofs.Cut.Pieces.Plains.{same_flow_start}
 use Rattle.model_scanner.proofs.PlainLemmas.{break_leads}
 
@@ -73,10 +73,6 @@ IsCalm tabs l = Unit {0}
 abbrev pub IsAt : PlainState → Spot → (rest : List ℕ) → Type 0
 IsAt t x a = (spot_of t.mode t.folded.leading t.position.col ≡ x) ⊎ ((x ≡ at 0) × (begins_break a ≡ true))
 
-pub white_is_no_dash : (flow apart next : Bool) (c : ℕ) → (is_break c || is_blank c) ≡ true → (flow && apart && (c == 45) && next) ≡ false
-unfolding is_break is_blank
-white_is_no_dash flow apart next c h = grind arith
-
 feed_breaks : (c : ℕ) (a : List ℕ) → is_cr_lf c a ≡ true → begins_break a ≡ true
 unfolding is_break
 feed_breaks c b h = grind arith
@@ -89,17 +85,7 @@ module _ (ctx : Context) (start : Position) (c : ℕ) (a : List ℕ) where
     goes : (t : PlainState) → IsCalm t.mode t.folded.leading → may_go (spot_of m s.folded.leading s.position.col) c ≡ true → IsAt t (past_spot ctx.indent (spot_of m s.folded.leading s.position.col) c) a →
         (ctx.flow && is_apart m && (c == 45) && begins_flow a) ≡ false → is_apart t.mode ≡ (is_break c || is_blank c) → Goes m s (on t)
 
-  break_goes : (m : Mode) (s : PlainState) → is_break c ≡ true → Goes m s (on (at_break c a s))
-  break_goes m s e = grind (arith, nat_tests, eqb-true, goes, feed_breaks, white_is_no_dash, between, break_leads)
-
   module _ (breaks : is_break c ≡ false) where
-    -- after content
-    blank_inside : (s : PlainState) → is_blank c ≡ true → s.folded.leading ≡ false → Goes inside s (on (at_gap ctx c a s))
-    blank_inside s f l = grind (arith, nat_tests, eqb-true, between, on, goes, white_is_no_dash)
-
-    blank_between : (s : PlainState) → is_blank c ≡ true → Goes between s (on (at_gap ctx c a s))
-    blank_between s f = grind (arith, nat_tests, eqb-true, between, on, goes, white_is_no_dash, tabs)
-
     module _ (solid : is_blank c ≡ false) where
       no_spot : (x : Spot) → may_go x c ≡ true → past_spot ctx.indent x c ≡ in_text
       unfolding is_blank
@@ -115,21 +101,14 @@ module _ (ctx : Context) (start : Position) (c : ℕ) (a : List ℕ) where
 
   -- ---- a turn
 
-  white_turn : (m : Mode) (s : PlainState) (u : Turn PlainState Fault) → (is_break c ≡ false → is_blank c ≡ true → Goes m s (on (at_gap ctx c a s))) → (is_break c ≡ false → is_blank c ≡ false → Goes m s u) →
-      Goes m s (if is_break c || is_blank c then on (at_gap ctx c a s) else u)
-  white_turn m s u blank other = grind (arith, nat_tests, eqb-true, break_goes)
-
   -- the dash that is looked for before a scalar goes on
   pub dash_is : (ctx.flow && true && (c == 45) && begins_flow a) ≡ at_dash ctx.flow (c ∷ a)
   unfolding at_dash model_classes.is_flow
-  dash_is = ap (λ b. b && (c == 45) && begins_flow a) (and_yes ctx.flow) ∙ ap (λ b. ctx.flow && (c == 45) && b) (sym (same_flow_start a))
-
-  begun_goes : (s : PlainState) (x : Result Bool Fault) → goes_on ctx (c ∷ a) s.position ≡ x → is_break c ≡ false → is_blank c ≡ false → Goes between s (begun x c s)
-  unfolding goes_on
-  begun_goes s a h e f = grind (arith, nat_tests, eqb-true, char_between, stays, between, fails, dash_is)
+  dash_is = ap (λ b. b && (c == 45) && begins_flow a) (grind (arith, nat_tests, eqb-true)) ∙ ap (λ b. ctx.flow && (c == 45) && b) (sym (same_flow_start a))
 
   pub turn_goes : (m : Mode) (s : PlainState) → IsCalm m s.folded.leading → Goes m s (turn_in ctx start m s c a)
-  turn_goes a s l = grind (arith, nat_tests, eqb-true, white_turn, on, stop, blank_inside, char_inside, stays, blank_between, begun_goes, tabs, fail, break_goes, goes, white_is_no_dash, fails)
+  unfolding is_break is_blank goes_on
+  turn_goes a s l = grind (arith, nat_tests, eqb-true, on, stop, char_inside, stays, char_between, dash_is, tabs, fail, feed_breaks, between, break_leads, goes, fails)
 
 -- ---- a run
 

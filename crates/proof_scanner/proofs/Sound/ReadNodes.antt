@@ -1,8 +1,8 @@
 -- A part of a node was read where a piece begins, be it an opening bracket or no collection: what holds between two fetches holds after it.
-use Rattle.proof_scanner.proofs.Common.{Account, AreEntries, Arrives, Bool, Entry, FlowLevel, Indent, IsCarriedOn, IsLine, IsNear, IsOpenOutside, IsPairOf, IsPiece, Key, KnowsKey, Line, List, MayChoose, None, NotBefore, Option, Outside, Position, Previous, ScannerState, Site, SoFar, Some, Stands, Step, Tok, Token, [], act_of, ap, arith, begins_free_line, begun_by, chosen, ends_at, entries_by, entry_by, false, first_choice, first_entry, further_lines_stand, gives_node, has_break, inl, inr, is_deep_enough, is_empty, is_in_column, is_renewed, is_separation, least_for, length, line_by, line_past, may_precede, may_stand, no_pair, not, outside_key, pop, position_after, previous_by, put, refl, seen, shown_position, site_at, site_here, site_in, site_past, spelled, subst, sym, taken, tokens_of_step, tokens_up_to, true, with_keys, ℕ, ◌&&◌, ◌++◌, ◌∙◌, ◌∷◌, ◌≡◌, ◌≤◌, ◌⊎◌, eqb-true, nat_tests}
+use Rattle.proof_scanner.proofs.Common.{Account, AreEntries, Arrives, Bool, Entry, FlowLevel, Indent, IsCarriedOn, IsLine, IsNear, IsOpenOutside, IsPairOf, IsPiece, Key, KnowsKey, Line, List, MayChoose, None, NotBefore, Option, Outside, Position, Previous, ScannerState, Site, SoFar, Some, Stands, Step, Tok, Token, [], act_of, ap, arith, begins_free_line, begun_by, chosen, ends_at, entries_by, entry_by, false, first_choice, first_entry, further_lines_stand, gives_node, has_break, inl, inr, is_deep_enough, is_empty, is_in_column, is_renewed, is_separation, least_for, length, line_by, line_past, may_precede, may_stand, no_pair, not, outside_key, pop, position_after, previous_by, put, refl, seen, shown_position, site_at, site_here, site_in, site_past, spelled, subst, sym, taken, tokens_of_step, tokens_up_to, true, with_keys, ℕ, ◌&&◌, ◌++◌, ◌∙◌, ◌∷◌, ◌≡◌, ◌≤◌, ◌⊎◌, eqb-true, nat_tests, must_be_key}
 use Rattle.proof_scanner.proofs.Sound.Common.{after_piece, among, AreSame, arrives_side, ArrivesBy, ArrivesInside, ArrivesOutside, begun_numbered, bit_of, choice_before, choices_around, completes_at, entry_past_node, Goes, IsDeep, levels_by, line_after_node, line_taken, node_in_entry, node_outer_tokens, node_tokens, not_before_after, not_before_then, Outer, outer_completes, past_step, saved, saved_keys, some_rest, tokens_before, with_begun, with_entries, with_no_key}
 use Rattle.proof_scanner.proofs.Known.Steps.{knows_saved, is_of_node}
-use Rattle.proof_scanner.proofs.Sound.Outsides.{new_key, keys_saved, numbered_inside, entry_kept, must_be_here, numbered_past, unbroken_node, one_node, taken_node, may_node, line_node, same_node, open_node}
+use Rattle.proof_scanner.proofs.Sound.Outsides.{new_key, keys_saved, numbered_inside, must_be_here, numbered_past, unbroken_node, one_node, taken_node, may_node, line_node, same_node, open_node}
 use Rattle.proof_scanner.proofs.Sound.InFlow.{steps_in_flow}
 use Rattle.proof_scanner.proofs.Sound.Reads.{Reads, stands_so}
 use Rattle.proof_scanner.specs.StandsInRow.{kind_of}
@@ -230,8 +230,9 @@ module _ (text : List ℕ) (t : ScannerState) (level : Option FlowLevel) (f : Fl
 
   entries_then : (lv : Option FlowLevel) → IsBegun lv t d → d.allowed ≡ allowed_past lv true (previous_by d.tok) d.gap →
       AreEntries d.allowed (is_renewed (previous_by d.tok) d.gap) (levels_by lv (f ∷ fs)) (with_no_key lv (key_past ∷ ks)) (with_begun lv (entry_past_node t.held.key_allowed e ∷ es))
-  entries_then None i h = (entry_kept t f fs k e within t.held.key_allowed a.are_entries.0, grind arith, a.are_entries.2)
-  entries_then (Some lv) i h = (record { kind_is = refl; pair_is = i.0; key_is = tt }, (inl refl, h), (entry_kept t f fs k e within t.held.key_allowed a.are_entries.0, grind arith, a.are_entries.2))
+  unfolding must_be_key
+  entries_then None i h = ((grind (arith, nat_tests, eqb-true)), grind arith, a.are_entries.2)
+  entries_then (Some lv) i h = (record { kind_is = refl; pair_is = i.0; key_is = tt }, (inl refl, h), ((grind (arith, nat_tests, eqb-true)), grind arith, a.are_entries.2))
 
   node_inside : t.held.keys ≡ k ∷ ks → Stands text (state_after t level d)
   node_inside keys =

@@ -7,7 +7,7 @@ use Rattle.proof_scanner.proofs.Cut.Heres.{before_both}
 use Rattle.proof_scanner.proofs.Cut.Stoods.{adjacent_filled}
 use Rattle.proof_scanner.proofs.Known.Steps.{known_past}
 use Rattle.proof_scanner.proofs.Sound.Skips.{Spaced, IsAt, IsIn, Cleared, skip_clears}
-use Rattle.proof_scanner.proofs.Sound.Passed.{skip_stays, Exact, exact, live_before_it, may_before, same_has_break, first_comment, renewed_alike, free_line_append, read_on_append, least_is, goes_on}
+use Rattle.proof_scanner.proofs.Sound.Passed.{skip_stays, Exact, exact, live_before_it, may_before, same_has_break, renewed_alike, free_line_append, read_on_append, least_is, goes_on}
 
 -- ---- where the way begins
 
@@ -26,7 +26,7 @@ among (d ∷ f) p c h = rw (among f p c h) (or-true (35 == d))
 -- where a separation was passed, it is none that follows a plain scalar without a comment
 no_plain : (b : Previous) (q : Position) (f g rest rest2 : List ℕ) → rest ≡ g ++ rest2 → IsReadOn b q f rest → begins_separation rest ≡ true → begins_separation rest2 ≡ false → is_separation false g rest2 ≡ true → follows_plain b (f ++ g) ≡ false
 no_plain plain_scalar q f [] rest rest2 cut r begins solid fills = absurd (cc (begins, solid, cut))
-no_plain plain_scalar q f (c ∷ p) rest rest2 cut r begins solid fills = grind (arith, nat_tests, eqb-true, among, first_comment)
+no_plain plain_scalar q f (c ∷ p) rest rest2 cut r begins solid fills = grind (arith, nat_tests, eqb-true, among)
 no_plain _ q f g rest rest2 cut r begins solid fills = refl
 
 indented_after : (b : Previous) (bs : List ℕ) (aw : Bool) (g : List ℕ) → follows_plain b g ≡ false → Spaced b (least_column bs aw) g → is_indented_by_spaces b bs aw g ≡ true
