@@ -1,5 +1,5 @@
 -- What lets a piece stand: four tests, and its column in flow.
-use Rattle.proof_scanner.proofs.Common.{[], After, ap, append-nil, AreAround, AreLevels, AreNumbered, arith, awaits_past, begins_free_line, begins_separation, Bool, chosen, columns, Entry, eqb-true, false, FlowLevel, has_break, Held, in_flow, Indent, innermost, is_break, is_deep_enough, is_empty, is_in_column, is_waiting, IsLive, IsNotRight, IsOpenHere, IsOpenOutside, Key, least_column, least_for, length, Line, line_by, line_past_separation, List, MayChoose, must_be_key, nat_le, nat_tests, None, not, not_ended, NotBefore, Option, or_true, outside_key, Position, position_after, Previous, ScannerState, Site, SoFar, Some, subst, suc, sym, taken, Tok, tokens_up_to, true, ℕ, ◌&&◌, ◌++◌, ◌+◌, ◌==◌, ◌∙◌, ◌∷◌, ◌≡◌, ◌≤◌}
+use Rattle.proof_scanner.proofs.Common.{[], After, ap, append-nil, AreAround, AreLevels, AreNumbered, arith, awaits_past, begins_free_line, begins_separation, Bool, chosen, columns, Entry, eqb-true, false, FlowLevel, has_break, Held, in_flow, Indent, innermost, is_break, is_deep_enough, is_empty, is_in_column, is_waiting, IsLive, IsNotRight, IsOpenHere, IsOpenOutside, Key, least_column, least_for, length, Line, line_by, line_past_separation, List, MayChoose, must_be_key, nat_le, nat_tests, None, not, not_ended, NotBefore, Option, or_true, outside_key, Position, position_after, Previous, ScannerState, Site, SoFar, Some, subst, suc, sym, taken, Tok, tokens_up_to, true, ℕ, ◌&&◌, ◌++◌, ◌+◌, ◌==◌, ◌∙◌, ◌∷◌, ◌≡◌, ◌≤◌, Act, act_of, begun_by, previous_by, shown_position, further_lines_stand, may_precede}
 use Rattle.defs_token.specs.Indentation.{awaits_in_block, awaits_in_flow}
 use Rattle.proof_scanner.proofs.Cut.Pieces.Inserted.{no_break_on_line}
 use Rattle.proof_scanner.proofs.Cut.Nodes.{IsDeep}
@@ -11,6 +11,18 @@ use Rattle.proof_scanner.proofs.Sound.OutOfFlow.{no_waiting}
 pub awaits_kept : (tok : Tok) → ((b : Bool) → awaits_in_flow tok b ≡ b) → ((bs : List ℕ) (b : Bool) (next : List ℕ) → awaits_in_block tok bs b next ≡ (b && true)) →
     (fl : Bool) (bs : List ℕ) (b : Bool) (next : List ℕ) → awaits_past fl tok bs b next ≡ b
 awaits_kept tok inside outside a bs b next = grind (arith, nat_tests, eqb-true)
+
+-- What is said of a token whose piece stands where the token is shown, and not left of the least column: what the piece does, what it begins and what it was;
+-- when its further lines and the text after it let it stand, and whether a value is awaited then.
+pub record IsToken (tok : Tok) (k : Act) (es : List Entry) (before : Previous) (stand : ℕ → List ℕ → Bool) (follow : Bool → (piece next : List ℕ) → Bool) (await : Bool → List ℕ → Bool → Bool) : Type 0 where
+  pub act : act_of tok ≡ k
+  pub begun : begun_by tok ≡ es
+  pub previous : previous_by tok ≡ before
+  pub shown : (s : Site) (piece next : List ℕ) → shown_position s piece tok next ≡ s.position
+  pub least : (s : Site) → least_for tok s ≡ least_column s.blocks s.awaits
+  pub lines : (column : ℕ) (piece : List ℕ) → further_lines_stand column tok piece ≡ stand column piece
+  pub precedes : (fl : Bool) (bs piece next : List ℕ) → may_precede fl bs tok piece next ≡ follow fl piece next
+  pub awaits : (fl : Bool) (bs : List ℕ) (b : Bool) (next : List ℕ) → awaits_past fl tok bs b next ≡ await fl bs b
 
 -- a piece that is no plain scalar, in the least column or deeper
 pub deep_for : (fl : Bool) (tok : Tok) (x : Site) → least_for tok x ≡ least_column x.blocks x.awaits → nat_le (least_column x.blocks x.awaits) x.position.col ≡ true → is_deep_enough fl tok x ≡ true

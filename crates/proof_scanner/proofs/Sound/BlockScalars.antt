@@ -3,7 +3,7 @@ use Rattle.proof_scanner.proofs.Common.{Act, Arrives, Block, BlockStyle, Bool, H
 use Rattle.model_scanner.specs.declared.kind.BlockStyle as kind
 use Rattle.model_scanner.specs.declared.kind.BlockStyle.TheVariants.{Literal, Folded}
 use Rattle.defs_token.specs.Account as pieces
-use Rattle.proof_scanner.proofs.Sound.Steps.{adjacent_kept, after_piece, AreClosed, arrives_side, ArrivesBy, ArrivesInside, ArrivesOutside, is_of_node, IsDeep, knows_saved, last_whole, no_waiting, not_before_after, not_before_same, not_before_then, outer_completes, outer_then, outer_tokens, Reads, saved, saved_is, saved_keys, some_rest, stands_so, tokens_then, weaker, with_entries, without_is}
+use Rattle.proof_scanner.proofs.Sound.Steps.{adjacent_kept, after_piece, AreClosed, by_sides, ArrivesBy, is_of_node, IsDeep, knows_saved, last_whole, no_waiting, not_before_after, not_before_same, not_before_then, outer_completes, outer_then, outer_tokens, Reads, saved, saved_is, saved_keys, some_rest, stands_so, tokens_then, weaker, with_entries, without_is}
 use Rattle.proof_scanner.proofs.Cut.Pieces.Blocks.{spaces_of, spaces_cut, spaces_fill, spaces_position, some_piece, token_of, IsBelow, below}
 use Rattle.proof_scanner.proofs.Sound.BlockEnds.{IsLeast, BlockAs, block_as, ends_at_margin}
 use Rattle.proof_scanner.proofs.Sound.Outsides.{must_be_here, numbered_past, open_node, new_key, keys_saved}
@@ -216,13 +216,17 @@ unfolding fetch_block_scalar unroll_non_block_indents
 block_keeps text style t more e out deep arrives =
     subst (λ h. Holds (Stands text) (lexed (block (is_literal style) (unroll_non_block_indents (allow_key true h)).indent t.rest t.held.position) (unroll_non_block_indents (allow_key true h))
     (λ b u. Ok (on_held (λ v. push b.position (Tok.scalar (block_style style) b.text) (record v { leading = true })) u)))) (sym (saved_is t.held))
-    (read (unroll_non_block_indents (allow_key true (record t.held { keys = saved_keys t.held }))) (block (is_literal style) w.indent t.rest t.held.position) _ (λ x i. went (by style e x i (arrives_side text t arrives))))
+    (read (unroll_non_block_indents (allow_key true (record t.held { keys = saved_keys t.held }))) (block (is_literal style) w.indent t.rest t.held.position) _ (λ x i. went (of style e x i)))
   where
     w : Levels
     w = without_open t.held.indent t.held.indents t.held.tokens
 
-    by : (style : kind.BlockStyle) → t.rest ≡ (if is_literal style then 124 else 62) ∷ more → (x : Read Block) → block (is_literal style) w.indent t.rest t.held.position ≡ Ok x → ArrivesOutside text t ⊎ ArrivesInside text t →
+    by : (style : BlockStyle) (x : Read Block) → BlockAs style w.indent t.held.position t.rest x → Stands text (read_state t w style x)
+    by style x r =
+        by_sides text t (λ v. is_empty v.held.flow ≡ true → Stands text (read_state v w style x)) arrives
+        (λ k a n o. block_stands text _ k a refl refl deep w (without_is t.held.indent t.held.indents t.held.tokens arrives.are_levels) style x r n) (λ f fs k ks y es a o. absurd (cc o)) out
+
+    of : (style : kind.BlockStyle) → t.rest ≡ (if is_literal style then 124 else 62) ∷ more → (x : Read Block) → block (is_literal style) w.indent t.rest t.held.position ≡ Ok x →
         Stands text (record { rest = x.rest; held = record t.held { position = x.position; tokens = w.tokens ++ token x.value.position (Tok.scalar (block_style style) x.value.text) ∷ []; keys = saved_keys t.held; indents = w.indents; indent = w.indent; key_allowed = true; leading = true } })
-    by style e x i (inr inside) = absurd (cc (out, ap is_empty inside.flow_is))
-    by Literal e x i (inl o) = block_stands text t o.key o.here o.flow_is o.keys_are deep w (without_is t.held.indent t.held.indents t.held.tokens arrives.are_levels) literal x (grind (arith, nat_tests, eqb-true, clean, no_nul_after, block_as)) o.knows
-    by Folded e x i (inl o) = block_stands text t o.key o.here o.flow_is o.keys_are deep w (without_is t.held.indent t.held.indents t.held.tokens arrives.are_levels) folded x (grind (arith, nat_tests, eqb-true, clean, no_nul_after, block_as)) o.knows
+    of Literal e x i = by literal x (grind (arith, nat_tests, eqb-true, clean, no_nul_after, block_as))
+    of Folded e x i = by folded x (grind (arith, nat_tests, eqb-true, clean, no_nul_after, block_as))

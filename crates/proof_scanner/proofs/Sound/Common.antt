@@ -1,6 +1,6 @@
 -- The words of the general lemmas, passed on from one place. Declares nothing.
-pub use Rattle.proof_scanner.proofs.Sound.Sides.{arrives_side, ArrivesBy, ArrivesInside, ArrivesOutside, stands_by, with_entries}
-pub use Rattle.proof_scanner.proofs.Sound.Arrivals.{all_go_on, awaits_kept, completes_at, deep_for, first_not_right, line_taken, many_around, may_around, must_be, not_none, numbered_around, numbered_more, one_around, open_around, some_rest, tokens_before, unbroken, unbroken_around}
+pub use Rattle.proof_scanner.proofs.Sound.Sides.{by_sides, with_sides, ArrivesBy, stands_by, with_entries}
+pub use Rattle.proof_scanner.proofs.Sound.Arrivals.{IsToken, all_go_on, awaits_kept, completes_at, deep_for, first_not_right, line_taken, many_around, may_around, must_be, not_none, numbered_around, numbered_more, one_around, open_around, some_rest, tokens_before, unbroken, unbroken_around}
 pub use Rattle.proof_scanner.proofs.Sound.Completed.{begins_at_start, begins_past, but_for_key_past, completed_at_start, goes_of, goes_past, may_be_no_key}
 pub use Rattle.proof_scanner.proofs.Sound.OutOfFlow.{Goes, is_written, no_waiting, Outer, outer_completes, outer_then, outer_tokens, tokens_then}
 pub use Rattle.proof_scanner.proofs.Sound.NodeTokens.{among, AreSame, begun_numbered, bit_of, choice_before, choices_around, entry_past_node, fewer, first_among, had_as_it_was, key_longer, keys_along, keys_first, levels_by, line_after_node, node_in_entry, node_outer_tokens, node_tokens, past_step, same_levels, saved, with_begun, with_no_key}

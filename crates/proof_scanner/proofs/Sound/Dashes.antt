@@ -1,10 +1,10 @@
 -- The function of the model that reads a dash: what holds where it begins holds between two fetches after it.
-use Rattle.proof_scanner.proofs.Common.{AreLevels, Arrives, At, Fault, Held, Holds, Indent, List, No, None, Ok, Position, Result, ScannerState, Stands, Tok, Token, Yes, [], allow_key, ap, blanks_and_comment, chained, check_block_entry, check_dash, checked, columns, dash_may_precede, ends_at, eqb-true, false, fetch_block_entry, gap, gives_dash, has_open_level, if◌then◌else◌, in_flow, inl, is_at_break_or_flow, is_at_gap, is_blank, is_break, is_deeper, is_empty, is_in_column, leading, lexed, line_past, not, not-false, not_ended, on_held, opened, past, past_blanks_and_comment, past_line_rest, placed, push, put, refl, remove_implicit_key, roll_entry, roll_indent, same_break, skip_indicator, skip_spaces, space, start_if, subst, sym, token, top_needs_block_end, tried, true, try_held, went, with_top, ℕ, ◌++◌, ◌>>=◌, ◌∙◌, ◌∷◌, ◌≡◌, ◌⊎◌, arith, nat_tests}
+use Rattle.proof_scanner.proofs.Common.{AreLevels, Arrives, At, Fault, Held, Holds, Indent, List, No, None, Ok, Position, Result, ScannerState, Stands, Tok, Token, Yes, [], allow_key, ap, blanks_and_comment, chained, check_block_entry, check_dash, checked, columns, dash_may_precede, ends_at, eqb-true, false, fetch_block_entry, gap, gives_dash, has_open_level, if◌then◌else◌, in_flow, inl, is_at_break_or_flow, is_at_gap, is_blank, is_break, is_deeper, is_empty, is_in_column, leading, lexed, line_past, not, not-false, not_ended, on_held, opened, past, past_blanks_and_comment, past_line_rest, placed, push, put, refl, remove_implicit_key, roll_entry, roll_indent, same_break, skip_indicator, skip_spaces, space, start_if, subst, sym, token, top_needs_block_end, tried, true, try_held, went, with_top, ℕ, ◌++◌, ◌>>=◌, ◌∙◌, ◌∷◌, ◌≡◌, arith, nat_tests, Key, Option, Some}
 use Rattle.yaml_chars.specs.Class.{is_break as is_break_here, is_flow as is_flow_here}
 use Rattle.yaml_tokens.specs.declared.problem.Problem.TheVariants as problem
 use Rattle.model_scanner.specs.State.{after as after_first}
 use Rattle.proof_lexers.proofs.Bridges.{same_flow}
-use Rattle.proof_scanner.proofs.Sound.Steps.{arrives_side, ArrivesBy, ArrivesInside, ArrivesOutside, begun_after, entry_from, first_not_right, found_in, gap_here, indicator_end, IsDeep, key_removed, line_free, line_rest_cut, line_rest_fills, line_rest_in_line, none_skipped, opens_one, past_one, past_rest, past_rest_is_clear, read_outside, reads_before_none, rest_read, rolls_to, RollsTo, started_tokens, top_closed, with_start}
+use Rattle.proof_scanner.proofs.Sound.Steps.{by_sides, ArrivesBy, begun_after, entry_from, first_not_right, found_in, gap_here, indicator_end, IsDeep, key_removed, line_free, line_rest_cut, line_rest_fills, line_rest_in_line, none_skipped, opens_one, past_one, past_rest, past_rest_is_clear, read_outside, reads_before_none, rest_read, rolls_to, RollsTo, started_tokens, top_closed, with_start, with_sides}
 
 -- ---- what the model checks
 
@@ -117,7 +117,11 @@ pub dash_keeps : (text more : List ℕ) (t : ScannerState) → Arrives text t �
 unfolding fetch_block_entry
 dash_keeps text more t a e gap deep =
     chained {P = λ u. (u ≡ t) × (in_flow t.held ≡ false) × (t.held.key_allowed ≡ true)} (tried t (check_block_entry t.held) (entry_checked t.held) (λ h d. (ap (λ y. record t { held = y }) d.0, d.1, d.2)))
-    (λ u d. subst (λ y. Holds (Stands text) (entry_from t y)) (sym d.0) (by (arrives_side text t a) d.1 d.2))
+    (λ u d. subst (λ y. Holds (Stands text) (entry_from t y)) (sym d.0) (by d.1 d.2))
   where
-    by : ArrivesOutside text t ⊎ ArrivesInside text t → in_flow t.held ≡ false → t.held.key_allowed ≡ true → Holds (Stands text) (entry_from t t)
-    by a out allowed = grind (arith, nat_tests, eqb-true, dash_outside)
+    by : in_flow t.held ≡ false → t.held.key_allowed ≡ true → Holds (Stands text) (entry_from t t)
+    by = by_sides text t (λ u. in_flow u.held ≡ false → u.held.key_allowed ≡ true → Holds (Stands text) (entry_from u u)) a (λ k x n out allowed. none k x allowed) (λ f fs k ks y es x out allowed. absurd (cc out))
+      where
+        none : (k : Option Key) (x : ArrivesBy text (with_sides t [] (k ∷ [])) [] (k ∷ []) []) → t.held.key_allowed ≡ true → Holds (Stands text) (entry_from (with_sides t [] (k ∷ [])) (with_sides t [] (k ∷ [])))
+        none None x allowed = dash_outside text more _ x refl refl e gap allowed deep
+        none (Some k) x allowed = absurd (cc (allowed, (x.line_is (ap is_empty e)).1))

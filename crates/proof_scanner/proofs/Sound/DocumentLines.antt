@@ -1,6 +1,6 @@
 -- Document markers and directives: what holds where they begin holds between two fetches after them.
-use Rattle.proof_scanner.proofs.Common.{[], act_of, and_false, and_parts, ap, append-nil, append_assoc, AreLevels, arith, Arrives, At, awaits_past, before_by, begin_line, begins_free_line, begins_line, begins_with, begun_by, begun_inside, blanks_and_comment, Bool, chained, check_document_end, closed_key, columns, Directive, directive_of, directives_end, either, entries_past, Entry, eqb-true, Err, false, fetch_directive, fetch_document_end, fetch_document_marker, first_break, FlowLevel, further_lines_stand, gives_marker, has_break, has_no_break, has_no_nul, has_open_level, HasNoTabs, Held, Holds, if◌then◌else◌, in_flow, inl, inr, is_at_gap, is_break, is_breakz, is_closed, is_empty, is_in_column, is_indented_by_spaces, is_renewed, is_required, is_separation, IsDirectiveRead, IsLeading, IsPiece, IsReadOn, Key, least_for, length, Levels, line_is_done, List, may_precede, nat_tests, no_nul_after, None, not, Ok, on_held, Option, or_true, other, pair_position, past, past_blanks_and_comment, past_line_rest, peek, Position, position_after, position_append, previous_by, push, put, read, read_as, refl, refused, remove_implicit_key, replicate-append-replicate, ScannerState, seen, settled, shown_position, Site, site_in, skip_indicator, Some, Stands, subst, sym, taken, takes_pair, Tok, Token, token_of, top_key, tried, true, unroll_indent, went, whole_directive, with_top, ℕ, ◌++◌, ◌∙◌, ◌∷◌, ◌≡◌, ◌≤◌, ◌⊎◌}
-use Rattle.proof_scanner.proofs.Sound.Steps.{adjacent_kept, all_levels, arrives_side, ArrivesBy, ArrivesInside, ArrivesOutside, at_end_of, begins_key, ends_of, goes_inside, is_done, key_gone, line_rest_cut, line_rest_fills, line_rest_in_line, no_break_alike, none_indents, past_rest, read_outside, Reads, rest_skipped, same_in_line, shorter, some_rest, three_past, tokens_before, tokens_then, unrolled_in_flow, with_entries}
+use Rattle.proof_scanner.proofs.Common.{[], act_of, and_false, and_parts, ap, append-nil, append_assoc, AreLevels, arith, Arrives, At, awaits_past, before_by, begin_line, begins_free_line, begins_line, begins_with, begun_by, begun_inside, blanks_and_comment, Bool, chained, check_document_end, closed_key, columns, Directive, directive_of, directives_end, either, entries_past, Entry, eqb-true, Err, false, fetch_directive, fetch_document_end, fetch_document_marker, first_break, FlowLevel, further_lines_stand, gives_marker, has_break, has_no_break, has_no_nul, has_open_level, HasNoTabs, Held, Holds, if◌then◌else◌, in_flow, inr, is_at_gap, is_break, is_breakz, is_closed, is_empty, is_in_column, is_indented_by_spaces, is_renewed, is_required, is_separation, IsDirectiveRead, IsLeading, IsPiece, IsReadOn, Key, least_for, length, Levels, line_is_done, List, may_precede, nat_tests, no_nul_after, None, Ok, on_held, Option, or_true, other, pair_position, past, past_blanks_and_comment, past_line_rest, peek, Position, position_after, position_append, previous_by, push, put, read, read_as, refl, refused, remove_implicit_key, replicate-append-replicate, ScannerState, seen, settled, shown_position, Site, site_in, skip_indicator, Some, Stands, subst, sym, taken, takes_pair, Tok, Token, token_of, top_key, tried, true, unroll_indent, went, whole_directive, with_top, ℕ, ◌++◌, ◌∙◌, ◌∷◌, ◌≡◌, ◌≤◌}
+use Rattle.proof_scanner.proofs.Sound.Steps.{adjacent_kept, all_levels, by_sides, ArrivesBy, at_end_of, begins_key, ends_of, goes_inside, is_done, key_gone, line_rest_cut, line_rest_fills, line_rest_in_line, no_break_alike, none_indents, past_rest, read_outside, Reads, rest_skipped, same_in_line, shorter, some_rest, three_past, tokens_before, tokens_then, unrolled_in_flow, with_entries}
 use Rattle.defs_token.specs.Account.{Account as PieceAccount}
 use Rattle.defs_token.specs.Key.{line_past as line_of_piece}
 use Rattle.model_scanner.specs.Directive.{directive}
@@ -145,21 +145,18 @@ pub record Begins (text : List ℕ) (t : ScannerState) : Type 0 where
   pub stands : (d : Read) → IsRead t d → is_required (top_key held.keys) ≡ false → Stands text (line_past t (begun_from held) d)
 
 pub begins : (text : List ℕ) (t : ScannerState) → is_empty t.rest ≡ false → Arrives text t → Begins text t
-begins text t some a = by (arrives_side text t a)
-  where
-    by : ArrivesOutside text t ⊎ ArrivesInside text t → Begins text t
-    by (inl o) = record {
-      held = all_ended t.held;
-      rolled = unrolled_outside t.held (ap (λ fs. not (is_empty fs)) o.flow_is) o.here.are_levels;
+begins text t some a =
+    by_sides text t (Begins text) a (λ k x n. record {
+      held = all_ended (record t.held { flow = []; keys = k ∷ [] });
+      rolled = unrolled_outside (record t.held { flow = []; keys = k ∷ [] }) refl x.are_levels;
       same_position = refl;
-      stands = λ d r none. (line_stands text t d (key_gone text t o.key o.here some (grind (arith, nat_tests, eqb-true))) r o.flow_is (ap (with_top None) o.keys_are));
-    }
-    by (inr i) = record {
-      held = t.held;
-      rolled = unrolled_in_flow 0 t.held (ap is_empty i.flow_is);
+      stands = λ d r none. line_stands text _ d (key_gone text _ k x some (grind (arith, nat_tests, eqb-true))) r refl refl;
+    }) (λ f fs k ks e es x. record {
+      held = record t.held { flow = f ∷ fs; keys = k ∷ ks };
+      rolled = unrolled_in_flow 0 (record t.held { flow = f ∷ fs; keys = k ∷ ks }) refl;
       same_position = refl;
-      stands = λ d r none. (line_goes text t d i.level i.levels i.key i.keys i.entry i.entries i.here r i.flow_is (ap (with_top None) i.keys_are));
-    }
+      stands = λ d r none. line_goes text _ d f fs k ks e es x r refl refl;
+    })
 
 -- ---- the functions of the model that read document markers and directives keep what holds where they begin
 

@@ -1,7 +1,7 @@
 -- Commas and closing brackets: what holds where they begin holds between two fetches after them. Outside flow they close nothing.
-use Rattle.proof_scanner.proofs.Common.{[], Act, act_of, adjacent_in_flow, another, ap, append_assoc, AreAround, AreEntries, AreNumbered, arith, Arrives, awaits_past, before_by, before_past, begins_free_line, begins_with, begun_by, begun_outside, blanks_and_comment, Bool, chained, Collection, end_entry, end_flow, ends_at, ends_spaces, entries_by, Entry, eqb-true, false, fetch_flow_collection_end, fetch_flow_entry, first_entry, flow_collection, flow_end, FlowLevel, free, further_lines_stand, gives_closing, gives_comma, has_no_break, has_no_nul, Held, Holds, inl, inr, is_blank, is_deeper, is_empty, is_in_column, is_renewed, is_required, is_separation, IsAdjacent, IsEntryOf, IsLine, IsPiece, Key, least_column, least_for, length, Line, line_past, List, may_precede, nat_tests, no_nul_after, None, not, on_held, Option, other, outside_key, pair_end, past, past_blanks_and_comment, past_line_rest, pop, Position, Previous, previous_by, push, put, refl, refused, remove_implicit_key, ScannerState, seen, shown_position, Site, site_here, site_in, Some, Stands, Step, subst, suc, sym, taken, Tok, Token, top_key, tried, true, went, with_keys, with_top, Yes, ℕ, ◌&&◌, ◌++◌, ◌∙◌, ◌∷◌, ◌≡◌, ◌⊎◌}
-use Rattle.proof_scanner.proofs.Cut.FlowEnds.{adjacent_collection, closed_tokens, ended_is, ended_now, ends_by_comma, ends_mapping, ends_sequence, entered, entry_is, entry_now, higher_keys, IsEndOf}
-use Rattle.proof_scanner.proofs.Sound.Steps.{adjacent_kept, arrives_side, ArrivesBy, ArrivesInside, ArrivesOutside, awaits_kept, begins_key, deep_for, had_as_it_was, indicator_end, indicator_passed, is_clear, IsDeep, key_gone, keyless, keyless_tokens, keys_along, line_rest_cut, line_rest_fills, line_rest_in_line, line_taken, low_enough, no_break_alike, numbered_then, past_it, past_rest_is_clear, past_step, quiet_before, read_outside, reads_in_line, started_tokens, steps_in_flow, tokens_before, with_entries}
+use Rattle.proof_scanner.proofs.Common.{[], Act, act_of, adjacent_in_flow, another, ap, append_assoc, AreAround, AreEntries, AreNumbered, arith, Arrives, before_by, before_past, begins_free_line, begins_with, begun_by, begun_outside, blanks_and_comment, Bool, chained, Collection, end_entry, end_flow, ends_at, ends_spaces, entries_by, Entry, eqb-true, false, fetch_flow_collection_end, fetch_flow_entry, first_entry, flow_collection, flow_end, FlowLevel, free, gives_closing, gives_comma, has_no_break, has_no_nul, Held, Holds, is_blank, is_deeper, is_empty, is_in_column, is_renewed, is_required, is_separation, IsAdjacent, IsEntryOf, IsLine, IsPiece, Key, least_for, length, Line, line_past, List, nat_tests, no_nul_after, None, not, on_held, Option, other, outside_key, pair_end, past, past_blanks_and_comment, past_line_rest, pop, Position, Previous, previous_by, push, put, refl, refused, remove_implicit_key, ScannerState, seen, Site, site_here, site_in, Some, Stands, Step, subst, suc, sym, taken, Tok, Token, top_key, tried, true, went, with_keys, with_top, Yes, ℕ, ◌&&◌, ◌++◌, ◌∙◌, ◌∷◌, ◌≡◌, ◌⊎◌}
+use Rattle.proof_scanner.proofs.Cut.FlowEnds.{adjacent_collection, closed_tokens, ended_is, ended_now, ends_by_comma, ends_mapping, ends_sequence, entered, entry_is, entry_now, IsEndOf}
+use Rattle.proof_scanner.proofs.Sound.Steps.{IsToken, adjacent_kept, by_sides, ArrivesBy, begins_key, deep_for, had_as_it_was, indicator_end, indicator_passed, is_clear, IsDeep, key_gone, keyless, keyless_tokens, keys_along, line_rest_cut, line_rest_fills, line_rest_in_line, line_taken, low_enough, no_break_alike, numbered_then, past_it, past_rest_is_clear, past_step, quiet_before, read_outside, reads_in_line, started_tokens, steps_in_flow, tokens_before, with_entries}
 use Rattle.model_scanner.specs.State.{after}
 
 -- whether the innermost collection ends
@@ -16,24 +16,18 @@ previous_of false = another
 
 -- What is said of a closing bracket or a comma.
 pub record IsCloser (closes : Bool) (tok : Tok) (c : ℕ) : Type 0 where
-  pub act : act_of tok ≡ act_by closes
-  pub begun : begun_by tok ≡ []
   pub is_end : IsEndOf tok c
-  pub shown : (s : Site) (piece next : List ℕ) → shown_position s piece tok next ≡ s.position
-  pub previous : previous_by tok ≡ previous_of closes
-  pub least : (s : Site) → least_for tok s ≡ least_column s.blocks s.awaits
-  pub lines : (column : ℕ) (piece : List ℕ) → further_lines_stand column tok piece ≡ true
-  pub precedes : (fl : Bool) (bs piece next : List ℕ) → may_precede fl bs tok piece next ≡ not (begins_with 35 next)
-  pub awaits : (fl : Bool) (bs : List ℕ) (b : Bool) (next : List ℕ) → awaits_past fl tok bs b next ≡ b
+  pub token : IsToken tok (act_by closes) [] (previous_of closes) (λ _ _. true) (λ _ piece next. not (begins_with 35 next)) (λ _ _ b. b)
+  pub open token use *
 
 pub comma : IsCloser false Tok.flow_entry 44
-comma = record { act = refl; begun = refl; is_end = ends_by_comma; shown = λ s p n. refl; previous = refl; least = λ s. refl; lines = λ c p. refl; precedes = λ f bs p n. refl; awaits = awaits_kept _ (λ b. refl) (λ bs b n. refl) }
+comma = record { is_end = ends_by_comma; token = grind (arith, nat_tests, eqb-true) }
 
 pub closing_bracket : IsCloser true Tok.flow_sequence_end 93
-closing_bracket = record { act = refl; begun = refl; is_end = ends_sequence; shown = λ s p n. refl; previous = refl; least = λ s. refl; lines = λ c p. refl; precedes = λ f bs p n. refl; awaits = awaits_kept _ (λ b. refl) (λ bs b n. refl) }
+closing_bracket = record { is_end = ends_sequence; token = grind (arith, nat_tests, eqb-true) }
 
 pub closing_brace : IsCloser true Tok.flow_mapping_end 125
-closing_brace = record { act = refl; begun = refl; is_end = ends_mapping; shown = λ s p n. refl; previous = refl; least = λ s. refl; lines = λ c p. refl; precedes = λ f bs p n. refl; awaits = awaits_kept _ (λ b. refl) (λ bs b n. refl) }
+closing_brace = record { is_end = ends_mapping; token = grind (arith, nat_tests, eqb-true) }
 
 pub is_previous : {before : Previous} (closes : Bool) → before ≡ previous_of closes → (before ≡ another) ⊎ (before ≡ flow_collection)
 is_previous a e = grind (arith, nat_tests, eqb-true)
@@ -211,10 +205,6 @@ module _ (text more : List ℕ) (closes : Bool) (tok : Tok) (c : ℕ) (i : IsClo
             keys_around closes a.site.position w ws last i.act i.begun a.site.blocks l cs e es ks past_closer.held.tokens);
       })
 
-pub closed_inside : (text more : List ℕ) (closes : Bool) (tok : Tok) (c : ℕ) → IsCloser closes tok c → (t : ScannerState) (i : ArrivesInside text t) → t.rest ≡ c ∷ more → begins_with 35 more ≡ false → IsDeep t.held →
-    Stands text (closed_past closes t tok more i.level i.levels i.keys)
-closed_inside text more closes tok c k t i e hash deep = closer_stands text more closes tok c k t i.level i.levels i.key i.keys i.entry i.entries i.here deep e hash
-
 -- ---- the functions of the model that read commas and closing brackets keep what holds where they begin
 
 -- ---- what the model leaves
@@ -230,17 +220,12 @@ entry_over s = grind (arith, refused, went, entry_is s s.flow)
 
 -- ---- a comma
 
-abbrev pub after_comma : List FlowLevel → List (Option Key) → ScannerState → (more : List ℕ) → ScannerState
-after_comma fs ks t more = on_held (push t.held.position Tok.flow_entry) (past_it (record t { held = record (entry_now fs t.held) { keys = ks } }) more)
-
-comma_stands : (text more : List ℕ) (t : ScannerState) → t.rest ≡ 44 ∷ more → begins_with 35 more ≡ false → IsDeep t.held → Arrives text t → is_required (top_key t.held.keys) ≡ false → Stands text (after_comma t.held.flow (with_top None t.held.keys) t more)
-comma_stands text more t e hash deep a optional = by (arrives_side text t a)
-  where
-    by : ArrivesOutside text t ⊎ ArrivesInside text t → Stands text (after_comma t.held.flow (with_top None t.held.keys) t more)
-    by (inl o) = subst (λ fs. Stands text (after_comma fs (with_top None t.held.keys) t more)) (sym o.flow_is) (stray_at text more false Tok.flow_entry 44 comma t (key_gone text t o.key o.here (ap is_empty e) (grind (arith, nat_tests, eqb-true))) (ap (with_top None) o.keys_are) e hash)
-    by (inr i) =
-        subst (λ fs. Stands text (after_comma fs (with_top None t.held.keys) t more)) (sym i.flow_is)
-        (subst (λ ks. Stands text (after_comma (i.level ∷ i.levels) ks t more)) (sym (ap (with_top None) i.keys_are)) (closed_inside text more false Tok.flow_entry 44 comma t i e hash deep))
+comma_stands : (text more : List ℕ) (t : ScannerState) → t.rest ≡ 44 ∷ more → begins_with 35 more ≡ false → IsDeep t.held → Arrives text t → is_required (top_key t.held.keys) ≡ false →
+    Stands text (on_held (push t.held.position Tok.flow_entry) (past_it (record t { held = entry_now t.held.flow t.held }) more))
+comma_stands text more t e hash deep a =
+    by_sides text t (λ u. is_required (top_key u.held.keys) ≡ false → Stands text (on_held (push u.held.position Tok.flow_entry) (past_it (record u { held = entry_now u.held.flow u.held }) more))) a
+    (λ k x n optional. stray_at text more false Tok.flow_entry 44 comma _ (key_gone text _ k x (ap is_empty e) (grind (arith, nat_tests, eqb-true))) refl e hash)
+    (λ f fs k ks y es x optional. closer_stands text more false Tok.flow_entry 44 comma _ f fs k ks y es x deep e hash)
 
 -- `,`
 pub comma_keeps : (text more : List ℕ) (t : ScannerState) → t.rest ≡ 44 ∷ more → IsDeep t.held → Arrives text t → Holds (Stands text) (fetch_flow_entry t)
@@ -252,21 +237,15 @@ comma_keeps text more t e deep a =
 
 -- ---- a closing bracket
 
-abbrev pub after_closing : Tok → List FlowLevel → List (Option Key) → ScannerState → (more : List ℕ) → ScannerState
-after_closing tok fs ks t more = on_held (λ s. push t.held.position tok (adjacent_in_flow s)) (past_it (record t { held = record (ended_now fs t.held) { keys = ks } }) more)
-
 closing_stands : (text more : List ℕ) (tok : Tok) (c : ℕ) → IsCloser true tok c → (t : ScannerState) → t.rest ≡ c ∷ more → begins_with 35 more ≡ false → IsDeep t.held → Arrives text t → is_required (top_key t.held.keys) ≡ false →
-    Stands text (after_closing tok t.held.flow (higher_keys t.held.flow t.held.keys) t more)
+    Stands text (on_held (λ s. push t.held.position tok (adjacent_in_flow s)) (past_it (record t { held = ended_now t.held.flow t.held }) more))
 unfolding adjacent_in_flow
-closing_stands text more tok c k t e hash deep a optional = by (arrives_side text t a)
-  where
-    by : ArrivesOutside text t ⊎ ArrivesInside text t → Stands text (after_closing tok t.held.flow (higher_keys t.held.flow t.held.keys) t more)
-    by (inl o) = subst (λ fs. Stands text (after_closing tok fs (higher_keys fs t.held.keys) t more)) (sym o.flow_is) (stray_at text more true tok c k t (key_gone text t o.key o.here (ap is_empty e) (grind (arith, nat_tests, eqb-true))) (ap (with_top None) o.keys_are) e hash)
-    by (inr i) =
-        let now : ScannerState = past_it (record t { held = record (ended_now (i.level ∷ i.levels) t.held) { keys = i.keys } }) more in
-        subst (λ fs. Stands text (after_closing tok fs (higher_keys fs t.held.keys) t more)) (sym i.flow_is)
-        (subst (λ ks. Stands text (after_closing tok (i.level ∷ i.levels) (pop (with_top None ks)) t more)) (sym i.keys_are)
-        (subst (λ h. Stands text (record now { held = push t.held.position tok h })) (sym (grind (arith, nat_tests, eqb-true))) (closed_inside text more true tok c k t i e hash deep)))
+closing_stands text more tok c i t e hash deep a =
+    by_sides text t (λ u. is_required (top_key u.held.keys) ≡ false → Stands text (on_held (λ s. push u.held.position tok (adjacent_in_flow s)) (past_it (record u { held = ended_now u.held.flow u.held }) more))) a
+    (λ k x n optional. stray_at text more true tok c i _ (key_gone text _ k x (ap is_empty e) (grind (arith, nat_tests, eqb-true))) refl e hash)
+    (λ f fs k ks y es x optional.
+    let now : ScannerState = past_it (record t { held = ended_now (f ∷ fs) (record t.held { flow = f ∷ fs; keys = k ∷ ks }) }) more in
+    subst (λ h. Stands text (record now { held = push t.held.position tok h })) (sym (grind (arith, nat_tests, eqb-true))) (closer_stands text more true tok c i _ f fs k ks y es x deep e hash))
 
 -- `]` or `}`
 pub closing_keeps : (text more : List ℕ) (kind : Collection) (c : ℕ) → IsCloser true (flow_end kind) c → (t : ScannerState) → t.rest ≡ c ∷ more → IsDeep t.held → Arrives text t → Holds (Stands text) (fetch_flow_collection_end kind t)

@@ -1,31 +1,24 @@
 -- Opening brackets: what holds where they begin holds between two fetches after them.
-use Rattle.proof_scanner.proofs.Common.{[], act_of, another, ap, AreLevels, arith, Arrives, awaits_past, begin_flow, begins_free_line, begins_with, begun_by, blanks_and_comment, Bool, chained, Collection, columns, Entry, eqb-true, false, fetch_flow_collection_start, first_entry, flow_level, flow_start, FlowLevel, further_lines_stand, gives_node, has_open_level, Held, Holds, if◌then◌else◌, in_block, in_flow, increase_flow_level, Indent, is_empty, IsPairOf, Key, least_column, least_for, length, level_of, List, map, Mapping, may_precede, nat_le, nat_lt, nat_tests, no_pair, None, not, on_held, Option, past, past_blanks_and_comment, past_line_rest, position_after, position_in_line, previous_by, push, refl, refused, roll_one_col_indent, ScannerState, seen, shown_position, Site, Some, Stands, subst, sym, Tok, tried, true, went, ℕ, ◌&&◌, ◌∙◌, ◌∷◌, ◌≡◌}
+use Rattle.proof_scanner.proofs.Common.{[], another, ap, AreLevels, arith, Arrives, begin_flow, begins_free_line, begins_with, blanks_and_comment, Bool, chained, Collection, columns, Entry, eqb-true, false, fetch_flow_collection_start, first_entry, flow_level, flow_start, FlowLevel, gives_node, has_open_level, Held, Holds, if◌then◌else◌, in_block, in_flow, increase_flow_level, Indent, is_empty, IsPairOf, Key, least_for, length, level_of, List, map, Mapping, nat_le, nat_lt, nat_tests, no_pair, None, not, on_held, Option, past, past_blanks_and_comment, past_line_rest, position_after, position_in_line, push, refl, refused, roll_one_col_indent, ScannerState, seen, Site, Some, Stands, subst, sym, Tok, tried, true, went, ℕ, ◌&&◌, ◌∙◌, ◌∷◌, ◌≡◌}
 use Rattle.model_scanner.specs.declared.level.FlowLevel.TheVariants.{Entry as InEntry}
 use Rattle.proof_scanner.proofs.Cut.Flows.{IsOpeningOf, opening_mapping, opening_sequence}
-use Rattle.proof_scanner.proofs.Sound.Steps.{ArrivesBy, deep_for, indicator_end, indicator_passed, IsDeep, IsRead, line_rest_cut, line_rest_fills, line_rest_in_line, many_around, next_of, node_read, past_it, Read, reads_before_none, saved_is, saved_keys, site_of, site_then, state_after, with_entries}
+use Rattle.proof_scanner.proofs.Sound.Steps.{IsToken, ArrivesBy, deep_for, indicator_end, indicator_passed, IsDeep, IsRead, line_rest_cut, line_rest_fills, line_rest_in_line, many_around, next_of, node_read, past_it, Read, reads_before_none, saved_is, saved_keys, site_of, site_then, state_after, with_entries}
 use Rattle.proof_scanner.specs.StandsInRow.{kind_of}
 use Rattle.std.proofs.lemmas.List.{length-map}
 use Rattle.model_scanner.specs.State.{after}
 
 -- What is said of an opening bracket.
 pub record IsOpener (lv : FlowLevel) (tok : Tok) (c : ℕ) : Type 0 where
-  pub act : act_of tok ≡ gives_node
-  pub begun : begun_by tok ≡ first_entry (kind_of lv) ∷ []
   pub is_opening : IsOpeningOf tok c
-  pub shown : (s : Site) (piece next : List ℕ) → shown_position s piece tok next ≡ s.position
-  pub previous : previous_by tok ≡ another
-  pub least : (s : Site) → least_for tok s ≡ least_column s.blocks s.awaits
-  pub lines : (column : ℕ) (piece : List ℕ) → further_lines_stand column tok piece ≡ true
-  pub precedes : (fl : Bool) (bs piece next : List ℕ) → may_precede fl bs tok piece next ≡ not (begins_with 35 next)
-  pub awaits_inside : (bs : List ℕ) (b : Bool) (next : List ℕ) → awaits_past true tok bs b next ≡ b
-  pub awaits_outside : (bs : List ℕ) (b : Bool) (next : List ℕ) → awaits_past false tok bs b next ≡ not (is_empty bs)
   pub no_pair_yet : IsPairOf lv no_pair
+  pub token : IsToken tok gives_node (first_entry (kind_of lv) ∷ []) another (λ _ _. true) (λ _ piece next. not (begins_with 35 next)) (λ fl bs b. if fl then b else not (is_empty bs))
+  pub open token use *
 
 pub opening_bracket : IsOpener InEntry Tok.flow_sequence_start 91
-opening_bracket = record { act = refl; begun = refl; is_opening = opening_sequence; shown = λ s p n. refl; previous = refl; least = λ s. refl; lines = λ c p. refl; precedes = λ f bs p n. refl; awaits_inside = λ bs b n. refl; awaits_outside = λ bs b n. refl; no_pair_yet = refl }
+opening_bracket = record { is_opening = opening_sequence; no_pair_yet = refl; token = grind (arith, nat_tests, eqb-true) }
 
 pub opening_brace : IsOpener Mapping Tok.flow_mapping_start 123
-opening_brace = record { act = refl; begun = refl; is_opening = opening_mapping; shown = λ s p n. refl; previous = refl; least = λ s. refl; lines = λ c p. refl; precedes = λ f bs p n. refl; awaits_inside = λ bs b n. refl; awaits_outside = λ bs b n. refl; no_pair_yet = tt }
+opening_brace = record { is_opening = opening_mapping; no_pair_yet = tt; token = grind (arith, nat_tests, eqb-true) }
 
 -- ---- levels of indentation
 

@@ -1,10 +1,10 @@
 -- The function of the model that reads a `?`: what holds where it begins holds between two fetches after it.
-use Rattle.proof_scanner.proofs.Common.{IsLeading, AreLevels, Arrives, At, Entry, Fault, FlowLevel, HasNoTabs, Held, Holds, Indent, IsReadOn, Key, Keyed, List, None, Ok, Option, Position, Result, ScannerState, Site, Stands, Tok, Token, [], allow_key, another, ap, arith, before_by, begin_key, begins_line, begins_with_space_or_break, both_hold, chained, check_key_space, checked, columns, either, ends_at, false, fetch_key, gap, gives_question, has_break, has_open_level, has_tab_before_piece, if◌then◌else◌, in_flow, inl, inr, is_at_gap, is_break, is_deeper, is_empty, is_in_column, is_one_of, is_separation, keyed, line_past, not, not-false, not_ended, on_held, opened, or_parts, or_true, pair_past, past, peek, placed, position_after, push, put, refl, remove_implicit_key, roll_indent, settled, skip_indicator, skip_yaml_whitespace, subst, suc, sym, take, takes_pair, token, tried, true, went, with_top, zero, ℕ, ◌&&◌, ◌++◌, ◌==◌, ◌>>=◌, ◌||◌, ◌∙◌, ◌∷◌, ◌≡◌, ◌≤◌, ◌⊎◌, eqb-true, nat_tests}
+use Rattle.proof_scanner.proofs.Common.{IsLeading, AreLevels, Arrives, At, Entry, Fault, FlowLevel, HasNoTabs, Held, Holds, Indent, IsReadOn, Key, Keyed, List, None, Ok, Option, Position, Result, ScannerState, Site, Stands, Tok, Token, [], allow_key, another, ap, arith, before_by, begin_key, begins_line, begins_with_space_or_break, both_hold, chained, check_key_space, checked, columns, either, ends_at, false, fetch_key, gap, gives_question, has_break, has_open_level, has_tab_before_piece, if◌then◌else◌, in_flow, inl, inr, is_at_gap, is_break, is_deeper, is_empty, is_in_column, is_one_of, is_separation, keyed, line_past, not, not-false, not_ended, on_held, opened, or_parts, or_true, pair_past, past, peek, placed, position_after, push, put, refl, remove_implicit_key, roll_indent, settled, skip_indicator, skip_yaml_whitespace, subst, suc, sym, take, takes_pair, token, tried, true, went, with_top, zero, ℕ, ◌&&◌, ◌++◌, ◌==◌, ◌>>=◌, ◌||◌, ◌∙◌, ◌∷◌, ◌≡◌, ◌≤◌, eqb-true, nat_tests}
 use Rattle.yaml_tokens.specs.declared.problem.Problem.TheVariants as problem
 use Rattle.model_scanner.specs.declared.level.FlowLevel.TheVariants.{Entry as InEntry}
 use Rattle.model_scanner.specs.State.{after}
 use Rattle.proof_lexers.specs.PlainEnds as ends
-use Rattle.proof_scanner.proofs.Sound.Steps.{adjacent_kept, arrives_side, ArrivesBy, ArrivesInside, ArrivesOutside, begun_after, first_not_right, goes_inside, IsDeep, key_removed, line_free, low_enough, past_one, read_outside, Reads, rolls_to, RollsTo, started_tokens, tokens_before, top_closed, with_start}
+use Rattle.proof_scanner.proofs.Sound.Steps.{adjacent_kept, by_sides, with_sides, ArrivesBy, begun_after, first_not_right, goes_inside, IsDeep, key_removed, line_free, low_enough, past_one, read_outside, Reads, rolls_to, RollsTo, started_tokens, tokens_before, top_closed, with_start}
 use Rattle.proof_scanner.proofs.Sound.WhiteSpaces.{white_of, past_white, white_cut, no_tab_before, no_tab_in_last, past_white_space, white_exactly, white_first}
 use Rattle.proof_scanner.proofs.Cut.Fetched.{begins_here}
 
@@ -172,16 +172,16 @@ unfolding fetch_key
 key_keeps text more t a e gap deep =
     chained {P = λ u. (u ≡ record t { held = u.held }) × Begins t.held u.held} (tried t (begin_key t.held) (key_begun t.held) (λ h d. (refl, d))) (λ u d.
     chained {P = λ v. v ≡ record u { held = record u.held { keys = with_top None u.held.keys } }} (tried u (remove_implicit_key u.held) (key_removed u.held) (λ h i. ap (λ z. record u { held = z }) i)) (λ v i.
-    subst (λ y. Holds (Stands text) (key_from t y)) (sym (i ∙ ap {A = ScannerState} {B = ScannerState} (λ z. record z { held = record u.held { keys = with_top None u.held.keys } }) d.0)) (by (arrives_side text t a) u.held d.1)))
+    subst (λ y. Holds (Stands text) (key_from t y)) (sym (i ∙ ap {A = ScannerState} {B = ScannerState} (λ z. record z { held = record u.held { keys = with_top None u.held.keys } }) d.0)) (by u.held d.1)))
   where
-    by : ArrivesOutside text t ⊎ ArrivesInside text t → (u : Held) → Begins t.held u → Holds (Stands text) (key_from t (record t { held = record u { keys = with_top None u.keys } }))
-    by (inl o) u (outside out allowed d) = grind (arith, nat_tests, eqb-true, question_outside)
-    by (inl o) u (inside in_it d) = absurd (cc (in_it, ap (λ fs. not (is_empty fs)) o.flow_is))
-    by (inr i) u (outside out allowed d) = absurd (cc (out, ap (λ fs. not (is_empty fs)) i.flow_is))
-    by (inr i) u (inside in_it d) =
-        subst (λ h. Holds (Stands text) (key_from t (record t { held = record h { keys = with_top None h.keys } }))) (sym d)
-        (subst (λ l. Holds (Stands text) (skip_yaml_whitespace (record { rest = after l; held = now }) >>= λ w. check_key_space w >>= λ x. Ok (on_held (push t.held.position Tok.key) x))) (sym e)
-        (question_read text more t.held.position now gap (λ begins apart fills. question_inside text more t i.level i.levels i.key i.keys i.entry i.entries i.here i.flow_is i.keys_are e deep begins apart fills)))
-      where
-        now : Held
-        now = record t.held { flow = keyed t.held.flow; keys = with_top None t.held.keys; key_allowed = not (not (is_empty (keyed t.held.flow))); position = past t.held.position; leading = false }
+    by : (u : Held) → Begins t.held u → Holds (Stands text) (key_from t (record t { held = record u { keys = with_top None u.keys } }))
+    by u (outside out allowed d) =
+        by_sides text t (λ v. in_flow v.held ≡ false → u ≡ roll_indent v.held.position.col None Tok.block_mapping_start v.held.position v.held → Holds (Stands text) (key_from v (record v { held = record u { keys = with_top None u.keys } }))) a
+        (λ k x n _ d. (grind (arith, nat_tests, eqb-true, question_outside))) (λ f fs k ks y es x out d. absurd (cc out)) out d
+    by u (inside in_it d) =
+        by_sides text t (λ v. in_flow v.held ≡ true → u ≡ record v.held { flow = keyed v.held.flow } → Holds (Stands text) (key_from v (record v { held = record u { keys = with_top None u.keys } }))) a
+        (λ k x n in_it d. absurd (cc in_it)) (λ f fs k ks y es x _ d.
+        subst (λ h. Holds (Stands text) (key_from (with_sides t (f ∷ fs) (k ∷ ks)) (record t { held = record h { keys = with_top None h.keys } }))) (sym d)
+        (subst (λ l. Holds (Stands text) (skip_yaml_whitespace (record { rest = after l; held = record t.held { flow = keyed (f ∷ fs); keys = None ∷ ks; key_allowed = not (not (is_empty (keyed (f ∷ fs)))); position = past t.held.position; leading = false } }) >>= λ w.
+        check_key_space w >>= λ x. Ok (on_held (push t.held.position Tok.key) x))) (sym e)
+        (question_read text more t.held.position _ gap (λ begins apart fills. question_inside text more _ f fs k ks y es x refl refl e deep begins apart fills)))) in_it d

@@ -1,11 +1,11 @@
 -- Quoted scalars: what holds between two fetches holds after them.
-use Rattle.proof_scanner.proofs.Common.{list_all, is_some, Arrives, Bool, Context, Entry, Fault, FlowLevel, HasNoTabs, Held, Holds, IsPiece, IsQuotedRead, Key, List, None, Ok, Option, Position, Quotes, Result, ScannerState, Site, Some, Stands, Tok, [], act_of, adjacent_here, allow_key, and_parts, ap, append_assoc, append_cancel_right, are_single, arith, awaits_past, begins_with, begun_by, between, both_hold, chained, check_after_quoted, columns, context, element_of, ends_before, false, fetch_flow_scalar, further_lines_stand, gives_node, go_on, has_break, has_no_nul, has_open_level, in_flow, inr, is_break, is_empty, is_nul, is_separation, least_column, least_for, lexed, may_precede, no_nul_after, not, not-true, on_held, position_after, position_append, previous_by, push, quote_of, quoted, quoted_lines_fit, quoted_may_end, quoted_scalar, quoted_style, read, read_as, refl, shown_position, skip_to_next_token, subst, sym, true, unled, value_of, went, ℕ, ◌&&◌, ◌++◌, ◌-◌, ◌>>=◌, ◌||◌, ◌∙◌, ◌∷◌, ◌≡◌, ◌≤◌, eqb-true, nat_tests}
+use Rattle.proof_scanner.proofs.Common.{list_all, is_some, Arrives, Bool, Context, Entry, Fault, FlowLevel, HasNoTabs, Held, Holds, IsPiece, IsQuotedRead, Key, List, None, Ok, Option, Position, Quotes, Result, ScannerState, Site, Some, Stands, Tok, [], adjacent_here, allow_key, and_parts, ap, append_assoc, append_cancel_right, are_single, arith, begins_with, between, both_hold, chained, check_after_quoted, columns, context, element_of, ends_before, false, fetch_flow_scalar, gives_node, go_on, has_break, has_no_nul, has_open_level, in_flow, inr, is_break, is_empty, is_nul, is_separation, least_column, lexed, no_nul_after, not, not-true, on_held, position_after, position_append, push, quote_of, quoted, quoted_lines_fit, quoted_may_end, quoted_scalar, quoted_style, read, read_as, refl, skip_to_next_token, subst, sym, true, unled, value_of, went, ℕ, ◌&&◌, ◌++◌, ◌-◌, ◌>>=◌, ◌||◌, ◌∙◌, ◌∷◌, ◌≡◌, ◌≤◌, eqb-true, nat_tests}
 use Rattle.defs_token.specs.Account.{Account as PieceAccount}
 use Rattle.model_scanner.specs.Machine as machine
 use Rattle.proof_lexers.specs.PlainEnds as plains
 use Rattle.proof_lexers.proofs.Quoted.ScanEnds.{scans_end}
 use Rattle.proof_scanner.proofs.Cut.Pieces.Quoted.{some_chars}
-use Rattle.proof_scanner.proofs.Sound.Steps.{ArrivesBy, break_append, Checked, deep_for, ends_in_line, Exact, exact, IsDeep, IsRead, least_is, next_of, node_read, not_before_after, on_one_line, quoted_checked, Read, same_has_break, saved_is, saved_keys, separation_append, site_of, site_then, some_levels, unbroken}
+use Rattle.proof_scanner.proofs.Sound.Steps.{IsToken, ArrivesBy, break_append, Checked, deep_for, ends_in_line, Exact, exact, IsDeep, IsRead, least_is, next_of, node_read, not_before_after, on_one_line, quoted_checked, Read, same_has_break, saved_is, saved_keys, separation_append, site_of, site_then, some_levels, unbroken}
 use Rattle.proof_scanner.proofs.Cut.Scalars.{adjacent_quoted}
 use Rattle.proof_lexers.proofs.Bridges.{or_false}
 use Rattle.proof_scanner.proofs.Sound.Skips.{IsAt, IsLeast, Cleared, skip_clears}
@@ -53,15 +53,8 @@ in_line single body = last (quote_of single) (quote_of single) body (grind arith
 -- ---- its token
 
 -- the token of a quoted scalar
-pub record IsQuotedToken (single : Bool) (tok : Tok) : Type 0 where
-  pub act : act_of tok ≡ gives_node
-  pub begun : begun_by tok ≡ []
-  pub shown : (s : Site) (piece next : List ℕ) → shown_position s piece tok next ≡ s.position
-  pub before : previous_by tok ≡ quoted_scalar
-  pub least : (s : Site) → least_for tok s ≡ least_column s.blocks s.awaits
-  pub lines : (column : ℕ) (piece : List ℕ) → further_lines_stand column tok piece ≡ quoted_lines_fit column (element_of single) piece
-  pub precedes : (fl : Bool) (bs piece next : List ℕ) → may_precede fl bs tok piece next ≡ quoted_may_end fl piece next
-  pub awaits : (fl : Bool) (bs : List ℕ) (b : Bool) (next : List ℕ) → awaits_past fl tok bs b next ≡ b
+abbrev pub IsQuotedToken : (single : Bool) → Tok → Type 0
+IsQuotedToken single tok = IsToken tok gives_node [] quoted_scalar (λ column piece. quoted_lines_fit column (element_of single) piece) quoted_may_end (λ _ _ b. b)
 
 piece_is : (a : PieceAccount) (quotes : Quotes) (body next value : List ℕ) → value_of (are_single quotes) body ≡ Some value → ends_before (are_single quotes) next ≡ true → IsPiece a (piece_of (are_single quotes) body) next None a.position (Tok.scalar (quoted_style quotes) value)
 piece_is a b d e g is i = grind (arith, not-true, begins_with)

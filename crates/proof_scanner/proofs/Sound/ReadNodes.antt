@@ -1,6 +1,6 @@
 -- A part of a node was read where a piece begins, be it an opening bracket or no collection: what holds between two fetches holds after it.
-use Rattle.proof_scanner.proofs.Common.{Account, AreEntries, Arrives, Bool, Entry, FlowLevel, Indent, IsCarriedOn, IsLine, IsNear, IsOpenOutside, IsPairOf, IsPiece, Key, KnowsKey, Line, List, MayChoose, None, NotBefore, Option, Outside, Position, Previous, ScannerState, Site, SoFar, Some, Stands, Step, Tok, Token, [], act_of, ap, arith, begins_free_line, begun_by, chosen, ends_at, entries_by, entry_by, false, first_choice, first_entry, further_lines_stand, gives_node, has_break, inl, inr, is_deep_enough, is_empty, is_in_column, is_renewed, is_separation, least_for, length, line_by, line_past, may_precede, may_stand, no_pair, not, outside_key, pop, position_after, previous_by, put, refl, seen, shown_position, site_at, site_here, site_in, site_past, spelled, subst, sym, taken, tokens_of_step, tokens_up_to, true, with_keys, ℕ, ◌&&◌, ◌++◌, ◌∙◌, ◌∷◌, ◌≡◌, ◌≤◌, ◌⊎◌, eqb-true, nat_tests, must_be_key}
-use Rattle.proof_scanner.proofs.Sound.Common.{after_piece, among, AreSame, arrives_side, ArrivesBy, ArrivesInside, ArrivesOutside, begun_numbered, bit_of, choice_before, choices_around, completes_at, entry_past_node, Goes, IsDeep, levels_by, line_after_node, line_taken, node_in_entry, node_outer_tokens, node_tokens, not_before_after, not_before_then, Outer, outer_completes, past_step, saved, saved_keys, some_rest, tokens_before, with_begun, with_entries, with_no_key}
+use Rattle.proof_scanner.proofs.Common.{Account, AreEntries, Arrives, Bool, Entry, FlowLevel, Indent, IsCarriedOn, IsLine, IsNear, IsOpenOutside, IsPairOf, IsPiece, Key, KnowsKey, Line, List, MayChoose, None, NotBefore, Option, Outside, Position, Previous, ScannerState, Site, SoFar, Some, Stands, Step, Tok, Token, [], act_of, ap, arith, begins_free_line, begun_by, chosen, ends_at, entries_by, entry_by, false, first_choice, first_entry, further_lines_stand, gives_node, has_break, inl, is_deep_enough, is_empty, is_in_column, is_renewed, is_separation, least_for, length, line_by, line_past, may_precede, may_stand, no_pair, not, outside_key, pop, position_after, previous_by, put, refl, seen, shown_position, site_at, site_here, site_in, site_past, spelled, subst, sym, taken, tokens_of_step, tokens_up_to, true, with_keys, ℕ, ◌&&◌, ◌++◌, ◌∙◌, ◌∷◌, ◌≡◌, ◌≤◌, eqb-true, nat_tests, must_be_key}
+use Rattle.proof_scanner.proofs.Sound.Common.{after_piece, among, AreSame, by_sides, ArrivesBy, begun_numbered, bit_of, choice_before, choices_around, completes_at, entry_past_node, Goes, IsDeep, levels_by, line_after_node, line_taken, node_in_entry, node_outer_tokens, node_tokens, not_before_after, not_before_then, Outer, outer_completes, past_step, saved, saved_keys, some_rest, tokens_before, with_begun, with_entries, with_no_key}
 use Rattle.proof_scanner.proofs.Known.Steps.{knows_saved, is_of_node}
 use Rattle.proof_scanner.proofs.Sound.Outsides.{new_key, keys_saved, numbered_inside, must_be_here, numbered_past, unbroken_node, one_node, taken_node, may_node, line_node, same_node, open_node}
 use Rattle.proof_scanner.proofs.Sound.InFlow.{steps_in_flow}
@@ -273,8 +273,7 @@ module _ (text : List ℕ) (t : ScannerState) (level : Option FlowLevel) (f : Fl
 -- Where a piece begins, a part of a node was read: what holds between two fetches holds after it.
 pub node_read : (text : List ℕ) (t : ScannerState) (level : Option FlowLevel) (d : Read) → IsDeep t.held → Arrives text t →
     ((fs : List FlowLevel) (ks : List (Option Key)) (es : List Entry) → t.held.flow ≡ fs → (a : ArrivesBy text t fs ks es) → IsRead t level fs a.site a.line es a.separation d) → Stands text (state_after t level d)
-node_read text t level d deep arrives known = by (arrives_side text t arrives)
-  where
-    by : ArrivesOutside text t ⊎ ArrivesInside text t → Stands text (state_after t level d)
-    by (inl o) = node_outside text t level o.key o.here d o.flow_is deep (known [] (o.key ∷ []) [] o.flow_is o.here) o.keys_are o.knows
-    by (inr i) = node_inside text t level i.level i.levels i.key i.keys i.entry i.entries i.here d i.flow_is (known (i.level ∷ i.levels) (i.key ∷ i.keys) (i.entry ∷ i.entries) i.flow_is i.here) i.keys_are
+node_read text t level d deep arrives known =
+    by_sides text t (λ u. ((fs : List FlowLevel) (ks : List (Option Key)) (es : List Entry) → u.held.flow ≡ fs → (a : ArrivesBy text u fs ks es) → IsRead u level fs a.site a.line es a.separation d) → Stands text (state_after u level d)) arrives
+    (λ k a n known. node_outside text _ level k a d refl deep (known [] (k ∷ []) [] refl a) refl n)
+    (λ f fs k ks e es a known. node_inside text _ level f fs k ks e es a d refl (known (f ∷ fs) (k ∷ ks) (e ∷ es) refl a) refl) known

@@ -1,9 +1,9 @@
 -- A colon that ends no key: what holds where it begins holds between two fetches after it.
-use Rattle.proof_scanner.proofs.Common.{Account, [], allow_key, another, ap, append-nil, append_assoc, AreLevels, arith, Arrives, At, before_by, before_past, begin_keyless_mapping, begin_keyless_value, begin_pair, begins_free_line, begun_outside, Bool, chained, check_value_space, checked, chosen, colon_may_precede, columns, Completes, ends_at, entries_by, Entry, entry_by, eqb-true, false, Fault, fetch_value, first_account, FlowLevel, gives_colon, has_open_level, Held, Holds, if◌then◌else◌, in_flow, Indent, inl, innermost, inr, insert, insert_key, inside, is_adjacent, is_break, is_deeper, is_empty, is_in_column, is_near, is_value, is_value_indicator, IsEntryOf, IsLive, IsNotRight, Key, length, length-append, Line, line_past, List, MayChoose, nat_tests, None, not, not-false, not_ended, NotBefore, Ok, on_held, opened, opens_pair, Option, Outside, outside_key, pair_past, pair_position, paired, past, placed, pop, Position, position_after, push, put, put_key, refl, Result, roll_indent, roll_one_col_indent, ScannerState, settled, Site, site_at, site_here, Some, spelled, Stands, start_if, Step, subst, suc, sym, taken, takes_pair, Tok, Token, token, tokens_at, tokens_of_step, tokens_up_to, top_key, tried, true, try_held, waits, went, with_held, with_keys, with_top, ℕ, ◌++◌, ◌==◌, ◌>>=◌, ◌||◌, ◌∙◌, ◌∷◌, ◌≡◌, ◌≤◌, ◌⊎◌}
+use Rattle.proof_scanner.proofs.Common.{Account, [], allow_key, another, ap, append-nil, append_assoc, AreLevels, arith, Arrives, At, before_by, before_past, begin_keyless_mapping, begin_keyless_value, begin_pair, begins_free_line, begun_outside, Bool, chained, check_value_space, checked, chosen, colon_may_precede, columns, Completes, ends_at, entries_by, Entry, entry_by, eqb-true, false, Fault, fetch_value, first_account, FlowLevel, gives_colon, has_open_level, Held, Holds, if◌then◌else◌, in_flow, Indent, inl, innermost, inr, insert, insert_key, inside, is_adjacent, is_break, is_deeper, is_empty, is_in_column, is_near, is_value, is_value_indicator, IsEntryOf, IsLive, IsNotRight, Key, length, length-append, Line, line_past, List, MayChoose, nat_tests, None, not, not-false, not_ended, NotBefore, Ok, on_held, opened, opens_pair, Option, Outside, outside_key, pair_past, pair_position, paired, past, placed, pop, Position, position_after, push, put, put_key, refl, Result, roll_indent, roll_one_col_indent, ScannerState, settled, Site, site_at, site_here, Some, spelled, Stands, start_if, Step, subst, suc, sym, taken, takes_pair, Tok, Token, token, tokens_at, tokens_of_step, tokens_up_to, top_key, tried, true, try_held, waits, went, with_held, with_keys, with_top, ℕ, ◌++◌, ◌==◌, ◌>>=◌, ◌||◌, ◌∙◌, ◌∷◌, ◌≡◌, ◌≤◌}
 use Rattle.proof_scanner.proofs.Sound.Blanks.{line_rest_in_line, same_in_line}
 use Rattle.model_scanner.specs.declared.level.FlowLevel.TheVariants.{Pair as InPair}
 use Rattle.model_scanner.specs.Block.{value_of}
-use Rattle.proof_scanner.proofs.Sound.Steps.{all_go_on, among, arrives_side, ArrivesBy, ArrivesInside, ArrivesOutside, begun_after, ends_outside, fewer, first_among, first_not_right, goes_inside, goes_of, is_written, IsDeep, key_longer, keyless, keys_along, keys_first, line_free, line_taken, low_enough, no_waiting, not_before_after, not_before_then, numbered_around, numbered_more, opens_none, opens_one, OpensOne, Outer, outer_completes, outer_then, past_one, past_step, read_outside, Reads, reads_before_none, rolls_to, RollsTo, some_levels, started_tokens, steps_in_flow, tokens_before, value_is, weaker, with_entries, with_start}
+use Rattle.proof_scanner.proofs.Sound.Steps.{all_go_on, among, by_sides, with_sides, ArrivesBy, begun_after, ends_outside, fewer, first_among, first_not_right, goes_inside, goes_of, is_written, IsDeep, key_longer, keyless, keys_along, keys_first, line_free, line_taken, low_enough, no_waiting, not_before_after, not_before_then, numbered_around, numbered_more, opens_none, opens_one, OpensOne, Outer, outer_completes, outer_then, past_one, past_step, read_outside, Reads, reads_before_none, rolls_to, RollsTo, some_levels, started_tokens, steps_in_flow, tokens_before, value_is, weaker, with_entries, with_start}
 use Rattle.proof_scanner.proofs.Sound.ColonSpaces.{colon_gap, colon_spaced, gap_is, past_colon, past_gap}
 use Rattle.proof_scanner.proofs.Sound.Questions.{pair_level}
 use Rattle.proof_row.proofs.KeyLines.{KeysBefore, keys_before, line_grows}
@@ -320,7 +320,7 @@ pub value_keeps : (text more : List ℕ) (t : ScannerState) → Arrives text t �
 unfolding fetch_value
 value_keeps text more t a e ind deep =
     subst (λ l. Holds (Stands text) (check_value_space (record { rest = after l; held = h }) >>= value_on)) (sym e)
-    (chained (colon_spaced more h) (λ u d. subst (λ y. Holds (Stands text) (value_on y)) (sym d.0) (by (arrives_side text t a) d.1)))
+    (chained (colon_spaced more h) (λ u d. subst (λ y. Holds (Stands text) (value_on y)) (sym d.0) (by d.1)))
   where
     h : Held
     h = record t.held { flow = paired t.held.flow; position = past t.held.position; leading = false }
@@ -328,18 +328,14 @@ value_keeps text more t a e ind deep =
     value_on : ScannerState → Result ScannerState Fault
     value_on u = try_held (λ s. value_of (top_key s.keys) t.held.position (opens_pair t.held.flow) s) u >>= λ v. Ok (on_held (push t.held.position Tok.value) v)
 
-    outer : (k : Option Key) → t.held.flow ≡ [] → ArrivesBy text t [] (k ∷ []) [] → colon_may_precede more ≡ true → Holds (Stands text) (value_by more t [] (k ∷ []))
-    outer None flow x apart = keyless_outside text more t x e apart (value_here text more t [] (None ∷ []) [] x flow e ind) deep
-    outer (Some k) flow x apart = keyed_outside text more t k x e apart (value_here text more t [] (Some k ∷ []) [] x flow e ind)
+    outer : (k : Option Key) → ArrivesBy text (with_sides t [] (k ∷ [])) [] (k ∷ []) [] → colon_may_precede more ≡ true → is_value (with_sides t [] (k ∷ [])) ≡ true → Holds (Stands text) (value_by more (with_sides t [] (k ∷ [])) [] (k ∷ []))
+    outer None x apart ind = keyless_outside text more _ x e apart (value_here text more _ [] (None ∷ []) [] x refl e ind) deep
+    outer (Some k) x apart ind = keyed_outside text more _ k x e apart (value_here text more _ [] (Some k ∷ []) [] x refl e ind)
 
-    inner : (f : FlowLevel) (fs : List FlowLevel) (k : Option Key) (ks : List (Option Key)) (y : Entry) (es : List Entry) → t.held.flow ≡ f ∷ fs → ArrivesBy text t (f ∷ fs) (k ∷ ks) (y ∷ es) → colon_may_precede more ≡ true →
-        Holds (Stands text) (value_by more t (f ∷ fs) (k ∷ ks))
-    inner f fs None ks y es flow x apart = keyless_inside text more t f fs ks y es x e apart (value_here text more t (f ∷ fs) (None ∷ ks) (y ∷ es) x flow e ind) deep
-    inner f fs (Some k) ks y es flow x apart = keyed_inside text more t f fs k ks y es x e apart (value_here text more t (f ∷ fs) (Some k ∷ ks) (y ∷ es) x flow e ind) deep (key_before text t f fs k ks y es x (ap is_empty e))
+    inner : (f : FlowLevel) (fs : List FlowLevel) (k : Option Key) (ks : List (Option Key)) (y : Entry) (es : List Entry) → ArrivesBy text (with_sides t (f ∷ fs) (k ∷ ks)) (f ∷ fs) (k ∷ ks) (y ∷ es) → colon_may_precede more ≡ true →
+        is_value (with_sides t (f ∷ fs) (k ∷ ks)) ≡ true → Holds (Stands text) (value_by more (with_sides t (f ∷ fs) (k ∷ ks)) (f ∷ fs) (k ∷ ks))
+    inner f fs None ks y es x apart ind = keyless_inside text more _ f fs ks y es x e apart (value_here text more _ (f ∷ fs) (None ∷ ks) (y ∷ es) x refl e ind) deep
+    inner f fs (Some k) ks y es x apart ind = keyed_inside text more _ f fs k ks y es x e apart (value_here text more _ (f ∷ fs) (Some k ∷ ks) (y ∷ es) x refl e ind) deep (key_before text _ f fs k ks y es x (ap is_empty e))
 
-    by : ArrivesOutside text t ⊎ ArrivesInside text t → colon_may_precede more ≡ true → Holds (Stands text) (value_on (past_colon more h))
-    by (inl o) apart = grind (arith, nat_tests, eqb-true, outer)
-    by (inr i) apart =
-        subst (λ fs. Holds (Stands text) (value_by more t fs t.held.keys)) (sym i.flow_is)
-        (subst (λ ks. Holds (Stands text) (value_by more t (i.level ∷ i.levels) ks)) (sym i.keys_are)
-        (inner i.level i.levels i.key i.keys i.entry i.entries i.flow_is i.here apart))
+    by : colon_may_precede more ≡ true → Holds (Stands text) (value_on (past_colon more h))
+    by apart = by_sides text t (λ v. is_value v ≡ true → Holds (Stands text) (value_by more v v.held.flow v.held.keys)) a (λ k x n. outer k x apart) (λ f fs k ks y es x. inner f fs k ks y es x apart) ind
