@@ -27,7 +27,6 @@ pub mod Questions
 pub mod QuotedBreaks
 pub mod QuotedEnds
 pub mod QuotedKeeps
-pub mod Reached
 pub mod Reads
 pub mod ReadNodes
 pub mod Rolled

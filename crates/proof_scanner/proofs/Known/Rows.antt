@@ -175,12 +175,7 @@ goes_past text a w next way written r h = by g.steps g.is_row g.spells
       where
         to : (o : Option Account) → account_past g.account u (spelled us g.last) ≡ o → IsRowFrom o us g.last → GoesThrough text next
         to None f k = absurd k
-        to (Some b) f k = record {
-          account = b;
-          begins = subst (λ x. Begins text x b) (sym ((same_written a g.account w u next (spelled us g.last) g.is_like written row.0 (sym e) g.holds.1).3)) (begins_past text before g.account b u (spelled us g.last) (sym e) row.0 f g.holds.0);
-          steps = us;
-          last = g.last;
-          is_row = k;
-          spells = sym
-              ((same_written a g.account w u next (spelled us g.last) g.is_like written row.0 (sym e) g.holds.1).3);
-        }
+        to (Some b) f k =
+            let same : spelled us g.last ≡ next = sym ((same_written a g.account w u next (spelled us g.last) g.is_like written row.0 (sym e) g.holds.1).3) in
+            let there : Begins text next b = subst (λ x. Begins text x b) same (begins_past text before g.account b u (spelled us g.last) (sym e) row.0 f g.holds.0) in
+            record { account = b; begins = there; steps = us; last = g.last; is_row = k; spells = same }

@@ -28,18 +28,9 @@ plain_as : (ctx : Context) (p : Position) (text : List ℕ) (x : machine.Read Pl
 plain_as ctx p text x none begins indented e = by x (read_as e (scans_end ctx text p none begins indented)) e
   where
     by : (y : machine.Read Plain) → IsPlainRead ctx p text y → plain ctx text p ≡ Ok y → PlainAs ctx p text y
-    by y (whole_plain piece gap rest value cut whole white ends value_is) k = record {
-      piece = piece;
-      gap = gap;
-      cut = cut;
-      whole = whole;
-      white = white;
-      ends = ends;
-      value_is = value_is;
-      leads = same_has_break gap;
-      end_is = position_append p piece gap rest;
-      fits = plain_fits ctx p text piece gap (plains.after_plain p piece gap rest value) begins cut k;
-    }
+    by y (whole_plain piece gap rest value cut whole white ends value_is) k =
+        let fits = plain_fits ctx p text piece gap (plains.after_plain p piece gap rest value) begins cut k in
+        search (cut, whole, white, ends, value_is, same_has_break gap, position_append p piece gap rest, fits)
 
 -- ---- its piece and its gap
 

@@ -32,14 +32,7 @@ quoted_as quotes ctx p more x none e =
     let there = body_read (are_single quotes) ctx p (ctx.indent - 1) (λ k. same_limit k ctx.indent) q.body x (subst (λ l. list_all is_some l ≡ true) q.is_text (some_chars more none))
     (ap (λ l. quoted (are_single quotes) ctx (quote_of (are_single quotes) ∷ l) p) (sym q.is_text) ∙ e) in
     let all : quote_of (are_single quotes) ∷ more ≡ piece_of (are_single quotes) q.body ++ x.rest = ap (λ l. quote_of (are_single quotes) ∷ l) q.is_text ∙ (ap (λ l. (quote_of (are_single quotes)) ∷ l) (sym (append_assoc q.body ((quote_of (are_single quotes)) ∷ []) x.rest))) in
-    record {
-      body = q.body;
-      value_is = q.is_value;
-      ends = q.may_end;
-      cut = all;
-      end_is = there.end_is;
-      fits = there.lines;
-    }
+    search (q.is_value, q.may_end, all, there.end_is, there.lines)
 
 -- a quote is no break
 pub in_line : (single : Bool) (body : List ℕ) → ends_in_line (piece_of single body) ≡ true
