@@ -5,7 +5,6 @@ use Rattle.proof_scanner.proofs.Cut.Pieces.Separations.{no_break_append}
 use Rattle.model_scanner.specs.State.{after as after_first}
 use Rattle.proof_scanner.proofs.Cut.Documents.{past_indicator}
 use Rattle.yaml_tokens.specs.declared.problem.Problem.TheVariants as problem
-use Rattle.proof_lexers.specs.PlainEnds as plains
 
 -- ---- positions
 
@@ -180,8 +179,3 @@ indicator_end p c more e = grind (arith, nat_tests, eqb-true, past_one, same_in_
 -- no TAB indents a line, where no line begins
 pub none_indents : (before : Previous) (bs : List ℕ) (awaits : Bool) (f : List ℕ) → begins_line before f ≡ false → is_indented_by_spaces before bs awaits f ≡ true
 none_indents before bs awaits f h = ap (λ b. not b || not (has_tab_within (least_column bs (awaits || follows_plain before f)) (last_line f))) h
-
--- a text of one line, by the other word
-pub no_break_alike : (f : List ℕ) → has_no_break f ≡ true → plains.has_break f ≡ false
-no_break_alike [] h = refl
-no_break_alike (c ∷ f) h = grind (arith, no_break_alike f)

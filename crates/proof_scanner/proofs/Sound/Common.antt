@@ -6,7 +6,7 @@ pub use Rattle.proof_scanner.proofs.Sound.OutOfFlow.{Goes, is_written, no_waitin
 pub use Rattle.proof_scanner.proofs.Sound.NodeTokens.{among, AreSame, begun_numbered, bit_of, choice_before, choices_around, entry_past_node, fewer, first_among, had_as_it_was, key_longer, keys_along, keys_first, levels_by, line_after_node, node_in_entry, node_outer_tokens, node_tokens, past_step, same_levels, saved, with_begun, with_no_key}
 pub use Rattle.proof_scanner.proofs.Sound.StreamEnds.{all_levels, ends_of, none_chosen, none_put, same_flow, shorter, stream_ended}
 pub use Rattle.proof_scanner.proofs.Sound.LastLines.{blank_more, break_append, column_after, last_first, last_whole, no_comment_in_last, none_before, take_none}
-pub use Rattle.proof_scanner.proofs.Sound.Blanks.{found_in, indicator_end, indicator_passed, is_clear, line_rest_cut, line_rest_fills, line_rest_in_line, no_break_alike, none_indents, none_skipped, past_it, past_one, past_rest, past_rest_is_clear, rest_read, rest_skipped, same_in_line}
+pub use Rattle.proof_scanner.proofs.Sound.Blanks.{found_in, indicator_end, indicator_passed, is_clear, line_rest_cut, line_rest_fills, line_rest_in_line, none_indents, none_skipped, past_it, past_one, past_rest, past_rest_is_clear, rest_read, rest_skipped, same_in_line}
 pub use Rattle.proof_scanner.proofs.Cut.Nodes.{adjacent_other, IsDeep, less_or}
 pub use Rattle.proof_scanner.proofs.Cut.Positions.{after_piece, after_then, index_after, not_before_after, not_before_same, not_before_then, weaker}
 pub use Rattle.proof_scanner.proofs.Cut.Saved.{saved_is, saved_keys}

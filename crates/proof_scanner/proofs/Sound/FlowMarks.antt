@@ -1,7 +1,7 @@
 -- Commas and closing brackets: what holds where they begin holds between two fetches after them. Outside flow they close nothing.
 use Rattle.proof_scanner.proofs.Common.{[], Act, act_of, adjacent_in_flow, another, ap, append_assoc, AreAround, AreEntries, AreNumbered, arith, Arrives, before_by, before_past, begins_free_line, begins_with, begun_by, begun_outside, blanks_and_comment, Bool, chained, Collection, end_entry, end_flow, ends_at, ends_spaces, entries_by, Entry, eqb-true, false, fetch_flow_collection_end, fetch_flow_entry, first_entry, flow_collection, flow_end, FlowLevel, free, gives_closing, gives_comma, has_no_break, has_no_nul, Held, Holds, is_blank, is_deeper, is_empty, is_in_column, is_renewed, is_required, is_separation, IsAdjacent, IsEntryOf, IsLine, IsPiece, Key, least_for, length, Line, line_past, List, nat_tests, no_nul_after, None, not, on_held, Option, other, outside_key, pair_end, past, past_blanks_and_comment, past_line_rest, pop, Position, Previous, previous_by, push, put, refl, refused, remove_implicit_key, ScannerState, seen, Site, site_here, site_in, Some, Stands, Step, subst, suc, sym, taken, Tok, Token, top_key, tried, true, went, with_keys, with_top, Yes, ℕ, ◌&&◌, ◌++◌, ◌∙◌, ◌∷◌, ◌≡◌, ◌⊎◌}
 use Rattle.proof_scanner.proofs.Cut.FlowEnds.{adjacent_collection, closed_tokens, ended_is, ended_now, ends_by_comma, ends_mapping, ends_sequence, entered, entry_is, entry_now, IsEndOf}
-use Rattle.proof_scanner.proofs.Sound.Steps.{IsToken, adjacent_kept, by_sides, ArrivesBy, begins_key, deep_for, had_as_it_was, indicator_end, indicator_passed, is_clear, IsDeep, key_gone, keyless, keyless_tokens, keys_along, line_rest_cut, line_rest_fills, line_rest_in_line, line_taken, low_enough, no_break_alike, numbered_then, past_it, past_rest_is_clear, past_step, quiet_before, read_outside, reads_in_line, started_tokens, steps_in_flow, tokens_before, with_entries}
+use Rattle.proof_scanner.proofs.Sound.Steps.{IsToken, adjacent_kept, by_sides, ArrivesBy, begins_key, deep_for, had_as_it_was, indicator_end, indicator_passed, is_clear, IsDeep, key_gone, keyless, keyless_tokens, keys_along, line_rest_cut, line_rest_fills, line_rest_in_line, line_taken, low_enough, numbered_then, past_it, past_rest_is_clear, past_step, quiet_before, read_outside, reads_in_line, started_tokens, steps_in_flow, tokens_before, with_entries, same_has_break}
 use Rattle.model_scanner.specs.State.{after}
 
 -- whether the innermost collection ends
@@ -145,7 +145,7 @@ line_after a f fs broken p rest k l b h = grind arith
 -- where a colon may stand after it in flow
 adjacent_after : (closes : Bool) (f : FlowLevel) (fs : List FlowLevel) (old : ℕ) (p : Position) (gap rest : List ℕ) → IsAdjacent (before_past other gap) p old rest → is_separation false gap rest ≡ true → has_no_break gap ≡ true → ends_spaces Yes rest ≡ true → has_no_nul rest ≡ true →
     is_empty (levels_then closes f fs) ≡ false → IsAdjacent (before_past (before_by (previous_of closes)) gap) p (adjacent_then closes fs old p.index) rest
-adjacent_after a f fs old p gap rest far fills b ends clean some = grind (arith, nat_tests, eqb-true, adjacent_collection, no_break_alike)
+adjacent_after a f fs old p gap rest far fills b ends clean some = grind (arith, nat_tests, eqb-true, adjacent_collection, same_has_break)
 
 -- ---- the step
 
