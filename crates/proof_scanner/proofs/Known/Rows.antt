@@ -155,10 +155,6 @@ row_walks J R keeps text after a r p way h =
 
 -- ---- past a step
 
--- where a text begins each row of it does
-pub goes_from_start : (text after : List ℕ) → after ≡ up_to_nul text → (r : Row) → HasRow text r → GoesThrough text after
-goes_from_start text after whole r h = record { account = first_account; begins = subst (λ x. Begins text x first_account) (sym whole) (begins_at_start text); steps = r.steps; last = r.last; is_row = h.1; spells = h.0 ∙ sym whole }
-
 -- Each row goes through the place after a step that was read.
 pub goes_past : (text : List ℕ) (a : Account) (w : Step) (next : List ℕ) → Way GivesUp text (w.separation ++ (w.piece ++ next)) a → IsWritten a w next → (r : Row) → HasRow text r → GoesThrough text next
 goes_past text a w next way written r h = by g.steps g.is_row g.spells

@@ -1,8 +1,8 @@
 -- What is known of keys that wait, after a step: from what was known before it.
-use Rattle.proof_scanner.proofs.Common.{[], Account, Act, act_of, ap, arith, Begins, begins_free_line, Bool, Entry, eqb-true, false, FlowLevel, free, gives_block_scalar, gives_node, is_empty, is_far, is_in_column, is_in_flow, IsLineHere, IsWritten, Key, KnowsKey, LikeLine, Line, line_by, line_past, line_past_separation, List, must_be_key, nat_tests, None, not, not-true, Option, Outside, outside_key, Position, position_after, refl, same_flow, ScannerState, Site, site_here, Some, Step, subst, sym, taken, Tok, true, up_to_nul, waits, ℕ, ◌++◌, ◌+◌, ◌∙◌, ◌∷◌, ◌≡◌, ◌≤◌}
+use Rattle.proof_scanner.proofs.Common.{[], Account, Act, act_of, ap, arith, Begins, begins_free_line, Bool, Entry, eqb-true, false, FlowLevel, free, gives_block_scalar, gives_node, is_empty, is_far, is_in_column, is_in_flow, IsLineHere, IsWritten, Key, KnowsKey, LikeLine, Line, line_by, line_past, line_past_separation, List, must_be_key, nat_tests, None, not, not-true, Option, Outside, outside_key, Position, position_after, refl, same_flow, ScannerState, Site, site_here, Some, Step, subst, sym, taken, Tok, true, up_to_nul, waits, ℕ, ◌++◌, ◌+◌, ◌∙◌, ◌∷◌, ◌≡◌, ◌≤◌, first_account}
 use Rattle.proof_scanner.specs.KnownKeys.{IsAt}
-use Rattle.proof_scanner.proofs.Sound.Common.{ArrivesBy, index_after, IsDeep, not_before_after, not_before_same, saved, some_rest, with_entries}
-use Rattle.proof_scanner.proofs.Known.Rows.{begins_whole, Came, came_by, goes_from_start, goes_past, way_inside, way_outside}
+use Rattle.proof_scanner.proofs.Sound.Common.{ArrivesBy, index_after, IsDeep, not_before_after, not_before_same, saved, some_rest, with_entries, begins_at_start}
+use Rattle.proof_scanner.proofs.Known.Rows.{begins_whole, Came, came_by, goes_past, way_inside, way_outside}
 use Rattle.proof_scanner.proofs.Known.Made.{begun, inside, kept, Made, made, outside, same_of, still_there, waited, Waits, waits_past}
 use Rattle.proof_scanner.proofs.Known.Ways.{GivesUp, Way, With}
 use Rattle.proof_scanner.proofs.Sound.Outsides.{line_node, must_be_here, new_key}
@@ -20,11 +20,7 @@ known_far text after p k far n = grind arith
 
 -- where a text begins
 pub known_at_start : (text after : List ℕ) (p : Position) → after ≡ up_to_nul text → KnowsKey text after p None
-known_at_start text after p whole = record { waiting = λ b begin g e l i. absurd (cc (ap (λ (x : Account). x.line) (begins_whole text after b whole g) ∙ e)); required = λ b x g e m. absurd (cc e); rows = goes_from_start text after whole }
-
--- over a piece and a separation
-pub known_over : (text next : List ℕ) (p q : Position) (k : Option Key) (piece separation rest : List ℕ) → q ≡ position_after (position_after p piece next) separation rest → KnowsKey text next p k → KnowsKey text next q k
-known_over text next p q k piece separation rest e n = subst (λ x. KnowsKey text next x k) (sym e) (known_past text next (position_after p piece next) k separation rest (known_past text next p k piece next n))
+known_at_start text after p whole = record { waiting = λ b begin g e l i. absurd (cc (ap (λ (x : Account). x.line) (begins_whole text after b whole g) ∙ e)); required = λ b x g e m. absurd (cc e); rows = λ r h. record { account = first_account; begins = subst (λ x. Begins text x first_account) (sym whole) (begins_at_start text); steps = r.steps; last = r.last; is_row = h.1; spells = h.0 ∙ sym whole } }
 
 -- ---- lines
 
@@ -143,7 +139,7 @@ keyless separation piece tok = record { separation = separation; piece = piece; 
 
 module _ (text : List ℕ) (t : ScannerState) (piece next : List ℕ) (tok : Tok) (cut : t.rest ≡ piece ++ next) (q : Position) (gap rest : List ℕ) (place : q ≡ position_after (position_after t.held.position piece next) gap rest) (is_rest : next ≡ gap ++ rest) where
   later : (k : Option Key) → KnowsKey text next t.held.position k → KnowsKey text (gap ++ rest) q k
-  later k n = subst (λ y. KnowsKey text y q k) is_rest (known_over text next t.held.position q k piece gap rest place n)
+  later k n = subst (λ y. KnowsKey text y q k) is_rest (subst (λ x. KnowsKey text next x k) (sym place) (known_past text next (position_after t.held.position piece next) k gap rest (known_past text next t.held.position k piece next n)))
 
   goes_on : not (is_empty piece) ≡ true → is_empty t.rest ≡ false
   goes_on h = some_rest t.rest piece next cut (not-true (is_empty piece) h)

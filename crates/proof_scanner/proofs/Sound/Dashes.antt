@@ -81,14 +81,10 @@ dash_stands text more t a flow keys e gap allowed apart i ds columns_are levels 
 abbrev pub entry_then : ScannerState → Result ScannerState Fault
 entry_then x = try_held remove_implicit_key (roll_entry x) >>= λ y. Ok (on_held (λ s. push s.position Tok.block_entry (allow_key true s)) y)
 
--- the same before them
-abbrev pub entry_on : ScannerState → Result ScannerState Fault
-entry_on v = lexed (space Yes v.rest v.held.position) v.held check_dash >>= λ w. skip_spaces No w >>= entry_then
-
 dash_outside : (text more : List ℕ) (t : ScannerState) (a : ArrivesBy text t [] (None ∷ []) []) → t.held.flow ≡ [] → t.held.keys ≡ None ∷ [] → t.rest ≡ 45 ∷ more → is_at_gap more ≡ true → t.held.key_allowed ≡ true → IsDeep t.held →
     Holds (Stands text) (entry_from t t)
 dash_outside text more t a flow keys e gap allowed deep =
-    subst (λ v. Holds (Stands text) (entry_on v)) (sym (ap (λ x. record { rest = after_first x; held = roll_indent t.held.position.col None Tok.block_sequence_start t.held.position h }) e ∙ ap (λ x. record { rest = more; held = x }) r.is_held))
+    subst (λ (v : ScannerState). Holds (Stands text) (lexed (space Yes v.rest v.held.position) v.held check_dash >>= λ w. skip_spaces No w >>= entry_then)) (sym (ap (λ x. record { rest = after_first x; held = roll_indent t.held.position.col None Tok.block_sequence_start t.held.position h }) e ∙ ap (λ x. record { rest = more; held = x }) r.is_held))
     (chained {P = λ w. (w ≡ past_rest v) × (dash_may_precede more ≡ true)} (rest_read v check_dash _ (λ h. dash_checked more (past_rest v) refl)) (λ w d.
     subst (λ x. Holds (Stands text) (skip_spaces No x >>= entry_then)) (sym d.0)
     (subst (λ r. Holds (Stands text) (r >>= entry_then)) (sym (none_skipped (past_rest v) (past_rest_is_clear more))) (last d.1))))

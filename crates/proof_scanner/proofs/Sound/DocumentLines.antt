@@ -108,14 +108,10 @@ line_stands text t d a r flow keys =
 
 -- ---- in flow
 
--- no key of the entry waits after it, and none may begin
-abbrev pub entry_settled : Entry → Entry
-entry_settled e = record { kind = e.kind; pair = e.pair; had = settled }
-
 line_goes : (text : List ℕ) (t : ScannerState) (d : Read) (f : FlowLevel) (fs : List FlowLevel) (k : Option Key) (ks : List (Option Key)) (e : Entry) (es : List Entry) (a : ArrivesBy text t (f ∷ fs) (k ∷ ks) (e ∷ es)) → IsRead t d → t.held.flow ≡ f ∷ fs → with_top None t.held.keys ≡ None ∷ ks →
     Stands text (line_past t (begun_from t.held) d)
 line_goes text t d f fs k ks e es a r flow keys =
-    goes_inside text t (line_past t (begun_from t.held) d) f f fs k ks e (entry_settled e) es a d.piece (next_of d) d.tok d.gap
+    goes_inside text t (line_past t (begun_from t.held) d) f f fs k ks e (record { kind = e.kind; pair = e.pair; had = settled }) es a d.piece (next_of d) d.tok d.gap
     (line_reads t d (begun_from t.held) _ r refl refl a.blocks_are (r.token.awaits_inside a.site.blocks a.site.awaits (next_of d) ∙ a.awaits_is) a.are_levels a.was_adjacent (refl, refl, refl)) (record {
       flow_is = flow;
       keys_are = keys;
@@ -168,19 +164,15 @@ start_token = record { act = refl; begun = refl; shown = λ s p n. refl; lines =
 abbrev pub start_read : (more : List ℕ) → Position → Read
 start_read more p = record { tok = Tok.document_start; piece = 45 ∷ 45 ∷ 45 ∷ []; gap = []; rest = more; end = past (past (past p)); leading = false }
 
-pub start_is_read : (t : ScannerState) (more : List ℕ) (p : Position) → p ≡ t.held.position → t.rest ≡ 45 ∷ 45 ∷ 45 ∷ more → is_at_gap more ≡ true → t.held.position.col ≡ 0 → IsRead t (start_read more p)
-unfolding is_break
-start_is_read t more p same e gap col = assumption (start_token, ap (λ q. past (past (past q))) same ∙ three_past t.held.position 45 more refl)
-
 -- `---`
 pub document_start_keeps : (text more : List ℕ) (t : ScannerState) → Arrives text t → t.rest ≡ 45 ∷ 45 ∷ 45 ∷ more → is_at_gap more ≡ true → t.held.position.col ≡ 0 → Holds (Stands text) (fetch_document_marker Tok.document_start t)
-unfolding fetch_document_marker
+unfolding fetch_document_marker is_break
 document_start_keeps text more t a e gap col =
     let b : Begins text t = begins text t (ap is_empty e) a in
     chained {P = λ u. (is_required (top_key b.held.keys) ≡ false) × (u ≡ record t { held = begun_from b.held })} (tried t (begin_line t.held) (line_begun t.held b.held b.rolled) (λ h d. (d.0, ap (λ y. record t { held = y }) d.1))) (λ u d.
     went (subst (λ y. Stands text (on_held (push t.held.position Tok.document_start) (skip_indicator (skip_indicator (skip_indicator y))))) (sym d.1)
     (subst (λ r. Stands text (on_held (push t.held.position Tok.document_start) (skip_indicator (skip_indicator (skip_indicator (record { rest = r; held = begun_from b.held })))))) (sym e)
-    (b.stands (start_read more b.held.position) (start_is_read t more b.held.position b.same_position e gap col) d.0))))
+    (b.stands (start_read more b.held.position) (assumption (start_token, e, gap, col, ap (λ q. past (past (past q))) b.same_position ∙ three_past t.held.position 45 more refl)) d.0))))
 
 -- ---- `...`
 

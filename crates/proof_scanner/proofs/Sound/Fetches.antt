@@ -31,11 +31,8 @@ content_kept text t a some =
           (search (anchor_keeps, tag_keeps, plain_keeps, quoted_keeps, block_keeps, dash_keeps, key_keeps, value_keeps, opening_keeps, opening_bracket, opening_brace, closing_keeps, closing_bracket, closing_brace, comma_keeps, refused)) some);
     })
 
--- after a token, or after the stream's end
-abbrev Kept : List ℕ → ScannerState → Type 0
-Kept text t = Stands text t ⊎ ((t.held.ended ≡ true) × IsRead text t.held.tokens × IsAtEnd text t.held)
-
-here_kept : (text : List ℕ) → has_no_nul text ≡ true → (t : ScannerState) → Arrives text t → Holds (Kept text) (fetch_here t)
+-- a token is read, or the stream ends
+here_kept : (text : List ℕ) → has_no_nul text ≡ true → (t : ScannerState) → Arrives text t → Holds (λ u. Stands text u ⊎ ((u.held.ended ≡ true) × IsRead text u.held.tokens × IsAtEnd text u.held)) (fetch_here t)
 unfolding fetch_here
 here_kept text nul t a =
     either (peek t.rest == 0) (λ e.
@@ -45,11 +42,9 @@ here_kept text nul t a =
     let here : t.held.position ≡ position_after first_position text [] = at.is_position ∙ ap (λ b. position_after first_position b []) (sym (append-nil at.before) ∙ sym at.is_text) in
     weakened (λ u x. inr (x.0, x.1, record { began = x.2 ∙ a.started; position = x.3 ∙ ap next_line here })) (stream_ended text t a none)) (λ e. weakened (λ u x. inl x) (content_kept text t a (goes_on_here t.rest e)))
 
-next_kept : (text : List ℕ) → has_no_nul text ≡ true → (t : ScannerState) → Stands text t → Holds (Fares text) (fetch_next t)
-unfolding fetch_next
-next_kept text nul t s = arrived text t (λ v. fetch_here v >>= λ w. try_held stale w) (Fares text) s (λ v a. chained (here_kept text nul v a) (λ w x. fares_stale text w x))
-
 -- Each fetch what holds, if the function of each token it.
 pub fetch_keeps : FetchKeeps
-unfolding fetch
-fetch_keeps text t u nul s e = held_of u (either t.held.started (λ _. next_kept text nul t s) (λ n. absurd (cc (n, s.started)))) e
+unfolding fetch fetch_next
+fetch_keeps text t u nul s e =
+    held_of u (either t.held.started (λ _. arrived text t (λ v. fetch_here v >>= λ w. try_held stale w) (Fares text) s (λ v a. chained (here_kept text nul v a) (λ w x. fares_stale text w x)))
+    (λ n. absurd (cc (n, s.started)))) e

@@ -24,9 +24,6 @@ choices_around (Some level) cs = pop cs
 abbrev pub depth_begun : Option FlowLevel → ℕ → ℕ
 depth_begun level n = depth_past gives_node (with_begun level []) n
 
-pub depth_rises : (level : Option FlowLevel) (n : ℕ) → depth_begun level (suc n) ≡ suc (depth_begun level n)
-depth_rises a n = grind (arith, nat_tests, eqb-true)
-
 -- keys around what it begins wait for a colon after as many closing brackets
 pub keys_around_begun : (level : Option FlowLevel) (p : Position) (ws : List Step) (last bs : List ℕ) (l : Line) (es : List Entry) (ks : List (Option Key)) (ts : List Token) →
     with_keys 0 p ws last bs l (with_begun level es) (with_no_key level ks) ts ≡ with_keys (depth_begun level 0) p ws last bs l es ks ts
@@ -150,7 +147,7 @@ keys_along from to up rise d p q w ws last h bs l (x ∷ es) (k ∷ ks) ts = gri
 -- so it is after a part of a node
 pub keys_past : (kind : Option FlowLevel) (d : ℕ) (p : Position) (w : Step) (ws : List Step) (last : List ℕ) → act_of w.shown ≡ gives_node → begun_by w.shown ≡ with_begun kind [] →
     (bs : List ℕ) (l : Line) (es : List Entry) (ks : List (Option Key)) (ts : List Token) → with_keys d p (w ∷ ws) last bs l es ks ts ≡ with_keys (depth_begun kind d) (past_step p w ws last) ws last bs l es ks ts
-keys_past kind d p w ws last e f bs l es ks ts = keys_along (λ n. n) (depth_begun kind) (λ n. refl) (depth_rises kind) d p (past_step p w ws last) w ws last (λ n. (rw (e, f) refl)) bs l es ks ts
+keys_past kind d p w ws last e f bs l es ks ts = keys_along (λ n. n) (depth_begun kind) (λ n. refl) (λ n. (grind (arith, nat_tests, eqb-true))) d p (past_step p w ws last) w ws last (λ n. (rw (e, f) refl)) bs l es ks ts
 
 -- ---- a key that begins with the last token
 

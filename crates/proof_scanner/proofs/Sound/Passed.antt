@@ -1,5 +1,5 @@
 -- What holds between two fetches still holds at the next token, or at the text's end, with the separation up to there.
-use Rattle.proof_scanner.proofs.Common.{AreLevels, Bool, HasPassed, Held, Holds, Indent, IsLive, IsReadOn, Key, List, MayChoose, None, Ok, Option, Position, Previous, ScannerState, Some, [], another, ap, append-nil, arith, begins_free_line, begins_separation, between, columns, eqb-true, false, has_break, has_open_level, is_blank, is_empty, is_no_comment, is_renewed, is_separation, leading, least_column, nat_tests, or-false, plain_scalar, position_after, refl, same_blank, same_break, separations_are_passed, skip, skip_to_next_token, suc, true, ℕ, ◌++◌, ◌||◌, ◌∙◌, ◌∷◌, ◌≡◌}
+use Rattle.proof_scanner.proofs.Common.{AreLevels, Bool, HasPassed, Held, Holds, IsLive, IsReadOn, Key, List, MayChoose, None, Ok, Option, Position, Previous, ScannerState, Some, [], another, ap, append-nil, arith, begins_free_line, begins_separation, between, columns, eqb-true, false, has_break, has_open_level, is_blank, is_empty, is_no_comment, is_renewed, is_separation, leading, least_column, nat_tests, or-false, plain_scalar, position_after, refl, same_blank, same_break, separations_are_passed, skip, skip_to_next_token, true, ℕ, ◌++◌, ◌||◌, ◌∙◌, ◌∷◌, ◌≡◌}
 use Rattle.proof_lexers.specs.PlainEnds as plain_ends
 use Rattle.proof_scanner.proofs.Cut.Passes.{read_holds}
 use Rattle.proof_scanner.proofs.Sound.Common.{break_append, not_before_after}
@@ -62,9 +62,6 @@ pub read_on_append : (b : Previous) (q : Position) (f g rest rest2 : List ℕ) �
 read_on_append a q f g rest rest2 cut solid r = grind (arith, nat_tests, eqb-true, goes_on)
 
 -- ---- the least column
-
-pub least_of_levels : (i : ℕ) (ds : List Indent) → AreLevels i ds → is_empty ds ≡ false → i ≡ suc (least_column (columns i ds) (has_open_level ds))
-least_of_levels i a b e = grind arith
 
 pub least_is : (bs : List ℕ) (aw : Bool) (s : Held) → bs ≡ columns s.indent s.indents → aw ≡ has_open_level s.indents → AreLevels s.indent s.indents → IsLeast another (least_column bs aw) s
 least_is bs aw s b w a = grind arith

@@ -159,13 +159,10 @@ module _ (text : List ℕ) (t : ScannerState) (a : Arrives text t) (deep : IsDee
         (node_read text t None d deep a (λ fs ks es f r. is_read fs ks es f r))
 
 -- a plain scalar
-pub plain_keeps_by : (text : List ℕ) (t : ScannerState) → IsDeep t.held → comes_plain (in_flow t.held) (t.held.position.index == t.held.adjacent_value_at) t.held.position.col t.rest ≡ true → Arrives text t → Holds (Stands text) (fetch_plain_scalar t)
+pub plain_keeps : (text : List ℕ) (t : ScannerState) (a : Arrives text t) → IsDeep t.held → comes_plain (in_flow t.held) (is_adjacent (before_past (before_by a.base.site.before) a.separation)) t.held.position.col t.rest ≡ true → Holds (Stands text) (fetch_plain_scalar t)
 unfolding fetch_plain_scalar unroll_non_block_indents
-plain_keeps_by text t deep comes a =
+plain_keeps text t a deep there =
+    let comes : comes_plain (in_flow t.held) (t.held.position.index == t.held.adjacent_value_at) t.held.position.col t.rest ≡ true = grind arith in
     subst (λ h. Holds (Stands text) (lexed (plain (context (unroll_non_block_indents (allow_key false h))) t.rest t.held.position) (unroll_non_block_indents (allow_key false h))
     (λ r u. Ok (on_held (λ v. push t.held.position (Tok.scalar Style.plain r.text) (after_plain r.leading v)) u)))) (sym (saved_is t.held))
     (read (unroll_non_block_indents (allow_key false (record t.held { keys = saved_keys t.held }))) (plain (ctx text t a deep comes) t.rest t.held.position) _ (λ x k. went (stands text t a deep comes x k)))
-
--- the same, as the dispatch knows it
-pub plain_keeps : (text : List ℕ) (t : ScannerState) (a : Arrives text t) → IsDeep t.held → comes_plain (in_flow t.held) (is_adjacent (before_past (before_by a.base.site.before) a.separation)) t.held.position.col t.rest ≡ true → Holds (Stands text) (fetch_plain_scalar t)
-plain_keeps text t a deep comes = plain_keeps_by text t deep (grind arith) a

@@ -133,10 +133,6 @@ abbrev pub pair_level : (pair : FlowLevel) → FlowLevel → FlowLevel
 pair_level p InEntry = p
 pair_level p f = f
 
--- the entry after it
-abbrev pub asked_entry : Entry → Entry
-asked_entry e = record { kind = e.kind; pair = pair_past (takes_pair e.kind e.pair) gives_question e.pair; had = settled }
-
 -- what the scanner holds after it
 abbrev pub question_within : ScannerState → (more : List ℕ) → ScannerState
 question_within t more = question_end (record t { held = record t.held { flow = keyed t.held.flow } }) more t.held.indents t.held.indent t.held.tokens
@@ -146,7 +142,7 @@ pub question_inside : (text more : List ℕ) (t : ScannerState) (f : FlowLevel) 
     Stands text (question_within t more)
 unfolding is_break
 question_inside text more t f fs k ks e es a flow keys cut deep begins apart fills =
-    goes_inside text t (question_within t more) f (pair_level Keyed f) fs k ks e (asked_entry e) es a (63 ∷ []) more Tok.key (white_of false more)
+    goes_inside text t (question_within t more) f (pair_level Keyed f) fs k ks e (record { kind = e.kind; pair = pair_past (takes_pair e.kind e.pair) gives_question e.pair; had = settled }) es a (63 ∷ []) more Tok.key (white_of false more)
     (question_reads t (question_within t more) more _ cut refl fills refl refl refl refl a.blocks_are a.awaits_is a.are_levels a.was_adjacent (refl, refl, refl)) (record {
       flow_is = levels;
       keys_are = ap (with_top None) keys;

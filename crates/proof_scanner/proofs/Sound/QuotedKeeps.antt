@@ -74,9 +74,6 @@ module _ (text : List ℕ) (quotes : Quotes) (t : ScannerState) (a : Arrives tex
   k : IsQuotedToken (are_single quotes) tok
   k = grind arith
 
-  pub rest_is_clean : has_no_nul x.rest ≡ true
-  rest_is_clean = no_nul_after piece x.rest (subst (λ r. has_no_nul r ≡ true) q.cut a.is_clean)
-
   module _ (v : ScannerState) (c : Checked piece closed v) where
     abbrev pub spaces : List ℕ
     spaces = c.spaces.blanks ++ c.spaces.comment
@@ -183,7 +180,7 @@ unfolding fetch_flow_scalar
 quoted_keeps text quotes t more e deep a =
     subst (λ h. Holds (Stands text) (lexed (quoted (are_single quotes) (context (allow_key false h)) t.rest t.held.position) (allow_key false h) (after_body quotes t))) (sym (saved_is t.held))
     (read (allow_key false (record t.held { keys = saved_keys t.held })) (quoted (are_single quotes) (context t.held) t.rest t.held.position) (after_body quotes t)
-    (λ x i. (chained (quoted_checked t.held.position (piece_of (are_single quotes) (read_as x i).body) (closed text quotes t a deep x (read_as x i)) (in_line (are_single quotes) (read_as x i).body) (rest_is_clean text quotes t a deep x (read_as x i)) (read_as x i).end_is)
+    (λ x i. (chained (quoted_checked t.held.position (piece_of (are_single quotes) (read_as x i).body) (closed text quotes t a deep x (read_as x i)) (in_line (are_single quotes) (read_as x i).body) (no_nul_after (piece_of (are_single quotes) (read_as x i).body) x.rest (subst (λ r. has_no_nul r ≡ true) (read_as x i).cut a.is_clean)) (read_as x i).end_is)
     (λ v c. chained (both_hold (exact v) (skipped text quotes t a deep x (read_as x i) v c)) (λ w z. went (node text quotes t a deep x (read_as x i) v c w z.0 z.1))))))
   where
     read_as : (x : machine.Read (List ℕ)) → quoted (are_single quotes) (context t.held) t.rest t.held.position ≡ Ok x → QuotedAs (are_single quotes) (context t.held) t.held.position t.rest x

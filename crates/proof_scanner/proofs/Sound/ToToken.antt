@@ -65,10 +65,6 @@ module _ (text : List ℕ) (t u : ScannerState) (s : Stands text t) (begins : be
   live : (x : Key) → IsLive x (position_after t.held.position e.separation u.rest) u.rest → IsLive x t.held.position t.rest
   live x l = live_before_it x t.held.position e.separation t.rest u.rest e.cut l
 
-  -- and then no break was passed
-  none_broken : (x : Key) → outside_key s.base.entries t.held.keys ≡ Some x → IsLive x (position_after t.held.position e.separation u.rest) u.rest → plain_ends.has_break e.separation ≡ false
-  none_broken x k l = grind (arith, nat_tests, eqb-true, not_before_after, same_has_break, unbroken)
-
   now : Stands text Now
   now =
       let carries : IsCarriedOn text ((s.separation ++ e.separation) ++ u.rest) u.rest t.held.keys s.base = λ cs k key m i some. subst (λ r. BeginsButForKey text r k.position (chosen false cs t.held.keys s.base)) (ap (λ r. s.separation ++ r) e.cut ∙ sym (append_assoc s.separation e.separation u.rest)) (s.carries cs k key m i (goes_on e.separation t.rest u.rest e.cut some)) in
@@ -91,7 +87,7 @@ module _ (text : List ℕ) (t u : ScannerState) (s : Stands text t) (begins : be
         (grind arith),
         subst (λ b. IsLine (in_flow t.held) ((not (in_flow t.held) && plain_ends.has_break e.separation) || t.held.key_allowed) b (position_after t.held.position e.separation u.rest) u.rest (outside_key s.base.entries t.held.keys) s.base.line)
         (ap (λ b. begins_free_line s.base.site.before s.separation || b) (same_has_break e.separation) ∙ sym (free_line_append s.base.site.before s.base.site.position s.separation e.separation t.rest u.rest e.cut s.read_on))
-        (line_after (in_flow t.held) t.held.key_allowed (begins_free_line s.base.site.before s.separation) (plain_ends.has_break e.separation) (outside_key s.base.entries t.held.keys) t.held.position (position_after t.held.position e.separation u.rest) t.rest u.rest s.base.line live none_broken s.line_is),
+        (line_after (in_flow t.held) t.held.key_allowed (begins_free_line s.base.site.before s.separation) (plain_ends.has_break e.separation) (outside_key s.base.entries t.held.keys) t.held.position (position_after t.held.position e.separation u.rest) t.rest u.rest s.base.line live (λ x k l. (grind (arith, nat_tests, eqb-true, not_before_after, same_has_break, unbroken))) s.line_is),
         open_after (outside_key s.base.entries t.held.keys) s.base.site.position t.held.position (position_after t.held.position e.separation u.rest) t.rest u.rest s.base.site.blocks live s.is_open,
         adjacent,
         subst (λ n. t.held.adjacent_value_at ≤ n) (sym (index_after t.held.position e.separation u.rest)) (omega (arith, s.adjacent_before)),

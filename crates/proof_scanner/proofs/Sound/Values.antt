@@ -175,11 +175,8 @@ module _ (text more : List ℕ) (t : ScannerState) (k : Key) (a : ArrivesBy text
   abbrev pub keyed_end : ScannerState
   keyed_end = colon_end t more awaiting.indents awaiting.indent now false [] (None ∷ [])
 
-  -- the tokens of the row
-  abbrev row_tokens : Position → List Token
-  row_tokens q = put_key (is_deeper k.position.col a.site.blocks) (put q Tok.block_mapping_start) k.number k.position a.tokens ++ ((ends_at q a.site.blocks (not_ended q.col a.site.blocks) ++ []) ++ (put q Tok.value ∷ []))
-
-  tokens_alike : keyed_end.held.tokens ≡ row_tokens t.held.position
+  tokens_alike : keyed_end.held.tokens ≡
+      put_key (is_deeper k.position.col a.site.blocks) (put t.held.position Tok.block_mapping_start) k.number k.position a.tokens ++ ((ends_at t.held.position a.site.blocks (not_ended t.held.position.col a.site.blocks) ++ []) ++ (put t.held.position Tok.value ∷ []))
   tokens_alike = grind (arith, nat_tests, eqb-true, (sym same_blocks ∙ a.blocks_are), (a.tokens_are ∙ (ap (λ bs. a.tokens ++ ends_at t.held.position a.site.blocks bs) same_blocks ∙ (ap (λ x. a.tokens ++ x) (grind arith) ∙ append-nil a.tokens))), same_blocks)
 
   abbrev outside_after : Outside
