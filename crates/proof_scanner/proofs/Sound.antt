@@ -7,7 +7,6 @@ pub mod ColonSpaces
 pub mod Common
 pub mod Completed
 pub mod CutsSoFar
-pub mod Dashes
 pub mod DocumentLines
 pub mod Fetches
 pub mod FirstTokens
@@ -15,7 +14,6 @@ pub mod FlowMarks
 pub mod InFlow
 pub mod LastLines
 pub mod NodeTokens
-pub mod Openers
 pub mod OutOfFlow
 pub mod OutsidePieces
 pub mod Outsides

@@ -8,13 +8,11 @@ use Rattle.proof_scanner.proofs.Sound.CutsSoFar.{arrives_cut, cut_position}
 use Rattle.proof_scanner.proofs.Sound.Stales.{fares_stale}
 use Rattle.proof_scanner.proofs.Sound.Arriving.{arrived}
 use Rattle.proof_scanner.proofs.Sound.BlockScalars.{block_keeps}
-use Rattle.proof_scanner.proofs.Sound.FlowMarks.{closing_bracket, closing_brace, comma_keeps, closing_keeps}
-use Rattle.proof_scanner.proofs.Sound.Dashes.{dash_keeps}
+use Rattle.proof_scanner.proofs.Sound.FlowMarks.{closing_bracket, closing_brace, comma_keeps, closing_keeps, opening_keeps, opening_bracket, opening_brace}
+use Rattle.proof_scanner.proofs.Sound.Questions.{dash_keeps, key_keeps}
 use Rattle.proof_scanner.proofs.Sound.DocumentLines.{document_start_keeps, document_end_keeps, directive_keeps}
-use Rattle.proof_scanner.proofs.Sound.Openers.{opening_keeps, opening_bracket, opening_brace}
 use Rattle.proof_scanner.proofs.Sound.PlainKeeps.{plain_keeps}
 use Rattle.proof_scanner.proofs.Sound.Properties.{anchor_keeps, tag_keeps}
-use Rattle.proof_scanner.proofs.Sound.Questions.{key_keeps}
 use Rattle.proof_scanner.proofs.Sound.QuotedKeeps.{quoted_keeps}
 use Rattle.proof_scanner.proofs.Sound.Values.{value_keeps}
 

@@ -1,8 +1,12 @@
 -- Commas and closing brackets: what holds where they begin holds between two fetches after them. Outside flow they close nothing.
-use Rattle.proof_scanner.proofs.Common.{[], Act, act_of, adjacent_in_flow, another, ap, append_assoc, AreAround, AreEntries, AreNumbered, arith, Arrives, before_by, before_past, begins_free_line, begins_with, begun_by, begun_outside, blanks_and_comment, Bool, chained, Collection, end_entry, end_flow, ends_at, ends_spaces, entries_by, Entry, eqb-true, false, fetch_flow_collection_end, fetch_flow_entry, first_entry, flow_collection, flow_end, FlowLevel, free, gives_closing, gives_comma, has_no_break, has_no_nul, Held, Holds, is_blank, is_deeper, is_empty, is_in_column, is_renewed, is_required, is_separation, IsAdjacent, IsEntryOf, IsLine, IsPiece, Key, least_for, length, Line, line_past, List, nat_tests, no_nul_after, None, not, on_held, Option, other, outside_key, pair_end, past, past_blanks_and_comment, past_line_rest, pop, Position, Previous, previous_by, push, put, refl, refused, remove_implicit_key, ScannerState, seen, Site, site_here, site_in, Some, Stands, Step, subst, suc, sym, taken, Tok, Token, top_key, tried, true, went, with_keys, with_top, Yes, ℕ, ◌&&◌, ◌++◌, ◌∙◌, ◌∷◌, ◌≡◌, ◌⊎◌}
+use Rattle.proof_scanner.proofs.Common.{[], Act, act_of, adjacent_in_flow, another, ap, append_assoc, AreAround, AreEntries, AreLevels, AreNumbered, arith, Arrives, before_by, before_past, begin_flow, begins_free_line, begins_with, begun_by, begun_outside, blanks_and_comment, Bool, chained, Collection, columns, end_entry, end_flow, ends_at, ends_spaces, entries_by, Entry, eqb-true, false, fetch_flow_collection_end, fetch_flow_collection_start, fetch_flow_entry, first_entry, flow_collection, flow_end, flow_level, flow_start, FlowLevel, free, gives_closing, gives_comma, gives_node, has_no_break, has_no_nul, has_open_level, Held, Holds, if◌then◌else◌, in_block, in_flow, increase_flow_level, Indent, is_blank, is_deeper, is_empty, is_in_column, is_renewed, is_required, is_separation, IsAdjacent, IsEntryOf, IsLine, IsPairOf, IsPiece, Key, least_for, length, level_of, Line, line_past, List, map, Mapping, nat_le, nat_lt, nat_tests, no_nul_after, no_pair, None, not, on_held, Option, other, outside_key, pair_end, past, past_blanks_and_comment, past_line_rest, pop, Position, position_after, position_in_line, Previous, previous_by, push, put, refl, refused, remove_implicit_key, roll_one_col_indent, ScannerState, seen, Site, site_here, site_in, Some, Stands, Step, subst, suc, sym, taken, Tok, Token, top_key, tried, true, went, with_keys, with_top, Yes, ℕ, ◌&&◌, ◌++◌, ◌∙◌, ◌∷◌, ◌≡◌, ◌⊎◌}
 use Rattle.proof_scanner.proofs.Cut.FlowEnds.{adjacent_collection, closed_tokens, ended_is, ended_now, ends_by_comma, ends_mapping, ends_sequence, entered, entry_is, entry_now, IsEndOf}
-use Rattle.proof_scanner.proofs.Sound.Steps.{IsToken, adjacent_kept, by_sides, ArrivesBy, begins_key, deep_for, had_as_it_was, indicator_end, indicator_passed, is_clear, IsDeep, key_gone, keyless, keyless_tokens, keys_along, line_rest_cut, line_rest_fills, line_rest_in_line, line_taken, low_enough, numbered_then, past_it, past_rest_is_clear, past_step, quiet_before, read_outside, reads_in_line, started_tokens, steps_in_flow, tokens_before, with_entries, same_has_break}
+use Rattle.proof_scanner.proofs.Sound.Steps.{adjacent_kept, ArrivesBy, begins_key, by_sides, deep_for, had_as_it_was, indicator_end, indicator_passed, is_clear, IsDeep, IsRead, IsToken, key_gone, keyless, keyless_tokens, keys_along, line_rest_cut, line_rest_fills, line_rest_in_line, line_taken, low_enough, many_around, next_of, node_read, numbered_then, past_it, past_rest_is_clear, past_step, quiet_before, Read, read_outside, reads_before_none, reads_in_line, same_has_break, saved_is, saved_keys, site_of, site_then, started_tokens, state_after, steps_in_flow, tokens_before, with_entries}
 use Rattle.model_scanner.specs.State.{after}
+use Rattle.model_scanner.specs.declared.level.FlowLevel.TheVariants.{Entry as InEntry}
+use Rattle.proof_scanner.proofs.Cut.Flows.{IsOpeningOf, opening_mapping, opening_sequence}
+use Rattle.proof_scanner.specs.StandsInRow.{kind_of}
+use Rattle.std.proofs.lemmas.List.{length-map}
 
 -- whether the innermost collection ends
 abbrev pub act_by : (closes : Bool) → Act
@@ -220,37 +224,129 @@ entry_over s = grind (arith, refused, went, entry_is s s.flow)
 
 -- ---- a comma
 
-comma_stands : (text more : List ℕ) (t : ScannerState) → t.rest ≡ 44 ∷ more → begins_with 35 more ≡ false → IsDeep t.held → Arrives text t → is_required (top_key t.held.keys) ≡ false →
-    Stands text (on_held (push t.held.position Tok.flow_entry) (past_it (record t { held = entry_now t.held.flow t.held }) more))
-comma_stands text more t e hash deep a =
-    by_sides text t (λ u. is_required (top_key u.held.keys) ≡ false → Stands text (on_held (push u.held.position Tok.flow_entry) (past_it (record u { held = entry_now u.held.flow u.held }) more))) a
-    (λ k x n optional. stray_at text more false Tok.flow_entry 44 comma _ (key_gone text _ k x (ap is_empty e) (grind (arith, nat_tests, eqb-true))) refl e hash)
-    (λ f fs k ks y es x optional. closer_stands text more false Tok.flow_entry 44 comma _ f fs k ks y es x deep e hash)
-
 -- `,`
 pub comma_keeps : (text more : List ℕ) (t : ScannerState) → t.rest ≡ 44 ∷ more → IsDeep t.held → Arrives text t → Holds (Stands text) (fetch_flow_entry t)
 unfolding fetch_flow_entry
 comma_keeps text more t e deep a =
     chained {P = λ u. (is_required (top_key t.held.keys) ≡ false) × (u ≡ record t { held = entry_now t.held.flow t.held })} (tried t (end_entry t.held) (entry_over t.held) (λ h d. (d.0, ap (λ y. record t { held = y }) d.1))) (λ u d.
     chained (indicator_passed u more (ap (λ y. after y.rest) d.1 ∙ ap after e)) (λ v w.
-    went (subst (λ y. Stands text (on_held (push t.held.position Tok.flow_entry) y)) (sym (w.0 ∙ ap (λ y. past_it y more) d.1)) (comma_stands text more t e w.1 deep a d.0))))
+    went (subst (λ y. Stands text (on_held (push t.held.position Tok.flow_entry) y)) (sym (w.0 ∙ ap (λ y. past_it y more) d.1))
+    (by_sides text t (λ u. is_required (top_key u.held.keys) ≡ false → Stands text (on_held (push u.held.position Tok.flow_entry) (past_it (record u { held = entry_now u.held.flow u.held }) more))) a
+    (λ k x n optional. stray_at text more false Tok.flow_entry 44 comma _ (key_gone text _ k x (ap is_empty e) (grind (arith, nat_tests, eqb-true))) refl e w.1)
+    (λ f fs k ks y es x optional. closer_stands text more false Tok.flow_entry 44 comma _ f fs k ks y es x deep e w.1) d.0))))
 
 -- ---- a closing bracket
 
-closing_stands : (text more : List ℕ) (tok : Tok) (c : ℕ) → IsCloser true tok c → (t : ScannerState) → t.rest ≡ c ∷ more → begins_with 35 more ≡ false → IsDeep t.held → Arrives text t → is_required (top_key t.held.keys) ≡ false →
-    Stands text (on_held (λ s. push t.held.position tok (adjacent_in_flow s)) (past_it (record t { held = ended_now t.held.flow t.held }) more))
-unfolding adjacent_in_flow
-closing_stands text more tok c i t e hash deep a =
-    by_sides text t (λ u. is_required (top_key u.held.keys) ≡ false → Stands text (on_held (λ s. push u.held.position tok (adjacent_in_flow s)) (past_it (record u { held = ended_now u.held.flow u.held }) more))) a
-    (λ k x n optional. stray_at text more true tok c i _ (key_gone text _ k x (ap is_empty e) (grind (arith, nat_tests, eqb-true))) refl e hash)
-    (λ f fs k ks y es x optional.
-    let now : ScannerState = past_it (record t { held = ended_now (f ∷ fs) (record t.held { flow = f ∷ fs; keys = k ∷ ks }) }) more in
-    subst (λ h. Stands text (record now { held = push t.held.position tok h })) (sym (grind (arith, nat_tests, eqb-true))) (closer_stands text more true tok c i _ f fs k ks y es x deep e hash))
-
 -- `]` or `}`
 pub closing_keeps : (text more : List ℕ) (kind : Collection) (c : ℕ) → IsCloser true (flow_end kind) c → (t : ScannerState) → t.rest ≡ c ∷ more → IsDeep t.held → Arrives text t → Holds (Stands text) (fetch_flow_collection_end kind t)
-unfolding fetch_flow_collection_end
+unfolding fetch_flow_collection_end adjacent_in_flow
 closing_keeps text more kind c k t e deep a =
     chained {P = λ u. (is_required (top_key t.held.keys) ≡ false) × (u ≡ record t { held = ended_now t.held.flow t.held })} (tried t (end_flow t.held) (flow_over t.held) (λ h d. (d.0, ap (λ y. record t { held = y }) d.1))) (λ u d.
     chained (indicator_passed u more (ap (λ y. after y.rest) d.1 ∙ ap after e)) (λ v w.
-    went (subst (λ y. Stands text (on_held (λ s. push t.held.position (flow_end kind) (adjacent_in_flow s)) y)) (sym (w.0 ∙ ap (λ y. past_it y more) d.1)) (closing_stands text more (flow_end kind) c k t e w.1 deep a d.0))))
+    went (subst (λ y. Stands text (on_held (λ s. push t.held.position (flow_end kind) (adjacent_in_flow s)) y)) (sym (w.0 ∙ ap (λ y. past_it y more) d.1))
+    (by_sides text t (λ u. is_required (top_key u.held.keys) ≡ false → Stands text (on_held (λ s. push u.held.position (flow_end kind) (adjacent_in_flow s)) (past_it (record u { held = ended_now u.held.flow u.held }) more))) a
+    (λ o x n optional. stray_at text more true (flow_end kind) c k _ (key_gone text _ o x (ap is_empty e) (grind (arith, nat_tests, eqb-true))) refl e w.1)
+    (λ f fs o ks y es x optional.
+    let now : ScannerState = past_it (record t { held = ended_now (f ∷ fs) (record t.held { flow = f ∷ fs; keys = o ∷ ks }) }) more in
+    subst (λ h. Stands text (record now { held = push t.held.position (flow_end kind) h })) (sym (grind (arith, nat_tests, eqb-true))) (closer_stands text more true (flow_end kind) c k _ f fs o ks y es x deep e w.1)) d.0))))
+
+-- ---- opening brackets: what holds where they begin holds between two fetches after them
+
+-- What is said of an opening bracket.
+pub record IsOpener (lv : FlowLevel) (tok : Tok) (c : ℕ) : Type 0 where
+  pub is_opening : IsOpeningOf tok c
+  pub no_pair_yet : IsPairOf lv no_pair
+  pub token : IsToken tok gives_node (first_entry (kind_of lv) ∷ []) another (λ _ _. true) (λ _ piece next. not (begins_with 35 next)) (λ fl bs b. if fl then b else not (is_empty bs))
+  pub open token use *
+
+pub opening_bracket : IsOpener InEntry Tok.flow_sequence_start 91
+opening_bracket = record { is_opening = opening_sequence; no_pair_yet = refl; token = grind (arith, nat_tests, eqb-true) }
+
+pub opening_brace : IsOpener Mapping Tok.flow_mapping_start 123
+opening_brace = record { is_opening = opening_mapping; no_pair_yet = tt; token = grind (arith, nat_tests, eqb-true) }
+
+-- ---- levels of indentation
+
+-- A level that opens no collection, where one may stand.
+pub record OpensLevel (s u : Held) : Type 0 where
+  pub indents : List Indent
+  pub indent : ℕ
+  pub is_held : u ≡ record s { indents = indents; indent = indent }
+  pub columns_are : columns indent indents ≡ columns s.indent s.indents
+  pub are_levels : AreLevels indent indents
+  pub awaits : has_open_level indents ≡ (if in_flow s then has_open_level s.indents else not (is_empty (columns s.indent s.indents)))
+
+pub opens_level : (s : Held) → AreLevels s.indent s.indents → OpensLevel s (roll_one_col_indent s)
+unfolding roll_one_col_indent in_block
+opens_level s l = grind arith
+
+-- ---- the step
+
+-- what was read
+abbrev pub opener_read : ScannerState → Tok → (c : ℕ) → (more : List ℕ) → List Indent → (indent : ℕ) → Read
+opener_read t tok c more ds i = record {
+  tok = tok;
+  piece = c ∷ [];
+  gap = blanks_and_comment more;
+  rest = past_blanks_and_comment more;
+  end = past_line_rest (past t.held.position) more;
+  indents = ds;
+  indent = i;
+  leading = false;
+  allowed = true;
+  adjacent = t.held.adjacent_value_at;
+}
+
+less : (m n : ℕ) → m ≡ n → nat_le 255 m ≡ false → nat_lt n 255 ≡ true
+less m n same h = grind (arith, nat_tests)
+
+-- with the key that may begin here
+abbrev pub with_key : Held → Held
+with_key s = record s { keys = saved_keys s }
+
+pub opener_is_read : (text more : List ℕ) (lv : FlowLevel) (tok : Tok) (c : ℕ) → IsOpener lv tok c → (t : ScannerState) (u : Held) (r : OpensLevel (with_key t.held) u) → t.rest ≡ c ∷ more → IsDeep t.held → begins_with 35 more ≡ false → nat_le 255 (length t.held.flow) ≡ false →
+    (fs : List FlowLevel) (ks : List (Option Key)) (es : List Entry) → t.held.flow ≡ fs → (a : ArrivesBy text t fs ks es) → IsRead t (Some lv) fs a.site a.line es a.separation (opener_read t tok c more r.indents r.indent)
+opener_is_read text more lv tok c o t u r e deep hash few fs ks es flow a =
+    let d : Read = opener_read t tok c more r.indents r.indent in
+    let fl : Bool = not (is_empty fs) in
+    let x : Site = site_of t fs a.site in
+    let cut : more ≡ next_of d = line_rest_cut more in
+    let stays = ap (λ q. q.line) (sym (position_in_line (past t.held.position) (blanks_and_comment more) [] (line_rest_in_line more))) in
+    record {
+      reads = reads_before_none t (state_after t (Some lv) d) (site_then t fs a.site d) (c ∷ []) (next_of d) d.gap refl (e ∙ ap (λ l. c ∷ l) cut) refl (line_rest_fills more) (line_rest_in_line more) refl
+          (indicator_end t.held.position c more o.is_opening.in_line ∙ ap (λ l. position_after (position_after t.held.position (c ∷ []) l) d.gap d.rest) cut) refl o.previous (a.blocks_are ∙ sym r.columns_are)
+          ((grind (arith, nat_tests, eqb-true)) ∙ (ap (λ b. if fl then b else not (is_empty x.blocks)) a.awaits_is ∙ (ap (λ bs. if fl then has_open_level t.held.indents else not (is_empty bs)) a.blocks_are ∙
+          (ap (λ f. if not (is_empty f) then has_open_level t.held.indents else not (is_empty (columns t.held.indent t.held.indents))) (sym flow) ∙ sym r.awaits)))) r.are_levels a.was_adjacent (refl, refl, refl);
+      act = o.act;
+      begun = o.begun;
+      is_begun = (o.no_pair_yet, omega (arith, stays));
+      shown = λ y. o.shown y (c ∷ []) (next_of d);
+      is_piece = o.is_opening.piece (seen (with_entries a.site a.line es) x a.separation) (next_of d) None
+          (less (length fs) (length (map level_of es)) ((grind (arith, nat_tests, many_around, eqb-true)) ∙ sym (length-map es level_of)) (ap (λ f. nat_le 255 (length f)) (sym flow) ∙ few));
+      is_deep = deep_for fl tok x (o.least x) (rw (a.blocks_are, a.awaits_is) (grind arith));
+      lines_stand = o.lines (least_for tok x) (c ∷ []);
+      precedes = o.precedes fl x.blocks (c ∷ []) (next_of d) ∙ ap (λ l. not (begins_with 35 l)) (sym cut) ∙ ap not hash;
+      allowed_is = refl;
+      one_line = λ _ _. (ap (λ b. not (not b && true)) o.is_opening.in_line, ap (λ b. begins_free_line b d.gap) o.previous ∙ ap not (line_rest_in_line more));
+    }
+
+-- ---- the function of the model that reads an opening bracket keeps what holds where it begins
+
+-- in a flow level more, with these levels of indentation
+abbrev pub begun_now : FlowLevel → Held → List Indent → ℕ → Held
+begun_now lv s ds i = record s { keys = None ∷ saved_keys s; flow = lv ∷ s.flow; key_allowed = true; indents = ds; indent = i }
+
+flow_begun : (kind : Collection) (s : Held) (ds : List Indent) (i : ℕ) → roll_one_col_indent (with_key s) ≡ record (with_key s) { indents = ds; indent = i } → Holds (λ u. (nat_le 255 (length s.flow) ≡ false) × (u ≡ begun_now (flow_level kind) s ds i)) (begin_flow kind s)
+unfolding begin_flow increase_flow_level
+flow_begun kind s ds i rolled = grind (arith, nat_tests, eqb-true, saved_is, refused, went)
+
+-- `[` or `{`
+pub opening_keeps : (text more : List ℕ) (kind : Collection) (c : ℕ) → IsOpener (flow_level kind) (flow_start kind) c → (t : ScannerState) → t.rest ≡ c ∷ more → IsDeep t.held → Arrives text t → Holds (Stands text) (fetch_flow_collection_start kind t)
+unfolding fetch_flow_collection_start
+opening_keeps text more kind c o t e deep a =
+    let r : OpensLevel (with_key t.held) (roll_one_col_indent (with_key t.held)) = opens_level (with_key t.held) a.are_levels in
+    chained {P = λ u. (nat_le 255 (length t.held.flow) ≡ false) × (u ≡ record t { held = begun_now (flow_level kind) t.held r.indents r.indent })}
+    (tried t (begin_flow kind t.held) (flow_begun kind t.held r.indents r.indent r.is_held) (λ h d. (d.0, ap (λ y. record t { held = y }) d.1))) (λ u d.
+    chained (indicator_passed u more (ap (λ y. after y.rest) d.1 ∙ ap after e)) (λ v w.
+    went (subst (λ y. Stands text (on_held (push t.held.position (flow_start kind)) y)) (sym (w.0 ∙ ap (λ y. past_it y more) d.1))
+    (node_read text t (Some (flow_level kind)) (opener_read t (flow_start kind) c more r.indents r.indent) deep a (opener_is_read text more (flow_level kind) (flow_start kind) c o t _ r e deep w.1 d.0)))))
