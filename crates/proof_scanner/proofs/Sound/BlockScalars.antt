@@ -194,9 +194,9 @@ module _ (text : List ℕ) (t : ScannerState) (k : Option Key) (a : ArrivesBy te
     are_numbered = numbered_past text t k a within deep own t.held.key_allowed;
     carries = λ cs x key m inside some. absurd (cc inside);
     knows = knows_saved text t r.piece r.next tok r.is_text end gap rest place (spaces_cut r.next) k a (
-        (subst (λ l. is_separation false a.separation l ≡ true) r.is_text a.is_filled),
-        (ap not is_solid, subst (λ y. IsPiece (seen (with_entries a.site a.line []) y a.separation) r.piece r.next None (shown_position y r.piece tok r.next) tok) (sym same_site) is_piece),
-      ) within deep (ap is_of_node n.act) known;
+      (subst (λ l. is_separation false a.separation l ≡ true) r.is_text a.is_filled),
+      (ap not is_solid, subst (λ y. IsPiece (seen (with_entries a.site a.line []) y a.separation) r.piece r.next None (shown_position y r.piece tok r.next) tok) (sym same_site) is_piece),
+    ) within deep (ap is_of_node n.act) known;
     completes = λ strict c cs may. then_rows strict c cs key_now refl may;
   })
 

@@ -25,7 +25,7 @@ with_sides t fs ks = record t { held = record t.held { flow = fs; keys = ks } }
 pub by_sides : (text : List ℕ) (t : ScannerState) (P : ScannerState → Type 0) → Arrives text t →
     ((k : Option Key) (a : ArrivesBy text (with_sides t [] (k ∷ [])) [] (k ∷ []) []) → KnowsKey text (a.separation ++ t.rest) t.held.position k → P (with_sides t [] (k ∷ []))) →
     ((f : FlowLevel) (fs : List FlowLevel) (k : Option Key) (ks : List (Option Key)) (e : Entry) (es : List Entry) →
-      ArrivesBy text (with_sides t (f ∷ fs) (k ∷ ks)) (f ∷ fs) (k ∷ ks) (e ∷ es) → P (with_sides t (f ∷ fs) (k ∷ ks))) → P t
+    ArrivesBy text (with_sides t (f ∷ fs) (k ∷ ks)) (f ∷ fs) (k ∷ ks) (e ∷ es) → P (with_sides t (f ∷ fs) (k ∷ ks))) → P t
 by_sides text t P a outer inner = by t.held.flow t.held.keys a.base.entries (record { site = a.base.site; line = a.base.line; known = a.known; knows = λ _. a.knows }) a.knows
   where
     by : (fs : List FlowLevel) (ks : List (Option Key)) (es : List Entry) (p : ArrivesBy text (with_sides t fs ks) fs ks es) → KnowsKey text (p.separation ++ t.rest) t.held.position (outside_key es ks) →

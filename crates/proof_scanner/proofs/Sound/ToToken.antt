@@ -69,12 +69,12 @@ module _ (text : List ℕ) (t u : ScannerState) (s : Stands text t) (begins : be
   now =
       let carries : IsCarriedOn text ((s.separation ++ e.separation) ++ u.rest) u.rest t.held.keys s.base = λ cs k key m i some. subst (λ r. BeginsButForKey text r k.position (chosen false cs t.held.keys s.base)) (ap (λ r. s.separation ++ r) e.cut ∙ sym (append_assoc s.separation e.separation u.rest)) (s.carries cs k key m i (goes_on e.separation t.rest u.rest e.cut some)) in
       let completes : (strict x : Bool) (cs : List Bool) → MayChoose strict x (outside_key s.base.entries t.held.keys) Now.held.position u.rest →
-          SoFar strict text ((s.separation ++ e.separation) ++ u.rest) (chosen x cs t.held.keys s.base) (tokens_up_to (chosen x cs t.held.keys s.base) t.held.keys t.held.tokens) = λ strict x cs may. subst (λ r. SoFar strict text r (chosen x cs t.held.keys s.base) (tokens_up_to (chosen x cs t.held.keys s.base) t.held.keys t.held.tokens))
-        (ap (λ r. s.separation ++ r) e.cut ∙ sym (append_assoc s.separation e.separation u.rest))
-        (s.completes strict x cs (may_before strict x (outside_key s.base.entries t.held.keys) t.held.position e.separation t.rest u.rest e.cut may)) in
+      SoFar strict text ((s.separation ++ e.separation) ++ u.rest) (chosen x cs t.held.keys s.base) (tokens_up_to (chosen x cs t.held.keys s.base) t.held.keys t.held.tokens) = λ strict x cs may. subst (λ r. SoFar strict text r (chosen x cs t.held.keys s.base) (tokens_up_to (chosen x cs t.held.keys s.base) t.held.keys t.held.tokens))
+      (ap (λ r. s.separation ++ r) e.cut ∙ sym (append_assoc s.separation e.separation u.rest))
+      (s.completes strict x cs (may_before strict x (outside_key s.base.entries t.held.keys) t.held.position e.separation t.rest u.rest e.cut may)) in
       let leads : IsLeading e.is_leading s.base.site (s.separation ++ e.separation) u.rest = λ blocks some comment. sym (ap (λ y. y.held.leading) e.is_state) ∙ (at some).leading_is (grind arith) in
       let adjacent : is_empty t.held.flow ≡ false → IsAdjacent (before_past (before_by s.base.site.before) (s.separation ++ e.separation)) Now.held.position t.held.adjacent_value_at u.rest = λ fl. subst (λ b. IsAdjacent b (position_after t.held.position e.separation u.rest) t.held.adjacent_value_at u.rest) (before_both (before_by s.base.site.before) s.separation e.separation)
-        (adjacent_filled (before_past (before_by s.base.site.before) s.separation) t.held.position t.held.adjacent_value_at t.rest e.separation u.rest e.cut e.is_filled (s.was_adjacent fl)) in
+      (adjacent_filled (before_past (before_by s.base.site.before) s.separation) t.held.position t.held.adjacent_value_at t.rest e.separation u.rest e.cut e.is_filled (s.was_adjacent fl)) in
       stands_by text Now t.held.flow t.held.keys s.base refl refl (search (
         separation_append false s.separation e.separation u.rest (subst (λ r. is_separation false s.separation r ≡ true) e.cut s.is_filled) e.is_filled,
         no_nul_after e.separation u.rest (subst (λ r. has_no_nul r ≡ true) e.cut s.is_clean),
@@ -83,21 +83,20 @@ module _ (text : List ℕ) (t u : ScannerState) (s : Stands text t) (begins : be
         leads,
         read_on_append s.base.site.before s.base.site.position s.separation e.separation t.rest u.rest e.cut e.solid s.read_on,
         subst (λ b. AreEntries ((not (in_flow t.held) && plain_ends.has_break e.separation) || t.held.key_allowed) b t.held.flow t.held.keys s.base.entries)
-        (sym (renewed_alike s.base.site.before s.base.site.position s.separation e.separation t.rest u.rest e.cut e.is_filled s.read_on))
-        (grind arith),
+            (sym (renewed_alike s.base.site.before s.base.site.position s.separation e.separation t.rest u.rest e.cut e.is_filled s.read_on))
+            (grind arith),
         subst (λ b. IsLine (in_flow t.held) ((not (in_flow t.held) && plain_ends.has_break e.separation) || t.held.key_allowed) b (position_after t.held.position e.separation u.rest) u.rest (outside_key s.base.entries t.held.keys) s.base.line)
-        (ap (λ b. begins_free_line s.base.site.before s.separation || b) (same_has_break e.separation) ∙ sym (free_line_append s.base.site.before s.base.site.position s.separation e.separation t.rest u.rest e.cut s.read_on))
-        (line_after (in_flow t.held) t.held.key_allowed (begins_free_line s.base.site.before s.separation) (plain_ends.has_break e.separation) (outside_key s.base.entries t.held.keys) t.held.position (position_after t.held.position e.separation u.rest) t.rest u.rest s.base.line live (λ x k l. (grind (arith, nat_tests, eqb-true, not_before_after, same_has_break, unbroken))) s.line_is),
+            (ap (λ b. begins_free_line s.base.site.before s.separation || b) (same_has_break e.separation) ∙ sym (free_line_append s.base.site.before s.base.site.position s.separation e.separation t.rest u.rest e.cut s.read_on))
+            (line_after (in_flow t.held) t.held.key_allowed (begins_free_line s.base.site.before s.separation) (plain_ends.has_break e.separation) (outside_key s.base.entries t.held.keys) t.held.position (position_after t.held.position e.separation u.rest) t.rest u.rest s.base.line live (λ x k l. (grind (arith, nat_tests, eqb-true, not_before_after, same_has_break, unbroken))) s.line_is),
         open_after (outside_key s.base.entries t.held.keys) s.base.site.position t.held.position (position_after t.held.position e.separation u.rest) t.rest u.rest s.base.site.blocks live s.is_open,
         adjacent,
         subst (λ n. t.held.adjacent_value_at ≤ n) (sym (index_after t.held.position e.separation u.rest)) (omega (arith, s.adjacent_before)),
         carries,
         subst (λ r. KnowsKey text r (position_after t.held.position e.separation u.rest) (outside_key s.base.entries t.held.keys)) (ap (λ r. s.separation ++ r) e.cut ∙ sym (append_assoc s.separation e.separation u.rest))
-        (known_past text (s.separation ++ t.rest) t.held.position (outside_key s.base.entries t.held.keys) e.separation u.rest s.knows),
+            (known_past text (s.separation ++ t.rest) t.held.position (outside_key s.base.entries t.held.keys) e.separation u.rest s.knows),
         completes,
         s,
       ))
-
 
 -- At the next token, or at the text's end, what holds between two fetches holds.
 pub passed_stands : (text : List ℕ) (t : ScannerState) → Stands text t → Holds (λ u. Stands text u × (begins_separation u.rest ≡ false)) (skip_to_next_token t)
