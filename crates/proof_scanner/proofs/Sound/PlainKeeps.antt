@@ -1,5 +1,5 @@
 -- Plain scalars: what holds between two fetches holds after them.
-use Rattle.proof_scanner.proofs.Common.{Arrives, Bool, Context, Entry, FlowLevel, HasNoTabs, Held, Holds, IsPiece, IsPlainRead, Key, Levels, List, None, Ok, Option, Plain, Position, ScannerState, Site, Some, Stands, Style, Tok, [], after_plain, allow_key, and_parts, ap, arith, awaits_past, before_by, before_past, begins_plain, begins_separation, begins_solid, begins_white, collection_column, collection_of, comes_plain, context, ends_with_content, eqb-true, false, fetch_plain_scalar, has_break, has_dash_before_flow, has_no_nul, has_open_level, in_flow, innermost, innermost_column, is_adjacent, is_blank, is_break, is_deep_enough, is_empty, is_gap, is_indented, is_no_comment, is_one_of, is_renewed, is_white, is_whole_plain, leading, least_column, lexed, map, nat_tests, not, on_held, other, plain_lines_fit, plain_scalar, plain_value, position_after, position_append, push, read, read_as, refl, scans_end, seen, subst, sym, true, unroll_non_block_indents, went, whole_plain, without_open, ℕ, ◌&&◌, ◌++◌, ◌==◌, ◌∙◌, ◌∷◌, ◌≡◌, ◌≤◌}
+use Rattle.proof_scanner.proofs.Common.{Arrives, Bool, Context, Entry, FlowLevel, HasNoTabs, Holds, IsPiece, IsPlainRead, Key, Levels, List, None, Ok, Option, Plain, Position, ScannerState, Site, Some, Stands, Style, Tok, [], after_plain, allow_key, and_parts, ap, arith, awaits_past, before_by, before_past, begins_plain, begins_separation, begins_solid, begins_white, collection_column, collection_of, comes_plain, context, ends_with_content, eqb-true, false, fetch_plain_scalar, has_break, has_dash_before_flow, has_no_nul, has_open_level, in_flow, innermost, innermost_column, is_adjacent, is_blank, is_break, is_deep_enough, is_empty, is_gap, is_indented, is_no_comment, is_one_of, is_renewed, is_white, is_whole_plain, leading, least_column, lexed, map, nat_tests, not, on_held, other, plain_lines_fit, plain_scalar, plain_value, position_after, position_append, push, read, read_as, refl, scans_end, seen, subst, sym, true, unroll_non_block_indents, went, whole_plain, without_open, ℕ, ◌&&◌, ◌++◌, ◌==◌, ◌∙◌, ◌∷◌, ◌≡◌, ◌≤◌, put}
 use Rattle.defs_token.specs.Account.{Account as PieceAccount, is_in_flow}
 use Rattle.model_scanner.specs.Machine as machine
 use Rattle.model_scanner.specs.Plain.{plain}
@@ -143,19 +143,9 @@ module _ (text : List ℕ) (t : ScannerState) (a : Arrives text t) (deep : IsDee
           let further : plain_lines_fit (least_column at.blocks true) q.piece ≡ true = ap (λ n. plain_lines_fit n q.piece) least_here ∙ q.fits.lines in
           assumption (q, closed, (whole_solid ctx.flow (collection_of ctx.indent) q.piece (q.gap ++ x.rest) q.whole), far, filled, (r.blocks_are ∙ closed.same_columns), awaits_then, no_tabs, piece_is, deep_by fl (sym (ap (λ f. not (is_empty f)) flow)), further, (ap not (ap (λ y. y && has_dash_before_flow q.piece (next_of d)) (sym (ap (λ f. not (is_empty f)) flow)) ∙ q.fits.dash)), allowed_by fl, one_line_of)
 
-    abbrev pub scalar_held : Held
-    scalar_held = record t.held {
-      position = x.position;
-      keys = saved_keys t.held;
-      indents = gone.indents;
-      indent = gone.indent;
-      tokens = gone.tokens;
-      key_allowed = false;
-    }
-
-    pub stands : Stands text (record { rest = x.rest; held = push t.held.position tok (after_plain x.value.leading scalar_held) })
+    pub stands : Stands text (record (state_after t None d) { held = record (state_after t None d).held { tokens = gone.tokens ++ put t.held.position tok ∷ [] } })
     stands =
-        subst (λ ts. Stands text (record { rest = x.rest; held = push t.held.position tok (after_plain x.value.leading (record scalar_held { tokens = ts })) })) (sym closed.same_tokens)
+        subst (λ ts. Stands text (record (state_after t None d) { held = record (state_after t None d).held { tokens = ts ++ put t.held.position tok ∷ [] } })) (sym closed.same_tokens)
         (node_read text t None d deep a (λ fs ks es f r. is_read fs ks es f r))
 
 -- a plain scalar

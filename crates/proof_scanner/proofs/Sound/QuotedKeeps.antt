@@ -1,5 +1,5 @@
 -- Quoted scalars: what holds between two fetches holds after them.
-use Rattle.proof_scanner.proofs.Common.{list_all, is_some, Arrives, Bool, Context, Entry, Fault, FlowLevel, HasNoTabs, Held, Holds, IsPiece, IsQuotedRead, Key, List, None, Ok, Option, Position, Quotes, Result, ScannerState, Site, Some, Stands, Tok, [], adjacent_here, allow_key, and_parts, ap, append_assoc, append_cancel_right, are_single, arith, begins_with, between, both_hold, chained, check_after_quoted, columns, context, element_of, ends_before, false, fetch_flow_scalar, gives_node, go_on, has_break, has_no_nul, has_open_level, in_flow, inr, is_break, is_empty, is_nul, is_separation, least_column, lexed, no_nul_after, not, not-true, on_held, position_after, position_append, push, quote_of, quoted, quoted_lines_fit, quoted_may_end, quoted_scalar, quoted_style, read, read_as, refl, skip_to_next_token, subst, sym, true, unled, value_of, went, ℕ, ◌&&◌, ◌++◌, ◌-◌, ◌>>=◌, ◌||◌, ◌∙◌, ◌∷◌, ◌≡◌, ◌≤◌, eqb-true, nat_tests}
+use Rattle.proof_scanner.proofs.Common.{list_all, is_some, Arrives, Bool, Context, Entry, FlowLevel, HasNoTabs, Held, Holds, IsPiece, IsQuotedRead, Key, List, None, Ok, Option, Position, Quotes, ScannerState, Site, Some, Stands, Tok, [], adjacent_here, allow_key, and_parts, ap, append_assoc, append_cancel_right, are_single, arith, begins_with, between, both_hold, chained, check_after_quoted, columns, context, element_of, ends_before, false, fetch_flow_scalar, gives_node, go_on, has_break, has_no_nul, has_open_level, in_flow, inr, is_break, is_empty, is_nul, is_separation, least_column, lexed, no_nul_after, not, not-true, on_held, position_after, position_append, push, quote_of, quoted, quoted_lines_fit, quoted_may_end, quoted_scalar, quoted_style, read, read_as, refl, skip_to_next_token, subst, sym, true, unled, value_of, went, ℕ, ◌&&◌, ◌++◌, ◌-◌, ◌>>=◌, ◌||◌, ◌∙◌, ◌∷◌, ◌≡◌, ◌≤◌, eqb-true, nat_tests}
 use Rattle.defs_token.specs.Account.{Account as PieceAccount}
 use Rattle.model_scanner.specs.Machine as machine
 use Rattle.proof_lexers.specs.PlainEnds as plains
@@ -167,19 +167,15 @@ module _ (text : List ℕ) (quotes : Quotes) (t : ScannerState) (a : Arrives tex
       node = subst (λ h. Stands text (on_held (λ s. push t.held.position tok (adjacent_here s)) (record { rest = w.rest; held = h }))) (sym held_is)
           (node_read text t None d deep a is_read)
 
--- what the model does after the closing quote
-abbrev pub after_body : Quotes → ScannerState → List ℕ → ScannerState → Result ScannerState Fault
-after_body quotes t x u =
-    check_after_quoted t.held.position.line (on_held unled u) >>= λ v.
-    skip_to_next_token v >>= λ w.
-    Ok (on_held (λ s. push t.held.position (Tok.scalar (quoted_style quotes) x) (adjacent_here s)) w)
-
 -- `'` or `"`
 pub quoted_keeps : (text : List ℕ) (quotes : Quotes) (t : ScannerState) (more : List ℕ) → t.rest ≡ quote_of (are_single quotes) ∷ more → IsDeep t.held → Arrives text t → Holds (Stands text) (fetch_flow_scalar quotes t)
 unfolding fetch_flow_scalar
 quoted_keeps text quotes t more e deep a =
-    subst (λ h. Holds (Stands text) (lexed (quoted (are_single quotes) (context (allow_key false h)) t.rest t.held.position) (allow_key false h) (after_body quotes t))) (sym (saved_is t.held))
-    (read (allow_key false (record t.held { keys = saved_keys t.held })) (quoted (are_single quotes) (context t.held) t.rest t.held.position) (after_body quotes t)
+    subst (λ h. Holds (Stands text) (lexed (quoted (are_single quotes) (context (allow_key false h)) t.rest t.held.position) (allow_key false h) (λ x u.
+    check_after_quoted t.held.position.line (on_held unled u) >>= λ v.
+    skip_to_next_token v >>= λ w.
+    Ok (on_held (λ s. push t.held.position (Tok.scalar (quoted_style quotes) x) (adjacent_here s)) w)))) (sym (saved_is t.held))
+    (read (allow_key false (record t.held { keys = saved_keys t.held })) (quoted (are_single quotes) (context t.held) t.rest t.held.position) _
     (λ x i. (chained (quoted_checked t.held.position (piece_of (are_single quotes) (read_as x i).body) (closed text quotes t a deep x (read_as x i)) (in_line (are_single quotes) (read_as x i).body) (no_nul_after (piece_of (are_single quotes) (read_as x i).body) x.rest (subst (λ r. has_no_nul r ≡ true) (read_as x i).cut a.is_clean)) (read_as x i).end_is)
     (λ v c. chained (both_hold (exact v) (skipped text quotes t a deep x (read_as x i) v c)) (λ w z. went (node text quotes t a deep x (read_as x i) v c w z.0 z.1))))))
   where
