@@ -102,8 +102,6 @@ module _ (text : List ℕ) (t : ScannerState) (some : is_empty t.rest ≡ false)
 
 -- ---- a row of a text goes through each place that a way leads to, at an account that is like the way's; and so through the place after a step that was read there
 
--- ---- rows as ways
-
 -- Where the steps of a row lead.
 record RowEnd (o : Option Account) (ws : List Step) (last : List ℕ) : Type 0 where
   account : Account

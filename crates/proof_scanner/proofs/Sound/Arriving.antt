@@ -78,8 +78,6 @@ levels_end p i (d ∷ ds) ts a = by d.needs_block_end refl a.0
 
 -- ---- from what holds between two fetches to what holds where the next piece begins, or at the text's end
 
--- ---- what may begin here
-
 -- the line at the piece
 abbrev here_by : (fl broken : Bool) → Line → Line
 here_by true broken l = taken

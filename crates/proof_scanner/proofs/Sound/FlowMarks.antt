@@ -75,8 +75,6 @@ stray_at text more closes tok c k t a keys e hash =
 
 -- ---- commas and closing brackets in flow: the entry ends, and with it a single pair
 
--- ---- what the model leaves
-
 -- where a colon may stand next
 abbrev pub adjacent_then : (closes : Bool) → List FlowLevel → (old new : ℕ) → ℕ
 adjacent_then true [] old new = old
@@ -210,8 +208,6 @@ module _ (text more : List ℕ) (closes : Bool) (tok : Tok) (c : ℕ) (i : IsClo
       })
 
 -- ---- the functions of the model that read commas and closing brackets keep what holds where they begin
-
--- ---- what the model leaves
 
 -- the innermost key need not be one
 pub flow_over : (s : Held) → Holds (λ u. (is_required (top_key s.keys) ≡ false) × (u ≡ ended_now s.flow s)) (end_flow s)

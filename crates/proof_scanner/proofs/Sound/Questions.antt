@@ -128,8 +128,6 @@ dash_keeps text more t a e gap deep =
 
 -- ---- the function of the model that reads a `?`: what holds where it begins holds between two fetches after it
 
--- ---- what is read after it
-
 no_tab_taken : (n : ℕ) (l : List ℕ) → is_one_of l 9 ≡ false → is_one_of (take n l) 9 ≡ false
 no_tab_taken zero l h = refl
 no_tab_taken (suc n) [] h = refl
