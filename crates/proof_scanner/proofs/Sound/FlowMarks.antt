@@ -10,13 +10,11 @@ use Rattle.std.proofs.lemmas.List.{length-map}
 
 -- whether the innermost collection ends
 abbrev pub act_by : (closes : Bool) → Act
-act_by true = gives_closing
-act_by false = gives_comma
+act_by closes = (if closes then gives_closing else gives_comma)
 
 -- what the last piece was, after one
 abbrev pub previous_of : (closes : Bool) → Previous
-previous_of true = flow_collection
-previous_of false = another
+previous_of closes = (if closes then flow_collection else another)
 
 -- What is said of a closing bracket or a comma.
 pub record IsCloser (closes : Bool) (tok : Tok) (c : ℕ) : Type 0 where
@@ -40,8 +38,7 @@ is_previous a e = grind (arith, nat_tests, eqb-true)
 
 -- what may begin after it
 abbrev pub line_then : (closes : Bool) → Line
-line_then true = taken
-line_then false = free
+line_then closes = (if closes then taken else free)
 
 -- the scanner after a stray one
 abbrev pub stray_past : (closes : Bool) → ScannerState → Tok → (more : List ℕ) → ScannerState
@@ -83,23 +80,19 @@ adjacent_then false fs old new = old
 
 -- the flow levels after it
 abbrev pub levels_then : (closes : Bool) → FlowLevel → List FlowLevel → List FlowLevel
-levels_then true f fs = fs
-levels_then false f fs = entered (f ∷ fs)
+levels_then closes f fs = (if closes then fs else entered (f ∷ fs))
 
 -- the entries after it: those around, and after a comma the next one
 abbrev pub entries_after : (closes : Bool) → Entry → List Entry → List Entry
-entries_after true e es = es
-entries_after false e es = first_entry e.kind ∷ es
+entries_after closes e es = (if closes then es else first_entry e.kind ∷ es)
 
 -- the open keys after it, from those around
 abbrev pub keys_by : (closes : Bool) → List (Option Key) → List (Option Key)
-keys_by true ks = ks
-keys_by false ks = None ∷ ks
+keys_by closes ks = (if closes then ks else None ∷ ks)
 
 -- the choices for the entries around, from those after it
 abbrev pub choices_by : (closes : Bool) → List Bool → List Bool
-choices_by true cs = cs
-choices_by false cs = pop cs
+choices_by closes cs = (if closes then cs else pop cs)
 
 -- ---- the tokens of keys around it
 

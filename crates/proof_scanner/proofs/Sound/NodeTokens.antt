@@ -1,5 +1,5 @@
 -- What a part of a node begins: an opening bracket the first entry of a collection, other pieces nothing.
-use Rattle.proof_scanner.proofs.Common.{[], Account, act_of, ap, append_assoc, AreNumbered, arith, begun_by, Bool, Colon, colon_of, depth_past, ends_at, entries_by, entries_past, Entry, entry_by, eqb-true, false, filled, first_entry, flow_mapping_start, FlowLevel, gives_node, Had, had_by, HasHadHere, insert, is_keyed, is_waiting, IsLineHere, IsLive, Key, key, key_tokens, length, level_of, Line, line_by, line_past, List, map, MayChoose, nat_tests, None, Option, pair_position, pop, Position, position_after, put, put_if, put_key, refl, shown_position, Site, site_here, Some, spelled, Step, suc, sym, taken, takes_pair, Tok, Token, tokens_at, tokens_of_step, tokens_up_to, true, with_had, with_keys, with_line, zero, ℕ, ◌&&◌, ◌++◌, ◌∙◌, ◌∷◌, ◌≡◌, ◌≤◌}
+use Rattle.proof_scanner.proofs.Common.{if◌then◌else◌, [], Account, act_of, ap, append_assoc, AreNumbered, arith, begun_by, Bool, Colon, colon_of, depth_past, ends_at, entries_by, entries_past, Entry, entry_by, eqb-true, false, filled, first_entry, flow_mapping_start, FlowLevel, gives_node, Had, had_by, HasHadHere, insert, is_keyed, is_waiting, IsLineHere, IsLive, Key, key, key_tokens, length, level_of, Line, line_by, line_past, List, map, MayChoose, nat_tests, None, Option, pair_position, pop, Position, position_after, put, put_if, put_key, refl, shown_position, Site, site_here, Some, spelled, Step, suc, sym, taken, takes_pair, Tok, Token, tokens_at, tokens_of_step, tokens_up_to, true, with_had, with_keys, with_line, zero, ℕ, ◌&&◌, ◌++◌, ◌∙◌, ◌∷◌, ◌≡◌, ◌≤◌}
 use Rattle.proof_scanner.specs.StandsInRow.{kind_of}
 use Rattle.std.proofs.lemmas.List.Edits.{insert-append_left}
 use Rattle.proof_scanner.proofs.Sound.Sides.{with_entries}
@@ -41,23 +41,19 @@ begun_numbered level many ks h = grind arith
 
 -- the open key after a node's start: the new one, where one may begin
 abbrev pub saved : (allowed : Bool) → (new : Key) → Option Key → Option Key
-saved true new k = Some new
-saved false new k = k
+saved allowed new k = (if allowed then Some new else k)
 
 -- the choice before it: a key that may begin here was none before
 abbrev pub choice_before : (allowed after : Bool) → Bool
-choice_before true c = false
-choice_before false c = c
+choice_before allowed c = (if allowed then false else c)
 
 -- the bit of the step
 abbrev pub bit_of : (allowed after : Bool) → Bool
-bit_of true c = c
-bit_of false c = false
+bit_of allowed c = (if allowed then c else false)
 
 -- what an entry has had after a node that is no key
 abbrev pub had_past_node : (allowed : Bool) → Had → Had
-had_past_node true h = filled
-had_past_node false h = h
+had_past_node allowed h = (if allowed then filled else h)
 
 -- the entry after a node that is no key
 abbrev pub entry_past_node : (allowed : Bool) → Entry → Entry
