@@ -80,9 +80,7 @@ levels_end p i (d ∷ ds) ts a = by d.needs_block_end refl a.0
 
 -- the line at the piece
 abbrev here_by : (fl broken : Bool) → Line → Line
-here_by true broken l = taken
-here_by false true l = free
-here_by false false l = l
+here_by fl broken l = (if fl then taken else (if broken then free else l))
 
 past_line : (fl broken allowed : Bool) (p : Position) (rest : List ℕ) (k : Option Key) (l : Line) → IsLine fl allowed broken p rest k l → line_past_separation fl broken l ≡ Some (here_by fl broken l)
 past_line a b allowed p rest k l h = grind arith

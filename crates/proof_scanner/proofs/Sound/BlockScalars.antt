@@ -160,12 +160,9 @@ module _ (text : List ℕ) (t : ScannerState) (k : Option Key) (a : ArrivesBy te
   then_rows strict c cs None e may = grind (arith, nat_tests, eqb-true, line_by_allowed, rows)
   then_rows true true cs (Some y) e may = absurd (dead y (before_it y e) may)
   then_rows false true cs (Some y) e may = absurd may
-  then_rows true false cs (Some y) e may =
-      let q = line_by_allowed true t.held.key_allowed k refl refl (subst (λ o. MayChoose true false o end rest) (sym e) may) in
-      rows true q.0 q.1
-  then_rows false false cs (Some y) e may =
-      let q = line_by_allowed false t.held.key_allowed k refl refl (subst (λ o. MayChoose false false o end rest) (sym e) tt) in
-      rows false q.0 q.1
+  then_rows strict false cs (Some y) e may =
+      let q = line_by_allowed strict t.held.key_allowed k refl refl (subst (λ o. MayChoose strict false o end rest) (sym e) may) in
+      rows strict q.0 q.1
 
   taken_by : (y : Option Key) → key_now ≡ y → IsTakenBy true end rest y free
   taken_by None e = tt

@@ -74,9 +74,7 @@ stray_at text more closes tok c k t a keys e hash =
 
 -- where a colon may stand next
 abbrev pub adjacent_then : (closes : Bool) → List FlowLevel → (old new : ℕ) → ℕ
-adjacent_then true [] old new = old
-adjacent_then true (f ∷ fs) old new = new
-adjacent_then false fs old new = old
+adjacent_then closes fs old new = (if closes && not (is_empty fs) then new else old)
 
 -- the flow levels after it
 abbrev pub levels_then : (closes : Bool) → FlowLevel → List FlowLevel → List FlowLevel

@@ -159,8 +159,7 @@ key_between a p start here ts us = grind (arith, nat_tests, eqb-true, insert_bet
 
 -- the key of a step in flow, if one begins with it
 abbrev pub key_inside : (bit single : Bool) → Site → Colon → List Token
-key_inside true single at c = key_tokens single (pair_position c.past c.next) flow_mapping_start at.position
-key_inside false single at c = []
+key_inside bit single at c = (if bit then key_tokens single (pair_position c.past c.next) flow_mapping_start at.position else [])
 
 -- ---- a part of a node in flow, be it an opening bracket or no collection: its tokens, and where a key that begins with it goes in
 
