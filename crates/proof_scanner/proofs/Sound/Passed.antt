@@ -1,5 +1,5 @@
 -- What holds between two fetches still holds at the next token, or at the text's end, with the separation up to there.
-use Rattle.proof_scanner.proofs.Common.{AreLevels, Bool, HasPassed, Held, Holds, IsLive, IsReadOn, Key, List, MayChoose, None, Ok, Option, Position, Previous, ScannerState, Some, [], another, ap, append-nil, arith, begins_free_line, begins_separation, between, columns, eqb-true, false, has_break, has_open_level, is_blank, is_empty, is_no_comment, is_renewed, is_separation, leading, least_column, nat_tests, or-false, plain_scalar, position_after, refl, same_blank, same_break, separations_are_passed, skip, skip_to_next_token, true, ℕ, ◌++◌, ◌||◌, ◌∙◌, ◌∷◌, ◌≡◌}
+use Rattle.proof_scanner.proofs.Common.{AreLevels, Bool, HasPassed, Held, Holds, IsLive, IsReadOn, Key, List, MayChoose, Ok, Option, Position, Previous, ScannerState, Some, [], another, ap, append-nil, arith, begins_free_line, begins_separation, between, columns, eqb-true, false, has_break, has_open_level, is_blank, is_empty, is_no_comment, is_renewed, is_separation, leading, least_column, nat_tests, or-false, plain_scalar, position_after, refl, same_blank, same_break, separations_are_passed, skip, skip_to_next_token, true, ℕ, ◌++◌, ◌||◌, ◌∙◌, ◌∷◌, ◌≡◌}
 use Rattle.proof_lexers.specs.PlainEnds as plain_ends
 use Rattle.proof_scanner.proofs.Cut.Passes.{read_holds}
 use Rattle.proof_scanner.proofs.Sound.Common.{break_append, not_before_after}
@@ -32,10 +32,8 @@ pub live_before_it : (k : Key) (p : Position) (g rest rest2 : List ℕ) → rest
 live_before_it k p g rest rest2 e l = (omega (arith, (not_before_after p g rest2).0, l.0), (goes_on g rest rest2 e l.1))
 
 pub may_before : (strict c : Bool) (k : Option Key) (p : Position) (g rest rest2 : List ℕ) → rest ≡ g ++ rest2 → MayChoose strict c k (position_after p g rest2) rest2 → MayChoose strict c k p rest
-may_before strict c None p g rest rest2 e m = tt
 may_before true true (Some k) p g rest rest2 e m = live_before_it k p g rest rest2 e m
-may_before true false (Some k) p g rest rest2 e m = m
-may_before false a (Some k) p g rest rest2 e m = grind arith
+may_before strict c k p g rest rest2 e m = grind arith
 
 -- ---- what the last piece asks of the separation
 

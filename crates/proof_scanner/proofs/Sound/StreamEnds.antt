@@ -14,9 +14,7 @@ had_no_key a h e = grind arith
 around_no_key : (fs : List FlowLevel) (ks : List (Option Key)) (es : List Entry) → AreAround fs ks es → have_no_key es ≡ true
 around_no_key [] ks [] a = refl
 around_no_key (f ∷ fs) (k ∷ ks) (e ∷ es) a = rw (had_no_key k e.had a.1, around_no_key fs ks es a.2) refl
-around_no_key [] ks (e ∷ es) a = absurd a
-around_no_key (f ∷ fs) [] es a = absurd a
-around_no_key (f ∷ fs) (k ∷ ks) [] a = absurd a
+around_no_key fs ks es a = grind arith
 
 pub entries_no_key : (allowed again : Bool) (fs : List FlowLevel) (ks : List (Option Key)) (es : List Entry) → AreEntries allowed again fs ks es → have_no_key es ≡ true
 entries_no_key allowed again a ks es b = grind (arith, around_no_key)
