@@ -5,9 +5,8 @@ use Rattle.defs_token.specs.Piece.{Holds}
 -- ---- accounts that are alike
 
 entries_sym : (ds es : List Entry) → LikeEntries ds es → LikeEntries es ds
-entries_sym [] es i = grind arith
-entries_sym (d ∷ ds) [] i = absurd i
 entries_sym (d ∷ ds) (e ∷ es) i = ((sym i.0.0, sym i.0.1, grind arith), entries_sym ds es i.1)
+entries_sym ds es i = grind arith
 
 pub like_sym : (a b : Account) → IsLike a b → IsLike b a
 like_sym a b i = (sym i.0, grind arith, entries_sym a.entries b.entries i.2)

@@ -91,10 +91,8 @@ pub completes_at : (text : List ℕ) (t : ScannerState) (fs : List FlowLevel) (k
 completes_at text t fs ks es a r q e f strict c cs may = grind arith
 
 pub many_around : (fs : List FlowLevel) (ks : List (Option Key)) (es : List Entry) → AreAround fs ks es → length fs ≡ length es
-many_around [] ks a h = grind arith
-many_around (f ∷ fs) [] es h = absurd h
-many_around (f ∷ fs) (k ∷ ks) [] h = absurd h
 many_around (f ∷ fs) (k ∷ ks) (e ∷ es) h = ap suc (many_around fs ks es h.2)
+many_around fs ks es h = grind arith
 
 -- a text that is not empty has a character
 pub not_none : (l : List ℕ) → is_empty l ≡ false → 1 ≤ length l

@@ -81,9 +81,8 @@ empty_here k column = rw (take_none (column - k)) refl
 -- ---- a body
 
 pub body_between : (q : ℕ) (body : List ℕ) → without_last (body ++ q ∷ []) ≡ body
-body_between q [] = refl
-body_between q (c ∷ []) = refl
 body_between q (c ∷ d ∷ body) = ap (λ l. c ∷ l) (body_between q (d ∷ body))
+body_between q body = grind arith
 
 -- a body with a value has elements
 pub has_elements : (single : Bool) (body value : List ℕ) → value_of single body ≡ Some value → (es : List Element) × (elements (element_of single) 0 body ≡ Some es)

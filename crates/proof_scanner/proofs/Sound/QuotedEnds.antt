@@ -16,9 +16,8 @@ ends_in_line (c ∷ d ∷ r) = ends_in_line (d ∷ r)
 -- A text with a break, whose last character is none, ends on a later line.
 pub broken_later : (p : Position) (a next : List ℕ) → ends_in_line a ≡ true → has_break a ≡ true → p.line < (position_after p a next).line
 unfolding is_break
-broken_later p [] next e h = absurd (cc h)
-broken_later p (c ∷ []) next e h = grind arith
 broken_later p (c ∷ d ∷ a) next e h = grind (arith, nat_tests, not_before_after, eqb-true, and_parts, broken_later (position_past p c (d ∷ (a ++ next))) (d ∷ a) next e)
+broken_later p a next e h = grind arith
 
 -- on the same line there is no break
 pub on_one_line : (p : Position) (a next : List ℕ) → ends_in_line a ≡ true → (position_after p a next).line ≤ p.line → has_break a ≡ false

@@ -30,13 +30,9 @@ by_sides text t P a outer inner = by t.held.flow t.held.keys a.base.entries (rec
   where
     by : (fs : List FlowLevel) (ks : List (Option Key)) (es : List Entry) (p : ArrivesBy text (with_sides t fs ks) fs ks es) → KnowsKey text (p.separation ++ t.rest) t.held.position (outside_key es ks) →
         P (with_sides t fs ks)
-    by [] [] es p n = absurd (omega (arith, p.one_each))
-    by [] (k ∷ l ∷ ks) es p n = absurd (omega (arith, p.one_each))
     by [] (k ∷ []) [] p n = outer k p n
-    by [] (k ∷ []) (e ∷ es) p n = absurd p.are_entries
-    by (f ∷ fs) [] es p n = absurd (omega (arith, p.one_each))
-    by (f ∷ fs) (k ∷ ks) [] p n = absurd p.are_entries
     by (f ∷ fs) (k ∷ ks) (e ∷ es) p n = inner f fs k ks e es p
+    by fs ks es p n = absurd (let m = p.one_each in let a = p.are_entries in grind arith)
 
 -- ---- between two fetches
 

@@ -14,10 +14,8 @@ pub no_entries : (allowed again : Bool) (fs : List FlowLevel) (ks : List (Option
 no_entries allowed again a ks es o b = grind arith
 
 pub one_key : (ks : List (Option Key)) (fs : List FlowLevel) → length ks ≡ suc (length fs) → is_empty fs ≡ true → (k : Option Key) × (ks ≡ k ∷ [])
-one_key [] fs n o = absurd (omega (arith, n))
 one_key (k ∷ []) fs n o = (k, refl)
-one_key (k ∷ x ∷ ks) [] n o = absurd (omega (arith, n))
-one_key (k ∷ x ∷ ks) (f ∷ fs) n o = absurd (cc o)
+one_key ks fs n o = absurd (grind arith)
 
 -- where no open key is one, the tokens are those that the scanner holds
 pub none_completes : (strict : Bool) (text after : List ℕ) (a : Account) (ks : List (Option Key)) (ts : List Token) → is_waiting a.line ≡ false → have_no_key a.entries ≡ true →
