@@ -159,7 +159,6 @@ module _ (J K : Account → Account → Type 0) (R : Account → Account → Lis
 
       to : (g f : Option Account) → account_past h.0 v n ≡ g → account_past k.0 w m ≡ f → LeadsBy J g vs after1 a → LeadsBy K f ws after2 b → Stepped IsLike ((h.0 ≡ k.0) × (v ≡ w)) g f
           → ((g f : Account) → IsLike g f → R g f n → LeadsBy J (Some g) vs after1 a → LeadsBy K (Some f) ws after2 b → Meet J K R a b after1 after2) → Meet J K R a b after1 after2
-      to None f ge fe l o s on = absurd l
-      to (Some g) None ge fe l o s on = absurd o
       to (Some g) (Some f) ge fe l o s on =
           on g f s.0 (keeps.both h.0 k.0 g f v w.key n like rest h.2 (subst (λ z. IsWritten k.0 (With v w.key) z) (sym same.3) (subst (λ z. IsWritten k.0 z m) (moved w v (sym same.0) (sym same.1) (sym same.2)) k.2)) ge (subst (λ z. account_past k.0 (With v w.key) z ≡ Some f) (sym same.3) (subst (λ z. account_past k.0 z m ≡ Some f) (moved w v (sym same.0) (sym same.1) (sym same.2)) fe))) l o
+      to g f ge fe l o s on = absurd (grind arith)

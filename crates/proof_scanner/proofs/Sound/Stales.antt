@@ -28,8 +28,6 @@ key_dropped text u s out k only far free = by u.held.flow u.held.keys s.base.ent
   where
     by : (fs : List FlowLevel) (ks : List (Option Key)) (es : List Entry) → u.held.flow ≡ fs → ks ≡ Some k ∷ [] → is_empty fs ≡ true → StandsWith text u fs ks (with_entries s.base.site s.base.line es) →
         Stands text (record u { held = record u.held { keys = None ∷ [] } })
-    by (f ∷ fs) ks es p q o w = absurd (cc o)
-    by [] ks (e ∷ es) p q o w = absurd w.are_entries
     by [] ks [] p q o w =
         let base : Account = with_entries s.base.site s.base.line [] in
         let v : StandsWith text u [] (Some k ∷ []) base = subst (λ x. StandsWith text u [] x base) q w in
@@ -38,6 +36,7 @@ key_dropped text u s out k only far free = by u.held.flow u.held.keys s.base.ent
         λ strict c cs may. none_completes strict text (v.separation ++ u.rest) base (Some k ∷ []) u.held.tokens v.no_key refl (v.completes strict false [] (may_be_no_key strict (Some k) u.held.position u.rest free)) in
         stands_by text _ [] (None ∷ []) base p refl
         (search (v.is_filled, v, carries, completes, known_far text (v.separation ++ u.rest) u.held.position k far v.knows, v.line_is.0, v.line_is.1))
+    by fs ks es p q o w = absurd (let a = w.are_entries in grind arith)
 
 -- ---- the step
 

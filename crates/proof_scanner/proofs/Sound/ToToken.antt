@@ -25,9 +25,8 @@ among (d ∷ f) p c h = rw (among f p c h) (or-true (35 == d))
 
 -- where a separation was passed, it is none that follows a plain scalar without a comment
 no_plain : (b : Previous) (q : Position) (f g rest rest2 : List ℕ) → rest ≡ g ++ rest2 → IsReadOn b q f rest → begins_separation rest ≡ true → begins_separation rest2 ≡ false → is_separation false g rest2 ≡ true → follows_plain b (f ++ g) ≡ false
-no_plain plain_scalar q f [] rest rest2 cut r begins solid fills = absurd (cc (begins, solid, cut))
 no_plain plain_scalar q f (c ∷ p) rest rest2 cut r begins solid fills = grind (arith, nat_tests, eqb-true, among)
-no_plain _ q f g rest rest2 cut r begins solid fills = refl
+no_plain b q f g rest rest2 cut r begins solid fills = grind arith
 
 indented_after : (b : Previous) (bs : List ℕ) (aw : Bool) (g : List ℕ) → follows_plain b g ≡ false → Spaced b (least_column bs aw) g → is_indented_by_spaces b bs aw g ≡ true
 indented_after b bs aw g f h = grind arith
