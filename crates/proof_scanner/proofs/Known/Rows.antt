@@ -115,9 +115,8 @@ row_end [] last (Some a) row = record { account = a; leads = refl; is_filled = r
 row_end (w ∷ ws) last (Some a) row = let n = row_end ws last (account_past a w (spelled ws last)) row.1 in record { account = n.account; leads = (row.0, n.leads); is_filled = n.is_filled; may = n.may }
 
 leads_row : (ws : List Step) (last : List ℕ) (o : Option Account) (b : Account) → LeadsBy Same o ws last b → Holds (is_separation false last []) → Holds (may_end b) → IsRowFrom o ws last
-leads_row ws last None b h f m = absurd h
-leads_row [] last (Some a) b h f m = (f, subst (λ x. may_end x ≡ true) (sym h) m)
 leads_row (w ∷ ws) last (Some a) b h f m = grind (arith, nat_tests, eqb-true, leads_row ws last (account_past a w (spelled ws last)) b)
+leads_row ws last o b h f m = grind arith
 
 -- ---- through a place
 

@@ -31,9 +31,8 @@ abbrev pub Same : Account → Account → Type 0
 Same a b = a ≡ b
 
 pub strictly : (ws : List Step) (after : List ℕ) (o : Option Account) (b : Account) → Leads o ws after b → LeadsBy Same o ws after b
-strictly ws after None b h = absurd h
-strictly [] after (Some a) b h = h
 strictly (w ∷ ws) after (Some a) b h = (a, refl, h.0, strictly ws after (account_past a w (spelled ws after)) b h.1)
+strictly ws after o b h = grind arith
 
 pub loosely : (ws : List Step) (after : List ℕ) (o : Option Account) (b : Account) → Leads o ws after b → LeadsBy GivesUp o ws after b
 loosely ws after None b h = absurd h

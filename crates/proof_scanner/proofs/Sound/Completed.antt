@@ -1,6 +1,6 @@
 -- Rows that are begun and completed: where a text begins, over a step, and where it ends.
 use Rattle.proof_scanner.proofs.Known.Ways.{spelled_append}
-use Rattle.proof_scanner.proofs.Common.{Account, Begins, BeginsButForKey, Bool, Completes, IsRead, IsRowFrom, IsWritten, Key, Leads, List, MayChoose, None, Option, Position, SoFar, Some, Step, Token, [], account_past, ap, append-nil, append_assoc, arith, beginnings_are_cuts, cut_past, eqb-true, false, first_account, first_position, is_separation, is_waiting, may_end, nat_tests, position_after, put, refl, spelled, stream_start, subst, sym, taken, tokens_at_end, tokens_from, tokens_of_step, true, up_to_nul, ℕ, ◌++◌, ◌∙◌, ◌∷◌, ◌≡◌}
+use Rattle.proof_scanner.proofs.Common.{Account, Begins, BeginsButForKey, Bool, Completes, IsRead, IsRowFrom, IsWritten, Key, Leads, List, MayChoose, Option, Position, SoFar, Some, Step, Token, [], account_past, ap, append-nil, append_assoc, arith, beginnings_are_cuts, cut_past, eqb-true, false, first_account, first_position, is_separation, is_waiting, may_end, nat_tests, position_after, put, refl, spelled, stream_start, subst, sym, taken, tokens_at_end, tokens_from, tokens_of_step, true, up_to_nul, ℕ, ◌++◌, ◌∙◌, ◌∷◌, ◌≡◌}
 
 -- ---- beginnings of rows
 
@@ -8,9 +8,8 @@ pub begins_at_start : (text : List ℕ) → Begins text (up_to_nul text) first_a
 begins_at_start text = record { steps = []; spells = refl; leads = refl }
 
 leads_past : (o : Option Account) (ws : List Step) (w : Step) (next : List ℕ) (a b : Account) → Leads o ws (w.separation ++ (w.piece ++ next)) a → IsWritten a w next → account_past a w next ≡ Some b → Leads o (ws ++ w ∷ []) next b
-leads_past None ws w next a b h written stands = absurd h
-leads_past (Some x) [] w next a b h written stands = grind (arith, nat_tests, eqb-true)
 leads_past (Some x) (v ∷ ws) w next a b h written stands = grind (arith, nat_tests, eqb-true, spelled_append, leads_past (account_past x v (spelled ws (w.separation ++ (w.piece ++ next)))) ws w next a b h.1 written stands)
+leads_past o ws w next a b h written stands = grind (arith, nat_tests, eqb-true)
 
 -- over a step that may stand
 pub begins_past : (text after : List ℕ) (a b : Account) (w : Step) (next : List ℕ) → after ≡ w.separation ++ (w.piece ++ next) → IsWritten a w next → account_past a w next ≡ Some b → Begins text after a → Begins text next b
@@ -74,9 +73,8 @@ goes_of false text after a ts ends idle h = (
 
 -- steps to an account at which the text may end are a row
 row_of_steps : (o : Option Account) (ws : List Step) (last : List ℕ) (a : Account) → Leads o ws last a → is_separation false last [] ≡ true → may_end a ≡ true → IsRowFrom o ws last
-row_of_steps None ws last a h fills ends = absurd h
-row_of_steps (Some b) [] last a h fills ends = (fills, ap may_end h ∙ ends)
 row_of_steps (Some b) (w ∷ ws) last a h fills ends = (h.0, row_of_steps (account_past b w (spelled ws last)) ws last a h.1 fills ends)
+row_of_steps o ws last a h fills ends = grind arith
 
 -- where a text ends
 pub completed_at_end : (text last : List ℕ) (a : Account) (before : List Step → List ℕ → List Token) → is_separation false last [] ≡ true → may_end a ≡ true →

@@ -237,10 +237,9 @@ broken_gap column x (c ∷ g) rest w b h = grind (arith, nat_tests, eqb-true, an
 -- ---- the dash
 
 no_last_dash : (flow apart : Bool) (t g rest : List ℕ) → dashes_fit flow apart (t ++ g) rest ≡ true → (flow && has_dash_before_flow t (g ++ rest)) ≡ false
-no_last_dash flow apart [] g rest h = and_false flow
-no_last_dash flow apart (c ∷ []) g rest h = and_false flow
 no_last_dash flow apart (c ∷ d ∷ []) g rest h = grind (arith, nat_tests, eqb-true, same_break, same_blank, not-true, and_parts)
 no_last_dash flow apart (c ∷ d ∷ e ∷ r) g rest h = grind (arith, nat_tests, eqb-true, and_parts, no_last_dash flow (is_break c || is_blank c) (d ∷ e ∷ r) g rest)
+no_last_dash flow apart t g rest h = grind (arith, and_false)
 
 -- ---- the whole scan
 

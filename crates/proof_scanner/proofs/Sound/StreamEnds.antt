@@ -12,7 +12,6 @@ had_no_key : (k : Option Key) (h : Had) → HasHad k h → is_keyed h ≡ false
 had_no_key a h e = grind arith
 
 around_no_key : (fs : List FlowLevel) (ks : List (Option Key)) (es : List Entry) → AreAround fs ks es → have_no_key es ≡ true
-around_no_key [] ks [] a = refl
 around_no_key (f ∷ fs) (k ∷ ks) (e ∷ es) a = rw (had_no_key k e.had a.1, around_no_key fs ks es a.2) refl
 around_no_key fs ks es a = grind arith
 
