@@ -63,7 +63,6 @@ made s l [] w next b e = by (may_stand false s at w.separation w.piece w.shown n
             last false h e = let same : past ≡ b = same_of past b e in
                 outside m o refl f g (ap (λ (a : Account). a.line) (sym same)) (ap (λ (a : Account). a.site) (sym same)) (ap (λ (a : Account). has_break w.piece && is_waiting a.line) (sym same) ∙ h)
     by c m f e = grind arith
-
 made s l (d ∷ ds) w next b e = by (may_stand true s at w.separation w.piece w.shown next) (line_past_separation true (begins_free_line s.before w.separation) l) refl e
   where
     at : Site
