@@ -11,7 +11,7 @@ use Rattle.proof_scanner.proofs.Sound.Outsides.{line_node, must_be_here, new_key
 
 -- at a later position before the same text
 pub known_past : (text after : List ℕ) (p : Position) (k : Option Key) (f rest : List ℕ) → KnowsKey text after p k → KnowsKey text after (position_after p f rest) k
-known_past text after p k f rest n = grind (arith, nat_tests, eqb-true, not_before_after, index_after)
+known_past text after p k f rest n = grind (arith, not_before_after, index_after)
 
 -- where the open key is far, none is known
 pub known_far : (text after : List ℕ) (p : Position) (k : Key) → is_far k.position p ≡ true → KnowsKey text after p (Some k) → KnowsKey text after p None
@@ -96,7 +96,7 @@ module _ (text : List ℕ) (s : Site) (l line_here : Line) (allowed : Bool) (k :
 
       by : Made s came.from.line came.from.entries (With w came.key) next b → Past b
       by (inside some sep site one) = absurd (cc (same_flow [] came.from.entries came.is_like.2, some))
-      by (outside m o none sep past line site one) = grind (arith, nat_tests, eqb-true, came)
+      by (outside m o none sep past line site one) = grind (arith, came)
 
   -- After a node or a block scalar outside flow the key that may begin with it is open, or the one that was.
   pub known_saved : (p : Position) → new.position ≡ here → new.required ≡ is_in_column here.col at.blocks → KnowsKey text (w.separation ++ (w.piece ++ next)) p k → KnowsKey text next p (saved allowed new k)
@@ -115,7 +115,7 @@ module _ (text : List ℕ) (s : Site) (l line_here : Line) (allowed : Bool) (k :
           old d y i j (subst (λ z. IsAt z begin) j (n.waiting x.from begin x.begins (waited false (begins_free_line s.before w.separation) x.from.line x.line begin x.sep f).0 near_line near_index))
         where
           old : (d : Bool) (y : Option Key) → allowed ≡ d → k ≡ y → IsAt y begin → IsAt (saved d new y) begin
-          old a y i j h = grind (arith, nat_tests, eqb-true)
+          old a y i j h = grind arith
 
       waited_on : (d : Bool) (y : Option Key) → allowed ≡ d → k ≡ y → (b : Account) (x : Key) (z : Past b) → saved d new y ≡ Some x → x.required ≡ true → z.after.line ≡ waits x.position
       waited_on true (Some y) i j b x z e m = absurd (grind (arith, line_is))

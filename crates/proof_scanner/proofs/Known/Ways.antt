@@ -1,5 +1,5 @@
 -- Two ways through one text: each beginning of a row goes through the place of the other, or the other goes on past its own. A way may give up a key that waits.
-use Rattle.proof_scanner.proofs.Common.{[], Account, account_past, account_step, ap, Begins, BeginsButForKey, Bool, Entry, first_account, free, has_no_nul, is_in_column, IsLike, IsWritten, Leads, LikeEntries, List, no_nul_after, None, Option, Position, refl, same_written, Some, spelled, Step, Stepped, subst, sym, taken, true, up_to_nul, waits, ℕ, ◌++◌, ◌∙◌, ◌∷◌, ◌≡◌, arith, eqb-true, nat_tests}
+use Rattle.proof_scanner.proofs.Common.{[], Account, account_past, account_step, ap, Begins, BeginsButForKey, Bool, Entry, first_account, free, has_no_nul, is_in_column, IsLike, IsWritten, Leads, LikeEntries, List, no_nul_after, None, Option, Position, refl, same_written, Some, spelled, Step, Stepped, subst, sym, taken, true, up_to_nul, waits, ℕ, ◌++◌, ◌∙◌, ◌∷◌, ◌≡◌, arith}
 use Rattle.defs_token.specs.Piece.{Holds}
 
 -- ---- accounts that are alike
@@ -106,7 +106,7 @@ pub data Meet (J K : Account → Account → Type 0) (R : Account → Account �
   first_on : GoesOn J (λ x y. R y x) b a after2 after1 → Meet J K R a b after1 after2
 
 pub moved : (w v : Step) → w.separation ≡ v.separation → w.piece ≡ v.piece → w.shown ≡ v.shown → w ≡ With v w.key
-moved w v f p t = grind (arith, nat_tests, eqb-true)
+moved w v f p t = grind arith
 
 -- What is kept along two ways: where an account changes, and by each step that both make.
 pub record KeepsOn (J K : Account → Account → Type 0) (R : Account → Account → List ℕ → Type 0) : Type 0 where

@@ -1,5 +1,5 @@
 -- What lets a piece stand: four tests, and its column in flow.
-use Rattle.proof_scanner.proofs.Common.{[], After, ap, append-nil, AreAround, AreLevels, AreNumbered, arith, awaits_past, begins_free_line, begins_separation, Bool, chosen, columns, Entry, eqb-true, false, FlowLevel, has_break, Held, in_flow, Indent, innermost, is_break, is_deep_enough, is_empty, is_in_column, is_waiting, IsLive, IsNotRight, IsOpenHere, IsOpenOutside, Key, least_column, least_for, length, Line, line_by, line_past_separation, List, MayChoose, must_be_key, nat_le, nat_tests, None, not, not_ended, NotBefore, Option, or_true, outside_key, Position, position_after, Previous, ScannerState, Site, SoFar, Some, subst, suc, sym, taken, Tok, tokens_up_to, true, ℕ, ◌&&◌, ◌++◌, ◌+◌, ◌==◌, ◌∙◌, ◌∷◌, ◌≡◌, ◌≤◌, Act, act_of, begun_by, previous_by, shown_position, further_lines_stand, may_precede}
+use Rattle.proof_scanner.proofs.Common.{[], After, ap, append-nil, AreAround, AreLevels, AreNumbered, arith, awaits_past, begins_free_line, begins_separation, Bool, chosen, columns, Entry, false, FlowLevel, has_break, Held, in_flow, Indent, innermost, is_break, is_deep_enough, is_empty, is_in_column, is_waiting, IsLive, IsNotRight, IsOpenHere, IsOpenOutside, Key, least_column, least_for, length, Line, line_by, line_past_separation, List, MayChoose, must_be_key, nat_le, None, not, not_ended, NotBefore, Option, or_true, outside_key, Position, position_after, Previous, ScannerState, Site, SoFar, Some, subst, suc, sym, taken, Tok, tokens_up_to, true, ℕ, ◌&&◌, ◌++◌, ◌+◌, ◌==◌, ◌∙◌, ◌∷◌, ◌≡◌, ◌≤◌, Act, act_of, begun_by, previous_by, shown_position, further_lines_stand, may_precede}
 use Rattle.defs_token.specs.Indentation.{awaits_in_block, awaits_in_flow}
 use Rattle.proof_scanner.proofs.Cut.Pieces.Inserted.{no_break_on_line}
 use Rattle.proof_scanner.proofs.Cut.Nodes.{IsDeep}
@@ -10,7 +10,7 @@ use Rattle.proof_scanner.proofs.Sound.OutOfFlow.{no_waiting}
 -- whether a value is awaited stays as it was after a token that says nothing of it
 pub awaits_kept : (tok : Tok) → ((b : Bool) → awaits_in_flow tok b ≡ b) → ((bs : List ℕ) (b : Bool) (next : List ℕ) → awaits_in_block tok bs b next ≡ (b && true)) →
     (fl : Bool) (bs : List ℕ) (b : Bool) (next : List ℕ) → awaits_past fl tok bs b next ≡ b
-awaits_kept tok inside outside a bs b next = grind (arith, nat_tests, eqb-true)
+awaits_kept tok inside outside a bs b next = grind arith
 
 -- What is said of a token whose piece stands where the token is shown, and not left of the least column: what the piece does, what it begins and what it was;
 -- when its further lines and the text after it let it stand, and whether a value is awaited then.
@@ -26,7 +26,7 @@ pub record IsToken (tok : Tok) (k : Act) (es : List Entry) (before : Previous) (
 
 -- a piece that is no plain scalar, in the least column or deeper
 pub deep_for : (fl : Bool) (tok : Tok) (x : Site) → least_for tok x ≡ least_column x.blocks x.awaits → nat_le (least_column x.blocks x.awaits) x.position.col ≡ true → is_deep_enough fl tok x ≡ true
-deep_for a tok x least h = grind (arith, nat_tests, eqb-true, or_true)
+deep_for a tok x least h = grind (arith, or_true)
 
 -- ---- facts where a piece begins: lines and positions, the open key outside flow, and levels of indentation
 
@@ -80,7 +80,7 @@ numbered_more m n (Some k ∷ ks) h a = (omega (arith, h, a.0), a.1)
 
 -- the keys around one are numbered too
 pub numbered_around : (m : ℕ) (k : Option Key) (ks : List (Option Key)) → AreNumbered m (k ∷ ks) → AreNumbered m ks
-numbered_around m b ks a = grind (arith, nat_tests, eqb-true, numbered_more)
+numbered_around m b ks a = grind (arith, numbered_more)
 
 -- ---- rows
 
@@ -122,13 +122,13 @@ module _ (text : List ℕ) (t : ScannerState) (f : FlowLevel) (fs : List FlowLev
     live_inside x l = (omega (arith, later.0, l.0), some)
 
     pub unbroken_around : (strict c : Bool) → MayChoose strict c (outside_key es ks) end rest → line_past_separation true (begins_free_line a.site.before a.separation) (line_by c (outside_key es ks) a.line) ≡ Some (line_by c (outside_key es ks) a.line)
-    unbroken_around strict c may = grind (arith, nat_tests, eqb-true, live_inside, not_free, unbroken, around_of, (a.is_line ∙ ap (λ l. Some l) (sym (line_kept (begins_free_line a.site.before a.separation) a.line a.line_here a.no_key a.is_line))))
+    unbroken_around strict c may = grind (arith, live_inside, not_free, unbroken, around_of, (a.is_line ∙ ap (λ l. Some l) (sym (line_kept (begins_free_line a.site.before a.separation) a.line a.line_here a.no_key a.is_line))))
 
     pub one_around : (piece : List ℕ) → (is_empty rest ≡ false → end.line ≤ t.held.position.line → has_break piece ≡ false) → (strict c : Bool) → MayChoose strict c (outside_key es ks) end rest → (has_break piece && is_waiting (line_by c (outside_key es ks) a.line)) ≡ false
-    one_around piece one strict c may = grind (arith, nat_tests, eqb-true, no_waiting, around_before)
+    one_around piece one strict c may = grind (arith, no_waiting, around_before)
 
     pub may_around : (strict c : Bool) → MayChoose strict c (outside_key es ks) end rest → MayChoose strict c (outside_key es ks) t.held.position t.rest
     may_around strict c may = grind arith
 
     pub open_around : (q : Position) → NotBefore t.held.position q → IsOpenOutside (outside_key es ks) q end rest a.site.blocks
-    open_around q a = grind (arith, nat_tests, eqb-true, around_of, after_then, not_before_then, last_before, live_inside)
+    open_around q a = grind (arith, around_of, after_then, not_before_then, last_before, live_inside)

@@ -1,5 +1,5 @@
 -- The block collections that end where a piece begins: the levels that go on are those of the row, and each end has its token.
-use Rattle.proof_scanner.proofs.Common.{[], ap, append-nil, append_assoc, AreCollections, AreLevels, arith, Arrives, before_by, before_past, begins_free_line, begins_separation, begins_token, block_end, blocks, Bool, chained, columns, end_level, ends_at, ends_here, eqb-true, false, Fault, free, has_open_level, Held, Holds, if◌then◌else◌, Indent, is_adjacent, is_at_comment_or_end, is_deeper, is_empty, is_indented_by_spaces, IsLine, IsLineHere, IsNear, IsTopLevel, Key, length, Levels, Line, line_past_separation, List, nat_lt, nat_tests, not, not-false, not_ended, on_held, Option, outside_key, Position, put, refl, replicate, Result, ScannerState, site_here, skip_to_next_token, Some, stale, Stands, subst, suc, sym, taken, Token, tried, true, try_held, unroll_indent, unrolled, with_levels, ℕ, ◌&&◌, ◌++◌, ◌+◌, ◌-◌, ◌==◌, ◌>>=◌, ◌∙◌, ◌∷◌, ◌≡◌}
+use Rattle.proof_scanner.proofs.Common.{[], ap, append-nil, append_assoc, AreCollections, AreLevels, arith, Arrives, before_by, before_past, begins_free_line, begins_separation, begins_token, block_end, blocks, Bool, chained, columns, end_level, ends_at, ends_here, false, Fault, free, has_open_level, Held, Holds, if◌then◌else◌, Indent, is_adjacent, is_at_comment_or_end, is_deeper, is_empty, is_indented_by_spaces, IsLine, IsLineHere, IsNear, IsTopLevel, Key, length, Levels, Line, line_past_separation, List, nat_lt, not, not-false, not_ended, on_held, Option, outside_key, Position, put, refl, replicate, Result, ScannerState, site_here, skip_to_next_token, Some, stale, Stands, subst, suc, sym, taken, Token, tried, true, try_held, unroll_indent, unrolled, with_levels, ℕ, ◌&&◌, ◌++◌, ◌+◌, ◌-◌, ◌==◌, ◌>>=◌, ◌∙◌, ◌∷◌, ◌≡◌}
 use Rattle.proof_scanner.proofs.Sound.Common.{shorter, unrolled_in_flow, unrolled_outside}
 use Rattle.proof_scanner.proofs.Sound.Stales.{Nearer, stale_stands}
 use Rattle.proof_scanner.proofs.Sound.ToToken.{passed_stands}
@@ -27,7 +27,7 @@ deeper_now col i a e = grind arith
 
 -- one end more
 one_end : (p : Position) (n : ℕ) (cs : List ℕ) (ts us : List Token) → us ≡ (ts ++ put p block_end ∷ []) ++ ends_at p cs (not_ended p.col cs) → us ≡ ts ++ ends_at p (n ∷ cs) (not_ended p.col cs)
-one_end p n cs ts us e = grind (arith, nat_tests, eqb-true, shorter, append_assoc)
+one_end p n cs ts us e = grind (arith, shorter, append_assoc)
 
 collections_end : (p : Position) (i : ℕ) (ds : List Indent) (ts : List Token) → AreCollections i ds → EndedAlone p (columns i ds) ts (unrolled (p.col + 1) p i ds ts)
 unfolding unrolled
@@ -48,7 +48,7 @@ collections_end p i (d ∷ ds) ts a =
           are = h.are;
           tokens_are = one_end p (i - 1) cs ts (unrolled (p.col + 1) p d.indent ds (ts ++ put p block_end ∷ [])).tokens h.tokens_are ∙ ap (λ x. ts ++ ends_at p ((i - 1) ∷ cs) x) (sym ends);
         }
-    by false e h = grind (arith, nat_tests, eqb-true, cs, deeper_now, no_ends)
+    by false e h = grind (arith, cs, deeper_now, no_ends)
 
 alone : (p : Position) (cols : List ℕ) (awaits : Bool) (ts : List Token) (u : Levels) → (awaits && is_deeper p.col cols) ≡ false → EndedAlone p cols ts u → Ended p cols awaits ts u
 alone p cols awaits ts u e h = grind arith
@@ -73,8 +73,8 @@ levels_end p i (d ∷ ds) ts a = by d.needs_block_end refl a.0
       where
         two : (n : ℕ) (ns : List ℕ) → columns d.indent ds ≡ n ∷ ns → d.indent ≡ suc n → (b : Bool) → nat_lt (p.col + 1) i ≡ b →
             Ended p (columns d.indent ds) true ts (if b then unrolled (p.col + 1) p d.indent ds ts else record { indent = i; indents = d ∷ ds; tokens = ts })
-        two n ns c k true f = alone p (columns d.indent ds) true ts (unrolled (p.col + 1) p d.indent ds ts) (ap (λ x. is_deeper p.col x) c ∙ (grind (arith, nat_tests, eqb-true))) (collections_end p d.indent ds ts a.1)
-        two n ns c k false f = grind (arith, nat_tests, eqb-true, no_ends)
+        two n ns c k true f = alone p (columns d.indent ds) true ts (unrolled (p.col + 1) p d.indent ds ts) (ap (λ x. is_deeper p.col x) c ∙ (grind arith)) (collections_end p d.indent ds ts a.1)
+        two n ns c k false f = grind (arith, no_ends)
 
 -- ---- from what holds between two fetches to what holds where the next piece begins, or at the text's end
 

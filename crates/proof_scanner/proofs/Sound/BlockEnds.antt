@@ -61,7 +61,7 @@ spaces_col p (c ∷ a) = grind (arith, nat_tests, eqb-true, space_past, spaces_c
 none_from : (column : ℕ) (ls : List Line) (p : Position) → AreLines ls [] → are_empty column (texts ls) ≡ true → p.col ≡ 0 → first_content column false p (spell ls []) ≡ None
 unfolding is_empty_line
 none_from column [] p a h z = refl
-none_from column (l ∷ ls) p a h z = grind (arith, nat_tests, eqb-true, and_parts, first_empty, none_from column ls (after_line l p) a.2)
+none_from column (l ∷ ls) p a h z = grind (arith, and_parts, first_empty, none_from column ls (after_line l p) a.2)
 
 -- ---- what follows
 
@@ -82,7 +82,7 @@ module _ (indent column : ℕ) (p : Position) (b : BlockRead) (piece next : List
       let at : (further_position p piece next).col ≡ leading_spaces next = omega (arith, margin, spaces) in
       let not_shallow : are_empty column ls ≡ true → (nat_le indent (leading_spaces next) && nat_lt (leading_spaces next) column) ≡ false =
       λ empty.
-      let none : first_content b.column true p piece ≡ None = (grind (arith, nat_tests, eqb-true, first_header, none_from)) in
+      let none : first_content b.column true p piece ≡ None = (grind (arith, first_header, none_from)) in
       ap (λ c. nat_le indent (leading_spaces next) && nat_lt (leading_spaces next) c) (sym same) ∙
       (ap (λ k. nat_le indent k && nat_lt k b.column) (sym at) ∙
       (ap (λ o. ((not false && is_none o) && nat_le indent (further_position p piece next).col) && nat_lt (further_position p piece next).col b.column) (sym none) ∙

@@ -39,7 +39,7 @@ colon_spaced more h = by (begins_with tab more) refl
     Ends b u = (u ≡ record { rest = (if b then past_blanks_and_comment more else more); held = record h { position = (if b then past_line_rest h.position more else h.position) } }) × (not (b && not (is_one_of (leading is_blank more) 32) && begins_with_alpha (after is_blank more)) ≡ true)
 
     letter : (x y z : Bool) → (x && y) ≡ false → (y ≡ false → z ≡ false) → not (true && x && z) ≡ true
-    letter a y z e f = grind (arith, nat_tests, eqb-true)
+    letter a y z e f = grind arith
 
     by : (b : Bool) → begins_with tab more ≡ b → Holds (λ u. (u ≡ past_colon more h) × (colon_may_precede more ≡ true)) (if peek more == 9 then lexed (space Yes more h.position) h check_after_tab else Ok t)
     by true e =

@@ -1,6 +1,6 @@
 -- Rows that are begun and completed: where a text begins, over a step, and where it ends.
 use Rattle.proof_scanner.proofs.Known.Ways.{spelled_append}
-use Rattle.proof_scanner.proofs.Common.{Account, Begins, BeginsButForKey, Bool, Completes, IsRead, IsRowFrom, IsWritten, Key, Leads, List, MayChoose, Option, Position, SoFar, Some, Step, Token, [], account_past, ap, append-nil, append_assoc, arith, beginnings_are_cuts, cut_past, eqb-true, false, first_account, first_position, is_separation, is_waiting, may_end, nat_tests, position_after, put, refl, spelled, stream_start, subst, sym, taken, tokens_at_end, tokens_from, tokens_of_step, true, up_to_nul, ℕ, ◌++◌, ◌∙◌, ◌∷◌, ◌≡◌}
+use Rattle.proof_scanner.proofs.Common.{Account, Begins, BeginsButForKey, Bool, Completes, IsRead, IsRowFrom, IsWritten, Key, Leads, List, MayChoose, Option, Position, SoFar, Some, Step, Token, [], account_past, ap, append-nil, append_assoc, arith, beginnings_are_cuts, cut_past, false, first_account, first_position, is_separation, is_waiting, may_end, position_after, put, refl, spelled, stream_start, subst, sym, taken, tokens_at_end, tokens_from, tokens_of_step, true, up_to_nul, ℕ, ◌++◌, ◌∙◌, ◌∷◌, ◌≡◌}
 
 -- ---- beginnings of rows
 
@@ -8,8 +8,8 @@ pub begins_at_start : (text : List ℕ) → Begins text (up_to_nul text) first_a
 begins_at_start text = record { steps = []; spells = refl; leads = refl }
 
 leads_past : (o : Option Account) (ws : List Step) (w : Step) (next : List ℕ) (a b : Account) → Leads o ws (w.separation ++ (w.piece ++ next)) a → IsWritten a w next → account_past a w next ≡ Some b → Leads o (ws ++ w ∷ []) next b
-leads_past (Some x) (v ∷ ws) w next a b h written stands = grind (arith, nat_tests, eqb-true, spelled_append, leads_past (account_past x v (spelled ws (w.separation ++ (w.piece ++ next)))) ws w next a b h.1 written stands)
-leads_past o ws w next a b h written stands = grind (arith, nat_tests, eqb-true)
+leads_past (Some x) (v ∷ ws) w next a b h written stands = grind (arith, spelled_append, leads_past (account_past x v (spelled ws (w.separation ++ (w.piece ++ next)))) ws w next a b h.1 written stands)
+leads_past o ws w next a b h written stands = grind arith
 
 -- over a step that may stand
 pub begins_past : (text after : List ℕ) (a b : Account) (w : Step) (next : List ℕ) → after ≡ w.separation ++ (w.piece ++ next) → IsWritten a w next → account_past a w next ≡ Some b → Begins text after a → Begins text next b
@@ -28,7 +28,7 @@ but_for_key_past text after begin a b w next cut written stands g =
 
 -- an open key that need not be one may be none
 pub may_be_no_key : (strict : Bool) (k : Option Key) (p : Position) (rest : List ℕ) → MayChoose true false k p rest → MayChoose strict false k p rest
-may_be_no_key a k p rest h = grind (arith, nat_tests, eqb-true)
+may_be_no_key a k p rest h = grind arith
 
 -- ---- rows
 
@@ -61,7 +61,7 @@ pub goes_past : (strict : Bool) (text after : List ℕ) (a b : Account) (before 
     ((ws : List Step) (last : List ℕ) → spelled ws last ≡ next → before (w ∷ ws) last ++ tokens_of_step a w ws last ≡ past ws last) →
     SoFar strict text after a before → SoFar strict text next b past
 goes_past true text after a b before past w next cut written stands idle tokens h = completed_past text after a b before past w next cut written stands tokens h
-goes_past false text after a b before past w next cut written stands idle tokens h = grind (arith, nat_tests, eqb-true, cut_past)
+goes_past false text after a b before past w next cut written stands idle tokens h = grind (arith, cut_past)
 
 -- where no key waits, the tokens of a row so far are a cut
 pub goes_of : (strict : Bool) (text after : List ℕ) (a : Account) (ts : List Token) → may_end a ≡ true → is_waiting a.line ≡ false → Completes text after a (λ ws last. ts) → SoFar strict text after a (λ ws last. ts)

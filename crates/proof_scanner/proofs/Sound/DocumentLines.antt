@@ -146,7 +146,7 @@ begins text t some a =
       held = all_ended (record t.held { flow = []; keys = k ∷ [] });
       rolled = unrolled_outside (record t.held { flow = []; keys = k ∷ [] }) refl x.are_levels;
       same_position = refl;
-      stands = λ d r none. line_stands text _ d (key_gone text _ k x some (grind (arith, nat_tests, eqb-true))) r refl refl;
+      stands = λ d r none. line_stands text _ d (key_gone text _ k x some (grind arith)) r refl refl;
     }) (λ f fs k ks e es x. record {
       held = record t.held { flow = f ∷ fs; keys = k ∷ ks };
       rolled = unrolled_in_flow 0 (record t.held { flow = f ∷ fs; keys = k ∷ ks }) refl;
@@ -184,7 +184,7 @@ end_read more p = record { tok = Tok.document_end; piece = 46 ∷ 46 ∷ 46 ∷ 
 
 pub end_is_read : (t : ScannerState) (more : List ℕ) (p : Position) → p ≡ t.held.position → t.rest ≡ 46 ∷ 46 ∷ 46 ∷ more → is_at_gap more ≡ true → t.held.position.col ≡ 0 → line_is_done (blanks_and_comment more ++ past_blanks_and_comment more) ≡ true → IsRead t (end_read more p)
 unfolding is_break
-end_is_read t more p same e a col done = grind (arith, nat_tests, eqb-true, line_rest_in_line, three_past, same_in_line, none_indents, end_token, line_rest_cut, line_rest_fills)
+end_is_read t more p same e a col done = grind (arith, line_rest_in_line, three_past, same_in_line, none_indents, end_token, line_rest_cut, line_rest_fills)
 
 -- the state after the marker
 abbrev pub marked : ScannerState → Held → (rest : List ℕ) → ScannerState
@@ -213,7 +213,7 @@ directive_read line next d p = record { tok = token_of d; piece = 37 ∷ line; g
 
 pub directive_is_read : (t : ScannerState) (line next : List ℕ) (d : Directive) → t.rest ≡ 37 ∷ (line ++ next) → has_no_break line ≡ true → ends_line next ≡ true → directive_of (37 ∷ line) ≡ Some d → t.held.position.col ≡ 0 → IsRead t (directive_read line next d t.held.position)
 unfolding is_break
-directive_is_read t line next d e no_break ends is col = grind (arith, nat_tests, eqb-true, and_false, break_cut, percent_in_line, break_is_separation, position_append, piece_of, and_parts, or_true, has_break)
+directive_is_read t line next d e no_break ends is col = grind (arith, and_false, break_cut, percent_in_line, break_is_separation, position_append, piece_of, and_parts, or_true, has_break)
 
 -- the scanner after a directive
 abbrev pub after_it : ScannerState → machine.Read Tok → Held → ScannerState

@@ -1,5 +1,5 @@
 -- The first of a text's tokens are a cut of a beginning of it.
-use Rattle.proof_scanner.proofs.Common.{[], ap, arith, begins, end_token, eqb-true, Fares, first_position, has_no_nul, inl, inr, is_empty, IsCut, IsCutOfBeginning, IsCutUpTo, IsRow, IsWhere, List, nat_tests, None, Option, over, Position, Reaches, refl, rows_are_cuts, ScannerState, Some, spelled_append, start, start_token, stream_end, subst, sym, Tok, Token, tokens_of, true, up_to_nul, Written, ℕ, ◌++◌, ◌∙◌, ◌∷◌, ◌≡◌, ◌⊎◌}
+use Rattle.proof_scanner.proofs.Common.{[], ap, arith, begins, end_token, Fares, first_position, has_no_nul, inl, inr, is_empty, IsCut, IsCutOfBeginning, IsCutUpTo, IsRow, IsWhere, List, None, Option, over, Position, Reaches, refl, rows_are_cuts, ScannerState, Some, spelled_append, start, start_token, stream_end, subst, sym, Tok, Token, tokens_of, true, up_to_nul, Written, ℕ, ◌++◌, ◌∙◌, ◌∷◌, ◌≡◌, ◌⊎◌}
 use Rattle.defs_token.specs.Account.{Account, first_account}
 use Rattle.defs_token.specs.Cut.{account_past, IsWritten, spelled}
 use Rattle.proof_scanner.specs.Laws.{TokensAreACut}
@@ -22,7 +22,7 @@ rest_of (x ∷ xs) = xs
 -- a row up to one of its tokens
 row_first : (a : Account) (ws vs : List Written) (f : List ℕ) (last : Option Tok) → IsRow a (ws ++ vs) f last → IsRow a ws (spelled vs f) None
 row_first a [] vs f last r = tt
-row_first a (w ∷ []) vs f last r = ((r.0.0, grind (arith, nat_tests, eqb-true)), tt)
+row_first a (w ∷ []) vs f last r = ((r.0.0, grind arith), tt)
 row_first a (w ∷ v ∷ ws) vs f last r =
     let same : spelled ((v ∷ ws) ++ vs) f ≡ spelled (v ∷ ws) (spelled vs f) = spelled_append (v ∷ ws) vs f in
     subst (λ t. IsWritten a w t (Some v.token.tok) × IsRow (account_past a w t) (v ∷ ws) (spelled vs f) None) same
@@ -104,7 +104,7 @@ pub run_is_where : (text : List ℕ) (t : ScannerState) → has_no_nul text ≡ 
 run_is_where text t nul run = by (reached fetch_keeps text nul (start text) t run (begins refl))
   where
     by : Fares text t → IsWhere text t
-    by (begins e) = grind (arith, nat_tests, eqb-true, over)
+    by (begins e) = grind (arith, over)
     by (goes s) =
         let c : IsCutUpTo text (s.separation ++ t.rest) s.base t.held.tokens = stands_cut text t s in
         record {
@@ -113,4 +113,4 @@ run_is_where text t nul run = by (reached fetch_keeps text nul (start text) t ru
           none = λ f. absurd (cc (f, s.started));
           some = λ _. (ap is_empty c.are_tokens);
         }
-    by (over f r n) = grind (arith, nat_tests, eqb-true, rows_are_cuts)
+    by (over f r n) = grind (arith, rows_are_cuts)

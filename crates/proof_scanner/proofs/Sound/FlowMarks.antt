@@ -23,16 +23,16 @@ pub record IsCloser (closes : Bool) (tok : Tok) (c : ℕ) : Type 0 where
   pub open token use *
 
 pub comma : IsCloser false Tok.flow_entry 44
-comma = record { is_end = ends_by_comma; token = grind (arith, nat_tests, eqb-true) }
+comma = record { is_end = ends_by_comma; token = grind arith }
 
 pub closing_bracket : IsCloser true Tok.flow_sequence_end 93
-closing_bracket = record { is_end = ends_sequence; token = grind (arith, nat_tests, eqb-true) }
+closing_bracket = record { is_end = ends_sequence; token = grind arith }
 
 pub closing_brace : IsCloser true Tok.flow_mapping_end 125
-closing_brace = record { is_end = ends_mapping; token = grind (arith, nat_tests, eqb-true) }
+closing_brace = record { is_end = ends_mapping; token = grind arith }
 
 pub is_previous : {before : Previous} (closes : Bool) → before ≡ previous_of closes → (before ≡ another) ⊎ (before ≡ flow_collection)
-is_previous a e = grind (arith, nat_tests, eqb-true)
+is_previous a e = grind arith
 
 -- ---- outside flow
 
@@ -50,13 +50,13 @@ stray_past closes t tok more = record {
 pub stray_at : (text more : List ℕ) (closes : Bool) (tok : Tok) (c : ℕ) → IsCloser closes tok c → (t : ScannerState) (a : ArrivesBy text t [] (None ∷ []) []) → with_top None t.held.keys ≡ None ∷ [] → t.rest ≡ c ∷ more → begins_with 35 more ≡ false →
     Stands text (stray_past closes t tok more)
 stray_at text more closes tok c k t a keys e hash =
-    read_outside text t (stray_past closes t tok more) a (c ∷ []) more (blanks_and_comment more) tok (record { line = line_then closes; blocks = at.blocks }) at (ap (λ x. site_in false x t.held.position a.site) k.act ∙ (grind (arith, nat_tests, eqb-true)))
+    read_outside text t (stray_past closes t tok more) a (c ∷ []) more (blanks_and_comment more) tok (record { line = line_then closes; blocks = at.blocks }) at (ap (λ x. site_in false x t.held.position a.site) k.act ∙ (grind arith))
     (reads_in_line t (stray_past closes t tok more) _ (c ∷ []) more (blanks_and_comment more) refl e (line_rest_cut more) (line_rest_fills more) (line_rest_in_line more) (indicator_end t.held.position c more k.is_end.in_line) refl (is_previous closes k.previous)
     a.blocks_are (k.awaits false at.blocks at.awaits more ∙ a.awaits_is) a.are_levels (λ some. absurd (cc some)) (adjacent_kept t (stray_past closes t tok more) other (c ∷ []) more (blanks_and_comment more) refl (indicator_end t.held.position c more k.is_end.in_line) a.was_adjacent refl refl).1 (refl, refl))
-    (record { line_is = allowed_by closes (begins_free_line (previous_by tok) (blanks_and_comment more)) (quiet_before (previous_by tok) t.held.position (blanks_and_comment more) [] (is_previous closes k.previous) (line_rest_in_line more)).1; no_key = grind (arith, nat_tests, eqb-true); flow_is = refl; keys_are = keys }) (record {
+    (record { line_is = allowed_by closes (begins_free_line (previous_by tok) (blanks_and_comment more)) (quiet_before (previous_by tok) t.held.position (blanks_and_comment more) [] (is_previous closes k.previous) (line_rest_in_line more)).1; no_key = grind arith; flow_is = refl; keys_are = keys }) (record {
       is_piece = subst (λ p. IsPiece (seen (with_entries a.site a.line []) at a.separation) (c ∷ []) more None p tok) (sym (k.shown at (c ∷ []) more)) (k.is_end.piece (seen (with_entries a.site a.line []) at a.separation) more None refl);
       stands = rw (a.is_indented (ap is_empty e), k.lines (least_for tok at) (c ∷ []), k.precedes false at.blocks (c ∷ []) more, hash) refl;
-      after_is = ap (λ x. line_past (is_in_column at.position.col at.blocks) at.position at.blocks x false a.line_here) k.act ∙ (grind (arith, nat_tests, eqb-true));
+      after_is = ap (λ x. line_past (is_in_column at.position.col at.blocks) at.position at.blocks x false a.line_here) k.act ∙ (grind arith);
       begun = k.begun;
       begins_none = ap begins_key k.act ∙ (grind arith);
       tokens_are = started_tokens false t.held.tokens a.tokens (ends_at t.held.position a.site.blocks at.blocks) t.held.position tok (put t.held.position tok) a.tokens_are ∙
@@ -138,7 +138,7 @@ line_after a f fs broken p rest k l b h = grind arith
 -- where a colon may stand after it in flow
 adjacent_after : (closes : Bool) (f : FlowLevel) (fs : List FlowLevel) (old : ℕ) (p : Position) (gap rest : List ℕ) → IsAdjacent (before_past other gap) p old rest → is_separation false gap rest ≡ true → has_no_break gap ≡ true → ends_spaces Yes rest ≡ true → has_no_nul rest ≡ true →
     is_empty (levels_then closes f fs) ≡ false → IsAdjacent (before_past (before_by (previous_of closes)) gap) p (adjacent_then closes fs old p.index) rest
-adjacent_after a f fs old p gap rest far fills b ends clean some = grind (arith, nat_tests, eqb-true, adjacent_collection, same_has_break)
+adjacent_after a f fs old p gap rest far fills b ends clean some = grind (arith, adjacent_collection, same_has_break)
 
 -- ---- the step
 
@@ -194,7 +194,7 @@ module _ (text more : List ℕ) (closes : Bool) (tok : Tok) (c : ℕ) (i : IsClo
         tokens_are = λ cs l ws last h.
             let w : Step = keyless a.separation (c ∷ []) tok in
             keyless_tokens text t f fs k ks e es a (c ∷ []) more tok cut l (entries_by (choices_by closes cs) ks es) ws last h ∙
-            (ap (λ ts. with_keys 1 a.site.position (w ∷ ws) last a.site.blocks l (entries_by (choices_by closes cs) ks es) ks ts) (ap (λ ts. a.tokens ++ ts) (grind (arith, nat_tests, eqb-true)) ∙ tokens_are) ∙
+            (ap (λ ts. with_keys 1 a.site.position (w ∷ ws) last a.site.blocks l (entries_by (choices_by closes cs) ks es) ks ts) (ap (λ ts. a.tokens ++ ts) (grind arith) ∙ tokens_are) ∙
             keys_around closes a.site.position w ws last i.act i.begun a.site.blocks l cs e es ks past_closer.held.tokens);
       })
 
@@ -219,7 +219,7 @@ comma_keeps text more t e deep a =
     chained (indicator_passed u more (ap (λ y. after y.rest) d.1 ∙ ap after e)) (λ v w.
     went (subst (λ y. Stands text (on_held (push t.held.position Tok.flow_entry) y)) (sym (w.0 ∙ ap (λ y. past_it y more) d.1))
     (by_sides text t (λ u. is_required (top_key u.held.keys) ≡ false → Stands text (on_held (push u.held.position Tok.flow_entry) (past_it (record u { held = entry_now u.held.flow u.held }) more))) a
-    (λ k x n optional. stray_at text more false Tok.flow_entry 44 comma _ (key_gone text _ k x (ap is_empty e) (grind (arith, nat_tests, eqb-true))) refl e w.1)
+    (λ k x n optional. stray_at text more false Tok.flow_entry 44 comma _ (key_gone text _ k x (ap is_empty e) (grind arith)) refl e w.1)
     (λ f fs k ks y es x optional. closer_stands text more false Tok.flow_entry 44 comma _ f fs k ks y es x deep e w.1) d.0))))
 
 -- ---- a closing bracket
@@ -232,10 +232,10 @@ closing_keeps text more kind c k t e deep a =
     chained (indicator_passed u more (ap (λ y. after y.rest) d.1 ∙ ap after e)) (λ v w.
     went (subst (λ y. Stands text (on_held (λ s. push t.held.position (flow_end kind) (adjacent_in_flow s)) y)) (sym (w.0 ∙ ap (λ y. past_it y more) d.1))
     (by_sides text t (λ u. is_required (top_key u.held.keys) ≡ false → Stands text (on_held (λ s. push u.held.position (flow_end kind) (adjacent_in_flow s)) (past_it (record u { held = ended_now u.held.flow u.held }) more))) a
-    (λ o x n optional. stray_at text more true (flow_end kind) c k _ (key_gone text _ o x (ap is_empty e) (grind (arith, nat_tests, eqb-true))) refl e w.1)
+    (λ o x n optional. stray_at text more true (flow_end kind) c k _ (key_gone text _ o x (ap is_empty e) (grind arith)) refl e w.1)
     (λ f fs o ks y es x optional.
     let now : ScannerState = past_it (record t { held = ended_now (f ∷ fs) (record t.held { flow = f ∷ fs; keys = o ∷ ks }) }) more in
-    subst (λ h. Stands text (record now { held = push t.held.position (flow_end kind) h })) (sym (grind (arith, nat_tests, eqb-true))) (closer_stands text more true (flow_end kind) c k _ f fs o ks y es x deep e w.1)) d.0))))
+    subst (λ h. Stands text (record now { held = push t.held.position (flow_end kind) h })) (sym (grind arith)) (closer_stands text more true (flow_end kind) c k _ f fs o ks y es x deep e w.1)) d.0))))
 
 -- ---- opening brackets: what holds where they begin holds between two fetches after them
 
@@ -247,10 +247,10 @@ pub record IsOpener (lv : FlowLevel) (tok : Tok) (c : ℕ) : Type 0 where
   pub open token use *
 
 pub opening_bracket : IsOpener InEntry Tok.flow_sequence_start 91
-opening_bracket = record { is_opening = opening_sequence; no_pair_yet = refl; token = grind (arith, nat_tests, eqb-true) }
+opening_bracket = record { is_opening = opening_sequence; no_pair_yet = refl; token = grind arith }
 
 pub opening_brace : IsOpener Mapping Tok.flow_mapping_start 123
-opening_brace = record { is_opening = opening_mapping; no_pair_yet = tt; token = grind (arith, nat_tests, eqb-true) }
+opening_brace = record { is_opening = opening_mapping; no_pair_yet = tt; token = grind arith }
 
 -- ---- levels of indentation
 
@@ -302,7 +302,7 @@ opener_is_read text more lv tok c o t u r e deep hash few fs ks es flow a =
     record {
       reads = reads_before_none t (state_after t (Some lv) d) (site_then t fs a.site d) (c ∷ []) (next_of d) d.gap refl (e ∙ ap (λ l. c ∷ l) cut) refl (line_rest_fills more) (line_rest_in_line more) refl
           (indicator_end t.held.position c more o.is_opening.in_line ∙ ap (λ l. position_after (position_after t.held.position (c ∷ []) l) d.gap d.rest) cut) refl o.previous (a.blocks_are ∙ sym r.columns_are)
-          ((grind (arith, nat_tests, eqb-true)) ∙ (ap (λ b. if fl then b else not (is_empty x.blocks)) a.awaits_is ∙ (ap (λ bs. if fl then has_open_level t.held.indents else not (is_empty bs)) a.blocks_are ∙
+          ((grind arith) ∙ (ap (λ b. if fl then b else not (is_empty x.blocks)) a.awaits_is ∙ (ap (λ bs. if fl then has_open_level t.held.indents else not (is_empty bs)) a.blocks_are ∙
           (ap (λ f. if not (is_empty f) then has_open_level t.held.indents else not (is_empty (columns t.held.indent t.held.indents))) (sym flow) ∙ sym r.awaits)))) r.are_levels a.was_adjacent (refl, refl, refl);
       act = o.act;
       begun = o.begun;
@@ -325,7 +325,7 @@ begun_now lv s ds i = record s { keys = None ∷ saved_keys s; flow = lv ∷ s.f
 
 flow_begun : (kind : Collection) (s : Held) (ds : List Indent) (i : ℕ) → roll_one_col_indent (with_key s) ≡ record (with_key s) { indents = ds; indent = i } → Holds (λ u. (nat_le 255 (length s.flow) ≡ false) × (u ≡ begun_now (flow_level kind) s ds i)) (begin_flow kind s)
 unfolding begin_flow increase_flow_level
-flow_begun kind s ds i rolled = grind (arith, nat_tests, eqb-true, saved_is, refused, went)
+flow_begun kind s ds i rolled = grind (arith, saved_is, refused, went)
 
 -- `[` or `{`
 pub opening_keeps : (text more : List ℕ) (kind : Collection) (c : ℕ) → IsOpener (flow_level kind) (flow_start kind) c → (t : ScannerState) → t.rest ≡ c ∷ more → IsDeep t.held → Arrives text t → Holds (Stands text) (fetch_flow_collection_start kind t)

@@ -1,5 +1,5 @@
 -- A piece in flow was read: if the definition and the scanner agree on its entries and tokens, what holds where it begins holds between two fetches after it.
-use Rattle.proof_scanner.proofs.Common.{[], Account, account_past, act_of, ap, AreEntries, AreNumbered, arith, begins_free_line, BeginsButForKey, begun_by, begun_inside, Bool, chosen, Colon, colon_of, columns, entries_by, entries_past, Entry, entry_by, eqb-true, false, FlowLevel, had_by, has_break, HasHadHere, is_empty, is_renewed, is_separation, is_waiting, IsEntryOf, IsLine, IsOpenOutside, IsPiece, Key, key_end, KnowsKey, least_column, length, length-append, Line, line_by, line_past_separation, List, may_stand, MayChoose, nat_le, nat_tests, None, not, NotBefore, Option, outside_key, pair_position, pop, Position, position_after, previous_by, put, refl, ScannerState, seen, shown_position, Site, site_here, site_past, SoFar, Some, spelled, Stands, Step, subst, suc, sym, takes_pair, Tok, Token, tokens_at, tokens_of_step, tokens_up_to, true, with_had, with_keys, ℕ, ◌&&◌, ◌++◌, ◌∙◌, ◌∷◌, ◌≡◌, ◌≤◌}
+use Rattle.proof_scanner.proofs.Common.{[], Account, account_past, act_of, ap, AreEntries, AreNumbered, arith, begins_free_line, BeginsButForKey, begun_by, begun_inside, Bool, chosen, Colon, colon_of, columns, entries_by, entries_past, Entry, entry_by, false, FlowLevel, had_by, has_break, HasHadHere, is_empty, is_renewed, is_separation, is_waiting, IsEntryOf, IsLine, IsOpenOutside, IsPiece, Key, key_end, KnowsKey, least_column, length, length-append, Line, line_by, line_past_separation, List, may_stand, MayChoose, nat_le, None, not, NotBefore, Option, outside_key, pair_position, pop, Position, position_after, previous_by, put, refl, ScannerState, seen, shown_position, Site, site_here, site_past, SoFar, Some, spelled, Stands, Step, subst, suc, sym, takes_pair, Tok, Token, tokens_at, tokens_of_step, tokens_up_to, true, with_had, with_keys, ℕ, ◌&&◌, ◌++◌, ◌∙◌, ◌∷◌, ◌≡◌, ◌≤◌}
 use Rattle.proof_scanner.proofs.Sound.Common.{among, ArrivesBy, but_for_key_past, completes_at, first_among, goes_past, had_as_it_was, IsDeep, keys_along, keys_first, line_taken, may_around, not_before_after, not_before_then, numbered_around, numbered_more, one_around, open_around, past_step, same_levels, some_rest, unbroken, unbroken_around, with_entries}
 use Rattle.proof_scanner.proofs.Known.Steps.{keyless, knows_inside}
 use Rattle.proof_scanner.proofs.Sound.Reads.{Reads, stands_so}
@@ -59,8 +59,8 @@ module _ (text : List ℕ) (t u : ScannerState) (f : FlowLevel) (fs : List FlowL
     are_numbered = g.are_numbered;
     carries = λ cs key own must inside more. subst (λ l. BeginsButForKey text l key.position (chosen false cs ls (account_then t.held.position))) r.is_rest
         (subst (λ p. BeginsButForKey text next key.position (chosen false cs ls (account_then p))) (sym place)
-        (but_for_key_past text (a.separation ++ (piece ++ next)) key.position (before false cs) (chosen false cs ls (account_then piece_here)) (flow_step (n.bit cs)) next refl (grind (arith, nat_tests, eqb-true, same_levels))
-        (account false cs (grind arith) (grind (arith, nat_tests, eqb-true)))
+        (but_for_key_past text (a.separation ++ (piece ++ next)) key.position (before false cs) (chosen false cs ls (account_then piece_here)) (flow_step (n.bit cs)) next refl (grind (arith, same_levels))
+        (account false cs (grind arith) (grind arith))
         (subst (λ x. BeginsButForKey text (a.separation ++ x) key.position (chosen false (n.choice cs ∷ n.outer cs) (k ∷ ks) (with_entries a.site a.line (e ∷ es)))) r.cut (a.carries (n.choice cs ∷ n.outer cs) key (sym g.same_key ∙ own) must refl some))));
     knows = subst (λ y. KnowsKey text (gap ++ u.rest) u.held.position y) (sym g.same_key) (knows_inside text t piece next tok r.cut u.held.position gap u.rest r.position_is r.is_rest f fs k ks e es a ((subst (λ l. is_separation false a.separation l ≡ true) r.cut a.is_filled), (ap not r.is_solid, n.is_piece)));
     completes = λ strict c cs may.
@@ -68,7 +68,7 @@ module _ (text : List ℕ) (t u : ScannerState) (f : FlowLevel) (fs : List FlowL
         subst (λ l. SoFar strict text l (chosen c cs ls (account_then t.held.position)) (tokens_up_to (chosen c cs ls (account_then t.held.position)) ls u.held.tokens)) r.is_rest
         (subst (λ p. SoFar strict text next (chosen c cs ls (account_then p)) (tokens_up_to (chosen c cs ls (account_then p)) ls u.held.tokens)) (sym place)
         (goes_past strict text (a.separation ++ (piece ++ next)) (before c cs) (chosen c cs ls (account_then piece_here)) (tokens_up_to (before c cs) (k ∷ ks) a.tokens) (tokens_up_to (chosen c cs ls (account_then piece_here)) ls u.held.tokens)
-        (flow_step (n.bit cs)) next refl (grind (arith, nat_tests, eqb-true, same_levels))
+        (flow_step (n.bit cs)) next refl (grind (arith, same_levels))
         (account c cs (unbroken_around text t f fs k ks e es a some u.held.position u.rest later strict c was) (one_around text t f fs k ks e es a some u.held.position u.rest later piece g.in_line strict c was))
         (λ _ i. ap (λ y. is_waiting (line_by c y a.line)) g.same_key ∙ i) (tokens c cs)
         (completes_at text t (f ∷ fs) (k ∷ ks) (e ∷ es) a (piece ++ next) piece_here r.cut place strict c (n.choice cs ∷ n.outer cs)
@@ -79,7 +79,7 @@ module _ (text : List ℕ) (t u : ScannerState) (f : FlowLevel) (fs : List FlowL
       some = some_rest t.rest piece next r.cut r.is_solid
 
       later : NotBefore t.held.position u.held.position
-      later = grind (arith, nat_tests, eqb-true, not_before_then, not_before_after)
+      later = grind (arith, not_before_then, not_before_after)
 
       before : Bool → List Bool → Account
       before c cs = chosen c (n.choice cs ∷ n.outer cs) (k ∷ ks) (with_entries a.site a.line (e ∷ es))
@@ -90,11 +90,11 @@ module _ (text : List ℕ) (t u : ScannerState) (f : FlowLevel) (fs : List FlowL
 
       tokens : (c : Bool) (cs : List Bool) (ws : List Step) (last : List ℕ) → spelled ws last ≡ next →
           tokens_up_to (before c cs) (k ∷ ks) a.tokens (flow_step (n.bit cs) ∷ ws) last ++ tokens_of_step (before c cs) (flow_step (n.bit cs)) ws last ≡ tokens_up_to (chosen c cs ls (account_then piece_here)) ls u.held.tokens ws last
-      tokens c cs ws last h = grind (arith, nat_tests, eqb-true)
+      tokens c cs ws last h = grind arith
 
   -- What holds where the piece begins holds between two fetches after it.
   pub steps_in_flow : (gs : List FlowLevel) (gap : List ℕ) → Reads t u (flow_past t.held.position) piece next gap → Enters gs gap → Steps t.held.position → Stands text u
-  steps_in_flow gs gap r g n = grind (arith, nat_tests, eqb-true, steps_there)
+  steps_in_flow gs gap r g n = grind (arith, steps_there)
 
 -- ---- a piece in flow with which its entry goes on, and before and after which no key of the entry waits: `?`, a colon without a key, and a line for the document. What holds where it begins holds between two fetches after it
 
@@ -110,7 +110,7 @@ tokens_inside x piece tok next e =
 
 -- what an entry and the open keys around it ask of the tokens
 pub numbered_then : (before after : List Token) (k : Option Key) (ks : List (Option Key)) (own : List Token) → after ≡ before ++ own → AreNumbered (length before) (k ∷ ks) → AreNumbered (length after) ks
-numbered_then before after k ks own e h = grind (arith, nat_tests, eqb-true, length-append, numbered_more, numbered_around)
+numbered_then before after k ks own e h = grind (arith, length-append, numbered_more, numbered_around)
 
 -- the tokens of such a step, before a key around the entry has its colon
 module _ (text : List ℕ) (t : ScannerState) (f : FlowLevel) (fs : List FlowLevel) (k : Option Key) (ks : List (Option Key)) (e : Entry) (es : List Entry) (a : ArrivesBy text t (f ∷ fs) (k ∷ ks) (e ∷ es)) (piece next : List ℕ) (tok : Tok) (cut : t.rest ≡ piece ++ next) where
@@ -133,7 +133,7 @@ module _ (text : List ℕ) (t : ScannerState) (f : FlowLevel) (fs : List FlowLev
       rw (had_as_it_was k e.had) (grind arith) in
       let second : tokens_at a.site x w ws last l (entry_by false k e ∷ xs) ≡ own =
       ap (λ y. y ++ (put (shown_position x piece tok (spelled ws last)) tok ∷ []))
-      ((grind (arith, nat_tests, eqb-true)) ∙ ap (λ y. begun_inside single e.pair x.position there there (act_of tok) false y) (had_as_it_was k e.had)) ∙
+      ((grind arith) ∙ ap (λ y. begun_inside single e.pair x.position there there (act_of tok) false y) (had_as_it_was k e.had)) ∙
       (ap (λ y. tokens_inside (at_text y) piece tok y e) h ∙ ap (λ q. tokens_inside (site_here true q a.site) piece tok next e) (sym (a.position_is ∙ ap (λ y. position_after p a.separation y) cut))) in
       ap (λ y. with_keys 1 p (w ∷ ws) last a.site.blocks l xs ks y ++ tokens_at a.site x w ws last l (entry_by false k e ∷ xs)) first ∙
       (ap (λ y. with_keys 1 p (w ∷ ws) last a.site.blocks l xs ks a.tokens ++ y) second ∙

@@ -22,21 +22,21 @@ complete_is (c ∷ r) = by (is_break c) (is_before_line_feed c r) refl (complete
     kept a last = grind arith
 
     by : (x y : Bool) → is_before_line_feed c r ≡ y → is_empty (split r).complete ≡ has_no_break r → is_empty (split_by x y c (split r)).complete ≡ (not x && has_no_break r)
-    by b a e h = grind (arith, nat_tests, eqb-true, not-true, feed_breaks, kept)
+    by b a e h = grind (arith, not-true, feed_breaks, kept)
 
 -- one character more at its start
 pub last_first : (c : ℕ) (r : List ℕ) → last_line (c ∷ r) ≡ (if is_break c || has_break r then last_line r else c ∷ last_line r)
-last_first c r = (grind (arith, nat_tests, eqb-true)) ∙ ap (λ b. if is_break c || not b then last_line r else c ∷ last_line r) (complete_is r)
+last_first c r = (grind arith) ∙ ap (λ b. if is_break c || not b then last_line r else c ∷ last_line r) (complete_is r)
 
 -- one character more at its end
 pub last_more : (g : List ℕ) (c : ℕ) → last_line (g ++ c ∷ []) ≡ (if is_break c then [] else last_line g ++ c ∷ [])
 last_more [] c = grind arith
-last_more (d ∷ g) c = grind (arith, nat_tests, eqb-true, last_first, break_append, last_more g c)
+last_more (d ∷ g) c = grind (arith, last_first, break_append, last_more g c)
 
 -- a text of one line is its last line
 pub last_whole : (g : List ℕ) → has_break g ≡ false → last_line g ≡ g
 last_whole [] h = refl
-last_whole (c ∷ g) h = grind (arith, nat_tests, eqb-true, last_first, last_whole g)
+last_whole (c ∷ g) h = grind (arith, last_first, last_whole g)
 
 -- ---- the column after it
 
@@ -64,7 +64,7 @@ no_comment_in_last g rest h ends = (both g).0 h
     Both g = (is_separation false g rest ≡ true → is_one_of (last_line g) 35 ≡ false) × (is_separation true g rest ≡ true → (has_break g ≡ true) × (is_one_of (last_line g) 35 ≡ false))
 
     both : (g : List ℕ) → Both g
-    both [] = grind (arith, nat_tests, eqb-true)
+    both [] = grind arith
     both (c ∷ g) = grind (arith, nat_tests, Both, last_first, or-true, eqb-true, both g)
 
 -- ---- TABs in its first columns
@@ -79,13 +79,13 @@ tab_within_more n l c (inl other) h = go n l h
     go (suc n) [] h = rw other (none n)
       where
         none : (n : ℕ) → is_one_of (take n []) 9 ≡ false
-        none a = grind (arith, nat_tests, eqb-true)
+        none a = grind arith
     go (suc n) (x ∷ l) h = grind (arith, go n l)
 
 -- ---- tABs among the blanks of a line, left of a column
 
 pub take_none : (n : ℕ) → ◌≡◌ {A = List ℕ} (take n []) []
-take_none a = grind (arith, nat_tests, eqb-true)
+take_none a = grind arith
 
 pub none_before : (column : ℕ) → column - 0 ≡ column
 none_before column = omega arith

@@ -1,5 +1,5 @@
 -- What a part of a node begins: an opening bracket the first entry of a collection, other pieces nothing.
-use Rattle.proof_scanner.proofs.Common.{if◌then◌else◌, [], Account, act_of, ap, append_assoc, AreNumbered, arith, begun_by, Bool, Colon, colon_of, depth_past, ends_at, entries_by, entries_past, Entry, entry_by, eqb-true, false, filled, first_entry, flow_mapping_start, FlowLevel, gives_node, Had, had_by, HasHadHere, insert, is_keyed, is_waiting, IsLineHere, IsLive, Key, key, key_tokens, length, level_of, Line, line_by, line_past, List, map, MayChoose, nat_tests, None, Option, pair_position, pop, Position, position_after, put, put_if, put_key, refl, shown_position, Site, site_here, Some, spelled, Step, suc, sym, taken, takes_pair, Tok, Token, tokens_at, tokens_of_step, tokens_up_to, true, with_had, with_keys, with_line, zero, ℕ, ◌&&◌, ◌++◌, ◌∙◌, ◌∷◌, ◌≡◌, ◌≤◌}
+use Rattle.proof_scanner.proofs.Common.{if◌then◌else◌, [], Account, act_of, ap, append_assoc, AreNumbered, arith, begun_by, Bool, Colon, colon_of, depth_past, ends_at, entries_by, entries_past, Entry, entry_by, false, filled, first_entry, flow_mapping_start, FlowLevel, gives_node, Had, had_by, HasHadHere, insert, is_keyed, is_waiting, IsLineHere, IsLive, Key, key, key_tokens, length, level_of, Line, line_by, line_past, List, map, MayChoose, None, Option, pair_position, pop, Position, position_after, put, put_if, put_key, refl, shown_position, Site, site_here, Some, spelled, Step, suc, sym, taken, takes_pair, Tok, Token, tokens_at, tokens_of_step, tokens_up_to, true, with_had, with_keys, with_line, zero, ℕ, ◌&&◌, ◌++◌, ◌∙◌, ◌∷◌, ◌≡◌, ◌≤◌}
 use Rattle.proof_scanner.specs.StandsInRow.{kind_of}
 use Rattle.std.proofs.lemmas.List.Edits.{insert-append_left}
 use Rattle.proof_scanner.proofs.Sound.Sides.{with_entries}
@@ -27,7 +27,7 @@ depth_begun level n = depth_past gives_node (with_begun level []) n
 -- keys around what it begins wait for a colon after as many closing brackets
 pub keys_around_begun : (level : Option FlowLevel) (p : Position) (ws : List Step) (last bs : List ℕ) (l : Line) (es : List Entry) (ks : List (Option Key)) (ts : List Token) →
     with_keys 0 p ws last bs l (with_begun level es) (with_no_key level ks) ts ≡ with_keys (depth_begun level 0) p ws last bs l es ks ts
-keys_around_begun a p ws last bs l es ks ts = grind (arith, nat_tests, eqb-true)
+keys_around_begun a p ws last bs l es ks ts = grind arith
 
 -- the flow levels after it
 abbrev pub levels_by : Option FlowLevel → List FlowLevel → List FlowLevel
@@ -62,7 +62,7 @@ entry_past_node allowed e = record { kind = e.kind; pair = e.pair; had = had_pas
 -- in flow; the node may be a collection, which begins with an entry of its own
 pub node_in_entry : (again allowed c : Bool) (k : Option Key) (new : Key) (e : Entry) (here : Position) (begun es : List Entry) → HasHadHere allowed again k e.had → new.position ≡ here →
     entries_past here again gives_node begun (bit_of allowed c) (entry_by (choice_before allowed c) k e) es ≡ Some (begun ++ (entry_by c (saved allowed new k) (entry_past_node allowed e) ∷ es))
-node_in_entry again allowed c k new e here begun es h q = grind (arith, nat_tests, eqb-true)
+node_in_entry again allowed c k new e here begun es h q = grind arith
 
 -- ---- tokens that go in before others, and tokens after all of them
 
@@ -111,15 +111,15 @@ first_among many a ks b = grind arith
 pub keys_first : (d : ℕ) (p : Position) (ws : List Step) (last : List ℕ) (bs : List ℕ) (l : Line) (es : List Entry) (ks : List (Option Key)) (ts us : List Token) → AreAmong (length ts) ks →
     with_keys d p ws last bs l es ks (ts ++ us) ≡ with_keys d p ws last bs l es ks ts ++ us
 keys_first d p ws last bs l es [] ts us a = refl
-keys_first d p ws last bs l [] (k ∷ ks) ts us a = grind (arith, nat_tests, eqb-true, key_first, first_among)
-keys_first d p ws last bs l (e ∷ es) (k ∷ ks) ts us a = grind (arith, nat_tests, eqb-true, first_among, had_first, fewer, had_longer, keys_first (suc d) p ws last bs l es ks)
+keys_first d p ws last bs l [] (k ∷ ks) ts us a = grind (arith, key_first, first_among)
+keys_first d p ws last bs l (e ∷ es) (k ∷ ks) ts us a = grind (arith, first_among, had_first, fewer, had_longer, keys_first (suc d) p ws last bs l es ks)
 
 -- ---- the tokens of a part of a node: with its key put in, or without
 
 -- ---- an entry in which no key waits
 
 pub had_as_it_was : (k : Option Key) (h : Had) → had_by false k h ≡ h
-had_as_it_was a h = grind (arith, nat_tests, eqb-true)
+had_as_it_was a h = grind arith
 
 -- what waits in entries is not seen
 pub same_levels : (cs : List Bool) (ks : List (Option Key)) (es : List Entry) → map level_of (entries_by cs ks es) ≡ map level_of es
@@ -138,12 +138,12 @@ pub keys_along : (from to : ℕ → ℕ) → ((n : ℕ) → from (suc n) ≡ suc
     with_keys (from d) p (w ∷ ws) last bs l es ks ts ≡ with_keys (to d) q ws last bs l es ks ts
 keys_along from to up rise d p q w ws last h bs l es [] ts = refl
 keys_along from to up rise d p q w ws last h bs l [] (k ∷ ks) ts = ap (λ c. with_line c bs l k ts) (h d)
-keys_along from to up rise d p q w ws last h bs l (x ∷ es) (k ∷ ks) ts = grind (arith, nat_tests, eqb-true, keys_along from to up rise (suc d) p q w ws last h bs l es ks)
+keys_along from to up rise d p q w ws last h bs l (x ∷ es) (k ∷ ks) ts = grind (arith, keys_along from to up rise (suc d) p q w ws last h bs l es ks)
 
 -- so it is after a part of a node
 pub keys_past : (kind : Option FlowLevel) (d : ℕ) (p : Position) (w : Step) (ws : List Step) (last : List ℕ) → act_of w.shown ≡ gives_node → begun_by w.shown ≡ with_begun kind [] →
     (bs : List ℕ) (l : Line) (es : List Entry) (ks : List (Option Key)) (ts : List Token) → with_keys d p (w ∷ ws) last bs l es ks ts ≡ with_keys (depth_begun kind d) (past_step p w ws last) ws last bs l es ks ts
-keys_past kind d p w ws last e f bs l es ks ts = keys_along (λ n. n) (depth_begun kind) (λ n. refl) (λ n. (grind (arith, nat_tests, eqb-true))) d p (past_step p w ws last) w ws last (λ n. (rw (e, f) refl)) bs l es ks ts
+keys_past kind d p w ws last e f bs l es ks ts = keys_along (λ n. n) (depth_begun kind) (λ n. refl) (λ n. (grind arith)) d p (past_step p w ws last) w ws last (λ n. (rw (e, f) refl)) bs l es ks ts
 
 -- ---- a key that begins with the last token
 
@@ -153,7 +153,7 @@ insert_between (x ∷ ts) us t = ap (λ l. x ∷ l) (insert_between ts us t)
 
 -- a key goes in before the tokens of its node
 pub key_between : (begins : Bool) (p : Position) (start : Tok) (here : Position) (ts us : List Token) → put_key begins (put p start) (length ts) here (ts ++ us) ≡ ts ++ (key_tokens begins p start here ++ us)
-key_between a p start here ts us = grind (arith, nat_tests, eqb-true, insert_between)
+key_between a p start here ts us = grind (arith, insert_between)
 
 -- ---- the tokens of the step
 
@@ -186,7 +186,7 @@ node_tokens level s separation piece tok allowed c k new e es ks ts l ws last ac
     let first : tokens_up_to (with_entries s l (x ∷ es)) (k ∷ ks) ts (w ∷ ws) last ≡ with_keys (suc depth) p ws last s.blocks l es ks inner = keys_past level 0 s.position w ws last act begins s.blocks l (x ∷ es) (k ∷ ks) ts in
     let parts : AreAmong (length ts) (k ∷ []) × AreAmong (length ts) ks = first_among (length ts) k ks are_among in
     ap (λ y. y ++ tokens_at s at w ws last l (x ∷ es)) first ∙
-    (ap (λ y. with_keys (suc depth) p ws last s.blocks l es ks inner ++ y) (grind (arith, nat_tests, eqb-true)) ∙
+    (ap (λ y. with_keys (suc depth) p ws last s.blocks l es ks inner ++ y) (grind arith) ∙
     (sym (keys_first (suc depth) p ws last s.blocks l es ks inner step (fewer (length ts) (length inner) ks (had_longer colon single x.had k ts) parts.1)) ∙
     (ap (λ y. with_keys (suc depth) p ws last s.blocks l es ks y) (grind (arith, key_between, had_first, had_as_it_was)) ∙
     sym (keys_around_begun level p ws last s.blocks l (entry_by c (saved allowed new k) (entry_past_node allowed e) ∷ es) (saved allowed new k ∷ ks) (ts ++ (own ∷ []))))))
@@ -203,7 +203,7 @@ AreSame (Some k) p rest bs cs = IsLive k p rest → bs ≡ cs
 -- of a row, and of a cut
 pub line_after_node : (strict must allowed c : Bool) (k : Option Key) (new : Key) (l : Line) (here p : Position) (bs rest : List ℕ) → IsLineHere false allowed (0 ∷ []) k l → new.position ≡ here → new.required ≡ must → MayChoose strict c (saved allowed new k) p rest →
     line_past (strict && must) here bs gives_node (bit_of allowed c) (line_by (choice_before allowed c) k l) ≡ Some (record { line = line_by c (saved allowed new k) taken; blocks = bs })
-line_after_node strict must allowed c k new l here p bs rest h e q may = grind (arith, nat_tests, eqb-true)
+line_after_node strict must allowed c k new l here p bs rest h e q may = grind arith
 
 -- ---- the tokens after it
 
@@ -216,4 +216,4 @@ pub node_outer_tokens : (level : Option FlowLevel) (s : Site) (separation piece 
     let before : Account = Outer s (line_by (choice_before allowed c) k l) in
     new.position ≡ b.position → new.number ≡ length (ts ++ ends_at b.position s.blocks b.blocks) → AreSame k p rest s.blocks b.blocks → tokens_up_to before (k ∷ []) ts (w ∷ ws) last ++ tokens_of_step before w ws last ≡
     with_keys 0 (past_step s.position w ws last) ws last b.blocks (line_by c (saved allowed new k) taken) (with_begun level []) (with_no_key level (saved allowed new k ∷ [])) ((ts ++ ends_at b.position s.blocks b.blocks) ++ (put (shown_position b piece tok (spelled ws last)) tok ∷ [])))
-node_outer_tokens level s separation piece tok strict allowed c k new l m p rest ts ws last act begins a may idle b place number same = grind (arith, nat_tests, eqb-true, append_assoc, keys_past, key_between, key_first, keys_around_begun, taken)
+node_outer_tokens level s separation piece tok strict allowed c k new l m p rest ts ws last act begins a may idle b place number same = grind (arith, append_assoc, keys_past, key_between, key_first, keys_around_begun, taken)

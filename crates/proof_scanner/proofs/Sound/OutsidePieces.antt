@@ -1,6 +1,6 @@
 -- A piece outside flow before and after which no key waits: what holds where it begins holds between two fetches after it.
 use Rattle.std.proofs.lemmas.List.{append-nil}
-use Rattle.proof_scanner.proofs.Common.{[], Account, act_of, ap, append_assoc, arith, begins_free_line, begun_by, Bool, columns, Completes, eqb-true, false, free, has_break, if◌then◌else◌, is_deeper, is_empty, is_in_column, is_separation, is_waiting, IsCarriedOn, IsLine, IsLineHere, IsPiece, IsWritten, Key, Line, line_past, List, may_stand, MayChoose, nat_tests, None, not_ended, opened, Option, Outside, placed, Position, position_after, previous_by, refl, ScannerState, seen, shown_position, Site, site_at, site_in, site_past, SoFar, Some, Stands, start_if, subst, sym, Tok, Token, token, true, ℕ, ◌++◌, ◌∙◌, ◌∷◌, ◌≡◌}
+use Rattle.proof_scanner.proofs.Common.{[], Account, act_of, ap, append_assoc, arith, begins_free_line, begun_by, Bool, columns, Completes, false, free, has_break, if◌then◌else◌, is_deeper, is_empty, is_in_column, is_separation, is_waiting, IsCarriedOn, IsLine, IsLineHere, IsPiece, IsWritten, Key, Line, line_past, List, may_stand, MayChoose, None, not_ended, opened, Option, Outside, placed, Position, position_after, previous_by, refl, ScannerState, seen, shown_position, Site, site_at, site_in, site_past, SoFar, Some, Stands, start_if, subst, sym, Tok, Token, token, true, ℕ, ◌++◌, ◌∙◌, ◌∷◌, ◌≡◌}
 use Rattle.proof_scanner.proofs.Known.Steps.{keyless, knows_none, begins_key}
 use Rattle.proof_scanner.proofs.Sound.Common.{ArrivesBy, goes_of, is_written, may_be_no_key, no_waiting, outer_completes, outer_tokens, tokens_then, with_entries}
 use Rattle.proof_scanner.proofs.Sound.Reads.{Reads, stands_so}
@@ -69,7 +69,7 @@ line_free allowed rest l e h = grind arith
 -- the tokens of a piece with which a block collection may begin
 pub started_tokens : (begins : Bool) (ts before ends : List Token) (p : Position) (start : Tok) (own : Token) → ts ≡ before ++ ends →
     (if begins then placed None (token p start) ts else ts) ++ own ∷ [] ≡ before ++ ((ends ++ start_if begins p start) ++ (own ∷ []))
-started_tokens begins ts before ends p start own e = grind (arith, nat_tests, eqb-true, append_assoc, append-nil)
+started_tokens begins ts before ends p start own e = grind (arith, append_assoc, append-nil)
 
 -- ---- an open key that need not be one is dropped where a piece begins
 
@@ -80,5 +80,5 @@ key_gone text t k a some may =
     let carries : IsCarriedOn text (a.separation ++ t.rest) t.rest (None ∷ []) base = λ cs x key m inside some. absurd (cc inside) in
     let completes : (strict c : Bool) (cs : List Bool) → MayChoose strict c None t.held.position t.rest → SoFar strict text (a.separation ++ t.rest) base (λ ws last. a.tokens) =
     λ strict c cs _. none_completes strict text (a.separation ++ t.rest) base (k ∷ []) a.tokens a.no_key refl (a.completes strict false [] (may_be_no_key strict k t.held.position t.rest may)) in
-    let line : IsLineHere false t.held.key_allowed t.rest None a.line_here = grind (arith, nat_tests, eqb-true) in
+    let line : IsLineHere false t.held.key_allowed t.rest None a.line_here = grind arith in
     record { site = a.site; line = a.line; known = search (a.among, line, carries, completes); knows = λ e. absurd (cc e) }

@@ -49,11 +49,11 @@ module _ (text : List ℕ) (t : ScannerState) (k : Option Key) (a : ArrivesBy te
 
     pub one_node : (piece : List ℕ) → (is_empty rest ≡ false → end.line ≤ t.held.position.line → has_break piece ≡ false) → (strict c : Bool) → MayChoose strict c (saved t.held.key_allowed (new_key t) k) end rest →
         (has_break piece && is_waiting (line_by c (saved t.held.key_allowed (new_key t) k) taken)) ≡ false
-    one_node piece one strict c may = grind (arith, nat_tests, eqb-true, not_before_same, open_before, no_waiting)
+    one_node piece one strict c may = grind (arith, not_before_same, open_before, no_waiting)
 
     -- after it a live key has taken the line, if no key may begin there
     pub taken_node : (allowed : Bool) → (is_empty rest ≡ false → end.line ≤ t.held.position.line → allowed ≡ false) → IsTakenBy allowed end rest (saved t.held.key_allowed (new_key t) k) taken
-    taken_node allowed none = grind (arith, nat_tests, eqb-true, not_before_same, open_before)
+    taken_node allowed none = grind (arith, not_before_same, open_before)
 
     pub may_node : (strict c : Bool) → MayChoose strict c (saved t.held.key_allowed (new_key t) k) end rest → MayChoose strict (choice_before t.held.key_allowed c) k t.held.position t.rest
     may_node strict c may = grind arith
@@ -62,7 +62,7 @@ module _ (text : List ℕ) (t : ScannerState) (k : Option Key) (a : ArrivesBy te
     line_node = grind arith
 
     pub same_node : AreSame k end rest a.site.blocks here.blocks
-    same_node = grind (arith, nat_tests, eqb-true, live_now, all_go_on, open_of, open_before)
+    same_node = grind (arith, live_now, all_go_on, open_of, open_before)
 
     pub open_node : (q : Position) → After t.held.position q → IsOpenOutside (saved t.held.key_allowed (new_key t) k) q end rest here.blocks
     open_node q after = grind (arith, after, after_then, not_before_then, (subst (λ x. NotBefore a.site.position x) (sym a.position_is) (not_before_after a.site.position a.separation t.rest)), open_of, nat_tests, eqb-true, all_go_on, open_before, live_now, weaker, first_not_right, must_be_here)

@@ -47,16 +47,16 @@ leading_stop (d ∷ g) p c h = grind (arith, leading_stop g p c h)
 
 -- whether a key may begin again in an entry is known before all of the separation is passed
 pub renewed_alike : (b : Previous) (q : Position) (f g rest rest2 : List ℕ) → rest ≡ g ++ rest2 → is_separation false g rest2 ≡ true → IsReadOn b q f rest → is_renewed b (f ++ g) ≡ is_renewed b f
-renewed_alike plain_scalar q f (c ∷ p) rest rest2 cut fills r = grind (arith, nat_tests, eqb-true, leading_stop)
+renewed_alike plain_scalar q f (c ∷ p) rest rest2 cut fills r = grind (arith, leading_stop)
 renewed_alike b q f g rest rest2 cut fills r = grind (arith, append-nil)
 
 -- a key may begin on a line after what was passed, or what was passed before
 pub free_line_append : (b : Previous) (q : Position) (f g rest rest2 : List ℕ) → rest ≡ g ++ rest2 → IsReadOn b q f rest → begins_free_line b (f ++ g) ≡ (begins_free_line b f || has_break g)
-free_line_append a q f g rest rest2 cut r = grind (arith, nat_tests, eqb-true, append-nil, or-false, break_append)
+free_line_append a q f g rest rest2 cut r = grind (arith, append-nil, or-false, break_append)
 
 -- what was read on over stays so
 pub read_on_append : (b : Previous) (q : Position) (f g rest rest2 : List ℕ) → rest ≡ g ++ rest2 → begins_separation rest2 ≡ false → IsReadOn b q f rest → IsReadOn b q (f ++ g) rest2
-read_on_append a q f g rest rest2 cut solid r = grind (arith, nat_tests, eqb-true, goes_on)
+read_on_append a q f g rest rest2 cut solid r = grind (arith, goes_on)
 
 -- ---- the least column
 

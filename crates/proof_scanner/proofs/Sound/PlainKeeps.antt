@@ -44,7 +44,7 @@ whole_solid fl a b d h = grind arith
 -- a gap has no comment
 pub no_comment : (g : List ℕ) → is_gap g ≡ true → (is_one_of g 35 ≡ false) × (leading is_no_comment g ≡ g)
 no_comment [] h = (refl, refl)
-no_comment (c ∷ g) h = grind (arith, nat_tests, eqb-true, and_parts, white_is_no_hash, no_comment g)
+no_comment (c ∷ g) h = grind (arith, and_parts, white_is_no_hash, no_comment g)
 
 -- what begins no separation begins with content
 pub solid_text : (text : List ℕ) → is_empty text ≡ false → begins_separation text ≡ false → begins_solid text ≡ true
@@ -92,7 +92,7 @@ module _ (text : List ℕ) (t : ScannerState) (a : Arrives text t) (deep : IsDee
 
     one_line_of : is_empty x.rest ≡ false → x.position.line ≤ t.held.position.line → (has_break q.piece ≡ false) × (has_break q.gap ≡ false)
     unfolding is_break
-    one_line_of some h = grind (arith, nat_tests, eqb-true, q, not_before_after, on_one_line, in_line, no_break_on_line)
+    one_line_of some h = grind (arith, q, not_before_after, on_one_line, in_line, no_break_on_line)
 
     allowed_by : (fl : Bool) → x.value.leading ≡ allowed_past None fl plain_scalar q.gap
     allowed_by true = q.leads ∙ ap has_break (sym (no_comment q.gap q.white).1)
@@ -133,7 +133,7 @@ module _ (text : List ℕ) (t : ScannerState) (a : Arrives text t) (deep : IsDee
       deep_by a h = grind (arith, nat_tests, eqb-true, q, least_here)
 
       no_tabs : HasNoTabs (site_then t fs r.site d) q.gap x.rest
-      no_tabs = grind (arith, nat_tests, eqb-true, q, none_awaits, no_comment, least_here)
+      no_tabs = grind (arith, q, none_awaits, no_comment, least_here)
 
       pub is_read : IsRead t None fs r.site r.line es r.separation d
       is_read =

@@ -104,7 +104,7 @@ module _ (ctx : Context) (start : Position) (c : ℕ) (a : List ℕ) where
   -- the dash that is looked for before a scalar goes on
   pub dash_is : (ctx.flow && true && (c == 45) && begins_flow a) ≡ at_dash ctx.flow (c ∷ a)
   unfolding at_dash model_classes.is_flow
-  dash_is = ap (λ b. b && (c == 45) && begins_flow a) (grind (arith, nat_tests, eqb-true)) ∙ ap (λ b. ctx.flow && (c == 45) && b) (sym (same_flow_start a))
+  dash_is = ap (λ b. b && (c == 45) && begins_flow a) (grind arith) ∙ ap (λ b. ctx.flow && (c == 45) && b) (sym (same_flow_start a))
 
   pub turn_goes : (m : Mode) (s : PlainState) → IsCalm m s.folded.leading → Goes m s (turn_in ctx start m s c a)
   unfolding is_break is_blank goes_on
@@ -123,7 +123,7 @@ record Passed (column : ℕ) (flow : Bool) (x : Spot) (apart : Bool) (text rest 
 relocated : (column : ℕ) (t : PlainState) (y : Spot) (a passed rest : List ℕ) → IsAt t y a → a ≡ passed ++ rest → tabs_fit column (spot_of t.mode t.folded.leading t.position.col) passed rest ≡ true → tabs_fit column y passed rest ≡ true
 relocated column t y a passed rest (inl e) cut h = subst (λ z. tabs_fit column z passed rest ≡ true) e h
 relocated column t y a [] rest (inr b) cut h = subst (λ z. may_stop z rest ≡ true) (sym b.0) refl
-relocated column t y a (d ∷ p) rest (inr b) cut h = grind (arith, nat_tests, eqb-true, and_parts)
+relocated column t y a (d ∷ p) rest (inr b) cut h = grind (arith, and_parts)
 
 module _ (ctx : Context) (start : Position) where
   abbrev spot : PlainState → Spot
@@ -185,7 +185,7 @@ feed_first c a h = grind (arith, nat_tests, eqb-true, and_parts)
 module _ (column : ℕ) (c : ℕ) (r : List ℕ) where
   -- with a break before it
   broken_lines : classes.is_break c ≡ true → (x : Spot) → lines_are column (at 0) r ≡ true → lines_are column x (c ∷ r) ≡ true
-  broken_lines e x h = grind (arith, nat_tests, eqb-true, and_parts, feed_first, all_lines)
+  broken_lines e x h = grind (arith, and_parts, feed_first, all_lines)
 
   module _ (no_break : classes.is_break c ≡ false) where
     split_is : split (c ∷ r) ≡ put_first c (split r).complete (split r).last
@@ -224,21 +224,21 @@ IsClear column bs rest = (is_at_comment_or_end rest ≡ true) ⊎ (has_tab_withi
 
 tabbed_gap : (column : ℕ) (g rest : List ℕ) → has_break g ≡ false → tabs_fit column tabbed g rest ≡ true → is_at_comment_or_end rest ≡ true
 tabbed_gap column [] rest n h = h
-tabbed_gap column (c ∷ g) rest n h = grind (arith, nat_tests, eqb-true, and_parts, same_break, tabbed_gap column g rest)
+tabbed_gap column (c ∷ g) rest n h = grind (arith, and_parts, same_break, tabbed_gap column g rest)
 
 blanks_gap : (column k : ℕ) (g rest : List ℕ) → has_break g ≡ false → is_gap g ≡ true → tabs_fit column (at k) g rest ≡ true → IsClear (column - k) g rest
-blanks_gap column k [] rest n w h = grind (arith, nat_tests, eqb-true, take_none)
-blanks_gap column k (c ∷ g) rest n w h = grind (arith, nat_tests, eqb-true, and_parts, tabbed_gap, same_break, same_blank, blank_more, blanks_gap column (suc k) g rest)
+blanks_gap column k [] rest n w h = grind (arith, take_none)
+blanks_gap column k (c ∷ g) rest n w h = grind (arith, and_parts, tabbed_gap, same_break, same_blank, blank_more, blanks_gap column (suc k) g rest)
 
 broken_gap : (column : ℕ) (x : Spot) (g rest : List ℕ) → is_gap g ≡ true → has_break g ≡ true → tabs_fit column x g rest ≡ true → IsClear column (last_line g) rest
 broken_gap column x [] rest w b h = absurd (cc b)
-broken_gap column x (c ∷ g) rest w b h = grind (arith, nat_tests, eqb-true, and_parts, same_break, last_first, or_true, last_whole, none_before, blanks_gap, broken_gap column (past_spot column x c) g rest)
+broken_gap column x (c ∷ g) rest w b h = grind (arith, and_parts, same_break, last_first, or_true, last_whole, none_before, blanks_gap, broken_gap column (past_spot column x c) g rest)
 
 -- ---- the dash
 
 no_last_dash : (flow apart : Bool) (t g rest : List ℕ) → dashes_fit flow apart (t ++ g) rest ≡ true → (flow && has_dash_before_flow t (g ++ rest)) ≡ false
-no_last_dash flow apart (c ∷ d ∷ []) g rest h = grind (arith, nat_tests, eqb-true, same_break, same_blank, not-true, and_parts)
-no_last_dash flow apart (c ∷ d ∷ e ∷ r) g rest h = grind (arith, nat_tests, eqb-true, and_parts, no_last_dash flow (is_break c || is_blank c) (d ∷ e ∷ r) g rest)
+no_last_dash flow apart (c ∷ d ∷ []) g rest h = grind (arith, same_break, same_blank, not-true, and_parts)
+no_last_dash flow apart (c ∷ d ∷ e ∷ r) g rest h = grind (arith, and_parts, no_last_dash flow (is_break c || is_blank c) (d ∷ e ∷ r) g rest)
 no_last_dash flow apart t g rest h = grind (arith, and_false)
 
 -- ---- the whole scan

@@ -35,7 +35,7 @@ pub record Entered (w u : ScannerState) : Type 0 where
 
 pub entered : (w : ScannerState) → in_flow w.held ≡ false → AreLevels w.held.indent w.held.indents → top_needs_block_end w.held.indents ≡ true → Entered w (roll_entry w)
 unfolding roll_entry is_break_here is_flow_here
-entered w out levels top = grind (arith, nat_tests, eqb-true, same_break, same_flow, opens_one, top_closed)
+entered w out levels top = grind (arith, same_break, same_flow, opens_one, top_closed)
 
 -- ---- the step
 
@@ -166,7 +166,7 @@ question_reads t u more y cut rest fills place leads here before columns_are awa
     let far = adjacent_kept t u (before_by y.before) (63 ∷ []) more (white_of false more) refl stop was same.0 (ap before_by before) in
     let cut_then : more ≡ white_of false more ++ u.rest = white_cut false more ∙ ap (λ l. white_of false more ++ l) (sym rest) in
     let filled : is_separation false (white_of false more) u.rest ≡ true = rw rest fills in
-    let no_tabs : HasNoTabs y (white_of false more) u.rest = subst (λ l. HasNoTabs y (white_of false more) l) (sym rest) (grind (arith, nat_tests, eqb-true, no_tab_in_last, no_tab_taken)) in
+    let no_tabs : HasNoTabs y (white_of false more) u.rest = subst (λ l. HasNoTabs y (white_of false more) l) (sym rest) (grind (arith, no_tab_in_last, no_tab_taken)) in
     let leads_then : IsLeading u.held.leading y (white_of false more) u.rest = λ _ _ _. leads ∙ ap (λ b. begins_line b (white_of false more)) (sym before) in
     let read_on : IsReadOn y.before y.position (white_of false more) u.rest = subst (λ b. IsReadOn b y.position (white_of false more) u.rest) (sym before) tt in
     assumption (cut_then, filled, no_tabs, leads_then, read_on, stop ∙ ap (λ q. position_after q (white_of false more) u.rest) (sym here), far)
@@ -290,7 +290,7 @@ key_keeps text more t a e gap deep =
     by : (u : Held) → Begins t.held u → Holds (Stands text) (key_from t (record t { held = record u { keys = with_top None u.keys } }))
     by u (outside out allowed d) =
         by_sides text t (λ v. in_flow v.held ≡ false → u ≡ roll_indent v.held.position.col None Tok.block_mapping_start v.held.position v.held → Holds (Stands text) (key_from v (record v { held = record u { keys = with_top None u.keys } }))) a
-        (λ k x n _ d. (grind (arith, nat_tests, eqb-true, question_outside))) (λ f fs k ks y es x out d. absurd (cc out)) out d
+        (λ k x n _ d. (grind (arith, question_outside))) (λ f fs k ks y es x out d. absurd (cc out)) out d
     by u (inside in_it d) =
         by_sides text t (λ v. in_flow v.held ≡ true → u ≡ record v.held { flow = keyed v.held.flow } → Holds (Stands text) (key_from v (record v { held = record u { keys = with_top None u.keys } }))) a
         (λ k x n in_it d. absurd (cc in_it)) (λ f fs k ks y es x _ d.

@@ -1,5 +1,5 @@
 -- The elements of a quoted body by their characters, and the lines that are left of one from a column on.
-use Rattle.proof_scanner.proofs.Common.{sym, ◌∙◌, Bool, Element, Lines, List, None, Option, Some, Spelled, [], ap, arith, begins_with, blank, blanks_before, break_further, content, double_quoted_element, double_quoted_value, element_of, elements, eqb-true, escape, escape_by, escaped_break, escapes, false, folded_elements, has_more, has_tab_within, if◌then◌else◌, is_empty, length, line, line_break, lines_fit, lookup, nat_le, nat_lt, not, numeric_escape, numeric_escapes, plain_element, quote_of, refl, same_blank, same_break, single_quoted_element, single_quoted_value, suc, true, value_of, without_last, ℕ, ◌&&◌, ◌++◌, ◌+◌, ◌-◌, ◌==◌, ◌||◌, ◌∷◌, ◌≡◌, nat_tests}
+use Rattle.proof_scanner.proofs.Common.{sym, ◌∙◌, Bool, Element, Lines, List, None, Option, Some, Spelled, [], ap, arith, begins_with, blank, blanks_before, break_further, content, double_quoted_element, double_quoted_value, element_of, elements, eqb-true, escape, escape_by, escaped_break, escapes, false, folded_elements, has_more, has_tab_within, if◌then◌else◌, is_empty, length, line, line_break, lines_fit, lookup, nat_le, nat_lt, not, numeric_escape, numeric_escapes, plain_element, quote_of, refl, same_blank, same_break, single_quoted_element, single_quoted_value, suc, true, value_of, without_last, ℕ, ◌&&◌, ◌++◌, ◌+◌, ◌-◌, ◌==◌, ◌||◌, ◌∷◌, ◌≡◌}
 use Rattle.defs_text.specs.Classes as classes
 use Rattle.defs_text.specs.FlowScalar.{last_line}
 use Rattle.yaml_chars.specs.Class.{is_break, is_blank}
@@ -25,11 +25,11 @@ KindOf single c b (Some s) = Kind single c b s
 
 -- either way of a choice
 kind_if : (single : Bool) (c : ℕ) (b : List ℕ) (x : Bool) (o p : Option Spelled) → (x ≡ true → KindOf single c b o) → (x ≡ false → KindOf single c b p) → KindOf single c b (if x then o else p)
-kind_if single c b a o p f g = grind (arith, nat_tests, eqb-true)
+kind_if single c b a o p f g = grind arith
 
 plain_kind : (single : Bool) (c : ℕ) (b : List ℕ) → KindOf single c b (plain_element c b)
 unfolding plain_element
-plain_kind single c b = grind (arith, nat_tests, eqb-true, kind_if, has_line, same_break, has_blank, same_blank, has_content)
+plain_kind single c b = grind (arith, kind_if, has_line, same_break, has_blank, same_blank, has_content)
 
 pub quote_white : (single : Bool) → is_white (quote_of single) ≡ false
 unfolding is_break is_blank
@@ -47,7 +47,7 @@ single_kind c b = kind_if true c b (classes.is_nul c) _ _ (λ e. tt) (λ e. kind
 module _ (c : ℕ) (b : List ℕ) (solid : is_white c ≡ false) where
   escape_kind_by : (o n : Option ℕ) (r : List ℕ) → KindOf false c b (escape_by o n r)
   unfolding numeric_escape
-  escape_kind_by a n r = grind (arith, nat_tests, eqb-true, has_content)
+  escape_kind_by a n r = grind (arith, has_content)
 
 escape_kind : (b : List ℕ) → KindOf false 92 b (escape b)
 unfolding escape
@@ -60,7 +60,7 @@ double_kind c b = kind_if false c b (classes.is_nul c) _ _ (λ e. tt) (λ e. kin
     kind_if false c b (c == 92) _ _ (λ g. let same : c ≡ 92 = eqb-true c 92 g in rw same (escape_kind b)) (λ g. plain_kind false c b)))
 
 pub kind : (single : Bool) (c : ℕ) (b : List ℕ) → KindOf single c b (element_of single c b)
-kind a c b = grind (arith, nat_tests, eqb-true, single_kind, double_kind)
+kind a c b = grind (arith, single_kind, double_kind)
 
 -- ---- a line from a column on
 

@@ -38,7 +38,7 @@ blanks_and_comment (c ∷ s) next f h = grind (arith, blanks_and_comment s next)
 -- before what does not end the line it is blanks alone
 pub blanks_alone : (in_comment : Bool) (s next : List ℕ) → is_separation in_comment s next ≡ true → plains.has_break s ≡ false → is_at_line_end next ≡ false → (in_comment ≡ false) × (is_blanks s ≡ true)
 blanks_alone a [] next f h e = grind arith
-blanks_alone true (c ∷ s) next f h e = grind (arith, nat_tests, eqb-true, blanks_alone true s next)
+blanks_alone true (c ∷ s) next f h e = grind (arith, blanks_alone true s next)
 blanks_alone false (c ∷ s) next f h e = (refl, by (is_blank c) (is_break c) (c == 35) f h (λ n g i. blanks_alone n s next g i e))
   where
     by : (b k n : Bool) → ((b || k || n) && is_separation n s next) ≡ true → (k || plains.has_break s) ≡ false → ((n : Bool) → is_separation n s next ≡ true → plains.has_break s ≡ false → (n ≡ false) × (is_blanks s ≡ true)) → (b && is_blanks s) ≡ true
@@ -47,7 +47,7 @@ blanks_alone false (c ∷ s) next f h e = (refl, by (is_blank c) (is_break c) (c
 -- up to the line's end
 pub leading_line : (s next : List ℕ) → plains.has_break s ≡ false → is_at_line_end next ≡ true → has_no_nul next ≡ true → leading is_on_line (s ++ next) ≡ s
 leading_line [] a h e n = grind arith
-leading_line (c ∷ s) next h e n = grind (arith, nat_tests, eqb-true, leading_line s next)
+leading_line (c ∷ s) next h e n = grind (arith, leading_line s next)
 
 -- past blanks
 pub after_blanks : (s next : List ℕ) → is_blanks s ≡ true → after is_blank (s ++ next) ≡ after is_blank next
@@ -56,7 +56,7 @@ after_blanks (c ∷ s) next h = grind (arith, after_blanks s next)
 
 -- a line with nothing but blanks and a comment, which no comment begins
 pub is_done : (s next : List ℕ) → is_separation false s next ≡ true → plains.has_break s ≡ false → is_at_line_end next ≡ true → has_no_nul next ≡ true → begins_with 35 (s ++ next) ≡ false → line_is_done (s ++ next) ≡ true
-is_done s next f h e n g = grind (arith, nat_tests, eqb-true, leading_line, blanks_and_comment)
+is_done s next f h e n g = grind (arith, leading_line, blanks_and_comment)
 
 -- ---- what is skipped
 

@@ -97,7 +97,7 @@ module _ (text : List ℕ) (quotes : Quotes) (t : ScannerState) (a : Arrives tex
       allowed_then = (not (in_flow t.held) && plains.has_break b.separation) || false
 
       held_is : w.held ≡ record closed.held { position = end; leading = b.is_leading; key_allowed = allowed_then }
-      held_is = grind (arith, nat_tests, eqb-true, position_append)
+      held_is = grind (arith, position_append)
 
       at_token : is_empty w.rest ≡ false → IsAt quoted_scalar least gap w.held
       at_token some = subst (λ g. IsAt quoted_scalar least (spaces ++ g) w.held) (append_cancel_right z.passed b.separation w.rest (sym z.cut ∙ b.cut)) (z.clear some)
@@ -138,7 +138,7 @@ module _ (text : List ℕ) (quotes : Quotes) (t : ScannerState) (a : Arrives tex
         fl = not (is_empty fs)
 
         no_tabs : HasNoTabs (site_then t fs r.site d) gap w.rest
-        no_tabs = grind (arith, nat_tests, eqb-true, k, or_false, (k.awaits fl at.blocks at.awaits (next_of d)), (ap (λ bs. least_column bs at.awaits) r.blocks_are ∙ ap (λ y. least_column (columns t.held.indent t.held.indents) y) r.awaits_is), at_token)
+        no_tabs = grind (arith, k, or_false, (k.awaits fl at.blocks at.awaits (next_of d)), (ap (λ bs. least_column bs at.awaits) r.blocks_are ∙ ap (λ y. least_column (columns t.held.indent t.held.indents) y) r.awaits_is), at_token)
 
         is_read : IsRead t None fs r.site r.line es r.separation d
         is_read = grind (

@@ -1,5 +1,5 @@
 -- A part of a node was read where a piece begins, be it an opening bracket or no collection: what holds between two fetches holds after it.
-use Rattle.proof_scanner.proofs.Common.{Account, AreEntries, Arrives, Bool, Entry, FlowLevel, Indent, IsCarriedOn, IsLine, IsNear, IsOpenOutside, IsPairOf, IsPiece, Key, KnowsKey, Line, List, MayChoose, None, NotBefore, Option, Outside, Position, Previous, ScannerState, Site, SoFar, Some, Stands, Step, Tok, Token, [], act_of, ap, arith, begins_free_line, begun_by, chosen, ends_at, entries_by, entry_by, false, first_choice, first_entry, further_lines_stand, gives_node, has_break, inl, is_deep_enough, is_empty, is_in_column, is_renewed, is_separation, least_for, length, line_by, line_past, may_precede, may_stand, no_pair, not, outside_key, pop, position_after, previous_by, put, refl, seen, shown_position, site_at, site_here, site_in, site_past, spelled, subst, sym, taken, tokens_of_step, tokens_up_to, true, with_keys, ℕ, ◌&&◌, ◌++◌, ◌∙◌, ◌∷◌, ◌≡◌, ◌≤◌, eqb-true, nat_tests, must_be_key}
+use Rattle.proof_scanner.proofs.Common.{Account, AreEntries, Arrives, Bool, Entry, FlowLevel, Indent, IsCarriedOn, IsLine, IsNear, IsOpenOutside, IsPairOf, IsPiece, Key, KnowsKey, Line, List, MayChoose, None, NotBefore, Option, Outside, Position, Previous, ScannerState, Site, SoFar, Some, Stands, Step, Tok, Token, [], act_of, ap, arith, begins_free_line, begun_by, chosen, ends_at, entries_by, entry_by, false, first_choice, first_entry, further_lines_stand, gives_node, has_break, inl, is_deep_enough, is_empty, is_in_column, is_renewed, is_separation, least_for, length, line_by, line_past, may_precede, may_stand, no_pair, not, outside_key, pop, position_after, previous_by, put, refl, seen, shown_position, site_at, site_here, site_in, site_past, spelled, subst, sym, taken, tokens_of_step, tokens_up_to, true, with_keys, ℕ, ◌&&◌, ◌++◌, ◌∙◌, ◌∷◌, ◌≡◌, ◌≤◌, must_be_key}
 use Rattle.proof_scanner.proofs.Sound.Common.{after_piece, among, AreSame, by_sides, ArrivesBy, begun_numbered, bit_of, choice_before, choices_around, completes_at, entry_past_node, Goes, IsDeep, levels_by, line_after_node, line_taken, node_in_entry, node_outer_tokens, node_tokens, not_before_after, not_before_then, Outer, outer_completes, past_step, saved, saved_keys, some_rest, tokens_before, with_begun, with_entries, with_no_key}
 use Rattle.proof_scanner.proofs.Known.Steps.{knows_saved, is_of_node}
 use Rattle.proof_scanner.proofs.Sound.Outsides.{new_key, keys_saved, numbered_inside, must_be_here, numbered_past, unbroken_node, one_node, taken_node, may_node, line_node, same_node, open_node}
@@ -83,7 +83,7 @@ module _ (text : List ℕ) (t : ScannerState) (level : Option FlowLevel) (fs : L
   some_here = some_rest t.rest d.piece (next_of d) r.reads.cut r.reads.is_solid
 
   before_end : NotBefore t.held.position d.end
-  before_end = grind (arith, nat_tests, eqb-true, not_before_then, not_before_after)
+  before_end = grind (arith, not_before_then, not_before_after)
 
   stands_here : may_stand (not (is_empty fs)) a.site (site_of t fs a.site) a.separation d.piece d.tok (next_of d) ≡ true
   stands_here = rw (a.is_indented some_here, r.is_deep, r.lines_stand, r.precedes) refl
@@ -141,7 +141,7 @@ module _ (text : List ℕ) (t : ScannerState) (level : Option FlowLevel) (k : Op
     after_is = ap (λ y. line_past (strict && is_in_column x.position.col x.blocks) x.position x.blocks y (bit_of t.held.key_allowed c) (line_of c a.line_here)) r.act ∙
         line_after_node strict (is_in_column x.position.col x.blocks) t.held.key_allowed c k (new_key t) a.line_here t.held.position d.end x.blocks d.rest (line_node text t k a within deep some d.end d.rest later) refl (must_be_here text t k a within deep) may;
     in_line = one_node text t k a within deep some d.end d.rest later d.piece (λ x y. (r.one_line x y).0) strict c may;
-    idle = λ s. (grind (arith, nat_tests, eqb-true));
+    idle = λ s. (grind arith);
   }
 
   tokens_past : (strict c : Bool) → MayChoose strict c key_then d.end d.rest → (ws : List Step) (last : List ℕ) → spelled ws last ≡ next_of d →
@@ -231,8 +231,8 @@ module _ (text : List ℕ) (t : ScannerState) (level : Option FlowLevel) (f : Fl
   entries_then : (lv : Option FlowLevel) → IsBegun lv t d → d.allowed ≡ allowed_past lv true (previous_by d.tok) d.gap →
       AreEntries d.allowed (is_renewed (previous_by d.tok) d.gap) (levels_by lv (f ∷ fs)) (with_no_key lv (key_past ∷ ks)) (with_begun lv (entry_past_node t.held.key_allowed e ∷ es))
   unfolding must_be_key
-  entries_then None i h = ((grind (arith, nat_tests, eqb-true)), grind arith, a.are_entries.2)
-  entries_then (Some lv) i h = (record { kind_is = refl; pair_is = i.0; key_is = tt }, (inl refl, h), ((grind (arith, nat_tests, eqb-true)), grind arith, a.are_entries.2))
+  entries_then None i h = ((grind arith), grind arith, a.are_entries.2)
+  entries_then (Some lv) i h = (record { kind_is = refl; pair_is = i.0; key_is = tt }, (inl refl, h), ((grind arith), grind arith, a.are_entries.2))
 
   node_inside : t.held.keys ≡ k ∷ ks → Stands text (state_after t level d)
   node_inside keys =

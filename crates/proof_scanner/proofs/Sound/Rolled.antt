@@ -4,7 +4,7 @@ use Rattle.proof_scanner.proofs.Common.{AreCollections, AreLevels, Bool, Held, I
 -- a column is deeper than the innermost collection just where it is deeper than its level
 pub deeper_is : (col i : ℕ) (ds : List Indent) → AreCollections i ds → is_deeper col (columns i ds) ≡ nat_lt i (col + 1)
 deeper_is col i [] a = rw a (sym (grind (arith, nat_tests)))
-deeper_is col i (d ∷ ds) a = grind (arith, nat_tests, eqb-true)
+deeper_is col i (d ∷ ds) a = grind arith
 
 -- A collection begins at a column where that is deeper than the innermost one, and its start is put among the tokens; else that one goes on.
 pub record RollsTo (col : ℕ) (number : Option ℕ) (t : Token) (s u : Held) : Type 0 where
@@ -63,7 +63,7 @@ rolls_to col number tok p s out levels right = rw out (on (nat_le s.indent (col 
     t = token p tok
 
     low : (d : Indent) (ds : List Indent) (b : Bool) → s.indents ≡ d ∷ ds → d.needs_block_end ≡ b → AreLevels s.indent (d ∷ ds) → s.indent ≤ col + 1 → RollsTo col number t s (deepen col number t (if b then s else record s { indent = d.indent; indents = ds }))
-    low d ds true e f l h = grind (arith, nat_tests, eqb-true, deepened, t)
+    low d ds true e f l h = grind (arith, deepened, t)
     low d ds false e f l h =
         let first : IsTopLevel false s.indent d.indent ds = subst (λ b. IsTopLevel b s.indent d.indent ds) f l.0 in
         let more : s.indent ≡ d.indent + 1 = first.0 in

@@ -8,7 +8,7 @@ use Rattle.proof_scanner.proofs.Sound.LastLines.{break_append, last_more, tab_wi
 
 -- a break more begins a line, and nothing else does
 pub line_more : (before : Previous) (g : List ℕ) (c : ℕ) → begins_line before (g ++ c ∷ []) ≡ (begins_line before g || classes.is_break c)
-line_more before g c = grind (arith, nat_tests, eqb-true, break_append)
+line_more before g c = grind (arith, break_append)
 
 module _ (before : Previous) (least : ℕ) where
   -- no TAB stands before the least column, if the line begins here
@@ -44,7 +44,7 @@ module _ (before : Previous) (least : ℕ) where
   -- ---- a break
 
   pub at_line : (g : List ℕ) (c : ℕ) (s : Held) → is_break c ≡ true → IsAt (g ++ c ∷ []) (past_line s)
-  at_line g c s e = grind (arith, nat_tests, eqb-true, same_break, last_more, line_more, or-true)
+  at_line g c s e = grind (arith, same_break, last_more, line_more, or-true)
 
   pub feed_next : (c : ℕ) (a : List ℕ) → is_cr_lf c a ≡ true → is_at_comment_or_end a ≡ true
   unfolding classes.is_break
@@ -117,7 +117,7 @@ module _ (before : Previous) (least : ℕ) where
         by false false = w.fails g a c s h
 
     one_by : (m : Gap) (g a : List ℕ) (c : ℕ) (s : Held) (b : Bool) → is_break c ≡ b → IsLeast s → IsPassed Tabbed m g s (c ∷ a) → Tells a → Q g (c ∷ a) s (skip m (c ∷ a) s)
-    one_by m g a c s b e l h ih = grind (arith, nat_tests, eqb-true, broken, between_by, comment_by, tab_by)
+    one_by m g a c s b e l h ih = grind (arith, broken, between_by, comment_by, tab_by)
 
     pub skip_tells : (a : List ℕ) → Tells a
     unfolding skip

@@ -1,5 +1,5 @@
 -- Keys that are too far back are dropped: what holds between two fetches still holds, without them.
-use Rattle.proof_scanner.proofs.Common.{Account, AreEntries, Bool, Entry, Fares, FlowLevel, Held, Holds, IsAtEnd, IsCarriedOn, IsCutUpTo, IsNear, IsRead, Key, List, MayChoose, None, Option, ScannerState, SoFar, Some, Stands, Step, Token, [], ap, arith, chosen, drop_stale, either, false, have_no_key, in_flow, inl, inr, is_empty, is_far, is_waiting, length, not-false, over, refl, refused, stale, subst, suc, sym, tokens_from, tokens_up_to, tried, true, try_held, went, ℕ, ◌++◌, ◌+◌, ◌∙◌, ◌∷◌, ◌≡◌, ◌⊎◌, eqb-true, nat_tests}
+use Rattle.proof_scanner.proofs.Common.{Account, AreEntries, Bool, Entry, Fares, FlowLevel, Held, Holds, IsAtEnd, IsCarriedOn, IsCutUpTo, IsNear, IsRead, Key, List, MayChoose, None, Option, ScannerState, SoFar, Some, Stands, Step, Token, [], ap, arith, chosen, drop_stale, either, false, have_no_key, in_flow, inl, inr, is_empty, is_far, is_waiting, length, not-false, over, refl, refused, stale, subst, suc, sym, tokens_from, tokens_up_to, tried, true, try_held, went, ℕ, ◌++◌, ◌+◌, ◌∙◌, ◌∷◌, ◌≡◌, ◌⊎◌}
 use Rattle.proof_scanner.proofs.Known.Steps.{known_far}
 use Rattle.proof_scanner.specs.StandsInRow.{StandsWith, goes}
 use Rattle.proof_scanner.proofs.Sound.Common.{with_entries, may_be_no_key, none_chosen, none_put, stands_by}
@@ -20,7 +20,7 @@ one_key ks fs n o = absurd (grind arith)
 -- where no open key is one, the tokens are those that the scanner holds
 pub none_completes : (strict : Bool) (text after : List ℕ) (a : Account) (ks : List (Option Key)) (ts : List Token) → is_waiting a.line ≡ false → have_no_key a.entries ≡ true →
     SoFar strict text after (chosen false [] ks a) (tokens_up_to (chosen false [] ks a) ks ts) → SoFar strict text after a (λ ws last. ts)
-none_completes strict text after a ks ts no_key none h = grind (arith, nat_tests, eqb-true, completes_alike, none_put, none_chosen)
+none_completes strict text after a ks ts no_key none h = grind (arith, completes_alike, none_put, none_chosen)
 
 -- The open key outside flow is dropped, if it need not be one.
 pub key_dropped : (text : List ℕ) (u : ScannerState) → (s : Stands text u) → is_empty u.held.flow ≡ true → (k : Key) → u.held.keys ≡ Some k ∷ [] → is_far k.position u.held.position ≡ true → k.required ≡ false → Stands text (record u { held = record u.held { keys = None ∷ [] } })
@@ -48,7 +48,7 @@ pub record Nearer (text : List ℕ) (u : ScannerState) (h : Held) : Type 0 where
 
 pub stale_stands : (text : List ℕ) (u : ScannerState) → Stands text u → Holds (Nearer text u) (stale u.held)
 unfolding stale drop_stale is_far
-stale_stands text u s = grind (arith, nat_tests, eqb-true, either, went, not-false, one_key, key_dropped, refused)
+stale_stands text u s = grind (arith, either, went, not-false, one_key, key_dropped, refused)
 
 -- The stale keys of a fetch are dropped.
 pub keys_only : (s : Held) → Holds (λ h. h ≡ record s { keys = h.keys }) (stale s)

@@ -1,5 +1,5 @@
 -- The way to the next token, or to the text's end, keeps what holds between two fetches, with the separation up to there.
-use Rattle.proof_scanner.proofs.Common.{Site, AreEntries, BeginsButForKey, Bool, HasNoTabs, Holds, IsAdjacent, IsLine, IsLive, IsOpenHere, IsOpenOutside, IsReadOn, IsTakenBy, Key, KnowsKey, Line, List, None, Option, Position, Previous, ScannerState, SoFar, Some, Stands, [], after_separation, ap, append_assoc, append_cancel_right, arith, before_by, before_past, begins_free_line, begins_separation, between, both_hold, chosen, eqb-true, false, follows_plain, has_no_nul, in_flow, inl, inr, is_at_comment_or_end, is_empty, is_indented_by_spaces, is_one_of, is_separation, least_column, nat_tests, not, or-false, or-true, outside_key, plain_scalar, position_after, position_append, refl, skip_to_next_token, subst, sym, tokens_up_to, true, weakened, went, ℕ, ◌&&◌, ◌++◌, ◌==◌, ◌||◌, ◌∙◌, ◌∷◌, ◌≡◌, ◌≤◌, IsCarriedOn, IsLeading, MayChoose}
+use Rattle.proof_scanner.proofs.Common.{Site, AreEntries, BeginsButForKey, Bool, HasNoTabs, Holds, IsAdjacent, IsLine, IsLive, IsOpenHere, IsOpenOutside, IsReadOn, IsTakenBy, Key, KnowsKey, Line, List, None, Option, Position, Previous, ScannerState, SoFar, Some, Stands, [], after_separation, ap, append_assoc, append_cancel_right, arith, before_by, before_past, begins_free_line, begins_separation, between, both_hold, chosen, false, follows_plain, has_no_nul, in_flow, inl, inr, is_at_comment_or_end, is_empty, is_indented_by_spaces, is_one_of, is_separation, least_column, not, or-false, or-true, outside_key, plain_scalar, position_after, position_append, refl, skip_to_next_token, subst, sym, tokens_up_to, true, weakened, went, ℕ, ◌&&◌, ◌++◌, ◌==◌, ◌||◌, ◌∙◌, ◌∷◌, ◌≡◌, ◌≤◌, IsCarriedOn, IsLeading, MayChoose}
 use Rattle.proof_lexers.specs.PlainEnds as plain_ends
 use Rattle.proof_lexers.proofs.Separation.EachSeparation.{no_nul_after}
 use Rattle.proof_scanner.proofs.Sound.Common.{column_after, index_after, last_whole, no_comment_in_last, not_before_after, separation_append, stands_by, unbroken}
@@ -15,7 +15,7 @@ spaced_here : (b : Previous) (bs : List ℕ) (aw : Bool) (q : Position) (g a : L
 spaced_here d bs aw q g a h s n r = grind (arith, or-false)
 
 pub is_in : (text : List ℕ) (t : ScannerState) (s : Stands text t) → begins_separation t.rest ≡ true → IsIn s.base.site.before (least_column s.base.site.blocks s.base.site.awaits) between s.separation t.held t.rest
-is_in text t s begins = grind (arith, nat_tests, eqb-true, no_comment_in_last, column_after, last_whole, spaced_here)
+is_in text t s begins = grind (arith, no_comment_in_last, column_after, last_whole, spaced_here)
 
 -- ---- where it ends
 
@@ -25,7 +25,7 @@ among (d ∷ f) p c h = rw (among f p c h) (or-true (35 == d))
 
 -- where a separation was passed, it is none that follows a plain scalar without a comment
 no_plain : (b : Previous) (q : Position) (f g rest rest2 : List ℕ) → rest ≡ g ++ rest2 → IsReadOn b q f rest → begins_separation rest ≡ true → begins_separation rest2 ≡ false → is_separation false g rest2 ≡ true → follows_plain b (f ++ g) ≡ false
-no_plain plain_scalar q f (c ∷ p) rest rest2 cut r begins solid fills = grind (arith, nat_tests, eqb-true, among)
+no_plain plain_scalar q f (c ∷ p) rest rest2 cut r begins solid fills = grind (arith, among)
 no_plain b q f g rest rest2 cut r begins solid fills = grind arith
 
 indented_after : (b : Previous) (bs : List ℕ) (aw : Bool) (g : List ℕ) → follows_plain b g ≡ false → Spaced b (least_column bs aw) g → is_indented_by_spaces b bs aw g ≡ true
@@ -35,7 +35,7 @@ indented_after b bs aw g f h = grind arith
 line_after : (fl allowed broken breaks : Bool) (k : Option Key) (p p2 : Position) (rest rest2 : List ℕ) (l : Line) → ((x : Key) → IsLive x p2 rest2 → IsLive x p rest) → ((x : Key) → k ≡ Some x → IsLive x p2 rest2 → breaks ≡ false) →
     IsLine fl allowed broken p rest k l → IsLine fl ((not fl && breaks) || allowed) (broken || breaks) p2 rest2 k l
 line_after true allowed broken breaks k p p2 rest rest2 l before none h = h
-line_after false allowed broken breaks k p p2 rest rest2 l before none h = (h.0, ap (λ x. breaks || x) h.1 ∙ (grind (arith, nat_tests, eqb-true)), taken k none h.2)
+line_after false allowed broken breaks k p p2 rest rest2 l before none h = (h.0, ap (λ x. breaks || x) h.1 ∙ (grind arith), taken k none h.2)
   where
     taken : (k : Option Key) → ((x : Key) → k ≡ Some x → IsLive x p2 rest2 → breaks ≡ false) → IsTakenBy allowed p rest k l → IsTakenBy (breaks || allowed) p2 rest2 k l
     taken None none h = tt
@@ -86,7 +86,7 @@ module _ (text : List ℕ) (t u : ScannerState) (s : Stands text t) (begins : be
             (grind arith),
         subst (λ b. IsLine (in_flow t.held) ((not (in_flow t.held) && plain_ends.has_break e.separation) || t.held.key_allowed) b (position_after t.held.position e.separation u.rest) u.rest (outside_key s.base.entries t.held.keys) s.base.line)
             (ap (λ b. begins_free_line s.base.site.before s.separation || b) (same_has_break e.separation) ∙ sym (free_line_append s.base.site.before s.base.site.position s.separation e.separation t.rest u.rest e.cut s.read_on))
-            (line_after (in_flow t.held) t.held.key_allowed (begins_free_line s.base.site.before s.separation) (plain_ends.has_break e.separation) (outside_key s.base.entries t.held.keys) t.held.position (position_after t.held.position e.separation u.rest) t.rest u.rest s.base.line live (λ x k l. (grind (arith, nat_tests, eqb-true, not_before_after, same_has_break, unbroken))) s.line_is),
+            (line_after (in_flow t.held) t.held.key_allowed (begins_free_line s.base.site.before s.separation) (plain_ends.has_break e.separation) (outside_key s.base.entries t.held.keys) t.held.position (position_after t.held.position e.separation u.rest) t.rest u.rest s.base.line live (λ x k l. (grind (arith, not_before_after, same_has_break, unbroken))) s.line_is),
         open_after (outside_key s.base.entries t.held.keys) s.base.site.position t.held.position (position_after t.held.position e.separation u.rest) t.rest u.rest s.base.site.blocks live s.is_open,
         adjacent,
         subst (λ n. t.held.adjacent_value_at ≤ n) (sym (index_after t.held.position e.separation u.rest)) (omega (arith, s.adjacent_before)),

@@ -1,5 +1,5 @@
 -- A colon that ends no key: what holds where it begins holds between two fetches after it.
-use Rattle.proof_scanner.proofs.Common.{Account, [], allow_key, another, ap, append-nil, append_assoc, AreLevels, arith, Arrives, At, before_by, before_past, begin_keyless_mapping, begin_keyless_value, begin_pair, begins_free_line, begun_outside, Bool, chained, check_value_space, checked, chosen, colon_may_precede, columns, Completes, ends_at, entries_by, Entry, entry_by, eqb-true, false, Fault, fetch_value, first_account, FlowLevel, gives_colon, has_open_level, Held, Holds, if◌then◌else◌, in_flow, Indent, inl, innermost, inr, insert, insert_key, inside, is_adjacent, is_break, is_deeper, is_empty, is_in_column, is_near, is_value, is_value_indicator, IsEntryOf, IsLive, IsNotRight, Key, length, length-append, Line, line_past, List, MayChoose, nat_tests, None, not, not-false, not_ended, NotBefore, Ok, on_held, opened, opens_pair, Option, Outside, outside_key, pair_past, pair_position, paired, past, placed, pop, Position, position_after, push, put, put_key, refl, Result, roll_indent, roll_one_col_indent, ScannerState, settled, Site, site_at, site_here, Some, spelled, Stands, start_if, Step, subst, suc, sym, taken, takes_pair, Tok, Token, token, tokens_at, tokens_of_step, tokens_up_to, top_key, tried, true, try_held, waits, went, with_held, with_keys, with_top, ℕ, ◌++◌, ◌==◌, ◌>>=◌, ◌||◌, ◌∙◌, ◌∷◌, ◌≡◌, ◌≤◌}
+use Rattle.proof_scanner.proofs.Common.{Account, [], allow_key, another, ap, append-nil, append_assoc, AreLevels, arith, Arrives, At, before_by, before_past, begin_keyless_mapping, begin_keyless_value, begin_pair, begins_free_line, begun_outside, Bool, chained, check_value_space, checked, chosen, colon_may_precede, columns, Completes, ends_at, entries_by, Entry, entry_by, false, Fault, fetch_value, first_account, FlowLevel, gives_colon, has_open_level, Held, Holds, if◌then◌else◌, in_flow, Indent, inl, innermost, inr, insert, insert_key, inside, is_adjacent, is_break, is_deeper, is_empty, is_in_column, is_near, is_value, is_value_indicator, IsEntryOf, IsLive, IsNotRight, Key, length, length-append, Line, line_past, List, MayChoose, None, not, not-false, not_ended, NotBefore, Ok, on_held, opened, opens_pair, Option, Outside, outside_key, pair_past, pair_position, paired, past, placed, pop, Position, position_after, push, put, put_key, refl, Result, roll_indent, roll_one_col_indent, ScannerState, settled, Site, site_at, site_here, Some, spelled, Stands, start_if, Step, subst, suc, sym, taken, takes_pair, Tok, Token, token, tokens_at, tokens_of_step, tokens_up_to, top_key, tried, true, try_held, waits, went, with_held, with_keys, with_top, ℕ, ◌++◌, ◌==◌, ◌>>=◌, ◌||◌, ◌∙◌, ◌∷◌, ◌≡◌, ◌≤◌}
 use Rattle.model_scanner.specs.declared.level.FlowLevel.TheVariants.{Pair as InPair}
 use Rattle.model_scanner.specs.Block.{value_of}
 use Rattle.proof_scanner.proofs.Sound.Steps.{all_go_on, among, by_sides, with_sides, ArrivesBy, begun_after, ends_outside, fewer, first_among, first_not_right, goes_inside, goes_of, is_written, IsDeep, key_longer, keyless, keys_along, keys_first, line_free, line_taken, low_enough, no_waiting, not_before_after, not_before_then, numbered_around, numbered_more, opens_none, opens_one, OpensOne, Outer, outer_completes, outer_then, past_one, past_step, read_outside, Reads, reads_before_none, rolls_to, RollsTo, some_levels, started_tokens, steps_in_flow, tokens_before, value_is, weaker, with_entries, with_start, line_rest_in_line, same_in_line}
@@ -14,7 +14,7 @@ use Rattle.yaml_tokens.specs.declared.problem.Problem.TheVariants as problem
 -- the model and the definition say alike
 pub value_here : (text more : List ℕ) (t : ScannerState) (fs : List FlowLevel) (ks : List (Option Key)) (es : List Entry) (a : ArrivesBy text t fs ks es) → t.held.flow ≡ fs → t.rest ≡ 58 ∷ more → is_value t ≡ true →
     is_value_indicator (not (is_empty fs)) (is_adjacent (before_past (before_by a.site.before) a.separation)) more ≡ true
-value_here text more t fs ks es a flow e h = grind (arith, nat_tests, eqb-true, value_is)
+value_here text more t fs ks es a flow e h = grind (arith, value_is)
 
 -- ---- what the model does after the colon and what is read there
 
@@ -37,7 +37,7 @@ pub colon_reads : (t : ScannerState) (more : List ℕ) (ds : List Indent) (i : �
     y.blocks ≡ columns i ds → y.awaits ≡ has_open_level ds → AreLevels i ds → t.held.adjacent_value_at ≤ t.held.position.index → Reads t (colon_end t more ds i ts allowed fs ks) y (58 ∷ []) more (colon_gap more)
 unfolding is_break
 colon_reads t more ds i ts allowed fs ks y cut here before columns_are awaits levels was =
-    reads_before_none t (colon_end t more ds i ts allowed fs ks) y (58 ∷ []) more (colon_gap more) refl cut (gap_is more).0 (gap_is more).1 (gap_is more).2 here (grind (arith, nat_tests, eqb-true, past_one, same_in_line, line_rest_in_line)) refl before columns_are awaits levels was (refl, refl, refl)
+    reads_before_none t (colon_end t more ds i ts allowed fs ks) y (58 ∷ []) more (colon_gap more) refl cut (gap_is more).0 (gap_is more).1 (gap_is more).2 here (grind (arith, past_one, same_in_line, line_rest_in_line)) refl before columns_are awaits levels was (refl, refl, refl)
 
 -- ---- outside flow
 
@@ -176,7 +176,7 @@ module _ (text more : List ℕ) (t : ScannerState) (k : Key) (a : ArrivesBy text
 
   tokens_alike : keyed_end.held.tokens ≡
       put_key (is_deeper k.position.col a.site.blocks) (put t.held.position Tok.block_mapping_start) k.number k.position a.tokens ++ ((ends_at t.held.position a.site.blocks (not_ended t.held.position.col a.site.blocks) ++ []) ++ (put t.held.position Tok.value ∷ []))
-  tokens_alike = grind (arith, nat_tests, eqb-true, (sym same_blocks ∙ a.blocks_are), (a.tokens_are ∙ (ap (λ bs. a.tokens ++ ends_at t.held.position a.site.blocks bs) same_blocks ∙ (ap (λ x. a.tokens ++ x) (grind arith) ∙ append-nil a.tokens))), same_blocks)
+  tokens_alike = grind (arith, (sym same_blocks ∙ a.blocks_are), (a.tokens_are ∙ (ap (λ bs. a.tokens ++ ends_at t.held.position a.site.blocks bs) same_blocks ∙ (ap (λ x. a.tokens ++ x) (grind arith) ∙ append-nil a.tokens))), same_blocks)
 
   abbrev outside_after : Outside
   outside_after = record { line = taken; blocks = opened k.position.col x.blocks }
@@ -184,21 +184,21 @@ module _ (text more : List ℕ) (t : ScannerState) (k : Key) (a : ArrivesBy text
   -- the key goes in before the tokens of its number
   keyed_tokens : (ws : List Step) (last : List ℕ) → spelled ws last ≡ more →
       (let w : Step = keyless a.separation (58 ∷ []) Tok.value in tokens_up_to (Outer a.site (waits k.position)) (Some k ∷ []) a.tokens (w ∷ ws) last ++ tokens_of_step (Outer a.site (waits k.position)) w ws last ≡ keyed_end.held.tokens)
-  keyed_tokens ws last h = grind (arith, nat_tests, eqb-true, quiet, (a.position_is ∙ ap (λ y. position_after a.site.position a.separation y) e), tokens_alike)
+  keyed_tokens ws last h = grind (arith, quiet, (a.position_is ∙ ap (λ y. position_after a.site.position a.separation y) e), tokens_alike)
 
   pub keyed_stands : Stands text keyed_end
   keyed_stands =
       ends_outside text t keyed_end (Some k) a (58 ∷ []) more (colon_gap more) Tok.value outside_after x refl
       (colon_reads t more awaiting.indents awaiting.indent now false [] (None ∷ []) _ e refl refl (ap (opened k.position.col) a.blocks_are ∙ sym (awaiting.columns_are ∙ rolled.columns_are)) (sym awaiting.awaits) awaiting.are_levels a.was_adjacent)
       (record { line_is = (inr refl, sym (ap not (gap_is more).2), tt); no_key = refl; flow_is = refl; keys_are = refl })
-      (is_written text a.site a.separation (58 ∷ []) more Tok.value x same_site true false (waits k.position) (waits k.position) outside_after (grind (arith, nat_tests, eqb-true, (ap is_empty e), quiet, no_waiting))) refl
+      (is_written text a.site a.separation (58 ∷ []) more Tok.value x same_site true false (waits k.position) (waits k.position) outside_after (grind (arith, (ap is_empty e), quiet, no_waiting))) refl
       (λ strict. goes_of strict text more (outer_then text a.site a.separation (58 ∷ []) more Tok.value x same_site outside_after) keyed_end.held.tokens refl refl
-      (outer_completes text a.site a.separation (58 ∷ []) more Tok.value x same_site true false (waits k.position) (waits k.position) outside_after (tokens_up_to (Outer a.site (waits k.position)) (Some k ∷ []) a.tokens) (λ ws last. keyed_end.held.tokens) (grind (arith, nat_tests, eqb-true, (ap is_empty e), quiet, no_waiting)) keyed_tokens
+      (outer_completes text a.site a.separation (58 ∷ []) more Tok.value x same_site true false (waits k.position) (waits k.position) outside_after (tokens_up_to (Outer a.site (waits k.position)) (Some k ∷ []) a.tokens) (λ ws last. keyed_end.held.tokens) (grind (arith, (ap is_empty e), quiet, no_waiting)) keyed_tokens
       (subst (λ y. Completes text (a.separation ++ y) (Outer a.site (waits k.position)) (tokens_up_to (Outer a.site (waits k.position)) (Some k ∷ []) a.tokens)) e (a.completes true true [] live))))
 
   pub keyed_outside : Holds (Stands text) (value_by more t [] (Some k ∷ []))
   unfolding insert_key begin_pair
-  keyed_outside = subst (λ r. Holds (Stands text) r) (sym (grind (arith, nat_tests, eqb-true))) (went keyed_stands)
+  keyed_outside = subst (λ r. Holds (Stands text) r) (sym (grind arith)) (went keyed_stands)
 
 -- ---- in flow
 
@@ -218,7 +218,7 @@ module _ (text more : List ℕ) (t : ScannerState) (f : FlowLevel) (fs : List Fl
   pair_begun : (g : FlowLevel) → k.position.line ≤ t.held.position.line →
       Holds (λ y. (y ≡ held_pair g) × ((not (opens_pair (g ∷ fs)) || (k.position.line == t.held.position.line)) ≡ true)) (insert_key k t.held.position (opens_pair (g ∷ fs)) (at_value more t (g ∷ fs) (Some k ∷ ks)))
   unfolding insert_key begin_pair roll_indent
-  pair_begun a h = grind (arith, nat_tests, eqb-true, chained, checked, went, closed)
+  pair_begun a h = grind (arith, chained, checked, went, closed)
 
   abbrev pub inner_after : ScannerState
   inner_after = colon_end t more t.held.indents t.held.indent (in_pair (opens_pair (f ∷ fs))) false (pair_level InPair f ∷ fs) (None ∷ ks)
@@ -263,7 +263,7 @@ module _ (text more : List ℕ) (t : ScannerState) (f : FlowLevel) (fs : List Fl
         same_key = refl;
         are_entries = ((grind arith), (inr refl, refl), a.are_entries.2);
         line_is = line_taken text t f fs (Some k) ks x es a;
-        are_numbered = (tt, numbered_more (length a.tokens) (length inner_after.held.tokens) ks (grind (arith, nat_tests, eqb-true, key_longer, tokens_before, length-append)) (numbered_around (length a.tokens) (Some k) ks a.are_numbered));
+        are_numbered = (tt, numbered_more (length a.tokens) (length inner_after.held.tokens) ks (grind (arith, key_longer, tokens_before, length-append)) (numbered_around (length a.tokens) (Some k) ks a.are_numbered));
         in_line = λ _ _. refl;
       }) (record {
         is_piece = (refl, ind);

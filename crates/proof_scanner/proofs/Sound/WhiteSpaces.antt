@@ -24,8 +24,8 @@ past_white false (c ∷ r) = (if goes_over c then past_white (c == 35) r else c 
 
 pub white_cut : (in_comment : Bool) (a : List ℕ) → a ≡ white_of in_comment a ++ past_white in_comment a
 white_cut b [] = refl
-white_cut true (c ∷ r) = grind (arith, nat_tests, eqb-true, white_cut (not (is_break c)) r)
-white_cut false (c ∷ r) = grind (arith, nat_tests, eqb-true, white_cut (c == 35) r)
+white_cut true (c ∷ r) = grind (arith, white_cut (not (is_break c)) r)
+white_cut false (c ∷ r) = grind (arith, white_cut (c == 35) r)
 
 -- Where no TAB comes after them, none stands outside comments before the next piece.
 pub no_tab_before : (in_comment : Bool) (a : List ℕ) → begins_with 9 (past_white in_comment a) ≡ false → has_tab_before_piece in_comment a ≡ false
@@ -56,7 +56,7 @@ IsPastWhite b leading a u = (u.rest ≡ past_white b a) × (u.held.leading ≡ (
 -- a line begins after a break, and after the line feed of CR LF
 feed_after : (c : ℕ) (a : List ℕ) (s : Held) → is_break c ≡ true → ((at_break c a s).leading || has_break (white_of false a)) ≡ true
 unfolding is_break
-feed_after c a s e = grind (arith, nat_tests, eqb-true, feed, and_parts, or_true)
+feed_after c a s e = grind (arith, feed, and_parts, or_true)
   where
     feed : (r : List ℕ) → (slice_index r 0 == 10) ≡ true → has_break (white_of false r) ≡ true
     feed [] h = absurd (cc h)
@@ -64,7 +64,7 @@ feed_after c a s e = grind (arith, nat_tests, eqb-true, feed, and_parts, or_true
 
 white_read : (in_comment found : Bool) (a : List ℕ) (s : Held) → Holds (IsPastWhite in_comment s.leading a) (white in_comment found a s)
 unfolding white is_break
-white_read b found [] s = grind (arith, nat_tests, eqb-true, went, refused)
+white_read b found [] s = grind (arith, went, refused)
 white_read i found (c ∷ a) s = of i (class.is_break c) (c == 32) (c == 35) refl refl refl (λ i f u. white_read i f a u)
   where
     more : (i : Bool) (u : ScannerState) → is_break c ≡ false → IsPastWhite i s.leading a u → (u.rest ≡ past_white i a) × (u.held.leading ≡ (s.leading || has_break (c ∷ white_of i a)))
@@ -102,7 +102,7 @@ white_exactly t = weakened exactly (both_hold (white_passed t) (white_read false
 pub no_tab_in : (in_comment : Bool) (a : List ℕ) → has_tab_before_piece in_comment (white_of in_comment a) ≡ false
 unfolding is_break
 no_tab_in b [] = refl
-no_tab_in true (c ∷ r) = grind (arith, nat_tests, eqb-true, no_tab_in (not (is_break c)) r)
+no_tab_in true (c ∷ r) = grind (arith, no_tab_in (not (is_break c)) r)
 no_tab_in false (c ∷ r) = grind (arith, nat_tests, and_false, eqb-true, no_tab_in (c == 35) r)
 
 -- Neither a space nor a break stands there, and that is refused.
@@ -114,7 +114,7 @@ pub record IsMissed (more : List ℕ) (s : Held) : Type 0 where
 -- one of them stands after a `?` that is at a gap, or it is refused
 pub white_or_missed : (more : List ℕ) (s : Held) → is_at_gap more ≡ true → (begins_with_space_or_break more ≡ true) ⊎ IsMissed more s
 unfolding white is_blank_or_end is_blank is_break is_nul
-white_or_missed b s gap = grind (arith, nat_tests, eqb-true, same_break, or_true)
+white_or_missed b s gap = grind (arith, same_break, or_true)
 
 -- what stands after a `?`, where it is at a gap, is a space or a break
 pub white_first : (more : List ℕ) (s : Held) → is_at_gap more ≡ true → Holds (λ u. begins_with_space_or_break more ≡ true) (white false false more s)
@@ -125,4 +125,4 @@ white_first more s gap = by (white_or_missed more s gap)
     anyway (Err f) h = refused
 
     by : (begins_with_space_or_break more ≡ true) ⊎ IsMissed more s → Holds (λ u. begins_with_space_or_break more ≡ true) (white false false more s)
-    by a = grind (arith, nat_tests, eqb-true, anyway, refused)
+    by a = grind (arith, anyway, refused)
