@@ -1,5 +1,5 @@
 -- What the model reads after a colon: where a TAB stands next, the blanks and a comment; else nothing.
-use Rattle.proof_scanner.proofs.Common.{arith, At, Bool, Held, Holds, List, Ok, ScannerState, Yes, [], after, begins_with, begins_with_alpha, blanks_and_comment, check_after_tab, check_value_space, checked, colon_may_precede, eqb-true, false, has_no_break, if◌then◌else◌, is_blank, is_one_of, is_separation, leading, lexed, not, or_parts, pair_position, past_blanks_and_comment, past_comment, past_line_rest, peek, refl, same_alpha, space, subst, sym, tab, true, went, ℕ, ◌&&◌, ◌++◌, ◌==◌, ◌||◌, ◌∙◌, ◌≡◌, nat_tests}
+use Rattle.proof_scanner.proofs.Common.{arith, At, Bool, Held, Holds, List, Ok, ScannerState, Yes, [], after, begins_with, begins_with_alpha, blanks_and_comment, check_after_tab, check_value_space, checked, colon_may_precede, eqb-true, false, has_no_break, if◌then◌else◌, is_blank, is_one_of, is_separation, leading, lexed, not, or_parts, pair_position, past_blanks_and_comment, past_comment, past_line_rest, peek, refl, same_alpha, space, subst, sym, tab, true, went, ℕ, ◌&&◌, ◌++◌, ◌==◌, ◌||◌, ◌∙◌, ◌≡◌}
 use Rattle.yaml_chars.specs.Class.{is_alpha}
 use Rattle.defs_text.specs.Classes as classes
 use Rattle.yaml_tokens.specs.declared.problem.Problem.TheVariants as problem
@@ -22,7 +22,7 @@ gap_is more = grind (arith, line_rest_cut, line_rest_fills, line_rest_in_line)
 -- a letter after the blanks stands after the comment too, since there is none
 no_letter : (b : List ℕ) → ((peek (past_comment b) == 45) || is_alpha (peek (past_comment b))) ≡ false → begins_with_alpha b ≡ false
 unfolding classes.is_alpha classes.is_decimal_digit classes.is_letter
-no_letter a h = grind (arith, nat_tests, eqb-true, same_alpha, or_parts)
+no_letter a h = grind (arith, eqb-true, same_alpha, or_parts)
 
 -- the state after a colon and what is read after it
 abbrev pub past_colon : (more : List ℕ) → Held → ScannerState

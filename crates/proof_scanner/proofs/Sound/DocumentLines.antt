@@ -1,5 +1,5 @@
 -- Document markers and directives: what holds where they begin holds between two fetches after them.
-use Rattle.proof_scanner.proofs.Common.{[], act_of, and_false, and_parts, ap, append-nil, append_assoc, AreLevels, arith, Arrives, At, awaits_past, before_by, begin_line, begins_free_line, begins_line, begins_with, begun_by, begun_inside, blanks_and_comment, Bool, chained, check_document_end, closed_key, columns, Directive, directive_of, directives_end, either, entries_past, Entry, eqb-true, Err, false, fetch_directive, fetch_document_end, fetch_document_marker, first_break, FlowLevel, further_lines_stand, gives_marker, has_break, has_no_break, has_no_nul, has_open_level, HasNoTabs, Held, Holds, if◌then◌else◌, in_flow, inr, is_at_gap, is_break, is_breakz, is_closed, is_empty, is_in_column, is_indented_by_spaces, is_renewed, is_required, is_separation, IsDirectiveRead, IsLeading, IsPiece, IsReadOn, Key, least_for, length, Levels, line_is_done, List, may_precede, nat_tests, no_nul_after, None, Ok, on_held, Option, or_true, other, pair_position, past, past_blanks_and_comment, past_line_rest, peek, Position, position_after, position_append, previous_by, push, put, read, read_as, refl, refused, remove_implicit_key, replicate-append-replicate, ScannerState, seen, settled, shown_position, Site, site_in, skip_indicator, Some, Stands, subst, sym, taken, takes_pair, Tok, Token, token_of, top_key, tried, true, unroll_indent, went, whole_directive, with_top, ℕ, ◌++◌, ◌∙◌, ◌∷◌, ◌≡◌, ◌≤◌}
+use Rattle.proof_scanner.proofs.Common.{[], act_of, and_false, and_parts, ap, append-nil, append_assoc, AreLevels, arith, Arrives, At, awaits_past, before_by, begin_line, begins_free_line, begins_line, begins_with, begun_by, begun_inside, blanks_and_comment, Bool, chained, check_document_end, closed_key, columns, Directive, directive_of, directives_end, either, entries_past, Entry, eqb-true, Err, false, fetch_directive, fetch_document_end, fetch_document_marker, first_break, FlowLevel, further_lines_stand, gives_marker, has_break, has_no_break, has_no_nul, has_open_level, HasNoTabs, Held, Holds, if◌then◌else◌, in_flow, inr, is_at_gap, is_break, is_breakz, is_closed, is_empty, is_in_column, is_indented_by_spaces, is_renewed, is_required, is_separation, IsDirectiveRead, IsLeading, IsPiece, IsReadOn, Key, least_for, length, Levels, line_is_done, List, may_precede, no_nul_after, None, Ok, on_held, Option, or_true, other, pair_position, past, past_blanks_and_comment, past_line_rest, peek, Position, position_after, position_append, previous_by, push, put, read, read_as, refl, refused, remove_implicit_key, replicate-append-replicate, ScannerState, seen, settled, shown_position, Site, site_in, skip_indicator, Some, Stands, subst, sym, taken, takes_pair, Tok, Token, token_of, top_key, tried, true, unroll_indent, went, whole_directive, with_top, ℕ, ◌++◌, ◌∙◌, ◌∷◌, ◌≡◌, ◌≤◌}
 use Rattle.proof_scanner.proofs.Sound.Steps.{adjacent_kept, all_levels, by_sides, ArrivesBy, at_end_of, begins_key, ends_of, goes_inside, is_done, key_gone, line_rest_cut, line_rest_fills, line_rest_in_line, none_indents, past_rest, read_outside, Reads, rest_skipped, same_in_line, shorter, some_rest, three_past, tokens_before, tokens_then, unrolled_in_flow, with_entries, same_has_break}
 use Rattle.defs_token.specs.Account.{Account as PieceAccount}
 use Rattle.defs_token.specs.Key.{line_past as line_of_piece}
@@ -104,7 +104,7 @@ line_stands text t d a r flow keys =
     own = put t.held.position d.tok
 
     tokens : (t.held.tokens ++ ends_of (length (columns t.held.indent t.held.indents)) t.held.position) ++ (own ∷ []) ≡ a.tokens ++ tokens_then a.site x d.piece d.tok (next_of d) a.line_here
-    tokens = grind (arith, nat_tests, bs, append_assoc, eqb-true, shorter, replicate-append-replicate, x, own, append-nil)
+    tokens = grind (arith, bs, append_assoc, eqb-true, shorter, replicate-append-replicate, x, own, append-nil)
 
 -- ---- in flow
 
@@ -203,7 +203,7 @@ document_end_keeps text more t a e gap col =
     let is : v ≡ past_rest (marked t b.held (46 ∷ 46 ∷ 46 ∷ more)) = s.0 ∙ ap past_rest d.1 in
     let ends : is_breakz (peek (past_blanks_and_comment more)) ≡ true = ap (λ y. is_breakz (peek y.rest)) (sym is) ∙ yes in
     let hash : begins_with 35 more ≡ false = ap (λ y. begins_with 35 y.rest) (sym d.1) ∙ s.1 in
-    subst (Stands text) (sym is) (b.stands (end_read more b.held.position) (end_is_read t more b.held.position b.same_position e gap col (grind (arith, nat_tests, blanks_and_comment, is_done, line_rest_fills, same_has_break, line_rest_in_line, at_end_of, no_nul_after, line_rest_cut, begins_with, eqb-true))) d.0)
+    subst (Stands text) (sym is) (b.stands (end_read more b.held.position) (end_is_read t more b.held.position b.same_position e gap col (grind (arith, blanks_and_comment, is_done, line_rest_fills, same_has_break, line_rest_in_line, at_end_of, no_nul_after, line_rest_cut, begins_with, eqb-true))) d.0)
     )) (λ no. refused)))
 
 -- ---- directives

@@ -108,7 +108,7 @@ module _ (ctx : Context) (start : Position) (c : ℕ) (a : List ℕ) where
 
   pub turn_goes : (m : Mode) (s : PlainState) → IsCalm m s.folded.leading → Goes m s (turn_in ctx start m s c a)
   unfolding is_break is_blank goes_on
-  turn_goes a s l = grind (arith, nat_tests, eqb-true, on, stop, char_inside, stays, char_between, dash_is, tabs, fail, feed_breaks, between, break_leads, goes, fails)
+  turn_goes a s l = grind (arith, eqb-true, on, stop, char_inside, stays, char_between, dash_is, tabs, fail, feed_breaks, between, break_leads, goes, fails)
 
 -- ---- a run
 
@@ -180,7 +180,7 @@ put_first_others c a last = grind arith
 
 pub feed_first : (c : ℕ) (r : List ℕ) → is_before_line_feed c r ≡ true → first_line r ≡ []
 unfolding classes.is_break
-feed_first c a h = grind (arith, nat_tests, eqb-true, and_parts)
+feed_first c a h = grind (arith, eqb-true, and_parts)
 
 module _ (column : ℕ) (c : ℕ) (r : List ℕ) where
   -- with a break before it
@@ -273,7 +273,7 @@ plain_fits ctx p [] piece gap r begins cut e = absurd (cc begins)
 plain_fits ctx p (c ∷ a) piece gap r begins cut e = by (starts ctx (c ∷ a) p) refl e
   where
     solid : (is_break c ≡ false) × (is_blank c ≡ false)
-    solid = grind (arith, nat_tests, same_break, same_blank, eqb-true)
+    solid = grind (arith, same_break, same_blank, eqb-true)
 
     ran : (x : Result (Stop PlainState) Fault) → run (turn ctx p) (c ∷ a) (record { mode = first; position = p; folded = nothing }) ≡ x → ended x ≡ Ok r → Passed ctx.indent ctx.flow in_text false (c ∷ a) r.rest
     ran (Ok t) f h =

@@ -1,5 +1,5 @@
 -- The function of the model that reads a dash: what holds where it begins holds between two fetches after it.
-use Rattle.proof_scanner.proofs.Common.{[], allow_key, another, ap, AreLevels, arith, Arrives, At, before_by, begin_key, begins_line, begins_with_space_or_break, blanks_and_comment, both_hold, chained, check_block_entry, check_dash, check_key_space, checked, columns, dash_may_precede, either, ends_at, Entry, eqb-true, false, Fault, fetch_block_entry, fetch_key, FlowLevel, gap, gives_dash, gives_question, has_break, has_open_level, has_tab_before_piece, HasNoTabs, Held, Holds, if◌then◌else◌, in_flow, Indent, inl, inr, is_at_break_or_flow, is_at_gap, is_blank, is_break, is_deeper, is_empty, is_in_column, is_one_of, is_separation, IsLeading, IsReadOn, Key, Keyed, keyed, leading, lexed, line_past, List, nat_tests, No, None, not, not-false, not_ended, Ok, on_held, opened, Option, or_parts, or_true, pair_past, past, past_blanks_and_comment, past_line_rest, peek, placed, Position, position_after, push, put, refl, remove_implicit_key, Result, roll_entry, roll_indent, same_break, ScannerState, settled, Site, skip_indicator, skip_spaces, skip_yaml_whitespace, Some, space, Stands, start_if, subst, suc, sym, take, takes_pair, Tok, Token, token, top_needs_block_end, tried, true, try_held, went, with_top, Yes, ℕ, ◌&&◌, ◌++◌, ◌==◌, ◌>>=◌, ◌||◌, ◌∙◌, ◌∷◌, ◌≡◌, ◌≤◌}
+use Rattle.proof_scanner.proofs.Common.{[], allow_key, another, ap, AreLevels, arith, Arrives, At, before_by, begin_key, begins_line, begins_with_space_or_break, blanks_and_comment, both_hold, chained, check_block_entry, check_dash, check_key_space, checked, columns, dash_may_precede, either, ends_at, Entry, eqb-true, false, Fault, fetch_block_entry, fetch_key, FlowLevel, gap, gives_dash, gives_question, has_break, has_open_level, has_tab_before_piece, HasNoTabs, Held, Holds, if◌then◌else◌, in_flow, Indent, inl, inr, is_at_break_or_flow, is_at_gap, is_blank, is_break, is_deeper, is_empty, is_in_column, is_one_of, is_separation, IsLeading, IsReadOn, Key, Keyed, keyed, leading, lexed, line_past, List, No, None, not, not-false, not_ended, Ok, on_held, opened, Option, or_parts, or_true, pair_past, past, past_blanks_and_comment, past_line_rest, peek, placed, Position, position_after, push, put, refl, remove_implicit_key, Result, roll_entry, roll_indent, same_break, ScannerState, settled, Site, skip_indicator, skip_spaces, skip_yaml_whitespace, Some, space, Stands, start_if, subst, suc, sym, take, takes_pair, Tok, Token, token, top_needs_block_end, tried, true, try_held, went, with_top, Yes, ℕ, ◌&&◌, ◌++◌, ◌==◌, ◌>>=◌, ◌||◌, ◌∙◌, ◌∷◌, ◌≡◌, ◌≤◌}
 use Rattle.yaml_chars.specs.Class.{is_break as is_break_here, is_flow as is_flow_here}
 use Rattle.model_scanner.specs.State.{after, after as after_first}
 use Rattle.proof_lexers.proofs.Bridges.{same_flow}
@@ -20,7 +20,7 @@ entry_checked s = checked (in_flow s) (At problem.BlockEntryInFlow s.position) (
 -- no dash stands after a TAB
 dash_checked : (more : List ℕ) (t : ScannerState) → t.rest ≡ past_blanks_and_comment more → Holds (λ u. (u ≡ t) × (dash_may_precede more ≡ true)) (check_dash (found_in (leading is_blank more)) t)
 unfolding check_dash
-dash_checked more t e = grind (arith, nat_tests, checked, went, eqb-true, gap_here)
+dash_checked more t e = grind (arith, checked, went, eqb-true, gap_here)
 
 -- ---- the levels of indentation after it
 

@@ -16,7 +16,7 @@ ends_in_line (c ∷ d ∷ r) = ends_in_line (d ∷ r)
 -- A text with a break, whose last character is none, ends on a later line.
 pub broken_later : (p : Position) (a next : List ℕ) → ends_in_line a ≡ true → has_break a ≡ true → p.line < (position_after p a next).line
 unfolding is_break
-broken_later p (c ∷ d ∷ a) next e h = grind (arith, nat_tests, not_before_after, eqb-true, and_parts, broken_later (position_past p c (d ∷ (a ++ next))) (d ∷ a) next e)
+broken_later p (c ∷ d ∷ a) next e h = grind (arith, not_before_after, eqb-true, and_parts, broken_later (position_past p c (d ∷ (a ++ next))) (d ∷ a) next e)
 broken_later p a next e h = grind arith
 
 -- on the same line there is no break
@@ -67,7 +67,7 @@ always (Err e) f = refused
 -- no comment stands directly where blanks are skipped
 pub unglued : (tabs : SkipTabs) (t : ScannerState) → Holds (λ u. begins_with 35 t.rest ≡ false) (skip_spaces tabs t)
 unfolding skip_spaces space
-unglued tabs t = grind (arith, nat_tests, always, eqb-true, refused)
+unglued tabs t = grind (arith, always, eqb-true, refused)
 
 -- ---- after a quoted scalar
 
@@ -91,7 +91,7 @@ unfolding model_classes.is_break
 may_end_by flow p piece s rest here in_line none f h no_hash is follows = grind (arith, nat_tests, eqb-true, is_done, at_end_of, blanks_alone, not_at_end, or_right, after_blanks, some)
   where
     same : (p.line == here.line) ≡ true → has_break piece ≡ false
-    same e = grind (arith, nat_tests, same_line, eqb-true, on_one_line)
+    same e = grind (arith, same_line, eqb-true, on_one_line)
 
     some : (r : List ℕ) → is_breakz (peek r) ≡ false → may_follow_quoted flow (p.line == here.line) (peek r) ≡ true → goes_on_quoted flow piece (after is_blank r) ≡ true
     some [] e k = absurd (cc e)

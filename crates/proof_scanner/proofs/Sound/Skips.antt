@@ -1,6 +1,6 @@
 -- What the model skips between tokens leaves no TAB in the indentation of the next one.
 use Rattle.std.proofs.lemmas.List.{length-append}
-use Rattle.proof_scanner.proofs.Common.{At, Bool, Err, Fault, Gap, Held, Holds, List, Ok, Previous, Result, ScannerState, [], and_parts, ap, append-nil, append_assoc, arith, begins_line, between, comment, eqb-true, false, has_tab_within, if◌then◌else◌, inl, inr, is_at_comment_or_end, is_before_indent, is_cr_lf, is_empty, last_line, length, moved, nat_tests, no_hash, or-false, or-true, past_line, refl, refused, same_break, skip, subst, suc, sym, tab_line, true, weakened, went, ℕ, ◌&&◌, ◌++◌, ◌==◌, ◌||◌, ◌∙◌, ◌∷◌, ◌≡◌, ◌⊎◌}
+use Rattle.proof_scanner.proofs.Common.{At, Bool, Err, Fault, Gap, Held, Holds, List, Ok, Previous, Result, ScannerState, [], and_parts, ap, append-nil, append_assoc, arith, begins_line, between, comment, eqb-true, false, has_tab_within, if◌then◌else◌, inl, inr, is_at_comment_or_end, is_before_indent, is_cr_lf, is_empty, last_line, length, moved, no_hash, or-false, or-true, past_line, refl, refused, same_break, skip, subst, suc, sym, tab_line, true, weakened, went, ℕ, ◌&&◌, ◌++◌, ◌==◌, ◌||◌, ◌∙◌, ◌∷◌, ◌≡◌, ◌⊎◌}
 use Rattle.yaml_chars.specs.Class.{is_break, is_blank}
 use Rattle.yaml_tokens.specs.declared.problem.Problem.TheVariants as problem
 use Rattle.defs_text.specs.Classes as classes
@@ -55,7 +55,7 @@ module _ (before : Previous) (least : ℕ) where
   -- a blank that is no TAB in the indentation
   pub at_blank : (g : List ℕ) (c : ℕ) (s : Held) → classes.is_break c ≡ false → ((c == 9) && is_before_indent s) ≡ false → IsLeast s → IsAt g s → IsAt (g ++ c ∷ []) (moved s)
   unfolding is_before_indent
-  at_blank g c s e f l h = grind (arith, nat_tests, line_more, or-false, last_more, length-append, tab_within_more, eqb-true)
+  at_blank g c s e f l h = grind (arith, line_more, or-false, last_more, length-append, tab_within_more, eqb-true)
 
   -- ---- each character
 
